@@ -1,0 +1,9 @@
+pub mod Limits
+pub mod Out
+pub mod Text
+pub mod Lex
+pub mod Sexp
+pub mod Find
+pub mod Tree
+pub mod Store
+pub mod Theory
