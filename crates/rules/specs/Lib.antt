@@ -7,3 +7,6 @@ pub mod Find
 pub mod Tree
 pub mod Store
 pub mod Theory
+pub mod Match
+pub mod Unify
+pub mod State
