@@ -4,6 +4,8 @@ pub mod Text
 pub mod Lex
 pub mod Sexp
 pub mod Find
+pub mod Index
+pub mod Tags
 pub mod Tree
 pub mod Store
 pub mod Theory
