@@ -14,3 +14,12 @@ pub mod Unify
 pub mod State
 pub mod Declare
 pub mod Judge
+pub mod Read
+pub mod Reference
+pub mod Step
+pub mod Apply
+pub mod Induct
+pub mod Invert
+pub mod Proof
+pub mod Check
+pub mod Run
