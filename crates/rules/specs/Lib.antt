@@ -14,3 +14,4 @@ pub mod Unify
 pub mod State
 pub mod Declare
 pub mod Judge
+pub mod TheoryLaws
