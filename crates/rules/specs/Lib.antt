@@ -15,3 +15,4 @@ pub mod State
 pub mod Declare
 pub mod Judge
 pub mod TheoryLaws
+pub mod TheoryTables
