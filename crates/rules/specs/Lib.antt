@@ -1,8 +1,11 @@
 pub mod Limits
 pub mod Out
 pub mod Text
+pub mod TextLaws
 pub mod Lex
+pub mod LexLaws
 pub mod Sexp
+pub mod SexpLaws
 pub mod Find
 pub mod Index
 pub mod Tags
