@@ -32,3 +32,5 @@ pub mod TheoryLaws
 pub mod PatternLaws
 pub mod DeclareLaws
 pub mod TheoryTables
+pub mod StateTables
+pub mod Examples
