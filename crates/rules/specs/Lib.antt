@@ -34,3 +34,4 @@ pub mod DeclareLaws
 pub mod TheoryTables
 pub mod StateTables
 pub mod Examples
+pub mod Slips
