@@ -1,2 +1,4 @@
 pub mod Tree
 pub mod TreeTests
+pub mod UnifyActs
+pub mod UnifyList
