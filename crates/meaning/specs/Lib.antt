@@ -2,3 +2,5 @@ pub mod Tree
 pub mod TreeTests
 pub mod UnifyActs
 pub mod UnifyList
+pub mod UnifyPairs
+pub mod UnifyPeel
