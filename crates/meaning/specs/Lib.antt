@@ -4,3 +4,4 @@ pub mod UnifyActs
 pub mod UnifyList
 pub mod UnifyPairs
 pub mod UnifyPeel
+pub mod UnifySolve
