@@ -5,3 +5,5 @@ pub mod UnifyList
 pub mod UnifyPairs
 pub mod UnifyPeel
 pub mod UnifySolve
+pub mod UnifyRoom
+pub mod UnifyRight

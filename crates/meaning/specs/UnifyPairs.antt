@@ -1,16 +1,17 @@
 -- Replacements that make pairs of trees equal, and what one look at a pair tells: which pairs are left to be made equal, or that none
 -- can be. The occurs check is here. Assumes nothing.
-use mathlib.Core.Path.{_≡_, refl, sym, _∙_, ap, ap₂, subst}
+use mathlib.Core.Path.{_≡_, refl, sym, _∙_, ap, ap₂}
 use mathlib.Core.Logic.{_⊎_, inl, inr}
 use mathlib.Core.Bool.{Bool, true, false}
 use mathlib.Core.List.{List, [], _∷_}
-use Prim.Native.Nat.{ℕ, zero, suc, _+_, _≤_, _<_}
+use Prim.Native.Nat.{ℕ, suc}
 use native.Mathlib.Omega.{arith}
 use lib.Dec.{eqb}
 use borrow.Author.Tests.{eqb-true, eqb-false}
 use Rattle.rules.specs.Tree.{Tree, Trees, var, app, none, more, sameTree, sub, subs, variables, countTrees, size, sizes}
 use Rattle.rules.specs.Unify.{Pair, Look, agree, clash, binds, parts, bindOrClash, differ, look, push}
-use Rattle.meaning.specs.Tree.{Occ, Occs, Sig, Sorted, Sorteds, app-symbol, app-args, more-head, more-tail, sub-ext, sub-sub, count-subs, sizes-occ}
+use Rattle.meaning.specs.Tree.{Occ, Occs, Sig, Sorted, Sorteds, app-symbol, app-args, more-head, more-tail, sub-ext, sub-sub}
+use Rattle.meaning.specs.Tree.{count-subs, sizes-occ}
 use Rattle.meaning.specs.TreeTests.{sameTree-true, sameTree-false, variables-true, variables-false}
 
 -- Replacements --------------------------------------------------------------------------------------------------------------------
@@ -65,7 +66,7 @@ saw-parts c d ts us = go (eqb c d) refl (eqb (countTrees ts) (countTrees us)) re
     go true e true f = (c, refl, ap (λ z. app z us) (sym (eqb-true c d e)), eqb-true (countTrees ts) (countTrees us) f)
     go true e false f = λ γ q.
         eqb-false (countTrees ts) (countTrees us) f
-          (sym (count-subs γ ts) ∙ (ap countTrees (app-args c d (subs γ ts) (subs γ us) q) ∙ count-subs γ us))
+        (sym (count-subs γ ts) ∙ (ap countTrees (app-args c d (subs γ ts) (subs γ us) q) ∙ count-subs γ us))
 
 saw-differ : (s t : Tree) → ¬ (s ≡ t) → Saw s t (differ s t)
 unfolding differ
@@ -89,7 +90,7 @@ push-down γ none us w e h = h
 push-down γ (more t ts) none w e h = h
 push-down γ (more t ts) (more u us) w e h =
     push-down γ ts us (record { left = t; right = u } ∷ w) (more-tail (sub γ t) (sub γ u) (subs γ ts) (subs γ us) e)
-      (more-head (sub γ t) (sub γ u) (subs γ ts) (subs γ us) e, h)
+    (more-head (sub γ t) (sub γ u) (subs γ ts) (subs γ us) e, h)
 
 pub push-up : (γ : ℕ → Tree) (ts us : Trees) (w : List Pair) → countTrees ts ≡ countTrees us → Unifies γ (push ts us w)
     → (subs γ ts ≡ subs γ us) × Unifies γ w
@@ -131,4 +132,4 @@ push-within Own none us w a b h = h
 push-within Own (more t ts) none w a b h = h
 push-within Own (more t ts) (more u us) w a b h =
     push-within Own ts us (record { left = t; right = u } ∷ w) (λ v o. a v (inr o)) (λ v o. b v (inr o))
-      (λ v o. a v (inl o), λ v o. b v (inl o), h)
+    (λ v o. a v (inl o), λ v o. b v (inl o), h)
