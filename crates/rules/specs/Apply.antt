@@ -28,13 +28,14 @@ plainAt fs h = elim (entry fs h) [ some f ↦ isPlain f | nothing ↦ false ]
 
 unfoldable pub applied : State → List Binding → ℕ → Fact → Act Made Applied
 applied S bs i f =
-    elim (f .assumed)
-    [ true ↦ do
+    elim (f .assumed) [
+      | true ↦ do
         _ ← ask 36 (all (λ b. has (f .general) (b .variable)) bs)
         pure (record { premises = f .premises; conclusion = f .judgment; hyps = i ∷ [] })
-    | false ↦ do
+      | false ↦ do
         _ ← ask 40 (all (plainAt (S .facts)) (f .hyps))
-        pure (record { premises = judgmentsAt (S .facts) (f .hyps); conclusion = f .judgment; hyps = [] }) ]
+        pure (record { premises = judgmentsAt (S .facts) (f .hyps); conclusion = f .judgment; hyps = [] })
+    ]
 
 -- each premise under the bindings, and the reference that is it
 unfoldable pub discharge : State → List Binding → Sexps → Trees → Act Made Refs
@@ -65,8 +66,14 @@ apply S xs = do
   rs ← discharge S bs zs (a .premises)
   let hs = rising (length (S .facts)) (union (has (a .hyps)) (rs .hyps))
   _ ← scoped S (union (variablesOf (rs .judgments)) (valueVars bs)) j hs
-  pure (record { judgment = j; hyps = hs; assumed = false; premises = none; general = [];
-    footing = rising (length (S .theory .rules)) (rs .footing) })
+  pure (record {
+    judgment = j;
+    hyps = hs;
+    assumed = false;
+    premises = none;
+    general = [];
+    footing = rising (length (S .theory .rules)) (rs .footing);
+  })
 
 -- `unfolding applying` opens all of the above, for a computation
 unfoldable pub applying : Unit {0}

@@ -50,8 +50,15 @@ countOpen [] = 0
 countOpen (g ∷ gs) = elim (isOpen (g .judgment)) [ true ↦ suc (countOpen gs) | false ↦ countOpen gs ]
 
 unfoldable pub report : State → Report
-report S = record { steps = length (S .facts); goals = length (S .goals); openGoals = countOpen (S .goals); hypotheses = S .counts .hypotheses;
-  inductions = S .counts .inductions; inversions = S .counts .inversions; instances = S .counts .instances }
+report S = record {
+  steps = length (S .facts);
+  goals = length (S .goals);
+  openGoals = countOpen (S .goals);
+  hypotheses = S .counts .hypotheses;
+  inductions = S .counts .inductions;
+  inversions = S .counts .inversions;
+  instances = S .counts .instances;
+}
 
 -- the goals without a result, numbered from 1
 unfoldable pub missing : State → List ℕ
@@ -72,9 +79,10 @@ afterProof (refused n d k S) = refusedIn 3 n d k S
 unfoldable pub afterGoals : List ℕ → Judged State → Outcome
 afterGoals proof (refused n d k S) = refusedIn 2 n d k S
 afterGoals proof (done k S) =
-    elim (eqb (length (S .goals)) 0)
-    [ true ↦ refusedIn 2 25 0 k S
-    | false ↦ afterProof (through takeForm (read proof) 0 S) ]
+    elim (eqb (length (S .goals)) 0) [
+      | true ↦ refusedIn 2 25 0 k S
+      | false ↦ afterProof (through takeForm (read proof) 0 S)
+    ]
 
 unfoldable pub afterTheory : List ℕ → List ℕ → Judged Theory → Outcome
 afterTheory goals proof (refused n d k T) = refusedIn 1 n d k (begin T)

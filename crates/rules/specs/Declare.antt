@@ -124,11 +124,12 @@ head T s k n = do
 unfoldable mutual
   pub pattern : Theory → Sexp → ℕ → Act Reading Tree
   pattern T (atom p bs) s =
-      elim (marked bs)
-      [ true ↦ variable (record { start = p; bytes = bs }) s
-      | false ↦ do
+      elim (marked bs) [
+        | true ↦ variable (record { start = p; bytes = bs }) s
+        | false ↦ do
           c ← head T s 0 bs
-          pure (app c none) ]
+          pure (app c none)
+      ]
   pattern T (list xs) s = compound T xs s
 
   pub compound : Theory → Sexps → ℕ → Act Reading Tree
@@ -186,8 +187,11 @@ addRule xs = do
   n ← properName (item xs 1)
   _ ← ask 11 (isNew (ruleNamed T (n .bytes)))
   _ ← room 4 (ltb (length (T .rules)) RULES)
-  put (record { sorts = T .sorts; symbols = T .symbols;
-    rules = T .rules ++ (record { name = n; vars = r .1 .vars; premises = r .0 .0; conclusion = r .0 .1 } ∷ []) })
+  put (record {
+    sorts = T .sorts;
+    symbols = T .symbols;
+    rules = T .rules ++ (record { name = n; vars = r .1 .vars; premises = r .0 .0; conclusion = r .0 .1 } ∷ []);
+  })
 
 -- Declarations --------------------------------------------------------------------------------------------------------------------
 

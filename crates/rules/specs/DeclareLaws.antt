@@ -22,7 +22,6 @@ use Rattle.rules.specs.Tree.{Tree, Trees, var, app, none, more, variable
 use Rattle.rules.specs.Theory.{Symbol, RuleVar, Rule, Theory, noTheory, noSymbol, sortNamed, isPredicate, predicateNamed, constructorNamed, inputs, output, ruleWords}
 use Rattle.rules.specs.TheoryLaws.{All, empty, both, IsSort, sortIn, Sorted, Sorteds, Judgment, Judgments, SymbolFormed, RuleFormed, WellFormed, all-snoc, all-map, all-at}
 use Rattle.rules.specs.Declare.{noRuleVar, properName, sort, sorts, Reading, word, metOrNew, variable, head, pattern, compound, patterns, predicated, judgment, judgments, schema, addSort, addSymbol, addCtor, addPred, addRule, declareAs, declare}
-
 use Rattle.rules.specs.PatternLaws.{Reads, schema-reads, ReadRule}
 use Rattle.rules.specs.Judge.{Judged, done, refused, through, unread, whole}
 
@@ -40,11 +39,14 @@ is-sort-grows g s h = record { positive = h .positive; declared = omega (arith, 
 
 mutual
   unfolding Sorted
+
   sorted-grows : (t : Tree) (T U : Theory) → Grows T U → (vs : List RuleVar) (s : ℕ) → Sorted T vs t s → Sorted U vs t s
   sorted-grows (var i) T U g vs s h = h
-  sorted-grows (app c ts) T U g vs s h =
-      (omega (arith, h .0, g .symbols), g .outs c (h .0) ∙ h .1,
-        subst (λ ss. Sorteds U vs ts ss) (sym (g .ins c (h .0))) (sorteds-grows ts T U g vs (inputs T c) (h .2)))
+  sorted-grows (app c ts) T U g vs s h = (
+    omega (arith, h .0, g .symbols),
+    g .outs c (h .0) ∙ h .1,
+    subst (λ ss. Sorteds U vs ts ss) (sym (g .ins c (h .0))) (sorteds-grows ts T U g vs (inputs T c) (h .2)),
+  )
 
   sorteds-grows : (ts : Trees) (T U : Theory) → Grows T U → (vs : List RuleVar) (ss : List ℕ) → Sorteds T vs ts ss → Sorteds U vs ts ss
   sorteds-grows none T U g vs [] h = tt
@@ -55,9 +57,11 @@ mutual
 judgment-grows : (t : Tree) (T U : Theory) → Grows T U → (vs : List RuleVar) → Judgment T vs t → Judgment U vs t
 unfolding Judgment
 judgment-grows (var i) T U g vs h = absurd h
-judgment-grows (app c ts) T U g vs h =
-    (omega (arith, h .0, g .symbols), g .outs c (h .0) ∙ h .1,
-      subst (λ ss. Sorteds U vs ts ss) (sym (g .ins c (h .0))) (sorteds-grows ts T U g vs (inputs T c) (h .2)))
+judgment-grows (app c ts) T U g vs h = (
+  omega (arith, h .0, g .symbols),
+  g .outs c (h .0) ∙ h .1,
+  subst (λ ss. Sorteds U vs ts ss) (sym (g .ins c (h .0))) (sorteds-grows ts T U g vs (inputs T c) (h .2)),
+)
 
 judgments-grows : (ts : Trees) (T U : Theory) → Grows T U → (vs : List RuleVar) → Judgments T vs ts → Judgments U vs ts
 unfolding Judgments
@@ -74,4 +78,5 @@ rule-grows {T} {U} g r h =
       sorts = all-map (λ v. is-sort-grows g (v .sort)) (h .sorts);
       premises = judgments-grows (r .premises) T U g (r .vars) (h .premises);
       conclusion = judgment-grows (r .conclusion) T U g (r .vars) (h .conclusion);
-      occur = h .occur }
+      occur = h .occur;
+    }

@@ -36,74 +36,74 @@ quoted g f l = record { theory = theory; goals = bytes g; proof = bytes f; says 
 abbrev exampleA : Row
 exampleA =
     quoted "(var x Pass) (goal g (Child x))"
-      "(var y Pass) (step 0 c0 ()) (hyp 1 (Child y)) (step 2 c1 (1)) (induct 3 x (Child x) ((0) (2 y))) (result g 3)"
-      (1 ∷ 4 ∷ 1 ∷ 1 ∷ 1 ∷ 1 ∷ 0 ∷ 0 ∷ [])
+    "(var y Pass) (step 0 c0 ()) (hyp 1 (Child y)) (step 2 c1 (1)) (induct 3 x (Child x) ((0) (2 y))) (result g 3)"
+    (1 ∷ 4 ∷ 1 ∷ 1 ∷ 1 ∷ 1 ∷ 0 ∷ 0 ∷ [])
 
 abbrev exampleB : Row
 exampleB =
     quoted "(var x Pass) (goal g (Child x))"
-      "(var y Pass) (step 0 c0 ()) (hyp 1 (Child y)) (step 2 c1 (1)) (induct 3 x (Child x) ((2 y) (0))) (result g 3)"
-      (0 ∷ 41 ∷ 3 ∷ 4 ∷ 0 ∷ [])
+    "(var y Pass) (step 0 c0 ()) (hyp 1 (Child y)) (step 2 c1 (1)) (induct 3 x (Child x) ((2 y) (0))) (result g 3)"
+    (0 ∷ 41 ∷ 3 ∷ 4 ∷ 0 ∷ [])
 
 abbrev exampleC : Row
 exampleC =
     quoted "(var x Pass) (goal g (Child x))"
-      "(var y Pass) (step 0 c0 ()) (hyp 1 (Child y)) (step 2 c1 (1)) (induct 3 x (Child x) ((0) (2 y))) (result g 2)"
-      (0 ∷ 51 ∷ 3 ∷ 5 ∷ 0 ∷ [])
+    "(var y Pass) (step 0 c0 ()) (hyp 1 (Child y)) (step 2 c1 (1)) (induct 3 x (Child x) ((0) (2 y))) (result g 2)"
+    (0 ∷ 51 ∷ 3 ∷ 5 ∷ 0 ∷ [])
 
 abbrev exampleD : Row
 exampleD =
     quoted "(var x Pass) (goal g (Child x))"
-      "(var y Pass) (step +0 c0 ()) (hyp 1 (Child y)) (step 2 c1 (1)) (induct 3 x (Child x) ((0) (2 y))) (result g 3)"
-      (1 ∷ 4 ∷ 1 ∷ 1 ∷ 1 ∷ 1 ∷ 0 ∷ 0 ∷ [])
+    "(var y Pass) (step +0 c0 ()) (hyp 1 (Child y)) (step 2 c1 (1)) (induct 3 x (Child x) ((0) (2 y))) (result g 3)"
+    (1 ∷ 4 ∷ 1 ∷ 1 ∷ 1 ∷ 1 ∷ 0 ∷ 0 ∷ [])
 
 abbrev exampleE : Row
 exampleE =
     quoted "(goal g (Child (renew first)))"
-      "(step 0 c0 ()) (step 1 c1 ((0))) (result g 1)"
-      (1 ∷ 2 ∷ 1 ∷ 0 ∷ 0 ∷ 0 ∷ 0 ∷ 1 ∷ [])
+    "(step 0 c0 ()) (step 1 c1 ((0))) (result g 1)"
+    (1 ∷ 2 ∷ 1 ∷ 0 ∷ 0 ∷ 0 ∷ 0 ∷ 1 ∷ [])
 
 abbrev exampleF : Row
 exampleF =
     quoted "(var x Pass) (goal g (Child x))"
-      "(var y Pass) (step 0 c0 ()) (hyp 1 (Child y)) (step 2 c1 ((1))) (induct 3 x (Child x) ((0) (2 y))) (result g 3)"
-      (0 ∷ 35 ∷ 3 ∷ 3 ∷ 0 ∷ [])
+    "(var y Pass) (step 0 c0 ()) (hyp 1 (Child y)) (step 2 c1 ((1))) (induct 3 x (Child x) ((0) (2 y))) (result g 3)"
+    (0 ∷ 35 ∷ 3 ∷ 3 ∷ 0 ∷ [])
 
 abbrev exampleG : Row
 exampleG =
     quoted "(var x Pass) (var y Pass) (goal g (Bad first))"
-      "(hyp 0 (Adult x)) (hyp 1 (Adult first)) (invert 2 1 () (Bad first) ()) (hyp 3 ((Adult y)) (Bad first) ()) (induct 4 x (0) (Bad first) ((2) (3 y))) (step 5 a1 ()) (apply 6 4 ((x (renew first))) (5)) (result g 6)"
-      (1 ∷ 7 ∷ 1 ∷ 0 ∷ 3 ∷ 1 ∷ 1 ∷ 0 ∷ [])
+    "(hyp 0 (Adult x)) (hyp 1 (Adult first)) (invert 2 1 () (Bad first) ()) (hyp 3 ((Adult y)) (Bad first) ()) (induct 4 x (0) (Bad first) ((2) (3 y))) (step 5 a1 ()) (apply 6 4 ((x (renew first))) (5)) (result g 6)"
+    (1 ∷ 7 ∷ 1 ∷ 0 ∷ 3 ∷ 1 ∷ 1 ∷ 0 ∷ [])
 
 abbrev exampleH : Row
 exampleH =
     quoted "(var z Gone) (goal g (Left z))"
-      "(induct 0 z (Left z) ()) (result g 0)"
-      (1 ∷ 1 ∷ 1 ∷ 1 ∷ 0 ∷ 1 ∷ 0 ∷ 0 ∷ [])
+    "(induct 0 z (Left z) ()) (result g 0)"
+    (1 ∷ 1 ∷ 1 ∷ 1 ∷ 0 ∷ 1 ∷ 0 ∷ 0 ∷ [])
 
 abbrev exampleI : Row
 exampleI =
     quoted "(var x Pass) (goal g ((Same x x)) (Bad x))"
-      "(hyp 0 (Same x x)) (invert 1 0 () (Bad x) ()) (result g 1)"
-      (1 ∷ 2 ∷ 1 ∷ 1 ∷ 1 ∷ 0 ∷ 1 ∷ 0 ∷ [])
+    "(hyp 0 (Same x x)) (invert 1 0 () (Bad x) ()) (result g 1)"
+    (1 ∷ 2 ∷ 1 ∷ 1 ∷ 1 ∷ 0 ∷ 1 ∷ 0 ∷ [])
 
 abbrev exampleJ : Row
 exampleJ =
     quoted "(var x Pass) (goal g ((Adult x)) (Bad x))"
-      "(hyp 0 (Adult x)) (invert 1 0 () (Bad x) ()) (result g 1)"
-      (0 ∷ 47 ∷ 3 ∷ 1 ∷ 0 ∷ [])
+    "(hyp 0 (Adult x)) (invert 1 0 () (Bad x) ()) (result g 1)"
+    (0 ∷ 47 ∷ 3 ∷ 1 ∷ 0 ∷ [])
 
 abbrev exampleK : Row
 exampleK =
     quoted "(var Child Pass) (goal g (Child first))"
-      "(step 0 c0 ()) (result g 0)"
-      (0 ∷ 21 ∷ 2 ∷ 0 ∷ 0 ∷ [])
+    "(step 0 c0 ()) (result g 0)"
+    (0 ∷ 21 ∷ 2 ∷ 0 ∷ 0 ∷ [])
 
 abbrev exampleKProof : Row
 exampleKProof =
     quoted "(goal g (Child first))"
-      "(var Child Pass) (step 0 c0 ()) (result g 0)"
-      (0 ∷ 21 ∷ 3 ∷ 0 ∷ 0 ∷ [])
+    "(var Child Pass) (step 0 c0 ()) (result g 0)"
+    (0 ∷ 21 ∷ 3 ∷ 0 ∷ 0 ∷ [])
 
 pub examples :
     AllHold
@@ -180,9 +180,12 @@ abbrev renamedInUse : Row
 renamedInUse = quoted "(var x Pass) (var p Pass) (goal g (Child x))" "(hyp 0 (Same x p)) (hyp 1 (Child x)) (invert 2 0 (1) (Child x) ((s 1 (p))))" (0 ∷ 42 ∷ 3 ∷ 2 ∷ 0 ∷ [])
 
 abbrev emptySort : Row
-emptySort = record { theory = theory ++ bytes "(rule w ((Left ?z)) (Child first))";
-  goals = bytes "(var z Gone) (goal g (Child first))"; proof = bytes "(induct 0 z (Left z) ()) (step 1 w (0)) (result g 1)";
-  says = 0 ∷ 39 ∷ 3 ∷ 1 ∷ 1 ∷ [] }
+emptySort = record {
+  theory = theory ++ bytes "(rule w ((Left ?z)) (Child first))";
+  goals = bytes "(var z Gone) (goal g (Child first))";
+  proof = bytes "(induct 0 z (Left z) ()) (step 1 w (0)) (result g 1)";
+  says = 0 ∷ 39 ∷ 3 ∷ 1 ∷ 1 ∷ [];
+}
 
 pub corners :
     AllHold
@@ -200,7 +203,7 @@ pub tables-A :
     × (endCells 0 (S .made) ≡ 1 ∷ 3 ∷ 4 ∷ 6 ∷ 7 ∷ 9 ∷ 11 ∷ 13 ∷ [])
     × (goalCells (S .made) 0 (S .goals) ≡ 19 ∷ 20 ∷ 1 ∷ 0 ∷ 0 ∷ 1 ∷ [])
     × (factCells (S .made) 0 (S .facts)
-      ≡ (3 ∷ 0 ∷ 0 ∷ 0 ∷ 0 ∷ 0 ∷ []) ++ (5 ∷ 1 ∷ 0 ∷ 1 ∷ 0 ∷ 0 ∷ []) ++ (7 ∷ 0 ∷ 1 ∷ 1 ∷ 0 ∷ 0 ∷ []) ++ (1 ∷ 0 ∷ 2 ∷ 0 ∷ 0 ∷ 0 ∷ []))
+    ≡ (3 ∷ 0 ∷ 0 ∷ 0 ∷ 0 ∷ 0 ∷ []) ++ (5 ∷ 1 ∷ 0 ∷ 1 ∷ 0 ∷ 0 ∷ []) ++ (7 ∷ 0 ∷ 1 ∷ 1 ∷ 0 ∷ 0 ∷ []) ++ (1 ∷ 0 ∷ 2 ∷ 0 ∷ 0 ∷ 0 ∷ []))
     × (factList (S .made) (S .facts) ≡ 1 ∷ 1 ∷ [])
     × (footingCells (S .facts) ≡ (1 ∷ 0 ∷ 0 ∷ 0 ∷ []) ++ (0 ∷ 0 ∷ 0 ∷ 0 ∷ []) ++ (2 ∷ 0 ∷ 0 ∷ 0 ∷ []) ++ (0 ∷ 0 ∷ 0 ∷ 0 ∷ []))
 unfolding laying

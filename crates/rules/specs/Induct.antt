@@ -63,12 +63,13 @@ unfoldable pub hypotheses : Motive → List ℕ → List ℕ → Act Made (List 
 hypotheses M [] ss = pure []
 hypotheses M (v ∷ vs) [] = pure []
 hypotheses M (v ∷ vs) (s ∷ ss) =
-    elim (eqb s (M .sort))
-    [ true ↦ do
+    elim (eqb s (M .sort)) [
+      | true ↦ do
         h ← hypothesisAt M v
         hs ← hypotheses M vs ss
         pure (h ∷ hs)
-    | false ↦ hypotheses M vs ss ]
+      | false ↦ hypotheses M vs ss
+    ]
 
 -- What a case may rest on -----------------------------------------------------------------------------------------------------------
 

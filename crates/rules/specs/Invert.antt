@@ -211,9 +211,18 @@ invert S xs = do
   ys ← items 41 (item xs 5)
   cs ← readCases S ys []
   N ← invertRules S (record { hypothesis = k .judgment; judgment = j; context = hs; cases = cs })
-        (rulesOf (S .theory) (predicateOf (k .judgment))) (record { vars = S .vars; seen = [] })
-  pure (record { judgment = j; hyps = rising (length (S .facts)) (union (has (i ∷ [])) (has hs)); assumed = false; premises = none;
-    general = []; footing = [] }, N .vars)
+      (rulesOf (S .theory) (predicateOf (k .judgment))) (record { vars = S .vars; seen = [] })
+  pure (
+    record {
+      judgment = j;
+      hyps = rising (length (S .facts)) (union (has (i ∷ [])) (has hs));
+      assumed = false;
+      premises = none;
+      general = [];
+      footing = [];
+    },
+    N .vars,
+  )
 
 -- `unfolding inverting` opens all of the above, for a computation
 unfoldable pub inverting : Unit {0}

@@ -54,7 +54,7 @@ addVar text xs = do
   s ← name 21 (item xs 2)
   k ← found 21 (sortNamed (S .theory) (s .bytes))
   _ ← ask 21 (not (marked (n .bytes)) && (isNew (constructorNamed (S .theory) (n .bytes))
-        && (isNew (predicateNamed (S .theory) (n .bytes)) && isNew (varNamed (S .vars) (n .bytes)))))
+      && (isNew (predicateNamed (S .theory) (n .bytes)) && isNew (varNamed (S .vars) (n .bytes)))))
   _ ← room 7 (ltb (length (S .vars)) VARIABLES)
   put (withVars S (S .vars ++ (record { sort = k; text = text; name = n } ∷ [])))
 
@@ -105,8 +105,12 @@ takeGoal x = do
 -- Facts -----------------------------------------------------------------------------------------------------------------------------
 
 unfoldable pub plus : Counts → Counts → Counts
-plus c d = record { hypotheses = c .hypotheses + d .hypotheses; inductions = c .inductions + d .inductions;
-  inversions = c .inversions + d .inversions; instances = c .instances + d .instances }
+plus c d = record {
+  hypotheses = c .hypotheses + d .hypotheses;
+  inductions = c .inductions + d .inductions;
+  inversions = c .inversions + d .inversions;
+  instances = c .instances + d .instances;
+}
 
 -- rows 12 and 13; the form's own counts are added
 unfoldable pub addFact : Fact → Counts → Act State (Unit {0})

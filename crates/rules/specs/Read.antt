@@ -45,12 +45,13 @@ varsList n S x = do
 -- a variable's name, or else a constructor without arguments
 unfoldable pub named : State → List ℕ → Act Made Tree
 named S n =
-    elim (varNamed (S .vars) n)
-    [ some v ↦ keep (var v)
-    | nothing ↦ do
+    elim (varNamed (S .vars) n) [
+      | some v ↦ keep (var v)
+      | nothing ↦ do
         c ← found 22 (constructorNamed (S .theory) n)
         _ ← ask 23 (isEmpty (inputs (S .theory) c))
-        keep (app c none) ]
+        keep (app c none)
+    ]
 
 -- counts and sorts are asked behind the arguments
 unfoldable mutual

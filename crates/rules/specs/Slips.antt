@@ -95,13 +95,21 @@ abbrev otherGoal : Row
 otherGoal = proved "(step 0 c0 ()) (result g 0)" (0 ∷ 52 ∷ 3 ∷ 1 ∷ 0 ∷ [])
 
 abbrev twice : Row
-twice = record { theory = theory; goals = bytes "(goal g (Child first)) (goal h (Child first))";
-  proof = bytes "(step 0 c0 ()) (result g 0) (result g 0)"; says = 0 ∷ 50 ∷ 3 ∷ 2 ∷ 0 ∷ [] }
+twice = record {
+  theory = theory;
+  goals = bytes "(goal g (Child first)) (goal h (Child first))";
+  proof = bytes "(step 0 c0 ()) (result g 0) (result g 0)";
+  says = 0 ∷ 50 ∷ 3 ∷ 2 ∷ 0 ∷ [];
+}
 
 -- two of three goals stay without a result
 abbrev notAll : Row
-notAll = record { theory = theory; goals = bytes "(goal f (Child first)) (goal g (Child first)) (goal h (Child first))";
-  proof = bytes "(step 0 c0 ()) (result g 0)"; says = 0 ∷ 53 ∷ 3 ∷ 2 ∷ 2 ∷ [] }
+notAll = record {
+  theory = theory;
+  goals = bytes "(goal f (Child first)) (goal g (Child first)) (goal h (Child first))";
+  proof = bytes "(step 0 c0 ()) (result g 0)";
+  says = 0 ∷ 53 ∷ 3 ∷ 2 ∷ 2 ∷ [];
+}
 
 -- Theories ------------------------------------------------------------------------------------------------------------------------------
 
@@ -134,6 +142,6 @@ g t = app 1 (more t none)
 pub last-first :
     unify 3 (f (var 0) (var 0)) (f (g (var 1)) (g (var 2))) []
     ≡ ok (some (record { variable = 0; value = g (var 1) } ∷ record { variable = 2; value = var 1 } ∷ []))
-      (var 0 ∷ f (var 0) (var 0) ∷ var 1 ∷ g (var 1) ∷ var 2 ∷ g (var 2) ∷ f (g (var 1)) (g (var 2)) ∷ [])
+    (var 0 ∷ f (var 0) (var 0) ∷ var 1 ∷ g (var 1) ∷ var 2 ∷ g (var 2) ∷ f (g (var 1)) (g (var 2)) ∷ [])
 unfolding unifying
 last-first = refl

@@ -167,6 +167,11 @@ pub record Laid (O : Outcome) (before after : Tables) : Type 0 where
       ≡ laid (filled ENTRIES (goalList (O .state .made) (O .state .goals) ++ factList (O .state .made) (O .state .facts))) (before .lists)
   pub missing : Missing O (before .missing) (after .missing)
 
+-- the whole of a check on lent tables: question 1 first, and nothing is written where it refuses
+pub data Checked (t g f : List ℕ) (before after : Tables) : Answer → Type 0 where
+  tooShort : ¬ (Long before) → after ≡ before → Checked t g f before after (refuses (record { number = 1; text = 0; form = 0; detail = 0 }))
+  answered : Long before → Laid (check t g f) before after → Checked t g f before after (check t g f .answer)
+
 -- `unfolding laying` opens all of the above, for a computation
 unfoldable pub laying : Unit {0}
 unfolding tabling checking varCells defCells numbers nodeCells wordCells endCells bit goalList factList goalCells factCells bitWord footingCells laid cleared missingOf

@@ -32,8 +32,12 @@ abbrev pub noRefs : Refs
 noRefs = record { judgments = none; hyps = empty; footing = empty; instances = 0 }
 
 abbrev pub withRef : Ref → Refs → Refs
-withRef r rs = record { judgments = more (r .judgment) (rs .judgments); hyps = union (has (r .hyps)) (rs .hyps);
-  footing = union (has (r .footing)) (rs .footing); instances = r .instances + rs .instances }
+withRef r rs = record {
+  judgments = more (r .judgment) (rs .judgments);
+  hyps = union (has (r .hyps)) (rs .hyps);
+  footing = union (has (r .footing)) (rs .footing);
+  instances = r .instances + rs .instances;
+}
 
 unfoldable pub references : State → Sexps → Act Made Refs
 references S nil = pure noRefs
@@ -71,9 +75,10 @@ unfoldable pub readItem : State → Rule → Sexp → Items → Act Made Items
 readItem S R x it = do
   ys ← items 22 x
   n ← name 22 (item ys 0)
-  elim (marked (n .bytes) && eqb (count ys) 2)
-    [ true ↦ bindItem S R (n .bytes) (item ys 1) it
-    | false ↦ stateItem S x it ]
+  elim (marked (n .bytes) && eqb (count ys) 2) [
+    | true ↦ bindItem S R (n .bytes) (item ys 1) it
+    | false ↦ stateItem S x it
+  ]
 
 unfoldable pub readItems : State → Rule → Sexps → Items → Act Made Items
 readItems S R nil it = pure it
@@ -107,8 +112,17 @@ step S xs = do
   j ← conclude (R .conclusion) (it .stated) c
   let hs = rising (length (S .facts)) (rs .hyps)
   _ ← scoped S (union (variablesOf (rs .judgments)) (variablesOf (it .values))) j hs
-  pure (record { judgment = j; hyps = hs; assumed = false; premises = none; general = [];
-    footing = rising (length (S .theory .rules)) (union (has (r ∷ [])) (rs .footing)) }, rs .instances)
+  pure (
+    record {
+      judgment = j;
+      hyps = hs;
+      assumed = false;
+      premises = none;
+      general = [];
+      footing = rising (length (S .theory .rules)) (union (has (r ∷ [])) (rs .footing));
+    },
+    rs .instances,
+  )
 
 -- `unfolding stepping` opens all of the above, for a computation
 unfoldable pub stepping : Unit {0}
