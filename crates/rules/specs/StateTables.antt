@@ -96,7 +96,7 @@ pub record Tables : Type 0 where
   pub ruleVars : List ℕ
   pub patterns : List ℕ
   pub vars : List ℕ
-  pub ends : List ℕ
+  pub index : List ℕ
   pub words : List ℕ
   pub defs : List ℕ
   pub goals : List ℕ
@@ -114,7 +114,7 @@ pub record Long (T : Tables) : Type 0 where
   pub ruleVars : 3 * RULEVARS * RULES ≤ length (T .ruleVars)
   pub patterns : PATTERNS ≤ length (T .patterns)
   pub vars : 4 * VARIABLES ≤ length (T .vars)
-  pub ends : TERMS ≤ length (T .ends)
+  pub index : 4 * TERMS ≤ length (T .index)
   pub words : WORDS ≤ length (T .words)
   pub defs : 3 * DEFS ≤ length (T .defs)
   pub goals : 6 * GOALS ≤ length (T .goals)
@@ -155,7 +155,8 @@ pub record Laid (O : Outcome) (before after : Tables) : Type 0 where
   pub ruleVars : after .ruleVars ≡ laid (ruleVarTable (O .state .theory)) (before .ruleVars)
   pub patterns : after .patterns ≡ laid (patternTable (O .state .theory)) (before .patterns)
   pub vars : after .vars ≡ laid (filled (4 * VARIABLES) (varCells (O .state .vars))) (before .vars)
-  pub ends : after .ends ≡ laid (filled TERMS (endCells 0 (O .state .made))) (before .ends)
+  -- where each term's words end; behind the last limit of row 8 lies scratch, zero by now
+  pub index : after .index ≡ laid (filled (4 * TERMS) (endCells 0 (O .state .made))) (before .index)
   pub words : after .words ≡ laid (filled WORDS (wordCells (O .state .made) (O .state .made))) (before .words)
   pub defs : after .defs ≡ laid (filled (3 * DEFS) (defCells (O .state .made) (O .state .defs))) (before .defs)
   pub goals : after .goals ≡ laid (filled (6 * GOALS) (goalCells (O .state .made) 0 (O .state .goals))) (before .goals)
