@@ -1,2 +1,5 @@
 pub mod ByteLaws
 pub mod Skips
+pub mod CellLaws
+pub mod OpenLists
+pub mod States

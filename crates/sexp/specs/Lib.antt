@@ -1,1 +1,4 @@
 pub mod Lexed
+pub mod Encode
+pub mod Spelt
+pub mod Reads
