@@ -3,3 +3,4 @@ pub mod Skips
 pub mod CellLaws
 pub mod OpenLists
 pub mod States
+pub mod Tallies

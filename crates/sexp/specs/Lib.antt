@@ -2,3 +2,6 @@ pub mod Lexed
 pub mod Encode
 pub mod Spelt
 pub mod Reads
+pub mod Items
+pub mod ItemLaws
+pub mod WalkLaws
