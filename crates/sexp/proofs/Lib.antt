@@ -4,3 +4,4 @@ pub mod CellLaws
 pub mod OpenLists
 pub mod States
 pub mod Tallies
+pub mod IndexLaws

@@ -5,3 +5,4 @@ pub mod Reads
 pub mod Items
 pub mod ItemLaws
 pub mod WalkLaws
+pub mod Names
