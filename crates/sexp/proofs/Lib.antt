@@ -5,3 +5,6 @@ pub mod OpenLists
 pub mod States
 pub mod Tallies
 pub mod IndexLaws
+pub mod TableLaws
+pub mod TagRows
+pub mod TagLaws

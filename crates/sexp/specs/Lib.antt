@@ -6,3 +6,4 @@ pub mod Items
 pub mod ItemLaws
 pub mod WalkLaws
 pub mod Names
+pub mod TagTable

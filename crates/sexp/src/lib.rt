@@ -3,3 +3,4 @@ pub mod items;
 pub mod lex;
 pub mod names;
 pub mod sexp;
+pub mod tags;
