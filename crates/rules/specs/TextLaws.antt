@@ -41,3 +41,22 @@ module _ (s t : List ℕ) (i : ℕ) (h : i < length s) (k : i < length t) where
 pub same-over : (s t : List ℕ) (i : ℕ) → length s ≤ i → length t ≤ i → same (drop i s) (drop i t) ≡ true
 unfolding same
 same-over s t i h k = rw (drop-of-length-le s h, drop-of-length-le t k)
+
+-- equal names, and names that are not
+pub same-self : (xs : List ℕ) → same xs xs ≡ true
+unfolding same
+same-self [] = refl
+same-self (x ∷ xs) = rw (eq-eqb x x refl, same) (same-self xs)
+
+pub same-equal : (xs ys : List ℕ) → same xs ys ≡ true → xs ≡ ys
+unfolding same
+same-equal [] [] e = refl
+same-equal [] (y ∷ ys) e = cc
+same-equal (x ∷ xs) [] e = cc
+same-equal (x ∷ xs) (y ∷ ys) e = go (eqb x y) refl (same-equal xs ys)
+  where
+    go : (b : Bool) → eqb x y ≡ b → (same xs ys ≡ true → xs ≡ ys) → x ∷ xs ≡ y ∷ ys
+    go true f ih =
+        let h : same xs ys ≡ true = sym (same-more x y xs ys (eqb-true x y f)) ∙ e in
+        λ i. eqb-true x y f i ∷ ih h i
+    go false f ih = let z : same (x ∷ xs) (y ∷ ys) ≡ false = rw (f, same) in cc

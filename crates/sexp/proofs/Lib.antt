@@ -1,2 +1,10 @@
 pub mod ByteLaws
 pub mod Skips
+pub mod CellLaws
+pub mod OpenLists
+pub mod States
+pub mod Tallies
+pub mod IndexLaws
+pub mod TableLaws
+pub mod TagRows
+pub mod TagLaws

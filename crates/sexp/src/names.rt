@@ -1,0 +1,74 @@
+// The bytes of names: whether two are equal, and the index that a name spells.
+ghost use mathlib.Core.Path.{_≡_};
+ghost use Prim.Native.Nat.{ℕ, _<_};
+ghost use Rattle.rules.specs.Text.{same};
+ghost use Rattle.rules.specs.Index.{number, indexOf};
+ghost use Rattle.sexp.specs.Names.{spelling};
+
+pub enum Index {
+    Number(usize),
+    Unreadable,
+}
+
+// Whether two names have the same bytes.
+pub fn same(s: &[u8], t: &[u8]) -> bool
+    ensures { λ r. ⌜ r ≡ same (now (s .entry)) (now (t .entry)) ⌝ }
+{
+    if s.len() != t.len() {
+        return false;
+    }
+    let mut at = 0;
+    while at < s.len() {
+        if s[at] != t[at] {
+            return false;
+        }
+        at += 1;
+    }
+    true
+}
+
+fn widen(b: u8) -> usize
+    ensures { λ r. ⌜ (r ≡ b) × (r < 256) ⌝ }
+{
+    b as usize
+}
+
+// The value of an index without a sign: digits, at least one, of a value that fits.
+fn number(digits: &[u8]) -> Index
+    ensures { λ r. ⌜ r ≡ spelling (number (now (digits .entry))) ⌝ }
+{
+    if digits.len() == 0 {
+        return Index::Unreadable;
+    }
+    let mut n = 0;
+    let mut at = 0;
+    while at < digits.len() {
+        let b = widen(digits[at]);
+        if b < 48 {
+            return Index::Unreadable;
+        }
+        if 57 < b {
+            return Index::Unreadable;
+        }
+        let d = b - 48;
+        if (0xffff_ffff_ffff_ffff - d) / 10 < n {
+            return Index::Unreadable;
+        }
+        n = n * 10 + d;
+        at += 1;
+    }
+    Index::Number(n)
+}
+
+// The index that a name spells, after a `+` or not.
+pub fn index_of(name: &[u8]) -> Index
+    ensures { λ r. ⌜ r ≡ spelling (indexOf (now (name .entry))) ⌝ }
+{
+    if name.len() == 0 {
+        return Index::Unreadable;
+    }
+    if name[0] == b'+' {
+        return number(&name[1..]);
+    }
+    number(name)
+}

@@ -1,0 +1,96 @@
+// Reads a text form by form. A form's cells: an atom is `2 * start + 1`, a list `2 * number of its items' cells`, followed by these.
+ghost use mathlib.Core.Path.{_≡_};
+ghost use mathlib.Core.List.{_++_};
+ghost use Prim.Native.Nat.{ℕ, _+_, _*_, _-_, _^_, _≤_, _<_};
+ghost use lib.ListN.{length, getD, set, drop, replicate};
+ghost use Rattle.rules.specs.Limits.{LENGTH};
+ghost use Rattle.sexp.specs.Reads.{Clear, ReadRight};
+use crate::lex::{atom_end, skip};
+
+// What stands in front: nothing, a form with the place behind it and the number of its cells, or a refusal by its number.
+pub enum Read {
+    End,
+    Form(usize, usize),
+    Refused(usize),
+}
+
+// Sets the first cells back to zero.
+pub fn clear(words: &mut [u32], count: usize)
+    requires { ⌜ count ≤ length (now words) ⌝ }
+    ensures { λ _. ⌜ now (words .exit) ≡ replicate count 0 ++ drop count (now (words .entry)) ⌝ }
+{
+    let mut i = 0;
+    while i < count {
+        words[i] = 0;
+        i += 1;
+    }
+}
+
+fn put(words: &mut [u32], at: usize, cell: usize)
+    requires { ⌜ (at < length (now words)) × (cell < 2 ^ 32) ⌝ }
+    ensures { λ _. ⌜ now (words .exit) ≡ set (now (words .entry)) at cell ⌝ }
+{
+    words[at] = cell as u32;
+}
+
+// Closes the list whose cell is at `head`, where the place of the list around it stood, which is handed out.
+fn close_list(words: &mut [u32], head: usize, count: usize) -> usize
+    requires { ⌜ (head < length (now words)) × (2 * count < 2 ^ 32) ⌝ }
+    ensures { λ r. ⌜ (r ≡ getD (now (words .entry)) head 0) × (now (words .exit) ≡ set (now (words .entry)) head (2 * count)) ⌝ }
+{
+    let around = words[head] as usize;
+    words[head] = (2 * count) as u32;
+    around
+}
+
+// Reads one form, from a place of the text on, into cells that are zero; they stay zero behind the form, and where none was read.
+pub fn read_form(text: &[u8], from: usize, words: &mut [u32]) -> Read
+    requires { ⌜ (from ≤ length (now text)) × (length (now text) ≤ LENGTH) × (length (now text) ≤ length (now words)) ⌝ }
+    requires { ⌜ Clear (now words) ⌝ }
+    ensures { λ r. ⌜ ReadRight (now (text .entry)) from (now (words .entry)) (now (words .exit)) r ⌝ }
+{
+    let mut at = from;
+    let mut used = 0;
+    let mut depth = 0;
+    // the cell of the innermost open list
+    let mut open = 0;
+    loop {
+        at = skip(text, at);
+        if at >= text.len() {
+            if depth == 0 {
+                return Read::End;
+            }
+            clear(words, used);
+            return Read::Refused(4);
+        }
+        let b = text[at];
+        if b == b'(' {
+            if depth == rules::DEPTH {
+                clear(words, used);
+                return Read::Refused(5);
+            }
+            put(words, used, open);
+            open = used;
+            used += 1;
+            depth += 1;
+            at += 1;
+        } else if b == b')' {
+            if depth == 0 {
+                return Read::Refused(4);
+            }
+            open = close_list(words, open, used - open - 1);
+            depth -= 1;
+            at += 1;
+            if depth == 0 {
+                return Read::Form(at, used);
+            }
+        } else {
+            put(words, used, 2 * at + 1);
+            used += 1;
+            at = atom_end(text, at);
+            if depth == 0 {
+                return Read::Form(at, used);
+            }
+        }
+    }
+}

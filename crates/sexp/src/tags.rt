@@ -1,0 +1,143 @@
+// The tags of forms, in one fixed table: the proof's ten rows, then the theory's four and the goals' three.
+ghost use mathlib.Core.Path.{_≡_};
+ghost use Prim.Native.Nat.{ℕ, _+_, _-_, _*_, _≤_, _<_};
+ghost use lib.ListN.{length, take, drop};
+ghost use Rattle.rules.specs.Tags.{proofTags, theoryTags, goalTags, proofTag, declaration, goalForm, indexPlace};
+ghost use Rattle.sexp.specs.TagTable.{tagAnswer, declarationAnswer, goalAnswer, placeAnswer, shapes, shapeAt, suits, firstRow, tagAt};
+use crate::names::same;
+
+// Of a proof's form; `Hyp` and `RuleHyp` are `hyp` without and with premises, `InductWith` has a list of hypotheses.
+pub enum Tag {
+    Var,
+    Def,
+    Step,
+    Hyp,
+    RuleHyp,
+    Induct,
+    InductWith,
+    Apply,
+    Invert,
+    Outcome,
+    Unknown,
+}
+
+// Of a theory's form.
+pub enum Declaration {
+    Sort,
+    Ctor,
+    Pred,
+    Rule,
+    Unknown,
+}
+
+// Of the goals' form; `GoalWith` lists hypotheses.
+pub enum GoalForm {
+    Variable,
+    Goal,
+    GoalWith,
+    Unknown,
+}
+
+// Names of up to six bytes, a row each, zero behind them; their lengths; the least and the most items; the place of the index, or 0.
+const NAMES: [u8; 102] = [
+    118, 97, 114, 0, 0, 0, 100, 101, 102, 0, 0, 0, 115, 116, 101, 112, 0, 0, 104, 121, 112, 0, 0, 0, 104, 121, 112, 0, 0, 0, 105, 110, 100,
+    117, 99, 116, 105, 110, 100, 117, 99, 116, 97, 112, 112, 108, 121, 0, 105, 110, 118, 101, 114, 116, 114, 101, 115, 117, 108, 116, 115,
+    111, 114, 116, 0, 0, 99, 116, 111, 114, 0, 0, 112, 114, 101, 100, 0, 0, 114, 117, 108, 101, 0, 0, 118, 97, 114, 0, 0, 0, 103, 111, 97,
+    108, 0, 0, 103, 111, 97, 108, 0, 0,
+];
+const SIZES: [usize; 17] = [3, 3, 4, 3, 3, 6, 6, 5, 6, 6, 4, 4, 4, 4, 3, 4, 4];
+const LEAST: [usize; 17] = [3, 3, 4, 3, 5, 5, 6, 5, 6, 3, 2, 4, 3, 4, 3, 3, 4];
+const MOST: [usize; 17] = [3, 3, 0xffff_ffff_ffff_ffff, 3, 5, 5, 6, 5, 6, 3, 2, 4, 3, 4, 3, 3, 4];
+const INDEX: [usize; 10] = [0, 0, 1, 1, 1, 1, 1, 1, 1, 0];
+
+// Whether a row is for that name and so many items.
+fn fits_row(row: usize, name: &[u8], items: usize) -> bool
+    requires { ⌜ row < 17 ⌝ }
+    ensures { λ r. ⌜ r ≡ suits (shapeAt row) (now (name .entry)) items ⌝ }
+{
+    if items < LEAST[row] {
+        return false;
+    }
+    if MOST[row] < items {
+        return false;
+    }
+    let start = 6 * row;
+    let end = start + SIZES[row];
+    same(&NAMES[start..end], name)
+}
+
+// The first of some rows, from `from` up to `to`, that is; `to` where none is.
+fn first_row(from: usize, to: usize, name: &[u8], items: usize) -> usize
+    requires { ⌜ (from ≤ to) × (to ≤ 17) ⌝ }
+    ensures { λ r. ⌜ r ≡ from + firstRow (take (to - from) (drop from shapes)) (now (name .entry)) items ⌝ }
+{
+    let mut row = from;
+    while row < to {
+        if fits_row(row, name, items) {
+            return row;
+        }
+        row += 1;
+    }
+    row
+}
+
+fn tag_at(row: usize) -> Tag
+    ensures { λ r. ⌜ r ≡ tagAnswer (tagAt proofTags row) ⌝ }
+{
+    match row {
+        0 => Tag::Var,
+        1 => Tag::Def,
+        2 => Tag::Step,
+        3 => Tag::Hyp,
+        4 => Tag::RuleHyp,
+        5 => Tag::Induct,
+        6 => Tag::InductWith,
+        7 => Tag::Apply,
+        8 => Tag::Invert,
+        9 => Tag::Outcome,
+        _ => Tag::Unknown,
+    }
+}
+
+// The tag of a proof's form that begins with that name and has so many items.
+pub fn proof_tag(name: &[u8], items: usize) -> Tag
+    ensures { λ r. ⌜ r ≡ tagAnswer (proofTag (now (name .entry)) items) ⌝ }
+{
+    tag_at(first_row(0, 10, name, items))
+}
+
+// Where the index of such a form stands among its items; 0 where it has none.
+pub fn index_place(name: &[u8], items: usize) -> usize
+    ensures { λ r. ⌜ r ≡ placeAnswer (indexPlace (now (name .entry)) items) ⌝ }
+{
+    let row = first_row(0, 10, name, items);
+    if row < 10 {
+        return INDEX[row];
+    }
+    0
+}
+
+// The same for a theory's form.
+pub fn theory_tag(name: &[u8], items: usize) -> Declaration
+    ensures { λ r. ⌜ r ≡ declarationAnswer (declaration (now (name .entry)) items) ⌝ }
+{
+    match first_row(10, 14, name, items) {
+        10 => Declaration::Sort,
+        11 => Declaration::Ctor,
+        12 => Declaration::Pred,
+        13 => Declaration::Rule,
+        _ => Declaration::Unknown,
+    }
+}
+
+// The same for the goals'.
+pub fn goal_tag(name: &[u8], items: usize) -> GoalForm
+    ensures { λ r. ⌜ r ≡ goalAnswer (goalForm (now (name .entry)) items) ⌝ }
+{
+    match first_row(14, 17, name, items) {
+        14 => GoalForm::Variable,
+        15 => GoalForm::Goal,
+        16 => GoalForm::GoalWith,
+        _ => GoalForm::Unknown,
+    }
+}
