@@ -10,3 +10,4 @@ pub mod Theory
 pub mod Match
 pub mod Unify
 pub mod State
+pub mod SetLaws

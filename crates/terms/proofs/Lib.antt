@@ -1,0 +1,4 @@
+pub mod Digits
+pub mod SetWords
+pub mod SetsOut
+pub mod Words

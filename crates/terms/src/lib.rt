@@ -1,0 +1,3 @@
+// Terms in tables of numbers: sets of variables, facts and rules as bits. Each function is proved equal to the definition in the crate
+// `rules`.
+pub mod sets;
