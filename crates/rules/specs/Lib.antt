@@ -11,3 +11,5 @@ pub mod Match
 pub mod Unify
 pub mod State
 pub mod SetLaws
+pub mod TreeLaws
+pub mod StoreLaws
