@@ -160,3 +160,31 @@ mutual
   makes-old M c (more t ts) h =
       then-ok (make t M) t M (λ _ m. then (makes ts m) (λ _ n. ok (more t ts) n)) (make-old M c t (h .0))
       ∙ then-ok (makes ts M) ts M (λ _ n. ok (more t ts) n) (makes-old M c ts (h .1))
+
+-- Making, argument by argument ------------------------------------------------------------------------------------------------------
+
+pub make-app : (M : Made) (c : ℕ) (ts : Trees) → make (app c ts) M ≡ then (makes ts M) (λ _ m. keep (app c ts) m)
+unfolding make
+make-app M c ts = refl
+
+pub makes-none : {A : Type 0} (M : Made) (f : Made → Out Made A) → then (makes none M) (λ _ m. f m) ≡ f M
+unfolding makes then
+makes-none M f = refl
+
+module _ {A : Type 0} (M : Made) (t : Tree) (ts : Trees) (f : Made → Out Made A) where
+  -- what is answered does not matter, only what is made
+  skip : (K : Out Made Trees) → then (then K (λ _ n. ok (more t ts) n)) (λ _ m. f m) ≡ then K (λ _ m. f m)
+  unfolding then
+  skip (ok a s) = refl
+  skip (refuse n d s) = refl
+
+  pub makes-more : (u : Tree) (N : Made) → make t M ≡ ok u N → then (makes (more t ts) M) (λ _ m. f m) ≡ then (makes ts N) (λ _ m. f m)
+  unfolding makes
+  makes-more u N e =
+      ap (λ (K : Out Made Trees). then K (λ _ m. f m)) (then-ok (make t M) u N (λ _ m. then (makes ts m) (λ _ n. ok (more t ts) n)) e)
+      ∙ skip (makes ts N)
+
+  pub makes-stop : (n d : ℕ) (N : Made) → make t M ≡ refuse n d N → then (makes (more t ts) M) (λ _ m. f m) ≡ refuse n d N
+  unfolding makes
+  makes-stop n d N e =
+      then-refuse (makes (more t ts) M) n d N (λ _ m. f m) (then-refuse (make t M) n d N (λ _ m. then (makes ts m) (λ _ n. ok (more t ts) n)) e)

@@ -1,10 +1,10 @@
 -- Laws of trees: equality that is computed is equality; a tree without variables is left by every replacement. Assumes nothing.
 use mathlib.Core.Path.{_≡_, refl, sym, ap, _∙_, subst}
-use mathlib.Core.Bool.{Bool, true, false, true≢false, false≢true}
+use mathlib.Core.Bool.{Bool, true, false, _||_, true≢false, false≢true}
 use Prim.Native.Nat.{ℕ, zero, suc, _+_}
 use lib.Dec.{eqb}
 use borrow.Author.Tests.{eq-eqb, ne-eqb, eqb-true}
-use Rattle.rules.specs.Find.{Set}
+use Rattle.rules.specs.Find.{Set, empty, union}
 use Rattle.rules.specs.Tree.{Tree, Trees, var, app, none, more, sameTree, sameTrees, sub, subs, variables, variablesOf, isOpen, areOpen}
 
 both : (a b : Bool) → elim a [ true ↦ b | false ↦ false ] ≡ true → (a ≡ true) × (b ≡ true)
@@ -76,3 +76,25 @@ mutual
   closeds-empty (more t ts) e v =
       let p = neither (isOpen t) (areOpen ts) e in
       ap (λ (b : Bool). elim b [ true ↦ true | false ↦ variablesOf ts v ]) (closed-empty t (p .0) v) ∙ closeds-empty ts (p .1) v
+
+-- Variables --------------------------------------------------------------------------------------------------------------------------
+
+pub variables-var : (w v : ℕ) → variables (var w) v ≡ eqb v w
+unfolding variables
+variables-var w v = refl
+
+pub variables-app : (c : ℕ) (ts : Trees) → variables (app c ts) ≡ variablesOf ts
+unfolding variables
+variables-app c ts = refl
+
+pub variables-none : variablesOf none ≡ empty
+unfolding variables
+variables-none = refl
+
+pub variables-more : (t : Tree) (ts : Trees) → variablesOf (more t ts) ≡ union (variables t) (variablesOf ts)
+unfolding variables
+variables-more t ts = λ i v. go (variables t v) (variablesOf ts v) i
+  where
+    go : (a b : Bool) → elim a [ true ↦ true | false ↦ b ] ≡ a || b
+    go true b = refl
+    go false b = refl
