@@ -35,3 +35,6 @@ pub mod TheoryTables
 pub mod StateTables
 pub mod Examples
 pub mod Slips
+pub mod SetLaws
+pub mod TreeLaws
+pub mod StoreLaws

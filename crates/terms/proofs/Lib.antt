@@ -1,0 +1,12 @@
+pub mod Digits
+pub mod SetWords
+pub mod SetsOut
+pub mod Words
+pub mod Hash
+pub mod Tables
+pub mod Finds
+pub mod Nodes
+pub mod Sames
+pub mod Keeps
+pub mod Terms
+pub mod Collects

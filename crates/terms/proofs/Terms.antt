@@ -1,0 +1,73 @@
+-- One term of good tables: its node, its head and its arguments. Assumes nothing.
+use mathlib.Core.Path.{_≡_, refl, sym, ap, _∙_, subst}
+use mathlib.Core.Bool.{Bool, true, false}
+use mathlib.Core.List.{List, [], _∷_, _++_}
+use Prim.Native.Nat.{ℕ, zero, suc, _+_, _-_, _≤_, _<_}
+use native.Mathlib.Omega.{arith}
+use lib.ListN.{length, getD}
+use Rattle.rules.specs.Limits.{SYMBOLS, TERMS, WORDS}
+use Rattle.rules.specs.Tree.{Tree, Trees, var, app, none, more, isOpen}
+use Rattle.rules.specs.Store.{Made}
+use Rattle.terms.specs.declared.store.Mark.{Mark}
+use Rattle.terms.specs.Table.{FLAGS, run, start, nodeAt, argsOf, treeAt, trees, made, flag, Shaped, isVar, isApp, Good}
+use Rattle.terms.proofs.Words.{run-length, run-at, run-more, run-none}
+use Rattle.terms.proofs.Tables.{tree-here, tree-app, tree-var, end-within}
+use Rattle.terms.proofs.Nodes.{flag-closed}
+
+pub args-more : (M : Made) (W : List ℕ) (at e : ℕ) → at < e → e ≤ length W → argsOf M (run W at (e - at)) ≡ more (getD M (getD W at 0) (var 0)) (argsOf M (run W (at + 1) (e - (at + 1))))
+unfolding argsOf
+args-more M W at e h k = ap (argsOf M) (run-more W at e h k)
+
+pub args-none : (M : Made) (W : List ℕ) (at e : ℕ) → e ≤ at → argsOf M (run W at (e - at)) ≡ none
+unfolding argsOf
+args-none M W at e h = ap (argsOf M) (run-none W at e h)
+
+module _ (I W : List ℕ) (m : Mark) (g : Good I W m) (id : ℕ) (h : id < m .terms) where
+  pub flag-in : FLAGS + id < length I
+  flag-in = let a = g .room in let b = g .index in omega arith
+
+  pub end-in : id < length I
+  end-in = let a = g .room in let b = g .index in omega arith
+
+  pub no-variable : getD I (FLAGS + id) 0 ≡ 0 → isOpen (getD (made I W m) id (var 0)) ≡ false
+  no-variable e = flag-closed _ _ (g .flags id h) e
+
+  module _ (s : ℕ) (b : s ≡ start I id) where
+    pub node-rise : s < getD I id 0
+    node-rise = let a = g .rise id h in omega arith
+
+    pub node-narrow : getD I id 0 ≤ s + 17
+    node-narrow = let a = g .narrow id h in omega arith
+
+    pub node-within : getD I id 0 ≤ m .words
+    node-within = end-within I W m g id h
+
+    pub node-inside : getD I id 0 ≤ length W
+    node-inside = let a = node-within in let d = g .within in let e = g .words in omega arith
+
+    pub start-in : s < length W
+    start-in = let a = node-rise in let d = node-inside in omega arith
+
+    node-split : nodeAt I W id ≡ getD W s 0 ∷ run W (s + 1) (getD I id 0 - (s + 1))
+    unfolding nodeAt
+    node-split = ap (λ (k : ℕ). run W k (getD I id 0 - k)) (sym b) ∙ run-more W s (getD I id 0) node-rise node-inside
+
+    pub term-app : getD W s 0 < SYMBOLS → getD (made I W m) id (var 0) ≡ app (getD W s 0) (argsOf (made I W m) (run W (s + 1) (getD I id 0 - (s + 1))))
+    term-app q = tree-here I W m g id h ∙ ap (treeAt (made I W m)) node-split ∙ tree-app (made I W m) _ _ q
+
+    pub term-var : SYMBOLS ≤ getD W s 0 → getD (made I W m) id (var 0) ≡ var (getD W s 0 - SYMBOLS)
+    term-var q = tree-here I W m g id h ∙ ap (treeAt (made I W m)) node-split ∙ tree-var (made I W m) _ _ q
+
+    small-args : {w : List ℕ} → Shaped id w → (x : ℕ) (xs : List ℕ) → w ≡ x ∷ xs → x < SYMBOLS → (k : ℕ) → k < length xs → getD xs k 0 < id
+    small-args (isVar {h = y} p) x xs e q k l = let z : y ≡ x = cc in absurd (omega arith)
+    small-args (isApp {h = y} {xs = ys} p d) x xs e q k l = let z : ys ≡ xs = cc in subst (λ (zs : List ℕ). (j : ℕ) → j < length zs → getD zs j 0 < id) z d k l
+
+    -- an application's arguments are below it
+    pub args-below : getD W s 0 < SYMBOLS → (at : ℕ) → s < at → at < getD I id 0 → getD W at 0 < id
+    args-below q at l u =
+        let a = node-rise in
+        let d = node-inside in
+        let n = run-length W (s + 1) (getD I id 0 - (s + 1)) (omega arith) in
+        let e : s + 1 + (at - (s + 1)) ≡ at = omega arith in
+        let z = small-args (g .shaped id h) _ _ node-split q (at - (s + 1)) (omega arith) in
+        subst (λ (y : ℕ). y < id) (run-at W (s + 1) (getD I id 0 - (s + 1)) (at - (s + 1)) (omega arith) ∙ ap (λ (k : ℕ). getD W k 0) e) z

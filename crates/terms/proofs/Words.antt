@@ -1,0 +1,130 @@
+-- Runs of words in a table. Assumes nothing.
+use mathlib.Core.Path.{_≡_, refl, sym, ap, _∙_, subst}
+use mathlib.Core.Bool.{Bool, true, false, false≢true}
+use mathlib.Core.List.{List, [], _∷_, _++_, append-nil}
+use Prim.Native.Nat.{ℕ, zero, suc, _+_, _-_, _≤_, _<_}
+use native.Mathlib.Omega.{arith}
+use native.Mathlib.Numerals.{add-one}
+use lib.ListN.{length, getD, take, drop, set, length-drop, length-set, replicate, drop-of-length-le}
+use borrow.Author.Fill.{fill-none, fill-more}
+use lib.Seq.{drop-length, length-take-le, getD-take, getD-drop, drop-cons, ext-getD}
+use lib.Dec.{eqb}
+use borrow.Author.Tests.{eq-eqb, ne-eqb, eqb-true}
+use Rattle.terms.specs.Table.{run}
+use Rattle.terms.specs.Node.{sameWords}
+
+-- a table that is cleared from the front
+pub record Clearing (l now : List ℕ) (i : ℕ) : Type 0 where
+  pub in-l : i ≤ length l
+  pub long : length now ≡ length l
+  pub so-far : now ≡ replicate i 0 ++ drop i l
+
+pub clearing-begins : (l : List ℕ) → Clearing l l 0
+clearing-begins l = record { in-l = omega arith; long = refl; so-far = fill-none l 0 }
+
+pub clearing-on : (l now : List ℕ) (i : ℕ) → Clearing l now i → i < length now → Clearing l (set now i 0) (i + 1)
+clearing-on l now i c h =
+    let e = c .long in
+    record { in-l = omega arith; long = length-set now i 0 ∙ c .long; so-far = ap (λ (r : List ℕ). set r i 0) (c .so-far) ∙ fill-more i 0 l (omega arith) }
+
+pub clearing-done : (l now : List ℕ) (i : ℕ) → Clearing l now i → length now ≤ i → now ≡ replicate (length l) 0
+clearing-done l now i c h = let e = c .long in let f : i ≡ length l = omega arith in c .so-far ∙ rw (f, drop-length l) (append-nil (replicate (length l) 0))
+
+-- Runs -------------------------------------------------------------------------------------------------------------------------
+
+pub run-length : (W : List ℕ) (a len : ℕ) → a + len ≤ length W → length (run W a len) ≡ len
+run-length W a len h = length-take-le len (drop a W) (simp length-drop (omega arith))
+
+pub run-at : (W : List ℕ) (a n j : ℕ) → j < n → getD (run W a n) j 0 ≡ getD W (a + j) 0
+run-at W a n j h = getD-take n (drop a W) j 0 h ∙ getD-drop a W j 0
+
+pub run-more : (W : List ℕ) (a b : ℕ) → a < b → b ≤ length W → run W a (b - a) ≡ getD W a 0 ∷ run W (a + 1) (b - (a + 1))
+run-more W a b h k =
+    let e : b - a ≡ suc (b - (a + 1)) = omega arith in
+    let l : a < length W = omega arith in
+    rw (e, drop-cons W a 0 l, add-one a)
+
+pub run-none : (W : List ℕ) (a b : ℕ) → b ≤ a → run W a (b - a) ≡ []
+run-none W a b h = let e : b - a ≡ 0 = omega arith in rw e
+
+pub run-same : (W X : List ℕ) (u s l : ℕ) → ((i : ℕ) → i < u → getD X i 0 ≡ getD W i 0) → length X ≡ length W → s + l ≤ u → u ≤ length W → run X s l ≡ run W s l
+run-same W X u s l e n h k =
+    let a = run-length W s l (omega arith) in
+    let b = run-length X s l (omega arith) in
+    ext-getD 0 (run X s l) (run W s l) (omega arith) (λ i p. run-at X s l i (omega arith) ∙ e (s + i) (omega arith) ∙ sym (run-at W s l i (omega arith)))
+
+-- Equal words ------------------------------------------------------------------------------------------------------------------
+
+pub same-more : (x y : ℕ) (xs ys : List ℕ) → x ≡ y → sameWords (x ∷ xs) (y ∷ ys) ≡ sameWords xs ys
+unfolding sameWords
+same-more x y xs ys e = ap (λ (b : Bool). elim b [ true ↦ sameWords xs ys | false ↦ false ]) (eq-eqb x y e)
+
+pub same-not : (x y : ℕ) (xs ys : List ℕ) → (x ≡ y → ⊥) → sameWords (x ∷ xs) (y ∷ ys) ≡ false
+unfolding sameWords
+same-not x y xs ys e = ap (λ (b : Bool). elim b [ true ↦ sameWords xs ys | false ↦ false ]) (ne-eqb x y e)
+
+pub same-refl : (xs : List ℕ) → sameWords xs xs ≡ true
+unfolding sameWords
+same-refl [] = refl
+same-refl (x ∷ xs) = ap (λ (b : Bool). elim b [ true ↦ sameWords xs xs | false ↦ false ]) (eq-eqb x x refl) ∙ same-refl xs
+
+both : (a b : Bool) → elim a [ true ↦ b | false ↦ false ] ≡ true → (a ≡ true) × (b ≡ true)
+both true b e = (refl, e)
+both false b e = (e, absurd (false≢true e))
+
+pub same-true : (xs ys : List ℕ) → sameWords xs ys ≡ true → xs ≡ ys
+unfolding sameWords
+same-true [] [] e = refl
+same-true [] (y ∷ ys) e = absurd (false≢true e)
+same-true (x ∷ xs) [] e = absurd (false≢true e)
+same-true (x ∷ xs) (y ∷ ys) e =
+    let p = both (eqb x y) (sameWords xs ys) e in
+    λ i. eqb-true x y (p .0) i ∷ same-true xs ys (p .1) i
+
+pub other-length : (xs ys : List ℕ) → (length xs ≡ length ys → ⊥) → sameWords xs ys ≡ false
+other-length xs ys n = go (sameWords xs ys) refl
+  where
+    go : (b : Bool) → sameWords xs ys ≡ b → b ≡ false
+    go false q = refl
+    go true q = absurd (n (ap length (same-true xs ys q)))
+
+-- what is left to compare decides: W from s on and the node w, from word i on
+pub record Comparing (W w : List ℕ) (s e i : ℕ) : Type 0 where
+  pub inside : i ≤ length w
+  pub long : e - s ≡ length w
+  pub low : s ≤ e
+  pub fits : e ≤ length W
+  pub left : sameWords (run W s (e - s)) w ≡ sameWords (run W (s + i) (e - (s + i))) (drop i w)
+
+pub comparing-begins : (W w : List ℕ) (s e : ℕ) → (s ≤ e) × (e ≤ length W) → e - s ≡ length w → Comparing W w s e 0
+comparing-begins W w s e p q = let z : s + 0 ≡ s = omega arith in record { inside = omega arith; long = q; low = p .0; fits = p .1; left = rw z }
+
+module _ (W w : List ℕ) (s e i : ℕ) (c : Comparing W w s e i) (h : i < length w) where
+  step : sameWords (run W (s + i) (e - (s + i))) (drop i w) ≡ sameWords (getD W (s + i) 0 ∷ run W (s + i + 1) (e - (s + i + 1))) (getD w i 0 ∷ drop (suc i) w)
+  step = let a = c .long in let b = c .low in let f = c .fits in λ k. sameWords (run-more W (s + i) e (omega arith) (omega arith) k) (drop-cons w i 0 h k)
+
+  pub comparing-on : getD W (s + i) 0 ≡ getD w i 0 → Comparing W w s e (i + 1)
+  comparing-on q =
+      record { inside = omega arith; long = c .long; low = c .low; fits = c .fits; left = c .left ∙ step ∙ same-more _ _ _ _ q ∙ on }
+    where
+      on : sameWords (run W (s + i + 1) (e - (s + i + 1))) (drop (suc i) w) ≡ sameWords (run W (s + (i + 1)) (e - (s + (i + 1)))) (drop (i + 1) w)
+      on =
+          let z : s + i + 1 ≡ s + (i + 1) = omega arith in
+          ap (λ (k : ℕ). sameWords (run W (s + i + 1) (e - (s + i + 1))) (drop k w)) (sym (add-one i)) ∙ ap (λ (k : ℕ). sameWords (run W k (e - k)) (drop (i + 1) w)) z
+
+  pub comparing-not : (getD W (s + i) 0 ≡ getD w i 0 → ⊥) → false ≡ sameWords (run W s (e - s)) w
+  comparing-not q = sym (c .left ∙ step ∙ same-not _ _ _ _ q)
+
+  pub comparing-in : s + i < length W
+  comparing-in = let a = c .long in let b = c .fits in omega arith
+
+pub comparing-ends : (W w : List ℕ) (s e i : ℕ) → Comparing W w s e i → length w ≤ i → true ≡ sameWords (run W s (e - s)) w
+unfolding sameWords
+comparing-ends W w s e i c h =
+    let a = c .long in
+    let b = c .low in
+    let f = c .inside in
+    sym (c .left ∙ (λ k. sameWords (run-none W (s + i) e (omega arith) k) (drop-of-length-le w {i = i} h k)))
+
+pub comparing-other : (W w : List ℕ) (s e : ℕ) → (s ≤ e) × (e ≤ length W) → (e - s ≡ length w → ⊥) → false ≡ sameWords (run W s (e - s)) w
+comparing-other W w s e p n = sym (other-length (run W s (e - s)) w (λ q. let a = p .0 in let b = p .1 in n (sym (run-length W s (e - s) (omega arith)) ∙ q)))

@@ -1,0 +1,81 @@
+use Prim.Native.Nat.{ℕ, _-_}
+use lib.ListN.{length}
+use Rattle.terms.proofs.SetWords.{Joined, joined-none, joined-more, joined-all}
+use borrow.Author.Needs.{needs}
+use Rattle.terms.proofs.sets.union_into.Statement.{statement}
+use Rattle.terms.proofs.sets.union_into.Tie as tie
+use Rattle.terms.proofs.sets.union_into.Reads as reads
+use Rattle.terms.proofs.sets.union_into.Lts as lts
+
+abbrev Inv-loop : tie.InvT-loop
+Inv-loop set₀ other i₀ set i = Joined set₀ other set i
+
+abbrev μ-loop : tie.MeasureT-loop
+μ-loop set₀ other i₀ set i = length set₀ - i
+
+-- src/sets.rt:35:5
+loop-holds : tie.Need-loop-holds Inv-loop μ-loop
+loop-holds c = joined-none _ _
+
+-- src/sets.rt:36:18
+mul-set : tie.Need-mul-set Inv-loop μ-loop
+mul-set c = search needs
+
+-- src/sets.rt:36:18
+slice-read-set : tie.Need-slice-read-set Inv-loop μ-loop
+slice-read-set c = search needs
+
+-- src/sets.rt:36:27
+mul-set-2 : tie.Need-mul-set-2 Inv-loop μ-loop
+mul-set-2 c = search needs
+
+-- src/sets.rt:36:27
+shared-slice-read-set : tie.Need-shared-slice-read-set Inv-loop μ-loop
+shared-slice-read-set c = search needs
+
+-- src/sets.rt:36:9
+mul-set-3 : tie.Need-mul-set-3 Inv-loop μ-loop
+mul-set-3 c = search needs
+
+-- src/sets.rt:36:9
+slice-write-set : tie.Need-slice-write-set Inv-loop μ-loop
+slice-write-set c = search needs
+
+-- src/sets.rt:37:9
+add-i : tie.Need-add-i Inv-loop μ-loop
+add-i c = search needs
+
+-- src/sets.rt:35:5
+loop-less : tie.Need-loop-less Inv-loop μ-loop
+loop-less c = search needs
+
+-- src/sets.rt:35:5
+loop-again : tie.Need-loop-again Inv-loop μ-loop
+loop-again c = joined-more _ _ _ _ ((c .before .before .before .loop) .inv) ((c .before .before .loop-test) .taken)
+
+-- src/sets.rt:30:1
+same-length : tie.Need-same-length Inv-loop μ-loop
+same-length c = search needs
+
+-- src/sets.rt:30:1
+returns : tie.Need-returns Inv-loop μ-loop
+returns c = joined-all _ _ _ _ ((c .before .loop) .inv) ((c .loop-test) .left) ((c .before .before .pre))
+
+pub union-into-spec : {M : Type 1} → statement M
+union-into-spec =
+    tie.close
+    (tie.spec
+    Inv-loop
+    μ-loop
+    loop-holds
+    mul-set
+    slice-read-set
+    mul-set-2
+    shared-slice-read-set
+    mul-set-3
+    slice-write-set
+    add-i
+    loop-less
+    loop-again
+    same-length
+    returns)

@@ -1,0 +1,136 @@
+use Rattle.terms.proofs.Keeps.{keep-there, keep-row-8, keep-row-9, keep-made, keep-links}
+use borrow.Author.Needs.{needs}
+use Rattle.terms.proofs.store.keep.Statement.{statement}
+use Rattle.terms.proofs.store.keep.Tie as tie
+use Rattle.terms.proofs.store.keep.Reads as reads
+use Rattle.terms.proofs.store.keep.Lts as lts
+use Rattle.terms.proofs.store.bucket_of.Reads as bucket-of-reads
+use Rattle.terms.proofs.store.find.Reads as find-reads
+use Rattle.terms.proofs.store.flag_of.Reads as flag-of-reads
+use Rattle.terms.proofs.store.link.Reads as link-reads
+use Rattle.terms.proofs.store.write_node.Reads as write-node-reads
+
+-- src/store.rt:140:9
+bucket-of-requires : tie.Need-bucket-of-requires
+bucket-of-requires c κs = search needs
+
+-- src/store.rt:141:9
+find-requires : tie.Need-find-requires
+find-requires c κs = search needs
+
+-- src/store.rt:143:27
+sub-t16 : tie.Need-sub-t16
+sub-t16 c = search needs
+
+-- src/store.rt:143:9
+same-length : tie.Need-same-length
+same-length c = search needs
+
+-- src/store.rt:143:9
+same-length-2 : tie.Need-same-length-2
+same-length-2 c = search needs
+
+-- src/store.rt:143:9
+returns : tie.Need-returns
+returns c = keep-there _ _ _ _ ((c .before .before .before .before .before .before .before .before .pre) .0) ((c .before .before .before .before .before .before .before .before .pre) .1) _ ((c .before .find) .ensures) ((c .if1) .taken)
+
+-- src/store.rt:146:9
+same-length-3 : tie.Need-same-length-3
+same-length-3 c = search needs
+
+-- src/store.rt:146:9
+same-length-4 : tie.Need-same-length-4
+same-length-4 c = search needs
+
+-- src/store.rt:146:9
+returns-2 : tie.Need-returns-2
+returns-2 c = keep-row-8 _ _ _ _ ((c .before .before .before .before .before .before .before .before .before .pre) .0) ((c .before .before .before .before .before .before .before .before .before .pre) .1) _ ((c .before .before .find) .ensures) ((c .before .if1) .left) ((c .if2) .taken)
+
+-- src/store.rt:148:15
+add-end : tie.Need-add-end
+add-end c = search needs
+
+-- src/store.rt:150:9
+same-length-5 : tie.Need-same-length-5
+same-length-5 c = search needs
+
+-- src/store.rt:150:9
+same-length-6 : tie.Need-same-length-6
+same-length-6 c = search needs
+
+-- src/store.rt:150:9
+returns-3 : tie.Need-returns-3
+returns-3 c = keep-row-9 _ _ _ _ ((c .before .before .before .before .before .before .before .before .before .before .pre) .0) ((c .before .before .before .before .before .before .before .before .before .before .pre) .1) _ ((c .before .before .before .find) .ensures) ((c .before .before .if1) .left) ((c .before .if2) .left) ((c .if3) .taken)
+
+-- src/store.rt:152:9
+flag-of-requires : tie.Need-flag-of-requires
+flag-of-requires c κs = search needs
+
+-- src/store.rt:153:5
+link-requires : tie.Need-link-requires
+link-requires c κs = keep-links _ _ _ _ ((c .before .before .before .before .before .before .before .before .before .before .before .before .before .before .pre) .0) _ ((c .before .before .before .before .before .before .before .before .before .before .bucket-of) .ensures) ((c .before .before .before .before .before .if2) .left) ((c .before .before .before .before .if3) .left) _ _ ((c .before .flag-of) .ensures)
+
+-- src/store.rt:154:16
+mul-write-node : tie.Need-mul-write-node
+mul-write-node c = search needs
+
+-- src/store.rt:154:16
+sub-write-node : tie.Need-sub-write-node
+sub-write-node c = search needs
+
+-- src/store.rt:154:16
+part-write-node-start : tie.Need-part-write-node-start
+part-write-node-start c = search needs
+
+-- src/store.rt:154:16
+part-write-node-end : tie.Need-part-write-node-end
+part-write-node-end c = search needs
+
+-- src/store.rt:154:5
+write-node-requires : tie.Need-write-node-requires
+write-node-requires c κs = search needs
+
+-- src/store.rt:158:20
+add-t17 : tie.Need-add-t17
+add-t17 c = search needs
+
+-- src/store.rt:133:1
+same-length-7 : tie.Need-same-length-7
+same-length-7 c = search needs
+
+-- src/store.rt:133:1
+same-length-8 : tie.Need-same-length-8
+same-length-8 c = search needs
+
+-- src/store.rt:133:1
+returns-4 : tie.Need-returns-4
+returns-4 c = keep-made _ _ _ _ ((c .before .before .before .before .before .before .before .before .before .before .before .before .before .before .before .before .before .before .before .before .before .pre) .0) ((c .before .before .before .before .before .before .before .before .before .before .before .before .before .before .before .before .before .before .before .before .before .pre) .1) _ ((c .before .before .before .before .before .before .before .before .before .before .before .before .before .before .before .before .before .bucket-of) .ensures) _ ((c .before .before .before .before .before .before .before .before .before .before .before .before .before .before .find) .ensures) ((c .before .before .before .before .before .before .before .before .before .before .before .before .before .if1) .left) ((c .before .before .before .before .before .before .before .before .before .before .before .before .if2) .left) ((c .before .before .before .before .before .before .before .before .before .before .before .if3) .left) _ ((c .before .before .before .before .before .before .before .before .flag-of) .ensures) _ ((c .before .before .before .before .before .before .link) .ensures) _ ((c .before .before .write-node) .ensures)
+
+pub keep-spec : {M : Type 1} → statement M
+keep-spec =
+    tie.close
+    (tie.spec
+    bucket-of-requires
+    find-requires
+    sub-t16
+    same-length
+    same-length-2
+    returns
+    same-length-3
+    same-length-4
+    returns-2
+    add-end
+    same-length-5
+    same-length-6
+    returns-3
+    flag-of-requires
+    link-requires
+    mul-write-node
+    sub-write-node
+    part-write-node-start
+    part-write-node-end
+    write-node-requires
+    add-t17
+    same-length-7
+    same-length-8
+    returns-4)

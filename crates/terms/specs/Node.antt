@@ -1,0 +1,29 @@
+-- What the functions of the store that look at one node answer. Assumes nothing.
+use mathlib.Core.Path.{_≡_}
+use Prim.Native.Nat.{ℕ, zero, suc, _+_, _≤_, _<_}
+use mathlib.Core.Bool.{Bool, true, false}
+use mathlib.Core.List.{List, [], _∷_}
+use lib.ListN.{length, getD}
+use lib.Dec.{eqb}
+use Rattle.rules.specs.Tree.{Tree}
+use Rattle.rules.specs.Store.{Made, stored, number}
+use Rattle.terms.specs.Table.{CHAINS, FLAGS, HEADS}
+
+unfoldable pub sameWords : List ℕ → List ℕ → Bool
+sameWords [] [] = true
+sameWords [] (y ∷ ys) = false
+sameWords (x ∷ xs) [] = false
+sameWords (x ∷ xs) (y ∷ ys) = elim (eqb x y) [ true ↦ sameWords xs ys | false ↦ false ]
+
+-- a tree's number with 1 added; 0 where it is not there
+unfoldable pub seek : Made → Tree → ℕ
+seek M t = elim (stored M t) [ true ↦ suc (number M t) | false ↦ 0 ]
+
+-- term n came into the index: its end e, its flag o, at the head of bucket b
+pub record Linked (I J : List ℕ) (n b e o : ℕ) : Type 0 where
+  pub long : length J ≡ length I
+  pub end : getD J n 0 ≡ e
+  pub chain : getD J (CHAINS + n) 0 ≡ getD I (HEADS + b) 0
+  pub flag : getD J (FLAGS + n) 0 ≡ o
+  pub head : getD J (HEADS + b) 0 ≡ suc n
+  pub other : (j : ℕ) → (j ≡ n → ⊥) → (j ≡ CHAINS + n → ⊥) → (j ≡ FLAGS + n → ⊥) → (j ≡ HEADS + b → ⊥) → getD J j 0 ≡ getD I j 0

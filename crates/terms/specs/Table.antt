@@ -1,0 +1,151 @@
+-- How two tables stand for the trees made. `words` has the nodes one after the other: a head, then the arguments' numbers; a head
+-- below 256 is a symbol, from 256 on a variable. `index` has four parts: where each term's words end; the next term of its bucket with
+-- a lower number; whether it has a variable; and for each bucket the term with the highest number. A term stands there with 1 added,
+-- 0 is none. Behind the mark everything is zero, so the trees made determine every cell. Assumes nothing.
+use mathlib.Core.Path.{_≡_}
+use Prim.Native.Nat.{ℕ, zero, suc, _+_, _-_, _*_, _/_, _%_, _≤_, _<_}
+use mathlib.Core.Bool.{Bool, true, false}
+use mathlib.Core.List.{List, [], _∷_, _++_}
+use lib.ListN.{length, getD, take, drop}
+use lib.Dec.{ltb, eqb}
+use Rattle.rules.specs.Limits.{SYMBOLS, TERMS, WORDS}
+use Rattle.rules.specs.Out.{Out, ok, refuse}
+use Rattle.rules.specs.Tree.{Tree, Trees, var, app, none, more, isOpen}
+use Rattle.rules.specs.Store.{Made, number}
+use Rattle.rules.specs.StoreLaws.{Apart}
+use Rattle.terms.specs.declared.store.Mark.{Mark}
+use Rattle.terms.specs.declared.store.Kept.{Kept}
+use Rattle.terms.specs.declared.store.Kept.the-variants.{Term, Full}
+
+-- Places in the index ----------------------------------------------------------------------------------------------------------
+
+abbrev pub BUCKETS : ℕ
+BUCKETS = 4096
+
+abbrev pub CHAINS : ℕ
+CHAINS = 4096
+
+abbrev pub FLAGS : ℕ
+FLAGS = 8192
+
+abbrev pub HEADS : ℕ
+HEADS = 12288
+
+abbrev pub INDEX : ℕ
+INDEX = 16384
+
+-- Nodes ------------------------------------------------------------------------------------------------------------------------
+
+-- len words from a on
+abbrev pub run : List ℕ → ℕ → ℕ → List ℕ
+run W a len = take len (drop a W)
+
+-- where term i's words start
+unfoldable pub start : List ℕ → ℕ → ℕ
+start I zero = 0
+start I (suc i) = getD I i 0
+
+-- term i's words
+unfoldable pub nodeAt : List ℕ → List ℕ → ℕ → List ℕ
+nodeAt I W i = run W (start I i) (getD I i 0 - start I i)
+
+unfoldable pub argsOf : Made → List ℕ → Trees
+argsOf M [] = none
+argsOf M (a ∷ xs) = more (getD M a (var 0)) (argsOf M xs)
+
+-- the tree that a node stands for, over the trees before it
+unfoldable pub treeAt : Made → List ℕ → Tree
+treeAt M [] = var 0
+treeAt M (h ∷ xs) = elim (ltb h SYMBOLS) [ true ↦ app h (argsOf M xs) | false ↦ var (h - SYMBOLS) ]
+
+-- the first n terms of the tables
+unfoldable pub trees : List ℕ → List ℕ → ℕ → Made
+trees I W zero = []
+trees I W (suc n) = trees I W n ++ (treeAt (trees I W n) (nodeAt I W n) ∷ [])
+
+abbrev pub made : List ℕ → List ℕ → Mark → Made
+made I W m = trees I W (m .terms)
+
+-- a node: a variable's has no arguments, and a symbol's are all below n
+pub data Shaped (n : ℕ) : List ℕ → Type 0 where
+  isVar : {h : ℕ} → SYMBOLS ≤ h → Shaped n (h ∷ [])
+  isApp : {h : ℕ} {xs : List ℕ} → h < SYMBOLS → ((k : ℕ) → k < length xs → getD xs k 0 < n) → Shaped n (h ∷ xs)
+
+-- a node that can be kept
+pub record Node (n : ℕ) (w : List ℕ) : Type 0 where
+  pub narrow : length w ≤ 17
+  pub shaped : Shaped n w
+
+-- Buckets ----------------------------------------------------------------------------------------------------------------------
+
+-- the bucket of a node
+unfoldable pub hashFrom : ℕ → List ℕ → ℕ
+hashFrom h [] = h / 1048576
+hashFrom h (w ∷ ws) = hashFrom (((h + w) * 1640531527) % 4294967296) ws
+
+abbrev pub hash : List ℕ → ℕ
+hash w = hashFrom 0 w
+
+abbrev pub bucket : List ℕ → List ℕ → ℕ → ℕ
+bucket I W i = hash (nodeAt I W i)
+
+-- the highest below n whose key is b, with 1 added; 0 where there is none
+unfoldable pub latest : (ℕ → ℕ) → ℕ → ℕ → ℕ
+latest key b zero = 0
+latest key b (suc n) = elim (eqb (key n) b) [ true ↦ suc n | false ↦ latest key b n ]
+
+unfoldable pub flag : Bool → ℕ
+flag true = 1
+flag false = 0
+
+-- Well-formed tables -------------------------------------------------------------------------------------------------------------
+
+pub record Good (I W : List ℕ) (m : Mark) : Type 0 where
+  pub index : length I ≡ INDEX
+  pub words : length W ≡ WORDS
+  pub room : m .terms ≤ TERMS
+  pub ends : m .words ≡ start I (m .terms)
+  pub within : m .words ≤ WORDS
+  pub rise : (i : ℕ) → i < m .terms → start I i < getD I i 0
+  pub narrow : (i : ℕ) → i < m .terms → getD I i 0 ≤ start I i + 17
+  pub shaped : (i : ℕ) → i < m .terms → Shaped i (nodeAt I W i)
+  pub apart : Apart (trees I W (m .terms))
+  pub chains : (i : ℕ) → i < m .terms → getD I (CHAINS + i) 0 ≡ latest (bucket I W) (bucket I W i) i
+  pub flags : (i : ℕ) → i < m .terms → getD I (FLAGS + i) 0 ≡ flag (isOpen (getD (trees I W (m .terms)) i (var 0)))
+  pub heads : (b : ℕ) → b < BUCKETS → getD I (HEADS + b) 0 ≡ latest (bucket I W) b (m .terms)
+  pub no-ends : (i : ℕ) → m .terms ≤ i → i < TERMS → getD I i 0 ≡ 0
+  pub no-chains : (i : ℕ) → m .terms ≤ i → i < TERMS → getD I (CHAINS + i) 0 ≡ 0
+  pub no-flags : (i : ℕ) → m .terms ≤ i → i < TERMS → getD I (FLAGS + i) 0 ≡ 0
+  pub no-words : (i : ℕ) → m .words ≤ i → getD W i 0 ≡ 0
+
+-- up to the mark m the terms of J X are as those of I W were
+pub record Same (I W J X : List ℕ) (m : Mark) : Type 0 where
+  pub ends : (i : ℕ) → i < m .terms → getD J i 0 ≡ getD I i 0
+  pub words : (i : ℕ) → i < m .words → getD X i 0 ≡ getD W i 0
+  pub long-index : length J ≡ length I
+  pub long-words : length X ≡ length W
+
+-- Answers ------------------------------------------------------------------------------------------------------------------------
+
+-- the tables went from I W at the mark old to J X at the mark new: more terms, and the old ones as they were
+pub record Grown (I W J X : List ℕ) (old new : Mark) : Type 0 where
+  pub good : Good J X new
+  pub more : old .terms ≤ new .terms
+  pub longer : old .words ≤ new .words
+  pub same : Same I W J X old
+
+-- the definition's answer K: t, and the tables hold what is made; n is its number
+pub record Stored (I W J X : List ℕ) (old : Mark) (t : Tree) (K : Out Made Tree) (n : ℕ) (new : Mark) : Type 0 where
+  pub grown : Grown I W J X old new
+  pub makes : K ≡ ok t (made J X new)
+  pub numbered : n ≡ number (made J X new) t
+  pub there : n < new .terms
+
+-- the definition refuses by row r of question 60, and the tables hold what was made until then
+pub record Refused (A : Type 0) (I W J X : List ℕ) (old : Mark) (K : Out Made A) (r : ℕ) (new : Mark) : Type 0 where
+  pub grown : Grown I W J X old new
+  pub makes : K ≡ refuse 60 r (made J X new)
+
+abbrev pub After : List ℕ → List ℕ → List ℕ → List ℕ → Mark → Tree → Out Made Tree → Kept → Type 0
+After I W J X old t K (Term n new) = Stored I W J X old t K n new
+After I W J X old t K (Full r new) = Refused Tree I W J X old K r new

@@ -1,0 +1,162 @@
+// The store: the distinct terms made so far, numbered in the order made, in two tables (specs/Table.antt says how they stand for trees).
+// A node is gathered by the caller, looked up by its bucket, and only a new one is written, into the unused tail of the words.
+ghost use mathlib.Core.Path.{_≡_};
+ghost use mathlib.Core.List.{_++_};
+ghost use Prim.Native.Nat.{ℕ, _+_, _-_, _≤_, _<_};
+ghost use lib.ListN.{length, getD, drop};
+ghost use Rattle.rules.specs.Limits.{TERMS, WORDS};
+ghost use Rattle.rules.specs.Tree.{isOpen};
+ghost use Rattle.rules.specs.Store.{keep};
+ghost use Rattle.terms.specs.Table.{INDEX, BUCKETS, run, start, treeAt, made, hash, flag, Shaped, Node, Good, After};
+ghost use Rattle.terms.specs.Node.{sameWords, seek, Linked};
+use rules::SYMBOLS;
+use rules::TERMS;
+
+// The four parts of the index: ends, chains, flags, heads.
+const CHAINS: usize = 4096;
+const FLAGS: usize = 8192;
+const HEADS: usize = 12288;
+
+// What is used of the tables.
+pub struct Mark {
+    pub terms: usize,
+    pub words: usize,
+}
+
+// A term's number, or the row of question 60 that has no room; and the mark of the moment.
+pub enum Kept {
+    Term(usize, Mark),
+    Full(usize, Mark),
+}
+
+// The bucket of a node.
+fn bucket_of(node: &[u32]) -> usize
+    ensures { λ r. ⌜ r ≡ hash (now (node .entry)) ⌝ }
+{
+    let mut h = 0;
+    let mut i = 0;
+    while i < node.len() {
+        h = ((h + node[i] as usize) * 1640531527) % 4294967296;
+        i += 1;
+    }
+    h / 1048576
+}
+
+// Where the words of the term `id` start.
+pub fn start_of(index: &[u32], id: usize) -> usize
+    requires { ⌜ id ≤ length (now index) ⌝ }
+    ensures { λ r. ⌜ r ≡ start (now (index .entry)) id ⌝ }
+{
+    if id == 0 { 0 } else { index[id - 1] as usize }
+}
+
+// Whether the words from `start` to `end` are those of the node.
+fn is_node(words: &[u32], start: usize, end: usize, node: &[u32]) -> bool
+    requires { ⌜ (start ≤ end) × (end ≤ length (now words)) ⌝ }
+    ensures { λ r. ⌜ r ≡ sameWords (run (now (words .entry)) start (end - start)) (now (node .entry)) ⌝ }
+{
+    if end - start != node.len() {
+        return false;
+    }
+    let mut i = 0;
+    while i < node.len() {
+        if words[start + i] != node[i] {
+            return false;
+        }
+        i += 1;
+    }
+    true
+}
+
+// The number of the term whose words are the node's, with 1 added; 0 where there is none.
+fn find(index: &[u32], words: &[u32], mark: Mark, node: &[u32], bucket: usize) -> usize
+    requires { ⌜ Good (now index) (now words) mark ⌝ }
+    requires { ⌜ Shaped (mark .terms) (now node) ⌝ }
+    requires { ⌜ bucket ≡ hash (now node) ⌝ }
+    ensures { λ r. ⌜ r ≡ seek (made (now (index .entry)) (now (words .entry)) mark) (treeAt (made (now (index .entry)) (now (words .entry)) mark) (now (node .entry))) ⌝ }
+{
+    let mut at = index[HEADS + bucket] as usize;
+    while at != 0 {
+        let i = at - 1;
+        let start = start_of(index, i);
+        if is_node(words, start, index[i] as usize, node) {
+            return at;
+        }
+        at = index[CHAINS + i] as usize;
+    }
+    0
+}
+
+// Whether the node has a variable (1) or none (0), by the flags of its arguments.
+fn flag_of(index: &[u32], words: &[u32], mark: Mark, node: &[u32]) -> usize
+    requires { ⌜ Good (now index) (now words) mark ⌝ }
+    requires { ⌜ Shaped (mark .terms) (now node) ⌝ }
+    ensures { λ r. ⌜ r ≡ flag (isOpen (treeAt (made (now (index .entry)) (now (words .entry)) mark) (now (node .entry)))) ⌝ }
+{
+    if SYMBOLS <= node[0] as usize {
+        return 1;
+    }
+    let mut i = 1;
+    while i < node.len() {
+        if index[FLAGS + node[i] as usize] != 0 {
+            return 1;
+        }
+        i += 1;
+    }
+    0
+}
+
+// Term n comes into the index, at the head of its bucket.
+fn link(index: &mut [u32], n: usize, bucket: usize, end: usize, flag: usize)
+    requires { ⌜ (length (now index) ≡ INDEX) × (n < TERMS) × (bucket < BUCKETS) × (end ≤ WORDS) × (flag ≤ 1) ⌝ }
+    ensures { λ _. ⌜ Linked (now (index .entry)) (now (index .exit)) n bucket end flag ⌝ }
+{
+    index[CHAINS + n] = index[HEADS + bucket];
+    index[FLAGS + n] = flag as u32;
+    index[HEADS + bucket] = (n + 1) as u32;
+    index[n] = end as u32;
+}
+
+// The writer of a node, into the unused tail of the words.
+fn write_node(tail: &mut [u32], node: &[u32])
+    requires { ⌜ length (now node) ≤ length (now tail) ⌝ }
+    ensures { λ _. ⌜ now (tail .exit) ≡ now (node .entry) ++ drop (length (now (node .entry))) (now (tail .entry)) ⌝ }
+{
+    let mut i = 0;
+    while i < node.len() {
+        tail[i] = node[i];
+        i += 1;
+    }
+}
+
+// The node comes into the store: a term that is there already, or a new one; rows 8 and 9 of question 60 where it does not fit.
+pub fn keep(index: &mut [u32], words: &mut [u32], mark: Mark, node: &[u32]) -> Kept
+    requires { ⌜ Good (now index) (now words) mark ⌝ }
+    requires { ⌜ Node (mark .terms) (now node) ⌝ }
+    ensures { λ r. ⌜ After (now (index .entry)) (now (words .entry)) (now (index .exit)) (now (words .exit)) mark (treeAt (made (now (index .entry)) (now (words .entry)) mark) (now (node .entry))) (keep (treeAt (made (now (index .entry)) (now (words .entry)) mark) (now (node .entry))) (made (now (index .entry)) (now (words .entry)) mark)) r ⌝ }
+{
+    let terms = mark.terms;
+    let used = mark.words;
+    let bucket = bucket_of(node);
+    let found = find(index, words, mark, node, bucket);
+    if found != 0 {
+        return Kept::Term(found - 1, mark);
+    }
+    if TERMS <= terms {
+        return Kept::Full(8, mark);
+    }
+    let end = used + node.len();
+    if words.len() < end {
+        return Kept::Full(9, mark);
+    }
+    let flag = flag_of(index, words, mark, node);
+    link(index, terms, bucket, end, flag);
+    write_node(&mut words[used..], node);
+    Kept::Term(
+        terms,
+        Mark {
+            terms: terms + 1,
+            words: end,
+        },
+    )
+}

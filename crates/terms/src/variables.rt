@@ -1,0 +1,55 @@
+// The variables of a term: recursion on falling term numbers. A shared subterm is visited once, and a term without variables never.
+ghost use mathlib.Core.Path.{_≡_};
+ghost use Prim.Native.Nat.{ℕ, _*_, _≤_, _<_};
+ghost use lib.ListN.{length, replicate};
+ghost use Rattle.rules.specs.Find.{union};
+ghost use Rattle.rules.specs.Tree.{variables as variablesIn};
+ghost use Rattle.terms.specs.Sets.{holds};
+ghost use Rattle.terms.specs.Collect.{tree, Seen, Readable, Collected};
+use crate::sets::clear;
+use crate::sets::has;
+use crate::sets::insert;
+use crate::store::Mark;
+use crate::store::start_of;
+use rules::SYMBOLS;
+
+// Where the index says whether a term has a variable.
+const FLAGS: usize = 8192;
+
+// The variables of the term `id` join the set; a term that was visited has its own there already.
+fn collect(index: &[u32], words: &[u32], mark: Mark, id: usize, seen: &mut [u64], set: &mut [u64])
+    requires { ⌜ Readable (now index) (now words) mark id (now seen) (now set) ⌝ }
+    requires { ⌜ Seen (now index) (now words) mark (holds (now seen)) (holds (now set)) ⌝ }
+    ensures { λ _. ⌜ Collected (now (index .entry)) (now (words .entry)) mark id (holds (now (set .entry))) (holds (now (seen .exit))) (holds (now (set .exit))) ⌝ }
+{
+    if index[FLAGS + id] == 0 {
+        return;
+    }
+    if has(seen, id) {
+        return;
+    }
+    let start = start_of(index, id);
+    let end = index[id] as usize;
+    let head = words[start] as usize;
+    if SYMBOLS <= head {
+        insert(set, head - SYMBOLS);
+        return;
+    }
+    let mut at = start + 1;
+    while at < end {
+        let arg = words[at] as usize;
+        collect(index, words, mark, arg, seen, set);
+        at += 1;
+    }
+    insert(seen, id);
+}
+
+// The variables of the term `id` join the set. `seen` is scratch: zero before and after.
+pub fn variables(index: &[u32], words: &[u32], mark: Mark, id: usize, seen: &mut [u64], set: &mut [u64])
+    requires { ⌜ Readable (now index) (now words) mark id (now seen) (now set) ⌝ }
+    requires { ⌜ now seen ≡ replicate (length (now seen)) 0 ⌝ }
+    ensures { λ _. ⌜ (holds (now (set .exit)) ≡ union (holds (now (set .entry))) (variablesIn (tree (now (index .entry)) (now (words .entry)) mark id))) × (now (seen .exit) ≡ now (seen .entry)) ⌝ }
+{
+    collect(index, words, mark, id, seen, set);
+    clear(seen);
+}
