@@ -12,3 +12,6 @@ pub mod Tags
 pub mod Tree
 pub mod Store
 pub mod Theory
+pub mod Match
+pub mod Unify
+pub mod State

@@ -43,8 +43,4 @@ found n nothing s = refuse n 0 s
 
 -- an action with a state of its own, which begins so, beside what goes on
 unfoldable pub beside : {S T A : Type 0} → S → Act S A → Act T (A × S)
-beside s m t = apart (m s) t
-  where
-    apart : {S T A : Type 0} → Out S A → Act T (A × S)
-    apart (ok a s) t = ok (a, s) t
-    apart (refuse n d s) t = refuse n d t
+beside s m t = elim (m s) [ ok a u ↦ ok (a, u) t | refuse n d u ↦ refuse n d t ]
