@@ -15,3 +15,5 @@ pub mod Theory
 pub mod Match
 pub mod Unify
 pub mod State
+pub mod Declare
+pub mod Judge
