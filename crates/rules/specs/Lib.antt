@@ -17,3 +17,4 @@ pub mod Unify
 pub mod State
 pub mod Declare
 pub mod Judge
+pub mod TheoryLaws
