@@ -18,3 +18,4 @@ pub mod State
 pub mod Declare
 pub mod Judge
 pub mod TheoryLaws
+pub mod TheoryTables
