@@ -17,5 +17,9 @@ pub mod Unify
 pub mod State
 pub mod Declare
 pub mod Judge
+pub mod OutLaws
+pub mod FindLaws
 pub mod TheoryLaws
+pub mod PatternLaws
+pub mod DeclareLaws
 pub mod TheoryTables

@@ -1,18 +1,15 @@
--- What every theory that the definition reaches is: `WellFormed`, kept by each declaration. The first part states it, the second proves
--- it. Assumes nothing.
-use Prim.Native.Nat.{ℕ, zero, suc, _+_, _<_, _≤_}
-use mathlib.Core.Path.{_≡_, refl, sym, ap, _∙_}
-use mathlib.Core.Bool.{Bool, true, false, _&&_, not}
-use mathlib.Core.Logic.{_⊎_, inl, inr}
+-- What every theory that the definition reaches is: `WellFormed`. DeclareLaws proves that each declaration keeps it. Assumes nothing.
+use Prim.Native.Nat.{ℕ, zero, suc, _<_, _≤_}
+use mathlib.Core.Path.{_≡_}
+use mathlib.Core.Bool.{true}
+use mathlib.Core.Logic.{_⊎_}
 use mathlib.Core.List.{List, [], _∷_, _++_}
+use native.Mathlib.Omega.{arith}
 use lib.ListN.{length, getD}
 use Rattle.rules.specs.Limits.{SORTS, SYMBOLS, ARGUMENTS, RULES, RULEVARS, PATTERNS}
-use Rattle.rules.specs.Sexp.{Name}
 use Rattle.rules.specs.Tree.{Tree, Trees, var, app, none, more, variables, variablesOf}
-use Rattle.rules.specs.Theory.{Symbol, RuleVar, Rule, Theory, noTheory, inputs, output, ruleWords}
+use Rattle.rules.specs.Theory.{Symbol, RuleVar, Rule, Theory, inputs, output, ruleWords}
 use Rattle.rules.specs.Declare.{noRuleVar}
-
--- The statement ----------------------------------------------------------------------------------------------------------------
 
 -- every entry of a list has the property
 pub data All {A : Type 0} (P : A → Type 0) : List A → Type 0 where
@@ -71,3 +68,20 @@ pub record WellFormed (T : Theory) : Type 0 where
   pub row6 : ruleWords (T .rules) ≤ PATTERNS
   pub symbols : All (SymbolFormed T) (T .symbols)
   pub rules : All (RuleFormed T) (T .rules)
+
+-- All entries -----------------------------------------------------------------------------------------------------------------
+
+module _ {A : Type 0} where
+  pub all-snoc : {P : A → Type 0} {xs : List A} {y : A} → All P xs → P y → All P (xs ++ (y ∷ []))
+  all-snoc empty h = both h empty
+  all-snoc (both g gs) h = both g (all-snoc gs h)
+
+  pub all-map : {P Q : A → Type 0} {xs : List A} → ((a : A) → P a → Q a) → All P xs → All Q xs
+  all-map k empty = empty
+  all-map k (both g gs) = both (k _ g) (all-map k gs)
+
+  -- an entry by its number
+  pub all-at : {P : A → Type 0} (xs : List A) (i : ℕ) (d : A) → All P xs → i < length xs → P (getD xs i d)
+  all-at [] i d h l = absurd (omega arith)
+  all-at (x ∷ xs) zero d (both g gs) l = g
+  all-at (x ∷ xs) (suc i) d (both g gs) l = all-at xs i d gs (omega arith)
