@@ -23,3 +23,4 @@ pub mod TheoryLaws
 pub mod PatternLaws
 pub mod DeclareLaws
 pub mod TheoryTables
+pub mod RowLaws
