@@ -1,0 +1,2 @@
+// From the text of a theory to its tables.
+mod names;
