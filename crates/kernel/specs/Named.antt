@@ -1,10 +1,12 @@
 -- What the look-ups by name cite: rows of a table that hold names of a text. Assumes nothing.
 use mathlib.Core.Path.{_≡_}
 use Prim.Native.Nat.{ℕ, _+_, _-_, _*_, _<_, _≤_}
-use mathlib.Core.Bool.{Bool, true, false, not}
+use mathlib.Core.Bool.{Bool, true, false, not, _&&_}
 use mathlib.Core.Option.{Option, some, none as nothing}
 use mathlib.Core.List.{List}
+use lib.Dec.{eqb}
 use lib.ListN.{length, getD, take, drop}
+use Rattle.rules.specs.Text.{same}
 use Rattle.rules.specs.Sexp.{Name}
 use Rattle.rules.specs.Theory.{Symbol, noName, noSymbol, isPredicate}
 use Rattle.kernel.specs.declared.names.Found.{Found}
@@ -35,16 +37,33 @@ pub record NameRows (text table : List ℕ) (w o count : ℕ) (ns : List Name) :
 abbrev pub SomeNames : List ℕ → List ℕ → ℕ → ℕ → ℕ → Type 0
 SomeNames text table w o count = (ns : List Name) × NameRows text table w o count ns
 
+-- a predicate or a constructor, by its output
+unfoldable pub kindOf : Bool → ℕ → Bool
+kindOf true n = eqb n 0
+kindOf false n = not (eqb n 0)
+
 -- a predicate or a constructor
 unfoldable pub ofKind : Bool → Symbol → Bool
 ofKind true s = isPredicate s
 ofKind false s = not (isPredicate s)
 
--- the first rows of the table of symbols
+-- a row of the table of symbols
+pub record SymbolAt (text table : List ℕ) (k : ℕ) (s : Symbol) : Type 0 where
+  pub output : getD table (4 * k) 0 ≡ s .output
+  pub arity : getD table (4 * k + 1) 0 ≡ length (s .inputs)
+  pub name : NameAt text table (4 * k + 2) (s .name)
+
+abbrev pub SomeSymbol : List ℕ → List ℕ → ℕ → Type 0
+SomeSymbol text table k = (s : Symbol) × SymbolAt text table k s
+
+-- its first rows
 pub record SymbolRows (text table : List ℕ) (count : ℕ) (ss : List Symbol) : Type 0 where
   pub many : length ss ≡ count
-  pub output : (k : ℕ) → k < length ss → getD table (4 * k) 0 ≡ getD ss k noSymbol .output
-  pub row : (k : ℕ) → k < length ss → NameAt text table (4 * k + 2) (getD ss k noSymbol .name)
+  pub row : (k : ℕ) → k < length ss → SymbolAt text table k (getD ss k noSymbol)
 
 abbrev pub SomeSymbols : List ℕ → List ℕ → ℕ → Type 0
 SomeSymbols text table count = (ss : List Symbol) × SymbolRows text table count ss
+
+-- the symbols of a kind whose name has these bytes
+abbrev pub called : Bool → List ℕ → Symbol → Bool
+called b name s = ofKind b s && same (s .name .bytes) name
