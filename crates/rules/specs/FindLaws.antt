@@ -48,3 +48,20 @@ module _ {A : Type 0} where
     pub first-over : length xs ≤ i → first p (drop i xs) i ≡ nothing
     unfolding first
     first-over h = rw (drop-of-length-le xs h)
+
+-- Counting from another number ------------------------------------------------------------------------------------------------------
+
+-- one further
+unfoldable pub next : Option ℕ → Option ℕ
+next nothing = nothing
+next (some k) = some (suc k)
+
+pub first-next : {A : Type 0} (p : A → Bool) (xs : List A) (k : ℕ) → first p xs (suc k) ≡ next (first p xs k)
+unfolding first next
+first-next p [] k = refl
+first-next p (x ∷ xs) k = go (p x) (first-next p xs (suc k))
+  where
+    go : (b : Bool) → first p xs (suc (suc k)) ≡ next (first p xs (suc k)) →
+        elim b [ true ↦ some (suc k) | false ↦ first p xs (suc (suc k)) ] ≡ next (elim b [ true ↦ some k | false ↦ first p xs (suc k) ])
+    go true h = refl
+    go false h = h
