@@ -1,11 +1,13 @@
 -- What `first` finds, and the entries of a list that has grown. Assumes nothing.
-use Prim.Native.Nat.{ℕ, zero, suc, _+_, _<_}
+use Prim.Native.Nat.{ℕ, zero, suc, _+_, _<_, _≤_}
 use mathlib.Core.Path.{_≡_, refl}
 use mathlib.Core.Bool.{Bool, true, false}
 use mathlib.Core.Option.{Option, some, none as nothing}
 use mathlib.Core.List.{List, [], _∷_, _++_}
 use native.Mathlib.Omega.{arith}
-use lib.ListN.{length, getD}
+use native.Mathlib.Numerals.{add-one}
+use lib.ListN.{length, getD, drop, drop-of-length-le}
+use lib.Seq.{drop-cons}
 use Rattle.rules.specs.Find.{first}
 
 module _ {A : Type 0} where
@@ -32,3 +34,34 @@ module _ {A : Type 0} where
   getD-front [] ys i d l = absurd (omega arith)
   getD-front (x ∷ xs) ys zero d l = refl
   getD-front (x ∷ xs) ys (suc i) d l = getD-front xs ys i d (omega arith)
+
+  -- a search that stands at a place
+  module _ (p : A → Bool) (xs : List A) (i : ℕ) where
+    pub first-here : (d : A) → i < length xs → p (getD xs i d) ≡ true → first p (drop i xs) i ≡ some i
+    unfolding first
+    first-here d h e = rw (drop-cons xs i d h, e, first)
+
+    pub first-later : (d : A) → i < length xs → p (getD xs i d) ≡ false → first p (drop i xs) i ≡ first p (drop (i + 1) xs) (i + 1)
+    unfolding first
+    first-later d h e = rw (drop-cons xs i d h, e, first, add-one)
+
+    pub first-over : length xs ≤ i → first p (drop i xs) i ≡ nothing
+    unfolding first
+    first-over h = rw (drop-of-length-le xs h)
+
+-- Counting from another number ------------------------------------------------------------------------------------------------------
+
+-- one further
+unfoldable pub next : Option ℕ → Option ℕ
+next nothing = nothing
+next (some k) = some (suc k)
+
+pub first-next : {A : Type 0} (p : A → Bool) (xs : List A) (k : ℕ) → first p xs (suc k) ≡ next (first p xs k)
+unfolding first next
+first-next p [] k = refl
+first-next p (x ∷ xs) k = go (p x) (first-next p xs (suc k))
+  where
+    go : (b : Bool) → first p xs (suc (suc k)) ≡ next (first p xs (suc k)) →
+        elim b [ true ↦ some (suc k) | false ↦ first p xs (suc (suc k)) ] ≡ next (elim b [ true ↦ some k | false ↦ first p xs (suc k) ])
+    go true h = refl
+    go false h = h

@@ -38,3 +38,4 @@ pub mod Slips
 pub mod SetLaws
 pub mod TreeLaws
 pub mod StoreLaws
+pub mod RowLaws

@@ -7,14 +7,19 @@ use lib.ListN.{length, replicate, take}
 use Rattle.rules.specs.Limits.{SORTS, SYMBOLS, ARGUMENTS, RULES, RULEVARS, PATTERNS}
 use Rattle.rules.specs.Text.{bytes}
 use Rattle.rules.specs.Sexp.{Name, read}
-use Rattle.rules.specs.Tree.{Tree, Trees, var, app, none, more, size, sizes, countTrees}
+use Rattle.rules.specs.Tree.{Tree, Trees, var, app, none, more, countTrees}
 use Rattle.rules.specs.Theory.{Symbol, RuleVar, Rule, Theory, noTheory}
 use Rattle.rules.specs.Declare.{declare, declaring}
 use Rattle.rules.specs.Judge.{Judged, done, refused, whole, judging}
 
 -- n cells: these, and zero behind
 unfoldable pub filled : ℕ → List ℕ → List ℕ
-filled n xs = xs ++ replicate (n - length xs) 0
+filled n xs = take n xs ++ replicate (n - length xs) 0
+
+-- the cells of one entry behind those of another
+unfoldable pub rows : {A : Type 0} → (A → List ℕ) → List A → List ℕ
+rows f [] = []
+rows f (x ∷ xs) = f x ++ rows f xs
 
 unfoldable pub nameCells : Name → List ℕ
 nameCells n = n .start ∷ (n .start + length (n .bytes)) ∷ []
@@ -22,19 +27,22 @@ nameCells n = n .start ∷ (n .start + length (n .bytes)) ∷ []
 -- Sorts and symbols ------------------------------------------------------------------------------------------------------------
 
 -- a sort: its name
-unfoldable pub sortCells : List Name → List ℕ
-sortCells [] = []
-sortCells (n ∷ ns) = nameCells n ++ sortCells ns
+abbrev pub sortCells : List Name → List ℕ
+sortCells ns = rows nameCells ns
 
 -- a symbol: its output, its number of arguments, its name
-unfoldable pub symbolCells : List Symbol → List ℕ
-symbolCells [] = []
-symbolCells (s ∷ ss) = (s .output ∷ length (s .inputs) ∷ nameCells (s .name)) ++ symbolCells ss
+unfoldable pub symbolRow : Symbol → List ℕ
+symbolRow s = s .output ∷ length (s .inputs) ∷ nameCells (s .name)
+
+abbrev pub symbolCells : List Symbol → List ℕ
+symbolCells ss = rows symbolRow ss
 
 -- its argument sorts
-unfoldable pub inputCells : List Symbol → List ℕ
-inputCells [] = []
-inputCells (s ∷ ss) = filled ARGUMENTS (s .inputs) ++ inputCells ss
+unfoldable pub inputRow : Symbol → List ℕ
+inputRow s = filled ARGUMENTS (s .inputs)
+
+abbrev pub inputCells : List Symbol → List ℕ
+inputCells ss = rows inputRow ss
 
 -- Rules ------------------------------------------------------------------------------------------------------------------------
 
@@ -49,32 +57,33 @@ unfoldable mutual
   prefixes (more t ts) = prefix t ++ prefixes ts
 
 -- the premises in order, then the conclusion
-unfoldable pub ruleWordCells : Rule → List ℕ
-ruleWordCells r = prefixes (r .premises) ++ prefix (r .conclusion)
+unfoldable pub patternRow : Rule → List ℕ
+patternRow r = prefixes (r .premises) ++ prefix (r .conclusion)
 
-unfoldable pub patternCells : List Rule → List ℕ
-patternCells [] = []
-patternCells (r ∷ rs) = ruleWordCells r ++ patternCells rs
+abbrev pub patternCells : List Rule → List ℕ
+patternCells rs = rows patternRow rs
 
 -- a variable of a rule: its sort, its name
-unfoldable pub varCells : List RuleVar → List ℕ
-varCells [] = []
-varCells (v ∷ vs) = (v .sort ∷ nameCells (v .name)) ++ varCells vs
+unfoldable pub varRow : RuleVar → List ℕ
+varRow v = v .sort ∷ nameCells (v .name)
 
-unfoldable pub ruleVarCells : List Rule → List ℕ
-ruleVarCells [] = []
-ruleVarCells (r ∷ rs) = filled (3 * RULEVARS) (varCells (r .vars)) ++ ruleVarCells rs
+abbrev pub varCells : List RuleVar → List ℕ
+varCells vs = rows varRow vs
+
+unfoldable pub ruleVarRow : Rule → List ℕ
+ruleVarRow r = filled (3 * RULEVARS) (varCells (r .vars))
+
+abbrev pub ruleVarCells : List Rule → List ℕ
+ruleVarCells rs = rows ruleVarRow rs
 
 -- a rule whose first word stands at a place: its name, its numbers of variables and premises, that place and the place behind its last
 -- word
 unfoldable pub ruleRow : Rule → ℕ → List ℕ
-ruleRow r at =
-    nameCells (r .name) ++
-    (length (r .vars) ∷ countTrees (r .premises) ∷ at ∷ (at + (sizes (r .premises) + size (r .conclusion))) ∷ [])
+ruleRow r at = nameCells (r .name) ++ (length (r .vars) ∷ countTrees (r .premises) ∷ at ∷ (at + length (patternRow r)) ∷ [])
 
 unfoldable pub ruleCells : List Rule → ℕ → List ℕ
 ruleCells [] at = []
-ruleCells (r ∷ rs) at = ruleRow r at ++ ruleCells rs (at + (sizes (r .premises) + size (r .conclusion)))
+ruleCells (r ∷ rs) at = ruleRow r at ++ ruleCells rs (at + length (patternRow r))
 
 -- The tables -------------------------------------------------------------------------------------------------------------------
 
@@ -98,7 +107,7 @@ patternTable T = filled PATTERNS (patternCells (T .rules))
 
 -- `unfolding tabling` opens all of the above, for a computation
 unfoldable pub tabling : Unit {0}
-unfolding declaring filled nameCells sortCells symbolCells inputCells prefix ruleWordCells patternCells varCells ruleVarCells ruleRow ruleCells sortTable symbolTable inputTable ruleTable ruleVarTable patternTable
+unfolding declaring filled rows nameCells symbolRow inputRow prefix patternRow varRow ruleVarRow ruleRow ruleCells sortTable symbolTable inputTable ruleTable ruleVarTable patternTable
 tabling = tt
 
 -- Checks -----------------------------------------------------------------------------------------------------------------------
@@ -111,7 +120,7 @@ theoryOf (refused n d k T) = T
 abbrev small : Theory
 small =
     theoryOf (whole declare (read (bytes "(sort N)(ctor z () N)(ctor s (N) N)(pred le (N N))(rule b () (le z ?x))(rule t ((le ?x (s ?y))) (le ?y ?x))(sort N)"))
-    noTheory)
+      noTheory)
 
 small-sorts : take 4 (sortTable small) ≡ 6 ∷ 7 ∷ 0 ∷ 0 ∷ []
 unfolding tabling judging

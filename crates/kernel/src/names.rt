@@ -1,0 +1,95 @@
+// Looking names up: the first row of a table whose name has given bytes. A name is the place of its first byte in the theory's text and the
+// place behind its last.
+ghost use mathlib.Core.Path.{_≡_};
+ghost use Prim.Native.Nat.{ℕ};
+ghost use mathlib.Core.List.{List};
+ghost use mathlib.Core.Bool.{Bool};
+ghost use lib.ListN.{length};
+ghost use Rattle.rules.specs.Text.{same};
+ghost use Rattle.kernel.specs.Named.{kindOf};
+ghost use Rattle.rules.specs.Find.{first};
+ghost use Rattle.rules.specs.Sexp.{Name};
+ghost use Rattle.rules.specs.Theory.{Symbol};
+ghost use Rattle.kernel.specs.Named.{NameRows, SomeNames, SymbolAt, SomeSymbol, SymbolRows, SomeSymbols, foundOf, called};
+
+pub enum Found {
+    At(usize),
+    Missing,
+}
+
+// Whether two runs of bytes are the same.
+fn same_bytes(s: &[u8], t: &[u8]) -> bool
+    ensures { λ r. ⌜ r ≡ same (now (s .entry)) (now (t .entry)) ⌝ }
+{
+    if s.len() != t.len() {
+        return false;
+    }
+    let mut i: usize = 0;
+    while i < s.len() {
+        if s[i] != t[i] {
+            return false;
+        }
+        i += 1;
+    }
+    true
+}
+
+// The number of the first of `count` rows whose name has these bytes: rows of `width` cells with the name from `place` on.
+pub fn named(text: &[u8], table: &[u32], width: usize, place: usize, count: usize, name: &[u8]) -> Found
+    requires { ⌜ SomeNames (now text) (now table) width place count ⌝ }
+    ensures { λ r. ⌜ ((ns : List Name) → NameRows (now (text .entry)) (now (table .entry)) width place count ns →
+        r ≡ foundOf (first (λ n. same (n .bytes) (now (name .entry))) ns 0)) ⌝ }
+{
+    let mut i: usize = 0;
+    while i < count {
+        let at = width * i + place;
+        let start = table[at] as usize;
+        let end = table[at + 1] as usize;
+        if same_bytes(&text[start..end], name) {
+            return Found::At(i);
+        }
+        i += 1;
+    }
+    Found::Missing
+}
+
+// Whether a symbol with that output is a predicate, or is none.
+fn is_kind(output: u32, predicate: bool) -> bool
+    ensures { λ r. ⌜ r ≡ kindOf predicate output ⌝ }
+{
+    if predicate {
+        return output == 0;
+    }
+    output != 0
+}
+
+// Whether the symbol of a row is of the kind and has these bytes for a name.
+fn is_symbol(text: &[u8], symbols: &[u32], row: usize, predicate: bool, name: &[u8]) -> bool
+    requires { ⌜ SomeSymbol (now text) (now symbols) row ⌝ }
+    ensures { λ r. ⌜ ((s : Symbol) → SymbolAt (now (text .entry)) (now (symbols .entry)) row s → r ≡ called predicate (now (name .entry)) s) ⌝ }
+{
+    let first = 4 * row;
+    if is_kind(symbols[first], predicate) {
+        let at = first + 2;
+        let start = symbols[at] as usize;
+        let end = symbols[at + 1] as usize;
+        return same_bytes(&text[start..end], name);
+    }
+    false
+}
+
+// The number of the first predicate, or of the first constructor, whose name has these bytes.
+pub fn symbol_named(text: &[u8], symbols: &[u32], count: usize, predicate: bool, name: &[u8]) -> Found
+    requires { ⌜ SomeSymbols (now text) (now symbols) count ⌝ }
+    ensures { λ r. ⌜ ((ss : List Symbol) → SymbolRows (now (text .entry)) (now (symbols .entry)) count ss →
+        r ≡ foundOf (first (called predicate (now (name .entry))) ss 0)) ⌝ }
+{
+    let mut i: usize = 0;
+    while i < count {
+        if is_symbol(text, symbols, i, predicate, name) {
+            return Found::At(i);
+        }
+        i += 1;
+    }
+    Found::Missing
+}
