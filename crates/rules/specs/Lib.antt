@@ -23,3 +23,9 @@ pub mod Invert
 pub mod Proof
 pub mod Check
 pub mod Run
+pub mod OutLaws
+pub mod FindLaws
+pub mod TheoryLaws
+pub mod TreeLaws
+pub mod Keeping
+pub mod MakingLaws
