@@ -7,7 +7,7 @@ use mathlib.Core.Option.{Option, some, none as nothing}
 use mathlib.Core.List.{List, [], _∷_, _++_, append-assoc, append-nil}
 use lib.ListN.{length}
 use Rattle.rules.specs.Limits.{TERMS, WORDS}
-use Rattle.rules.specs.Out.{Out, ok, refuse, then, ask, room, found}
+use Rattle.rules.specs.Out.{Out, ok, refuse, then, Act, ask, room, found}
 use Rattle.rules.specs.Sexp.{Sexp, Sexps, atom, list, Name, name, items}
 use Rattle.rules.specs.Tree.{Tree, Trees, var, app, none, more, node}
 use Rattle.rules.specs.Store.{Made, stored, words}
@@ -108,3 +108,13 @@ module _ {K : Kind} where
   unfolding then
   by-found n (some a) f g k = k a refl
   by-found n nothing f g k = off (stays g)
+
+  pub by-either : {m : Made} {A : Type 0} {P : A → Made → Type 0} (b : Bool) (f g : Made → Out Made A) →
+      Keeps K m P (f m) → Keeps K m P (g m) → Keeps K m P ((elim b as (λ (z : Bool). Act Made A) [ true ↦ f | false ↦ g ]) m)
+  by-either true f g h k = h
+  by-either false f g h k = k
+
+  pub by-given : {m : Made} {A B : Type 0} {P : A → Made → Type 0} (o : Option B) (f : B → Made → Out Made A) (g : Made → Out Made A) →
+      ((b : B) → o ≡ some b → Keeps K m P (f b m)) → Keeps K m P (g m) → Keeps K m P ((elim o as (λ (z : Option B). Act Made A) [ some b ↦ f b | nothing ↦ g ]) m)
+  by-given (some b) f g h k = h b refl
+  by-given nothing f g h k = k

@@ -29,3 +29,7 @@ pub mod TheoryLaws
 pub mod TreeLaws
 pub mod Keeping
 pub mod MakingLaws
+pub mod StillLaws
+pub mod ReadLaws
+pub mod StepLaws
+pub mod CaseLaws

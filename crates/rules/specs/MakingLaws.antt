@@ -131,7 +131,7 @@ module _ {K : Kind} where
 
   -- Building --------------------------------------------------------------------------------------------------------------------
 
-  found-keeps : (o : Option Tree) (n : ℕ) (m : Made) → K .Good m → ((t : Tree) → o ≡ some t → K .Has m t) → Keeps K m (Known K) (found n o m)
+  pub found-keeps : (o : Option Tree) (n : ℕ) (m : Made) → K .Good m → ((t : Tree) → o ≡ some t → K .Has m t) → Keeps K m (Known K) (found n o m)
   found-keeps (some t) n m g h = fine (stays g) (h t refl)
   found-keeps nothing n m g h = off (stays g)
 
