@@ -33,3 +33,7 @@ pub mod StillLaws
 pub mod ReadLaws
 pub mod StepLaws
 pub mod CaseLaws
+pub mod RisingLaws
+pub mod ShapeLaws
+pub mod Tally
+pub mod FormLaws
