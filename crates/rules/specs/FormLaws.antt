@@ -2,7 +2,7 @@
 -- result; trees are made behind the others. The theorems on reached states (Appends, MadeLaws, CountLaws) go by these cases. Assumes nothing.
 use Prim.Native.Nat.{ℕ, zero, suc, _+_, _≤_, _<_}
 use mathlib.Core.Path.{_≡_, refl, subst, sym, ap}
-use mathlib.Core.Bool.{Bool, true, false, _&&_, _||_, not}
+use mathlib.Core.Bool.{Bool, true, false, _&&_, _||_, not, false≢true}
 use mathlib.Core.Option.{Option, some, none as nothing}
 use mathlib.Core.List.{List, [], _∷_, _++_}
 use native.Mathlib.Omega.{arith}
@@ -56,17 +56,22 @@ pub record NewFact (fs : List Fact) (f : Fact) (c : Counts) : Type 0 where
 abbrev pub grown : State → List Var → Made → State
 grown S vs m = record { theory = S .theory; vars = vs; made = m; defs = S .defs; goals = S .goals; facts = S .facts; counts = S .counts }
 
--- from state S a form with these counts has led to the state named last
+-- a form of the goals has led from state S to the state named last
+pub data Posed (K : Kind) (S : State) : State → Type 0 where
+  posedVar : (v : Var) → length (S .vars) < VARIABLES → Posed K S (withVars S (S .vars ++ (v ∷ [])))
+  posedGoal : (m : Made) (g : Goal) → Grows K (S .made) m → GoalIn K m g → length (S .goals) < GOALS → listed-so-far S + countTrees (g .hyps) ≤ ENTRIES →
+      Posed K S (withGoals (withMade S m) (S .goals ++ (g ∷ [])))
+
+-- so has a form of the proof with these counts
 pub data Taken (K : Kind) (S : State) : Counts → State → Type 0 where
   newVar : (v : Var) → length (S .vars) < VARIABLES → Taken K S noCounts (withVars S (S .vars ++ (v ∷ [])))
   newDef : (m : Made) (d : Def) → Grows K (S .made) m → K .Has m (d .term) → length (S .defs) < DEFS →
       Taken K S noCounts (withDefs (withMade S m) (S .defs ++ (d ∷ [])))
-  newGoal : (m : Made) (g : Goal) → Grows K (S .made) m → GoalIn K m g → length (S .goals) < GOALS → listed-so-far S + countTrees (g .hyps) ≤ ENTRIES →
-      Taken K S noCounts (withGoals (withMade S m) (S .goals ++ (g ∷ [])))
   newFact : (vs : List Var) (m : Made) (f : Fact) (c : Counts) → Longer (S .vars) vs → Grows K (S .made) m → FactIn K m f →
       (AllShaped (S .facts) → NewFact (S .facts) f c) → length (S .facts) < FACTS → listed-so-far S + factEntries f ≤ ENTRIES →
       Taken K S c (withFacts (grown S vs m) (S .facts ++ (f ∷ [])) (plus (S .counts) c))
-  gotResult : (m : Made) (k : ℕ) → Grows K (S .made) m → Taken K S noCounts (withGoals (withMade S m) (change (S .goals) k takenGoal))
+  gotResult : (m : Made) (k : ℕ) (g : Goal) → Grows K (S .made) m → entry (S .goals) k ≡ some g → g .taken ≡ false →
+      Taken K S noCounts (withGoals (withMade S m) (change (S .goals) k takenGoal))
 
 -- Laws of the actions on states -------------------------------------------------------------------------------------------------
 
@@ -75,7 +80,7 @@ pub go-on : {S A B : Type 0} {P : B → S → Type 0} {a : A} {s : S} (f : A →
 unfolding then
 go-on f h = h
 
-from-still : {S A B : Type 0} {P : B → S → Type 0} {s : S} (o : Out S A) (f : A → S → Out S B) → Still s o → ((a : A) → o ≡ ok a s → Ok P (f a s)) →
+pub from-still : {S A B : Type 0} {P : B → S → Type 0} {s : S} (o : Out S A) (f : A → S → Out S B) → Still s o → ((a : A) → o ≡ ok a s → Ok P (f a s)) →
     Ok P (then o f)
 unfolding then
 from-still (ok a s) f answers k = k a refl
@@ -113,18 +118,23 @@ next-still xs S = still-then _ _ (index-still 31 (item xs 1)) λ i. asked (eqb i
     asked true = answers
     asked false = refuses
 
+not-true : (b : Bool) → not b ≡ true → b ≡ false
+not-true true e = absurd (false≢true e)
+not-true false e = refl
+
 -- Variables, abbreviations, goals -------------------------------------------------------------------------------------------------
 
-module _ {K : Kind} where
-  add-var-takes : (text : ℕ) (xs : Sexps) (S : State) → Ok (λ a U. Taken K S noCounts U) (addVar text xs S)
-  unfolding addVar
-  add-var-takes text xs S =
-      go-on _ (by-name 21 (item xs 1) S _ λ n e. by-name 21 (item xs 2) S _ λ s e.
-      by-found 21 (sortNamed (S .theory) (s .bytes)) S _ λ k e.
-      by-ask 21 (not (marked (n .bytes)) && (isNew (constructorNamed (S .theory) (n .bytes))
-        && (isNew (predicateNamed (S .theory) (n .bytes)) && isNew (varNamed (S .vars) (n .bytes))))) S _ λ e.
-      by-room 7 (ltb (length (S .vars)) VARIABLES) S _ λ e. fine (newVar _ (ltb-true _ VARIABLES e)))
+add-var-takes : {P : Unit {0} → State → Type 0} (text : ℕ) (xs : Sexps) (S : State) →
+    ((v : Var) → length (S .vars) < VARIABLES → P tt (withVars S (S .vars ++ (v ∷ [])))) → Ok P (addVar text xs S)
+unfolding addVar
+add-var-takes text xs S h =
+    go-on _ (by-name 21 (item xs 1) S _ λ n e. by-name 21 (item xs 2) S _ λ s e.
+    by-found 21 (sortNamed (S .theory) (s .bytes)) S _ λ k e.
+    by-ask 21 (not (marked (n .bytes)) && (isNew (constructorNamed (S .theory) (n .bytes))
+      && (isNew (predicateNamed (S .theory) (n .bytes)) && isNew (varNamed (S .vars) (n .bytes))))) S _ λ e.
+    by-room 7 (ltb (length (S .vars)) VARIABLES) S _ λ e. fine (h _ (ltb-true _ VARIABLES e)))
 
+module _ {K : Kind} where
   add-def-takes : (xs : Sexps) (S : State) → Ready K S (S .made) → Ok (λ a U. Taken K S noCounts U) (addDef xs S)
   unfolding addDef
   add-def-takes xs S h =
@@ -134,16 +144,16 @@ module _ {K : Kind} where
       go-on _ (fine (newDef u _ g p (ltb-true _ DEFS e))))
 
   add-goal-takes : (x : Sexp) (hs : Trees) (j : Tree) (S : State) (m : Made) → Grows K (S .made) m → Each (K .Has m) hs → K .Has m j →
-      Ok (λ a U. Taken K S noCounts U) (addGoal x hs j (withMade S m))
+      Ok (λ a U. Posed K S U) (addGoal x hs j (withMade S m))
   unfolding addGoal entries
   add-goal-takes x hs j S m g h p =
       go-on _ (by-name 24 x _ _ λ n e. by-ask 24 (isNew (goalNamed (S .goals) (n .bytes))) _ _ λ e.
       by-room 11 (ltb (length (S .goals)) GOALS) _ _ λ e. by-room 13 (leb (listed-so-far S + countTrees hs) ENTRIES) _ _ λ f.
-      fine (newGoal m _ g (record { judgment = p; hyps = h }) (ltb-true _ GOALS e) (leb-true _ ENTRIES f)))
+      fine (posedGoal m _ g (record { judgment = p; hyps = h }) (ltb-true _ GOALS e) (leb-true _ ENTRIES f)))
 
-  goal-takes : (t : GoalForm) (xs : Sexps) (S : State) → Ready K S (S .made) → Ok (λ a U. Taken K S noCounts U) (goal t xs S)
+  goal-takes : (t : GoalForm) (xs : Sexps) (S : State) → Ready K S (S .made) → Ok (λ a U. Posed K S U) (goal t xs S)
   unfolding goal Each
-  goal-takes aVariable xs S h = add-var-takes 2 xs S
+  goal-takes aVariable xs S h = add-var-takes 2 xs S (λ v l. posedVar v l)
   goal-takes aGoal xs S h =
       go-on _ (by-making (judgment S (item xs 2)) S _ (judgment-keeps S (item xs 2) (S .made) h) λ j u e g p.
       add-goal-takes (item xs 1) none j S u g tt p)
@@ -152,7 +162,7 @@ module _ {K : Kind} where
       by-making (judgment S (item xs 3)) (withMade S u) _ (judgment-keeps S (item xs 3) u (ready-on h g)) λ j w f k q.
       add-goal-takes (item xs 1) hs j S w (keeping.further g k) (each-on hs k p) q)
 
-  pub take-goal-takes : (x : Sexp) (S : State) → Ready K S (S .made) → Ok (λ a U. Taken K S noCounts U) (takeGoal x S)
+  pub take-goal-takes : (x : Sexp) (S : State) → Ready K S (S .made) → Ok (λ a U. Posed K S U) (takeGoal x S)
   unfolding takeGoal
   take-goal-takes x S h =
       by-items 20 x S _ λ xs e. by-name 20 (item xs 0) S _ λ t e. by-found 20 (goalForm (t .bytes) (count xs)) S _ λ g e. goal-takes g xs S h
@@ -217,16 +227,16 @@ module _ {K : Kind} where
   result-takes : (xs : Sexps) (S : State) → Ready K S (S .made) → Ok (λ a U. Taken K S noCounts U) (result xs S)
   unfolding result
   result-takes xs S h =
-      go-on _ (by-name 50 (item xs 1) S _ λ n e. by-found 50 (goalNamed (S .goals) (n .bytes)) S _ λ k e. by-found 50 (entry (S .goals) k) S _ λ d e.
-      by-ask 50 (not (d .taken)) S _ λ e. by-making (reference S (item xs 2)) S _ (reference-keeps S (item xs 2) (S .made) h) λ r u e g p.
+      go-on _ (by-name 50 (item xs 1) S _ λ n e. by-found 50 (goalNamed (S .goals) (n .bytes)) S _ λ k e. by-found 50 (entry (S .goals) k) S _ λ d y.
+      by-ask 50 (not (d .taken)) S _ λ z. by-making (reference S (item xs 2)) S _ (reference-keeps S (item xs 2) (S .made) h) λ r u e g p.
       by-ask 51 (all (λ h. listed (d .hyps) (entry (S .facts) h)) (r .hyps)) _ _ λ e. by-ask 52 (sameTree (r .judgment) (d .judgment)) _ _ λ e.
-      go-on _ (fine (gotResult u k g)))
+      go-on _ (fine (gotResult u k d g y (not-true (d .taken) z))))
 
   -- The proof ---------------------------------------------------------------------------------------------------------------------
 
   perform-takes : (t : Tag) (xs : Sexps) (S : State) → Ready K S (S .made) → Ok (λ a U. Taken K S (counted t xs) U) (perform t xs S)
   unfolding perform counted
-  perform-takes aVar xs S h = add-var-takes 3 xs S
+  perform-takes aVar xs S h = add-var-takes 3 xs S (λ v l. newVar v l)
   perform-takes aDef xs S h = add-def-takes xs S h
   perform-takes aStep xs S h = from-still _ _ (next-still xs S) λ a e. add-step-takes xs S h
   perform-takes aHyp xs S h = from-still _ _ (next-still xs S) λ a e. add-hyp-takes xs S h

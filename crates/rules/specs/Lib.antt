@@ -37,3 +37,4 @@ pub mod RisingLaws
 pub mod ShapeLaws
 pub mod Tally
 pub mod FormLaws
+pub mod Appends
