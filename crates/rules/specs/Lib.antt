@@ -38,3 +38,5 @@ pub mod ShapeLaws
 pub mod Tally
 pub mod FormLaws
 pub mod Appends
+pub mod Reached
+pub mod MadeLaws
