@@ -39,3 +39,16 @@ pub mod SetLaws
 pub mod TreeLaws
 pub mod StoreLaws
 pub mod RowLaws
+pub mod Keeping
+pub mod MakingLaws
+pub mod StillLaws
+pub mod ReadLaws
+pub mod StepLaws
+pub mod CaseLaws
+pub mod RisingLaws
+pub mod ShapeLaws
+pub mod Tally
+pub mod FormLaws
+pub mod Appends
+pub mod Reached
+pub mod MadeLaws

@@ -1,0 +1,182 @@
+-- The made trees, in every state that a check reaches: no tree stands twice, the arguments of a tree stand before it, rows 8 and 9 hold, and
+-- the trees of abbreviations, goals and facts are among them. A store that kept a tree again, stored a term before its arguments, or a form
+-- that answered a tree which it never made, would not have this. Each action on made trees keeps it whether it answers or refuses: those laws
+-- are `keep-keeps`, `substitute-keeps`, `term-keeps`, `step-keeps` and so on, at the kind `sound`. Assumes nothing.
+use Prim.Native.Nat.{ℕ, zero, suc, _+_, _≤_, _<_}
+use mathlib.Core.Path.{_≡_, refl, subst, sym, _∙_}
+use mathlib.Core.Bool.{Bool, true, false, false≢true, true≢false}
+use mathlib.Core.Logic.{_⊎_, inl, inr}
+use mathlib.Core.List.{List, [], _∷_, _++_, append-assoc, append-nil}
+use native.Mathlib.Omega.{arith}
+use lib.ListN.{length, length-append}
+use Rattle.rules.specs.Limits.{TERMS, WORDS}
+use Rattle.rules.specs.Find.{change}
+use Rattle.rules.specs.Sexp.{Sexp}
+use Rattle.rules.specs.Tree.{Tree, Trees, var, app, none, more, sameTree, node}
+use Rattle.rules.specs.TreeLaws.{same-tree, same-self}
+use Rattle.rules.specs.Store.{Made, stored, words}
+use Rattle.rules.specs.Theory.{Theory}
+use Rattle.rules.specs.State.{State, Goal, Counts, begin}
+use Rattle.rules.specs.Proof.{takeGoal, takeForm, takenGoal}
+use Rattle.rules.specs.Check.{check}
+use Rattle.rules.specs.OutLaws.{Ok, weaken}
+use Rattle.rules.specs.TheoryLaws.{All, empty, both, all-snoc}
+use Rattle.rules.specs.Keeping.{Each, Arguments, Kind, Grows, each-map}
+use Rattle.rules.specs.ReadLaws.{FactIn, GoalIn, Ready, ready-on}
+use Rattle.rules.specs.FormLaws.{Posed, posedVar, posedGoal, Taken, newVar, newDef, newFact, gotResult, take-goal-takes, take-form-takes}
+use Rattle.rules.specs.Reached.{check-reaches}
+
+-- What is kept --------------------------------------------------------------------------------------------------------------------
+
+unfoldable pub In : Tree → Made → Type 0
+In t [] = ⊥
+In t (u ∷ m) = (t ≡ u) ⊎ In t m
+
+-- no tree twice
+unfoldable pub Distinct : Made → Type 0
+Distinct [] = Unit {0}
+Distinct (t ∷ m) = ¬ (In t m) × Distinct m
+
+-- behind the trees b: every tree's arguments stand before it
+unfoldable pub ClosedBehind : Made → Made → Type 0
+ClosedBehind b [] = Unit {0}
+ClosedBehind b (t ∷ m) = Arguments (λ u. In u b) t × ClosedBehind (b ++ (t ∷ [])) m
+
+abbrev pub Closed : Made → Type 0
+Closed m = ClosedBehind [] m
+
+pub record Sound (m : Made) : Type 0 where
+  pub distinct : Distinct m
+  pub closed : Closed m
+  pub row8 : length m ≤ TERMS
+  pub row9 : words m ≤ WORDS
+
+-- Membership ------------------------------------------------------------------------------------------------------------------------
+
+pub stored-in : (m : Made) (t : Tree) → stored m t ≡ true → In t m
+unfolding stored In
+stored-in [] t e = absurd (false≢true e)
+stored-in (u ∷ m) t e = go (sameTree u t) refl e (stored-in m t)
+  where
+    go : (b : Bool) → sameTree u t ≡ b → elim b [ true ↦ true | false ↦ stored m t ] ≡ true → (stored m t ≡ true → In t m) → (t ≡ u) ⊎ In t m
+    go true q e k = inl (sym (same-tree u t q))
+    go false q e k = inr (k e)
+
+pub in-stored : (m : Made) (t : Tree) → In t m → stored m t ≡ true
+unfolding stored In
+in-stored [] t i = absurd i
+in-stored (u ∷ m) t (inl e) = rw (e, stored, same-self u)
+in-stored (u ∷ m) t (inr i) = go (sameTree u t) (in-stored m t i)
+  where
+    go : (b : Bool) → stored m t ≡ true → elim b [ true ↦ true | false ↦ stored m t ] ≡ true
+    go true e = refl
+    go false e = e
+
+pub in-front : (m n : Made) (t : Tree) → In t m → In t (m ++ n)
+unfolding In
+in-front [] n t i = absurd i
+in-front (u ∷ m) n t (inl e) = inl e
+in-front (u ∷ m) n t (inr i) = inr (in-front m n t i)
+
+pub in-last : (m : Made) (t : Tree) → In t (m ++ (t ∷ []))
+unfolding In
+in-last [] t = inl refl
+in-last (u ∷ m) t = inr (in-last m t)
+
+in-snoc : (m : Made) (u t : Tree) → In t (m ++ (u ∷ [])) → In t m ⊎ (t ≡ u)
+unfolding In
+in-snoc [] u t (inl e) = inr e
+in-snoc [] u t (inr i) = absurd i
+in-snoc (v ∷ m) u t (inl e) = inl (inl e)
+in-snoc (v ∷ m) u t (inr i) = elim (in-snoc m u t i) [ inl j ↦ inl (inr j) | inr e ↦ inr e ]
+
+-- One tree more -----------------------------------------------------------------------------------------------------------------------
+
+pub distinct-snoc : (m : Made) (t : Tree) → Distinct m → ¬ (In t m) → Distinct (m ++ (t ∷ []))
+unfolding Distinct In
+distinct-snoc [] t d n = (λ i. i, tt)
+distinct-snoc (u ∷ m) t d n =
+    (λ i. elim (in-snoc m t u i) [ inl j ↦ d .0 j | inr e ↦ n (inl (sym e)) ], distinct-snoc m t (d .1) (λ i. n (inr i)))
+
+pub closed-snoc : (b m : Made) (t : Tree) → ClosedBehind b m → Arguments (λ u. In u (b ++ m)) t → ClosedBehind b (m ++ (t ∷ []))
+unfolding ClosedBehind
+closed-snoc b [] t c a = (subst (λ l. Arguments (λ u. In u l) t) (append-nil b) a, tt)
+closed-snoc b (u ∷ m) t c a = (c .0, closed-snoc (b ++ (u ∷ [])) m t (c .1) (subst (λ l. Arguments (λ u. In u l) t) (sym (append-assoc b (u ∷ []) m)) a))
+
+arguments-each : (P : Tree → Type 0) (c : ℕ) (ts : Trees) → Arguments P (app c ts) → Each P ts
+unfolding Arguments
+arguments-each P c ts a = a
+
+pub closed-below : (b m : Made) (c : ℕ) (ts : Trees) → ClosedBehind b m → In (app c ts) m → Each (λ u. In u (b ++ m)) ts
+unfolding ClosedBehind In
+closed-below b [] c ts k i = absurd i
+closed-below b (t ∷ m) c ts k (inl e) =
+    each-map (λ u. In u b) (λ u. In u (b ++ (t ∷ m))) (λ u i. in-front b (t ∷ m) u i) ts
+      (arguments-each (λ u. In u b) c ts (subst (Arguments (λ u. In u b)) (sym e) (k .0)))
+closed-below b (t ∷ m) c ts k (inr i) = subst (λ l. Each (λ u. In u l) ts) (append-assoc b (t ∷ []) m) (closed-below (b ++ (t ∷ [])) m c ts (k .1) i)
+
+pub words-snoc : (m : Made) (t : Tree) → words (m ++ (t ∷ [])) ≡ words m + node t
+unfolding words
+words-snoc [] t = omega arith
+words-snoc (u ∷ m) t = let e = words-snoc m t in omega arith
+
+pub not-stored : (m : Made) (t : Tree) → stored m t ≡ false → ¬ (In t m)
+not-stored m t e i = true≢false (sym (in-stored m t i) ∙ e)
+
+unfoldable pub sound : Kind
+sound = record {
+  Good = Sound;
+  Has = λ m t. In t m;
+  there = stored-in;
+  added = λ m t g a e l w. record {
+    distinct = distinct-snoc m t (g .distinct) (not-stored m t e);
+    closed = closed-snoc [] m t (g .closed) a;
+    row8 = omega (arith, length-append m (t ∷ []));
+    row9 = omega (arith, words-snoc m t) };
+  last = in-last;
+  longer = in-front;
+  below = λ m c ts g i. closed-below [] m c ts (g .closed) i }
+
+-- Reached states --------------------------------------------------------------------------------------------------------------------
+
+change-all : {P : Goal → Type 0} (gs : List Goal) (k : ℕ) → ((g : Goal) → P g → P (takenGoal g)) → All P gs → All P (change gs k takenGoal)
+unfolding change
+change-all [] k h a = empty
+change-all (g ∷ gs) zero h (both p a) = both (h g p) a
+change-all (g ∷ gs) (suc k) h (both p a) = both p (change-all gs k h a)
+
+module _ {K : Kind} where
+  pub posed-ready : {S U : State} → Ready K S (S .made) → Posed K S U → Ready K U (U .made)
+  posed-ready h (posedVar v l) = record { good = h .good; defs = h .defs; goals = h .goals; facts = h .facts }
+  posed-ready h (posedGoal m g k i l r) =
+      let w = ready-on h k in record { good = w .good; defs = w .defs; goals = all-snoc (w .goals) i; facts = w .facts }
+
+  pub taken-ready : {S U : State} {c : Counts} → Ready K S (S .made) → Taken K S c U → Ready K U (U .made)
+  taken-ready h (newVar v l) = record { good = h .good; defs = h .defs; goals = h .goals; facts = h .facts }
+  taken-ready h (newDef m d g p l) =
+      let w = ready-on h g in record { good = w .good; defs = all-snoc (w .defs) p; goals = w .goals; facts = w .facts }
+  taken-ready h (newFact vs m f c l g p n k r) =
+      let w = ready-on h g in record { good = w .good; defs = w .defs; goals = w .goals; facts = all-snoc (w .facts) p }
+  taken-ready {S} h (gotResult m k d g e t) =
+      let w = ready-on h g in
+      record { good = w .good; defs = w .defs; facts = w .facts;
+        goals = change-all (S .goals) k (λ x p. record { judgment = p .judgment; hyps = p .hyps }) (w .goals) }
+
+-- at the beginning nothing is made
+begins-sound : (T : Theory) → Ready sound (begin T) []
+unfolding sound Distinct ClosedBehind words
+begins-sound T = record { good = record { distinct = tt; closed = tt; row8 = omega arith; row9 = omega arith }; defs = empty; goals = empty; facts = empty }
+
+pub take-goal-sound : (x : Sexp) (S : State) → Ready sound S (S .made) → Ok (λ a U. Ready sound U (U .made)) (takeGoal x S)
+take-goal-sound x S h = weaken (take-goal-takes x S h) (λ a U p. posed-ready h p)
+
+pub take-form-sound : (x : Sexp) (S : State) → Ready sound S (S .made) → Ok (λ a U. Ready sound U (U .made)) (takeForm x S)
+take-form-sound x S h = weaken (take-form-takes x S h) (λ a U p. taken-ready h p)
+
+pub check-sound : (t g f : List ℕ) → Ready sound (check t g f .state) (check t g f .state .made)
+check-sound = check-reaches (λ S. Ready sound S (S .made)) begins-sound take-goal-sound take-form-sound
+
+-- no tree twice, arguments first, rows 8 and 9
+pub made-sound : (t g f : List ℕ) → Sound (check t g f .state .made)
+unfolding sound
+made-sound t g f = check-sound t g f .good
