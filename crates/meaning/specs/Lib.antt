@@ -1,2 +1,10 @@
 pub mod Tree
 pub mod TreeTests
+pub mod Signature
+pub mod Derivation
+pub mod Truth
+pub mod Sound
+pub mod Steps
+pub mod Applies
+pub mod Replace
+pub mod Inducts
