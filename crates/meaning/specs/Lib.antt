@@ -8,3 +8,4 @@ pub mod Steps
 pub mod Applies
 pub mod Replace
 pub mod Inducts
+pub mod Inverts
