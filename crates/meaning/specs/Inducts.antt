@@ -21,10 +21,10 @@ unfoldable pub Motive : Trees → Tree → ℕ → Type 0
 Motive P J v = Occ v J ⊎ Occs v P
 
 -- t with u for x
-unfoldable pub at : ℕ → Tree → Tree → Tree
+abbrev pub at : ℕ → Tree → Tree → Tree
 at x u t = sub (single x u) t
 
-unfoldable pub ats : ℕ → Tree → Trees → Trees
+abbrev pub ats : ℕ → Tree → Trees → Trees
 ats x u ts = subs (single x u) ts
 
 -- y is a case variable of x's sort, so that there is an induction hypothesis for it
@@ -105,7 +105,7 @@ module _ (T : Theory) (vs : ℕ → ℕ) (R : ℕ → Type 0) (x : ℕ) (P : Tre
 
     ih-holds : (h : Fact) → ((v : ℕ) → In v (h .general) → Motive P J v × ¬ (v ≡ x)) → (y : ℕ) → Below vs x (k .ys) y
         → h .premises ≡ ats x (var y) P → h .judgment ≡ at x (var y) J → Holds T vs R inner h
-    unfolding Holds Mentions Motive Below at ats sub Occ
+    unfolding Holds Mentions Motive Below sub Occ
     ih-holds h gen y b hp hj ε vary ds =
         subst (λ u. Der T R u) (sym (sub-sub ε (single x (var y)) J) ∙ ap (sub ε) (sym hj))
           (ih (inner y) (here .0) (subst (λ s. Value (sig T) (inner y) s) (b .1) (here .1)) outer at-x good′
@@ -139,7 +139,7 @@ module _ (T : Theory) (vs : ℕ → ℕ) (R : ℕ → Type 0) (x : ℕ) (P : Tre
                   (sym (vary .same v (mention v v m (subst (λ u. Occ v u) (sym (p .1)) refl)) n ∙ keep v m)) (good v m))
 
     hyp-holds : (h : Fact) → CaseHyp vs x P J c (k .ys) h → Holds T vs R inner h
-    unfolding Plain In Motive ats sub
+    unfolding Plain In Motive sub
     hyp-holds h (premise p i) =
         plain-holds T vs R h inner (p .0)
           (ders-in T R (subs δ P) (sub inner (h .judgment)) ders
@@ -153,7 +153,7 @@ module _ (T : Theory) (vs : ℕ → ℕ) (R : ℕ → Type 0) (x : ℕ) (P : Tre
 
     -- the variables of a case's hypotheses have values
     hyp-valued : (h : Fact) → CaseHyp vs x P J c (k .ys) h → (v : ℕ) → Mentions v h → Value (sig T) (inner v) (vs v)
-    unfolding Plain Motive Mentions Below Occ at ats sub
+    unfolding Plain Motive Mentions Below Occ sub
     hyp-valued h (premise p i) v (inl o) =
         let r = subs-occs (single x whole) P v (among-occ (h .judgment) (ats x whole P) v i o) in valued (r .0) v (inr (r .1)) (r .2)
     hyp-valued h (premise p i) v (inr o) = absurd (subst (λ us. Occs v us) (p .1) o)
@@ -166,7 +166,7 @@ module _ (T : Theory) (vs : ℕ → ℕ) (R : ℕ → Type 0) (x : ℕ) (P : Tre
         let r = subs-occs (single x (var y)) P v (subst (λ us. Occs v us) p o) in valued-y y (b .0) (r .0) v (inr (r .1)) (r .2)
 
     at-node : Der T R (sub δ J)
-    unfolding Entails Gives Needs Free at Motive
+    unfolding Entails Gives Needs Free Motive
     at-node =
         subst (λ u. Der T R u)
           (sub-sub inner (single x whole) J ∙ sub-ext (λ v. sub inner (single x whole v)) δ J (λ v o. through v (inl o)))

@@ -9,3 +9,5 @@ pub mod Applies
 pub mod Replace
 pub mod Inducts
 pub mod Inverts
+pub mod Forms
+pub mod Run
