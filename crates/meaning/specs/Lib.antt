@@ -1,5 +1,7 @@
 pub mod Tree
 pub mod TreeTests
+pub mod UnifyActs
+pub mod UnifyList
 pub mod Signature
 pub mod Derivation
 pub mod Truth
