@@ -13,3 +13,6 @@ pub mod Inducts
 pub mod Inverts
 pub mod Forms
 pub mod Run
+pub mod Asked
+pub mod Well
+pub mod BridgeRead
