@@ -16,3 +16,4 @@ pub mod Run
 pub mod Asked
 pub mod Well
 pub mod BridgeRead
+pub mod Matching
