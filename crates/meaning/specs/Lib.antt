@@ -2,6 +2,11 @@ pub mod Tree
 pub mod TreeTests
 pub mod UnifyActs
 pub mod UnifyList
+pub mod UnifyPairs
+pub mod UnifyPeel
+pub mod UnifySolve
+pub mod UnifyRight
+pub mod UnifyRoom
 pub mod Signature
 pub mod Derivation
 pub mod Truth

@@ -3,12 +3,13 @@
 use mathlib.Core.Path.{_≡_, refl, sym, _∙_, ap, ap₂, subst}
 use mathlib.Core.Logic.{_⊎_, inl, inr}
 use mathlib.Core.Bool.{Bool, true, false}
-use Prim.Native.Nat.{ℕ, zero, suc}
+use Prim.Native.Nat.{ℕ}
 use native.Mathlib.Omega.{arith}
 use native.Mathlib.Decide.{ℕ-discrete}
 use lib.Dec.{eqb}
-use borrow.Author.Tests.{eqb-true, eqb-false, eq-eqb, ne-eqb}
-use Rattle.rules.specs.Tree.{Tree, Trees, var, app, none, more, sameTree, sameTrees, sub, subs, single, variables, variablesOf, isOpen, areOpen, among}
+use borrow.Author.Tests.{eqb-true, eq-eqb, ne-eqb}
+use Rattle.rules.specs.Tree.{Tree, Trees, var, app, none, more, sameTree, sameTrees, sub, single, variables, variablesOf, isOpen, areOpen}
+use Rattle.rules.specs.Tree.{among}
 use Rattle.meaning.specs.Tree.{Occ, Occs, Ground, Grounds, Among, sub-ext, sub-var, ground-occ, grounds-occs}
 
 -- Tests in a row ----------------------------------------------------------------------------------------------------------------

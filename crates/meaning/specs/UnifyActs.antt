@@ -4,13 +4,13 @@
 use mathlib.Core.Path.{_≡_, refl, sym, _∙_, ap, ap₂, subst}
 use mathlib.Core.Logic.{_⊎_, inl, inr}
 use mathlib.Core.Bool.{Bool, true, false}
-use mathlib.Core.List.{List, [], _∷_, _++_, append-assoc, append-nil}
-use Prim.Native.Nat.{ℕ, zero, suc, _+_}
+use mathlib.Core.List.{[], _∷_, _++_, append-assoc, append-nil}
+use Prim.Native.Nat.{ℕ, _+_}
 use native.Mathlib.Omega.{arith}
 use lib.Dec.{leb, ltb}
 use lib.ListN.{length}
 use Rattle.rules.specs.Limits.{TERMS, WORDS}
-use Rattle.rules.specs.Out.{Out, ok, refuse, then, Act, room}
+use Rattle.rules.specs.Out.{Out, ok, refuse, then, room}
 use Rattle.rules.specs.Tree.{Tree, Trees, var, app, none, more, sub, subs, node}
 use Rattle.rules.specs.Store.{Made, stored, words, keep, make, makes, substitute, substitutes}
 
@@ -95,31 +95,30 @@ of-grows-refuse (fits g) e = let z : _≡_ {A = ℕ} 0 1 = cc in absurd (omega a
 unfoldable pub StoreRow : ℕ → Type 0
 StoreRow d = (d ≡ 8) ⊎ (d ≡ 9)
 
-pub keep-ok : (t : Tree) (m : Made) → Ok (λ u. u ≡ t) (keep t m)
+-- the four ways in which `keep` ends
+keep-by : (t : Tree) (m : Made) (Q : Out Made Tree → Type 0) → Q (ok t m) → Q (ok t (m ++ (t ∷ []))) → Q (refuse 60 8 m)
+    → Q (refuse 60 9 m) → Q (keep t m)
 unfolding keep
-keep-ok t m = go (stored m t) (ltb (length m) TERMS) (leb (words m + node t) WORDS)
+keep-by t m Q there new terms-full words-full = go (stored m t) (ltb (length m) TERMS) (leb (words m + node t) WORDS)
   where
-    go : (a b c : Bool) → Ok {S = Made} (λ u. u ≡ t)
-        (elim a
-        [ true ↦ ok t m
-        | false ↦ elim b [ true ↦ elim c [ true ↦ ok t (m ++ (t ∷ [])) | false ↦ refuse 60 9 m ] | false ↦ refuse 60 8 m ] ])
-    go true b c = done refl
-    go false true true = done refl
-    go false true false = stopped
-    go false false c = stopped
+    go : (a b c : Bool)
+        → Q (elim a [
+          | true ↦ ok t m
+          | false ↦ elim b [ true ↦ elim c [ true ↦ ok t (m ++ (t ∷ [])) | false ↦ refuse 60 9 m ] | false ↦ refuse 60 8 m ]
+        ])
+    go true b c = there
+    go false true true = new
+    go false true false = words-full
+    go false false c = terms-full
+
+pub keep-ok : (t : Tree) (m : Made) → Ok (λ u. u ≡ t) (keep t m)
+keep-ok t m = keep-by t m (Ok (λ u. u ≡ t)) (done refl) (done refl) stopped stopped
 
 pub keep-grows : (t : Tree) (m : Made) → Grows StoreRow m (keep t m)
-unfolding keep StoreRow
-keep-grows t m = go (stored m t) (ltb (length m) TERMS) (leb (words m + node t) WORDS)
-  where
-    go : (a b c : Bool) → Grows StoreRow {A = Tree} m
-        (elim a
-        [ true ↦ ok t m
-        | false ↦ elim b [ true ↦ elim c [ true ↦ ok t (m ++ (t ∷ [])) | false ↦ refuse 60 9 m ] | false ↦ refuse 60 8 m ] ])
-    go true b c = grows-pure
-    go false true true = fits (record { new = t ∷ []; grew = refl })
-    go false true false = full (inr refl) grown-refl
-    go false false c = full (inl refl) grown-refl
+unfolding StoreRow
+keep-grows t m =
+    keep-by t m (λ o. Grows StoreRow m o) grows-pure (fits (record { new = t ∷ []; grew = refl })) (full (inl refl) grown-refl)
+    (full (inr refl) grown-refl)
 
 -- what is made is the tree itself
 pub make-ok : (t : Tree) (m : Made) → Ok (λ u. u ≡ t) (make t m)
@@ -134,6 +133,7 @@ makes-ok (more t ts) m = ok-then (ok-any (make t m)) (λ _ m′ _. ok-then (ok-a
 
 mutual
   unfolding make
+
   pub make-grows : (t : Tree) (m : Made) → Grows StoreRow m (make t m)
   make-grows (var v) m = keep-grows (var v) m
   make-grows (app c ts) m = grows-then (makes-grows ts m) (λ _ m′. keep-grows (app c ts) m′)

@@ -4,17 +4,16 @@ use mathlib.Core.Path.{_≡_, refl, sym, _∙_, ap, ap₂, subst}
 use mathlib.Core.Logic.{_⊎_, inl, inr}
 use mathlib.Core.Bool.{Bool, true, false}
 use mathlib.Core.List.{List, [], _∷_}
-use Prim.Native.Nat.{ℕ, zero, suc, _+_, _≤_, _<_}
+use Prim.Native.Nat.{ℕ, suc, _+_, _≤_, _<_}
 use native.Mathlib.Omega.{arith}
 use native.Mathlib.Decide.{ℕ-discrete}
-use lib.Dec.{eqb, ltb}
+use lib.Dec.{ltb}
 use lib.ListN.{length}
-use borrow.Author.Tests.{eqb-true, eqb-false, eq-eqb, ne-eqb, ltb-true, ltb-false}
-use Rattle.rules.specs.Out.{Out, ok, refuse, then, Act}
-use Rattle.rules.specs.Tree.{Tree, Trees, var, app, none, more, sub, subs, single}
-use Rattle.rules.specs.Store.{Made, substitute}
+use borrow.Author.Tests.{eq-eqb, ne-eqb, ltb-true, ltb-false}
+use Rattle.rules.specs.Tree.{Tree, var, sub, single}
+use Rattle.rules.specs.Store.{Made}
 use Rattle.rules.specs.Unify.{Binding, along, insert, replace}
-use Rattle.meaning.specs.Tree.{Occ, Occs, sub-occ}
+use Rattle.meaning.specs.Tree.{Occ, sub-ext, sub-var, sub-occ}
 use Rattle.meaning.specs.TreeTests.{single-cases, single-same, single-other}
 use Rattle.meaning.specs.UnifyActs.{Ok, done, ok-then, substitute-ok, Grows, grows-then, grows-pure, StoreRow, substitute-grows}
 
@@ -78,6 +77,11 @@ settled-sub θ s t v o = let r = sub-occ (along θ) t v o in go (r .0) (r .2) (a
     go w ow (inl p) = p .1 v ow
     go w ow (inr p) = subst (λ z. ¬ (Bound z θ)) (sym (subst (λ z. Occ v z) (p .1) ow)) (p .0)
 
+-- nothing is left to replace: a settled replacement applied twice does what it does once
+pub settled-still : (θ : List Binding) → Settled θ → (t : Tree) → sub (along θ) (sub (along θ) t) ≡ sub (along θ) t
+settled-still θ s t =
+    sub-ext (along θ) var (sub (along θ) t) (λ w o. along-unbound θ w (settled-sub θ s t w o)) ∙ sub-var (sub (along θ) t)
+
 -- no more bindings than variables
 pub rises-length : (k n : ℕ) (θ : List Binding) → Rises k θ → Each (λ v t. v < n) θ → k ≤ n → k + length θ ≤ n
 unfolding Rises Each
@@ -102,7 +106,7 @@ unfolding replace replaced
 replace-ok x u [] m = done refl
 replace-ok x u (b ∷ θ) m =
     ok-then (substitute-ok (single x u) (b .value) m)
-      (λ t m′ p. ok-then (replace-ok x u θ m′) (λ ζ m″ q. done (ap₂ (λ z ζ′. record { variable = b .variable; value = z } ∷ ζ′) p q)))
+    (λ t m′ p. ok-then (replace-ok x u θ m′) (λ ζ m″ q. done (ap₂ (λ z ζ′. record { variable = b .variable; value = z } ∷ ζ′) p q)))
 
 pub replace-grows : (x : ℕ) (u : Tree) (θ : List Binding) (m : Made) → Grows StoreRow m (replace x u θ m)
 unfolding replace
@@ -175,7 +179,7 @@ module _ (b : Binding) where
   length-insert : (θ : List Binding) → length (insert b θ) ≡ suc (length θ)
   length-insert θ = insert-by b (λ ξ ζ. length ζ ≡ suc (length ξ)) refl (λ c ξ l. refl) (λ c ξ ζ l h. ap suc h) θ
 
-  each-insert : (P : ℕ → Tree → Type 0) (θ : List Binding) → P (b .variable) (b .value) → Each P θ → Each P (insert b θ)
+  pub each-insert : (P : ℕ → Tree → Type 0) (θ : List Binding) → P (b .variable) (b .value) → Each P θ → Each P (insert b θ)
   unfolding Each
   each-insert P θ p e = insert-by b (λ ξ ζ. Each P ξ → Each P ζ) (λ _. (p, tt)) (λ c ξ l h. (p, h)) (λ c ξ ζ l f h. (h .0, f (h .1))) θ e
 
@@ -183,18 +187,18 @@ module _ (b : Binding) where
   unfolding Bound
   bound-insert v θ i =
       insert-by b (λ ξ ζ. Bound v ζ → (v ≡ b .variable) ⊎ Bound v ξ) (λ j. j) (λ c ξ l j. j)
-        (λ c ξ ζ l f j. elim j [ inl p ↦ inr (inl p) | inr k ↦ elim (f k) [ inl p ↦ inl p | inr q ↦ inr (inr q) ] ]) θ i
+      (λ c ξ ζ l f j. elim j [ inl p ↦ inr (inl p) | inr k ↦ elim (f k) [ inl p ↦ inl p | inr q ↦ inr (inr q) ] ]) θ i
 
   rises-insert : (k : ℕ) (θ : List Binding) → k ≤ b .variable → ¬ (Bound (b .variable) θ) → Rises k θ → Rises k (insert b θ)
   unfolding Rises Bound
   rises-insert k θ l n r =
       insert-by b (λ ξ ζ. (k : ℕ) → k ≤ b .variable → ¬ (Bound (b .variable) ξ) → Rises k ξ → Rises k ζ)
-        (λ k l n r. (l, tt))
-        (λ c ξ o k l n r. (l, (o, r .1)))
-        (λ c ξ ζ o f k l n r.
-          let d : c .variable < b .variable = differs (c .variable) o (λ p. n (inl p)) in
-          (r .0, f (suc (c .variable)) d (λ i. n (inr i)) (r .1)))
-        θ k l n r
+      (λ k l n r. (l, tt))
+      (λ c ξ o k l n r. (l, (o, r .1)))
+      (λ c ξ ζ o f k l n r.
+      let d : c .variable < b .variable = differs (c .variable) o (λ p. n (inl p)) in
+      (r .0, f (suc (c .variable)) d (λ i. n (inr i)) (r .1)))
+      θ k l n r
     where
       differs : (c : ℕ) → c ≤ b .variable → ¬ (b .variable ≡ c) → c < b .variable
       differs c o q = elim (ℕ-discrete (b .variable) c) [ yes p ↦ absurd (q p) | no p ↦ omega arith ]
@@ -203,15 +207,15 @@ module _ (b : Binding) where
   unfolding Bound
   along-insert-same θ n =
       insert-by b (λ ξ ζ. ¬ (Bound (b .variable) ξ) → along ζ (b .variable) ≡ b .value) (λ _. along-head b [] (b .variable) refl)
-        (λ c ξ l m. along-head b (c ∷ ξ) (b .variable) refl)
-        (λ c ξ ζ l f m. along-tail c ζ (b .variable) (λ p. m (inl p)) ∙ f (λ i. m (inr i)))
-        θ n
+      (λ c ξ l m. along-head b (c ∷ ξ) (b .variable) refl)
+      (λ c ξ ζ l f m. along-tail c ζ (b .variable) (λ p. m (inl p)) ∙ f (λ i. m (inr i)))
+      θ n
 
   along-insert-other : (θ : List Binding) (v : ℕ) → ¬ (v ≡ b .variable) → along (insert b θ) v ≡ along θ v
   along-insert-other θ v n =
       insert-by b (λ ξ ζ. along ζ v ≡ along ξ v) (along-tail b [] v n) (λ c ξ l. along-tail b (c ∷ ξ) v n)
-        (λ c ξ ζ l h. go c ξ ζ (ℕ-discrete v (c .variable)) h)
-        θ
+      (λ c ξ ζ l h. go c ξ ζ (ℕ-discrete v (c .variable)) h)
+      θ
     where
       go : (c : Binding) (ξ ζ : List Binding) → Dec (v ≡ c .variable) → along ζ v ≡ along ξ v → along (c ∷ ζ) v ≡ along (c ∷ ξ) v
       go c ξ ζ (yes p) h = along-head c ζ v p ∙ sym (along-head c ξ v p)
@@ -257,16 +261,16 @@ module _ (x : ℕ) (u : Tree) (θ : List Binding) (new : ¬ (Bound x θ)) where
   pub bound-extended : (v : ℕ) → Bound v (extended x u θ) → (v ≡ x) ⊎ Bound v θ
   unfolding extended
   bound-extended v i = elim (bound-insert (record { variable = x; value = u }) v (replaced x u θ) i) [
-      inl p ↦ inl p
+    | inl p ↦ inl p
     | inr j ↦ inr (bound-replaced x u θ v j)
-    ]
+  ]
 
   -- u has neither x nor a bound variable: then no value has
   pub settled-extended : Settled θ → ¬ (Occ x u) → ((w : ℕ) → Occ w u → ¬ (Bound w θ)) → Settled (extended x u θ)
   unfolding Settled Occ
   settled-extended s absent free =
       each-extended (λ v t. (w : ℕ) → Occ w t → ¬ (Bound w θ)) (λ v t. (w : ℕ) → Occ w t → ¬ (Bound w (extended x u θ)))
-        in-u (λ v t h w o. in-value t h w (sub-occ (single x u) t w o)) s
+      in-u (λ v t h w o. in-value t h w (sub-occ (single x u) t w o)) s
     where
       apart : (w : ℕ) → ¬ (w ≡ x) → ¬ (Bound w θ) → ¬ (Bound w (extended x u θ))
       apart w n f i = elim (bound-extended w i) [ inl p ↦ n p | inr j ↦ f j ]
