@@ -20,6 +20,7 @@ use Rattle.meaning.specs.Tree.{In}
 use Rattle.meaning.specs.TreeTests.{true-false}
 use Rattle.meaning.specs.UnifyActs.{Ok, done, stopped, ok-then, ok-any}
 use Rattle.meaning.specs.Truth.{At}
+use Rattle.meaning.specs.Named.{Points}
 
 -- Tests ---------------------------------------------------------------------------------------------------------------------------
 
@@ -63,6 +64,11 @@ pub ok-found : {S A : Type 0} (n : ℕ) (o : Option A) (s : S) → Ok (λ a. o �
 ok-found n (some a) s = done refl
 ok-found n nothing s = stopped
 
+-- the answer is the one that was given
+pub ok-self : {S A : Type 0} (o : Out S A) → Ok (λ a. (s : S) × (o ≡ ok a s)) o
+ok-self (ok a s) = done (s, refl)
+ok-self (refuse n d s) = stopped
+
 -- more is said of an answer than is used
 pub ok-map : {S A : Type 0} {P Q : A → Type 0} {o : Out S A} → ((a : A) → P a → Q a) → Ok P o → Ok Q o
 ok-map f (done {a} p) = done (f a p)
@@ -87,11 +93,7 @@ unfolding items
 ok-items n (atom p bs) s = stopped
 ok-items n (list xs) s = done refl
 
--- the atom reads as the index i
-unfoldable pub Points : Sexp → ℕ → Type 0
-Points (atom p bs) i = indexOf bs ≡ some i
-Points (list xs) i = ⊥
-
+-- an index that was read stands there
 pub ok-index : {S : Type 0} (n : ℕ) (x : Sexp) (s : S) → Ok (λ i. Points x i) (index n x s)
 unfolding index name Points then
 ok-index n (atom p bs) s = ok-found n (indexOf bs) s

@@ -18,7 +18,9 @@ pub mod Inducts
 pub mod Inverts
 pub mod Forms
 pub mod Run
+pub mod Named
 pub mod Asked
 pub mod Well
 pub mod BridgeRead
 pub mod Matching
+pub mod BridgeRefs
