@@ -24,3 +24,4 @@ pub mod Well
 pub mod BridgeRead
 pub mod Matching
 pub mod BridgeRefs
+pub mod BridgeStep
