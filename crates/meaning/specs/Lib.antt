@@ -25,3 +25,4 @@ pub mod BridgeRead
 pub mod Matching
 pub mod BridgeRefs
 pub mod BridgeStep
+pub mod BridgeApply
