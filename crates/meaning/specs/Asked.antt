@@ -134,6 +134,13 @@ at-entry [] i f a = absurd a
 at-entry (g ∷ fs) zero f a = ap some a
 at-entry (g ∷ fs) (suc i) f a = at-entry fs i f a
 
+-- a place has one fact
+pub at-unique : (fs : List Fact) (i : ℕ) (f g : Fact) → At fs i f → At fs i g → f ≡ g
+unfolding At
+at-unique [] i f g a b = absurd a
+at-unique (e ∷ fs) zero f g a b = sym a ∙ b
+at-unique (e ∷ fs) (suc i) f g a b = at-unique fs i f g a b
+
 pub at-below : (fs : List Fact) (i : ℕ) (f : Fact) → At fs i f → i < length fs
 unfolding At
 at-below [] i f a = absurd a

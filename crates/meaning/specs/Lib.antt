@@ -26,3 +26,4 @@ pub mod Matching
 pub mod BridgeRefs
 pub mod BridgeStep
 pub mod BridgeApply
+pub mod BridgeInduct
