@@ -27,3 +27,4 @@ pub mod BridgeRefs
 pub mod BridgeStep
 pub mod BridgeApply
 pub mod BridgeInduct
+pub mod BridgeCase
