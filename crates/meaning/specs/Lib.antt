@@ -28,3 +28,4 @@ pub mod BridgeStep
 pub mod BridgeApply
 pub mod BridgeInduct
 pub mod BridgeCase
+pub mod BridgeInvert

@@ -7,11 +7,11 @@ use mathlib.Core.Path.{_≡_, refl, sym, _∙_, ap, subst}
 use mathlib.Core.Logic.{_⊎_, inl, inr}
 use mathlib.Core.Bool.{Bool, true, false}
 use mathlib.Core.Option.{Option, some}
-use mathlib.Core.List.{List, [], _∷_}
-use lib.ListN.{length}
+use mathlib.Core.List.{List, [], _∷_, _++_, append-assoc, append-nil}
+use lib.ListN.{length, getD, length-append, List·getD-append}
 use Rattle.rules.specs.Tree.{Tree, Trees, var, app, none, more, sub, subs}
 use Rattle.rules.specs.Theory.{Theory, Rule, rule}
-use Rattle.rules.specs.State.{State, Fact, Var, sortOfVar, sortOf, abbreviated}
+use Rattle.rules.specs.State.{State, Fact, Var, noVar, sortOfVar, sortOf, abbreviated}
 use Rattle.meaning.specs.Tree.{Occ, Occs, Sig, Sorted, In, Among, sorted-sub, sub-sorted, sub-occ, subs-occs, occ-sub}
 use Rattle.meaning.specs.Signature.{sig, PROP, arity, ruleSort}
 use Rattle.meaning.specs.Truth.{At}
@@ -67,6 +67,10 @@ pub record WellFact (T : Theory) (vs : ℕ → ℕ) (n m : ℕ) (f : Fact) : Typ
 unfoldable pub Agree : (ℕ → ℕ) → List Var → Type 0
 Agree vs xs = (v : ℕ) → v < length xs → sortOfVar xs v ≡ vs v
 
+-- variables were added at the end
+unfoldable pub Extends : List Var → List Var → Type 0
+Extends xs ys = (zs : List Var) × (ys ≡ xs ++ zs)
+
 pub record Well (S : State) (vs : ℕ → ℕ) : Type 0 where
   pub rules : WellTheory (S .theory)
   pub agree : Agree vs (S .vars)
@@ -75,6 +79,29 @@ pub record Well (S : State) (vs : ℕ → ℕ) : Type 0 where
   pub facts : (i : ℕ) (f : Fact) → At (S .facts) i f → WellFact (S .theory) vs (length (S .vars)) (length (S .facts)) f
 
 -- Laws ----------------------------------------------------------------------------------------------------------------------------
+
+pub extends-same : (xs : List Var) → Extends xs xs
+unfolding Extends
+extends-same xs = ([], sym (append-nil xs))
+
+pub extends-one : (xs : List Var) (x : Var) → Extends xs (xs ++ (x ∷ []))
+unfolding Extends
+extends-one xs x = (x ∷ [], refl)
+
+pub extends-both : (xs ys zs : List Var) → Extends xs ys → Extends ys zs → Extends xs zs
+unfolding Extends
+extends-both xs ys zs (a, p) (b, q) = (a ++ b, q ∙ (ap (λ l. l ++ b) p ∙ append-assoc xs a b))
+
+pub extends-length : (xs ys : List Var) → Extends xs ys → length xs ≤ length ys
+unfolding Extends
+extends-length xs ys (zs, p) = let q = ap (λ l. length l) p ∙ length-append xs zs in omega arith
+
+-- sorts that agree with more variables agree with fewer
+pub agree-extends : (vs : ℕ → ℕ) (xs ys : List Var) → Extends xs ys → Agree vs ys → Agree vs xs
+unfolding Extends Agree sortOfVar
+agree-extends vs xs ys (zs, p) a v l =
+    sym (ap (λ (z : Var). z .sort) (ap (λ (k : List Var). getD k v noVar) p ∙ List·getD-append xs zs noVar v l))
+    ∙ a v (let q = ap (λ k. length k) p ∙ length-append xs zs in omega arith)
 
 pub app-sub : (σ : ℕ → Tree) (t : Tree) → IsApp t → IsApp (sub σ t)
 unfolding IsApp sub
