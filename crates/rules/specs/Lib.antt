@@ -1,8 +1,11 @@
 pub mod Limits
 pub mod Out
 pub mod Text
+pub mod TextLaws
 pub mod Lex
+pub mod LexLaws
 pub mod Sexp
+pub mod SexpLaws
 pub mod Find
 pub mod Index
 pub mod Tags
@@ -23,3 +26,12 @@ pub mod Invert
 pub mod Proof
 pub mod Check
 pub mod Run
+pub mod OutLaws
+pub mod FindLaws
+pub mod TheoryLaws
+pub mod PatternLaws
+pub mod DeclareLaws
+pub mod TheoryTables
+pub mod StateTables
+pub mod Examples
+pub mod Slips
