@@ -22,5 +22,3 @@ pub mod Asked
 pub mod Well
 pub mod BridgeRead
 pub mod Matching
-pub mod UnifyRoom
-pub mod UnifyRight
