@@ -1,6 +1,6 @@
 -- How a property of what is answered goes through the questions of an action, one law for each kind of question. Assumes nothing.
 use Prim.Native.Nat.{ℕ}
-use mathlib.Core.Path.{_≡_, refl}
+use mathlib.Core.Path.{_≡_, refl, sym, subst}
 use mathlib.Core.Bool.{Bool, true, false}
 use mathlib.Core.Option.{Option, some, none as nothing}
 use native.Mathlib.Omega.{arith}
@@ -29,6 +29,17 @@ pub by-then : {S A B : Type 0} {P : B → S → Type 0} {Q : A → S → Type 0}
 unfolding then
 by-then (ok a s) f q k = k a s refl (of-ok q refl)
 by-then (refuse n d s) f q k = off
+
+-- one bind at a time
+pub then-then : {S A B C : Type 0} (m : Out S A) (f : A → S → Out S B) (g : B → S → Out S C) →
+    then (then m f) g ≡ then m (λ a s. then (f a s) g)
+unfolding then
+then-then (ok a s) f g = refl
+then-then (refuse n d s) f g = refl
+
+pub by-assoc : {S A B C : Type 0} {P : C → S → Type 0} (m : Out S A) (f : A → S → Out S B) (g : B → S → Out S C) →
+    Ok P (then m (λ a s. then (f a s) g)) → Ok P (then (then m f) g)
+by-assoc {P = P} m f g h = subst (λ z. Ok P z) (sym (then-then m f g)) h
 
 module _ {S B : Type 0} {P : B → S → Type 0} where
   pub by-name : (k : ℕ) (x : Sexp) (s : S) (f : Name → S → Out S B) → ((n : Name) → name {S = S} k x s ≡ ok n s → Ok P (f n s)) →
