@@ -22,3 +22,5 @@ pub mod Asked
 pub mod Well
 pub mod BridgeRead
 pub mod Matching
+pub mod Written
+pub mod WrittenExample
