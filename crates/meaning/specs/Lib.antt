@@ -24,3 +24,4 @@ pub mod BridgeRead
 pub mod Matching
 pub mod Written
 pub mod WrittenExample
+pub mod WrittenRead
