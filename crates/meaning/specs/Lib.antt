@@ -29,3 +29,6 @@ pub mod BridgeApply
 pub mod BridgeInduct
 pub mod BridgeCase
 pub mod BridgeInvert
+pub mod Written
+pub mod WrittenExample
+pub mod WrittenRead

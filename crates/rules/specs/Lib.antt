@@ -31,6 +31,7 @@ pub mod FindLaws
 pub mod TheoryLaws
 pub mod PatternLaws
 pub mod DeclareLaws
+pub mod NameLaws
 pub mod TheoryTables
 pub mod StateTables
 pub mod Examples
