@@ -179,7 +179,7 @@ module _ (b : Binding) where
   length-insert : (θ : List Binding) → length (insert b θ) ≡ suc (length θ)
   length-insert θ = insert-by b (λ ξ ζ. length ζ ≡ suc (length ξ)) refl (λ c ξ l. refl) (λ c ξ ζ l h. ap suc h) θ
 
-  each-insert : (P : ℕ → Tree → Type 0) (θ : List Binding) → P (b .variable) (b .value) → Each P θ → Each P (insert b θ)
+  pub each-insert : (P : ℕ → Tree → Type 0) (θ : List Binding) → P (b .variable) (b .value) → Each P θ → Each P (insert b θ)
   unfolding Each
   each-insert P θ p e = insert-by b (λ ξ ζ. Each P ξ → Each P ζ) (λ _. (p, tt)) (λ c ξ l h. (p, h)) (λ c ξ ζ l f h. (h .0, f (h .1))) θ e
 
