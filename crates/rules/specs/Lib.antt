@@ -40,3 +40,6 @@ pub mod FormLaws
 pub mod Appends
 pub mod Reached
 pub mod MadeLaws
+pub mod FactLaws
+pub mod RowLaws
+pub mod CountLaws
