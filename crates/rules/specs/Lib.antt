@@ -43,3 +43,4 @@ pub mod MadeLaws
 pub mod FactLaws
 pub mod RowLaws
 pub mod CountLaws
+pub mod Inside
