@@ -44,21 +44,20 @@ pub data AtMostOne {A : Type 0} (xs : List A) : List A → Type 0 where
   noMore : AtMostOne xs xs
   oneMore : (x : A) → AtMostOne xs (xs ++ (x ∷ []))
 
--- the same goals, of which some that were not taken are taken
+-- the same goals, of which at most one that was not taken is taken
 pub data Marks : List Goal → List Goal → Type 0 where
-  noGoal : Marks [] []
-  same : (g : Goal) {gs hs : List Goal} → Marks gs hs → Marks (g ∷ gs) (g ∷ hs)
-  taken : (g : Goal) {gs hs : List Goal} → g .taken ≡ false → Marks gs hs → Marks (g ∷ gs) (takenGoal g ∷ hs)
+  unmarked : {gs : List Goal} → Marks gs gs
+  marks : (gs : List Goal) (g : Goal) (hs : List Goal) → g .taken ≡ false → Marks (gs ++ (g ∷ hs)) (gs ++ (takenGoal g ∷ hs))
 
-unmarked : (gs : List Goal) → Marks gs gs
-unmarked [] = noGoal
-unmarked (g ∷ gs) = same g (unmarked gs)
+behind-goal : (h : Goal) {gs hs : List Goal} → Marks gs hs → Marks (h ∷ gs) (h ∷ hs)
+behind-goal h unmarked = unmarked
+behind-goal h (marks gs g hs t) = marks (h ∷ gs) g hs t
 
 change-marks : (gs : List Goal) (k : ℕ) (g : Goal) → entry gs k ≡ some g → g .taken ≡ false → Marks gs (change gs k takenGoal)
 unfolding entry change
-change-marks [] k g e t = noGoal
-change-marks (h ∷ gs) zero g e t = let q : g ≡ h = cc in taken h (subst (λ x. x .taken ≡ false) q t) (unmarked gs)
-change-marks (h ∷ gs) (suc k) g e t = same h (change-marks gs k g e t)
+change-marks [] k g e t = unmarked
+change-marks (h ∷ gs) zero g e t = let q : g ≡ h = cc in marks [] h gs (subst (λ x. x .taken ≡ false) q t)
+change-marks (h ∷ gs) (suc k) g e t = behind-goal h (change-marks gs k g e t)
 
 -- Every property holds of every tree --------------------------------------------------------------------------------------------
 
@@ -94,12 +93,12 @@ pub record FormAppends (S U : State) : Type 0 where
 
 taken-appends : {S U : State} {c : Counts} → Taken anything S c U → FormAppends S U
 taken-appends {S} (newVar v l) =
-    record { theory = refl; vars = one-new (S .vars) v; made = nothing-new (S .made); defs = noMore; goals = unmarked (S .goals); facts = noMore }
+    record { theory = refl; vars = one-new (S .vars) v; made = nothing-new (S .made); defs = noMore; goals = unmarked; facts = noMore }
 taken-appends {S} (newDef m d g h l) =
-    record { theory = refl; vars = nothing-new (S .vars); made = record { new = g .new; is = g .is }; defs = oneMore d; goals = unmarked (S .goals); facts = noMore }
+    record { theory = refl; vars = nothing-new (S .vars); made = record { new = g .new; is = g .is }; defs = oneMore d; goals = unmarked; facts = noMore }
 taken-appends {S} (newFact vs m f c l g h n k r) =
     record { theory = refl; vars = record { new = l .new; is = l .is }; made = record { new = g .new; is = g .is }; defs = noMore;
-      goals = unmarked (S .goals); facts = oneMore f }
+      goals = unmarked; facts = oneMore f }
 taken-appends {S} (gotResult m k d g e t) =
     record { theory = refl; vars = nothing-new (S .vars); made = record { new = g .new; is = g .is }; defs = noMore;
       goals = change-marks (S .goals) k d e t; facts = noMore }

@@ -32,10 +32,6 @@ total w ends = 0
 total w (fails n) = 0
 total w (more x p t) = w x + total w t
 
--- the forms of a text
-abbrev pub formCount : Text → ℕ
-formCount t = total (λ x. 1) t
-
 -- the counts d are the counts c and those of the text's forms
 pub record Totals (c : Counts) (t : Text) (d : Counts) : Type 0 where
   pub hypotheses : d .hypotheses ≡ c .hypotheses + total (λ x. countedForm x .hypotheses) t

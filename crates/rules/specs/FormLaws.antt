@@ -44,8 +44,8 @@ unfoldable pub assumedOne : Fact → ℕ
 assumedOne f = elim (f .assumed) [ true ↦ 1 | false ↦ 0 ]
 
 -- entries of a state's lists
-abbrev pub listed-so-far : State → ℕ
-listed-so-far S = goalEntries (S .goals) + allEntries (S .facts)
+abbrev pub entriesSoFar : State → ℕ
+entriesSoFar S = goalEntries (S .goals) + allEntries (S .facts)
 
 -- a new fact over shaped ones
 pub record NewFact (fs : List Fact) (f : Fact) (c : Counts) : Type 0 where
@@ -59,7 +59,7 @@ grown S vs m = record { theory = S .theory; vars = vs; made = m; defs = S .defs;
 -- a form of the goals has led from state S to the state named last
 pub data Posed (K : Kind) (S : State) : State → Type 0 where
   posedVar : (v : Var) → length (S .vars) < VARIABLES → Posed K S (withVars S (S .vars ++ (v ∷ [])))
-  posedGoal : (m : Made) (g : Goal) → Grows K (S .made) m → GoalIn K m g → length (S .goals) < GOALS → listed-so-far S + countTrees (g .hyps) ≤ ENTRIES →
+  posedGoal : (m : Made) (g : Goal) → Grows K (S .made) m → GoalIn K m g → length (S .goals) < GOALS → entriesSoFar S + countTrees (g .hyps) ≤ ENTRIES →
       Posed K S (withGoals (withMade S m) (S .goals ++ (g ∷ [])))
 
 -- so has a form of the proof with these counts
@@ -68,7 +68,7 @@ pub data Taken (K : Kind) (S : State) : Counts → State → Type 0 where
   newDef : (m : Made) (d : Def) → Grows K (S .made) m → K .Has m (d .term) → length (S .defs) < DEFS →
       Taken K S noCounts (withDefs (withMade S m) (S .defs ++ (d ∷ [])))
   newFact : (vs : List Var) (m : Made) (f : Fact) (c : Counts) → Longer (S .vars) vs → Grows K (S .made) m → FactIn K m f →
-      (AllShaped (S .facts) → NewFact (S .facts) f c) → length (S .facts) < FACTS → listed-so-far S + factEntries f ≤ ENTRIES →
+      (AllShaped (S .facts) → NewFact (S .facts) f c) → length (S .facts) < FACTS → entriesSoFar S + factEntries f ≤ ENTRIES →
       Taken K S c (withFacts (grown S vs m) (S .facts ++ (f ∷ [])) (plus (S .counts) c))
   gotResult : (m : Made) (k : ℕ) (g : Goal) → Grows K (S .made) m → entry (S .goals) k ≡ some g → g .taken ≡ false →
       Taken K S noCounts (withGoals (withMade S m) (change (S .goals) k takenGoal))
@@ -148,7 +148,7 @@ module _ {K : Kind} where
   unfolding addGoal entries
   add-goal-takes x hs j S m g h p =
       go-on _ (by-name 24 x _ _ λ n e. by-ask 24 (isNew (goalNamed (S .goals) (n .bytes))) _ _ λ e.
-      by-room 11 (ltb (length (S .goals)) GOALS) _ _ λ e. by-room 13 (leb (listed-so-far S + countTrees hs) ENTRIES) _ _ λ f.
+      by-room 11 (ltb (length (S .goals)) GOALS) _ _ λ e. by-room 13 (leb (entriesSoFar S + countTrees hs) ENTRIES) _ _ λ f.
       fine (posedGoal m _ g (record { judgment = p; hyps = h }) (ltb-true _ GOALS e) (leb-true _ ENTRIES f)))
 
   goal-takes : (t : GoalForm) (xs : Sexps) (S : State) → Ready K S (S .made) → Ok (λ a U. Posed K S U) (goal t xs S)
@@ -173,7 +173,7 @@ module _ {K : Kind} where
       (AllShaped (S .facts) → NewFact (S .facts) f c) → Ok (λ a U. Taken K S c U) (addFact f c (grown S vs m))
   unfolding addFact entries
   add-fact-takes f c S vs m l g p n =
-      go-on _ (by-room 12 (ltb (length (S .facts)) FACTS) _ _ λ e. by-room 13 (leb (listed-so-far S + factEntries f) ENTRIES) _ _ λ d.
+      go-on _ (by-room 12 (ltb (length (S .facts)) FACTS) _ _ λ e. by-room 13 (leb (entriesSoFar S + factEntries f) ENTRIES) _ _ λ d.
       fine (newFact vs m f c l g p n (ltb-true _ FACTS e) (leb-true _ ENTRIES d)))
 
   add-hyp-takes : (xs : Sexps) (S : State) → Ready K S (S .made) → Ok (λ a U. Taken K S oneHypothesis U) (addHyp xs S)

@@ -27,6 +27,7 @@ pub mod OutLaws
 pub mod FindLaws
 pub mod TheoryLaws
 pub mod TreeLaws
+pub mod EntryLaws
 pub mod Keeping
 pub mod MakingLaws
 pub mod StillLaws

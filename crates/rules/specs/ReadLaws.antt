@@ -19,6 +19,7 @@ use Rattle.rules.specs.State.{State, Def, Goal, Fact, sortOf, sortOfVar,
 use Rattle.rules.specs.Read.{index, variable, named, term, compound, terms, termOf, judgment, judgmentEach, judgments}
 use Rattle.rules.specs.Reference.{Ref, factAt, binding, binds, bindings, instance, reference}
 use Rattle.rules.specs.TheoryLaws.{All, empty, both, all-map}
+use Rattle.rules.specs.EntryLaws.{all-entry, fact-entry}
 use Rattle.rules.specs.Keeping.{Each, Arguments, Kind, Grows, Keeps, fine, off, stays, has-on, each-on, weaken, by-then, by-still, by-ask, by-found, by-either, by-given}
 use Rattle.rules.specs.MakingLaws.{Known, Knowns, Values, keep-keeps, found-keeps, substitute-keeps, values-on, insert-values}
 use Rattle.rules.specs.StillLaws.{name-still, items-still, index-still, variable-still, fact-at-still}
@@ -39,20 +40,6 @@ pub record Ready (K : Kind) (S : State) (m : Made) : Type 0 where
   pub defs : All (λ d. K .Has m (d .term)) (S .defs)
   pub goals : All (GoalIn K m) (S .goals)
   pub facts : All (FactIn K m) (S .facts)
-
-pub all-entry : {A : Type 0} {P : A → Type 0} (xs : List A) (i : ℕ) (x : A) → All P xs → entry xs i ≡ some x → P x
-unfolding entry
-all-entry [] i x h e = absurd (let z : _≡_ {A = ℕ} 0 1 = cc in omega arith)
-all-entry {P = P} (y ∷ xs) zero x (both p h) e = let q : y ≡ x = cc in subst P q p
-all-entry (y ∷ xs) (suc i) x (both p h) e = all-entry xs i x h e
-
-pub fact-entry : {S : Type 0} (Σ : State) (i : ℕ) (s : S) (f : Fact) → factAt Σ i s ≡ ok f s → entry (Σ .facts) i ≡ some f
-unfolding factAt
-fact-entry {S} Σ i s f e = go (entry (Σ .facts) i) e
-  where
-    go : (o : Option Fact) → found {S = S} 34 o s ≡ ok f s → o ≡ some f
-    go (some g) e = cc
-    go nothing e = absurd (let z : _≡_ {A = ℕ} 0 1 = cc in omega arith)
 
 abbreviated-has : (P : Tree → Type 0) (ds : List Def) (n : List ℕ) → All (λ d. P (d .term)) ds → (t : Tree) → abbreviated ds n ≡ some t → P t
 unfolding abbreviated
@@ -77,7 +64,7 @@ module _ {K : Kind} where
 
   -- a fact by its number
   pub fact-in : {S : State} {m : Made} (i : ℕ) (f : Fact) → Ready K S m → factAt S i m ≡ ok f m → FactIn K m f
-  fact-in {S} {m} i f h e = all-entry (S .facts) i f (h .facts) (fact-entry S i m f e)
+  fact-in {S} {m} i f h e = all-entry (S .facts) i f (h .facts) (fact-entry S i m m f e)
 
   -- Terms -----------------------------------------------------------------------------------------------------------------------
 

@@ -14,6 +14,7 @@ use Rattle.rules.specs.State.{State, Goal, Fact, Counts, begin, goalEntr
 use Rattle.rules.specs.Proof.{takeGoal, takeForm, takenGoal}
 use Rattle.rules.specs.Check.{check}
 use Rattle.rules.specs.OutLaws.{Ok, weaken}
+use Rattle.rules.specs.EntryLaws.{change-length}
 use Rattle.rules.specs.FormLaws.{Posed, posedVar, posedGoal, Taken, newVar, newDef, newFact, gotResult, take-goal-takes, take-form-takes}
 use Rattle.rules.specs.Appends.{anything, ready-any}
 use Rattle.rules.specs.Reached.{check-reaches}
@@ -38,12 +39,6 @@ all-entries-snoc [] f = omega arith
 all-entries-snoc (g ∷ fs) f = omega (arith, all-entries-snoc fs f)
 
 -- a goal that is taken keeps its entries
-change-length : (gs : List Goal) (k : ℕ) → length (change gs k takenGoal) ≡ length gs
-unfolding change
-change-length [] k = refl
-change-length (g ∷ gs) zero = refl
-change-length (g ∷ gs) (suc k) = ap suc (change-length gs k)
-
 change-entries : (gs : List Goal) (k : ℕ) → goalEntries (change gs k takenGoal) ≡ goalEntries gs
 unfolding change goalEntries
 change-entries [] k = refl
@@ -74,7 +69,7 @@ taken-rows {S} h (newFact vs m f c l g p n k r) =
     record { row7 = l .row (h .row7); row10 = h .row10; row11 = h .row11; row12 = omega (arith, length-append (S .facts) (f ∷ []));
       row13 = omega (arith, r, all-entries-snoc (S .facts) f) }
 taken-rows {S} h (gotResult m k d g e t) =
-    record { row7 = h .row7; row10 = h .row10; row11 = omega (arith, h .row11, change-length (S .goals) k); row12 = h .row12;
+    record { row7 = h .row7; row10 = h .row10; row11 = omega (arith, h .row11, change-length (S .goals) k takenGoal); row12 = h .row12;
       row13 = omega (arith, h .row13, change-entries (S .goals) k) }
 
 pub take-goal-rows : (x : Sexp) (S : State) → Rows S → Ok (λ a U. Rows U) (takeGoal x S)

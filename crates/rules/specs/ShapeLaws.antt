@@ -23,7 +23,8 @@ use Rattle.rules.specs.Induct.{inductOn, induct, inductWith}
 use Rattle.rules.specs.Invert.{invert}
 use Rattle.rules.specs.TheoryLaws.{All, empty, both, all-map}
 use Rattle.rules.specs.OutLaws.{Ok, fine, off, of-ok, weaken, by-then, by-items, by-ask}
-use Rattle.rules.specs.RisingLaws.{Rises, RisesFrom, rising-rises, rising-all-of, has-all, or-cases, entry-below, entry-front, entry-snoc, entry-last}
+use Rattle.rules.specs.RisingLaws.{Rises, RisesFrom, rising-rises, rising-all-of, has-all, or-cases}
+use Rattle.rules.specs.EntryLaws.{entry-below, entry-front, entry-snoc, entry-last, fact-entry}
 
 -- Shapes --------------------------------------------------------------------------------------------------------------------------
 
@@ -85,18 +86,10 @@ past (refuse n d s) f k = off
 
 -- What references rest on ---------------------------------------------------------------------------------------------------------
 
-at-entry : {S : Type 0} (Σ : State) (i : ℕ) (s u : S) (f : Fact) → factAt Σ i s ≡ ok f u → entry (Σ .facts) i ≡ some f
-unfolding factAt
-at-entry {S} Σ i s u f e = go (entry (Σ .facts) i) e
-  where
-    go : (o : Option Fact) → found {S = S} 34 o s ≡ ok f u → o ≡ some f
-    go (some g) e = cc
-    go nothing e = absurd (let z : _≡_ {A = ℕ} 0 1 = cc in omega arith)
-
 module _ (S : State) (w : AllShaped (S .facts)) where
   reference-rests : (x : Sexp) (m : Made) → Ok (λ r u. All (Assumed (S .facts)) (r .hyps)) (reference S x m)
   unfolding reference instance
-  reference-rests (atom p bs) m = past _ _ λ i u e. past _ _ λ f v k. fine (w i f (at-entry S i u v f k) .rests)
+  reference-rests (atom p bs) m = past _ _ λ i u e. past _ _ λ f v k. fine (w i f (fact-entry S i u v f k) .rests)
   reference-rests (list xs) m = past _ _ λ i u e. past _ _ λ f v e. past _ _ λ a y e. past _ _ λ bs z e. past _ _ λ t n e. fine empty
 
   -- a set of numbers of assumed facts
@@ -151,7 +144,7 @@ module _ (S : State) (w : AllShaped (S .facts)) where
   unfolding apply
   apply-shape xs m =
       past _ _ λ i a e. past _ _ λ ys b e. past _ _ λ bs c e. past _ _ λ f d k.
-      by-then _ _ (applied-rest bs i f d (at-entry S i c d f k)) λ p g e h.
+      by-then _ _ (applied-rest bs i f d (fact-entry S i c d f k)) λ p g e h.
       past _ _ λ zs l e. past _ _ λ t n e. past _ _ λ j o e. by-then _ _ (discharge-rest bs zs (p .premises) o) λ rs q e r.
       past _ _ λ u v e. fine (over (union (has (p .hyps)) (rs .hyps)) (union-rest (p .hyps) (rs .hyps) h r) refl refl refl refl)
 
@@ -162,7 +155,7 @@ module _ (S : State) (w : AllShaped (S .facts)) where
   hyp-each-rest p k nil m = fine empty
   hyp-each-rest p k (cons x xs) m =
       past _ _ λ i a e. past _ _ λ f b e. by-ask 40 (p f) b _ λ q. by-then _ _ (hyp-each-rest p k xs b) λ hs c r h.
-      fine (both (record { fact = f; is = at-entry S i a b f e; assumed = k f q }) h)
+      fine (both (record { fact = f; is = fact-entry S i a b f e; assumed = k f q }) h)
 
   hyp-list-rest : (p : Fact → Bool) → ((f : Fact) → p f ≡ true → f .assumed ≡ true) → (x : Sexp) (m : Made) →
       Ok (λ hs u. All (Assumed (S .facts)) hs × Rises hs) (hypList p S x m)
@@ -203,5 +196,5 @@ module _ (S : State) (w : AllShaped (S .facts)) where
       by-then _ _ (hyp-list-rest (λ f. f .assumed) (λ f q. q) (item xs 3) b) λ hs c e h.
       past _ _ λ j d e. past _ _ λ ys g e. past _ _ λ cs l e. past _ _ λ N n e.
       fine (over (union (has (i ∷ [])) (has hs))
-        (union-rest (i ∷ []) (has hs) (both (record { fact = k; is = at-entry S i a b k f; assumed = plain-assumed k p }) empty) (λ v t. has-all hs v (h .0) t))
+        (union-rest (i ∷ []) (has hs) (both (record { fact = k; is = fact-entry S i a b k f; assumed = plain-assumed k p }) empty) (λ v t. has-all hs v (h .0) t))
         refl refl refl refl)
