@@ -41,6 +41,7 @@ pub mod FormLaws
 pub mod Appends
 pub mod Reached
 pub mod MadeLaws
+pub mod MadeActions
 pub mod FactLaws
 pub mod RowLaws
 pub mod CountLaws
