@@ -2,9 +2,8 @@
 -- inversions and instances are what the forms of the proof count by their tags alone (Tally). A form that counted twice, or under another's
 -- count, or a count that a goal's form changed, would be caught here. Assumes nothing.
 use Prim.Native.Nat.{ℕ, zero, suc, _+_}
-use mathlib.Core.Path.{_≡_, refl, subst, sym, _∙_, ap}
+use mathlib.Core.Path.{_≡_, refl, subst, sym, _∙_}
 use mathlib.Core.Bool.{Bool, true, false}
-use mathlib.Core.Option.{Option, some, none as nothing}
 use mathlib.Core.List.{List, [], _∷_}
 use native.Mathlib.Nat.{add-zero}
 use native.Mathlib.Omega.{arith}
@@ -18,7 +17,7 @@ use Rattle.rules.specs.Declare.{declare}
 use Rattle.rules.specs.Judge.{Judged, done, refused, through, whole}
 use Rattle.rules.specs.State.{State, Counts, noCounts, begin}
 use Rattle.rules.specs.Proof.{takeGoal, takeForm, plus}
-use Rattle.rules.specs.Check.{Report, Answer, accepts, refuses, Outcome, refusedIn, countOpen, report, missing, ended, afterProof, afterGoals, afterTheory, firstFailing, readable, fitting, check}
+use Rattle.rules.specs.Check.{Report, accepts, Outcome, refusedIn, countOpen, report, missing, ended, afterProof, afterGoals, afterTheory, firstFailing, readable, fitting, check}
 use Rattle.rules.specs.OutLaws.{Ok, fine, off, weaken}
 use Rattle.rules.specs.Tally.{countedForm}
 use Rattle.rules.specs.FormLaws.{Posed, posedVar, posedGoal, Taken, newVar, newDef, newFact, gotResult, take-goal-takes, take-form-takes}
@@ -61,8 +60,12 @@ After c t (refused n d k U) = Unit {0}
 one-more : (c d : Counts) (x : Sexp) (p : ℕ) (t : Text) (j : Judged State) → d ≡ plus c (countedForm x) → After d t j → After c (more x p t) j
 unfolding After total plus
 one-more c d x p t (done k U) e h =
-    record { hypotheses = h .hypotheses ∙ (rw e (omega arith)); inductions = h .inductions ∙ (rw e (omega arith));
-      inversions = h .inversions ∙ (rw e (omega arith)); instances = h .instances ∙ (rw e (omega arith)) }
+    record {
+      hypotheses = h .hypotheses ∙ (rw e (omega arith));
+      inductions = h .inductions ∙ (rw e (omega arith));
+      inversions = h .inversions ∙ (rw e (omega arith));
+      instances = h .instances ∙ (rw e (omega arith));
+    }
 one-more c d x p t (refused n e k U) q h = tt
 
 through-totals : (t : Text) (k : ℕ) (S : State) → After (S .counts) t (through takeForm t k S)
@@ -113,7 +116,7 @@ after-goals-reports f (done k S) h = go (eqb (length (S .goals)) 0)
     go true = refuses-nothing f 2 25 0 k S
     go false =
         after-proof-reports f (through takeForm (read f) 0 S)
-          (subst (λ c. After c (read f) (through takeForm (read f) 0 S)) h (through-totals (read f) 0 S))
+        (subst (λ c. After c (read f) (through takeForm (read f) 0 S)) h (through-totals (read f) 0 S))
 
 after-theory-reports : (g f : List ℕ) (j : Judged Theory) → Reports f (afterTheory g f j)
 unfolding afterTheory
@@ -149,8 +152,16 @@ pub record CountsRight (S : State) (f : Text) (r : Report) : Type 0 where
 reported : (S : State) (f : Text) → Totals noCounts f (S .counts) → S .counts .hypotheses ≡ assumedIn (S .facts) → CountsRight S f (report S)
 unfolding report
 reported S f h a =
-    record { steps = refl; goals = refl; openGoals = refl; assumed = a; hypotheses = omega (arith, h .hypotheses); inductions = omega (arith, h .inductions);
-      inversions = omega (arith, h .inversions); instances = omega (arith, h .instances) }
+    record {
+      steps = refl;
+      goals = refl;
+      openGoals = refl;
+      assumed = a;
+      hypotheses = omega (arith, h .hypotheses);
+      inductions = omega (arith, h .inductions);
+      inversions = omega (arith, h .inversions);
+      instances = omega (arith, h .instances);
+    }
 
 pub accepted-counts : (t g f : List ℕ) (r : Report) → check t g f .answer ≡ accepts r → CountsRight (check t g f .state) (read f) r
 accepted-counts t g f r e =

@@ -1,12 +1,12 @@
 -- The entries of a list by number: of one that has grown, and of one whose entry was replaced. Assumes nothing.
-use Prim.Native.Nat.{ℕ, zero, suc, _+_, _<_}
+use Prim.Native.Nat.{ℕ, zero, suc, _<_}
 use mathlib.Core.Path.{_≡_, refl, subst, ap}
 use mathlib.Core.Logic.{_⊎_, inl, inr}
 use mathlib.Core.Option.{Option, some, none as nothing}
 use mathlib.Core.List.{List, [], _∷_, _++_}
 use native.Mathlib.Omega.{arith}
 use lib.ListN.{length}
-use Rattle.rules.specs.Out.{Out, ok, refuse, found}
+use Rattle.rules.specs.Out.{ok, found}
 use Rattle.rules.specs.Find.{entry, change}
 use Rattle.rules.specs.State.{State, Fact}
 use Rattle.rules.specs.Reference.{factAt}

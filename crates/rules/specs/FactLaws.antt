@@ -2,13 +2,10 @@
 -- and the count of hypotheses is the number of assumed facts. A form that gave a fact a later number to rest on, a hypothesis that is not its
 -- own, or premises to a fact that is not assumed, would be caught here; so would one that counted a hypothesis that it did not add.
 -- Assumes nothing.
-use Prim.Native.Nat.{ℕ, zero, suc, _+_}
-use mathlib.Core.Path.{_≡_, refl, subst, sym, _∙_}
-use mathlib.Core.Bool.{Bool, true, false}
-use mathlib.Core.Option.{Option, some, none as nothing}
+use Prim.Native.Nat.{ℕ, _+_}
+use mathlib.Core.Path.{_≡_, refl}
 use mathlib.Core.List.{List, [], _∷_, _++_}
 use native.Mathlib.Omega.{arith}
-use lib.ListN.{length}
 use Rattle.rules.specs.Find.{entry}
 use Rattle.rules.specs.Sexp.{Sexp}
 use Rattle.rules.specs.Theory.{Theory}

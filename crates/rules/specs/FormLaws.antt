@@ -1,34 +1,32 @@
 -- What a form that is taken has done to the state, case by case: one new variable, abbreviation, goal or fact behind those there were, or a
 -- result; trees are made behind the others. The theorems on reached states (Appends, MadeLaws, CountLaws) go by these cases. Assumes nothing.
-use Prim.Native.Nat.{ℕ, zero, suc, _+_, _≤_, _<_}
-use mathlib.Core.Path.{_≡_, refl, subst, sym, ap}
-use mathlib.Core.Bool.{Bool, true, false, _&&_, _||_, not, false≢true}
-use mathlib.Core.Option.{Option, some, none as nothing}
+use Prim.Native.Nat.{ℕ, _+_, _≤_, _<_}
+use mathlib.Core.Path.{_≡_, refl, subst, sym}
+use mathlib.Core.Bool.{Bool, true, false, _&&_, not, false≢true}
+use mathlib.Core.Option.{some}
 use mathlib.Core.List.{List, [], _∷_, _++_}
-use native.Mathlib.Omega.{arith}
 use borrow.Author.Tests.{ltb-true, leb-true}
 use lib.Dec.{eqb, leb, ltb}
 use lib.ListN.{length}
 use Rattle.rules.specs.Limits.{VARIABLES, DEFS, GOALS, FACTS, ENTRIES}
-use Rattle.rules.specs.Out.{Out, ok, refuse, then, Act, ask, get, put}
-use Rattle.rules.specs.Sexp.{Sexp, Sexps, atom, list, count, item, Name, name, items, marked}
+use Rattle.rules.specs.Out.{Out, ok, refuse, then, Act, ask}
+use Rattle.rules.specs.Sexp.{Sexp, Sexps, count, item, marked}
 use Rattle.rules.specs.Tags.{Tag, aVar, aDef, aStep, aHyp, aRuleHyp, anInduct, anInductWith, anApply, anInvert, aResult, proofTag, GoalForm, aVariable, aGoal, aGoalWith, goalForm}
 use Rattle.rules.specs.Find.{entry, all, change}
-use Rattle.rules.specs.Tree.{Tree, Trees, var, app, none, more, sameTree, countTrees}
+use Rattle.rules.specs.Tree.{Tree, Trees, none, sameTree, countTrees}
 use Rattle.rules.specs.Store.{Made}
-use Rattle.rules.specs.Theory.{Theory, sortNamed, constructorNamed, predicateNamed}
+use Rattle.rules.specs.Theory.{sortNamed, constructorNamed, predicateNamed}
 use Rattle.rules.specs.Declare.{isNew}
 use Rattle.rules.specs.State.{State, Var, Def, Goal, Fact, Counts, noCounts, varNamed, abbreviated, goalNamed, goalEntries, factEntries, allEntries, entries}
-use Rattle.rules.specs.Read.{index, term, judgment, judgments, varsList}
+use Rattle.rules.specs.Read.{term, judgment, judgments}
 use Rattle.rules.specs.Reference.{reference}
 use Rattle.rules.specs.Step.{step}
 use Rattle.rules.specs.Apply.{apply}
 use Rattle.rules.specs.Induct.{induct, inductWith}
 use Rattle.rules.specs.Invert.{invert}
 use Rattle.rules.specs.Proof.{withMade, withVars, withDefs, withGoals, withFacts, making, addVar, addDef, addGoal, goal, takeGoal, plus, addFact, hypothesis, oneHypothesis, oneInduction, oneInversion, someInstances, addHyp, addRuleHyp, addStep, addApply, addInduct, addInductWith, addInvert, listed, takenGoal, result, next, perform, takeForm}
-use Rattle.rules.specs.OutLaws.{Ok, fine, off, of-ok, weaken, by-name, by-items, by-ask, by-room, by-found}
-use Rattle.rules.specs.TheoryLaws.{All, empty, both, all-map}
-use Rattle.rules.specs.Keeping.{Each, Kind, Grows, stays, has-on, each-on, Still, answers, refuses}
+use Rattle.rules.specs.OutLaws.{Ok, fine, off, of-ok, by-name, by-items, by-ask, by-room, by-found}
+use Rattle.rules.specs.Keeping.{Each, Kind, Grows, each-on, Still, answers, refuses}
 use Rattle.rules.specs.Keeping as keeping
 use Rattle.rules.specs.StillLaws.{still-then, index-still, vars-list-still}
 use Rattle.rules.specs.ReadLaws.{FactIn, GoalIn, Ready, ready-on, term-keeps, judgment-keeps, judgments-keeps, reference-keeps}
@@ -131,7 +129,7 @@ add-var-takes text xs S h =
     go-on _ (by-name 21 (item xs 1) S _ λ n e. by-name 21 (item xs 2) S _ λ s e.
     by-found 21 (sortNamed (S .theory) (s .bytes)) S _ λ k e.
     by-ask 21 (not (marked (n .bytes)) && (isNew (constructorNamed (S .theory) (n .bytes))
-      && (isNew (predicateNamed (S .theory) (n .bytes)) && isNew (varNamed (S .vars) (n .bytes))))) S _ λ e.
+    && (isNew (predicateNamed (S .theory) (n .bytes)) && isNew (varNamed (S .vars) (n .bytes))))) S _ λ e.
     by-room 7 (ltb (length (S .vars)) VARIABLES) S _ λ e. fine (h _ (ltb-true _ VARIABLES e)))
 
 module _ {K : Kind} where
@@ -189,7 +187,7 @@ module _ {K : Kind} where
       by-making (judgment S (item xs 3)) (withMade S u) _ (judgment-keeps S (item xs 3) u (ready-on h g)) λ j w f k q.
       from-still _ _ (vars-list-still 36 S (item xs 4)) λ vs e.
       add-fact-takes _ _ S (S .vars) w (same-vars (S .vars)) (keeping.further g k) (record { judgment = q; premises = each-on ps k p })
-        (λ v. assumes (S .facts) j ps vs))
+      (λ v. assumes (S .facts) j ps vs))
 
   add-step-takes : (xs : Sexps) (S : State) → Ready K S (S .made) → Ok (λ a U. Taken K S (someInstances (bracketsIn (item xs 3))) U) (addStep xs S)
   unfolding addStep

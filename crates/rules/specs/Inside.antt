@@ -1,8 +1,8 @@
 -- What is read lies in the text: every atom stands where its place says, with the bytes that are there and at least one, and every form ends
 -- inside the text. A lexer that gave an atom another place, lost or repeated a byte of it, or made an atom of nothing, would be caught here.
 -- Assumes nothing.
-use Prim.Native.Nat.{ℕ, zero, suc, _+_, _≤_, _<_}
-use mathlib.Core.Path.{_≡_, refl, sym, ap, _∙_}
+use Prim.Native.Nat.{ℕ, suc, _+_, _≤_, _<_}
+use mathlib.Core.Path.{_≡_, refl, ap, _∙_}
 use mathlib.Core.Bool.{Bool, true, false}
 use mathlib.Core.List.{List, [], _∷_}
 use native.Mathlib.Numerals.{add-one}
@@ -77,20 +77,24 @@ module _ (text : List ℕ) (p b : ℕ) (t : List ℕ) (e : b ∷ t ≡ drop p te
 
   word-at : p ≤ length text → At text p (b ∷ letters t)
   word-at h =
-      record { some = omega arith; inside = omega (arith, letters-begin t .short, ap length e, length-drop p text);
-        there = rw (← e) (ap (λ l. b ∷ l) (letters-begin t .first)) }
+      record {
+        some = omega arith;
+        inside = omega (arith, letters-begin t .short, ap length e, length-drop p text);
+        there = rw (← e) (ap (λ l. b ∷ l) (letters-begin t .first));
+      }
 
   module _ (h : p ≤ length text) (ih : (m : Mode) → TokensIn text (tokens m (suc p) t)) where
     between-in : TokensIn text (tokens between p (b ∷ t))
     unfolding tokens TokensIn TokenIn
     between-in = go (kind b)
       where
-        go : (k : Kind) → TokensIn text (elim k
-            [ blank ↦ tokens between (suc p) t
-            | left ↦ opens p ∷ tokens between (suc p) t
-            | right ↦ closes p ∷ tokens between (suc p) t
-            | semicolon ↦ tokens inComment (suc p) t
-            | letter ↦ word p (b ∷ letters t) ∷ tokens inWord (suc p) t ])
+        go : (k : Kind) → TokensIn text (elim k [
+          | blank ↦ tokens between (suc p) t
+          | left ↦ opens p ∷ tokens between (suc p) t
+          | right ↦ closes p ∷ tokens between (suc p) t
+          | semicolon ↦ tokens inComment (suc p) t
+          | letter ↦ word p (b ∷ letters t) ∷ tokens inWord (suc p) t
+        ])
         go blank = ih between
         go left = (here h, ih between)
         go right = (here h, ih between)
@@ -101,12 +105,13 @@ module _ (text : List ℕ) (p b : ℕ) (t : List ℕ) (e : b ∷ t ≡ drop p te
     unfolding tokens TokensIn TokenIn
     word-in = go (kind b)
       where
-        go : (k : Kind) → TokensIn text (elim k
-            [ blank ↦ tokens between (suc p) t
-            | left ↦ opens p ∷ tokens between (suc p) t
-            | right ↦ closes p ∷ tokens between (suc p) t
-            | semicolon ↦ tokens inComment (suc p) t
-            | letter ↦ tokens inWord (suc p) t ])
+        go : (k : Kind) → TokensIn text (elim k [
+          | blank ↦ tokens between (suc p) t
+          | left ↦ opens p ∷ tokens between (suc p) t
+          | right ↦ closes p ∷ tokens between (suc p) t
+          | semicolon ↦ tokens inComment (suc p) t
+          | letter ↦ tokens inWord (suc p) t
+        ])
         go blank = ih between
         go left = (here h, ih between)
         go right = (here h, ih between)

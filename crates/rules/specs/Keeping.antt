@@ -1,14 +1,13 @@
 -- What an action on the made trees keeps: how it goes through the questions of an action, where they are answered and where they are refused.
 -- The kept property is left open, so that one walk through the definition (MakingLaws and on) serves every property. Assumes nothing.
-use Prim.Native.Nat.{ℕ, zero, suc, _+_, _≤_, _<_}
-use mathlib.Core.Path.{_≡_, refl, sym, ap, subst}
+use Prim.Native.Nat.{ℕ, _+_, _≤_, _<_}
+use mathlib.Core.Path.{_≡_, refl, sym, subst}
 use mathlib.Core.Bool.{Bool, true, false}
 use mathlib.Core.Option.{Option, some, none as nothing}
-use mathlib.Core.List.{List, [], _∷_, _++_, append-assoc, append-nil}
+use mathlib.Core.List.{[], _∷_, _++_, append-assoc, append-nil}
 use lib.ListN.{length}
 use Rattle.rules.specs.Limits.{TERMS, WORDS}
 use Rattle.rules.specs.Out.{Out, ok, refuse, then, Act, ask, room, found}
-use Rattle.rules.specs.Sexp.{Sexp, Sexps, atom, list, Name, name, items}
 use Rattle.rules.specs.Tree.{Tree, Trees, var, app, none, more, node}
 use Rattle.rules.specs.Store.{Made, stored, words}
 

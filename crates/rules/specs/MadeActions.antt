@@ -2,16 +2,15 @@
 -- trees, whether it answers or refuses, and what it answers is among them. Assumes nothing.
 use Prim.Native.Nat.{ℕ}
 use mathlib.Core.Path.{_≡_}
-use mathlib.Core.Option.{Option, some}
-use mathlib.Core.List.{List}
+use mathlib.Core.Option.{some}
 use Rattle.rules.specs.Sexp.{Sexp, Sexps}
 use Rattle.rules.specs.Tree.{Tree, Trees}
 use Rattle.rules.specs.Store.{Made, keep, make, substitute, substitutes}
 use Rattle.rules.specs.Match.{Bound, build}
-use Rattle.rules.specs.Unify.{Binding, unify}
-use Rattle.rules.specs.State.{State, Fact, Var}
+use Rattle.rules.specs.Unify.{unify}
+use Rattle.rules.specs.State.{State}
 use Rattle.rules.specs.Read.{term, judgment, judgments}
-use Rattle.rules.specs.Reference.{Ref, reference}
+use Rattle.rules.specs.Reference.{reference}
 use Rattle.rules.specs.Step.{step}
 use Rattle.rules.specs.Apply.{apply}
 use Rattle.rules.specs.Induct.{induct, inductWith}

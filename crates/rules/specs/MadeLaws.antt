@@ -6,25 +6,25 @@ use Prim.Native.Nat.{ℕ, zero, suc, _+_, _≤_, _<_}
 use mathlib.Core.Path.{_≡_, refl, subst, sym, _∙_, ap}
 use mathlib.Core.Bool.{Bool, true, false, false≢true, true≢false}
 use mathlib.Core.Logic.{_⊎_, inl, inr}
-use mathlib.Core.Option.{Option, some, none as nothing}
+use mathlib.Core.Option.{some}
 use mathlib.Core.List.{List, [], _∷_, _++_, append-assoc, append-nil}
 use native.Mathlib.Omega.{arith}
 use lib.ListN.{length, length-append}
 use Rattle.rules.specs.Limits.{TERMS, WORDS}
 use Rattle.rules.specs.Find.{entry}
 use Rattle.rules.specs.Sexp.{Sexp}
-use Rattle.rules.specs.Tree.{Tree, Trees, var, app, none, more, sameTree, node}
+use Rattle.rules.specs.Tree.{Tree, Trees, app, sameTree, node}
 use Rattle.rules.specs.TreeLaws.{same-tree, same-self}
-use Rattle.rules.specs.Store.{Made, stored, number, words, keep, make, substitute, substitutes}
+use Rattle.rules.specs.Store.{Made, stored, number, words}
 use Rattle.rules.specs.Theory.{Theory}
-use Rattle.rules.specs.State.{State, Goal, Counts, begin}
+use Rattle.rules.specs.State.{State, Counts, begin}
 use Rattle.rules.specs.Proof.{takeGoal, takeForm, takenGoal}
 use Rattle.rules.specs.Check.{check}
 use Rattle.rules.specs.OutLaws.{Ok, weaken}
 use Rattle.rules.specs.EntryLaws.{change-all}
-use Rattle.rules.specs.TheoryLaws.{All, empty, both, all-snoc}
-use Rattle.rules.specs.Keeping.{Each, Arguments, Kind, Grows, each-map}
-use Rattle.rules.specs.ReadLaws.{FactIn, GoalIn, Ready, ready-on}
+use Rattle.rules.specs.TheoryLaws.{empty, all-snoc}
+use Rattle.rules.specs.Keeping.{Each, Arguments, Kind, each-map}
+use Rattle.rules.specs.ReadLaws.{Ready, ready-on}
 use Rattle.rules.specs.FormLaws.{Posed, posedVar, posedGoal, Taken, newVar, newDef, newFact, gotResult, take-goal-takes, take-form-takes}
 use Rattle.rules.specs.Reached.{check-reaches}
 
@@ -120,7 +120,7 @@ unfolding ClosedBehind In
 closed-below b [] c ts k i = absurd i
 closed-below b (t ∷ m) c ts k (inl e) =
     each-map (λ u. In u b) (λ u. In u (b ++ (t ∷ m))) (λ u i. in-front b (t ∷ m) u i) ts
-      (arguments-each (λ u. In u b) c ts (subst (Arguments (λ u. In u b)) (sym e) (k .0)))
+    (arguments-each (λ u. In u b) c ts (subst (Arguments (λ u. In u b)) (sym e) (k .0)))
 closed-below b (t ∷ m) c ts k (inr i) = subst (λ l. Each (λ u. In u l) ts) (append-assoc b (t ∷ []) m) (closed-below (b ++ (t ∷ [])) m c ts (k .1) i)
 
 pub words-snoc : (m : Made) (t : Tree) → words (m ++ (t ∷ [])) ≡ words m + node t
@@ -140,10 +140,12 @@ sound = record {
     distinct = distinct-snoc m t (g .distinct) (not-stored m t e);
     closed = closed-snoc [] m t (g .closed) a;
     row8 = omega (arith, length-append m (t ∷ []));
-    row9 = omega (arith, words-snoc m t) };
+    row9 = omega (arith, words-snoc m t);
+  };
   last = in-last;
   longer = in-front;
-  below = λ m c ts g i. closed-below [] m c ts (g .closed) i }
+  below = λ m c ts g i. closed-below [] m c ts (g .closed) i;
+}
 
 -- By number --------------------------------------------------------------------------------------------------------------------------
 
@@ -192,12 +194,12 @@ before-number b [] i c ts k e = absurd (let z : _≡_ {A = ℕ} 0 1 = cc in omeg
 before-number b (t ∷ m) zero c ts k e =
     let q : t ≡ app c ts = cc in
     each-map (λ u. In u b) (λ u. number (b ++ (t ∷ m)) u < length b + 0) (λ u i. omega (arith, in-number b u i, number-front b (t ∷ m) u i)) ts
-      (arguments-each (λ u. In u b) c ts (subst (Arguments (λ u. In u b)) q (k .0)))
+    (arguments-each (λ u. In u b) c ts (subst (Arguments (λ u. In u b)) q (k .0)))
 before-number b (t ∷ m) (suc i) c ts k e =
     each-map (λ u. number ((b ++ (t ∷ [])) ++ m) u < length (b ++ (t ∷ [])) + i) (λ u. number (b ++ (t ∷ m)) u < length b + suc i)
-      (λ u l. let q : number ((b ++ (t ∷ [])) ++ m) u ≡ number (b ++ (t ∷ m)) u = ap (λ x. number x u) (append-assoc b (t ∷ []) m) in
-        omega (arith, length-append b (t ∷ []))) ts
-      (before-number (b ++ (t ∷ [])) m i c ts (k .1) e)
+    (λ u l. let q : number ((b ++ (t ∷ [])) ++ m) u ≡ number (b ++ (t ∷ m)) u = ap (λ x. number x u) (append-assoc b (t ∷ []) m) in
+    omega (arith, length-append b (t ∷ []))) ts
+    (before-number (b ++ (t ∷ [])) m i c ts (k .1) e)
 
 pub arguments-before : (m : Made) → Closed m → (i c : ℕ) (ts : Trees) → entry m i ≡ some (app c ts) → Each (λ u. number m u < i) ts
 arguments-before m k i c ts e = each-map (λ u. number m u < 0 + i) (λ u. number m u < i) (λ u l. omega arith) ts (before-number [] m i c ts k e)
@@ -218,8 +220,12 @@ module _ {K : Kind} where
       let w = ready-on h g in record { good = w .good; defs = w .defs; goals = w .goals; facts = all-snoc (w .facts) p }
   taken-ready {S} h (gotResult m k d g e t) =
       let w = ready-on h g in
-      record { good = w .good; defs = w .defs; facts = w .facts;
-        goals = change-all (S .goals) k takenGoal (λ x p. record { judgment = p .judgment; hyps = p .hyps }) (w .goals) }
+      record {
+        good = w .good;
+        defs = w .defs;
+        facts = w .facts;
+        goals = change-all (S .goals) k takenGoal (λ x p. record { judgment = p .judgment; hyps = p .hyps }) (w .goals);
+      }
 
 -- at the beginning nothing is made
 begins-sound : (T : Theory) → Ready sound (begin T) []

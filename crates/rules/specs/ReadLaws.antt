@@ -1,26 +1,25 @@
 -- The walk of Keeping through reading: terms, judgments, bindings and references, over a state whose trees are among the made ones.
 -- Assumes nothing.
-use Prim.Native.Nat.{ℕ, zero, suc, _+_}
-use mathlib.Core.Path.{_≡_, refl, subst, sym}
+use Prim.Native.Nat.{ℕ}
+use mathlib.Core.Path.{_≡_, subst}
 use mathlib.Core.Bool.{Bool, true, false, not}
-use mathlib.Core.Option.{Option, some, none as nothing}
-use mathlib.Core.List.{List, [], _∷_, _++_}
+use mathlib.Core.Option.{some}
+use mathlib.Core.List.{List, [], _∷_}
 use native.Mathlib.Omega.{arith}
 use lib.Dec.{leb, eqb}
-use Rattle.rules.specs.Out.{Out, ok, refuse, then, ask, found}
+use Rattle.rules.specs.Out.{ok}
 use Rattle.rules.specs.Text.{same}
-use Rattle.rules.specs.Sexp.{Sexp, Sexps, atom, list, nil, cons, count, item, rest, Name, name, items, marked}
-use Rattle.rules.specs.Find.{entry}
-use Rattle.rules.specs.Tree.{Tree, Trees, var, app, none, more}
-use Rattle.rules.specs.Store.{Made, keep}
-use Rattle.rules.specs.Theory.{Theory, inputs, constructorNamed, predicateNamed}
+use Rattle.rules.specs.Sexp.{Sexp, Sexps, atom, list, nil, cons, count, item, rest, marked}
+use Rattle.rules.specs.Tree.{Tree, var, app, none}
+use Rattle.rules.specs.Store.{Made}
+use Rattle.rules.specs.Theory.{inputs, constructorNamed, predicateNamed}
 use Rattle.rules.specs.Unify.{Binding, along, insert}
 use Rattle.rules.specs.State.{State, Def, Goal, Fact, sortOf, sortOfVar, fit, varNamed, abbreviated, isEmpty}
-use Rattle.rules.specs.Read.{index, variable, named, term, compound, terms, termOf, judgment, judgmentEach, judgments}
-use Rattle.rules.specs.Reference.{Ref, factAt, binding, binds, bindings, instance, reference}
+use Rattle.rules.specs.Read.{named, term, compound, terms, termOf, judgment, judgmentEach, judgments}
+use Rattle.rules.specs.Reference.{factAt, binding, binds, bindings, instance, reference}
 use Rattle.rules.specs.TheoryLaws.{All, empty, both, all-map}
 use Rattle.rules.specs.EntryLaws.{all-entry, fact-entry}
-use Rattle.rules.specs.Keeping.{Each, Arguments, Kind, Grows, Keeps, fine, off, stays, has-on, each-on, weaken, by-then, by-still, by-ask, by-found, by-either, by-given}
+use Rattle.rules.specs.Keeping.{Each, Arguments, Kind, Grows, Keeps, fine, off, stays, has-on, each-on, by-then, by-still, by-ask, by-found, by-either, by-given}
 use Rattle.rules.specs.MakingLaws.{Known, Knowns, Values, keep-keeps, found-keeps, substitute-keeps, values-on, insert-values}
 use Rattle.rules.specs.StillLaws.{name-still, items-still, index-still, variable-still, fact-at-still}
 
@@ -59,8 +58,12 @@ module _ {K : Kind} where
 
   pub ready-on : {S : State} {m u : Made} → Ready K S m → Grows K m u → Ready K S u
   ready-on h g =
-      record { good = g .good; defs = all-map (λ d k. has-on g k) (h .defs); goals = all-map (λ f k. goal-on g k) (h .goals);
-        facts = all-map (λ f k. fact-on g k) (h .facts) }
+      record {
+        good = g .good;
+        defs = all-map (λ d k. has-on g k) (h .defs);
+        goals = all-map (λ f k. goal-on g k) (h .goals);
+        facts = all-map (λ f k. fact-on g k) (h .facts);
+      }
 
   -- a fact by its number
   pub fact-in : {S : State} {m : Made} (i : ℕ) (f : Fact) → Ready K S m → factAt S i m ≡ ok f m → FactIn K m f

@@ -8,7 +8,7 @@ use native.Mathlib.Omega.{arith}
 use borrow.Author.Tests.{eqb-true}
 use lib.Dec.{eqb}
 use Rattle.rules.specs.Find.{Set, has, risingFrom, rising}
-use Rattle.rules.specs.TheoryLaws.{All, empty, both, all-map}
+use Rattle.rules.specs.TheoryLaws.{All, empty, both}
 
 -- each from k on, and above the one before
 unfoldable pub RisesFrom : ℕ → List ℕ → Type 0

@@ -1,6 +1,6 @@
 -- Rows 7 and 10 to 13 of question 60 hold in every state that a check reaches (rows 8 and 9: MadeLaws). A form that stored without its
 -- question, or put it to another list, would be caught here. Assumes nothing.
-use Prim.Native.Nat.{ℕ, zero, suc, _+_, _≤_, _<_}
+use Prim.Native.Nat.{ℕ, zero, suc, _+_, _≤_}
 use mathlib.Core.Path.{_≡_, refl, ap}
 use mathlib.Core.List.{List, [], _∷_, _++_}
 use native.Mathlib.Omega.{arith}
@@ -56,8 +56,13 @@ unfolding entries
 posed-rows {S} h (posedVar v l) =
     record { row7 = omega (arith, length-append (S .vars) (v ∷ [])); row10 = h .row10; row11 = h .row11; row12 = h .row12; row13 = h .row13 }
 posed-rows {S} h (posedGoal m g k i l r) =
-    record { row7 = h .row7; row10 = h .row10; row11 = omega (arith, length-append (S .goals) (g ∷ [])); row12 = h .row12;
-      row13 = omega (arith, r, goal-entries-snoc (S .goals) g) }
+    record {
+      row7 = h .row7;
+      row10 = h .row10;
+      row11 = omega (arith, length-append (S .goals) (g ∷ []));
+      row12 = h .row12;
+      row13 = omega (arith, r, goal-entries-snoc (S .goals) g);
+    }
 
 taken-rows : {S U : State} {c : Counts} → Rows S → Taken anything S c U → Rows U
 unfolding entries
@@ -66,11 +71,21 @@ taken-rows {S} h (newVar v l) =
 taken-rows {S} h (newDef m d g p l) =
     record { row7 = h .row7; row10 = omega (arith, length-append (S .defs) (d ∷ [])); row11 = h .row11; row12 = h .row12; row13 = h .row13 }
 taken-rows {S} h (newFact vs m f c l g p n k r) =
-    record { row7 = l .row (h .row7); row10 = h .row10; row11 = h .row11; row12 = omega (arith, length-append (S .facts) (f ∷ []));
-      row13 = omega (arith, r, all-entries-snoc (S .facts) f) }
+    record {
+      row7 = l .row (h .row7);
+      row10 = h .row10;
+      row11 = h .row11;
+      row12 = omega (arith, length-append (S .facts) (f ∷ []));
+      row13 = omega (arith, r, all-entries-snoc (S .facts) f);
+    }
 taken-rows {S} h (gotResult m k d g e t) =
-    record { row7 = h .row7; row10 = h .row10; row11 = omega (arith, h .row11, change-length (S .goals) k takenGoal); row12 = h .row12;
-      row13 = omega (arith, h .row13, change-entries (S .goals) k) }
+    record {
+      row7 = h .row7;
+      row10 = h .row10;
+      row11 = omega (arith, h .row11, change-length (S .goals) k takenGoal);
+      row12 = h .row12;
+      row13 = omega (arith, h .row13, change-entries (S .goals) k);
+    }
 
 pub take-goal-rows : (x : Sexp) (S : State) → Rows S → Ok (λ a U. Rows U) (takeGoal x S)
 take-goal-rows x S h = weaken (take-goal-takes x S (ready-any S (S .made))) (λ a U p. posed-rows h p)

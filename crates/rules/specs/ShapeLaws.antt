@@ -1,28 +1,28 @@
 -- The shape of facts: what a fact rests on is earlier or itself, rising without repetition, each assumed; an assumed fact rests on itself
 -- alone; a fact that is not assumed has no premises and generalises nothing. A form that dropped a hypothesis's number, or named a fact that
 -- is not assumed, would not have it. Assumes nothing.
-use Prim.Native.Nat.{ℕ, zero, suc, _+_, _≤_, _<_}
+use Prim.Native.Nat.{ℕ, _≤_}
 use mathlib.Core.Path.{_≡_, refl, subst, sym, _∙_}
-use mathlib.Core.Bool.{Bool, true, false, _&&_, _||_, false≢true}
-use mathlib.Core.Logic.{_⊎_, inl, inr}
-use mathlib.Core.Option.{Option, some, none as nothing}
+use mathlib.Core.Bool.{Bool, true, false, _&&_, false≢true}
+use mathlib.Core.Logic.{inl, inr}
+use mathlib.Core.Option.{some}
 use mathlib.Core.List.{List, [], _∷_, _++_}
 use native.Mathlib.Omega.{arith}
-use lib.ListN.{length, length-append}
-use Rattle.rules.specs.Out.{Out, ok, refuse, then, Act, ask, found}
-use Rattle.rules.specs.Sexp.{Sexp, Sexps, atom, list, nil, cons, item, rest, items}
+use lib.ListN.{length}
+use Rattle.rules.specs.Out.{Out, ok, refuse, then, Act, ask}
+use Rattle.rules.specs.Sexp.{Sexp, Sexps, atom, list, nil, cons, item}
 use Rattle.rules.specs.Find.{Set, entry, all, has, union, rising}
-use Rattle.rules.specs.Tree.{Tree, Trees, none, more}
+use Rattle.rules.specs.Tree.{Trees, none, more}
 use Rattle.rules.specs.Store.{Made}
 use Rattle.rules.specs.Unify.{Binding}
 use Rattle.rules.specs.State.{State, Fact, isPlain, isNone, isEmpty}
-use Rattle.rules.specs.Reference.{Ref, factAt, instance, reference, hypEach, hypList, judgmentsAt}
-use Rattle.rules.specs.Step.{Refs, withRef, references, step}
+use Rattle.rules.specs.Reference.{instance, reference, hypEach, hypList, judgmentsAt}
+use Rattle.rules.specs.Step.{references, step}
 use Rattle.rules.specs.Apply.{Applied, plainAt, applied, discharge, apply}
 use Rattle.rules.specs.Induct.{inductOn, induct, inductWith}
 use Rattle.rules.specs.Invert.{invert}
 use Rattle.rules.specs.TheoryLaws.{All, empty, both, all-map}
-use Rattle.rules.specs.OutLaws.{Ok, fine, off, of-ok, weaken, by-then, by-items, by-ask}
+use Rattle.rules.specs.OutLaws.{Ok, fine, off, by-then, by-ask}
 use Rattle.rules.specs.RisingLaws.{Rises, RisesFrom, rising-rises, rising-all-of, has-all, or-cases}
 use Rattle.rules.specs.EntryLaws.{entry-below, entry-front, entry-snoc, entry-last, fact-entry}
 
@@ -65,17 +65,27 @@ assumed-on fs gs h a = record { fact = a .fact; is = entry-front fs gs h (a .fac
 shaped-last : (fs : List Fact) (f : Fact) → Shape fs f → Shaped (fs ++ (f ∷ [])) (length fs) f
 unfolding RisesFrom
 shaped-last fs f (stated a e) =
-    record { rises = rw e (omega arith, tt); earlier = rw e (both {x = length fs} (omega arith) empty);
-      rests = subst (All (Assumed (fs ++ (f ∷ [])))) (sym e) (both (record { fact = f; is = entry-last fs f; assumed = a }) empty); own = λ q. e; plain = λ q. absurd (false≢true (sym q ∙ a)) }
+    record {
+      rises = rw e (omega arith, tt);
+      earlier = rw e (both {x = length fs} (omega arith) empty);
+      rests = subst (All (Assumed (fs ++ (f ∷ [])))) (sym e) (both (record { fact = f; is = entry-last fs f; assumed = a }) empty);
+      own = λ q. e;
+      plain = λ q. absurd (false≢true (sym q ∙ a));
+    }
 shaped-last fs f (derived d) =
-    record { rises = d .rises; earlier = all-map (λ v k. let l = entry-below fs v (k .fact) (k .is) in omega arith) (d .rests);
-      rests = all-map (λ v k. assumed-on fs (f ∷ []) v k) (d .rests); own = λ q. absurd (false≢true (sym (d .assumed) ∙ q));
-      plain = λ q. (d .premises, d .general) }
+    record {
+      rises = d .rises;
+      earlier = all-map (λ v k. let l = entry-below fs v (k .fact) (k .is) in omega arith) (d .rests);
+      rests = all-map (λ v k. assumed-on fs (f ∷ []) v k) (d .rests);
+      own = λ q. absurd (false≢true (sym (d .assumed) ∙ q));
+      plain = λ q. (d .premises, d .general);
+    }
 
 pub all-shaped-snoc : (fs : List Fact) (f : Fact) → AllShaped fs → Shape fs f → AllShaped (fs ++ (f ∷ []))
-all-shaped-snoc fs f w s n g e = elim (entry-snoc fs f n g e)
-    [ inl q ↦ let h = w n g q in record { rises = h .rises; earlier = h .earlier; rests = all-map (λ v k. assumed-on fs (f ∷ []) v k) (h .rests); own = h .own; plain = h .plain }
-    | inr q ↦ rw (q .0, q .1) (shaped-last fs f s) ]
+all-shaped-snoc fs f w s n g e = elim (entry-snoc fs f n g e) [
+  | inl q ↦ let h = w n g q in record { rises = h .rises; earlier = h .earlier; rests = all-map (λ v k. assumed-on fs (f ∷ []) v k) (h .rests); own = h .own; plain = h .plain }
+  | inr q ↦ rw (q .0, q .1) (shaped-last fs f s)
+]
 
 -- Any action, then what follows -------------------------------------------------------------------------------------------------
 
@@ -116,8 +126,13 @@ module _ (S : State) (w : AllShaped (S .facts)) where
   -- a derived fact over such a set
   over : {f : Fact} (a : Set) → Rest a → f .assumed ≡ false → f .premises ≡ none → f .general ≡ [] → f .hyps ≡ rising (length (S .facts)) a → Derived (S .facts) f
   over {f} a h e p g q =
-      record { assumed = e; premises = p; general = g; rises = subst Rises (sym q) (rising-rises (length (S .facts)) a);
-        rests = subst (All (Assumed (S .facts))) (sym q) (rising-all-of (length (S .facts)) a (λ v l t. h v t)) }
+      record {
+        assumed = e;
+        premises = p;
+        general = g;
+        rises = subst Rises (sym q) (rising-rises (length (S .facts)) a);
+        rests = subst (All (Assumed (S .facts))) (sym q) (rising-all-of (length (S .facts)) a (λ v l t. h v t));
+      }
 
   pub step-shape : (xs : Sexps) (m : Made) → Ok (λ r u. Derived (S .facts) (r .0)) (step S xs m)
   unfolding step
@@ -132,11 +147,12 @@ module _ (S : State) (w : AllShaped (S .facts)) where
   unfolding applied
   applied-rest bs i f m e = go (f .assumed) refl
     where
-      go : (b : Bool) → f .assumed ≡ b → Ok (λ a u. All (Assumed (S .facts)) (a .hyps)) ((elim b as (λ (z : Bool). Act Made Applied)
-          [ true ↦ λ s. then (ask 36 (all (λ b. has (f .general) (b .variable)) bs) s) λ _ s.
-              ok (record { premises = f .premises; conclusion = f .judgment; hyps = i ∷ [] }) s
-          | false ↦ λ s. then (ask 40 (all (plainAt (S .facts)) (f .hyps)) s) λ _ s.
-              ok (record { premises = judgmentsAt (S .facts) (f .hyps); conclusion = f .judgment; hyps = [] }) s ]) m)
+      go : (b : Bool) → f .assumed ≡ b → Ok (λ a u. All (Assumed (S .facts)) (a .hyps)) ((elim b as (λ (z : Bool). Act Made Applied) [
+        | true ↦ λ s. then (ask 36 (all (λ b. has (f .general) (b .variable)) bs) s) λ _ s.
+            ok (record { premises = f .premises; conclusion = f .judgment; hyps = i ∷ [] }) s
+        | false ↦ λ s. then (ask 40 (all (plainAt (S .facts)) (f .hyps)) s) λ _ s.
+            ok (record { premises = judgmentsAt (S .facts) (f .hyps); conclusion = f .judgment; hyps = [] }) s
+      ]) m)
       go true q = past _ _ λ t u k. fine (both (record { fact = f; is = e; assumed = q }) empty)
       go false q = past _ _ λ t u k. fine empty
 
@@ -176,7 +192,7 @@ module _ (S : State) (w : AllShaped (S .facts)) where
       Ok (λ f u. Derived (S .facts) f) (inductOn S x hs y z m)
   unfolding inductOn
   induct-on-shape x hs y z m h r =
-      past _ _ λ j a e. past _ _ λ cs b e. past _ _ λ t c e. past _ _ λ u d e. past _ _ λ v f e. 
+      past _ _ λ j a e. past _ _ λ cs b e. past _ _ λ t c e. past _ _ λ u d e. past _ _ λ v f e.
       fine (record { assumed = refl; premises = refl; general = refl; rises = r; rests = h })
 
   pub induct-shape : (xs : Sexps) (m : Made) → Ok (λ f u. Derived (S .facts) f) (induct S xs m)
@@ -196,5 +212,5 @@ module _ (S : State) (w : AllShaped (S .facts)) where
       by-then _ _ (hyp-list-rest (λ f. f .assumed) (λ f q. q) (item xs 3) b) λ hs c e h.
       past _ _ λ j d e. past _ _ λ ys g e. past _ _ λ cs l e. past _ _ λ N n e.
       fine (over (union (has (i ∷ [])) (has hs))
-        (union-rest (i ∷ []) (has hs) (both (record { fact = k; is = fact-entry S i a b k f; assumed = plain-assumed k p }) empty) (λ v t. has-all hs v (h .0) t))
-        refl refl refl refl)
+      (union-rest (i ∷ []) (has hs) (both (record { fact = k; is = fact-entry S i a b k f; assumed = plain-assumed k p }) empty) (λ v t. has-all hs v (h .0) t))
+      refl refl refl refl)
