@@ -43,6 +43,6 @@ pub mod Reached
 pub mod MadeLaws
 pub mod MadeActions
 pub mod FactLaws
-pub mod RowLaws
+pub mod StateRows
 pub mod CountLaws
 pub mod Inside
