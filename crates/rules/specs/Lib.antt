@@ -27,10 +27,10 @@ pub mod OutLaws
 pub mod FindLaws
 pub mod TheoryLaws
 pub mod TreeLaws
-pub mod EntryLaws
 pub mod Keeping
 pub mod MakingLaws
 pub mod StillLaws
+pub mod EntryLaws
 pub mod ReadLaws
 pub mod StepLaws
 pub mod CaseLaws
