@@ -6,6 +6,7 @@ use Prim.Native.Nat.{ℕ, _+_}
 use mathlib.Core.Path.{_≡_, refl}
 use mathlib.Core.List.{List, [], _∷_, _++_}
 use native.Mathlib.Omega.{arith}
+use lib.ListN.{length}
 use Rattle.rules.specs.Find.{entry}
 use Rattle.rules.specs.Sexp.{Sexp}
 use Rattle.rules.specs.Theory.{Theory}
@@ -13,7 +14,7 @@ use Rattle.rules.specs.State.{State, Fact, Counts, begin}
 use Rattle.rules.specs.Proof.{takeGoal, takeForm, plus}
 use Rattle.rules.specs.Check.{check}
 use Rattle.rules.specs.OutLaws.{Ok, weaken}
-use Rattle.rules.specs.ShapeLaws.{AllShaped, all-shaped-snoc}
+use Rattle.rules.specs.ShapeLaws.{ShapedIn, all-shaped-snoc}
 use Rattle.rules.specs.FormLaws.{assumedOne, Posed, posedVar, posedGoal, Taken, newVar, newDef, newFact, gotResult, take-goal-takes, take-form-takes}
 use Rattle.rules.specs.Appends.{anything, ready-any}
 use Rattle.rules.specs.Reached.{check-reaches}
@@ -29,7 +30,7 @@ assumed-snoc [] f = omega arith
 assumed-snoc (g ∷ fs) f = omega (arith, assumed-snoc fs f)
 
 pub record FactsRight (S : State) : Type 0 where
-  pub shaped : AllShaped (S .facts)
+  pub shaped : ShapedIn S
   pub hypotheses : S .counts .hypotheses ≡ assumedIn (S .facts)
 
 begins-right : (T : Theory) → FactsRight (begin T)
@@ -46,7 +47,7 @@ taken-right h (newVar v l) = record { shaped = h .shaped; hypotheses = h .hypoth
 taken-right h (newDef m d g p l) = record { shaped = h .shaped; hypotheses = h .hypotheses }
 taken-right {S} h (newFact vs m f c l g p n k r) =
     let q = n (h .shaped) in
-    record { shaped = all-shaped-snoc (S .facts) f (h .shaped) (q .shape); hypotheses = omega (arith, h .hypotheses, q .weighs, assumed-snoc (S .facts) f) }
+    record { shaped = all-shaped-snoc (length (S .theory .rules)) (S .facts) f (h .shaped) (q .shape); hypotheses = omega (arith, h .hypotheses, q .weighs, assumed-snoc (S .facts) f) }
 taken-right h (gotResult m k d g e t) = record { shaped = h .shaped; hypotheses = h .hypotheses }
 
 pub take-goal-right : (x : Sexp) (S : State) → FactsRight S → Ok (λ a U. FactsRight U) (takeGoal x S)

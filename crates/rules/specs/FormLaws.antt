@@ -32,7 +32,7 @@ use Rattle.rules.specs.StillLaws.{still-then, index-still, vars-list-sti
 use Rattle.rules.specs.ReadLaws.{FactIn, GoalIn, Ready, ready-on, term-keeps, judgment-keeps, judgments-keeps, reference-keeps}
 use Rattle.rules.specs.StepLaws.{step-keeps, apply-keeps}
 use Rattle.rules.specs.CaseLaws.{Longer, same-vars, induct-keeps, induct-with-keeps, invert-keeps}
-use Rattle.rules.specs.ShapeLaws.{AllShaped, Derived, Shape, stated, derived, step-shape, apply-shape, induct-shape, induct-with-shape, invert-shape}
+use Rattle.rules.specs.ShapeLaws.{ShapedIn, DerivedIn, Shape, stated, derived, step-shape, apply-shape, induct-shape, induct-with-shape, invert-shape}
 use Rattle.rules.specs.Tally.{counted, countedForm, counted-form, bracketsIn, step-counts}
 
 -- What a form does ----------------------------------------------------------------------------------------------------------------
@@ -46,8 +46,8 @@ abbrev pub entriesSoFar : State → ℕ
 entriesSoFar S = goalEntries (S .goals) + allEntries (S .facts)
 
 -- a new fact over shaped ones
-pub record NewFact (fs : List Fact) (f : Fact) (c : Counts) : Type 0 where
-  pub shape : Shape fs f
+pub record NewFact (S : State) (f : Fact) (c : Counts) : Type 0 where
+  pub shape : Shape (length (S .theory .rules)) (S .facts) f
   pub weighs : c .hypotheses ≡ assumedOne f
 
 -- the state with further variables and trees
@@ -66,7 +66,7 @@ pub data Taken (K : Kind) (S : State) : Counts → State → Type 0 where
   newDef : (m : Made) (d : Def) → Grows K (S .made) m → K .Has m (d .term) → length (S .defs) < DEFS →
       Taken K S noCounts (withDefs (withMade S m) (S .defs ++ (d ∷ [])))
   newFact : (vs : List Var) (m : Made) (f : Fact) (c : Counts) → Longer (S .vars) vs → Grows K (S .made) m → FactIn K m f →
-      (AllShaped (S .facts) → NewFact (S .facts) f c) → length (S .facts) < FACTS → entriesSoFar S + factEntries f ≤ ENTRIES →
+      (ShapedIn S → NewFact S f c) → length (S .facts) < FACTS → entriesSoFar S + factEntries f ≤ ENTRIES →
       Taken K S c (withFacts (grown S vs m) (S .facts ++ (f ∷ [])) (plus (S .counts) c))
   gotResult : (m : Made) (k : ℕ) (g : Goal) → Grows K (S .made) m → entry (S .goals) k ≡ some g → g .taken ≡ false →
       Taken K S noCounts (withGoals (withMade S m) (change (S .goals) k takenGoal))
@@ -99,12 +99,12 @@ module _ {K : Kind} {A B : Type 0} {P : B → State → Type 0} {Q : A → Made 
   by-making act T f h k = told-making T f (act (T .made)) h k
 
 -- a hypothesis
-assumes : (fs : List Fact) (j : Tree) (ps : Trees) (vs : List ℕ) → NewFact fs (hypothesis (length fs) j ps vs) oneHypothesis
+assumes : (S : State) (j : Tree) (ps : Trees) (vs : List ℕ) → NewFact S (hypothesis (length (S .facts)) j ps vs) oneHypothesis
 unfolding assumedOne
-assumes fs j ps vs = record { shape = stated refl refl; weighs = refl }
+assumes S j ps vs = record { shape = stated refl refl refl; weighs = refl }
 
 -- a fact that is derived
-derives : {fs : List Fact} {f : Fact} {c : Counts} → c .hypotheses ≡ 0 → Derived fs f → NewFact fs f c
+derives : {S : State} {f : Fact} {c : Counts} → c .hypotheses ≡ 0 → DerivedIn S f → NewFact S f c
 unfolding assumedOne
 derives e d = record { shape = derived d; weighs = rw (d .assumed) e }
 
@@ -168,7 +168,7 @@ module _ {K : Kind} where
   -- Facts -----------------------------------------------------------------------------------------------------------------------
 
   add-fact-takes : (f : Fact) (c : Counts) (S : State) (vs : List Var) (m : Made) → Longer (S .vars) vs → Grows K (S .made) m → FactIn K m f →
-      (AllShaped (S .facts) → NewFact (S .facts) f c) → Ok (λ a U. Taken K S c U) (addFact f c (grown S vs m))
+      (ShapedIn S → NewFact S f c) → Ok (λ a U. Taken K S c U) (addFact f c (grown S vs m))
   unfolding addFact entries
   add-fact-takes f c S vs m l g p n =
       go-on _ (by-room 12 (ltb (length (S .facts)) FACTS) _ _ λ e. by-room 13 (leb (entriesSoFar S + factEntries f) ENTRIES) _ _ λ d.
@@ -178,7 +178,7 @@ module _ {K : Kind} where
   unfolding addHyp Each
   add-hyp-takes xs S h =
       go-on _ (by-making (judgment S (item xs 2)) S _ (judgment-keeps S (item xs 2) (S .made) h) λ j u e g p.
-      add-fact-takes _ _ S (S .vars) u (same-vars (S .vars)) g (record { judgment = p; premises = tt }) (λ w. assumes (S .facts) j none []))
+      add-fact-takes _ _ S (S .vars) u (same-vars (S .vars)) g (record { judgment = p; premises = tt }) (λ w. assumes S j none []))
 
   add-rule-hyp-takes : (xs : Sexps) (S : State) → Ready K S (S .made) → Ok (λ a U. Taken K S oneHypothesis U) (addRuleHyp xs S)
   unfolding addRuleHyp
@@ -187,7 +187,7 @@ module _ {K : Kind} where
       by-making (judgment S (item xs 3)) (withMade S u) _ (judgment-keeps S (item xs 3) u (ready-on h g)) λ j w f k q.
       from-still _ _ (vars-list-still 36 S (item xs 4)) λ vs e.
       add-fact-takes _ _ S (S .vars) w (same-vars (S .vars)) (keeping.further g k) (record { judgment = q; premises = each-on ps k p })
-      (λ v. assumes (S .facts) j ps vs))
+      (λ v. assumes S j ps vs))
 
   add-step-takes : (xs : Sexps) (S : State) → Ready K S (S .made) → Ok (λ a U. Taken K S (someInstances (bracketsIn (item xs 3))) U) (addStep xs S)
   unfolding addStep

@@ -1,8 +1,8 @@
--- What is read lies in the text: every atom stands where its place says, with the bytes that are there and at least one, and every form ends
--- inside the text. A lexer that gave an atom another place, lost or repeated a byte of it, or made an atom of nothing, would be caught here.
--- Assumes nothing.
+-- What is read lies in the text: every atom stands where its place says, with the bytes that are there, at least one, letters all, and no
+-- letter behind them; and every form ends inside the text. A lexer that gave an atom another place, lost a byte inside it or at its end, took
+-- one that belongs to no atom, or made an atom of nothing, would be caught here. Assumes nothing.
 use Prim.Native.Nat.{ℕ, suc, _+_, _≤_, _<_}
-use mathlib.Core.Path.{_≡_, refl, ap, _∙_}
+use mathlib.Core.Path.{_≡_, refl, ap, _∙_, subst}
 use mathlib.Core.Bool.{Bool, true, false}
 use mathlib.Core.List.{List, [], _∷_}
 use native.Mathlib.Numerals.{add-one}
@@ -10,15 +10,23 @@ use native.Mathlib.Omega.{arith}
 use lib.Dec.{leb, eqb}
 use lib.ListN.{length, take, drop, length-drop}
 use lib.Seq.{drop-drop}
+use Rattle.rules.specs.TheoryLaws.{All, empty, both}
 use Rattle.rules.specs.Limits.{DEPTH}
 use Rattle.rules.specs.Lex.{Kind, blank, left, right, semicolon, letter, kind, Token, opens, closes, word, Mode, between, inWord, inComment, letters, tokens}
 use Rattle.rules.specs.Sexp.{Sexp, Sexps, atom, list, nil, cons, snoc, Text, ends, fails, more, forms, readFrom, read}
 
--- the bytes stand in the text at that place
+-- no letter stands first
+unfoldable pub NoLetter : List ℕ → Type 0
+NoLetter [] = Unit {0}
+NoLetter (b ∷ t) = ¬ (kind b ≡ letter)
+
+-- the bytes stand in the text at that place, and are an atom there
 pub record At (text : List ℕ) (p : ℕ) (bs : List ℕ) : Type 0 where
   pub some : 0 < length bs
   pub inside : p + length bs ≤ length text
   pub there : take (length bs) (drop p text) ≡ bs
+  pub letters : All (λ b. kind b ≡ letter) bs
+  pub behind : NoLetter (drop (p + length bs) text)
 
 -- every atom of the form does
 unfoldable mutual
@@ -47,25 +55,29 @@ unfoldable TokensIn : List ℕ → List Token → Type 0
 TokensIn text [] = Unit {0}
 TokensIn text (x ∷ ts) = TokenIn text x × TokensIn text ts
 
--- bs is what t begins with
+-- bs is all the letters that t begins with
 record Begins (t bs : List ℕ) : Type 0 where
   short : length bs ≤ length t
   first : take (length bs) t ≡ bs
+  every : All (λ b. kind b ≡ letter) bs
+  behind : NoLetter (drop (length bs) t)
 
 letters-begin : (t : List ℕ) → Begins t (letters t)
-unfolding letters
-letters-begin [] = record { short = omega arith; first = refl }
-letters-begin (b ∷ t) = go (kind b) (letters-begin t)
+unfolding letters NoLetter
+letters-begin [] = record { short = omega arith; first = refl; every = empty; behind = tt }
+letters-begin (b ∷ t) = go (kind b) refl (letters-begin t)
   where
-    nothing : Begins (b ∷ t) []
-    nothing = record { short = omega arith; first = refl }
+    nothing : ¬ (kind b ≡ letter) → Begins (b ∷ t) []
+    nothing n = record { short = omega arith; first = refl; every = empty; behind = n }
 
-    go : (k : Kind) → Begins t (letters t) → Begins (b ∷ t) (elim k [ blank ↦ [] | left ↦ [] | right ↦ [] | semicolon ↦ [] | letter ↦ b ∷ letters t ])
-    go blank h = nothing
-    go left h = nothing
-    go right h = nothing
-    go semicolon h = nothing
-    go letter h = record { short = omega (arith, h .short); first = ap (λ l. b ∷ l) (h .first) }
+    go :
+        (k : Kind) → kind b ≡ k → Begins t (letters t) →
+        Begins (b ∷ t) (elim k [ blank ↦ [] | left ↦ [] | right ↦ [] | semicolon ↦ [] | letter ↦ b ∷ letters t ])
+    go blank e h = nothing (λ f. let z : _≡_ {A = ℕ} 0 1 = cc in omega arith)
+    go left e h = nothing (λ f. let z : _≡_ {A = ℕ} 0 1 = cc in omega arith)
+    go right e h = nothing (λ f. let z : _≡_ {A = ℕ} 0 1 = cc in omega arith)
+    go semicolon e h = nothing (λ f. let z : _≡_ {A = ℕ} 0 1 = cc in omega arith)
+    go letter e h = record { short = omega (arith, h .short); first = ap (λ l. b ∷ l) (h .first); every = both e (h .every); behind = h .behind }
 
 -- the text from place p on is the byte b and then t
 module _ (text : List ℕ) (p b : ℕ) (t : List ℕ) (e : b ∷ t ≡ drop p text) where
@@ -75,31 +87,32 @@ module _ (text : List ℕ) (p b : ℕ) (t : List ℕ) (e : b ∷ t ≡ drop p te
   rest-is : t ≡ drop (suc p) text
   rest-is = ap (drop 1) e ∙ drop-drop 1 p text ∙ ap (λ k. drop k text) (add-one p)
 
-  word-at : p ≤ length text → At text p (b ∷ letters t)
-  word-at h =
+  word-at : p ≤ length text → kind b ≡ letter → At text p (b ∷ letters t)
+  word-at h f =
       record {
         some = omega arith;
         inside = omega (arith, letters-begin t .short, ap length e, length-drop p text);
         there = rw (← e) (ap (λ l. b ∷ l) (letters-begin t .first));
-      }
+        letters = both f (letters-begin t .every);
+        behind = subst NoLetter (ap (drop (suc (length (letters t)))) e ∙ drop-drop (suc (length (letters t))) p text) (letters-begin t .behind) }
 
   module _ (h : p ≤ length text) (ih : (m : Mode) → TokensIn text (tokens m (suc p) t)) where
     between-in : TokensIn text (tokens between p (b ∷ t))
     unfolding tokens TokensIn TokenIn
-    between-in = go (kind b)
+    between-in = go (kind b) refl
       where
-        go : (k : Kind) → TokensIn text (elim k [
+        go : (k : Kind) → kind b ≡ k → TokensIn text (elim k [
           | blank ↦ tokens between (suc p) t
           | left ↦ opens p ∷ tokens between (suc p) t
           | right ↦ closes p ∷ tokens between (suc p) t
           | semicolon ↦ tokens inComment (suc p) t
           | letter ↦ word p (b ∷ letters t) ∷ tokens inWord (suc p) t
         ])
-        go blank = ih between
-        go left = (here h, ih between)
-        go right = (here h, ih between)
-        go semicolon = ih inComment
-        go letter = (word-at h, ih inWord)
+        go blank f = ih between
+        go left f = (here h, ih between)
+        go right f = (here h, ih between)
+        go semicolon f = ih inComment
+        go letter f = (word-at h f, ih inWord)
 
     word-in : TokensIn text (tokens inWord p (b ∷ t))
     unfolding tokens TokensIn TokenIn
