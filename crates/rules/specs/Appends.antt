@@ -19,9 +19,9 @@ use Rattle.rules.specs.State.{State, Goal, Counts}
 use Rattle.rules.specs.Proof.{takeGoal, takeForm, takenGoal}
 use Rattle.rules.specs.OutLaws.{Ok, fine, of-ok, by-items, by-name, by-found, by-ask}
 use Rattle.rules.specs.TheoryLaws.{All, empty, both}
-use Rattle.rules.specs.Keeping.{Each, Kind, Still, answers}
+use Rattle.rules.specs.Keeping.{Each, Invariant, Still, answers}
 use Rattle.rules.specs.StillLaws.{still-then, still-ask, still-room, name-still, items-still, found-still}
-use Rattle.rules.specs.ReadLaws.{Ready}
+use Rattle.rules.specs.ReadWalk.{Ready}
 use Rattle.rules.specs.ShapeLaws.{past}
 use Rattle.rules.specs.FormLaws.{Posed, posedVar, posedGoal, Taken, newVar, newDef, newFact, gotResult, take-goal-takes, take-form-takes, from-still, go-on}
 
@@ -56,7 +56,7 @@ change-marks [] k g e t = unmarked
 change-marks (h ∷ gs) zero g e t = let q : g ≡ h = cc in marks [] h gs (subst (λ x. x .taken ≡ false) q t)
 change-marks (h ∷ gs) (suc k) g e t = behind-goal h (change-marks gs k g e t)
 
--- Every property holds of every tree --------------------------------------------------------------------------------------------
+-- The invariant that says nothing ------------------------------------------------------------------------------------------------
 
 each-any : (ts : Trees) → Each (λ t. Unit {0}) ts
 unfolding Each
@@ -67,7 +67,7 @@ all-any : {A : Type 0} {P : A → Type 0} → ((a : A) → P a) → (xs : List A
 all-any h [] = empty
 all-any h (x ∷ xs) = both (h x) (all-any h xs)
 
-pub anything : Kind
+pub anything : Invariant
 anything = record {
   Good = λ m. Unit {0};
   Has = λ m t. Unit {0};

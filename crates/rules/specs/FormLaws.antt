@@ -26,12 +26,12 @@ use Rattle.rules.specs.Induct.{induct, inductWith}
 use Rattle.rules.specs.Invert.{invert}
 use Rattle.rules.specs.Proof.{withMade, withVars, withDefs, withGoals, withFacts, making, addVar, addDef, addGoal, goal, takeGoal, plus, addFact, hypothesis, oneHypothesis, oneInduction, oneInversion, someInstances, addHyp, addRuleHyp, addStep, addApply, addInduct, addInductWith, addInvert, listed, takenGoal, result, next, perform, takeForm}
 use Rattle.rules.specs.OutLaws.{Ok, fine, off, of-ok, by-name, by-items, by-ask, by-room, by-found}
-use Rattle.rules.specs.Keeping.{Each, Kind, Grows, each-on, Still, answers, refuses}
+use Rattle.rules.specs.Keeping.{Each, Invariant, Grows, each-on, Still, answers, refuses}
 use Rattle.rules.specs.Keeping as keeping
 use Rattle.rules.specs.StillLaws.{still-then, index-still, vars-list-still}
-use Rattle.rules.specs.ReadLaws.{FactIn, GoalIn, Ready, ready-on, term-keeps, judgment-keeps, judgments-keeps, reference-keeps}
-use Rattle.rules.specs.StepLaws.{step-keeps, apply-keeps}
-use Rattle.rules.specs.CaseLaws.{Longer, same-vars, induct-keeps, induct-with-keeps, invert-keeps}
+use Rattle.rules.specs.ReadWalk.{FactIn, GoalIn, Ready, ready-on, term-keeps, judgment-keeps, judgments-keeps, reference-keeps}
+use Rattle.rules.specs.StepWalk.{step-keeps, apply-keeps}
+use Rattle.rules.specs.CaseWalk.{Longer, same-vars, induct-keeps, induct-with-keeps, invert-keeps}
 use Rattle.rules.specs.ShapeLaws.{ShapedIn, DerivedIn, Shape, stated, derived, step-shape, apply-shape, induct-shape, induct-with-shape, invert-shape}
 use Rattle.rules.specs.Tally.{counted, countedForm, counted-form, bracketsIn, step-counts}
 
@@ -55,13 +55,13 @@ abbrev pub grown : State → List Var → Made → State
 grown S vs m = record { theory = S .theory; vars = vs; made = m; defs = S .defs; goals = S .goals; facts = S .facts; counts = S .counts }
 
 -- a form of the goals has led from state S to the state named last
-pub data Posed (K : Kind) (S : State) : State → Type 0 where
+pub data Posed (K : Invariant) (S : State) : State → Type 0 where
   posedVar : (v : Var) → length (S .vars) < VARIABLES → Posed K S (withVars S (S .vars ++ (v ∷ [])))
   posedGoal : (m : Made) (g : Goal) → Grows K (S .made) m → GoalIn K m g → length (S .goals) < GOALS → entriesSoFar S + countTrees (g .hyps) ≤ ENTRIES →
       Posed K S (withGoals (withMade S m) (S .goals ++ (g ∷ [])))
 
 -- so has a form of the proof with these counts
-pub data Taken (K : Kind) (S : State) : Counts → State → Type 0 where
+pub data Taken (K : Invariant) (S : State) : Counts → State → Type 0 where
   newVar : (v : Var) → length (S .vars) < VARIABLES → Taken K S noCounts (withVars S (S .vars ++ (v ∷ [])))
   newDef : (m : Made) (d : Def) → Grows K (S .made) m → K .Has m (d .term) → length (S .defs) < DEFS →
       Taken K S noCounts (withDefs (withMade S m) (S .defs ++ (d ∷ [])))
@@ -84,7 +84,7 @@ unfolding then
 from-still (ok a s) f answers k = k a refl
 from-still (refuse n d s) f refuses k = off
 
-module _ {K : Kind} {A B : Type 0} {P : B → State → Type 0} {Q : A → Made → Type 0} where
+module _ {K : Invariant} {A B : Type 0} {P : B → State → Type 0} {Q : A → Made → Type 0} where
   told-making : (T : State) (f : A → State → Out State B) (o : Out Made A) → keeping.Keeps K (T .made) Q o →
       ((a : A) (u : Made) → o ≡ ok a u → Grows K (T .made) u → Q a u → Ok P (f a (withMade T u))) →
       Ok P (then (elim o [ ok a u ↦ ok a (withMade T u) | refuse n d u ↦ refuse n d (withMade T u) ]) f)
@@ -132,7 +132,7 @@ add-var-takes text xs S h =
     && (isNew (predicateNamed (S .theory) (n .bytes)) && isNew (varNamed (S .vars) (n .bytes))))) S _ λ e.
     by-room 7 (ltb (length (S .vars)) VARIABLES) S _ λ e. fine (h _ (ltb-true _ VARIABLES e)))
 
-module _ {K : Kind} where
+module _ {K : Invariant} where
   add-def-takes : (xs : Sexps) (S : State) → Ready K S (S .made) → Ok (λ a U. Taken K S noCounts U) (addDef xs S)
   unfolding addDef
   add-def-takes xs S h =

@@ -94,7 +94,8 @@ module _ (text : List ℕ) (p b : ℕ) (t : List ℕ) (e : b ∷ t ≡ drop p te
         inside = omega (arith, letters-begin t .short, ap length e, length-drop p text);
         there = rw (← e) (ap (λ l. b ∷ l) (letters-begin t .first));
         letters = both f (letters-begin t .every);
-        behind = subst NoLetter (ap (drop (suc (length (letters t)))) e ∙ drop-drop (suc (length (letters t))) p text) (letters-begin t .behind) }
+        behind = subst NoLetter (ap (drop (suc (length (letters t)))) e ∙ drop-drop (suc (length (letters t))) p text) (letters-begin t .behind);
+      }
 
   module _ (h : p ≤ length text) (ih : (m : Mode) → TokensIn text (tokens m (suc p) t)) where
     between-in : TokensIn text (tokens between p (b ∷ t))

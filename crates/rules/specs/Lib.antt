@@ -28,12 +28,12 @@ pub mod FindLaws
 pub mod TheoryLaws
 pub mod TreeLaws
 pub mod Keeping
-pub mod MakingLaws
+pub mod MakingWalk
 pub mod StillLaws
 pub mod EntryLaws
-pub mod ReadLaws
-pub mod StepLaws
-pub mod CaseLaws
+pub mod ReadWalk
+pub mod StepWalk
+pub mod CaseWalk
 pub mod RisingLaws
 pub mod ShapeLaws
 pub mod Tally

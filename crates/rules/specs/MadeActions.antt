@@ -1,4 +1,4 @@
--- Every action on made trees, at the kind `sound`: from sound trees, and a state whose trees are among them, it only appends and leaves sound
+-- Every action on made trees, at the invariant `sound`: from sound trees, and a state whose trees are among them, it only appends and leaves sound
 -- trees, whether it answers or refuses, and what it answers is among them. Assumes nothing.
 use Prim.Native.Nat.{ℕ}
 use mathlib.Core.Path.{_≡_}
@@ -16,10 +16,10 @@ use Rattle.rules.specs.Apply.{apply}
 use Rattle.rules.specs.Induct.{induct, inductWith}
 use Rattle.rules.specs.Invert.{invert}
 use Rattle.rules.specs.Keeping.{Each, Arguments, Keeps}
-use Rattle.rules.specs.MakingLaws.{Unifier, keep-keeps, make-keeps, substitute-keeps, substitutes-keeps, build-keeps, unify-keeps}
-use Rattle.rules.specs.ReadLaws.{FactIn, Ready, term-keeps, judgment-keeps, judgments-keeps, reference-keeps}
-use Rattle.rules.specs.StepLaws.{step-keeps, apply-keeps}
-use Rattle.rules.specs.CaseLaws.{Longer, induct-keeps, induct-with-keeps, invert-keeps}
+use Rattle.rules.specs.MakingWalk.{Unifier, keep-keeps, make-keeps, substitute-keeps, substitutes-keeps, build-keeps, unify-keeps}
+use Rattle.rules.specs.ReadWalk.{FactIn, Ready, term-keeps, judgment-keeps, judgments-keeps, reference-keeps}
+use Rattle.rules.specs.StepWalk.{step-keeps, apply-keeps}
+use Rattle.rules.specs.CaseWalk.{Longer, induct-keeps, induct-with-keeps, invert-keeps}
 use Rattle.rules.specs.MadeLaws.{In, Sound, sound}
 
 module _ (m : Made) where

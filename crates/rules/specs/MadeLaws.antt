@@ -1,7 +1,7 @@
 -- The made trees, in every state that a check reaches: no tree stands twice, the arguments of a tree stand before it, rows 8 and 9 hold, and
 -- the trees of abbreviations, goals and facts are among them. A store that kept a tree again, stored a term before its arguments, or a form
 -- that answered a tree which it never made, would not have this. Each action on made trees keeps it whether it answers or refuses: those laws
--- are `keep-keeps`, `substitute-keeps`, `term-keeps`, `step-keeps` and so on, at the kind `sound`. Assumes nothing.
+-- are `keep-keeps`, `substitute-keeps`, `term-keeps`, `step-keeps` and so on, at the invariant `sound`. Assumes nothing.
 use Prim.Native.Nat.{ℕ, zero, suc, _+_, _≤_, _<_}
 use mathlib.Core.Path.{_≡_, refl, subst, sym, _∙_, ap}
 use mathlib.Core.Bool.{Bool, true, false, false≢true, true≢false}
@@ -23,8 +23,8 @@ use Rattle.rules.specs.Check.{check}
 use Rattle.rules.specs.OutLaws.{Ok, weaken}
 use Rattle.rules.specs.EntryLaws.{change-all}
 use Rattle.rules.specs.TheoryLaws.{empty, all-snoc}
-use Rattle.rules.specs.Keeping.{Each, Arguments, Kind, each-map}
-use Rattle.rules.specs.ReadLaws.{Ready, ready-on}
+use Rattle.rules.specs.Keeping.{Each, Arguments, Invariant, each-map}
+use Rattle.rules.specs.ReadWalk.{Ready, ready-on}
 use Rattle.rules.specs.FormLaws.{Posed, posedVar, posedGoal, Taken, newVar, newDef, newFact, gotResult, take-goal-takes, take-form-takes}
 use Rattle.rules.specs.Reached.{check-reaches}
 
@@ -131,7 +131,7 @@ words-snoc (u ∷ m) t = let e = words-snoc m t in omega arith
 pub not-stored : (m : Made) (t : Tree) → stored m t ≡ false → ¬ (In t m)
 not-stored m t e i = true≢false (sym (in-stored m t i) ∙ e)
 
-unfoldable pub sound : Kind
+unfoldable pub sound : Invariant
 sound = record {
   Good = Sound;
   Has = λ m t. In t m;
@@ -206,7 +206,7 @@ arguments-before m k i c ts e = each-map (λ u. number m u < 0 + i) (λ u. numbe
 
 -- Reached states --------------------------------------------------------------------------------------------------------------------
 
-module _ {K : Kind} where
+module _ {K : Invariant} where
   pub posed-ready : {S U : State} → Ready K S (S .made) → Posed K S U → Ready K U (U .made)
   posed-ready h (posedVar v l) = record { good = h .good; defs = h .defs; goals = h .goals; facts = h .facts }
   posed-ready h (posedGoal m g k i l r) =

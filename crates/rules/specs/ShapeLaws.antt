@@ -93,7 +93,8 @@ shaped-last n fs f (stated a e g) =
       rests = subst (All (Assumed (fs ++ (f ∷ [])))) (sym e) (both (record { fact = f; is = entry-last fs f; assumed = a }) empty);
       footing = subst (Footed n) (sym g) (no-footing n);
       own = λ q. (e, g);
-      plain = λ q. absurd (false≢true (sym q ∙ a)) }
+      plain = λ q. absurd (false≢true (sym q ∙ a));
+    }
 shaped-last n fs f (derived d) =
     record {
       rises = d .rises;
@@ -101,7 +102,8 @@ shaped-last n fs f (derived d) =
       rests = all-map (λ v k. assumed-on fs (f ∷ []) v k) (d .rests);
       footing = d .footing;
       own = λ q. absurd (false≢true (sym (d .assumed) ∙ q));
-      plain = λ q. (d .premises, d .general) }
+      plain = λ q. (d .premises, d .general);
+    }
 
 -- an earlier one
 shaped-on : (n : ℕ) (fs gs : List Fact) (k : ℕ) (f : Fact) → Shaped n fs k f → Shaped n (fs ++ gs) k f
@@ -112,13 +114,14 @@ shaped-on n fs gs k f h =
       rests = all-map (λ v a. assumed-on fs gs v a) (h .rests);
       footing = h .footing;
       own = h .own;
-      plain = h .plain }
+      plain = h .plain;
+    }
 
 pub all-shaped-snoc : (n : ℕ) (fs : List Fact) (f : Fact) → AllShaped n fs → Shape n fs f → AllShaped n (fs ++ (f ∷ []))
 all-shaped-snoc n fs f w s k g e = elim (entry-snoc fs f k g e) [
-    inl q ↦ shaped-on n fs (f ∷ []) k g (w k g q)
+  | inl q ↦ shaped-on n fs (f ∷ []) k g (w k g q)
   | inr q ↦ rw (q .0, q .1) (shaped-last n fs f s)
-  ]
+]
 
 -- Any action, then what follows -------------------------------------------------------------------------------------------------
 
@@ -166,13 +169,14 @@ module _ (S : State) (w : ShapedIn S) where
         general = g;
         rises = subst Rises (sym q) (rising-rises (length (S .facts)) a);
         rests = subst (All (Assumed (S .facts))) (sym q) (rising-all-of (length (S .facts)) a (λ v l t. h v t));
-        footing = r }
+        footing = r;
+      }
 
   pub step-shape : (xs : Sexps) (m : Made) → Ok (λ r u. DerivedIn S (r .0)) (step S xs m)
   unfolding step
   step-shape xs m =
       past _ _ λ n a e. past _ _ λ r b e. past _ _ λ ys c e. past _ _ λ t d e. by-then _ _ (references-rest ys d) λ rs u e h.
-      past _ _ λ it f e. past _ _ λ b g e. past _ _ λ c i e. past _ _ λ j k e. past _ _ λ o l e. 
+      past _ _ λ it f e. past _ _ λ b g e. past _ _ λ c i e. past _ _ λ j k e. past _ _ λ o l e.
       fine (over (rs .hyps) h refl refl refl refl (rising-footing (length (S .theory .rules)) (union (has (r ∷ [])) (rs .footing))))
 
   -- Facts by number --------------------------------------------------------------------------------------------------------------

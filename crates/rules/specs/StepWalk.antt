@@ -23,10 +23,10 @@ use Rattle.rules.specs.Reference.{judgmentsAt}
 use Rattle.rules.specs.Step.{references, Items, noItems, bindItem, stateItem, readItem, readItems, matchStated, conclude, step}
 use Rattle.rules.specs.Apply.{Applied, plainAt, applied, discharge, apply}
 use Rattle.rules.specs.TheoryLaws.{empty}
-use Rattle.rules.specs.Keeping.{Each, Kind, Grows, Keeps, fine, stays, has-on, each-on, by-then, by-still, by-ask, by-found, by-either, Still, answers}
-use Rattle.rules.specs.MakingLaws.{Known, substitute-keeps, build-keeps}
+use Rattle.rules.specs.Keeping.{Each, Invariant, Grows, Keeps, fine, stays, has-on, each-on, by-then, by-still, by-ask, by-found, by-either, Still, answers}
+use Rattle.rules.specs.MakingWalk.{Known, substitute-keeps, build-keeps}
 use Rattle.rules.specs.StillLaws.{name-still, items-still, index-still, fact-at-still, scoped-still, still-ask}
-use Rattle.rules.specs.ReadLaws.{FactIn, Ready, ready-on, term-of-keeps, judgment-keeps, bindings-keeps, reference-keeps}
+use Rattle.rules.specs.ReadWalk.{FactIn, Ready, ready-on, term-of-keeps, judgment-keeps, bindings-keeps, reference-keeps}
 
 -- Matching ----------------------------------------------------------------------------------------------------------------------
 
@@ -108,11 +108,11 @@ applied-still S bs i f m = go (f .assumed)
 
 -- Steps -------------------------------------------------------------------------------------------------------------------------
 
-pub record ItemsIn (K : Kind) (m : Made) (it : Items) : Type 0 where
+pub record ItemsIn (K : Invariant) (m : Made) (it : Items) : Type 0 where
   pub bound : Bounded (K .Has m) (it .bound)
   pub stated : (t : Tree) → it .stated ≡ some t → K .Has m t
 
-module _ {K : Kind} where
+module _ {K : Invariant} where
   no-items-in : {m : Made} → ItemsIn K m noItems
   no-items-in = record {
     bound = λ v t e. absurd (let z : _≡_ {A = ℕ} 0 1 = cc in omega arith);

@@ -19,22 +19,22 @@ use Rattle.rules.specs.Read.{named, term, compound, terms, termOf, judgm
 use Rattle.rules.specs.Reference.{factAt, binding, binds, bindings, instance, reference}
 use Rattle.rules.specs.TheoryLaws.{All, empty, both, all-map}
 use Rattle.rules.specs.EntryLaws.{all-entry, fact-entry}
-use Rattle.rules.specs.Keeping.{Each, Arguments, Kind, Grows, Keeps, fine, off, stays, has-on, each-on, by-then, by-still, by-ask, by-found, by-either, by-given}
-use Rattle.rules.specs.MakingLaws.{Known, Knowns, Values, keep-keeps, found-keeps, substitute-keeps, values-on, insert-values}
+use Rattle.rules.specs.Keeping.{Each, Arguments, Invariant, Grows, Keeps, fine, off, stays, has-on, each-on, by-then, by-still, by-ask, by-found, by-either, by-given}
+use Rattle.rules.specs.MakingWalk.{Known, Knowns, Values, keep-keeps, found-keeps, substitute-keeps, values-on, insert-values}
 use Rattle.rules.specs.StillLaws.{name-still, items-still, index-still, variable-still, fact-at-still}
 
 -- States whose trees are there --------------------------------------------------------------------------------------------------
 
-pub record FactIn (K : Kind) (m : Made) (f : Fact) : Type 0 where
+pub record FactIn (K : Invariant) (m : Made) (f : Fact) : Type 0 where
   pub judgment : K .Has m (f .judgment)
   pub premises : Each (K .Has m) (f .premises)
 
-pub record GoalIn (K : Kind) (m : Made) (g : Goal) : Type 0 where
+pub record GoalIn (K : Invariant) (m : Made) (g : Goal) : Type 0 where
   pub judgment : K .Has m (g .judgment)
   pub hyps : Each (K .Has m) (g .hyps)
 
 -- the made trees m are good, and those of abbreviations, goals and facts are among them
-pub record Ready (K : Kind) (S : State) (m : Made) : Type 0 where
+pub record Ready (K : Invariant) (S : State) (m : Made) : Type 0 where
   pub good : K .Good m
   pub defs : All (λ d. K .Has m (d .term)) (S .defs)
   pub goals : All (GoalIn K m) (S .goals)
@@ -49,7 +49,7 @@ abbreviated-has P (d ∷ ds) n (both p h) t e = go (same (d .name .bytes) n) e (
     go true e k = let q : d .term ≡ t = cc in subst P q p
     go false e k = k e
 
-module _ {K : Kind} where
+module _ {K : Invariant} where
   pub fact-on : {m u : Made} {f : Fact} → Grows K m u → FactIn K m f → FactIn K u f
   fact-on {f = f} g h = record { judgment = has-on g (h .judgment); premises = each-on (f .premises) g (h .premises) }
 

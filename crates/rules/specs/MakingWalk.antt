@@ -15,20 +15,20 @@ use Rattle.rules.specs.Store.{Made, stored, words, keep, make, makes, su
 use Rattle.rules.specs.Match.{Bound, build, builds}
 use Rattle.rules.specs.Unify.{Binding, along, insert, replace, Pair, Look, agree, clash, binds, parts, bindOrClash, differ, look, push, Found, finished, clashed, bound, onward, peel, weight, outcome, solve, unify}
 use Rattle.rules.specs.TheoryLaws.{All, empty, both, all-map}
-use Rattle.rules.specs.Keeping.{Each, Arguments, Kind, Grows, Keeps, fine, off, stays, has-on, weaken, by-then, by-room}
+use Rattle.rules.specs.Keeping.{Each, Arguments, Invariant, Grows, Keeps, fine, off, stays, has-on, weaken, by-then, by-room}
 
 -- the answered tree is stored
-abbrev pub Known : Kind → Tree → Made → Type 0
+abbrev pub Known : Invariant → Tree → Made → Type 0
 Known K t u = K .Has u t
 
-abbrev pub Knowns : Kind → Trees → Made → Type 0
+abbrev pub Knowns : Invariant → Trees → Made → Type 0
 Knowns K ts u = Each (K .Has u) ts
 
 -- every value is stored
-abbrev pub Values : Kind → List Binding → Made → Type 0
+abbrev pub Values : Invariant → List Binding → Made → Type 0
 Values K θ u = All (λ b. K .Has u (b .value)) θ
 
-module _ (K : Kind) where
+module _ (K : Invariant) where
   pub insert-values : (b : Binding) (θ : List Binding) (m : Made) → K .Has m (b .value) → Values K θ m → Values K (insert b θ) m
   unfolding insert
   insert-values b [] m p q = both p empty
@@ -81,7 +81,7 @@ module _ (K : Kind) where
   Unifier (some θ) u = Values K θ u
   Unifier nothing u = Unit {0}
 
-module _ {K : Kind} where
+module _ {K : Invariant} where
   -- Storing --------------------------------------------------------------------------------------------------------------------
 
   pub keep-this : (t : Tree) (m : Made) → K .Good m → Arguments (K .Has m) t → Keeps K m (λ a u. K .Has u t × K .Has u a) (keep t m)

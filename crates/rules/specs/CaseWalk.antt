@@ -22,10 +22,10 @@ use Rattle.rules.specs.Induct.{Motive, motiveVars, keepVars, hypothesisA
 use Rattle.rules.specs.Invert.{Case, caseNamed, Inversion, takenVars, Names, suit, makeVars, renamed, renaming, rulePremises, without, clear, contextFact, contextFacts, allowedIn, invertCase, caseOrNot, invertRule, invertRules, predicateOf, invert}
 use Rattle.rules.specs.OutLaws.{Ok, of-ok}
 use Rattle.rules.specs.OutLaws as outs
-use Rattle.rules.specs.Keeping.{Each, Arguments, Kind, Keeps, fine, off, stays, has-on, weaken, by-then, by-still, by-ask, by-either}
-use Rattle.rules.specs.MakingLaws.{Knowns, keep-keeps, substitute-keeps, substitutes-keeps, unify-keeps}
+use Rattle.rules.specs.Keeping.{Each, Arguments, Invariant, Keeps, fine, off, stays, has-on, weaken, by-then, by-still, by-ask, by-either}
+use Rattle.rules.specs.MakingWalk.{Knowns, keep-keeps, substitute-keeps, substitutes-keeps, unify-keeps}
 use Rattle.rules.specs.StillLaws.{items-still, index-still, variable-still, fact-at-still, hyp-list-still, case-vars-still, read-cases-still, renamed-still}
-use Rattle.rules.specs.ReadLaws.{FactIn, Ready, judgment-keeps}
+use Rattle.rules.specs.ReadWalk.{FactIn, Ready, judgment-keeps}
 
 -- Variables made ------------------------------------------------------------------------------------------------------------------
 
@@ -61,7 +61,7 @@ renamed-longer S I R (some c) N m =
 renamed-longer S I R nothing N m =
     outs.by-then _ _ (make-vars-longer (R .vars) (N .vars) m) λ vs u e h. outs.fine h
 
-module _ {K : Kind} where
+module _ {K : Invariant} where
   keep-vars-keeps : (vs : List ℕ) (m : Made) → K .Good m → Keeps K m (Knowns K) (keepVars vs m)
   unfolding keepVars Each Arguments
   keep-vars-keeps [] m g = fine (stays g) tt
