@@ -1,14 +1,15 @@
 -- The counts of an acceptance are those of its facts and forms: steps are the facts, hypotheses the assumed ones among them, and inductions,
 -- inversions and instances are what the forms of the proof count by their tags alone (Tally). A form that counted twice, or under another's
--- count, or a count that a goal's form changed, would be caught here. Assumes nothing.
+-- count, or a count that a goal's form changed, would be caught here; so would an acceptance with a goal that has no result. Assumes nothing.
 use Prim.Native.Nat.{ℕ, zero, suc, _+_}
 use mathlib.Core.Path.{_≡_, refl, subst, sym, _∙_}
-use mathlib.Core.Bool.{Bool, true, false}
+use mathlib.Core.Bool.{Bool, true, false, not, true≢false}
 use mathlib.Core.List.{List, [], _∷_}
 use native.Mathlib.Nat.{add-zero}
 use native.Mathlib.Omega.{arith}
 use lib.Dec.{eqb}
 use lib.ListN.{length}
+use Rattle.rules.specs.Find.{every}
 use Rattle.rules.specs.Out.{Out, ok, refuse}
 use Rattle.rules.specs.Sexp.{Sexp, Text, ends, fails, more, read}
 use Rattle.rules.specs.Text.{short, plain}
@@ -19,6 +20,7 @@ use Rattle.rules.specs.State.{State, Counts, noCounts, begin}
 use Rattle.rules.specs.Proof.{takeGoal, takeForm, plus}
 use Rattle.rules.specs.Check.{Report, accepts, Outcome, refusedIn, countOpen, report, missing, ended, afterProof, afterGoals, afterTheory, firstFailing, readable, fitting, check}
 use Rattle.rules.specs.OutLaws.{Ok, fine, off, weaken}
+use Rattle.rules.specs.TheoryLaws.{All, empty, both, all-map}
 use Rattle.rules.specs.Tally.{countedForm}
 use Rattle.rules.specs.FormLaws.{Posed, posedVar, posedGoal, Taken, newVar, newDef, newFact, gotResult, take-goal-takes, take-form-takes}
 use Rattle.rules.specs.Appends.{anything, ready-any}
@@ -89,22 +91,27 @@ goal-counts x S h = weaken (take-goal-takes x S (ready-any S (S .made))) (λ a U
 
 -- The whole check -------------------------------------------------------------------------------------------------------------------
 
--- an acceptance reports its state, and the state's counts are those of the proof's forms
+-- an acceptance reports its state, whose counts are those of the proof's forms, and no goal is missing
+pub record Reported (S : State) (t : Text) (r : Report) : Type 0 where
+  pub is : r ≡ report S
+  pub totals : Totals noCounts t (S .counts)
+  pub complete : missing S ≡ []
+
 abbrev Reports : List ℕ → Outcome → Type 0
-Reports f o = (r : Report) → o .answer ≡ accepts r → (r ≡ report (o .state)) × Totals noCounts (read f) (o .state .counts)
+Reports f o = (r : Report) → o .answer ≡ accepts r → Reported (o .state) (read f) r
 
 refuses-nothing : (f : List ℕ) (t n d k : ℕ) (S : State) → Reports f (refusedIn t n d k S)
 unfolding refusedIn
 refuses-nothing f t n d k S r e = absurd (let z : _≡_ {A = ℕ} 0 1 = cc in omega arith)
 
-ended-reports : (f : List ℕ) (k : ℕ) (S : State) (gs : List ℕ) → Totals noCounts (read f) (S .counts) → Reports f (ended k S gs)
+ended-reports : (f : List ℕ) (k : ℕ) (S : State) (gs : List ℕ) → missing S ≡ gs → Totals noCounts (read f) (S .counts) → Reports f (ended k S gs)
 unfolding ended
-ended-reports f k S [] h r e = (cc, h)
-ended-reports f k S (g ∷ gs) h r e = refuses-nothing f 3 53 (length (g ∷ gs)) k S r e
+ended-reports f k S [] q h r e = record { is = cc; totals = h; complete = q }
+ended-reports f k S (g ∷ gs) q h r e = refuses-nothing f 3 53 (length (g ∷ gs)) k S r e
 
 after-proof-reports : (f : List ℕ) (j : Judged State) → After noCounts (read f) j → Reports f (afterProof j)
 unfolding afterProof After
-after-proof-reports f (done k S) h = ended-reports f k S (missing S) h
+after-proof-reports f (done k S) h = ended-reports f k S (missing S) refl h
 after-proof-reports f (refused n d k S) h = refuses-nothing f 3 n d k S
 
 after-goals-reports : (f : List ℕ) (j : Judged State) → endOf j .counts ≡ noCounts → Reports f (afterGoals f j)
@@ -166,4 +173,27 @@ reported S f h a =
 pub accepted-counts : (t g f : List ℕ) (r : Report) → check t g f .answer ≡ accepts r → CountsRight (check t g f .state) (read f) r
 accepted-counts t g f r e =
     let p = check-reports t g f r e in
-    subst (CountsRight (check t g f .state) (read f)) (sym (p .0)) (reported (check t g f .state) (read f) (p .1) (facts-right t g f .hypotheses))
+    subst (CountsRight (check t g f .state) (read f)) (sym (p .is)) (reported (check t g f .state) (read f) (p .totals) (facts-right t g f .hypotheses))
+
+-- Nothing is missing ------------------------------------------------------------------------------------------------------------------
+
+every-none : {A : Type 0} (p : A → Bool) (xs : List A) (k : ℕ) → every p xs k ≡ [] → All (λ x. p x ≡ false) xs
+unfolding every
+every-none p [] k e = empty
+every-none p (x ∷ xs) k e = go (p x) refl e (every-none p xs (suc k))
+  where
+    go :
+        (b : Bool) → p x ≡ b → _≡_ {A = List ℕ} (elim b [ true ↦ k ∷ every p xs (suc k) | false ↦ every p xs (suc k) ]) [] →
+        (every p xs (suc k) ≡ [] → All (λ x. p x ≡ false) xs) → All (λ x. p x ≡ false) (x ∷ xs)
+    go true q e h = absurd (let z : _≡_ {A = ℕ} 0 1 = cc in omega arith)
+    go false q e h = both q (h e)
+
+is-taken : (b : Bool) → not b ≡ false → b ≡ true
+is-taken true e = refl
+is-taken false e = absurd (true≢false e)
+
+-- every goal has its result
+pub accepted-taken : (t g f : List ℕ) (r : Report) → check t g f .answer ≡ accepts r → All (λ x. x .taken ≡ true) (check t g f .state .goals)
+unfolding missing
+accepted-taken t g f r e =
+    all-map (λ x h. is-taken (x .taken) h) (every-none (λ x. not (x .taken)) (check t g f .state .goals) 1 (check-reports t g f r e .complete))
