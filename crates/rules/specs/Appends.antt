@@ -1,30 +1,27 @@
 -- Every form only appends: nothing that stands in the state is changed or lost, except that a goal is marked as taken, once. A form that
 -- overwrote a fact, dropped a variable, put a tree in front of others or took a goal's mark away would not have this. Assumes nothing.
-use Prim.Native.Nat.{ℕ, zero, suc, _+_, _≤_, _<_}
+use Prim.Native.Nat.{ℕ, zero, suc}
 use mathlib.Core.Path.{_≡_, refl, subst, sym}
-use mathlib.Core.Bool.{Bool, true, false, _&&_, not}
-use mathlib.Core.Logic.{_⊎_, inl, inr}
-use mathlib.Core.Option.{Option, some, none as nothing}
+use mathlib.Core.Bool.{false, not}
+use mathlib.Core.Option.{some}
 use mathlib.Core.List.{List, [], _∷_, _++_, append-nil}
-use native.Mathlib.Omega.{arith}
 use lib.Dec.{ltb}
-use lib.ListN.{length}
-use Rattle.rules.specs.Limits.{SYMBOLS, ARGUMENTS}
-use Rattle.rules.specs.Out.{Out, ok, refuse, then, ask, found}
-use Rattle.rules.specs.Sexp.{Sexp, Sexps, nil, cons, count, item, Name, name, items, marked}
+use Rattle.rules.specs.Limits.{ARGUMENTS}
+use Rattle.rules.specs.Out.{ok}
+use Rattle.rules.specs.Sexp.{Sexp, Sexps, nil, cons, count, item, Name, marked}
 use Rattle.rules.specs.Find.{entry, change}
 use Rattle.rules.specs.Tags.{Declaration, aSort, aCtor, aPred, aRule, declaration}
-use Rattle.rules.specs.Tree.{Tree, Trees, none, more}
+use Rattle.rules.specs.Tree.{Trees, none, more}
 use Rattle.rules.specs.Store.{Made}
 use Rattle.rules.specs.Theory.{Theory, Symbol, Rule, sortNamed, constructorNamed, predicateNamed}
 use Rattle.rules.specs.Declare.{isNew, properName, sort, sorts, addSort, addSymbol, addCtor, addPred, addRule, declareAs, declare}
-use Rattle.rules.specs.State.{State, Var, Def, Goal, Fact, Counts}
+use Rattle.rules.specs.State.{State, Goal, Counts}
 use Rattle.rules.specs.Proof.{takeGoal, takeForm, takenGoal}
-use Rattle.rules.specs.OutLaws.{Ok, fine, off, of-ok, by-items, by-name, by-found, by-ask}
+use Rattle.rules.specs.OutLaws.{Ok, fine, of-ok, by-items, by-name, by-found, by-ask}
 use Rattle.rules.specs.TheoryLaws.{All, empty, both}
-use Rattle.rules.specs.Keeping.{Each, Kind, Still, answers, refuses}
+use Rattle.rules.specs.Keeping.{Each, Invariant, Still, answers}
 use Rattle.rules.specs.StillLaws.{still-then, still-ask, still-room, name-still, items-still, found-still}
-use Rattle.rules.specs.ReadLaws.{Ready}
+use Rattle.rules.specs.ReadWalk.{Ready}
 use Rattle.rules.specs.ShapeLaws.{past}
 use Rattle.rules.specs.FormLaws.{Posed, posedVar, posedGoal, Taken, newVar, newDef, newFact, gotResult, take-goal-takes, take-form-takes, from-still, go-on}
 
@@ -44,23 +41,22 @@ pub data AtMostOne {A : Type 0} (xs : List A) : List A → Type 0 where
   noMore : AtMostOne xs xs
   oneMore : (x : A) → AtMostOne xs (xs ++ (x ∷ []))
 
--- the same goals, of which some that were not taken are taken
+-- the same goals, of which at most one that was not taken is taken
 pub data Marks : List Goal → List Goal → Type 0 where
-  noGoal : Marks [] []
-  same : (g : Goal) {gs hs : List Goal} → Marks gs hs → Marks (g ∷ gs) (g ∷ hs)
-  taken : (g : Goal) {gs hs : List Goal} → g .taken ≡ false → Marks gs hs → Marks (g ∷ gs) (takenGoal g ∷ hs)
+  unmarked : {gs : List Goal} → Marks gs gs
+  marks : (gs : List Goal) (g : Goal) (hs : List Goal) → g .taken ≡ false → Marks (gs ++ (g ∷ hs)) (gs ++ (takenGoal g ∷ hs))
 
-unmarked : (gs : List Goal) → Marks gs gs
-unmarked [] = noGoal
-unmarked (g ∷ gs) = same g (unmarked gs)
+behind-goal : (h : Goal) {gs hs : List Goal} → Marks gs hs → Marks (h ∷ gs) (h ∷ hs)
+behind-goal h unmarked = unmarked
+behind-goal h (marks gs g hs t) = marks (h ∷ gs) g hs t
 
 change-marks : (gs : List Goal) (k : ℕ) (g : Goal) → entry gs k ≡ some g → g .taken ≡ false → Marks gs (change gs k takenGoal)
 unfolding entry change
-change-marks [] k g e t = noGoal
-change-marks (h ∷ gs) zero g e t = let q : g ≡ h = cc in taken h (subst (λ x. x .taken ≡ false) q t) (unmarked gs)
-change-marks (h ∷ gs) (suc k) g e t = same h (change-marks gs k g e t)
+change-marks [] k g e t = unmarked
+change-marks (h ∷ gs) zero g e t = let q : g ≡ h = cc in marks [] h gs (subst (λ x. x .taken ≡ false) q t)
+change-marks (h ∷ gs) (suc k) g e t = behind-goal h (change-marks gs k g e t)
 
--- Every property holds of every tree --------------------------------------------------------------------------------------------
+-- The invariant that says nothing ------------------------------------------------------------------------------------------------
 
 each-any : (ts : Trees) → Each (λ t. Unit {0}) ts
 unfolding Each
@@ -71,16 +67,26 @@ all-any : {A : Type 0} {P : A → Type 0} → ((a : A) → P a) → (xs : List A
 all-any h [] = empty
 all-any h (x ∷ xs) = both (h x) (all-any h xs)
 
-pub anything : Kind
-anything = record { Good = λ m. Unit {0}; Has = λ m t. Unit {0}; there = λ m t e. tt; added = λ m t g a e l w. tt; last = λ m t. tt;
-  longer = λ m n t h. tt; below = λ m c ts g h. each-any ts }
+pub anything : Invariant
+anything = record {
+  Good = λ m. Unit {0};
+  Has = λ m t. Unit {0};
+  there = λ m t e. tt;
+  added = λ m t g a e l w. tt;
+  last = λ m t. tt;
+  longer = λ m n t h. tt;
+  below = λ m c ts g h. each-any ts;
+}
 
 pub ready-any : (S : State) (m : Made) → Ready anything S m
 unfolding anything
 ready-any S m =
-    record { good = tt; defs = all-any (λ d. tt) (S .defs);
+    record {
+      good = tt;
+      defs = all-any (λ d. tt) (S .defs);
       goals = all-any (λ g. record { judgment = tt; hyps = each-any (g .hyps) }) (S .goals);
-      facts = all-any (λ f. record { judgment = tt; premises = each-any (f .premises) }) (S .facts) }
+      facts = all-any (λ f. record { judgment = tt; premises = each-any (f .premises) }) (S .facts);
+    }
 
 -- The forms of the proof ----------------------------------------------------------------------------------------------------------
 
@@ -94,15 +100,27 @@ pub record FormAppends (S U : State) : Type 0 where
 
 taken-appends : {S U : State} {c : Counts} → Taken anything S c U → FormAppends S U
 taken-appends {S} (newVar v l) =
-    record { theory = refl; vars = one-new (S .vars) v; made = nothing-new (S .made); defs = noMore; goals = unmarked (S .goals); facts = noMore }
+    record { theory = refl; vars = one-new (S .vars) v; made = nothing-new (S .made); defs = noMore; goals = unmarked; facts = noMore }
 taken-appends {S} (newDef m d g h l) =
-    record { theory = refl; vars = nothing-new (S .vars); made = record { new = g .new; is = g .is }; defs = oneMore d; goals = unmarked (S .goals); facts = noMore }
+    record { theory = refl; vars = nothing-new (S .vars); made = record { new = g .new; is = g .is }; defs = oneMore d; goals = unmarked; facts = noMore }
 taken-appends {S} (newFact vs m f c l g h n k r) =
-    record { theory = refl; vars = record { new = l .new; is = l .is }; made = record { new = g .new; is = g .is }; defs = noMore;
-      goals = unmarked (S .goals); facts = oneMore f }
+    record {
+      theory = refl;
+      vars = record { new = l .new; is = l .is };
+      made = record { new = g .new; is = g .is };
+      defs = noMore;
+      goals = unmarked;
+      facts = oneMore f;
+    }
 taken-appends {S} (gotResult m k d g e t) =
-    record { theory = refl; vars = nothing-new (S .vars); made = record { new = g .new; is = g .is }; defs = noMore;
-      goals = change-marks (S .goals) k d e t; facts = noMore }
+    record {
+      theory = refl;
+      vars = nothing-new (S .vars);
+      made = record { new = g .new; is = g .is };
+      defs = noMore;
+      goals = change-marks (S .goals) k d e t;
+      facts = noMore;
+    }
 
 pub take-form-appends : (x : Sexp) (S U : State) → takeForm x S ≡ ok tt U → FormAppends S U
 take-form-appends x S U e = taken-appends (of-ok (take-form-takes x S (ready-any S (S .made))) e)

@@ -1,40 +1,38 @@
 -- What a form that is taken has done to the state, case by case: one new variable, abbreviation, goal or fact behind those there were, or a
 -- result; trees are made behind the others. The theorems on reached states (Appends, MadeLaws, CountLaws) go by these cases. Assumes nothing.
-use Prim.Native.Nat.{ℕ, zero, suc, _+_, _≤_, _<_}
-use mathlib.Core.Path.{_≡_, refl, subst, sym, ap}
-use mathlib.Core.Bool.{Bool, true, false, _&&_, _||_, not, false≢true}
-use mathlib.Core.Option.{Option, some, none as nothing}
+use Prim.Native.Nat.{ℕ, _+_, _≤_, _<_}
+use mathlib.Core.Path.{_≡_, refl, subst, sym}
+use mathlib.Core.Bool.{Bool, true, false, _&&_, not, false≢true}
+use mathlib.Core.Option.{some}
 use mathlib.Core.List.{List, [], _∷_, _++_}
-use native.Mathlib.Omega.{arith}
 use borrow.Author.Tests.{ltb-true, leb-true}
 use lib.Dec.{eqb, leb, ltb}
 use lib.ListN.{length}
 use Rattle.rules.specs.Limits.{VARIABLES, DEFS, GOALS, FACTS, ENTRIES}
-use Rattle.rules.specs.Out.{Out, ok, refuse, then, Act, ask, get, put}
-use Rattle.rules.specs.Sexp.{Sexp, Sexps, atom, list, count, item, Name, name, items, marked}
+use Rattle.rules.specs.Out.{Out, ok, refuse, then, Act, ask}
+use Rattle.rules.specs.Sexp.{Sexp, Sexps, count, item, marked}
 use Rattle.rules.specs.Tags.{Tag, aVar, aDef, aStep, aHyp, aRuleHyp, anInduct, anInductWith, anApply, anInvert, aResult, proofTag, GoalForm, aVariable, aGoal, aGoalWith, goalForm}
 use Rattle.rules.specs.Find.{entry, all, change}
-use Rattle.rules.specs.Tree.{Tree, Trees, var, app, none, more, sameTree, countTrees}
+use Rattle.rules.specs.Tree.{Tree, Trees, none, sameTree, countTrees}
 use Rattle.rules.specs.Store.{Made}
-use Rattle.rules.specs.Theory.{Theory, sortNamed, constructorNamed, predicateNamed}
+use Rattle.rules.specs.Theory.{sortNamed, constructorNamed, predicateNamed}
 use Rattle.rules.specs.Declare.{isNew}
 use Rattle.rules.specs.State.{State, Var, Def, Goal, Fact, Counts, noCounts, varNamed, abbreviated, goalNamed, goalEntries, factEntries, allEntries, entries}
-use Rattle.rules.specs.Read.{index, term, judgment, judgments, varsList}
+use Rattle.rules.specs.Read.{term, judgment, judgments}
 use Rattle.rules.specs.Reference.{reference}
 use Rattle.rules.specs.Step.{step}
 use Rattle.rules.specs.Apply.{apply}
 use Rattle.rules.specs.Induct.{induct, inductWith}
 use Rattle.rules.specs.Invert.{invert}
 use Rattle.rules.specs.Proof.{withMade, withVars, withDefs, withGoals, withFacts, making, addVar, addDef, addGoal, goal, takeGoal, plus, addFact, hypothesis, oneHypothesis, oneInduction, oneInversion, someInstances, addHyp, addRuleHyp, addStep, addApply, addInduct, addInductWith, addInvert, listed, takenGoal, result, next, perform, takeForm}
-use Rattle.rules.specs.OutLaws.{Ok, fine, off, of-ok, weaken, by-name, by-items, by-ask, by-room, by-found}
-use Rattle.rules.specs.TheoryLaws.{All, empty, both, all-map}
-use Rattle.rules.specs.Keeping.{Each, Kind, Grows, stays, has-on, each-on, Still, answers, refuses}
+use Rattle.rules.specs.OutLaws.{Ok, fine, off, of-ok, by-name, by-items, by-ask, by-room, by-found}
+use Rattle.rules.specs.Keeping.{Each, Invariant, Grows, each-on, Still, answers, refuses}
 use Rattle.rules.specs.Keeping as keeping
 use Rattle.rules.specs.StillLaws.{still-then, index-still, vars-list-still}
-use Rattle.rules.specs.ReadLaws.{FactIn, GoalIn, Ready, ready-on, term-keeps, judgment-keeps, judgments-keeps, reference-keeps}
-use Rattle.rules.specs.StepLaws.{step-keeps, apply-keeps}
-use Rattle.rules.specs.CaseLaws.{Longer, same-vars, induct-keeps, induct-with-keeps, invert-keeps}
-use Rattle.rules.specs.ShapeLaws.{AllShaped, Derived, Shape, stated, derived, step-shape, apply-shape, induct-shape, induct-with-shape, invert-shape}
+use Rattle.rules.specs.ReadWalk.{FactIn, GoalIn, Ready, ready-on, term-keeps, judgment-keeps, judgments-keeps, reference-keeps}
+use Rattle.rules.specs.StepWalk.{step-keeps, apply-keeps}
+use Rattle.rules.specs.CaseWalk.{Longer, same-vars, induct-keeps, induct-with-keeps, invert-keeps}
+use Rattle.rules.specs.ShapeLaws.{ShapedIn, DerivedIn, Shape, stated, derived, step-shape, apply-shape, induct-shape, induct-with-shape, invert-shape}
 use Rattle.rules.specs.Tally.{counted, countedForm, counted-form, bracketsIn, step-counts}
 
 -- What a form does ----------------------------------------------------------------------------------------------------------------
@@ -44,12 +42,12 @@ unfoldable pub assumedOne : Fact → ℕ
 assumedOne f = elim (f .assumed) [ true ↦ 1 | false ↦ 0 ]
 
 -- entries of a state's lists
-abbrev pub listed-so-far : State → ℕ
-listed-so-far S = goalEntries (S .goals) + allEntries (S .facts)
+abbrev pub entriesSoFar : State → ℕ
+entriesSoFar S = goalEntries (S .goals) + allEntries (S .facts)
 
 -- a new fact over shaped ones
-pub record NewFact (fs : List Fact) (f : Fact) (c : Counts) : Type 0 where
-  pub shape : Shape fs f
+pub record NewFact (S : State) (f : Fact) (c : Counts) : Type 0 where
+  pub shape : Shape (length (S .theory .rules)) (S .facts) f
   pub weighs : c .hypotheses ≡ assumedOne f
 
 -- the state with further variables and trees
@@ -57,18 +55,18 @@ abbrev pub grown : State → List Var → Made → State
 grown S vs m = record { theory = S .theory; vars = vs; made = m; defs = S .defs; goals = S .goals; facts = S .facts; counts = S .counts }
 
 -- a form of the goals has led from state S to the state named last
-pub data Posed (K : Kind) (S : State) : State → Type 0 where
+pub data Posed (K : Invariant) (S : State) : State → Type 0 where
   posedVar : (v : Var) → length (S .vars) < VARIABLES → Posed K S (withVars S (S .vars ++ (v ∷ [])))
-  posedGoal : (m : Made) (g : Goal) → Grows K (S .made) m → GoalIn K m g → length (S .goals) < GOALS → listed-so-far S + countTrees (g .hyps) ≤ ENTRIES →
+  posedGoal : (m : Made) (g : Goal) → Grows K (S .made) m → GoalIn K m g → length (S .goals) < GOALS → entriesSoFar S + countTrees (g .hyps) ≤ ENTRIES →
       Posed K S (withGoals (withMade S m) (S .goals ++ (g ∷ [])))
 
 -- so has a form of the proof with these counts
-pub data Taken (K : Kind) (S : State) : Counts → State → Type 0 where
+pub data Taken (K : Invariant) (S : State) : Counts → State → Type 0 where
   newVar : (v : Var) → length (S .vars) < VARIABLES → Taken K S noCounts (withVars S (S .vars ++ (v ∷ [])))
   newDef : (m : Made) (d : Def) → Grows K (S .made) m → K .Has m (d .term) → length (S .defs) < DEFS →
       Taken K S noCounts (withDefs (withMade S m) (S .defs ++ (d ∷ [])))
   newFact : (vs : List Var) (m : Made) (f : Fact) (c : Counts) → Longer (S .vars) vs → Grows K (S .made) m → FactIn K m f →
-      (AllShaped (S .facts) → NewFact (S .facts) f c) → length (S .facts) < FACTS → listed-so-far S + factEntries f ≤ ENTRIES →
+      (ShapedIn S → NewFact S f c) → length (S .facts) < FACTS → entriesSoFar S + factEntries f ≤ ENTRIES →
       Taken K S c (withFacts (grown S vs m) (S .facts ++ (f ∷ [])) (plus (S .counts) c))
   gotResult : (m : Made) (k : ℕ) (g : Goal) → Grows K (S .made) m → entry (S .goals) k ≡ some g → g .taken ≡ false →
       Taken K S noCounts (withGoals (withMade S m) (change (S .goals) k takenGoal))
@@ -86,7 +84,7 @@ unfolding then
 from-still (ok a s) f answers k = k a refl
 from-still (refuse n d s) f refuses k = off
 
-module _ {K : Kind} {A B : Type 0} {P : B → State → Type 0} {Q : A → Made → Type 0} where
+module _ {K : Invariant} {A B : Type 0} {P : B → State → Type 0} {Q : A → Made → Type 0} where
   told-making : (T : State) (f : A → State → Out State B) (o : Out Made A) → keeping.Keeps K (T .made) Q o →
       ((a : A) (u : Made) → o ≡ ok a u → Grows K (T .made) u → Q a u → Ok P (f a (withMade T u))) →
       Ok P (then (elim o [ ok a u ↦ ok a (withMade T u) | refuse n d u ↦ refuse n d (withMade T u) ]) f)
@@ -101,12 +99,12 @@ module _ {K : Kind} {A B : Type 0} {P : B → State → Type 0} {Q : A → Made 
   by-making act T f h k = told-making T f (act (T .made)) h k
 
 -- a hypothesis
-assumes : (fs : List Fact) (j : Tree) (ps : Trees) (vs : List ℕ) → NewFact fs (hypothesis (length fs) j ps vs) oneHypothesis
+assumes : (S : State) (j : Tree) (ps : Trees) (vs : List ℕ) → NewFact S (hypothesis (length (S .facts)) j ps vs) oneHypothesis
 unfolding assumedOne
-assumes fs j ps vs = record { shape = stated refl refl; weighs = refl }
+assumes S j ps vs = record { shape = stated refl refl refl; weighs = refl }
 
 -- a fact that is derived
-derives : {fs : List Fact} {f : Fact} {c : Counts} → c .hypotheses ≡ 0 → Derived fs f → NewFact fs f c
+derives : {S : State} {f : Fact} {c : Counts} → c .hypotheses ≡ 0 → DerivedIn S f → NewFact S f c
 unfolding assumedOne
 derives e d = record { shape = derived d; weighs = rw (d .assumed) e }
 
@@ -131,10 +129,10 @@ add-var-takes text xs S h =
     go-on _ (by-name 21 (item xs 1) S _ λ n e. by-name 21 (item xs 2) S _ λ s e.
     by-found 21 (sortNamed (S .theory) (s .bytes)) S _ λ k e.
     by-ask 21 (not (marked (n .bytes)) && (isNew (constructorNamed (S .theory) (n .bytes))
-      && (isNew (predicateNamed (S .theory) (n .bytes)) && isNew (varNamed (S .vars) (n .bytes))))) S _ λ e.
+    && (isNew (predicateNamed (S .theory) (n .bytes)) && isNew (varNamed (S .vars) (n .bytes))))) S _ λ e.
     by-room 7 (ltb (length (S .vars)) VARIABLES) S _ λ e. fine (h _ (ltb-true _ VARIABLES e)))
 
-module _ {K : Kind} where
+module _ {K : Invariant} where
   add-def-takes : (xs : Sexps) (S : State) → Ready K S (S .made) → Ok (λ a U. Taken K S noCounts U) (addDef xs S)
   unfolding addDef
   add-def-takes xs S h =
@@ -148,7 +146,7 @@ module _ {K : Kind} where
   unfolding addGoal entries
   add-goal-takes x hs j S m g h p =
       go-on _ (by-name 24 x _ _ λ n e. by-ask 24 (isNew (goalNamed (S .goals) (n .bytes))) _ _ λ e.
-      by-room 11 (ltb (length (S .goals)) GOALS) _ _ λ e. by-room 13 (leb (listed-so-far S + countTrees hs) ENTRIES) _ _ λ f.
+      by-room 11 (ltb (length (S .goals)) GOALS) _ _ λ e. by-room 13 (leb (entriesSoFar S + countTrees hs) ENTRIES) _ _ λ f.
       fine (posedGoal m _ g (record { judgment = p; hyps = h }) (ltb-true _ GOALS e) (leb-true _ ENTRIES f)))
 
   goal-takes : (t : GoalForm) (xs : Sexps) (S : State) → Ready K S (S .made) → Ok (λ a U. Posed K S U) (goal t xs S)
@@ -170,17 +168,17 @@ module _ {K : Kind} where
   -- Facts -----------------------------------------------------------------------------------------------------------------------
 
   add-fact-takes : (f : Fact) (c : Counts) (S : State) (vs : List Var) (m : Made) → Longer (S .vars) vs → Grows K (S .made) m → FactIn K m f →
-      (AllShaped (S .facts) → NewFact (S .facts) f c) → Ok (λ a U. Taken K S c U) (addFact f c (grown S vs m))
+      (ShapedIn S → NewFact S f c) → Ok (λ a U. Taken K S c U) (addFact f c (grown S vs m))
   unfolding addFact entries
   add-fact-takes f c S vs m l g p n =
-      go-on _ (by-room 12 (ltb (length (S .facts)) FACTS) _ _ λ e. by-room 13 (leb (listed-so-far S + factEntries f) ENTRIES) _ _ λ d.
+      go-on _ (by-room 12 (ltb (length (S .facts)) FACTS) _ _ λ e. by-room 13 (leb (entriesSoFar S + factEntries f) ENTRIES) _ _ λ d.
       fine (newFact vs m f c l g p n (ltb-true _ FACTS e) (leb-true _ ENTRIES d)))
 
   add-hyp-takes : (xs : Sexps) (S : State) → Ready K S (S .made) → Ok (λ a U. Taken K S oneHypothesis U) (addHyp xs S)
   unfolding addHyp Each
   add-hyp-takes xs S h =
       go-on _ (by-making (judgment S (item xs 2)) S _ (judgment-keeps S (item xs 2) (S .made) h) λ j u e g p.
-      add-fact-takes _ _ S (S .vars) u (same-vars (S .vars)) g (record { judgment = p; premises = tt }) (λ w. assumes (S .facts) j none []))
+      add-fact-takes _ _ S (S .vars) u (same-vars (S .vars)) g (record { judgment = p; premises = tt }) (λ w. assumes S j none []))
 
   add-rule-hyp-takes : (xs : Sexps) (S : State) → Ready K S (S .made) → Ok (λ a U. Taken K S oneHypothesis U) (addRuleHyp xs S)
   unfolding addRuleHyp
@@ -189,7 +187,7 @@ module _ {K : Kind} where
       by-making (judgment S (item xs 3)) (withMade S u) _ (judgment-keeps S (item xs 3) u (ready-on h g)) λ j w f k q.
       from-still _ _ (vars-list-still 36 S (item xs 4)) λ vs e.
       add-fact-takes _ _ S (S .vars) w (same-vars (S .vars)) (keeping.further g k) (record { judgment = q; premises = each-on ps k p })
-        (λ v. assumes (S .facts) j ps vs))
+      (λ v. assumes S j ps vs))
 
   add-step-takes : (xs : Sexps) (S : State) → Ready K S (S .made) → Ok (λ a U. Taken K S (someInstances (bracketsIn (item xs 3))) U) (addStep xs S)
   unfolding addStep

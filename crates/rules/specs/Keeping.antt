@@ -1,14 +1,13 @@
 -- What an action on the made trees keeps: how it goes through the questions of an action, where they are answered and where they are refused.
--- The kept property is left open, so that one walk through the definition (MakingLaws and on) serves every property. Assumes nothing.
-use Prim.Native.Nat.{ℕ, zero, suc, _+_, _≤_, _<_}
-use mathlib.Core.Path.{_≡_, refl, sym, ap, subst}
+-- The invariant is left open, so that one walk through the definition (MakingWalk and on) serves every invariant. Assumes nothing.
+use Prim.Native.Nat.{ℕ, _+_, _≤_, _<_}
+use mathlib.Core.Path.{_≡_, refl, sym, subst}
 use mathlib.Core.Bool.{Bool, true, false}
 use mathlib.Core.Option.{Option, some, none as nothing}
-use mathlib.Core.List.{List, [], _∷_, _++_, append-assoc, append-nil}
+use mathlib.Core.List.{[], _∷_, _++_, append-assoc, append-nil}
 use lib.ListN.{length}
 use Rattle.rules.specs.Limits.{TERMS, WORDS}
 use Rattle.rules.specs.Out.{Out, ok, refuse, then, Act, ask, room, found}
-use Rattle.rules.specs.Sexp.{Sexp, Sexps, atom, list, Name, name, items}
 use Rattle.rules.specs.Tree.{Tree, Trees, var, app, none, more, node}
 use Rattle.rules.specs.Store.{Made, stored, words}
 
@@ -28,7 +27,7 @@ each-map P Q k none h = tt
 each-map P Q k (more t ts) h = (k t (h .0), each-map P Q k ts (h .1))
 
 -- Good: what is kept of the made trees; Has: what is known of a tree that is among them
-pub record Kind : Type 1 where
+pub record Invariant : Type 1 where
   pub Good : Made → Type 0
   pub Has : Made → Tree → Type 0
   pub there : (m : Made) (t : Tree) → stored m t ≡ true → Has m t
@@ -39,13 +38,13 @@ pub record Kind : Type 1 where
   pub below : (m : Made) (c : ℕ) (ts : Trees) → Good m → Has m (app c ts) → Each (Has m) ts
 
 -- the trees u are the trees m and further ones, and good
-pub record Grows (K : Kind) (m u : Made) : Type 0 where
+pub record Grows (K : Invariant) (m u : Made) : Type 0 where
   pub new : Made
   pub is : u ≡ m ++ new
   pub good : K .Good u
 
 -- behind the action the trees m have grown, whether it answers or refuses; what it answers has the property
-pub data Keeps (K : Kind) (m : Made) {A : Type 0} (P : A → Made → Type 0) : Out Made A → Type 0 where
+pub data Keeps (K : Invariant) (m : Made) {A : Type 0} (P : A → Made → Type 0) : Out Made A → Type 0 where
   fine : {a : A} {u : Made} → Grows K m u → P a u → Keeps K m P (ok a u)
   off : {n d : ℕ} {u : Made} → Grows K m u → Keeps K m P (refuse n d u)
 
@@ -54,7 +53,7 @@ pub data Still {S A : Type 0} (s : S) : Out S A → Type 0 where
   answers : {a : A} → Still s (ok a s)
   refuses : {n d : ℕ} → Still s (refuse n d s)
 
-module _ {K : Kind} where
+module _ {K : Invariant} where
   pub stays : {m : Made} → K .Good m → Grows K m m
   stays {m} g = record { new = []; is = sym (append-nil m); good = g }
 

@@ -41,11 +41,12 @@ pub mod TreeLaws
 pub mod StoreLaws
 pub mod RowLaws
 pub mod Keeping
-pub mod MakingLaws
+pub mod MakingWalk
 pub mod StillLaws
-pub mod ReadLaws
-pub mod StepLaws
-pub mod CaseLaws
+pub mod EntryLaws
+pub mod ReadWalk
+pub mod StepWalk
+pub mod CaseWalk
 pub mod RisingLaws
 pub mod ShapeLaws
 pub mod Tally
@@ -53,3 +54,8 @@ pub mod FormLaws
 pub mod Appends
 pub mod Reached
 pub mod MadeLaws
+pub mod MadeActions
+pub mod FactLaws
+pub mod StateRows
+pub mod CountLaws
+pub mod Inside

@@ -1,7 +1,6 @@
 -- What holds at the beginning and is kept by every form of goals and proof holds in every state that a check reaches: of the state that its
 -- answer is given in, whatever the answer. Assumes nothing.
 use Prim.Native.Nat.{ℕ, zero, suc}
-use mathlib.Core.Path.{_≡_, refl}
 use mathlib.Core.Bool.{Bool, true, false}
 use mathlib.Core.Option.{Option, some, none as nothing}
 use mathlib.Core.List.{List, [], _∷_}

@@ -3,14 +3,12 @@ use Prim.Native.Nat.{ℕ, zero, suc, _+_, _≤_, _<_}
 use mathlib.Core.Path.{_≡_, refl, subst, sym}
 use mathlib.Core.Bool.{Bool, true, false, _||_, false≢true}
 use mathlib.Core.Logic.{_⊎_, inl, inr}
-use mathlib.Core.Option.{Option, some, none as nothing}
-use mathlib.Core.List.{List, [], _∷_, _++_}
+use mathlib.Core.List.{List, [], _∷_}
 use native.Mathlib.Omega.{arith}
 use borrow.Author.Tests.{eqb-true}
 use lib.Dec.{eqb}
-use lib.ListN.{length, length-append}
-use Rattle.rules.specs.Find.{Set, entry, has, risingFrom, rising}
-use Rattle.rules.specs.TheoryLaws.{All, empty, both, all-map}
+use Rattle.rules.specs.Find.{Set, has, risingFrom, rising}
+use Rattle.rules.specs.TheoryLaws.{All, empty, both}
 
 -- each from k on, and above the one before
 unfoldable pub RisesFrom : ℕ → List ℕ → Type 0
@@ -65,31 +63,3 @@ has-all {P} (x ∷ xs) v (both p h) e = go (eqb v x) refl e (has-all xs v h)
 pub or-cases : (a b : Bool) → a || b ≡ true → (a ≡ true) ⊎ (b ≡ true)
 or-cases true b e = inl refl
 or-cases false b e = inr e
-
--- Entries by number ---------------------------------------------------------------------------------------------------------------
-
-module _ {A : Type 0} where
-  pub entry-below : (xs : List A) (i : ℕ) (x : A) → entry xs i ≡ some x → i < length xs
-  unfolding entry
-  entry-below [] i x e = absurd (let z : _≡_ {A = ℕ} 0 1 = cc in omega arith)
-  entry-below (y ∷ xs) zero x e = omega arith
-  entry-below (y ∷ xs) (suc i) x e = let h = entry-below xs i x e in omega arith
-
-  pub entry-front : (xs ys : List A) (i : ℕ) (x : A) → entry xs i ≡ some x → entry (xs ++ ys) i ≡ some x
-  unfolding entry
-  entry-front [] ys i x e = absurd (let z : _≡_ {A = ℕ} 0 1 = cc in omega arith)
-  entry-front (y ∷ xs) ys zero x e = e
-  entry-front (y ∷ xs) ys (suc i) x e = entry-front xs ys i x e
-
-  -- an entry of a list with one more
-  pub entry-snoc : (xs : List A) (y : A) (i : ℕ) (x : A) → entry (xs ++ (y ∷ [])) i ≡ some x → (entry xs i ≡ some x) ⊎ ((i ≡ length xs) × (x ≡ y))
-  unfolding entry
-  entry-snoc [] y zero x e = inr (refl, cc)
-  entry-snoc [] y (suc i) x e = absurd (let z : _≡_ {A = ℕ} 0 1 = cc in omega arith)
-  entry-snoc (z ∷ xs) y zero x e = inl e
-  entry-snoc (z ∷ xs) y (suc i) x e = elim (entry-snoc xs y i x e) [ inl q ↦ inl q | inr q ↦ inr (omega (arith, q .0), q .1) ]
-
-  pub entry-last : (xs : List A) (y : A) → entry (xs ++ (y ∷ [])) (length xs) ≡ some y
-  unfolding entry
-  entry-last [] y = refl
-  entry-last (x ∷ xs) y = entry-last xs y

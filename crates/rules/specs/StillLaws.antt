@@ -1,7 +1,6 @@
 -- The questions that leave the state as it is, whether they are answered or refused: names, indices, variables, hypotheses by number, cases
 -- as given. Assumes nothing.
-use Prim.Native.Nat.{ℕ, zero, suc, _+_}
-use mathlib.Core.Path.{_≡_, refl}
+use Prim.Native.Nat.{ℕ, zero, suc}
 use mathlib.Core.Bool.{Bool, true, false, _&&_, not}
 use mathlib.Core.Option.{Option, some, none as nothing}
 use mathlib.Core.List.{List, [], _∷_, _++_}
@@ -10,10 +9,10 @@ use lib.ListN.{length}
 use Rattle.rules.specs.Limits.{VARIABLES}
 use Rattle.rules.specs.Out.{Out, ok, refuse, then, ask, room, found}
 use Rattle.rules.specs.Text.{same}
-use Rattle.rules.specs.Sexp.{Sexp, Sexps, atom, list, nil, cons, count, item, Name, name, items}
+use Rattle.rules.specs.Sexp.{Sexp, Sexps, atom, list, nil, cons, count, item, name, items}
 use Rattle.rules.specs.Index.{indexOf}
 use Rattle.rules.specs.Find.{Set, entry, any, all, has, union, minus, least}
-use Rattle.rules.specs.Tree.{Tree, Trees, variables}
+use Rattle.rules.specs.Tree.{Tree, variables}
 use Rattle.rules.specs.Theory.{Rule, RuleVar, noName}
 use Rattle.rules.specs.State.{State, Var, Fact, sortOfVar, varNamed, hypVars}
 use Rattle.rules.specs.Read.{index, variable, others, varsList}

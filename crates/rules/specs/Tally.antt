@@ -1,17 +1,17 @@
 -- What a form of the proof counts, by its tag and its items alone. Assumes nothing.
-use Prim.Native.Nat.{ℕ, zero, suc, _+_}
+use Prim.Native.Nat.{ℕ, _+_}
 use mathlib.Core.Path.{_≡_, refl, ap, ap₂, subst, sym}
 use mathlib.Core.Option.{Option, some, none as nothing}
 use native.Mathlib.Omega.{arith}
-use Rattle.rules.specs.Out.{Out, ok, refuse, then}
-use Rattle.rules.specs.Sexp.{Sexp, Sexps, atom, list, nil, cons, count, item, Name, name, Text, ends, fails, more}
+use Rattle.rules.specs.Out.{ok}
+use Rattle.rules.specs.Sexp.{Sexp, Sexps, atom, list, nil, cons, count, item, Name, name}
 use Rattle.rules.specs.Tags.{Tag, aVar, aDef, aStep, aHyp, aRuleHyp, anInduct, anInductWith, anApply, anInvert, aResult, proofTag}
 use Rattle.rules.specs.Store.{Made}
 use Rattle.rules.specs.State.{State, Counts, noCounts}
-use Rattle.rules.specs.Reference.{Ref, instance, reference}
-use Rattle.rules.specs.Step.{Refs, references, step}
+use Rattle.rules.specs.Reference.{instance, reference}
+use Rattle.rules.specs.Step.{references, step}
 use Rattle.rules.specs.Proof.{oneHypothesis, oneInduction, oneInversion, someInstances}
-use Rattle.rules.specs.OutLaws.{Ok, fine, off, by-then, by-items}
+use Rattle.rules.specs.OutLaws.{Ok, fine, by-then, by-items}
 use Rattle.rules.specs.ShapeLaws.{past}
 
 -- 1 where it is bracketed

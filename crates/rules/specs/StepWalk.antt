@@ -1,32 +1,32 @@
 -- The walk of Keeping through `step` and `apply`: what a pattern's variables are bound to is stored, so what is built from them is.
 -- Assumes nothing.
-use Prim.Native.Nat.{ℕ, zero, suc, _+_}
-use mathlib.Core.Path.{_≡_, refl, subst, sym}
-use mathlib.Core.Bool.{Bool, true, false, _&&_, not}
+use Prim.Native.Nat.{ℕ}
+use mathlib.Core.Path.{_≡_, refl, subst}
+use mathlib.Core.Bool.{Bool, true, false, _&&_}
 use mathlib.Core.Option.{Option, some, none as nothing}
-use mathlib.Core.List.{List, [], _∷_, _++_}
+use mathlib.Core.List.{List, [], _∷_}
 use native.Mathlib.Omega.{arith}
-use lib.Dec.{leb, eqb}
-use lib.ListN.{length, getD}
-use Rattle.rules.specs.Out.{Out, ok, refuse, then, Act, ask, found}
+use lib.Dec.{eqb}
+use lib.ListN.{getD}
+use Rattle.rules.specs.Out.{ok, then, Act, ask}
 use Rattle.rules.specs.Text.{same}
-use Rattle.rules.specs.Sexp.{Sexp, Sexps, atom, list, nil, cons, count, item, rest, Name, name, items, marked}
-use Rattle.rules.specs.Find.{entry, first, all, has, union, rising}
-use Rattle.rules.specs.Tree.{Tree, Trees, var, app, none, more, sameTree, variables, variablesOf, countTrees}
+use Rattle.rules.specs.Sexp.{Sexp, Sexps, nil, cons, count, item, rest, marked}
+use Rattle.rules.specs.Find.{first, all, has}
+use Rattle.rules.specs.Tree.{Tree, Trees, var, app, none, more, sameTree, countTrees}
 use Rattle.rules.specs.Store.{Made}
-use Rattle.rules.specs.Theory.{Theory, Rule, RuleVar, rule, ruleNamed}
+use Rattle.rules.specs.Theory.{Rule, rule, ruleNamed}
 use Rattle.rules.specs.Declare.{isNew, noRuleVar}
-use Rattle.rules.specs.Match.{Bound, unbound, bind, matchVar, andThen, matches, matchAll}
+use Rattle.rules.specs.Match.{Bound, bind, matchVar, andThen, matches, matchAll}
 use Rattle.rules.specs.Unify.{Binding, along}
-use Rattle.rules.specs.State.{State, Fact, isPlain}
-use Rattle.rules.specs.Reference.{Ref, reference, judgmentsAt}
-use Rattle.rules.specs.Step.{Refs, noRefs, withRef, references, Items, noItems, bindItem, stateItem, readItem, readItems, matchStated, conclude, step}
-use Rattle.rules.specs.Apply.{Applied, plainAt, applied, discharge, valueVars, apply}
-use Rattle.rules.specs.TheoryLaws.{All, empty, both, all-map}
-use Rattle.rules.specs.Keeping.{Each, Kind, Grows, Keeps, fine, off, stays, has-on, each-on, weaken, by-then, by-still, by-ask, by-found, by-either, Still, answers, refuses}
-use Rattle.rules.specs.MakingLaws.{Known, Knowns, Values, substitute-keeps, build-keeps}
+use Rattle.rules.specs.State.{State, Fact}
+use Rattle.rules.specs.Reference.{judgmentsAt}
+use Rattle.rules.specs.Step.{references, Items, noItems, bindItem, stateItem, readItem, readItems, matchStated, conclude, step}
+use Rattle.rules.specs.Apply.{Applied, plainAt, applied, discharge, apply}
+use Rattle.rules.specs.TheoryLaws.{empty}
+use Rattle.rules.specs.Keeping.{Each, Invariant, Grows, Keeps, fine, stays, has-on, each-on, by-then, by-still, by-ask, by-found, by-either, Still, answers}
+use Rattle.rules.specs.MakingWalk.{Known, substitute-keeps, build-keeps}
 use Rattle.rules.specs.StillLaws.{name-still, items-still, index-still, fact-at-still, scoped-still, still-ask}
-use Rattle.rules.specs.ReadLaws.{FactIn, Ready, ready-on, fact-in, term-of-keeps, judgment-keeps, bindings-keeps, reference-keeps}
+use Rattle.rules.specs.ReadWalk.{FactIn, Ready, ready-on, term-of-keeps, judgment-keeps, bindings-keeps, reference-keeps}
 
 -- Matching ----------------------------------------------------------------------------------------------------------------------
 
@@ -97,24 +97,27 @@ applied-still : (S : State) (bs : List Binding) (i : ℕ) (f : Fact) (m : Made) 
 unfolding applied
 applied-still S bs i f m = go (f .assumed)
   where
-    go : (b : Bool) → Still m ((elim b as (λ (z : Bool). Act Made Applied)
-        [ true ↦ λ s. then (ask 36 (all (λ b. has (f .general) (b .variable)) bs) s) λ _ s.
-            ok (record { premises = f .premises; conclusion = f .judgment; hyps = i ∷ [] }) s
-        | false ↦ λ s. then (ask 40 (all (plainAt (S .facts)) (f .hyps)) s) λ _ s.
-            ok (record { premises = judgmentsAt (S .facts) (f .hyps); conclusion = f .judgment; hyps = [] }) s ]) m)
+    go : (b : Bool) → Still m ((elim b as (λ (z : Bool). Act Made Applied) [
+      | true ↦ λ s. then (ask 36 (all (λ b. has (f .general) (b .variable)) bs) s) λ _ s.
+          ok (record { premises = f .premises; conclusion = f .judgment; hyps = i ∷ [] }) s
+      | false ↦ λ s. then (ask 40 (all (plainAt (S .facts)) (f .hyps)) s) λ _ s.
+          ok (record { premises = judgmentsAt (S .facts) (f .hyps); conclusion = f .judgment; hyps = [] }) s
+    ]) m)
     go true = still-ask 36 (all (λ b. has (f .general) (b .variable)) bs) _ answers
     go false = still-ask 40 (all (plainAt (S .facts)) (f .hyps)) _ answers
 
 -- Steps -------------------------------------------------------------------------------------------------------------------------
 
-pub record ItemsIn (K : Kind) (m : Made) (it : Items) : Type 0 where
+pub record ItemsIn (K : Invariant) (m : Made) (it : Items) : Type 0 where
   pub bound : Bounded (K .Has m) (it .bound)
   pub stated : (t : Tree) → it .stated ≡ some t → K .Has m t
 
-module _ {K : Kind} where
+module _ {K : Invariant} where
   no-items-in : {m : Made} → ItemsIn K m noItems
-  no-items-in = record { bound = λ v t e. absurd (let z : _≡_ {A = ℕ} 0 1 = cc in omega arith);
-    stated = λ t e. absurd (let z : _≡_ {A = ℕ} 0 1 = cc in omega arith) }
+  no-items-in = record {
+    bound = λ v t e. absurd (let z : _≡_ {A = ℕ} 0 1 = cc in omega arith);
+    stated = λ t e. absurd (let z : _≡_ {A = ℕ} 0 1 = cc in omega arith);
+  }
 
   items-on : {m u : Made} {it : Items} → Grows K m u → ItemsIn K m it → ItemsIn K u it
   items-on g h = record { bound = λ v t e. has-on g (h .bound v t e); stated = λ t e. has-on g (h .stated t e) }
@@ -171,8 +174,8 @@ module _ {K : Kind} where
       matchStated (R .conclusion) (it .stated) (it .bound) ≡ some b → matchAll (R .premises) js b ≡ some c → Bounded (K .Has m) c
   match-bounded m R js it b c g a h e f =
       bounded (K .Has m) (matchAll (R .premises) js b) c (match-all-bounded (K .Has m) args (R .premises) js b
-        (bounded (K .Has m) (matchStated (R .conclusion) (it .stated) (it .bound)) b
-          (match-stated-bounded (K .Has m) args (R .conclusion) (it .stated) (it .bound) (a .bound) (a .stated)) e) h) f
+      (bounded (K .Has m) (matchStated (R .conclusion) (it .stated) (it .bound)) b
+      (match-stated-bounded (K .Has m) args (R .conclusion) (it .stated) (it .bound) (a .bound) (a .stated)) e) h) f
     where
       args : (c : ℕ) (ts : Trees) → K .Has m (app c ts) → Each (K .Has m) ts
       args c ts k = K .below m c ts g k
@@ -189,7 +192,7 @@ module _ {K : Kind} where
       by-found 38 (matchStated (rule (S .theory) r .conclusion) (it .stated) (it .bound)) _ (k .good) λ b x.
       by-found 38 (matchAll (rule (S .theory) r .premises) (rs .judgments) b) _ (k .good) λ c y.
       by-then _ _ (conclude-keeps (rule (S .theory) r .conclusion) (it .stated) c w (k .good) (q .stated) (
-        match-bounded w (rule (S .theory) r) (rs .judgments) it b c (k .good) q (each-on (rs .judgments) k p) x y)) λ j v z o.
+      match-bounded w (rule (S .theory) r) (rs .judgments) it b c (k .good) q (each-on (rs .judgments) k p) x y)) λ j v z o.
       by-still _ _ (z .good) (scoped-still S _ j _) λ a d. fine (stays (z .good)) (record { judgment = o; premises = tt })
 
   -- Applications ----------------------------------------------------------------------------------------------------------------

@@ -1,58 +1,44 @@
 -- The walk of Keeping through reading: terms, judgments, bindings and references, over a state whose trees are among the made ones.
 -- Assumes nothing.
-use Prim.Native.Nat.{ℕ, zero, suc, _+_}
-use mathlib.Core.Path.{_≡_, refl, subst, sym}
+use Prim.Native.Nat.{ℕ}
+use mathlib.Core.Path.{_≡_, subst}
 use mathlib.Core.Bool.{Bool, true, false, not}
-use mathlib.Core.Option.{Option, some, none as nothing}
-use mathlib.Core.List.{List, [], _∷_, _++_}
+use mathlib.Core.Option.{some}
+use mathlib.Core.List.{List, [], _∷_}
 use native.Mathlib.Omega.{arith}
 use lib.Dec.{leb, eqb}
-use Rattle.rules.specs.Out.{Out, ok, refuse, then, ask, found}
+use Rattle.rules.specs.Out.{ok}
 use Rattle.rules.specs.Text.{same}
-use Rattle.rules.specs.Sexp.{Sexp, Sexps, atom, list, nil, cons, count, item, rest, Name, name, items, marked}
-use Rattle.rules.specs.Find.{entry}
-use Rattle.rules.specs.Tree.{Tree, Trees, var, app, none, more}
-use Rattle.rules.specs.Store.{Made, keep}
-use Rattle.rules.specs.Theory.{Theory, inputs, constructorNamed, predicateNamed}
+use Rattle.rules.specs.Sexp.{Sexp, Sexps, atom, list, nil, cons, count, item, rest, marked}
+use Rattle.rules.specs.Tree.{Tree, var, app, none}
+use Rattle.rules.specs.Store.{Made}
+use Rattle.rules.specs.Theory.{inputs, constructorNamed, predicateNamed}
 use Rattle.rules.specs.Unify.{Binding, along, insert}
 use Rattle.rules.specs.State.{State, Def, Goal, Fact, sortOf, sortOfVar, fit, varNamed, abbreviated, isEmpty}
-use Rattle.rules.specs.Read.{index, variable, named, term, compound, terms, termOf, judgment, judgmentEach, judgments}
-use Rattle.rules.specs.Reference.{Ref, factAt, binding, binds, bindings, instance, reference}
+use Rattle.rules.specs.Read.{named, term, compound, terms, termOf, judgment, judgmentEach, judgments}
+use Rattle.rules.specs.Reference.{factAt, binding, binds, bindings, instance, reference}
 use Rattle.rules.specs.TheoryLaws.{All, empty, both, all-map}
-use Rattle.rules.specs.Keeping.{Each, Arguments, Kind, Grows, Keeps, fine, off, stays, has-on, each-on, weaken, by-then, by-still, by-ask, by-found, by-either, by-given}
-use Rattle.rules.specs.MakingLaws.{Known, Knowns, Values, keep-keeps, found-keeps, substitute-keeps, values-on, insert-values}
+use Rattle.rules.specs.EntryLaws.{all-entry, fact-entry}
+use Rattle.rules.specs.Keeping.{Each, Arguments, Invariant, Grows, Keeps, fine, off, stays, has-on, each-on, by-then, by-still, by-ask, by-found, by-either, by-given}
+use Rattle.rules.specs.MakingWalk.{Known, Knowns, Values, keep-keeps, found-keeps, substitute-keeps, values-on, insert-values}
 use Rattle.rules.specs.StillLaws.{name-still, items-still, index-still, variable-still, fact-at-still}
 
 -- States whose trees are there --------------------------------------------------------------------------------------------------
 
-pub record FactIn (K : Kind) (m : Made) (f : Fact) : Type 0 where
+pub record FactIn (K : Invariant) (m : Made) (f : Fact) : Type 0 where
   pub judgment : K .Has m (f .judgment)
   pub premises : Each (K .Has m) (f .premises)
 
-pub record GoalIn (K : Kind) (m : Made) (g : Goal) : Type 0 where
+pub record GoalIn (K : Invariant) (m : Made) (g : Goal) : Type 0 where
   pub judgment : K .Has m (g .judgment)
   pub hyps : Each (K .Has m) (g .hyps)
 
 -- the made trees m are good, and those of abbreviations, goals and facts are among them
-pub record Ready (K : Kind) (S : State) (m : Made) : Type 0 where
+pub record Ready (K : Invariant) (S : State) (m : Made) : Type 0 where
   pub good : K .Good m
   pub defs : All (λ d. K .Has m (d .term)) (S .defs)
   pub goals : All (GoalIn K m) (S .goals)
   pub facts : All (FactIn K m) (S .facts)
-
-pub all-entry : {A : Type 0} {P : A → Type 0} (xs : List A) (i : ℕ) (x : A) → All P xs → entry xs i ≡ some x → P x
-unfolding entry
-all-entry [] i x h e = absurd (let z : _≡_ {A = ℕ} 0 1 = cc in omega arith)
-all-entry {P = P} (y ∷ xs) zero x (both p h) e = let q : y ≡ x = cc in subst P q p
-all-entry (y ∷ xs) (suc i) x (both p h) e = all-entry xs i x h e
-
-pub fact-entry : {S : Type 0} (Σ : State) (i : ℕ) (s : S) (f : Fact) → factAt Σ i s ≡ ok f s → entry (Σ .facts) i ≡ some f
-unfolding factAt
-fact-entry {S} Σ i s f e = go (entry (Σ .facts) i) e
-  where
-    go : (o : Option Fact) → found {S = S} 34 o s ≡ ok f s → o ≡ some f
-    go (some g) e = cc
-    go nothing e = absurd (let z : _≡_ {A = ℕ} 0 1 = cc in omega arith)
 
 abbreviated-has : (P : Tree → Type 0) (ds : List Def) (n : List ℕ) → All (λ d. P (d .term)) ds → (t : Tree) → abbreviated ds n ≡ some t → P t
 unfolding abbreviated
@@ -63,7 +49,7 @@ abbreviated-has P (d ∷ ds) n (both p h) t e = go (same (d .name .bytes) n) e (
     go true e k = let q : d .term ≡ t = cc in subst P q p
     go false e k = k e
 
-module _ {K : Kind} where
+module _ {K : Invariant} where
   pub fact-on : {m u : Made} {f : Fact} → Grows K m u → FactIn K m f → FactIn K u f
   fact-on {f = f} g h = record { judgment = has-on g (h .judgment); premises = each-on (f .premises) g (h .premises) }
 
@@ -72,12 +58,16 @@ module _ {K : Kind} where
 
   pub ready-on : {S : State} {m u : Made} → Ready K S m → Grows K m u → Ready K S u
   ready-on h g =
-      record { good = g .good; defs = all-map (λ d k. has-on g k) (h .defs); goals = all-map (λ f k. goal-on g k) (h .goals);
-        facts = all-map (λ f k. fact-on g k) (h .facts) }
+      record {
+        good = g .good;
+        defs = all-map (λ d k. has-on g k) (h .defs);
+        goals = all-map (λ f k. goal-on g k) (h .goals);
+        facts = all-map (λ f k. fact-on g k) (h .facts);
+      }
 
   -- a fact by its number
   pub fact-in : {S : State} {m : Made} (i : ℕ) (f : Fact) → Ready K S m → factAt S i m ≡ ok f m → FactIn K m f
-  fact-in {S} {m} i f h e = all-entry (S .facts) i f (h .facts) (fact-entry S i m f e)
+  fact-in {S} {m} i f h e = all-entry (S .facts) i f (h .facts) (fact-entry S i m m f e)
 
   -- Terms -----------------------------------------------------------------------------------------------------------------------
 

@@ -1,35 +1,34 @@
 -- The walk of Keeping through the store, building and unification: whatever is kept by storing one new tree whose arguments are there is
 -- kept by all of these, and what they answer is stored. Assumes nothing.
-use Prim.Native.Nat.{ℕ, zero, suc, _+_, _≤_, _<_}
-use mathlib.Core.Path.{_≡_, refl, sym, ap, subst}
+use Prim.Native.Nat.{ℕ, zero, suc, _+_}
+use mathlib.Core.Path.{_≡_, refl}
 use mathlib.Core.Bool.{Bool, true, false}
 use mathlib.Core.Option.{Option, some, none as nothing}
 use mathlib.Core.List.{List, [], _∷_, _++_}
-use native.Mathlib.Omega.{arith}
 use borrow.Author.Tests.{ltb-true, leb-true}
 use lib.Dec.{leb, ltb, eqb}
 use lib.ListN.{length}
 use Rattle.rules.specs.Limits.{TERMS, WORDS, PAIRS}
-use Rattle.rules.specs.Out.{Out, ok, refuse, then, found}
-use Rattle.rules.specs.Tree.{Tree, Trees, var, app, none, more, sameTree, sub, subs, single, variables, node, countTrees}
+use Rattle.rules.specs.Out.{Out, ok, refuse, found}
+use Rattle.rules.specs.Tree.{Tree, Trees, var, app, none, more, sameTree, sub, single, variables, node, countTrees}
 use Rattle.rules.specs.Store.{Made, stored, words, keep, make, makes, substitute, substitutes}
 use Rattle.rules.specs.Match.{Bound, build, builds}
 use Rattle.rules.specs.Unify.{Binding, along, insert, replace, Pair, Look, agree, clash, binds, parts, bindOrClash, differ, look, push, Found, finished, clashed, bound, onward, peel, weight, outcome, solve, unify}
 use Rattle.rules.specs.TheoryLaws.{All, empty, both, all-map}
-use Rattle.rules.specs.Keeping.{Each, Arguments, Kind, Grows, Keeps, fine, off, stays, has-on, each-on, weaken, by-then, by-room}
+use Rattle.rules.specs.Keeping.{Each, Arguments, Invariant, Grows, Keeps, fine, off, stays, has-on, weaken, by-then, by-room}
 
 -- the answered tree is stored
-abbrev pub Known : Kind → Tree → Made → Type 0
+abbrev pub Known : Invariant → Tree → Made → Type 0
 Known K t u = K .Has u t
 
-abbrev pub Knowns : Kind → Trees → Made → Type 0
+abbrev pub Knowns : Invariant → Trees → Made → Type 0
 Knowns K ts u = Each (K .Has u) ts
 
 -- every value is stored
-abbrev pub Values : Kind → List Binding → Made → Type 0
+abbrev pub Values : Invariant → List Binding → Made → Type 0
 Values K θ u = All (λ b. K .Has u (b .value)) θ
 
-module _ (K : Kind) where
+module _ (K : Invariant) where
   pub insert-values : (b : Binding) (θ : List Binding) (m : Made) → K .Has m (b .value) → Values K θ m → Values K (insert b θ) m
   unfolding insert
   insert-values b [] m p q = both p empty
@@ -82,7 +81,7 @@ module _ (K : Kind) where
   Unifier (some θ) u = Values K θ u
   Unifier nothing u = Unit {0}
 
-module _ {K : Kind} where
+module _ {K : Invariant} where
   -- Storing --------------------------------------------------------------------------------------------------------------------
 
   pub keep-this : (t : Tree) (m : Made) → K .Good m → Arguments (K .Has m) t → Keeps K m (λ a u. K .Has u t × K .Has u a) (keep t m)
@@ -91,9 +90,10 @@ module _ {K : Kind} where
     where
       go : (a : Bool) → stored m t ≡ a → (b : Bool) → ltb (length m) TERMS ≡ b → (c : Bool) → leb (words m + node t) WORDS ≡ c →
           Keeps K m (λ a u. K .Has u t × K .Has u a)
-            (elim a
-            [ true ↦ ok t m
-            | false ↦ elim b [ true ↦ elim c [ true ↦ ok t (m ++ (t ∷ [])) | false ↦ refuse 60 9 m ] | false ↦ refuse 60 8 m ] ])
+          (elim a [
+            | true ↦ ok t m
+            | false ↦ elim b [ true ↦ elim c [ true ↦ ok t (m ++ (t ∷ [])) | false ↦ refuse 60 9 m ] | false ↦ refuse 60 8 m ]
+          ])
       go true e b f c k = fine (stays g) (K .there m t e, K .there m t e)
       go false e true f true k =
           fine (record { new = t ∷ []; is = refl; good = K .added m t g h e (ltb-true _ TERMS f) (leb-true _ WORDS k) }) (K .last m t, K .last m t)

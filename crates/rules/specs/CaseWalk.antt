@@ -1,31 +1,31 @@
 -- The walk of Keeping through `induct` and `invert`; and the variables that `invert` makes, which come behind those there were. Assumes nothing.
-use Prim.Native.Nat.{ℕ, zero, suc, _+_, _≤_, _<_}
+use Prim.Native.Nat.{ℕ, suc, _≤_, _<_}
 use mathlib.Core.Path.{_≡_, refl, sym}
 use mathlib.Core.Bool.{Bool, true, false, _&&_, not}
 use mathlib.Core.Option.{Option, some, none as nothing}
 use mathlib.Core.List.{List, [], _∷_, _++_, append-assoc, append-nil}
 use native.Mathlib.Omega.{arith}
 use borrow.Author.Tests.{ltb-true}
-use lib.Dec.{leb, ltb, eqb}
+use lib.Dec.{ltb, eqb}
 use lib.ListN.{length, length-append}
 use Rattle.rules.specs.Limits.{VARIABLES}
-use Rattle.rules.specs.Out.{Out, ok, refuse, then, Act, ask, stop}
-use Rattle.rules.specs.Sexp.{Sexp, Sexps, atom, list, nil, cons, count, item, rest, Name, name, items}
+use Rattle.rules.specs.Out.{ask}
+use Rattle.rules.specs.Sexp.{Sexp, Sexps, nil, cons, count, item, rest, name}
 use Rattle.rules.specs.Find.{entry, all, has}
 use Rattle.rules.specs.Tree.{Tree, Trees, var, app, none, more, sameTree, single}
-use Rattle.rules.specs.Store.{Made, keep}
-use Rattle.rules.specs.Theory.{Theory, Rule, RuleVar, noName, inputs, constructors, rule, rulesOf}
-use Rattle.rules.specs.Unify.{Binding, along, unify}
+use Rattle.rules.specs.Store.{Made}
+use Rattle.rules.specs.Theory.{Rule, RuleVar, noName, inputs, constructors, rule, rulesOf}
+use Rattle.rules.specs.Unify.{Binding, along}
 use Rattle.rules.specs.State.{State, Var, Fact, sortOfVar, isPlain}
 use Rattle.rules.specs.Reference.{judgmentsAt}
-use Rattle.rules.specs.Induct.{Motive, motiveVars, keepVars, Hyp, hypothesisAt, hypotheses, allowedHyp, inductCase, inductCases, inductOn, induct, inductWith}
-use Rattle.rules.specs.Invert.{Case, caseNamed, Inversion, takenVars, Names, suit, makeVars, renamed, renaming, Allowed, rulePremises, without, clear, contextFact, contextFacts, allowedIn, invertCase, caseOrNot, invertRule, invertRules, predicateOf, invert}
-use Rattle.rules.specs.OutLaws.{Ok, of-ok} 
+use Rattle.rules.specs.Induct.{Motive, motiveVars, keepVars, hypothesisAt, hypotheses, allowedHyp, inductCase, inductCases, inductOn, induct, inductWith}
+use Rattle.rules.specs.Invert.{Case, caseNamed, Inversion, takenVars, Names, suit, makeVars, renamed, renaming, rulePremises, without, clear, contextFact, contextFacts, allowedIn, invertCase, caseOrNot, invertRule, invertRules, predicateOf, invert}
+use Rattle.rules.specs.OutLaws.{Ok, of-ok}
 use Rattle.rules.specs.OutLaws as outs
-use Rattle.rules.specs.Keeping.{Each, Arguments, Kind, Grows, Keeps, fine, off, stays, has-on, each-on, weaken, by-then, by-still, by-ask, by-found, by-either, Still, answers, refuses}
-use Rattle.rules.specs.MakingLaws.{Known, Knowns, keep-keeps, substitute-keeps, substitutes-keeps, unify-keeps}
-use Rattle.rules.specs.StillLaws.{name-still, items-still, index-still, variable-still, fact-at-still, hyp-list-still, case-vars-still, read-cases-still, renamed-still, still-ask}
-use Rattle.rules.specs.ReadLaws.{FactIn, Ready, ready-on, judgment-keeps}
+use Rattle.rules.specs.Keeping.{Each, Arguments, Invariant, Keeps, fine, off, stays, has-on, weaken, by-then, by-still, by-ask, by-either}
+use Rattle.rules.specs.MakingWalk.{Knowns, keep-keeps, substitute-keeps, substitutes-keeps, unify-keeps}
+use Rattle.rules.specs.StillLaws.{items-still, index-still, variable-still, fact-at-still, hyp-list-still, case-vars-still, read-cases-still, renamed-still}
+use Rattle.rules.specs.ReadWalk.{FactIn, Ready, judgment-keeps}
 
 -- Variables made ------------------------------------------------------------------------------------------------------------------
 
@@ -50,7 +50,7 @@ make-vars-longer [] vs m = outs.fine (same-vars vs)
 make-vars-longer (r ∷ rs) vs m =
     outs.by-room 7 (ltb (length vs) VARIABLES) m _ λ e.
     outs.weaken (make-vars-longer rs (vs ++ (record { sort = r .sort; text = 0; name = noName } ∷ [])) m)
-      (λ ws u h. longer-on (one-var vs _ (ltb-true _ VARIABLES e)) h)
+    (λ ws u h. longer-on (one-var vs _ (ltb-true _ VARIABLES e)) h)
 
 renamed-longer : (S : State) (I : Inversion) (R : Rule) (c : Option Case) (N : Names) (m : Made) →
     Ok (λ r u. Longer (N .vars) (r .1 .vars)) (renamed S I R c N m)
@@ -61,7 +61,7 @@ renamed-longer S I R (some c) N m =
 renamed-longer S I R nothing N m =
     outs.by-then _ _ (make-vars-longer (R .vars) (N .vars) m) λ vs u e h. outs.fine h
 
-module _ {K : Kind} where
+module _ {K : Invariant} where
   keep-vars-keeps : (vs : List ℕ) (m : Made) → K .Good m → Keeps K m (Knowns K) (keepVars vs m)
   unfolding keepVars Each Arguments
   keep-vars-keeps [] m g = fine (stays g) tt
@@ -211,5 +211,5 @@ module _ {K : Kind} where
       by-still _ _ (g .good) (items-still 41 (item xs 5)) λ ys e.
       by-still _ _ (g .good) (read-cases-still S ys []) λ cs e.
       by-then _ _ (invert-rules-keeps S (record { hypothesis = k .judgment; judgment = j; context = hs; cases = cs })
-        (rulesOf (S .theory) (predicateOf (k .judgment))) (record { vars = S .vars; seen = [] }) u (g .good)) λ N w l q.
+      (rulesOf (S .theory) (predicateOf (k .judgment))) (record { vars = S .vars; seen = [] }) u (g .good)) λ N w l q.
       fine (stays (l .good)) (record { judgment = has-on l p; premises = tt }, q)
