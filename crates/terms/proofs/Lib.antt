@@ -14,3 +14,4 @@ pub mod Gathers
 pub mod Closeds
 pub mod Substs
 pub mod SubstLoop
+pub mod Fresh

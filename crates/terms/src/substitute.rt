@@ -4,10 +4,9 @@ ghost use mathlib.Core.Path.{_≡_};
 ghost use mathlib.Core.List.{_++_};
 ghost use Prim.Native.Nat.{ℕ, _+_, _-_, _≤_, _<_};
 ghost use lib.ListN.{length, drop, replicate};
-ghost use Rattle.rules.specs.Limits.{TERMS};
-ghost use Rattle.rules.specs.Tree.{var};
 ghost use Rattle.rules.specs.Store.{keep as keepTree, substitute as substituteTree};
 ghost use Rattle.terms.specs.Table.{treeAt, made, Good, Shaped, After};
+ghost use Rattle.terms.specs.Collect.{tree};
 ghost use Rattle.terms.specs.Subst.{replacement, image, rebuilt, Rebuildable, substituted, asked, Replaceable, Ready, Substituted};
 use crate::store::Kept;
 use crate::store::Mark;
@@ -105,4 +104,35 @@ fn replace(
         }
         Kept::Full(row, last) => Kept::Full(row, last),
     }
+}
+
+// Every cell is set to 0.
+fn wipe(cells: &mut [u32])
+    ensures { λ _. ⌜ now (cells .exit) ≡ replicate (length (now (cells .entry))) 0 ⌝ }
+{
+    let mut i = 0;
+    while i < cells.len() {
+        cells[i] = 0;
+        i += 1;
+    }
+}
+
+// The term `id` under the substitution `map`. `memo` is scratch: zero before and after.
+pub fn substitute(
+    index: &mut [u32],
+    words: &mut [u32],
+    mark: Mark,
+    map: &[u32],
+    memo: &mut [u32],
+    id: usize,
+) -> Kept
+    requires { ⌜ Replaceable (now index) (now words) mark (now map) id ⌝ }
+    requires { ⌜ (mark .terms ≤ length (now memo)) × (now memo ≡ replicate (length (now memo)) 0) ⌝ }
+    ensures { λ r. ⌜ After (now (index .entry)) (now (words .entry)) (now (index .exit)) (now (words .exit)) mark (substituted (now (index .entry)) (now (words .entry)) mark (now (map .entry)) id) (substituteTree (replacement (made (now (index .entry)) (now (words .entry)) mark) (now (map .entry))) (tree (now (index .entry)) (now (words .entry)) mark id) (made (now (index .entry)) (now (words .entry)) mark)) r ⌝ }
+    ensures { λ _. ⌜ now (memo .exit) ≡ now (memo .entry) ⌝ }
+{
+    let terms = mark.terms;
+    let r = replace(index, words, mark, map, &mut memo[..terms], id);
+    wipe(&mut memo[..terms]);
+    r
 }
