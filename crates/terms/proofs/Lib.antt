@@ -10,3 +10,8 @@ pub mod Sames
 pub mod Keeps
 pub mod Terms
 pub mod Collects
+pub mod Gathers
+pub mod Closeds
+pub mod Substs
+pub mod SubstLoop
+pub mod Fresh

@@ -1,0 +1,69 @@
+-- Substitution with a memo that is zero before and after. Assumes nothing.
+use mathlib.Core.Path.{_≡_, refl, sym, ap, _∙_, subst}
+use mathlib.Core.List.{List, [], _∷_, _++_}
+use Prim.Native.Nat.{ℕ, zero, suc, _+_, _-_, _≤_, _<_}
+use native.Mathlib.Omega.{arith}
+use native.Mathlib.Decide.{decLt}
+use lib.ListN.{length, getD, take, drop, replicate, length-replicate, replicate-append-replicate, getD-replicate, List·getD-eq-default}
+use lib.Seq.{length-take-le, take-at, drop-at, getD-take}
+use Rattle.rules.specs.Out.{Out}
+use Rattle.rules.specs.Tree.{Tree, sub}
+use Rattle.rules.specs.Store.{Made, make, substitute}
+use Rattle.terms.specs.declared.store.Mark.{Mark}
+use Rattle.terms.specs.declared.store.Kept.{Kept}
+use Rattle.terms.specs.declared.store.Kept.the-variants.{Term, Full}
+use Rattle.terms.specs.Table.{made, After}
+use Rattle.terms.specs.Collect.{tree}
+use Rattle.terms.specs.Subst.{replacement, substituted, asked, Replaceable, Ready, Substituted}
+
+getD-zeros : (n i : ℕ) → _≡_ {A = ℕ} (getD (replicate n 0) i 0) 0
+getD-zeros n i = elim (decLt i n) [
+    yes p ↦ getD-replicate n i 0 0 p
+  | no q ↦ List·getD-eq-default (replicate n 0) 0 {n = i} (let z = length-replicate {A = ℕ} n 0 in omega arith)
+  ]
+
+-- a part of zeros
+module _ (memo : List ℕ) (n : ℕ) (h : n ≤ length memo) (z : memo ≡ replicate (length memo) 0) where
+  pub part-long : n ≡ length (take n memo)
+  part-long = sym (length-take-le n memo h)
+
+  part-zero : (i : ℕ) → i < n → getD (take n memo) i 0 ≡ 0
+  part-zero i l = getD-take n memo i 0 l ∙ ap (λ (r : List ℕ). getD r i 0) z ∙ getD-zeros (length memo) i
+
+  pub part-none : (i : ℕ) → getD (take n memo) i 0 ≡ 0
+  part-none i = elim (decLt i n) [ yes p ↦ part-zero i p | no q ↦ List·getD-eq-default (take n memo) 0 {n = i} (let y = part-long in omega arith) ]
+
+  two-parts : memo ≡ replicate n 0 ++ replicate (length memo - n) 0
+  two-parts =
+      let e : length memo ≡ n + (length memo - n) = omega arith in
+      z ∙ ap (λ (j : ℕ). replicate j 0) e ∙ sym (replicate-append-replicate n (length memo - n) 0)
+
+  rest-zero : drop n memo ≡ replicate (length memo - n) 0
+  rest-zero = ap (drop n) two-parts ∙ drop-at (replicate n 0) (replicate (length memo - n) 0) n (length-replicate {A = ℕ} n 0)
+
+  -- what was lent and wiped is as it was
+  pub part-wiped : (ys zs : List ℕ) → length ys ≡ length (take n memo) → zs ≡ replicate (length (take n (ys ++ drop n memo))) 0 → zs ++ drop n (ys ++ drop n memo) ≡ memo
+  part-wiped ys zs e f =
+      let l : length ys ≡ n = e ∙ sym part-long in
+      let t : take n (ys ++ drop n memo) ≡ ys = take-at ys (drop n memo) n l in
+      let d : drop n (ys ++ drop n memo) ≡ drop n memo = drop-at ys (drop n memo) n l in
+      let a : zs ≡ replicate n 0 = f ∙ ap (λ (r : List ℕ). replicate (length r) 0) t ∙ ap (λ (j : ℕ). replicate j 0) l in
+      (λ i. a i ++ (d ∙ rest-zero) i) ∙ sym two-parts
+
+  pub part-again : (ys : List ℕ) → length ys ≡ length (take n memo) → n ≡ length (take n (ys ++ drop n memo))
+  part-again ys e = sym (ap length (take-at ys (drop n memo) n (e ∙ sym part-long)) ∙ e ∙ sym part-long)
+
+pub fresh-ready : (I W : List ℕ) (m : Mark) (map memo : List ℕ) (id : ℕ) → Replaceable I W m map id → (m .terms ≤ length memo) × (memo ≡ replicate (length memo) 0) → Ready I W m map (take (m .terms) memo) id
+fresh-ready I W m map memo id r p =
+    let l = part-long memo (m .terms) (p .0) (p .1) in
+    let h = r .there in
+    record
+      { good = r .good; bound = r .bound; there = r .there; inside = omega arith
+      ; knows = λ i q. absurd (let z = part-none memo (m .terms) (p .0) (p .1) i in omega arith)
+      }
+
+pub fresh-done : (I W J X : List ℕ) (m : Mark) (map memo memo′ : List ℕ) (id : ℕ) (r : Kept) → Substituted I W J X m map memo memo′ id r
+    → After I W J X m (substituted I W m map id) (substitute (replacement (made I W m) map) (tree I W m id) (made I W m)) r
+unfolding substitute
+fresh-done I W J X m map memo memo′ id (Term n new) d = d .stored
+fresh-done I W J X m map memo memo′ id (Full r new) d = d
