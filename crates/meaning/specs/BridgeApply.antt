@@ -53,7 +53,7 @@ plain-at fs h g a e = go (entry fs h) (at-entry fs h g a) e
     go nothing q p = absurd (no-some q)
     go (some f) q p = is-plain g (subst (λ (z : Fact). isPlain z ≡ true) (some-same q) p) .1
 
-in-here : (i : ℕ) → In i (i ∷ [])
+pub in-here : (i : ℕ) → In i (i ∷ [])
 unfolding In
 in-here i = inl refl
 

@@ -28,6 +28,7 @@ pub mod BridgeStep
 pub mod BridgeApply
 pub mod BridgeInduct
 pub mod BridgeCase
+pub mod BridgeNames
 pub mod BridgeInvert
 pub mod Written
 pub mod WrittenExample
