@@ -33,3 +33,4 @@ pub mod BridgeInvert
 pub mod Written
 pub mod WrittenExample
 pub mod WrittenRead
+pub mod Ends
