@@ -34,3 +34,4 @@ pub mod Written
 pub mod WrittenExample
 pub mod WrittenRead
 pub mod Ends
+pub mod Took
