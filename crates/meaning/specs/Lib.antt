@@ -35,3 +35,6 @@ pub mod WrittenExample
 pub mod WrittenRead
 pub mod Ends
 pub mod Took
+pub mod BridgeProof
+pub mod BridgeTake
+pub mod BridgeRun

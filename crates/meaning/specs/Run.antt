@@ -66,7 +66,7 @@ module _ (T : Theory) (vs : ℕ → ℕ) (Known Part : Fact → ℕ → Type 0)
     unfolding True
     cited g c = ih (c .place) g (c .at) (c .free) R (λ r p. mine r (c .rules r p)) (λ r u. c .known r (theirs r u))
 
-    ref-gives : (j : Tree) → Ref T vs Known Part fs f j → ((v : ℕ) → Occ v j → Allowed fs f v)
+    pub ref-gives : (j : Tree) → Ref T vs Known Part fs f j → ((v : ℕ) → Occ v j → Allowed fs f v)
         → Gives T vs R (HypOf fs f) (f .judgment) j
     unfolding Allowed HypOf In Needs Entails Gives
     ref-gives j (bare g c s e) a =
