@@ -14,7 +14,6 @@ use Rattle.rules.specs.Tree.{Tree, Trees, none, sub, subs}
 use Rattle.rules.specs.Theory.{Theory, Rule, rule}
 use Rattle.rules.specs.State.{State, Fact, Goal}
 use Rattle.rules.specs.Judge.{Judged, done as ended, refused, through}
-use Rattle.rules.specs.Proof.{takeForm}
 use Rattle.meaning.specs.Tree.{Occ, Occs, In, Among, among-occ}
 use Rattle.meaning.specs.Signature.{sig, Value}
 use Rattle.meaning.specs.Derivation.{Der, Ders, RuleOf}
@@ -23,13 +22,12 @@ use Rattle.meaning.specs.Sound.{plain-holds}
 use Rattle.meaning.specs.Inverts.{Shaped}
 use Rattle.meaning.specs.Forms.{grown, Allowed, Cites, Ref, bare, inst, Form, Run, begin, take}
 use Rattle.meaning.specs.Run.{at-grown, run-sound, ref-gives}
-use Rattle.meaning.specs.Named.{RuleHyp, Calm}
+use Rattle.meaning.specs.Named.{RuleHyp}
 use Rattle.meaning.specs.Asked.{at-unique}
 use Rattle.meaning.specs.Well.{WellRule, WellTheory, Agree, Extends, Well, app-form, extends-same, extends-both, agree-extends}
 use Rattle.meaning.specs.BridgeRefs.{calm-free}
 use Rattle.meaning.specs.Ends.{Ends, done, stopped}
 use Rattle.meaning.specs.Took.{Ruled, Kept, resting, Settled, Took, Post}
-use Rattle.meaning.specs.BridgeTake.{take-form-ok}
 
 -- Definitions -----------------------------------------------------------------------------------------------------------------------
 
@@ -43,11 +41,11 @@ unfoldable pub IfTaken : Type 0 → (State → Type 0) → Out State (Unit {0}) 
 IfTaken C K (ok a u) = C × K u
 IfTaken C K (refuse n d u) = Unit {0}
 
--- no reference and no case of a form that is taken names a rule hypothesis with premises
-unfoldable pub Calmly : Text → State → Type 0
-Calmly ends S = Unit {0}
-Calmly (fails n) S = Unit {0}
-Calmly (more x p t) S = IfTaken (Calm S x) (λ u. Calmly t u) (takeForm x S)
+-- C of each form that is taken, and of the state that it met
+unfoldable pub Throughout : (State → Sexp → Type 0) → (Sexp → Act State (Unit {0})) → Text → State → Type 0
+Throughout C f ends S = Unit {0}
+Throughout C f (fails n) S = Unit {0}
+Throughout C f (more x p t) S = IfTaken (C S x) (λ u. Throughout C f t u) (f x S)
 
 -- what holds of every state reached; T: the theory; vs: the sorts of all variables
 pub record Good (T : Theory) (vs : ℕ → ℕ) (S : State) : Type 0 where
@@ -102,38 +100,40 @@ good-step T vs S S′ g k t = record {
     more-goals h (inl e) s = subst (λ l. Settled T vs l h) (sym e) s
     more-goals h (inr (f, e, m)) s = subst (λ l. Settled T vs l h) (sym e) (settled-grown T vs (S .facts) f h s)
 
--- variables are only added
-pub run-extends : (t : Text) (k : ℕ) (S : State) → Extends (S .vars) (final (through takeForm t k S) .vars)
-unfolding through final
-run-extends ends k S = extends-same (S .vars)
-run-extends (fails n) k S = extends-same (S .vars)
-run-extends (more x p t) k S = go (takeForm x S) (take-form-ok x S) (λ u. run-extends t (suc k) u)
-  where
-    go : (o : Out State (Unit {0})) → Ends (λ _ S′. Post (Calm S x) S S′) o
-        → ((u : State) → Extends (u .vars) (final (through takeForm t (suc k) u) .vars))
-        → Extends (S .vars)
-            (final {S = State} (elim o as (λ _. Judged State) [ ok a u ↦ through takeForm t (suc k) u | refuse n d u ↦ refused n d k S ]) .vars)
-    go (ok a u) (done h) r = extends-both (S .vars) (u .vars) (final (through takeForm t (suc k) u) .vars) (h .kept .vars) (r u)
-    go (refuse n d u) h r = extends-same (S .vars)
+-- f: how a form is taken; C: what is asked of it
+module _ (f : Sexp → Act State (Unit {0})) (C : State → Sexp → Type 0)
+    (takes : (x : Sexp) (S : State) → Ends (λ _ S′. Post (C S x) S S′) (f x S)) where
+  -- variables are only added
+  pub run-extends : (t : Text) (k : ℕ) (S : State) → Extends (S .vars) (final (through f t k S) .vars)
+  unfolding through final
+  run-extends ends k S = extends-same (S .vars)
+  run-extends (fails n) k S = extends-same (S .vars)
+  run-extends (more x p t) k S = go (f x S) (takes x S) (λ u. run-extends t (suc k) u)
+    where
+      go : (o : Out State (Unit {0})) → Ends (λ _ S′. Post (C S x) S S′) o
+          → ((u : State) → Extends (u .vars) (final (through f t (suc k) u) .vars))
+          → Extends (S .vars)
+              (final {S = State} (elim o as (λ _. Judged State) [ ok a u ↦ through f t (suc k) u | refuse n d u ↦ refused n d k S ]) .vars)
+      go (ok a u) (done h) r = extends-both (S .vars) (u .vars) (final (through f t (suc k) u) .vars) (h .kept .vars) (r u)
+      go (refuse n d u) h r = extends-same (S .vars)
 
--- all forms, a refused one at the end included
-pub run-good : (T : Theory) (vs : ℕ → ℕ) (t : Text) (k : ℕ) (S : State) → Good T vs S → Calmly t S
-    → Agree vs (final (through takeForm t k S) .vars) → Good T vs (final (through takeForm t k S))
-unfolding through final Calmly IfTaken
-run-good T vs ends k S g c a = g
-run-good T vs (fails n) k S g c a = g
-run-good T vs (more x p t) k S g c a =
-    go (takeForm x S) (take-form-ok x S) c a (λ u h d b. run-good T vs t (suc k) u h d b)
-  where
-    go : (o : Out State (Unit {0})) → Ends (λ _ S′. Post (Calm S x) S S′) o → IfTaken (Calm S x) (λ u. Calmly t u) o
-        → Agree vs (final {S = State} (elim o as (λ _. Judged State) [ ok a u ↦ through takeForm t (suc k) u | refuse n d u ↦ refused n d k S ]) .vars)
-        → ((u : State) → Good T vs u → Calmly t u → Agree vs (final (through takeForm t (suc k) u) .vars)
-          → Good T vs (final (through takeForm t (suc k) u)))
-        → Good T vs (final {S = State} (elim o as (λ _. Judged State) [ ok a u ↦ through takeForm t (suc k) u | refuse n d u ↦ refused n d k S ]))
-    go (ok a u) (done h) c b r =
-        r u (good-step T vs S u g (h .kept)
-          (h .took vs (g .well) (c .0) (agree-extends vs (u .vars) (final (through takeForm t (suc k) u) .vars) (run-extends t (suc k) u) b))) (c .1) b
-    go (refuse n d u) h c b r = g
+  -- all forms, a refused one at the end included
+  pub run-good : (T : Theory) (vs : ℕ → ℕ) (t : Text) (k : ℕ) (S : State) → Good T vs S → Throughout C f t S
+      → Agree vs (final (through f t k S) .vars) → Good T vs (final (through f t k S))
+  unfolding through final Throughout IfTaken
+  run-good T vs ends k S g c a = g
+  run-good T vs (fails n) k S g c a = g
+  run-good T vs (more x p t) k S g c a = go (f x S) (takes x S) c a (λ u h d b. run-good T vs t (suc k) u h d b)
+    where
+      go : (o : Out State (Unit {0})) → Ends (λ _ S′. Post (C S x) S S′) o → IfTaken (C S x) (λ u. Throughout C f t u) o
+          → Agree vs (final {S = State} (elim o as (λ _. Judged State) [ ok a u ↦ through f t (suc k) u | refuse n d u ↦ refused n d k S ]) .vars)
+          → ((u : State) → Good T vs u → Throughout C f t u → Agree vs (final (through f t (suc k) u) .vars)
+            → Good T vs (final (through f t (suc k) u)))
+          → Good T vs (final {S = State} (elim o as (λ _. Judged State) [ ok a u ↦ through f t (suc k) u | refuse n d u ↦ refused n d k S ]))
+      go (ok a u) (done h) c b r =
+          r u (good-step T vs S u g (h .kept)
+            (h .took vs (g .well) (c .0) (agree-extends vs (u .vars) (final (through f t (suc k) u) .vars) (run-extends t (suc k) u) b))) (c .1) b
+      go (refuse n d u) h c b r = g
 
 -- What it comes to ------------------------------------------------------------------------------------------------------------------
 

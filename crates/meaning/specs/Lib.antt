@@ -38,3 +38,5 @@ pub mod Took
 pub mod BridgeProof
 pub mod BridgeTake
 pub mod BridgeRun
+pub mod BridgeTheory
+pub mod BridgeGoals
