@@ -78,7 +78,7 @@ take-goal-ok x S =
     keeping _ (keeps-name 20 (item xs 0) S) (λ n _.
     keeping _ (keeps-found 20 (goalForm (n .bytes) (count xs)) S) (λ g _. goal-ok g xs S)))
 
-anything : (t : Text) (S : State) → Throughout Anything takeGoal t S
+pub anything : (t : Text) (S : State) → Throughout Anything takeGoal t S
 unfolding Throughout IfTaken
 anything ends S = tt
 anything (fails n) S = tt
@@ -91,7 +91,7 @@ anything (more x p t) S = go (takeGoal x S) (λ u. anything t u)
 -- The goals of a text ---------------------------------------------------------------------------------------------------------------
 
 -- before the goals
-start-good : (T : Theory) → WellTheory T → (vs : ℕ → ℕ) → Good T vs (start T)
+pub start-good : (T : Theory) → WellTheory T → (vs : ℕ → ℕ) → Good T vs (start T)
 unfolding Agree abbreviated At entry
 start-good T w vs = record {
   theory = refl;

@@ -40,3 +40,6 @@ pub mod BridgeTake
 pub mod BridgeRun
 pub mod BridgeTheory
 pub mod BridgeGoals
+pub mod BridgeCheck
+pub mod Theorems
+pub mod TheoremsHold
