@@ -93,6 +93,12 @@ unfolding items
 ok-items n (atom p bs) s = stopped
 ok-items n (list xs) s = done refl
 
+-- the item is an atom, whose name this is
+pub ok-atom : {S : Type 0} (n : ℕ) (x : Sexp) (s : S) → Ok (λ a. (p : ℕ) × (x ≡ atom p (a .bytes))) (name n x s)
+unfolding name
+ok-atom n (atom p bs) s = done (p, refl)
+ok-atom n (list xs) s = stopped
+
 -- an index that was read stands there
 pub ok-index : {S : Type 0} (n : ℕ) (x : Sexp) (s : S) → Ok (λ i. Points x i) (index n x s)
 unfolding index name Points then

@@ -25,6 +25,7 @@ use Rattle.meaning.specs.TreeTests.{true-false}
 use Rattle.meaning.specs.UnifyActs.{ok-any}
 use Rattle.meaning.specs.Truth.{At}
 use Rattle.meaning.specs.Forms.{Run, begin}
+use Rattle.meaning.specs.Sets.{Sets}
 use Rattle.meaning.specs.Asked.{no-some, some-same}
 use Rattle.meaning.specs.Well.{WellTheory, Agree, Extends, Well, extends-same, agree-extends}
 use Rattle.meaning.specs.Ends.{Ends, done, stopped, ends-map, keeping, keeps-ask, keeps-room, keeps-found, keeps-name, keeps-items, making-then}
@@ -43,9 +44,9 @@ entry-snoc [] y (suc i) z e = absurd (no-some e)
 entry-snoc (x ∷ xs) y zero z e = inl e
 entry-snoc (x ∷ xs) y (suc i) z e = entry-snoc xs y i z e
 
-add-goal-ok : (x : Sexp) (hs : Trees) (j : Tree) (S : State) (m : Made) → Ends (λ _ S′. Post (Unit {0}) S S′) (addGoal x hs j (withMade S m))
+add-goal-ok : (K : Sets) (x : Sexp) (hs : Trees) (j : Tree) (S : State) (m : Made) → Ends (λ _ S′. Post K (Unit {0}) S S′) (addGoal x hs j (withMade S m))
 unfolding addGoal then
-add-goal-ok x hs j S m =
+add-goal-ok K x hs j S m =
     keeping _ (keeps-name 24 x (withMade S m)) (λ n _.
     keeping _ (keeps-ask 24 (isNew (goalNamed (S .goals) (n .bytes))) (withMade S m)) (λ _ _.
     keeping _ (keeps-room 11 (ltb (length (S .goals)) GOALS) (withMade S m)) (λ _ _.
@@ -62,21 +63,21 @@ add-goal-ok x hs j S m =
       }
     })))))
 
-goal-ok : (g : GoalForm) (xs : Sexps) (S : State) → Ends (λ _ S′. Post (Unit {0}) S S′) (goal g xs S)
+goal-ok : (K : Sets) (g : GoalForm) (xs : Sexps) (S : State) → Ends (λ _ S′. Post K (Unit {0}) S S′) (goal g xs S)
 unfolding goal then
-goal-ok aVariable xs S = ends-map (λ _ S′ h. h .0) (add-var-ok (Unit {0}) 2 xs S)
-goal-ok aGoal xs S =
-    making-then (judgment S (item xs 2)) S _ (ok-any (judgment S (item xs 2) (S .made))) (λ j m _. add-goal-ok (item xs 1) none j S m)
-goal-ok aGoalWith xs S =
+goal-ok K aVariable xs S = ends-map (λ _ S′ h. h .0) (add-var-ok K (Unit {0}) 2 xs S)
+goal-ok K aGoal xs S =
+    making-then (judgment S (item xs 2)) S _ (ok-any (judgment S (item xs 2) (S .made))) (λ j m _. add-goal-ok K (item xs 1) none j S m)
+goal-ok K aGoalWith xs S =
     making-then (judgments S (item xs 2)) S _ (ok-any (judgments S (item xs 2) (S .made))) (λ hs m _.
-    making-then (judgment S (item xs 3)) (withMade S m) _ (ok-any (judgment S (item xs 3) m)) (λ j m₁ _. add-goal-ok (item xs 1) hs j S m₁))
+    making-then (judgment S (item xs 3)) (withMade S m) _ (ok-any (judgment S (item xs 3) m)) (λ j m₁ _. add-goal-ok K (item xs 1) hs j S m₁))
 
-pub take-goal-ok : (x : Sexp) (S : State) → Ends (λ _ S′. Post (Anything S x) S S′) (takeGoal x S)
+pub take-goal-ok : (K : Sets) (x : Sexp) (S : State) → Ends (λ _ S′. Post K (Anything S x) S S′) (takeGoal x S)
 unfolding takeGoal
-take-goal-ok x S =
+take-goal-ok K x S =
     keeping _ (keeps-items 20 x S) (λ xs _.
     keeping _ (keeps-name 20 (item xs 0) S) (λ n _.
-    keeping _ (keeps-found 20 (goalForm (n .bytes) (count xs)) S) (λ g _. goal-ok g xs S)))
+    keeping _ (keeps-found 20 (goalForm (n .bytes) (count xs)) S) (λ g _. goal-ok K g xs S)))
 
 pub anything : (t : Text) (S : State) → Throughout Anything takeGoal t S
 unfolding Throughout IfTaken
@@ -91,9 +92,9 @@ anything (more x p t) S = go (takeGoal x S) (λ u. anything t u)
 -- The goals of a text ---------------------------------------------------------------------------------------------------------------
 
 -- before the goals
-pub start-good : (T : Theory) → WellTheory T → (vs : ℕ → ℕ) → Good T vs (start T)
+pub start-good : (K : Sets) (T : Theory) → WellTheory T → (vs : ℕ → ℕ) → Good K T vs (start T)
 unfolding Agree abbreviated At entry
-start-good T w vs = record {
+start-good K T w vs = record {
   theory = refl;
   well = record {
     rules = w;
@@ -104,24 +105,3 @@ start-good T w vs = record {
   run = begin;
   goals = λ i g e t. absurd (no-some e)
 }
-
--- behind them
-pub goals-good : (T : Theory) → WellTheory T → (t : Text) (k : ℕ) (S : State) → whole takeGoal t (start T) ≡ ended k S
-    → (vs : ℕ → ℕ) → Agree vs (S .vars) → Good T vs S
-unfolding whole final
-goals-good T w t k S e vs a = go (unread t 0) e
-  where
-    at-end : (r : Judged State) → r ≡ ended k S → final r ≡ S
-    at-end r q = ap final q
-
-    go : (o : Option (ℕ × ℕ)) → elim o as (λ _. Judged State) [ nothing ↦ through takeGoal t 0 (start T) | some r ↦ refused (r .0) 0 (r .1) (start T) ] ≡ ended k S
-        → Good T vs S
-    go nothing q =
-        let p = at-end (through takeGoal t 0 (start T)) q in
-        subst (λ z. Good T vs z) p
-          (run-good takeGoal Anything take-goal-ok T vs t 0 (start T) (start-good T w vs) (anything t (start T))
-            (subst (λ (z : State). Agree vs (z .vars)) (sym p) a))
-    go (some r) q = absurd (not-refused r q)
-      where
-        not-refused : (r : ℕ × ℕ) → _≡_ {A = Judged State} (refused (r .0) 0 (r .1) (start T)) (ended k S) → ⊥
-        not-refused r q = let z : _≡_ {A = ℕ} 0 1 = cc in omega arith

@@ -29,15 +29,17 @@ use Rattle.meaning.specs.TreeTests.{true-false, and-true, sameTree-true,
 use Rattle.meaning.specs.UnifyActs.{Ok, done, stopped, ok-then, ok-any, substitute-ok}
 use Rattle.meaning.specs.UnifyRight.{unify-complete, unify-general, unify-sorts}
 use Rattle.meaning.specs.Signature.{sig, PROP, arity, ruleSort}
+use Rattle.meaning.specs.Derivation.{RuleOf}
 use Rattle.meaning.specs.Truth.{Mentions, At, HypOf, Plain}
 use Rattle.meaning.specs.Replace.{Distinct}
 use Rattle.meaning.specs.Inverts.{renamed, Used, Apart, General, InvertHyp}
 use Rattle.meaning.specs.Forms.{InContext, InvertCase, InvertCased, lone, paired, InvertRule, InvertForm, Form, invert as anInvert}
 use Rattle.meaning.specs.Named.{Points, Item, ItemOf, CasesFor, SomeInverts}
+use Rattle.meaning.specs.Sets.{Sets}
 use Rattle.meaning.specs.Asked.{no-some, both-true, true-left, true-right, not-true, ok-self, ok-ask, ok-space, ok-map, ok-items, ok-index, at-entry, at-below, every-in, in-every, all-in, has-in, in-has, rising-in, in-rising}
 use Rattle.meaning.specs.Well.{IsApp, Typed, Judgment, Judgments, WellRule, WellTheory, WellFact, Agree, Extends, Well, app-form, judgments-small, extends-same, extends-both, extends-length, agree-extends}
 use Rattle.meaning.specs.BridgeRead.{VarsOk, fact-ok, judgment-ok}
-use Rattle.meaning.specs.BridgeRefs.{HypsOk, hyp-list-ok, Own, cite}
+use Rattle.meaning.specs.BridgeRefs.{HypsOk, hyp-list-ok, Citable, cite}
 use Rattle.meaning.specs.BridgeApply.{is-plain, in-here}
 use Rattle.meaning.specs.BridgeStep.{Fine}
 use Rattle.meaning.specs.BridgeInduct.{keep-vars-ok}
@@ -60,7 +62,7 @@ context-vars fs (k ∷ hs) d v (h, inr i, a) m =
     true-right (mentionedAt (entry fs k) v) (contextVars fs hs v) (context-vars fs hs d v (h, i, a) m)
 
 -- I: the inversion; its judgments are well-sorted, and its cases were read from ys
-module _ (U : State) (vs : ℕ → ℕ) (w : Well U vs) (I : Inversion) (ys : Sexps)
+module _ (K : Sets) (U : State) (vs : ℕ → ℕ) (w : Well U vs) (I : Inversion) (ys : Sexps)
     (hj : Judgment (U .theory) vs (length (U .vars)) (I .hypothesis)) (jj : Judgment (U .theory) vs (length (U .vars)) (I .judgment))
     (co : CasesOk U ys (I .cases)) where
   abbrev C : Fact → Type 0
@@ -149,10 +151,10 @@ module _ (U : State) (vs : ℕ → ℕ) (w : Well U vs) (I : Inversion) (ys : Se
   -- new: the fact of the form
   module _ (new : Fact) (ej : new .judgment ≡ I .judgment) (k : Fact) (ek : k .judgment ≡ I .hypothesis) where
     abbrev Case-ok : Rule → (ℕ → ℕ) → (ℕ → Tree) → Type 0
-    Case-ok R nm θ = InvertCase (U .theory) vs (Own U vs w) (Own U vs w) (U .facts) new C R nm θ
+    Case-ok R nm θ = InvertCase (U .theory) vs (K .known) (K .part) (U .facts) (length (U .facts)) new C R nm θ
 
     invert-case-ok : (R : Rule) (xs : List ℕ) (θ : List Binding) (c : Case)
-        → ((f : Fact) → At (U .facts) (c .fact) f → f .premises ≡ none) → (m : Made)
+        → ((f : Fact) → At (U .facts) (c .fact) f → (f .premises ≡ none) × Citable K U vs w (length (U .facts)) (c .fact)) → (m : Made)
         → Ok (λ _. Case-ok R (λ i. getD xs i 0) (along θ)) (invertCase U I R (renaming xs) θ c m)
     unfolding invertCase renaming renamed HypOf Uncaptured
     invert-case-ok R xs θ c calm m =
@@ -163,7 +165,7 @@ module _ (U : State) (vs : ℕ → ℕ) (w : Well U vs) (I : Inversion) (ys : Se
         ok-then (ok-ask 43 (sameTree (f .judgment) j) m₄) (λ _ m₅ sj.
         ok-map (λ _ sa. record {
             g = f;
-            cites = cite U vs w new f (c .fact) a (calm f a);
+            cites = cite K U vs w (length (U .facts)) f (c .fact) a (calm f a);
             proves = sameTree-true (f .judgment) j sj ∙ (p ∙ ap (sub (along θ)) (sym ej));
             allowed = λ h x. allowed-in R (λ i. getD xs i 0) C (along θ) (az ++ bs) h
               (premises-and-context U R (λ i. getD xs i 0) θ (I .context) az bs ra (cb .0))
@@ -174,10 +176,10 @@ module _ (U : State) (vs : ℕ → ℕ) (w : Well U vs) (I : Inversion) (ys : Se
           (ok-ask 44 (all (λ h. allowedIn (az ++ bs) (entry (U .facts) h)) (f .hyps)) m₅))))))
 
     abbrev Looked-ok : Rule → Type 0
-    Looked-ok R = InvertRule (U .theory) vs (Own U vs w) (Own U vs w) (U .facts) new k C R
+    Looked-ok R = InvertRule (U .theory) vs (K .known) (K .part) (U .facts) (length (U .facts)) new k C R
 
     module _ (R : Rule) (wr : WellRule (U .theory) R)
-        (calm : (c : Case) → caseNamed (I .cases) (R .name .bytes) ≡ some c → (f : Fact) → At (U .facts) (c .fact) f → f .premises ≡ none)
+        (calm : (c : Case) → caseNamed (I .cases) (R .name .bytes) ≡ some c → (f : Fact) → At (U .facts) (c .fact) f → (f .premises ≡ none) × Citable K U vs w (length (U .facts)) (c .fact))
         (xs : List ℕ) (zs : List Var) (ex : Extends (U .vars) zs) (ro : RenamedOk R xs zs) where
       abbrev nm : ℕ → ℕ
       nm i = getD xs i 0
@@ -197,7 +199,7 @@ module _ (U : State) (vs : ℕ → ℕ) (w : Well U vs) (I : Inversion) (ys : Se
       t-sorted a = sorted-sub (sig (U .theory)) (ruleSort R) vs (renamed nm) (R .conclusion) PROP (wr .concl) (λ i o. ro .fit a i (wr .bound i (inl o)))
 
       abbrev Cased-ok : Type 0
-      Cased-ok = InvertCased (U .theory) vs (Own U vs w) (Own U vs w) (U .facts) new (k .judgment) C R nm
+      Cased-ok = InvertCased (U .theory) vs (K .known) (K .part) (U .facts) (length (U .facts)) new (k .judgment) C R nm
 
       looked : Agree vs zs → Cased-ok → Looked-ok R
       looked a c = record {
@@ -224,7 +226,7 @@ module _ (U : State) (vs : ℕ → ℕ) (w : Well U vs) (I : Inversion) (ys : Se
             (invert-case-ok R xs θ c (calm c eo) m)
 
     invert-rule-ok : (R : Rule) → WellRule (U .theory) R
-        → ((c : Case) → caseNamed (I .cases) (R .name .bytes) ≡ some c → (f : Fact) → At (U .facts) (c .fact) f → f .premises ≡ none)
+        → ((c : Case) → caseNamed (I .cases) (R .name .bytes) ≡ some c → (f : Fact) → At (U .facts) (c .fact) f → (f .premises ≡ none) × Citable K U vs w (length (U .facts)) (c .fact))
         → (N : Names) → Extends (U .vars) (N .vars) → (m : Made)
         → Ok (λ N′. Extends (N .vars) (N′ .vars) × (Agree vs (N′ .vars) → Looked-ok R)) (invertRule U I R N m)
     unfolding invertRule renaming renamed
@@ -242,7 +244,7 @@ module _ (U : State) (vs : ℕ → ℕ) (w : Well U vs) (I : Inversion) (ys : Se
 
     invert-rules-ok : (rs : List ℕ) → ((r : ℕ) → In r rs → WellRule (U .theory) (rule (U .theory) r))
         → ((r : ℕ) → In r rs → (c : Case) → caseNamed (I .cases) (rule (U .theory) r .name .bytes) ≡ some c
-          → (f : Fact) → At (U .facts) (c .fact) f → f .premises ≡ none)
+          → (f : Fact) → At (U .facts) (c .fact) f → (f .premises ≡ none) × Citable K U vs w (length (U .facts)) (c .fact))
         → (N : Names) → Extends (U .vars) (N .vars) → (m : Made)
         → Ok (λ N′. Extends (N .vars) (N′ .vars) × (Agree vs (N′ .vars) → (r : ℕ) → In r rs → Looked-ok (rule (U .theory) r)))
             (invertRules U I rs N m)
@@ -270,11 +272,12 @@ in-rules-of T p r qs l e =
     subst (λ z. In z (every (λ (s : Rule). headIs p (s .conclusion)) (T .rules) 0)) (let z : 0 + r ≡ r = omega arith in z)
       (every-in (λ (s : Rule). headIs p (s .conclusion)) noRule (T .rules) 0 r l (ap (headIs p) e ∙ eq-eqb p p refl))
 
-module _ (U : State) (vs : ℕ → ℕ) (w : Well U vs) where
-  pub invert-ok : (xs : Sexps) → ((i : ℕ) (f : Fact) → SomeInverts U (item xs 2) (item xs 5) i → At (U .facts) i f → f .premises ≡ none)
-      → (m : Made) → Ok (λ r. Extends (U .vars) (r .1) × (Agree vs (r .1) → Fine U vs w (r .0))) (invert U xs m)
+module _ (K : Sets) (U : State) (vs : ℕ → ℕ) (w : Well U vs) where
+  pub invert-ok : (xs : Sexps) → ((r : ℕ) → K .known (length (U .facts)) r → RuleOf (U .theory) r)
+      → ((i : ℕ) (f : Fact) → SomeInverts U (item xs 2) (item xs 5) i → At (U .facts) i f → (f .premises ≡ none) × Citable K U vs w (length (U .facts)) i)
+      → (m : Made) → Ok (λ r. Extends (U .vars) (r .1) × (Agree vs (r .1) → Fine K U vs w (r .0))) (invert U xs m)
   unfolding invert HypsOk SomeInverts ItemOf Judgments WellTheory predicateOf
-  invert-ok xs calm m =
+  invert-ok xs theirs calm m =
       ok-then (ok-index 34 (item xs 2) m) (λ i m₁ pt.
       ok-then (fact-ok U i m₁) (λ k m₂ a.
       ok-then (ok-ask 40 (isPlain k) m₂) (λ _ m₃ ep.
@@ -282,7 +285,7 @@ module _ (U : State) (vs : ℕ → ℕ) (w : Well U vs) where
       ok-then (judgment-ok U vs w (item xs 4) m₄) (λ j m₅ jo.
       ok-then (ok-items 41 (item xs 5) m₅) (λ ys m₆ ez.
       ok-then (read-cases-ok U ys m₆) (λ cs m₇ co.
-      ok-then (invert-rules-ok U vs w (record { hypothesis = k .judgment; judgment = j; context = hs; cases = cs }) ys (w .facts i k a .judgment) jo co
+      ok-then (invert-rules-ok K U vs w (record { hypothesis = k .judgment; judgment = j; context = hs; cases = cs }) ys (w .facts i k a .judgment) jo co
         (new i j hs) refl k refl (rulesOf (U .theory) (predicateOf (k .judgment)))
         (λ r q. w .rules r (rules-of-below (U .theory) (predicateOf (k .judgment)) r q))
         (λ r q c ec f b.
@@ -307,8 +310,8 @@ module _ (U : State) (vs : ℕ → ℕ) (w : Well U vs) where
           → ((h : ℕ) → In h hs → (g : Fact) × At (U .facts) h g × (g .assumed ≡ true))
           → (j : Tree) → Judgment (U .theory) vs (length (U .vars)) j
           → ((r : ℕ) → In r (rulesOf (U .theory) (predicateOf (k .judgment)))
-            → InvertRule (U .theory) vs (Own U vs w) (Own U vs w) (U .facts) (new i j hs) k (InContext (U .facts) hs) (rule (U .theory) r))
-          → Fine U vs w (new i j hs)
+            → InvertRule (U .theory) vs (K .known) (K .part) (U .facts) (length (U .facts)) (new i j hs) k (InContext (U .facts) hs) (rule (U .theory) r))
+          → Fine K U vs w (new i j hs)
       finish i k a ep hs ho j jo looked = record {
         well = record {
           judgment = jo;
@@ -328,7 +331,7 @@ module _ (U : State) (vs : ℕ → ℕ) (w : Well U vs) where
           head = shape .0;
           arguments = shape .1;
           form = shape .2;
-          looked = λ r l qs e. looked r (subst (λ p. In r (rulesOf (U .theory) p)) (sym (ap predicateOf (shape .2))) (in-rules-of (U .theory) (shape .0) r qs l e))
+          looked = λ r l qs e. looked r (subst (λ p. In r (rulesOf (U .theory) p)) (sym (ap predicateOf (shape .2))) (in-rules-of (U .theory) (shape .0) r qs (theirs r l) e))
         })
       }
         where

@@ -34,34 +34,40 @@ use Rattle.meaning.specs.UnifyActs.{Ok, done as fine, stopped as over, o
 use Rattle.meaning.specs.Truth.{At, Plain}
 use Rattle.meaning.specs.Forms.{grown, Ref as RefForm, hyp}
 use Rattle.meaning.specs.Named.{ItemOf, NamesAs, SomeRefers, SomeCases, SomeInverts, tagOf, Names as NamesFact, RuleHyp, Calm}
+use Rattle.meaning.specs.Derivation.{RuleOf}
+use Rattle.meaning.specs.Sets.{Sets, RuleAs, CitesAs}
 use Rattle.meaning.specs.Asked.{no-some, some-same, both-true, ok-map, ok-ask, entry-at, at-entry, all-in}
 use Rattle.meaning.specs.Well.{Typed, Judgment, Judgments, WellFact, Agree, Extends, Well, extends-same, extends-one, extends-both}
 use Rattle.meaning.specs.BridgeRead.{fact-ok, term-ok, judgment-ok, judgments-ok}
-use Rattle.meaning.specs.BridgeRefs.{calm-free, hyp-list-ok, Free-of-rules, RefOk, reference-ok}
+use Rattle.meaning.specs.BridgeRefs.{calm-free, Citable, Free-of-rules}
 use Rattle.meaning.specs.BridgeStep.{Fine, step-ok}
 use Rattle.meaning.specs.BridgeApply.{is-plain, in-here, apply-ok}
 use Rattle.meaning.specs.BridgeInduct.{Cases-free, induct-ok, induct-with-ok}
 use Rattle.meaning.specs.BridgeNames.{madeFor, make-vars-ok}
 use Rattle.meaning.specs.BridgeInvert.{invert-ok}
 use Rattle.meaning.specs.Ends.{Ends, done, stopped, Keeps, ends-then, ends-map, keeping, keeps-ask, keeps-room, keeps-found, keeps-name, keeps-items, keeps-index, keeps-vars-list, making-then}
-use Rattle.meaning.specs.Took.{Ruled, Kept, resting, Settled, Took, Post, ok-all, well-vars, well-fact, add-fact, fact-post}
+use Rattle.meaning.specs.Took.{Kept, resting, Settled, Took, Post, ok-all, well-vars, well-fact, add-fact, fact-post}
 
--- the facts that the form names are no rule hypotheses with premises
-abbrev pub CalmAs : Tag → State → Sexps → Type 0
-CalmAs t S xs = (i : ℕ) (f : Fact) → NamesAs t S xs i → At (S .facts) i f → ¬ (RuleHyp f)
+-- what is asked of a form: the facts that it names are no rule hypotheses with premises, and the sets respect what it cites
+pub record Clear (K : Sets) (t : Tag) (S : State) (xs : Sexps) : Type 0 where
+  pub calm : (i : ℕ) (f : Fact) → NamesAs t S xs i → At (S .facts) i f → ¬ (RuleHyp f)
+  pub rests : (r : ℕ) → RuleAs t S xs r → K .part (length (S .facts)) r
+  pub cites : (i : ℕ) → CitesAs t S xs i
+    → ((r : ℕ) → K .part i r → K .part (length (S .facts)) r) × ((r : ℕ) → K .known (length (S .facts)) r → K .known i r)
+  pub within : (r : ℕ) → K .known (length (S .facts)) r → RuleOf (S .theory) r
 
-abbrev pub After : Tag → Sexps → State → Out State (Unit {0}) → Type 0
-After t xs S o = Ends (λ _ S′. Post (CalmAs t S xs) S S′) o
+abbrev pub After : Sets → Tag → Sexps → State → Out State (Unit {0}) → Type 0
+After K t xs S o = Ends (λ _ S′. Post K (Clear K t S xs) S S′) o
 
 -- a state and what is asked of it
-abbrev Given : Tag → Sexps → State → Type 0
-Given t xs S = (vs : ℕ → ℕ) × Well S vs × CalmAs t S xs
+abbrev Given : Sets → Tag → Sexps → State → Type 0
+Given K t xs S = (vs : ℕ → ℕ) × Well S vs × Clear K t S xs
 
 -- Variables and abbreviations -------------------------------------------------------------------------------------------------------
 
-pub add-var-ok : (C : Type 0) (text : ℕ) (xs : Sexps) (S : State) → Ends (λ _ S′. Post C S S′ × (S′ .facts ≡ S .facts) × (S′ .goals ≡ S .goals)) (addVar text xs S)
+pub add-var-ok : (K : Sets) (C : Type 0) (text : ℕ) (xs : Sexps) (S : State) → Ends (λ _ S′. Post K C S S′ × (S′ .facts ≡ S .facts) × (S′ .goals ≡ S .goals)) (addVar text xs S)
 unfolding addVar then
-add-var-ok C text xs S =
+add-var-ok K C text xs S =
     keeping _ (keeps-name 21 (item xs 1) S) (λ n _.
     keeping _ (keeps-name 21 (item xs 2) S) (λ s _.
     keeping _ (keeps-found 21 (sortNamed (S .theory) (s .bytes)) S) (λ k _.
@@ -106,9 +112,9 @@ well-def S vs w m d y = record {
   facts = w .facts
 }
 
-pub add-def-ok : (xs : Sexps) (S : State) → After aDef xs S (addDef xs S)
+pub add-def-ok : (K : Sets) (xs : Sexps) (S : State) → After K aDef xs S (addDef xs S)
 unfolding addDef then
-add-def-ok xs S =
+add-def-ok K xs S =
     keeping _ (keeps-name 33 (item xs 1) S) (λ n _.
     keeping _ (keeps-ask 33 (marked (n .bytes) && leb 2 (length (n .bytes))) S) (λ _ _.
     making-then (term S (item xs 2)) S _
@@ -127,10 +133,10 @@ add-def-ok xs S =
 
 -- Hypotheses ------------------------------------------------------------------------------------------------------------------------
 
-hyp-fine : (S : State) (vs : ℕ → ℕ) (w : Well S vs) (j : Tree) (ps : Trees) (gs : List ℕ) → Judgment (S .theory) vs (length (S .vars)) j
-    → Judgments (S .theory) vs (length (S .vars)) ps → Fine S vs w (hypothesis (length (S .facts)) j ps gs)
+hyp-fine : (K : Sets) (S : State) (vs : ℕ → ℕ) (w : Well S vs) (j : Tree) (ps : Trees) (gs : List ℕ) → Judgment (S .theory) vs (length (S .vars)) j
+    → Judgments (S .theory) vs (length (S .vars)) ps → Fine K S vs w (hypothesis (length (S .facts)) j ps gs)
 unfolding In
-hyp-fine S vs w j ps gs a b = record {
+hyp-fine K S vs w j ps gs a b = record {
   well = record {
     judgment = a;
     premises = b;
@@ -140,19 +146,19 @@ hyp-fine S vs w j ps gs a b = record {
   form = hyp (record { own = in-here (length (S .facts)) })
 }
 
-pub add-hyp-ok : (xs : Sexps) (S : State) → After aHyp xs S (addHyp xs S)
+pub add-hyp-ok : (K : Sets) (xs : Sexps) (S : State) → After K aHyp xs S (addHyp xs S)
 unfolding addHyp then Judgments
-add-hyp-ok xs S =
+add-hyp-ok K xs S =
     making-then (judgment S (item xs 2)) S _
       (ok-all {I = (vs : ℕ → ℕ) × Well S vs} {P = λ i t. Judgment (S .theory) (i .0) (length (S .vars)) t}
         (judgment S (item xs 2) (S .made)) (λ i. judgment-ok S (i .0) (i .1) (item xs 2) (S .made))) (λ j m y.
-    ends-map (λ _ S′ e. subst (λ z. Post (CalmAs aHyp S xs) S z) (sym e)
-        (fact-post S m (S .vars) (extends-same (S .vars)) (hypothesis (length (S .facts)) j none []) _ (λ vs w _ _. hyp-fine S vs w j none [] (y (vs, w)) tt)))
+    ends-map (λ _ S′ e. subst (λ z. Post K (Clear K aHyp S xs) S z) (sym e)
+        (fact-post K S m (S .vars) (extends-same (S .vars)) (hypothesis (length (S .facts)) j none []) _ (λ vs w _ _. hyp-fine K S vs w j none [] (y (vs, w)) tt)))
       (add-fact (hypothesis (length (S .facts)) j none []) oneHypothesis (withMade S m)))
 
-pub add-rule-hyp-ok : (xs : Sexps) (S : State) → After aRuleHyp xs S (addRuleHyp xs S)
+pub add-rule-hyp-ok : (K : Sets) (xs : Sexps) (S : State) → After K aRuleHyp xs S (addRuleHyp xs S)
 unfolding addRuleHyp then
-add-rule-hyp-ok xs S =
+add-rule-hyp-ok K xs S =
     making-then (judgments S (item xs 2)) S _
       (ok-all {I = (vs : ℕ → ℕ) × Well S vs} {P = λ i t. Judgments (S .theory) (i .0) (length (S .vars)) t}
         (judgments S (item xs 2) (S .made)) (λ i. judgments-ok S (i .0) (i .1) (item xs 2) (S .made))) (λ ps m x.
@@ -160,61 +166,67 @@ add-rule-hyp-ok xs S =
       (ok-all {I = (vs : ℕ → ℕ) × Well S vs} {P = λ i t. Judgment (S .theory) (i .0) (length (S .vars)) t}
         (judgment S (item xs 3) m) (λ i. judgment-ok S (i .0) (i .1) (item xs 3) m)) (λ j m₁ y.
     keeping _ (keeps-vars-list 36 S (item xs 4) (withMade S m₁) (ok-any (varsList 36 S (item xs 4) (withMade S m₁)))) (λ gs _.
-    ends-map (λ _ S′ e. subst (λ z. Post (CalmAs aRuleHyp S xs) S z) (sym e)
-        (fact-post S m₁ (S .vars) (extends-same (S .vars)) (hypothesis (length (S .facts)) j ps gs) _
-          (λ vs w _ _. hyp-fine S vs w j ps gs (y (vs, w)) (x (vs, w)))))
+    ends-map (λ _ S′ e. subst (λ z. Post K (Clear K aRuleHyp S xs) S z) (sym e)
+        (fact-post K S m₁ (S .vars) (extends-same (S .vars)) (hypothesis (length (S .facts)) j ps gs) _
+          (λ vs w _ _. hyp-fine K S vs w j ps gs (y (vs, w)) (x (vs, w)))))
       (add-fact (hypothesis (length (S .facts)) j ps gs) oneHypothesis (withMade S m₁)))))
 
 -- The forms of their own files ------------------------------------------------------------------------------------------------------
 
-refs-free : (S : State) (vs : ℕ → ℕ) (w : Well S vs) (y : Sexp)
-    → ((i : ℕ) (f : Fact) → SomeRefers y i → At (S .facts) i f → ¬ (RuleHyp f)) → (x : Sexp) → ItemOf x y → Free-of-rules S vs w x
+refs-free : (K : Sets) (S : State) (vs : ℕ → ℕ) (w : Well S vs) (y : Sexp)
+    → ((i : ℕ) (f : Fact) → SomeRefers y i → At (S .facts) i f → ¬ (RuleHyp f))
+    → ((i : ℕ) → SomeRefers y i → Citable K S vs w (length (S .facts)) i)
+    → (x : Sexp) → ItemOf x y → Free-of-rules K S vs w (length (S .facts)) x
 unfolding SomeRefers Free-of-rules
-refs-free S vs w y c x k i f r a = calm-free (S .theory) vs (length (S .vars)) (length (S .facts)) f (w .facts i f a) (c i f (x, k, r) a)
+refs-free K S vs w y c e x k i f r a =
+    (calm-free (S .theory) vs (length (S .vars)) (length (S .facts)) f (w .facts i f a) (c i f (x, k, r) a), e i (x, k, r))
 
-cases-free : (S : State) (vs : ℕ → ℕ) (w : Well S vs) (y : Sexp)
-    → ((i : ℕ) (f : Fact) → SomeCases y i → At (S .facts) i f → ¬ (RuleHyp f)) → Cases-free S vs w y
+cases-free : (K : Sets) (S : State) (vs : ℕ → ℕ) (w : Well S vs) (y : Sexp)
+    → ((i : ℕ) (f : Fact) → SomeCases y i → At (S .facts) i f → ¬ (RuleHyp f))
+    → ((i : ℕ) → SomeCases y i → Citable K S vs w (length (S .facts)) i) → Cases-free K S vs w y
 unfolding SomeCases Cases-free
-cases-free S vs w y c x k i f r a = calm-free (S .theory) vs (length (S .vars)) (length (S .facts)) f (w .facts i f a) (c i f (x, k, r) a)
+cases-free K S vs w y c e x k i f r a =
+    (calm-free (S .theory) vs (length (S .vars)) (length (S .facts)) f (w .facts i f a) (c i f (x, k, r) a), e i (x, k, r))
 
-pub add-step-ok : (xs : Sexps) (S : State) → After aStep xs S (addStep xs S)
-unfolding addStep then NamesAs
-add-step-ok xs S =
+pub add-step-ok : (K : Sets) (xs : Sexps) (S : State) → After K aStep xs S (addStep xs S)
+unfolding addStep then NamesAs RuleAs CitesAs Citable
+add-step-ok K xs S =
     making-then (step S xs) S _
-      (ok-all {I = Given aStep xs S} {P = λ i r. Fine S (i .0) (i .1) (r .0)} (step S xs (S .made))
-        (λ i. step-ok S (i .0) (i .1) xs (refs-free S (i .0) (i .1) (item xs 3) (i .2)) (S .made))) (λ r m y.
-    ends-map (λ _ S′ e. subst (λ z. Post (CalmAs aStep S xs) S z) (sym e)
-        (fact-post S m (S .vars) (extends-same (S .vars)) (r .0) _ (λ vs w c _. y (vs, w, c))))
+      (ok-all {I = Given K aStep xs S} {P = λ i r. Fine K S (i .0) (i .1) (r .0)} (step S xs (S .made))
+        (λ i. step-ok K S (i .0) (i .1) xs (refs-free K S (i .0) (i .1) (item xs 3) (i .2 .calm) (i .2 .cites)) (i .2 .rests) (S .made))) (λ r m y.
+    ends-map (λ _ S′ e. subst (λ z. Post K (Clear K aStep S xs) S z) (sym e)
+        (fact-post K S m (S .vars) (extends-same (S .vars)) (r .0) _ (λ vs w c _. y (vs, w, c))))
       (add-fact (r .0) (someInstances (r .1)) (withMade S m)))
 
-pub add-apply-ok : (xs : Sexps) (S : State) → After anApply xs S (addApply xs S)
-unfolding addApply then NamesAs
-add-apply-ok xs S =
+pub add-apply-ok : (K : Sets) (xs : Sexps) (S : State) → After K anApply xs S (addApply xs S)
+unfolding addApply then NamesAs RuleAs CitesAs Citable
+add-apply-ok K xs S =
     making-then (apply S xs) S _
-      (ok-all {I = Given anApply xs S} {P = λ i f. Fine S (i .0) (i .1) f} (apply S xs (S .made))
-        (λ i. apply-ok S (i .0) (i .1) xs (refs-free S (i .0) (i .1) (item xs 4) (i .2)) (S .made))) (λ f m y.
-    ends-map (λ _ S′ e. subst (λ z. Post (CalmAs anApply S xs) S z) (sym e)
-        (fact-post S m (S .vars) (extends-same (S .vars)) f _ (λ vs w c _. y (vs, w, c))))
+      (ok-all {I = Given K anApply xs S} {P = λ i f. Fine K S (i .0) (i .1) f} (apply S xs (S .made))
+        (λ i. apply-ok K S (i .0) (i .1) xs (λ k p. i .2 .cites k (inl p))
+          (refs-free K S (i .0) (i .1) (item xs 4) (i .2 .calm) (λ k p. i .2 .cites k (inr p))) (S .made))) (λ f m y.
+    ends-map (λ _ S′ e. subst (λ z. Post K (Clear K anApply S xs) S z) (sym e)
+        (fact-post K S m (S .vars) (extends-same (S .vars)) f _ (λ vs w c _. y (vs, w, c))))
       (add-fact f noCounts (withMade S m)))
 
-pub add-induct-ok : (xs : Sexps) (S : State) → After anInduct xs S (addInduct xs S)
-unfolding addInduct then NamesAs
-add-induct-ok xs S =
+pub add-induct-ok : (K : Sets) (xs : Sexps) (S : State) → After K anInduct xs S (addInduct xs S)
+unfolding addInduct then NamesAs RuleAs CitesAs Citable
+add-induct-ok K xs S =
     making-then (induct S xs) S _
-      (ok-all {I = Given anInduct xs S} {P = λ i f. Fine S (i .0) (i .1) f} (induct S xs (S .made))
-        (λ i. induct-ok S (i .0) (i .1) xs (cases-free S (i .0) (i .1) (item xs 4) (i .2)) (S .made))) (λ f m y.
-    ends-map (λ _ S′ e. subst (λ z. Post (CalmAs anInduct S xs) S z) (sym e)
-        (fact-post S m (S .vars) (extends-same (S .vars)) f _ (λ vs w c _. y (vs, w, c))))
+      (ok-all {I = Given K anInduct xs S} {P = λ i f. Fine K S (i .0) (i .1) f} (induct S xs (S .made))
+        (λ i. induct-ok K S (i .0) (i .1) xs (cases-free K S (i .0) (i .1) (item xs 4) (i .2 .calm) (i .2 .cites)) (S .made))) (λ f m y.
+    ends-map (λ _ S′ e. subst (λ z. Post K (Clear K anInduct S xs) S z) (sym e)
+        (fact-post K S m (S .vars) (extends-same (S .vars)) f _ (λ vs w c _. y (vs, w, c))))
       (add-fact f oneInduction (withMade S m)))
 
-pub add-induct-with-ok : (xs : Sexps) (S : State) → After anInductWith xs S (addInductWith xs S)
-unfolding addInductWith then NamesAs
-add-induct-with-ok xs S =
+pub add-induct-with-ok : (K : Sets) (xs : Sexps) (S : State) → After K anInductWith xs S (addInductWith xs S)
+unfolding addInductWith then NamesAs RuleAs CitesAs Citable
+add-induct-with-ok K xs S =
     making-then (inductWith S xs) S _
-      (ok-all {I = Given anInductWith xs S} {P = λ i f. Fine S (i .0) (i .1) f} (inductWith S xs (S .made))
-        (λ i. induct-with-ok S (i .0) (i .1) xs (cases-free S (i .0) (i .1) (item xs 5) (i .2)) (S .made))) (λ f m y.
-    ends-map (λ _ S′ e. subst (λ z. Post (CalmAs anInductWith S xs) S z) (sym e)
-        (fact-post S m (S .vars) (extends-same (S .vars)) f _ (λ vs w c _. y (vs, w, c))))
+      (ok-all {I = Given K anInductWith xs S} {P = λ i f. Fine K S (i .0) (i .1) f} (inductWith S xs (S .made))
+        (λ i. induct-with-ok K S (i .0) (i .1) xs (cases-free K S (i .0) (i .1) (item xs 5) (i .2 .calm) (i .2 .cites)) (S .made))) (λ f m y.
+    ends-map (λ _ S′ e. subst (λ z. Post K (Clear K anInductWith S xs) S z) (sym e)
+        (fact-post K S m (S .vars) (extends-same (S .vars)) f _ (λ vs w c _. y (vs, w, c))))
       (add-fact f oneInduction (withMade S m)))
 
 -- made variables stand behind those that were there
@@ -244,21 +256,21 @@ invert-extends S xs m =
     ok-then (ok-any _) (λ j m₅ _. ok-then (ok-any _) (λ ys m₆ _. ok-then (ok-any _) (λ cs m₇ _.
     ok-then (rules-extend S _ _ (record { vars = S .vars; seen = [] }) m₇) (λ N m₈ e. fine e))))))))
 
-pub add-invert-ok : (xs : Sexps) (S : State) → After anInvert xs S (addInvert xs S)
-unfolding addInvert then NamesAs
-add-invert-ok xs S =
+pub add-invert-ok : (K : Sets) (xs : Sexps) (S : State) → After K anInvert xs S (addInvert xs S)
+unfolding addInvert then NamesAs RuleAs CitesAs Citable
+add-invert-ok K xs S =
     making-then (invert S xs) S _
-      (ok-all {I = Unit {0} ⊎ Given anInvert xs S} {P = λ i r. Made-by r i} (invert S xs (S .made)) (λ i. by i)) (λ r m y.
-    ends-map (λ _ S′ e. subst (λ z. Post (CalmAs anInvert S xs) S z) (sym e)
-        (fact-post S m (r .1) (y (inl tt)) (r .0) _ (λ vs w c a. y (inr (vs, w, c)) a)))
+      (ok-all {I = Unit {0} ⊎ Given K anInvert xs S} {P = λ i r. Made-by r i} (invert S xs (S .made)) (λ i. by i)) (λ r m y.
+    ends-map (λ _ S′ e. subst (λ z. Post K (Clear K anInvert S xs) S z) (sym e)
+        (fact-post K S m (r .1) (y (inl tt)) (r .0) _ (λ vs w c a. y (inr (vs, w, c)) a)))
       (add-fact (r .0) oneInversion (withVars (withMade S m) (r .1))))
   where
-    Made-by : Fact × List Var → Unit {0} ⊎ Given anInvert xs S → Type 0
+    Made-by : Fact × List Var → Unit {0} ⊎ Given K anInvert xs S → Type 0
     Made-by r (inl u) = Extends (S .vars) (r .1)
-    Made-by r (inr g) = Agree (g .0) (r .1) → Fine S (g .0) (g .1) (r .0)
+    Made-by r (inr g) = Agree (g .0) (r .1) → Fine K S (g .0) (g .1) (r .0)
 
-    by : (i : Unit {0} ⊎ Given anInvert xs S) → Ok (λ r. Made-by r i) (invert S xs (S .made))
+    by : (i : Unit {0} ⊎ Given K anInvert xs S) → Ok (λ r. Made-by r i) (invert S xs (S .made))
     by (inl u) = invert-extends S xs (S .made)
     by (inr (vs, w, c)) =
-        ok-map (λ r h. h .1) (invert-ok S vs w xs
-          (λ i f n a. calm-free (S .theory) vs (length (S .vars)) (length (S .facts)) f (w .facts i f a) (c i f n a)) (S .made))
+        ok-map (λ r h. h .1) (invert-ok K S vs w xs (c .within)
+          (λ i f n a. (calm-free (S .theory) vs (length (S .vars)) (length (S .facts)) f (w .facts i f a) (c .calm i f n a), c .cites i n)) (S .made))

@@ -19,6 +19,7 @@ pub mod Inverts
 pub mod Forms
 pub mod Run
 pub mod Named
+pub mod Sets
 pub mod Asked
 pub mod Well
 pub mod BridgeRead

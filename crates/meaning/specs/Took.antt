@@ -19,7 +19,7 @@ use Rattle.rules.specs.State.{State, Fact, Goal, Counts, Var, Def, sortOfVar, s
 use Rattle.rules.specs.Proof.{withMade, withVars, withDefs, withGoals, withFacts, plus, addFact}
 use Rattle.meaning.specs.Tree.{Occ, Sorted, In, Among}
 use Rattle.meaning.specs.UnifyActs.{Ok, done as fine, stopped as over, of-ok}
-use Rattle.meaning.specs.Derivation.{RuleOf}
+use Rattle.meaning.specs.Sets.{Sets}
 use Rattle.meaning.specs.Truth.{At, Plain}
 use Rattle.meaning.specs.Forms.{grown, Ref as RefForm, Form}
 use Rattle.meaning.specs.Run.{at-grown, at-last, at-split}
@@ -29,10 +29,6 @@ use Rattle.meaning.specs.Ends.{Ends, done, stopped, ends-then, keeping, 
 
 -- Definitions -----------------------------------------------------------------------------------------------------------------------
 
--- the rules on which a fact rests, and those that it tolerates: the theory's
-abbrev pub Ruled : Theory → Fact → ℕ → Type 0
-Ruled T f r = RuleOf T r
-
 pub record Kept (S S′ : State) : Type 0 where
   pub theory : S′ .theory ≡ S .theory
   pub vars : Extends (S .vars) (S′ .vars)
@@ -41,23 +37,24 @@ pub record Kept (S S′ : State) : Type 0 where
 abbrev pub resting : Tree → List ℕ → Fact
 resting j hs = record { judgment = j; hyps = hs; assumed = false; premises = none; general = []; footing = [] }
 
--- a reference gives the goal's judgment; what it rests on is plain and listed at the goal
-pub record Settled (T : Theory) (vs : ℕ → ℕ) (fs : List Fact) (g : Goal) : Type 0 where
+-- a reference to the fact `cited` gives the goal's judgment; what it rests on is plain and listed at the goal
+pub record Settled (K : Sets) (T : Theory) (vs : ℕ → ℕ) (fs : List Fact) (g : Goal) : Type 0 where
+  pub cited : ℕ
   pub rests : List ℕ
-  pub gives : RefForm T vs (Ruled T) (Ruled T) fs (resting (g .judgment) rests) (g .judgment)
+  pub gives : RefForm T vs (K .known) (K .part) fs cited (resting (g .judgment) rests) (g .judgment)
   pub listed : (h : ℕ) → In h rests → (d : Fact) × At fs h d × Plain d × Among (d .judgment) (g .hyps)
 
-pub record Took (S : State) (vs : ℕ → ℕ) (S′ : State) : Type 0 where
+pub record Took (K : Sets) (S : State) (vs : ℕ → ℕ) (S′ : State) : Type 0 where
   pub well : Well S′ vs
   pub facts : (S′ .facts ≡ S .facts)
-    ⊎ ((f : Fact) × (S′ .facts ≡ grown (S .facts) f) × Form (S .theory) vs (Ruled (S .theory)) (Ruled (S .theory)) (S .facts) f)
+    ⊎ ((f : Fact) × (S′ .facts ≡ grown (S .facts) f) × Form (S .theory) vs (K .known) (K .part) (S .facts) (length (S .facts)) f)
   pub goals : (i : ℕ) (g : Goal) → entry (S′ .goals) i ≡ some g → g .taken ≡ true
-    → (entry (S .goals) i ≡ some g) ⊎ Settled (S .theory) vs (S′ .facts) g
+    → (entry (S .goals) i ≡ some g) ⊎ Settled K (S .theory) vs (S′ .facts) g
 
 -- the form's effect, where C is what is asked of the facts that it names
-pub record Post (C : Type 0) (S S′ : State) : Type 0 where
+pub record Post (K : Sets) (C : Type 0) (S S′ : State) : Type 0 where
   pub kept : Kept S S′
-  pub took : (vs : ℕ → ℕ) (w : Well S vs) → C → Agree vs (S′ .vars) → Took S vs S′
+  pub took : (vs : ℕ → ℕ) (w : Well S vs) → C → Agree vs (S′ .vars) → Took K S vs S′
 
 -- Laws ------------------------------------------------------------------------------------------------------------------------------
 
@@ -110,10 +107,10 @@ add-fact f c S =
     keeping _ (keeps-room 13 (leb (entries S + factEntries f) ENTRIES) S) (λ _ _. done refl))
 
 -- a fact that is fine, stored behind the made trees and variables of its form
-pub fact-post : {C : Type 0} (S : State) (m : Made) (xs : List Var) → Extends (S .vars) xs → (f : Fact) (c : Counts)
-    → ((vs : ℕ → ℕ) (w : Well S vs) → C → Agree vs xs → Fine S vs w f)
-    → Post C S (withFacts (withVars (withMade S m) xs) (grown (S .facts) f) c)
-fact-post S m xs e f c h = record {
+pub fact-post : {C : Type 0} (K : Sets) (S : State) (m : Made) (xs : List Var) → Extends (S .vars) xs → (f : Fact) (c : Counts)
+    → ((vs : ℕ → ℕ) (w : Well S vs) → C → Agree vs xs → Fine K S vs w f)
+    → Post K C S (withFacts (withVars (withMade S m) xs) (grown (S .facts) f) c)
+fact-post K S m xs e f c h = record {
   kept = record { theory = refl; vars = e };
   took = λ vs w k a. record {
     well = well-fact (withVars (withMade S m) xs) vs (well-vars S vs w m xs e a) f
