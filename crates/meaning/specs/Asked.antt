@@ -93,6 +93,12 @@ unfolding items
 ok-items n (atom p bs) s = stopped
 ok-items n (list xs) s = done refl
 
+-- the item is an atom, whose name this is
+pub ok-atom : {S : Type 0} (n : ℕ) (x : Sexp) (s : S) → Ok (λ a. (p : ℕ) × (x ≡ atom p (a .bytes))) (name n x s)
+unfolding name
+ok-atom n (atom p bs) s = done (p, refl)
+ok-atom n (list xs) s = stopped
+
 -- an index that was read stands there
 pub ok-index : {S : Type 0} (n : ℕ) (x : Sexp) (s : S) → Ok (λ i. Points x i) (index n x s)
 unfolding index name Points then
@@ -168,6 +174,19 @@ every-in p d (x ∷ xs) k (suc i) l e = go (p x) (every-in p d xs (suc k) i (ome
         → In (k + suc i) (elim b as (λ _. List ℕ) [ true ↦ k ∷ every p xs (suc k) | false ↦ every p xs (suc k) ])
     go true h = inr (subst (λ z. In z (every p xs (suc k))) (let z : suc k + i ≡ k + suc i = omega arith in z) h)
     go false h = subst (λ z. In z (every p xs (suc k))) (let z : suc k + i ≡ k + suc i = omega arith in z) h
+
+-- and what is listed passes it
+pub in-every : {A : Type 0} (p : A → Bool) (d : A) (xs : List A) (k i : ℕ) → In i (every p xs k) → (j : ℕ) × (i ≡ k + j) × (j < length xs) × (p (getD xs j d) ≡ true)
+unfolding every In
+in-every p d [] k i h = absurd h
+in-every p d (x ∷ xs) k i h = go (p x) refl h (λ q. in-every p d xs (suc k) i q)
+  where
+    go : (b : Bool) → p x ≡ b → In i (elim b as (λ _. List ℕ) [ true ↦ k ∷ every p xs (suc k) | false ↦ every p xs (suc k) ])
+        → (In i (every p xs (suc k)) → (j : ℕ) × (i ≡ suc k + j) × (j < length xs) × (p (getD xs j d) ≡ true))
+        → (j : ℕ) × (i ≡ k + j) × (j < length (x ∷ xs)) × (p (getD (x ∷ xs) j d) ≡ true)
+    go true q (inl e) r = (0, omega arith, omega arith, q)
+    go true q (inr j) r = let s = r j in (suc (s .0), (let z = s .1 in omega arith), (let z = s .2 in omega arith), s .3)
+    go false q j r = let s = r j in (suc (s .0), (let z = s .1 in omega arith), (let z = s .2 in omega arith), s .3)
 
 -- a member of a list that passes a test throughout
 pub all-in : (p : ℕ → Bool) (xs : List ℕ) (x : ℕ) → all p xs ≡ true → In x xs → p x ≡ true

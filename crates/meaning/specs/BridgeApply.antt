@@ -28,12 +28,13 @@ use Rattle.meaning.specs.UnifyList.{Bound, Each, along-cases, each-map}
 use Rattle.meaning.specs.Signature.{sig, PROP}
 use Rattle.meaning.specs.Truth.{Free, At, HypOf, Needs, Plain}
 use Rattle.meaning.specs.Forms.{Ref as RefForm, Refs as RefForms, Allowed, ApplyHyp, ApplyFact, Form, apply-hyp, apply-fact}
-use Rattle.meaning.specs.Named.{Item, ItemOf}
+use Rattle.meaning.specs.Named.{Points, Item, ItemOf}
+use Rattle.meaning.specs.Sets.{Sets}
 use Rattle.meaning.specs.Asked.{no-some, some-same, both-true, true-left, true-right, ok-ask, ok-found, ok-map, ok-if, ok-items, ok-index, at-entry, at-below, all-in, has-in, in-has, rising-in, in-rising}
 use Rattle.meaning.specs.Well.{Typed, Judgment, Judgments, WellFact, Well, judgments-small}
 use Rattle.meaning.specs.BridgeRead.{fact-ok}
 use Rattle.meaning.specs.BridgeRefs.{is-none, is-empty, Scoped, scoped-ok, BindsOk, bindings-ok, along-sorted, along-typed, along-judgment, at-judgments}
-use Rattle.meaning.specs.BridgeRefs.{Own, cite, Free-of-rules, reference-ok, RefsOk, no-refs-ok, with-ref-ok}
+use Rattle.meaning.specs.BridgeRefs.{Citable, cite, Free-of-rules, reference-ok, RefsOk, no-refs-ok, with-ref-ok}
 use Rattle.meaning.specs.BridgeStep.{Fine}
 
 -- Small tests -----------------------------------------------------------------------------------------------------------------------
@@ -53,7 +54,7 @@ plain-at fs h g a e = go (entry fs h) (at-entry fs h g a) e
     go nothing q p = absurd (no-some q)
     go (some f) q p = is-plain g (subst (λ (z : Fact). isPlain z ≡ true) (some-same q) p) .1
 
-in-here : (i : ℕ) → In i (i ∷ [])
+pub in-here : (i : ℕ) → In i (i ∷ [])
 unfolding In
 in-here i = inl refl
 
@@ -73,28 +74,28 @@ value-vars (b ∷ bs) =
       each-map (λ v t. (z : ℕ) → Occ z t → valueVars bs z ≡ true) (λ v t. (z : ℕ) → Occ z t → (variables (b .value) z || valueVars bs z) ≡ true) bs
         (λ v t h z o. true-right (variables (b .value) z) (valueVars bs z) (h z o)) (value-vars bs))
 
-module _ (U : State) (vs : ℕ → ℕ) (w : Well U vs) where
-  refs-among : (f : Fact) (ts : Trees) → RefForms (U .theory) vs (Own U vs w) (Own U vs w) (U .facts) f ts → (t : Tree) → Among t ts
-      → RefForm (U .theory) vs (Own U vs w) (Own U vs w) (U .facts) f t
+module _ (K : Sets) (U : State) (vs : ℕ → ℕ) (w : Well U vs) where
+  refs-among : (f : Fact) (ts : Trees) → RefForms (U .theory) vs (K .known) (K .part) (U .facts) (length (U .facts)) f ts → (t : Tree) → Among t ts
+      → RefForm (U .theory) vs (K .known) (K .part) (U .facts) (length (U .facts)) f t
   unfolding RefForms Among
   refs-among f none r t i = absurd i
-  refs-among f (more u us) r t (inl e) = subst (λ z. RefForm (U .theory) vs (Own U vs w) (Own U vs w) (U .facts) f z) (sym e) (r .0)
+  refs-among f (more u us) r t (inl e) = subst (λ z. RefForm (U .theory) vs (K .known) (K .part) (U .facts) (length (U .facts)) f z) (sym e) (r .0)
   refs-among f (more u us) r t (inr i) = refs-among f us (r .1) t i
 
   -- The premises --------------------------------------------------------------------------------------------------------------------
 
-  discharge-ok : (bs : List Binding) (zs : Sexps) (ps : Trees) → count zs ≡ countTrees ps → ((x : Sexp) → Item x zs → Free-of-rules U vs w x)
-      → (m : Made) → Ok (λ rs. RefsOk U vs w rs × (rs .judgments ≡ subs (along bs) ps)) (discharge U bs zs ps m)
+  discharge-ok : (bs : List Binding) (zs : Sexps) (ps : Trees) → count zs ≡ countTrees ps → ((x : Sexp) → Item x zs → Free-of-rules K U vs w (length (U .facts)) x)
+      → (m : Made) → Ok (λ rs. RefsOk K U vs w (length (U .facts)) rs × (rs .judgments ≡ subs (along bs) ps)) (discharge U bs zs ps m)
   unfolding discharge count countTrees sub Item
-  discharge-ok bs nil none e c m = done (no-refs-ok U vs w, refl)
+  discharge-ok bs nil none e c m = done (no-refs-ok K U vs w (length (U .facts)), refl)
   discharge-ok bs nil (more p ps) e c m = absurd (let z : ⊥ = omega arith in z)
   discharge-ok bs (cons x xs) none e c m = absurd (let z : ⊥ = omega arith in z)
   discharge-ok bs (cons x xs) (more p ps) e c m =
       ok-then (substitute-ok (along bs) p m) (λ t m₁ q.
-      ok-then (reference-ok U vs w x (c x (inl refl)) m₁) (λ r m₂ a.
+      ok-then (reference-ok K U vs w (length (U .facts)) x (c x (inl refl)) m₁) (λ r m₂ a.
       ok-then (ok-ask 38 (sameTree (r .judgment) t) m₂) (λ _ m₃ s.
       ok-then (discharge-ok bs xs ps (omega arith) (λ y i. c y (inr i)) m₃) (λ rs m₄ b.
-      done (with-ref-ok U vs w r rs a (b .0), ap₂ more (sameTree-true (r .judgment) t s ∙ q) (b .1))))))
+      done (with-ref-ok K U vs w (length (U .facts)) r rs a (b .0), ap₂ more (sameTree-true (r .judgment) t s ∙ q) (b .1))))))
 
   -- The fact as a rule --------------------------------------------------------------------------------------------------------------
 
@@ -111,7 +112,7 @@ module _ (U : State) (vs : ℕ → ℕ) (w : Well U vs) where
         (λ _. ok-then (ok-ask 36 (all (λ b. has (f .general) (b .variable)) bs) m) (λ _ m₁ e. done (on-hyp (all-bound-in (f .general) bs e) refl)))
         (λ q. ok-then (ok-ask 40 (all (plainAt (U .facts)) (f .hyps)) m) (λ _ m₁ e. done (on-fact q e refl)))
 
-  module _ (bs : List Binding) (bo : BindsOk U vs w bs) (i : ℕ) (f : Fact) (at : At (U .facts) i f) (rs : Refs) (ro : RefsOk U vs w rs)
+  module _ (bs : List Binding) (bo : BindsOk U vs w bs) (i : ℕ) (f : Fact) (at : At (U .facts) i f) (rs : Refs) (ro : RefsOk K U vs w (length (U .facts)) rs)
       (j : Tree) (ej : j ≡ sub (along bs) (f .judgment)) (hs ft : List ℕ)
       (inside : (h : ℕ) → rs .hyps h ≡ true → In h hs) (below : (h : ℕ) → In h hs → h < length (U .facts))
       (sc : Scoped U (union (variablesOf (rs .judgments)) (valueVars bs)) j hs) where
@@ -148,7 +149,7 @@ module _ (U : State) (vs : ℕ → ℕ) (w : Well U vs) where
               | inr p ↦ absurd (p .0 b)
               ]))
 
-    hyp-fine : Each (λ v t. In v (f .general)) bs → In i hs → rs .judgments ≡ subs (along bs) (f .premises) → Fine U vs w new
+    hyp-fine : Each (λ v t. In v (f .general)) bs → In i hs → rs .judgments ≡ subs (along bs) (f .premises) → Fine K U vs w new
     hyp-fine g own e = record {
       well = well;
       form = apply-hyp (record {
@@ -162,26 +163,26 @@ module _ (U : State) (vs : ℕ → ℕ) (w : Well U vs) where
             inl p ↦ inr (p .1, along-sorted U vs w bs bo v, λ z o. valued v (p .0) z o)
           | inr p ↦ inl (p .1)
           ];
-        refs = subst (λ ts. RefForms (U .theory) vs (Own U vs w) (Own U vs w) (U .facts) new ts) e (ro .gives new inside);
+        refs = subst (λ ts. RefForms (U .theory) vs (K .known) (K .part) (U .facts) (length (U .facts)) new ts) e (ro .gives new inside);
         concl = sym ej;
         allowed = λ v o. used v (subst (λ ts. Occs v ts) (sym e) o)
       })
     }
 
-    fact-fine : f .assumed ≡ false → all (plainAt (U .facts)) (f .hyps) ≡ true
-        → rs .judgments ≡ subs (along bs) (judgmentsAt (U .facts) (f .hyps)) → Fine U vs w new
+    fact-fine : Citable K U vs w (length (U .facts)) i → f .assumed ≡ false → all (plainAt (U .facts)) (f .hyps) ≡ true
+        → rs .judgments ≡ subs (along bs) (judgmentsAt (U .facts) (f .hyps)) → Fine K U vs w new
     unfolding HypOf
-    fact-fine q p e = record {
+    fact-fine ci q p e = record {
       well = well;
       form = apply-fact (record {
         plain = refl;
         g = f;
-        cites = cite U vs w new f i at (w .facts i f at .derived q);
+        cites = cite K U vs w (length (U .facts)) f i at (w .facts i f at .derived q, ci);
         σ = along bs;
         sorts = along-sorted U vs w bs bo;
         plains = λ h x. plain-at (U .facts) (x .0) h (x .2) (all-in (plainAt (U .facts)) (f .hyps) (x .0) p (x .1));
         refs = λ h x. refs-among new (subs (along bs) (judgmentsAt (U .facts) (f .hyps)))
-          (subst (λ ts. RefForms (U .theory) vs (Own U vs w) (Own U vs w) (U .facts) new ts) e (ro .gives new inside))
+          (subst (λ ts. RefForms (U .theory) vs (K .known) (K .part) (U .facts) (length (U .facts)) new ts) e (ro .gives new inside))
           (sub (along bs) (h .judgment)) (among h x);
         concl = sym ej;
         allowed = λ h x z o. used z (subst (λ ts. Occs z ts) (sym e) (among-occ (sub (along bs) (h .judgment)) (subs (along bs) (judgmentsAt (U .facts) (f .hyps))) z (among h x) o))
@@ -191,10 +192,11 @@ module _ (U : State) (vs : ℕ → ℕ) (w : Well U vs) where
         among : (h : Fact) → (k : ℕ) × In k (f .hyps) × At (U .facts) k h → Among (sub (along bs) (h .judgment)) (subs (along bs) (judgmentsAt (U .facts) (f .hyps)))
         among h x = among-subs (along bs) (h .judgment) (judgmentsAt (U .facts) (f .hyps)) (at-judgments (U .facts) (f .hyps) (x .0) h (x .1) (x .2))
 
-  pub apply-ok : (xs : Sexps) → ((x : Sexp) → ItemOf x (item xs 4) → Free-of-rules U vs w x) → (m : Made) → Ok (λ f. Fine U vs w f) (apply U xs m)
+  pub apply-ok : (xs : Sexps) → ((i : ℕ) → Points (item xs 2) i → Citable K U vs w (length (U .facts)) i)
+      → ((x : Sexp) → ItemOf x (item xs 4) → Free-of-rules K U vs w (length (U .facts)) x) → (m : Made) → Ok (λ f. Fine K U vs w f) (apply U xs m)
   unfolding apply ItemOf Each
-  apply-ok xs calm m =
-      ok-then (ok-index 34 (item xs 2) m) (λ i m₁ _.
+  apply-ok xs own-calm calm m =
+      ok-then (ok-index 34 (item xs 2) m) (λ i m₁ pt.
       ok-then (ok-items 36 (item xs 3) m₁) (λ ys m₂ _.
       ok-then (bindings-ok U vs w ys [] m₂ tt) (λ bs m₃ bo.
       ok-then (fact-ok U i m₃) (λ f m₄ at.
@@ -205,14 +207,14 @@ module _ (U : State) (vs : ℕ → ℕ) (w : Well U vs) where
       ok-then (discharge-ok bs zs (a .premises) (eqb-true (count zs) (countTrees (a .premises)) ec)
         (λ x q. calm x (subst (λ z. ItemOf x z) (sym ei) q)) m₈) (λ rs m₉ ro.
       ok-then (scoped-ok U (union (variablesOf (rs .judgments)) (valueVars bs)) j (rising (length (U .facts)) (union (has (a .hyps)) (rs .hyps))) m₉) (λ _ m₁₀ sc.
-      done (finish bs bo i f at a ao j ej rs ro sc)))))))))))
+      done (finish bs bo i (own-calm i pt) f at a ao j ej rs ro sc)))))))))))
     where
-      finish : {ft : List ℕ} (bs : List Binding) → BindsOk U vs w bs → (i : ℕ) (f : Fact) → At (U .facts) i f → (a : Applied) → AppliedOk bs i f a
-          → (j : Tree) → j ≡ sub (along bs) (a .conclusion) → (rs : Refs) → RefsOk U vs w rs × (rs .judgments ≡ subs (along bs) (a .premises))
+      finish : {ft : List ℕ} (bs : List Binding) → BindsOk U vs w bs → (i : ℕ) → Citable K U vs w (length (U .facts)) i → (f : Fact) → At (U .facts) i f → (a : Applied) → AppliedOk bs i f a
+          → (j : Tree) → j ≡ sub (along bs) (a .conclusion) → (rs : Refs) → RefsOk K U vs w (length (U .facts)) rs × (rs .judgments ≡ subs (along bs) (a .premises))
           → Scoped U (union (variablesOf (rs .judgments)) (valueVars bs)) j (rising (length (U .facts)) (union (has (a .hyps)) (rs .hyps)))
-          → Fine U vs w (record { judgment = j; hyps = rising (length (U .facts)) (union (has (a .hyps)) (rs .hyps)); assumed = false; premises = none;
+          → Fine K U vs w (record { judgment = j; hyps = rising (length (U .facts)) (union (has (a .hyps)) (rs .hyps)); assumed = false; premises = none;
               general = []; footing = ft })
-      finish {ft} bs bo i f at a ao j ej rs ro sc = go ao
+      finish {ft} bs bo i ci f at a ao j ej rs ro sc = go ao
         where
           inside : (h : ℕ) → rs .hyps h ≡ true → In h (rising (length (U .facts)) (union (has (a .hyps)) (rs .hyps)))
           inside h e = rising-in (length (U .facts)) (union (has (a .hyps)) (rs .hyps)) h (ro .0 .below h e) (true-right (has (a .hyps) h) (rs .hyps h) e)
@@ -224,11 +226,11 @@ module _ (U : State) (vs : ℕ → ℕ) (w : Well U vs) where
           own e = rising-in (length (U .facts)) (union (has (a .hyps)) (rs .hyps)) i (at-below (U .facts) i f at)
             (true-left (has (a .hyps) i) (rs .hyps i) (in-has (a .hyps) i (subst (λ l. In i l) (sym e) (in-here i))))
 
-          go : AppliedOk bs i f a → Fine U vs w (record { judgment = j; hyps = rising (length (U .facts)) (union (has (a .hyps)) (rs .hyps));
+          go : AppliedOk bs i f a → Fine K U vs w (record { judgment = j; hyps = rising (length (U .facts)) (union (has (a .hyps)) (rs .hyps));
               assumed = false; premises = none; general = []; footing = ft })
           go (on-hyp g e) =
               hyp-fine bs bo i f at rs (ro .0) j (ej ∙ ap (λ (z : Applied). sub (along bs) (z .conclusion)) e) _ ft inside below sc g
                 (own (ap (λ (z : Applied). z .hyps) e)) (ro .1 ∙ ap (λ (z : Applied). subs (along bs) (z .premises)) e)
           go (on-fact q p e) =
-              fact-fine bs bo i f at rs (ro .0) j (ej ∙ ap (λ (z : Applied). sub (along bs) (z .conclusion)) e) _ ft inside below sc q p
+              fact-fine bs bo i f at rs (ro .0) j (ej ∙ ap (λ (z : Applied). sub (along bs) (z .conclusion)) e) _ ft inside below sc ci q p
                 (ro .1 ∙ ap (λ (z : Applied). subs (along bs) (z .premises)) e)

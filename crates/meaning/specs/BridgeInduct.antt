@@ -29,10 +29,11 @@ use Rattle.meaning.specs.Replace.{vars, Fit, Distinct}
 use Rattle.meaning.specs.Inducts.{CaseHyp, premise, plainly, ruled, Motive, Below, at, ats}
 use Rattle.meaning.specs.Forms.{InductCase, InductForm, Form, induct as anInduct}
 use Rattle.meaning.specs.Named.{Points, Item, ItemOf, Cases}
+use Rattle.meaning.specs.Sets.{Sets}
 use Rattle.meaning.specs.Asked.{both-true, either-true, true-left, true-right, not-true, ok-ask, ok-map, ok-if, ok-items, ok-index, at-entry, at-unique, at-below, every-in, all-in, has-in}
 use Rattle.meaning.specs.Well.{Judgment, Judgments, WellFact, Agree, Well}
 use Rattle.meaning.specs.BridgeRead.{in-snoc, distinct-snoc, not-has, variable-ok, fact-ok, judgment-ok}
-use Rattle.meaning.specs.BridgeRefs.{is-none, HypsOk, hyp-list-ok, judgments-at, Own, cite}
+use Rattle.meaning.specs.BridgeRefs.{is-none, HypsOk, hyp-list-ok, judgments-at, Citable, cite}
 use Rattle.meaning.specs.BridgeApply.{is-plain}
 use Rattle.meaning.specs.BridgeStep.{Fine}
 
@@ -67,7 +68,7 @@ motive-false M v e m = true-false (motiveVars M v) (holds m) (not-true (motiveVa
     holds (inr o) = true-right (variables (M .judgment) v) (variablesOf (M .premises) v) (occs-variablesOf (M .premises) v o)
 
 -- M: what is proved by induction
-module _ (U : State) (vs : ℕ → ℕ) (w : Well U vs) (M : MotiveOf) (sorted : M .sort ≡ vs (M .variable)) where
+module _ (K : Sets) (U : State) (vs : ℕ → ℕ) (w : Well U vs) (M : MotiveOf) (sorted : M .sort ≡ vs (M .variable)) where
   abbrev x : ℕ
   x = M .variable
 
@@ -198,16 +199,16 @@ module _ (U : State) (vs : ℕ → ℕ) (w : Well U vs) (M : MotiveOf) (sorted :
 
   -- Cases ---------------------------------------------------------------------------------------------------------------------------
 
-  -- the facts that z names as a case have no premises
+  -- the facts that z names as a case have no premises, and may be cited
   unfoldable pub Case-free : Sexp → Type 0
-  Case-free z = (i : ℕ) (f : Fact) → Cases z i → At (U .facts) i f → f .premises ≡ none
+  Case-free z = (i : ℕ) (f : Fact) → Cases z i → At (U .facts) i f → (f .premises ≡ none) × Citable K U vs w (length (U .facts)) i
 
   module _ (hs : List ℕ) where
     abbrev new : Fact
     new = record { judgment = M .judgment; hyps = hs; assumed = false; premises = none; general = []; footing = [] }
 
     abbrev OneCase : ℕ → Type 0
-    OneCase c = InductCase (U .theory) vs (Own U vs w) (Own U vs w) (U .facts) new x P c
+    OneCase c = InductCase (U .theory) vs (K .known) (K .part) (U .facts) (length (U .facts)) new x P c
 
     induct-case-ok : (z : Sexp) (c : ℕ) → Case-free z → (m : Made) → Ok (λ _. OneCase c) (inductCase U M z c m)
     unfolding inductCase Case-free Cases sig HypOf Below count rest Distinct In Fit
@@ -230,7 +231,7 @@ module _ (U : State) (vs : ℕ → ℕ) (w : Well U vs) (M : MotiveOf) (sorted :
             distinct = cv .distinct;
             fresh = cv .fresh;
             g = f;
-            cites = cite U vs w new f i a (calm i f (subst (λ u. Cases u i) (sym ez) pt) a);
+            cites = cite K U vs w (length (U .facts)) f i a (calm i f (subst (λ u. Cases u i) (sym ez) pt) a);
             proves = sameTree-true (f .judgment) j sj ∙ (ej ∙ ap (λ u. at x u J) (e ∙ ap (app c) et));
             allowed = λ h k. allowed-ok c zs ps ihs (ep ∙ ap (λ u. ats x u P) (e ∙ ap (app c) et)) hi h
               (subst (λ o. allowedHyp M ps ihs o ≡ true) (at-entry (U .facts) (k .0) h (k .2))
@@ -263,20 +264,20 @@ constructor-in T s c l e =
     subst (λ z. In z (every (λ d. eqb (d .output) s) (T .symbols) 0)) (let z : 0 + c ≡ c = omega arith in z)
       (every-in (λ d. eqb (d .output) s) noSymbol (T .symbols) 0 c l (eq-eqb (getD (T .symbols) c noSymbol .output) s e))
 
-module _ (U : State) (vs : ℕ → ℕ) (w : Well U vs) where
-  -- the facts that the cases of the list name have no premises
+module _ (K : Sets) (U : State) (vs : ℕ → ℕ) (w : Well U vs) where
+  -- the same of the cases of a list
   unfoldable pub Cases-free : Sexp → Type 0
-  Cases-free y = (z : Sexp) → ItemOf z y → (i : ℕ) (f : Fact) → Cases z i → At (U .facts) i f → f .premises ≡ none
+  Cases-free y = (z : Sexp) → ItemOf z y → (i : ℕ) (f : Fact) → Cases z i → At (U .facts) i f → (f .premises ≡ none) × Citable K U vs w (length (U .facts)) i
 
   induct-on-ok : (x : ℕ) → x < length (U .vars) → (hs : List ℕ) → HypsOk isPlain U hs → (y z : Sexp) → Cases-free z → (m : Made)
-      → Ok (λ f. Fine U vs w f) (inductOn U x hs y z m)
+      → Ok (λ f. Fine K U vs w f) (inductOn U x hs y z m)
   unfolding inductOn HypsOk Cases-free ItemOf Case-free Agree Judgments HypOf sig
   induct-on-ok x l hs ho y z calm m =
       ok-then (judgment-ok U vs w y m) (λ j m₁ jo.
       ok-then (ok-items 41 z m₁) (λ cs m₂ ez.
       ok-then (ok-ask 41 (eqb (count cs) (length (constructors (U .theory) (sortOfVar (U .vars) x)))) m₂) (λ _ m₃ ec.
       ok-then (ok-ask 45 (motiveVars (motive j) x) m₃) (λ _ m₄ em.
-      ok-then (induct-cases-ok U vs w (motive j) (w .agree x l) hs cs (constructors (U .theory) (sortOfVar (U .vars) x))
+      ok-then (induct-cases-ok K U vs w (motive j) (w .agree x l) hs cs (constructors (U .theory) (sortOfVar (U .vars) x))
         (eqb-true (count cs) (length (constructors (U .theory) (sortOfVar (U .vars) x))) ec)
         (λ u i. calm u (subst (λ v. ItemOf u v) (sym ez) i)) m₄) (λ _ m₅ co.
       done (record {
@@ -309,12 +310,12 @@ module _ (U : State) (vs : ℕ → ℕ) (w : Well U vs) where
           same-at : (f : Fact) → At (U .facts) h f → f ≡ g
           same-at f b = at-unique (U .facts) h f g b a
 
-  pub induct-ok : (xs : Sexps) → Cases-free (item xs 4) → (m : Made) → Ok (λ f. Fine U vs w f) (induct U xs m)
+  pub induct-ok : (xs : Sexps) → Cases-free (item xs 4) → (m : Made) → Ok (λ f. Fine K U vs w f) (induct U xs m)
   unfolding induct HypsOk In
   induct-ok xs calm m =
       ok-then (variable-ok 36 U (item xs 2) m) (λ x m₁ l. induct-on-ok x l [] (λ h i. absurd i) (item xs 3) (item xs 4) calm m₁)
 
-  pub induct-with-ok : (xs : Sexps) → Cases-free (item xs 5) → (m : Made) → Ok (λ f. Fine U vs w f) (inductWith U xs m)
+  pub induct-with-ok : (xs : Sexps) → Cases-free (item xs 5) → (m : Made) → Ok (λ f. Fine K U vs w f) (inductWith U xs m)
   unfolding inductWith
   induct-with-ok xs calm m =
       ok-then (variable-ok 36 U (item xs 2) m) (λ x m₁ l.

@@ -22,96 +22,29 @@ use Rattle.rules.specs.State.{State, Fact, Var, sortOfVar, isPlain, mentioned}
 use Rattle.rules.specs.Read.{index, judgment}
 use Rattle.rules.specs.Reference.{factAt, hypList}
 use Rattle.rules.specs.Induct.{keepVars}
-use Rattle.rules.specs.Invert.{Case, caseNamed, readCases, Inversion, mentionedAt, contextVars, takenVars, Names, suit, makeVars, upFrom, renamed as renamedTo, renaming}
+use Rattle.rules.specs.Invert.{Case, caseNamed, readCases, Inversion, mentionedAt, contextVars, takenVars, Names, suit, upFrom, renamed as renamedTo, renaming}
 use Rattle.rules.specs.Invert.{rulePremises, contextFacts, allowedIn, invertCase, caseOrNot, invertRule, invertRules, predicateOf, invert}
 use Rattle.meaning.specs.Tree.{Occ, Occs, Sorted, In, Among, sorted-sub, sub-occ}
 use Rattle.meaning.specs.TreeTests.{true-false, and-true, sameTree-true, occ-variables, occs-variablesOf}
 use Rattle.meaning.specs.UnifyActs.{Ok, done, stopped, ok-then, ok-any, substitute-ok}
 use Rattle.meaning.specs.UnifyRight.{unify-complete, unify-general, unify-sorts}
 use Rattle.meaning.specs.Signature.{sig, PROP, arity, ruleSort}
+use Rattle.meaning.specs.Derivation.{RuleOf}
 use Rattle.meaning.specs.Truth.{Mentions, At, HypOf, Plain}
 use Rattle.meaning.specs.Replace.{Distinct}
 use Rattle.meaning.specs.Inverts.{renamed, Used, Apart, General, InvertHyp}
 use Rattle.meaning.specs.Forms.{InContext, InvertCase, InvertCased, lone, paired, InvertRule, InvertForm, Form, invert as anInvert}
 use Rattle.meaning.specs.Named.{Points, Item, ItemOf, CasesFor, SomeInverts}
-use Rattle.meaning.specs.Asked.{no-some, both-true, true-left, true-right, not-true, ok-self, ok-ask, ok-space, ok-map, ok-items, ok-index, at-entry, at-below, every-in, all-in, has-in, in-has, rising-in, in-rising}
+use Rattle.meaning.specs.Sets.{Sets}
+use Rattle.meaning.specs.Asked.{no-some, both-true, true-left, true-right, not-true, ok-self, ok-ask, ok-space, ok-map, ok-items, ok-index, at-entry, at-below, every-in, in-every, all-in, has-in, in-has, rising-in, in-rising}
 use Rattle.meaning.specs.Well.{IsApp, Typed, Judgment, Judgments, WellRule, WellTheory, WellFact, Agree, Extends, Well, app-form, judgments-small, extends-same, extends-both, extends-length, agree-extends}
 use Rattle.meaning.specs.BridgeRead.{VarsOk, fact-ok, judgment-ok}
-use Rattle.meaning.specs.BridgeRefs.{HypsOk, hyp-list-ok, Own, cite}
-use Rattle.meaning.specs.BridgeApply.{is-plain}
+use Rattle.meaning.specs.BridgeRefs.{HypsOk, hyp-list-ok, Citable, cite}
+use Rattle.meaning.specs.BridgeApply.{is-plain, in-here}
 use Rattle.meaning.specs.BridgeStep.{Fine}
 use Rattle.meaning.specs.BridgeInduct.{keep-vars-ok}
+use Rattle.meaning.specs.BridgeNames.{get-in, get-distinct, suit-sorts, get-up, madeFor, make-vars-ok, made-length, made-sort}
 use Rattle.meaning.specs.BridgeCase.{CaseOk, CasesOk, read-cases-ok, case-found, Uncaptured, FromRule, FromContext, EachA, rule-premises-ok, context-facts-ok, allowed-in, premises-and-context}
-
--- Lists of variables ----------------------------------------------------------------------------------------------------------------
-
-get-in : (xs : List ℕ) (i : ℕ) → i < length xs → In (getD xs i 0) xs
-unfolding In
-get-in [] i l = absurd (let z : ⊥ = omega arith in z)
-get-in (x ∷ xs) zero l = inl refl
-get-in (x ∷ xs) (suc i) l = inr (get-in xs i (omega arith))
-
-get-distinct : (xs : List ℕ) → Distinct xs → (i j : ℕ) → i < length xs → j < length xs → getD xs i 0 ≡ getD xs j 0 → i ≡ j
-unfolding Distinct
-get-distinct [] d i j l m e = absurd (let z : ⊥ = omega arith in z)
-get-distinct (x ∷ xs) d zero zero l m e = refl
-get-distinct (x ∷ xs) d zero (suc j) l m e = absurd (d .0 (subst (λ z. In z xs) (sym e) (get-in xs j (omega arith))))
-get-distinct (x ∷ xs) d (suc i) zero l m e = absurd (d .0 (subst (λ z. In z xs) e (get-in xs i (omega arith))))
-get-distinct (x ∷ xs) d (suc i) (suc j) l m e = ap suc (get-distinct xs (d .1) i j (omega arith) (omega arith) e)
-
--- as many variables as the rule has, each of its sort
-suit-sorts : (xs : List Var) (ys : List ℕ) (rs : List RuleVar) (d : RuleVar) → suit xs ys rs ≡ true
-    → (length ys ≡ length rs) × ((i : ℕ) → i < length rs → sortOfVar xs (getD ys i 0) ≡ getD rs i d .sort)
-unfolding suit
-suit-sorts xs [] [] d e = (refl, λ i l. absurd (let z : ⊥ = omega arith in z))
-suit-sorts xs [] (r ∷ rs) d e = absurd (true-false false e refl)
-suit-sorts xs (y ∷ ys) [] d e = absurd (true-false false e refl)
-suit-sorts xs (y ∷ ys) (r ∷ rs) d e =
-    let b = and-true (eqb (sortOfVar xs y) (r .sort)) (suit xs ys rs) e in
-    let h = suit-sorts xs ys rs d (b .1) in
-    (ap suc (h .0), at (eqb-true (sortOfVar xs y) (r .sort) (b .0)) (h .1))
-  where
-    at : sortOfVar xs y ≡ r .sort → ((i : ℕ) → i < length rs → sortOfVar xs (getD ys i 0) ≡ getD rs i d .sort)
-        → (i : ℕ) → i < length (r ∷ rs) → sortOfVar xs (getD (y ∷ ys) i 0) ≡ getD (r ∷ rs) i d .sort
-    at p h zero l = p
-    at p h (suc i) l = h i (omega arith)
-
-get-up : (k n i : ℕ) → i < n → getD (upFrom k n) i 0 ≡ k + i
-unfolding upFrom
-get-up k zero i l = absurd (let z : ⊥ = omega arith in z)
-get-up k (suc n) zero l = omega arith
-get-up k (suc n) (suc i) l = let h = get-up (suc k) n i (omega arith) in omega arith
-
--- Made variables --------------------------------------------------------------------------------------------------------------------
-
--- one without a name for each of the rule's
-madeFor : List RuleVar → List Var
-madeFor [] = []
-madeFor (r ∷ rs) = record { sort = r .sort; text = 0; name = noName } ∷ madeFor rs
-
-make-vars-ok : (rs : List RuleVar) (xs : List Var) (m : Made) → Ok (λ ys. ys ≡ xs ++ madeFor rs) (makeVars rs xs m)
-unfolding makeVars madeFor
-make-vars-ok [] xs m = done (sym (append-nil xs))
-make-vars-ok (r ∷ rs) xs m =
-    ok-then (ok-space 7 (ltb (length xs) VARIABLES) m) (λ _ m₁ _.
-    ok-map (λ ys e. e ∙ append-assoc xs (record { sort = r .sort; text = 0; name = noName } ∷ []) (madeFor rs))
-      (make-vars-ok rs (xs ++ (record { sort = r .sort; text = 0; name = noName } ∷ [])) m₁))
-
-made-length : (xs : List Var) (rs : List RuleVar) → length (xs ++ madeFor rs) ≡ length xs + length rs
-unfolding madeFor
-made-length [] [] = refl
-made-length [] (r ∷ rs) = let h = made-length [] rs in omega arith
-made-length (x ∷ xs) rs = let h = made-length xs rs in omega arith
-
-made-sort : (xs : List Var) (rs : List RuleVar) (d : RuleVar) (i : ℕ) → i < length rs → sortOfVar (xs ++ madeFor rs) (length xs + i) ≡ getD rs i d .sort
-unfolding sortOfVar madeFor
-made-sort [] [] d i l = absurd (let z : ⊥ = omega arith in z)
-made-sort [] (r ∷ rs) d zero l = refl
-made-sort [] (r ∷ rs) d (suc i) l =
-    subst (λ k. sortOfVar (madeFor (r ∷ rs)) k ≡ getD rs i d .sort) (let z : suc (0 + i) ≡ 0 + suc i = omega arith in z) (made-sort [] rs d i (omega arith))
-made-sort (x ∷ xs) rs d i l =
-    subst (λ k. sortOfVar ((x ∷ xs) ++ madeFor rs) k ≡ getD rs i d .sort) (let z : suc (length xs + i) ≡ suc (length xs) + i = omega arith in z)
-      (made-sort xs rs d i l)
 
 -- The renaming ----------------------------------------------------------------------------------------------------------------------
 
@@ -129,7 +62,7 @@ context-vars fs (k ∷ hs) d v (h, inr i, a) m =
     true-right (mentionedAt (entry fs k) v) (contextVars fs hs v) (context-vars fs hs d v (h, i, a) m)
 
 -- I: the inversion; its judgments are well-sorted, and its cases were read from ys
-module _ (U : State) (vs : ℕ → ℕ) (w : Well U vs) (I : Inversion) (ys : Sexps)
+module _ (K : Sets) (U : State) (vs : ℕ → ℕ) (w : Well U vs) (I : Inversion) (ys : Sexps)
     (hj : Judgment (U .theory) vs (length (U .vars)) (I .hypothesis)) (jj : Judgment (U .theory) vs (length (U .vars)) (I .judgment))
     (co : CasesOk U ys (I .cases)) where
   abbrev C : Fact → Type 0
@@ -218,10 +151,10 @@ module _ (U : State) (vs : ℕ → ℕ) (w : Well U vs) (I : Inversion) (ys : Se
   -- new: the fact of the form
   module _ (new : Fact) (ej : new .judgment ≡ I .judgment) (k : Fact) (ek : k .judgment ≡ I .hypothesis) where
     abbrev Case-ok : Rule → (ℕ → ℕ) → (ℕ → Tree) → Type 0
-    Case-ok R nm θ = InvertCase (U .theory) vs (Own U vs w) (Own U vs w) (U .facts) new C R nm θ
+    Case-ok R nm θ = InvertCase (U .theory) vs (K .known) (K .part) (U .facts) (length (U .facts)) new C R nm θ
 
     invert-case-ok : (R : Rule) (xs : List ℕ) (θ : List Binding) (c : Case)
-        → ((f : Fact) → At (U .facts) (c .fact) f → f .premises ≡ none) → (m : Made)
+        → ((f : Fact) → At (U .facts) (c .fact) f → (f .premises ≡ none) × Citable K U vs w (length (U .facts)) (c .fact)) → (m : Made)
         → Ok (λ _. Case-ok R (λ i. getD xs i 0) (along θ)) (invertCase U I R (renaming xs) θ c m)
     unfolding invertCase renaming renamed HypOf Uncaptured
     invert-case-ok R xs θ c calm m =
@@ -232,7 +165,7 @@ module _ (U : State) (vs : ℕ → ℕ) (w : Well U vs) (I : Inversion) (ys : Se
         ok-then (ok-ask 43 (sameTree (f .judgment) j) m₄) (λ _ m₅ sj.
         ok-map (λ _ sa. record {
             g = f;
-            cites = cite U vs w new f (c .fact) a (calm f a);
+            cites = cite K U vs w (length (U .facts)) f (c .fact) a (calm f a);
             proves = sameTree-true (f .judgment) j sj ∙ (p ∙ ap (sub (along θ)) (sym ej));
             allowed = λ h x. allowed-in R (λ i. getD xs i 0) C (along θ) (az ++ bs) h
               (premises-and-context U R (λ i. getD xs i 0) θ (I .context) az bs ra (cb .0))
@@ -243,10 +176,10 @@ module _ (U : State) (vs : ℕ → ℕ) (w : Well U vs) (I : Inversion) (ys : Se
           (ok-ask 44 (all (λ h. allowedIn (az ++ bs) (entry (U .facts) h)) (f .hyps)) m₅))))))
 
     abbrev Looked-ok : Rule → Type 0
-    Looked-ok R = InvertRule (U .theory) vs (Own U vs w) (Own U vs w) (U .facts) new k C R
+    Looked-ok R = InvertRule (U .theory) vs (K .known) (K .part) (U .facts) (length (U .facts)) new k C R
 
     module _ (R : Rule) (wr : WellRule (U .theory) R)
-        (calm : (c : Case) → caseNamed (I .cases) (R .name .bytes) ≡ some c → (f : Fact) → At (U .facts) (c .fact) f → f .premises ≡ none)
+        (calm : (c : Case) → caseNamed (I .cases) (R .name .bytes) ≡ some c → (f : Fact) → At (U .facts) (c .fact) f → (f .premises ≡ none) × Citable K U vs w (length (U .facts)) (c .fact))
         (xs : List ℕ) (zs : List Var) (ex : Extends (U .vars) zs) (ro : RenamedOk R xs zs) where
       abbrev nm : ℕ → ℕ
       nm i = getD xs i 0
@@ -266,7 +199,7 @@ module _ (U : State) (vs : ℕ → ℕ) (w : Well U vs) (I : Inversion) (ys : Se
       t-sorted a = sorted-sub (sig (U .theory)) (ruleSort R) vs (renamed nm) (R .conclusion) PROP (wr .concl) (λ i o. ro .fit a i (wr .bound i (inl o)))
 
       abbrev Cased-ok : Type 0
-      Cased-ok = InvertCased (U .theory) vs (Own U vs w) (Own U vs w) (U .facts) new (k .judgment) C R nm
+      Cased-ok = InvertCased (U .theory) vs (K .known) (K .part) (U .facts) (length (U .facts)) new (k .judgment) C R nm
 
       looked : Agree vs zs → Cased-ok → Looked-ok R
       looked a c = record {
@@ -293,7 +226,7 @@ module _ (U : State) (vs : ℕ → ℕ) (w : Well U vs) (I : Inversion) (ys : Se
             (invert-case-ok R xs θ c (calm c eo) m)
 
     invert-rule-ok : (R : Rule) → WellRule (U .theory) R
-        → ((c : Case) → caseNamed (I .cases) (R .name .bytes) ≡ some c → (f : Fact) → At (U .facts) (c .fact) f → f .premises ≡ none)
+        → ((c : Case) → caseNamed (I .cases) (R .name .bytes) ≡ some c → (f : Fact) → At (U .facts) (c .fact) f → (f .premises ≡ none) × Citable K U vs w (length (U .facts)) (c .fact))
         → (N : Names) → Extends (U .vars) (N .vars) → (m : Made)
         → Ok (λ N′. Extends (N .vars) (N′ .vars) × (Agree vs (N′ .vars) → Looked-ok R)) (invertRule U I R N m)
     unfolding invertRule renaming renamed
@@ -311,7 +244,7 @@ module _ (U : State) (vs : ℕ → ℕ) (w : Well U vs) (I : Inversion) (ys : Se
 
     invert-rules-ok : (rs : List ℕ) → ((r : ℕ) → In r rs → WellRule (U .theory) (rule (U .theory) r))
         → ((r : ℕ) → In r rs → (c : Case) → caseNamed (I .cases) (rule (U .theory) r .name .bytes) ≡ some c
-          → (f : Fact) → At (U .facts) (c .fact) f → f .premises ≡ none)
+          → (f : Fact) → At (U .facts) (c .fact) f → (f .premises ≡ none) × Citable K U vs w (length (U .facts)) (c .fact))
         → (N : Names) → Extends (U .vars) (N .vars) → (m : Made)
         → Ok (λ N′. Extends (N .vars) (N′ .vars) × (Agree vs (N′ .vars) → (r : ℕ) → In r rs → Looked-ok (rule (U .theory) r)))
             (invertRules U I rs N m)
@@ -324,3 +257,83 @@ module _ (U : State) (vs : ℕ → ℕ) (w : Well U vs) (I : Inversion) (ys : Se
           | inr j ↦ g .1 a s j
           ]))
           (invert-rules-ok rs (λ s i. wr s (inr i)) (λ s i. calm s (inr i)) M (extends-both (U .vars) (N .vars) (M .vars) ex (h .0)) m₁))
+
+-- The form --------------------------------------------------------------------------------------------------------------------------
+
+rules-of-below : (T : Theory) (p r : ℕ) → In r (rulesOf T p) → r < length (T .rules)
+unfolding rulesOf
+rules-of-below T p r i =
+    let q = in-every (λ (s : Rule). headIs p (s .conclusion)) noRule (T .rules) 0 r i in
+    let e = q .1 in let l = q .2 in omega arith
+
+in-rules-of : (T : Theory) (p r : ℕ) (qs : Trees) → r < length (T .rules) → rule T r .conclusion ≡ app p qs → In r (rulesOf T p)
+unfolding rulesOf rule headIs
+in-rules-of T p r qs l e =
+    subst (λ z. In z (every (λ (s : Rule). headIs p (s .conclusion)) (T .rules) 0)) (let z : 0 + r ≡ r = omega arith in z)
+      (every-in (λ (s : Rule). headIs p (s .conclusion)) noRule (T .rules) 0 r l (ap (headIs p) e ∙ eq-eqb p p refl))
+
+module _ (K : Sets) (U : State) (vs : ℕ → ℕ) (w : Well U vs) where
+  pub invert-ok : (xs : Sexps) → ((r : ℕ) → K .known (length (U .facts)) r → RuleOf (U .theory) r)
+      → ((i : ℕ) (f : Fact) → SomeInverts U (item xs 2) (item xs 5) i → At (U .facts) i f → (f .premises ≡ none) × Citable K U vs w (length (U .facts)) i)
+      → (m : Made) → Ok (λ r. Extends (U .vars) (r .1) × (Agree vs (r .1) → Fine K U vs w (r .0))) (invert U xs m)
+  unfolding invert HypsOk SomeInverts ItemOf Judgments WellTheory predicateOf
+  invert-ok xs theirs calm m =
+      ok-then (ok-index 34 (item xs 2) m) (λ i m₁ pt.
+      ok-then (fact-ok U i m₁) (λ k m₂ a.
+      ok-then (ok-ask 40 (isPlain k) m₂) (λ _ m₃ ep.
+      ok-then (hyp-list-ok (λ f. f .assumed) U (item xs 3) m₃) (λ hs m₄ ho.
+      ok-then (judgment-ok U vs w (item xs 4) m₄) (λ j m₅ jo.
+      ok-then (ok-items 41 (item xs 5) m₅) (λ ys m₆ ez.
+      ok-then (read-cases-ok U ys m₆) (λ cs m₇ co.
+      ok-then (invert-rules-ok K U vs w (record { hypothesis = k .judgment; judgment = j; context = hs; cases = cs }) ys (w .facts i k a .judgment) jo co
+        (new i j hs) refl k refl (rulesOf (U .theory) (predicateOf (k .judgment)))
+        (λ r q. w .rules r (rules-of-below (U .theory) (predicateOf (k .judgment)) r q))
+        (λ r q c ec f b.
+          let s = case-found U ys cs (rule (U .theory) r .name .bytes) c co ec in
+          calm (c .fact) f
+            (i, k, r, s .0 .raw, pt, a, q, subst (λ z. ItemOf (s .0 .raw) z) (sym ez) (s .0 .listed),
+              subst (λ n. CasesFor n (s .0 .raw) (c .fact)) (s .1) (s .0 .reads)) b)
+        (record { vars = U .vars; seen = [] }) (extends-same (U .vars)) m₇) (λ N m₈ h.
+      done (h .0, λ ag. finish i k a ep hs ho j jo (h .1 ag))))))))))
+    where
+      new : ℕ → Tree → List ℕ → Fact
+      new i j hs = record { judgment = j; hyps = rising (length (U .facts)) (union (has (i ∷ [])) (has hs)); assumed = false; premises = none;
+        general = []; footing = [] }
+
+      own : (i : ℕ) (hs : List ℕ) → i < length (U .facts) → In i (rising (length (U .facts)) (union (has (i ∷ [])) (has hs)))
+      own i hs l = rising-in (length (U .facts)) (union (has (i ∷ [])) (has hs)) i l (true-left (has (i ∷ []) i) (has hs i) (in-has (i ∷ []) i (in-here i)))
+
+      inside : (i : ℕ) (hs : List ℕ) (h : ℕ) → h < length (U .facts) → In h hs → In h (rising (length (U .facts)) (union (has (i ∷ [])) (has hs)))
+      inside i hs h l q = rising-in (length (U .facts)) (union (has (i ∷ [])) (has hs)) h l (true-right (has (i ∷ []) h) (has hs h) (in-has hs h q))
+
+      finish : (i : ℕ) (k : Fact) → At (U .facts) i k → isPlain k ≡ true → (hs : List ℕ)
+          → ((h : ℕ) → In h hs → (g : Fact) × At (U .facts) h g × (g .assumed ≡ true))
+          → (j : Tree) → Judgment (U .theory) vs (length (U .vars)) j
+          → ((r : ℕ) → In r (rulesOf (U .theory) (predicateOf (k .judgment)))
+            → InvertRule (U .theory) vs (K .known) (K .part) (U .facts) (length (U .facts)) (new i j hs) k (InContext (U .facts) hs) (rule (U .theory) r))
+          → Fine K U vs w (new i j hs)
+      finish i k a ep hs ho j jo looked = record {
+        well = record {
+          judgment = jo;
+          premises = tt;
+          hyps = λ h q. (let l = in-rising (length (U .facts)) (union (has (i ∷ [])) (has hs)) h q .0 in omega arith);
+          derived = λ _. refl
+        };
+        form = anInvert (record {
+          plain = refl;
+          k = k;
+          place = i;
+          at = a;
+          own = own i hs (at-below (U .facts) i k a);
+          k-plain = is-plain k ep .1;
+          context = hs;
+          inside = λ h q. (let r = ho h q in inside i hs h (at-below (U .facts) h (r .0) (r .1)) q);
+          head = shape .0;
+          arguments = shape .1;
+          form = shape .2;
+          looked = λ r l qs e. looked r (subst (λ p. In r (rulesOf (U .theory) p)) (sym (ap predicateOf (shape .2))) (in-rules-of (U .theory) (shape .0) r qs (theirs r l) e))
+        })
+      }
+        where
+          shape : (c : ℕ) × (ts : Trees) × (k .judgment ≡ app c ts)
+          shape = app-form (k .judgment) (w .facts i k a .judgment .shape)

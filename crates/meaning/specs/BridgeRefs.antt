@@ -24,10 +24,10 @@ use Rattle.meaning.specs.TreeTests.{true-false, variables-true, variable
 use Rattle.meaning.specs.UnifyActs.{Ok, done, stopped, ok-then, ok-any, substitute-ok}
 use Rattle.meaning.specs.UnifyList.{Bound, Each, along-cases, each-insert}
 use Rattle.meaning.specs.Signature.{sig, PROP}
-use Rattle.meaning.specs.Derivation.{RuleOf}
 use Rattle.meaning.specs.Truth.{Mentions, Free, At, HypOf}
 use Rattle.meaning.specs.Forms.{Cites, Ref as RefForm, bare, inst, Refs as RefForms}
 use Rattle.meaning.specs.Named.{Points, Item, Refers, RuleHyp}
+use Rattle.meaning.specs.Sets.{Sets}
 use Rattle.meaning.specs.Asked.{no-some, some-same, both-true, either-true, not-true, ok-ask, ok-found, ok-map, ok-items, ok-index, entry-at, at-entry, at-below, has-in, in-has, in-rising, least-zero}
 use Rattle.meaning.specs.Well.{IsApp, Typed, Judgment, Judgments, WellFact, Agree, Well, judgment-sub}
 use Rattle.meaning.specs.BridgeRead.{variable-ok, fact-ok, term-of-ok}
@@ -206,63 +206,67 @@ module _ (U : State) (vs : ℕ → ℕ) (w : Well U vs) where
       judgment-sub (U .theory) vs (length (U .vars)) vs (along bs) t (j .typed .sorts) (j .shape)
         (λ v o. along-typed bs h v (j .typed .small v o))
 
-  -- References ----------------------------------------------------------------------------------------------------------------------
+-- References ------------------------------------------------------------------------------------------------------------------------
 
-  -- the rules on which a fact rests, and those that it tolerates: the theory's
-  abbrev pub Own : Fact → ℕ → Type 0
-  Own f r = RuleOf (U .theory) r
+-- K: the rules on which each fact rests, and those that it tolerates
+module _ (K : Sets) (U : State) (vs : ℕ → ℕ) (w : Well U vs) where
+  -- fact n may cite fact i: it rests on what that rests on, and tolerates no more
+  unfoldable pub Citable : ℕ → ℕ → Type 0
+  Citable n i = ((r : ℕ) → K .part i r → K .part n r) × ((r : ℕ) → K .known n r → K .known i r)
 
-  pub cite : (f g : Fact) (i : ℕ) → At (U .facts) i g → g .premises ≡ none → Cites (U .theory) vs Own Own (U .facts) f g
-  cite f g i a p = record { place = i; at = a; free = p; rules = λ r k. k; known = λ r k. k }
+  pub cite : (n : ℕ) (g : Fact) (i : ℕ) → At (U .facts) i g → (g .premises ≡ none) × Citable n i
+      → Cites (U .theory) vs (K .known) (K .part) (U .facts) n g
+  unfolding Citable
+  cite n g i a p = record { place = i; at = a; free = p .0; rules = p .1 .0; known = p .1 .1 }
 
-  pub record RefOk (r : Ref) : Type 0 where
+  pub record RefOk (n : ℕ) (r : Ref) : Type 0 where
     pub sound : Judgment (U .theory) vs (length (U .vars)) (r .judgment)
     pub below : (h : ℕ) → In h (r .hyps) → h < length (U .facts)
-    pub gives : (f : Fact) → ((h : ℕ) → In h (r .hyps) → In h (f .hyps)) → RefForm (U .theory) vs Own Own (U .facts) f (r .judgment)
+    pub gives : (f : Fact) → ((h : ℕ) → In h (r .hyps) → In h (f .hyps)) → RefForm (U .theory) vs (K .known) (K .part) (U .facts) n f (r .judgment)
 
-  -- the facts that x names have no premises
-  unfoldable pub Free-of-rules : Sexp → Type 0
-  Free-of-rules x = (i : ℕ) (f : Fact) → Refers x i → At (U .facts) i f → f .premises ≡ none
+  -- the facts that x names have no premises, and fact n may cite them
+  unfoldable pub Free-of-rules : ℕ → Sexp → Type 0
+  Free-of-rules n x = (i : ℕ) (f : Fact) → Refers x i → At (U .facts) i f → (f .premises ≡ none) × Citable n i
 
-  instance-ok : (xs : Sexps) → ((i : ℕ) (f : Fact) → Points (item xs 0) i → At (U .facts) i f → f .premises ≡ none) → (m : Made)
-      → Ok (λ r. RefOk r) (instance U xs m)
+  instance-ok : (n : ℕ) (xs : Sexps) → ((i : ℕ) (f : Fact) → Points (item xs 0) i → At (U .facts) i f → (f .premises ≡ none) × Citable n i) → (m : Made)
+      → Ok (λ r. RefOk n r) (instance U xs m)
   unfolding instance Each In
-  instance-ok xs c m =
+  instance-ok n xs c m =
       ok-then (ok-index 34 (item xs 0) m) (λ i m₁ p.
       ok-then (fact-ok U i m₁) (λ f m₂ a.
       ok-then (ok-ask 35 (isEmpty (f .hyps)) m₂) (λ _ m₃ e.
-      ok-then (bindings-ok (rest xs 1) [] m₃ tt) (λ bs m₄ b.
+      ok-then (bindings-ok U vs w (rest xs 1) [] m₃ tt) (λ bs m₄ b.
       ok-then (substitute-ok (along bs) (f .judgment) m₄) (λ t m₅ q.
       done (record {
-        sound = subst (λ z. Judgment (U .theory) vs (length (U .vars)) z) (sym q) (along-judgment bs b (f .judgment) (w .facts i f a .judgment));
+        sound = subst (λ z. Judgment (U .theory) vs (length (U .vars)) z) (sym q) (along-judgment U vs w bs b (f .judgment) (w .facts i f a .judgment));
         below = λ h j. absurd j;
-        gives = λ g s. inst f (cite g f i a (c i f p a)) (is-empty (f .hyps) e) (along bs) (along-sorted bs b) (sym q)
+        gives = λ g s. inst f (cite n f i a (c i f p a)) (is-empty (f .hyps) e) (along bs) (along-sorted U vs w bs b) (sym q)
       }))))))
 
-  pub reference-ok : (x : Sexp) → Free-of-rules x → (m : Made) → Ok (λ r. RefOk r) (reference U x m)
+  pub reference-ok : (n : ℕ) (x : Sexp) → Free-of-rules n x → (m : Made) → Ok (λ r. RefOk n r) (reference U x m)
   unfolding reference Free-of-rules Refers
-  reference-ok (atom p bs) c m =
+  reference-ok n (atom p bs) c m =
       ok-then (ok-index 34 (atom p bs) m) (λ i m₁ q.
       ok-then (fact-ok U i m₁) (λ f m₂ a.
       done (record {
         sound = w .facts i f a .judgment;
         below = λ h j. w .facts i f a .hyps h j;
-        gives = λ g s. bare f (cite g f i a (c i f q a)) s refl
+        gives = λ g s. bare f (cite n f i a (c i f q a)) s refl
       })))
-  reference-ok (list xs) c m = instance-ok xs c m
+  reference-ok n (list xs) c m = instance-ok n xs c m
 
-  pub record RefsOk (rs : Refs) : Type 0 where
+  pub record RefsOk (n : ℕ) (rs : Refs) : Type 0 where
     pub sound : Judgments (U .theory) vs (length (U .vars)) (rs .judgments)
     pub below : (h : ℕ) → rs .hyps h ≡ true → h < length (U .facts)
-    pub gives : (f : Fact) → ((h : ℕ) → rs .hyps h ≡ true → In h (f .hyps)) → RefForms (U .theory) vs Own Own (U .facts) f (rs .judgments)
+    pub gives : (f : Fact) → ((h : ℕ) → rs .hyps h ≡ true → In h (f .hyps)) → RefForms (U .theory) vs (K .known) (K .part) (U .facts) n f (rs .judgments)
 
-  pub no-refs-ok : RefsOk noRefs
+  pub no-refs-ok : (n : ℕ) → RefsOk n noRefs
   unfolding Judgments RefForms
-  no-refs-ok = record { sound = tt; below = λ h e. absurd (true-false false e refl); gives = λ f s. tt }
+  no-refs-ok n = record { sound = tt; below = λ h e. absurd (true-false false e refl); gives = λ f s. tt }
 
-  pub with-ref-ok : (r : Ref) (rs : Refs) → RefOk r → RefsOk rs → RefsOk (withRef r rs)
+  pub with-ref-ok : (n : ℕ) (r : Ref) (rs : Refs) → RefOk n r → RefsOk n rs → RefsOk n (withRef r rs)
   unfolding Judgments RefForms
-  with-ref-ok r rs a b = record {
+  with-ref-ok n r rs a b = record {
     sound = (a .sound, b .sound);
     below = λ h e. elim (either-true (has (r .hyps) h) (rs .hyps h) e) [ inl p ↦ a .below h (has-in (r .hyps) h p) | inr p ↦ b .below h p ];
     gives = λ f s. (a .gives f (λ h i. s h (left (has (r .hyps) h) (rs .hyps h) (in-has (r .hyps) h i))),
@@ -277,9 +281,9 @@ module _ (U : State) (vs : ℕ → ℕ) (w : Well U vs) where
       right true c e = refl
       right false c e = e
 
-  pub references-ok : (xs : Sexps) → ((x : Sexp) → Item x xs → Free-of-rules x) → (m : Made) → Ok (λ rs. RefsOk rs) (references U xs m)
+  pub references-ok : (n : ℕ) (xs : Sexps) → ((x : Sexp) → Item x xs → Free-of-rules n x) → (m : Made) → Ok (λ rs. RefsOk n rs) (references U xs m)
   unfolding references Item
-  references-ok nil c m = done no-refs-ok
-  references-ok (cons x xs) c m =
-      ok-then (reference-ok x (c x (inl refl)) m) (λ r m₁ a.
-      ok-then (references-ok xs (λ y i. c y (inr i)) m₁) (λ rs m₂ b. done (with-ref-ok r rs a b)))
+  references-ok n nil c m = done (no-refs-ok n)
+  references-ok n (cons x xs) c m =
+      ok-then (reference-ok n x (c x (inl refl)) m) (λ r m₁ a.
+      ok-then (references-ok n xs (λ y i. c y (inr i)) m₁) (λ rs m₂ b. done (with-ref-ok n r rs a b)))

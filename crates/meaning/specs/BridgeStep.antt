@@ -25,22 +25,22 @@ use Rattle.meaning.specs.Tree.{Occ, Occs, Sorted, In, sub-sorted, occ-su
 use Rattle.meaning.specs.TreeTests.{occs-variablesOf}
 use Rattle.meaning.specs.UnifyActs.{Ok, done, stopped, ok-then, ok-any}
 use Rattle.meaning.specs.Signature.{sig, PROP, arity, ruleSort}
-use Rattle.meaning.specs.Derivation.{RuleOf}
 use Rattle.meaning.specs.Truth.{Free, At, HypOf, Needs}
 use Rattle.meaning.specs.Forms.{Refs as RefForms, Allowed, StepForm, Form, step as aStep}
 use Rattle.meaning.specs.Named.{Item, ItemOf}
-use Rattle.meaning.specs.Asked.{no-some, some-same, true-left, ok-ask, ok-found, ok-map, ok-if, ok-items, rising-in, in-rising}
+use Rattle.meaning.specs.Sets.{Sets, RuleAt}
+use Rattle.meaning.specs.Asked.{no-some, some-same, true-left, ok-ask, ok-found, ok-map, ok-if, ok-atom, ok-items, rising-in, in-rising}
 use Rattle.meaning.specs.Matching.{Agrees, Grows, Matched, MatchedAll, matched, matched-all, bind-cases, filled, filled-agrees, Built, build-ok}
 use Rattle.meaning.specs.Well.{IsApp, Props, Typed, Judgment, Judgments, WellRule, WellTheory, WellFact, Well, judgment-sub, judgments-small, judgments-props, props-bound}
 use Rattle.meaning.specs.BridgeRead.{rule-known, term-of-ok, judgment-ok}
-use Rattle.meaning.specs.BridgeRefs.{Scoped, scoped-ok, Own, Free-of-rules, RefsOk, references-ok}
+use Rattle.meaning.specs.BridgeRefs.{Scoped, scoped-ok, Free-of-rules, RefsOk, references-ok}
 
 -- a new fact is well-sorted, and taken by a form whose tests held
-pub record Fine (U : State) (vs : ℕ → ℕ) (w : Well U vs) (f : Fact) : Type 0 where
+pub record Fine (K : Sets) (U : State) (vs : ℕ → ℕ) (w : Well U vs) (f : Fact) : Type 0 where
   pub well : WellFact (U .theory) vs (length (U .vars)) (suc (length (U .facts))) f
-  pub form : Form (U .theory) vs (Own U vs w) (Own U vs w) (U .facts) f
+  pub form : Form (U .theory) vs (K .known) (K .part) (U .facts) (length (U .facts)) f
 
-module _ (U : State) (vs : ℕ → ℕ) (w : Well U vs) where
+module _ (K : Sets) (U : State) (vs : ℕ → ℕ) (w : Well U vs) where
   -- The items -----------------------------------------------------------------------------------------------------------------------
 
   pub record ItemsOk (R : Rule) (it : Items) : Type 0 where
@@ -99,7 +99,7 @@ module _ (U : State) (vs : ℕ → ℕ) (w : Well U vs) where
 
   -- The fact ------------------------------------------------------------------------------------------------------------------------
 
-  module _ (r : ℕ) (k : r < length (U .theory .rules)) (rs : Refs) (ro : RefsOk U vs w rs) (it : Items) (io : ItemsOk (rule (U .theory) r) it)
+  module _ (r : ℕ) (k : r < length (U .theory .rules)) (rests : K .part (length (U .facts)) r) (rs : Refs) (ro : RefsOk K U vs w (length (U .facts)) rs) (it : Items) (io : ItemsOk (rule (U .theory) r) it)
       (b c : Bound) (eb : matchStated (rule (U .theory) r .conclusion) (it .stated) (it .bound) ≡ some b)
       (ec : matchAll (rule (U .theory) r .premises) (rs .judgments) b ≡ some c)
       (j : Tree) (cj : Concluded (rule (U .theory) r .conclusion) c (it .stated) j) where
@@ -160,7 +160,7 @@ module _ (U : State) (vs : ℕ → ℕ) (w : Well U vs) where
 
     fine : (ft : List ℕ)
         → Scoped U (union (variablesOf (rs .judgments)) (variablesOf (it .values))) j (rising (length (U .facts)) (rs .hyps))
-        → Fine U vs w (record { judgment = j; hyps = rising (length (U .facts)) (rs .hyps); assumed = false; premises = none; general = []; footing = ft })
+        → Fine K U vs w (record { judgment = j; hyps = rising (length (U .facts)) (rs .hyps); assumed = false; premises = none; general = []; footing = ft })
     unfolding Judgments Scoped Allowed Needs HypOf
     fine ft sc = record {
       well = record {
@@ -173,11 +173,11 @@ module _ (U : State) (vs : ℕ → ℕ) (w : Well U vs) where
       form = aStep (record {
         plain = refl;
         named = r;
-        part = k;
+        part = rests;
         β = β;
         sorts = λ i l. elim (wr .occurs i l) [ inl o ↦ concl .1 i o .sorts | inr o ↦ prem-typed i o .sorts ];
         occurs = wr .occurs;
-        refs = subst (λ ts. RefForms (U .theory) vs (Own U vs w) (Own U vs w) (U .facts) new ts) (sym prems-eq)
+        refs = subst (λ ts. RefForms (U .theory) vs (K .known) (K .part) (U .facts) (length (U .facts)) new ts) (sym prems-eq)
           (ro .gives new (λ h e. rising-in (length (U .facts)) (rs .hyps) h (ro .below h e) e));
         concl = concl .0;
         allowed = λ v o.
@@ -190,18 +190,19 @@ module _ (U : State) (vs : ℕ → ℕ) (w : Well U vs) where
         new : Fact
         new = record { judgment = j; hyps = rising (length (U .facts)) (rs .hyps); assumed = false; premises = none; general = []; footing = ft }
 
-  pub step-ok : (xs : Sexps) → ((x : Sexp) → ItemOf x (item xs 3) → Free-of-rules U vs w x) → (m : Made)
-      → Ok (λ r. Fine U vs w (r .0)) (step U xs m)
-  unfolding step ItemOf
-  step-ok xs calm m =
-      ok-then (ok-any (name 33 (item xs 2) m)) (λ n m₁ _.
+  pub step-ok : (xs : Sexps) → ((x : Sexp) → ItemOf x (item xs 3) → Free-of-rules K U vs w (length (U .facts)) x)
+      → ((r : ℕ) → RuleAt (U .theory) (item xs 2) r → K .part (length (U .facts)) r) → (m : Made)
+      → Ok (λ r. Fine K U vs w (r .0)) (step U xs m)
+  unfolding step ItemOf RuleAt
+  step-ok xs calm rests m =
+      ok-then (ok-atom 33 (item xs 2) m) (λ n m₁ en.
       ok-then (ok-found 33 (ruleNamed (U .theory) (n .bytes)) m₁) (λ r m₂ er.
       ok-then (ok-items 37 (item xs 3) m₂) (λ ys m₃ ei.
       ok-then (ok-ask 37 (eqb (count ys) (countTrees (rule (U .theory) r .premises))) m₃) (λ _ m₄ _.
-      ok-then (references-ok U vs w ys (λ x i. calm x (subst (λ z. ItemOf x z) (sym ei) i)) m₄) (λ rs m₅ ro.
+      ok-then (references-ok K U vs w (length (U .facts)) ys (λ x i. calm x (subst (λ z. ItemOf x z) (sym ei) i)) m₄) (λ rs m₅ ro.
       ok-then (read-items-ok (rule (U .theory) r) (rest xs 4) noItems m₅ (no-items-ok (rule (U .theory) r))) (λ it m₆ io.
       ok-then (ok-found 38 (matchStated (rule (U .theory) r .conclusion) (it .stated) (it .bound)) m₆) (λ b m₇ eb.
       ok-then (ok-found 38 (matchAll (rule (U .theory) r .premises) (rs .judgments) b) m₇) (λ c m₈ ec.
       ok-then (conclude-ok (rule (U .theory) r .conclusion) (it .stated) c m₈) (λ j m₉ cj.
       ok-then (scoped-ok U (union (variablesOf (rs .judgments)) (variablesOf (it .values))) j (rising (length (U .facts)) (rs .hyps)) m₉) (λ _ m₁₀ sc.
-      done (fine r (rule-known (U .theory) (n .bytes) r er) rs ro it io b c eb ec j cj _ sc)))))))))))
+      done (fine r (rule-known (U .theory) (n .bytes) r er) (rests r (subst (λ z. RuleAt (U .theory) z r) (sym (en .1)) er)) rs ro it io b c eb ec j cj _ sc)))))))))))

@@ -19,6 +19,7 @@ pub mod Inverts
 pub mod Forms
 pub mod Run
 pub mod Named
+pub mod Sets
 pub mod Asked
 pub mod Well
 pub mod BridgeRead
@@ -28,7 +29,18 @@ pub mod BridgeStep
 pub mod BridgeApply
 pub mod BridgeInduct
 pub mod BridgeCase
+pub mod BridgeNames
 pub mod BridgeInvert
 pub mod Written
 pub mod WrittenExample
 pub mod WrittenRead
+pub mod Ends
+pub mod Took
+pub mod BridgeProof
+pub mod BridgeTake
+pub mod BridgeRun
+pub mod BridgeTheory
+pub mod BridgeGoals
+pub mod BridgeCheck
+pub mod Theorems
+pub mod TheoremsHold

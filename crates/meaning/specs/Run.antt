@@ -53,47 +53,47 @@ module _ (T : Theory) (vs : ℕ → ℕ) (R : ℕ → Type 0) where
       t γ (λ v m. val v (elim m [ inl o ↦ inl o | inr x ↦ inr (x .0, hyp-grown fs n f (x .0) (x .1), x .2) ]))
         (λ g h. hold g (hyp-grown fs n f g h))
 
-module _ (T : Theory) (vs : ℕ → ℕ) (Known Part : Fact → ℕ → Type 0)
-    (shapes : (f : Fact) (r : ℕ) → Known f r → Shaped (rule T r)) where
+module _ (T : Theory) (vs : ℕ → ℕ) (Known Part : ℕ → ℕ → Type 0)
+    (shapes : (n r : ℕ) → Known n r → Shaped (rule T r)) where
   -- what is to be shown of one fact, unless it is a rule hypothesis with premises: it is true with any rules that have those on which it
   -- rests and that it tolerates
-  abbrev pub Firm : List Fact → Fact → Type 1
-  Firm fs f = f .premises ≡ none → (R : ℕ → Type 0) → ((r : ℕ) → Part f r → R r) → ((r : ℕ) → R r → Known f r) → True T vs R fs f
+  abbrev pub Firm : List Fact → ℕ → Fact → Type 1
+  Firm fs n f = f .premises ≡ none → (R : ℕ → Type 0) → ((r : ℕ) → Part n r → R r) → ((r : ℕ) → R r → Known n r) → True T vs R fs f
 
-  module _ (fs : List Fact) (f : Fact) (ih : (i : ℕ) (g : Fact) → At fs i g → Firm fs g)
-      (R : ℕ → Type 0) (mine : (r : ℕ) → Part f r → R r) (theirs : (r : ℕ) → R r → Known f r) where
-    cited : (g : Fact) → Cites T vs Known Part fs f g → Entails T vs R (HypOf fs g) (g .judgment)
+  module _ (fs : List Fact) (n : ℕ) (f : Fact) (ih : (i : ℕ) (g : Fact) → At fs i g → Firm fs i g)
+      (R : ℕ → Type 0) (mine : (r : ℕ) → Part n r → R r) (theirs : (r : ℕ) → R r → Known n r) where
+    cited : (g : Fact) → Cites T vs Known Part fs n g → Entails T vs R (HypOf fs g) (g .judgment)
     unfolding True
     cited g c = ih (c .place) g (c .at) (c .free) R (λ r p. mine r (c .rules r p)) (λ r u. c .known r (theirs r u))
 
-    ref-gives : (j : Tree) → Ref T vs Known Part fs f j → ((v : ℕ) → Occ v j → Allowed fs f v)
+    pub ref-gives : (j : Tree) → Ref T vs Known Part fs n f j → ((v : ℕ) → Occ v j → Allowed fs f v)
         → Gives T vs R (HypOf fs f) (f .judgment) j
     unfolding Allowed HypOf In Needs Entails Gives
     ref-gives j (bare g c s e) a =
         gives-ref T vs R (HypOf fs f) (HypOf fs g) (f .judgment) j (subst (λ t. Entails T vs R (HypOf fs g) t) e (cited g c))
           (λ h x. (x .0, s (x .0) (x .1), x .2)) a
-    ref-gives j (inst g c n σ so e) a =
+    ref-gives j (inst g c z σ so e) a =
         gives-ref T vs R (HypOf fs f) (λ h. ⊥) (f .judgment) j
           (subst (λ t. Entails T vs R (λ h. ⊥) t) e (instance-true T vs R (g .judgment) σ without so)) (λ h x. absurd x) a
       where
         without : Entails T vs R (λ h. ⊥) (g .judgment)
         without =
             gives-ref T vs R (λ h. ⊥) (HypOf fs g) (g .judgment) (g .judgment) (cited g c)
-              (λ h x. subst (λ l. In (x .0) l) n (x .1)) (λ v o. inl o)
+              (λ h x. subst (λ l. In (x .0) l) z (x .1)) (λ v o. inl o)
 
-    refs-give : (ts : Trees) → Refs T vs Known Part fs f ts → ((v : ℕ) → Occs v ts → Allowed fs f v)
+    refs-give : (ts : Trees) → Refs T vs Known Part fs n f ts → ((v : ℕ) → Occs v ts → Allowed fs f v)
         → GivesAll T vs R (HypOf fs f) (f .judgment) ts
     unfolding Refs GivesAll Occ
     refs-give none r a = tt
     refs-give (more t ts) r a = (ref-gives t (r .0) (λ v o. a v (inl o)), refs-give ts (r .1) (λ v o. a v (inr o)))
 
-    hyp-sound : HypForm T vs Known Part fs f → f .premises ≡ none → True T vs R (grown fs f) f
+    hyp-sound : HypForm T vs Known Part fs n f → f .premises ≡ none → True T vs R (grown fs f) f
     unfolding True HypOf Entails Needs
     hyp-sound h p =
         gives-ref T vs R (HypOf (grown fs f) f) (λ g. g ≡ f) (f .judgment) (f .judgment) (hyp-true T vs R f p)
           (λ g e. (length fs, h .own, subst (λ z. At (grown fs f) (length fs) z) (sym e) (at-last fs f))) (λ v o. inl o)
 
-    step-sound : StepForm T vs Known Part fs f → Entails T vs R (HypOf fs f) (f .judgment)
+    step-sound : StepForm T vs Known Part fs n f → Entails T vs R (HypOf fs f) (f .judgment)
     unfolding Allowed Needs
     step-sound s =
         step-true T vs R (HypOf fs f) (s .named) (s .β) (f .judgment) (mine (s .named) (s .part)) (s .sorts)
@@ -103,23 +103,23 @@ module _ (T : Theory) (vs : ℕ → ℕ) (Known Part : Fact → ℕ → Type 0)
             ])
           (refs-give (subs (s .β) (rule T (s .named) .premises)) (s .refs) (s .allowed)) (s .concl)
 
-    apply-hyp-sound : ApplyHyp T vs Known Part fs f → Entails T vs R (HypOf fs f) (f .judgment)
+    apply-hyp-sound : ApplyHyp T vs Known Part fs n f → Entails T vs R (HypOf fs f) (f .judgment)
     unfolding Allowed HypOf
     apply-hyp-sound s =
         apply-hyp-true T vs R (HypOf fs f) (s .g) (s .σ) (f .judgment) (s .place, s .own, s .at) (s .binds) (s .allowed)
           (refs-give (subs (s .σ) (s .g .premises)) (s .refs) (s .allowed)) (s .concl)
 
-    apply-fact-sound : ApplyFact T vs Known Part fs f → Entails T vs R (HypOf fs f) (f .judgment)
+    apply-fact-sound : ApplyFact T vs Known Part fs n f → Entails T vs R (HypOf fs f) (f .judgment)
     unfolding Allowed Plain
     apply-fact-sound s =
         apply-fact-true T vs R (HypOf fs f) (HypOf fs (s .g)) (s .g .judgment) (s .σ) (f .judgment) (cited (s .g) (s .cites)) (s .sorts)
           (s .plains) (λ h x. ref-gives (sub (s .σ) (h .judgment)) (s .refs h x) (s .allowed h x)) (s .allowed) (s .concl)
 
-    induct-sound : InductForm T vs Known Part fs f → Entails T vs R (HypOf fs f) (f .judgment)
+    induct-sound : InductForm T vs Known Part fs n f → Entails T vs R (HypOf fs f) (f .judgment)
     induct-sound s =
         induct-true T vs R (s .x) (s .P) (f .judgment) (HypOf fs f) (s .backed) (s .motive) (λ c l o. case c (s .cases c l o))
       where
-        case : (c : ℕ) → InductCase T vs Known Part fs f (s .x) (s .P) c → Case T vs R (s .x) (s .P) (f .judgment) c
+        case : (c : ℕ) → InductCase T vs Known Part fs n f (s .x) (s .P) c → Case T vs R (s .x) (s .P) (f .judgment) c
         case c k = record {
           ys = k .ys;
           fit = k .fit;
@@ -130,14 +130,14 @@ module _ (T : Theory) (vs : ℕ → ℕ) (Known Part : Fact → ℕ → Type 0)
           allowed = k .allowed
         }
 
-    invert-sound : InvertForm T vs Known Part fs f → Entails T vs R (HypOf fs f) (f .judgment)
+    invert-sound : InvertForm T vs Known Part fs n f → Entails T vs R (HypOf fs f) (f .judgment)
     unfolding Entails Gives Needs HypOf Both InContext
     invert-sound s =
         gives-ref T vs R (HypOf fs f) (Both T vs R (s .k) (f .judgment) C) (f .judgment) (f .judgment)
           (invert-true T vs R (s .k) (f .judgment) C (s .head) (s .arguments) (s .k-plain) (s .form)
-            (λ r u. shapes f r (theirs r u))
-            (λ r u q. look r (s .looked r (theirs r u) (shapes f r (theirs r u) .arguments)
-              (shapes f r (theirs r u) .form ∙ ap (λ z. app z (shapes f r (theirs r u) .arguments)) q))))
+            (λ r u. shapes n r (theirs r u))
+            (λ r u q. look r (s .looked r (theirs r u) (shapes n r (theirs r u) .arguments)
+              (shapes n r (theirs r u) .form ∙ ap (λ z. app z (shapes n r (theirs r u) .arguments)) q))))
           within (λ v o. inl o)
       where
         C : Fact → Type 0
@@ -147,7 +147,7 @@ module _ (T : Theory) (vs : ℕ → ℕ) (Known Part : Fact → ℕ → Type 0)
         within g (inl e) = (s .place, s .own, subst (λ z. At fs (s .place) z) (sym e) (s .at))
         within g (inr (h, i, a)) = (h, s .inside h i, a)
 
-        given : (r : Rule) (name : ℕ → ℕ) (θ : ℕ → Tree) → InvertCase T vs Known Part fs f C r name θ
+        given : (r : Rule) (name : ℕ → ℕ) (θ : ℕ → Tree) → InvertCase T vs Known Part fs n f C r name θ
             → Given T vs R (s .k .judgment) (f .judgment) C r name θ
         given r name θ k = record {
           hyps = HypOf fs (k .g);
@@ -156,12 +156,12 @@ module _ (T : Theory) (vs : ℕ → ℕ) (Known Part : Fact → ℕ → Type 0)
           uncaptured = k .uncaptured
         }
 
-        cased : (r : Rule) (name : ℕ → ℕ) → InvertCased T vs Known Part fs f (s .k .judgment) C r name
+        cased : (r : Rule) (name : ℕ → ℕ) → InvertCased T vs Known Part fs n f (s .k .judgment) C r name
             → Cased T vs R (s .k .judgment) (f .judgment) C r name
-        cased r name (lone n) = apart n
+        cased r name (lone d) = apart d
         cased r name (paired θ g k) = unified θ g (given r name θ k)
 
-        look : (r : ℕ) → InvertRule T vs Known Part fs f (s .k) C (rule T r)
+        look : (r : ℕ) → InvertRule T vs Known Part fs n f (s .k) C (rule T r)
             → Looked T vs R (s .k .judgment) (f .judgment) C (rule T r)
         look r k = record {
           name = k .name;
@@ -171,7 +171,7 @@ module _ (T : Theory) (vs : ℕ → ℕ) (Known Part : Fact → ℕ → Type 0)
           cased = cased (rule T r) (k .name) (k .cased)
         }
 
-    form-sound : Form T vs Known Part fs f → f .premises ≡ none → True T vs R (grown fs f) f
+    form-sound : Form T vs Known Part fs n f → f .premises ≡ none → True T vs R (grown fs f) f
     unfolding True
     form-sound (hyp s) p = hyp-sound s p
     form-sound (step s) p = true-grown T vs R fs f f (step-sound s)
@@ -181,14 +181,14 @@ module _ (T : Theory) (vs : ℕ → ℕ) (Known Part : Fact → ℕ → Type 0)
     form-sound (invert s) p = true-grown T vs R fs f f (invert-sound s)
 
   -- every fact of a run is true, with only the rules on which it may rest, and with any more that it tolerates
-  pub run-sound : (fs : List Fact) → Run T vs Known Part fs → (i : ℕ) (f : Fact) → At fs i f → Firm fs f
+  pub run-sound : (fs : List Fact) → Run T vs Known Part fs → (i : ℕ) (f : Fact) → At fs i f → Firm fs i f
   unfolding At
   run-sound fs begin i f a = absurd a
   run-sound fs (take gs g r m) i f a = go (at-split gs g f i a) (λ j h b. run-sound gs r j h b)
     where
-      go : At gs i f ⊎ ((i ≡ length gs) × (g ≡ f)) → ((j : ℕ) (h : Fact) → At gs j h → Firm gs h) → Firm (grown gs g) f
+      go : At gs i f ⊎ ((i ≡ length gs) × (g ≡ f)) → ((j : ℕ) (h : Fact) → At gs j h → Firm gs j h) → Firm (grown gs g) i f
       go (inl b) ih p R mine theirs = true-grown T vs R gs g f (ih i f b p R mine theirs)
       go (inr e) ih p R mine theirs =
           subst (λ h. True T vs R (grown gs g) h) (e .1)
-            (form-sound gs g ih R (λ r q. mine r (subst (λ h. Part h r) (e .1) q)) (λ r u. subst (λ h. Known h r) (sym (e .1)) (theirs r u)) m
+            (form-sound gs (length gs) g ih R (λ r q. mine r (subst (λ k. Part k r) (sym (e .0)) q)) (λ r u. subst (λ k. Known k r) (e .0) (theirs r u)) m
               (ap (λ (h : Fact). h .premises) (e .1) ∙ p))

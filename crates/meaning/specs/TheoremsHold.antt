@@ -1,0 +1,157 @@
+-- The theorems are not empty. Example A: its texts are taken, its premise holds, and what `goals-derivable` says of it is that `Child t`
+-- is derivable for every ground term t of sort Pass. Example G: its texts are accepted though the goal `Bad first` is not derivable, so the
+-- premise of the theorems is needed. Assumes nothing.
+use Prim.Native.Nat.{ℕ, zero, suc, _<_}
+use native.Mathlib.Omega.{arith}
+use mathlib.Core.Path.{_≡_, refl, sym, _∙_, ap, subst}
+use mathlib.Core.Logic.{_⊎_, inl, inr}
+use mathlib.Core.Bool.{Bool, true, false, _&&_}
+use mathlib.Core.Option.{Option, some}
+use mathlib.Core.List.{List, [], _∷_}
+use Rattle.rules.specs.Out.{Out, ok, refuse, Act}
+use Rattle.rules.specs.Text.{bytes}
+use Rattle.rules.specs.Sexp.{Sexp, Text, ends, fails, more, read}
+use Rattle.rules.specs.Find.{entry}
+use Rattle.rules.specs.Tree.{Tree, Trees, var, app, none, more as moreTrees, sub}
+use Rattle.rules.specs.Theory.{Theory, noTheory, rule}
+use Rattle.rules.specs.Declare.{declare}
+use Rattle.rules.specs.DeclareLaws.{reached}
+use Rattle.rules.specs.State.{State, Fact, Goal, begin, isNone}
+use Rattle.rules.specs.Judge.{Judged, done, whole}
+use Rattle.rules.specs.Proof.{takeGoal, takeForm}
+use Rattle.rules.specs.Check.{accepts, check, checking, report}
+use Rattle.rules.specs.Run.{line, running}
+use Rattle.rules.specs.Examples.{theory}
+use Rattle.meaning.specs.Tree.{Occ, Occs, app-symbol}
+use Rattle.meaning.specs.TreeTests.{true-false}
+use Rattle.meaning.specs.Signature.{sig, Value}
+use Rattle.meaning.specs.Derivation.{Der, node, Derivable}
+use Rattle.meaning.specs.Truth.{At}
+use Rattle.meaning.specs.Named.{RuleHyp, Calm}
+use Rattle.meaning.specs.Asked.{both-true}
+use Rattle.meaning.specs.BridgeRefs.{is-none}
+use Rattle.meaning.specs.BridgeRun.{final, IfTaken, Throughout}
+use Rattle.meaning.specs.BridgeCheck.{Taken, after, Calmly}
+use Rattle.meaning.specs.Theorems.{sortsOf, goals-derivable}
+
+-- A test for the premise ------------------------------------------------------------------------------------------------------------
+
+-- no fact has premises
+unfoldable noPremises : List Fact → Bool
+noPremises [] = true
+noPremises (f ∷ fs) = isNone (f .premises) && noPremises fs
+
+no-premises : (fs : List Fact) → noPremises fs ≡ true → (i : ℕ) (f : Fact) → At fs i f → f .premises ≡ none
+unfolding noPremises At
+no-premises [] e i f a = absurd a
+no-premises (g ∷ fs) e zero f a =
+    subst (λ (h : Fact). h .premises ≡ none) a (is-none (g .premises) (both-true (isNone (g .premises)) (noPremises fs) e .0))
+no-premises (g ∷ fs) e (suc i) f a = no-premises fs (both-true (isNone (g .premises)) (noPremises fs) e .1) i f a
+
+-- whether no fact has premises at any form that is taken
+unfoldable unruled : Text → State → Bool
+unruled ends S = true
+unruled (fails n) S = true
+unruled (more x p t) S = elim (takeForm x S) [ ok a u ↦ noPremises (S .facts) && unruled t u | refuse n d u ↦ true ]
+
+unruled-calm : (t : Text) (S : State) → unruled t S ≡ true → Calmly t S
+unfolding unruled Throughout IfTaken Calm RuleHyp
+unruled-calm ends S e = tt
+unruled-calm (fails n) S e = tt
+unruled-calm (more x p t) S e = go (takeForm x S) e (λ u q. unruled-calm t u q)
+  where
+    go : (o : Out State (Unit {0})) → elim o as (λ _. Bool) [ ok a u ↦ noPremises (S .facts) && unruled t u | refuse n d u ↦ true ] ≡ true
+        → ((u : State) → unruled t u ≡ true → Throughout Calm takeForm t u) → IfTaken (Calm S x) (λ u. Throughout Calm takeForm t u) o
+    go (ok a u) q r =
+        let b = both-true (noPremises (S .facts)) (unruled t u) q in
+        ((λ i f n k h. h .1 (no-premises (S .facts) (b .0) i f k)), r u (b .1))
+    go (refuse n d u) q r = tt
+
+-- Example A -------------------------------------------------------------------------------------------------------------------------
+
+abbrev goalsA : List ℕ
+goalsA = bytes "(var x Pass) (goal g (Child x))"
+
+abbrev proofA : List ℕ
+proofA = bytes "(var y Pass) (step 0 c0 ()) (hyp 1 (Child y)) (step 2 c1 (1)) (induct 3 x (Child x) ((0) (2 y))) (result g 3)"
+
+unfoldable pub T : Theory
+T = reached (whole declare (read theory) noTheory)
+
+unfoldable pub S : State
+S = final (whole takeGoal (read goalsA) (begin T))
+
+takenA : Taken theory goalsA T S
+unfolding running T S reached final
+takenA = record { theory-forms = 13; theory-taken = refl; goal-forms = 2; goals-taken = refl }
+
+testA : unruled (read proofA) S ≡ true
+unfolding running T S reached final unruled noPremises
+testA = refl
+
+calmA : Calmly (read proofA) S
+calmA = unruled-calm (read proofA) S testA
+
+-- `Child` is symbol 2, and sort 1 is Pass
+abbrev Child : Tree → Tree
+Child t = app 2 (moreTrees t none)
+
+abbrev Pass : ℕ
+Pass = 1
+
+-- its goal, behind its forms
+abbrev goalA : Goal
+goalA = record { name = record { start = 19; bytes = bytes "g" }; judgment = Child (var 0); hyps = none; taken = true }
+
+goal-taken : entry (after (read proofA) S .goals) 0 ≡ some goalA
+unfolding running T S reached final after
+goal-taken = refl
+
+sort-of-x : sortsOf (after (read proofA) S) 0 ≡ Pass
+unfolding running T S reached final after
+sort-of-x = refl
+
+only-x : (w : ℕ) → Occ w (Child (var 0)) ⊎ Occs w none → w ≡ 0
+unfolding Occ
+only-x w (inl (inl e)) = e
+only-x w (inl (inr e)) = absurd e
+only-x w (inr e) = absurd e
+
+-- what the theorem gives for it
+pub child : (t : Tree) → Value (sig T) t Pass → Derivable T (Child t)
+unfolding sub
+child t v = goals-derivable theory goalsA T S takenA (read proofA) calmA 0 goalA goal-taken refl refl (λ _. t) (λ w o. sorted w (only-x w o))
+  where
+    sorted : (w : ℕ) → w ≡ 0 → Value (sig T) t (sortsOf (after (read proofA) S) w)
+    sorted w e = subst (λ s. Value (sig T) t s) (sym (ap (sortsOf (after (read proofA) S)) e ∙ sort-of-x)) v
+
+-- Example G -------------------------------------------------------------------------------------------------------------------------
+
+abbrev goalsG : List ℕ
+goalsG = bytes "(var x Pass) (var y Pass) (goal g (Bad first))"
+
+abbrev proofG : List ℕ
+proofG =
+    bytes "(hyp 0 (Adult x)) (hyp 1 (Adult first)) (invert 2 1 () (Bad first) ()) (hyp 3 ((Adult y)) (Bad first) ()) (induct 4 x (0) (Bad first) ((2) (3 y))) (step 5 a1 ()) (apply 6 4 ((x (renew first))) (5)) (result g 6)"
+
+-- `Bad` is symbol 4, `first` is 0
+abbrev badFirst : Tree
+badFirst = app 4 (moreTrees (app 0 none) none)
+
+head : Tree → ℕ
+head (var v) = 0
+head (app c ts) = c
+
+-- no rule concludes it
+not-derivable : (j : Tree) → Derivable T j → head j ≡ 4 → ⊥
+unfolding running T reached head sub
+not-derivable j (node zero ρ k u v ds e) q = let z : _≡_ {A = ℕ} 2 4 = ap head e ∙ q in omega arith
+not-derivable j (node (suc zero) ρ k u v ds e) q = let z : _≡_ {A = ℕ} 2 4 = ap head e ∙ q in omega arith
+not-derivable j (node (suc (suc zero)) ρ k u v ds e) q = let z : _≡_ {A = ℕ} 3 4 = ap head e ∙ q in omega arith
+not-derivable j (node (suc (suc (suc zero))) ρ k u v ds e) q = let z : _≡_ {A = ℕ} 5 4 = ap head e ∙ q in omega arith
+not-derivable j (node (suc (suc (suc (suc r)))) ρ k u v ds e) q = omega arith
+
+-- the check accepts the goal all the same
+pub premise-needed : (line theory goalsG proofG ≡ 1 ∷ 7 ∷ 1 ∷ 0 ∷ 3 ∷ 1 ∷ 1 ∷ 0 ∷ []) × ¬ (Derivable T badFirst)
+unfolding running head
+premise-needed = (refl, λ d. not-derivable badFirst d refl)
