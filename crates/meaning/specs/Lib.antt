@@ -25,3 +25,4 @@ pub mod Matching
 pub mod Written
 pub mod WrittenExample
 pub mod WrittenRead
+pub mod WrittenTerms
