@@ -26,3 +26,5 @@ pub mod Written
 pub mod WrittenExample
 pub mod WrittenRead
 pub mod WrittenTerms
+pub mod WrittenNode
+pub mod WrittenStep
