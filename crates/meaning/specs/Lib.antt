@@ -28,3 +28,4 @@ pub mod WrittenRead
 pub mod WrittenTerms
 pub mod WrittenNode
 pub mod WrittenStep
+pub mod WrittenForms
