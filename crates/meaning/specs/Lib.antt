@@ -29,3 +29,6 @@ pub mod WrittenTerms
 pub mod WrittenNode
 pub mod WrittenStep
 pub mod WrittenForms
+pub mod WrittenRun
+pub mod WrittenTexts
+pub mod Accepted

@@ -137,10 +137,10 @@ module _ (T : Theory) (n : List ℕ) (j : Tree) where
 -- the goal of a ground judgment
 pub goal-taken : (T : Theory) → WellFormed T → Named T → (n : List ℕ) (j : Tree) → Concludes T j → (x : Sexp)
     → bare x ≡ group (cons (name (bytes "goal")) (cons (name n) (cons (judgmentForm T j) nil)))
-    → (q : ℕ) × (xs : Sexps) × (x ≡ list xs) × GoalTook T q n j (make j []) (takeGoal x (begin T))
+    → (q : ℕ) × GoalTook T q n j (make j []) (takeGoal x (begin T))
 goal-taken T w nm n j c x e =
     let h = three x (bytes "goal") n (judgmentForm T j) e in
-    (h .second, consˢ (atom (h .first) (bytes "goal")) (consˢ (atom (h .second) n) (consˢ (h .third) nilˢ)), h .is,
+    (h .second,
       subst (λ o. GoalTook T (h .second) n j (make j []) o)
         (sym (ap (λ y. takeGoal y (begin T)) (h .is) ∙ goal-begins T n j (h .first) (h .second) (h .third) (make j [])
           (judgment-read (begin T) refl w nm (c .head) (c .arguments) (h .third) [] (h .thirds ∙ ap (judgmentForm T) (c .is)) (c .known) (c .predicate) (c .values)
