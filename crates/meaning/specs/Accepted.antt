@@ -1,6 +1,7 @@
 -- Demand 3's last sentence: every written derivation is accepted exactly when it stays inside the limits. `derivation-accepted` is the
 -- theorem; what it speaks of is defined in Written. Assumes nothing.
 use Prim.Native.Nat.{ℕ, zero, suc}
+use native.Mathlib.Omega.{arith}
 use mathlib.Core.Path.{_≡_, refl, sym, _∙_, ap, subst}
 use mathlib.Core.Logic.{_⊎_, inl, inr}
 use mathlib.Core.Bool.{Bool, true, false, _&&_}
@@ -16,7 +17,7 @@ use Rattle.rules.specs.DeclareLaws.{reached, theory-formed}
 use Rattle.rules.specs.State.{begin}
 use Rattle.rules.specs.Proof.{takeGoal}
 use Rattle.rules.specs.Judge.{done, whole}
-use Rattle.rules.specs.Check.{accepts, refusedIn, afterGoals, afterTheory, firstFailing, readable, fitting, check}
+use Rattle.rules.specs.Check.{Report, Refusal, accepts, refuses, refusedIn, afterGoals, afterTheory, firstFailing, readable, fitting, check}
 use Rattle.meaning.specs.Written.{Names, goalForms, proofForms, Written, inside, stepsAlone, Verdict}
 use Rattle.meaning.specs.WrittenRead.{text-read}
 use Rattle.meaning.specs.WrittenNode.{Concludes}
@@ -59,3 +60,28 @@ module _ {t g p : List ℕ} (w : Written t g p) where
       go (failed k e q) =
           out (inside w) (length (w .steps)) (check t g p .answer) (record { number = 2; text = suc k; form = 0; detail = 0 })
             (and-false (short t && (short g && short p)) _ e) (ap (λ n. fitting t g p n .answer) q) (inl refl)
+
+  -- The same in three sentences: what is inside is accepted, what is accepted is inside, and only 2, 5 and 60 refuse ------------------
+
+  pub inside-accepted : inside w ≡ true → check t g p .answer ≡ accepts (stepsAlone (length (w .steps)))
+  unfolding Verdict
+  inside-accepted e = subst (λ b. Verdict b (length (w .steps)) (check t g p .answer)) e derivation-accepted
+
+  pub accepted-inside : (r : Report) → check t g p .answer ≡ accepts r → inside w ≡ true
+  unfolding Verdict
+  accepted-inside r e = go (inside w) refl derivation-accepted
+    where
+      go : (b : Bool) → inside w ≡ b → Verdict b (length (w .steps)) (check t g p .answer) → inside w ≡ true
+      go true q v = q
+      go false q v = let a = v .1 in let z : _≡_ {A = ℕ} 0 1 = cc in absurd (omega arith)
+
+  pub refused-outside : (r : Refusal) → check t g p .answer ≡ refuses r → (inside w ≡ false) × ((r .number ≡ 2) ⊎ ((r .number ≡ 5) ⊎ (r .number ≡ 60)))
+  unfolding Verdict
+  refused-outside r e = go (inside w) refl derivation-accepted
+    where
+      go : (b : Bool) → inside w ≡ b → Verdict b (length (w .steps)) (check t g p .answer)
+          → (inside w ≡ false) × ((r .number ≡ 2) ⊎ ((r .number ≡ 5) ⊎ (r .number ≡ 60)))
+      go true q v = let z : _≡_ {A = ℕ} 0 1 = cc in absurd (omega arith)
+      go false q v =
+          let a = v .1 in
+          (q, subst (λ (x : Refusal). (x .number ≡ 2) ⊎ ((x .number ≡ 5) ⊎ (x .number ≡ 60))) (let z : v .0 ≡ r = cc in z) (v .2))

@@ -23,7 +23,6 @@ pub mod Well
 pub mod BridgeRead
 pub mod Matching
 pub mod Written
-pub mod WrittenExample
 pub mod WrittenRead
 pub mod WrittenTerms
 pub mod WrittenNode
@@ -32,3 +31,4 @@ pub mod WrittenForms
 pub mod WrittenRun
 pub mod WrittenTexts
 pub mod Accepted
+pub mod WrittenExample

@@ -17,6 +17,7 @@ use Rattle.rules.specs.Check.{accepts, check, checking}
 use Rattle.rules.specs.Examples.{theory}
 use Rattle.meaning.specs.Signature.{sig, Value, arity, ruleSort}
 use Rattle.meaning.specs.Written.{marks, mark, spelling, Writes, shallow, symbolName, ruleName, applied, termForm, judgmentForm, Step, conclusion, conclusions, Names, NamesAll, Node, Nodes, goalForms, atoms, stepForm, resultForm, proofForms, Written, answers, treesOf, roomy, inside, stepsAlone}
+use Rattle.meaning.specs.Accepted.{inside-accepted}
 
 unfoldable pub exampleTheory : Theory
 exampleTheory = reached (whole declare (read theory) noTheory)
@@ -69,6 +70,12 @@ pub two-inside : inside twoWritten ≡ true
 unfolding checking exampleTheory reached twoWritten inside roomy shallow answers treesOf conclusion conclusions goalForms proofForms stepForm resultForm judgmentForm termForm applied symbolName ruleName atoms
 two-inside = refl
 
+-- by the theorem
 pub two-accepted : check theory goals proof .answer ≡ accepts (stepsAlone 2)
+unfolding twoWritten
+two-accepted = inside-accepted twoWritten two-inside
+
+-- and by computation
+two-checked : check theory goals proof .answer ≡ accepts (stepsAlone 2)
 unfolding checking stepsAlone
-two-accepted = refl
+two-checked = refl
