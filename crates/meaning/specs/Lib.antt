@@ -23,6 +23,7 @@ pub mod Well
 pub mod BridgeRead
 pub mod Matching
 pub mod Written
+pub mod Gather
 pub mod WrittenRead
 pub mod WrittenTerms
 pub mod WrittenNode
@@ -31,4 +32,6 @@ pub mod WrittenForms
 pub mod WrittenRun
 pub mod WrittenTexts
 pub mod Accepted
+pub mod Decimal
+pub mod WrittenTree
 pub mod WrittenExample

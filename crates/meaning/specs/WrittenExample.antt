@@ -16,7 +16,7 @@ use Rattle.rules.specs.Judge.{whole}
 use Rattle.rules.specs.Check.{accepts, check, checking}
 use Rattle.rules.specs.Examples.{theory}
 use Rattle.meaning.specs.Signature.{sig, Value, arity, ruleSort}
-use Rattle.meaning.specs.Written.{marks, mark, spelling, Writes, shallow, symbolName, ruleName, applied, termForm, judgmentForm, Step, conclusion, conclusions, Names, NamesAll, Node, Nodes, goalForms, atoms, stepForm, resultForm, proofForms, Written, answers, treesOf, roomy, inside, stepsAlone}
+use Rattle.meaning.specs.Written.{marks, mark, spelling, Writes, shallow, symbolName, ruleName, applied, termForm, judgmentForm, Step, conclusion, conclusions, Names, NamesAll, Node, Nodes, goalForms, atoms, stepForm, resultForm, proofForms, Written, treesOf, once, gather, few, roomy, inside, stepsAlone}
 use Rattle.meaning.specs.Accepted.{inside-accepted}
 
 unfoldable pub exampleTheory : Theory
@@ -67,7 +67,7 @@ twoWritten = record {
 }
 
 pub two-inside : inside twoWritten ≡ true
-unfolding checking exampleTheory reached twoWritten inside roomy shallow answers treesOf conclusion conclusions goalForms proofForms stepForm resultForm judgmentForm termForm applied symbolName ruleName atoms
+unfolding checking exampleTheory reached twoWritten inside roomy shallow once gather few treesOf conclusion conclusions goalForms proofForms stepForm resultForm judgmentForm termForm applied symbolName ruleName atoms
 two-inside = refl
 
 -- by the theorem

@@ -26,7 +26,8 @@ use Rattle.rules.specs.Check.{Refusal, Answer, accepts, refuses, Outcome, refus
 use Rattle.meaning.specs.Tree.{Ground, Grounds}
 use Rattle.meaning.specs.TreeTests.{ground-isOpen}
 use Rattle.meaning.specs.Signature.{sig, Value, Values}
-use Rattle.meaning.specs.Written.{Form, Forms, nil, cons, shallow, shallows, Step, conclusion, conclusions, Names, Node, Nodes, stepForm, resultForm, proofForms, answers, treesOf, stepsAlone, Verdict}
+use Rattle.meaning.specs.Written.{Form, Forms, nil, cons, shallow, shallows, Step, conclusion, conclusions, Names, Node, Nodes, stepForm, resultForm, proofForms, treesOf, stepsAlone, Verdict}
+use Rattle.meaning.specs.Gather.{answers}
 use Rattle.meaning.specs.WrittenRead.{bare, Reads}
 use Rattle.meaning.specs.WrittenNode.{Concludes, node-concludes, Derived, Recorded, recorded-length, recorded-snoc}
 use Rattle.meaning.specs.WrittenStep.{and-false}

@@ -23,7 +23,8 @@ use Rattle.rules.specs.State.{State, begin}
 use Rattle.rules.specs.Proof.{takeGoal, takeForm}
 use Rattle.rules.specs.Judge.{Judged, done, refused, through, unread, whole}
 use Rattle.rules.specs.Check.{Refusal, Answer, accepts, refuses, refusedIn, afterProof, afterGoals, afterTheory, firstFailing, readable, fitting, check}
-use Rattle.meaning.specs.Written.{Forms, cons, nil, shallow, shallows, Step, conclusions, Names, Nodes, goalForms, proofForms, Written, answers, treesOf, roomy, inside, stepsAlone, Verdict}
+use Rattle.meaning.specs.Written.{Forms, cons, nil, shallow, shallows, Step, conclusions, Names, Nodes, goalForms, proofForms, Written, treesOf, gathers, few, roomy, inside, stepsAlone, Verdict}
+use Rattle.meaning.specs.Gather.{answers, makes-few}
 use Rattle.meaning.specs.WrittenRead.{bare, Reads, text-read}
 use Rattle.meaning.specs.WrittenNode.{Concludes, Recorded}
 use Rattle.meaning.specs.WrittenStep.{and-false}
@@ -52,7 +53,8 @@ module _ (T : Theory) (w : WellFormed T) (nm : Named T) (gn : List ℕ) (j : Tre
   goal-behind q x i sh (ok b m) f took =
       let same : length ss ≡ 0 + length ss = omega arith in
       moved within _ (length ss) (0 + length ss) _ _
-        (ap₂ (λ y z. (y && shallows 0 (proofForms T ss gn r)) && (leb (length ss) FACTS && z)) sh (makes-on j (treesOf (conclusions T ss)) [] m b f)
+        (ap₂ (λ y z. (y && shallows 0 (proofForms T ss gn r)) && (leb (length ss) FACTS && z)) sh
+            (makes-few (more j (treesOf (conclusions T ss))) ∙ makes-on j (treesOf (conclusions T ss)) [] m b f)
           ∙ ap (λ k. shallows 0 (proofForms T ss gn r) && (leb k FACTS && answers (makes (treesOf (conclusions T ss)) m))) same)
         same
         (ap (λ z. afterGoals proof z .answer) (whole-one takeGoal x i (begin T) ∙ through-ok takeGoal x i ends 0 (begin T) (stateOf T m (awaited q gn j) []) took))
@@ -60,7 +62,7 @@ module _ (T : Theory) (w : WellFormed T) (nm : Named T) (gn : List ℕ) (j : Tre
   goal-behind q x i sh (refuse k d m) f took =
       out within (length ss) _ (record { number = 60; text = 2; form = 0; detail = took .row })
         (and-off (shallows 0 (goalForms T gn j) && shallows 0 (proofForms T ss gn r)) _
-          (and-off (leb (length ss) FACTS) _ (makes-off j (treesOf (conclusions T ss)) [] m k d f)))
+          (and-off (leb (length ss) FACTS) _ (makes-few (more j (treesOf (conclusions T ss))) ∙ makes-off j (treesOf (conclusions T ss)) [] m k d f)))
         (ap (λ z. afterGoals proof z .answer) (whole-one takeGoal x i (begin T) ∙ through-off takeGoal x i ends 0 (begin T) 60 (took .row) (took .state) (took .is)))
         (inr (inr refl))
 
