@@ -54,12 +54,12 @@ module _ {t g p : List ℕ} (w : Written t g p) where
       go : Passed short t g p → Verdict (inside w) (length (w .steps)) (check t g p .answer)
       go (passed e q) =
           moved (inside w) _ (length (w .steps)) (length (w .steps)) (check t g p .answer) _ (and-on (short t && (short g && short p)) _ e) refl (ap (λ o. o .answer) (reads-on q))
-            (goals-read (w .theory) formed named (w .goal) (w .judgment) concludes (w .root) (w .steps) (w .nodes) (w .concluded) p
-              (text-read p (proofForms (w .theory) (w .steps) (w .goal) (w .root)) (w .proof))
-              (read g) (text-read g (goalForms (w .theory) (w .goal) (w .judgment)) (w .goals)))
+          (goals-read (w .theory) formed named (w .goal) (w .judgment) concludes (w .root) (w .steps) (w .nodes) (w .concluded) p
+          (text-read p (proofForms (w .theory) (w .steps) (w .goal) (w .root)) (w .proof))
+          (read g) (text-read g (goalForms (w .theory) (w .goal) (w .judgment)) (w .goals)))
       go (failed k e q) =
           out (inside w) (length (w .steps)) (check t g p .answer) (record { number = 2; text = suc k; form = 0; detail = 0 })
-            (and-false (short t && (short g && short p)) _ e) (ap (λ n. fitting t g p n .answer) q) (inl refl)
+          (and-false (short t && (short g && short p)) _ e) (ap (λ n. fitting t g p n .answer) q) (inl refl)
 
   -- The same in three sentences: what is inside is accepted, what is accepted is inside, and only 2, 5 and 60 refuse ------------------
 

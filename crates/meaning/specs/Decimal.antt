@@ -128,4 +128,4 @@ unfolding decimal value digits
 decimal-read n h =
     let v : value 0 (turned (backward n) []) ≡ n = turned-value (backward n) [] ∙ backward-weight n in
     digits-read (turned (backward n) []) (let a = turned-long (backward n) [] in let b = backward-long n in omega arith)
-      (turned-digits (backward n) [] (backward-digits n) refl) (subst (λ z. z < 2 ^ 64) (sym v) h) ∙ ap some v
+    (turned-digits (backward n) [] (backward-digits n) refl) (subst (λ z. z < 2 ^ 64) (sym v) h) ∙ ap some v

@@ -44,6 +44,7 @@ once-within t m = go (stored m t)
 
 mutual
   unfolding gather
+
   gather-within : (t : Tree) (m : Made) → Within m (gather t m)
   gather-within (var v) m = once-within (var v) m
   gather-within (app c ts) m = within-then m (gathers ts m) _ (gathers-within ts m) (once-within (app c ts) (gathers ts m))
@@ -95,8 +96,8 @@ mutual
   makes-holds none m s = (refl, s)
   makes-holds (more t ts) m s =
       then-holds (make t m) _ (gather t m) _ (make-holds t m s) (gathers-within ts (gather t m))
-        (λ _ k. then-holds (makes ts (gather t m)) _ (gathers ts (gather t m)) _ (makes-holds ts (gather t m) k)
-          (record { terms = omega arith; words = omega arith }) (λ _ l. (refl, l)))
+      (λ _ k. then-holds (makes ts (gather t m)) _ (gathers ts (gather t m)) _ (makes-holds ts (gather t m) k)
+      (record { terms = omega arith; words = omega arith }) (λ _ l. (refl, l)))
 
 -- it answers exactly where they are few enough
 unfoldable pub answers : {S A : Type 0} → Out S A → Bool

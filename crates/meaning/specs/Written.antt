@@ -156,7 +156,7 @@ atoms (bs ∷ bss) = cons (name bs) (atoms bss)
 unfoldable pub stepForm : Theory → Step → Form
 stepForm T s =
     group (cons (name (bytes "step")) (cons (name (s .index)) (cons (name (ruleName T (s .rule))) (cons (group (atoms (s .children)))
-      (cons (judgmentForm T (conclusion T s)) nil)))))
+    (cons (judgmentForm T (conclusion T s)) nil)))))
 
 -- (result NAME INDEX)
 unfoldable pub resultForm : List ℕ → List ℕ → Form

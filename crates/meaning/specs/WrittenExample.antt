@@ -47,7 +47,8 @@ pub twoNodes : Nodes exampleTheory [] twoSteps
 unfolding checking exampleTheory reached Nodes Names NamesAll conclusion Value arity ruleSort sig
 twoNodes = (
   record { known = omega arith; ground = λ i l. absurd (let z : ⊥ = omega arith in z); next = refl; children = tt },
-  (record { known = omega arith; ground = firstOfSort; next = refl; children = ((0, refl, refl), tt) }, tt))
+  (record { known = omega arith; ground = firstOfSort; next = refl; children = ((0, refl, refl), tt) }, tt),
+)
 
 unfoldable pub twoWritten : Written theory goals proof
 unfolding checking exampleTheory reached Nodes Names NamesAll conclusion conclusions Value arity ruleSort sig Writes marks mark spelling goalForms proofForms stepForm resultForm judgmentForm termForm applied symbolName ruleName atoms
@@ -63,7 +64,7 @@ twoWritten = record {
   goal = bytes "renewed";
   goals = refl;
   proof = refl;
-  plains = (refl, refl, refl)
+  plains = (refl, refl, refl);
 }
 
 pub two-inside : inside twoWritten ≡ true

@@ -105,7 +105,7 @@ three x a b f e =
       second = q′ .0;
       third = r .front;
       is = p .is ∙ ap (λ ys. list (consˢ (atom (p .place) a) ys)) (q .is ∙ ap₂ consˢ (q′ .1) (r .is ∙ ap (consˢ (r .front)) (nil-of (r .behind) (r .behinds))));
-      thirds = r .fronts
+      thirds = r .fronts;
     }
 
 -- The goal ------------------------------------------------------------------------------------------------------------------------
@@ -123,7 +123,7 @@ module _ (T : Theory) (n : List ℕ) (j : Tree) where
   -- the form, of which only the judgment has still to be made
   goal-begins : (p q : ℕ) (x : Sexp) (o : Out Made Tree) → judgment (begin T) x [] ≡ o
       → takeGoal (list (consˢ (atom p (bytes "goal")) (consˢ (atom q n) (consˢ x nilˢ)))) (begin T)
-        ≡ then (lifted (begin T) o) (λ i S. addGoal (atom q n) none i S)
+      ≡ then (lifted (begin T) o) (λ i S. addGoal (atom q n) none i S)
   unfolding takeGoal items item count nameˢ goal then
   goal-begins p q x o e =
       then-found 20 (goalForm (bytes "goal") 3) aGoal (begin T) _ goal-tag
@@ -139,13 +139,14 @@ pub goal-taken : (T : Theory) → WellFormed T → Named T → (n : List ℕ) (j
     → bare x ≡ group (cons (name (bytes "goal")) (cons (name n) (cons (judgmentForm T j) nil)))
     → (q : ℕ) × GoalTook T q n j (make j []) (takeGoal x (begin T))
 goal-taken T w nm n j c x e =
-    let h = three x (bytes "goal") n (judgmentForm T j) e in
-    (h .second,
+    let h = three x (bytes "goal") n (judgmentForm T j) e in (
+      h .second,
       subst (λ o. GoalTook T (h .second) n j (make j []) o)
-        (sym (ap (λ y. takeGoal y (begin T)) (h .is) ∙ goal-begins T n j (h .first) (h .second) (h .third) (make j [])
+          (sym (ap (λ y. takeGoal y (begin T)) (h .is) ∙ goal-begins T n j (h .first) (h .second) (h .third) (make j [])
           (judgment-read (begin T) refl w nm (c .head) (c .arguments) (h .third) [] (h .thirds ∙ ap (judgmentForm T) (c .is)) (c .known) (c .predicate) (c .values)
-            ∙ ap (λ i. make i []) (sym (c .is)))))
-        (goal-ends T n j (h .second) (make j []) (make-cases j [])))
+          ∙ ap (λ i. make i []) (sym (c .is)))))
+          (goal-ends T n j (h .second) (make j []) (make-cases j [])),
+    )
 
 -- A step --------------------------------------------------------------------------------------------------------------------------
 
@@ -200,8 +201,8 @@ module _ (T : Theory) (w : WellFormed T) (nm : Named T) (p : ℕ) (gn : List ℕ
   unfolding StepTook addStep lifted then
   step-stored xs f (ok a u) b made e d l =
       subst (λ o. StepTook T (awaited p gn j) fs f (ok (conclusion T s) u) b o)
-        (sym (then-same (making (step S xs) S) (lifted S (ok (f, 0) u)) _ (making-is (step S xs) S (ok (f, 0) u) e)))
-        (fact-stored u f b d l)
+      (sym (then-same (making (step S xs) S) (lifted S (ok (f, 0) u)) _ (making-is (step S xs) S (ok (f, 0) u) e)))
+      (fact-stored u f b d l)
   step-stored xs f (refuse k r u) true unmade e d l =
       record { row = r; state = withMade S u; is = then-same (making (step S xs) S) (lifted S (refuse 60 r u)) _ (making-is (step S xs) S (refuse 60 r u) e) }
   step-stored xs f (refuse k r u) false unmade e d l =
@@ -216,12 +217,12 @@ module _ (T : Theory) (w : WellFormed T) (nm : Named T) (p : ℕ) (gn : List ℕ
 
   step-begins : (t q r : ℕ) (ys : Sexps) (y : Sexp)
       → (let xs : Sexps = consˢ (atom t (bytes "step")) (consˢ (atom q (s .index)) (consˢ (atom r (ruleName T (s .rule))) (consˢ (list ys) (consˢ y nilˢ)))) in
-        takeForm (list xs) S ≡ addStep xs S)
+      takeForm (list xs) S ≡ addStep xs S)
   unfolding takeForm items item count nameˢ perform then
   step-begins t q r ys y =
       then-found 30 (proofTag (bytes "step") 5) aStep S _ step-tag
       ∙ then-ok (next (consˢ (atom t (bytes "step")) (consˢ (atom q (s .index)) (consˢ (atom r (ruleName T (s .rule))) (consˢ (list ys) (consˢ y nilˢ))))) S) tt S _
-        (next-read t q (consˢ (atom r (ruleName T (s .rule))) (consˢ (list ys) (consˢ y nilˢ))))
+      (next-read t q (consˢ (atom r (ruleName T (s .rule))) (consˢ (list ys) (consˢ y nilˢ))))
 
   pub step-taken : (x : Sexp) → bare x ≡ stepForm T s
       → (f : Fact) × Derived (conclusion T s) f × StepTook T (awaited p gn j) fs f (make (conclusion T s) m) (ltb (length fs) FACTS) (takeForm x S)
@@ -230,12 +231,14 @@ module _ (T : Theory) (w : WellFormed T) (nm : Named T) (p : ℕ) (gn : List ℕ
       go : (xs : Sexps) × (x ≡ list xs) × StepItems T s xs
           → (f : Fact) × Derived (conclusion T s) f × StepTook T (awaited p gn j) fs f (make (conclusion T s) m) (ltb (length fs) FACTS) (takeForm x S)
       go (xs, q, i) =
-          let r = step-read S refl w nm cs kept s n xs m i in
-          (r .0, r .1,
+          let r = step-read S refl w nm cs kept s n xs m i in (
+            r .0,
+            r .1,
             subst (λ o. StepTook T (awaited p gn j) fs (r .0) (make (conclusion T s) m) (ltb (length fs) FACTS) o)
-              (sym (ap (λ y. takeForm y S) q ∙ (ap (λ ys. takeForm (list ys) S) (i .is)
+                (sym (ap (λ y. takeForm y S) q ∙ (ap (λ ys. takeForm (list ys) S) (i .is)
                 ∙ (step-begins (i .tag) (i .own) (i .rules) (i .children) (i .stated) ∙ ap (λ ys. addStep ys S) (sym (i .is))))))
-              (step-stored xs (r .0) (make (conclusion T s) m) (ltb (length fs) FACTS) (make-cases (conclusion T s) m) (r .2) (r .1) refl))
+                (step-stored xs (r .0) (make (conclusion T s) m) (ltb (length fs) FACTS) (make-cases (conclusion T s) m) (r .2) (r .1) refl),
+          )
 
 -- The result ----------------------------------------------------------------------------------------------------------------------
 

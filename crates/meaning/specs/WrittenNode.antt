@@ -52,7 +52,7 @@ module _ (ρ : ℕ → Tree) where
     agrees = λ w t q. elim (bind-cases b v (ρ v) w) [
       | inl p ↦ ap ρ (p .0) ∙ some-same (sym (p .1) ∙ q)
       | inr p ↦ a w t (sym (p .1) ∙ q)
-    ]
+    ];
   }
   var-fits v b (some u) e a = record { bound = b; is = ap (λ z. elim z as (λ _. Option Bound) [ true ↦ some b | false ↦ nothing ]) (eq-sameTree u (ρ v) (sym (a v u e))); agrees = a }
 
@@ -61,7 +61,7 @@ module _ (ρ : ℕ → Tree) where
   app-fits c ps b f = record {
     bound = f .bound;
     is = ap (λ z. elim z as (λ _. Option Bound) [ true ↦ matchAll ps (subs ρ ps) b | false ↦ nothing ]) (eq-eqb c c refl) ∙ f .is;
-    agrees = f .agrees
+    agrees = f .agrees;
   }
 
   more-fits : (p t : Tree) (ps ts : Trees) (b : Bound) (f : Fits ρ (matches p t b)) → Fits ρ (matchAll ps ts (f .bound))
@@ -115,7 +115,7 @@ module _ (T : Theory) (s : Step) (cs : List Tree) (n : Node T cs s) where
     is = refl;
     known = j .0;
     predicate = j .1;
-    values = instance-values ts (inputs T p) (j .2)
+    values = instance-values ts (inputs T p) (j .2);
   }
 
   pub node-concludes : WellFormed T → Concludes T (conclusion T s)
@@ -179,11 +179,12 @@ module _ (S : State) (cs : List Tree) (kept : Recorded cs (S .facts)) where
   unfolding Names reference index nameˢ then factAt
   reference-read x bs t m e k =
       let a = atom-of x bs e in
-      let f = recorded-at cs (S .facts) (k .0) t kept (k .2) in
-      (record { judgment = f .0 .judgment; hyps = f .0 .hyps; footing = f .0 .footing; instances = 0 },
+      let f = recorded-at cs (S .facts) (k .0) t kept (k .2) in (
+        record { judgment = f .0 .judgment; hyps = f .0 .hyps; footing = f .0 .footing; instances = 0 },
         ap (λ y. reference S y m) (a .1)
-        ∙ (then-found 34 (indexOf bs) (k .0) m _ (k .1) ∙ then-found 34 (entry (S .facts) (k .0)) (f .0) m _ (f .1)),
-        record { judgment = f .2 .judgment; hyps = f .2 .hyps; instances = refl })
+            ∙ (then-found 34 (indexOf bs) (k .0) m _ (k .1) ∙ then-found 34 (entry (S .facts) (k .0)) (f .0) m _ (f .1)),
+        record { judgment = f .2 .judgment; hyps = f .2 .hyps; instances = refl },
+      )
 
   pub references-read : (bss : List (List ℕ)) (ts : Trees) (xs : Sexps) (m : Made) → bares xs ≡ atoms bss → NamesAll cs bss ts
       → (rs : Refs) × (references S xs m ≡ ok rs m) × ReferredAll ts rs
@@ -194,12 +195,13 @@ module _ (S : State) (cs : List Tree) (kept : Recorded cs (S .facts)) where
   references-read (bs ∷ bss) (more t ts) xs m e k =
       let q = cons-of xs (name bs) (atoms bss) e in
       let r = reference-read (q .front) bs t m (q .fronts) (k .0) in
-      let rs = references-read bss ts (q .behind) m (q .behinds) (k .1) in
-      (withRef (r .0) (rs .0),
+      let rs = references-read bss ts (q .behind) m (q .behinds) (k .1) in (
+        withRef (r .0) (rs .0),
         ap (λ ys. references S ys m) (q .is)
-        ∙ (then-ok (reference S (q .front) m) (r .0) m _ (r .1) ∙ then-ok (references S (q .behind) m) (rs .0) m _ (rs .1)),
+            ∙ (then-ok (reference S (q .front) m) (r .0) m _ (r .1) ∙ then-ok (references S (q .behind) m) (rs .0) m _ (rs .1)),
         record {
           judgments = ap₂ more (r .2 .judgment) (rs .2 .judgments);
           hyps = λ v. ap₂ (λ hs b. has hs v || b) (r .2 .hyps) (rs .2 .hyps v);
-          instances = ap₂ _+_ (r .2 .instances) (rs .2 .instances)
-        })
+          instances = ap₂ _+_ (r .2 .instances) (rs .2 .instances);
+        },
+      )

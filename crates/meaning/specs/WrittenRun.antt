@@ -118,7 +118,7 @@ module _ (T : Theory) (w : WellFormed T) (nm : Named T) (p : ℕ) (gn : List ℕ
   unfolding afterProof ended missing every report countOpen stepsAlone
   ends-well k m fs =
       ap (λ b. accepts (record { steps = length fs; goals = 1; openGoals = elim b as (λ _. ℕ) [ true ↦ 1 | false ↦ 0 ]; hypotheses = 0; inductions = 0; inversions = 0; instances = 0 }))
-        (ground-isOpen j (concludes-ground T j c))
+      (ground-isOpen j (concludes-ground T j c))
 
   -- a form that is too deep
   too-deep : (f : Form) (fs : Forms) (b : Bool) (n i k : ℕ) (S : State) → i ≡ 5 → shallow 0 f ≡ false
@@ -126,7 +126,7 @@ module _ (T : Theory) (w : WellFormed T) (nm : Named T) (p : ℕ) (gn : List ℕ
   unfolding shallows through afterProof refusedIn
   too-deep f fs b n i k S e h =
       out ((shallow 0 f && shallows 0 fs) && b) n _ (record { number = i; text = 3; form = k; detail = 0 })
-        (and-false (shallow 0 f && shallows 0 fs) b (and-false (shallow 0 f) (shallows 0 fs) h)) refl (inr (inl e))
+      (and-false (shallow 0 f && shallows 0 fs) b (and-false (shallow 0 f) (shallows 0 fs) h)) refl (inr (inl e))
 
   -- a form that is refused by question 60
   too-full : (x : Sexp) (q : ℕ) (t : Text) (b : Bool) (n k : ℕ) (S : State) → b ≡ false → Full (takeForm x S)
@@ -134,7 +134,7 @@ module _ (T : Theory) (w : WellFormed T) (nm : Named T) (p : ℕ) (gn : List ℕ
   unfolding afterProof refusedIn
   too-full x q t b n k S e h =
       out b n _ (record { number = 60; text = 3; form = k; detail = h .row }) e
-        (ap (λ z. afterProof z .answer) (through-off takeForm x q t k S 60 (h .row) (h .state) (h .is))) (inr (inr refl))
+      (ap (λ z. afterProof z .answer) (through-off takeForm x q t k S 60 (h .row) (h .state) (h .is))) (inr (inr refl))
 
   -- the result, last of all
   run-result : (x : Sexp) (q k : ℕ) (m : Made) (cs : List Tree) (fs : List Fact) → Recorded cs fs → Names cs r j → length cs ≤ FACTS
@@ -143,18 +143,18 @@ module _ (T : Theory) (w : WellFormed T) (nm : Named T) (p : ℕ) (gn : List ℕ
   unfolding Verdict through proofForms conclusions treesOf makes answers shallows
   run-result x q k m cs fs kept a l e sh =
       moved (going [] (length cs) m) true (length cs + 0) (length fs) _ (accepts (stepsAlone (length fs)))
-        (ap₂ (λ b d. (b && true) && (d && true)) sh (le-leb (length cs + 0) FACTS (omega arith)))
-        (let z = recorded-length cs fs kept in omega arith)
-        (ap (λ z. afterProof z .answer) (through-ok takeForm x q ends k (at m fs) _ (result-taken T p gn j m cs fs kept x r e a)) ∙ ends-well (suc k) m fs)
-        refl
+      (ap₂ (λ b d. (b && true) && (d && true)) sh (le-leb (length cs + 0) FACTS (omega arith)))
+      (let z = recorded-length cs fs kept in omega arith)
+      (ap (λ z. afterProof z .answer) (through-ok takeForm x q ends k (at m fs) _ (result-taken T p gn j m cs fs kept x r e a)) ∙ ends-well (suc k) m fs)
+      refl
 
   -- a step, by what became of it; h: the run behind it
   run-step : (s : Step) (ss : List Step) (x : Sexp) (q : ℕ) (t : Text) (k : ℕ) (m : Made) (cs : List Tree) (fs : List Fact) (f : Fact)
       → length fs ≡ length cs → shallow 0 (stepForm T s) ≡ true → (o : Out Made Tree) → make (conclusion T s) m ≡ o → (b : Bool) → ltb (length fs) FACTS ≡ b
       → StepTook T (awaited p gn j) fs f o b (takeForm x (at m fs))
       → ((u : Made) → suc (length cs) ≤ FACTS
-        → Verdict (going ss (length (cs ++ (conclusion T s ∷ []))) u) (length (cs ++ (conclusion T s ∷ [])) + length ss)
-          (afterProof (through takeForm t (suc k) (at u (fs ++ (f ∷ [])))) .answer))
+      → Verdict (going ss (length (cs ++ (conclusion T s ∷ []))) u) (length (cs ++ (conclusion T s ∷ [])) + length ss)
+      (afterProof (through takeForm t (suc k) (at u (fs ++ (f ∷ [])))) .answer))
       → Verdict (going (s ∷ ss) (length cs) m) (length cs + length (s ∷ ss)) (afterProof (through takeForm (moreᵗ x q t) k (at m fs)) .answer)
   unfolding StepTook proofForms conclusions treesOf shallows
   run-step s ss x q t k m cs fs f l sh (ok a u) e true b took h =
@@ -162,21 +162,21 @@ module _ (T : Theory) (w : WellFormed T) (nm : Named T) (p : ℕ) (gn : List ℕ
       let small = ltb-true (length fs) FACTS b in
       let same : length cs + suc (length ss) ≡ length (cs ++ (conclusion T s ∷ [])) + length ss = omega arith in
       moved (going (s ∷ ss) (length cs) m) (going ss (length (cs ++ (conclusion T s ∷ []))) u) _ _ _ _
-        (ap₂ (λ y z. (y && shallows 0 (proofForms T ss gn r)) && (leb (length cs + suc (length ss)) FACTS && z)) sh (makes-on (conclusion T s) (treesOf (conclusions T ss)) m u a e)
-          ∙ ap (λ n. shallows 0 (proofForms T ss gn r) && (leb n FACTS && answers (makes (treesOf (conclusions T ss)) u))) same)
-        same
-        (ap (λ z. afterProof z .answer) (through-ok takeForm x q t k (at m fs) (at u (fs ++ (f ∷ []))) took))
-        (h u (omega arith))
+      (ap₂ (λ y z. (y && shallows 0 (proofForms T ss gn r)) && (leb (length cs + suc (length ss)) FACTS && z)) sh (makes-on (conclusion T s) (treesOf (conclusions T ss)) m u a e)
+      ∙ ap (λ n. shallows 0 (proofForms T ss gn r) && (leb n FACTS && answers (makes (treesOf (conclusions T ss)) u))) same)
+      same
+      (ap (λ z. afterProof z .answer) (through-ok takeForm x q t k (at m fs) (at u (fs ++ (f ∷ []))) took))
+      (h u (omega arith))
   run-step s ss x q t k m cs fs f l sh (ok a u) e false b took h =
       let large = ltb-false (length fs) FACTS b in
       too-full x q t (going (s ∷ ss) (length cs) m) _ k (at m fs)
-        (and-off (shallows 0 (proofForms T (s ∷ ss) gn r)) _ (and-false (leb (length cs + suc (length ss)) FACTS) _ (lt-leb (length cs + suc (length ss)) FACTS (omega arith)))) took
+      (and-off (shallows 0 (proofForms T (s ∷ ss) gn r)) _ (and-false (leb (length cs + suc (length ss)) FACTS) _ (lt-leb (length cs + suc (length ss)) FACTS (omega arith)))) took
   run-step s ss x q t k m cs fs f l sh (refuse n d u) e true b took h =
       too-full x q t (going (s ∷ ss) (length cs) m) _ k (at m fs)
-        (and-off (shallows 0 (proofForms T (s ∷ ss) gn r)) _ (and-off (leb (length cs + suc (length ss)) FACTS) _ (makes-off (conclusion T s) (treesOf (conclusions T ss)) m u n d e))) took
+      (and-off (shallows 0 (proofForms T (s ∷ ss) gn r)) _ (and-off (leb (length cs + suc (length ss)) FACTS) _ (makes-off (conclusion T s) (treesOf (conclusions T ss)) m u n d e))) took
   run-step s ss x q t k m cs fs f l sh (refuse n d u) e false b took h =
       too-full x q t (going (s ∷ ss) (length cs) m) _ k (at m fs)
-        (and-off (shallows 0 (proofForms T (s ∷ ss) gn r)) _ (and-off (leb (length cs + suc (length ss)) FACTS) _ (makes-off (conclusion T s) (treesOf (conclusions T ss)) m u n d e))) took
+      (and-off (shallows 0 (proofForms T (s ∷ ss) gn r)) _ (and-off (leb (length cs + suc (length ss)) FACTS) _ (makes-off (conclusion T s) (treesOf (conclusions T ss)) m u n d e))) took
 
   pub run : (ss : List Step) (text : Text) (k : ℕ) (m : Made) (cs : List Tree) (fs : List Fact) → Recorded cs fs → Nodes T cs ss
       → Names (cs ++ conclusions T ss) r j → length cs ≤ FACTS → Reads (proofForms T ss gn r) text
@@ -193,6 +193,6 @@ module _ (T : Theory) (w : WellFormed T) (nm : Named T) (p : ℕ) (gn : List ℕ
   run (s ∷ ss) (moreᵗ x q t) k m cs fs kept n a l rd =
       let st = step-taken T w nm p gn j m cs fs kept s (n .0) x (rd .0) in
       run-step s ss x q t k m cs fs (st .0) (recorded-length cs fs kept) (rd .1) (make (conclusion T s) m) refl (ltb (length fs) FACTS) refl (st .2)
-        (λ u small. run ss t (suc k) u (cs ++ (conclusion T s ∷ [])) (fs ++ (st .0 ∷ [])) (recorded-snoc cs fs (conclusion T s) (st .0) kept (st .1)) (n .1)
-          (subst (λ z. Names z r j) (sym (append-assoc cs (conclusion T s ∷ []) (conclusions T ss))) a)
-          (let long = length-append cs (conclusion T s ∷ []) in omega arith) (rd .2))
+      (λ u small. run ss t (suc k) u (cs ++ (conclusion T s ∷ [])) (fs ++ (st .0 ∷ [])) (recorded-snoc cs fs (conclusion T s) (st .0) kept (st .1)) (n .1)
+      (subst (λ z. Names z r j) (sym (append-assoc cs (conclusion T s ∷ []) (conclusions T ss))) a)
+      (let long = length-append cs (conclusion T s ∷ []) in omega arith) (rd .2))

@@ -93,18 +93,21 @@ step-items T s x e =
     let c′ = atom-of (c .front) (ruleName T (s .rule)) (c .fronts) in
     let d = cons-of (c .behind) (group (atoms (s .children))) _ (c .behinds) in
     let d′ = list-of (d .front) (atoms (s .children)) (d .fronts) in
-    let f = cons-of (d .behind) (judgmentForm T (conclusion T s)) nil (d .behinds) in
-    (consˢ (atom (a .place) (bytes "step")) (a .behind), a .is, record {
-      tag = a .place;
-      own = b′ .0;
-      rules = c′ .0;
-      children = d′ .0;
-      stated = f .front;
-      is = ap (consˢ (atom (a .place) (bytes "step"))) (b .is ∙ ap₂ consˢ (b′ .1) (c .is ∙ ap₂ consˢ (c′ .1) (d .is ∙ ap₂ consˢ (d′ .1)
-        (f .is ∙ ap (consˢ (f .front)) (nil-of (f .behind) (f .behinds))))));
-      childrens = d′ .2;
-      stateds = f .fronts
-    })
+    let f = cons-of (d .behind) (judgmentForm T (conclusion T s)) nil (d .behinds) in (
+      consˢ (atom (a .place) (bytes "step")) (a .behind),
+      a .is,
+      record {
+        tag = a .place;
+        own = b′ .0;
+        rules = c′ .0;
+        children = d′ .0;
+        stated = f .front;
+        is = ap (consˢ (atom (a .place) (bytes "step"))) (b .is ∙ ap₂ consˢ (b′ .1) (c .is ∙ ap₂ consˢ (c′ .1) (d .is ∙ ap₂ consˢ (d′ .1)
+            (f .is ∙ ap (consˢ (f .front)) (nil-of (f .behind) (f .behinds))))));
+        childrens = d′ .2;
+        stateds = f .fronts;
+      },
+    )
 
 module _ (S : State) (free : S .vars ≡ []) (w : WellFormed (S .theory)) (nm : Named (S .theory)) (cs : List Tree) (kept : Recorded cs (S .facts))
     (s : Step) (n : Node (S .theory) cs s) where
@@ -144,7 +147,7 @@ module _ (S : State) (free : S .vars ≡ []) (w : WellFormed (S .theory)) (nm : 
       let y : Sexp = list (consˢ (atom (h .3 .place) (symbolName T (h .0))) (h .3 .behind)) in
       ap (λ z. readItem S R z noItems m) (h .3 .is)
       ∙ (if-false (marked (symbolName T (h .0)) && eqb (count (consˢ (atom (h .3 .place) (symbolName T (h .0))) (h .3 .behind))) 2) _ _ m
-          (and-false (marked (symbolName T (h .0))) _ (not-marked T w nm (h .0) (h .2)))
+      (and-false (marked (symbolName T (h .0))) _ (not-marked T w nm (h .0) (h .2)))
       ∙ (then-same (judgment S y m) (make goal m) (λ j m₁. ok (stating j) m₁) (judgment-made y m (ap bare (sym (h .3 .is)) ∙ e))
       ∙ answer-then (λ j m₁. ok (stating j) m₁) (λ _ m₁. ok (stating goal) m₁) (make-ok goal m) (λ m₁. refl)))
 
@@ -158,8 +161,14 @@ module _ (S : State) (free : S .vars ≡ []) (w : WellFormed (S .theory)) (nm : 
 
   -- the fact of the step, where the children give rs
   abbrev factOf : Refs → Tree → Fact
-  factOf rs j = record { judgment = j; hyps = rising (length (S .facts)) (rs .hyps); assumed = false; premises = none; general = [];
-    footing = rising (length (T .rules)) (union (has (s .rule ∷ [])) (rs .footing)) }
+  factOf rs j = record {
+    judgment = j;
+    hyps = rising (length (S .facts)) (rs .hyps);
+    assumed = false;
+    premises = none;
+    general = [];
+    footing = rising (length (T .rules)) (union (has (s .rule ∷ [])) (rs .footing));
+  }
 
   abbrev answer : Refs → Tree → Fact × ℕ
   answer rs j = (factOf rs j, rs .instances)
@@ -171,10 +180,10 @@ module _ (S : State) (free : S .vars ≡ []) (w : WellFormed (S .theory)) (nm : 
   -- conclusion and premises match, and no variable is there to be outside
   matched-step : (rs : Refs) (m : Made) → ReferredAll (subs (s .replacement) (R .premises)) rs
       → then (found 38 (matchStated (R .conclusion) (some goal) unbound) m) (λ b m₁.
-        then (found 38 (matchAll (R .premises) (rs .judgments) b) m₁) (λ c m₂.
-        then (conclude (R .conclusion) (some goal) c m₂) (λ j m₃.
-        then (scoped S (union (variablesOf (rs .judgments)) (variablesOf none)) j (rising (length (S .facts)) (rs .hyps)) m₃) (λ _ m₄.
-        ok (answer rs j) m₄))))
+      then (found 38 (matchAll (R .premises) (rs .judgments) b) m₁) (λ c m₂.
+      then (conclude (R .conclusion) (some goal) c m₂) (λ j m₃.
+      then (scoped S (union (variablesOf (rs .judgments)) (variablesOf none)) j (rising (length (S .facts)) (rs .hyps)) m₃) (λ _ m₄.
+      ok (answer rs j) m₄))))
       ≡ ok (factOf rs goal, 0) m
   unfolding matchStated conclude conclusion then Agrees
   matched-step rs m h =
@@ -189,13 +198,15 @@ module _ (S : State) (free : S .vars ≡ []) (w : WellFormed (S .theory)) (nm : 
   pub step-read : (xs : Sexps) (m : Made) → StepItems T s xs → (f : Fact) × Derived goal f × (step S xs m ≡ then (make goal m) (λ _ m′. ok (f, 0) m′))
   unfolding step items item rest nameˢ then
   step-read xs m i =
-      let rs = references-read S cs kept (s .children) (subs (s .replacement) (R .premises)) (i .children) m (i .childrens) (n .children) in
-      (factOf (rs .0) goal, fact-derived (rs .0) (rs .2),
+      let rs = references-read S cs kept (s .children) (subs (s .replacement) (R .premises)) (i .children) m (i .childrens) (n .children) in (
+        factOf (rs .0) goal,
+        fact-derived (rs .0) (rs .2),
         ap (λ ys. step S ys m) (i .is)
-        ∙ (then-found 33 (ruleNamed T (ruleName T (s .rule))) (s .rule) m _ rule-found
-        ∙ (then-ask 37 (eqb (count (i .children)) (countTrees (R .premises))) m _ (eq-eqb (count (i .children)) (countTrees (R .premises))
+            ∙ (then-found 33 (ruleNamed T (ruleName T (s .rule))) (s .rule) m _ rule-found
+            ∙ (then-ask 37 (eqb (count (i .children)) (countTrees (R .premises))) m _ (eq-eqb (count (i .children)) (countTrees (R .premises))
             (count-names cs (s .children) (subs (s .replacement) (R .premises)) (i .children) (n .children) (i .childrens) ∙ count-subs (s .replacement) (R .premises)))
-        ∙ (then-ok (references S (i .children) m) (rs .0) m _ (rs .1)
-        ∙ (then-same (readItems S R (consˢ (i .stated) nilˢ) noItems m) (then (make goal m) (λ _ m′. ok (stating goal) m′)) _ (items-read (i .stated) m (i .stateds))
-        ∙ (then-then (make goal m) (λ _ m′. ok (stating goal) m′) _
-        ∙ then-each (make goal m) _ _ (λ _ m′. matched-step (rs .0) m′ (rs .2))))))))
+            ∙ (then-ok (references S (i .children) m) (rs .0) m _ (rs .1)
+            ∙ (then-same (readItems S R (consˢ (i .stated) nilˢ) noItems m) (then (make goal m) (λ _ m′. ok (stating goal) m′)) _ (items-read (i .stated) m (i .stateds))
+            ∙ (then-then (make goal m) (λ _ m′. ok (stating goal) m′) _
+            ∙ then-each (make goal m) _ _ (λ _ m′. matched-step (rs .0) m′ (rs .2))))))),
+      )

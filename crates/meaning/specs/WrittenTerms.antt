@@ -155,7 +155,7 @@ module _ (S : State) (free : S .vars ≡ []) (w : WellFormed (S .theory)) (n : N
   keep-all c ts o m e v =
       then-same o (makes ts m) _ e
       ∙ answer-then _ (λ _ m₁. keep (app c ts) m₁) (makes-ok ts m)
-        (λ m₁. then-ask 23 (fit T (S .vars) ts (inputs T c)) m₁ (λ _ m₂. keep (app c ts) m₂) (values-fit ts (inputs T c) v))
+      (λ m₁. then-ask 23 (fit T (S .vars) ts (inputs T c)) m₁ (λ _ m₂. keep (app c ts) m₂) (values-fit ts (inputs T c) v))
 
   -- a constructor over arguments that are read back
   applied-read : (c : ℕ) (ts : Trees) (x : Sexp) (m : Made) → bare x ≡ applied (symbolName T c) (termForms T ts) → c < length (T .symbols)
@@ -179,7 +179,7 @@ module _ (S : State) (free : S .vars ≡ []) (w : WellFormed (S .theory)) (n : N
     term-read (var v) s x m e a p = absurd a
     term-read (app c ts) s x m e a p =
         applied-read c ts x m e (a .0) (let q = a .1 in omega arith) (a .2)
-          (λ xs m′ f. terms-read ts (inputs T c) xs m′ f (a .2) (inputs-sorts T w n c (a .0)))
+        (λ xs m′ f. terms-read ts (inputs T c) xs m′ f (a .2) (inputs-sorts T w n c (a .0)))
 
     pub terms-read : (ts : Trees) (ss : List ℕ) (xs : Sexps) (m : Made) → bares xs ≡ termForms T ts → Values (sig T) ts ss → All (IsSort T) ss
         → terms S xs m ≡ makes ts m
@@ -190,8 +190,8 @@ module _ (S : State) (free : S .vars ≡ []) (w : WellFormed (S .theory)) (n : N
         ap (λ ys. terms S ys m) (q .is)
         ∙ (then-same (term S (q .front) m) (make t m) _ (term-read t s (q .front) m (q .fronts) (a .0) (i .positive))
         ∙ answer-then _ (λ _ m₁. then (makes ts m₁) (λ _ m₂. ok (more t ts) m₂)) (make-ok t m)
-          (λ m₁. then-same (terms S (q .behind) m₁) (makes ts m₁) (λ us m₂. ok (more t us) m₂) (terms-read ts ss (q .behind) m₁ (q .behinds) (a .1) is)
-            ∙ answer-then (λ us m₂. ok (more t us) m₂) (λ _ m₂. ok (more t ts) m₂) (makes-ok ts m₁) (λ m₂. refl)))
+        (λ m₁. then-same (terms S (q .behind) m₁) (makes ts m₁) (λ us m₂. ok (more t us) m₂) (terms-read ts ss (q .behind) m₁ (q .behinds) (a .1) is)
+        ∙ answer-then (λ us m₂. ok (more t us) m₂) (λ _ m₂. ok (more t ts) m₂) (makes-ok ts m₁) (λ m₂. refl)))
 
   -- a judgment: a predicate over ground terms
   pub judgment-read : (p : ℕ) (ts : Trees) (x : Sexp) (m : Made) → bare x ≡ judgmentForm T (app p ts) → p < length (T .symbols) → output T p ≡ 0

@@ -53,25 +53,25 @@ module _ (T : Theory) (w : WellFormed T) (nm : Named T) (gn : List ℕ) (j : Tre
   goal-behind q x i sh (ok b m) f took =
       let same : length ss ≡ 0 + length ss = omega arith in
       moved within _ (length ss) (0 + length ss) _ _
-        (ap₂ (λ y z. (y && shallows 0 (proofForms T ss gn r)) && (leb (length ss) FACTS && z)) sh
-            (makes-few (more j (treesOf (conclusions T ss))) ∙ makes-on j (treesOf (conclusions T ss)) [] m b f)
-          ∙ ap (λ k. shallows 0 (proofForms T ss gn r) && (leb k FACTS && answers (makes (treesOf (conclusions T ss)) m))) same)
-        same
-        (ap (λ z. afterGoals proof z .answer) (whole-one takeGoal x i (begin T) ∙ through-ok takeGoal x i ends 0 (begin T) (stateOf T m (awaited q gn j) []) took))
-        (run T w nm q gn j c r ss (read proof) 0 m [] [] tt n a (omega arith) rp)
+      (ap₂ (λ y z. (y && shallows 0 (proofForms T ss gn r)) && (leb (length ss) FACTS && z)) sh
+      (makes-few (more j (treesOf (conclusions T ss))) ∙ makes-on j (treesOf (conclusions T ss)) [] m b f)
+      ∙ ap (λ k. shallows 0 (proofForms T ss gn r) && (leb k FACTS && answers (makes (treesOf (conclusions T ss)) m))) same)
+      same
+      (ap (λ z. afterGoals proof z .answer) (whole-one takeGoal x i (begin T) ∙ through-ok takeGoal x i ends 0 (begin T) (stateOf T m (awaited q gn j) []) took))
+      (run T w nm q gn j c r ss (read proof) 0 m [] [] tt n a (omega arith) rp)
   goal-behind q x i sh (refuse k d m) f took =
       out within (length ss) _ (record { number = 60; text = 2; form = 0; detail = took .row })
-        (and-off (shallows 0 (goalForms T gn j) && shallows 0 (proofForms T ss gn r)) _
-          (and-off (leb (length ss) FACTS) _ (makes-few (more j (treesOf (conclusions T ss))) ∙ makes-off j (treesOf (conclusions T ss)) [] m k d f)))
-        (ap (λ z. afterGoals proof z .answer) (whole-one takeGoal x i (begin T) ∙ through-off takeGoal x i ends 0 (begin T) 60 (took .row) (took .state) (took .is)))
-        (inr (inr refl))
+      (and-off (shallows 0 (goalForms T gn j) && shallows 0 (proofForms T ss gn r)) _
+      (and-off (leb (length ss) FACTS) _ (makes-few (more j (treesOf (conclusions T ss))) ∙ makes-off j (treesOf (conclusions T ss)) [] m k d f)))
+      (ap (λ z. afterGoals proof z .answer) (whole-one takeGoal x i (begin T) ∙ through-off takeGoal x i ends 0 (begin T) 60 (took .row) (took .state) (took .is)))
+      (inr (inr refl))
 
   pub goals-read : (text : Text) → Reads (goalForms T gn j) text → Verdict within (length ss) (afterGoals proof (whole takeGoal text (begin T)) .answer)
   unfolding goalForms Reads whole unread afterGoals refusedIn shallows
   goals-read ends rd = absurd rd
   goals-read (fails i) rd =
       out within (length ss) _ (record { number = i; text = 2; form = 0; detail = 0 })
-        (and-false _ (roomy T j ss) (and-false _ (shallows 0 (proofForms T ss gn r)) (and-false _ true (rd .1)))) refl (inr (inl (rd .0)))
+      (and-false _ (roomy T j ss) (and-false _ (shallows 0 (proofForms T ss gn r)) (and-false _ true (rd .1)))) refl (inr (inl (rd .0)))
   goals-read (moreᵗ x i ends) rd =
       let g = goal-taken T w nm gn j c x (rd .0) in
       goal-behind (g .0) x i (ap (λ b. b && true) (rd .1)) (make j []) refl (g .1)

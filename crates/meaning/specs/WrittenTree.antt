@@ -85,13 +85,16 @@ conclusions-length T (s ∷ xs) = ap suc (conclusions-length T xs)
 nodes-append : (T : Theory) (xs ys : List Step) (cs : List Tree) → Nodes T cs xs → Nodes T (cs ++ conclusions T xs) ys → Nodes T cs (xs ++ ys)
 unfolding Nodes conclusions
 nodes-append T [] ys cs n h = subst (λ l. Nodes T l ys) (append-nil cs) h
-nodes-append T (s ∷ xs) ys cs n h =
-    (n .0, nodes-append T xs ys (cs ++ (conclusion T s ∷ [])) (n .1)
-      (subst (λ l. Nodes T l ys) (sym (append-assoc cs (conclusion T s ∷ []) (conclusions T xs))) h))
+nodes-append T (s ∷ xs) ys cs n h = (
+  n .0,
+  nodes-append T xs ys (cs ++ (conclusion T s ∷ [])) (n .1)
+      (subst (λ l. Nodes T l ys) (sym (append-assoc cs (conclusion T s ∷ []) (conclusions T xs))) h),
+)
 
 -- one step for each node
 mutual
   unfolding below postorder
+
   pub postorder-length : {T : Theory} {R : ℕ → Type 0} {j : Tree} (k : ℕ) (d : Der T R j) → length (postorder k d) ≡ suc (below d)
   postorder-length k (node r ρ j u v ds e) = let h = postorders-length k ds in length-append (postorders k ds) _ ∙ (let z : length (postorders k ds) + 1 ≡ suc (nodesOf ds) = omega arith in z)
 
@@ -121,16 +124,19 @@ root-lists T cs ss r ρ is j n u v e h q l =
     let s : Step = record { rule = r; replacement = ρ; index = decimal n; children = is } in
     let long : n ≡ length (cs ++ conclusions T ss) = (let a = length-append cs (conclusions T ss) in let b = conclusions-length T ss in omega arith) in
     record {
-      nodes = nodes-append T ss (s ∷ []) cs (h .nodes) (record {
-        known = u;
-        ground = v;
-        next = decimal-read n l ∙ ap some long;
-        children = h .names
-      }, tt);
+      nodes = nodes-append T ss (s ∷ []) cs (h .nodes) (
+        record {
+          known = u;
+          ground = v;
+          next = decimal-read n l ∙ ap some long;
+          children = h .names;
+        },
+        tt,
+      );
       concludes =
-        ap (λ z. entry (cs ++ z) n) (conclusions-append T ss (s ∷ []))
-        ∙ (ap (λ z. entry z n) (sym (append-assoc cs (conclusions T ss) (conclusion T s ∷ [])))
-        ∙ (entry-seam (cs ++ conclusions T ss) (conclusion T s) n long ∙ ap some e))
+          ap (λ z. entry (cs ++ z) n) (conclusions-append T ss (s ∷ []))
+          ∙ (ap (λ z. entry z n) (sym (append-assoc cs (conclusions T ss) (conclusion T s ∷ [])))
+          ∙ (entry-seam (cs ++ conclusions T ss) (conclusion T s) n long ∙ ap some e));
     }
 
 -- one derivation behind others
@@ -142,7 +148,7 @@ both-lists T cs xs ys j js i is l a b =
     record {
       nodes = nodes-append T xs ys cs (a .nodes) (b .nodes);
       names = subst (λ z. NamesAll z (decimal i ∷ is) (more j js)) same
-        ((i, decimal-read i l, entry-front (cs ++ conclusions T xs) (conclusions T ys) i j (a .concludes)), b .names)
+          ((i, decimal-read i l, entry-front (cs ++ conclusions T xs) (conclusions T ys) i j (a .concludes)), b .names);
     }
 
 -- behind k conclusions
@@ -153,17 +159,17 @@ module _ (T : Theory) (R : ℕ → Type 0) (rules : (r : ℕ) → R r → RuleOf
     postorder-lists : {j : Tree} (d : Der T R j) (k : ℕ) (cs : List Tree) → k ≡ length cs → k + below d < 2 ^ 64 → Lists T cs (postorder k d) j (k + below d)
     postorder-lists (node r ρ j u v ds e) k cs q l =
         root-lists T cs (postorders k ds) r ρ (roots k ds) j (k + nodesOf ds) (rules r u) v e
-          (postorders-lists ds k cs q (omega arith)) (let a = postorders-length k ds in omega arith) l
+        (postorders-lists ds k cs q (omega arith)) (let a = postorders-length k ds in omega arith) l
 
     postorders-lists : {js : Trees} (ds : Ders T R js) (k : ℕ) (cs : List Tree) → k ≡ length cs → k + nodesOf ds ≤ 2 ^ 64
         → ListsAll T cs (postorders k ds) js (roots k ds)
     postorders-lists leaf k cs q l = record { nodes = tt; names = tt }
     postorders-lists (both t ts d ds) k cs q l =
         both-lists T cs (postorder k d) (postorders (k + suc (below d)) ds) t ts (k + below d) (roots (k + suc (below d)) ds) (omega arith)
-          (postorder-lists d k cs q (omega arith))
-          (postorders-lists ds (k + suc (below d)) (cs ++ conclusions T (postorder k d))
-            (let a = postorder-length k d in let b = conclusions-length T (postorder k d) in let c = length-append cs (conclusions T (postorder k d)) in omega arith)
-            (omega arith))
+        (postorder-lists d k cs q (omega arith))
+        (postorders-lists ds (k + suc (below d)) (cs ++ conclusions T (postorder k d))
+        (let a = postorder-length k d in let b = conclusions-length T (postorder k d) in let c = length-append cs (conclusions T (postorder k d)) in omega arith)
+        (omega arith))
 
 -- texts of a derivation's nodes in post-order are a written derivation
 pub tree-written : (t g p : List ℕ) (T : Theory) (k : ℕ) → whole declare (read t) noTheory ≡ done k T → (j : Tree) (d : Derivable T j)
@@ -185,7 +191,7 @@ tree-written t g p T k e j d l n wg wp ps =
       goal = n;
       goals = wg;
       proof = wp;
-      plains = ps
+      plains = ps;
     }
 
 -- What is written is derivable ------------------------------------------------------------------------------------------------------
@@ -211,8 +217,8 @@ module _ (T : Theory) where
   nodes-derivable [] cs a n = λ i t e. a i t (ap (λ z. entry z i) (sym (append-nil cs)) ∙ e)
   nodes-derivable (s ∷ ss) cs a n =
       λ i t e. nodes-derivable ss (cs ++ (conclusion T s ∷ []))
-        (λ k u f. elim (entry-or cs (conclusion T s) k u f) [ inl q ↦ a k u q | inr q ↦ subst (λ z. Derivable T z) q (node-derivable cs s a (n .0)) ])
-        (n .1) i t (ap (λ z. entry z i) (append-assoc cs (conclusion T s ∷ []) (conclusions T ss)) ∙ e)
+      (λ k u f. elim (entry-or cs (conclusion T s) k u f) [ inl q ↦ a k u q | inr q ↦ subst (λ z. Derivable T z) q (node-derivable cs s a (n .0)) ])
+      (n .1) i t (ap (λ z. entry z i) (append-assoc cs (conclusion T s ∷ []) (conclusions T ss)) ∙ e)
 
 -- the judgment of a written derivation has a derivation
 pub written-derivable : {t g p : List ℕ} (w : Written t g p) → Derivable (w .theory) (w .judgment)
