@@ -1,22 +1,20 @@
 -- Demand 3's last sentence: every written derivation is accepted exactly when it stays inside the limits. `derivation-accepted` is the
 -- theorem; what it speaks of is defined in Written. Assumes nothing.
-use Prim.Native.Nat.{ℕ, zero, suc}
+use Prim.Native.Nat.{ℕ, suc}
 use native.Mathlib.Omega.{arith}
-use mathlib.Core.Path.{_≡_, refl, sym, _∙_, ap, subst}
-use mathlib.Core.Logic.{_⊎_, inl, inr}
+use mathlib.Core.Path.{_≡_, refl, _∙_, ap, subst}
+use mathlib.Core.Logic.{_⊎_, inl}
 use mathlib.Core.Bool.{Bool, true, false, _&&_}
-use mathlib.Core.List.{List, [], _∷_}
+use mathlib.Core.List.{List, []}
 use lib.ListN.{length}
 use Rattle.rules.specs.Text.{short, plain}
 use Rattle.rules.specs.Sexp.{read}
-use Rattle.rules.specs.Theory.{noTheory}
 use Rattle.rules.specs.TheoryLaws.{WellFormed}
 use Rattle.rules.specs.NameLaws.{Named, theory-named}
-use Rattle.rules.specs.Declare.{declare}
 use Rattle.rules.specs.DeclareLaws.{reached, theory-formed}
 use Rattle.rules.specs.State.{begin}
 use Rattle.rules.specs.Proof.{takeGoal}
-use Rattle.rules.specs.Judge.{done, whole}
+use Rattle.rules.specs.Judge.{whole}
 use Rattle.rules.specs.Check.{Report, Refusal, accepts, refuses, refusedIn, afterGoals, afterTheory, firstFailing, readable, fitting, check}
 use Rattle.meaning.specs.Written.{Names, goalForms, proofForms, Written, inside, stepsAlone, Verdict}
 use Rattle.meaning.specs.WrittenRead.{text-read}

@@ -2,11 +2,11 @@
 -- "A written derivation has a theory that is not refused; its goals text is one goal, the root's judgment, without listed hypotheses. Its
 -- proof has for each node one `step`, under the next index and behind its children's, with the node's rule, the children in order by bare
 -- index and the conclusion; last comes the `result` with the root's index, and there is no other form."
-use Prim.Native.Nat.{ℕ, zero, suc, _<_}
-use mathlib.Core.Path.{_≡_, refl}
+use Prim.Native.Nat.{ℕ, suc, _<_}
+use mathlib.Core.Path.{_≡_}
 use mathlib.Core.Logic.{_⊎_}
 use mathlib.Core.Bool.{Bool, true, false, _&&_}
-use mathlib.Core.Option.{Option, some, none as nothing}
+use mathlib.Core.Option.{some}
 use mathlib.Core.List.{List, [], _∷_, _++_}
 use lib.Dec.{leb}
 use lib.ListN.{length, getD}

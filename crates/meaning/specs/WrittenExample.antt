@@ -3,12 +3,11 @@
 use Prim.Native.Nat.{ℕ, zero, suc, _<_}
 use native.Mathlib.Omega.{arith}
 use mathlib.Core.Path.{_≡_, refl}
-use mathlib.Core.Bool.{Bool, true, false}
+use mathlib.Core.Bool.{true}
 use mathlib.Core.List.{List, [], _∷_}
 use Rattle.rules.specs.Text.{bytes}
 use Rattle.rules.specs.Sexp.{read}
-use Rattle.rules.specs.Tree.{Tree, Trees, var, app, none, more}
-use Rattle.rules.specs.Store.{storing}
+use Rattle.rules.specs.Tree.{Tree, app, none, more}
 use Rattle.rules.specs.Theory.{Theory, noTheory, rule}
 use Rattle.rules.specs.Declare.{declare}
 use Rattle.rules.specs.DeclareLaws.{reached}
@@ -16,7 +15,7 @@ use Rattle.rules.specs.Judge.{whole}
 use Rattle.rules.specs.Check.{accepts, check, checking}
 use Rattle.rules.specs.Examples.{theory}
 use Rattle.meaning.specs.Signature.{sig, Value, arity, ruleSort}
-use Rattle.meaning.specs.Written.{marks, mark, spelling, Writes, shallow, symbolName, ruleName, applied, termForm, judgmentForm, Step, conclusion, conclusions, Names, NamesAll, Node, Nodes, goalForms, atoms, stepForm, resultForm, proofForms, Written, treesOf, once, gather, few, roomy, inside, stepsAlone}
+use Rattle.meaning.specs.Written.{marks, mark, spelling, Writes, shallow, symbolName, ruleName, applied, termForm, judgmentForm, Step, conclusion, conclusions, Names, NamesAll, Nodes, goalForms, atoms, stepForm, resultForm, proofForms, Written, treesOf, once, gather, few, roomy, inside, stepsAlone}
 use Rattle.meaning.specs.Accepted.{inside-accepted}
 
 unfoldable pub exampleTheory : Theory

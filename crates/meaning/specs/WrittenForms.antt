@@ -1,37 +1,37 @@
 -- The forms of a written derivation as a check takes them: the goal, a step, the result. A goal or step is taken where its judgment can be
 -- made and stored, and refused by question 60 elsewhere; the result is taken. Assumes nothing.
-use Prim.Native.Nat.{ℕ, zero, suc, _+_, _≤_, _<_}
+use Prim.Native.Nat.{ℕ, _+_}
 use native.Mathlib.Omega.{arith}
 use mathlib.Core.Path.{_≡_, refl, sym, _∙_, ap, ap₂, subst}
-use mathlib.Core.Bool.{Bool, true, false, _&&_, _||_, not}
+use mathlib.Core.Bool.{Bool, true, false}
 use mathlib.Core.Option.{Option, some, none as nothing}
 use mathlib.Core.List.{List, [], _∷_, _++_}
-use lib.Dec.{eqb, leb, ltb}
+use lib.Dec.{leb, ltb}
 use lib.ListN.{length}
 use borrow.Author.Tests.{eq-eqb, le-leb}
-use Rattle.rules.specs.Limits.{GOALS, FACTS, ENTRIES}
-use Rattle.rules.specs.Text.{bytes, same}
-use Rattle.rules.specs.Out.{Out, ok, refuse, then, ask, room, found}
-use Rattle.rules.specs.Sexp.{Sexp, Sexps, atom, list, nil as nilˢ, cons as consˢ, count, item, Name, name as nameˢ, items}
+use Rattle.rules.specs.Limits.{FACTS, ENTRIES}
+use Rattle.rules.specs.Text.{bytes}
+use Rattle.rules.specs.Out.{Out, ok, refuse, then, ask, room}
+use Rattle.rules.specs.Sexp.{Sexp, Sexps, atom, list, nil as nilˢ, cons as consˢ, count, item, name as nameˢ, items}
 use Rattle.rules.specs.Find.{first, entry, all, change}
 use Rattle.rules.specs.Index.{indexOf}
 use Rattle.rules.specs.Tags.{aStep, aResult, proofTag, aGoal, goalForm, tagging}
-use Rattle.rules.specs.Tree.{Tree, Trees, var, app, none, more, sameTree, countTrees}
+use Rattle.rules.specs.Tree.{Tree, none, sameTree, countTrees}
 use Rattle.rules.specs.Store.{Made, make}
 use Rattle.rules.specs.Theory.{Theory}
 use Rattle.rules.specs.TheoryLaws.{WellFormed}
 use Rattle.rules.specs.NameLaws.{Named, same-refl}
-use Rattle.rules.specs.State.{State, Fact, Goal, Counts, noCounts, begin, goalNamed, factEntries, allEntries, goalEntries, entries}
+use Rattle.rules.specs.State.{State, Fact, Goal, noCounts, begin, goalNamed, factEntries, allEntries, goalEntries, entries}
 use Rattle.rules.specs.Declare.{isNew}
 use Rattle.rules.specs.Read.{index, judgment}
 use Rattle.rules.specs.Reference.{Ref, reference}
 use Rattle.rules.specs.Step.{step}
-use Rattle.rules.specs.Proof.{withMade, withFacts, making, plus, someInstances, addGoal, goal, takeGoal, addFact, addStep, listed, takenGoal, result, next, perform, takeForm}
+use Rattle.rules.specs.Proof.{withMade, making, plus, someInstances, addGoal, goal, takeGoal, addFact, addStep, listed, takenGoal, result, next, perform, takeForm}
 use Rattle.meaning.specs.TreeTests.{eq-sameTree}
-use Rattle.meaning.specs.UnifyActs.{Ok, done, stopped, Grows, fits, full, StoreRow, make-ok, make-grows}
-use Rattle.meaning.specs.Written.{Form, Forms, name, group, nil, cons, ruleName, judgmentForm, Step, conclusion, Names, Node, atoms, stepForm, resultForm, goalForms}
-use Rattle.meaning.specs.WrittenRead.{bare, bares}
-use Rattle.meaning.specs.WrittenTerms.{no, atom-of, list-of, nil-of, cons-of, Split, Headed, headed, then-found, then-ask, then-ok, then-same, judgment-read}
+use Rattle.meaning.specs.UnifyActs.{Ok, done, Grows, full, StoreRow, make-ok, make-grows}
+use Rattle.meaning.specs.Written.{Form, name, group, nil, cons, ruleName, judgmentForm, Step, conclusion, Names, Node, stepForm, resultForm}
+use Rattle.meaning.specs.WrittenRead.{bare}
+use Rattle.meaning.specs.WrittenTerms.{atom-of, nil-of, cons-of, headed, then-found, then-ask, then-ok, then-same, judgment-read}
 use Rattle.meaning.specs.WrittenNode.{Concludes, Derived, Recorded, recorded-length, Referred, reference-read}
 use Rattle.meaning.specs.WrittenStep.{StepItems, step-items, step-read}
 

@@ -1,39 +1,33 @@
 -- One node of a written derivation: its conclusion is a ground judgment, its rule matches, its children are found, and so its step is taken
 -- as soon as the conclusion is made. Assumes nothing.
-use Prim.Native.Nat.{ℕ, zero, suc, _+_, _≤_, _<_}
-use native.Mathlib.Omega.{arith}
+use Prim.Native.Nat.{ℕ, zero, suc, _+_, _<_}
 use mathlib.Core.Path.{_≡_, refl, sym, _∙_, ap, ap₂, subst}
-use mathlib.Core.Logic.{_⊎_, inl, inr}
-use mathlib.Core.Bool.{Bool, true, false, _&&_, _||_}
+use mathlib.Core.Logic.{inl, inr}
+use mathlib.Core.Bool.{true, false, _||_}
 use mathlib.Core.Option.{Option, some, none as nothing}
 use mathlib.Core.List.{List, [], _∷_, _++_}
-use lib.Dec.{eqb}
-use lib.ListN.{length, getD}
+use lib.ListN.{length}
 use borrow.Author.Tests.{eq-eqb}
-use Rattle.rules.specs.Text.{bytes}
-use Rattle.rules.specs.Out.{Out, ok, refuse, then, ask, found}
-use Rattle.rules.specs.Sexp.{Sexp, Sexps, atom, list, nil as nilˢ, cons as consˢ, count, item, rest, name as nameˢ, items, marked}
-use Rattle.rules.specs.Find.{Set, entry, has, risingFrom, rising, leastFrom, least}
+use Rattle.rules.specs.Out.{ok, then}
+use Rattle.rules.specs.Sexp.{Sexp, Sexps, name as nameˢ}
+use Rattle.rules.specs.Find.{entry, has}
 use Rattle.rules.specs.Index.{indexOf}
-use Rattle.rules.specs.Tree.{Tree, Trees, var, app, none, more, sameTree, sub, subs, countTrees, variablesOf}
-use Rattle.rules.specs.Store.{Made, make}
-use Rattle.rules.specs.Theory.{Theory, noRule, inputs, output, rule, ruleNamed}
-use Rattle.rules.specs.TheoryLaws.{WellFormed, RuleFormed, Sorted, Sorteds, sortIn, all-at, Judgment, Judgments}
-use Rattle.rules.specs.NameLaws.{Own, Named}
-use Rattle.rules.specs.Match.{Bound, unbound, bind, matchVar, andThen, matches, matchAll}
+use Rattle.rules.specs.Tree.{Tree, Trees, var, app, none, more, sub, subs}
+use Rattle.rules.specs.Store.{Made}
+use Rattle.rules.specs.Theory.{Theory, noRule, inputs, output, rule}
+use Rattle.rules.specs.TheoryLaws.{WellFormed, Sorted, Sorteds, sortIn, all-at, Judgment}
+use Rattle.rules.specs.Match.{Bound, bind, matchVar, andThen, matches, matchAll}
 use Rattle.rules.specs.State.{State, Fact}
 use Rattle.rules.specs.Read.{index, judgment}
-use Rattle.rules.specs.Declare.{isNew}
-use Rattle.rules.specs.Reference.{Ref, factAt, reference, outside, scoped}
-use Rattle.rules.specs.Step.{Refs, noRefs, withRef, references, Items, noItems, stateItem, readItem, readItems, matchStated, conclude, step}
-use Rattle.meaning.specs.Tree.{count-subs}
+use Rattle.rules.specs.Reference.{Ref, factAt, reference}
+use Rattle.rules.specs.Step.{Refs, noRefs, withRef, references}
 use Rattle.meaning.specs.TreeTests.{eq-sameTree}
 use Rattle.meaning.specs.Matching.{Agrees, bind-cases}
 use Rattle.meaning.specs.Asked.{some-same}
 use Rattle.meaning.specs.Signature.{sig, Value, Values, arity, ruleSort}
-use Rattle.meaning.specs.Written.{Form, Forms, name, group, nil, cons, symbolName, ruleName, judgmentForm, Step, conclusion, Names, NamesAll, Node, atoms, stepForm}
+use Rattle.meaning.specs.Written.{name, Step, conclusion, Names, NamesAll, Node, atoms}
 use Rattle.meaning.specs.WrittenRead.{bare, bares}
-use Rattle.meaning.specs.WrittenTerms.{no, atom-of, list-of, nil-of, cons-of, Split, headed, then-found, then-ask, then-ok, then-same, answer-then, if-false, judgment-read}
+use Rattle.meaning.specs.WrittenTerms.{no, atom-of, nil-of, cons-of, then-found, then-ok}
 
 -- Matching ------------------------------------------------------------------------------------------------------------------------
 

@@ -1,11 +1,11 @@
 -- The proof text of a written derivation from any step on: it is accepted where it stays inside the limits, and refused by question 5 or 60
 -- elsewhere. Assumes nothing.
-use Prim.Native.Nat.{ℕ, zero, suc, _+_, _≤_, _<_}
+use Prim.Native.Nat.{ℕ, zero, suc, _+_, _≤_}
 use native.Mathlib.Omega.{arith}
 use mathlib.Core.Path.{_≡_, refl, sym, _∙_, ap, ap₂, subst}
 use mathlib.Core.Logic.{_⊎_, inl, inr}
-use mathlib.Core.Bool.{Bool, true, false, _&&_, not}
-use mathlib.Core.Option.{Option, some, none as nothing}
+use mathlib.Core.Bool.{Bool, true, false, _&&_}
+use mathlib.Core.Option.{some}
 use mathlib.Core.List.{List, [], _∷_, _++_, append-assoc, append-nil}
 use lib.Dec.{leb, ltb}
 use lib.ListN.{length, length-append}
@@ -14,22 +14,22 @@ use Rattle.rules.specs.Limits.{FACTS}
 use Rattle.rules.specs.Out.{Out, ok, refuse, then, Act}
 use Rattle.rules.specs.Sexp.{Sexp, Text, ends, fails, more as moreᵗ}
 use Rattle.rules.specs.Find.{entry, every}
-use Rattle.rules.specs.Tree.{Tree, Trees, var, app, none, more, isOpen}
+use Rattle.rules.specs.Tree.{Tree, Trees, var, app, none, more}
 use Rattle.rules.specs.Store.{Made, make, makes}
 use Rattle.rules.specs.Theory.{Theory}
 use Rattle.rules.specs.TheoryLaws.{WellFormed}
 use Rattle.rules.specs.NameLaws.{Named}
-use Rattle.rules.specs.State.{State, Fact, Goal}
+use Rattle.rules.specs.State.{State, Fact}
 use Rattle.rules.specs.Proof.{takenGoal, takeForm}
 use Rattle.rules.specs.Judge.{Judged, done, refused, through}
-use Rattle.rules.specs.Check.{Refusal, Answer, accepts, refuses, Outcome, refusedIn, countOpen, report, missing, ended, afterProof}
+use Rattle.rules.specs.Check.{Refusal, Answer, accepts, refuses, refusedIn, countOpen, report, missing, ended, afterProof}
 use Rattle.meaning.specs.Tree.{Ground, Grounds}
 use Rattle.meaning.specs.TreeTests.{ground-isOpen}
 use Rattle.meaning.specs.Signature.{sig, Value, Values}
-use Rattle.meaning.specs.Written.{Form, Forms, nil, cons, shallow, shallows, Step, conclusion, conclusions, Names, Node, Nodes, stepForm, resultForm, proofForms, treesOf, stepsAlone, Verdict}
+use Rattle.meaning.specs.Written.{Form, Forms, nil, cons, shallow, shallows, Step, conclusion, conclusions, Names, Nodes, stepForm, resultForm, proofForms, treesOf, stepsAlone, Verdict}
 use Rattle.meaning.specs.Gather.{answers}
 use Rattle.meaning.specs.WrittenRead.{bare, Reads}
-use Rattle.meaning.specs.WrittenNode.{Concludes, node-concludes, Derived, Recorded, recorded-length, recorded-snoc}
+use Rattle.meaning.specs.WrittenNode.{Concludes, node-concludes, Recorded, recorded-length, recorded-snoc}
 use Rattle.meaning.specs.WrittenStep.{and-false}
 use Rattle.meaning.specs.WrittenForms.{stateOf, awaited, Full, StepTook, step-taken, result-taken}
 

@@ -1,41 +1,36 @@
 -- The step of a node: once its conclusion is made, it is a fact that rests on nothing. Assumes nothing.
-use Prim.Native.Nat.{ℕ, zero, suc, _+_, _≤_, _<_}
-use native.Mathlib.Omega.{arith}
-use mathlib.Core.Path.{_≡_, refl, sym, _∙_, ap, ap₂, subst}
-use mathlib.Core.Bool.{Bool, true, false, _&&_, _||_}
-use mathlib.Core.Option.{Option, some, none as nothing}
-use mathlib.Core.List.{List, [], _∷_, _++_}
-use lib.Dec.{eqb, leb, ltb}
-use lib.ListN.{length, getD}
-use borrow.Author.Tests.{eq-eqb, le-leb}
-use Rattle.rules.specs.Limits.{FACTS, ENTRIES}
+use Prim.Native.Nat.{ℕ, zero, suc, _<_}
+use mathlib.Core.Path.{_≡_, refl, sym, _∙_, ap, ap₂}
+use mathlib.Core.Bool.{Bool, true, false, _&&_}
+use mathlib.Core.Option.{some}
+use mathlib.Core.List.{List, [], _∷_}
+use lib.Dec.{eqb}
+use lib.ListN.{length}
+use borrow.Author.Tests.{eq-eqb}
 use Rattle.rules.specs.Text.{bytes}
-use Rattle.rules.specs.Out.{Out, ok, refuse, then, ask, room, found}
+use Rattle.rules.specs.Out.{Out, ok, refuse, then, found}
 use Rattle.rules.specs.OutLaws.{then-then}
 use Rattle.rules.specs.Sexp.{Sexp, Sexps, atom, list, nil as nilˢ, cons as consˢ, count, item, rest, name as nameˢ, items, marked}
-use Rattle.rules.specs.Find.{Set, union, minus, entry, has, risingFrom, rising, leastFrom, least}
-use Rattle.rules.specs.Index.{indexOf}
-use Rattle.rules.specs.Tags.{Tag, aStep, proofTag, tagging}
-use Rattle.rules.specs.Tree.{Tree, Trees, var, app, none, more, sub, subs, countTrees, variables, variablesOf}
+use Rattle.rules.specs.Find.{Set, union, minus, has, risingFrom, rising, leastFrom, least}
+use Rattle.rules.specs.Tree.{Tree, Trees, none, more, subs, countTrees, variables, variablesOf}
 use Rattle.rules.specs.Store.{Made, make}
 use Rattle.rules.specs.Theory.{Theory, Rule, rule, ruleNamed}
 use Rattle.rules.specs.TheoryLaws.{WellFormed}
 use Rattle.rules.specs.NameLaws.{Own, Named}
-use Rattle.rules.specs.Match.{Bound, unbound, matches, matchAll}
-use Rattle.rules.specs.State.{State, Fact, Goal, Var, hypVars, Counts, noCounts, factEntries, allEntries, goalEntries, entries}
+use Rattle.rules.specs.Match.{unbound, matches, matchAll}
+use Rattle.rules.specs.State.{State, Fact, Var, hypVars}
 use Rattle.rules.specs.Read.{index, judgment}
 use Rattle.rules.specs.Declare.{isNew}
 use Rattle.rules.specs.Reference.{outside, scoped}
 use Rattle.rules.specs.Step.{Refs, references, Items, noItems, stateItem, readItem, readItems, matchStated, conclude, step}
-use Rattle.rules.specs.Proof.{withMade, withFacts, making, plus, someInstances, addFact, addStep, next, perform, takeForm}
 use Rattle.meaning.specs.Tree.{count-subs}
-use Rattle.meaning.specs.UnifyActs.{Grows, fits, full, StoreRow, make-ok, make-grows}
+use Rattle.meaning.specs.UnifyActs.{make-ok}
 use Rattle.meaning.specs.Matching.{Agrees}
 use Rattle.meaning.specs.Asked.{no-some}
-use Rattle.meaning.specs.Written.{Form, Forms, name, group, nil, cons, symbolName, ruleName, judgmentForm, Step, conclusion, NamesAll, Node, atoms, stepForm, termForms}
+use Rattle.meaning.specs.Written.{Forms, name, group, nil, cons, symbolName, ruleName, judgmentForm, Step, conclusion, NamesAll, Node, atoms, stepForm, termForms}
 use Rattle.meaning.specs.WrittenRead.{bare, bares}
-use Rattle.meaning.specs.WrittenTerms.{no, atom-of, list-of, nil-of, cons-of, Split, Headed, headed, then-found, then-ask, then-ok, then-same, answer-then, if-false, not-marked, judgment-read}
-use Rattle.meaning.specs.WrittenNode.{Fits, instance-fits, instances-fit, Concludes, node-concludes, Derived, Recorded, recorded-length, ReferredAll, references-read}
+use Rattle.meaning.specs.WrittenTerms.{list-of, nil-of, cons-of, Split, Begun, begun, Headed, headed, then-found, then-ask, then-ok, then-same, answer-then, if-false, not-marked, judgment-read}
+use Rattle.meaning.specs.WrittenNode.{instance-fits, instances-fit, node-concludes, Derived, Recorded, ReferredAll, references-read}
 
 -- Actions -------------------------------------------------------------------------------------------------------------------------
 
@@ -83,31 +78,36 @@ pub record StepItems (T : Theory) (s : Step) (xs : Sexps) : Type 0 where
   pub childrens : bares children ≡ atoms (s .children)
   pub stateds : bare stated ≡ judgmentForm T (conclusion T s)
 
+-- from the items one by one
+items-of : (T : Theory) (s : Step) (x : Sexp) {k l m : Forms} (a : Headed x (bytes "step") k) (b : Begun (a .behind) (s .index) l)
+    (c : Begun (b .behind) (ruleName T (s .rule)) m) (d : Split (c .behind) (group (atoms (s .children))) (cons (judgmentForm T (conclusion T s)) nil))
+    (ys : Sexps) → d .front ≡ list ys → bares ys ≡ atoms (s .children) → (f : Split (d .behind) (judgmentForm T (conclusion T s)) nil)
+    → (xs : Sexps) × (x ≡ list xs) × StepItems T s xs
+items-of T s x a b c d ys e h f = (
+  consˢ (atom (a .place) (bytes "step")) (a .behind),
+  a .is,
+  record {
+    tag = a .place;
+    own = b .place;
+    rules = c .place;
+    children = ys;
+    stated = f .front;
+    is = ap (consˢ (atom (a .place) (bytes "step"))) (b .is ∙ ap (consˢ (atom (b .place) (s .index)))
+        (c .is ∙ ap (consˢ (atom (c .place) (ruleName T (s .rule)))) (d .is ∙ ap₂ consˢ e (f .is ∙ ap (consˢ (f .front)) (nil-of (f .behind) (f .behinds))))));
+    childrens = h;
+    stateds = f .fronts;
+  },
+)
+
 pub step-items : (T : Theory) (s : Step) (x : Sexp) → bare x ≡ stepForm T s → (xs : Sexps) × (x ≡ list xs) × StepItems T s xs
 unfolding stepForm
 step-items T s x e =
     let a = headed x (bytes "step") _ e in
-    let b = cons-of (a .behind) (name (s .index)) _ (a .behinds) in
-    let b′ = atom-of (b .front) (s .index) (b .fronts) in
-    let c = cons-of (b .behind) (name (ruleName T (s .rule))) _ (b .behinds) in
-    let c′ = atom-of (c .front) (ruleName T (s .rule)) (c .fronts) in
+    let b = begun (a .behind) (s .index) _ (a .behinds) in
+    let c = begun (b .behind) (ruleName T (s .rule)) _ (b .behinds) in
     let d = cons-of (c .behind) (group (atoms (s .children))) _ (c .behinds) in
-    let d′ = list-of (d .front) (atoms (s .children)) (d .fronts) in
-    let f = cons-of (d .behind) (judgmentForm T (conclusion T s)) nil (d .behinds) in (
-      consˢ (atom (a .place) (bytes "step")) (a .behind),
-      a .is,
-      record {
-        tag = a .place;
-        own = b′ .0;
-        rules = c′ .0;
-        children = d′ .0;
-        stated = f .front;
-        is = ap (consˢ (atom (a .place) (bytes "step"))) (b .is ∙ ap₂ consˢ (b′ .1) (c .is ∙ ap₂ consˢ (c′ .1) (d .is ∙ ap₂ consˢ (d′ .1)
-            (f .is ∙ ap (consˢ (f .front)) (nil-of (f .behind) (f .behinds))))));
-        childrens = d′ .2;
-        stateds = f .fronts;
-      },
-    )
+    let y = list-of (d .front) (atoms (s .children)) (d .fronts) in
+    items-of T s x a b c d (y .0) (y .1) (y .2) (cons-of (d .behind) (judgmentForm T (conclusion T s)) nil (d .behinds))
 
 module _ (S : State) (free : S .vars ≡ []) (w : WellFormed (S .theory)) (nm : Named (S .theory)) (cs : List Tree) (kept : Recorded cs (S .facts))
     (s : Step) (n : Node (S .theory) cs s) where

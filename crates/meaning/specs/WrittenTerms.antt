@@ -1,24 +1,24 @@
 -- Ground terms and judgments that are written in their own theory are read back: reading them is making them. Assumes nothing.
-use Prim.Native.Nat.{ℕ, zero, suc, _≤_, _<_}
+use Prim.Native.Nat.{ℕ, suc, _≤_, _<_}
 use native.Mathlib.Omega.{arith}
-use mathlib.Core.Path.{_≡_, refl, sym, _∙_, ap, ap₂, subst}
-use mathlib.Core.Bool.{Bool, true, false, _&&_}
-use mathlib.Core.Option.{Option, some, none as nothing}
+use mathlib.Core.Path.{_≡_, refl, sym, _∙_, ap}
+use mathlib.Core.Bool.{Bool, true, false}
+use mathlib.Core.Option.{Option, some}
 use mathlib.Core.List.{List, [], _∷_}
 use lib.Dec.{eqb, leb}
-use lib.ListN.{length, getD}
+use lib.ListN.{length}
 use borrow.Author.Tests.{eq-eqb, ne-eqb, le-leb}
-use Rattle.rules.specs.Out.{Out, ok, refuse, then, Act, ask, found}
+use Rattle.rules.specs.Out.{Out, ok, then, Act, ask, found}
 use Rattle.rules.specs.Sexp.{Sexp, Sexps, atom, list, nil as nilˢ, cons as consˢ, count, item, rest, name as nameˢ, items, marked}
 use Rattle.rules.specs.Find.{first}
 use Rattle.rules.specs.Tree.{Tree, Trees, var, app, none, more}
 use Rattle.rules.specs.Store.{Made, keep, make, makes}
 use Rattle.rules.specs.Theory.{Theory, noSymbol, isPredicate, inputs, output, constructorNamed, predicateNamed}
-use Rattle.rules.specs.TheoryLaws.{All, empty, both, IsSort, WellFormed, all-at}
+use Rattle.rules.specs.TheoryLaws.{All, both, IsSort, WellFormed, all-at}
 use Rattle.rules.specs.NameLaws.{Own, Named}
 use Rattle.rules.specs.State.{State, sortOf, fit, varNamed, isEmpty}
-use Rattle.rules.specs.Read.{named, term, compound, terms, judgment}
-use Rattle.meaning.specs.TreeTests.{true-and, true-false}
+use Rattle.rules.specs.Read.{named, term, terms, judgment}
+use Rattle.meaning.specs.TreeTests.{true-and}
 use Rattle.meaning.specs.UnifyActs.{Ok, done, stopped, make-ok, makes-ok}
 use Rattle.meaning.specs.Signature.{sig, Value, Values}
 use Rattle.meaning.specs.Written.{Form, Forms, name, group, nil, cons, symbolName, applied, termForm, termForms, judgmentForm}
@@ -56,7 +56,20 @@ unfolding bare
 cons-of nilˢ f fs e = no cc
 cons-of (consˢ y ys) f fs e = record { front = y; behind = ys; is = refl; fronts = cc; behinds = cc }
 
--- a list that begins with an atom
+-- items that begin with an atom
+pub record Begun (xs : Sexps) (n : List ℕ) (fs : Forms) : Type 0 where
+  pub place : ℕ
+  pub behind : Sexps
+  pub is : xs ≡ consˢ (atom place n) behind
+  pub behinds : bares behind ≡ fs
+
+pub begun : (xs : Sexps) (n : List ℕ) (fs : Forms) → bares xs ≡ cons (name n) fs → Begun xs n fs
+begun xs n fs e =
+    let c = cons-of xs (name n) fs e in
+    let a = atom-of (c .front) n (c .fronts) in
+    record { place = a .0; behind = c .behind; is = c .is ∙ ap (λ y. consˢ y (c .behind)) (a .1); behinds = c .behinds }
+
+-- a list that begins so
 pub record Headed (x : Sexp) (n : List ℕ) (fs : Forms) : Type 0 where
   pub place : ℕ
   pub behind : Sexps
@@ -66,9 +79,8 @@ pub record Headed (x : Sexp) (n : List ℕ) (fs : Forms) : Type 0 where
 pub headed : (x : Sexp) (n : List ℕ) (fs : Forms) → bare x ≡ group (cons (name n) fs) → Headed x n fs
 headed x n fs e =
     let l = list-of x (cons (name n) fs) e in
-    let c = cons-of (l .0) (name n) fs (l .2) in
-    let a = atom-of (c .front) n (c .fronts) in
-    record { place = a .0; behind = c .behind; is = l .1 ∙ ap list (c .is ∙ ap (λ y. consˢ y (c .behind)) (a .1)); behinds = c .behinds }
+    let b = begun (l .0) n fs (l .2) in
+    record { place = b .place; behind = b .behind; is = l .1 ∙ ap list (b .is); behinds = b .behinds }
 
 pub count-bares : (xs : Sexps) (T : Theory) (t : Tree) (ts : Trees) → bares xs ≡ termForms T (more t ts) → leb 1 (count xs) ≡ true
 unfolding bare count termForm

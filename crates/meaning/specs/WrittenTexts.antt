@@ -1,35 +1,31 @@
 -- The goals text of a written derivation, and what is asked of the three texts before they are read. Assumes nothing.
-use Prim.Native.Nat.{ℕ, zero, suc, _+_}
+use Prim.Native.Nat.{ℕ, suc, _+_}
 use native.Mathlib.Omega.{arith}
-use mathlib.Core.Path.{_≡_, refl, sym, _∙_, ap, ap₂, subst}
-use mathlib.Core.Logic.{_⊎_, inl, inr}
+use mathlib.Core.Path.{_≡_, refl, _∙_, ap, ap₂}
+use mathlib.Core.Logic.{inl, inr}
 use mathlib.Core.Bool.{Bool, true, false, _&&_}
-use mathlib.Core.Option.{Option, some, none as nothing}
-use mathlib.Core.List.{List, [], _∷_, _++_}
-use lib.Dec.{eqb, leb}
+use mathlib.Core.List.{List, []}
+use lib.Dec.{leb}
 use lib.ListN.{length}
 use Rattle.rules.specs.Limits.{FACTS}
-use Rattle.rules.specs.Text.{short, plain}
 use Rattle.rules.specs.Out.{Out, ok, refuse, Act}
 use Rattle.rules.specs.Sexp.{Sexp, atom, list, Text, ends, fails, more as moreᵗ, read}
-use Rattle.rules.specs.Tree.{Tree, Trees, none, more}
+use Rattle.rules.specs.Tree.{Tree, more}
 use Rattle.rules.specs.Store.{Made, make, makes}
-use Rattle.rules.specs.Theory.{Theory, noTheory}
+use Rattle.rules.specs.Theory.{Theory}
 use Rattle.rules.specs.TheoryLaws.{WellFormed}
-use Rattle.rules.specs.NameLaws.{Named, theory-named}
-use Rattle.rules.specs.Declare.{declare}
-use Rattle.rules.specs.DeclareLaws.{reached, theory-formed}
-use Rattle.rules.specs.State.{State, begin}
-use Rattle.rules.specs.Proof.{takeGoal, takeForm}
-use Rattle.rules.specs.Judge.{Judged, done, refused, through, unread, whole}
-use Rattle.rules.specs.Check.{Refusal, Answer, accepts, refuses, refusedIn, afterProof, afterGoals, afterTheory, firstFailing, readable, fitting, check}
-use Rattle.meaning.specs.Written.{Forms, cons, nil, shallow, shallows, Step, conclusions, Names, Nodes, goalForms, proofForms, Written, treesOf, gathers, few, roomy, inside, stepsAlone, Verdict}
+use Rattle.rules.specs.NameLaws.{Named}
+use Rattle.rules.specs.State.{begin}
+use Rattle.rules.specs.Proof.{takeGoal}
+use Rattle.rules.specs.Judge.{through, unread, whole}
+use Rattle.rules.specs.Check.{refusedIn, afterGoals, firstFailing}
+use Rattle.meaning.specs.Written.{shallows, Step, conclusions, Names, Nodes, goalForms, proofForms, treesOf, roomy, Verdict}
 use Rattle.meaning.specs.Gather.{answers, makes-few}
-use Rattle.meaning.specs.WrittenRead.{bare, Reads, text-read}
+use Rattle.meaning.specs.WrittenRead.{Reads}
 use Rattle.meaning.specs.WrittenNode.{Concludes, Recorded}
 use Rattle.meaning.specs.WrittenStep.{and-false}
-use Rattle.meaning.specs.WrittenForms.{stateOf, awaited, Full, GoalTook, goal-taken}
-use Rattle.meaning.specs.WrittenRun.{nodes-conclude, out, moved, through-ok, through-off, makes-on, makes-off, and-off, run}
+use Rattle.meaning.specs.WrittenForms.{stateOf, awaited, GoalTook, goal-taken}
+use Rattle.meaning.specs.WrittenRun.{out, moved, through-ok, through-off, makes-on, makes-off, and-off, run}
 
 -- The goals text ------------------------------------------------------------------------------------------------------------------
 

@@ -5,11 +5,10 @@ use native.Mathlib.Omega.{arith}
 use mathlib.Core.Path.{_≡_, refl, sym, _∙_, ap, ap₂, subst}
 use mathlib.Core.Logic.{_⊎_, inl, inr}
 use mathlib.Core.Bool.{true}
-use mathlib.Core.Option.{Option, some, none as nothing}
+use mathlib.Core.Option.{some}
 use mathlib.Core.List.{List, [], _∷_, _++_, append-assoc, append-nil}
 use lib.ListN.{length, length-append}
 use Rattle.rules.specs.Find.{entry}
-use Rattle.rules.specs.Index.{indexOf}
 use Rattle.rules.specs.Tree.{Tree, Trees, none, more, sub, subs}
 use Rattle.rules.specs.Theory.{Theory, noTheory, rule}
 use Rattle.rules.specs.Text.{plain}

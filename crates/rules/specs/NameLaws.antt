@@ -1,6 +1,6 @@
 -- In every theory that a text declares, a symbol's or rule's own name finds it again: names are new among constructors, among predicates and
 -- among rules, and none starts with `?`. Assumes nothing.
-use Prim.Native.Nat.{ℕ, zero, suc, _+_, _<_, _≤_}
+use Prim.Native.Nat.{ℕ, suc, _+_, _<_, _≤_}
 use mathlib.Core.Path.{_≡_, refl, sym, ap, _∙_, subst}
 use mathlib.Core.Bool.{Bool, true, false, _&&_, not}
 use mathlib.Core.Logic.{_⊎_, inl, inr}
@@ -9,20 +9,20 @@ use mathlib.Core.List.{List, [], _∷_, _++_}
 use native.Mathlib.Omega.{arith}
 use native.Mathlib.Decide.{decLt}
 use borrow.Author.Tests.{eq-eqb, eqb-true}
-use lib.Dec.{eqb, ltb}
+use lib.Dec.{ltb}
 use lib.ListN.{length, getD, length-append}
 use lib.Seq.{getD-append-seam}
 use Rattle.rules.specs.Limits.{SORTS, SYMBOLS, ARGUMENTS, RULES}
 use Rattle.rules.specs.Text.{same}
-use Rattle.rules.specs.Out.{Out, ok, refuse, then, Act, ask, room, found}
-use Rattle.rules.specs.OutLaws.{Ok, fine, off, of-ok, by-then, by-name, by-items, by-ask, by-room, by-found, by-beside, by-assoc}
-use Rattle.rules.specs.Sexp.{Sexp, Sexps, atom, list, nil, cons, count, item, Name, name, items, marked, Text, ends, fails, more, read}
+use Rattle.rules.specs.Out.{Out, ok, refuse, then, ask, room}
+use Rattle.rules.specs.OutLaws.{Ok, fine, off, of-ok, by-name, by-items, by-ask, by-room, by-found, by-beside, by-assoc}
+use Rattle.rules.specs.Sexp.{Sexp, Sexps, nil, cons, count, item, Name, name, marked, Text, ends, fails, more, read}
 use Rattle.rules.specs.Find.{first}
-use Rattle.rules.specs.FindLaws.{First, first-some, getD-front}
+use Rattle.rules.specs.FindLaws.{first-some, getD-front}
 use Rattle.rules.specs.Tags.{Declaration, aSort, aCtor, aPred, aRule, declaration}
-use Rattle.rules.specs.Theory.{Symbol, Rule, Theory, noTheory, noName, noSymbol, noRule, sortNamed, isPredicate, predicateNamed, constructorNamed, ruleNamed, rule, ruleWords}
+use Rattle.rules.specs.Theory.{Symbol, Rule, Theory, noTheory, noName, noSymbol, noRule, sortNamed, isPredicate, predicateNamed, constructorNamed, ruleNamed, ruleWords}
 use Rattle.rules.specs.Declare.{isNew, properName, sort, sorts, schema, addSort, addSymbol, addCtor, addPred, addRule, declareAs, declare}
-use Rattle.rules.specs.Judge.{Judged, done, refused, through, unread, whole}
+use Rattle.rules.specs.Judge.{refused, through, unread, whole}
 use Rattle.rules.specs.DeclareLaws.{reached}
 
 -- First entries ----------------------------------------------------------------------------------------------------------------
