@@ -32,7 +32,7 @@ pub mod BridgeCase
 pub mod BridgeNames
 pub mod BridgeInvert
 pub mod Written
-pub mod WrittenExample
+pub mod Gather
 pub mod WrittenRead
 pub mod Ends
 pub mod Took
@@ -44,3 +44,13 @@ pub mod BridgeGoals
 pub mod BridgeCheck
 pub mod Theorems
 pub mod TheoremsHold
+pub mod WrittenTerms
+pub mod WrittenNode
+pub mod WrittenStep
+pub mod WrittenForms
+pub mod WrittenRun
+pub mod WrittenTexts
+pub mod Accepted
+pub mod Decimal
+pub mod WrittenTree
+pub mod WrittenExample

@@ -2,23 +2,22 @@
 -- "A written derivation has a theory that is not refused; its goals text is one goal, the root's judgment, without listed hypotheses. Its
 -- proof has for each node one `step`, under the next index and behind its children's, with the node's rule, the children in order by bare
 -- index and the conclusion; last comes the `result` with the root's index, and there is no other form."
-use Prim.Native.Nat.{ℕ, zero, suc, _<_}
-use mathlib.Core.Path.{_≡_, refl}
+use Prim.Native.Nat.{ℕ, suc, _<_}
+use mathlib.Core.Path.{_≡_}
 use mathlib.Core.Logic.{_⊎_}
 use mathlib.Core.Bool.{Bool, true, false, _&&_}
-use mathlib.Core.Option.{Option, some, none as nothing}
+use mathlib.Core.Option.{some}
 use mathlib.Core.List.{List, [], _∷_, _++_}
 use lib.Dec.{leb}
 use lib.ListN.{length, getD}
-use Rattle.rules.specs.Limits.{DEPTH, FACTS}
-use Rattle.rules.specs.Out.{Out, ok, refuse}
+use Rattle.rules.specs.Limits.{DEPTH, TERMS, WORDS, FACTS}
 use Rattle.rules.specs.Text.{bytes, short, plain}
 use Rattle.rules.specs.Lex.{Token, opens, closes, word, between, tokens}
 use Rattle.rules.specs.Sexp.{read}
 use Rattle.rules.specs.Find.{entry}
 use Rattle.rules.specs.Index.{indexOf}
 use Rattle.rules.specs.Tree.{Tree, Trees, var, app, none, more, sub, subs}
-use Rattle.rules.specs.Store.{makes}
+use Rattle.rules.specs.Store.{Made, stored, words}
 use Rattle.rules.specs.Theory.{Theory, noTheory, noSymbol, rule}
 use Rattle.rules.specs.Declare.{declare}
 use Rattle.rules.specs.Judge.{done, whole}
@@ -157,7 +156,7 @@ atoms (bs ∷ bss) = cons (name bs) (atoms bss)
 unfoldable pub stepForm : Theory → Step → Form
 stepForm T s =
     group (cons (name (bytes "step")) (cons (name (s .index)) (cons (name (ruleName T (s .rule))) (cons (group (atoms (s .children)))
-      (cons (judgmentForm T (conclusion T s)) nil)))))
+    (cons (judgmentForm T (conclusion T s)) nil)))))
 
 -- (result NAME INDEX)
 unfoldable pub resultForm : List ℕ → List ℕ → Form
@@ -186,17 +185,31 @@ pub record Written (t g p : List ℕ) : Type 0 where
 
 -- The limits ----------------------------------------------------------------------------------------------------------------------
 
-unfoldable pub answers : {S A : Type 0} → Out S A → Bool
-answers (ok a s) = true
-answers (refuse n d s) = false
-
 unfoldable pub treesOf : List Tree → Trees
 treesOf [] = none
 treesOf (t ∷ ts) = more t (treesOf ts)
 
--- question 60: no more nodes than facts (row 12), and the store has room for the goal and all conclusions (rows 8 and 9)
+-- a tree, once
+unfoldable pub once : Tree → Made → Made
+once t m = elim (stored m t) [ true ↦ m | false ↦ m ++ (t ∷ []) ]
+
+-- the distinct trees among given ones and all their parts, behind those that are there
+unfoldable mutual
+  pub gather : Tree → Made → Made
+  gather (var v) m = once (var v) m
+  gather (app c ts) m = once (app c ts) (gathers ts m)
+
+  pub gathers : Trees → Made → Made
+  gathers none m = m
+  gathers (more t ts) m = gathers ts (gather t m)
+
+-- rows 8 and 9 of question 60: so many trees, and so many words
+unfoldable pub few : Made → Bool
+few m = leb (length m) TERMS && leb (words m) WORDS
+
+-- question 60: no more nodes than facts (row 12), and few enough trees in the goal and all conclusions
 unfoldable pub roomy : Theory → Tree → List Step → Bool
-roomy T j ss = leb (length ss) FACTS && answers (makes (more j (treesOf (conclusions T ss))) [])
+roomy T j ss = leb (length ss) FACTS && few (gathers (more j (treesOf (conclusions T ss))) [])
 
 -- inside the limits: questions 2, 5 and 60
 unfoldable pub inside : {t g p : List ℕ} → Written t g p → Bool

@@ -3,12 +3,11 @@
 use Prim.Native.Nat.{ℕ, zero, suc, _<_}
 use native.Mathlib.Omega.{arith}
 use mathlib.Core.Path.{_≡_, refl}
-use mathlib.Core.Bool.{Bool, true, false}
+use mathlib.Core.Bool.{true}
 use mathlib.Core.List.{List, [], _∷_}
 use Rattle.rules.specs.Text.{bytes}
 use Rattle.rules.specs.Sexp.{read}
-use Rattle.rules.specs.Tree.{Tree, Trees, var, app, none, more}
-use Rattle.rules.specs.Store.{storing}
+use Rattle.rules.specs.Tree.{Tree, app, none, more}
 use Rattle.rules.specs.Theory.{Theory, noTheory, rule}
 use Rattle.rules.specs.Declare.{declare}
 use Rattle.rules.specs.DeclareLaws.{reached}
@@ -16,7 +15,8 @@ use Rattle.rules.specs.Judge.{whole}
 use Rattle.rules.specs.Check.{accepts, check, checking}
 use Rattle.rules.specs.Examples.{theory}
 use Rattle.meaning.specs.Signature.{sig, Value, arity, ruleSort}
-use Rattle.meaning.specs.Written.{marks, mark, spelling, Writes, shallow, symbolName, ruleName, applied, termForm, judgmentForm, Step, conclusion, conclusions, Names, NamesAll, Node, Nodes, goalForms, atoms, stepForm, resultForm, proofForms, Written, answers, treesOf, roomy, inside, stepsAlone}
+use Rattle.meaning.specs.Written.{marks, mark, spelling, Writes, shallow, symbolName, ruleName, applied, termForm, judgmentForm, Step, conclusion, conclusions, Names, NamesAll, Nodes, goalForms, atoms, stepForm, resultForm, proofForms, Written, treesOf, once, gather, few, roomy, inside, stepsAlone}
+use Rattle.meaning.specs.Accepted.{inside-accepted}
 
 unfoldable pub exampleTheory : Theory
 exampleTheory = reached (whole declare (read theory) noTheory)
@@ -46,7 +46,8 @@ pub twoNodes : Nodes exampleTheory [] twoSteps
 unfolding checking exampleTheory reached Nodes Names NamesAll conclusion Value arity ruleSort sig
 twoNodes = (
   record { known = omega arith; ground = λ i l. absurd (let z : ⊥ = omega arith in z); next = refl; children = tt },
-  (record { known = omega arith; ground = firstOfSort; next = refl; children = ((0, refl, refl), tt) }, tt))
+  (record { known = omega arith; ground = firstOfSort; next = refl; children = ((0, refl, refl), tt) }, tt),
+)
 
 unfoldable pub twoWritten : Written theory goals proof
 unfolding checking exampleTheory reached Nodes Names NamesAll conclusion conclusions Value arity ruleSort sig Writes marks mark spelling goalForms proofForms stepForm resultForm judgmentForm termForm applied symbolName ruleName atoms
@@ -62,13 +63,19 @@ twoWritten = record {
   goal = bytes "renewed";
   goals = refl;
   proof = refl;
-  plains = (refl, refl, refl)
+  plains = (refl, refl, refl);
 }
 
 pub two-inside : inside twoWritten ≡ true
-unfolding checking exampleTheory reached twoWritten inside roomy shallow answers treesOf conclusion conclusions goalForms proofForms stepForm resultForm judgmentForm termForm applied symbolName ruleName atoms
+unfolding checking exampleTheory reached twoWritten inside roomy shallow once gather few treesOf conclusion conclusions goalForms proofForms stepForm resultForm judgmentForm termForm applied symbolName ruleName atoms
 two-inside = refl
 
+-- by the theorem
 pub two-accepted : check theory goals proof .answer ≡ accepts (stepsAlone 2)
+unfolding twoWritten
+two-accepted = inside-accepted twoWritten two-inside
+
+-- and by computation
+two-checked : check theory goals proof .answer ≡ accepts (stepsAlone 2)
 unfolding checking stepsAlone
-two-accepted = refl
+two-checked = refl

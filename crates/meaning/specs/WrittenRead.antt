@@ -1,7 +1,7 @@
 -- A text that is written from forms is read back: up to its end, or up to the first form that opens too many brackets. Assumes nothing.
-use Prim.Native.Nat.{ℕ, zero, suc}
+use Prim.Native.Nat.{ℕ, suc}
 use native.Mathlib.Omega.{arith}
-use mathlib.Core.Path.{_≡_, refl, sym, _∙_, ap, ap₂, subst}
+use mathlib.Core.Path.{_≡_, refl, sym, _∙_, ap, subst}
 use mathlib.Core.Bool.{Bool, true, false, _&&_}
 use mathlib.Core.List.{List, [], _∷_}
 use lib.Dec.{leb}
@@ -111,7 +111,7 @@ closed fs ys st ms o r =
       behind = b .1 .rest;
       is = ap group (r .are);
       marked = b .1 .marked;
-      reads = r .reads ∙ ap (forms (r .items ∷ ys ∷ st)) (b .1 .is)
+      reads = r .reads ∙ ap (forms (r .items ∷ ys ∷ st)) (b .1 .is);
     }
 
 -- one list more
@@ -149,24 +149,24 @@ module _ (ys : Sexps) (st : List Sexps) (ms : List Mark) where
       go false e =
           let q = ap (forms (ys ∷ st)) (b .is) ∙ forms-on ys st p (b .rest) e in
           went-map (group-test (length (ys ∷ st)) fs false e) q
-            (λ r. closed fs ys st ms (forms (ys ∷ st) ts) (record { items = r .items; behind = r .behind; are = r .are; marked = r .marked; reads = q ∙ r .reads })) w
+          (λ r. closed fs ys st ms (forms (ys ∷ st) ts) (record { items = r .items; behind = r .behind; are = r .are; marked = r .marked; reads = q ∙ r .reads })) w
 
 -- an item, then the others
 then-items : (f : Form) (fs : Forms) (ys : Sexps) (st : List Sexps) (ms : List Mark) (o : Text) (b : Bool)
     → Went b (Item f ys st (spellings fs ms) o) o
     → ((x : Sexp) (us : List Token) → marks us ≡ spellings fs ms
-      → Went (shallows (length (ys ∷ st)) fs) (Items fs (snoc ys x) st ms (forms (snoc ys x ∷ st) us)) (forms (snoc ys x ∷ st) us))
+    → Went (shallows (length (ys ∷ st)) fs) (Items fs (snoc ys x) st ms (forms (snoc ys x ∷ st) us)) (forms (snoc ys x ∷ st) us))
     → Went (b && shallows (length (ys ∷ st)) fs) (Items (cons f fs) ys st ms o) o
 then-items f fs ys st ms o b (deep e q) h = deep (ap (λ c. c && shallows (length (ys ∷ st)) fs) e) q
 then-items f fs ys st ms o b (on e i) h =
     went-map (ap (λ c. c && shallows (length (ys ∷ st)) fs) e) (i .reads)
-      (λ r. record {
-        items = r .items;
-        behind = r .behind;
-        are = r .are ∙ (joined-snoc ys (i .item) fs ∙ ap (λ g. joined (bares ys) (cons g fs)) (i .is));
-        marked = r .marked;
-        reads = i .reads ∙ r .reads
-      }) (h (i .item) (i .behind) (i .marked))
+    (λ r. record {
+      items = r .items;
+      behind = r .behind;
+      are = r .are ∙ (joined-snoc ys (i .item) fs ∙ ap (λ g. joined (bares ys) (cons g fs)) (i .is));
+      marked = r .marked;
+      reads = i .reads ∙ r .reads;
+    }) (h (i .item) (i .behind) (i .marked))
 
 mutual
   unfolding spelling shallow
@@ -183,7 +183,7 @@ mutual
   items-read nil ys st ts ms e = on refl (record { items = ys; behind = ts; are = sym (joined-nil (bares ys)); marked = e; reads = refl })
   items-read (cons f fs) ys st ts ms e =
       then-items f fs ys st ms (forms (ys ∷ st) ts) (shallow (length (ys ∷ st)) f) (item-read f ys st ts (spellings fs ms) e)
-        (λ x us q. items-read fs (snoc ys x) st us ms q)
+      (λ x us q. items-read fs (snoc ys x) st us ms q)
 
 -- The whole text ------------------------------------------------------------------------------------------------------------------
 
@@ -201,8 +201,8 @@ group-reads gs fs ts p b (deep e q) h =
 group-reads gs fs ts p b (on e r) h =
     let c = begins-right (r .behind) (spellings fs []) (r .marked) in
     subst (λ l. Reads (cons (group gs) fs) (forms [] l)) (sym (b .is))
-      (subst (λ o. Reads (cons (group gs) fs) o) (sym (r .reads ∙ ap (forms (r .items ∷ [])) (c .1 .is)))
-        (ap group (r .are), e, h (c .1 .rest) (c .1 .marked)))
+    (subst (λ o. Reads (cons (group gs) fs) o) (sym (r .reads ∙ ap (forms (r .items ∷ [])) (c .1 .is)))
+    (ap group (r .are), e, h (c .1 .rest) (c .1 .marked)))
 
 tokens-read : (fs : Forms) (ts : List Token) → marks ts ≡ spellings fs [] → Reads fs (forms [] ts)
 unfolding spelling Reads forms marks

@@ -1,6 +1,6 @@
 -- In every theory that a text declares, a symbol's or rule's own name finds it again: names are new among constructors, among predicates and
 -- among rules, and none starts with `?`. Assumes nothing.
-use Prim.Native.Nat.{ℕ, zero, suc, _+_, _<_, _≤_}
+use Prim.Native.Nat.{ℕ, suc, _+_, _<_, _≤_}
 use mathlib.Core.Path.{_≡_, refl, sym, ap, _∙_, subst}
 use mathlib.Core.Bool.{Bool, true, false, _&&_, not}
 use mathlib.Core.Logic.{_⊎_, inl, inr}
@@ -9,20 +9,20 @@ use mathlib.Core.List.{List, [], _∷_, _++_}
 use native.Mathlib.Omega.{arith}
 use native.Mathlib.Decide.{decLt}
 use borrow.Author.Tests.{eq-eqb, eqb-true}
-use lib.Dec.{eqb, ltb}
+use lib.Dec.{ltb}
 use lib.ListN.{length, getD, length-append}
 use lib.Seq.{getD-append-seam}
 use Rattle.rules.specs.Limits.{SORTS, SYMBOLS, ARGUMENTS, RULES}
 use Rattle.rules.specs.Text.{same}
-use Rattle.rules.specs.Out.{Out, ok, refuse, then, Act, ask, room, found}
-use Rattle.rules.specs.OutLaws.{Ok, fine, off, of-ok, by-then, by-name, by-items, by-ask, by-room, by-found, by-beside, by-assoc}
-use Rattle.rules.specs.Sexp.{Sexp, Sexps, atom, list, nil, cons, count, item, Name, name, items, marked, Text, ends, fails, more, read}
+use Rattle.rules.specs.Out.{Out, ok, refuse, then, ask, room}
+use Rattle.rules.specs.OutLaws.{Ok, fine, off, of-ok, by-name, by-items, by-ask, by-room, by-found, by-beside, by-assoc}
+use Rattle.rules.specs.Sexp.{Sexp, Sexps, nil, cons, count, item, Name, name, marked, Text, ends, fails, more, read}
 use Rattle.rules.specs.Find.{first}
-use Rattle.rules.specs.FindLaws.{First, first-some, getD-front}
+use Rattle.rules.specs.FindLaws.{first-some, getD-front}
 use Rattle.rules.specs.Tags.{Declaration, aSort, aCtor, aPred, aRule, declaration}
-use Rattle.rules.specs.Theory.{Symbol, Rule, Theory, noTheory, noName, noSymbol, noRule, sortNamed, isPredicate, predicateNamed, constructorNamed, ruleNamed, rule, ruleWords}
+use Rattle.rules.specs.Theory.{Symbol, Rule, Theory, noTheory, noName, noSymbol, noRule, sortNamed, isPredicate, predicateNamed, constructorNamed, ruleNamed, ruleWords}
 use Rattle.rules.specs.Declare.{isNew, properName, sort, sorts, schema, addSort, addSymbol, addCtor, addPred, addRule, declareAs, declare}
-use Rattle.rules.specs.Judge.{Judged, done, refused, through, unread, whole}
+use Rattle.rules.specs.Judge.{refused, through, unread, whole}
 use Rattle.rules.specs.DeclareLaws.{reached}
 
 -- First entries ----------------------------------------------------------------------------------------------------------------
@@ -96,15 +96,15 @@ module _ {A : Type 0} (q : A → List ℕ → Bool) (n : A → List ℕ) (xs : L
   unfolding Own
   own-front i l h =
       first-front (λ x. q x (n (getD (xs ++ (y ∷ [])) i d))) xs (y ∷ []) 0 i
-        (subst (λ z. first (λ x. q x (n z)) xs 0 ≡ some i) (sym (getD-front xs (y ∷ []) i d l)) h)
+      (subst (λ z. first (λ x. q x (n z)) xs 0 ≡ some i) (sym (getD-front xs (y ∷ []) i d l)) h)
 
   -- a new entry has its own
   own-seam : (i : ℕ) → i ≡ length xs → first (λ x. q x (n y)) xs 0 ≡ nothing → q y (n y) ≡ true → Own q n (xs ++ (y ∷ [])) d i
   unfolding Own
   own-seam i e h k =
       subst (λ j. first (λ x. q x (n (getD (xs ++ (y ∷ [])) j d))) (xs ++ (y ∷ [])) 0 ≡ some j) (sym e)
-        (subst (λ z. first (λ x. q x (n z)) (xs ++ (y ∷ [])) 0 ≡ some (length xs)) (sym (getD-append-seam xs y [] d))
-          (first-seam (λ x. q x (n y)) xs y 0 h k ∙ ap some (let z : 0 + length xs ≡ length xs = omega arith in z)))
+      (subst (λ z. first (λ x. q x (n z)) (xs ++ (y ∷ [])) 0 ≡ some (length xs)) (sym (getD-append-seam xs y [] d))
+      (first-seam (λ x. q x (n y)) xs y 0 h k ∙ ap some (let z : 0 + length xs ≡ length xs = omega arith in z)))
 
   -- either it is in front, or it is new
   seam-or : (i : ℕ) → i < length (xs ++ (y ∷ [])) → (i < length xs) ⊎ (i ≡ length xs)
@@ -128,21 +128,24 @@ symbol-named T s w m fc fp = record { ctors = ctors; preds = preds; proper = pro
     kind c b e f = ap isPredicate (sym (seam c e)) ∙ f
 
     ctors : (c : ℕ) → c < length (T .symbols ++ (s ∷ [])) → isPredicate (getD (T .symbols ++ (s ∷ [])) c noSymbol) ≡ false → Own isCtor nameOf (T .symbols ++ (s ∷ [])) noSymbol c
-    ctors c l f = elim (seam-or isCtor nameOf (T .symbols) s noSymbol c l)
-      [ inl k ↦ own-front isCtor nameOf (T .symbols) s noSymbol c k (w .ctors c k (front c false k f))
+    ctors c l f = elim (seam-or isCtor nameOf (T .symbols) s noSymbol c l) [
+      | inl k ↦ own-front isCtor nameOf (T .symbols) s noSymbol c k (w .ctors c k (front c false k f))
       | inr e ↦ own-seam isCtor nameOf (T .symbols) s noSymbol c e (fc (kind c false e f))
-          (ap (λ b. not b && same (s .name .bytes) (s .name .bytes)) (kind c false e f) ∙ same-refl (s .name .bytes)) ]
+          (ap (λ b. not b && same (s .name .bytes) (s .name .bytes)) (kind c false e f) ∙ same-refl (s .name .bytes))
+    ]
 
     preds : (c : ℕ) → c < length (T .symbols ++ (s ∷ [])) → isPredicate (getD (T .symbols ++ (s ∷ [])) c noSymbol) ≡ true → Own isPred nameOf (T .symbols ++ (s ∷ [])) noSymbol c
-    preds c l f = elim (seam-or isPred nameOf (T .symbols) s noSymbol c l)
-      [ inl k ↦ own-front isPred nameOf (T .symbols) s noSymbol c k (w .preds c k (front c true k f))
+    preds c l f = elim (seam-or isPred nameOf (T .symbols) s noSymbol c l) [
+      | inl k ↦ own-front isPred nameOf (T .symbols) s noSymbol c k (w .preds c k (front c true k f))
       | inr e ↦ own-seam isPred nameOf (T .symbols) s noSymbol c e (fp (kind c true e f))
-          (ap (λ b. b && same (s .name .bytes) (s .name .bytes)) (kind c true e f) ∙ same-refl (s .name .bytes)) ]
+          (ap (λ b. b && same (s .name .bytes) (s .name .bytes)) (kind c true e f) ∙ same-refl (s .name .bytes))
+    ]
 
     proper : (c : ℕ) → c < length (T .symbols ++ (s ∷ [])) → marked (getD (T .symbols ++ (s ∷ [])) c noSymbol .name .bytes) ≡ false
-    proper c l = elim (seam-or isPred nameOf (T .symbols) s noSymbol c l)
-      [ inl k ↦ ap (λ (x : Symbol). marked (x .name .bytes)) (getD-front (T .symbols) (s ∷ []) c noSymbol k) ∙ w .proper c k
-      | inr e ↦ ap (λ (x : Symbol). marked (x .name .bytes)) (seam c e) ∙ m ]
+    proper c l = elim (seam-or isPred nameOf (T .symbols) s noSymbol c l) [
+      | inl k ↦ ap (λ (x : Symbol). marked (x .name .bytes)) (getD-front (T .symbols) (s ∷ []) c noSymbol k) ∙ w .proper c k
+      | inr e ↦ ap (λ (x : Symbol). marked (x .name .bytes)) (seam c e) ∙ m
+    ]
 
 rule-named : (T : Theory) (r : Rule) → Named T → ruleNamed T (r .name .bytes) ≡ nothing →
     Named (record { sorts = T .sorts; symbols = T .symbols; rules = T .rules ++ (r ∷ []) })
@@ -150,9 +153,10 @@ unfolding ruleNamed
 rule-named T r w f = record { ctors = w .ctors; preds = w .preds; proper = w .proper; rules = rules }
   where
     rules : (i : ℕ) → i < length (T .rules ++ (r ∷ [])) → Own isRule ruleNameOf (T .rules ++ (r ∷ [])) noRule i
-    rules i l = elim (seam-or isRule ruleNameOf (T .rules) r noRule i l)
-      [ inl k ↦ own-front isRule ruleNameOf (T .rules) r noRule i k (w .rules i k)
-      | inr e ↦ own-seam isRule ruleNameOf (T .rules) r noRule i e f (same-refl (r .name .bytes)) ]
+    rules i l = elim (seam-or isRule ruleNameOf (T .rules) r noRule i l) [
+      | inl k ↦ own-front isRule ruleNameOf (T .rules) r noRule i k (w .rules i k)
+      | inr e ↦ own-seam isRule ruleNameOf (T .rules) r noRule i e f (same-refl (r .name .bytes))
+    ]
 
 -- Declarations -----------------------------------------------------------------------------------------------------------------
 
@@ -161,7 +165,7 @@ module _ {S B : Type 0} {P : B → S → Type 0} where
   unfolding properName then
   by-proper x s f h =
       by-assoc (name 11 x s) _ f (by-name 11 x s _ λ n e.
-        by-assoc (ask 11 (not (marked (n .bytes))) s) _ f (by-ask 11 (not (marked (n .bytes))) s _ λ b. h n (not-marked (marked (n .bytes)) b)))
+      by-assoc (ask 11 (not (marked (n .bytes))) s) _ f (by-ask 11 (not (marked (n .bytes))) s _ λ b. h n (not-marked (marked (n .bytes)) b)))
     where
       not-marked : (b : Bool) → not b ≡ true → b ≡ false
       not-marked true e = absurd (let z : _≡_ {A = ℕ} 0 1 = cc in omega arith)
@@ -171,9 +175,9 @@ module _ {S B : Type 0} {P : B → S → Type 0} where
   unfolding sort sortNamed
   by-sort T x s f h =
       by-assoc (properName x s) _ f (by-proper x s _ λ n m.
-        by-found 11 (sortNamed T (n .bytes)) s _ λ k e.
-        let r = first-some (λ (a : Name). same (a .bytes) (n .bytes)) (T .sorts) 1 k noName e in
-        h k (omega (arith, r .is)))
+      by-found 11 (sortNamed T (n .bytes)) s _ λ k e.
+      let r = first-some (λ (a : Name). same (a .bytes) (n .bytes)) (T .sorts) 1 k noName e in
+      h k (omega (arith, r .is)))
 
 by-sorts : {S B : Type 0} {P : B → S → Type 0} (T : Theory) (xs : Sexps) (k : ℕ) (s : S) (f : List ℕ → S → Out S B) →
     ((ss : List ℕ) → Ok P (f ss s)) → Ok P (then (sorts T xs k s) f)
@@ -181,8 +185,8 @@ unfolding sorts then
 by-sorts T nil k s f h = h []
 by-sorts T (cons x xs) k s f h =
     by-assoc (sort T x s) _ f (by-sort T x s _ λ i a.
-      by-assoc (room 3 (ltb k ARGUMENTS) s) _ f (by-room 3 (ltb k ARGUMENTS) s _ λ b.
-        by-assoc (sorts T xs (suc k) s) _ f (by-sorts T xs (suc k) s _ λ ss. h (i ∷ ss))))
+    by-assoc (room 3 (ltb k ARGUMENTS) s) _ f (by-room 3 (ltb k ARGUMENTS) s _ λ b.
+    by-assoc (sorts T xs (suc k) s) _ f (by-sorts T xs (suc k) s _ λ ss. h (i ∷ ss))))
 
 add-sort-named : (T : Theory) (xs : Sexps) → Named T → Ok (λ u U. Named U) (addSort xs T)
 unfolding addSort then
@@ -202,7 +206,7 @@ add-ctor-named T xs w =
     by-ask 11 (isNew (constructorNamed T (n .bytes))) T _ λ f.
     by-room 2 (ltb (length (T .symbols)) SYMBOLS) T _ λ h.
     fine (symbol-named T (record { name = n; inputs = ss; output = s }) w m (λ _. is-new (constructorNamed T (n .bytes)) f)
-      (λ q. absurd (let z = eqb-true s 0 q in omega arith)))
+    (λ q. absurd (let z = eqb-true s 0 q in omega arith)))
 
 add-pred-named : (T : Theory) (xs : Sexps) → Named T → Ok (λ u U. Named U) (addPred xs T)
 unfolding addPred addSymbol then isPredicate
@@ -213,7 +217,7 @@ add-pred-named T xs w =
     by-ask 11 (isNew (predicateNamed T (n .bytes))) T _ λ f.
     by-room 2 (ltb (length (T .symbols)) SYMBOLS) T _ λ h.
     fine (symbol-named T (record { name = n; inputs = ss; output = 0 }) w m (λ q. absurd (let z : _≡_ {A = ℕ} 0 1 = cc in omega arith))
-      (λ _. is-new (predicateNamed T (n .bytes)) f))
+    (λ _. is-new (predicateNamed T (n .bytes)) f))
 
 add-rule-named : (T : Theory) (xs : Sexps) → Named T → Ok (λ u U. Named U) (addRule xs T)
 unfolding addRule then
