@@ -115,9 +115,9 @@ module _ (text : List ℕ) (p : ℕ) (h : p < length text) where
   -- a word begins: its letters are those from its place on
   pub place-letter : kind (getD text p 0) ≡ letter → tokens between p (drop p text) ≡ word p (letters (drop p text)) ∷ tokens inWord p (drop p text)
   place-letter k =
-    rw (drop-at text p h)
-    (at-letter p (getD text p 0) (drop (p + 1) text) k
-    ∙ rw (letters-more (getD text p 0) (drop (p + 1) text) k, in-word p (getD text p 0) (drop (p + 1) text) k))
+      rw (drop-at text p h)
+      (at-letter p (getD text p 0) (drop (p + 1) text) k
+      ∙ rw (letters-more (getD text p 0) (drop (p + 1) text) k, in-word p (getD text p 0) (drop (p + 1) text) k))
 
   pub place-in-word : kind (getD text p 0) ≡ letter → tokens inWord p (drop p text) ≡ tokens inWord (p + 1) (drop (p + 1) text)
   place-in-word k = ap (tokens inWord p) (drop-at text p h) ∙ rw (add-one, in-word p (getD text p 0) (drop (suc p) text) k)

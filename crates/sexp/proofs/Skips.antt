@@ -23,19 +23,21 @@ module _ {text : List ℕ} {start at : ℕ} (s : Skipping text start at) where
     pub past-white : (w ≡ 0 → ⊥) → Skipping text start (at + w)
     past-white h =
         let o : w ≡ 1 = one-wide _ _ e h in
-        record
-          { low = omega (arith, s .low)
-          ; high = omega arith
-          ; same = s .same ∙ place-blank text at i (is-white _ _ e h) ∙ ap (λ k. from text (at + k)) (sym o) }
+        record {
+          low = omega (arith, s .low);
+          high = omega arith;
+          same = s .same ∙ place-blank text at i (is-white _ _ e h) ∙ ap (λ k. from text (at + k)) (sym o);
+        }
 
     pub found : w ≡ 0 → (getD text at 0 ≡ 59 → ⊥) → Skipped text start at
     found h n =
-        record
-          { low = s .low
-          ; high = s .high
-          ; same = s .same
-          ; noBlank = λ _. not-blank _ (not-white _ _ e h)
-          ; noComment = λ _. not-semicolon _ n }
+        record {
+          low = s .low;
+          high = s .high;
+          same = s .same;
+          noBlank = λ _. not-blank _ (not-white _ _ e h);
+          noComment = λ _. not-semicolon _ n;
+        }
 
   pub past-comment : at < length text → getD text at 0 ≡ 59 → (r : ℕ) → LineEnd text (at + 1) r → Skipping text start r
   past-comment i b r l =

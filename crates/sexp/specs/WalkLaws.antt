@@ -54,15 +54,17 @@ list-here text words at (list xs) ys a b k s e =
     let ea : a ≡ at + 1 = cc in
     let eb : b ≡ at + 1 + length (encodes xs) = cc in
     let n : b - a ≡ length (encodes xs) = omega arith in
-    let d : drop (at + 1) words ≡ encodes xs ++ encodes ys = sym (drop-drop 1 at words) ∙ ap (drop 1) (k .lies) in
-    ( record
-        { items = xs
-        ; is = refl
-        ; low = omega arith
-        ; high = omega (arith, at-room k)
-        ; shorter = omega (arith, at-room k)
-        ; holds = record { cells = rw (n, ea, d) (take-append-seam (encodes xs) (encodes ys)); spelt = s } }
-    , omega arith)
+    let d : drop (at + 1) words ≡ encodes xs ++ encodes ys = sym (drop-drop 1 at words) ∙ ap (drop 1) (k .lies) in (
+      record {
+        items = xs;
+        is = refl;
+        low = omega arith;
+        high = omega (arith, at-room k);
+        shorter = omega (arith, at-room k);
+        holds = record { cells = rw (n, ea, d) (take-append-seam (encodes xs) (encodes ys)); spelt = s };
+      },
+      omega arith,
+    )
 
 atom-next : (words : List ℕ) (at : ℕ) (x : Sexp) (ys : Sexps) → At words at (cons x ys) → (p : ℕ) → Atom p ≡ itemOf at x → At words (at + 1) ys
 unfolding encode
@@ -100,9 +102,10 @@ module _ {text words : List ℕ} {at : ℕ} where
 
     pub past-list : {a b : ℕ} → r ≡ Part a b → Walk text words b ys
     past-list f =
-        record
-          { here = rw (list-here text words at x ys _ _ (k .here) (k .spelt .0) (sym f ∙ is-item) .1) (at-next (k .here))
-          ; spelt = k .spelt .1 }
+        record {
+          here = rw (list-here text words at x ys _ _ (k .here) (k .spelt .0) (sym f ∙ is-item) .1) (at-next (k .here));
+          spelt = k .spelt .1;
+        }
 
 -- By number --------------------------------------------------------------------------------------------------------------------
 
@@ -147,7 +150,8 @@ pub record Span (text : List ℕ) (start end : ℕ) (bs : List ℕ) : Type 0 whe
 pub span : {text : List ℕ} {start end : ℕ} {bs : List ℕ} → AtomAt text start bs → end ≡ start + length (letters (drop start text)) → Span text start end bs
 span {text} {start} {end} {bs} a e =
     let n : end - start ≡ length (letters (drop start text)) = omega arith in
-    record
-      { low = omega arith
-      ; high = omega (arith, letters-front (drop start text) .short, length-drop start text, a .inside)
-      ; part = rw n (letters-front (drop start text) .first ∙ a .bytes) }
+    record {
+      low = omega arith;
+      high = omega (arith, letters-front (drop start text) .short, length-drop start text, a .inside);
+      part = rw n (letters-front (drop start text) .first ∙ a .bytes);
+    }

@@ -1,17 +1,27 @@
 // Reads a text form by form. A form's cells: an atom is `2 * start + 1`, a list `2 * number of its items' cells`, followed by these.
 ghost use mathlib.Core.Path.{_≡_};
 ghost use mathlib.Core.List.{_++_};
-ghost use Prim.Native.Nat.{ℕ, _+_, _*_, _-_, _^_, _≤_, _<_};
+ghost use Prim.Native.Nat.{ℕ, _+_, _*_, _-_, _%_, _^_, _≤_, _<_};
 ghost use lib.ListN.{length, getD, set, drop, replicate};
+ghost use lib.Dec.{eqb};
 ghost use Rattle.rules.specs.Limits.{LENGTH};
+ghost use Rattle.rules.specs.Sexp.{read};
 ghost use Rattle.sexp.specs.Reads.{Clear, ReadRight};
-use crate::lex::{atom_end, skip};
+ghost use Rattle.sexp.specs.Whole.{wholeOf};
+use crate::lex::atom_end;
+use crate::lex::skip;
 
 // What stands in front: nothing, a form with the place behind it and the number of its cells, or a refusal by its number.
 pub enum Read {
     End,
     Form(usize, usize),
     Refused(usize),
+}
+
+// How a text ends: the number of its bracketed forms, or a refusal by its number, with that of the bracketed forms before it.
+pub enum Whole {
+    Forms(usize),
+    Refused(usize, usize),
 }
 
 // Sets the first cells back to zero.
@@ -90,6 +100,41 @@ pub fn read_form(text: &[u8], from: usize, words: &mut [u32]) -> Read
             at = atom_end(text, at);
             if depth == 0 {
                 return Read::Form(at, used);
+            }
+        }
+    }
+}
+
+// Whether the form whose cells begin here is a list.
+fn bracketed(words: &[u32]) -> bool
+    requires { ⌜ 0 < length (now words) ⌝ }
+    ensures { λ r. ⌜ r ≡ eqb (getD (now (words .entry)) 0 0 % 2) 0 ⌝ }
+{
+    words[0] % 2 == 0
+}
+
+// Reads a text to its end or to a refusal, without a look at its forms.
+pub fn read_all(text: &[u8], words: &mut [u32]) -> Whole
+    requires { ⌜ (length (now text) ≤ LENGTH) × (length (now text) ≤ length (now words)) ⌝ }
+    requires { ⌜ Clear (now words) ⌝ }
+    ensures { λ r. ⌜ (r ≡ wholeOf (read (now (text .entry))) 0) × (now (words .exit) ≡ now (words .entry)) ⌝ }
+{
+    let mut at = 0;
+    let mut forms = 0;
+    loop {
+        match read_form(text, at, words) {
+            Read::End => {
+                return Whole::Forms(forms);
+            }
+            Read::Refused(number) => {
+                return Whole::Refused(number, forms);
+            }
+            Read::Form(next, used) => {
+                if bracketed(words) {
+                    forms += 1;
+                }
+                clear(words, used);
+                at = next;
             }
         }
     }
