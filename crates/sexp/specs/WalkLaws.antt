@@ -4,7 +4,7 @@ use Prim.Native.Nat.{ℕ, zero, suc, _+_, _-_, _≤_, _<_}
 use mathlib.Core.List.{List, [], _∷_, _++_}
 use native.Mathlib.Nat.{zero-add}
 use native.Mathlib.Omega.{arith}
-use lib.ListN.{length, take, drop, length-append, length-drop}
+use lib.ListN.{length, take, drop, length-drop, length-take}
 use lib.Seq.{drop-drop, take-append-seam, take-all}
 use Rattle.rules.specs.Lex.{kind, letter, letters}
 use Rattle.rules.specs.LexLaws.{letters-front}
@@ -12,7 +12,7 @@ use Rattle.rules.specs.Sexp.{Sexp, Sexps, atom, list, nil, cons, count, item, r
 use Rattle.sexp.specs.Encode.{encode, encodes}
 use Rattle.sexp.specs.Spelt.{AtomAt, Spelt, Spells}
 use Rattle.sexp.specs.Items.{Holds, itemOf, itemAt, place}
-use Rattle.sexp.specs.ItemLaws.{At, at-first, at-more, at-over, at-inside, at-room, at-next, More, item-here, item-at-place, at-place, encodes-cons}
+use Rattle.sexp.specs.ItemLaws.{At, at-first, at-more, at-over, at-inside, at-room, at-next, More, item-here, item-at-place, at-place, some-cells}
 use Rattle.sexp.specs.declared.items.Item.{Item}
 use Rattle.sexp.specs.declared.items.Item.the-variants.{Atom, List as Part}
 
@@ -106,6 +106,13 @@ module _ {text words : List ℕ} {at : ℕ} where
           here = rw (list-here text words at x ys _ _ (k .here) (k .spelt .0) (sym f ∙ is-item) .1) (at-next (k .here));
           spelt = k .spelt .1;
         }
+
+    pub list-on : {a b : ℕ} → r ≡ Part a b → at < b
+    list-on f = omega (arith, list-here text words at x ys _ _ (k .here) (k .spelt .0) (sym f ∙ is-item) .1, some-cells x)
+
+-- a list's cells are fewer than those of the list around it
+pub part-shorter : {text words : List ℕ} {x : Sexp} {a b : ℕ} → ListIs text words x a b → length (take (b - a) (drop a words)) < length words
+part-shorter {words = words} {a = a} {b} l = omega (arith, l .shorter, length-take (b - a) (drop a words))
 
 -- By number --------------------------------------------------------------------------------------------------------------------
 
