@@ -1,9 +1,8 @@
 // Reads a text form by form. A form's cells: an atom is `2 * start + 1`, a list `2 * number of its items' cells`, followed by these.
 ghost use mathlib.Core.Path.{_≡_};
 ghost use mathlib.Core.List.{_++_};
-ghost use Prim.Native.Nat.{ℕ, _+_, _*_, _-_, _%_, _^_, _≤_, _<_};
+ghost use Prim.Native.Nat.{ℕ, _+_, _*_, _-_, _^_, _≤_, _<_};
 ghost use lib.ListN.{length, getD, set, drop, replicate};
-ghost use lib.Dec.{eqb};
 ghost use Rattle.rules.specs.Limits.{LENGTH};
 ghost use Rattle.rules.specs.Sexp.{read};
 ghost use Rattle.sexp.specs.Reads.{Clear, ReadRight};
@@ -105,37 +104,39 @@ pub fn read_form(text: &[u8], from: usize, words: &mut [u32]) -> Read
     }
 }
 
-// Whether the form whose cells begin here is a list.
-fn bracketed(words: &[u32]) -> bool
-    requires { ⌜ 0 < length (now words) ⌝ }
-    ensures { λ r. ⌜ r ≡ eqb (getD (now (words .entry)) 0 0 % 2) 0 ⌝ }
-{
-    words[0] % 2 == 0
-}
-
-// Reads a text to its end or to a refusal, without a look at its forms.
-pub fn read_all(text: &[u8], words: &mut [u32]) -> Whole
-    requires { ⌜ (length (now text) ≤ LENGTH) × (length (now text) ≤ length (now words)) ⌝ }
-    requires { ⌜ Clear (now words) ⌝ }
-    ensures { λ r. ⌜ (r ≡ wholeOf (read (now (text .entry))) 0) × (now (words .exit) ≡ now (words .entry)) ⌝ }
+// Reads a text to its end or to a refusal, without a look at its forms and without cells.
+pub fn read_all(text: &[u8]) -> Whole
+    ensures { λ r. ⌜ r ≡ wholeOf (read (now (text .entry))) 0 ⌝ }
 {
     let mut at = 0;
+    let mut depth = 0;
     let mut forms = 0;
     loop {
-        match read_form(text, at, words) {
-            Read::End => {
+        at = skip(text, at);
+        if at >= text.len() {
+            if depth == 0 {
                 return Whole::Forms(forms);
             }
-            Read::Refused(number) => {
-                return Whole::Refused(number, forms);
+            return Whole::Refused(4, forms);
+        }
+        let b = text[at];
+        if b == b'(' {
+            if depth == rules::DEPTH {
+                return Whole::Refused(5, forms);
             }
-            Read::Form(next, used) => {
-                if bracketed(words) {
-                    forms += 1;
-                }
-                clear(words, used);
-                at = next;
+            depth += 1;
+            at += 1;
+        } else if b == b')' {
+            if depth == 0 {
+                return Whole::Refused(4, forms);
             }
+            depth -= 1;
+            at += 1;
+            if depth == 0 {
+                forms += 1;
+            }
+        } else {
+            at = atom_end(text, at);
         }
     }
 }

@@ -1,64 +1,90 @@
-use mathlib.Core.Path.{_≡_, sym, ap, _∙_}
-use mathlib.Core.Logic.{⊎-elim}
+use mathlib.Core.Path.{_≡_}
 use Prim.Native.Nat.{_-_}
-use lib.ListN.{length}
+use lib.ListN.{length, getD}
 use native.Mathlib.Omega.{arith}
+use Rattle.rules.specs.Lex.{kind, letter}
+use Rattle.sexp.proofs.ByteLaws.{letter-here}
 use Rattle.sexp.proofs.Turns as turns
 use Rattle.sexp.proofs.Turns.{Turning}
-use borrow.Author.Needs.{needs}
 use Rattle.sexp.proofs.sexp.read_all.Statement.{statement}
 use Rattle.sexp.proofs.sexp.read_all.Tie as tie
 
 abbrev Inv-loop : tie.InvT-loop
-Inv-loop text words₀ at₀ forms₀ words at forms = Turning text words₀ words at forms
+Inv-loop text at₀ depth₀ forms₀ at depth forms = Turning text at depth forms
 
 abbrev μ-loop : tie.MeasureT-loop
-μ-loop text words₀ at₀ forms₀ words at forms = length text - at
+μ-loop text at₀ depth₀ forms₀ at depth forms = length text - at
 
 loop-holds : tie.Need-loop-holds Inv-loop μ-loop
-loop-holds c = turns.begin _ _ ((c .before .before .pre) .0) ((c .before .before .pre) .1)
+loop-holds c = turns.begin _
 
-read-form-requires : tie.Need-read-form-requires Inv-loop μ-loop
-read-form-requires c κs = turns.asks ((c .before .loop) .inv)
+skip-requires : tie.Need-skip-requires Inv-loop μ-loop
+skip-requires c κs = (c .loop) .inv .high
 
-enum-told : tie.Need-enum-told Inv-loop μ-loop
-enum-told c = search needs
-
-same-length : tie.Need-same-length Inv-loop μ-loop
-same-length c = ap length (turns.ended ((c .before .before .before .before .before .before .loop) .inv) ((c .before .before .before .before .read-form) .ensures) ((c .enum-told) .given .1) .1)
+-- the state behind `skip`
+here : (c : tie.After-skip Inv-loop μ-loop) → Turning ((c .before .before .before .args) .text .now) ((c .skip) .result) ((c .before .loop) .depth) ((c .before .loop) .forms)
+here c = turns.skipped ((c .before .loop) .inv) _ ((c .skip) .ensures)
 
 returns : tie.Need-returns Inv-loop μ-loop
-returns c = turns.ended ((c .before .before .before .before .before .before .loop) .inv) ((c .before .before .before .before .read-form) .ensures) ((c .enum-told) .given .1)
-
-enum-known-number : tie.Need-enum-known-number Inv-loop μ-loop
-enum-known-number c = search needs
-
-same-length-2 : tie.Need-same-length-2 Inv-loop μ-loop
-same-length-2 c = ap length (turns.refused ((c .before .before .before .before .before .before .before .loop) .inv) ((c .before .before .before .before .before .read-form) .ensures) ((c .before .number) .given .1) .1)
+returns c = turns.ended (here (c .before .before)) ((c .before .if1) .taken) ((c .if2) .taken)
 
 returns-2 : tie.Need-returns-2 Inv-loop μ-loop
-returns-2 c = turns.refused ((c .before .before .before .before .before .before .before .loop) .inv) ((c .before .before .before .before .before .read-form) .ensures) ((c .before .number) .given .1)
+returns-2 c = turns.unclosed (here (c .before .before)) ((c .before .if1) .taken) ((c .if2) .left)
 
-enum-known-next : tie.Need-enum-known-next Inv-loop μ-loop
-enum-known-next c = search needs
+shared-slice-read-b : tie.Need-shared-slice-read-b Inv-loop μ-loop
+shared-slice-read-b c = (c .before .if1) .left
 
-bracketed-requires : tie.Need-bracketed-requires Inv-loop μ-loop
-bracketed-requires c κs = turns.cells-there ((c .before .before .before .before .before .before .before .before .loop) .inv) ((c .before .before .before .before .before .before .read-form) .ensures) ((c .before .before .next) .given .1) .0
+returns-3 : tie.Need-returns-3 Inv-loop μ-loop
+returns-3 c = turns.too-deep (here (c .before .before .before .before)) ((c .before .before .before .if1) .left) ((c .before .if3) .taken) ((c .if4) .taken)
 
-add-forms : tie.Need-add-forms Inv-loop μ-loop
-add-forms c = omega (arith, (c .before .before .before .before .before .before .before .before .before .before .loop) .inv .few, (c .before .before .before .before .before .before .before .before .before .before .loop) .inv .high, (c .before .before .before .before .before .before .before .before .before .before .loop) .inv .short)
+add-depth : tie.Need-add-depth Inv-loop μ-loop
+add-depth c = omega (arith, here (c .before .before .before .before) .most)
 
-clear-requires : tie.Need-clear-requires Inv-loop μ-loop
-clear-requires c κs = turns.cells-there ((c .before .before .before .before .before .before .before .before .before .before .before .loop) .inv) ((c .before .before .before .before .before .before .before .before .before .read-form) .ensures) ((c .before .before .before .before .before .next) .given .1) .1
+add-at : tie.Need-add-at Inv-loop μ-loop
+add-at c = omega (arith, (c .before .before .before .if1) .left, (c .before .before .before .before .before .before .before .good))
 
 loop-less : tie.Need-loop-less Inv-loop μ-loop
-loop-less c = omega (arith, turns.on ((c .before .before .before .before .before .before .before .before .before .before .before .before .before .before .loop) .inv) ((c .before .before .before .before .before .before .before .before .before .before .before .before .read-form) .ensures) ((c .before .before .before .before .before .before .before .before .next) .given .1))
+loop-less c = omega (arith, (c .before .before .before .if1) .left, (c .before .before .before .before .skip) .ensures .low)
 
 loop-again : tie.Need-loop-again Inv-loop μ-loop
-loop-again c = ⊎-elim
-    (λ w. rw (w .1) (turns.past-list ((c .before .before .before .before .before .before .before .before .before .before .before .before .before .before .loop) .inv) ((c .before .before .before .before .before .before .before .before .before .before .before .before .read-form) .ensures) ((c .before .before .before .before .before .before .before .before .next) .given .1) ((c .before .before .clear) .ensures) (sym ((c .before .before .before .before .before .bracketed) .ensures) ∙ w .0 .taken)))
-    (λ w. rw (w .1) (turns.past-atom ((c .before .before .before .before .before .before .before .before .before .before .before .before .before .before .loop) .inv) ((c .before .before .before .before .before .before .before .before .before .before .before .before .read-form) .ensures) ((c .before .before .before .before .before .before .before .before .next) .given .1) ((c .before .before .clear) .ensures) (sym ((c .before .before .before .before .before .bracketed) .ensures) ∙ w .0 .left)))
-    ((c .before .before .before .before .if1) .came)
+loop-again c = turns.opens (here (c .before .before .before .before)) ((c .before .before .before .if1) .left) ((c .before .if3) .taken) ((c .if4) .left)
+
+returns-4 : tie.Need-returns-4 Inv-loop μ-loop
+returns-4 c = turns.stray (here (c .before .before .before .before .before)) ((c .before .before .before .before .if1) .left) ((c .before .if5) .taken) ((c .if6) .taken)
+
+sub-depth : tie.Need-sub-depth Inv-loop μ-loop
+sub-depth c = omega (arith, (c .if6) .left)
+
+add-at-2 : tie.Need-add-at-2 Inv-loop μ-loop
+add-at-2 c = omega (arith, (c .before .before .before .before .if1) .left, (c .before .before .before .before .before .before .before .before .good))
+
+add-forms : tie.Need-add-forms Inv-loop μ-loop
+add-forms c = omega (arith, here (c .before .before .before .before .before .before) .few, (c .before .before .before .before .before .if1) .left, (c .before .before .before .before .before .before .before .before .before .good))
+
+loop-less-2 : tie.Need-loop-less-2 Inv-loop μ-loop
+loop-less-2 c = omega (arith, (c .before .before .before .before .before .if1) .left, (c .before .before .before .before .before .before .skip) .ensures .low)
+
+loop-again-2 : tie.Need-loop-again-2 Inv-loop μ-loop
+loop-again-2 c = turns.closes-last (here (c .before .before .before .before .before .before)) ((c .before .before .before .before .before .if1) .left) ((c .before .before .if5) .taken) ((c .before .if6) .left) ((c .if7) .taken)
+
+loop-less-3 : tie.Need-loop-less-3 Inv-loop μ-loop
+loop-less-3 c = omega (arith, (c .before .before .before .before .before .if1) .left, (c .before .before .before .before .before .before .skip) .ensures .low)
+
+loop-again-3 : tie.Need-loop-again-3 Inv-loop μ-loop
+loop-again-3 c = turns.closes (here (c .before .before .before .before .before .before)) ((c .before .before .before .before .before .if1) .left) ((c .before .before .if5) .taken) ((c .before .if6) .left) ((c .if7) .left)
+
+-- the byte in front is a letter
+letter-at : (c : tie.Else5 Inv-loop μ-loop) → kind (getD ((c .before .before .before .before .before .before .before .args) .text .now) ((c .before .before .before .before .skip) .result) 0) ≡ letter
+letter-at c = letter-here _ ((c .before .before .before .before .skip) .ensures .noBlank ((c .before .before .before .if1) .left)) ((c .before .before .before .before .skip) .ensures .noComment ((c .before .before .before .if1) .left)) ((c .before .if3) .left) ((c .if5) .left)
+
+atom-end-requires : tie.Need-atom-end-requires Inv-loop μ-loop
+atom-end-requires c κs = here (c .before .before .before .before) .high
+
+loop-less-4 : tie.Need-loop-less-4 Inv-loop μ-loop
+loop-less-4 c = omega (arith, turns.longer (here (c .before .before .before .before .before)) ((c .before .before .before .before .if1) .left) (letter-at (c .before)) _ ((c .atom-end) .ensures), (c .before .before .before .before .if1) .left, (c .before .before .before .before .before .skip) .ensures .low)
+
+loop-again-4 : tie.Need-loop-again-4 Inv-loop μ-loop
+loop-again-4 c = turns.words (here (c .before .before .before .before .before)) ((c .before .before .before .before .if1) .left) (letter-at (c .before)) _ ((c .atom-end) .ensures)
 
 pub read-all-spec : {M : Type 1} → statement M
 read-all-spec =
@@ -67,16 +93,23 @@ read-all-spec =
     Inv-loop
     μ-loop
     loop-holds
-    read-form-requires
-    enum-told
-    same-length
+    skip-requires
     returns
-    enum-known-number
-    same-length-2
     returns-2
-    enum-known-next
-    bracketed-requires
-    add-forms
-    clear-requires
+    shared-slice-read-b
+    returns-3
+    add-depth
+    add-at
     loop-less
-    loop-again)
+    loop-again
+    returns-4
+    sub-depth
+    add-at-2
+    add-forms
+    loop-less-2
+    loop-again-2
+    loop-less-3
+    loop-again-3
+    atom-end-requires
+    loop-less-4
+    loop-again-4)
