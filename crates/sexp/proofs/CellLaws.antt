@@ -27,10 +27,11 @@ zero-none w count = record { most = omega arith; size = refl; laid = refl }
 module _ {w₀ w : List ℕ} {count i : ℕ} (z : Zeroing w₀ w count i) where
   pub zero-more : count ≤ length w₀ → i < count → Zeroing w₀ (set w i 0) count (i + 1)
   zero-more h k =
-      record
-        { most = omega arith
-        ; size = length-set w i 0 ∙ z .size
-        ; laid = stored (replicate i 0) w₀ w i 0 (z .laid) (length-replicate i 0) (omega arith) ∙ ap (λ l. l ++ drop (i + 1) w₀) (replicate-append-replicate i 1 0) }
+      record {
+        most = omega arith;
+        size = length-set w i 0 ∙ z .size;
+        laid = stored (replicate i 0) w₀ w i 0 (z .laid) (length-replicate i 0) (omega arith) ∙ ap (λ l. l ++ drop (i + 1) w₀) (replicate-append-replicate i 1 0);
+      }
 
   pub zero-all : count ≤ i → w ≡ replicate count 0 ++ drop count w₀
   zero-all h =

@@ -103,11 +103,12 @@ module _ {D : List ℕ} {n at : ℕ} (r : Reading D n at) where
     pub more : 48 ≤ b → b ≤ 57 → n ≤ (18446744073709551615 - (b - 48)) / 10 → Reading D (n * 10 + (b - 48)) (at + 1)
     unfolding digit
     more l m o =
-        record
-          { inside = omega arith
-          ; fits = omega arith
-          ; all = r .all ∙ ap digits here ∙ digits-on b (drop (at + 1) D) (rw (le-leb 48 b l, le-leb b 57 m))
-          ; worth = next-value }
+        record {
+          inside = omega arith;
+          fits = omega arith;
+          all = r .all ∙ ap digits here ∙ digits-on b (drop (at + 1) D) (rw (le-leb 48 b l, le-leb b 57 m));
+          worth = next-value;
+        }
 
 -- the sign
 pub no-name : (D : List ℕ) → length D ≡ 0 → Unreadable ≡ spelling (indexOf D)

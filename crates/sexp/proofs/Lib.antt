@@ -4,6 +4,7 @@ pub mod CellLaws
 pub mod OpenLists
 pub mod States
 pub mod Tallies
+pub mod Turns
 pub mod IndexLaws
 pub mod TableLaws
 pub mod TagRows

@@ -42,9 +42,19 @@ pub record State (text : List ℕ) (start : ℕ) (w₀ w : List ℕ) (at used de
 pub started : (text : List ℕ) (start : ℕ) (w : List ℕ) → (start ≤ length text) × (length text ≤ LENGTH) × (length text ≤ length w) → Clear w → State text start w w start 0 0 0
 unfolding layout readFrom
 started text start w h z =
-    record
-      { begun = record { short = h .1; room = h .2; clear = z }
-      ; st = []; laid = refl; uses = refl; opens = refl; deep = refl; most = omega arith; high = h .0; same = refl; few = omega arith; stands = tt }
+    record {
+      begun = record { short = h .1; room = h .2; clear = z };
+      st = [];
+      laid = refl;
+      uses = refl;
+      opens = refl;
+      deep = refl;
+      most = omega arith;
+      high = h .0;
+      same = refl;
+      few = omega arith;
+      stands = tt;
+    }
 
 -- the answer is right, by what the definition reads
 pub finish : {text : List ℕ} {start : ℕ} {w v : List ℕ} {r : Read} (n : Text) → readFrom text start ≡ n → r ≡ answer n → v ≡ written n (length w) → Behind text start n → ReadRight text start w v r
@@ -53,12 +63,19 @@ finish n e a b c = record { answers = rw e a; cells = rw e b; behind = rw e c }
 module _ {text : List ℕ} {start : ℕ} {w₀ w : List ℕ} {at used depth op : ℕ} (s : State text start w₀ w at used depth op) where
   pub skipped : (r : ℕ) → Skipped text at r → State text start w₀ w r used depth op
   skipped r k =
-      record
-        { begun = s .begun; st = s .st; laid = s .laid; uses = s .uses; opens = s .opens; deep = s .deep; most = s .most
-        ; high = k .high
-        ; same = s .same ∙ ap (forms (s .st)) (k .same)
-        ; few = omega (arith, s .few, k .low)
-        ; stands = s .stands }
+      record {
+        begun = s .begun;
+        st = s .st;
+        laid = s .laid;
+        uses = s .uses;
+        opens = s .opens;
+        deep = s .deep;
+        most = s .most;
+        high = k .high;
+        same = s .same ∙ ap (forms (s .st)) (k .same);
+        few = omega (arith, s .few, k .low);
+        stands = s .stands;
+      }
 
   pub same-length : length w ≡ length w₀
   same-length = laid-length (layout (s .st)) w₀ w used (s .laid) (sym (s .uses)) (omega (arith, s .few, s .high, s .begun .room))
@@ -113,18 +130,19 @@ module _ {text : List ℕ} {start : ℕ} {w₀ w : List ℕ} {at used depth op :
     pub opens-on : getD text at 0 ≡ 40 → (depth ≡ DEPTH → ⊥) → State text start w₀ (set w used op) (at + 1) (used + 1) (depth + 1) used
     unfolding layout
     opens-on b d =
-        record
-          { begun = s .begun
-          ; st = nil ∷ s .st
-          ; laid = rw (layout-open (s .st), ← s .opens) (stored (layout (s .st)) w₀ w used op (s .laid) (sym (s .uses)) (omega (arith, s .few, s .begun .room)))
-          ; uses = omega (arith, ap length (layout-open (s .st)), length-append (layout (s .st)) (top (s .st) ∷ []), s .uses)
-          ; opens = s .uses
-          ; deep = omega (arith, s .deep)
-          ; most = omega (arith, s .most, d)
-          ; high = omega arith
-          ; same = s .same ∙ ap (forms (s .st)) (place-left text at i (kind-left _ b)) ∙ forms-opens (s .st) at _ (omega (arith, s .most, s .deep, d))
-          ; few = omega (arith, s .few)
-          ; stands = (tt, s .stands) }
+        record {
+          begun = s .begun;
+          st = nil ∷ s .st;
+          laid = rw (layout-open (s .st), ← s .opens) (stored (layout (s .st)) w₀ w used op (s .laid) (sym (s .uses)) (omega (arith, s .few, s .begun .room)));
+          uses = omega (arith, ap length (layout-open (s .st)), length-append (layout (s .st)) (top (s .st) ∷ []), s .uses);
+          opens = s .uses;
+          deep = omega (arith, s .deep);
+          most = omega (arith, s .most, d);
+          high = omega arith;
+          same = s .same ∙ ap (forms (s .st)) (place-left text at i (kind-left _ b)) ∙ forms-opens (s .st) at _ (omega (arith, s .most, s .deep, d));
+          few = omega (arith, s .few);
+          stands = (tt, s .stands);
+        }
 
     pub stray : getD text at 0 ≡ 41 → depth ≡ 0 → ReadRight text start w₀ w (Refused 4)
     stray b d = go (s .st) refl
@@ -154,18 +172,19 @@ module _ {text : List ℕ} {start : ℕ} {w₀ w : List ℕ} {at used depth op :
         go (xs ∷ []) e = absurd (d′ (omega (arith, s .deep, ap length e)))
         go (xs ∷ ys ∷ st) e =
             let k : Stands text (xs ∷ ys ∷ st) = rw e at (s .stands) in
-            record
-              { begun = s .begun
-              ; st = snoc ys (list xs) ∷ st
-              ; laid = rw (layout-snoc ys st (list xs)) (closed-laid xs (ys ∷ st) e)
-              ; uses = closed-uses xs (ys ∷ st) e ∙ ap length (sym (layout-snoc ys st (list xs)))
-              ; opens = ap (λ x. getD w x 0) (s .opens ∙ ap top e) ∙ around xs (ys ∷ st) w (drop used w₀) (s .laid ∙ rw e) ∙ sym (top-snoc ys st (list xs))
-              ; deep = omega (arith, s .deep, ap length e)
-              ; most = omega (arith, s .most)
-              ; high = omega arith
-              ; same = s .same ∙ rw e (ap (forms (xs ∷ ys ∷ st)) (place-right text at i (kind-right _ b)) ∙ forms-closes xs ys st at _)
-              ; few = omega (arith, s .few)
-              ; stands = (snoc-spelt text ys (list xs) (k .1 .0) (k .0), k .1 .1) }
+            record {
+              begun = s .begun;
+              st = snoc ys (list xs) ∷ st;
+              laid = rw (layout-snoc ys st (list xs)) (closed-laid xs (ys ∷ st) e);
+              uses = closed-uses xs (ys ∷ st) e ∙ ap length (sym (layout-snoc ys st (list xs)));
+              opens = ap (λ x. getD w x 0) (s .opens ∙ ap top e) ∙ around xs (ys ∷ st) w (drop used w₀) (s .laid ∙ rw e) ∙ sym (top-snoc ys st (list xs));
+              deep = omega (arith, s .deep, ap length e);
+              most = omega (arith, s .most);
+              high = omega arith;
+              same = s .same ∙ rw e (ap (forms (xs ∷ ys ∷ st)) (place-right text at i (kind-right _ b)) ∙ forms-closes xs ys st at _);
+              few = omega (arith, s .few);
+              stands = (snoc-spelt text ys (list xs) (k .1 .0) (k .0), k .1 .1);
+            }
 
     pub closes-last : getD text at 0 ≡ 41 → (depth ≡ 0 → ⊥) → depth - 1 ≡ 0 → ReadRight text start w₀ (set w op (2 * (used - op - 1))) (Form (at + 1) used)
     unfolding layout readFrom
@@ -203,18 +222,19 @@ module _ {text : List ℕ} {start : ℕ} {w₀ w : List ℕ} {at used depth op :
               let y : Sexp = atom at (letters (drop at text)) in
               let ul : used ≡ length (layout (xs ∷ st)) = s .uses ∙ ap (λ x. length (layout x)) e in
               let k : Stands text (xs ∷ st) = rw e at (s .stands) in
-              record
-                { begun = s .begun
-                ; st = snoc xs y ∷ st
-                ; laid = rw (layout-snoc xs st y) (stored (layout (xs ∷ st)) w₀ w used (2 * at + 1) (s .laid ∙ rw e) (sym ul) (omega (arith, s .few, s .begun .room)))
-                ; uses = rw (layout-snoc xs st y) (omega (arith, ul, length-append (layout (xs ∷ st)) ((2 * at + 1) ∷ [])))
-                ; opens = s .opens ∙ ap top e ∙ sym (top-snoc xs st y)
-                ; deep = s .deep ∙ ap length e
-                ; most = s .most
-                ; high = within-text
-                ; same = s .same ∙ rw e (ap (forms (xs ∷ st)) atom-token ∙ forms-word xs st at _ _)
-                ; few = omega (arith, s .few, longer)
-                ; stands = (snoc-spelt text xs y (k .0) (record { inside = i; bytes = refl }), k .1) }
+              record {
+                begun = s .begun;
+                st = snoc xs y ∷ st;
+                laid = rw (layout-snoc xs st y) (stored (layout (xs ∷ st)) w₀ w used (2 * at + 1) (s .laid ∙ rw e) (sym ul) (omega (arith, s .few, s .begun .room)));
+                uses = rw (layout-snoc xs st y) (omega (arith, ul, length-append (layout (xs ∷ st)) ((2 * at + 1) ∷ [])));
+                opens = s .opens ∙ ap top e ∙ sym (top-snoc xs st y);
+                deep = s .deep ∙ ap length e;
+                most = s .most;
+                high = within-text;
+                same = s .same ∙ rw e (ap (forms (xs ∷ st)) atom-token ∙ forms-word xs st at _ _);
+                few = omega (arith, s .few, longer);
+                stands = (snoc-spelt text xs y (k .0) (record { inside = i; bytes = refl }), k .1);
+              }
 
       pub word-last : depth ≡ 0 → ReadRight text start w₀ (set w used (2 * at + 1)) (Form end (used + 1))
       unfolding layout encode readFrom

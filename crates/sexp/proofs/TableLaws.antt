@@ -18,6 +18,7 @@ and-true false b e = (e, absurd (let z : _≡_ {A = ℕ} 0 1 = cc in omega arith
 pub at : (n : ℕ) (f : ℕ → Bool) → upto n f ≡ true → (k : ℕ) → k < n → f k ≡ true
 at zero f t k h = absurd (not-suc-le-zero h)
 at (suc n) f t k h =
-    elim (decLt k n)
-    [ yes l ↦ at n f (and-true (upto n f) (f n) t .0) k l
-    | no q ↦ let e : k ≡ n = omega arith in ap f e ∙ and-true (upto n f) (f n) t .1 ]
+    elim (decLt k n) [
+      | yes l ↦ at n f (and-true (upto n f) (f n) t .0) k l
+      | no q ↦ let e : k ≡ n = omega arith in ap f e ∙ and-true (upto n f) (f n) t .1
+    ]

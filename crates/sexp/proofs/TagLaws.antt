@@ -51,13 +51,14 @@ module _ {from to : ℕ} {x : List ℕ} {n row : ℕ} (s : Searching from to x n
 
   pub next : row < to → suits (shapeAt row) x n ≡ false → Searching from to x n (row + 1)
   next h e =
-      record
-        { low = omega (arith, s .low)
-        ; high = omega arith
-        ; last = s .last
-        ; same =
+      record {
+        low = omega (arith, s .low);
+        high = omega arith;
+        last = s .last;
+        same =
             s .same ∙ ap (λ l. row + firstRow l x n) (rows-are to row h (s .last))
-            ∙ omega (arith, row-on (shapeAt row) (take (to - (row + 1)) (drop (row + 1) shapes)) x n e) }
+            ∙ omega (arith, row-on (shapeAt row) (take (to - (row + 1)) (drop (row + 1) shapes)) x n e);
+      }
 
   pub none-found : to ≤ row → row ≡ from + firstRow (take (to - from) (drop from shapes)) x n
   unfolding firstRow

@@ -10,7 +10,7 @@ use lib.Dec.{eqb, leb}
 use lib.ListN.{length, getD, take, drop}
 use lib.Seq.{drop-cons}
 use borrow.Author.Tests.{eqb-true, leb-true, le-leb, lt-leb}
-use Rattle.rules.specs.Text.{same}
+use Rattle.rules.specs.Text.{bytes, same}
 use Rattle.rules.specs.TextLaws.{same-equal}
 use Rattle.rules.specs.Tags.{Row, Tag, proofTags, theoryTags, goalTags, within, fits, tagIn, proofTag, declaration, goalForm, indexIn, indexPlace, tagging}
 use Rattle.sexp.specs.TagTable.{Shape, shape, shapesOf, shapes, noShape, shapeAt, suits, firstRow, tagAt, tagAnswer, declarationAnswer, goalAnswer, placeAnswer}
@@ -19,12 +19,7 @@ use Rattle.sexp.proofs.TableLaws.{upto, at}
 -- the code's constants
 
 abbrev pub names : List ℕ
-names =
-    118 ∷ 97 ∷ 114 ∷ 0 ∷ 0 ∷ 0 ∷ 100 ∷ 101 ∷ 102 ∷ 0 ∷ 0 ∷ 0 ∷ 115 ∷ 116 ∷ 101 ∷ 112 ∷ 0 ∷ 0 ∷ 104 ∷ 121 ∷ 112 ∷ 0 ∷ 0 ∷ 0 ∷
-    104 ∷ 121 ∷ 112 ∷ 0 ∷ 0 ∷ 0 ∷ 105 ∷ 110 ∷ 100 ∷ 117 ∷ 99 ∷ 116 ∷ 105 ∷ 110 ∷ 100 ∷ 117 ∷ 99 ∷ 116 ∷ 97 ∷ 112 ∷ 112 ∷ 108 ∷
-    121 ∷ 0 ∷ 105 ∷ 110 ∷ 118 ∷ 101 ∷ 114 ∷ 116 ∷ 114 ∷ 101 ∷ 115 ∷ 117 ∷ 108 ∷ 116 ∷ 115 ∷ 111 ∷ 114 ∷ 116 ∷ 0 ∷ 0 ∷ 99 ∷
-    116 ∷ 111 ∷ 114 ∷ 0 ∷ 0 ∷ 112 ∷ 114 ∷ 101 ∷ 100 ∷ 0 ∷ 0 ∷ 114 ∷ 117 ∷ 108 ∷ 101 ∷ 0 ∷ 0 ∷ 118 ∷ 97 ∷ 114 ∷ 0 ∷ 0 ∷ 0 ∷
-    103 ∷ 111 ∷ 97 ∷ 108 ∷ 0 ∷ 0 ∷ 103 ∷ 111 ∷ 97 ∷ 108 ∷ 0 ∷ 0 ∷ []
+names = bytes "var   def   step  hyp   hyp   inductinductapply invertresultsort  ctor  pred  rule  var   goal  goal  "
 
 abbrev pub sizes : List ℕ
 sizes =
@@ -102,8 +97,8 @@ module _ (i : ℕ) (h : i < 17) (x : List ℕ) (n : ℕ) where
     too-many l =
         let b : within (shapeAt i .most) n ≡ false = most-test ∙ lt-leb n (getD mosts i 0) l in
         sym (
-          ap (λ t. same (shapeAt i .name) x && (leb (shapeAt i .least) n && t)) b
-          ∙ ap (λ t. same (shapeAt i .name) x && t) (and-not (leb (shapeAt i .least) n)) ∙ and-not (same (shapeAt i .name) x))
+        ap (λ t. same (shapeAt i .name) x && (leb (shapeAt i .least) n && t)) b
+        ∙ ap (λ t. same (shapeAt i .name) x && t) (and-not (leb (shapeAt i .least) n)) ∙ and-not (same (shapeAt i .name) x))
 
     pub by-name : {r : Bool} → r ≡ same (nameAt i) x → getD leasts i 0 ≤ n → n ≤ getD mosts i 0 → r ≡ suits (shapeAt i) x n
     unfolding suits

@@ -59,13 +59,14 @@ module _ {words : List ℕ} {n at : ℕ} (t : Tallies words n at) where
 
     pub tally-on : Tallies words (n + 1) r
     tally-on =
-        record
-          { some = t .some
-          ; all = λ xs f.
+        record {
+          some = t .some;
+          all = λ xs f.
               let k = t .all xs f in
               let m = at-more (k .left) (k .here) h in
-              record { left = m .others; here = next (k .here) m r e; sum = omega (arith, k .sum, ap count (m .is), count-cons (m .first) (m .others)) }
-          ; few = omega (arith, t .few, tally-less .0) }
+              record { left = m .others; here = next (k .here) m r e; sum = omega (arith, k .sum, ap count (m .is), count-cons (m .first) (m .others)) };
+          few = omega (arith, t .few, tally-less .0);
+        }
 
 -- so many items are still to be passed
 pub record Seek (words : List ℕ) (number at n : ℕ) (xs : Sexps) : Type 0 where
@@ -104,15 +105,17 @@ module _ {words : List ℕ} {number at n : ℕ} (t : Seeks words number at n) wh
 
   pub seek-on : at < length words → 0 < n → (r : ℕ) → r ≡ behind at (itemAt words at) → Seeks words number r (n - 1)
   seek-on h p r e =
-      record
-        { some = t .some
-        ; all = λ xs f.
+      record {
+        some = t .some;
+        all = λ xs f.
             let k = t .all xs f in
             let m = at-more (k .left) (k .here) h in
-            record
-              { left = m .others
-              ; here = next (k .here) m r e
-              ; sum = omega (arith, k .sum, ap (λ y. place y n) (m .is), place-on (m .first) (m .others) n p, past (k .here) m r e) } }
+            record {
+              left = m .others;
+              here = next (k .here) m r e;
+              sum = omega (arith, k .sum, ap (λ y. place y n) (m .is), place-on (m .first) (m .others) n p, past (k .here) m r e);
+            };
+      }
 
 -- the item that is found
 pub nth-inside : {words : List ℕ} {number : ℕ} (h : Reaches words number) (at : ℕ) → ((xs : Sexps) → words ≡ encodes xs → at ≡ place xs number) → at < length words

@@ -68,9 +68,10 @@ module _ {words : List ℕ} {at : ℕ} where
 
     pub at-next : At words (at + length (encode x)) ys
     at-next =
-        record
-          { high = at-room
-          ; lies = sym (drop-drop (length (encode x)) at words) ∙ ap (drop (length (encode x))) apart ∙ drop-append-seam (encode x) (encodes ys) }
+        record {
+          high = at-room;
+          lies = sym (drop-drop (length (encode x)) at words) ∙ ap (drop (length (encode x))) apart ∙ drop-append-seam (encode x) (encodes ys);
+        }
 
     head-cell : getD words at 0 ≡ getD (encode x ++ encodes ys) 0 0
     head-cell = ap (λ n. getD words n 0) (sym (add-zero at)) ∙ sym (getD-drop at words 0 0) ∙ ap (λ l. getD l 0 0) apart

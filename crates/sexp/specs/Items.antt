@@ -16,6 +16,10 @@ pub record Holds (text words : List ℕ) (xs : Sexps) : Type 0 where
   pub cells : words ≡ encodes xs
   pub spelt : Spells text xs
 
+-- the cells hold some items of the text
+abbrev pub Held : List ℕ → List ℕ → Type 0
+Held text words = (xs : Sexps) × Holds text words xs
+
 -- the cells are those of some items
 abbrev pub Items : List ℕ → Type 0
 Items words = (xs : Sexps) × (words ≡ encodes xs)

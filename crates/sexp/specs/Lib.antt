@@ -5,5 +5,7 @@ pub mod Reads
 pub mod Items
 pub mod ItemLaws
 pub mod WalkLaws
+pub mod ReadLaws
+pub mod Whole
 pub mod Names
 pub mod TagTable

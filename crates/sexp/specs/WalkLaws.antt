@@ -4,7 +4,7 @@ use Prim.Native.Nat.{ℕ, zero, suc, _+_, _-_, _≤_, _<_}
 use mathlib.Core.List.{List, [], _∷_, _++_}
 use native.Mathlib.Nat.{zero-add}
 use native.Mathlib.Omega.{arith}
-use lib.ListN.{length, take, drop, length-append, length-drop}
+use lib.ListN.{length, take, drop, length-drop, length-take}
 use lib.Seq.{drop-drop, take-append-seam, take-all}
 use Rattle.rules.specs.Lex.{kind, letter, letters}
 use Rattle.rules.specs.LexLaws.{letters-front}
@@ -12,7 +12,7 @@ use Rattle.rules.specs.Sexp.{Sexp, Sexps, atom, list, nil, cons, count, item, r
 use Rattle.sexp.specs.Encode.{encode, encodes}
 use Rattle.sexp.specs.Spelt.{AtomAt, Spelt, Spells}
 use Rattle.sexp.specs.Items.{Holds, itemOf, itemAt, place}
-use Rattle.sexp.specs.ItemLaws.{At, at-first, at-more, at-over, at-inside, at-room, at-next, More, item-here, item-at-place, at-place, encodes-cons}
+use Rattle.sexp.specs.ItemLaws.{At, at-first, at-more, at-over, at-inside, at-room, at-next, More, item-here, item-at-place, at-place, some-cells}
 use Rattle.sexp.specs.declared.items.Item.{Item}
 use Rattle.sexp.specs.declared.items.Item.the-variants.{Atom, List as Part}
 
@@ -54,15 +54,17 @@ list-here text words at (list xs) ys a b k s e =
     let ea : a ≡ at + 1 = cc in
     let eb : b ≡ at + 1 + length (encodes xs) = cc in
     let n : b - a ≡ length (encodes xs) = omega arith in
-    let d : drop (at + 1) words ≡ encodes xs ++ encodes ys = sym (drop-drop 1 at words) ∙ ap (drop 1) (k .lies) in
-    ( record
-        { items = xs
-        ; is = refl
-        ; low = omega arith
-        ; high = omega (arith, at-room k)
-        ; shorter = omega (arith, at-room k)
-        ; holds = record { cells = rw (n, ea, d) (take-append-seam (encodes xs) (encodes ys)); spelt = s } }
-    , omega arith)
+    let d : drop (at + 1) words ≡ encodes xs ++ encodes ys = sym (drop-drop 1 at words) ∙ ap (drop 1) (k .lies) in (
+      record {
+        items = xs;
+        is = refl;
+        low = omega arith;
+        high = omega (arith, at-room k);
+        shorter = omega (arith, at-room k);
+        holds = record { cells = rw (n, ea, d) (take-append-seam (encodes xs) (encodes ys)); spelt = s };
+      },
+      omega arith,
+    )
 
 atom-next : (words : List ℕ) (at : ℕ) (x : Sexp) (ys : Sexps) → At words at (cons x ys) → (p : ℕ) → Atom p ≡ itemOf at x → At words (at + 1) ys
 unfolding encode
@@ -100,9 +102,17 @@ module _ {text words : List ℕ} {at : ℕ} where
 
     pub past-list : {a b : ℕ} → r ≡ Part a b → Walk text words b ys
     past-list f =
-        record
-          { here = rw (list-here text words at x ys _ _ (k .here) (k .spelt .0) (sym f ∙ is-item) .1) (at-next (k .here))
-          ; spelt = k .spelt .1 }
+        record {
+          here = rw (list-here text words at x ys _ _ (k .here) (k .spelt .0) (sym f ∙ is-item) .1) (at-next (k .here));
+          spelt = k .spelt .1;
+        }
+
+    pub list-on : {a b : ℕ} → r ≡ Part a b → at < b
+    list-on f = omega (arith, list-here text words at x ys _ _ (k .here) (k .spelt .0) (sym f ∙ is-item) .1, some-cells x)
+
+-- a list's cells are fewer than those of the list around it
+pub part-shorter : {text words : List ℕ} {x : Sexp} {a b : ℕ} → ListIs text words x a b → length (take (b - a) (drop a words)) < length words
+part-shorter {words = words} {a = a} {b} l = omega (arith, l .shorter, length-take (b - a) (drop a words))
 
 -- By number --------------------------------------------------------------------------------------------------------------------
 
@@ -147,7 +157,8 @@ pub record Span (text : List ℕ) (start end : ℕ) (bs : List ℕ) : Type 0 whe
 pub span : {text : List ℕ} {start end : ℕ} {bs : List ℕ} → AtomAt text start bs → end ≡ start + length (letters (drop start text)) → Span text start end bs
 span {text} {start} {end} {bs} a e =
     let n : end - start ≡ length (letters (drop start text)) = omega arith in
-    record
-      { low = omega arith
-      ; high = omega (arith, letters-front (drop start text) .short, length-drop start text, a .inside)
-      ; part = rw n (letters-front (drop start text) .first ∙ a .bytes) }
+    record {
+      low = omega arith;
+      high = omega (arith, letters-front (drop start text) .short, length-drop start text, a .inside);
+      part = rw n (letters-front (drop start text) .first ∙ a .bytes);
+    }

@@ -4,14 +4,23 @@ ghost use mathlib.Core.List.{_++_};
 ghost use Prim.Native.Nat.{ℕ, _+_, _*_, _-_, _^_, _≤_, _<_};
 ghost use lib.ListN.{length, getD, set, drop, replicate};
 ghost use Rattle.rules.specs.Limits.{LENGTH};
+ghost use Rattle.rules.specs.Sexp.{read};
 ghost use Rattle.sexp.specs.Reads.{Clear, ReadRight};
-use crate::lex::{atom_end, skip};
+ghost use Rattle.sexp.specs.Whole.{wholeOf};
+use crate::lex::atom_end;
+use crate::lex::skip;
 
 // What stands in front: nothing, a form with the place behind it and the number of its cells, or a refusal by its number.
 pub enum Read {
     End,
     Form(usize, usize),
     Refused(usize),
+}
+
+// How a text ends: the number of its bracketed forms, or a refusal by its number, with that of the bracketed forms before it.
+pub enum Whole {
+    Forms(usize),
+    Refused(usize, usize),
 }
 
 // Sets the first cells back to zero.
@@ -91,6 +100,43 @@ pub fn read_form(text: &[u8], from: usize, words: &mut [u32]) -> Read
             if depth == 0 {
                 return Read::Form(at, used);
             }
+        }
+    }
+}
+
+// Reads a text to its end or to a refusal, without a look at its forms and without cells.
+pub fn read_all(text: &[u8]) -> Whole
+    ensures { λ r. ⌜ r ≡ wholeOf (read (now (text .entry))) 0 ⌝ }
+{
+    let mut at = 0;
+    let mut depth = 0;
+    let mut forms = 0;
+    loop {
+        at = skip(text, at);
+        if at >= text.len() {
+            if depth == 0 {
+                return Whole::Forms(forms);
+            }
+            return Whole::Refused(4, forms);
+        }
+        let b = text[at];
+        if b == b'(' {
+            if depth == rules::DEPTH {
+                return Whole::Refused(5, forms);
+            }
+            depth += 1;
+            at += 1;
+        } else if b == b')' {
+            if depth == 0 {
+                return Whole::Refused(4, forms);
+            }
+            depth -= 1;
+            at += 1;
+            if depth == 0 {
+                forms += 1;
+            }
+        } else {
+            at = atom_end(text, at);
         }
     }
 }

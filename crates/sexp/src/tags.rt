@@ -38,16 +38,19 @@ pub enum GoalForm {
     Unknown,
 }
 
-// Names of up to six bytes, a row each, zero behind them; their lengths; the least and the most items; the place of the index, or 0.
-const NAMES: [u8; 102] = [
-    118, 97, 114, 0, 0, 0, 100, 101, 102, 0, 0, 0, 115, 116, 101, 112, 0, 0, 104, 121, 112, 0, 0, 0, 104, 121, 112, 0, 0, 0, 105, 110, 100,
-    117, 99, 116, 105, 110, 100, 117, 99, 116, 97, 112, 112, 108, 121, 0, 105, 110, 118, 101, 114, 116, 114, 101, 115, 117, 108, 116, 115,
-    111, 114, 116, 0, 0, 99, 116, 111, 114, 0, 0, 112, 114, 101, 100, 0, 0, 114, 117, 108, 101, 0, 0, 118, 97, 114, 0, 0, 0, 103, 111, 97,
-    108, 0, 0, 103, 111, 97, 108, 0, 0,
-];
+// No form has more items.
+const MANY: usize = 0xffff_ffff_ffff_ffff;
+
+// Names, six bytes a row; their lengths; the least and the most items; the place of the index, or 0.
+const NAMES: [u8; 102] =
+    *b"var   def   step  hyp   hyp   inductinductapply invertresultsort  ctor  pred  rule  var   goal  goal  ";
+
 const SIZES: [usize; 17] = [3, 3, 4, 3, 3, 6, 6, 5, 6, 6, 4, 4, 4, 4, 3, 4, 4];
+
 const LEAST: [usize; 17] = [3, 3, 4, 3, 5, 5, 6, 5, 6, 3, 2, 4, 3, 4, 3, 3, 4];
-const MOST: [usize; 17] = [3, 3, 0xffff_ffff_ffff_ffff, 3, 5, 5, 6, 5, 6, 3, 2, 4, 3, 4, 3, 3, 4];
+
+const MOST: [usize; 17] = [3, 3, MANY, 3, 5, 5, 6, 5, 6, 3, 2, 4, 3, 4, 3, 3, 4];
+
 const INDEX: [usize; 10] = [0, 0, 1, 1, 1, 1, 1, 1, 1, 0];
 
 // Whether a row is for that name and so many items.
