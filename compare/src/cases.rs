@@ -8,7 +8,7 @@ use crate::random::Random;
 use crate::theories::theory;
 
 /// A finished proof, and copies of it in which a form stands that the original did not take.
-fn generate(seed: u64) -> Vec<Texts> {
+pub fn generate(seed: u64) -> Vec<Texts> {
     let mut rng = Random::new(seed);
     let mut builder = Builder::new(Random::new(seed ^ 0x5eed), &theory(&mut rng));
     for _ in 0..4 + builder.rng.below(12) {

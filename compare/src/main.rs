@@ -14,8 +14,10 @@ mod builder;
 mod cases;
 mod damage;
 mod moves;
+mod ours;
 mod pairing;
 mod random;
+mod speed;
 mod theories;
 mod trees;
 mod world;
@@ -26,6 +28,7 @@ fn main() {
     let done = match words[..] {
         ["line", theory, goals, proof] => line(theory, goals, proof),
         ["cases", n, seed, ref sources @ ..] => cases::print(n, seed, sources),
+        ["speed"] => speed::run(),
         _ => Err("usage: compare line THEORY GOALS PROOF | cases N SEED [SOURCE...] | speed".into()),
     };
     if let Err(why) = done {
