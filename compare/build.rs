@@ -16,6 +16,20 @@ fn main() {
         named += &format!("#[allow(dead_code)]\n#[path = \"{}\"]\npub mod {module};\n", out.join(module).with_extension("rs").display());
     }
     fs::write(out.join("original.rs"), named).expect("the build folder can be written");
+    link(&here);
+}
+
+/// Where a part of this product is measured: the static library that `rt staticlib` writes of its exported functions.
+fn link(here: &Path) {
+    println!("cargo:rerun-if-env-changed=STATICLIB");
+    let folder = env::var("STATICLIB").map_or(here.join("../target/staticlib"), PathBuf::from);
+    for (part, library) in [("READER", "exports"), ("TERMS", "exports_terms")] {
+        if env::var(format!("CARGO_FEATURE_{part}")).is_ok() {
+            println!("cargo:rerun-if-changed={}", folder.join(format!("lib{library}.a")).display());
+            println!("cargo:rustc-link-search=native={}", folder.display());
+            println!("cargo:rustc-link-lib=static={library}");
+        }
+    }
 }
 
 fn copy(from: &Path, out: &Path, module: &str) {

@@ -6,7 +6,7 @@
 A SOURCE is a file of cases (blocks with theory|, goals|, proof|, expect| lines) or a folder whose subfolders hold the files
 theory, goals, proof and expected. Each case becomes one equation, `line theory goals proof ≡ expected`, which the prover must
 close by computation alone. Of an expected line with a `?` in it only the other numbers are compared. The rows are checked in a
-temporary repository beside the crate `rules`; every case whose equation does not hold is named, with what the prover found
+temporary repository beside the files of the crate `rules` that the definition needs; every case whose equation does not hold is named, with what the prover found
 instead, and the last line counts them. The variable RT names the prover's command, `rt` where it is not set.
 """
 import os, re, subprocess, sys, tempfile
@@ -102,6 +102,21 @@ def write(path, s):
         f.write(s)
 
 
+def definition(rules, top):
+    """The crate `rules` without what `line` does not reach, as its laws."""
+    specs, reached, waiting = os.path.join(rules, "specs"), {}, ["Run", "Text"]
+    while waiting:
+        name = waiting.pop()
+        if name not in reached:
+            reached[name] = open(os.path.join(specs, name + ".antt")).read()
+            waiting += re.findall(r"^use Rattle\.rules\.specs\.(\w+)", reached[name], re.M)
+    order = re.findall(r"^pub mod (\w+)", open(os.path.join(specs, "Lib.antt")).read(), re.M)
+    for name in reached:
+        write(os.path.join(top, "crates", "rules", "specs", name + ".antt"), reached[name])
+    write(os.path.join(top, "crates", "rules", "specs", "Lib.antt"), "".join("pub mod %s\n" % n for n in order if n in reached))
+    write(os.path.join(top, "crates", "rules", "src", "lib.rt"), open(os.path.join(rules, "src", "lib.rt")).read())
+
+
 def main(argv):
     rules = os.path.join(os.path.dirname(os.path.abspath(__file__)), "..", "crates", "rules")
     if argv[:1] == ["--crate"]:
@@ -113,8 +128,7 @@ def main(argv):
         cases += from_folders(source) if os.path.isdir(source) else from_blocks(source)
     with tempfile.TemporaryDirectory() as top:
         write(os.path.join(top, "crates.txt"), "rules:\ncases: rules\n")
-        os.makedirs(os.path.join(top, "crates"))
-        os.symlink(os.path.abspath(rules), os.path.join(top, "crates", "rules"))
+        definition(rules, top)
         write(os.path.join(top, "crates", "cases", "src", "lib.rt"), "pub const ROWS: usize = %d;\n" % len(cases))
         names = []
         for k in range(0, len(cases), ROWS_A_FILE):
