@@ -5,8 +5,9 @@
 
 A SOURCE is a file of cases (blocks with theory|, goals|, proof|, expect| lines) or a folder whose subfolders hold the files
 theory, goals, proof and expected. Each case becomes one equation, `line theory goals proof ≡ expected`, which the prover must
-close by computation alone. The rows are checked in a temporary repository beside the crate `rules`; every case whose
-equation does not hold is named, with what the prover found instead, and the last line counts them.
+close by computation alone. Of an expected line with a `?` in it only the other numbers are compared. The rows are checked in a
+temporary repository beside the files of the crate `rules` that the definition needs; every case whose equation does not hold is named, with what the prover found
+instead, and the last line counts them. The variable RT names the prover's command, `rt` where it is not set.
 """
 import os, re, subprocess, sys, tempfile
 
@@ -51,8 +52,9 @@ def from_folders(path):
 
 
 def numbers(expect):
+    """The line as numbers, None where a number is left open."""
     words = expect.decode().strip().strip("()").split()
-    return [1 if words[0] == "accepted" else 0] + [int(w) for w in words[1:]]
+    return [1 if words[0] == "accepted" else 0] + [None if w == "?" else int(w) for w in words[1:]]
 
 
 def listed(ns):
@@ -66,13 +68,31 @@ def text(b):
     return "(%s)" % listed(b)
 
 
+# the numbers of a line for which the list before it says so
+ONLY = """unfoldable only : List Bool → List ℕ → List ℕ
+only [] ns = []
+only (b ∷ bs) [] = []
+only (true ∷ bs) (n ∷ ns) = n ∷ only bs ns
+only (false ∷ bs) (n ∷ ns) = only bs ns
+"""
+
+
+def equation(case):
+    """The two sides, and the definitions to open."""
+    left, right = "line %s %s %s" % (text(case.theory), text(case.goals), text(case.proof)), numbers(case.expect)
+    if None not in right:
+        return left, listed(right), "running"
+    wanted = listed("false" if n is None else "true" for n in right)
+    return "only (%s) (%s)" % (wanted, left), listed(n for n in right if n is not None), "running only"
+
+
 def module(cases, first):
-    out = ["use mathlib.Core.Path.{_≡_, refl}", "use mathlib.Core.List.{List, [], _∷_}", "use Rattle.rules.specs.Text.{bytes}",
-           "use Rattle.rules.specs.Run.{line, running}", ""]
+    out = ["use Prim.Native.Nat.{ℕ}", "use mathlib.Core.Path.{_≡_, refl}", "use mathlib.Core.Bool.{Bool, true, false}",
+           "use mathlib.Core.List.{List, [], _∷_}", "use Rattle.rules.specs.Text.{bytes}", "use Rattle.rules.specs.Run.{line, running}",
+           "", ONLY]
     for i, c in enumerate(cases):
-        row = "row%d" % (first + i)
-        out += ["%s : line %s %s %s ≡ %s" % (row, text(c.theory), text(c.goals), text(c.proof), listed(numbers(c.expect))),
-                "unfolding running", "%s = refl" % row, ""]
+        row, (left, right, opened) = "row%d" % (first + i), equation(c)
+        out += ["%s : %s ≡ %s" % (row, left, right), "unfolding " + opened, "%s = refl" % row, ""]
     return "\n".join(out)
 
 
@@ -80,6 +100,21 @@ def write(path, s):
     os.makedirs(os.path.dirname(path), exist_ok=True)
     with open(path, "w") as f:
         f.write(s)
+
+
+def definition(rules, top):
+    """The crate `rules` without what `line` does not reach, as its laws."""
+    specs, reached, waiting = os.path.join(rules, "specs"), {}, ["Run", "Text"]
+    while waiting:
+        name = waiting.pop()
+        if name not in reached:
+            reached[name] = open(os.path.join(specs, name + ".antt")).read()
+            waiting += re.findall(r"^use Rattle\.rules\.specs\.(\w+)", reached[name], re.M)
+    order = re.findall(r"^pub mod (\w+)", open(os.path.join(specs, "Lib.antt")).read(), re.M)
+    for name in reached:
+        write(os.path.join(top, "crates", "rules", "specs", name + ".antt"), reached[name])
+    write(os.path.join(top, "crates", "rules", "specs", "Lib.antt"), "".join("pub mod %s\n" % n for n in order if n in reached))
+    write(os.path.join(top, "crates", "rules", "src", "lib.rt"), open(os.path.join(rules, "src", "lib.rt")).read())
 
 
 def main(argv):
@@ -93,14 +128,14 @@ def main(argv):
         cases += from_folders(source) if os.path.isdir(source) else from_blocks(source)
     with tempfile.TemporaryDirectory() as top:
         write(os.path.join(top, "crates.txt"), "rules:\ncases: rules\n")
-        os.symlink(os.path.abspath(rules), os.path.join(top, "crates", "rules")) if os.makedirs(os.path.join(top, "crates")) is None else None
+        definition(rules, top)
         write(os.path.join(top, "crates", "cases", "src", "lib.rt"), "pub const ROWS: usize = %d;\n" % len(cases))
         names = []
         for k in range(0, len(cases), ROWS_A_FILE):
             names.append("Rows%d" % (k // ROWS_A_FILE))
             write(os.path.join(top, "crates", "cases", "specs", names[-1] + ".antt"), module(cases[k:k + ROWS_A_FILE], k))
         write(os.path.join(top, "crates", "cases", "specs", "Lib.antt"), "".join("pub mod %s\n" % n for n in names))
-        ran = subprocess.run(["rt", "dev", "cases"], cwd=top, capture_output=True, text=True, env=dict(os.environ, RT_CUT="0"))
+        ran = subprocess.run([os.environ.get("RT", "rt"), "dev", "cases"], cwd=top, capture_output=True, text=True, env=dict(os.environ, RT_CUT="0"))
     said = ran.stdout + ran.stderr
     wrong = {}
     for found in re.finditer(r"error: `row(\d+)`: (.*)", said):

@@ -1,0 +1,174 @@
+//! The seam to this product's static libraries: one function a row of `compare speed`, nothing where the part is not linked. A part is
+//! linked by its feature, `reader` (crate `exports`) or `terms` (crate `exports_terms`). What a function requires, its caller here keeps.
+
+/// A row's own side, ready to be called again and again.
+pub type Ours<'a> = Option<Box<dyn FnMut() + 'a>>;
+
+#[cfg(feature = "reader")]
+mod reader {
+    use super::Ours;
+    use std::hint::black_box;
+
+    unsafe extern "C" {
+        fn tariff_read(text: *const u8, length: usize, words: *mut u32, cells: usize) -> usize;
+    }
+
+    /// A text of at most 65,536 bytes, and as many cells, which are zero and are left so.
+    pub fn read(text: &str) -> Ours<'_> {
+        let mut words = vec![0u32; 65_536];
+        assert!(text.len() <= words.len());
+        Some(Box::new(move || {
+            // SAFETY: both slices live through the call, and what it requires is asserted above
+            black_box(unsafe { tariff_read(text.as_ptr(), text.len(), words.as_mut_ptr(), words.len()) });
+        }))
+    }
+
+    /// The number of forms, for a comparison of the answers.
+    pub fn forms(text: &str) -> Option<usize> {
+        let mut words = vec![0u32; 65_536];
+        assert!(text.len() <= words.len());
+        // SAFETY: as above
+        Some(unsafe { tariff_read(text.as_ptr(), text.len(), words.as_mut_ptr(), words.len()) })
+    }
+}
+
+#[cfg(not(feature = "reader"))]
+mod reader {
+    pub fn read(_: &str) -> super::Ours<'_> {
+        None
+    }
+
+    pub fn forms(_: &str) -> Option<usize> {
+        None
+    }
+}
+
+pub use reader::{forms, read};
+
+#[cfg(feature = "terms")]
+mod terms {
+    use super::Ours;
+    use std::hint::black_box;
+
+    unsafe extern "C" {
+        fn tariff_keep(
+            index: *mut u32,
+            cells: usize,
+            words: *mut u32,
+            room: usize,
+            count: usize,
+            used: usize,
+            node: *const u32,
+            length: usize,
+        ) -> usize;
+        fn tariff_variables(
+            index: *const u32,
+            cells: usize,
+            words: *const u32,
+            room: usize,
+            count: usize,
+            used: usize,
+            id: usize,
+            seen: *mut u64,
+            marks: usize,
+            set: *mut u64,
+            length: usize,
+        );
+    }
+
+    /// The store's two tables, which are zero behind what is used.
+    struct Store {
+        index: Vec<u32>,
+        words: Vec<u32>,
+        count: usize,
+        used: usize,
+    }
+
+    impl Store {
+        fn new() -> Self {
+            Store { index: vec![0; 16_384], words: vec![0; 16_384], count: 0, used: 0 }
+        }
+
+        /// Both tables as they were at the start.
+        fn clear(&mut self) {
+            self.index.fill(0);
+            self.words.fill(0);
+            (self.count, self.used) = (0, 0);
+        }
+
+        /// A head below 256 is a symbol, from 256 on a variable; arguments are numbers of terms that stand.
+        fn keep(&mut self, node: &[u32]) -> usize {
+            assert!(node.len() <= 17 && node[1..].iter().all(|&a| (a as usize) < self.count));
+            let (index, words) = (self.index.as_mut_ptr(), self.words.as_mut_ptr());
+            let (cells, room) = (self.index.len(), self.words.len());
+            // SAFETY: the slices live through the call; only this function writes the tables, so that they stay what it requires
+            let id = unsafe { tariff_keep(index, cells, words, room, self.count, self.used, node.as_ptr(), node.len()) };
+            if id == self.count {
+                self.count += 1;
+                self.used += node.len();
+            }
+            id
+        }
+
+        fn variables(&self, id: usize, seen: &mut [u64], set: &mut [u64]) {
+            assert!(id < self.count && seen.len() == 64 && set.len() == 8);
+            let (index, words) = (self.index.as_ptr(), self.words.as_ptr());
+            let (cells, room) = (self.index.len(), self.words.len());
+            let (marks, length) = (seen.len(), set.len());
+            // SAFETY: as above; the scratch is zero before and after, and variables are below 512
+            unsafe {
+                let (seen, set) = (seen.as_mut_ptr(), set.as_mut_ptr());
+                tariff_variables(index, cells, words, room, self.count, self.used, id, seen, marks, set, length);
+            }
+        }
+    }
+
+    /// The tables are cleared each time, as the original makes a new store each time.
+    pub fn intern(nodes: &[Vec<u32>]) -> Ours<'_> {
+        let mut store = Store::new();
+        Some(Box::new(move || {
+            store.clear();
+            nodes.iter().enumerate().for_each(|(k, n)| assert_eq!(store.keep(n), k));
+        }))
+    }
+
+    /// As often as a `step` of one premise asks for the variables of a judgment: for the premise, and for the conclusion.
+    pub fn variables(levels: usize) -> Ours<'static> {
+        let mut store = Store::new();
+        let mut last = store.keep(&[256]);
+        for _ in 0..levels {
+            last = store.keep(&[1, last as u32, last as u32]);
+        }
+        let (mut seen, mut set) = (vec![0u64; 64], vec![0u64; 8]);
+        Some(Box::new(move || {
+            for _ in 0..2 {
+                set.fill(0);
+                store.variables(last, &mut seen, &mut set);
+            }
+            assert_eq!(black_box(&set)[0], 1);
+        }))
+    }
+}
+
+#[cfg(not(feature = "terms"))]
+mod terms {
+    pub fn intern(_: &[Vec<u32>]) -> super::Ours<'_> {
+        None
+    }
+
+    pub fn variables(_: usize) -> super::Ours<'static> {
+        None
+    }
+}
+
+pub use terms::{intern, variables};
+
+/// Not linked yet: the tables of a theory.
+pub fn theory(_: &str) -> Ours<'_> {
+    None
+}
+
+/// Not linked yet: substitution.
+pub fn substitute(_: usize) -> Ours<'static> {
+    None
+}
