@@ -26,7 +26,7 @@ module _ (T : Theory) (vs : ℕ → ℕ) (R : ℕ → Type 0) where
   unfolding Entails Gives Needs Holds Mentions sub Occ
   apply-hyp-true K g σ j k b i p e γ n h =
       subst (λ t. Der T R t) (sym (sub-sub γ σ (g .judgment)) ∙ ap (sub γ) e)
-        (h g k δ varies (subst (λ ts. Ders T R ts) (subs-subs γ σ (g .premises)) (gives-ders T vs R K j (subs σ (g .premises)) p γ n h)))
+      (h g k δ varies (subst (λ ts. Ders T R ts) (subs-subs γ σ (g .premises)) (gives-ders T vs R K j (subs σ (g .premises)) p γ n h)))
     where
       δ : ℕ → Tree
       δ v = sub γ (σ v)

@@ -69,10 +69,11 @@ all-bound-in gs (b ∷ bs) e =
 value-vars : (bs : List Binding) → Each (λ v t. (z : ℕ) → Occ z t → valueVars bs z ≡ true) bs
 unfolding Each valueVars
 value-vars [] = tt
-value-vars (b ∷ bs) =
-    (λ z o. true-left (variables (b .value) z) (valueVars bs z) (occ-variables (b .value) z o),
-      each-map (λ v t. (z : ℕ) → Occ z t → valueVars bs z ≡ true) (λ v t. (z : ℕ) → Occ z t → (variables (b .value) z || valueVars bs z) ≡ true) bs
-        (λ v t h z o. true-right (variables (b .value) z) (valueVars bs z) (h z o)) (value-vars bs))
+value-vars (b ∷ bs) = (
+  λ z o. true-left (variables (b .value) z) (valueVars bs z) (occ-variables (b .value) z o),
+  each-map (λ v t. (z : ℕ) → Occ z t → valueVars bs z ≡ true) (λ v t. (z : ℕ) → Occ z t → (variables (b .value) z || valueVars bs z) ≡ true) bs
+      (λ v t h z o. true-right (variables (b .value) z) (valueVars bs z) (h z o)) (value-vars bs),
+)
 
 module _ (K : Sets) (U : State) (vs : ℕ → ℕ) (w : Well U vs) where
   refs-among : (f : Fact) (ts : Trees) → RefForms (U .theory) vs (K .known) (K .part) (U .facts) (length (U .facts)) f ts → (t : Tree) → Among t ts
@@ -101,16 +102,16 @@ module _ (K : Sets) (U : State) (vs : ℕ → ℕ) (w : Well U vs) where
 
   pub data AppliedOk (bs : List Binding) (i : ℕ) (f : Fact) (a : Applied) : Type 0 where
     on-hyp : Each (λ v t. In v (f .general)) bs → a ≡ record { premises = f .premises; conclusion = f .judgment; hyps = i ∷ [] }
-      → AppliedOk bs i f a
+        → AppliedOk bs i f a
     on-fact : f .assumed ≡ false → all (plainAt (U .facts)) (f .hyps) ≡ true
-      → a ≡ record { premises = judgmentsAt (U .facts) (f .hyps); conclusion = f .judgment; hyps = [] } → AppliedOk bs i f a
+        → a ≡ record { premises = judgmentsAt (U .facts) (f .hyps); conclusion = f .judgment; hyps = [] } → AppliedOk bs i f a
 
   applied-ok : (bs : List Binding) (i : ℕ) (f : Fact) (m : Made) → Ok (λ a. AppliedOk bs i f a) (applied U bs i f m)
   unfolding applied
   applied-ok bs i f m =
       ok-if (f .assumed) _ _ m
-        (λ _. ok-then (ok-ask 36 (all (λ b. has (f .general) (b .variable)) bs) m) (λ _ m₁ e. done (on-hyp (all-bound-in (f .general) bs e) refl)))
-        (λ q. ok-then (ok-ask 40 (all (plainAt (U .facts)) (f .hyps)) m) (λ _ m₁ e. done (on-fact q e refl)))
+      (λ _. ok-then (ok-ask 36 (all (λ b. has (f .general) (b .variable)) bs) m) (λ _ m₁ e. done (on-hyp (all-bound-in (f .general) bs e) refl)))
+      (λ q. ok-then (ok-ask 40 (all (plainAt (U .facts)) (f .hyps)) m) (λ _ m₁ e. done (on-fact q e refl)))
 
   module _ (bs : List Binding) (bo : BindsOk U vs w bs) (i : ℕ) (f : Fact) (at : At (U .facts) i f) (rs : Refs) (ro : RefsOk K U vs w (length (U .facts)) rs)
       (j : Tree) (ej : j ≡ sub (along bs) (f .judgment)) (hs ft : List ℕ)
@@ -125,7 +126,7 @@ module _ (K : Sets) (U : State) (vs : ℕ → ℕ) (w : Well U vs) where
       judgment = subst (λ t. Judgment (U .theory) vs (length (U .vars)) t) (sym ej) (along-judgment U vs w bs bo (f .judgment) (w .facts i f at .judgment));
       premises = tt;
       hyps = λ h x. (let q = below h x in omega arith);
-      derived = λ _. refl
+      derived = λ _. refl;
     }
 
     -- question 39 for the premises
@@ -133,21 +134,21 @@ module _ (K : Sets) (U : State) (vs : ℕ → ℕ) (w : Well U vs) where
     unfolding Allowed Needs HypOf Scoped
     used v o =
         sc v (judgments-small (U .theory) vs (length (U .vars)) (rs .judgments) (ro .sound) v o)
-          (true-left (variablesOf (rs .judgments) v) (valueVars bs v) (occs-variablesOf (rs .judgments) v o))
+        (true-left (variablesOf (rs .judgments) v) (valueVars bs v) (occs-variablesOf (rs .judgments) v o))
 
     -- and for the values
     valued : (v : ℕ) → Bound v bs → (z : ℕ) → Occ z (along bs v) → Allowed (U .facts) new z
     unfolding Allowed Needs HypOf Scoped
     valued v b z o =
         sc z (elim (along-cases (λ v t. (v < length (U .vars)) × Typed (U .theory) vs (length (U .vars)) t (vs v)) bs bo v) [
-            inl p ↦ p .1 .1 .small z o
+          | inl p ↦ p .1 .1 .small z o
           | inr p ↦ absurd (p .0 b)
-          ])
-          (true-right (variablesOf (rs .judgments) z) (valueVars bs z)
-            (elim (along-cases (λ v t. (z : ℕ) → Occ z t → valueVars bs z ≡ true) bs (value-vars bs) v) [
-                inl p ↦ p .1 z o
-              | inr p ↦ absurd (p .0 b)
-              ]))
+        ])
+        (true-right (variablesOf (rs .judgments) z) (valueVars bs z)
+        (elim (along-cases (λ v t. (z : ℕ) → Occ z t → valueVars bs z ≡ true) bs (value-vars bs) v) [
+          | inl p ↦ p .1 z o
+          | inr p ↦ absurd (p .0 b)
+        ]))
 
     hyp-fine : Each (λ v t. In v (f .general)) bs → In i hs → rs .judgments ≡ subs (along bs) (f .premises) → Fine K U vs w new
     hyp-fine g own e = record {
@@ -160,13 +161,13 @@ module _ (K : Sets) (U : State) (vs : ℕ → ℕ) (w : Well U vs) where
         own = own;
         σ = along bs;
         binds = λ v. elim (along-cases (λ v t. In v (f .general)) bs g v) [
-            inl p ↦ inr (p .1, along-sorted U vs w bs bo v, λ z o. valued v (p .0) z o)
+          | inl p ↦ inr (p .1, along-sorted U vs w bs bo v, λ z o. valued v (p .0) z o)
           | inr p ↦ inl (p .1)
-          ];
+        ];
         refs = subst (λ ts. RefForms (U .theory) vs (K .known) (K .part) (U .facts) (length (U .facts)) new ts) e (ro .gives new inside);
         concl = sym ej;
-        allowed = λ v o. used v (subst (λ ts. Occs v ts) (sym e) o)
-      })
+        allowed = λ v o. used v (subst (λ ts. Occs v ts) (sym e) o);
+      });
     }
 
     fact-fine : Citable K U vs w (length (U .facts)) i → f .assumed ≡ false → all (plainAt (U .facts)) (f .hyps) ≡ true
@@ -182,11 +183,11 @@ module _ (K : Sets) (U : State) (vs : ℕ → ℕ) (w : Well U vs) where
         sorts = along-sorted U vs w bs bo;
         plains = λ h x. plain-at (U .facts) (x .0) h (x .2) (all-in (plainAt (U .facts)) (f .hyps) (x .0) p (x .1));
         refs = λ h x. refs-among new (subs (along bs) (judgmentsAt (U .facts) (f .hyps)))
-          (subst (λ ts. RefForms (U .theory) vs (K .known) (K .part) (U .facts) (length (U .facts)) new ts) e (ro .gives new inside))
-          (sub (along bs) (h .judgment)) (among h x);
+            (subst (λ ts. RefForms (U .theory) vs (K .known) (K .part) (U .facts) (length (U .facts)) new ts) e (ro .gives new inside))
+            (sub (along bs) (h .judgment)) (among h x);
         concl = sym ej;
-        allowed = λ h x z o. used z (subst (λ ts. Occs z ts) (sym e) (among-occ (sub (along bs) (h .judgment)) (subs (along bs) (judgmentsAt (U .facts) (f .hyps))) z (among h x) o))
-      })
+        allowed = λ h x z o. used z (subst (λ ts. Occs z ts) (sym e) (among-occ (sub (along bs) (h .judgment)) (subs (along bs) (judgmentsAt (U .facts) (f .hyps))) z (among h x) o));
+      });
     }
       where
         among : (h : Fact) → (k : ℕ) × In k (f .hyps) × At (U .facts) k h → Among (sub (along bs) (h .judgment)) (subs (along bs) (judgmentsAt (U .facts) (f .hyps)))
@@ -205,15 +206,21 @@ module _ (K : Sets) (U : State) (vs : ℕ → ℕ) (w : Well U vs) where
       ok-then (ok-ask 37 (eqb (count zs) (countTrees (a .premises))) m₆) (λ _ m₇ ec.
       ok-then (substitute-ok (along bs) (a .conclusion) m₇) (λ j m₈ ej.
       ok-then (discharge-ok bs zs (a .premises) (eqb-true (count zs) (countTrees (a .premises)) ec)
-        (λ x q. calm x (subst (λ z. ItemOf x z) (sym ei) q)) m₈) (λ rs m₉ ro.
+      (λ x q. calm x (subst (λ z. ItemOf x z) (sym ei) q)) m₈) (λ rs m₉ ro.
       ok-then (scoped-ok U (union (variablesOf (rs .judgments)) (valueVars bs)) j (rising (length (U .facts)) (union (has (a .hyps)) (rs .hyps))) m₉) (λ _ m₁₀ sc.
       done (finish bs bo i (own-calm i pt) f at a ao j ej rs ro sc)))))))))))
     where
       finish : {ft : List ℕ} (bs : List Binding) → BindsOk U vs w bs → (i : ℕ) → Citable K U vs w (length (U .facts)) i → (f : Fact) → At (U .facts) i f → (a : Applied) → AppliedOk bs i f a
           → (j : Tree) → j ≡ sub (along bs) (a .conclusion) → (rs : Refs) → RefsOk K U vs w (length (U .facts)) rs × (rs .judgments ≡ subs (along bs) (a .premises))
           → Scoped U (union (variablesOf (rs .judgments)) (valueVars bs)) j (rising (length (U .facts)) (union (has (a .hyps)) (rs .hyps)))
-          → Fine K U vs w (record { judgment = j; hyps = rising (length (U .facts)) (union (has (a .hyps)) (rs .hyps)); assumed = false; premises = none;
-              general = []; footing = ft })
+          → Fine K U vs w (record {
+            judgment = j;
+            hyps = rising (length (U .facts)) (union (has (a .hyps)) (rs .hyps));
+            assumed = false;
+            premises = none;
+            general = [];
+            footing = ft;
+          })
       finish {ft} bs bo i ci f at a ao j ej rs ro sc = go ao
         where
           inside : (h : ℕ) → rs .hyps h ≡ true → In h (rising (length (U .facts)) (union (has (a .hyps)) (rs .hyps)))
@@ -224,13 +231,19 @@ module _ (K : Sets) (U : State) (vs : ℕ → ℕ) (w : Well U vs) where
 
           own : (a .hyps ≡ i ∷ []) → In i (rising (length (U .facts)) (union (has (a .hyps)) (rs .hyps)))
           own e = rising-in (length (U .facts)) (union (has (a .hyps)) (rs .hyps)) i (at-below (U .facts) i f at)
-            (true-left (has (a .hyps) i) (rs .hyps i) (in-has (a .hyps) i (subst (λ l. In i l) (sym e) (in-here i))))
+              (true-left (has (a .hyps) i) (rs .hyps i) (in-has (a .hyps) i (subst (λ l. In i l) (sym e) (in-here i))))
 
-          go : AppliedOk bs i f a → Fine K U vs w (record { judgment = j; hyps = rising (length (U .facts)) (union (has (a .hyps)) (rs .hyps));
-              assumed = false; premises = none; general = []; footing = ft })
+          go : AppliedOk bs i f a → Fine K U vs w (record {
+            judgment = j;
+            hyps = rising (length (U .facts)) (union (has (a .hyps)) (rs .hyps));
+            assumed = false;
+            premises = none;
+            general = [];
+            footing = ft;
+          })
           go (on-hyp g e) =
               hyp-fine bs bo i f at rs (ro .0) j (ej ∙ ap (λ (z : Applied). sub (along bs) (z .conclusion)) e) _ ft inside below sc g
-                (own (ap (λ (z : Applied). z .hyps) e)) (ro .1 ∙ ap (λ (z : Applied). subs (along bs) (z .premises)) e)
+              (own (ap (λ (z : Applied). z .hyps) e)) (ro .1 ∙ ap (λ (z : Applied). subs (along bs) (z .premises)) e)
           go (on-fact q p e) =
               fact-fine bs bo i f at rs (ro .0) j (ej ∙ ap (λ (z : Applied). sub (along bs) (z .conclusion)) e) _ ft inside below sc ci q p
-                (ro .1 ∙ ap (λ (z : Applied). subs (along bs) (z .premises)) e)
+              (ro .1 ∙ ap (λ (z : Applied). subs (along bs) (z .premises)) e)

@@ -194,21 +194,22 @@ clear-each : (gs : List ℕ) (ζ : List Binding) → clear gs ζ ≡ true → Ea
 unfolding clear all Each
 clear-each gs [] e = tt
 clear-each gs (b ∷ ζ) e =
-    let r = and-true (all (λ v. not (variables (b .value) v)) gs) (all (λ b. all (λ v. not (variables (b .value) v)) gs) ζ) e in
-    (λ g i o. true-false (variables (b .value) g) (occ-variables (b .value) g o)
-        (not-true (variables (b .value) g) (all-in (λ v. not (variables (b .value) v)) gs g (r .0) i)),
-      clear-each gs ζ (r .1))
+    let r = and-true (all (λ v. not (variables (b .value) v)) gs) (all (λ b. all (λ v. not (variables (b .value) v)) gs) ζ) e in (
+      λ g i o. true-false (variables (b .value) g) (occ-variables (b .value) g o)
+          (not-true (variables (b .value) g) (all-in (λ v. not (variables (b .value) v)) gs g (r .0) i)),
+      clear-each gs ζ (r .1),
+    )
 
 uncaptured : (θ : List Binding) (d : Fact) → clear (d .general) (without (d .general) θ) ≡ true → Uncaptured (along θ) d
 unfolding Uncaptured Leaves Occ
 uncaptured θ d e v z n o i =
     elim (without-leaves (d .general) θ v) [
-      inl p ↦ n (p .0)
-    | inr p ↦ elim (along-cases (λ v t. (g : ℕ) → In g (d .general) → ¬ (Occ g t)) (without (d .general) θ)
+      | inl p ↦ n (p .0)
+      | inr p ↦ elim (along-cases (λ v t. (g : ℕ) → In g (d .general) → ¬ (Occ g t)) (without (d .general) θ)
           (clear-each (d .general) (without (d .general) θ) e) v) [
-        inl q ↦ q .1 z i (subst (λ t. Occ z t) (sym (p .1)) o)
-      | inr q ↦ n (subst (λ k. In k (d .general)) (subst (λ t. Occ z t) (sym (p .1) ∙ q .1) o) i)
-      ]
+            | inl q ↦ q .1 z i (subst (λ t. Occ z t) (sym (p .1)) o)
+            | inr q ↦ n (subst (λ k. In k (d .general)) (subst (λ t. Occ z t) (sym (p .1) ∙ q .1) o) i)
+          ]
     ]
 
 module _ (U : State) (θ : List Binding) where
@@ -223,17 +224,20 @@ module _ (U : State) (θ : List Binding) where
 
   pub context-facts-ok : (hs ks : List ℕ) → ((h : ℕ) → In h ks → In h hs) → (m : Made)
       → Ok (λ az. EachA (FromContext (InContext (U .facts) hs) (along θ)) az
-          × ((d : Fact) → InContext (U .facts) ks d → Uncaptured (along θ) d)) (contextFacts U θ ks m)
+      × ((d : Fact) → InContext (U .facts) ks d → Uncaptured (along θ) d)) (contextFacts U θ ks m)
   unfolding contextFacts EachA InContext In
   context-facts-ok hs [] s m = done (tt, λ d i. absurd (i .1))
   context-facts-ok hs (k ∷ ks) s m =
       ok-then (fact-ok U k m) (λ f m₁ a.
       ok-then (context-fact-ok (InContext (U .facts) hs) f (k, s k (inl refl), a) m₁) (λ b m₂ c.
       ok-then (context-facts-ok hs ks (λ h i. s h (inr i)) m₂) (λ bs m₃ r.
-      done ((c .0, r .0), λ d i. elim (i .1) [
-          inl e ↦ subst (λ z. Uncaptured (along θ) z) (at-unique (U .facts) k f d a (subst (λ z. At (U .facts) z d) e (i .2))) (c .1)
-        | inr j ↦ r .1 d (i .0, j, i .2)
-        ]))))
+      done (
+        (c .0, r .0),
+        λ d i. elim (i .1) [
+          | inl e ↦ subst (λ z. Uncaptured (along θ) z) (at-unique (U .facts) k f d a (subst (λ z. At (U .facts) z d) e (i .2))) (c .1)
+          | inr j ↦ r .1 d (i .0, j, i .2)
+        ],
+      ))))
 
 -- what a fact that is allowed is
 allowed-hyp : (R : Rule) (nm : ℕ → ℕ) (C : Fact → Type 0) (θ : ℕ → Tree) (az : List Allowed) (h : Fact)
@@ -242,8 +246,8 @@ unfolding any EachA FromRule FromContext isAllowed Plain
 allowed-hyp R nm C θ [] h e q = absurd (true-false false q refl)
 allowed-hyp R nm C θ (a ∷ az) h e q =
     elim (or-true (isAllowed h a) (any (isAllowed h) az) q) [
-      inl p ↦ one p (e .0)
-    | inr p ↦ allowed-hyp R nm C θ az h (e .1) p
+      | inl p ↦ one p (e .0)
+      | inr p ↦ allowed-hyp R nm C θ az h (e .1) p
     ]
   where
     one : (sameTrees (a .premises) (h .premises) && (sameTree (a .judgment) (h .judgment) && same (a .general) (h .general))) ≡ true
@@ -252,7 +256,7 @@ allowed-hyp R nm C θ (a ∷ az) h e q =
         let r = both-true (sameTrees (a .premises) (h .premises)) (sameTree (a .judgment) (h .judgment) && same (a .general) (h .general)) p in
         let s = both-true (sameTree (a .judgment) (h .judgment)) (same (a .general) (h .general)) (r .1) in
         by (sameTrees-true (a .premises) (h .premises) (r .0)) (sameTree-true (a .judgment) (h .judgment) (s .0))
-          (same-true (a .general) (h .general) (s .1)) k
+        (same-true (a .general) (h .general) (s .1)) k
       where
         by : a .premises ≡ h .premises → a .judgment ≡ h .judgment → a .general ≡ h .general
             → FromRule (renamed nm) θ (R .premises) a ⊎ FromContext C θ a → InvertHyp R nm C θ h
@@ -271,4 +275,4 @@ pub premises-and-context : (U : State) (R : Rule) (nm : ℕ → ℕ) (θ : List 
     → EachA (λ a. FromRule (renamed nm) (along θ) (R .premises) a ⊎ FromContext (InContext (U .facts) hs) (along θ) a) (az ++ bs)
 premises-and-context U R nm θ hs az bs p q =
     each-both (FromRule (renamed nm) (along θ) (R .premises)) (FromContext (InContext (U .facts) hs) (along θ))
-      (λ a. FromRule (renamed nm) (along θ) (R .premises) a ⊎ FromContext (InContext (U .facts) hs) (along θ) a) (λ a x. inl x) (λ a x. inr x) az bs p q
+    (λ a. FromRule (renamed nm) (along θ) (R .premises) a ⊎ FromContext (InContext (U .facts) hs) (along θ) a) (λ a x. inl x) (λ a x. inr x) az bs p q

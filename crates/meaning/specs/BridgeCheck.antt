@@ -136,8 +136,8 @@ pub taken-good : (theory goals : List ℕ) (T : Theory) (S : State) → Taken th
 unfolding reached final
 taken-good theory goals T S t K vs a =
     subst (λ z. Good K T vs z) (ap final (t .goals-taken))
-      (whole-good K T (well-theory T (subst (λ z. WellFormed (reached z)) (t .theory-taken) (theory-formed theory))) (read goals) vs
-        (subst (λ (z : State). Agree vs (z .vars)) (sym (ap final (t .goals-taken))) a))
+    (whole-good K T (well-theory T (subst (λ z. WellFormed (reached z)) (t .theory-taken) (theory-formed theory))) (read goals) vs
+    (subst (λ (z : State). Agree vs (z .vars)) (sym (ap final (t .goals-taken))) a))
 
 pub taken-theory : (theory goals : List ℕ) (T : Theory) (S : State) → Taken theory goals T S → S .theory ≡ T
 unfolding Agree
@@ -148,8 +148,8 @@ pub proof-good : (K : Sets) (T : Theory) → Within K T → (S : State) → S .t
 unfolding after
 proof-good K T w S e g forms c r vs a =
     run-good K takeForm (Asks K) (take-form-ok K) T vs forms 0 S
-      (g vs (agree-extends vs (S .vars) (final (through takeForm forms 0 S) .vars) (run-extends K takeForm (Asks K) (take-form-ok K) forms 0 S) a))
-      (asks K T w forms S e c r) a
+    (g vs (agree-extends vs (S .vars) (final (through takeForm forms 0 S) .vars) (run-extends K takeForm (Asks K) (take-form-ok K) forms 0 S) a))
+    (asks K T w forms S e c r) a
 
 through-good : (T : Theory) (S : State) → S .theory ≡ T → ((us : ℕ → ℕ) → Agree us (S .vars) → Good (ofTheory T) T us S) → (forms : Text) → Calmly forms S
     → (vs : ℕ → ℕ) → Agree vs (final (through takeForm forms 0 S) .vars) → Good (ofTheory T) T vs (final (through takeForm forms 0 S))
@@ -184,7 +184,7 @@ module _ (theory goals proof : List ℕ) (calm : CalmTexts theory goals proof) (
       go : (b : Bool) → Fair vs (elim b as (λ _. Outcome) [ true ↦ refusedIn 2 25 0 k S | false ↦ afterProof (through takeForm (read proof) 0 S) ])
       go true = λ a. fair vs T S (g vs a)
       go false = after-proof-fair (through takeForm (read proof) 0 S)
-        (λ a. fair vs T (final (through takeForm (read proof) 0 S)) (through-good T S (g (λ v. sortOfVar (S .vars) v) (λ v l. refl) .theory) g (read proof) (c k S refl) vs a))
+          (λ a. fair vs T (final (through takeForm (read proof) 0 S)) (through-good T S (g (λ v. sortOfVar (S .vars) v) (λ v l. refl) .theory) g (read proof) (c k S refl) vs a))
 
   calm-of : (k : ℕ) (T : Theory) → whole declare (read theory) noTheory ≡ done k T → (l : ℕ) (S : State)
       → whole takeGoal (read goals) (begin T) ≡ done l S → Calmly (read proof) S
@@ -196,7 +196,7 @@ module _ (theory goals proof : List ℕ) (calm : CalmTexts theory goals proof) (
   after-theory-fair (refused n d k T) e w = λ a. start-good (ofTheory T) T (well-theory T w) vs
   after-theory-fair (done k T) e w =
       after-goals-fair T (whole takeGoal (read goals) (begin T)) (λ us a. whole-good (ofTheory T) T (well-theory T w) (read goals) us a)
-        (λ l S q. calm-of k T e l S q)
+      (λ l S q. calm-of k T e l S q)
 
   readable-fair : (k : ℕ) → Fair vs (readable theory goals proof k)
   unfolding readable refusedIn

@@ -57,10 +57,10 @@ add-goal-ok K x hs j S m =
         well = record { rules = w .rules; agree = w .agree; defs = w .defs; facts = w .facts };
         facts = inl refl;
         goals = λ i g q t. elim (entry-snoc (S .goals) (record { name = n; judgment = j; hyps = hs; taken = false }) i g q) [
-            inl p ↦ inl p
+          | inl p ↦ inl p
           | inr p ↦ absurd (true-false (g .taken) t (sym (ap (λ (z : Goal). z .taken) p)))
-          ]
-      }
+        ];
+      };
     })))))
 
 goal-ok : (K : Sets) (g : GoalForm) (xs : Sexps) (S : State) → Ends (λ _ S′. Post K (Unit {0}) S S′) (goal g xs S)
@@ -100,8 +100,8 @@ start-good K T w vs = record {
     rules = w;
     agree = λ v l. absurd (let z : ⊥ = omega arith in z);
     defs = λ x t e. absurd (no-some e);
-    facts = λ i f a. absurd a
+    facts = λ i f a. absurd a;
   };
   run = begin;
-  goals = λ i g e t. absurd (no-some e)
+  goals = λ i g e t. absurd (no-some e);
 }

@@ -55,9 +55,9 @@ keep-vars-ok (y ∷ ys) m = ok-then (keep-ok (var y) m) (λ t m₁ p. ok-then (k
 motive-true : (M : MotiveOf) (v : ℕ) → motiveVars M v ≡ true → Motive (M .premises) (M .judgment) v
 unfolding motiveVars Motive
 motive-true M v e = elim (either-true (variables (M .judgment) v) (variablesOf (M .premises) v) e) [
-    inl p ↦ inl (variables-true (M .judgment) v p)
+  | inl p ↦ inl (variables-true (M .judgment) v p)
   | inr p ↦ inr (variablesOf-true (M .premises) v p)
-  ]
+]
 
 motive-false : (M : MotiveOf) (v : ℕ) → not (motiveVars M v) ≡ true → ¬ (Motive (M .premises) (M .judgment) v)
 unfolding motiveVars Motive
@@ -99,7 +99,7 @@ module _ (K : Sets) (U : State) (vs : ℕ → ℕ) (w : Well U vs) (M : MotiveOf
       ok-then (variable-ok 42 U y m) (λ v m₁ l.
       ok-then (ok-ask 42 (eqb (sortOfVar (U .vars) v) s && (not (motiveVars M v) && not (has ys v))) m₁) (λ _ m₂ t.
       ok-map (λ zs k. subst (λ l. CaseVars l zs) (append-assoc gone (s ∷ []) ss) k)
-        (case-vars-ok xs (gone ++ (s ∷ [])) ss (ys ++ (v ∷ [])) m₂ (omega arith) (more-vars v l t))))
+      (case-vars-ok xs (gone ++ (s ∷ [])) ss (ys ++ (v ∷ [])) m₂ (omega arith) (more-vars v l t))))
     where
       more-vars : (v : ℕ) → v < length (U .vars) → (eqb (sortOfVar (U .vars) v) s && (not (motiveVars M v) && not (has ys v))) ≡ true
           → CaseVars (gone ++ (s ∷ [])) (ys ++ (v ∷ []))
@@ -110,9 +110,9 @@ module _ (K : Sets) (U : State) (vs : ℕ → ℕ) (w : Well U vs) (M : MotiveOf
             fit = fit-snoc vs ys gone v s (h .fit) (sym (w .agree v l) ∙ eqb-true (sortOfVar (U .vars) v) s (a .0));
             distinct = distinct-snoc ys v (h .distinct) (not-has ys v (b .1));
             fresh = λ z i. elim (in-snoc ys v z i) [
-                inl j ↦ h .fresh z j
+              | inl j ↦ h .fresh z j
               | inr q ↦ (λ k. motive-false M v (b .0) (subst (λ u. Motive P J u) q k))
-              ]
+            ];
           }
 
   -- each is the motive at a variable of which Q holds
@@ -135,9 +135,9 @@ module _ (K : Sets) (U : State) (vs : ℕ → ℕ) (w : Well U vs) (M : MotiveOf
   hypotheses-ok Q (y ∷ ys) [] f q m = absurd f
   hypotheses-ok Q (y ∷ ys) (s ∷ ss) f q m =
       ok-if (eqb s (M .sort)) _ _ m
-        (λ e. ok-then (hypothesis-ok y m) (λ h m₁ p. ok-then (hypotheses-ok Q ys ss (f .1) (λ z i. q z (inr i)) m₁)
-          (λ hs m₂ r. done ((y, q y (inl refl) (f .0 ∙ (eqb-true s (M .sort) e ∙ sorted)), p .0, p .1), r))))
-        (λ _. hypotheses-ok Q ys ss (f .1) (λ z i. q z (inr i)) m)
+      (λ e. ok-then (hypothesis-ok y m) (λ h m₁ p. ok-then (hypotheses-ok Q ys ss (f .1) (λ z i. q z (inr i)) m₁)
+      (λ hs m₂ r. done ((y, q y (inl refl) (f .0 ∙ (eqb-true s (M .sort) e ∙ sorted)), p .0, p .1), r))))
+      (λ _. hypotheses-ok Q ys ss (f .1) (λ z i. q z (inr i)) m)
 
   -- What a case may rest on ---------------------------------------------------------------------------------------------------------
 
@@ -146,9 +146,9 @@ module _ (K : Sets) (U : State) (vs : ℕ → ℕ) (w : Well U vs) (M : MotiveOf
   unfolding HypsOf any
   any-judgment Q [] h r e = absurd (true-false false e refl)
   any-judgment Q (i ∷ hs) h r e = elim (or-true (sameTree (i .judgment) (h .judgment)) (any (λ i. sameTree (i .judgment) (h .judgment)) hs) e) [
-      inl p ↦ (r .0 .0, r .0 .1, sym (sameTree-true (i .judgment) (h .judgment) p) ∙ r .0 .3)
+    | inl p ↦ (r .0 .0, r .0 .1, sym (sameTree-true (i .judgment) (h .judgment) p) ∙ r .0 .3)
     | inr p ↦ any-judgment Q hs h (r .1) p
-    ]
+  ]
 
   any-rule : (Q : ℕ → Type 0) (hs : List Hyp) (h : Fact) → HypsOf Q hs
       → any (λ i. sameTrees (i .premises) (h .premises) && sameTree (i .judgment) (h .judgment)) hs ≡ true
@@ -157,10 +157,10 @@ module _ (K : Sets) (U : State) (vs : ℕ → ℕ) (w : Well U vs) (M : MotiveOf
   any-rule Q [] h r e = absurd (true-false false e refl)
   any-rule Q (i ∷ hs) h r e =
       elim (or-true (sameTrees (i .premises) (h .premises) && sameTree (i .judgment) (h .judgment))
-          (any (λ i. sameTrees (i .premises) (h .premises) && sameTree (i .judgment) (h .judgment)) hs) e) [
-        inl p ↦ (let b = both-true (sameTrees (i .premises) (h .premises)) (sameTree (i .judgment) (h .judgment)) p in
-          (r .0 .0, r .0 .1, sym (sameTrees-true (i .premises) (h .premises) (b .0)) ∙ r .0 .2, sym (sameTree-true (i .judgment) (h .judgment) (b .1)) ∙ r .0 .3))
-      | inr p ↦ any-rule Q hs h (r .1) p
+      (any (λ i. sameTrees (i .premises) (h .premises) && sameTree (i .judgment) (h .judgment)) hs) e) [
+        | inl p ↦ (let b = both-true (sameTrees (i .premises) (h .premises)) (sameTree (i .judgment) (h .judgment)) p in
+            (r .0 .0, r .0 .1, sym (sameTrees-true (i .premises) (h .premises) (b .0)) ∙ r .0 .2, sym (sameTree-true (i .judgment) (h .judgment) (b .1)) ∙ r .0 .3))
+        | inr p ↦ any-rule Q hs h (r .1) p
       ]
 
   allowed-ok : (c : ℕ) (ys : List ℕ) (ps : Trees) (ihs : List Hyp) → ps ≡ ats x (app c (vars ys)) P → HypsOf (Below vs x ys) ihs
@@ -171,28 +171,28 @@ module _ (K : Sets) (U : State) (vs : ℕ → ℕ) (w : Well U vs) (M : MotiveOf
       plain-case : Plain h → (among ps (h .judgment) || (isNone P && any (λ i. sameTree (i .judgment) (h .judgment)) ihs)) ≡ true
           → CaseHyp vs x P J c ys h
       plain-case p q = elim (either-true (among ps (h .judgment)) (isNone P && any (λ i. sameTree (i .judgment) (h .judgment)) ihs) q) [
-          inl a ↦ premise p (subst (λ ts. Among (h .judgment) ts) ep (among-true ps (h .judgment) a))
+        | inl a ↦ premise p (subst (λ ts. Among (h .judgment) ts) ep (among-true ps (h .judgment) a))
         | inr a ↦ (let b = both-true (isNone P) (any (λ i. sameTree (i .judgment) (h .judgment)) ihs) a in
-          let y = any-judgment (Below vs x ys) ihs h r (b .1) in plainly p (is-none P (b .0)) (y .0) (y .1) (y .2))
-        ]
+            let y = any-judgment (Below vs x ys) ihs h r (b .1) in plainly p (is-none P (b .0)) (y .0) (y .1) (y .2))
+      ]
 
       rule-case : (all (λ g. motiveVars M g && not (eqb g x)) (h .general)
-            && any (λ i. sameTrees (i .premises) (h .premises) && sameTree (i .judgment) (h .judgment)) ihs) ≡ true → CaseHyp vs x P J c ys h
+          && any (λ i. sameTrees (i .premises) (h .premises) && sameTree (i .judgment) (h .judgment)) ihs) ≡ true → CaseHyp vs x P J c ys h
       rule-case q =
           let b = both-true (all (λ g. motiveVars M g && not (eqb g x)) (h .general))
-                (any (λ i. sameTrees (i .premises) (h .premises) && sameTree (i .judgment) (h .judgment)) ihs) q in
+          (any (λ i. sameTrees (i .premises) (h .premises) && sameTree (i .judgment) (h .judgment)) ihs) q in
           let y = any-rule (Below vs x ys) ihs h r (b .1) in
           ruled
-            (λ v i. (let k = both-true (motiveVars M v) (not (eqb v x)) (all-in (λ g. motiveVars M g && not (eqb g x)) (h .general) v (b .0) i) in
-              (motive-true M v (k .0), eqb-false v x (not-true (eqb v x) (k .1)))))
-            (y .0) (y .1) (y .2) (y .3)
+          (λ v i. (let k = both-true (motiveVars M v) (not (eqb v x)) (all-in (λ g. motiveVars M g && not (eqb g x)) (h .general) v (b .0) i) in
+          (motive-true M v (k .0), eqb-false v x (not-true (eqb v x) (k .1)))))
+          (y .0) (y .1) (y .2) (y .3)
 
       go : (b : Bool) → isPlain h ≡ b
           → elim b as (λ _. Bool) [
-              true ↦ among ps (h .judgment) || (isNone P && any (λ i. sameTree (i .judgment) (h .judgment)) ihs)
+            | true ↦ among ps (h .judgment) || (isNone P && any (λ i. sameTree (i .judgment) (h .judgment)) ihs)
             | false ↦ h .assumed && (all (λ g. motiveVars M g && not (eqb g x)) (h .general)
                 && any (λ i. sameTrees (i .premises) (h .premises) && sameTree (i .judgment) (h .judgment)) ihs)
-            ] ≡ true
+          ] ≡ true
           → CaseHyp vs x P J c ys h
       go true p q = plain-case (is-plain h p .1) q
       go false p q = rule-case (both-true (h .assumed) _ q .1)
@@ -217,7 +217,7 @@ module _ (K : Sets) (U : State) (vs : ℕ → ℕ) (w : Well U vs) (M : MotiveOf
         ok-then (ok-index 41 (item ys 0) m₁) (λ i m₂ pt.
         ok-then (ok-ask 41 (eqb (count ys) (suc (length (inputs (U .theory) c)))) m₂) (λ _ m₃ ec.
         ok-then (case-vars-ok (rest ys 1) [] (inputs (U .theory) c) [] m₃ (shorter ys (length (inputs (U .theory) c)) (eqb-true (count ys) (suc (length (inputs (U .theory) c))) ec))
-          (record { fit = tt; distinct = tt; fresh = λ y i. absurd i })) (λ zs m₄ cv.
+        (record { fit = tt; distinct = tt; fresh = λ y i. absurd i })) (λ zs m₄ cv.
         ok-then (keep-vars-ok zs m₄) (λ ts m₅ et.
         ok-then (keep-ok (app c ts) m₅) (λ t m₆ e.
         ok-then (substitute-ok (single x t) J m₆) (λ j m₇ ej.
@@ -226,18 +226,18 @@ module _ (K : Sets) (U : State) (vs : ℕ → ℕ) (w : Well U vs) (M : MotiveOf
         ok-then (fact-ok U i m₉) (λ f m₁₀ a.
         ok-then (ok-ask 43 (sameTree (f .judgment) j) m₁₀) (λ _ m₁₁ sj.
         ok-map (λ _ sa. record {
-            ys = zs;
-            fit = cv .fit;
-            distinct = cv .distinct;
-            fresh = cv .fresh;
-            g = f;
-            cites = cite K U vs w (length (U .facts)) f i a (calm i f (subst (λ u. Cases u i) (sym ez) pt) a);
-            proves = sameTree-true (f .judgment) j sj ∙ (ej ∙ ap (λ u. at x u J) (e ∙ ap (app c) et));
-            allowed = λ h k. allowed-ok c zs ps ihs (ep ∙ ap (λ u. ats x u P) (e ∙ ap (app c) et)) hi h
+          ys = zs;
+          fit = cv .fit;
+          distinct = cv .distinct;
+          fresh = cv .fresh;
+          g = f;
+          cites = cite K U vs w (length (U .facts)) f i a (calm i f (subst (λ u. Cases u i) (sym ez) pt) a);
+          proves = sameTree-true (f .judgment) j sj ∙ (ej ∙ ap (λ u. at x u J) (e ∙ ap (app c) et));
+          allowed = λ h k. allowed-ok c zs ps ihs (ep ∙ ap (λ u. ats x u P) (e ∙ ap (app c) et)) hi h
               (subst (λ o. allowedHyp M ps ihs o ≡ true) (at-entry (U .facts) (k .0) h (k .2))
-                (all-in (λ h. allowedHyp M ps ihs (entry (U .facts) h)) (f .hyps) (k .0) sa (k .1)))
-          })
-          (ok-ask 44 (all (λ h. allowedHyp M ps ihs (entry (U .facts) h)) (f .hyps)) m₁₁))))))))))))
+              (all-in (λ h. allowedHyp M ps ihs (entry (U .facts) h)) (f .hyps) (k .0) sa (k .1)));
+        })
+        (ok-ask 44 (all (λ h. allowedHyp M ps ihs (entry (U .facts) h)) (f .hyps)) m₁₁))))))))))))
       where
         shorter : (ys : Sexps) (n : ℕ) → count ys ≡ suc n → count (rest ys 1) ≡ n
         shorter nil n e = absurd (let z : ⊥ = omega arith in z)
@@ -253,7 +253,7 @@ module _ (K : Sets) (U : State) (vs : ℕ → ℕ) (w : Well U vs) (M : MotiveOf
     induct-cases-ok (cons z zs) (c ∷ cs) e k m =
         ok-then (induct-case-ok z c (k z (inl refl)) m) (λ _ m₁ h.
         ok-map (λ _ r d i. elim i [ inl q ↦ subst (λ u. OneCase u) (sym q) h | inr j ↦ r d j ])
-          (induct-cases-ok zs cs (omega arith) (λ y i. k y (inr i)) m₁))
+        (induct-cases-ok zs cs (omega arith) (λ y i. k y (inr i)) m₁))
 
 -- The form --------------------------------------------------------------------------------------------------------------------------
 
@@ -262,7 +262,7 @@ constructor-in : (T : Theory) (s c : ℕ) → c < length (T .symbols) → output
 unfolding constructors output
 constructor-in T s c l e =
     subst (λ z. In z (every (λ d. eqb (d .output) s) (T .symbols) 0)) (let z : 0 + c ≡ c = omega arith in z)
-      (every-in (λ d. eqb (d .output) s) noSymbol (T .symbols) 0 c l (eq-eqb (getD (T .symbols) c noSymbol .output) s e))
+    (every-in (λ d. eqb (d .output) s) noSymbol (T .symbols) 0 c l (eq-eqb (getD (T .symbols) c noSymbol .output) s e))
 
 module _ (K : Sets) (U : State) (vs : ℕ → ℕ) (w : Well U vs) where
   -- the same of the cases of a list
@@ -278,14 +278,14 @@ module _ (K : Sets) (U : State) (vs : ℕ → ℕ) (w : Well U vs) where
       ok-then (ok-ask 41 (eqb (count cs) (length (constructors (U .theory) (sortOfVar (U .vars) x)))) m₂) (λ _ m₃ ec.
       ok-then (ok-ask 45 (motiveVars (motive j) x) m₃) (λ _ m₄ em.
       ok-then (induct-cases-ok K U vs w (motive j) (w .agree x l) hs cs (constructors (U .theory) (sortOfVar (U .vars) x))
-        (eqb-true (count cs) (length (constructors (U .theory) (sortOfVar (U .vars) x))) ec)
-        (λ u i. calm u (subst (λ v. ItemOf u v) (sym ez) i)) m₄) (λ _ m₅ co.
+      (eqb-true (count cs) (length (constructors (U .theory) (sortOfVar (U .vars) x))) ec)
+      (λ u i. calm u (subst (λ v. ItemOf u v) (sym ez) i)) m₄) (λ _ m₅ co.
       done (record {
         well = record {
           judgment = jo;
           premises = tt;
           hyps = λ h i. (let r = ho h i in let q = at-below (U .facts) h (r .0) (r .1) in omega arith);
-          derived = λ _. refl
+          derived = λ _. refl;
         };
         form = anInduct (record {
           plain = refl;
@@ -295,8 +295,8 @@ module _ (K : Sets) (U : State) (vs : ℕ → ℕ) (w : Well U vs) where
               let r = judgments-at (U .facts) hs (λ h k. (let g = ho h k in (g .0, g .1))) t i in
               (r .1, (r .0, r .2, r .3), plain (r .0) (r .1) (r .2) (r .3), r .4);
           motive = motive-true (motive j) x em;
-          cases = λ c k o. co c (constructor-in (U .theory) (sortOfVar (U .vars) x) c k (o ∙ sym (w .agree x l)))
-        })
+          cases = λ c k o. co c (constructor-in (U .theory) (sortOfVar (U .vars) x) c k (o ∙ sym (w .agree x l)));
+        });
       }))))))
     where
       motive : Tree → MotiveOf

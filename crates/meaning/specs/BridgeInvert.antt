@@ -53,7 +53,7 @@ unfolding contextVars InContext In mentionedAt mentioned Mentions
 context-vars fs [] d v i m = absurd (i .1)
 context-vars fs (k ∷ hs) d v (h, inl e, a) m =
     true-left (mentionedAt (entry fs k) v) (contextVars fs hs v)
-      (ap (λ (o : Option Fact). mentionedAt o v) (at-entry fs k d (subst (λ z. At fs z d) e a)) ∙ here m)
+    (ap (λ (o : Option Fact). mentionedAt o v) (at-entry fs k d (subst (λ z. At fs z d) e a)) ∙ here m)
   where
     here : Occ v (d .judgment) ⊎ Occs v (d .premises) → (variables (d .judgment) v || variablesOf (d .premises) v) ≡ true
     here (inl o) = true-left (variables (d .judgment) v) (variablesOf (d .premises) v) (occ-variables (d .judgment) v o)
@@ -72,13 +72,13 @@ module _ (K : Sets) (U : State) (vs : ℕ → ℕ) (w : Well U vs) (I : Inversio
   unfolding Used takenVars
   used-taken v (inl (inl o)) =
       true-left (variables (I .hypothesis) v || variables (I .judgment) v) (contextVars (U .facts) (I .context) v)
-        (true-left (variables (I .hypothesis) v) (variables (I .judgment) v) (occ-variables (I .hypothesis) v o))
+      (true-left (variables (I .hypothesis) v) (variables (I .judgment) v) (occ-variables (I .hypothesis) v o))
   used-taken v (inl (inr o)) =
       true-left (variables (I .hypothesis) v || variables (I .judgment) v) (contextVars (U .facts) (I .context) v)
-        (true-right (variables (I .hypothesis) v) (variables (I .judgment) v) (occ-variables (I .judgment) v o))
+      (true-right (variables (I .hypothesis) v) (variables (I .judgment) v) (occ-variables (I .judgment) v o))
   used-taken v (inr (d, i, m)) =
       true-right (variables (I .hypothesis) v || variables (I .judgment) v) (contextVars (U .facts) (I .context) v)
-        (context-vars (U .facts) (I .context) d v i m)
+      (context-vars (U .facts) (I .context) d v i m)
 
   used-small : (v : ℕ) → Used (I .hypothesis) (I .judgment) C v → v < length (U .vars)
   unfolding Used InContext Mentions
@@ -106,16 +106,16 @@ module _ (K : Sets) (U : State) (vs : ℕ → ℕ) (w : Well U vs) (I : Inversio
       known = case-found U ys (I .cases) (R .name .bytes) c co ec .0 .known
 
       good : (length (c .vars) ≡ length (R .vars))
-            × ((i : ℕ) → i < length (R .vars) → sortOfVar (U .vars) (getD (c .vars) i 0) ≡ getD (R .vars) i (record { name = noName; sort = 0 }) .sort)
+          × ((i : ℕ) → i < length (R .vars) → sortOfVar (U .vars) (getD (c .vars) i 0) ≡ getD (R .vars) i (record { name = noName; sort = 0 }) .sort)
           → all (λ v. not (takenVars U I v) && not (has (N .seen) v)) (c .vars) ≡ true → RenamedOk R (c .vars) (N .vars)
       good (e, f) t = record {
         below = λ i l. (let p = small i l in let q = extends-length (U .vars) (N .vars) ex in omega arith);
         fit = λ _ i l. sym (w .agree (getD (c .vars) i 0) (small i l)) ∙ f i l;
         distinct = λ i j l k q. get-distinct (c .vars) (known .0) i j (omega (arith, e, l)) (omega (arith, e, k)) q;
         fresh = λ i l u. true-false (takenVars U I (getD (c .vars) i 0)) (used-taken (getD (c .vars) i 0) u)
-          (not-true (takenVars U I (getD (c .vars) i 0))
+            (not-true (takenVars U I (getD (c .vars) i 0))
             (both-true (not (takenVars U I (getD (c .vars) i 0))) (not (has (N .seen) (getD (c .vars) i 0)))
-              (all-in (λ v. not (takenVars U I v) && not (has (N .seen) v)) (c .vars) (getD (c .vars) i 0) t (inside i l)) .0))
+            (all-in (λ v. not (takenVars U I v) && not (has (N .seen) v)) (c .vars) (getD (c .vars) i 0) t (inside i l)) .0));
       }
         where
           inside : (i : ℕ) → i < length (R .vars) → In (getD (c .vars) i 0) (c .vars)
@@ -129,14 +129,14 @@ module _ (K : Sets) (U : State) (vs : ℕ → ℕ) (w : Well U vs) (I : Inversio
       good : (zs : List Var) → zs ≡ N .vars ++ madeFor (R .vars) → RenamedOk R (upFrom (length (N .vars)) (length (R .vars))) zs
       good zs e = record {
         below = λ i l. (let p = get-up (length (N .vars)) (length (R .vars)) i l in
-          let q = ap (λ k. length k) e ∙ made-length (N .vars) (R .vars) in omega arith);
+            let q = ap (λ k. length k) e ∙ made-length (N .vars) (R .vars) in omega arith);
         fit = λ a i l. fits a i l;
         distinct = λ i j l k q.
             (let p = get-up (length (N .vars)) (length (R .vars)) i l in let r = get-up (length (N .vars)) (length (R .vars)) j k in omega arith);
         fresh = λ i l u.
             (let p = get-up (length (N .vars)) (length (R .vars)) i l in
             let q = used-small (getD (upFrom (length (N .vars)) (length (R .vars))) i 0) u in
-            let r = extends-length (U .vars) (N .vars) ex in omega arith)
+            let r = extends-length (U .vars) (N .vars) ex in omega arith);
       }
         where
           fits : Agree vs zs → (i : ℕ) → i < length (R .vars)
@@ -144,7 +144,7 @@ module _ (K : Sets) (U : State) (vs : ℕ → ℕ) (w : Well U vs) (I : Inversio
           fits a i l =
               ap vs (get-up (length (N .vars)) (length (R .vars)) i l)
               ∙ (sym (a (length (N .vars) + i) (let q = ap (λ k. length k) e ∙ made-length (N .vars) (R .vars) in omega arith))
-                ∙ (ap (λ (k : List Var). sortOfVar k (length (N .vars) + i)) e ∙ made-sort (N .vars) (R .vars) (record { name = noName; sort = 0 }) i l))
+              ∙ (ap (λ (k : List Var). sortOfVar k (length (N .vars) + i)) e ∙ made-sort (N .vars) (R .vars) (record { name = noName; sort = 0 }) i l))
 
   -- One rule ------------------------------------------------------------------------------------------------------------------------
 
@@ -164,16 +164,16 @@ module _ (K : Sets) (U : State) (vs : ℕ → ℕ) (w : Well U vs) (I : Inversio
         ok-then (fact-ok U (c .fact) m₃) (λ f m₄ a.
         ok-then (ok-ask 43 (sameTree (f .judgment) j) m₄) (λ _ m₅ sj.
         ok-map (λ _ sa. record {
-            g = f;
-            cites = cite K U vs w (length (U .facts)) f (c .fact) a (calm f a);
-            proves = sameTree-true (f .judgment) j sj ∙ (p ∙ ap (sub (along θ)) (sym ej));
-            allowed = λ h x. allowed-in R (λ i. getD xs i 0) C (along θ) (az ++ bs) h
+          g = f;
+          cites = cite K U vs w (length (U .facts)) f (c .fact) a (calm f a);
+          proves = sameTree-true (f .judgment) j sj ∙ (p ∙ ap (sub (along θ)) (sym ej));
+          allowed = λ h x. allowed-in R (λ i. getD xs i 0) C (along θ) (az ++ bs) h
               (premises-and-context U R (λ i. getD xs i 0) θ (I .context) az bs ra (cb .0))
               (subst (λ o. allowedIn (az ++ bs) o ≡ true) (at-entry (U .facts) (x .0) h (x .2))
-                (all-in (λ h. allowedIn (az ++ bs) (entry (U .facts) h)) (f .hyps) (x .0) sa (x .1)));
-            uncaptured = λ d i v z n o. cb .1 d i v z n o
-          })
-          (ok-ask 44 (all (λ h. allowedIn (az ++ bs) (entry (U .facts) h)) (f .hyps)) m₅))))))
+              (all-in (λ h. allowedIn (az ++ bs) (entry (U .facts) h)) (f .hyps) (x .0) sa (x .1)));
+          uncaptured = λ d i v z n o. cb .1 d i v z n o;
+        })
+        (ok-ask 44 (all (λ h. allowedIn (az ++ bs) (entry (U .facts) h)) (f .hyps)) m₅))))))
 
     abbrev Looked-ok : Rule → Type 0
     Looked-ok R = InvertRule (U .theory) vs (K .known) (K .part) (U .facts) (length (U .facts)) new k C R
@@ -207,7 +207,7 @@ module _ (K : Sets) (U : State) (vs : ℕ → ℕ) (w : Well U vs) (I : Inversio
         fit = ro .fit a;
         distinct = ro .distinct;
         fresh = λ i l u. ro .fresh i l (subst (λ z. Used z (I .judgment) C (nm i)) ek (subst (λ z. Used (k .judgment) z C (nm i)) ej u));
-        cased = c
+        cased = c;
       }
 
       case-or-not-ok : (m₀ m₁ : Made) (r : Option (List Binding)) → unify (length zs) (I .hypothesis) t m₀ ≡ ok r m₁
@@ -220,10 +220,10 @@ module _ (K : Sets) (U : State) (vs : ℕ → ℕ) (w : Well U vs) (I : Inversio
       case-or-not-ok m₀ m₁ (some θ) e nothing eo m = stopped
       case-or-not-ok m₀ m₁ (some θ) e (some c) eo m =
           ok-map (λ _ h a. looked a (paired (along θ) (record {
-              sorts = unify-sorts (sig (U .theory)) vs (length zs) (I .hypothesis) t PROP m₀ m₁ θ (hj .typed .sorts) (t-sorted a) e;
-              absorbs = λ γ q. unify-general (length zs) (I .hypothesis) t m₀ m₁ θ e .general γ (ap (sub γ) (sym ek) ∙ q)
-            }) h))
-            (invert-case-ok R xs θ c (calm c eo) m)
+            sorts = unify-sorts (sig (U .theory)) vs (length zs) (I .hypothesis) t PROP m₀ m₁ θ (hj .typed .sorts) (t-sorted a) e;
+            absorbs = λ γ q. unify-general (length zs) (I .hypothesis) t m₀ m₁ θ e .general γ (ap (sub γ) (sym ek) ∙ q);
+          }) h))
+          (invert-case-ok R xs θ c (calm c eo) m)
 
     invert-rule-ok : (R : Rule) → WellRule (U .theory) R
         → ((c : Case) → caseNamed (I .cases) (R .name .bytes) ≡ some c → (f : Fact) → At (U .facts) (c .fact) f → (f .premises ≡ none) × Citable K U vs w (length (U .facts)) (c .fact))
@@ -236,27 +236,30 @@ module _ (K : Sets) (U : State) (vs : ℕ → ℕ) (w : Well U vs) (I : Inversio
         ok-then (substitute-ok (renamed (λ i. getD (r .0) i 0)) (R .conclusion) m₂) (λ t m₃ et.
         ok-then (ok-self (unify (length (r .1 .vars)) (I .hypothesis) t m₃)) (λ θ m₄ eu.
         ok-then (case-or-not-ok R wr calm (r .0) (r .1 .vars) (extends-both (U .vars) (N .vars) (r .1 .vars) ex (ro .0)) (ro .1) m₃ (eu .0) θ
-            (subst (λ z. unify (length (r .1 .vars)) (I .hypothesis) z m₃ ≡ ok θ (eu .0)) et (eu .1))
-            (caseNamed (I .cases) (R .name .bytes)) refl m₄) (λ _ m₅ h.
+        (subst (λ z. unify (length (r .1 .vars)) (I .hypothesis) z m₃ ≡ ok θ (eu .0)) et (eu .1))
+        (caseNamed (I .cases) (R .name .bytes)) refl m₄) (λ _ m₅ h.
         done (ro .0, h))))))
 
     -- All rules of the predicate ------------------------------------------------------------------------------------------------------
 
     invert-rules-ok : (rs : List ℕ) → ((r : ℕ) → In r rs → WellRule (U .theory) (rule (U .theory) r))
         → ((r : ℕ) → In r rs → (c : Case) → caseNamed (I .cases) (rule (U .theory) r .name .bytes) ≡ some c
-          → (f : Fact) → At (U .facts) (c .fact) f → (f .premises ≡ none) × Citable K U vs w (length (U .facts)) (c .fact))
+        → (f : Fact) → At (U .facts) (c .fact) f → (f .premises ≡ none) × Citable K U vs w (length (U .facts)) (c .fact))
         → (N : Names) → Extends (U .vars) (N .vars) → (m : Made)
         → Ok (λ N′. Extends (N .vars) (N′ .vars) × (Agree vs (N′ .vars) → (r : ℕ) → In r rs → Looked-ok (rule (U .theory) r)))
-            (invertRules U I rs N m)
+        (invertRules U I rs N m)
     unfolding invertRules In
     invert-rules-ok [] wr calm N ex m = done (extends-same (N .vars), λ a r i. absurd i)
     invert-rules-ok (r ∷ rs) wr calm N ex m =
         ok-then (invert-rule-ok (rule (U .theory) r) (wr r (inl refl)) (calm r (inl refl)) N ex m) (λ M m₁ h.
-        ok-map (λ N′ g. (extends-both (N .vars) (M .vars) (N′ .vars) (h .0) (g .0), λ a s i. elim i [
-            inl e ↦ subst (λ z. Looked-ok (rule (U .theory) z)) (sym e) (h .1 (agree-extends vs (M .vars) (N′ .vars) (g .0) a))
-          | inr j ↦ g .1 a s j
-          ]))
-          (invert-rules-ok rs (λ s i. wr s (inr i)) (λ s i. calm s (inr i)) M (extends-both (U .vars) (N .vars) (M .vars) ex (h .0)) m₁))
+        ok-map (λ N′ g. (
+          extends-both (N .vars) (M .vars) (N′ .vars) (h .0) (g .0),
+          λ a s i. elim i [
+            | inl e ↦ subst (λ z. Looked-ok (rule (U .theory) z)) (sym e) (h .1 (agree-extends vs (M .vars) (N′ .vars) (g .0) a))
+            | inr j ↦ g .1 a s j
+          ],
+        ))
+        (invert-rules-ok rs (λ s i. wr s (inr i)) (λ s i. calm s (inr i)) M (extends-both (U .vars) (N .vars) (M .vars) ex (h .0)) m₁))
 
 -- The form --------------------------------------------------------------------------------------------------------------------------
 
@@ -270,7 +273,7 @@ in-rules-of : (T : Theory) (p r : ℕ) (qs : Trees) → r < length (T .rules) �
 unfolding rulesOf rule headIs
 in-rules-of T p r qs l e =
     subst (λ z. In z (every (λ (s : Rule). headIs p (s .conclusion)) (T .rules) 0)) (let z : 0 + r ≡ r = omega arith in z)
-      (every-in (λ (s : Rule). headIs p (s .conclusion)) noRule (T .rules) 0 r l (ap (headIs p) e ∙ eq-eqb p p refl))
+    (every-in (λ (s : Rule). headIs p (s .conclusion)) noRule (T .rules) 0 r l (ap (headIs p) e ∙ eq-eqb p p refl))
 
 module _ (K : Sets) (U : State) (vs : ℕ → ℕ) (w : Well U vs) where
   pub invert-ok : (xs : Sexps) → ((r : ℕ) → K .known (length (U .facts)) r → RuleOf (U .theory) r)
@@ -286,19 +289,33 @@ module _ (K : Sets) (U : State) (vs : ℕ → ℕ) (w : Well U vs) where
       ok-then (ok-items 41 (item xs 5) m₅) (λ ys m₆ ez.
       ok-then (read-cases-ok U ys m₆) (λ cs m₇ co.
       ok-then (invert-rules-ok K U vs w (record { hypothesis = k .judgment; judgment = j; context = hs; cases = cs }) ys (w .facts i k a .judgment) jo co
-        (new i j hs) refl k refl (rulesOf (U .theory) (predicateOf (k .judgment)))
-        (λ r q. w .rules r (rules-of-below (U .theory) (predicateOf (k .judgment)) r q))
-        (λ r q c ec f b.
-          let s = case-found U ys cs (rule (U .theory) r .name .bytes) c co ec in
-          calm (c .fact) f
-            (i, k, r, s .0 .raw, pt, a, q, subst (λ z. ItemOf (s .0 .raw) z) (sym ez) (s .0 .listed),
-              subst (λ n. CasesFor n (s .0 .raw) (c .fact)) (s .1) (s .0 .reads)) b)
-        (record { vars = U .vars; seen = [] }) (extends-same (U .vars)) m₇) (λ N m₈ h.
+      (new i j hs) refl k refl (rulesOf (U .theory) (predicateOf (k .judgment)))
+      (λ r q. w .rules r (rules-of-below (U .theory) (predicateOf (k .judgment)) r q))
+      (λ r q c ec f b.
+      let s = case-found U ys cs (rule (U .theory) r .name .bytes) c co ec in
+      calm (c .fact) f (
+        i,
+        k,
+        r,
+        s .0 .raw,
+        pt,
+        a,
+        q,
+        subst (λ z. ItemOf (s .0 .raw) z) (sym ez) (s .0 .listed),
+        subst (λ n. CasesFor n (s .0 .raw) (c .fact)) (s .1) (s .0 .reads),
+      ) b)
+      (record { vars = U .vars; seen = [] }) (extends-same (U .vars)) m₇) (λ N m₈ h.
       done (h .0, λ ag. finish i k a ep hs ho j jo (h .1 ag))))))))))
     where
       new : ℕ → Tree → List ℕ → Fact
-      new i j hs = record { judgment = j; hyps = rising (length (U .facts)) (union (has (i ∷ [])) (has hs)); assumed = false; premises = none;
-        general = []; footing = [] }
+      new i j hs = record {
+        judgment = j;
+        hyps = rising (length (U .facts)) (union (has (i ∷ [])) (has hs));
+        assumed = false;
+        premises = none;
+        general = [];
+        footing = [];
+      }
 
       own : (i : ℕ) (hs : List ℕ) → i < length (U .facts) → In i (rising (length (U .facts)) (union (has (i ∷ [])) (has hs)))
       own i hs l = rising-in (length (U .facts)) (union (has (i ∷ [])) (has hs)) i l (true-left (has (i ∷ []) i) (has hs i) (in-has (i ∷ []) i (in-here i)))
@@ -310,14 +327,14 @@ module _ (K : Sets) (U : State) (vs : ℕ → ℕ) (w : Well U vs) where
           → ((h : ℕ) → In h hs → (g : Fact) × At (U .facts) h g × (g .assumed ≡ true))
           → (j : Tree) → Judgment (U .theory) vs (length (U .vars)) j
           → ((r : ℕ) → In r (rulesOf (U .theory) (predicateOf (k .judgment)))
-            → InvertRule (U .theory) vs (K .known) (K .part) (U .facts) (length (U .facts)) (new i j hs) k (InContext (U .facts) hs) (rule (U .theory) r))
+          → InvertRule (U .theory) vs (K .known) (K .part) (U .facts) (length (U .facts)) (new i j hs) k (InContext (U .facts) hs) (rule (U .theory) r))
           → Fine K U vs w (new i j hs)
       finish i k a ep hs ho j jo looked = record {
         well = record {
           judgment = jo;
           premises = tt;
           hyps = λ h q. (let l = in-rising (length (U .facts)) (union (has (i ∷ [])) (has hs)) h q .0 in omega arith);
-          derived = λ _. refl
+          derived = λ _. refl;
         };
         form = anInvert (record {
           plain = refl;
@@ -331,8 +348,8 @@ module _ (K : Sets) (U : State) (vs : ℕ → ℕ) (w : Well U vs) where
           head = shape .0;
           arguments = shape .1;
           form = shape .2;
-          looked = λ r l qs e. looked r (subst (λ p. In r (rulesOf (U .theory) p)) (sym (ap predicateOf (shape .2))) (in-rules-of (U .theory) (shape .0) r qs (theirs r l) e))
-        })
+          looked = λ r l qs e. looked r (subst (λ p. In r (rulesOf (U .theory) p)) (sym (ap predicateOf (shape .2))) (in-rules-of (U .theory) (shape .0) r qs (theirs r l) e));
+        });
       }
         where
           shape : (c : ℕ) × (ts : Trees) × (k .judgment ≡ app c ts)

@@ -72,7 +72,7 @@ make-vars-ok [] xs m = done (sym (append-nil xs))
 make-vars-ok (r ∷ rs) xs m =
     ok-then (ok-space 7 (ltb (length xs) VARIABLES) m) (λ _ m₁ _.
     ok-map (λ ys e. e ∙ append-assoc xs (record { sort = r .sort; text = 0; name = noName } ∷ []) (madeFor rs))
-      (make-vars-ok rs (xs ++ (record { sort = r .sort; text = 0; name = noName } ∷ [])) m₁))
+    (make-vars-ok rs (xs ++ (record { sort = r .sort; text = 0; name = noName } ∷ [])) m₁))
 
 pub made-length : (xs : List Var) (rs : List RuleVar) → length (xs ++ madeFor rs) ≡ length xs + length rs
 unfolding madeFor
@@ -88,4 +88,4 @@ made-sort [] (r ∷ rs) d (suc i) l =
     subst (λ k. sortOfVar (madeFor (r ∷ rs)) k ≡ getD rs i d .sort) (let z : suc (0 + i) ≡ 0 + suc i = omega arith in z) (made-sort [] rs d i (omega arith))
 made-sort (x ∷ xs) rs d i l =
     subst (λ k. sortOfVar ((x ∷ xs) ++ madeFor rs) k ≡ getD rs i d .sort) (let z : suc (length xs + i) ≡ suc (length xs) + i = omega arith in z)
-      (made-sort xs rs d i l)
+    (made-sort xs rs d i l)

@@ -53,7 +53,7 @@ pub record Clear (K : Sets) (t : Tag) (S : State) (xs : Sexps) : Type 0 where
   pub calm : (i : ℕ) (f : Fact) → NamesAs t S xs i → At (S .facts) i f → ¬ (RuleHyp f)
   pub rests : (r : ℕ) → RuleAs t S xs r → K .part (length (S .facts)) r
   pub cites : (i : ℕ) → CitesAs t S xs i
-    → ((r : ℕ) → K .part i r → K .part (length (S .facts)) r) × ((r : ℕ) → K .known (length (S .facts)) r → K .known i r)
+      → ((r : ℕ) → K .part i r → K .part (length (S .facts)) r) × ((r : ℕ) → K .known (length (S .facts)) r → K .known i r)
   pub within : (r : ℕ) → K .known (length (S .facts)) r → RuleOf (S .theory) r
 
 abbrev pub After : Sets → Tag → Sexps → State → Out State (Unit {0}) → Type 0
@@ -72,17 +72,21 @@ add-var-ok K C text xs S =
     keeping _ (keeps-name 21 (item xs 2) S) (λ s _.
     keeping _ (keeps-found 21 (sortNamed (S .theory) (s .bytes)) S) (λ k _.
     keeping _ (keeps-ask 21 (not (marked (n .bytes)) && (isNew (constructorNamed (S .theory) (n .bytes))
-        && (isNew (predicateNamed (S .theory) (n .bytes)) && isNew (varNamed (S .vars) (n .bytes))))) S) (λ _ _.
+    && (isNew (predicateNamed (S .theory) (n .bytes)) && isNew (varNamed (S .vars) (n .bytes))))) S) (λ _ _.
     keeping _ (keeps-room 7 (ltb (length (S .vars)) VARIABLES) S) (λ _ _.
-    done (record {
-      kept = record { theory = refl; vars = extends-one (S .vars) (record { sort = k; text = text; name = n }) };
-      took = λ vs w _ a. record {
-        well = well-vars S vs w (S .made) (S .vars ++ (record { sort = k; text = text; name = n } ∷ []))
-          (extends-one (S .vars) (record { sort = k; text = text; name = n })) a;
-        facts = inl refl;
-        goals = λ i g q t. inl q
-      }
-    }, refl, refl))))))
+    done (
+      record {
+        kept = record { theory = refl; vars = extends-one (S .vars) (record { sort = k; text = text; name = n }) };
+        took = λ vs w _ a. record {
+          well = well-vars S vs w (S .made) (S .vars ++ (record { sort = k; text = text; name = n } ∷ []))
+              (extends-one (S .vars) (record { sort = k; text = text; name = n })) a;
+          facts = inl refl;
+          goals = λ i g q t. inl q;
+        };
+      },
+      refl,
+      refl,
+    ))))))
 
 abbreviated-more : (ds : List Def) (d : Def) (x : List ℕ) (t : Tree) → abbreviated (ds ++ (d ∷ [])) x ≡ some t
     → (abbreviated ds x ≡ some t) ⊎ (d .term ≡ t)
@@ -106,10 +110,10 @@ well-def S vs w m d y = record {
   rules = w .rules;
   agree = w .agree;
   defs = λ x t e. elim (abbreviated-more (S .defs) d x t e) [
-      inl q ↦ w .defs x t q
+    | inl q ↦ w .defs x t q
     | inr q ↦ subst (λ z. Typed (S .theory) vs (length (S .vars)) z (sortOf (S .theory) (S .vars) z)) q y
-    ];
-  facts = w .facts
+  ];
+  facts = w .facts;
 }
 
 pub add-def-ok : (K : Sets) (xs : Sexps) (S : State) → After K aDef xs S (addDef xs S)
@@ -118,8 +122,8 @@ add-def-ok K xs S =
     keeping _ (keeps-name 33 (item xs 1) S) (λ n _.
     keeping _ (keeps-ask 33 (marked (n .bytes) && leb 2 (length (n .bytes))) S) (λ _ _.
     making-then (term S (item xs 2)) S _
-      (ok-all {I = (vs : ℕ → ℕ) × Well S vs} {P = λ i t. Typed (S .theory) (i .0) (length (S .vars)) t (sortOf (S .theory) (S .vars) t)}
-        (term S (item xs 2) (S .made)) (λ i. term-ok S (i .0) (i .1) (item xs 2) (S .made))) (λ t m y.
+    (ok-all {I = (vs : ℕ → ℕ) × Well S vs} {P = λ i t. Typed (S .theory) (i .0) (length (S .vars)) t (sortOf (S .theory) (S .vars) t)}
+    (term S (item xs 2) (S .made)) (λ i. term-ok S (i .0) (i .1) (item xs 2) (S .made))) (λ t m y.
     keeping _ (keeps-ask 33 (isNew (abbreviated (S .defs) (n .bytes))) (withMade S m)) (λ _ _.
     keeping _ (keeps-room 10 (ltb (length (S .defs)) DEFS) (withMade S m)) (λ _ _.
     done (record {
@@ -127,8 +131,8 @@ add-def-ok K xs S =
       took = λ vs w _ _. record {
         well = well-def S vs w m (record { name = n; term = t }) (y (vs, w));
         facts = inl refl;
-        goals = λ i g q t. inl q
-      }
+        goals = λ i g q t. inl q;
+      };
     }))))))
 
 -- Hypotheses ------------------------------------------------------------------------------------------------------------------------
@@ -141,35 +145,35 @@ hyp-fine K S vs w j ps gs a b = record {
     judgment = a;
     premises = b;
     hyps = λ h i. elim i [ inl e ↦ omega arith | inr e ↦ absurd e ];
-    derived = λ e. absurd (true-false true refl e)
+    derived = λ e. absurd (true-false true refl e);
   };
-  form = hyp (record { own = in-here (length (S .facts)) })
+  form = hyp (record { own = in-here (length (S .facts)) });
 }
 
 pub add-hyp-ok : (K : Sets) (xs : Sexps) (S : State) → After K aHyp xs S (addHyp xs S)
 unfolding addHyp then Judgments
 add-hyp-ok K xs S =
     making-then (judgment S (item xs 2)) S _
-      (ok-all {I = (vs : ℕ → ℕ) × Well S vs} {P = λ i t. Judgment (S .theory) (i .0) (length (S .vars)) t}
-        (judgment S (item xs 2) (S .made)) (λ i. judgment-ok S (i .0) (i .1) (item xs 2) (S .made))) (λ j m y.
+    (ok-all {I = (vs : ℕ → ℕ) × Well S vs} {P = λ i t. Judgment (S .theory) (i .0) (length (S .vars)) t}
+    (judgment S (item xs 2) (S .made)) (λ i. judgment-ok S (i .0) (i .1) (item xs 2) (S .made))) (λ j m y.
     ends-map (λ _ S′ e. subst (λ z. Post K (Clear K aHyp S xs) S z) (sym e)
-        (fact-post K S m (S .vars) (extends-same (S .vars)) (hypothesis (length (S .facts)) j none []) _ (λ vs w _ _. hyp-fine K S vs w j none [] (y (vs, w)) tt)))
-      (add-fact (hypothesis (length (S .facts)) j none []) oneHypothesis (withMade S m)))
+    (fact-post K S m (S .vars) (extends-same (S .vars)) (hypothesis (length (S .facts)) j none []) _ (λ vs w _ _. hyp-fine K S vs w j none [] (y (vs, w)) tt)))
+    (add-fact (hypothesis (length (S .facts)) j none []) oneHypothesis (withMade S m)))
 
 pub add-rule-hyp-ok : (K : Sets) (xs : Sexps) (S : State) → After K aRuleHyp xs S (addRuleHyp xs S)
 unfolding addRuleHyp then
 add-rule-hyp-ok K xs S =
     making-then (judgments S (item xs 2)) S _
-      (ok-all {I = (vs : ℕ → ℕ) × Well S vs} {P = λ i t. Judgments (S .theory) (i .0) (length (S .vars)) t}
-        (judgments S (item xs 2) (S .made)) (λ i. judgments-ok S (i .0) (i .1) (item xs 2) (S .made))) (λ ps m x.
+    (ok-all {I = (vs : ℕ → ℕ) × Well S vs} {P = λ i t. Judgments (S .theory) (i .0) (length (S .vars)) t}
+    (judgments S (item xs 2) (S .made)) (λ i. judgments-ok S (i .0) (i .1) (item xs 2) (S .made))) (λ ps m x.
     making-then (judgment S (item xs 3)) (withMade S m) _
-      (ok-all {I = (vs : ℕ → ℕ) × Well S vs} {P = λ i t. Judgment (S .theory) (i .0) (length (S .vars)) t}
-        (judgment S (item xs 3) m) (λ i. judgment-ok S (i .0) (i .1) (item xs 3) m)) (λ j m₁ y.
+    (ok-all {I = (vs : ℕ → ℕ) × Well S vs} {P = λ i t. Judgment (S .theory) (i .0) (length (S .vars)) t}
+    (judgment S (item xs 3) m) (λ i. judgment-ok S (i .0) (i .1) (item xs 3) m)) (λ j m₁ y.
     keeping _ (keeps-vars-list 36 S (item xs 4) (withMade S m₁) (ok-any (varsList 36 S (item xs 4) (withMade S m₁)))) (λ gs _.
     ends-map (λ _ S′ e. subst (λ z. Post K (Clear K aRuleHyp S xs) S z) (sym e)
-        (fact-post K S m₁ (S .vars) (extends-same (S .vars)) (hypothesis (length (S .facts)) j ps gs) _
-          (λ vs w _ _. hyp-fine K S vs w j ps gs (y (vs, w)) (x (vs, w)))))
-      (add-fact (hypothesis (length (S .facts)) j ps gs) oneHypothesis (withMade S m₁)))))
+    (fact-post K S m₁ (S .vars) (extends-same (S .vars)) (hypothesis (length (S .facts)) j ps gs) _
+    (λ vs w _ _. hyp-fine K S vs w j ps gs (y (vs, w)) (x (vs, w)))))
+    (add-fact (hypothesis (length (S .facts)) j ps gs) oneHypothesis (withMade S m₁)))))
 
 -- The forms of their own files ------------------------------------------------------------------------------------------------------
 
@@ -192,42 +196,42 @@ pub add-step-ok : (K : Sets) (xs : Sexps) (S : State) → After K aStep xs S (ad
 unfolding addStep then NamesAs RuleAs CitesAs Citable
 add-step-ok K xs S =
     making-then (step S xs) S _
-      (ok-all {I = Given K aStep xs S} {P = λ i r. Fine K S (i .0) (i .1) (r .0)} (step S xs (S .made))
-        (λ i. step-ok K S (i .0) (i .1) xs (refs-free K S (i .0) (i .1) (item xs 3) (i .2 .calm) (i .2 .cites)) (i .2 .rests) (S .made))) (λ r m y.
+    (ok-all {I = Given K aStep xs S} {P = λ i r. Fine K S (i .0) (i .1) (r .0)} (step S xs (S .made))
+    (λ i. step-ok K S (i .0) (i .1) xs (refs-free K S (i .0) (i .1) (item xs 3) (i .2 .calm) (i .2 .cites)) (i .2 .rests) (S .made))) (λ r m y.
     ends-map (λ _ S′ e. subst (λ z. Post K (Clear K aStep S xs) S z) (sym e)
-        (fact-post K S m (S .vars) (extends-same (S .vars)) (r .0) _ (λ vs w c _. y (vs, w, c))))
-      (add-fact (r .0) (someInstances (r .1)) (withMade S m)))
+    (fact-post K S m (S .vars) (extends-same (S .vars)) (r .0) _ (λ vs w c _. y (vs, w, c))))
+    (add-fact (r .0) (someInstances (r .1)) (withMade S m)))
 
 pub add-apply-ok : (K : Sets) (xs : Sexps) (S : State) → After K anApply xs S (addApply xs S)
 unfolding addApply then NamesAs RuleAs CitesAs Citable
 add-apply-ok K xs S =
     making-then (apply S xs) S _
-      (ok-all {I = Given K anApply xs S} {P = λ i f. Fine K S (i .0) (i .1) f} (apply S xs (S .made))
-        (λ i. apply-ok K S (i .0) (i .1) xs (λ k p. i .2 .cites k (inl p))
-          (refs-free K S (i .0) (i .1) (item xs 4) (i .2 .calm) (λ k p. i .2 .cites k (inr p))) (S .made))) (λ f m y.
+    (ok-all {I = Given K anApply xs S} {P = λ i f. Fine K S (i .0) (i .1) f} (apply S xs (S .made))
+    (λ i. apply-ok K S (i .0) (i .1) xs (λ k p. i .2 .cites k (inl p))
+    (refs-free K S (i .0) (i .1) (item xs 4) (i .2 .calm) (λ k p. i .2 .cites k (inr p))) (S .made))) (λ f m y.
     ends-map (λ _ S′ e. subst (λ z. Post K (Clear K anApply S xs) S z) (sym e)
-        (fact-post K S m (S .vars) (extends-same (S .vars)) f _ (λ vs w c _. y (vs, w, c))))
-      (add-fact f noCounts (withMade S m)))
+    (fact-post K S m (S .vars) (extends-same (S .vars)) f _ (λ vs w c _. y (vs, w, c))))
+    (add-fact f noCounts (withMade S m)))
 
 pub add-induct-ok : (K : Sets) (xs : Sexps) (S : State) → After K anInduct xs S (addInduct xs S)
 unfolding addInduct then NamesAs RuleAs CitesAs Citable
 add-induct-ok K xs S =
     making-then (induct S xs) S _
-      (ok-all {I = Given K anInduct xs S} {P = λ i f. Fine K S (i .0) (i .1) f} (induct S xs (S .made))
-        (λ i. induct-ok K S (i .0) (i .1) xs (cases-free K S (i .0) (i .1) (item xs 4) (i .2 .calm) (i .2 .cites)) (S .made))) (λ f m y.
+    (ok-all {I = Given K anInduct xs S} {P = λ i f. Fine K S (i .0) (i .1) f} (induct S xs (S .made))
+    (λ i. induct-ok K S (i .0) (i .1) xs (cases-free K S (i .0) (i .1) (item xs 4) (i .2 .calm) (i .2 .cites)) (S .made))) (λ f m y.
     ends-map (λ _ S′ e. subst (λ z. Post K (Clear K anInduct S xs) S z) (sym e)
-        (fact-post K S m (S .vars) (extends-same (S .vars)) f _ (λ vs w c _. y (vs, w, c))))
-      (add-fact f oneInduction (withMade S m)))
+    (fact-post K S m (S .vars) (extends-same (S .vars)) f _ (λ vs w c _. y (vs, w, c))))
+    (add-fact f oneInduction (withMade S m)))
 
 pub add-induct-with-ok : (K : Sets) (xs : Sexps) (S : State) → After K anInductWith xs S (addInductWith xs S)
 unfolding addInductWith then NamesAs RuleAs CitesAs Citable
 add-induct-with-ok K xs S =
     making-then (inductWith S xs) S _
-      (ok-all {I = Given K anInductWith xs S} {P = λ i f. Fine K S (i .0) (i .1) f} (inductWith S xs (S .made))
-        (λ i. induct-with-ok K S (i .0) (i .1) xs (cases-free K S (i .0) (i .1) (item xs 5) (i .2 .calm) (i .2 .cites)) (S .made))) (λ f m y.
+    (ok-all {I = Given K anInductWith xs S} {P = λ i f. Fine K S (i .0) (i .1) f} (inductWith S xs (S .made))
+    (λ i. induct-with-ok K S (i .0) (i .1) xs (cases-free K S (i .0) (i .1) (item xs 5) (i .2 .calm) (i .2 .cites)) (S .made))) (λ f m y.
     ends-map (λ _ S′ e. subst (λ z. Post K (Clear K anInductWith S xs) S z) (sym e)
-        (fact-post K S m (S .vars) (extends-same (S .vars)) f _ (λ vs w c _. y (vs, w, c))))
-      (add-fact f oneInduction (withMade S m)))
+    (fact-post K S m (S .vars) (extends-same (S .vars)) f _ (λ vs w c _. y (vs, w, c))))
+    (add-fact f oneInduction (withMade S m)))
 
 -- made variables stand behind those that were there
 renamed-extends : (S : State) (I : Inversion) (R : Rule) (c : Option Case) (N : Names) (m : Made)
@@ -260,10 +264,10 @@ pub add-invert-ok : (K : Sets) (xs : Sexps) (S : State) → After K anInvert xs 
 unfolding addInvert then NamesAs RuleAs CitesAs Citable
 add-invert-ok K xs S =
     making-then (invert S xs) S _
-      (ok-all {I = Unit {0} ⊎ Given K anInvert xs S} {P = λ i r. Made-by r i} (invert S xs (S .made)) (λ i. by i)) (λ r m y.
+    (ok-all {I = Unit {0} ⊎ Given K anInvert xs S} {P = λ i r. Made-by r i} (invert S xs (S .made)) (λ i. by i)) (λ r m y.
     ends-map (λ _ S′ e. subst (λ z. Post K (Clear K anInvert S xs) S z) (sym e)
-        (fact-post K S m (r .1) (y (inl tt)) (r .0) _ (λ vs w c a. y (inr (vs, w, c)) a)))
-      (add-fact (r .0) oneInversion (withVars (withMade S m) (r .1))))
+    (fact-post K S m (r .1) (y (inl tt)) (r .0) _ (λ vs w c a. y (inr (vs, w, c)) a)))
+    (add-fact (r .0) oneInversion (withVars (withMade S m) (r .1))))
   where
     Made-by : Fact × List Var → Unit {0} ⊎ Given K anInvert xs S → Type 0
     Made-by r (inl u) = Extends (S .vars) (r .1)
@@ -273,4 +277,4 @@ add-invert-ok K xs S =
     by (inl u) = invert-extends S xs (S .made)
     by (inr (vs, w, c)) =
         ok-map (λ r h. h .1) (invert-ok K S vs w xs (c .within)
-          (λ i f n a. (calm-free (S .theory) vs (length (S .vars)) (length (S .facts)) f (w .facts i f a) (c .calm i f n a), c .cites i n)) (S .made))
+        (λ i f n a. (calm-free (S .theory) vs (length (S .vars)) (length (S .facts)) f (w .facts i f a) (c .calm i f n a), c .cites i n)) (S .made))

@@ -36,9 +36,11 @@ constructor-known T x c e = first-zero (λ s. not (isPredicate s) && same (s .na
 pub predicate-known : (T : Theory) (x : List ℕ) (c : ℕ) → predicateNamed T x ≡ some c → (c < length (T .symbols)) × (output T c ≡ PROP)
 unfolding predicateNamed isPredicate output
 predicate-known T x c e =
-    let r = first-zero (λ s. isPredicate s && same (s .name .bytes) x) noSymbol (T .symbols) c e in
-    (r .0, eqb-true (getD (T .symbols) c noSymbol .output) 0
-      (both-true (isPredicate (getD (T .symbols) c noSymbol)) (same (getD (T .symbols) c noSymbol .name .bytes) x) (r .1) .0))
+    let r = first-zero (λ s. isPredicate s && same (s .name .bytes) x) noSymbol (T .symbols) c e in (
+      r .0,
+      eqb-true (getD (T .symbols) c noSymbol .output) 0
+          (both-true (isPredicate (getD (T .symbols) c noSymbol)) (same (getD (T .symbols) c noSymbol .name .bytes) x) (r .1) .0),
+    )
 
 pub rule-known : (T : Theory) (x : List ℕ) (r : ℕ) → ruleNamed T x ≡ some r → r < length (T .rules)
 unfolding ruleNamed
@@ -88,7 +90,7 @@ unfolding others
 others-ok k U nil ys s h = done h
 others-ok k U (cons x xs) ys s h =
     ok-then (variable-ok k U x s) (λ v s′ l. ok-then (ok-ask k (not (has ys v)) s′)
-      (λ _ s″ e. others-ok k U xs (ys ++ (v ∷ [])) s″ (vars-snoc (length (U .vars)) ys v h l (not-has ys v e))))
+    (λ _ s″ e. others-ok k U xs (ys ++ (v ∷ [])) s″ (vars-snoc (length (U .vars)) ys v h l (not-has ys v e))))
 
 pub vars-list-ok : {S : Type 0} (k : ℕ) (U : State) (x : Sexp) (s : S) → Ok (λ zs. VarsOk (length (U .vars)) zs) (varsList k U x s)
 unfolding varsList VarsOk Distinct In
@@ -115,9 +117,10 @@ module _ (U : State) (vs : ℕ → ℕ) (w : Well U vs) where
   fit-sorted none (s ∷ ss) o e = true-false false e refl
   fit-sorted (more t ts) [] o e = true-false false e refl
   fit-sorted (more t ts) (s ∷ ss) o e =
-      let r = and-true (eqb (sortOf (U .theory) (U .vars) t) s) (fit (U .theory) (U .vars) ts ss) e in
-      (subst (λ z. Sorted (sig (U .theory)) vs t z) (eqb-true (sortOf (U .theory) (U .vars) t) s (r .0)) (o .0 .sorts),
-        fit-sorted ts ss (o .1) (r .1))
+      let r = and-true (eqb (sortOf (U .theory) (U .vars) t) s) (fit (U .theory) (U .vars) ts ss) e in (
+        subst (λ z. Sorted (sig (U .theory)) vs t z) (eqb-true (sortOf (U .theory) (U .vars) t) s (r .0)) (o .0 .sorts),
+        fit-sorted ts ss (o .1) (r .1),
+      )
 
   owns-small : (ts : Trees) → Owns ts → (v : ℕ) → Occs v ts → v < length (U .vars)
   unfolding Owns Occ
@@ -147,13 +150,14 @@ module _ (U : State) (vs : ℕ → ℕ) (w : Well U vs) where
   unfolding named Owns
   named-ok x m =
       ok-case (varNamed (U .vars) x) _ _ m
-        (λ v e. kept (var v) m (var-own v (var-known (U .vars) x v e)))
-        (λ _. ok-then (ok-found 22 (constructorNamed (U .theory) x) m) (λ c m′ e.
-          ok-then (ok-ask 23 (isEmpty (inputs (U .theory) c)) m′) (λ _ m″ f.
-            kept (app c none) m″ (app-own c none (constructor-known (U .theory) x c e) tt (empty-fit (inputs (U .theory) c) f)))))
+      (λ v e. kept (var v) m (var-own v (var-known (U .vars) x v e)))
+      (λ _. ok-then (ok-found 22 (constructorNamed (U .theory) x) m) (λ c m′ e.
+      ok-then (ok-ask 23 (isEmpty (inputs (U .theory) c)) m′) (λ _ m″ f.
+      kept (app c none) m″ (app-own c none (constructor-known (U .theory) x c e) tt (empty-fit (inputs (U .theory) c) f)))))
 
   mutual
     unfolding term Owns
+
     pub term-ok : (x : Sexp) (m : Made) → Ok (λ t. Own t) (term U x m)
     term-ok (atom p bs) m =
         ok-if (marked bs) _ _ m (λ _. ok-map (λ t e. w .defs bs t e) (ok-found 22 (abbreviated (U .defs) bs) m)) (λ _. named-ok bs m)
@@ -177,7 +181,7 @@ module _ (U : State) (vs : ℕ → ℕ) (w : Well U vs) where
   unfolding termOf
   term-of-ok x s m =
       ok-then (term-ok x m) (λ t m₁ o. ok-then (ok-ask 23 (eqb (sortOf (U .theory) (U .vars) t) s) m₁)
-        (λ _ m₂ e. done (subst (λ z. Typed (U .theory) vs (length (U .vars)) t z) (eqb-true (sortOf (U .theory) (U .vars) t) s e) o)))
+      (λ _ m₂ e. done (subst (λ z. Typed (U .theory) vs (length (U .vars)) t z) (eqb-true (sortOf (U .theory) (U .vars) t) s e) o)))
 
   pub judgment-ok : (x : Sexp) (m : Made) → Ok (λ t. Judgment (U .theory) vs (length (U .vars)) t) (judgment U x m)
   unfolding judgment IsApp
@@ -188,13 +192,13 @@ module _ (U : State) (vs : ℕ → ℕ) (w : Well U vs) where
       ok-then (terms-ok (rest xs 1) m₃) (λ ts m₄ o.
       ok-then (ok-ask 23 (fit (U .theory) (U .vars) ts (inputs (U .theory) p)) m₄) (λ _ m₅ f.
       ok-map (λ u q. subst (λ z. Judgment (U .theory) vs (length (U .vars)) z) (sym q) (good p ts (predicate-known (U .theory) (n .bytes) p e) o f))
-        (keep-ok (app p ts) m₅))))))
+      (keep-ok (app p ts) m₅))))))
     where
       good : (p : ℕ) (ts : Trees) → (p < length (U .theory .symbols)) × (output (U .theory) p ≡ PROP) → Owns ts
           → fit (U .theory) (U .vars) ts (inputs (U .theory) p) ≡ true → Judgment (U .theory) vs (length (U .vars)) (app p ts)
       good p ts k o f = record {
         typed = subst (λ z. Typed (U .theory) vs (length (U .vars)) (app p ts) z) (k .1) (app-typed p ts (k .0) o f);
-        shape = tt
+        shape = tt;
       }
 
   pub judgment-each-ok : (xs : Sexps) (m : Made) → Ok (λ ts. Judgments (U .theory) vs (length (U .vars)) ts) (judgmentEach U xs m)

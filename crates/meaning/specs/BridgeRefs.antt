@@ -62,20 +62,21 @@ calm-free T vs n m f w c = go (f .assumed) refl
 hyp-free : (f : Fact) (v : ℕ) → free f v ≡ true → Free v f
 unfolding free mentioned Free Mentions
 hyp-free f v e =
-    let r = both-true (variables (f .judgment) v || variablesOf (f .premises) v) (not (has (f .general) v)) e in
-    (elim (either-true (variables (f .judgment) v) (variablesOf (f .premises) v) (r .0)) [
-        inl p ↦ inl (variables-true (f .judgment) v p)
-      | inr p ↦ inr (variablesOf-true (f .premises) v p)
+    let r = both-true (variables (f .judgment) v || variablesOf (f .premises) v) (not (has (f .general) v)) e in (
+      elim (either-true (variables (f .judgment) v) (variablesOf (f .premises) v) (r .0)) [
+        | inl p ↦ inl (variables-true (f .judgment) v p)
+        | inr p ↦ inr (variablesOf-true (f .premises) v p)
       ],
-      λ i. true-false (has (f .general) v) (in-has (f .general) v i) (not-true (has (f .general) v) (r .1)))
+      λ i. true-false (has (f .general) v) (in-has (f .general) v i) (not-true (has (f .general) v) (r .1)),
+    )
 
 pub hyp-vars : (fs : List Fact) (hs : List ℕ) (v : ℕ) → hypVars fs hs v ≡ true → (g : Fact) × ((h : ℕ) × In h hs × At fs h g) × Free v g
 unfolding hypVars In freeAt
 hyp-vars fs [] v e = absurd (true-false false e refl)
 hyp-vars fs (h ∷ hs) v e =
     elim (either-true (freeAt (entry fs h) v) (hypVars fs hs v) e) [
-      inl p ↦ one (entry fs h) refl p
-    | inr p ↦ (let r = hyp-vars fs hs v p in (r .0, (r .1 .0, inr (r .1 .1), r .1 .2), r .2))
+      | inl p ↦ one (entry fs h) refl p
+      | inr p ↦ (let r = hyp-vars fs hs v p in (r .0, (r .1 .0, inr (r .1 .1), r .1 .2), r .2))
     ]
   where
     one : (o : Option Fact) → entry fs h ≡ o → freeAt o v ≡ true → (g : Fact) × ((k : ℕ) × ((k ≡ h) ⊎ In k hs) × At fs k g) × Free v g
@@ -96,8 +97,8 @@ pub scoped-ok : {S : Type 0} (U : State) (used : Set) (j : Tree) (hs : List ℕ)
 unfolding scoped Scoped
 scoped-ok U used j hs s =
     ok-map (λ _ e v l u. out v (within (used v) (variables j v || hypVars (U .facts) hs v) u
-        (least-zero (length (U .vars)) (minus used (union (variables j) (hypVars (U .facts) hs))) v e l)))
-      (outside-ok (least (length (U .vars)) (minus used (union (variables j) (hypVars (U .facts) hs)))) s)
+    (least-zero (length (U .vars)) (minus used (union (variables j) (hypVars (U .facts) hs))) v e l)))
+    (outside-ok (least (length (U .vars)) (minus used (union (variables j) (hypVars (U .facts) hs)))) s)
   where
     within : (b c : Bool) → b ≡ true → (b && not c) ≡ false → c ≡ true
     within true true u e = refl
@@ -107,9 +108,9 @@ scoped-ok U used j hs s =
     out : (v : ℕ) → (variables j v || hypVars (U .facts) hs v) ≡ true
         → Occ v j ⊎ ((g : Fact) × ((h : ℕ) × In h hs × At (U .facts) h g) × Free v g)
     out v e = elim (either-true (variables j v) (hypVars (U .facts) hs v) e) [
-        inl p ↦ inl (variables-true j v p)
+      | inl p ↦ inl (variables-true j v p)
       | inr p ↦ inr (hyp-vars (U .facts) hs v p)
-      ]
+    ]
 
 -- Lists of hypotheses ---------------------------------------------------------------------------------------------------------------
 
@@ -125,15 +126,15 @@ hyp-each-ok p U (cons x xs) s =
     ok-then (fact-ok U i s₁) (λ f s₂ a.
     ok-then (ok-ask 40 (p f) s₂) (λ _ s₃ e.
     ok-then (hyp-each-ok p U xs s₃) (λ is s₄ r. done (λ h j. elim j [
-      inl q ↦ (f, subst (λ z. At (U .facts) z f) (sym q) a, e)
-    | inr k ↦ r h k
+      | inl q ↦ (f, subst (λ z. At (U .facts) z f) (sym q) a, e)
+      | inr k ↦ r h k
     ])))))
 
 pub hyp-list-ok : {S : Type 0} (p : Fact → Bool) (U : State) (x : Sexp) (s : S) → Ok (λ hs. HypsOk p U hs) (hypList p U x s)
 unfolding hypList HypsOk
 hyp-list-ok p U x s =
     ok-then (ok-items 34 x s) (λ xs s₁ _. ok-then (hyp-each-ok p U xs s₁)
-      (λ is s₂ r. done (λ h i. r h (has-in is h (in-rising (length (U .facts)) (has is) h i .1)))))
+    (λ is s₂ r. done (λ h i. r h (has-in is h (in-rising (length (U .facts)) (has is) h i .1)))))
 
 pub judgment-at : (fs : List Fact) (h : ℕ) (g : Fact) → At fs h g → judgmentOf (entry fs h) ≡ g .judgment
 unfolding judgmentOf
@@ -177,16 +178,16 @@ module _ (U : State) (vs : ℕ → ℕ) (w : Well U vs) where
   bindings-ok nil bs m h = done h
   bindings-ok (cons x xs) bs m h =
       ok-then (binding-ok x m) (λ b m₁ y. ok-then (ok-ask 36 (not (binds bs (b .variable))) m₁)
-        (λ _ m₂ _. bindings-ok xs (insert b bs) m₂
-          (each-insert b (λ v t. (v < length (U .vars)) × Typed (U .theory) vs (length (U .vars)) t (vs v)) bs y h)))
+      (λ _ m₂ _. bindings-ok xs (insert b bs) m₂
+      (each-insert b (λ v t. (v < length (U .vars)) × Typed (U .theory) vs (length (U .vars)) t (vs v)) bs y h)))
 
   -- as replacements they keep sorts
   pub along-sorted : (bs : List Binding) → BindsOk bs → (v : ℕ) → Sorted (sig (U .theory)) vs (along bs v) (vs v)
   unfolding Sorted
   along-sorted bs h v =
       elim (along-cases (λ v t. (v < length (U .vars)) × Typed (U .theory) vs (length (U .vars)) t (vs v)) bs h v) [
-        inl p ↦ p .1 .1 .sorts
-      | inr p ↦ subst (λ t. Sorted (sig (U .theory)) vs t (vs v)) (sym (p .1)) refl
+        | inl p ↦ p .1 .1 .sorts
+        | inr p ↦ subst (λ t. Sorted (sig (U .theory)) vs t (vs v)) (sym (p .1)) refl
       ]
 
   pub along-typed : (bs : List Binding) → BindsOk bs → (v : ℕ) → v < length (U .vars)
@@ -196,15 +197,15 @@ module _ (U : State) (vs : ℕ → ℕ) (w : Well U vs) where
     where
       small : (z : ℕ) → Occ z (along bs v) → z < length (U .vars)
       small z o = elim (along-cases (λ v t. (v < length (U .vars)) × Typed (U .theory) vs (length (U .vars)) t (vs v)) bs h v) [
-          inl p ↦ p .1 .1 .small z o
+        | inl p ↦ p .1 .1 .small z o
         | inr p ↦ subst (λ k. k < length (U .vars)) (sym (subst (λ t. Occ z t) (p .1) o)) l
-        ]
+      ]
 
   pub along-judgment : (bs : List Binding) → BindsOk bs → (t : Tree) → Judgment (U .theory) vs (length (U .vars)) t
       → Judgment (U .theory) vs (length (U .vars)) (sub (along bs) t)
   along-judgment bs h t j =
       judgment-sub (U .theory) vs (length (U .vars)) vs (along bs) t (j .typed .sorts) (j .shape)
-        (λ v o. along-typed bs h v (j .typed .small v o))
+      (λ v o. along-typed bs h v (j .typed .small v o))
 
 -- References ------------------------------------------------------------------------------------------------------------------------
 
@@ -240,7 +241,7 @@ module _ (K : Sets) (U : State) (vs : ℕ → ℕ) (w : Well U vs) where
       done (record {
         sound = subst (λ z. Judgment (U .theory) vs (length (U .vars)) z) (sym q) (along-judgment U vs w bs b (f .judgment) (w .facts i f a .judgment));
         below = λ h j. absurd j;
-        gives = λ g s. inst f (cite n f i a (c i f p a)) (is-empty (f .hyps) e) (along bs) (along-sorted U vs w bs b) (sym q)
+        gives = λ g s. inst f (cite n f i a (c i f p a)) (is-empty (f .hyps) e) (along bs) (along-sorted U vs w bs b) (sym q);
       }))))))
 
   pub reference-ok : (n : ℕ) (x : Sexp) → Free-of-rules n x → (m : Made) → Ok (λ r. RefOk n r) (reference U x m)
@@ -251,7 +252,7 @@ module _ (K : Sets) (U : State) (vs : ℕ → ℕ) (w : Well U vs) where
       done (record {
         sound = w .facts i f a .judgment;
         below = λ h j. w .facts i f a .hyps h j;
-        gives = λ g s. bare f (cite n f i a (c i f q a)) s refl
+        gives = λ g s. bare f (cite n f i a (c i f q a)) s refl;
       })))
   reference-ok n (list xs) c m = instance-ok n xs c m
 
@@ -269,8 +270,10 @@ module _ (K : Sets) (U : State) (vs : ℕ → ℕ) (w : Well U vs) where
   with-ref-ok n r rs a b = record {
     sound = (a .sound, b .sound);
     below = λ h e. elim (either-true (has (r .hyps) h) (rs .hyps h) e) [ inl p ↦ a .below h (has-in (r .hyps) h p) | inr p ↦ b .below h p ];
-    gives = λ f s. (a .gives f (λ h i. s h (left (has (r .hyps) h) (rs .hyps h) (in-has (r .hyps) h i))),
-      b .gives f (λ h e. s h (right (has (r .hyps) h) (rs .hyps h) e)))
+    gives = λ f s. (
+      a .gives f (λ h i. s h (left (has (r .hyps) h) (rs .hyps h) (in-has (r .hyps) h i))),
+      b .gives f (λ h e. s h (right (has (r .hyps) h) (rs .hyps h) e)),
+    );
   }
     where
       left : (b c : Bool) → b ≡ true → (b || c) ≡ true

@@ -71,7 +71,7 @@ settled-grown K T vs fs n g s = record {
   cited = s .cited;
   rests = s .rests;
   gives = ref-grown K T vs fs n (s .cited) (resting (g .judgment) (s .rests)) (g .judgment) (s .gives);
-  listed = λ h i. (let r = s .listed h i in (r .0, at-grown fs n (r .0) h (r .1), r .2, r .3))
+  listed = λ h i. (let r = s .listed h i in (r .0, at-grown fs n (r .0) h (r .1), r .2, r .3));
 }
 
 -- The induction ---------------------------------------------------------------------------------------------------------------------
@@ -83,9 +83,9 @@ good-step K T vs S S′ g k t = record {
   well = t .well;
   run = more-facts (t .facts);
   goals = λ i h e q. elim (t .goals i h e q) [
-      inl p ↦ more-goals h (t .facts) (g .goals i h p q)
+    | inl p ↦ more-goals h (t .facts) (g .goals i h p q)
     | inr s ↦ subst (λ z. Settled K z vs (S′ .facts) h) (g .theory) s
-    ]
+  ];
 }
   where
     more-facts : (S′ .facts ≡ S .facts)
@@ -94,7 +94,7 @@ good-step K T vs S S′ g k t = record {
     more-facts (inl e) = subst (λ l. Run T vs (K .known) (K .part) l) (sym e) (g .run)
     more-facts (inr (f, e, m)) =
         subst (λ l. Run T vs (K .known) (K .part) l) (sym e)
-          (take (S .facts) f (g .run) (subst (λ z. Form z vs (K .known) (K .part) (S .facts) (length (S .facts)) f) (g .theory) m))
+        (take (S .facts) f (g .run) (subst (λ z. Form z vs (K .known) (K .part) (S .facts) (length (S .facts)) f) (g .theory) m))
 
     more-goals : (h : Goal) → (S′ .facts ≡ S .facts)
         ⊎ ((f : Fact) × (S′ .facts ≡ grown (S .facts) f) × Form (S .theory) vs (K .known) (K .part) (S .facts) (length (S .facts)) f)
@@ -115,7 +115,7 @@ module _ (K : Sets) (f : Sexp → Act State (Unit {0})) (C : State → Sexp → 
       go : (o : Out State (Unit {0})) → Ends (λ _ S′. Post K (C S x) S S′) o
           → ((u : State) → Extends (u .vars) (final (through f t (suc k) u) .vars))
           → Extends (S .vars)
-              (final {S = State} (elim o as (λ _. Judged State) [ ok a u ↦ through f t (suc k) u | refuse n d u ↦ refused n d k S ]) .vars)
+          (final {S = State} (elim o as (λ _. Judged State) [ ok a u ↦ through f t (suc k) u | refuse n d u ↦ refused n d k S ]) .vars)
       go (ok a u) (done h) r = extends-both (S .vars) (u .vars) (final (through f t (suc k) u) .vars) (h .kept .vars) (r u)
       go (refuse n d u) h r = extends-same (S .vars)
 
@@ -130,11 +130,11 @@ module _ (K : Sets) (f : Sexp → Act State (Unit {0})) (C : State → Sexp → 
       go : (o : Out State (Unit {0})) → Ends (λ _ S′. Post K (C S x) S S′) o → IfTaken (C S x) (λ u. Throughout C f t u) o
           → Agree vs (final {S = State} (elim o as (λ _. Judged State) [ ok a u ↦ through f t (suc k) u | refuse n d u ↦ refused n d k S ]) .vars)
           → ((u : State) → Good K T vs u → Throughout C f t u → Agree vs (final (through f t (suc k) u) .vars)
-            → Good K T vs (final (through f t (suc k) u)))
+          → Good K T vs (final (through f t (suc k) u)))
           → Good K T vs (final {S = State} (elim o as (λ _. Judged State) [ ok a u ↦ through f t (suc k) u | refuse n d u ↦ refused n d k S ]))
       go (ok a u) (done h) c b r =
           r u (good-step K T vs S u g (h .kept)
-            (h .took vs (g .well) (c .0) (agree-extends vs (u .vars) (final (through f t (suc k) u) .vars) (run-extends t (suc k) u) b))) (c .1) b
+          (h .took vs (g .well) (c .0) (agree-extends vs (u .vars) (final (through f t (suc k) u) .vars) (run-extends t (suc k) u) b))) (c .1) b
       go (refuse n d u) h c b r = g
 
 -- What it comes to ------------------------------------------------------------------------------------------------------------------
@@ -158,7 +158,7 @@ module _ (K : Sets) (T : Theory) (within : Within K T) (vs : ℕ → ℕ) (S : S
       → ((r : ℕ) → K .part i r → R r) → ((r : ℕ) → R r → K .known i r) → True T vs R (S .facts) f
   good-true i f a n =
       run-sound T vs (K .known) (K .part) shapes (S .facts) (g .run) i f a
-        (calm-free (S .theory) vs (length (S .vars)) (length (S .facts)) f (g .well .facts i f a) n)
+      (calm-free (S .theory) vs (length (S .vars)) (length (S .facts)) f (g .well .facts i f a) n)
 
   -- a goal that was taken, by the fact that its result names: under each ground replacement of its variables under which what it lists is
   -- derivable, so is its judgment
@@ -177,8 +177,8 @@ module _ (K : Sets) (T : Theory) (within : Within K T) (vs : ℕ → ℕ) (S : S
     unfolding Gives Needs HypOf Free Mentions Plain Allowed s cited
     good-goal R mine theirs γ val given =
         ref-gives T vs (K .known) (K .part) shapes (S .facts) (s .cited) (resting (h .judgment) (s .rests))
-          (λ j f a. run-sound T vs (K .known) (K .part) shapes (S .facts) (g .run) j f a) R mine theirs
-          (h .judgment) (s .gives) (λ v o. inl o) γ needed held
+        (λ j f a. run-sound T vs (K .known) (K .part) shapes (S .facts) (g .run) j f a) R mine theirs
+        (h .judgment) (s .gives) (λ v o. inl o) γ needed held
       where
         plain-listed : (d : Fact) → (k : ℕ) × In k (s .rests) × At (S .facts) k d → Plain d × Among (d .judgment) (h .hyps)
         plain-listed d x =
@@ -186,7 +186,7 @@ module _ (K : Sets) (T : Theory) (within : Within K T) (vs : ℕ → ℕ) (S : S
             subst (λ z. Plain z × Among (z .judgment) (h .hyps)) (at-unique (S .facts) (x .0) (r .0) d (r .1) (x .2)) (r .2, r .3)
 
         needed : (v : ℕ) → Occ v (h .judgment) ⊎ ((d : Fact) × ((k : ℕ) × In k (s .rests) × At (S .facts) k d)
-              × ((Occ v (d .judgment) ⊎ Occs v (d .premises)) × ¬ (In v (d .general))))
+            × ((Occ v (d .judgment) ⊎ Occs v (d .premises)) × ¬ (In v (d .general))))
             → Value (sig T) (γ v) (vs v)
         needed v (inl o) = val v (inl o)
         needed v (inr (d, x, (inl o, n))) = val v (inr (among-occ (d .judgment) (h .hyps) v (plain-listed d x .1) o))

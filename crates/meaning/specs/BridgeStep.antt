@@ -58,11 +58,11 @@ module _ (K : Sets) (U : State) (vs : ℕ → ℕ) (w : Well U vs) where
       ok-then (ok-ask 36 (isNew (it .bound i)) m₂) (λ _ m₃ _.
       done (record {
         bound = λ k u e. elim (bind-cases (it .bound) i t k) [
-            inl p ↦ subst (λ z. Typed (U .theory) vs (length (U .vars)) z (getD (R .vars) k noRuleVar .sort)) (some-same (sym (p .1) ∙ e))
+          | inl p ↦ subst (λ z. Typed (U .theory) vs (length (U .vars)) z (getD (R .vars) k noRuleVar .sort)) (some-same (sym (p .1) ∙ e))
               (subst (λ z. Typed (U .theory) vs (length (U .vars)) t (getD (R .vars) z noRuleVar .sort)) (sym (p .0)) y)
           | inr p ↦ h .bound k u (sym (p .1) ∙ e)
-          ];
-        stated = h .stated
+        ];
+        stated = h .stated;
       }))))
 
   state-item-ok : (R : Rule) (x : Sexp) (it : Items) (m : Made) → ItemsOk R it → Ok (λ u. ItemsOk R u) (stateItem U x it m)
@@ -78,7 +78,7 @@ module _ (K : Sets) (U : State) (vs : ℕ → ℕ) (w : Well U vs) where
       ok-then (ok-items 22 x m) (λ ys m₁ _.
       ok-then (ok-any (name 22 (item ys 0) m₁)) (λ n m₂ _.
       ok-if (marked (n .bytes) && eqb (count ys) 2) _ _ m₂
-        (λ _. bind-item-ok R (n .bytes) (item ys 1) it m₂ h) (λ _. state-item-ok R x it m₂ h)))
+      (λ _. bind-item-ok R (n .bytes) (item ys 1) it m₂ h) (λ _. state-item-ok R x it m₂ h)))
 
   read-items-ok : (R : Rule) (xs : Sexps) (it : Items) (m : Made) → ItemsOk R it → Ok (λ u. ItemsOk R u) (readItems U R xs it m)
   unfolding readItems
@@ -122,9 +122,9 @@ module _ (K : Sets) (U : State) (vs : ℕ → ℕ) (w : Well U vs) where
     prem-typed : (i : ℕ) → Occs i (R .premises) → Typed (U .theory) vs (length (U .vars)) (β i) (ruleSort R i)
     prem-typed i o = record {
       sorts = props-bound (sig (U .theory)) (ruleSort R) vs β (R .premises) (wr .prems)
-        (subst (λ ts. Props (sig (U .theory)) vs ts) (sym prems-eq) (judgments-props (U .theory) vs (length (U .vars)) (rs .judgments) (ro .sound))) i o;
+          (subst (λ ts. Props (sig (U .theory)) vs ts) (sym prems-eq) (judgments-props (U .theory) vs (length (U .vars)) (rs .judgments) (ro .sound))) i o;
       small = λ v q. judgments-small (U .theory) vs (length (U .vars)) (rs .judgments) (ro .sound) v
-        (subst (λ ts. Occs v ts) prems-eq (occs-subs β (R .premises) v i o q))
+          (subst (λ ts. Occs v ts) prems-eq (occs-subs β (R .premises) v i o q));
     }
 
     concl-typed : (o : Option Tree) → it .stated ≡ o → matchStated (R .conclusion) o (it .bound) ≡ some b → Concluded (R .conclusion) c o j
@@ -136,9 +136,9 @@ module _ (K : Sets) (U : State) (vs : ℕ → ℕ) (w : Well U vs) where
         typed i o =
             let u = h .binds i o in
             elim (all .from i (u .0) (u .1)) [
-              inl q ↦ subst (λ t. Typed (U .theory) vs (length (U .vars)) t (ruleSort R i)) (sym (filled-agrees c i (u .0) (u .1)))
-                (io .bound i (u .0) (ap (λ (x : Bound). x i) (some-same e) ∙ q))
-            | inr q ↦ prem-typed i q
+              | inl q ↦ subst (λ t. Typed (U .theory) vs (length (U .vars)) t (ruleSort R i)) (sym (filled-agrees c i (u .0) (u .1)))
+                  (io .bound i (u .0) (ap (λ (x : Bound). x i) (some-same e) ∙ q))
+              | inr q ↦ prem-typed i q
             ]
     concl-typed (some s) es e h = (equal ∙ sym h, typed)
       where
@@ -151,8 +151,8 @@ module _ (K : Sets) (U : State) (vs : ℕ → ℕ) (w : Well U vs) where
         typed : (i : ℕ) → Occ i (R .conclusion) → Typed (U .theory) vs (length (U .vars)) (β i) (ruleSort R i)
         typed i o = record {
           sorts = sub-sorted (sig (U .theory)) (ruleSort R) vs β (R .conclusion) PROP (wr .concl)
-            (subst (λ t. Sorted (sig (U .theory)) vs t PROP) (sym equal) (io .stated s es .typed .sorts)) i o;
-          small = λ v q. io .stated s es .typed .small v (subst (λ t. Occ v t) equal (occ-sub β (R .conclusion) v i o q))
+              (subst (λ t. Sorted (sig (U .theory)) vs t PROP) (sym equal) (io .stated s es .typed .sorts)) i o;
+          small = λ v q. io .stated s es .typed .small v (subst (λ t. Occ v t) equal (occ-sub β (R .conclusion) v i o q));
         }
 
     concl : (sub β (R .conclusion) ≡ j) × ((i : ℕ) → Occ i (R .conclusion) → Typed (U .theory) vs (length (U .vars)) (β i) (ruleSort R i))
@@ -165,10 +165,10 @@ module _ (K : Sets) (U : State) (vs : ℕ → ℕ) (w : Well U vs) where
     fine ft sc = record {
       well = record {
         judgment = subst (λ t. Judgment (U .theory) vs (length (U .vars)) t) (concl .0)
-          (judgment-sub (U .theory) vs (length (U .vars)) (ruleSort R) β (R .conclusion) (wr .concl) (wr .shape) (concl .1));
+            (judgment-sub (U .theory) vs (length (U .vars)) (ruleSort R) β (R .conclusion) (wr .concl) (wr .shape) (concl .1));
         premises = tt;
         hyps = λ h i. (let q = in-rising (length (U .facts)) (rs .hyps) h i .0 in omega arith);
-        derived = λ _. refl
+        derived = λ _. refl;
       };
       form = aStep (record {
         plain = refl;
@@ -178,13 +178,13 @@ module _ (K : Sets) (U : State) (vs : ℕ → ℕ) (w : Well U vs) where
         sorts = λ i l. elim (wr .occurs i l) [ inl o ↦ concl .1 i o .sorts | inr o ↦ prem-typed i o .sorts ];
         occurs = wr .occurs;
         refs = subst (λ ts. RefForms (U .theory) vs (K .known) (K .part) (U .facts) (length (U .facts)) new ts) (sym prems-eq)
-          (ro .gives new (λ h e. rising-in (length (U .facts)) (rs .hyps) h (ro .below h e) e));
+            (ro .gives new (λ h e. rising-in (length (U .facts)) (rs .hyps) h (ro .below h e) e));
         concl = concl .0;
         allowed = λ v o.
             let q = subst (λ ts. Occs v ts) prems-eq o in
             sc v (judgments-small (U .theory) vs (length (U .vars)) (rs .judgments) (ro .sound) v q)
-              (true-left (variablesOf (rs .judgments) v) (variablesOf (it .values) v) (occs-variablesOf (rs .judgments) v q))
-      })
+            (true-left (variablesOf (rs .judgments) v) (variablesOf (it .values) v) (occs-variablesOf (rs .judgments) v q));
+      });
     }
       where
         new : Fact

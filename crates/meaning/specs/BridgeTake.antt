@@ -61,8 +61,8 @@ settles K S vs w i r o g l e = record {
   cited = i;
   rests = r .hyps;
   gives = subst (λ t. RefForm (S .theory) vs (K .known) (K .part) (S .facts) i (resting (g .judgment) (r .hyps)) t)
-    (sameTree-true (r .judgment) (g .judgment) e) (o .gives (resting (g .judgment) (r .hyps)) (λ h i. i));
-  listed = λ h i. listed-ok (S .facts) (g .hyps) h (all-in (λ h. listed (g .hyps) (entry (S .facts) h)) (r .hyps) h l i)
+      (sameTree-true (r .judgment) (g .judgment) e) (o .gives (resting (g .judgment) (r .hyps)) (λ h i. i));
+  listed = λ h i. listed-ok (S .facts) (g .hyps) h (all-in (λ h. listed (g .hyps) (entry (S .facts) h)) (r .hyps) h l i);
 }
 
 -- what a reference names
@@ -86,9 +86,10 @@ refers-one (list xs) i j a b = points-one (item xs 0) i j a b
 ref-free : (K : Sets) (S : State) (vs : ℕ → ℕ) (w : Well S vs) (x : Sexp)
     → ((i : ℕ) (f : Fact) → Refers x i → At (S .facts) i f → ¬ (RuleHyp f)) → (n : ℕ) → Refers x n → Free-of-rules K S vs w n x
 unfolding Free-of-rules Citable
-ref-free K S vs w x c n e i f r a =
-    (calm-free (S .theory) vs (length (S .vars)) (length (S .facts)) f (w .facts i f a) (c i f r a),
-      ((λ k p. subst (λ z. K .part z k) (refers-one x i n r e) p), (λ k p. subst (λ z. K .known z k) (refers-one x n i e r) p)))
+ref-free K S vs w x c n e i f r a = (
+  calm-free (S .theory) vs (length (S .vars)) (length (S .facts)) f (w .facts i f a) (c i f r a),
+  ((λ k p. subst (λ z. K .part z k) (refers-one x i n r e) p), (λ k p. subst (λ z. K .known z k) (refers-one x n i e r) p)),
+)
 
 -- a well state, and the fact that the result names
 abbrev Named-result : Sets → Sexps → State → Type 0
@@ -111,7 +112,7 @@ result-ok K xs S =
     keeping _ (keeps-found 50 (entry (S .goals) k) S) (λ g eg.
     keeping _ (keeps-ask 50 (not (g .taken)) S) (λ _ _.
     making-then (reference S (item xs 2)) S _
-      (ok-all {I = Unit {0} ⊎ Named-result K xs S} {P = λ i r. ResultBy K xs S r i} (reference S (item xs 2) (S .made)) (λ i. result-by K xs S i)) (λ r m o.
+    (ok-all {I = Unit {0} ⊎ Named-result K xs S} {P = λ i r. ResultBy K xs S r i} (reference S (item xs 2) (S .made)) (λ i. result-by K xs S i)) (λ r m o.
     keeping _ (keeps-ask 51 (all (λ h. listed (g .hyps) (entry (S .facts) h)) (r .hyps)) (withMade S m)) (λ _ l.
     keeping _ (keeps-ask 52 (sameTree (r .judgment) (g .judgment)) (withMade S m)) (λ _ e.
     done (record {
@@ -120,11 +121,11 @@ result-ok K xs S =
         well = record { rules = w .rules; agree = w .agree; defs = w .defs; facts = w .facts };
         facts = inl refl;
         goals = λ i h q t. elim (entry-change (S .goals) k takenGoal i h q) [
-            inl p ↦ inl p
+          | inl p ↦ inl p
           | inr p ↦ inr (subst (λ z. Settled K (S .theory) vs (S .facts) z) (ap takenGoal (some-same (sym eg ∙ p .1)) ∙ p .2)
               (settles K S vs w (o (inl tt) .0) r (o (inr (vs, w, c, o (inl tt) .0, o (inl tt) .1))) g l e))
-          ]
-      }
+        ];
+      };
     }))))))))
 
 -- The dispatch ----------------------------------------------------------------------------------------------------------------------
@@ -162,7 +163,7 @@ clear-of K S x xs p bs t ex ei et c = record {
   calm = λ i f n a. c .calm i f (subst (λ z. Names S z i) (sym ex) (t, tag, n)) a;
   rests = λ r n. c .respects .rests r (subst (λ z. Tagged RuleAs S z r) (sym ex) (t, tag, n));
   cites = λ i n. c .respects .cites i (subst (λ z. Tagged CitesAs S z i) (sym ex) (t, tag, n));
-  within = λ r k. c .within (length (S .facts)) r k
+  within = λ r k. c .within (length (S .facts)) r k;
 }
   where
     tag : tagOf (item xs 0) (count xs) ≡ some t
@@ -175,4 +176,4 @@ take-form-ok K x S =
     keeping _ (keeps-name 30 (item xs 0) S) (λ n ei.
     keeping _ (keeps-found 30 (proofTag (n .bytes) (count xs)) S) (λ t et.
     ends-map (λ _ S′ h. record { kept = h .kept; took = λ vs w c a. h .took vs w (clear-of K S x xs (ei .0) (n .bytes) t ex (ei .1) et c) a })
-      (perform-ok K t xs S))))
+    (perform-ok K t xs S))))

@@ -15,6 +15,7 @@ use Rattle.meaning.specs.Well.{IsApp, Props, WellRule, WellTheory}
 module _ (T : Theory) (r : Rule) where
   mutual
     unfolding Patterned Sorted sortIn ruleSort sig
+
     pattern-sorted : (t : Tree) (s : ℕ) → Patterned T (r .vars) t s → Sorted (sig T) (ruleSort r) t s
     pattern-sorted (var i) s h = h .1
     pattern-sorted (app c ts) s h = (h .0, h .1, patterns-sorted ts (sig T .ins c) (h .2))
@@ -27,6 +28,7 @@ module _ (T : Theory) (r : Rule) where
 
   mutual
     unfolding Patterned Occ arity
+
     pattern-bound : (t : Tree) (s : ℕ) → Patterned T (r .vars) t s → (i : ℕ) → Occ i t → i < arity r
     pattern-bound (var v) s h i o = subst (λ z. z < length (r .vars)) (sym o) (h .0)
     pattern-bound (app c ts) s h i o = patterns-bound ts _ (h .2) i o
@@ -65,13 +67,13 @@ module _ (T : Theory) (r : Rule) where
     shape = concludes-shape (r .conclusion) (h .conclusion);
     prems = concludings-props (r .premises) (h .premises);
     bound = λ i o. elim o [
-        inl p ↦ pattern-bound (r .conclusion) PROP (concludes-pattern (r .conclusion) (h .conclusion)) i p
+      | inl p ↦ pattern-bound (r .conclusion) PROP (concludes-pattern (r .conclusion) (h .conclusion)) i p
       | inr p ↦ concludings-bound (r .premises) (h .premises) i p
-      ];
+    ];
     occurs = λ i l. elim (h .occur i l) [
-        inl p ↦ inr (variablesOf-true (r .premises) i p)
+      | inl p ↦ inr (variablesOf-true (r .premises) i p)
       | inr p ↦ inl (variables-true (r .conclusion) i p)
-      ]
+    ];
   }
 
 pub well-theory : (T : Theory) → WellFormed T → WellTheory T

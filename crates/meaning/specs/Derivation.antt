@@ -12,11 +12,11 @@ use Rattle.meaning.specs.Signature.{sig, Value, arity, ruleSort}
 mutual
   pub data Der (T : Theory) (R : ℕ → Type 0) : Tree → Type 0 where
     node : (r : ℕ) (ρ : ℕ → Tree) (j : Tree)
-      → R r
-      → ((i : ℕ) → i < arity (rule T r) → Value (sig T) (ρ i) (ruleSort (rule T r) i))
-      → Ders T R (subs ρ (rule T r .premises))
-      → sub ρ (rule T r .conclusion) ≡ j
-      → Der T R j
+        → R r
+        → ((i : ℕ) → i < arity (rule T r) → Value (sig T) (ρ i) (ruleSort (rule T r) i))
+        → Ders T R (subs ρ (rule T r .premises))
+        → sub ρ (rule T r .conclusion) ≡ j
+        → Der T R j
 
   -- one for each of the judgments, in order
   pub data Ders (T : Theory) (R : ℕ → Type 0) : Trees → Type 0 where

@@ -41,7 +41,7 @@ module _ (T : Theory) (vs : ℕ → ℕ) (Known Part : ℕ → ℕ → Type 0) w
   pub data Ref (fs : List Fact) (n : ℕ) (f : Fact) (j : Tree) : Type 0 where
     bare : (g : Fact) → Cites fs n g → ((h : ℕ) → In h (g .hyps) → In h (f .hyps)) → g .judgment ≡ j → Ref fs n f j
     inst : (g : Fact) → Cites fs n g → g .hyps ≡ [] → (σ : ℕ → Tree) → ((v : ℕ) → Sorted (sig T) vs (σ v) (vs v))
-      → sub σ (g .judgment) ≡ j → Ref fs n f j
+        → sub σ (g .judgment) ≡ j → Ref fs n f j
 
   unfoldable pub Refs : List Fact → ℕ → Fact → Trees → Type 0
   Refs fs n f none = Unit {0}
@@ -117,7 +117,7 @@ module _ (T : Theory) (vs : ℕ → ℕ) (Known Part : ℕ → ℕ → Type 0) w
   pub data InvertCased (fs : List Fact) (n : ℕ) (f : Fact) (h : Tree) (C : Fact → Type 0) (r : Rule) (name : ℕ → ℕ) : Type 0 where
     lone : Apart h (sub (renamed name) (r .conclusion)) → InvertCased fs n f h C r name
     paired : (θ : ℕ → Tree) → General T vs h (sub (renamed name) (r .conclusion)) θ → InvertCase fs n f C r name θ
-      → InvertCased fs n f h C r name
+        → InvertCased fs n f h C r name
 
   pub record InvertRule (fs : List Fact) (n : ℕ) (f k : Fact) (C : Fact → Type 0) (r : Rule) : Type 0 where
     pub name : ℕ → ℕ
@@ -140,7 +140,7 @@ module _ (T : Theory) (vs : ℕ → ℕ) (Known Part : ℕ → ℕ → Type 0) w
     pub arguments : Trees
     pub form : k .judgment ≡ app head arguments
     pub looked : (r : ℕ) → Known n r → (qs : Trees) → rule T r .conclusion ≡ app head qs
-      → InvertRule fs n f k (InContext fs context) (rule T r)
+        → InvertRule fs n f k (InContext fs context) (rule T r)
 
   pub data Form (fs : List Fact) (n : ℕ) (f : Fact) : Type 0 where
     hyp : HypForm fs n f → Form fs n f

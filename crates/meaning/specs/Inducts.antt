@@ -36,7 +36,7 @@ pub data CaseHyp (vs : ℕ → ℕ) (x : ℕ) (P : Trees) (J : Tree) (c : ℕ) (
   premise : Plain h → Among (h .judgment) (ats x (app c (vars ys)) P) → CaseHyp vs x P J c ys h
   plainly : Plain h → P ≡ none → (y : ℕ) → Below vs x ys y → h .judgment ≡ at x (var y) J → CaseHyp vs x P J c ys h
   ruled : ((v : ℕ) → In v (h .general) → Motive P J v × ¬ (v ≡ x)) → (y : ℕ) → Below vs x ys y
-    → h .premises ≡ ats x (var y) P → h .judgment ≡ at x (var y) J → CaseHyp vs x P J c ys h
+      → h .premises ≡ ats x (var y) P → h .judgment ≡ at x (var y) J → CaseHyp vs x P J c ys h
 
 module _ (T : Theory) (vs : ℕ → ℕ) (R : ℕ → Type 0) (x : ℕ) (P : Trees) (J : Tree) where
   pub record Case (c : ℕ) : Type 1 where
@@ -88,7 +88,7 @@ module _ (T : Theory) (vs : ℕ → ℕ) (R : ℕ → Type 0) (x : ℕ) (P : Tre
     valued : (w v : ℕ) → Motive P J w → Occ v (single x whole w) → Value (sig T) (inner v) (vs v)
     valued w v m o =
         sub-value (sig T) vs inner (single x whole w) (vs w) (whole-sorted w)
-          (subst (λ u. Value (sig T) u (vs w)) (sym (through w m)) (good w m)) v o
+        (subst (λ u. Value (sig T) u (vs w)) (sym (through w m)) (good w m)) v o
 
     -- the same at a case variable y of x's sort
     valued-y : (y : ℕ) → In y (k .ys) → (w v : ℕ) → Motive P J w → Occ v (single x (var y) w) → Value (sig T) (inner v) (vs v)
@@ -108,8 +108,8 @@ module _ (T : Theory) (vs : ℕ → ℕ) (R : ℕ → Type 0) (x : ℕ) (P : Tre
     unfolding Holds Mentions Motive Below sub Occ
     ih-holds h gen y b hp hj ε vary ds =
         subst (λ u. Der T R u) (sym (sub-sub ε (single x (var y)) J) ∙ ap (sub ε) (sym hj))
-          (ih (inner y) (here .0) (subst (λ s. Value (sig T) (inner y) s) (b .1) (here .1)) outer at-x good′
-            (subst (λ us. Ders T R us) (ap (subs ε) hp ∙ subs-subs ε (single x (var y)) P) ds))
+        (ih (inner y) (here .0) (subst (λ s. Value (sig T) (inner y) s) (b .1) (here .1)) outer at-x good′
+        (subst (λ us. Ders T R us) (ap (subs ε) hp ∙ subs-subs ε (single x (var y)) P) ds))
       where
         outer : ℕ → Tree
         outer v = sub ε (single x (var y) v)
@@ -136,17 +136,17 @@ module _ (T : Theory) (vs : ℕ → ℕ) (R : ℕ → Type 0) (x : ℕ) (P : Tre
                 (vary .value v (mention v v m (subst (λ u. Occ v u) (sym (p .1)) refl)) i)
             go (inr p) (no n) = subst (λ u. Value (sig T) (sub ε u) (vs v)) (sym (p .1))
                 (subst (λ u. Value (sig T) u (vs v))
-                  (sym (vary .same v (mention v v m (subst (λ u. Occ v u) (sym (p .1)) refl)) n ∙ keep v m)) (good v m))
+                (sym (vary .same v (mention v v m (subst (λ u. Occ v u) (sym (p .1)) refl)) n ∙ keep v m)) (good v m))
 
     hyp-holds : (h : Fact) → CaseHyp vs x P J c (k .ys) h → Holds T vs R inner h
     unfolding Plain In Motive sub
     hyp-holds h (premise p i) =
         plain-holds T vs R h inner (p .0)
-          (ders-in T R (subs δ P) (sub inner (h .judgment)) ders
-            (subst (λ us. Among (sub inner (h .judgment)) us)
-              (subs-subs inner (single x whole) P
-                ∙ subs-ext (λ v. sub inner (single x whole v)) δ P (λ v o. through v (inr o)))
-              (among-subs inner (h .judgment) (ats x whole P) i)))
+        (ders-in T R (subs δ P) (sub inner (h .judgment)) ders
+        (subst (λ us. Among (sub inner (h .judgment)) us)
+        (subs-subs inner (single x whole) P
+        ∙ subs-ext (λ v. sub inner (single x whole v)) δ P (λ v o. through v (inr o)))
+        (among-subs inner (h .judgment) (ats x whole P) i)))
     hyp-holds h (plainly p n y b q) =
         ih-holds h (λ v i. absurd (subst (λ l. In v l) (p .0) i)) y b (p .1 ∙ ap (ats x (var y)) (sym n)) q
     hyp-holds h (ruled g y b p q) = ih-holds h g y b p q
@@ -169,8 +169,8 @@ module _ (T : Theory) (vs : ℕ → ℕ) (R : ℕ → Type 0) (x : ℕ) (P : Tre
     unfolding Entails Gives Needs Free Motive
     at-node =
         subst (λ u. Der T R u)
-          (sub-sub inner (single x whole) J ∙ sub-ext (λ v. sub inner (single x whole v)) δ J (λ v o. through v (inl o)))
-          (k .proved inner needed (λ h i. hyp-holds h (k .allowed h i)))
+        (sub-sub inner (single x whole) J ∙ sub-ext (λ v. sub inner (single x whole v)) δ J (λ v o. through v (inl o)))
+        (k .proved inner needed (λ h i. hyp-holds h (k .allowed h i)))
       where
         needed : (v : ℕ) → Needs (k .hyps) (at x whole J) v → Value (sig T) (inner v) (vs v)
         needed v (inl o) = let r = sub-occ (single x whole) J v o in valued (r .0) v (inl (r .1)) (r .2)
@@ -179,6 +179,7 @@ module _ (T : Theory) (vs : ℕ → ℕ) (R : ℕ → Type 0) (x : ℕ) (P : Tre
   module _ (mx : Motive P J x) (cases : (c : ℕ) → c < sig T .syms → sig T .out c ≡ vs x → Case c) where
     mutual
       unfolding Value Among
+
       all : (u : Tree) → Goal u
       all (var v) val δ p g d = absurd val
       all (app c ts) val δ p g d =

@@ -40,7 +40,7 @@ Used h J C v = (Occ v h ⊎ Occ v J) ⊎ ((c : Fact) × C c × Mentions v c)
 pub data InvertHyp (r : Rule) (name : ℕ → ℕ) (C : Fact → Type 0) (θ : ℕ → Tree) (g : Fact) : Type 0 where
   of-rule : Plain g → Among (g .judgment) (subs θ (subs (renamed name) (r .premises))) → InvertHyp r name C θ g
   of-context : (c : Fact) → C c → (σ : ℕ → Tree) → Leaves (c .general) θ σ → g .general ≡ c .general
-    → g .premises ≡ subs σ (c .premises) → g .judgment ≡ sub σ (c .judgment) → InvertHyp r name C θ g
+      → g .premises ≡ subs σ (c .premises) → g .judgment ≡ sub σ (c .judgment) → InvertHyp r name C θ g
 
 -- θ makes the inverted judgment h and the renamed conclusion equal as any replacement does that makes them equal
 module _ (T : Theory) (vs : ℕ → ℕ) where
@@ -155,8 +155,8 @@ module _ (T : Theory) (vs : ℕ → ℕ) (R : ℕ → Type 0) (k : Fact) (J : Tr
           let a = subs-occs θ (subs β (r .premises)) v (among-occ (g .judgment) (subs θ (subs β (r .premises))) v i o) in
           let b = subs-occs β (r .premises) (a .0) (a .1) in
           through (a .0)
-            (subst (λ z. Value (sig T) (wide z) (vs z)) (sym (b .2)) (name-valued (b .0) (ok .bound (b .0) (inr (b .1)))))
-            v (a .2)
+          (subst (λ z. Value (sig T) (wide z) (vs z)) (sym (b .2)) (name-valued (b .0) (ok .bound (b .0) (inr (b .1)))))
+          v (a .2)
       hyp-valued g (of-rule p i) v (inr o, x) = absurd (subst (λ ts. Occs v ts) (p .1) o)
       hyp-valued g (of-context d i σ leaves eg ep ej) v (inl o, x) =
           let a = sub-occ σ (d .judgment) v (subst (λ t. Occ v t) ej o) in
@@ -170,8 +170,8 @@ module _ (T : Theory) (vs : ℕ → ℕ) (R : ℕ → Type 0) (k : Fact) (J : Tr
       unfolding Holds Mentions Both Used Leaves Occ sub
       context-holds g d i σ leaves eg ep ej ε vary ps =
           subst (λ t. Der T R t) (sym (sub-sub ε σ (d .judgment)) ∙ ap (sub ε) (sym ej))
-            (hold d (inr i) δ varies
-              (subst (λ ts. Ders T R ts) (ap (subs ε) ep ∙ subs-subs ε σ (d .premises)) ps))
+          (hold d (inr i) δ varies
+          (subst (λ ts. Ders T R ts) (ap (subs ε) ep ∙ subs-subs ε σ (d .premises)) ps))
         where
           δ : ℕ → Tree
           δ v = sub ε (σ v)
@@ -188,9 +188,9 @@ module _ (T : Theory) (vs : ℕ → ℕ) (R : ℕ → Type 0) (k : Fact) (J : Tr
               go (inr p) =
                   ap (sub ε) (p .1)
                   ∙ (sub-ext ε wide (θ v)
-                      (λ w o. vary .same w (mention v w m (subst (λ t. Occ w t) (sym (p .1)) o))
-                        (λ y. c .uncaptured d i v w x o (subst (λ l. In w l) eg y)))
-                    ∙ (ab v ∙ kept v (inr (d, i, m))))
+                  (λ w o. vary .same w (mention v w m (subst (λ t. Occ w t) (sym (p .1)) o))
+                  (λ y. c .uncaptured d i v w x o (subst (λ l. In w l) eg y)))
+                  ∙ (ab v ∙ kept v (inr (d, i, m))))
 
           value : (v : ℕ) → Mentions v d → In v (d .general) → Value (sig T) (δ v) (vs v)
           value v m x = go (leaves v)
@@ -200,7 +200,7 @@ module _ (T : Theory) (vs : ℕ → ℕ) (R : ℕ → Type 0) (k : Fact) (J : Tr
               go (inr p) = absurd (p .0 x)
               go (inl p) =
                   subst (λ t. Value (sig T) (sub ε t) (vs v)) (sym (p .1))
-                    (vary .value v (mention v v m (subst (λ t. Occ v t) (sym (p .1)) refl)) (subst (λ l. In v l) (sym eg) x))
+                  (vary .value v (mention v v m (subst (λ t. Occ v t) (sym (p .1)) refl)) (subst (λ l. In v l) (sym eg) x))
 
           varies : Varies T vs d γ δ
           varies = record { same = same; value = value }
@@ -209,16 +209,16 @@ module _ (T : Theory) (vs : ℕ → ℕ) (R : ℕ → Type 0) (k : Fact) (J : Tr
       unfolding Plain
       hyp-holds g (of-rule p i) =
           plain-holds T vs R g wide (p .0)
-            (ders-in T R (subs ρ (r .premises)) (sub wide (g .judgment)) ds
-              (subst (λ ts. Among (sub wide (g .judgment)) ts) (absorbs-subs wide θ ab (subs β (r .premises)) ∙ prems-back)
-                (among-subs wide (g .judgment) (subs θ (subs β (r .premises))) i)))
+          (ders-in T R (subs ρ (r .premises)) (sub wide (g .judgment)) ds
+          (subst (λ ts. Among (sub wide (g .judgment)) ts) (absorbs-subs wide θ ab (subs β (r .premises)) ∙ prems-back)
+          (among-subs wide (g .judgment) (subs θ (subs β (r .premises))) i)))
       hyp-holds g (of-context d i σ leaves eg ep ej) = context-holds g d i σ leaves eg ep ej
 
       at-case : Der T R (sub γ J)
       unfolding Entails Gives Needs Used
       at-case =
           subst (λ t. Der T R t) (absorbs-sub wide θ ab J ∙ sub-ext wide γ J (λ v o. kept v (inl (inr o))))
-            (c .proved wide needed (λ g i. hyp-holds g (c .allowed g i)))
+          (c .proved wide needed (λ g i. hyp-holds g (c .allowed g i)))
         where
           needed : (v : ℕ) → Needs (c .hyps) (sub θ J) v → Value (sig T) (wide v) (vs v)
           needed v (inl o) =

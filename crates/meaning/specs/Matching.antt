@@ -65,7 +65,7 @@ var-good v t b nothing q = record {
   grows = λ w u e. elim (bind-cases b v t w) [ inl p ↦ absurd (no-some (sym q ∙ (ap b (sym (p .0)) ∙ e))) | inr p ↦ p .1 ∙ e ];
   equal = λ β a. a v t (bind-same b v t);
   binds = λ w o. (t, subst (λ z. bind b v t z ≡ some t) (sym o) (bind-same b v t));
-  from = λ w u e. elim (bind-cases b v t w) [ inl p ↦ inr (p .0) | inr p ↦ inl (sym (p .1) ∙ e) ]
+  from = λ w u e. elim (bind-cases b v t w) [ inl p ↦ inr (p .0) | inr p ↦ inl (sym (p .1) ∙ e) ];
 }
 var-good v t b (some u) q = go (sameTree u t) refl
   where
@@ -74,7 +74,7 @@ var-good v t b (some u) q = go (sameTree u t) refl
       grows = λ w z e′. e′;
       equal = λ β a. a v u q ∙ sameTree-true u t e;
       binds = λ w o. (u, subst (λ z. b z ≡ some u) (sym o) q);
-      from = λ w z e′. inl e′
+      from = λ w z e′. inl e′;
     }
     go false e = tt
 
@@ -89,7 +89,7 @@ app-good c d ps ts b true p (some b′) g = record {
   grows = g .grows;
   equal = λ β a. ap₂ app (eqb-true c d p) (g .equal β a);
   binds = g .binds;
-  from = g .from
+  from = g .from;
 }
 
 more-good : (p t : Tree) (ps ts : Trees) (b : Bound) (r : Option Bound) → Good p t b r → (k : Bound → Option Bound)
@@ -104,11 +104,12 @@ more-good p t ps ts b (some b₁) g k h = go (k b₁) (h b₁)
       grows = λ w u e. x .grows w u (g .grows w u e);
       equal = λ β a. ap₂ more (g .equal β (λ w u e. a w u (x .grows w u e))) (x .equal β a);
       binds = λ v o. elim o [ inl q ↦ (let r = g .binds v q in (r .0, x .grows v (r .0) (r .1))) | inr q ↦ x .binds v q ];
-      from = λ v u e. elim (x .from v u e) [ inl q ↦ elim (g .from v u q) [ inl z ↦ inl z | inr z ↦ inr (inl z) ] | inr q ↦ inr (inr q) ]
+      from = λ v u e. elim (x .from v u e) [ inl q ↦ elim (g .from v u q) [ inl z ↦ inl z | inr z ↦ inr (inl z) ] | inr q ↦ inr (inr q) ];
     }
 
 mutual
   unfolding matches GoodAll Good Grows sub Occ
+
   pub matches-good : (p t : Tree) (b : Bound) → Good p t b (matches p t b)
   matches-good (var v) t b = var-good v t b (b v) refl
   matches-good (app c ps) (var y) b = tt
@@ -154,11 +155,12 @@ pub record BuiltAll (ps : Trees) (b : Bound) (ts : Trees) : Type 0 where
 
 mutual
   unfolding build sub Occ Agrees
+
   pub build-ok : (p : Tree) (b : Bound) (m : Made) → Ok (λ t. Built p b t) (build p b m)
   build-ok (var v) b m = ok-map (λ t e. record {
-      equal = sym (filled-agrees b v t e);
-      binds = λ w o. (t, subst (λ z. b z ≡ some t) (sym o) e)
-    }) (ok-found 38 (b v) m)
+    equal = sym (filled-agrees b v t e);
+    binds = λ w o. (t, subst (λ z. b z ≡ some t) (sym o) e);
+  }) (ok-found 38 (b v) m)
   build-ok (app c ps) b m =
       ok-then (builds-ok ps b m) (λ ts m₁ h. ok-map (λ u e. record { equal = e ∙ ap (app c) (h .equal); binds = h .binds }) (keep-ok (app c ts) m₁))
 
@@ -167,5 +169,5 @@ mutual
   builds-ok (more p ps) b m =
       ok-then (build-ok p b m) (λ t m₁ h. ok-then (builds-ok ps b m₁) (λ ts m₂ k. done (record {
         equal = ap₂ more (h .equal) (k .equal);
-        binds = λ v o. elim o [ inl q ↦ h .binds v q | inr q ↦ k .binds v q ]
+        binds = λ v o. elim o [ inl q ↦ h .binds v q | inr q ↦ k .binds v q ];
       })))

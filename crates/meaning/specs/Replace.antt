@@ -108,9 +108,9 @@ module _ (S : Sig) (vs : ℕ → ℕ) (f : ℕ → Tree) where
   puts-vars (y ∷ ys) (more t ts) [] d a b = absurd a
   puts-vars (y ∷ ys) (more t ts) (s ∷ ss) d a b =
       ap₂ more (put-same (puts f ys ts) y t)
-        (subs-ext (put (puts f ys ts) y t) (puts f ys ts) (vars ys)
-          (λ v o. put-other (puts f ys ts) y t v (λ e. d .0 (subst (λ z. In z ys) e (vars-in v ys o))))
-          ∙ puts-vars ys ts ss (d .1) (a .1) (b .1))
+      (subs-ext (put (puts f ys ts) y t) (puts f ys ts) (vars ys)
+      (λ v o. put-other (puts f ys ts) y t v (λ e. d .0 (subst (λ z. In z ys) e (vars-in v ys o))))
+      ∙ puts-vars ys ts ss (d .1) (a .1) (b .1))
 
   -- the variables have their own sorts
   pub vars-sorted : (ys ss : List ℕ) → Fit vs ys ss → Sorteds S vs (vars ys) ss
@@ -139,7 +139,7 @@ spread-at γ name ρ (suc n) i l d =
     go (put-cases (spread γ name ρ n) (name n) (ρ n) (name i)) (λ m. spread-at γ name ρ n i m (λ a b p q. d a b (omega arith) (omega arith)))
   where
     go : ((name i ≡ name n) × (put (spread γ name ρ n) (name n) (ρ n) (name i) ≡ ρ n))
-          ⊎ (¬ (name i ≡ name n) × (put (spread γ name ρ n) (name n) (ρ n) (name i) ≡ spread γ name ρ n (name i)))
+        ⊎ (¬ (name i ≡ name n) × (put (spread γ name ρ n) (name n) (ρ n) (name i) ≡ spread γ name ρ n (name i)))
         → (i < n → spread γ name ρ n (name i) ≡ ρ i)
         → put (spread γ name ρ n) (name n) (ρ n) (name i) ≡ ρ i
     go (inl p) h = p .1 ∙ ap ρ (sym (d i n l (omega arith) (p .0)))

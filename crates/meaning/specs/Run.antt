@@ -51,7 +51,7 @@ module _ (T : Theory) (vs : ℕ → ℕ) (R : ℕ → Type 0) where
   unfolding True Entails Gives Needs
   true-grown fs n f t γ val hold =
       t γ (λ v m. val v (elim m [ inl o ↦ inl o | inr x ↦ inr (x .0, hyp-grown fs n f (x .0) (x .1), x .2) ]))
-        (λ g h. hold g (hyp-grown fs n f g h))
+      (λ g h. hold g (hyp-grown fs n f g h))
 
 module _ (T : Theory) (vs : ℕ → ℕ) (Known Part : ℕ → ℕ → Type 0)
     (shapes : (n r : ℕ) → Known n r → Shaped (rule T r)) where
@@ -71,15 +71,15 @@ module _ (T : Theory) (vs : ℕ → ℕ) (Known Part : ℕ → ℕ → Type 0)
     unfolding Allowed HypOf In Needs Entails Gives
     ref-gives j (bare g c s e) a =
         gives-ref T vs R (HypOf fs f) (HypOf fs g) (f .judgment) j (subst (λ t. Entails T vs R (HypOf fs g) t) e (cited g c))
-          (λ h x. (x .0, s (x .0) (x .1), x .2)) a
+        (λ h x. (x .0, s (x .0) (x .1), x .2)) a
     ref-gives j (inst g c z σ so e) a =
         gives-ref T vs R (HypOf fs f) (λ h. ⊥) (f .judgment) j
-          (subst (λ t. Entails T vs R (λ h. ⊥) t) e (instance-true T vs R (g .judgment) σ without so)) (λ h x. absurd x) a
+        (subst (λ t. Entails T vs R (λ h. ⊥) t) e (instance-true T vs R (g .judgment) σ without so)) (λ h x. absurd x) a
       where
         without : Entails T vs R (λ h. ⊥) (g .judgment)
         without =
             gives-ref T vs R (λ h. ⊥) (HypOf fs g) (g .judgment) (g .judgment) (cited g c)
-              (λ h x. subst (λ l. In (x .0) l) z (x .1)) (λ v o. inl o)
+            (λ h x. subst (λ l. In (x .0) l) z (x .1)) (λ v o. inl o)
 
     refs-give : (ts : Trees) → Refs T vs Known Part fs n f ts → ((v : ℕ) → Occs v ts → Allowed fs f v)
         → GivesAll T vs R (HypOf fs f) (f .judgment) ts
@@ -91,29 +91,29 @@ module _ (T : Theory) (vs : ℕ → ℕ) (Known Part : ℕ → ℕ → Type 0)
     unfolding True HypOf Entails Needs
     hyp-sound h p =
         gives-ref T vs R (HypOf (grown fs f) f) (λ g. g ≡ f) (f .judgment) (f .judgment) (hyp-true T vs R f p)
-          (λ g e. (length fs, h .own, subst (λ z. At (grown fs f) (length fs) z) (sym e) (at-last fs f))) (λ v o. inl o)
+        (λ g e. (length fs, h .own, subst (λ z. At (grown fs f) (length fs) z) (sym e) (at-last fs f))) (λ v o. inl o)
 
     step-sound : StepForm T vs Known Part fs n f → Entails T vs R (HypOf fs f) (f .judgment)
     unfolding Allowed Needs
     step-sound s =
         step-true T vs R (HypOf fs f) (s .named) (s .β) (f .judgment) (mine (s .named) (s .part)) (s .sorts)
-          (λ i l v o. elim (s .occurs i l) [
-              inl q ↦ inl (subst (λ t. Occ v t) (s .concl) (occ-sub (s .β) (rule T (s .named) .conclusion) v i q o))
-            | inr q ↦ s .allowed v (occs-subs (s .β) (rule T (s .named) .premises) v i q o)
-            ])
-          (refs-give (subs (s .β) (rule T (s .named) .premises)) (s .refs) (s .allowed)) (s .concl)
+        (λ i l v o. elim (s .occurs i l) [
+          | inl q ↦ inl (subst (λ t. Occ v t) (s .concl) (occ-sub (s .β) (rule T (s .named) .conclusion) v i q o))
+          | inr q ↦ s .allowed v (occs-subs (s .β) (rule T (s .named) .premises) v i q o)
+        ])
+        (refs-give (subs (s .β) (rule T (s .named) .premises)) (s .refs) (s .allowed)) (s .concl)
 
     apply-hyp-sound : ApplyHyp T vs Known Part fs n f → Entails T vs R (HypOf fs f) (f .judgment)
     unfolding Allowed HypOf
     apply-hyp-sound s =
         apply-hyp-true T vs R (HypOf fs f) (s .g) (s .σ) (f .judgment) (s .place, s .own, s .at) (s .binds) (s .allowed)
-          (refs-give (subs (s .σ) (s .g .premises)) (s .refs) (s .allowed)) (s .concl)
+        (refs-give (subs (s .σ) (s .g .premises)) (s .refs) (s .allowed)) (s .concl)
 
     apply-fact-sound : ApplyFact T vs Known Part fs n f → Entails T vs R (HypOf fs f) (f .judgment)
     unfolding Allowed Plain
     apply-fact-sound s =
         apply-fact-true T vs R (HypOf fs f) (HypOf fs (s .g)) (s .g .judgment) (s .σ) (f .judgment) (cited (s .g) (s .cites)) (s .sorts)
-          (s .plains) (λ h x. ref-gives (sub (s .σ) (h .judgment)) (s .refs h x) (s .allowed h x)) (s .allowed) (s .concl)
+        (s .plains) (λ h x. ref-gives (sub (s .σ) (h .judgment)) (s .refs h x) (s .allowed h x)) (s .allowed) (s .concl)
 
     induct-sound : InductForm T vs Known Part fs n f → Entails T vs R (HypOf fs f) (f .judgment)
     induct-sound s =
@@ -127,18 +127,18 @@ module _ (T : Theory) (vs : ℕ → ℕ) (Known Part : ℕ → ℕ → Type 0)
           fresh = k .fresh;
           hyps = HypOf fs (k .g);
           proved = subst (λ t. Entails T vs R (HypOf fs (k .g)) t) (k .proves) (cited (k .g) (k .cites));
-          allowed = k .allowed
+          allowed = k .allowed;
         }
 
     invert-sound : InvertForm T vs Known Part fs n f → Entails T vs R (HypOf fs f) (f .judgment)
     unfolding Entails Gives Needs HypOf Both InContext
     invert-sound s =
         gives-ref T vs R (HypOf fs f) (Both T vs R (s .k) (f .judgment) C) (f .judgment) (f .judgment)
-          (invert-true T vs R (s .k) (f .judgment) C (s .head) (s .arguments) (s .k-plain) (s .form)
-            (λ r u. shapes n r (theirs r u))
-            (λ r u q. look r (s .looked r (theirs r u) (shapes n r (theirs r u) .arguments)
-              (shapes n r (theirs r u) .form ∙ ap (λ z. app z (shapes n r (theirs r u) .arguments)) q))))
-          within (λ v o. inl o)
+        (invert-true T vs R (s .k) (f .judgment) C (s .head) (s .arguments) (s .k-plain) (s .form)
+        (λ r u. shapes n r (theirs r u))
+        (λ r u q. look r (s .looked r (theirs r u) (shapes n r (theirs r u) .arguments)
+        (shapes n r (theirs r u) .form ∙ ap (λ z. app z (shapes n r (theirs r u) .arguments)) q))))
+        within (λ v o. inl o)
       where
         C : Fact → Type 0
         C = InContext fs (s .context)
@@ -153,7 +153,7 @@ module _ (T : Theory) (vs : ℕ → ℕ) (Known Part : ℕ → ℕ → Type 0)
           hyps = HypOf fs (k .g);
           proved = subst (λ t. Entails T vs R (HypOf fs (k .g)) t) (k .proves) (cited (k .g) (k .cites));
           allowed = k .allowed;
-          uncaptured = k .uncaptured
+          uncaptured = k .uncaptured;
         }
 
         cased : (r : Rule) (name : ℕ → ℕ) → InvertCased T vs Known Part fs n f (s .k .judgment) C r name
@@ -168,7 +168,7 @@ module _ (T : Theory) (vs : ℕ → ℕ) (Known Part : ℕ → ℕ → Type 0)
           fit = k .fit;
           distinct = k .distinct;
           fresh = k .fresh;
-          cased = cased (rule T r) (k .name) (k .cased)
+          cased = cased (rule T r) (k .name) (k .cased);
         }
 
     form-sound : Form T vs Known Part fs n f → f .premises ≡ none → True T vs R (grown fs f) f
@@ -190,5 +190,5 @@ module _ (T : Theory) (vs : ℕ → ℕ) (Known Part : ℕ → ℕ → Type 0)
       go (inl b) ih p R mine theirs = true-grown T vs R gs g f (ih i f b p R mine theirs)
       go (inr e) ih p R mine theirs =
           subst (λ h. True T vs R (grown gs g) h) (e .1)
-            (form-sound gs (length gs) g ih R (λ r q. mine r (subst (λ k. Part k r) (sym (e .0)) q)) (λ r u. subst (λ k. Known k r) (e .0) (theirs r u)) m
-              (ap (λ (h : Fact). h .premises) (e .1) ∙ p))
+          (form-sound gs (length gs) g ih R (λ r q. mine r (subst (λ k. Part k r) (sym (e .0)) q)) (λ r u. subst (λ k. Known k r) (e .0) (theirs r u)) m
+          (ap (λ (h : Fact). h .premises) (e .1) ∙ p))

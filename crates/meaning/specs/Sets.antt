@@ -61,7 +61,7 @@ Tagged P S (list xs) i = (t : Tag) × (tagOf (item xs 0) (count xs) ≡ some t) 
 pub record Respects (K : Sets) (S : State) (x : Sexp) : Type 0 where
   pub rests : (r : ℕ) → Tagged RuleAs S x r → K .part (length (S .facts)) r
   pub cites : (i : ℕ) → Tagged CitesAs S x i
-    → ((r : ℕ) → K .part i r → K .part (length (S .facts)) r) × ((r : ℕ) → K .known (length (S .facts)) r → K .known i r)
+      → ((r : ℕ) → K .part i r → K .part (length (S .facts)) r) × ((r : ℕ) → K .known (length (S .facts)) r → K .known i r)
 
 -- only rules of the theory are tolerated
 abbrev pub Within : Sets → Theory → Type 0

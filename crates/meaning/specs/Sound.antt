@@ -17,6 +17,7 @@ use Rattle.meaning.specs.Truth.{Mentions, Free, At, HypOf, Needs, Varies
 module _ (S : Sig) (ps : ℕ → ℕ) (f : ℕ → Tree) where
   mutual
     unfolding sub Occ Sorted Value
+
     pub value-sub : (t : Tree) (s : ℕ) → Sorted S ps t s → ((v : ℕ) → Occ v t → Value S (f v) (ps v)) → Value S (sub f t) s
     value-sub (var u) s k h = subst (λ z. Value S (f u) z) k (h u refl)
     value-sub (app c ts) s k h = (k .0, k .1, values-subs ts (S .ins c) (k .2) h)
@@ -31,6 +32,7 @@ module _ (S : Sig) (ps : ℕ → ℕ) (f : ℕ → Tree) where
 
   mutual
     unfolding sub Occ Sorted Value
+
     pub sub-value : (t : Tree) (s : ℕ) → Sorted S ps t s → Value S (sub f t) s → (v : ℕ) → Occ v t → Value S (f v) (ps v)
     sub-value (var u) s k h v o = subst (λ z. Value S (f z) (ps z)) (sym o) (subst (λ z. Value S (f u) z) (sym k) h)
     sub-value (app c ts) s k h v o = subs-values ts (S .ins c) (k .2) (h .2) v o
@@ -85,7 +87,7 @@ module _ (T : Theory) (vs : ℕ → ℕ) (R : ℕ → Type 0) where
       varies : Varies T vs g γ γ
       varies = record {
         same = λ v m i. refl;
-        value = λ v m i. elim m [ inl o ↦ n v (inl o) | inr o ↦ absurd (subst (λ ts. Occs v ts) p o) ]
+        value = λ v m i. elim m [ inl o ↦ n v (inl o) | inr o ↦ absurd (subst (λ ts. Occs v ts) p o) ];
       }
 
   -- a plain hypothesis holds where its judgment is derivable
@@ -93,12 +95,12 @@ module _ (T : Theory) (vs : ℕ → ℕ) (R : ℕ → Type 0) where
   unfolding Holds Mentions In
   plain-holds g γ p d δ y _ =
       subst (λ t. Der T R t)
-        (sub-ext γ δ (g .judgment) (λ v o. sym (y .same v (inl o) (λ x. subst (λ l. In v l) p x))))
-        d
+      (sub-ext γ δ (g .judgment) (λ v o. sym (y .same v (inl o) (λ x. subst (λ l. In v l) p x))))
+      d
 
   -- of a plain hypothesis that holds, the judgment is derivable
   pub plain-der : (g : Fact) (γ : ℕ → Tree) → Plain g → Holds T vs R γ g → Der T R (sub γ (g .judgment))
   unfolding Plain Holds In sub
   plain-der g γ p h =
       h γ (record { same = λ v m n. refl; value = λ v m i. absurd (subst (λ l. In v l) (p .0) i) })
-        (subst (λ ts. Ders T R (subs γ ts)) (sym (p .1)) leaf)
+      (subst (λ ts. Ders T R (subs γ ts)) (sym (p .1)) leaf)

@@ -25,9 +25,9 @@ module _ (T : Theory) (vs : ℕ → ℕ) (R : ℕ → Type 0) where
   unfolding Entails Gives
   step-true K r β j u s a g e γ n h =
       node r ρ (sub γ j) u
-        (λ i l. value-sub (sig T) vs γ (β i) (ruleSort (rule T r) i) (s i l) (λ v o. n v (a i l v o)))
-        (subst (λ ts. Ders T R ts) (subs-subs γ β (rule T r .premises)) (gives-ders T vs R K j (subs β (rule T r .premises)) g γ n h))
-        (sym (sub-sub γ β (rule T r .conclusion)) ∙ ap (sub γ) e)
+      (λ i l. value-sub (sig T) vs γ (β i) (ruleSort (rule T r) i) (s i l) (λ v o. n v (a i l v o)))
+      (subst (λ ts. Ders T R ts) (subs-subs γ β (rule T r .premises)) (gives-ders T vs R K j (subs β (rule T r .premises)) g γ n h))
+      (sym (sub-sub γ β (rule T r .conclusion)) ∙ ap (sub γ) e)
     where
       ρ : ℕ → Tree
       ρ i = sub γ (β i)

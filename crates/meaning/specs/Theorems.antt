@@ -59,7 +59,7 @@ pub facts-firm : (theory goals : List ℕ) (T : Theory) (S : State) → Taken th
 unfolding Agree
 facts-firm theory goals T S t K w forms c r =
     good-true K T w (sortsOf (after forms S)) (after forms S)
-      (proof-good K T w S (taken-theory theory goals T S t) (λ us a. taken-good theory goals T S t K us a) forms c r (sortsOf (after forms S)) (λ v l. refl))
+    (proof-good K T w S (taken-theory theory goals T S t) (λ us a. taken-good theory goals T S t K us a) forms c r (sortsOf (after forms S)) (λ v l. refl))
 
 -- Every recorded fact other than a rule hypothesis with premises is true.
 pub facts-true : (theory goals : List ℕ) (T : Theory) (S : State) → Taken theory goals T S → (forms : Text) → Calmly forms S
@@ -67,7 +67,7 @@ pub facts-true : (theory goals : List ℕ) (T : Theory) (S : State) → Taken th
     → True T (sortsOf (after forms S)) (RuleOf T) (after forms S .facts) f
 facts-true theory goals T S t forms c i f a n =
     facts-firm theory goals T S t (ofTheory T) (λ n r k. k) forms c (theory-respected T forms S (taken-theory theory goals T S t)) i f a n (RuleOf T)
-      (λ r k. k) (λ r k. k)
+    (λ r k. k) (λ r k. k)
 
 -- Then every goal with its result taken is derivable, under each ground replacement under which the judgments that it lists are; with the
 -- rules on which the fact n rests that its result names
@@ -75,7 +75,7 @@ pub goals-firm : (theory goals : List ℕ) (T : Theory) (S : State) → Taken th
     → (forms : Text) → Calmly forms S → Respectful K forms S
     → (i : ℕ) (g : Goal) → entry (after forms S .goals) i ≡ some g → g .taken ≡ true
     → (n : ℕ) × ((R : ℕ → Type 0) → ((r : ℕ) → K .part n r → R r) → ((r : ℕ) → R r → K .known n r)
-        → (γ : ℕ → Tree) → Grounds T (after forms S) g γ → ((t : Tree) → Among t (g .hyps) → Der T R (sub γ t)) → Der T R (sub γ (g .judgment)))
+    → (γ : ℕ → Tree) → Grounds T (after forms S) g γ → ((t : Tree) → Among t (g .hyps) → Der T R (sub γ t)) → Der T R (sub γ (g .judgment)))
 unfolding Agree
 goals-firm theory goals T S t K w forms c r i g e k =
     (cited K T w (sortsOf (after forms S)) (after forms S) good i g e k, good-goal K T w (sortsOf (after forms S)) (after forms S) good i g e k)
@@ -88,7 +88,7 @@ pub goals-follow : (theory goals : List ℕ) (T : Theory) (S : State) → Taken 
     → ((t : Tree) → Among t (g .hyps) → Derivable T (sub γ t)) → Derivable T (sub γ (g .judgment))
 goals-follow theory goals T S t forms c i g e k =
     goals-firm theory goals T S t (ofTheory T) (λ n r k. k) forms c (theory-respected T forms S (taken-theory theory goals T S t)) i g e k .1 (RuleOf T)
-      (λ r k. k) (λ r k. k)
+    (λ r k. k) (λ r k. k)
 
 nothing-listed : (ts : Trees) → ts ≡ none → (t : Tree) → ¬ (Among t ts)
 unfolding Among
@@ -106,20 +106,20 @@ goals-derivable theory goals T S t forms c i g e k n γ v =
 -- The facts that a check leaves are true, whether it accepts or refuses, and in whichever text
 pub check-facts-true : (theory goals proof : List ℕ) → CalmTexts theory goals proof
     → let S = check theory goals proof .state in
-      (i : ℕ) (f : Fact) → At (S .facts) i f → ¬ (RuleHyp f) → True (S .theory) (sortsOf S) (RuleOf (S .theory)) (S .facts) f
+    (i : ℕ) (f : Fact) → At (S .facts) i f → ¬ (RuleHyp f) → True (S .theory) (sortsOf S) (RuleOf (S .theory)) (S .facts) f
 unfolding Agree
 check-facts-true theory goals proof c i f a n =
     let S = check theory goals proof .state in
     good-true (ofTheory (S .theory)) (S .theory) (λ n r k. k) (sortsOf S) S (check-good theory goals proof c (sortsOf S) (λ v l. refl)) i f a n
-      (RuleOf (S .theory)) (λ r k. k) (λ r k. k)
+    (RuleOf (S .theory)) (λ r k. k) (λ r k. k)
 
 -- The goals of an accepted check are derivable, under each ground replacement under which the judgments that they list are
 pub accepted-derivable : (theory goals proof : List ℕ) → CalmTexts theory goals proof → (r : Report) → check theory goals proof .answer ≡ accepts r
     → let S = check theory goals proof .state in
-      (i : ℕ) (g : Goal) → entry (S .goals) i ≡ some g → (γ : ℕ → Tree) → Grounds (S .theory) S g γ
-      → ((t : Tree) → Among t (g .hyps) → Derivable (S .theory) (sub γ t)) → Derivable (S .theory) (sub γ (g .judgment))
+    (i : ℕ) (g : Goal) → entry (S .goals) i ≡ some g → (γ : ℕ → Tree) → Grounds (S .theory) S g γ
+    → ((t : Tree) → Among t (g .hyps) → Derivable (S .theory) (sub γ t)) → Derivable (S .theory) (sub γ (g .judgment))
 unfolding Agree AllTaken
 accepted-derivable theory goals proof c r e i g q =
     let S = check theory goals proof .state in
     good-goal (ofTheory (S .theory)) (S .theory) (λ n r k. k) (sortsOf S) S (check-good theory goals proof c (sortsOf S) (λ v l. refl)) i g q
-      (accepted-taken theory goals proof r e i g q) (RuleOf (S .theory)) (λ r k. k) (λ r k. k)
+    (accepted-taken theory goals proof r e i g q) (RuleOf (S .theory)) (λ r k. k) (λ r k. k)

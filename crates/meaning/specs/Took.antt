@@ -47,9 +47,9 @@ pub record Settled (K : Sets) (T : Theory) (vs : ℕ → ℕ) (fs : List Fact) (
 pub record Took (K : Sets) (S : State) (vs : ℕ → ℕ) (S′ : State) : Type 0 where
   pub well : Well S′ vs
   pub facts : (S′ .facts ≡ S .facts)
-    ⊎ ((f : Fact) × (S′ .facts ≡ grown (S .facts) f) × Form (S .theory) vs (K .known) (K .part) (S .facts) (length (S .facts)) f)
+      ⊎ ((f : Fact) × (S′ .facts ≡ grown (S .facts) f) × Form (S .theory) vs (K .known) (K .part) (S .facts) (length (S .facts)) f)
   pub goals : (i : ℕ) (g : Goal) → entry (S′ .goals) i ≡ some g → g .taken ≡ true
-    → (entry (S .goals) i ≡ some g) ⊎ Settled K (S .theory) vs (S′ .facts) g
+      → (entry (S .goals) i ≡ some g) ⊎ Settled K (S .theory) vs (S′ .facts) g
 
 -- the form's effect, where C is what is asked of the facts that it names
 pub record Post (K : Sets) (C : Type 0) (S S′ : State) : Type 0 where
@@ -77,10 +77,10 @@ well-vars S vs w m xs e a = record {
   rules = w .rules;
   agree = a;
   defs = λ x t q. subst (λ s. Typed (S .theory) vs (length xs) t s)
-    (sort-more (S .theory) vs (S .vars) xs (w .agree) a (extends-length (S .vars) xs e) t (w .defs x t q .small))
-    (typed-more (S .theory) vs (length (S .vars)) (length xs) (extends-length (S .vars) xs e) t (sortOf (S .theory) (S .vars) t) (w .defs x t q));
+      (sort-more (S .theory) vs (S .vars) xs (w .agree) a (extends-length (S .vars) xs e) t (w .defs x t q .small))
+      (typed-more (S .theory) vs (length (S .vars)) (length xs) (extends-length (S .vars) xs e) t (sortOf (S .theory) (S .vars) t) (w .defs x t q));
   facts = λ i f q. fact-more (S .theory) vs (length (S .vars)) (length xs) (extends-length (S .vars) xs e) (length (S .facts)) (length (S .facts))
-    (omega arith) f (w .facts i f q)
+      (omega arith) f (w .facts i f q);
 }
 
 -- and with one fact more
@@ -91,12 +91,12 @@ well-fact S vs w f h c = record {
   agree = w .agree;
   defs = w .defs;
   facts = λ i g a. elim (at-split (S .facts) f g i a) [
-      inl b ↦ fact-more (S .theory) vs (length (S .vars)) (length (S .vars)) (omega arith) (length (S .facts)) (length (grown (S .facts) f))
+    | inl b ↦ fact-more (S .theory) vs (length (S .vars)) (length (S .vars)) (omega arith) (length (S .facts)) (length (grown (S .facts) f))
         (let q = length-append (S .facts) (f ∷ []) in omega arith) g (w .facts i g b)
     | inr b ↦ subst (λ z. WellFact (S .theory) vs (length (S .vars)) (length (grown (S .facts) f)) z) (b .1)
         (fact-more (S .theory) vs (length (S .vars)) (length (S .vars)) (omega arith) (suc (length (S .facts))) (length (grown (S .facts) f))
-          (let q = length-append (S .facts) (f ∷ []) in omega arith) f h)
-    ]
+        (let q = length-append (S .facts) (f ∷ []) in omega arith) f h)
+  ];
 }
 
 -- what storing a fact does
@@ -114,9 +114,9 @@ fact-post K S m xs e f c h = record {
   kept = record { theory = refl; vars = e };
   took = λ vs w k a. record {
     well = well-fact (withVars (withMade S m) xs) vs (well-vars S vs w m xs e a) f
-      (fact-more (S .theory) vs (length (S .vars)) (length xs) (extends-length (S .vars) xs e) (suc (length (S .facts))) (suc (length (S .facts)))
+        (fact-more (S .theory) vs (length (S .vars)) (length xs) (extends-length (S .vars) xs e) (suc (length (S .facts))) (suc (length (S .facts)))
         (omega arith) f (h vs w k a .well)) c;
     facts = inr (f, refl, h vs w k a .form);
-    goals = λ i g q t. inl q
-  }
+    goals = λ i g q t. inl q;
+  };
 }

@@ -75,7 +75,7 @@ pub record Well (S : State) (vs : ℕ → ℕ) : Type 0 where
   pub rules : WellTheory (S .theory)
   pub agree : Agree vs (S .vars)
   pub defs : (x : List ℕ) (t : Tree) → abbreviated (S .defs) x ≡ some t
-    → Typed (S .theory) vs (length (S .vars)) t (sortOf (S .theory) (S .vars) t)
+      → Typed (S .theory) vs (length (S .vars)) t (sortOf (S .theory) (S .vars) t)
   pub facts : (i : ℕ) (f : Fact) → At (S .facts) i f → WellFact (S .theory) vs (length (S .vars)) (length (S .facts)) f
 
 -- Laws ----------------------------------------------------------------------------------------------------------------------------
@@ -131,7 +131,7 @@ module _ (T : Theory) (vs : ℕ → ℕ) (n k : ℕ) (l : n ≤ k) where
     judgment = judgment-more (f .judgment) (w .judgment);
     premises = judgments-more (f .premises) (w .premises);
     hyps = λ h i. (let q = w .hyps h i in omega arith);
-    derived = w .derived
+    derived = w .derived;
   }
 
 module _ (T : Theory) (vs : ℕ → ℕ) (n : ℕ) where
@@ -158,9 +158,9 @@ module _ (T : Theory) (vs : ℕ → ℕ) (n : ℕ) where
   judgment-sub ps σ t s a h = record {
     typed = record {
       sorts = sorted-sub (sig T) ps vs σ t PROP s (λ v o. h v o .sorts);
-      small = λ v o. (let r = sub-occ σ t v o in h (r .0) (r .1) .small v (r .2))
+      small = λ v o. (let r = sub-occ σ t v o in h (r .0) (r .1) .small v (r .2));
     };
-    shape = app-sub σ t a
+    shape = app-sub σ t a;
   }
 
 -- the bindings under which well-sorted patterns are well-sorted judgments are well-sorted
