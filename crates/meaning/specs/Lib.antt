@@ -34,4 +34,5 @@ pub mod WrittenTexts
 pub mod Accepted
 pub mod Decimal
 pub mod WrittenTree
+pub mod Spelling
 pub mod WrittenExample
