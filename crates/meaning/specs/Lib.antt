@@ -35,4 +35,5 @@ pub mod Accepted
 pub mod Decimal
 pub mod WrittenTree
 pub mod Spelling
+pub mod WrittenWords
 pub mod WrittenExample
