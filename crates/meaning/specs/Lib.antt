@@ -36,4 +36,5 @@ pub mod Decimal
 pub mod WrittenTree
 pub mod Spelling
 pub mod WrittenWords
+pub mod AcceptedTree
 pub mod WrittenExample

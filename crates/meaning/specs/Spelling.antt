@@ -1,15 +1,14 @@
 -- Forms as bytes: a text that is spelled from forms whose atoms are words writes these forms. Assumes nothing.
 use Prim.Native.Nat.{ℕ, suc}
 use native.Mathlib.Omega.{arith}
-use mathlib.Core.Path.{_≡_, refl, sym, _∙_, ap, ap₂, subst}
-use mathlib.Core.Bool.{Bool, true, false, _&&_}
+use mathlib.Core.Path.{_≡_, refl, _∙_, ap, ap₂}
+use mathlib.Core.Bool.{Bool, true, false}
 use mathlib.Core.List.{List, [], _∷_, _++_}
 use lib.Dec.{leb}
-use borrow.Author.Tests.{leb-true}
 use Rattle.rules.specs.Text.{plain}
-use Rattle.rules.specs.Lex.{Kind, blank, left as leftᵏ, right as rightᵏ, letter, white, kind, Mode, between, inWord, tokens, letters as lettersᵗ}
+use Rattle.rules.specs.Lex.{blank, letter, white, kind, between, inWord, tokens, letters as lettersᵗ}
 use Rattle.rules.specs.LexLaws.{at-blank, at-left, at-right, at-letter, in-word, word-over, letters-more, letters-none, kind-left, kind-right}
-use Rattle.meaning.specs.Written.{Form, Forms, name, group, nil, cons, Mark, left, right, letters, mark, marks, spelling, spellings, Writes}
+use Rattle.meaning.specs.Written.{Form, Forms, name, group, nil, cons, left, letters, mark, marks, spelling, spellings, Writes}
 
 -- Words ---------------------------------------------------------------------------------------------------------------------------
 

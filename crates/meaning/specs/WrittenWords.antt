@@ -1,18 +1,18 @@
 -- The atoms of a text are words, and so are the names of a theory that it declares; hence the forms of a derivation over such a theory can be
 -- spelled. Assumes nothing.
-use Prim.Native.Nat.{ℕ, zero, suc, _+_, _<_, _≤_}
+use Prim.Native.Nat.{ℕ, suc, _+_, _<_, _≤_}
 use native.Mathlib.Omega.{arith}
-use mathlib.Core.Path.{_≡_, refl, sym, _∙_, ap, ap₂, subst}
+use mathlib.Core.Path.{_≡_, refl, sym, ap₂, subst}
 use mathlib.Core.Bool.{Bool, true, false, _&&_, _||_}
 use mathlib.Core.List.{List, [], _∷_, _++_}
 use lib.Dec.{leb, eqb}
-use lib.ListN.{length, getD}
+use lib.ListN.{length}
 use borrow.Author.Tests.{le-leb, lt-leb, ne-eqb}
 use Rattle.rules.specs.Limits.{DEPTH}
 use Rattle.rules.specs.Text.{bytes, plain}
 use Rattle.rules.specs.Lex.{Kind, blank, left, right, semicolon, letter, white, kind, Token, opens, closes, word, Mode, between, inWord, inComment, tokens, letters}
 use Rattle.rules.specs.LexLaws.{kind-letter}
-use Rattle.rules.specs.Sexp.{Sexp, Sexps, atom, list, nil as nilˢ, cons as consˢ, snoc, Text, ends, fails, more as moreᵗ, forms, read}
+use Rattle.rules.specs.Sexp.{Sexp, Sexps, atom, list, nil as nilˢ, cons as consˢ, snoc, Text, fails, forms, read}
 use Rattle.rules.specs.Tree.{Tree, Trees, var, app, none, more}
 use Rattle.rules.specs.Theory.{Theory, noTheory, noSymbol, noRule, rule}
 use Rattle.rules.specs.TheoryLaws.{WellFormed, all-at}
@@ -22,7 +22,7 @@ use Rattle.rules.specs.DeclareLaws.{reached}
 use Rattle.rules.specs.Judge.{whole}
 use Rattle.meaning.specs.TreeTests.{and-true}
 use Rattle.meaning.specs.Signature.{sig, Value, Values}
-use Rattle.meaning.specs.Written.{Form, Forms, name, group, nil, cons, symbolName, ruleName, applied, termForm, termForms, judgmentForm, Step, conclusion, Node, Nodes, goalForms, atoms, stepForm, resultForm, proofForms}
+use Rattle.meaning.specs.Written.{Forms, nil, cons, symbolName, ruleName, applied, termForm, termForms, judgmentForm, Step, conclusion, Node, Nodes, goalForms, atoms, stepForm, resultForm, proofForms}
 use Rattle.meaning.specs.WrittenNode.{Concludes, node-concludes}
 use Rattle.meaning.specs.Derivation.{Der, Ders, node, leaf, both}
 use Rattle.meaning.specs.Decimal.{decimal, Digits, decimal-digits, decimal-long}
@@ -180,7 +180,7 @@ module _ (T : Theory) (sp : Spelled Word T) where
   atoms-words (bs ∷ bss) h = (h .0, atoms-words bss (h .1))
 
 -- the tags
-goal-word : Word (bytes "goal")
+pub goal-word : Word (bytes "goal")
 unfolding Word Letters kind white
 goal-word = (refl, refl, (refl, refl, (refl, refl, (refl, refl, tt))))
 
