@@ -77,9 +77,11 @@ mutual
   spell-marks : (f : Form) (r : List ℕ) (p : ℕ) → Worded f → (q : ℕ) × (marks (tokens between p (spell f r)) ≡ spelling f (marks (tokens between q r)))
   spell-marks (name bs) r p w = word-marks r p bs w
   spell-marks (group fs) r p w =
-      let h = spells-marks fs (41 ∷ r) (suc p) w in
-      (suc (h .0), ap marks (at-left p 40 (spells fs (41 ∷ r)) (kind-left 40 refl))
-        ∙ ap (λ x. left ∷ x) (h .1 ∙ ap (λ x. spellings fs (marks x)) (at-right (h .0) 41 r (kind-right 41 refl))))
+      let h = spells-marks fs (41 ∷ r) (suc p) w in (
+        suc (h .0),
+        ap marks (at-left p 40 (spells fs (41 ∷ r)) (kind-left 40 refl))
+            ∙ ap (λ x. left ∷ x) (h .1 ∙ ap (λ x. spellings fs (marks x)) (at-right (h .0) 41 r (kind-right 41 refl))),
+      )
 
   spells-marks : (fs : Forms) (r : List ℕ) (p : ℕ) → AllWorded fs → (q : ℕ) × (marks (tokens between p (spells fs r)) ≡ spellings fs (marks (tokens between q r)))
   spells-marks nil r p w = (p, refl)

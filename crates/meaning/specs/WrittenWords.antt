@@ -204,9 +204,16 @@ module _ (T : Theory) (wf : WellFormed T) (sp : Spelled Word T) (n : List ℕ) (
 
   step-words : (cs : List Tree) (s : Step) → Node T cs s → Word (s .index) → AllWords (s .children) → Worded (stepForm T s)
   unfolding stepForm Worded ruleName rule
-  step-words cs s h i k =
-      (step-word, (i, (all-at (T .rules) (s .rule) noRule (sp .rules) (h .known),
-        (atoms-words T sp (s .children) k, (judgment-words T sp (conclusion T s) (node-concludes T s cs h wf), tt)))))
+  step-words cs s h i k = (
+    step-word,
+    (
+      i,
+      (
+        all-at (T .rules) (s .rule) noRule (sp .rules) (h .known),
+        (atoms-words T sp (s .children) k, (judgment-words T sp (conclusion T s) (node-concludes T s cs h wf), tt)),
+      ),
+    ),
+  )
 
   pub proof-words : (ss : List Step) (cs : List Tree) (r : List ℕ) → Nodes T cs ss → WordSteps ss → Word r → AllWorded (proofForms T ss n r)
   unfolding proofForms resultForm Worded Nodes WordSteps
@@ -242,6 +249,7 @@ roots-words (both t ts d ds) k = (decimal-word (k + below d), roots-words ds (k 
 
 mutual
   unfolding postorder WordSteps
+
   pub postorder-words : {T : Theory} {R : ℕ → Type 0} {j : Tree} (d : Der T R j) (k : ℕ) → WordSteps (postorder k d)
   postorder-words (node r ρ j u v ds e) k =
       word-steps-append (postorders k ds) _ (postorders-words ds k) (decimal-word (k + nodesOf ds), roots-words ds k, tt)

@@ -255,7 +255,7 @@ module _ (G : List ℕ → Type 0) (P : Theory → Type 0)
         good = name-good G (item xs 1) T n (atoms-item G xs 1 a) e₀;
         unmarked = m;
         ctor = λ _. is-new (constructorNamed T (n .bytes)) f;
-        pred = λ q. absurd (let z = eqb-true s 0 q in omega arith)
+        pred = λ q. absurd (let z = eqb-true s 0 q in omega arith);
       }))
 
   add-pred-kept : (T : Theory) (xs : Sexps) → AllAtoms G xs → P T → Ok (λ u U. P U) (addPred xs T)
@@ -270,7 +270,7 @@ module _ (G : List ℕ → Type 0) (P : Theory → Type 0)
         good = name-good G (item xs 1) T n (atoms-item G xs 1 a) e₀;
         unmarked = m;
         ctor = λ q. absurd (let z : _≡_ {A = ℕ} 0 1 = cc in omega arith);
-        pred = λ _. is-new (predicateNamed T (n .bytes)) f
+        pred = λ _. is-new (predicateNamed T (n .bytes)) f;
       }))
 
   add-rule-kept : (T : Theory) (xs : Sexps) → AllAtoms G xs → P T → Ok (λ u U. P U) (addRule xs T)
@@ -282,7 +282,7 @@ module _ (G : List ℕ → Type 0) (P : Theory → Type 0)
       by-room 4 (ltb (length (T .rules)) RULES) T _ λ h.
       fine (rule-kept T (record { name = n; vars = U .vars; premises = q .0; conclusion = q .1 }) w (record {
         good = name-good G (item xs 1) T n (atoms-item G xs 1 a) e₀;
-        fresh = is-new (ruleNamed T (n .bytes)) f
+        fresh = is-new (ruleNamed T (n .bytes)) f;
       }))
 
   declare-as-kept : (d : Declaration) (T : Theory) (xs : Sexps) → AllAtoms G xs → P T → Ok (λ u U. P U) (declareAs d xs T)
@@ -325,6 +325,7 @@ module _ (G : List ℕ → Type 0) (P : Theory → Type 0)
 -- any property that all bytes have
 mutual
   unfolding Atoms
+
   atoms-any : (x : Sexp) → Atoms (λ _. Unit {0}) x
   atoms-any (atom p bs) = tt
   atoms-any (list xs) = all-atoms-any xs
