@@ -36,7 +36,7 @@ hundred-three = refl
 
 -- Digits --------------------------------------------------------------------------------------------------------------------------
 
-Digits : List ℕ → Type 0
+unfoldable pub Digits : List ℕ → Type 0
 Digits [] = Unit {0}
 Digits (d ∷ ds) = (48 ≤ d) × (d ≤ 57) × Digits ds
 
@@ -129,3 +129,17 @@ decimal-read n h =
     let v : value 0 (turned (backward n) []) ≡ n = turned-value (backward n) [] ∙ backward-weight n in
     digits-read (turned (backward n) []) (let a = turned-long (backward n) [] in let b = backward-long n in omega arith)
     (turned-digits (backward n) [] (backward-digits n) refl) (subst (λ z. z < 2 ^ 64) (sym v) h) ∙ ap some v
+
+-- it is of digits alone, at least one
+turned-all : (ds bs : List ℕ) → Digits ds → Digits bs → Digits (turned ds bs)
+unfolding turned Digits
+turned-all [] bs h k = k
+turned-all (d ∷ ds) bs h k = turned-all ds (d ∷ bs) (h .2) (h .0, h .1, k)
+
+pub decimal-digits : (n : ℕ) → Digits (decimal n)
+unfolding decimal Digits
+decimal-digits n = turned-all (backward n) [] (backward-digits n) tt
+
+pub decimal-long : (n : ℕ) → 1 ≤ length (decimal n)
+unfolding decimal
+decimal-long n = let a = turned-long (backward n) [] in let b = backward-long n in omega arith

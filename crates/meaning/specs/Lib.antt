@@ -53,4 +53,7 @@ pub mod WrittenTexts
 pub mod Accepted
 pub mod Decimal
 pub mod WrittenTree
+pub mod Spelling
+pub mod WrittenWords
+pub mod AcceptedTree
 pub mod WrittenExample

@@ -170,23 +170,30 @@ module _ (T : Theory) (R : ℕ → Type 0) (rules : (r : ℕ) → R r → RuleOf
         (let a = postorder-length k d in let b = conclusions-length T (postorder k d) in let c = length-append cs (conclusions T (postorder k d)) in omega arith)
         (omega arith))
 
+-- with nothing in front
+pub postorder-nodes : (T : Theory) (j : Tree) (d : Derivable T j) → below d < 2 ^ 64
+    → Nodes T [] (postorder 0 d) × (entry (conclusions T (postorder 0 d)) (below d) ≡ some j)
+postorder-nodes T j d l =
+    let zero-plus : 0 + below d ≡ below d = omega arith in
+    let h = postorder-lists T (RuleOf T) (λ r u. u) d 0 [] refl (omega arith) in
+    (h .nodes, ap (entry (conclusions T (postorder 0 d))) (sym zero-plus) ∙ h .concludes)
+
 -- texts of a derivation's nodes in post-order are a written derivation
-pub tree-written : (t g p : List ℕ) (T : Theory) (k : ℕ) → whole declare (read t) noTheory ≡ done k T → (j : Tree) (d : Derivable T j)
+unfoldable pub tree-written : (t g p : List ℕ) (T : Theory) (k : ℕ) → whole declare (read t) noTheory ≡ done k T → (j : Tree) (d : Derivable T j)
     → below d < 2 ^ 64 → (n : List ℕ) → Writes g (goalForms T n j) → Writes p (proofForms T (postorder 0 d) n (decimal (below d)))
     → (plain t ≡ true) × (plain g ≡ true) × (plain p ≡ true) → Written t g p
 unfolding Names
 tree-written t g p T k e j d l n wg wp ps =
-    let zero-plus : 0 + below d ≡ below d = omega arith in
-    let h = postorder-lists T (RuleOf T) (λ r u. u) d 0 [] refl (omega arith) in
+    let h = postorder-nodes T j d l in
     record {
       theory = T;
       forms = k;
       taken = e;
       steps = postorder 0 d;
-      nodes = h .nodes;
+      nodes = h .0;
       root = decimal (below d);
       judgment = j;
-      concluded = (below d, decimal-read (below d) l, ap (entry (conclusions T (postorder 0 d))) (sym zero-plus) ∙ h .concludes);
+      concluded = (below d, decimal-read (below d) l, h .1);
       goal = n;
       goals = wg;
       proof = wp;
