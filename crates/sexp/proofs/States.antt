@@ -1,19 +1,18 @@
 -- The loop of `read_form`, as steps from state to state. Assumes nothing.
 use mathlib.Core.Path.{_≡_, refl, sym, ap, _∙_}
-use Prim.Native.Nat.{ℕ, zero, suc, _+_, _*_, _-_, _^_, _≤_, _<_}
-use mathlib.Core.List.{List, [], _∷_, _++_, append-assoc, append-nil}
+use Prim.Native.Nat.{ℕ, suc, _+_, _*_, _-_, _^_, _≤_, _<_}
+use mathlib.Core.List.{List, [], _∷_, _++_}
 use native.Mathlib.Numerals.{add-one}
 use native.Mathlib.Omega.{arith}
-use lib.ListN.{length, take, drop, set, getD, replicate, length-append, length-drop}
+use lib.ListN.{length, drop, set, getD, replicate, length-append, length-drop}
 use Rattle.rules.specs.Limits.{LENGTH, DEPTH}
-use Rattle.rules.specs.Lex.{kind, letter, Token, word, tokens, between, letters}
+use Rattle.rules.specs.Lex.{kind, letter, word, between, letters}
 use Rattle.rules.specs.LexLaws.{kind-left, kind-right, place-left, place-right, place-letter, place-letters-more, place-behind, letters-front, at-end}
-use Rattle.rules.specs.Sexp.{Sexp, Sexps, atom, list, nil, cons, snoc, Text, ends as ended, fails, more, forms, readFrom}
+use Rattle.rules.specs.Sexp.{Sexp, Sexps, atom, list, nil, snoc, Text, ends as ended, fails, more, forms, readFrom}
 use Rattle.rules.specs.SexpLaws.{forms-opens, forms-deep, forms-stray, forms-closes, forms-closed, forms-word, forms-bare, forms-ends, forms-open-end}
 use Rattle.sexp.specs.Lexed.{from, Skipped}
 use Rattle.sexp.specs.Encode.{encode, encodes}
-use Rattle.sexp.specs.Spelt.{AtomAt, Spelt, Spells}
-use Rattle.sexp.specs.Reads.{Clear, answer, written, Next, Behind, ReadRight}
+use Rattle.sexp.specs.Reads.{Clear, answer, written, Behind, ReadRight}
 use Rattle.sexp.specs.declared.sexp.Read.{Read}
 use Rattle.sexp.specs.declared.sexp.Read.the-variants.{End, Form, Refused}
 use Rattle.sexp.proofs.CellLaws.{stored, laid-length, zeros-behind, cleared}

@@ -1,7 +1,7 @@
 // Reads a text form by form. A form's cells: an atom is `2 * start + 1`, a list `2 * number of its items' cells`, followed by these.
 ghost use mathlib.Core.Path.{_≡_};
 ghost use mathlib.Core.List.{_++_};
-ghost use Prim.Native.Nat.{ℕ, _+_, _*_, _-_, _^_, _≤_, _<_};
+ghost use Prim.Native.Nat.{_+_, _*_, _-_, _^_, _≤_, _<_};
 ghost use lib.ListN.{length, getD, set, drop, replicate};
 ghost use Rattle.rules.specs.Limits.{LENGTH};
 ghost use Rattle.rules.specs.Sexp.{read};
