@@ -1,14 +1,14 @@
 -- The loop of `tariff_read`, as steps from form to form. Assumes nothing.
 use mathlib.Core.Path.{_≡_, refl, sym, ap, _∙_}
-use mathlib.Core.Bool.{Bool, true, false}
+use mathlib.Core.Bool.{true, false}
 use Prim.Native.Nat.{ℕ, _+_, _*_, _-_, _%_, _≤_, _<_}
-use mathlib.Core.List.{List, [], _∷_, _++_}
+use mathlib.Core.List.{List, _++_}
 use native.Mathlib.Omega.{arith}
 use lib.Dec.{eqb}
 use lib.ListN.{length, getD, drop, replicate, length-append, length-replicate}
 use borrow.Author.Tests.{eq-eqb, ne-eqb}
 use Rattle.rules.specs.Limits.{LENGTH}
-use Rattle.rules.specs.Sexp.{Sexp, Sexps, atom, list, Text, ends, fails, more, read, readFrom}
+use Rattle.rules.specs.Sexp.{Sexp, Sexps, atom, list, more, read, readFrom}
 use Rattle.sexp.specs.Encode.{encode, encodes}
 use Rattle.sexp.specs.ItemLaws.{some-cells}
 use Rattle.sexp.specs.Reads.{Clear, ReadRight}

@@ -1,16 +1,15 @@
 -- Laws of the lexer, a byte at a time: at a place of a text, by the kind of the byte there. Assumes nothing.
-use mathlib.Core.Path.{_≡_, refl, sym, ap, _∙_}
-use Prim.Native.Nat.{ℕ, zero, suc, _+_, _≤_, _<_}
+use mathlib.Core.Path.{_≡_, refl, ap, _∙_}
+use Prim.Native.Nat.{ℕ, suc, _+_, _≤_, _<_}
 use mathlib.Core.List.{List, [], _∷_}
-use mathlib.Core.Bool.{Bool, true, false}
+use mathlib.Core.Bool.{true, false}
 use native.Mathlib.Numerals.{add-one}
 use native.Mathlib.Nat.{add-zero}
 use native.Mathlib.Omega.{arith}
-use lib.Dec.{eqb}
 use lib.ListN.{length, getD, take, drop, drop-of-length-le}
 use lib.Seq.{drop-cons, drop-drop}
 use borrow.Author.Tests.{ne-eqb}
-use Rattle.rules.specs.Lex.{Kind, blank, left, right, semicolon, letter, white, kind, Token, opens, closes, word, Mode, between, inWord, inComment, tokens, letters}
+use Rattle.rules.specs.Lex.{Kind, blank, left, right, semicolon, letter, white, kind, opens, closes, word, Mode, between, inWord, inComment, tokens, letters}
 
 -- kinds, from tests
 

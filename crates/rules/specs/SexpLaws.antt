@@ -5,13 +5,12 @@ use mathlib.Core.List.{List, [], _∷_}
 use native.Mathlib.Numerals.{add-one}
 use native.Mathlib.Nat.{zero-add, suc-add}
 use native.Mathlib.Omega.{arith}
-use lib.Dec.{leb}
 use lib.ListN.{length}
 use Rattle.rules.specs.Limits.{DEPTH}
 use borrow.Author.Tests.{le-leb, lt-leb}
 use Rattle.rules.specs.Lex.{Token, opens, closes, word}
-use Rattle.rules.specs.Sexp.{Sexp, Sexps, atom, list, nil, cons, snoc, Text, ends, fails, more, forms, count, item, rest, Name, name, items}
-use Rattle.rules.specs.Out.{Out, ok, refuse}
+use Rattle.rules.specs.Sexp.{Sexp, Sexps, atom, list, nil, cons, snoc, ends, fails, more, forms, count, item, rest, name, items}
+use Rattle.rules.specs.Out.{ok, refuse}
 
 pub forms-opens : (st : List Sexps) (p : ℕ) (ts : List Token) → length st < DEPTH → forms st (opens p ∷ ts) ≡ forms (nil ∷ st) ts
 unfolding forms

@@ -1,10 +1,10 @@
 -- Cells that are stored one behind the other, and cells that are zero. Assumes nothing.
 use mathlib.Core.Path.{_≡_, refl, sym, ap, _∙_}
-use Prim.Native.Nat.{ℕ, zero, suc, _+_, _-_, _≤_, _<_}
+use Prim.Native.Nat.{ℕ, suc, _+_, _-_, _≤_, _<_}
 use mathlib.Core.List.{List, [], _∷_, _++_, append-assoc}
 use native.Mathlib.Numerals.{add-one}
 use native.Mathlib.Omega.{arith}
-use lib.ListN.{length, take, drop, set, getD, replicate, length-append, length-drop, length-replicate, length-set, replicate-append-replicate}
+use lib.ListN.{length, drop, set, getD, replicate, length-append, length-drop, length-replicate, length-set, replicate-append-replicate}
 use lib.Seq.{drop-cons, set-at, drop-at}
 use Rattle.sexp.specs.Reads.{Clear}
 

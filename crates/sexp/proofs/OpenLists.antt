@@ -1,12 +1,12 @@
 -- How the lists that are still open lie in the cells: of each its own cell, in which the place of the list around it stands, and the
 -- cells of its items so far, the outermost list first. Assumes nothing.
-use mathlib.Core.Path.{_≡_, refl, sym, ap, _∙_}
-use Prim.Native.Nat.{ℕ, zero, suc, _+_, _*_, _-_, _≤_, _<_}
+use mathlib.Core.Path.{_≡_, refl, sym}
+use Prim.Native.Nat.{ℕ, _+_, _*_, _-_, _≤_, _<_}
 use mathlib.Core.List.{List, [], _∷_, _++_, append-assoc, append-nil}
 use native.Mathlib.Omega.{arith}
-use lib.ListN.{length, take, drop, set, getD, length-append}
+use lib.ListN.{length, set, getD, length-append}
 use lib.Seq.{set-at, getD-at}
-use Rattle.rules.specs.Sexp.{Sexp, Sexps, atom, list, nil, cons, snoc}
+use Rattle.rules.specs.Sexp.{Sexp, Sexps, list, nil, cons, snoc}
 use Rattle.sexp.specs.Encode.{encode, encodes}
 use Rattle.sexp.specs.Spelt.{Spelt, Spells}
 

@@ -3,8 +3,8 @@ use mathlib.Core.Path.{_≡_, refl, sym, ap, _∙_}
 use Prim.Native.Nat.{ℕ, _+_, _≤_, _<_}
 use mathlib.Core.List.{List}
 use native.Mathlib.Omega.{arith}
-use lib.ListN.{length, getD, drop}
-use Rattle.rules.specs.Lex.{white, kind, blank, tokens, between}
+use lib.ListN.{length, getD}
+use Rattle.rules.specs.Lex.{white}
 use Rattle.rules.specs.LexLaws.{place-blank, place-semicolon, kind-semicolon}
 use Rattle.sexp.specs.Lexed.{wide, from, LineEnd, Skipped}
 use Rattle.sexp.proofs.ByteLaws.{is-white, one-wide, not-white, not-blank, not-semicolon}

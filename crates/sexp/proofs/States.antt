@@ -1,19 +1,18 @@
 -- The loop of `read_form`, as steps from state to state. Assumes nothing.
 use mathlib.Core.Path.{_≡_, refl, sym, ap, _∙_}
-use Prim.Native.Nat.{ℕ, zero, suc, _+_, _*_, _-_, _^_, _≤_, _<_}
-use mathlib.Core.List.{List, [], _∷_, _++_, append-assoc, append-nil}
+use Prim.Native.Nat.{ℕ, suc, _+_, _*_, _-_, _^_, _≤_, _<_}
+use mathlib.Core.List.{List, [], _∷_, _++_}
 use native.Mathlib.Numerals.{add-one}
 use native.Mathlib.Omega.{arith}
-use lib.ListN.{length, take, drop, set, getD, replicate, length-append, length-drop}
+use lib.ListN.{length, drop, set, getD, replicate, length-append, length-drop}
 use Rattle.rules.specs.Limits.{LENGTH, DEPTH}
-use Rattle.rules.specs.Lex.{kind, letter, Token, word, tokens, between, letters}
+use Rattle.rules.specs.Lex.{kind, letter, word, between, letters}
 use Rattle.rules.specs.LexLaws.{kind-left, kind-right, place-left, place-right, place-letter, place-letters-more, place-behind, letters-front, at-end}
-use Rattle.rules.specs.Sexp.{Sexp, Sexps, atom, list, nil, cons, snoc, Text, ends as ended, fails, more, forms, readFrom}
+use Rattle.rules.specs.Sexp.{Sexp, Sexps, atom, list, nil, snoc, Text, ends as ended, fails, more, forms, readFrom}
 use Rattle.rules.specs.SexpLaws.{forms-opens, forms-deep, forms-stray, forms-closes, forms-closed, forms-word, forms-bare, forms-ends, forms-open-end}
 use Rattle.sexp.specs.Lexed.{from, Skipped}
 use Rattle.sexp.specs.Encode.{encode, encodes}
-use Rattle.sexp.specs.Spelt.{AtomAt, Spelt, Spells}
-use Rattle.sexp.specs.Reads.{Clear, answer, written, Next, Behind, ReadRight}
+use Rattle.sexp.specs.Reads.{Clear, answer, written, Behind, ReadRight}
 use Rattle.sexp.specs.declared.sexp.Read.{Read}
 use Rattle.sexp.specs.declared.sexp.Read.the-variants.{End, Form, Refused}
 use Rattle.sexp.proofs.CellLaws.{stored, laid-length, zeros-behind, cleared}
@@ -250,3 +249,35 @@ module _ {text : List ℕ} {start : ℕ} {w₀ w : List ℕ} {at used depth op :
               (rw (u, we))
               (stored [] w₀ w used (2 * at + 1) (s .laid ∙ rw e) (sym u) (omega (arith, s .few, s .begun .room)) ∙ rw (u, zeros-behind w₀ 1 (s .begun .clear) (omega (arith, s .few, s .begun .room))))
               (record { follows = rw we; on = omega (arith, s .few, longer, we); within = omega (arith, within-text, we); spelt = record { inside = i; bytes = refl }; few = omega (arith, s .few, longer, we) })
+
+-- The first token ----------------------------------------------------------------------------------------------------------------
+
+-- a list begins, whose cell is zero already
+zero-again : (w : List ℕ) → Clear w → set w 0 0 ≡ w
+zero-again [] z = refl
+zero-again (x ∷ w) z = ap (λ n. n ∷ w) (sym (ap (λ l. getD l 0 0) z))
+
+pub opened :
+    (text : List ℕ) (start : ℕ) (w : List ℕ) → (start < length text) × (getD text start 0 ≡ 40) → (length text ≤ LENGTH) × (length text ≤ length w) × Clear w →
+    State text start w w (start + 1) 1 1 0
+opened text start w h k = rw (zero-again w (k .2)) at (opens-on (started text start w (omega arith, k .0, k .1) (k .2)) (h .0) (h .1) (λ e. omega arith))
+
+-- what was read from the place of the first token was read from before it
+pub from-before : {text : List ℕ} {start at : ℕ} {w v : List ℕ} {r : Read} → Skipped text start at → ReadRight text at w v r → ReadRight text start w v r
+unfolding readFrom
+from-before {text} {start} {at} {w} {v} {r} k d = finish (readFrom text at) e (d .answers) (d .cells) (go (readFrom text at) (d .behind))
+  where
+    e : readFrom text start ≡ readFrom text at
+    e = ap (forms []) (k .same)
+
+    go : (x : Text) → Behind text at x → Behind text start x
+    go ended b = tt
+    go (fails n) b = tt
+    go (more f p t) b =
+        record {
+          follows = b .follows;
+          on = omega (arith, b .on, k .low);
+          within = b .within;
+          spelt = b .spelt;
+          few = omega (arith, b .few, k .low);
+        }

@@ -1,8 +1,8 @@
 -- The search of the rows, and the tag of the row that is found. Assumes nothing.
 use mathlib.Core.Path.{_≡_, refl, sym, ap, _∙_}
-use mathlib.Core.Bool.{Bool, true, false, _&&_}
+use mathlib.Core.Bool.{Bool, true, false}
 use mathlib.Core.Option.{Option, some, none as nothing}
-use mathlib.Core.List.{List, [], _∷_, _++_}
+use mathlib.Core.List.{List, [], _∷_}
 use Prim.Native.Nat.{ℕ, zero, suc, _+_, _-_, _≤_, _<_}
 use native.Mathlib.Nat.{zero-add}
 use native.Mathlib.Omega.{arith}
@@ -11,7 +11,7 @@ use lib.Dec.{eqb}
 use lib.ListN.{length, getD, take, drop}
 use lib.Seq.{drop-cons}
 use borrow.Author.Tests.{eqb-true}
-use Rattle.rules.specs.Tags.{Row, Tag, Declaration, GoalForm, proofTags, theoryTags, goalTags, fits, tagIn, proofTag, declaration, goalForm, indexIn, indexPlace, tagging}
+use Rattle.rules.specs.Tags.{Row, Tag, proofTags, theoryTags, goalTags, fits, tagIn, proofTag, declaration, goalForm, indexIn, indexPlace, tagging}
 use Rattle.sexp.specs.TagTable.{Shape, shape, shapesOf, shapes, noShape, shapeAt, suits, firstRow, tagAt, tagAnswer, declarationAnswer, goalAnswer, placeAnswer}
 use Rattle.sexp.specs.declared.tags.Tag.the-variants.{Unknown}
 use Rattle.sexp.specs.declared.tags.Declaration.the-variants.{Unknown as UnknownDeclaration}

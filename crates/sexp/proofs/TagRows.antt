@@ -2,19 +2,17 @@
 use mathlib.Core.Path.{_≡_, refl, sym, ap, _∙_}
 use mathlib.Core.Bool.{Bool, true, false, _&&_}
 use mathlib.Core.Option.{Option, some, none as nothing}
-use mathlib.Core.List.{List, [], _∷_, _++_}
-use Prim.Native.Nat.{ℕ, zero, suc, _+_, _-_, _*_, _^_, _≤_, _<_}
+use mathlib.Core.List.{List, [], _∷_}
+use Prim.Native.Nat.{ℕ, _+_, _-_, _*_, _^_, _≤_, _<_}
 use native.Mathlib.Omega.{arith}
-use native.Mathlib.Numerals.{add-one}
 use lib.Dec.{eqb, leb}
 use lib.ListN.{length, getD, take, drop}
-use lib.Seq.{drop-cons}
 use borrow.Author.Tests.{eqb-true, leb-true, le-leb, lt-leb}
 use Rattle.rules.specs.Text.{bytes, same}
 use Rattle.rules.specs.TextLaws.{same-equal}
-use Rattle.rules.specs.Tags.{Row, Tag, proofTags, theoryTags, goalTags, within, fits, tagIn, proofTag, declaration, goalForm, indexIn, indexPlace, tagging}
-use Rattle.sexp.specs.TagTable.{Shape, shape, shapesOf, shapes, noShape, shapeAt, suits, firstRow, tagAt, tagAnswer, declarationAnswer, goalAnswer, placeAnswer}
-use Rattle.sexp.proofs.TableLaws.{upto, at}
+use Rattle.rules.specs.Tags.{within, tagging}
+use Rattle.sexp.specs.TagTable.{shapes, shapeAt, suits}
+use Rattle.sexp.proofs.TableLaws.{at}
 
 -- the code's constants
 

@@ -1,8 +1,7 @@
 -- The loops of `count` and `place`, as steps from item to item. Assumes nothing.
-use mathlib.Core.Path.{_≡_, refl, sym, ap, _∙_}
+use mathlib.Core.Path.{_≡_, refl, ap, _∙_}
 use Prim.Native.Nat.{ℕ, zero, suc, _+_, _-_, _≤_, _<_}
 use mathlib.Core.List.{List}
-use native.Mathlib.Nat.{add-zero}
 use native.Mathlib.Omega.{arith}
 use lib.ListN.{length}
 use Rattle.rules.specs.Sexp.{Sexp, Sexps, nil, cons, count, item}
@@ -10,7 +9,7 @@ use Rattle.rules.specs.SexpLaws.{count-cons}
 use Rattle.sexp.specs.Encode.{encode, encodes}
 use Rattle.sexp.specs.Items.{Items, Reaches, itemAt, itemOf, behind, place}
 use Rattle.sexp.specs.declared.items.Item.{Item}
-use Rattle.sexp.specs.ItemLaws.{At, at-first, at-more, at-over, at-next, at-room, some-cells, More, item-here, behind-item, item-at-place, place-room, place-inside}
+use Rattle.sexp.specs.ItemLaws.{At, at-first, at-more, at-over, at-next, some-cells, More, item-here, behind-item, item-at-place, place-room, place-inside}
 
 -- past the item at a place: r is the place behind it
 module _ {words : List ℕ} {at : ℕ} {left : Sexps} (k : At words at left) (m : More left) (r : ℕ) (e : r ≡ behind at (itemAt words at)) where

@@ -11,7 +11,6 @@ use Rattle.rules.specs.Sexp.{Sexp, Sexps, atom, list, nil, snoc, Text, ends, fa
 use Rattle.rules.specs.SexpLaws.{forms-opens, forms-deep, forms-stray, forms-closes, forms-closed, forms-word, forms-bare, forms-ends, forms-open-end}
 use Rattle.sexp.specs.Lexed.{from, Skipped}
 use Rattle.sexp.specs.Whole.{wholeOf}
-use Rattle.sexp.specs.declared.sexp.Whole.{Whole}
 use Rattle.sexp.specs.declared.sexp.Whole.the-variants.{Forms, Refused}
 
 -- what the text reads as from here, with the lists that are open and n bracketed forms before, is what it reads as from the start

@@ -1,19 +1,16 @@
 -- Laws of items in cells, at a place and by number. Assumes nothing.
 use mathlib.Core.Path.{_≡_, refl, sym, ap, _∙_}
 use Prim.Native.Nat.{ℕ, zero, suc, _+_, _*_, _-_, _/_, _%_, _≤_, _<_}
-use mathlib.Core.List.{List, [], _∷_, _++_}
-use mathlib.Core.Bool.{true, false}
+use mathlib.Core.List.{List, _++_}
 use native.Mathlib.Nat.{add-zero, zero-add}
 use native.Mathlib.Omega.{arith}
-use lib.Dec.{eqb}
 use lib.ListN.{length, drop, getD, length-append, length-drop}
 use lib.Seq.{getD-drop, drop-drop, drop-append-seam}
 use borrow.Author.Tests.{eq-eqb, ne-eqb}
 use Rattle.rules.specs.Sexp.{Sexp, Sexps, atom, list, nil, cons, count, item, rest}
 use Rattle.rules.specs.SexpLaws.{rest-item}
 use Rattle.sexp.specs.Encode.{encode, encodes}
-use Rattle.sexp.specs.Items.{itemOf, byParity, itemAt, behind, place}
-use Rattle.sexp.specs.declared.items.Item.{Item}
+use Rattle.sexp.specs.Items.{itemOf, itemAt, behind, place}
 use Rattle.sexp.specs.declared.items.Item.the-variants.{Atom, List as Part}
 
 -- At a place ---------------------------------------------------------------------------------------------------------------------

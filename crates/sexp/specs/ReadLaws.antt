@@ -1,15 +1,14 @@
 -- Laws for those who call `read_form`: what each answer says of the text, of the form and of the cells. Assumes nothing.
 use mathlib.Core.Path.{_≡_, refl, sym, ap, _∙_}
 use Prim.Native.Nat.{ℕ, _+_, _-_, _≤_, _<_}
-use mathlib.Core.List.{List, [], _∷_, _++_, append-nil}
+use mathlib.Core.List.{List, _++_, append-nil}
 use native.Mathlib.Omega.{arith}
-use lib.ListN.{length, take, drop, replicate, length-append, length-replicate, replicate-append-replicate}
+use lib.ListN.{length, take, drop, replicate, replicate-append-replicate}
 use lib.Seq.{take-append-seam, drop-append-seam}
-use Rattle.rules.specs.Sexp.{Sexp, Sexps, nil, cons, Text, ends, fails, more, read, readFrom}
+use Rattle.rules.specs.Sexp.{Sexp, nil, cons, Text, ends, fails, more, read, readFrom}
 use Rattle.sexp.specs.Encode.{encode, encodes}
 use Rattle.sexp.specs.Items.{Holds}
-use Rattle.sexp.specs.ItemLaws.{encodes-cons}
-use Rattle.sexp.specs.Reads.{Clear, answer, written, Next, Behind, ReadRight}
+use Rattle.sexp.specs.Reads.{answer, written, Next, Behind, ReadRight}
 use Rattle.sexp.specs.declared.sexp.Read.{Read}
 use Rattle.sexp.specs.declared.sexp.Read.the-variants.{End, Form, Refused}
 

@@ -1,18 +1,18 @@
 -- Laws for those who walk over items: what the answers of `items` say of the items, and of their atoms in the text. Assumes nothing.
 use mathlib.Core.Path.{_≡_, refl, sym, ap, _∙_}
 use Prim.Native.Nat.{ℕ, zero, suc, _+_, _-_, _≤_, _<_}
-use mathlib.Core.List.{List, [], _∷_, _++_}
+use mathlib.Core.List.{List, _++_}
 use native.Mathlib.Nat.{zero-add}
 use native.Mathlib.Omega.{arith}
 use lib.ListN.{length, take, drop, length-drop, length-take}
 use lib.Seq.{drop-drop, take-append-seam, take-all}
-use Rattle.rules.specs.Lex.{kind, letter, letters}
+use Rattle.rules.specs.Lex.{letters}
 use Rattle.rules.specs.LexLaws.{letters-front}
 use Rattle.rules.specs.Sexp.{Sexp, Sexps, atom, list, nil, cons, count, item, rest}
 use Rattle.sexp.specs.Encode.{encode, encodes}
 use Rattle.sexp.specs.Spelt.{AtomAt, Spelt, Spells}
 use Rattle.sexp.specs.Items.{Holds, itemOf, itemAt, place}
-use Rattle.sexp.specs.ItemLaws.{At, at-first, at-more, at-over, at-inside, at-room, at-next, More, item-here, item-at-place, at-place, some-cells}
+use Rattle.sexp.specs.ItemLaws.{At, at-first, at-more, at-over, at-room, at-next, More, item-here, item-at-place, at-place, some-cells}
 use Rattle.sexp.specs.declared.items.Item.{Item}
 use Rattle.sexp.specs.declared.items.Item.the-variants.{Atom, List as Part}
 

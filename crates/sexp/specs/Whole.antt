@@ -1,6 +1,6 @@
 -- What the contract of `read_all` cites. Assumes nothing.
 use Prim.Native.Nat.{ℕ, _+_}
-use Rattle.rules.specs.Sexp.{Sexp, atom, list, Text, ends, fails, more}
+use Rattle.rules.specs.Sexp.{atom, list, Text, ends, fails, more}
 use Rattle.sexp.specs.declared.sexp.Whole.{Whole}
 use Rattle.sexp.specs.declared.sexp.Whole.the-variants.{Forms, Refused}
 

@@ -1,7 +1,7 @@
 // The questions put to a text before it is read, and what stands at a place of it. How wide the white space at a place is, and which
 // bytes are allowed, is said here alone.
 ghost use mathlib.Core.Path.{_≡_};
-ghost use Prim.Native.Nat.{ℕ, _+_, _*_, _≤_, _<_};
+ghost use Prim.Native.Nat.{_+_, _≤_, _<_};
 ghost use lib.Dec.{leb};
 ghost use lib.ListN.{length, getD, drop};
 ghost use Rattle.rules.specs.Text.{plain, short};

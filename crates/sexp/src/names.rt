@@ -1,6 +1,6 @@
 // The bytes of names: whether two are equal, and the index that a name spells.
 ghost use mathlib.Core.Path.{_≡_};
-ghost use Prim.Native.Nat.{ℕ, _<_};
+ghost use Prim.Native.Nat.{_<_};
 ghost use Rattle.rules.specs.Text.{same};
 ghost use Rattle.rules.specs.Index.{number, indexOf};
 ghost use Rattle.sexp.specs.Names.{spelling};

@@ -1,12 +1,13 @@
 // Reads a text form by form. A form's cells: an atom is `2 * start + 1`, a list `2 * number of its items' cells`, followed by these.
 ghost use mathlib.Core.Path.{_≡_};
 ghost use mathlib.Core.List.{_++_};
-ghost use Prim.Native.Nat.{ℕ, _+_, _*_, _-_, _^_, _≤_, _<_};
+ghost use Prim.Native.Nat.{_+_, _*_, _-_, _^_, _≤_, _<_};
 ghost use lib.ListN.{length, getD, set, drop, replicate};
 ghost use Rattle.rules.specs.Limits.{LENGTH};
 ghost use Rattle.rules.specs.Sexp.{read};
 ghost use Rattle.sexp.specs.Reads.{Clear, ReadRight};
 ghost use Rattle.sexp.specs.Whole.{wholeOf};
+ghost use Rattle.sexp.specs.declared.sexp.Read.the-variants.{Refused};
 use crate::lex::atom_end;
 use crate::lex::skip;
 
@@ -52,31 +53,36 @@ fn close_list(words: &mut [u32], head: usize, count: usize) -> usize
     around
 }
 
-// Reads one form, from a place of the text on, into cells that are zero; they stay zero behind the form, and where none was read.
-pub fn read_form(text: &[u8], from: usize, words: &mut [u32]) -> Read
-    requires { ⌜ (from ≤ length (now text)) × (length (now text) ≤ LENGTH) × (length (now text) ≤ length (now words)) ⌝ }
-    requires { ⌜ Clear (now words) ⌝ }
+// The cells are set back, and the text is refused.
+fn refused(words: &mut [u32], used: usize, number: usize) -> Read
+    requires { ⌜ used ≤ length (now words) ⌝ }
+    ensures { λ r. ⌜ (r ≡ Refused number) × (now (words .exit) ≡ replicate used 0 ++ drop used (now (words .entry))) ⌝ }
+{
+    clear(words, used);
+    Read::Refused(number)
+}
+
+// Reads the list whose bracket is at a place.
+fn read_list(text: &[u8], from: usize, words: &mut [u32]) -> Read
+    requires { ⌜ (from < length (now text)) × (getD (now text) from 0 ≡ 40) ⌝ }
+    requires { ⌜ (length (now text) ≤ LENGTH) × (length (now text) ≤ length (now words)) × Clear (now words) ⌝ }
     ensures { λ r. ⌜ ReadRight (now (text .entry)) from (now (words .entry)) (now (words .exit)) r ⌝ }
 {
-    let mut at = from;
-    let mut used = 0;
-    let mut depth = 0;
+    // the outermost list has the first cell, which is zero already
+    let mut at = from + 1;
+    let mut used = 1;
+    let mut depth = 1;
     // the cell of the innermost open list
     let mut open = 0;
     loop {
         at = skip(text, at);
         if at >= text.len() {
-            if depth == 0 {
-                return Read::End;
-            }
-            clear(words, used);
-            return Read::Refused(4);
+            return refused(words, used, 4);
         }
         let b = text[at];
         if b == b'(' {
             if depth == rules::DEPTH {
-                clear(words, used);
-                return Read::Refused(5);
+                return refused(words, used, 5);
             }
             put(words, used, open);
             open = used;
@@ -84,9 +90,6 @@ pub fn read_form(text: &[u8], from: usize, words: &mut [u32]) -> Read
             depth += 1;
             at += 1;
         } else if b == b')' {
-            if depth == 0 {
-                return Read::Refused(4);
-            }
             open = close_list(words, open, used - open - 1);
             depth -= 1;
             at += 1;
@@ -97,11 +100,29 @@ pub fn read_form(text: &[u8], from: usize, words: &mut [u32]) -> Read
             put(words, used, 2 * at + 1);
             used += 1;
             at = atom_end(text, at);
-            if depth == 0 {
-                return Read::Form(at, used);
-            }
         }
     }
+}
+
+// Reads one form, from a place of the text on, into cells that are zero; they stay zero behind the form, and where none was read.
+pub fn read_form(text: &[u8], from: usize, words: &mut [u32]) -> Read
+    requires { ⌜ (from ≤ length (now text)) × (length (now text) ≤ LENGTH) × (length (now text) ≤ length (now words)) ⌝ }
+    requires { ⌜ Clear (now words) ⌝ }
+    ensures { λ r. ⌜ ReadRight (now (text .entry)) from (now (words .entry)) (now (words .exit)) r ⌝ }
+{
+    let at = skip(text, from);
+    if at >= text.len() {
+        return Read::End;
+    }
+    let b = text[at];
+    if b == b'(' {
+        return read_list(text, at, words);
+    }
+    if b == b')' {
+        return Read::Refused(4);
+    }
+    put(words, 0, 2 * at + 1);
+    Read::Form(atom_end(text, at), 1)
 }
 
 // Reads a text to its end or to a refusal, without a look at its forms and without cells.

@@ -1,8 +1,8 @@
 // The tags of forms, in one fixed table: the proof's ten rows, then the theory's four and the goals' three.
 ghost use mathlib.Core.Path.{_≡_};
-ghost use Prim.Native.Nat.{ℕ, _+_, _-_, _*_, _≤_, _<_};
-ghost use lib.ListN.{length, take, drop};
-ghost use Rattle.rules.specs.Tags.{proofTags, theoryTags, goalTags, proofTag, declaration, goalForm, indexPlace};
+ghost use Prim.Native.Nat.{_+_, _-_, _*_, _≤_, _<_};
+ghost use lib.ListN.{take, drop};
+ghost use Rattle.rules.specs.Tags.{proofTags, proofTag, declaration, goalForm, indexPlace};
 ghost use Rattle.sexp.specs.TagTable.{tagAnswer, declarationAnswer, goalAnswer, placeAnswer, shapes, shapeAt, suits, firstRow, tagAt};
 use crate::names::same;
 

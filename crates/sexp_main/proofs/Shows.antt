@@ -7,10 +7,10 @@ use lib.ListN.{length, take, drop, replicate}
 use lib.Seq.{length-take-le}
 use Rattle.rules.specs.Limits.{LENGTH}
 use Rattle.rules.specs.Lex.{letters}
-use Rattle.rules.specs.Sexp.{Sexp, Sexps, cons, nil}
-use Rattle.sexp.specs.Items.{Held, Holds, itemAt}
+use Rattle.rules.specs.Sexp.{Sexps, cons, nil}
+use Rattle.sexp.specs.Items.{Held, itemAt}
 use Rattle.sexp.specs.ItemLaws.{More}
-use Rattle.sexp.specs.WalkLaws.{Walk, walk-start, walk-more, walk-atom, walk-list, past-atom, past-list, AtomIs, ListIs, list-on, part-shorter, Span, span}
+use Rattle.sexp.specs.WalkLaws.{Walk, walk-start, walk-more, walk-atom, walk-list, past-atom, past-list, ListIs, list-on, part-shorter, Span, span}
 use Rattle.sexp.specs.Reads.{Clear, ReadRight}
 use Rattle.sexp.specs.ReadLaws.{FormIs, at-form, form-cleared}
 use Rattle.sexp.specs.declared.items.Item.{Item}

@@ -1,6 +1,5 @@
 // Reads up to 4,096 bytes of forms from standard input and writes them back, a form a line, one space between items, without comments.
-ghost use mathlib.Core.Path.{_≡_};
-ghost use Prim.Native.Nat.{ℕ, _≤_};
+ghost use Prim.Native.Nat.{_≤_};
 ghost use lib.ListN.{length};
 ghost use Rattle.rules.specs.Limits.{LENGTH};
 ghost use Rattle.sexp.specs.Items.{Held};

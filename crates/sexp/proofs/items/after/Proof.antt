@@ -1,4 +1,4 @@
-use mathlib.Core.Path.{_≡_, sym, ap, _∙_}
+use mathlib.Core.Path.{sym, ap, _∙_}
 use Rattle.sexp.specs.Items.{behind}
 use borrow.Author.Needs.{needs}
 use Rattle.sexp.proofs.items.after.Statement.{statement}

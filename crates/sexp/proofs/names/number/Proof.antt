@@ -1,6 +1,5 @@
 use Prim.Native.Nat.{_-_}
 use lib.ListN.{length}
-use native.Mathlib.Omega.{arith}
 use Rattle.sexp.proofs.IndexLaws.{Reading, start, more, all-read, none-there, too-low, too-high, overflows}
 use borrow.Author.Needs.{needs}
 use Rattle.sexp.proofs.names.number.Statement.{statement}

@@ -1,181 +1,68 @@
-use mathlib.Core.Path.{_≡_, sym, _∙_}
-use Prim.Native.Nat.{_-_}
-use lib.ListN.{length, getD}
-use native.Mathlib.Omega.{arith}
-use Rattle.rules.specs.Lex.{kind, letter}
+use mathlib.Core.Path.{refl}
 use Rattle.sexp.proofs.ByteLaws.{letter-here}
 use Rattle.sexp.proofs.States as states
 use Rattle.sexp.proofs.States.{State}
+use borrow.Author.Needs.{needs}
 use Rattle.sexp.proofs.sexp.read_form.Statement.{statement}
 use Rattle.sexp.proofs.sexp.read_form.Tie as tie
 
-abbrev Inv-loop : tie.InvT-loop
-Inv-loop text from words₀ at₀ used₀ depth₀ open₀ words at used depth «open» = State text from words₀ words at used depth «open»
-
-abbrev μ-loop : tie.MeasureT-loop
-μ-loop text from words₀ at₀ used₀ depth₀ open₀ words at used depth «open» = length text - at
-
-loop-holds : tie.Need-loop-holds Inv-loop μ-loop
-loop-holds c = states.started _ _ _ ((c .before .before .pre) .0) ((c .before .before .pre) .1)
-
-skip-requires : tie.Need-skip-requires Inv-loop μ-loop
-skip-requires c κs = (c .loop) .inv .high
+skip-requires : tie.Need-skip-requires
+skip-requires c κs = search needs
 
 -- the state behind `skip`
-here :
-    (c : tie.After-skip Inv-loop μ-loop)
-    → State ((c .before .before .before .before .args) .text .now) ((c .before .before .before .before .args) .from) ((c .before .before .before .before .args) .words .now) ((c .before .loop) .words) ((c .skip) .result) ((c .before .loop) .used) ((c .before .loop) .depth) ((c .before .loop) .«open»)
-here c = states.skipped ((c .before .loop) .inv) _ ((c .skip) .ensures)
+here : (c : tie.After-skip) → State ((c .before .before .before .args) .text .now) ((c .before .before .before .args) .from) ((c .before .before .before .args) .words .now) ((c .before .before .before .args) .words .now) ((c .skip) .result) 0 0 0
+here c = states.skipped (states.started _ _ _ ((c .before .before .before .pre) .0) ((c .before .before .before .pre) .1)) _ ((c .skip) .ensures)
 
-same-length : tie.Need-same-length Inv-loop μ-loop
-same-length c = states.same-length (here (c .before .before))
+returns : tie.Need-returns
+returns c = states.ends (here (c .before)) ((c .if1) .taken) refl
 
-returns : tie.Need-returns Inv-loop μ-loop
-returns c = states.ends (here (c .before .before)) ((c .before .if1) .taken) ((c .if2) .taken)
+shared-slice-read-b : tie.Need-shared-slice-read-b
+shared-slice-read-b c = search needs
 
-clear-requires : tie.Need-clear-requires Inv-loop μ-loop
-clear-requires c κs = states.used-most (here (c .before .before .before)) .1
+read-list-requires : tie.Need-read-list-requires
+read-list-requires c κs = search needs
 
-same-length-2 : tie.Need-same-length-2 Inv-loop μ-loop
-same-length-2 c = (c .before .before .clear) .kept .0 ∙ states.same-length (here (c .before .before .before .before .before .before))
+same-length : tie.Need-same-length
+same-length c = search needs
 
-returns-2 : tie.Need-returns-2 Inv-loop μ-loop
-returns-2 c = states.refused (here (c .before .before .before .before .before .before)) 4 (states.unclosed (here (c .before .before .before .before .before .before)) ((c .before .before .before .before .before .if1) .taken) ((c .before .before .before .before .if2) .left)) _ ((c .before .before .clear) .ensures)
+returns-2 : tie.Need-returns-2
+returns-2 c = states.from-before ((c .before .before .before .before .before .before .before .skip) .ensures) ((c .before .before .read-list) .ensures)
 
-shared-slice-read-b : tie.Need-shared-slice-read-b Inv-loop μ-loop
-shared-slice-read-b c = (c .before .if1) .left
+returns-3 : tie.Need-returns-3
+returns-3 c = states.stray (here (c .before .before .before .before)) ((c .before .before .before .if1) .left) ((c .if3) .taken) refl
 
-clear-requires-2 : tie.Need-clear-requires-2 Inv-loop μ-loop
-clear-requires-2 c κs = states.used-most (here (c .before .before .before .before .before)) .1
+mul-put : tie.Need-mul-put
+mul-put c = search needs
 
-same-length-3 : tie.Need-same-length-3 Inv-loop μ-loop
-same-length-3 c = (c .before .before .clear2) .kept .0 ∙ states.same-length (here (c .before .before .before .before .before .before .before .before))
+add-put : tie.Need-add-put
+add-put c = search needs
 
-returns-3 : tie.Need-returns-3 Inv-loop μ-loop
-returns-3 c = states.refused (here (c .before .before .before .before .before .before .before .before)) 5 (states.too-deep (here (c .before .before .before .before .before .before .before .before)) ((c .before .before .before .before .before .before .before .if1) .left) ((c .before .before .before .before .before .if3) .taken) ((c .before .before .before .before .if4) .taken)) _ ((c .before .before .clear2) .ensures)
+put-requires : tie.Need-put-requires
+put-requires c κs = search needs
 
-put-requires : tie.Need-put-requires Inv-loop μ-loop
-put-requires c κs = states.room-open (here (c .before .before .before .before .before)) ((c .before .before .before .before .if1) .left)
+atom-end-requires : tie.Need-atom-end-requires
+atom-end-requires c κs = search needs
 
-add-used : tie.Need-add-used Inv-loop μ-loop
-add-used c = omega (arith, states.used-most (here (c .before .before .before .before .before .before .before .before)) .0)
+same-length-2 : tie.Need-same-length-2
+same-length-2 c = search needs
 
-add-depth : tie.Need-add-depth Inv-loop μ-loop
-add-depth c = omega (arith, here (c .before .before .before .before .before .before .before .before) .most)
-
-add-at : tie.Need-add-at Inv-loop μ-loop
-add-at c = omega (arith, (c .before .before .before .before .before .before .before .if1) .left, (c .before .before .before .before .before .before .before .before .before .before .before .before .pre) .0 .1)
-
-loop-less : tie.Need-loop-less Inv-loop μ-loop
-loop-less c = omega (arith, (c .before .before .before .before .before .before .before .if1) .left, (c .before .before .before .before .before .before .before .before .skip) .ensures .low)
-
-loop-again : tie.Need-loop-again Inv-loop μ-loop
-loop-again c = rw ((c .before .before .put) .ensures) (states.opens-on (here (c .before .before .before .before .before .before .before .before)) ((c .before .before .before .before .before .before .before .if1) .left) ((c .before .before .before .before .before .if3) .taken) ((c .before .before .before .before .if4) .left))
-
-same-length-4 : tie.Need-same-length-4 Inv-loop μ-loop
-same-length-4 c = states.same-length (here (c .before .before .before .before .before))
-
-returns-4 : tie.Need-returns-4 Inv-loop μ-loop
-returns-4 c = states.stray (here (c .before .before .before .before .before)) ((c .before .before .before .before .if1) .left) ((c .before .if5) .taken) ((c .if6) .taken)
-
-sub-close-list : tie.Need-sub-close-list Inv-loop μ-loop
-sub-close-list c = omega (arith, states.head-used (here (c .before .before .before .before .before .before)) ((c .before .if6) .left))
-
-sub-close-list-2 : tie.Need-sub-close-list-2 Inv-loop μ-loop
-sub-close-list-2 c = omega (arith, states.head-used (here (c .before .before .before .before .before .before)) ((c .before .if6) .left))
-
-close-list-requires : tie.Need-close-list-requires Inv-loop μ-loop
-close-list-requires c κs = states.room-close (here (c .before .before .before .before .before .before)) ((c .before .if6) .left)
-
-sub-depth : tie.Need-sub-depth Inv-loop μ-loop
-sub-depth c = omega (arith, (c .before .before .before .before .if6) .left)
-
-add-at-2 : tie.Need-add-at-2 Inv-loop μ-loop
-add-at-2 c = omega (arith, (c .before .before .before .before .before .before .before .before .if1) .left, (c .before .before .before .before .before .before .before .before .before .before .before .before .before .pre) .0 .1)
-
-same-length-5 : tie.Need-same-length-5 Inv-loop μ-loop
-same-length-5 c = (c .before .before .before .close-list) .kept .0 ∙ states.same-length (here (c .before .before .before .before .before .before .before .before .before .before))
-
-returns-5 : tie.Need-returns-5 Inv-loop μ-loop
-returns-5 c = rw ((c .before .before .before .close-list) .ensures .1) (states.closes-last (here (c .before .before .before .before .before .before .before .before .before .before)) ((c .before .before .before .before .before .before .before .before .before .if1) .left) ((c .before .before .before .before .before .before .if5) .taken) ((c .before .before .before .before .before .if6) .left) ((c .if7) .taken))
-
-loop-less-2 : tie.Need-loop-less-2 Inv-loop μ-loop
-loop-less-2 c = omega (arith, (c .before .before .before .before .before .before .before .before .before .if1) .left, (c .before .before .before .before .before .before .before .before .before .before .skip) .ensures .low)
-
-loop-again-2 : tie.Need-loop-again-2 Inv-loop μ-loop
-loop-again-2 c = rw ((c .before .before .before .close-list) .ensures .0, (c .before .before .before .close-list) .ensures .1) (states.closes-on (here (c .before .before .before .before .before .before .before .before .before .before)) ((c .before .before .before .before .before .before .before .before .before .if1) .left) ((c .before .before .before .before .before .before .if5) .taken) ((c .before .before .before .before .before .if6) .left) ((c .if7) .left))
-
--- the byte in front is a letter
-letter-at : (c : tie.Else5 Inv-loop μ-loop) → kind (getD ((c .before .before .before .before .before .before .before .before .args) .text .now) ((c .before .before .before .before .skip) .result) 0) ≡ letter
-letter-at c = letter-here _ ((c .before .before .before .before .skip) .ensures .noBlank ((c .before .before .before .if1) .left)) ((c .before .before .before .before .skip) .ensures .noComment ((c .before .before .before .if1) .left)) ((c .before .if3) .left) ((c .if5) .left)
-
-mul-put : tie.Need-mul-put Inv-loop μ-loop
-mul-put c = omega (arith, (c .before .before .before .before .if1) .left, (c .before .before .before .before .before .before .before .before .before .pre) .0 .1)
-
-add-put : tie.Need-add-put Inv-loop μ-loop
-add-put c = omega (arith, (c .before .before .before .before .if1) .left, (c .before .before .before .before .before .before .before .before .before .pre) .0 .1)
-
-put-requires-2 : tie.Need-put-requires-2 Inv-loop μ-loop
-put-requires-2 c κs = states.room-word (here (c .before .before .before .before .before)) ((c .before .before .before .before .if1) .left)
-
-add-used-2 : tie.Need-add-used-2 Inv-loop μ-loop
-add-used-2 c = omega (arith, states.used-most (here (c .before .before .before .before .before .before .before .before)) .0)
-
-atom-end-requires : tie.Need-atom-end-requires Inv-loop μ-loop
-atom-end-requires c κs = here (c .before .before .before .before .before .before .before .before) .high
-
-same-length-6 : tie.Need-same-length-6 Inv-loop μ-loop
-same-length-6 c = (c .before .before .before .before .put2) .kept .0 ∙ states.same-length (here (c .before .before .before .before .before .before .before .before .before .before))
-
-returns-6 : tie.Need-returns-6 Inv-loop μ-loop
-returns-6 c = rw ((c .before .before .before .before .put2) .ensures) (states.word-last (here (c .before .before .before .before .before .before .before .before .before .before)) ((c .before .before .before .before .before .before .before .before .before .if1) .left) (letter-at (c .before .before .before .before .before .before)) _ ((c .before .atom-end) .ensures) ((c .if8) .taken))
-
-loop-less-3 : tie.Need-loop-less-3 Inv-loop μ-loop
-loop-less-3 c = omega (arith, states.longer (here (c .before .before .before .before .before .before .before .before .before .before)) ((c .before .before .before .before .before .before .before .before .before .if1) .left) (letter-at (c .before .before .before .before .before .before)) _ ((c .before .atom-end) .ensures), (c .before .before .before .before .before .before .before .before .before .if1) .left, (c .before .before .before .before .before .before .before .before .before .before .skip) .ensures .low)
-
-loop-again-3 : tie.Need-loop-again-3 Inv-loop μ-loop
-loop-again-3 c = rw ((c .before .before .before .before .put2) .ensures) (states.word-on (here (c .before .before .before .before .before .before .before .before .before .before)) ((c .before .before .before .before .before .before .before .before .before .if1) .left) (letter-at (c .before .before .before .before .before .before)) _ ((c .before .atom-end) .ensures) ((c .if8) .left))
+returns-4 : tie.Need-returns-4
+returns-4 c = rw ((c .before .before .before .put) .ensures) (states.word-last (here (c .before .before .before .before .before .before .before .before .before)) ((c .before .before .before .before .before .before .before .before .if1) .left) (letter-here _ ((c .before .before .before .before .before .before .before .before .before .skip) .ensures .noBlank ((c .before .before .before .before .before .before .before .before .if1) .left)) ((c .before .before .before .before .before .before .before .before .before .skip) .ensures .noComment ((c .before .before .before .before .before .before .before .before .if1) .left)) ((c .before .before .before .before .before .before .if2) .left) ((c .before .before .before .before .before .if3) .left)) _ ((c .atom-end) .ensures) refl)
 
 pub read-form-spec : {M : Type 1} → statement M
 read-form-spec =
     tie.close
     (tie.spec
-    Inv-loop
-    μ-loop
-    loop-holds
     skip-requires
-    same-length
     returns
-    clear-requires
-    same-length-2
-    returns-2
     shared-slice-read-b
-    clear-requires-2
-    same-length-3
+    read-list-requires
+    same-length
+    returns-2
     returns-3
-    put-requires
-    add-used
-    add-depth
-    add-at
-    loop-less
-    loop-again
-    same-length-4
-    returns-4
-    sub-close-list
-    sub-close-list-2
-    close-list-requires
-    sub-depth
-    add-at-2
-    same-length-5
-    returns-5
-    loop-less-2
-    loop-again-2
     mul-put
     add-put
-    put-requires-2
-    add-used-2
+    put-requires
     atom-end-requires
-    same-length-6
-    returns-6
-    loop-less-3
-    loop-again-3)
+    same-length-2
+    returns-4)
