@@ -34,19 +34,21 @@ letters (b ∷ t) = elim (kind b) [ blank ↦ [] | left ↦ [] | right ↦ [] | 
 unfoldable pub tokens : Mode → ℕ → List ℕ → List Token
 tokens m at [] = []
 tokens between at (b ∷ t) =
-    elim (kind b)
-    [ blank ↦ tokens between (suc at) t
-    | left ↦ opens at ∷ tokens between (suc at) t
-    | right ↦ closes at ∷ tokens between (suc at) t
-    | semicolon ↦ tokens inComment (suc at) t
-    | letter ↦ word at (b ∷ letters t) ∷ tokens inWord (suc at) t ]
+    elim (kind b) [
+      | blank ↦ tokens between (suc at) t
+      | left ↦ opens at ∷ tokens between (suc at) t
+      | right ↦ closes at ∷ tokens between (suc at) t
+      | semicolon ↦ tokens inComment (suc at) t
+      | letter ↦ word at (b ∷ letters t) ∷ tokens inWord (suc at) t
+    ]
 tokens inWord at (b ∷ t) =
-    elim (kind b)
-    [ blank ↦ tokens between (suc at) t
-    | left ↦ opens at ∷ tokens between (suc at) t
-    | right ↦ closes at ∷ tokens between (suc at) t
-    | semicolon ↦ tokens inComment (suc at) t
-    | letter ↦ tokens inWord (suc at) t ]
+    elim (kind b) [
+      | blank ↦ tokens between (suc at) t
+      | left ↦ opens at ∷ tokens between (suc at) t
+      | right ↦ closes at ∷ tokens between (suc at) t
+      | semicolon ↦ tokens inComment (suc at) t
+      | letter ↦ tokens inWord (suc at) t
+    ]
 tokens inComment at (b ∷ t) = elim (eqb b 10) [ true ↦ tokens between (suc at) t | false ↦ tokens inComment (suc at) t ]
 
 -- `unfolding lexing` opens all of the above, for a computation

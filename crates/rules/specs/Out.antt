@@ -41,6 +41,12 @@ abbrev pub found : {S A : Type 0} → ℕ → Option A → Act S A
 found n (some a) s = ok a s
 found n nothing s = refuse n 0 s
 
+abbrev pub get : {S : Type 0} → Act S S
+get s = ok s s
+
+abbrev pub put : {S : Type 0} → S → Act S (Unit {0})
+put a s = ok tt a
+
 -- an action with a state of its own, which begins so, beside what goes on
 unfoldable pub beside : {S T A : Type 0} → S → Act S A → Act T (A × S)
 beside s m t = elim (m s) [ ok a u ↦ ok (a, u) t | refuse n d u ↦ refuse n d t ]

@@ -87,8 +87,10 @@ fit T vs (more t ts) (s ∷ ss) = elim (eqb (sortOf T vs t) s) [ true ↦ fit T 
 unfoldable pub varNamed : List Var → List ℕ → Option ℕ
 varNamed vs n = first (λ v. same (v .name .bytes) n) vs 0
 
-unfoldable pub defNamed : List Def → List ℕ → Option ℕ
-defNamed ds n = first (λ d. same (d .name .bytes) n) ds 0
+-- the term that a name abbreviates
+unfoldable pub abbreviated : List Def → List ℕ → Option Tree
+abbreviated [] n = nothing
+abbreviated (d ∷ ds) n = elim (same (d .name .bytes) n) [ true ↦ some (d .term) | false ↦ abbreviated ds n ]
 
 unfoldable pub goalNamed : List Goal → List ℕ → Option ℕ
 goalNamed gs n = first (λ g. same (g .name .bytes) n) gs 0
@@ -143,5 +145,5 @@ entries S = goalEntries (S .goals) + allEntries (S .facts)
 
 -- `unfolding states` opens all of the above, for a computation
 unfoldable pub states : Unit {0}
-unfolding theories sortOfVar sortOf fit varNamed defNamed goalNamed isNone isEmpty isPlain mentioned free freeAt hypVars goalEntries factEntries allEntries entries
+unfolding theories sortOfVar sortOf fit varNamed abbreviated goalNamed isNone isEmpty isPlain mentioned free freeAt hypVars goalEntries factEntries allEntries entries
 states = tt

@@ -29,12 +29,14 @@ words (t ∷ m) = node t + words m
 -- the tree itself, once: its arguments are there
 unfoldable pub keep : Tree → Act Made Tree
 keep t m =
-    elim (stored m t)
-    [ true ↦ ok t m
-    | false ↦
-      elim (ltb (length m) TERMS)
-      [ true ↦ elim (leb (words m + node t) WORDS) [ true ↦ ok t (m ++ (t ∷ [])) | false ↦ refuse 60 9 m ]
-      | false ↦ refuse 60 8 m ] ]
+    elim (stored m t) [
+      | true ↦ ok t m
+      | false ↦
+          elim (ltb (length m) TERMS) [
+            | true ↦ elim (leb (words m + node t) WORDS) [ true ↦ ok t (m ++ (t ∷ [])) | false ↦ refuse 60 9 m ]
+            | false ↦ refuse 60 8 m
+          ]
+    ]
 
 -- the tree with all below it, arguments first, left to right
 unfoldable mutual

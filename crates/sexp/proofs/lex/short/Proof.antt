@@ -1,0 +1,14 @@
+use Rattle.rules.specs.Text.{short}
+use borrow.Author.Needs.{needs}
+use Rattle.sexp.proofs.lex.short.Statement.{statement}
+use Rattle.sexp.proofs.lex.short.Tie as tie
+use Rattle.sexp.proofs.lex.short.Reads as reads
+use Rattle.sexp.proofs.lex.short.Lts as lts
+
+-- src/lex.rt:19:1
+returns : tie.Need-returns
+unfolding short
+returns c = search needs
+
+pub short-spec : {M : Type 1} → statement M
+short-spec = tie.close (tie.spec returns)

@@ -1,0 +1,123 @@
+// The questions put to a text before it is read, and what stands at a place of it. How wide the white space at a place is, and which
+// bytes are allowed, is said here alone.
+ghost use mathlib.Core.Path.{_≡_};
+ghost use Prim.Native.Nat.{ℕ, _+_, _*_, _≤_, _<_};
+ghost use lib.Dec.{leb};
+ghost use lib.ListN.{length, getD, drop};
+ghost use Rattle.rules.specs.Text.{plain, short};
+ghost use Rattle.rules.specs.Lex.{white, kind, letters};
+ghost use Rattle.sexp.specs.Lexed.{wide, isLetter, LineEnd, Skipped};
+
+// Question 1, of one table.
+pub fn fits(len: usize, limit: usize) -> bool
+    ensures { λ r. ⌜ r ≡ leb limit len ⌝ }
+{
+    limit <= len
+}
+
+// Question 2.
+pub fn short(text: &[u8]) -> bool
+    ensures { λ r. ⌜ r ≡ short (now (text .entry)) ⌝ }
+{
+    text.len() <= rules::LENGTH
+}
+
+// Question 3.
+pub fn plain(text: &[u8]) -> bool
+    ensures { λ r. ⌜ r ≡ plain (now (text .entry)) ⌝ }
+{
+    let mut at = 0;
+    while at < text.len() {
+        if 127 < text[at] {
+            return false;
+        }
+        at += 1;
+    }
+    true
+}
+
+// How many bytes of white space stand at a place; 0 where there is none.
+pub fn white(text: &[u8], at: usize) -> usize
+    requires { ⌜ at < length (now text) ⌝ }
+    ensures { λ r. ⌜ r ≡ wide (white (getD (now (text .entry)) at 0)) ⌝ }
+{
+    let b = text[at];
+    if b == 32 {
+        return 1;
+    }
+    if b < 9 {
+        return 0;
+    }
+    if b <= 13 {
+        return 1;
+    }
+    0
+}
+
+// Whether the byte at a place belongs to an atom.
+fn is_letter(text: &[u8], at: usize) -> bool
+    requires { ⌜ at < length (now text) ⌝ }
+    ensures { λ r. ⌜ r ≡ isLetter (kind (getD (now (text .entry)) at 0)) ⌝ }
+{
+    if white(text, at) != 0 {
+        return false;
+    }
+    let b = text[at];
+    if b == b'(' {
+        return false;
+    }
+    if b == b')' {
+        return false;
+    }
+    b != b';'
+}
+
+// The place behind the atom that begins, or goes on, at a place.
+pub fn atom_end(text: &[u8], start: usize) -> usize
+    requires { ⌜ start ≤ length (now text) ⌝ }
+    ensures { λ r. ⌜ r ≡ start + length (letters (drop start (now (text .entry)))) ⌝ }
+{
+    let mut at = start;
+    while at < text.len() {
+        if is_letter(text, at) {
+            at += 1;
+        } else {
+            return at;
+        }
+    }
+    at
+}
+
+// The place of the next byte 10, or the end of the text.
+fn line_end(text: &[u8], from: usize) -> usize
+    requires { ⌜ from ≤ length (now text) ⌝ }
+    ensures { λ r. ⌜ LineEnd (now (text .entry)) from r ⌝ }
+{
+    let mut at = from;
+    while at < text.len() {
+        if text[at] == 10 {
+            return at;
+        }
+        at += 1;
+    }
+    at
+}
+
+// The first place that is neither white space nor in a comment.
+pub(crate) fn skip(text: &[u8], from: usize) -> usize
+    requires { ⌜ from ≤ length (now text) ⌝ }
+    ensures { λ r. ⌜ Skipped (now (text .entry)) from r ⌝ }
+{
+    let mut at = from;
+    while at < text.len() {
+        let w = white(text, at);
+        if w != 0 {
+            at += w;
+        } else if text[at] == b';' {
+            at = line_end(text, at + 1);
+        } else {
+            return at;
+        }
+    }
+    at
+}
