@@ -8,3 +8,5 @@ pub mod Finds
 pub mod Nodes
 pub mod Sames
 pub mod Keeps
+pub mod Matches
+pub mod MatchTerms
