@@ -10,3 +10,7 @@ pub mod Sames
 pub mod Keeps
 pub mod Matches
 pub mod MatchTerms
+pub mod MatchLists
+pub mod Forgets
+pub mod Builds
+pub mod BuildTerms

@@ -186,7 +186,7 @@ module _ (S P I W : List ℕ) (m : Mark) (B : List ℕ) (at id s e : ℕ) (C : L
         }
 
   pub looping-miss : k < e → (D : List ℕ) (r : ℕ) → TriedAt S P I W m C D place (getD W k 0) r → r ≡ 0 → TriedAt S P I W m B D at id 0
-  looping-miss h D r c z p st = matching-miss S P N _ _ C place _ _ D r (next h p st) c z
+  looping-miss h D r c z p st = let a = matching-miss S P N _ _ C place _ _ D r (next h p st) c z in miss (a .0) (a .1) refl
 
   pub looping-on : k < e → (D : List ℕ) (r : ℕ) → TriedAt S P I W m C D place (getD W k 0) r → (r ≡ 0 → ⊥) → length D ≡ length C → Looping S P I W m B at id s e D r (k + 1)
   looping-on h D r c n l =
@@ -198,5 +198,5 @@ module _ (S P I W : List ℕ) (m : Mark) (B : List ℕ) (at id s e : ℕ) (C : L
 
   pub looping-ends : e ≤ k → TriedAt S P I W m B C at id place
   looping-ends h p st =
-      matching-ends S P N _ _ C place
-        (subst (Matching S P N (matches p (getD N id (var 0)) (boundOf N B)) (at + size p) C place) (run-none W k e h) (q .going p st))
+      let a = matching-ends S P N _ _ C place (subst (Matching S P N (matches p (getD N id (var 0)) (boundOf N B)) (at + size p) C place) (run-none W k e h) (q .going p st)) in
+      hit (a .0) (a .1) (a .2)

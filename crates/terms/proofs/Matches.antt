@@ -185,22 +185,23 @@ module _ (S P : List ℕ) (M : Made) (K : Option Bound) (behind : ℕ) (C : List
                   }
             done (miss a cs b) = absurd (n b)
 
-    pub matching-miss : r ≡ 0 → Tried M D K behind 0
+    pub matching-miss : r ≡ 0 → (K ≡ nothing) × (length D ≡ RULEVARS)
     unfolding Stands countTrees size matches argsOf andThen
     matching-miss z = go (q .patterns) (q .stands) (q .count) (q .left)
       where
-        go : (ps : Trees) → Standing S P place ps → countTrees ps ≡ suc (length xs) → K ≡ matchAll ps (argsOf M (x ∷ xs)) (boundOf M C) → Tried M D K behind 0
+        go : (ps : Trees) → Standing S P place ps → countTrees ps ≡ suc (length xs) → K ≡ matchAll ps (argsOf M (x ∷ xs)) (boundOf M C) → (K ≡ nothing) × (length D ≡ RULEVARS)
         go none s e k = absurd (omega arith)
         go (more p ps) s e k = done (called p (s .0))
           where
-            done : Tried M D (matches p (getD M x (var 0)) (boundOf M C)) (place + size p) r → Tried M D K behind 0
+            done : Tried M D (matches p (getD M x (var 0)) (boundOf M C)) (place + size p) r → (K ≡ nothing) × (length D ≡ RULEVARS)
             done (hit a cs b) = let some = size-some p in absurd (omega arith)
-            done (miss a cs b) = miss (k ∙ ap (λ (o : Option Bound). andThen o (λ c. matchAll ps (argsOf M xs) c)) a) cs refl
+            done (miss a cs b) = (k ∙ ap (λ (o : Option Bound). andThen o (λ c. matchAll ps (argsOf M xs) c)) a, cs)
 
-  pub matching-ends : Matching S P M K behind C place [] → Tried M C K behind place
+  pub matching-ends : Matching S P M K behind C place [] → (K ≡ some (boundOf M C)) × Cells (length M) C × (place ≡ behind)
   unfolding countTrees size matches argsOf
   matching-ends q = go (q .patterns) (q .count) (q .ends) (q .left)
     where
-      go : (ps : Trees) → countTrees ps ≡ 0 → place + sizes ps ≡ behind → K ≡ matchAll ps none (boundOf M C) → Tried M C K behind place
-      go none e f k = hit k (q .cells) (omega arith)
+      go : (ps : Trees) → countTrees ps ≡ 0 → place + sizes ps ≡ behind → K ≡ matchAll ps none (boundOf M C)
+          → (K ≡ some (boundOf M C)) × Cells (length M) C × (place ≡ behind)
+      go none e f k = (k, q .cells, omega arith)
       go (more p ps) e f k = absurd (omega arith)

@@ -131,7 +131,7 @@ tree-node M k (isApp {h = h} {xs = xs} p b) = ap node (tree-app M h xs p) ∙ ap
 
 -- Tables that are good -----------------------------------------------------------------------------------------------------------------
 
-rising : (I : List ℕ) (i n : ℕ) → ((j : ℕ) → j < n → start I j < getD I j 0) → i < n → getD I i 0 ≤ start I n
+pub rising : (I : List ℕ) (i n : ℕ) → ((j : ℕ) → j < n → start I j < getD I j 0) → i < n → getD I i 0 ≤ start I n
 unfolding start
 rising I i zero r l = absurd (not-suc-le-zero l)
 rising I i (suc n) r l = ⊎-elim (λ p. let z = rising I i n (λ j k. r j (omega arith)) p in let y = r n (omega arith) in omega arith) (λ e. rw e (omega arith)) (last-or i n l)

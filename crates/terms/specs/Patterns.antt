@@ -2,15 +2,19 @@
 -- what matching and building answer. Assumes nothing.
 use mathlib.Core.Path.{_≡_}
 use Prim.Native.Nat.{ℕ, zero, suc, _+_, _*_, _≤_, _<_}
+use mathlib.Core.Bool.{Bool, true, false}
 use mathlib.Core.List.{List, [], _∷_}
 use mathlib.Core.Option.{Option, some, none as nothing}
 use lib.ListN.{length, getD}
 use Rattle.rules.specs.Limits.{SYMBOLS, ARGUMENTS, RULEVARS}
+use Rattle.rules.specs.Out.{Out, ok, refuse}
 use Rattle.rules.specs.Tree.{Tree, Trees, var, app, none, more, size, sizes, countTrees}
 use Rattle.rules.specs.Store.{Made}
-use Rattle.rules.specs.Match.{Bound, matches, matchAll}
+use Rattle.rules.specs.Match.{Bound, matches, matchAll, build}
 use Rattle.terms.specs.declared.store.Mark.{Mark}
-use Rattle.terms.specs.Table.{made, argsOf, Good}
+use Rattle.terms.specs.declared.patterns.Built.{Built}
+use Rattle.terms.specs.declared.patterns.Built.the-variants.{Term, No}
+use Rattle.terms.specs.Table.{made, argsOf, Good, Grown}
 
 -- Patterns in words ------------------------------------------------------------------------------------------------------------
 
@@ -79,26 +83,64 @@ pub data Tried (M : Made) (C : List ℕ) (K : Option Bound) (behind r : ℕ) : T
   hit : K ≡ some (boundOf M C) → Cells (length M) C → r ≡ behind → Tried M C K behind r
   miss : K ≡ nothing → length C ≡ RULEVARS → r ≡ 0 → Tried M C K behind r
 
--- the same, and without a match the cells are as they were, B
+-- the same for many patterns, with a yes or no
+pub data AllTried (M : Made) (C : List ℕ) (K : Option Bound) (r : Bool) : Type 0 where
+  hits : K ≡ some (boundOf M C) → Cells (length M) C → r ≡ true → AllTried M C K r
+  misses : K ≡ nothing → length C ≡ RULEVARS → r ≡ false → AllTried M C K r
+
+-- what is answered: without a match the cells are as they were, B
 pub data Matched (M : Made) (B C : List ℕ) (K : Option Bound) (behind r : ℕ) : Type 0 where
   matched : K ≡ some (boundOf M C) → Cells (length M) C → r ≡ behind → Matched M B C K behind r
   other : K ≡ nothing → C ≡ B → r ≡ 0 → Matched M B C K behind r
+
+pub data AllMatched (M : Made) (B C : List ℕ) (K : Option Bound) (r : Bool) : Type 0 where
+  all : K ≡ some (boundOf M C) → Cells (length M) C → r ≡ true → AllMatched M B C K r
+  notAll : K ≡ nothing → C ≡ B → r ≡ false → AllMatched M B C K r
 
 -- whatever pattern stands there
 abbrev pub TriedAt : List ℕ → List ℕ → List ℕ → List ℕ → Mark → List ℕ → List ℕ → ℕ → ℕ → ℕ → Type 0
 TriedAt S P I W m B C at id r =
     (p : Tree) → Stands S P at p → Tried (made I W m) C (matches p (getD (made I W m) id (var 0)) (boundOf (made I W m) B)) (at + size p) r
 
-abbrev pub TriedAll : List ℕ → List ℕ → List ℕ → List ℕ → Mark → List ℕ → List ℕ → ℕ → List ℕ → ℕ → Type 0
-TriedAll S P I W m B C at xs r =
-    (ps : Trees) → Standing S P at ps → countTrees ps ≡ length xs →
-    Tried (made I W m) C (matchAll ps (argsOf (made I W m) xs) (boundOf (made I W m) B)) (at + sizes ps) r
-
 abbrev pub MatchedAt : List ℕ → List ℕ → List ℕ → List ℕ → Mark → List ℕ → List ℕ → ℕ → ℕ → ℕ → Type 0
 MatchedAt S P I W m B C at id r =
     (p : Tree) → Stands S P at p → Matched (made I W m) B C (matches p (getD (made I W m) id (var 0)) (boundOf (made I W m) B)) (at + size p) r
 
-abbrev pub MatchedAll : List ℕ → List ℕ → List ℕ → List ℕ → Mark → List ℕ → List ℕ → ℕ → List ℕ → ℕ → Type 0
+-- whatever patterns stand there, as many as terms
+abbrev pub TriedAll : List ℕ → List ℕ → List ℕ → List ℕ → Mark → List ℕ → List ℕ → ℕ → List ℕ → Bool → Type 0
+TriedAll S P I W m B C at xs r =
+    (ps : Trees) → Standing S P at ps → countTrees ps ≡ length xs → AllTried (made I W m) C (matchAll ps (argsOf (made I W m) xs) (boundOf (made I W m) B)) r
+
+abbrev pub MatchedAll : List ℕ → List ℕ → List ℕ → List ℕ → Mark → List ℕ → List ℕ → ℕ → List ℕ → Bool → Type 0
 MatchedAll S P I W m B C at xs r =
-    (ps : Trees) → Standing S P at ps → countTrees ps ≡ length xs →
-    Matched (made I W m) B C (matchAll ps (argsOf (made I W m) xs) (boundOf (made I W m) B)) (at + sizes ps) r
+    (ps : Trees) → Standing S P at ps → countTrees ps ≡ length xs → AllMatched (made I W m) B C (matchAll ps (argsOf (made I W m) xs) (boundOf (made I W m) B)) r
+
+-- Building ---------------------------------------------------------------------------------------------------------------------
+
+-- a pattern at `at` can be built
+pub record Buildable (S P I W : List ℕ) (m : Mark) (B : List ℕ) (at : ℕ) : Type 0 where
+  pub good : Good I W m
+  pub symbols : length S ≡ 4 * SYMBOLS
+  pub reads : Reads S P at
+  pub cells : Cells (m .terms) B
+
+-- K is the definition's answer: term n, and the tables hold what is made
+pub record Builds (I W J X : List ℕ) (old : Mark) (K : Out Made Tree) (behind n place : ℕ) (new : Mark) : Type 0 where
+  pub grown : Grown I W J X old new
+  pub makes : K ≡ ok (getD (made J X new) n (var 0)) (made J X new)
+  pub there : n < new .terms
+  pub after : place ≡ behind
+
+-- the definition refuses by question q, and the tables hold what was made until then
+pub record Stops (I W J X : List ℕ) (old : Mark) (K : Out Made Tree) (q d : ℕ) (new : Mark) : Type 0 where
+  pub grown : Grown I W J X old new
+  pub makes : K ≡ refuse q d (made J X new)
+
+abbrev pub BuiltBy : List ℕ → List ℕ → List ℕ → List ℕ → Mark → Out Made Tree → ℕ → Built → Type 0
+BuiltBy I W J X old K behind (Term n place new) = Builds I W J X old K behind n place new
+BuiltBy I W J X old K behind (No q d new) = Stops I W J X old K q d new
+
+-- whatever pattern stands there
+abbrev pub BuiltAt : List ℕ → List ℕ → List ℕ → List ℕ → List ℕ → List ℕ → Mark → List ℕ → ℕ → Built → Type 0
+BuiltAt S P I W J X m B at r =
+    (p : Tree) → Stands S P at p → BuiltBy I W J X m (build p (boundOf (made I W m) B) (made I W m)) (at + size p) r
