@@ -14,3 +14,5 @@ pub mod MatchLists
 pub mod Forgets
 pub mod Builds
 pub mod BuildTerms
+pub mod Determined
+pub mod Prefix

@@ -141,7 +141,7 @@ module _ (I W : List ℕ) (m : Mark) (g : Good I W m) where
   pub tree-here : (i : ℕ) → i < m .terms → getD (trees I W (m .terms)) i (var 0) ≡ treeAt (trees I W (m .terms)) (nodeAt I W i)
   tree-here i h = getD-trees I W (m .terms) i h ∙ tree-agree (trees I W i) (trees I W (m .terms)) i (g .shaped i h) (λ j l. getD-trees I W i j l ∙ sym (getD-trees I W (m .terms) j (omega arith)))
 
-  wide : (i : ℕ) → i < m .terms → Shaped (length (trees I W (m .terms))) (nodeAt I W i)
+  pub wide : (i : ℕ) → i < m .terms → Shaped (length (trees I W (m .terms))) (nodeAt I W i)
   wide i h = wider i (length (trees I W (m .terms))) (let z = length-trees I W (m .terms) in omega arith) (g .shaped i h)
 
   -- a node that no term has stands for no term's tree

@@ -22,7 +22,18 @@ use Rattle.terms.specs.Table.{made, argsOf, Good, Grown}
 abbrev pub arity : List ℕ → ℕ → ℕ
 arity S c = getD S (4 * c + 1) 0
 
--- the words P hold the pattern from `at` on, in prefix notation, and each symbol has as many arguments as the symbol table S gives it
+-- each symbol of the pattern has as many arguments as the symbol table gives it, and each variable has a cell
+unfoldable mutual
+  pub Fits : List ℕ → Tree → Type 0
+  Fits S (var v) = v < RULEVARS
+  Fits S (app c ts) = (c < SYMBOLS) × (countTrees ts ≡ arity S c) × (countTrees ts ≤ ARGUMENTS) × FitsAll S ts
+
+  pub FitsAll : List ℕ → Trees → Type 0
+  FitsAll S none = Unit {0}
+  FitsAll S (more t ts) = Fits S t × FitsAll S ts
+
+-- the words P hold the pattern from `at` on, in prefix notation, and it fits the symbol table S: place by place what `prefix` says of
+-- the words (proofs/Prefix.antt)
 unfoldable mutual
   pub Stands : List ℕ → List ℕ → ℕ → Tree → Type 0
   Stands S P at (var v) = (at < length P) × (getD P at 0 ≡ SYMBOLS + v) × (v < RULEVARS)
