@@ -16,3 +16,4 @@ pub mod Builds
 pub mod BuildTerms
 pub mod Determined
 pub mod Prefix
+pub mod Skips

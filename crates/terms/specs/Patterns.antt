@@ -6,6 +6,7 @@ use mathlib.Core.Bool.{Bool, true, false}
 use mathlib.Core.List.{List, [], _∷_}
 use mathlib.Core.Option.{Option, some, none as nothing}
 use lib.ListN.{length, getD}
+use lib.Dec.{ltb}
 use Rattle.rules.specs.Limits.{SYMBOLS, ARGUMENTS, RULEVARS}
 use Rattle.rules.specs.Out.{Out, ok, refuse}
 use Rattle.rules.specs.Tree.{Tree, Trees, var, app, none, more, size, sizes, countTrees}
@@ -54,6 +55,19 @@ pub record ReadsAll (S P : List ℕ) (at n : ℕ) : Type 0 where
   pub patterns : Trees
   pub stands : Standing S P at patterns
   pub count : countTrees patterns ≡ n
+
+-- n patterns from that place on, over a whole symbol table
+pub record Skippable (S P : List ℕ) (at n : ℕ) : Type 0 where
+  pub symbols : length S ≡ 4 * SYMBOLS
+  pub reads : ReadsAll S P at n
+
+-- the place behind n patterns, whatever they are
+abbrev pub Skipped : List ℕ → List ℕ → ℕ → ℕ → ℕ → Type 0
+Skipped S P at n r = (ps : Trees) → Standing S P at ps → countTrees ps ≡ n → r ≡ at + sizes ps
+
+-- how many patterns stand behind a word as its arguments
+unfoldable pub argsAt : List ℕ → ℕ → ℕ
+argsAt S h = elim (ltb h SYMBOLS) [ true ↦ arity S h | false ↦ 0 ]
 
 -- Bindings in cells ------------------------------------------------------------------------------------------------------------
 

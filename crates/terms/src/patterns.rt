@@ -1,9 +1,10 @@
 // Rules' patterns over the store (specs/Patterns.antt says how words stand for a pattern and cells for bindings). A pattern is read in
 // prefix notation from a place on, and each function finds the place behind it on the way.
 ghost use mathlib.Core.Path.{_≡_};
-ghost use Prim.Native.Nat.{ℕ, _+_, _≤_, _<_};
+ghost use Prim.Native.Nat.{ℕ, _+_, _*_, _≤_, _<_};
 ghost use lib.ListN.{length};
-ghost use Rattle.terms.specs.Patterns.{Matchable, AllMatchable, TriedAt, TriedAll, MatchedAt, MatchedAll, Buildable, BuiltAt};
+ghost use Rattle.rules.specs.Limits.{SYMBOLS};
+ghost use Rattle.terms.specs.Patterns.{Skippable, Skipped, argsAt, Matchable, AllMatchable, TriedAt, TriedAll, MatchedAt, MatchedAll, Buildable, BuiltAt};
 use crate::store::Kept;
 use crate::store::Mark;
 use crate::store::keep;
@@ -14,6 +15,32 @@ use rules::SYMBOLS;
 pub enum Built {
     Term(usize, usize, Mark),
     No(usize, usize, Mark),
+}
+
+// How many arguments stand behind a word: a symbol's, or none behind a variable.
+fn args_of(symbols: &[u32], head: usize) -> usize
+    requires { ⌜ length (now symbols) ≡ 4 * SYMBOLS ⌝ }
+    ensures { λ r. ⌜ r ≡ argsAt (now (symbols .entry)) head ⌝ }
+{
+    if head < SYMBOLS {
+        return symbols[4 * head + 1] as usize;
+    }
+    0
+}
+
+// The place behind the words of n patterns.
+pub fn skip(symbols: &[u32], patterns: &[u32], at: usize, n: usize) -> usize
+    requires { ⌜ Skippable (now symbols) (now patterns) at n ⌝ }
+    ensures { λ r. ⌜ Skipped (now (symbols .entry)) (now (patterns .entry)) at n r ⌝ }
+{
+    let mut place = at;
+    let mut left = n;
+    while left != 0 {
+        let args = args_of(symbols, patterns[place] as usize);
+        left = left - 1 + args;
+        place += 1;
+    }
+    place
 }
 
 // The pattern at `at` meets the term `id`: the place behind its words, or 0 where it is no match; then the cells are of no use.
