@@ -90,15 +90,17 @@ pub record Building (S P I W : List ℕ) (m : Mark) (B : List ℕ) (at c count :
   pub going : (p : Tree) → Stands S P at p → Remaining S P (boundOf (made I W m) B) (build p (boundOf (made I W m) B) (made I W m)) (at + size p) c count (made J X new) place k (run w 1 k)
 
 pub building-begins : (S P I W : List ℕ) (m : Mark) (B : List ℕ) (at : ℕ) → Buildable S P I W m B at → getD P at 0 < SYMBOLS
-    → (w : List ℕ) → length w ≡ 17 → getD w 0 0 ≡ getD P at 0 → Building S P I W m B at (getD P at 0) (arity S (getD P at 0)) I W w m (at + 1) 0
-building-begins S P I W m B at q l w n e =
+    → (count : ℕ) → count ≡ arity S (getD P at 0) → (w : List ℕ) → length w ≡ 17 → getD w 0 0 ≡ getD P at 0 → Building S P I W m B at (getD P at 0) count I W w m (at + 1) 0
+building-begins S P I W m B at q l count f w n e =
     let a = stands-app S P at (q .reads .tree) (q .reads .stands) l in
     let b = a .count in
     let d = a .few in
     record
       { asked = q; small = l; few = omega arith; upto = omega arith; beyond = omega arith; grown = grown-self I W m (q .good); long = n; first = e
       ; args = λ j h. absurd (omega arith)
-      ; going = λ p st. remaining-begins S P (boundOf (made I W m) B) (made I W m) at p st l
+      ; going = λ p st.
+          subst (λ (k : ℕ). Remaining S P (boundOf (made I W m) B) (build p (boundOf (made I W m) B) (made I W m)) (at + size p) (getD P at 0) k (made I W m) (at + 1) 0 []) (sym f)
+            (remaining-begins S P (boundOf (made I W m) B) (made I W m) at p st l)
       }
 
 module _ (S P I W : List ℕ) (m : Mark) (B : List ℕ) (at c count : ℕ) (J X w : List ℕ) (new : Mark) (place k : ℕ) (q : Building S P I W m B at c count J X w new place k) where

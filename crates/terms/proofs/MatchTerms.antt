@@ -107,15 +107,15 @@ module _ (S P I W : List ℕ) (m : Mark) (B : List ℕ) (at id : ℕ) (q : Match
         let y = run-length W (s + 1) (getD I id 0 - (s + 1)) (omega arith) in
         omega arith
 
-    pub term-count : getD W s 0 ≡ getD P at 0 → (getD I id 0 - s ≡ arity S (getD P at 0) + 1 → ⊥) → TriedAt S P I W m B B at id 0
-    term-count h n =
+    pub term-count : getD W s 0 ≡ getD P at 0 → (a : ℕ) → a ≡ arity S (getD P at 0) → (getD I id 0 - s - 1 ≡ a → ⊥) → TriedAt S P I W m B B at id 0
+    term-count h k f n =
         as-app B 0
           (λ ts c.
             app-same M (getD P at 0) ts (boundOf M B) l (getD W s 0) xs h
             ∙ all-other ts (argsOf M xs) (boundOf M B) (λ d. let a = args-count M xs in let b = long-args in n (omega arith)))
           (q .cells .long) refl
 
-    pub matching-begins : getD W s 0 ≡ getD P at 0 → getD I id 0 - s ≡ arity S (getD P at 0) + 1 → (p : Tree) → Stands S P at p
+    pub matching-begins : getD W s 0 ≡ getD P at 0 → getD I id 0 - s - 1 ≡ arity S (getD P at 0) → (p : Tree) → Stands S P at p
         → Matching S P M (matches p (getD M id (var 0)) (boundOf M B)) (at + size p) B (at + 1) xs
     unfolding size
     matching-begins h n p st =
@@ -147,14 +147,14 @@ pub record Looping (S P I W : List ℕ) (m : Mark) (B : List ℕ) (at id s e : �
   pub going : (p : Tree) → Stands S P at p → Matching S P (made I W m) (matches p (getD (made I W m) id (var 0)) (boundOf (made I W m) B)) (at + size p) C place (run W k (e - k))
 
 pub looping-begins : (S P I W : List ℕ) (m : Mark) (B : List ℕ) (at id s : ℕ) → Matchable S P I W m B at id → getD P at 0 < SYMBOLS → s ≡ start I id
-    → getD W s 0 ≡ getD P at 0 → getD I id 0 - s ≡ arity S (getD P at 0) + 1 → Looping S P I W m B at id s (getD I id 0) B (at + 1) (s + 1)
-looping-begins S P I W m B at id s q l e h n =
+    → getD W s 0 ≡ getD P at 0 → (a : ℕ) → a ≡ arity S (getD P at 0) → getD I id 0 - s - 1 ≡ a → Looping S P I W m B at id s (getD I id 0) B (at + 1) (s + 1)
+looping-begins S P I W m B at id s q l e h d k n =
     let f = node-fits I W m id s (q .good) (q .there) e in
     let a = f .0 in
     let b = f .1 in
     record
       { asked = q; started = e; ended = refl; from = omega arith; upto = omega arith; fits = b; long = refl
-      ; going = matching-begins S P I W m B at id q s e l h n
+      ; going = matching-begins S P I W m B at id q s e l h (n ∙ k)
       }
 
 module _ (S P I W : List ℕ) (m : Mark) (B : List ℕ) (at id s e : ℕ) (C : List ℕ) (place k : ℕ) (q : Looping S P I W m B at id s e C place k) where

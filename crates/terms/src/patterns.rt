@@ -4,7 +4,7 @@ ghost use mathlib.Core.Path.{_≡_};
 ghost use Prim.Native.Nat.{ℕ, _+_, _*_, _≤_, _<_};
 ghost use lib.ListN.{length};
 ghost use Rattle.rules.specs.Limits.{SYMBOLS};
-ghost use Rattle.terms.specs.Patterns.{Skippable, Skipped, argsAt, Matchable, AllMatchable, TriedAt, TriedAll, MatchedAt, MatchedAll, Buildable, BuiltAt};
+ghost use Rattle.terms.specs.Patterns.{arity, Skippable, Skipped, argsAt, Matchable, AllMatchable, TriedAt, TriedAll, MatchedAt, MatchedAll, Buildable, BuiltAt};
 use crate::store::Kept;
 use crate::store::Mark;
 use crate::store::keep;
@@ -17,13 +17,21 @@ pub enum Built {
     No(usize, usize, Mark),
 }
 
+// How many arguments the symbol takes.
+fn arity_of(symbols: &[u32], symbol: usize) -> usize
+    requires { ⌜ (length (now symbols) ≡ 4 * SYMBOLS) × (symbol < SYMBOLS) ⌝ }
+    ensures { λ r. ⌜ r ≡ arity (now (symbols .entry)) symbol ⌝ }
+{
+    symbols[4 * symbol + 1] as usize
+}
+
 // How many arguments stand behind a word: a symbol's, or none behind a variable.
 fn args_of(symbols: &[u32], head: usize) -> usize
     requires { ⌜ length (now symbols) ≡ 4 * SYMBOLS ⌝ }
     ensures { λ r. ⌜ r ≡ argsAt (now (symbols .entry)) head ⌝ }
 {
     if head < SYMBOLS {
-        return symbols[4 * head + 1] as usize;
+        return arity_of(symbols, head);
     }
     0
 }
@@ -66,7 +74,7 @@ fn match_term(symbols: &[u32], patterns: &[u32], index: &[u32], words: &[u32], m
     if words[start] as usize != head {
         return 0;
     }
-    if end - start != symbols[4 * head + 1] as usize + 1 {
+    if end - start - 1 != arity_of(symbols, head) {
         return 0;
     }
     let mut place = at + 1;
@@ -153,7 +161,7 @@ pub fn build(symbols: &[u32], patterns: &[u32], index: &mut [u32], words: &mut [
         }
         return Built::Term(cell - 1, at + 1, mark);
     }
-    let count = symbols[4 * head + 1] as usize;
+    let count = arity_of(symbols, head);
     let mut node = [0u32; 17];
     node[0] = head as u32;
     let mut m = mark;
