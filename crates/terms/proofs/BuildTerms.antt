@@ -51,22 +51,22 @@ module _ (S P I W : List ℕ) (m : Mark) (B : List ℕ) (at : ℕ) (q : Buildabl
   pub build-unbound : SYMBOLS ≤ getD P at 0 → getD B (getD P at 0 - SYMBOLS) 0 ≡ 0 → BuiltAt S P I W I W m B at (No 38 0 m)
   build-unbound l e p st =
       let v = stands-var S P at p st l in
-      record
-        { grown = grown-self I W m (q .good)
-        ; makes = ap (λ (t : Tree). build t (boundOf (made I W m) B) (made I W m)) (v .0) ∙ build-none (made I W m) B _ e
-        }
+      record {
+        grown = grown-self I W m (q .good);
+        makes = ap (λ (t : Tree). build t (boundOf (made I W m) B) (made I W m)) (v .0) ∙ build-none (made I W m) B _ e;
+      }
 
   pub build-bound : SYMBOLS ≤ getD P at 0 → (getD B (getD P at 0 - SYMBOLS) 0 ≡ 0 → ⊥) → BuiltAt S P I W I W m B at (Term (getD B (getD P at 0 - SYMBOLS) 0 - 1) (at + 1) m)
   unfolding size
   build-bound l n p st =
       let v = stands-var S P at p st l in
       let w = q .cells .within (getD P at 0 - SYMBOLS) in
-      record
-        { grown = grown-self I W m (q .good)
-        ; makes = ap (λ (t : Tree). build t (boundOf (made I W m) B) (made I W m)) (v .0) ∙ build-some (made I W m) B _ n
-        ; there = omega arith
-        ; after = ap (λ (t : Tree). at + size t) (sym (v .0))
-        }
+      record {
+        grown = grown-self I W m (q .good);
+        makes = ap (λ (t : Tree). build t (boundOf (made I W m) B) (made I W m)) (v .0) ∙ build-some (made I W m) B _ n;
+        there = omega arith;
+        after = ap (λ (t : Tree). at + size t) (sym (v .0));
+      }
 
 -- The loop ---------------------------------------------------------------------------------------------------------------------------
 
@@ -95,13 +95,20 @@ building-begins S P I W m B at q l count f w n e =
     let a = stands-app S P at (q .reads .tree) (q .reads .stands) l in
     let b = a .count in
     let d = a .few in
-    record
-      { asked = q; small = l; few = omega arith; upto = omega arith; beyond = omega arith; grown = grown-self I W m (q .good); long = n; first = e
-      ; args = λ j h. absurd (omega arith)
-      ; going = λ p st.
+    record {
+      asked = q;
+      small = l;
+      few = omega arith;
+      upto = omega arith;
+      beyond = omega arith;
+      grown = grown-self I W m (q .good);
+      long = n;
+      first = e;
+      args = λ j h. absurd (omega arith);
+      going = λ p st.
           subst (λ (k : ℕ). Remaining S P (boundOf (made I W m) B) (build p (boundOf (made I W m) B) (made I W m)) (at + size p) (getD P at 0) k (made I W m) (at + 1) 0 []) (sym f)
-            (remaining-begins S P (boundOf (made I W m) B) (made I W m) at p st l)
-      }
+          (remaining-begins S P (boundOf (made I W m) B) (made I W m) at p st l);
+    }
 
 module _ (S P I W : List ℕ) (m : Mark) (B : List ℕ) (at c count : ℕ) (J X w : List ℕ) (new : Mark) (place k : ℕ) (q : Building S P I W m B at c count J X w new place k) where
   abbrev b : Bound
@@ -115,10 +122,12 @@ module _ (S P I W : List ℕ) (m : Mark) (B : List ℕ) (at c count : ℕ) (J X 
 
   pub building-asks : k < count → Buildable S P J X new B place
   building-asks h =
-      record
-        { good = q .grown .good; symbols = q .asked .symbols; reads = building-reads h
-        ; cells = record { long = q .asked .cells .long; within = λ v. let y = q .asked .cells .within v in let z = q .grown .more in omega arith }
-        }
+      record {
+        good = q .grown .good;
+        symbols = q .asked .symbols;
+        reads = building-reads h;
+        cells = record { long = q .asked .cells .long; within = λ v. let y = q .asked .cells .within v in let z = q .grown .more in omega arith };
+      }
 
   pub building-falls : k < count → length P - place < length P - at
   building-falls h = let a = reads-in S P place (building-reads h) in let d = q .beyond in omega arith
@@ -127,13 +136,13 @@ module _ (S P I W : List ℕ) (m : Mark) (B : List ℕ) (at c count : ℕ) (J X 
     pub building-stops : (n d : ℕ) (k′ : Mark) → r ≡ No n d k′ → BuiltAt S P I W L Y m B at (No n d k′)
     building-stops n d k′ e p st =
         let t : (p : Tree) → Stands S P place p → Stops J X L Y new (build p (boundOf (made J X new) B) (made J X new)) n d k′ =
-          λ p′ st′. subst (BuiltBy J X L Y new (build p′ (boundOf (made J X new) B) (made J X new)) (place + size p′)) e (f p′ st′) in
+        λ p′ st′. subst (BuiltBy J X L Y new (build p′ (boundOf (made J X new) B) (made J X new)) (place + size p′)) e (f p′ st′) in
         let o = building-reads h in
-        record
-          { grown = grown-then I W J X L Y m new k′ (q .grown) (t (o .tree) (o .stands) .grown)
-          ; makes = remaining-stops S P b _ _ c count (made J X new) place k (run w 1 k) (q .going p st) h n d (made L Y k′)
-              (λ p′ st′. ap (λ (x : Bound). build p′ x (made J X new)) same-bound ∙ t p′ st′ .makes)
-          }
+        record {
+          grown = grown-then I W J X L Y m new k′ (q .grown) (t (o .tree) (o .stands) .grown);
+          makes = remaining-stops S P b _ _ c count (made J X new) place k (run w 1 k) (q .going p st) h n d (made L Y k′)
+              (λ p′ st′. ap (λ (x : Bound). build p′ x (made J X new)) same-bound ∙ t p′ st′ .makes);
+        }
 
     module _ (n next : ℕ) (k′ : Mark) (e : r ≡ Term n next k′) where
       built : (p : Tree) → Stands S P place p → Builds J X L Y new (build p (boundOf (made J X new) B) (made J X new)) (place + size p) n next k′
@@ -169,8 +178,8 @@ module _ (S P I W : List ℕ) (m : Mark) (B : List ℕ) (at c count : ℕ) (J X 
           let u = q .upto in
           let d = run-length w 1 k (omega arith) in
           onto-agree (made J X new) (made L Y k′) (new .terms) (run w 1 k) _
-            (λ j p. let t = run-at w 1 k j (omega arith) in let s = q .args j (omega arith) in omega arith)
-            (grown-at J X L Y new k′ (q .grown .good) (of-next .grown))
+          (λ j p. let t = run-at w 1 k j (omega arith) in let s = q .args j (omega arith) in omega arith)
+          (grown-at J X L Y new k′ (q .grown .good) (of-next .grown))
           ∙ sym (onto-snoc (made L Y k′) (run w 1 k) n ts)
           ∙ ap (λ (xs : List ℕ). onto (made L Y k′) xs ts) (sym run-new)
 
@@ -182,20 +191,24 @@ module _ (S P I W : List ℕ) (m : Mark) (B : List ℕ) (at c count : ℕ) (J X 
           let a = of-next .after in
           let t = of-next .there in
           let v = of-next .grown .more in
-          record
-            { asked = q .asked; small = q .small; few = q .few; upto = omega arith; beyond = omega arith
-            ; grown = grown-then I W J X L Y m new k′ (q .grown) (of-next .grown)
-            ; long = length-set w (1 + k) n ∙ q .long
-            ; first = getD-set-other w (1 + k) 0 n 0 (λ x. omega arith) ∙ q .first
-            ; args = λ j p. elim (ℕ-discrete j k) [
-                  yes d ↦ let s = ap (λ (x : ℕ). getD (set w (1 + k) n) (1 + x) 0) d ∙ getD-set-same w (1 + k) n 0 (omega arith) in omega arith
-                | no d ↦ let s = getD-set-other w (1 + k) (1 + j) n 0 (λ x. d (omega arith)) in let u = q .args j (omega arith) in omega arith
-                ]
-            ; going = λ p st.
+          record {
+            asked = q .asked;
+            small = q .small;
+            few = q .few;
+            upto = omega arith;
+            beyond = omega arith;
+            grown = grown-then I W J X L Y m new k′ (q .grown) (of-next .grown);
+            long = length-set w (1 + k) n ∙ q .long;
+            first = getD-set-other w (1 + k) 0 n 0 (λ x. omega arith) ∙ q .first;
+            args = λ j p. elim (ℕ-discrete j k) [
+              | yes d ↦ let s = ap (λ (x : ℕ). getD (set w (1 + k) n) (1 + x) 0) d ∙ getD-set-same w (1 + k) n 0 (omega arith) in omega arith
+              | no d ↦ let s = getD-set-other w (1 + k) (1 + j) n 0 (λ x. d (omega arith)) in let u = q .args j (omega arith) in omega arith
+            ];
+            going = λ p st.
                 remaining-on S P b _ _ c count (made J X new) place k (run w 1 k) (q .going p st) h (getD (made L Y k′) n (var 0)) (made L Y k′) next
-                  (λ p′ st′. (ap (λ (x : Bound). build p′ x (made J X new)) same-bound ∙ built p′ st′ .makes, built p′ st′ .after))
-                  (run (set w (1 + k) n) 1 (k + 1)) agree
-            }
+                (λ p′ st′. (ap (λ (x : Bound). build p′ x (made J X new)) same-bound ∙ built p′ st′ .makes, built p′ st′ .after))
+                (run (set w (1 + k) n) 1 (k + 1)) agree;
+          }
 
   pub node-count : count + 1 ≡ length (take (count + 1) w)
   node-count = let l = q .long in let f = q .few in sym (length-take-le (count + 1) w (omega arith))
@@ -218,11 +231,11 @@ module _ (S P I W : List ℕ) (m : Mark) (B : List ℕ) (at c count : ℕ) (J X 
         let u = q .upto in
         let d = run-length w 1 k (omega arith) in
         let t = length-take-le (count + 1) w (omega arith) in
-        record
-          { narrow = omega arith
-          ; shaped = subst (Shaped (new .terms)) (sym node-is)
-              (isApp {h = c} {xs = run w 1 k} (q .small) (λ j p. let x = run-at w 1 k j (omega arith) in let y = q .args j (omega arith) in omega arith))
-          }
+        record {
+          narrow = omega arith;
+          shaped = subst (Shaped (new .terms)) (sym node-is)
+              (isApp {h = c} {xs = run w 1 k} (q .small) (λ j p. let x = run-at w 1 k j (omega arith) in let y = q .args j (omega arith) in omega arith));
+        }
 
     node-tree : treeAt (made J X new) (take (count + 1) w) ≡ app c (argsOf (made J X new) (run w 1 k))
     node-tree = ap (treeAt (made J X new)) node-is ∙ tree-app (made J X new) c (run w 1 k) (q .small)
@@ -239,19 +252,19 @@ module _ (S P I W : List ℕ) (m : Mark) (B : List ℕ) (at c count : ℕ) (J X 
       pub building-done : (n : ℕ) (k′ : Mark) → r ≡ KeptTerm n k′ → BuiltAt S P I W L Y m B at (Term n place k′)
       building-done n k′ e p st =
           let t : Stored J X L Y new (treeAt (made J X new) (take (count + 1) w)) kept n k′ =
-            subst (After J X L Y new (treeAt (made J X new) (take (count + 1) w)) kept) e f in
+          subst (After J X L Y new (treeAt (made J X new) (take (count + 1) w)) kept) e f in
           let a = to-keep p st in
           let d = length-trees L Y (k′ .terms) in
           let v = t .numbered in
           let s = t .there in
           let is : getD (made L Y k′) n (var 0) ≡ treeAt (made J X new) (take (count + 1) w) =
-            ap (λ (j : ℕ). getD (made L Y k′) j (var 0)) (t .numbered) ∙ number-is (made L Y k′) _ (omega arith) in
-          record
-            { grown = grown-then I W J X L Y m new k′ (q .grown) (t .grown)
-            ; makes = a .0 ∙ t .makes ∙ ap (λ (x : Tree). ok x (made L Y k′)) (sym is)
-            ; there = t .there
-            ; after = a .1
-            }
+          ap (λ (j : ℕ). getD (made L Y k′) j (var 0)) (t .numbered) ∙ number-is (made L Y k′) _ (omega arith) in
+          record {
+            grown = grown-then I W J X L Y m new k′ (q .grown) (t .grown);
+            makes = a .0 ∙ t .makes ∙ ap (λ (x : Tree). ok x (made L Y k′)) (sym is);
+            there = t .there;
+            after = a .1;
+          }
 
       pub building-full : (n : ℕ) (k′ : Mark) → r ≡ Full n k′ → BuiltAt S P I W L Y m B at (No 60 n k′)
       building-full n k′ e p st =

@@ -69,11 +69,13 @@ remaining-begins S P b M at p st l =
     let a = stands-app S P at p st l in
     let c = a .count in
     let z = ap size (a .is) in
-    record
-      { patterns = a .args; stands = a .rest; counted = omega arith
-      ; ends = let y : at + 1 + sizes (a .args) ≡ at + suc (sizes (a .args)) = omega arith in y ∙ ap (λ (k : ℕ). at + k) (sym z)
-      ; left = ap (λ (t : Tree). build t b M) (a .is)
-      }
+    record {
+      patterns = a .args;
+      stands = a .rest;
+      counted = omega arith;
+      ends = let y : at + 1 + sizes (a .args) ≡ at + suc (sizes (a .args)) = omega arith in y ∙ ap (λ (k : ℕ). at + k) (sym z);
+      left = ap (λ (t : Tree). build t b M) (a .is);
+    }
 
 module _ (S P : List ℕ) (b : Bound) (K : Out Made Tree) (behind c count : ℕ) (M : Made) (place k : ℕ) (xs : List ℕ) (q : Remaining S P b K behind c count M place k xs) where
   pub remaining-reads : k < count → Reads S P place
@@ -95,15 +97,17 @@ module _ (S P : List ℕ) (b : Bound) (K : Out Made Tree) (behind c count : ℕ)
       go (more p ps) s e d l =
           let a = f p (s .0) in
           let z = a .1 in
-          record
-            { patterns = ps; stands = subst (λ (j : ℕ). Standing S P j ps) (sym (a .1)) (s .1)
-            ; counted = omega arith; ends = omega arith
-            ; left =
+          record {
+            patterns = ps;
+            stands = subst (λ (j : ℕ). Standing S P j ps) (sym (a .1)) (s .1);
+            counted = omega arith;
+            ends = omega arith;
+            left =
                 l
                 ∙ ap (λ (J : Out Made Tree). then (then J (λ t s. then (builds ps b s) (λ ts n. ok (more t ts) n))) (λ ts s. keep (app c (onto M xs ts)) s)) (a .0)
                 ∙ then-then (builds ps b N) (λ ts n. ok (more t ts) n) (λ ts s. keep (app c (onto M xs ts)) s)
-                ∙ ap (λ (F : Trees → Trees). then (builds ps b N) (λ ts s. keep (app c (F ts)) s)) (λ i ts. agree ts i)
-            }
+                ∙ ap (λ (F : Trees → Trees). then (builds ps b N) (λ ts s. keep (app c (F ts)) s)) (λ i ts. agree ts i);
+          }
 
   pub remaining-stops : k < count → (n d : ℕ) (N : Made) → ((p : Tree) → Stands S P place p → build p b M ≡ refuse n d N) → K ≡ refuse n d N
   unfolding Stands countTrees build then

@@ -32,15 +32,15 @@ module _ (I W J X : List ℕ) (m : Mark) (g : Good I W m) (h : Good J X m) (s : 
 
   chains-cell : (i : ℕ) → i < TERMS → getD J (CHAINS + i) 0 ≡ getD I (CHAINS + i) 0
   chains-cell i l = elim (decLt i (m .terms)) [
-      yes p ↦ h .chains i p ∙ ap (λ (b : ℕ). latest (bucket J X) b i) (keys i p) ∙ latest-agree (bucket J X) (bucket I W) (bucket I W i) i (λ j k. keys j (omega arith)) ∙ sym (g .chains i p)
+    | yes p ↦ h .chains i p ∙ ap (λ (b : ℕ). latest (bucket J X) b i) (keys i p) ∙ latest-agree (bucket J X) (bucket I W) (bucket I W i) i (λ j k. keys j (omega arith)) ∙ sym (g .chains i p)
     | no q ↦ h .no-chains i (omega arith) l ∙ sym (g .no-chains i (omega arith) l)
-    ]
+  ]
 
   flags-cell : (i : ℕ) → i < TERMS → getD J (FLAGS + i) 0 ≡ getD I (FLAGS + i) 0
   flags-cell i l = elim (decLt i (m .terms)) [
-      yes p ↦ h .flags i p ∙ ap (λ (M : Made). flag (isOpen (getD M i (var 0)))) (made-same I W J X m g s) ∙ sym (g .flags i p)
+    | yes p ↦ h .flags i p ∙ ap (λ (M : Made). flag (isOpen (getD M i (var 0)))) (made-same I W J X m g s) ∙ sym (g .flags i p)
     | no q ↦ h .no-flags i (omega arith) l ∙ sym (g .no-flags i (omega arith) l)
-    ]
+  ]
 
   heads-cell : (b : ℕ) → b < BUCKETS → getD J (HEADS + b) 0 ≡ getD I (HEADS + b) 0
   heads-cell b l = h .heads b l ∙ latest-agree (bucket J X) (bucket I W) b (m .terms) keys ∙ sym (g .heads b l)
@@ -51,23 +51,22 @@ module _ (I W J X : List ℕ) (m : Mark) (g : Good I W m) (h : Good J X m) (s : 
 
   index-cell : (i : ℕ) → i < INDEX → getD J i 0 ≡ getD I i 0
   index-cell i l = elim (decLt i CHAINS) [
-      yes p ↦ ends-cell i p
+    | yes p ↦ ends-cell i p
     | no p ↦ elim (decLt i FLAGS) [
-          yes q ↦ by-part CHAINS i (omega arith) (chains-cell (i - CHAINS) (omega arith))
-        | no q ↦ elim (decLt i HEADS) [
-              yes r ↦ by-part FLAGS i (omega arith) (flags-cell (i - FLAGS) (omega arith))
-            | no r ↦ by-part HEADS i (omega arith) (heads-cell (i - HEADS) (omega arith))
-            ]
-        ]
+      | yes q ↦ by-part CHAINS i (omega arith) (chains-cell (i - CHAINS) (omega arith))
+      | no q ↦ elim (decLt i HEADS) [
+        | yes r ↦ by-part FLAGS i (omega arith) (flags-cell (i - FLAGS) (omega arith))
+        | no r ↦ by-part HEADS i (omega arith) (heads-cell (i - HEADS) (omega arith))
+      ]
     ]
+  ]
 
   words-cell : (i : ℕ) → getD X i 0 ≡ getD W i 0
   words-cell i = elim (decLt i (m .words)) [ yes p ↦ s .words i p | no q ↦ h .no-words i (omega arith) ∙ sym (g .no-words i (omega arith)) ]
 
   pub tables-same : (J ≡ I) × (X ≡ W)
   tables-same =
-      let a = h .index in
-      (
+      let a = h .index in (
         ext-getD 0 J I (s .long-index) (λ i l. index-cell i (omega arith)),
         ext-getD 0 X W (s .long-words) (λ i l. words-cell i),
       )
@@ -82,8 +81,8 @@ module _ (I W J X : List ℕ) (m k : Mark) (g : Good I W m) (h : Good J X k) (e 
   node-one i l =
       let t = terms-one in
       tree-one (made I W m) (g .apart) (wide I W m g i l)
-        (subst (λ (M : Made). Shaped (length M) (nodeAt J X i)) (sym e) (wide J X k h i (omega arith)))
-        (sym (tree-here I W m g i l) ∙ ap (λ (M : Made). getD M i (var 0)) e ∙ tree-here J X k h i (omega arith) ∙ ap (λ (M : Made). treeAt M (nodeAt J X i)) (sym e))
+      (subst (λ (M : Made). Shaped (length M) (nodeAt J X i)) (sym e) (wide J X k h i (omega arith)))
+      (sym (tree-here I W m g i l) ∙ ap (λ (M : Made). getD M i (var 0)) e ∙ tree-here J X k h i (omega arith) ∙ ap (λ (M : Made). treeAt M (nodeAt J X i)) (sym e))
 
   start-one : (i : ℕ) → i ≤ m .terms → start J i ≡ start I i
   unfolding start
@@ -124,12 +123,12 @@ module _ (I W J X : List ℕ) (m k : Mark) (g : Good I W m) (h : Good J X k) (e 
   unfolding start
   same-one =
       let z = g .ends in
-      record
-        { ends = λ i l. start-one (suc i) l
-        ; words = λ i l. words-one (m .terms) (omega arith) i (omega arith)
-        ; long-index = h .index ∙ sym (g .index)
-        ; long-words = h .words ∙ sym (g .words)
-        }
+      record {
+        ends = λ i l. start-one (suc i) l;
+        words = λ i l. words-one (m .terms) (omega arith) i (omega arith);
+        long-index = h .index ∙ sym (g .index);
+        long-words = h .words ∙ sym (g .words);
+      }
 
   -- every cell, and the mark
   pub tables-one : (J ≡ I) × (X ≡ W) × (k ≡ m)

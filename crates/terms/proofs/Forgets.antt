@@ -45,17 +45,17 @@ module _ (I : List ℕ) (n b : ℕ) (h : (length I ≡ INDEX) × (n < TERMS) × 
       let c = l .1 in
       let d = l .2 in
       let e = h .0 in
-      record
-        { long = length-set three n 0 ∙ l .2 ∙ sym (h .0)
-        ; end = getD-set-same three n 0 0 (omega arith)
-        ; chain = getD-set-other three n (CHAINS + n) 0 0 (λ q. omega arith) ∙ getD-set-other two (FLAGS + n) (CHAINS + n) 0 0 (λ q. omega arith)
-            ∙ getD-set-same one (CHAINS + n) 0 0 (omega arith)
-        ; flag = getD-set-other three n (FLAGS + n) 0 0 (λ q. omega arith) ∙ getD-set-same two (FLAGS + n) 0 0 (omega arith)
-        ; head = getD-set-other three n (HEADS + b) 0 0 (λ q. omega arith) ∙ getD-set-other two (FLAGS + n) (HEADS + b) 0 0 (λ q. omega arith)
-            ∙ getD-set-other one (CHAINS + n) (HEADS + b) 0 0 (λ q. omega arith) ∙ getD-set-same I (HEADS + b) (getD I (CHAINS + n) 0) 0 (omega arith)
-        ; other = λ j p q r s. getD-set-other three n j 0 0 p ∙ getD-set-other two (FLAGS + n) j 0 0 r ∙ getD-set-other one (CHAINS + n) j 0 0 q
-            ∙ getD-set-other I (HEADS + b) j (getD I (CHAINS + n) 0) 0 s
-        }
+      record {
+        long = length-set three n 0 ∙ l .2 ∙ sym (h .0);
+        end = getD-set-same three n 0 0 (omega arith);
+        chain = getD-set-other three n (CHAINS + n) 0 0 (λ q. omega arith) ∙ getD-set-other two (FLAGS + n) (CHAINS + n) 0 0 (λ q. omega arith)
+            ∙ getD-set-same one (CHAINS + n) 0 0 (omega arith);
+        flag = getD-set-other three n (FLAGS + n) 0 0 (λ q. omega arith) ∙ getD-set-same two (FLAGS + n) 0 0 (omega arith);
+        head = getD-set-other three n (HEADS + b) 0 0 (λ q. omega arith) ∙ getD-set-other two (FLAGS + n) (HEADS + b) 0 0 (λ q. omega arith)
+            ∙ getD-set-other one (CHAINS + n) (HEADS + b) 0 0 (λ q. omega arith) ∙ getD-set-same I (HEADS + b) (getD I (CHAINS + n) 0) 0 (omega arith);
+        other = λ j p q r s. getD-set-other three n j 0 0 p ∙ getD-set-other two (FLAGS + n) j 0 0 r ∙ getD-set-other one (CHAINS + n) j 0 0 q
+            ∙ getD-set-other I (HEADS + b) j (getD I (CHAINS + n) 0) 0 s;
+      }
 
 -- The words ------------------------------------------------------------------------------------------------------------------------
 
@@ -80,19 +80,19 @@ wiped W s e h l ys q =
     let lr : length (run W s (e - s)) ≡ e - s = run-length W s (e - s) (omega arith) in
     let ly : length ys ≡ e - s = ap length q ∙ length-replicate {A = ℕ} (length (run W s (e - s))) 0 ∙ lr in
     let ld : length (drop (e - s) (drop s W)) ≡ length W - e = length-drop (e - s) (drop s W) ∙ (let z = length-drop s W in omega arith) in
-    record
-      { long = length-append A (ys ++ D) ∙ (let z = length-append ys D in omega arith)
-      ; before = λ i p. List·getD-append A (ys ++ D) 0 i (omega arith) ∙ getD-take s W i 0 p
-      ; here = λ i p r.
+    record {
+      long = length-append A (ys ++ D) ∙ (let z = length-append ys D in omega arith);
+      before = λ i p. List·getD-append A (ys ++ D) 0 i (omega arith) ∙ getD-take s W i 0 p;
+      here = λ i p r.
           let z : i ≡ length (take s W) + (i - s) = omega arith in
           ap (λ (k : ℕ). getD (A ++ (ys ++ D)) k 0) z ∙ getD-append-add A (ys ++ D) (i - s) 0 ∙ List·getD-append ys D 0 (i - s) (omega arith)
-          ∙ ap (λ (t : List ℕ). getD t (i - s) 0) q ∙ zero-at (length (run W s (e - s))) (i - s)
-      ; behind = λ i p.
+          ∙ ap (λ (t : List ℕ). getD t (i - s) 0) q ∙ zero-at (length (run W s (e - s))) (i - s);
+      behind = λ i p.
           let z : i ≡ length (take s W) + (length ys + (i - e)) = omega arith in
           let y : s + ((e - s) + (i - e)) ≡ i = omega arith in
           ap (λ (k : ℕ). getD (A ++ (ys ++ D)) k 0) z ∙ getD-append-add A (ys ++ D) (length ys + (i - e)) 0 ∙ getD-append-add ys D (i - e) 0
-          ∙ getD-drop (e - s) (drop s W) (i - e) 0 ∙ getD-drop s W ((e - s) + (i - e)) 0 ∙ ap (λ (k : ℕ). getD W k 0) y
-      }
+          ∙ getD-drop (e - s) (drop s W) (i - e) 0 ∙ getD-drop s W ((e - s) + (i - e)) 0 ∙ ap (λ (k : ℕ). getD W k 0) y;
+    }
 
 -- One term less ----------------------------------------------------------------------------------------------------------------------
 
@@ -155,19 +155,19 @@ module _ (I W : List ℕ) (m : Mark) (g : Good I W m) (n s b : ℕ) (last : m .t
       let z = g .room in
       let y = small-b in
       elim (ℕ-discrete c b) [
-        yes e ↦
-          ap (λ (k : ℕ). getD J (HEADS + k) 0) e ∙ u .head ∙ g .chains n (omega arith) ∙ ap (λ (k : ℕ). latest (bucket I W) k n) (key-last ∙ sym e) ∙ latest-agree (bucket I W) (bucket J X) c n keys
-      | no q ↦
-          u .other (HEADS + c) (λ e. omega arith) (λ e. omega arith) (λ e. omega arith) (λ e. q (omega arith))
-          ∙ g .heads c h ∙ ap (latest (bucket I W) c) last ∙ latest-other (bucket I W) c n (λ e. q (sym e ∙ key-last)) ∙ latest-agree (bucket I W) (bucket J X) c n keys
+        | yes e ↦
+            ap (λ (k : ℕ). getD J (HEADS + k) 0) e ∙ u .head ∙ g .chains n (omega arith) ∙ ap (λ (k : ℕ). latest (bucket I W) k n) (key-last ∙ sym e) ∙ latest-agree (bucket I W) (bucket J X) c n keys
+        | no q ↦
+            u .other (HEADS + c) (λ e. omega arith) (λ e. omega arith) (λ e. omega arith) (λ e. q (omega arith))
+            ∙ g .heads c h ∙ ap (latest (bucket I W) c) last ∙ latest-other (bucket I W) c n (λ e. q (sym e ∙ key-last)) ∙ latest-agree (bucket I W) (bucket J X) c n keys
       ]
 
   -- from n on it is zero: at n it was made so, above n it was so
   behind : (o : ℕ → ℕ) → (getD J (o n) 0 ≡ 0) → ((i : ℕ) → n < i → i < TERMS → getD J (o i) 0 ≡ 0) → (i : ℕ) → n ≤ i → i < TERMS → getD J (o i) 0 ≡ 0
   behind o e f i l h = elim (ℕ-discrete i n) [
-      yes q ↦ ap (λ (k : ℕ). getD J (o k) 0) q ∙ e
+    | yes q ↦ ap (λ (k : ℕ). getD J (o k) 0) q ∙ e
     | no q ↦ f i (omega arith) h
-    ]
+  ]
 
   good-less : Good J X less
   good-less =
@@ -176,26 +176,26 @@ module _ (I W : List ℕ) (m : Mark) (g : Good I W m) (n s b : ℕ) (last : m .t
       let t = g .rise n (omega arith) in
       let v = end-is in
       let d = g .within in
-      record
-        { index = u .long ∙ g .index
-        ; words = x .long ∙ g .words
-        ; room = omega arith
-        ; ends = es ∙ sym (start-old n (omega arith))
-        ; within = omega arith
-        ; rise = λ i h. let a = start-old i (omega arith) in let c = index-old i h in let r = g .rise i (omega arith) in omega arith
-        ; narrow = λ i h. let a = start-old i (omega arith) in let c = index-old i h in let r = g .narrow i (omega arith) in omega arith
-        ; shaped = λ i h. subst (Shaped i) (sym (node-old i h)) (g .shaped i (omega arith))
-        ; apart = apart-old
-        ; chains = λ i h. u .other (CHAINS + i) (λ e. omega arith) (λ e. omega arith) (λ e. omega arith) (λ e. omega arith)
-            ∙ g .chains i (omega arith) ∙ ap (λ (k : ℕ). latest (bucket I W) k i) (keys i h) ∙ latest-agree (bucket I W) (bucket J X) (bucket J X i) i (λ j l. keys j (omega arith))
-        ; flags = λ i h. u .other (FLAGS + i) (λ e. omega arith) (λ e. omega arith) (λ e. omega arith) (λ e. omega arith)
-            ∙ g .flags i (omega arith) ∙ ap (λ (t : Tree). flag (isOpen t)) (sym (tree-old i h))
-        ; heads = heads-old
-        ; no-ends = behind (λ i. i) (u .end) (λ j p q. u .other j (λ e. omega arith) (λ e. omega arith) (λ e. omega arith) (λ e. omega arith) ∙ g .no-ends j (omega arith) q)
-        ; no-chains = behind (λ i. CHAINS + i) (u .chain) (λ j p q. u .other (CHAINS + j) (λ e. omega arith) (λ e. omega arith) (λ e. omega arith) (λ e. omega arith) ∙ g .no-chains j (omega arith) q)
-        ; no-flags = behind (λ i. FLAGS + i) (u .flag) (λ j p q. u .other (FLAGS + j) (λ e. omega arith) (λ e. omega arith) (λ e. omega arith) (λ e. omega arith) ∙ g .no-flags j (omega arith) q)
-        ; no-words = λ i l. elim (decLt i (getD I n 0)) [ yes p ↦ x .here i l p | no q ↦ x .behind i (omega arith) ∙ g .no-words i (omega arith) ]
-        }
+      record {
+        index = u .long ∙ g .index;
+        words = x .long ∙ g .words;
+        room = omega arith;
+        ends = es ∙ sym (start-old n (omega arith));
+        within = omega arith;
+        rise = λ i h. let a = start-old i (omega arith) in let c = index-old i h in let r = g .rise i (omega arith) in omega arith;
+        narrow = λ i h. let a = start-old i (omega arith) in let c = index-old i h in let r = g .narrow i (omega arith) in omega arith;
+        shaped = λ i h. subst (Shaped i) (sym (node-old i h)) (g .shaped i (omega arith));
+        apart = apart-old;
+        chains = λ i h. u .other (CHAINS + i) (λ e. omega arith) (λ e. omega arith) (λ e. omega arith) (λ e. omega arith)
+            ∙ g .chains i (omega arith) ∙ ap (λ (k : ℕ). latest (bucket I W) k i) (keys i h) ∙ latest-agree (bucket I W) (bucket J X) (bucket J X i) i (λ j l. keys j (omega arith));
+        flags = λ i h. u .other (FLAGS + i) (λ e. omega arith) (λ e. omega arith) (λ e. omega arith) (λ e. omega arith)
+            ∙ g .flags i (omega arith) ∙ ap (λ (t : Tree). flag (isOpen t)) (sym (tree-old i h));
+        heads = heads-old;
+        no-ends = behind (λ i. i) (u .end) (λ j p q. u .other j (λ e. omega arith) (λ e. omega arith) (λ e. omega arith) (λ e. omega arith) ∙ g .no-ends j (omega arith) q);
+        no-chains = behind (λ i. CHAINS + i) (u .chain) (λ j p q. u .other (CHAINS + j) (λ e. omega arith) (λ e. omega arith) (λ e. omega arith) (λ e. omega arith) ∙ g .no-chains j (omega arith) q);
+        no-flags = behind (λ i. FLAGS + i) (u .flag) (λ j p q. u .other (FLAGS + j) (λ e. omega arith) (λ e. omega arith) (λ e. omega arith) (λ e. omega arith) ∙ g .no-flags j (omega arith) q);
+        no-words = λ i l. elim (decLt i (getD I n 0)) [ yes p ↦ x .here i l p | no q ↦ x .behind i (omega arith) ∙ g .no-words i (omega arith) ];
+      }
 
   pub back-one : Back I W J X less × (s ≤ m .words)
   back-one = (record { good = good-less; same = same }, let t = g .rise n (omega arith) in let v = end-is in omega arith)
@@ -246,16 +246,16 @@ module _ (I W : List ℕ) (least : ℕ) (J X : List ℕ) (k : Mark) (q : Going I
       let l = b .1 in
       let v = b .0 .same in
       let w = q .same in
-      record
-        { good = b .0 .good
-        ; same = record
-            { ends = λ i p. v .ends i p ∙ w .ends i (omega arith)
-            ; words = λ i p. v .words i p ∙ w .words i (omega arith)
-            ; long-index = v .long-index ∙ w .long-index
-            ; long-words = v .long-words ∙ w .long-words
-            }
-        ; from = omega arith
-        }
+      record {
+        good = b .0 .good;
+        same = record {
+          ends = λ i p. v .ends i p ∙ w .ends i (omega arith);
+          words = λ i p. v .words i p ∙ w .words i (omega arith);
+          long-index = v .long-index ∙ w .long-index;
+          long-words = v .long-words ∙ w .long-words;
+        };
+        from = omega arith;
+      }
 
   start-there : (i : ℕ) → i ≤ k .terms → start J i ≡ start I i
   unfolding start

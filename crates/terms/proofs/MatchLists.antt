@@ -28,14 +28,19 @@ pub record Listing (S P I W : List ℕ) (m : Mark) (B : List ℕ) (at : ℕ) (xs
 
 pub listing-begins : (S P I W : List ℕ) (m : Mark) (B : List ℕ) (at : ℕ) (xs : List ℕ) → AllMatchable S P I W m B at xs → Listing S P I W m B at xs B at 0
 listing-begins S P I W m B at xs q =
-    record
-      { asked = q; upto = omega arith; long = refl
-      ; going = λ ps st c. record
-          { patterns = ps; stands = st; count = c; ends = refl
-          ; cells = record { long = q .cells .long; within = λ v. let z = length-trees I W (m .terms) in let y = q .cells .within v in omega arith }
-          ; left = refl
-          }
-      }
+    record {
+      asked = q;
+      upto = omega arith;
+      long = refl;
+      going = λ ps st c. record {
+        patterns = ps;
+        stands = st;
+        count = c;
+        ends = refl;
+        cells = record { long = q .cells .long; within = λ v. let z = length-trees I W (m .terms) in let y = q .cells .within v in omega arith };
+        left = refl;
+      };
+    }
 
 module _ (S P I W : List ℕ) (m : Mark) (B : List ℕ) (at : ℕ) (xs C : List ℕ) (place k : ℕ) (q : Listing S P I W m B at xs C place k) where
   abbrev M : Made
@@ -49,23 +54,27 @@ module _ (S P I W : List ℕ) (m : Mark) (B : List ℕ) (at : ℕ) (xs C : List 
   listing-asks h =
       let r = q .asked .reads in
       let w = next h (r .patterns) (r .stands) (r .count) in
-      record
-        { good = q .asked .good; symbols = q .asked .symbols; reads = matching-reads S P M _ _ C place _ _ w
-        ; cells = record { long = w .cells .long; within = λ v. let z = length-trees I W (m .terms) in let y = w .cells .within v in omega arith }
-        ; there = q .asked .there k h
-        }
+      record {
+        good = q .asked .good;
+        symbols = q .asked .symbols;
+        reads = matching-reads S P M _ _ C place _ _ w;
+        cells = record { long = w .cells .long; within = λ v. let z = length-trees I W (m .terms) in let y = w .cells .within v in omega arith };
+        there = q .asked .there k h;
+      }
 
   pub listing-miss : k < length xs → (D : List ℕ) (r : ℕ) → TriedAt S P I W m C D place (getD xs k 0) r → r ≡ 0 → TriedAll S P I W m B D at xs false
   listing-miss h D r c z ps st n = let a = matching-miss S P M _ _ C place _ _ D r (next h ps st n) c z in misses (a .0) (a .1) refl
 
   pub listing-on : k < length xs → (D : List ℕ) (r : ℕ) → TriedAt S P I W m C D place (getD xs k 0) r → (r ≡ 0 → ⊥) → length D ≡ length C → Listing S P I W m B at xs D r (k + 1)
   listing-on h D r c n l =
-      record
-        { asked = q .asked; upto = omega arith; long = l ∙ q .long
-        ; going = λ ps st d.
+      record {
+        asked = q .asked;
+        upto = omega arith;
+        long = l ∙ q .long;
+        going = λ ps st d.
             subst (λ (j : ℕ). Matching S P M (matchAll ps (argsOf M xs) (boundOf M B)) (at + sizes ps) D r (drop j xs)) (sym (add-one k))
-              (matching-on S P M _ _ C place _ _ D r (next h ps st d) c n)
-        }
+            (matching-on S P M _ _ C place _ _ D r (next h ps st d) c n);
+      }
 
   pub listing-ends : length xs ≤ k → TriedAll S P I W m B C at xs true
   listing-ends h ps st c =

@@ -110,10 +110,10 @@ module _ (S P I W : List ℕ) (m : Mark) (B : List ℕ) (at id : ℕ) (q : Match
     pub term-count : getD W s 0 ≡ getD P at 0 → (a : ℕ) → a ≡ arity S (getD P at 0) → (getD I id 0 - s - 1 ≡ a → ⊥) → TriedAt S P I W m B B at id 0
     term-count h k f n =
         as-app B 0
-          (λ ts c.
-            app-same M (getD P at 0) ts (boundOf M B) l (getD W s 0) xs h
-            ∙ all-other ts (argsOf M xs) (boundOf M B) (λ d. let a = args-count M xs in let b = long-args in n (omega arith)))
-          (q .cells .long) refl
+        (λ ts c.
+        app-same M (getD P at 0) ts (boundOf M B) l (getD W s 0) xs h
+        ∙ all-other ts (argsOf M xs) (boundOf M B) (λ d. let a = args-count M xs in let b = long-args in n (omega arith)))
+        (q .cells .long) refl
 
     pub matching-begins : getD W s 0 ≡ getD P at 0 → getD I id 0 - s - 1 ≡ arity S (getD P at 0) → (p : Tree) → Stands S P at p
         → Matching S P M (matches p (getD M id (var 0)) (boundOf M B)) (at + size p) B (at + 1) xs
@@ -123,15 +123,17 @@ module _ (S P I W : List ℕ) (m : Mark) (B : List ℕ) (at id : ℕ) (q : Match
         let c = a .count in
         let b = long-args in
         let z = ap size (a .is) in
-        record
-          { patterns = a .args; stands = a .rest; count = omega arith
-          ; ends = let y : at + 1 + sizes (a .args) ≡ at + suc (sizes (a .args)) = omega arith in y ∙ ap (λ (k : ℕ). at + k) (sym z)
-          ; cells = cells-made
-          ; left =
+        record {
+          patterns = a .args;
+          stands = a .rest;
+          count = omega arith;
+          ends = let y : at + 1 + sizes (a .args) ≡ at + suc (sizes (a .args)) = omega arith in y ∙ ap (λ (k : ℕ). at + k) (sym z);
+          cells = cells-made;
+          left =
               ap (λ (t : Tree). matches t (getD M id (var 0)) (boundOf M B)) (a .is)
               ∙ ap (λ (t : Tree). matches (app (getD P at 0) (a .args)) t (boundOf M B)) (tree-split I W m id s (q .good) (q .there) e)
-              ∙ app-same M (getD P at 0) (a .args) (boundOf M B) l (getD W s 0) xs h
-          }
+              ∙ app-same M (getD P at 0) (a .args) (boundOf M B) l (getD W s 0) xs h;
+        }
 
 -- The loop -----------------------------------------------------------------------------------------------------------------------
 
@@ -152,10 +154,16 @@ looping-begins S P I W m B at id s q l e h d k n =
     let f = node-fits I W m id s (q .good) (q .there) e in
     let a = f .0 in
     let b = f .1 in
-    record
-      { asked = q; started = e; ended = refl; from = omega arith; upto = omega arith; fits = b; long = refl
-      ; going = matching-begins S P I W m B at id q s e l h (n ∙ k)
-      }
+    record {
+      asked = q;
+      started = e;
+      ended = refl;
+      from = omega arith;
+      upto = omega arith;
+      fits = b;
+      long = refl;
+      going = matching-begins S P I W m B at id q s e l h (n ∙ k);
+    }
 
 module _ (S P I W : List ℕ) (m : Mark) (B : List ℕ) (at id s e : ℕ) (C : List ℕ) (place k : ℕ) (q : Looping S P I W m B at id s e C place k) where
   abbrev N : Made
@@ -179,11 +187,13 @@ module _ (S P I W : List ℕ) (m : Mark) (B : List ℕ) (at id s e : ℕ) (C : L
       let w = next h (q .asked .reads .tree) (q .asked .reads .stands) in
       let a = looping-falls h in
       let b = q .asked .there in
-      record
-        { good = q .asked .good; symbols = q .asked .symbols; reads = matching-reads S P N _ _ C place _ _ w
-        ; cells = record { long = w .cells .long; within = λ v. let z = length-trees I W (m .terms) in let y = w .cells .within v in omega arith }
-        ; there = omega arith
-        }
+      record {
+        good = q .asked .good;
+        symbols = q .asked .symbols;
+        reads = matching-reads S P N _ _ C place _ _ w;
+        cells = record { long = w .cells .long; within = λ v. let z = length-trees I W (m .terms) in let y = w .cells .within v in omega arith };
+        there = omega arith;
+      }
 
   pub looping-miss : k < e → (D : List ℕ) (r : ℕ) → TriedAt S P I W m C D place (getD W k 0) r → r ≡ 0 → TriedAt S P I W m B D at id 0
   looping-miss h D r c z p st = let a = matching-miss S P N _ _ C place _ _ D r (next h p st) c z in miss (a .0) (a .1) refl
@@ -191,10 +201,16 @@ module _ (S P I W : List ℕ) (m : Mark) (B : List ℕ) (at id s e : ℕ) (C : L
   pub looping-on : k < e → (D : List ℕ) (r : ℕ) → TriedAt S P I W m C D place (getD W k 0) r → (r ≡ 0 → ⊥) → length D ≡ length C → Looping S P I W m B at id s e D r (k + 1)
   looping-on h D r c n l =
       let a = q .from in
-      record
-        { asked = q .asked; started = q .started; ended = q .ended; from = omega arith; upto = omega arith; fits = q .fits; long = l ∙ q .long
-        ; going = λ p st. matching-on S P N _ _ C place _ _ D r (next h p st) c n
-        }
+      record {
+        asked = q .asked;
+        started = q .started;
+        ended = q .ended;
+        from = omega arith;
+        upto = omega arith;
+        fits = q .fits;
+        long = l ∙ q .long;
+        going = λ p st. matching-on S P N _ _ C place _ _ D r (next h p st) c n;
+      }
 
   pub looping-ends : e ≤ k → TriedAt S P I W m B C at id place
   looping-ends h p st =

@@ -64,7 +64,7 @@ unfolding Stands
 stands-app S P at (var v) h l = let a = h .1 in absurd (omega arith)
 stands-app S P at (app c ts) h l =
     record
-      { args = ts; is = ap (λ (k : ℕ). app k ts) (sym (h .1)); count = h .3 ∙ ap (arity S) (sym (h .1)); few = h .4; rest = h .5 }
+    { args = ts; is = ap (λ (k : ℕ). app k ts) (sym (h .1)); count = h .3 ∙ ap (arity S) (sym (h .1)); few = h .4; rest = h .5 }
 
 -- A variable -------------------------------------------------------------------------------------------------------------------
 
@@ -74,23 +74,23 @@ module _ (M : Made) (B : List ℕ) (v id : ℕ) (c : Cells (length M) B) (l : v 
   bind-at w =
       let long = c .long in
       elim (ℕ-discrete w v) [
-        yes e ↦
-          ap (treeIn M) (ap (λ (k : ℕ). getD (set B v (id + 1)) k 0) e ∙ getD-set-same B v (id + 1) 0 (omega arith) ∙ add-one id)
-          ∙ sym (ap (λ (b : Bool). elim b [ true ↦ some (getD M id (var 0)) | false ↦ boundOf M B w ]) (eq-eqb w v e))
-      | no q ↦
-          ap (treeIn M) (getD-set-other B v w (id + 1) 0 q)
-          ∙ sym (ap (λ (b : Bool). elim b [ true ↦ some (getD M id (var 0)) | false ↦ boundOf M B w ]) (ne-eqb w v q))
+        | yes e ↦
+            ap (treeIn M) (ap (λ (k : ℕ). getD (set B v (id + 1)) k 0) e ∙ getD-set-same B v (id + 1) 0 (omega arith) ∙ add-one id)
+            ∙ sym (ap (λ (b : Bool). elim b [ true ↦ some (getD M id (var 0)) | false ↦ boundOf M B w ]) (eq-eqb w v e))
+        | no q ↦
+            ap (treeIn M) (getD-set-other B v w (id + 1) 0 q)
+            ∙ sym (ap (λ (b : Bool). elim b [ true ↦ some (getD M id (var 0)) | false ↦ boundOf M B w ]) (ne-eqb w v q))
       ]
 
   bind-cells : Cells (length M) (set B v (id + 1))
   bind-cells =
-      record
-        { long = length-set B v (id + 1) ∙ c .long
-        ; within = λ w. elim (ℕ-discrete w v) [
-              yes e ↦ let long = c .long in let z = ap (λ (k : ℕ). getD (set B v (id + 1)) k 0) e ∙ getD-set-same B v (id + 1) 0 (omega arith) in omega arith
-            | no q ↦ let z = getD-set-other B v w (id + 1) 0 q in let y = c .within w in omega arith
-            ]
-        }
+      record {
+        long = length-set B v (id + 1) ∙ c .long;
+        within = λ w. elim (ℕ-discrete w v) [
+          | yes e ↦ let long = c .long in let z = ap (λ (k : ℕ). getD (set B v (id + 1)) k 0) e ∙ getD-set-same B v (id + 1) 0 (omega arith) in omega arith
+          | no q ↦ let z = getD-set-other B v w (id + 1) 0 q in let y = c .within w in omega arith
+        ];
+      }
 
   meets : ℕ → Option Bound
   meets x = matchVar v (getD M id (var 0)) (boundOf M B) (treeIn M x)
@@ -109,7 +109,7 @@ module _ (M : Made) (B : List ℕ) (v id : ℕ) (c : Cells (length M) B) (l : v 
   other-cell a zero le n q = absurd (n refl)
   other-cell a (suc x) le n q =
       ap (λ (b : Bool). elim b [ true ↦ some (boundOf M B) | false ↦ nothing ])
-        (not-same (getD M x (var 0)) (getD M id (var 0)) (λ e. let z = a x id (omega arith) h e in q (omega arith)))
+      (not-same (getD M x (var 0)) (getD M id (var 0)) (λ e. let z = a x id (omega arith) h e in q (omega arith)))
 
   pub var-other : Apart M → (getD B v 0 ≡ 0 → ⊥) → (getD B v 0 ≡ id + 1 → ⊥) → (at : ℕ) → Tried M B (matches (var v) (getD M id (var 0)) (boundOf M B)) (at + size (var v)) 0
   unfolding matches boundOf meets
@@ -141,9 +141,9 @@ module _ (M : Made) (c : ℕ) (ps : Trees) (b : Bound) (l : c < SYMBOLS) (h : �
   pub app-other : (h ≡ c → ⊥) → matches (app c ps) (treeAt M (h ∷ xs)) b ≡ nothing
   unfolding matches
   app-other n = elim (decLt h SYMBOLS) [
-      yes p ↦ ap onTree (tree-app M h xs p) ∙ ap (λ (d : Bool). elim d [ true ↦ matchAll ps (argsOf M xs) b | false ↦ nothing ]) (ne-eqb c h (λ e. n (sym e)))
+    | yes p ↦ ap onTree (tree-app M h xs p) ∙ ap (λ (d : Bool). elim d [ true ↦ matchAll ps (argsOf M xs) b | false ↦ nothing ]) (ne-eqb c h (λ e. n (sym e)))
     | no q ↦ ap onTree (tree-var M h xs (omega arith))
-    ]
+  ]
 
 -- Arguments one by one -----------------------------------------------------------------------------------------------------------
 
@@ -178,11 +178,14 @@ module _ (S P : List ℕ) (M : Made) (K : Option Bound) (behind : ℕ) (C : List
           where
             done : Tried M D (matches p (getD M x (var 0)) (boundOf M C)) (place + size p) r → Matching S P M K behind D r xs
             done (hit a cs b) =
-                record
-                  { patterns = ps; stands = subst (λ (j : ℕ). Standing S P j ps) (sym b) (s .1)
-                  ; count = omega arith; ends = omega arith; cells = cs
-                  ; left = k ∙ ap (λ (o : Option Bound). andThen o (λ c. matchAll ps (argsOf M xs) c)) a
-                  }
+                record {
+                  patterns = ps;
+                  stands = subst (λ (j : ℕ). Standing S P j ps) (sym b) (s .1);
+                  count = omega arith;
+                  ends = omega arith;
+                  cells = cs;
+                  left = k ∙ ap (λ (o : Option Bound). andThen o (λ c. matchAll ps (argsOf M xs) c)) a;
+                }
             done (miss a cs b) = absurd (n b)
 
     pub matching-miss : r ≡ 0 → (K ≡ nothing) × (length D ≡ RULEVARS)

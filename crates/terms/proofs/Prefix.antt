@@ -12,6 +12,7 @@ use Rattle.terms.specs.Patterns.{arity, Stands, Standing, Fits, FitsAll}
 
 mutual
   unfolding prefix size
+
   pub prefix-length : (p : Tree) → length (prefix p) ≡ size p
   prefix-length (var v) = refl
   prefix-length (app c ts) = ap suc (prefixes-length ts)
@@ -25,8 +26,7 @@ first-of : (P : List ℕ) (at x : ℕ) (ys : List ℕ) → drop at P ≡ x ∷ y
 first-of P at x ys e =
     let a = length-drop at P in
     let b = ap length e in
-    let z : at + 0 ≡ at = omega arith in
-    (
+    let z : at + 0 ≡ at = omega arith in (
       omega arith,
       sym (ap (λ (k : ℕ). getD P k 0) z) ∙ sym (getD-drop at P 0 0) ∙ ap (λ (l : List ℕ). getD l 0 0) e,
       sym (drop-drop 1 at P) ∙ ap (drop 1) e,
@@ -34,6 +34,7 @@ first-of P at x ys e =
 
 mutual
   unfolding prefix size Stands Fits
+
   pub prefix-stands : (S P : List ℕ) (at : ℕ) (p : Tree) (rest : List ℕ) → Fits S p → drop at P ≡ prefix p ++ rest → Stands S P at p
   prefix-stands S P at (var v) rest f e = let a = first-of P at (SYMBOLS + v) rest e in (a .0, a .1, f)
   prefix-stands S P at (app c ts) rest f e =
@@ -43,9 +44,8 @@ mutual
   pub prefixes-stand : (S P : List ℕ) (at : ℕ) (ts : Trees) (rest : List ℕ) → FitsAll S ts → drop at P ≡ prefixes ts ++ rest → Standing S P at ts
   prefixes-stand S P at none rest f e = tt
   prefixes-stand S P at (more t ts) rest f e =
-      let d : drop at P ≡ prefix t ++ (prefixes ts ++ rest) = e ∙ append-assoc (prefix t) (prefixes ts) rest in
-      (
+      let d : drop at P ≡ prefix t ++ (prefixes ts ++ rest) = e ∙ append-assoc (prefix t) (prefixes ts) rest in (
         prefix-stands S P at t (prefixes ts ++ rest) (f .0) d,
         prefixes-stand S P (at + size t) ts rest (f .1)
-          (sym (drop-drop (size t) at P) ∙ ap (drop (size t)) d ∙ drop-at (prefix t) (prefixes ts ++ rest) (size t) (prefix-length t)),
+            (sym (drop-drop (size t) at P) ∙ ap (drop (size t)) d ∙ drop-at (prefix t) (prefixes ts ++ rest) (size t) (prefix-length t)),
       )

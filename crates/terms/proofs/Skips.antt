@@ -50,6 +50,7 @@ count-sizes (more t ts) = let a = count-sizes ts in let b = size-some t in omega
 
 mutual
   unfolding Stands size
+
   stands-within : (S P : List ℕ) (at : ℕ) (p : Tree) → Stands S P at p → at + size p ≤ length P
   stands-within S P at (var v) h = let a = h .0 in omega arith
   stands-within S P at (app c ts) h = let a = h .0 in let b = standing-within S P (at + 1) ts (omega arith) (h .5) in omega arith
@@ -129,11 +130,12 @@ module _ (S P : List ℕ) (behind place left : ℕ) (q : Behind S P behind place
           let y : place + suc (sizes ts) ≡ place + 1 + sizes ts = omega arith in
           let x = before-count ts ps in
           let v = before-sizes ts ps in
-          record
-            { patterns = before ts ps
-            ; stands = before-stands S P (place + 1) ts ps (s .0 .5) (subst (λ (j : ℕ). Standing S P j ps) y (s .1))
-            ; count = omega arith; ends = omega arith
-            }
+          record {
+            patterns = before ts ps;
+            stands = before-stands S P (place + 1) ts ps (s .0 .5) (subst (λ (j : ℕ). Standing S P j ps) y (s .1));
+            count = omega arith;
+            ends = omega arith;
+          }
 
 module _ (S P : List ℕ) (at n place left : ℕ) (q : Skipping S P at n place left) where
   pub skipping-in : (left ≡ 0 → ⊥) → (place < length P) × (place + left ≤ length P) × (argsAt S (getD P place 0) ≤ ARGUMENTS)

@@ -52,7 +52,16 @@ pub fn skip(symbols: &[u32], patterns: &[u32], at: usize, n: usize) -> usize
 }
 
 // The pattern at `at` meets the term `id`: the place behind its words, or 0 where it is no match; then the cells are of no use.
-fn match_term(symbols: &[u32], patterns: &[u32], index: &[u32], words: &[u32], mark: Mark, bound: &mut [u32], at: usize, id: usize) -> usize
+fn match_term(
+    symbols: &[u32],
+    patterns: &[u32],
+    index: &[u32],
+    words: &[u32],
+    mark: Mark,
+    bound: &mut [u32],
+    at: usize,
+    id: usize,
+) -> usize
     requires { ⌜ Matchable (now symbols) (now patterns) (now index) (now words) mark (now bound) at id ⌝ }
     ensures { λ r. ⌜ TriedAt (now (symbols .entry)) (now (patterns .entry)) (now (index .entry)) (now (words .entry)) mark (now (bound .entry)) (now (bound .exit)) at id r ⌝ }
 {
@@ -80,7 +89,16 @@ fn match_term(symbols: &[u32], patterns: &[u32], index: &[u32], words: &[u32], m
     let mut place = at + 1;
     let mut k = start + 1;
     while k < end {
-        place = match_term(symbols, patterns, index, words, mark, bound, place, words[k] as usize);
+        place = match_term(
+            symbols,
+            patterns,
+            index,
+            words,
+            mark,
+            bound,
+            place,
+            words[k] as usize,
+        );
         if place == 0 {
             return 0;
         }
@@ -90,14 +108,32 @@ fn match_term(symbols: &[u32], patterns: &[u32], index: &[u32], words: &[u32], m
 }
 
 // Patterns from `at` on meet the terms one by one.
-fn match_terms(symbols: &[u32], patterns: &[u32], index: &[u32], words: &[u32], mark: Mark, bound: &mut [u32], at: usize, ids: &[u32]) -> bool
+fn match_terms(
+    symbols: &[u32],
+    patterns: &[u32],
+    index: &[u32],
+    words: &[u32],
+    mark: Mark,
+    bound: &mut [u32],
+    at: usize,
+    ids: &[u32],
+) -> bool
     requires { ⌜ AllMatchable (now symbols) (now patterns) (now index) (now words) mark (now bound) at (now ids) ⌝ }
     ensures { λ r. ⌜ TriedAll (now (symbols .entry)) (now (patterns .entry)) (now (index .entry)) (now (words .entry)) mark (now (bound .entry)) (now (bound .exit)) at (now (ids .entry)) r ⌝ }
 {
     let mut place = at;
     let mut k = 0;
     while k < ids.len() {
-        place = match_term(symbols, patterns, index, words, mark, bound, place, ids[k] as usize);
+        place = match_term(
+            symbols,
+            patterns,
+            index,
+            words,
+            mark,
+            bound,
+            place,
+            ids[k] as usize,
+        );
         if place == 0 {
             return false;
         }
@@ -119,7 +155,16 @@ fn copy(to: &mut [u32], from: &[u32])
 }
 
 // The pattern at `at` against the term `id`: the place behind the pattern's words, or 0 and the cells as they were.
-pub fn matches(symbols: &[u32], patterns: &[u32], index: &[u32], words: &[u32], mark: Mark, bound: &mut [u32], at: usize, id: usize) -> usize
+pub fn matches(
+    symbols: &[u32],
+    patterns: &[u32],
+    index: &[u32],
+    words: &[u32],
+    mark: Mark,
+    bound: &mut [u32],
+    at: usize,
+    id: usize,
+) -> usize
     requires { ⌜ Matchable (now symbols) (now patterns) (now index) (now words) mark (now bound) at id ⌝ }
     ensures { λ r. ⌜ MatchedAt (now (symbols .entry)) (now (patterns .entry)) (now (index .entry)) (now (words .entry)) mark (now (bound .entry)) (now (bound .exit)) at id r ⌝ }
 {
@@ -134,7 +179,16 @@ pub fn matches(symbols: &[u32], patterns: &[u32], index: &[u32], words: &[u32], 
 }
 
 // Patterns from `at` on, a rule's premises, against as many terms: whether all match; if not, the cells are as they were.
-pub fn match_all(symbols: &[u32], patterns: &[u32], index: &[u32], words: &[u32], mark: Mark, bound: &mut [u32], at: usize, ids: &[u32]) -> bool
+pub fn match_all(
+    symbols: &[u32],
+    patterns: &[u32],
+    index: &[u32],
+    words: &[u32],
+    mark: Mark,
+    bound: &mut [u32],
+    at: usize,
+    ids: &[u32],
+) -> bool
     requires { ⌜ AllMatchable (now symbols) (now patterns) (now index) (now words) mark (now bound) at (now ids) ⌝ }
     ensures { λ r. ⌜ MatchedAll (now (symbols .entry)) (now (patterns .entry)) (now (index .entry)) (now (words .entry)) mark (now (bound .entry)) (now (bound .exit)) at (now (ids .entry)) r ⌝ }
 {
@@ -149,7 +203,15 @@ pub fn match_all(symbols: &[u32], patterns: &[u32], index: &[u32], words: &[u32]
 
 // The pattern at `at` under the bindings comes into the store, arguments first: question 38 at a variable that is bound to nothing, and
 // question 60 where there is no room.
-pub fn build(symbols: &[u32], patterns: &[u32], index: &mut [u32], words: &mut [u32], mark: Mark, bound: &[u32], at: usize) -> Built
+pub fn build(
+    symbols: &[u32],
+    patterns: &[u32],
+    index: &mut [u32],
+    words: &mut [u32],
+    mark: Mark,
+    bound: &[u32],
+    at: usize,
+) -> Built
     requires { ⌜ Buildable (now symbols) (now patterns) (now index) (now words) mark (now bound) at ⌝ }
     ensures { λ r. ⌜ BuiltAt (now (symbols .entry)) (now (patterns .entry)) (now (index .entry)) (now (words .entry)) (now (index .exit)) (now (words .exit)) mark (now (bound .entry)) at r ⌝ }
 {

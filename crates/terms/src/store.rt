@@ -14,7 +14,9 @@ use rules::TERMS;
 
 // The four parts of the index: ends, chains, flags, heads.
 const CHAINS: usize = 4096;
+
 const FLAGS: usize = 8192;
+
 const HEADS: usize = 12288;
 
 // What is used of the tables.
@@ -206,7 +208,14 @@ pub fn forget(index: &mut [u32], words: &mut [u32], mark: Mark, old: Mark)
     let mut terms = mark.terms;
     let mut used = mark.words;
     while least < terms {
-        used = drop_last(index, words, Mark { terms: terms, words: used });
+        used = drop_last(
+            index,
+            words,
+            Mark {
+                terms: terms,
+                words: used,
+            },
+        );
         terms -= 1;
     }
 }
