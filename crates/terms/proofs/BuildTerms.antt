@@ -1,30 +1,30 @@
 -- What building leaves in the tables, at each of its returns and in its loop over the arguments. Assumes nothing.
 use mathlib.Core.Path.{_≡_, refl, sym, ap, _∙_, subst}
 use mathlib.Core.List.{List, [], _∷_, _++_}
-use mathlib.Core.Option.{Option, some, none as nothing}
-use Prim.Native.Nat.{ℕ, zero, suc, _+_, _-_, _*_, _≤_, _<_}
+use mathlib.Core.Option.{some, none as nothing}
+use Prim.Native.Nat.{ℕ, zero, suc, _+_, _-_, _≤_, _<_}
 use native.Mathlib.Omega.{arith}
 use native.Mathlib.Decide.{ℕ-discrete}
 use native.Mathlib.Numerals.{add-one}
 use lib.ListN.{length, getD, set, take, drop, length-set, length-drop}
 use lib.Seq.{getD-set-same, getD-set-other, getD-drop, take-suc, drop-cons, length-take-le}
-use Rattle.rules.specs.Limits.{SYMBOLS, ARGUMENTS, RULEVARS, TERMS, WORDS}
-use Rattle.rules.specs.Out.{Out, ok, refuse, then}
-use Rattle.rules.specs.Tree.{Tree, Trees, var, app, none, more, size, sizes, countTrees}
-use Rattle.rules.specs.Store.{Made, number, keep}
+use Rattle.rules.specs.Limits.{SYMBOLS, ARGUMENTS, TERMS}
+use Rattle.rules.specs.Out.{Out, ok}
+use Rattle.rules.specs.Tree.{Tree, Trees, var, app, more, size}
+use Rattle.rules.specs.Store.{Made, keep}
 use Rattle.rules.specs.StoreLaws.{number-is}
-use Rattle.rules.specs.Match.{Bound, build, builds}
+use Rattle.rules.specs.Match.{Bound, build}
 use Rattle.terms.specs.declared.store.Mark.{Mark}
 use Rattle.terms.specs.declared.store.Kept.{Kept}
 use Rattle.terms.specs.declared.store.Kept.the-variants.{Term as KeptTerm, Full}
 use Rattle.terms.specs.declared.patterns.Built.{Built}
 use Rattle.terms.specs.declared.patterns.Built.the-variants.{Term, No}
-use Rattle.terms.specs.Table.{run, argsOf, treeAt, trees, made, Shaped, isApp, Node, Good, Same, Grown, Stored, Refused, After}
-use Rattle.terms.specs.Patterns.{arity, Stands, Standing, Reads, treeIn, boundOf, Cells, Buildable, Builds, Stops, BuiltBy, BuiltAt}
+use Rattle.terms.specs.Table.{run, argsOf, treeAt, made, Shaped, isApp, Node, Good, Grown, Stored, Refused, After}
+use Rattle.terms.specs.Patterns.{arity, Stands, Reads, treeIn, boundOf, Cells, Buildable, Builds, Stops, BuiltBy, BuiltAt}
 use Rattle.terms.proofs.Words.{run-same, run-length, run-at}
 use Rattle.terms.proofs.Tables.{length-trees, tree-app}
 use Rattle.terms.proofs.Sames.{grown-self, getD-grown, grown-then}
-use Rattle.terms.proofs.Matches.{size-some, stands-in, stands-var, stands-app, reads-in, reads-var, Applied}
+use Rattle.terms.proofs.Matches.{stands-var, stands-app, reads-in, reads-var}
 use Rattle.terms.proofs.Builds.{onto, onto-snoc, onto-agree, build-none, build-some, Remaining, remaining-begins, remaining-reads, remaining-on, remaining-stops, remaining-ends}
 
 -- Bindings stay as the store grows ---------------------------------------------------------------------------------------------------

@@ -1,19 +1,19 @@
 -- Building a tree from a pattern in words: a variable's tree, the loop over the arguments, and the node at the end. Assumes nothing.
 use mathlib.Core.Path.{_≡_, refl, sym, ap, _∙_, subst}
 use mathlib.Core.List.{List, [], _∷_, _++_}
-use mathlib.Core.Option.{Option, some, none as nothing}
-use Prim.Native.Nat.{ℕ, zero, suc, _+_, _-_, _*_, _≤_, _<_, suc-le-suc}
+use mathlib.Core.Option.{none as nothing}
+use Prim.Native.Nat.{ℕ, suc, _+_, _-_, _≤_, _<_, suc-le-suc}
 use native.Mathlib.Omega.{arith}
 use native.Mathlib.Nat.{zero-lt-suc}
 use lib.ListN.{length, getD}
-use Rattle.rules.specs.Limits.{SYMBOLS, ARGUMENTS, RULEVARS}
+use Rattle.rules.specs.Limits.{SYMBOLS}
 use Rattle.rules.specs.Out.{Out, ok, refuse, then, found}
 use Rattle.rules.specs.Tree.{Tree, Trees, var, app, none, more, size, sizes, countTrees}
 use Rattle.rules.specs.Store.{Made, keep}
 use Rattle.rules.specs.Match.{Bound, build, builds}
 use Rattle.terms.specs.Table.{argsOf}
 use Rattle.terms.specs.Patterns.{arity, Stands, Standing, Reads, treeIn, boundOf}
-use Rattle.terms.proofs.Matches.{stands-app, Applied}
+use Rattle.terms.proofs.Matches.{stands-app}
 
 then-then : {S A B C : Type 0} (K : Out S A) (g : A → S → Out S B) (f : B → S → Out S C) → then (then K g) f ≡ then K (λ a s. then (g a s) f)
 unfolding then

@@ -1,20 +1,20 @@
 -- The trees made determine every cell of good tables, and the bindings every cell of theirs. So tables that went back to an old mark are
 -- the tables that were. Assumes nothing.
 use mathlib.Core.Path.{_≡_, refl, sym, ap, _∙_, subst}
-use mathlib.Core.List.{List, [], _∷_}
-use mathlib.Core.Option.{Option, some, none as nothing}
+use mathlib.Core.List.{List}
+use mathlib.Core.Option.{none as nothing}
 use Prim.Native.Nat.{ℕ, zero, suc, _+_, _-_, _≤_, _<_}
 use native.Mathlib.Omega.{arith}
 use native.Mathlib.Decide.{decLt}
 use lib.ListN.{length, getD}
 use lib.Seq.{ext-getD}
-use Rattle.rules.specs.Limits.{TERMS, WORDS, RULEVARS}
-use Rattle.rules.specs.Tree.{Tree, var, isOpen}
+use Rattle.rules.specs.Limits.{TERMS}
+use Rattle.rules.specs.Tree.{var, isOpen}
 use Rattle.rules.specs.Store.{Made}
 use Rattle.rules.specs.StoreLaws.{Apart}
 use Rattle.rules.specs.Match.{Bound}
 use Rattle.terms.specs.declared.store.Mark.{Mark}
-use Rattle.terms.specs.Table.{CHAINS, FLAGS, HEADS, INDEX, BUCKETS, run, start, nodeAt, treeAt, trees, made, hash, bucket, latest, flag, Shaped, Good, Same, Grown, Part, Back}
+use Rattle.terms.specs.Table.{CHAINS, FLAGS, HEADS, INDEX, BUCKETS, start, nodeAt, treeAt, trees, made, hash, bucket, latest, flag, Shaped, Good, Same, Grown, Part, Back}
 use Rattle.terms.specs.Patterns.{treeIn, boundOf, Cells}
 use Rattle.terms.proofs.Words.{run-at}
 use Rattle.terms.proofs.Hash.{latest-agree}

@@ -1,24 +1,22 @@
 -- Going back to an old mark: one term less, then down to the mark; and good tables at one mark with the same words are the same tables,
 -- cell by cell. Assumes nothing.
 use mathlib.Core.Path.{_≡_, refl, sym, ap, _∙_, subst}
-use mathlib.Core.List.{List, [], _∷_, _++_}
-use mathlib.Core.Logic.{⊎-elim, _⊎_, inl, inr}
+use mathlib.Core.List.{List, _++_}
 use Prim.Native.Nat.{ℕ, zero, suc, _+_, _-_, _≤_, _<_}
 use native.Mathlib.Omega.{arith}
 use native.Mathlib.Decide.{ℕ-discrete, decLt}
 use lib.ListN.{length, getD, set, take, drop, replicate, length-set, length-append, length-drop, length-replicate, List·getD-append}
-use lib.Seq.{getD-set-same, getD-set-other, getD-take, getD-drop, getD-append-add, length-take-le, drop-drop, ext-getD}
-use Rattle.rules.specs.Limits.{TERMS, WORDS}
+use lib.Seq.{getD-set-same, getD-set-other, getD-take, getD-drop, getD-append-add, length-take-le}
+use Rattle.rules.specs.Limits.{TERMS}
 use Rattle.rules.specs.Tree.{Tree, var, isOpen}
 use Rattle.rules.specs.Store.{Made}
 use Rattle.rules.specs.StoreLaws.{Apart}
 use Rattle.terms.specs.declared.store.Mark.{Mark}
-use Rattle.terms.specs.Table.{CHAINS, FLAGS, HEADS, INDEX, BUCKETS, run, start, nodeAt, treeAt, trees, made, hash, bucket, latest, flag, Shaped, Good, Same, Grown, Part, Back, lower}
+use Rattle.terms.specs.Table.{CHAINS, FLAGS, HEADS, INDEX, BUCKETS, run, start, nodeAt, trees, made, hash, bucket, latest, flag, Shaped, Good, Same, Part, Back, lower}
 use Rattle.terms.specs.Node.{Unlinked}
 use Rattle.terms.proofs.Words.{run-same, run-length}
 use Rattle.terms.proofs.Hash.{hash-small, latest-agree, latest-other}
-use Rattle.terms.proofs.Tables.{rising, start-next, length-trees, getD-trees, trees-same, end-within}
-use Rattle.terms.proofs.Sames.{start-same, node-same, made-same}
+use Rattle.terms.proofs.Tables.{rising, length-trees, getD-trees, trees-same, end-within}
 
 -- The index ------------------------------------------------------------------------------------------------------------------------
 

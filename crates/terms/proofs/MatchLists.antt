@@ -1,19 +1,18 @@
 -- Patterns against a list of terms; and what a match answers once the cells are put back where there was none. Assumes nothing.
 use mathlib.Core.Path.{_≡_, refl, sym, ap, _∙_, subst}
-use mathlib.Core.Bool.{Bool, true, false, true≢false, false≢true}
-use mathlib.Core.List.{List, [], _∷_, _++_, append-nil}
-use Prim.Native.Nat.{ℕ, zero, suc, _+_, _-_, _≤_, _<_}
+use mathlib.Core.Bool.{Bool, true, false, true≢false}
+use mathlib.Core.List.{List, _∷_, _++_, append-nil}
+use Prim.Native.Nat.{ℕ, suc, _+_, _≤_, _<_}
 use native.Mathlib.Omega.{arith}
 use native.Mathlib.Numerals.{add-one}
 use lib.ListN.{length, getD, drop, drop-of-length-le}
 use lib.Seq.{drop-cons, drop-length}
-use Rattle.rules.specs.Limits.{RULEVARS}
-use Rattle.rules.specs.Tree.{Tree, Trees, var, size, sizes, countTrees}
+use Rattle.rules.specs.Tree.{Trees, var, size, sizes, countTrees}
 use Rattle.rules.specs.Store.{Made}
-use Rattle.rules.specs.Match.{Bound, matches, matchAll}
+use Rattle.rules.specs.Match.{matches, matchAll}
 use Rattle.terms.specs.declared.store.Mark.{Mark}
-use Rattle.terms.specs.Table.{argsOf, made, Good}
-use Rattle.terms.specs.Patterns.{Stands, Standing, Reads, boundOf, Cells, Matchable, AllMatchable, Tried, hit, miss, AllTried, hits, misses, Matched, matched, other, AllMatched, all, notAll, TriedAt, TriedAll, MatchedAt, MatchedAll}
+use Rattle.terms.specs.Table.{argsOf, made}
+use Rattle.terms.specs.Patterns.{Standing, boundOf, Matchable, AllMatchable, Tried, hit, miss, AllTried, hits, misses, Matched, matched, other, AllMatched, all, notAll, TriedAt, TriedAll, MatchedAt, MatchedAll}
 use Rattle.terms.proofs.Nodes.{Writing, writing-ends}
 use Rattle.terms.proofs.Tables.{length-trees}
 use Rattle.terms.proofs.Matches.{size-some, Matching, matching-reads, matching-on, matching-miss, matching-ends}

@@ -1,20 +1,20 @@
 -- What the match of one pattern with one term leaves, at each of its returns and in its loop over the arguments. Assumes nothing.
 use mathlib.Core.Path.{_≡_, refl, sym, ap, _∙_, subst}
-use mathlib.Core.List.{List, [], _∷_}
-use mathlib.Core.Option.{Option, some, none as nothing}
-use Prim.Native.Nat.{ℕ, zero, suc, _+_, _-_, _*_, _≤_, _<_}
+use mathlib.Core.List.{List, _∷_}
+use mathlib.Core.Option.{none as nothing}
+use Prim.Native.Nat.{ℕ, zero, suc, _+_, _-_, _≤_, _<_}
 use native.Mathlib.Omega.{arith}
 use lib.ListN.{length, getD, set}
-use Rattle.rules.specs.Limits.{SYMBOLS, ARGUMENTS, RULEVARS, TERMS, WORDS}
-use Rattle.rules.specs.Tree.{Tree, Trees, var, app, none, more, size, sizes, countTrees}
+use Rattle.rules.specs.Limits.{SYMBOLS, RULEVARS}
+use Rattle.rules.specs.Tree.{Tree, Trees, var, app, size, sizes, countTrees}
 use Rattle.rules.specs.Store.{Made}
-use Rattle.rules.specs.Match.{Bound, matches, matchAll}
+use Rattle.rules.specs.Match.{matches}
 use Rattle.terms.specs.declared.store.Mark.{Mark}
-use Rattle.terms.specs.Table.{INDEX, run, start, nodeAt, argsOf, treeAt, trees, made, Shaped, isVar, isApp, Good}
-use Rattle.terms.specs.Patterns.{arity, Stands, Standing, Reads, boundOf, Cells, Matchable, Tried, hit, miss, TriedAt}
+use Rattle.terms.specs.Table.{run, start, nodeAt, argsOf, treeAt, made, Shaped, isVar, isApp, Good}
+use Rattle.terms.specs.Patterns.{arity, Stands, boundOf, Cells, Matchable, Tried, hit, miss, TriedAt}
 use Rattle.terms.proofs.Words.{run-more, run-none, run-length, run-at}
 use Rattle.terms.proofs.Tables.{length-trees, tree-here, end-within, args-count}
-use Rattle.terms.proofs.Matches.{stands-in, stands-var, stands-app, reads-in, reads-var, Applied, var-new, var-same, var-other, all-other, app-same, app-other, Matching, matching-reads, matching-on, matching-miss, matching-ends}
+use Rattle.terms.proofs.Matches.{stands-var, stands-app, reads-var, var-new, var-same, var-other, all-other, app-same, app-other, Matching, matching-reads, matching-on, matching-miss, matching-ends}
 
 -- The node of a term -------------------------------------------------------------------------------------------------------------
 

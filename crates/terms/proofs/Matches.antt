@@ -3,25 +3,22 @@ use mathlib.Core.Path.{_≡_, refl, sym, ap, _∙_, subst}
 use mathlib.Core.Bool.{Bool, true, false}
 use mathlib.Core.List.{List, [], _∷_}
 use mathlib.Core.Option.{Option, some, none as nothing}
-use Prim.Native.Nat.{ℕ, zero, suc, _+_, _-_, _*_, _≤_, _<_}
+use Prim.Native.Nat.{ℕ, zero, suc, _+_, _-_, _≤_, _<_}
 use native.Mathlib.Omega.{arith}
 use native.Mathlib.Decide.{ℕ-discrete, decLt}
 use native.Mathlib.Numerals.{add-one}
 use lib.ListN.{length, getD, set, length-set}
 use lib.Seq.{getD-set-same, getD-set-other}
-use lib.Dec.{eqb}
 use borrow.Author.Tests.{eq-eqb, ne-eqb}
-use Rattle.rules.specs.Limits.{SYMBOLS, ARGUMENTS, RULEVARS, TERMS, WORDS}
-use Rattle.rules.specs.Tree.{Tree, Trees, var, app, none, more, size, sizes, countTrees, sameTree}
+use Rattle.rules.specs.Limits.{SYMBOLS, ARGUMENTS, RULEVARS}
+use Rattle.rules.specs.Tree.{Tree, Trees, var, app, none, more, size, sizes, countTrees}
 use Rattle.rules.specs.TreeLaws.{not-same, same-self}
 use Rattle.rules.specs.Store.{Made}
 use Rattle.rules.specs.StoreLaws.{Apart}
 use Rattle.rules.specs.Match.{Bound, bind, matchVar, andThen, matches, matchAll}
-use Rattle.terms.specs.declared.store.Mark.{Mark}
-use Rattle.terms.specs.Table.{run, start, nodeAt, argsOf, treeAt, trees, made, Shaped, isVar, isApp, Good}
-use Rattle.terms.specs.Patterns.{arity, Stands, Standing, Reads, treeIn, boundOf, Cells, Matchable, Tried, hit, miss}
-use Rattle.terms.proofs.Words.{run-more, run-none, run-length, run-at}
-use Rattle.terms.proofs.Tables.{length-trees, tree-here, tree-app, tree-var, end-within, args-count}
+use Rattle.terms.specs.Table.{argsOf, treeAt, trees}
+use Rattle.terms.specs.Patterns.{arity, Stands, Standing, Reads, treeIn, boundOf, Cells, Tried, hit, miss}
+use Rattle.terms.proofs.Tables.{tree-app, tree-var}
 
 -- Patterns in words ------------------------------------------------------------------------------------------------------------
 

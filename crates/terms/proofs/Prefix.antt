@@ -1,14 +1,14 @@
 -- A pattern's words, as the layout of the theory tables has them (`prefix`), are what matching and building ask for. Assumes nothing.
-use mathlib.Core.Path.{_≡_, refl, sym, ap, _∙_, subst}
-use mathlib.Core.List.{List, [], _∷_, _++_, append-assoc}
-use Prim.Native.Nat.{ℕ, zero, suc, _+_, _-_, _≤_, _<_}
+use mathlib.Core.Path.{_≡_, refl, sym, ap, _∙_}
+use mathlib.Core.List.{List, _∷_, _++_, append-assoc}
+use Prim.Native.Nat.{ℕ, suc, _+_, _<_}
 use native.Mathlib.Omega.{arith}
 use lib.ListN.{length, getD, drop, length-append, length-drop}
 use lib.Seq.{drop-drop, drop-at, getD-drop}
-use Rattle.rules.specs.Limits.{SYMBOLS, ARGUMENTS, RULEVARS}
-use Rattle.rules.specs.Tree.{Tree, Trees, var, app, none, more, size, sizes, countTrees}
+use Rattle.rules.specs.Limits.{SYMBOLS}
+use Rattle.rules.specs.Tree.{Tree, Trees, var, app, none, more, size, sizes}
 use Rattle.rules.specs.TheoryTables.{prefix, prefixes}
-use Rattle.terms.specs.Patterns.{arity, Stands, Standing, Fits, FitsAll}
+use Rattle.terms.specs.Patterns.{Stands, Standing, Fits, FitsAll}
 
 mutual
   unfolding prefix size

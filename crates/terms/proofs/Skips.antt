@@ -1,14 +1,14 @@
 -- Going over patterns word by word: how many are left. Assumes nothing.
-use mathlib.Core.Path.{_≡_, refl, sym, ap, _∙_, subst}
+use mathlib.Core.Path.{_≡_, refl, sym, ap, subst}
 use mathlib.Core.Bool.{Bool, true, false}
 use mathlib.Core.List.{List}
-use Prim.Native.Nat.{ℕ, zero, suc, _+_, _-_, _*_, _≤_, _<_}
+use Prim.Native.Nat.{ℕ, suc, _+_, _-_, _≤_, _<_}
 use native.Mathlib.Omega.{arith}
 use lib.ListN.{length, getD}
 use borrow.Author.Tests.{lt-ltb, le-ltb}
-use Rattle.rules.specs.Limits.{SYMBOLS, ARGUMENTS, RULEVARS}
+use Rattle.rules.specs.Limits.{SYMBOLS, ARGUMENTS}
 use Rattle.rules.specs.Tree.{Tree, Trees, var, app, none, more, size, sizes, countTrees}
-use Rattle.terms.specs.Patterns.{arity, Stands, Standing, ReadsAll, Skippable, Skipped, argsAt}
+use Rattle.terms.specs.Patterns.{arity, Stands, Standing, Skippable, Skipped, argsAt}
 use Rattle.terms.proofs.Matches.{size-some}
 
 pub args-symbol : (S : List ℕ) (h : ℕ) → h < SYMBOLS → arity S h ≡ argsAt S h

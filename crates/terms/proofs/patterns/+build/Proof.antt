@@ -1,12 +1,11 @@
-use mathlib.Core.Path.{_∙_, refl, sym}
-use Prim.Native.Nat.{ℕ, _+_, _-_, _*_, _<_}
+use mathlib.Core.Path.{refl}
+use Prim.Native.Nat.{ℕ, _-_, _<_}
 use native.Mathlib.Omega.{arith}
 use lib.ListN.{length, getD}
 use Rattle.rules.specs.Limits.{SYMBOLS}
-use Rattle.terms.proofs.Matches.{reads-in, reads-var}
+use Rattle.terms.proofs.Matches.{reads-in}
 use Rattle.terms.proofs.BuildTerms.{cell-there, build-unbound, build-bound, Building, building-begins, building-asks, building-falls, node-count, building-stops, built-there, built-room, building-on, node-ready, building-done, building-full}
 use borrow.Author.Needs.{needs}
-use Prim.Native.Nat.{ℕ, _<_}
 use borrow.Fn.Kinds.{In}
 use borrow.Fn.PlainCycle.{Measures, is, falls, and}
 use Rattle.terms.proofs.patterns.build.Reads as build

@@ -1,12 +1,10 @@
-use mathlib.Core.Path.{_∙_}
-use Prim.Native.Nat.{ℕ, _+_, _-_, _*_, _<_}
+use Prim.Native.Nat.{ℕ, _-_, _<_}
 use native.Mathlib.Omega.{arith}
-use lib.ListN.{length, getD}
+use lib.ListN.{getD}
 use Rattle.rules.specs.Limits.{SYMBOLS}
-use Rattle.terms.proofs.Matches.{reads-in, reads-var}
+use Rattle.terms.proofs.Matches.{reads-in}
 use Rattle.terms.proofs.MatchTerms.{node-fits, term-new, term-same, term-differs, cell-in, term-head, term-count, Looping, looping-begins, looping-falls, looping-asks, looping-miss, looping-on, looping-ends}
 use borrow.Author.Needs.{needs}
-use Prim.Native.Nat.{ℕ, _<_}
 use borrow.Fn.Kinds.{In}
 use borrow.Fn.PlainCycle.{Measures, is, falls, and}
 use Rattle.terms.proofs.patterns.match_term.Reads as match-term

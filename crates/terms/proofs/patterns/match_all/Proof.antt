@@ -1,5 +1,3 @@
-use mathlib.Core.Path.{_∙_, sym}
-use native.Mathlib.Omega.{arith}
 use Rattle.terms.proofs.MatchLists.{all-stays, all-hits}
 use borrow.Author.Needs.{needs}
 use Rattle.terms.proofs.patterns.match_all.Statement.{statement}

@@ -1,4 +1,4 @@
-use Prim.Native.Nat.{ℕ, _+_, _-_}
+use Prim.Native.Nat.{_-_}
 use native.Mathlib.Omega.{arith}
 use lib.ListN.{length}
 use Rattle.terms.proofs.MatchLists.{Listing, listing-begins, listing-asks, listing-miss, listing-on, listing-ends}

@@ -1,5 +1,3 @@
-use mathlib.Core.Path.{_∙_, sym}
-use native.Mathlib.Omega.{arith}
 use Rattle.terms.proofs.MatchLists.{match-stays, match-hits}
 use borrow.Author.Needs.{needs}
 use Rattle.terms.proofs.patterns.matches.Statement.{statement}

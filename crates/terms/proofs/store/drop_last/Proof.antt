@@ -1,6 +1,5 @@
-use Prim.Native.Nat.{ℕ, _+_, _-_}
+use Prim.Native.Nat.{_-_}
 use native.Mathlib.Omega.{arith}
-use lib.ListN.{length}
 use Rattle.terms.proofs.Forgets.{last-fits, last-unlinks, last-gone}
 use borrow.Author.Needs.{needs}
 use Rattle.terms.proofs.store.drop_last.Statement.{statement}

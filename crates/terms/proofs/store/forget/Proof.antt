@@ -1,7 +1,5 @@
 use mathlib.Core.Path.{refl}
-use Prim.Native.Nat.{ℕ, _+_, _-_}
 use native.Mathlib.Omega.{arith}
-use lib.ListN.{length}
 use Rattle.terms.proofs.Forgets.{Going, going-begins, going-on, going-ends}
 use borrow.Author.Needs.{needs}
 use Rattle.terms.proofs.store.forget.Statement.{statement}

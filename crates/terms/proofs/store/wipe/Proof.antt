@@ -1,4 +1,4 @@
-use Prim.Native.Nat.{ℕ, _+_, _-_}
+use Prim.Native.Nat.{_-_}
 use lib.ListN.{length}
 use Rattle.terms.proofs.Words.{Clearing, clearing-begins, clearing-on, clearing-done}
 use borrow.Author.Needs.{needs}
