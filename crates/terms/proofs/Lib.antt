@@ -15,3 +15,12 @@ pub mod Closeds
 pub mod Substs
 pub mod SubstLoop
 pub mod Fresh
+pub mod Matches
+pub mod MatchTerms
+pub mod MatchLists
+pub mod Forgets
+pub mod Builds
+pub mod BuildTerms
+pub mod Determined
+pub mod Prefix
+pub mod Skips

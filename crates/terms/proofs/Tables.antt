@@ -119,7 +119,7 @@ tree-one M a (isApp {h = h} {xs = xs} p b) (isApp {h = g} {xs = ys} q d) e =
     let r : xs ≡ ys = args-one M xs ys a b d z in
     λ i. y i ∷ r i
 
-args-count : (M : Made) (xs : List ℕ) → countTrees (argsOf M xs) ≡ length xs
+pub args-count : (M : Made) (xs : List ℕ) → countTrees (argsOf M xs) ≡ length xs
 unfolding countTrees argsOf
 args-count M [] = refl
 args-count M (x ∷ xs) = ap suc (args-count M xs)
@@ -131,7 +131,7 @@ tree-node M k (isApp {h = h} {xs = xs} p b) = ap node (tree-app M h xs p) ∙ ap
 
 -- Tables that are good -----------------------------------------------------------------------------------------------------------------
 
-rising : (I : List ℕ) (i n : ℕ) → ((j : ℕ) → j < n → start I j < getD I j 0) → i < n → getD I i 0 ≤ start I n
+pub rising : (I : List ℕ) (i n : ℕ) → ((j : ℕ) → j < n → start I j < getD I j 0) → i < n → getD I i 0 ≤ start I n
 unfolding start
 rising I i zero r l = absurd (not-suc-le-zero l)
 rising I i (suc n) r l = ⊎-elim (λ p. let z = rising I i n (λ j k. r j (omega arith)) p in let y = r n (omega arith) in omega arith) (λ e. rw e (omega arith)) (last-or i n l)
@@ -141,7 +141,7 @@ module _ (I W : List ℕ) (m : Mark) (g : Good I W m) where
   pub tree-here : (i : ℕ) → i < m .terms → getD (trees I W (m .terms)) i (var 0) ≡ treeAt (trees I W (m .terms)) (nodeAt I W i)
   tree-here i h = getD-trees I W (m .terms) i h ∙ tree-agree (trees I W i) (trees I W (m .terms)) i (g .shaped i h) (λ j l. getD-trees I W i j l ∙ sym (getD-trees I W (m .terms) j (omega arith)))
 
-  wide : (i : ℕ) → i < m .terms → Shaped (length (trees I W (m .terms))) (nodeAt I W i)
+  pub wide : (i : ℕ) → i < m .terms → Shaped (length (trees I W (m .terms))) (nodeAt I W i)
   wide i h = wider i (length (trees I W (m .terms))) (let z = length-trees I W (m .terms) in omega arith) (g .shaped i h)
 
   -- a node that no term has stands for no term's tree

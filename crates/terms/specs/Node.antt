@@ -27,3 +27,12 @@ pub record Linked (I J : List ℕ) (n b e o : ℕ) : Type 0 where
   pub flag : getD J (FLAGS + n) 0 ≡ o
   pub head : getD J (HEADS + b) 0 ≡ suc n
   pub other : (j : ℕ) → (j ≡ n → ⊥) → (j ≡ CHAINS + n → ⊥) → (j ≡ FLAGS + n → ⊥) → (j ≡ HEADS + b → ⊥) → getD J j 0 ≡ getD I j 0
+
+-- term n went out of the index, of bucket b
+pub record Unlinked (I J : List ℕ) (n b : ℕ) : Type 0 where
+  pub long : length J ≡ length I
+  pub end : getD J n 0 ≡ 0
+  pub chain : getD J (CHAINS + n) 0 ≡ 0
+  pub flag : getD J (FLAGS + n) 0 ≡ 0
+  pub head : getD J (HEADS + b) 0 ≡ getD I (CHAINS + n) 0
+  pub other : (j : ℕ) → (j ≡ n → ⊥) → (j ≡ CHAINS + n → ⊥) → (j ≡ FLAGS + n → ⊥) → (j ≡ HEADS + b → ⊥) → getD J j 0 ≡ getD I j 0

@@ -149,3 +149,20 @@ pub record Refused (A : Type 0) (I W J X : List ℕ) (old : Mark) (K : Out Made 
 abbrev pub After : List ℕ → List ℕ → List ℕ → List ℕ → Mark → Tree → Out Made Tree → Kept → Type 0
 After I W J X old t K (Term n new) = Stored I W J X old t K n new
 After I W J X old t K (Full r new) = Refused Tree I W J X old K r new
+
+-- Back to an old mark ----------------------------------------------------------------------------------------------------------------
+
+-- the first terms, up to the mark old, are a part of those up to m
+pub record Part (I W : List ℕ) (m old : Mark) : Type 0 where
+  pub good : Good I W m
+  pub fewer : old .terms ≤ m .terms
+  pub ends : old .words ≡ start I (old .terms)
+
+-- the tables hold these alone
+pub record Back (I W J X : List ℕ) (old : Mark) : Type 0 where
+  pub good : Good J X old
+  pub same : Same I W J X old
+
+-- the mark with one term less, whose words end at e
+abbrev pub lower : Mark → ℕ → Mark
+lower m e = record { terms = m .terms - 1; words = e }

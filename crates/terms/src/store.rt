@@ -3,18 +3,20 @@
 ghost use mathlib.Core.Path.{_≡_};
 ghost use mathlib.Core.List.{_++_};
 ghost use Prim.Native.Nat.{ℕ, _+_, _-_, _≤_, _<_};
-ghost use lib.ListN.{length, getD, drop};
+ghost use lib.ListN.{length, getD, drop, replicate};
 ghost use Rattle.rules.specs.Limits.{TERMS, WORDS};
 ghost use Rattle.rules.specs.Tree.{isOpen};
 ghost use Rattle.rules.specs.Store.{keep};
-ghost use Rattle.terms.specs.Table.{INDEX, BUCKETS, run, start, treeAt, made, hash, flag, Shaped, Node, Good, After};
-ghost use Rattle.terms.specs.Node.{sameWords, seek, Linked};
+ghost use Rattle.terms.specs.Table.{INDEX, BUCKETS, run, start, treeAt, made, hash, flag, Shaped, Node, Good, After, Part, Back, lower};
+ghost use Rattle.terms.specs.Node.{sameWords, seek, Linked, Unlinked};
 use rules::SYMBOLS;
 use rules::TERMS;
 
 // The four parts of the index: ends, chains, flags, heads.
 const CHAINS: usize = 4096;
+
 const FLAGS: usize = 8192;
+
 const HEADS: usize = 12288;
 
 // What is used of the tables.
@@ -159,4 +161,61 @@ pub fn keep(index: &mut [u32], words: &mut [u32], mark: Mark, node: &[u32]) -> K
             words: end,
         },
     )
+}
+
+// Term n, the last one, goes out of the index; its bucket starts with the next one of the chain.
+fn unlink(index: &mut [u32], n: usize, bucket: usize)
+    requires { ⌜ (length (now index) ≡ INDEX) × (n < TERMS) × (bucket < BUCKETS) ⌝ }
+    ensures { λ _. ⌜ Unlinked (now (index .entry)) (now (index .exit)) n bucket ⌝ }
+{
+    index[HEADS + bucket] = index[CHAINS + n];
+    index[CHAINS + n] = 0;
+    index[FLAGS + n] = 0;
+    index[n] = 0;
+}
+
+// Every cell becomes 0.
+fn wipe(cells: &mut [u32])
+    ensures { λ _. ⌜ now (cells .exit) ≡ replicate (length (now (cells .entry))) 0 ⌝ }
+{
+    let mut i = 0;
+    while i < cells.len() {
+        cells[i] = 0;
+        i += 1;
+    }
+}
+
+// The last term is taken away; what comes back is where its words started.
+fn drop_last(index: &mut [u32], words: &mut [u32], mark: Mark) -> usize
+    requires { ⌜ Good (now index) (now words) mark × (0 < mark .terms) ⌝ }
+    ensures { λ r. ⌜ Back (now (index .entry)) (now (words .entry)) (now (index .exit)) (now (words .exit)) (lower mark r) × (r ≤ mark .words) ⌝ }
+{
+    let n = mark.terms - 1;
+    let start = start_of(index, n);
+    let end = index[n] as usize;
+    let bucket = bucket_of(&words[start..end]);
+    unlink(index, n, bucket);
+    wipe(&mut words[start..end]);
+    start
+}
+
+// The tables go back to the old mark: the terms behind it are taken away, the highest first.
+pub fn forget(index: &mut [u32], words: &mut [u32], mark: Mark, old: Mark)
+    requires { ⌜ Part (now index) (now words) mark old ⌝ }
+    ensures { λ _. ⌜ Back (now (index .entry)) (now (words .entry)) (now (index .exit)) (now (words .exit)) old ⌝ }
+{
+    let least = old.terms;
+    let mut terms = mark.terms;
+    let mut used = mark.words;
+    while least < terms {
+        used = drop_last(
+            index,
+            words,
+            Mark {
+                terms: terms,
+                words: used,
+            },
+        );
+        terms -= 1;
+    }
 }

@@ -1,0 +1,112 @@
+use Prim.Native.Nat.{_-_}
+use native.Mathlib.Omega.{arith}
+use Rattle.terms.proofs.Forgets.{last-fits, last-unlinks, last-gone}
+use borrow.Author.Needs.{needs}
+use Rattle.terms.proofs.store.drop_last.Statement.{statement}
+use Rattle.terms.proofs.store.drop_last.Tie as tie
+use Rattle.terms.proofs.store.drop_last.Reads as reads
+use Rattle.terms.proofs.store.drop_last.Lts as lts
+use Rattle.terms.proofs.store.bucket_of.Reads as bucket-of-reads
+use Rattle.terms.proofs.store.start_of.Reads as start-of-reads
+use Rattle.terms.proofs.store.unlink.Reads as unlink-reads
+use Rattle.terms.proofs.store.wipe.Reads as wipe-reads
+
+-- src/store.rt:191:13
+sub-n : tie.Need-sub-n
+sub-n c = search needs
+
+-- src/store.rt:192:9
+start-of-requires : tie.Need-start-of-requires
+start-of-requires c κs = search needs
+
+-- src/store.rt:193:15
+mul-end : tie.Need-mul-end
+mul-end c = search needs
+
+-- src/store.rt:193:15
+slice-read-end : tie.Need-slice-read-end
+slice-read-end c = search needs
+
+-- src/store.rt:193:15
+cast-end : tie.Need-cast-end
+cast-end c = omega (arith, (c .slice-known3) .given ((c .before .before .before .before .before .before .args) .mark .terms - 1))
+
+-- src/store.rt:194:28
+mul-bucket-of : tie.Need-mul-bucket-of
+mul-bucket-of c = omega (arith, last-fits _ _ _ ((c .before .before .before .before .before .before .pre)) _ ((c .before .start-of) .ensures), (c .before .before .before .before .before .before .good) .1 .0)
+
+-- src/store.rt:194:28
+sub-bucket-of : tie.Need-sub-bucket-of
+sub-bucket-of c = omega (arith, last-fits _ _ _ ((c .before .before .before .before .before .before .pre)) _ ((c .before .start-of) .ensures))
+
+-- src/store.rt:194:28
+part-bucket-of-start : tie.Need-part-bucket-of-start
+part-bucket-of-start c = omega (arith, last-fits _ _ _ ((c .before .before .before .before .before .before .before .pre)) _ ((c .before .before .start-of) .ensures))
+
+-- src/store.rt:194:28
+part-bucket-of-end : tie.Need-part-bucket-of-end
+part-bucket-of-end c = omega (arith, last-fits _ _ _ ((c .before .before .before .before .before .before .before .pre)) _ ((c .before .before .start-of) .ensures))
+
+-- src/store.rt:194:9
+bucket-of-requires : tie.Need-bucket-of-requires
+bucket-of-requires c κs = search needs
+
+-- src/store.rt:195:5
+unlink-requires : tie.Need-unlink-requires
+unlink-requires c κs = last-unlinks _ _ _ ((c .before .before .before .before .before .before .before .before .before .before .pre)) _ ((c .before .before .before .before .before .start-of) .ensures) _ ((c .before .bucket-of) .ensures)
+
+-- src/store.rt:196:10
+mul-wipe : tie.Need-mul-wipe
+mul-wipe c = omega (arith, last-fits _ _ _ ((c .before .before .before .before .before .before .before .before .before .before .before .before .before .pre)) _ ((c .before .before .before .before .before .before .before .before .start-of) .ensures), (c .before .before .before .before .before .before .before .before .before .before .before .before .before .good) .1 .0)
+
+-- src/store.rt:196:10
+sub-wipe : tie.Need-sub-wipe
+sub-wipe c = omega (arith, last-fits _ _ _ ((c .before .before .before .before .before .before .before .before .before .before .before .before .before .pre)) _ ((c .before .before .before .before .before .before .before .before .start-of) .ensures))
+
+-- src/store.rt:196:10
+part-wipe-start : tie.Need-part-wipe-start
+part-wipe-start c = omega (arith, last-fits _ _ _ ((c .before .before .before .before .before .before .before .before .before .before .before .before .before .pre)) _ ((c .before .before .before .before .before .before .before .before .start-of) .ensures))
+
+-- src/store.rt:196:10
+part-wipe-end : tie.Need-part-wipe-end
+part-wipe-end c = omega (arith, last-fits _ _ _ ((c .before .before .before .before .before .before .before .before .before .before .before .before .before .pre)) _ ((c .before .before .before .before .before .before .before .before .start-of) .ensures))
+
+-- src/store.rt:196:5
+wipe-requires : tie.Need-wipe-requires
+wipe-requires c κs = search needs
+
+-- src/store.rt:187:1
+same-length : tie.Need-same-length
+same-length c = search needs
+
+-- src/store.rt:187:1
+same-length-2 : tie.Need-same-length-2
+same-length-2 c = search needs
+
+-- src/store.rt:187:1
+returns : tie.Need-returns
+returns c = last-gone _ _ _ ((c .before .before .before .before .before .before .before .before .before .before .before .before .before .before .before .before .before .pre)) _ ((c .before .before .before .before .before .before .before .before .before .before .before .before .start-of) .ensures) _ ((c .before .before .before .before .before .before .before .before .bucket-of) .ensures) _ ((c .before .before .before .before .before .before .unlink) .ensures) _ ((c .before .before .wipe) .ensures)
+
+pub drop-last-spec : {M : Type 1} → statement M
+drop-last-spec =
+    tie.close
+    (tie.spec
+    sub-n
+    start-of-requires
+    mul-end
+    slice-read-end
+    cast-end
+    mul-bucket-of
+    sub-bucket-of
+    part-bucket-of-start
+    part-bucket-of-end
+    bucket-of-requires
+    unlink-requires
+    mul-wipe
+    sub-wipe
+    part-wipe-start
+    part-wipe-end
+    wipe-requires
+    same-length
+    same-length-2
+    returns)
