@@ -1,7 +1,9 @@
--- The words of demand 3, fourth part: written derivations. Definitions, and an example that computes.
+-- The words of demand 3, fourth part: written derivations. Definitions only; WrittenExample has one that computes.
 -- "A written derivation has a theory that is not refused; its goals text is one goal, the root's judgment, without listed hypotheses. Its
 -- proof has for each node one `step`, under the next index and behind its children's, with the node's rule, the children in order by bare
 -- index and the conclusion; last comes the `result` with the root's index, and there is no other form."
+-- Here a step may also be the child of several others, or of none: AcceptedTree has how the nodes of any derivation are such steps, and
+-- WrittenTree that only what is derivable is written.
 use Prim.Native.Nat.{ℕ, suc, _<_}
 use mathlib.Core.Path.{_≡_}
 use mathlib.Core.Logic.{_⊎_}
@@ -207,7 +209,8 @@ unfoldable mutual
 unfoldable pub few : Made → Bool
 few m = leb (length m) TERMS && leb (words m) WORDS
 
--- question 60: no more nodes than facts (row 12), and few enough trees in the goal and all conclusions
+-- question 60: no more nodes than facts (row 12), and few enough trees in the goal and all conclusions. The theory has passed rows 1 to 6;
+-- the others cannot be reached by one goal and ground steps
 unfoldable pub roomy : Theory → Tree → List Step → Bool
 roomy T j ss = leb (length ss) FACTS && few (gathers (more j (treesOf (conclusions T ss))) [])
 

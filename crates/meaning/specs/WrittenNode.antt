@@ -26,8 +26,8 @@ use Rattle.meaning.specs.Matching.{Agrees, bind-cases}
 use Rattle.meaning.specs.Asked.{some-same}
 use Rattle.meaning.specs.Signature.{sig, Value, Values, arity, ruleSort}
 use Rattle.meaning.specs.Written.{name, Step, conclusion, Names, NamesAll, Node, atoms}
-use Rattle.meaning.specs.WrittenRead.{bare, bares}
-use Rattle.meaning.specs.WrittenTerms.{no, atom-of, nil-of, cons-of, then-found, then-ok}
+use Rattle.meaning.specs.WrittenRead.{no, bare, bares}
+use Rattle.meaning.specs.WrittenTerms.{atom-of, nil-of, cons-of, then-found, then-ok}
 
 -- Matching ------------------------------------------------------------------------------------------------------------------------
 

@@ -48,7 +48,8 @@ joined-snoc (consˢ y ys) x fs = ap (cons (bare y)) (joined-snoc ys x fs)
 
 -- Tokens --------------------------------------------------------------------------------------------------------------------------
 
-no : {A : Type 0} → _≡_ {A = ℕ} 0 1 → A
+-- an equation that cannot be
+pub no : {A : Type 0} → _≡_ {A = ℕ} 0 1 → A
 no z = absurd (omega arith)
 
 -- the tokens begin so

@@ -22,12 +22,9 @@ use Rattle.meaning.specs.TreeTests.{true-and}
 use Rattle.meaning.specs.UnifyActs.{Ok, done, stopped, make-ok, makes-ok}
 use Rattle.meaning.specs.Signature.{sig, Value, Values}
 use Rattle.meaning.specs.Written.{Form, Forms, name, group, nil, cons, symbolName, applied, termForm, termForms, judgmentForm}
-use Rattle.meaning.specs.WrittenRead.{bare, bares}
+use Rattle.meaning.specs.WrittenRead.{no, bare, bares}
 
 -- Forms with places ---------------------------------------------------------------------------------------------------------------
-
-pub no : {A : Type 0} → _≡_ {A = ℕ} 0 1 → A
-no z = absurd (omega arith)
 
 pub atom-of : (x : Sexp) (bs : List ℕ) → bare x ≡ name bs → (p : ℕ) × (x ≡ atom p bs)
 unfolding bare
