@@ -10,8 +10,12 @@
 -- They rule out a checker that checks the first form and waves the rest through, that drops a hypothesis, that lets a variable of an empty
 -- sort stand in a premise, that pairs cases by their number only, that renames a rule by a variable in use, or that unifies without the
 -- occurs check: each records some fact that is not true. A checker that records no fact is ruled out by the definition itself, whose
--- answers `rules` fixes; TheoremsHold shows a fact that is recorded, and what the claim says of it. UnifyRight has the theorems of
--- unification.
+-- answers `rules` fixes; TheoremsHold shows a goal that is taken, and what the claim says of it.
+--
+-- The other theorems stand where their words do:
+--     derivation-accepted   (Accepted) a written derivation is accepted, unless 2, 5 or 60 refuses it
+--     unify-complete, unify-general, unify-sorted   (UnifyRight) unification fails only where nothing unifies, and is most general
+--     examples              (Examples of `rules`) the worked examples hold
 use Prim.Native.Nat.{ℕ}
 use mathlib.Core.Path.{_≡_, refl, sym, subst}
 use mathlib.Core.Logic.{_⊎_, inl, inr}

@@ -1,6 +1,6 @@
 -- The theorems are not empty. Example A: its texts are taken, its premise holds, and what `goals-derivable` says of it is that `Child t`
 -- is derivable for every ground term t of sort Pass. Example G: its texts are accepted though the goal `Bad first` is not derivable, so the
--- premise of the theorems is needed. Assumes nothing.
+-- premise of the theorems is needed; it does not hold of G, and the hypothesis that G names is not true itself. Assumes nothing.
 use Prim.Native.Nat.{ℕ, zero, suc, _<_}
 use native.Mathlib.Omega.{arith}
 use mathlib.Core.Path.{_≡_, refl, sym, _∙_, ap, subst}
@@ -22,13 +22,14 @@ use Rattle.rules.specs.Proof.{takeGoal, takeForm}
 use Rattle.rules.specs.Check.{accepts, check, checking, report}
 use Rattle.rules.specs.Run.{line, running}
 use Rattle.rules.specs.Examples.{theory}
-use Rattle.meaning.specs.Tree.{Occ, Occs, app-symbol}
+use Rattle.meaning.specs.Tree.{Occ, Occs, In, Among}
 use Rattle.meaning.specs.TreeTests.{true-false}
 use Rattle.meaning.specs.Signature.{sig, Value}
-use Rattle.meaning.specs.Derivation.{Der, node, Derivable}
-use Rattle.meaning.specs.Truth.{At}
+use Rattle.meaning.specs.Derivation.{Der, node, Ders, leaf, both, RuleOf, Derivable}
+use Rattle.meaning.specs.Truth.{At, HypOf, Needs, Free, Mentions, Varies, Holds, Gives, Entails, True}
+use Rattle.meaning.specs.Sound.{ders-in}
 use Rattle.meaning.specs.Named.{RuleHyp, Calm}
-use Rattle.meaning.specs.Asked.{both-true}
+use Rattle.meaning.specs.Asked.{both-true, at-unique}
 use Rattle.meaning.specs.BridgeRefs.{is-none}
 use Rattle.meaning.specs.BridgeRun.{final, IfTaken, Throughout}
 use Rattle.meaning.specs.BridgeCheck.{Taken, after, Calmly}
@@ -155,3 +156,102 @@ not-derivable j (node (suc (suc (suc (suc r)))) ρ k u v ds e) q = omega arith
 pub premise-needed : (line theory goalsG proofG ≡ 1 ∷ 7 ∷ 1 ∷ 0 ∷ 3 ∷ 1 ∷ 1 ∷ 0 ∷ []) × ¬ (Derivable T badFirst)
 unfolding running head
 premise-needed = (refl, λ d. not-derivable badFirst d refl)
+
+unfoldable pub SG : State
+SG = final (whole takeGoal (read goalsG) (begin T))
+
+takenG : Taken theory goalsG T SG
+unfolding running T SG reached final
+takenG = record { theory-forms = 13; theory-taken = refl; goal-forms = 3; goals-taken = refl }
+
+abbrev goalG : Goal
+goalG = record { name = record { start = 32; bytes = bytes "g" }; judgment = badFirst; hyps = none; taken = true }
+
+goal-G : entry (after (read proofG) SG .goals) 0 ≡ some goalG
+unfolding running T SG reached final after
+goal-G = refl
+
+no-variable : (v : ℕ) → Occ v badFirst ⊎ Occs v none → ⊥
+unfolding Occ
+no-variable v (inl (inl o)) = o
+no-variable v (inl (inr o)) = o
+no-variable v (inr o) = o
+
+-- so the premise does not hold of it: the second case of its induction names the rule hypothesis
+pub not-calm : ¬ (Calmly (read proofG) SG)
+unfolding sub head
+not-calm c =
+    not-derivable badFirst
+      (goals-derivable theory goalsG T SG takenG (read proofG) c 0 goalG goal-G refl refl (λ _. app 0 none) (λ v o. absurd (no-variable v o))) refl
+
+-- Why such a hypothesis is not claimed to be true -------------------------------------------------------------------------------------
+
+-- the hypothesis of example G: Bad first, if Adult y
+abbrev hypG : Fact
+hypG = record { judgment = badFirst; hyps = 3 ∷ []; assumed = true; premises = moreTrees (app 3 (moreTrees (var 1) none)) none; general = []; footing = [] }
+
+recorded : At (after (read proofG) SG .facts) 3 hypG
+unfolding running T SG reached final after At
+recorded = refl
+
+sort-of-y : sortsOf (after (read proofG) SG) 1 ≡ Pass
+unfolding running T SG reached final after
+sort-of-y = refl
+
+argument : Tree → ℕ
+argument (var v) = 9
+argument (app c none) = 9
+argument (app c (moreTrees t ts)) = head t
+
+-- `Adult` is symbol 3: only `Adult (renew first)` is derivable
+not-adult : (j : Tree) → Derivable T j → head j ≡ 3 → argument j ≡ 0 → ⊥
+unfolding running T reached head argument sub
+not-adult j (node zero ρ k u v ds e) q p = let z : _≡_ {A = ℕ} 2 3 = ap head e ∙ q in omega arith
+not-adult j (node (suc zero) ρ k u v ds e) q p = let z : _≡_ {A = ℕ} 2 3 = ap head e ∙ q in omega arith
+not-adult j (node (suc (suc zero)) ρ k u v ds e) q p = let z : _≡_ {A = ℕ} 1 0 = ap argument e ∙ p in omega arith
+not-adult j (node (suc (suc (suc zero))) ρ k u v ds e) q p = let z : _≡_ {A = ℕ} 5 3 = ap head e ∙ q in omega arith
+not-adult j (node (suc (suc (suc (suc r)))) ρ k u v ds e) q p = omega arith
+
+-- so it holds where y is `first`
+hyp-holds : (vs : ℕ → ℕ) → Holds T vs (RuleOf T) (λ _. app 0 none) hypG
+unfolding Holds Mentions Occ In sub head argument Among
+hyp-holds vs δ vary ds =
+    absurd
+      (not-adult (app 3 (moreTrees (δ 1) none))
+        (ders-in T (RuleOf T) (moreTrees (app 3 (moreTrees (δ 1) none)) none) (app 3 (moreTrees (δ 1) none)) ds (inl refl)) refl
+        (ap head (vary .same 1 (inr (inl (inl refl))) (λ i. i))))
+
+first-value : Value (sig T) (app 0 none) Pass
+unfolding running T reached Value sig
+first-value = (omega arith, refl, tt)
+
+hyp-valued : (v : ℕ) → Mentions v hypG → Value (sig T) (app 0 none) (sortsOf (after (read proofG) SG) v)
+unfolding Mentions Occ
+hyp-valued v (inl (inl o)) = absurd o
+hyp-valued v (inl (inr o)) = absurd o
+hyp-valued v (inr (inl (inl e))) =
+    subst (λ k. Value (sig T) (app 0 none) (sortsOf (after (read proofG) SG) k)) (sym e)
+      (subst (λ s. Value (sig T) (app 0 none) s) (sym sort-of-y) first-value)
+hyp-valued v (inr (inl (inr o))) = absurd o
+hyp-valued v (inr (inr o)) = absurd o
+
+only-hyp : (g : Fact) → HypOf (after (read proofG) SG .facts) hypG g → hypG ≡ g
+unfolding HypOf In
+only-hyp g (h, inl e, a) =
+    at-unique (after (read proofG) SG .facts) 3 hypG g recorded (subst (λ k. At (after (read proofG) SG .facts) k g) e a)
+only-hyp g (h, inr e, a) = absurd e
+
+-- and then its judgment would be derivable, were it true
+pub hypothesis-not-true : ¬ (True T (sortsOf (after (read proofG) SG)) (RuleOf T) (after (read proofG) SG .facts) hypG)
+unfolding True Entails Gives Needs Free sub head
+hypothesis-not-true t = not-derivable badFirst (t (λ _. app 0 none) needed held) refl
+  where
+    needed : (v : ℕ) → Needs (HypOf (after (read proofG) SG .facts) hypG) badFirst v
+        → Value (sig T) (app 0 none) (sortsOf (after (read proofG) SG) v)
+    needed v (inl o) = absurd (no-variable v (inl o))
+    needed v (inr (g, x, f)) = hyp-valued v (subst (λ z. Mentions v z) (sym (only-hyp g x)) (f .0))
+
+    held : (g : Fact) → HypOf (after (read proofG) SG .facts) hypG g
+        → Holds T (sortsOf (after (read proofG) SG)) (RuleOf T) (λ _. app 0 none) g
+    held g x =
+        subst (λ z. Holds T (sortsOf (after (read proofG) SG)) (RuleOf T) (λ _. app 0 none) z) (only-hyp g x) (hyp-holds (sortsOf (after (read proofG) SG)))
