@@ -1,1 +1,2 @@
+-- Laws on which the proofs of the exported functions stand.
 pub mod Turns

@@ -1,4 +1,4 @@
--- Laws of the lexer, a byte at a time: at a place of a text, by the kind of the byte there. Assumes nothing.
+-- Laws of the lexer, a byte at a time, and of an atom whole: at a place of a text, by the kind of the byte there. Assumes nothing.
 use mathlib.Core.Path.{_≡_, refl, ap, _∙_}
 use Prim.Native.Nat.{ℕ, suc, _+_, _≤_, _<_}
 use mathlib.Core.List.{List, [], _∷_}

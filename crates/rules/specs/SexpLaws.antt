@@ -1,4 +1,4 @@
--- Laws of `forms`, a token at a time. Assumes nothing.
+-- Laws of `forms`, a token at a time, and of the items of a list, an item at a time. Assumes nothing.
 use mathlib.Core.Path.{_≡_, refl, sym, ap, _∙_}
 use Prim.Native.Nat.{ℕ, zero, suc, _+_, _-_, _≤_, _<_}
 use mathlib.Core.List.{List, [], _∷_}

@@ -1,3 +1,4 @@
+-- Laws on which the proofs of the functions stand: of bytes, of cells, and of each loop as steps from state to state.
 pub mod ByteLaws
 pub mod Skips
 pub mod CellLaws

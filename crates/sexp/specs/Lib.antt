@@ -1,3 +1,4 @@
+-- What the contracts of the reader cite, and the laws for its callers (ItemLaws, WalkLaws, ReadLaws).
 pub mod Lexed
 pub mod Encode
 pub mod Spelt

@@ -5,6 +5,7 @@ ghost use Rattle.rules.specs.Text.{same};
 ghost use Rattle.rules.specs.Index.{number, indexOf};
 ghost use Rattle.sexp.specs.Names.{spelling};
 
+// What a name spells, read as an index.
 pub enum Index {
     Number(usize),
     Unreadable,
@@ -27,6 +28,7 @@ pub fn same(s: &[u8], t: &[u8]) -> bool
     true
 }
 
+// A byte as a number, with its range.
 fn widen(b: u8) -> usize
     ensures { λ r. ⌜ (r ≡ b) × (r < 256) ⌝ }
 {

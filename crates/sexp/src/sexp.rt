@@ -36,6 +36,7 @@ pub fn clear(words: &mut [u32], count: usize)
     }
 }
 
+// Stores a number that fits a cell.
 fn put(words: &mut [u32], at: usize, cell: usize)
     requires { ⌜ (at < length (now words)) × (cell < 2 ^ 32) ⌝ }
     ensures { λ _. ⌜ now (words .exit) ≡ set (now (words .entry)) at cell ⌝ }

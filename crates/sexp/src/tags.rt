@@ -38,7 +38,7 @@ pub enum GoalForm {
     Unknown,
 }
 
-// No form has more items.
+// No form has more items than this.
 const MANY: usize = 0xffff_ffff_ffff_ffff;
 
 // Names, six bytes a row; their lengths; the least and the most items; the place of the index, or 0.
@@ -84,6 +84,7 @@ fn first_row(from: usize, to: usize, name: &[u8], items: usize) -> usize
     row
 }
 
+// The tag of a proof's row.
 fn tag_at(row: usize) -> Tag
     ensures { λ r. ⌜ r ≡ tagAnswer (tagAt proofTags row) ⌝ }
 {

@@ -1,3 +1,4 @@
+-- `exports::tariff_read` meets its contract. The loop is that of proofs/Turns.antt. Assumes nothing.
 use mathlib.Core.Path.{sym, ap, _∙_}
 use mathlib.Core.Logic.{⊎-elim}
 use Prim.Native.Nat.{_-_}

@@ -1,3 +1,4 @@
+-- `exports::tariff_scan` meets its contract. By the cases of the answer. Assumes nothing.
 use mathlib.Core.Path.{sym, ap, _∙_}
 use Rattle.exports.specs.Counts.{formsOf}
 use borrow.Author.Needs.{needs}

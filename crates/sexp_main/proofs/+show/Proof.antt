@@ -1,3 +1,4 @@
+-- `sexp_main::show` meets its contract. The loop is that of `Showing` in proofs/Shows.antt; a list's cells are fewer, so the calls end. Assumes nothing.
 use Prim.Native.Nat.{_-_}
 use lib.ListN.{length}
 use native.Mathlib.Omega.{arith}

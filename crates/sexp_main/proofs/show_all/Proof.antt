@@ -1,3 +1,4 @@
+-- `sexp_main::show_all` meets its contract. The loop is that of `Forms` in proofs/Shows.antt. Assumes nothing.
 use mathlib.Core.Path.{_∙_}
 use Prim.Native.Nat.{_-_}
 use lib.ListN.{length}

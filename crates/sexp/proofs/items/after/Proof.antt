@@ -1,3 +1,4 @@
+-- `sexp::items::after` meets its contract. By the cases of the item. Assumes nothing.
 use mathlib.Core.Path.{sym, ap, _∙_}
 use Rattle.sexp.specs.Items.{behind}
 use borrow.Author.Needs.{needs}

@@ -1,3 +1,4 @@
+-- `sexp::items::count` meets its contract. The loop is that of `Tallies` in proofs/Tallies.antt. Assumes nothing.
 use Prim.Native.Nat.{_-_}
 use lib.ListN.{length}
 use native.Mathlib.Omega.{arith}

@@ -1,3 +1,4 @@
+-- `sexp::items::item_at` meets its contract. By the parity of the cell. Assumes nothing.
 use native.Mathlib.Omega.{arith}
 use borrow.Author.Tests.{eq-eqb, ne-eqb}
 use Rattle.sexp.specs.Items.{itemAt}

@@ -1,3 +1,4 @@
+-- `sexp::items::nth` meets its contract. The item at the place of that number. Assumes nothing.
 use Rattle.sexp.proofs.Tallies.{nth-inside, nth-is}
 use borrow.Author.Needs.{needs}
 use Rattle.sexp.proofs.items.nth.Statement.{statement}

@@ -1,3 +1,4 @@
+-- `sexp::items::place` meets its contract. The loop is that of `Seeks` in proofs/Tallies.antt. Assumes nothing.
 use Prim.Native.Nat.{_-_}
 use native.Mathlib.Omega.{arith}
 use Rattle.sexp.proofs.Tallies.{Seeks, seek-start, seek-on, seek-over, seek-found}

@@ -1,3 +1,4 @@
+-- `sexp::lex::atom_end` meets its contract. The loop: the letters from the start on are those passed and those from here on. Assumes nothing.
 use mathlib.Core.Path.{_≡_, refl, sym, _∙_}
 use Prim.Native.Nat.{_+_, _-_, _≤_}
 use lib.ListN.{length, drop}

@@ -1,3 +1,4 @@
+-- `sexp::lex::is_letter` meets its contract. By the laws of the kinds of bytes. Assumes nothing.
 use Rattle.sexp.proofs.ByteLaws.{letter-blank, letter-left, letter-right, letter-last, is-white, not-white}
 use borrow.Author.Needs.{needs}
 use Rattle.sexp.proofs.lex.is_letter.Statement.{statement}

@@ -1,3 +1,4 @@
+-- `sexp::lex::line_end` meets its contract. The loop: what the definition reads in the comment from here is what it reads from its start. Assumes nothing.
 use mathlib.Core.Path.{_≡_, refl, sym, _∙_}
 use Prim.Native.Nat.{_-_, _≤_}
 use lib.ListN.{length, drop}

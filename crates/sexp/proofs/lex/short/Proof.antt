@@ -1,3 +1,4 @@
+-- `sexp::lex::short` meets its contract. The comparison is the definition's. Assumes nothing.
 use Rattle.rules.specs.Text.{short}
 use borrow.Author.Needs.{needs}
 use Rattle.sexp.proofs.lex.short.Statement.{statement}

@@ -1,3 +1,4 @@
+-- `sexp::lex::skip` meets its contract. The loop is that of proofs/Skips.antt. Assumes nothing.
 use Prim.Native.Nat.{_-_}
 use lib.ListN.{length}
 use native.Mathlib.Omega.{arith}

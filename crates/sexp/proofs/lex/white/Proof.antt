@@ -1,3 +1,4 @@
+-- `sexp::lex::white` meets its contract. By the tests, in the order of the code. Assumes nothing.
 use Rattle.sexp.proofs.ByteLaws.{wide-space, wide-low, wide-mid, wide-high}
 use borrow.Author.Needs.{needs}
 use Rattle.sexp.proofs.lex.white.Statement.{statement}

@@ -1,3 +1,4 @@
+-- `sexp::names::index_of` meets its contract. By the sign. Assumes nothing.
 use mathlib.Core.Path.{_∙_}
 use Rattle.sexp.proofs.IndexLaws.{no-name, signed, unsigned}
 use borrow.Author.Needs.{needs}

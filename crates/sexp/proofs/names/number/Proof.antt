@@ -1,3 +1,4 @@
+-- `sexp::names::number` meets its contract. The loop is that of `Reading` in proofs/IndexLaws.antt. Assumes nothing.
 use Prim.Native.Nat.{_-_}
 use lib.ListN.{length}
 use Rattle.sexp.proofs.IndexLaws.{Reading, start, more, all-read, none-there, too-low, too-high, overflows}

@@ -1,3 +1,4 @@
+-- `sexp::names::same` meets its contract. The loop: the bytes from here on decide. Assumes nothing.
 use mathlib.Core.Path.{_≡_, refl, sym, _∙_}
 use Prim.Native.Nat.{_-_, _≤_}
 use lib.ListN.{length, drop}

@@ -1,3 +1,4 @@
+-- `sexp::sexp::clear` meets its contract. The loop is that of `Zeroing` in proofs/CellLaws.antt. Assumes nothing.
 use Prim.Native.Nat.{_-_}
 use native.Mathlib.Omega.{arith}
 use Rattle.sexp.proofs.CellLaws.{Zeroing, zero-none, zero-more, zero-all}

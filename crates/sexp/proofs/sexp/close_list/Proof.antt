@@ -1,3 +1,4 @@
+-- `sexp::sexp::close_list` meets its contract. A cell fits a `usize`. Assumes nothing.
 use native.Mathlib.Omega.{arith}
 use borrow.Author.Needs.{needs}
 use Rattle.sexp.proofs.sexp.close_list.Statement.{statement}

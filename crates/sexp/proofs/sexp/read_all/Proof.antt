@@ -1,3 +1,4 @@
+-- `sexp::sexp::read_all` meets its contract. The loop is that of proofs/Turns.antt. Assumes nothing.
 use mathlib.Core.Path.{_≡_}
 use Prim.Native.Nat.{_-_}
 use lib.ListN.{length, getD}

@@ -1,3 +1,4 @@
+-- `sexp::sexp::read_form` meets its contract. The first token decides, by the steps of proofs/States.antt. Assumes nothing.
 use mathlib.Core.Path.{refl}
 use Rattle.sexp.proofs.ByteLaws.{letter-here}
 use Rattle.sexp.proofs.States as states

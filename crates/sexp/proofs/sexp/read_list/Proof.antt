@@ -1,3 +1,4 @@
+-- `sexp::sexp::read_list` meets its contract. The loop is that of proofs/States.antt, with a list open. Assumes nothing.
 use mathlib.Core.Path.{_≡_, _∙_}
 use Prim.Native.Nat.{_-_}
 use lib.ListN.{length, getD}

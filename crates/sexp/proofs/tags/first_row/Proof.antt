@@ -1,3 +1,4 @@
+-- `sexp::tags::first_row` meets its contract. The loop is that of `Searching` in proofs/TagLaws.antt. Assumes nothing.
 use mathlib.Core.Path.{sym, _∙_}
 use Prim.Native.Nat.{_-_}
 use native.Mathlib.Omega.{arith}

@@ -1,3 +1,4 @@
+-- `sexp::tags::fits_row` meets its contract. The constants are the definition's, row by row (proofs/TagRows.antt). Assumes nothing.
 use native.Mathlib.Omega.{arith}
 use Rattle.sexp.proofs.TagRows.{too-few, too-many, by-name, size-small, part-in}
 use borrow.Author.Needs.{needs}

@@ -1,3 +1,4 @@
+-- `sexp::tags::goal_tag` meets its contract. Arm by arm, the tag of the row found. Assumes nothing.
 use Rattle.rules.specs.Tags.{goalTags}
 use Rattle.sexp.specs.TagTable.{tagAt}
 use Rattle.sexp.proofs.TagLaws.{goal-arm, goal-none}

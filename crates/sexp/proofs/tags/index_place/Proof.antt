@@ -1,3 +1,4 @@
+-- `sexp::tags::index_place` meets its contract. The first row that fits has the place. Assumes nothing.
 use Rattle.sexp.proofs.TagLaws.{index-there, index-none}
 use borrow.Author.Needs.{needs}
 use Rattle.sexp.proofs.tags.index_place.Statement.{statement}

@@ -1,3 +1,4 @@
+-- `sexp::tags::proof_tag` meets its contract. The first row that fits has the tag. Assumes nothing.
 use mathlib.Core.Path.{sym, ap, _∙_}
 use Rattle.sexp.specs.TagTable.{tagAnswer}
 use Rattle.sexp.proofs.TagLaws.{proof-row}

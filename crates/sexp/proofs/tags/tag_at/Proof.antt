@@ -1,3 +1,4 @@
+-- `sexp::tags::tag_at` meets its contract. Arm by arm, the tag of that row. Assumes nothing.
 use Prim.Native.Nat.{ℕ, zero-le}
 use mathlib.Core.Path.{sym, ap}
 use Rattle.rules.specs.Tags.{proofTags}

@@ -1,3 +1,4 @@
+-- `sexp::tags::theory_tag` meets its contract. Arm by arm, the tag of the row found. Assumes nothing.
 use Rattle.rules.specs.Tags.{theoryTags}
 use Rattle.sexp.specs.TagTable.{tagAt}
 use Rattle.sexp.proofs.TagLaws.{theory-arm, theory-none}
