@@ -5,7 +5,8 @@
 
 A SOURCE is a file of cases (blocks with theory|, goals|, proof|, expect| lines) or a folder whose subfolders hold the files
 theory, goals, proof and expected. A line limits| with words such as TERMS=40 holds a copy of the definition with these limits to the
-case, so that the moment of a limit can be asked for by a short text. Each case becomes one equation, `line theory goals proof ≡ expected`, which the prover must
+case, so that the moment of a limit can be asked for by a short text. A line facts| has the recorded facts as numbers (see FACTS), which
+are compared too. Each case becomes one equation, `line theory goals proof ≡ expected`, which the prover must
 close by computation alone. Of an expected line with a `?` in it only the other numbers are compared. The rows are checked in a
 temporary repository beside the files of the crate `rules` that the definition needs; every case whose equation does not hold is named, with what the prover found
 instead, and the last line counts them. The variable RT names the prover's command, `rt` where it is not set.
@@ -23,7 +24,7 @@ ROWS_A_FILE = 40
 class Case:
     def __init__(self, name):
         self.name, self.theory, self.goals, self.proof, self.expect = name, THEORY.encode(), GOALS.encode(), PROOF.encode(), None
-        self.limits = b""
+        self.limits, self.facts = b"", None
 
 
 def from_blocks(path):
@@ -31,7 +32,7 @@ def from_blocks(path):
     for line in open(path, "rb").read().decode("utf-8").split("\n"):
         if line.startswith("#") or not line.strip():
             continue
-        field = re.match(r"\s+(theory\+|theory|goals|proof|expect|limits|rust)\| ?(.*)$", line)
+        field = re.match(r"\s+(theory\+|theory|goals|proof|expect|limits|facts|rust)\| ?(.*)$", line)
         if field is None:
             case = Case(line.split()[0])
             cases.append(case)
@@ -79,19 +80,61 @@ only (false ∷ bs) (n ∷ ns) = only bs ns
 """
 
 
+# the recorded facts as numbers: the judgment (0 and a variable's number, or 1, a symbol's number, the count of its arguments and these),
+# then, each list behind its length, the hypotheses, 1 or 0 for assumed or not, the premises and the generalised variables
+FACTS = """unfoldable mutual
+  code : Tree → List ℕ
+  code (var v) = 0 ∷ v ∷ []
+  code (app c ts) = 1 ∷ c ∷ countTrees ts ∷ codes ts
+
+  codes : Trees → List ℕ
+  codes none = []
+  codes (more t ts) = code t ++ codes ts
+
+unfoldable truth : Bool → ℕ
+truth true = 1
+truth false = 0
+
+unfoldable coded : Fact → List ℕ
+coded f = code (f .judgment) ++ ((length (f .hyps) ∷ f .hyps) ++ ((truth (f .assumed) ∷ countTrees (f .premises) ∷ codes (f .premises))
+    ++ (length (f .general) ∷ f .general)))
+
+unfoldable allCoded : List Fact → List ℕ
+allCoded [] = []
+allCoded (f ∷ fs) = coded f ++ allCoded fs
+
+unfoldable withFacts : Outcome → List ℕ
+withFacts o = lineOf (o .answer) ++ allCoded (o .state .facts)
+"""
+
+USES = """use Prim.Native.Nat.{ℕ}
+use mathlib.Core.Path.{_≡_, refl}
+use mathlib.Core.Bool.{Bool, true, false}
+use mathlib.Core.List.{List, [], _∷_, _++_}
+use lib.ListN.{length}
+use Rattle.rules.specs.Text.{bytes}
+use Rattle.rules.specs.Tree.{Tree, Trees, var, app, none, more, countTrees}
+use Rattle.rules.specs.State.{Fact}
+use Rattle.rules.specs.Check.{Outcome, check}
+use Rattle.rules.specs.Run.{lineOf, line, running}
+"""
+
+
 def equation(case):
     """The two sides, and the definitions to open."""
-    left, right = "line %s %s %s" % (text(case.theory), text(case.goals), text(case.proof)), numbers(case.expect)
+    texts, right = "%s %s %s" % (text(case.theory), text(case.goals), text(case.proof)), numbers(case.expect)
+    left, opened = "line " + texts, "running"
+    if case.facts is not None:
+        left, opened = "withFacts (check %s)" % texts, "running code truth coded allCoded withFacts"
+        right += [int(n) for n in case.facts.split()]
     if None not in right:
-        return left, listed(right), "running"
+        return left, listed(right), opened
     wanted = listed("false" if n is None else "true" for n in right)
-    return "only (%s) (%s)" % (wanted, left), listed(n for n in right if n is not None), "running only"
+    return "only (%s) (%s)" % (wanted, left), listed(n for n in right if n is not None), opened + " only"
 
 
 def module(cases, first):
-    out = ["use Prim.Native.Nat.{ℕ}", "use mathlib.Core.Path.{_≡_, refl}", "use mathlib.Core.Bool.{Bool, true, false}",
-           "use mathlib.Core.List.{List, [], _∷_}", "use Rattle.rules.specs.Text.{bytes}", "use Rattle.rules.specs.Run.{line, running}",
-           "", ONLY]
+    out = [USES, ONLY, FACTS]
     for i, c in enumerate(cases):
         row, (left, right, opened) = "row%d" % (first + i), equation(c)
         out += ["%s : %s ≡ %s" % (row, left, right), "unfolding " + opened, "%s = refl" % row, ""]
