@@ -4,7 +4,9 @@
   tools/cases.py [--crate FOLDER] SOURCE...
 
 A SOURCE is a file of cases (blocks with theory|, goals|, proof|, expect| lines) or a folder whose subfolders hold the files
-theory, goals, proof and expected. Each case becomes one equation, `line theory goals proof ≡ expected`, which the prover must
+theory, goals, proof and expected. A line limits| with words such as TERMS=40 holds a copy of the definition with these limits to the
+case, so that the moment of a limit can be asked for by a short text. A line facts| has the recorded facts as numbers (see FACTS), which
+are compared too. Each case becomes one equation, `line theory goals proof ≡ expected`, which the prover must
 close by computation alone. Of an expected line with a `?` in it only the other numbers are compared. The rows are checked in a
 temporary repository beside the files of the crate `rules` that the definition needs; every case whose equation does not hold is named, with what the prover found
 instead, and the last line counts them. The variable RT names the prover's command, `rt` where it is not set.
@@ -22,6 +24,7 @@ ROWS_A_FILE = 40
 class Case:
     def __init__(self, name):
         self.name, self.theory, self.goals, self.proof, self.expect = name, THEORY.encode(), GOALS.encode(), PROOF.encode(), None
+        self.limits, self.facts = b"", None
 
 
 def from_blocks(path):
@@ -29,7 +32,7 @@ def from_blocks(path):
     for line in open(path, "rb").read().decode("utf-8").split("\n"):
         if line.startswith("#") or not line.strip():
             continue
-        field = re.match(r"\s+(theory\+|theory|goals|proof|expect|rust)\| ?(.*)$", line)
+        field = re.match(r"\s+(theory\+|theory|goals|proof|expect|limits|facts|rust)\| ?(.*)$", line)
         if field is None:
             case = Case(line.split()[0])
             cases.append(case)
@@ -77,19 +80,61 @@ only (false ∷ bs) (n ∷ ns) = only bs ns
 """
 
 
+# the recorded facts as numbers: the judgment (0 and a variable's number, or 1, a symbol's number, the count of its arguments and these),
+# then, each list behind its length, the hypotheses, 1 or 0 for assumed or not, the premises and the generalised variables
+FACTS = """unfoldable mutual
+  code : Tree → List ℕ
+  code (var v) = 0 ∷ v ∷ []
+  code (app c ts) = 1 ∷ c ∷ countTrees ts ∷ codes ts
+
+  codes : Trees → List ℕ
+  codes none = []
+  codes (more t ts) = code t ++ codes ts
+
+unfoldable truth : Bool → ℕ
+truth true = 1
+truth false = 0
+
+unfoldable coded : Fact → List ℕ
+coded f = code (f .judgment) ++ ((length (f .hyps) ∷ f .hyps) ++ ((truth (f .assumed) ∷ countTrees (f .premises) ∷ codes (f .premises))
+    ++ (length (f .general) ∷ f .general)))
+
+unfoldable allCoded : List Fact → List ℕ
+allCoded [] = []
+allCoded (f ∷ fs) = coded f ++ allCoded fs
+
+unfoldable withFacts : Outcome → List ℕ
+withFacts o = lineOf (o .answer) ++ allCoded (o .state .facts)
+"""
+
+USES = """use Prim.Native.Nat.{ℕ}
+use mathlib.Core.Path.{_≡_, refl}
+use mathlib.Core.Bool.{Bool, true, false}
+use mathlib.Core.List.{List, [], _∷_, _++_}
+use lib.ListN.{length}
+use Rattle.rules.specs.Text.{bytes}
+use Rattle.rules.specs.Tree.{Tree, Trees, var, app, none, more, countTrees}
+use Rattle.rules.specs.State.{Fact}
+use Rattle.rules.specs.Check.{Outcome, check}
+use Rattle.rules.specs.Run.{lineOf, line, running}
+"""
+
+
 def equation(case):
     """The two sides, and the definitions to open."""
-    left, right = "line %s %s %s" % (text(case.theory), text(case.goals), text(case.proof)), numbers(case.expect)
+    texts, right = "%s %s %s" % (text(case.theory), text(case.goals), text(case.proof)), numbers(case.expect)
+    left, opened = "line " + texts, "running"
+    if case.facts is not None:
+        left, opened = "withFacts (check %s)" % texts, "running code truth coded allCoded withFacts"
+        right += [int(n) for n in case.facts.split()]
     if None not in right:
-        return left, listed(right), "running"
+        return left, listed(right), opened
     wanted = listed("false" if n is None else "true" for n in right)
-    return "only (%s) (%s)" % (wanted, left), listed(n for n in right if n is not None), "running only"
+    return "only (%s) (%s)" % (wanted, left), listed(n for n in right if n is not None), opened + " only"
 
 
 def module(cases, first):
-    out = ["use Prim.Native.Nat.{ℕ}", "use mathlib.Core.Path.{_≡_, refl}", "use mathlib.Core.Bool.{Bool, true, false}",
-           "use mathlib.Core.List.{List, [], _∷_}", "use Rattle.rules.specs.Text.{bytes}", "use Rattle.rules.specs.Run.{line, running}",
-           "", ONLY]
+    out = [USES, ONLY, FACTS]
     for i, c in enumerate(cases):
         row, (left, right, opened) = "row%d" % (first + i), equation(c)
         out += ["%s : %s ≡ %s" % (row, left, right), "unfolding " + opened, "%s = refl" % row, ""]
@@ -102,7 +147,17 @@ def write(path, s):
         f.write(s)
 
 
-def definition(rules, top):
+def limited(text, limits):
+    """The file of the limits, some of them changed."""
+    for word in limits.decode().split():
+        name, number = word.split("=")
+        text, found = re.subn(r"(?m)^%s = \d+$" % name, "%s = %s" % (name, number), text)
+        if found != 1:
+            sys.exit("no limit is named " + name)
+    return text
+
+
+def definition(rules, top, limits):
     """The crate `rules` without what `line` does not reach, as its laws."""
     specs, reached, waiting = os.path.join(rules, "specs"), {}, ["Run", "Text"]
     while waiting:
@@ -110,6 +165,7 @@ def definition(rules, top):
         if name not in reached:
             reached[name] = open(os.path.join(specs, name + ".antt")).read()
             waiting += re.findall(r"^use Rattle\.rules\.specs\.(\w+)", reached[name], re.M)
+    reached["Limits"] = limited(reached["Limits"], limits)
     order = re.findall(r"^pub mod (\w+)", open(os.path.join(specs, "Lib.antt")).read(), re.M)
     for name in reached:
         write(os.path.join(top, "crates", "rules", "specs", name + ".antt"), reached[name])
@@ -117,18 +173,11 @@ def definition(rules, top):
     write(os.path.join(top, "crates", "rules", "src", "lib.rt"), open(os.path.join(rules, "src", "lib.rt")).read())
 
 
-def main(argv):
-    rules = os.path.join(os.path.dirname(os.path.abspath(__file__)), "..", "crates", "rules")
-    if argv[:1] == ["--crate"]:
-        rules, argv = argv[1], argv[2:]
-    if not argv:
-        sys.exit(__doc__)
-    cases = []
-    for source in argv:
-        cases += from_folders(source) if os.path.isdir(source) else from_blocks(source)
+def run(rules, cases):
+    """The cases of one definition; the names of those that fail, with why."""
     with tempfile.TemporaryDirectory() as top:
         write(os.path.join(top, "crates.txt"), "rules:\ncases: rules\n")
-        definition(rules, top)
+        definition(rules, top, cases[0].limits)
         write(os.path.join(top, "crates", "cases", "src", "lib.rt"), "pub const ROWS: usize = %d;\n" % len(cases))
         names = []
         for k in range(0, len(cases), ROWS_A_FILE):
@@ -142,8 +191,23 @@ def main(argv):
         wrong.setdefault(int(found.group(1)), found.group(2))
     if ran.returncode != 0 and not wrong:
         sys.exit(said)
-    for i, why in sorted(wrong.items()):
-        print("%s: expected %s: %s" % (cases[i].name, cases[i].expect.decode().strip(), why[:400]))
+    return [(cases[i], why) for i, why in sorted(wrong.items())]
+
+
+def main(argv):
+    rules = os.path.join(os.path.dirname(os.path.abspath(__file__)), "..", "crates", "rules")
+    if argv[:1] == ["--crate"]:
+        rules, argv = argv[1], argv[2:]
+    if not argv:
+        sys.exit(__doc__)
+    cases = []
+    for source in argv:
+        cases += from_folders(source) if os.path.isdir(source) else from_blocks(source)
+    wrong = []
+    for limits in sorted(set(c.limits for c in cases)):
+        wrong += run(rules, [c for c in cases if c.limits == limits])
+    for case, why in wrong:
+        print("%s: expected %s: %s" % (case.name, case.expect.decode().strip(), why[:400]))
     print("%d passed, %d failed" % (len(cases) - len(wrong), len(wrong)))
     sys.exit(1 if wrong else 0)
 

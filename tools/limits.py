@@ -16,8 +16,8 @@ ONE = "(accepted 1 1 0 0 0 0 0)"
 CASES = []
 
 
-def case(name, expect, theory=PLAIN, goals=GOAL, proof=DONE):
-    CASES.append((name, theory, goals, proof, expect))
+def case(name, expect, theory=PLAIN, goals=GOAL, proof=DONE, limits=""):
+    CASES.append((name, theory, goals, proof, expect, limits))
 
 
 def refused(number, text, form, detail=0):
@@ -241,28 +241,58 @@ def term_words():
     at("late-build-38", refused(38, 3, forms), "(step 56 v ())")
 
 
-def full_terms():
-    """A proof that fills the 4,096 terms; its forms, and its facts.
-
-    (P) of the goal is 1. The first fact stores x and y0 .. y15, 256 terms (fk x yi), 16 over these and a judgment: 290. An instance
-    for a new value: 1 + 273. 13 of them leave 243: a fact of 16 terms (f0 yi x), one over these and a judgment, 18, with 12
-    instances for values that stand, and 9 variables. Words, three a term (fk x yi): 1 + 17 + 1057 + 13 * 1058 + 13 * 67 + 9."""
-    wide = " ".join("(w %s)" % many(16, "(f%d x y#)" % k) for k in range(16))
-    assert 1 + 290 + 13 * 274 + 13 * 18 + 9 == 4096 and 1 + 17 + 1057 + 13 * 1058 + 13 * 67 + 9 < 16384
-    proof = words("(step 0 q () (Q %s))" % wide, applies(1, 0, range(16, 29)),
-                  "(step 14 v () (V (w %s)))" % many(16, "(f0 y# x)"), applies(15, 14, range(16, 28)), many(9, "(def ?z# z#)"))
-    return proof, 1 + 13 + 1 + 12 + 9, 27
-
-
 def terms():
-    proof, forms, facts = full_terms()
+    # row 8. 4,096 terms are out of reach: each new one is compared with all before it, and the prover computes some millions of steps a
+    # case. A smaller limit shows the moment. (P) of the goal, c and six (f ..) are 8 terms and 14 words.
+    theory = "(sort S) (ctor c () S) (ctor f (S) S) (pred R (S S)) (pred V (S)) (rule v () (V ?a)) " + PLAIN
 
-    def at(name, expect, behind):
-        case(name, expect, theory=FAMILY, goals=FAMILY_GOALS, proof=words(proof, behind))
-    at("row-8", "(accepted 28 1 0 0 0 0 0)", "(step 27 r ()) (result g 27)")
-    at("row-8-over", refused(60, 3, forms, 8), "(def ?o c)")
-    at("order-8-23", refused(60, 3, forms, 8), "(hyp 27 (P c))")
-    at("order-23-8", refused(23, 3, forms), "(hyp 27 (P x))")
+    def at(name, expect, behind, limits="TERMS=8"):
+        case(name, expect, theory=theory, proof=words("(def ?d (f (f (f (f (f (f c)))))))", behind), limits=limits)
+    at("row-8", ONE, DONE)
+    over = refused(60, 3, 1, 8)
+    at("row-8-over", over, "(def ?e (f ?d))")
+    at("row-8-variable", "(refused 60 3 2 8)", "(var x S) (def ?e x)")
+    # "the lower of two at one moment"
+    at("order-8-9", over, "(def ?e (f ?d))", "TERMS=8 WORDS=14")
+    at("row-9-small", refused(60, 3, 1, 9), "(def ?e (f ?d))", "WORDS=14")
+    # D21: "an argument read is stored before a wrong count behind it is seen"
+    at("order-8-23", over, "(hyp 0 (P (f ?d)))")
+    at("order-23-8", refused(23, 3, 1), "(hyp 0 (P ?d))")
+    at("order-8-22", over, "(hyp 0 (R (f ?d) nobody))")
+    at("order-22-8", refused(22, 3, 1), "(hyp 0 (R ?d nobody))")
+    at("order-8-33", over, "(def ?d (f ?d))")
+    at("order-33-8", refused(33, 3, 1), "(def ?d ?d)")
+    # the conclusion that is built is a new term
+    at("late-build-8", over, "(step 0 v () (?a c))")
+
+
+def late():
+    # The terms of cases are stored before the case's fact is looked up (34) and compared (43). (P), the goal's, x and (V x) of the
+    # judgment are 3 terms; the case of c stores c and (V c), that of f stores y, (f y), (V (f y)) and, for the hypothesis, (V y).
+    theory = "(sort S) (ctor c () S) (ctor f (S) S) (pred V (S)) (rule v () (V ?a)) " + PLAIN
+    goals = "(var x S) (var y S) " + GOAL
+
+    def at(name, expect, proof, limits):
+        case(name, expect, theory=theory, goals=goals, proof=proof, limits="TERMS=%d" % limits)
+    induct = "(induct 0 x (V x) ((9) (9 y)))"
+    at("late-induct-34", refused(34, 3, 0), induct, 5)
+    at("late-induct-8", refused(60, 3, 0, 8), induct, 4)
+    at("late-induct-41", refused(41, 3, 0), "(induct 0 x (V x) ((9)))", 3)
+    # a case's variables are asked for before its terms are stored
+    at("late-induct-42", refused(42, 3, 1), "(step 0 v () (V c)) (induct 1 x (V x) ((0) (9 x)))", 5)
+    at("late-induct-42-8", refused(60, 3, 1, 8), "(step 0 v () (V c)) (induct 1 x (V x) ((0) (9 y)))", 5)
+    # the hypothesis (V y) is stored though no fact rests on it; it is the ninth term
+    whole = "(step 0 v () (V c)) (step 1 v () (V (f y))) (induct 2 x (V x) ((0) (1 y))) (result g 2)"
+    at("late-induct-all", refused(52, 3, 3), whole, 9)
+    at("late-induct-hypothesis", refused(60, 3, 2, 8), whole, 8)
+    # invert: the variable, the conclusion, the unifier's terms, the judgment under it, before the case's fact (34)
+    invert = "(hyp 0 (V x)) (invert 1 0 () (V x) ((v 9 (y))))"
+    at("late-invert-34", refused(34, 3, 1), invert, 5)
+    at("late-invert-8", refused(60, 3, 1, 8), invert, 4)
+    # row 7 of a made variable before row 8 of its term (D21)
+    made = "(sort S) (ctor c () S) (ctor f (S) S) (pred V (S)) (rule v () (V (f ?a))) " + PLAIN
+    case("order-7-8", refused(60, 3, 1, 7), theory=made, proof="(hyp 0 (V c)) (invert 1 0 () (P) ())", limits="VARIABLES=0 TERMS=3")
+    case("order-8-46", refused(60, 3, 1, 8), theory=made, proof="(hyp 0 (V c)) (invert 1 0 () (P) ())", limits="TERMS=3")
 
 
 # Rows 10 to 13: abbreviations, goal_names, facts, lists -------------------------------------------------------------------------------------------
@@ -332,14 +362,28 @@ def lists():
 
 
 def goal_lists():
-    # row 13 in the goals; entries as written, so that a judgment listed twice counts twice (D22)
+    # row 13 in the goals; entries as written, so that a judgment listed twice counts twice (D22). 16,384 entries would be 49 KB of goals,
+    # beyond what the prover computes in one case, so that a smaller limit stands for it.
     def listed(n, name="g"):
         return "(goal %s (%s) (P))" % (name, "(P)" * n)
-    case("row-13-goal", ONE, goals=listed(16384))
-    case("row-13-goal-over", refused(60, 2, 0, 13), goals=listed(16385))
+
+    def at(name, expect, text, limits="ENTRIES=40"):
+        case(name, expect, goals=text, limits=limits)
+    at("row-13-goal", ONE, listed(40))
+    at("row-13-goal-over", refused(60, 2, 0, 13), listed(41))
+    at("row-13-goals-over", refused(60, 2, 2, 13), words(listed(30), listed(10, "h"), listed(1, "i")))
     # D20: "60.11 then 60.13", when every other question of the form has been put
-    case("order-11-13", refused(60, 2, 128, 11), goals=words(many(127, "(goal g# (P))"), listed(16384, "h"), listed(1, "i")))
-    case("order-13-24", refused(24, 2, 1), goals=words("(goal g (P))", listed(16385)))
+    at("order-11-13", refused(60, 2, 2, 11), words(listed(1), listed(39, "h"), listed(1, "i")), "ENTRIES=40 GOALS=2")
+    at("order-13-24", refused(24, 2, 1), words("(goal g (P))", listed(41)))
+    at("order-13-22", refused(22, 2, 0), "(goal g (%s) (Q))" % ("(P)" * 41))
+    # goals and facts have one table
+    at("row-13-both", refused(60, 3, 1, 13), listed(39), "ENTRIES=40")
+    CASES[-1] = CASES[-1][:3] + ("(hyp 0 (P)) (hyp 1 (P))",) + CASES[-1][4:]
+    # premises and generalised variables count, and the hypothesis itself
+    case("row-13-rule", refused(53, 3, 1, 1), theory="(sort S) " + PLAIN, goals="(var x S) (var y S) " + GOAL,
+         proof="(hyp 0 ((P) (P)) (P) (x y))", limits="ENTRIES=5")
+    case("row-13-rule-over", refused(60, 3, 0, 13), theory="(sort S) " + PLAIN, goals="(var x S) (var y S) " + GOAL,
+         proof="(hyp 0 ((P) (P)) (P) (x y))", limits="ENTRIES=4")
 
 
 # Row 14: pairs -----------------------------------------------------------------------------------------------------------------------------
@@ -373,12 +417,13 @@ def pairs():
 
 
 def main(argv):
-    for make in (lengths, sorts, symbols, arguments, rules, rule_variables, pattern_words, variables, made_variables, term_words, terms,
+    for make in (lengths, sorts, symbols, arguments, rules, rule_variables, pattern_words, variables, made_variables, term_words, terms, late,
                  abbreviations, goal_names, facts, lists, goal_lists, pairs):
         make()
     chosen = [c for c in CASES if not argv or any(c[0].startswith(a) for a in argv)]
-    for name, theory, goals, proof, expect in sorted(chosen, key=lambda c: sum(len(t) for t in c[1:4])):
-        print("%s\n  theory| %s\n  goals| %s\n  proof| %s\n  expect| %s\n  rust| -" % (name, theory, goals, proof, expect))
+    for name, theory, goals, proof, expect, limits in sorted(chosen, key=lambda c: sum(len(t) for t in c[1:4])):
+        other = "\n  limits| " + limits if limits else ""
+        print("%s\n  theory| %s\n  goals| %s\n  proof| %s%s\n  expect| %s" % (name, theory, goals, proof, other, expect))
 
 
 main(sys.argv[1:])

@@ -163,12 +163,8 @@ fn induct_case(b: &mut Builder, x: usize, j: &Tree, premises: &[Tree], motive: &
             allowed.push(Assumption { premises: premises.iter().map(at).collect(), judgment: at(j), general, all: false });
         }
     }
-    let want = j.at(x, &term);
-    let mut m = b.prove(&want, Some(&allowed), 2);
-    if m.is_none() && b.rng.percent(20) {
-        m = b.prove(&want, None, 1);
-    }
-    let mut case = vec![atom(m?.to_string())];
+    let m = case_fact(b, &j.at(x, &term), &allowed)?;
+    let mut case = vec![atom(m.to_string())];
     case.extend(ys.iter().map(|&y| b.name(y)));
     Some(Sexp::List(case))
 }
@@ -217,6 +213,19 @@ fn invert(b: &mut Builder) -> Option<usize> {
     b.offer(call("invert", form))
 }
 
+/// What a case may rest on: the rule's premises, and the context under the unifier, which leaves generalised variables alone.
+fn case_context(b: &Builder, premises: Vec<Tree>, context: &BTreeSet<usize>, theta: &Map) -> Vec<Assumption> {
+    let mut allowed: Vec<Assumption> = premises.into_iter().map(Assumption::plain).collect();
+    for &c in context {
+        let f = b.world.facts[c].clone();
+        let mut local = theta.clone();
+        local.retain(|v, _| !f.general.contains(v));
+        let premises = f.premises.iter().map(|p| p.sub(&local)).collect();
+        allowed.push(Assumption { premises, judgment: f.judgment.sub(&local), general: f.general, all: true });
+    }
+    allowed
+}
+
 /// The case of a rule that can conclude `h`; none where it cannot; nothing where no proof is found.
 fn invert_case(
     b: &mut Builder,
@@ -227,9 +236,8 @@ fn invert_case(
     used: &mut BTreeSet<usize>,
 ) -> Option<Option<Sexp>> {
     let sorts: Vec<usize> = b.world.theory.rules[r].vars.iter().map(|(_, s)| *s).collect();
-    let named = b.world.vars.len();
     // whether it unifies does not depend on the names
-    let apart: Vec<usize> = (0..sorts.len()).map(|i| named + i).collect();
+    let apart: Vec<usize> = (0..sorts.len()).map(|i| b.world.vars.len() + i).collect();
     if b.world.inverted(r, &apart, h).is_none() && b.rng.percent(97) {
         return Some(None);
     }
@@ -242,24 +250,18 @@ fn invert_case(
     let m = match b.world.inverted(r, &names, h) {
         None => 0,
         Some((premises, theta)) => {
-            let mut allowed: Vec<Assumption> = premises.into_iter().map(Assumption::plain).collect();
-            for &c in context {
-                let f = b.world.facts[c].clone();
-                let mut local = theta.clone();
-                local.retain(|v, _| !f.general.contains(v));
-                let premises = f.premises.iter().map(|p| p.sub(&local)).collect();
-                allowed.push(Assumption { premises, judgment: f.judgment.sub(&local), general: f.general, all: true });
-            }
-            let want = j.sub(&theta);
-            let mut m = b.prove(&want, Some(&allowed), 2);
-            if m.is_none() && b.rng.percent(20) {
-                m = b.prove(&want, None, 1);
-            }
-            m?
+            let (allowed, want) = (case_context(b, premises, context, &theta), j.sub(&theta));
+            case_fact(b, &want, &allowed)?
         }
     };
     let vars = b.names(&names);
     Some(Some(Sexp::List(vec![atom(b.world.theory.rules[r].name.clone()), atom(m.to_string()), vars])))
+}
+
+/// A proof of a case; now and then one that rests on what it may not.
+fn case_fact(b: &mut Builder, want: &Tree, allowed: &[Assumption]) -> Option<usize> {
+    let found = b.prove(want, Some(allowed), 2);
+    if found.is_none() && b.rng.percent(20) { b.prove(want, None, 1) } else { found }
 }
 
 // The end

@@ -74,6 +74,19 @@ mod terms {
             set: *mut u64,
             length: usize,
         );
+        fn tariff_substitute(
+            index: *mut u32,
+            cells: usize,
+            words: *mut u32,
+            room: usize,
+            count: usize,
+            used: usize,
+            map: *const u32,
+            variables: usize,
+            memo: *mut u32,
+            length: usize,
+            id: usize,
+        ) -> usize;
     }
 
     /// The store's two tables, which are zero behind what is used.
@@ -123,6 +136,28 @@ mod terms {
         }
     }
 
+    /// A chain of binary terms over variable 0, two nodes a level, in which variable 1 takes its place. The tables go back to what they
+    /// were before each time.
+    pub fn substitute(levels: usize) -> Ours<'static> {
+        let mut store = Store::new();
+        let (x, y, c) = (store.keep(&[256]), store.keep(&[257]), store.keep(&[1]));
+        let id = (0..levels).fold(x, |last, _| store.keep(&[2, last as u32, c as u32]));
+        let (index, words) = (store.index.clone(), store.words.clone());
+        let map = [y as u32 + 1];
+        let mut memo = vec![0u32; 4096];
+        assert!(store.count + levels <= 4096 && store.used + 3 * levels <= 16_384, "the new terms fit");
+        Some(Box::new(move || {
+            store.index.copy_from_slice(&index);
+            store.words.copy_from_slice(&words);
+            let (cells, room) = (store.index.len(), store.words.len());
+            let (i, w) = (store.index.as_mut_ptr(), store.words.as_mut_ptr());
+            let (count, used) = (store.count, store.used);
+            // SAFETY: as in `keep`; the map names terms that stand, and the memo is zero before and after
+            let new = unsafe { tariff_substitute(i, cells, w, room, count, used, map.as_ptr(), 1, memo.as_mut_ptr(), memo.len(), id) };
+            assert_eq!(black_box(new), count + levels - 1);
+        }))
+    }
+
     /// The tables are cleared each time, as the original makes a new store each time.
     pub fn intern(nodes: &[Vec<u32>]) -> Ours<'_> {
         let mut store = Store::new();
@@ -156,19 +191,18 @@ mod terms {
         None
     }
 
+    pub fn substitute(_: usize) -> super::Ours<'static> {
+        None
+    }
+
     pub fn variables(_: usize) -> super::Ours<'static> {
         None
     }
 }
 
-pub use terms::{intern, variables};
+pub use terms::{intern, substitute, variables};
 
 /// Not linked yet: the tables of a theory.
 pub fn theory(_: &str) -> Ours<'_> {
-    None
-}
-
-/// Not linked yet: substitution.
-pub fn substitute(_: usize) -> Ours<'static> {
     None
 }

@@ -160,6 +160,17 @@ impl<'a> Order<'a> {
                 self.judgment(j);
                 self.variables(vs, 36)
             }
+            ("result", [_, name, r]) => {
+                self.put(name, Want::Atom, 50);
+                self.reference(r)
+            }
+            _ => self.derived(tag, xs),
+        }
+    }
+
+    /// The forms that make a fact from others.
+    fn derived(&mut self, tag: &str, xs: &'a [Sexp]) {
+        match (tag, xs) {
             ("step", [_, _, rule, refs, items @ ..]) => {
                 self.put(rule, Want::Atom, 33);
                 self.references(refs);
@@ -187,10 +198,6 @@ impl<'a> Order<'a> {
                 for c in self.list(cases, 41) {
                     self.invert_case(c);
                 }
-            }
-            ("result", [_, name, r]) => {
-                self.put(name, Want::Atom, 50);
-                self.reference(r)
             }
             _ => (),
         }

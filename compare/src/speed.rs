@@ -9,7 +9,7 @@ use std::hint::black_box;
 use std::time::{Duration, Instant};
 
 const BYTES: usize = 65_536;
-const ROUNDS: usize = 7;
+const ROUNDS: usize = 25;
 
 /// One row: what is timed, the original, and ours where it is linked.
 pub struct Row<'a> {
@@ -18,7 +18,7 @@ pub struct Row<'a> {
     pub ours: Option<Box<dyn FnMut() + 'a>>,
 }
 
-/// The time of one call, by calling for at least 20 milliseconds.
+/// The time of one call, by calling for at least 5 milliseconds.
 fn once(f: &mut dyn FnMut()) -> Duration {
     let mut n = 1;
     loop {
@@ -27,7 +27,7 @@ fn once(f: &mut dyn FnMut()) -> Duration {
             f();
         }
         let took = start.elapsed();
-        if took >= Duration::from_millis(20) {
+        if took >= Duration::from_millis(5) {
             return took / n;
         }
         n *= 2;
@@ -155,9 +155,9 @@ fn intern(nodes: &[Vec<u32>]) -> usize {
     store.len()
 }
 
-/// What one form more costs the original: the time of the proof with it less the time without it.
-fn form_more(theory: &str, goals: &str, proof: &str, form: &str) -> Duration {
-    let with = format!("{proof} {form}");
+/// What a form more costs the original: the time of the proof with some such forms less the time without them, by their number.
+fn form_more(theory: &str, goals: &str, proof: &str, forms: &[String]) -> Duration {
+    let with = format!("{proof} {}", forms.join(" "));
     for text in [proof, &with] {
         let why = schematic::check(theory, goals, text.as_bytes()).err();
         assert!(why.is_some_and(|w| w.starts_with("missing results")), "the forms are taken");
@@ -168,11 +168,11 @@ fn form_more(theory: &str, goals: &str, proof: &str, form: &str) -> Duration {
             *best = (*best).min(once(&mut || drop(black_box(schematic::check(theory, goals, text.as_bytes())))));
         }
     }
-    best[1].saturating_sub(best[0])
+    best[1].saturating_sub(best[0]) / forms.len() as u32
 }
 
 const TREES: &str = "(sort S) (ctor c () S) (ctor f (S S) S) (pred P (S)) (rule p () (P ?a)) (rule q ((P ?a)) (P ?a))";
-const GOALS: &str = "(var x S) (var y S) (goal g (P c))";
+const GOALS: &str = "(var x S) (var y0 S) (var y1 S) (var y2 S) (var y3 S) (var y4 S) (var y5 S) (var y6 S) (var y7 S) (goal g (P c))";
 
 /// Abbreviations d0 .. dn, each twice the one before: a term of few nodes and very many paths.
 fn doubled(n: usize) -> String {
@@ -180,7 +180,7 @@ fn doubled(n: usize) -> String {
     format!("(def ?d0 x) {}", levels.collect::<Vec<_>>().join(" "))
 }
 
-/// A chain of abbreviations, one node each.
+/// A chain of abbreviations, each two nodes more than the one before.
 fn chain(n: usize) -> String {
     let levels = (1..=n).map(|k| format!("(def ?d{k} (f ?d{} c))", k - 1));
     format!("(def ?d0 x) {}", levels.collect::<Vec<_>>().join(" "))
@@ -206,12 +206,13 @@ fn terms() {
         }),
         ours: ours::intern(&nodes),
     });
-    let proof = format!("{} (step 0 p () (?a ?d4000))", chain(4000));
-    let took = form_more(TREES, GOALS, &proof, "(apply 1 0 ((x y)) ())");
-    row_of("substitute: 4,000 nodes (one apply more)", took, ours::substitute(4000));
+    let proof = format!("{} (step 0 p () (?a ?d2000))", chain(2000));
+    let applies: Vec<String> = (0..8).map(|k| format!("(apply {} 0 ((x y{k})) ())", k + 1)).collect();
+    let took = form_more(TREES, GOALS, &proof, &applies);
+    row_of("substitute: 4,000 nodes, one apply more", took, ours::substitute(2000));
     for levels in [16, 20, 24] {
         let proof = format!("{} (step 0 p () (P ?d{levels}))", doubled(levels));
-        let took = form_more(TREES, GOALS, &proof, "(step 1 q (0))");
+        let took = form_more(TREES, GOALS, &proof, &["(step 1 q (0))".to_string()]);
         let name = format!("variables: {levels} levels of (f ?k ?k), one step more");
         row_of(&name, took, ours::variables(levels));
     }

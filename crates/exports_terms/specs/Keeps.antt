@@ -1,13 +1,15 @@
--- What storing a node does, with the term's number alone for an answer. Assumes nothing.
+-- What storing a node and replacing variables do, with the term's number alone for an answer. Assumes nothing.
 use mathlib.Core.Path.{_≡_}
 use mathlib.Core.List.{List}
 use Prim.Native.Nat.{ℕ}
 use Rattle.rules.specs.Limits.{TERMS}
-use Rattle.rules.specs.Store.{keep}
+use Rattle.rules.specs.Store.{keep, substitute}
 use Rattle.terms.specs.declared.store.Mark.{Mark}
 use Rattle.terms.specs.declared.store.Kept.{Kept}
 use Rattle.terms.specs.declared.store.Kept.the-variants.{Term, Full}
 use Rattle.terms.specs.Table.{treeAt, made, After}
+use Rattle.terms.specs.Collect.{tree}
+use Rattle.terms.specs.Subst.{replacement, substituted}
 
 -- a term's number, or the number of all terms, which no term has
 unfoldable pub termOf : Kept → ℕ
@@ -18,4 +20,10 @@ termOf (Full r m) = TERMS
 pub record Keeps (I W J X : List ℕ) (m : Mark) (node : List ℕ) (r : ℕ) : Type 0 where
   pub kept : Kept
   pub after : After I W J X m (treeAt (made I W m) node) (keep (treeAt (made I W m) node) (made I W m)) kept
+  pub number : r ≡ termOf kept
+
+-- the same by a term under a replacement, as `substitute` has it
+pub record Replaces (I W J X : List ℕ) (m : Mark) (map : List ℕ) (id r : ℕ) : Type 0 where
+  pub kept : Kept
+  pub after : After I W J X m (substituted I W m map id) (substitute (replacement (made I W m) map) (tree I W m id) (made I W m)) kept
   pub number : r ≡ termOf kept

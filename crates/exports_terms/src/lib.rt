@@ -1,25 +1,37 @@
 // Functions on terms for programs in other languages, which link the static library. What one requires, its caller keeps.
 ghost use mathlib.Core.Path.{_≡_};
+ghost use Prim.Native.Nat.{_≤_};
 ghost use lib.ListN.{length, replicate};
 ghost use Rattle.rules.specs.Find.{union};
 ghost use Rattle.rules.specs.Tree.{variables as variablesIn};
 ghost use Rattle.terms.specs.Sets.{holds};
 ghost use Rattle.terms.specs.Collect.{tree, Readable};
 ghost use Rattle.terms.specs.Table.{Good, Node};
-ghost use Rattle.exports_terms.specs.Keeps.{Keeps};
+ghost use Rattle.terms.specs.Subst.{Replaceable};
+ghost use Rattle.exports_terms.specs.Keeps.{Keeps, Replaces};
 use terms::store::Kept;
 use terms::store::Mark;
 use terms::store::keep;
+use terms::substitute::substitute;
 use terms::variables::variables;
 
 // The number of a node's term, which comes into the store if it is new; the number of terms that fit where it does not.
 #[no_mangle]
-pub extern "C" fn tariff_keep(index: &mut [u32], words: &mut [u32], count: usize, used: usize, node: &[u32]) -> usize
+pub extern "C" fn tariff_keep(
+    index: &mut [u32],
+    words: &mut [u32],
+    count: usize,
+    used: usize,
+    node: &[u32],
+) -> usize
     requires { ⌜ Good (now index) (now words) (record { terms = count; words = used }) ⌝ }
     requires { ⌜ Node count (now node) ⌝ }
     ensures { λ r. ⌜ Keeps (now (index .entry)) (now (words .entry)) (now (index .exit)) (now (words .exit)) (record { terms = count; words = used }) (now (node .entry)) r ⌝ }
 {
-    let mark = Mark { terms: count, words: used };
+    let mark = Mark {
+        terms: count,
+        words: used,
+    };
     match keep(index, words, mark, node) {
         Kept::Term(n, _) => n,
         Kept::Full(_, _) => rules::TERMS,
@@ -41,6 +53,36 @@ pub extern "C" fn tariff_variables(
     requires { ⌜ now seen ≡ replicate (length (now seen)) 0 ⌝ }
     ensures { λ _. ⌜ (holds (now (set .exit)) ≡ union (holds (now (set .entry))) (variablesIn (tree (now (index .entry)) (now (words .entry)) (record { terms = count; words = used }) id))) × (now (seen .exit) ≡ now (seen .entry)) ⌝ }
 {
-    let mark = Mark { terms: count, words: used };
+    let mark = Mark {
+        terms: count,
+        words: used,
+    };
     variables(index, words, mark, id, seen, set);
+}
+
+// The number of a term under a replacement: for a variable the map has a term's number and 1, or 0 where the variable stays. `memo` is
+// scratch.
+#[no_mangle]
+pub extern "C" fn tariff_substitute(
+    index: &mut [u32],
+    words: &mut [u32],
+    count: usize,
+    used: usize,
+    map: &[u32],
+    memo: &mut [u32],
+    id: usize,
+) -> usize
+    requires { ⌜ Replaceable (now index) (now words) (record { terms = count; words = used }) (now map) id ⌝ }
+    requires { ⌜ (count ≤ length (now memo)) × (now memo ≡ replicate (length (now memo)) 0) ⌝ }
+    ensures { λ r. ⌜ Replaces (now (index .entry)) (now (words .entry)) (now (index .exit)) (now (words .exit)) (record { terms = count; words = used }) (now (map .entry)) id r ⌝ }
+    ensures { λ _. ⌜ now (memo .exit) ≡ now (memo .entry) ⌝ }
+{
+    let mark = Mark {
+        terms: count,
+        words: used,
+    };
+    match substitute(index, words, mark, map, memo, id) {
+        Kept::Term(n, _) => n,
+        Kept::Full(_, _) => rules::TERMS,
+    }
 }
