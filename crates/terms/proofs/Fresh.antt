@@ -16,7 +16,7 @@ use Rattle.terms.specs.Table.{made, After}
 use Rattle.terms.specs.Collect.{tree}
 use Rattle.terms.specs.Subst.{replacement, substituted, asked, Replaceable, Ready, Substituted}
 
-getD-zeros : (n i : ℕ) → _≡_ {A = ℕ} (getD (replicate n 0) i 0) 0
+pub getD-zeros : (n i : ℕ) → _≡_ {A = ℕ} (getD (replicate n 0) i 0) 0
 getD-zeros n i = elim (decLt i n) [
     yes p ↦ getD-replicate n i 0 0 p
   | no q ↦ List·getD-eq-default (replicate n 0) 0 {n = i} (let z = length-replicate {A = ℕ} n 0 in omega arith)

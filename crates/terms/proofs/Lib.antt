@@ -15,3 +15,7 @@ pub mod Closeds
 pub mod Substs
 pub mod SubstLoop
 pub mod Fresh
+pub mod Matches
+pub mod MatchLoop
+pub mod Builds
+pub mod BuildLoop

@@ -119,7 +119,7 @@ tree-one M a (isApp {h = h} {xs = xs} p b) (isApp {h = g} {xs = ys} q d) e =
     let r : xs ≡ ys = args-one M xs ys a b d z in
     λ i. y i ∷ r i
 
-args-count : (M : Made) (xs : List ℕ) → countTrees (argsOf M xs) ≡ length xs
+pub args-count : (M : Made) (xs : List ℕ) → countTrees (argsOf M xs) ≡ length xs
 unfolding countTrees argsOf
 args-count M [] = refl
 args-count M (x ∷ xs) = ap suc (args-count M xs)

@@ -1,5 +1,6 @@
-// Terms in tables of numbers: sets of variables, facts and rules as bits, the store of terms, the variables of a term, and substitution.
-// Each function is proved equal to the definition in the crate `rules`.
+// Terms in tables of numbers: sets of variables, facts and rules as bits, the store of terms, the variables of a term, substitution, and
+// a rule's patterns. Each function is proved equal to the definition in the crate `rules`.
+pub mod patterns;
 pub mod sets;
 pub mod store;
 pub mod substitute;

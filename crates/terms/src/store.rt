@@ -3,7 +3,7 @@
 ghost use mathlib.Core.Path.{_≡_};
 ghost use mathlib.Core.List.{_++_};
 ghost use Prim.Native.Nat.{ℕ, _+_, _-_, _≤_, _<_};
-ghost use lib.ListN.{length, getD, drop};
+ghost use lib.ListN.{length, getD, drop, replicate};
 ghost use Rattle.rules.specs.Limits.{TERMS, WORDS};
 ghost use Rattle.rules.specs.Tree.{isOpen};
 ghost use Rattle.rules.specs.Store.{keep};
@@ -159,4 +159,15 @@ pub fn keep(index: &mut [u32], words: &mut [u32], mark: Mark, node: &[u32]) -> K
             words: end,
         },
     )
+}
+
+// Every cell is set to 0.
+pub fn wipe(cells: &mut [u32])
+    ensures { λ _. ⌜ now (cells .exit) ≡ replicate (length (now (cells .entry))) 0 ⌝ }
+{
+    let mut i = 0;
+    while i < cells.len() {
+        cells[i] = 0;
+        i += 1;
+    }
 }

@@ -12,6 +12,7 @@ use crate::store::Kept;
 use crate::store::Mark;
 use crate::store::keep;
 use crate::store::start_of;
+use crate::store::wipe;
 use rules::SYMBOLS;
 
 // Where the index says whether a term has a variable.
@@ -103,17 +104,6 @@ fn replace(
             Kept::Term(n, next)
         }
         Kept::Full(row, last) => Kept::Full(row, last),
-    }
-}
-
-// Every cell is set to 0.
-fn wipe(cells: &mut [u32])
-    ensures { λ _. ⌜ now (cells .exit) ≡ replicate (length (now (cells .entry))) 0 ⌝ }
-{
-    let mut i = 0;
-    while i < cells.len() {
-        cells[i] = 0;
-        i += 1;
     }
 }
 

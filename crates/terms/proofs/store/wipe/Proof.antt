@@ -2,10 +2,10 @@ use Prim.Native.Nat.{ℕ, _-_}
 use lib.ListN.{length}
 use Rattle.terms.proofs.Words.{Clearing, clearing-begins, clearing-on, clearing-done}
 use borrow.Author.Needs.{needs}
-use Rattle.terms.proofs.substitute.wipe.Statement.{statement}
-use Rattle.terms.proofs.substitute.wipe.Tie as tie
-use Rattle.terms.proofs.substitute.wipe.Reads as reads
-use Rattle.terms.proofs.substitute.wipe.Lts as lts
+use Rattle.terms.proofs.store.wipe.Statement.{statement}
+use Rattle.terms.proofs.store.wipe.Tie as tie
+use Rattle.terms.proofs.store.wipe.Reads as reads
+use Rattle.terms.proofs.store.wipe.Lts as lts
 
 abbrev Inv-loop : tie.InvT-loop
 Inv-loop cells₀ i₀ cells i = Clearing cells₀ cells i
