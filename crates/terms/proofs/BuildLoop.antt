@@ -58,24 +58,29 @@ module _ (I W : List ℕ) (m : Mark) (S Q : List ℕ) (at : ℕ) (B : List ℕ) 
   pub looping-begins : Looping I W m S Q at B I W m (set (replicate 17 0) 0 (getD Q at 0)) (at + 1) (getD S (arityAt (getD Q at 0)) 0) 0
   unfolding argsThen
   looping-begins =
-      record
-        { ready = r; small = q; few = arity-few; upto = omega arith; grown = grown-self I W m (r .good); later = omega arith
-        ; long = length-set (replicate 17 0) 0 (getD Q at 0)
-        ; head = refl
-        ; args = λ j l. absurd (omega arith)
-        ; going = λ P sp.
+      record {
+        ready = r;
+        small = q;
+        few = arity-few;
+        upto = omega arith;
+        grown = grown-self I W m (r .good);
+        later = omega arith;
+        long = length-set (replicate 17 0) 0 (getD Q at 0);
+        head = refl;
+        args = λ j l. absurd (omega arith);
+        going = λ P sp.
             let h = is-app S Q (length B) at P sp q in
             let a = h .arity in
             let z = size-app (getD Q at 0) (h .args) in
             let y = ap size (h .is) in
-            record
-              { rest = h .args
-              ; spelt = h .spelt
-              ; left = ap (wanted I W m B) (h .is) ∙ build-app (getD Q at 0) (h .args) (binding (made I W m) B) (made I W m)
-              ; number = omega arith
-              ; ends = omega arith
-              }
-        }
+            record {
+              rest = h .args;
+              spelt = h .spelt;
+              left = ap (wanted I W m B) (h .is) ∙ build-app (getD Q at 0) (h .args) (binding (made I W m) B) (made I W m);
+              number = omega arith;
+              ends = omega arith;
+            };
+      }
 
 module _ (I W : List ℕ) (old : Mark) (S Q : List ℕ) (at : ℕ) (B : List ℕ) (J X : List ℕ) (m : Mark) (node : List ℕ) (place many k : ℕ) (l : Looping I W old S Q at B J X m node place many k) where
   same-binding : binding (made J X m) B ≡ binding (made I W old) B
@@ -139,14 +144,14 @@ module _ (I W : List ℕ) (old : Mark) (S Q : List ℕ) (at : ℕ) (B : List ℕ
             let d = u .ends in
             let i = l .long in
             let o = l .few in
-            record
-              { rest = qs
-              ; spelt = subst (λ (j : ℕ). Spelts S Q (length B) j qs) (sym (u .ends)) (next-spelt S Q (length B) place q qs sp)
-              ; left = e ∙ builds-more q qs _ (made J X m) _ (tree K Y new t) (made K Y new) (call-is q _ (u .makes))
-                  ∙ ap (then (builds qs (binding (made I W old) B) (made K Y new))) (λ i ts n. keep (app (getD Q at 0) (then-put (made J X m) (made K Y new) node k t ts (omega arith) old-args i)) n)
-              ; number = omega arith
-              ; ends = omega arith
-              }
+            record {
+              rest = qs;
+              spelt = subst (λ (j : ℕ). Spelts S Q (length B) j qs) (sym (u .ends)) (next-spelt S Q (length B) place q qs sp);
+              left = e ∙ builds-more q qs _ (made J X m) _ (tree K Y new t) (made K Y new) (call-is q _ (u .makes))
+                  ∙ ap (then (builds qs (binding (made I W old) B) (made K Y new))) (λ i ts n. keep (app (getD Q at 0) (then-put (made J X m) (made K Y new) node k t ts (omega arith) old-args i)) n);
+              number = omega arith;
+              ends = omega arith;
+            }
 
         looping-on : Looping I W old S Q at B K Y new (set node (k + 1) t) next many (k + 1)
         looping-on =
@@ -157,18 +162,21 @@ module _ (I W : List ℕ) (old : Mark) (S Q : List ℕ) (at : ℕ) (B : List ℕ
             let e = l .few in
             let v = w .0 .more in
             let y = w .1 in
-            record
-              { ready = l .ready; small = l .small; few = l .few; upto = omega arith
-              ; grown = grown-then I W J X K Y old m new (l .grown) (w .0)
-              ; later = omega arith
-              ; long = length-set node (k + 1) t ∙ l .long
-              ; head = getD-set-other node (k + 1) 0 t 0 (λ z. omega arith) ∙ l .head
-              ; args = λ j p. ⊎-elim
+            record {
+              ready = l .ready;
+              small = l .small;
+              few = l .few;
+              upto = omega arith;
+              grown = grown-then I W J X K Y old m new (l .grown) (w .0);
+              later = omega arith;
+              long = length-set node (k + 1) t ∙ l .long;
+              head = getD-set-other node (k + 1) 0 t 0 (λ z. omega arith) ∙ l .head;
+              args = λ j p. ⊎-elim
                   (λ i. let x = l .args j i in let z = getD-set-other node (k + 1) (1 + j) t 0 (λ z. omega arith) in omega arith)
                   (λ i. let z : getD (set node (k + 1) t) (1 + j) 0 ≡ t = (let o : 1 + j ≡ k + 1 = omega arith in ap (λ (x : ℕ). getD (set node (k + 1) t) x 0) o ∙ getD-set-same node (k + 1) t 0 (omega arith)) in omega arith)
-                  (last-or j k (omega arith))
-              ; going = λ P sp. let g = l .going P sp in goes P (g .rest) (g .spelt) (g .number) (g .ends) (g .left)
-              }
+                  (last-or j k (omega arith));
+              going = λ P sp. let g = l .going P sp in goes P (g .rest) (g .spelt) (g .number) (g .ends) (g .left);
+            }
 
       pub arm-term : (r : Built) → BuiltAt J X K Y m S Q place B r → (t next : ℕ) (new : Mark) → r ≡ Term t next new → Looping I W old S Q at B K Y new (set node (k + 1) t) next many (k + 1)
       arm-term r b t next new p = looping-on t next new ((subst (BuiltAt J X K Y m S Q place B) p b) .built)
@@ -208,10 +216,10 @@ module _ (I W : List ℕ) (old : Mark) (S Q : List ℕ) (at : ℕ) (B : List ℕ
         let b = l .few in
         let u = l .upto in
         subst (Node (m .terms)) (sym node-is)
-          (record
-            { narrow = omega arith
-            ; shaped = isApp {xs = args} (l .small) (λ j p. let e : getD args j 0 ≡ getD node (1 + j) 0 = run-at node 1 many j (omega arith) in let c = l .args j (omega arith) in omega arith)
-            })
+        (record {
+          narrow = omega arith;
+          shaped = isApp {xs = args} (l .small) (λ j p. let e : getD args j 0 ≡ getD node (1 + j) 0 = run-at node 1 many j (omega arith) in let c = l .args j (omega arith) in omega arith);
+        })
 
     tree-is : treeAt (made J X m) (take (many + 1) node) ≡ t
     tree-is = ap (treeAt (made J X m)) node-is ∙ tree-app (made J X m) (getD Q at 0) args (l .small)
@@ -224,14 +232,15 @@ module _ (I W : List ℕ) (old : Mark) (S Q : List ℕ) (at : ℕ) (B : List ℕ
         let n = no-more (g .rest) (omega arith) in
         let x = ap sizes n ∙ no-sizes in
         let y = g .ends in
-        let e : k ≡ many = omega arith in
-        (g .left
-          ∙ ap (λ (ts : Trees). then (builds ts (binding (made I W old) B) (made J X m)) (λ ts n. keep (app (getD Q at 0) (argsThen (made J X m) (run node 1 k) ts)) n)) n
-          ∙ builds-none (binding (made I W old) B) (made J X m) _
-          ∙ ap (λ (j : ℕ). keep (app (getD Q at 0) (argsThen (made J X m) (run node 1 j) none)) (made J X m)) e
-          ∙ ap (λ (ts : Trees). keep (app (getD Q at 0) ts) (made J X m)) (then-none (made J X m) args)
-          ∙ ap (λ (u : Tree). keep u (made J X m)) (sym tree-is)
-        , omega arith)
+        let e : k ≡ many = omega arith in (
+          g .left
+              ∙ ap (λ (ts : Trees). then (builds ts (binding (made I W old) B) (made J X m)) (λ ts n. keep (app (getD Q at 0) (argsThen (made J X m) (run node 1 k) ts)) n)) n
+              ∙ builds-none (binding (made I W old) B) (made J X m) _
+              ∙ ap (λ (j : ℕ). keep (app (getD Q at 0) (argsThen (made J X m) (run node 1 j) none)) (made J X m)) e
+              ∙ ap (λ (ts : Trees). keep (app (getD Q at 0) ts) (made J X m)) (then-none (made J X m) args)
+              ∙ ap (λ (u : Tree). keep u (made J X m)) (sym tree-is),
+          omega arith,
+        )
 
     module _ (K Y : List ℕ) (r : Kept) (d : After J X K Y m (treeAt (made J X m) (take (many + 1) node)) (keep (treeAt (made J X m) (take (many + 1) node)) (made J X m)) r) where
       pub end-term : (n : ℕ) (new : Mark) → r ≡ Kept-Term n new → BuiltAt I W K Y old S Q at B (Term n place new)
@@ -241,13 +250,15 @@ module _ (I W : List ℕ) (old : Mark) (S Q : List ℕ) (at : ℕ) (B : List ℕ
           let c = f .there in
           let e = f .numbered in
           let at-n : tree K Y new n ≡ treeAt (made J X m) (take (many + 1) node) = ap (tree K Y new) (f .numbered) ∙ number-is (made K Y new) _ (omega arith) in
-          record { built = λ P sp. let w = wanted-keeps P sp in
-            record
-              { grown = grown-then I W J X K Y old m new (l .grown) (f .grown)
-              ; makes = w .0 ∙ f .makes ∙ ap (λ (u : Tree). ok u (made K Y new)) (sym at-n)
-              ; there = f .there
-              ; ends = w .1
-              } }
+          record {
+            built = λ P sp. let w = wanted-keeps P sp in
+                record {
+                  grown = grown-then I W J X K Y old m new (l .grown) (f .grown);
+                  makes = w .0 ∙ f .makes ∙ ap (λ (u : Tree). ok u (made K Y new)) (sym at-n);
+                  there = f .there;
+                  ends = w .1;
+                };
+          }
 
       pub end-full : (row : ℕ) (new : Mark) → r ≡ Full row new → BuiltAt I W K Y old S Q at B (No 60 row new)
       end-full row new p =

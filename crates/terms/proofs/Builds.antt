@@ -53,22 +53,26 @@ module _ (I W : List ℕ) (m : Mark) (S Q : List ℕ) (at : ℕ) (B : List ℕ) 
 
   pub var-unbound : getD B (getD Q at 0 - SYMBOLS) 0 ≡ 0 → BuiltAt I W I W m S Q at B (No 38 0 m)
   var-unbound z =
-      record { built = λ P s. record
-        { grown = grown-self I W m (r .good)
-        ; makes = ap (wanted I W m B) (is-var S Q (length B) at P s q .0) ∙ build-none _ _ (made I W m) (binding-none (made I W m) B _ z)
-        } }
+      record {
+        built = λ P s. record {
+          grown = grown-self I W m (r .good);
+          makes = ap (wanted I W m B) (is-var S Q (length B) at P s q .0) ∙ build-none _ _ (made I W m) (binding-none (made I W m) B _ z);
+        };
+      }
 
   pub var-bound : (getD B (getD Q at 0 - SYMBOLS) 0 ≡ 0 → ⊥) → BuiltAt I W I W m S Q at B (Term (getD B (getD Q at 0 - SYMBOLS) 0 - 1) (at + 1) m)
   var-bound n =
       let a = r .bound (getD Q at 0 - SYMBOLS) in
-      record { built = λ P s.
-        let e = is-var S Q (length B) at P s q .0 in
-        record
-          { grown = grown-self I W m (r .good)
-          ; makes = ap (wanted I W m B) e ∙ build-some _ _ (made I W m) _ (binding-some (made I W m) B _ n)
-          ; there = omega arith
-          ; ends = sym (ap (λ (R : Tree). at + size R) e ∙ ap (λ (k : ℕ). at + k) (size-var (getD Q at 0 - SYMBOLS)))
-          } }
+      record {
+        built = λ P s.
+            let e = is-var S Q (length B) at P s q .0 in
+            record {
+              grown = grown-self I W m (r .good);
+              makes = ap (wanted I W m B) e ∙ build-some _ _ (made I W m) _ (binding-some (made I W m) B _ n);
+              there = omega arith;
+              ends = sym (ap (λ (R : Tree). at + size R) e ∙ ap (λ (k : ℕ). at + k) (size-var (getD Q at 0 - SYMBOLS)));
+            };
+      }
 
 -- Arguments one by one -----------------------------------------------------------------------------------------------------------------------
 

@@ -44,23 +44,30 @@ pub looping-begins : (I W : List ℕ) (m : Mark) (S Q : List ℕ) (at id : ℕ) 
     → getD W s 0 ≡ getD Q at 0 → getD S (arityAt (getD Q at 0)) 0 ≡ getD I id 0 - s - 1 → Looping I W m S Q at id B s (getD I id 0) (at + 1) (s + 1) B
 looping-begins I W m S Q at id B s r q b h a =
     let l = node-rise I W m (r .good) id (r .there) s b in
-    record
-      { ready = r; begins = b; last = refl; small = omega arith; from = omega arith; upto = omega arith; bound = r .bound; long = refl
-      ; going = λ P sp.
+    record {
+      ready = r;
+      begins = b;
+      last = refl;
+      small = omega arith;
+      from = omega arith;
+      upto = omega arith;
+      bound = r .bound;
+      long = refl;
+      going = λ P sp.
           let d = is-app S Q (length B) at P sp q in
           let many = d .arity in
           let z = size-app (getD Q at 0) (d .args) in
           let y = ap size (d .is) in
-          record
-            { rest = d .args
-            ; spelt = d .spelt
-            ; left = ap (λ (R : Tree). matches R (tree I W m id) (binding (made I W m) B)) (d .is)
+          record {
+            rest = d .args;
+            spelt = d .spelt;
+            left = ap (λ (R : Tree). matches R (tree I W m id) (binding (made I W m) B)) (d .is)
                 ∙ ap (λ (t : Tree). matches (app (getD Q at 0) (d .args)) t (binding (made I W m) B)) (term-app I W m (r .good) id (r .there) s b (omega arith))
-                ∙ match-args (getD Q at 0) (getD W s 0) (d .args) _ _ h
-            ; many = omega arith
-            ; ends = omega arith
-            }
-      }
+                ∙ match-args (getD Q at 0) (getD W s 0) (d .args) _ _ h;
+            many = omega arith;
+            ends = omega arith;
+          };
+    }
 
 pub first-legible : (S Q : List ℕ) (n at : ℕ) (ts : Trees) → Spelts S Q n at ts → 0 < countTrees ts → Legible S Q n at
 unfolding Spelts countTrees
@@ -124,11 +131,11 @@ module _ (I W : List ℕ) (m : Mark) (S Q : List ℕ) (at id : ℕ) (B : List �
 
       pub looping-fails : r ≡ 0 → Met I W m S Q at id B B″ 0
       looping-fails z =
-          record
-            { matched = λ P sp. let g = l .going P sp in
-                record { fails = λ _. g .left ∙ go (g .rest) (g .spelt) (g .many); fits = λ n. absurd (n refl); ends = λ n. absurd (n refl) }
-            ; bound = d .bound
-            }
+          record {
+            matched = λ P sp. let g = l .going P sp in
+                record { fails = λ _. g .left ∙ go (g .rest) (g .spelt) (g .many); fits = λ n. absurd (n refl); ends = λ n. absurd (n refl) };
+            bound = d .bound;
+          }
         where
           go : (rest : Trees) → Spelts S Q (length B′) place rest → countTrees rest ≡ e - k → matchAll rest (argsOf (made I W m) (run W k (e - k))) (binding (made I W m) B′) ≡ nothing
           go none sp c = absurd (none-many c h)
@@ -143,55 +150,60 @@ module _ (I W : List ℕ) (m : Mark) (S Q : List ℕ) (at id : ℕ) (B : List �
           let u = d .matched q p .ends n in
           let a = more-many q qs in
           let b = more-sizes q qs in
-          record
-            { rest = qs
-            ; spelt = subst (λ (j : ℕ). Spelts S Q (length B″) j qs) (sym u) (subst (λ (j : ℕ). Spelts S Q j (place + size q) qs) (sym y) (next-spelt S Q (length B′) place q qs sp))
-            ; left = f ∙ ap (λ (ts : Trees). matchAll (more q qs) ts (binding (made I W m) B′)) (args-more (made I W m) W k e h inside) ∙ match-goes q qs _ _ _ _ t
-            ; many = omega arith
-            ; ends = omega arith
-            }
+          record {
+            rest = qs;
+            spelt = subst (λ (j : ℕ). Spelts S Q (length B″) j qs) (sym u) (subst (λ (j : ℕ). Spelts S Q j (place + size q) qs) (sym y) (next-spelt S Q (length B′) place q qs sp));
+            left = f ∙ ap (λ (ts : Trees). matchAll (more q qs) ts (binding (made I W m) B′)) (args-more (made I W m) W k e h inside) ∙ match-goes q qs _ _ _ _ t;
+            many = omega arith;
+            ends = omega arith;
+          }
 
       pub looping-on : (r ≡ 0 → ⊥) → length B″ ≡ length B′ → Looping I W m S Q at id B s e r (k + 1) B″
       looping-on n y =
           let f = l .from in
-          record
-            { ready = l .ready; begins = l .begins; last = l .last; small = l .small; from = omega arith; upto = omega arith
-            ; bound = d .bound
-            ; long = y ∙ l .long
-            ; going = λ P sp. let g = l .going P sp in going-on n P (g .rest) (g .spelt) (g .many) (g .ends) y (g .left)
-            }
+          record {
+            ready = l .ready;
+            begins = l .begins;
+            last = l .last;
+            small = l .small;
+            from = omega arith;
+            upto = omega arith;
+            bound = d .bound;
+            long = y ∙ l .long;
+            going = λ P sp. let g = l .going P sp in going-on n P (g .rest) (g .spelt) (g .many) (g .ends) y (g .left);
+          }
 
   pub looping-ends : e ≤ k → Met I W m S Q at id B B′ place
   looping-ends h =
-      record
-        { matched = λ P sp.
+      record {
+        matched = λ P sp.
             let g = l .going P sp in
             let z = g .many in
             let n = no-more (g .rest) (omega arith) in
             let x = ap sizes n ∙ no-sizes in
             let y = g .ends in
             let w = size-some P in
-            record
-              { fails = λ o. absurd (omega arith)
-              ; fits = λ _. g .left ∙ ap (λ (ts : Trees). matchAll ts (argsOf (made I W m) (run W k (e - k))) (binding (made I W m) B′)) n
-                  ∙ ap (λ (ts : Trees). matchAll none ts (binding (made I W m) B′)) (args-none (made I W m) W k e h) ∙ match-done _
-              ; ends = λ _. omega arith
-              }
-        ; bound = l .bound
-        }
+            record {
+              fails = λ o. absurd (omega arith);
+              fits = λ _. g .left ∙ ap (λ (ts : Trees). matchAll ts (argsOf (made I W m) (run W k (e - k))) (binding (made I W m) B′)) n
+                  ∙ ap (λ (ts : Trees). matchAll none ts (binding (made I W m) B′)) (args-none (made I W m) W k e h) ∙ match-done _;
+              ends = λ _. omega arith;
+            };
+        bound = l .bound;
+      }
 
 -- where they do not match, the bindings go
 pub wiped-answer : (I W : List ℕ) (m : Mark) (S Q : List ℕ) (at id : ℕ) (B mid last : List ℕ) (r : ℕ) → Met I W m S Q at id B mid r → r ≡ 0 → length mid ≡ length B → last ≡ replicate (length mid) 0
     → Answered I W m S Q at id B last 0
 wiped-answer I W m S Q at id B mid last r d z e f =
     let g : last ≡ replicate (length B) 0 = f ∙ ap (λ (n : ℕ). replicate n 0) e in
-    record
-      { met = record
-          { matched = λ P s. record { fails = λ _. d .matched P s .fails z; fits = λ n. absurd (n refl); ends = λ n. absurd (n refl) }
-          ; bound = λ v. let y = ap (λ (l : List ℕ). getD l v 0) g ∙ getD-zeros (length B) v in omega arith
-          }
-      ; wiped = λ _. g
-      }
+    record {
+      met = record {
+        matched = λ P s. record { fails = λ _. d .matched P s .fails z; fits = λ n. absurd (n refl); ends = λ n. absurd (n refl) };
+        bound = λ v. let y = ap (λ (l : List ℕ). getD l v 0) g ∙ getD-zeros (length B) v in omega arith;
+      };
+      wiped = λ _. g;
+    }
 
 pub kept-answer : (I W : List ℕ) (m : Mark) (S Q : List ℕ) (at id : ℕ) (B B′ : List ℕ) (r : ℕ) → Met I W m S Q at id B B′ r → (r ≡ 0 → ⊥) → Answered I W m S Q at id B B′ r
 kept-answer I W m S Q at id B B′ r d n = record { met = d; wiped = λ z. absurd (n z) }

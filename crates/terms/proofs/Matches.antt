@@ -57,12 +57,12 @@ binding-set M B v id h = λ i w. at w i
   where
     at : (w : ℕ) → binding M (set B v (id + 1)) w ≡ bind (binding M B) v (getD M id (var 0)) w
     at w = elim (ℕ-discrete w v) [
-        yes e ↦
+      | yes e ↦
           let c : getD (set B v (id + 1)) w 0 ≡ id + 1 = ap (λ (k : ℕ). getD (set B v (id + 1)) k 0) e ∙ getD-set-same B v (id + 1) 0 h in
           let d : getD (set B v (id + 1)) w 0 - 1 ≡ id = omega arith in
           binding-some M (set B v (id + 1)) w (λ z. omega arith) ∙ ap (λ (k : ℕ). some (getD M k (var 0))) d ∙ sym (bind-here (binding M B) v w _ e)
       | no n ↦ binding-cell M (set B v (id + 1)) B w (getD-set-other B v w (id + 1) 0 n) ∙ sym (bind-there (binding M B) v w _ n)
-      ]
+    ]
 
 -- A variable ------------------------------------------------------------------------------------------------------------------------------
 
@@ -119,7 +119,7 @@ module _ (I W : List ℕ) (m : Mark) (S Q : List ℕ) (at id : ℕ) (B : List �
     fits-new : getD B x 0 ≡ 0 → matches (var x) (tree I W m id) b ≡ some (binding (made I W m) B′)
     fits-new e =
         match-new b (binding (made I W m) B′) x (tree I W m id) (binding-none (made I W m) B x e)
-          (ap (binding (made I W m)) (d .new e .1) ∙ binding-set (made I W m) B x id (meet-asks .0))
+        (ap (binding (made I W m)) (d .new e .1) ∙ binding-set (made I W m) B x id (meet-asks .0))
 
     fits-old : (getD B x 0 ≡ 0 → ⊥) → o ≡ true → matches (var x) (tree I W m id) b ≡ some (binding (made I W m) B′)
     fits-old n t =
@@ -129,25 +129,25 @@ module _ (I W : List ℕ) (m : Mark) (S Q : List ℕ) (at id : ℕ) (B : List �
 
     pub meet-met : o ≡ true → Met I W m S Q at id B B′ (at + 1)
     meet-met t =
-        record
-          { matched = λ P s.
+        record {
+          matched = λ P s.
               let e = is-var S Q (length B) at P s q .0 in
-              record
-                { fails = λ z. absurd (omega arith)
-                ; fits = λ _. subst (λ (R : Tree). matches R (tree I W m id) b ≡ some (binding (made I W m) B′)) (sym e) (elim (ℕ-discrete (getD B x 0) 0) [ yes p ↦ fits-new p | no p ↦ fits-old p t ])
-                ; ends = λ _. sym (ap (λ (R : Tree). at + size R) e ∙ ap (λ (k : ℕ). at + k) (size-var x))
-                }
-          ; bound = λ v. elim (ℕ-discrete (getD B x 0) 0) [ yes p ↦ new-bound p v | no p ↦ rw (d .old p .1) (r .bound v) ]
-          }
+              record {
+                fails = λ z. absurd (omega arith);
+                fits = λ _. subst (λ (R : Tree). matches R (tree I W m id) b ≡ some (binding (made I W m) B′)) (sym e) (elim (ℕ-discrete (getD B x 0) 0) [ yes p ↦ fits-new p | no p ↦ fits-old p t ]);
+                ends = λ _. sym (ap (λ (R : Tree). at + size R) e ∙ ap (λ (k : ℕ). at + k) (size-var x));
+              };
+          bound = λ v. elim (ℕ-discrete (getD B x 0) 0) [ yes p ↦ new-bound p v | no p ↦ rw (d .old p .1) (r .bound v) ];
+        }
       where
         new-bound : getD B x 0 ≡ 0 → (v : ℕ) → getD B′ v 0 ≤ m .terms
         new-bound p v =
             let h = r .there in
             let k = r .bound v in
             elim (ℕ-discrete v x) [
-                yes e ↦ let z : getD B′ v 0 ≡ id + 1 = ap (λ (l : List ℕ). getD l v 0) (d .new p .1) ∙ ap (λ (j : ℕ). getD (set B x (id + 1)) j 0) e ∙ getD-set-same B x (id + 1) 0 (meet-asks .0) in omega arith
+              | yes e ↦ let z : getD B′ v 0 ≡ id + 1 = ap (λ (l : List ℕ). getD l v 0) (d .new p .1) ∙ ap (λ (j : ℕ). getD (set B x (id + 1)) j 0) e ∙ getD-set-same B x (id + 1) 0 (meet-asks .0) in omega arith
               | no n ↦ let z : getD B′ v 0 ≡ getD B v 0 = ap (λ (l : List ℕ). getD l v 0) (d .new p .1) ∙ getD-set-other B x v (id + 1) 0 n in omega arith
-              ]
+            ]
 
     pub meet-not : o ≡ false → Met I W m S Q at id B B′ 0
     unfolding Apart
@@ -158,17 +158,17 @@ module _ (I W : List ℕ) (m : Mark) (S Q : List ℕ) (at id : ℕ) (B : List �
         let h = r .there in
         let k = r .bound x in
         let u : getD (made I W m) (getD B x 0 - 1) (var 0) ≡ tree I W m id → ⊥ =
-          λ e. let y = r .good .apart (getD B x 0 - 1) id (omega arith) (omega arith) e in omega arith in
-        record
-          { matched = λ P s.
+        λ e. let y = r .good .apart (getD B x 0 - 1) id (omega arith) (omega arith) e in omega arith in
+        record {
+          matched = λ P s.
               let e = is-var S Q (length B) at P s q .0 in
-              record
-                { fails = λ _. subst (λ (R : Tree). matches R (tree I W m id) b ≡ nothing) (sym e) (match-other b x (tree I W m id) _ (binding-some (made I W m) B x n) u)
-                ; fits = λ z. absurd (z refl)
-                ; ends = λ z. absurd (z refl)
-                }
-          ; bound = λ v. rw (d .old n .1) (r .bound v)
-          }
+              record {
+                fails = λ _. subst (λ (R : Tree). matches R (tree I W m id) b ≡ nothing) (sym e) (match-other b x (tree I W m id) _ (binding-some (made I W m) B x n) u);
+                fits = λ z. absurd (z refl);
+                ends = λ z. absurd (z refl);
+              };
+          bound = λ v. rw (d .old n .1) (r .bound v);
+        }
 
 -- A symbol ----------------------------------------------------------------------------------------------------------------------------------
 
@@ -185,14 +185,14 @@ unfolding Spelt
 is-app S Q n at (var v) s h = let e = s .1 in absurd (omega arith)
 is-app S Q n at (app c ts) s h =
     let e : c ≡ getD Q at 0 = sym (s .1) in
-    record
-      { args = ts
-      ; is = ap (λ (k : ℕ). app k ts) e
-      ; arity-in = subst (λ (k : ℕ). arityAt k < length S) e (s .3)
-      ; arity = subst (λ (k : ℕ). getD S (arityAt k) 0 ≡ countTrees ts) e (s .4)
-      ; few = s .5
-      ; spelt = s .6
-      }
+    record {
+      args = ts;
+      is = ap (λ (k : ℕ). app k ts) e;
+      arity-in = subst (λ (k : ℕ). arityAt k < length S) e (s .3);
+      arity = subst (λ (k : ℕ). getD S (arityAt k) 0 ≡ countTrees ts) e (s .4);
+      few = s .5;
+      spelt = s .6;
+    }
 
 match-var : (c : ℕ) (ps : Trees) (w : ℕ) (b : Bound) → matches (app c ps) (var w) b ≡ nothing
 unfolding matches
@@ -235,16 +235,16 @@ match-done b = refl
 pub none-met : (I W : List ℕ) (m : Mark) (S Q : List ℕ) (at id : ℕ) (B : List ℕ) → Matchable I W m S Q at id B → getD Q at 0 < SYMBOLS
     → ((ps : Trees) → getD S (arityAt (getD Q at 0)) 0 ≡ countTrees ps → matches (app (getD Q at 0) ps) (tree I W m id) (binding (made I W m) B) ≡ nothing) → Met I W m S Q at id B B 0
 none-met I W m S Q at id B r q f =
-    record
-      { matched = λ P s.
+    record {
+      matched = λ P s.
           let h = is-app S Q (length B) at P s q in
-          record
-            { fails = λ _. ap (λ (R : Tree). matches R (tree I W m id) (binding (made I W m) B)) (h .is) ∙ f (h .args) (h .arity)
-            ; fits = λ z. absurd (z refl)
-            ; ends = λ z. absurd (z refl)
-            }
-      ; bound = r .bound
-      }
+          record {
+            fails = λ _. ap (λ (R : Tree). matches R (tree I W m id) (binding (made I W m) B)) (h .is) ∙ f (h .args) (h .arity);
+            fits = λ z. absurd (z refl);
+            ends = λ z. absurd (z refl);
+          };
+      bound = r .bound;
+    }
 
 module _ (I W : List ℕ) (m : Mark) (S Q : List ℕ) (at id : ℕ) (B : List ℕ) (r : Matchable I W m S Q at id B) (q : getD Q at 0 < SYMBOLS) (s : ℕ) (b : s ≡ start I id) where
   pub arity-in : arityAt (getD Q at 0) < length S
@@ -252,9 +252,9 @@ module _ (I W : List ℕ) (m : Mark) (S Q : List ℕ) (at id : ℕ) (B : List �
 
   pub other-head : (getD W s 0 ≡ getD Q at 0 → ⊥) → Met I W m S Q at id B B 0
   other-head n = none-met I W m S Q at id B r q (λ ps a. elim (decLt (getD W s 0) SYMBOLS) [
-      yes p ↦ ap (λ (t : Tree). matches (app (getD Q at 0) ps) t (binding (made I W m) B)) (term-app I W m (r .good) id (r .there) s b p) ∙ match-head (getD Q at 0) (getD W s 0) ps _ _ n
+    | yes p ↦ ap (λ (t : Tree). matches (app (getD Q at 0) ps) t (binding (made I W m) B)) (term-app I W m (r .good) id (r .there) s b p) ∙ match-head (getD Q at 0) (getD W s 0) ps _ _ n
     | no p ↦ ap (λ (t : Tree). matches (app (getD Q at 0) ps) t (binding (made I W m) B)) (term-var I W m (r .good) id (r .there) s b (omega arith)) ∙ match-var (getD Q at 0) ps _ _
-    ])
+  ])
 
   args-many : countTrees (argsOf (made I W m) (run W (s + 1) (getD I id 0 - (s + 1)))) ≡ getD I id 0 - (s + 1)
   args-many =

@@ -44,7 +44,14 @@ fn gather(words: &[u32], memo: &[u32], start: usize, end: usize, node: &mut [u32
 }
 
 // The node that stands from `start` to `end`, with its arguments as the memo has them, comes into the store.
-fn rebuild(index: &mut [u32], words: &mut [u32], mark: Mark, memo: &[u32], start: usize, end: usize) -> Kept
+fn rebuild(
+    index: &mut [u32],
+    words: &mut [u32],
+    mark: Mark,
+    memo: &[u32],
+    start: usize,
+    end: usize,
+) -> Kept
     requires { ⌜ Good (now index) (now words) mark ⌝ }
     requires { ⌜ Rebuildable (now words) (now memo) start end ⌝ }
     requires { ⌜ Shaped (mark .terms) (rebuilt (now words) (now memo) start end) ⌝ }

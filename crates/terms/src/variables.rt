@@ -45,7 +45,14 @@ fn collect(index: &[u32], words: &[u32], mark: Mark, id: usize, seen: &mut [u64]
 }
 
 // The variables of the term `id` join the set. `seen` is scratch: zero before and after.
-pub fn variables(index: &[u32], words: &[u32], mark: Mark, id: usize, seen: &mut [u64], set: &mut [u64])
+pub fn variables(
+    index: &[u32],
+    words: &[u32],
+    mark: Mark,
+    id: usize,
+    seen: &mut [u64],
+    set: &mut [u64],
+)
     requires { ⌜ Readable (now index) (now words) mark id (now seen) (now set) ⌝ }
     requires { ⌜ now seen ≡ replicate (length (now seen)) 0 ⌝ }
     ensures { λ _. ⌜ (holds (now (set .exit)) ≡ union (holds (now (set .entry))) (variablesIn (tree (now (index .entry)) (now (words .entry)) mark id))) × (now (seen .exit) ≡ now (seen .entry)) ⌝ }
