@@ -19,3 +19,4 @@ pub mod Matches
 pub mod MatchLoop
 pub mod Builds
 pub mod BuildLoop
+pub mod Cells
