@@ -156,3 +156,7 @@ seen-none I W m a seen e i n v t = absurd (true≢false (sym n ∙ ap (λ (l : L
 
 pub cleared : (seen mid last : List ℕ) → seen ≡ replicate (length seen) 0 → length mid ≡ length seen → last ≡ replicate (length mid) 0 → last ≡ seen
 cleared seen mid last a b c = c ∙ ap (λ (n : ℕ). replicate n 0) b ∙ sym a
+
+-- what joined the empty set is all of it
+pub occurs-is : (n : ℕ) (t : Tree) (a : Set) (x : ℕ) (r : Bool) → a ≡ union (holds (replicate n 0)) (variables t) → r ≡ a x → r ≡ variables t x
+occurs-is n t a x r e f = f ∙ ap (λ (c : Set). c x) e ∙ ap (λ (c : Set). c x || variables t x) (holds-zero n)

@@ -20,3 +20,5 @@ pub mod MatchLoop
 pub mod Builds
 pub mod BuildLoop
 pub mod Cells
+pub mod Empty
+pub mod Prefixes
