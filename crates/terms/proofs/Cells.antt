@@ -54,8 +54,8 @@ zeros-from l n h z =
     let b = length-replicate {A = ℕ} (length l - n) 0 in
     sym (take-append-drop n l)
     ∙ ap (λ (r : List ℕ). take n l ++ r)
-      (ext-getD 0 (drop n l) (replicate (length l - n) 0) (omega arith)
-        (λ i p. getD-drop n l i 0 ∙ z (n + i) (omega arith) (omega arith) ∙ sym (getD-replicate (length l - n) i 0 0 (omega arith))))
+    (ext-getD 0 (drop n l) (replicate (length l - n) 0) (omega arith)
+    (λ i p. getD-drop n l i 0 ∙ z (n + i) (omega arith) (omega arith) ∙ sym (getD-replicate (length l - n) i 0 0 (omega arith))))
 
 fill-law : (n : ℕ) (xs : List ℕ) → length xs ≤ n → filled n xs ≡ xs ++ replicate (n - length xs) 0
 unfolding filled

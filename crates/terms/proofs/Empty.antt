@@ -17,24 +17,24 @@ emptyMark = record { terms = 0; words = 0 }
 pub good-empty : Good (replicate INDEX 0) (replicate WORDS 0) emptyMark
 unfolding start trees latest Apart
 good-empty =
-    record
-      { index = length-replicate {A = ℕ} INDEX 0
-      ; words = length-replicate {A = ℕ} WORDS 0
-      ; room = omega arith
-      ; ends = refl
-      ; within = omega arith
-      ; rise = λ i h. absurd (not-suc-le-zero h)
-      ; narrow = λ i h. absurd (not-suc-le-zero h)
-      ; shaped = λ i h. absurd (not-suc-le-zero h)
-      ; apart = λ i j h k e. absurd (not-suc-le-zero h)
-      ; chains = λ i h. absurd (not-suc-le-zero h)
-      ; flags = λ i h. absurd (not-suc-le-zero h)
-      ; heads = λ b h. getD-zeros INDEX (HEADS + b)
-      ; no-ends = λ i l h. getD-zeros INDEX i
-      ; no-chains = λ i l h. getD-zeros INDEX (CHAINS + i)
-      ; no-flags = λ i l h. getD-zeros INDEX (FLAGS + i)
-      ; no-words = λ i l. getD-zeros WORDS i
-      }
+    record {
+      index = length-replicate {A = ℕ} INDEX 0;
+      words = length-replicate {A = ℕ} WORDS 0;
+      room = omega arith;
+      ends = refl;
+      within = omega arith;
+      rise = λ i h. absurd (not-suc-le-zero h);
+      narrow = λ i h. absurd (not-suc-le-zero h);
+      shaped = λ i h. absurd (not-suc-le-zero h);
+      apart = λ i j h k e. absurd (not-suc-le-zero h);
+      chains = λ i h. absurd (not-suc-le-zero h);
+      flags = λ i h. absurd (not-suc-le-zero h);
+      heads = λ b h. getD-zeros INDEX (HEADS + b);
+      no-ends = λ i l h. getD-zeros INDEX i;
+      no-chains = λ i l h. getD-zeros INDEX (CHAINS + i);
+      no-flags = λ i l h. getD-zeros INDEX (FLAGS + i);
+      no-words = λ i l. getD-zeros WORDS i;
+    }
 
 pub made-empty : (I W : List ℕ) → made I W emptyMark ≡ []
 unfolding trees

@@ -23,6 +23,7 @@ unfoldable mutual
 
 mutual
   unfolding prefix size
+
   pub prefix-size : (t : Tree) → length (prefix t) ≡ size t
   prefix-size (var v) = refl
   prefix-size (app c ts) = ap suc (prefixes-sizes ts)
@@ -51,16 +52,17 @@ stands-right : (Q : List ℕ) (at : ℕ) (xs ys : List ℕ) (n : ℕ) → length
 stands-right Q at xs ys n l s =
     let a = s .inside in
     let b = length-append xs ys in
-    record
-      { inside = omega arith
-      ; here = λ i h. let e : at + n + i ≡ at + (length xs + i) = omega arith in ap (λ (k : ℕ). getD Q k 0) e ∙ s .here (length xs + i) (omega arith) ∙ getD-append-add xs ys i 0
-      }
+    record {
+      inside = omega arith;
+      here = λ i h. let e : at + n + i ≡ at + (length xs + i) = omega arith in ap (λ (k : ℕ). getD Q k 0) e ∙ s .here (length xs + i) (omega arith) ∙ getD-append-add xs ys i 0;
+    }
 
 first-word : (Q : List ℕ) (at x : ℕ) (xs : List ℕ) → Stands Q at (x ∷ xs) → (at < length Q) × (getD Q at 0 ≡ x)
 first-word Q at x xs s = let a = s .inside in let e : at + 0 ≡ at = omega arith in (omega arith, ap (λ (k : ℕ). getD Q k 0) (sym e) ∙ s .here 0 (omega arith))
 
 mutual
   unfolding Formed Spelt prefix
+
   pub spelt-prefix : (S Q : List ℕ) (n at : ℕ) (t : Tree) → Formed S n t → Stands Q at (prefix t) → Spelt S Q n at t
   spelt-prefix S Q n at (var v) f s = let w = first-word Q at (SYMBOLS + v) [] s in (w .0, w .1, f)
   spelt-prefix S Q n at (app c ts) f s =
@@ -69,6 +71,7 @@ mutual
 
   pub spelt-prefixes : (S Q : List ℕ) (n at : ℕ) (ts : Trees) → Formeds S n ts → Stands Q at (prefixes ts) → Spelts S Q n at ts
   spelt-prefixes S Q n at none f s = tt
-  spelt-prefixes S Q n at (more t ts) f s =
-      (spelt-prefix S Q n at t (f .0) (stands-left Q at (prefix t) (prefixes ts) s),
-       spelt-prefixes S Q n (at + size t) ts (f .1) (stands-right Q at (prefix t) (prefixes ts) (size t) (prefix-size t) s))
+  spelt-prefixes S Q n at (more t ts) f s = (
+    spelt-prefix S Q n at t (f .0) (stands-left Q at (prefix t) (prefixes ts) s),
+    spelt-prefixes S Q n (at + size t) ts (f .1) (stands-right Q at (prefix t) (prefixes ts) (size t) (prefix-size t) s),
+  )

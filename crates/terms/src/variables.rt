@@ -62,7 +62,14 @@ pub fn variables(
 }
 
 // Whether the variable `x` occurs in the term `id`. `seen` is scratch: zero before and after.
-pub fn occurs(index: &[u32], words: &[u32], mark: Mark, id: usize, x: usize, seen: &mut [u64]) -> bool
+pub fn occurs(
+    index: &[u32],
+    words: &[u32],
+    mark: Mark,
+    id: usize,
+    x: usize,
+    seen: &mut [u64],
+) -> bool
     requires { ⌜ Readable (now index) (now words) mark id (now seen) (replicate 8 0) ⌝ }
     requires { ⌜ (now seen ≡ replicate (length (now seen)) 0) × (x < 512) ⌝ }
     ensures { λ r. ⌜ (r ≡ variablesIn (tree (now (index .entry)) (now (words .entry)) mark id) x) × (now (seen .exit) ≡ now (seen .entry)) ⌝ }
