@@ -22,3 +22,4 @@ pub mod BuildLoop
 pub mod Cells
 pub mod Empty
 pub mod Prefixes
+pub mod Singles

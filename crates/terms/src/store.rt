@@ -15,7 +15,7 @@ use rules::TERMS;
 // The four parts of the index: ends, chains, flags, heads.
 const CHAINS: usize = 4096;
 
-const FLAGS: usize = 8192;
+pub const FLAGS: usize = 8192;
 
 const HEADS: usize = 12288;
 

@@ -8,15 +8,13 @@ ghost use Rattle.rules.specs.Store.{keep as keepTree, substitute as substituteT
 ghost use Rattle.terms.specs.Table.{treeAt, made, Good, Shaped, After};
 ghost use Rattle.terms.specs.Collect.{tree};
 ghost use Rattle.terms.specs.Subst.{replacement, image, rebuilt, Rebuildable, substituted, asked, Replaceable, Ready, Substituted};
+use crate::store::FLAGS;
 use crate::store::Kept;
 use crate::store::Mark;
 use crate::store::keep;
 use crate::store::start_of;
 use crate::store::wipe;
 use rules::SYMBOLS;
-
-// Where the index says whether a term has a variable.
-const FLAGS: usize = 8192;
 
 // The number that the map gives the variable `v`, or `id` where it leaves the variable.
 fn image_of(map: &[u32], v: usize, id: usize) -> usize

@@ -9,12 +9,10 @@ ghost use Rattle.terms.specs.Collect.{tree, Seen, Readable, Collected};
 use crate::sets::clear;
 use crate::sets::has;
 use crate::sets::insert;
+use crate::store::FLAGS;
 use crate::store::Mark;
 use crate::store::start_of;
 use rules::SYMBOLS;
-
-// Where the index says whether a term has a variable.
-const FLAGS: usize = 8192;
 
 // The variables of the term `id` join the set; a term that was visited has its own there already.
 fn collect(index: &[u32], words: &[u32], mark: Mark, id: usize, seen: &mut [u64], set: &mut [u64])
