@@ -54,9 +54,9 @@ least-from-here : (k n : ℕ) (a : Set) (v : ℕ) → k ≤ v → v < k + n → 
 unfolding leastFrom
 least-from-here k zero a v l m t f = absurd (omega arith)
 least-from-here k (suc n) a v l m t f = elim (decLt k v) [
-    yes p ↦ rw (leastFrom, f k (omega arith) p) (least-from-here (suc k) n a v p (omega arith) t (λ w x y. f w (omega arith) y))
+  | yes p ↦ rw (leastFrom, f k (omega arith) p) (least-from-here (suc k) n a v p (omega arith) t (λ w x y. f w (omega arith) y))
   | no q ↦ let e : k ≡ v = omega arith in rw (leastFrom, ap a e ∙ t) (ap suc e)
-  ]
+]
 
 pub least-none : (n : ℕ) (a : Set) → ((v : ℕ) → v < n → a v ≡ false) → least n a ≡ 0
 unfolding least
@@ -87,14 +87,14 @@ pub rising-from-here : (k n : ℕ) (a : Set) (v : ℕ) → k ≤ v → v < k + n
 unfolding risingFrom
 rising-from-here k zero a v l m t f = absurd (omega arith)
 rising-from-here k (suc n) a v l m t f = elim (decLt k v) [
-    yes p ↦
+  | yes p ↦
       let z : suc k + n - suc v ≡ k + suc n - suc v = omega arith in
       rw (risingFrom, f k (omega arith) p) (rising-from-here (suc k) n a v p (omega arith) t (λ w x y. f w (omega arith) y) ∙ rw z)
   | no q ↦
       let e : k ≡ v = omega arith in
       let z : k + suc n - suc v ≡ n = omega arith in
       rw (risingFrom, z, ap a e ∙ t) (ap (λ (j : ℕ). j ∷ risingFrom (suc j) n a) e)
-  ]
+]
 
 pub rising-from-split : (k m n : ℕ) (a : Set) → risingFrom k (m + n) a ≡ risingFrom k m a ++ risingFrom (k + m) n a
 unfolding risingFrom

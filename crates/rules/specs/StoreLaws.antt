@@ -151,6 +151,7 @@ Closed M = (c : ℕ) (ts : Trees) → number M (app c ts) < length M → Ins M t
 
 mutual
   unfolding make then Closed
+
   pub make-old : (M : Made) → Closed M → (t : Tree) → number M t < length M → make t M ≡ ok t M
   make-old M c (var v) h = keep-old M (var v) h
   make-old M c (app f ts) h = then-ok (makes ts M) ts M (λ _ m. keep (app f ts) m) (makes-old M c ts (c f ts h)) ∙ keep-old M (app f ts) h

@@ -13,6 +13,7 @@ both false b e = (e, absurd (false≢true e))
 
 mutual
   unfolding sameTree
+
   pub same-tree : (t u : Tree) → sameTree t u ≡ true → t ≡ u
   same-tree (var v) (var w) e = ap var (eqb-true v w e)
   same-tree (var v) (app d us) e = absurd (false≢true e)
@@ -31,6 +32,7 @@ mutual
 
 mutual
   unfolding sameTree
+
   pub same-self : (t : Tree) → sameTree t t ≡ true
   same-self (var v) = eq-eqb v v refl
   same-self (app c ts) = ap (λ (b : Bool). elim b [ true ↦ sameTrees ts ts | false ↦ false ]) (eq-eqb c c refl) ∙ sames-self ts
@@ -57,6 +59,7 @@ neither false b e = (refl, e)
 
 mutual
   unfolding isOpen sub
+
   pub sub-closed : (σ : ℕ → Tree) (t : Tree) → isOpen t ≡ false → sub σ t ≡ t
   sub-closed σ (var v) e = absurd (true≢false e)
   sub-closed σ (app c ts) e = ap (app c) (subs-closed σ ts e)
@@ -67,6 +70,7 @@ mutual
 
 mutual
   unfolding isOpen variables
+
   pub closed-empty : (t : Tree) → isOpen t ≡ false → (v : ℕ) → variables t v ≡ false
   closed-empty (var w) e v = absurd (true≢false e)
   closed-empty (app c ts) e v = closeds-empty ts e v

@@ -45,9 +45,9 @@ module _ (I W : List ℕ) (m : Mark) (g : Good I W m) where
   pub there-stored : (i : ℕ) → i < m .terms → (t : Tree) → getD (made I W m) i (var 0) ≡ t → Stored I W I W m t (make t (made I W m)) i m
   there-stored i h t e =
       let z = length-trees I W (m .terms) in
-      record
-        { grown = grown-self I W m g
-        ; makes = make-old (made I W m) made-closed t (number-there (made I W m) (g .apart) i (omega arith) t e)
-        ; numbered = sym (number-of (made I W m) (g .apart) i (omega arith) t e)
-        ; there = h
-        }
+      record {
+        grown = grown-self I W m g;
+        makes = make-old (made I W m) made-closed t (number-there (made I W m) (g .apart) i (omega arith) t e);
+        numbered = sym (number-of (made I W m) (g .apart) i (omega arith) t e);
+        there = h;
+      }

@@ -29,10 +29,10 @@ module _ (I W : List ℕ) (m : Mark) (id : ℕ) where
   -- a term without variables adds none
   pub closed-done : (seen a : Set) → Good I W m → id < m .terms → Seen I W m seen a → getD I (FLAGS + id) 0 ≡ 0 → Collected I W m id a seen a
   closed-done seen a g h s e =
-      record
-        { set = union-inside a (variables (tree I W m id)) (λ v t. absurd (true≢false (sym t ∙ closed-empty (tree I W m id) (no-variable I W m g id h e) v)))
-        ; seen = s
-        }
+      record {
+        set = union-inside a (variables (tree I W m id)) (λ v t. absurd (true≢false (sym t ∙ closed-empty (tree I W m id) (no-variable I W m g id h e) v)));
+        seen = s;
+      }
 
   pub seen-done : (seen a : Set) → Seen I W m seen a → true ≡ seen id → Collected I W m id a seen a
   unfolding Seen
@@ -59,7 +59,7 @@ module _ (I W : List ℕ) (m : Mark) (id : ℕ) where
     var-done seen a a′ k q e =
         let t = term-var I W m g id h s b q in
         let f : a′ ≡ union a (variables (tree I W m id)) =
-          e ∙ (λ i v. a v || sym (variables-var (getD W s 0 - SYMBOLS) v) i) ∙ ap (λ (u : Tree). union a (variables u)) (sym t) in
+        e ∙ (λ i v. a v || sym (variables-var (getD W s 0 - SYMBOLS) v) i) ∙ ap (λ (u : Tree). union a (variables u)) (sym t) in
         record { set = f; seen = subst (Seen I W m seen) (sym f) (wider seen a (variables (tree I W m id)) k) }
 
 -- what is left of the arguments decides
@@ -80,14 +80,21 @@ pub looping-begins : (I W : List ℕ) (m : Mark) (id s : ℕ) (set seen : List �
     → Looping I W m id s (getD I id 0) set seen set seen (s + 1)
 looping-begins I W m id s set seen r k b q =
     let t : variables (tree I W m id) ≡ variablesOf (argsOf (made I W m) (run W (s + 1) (getD I id 0 - (s + 1)))) =
-      ap variables (term-app I W m (r .good) id (r .there) s b q) ∙ variables-app _ _ in
+    ap variables (term-app I W m (r .good) id (r .there) s b q) ∙ variables-app _ _ in
     let l = node-rise I W m (r .good) id (r .there) s b in
-    record
-      { ready = r; begins = b; ends = refl; small = q; from = omega arith; upto = omega arith
-      ; left = ap (union (holds set)) (sym t)
-      ; among = λ v e. ap (λ (a : Set). a v) t ∙ e
-      ; visits = k; long-set = refl; long-seen = refl
-      }
+    record {
+      ready = r;
+      begins = b;
+      ends = refl;
+      small = q;
+      from = omega arith;
+      upto = omega arith;
+      left = ap (union (holds set)) (sym t);
+      among = λ v e. ap (λ (a : Set). a v) t ∙ e;
+      visits = k;
+      long-set = refl;
+      long-seen = refl;
+    }
 
 module _ (I W : List ℕ) (m : Mark) (id s e : ℕ) (set₀ seen₀ set seen : List ℕ) (at : ℕ) (l : Looping I W m id s e set₀ seen₀ set seen at) where
   inside : e ≤ length W
@@ -109,32 +116,37 @@ module _ (I W : List ℕ) (m : Mark) (id s e : ℕ) (set₀ seen₀ set seen : L
         let b = l .ready .there in
         let c = l .long-seen in
         let d = l .ready .wide in
-        record
-          { good = l .ready .good
-          ; there = omega arith
-          ; wide = omega arith
-          ; bound = λ v t. let x = l .ready .bound v (l .among v (ap (λ (a : Set). a v) split ∙ or-left _ (variablesOf (argsOf (made I W m) (run W (at + 1) (e - (at + 1)))) v) t)) in let y = l .long-set in omega arith
-          }
+        record {
+          good = l .ready .good;
+          there = omega arith;
+          wide = omega arith;
+          bound = λ v t. let x = l .ready .bound v (l .among v (ap (λ (a : Set). a v) split ∙ or-left _ (variablesOf (argsOf (made I W m) (run W (at + 1) (e - (at + 1)))) v) t)) in let y = l .long-set in omega arith;
+        }
 
     pub looping-on : (set′ seen′ : List ℕ) → length set′ ≡ length set → length seen′ ≡ length seen → Collected I W m (getD W at 0) (holds set) (holds seen′) (holds set′)
         → Looping I W m id s e set₀ seen₀ set′ seen′ (at + 1)
     looping-on set′ seen′ p q c =
         let f = l .from in
-        record
-          { ready = l .ready; begins = l .begins; ends = l .ends; small = l .small; from = omega arith; upto = omega arith
-          ; left = ap (λ (a : Set). union a (variablesOf (argsOf (made I W m) (run W (at + 1) (e - (at + 1)))))) (c .set)
+        record {
+          ready = l .ready;
+          begins = l .begins;
+          ends = l .ends;
+          small = l .small;
+          from = omega arith;
+          upto = omega arith;
+          left = ap (λ (a : Set). union a (variablesOf (argsOf (made I W m) (run W (at + 1) (e - (at + 1)))))) (c .set)
               ∙ union-assoc (holds set) (variables (tree I W m (getD W at 0))) _
-              ∙ ap (union (holds set)) (sym split) ∙ l .left
-          ; among = λ v t. l .among v (ap (λ (a : Set). a v) split ∙ or-right (variables (tree I W m (getD W at 0)) v) _ t)
-          ; visits = c .seen
-          ; long-set = p ∙ l .long-set
-          ; long-seen = q ∙ l .long-seen
-          }
+              ∙ ap (union (holds set)) (sym split) ∙ l .left;
+          among = λ v t. l .among v (ap (λ (a : Set). a v) split ∙ or-right (variables (tree I W m (getD W at 0)) v) _ t);
+          visits = c .seen;
+          long-set = p ∙ l .long-set;
+          long-seen = q ∙ l .long-seen;
+        }
 
   pub looping-ends : e ≤ at → (seen′ : List ℕ) → holds seen′ ≡ plus id (holds seen) → Collected I W m id (holds set₀) (holds seen′) (holds set)
   looping-ends h seen′ p =
       let f : holds set ≡ union (holds set₀) (variables (tree I W m id)) =
-        sym (union-empty (holds set)) ∙ ap (union (holds set)) (sym (ap variablesOf (args-none (made I W m) W at e h) ∙ variables-none)) ∙ l .left in
+      sym (union-empty (holds set)) ∙ ap (union (holds set)) (sym (ap variablesOf (args-none (made I W m) W at e h) ∙ variables-none)) ∙ l .left in
       record { set = f; seen = visited I W m id (holds seen) (holds seen′) (holds set₀) (holds set) (l .visits) p f }
 
 -- nothing is visited at first
@@ -144,3 +156,7 @@ seen-none I W m a seen e i n v t = absurd (true≢false (sym n ∙ ap (λ (l : L
 
 pub cleared : (seen mid last : List ℕ) → seen ≡ replicate (length seen) 0 → length mid ≡ length seen → last ≡ replicate (length mid) 0 → last ≡ seen
 cleared seen mid last a b c = c ∙ ap (λ (n : ℕ). replicate n 0) b ∙ sym a
+
+-- what joined the empty set is all of it
+pub occurs-is : (n : ℕ) (t : Tree) (a : Set) (x : ℕ) (r : Bool) → a ≡ union (holds (replicate n 0)) (variables t) → r ≡ a x → r ≡ variables t x
+occurs-is n t a x r e f = f ∙ ap (λ (c : Set). c x) e ∙ ap (λ (c : Set). c x || variables t x) (holds-zero n)

@@ -125,6 +125,6 @@ lowest zero n z h = absurd (z (omega arith))
 lowest (suc k) n z h =
     let p = pow-suc 2 k in
     ⊎-elim
-      (λ e. rw e (lowest-even k n (trailingZeros k (n / 2)) e (lowest k (n / 2) (λ q. z (omega arith)) (omega arith))))
-      (λ e. rw e (lowest-odd k n e))
-      (two n)
+    (λ e. rw e (lowest-even k n (trailingZeros k (n / 2)) e (lowest k (n / 2) (λ q. z (omega arith)) (omega arith))))
+    (λ e. rw e (lowest-odd k n e))
+    (two n)

@@ -29,15 +29,15 @@ seek-none M t e = sym (ap (λ (b : Bool). elim b [ true ↦ suc (number M t) | f
 pub seek-number : (M : Made) (t : Tree) (r : ℕ) → r ≡ seek M t → (r ≡ 0 → ⊥) → (number M t ≡ r - 1) × (number M t < length M)
 unfolding seek
 seek-number M t r e n = elim (decLt (number M t) (length M)) [
-    yes p ↦ let z = e ∙ sym (seek-here M t (number M t) refl p) in (omega arith, p)
+  | yes p ↦ let z = e ∙ sym (seek-here M t (number M t) refl p) in (omega arith, p)
   | no q ↦ let l = number-le M t in absurd (n (e ∙ sym (seek-none M t (omega arith))))
-  ]
+]
 
 pub seek-nowhere : (M : Made) (t : Tree) (r : ℕ) → r ≡ seek M t → r ≡ 0 → number M t ≡ length M
 seek-nowhere M t r e z = elim (decLt (number M t) (length M)) [
-    yes p ↦ let y = e ∙ sym (seek-here M t (number M t) refl p) in absurd (omega arith)
+  | yes p ↦ let y = e ∙ sym (seek-here M t (number M t) refl p) in absurd (omega arith)
   | no q ↦ let l = number-le M t in omega arith
-  ]
+]
 
 -- no term from `at` on has the node's words, and the term before `at` is of its bucket
 pub record Seeking (I W : List ℕ) (m : Mark) (w : List ℕ) (at : ℕ) : Type 0 where
@@ -53,14 +53,15 @@ head-in I W m w b g e = let a = hash-small w in let d = g .index in omega arith
 pub seeking-begins : (I W : List ℕ) (m : Mark) (w : List ℕ) (b : ℕ) → Good I W m → Shaped (m .terms) w → b ≡ hash w → Seeking I W m w (getD I (HEADS + b) 0)
 seeking-begins I W m w b g s e =
     let z : getD I (HEADS + b) 0 ≡ latest (bucket I W) (hash w) (m .terms) =
-      ap (λ (k : ℕ). getD I (HEADS + k) 0) e ∙ g .heads (hash w) (hash-small w) in
+    ap (λ (k : ℕ). getD I (HEADS + k) 0) e ∙ g .heads (hash w) (hash-small w) in
     subst (Seeking I W m w) (sym z)
-      (record
-        { good = g; shaped = s
-        ; in-terms = latest-le (bucket I W) (hash w) (m .terms)
-        ; key = latest-key (bucket I W) (hash w) (m .terms)
-        ; none = λ k l h q. latest-skip (bucket I W) (hash w) (m .terms) k l h (ap hash q)
-        })
+    (record {
+      good = g;
+      shaped = s;
+      in-terms = latest-le (bucket I W) (hash w) (m .terms);
+      key = latest-key (bucket I W) (hash w) (m .terms);
+      none = λ k l h q. latest-skip (bucket I W) (hash w) (m .terms) k l h (ap hash q);
+    })
 
 module _ (I W : List ℕ) (m : Mark) (w : List ℕ) (at : ℕ) (q : Seeking I W m w at) (some : at ≡ 0 → ⊥) where
   pub seeking-in : at - 1 < m .terms
@@ -85,27 +86,28 @@ module _ (I W : List ℕ) (m : Mark) (w : List ℕ) (at : ℕ) (q : Seeking I W 
   seeking-hit s e r f t =
       let z : suc (at - 1) ≡ at = omega arith in
       sym z ∙ seek-here (made I W m) _ (at - 1)
-        (number-here I W m (q .good) w (at - 1) seeking-in (node-is s e ∙ same-true _ _ (sym f ∙ t)))
-        (let a = seeking-in in let b = length-trees I W (m .terms) in omega arith)
+      (number-here I W m (q .good) w (at - 1) seeking-in (node-is s e ∙ same-true _ _ (sym f ∙ t)))
+      (let a = seeking-in in let b = length-trees I W (m .terms) in omega arith)
 
   pub seeking-on : (s : ℕ) → s ≡ start I (at - 1) → (r : Bool) → r ≡ sameWords (run W s (getD I (at - 1) 0 - s)) w → r ≡ false → Seeking I W m w (getD I (CHAINS + (at - 1)) 0)
   seeking-on s e r f t =
       let l = seeking-in in
       let z : getD I (CHAINS + (at - 1)) 0 ≡ latest (bucket I W) (hash w) (at - 1) =
-        q .good .chains (at - 1) seeking-in ∙ ap (λ (b : ℕ). latest (bucket I W) b (at - 1)) (q .key (omega arith)) in
+      q .good .chains (at - 1) seeking-in ∙ ap (λ (b : ℕ). latest (bucket I W) b (at - 1)) (q .key (omega arith)) in
       subst (Seeking I W m w) (sym z)
-        (record
-          { good = q .good; shaped = q .shaped
-          ; in-terms = let a = latest-le (bucket I W) (hash w) (at - 1) in omega arith
-          ; key = latest-key (bucket I W) (hash w) (at - 1)
-          ; none = λ k x h p. elim (decLt k (at - 1)) [
-                yes y ↦ latest-skip (bucket I W) (hash w) (at - 1) k x y (ap hash p)
-              | no y ↦ elim (ℕ-discrete k (at - 1)) [
-                    yes c ↦ true≢false (sym (ap (λ (v : List ℕ). sameWords v w) (sym (node-is s e) ∙ ap (nodeAt I W) (sym c) ∙ p) ∙ same-refl w) ∙ sym f ∙ t)
-                  | no c ↦ q .none k (omega arith) h p
-                  ]
-              ]
-          })
+      (record {
+        good = q .good;
+        shaped = q .shaped;
+        in-terms = let a = latest-le (bucket I W) (hash w) (at - 1) in omega arith;
+        key = latest-key (bucket I W) (hash w) (at - 1);
+        none = λ k x h p. elim (decLt k (at - 1)) [
+          | yes y ↦ latest-skip (bucket I W) (hash w) (at - 1) k x y (ap hash p)
+          | no y ↦ elim (ℕ-discrete k (at - 1)) [
+            | yes c ↦ true≢false (sym (ap (λ (v : List ℕ). sameWords v w) (sym (node-is s e) ∙ ap (nodeAt I W) (sym c) ∙ p) ∙ same-refl w) ∙ sym f ∙ t)
+            | no c ↦ q .none k (omega arith) h p
+          ]
+        ];
+      })
 
   pub seeking-falls : getD I (CHAINS + (at - 1)) 0 < at
   seeking-falls =

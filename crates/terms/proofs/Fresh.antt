@@ -16,11 +16,11 @@ use Rattle.terms.specs.Table.{made, After}
 use Rattle.terms.specs.Collect.{tree}
 use Rattle.terms.specs.Subst.{replacement, substituted, asked, Replaceable, Ready, Substituted}
 
-getD-zeros : (n i : ℕ) → _≡_ {A = ℕ} (getD (replicate n 0) i 0) 0
+pub getD-zeros : (n i : ℕ) → _≡_ {A = ℕ} (getD (replicate n 0) i 0) 0
 getD-zeros n i = elim (decLt i n) [
-    yes p ↦ getD-replicate n i 0 0 p
+  | yes p ↦ getD-replicate n i 0 0 p
   | no q ↦ List·getD-eq-default (replicate n 0) 0 {n = i} (let z = length-replicate {A = ℕ} n 0 in omega arith)
-  ]
+]
 
 -- a part of zeros
 module _ (memo : List ℕ) (n : ℕ) (h : n ≤ length memo) (z : memo ≡ replicate (length memo) 0) where
@@ -57,10 +57,13 @@ pub fresh-ready : (I W : List ℕ) (m : Mark) (map memo : List ℕ) (id : ℕ) �
 fresh-ready I W m map memo id r p =
     let l = part-long memo (m .terms) (p .0) (p .1) in
     let h = r .there in
-    record
-      { good = r .good; bound = r .bound; there = r .there; inside = omega arith
-      ; knows = λ i q. absurd (let z = part-none memo (m .terms) (p .0) (p .1) i in omega arith)
-      }
+    record {
+      good = r .good;
+      bound = r .bound;
+      there = r .there;
+      inside = omega arith;
+      knows = λ i q. absurd (let z = part-none memo (m .terms) (p .0) (p .1) i in omega arith);
+    }
 
 pub fresh-done : (I W J X : List ℕ) (m : Mark) (map memo memo′ : List ℕ) (id : ℕ) (r : Kept) → Substituted I W J X m map memo memo′ id r
     → After I W J X m (substituted I W m map id) (substitute (replacement (made I W m) map) (tree I W m id) (made I W m)) r

@@ -99,11 +99,15 @@ module _ (W memo l now : List ℕ) (s e at : ℕ) (g : Gathering W memo l now s 
       let f = g .from in
       let z : at + 1 - s ≡ suc (at - s) = omega arith in
       let x = getD memo (getD W at 0) 0 - 1 in
-      record
-        { ready = g .ready; room = g .room; from = omega arith; upto = omega arith; long = length-set now (at - s) x ∙ g .long
-        ; left = ap (λ (j : ℕ). sets (set now (at - s) x) j (renumbered memo (run W (at + 1) (e - (at + 1))))) z
-            ∙ ap (sets now (at - s)) (sym (renumbered-more memo W at e h (g .ready .fits))) ∙ g .left
-        }
+      record {
+        ready = g .ready;
+        room = g .room;
+        from = omega arith;
+        upto = omega arith;
+        long = length-set now (at - s) x ∙ g .long;
+        left = ap (λ (j : ℕ). sets (set now (at - s) x) j (renumbered memo (run W (at + 1) (e - (at + 1))))) z
+            ∙ ap (sets now (at - s)) (sym (renumbered-more memo W at e h (g .ready .fits))) ∙ g .left;
+      }
 
 pub gathering-ends : (W memo l now : List ℕ) (s e at : ℕ) → Gathering W memo (set l 0 (getD W s 0)) now s e at → 17 ≤ length l → e ≤ at → now ≡ rebuilt W memo s e ++ drop (e - s) l
 gathering-ends W memo l now s e at g k h =

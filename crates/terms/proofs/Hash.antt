@@ -67,9 +67,9 @@ latest-skip key b (suc n) k l m e = go (latest-skip key b n k) (eqb (key n) b) r
     go : (latest key b n ≤ k → k < n → key k ≡ b → ⊥) → (c : Bool) → eqb (key n) b ≡ c → elim c [ true ↦ suc n | false ↦ latest key b n ] ≤ k → ⊥
     go ih true q l = omega arith
     go ih false q l = elim (decLt k n) [
-        yes p ↦ ih l p e
+      | yes p ↦ ih l p e
       | no p ↦ let z : n ≡ k = omega arith in eqb-false (key n) b q (ap key z ∙ e)
-      ]
+    ]
 
 pub latest-agree : (key yek : ℕ → ℕ) (b n : ℕ) → ((i : ℕ) → i < n → key i ≡ yek i) → latest key b n ≡ latest yek b n
 unfolding latest

@@ -37,16 +37,16 @@ module _ (W w : List ℕ) (used : ℕ) (h : used + length w ≤ length W) where
       let A : List ℕ = take used W in
       let D : List ℕ = drop (used + length w) W in
       let la : length (take used W) ≡ used = length-take-le used W (omega arith) in
-      record
-        { long = length-append A (w ++ D) ∙ rw (length-append w D, la, length-drop (used + length w) W) (omega arith)
-        ; before = λ i l. List·getD-append A (w ++ D) 0 i (omega arith) ∙ getD-take used W i 0 l
-        ; here = ap (take (length w)) (drop-at A (w ++ D) used la) ∙ take-at w D (length w) refl
-        ; behind = λ i l.
+      record {
+        long = length-append A (w ++ D) ∙ rw (length-append w D, la, length-drop (used + length w) W) (omega arith);
+        before = λ i l. List·getD-append A (w ++ D) 0 i (omega arith) ∙ getD-take used W i 0 l;
+        here = ap (take (length w)) (drop-at A (w ++ D) used la) ∙ take-at w D (length w) refl;
+        behind = λ i l.
             let e : i ≡ length (take used W) + (length w + (i - used - length w)) = omega arith in
             let f : used + length w + (i - used - length w) ≡ i = omega arith in
             ap (λ (k : ℕ). getD (A ++ (w ++ D)) k 0) e ∙ getD-append-add A (w ++ D) (length w + (i - used - length w)) 0 ∙ getD-append-add w D (i - used - length w) 0
-            ∙ getD-drop (used + length w) W (i - used - length w) 0 ∙ ap (λ (k : ℕ). getD W k 0) f
-        }
+            ∙ getD-drop (used + length w) W (i - used - length w) 0 ∙ ap (λ (k : ℕ). getD W k 0) f;
+      }
 
   pub written : (ys : List ℕ) → ys ≡ w ++ drop (length w) (take (length W - used) (drop used W)) → Written W (take used W ++ (ys ++ drop (length W - used) (drop used W))) used w
   written ys e =
@@ -94,12 +94,12 @@ module _ (I W : List ℕ) (m : Mark) (w : List ℕ) (g : Good I W m) (c : Node (
 
   same : Same I W J X m
   same =
-      record
-        { ends = λ i h. k .other i (λ e. omega arith) (λ e. omega arith) (λ e. omega arith) (λ e. omega arith)
-        ; words = x .before
-        ; long-index = k .long
-        ; long-words = x .long
-        }
+      record {
+        ends = λ i h. k .other i (λ e. omega arith) (λ e. omega arith) (λ e. omega arith) (λ e. omega arith);
+        words = x .before;
+        long-index = k .long;
+        long-words = x .long;
+      }
 
   node-old : (i : ℕ) → i < m .terms → nodeAt J X i ≡ nodeAt I W i
   node-old = node-same I W J X m g same
@@ -133,27 +133,27 @@ module _ (I W : List ℕ) (m : Mark) (w : List ℕ) (g : Good I W m) (c : Node (
   chains-new : (i : ℕ) → i < m .terms + 1 → getD J (CHAINS + i) 0 ≡ latest (bucket J X) (bucket J X i) i
   chains-new i h = ⊎-elim
       (λ p. k .other (CHAINS + i) (λ e. omega arith) (λ e. omega arith) (λ e. omega arith) (λ e. omega arith)
-        ∙ g .chains i p ∙ ap (λ (b : ℕ). latest (bucket I W) b i) (keys i p) ∙ latest-agree (bucket I W) (bucket J X) (bucket J X i) i (λ j l. keys j (omega arith)))
+      ∙ g .chains i p ∙ ap (λ (b : ℕ). latest (bucket I W) b i) (keys i p) ∙ latest-agree (bucket I W) (bucket J X) (bucket J X i) i (λ j l. keys j (omega arith)))
       (λ e. subst (λ (j : ℕ). getD J (CHAINS + j) 0 ≡ latest (bucket J X) (bucket J X j) j) (sym e)
-        (k .chain ∙ g .heads (hash w) (hash-small w) ∙ ap (λ (b : ℕ). latest (bucket I W) b (m .terms)) (sym (ap hash node-new)) ∙ latest-agree (bucket I W) (bucket J X) (bucket J X (m .terms)) (m .terms) keys))
+      (k .chain ∙ g .heads (hash w) (hash-small w) ∙ ap (λ (b : ℕ). latest (bucket I W) b (m .terms)) (sym (ap hash node-new)) ∙ latest-agree (bucket I W) (bucket J X) (bucket J X (m .terms)) (m .terms) keys))
       (last-or i (m .terms) (omega arith))
 
   flags-new : (i : ℕ) → i < m .terms + 1 → getD J (FLAGS + i) 0 ≡ flag (isOpen (getD (made J X new) i (var 0)))
   flags-new i h = ⊎-elim
       (λ p. k .other (FLAGS + i) (λ e. omega arith) (λ e. omega arith) (λ e. omega arith) (λ e. let b = hash-small w in omega arith)
-        ∙ g .flags i p ∙ ap (λ (u : Tree). flag (isOpen u)) (sym (old-at i p)))
+      ∙ g .flags i p ∙ ap (λ (u : Tree). flag (isOpen u)) (sym (old-at i p)))
       (λ e. subst (λ (j : ℕ). getD J (FLAGS + j) 0 ≡ flag (isOpen (getD (made J X new) j (var 0)))) (sym e)
-        (k .flag ∙ ap (λ (u : Tree). flag (isOpen u)) (sym new-at)))
+      (k .flag ∙ ap (λ (u : Tree). flag (isOpen u)) (sym new-at)))
       (last-or i (m .terms) (omega arith))
 
   heads-new : (b : ℕ) → b < BUCKETS → getD J (HEADS + b) 0 ≡ latest (bucket J X) b (m .terms + 1)
   heads-new b h = elim (ℕ-discrete b (hash w)) [
-      yes e ↦ ap (λ (a : ℕ). getD J (HEADS + a) 0) e ∙ k .head ∙ sym (latest-here (bucket J X) b (m .terms) (ap hash node-new ∙ sym e)) ∙ ap (latest (bucket J X) b) (sym (add-one (m .terms)))
+    | yes e ↦ ap (λ (a : ℕ). getD J (HEADS + a) 0) e ∙ k .head ∙ sym (latest-here (bucket J X) b (m .terms) (ap hash node-new ∙ sym e)) ∙ ap (latest (bucket J X) b) (sym (add-one (m .terms)))
     | no q ↦
         k .other (HEADS + b) (λ e. omega arith) (λ e. omega arith) (λ e. omega arith) (λ e. q (omega arith))
         ∙ g .heads b h ∙ latest-agree (bucket I W) (bucket J X) b (m .terms) keys
         ∙ sym (latest-other (bucket J X) b (m .terms) (λ e. q (sym e ∙ ap hash node-new))) ∙ ap (latest (bucket J X) b) (sym (add-one (m .terms)))
-    ]
+  ]
 
   nowhere : (i : ℕ) → i < length (made I W m) → getD (made I W m) i (var 0) ≡ t → ⊥
   nowhere i h e = let z = number-of (made I W m) (g .apart) i h t e in omega arith
@@ -164,33 +164,33 @@ module _ (I W : List ℕ) (m : Mark) (w : List ℕ) (g : Good I W m) (c : Node (
       let small = hash-small w in
       let words-long = g .words in
       let narrow-w = c .narrow in
-      record
-        { index = k .long ∙ g .index
-        ; words = x .long ∙ g .words
-        ; room = omega arith
-        ; ends = sym (k .end) ∙ start-next J (m .terms)
-        ; within = omega arith
-        ; rise = λ i l. ⊎-elim
+      record {
+        index = k .long ∙ g .index;
+        words = x .long ∙ g .words;
+        room = omega arith;
+        ends = sym (k .end) ∙ start-next J (m .terms);
+        within = omega arith;
+        rise = λ i l. ⊎-elim
             (λ p. let a = start-same I W J X m g same i (omega arith) in let b = same .ends i p in let d = g .rise i p in omega arith)
             (λ e. subst (λ (j : ℕ). start J j < getD J j 0) (sym e) (let a = start-new in let b = k .end in omega arith))
-            (last-or i (m .terms) (omega arith))
-        ; narrow = λ i l. ⊎-elim
+            (last-or i (m .terms) (omega arith));
+        narrow = λ i l. ⊎-elim
             (λ p. let a = start-same I W J X m g same i (omega arith) in let b = same .ends i p in let d = g .narrow i p in omega arith)
             (λ e. subst (λ (j : ℕ). getD J j 0 ≤ start J j + 17) (sym e) (let a = start-new in let b = k .end in omega arith))
-            (last-or i (m .terms) (omega arith))
-        ; shaped = λ i l. ⊎-elim
+            (last-or i (m .terms) (omega arith));
+        shaped = λ i l. ⊎-elim
             (λ p. subst (Shaped i) (sym (node-old i p)) (g .shaped i p))
             (λ e. subst (λ (j : ℕ). Shaped j (nodeAt J X j)) (sym e) (subst (Shaped (m .terms)) (sym node-new) (c .shaped)))
-            (last-or i (m .terms) (omega arith))
-        ; apart = subst Apart (sym made-new) (apart-more (made I W m) t (g .apart) nowhere)
-        ; chains = chains-new
-        ; flags = flags-new
-        ; heads = heads-new
-        ; no-ends = λ i l h. k .other i (λ e. omega arith) (λ e. omega arith) (λ e. omega arith) (λ e. omega arith) ∙ g .no-ends i (omega arith) h
-        ; no-chains = λ i l h. k .other (CHAINS + i) (λ e. omega arith) (λ e. omega arith) (λ e. omega arith) (λ e. omega arith) ∙ g .no-chains i (omega arith) h
-        ; no-flags = λ i l h. k .other (FLAGS + i) (λ e. omega arith) (λ e. omega arith) (λ e. omega arith) (λ e. omega arith) ∙ g .no-flags i (omega arith) h
-        ; no-words = λ i l. x .behind i l ∙ g .no-words i (omega arith)
-        }
+            (last-or i (m .terms) (omega arith));
+        apart = subst Apart (sym made-new) (apart-more (made I W m) t (g .apart) nowhere);
+        chains = chains-new;
+        flags = flags-new;
+        heads = heads-new;
+        no-ends = λ i l h. k .other i (λ e. omega arith) (λ e. omega arith) (λ e. omega arith) (λ e. omega arith) ∙ g .no-ends i (omega arith) h;
+        no-chains = λ i l h. k .other (CHAINS + i) (λ e. omega arith) (λ e. omega arith) (λ e. omega arith) (λ e. omega arith) ∙ g .no-chains i (omega arith) h;
+        no-flags = λ i l h. k .other (FLAGS + i) (λ e. omega arith) (λ e. omega arith) (λ e. omega arith) (λ e. omega arith) ∙ g .no-flags i (omega arith) h;
+        no-words = λ i l. x .behind i l ∙ g .no-words i (omega arith);
+      }
 
   pub keep-fresh : Stored I W J X m t (keep t (made I W m)) (m .terms) new
   keep-fresh =
@@ -199,12 +199,12 @@ module _ (I W : List ℕ) (m : Mark) (w : List ℕ) (g : Good I W m) (c : Node (
       let a = made-words I W m g in
       let b = tree-node (made I W m) (m .terms) (c .shaped) in
       let d = g .words in
-      record
-        { grown = record { good = good-new; more = omega arith; longer = omega arith; same = same }
-        ; makes = keep-new (made I W m) t absent (omega arith) (omega arith) ∙ ap (ok t) (sym made-new)
-        ; numbered = sym (number-of (made J X new) (good-new .apart) (m .terms) (omega arith) t new-at)
-        ; there = omega arith
-        }
+      record {
+        grown = record { good = good-new; more = omega arith; longer = omega arith; same = same };
+        makes = keep-new (made I W m) t absent (omega arith) (omega arith) ∙ ap (ok t) (sym made-new);
+        numbered = sym (number-of (made J X new) (good-new .apart) (m .terms) (omega arith) t new-at);
+        there = omega arith;
+      }
 
 -- the same, from the calls' answers
 pub keep-made : (I W : List ℕ) (m : Mark) (w : List ℕ) → Good I W m → Node (m .terms) w → (b : ℕ) → b ≡ hash w → (r : ℕ) → r ≡ seek (made I W m) (treeAt (made I W m) w) → r ≡ 0
@@ -213,9 +213,9 @@ pub keep-made : (I W : List ℕ) (m : Mark) (w : List ℕ) → Good I W m → No
     → Stored I W J (take (m .words) W ++ (ys ++ drop (length W - m .words) (drop (m .words) W))) m (treeAt (made I W m) w) (keep (treeAt (made I W m) w) (made I W m)) (m .terms) (record { terms = m .terms + 1; words = m .words + length w })
 keep-made I W m w g c b eb r er z h l o eo J k ys ey =
     keep-fresh I W m w g c (seek-nowhere (made I W m) _ r er z) h l J _
-      (subst (λ (b : ℕ). Linked I J (m .terms) b (m .words + length w) (flag (isOpen (treeAt (made I W m) w)))) eb
-        (subst (Linked I J (m .terms) b (m .words + length w)) eo k))
-      (written W w (m .words) l ys ey)
+    (subst (λ (b : ℕ). Linked I J (m .terms) b (m .words + length w) (flag (isOpen (treeAt (made I W m) w)))) eb
+    (subst (Linked I J (m .terms) b (m .words + length w)) eo k))
+    (written W w (m .words) l ys ey)
 
 pub keep-links : (I W : List ℕ) (m : Mark) (w : List ℕ) → Good I W m → (b : ℕ) → b ≡ hash w → m .terms < TERMS → m .words + length w ≤ length W → (o : ℕ) (t : Tree) → o ≡ flag (isOpen t)
     → (length I ≡ INDEX) × (m .terms < TERMS) × (b < BUCKETS) × (m .words + length w ≤ WORDS) × (o ≤ 1)

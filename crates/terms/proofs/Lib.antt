@@ -24,3 +24,6 @@ pub mod BuildTerms
 pub mod Determined
 pub mod Prefix
 pub mod Skips
+pub mod Cells
+pub mod Empty
+pub mod Singles

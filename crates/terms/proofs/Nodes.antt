@@ -81,10 +81,14 @@ module _ (I W w : List ℕ) (m : Mark) (i : ℕ) (q : Flagging I W w m i) (h : i
   flagging-on z =
       let e = flag-closed (isOpen (getD (made I W m) (getD w i 0) (var 0))) _ (q .good .flags (getD w i 0) flagging-arg) z in
       let f = q .from in
-      record
-        { good = q .good; shaped = q .shaped; from = omega arith; inside = omega arith; small = q .small
-        ; left = q .left ∙ step ∙ ap (λ (b : Bool). elim b [ true ↦ true | false ↦ areOpen (argsOf (made I W m) (drop (suc i) w)) ]) e ∙ ap (λ (k : ℕ). areOpen (argsOf (made I W m) (drop k w))) (sym (add-one i))
-        }
+      record {
+        good = q .good;
+        shaped = q .shaped;
+        from = omega arith;
+        inside = omega arith;
+        small = q .small;
+        left = q .left ∙ step ∙ ap (λ (b : Bool). elim b [ true ↦ true | false ↦ areOpen (argsOf (made I W m) (drop (suc i) w)) ]) e ∙ ap (λ (k : ℕ). areOpen (argsOf (made I W m) (drop k w))) (sym (add-one i));
+      }
 
 pub flagging-ends : (I W w : List ℕ) (m : Mark) (i : ℕ) → Flagging I W w m i → length w ≤ i → 0 ≡ flag (isOpen (treeAt (made I W m) w))
 unfolding flag argsOf isOpen
@@ -116,16 +120,16 @@ module _ (I : List ℕ) (n b e o : ℕ) (h : (length I ≡ INDEX) × (n < TERMS)
       let a = long-one in
       let c = long-two in
       let d = long-three in
-      record
-        { long = length-set three n e ∙ long-three ∙ sym (h .0)
-        ; end = getD-set-same three n e 0 (omega arith)
-        ; chain = getD-set-other three n (CHAINS + n) e 0 (λ q. omega arith) ∙ getD-set-other two (HEADS + b) (CHAINS + n) (n + 1) 0 (λ q. omega arith)
-            ∙ getD-set-other one (FLAGS + n) (CHAINS + n) o 0 (λ q. omega arith) ∙ getD-set-same I (CHAINS + n) (getD I (HEADS + b) 0) 0 (omega arith)
-        ; flag = getD-set-other three n (FLAGS + n) e 0 (λ q. omega arith) ∙ getD-set-other two (HEADS + b) (FLAGS + n) (n + 1) 0 (λ q. omega arith)
-            ∙ getD-set-same one (FLAGS + n) o 0 (omega arith)
-        ; head = getD-set-other three n (HEADS + b) e 0 (λ q. omega arith) ∙ getD-set-same two (HEADS + b) (n + 1) 0 (omega arith) ∙ add-one n
-        ; other = λ j p q r s. getD-set-other three n j e 0 p ∙ getD-set-other two (HEADS + b) j (n + 1) 0 s ∙ getD-set-other one (FLAGS + n) j o 0 r ∙ getD-set-other I (CHAINS + n) j (getD I (HEADS + b) 0) 0 q
-        }
+      record {
+        long = length-set three n e ∙ long-three ∙ sym (h .0);
+        end = getD-set-same three n e 0 (omega arith);
+        chain = getD-set-other three n (CHAINS + n) e 0 (λ q. omega arith) ∙ getD-set-other two (HEADS + b) (CHAINS + n) (n + 1) 0 (λ q. omega arith)
+            ∙ getD-set-other one (FLAGS + n) (CHAINS + n) o 0 (λ q. omega arith) ∙ getD-set-same I (CHAINS + n) (getD I (HEADS + b) 0) 0 (omega arith);
+        flag = getD-set-other three n (FLAGS + n) e 0 (λ q. omega arith) ∙ getD-set-other two (HEADS + b) (FLAGS + n) (n + 1) 0 (λ q. omega arith)
+            ∙ getD-set-same one (FLAGS + n) o 0 (omega arith);
+        head = getD-set-other three n (HEADS + b) e 0 (λ q. omega arith) ∙ getD-set-same two (HEADS + b) (n + 1) 0 (omega arith) ∙ add-one n;
+        other = λ j p q r s. getD-set-other three n j e 0 p ∙ getD-set-other two (HEADS + b) j (n + 1) 0 s ∙ getD-set-other one (FLAGS + n) j o 0 r ∙ getD-set-other I (CHAINS + n) j (getD I (HEADS + b) 0) 0 q;
+      }
 
 -- The words --------------------------------------------------------------------------------------------------------------------------
 
@@ -142,14 +146,16 @@ pub writing-on : (l w now : List ℕ) (i : ℕ) → Writing l w now i → i < le
 writing-on l w now i c h =
     let r = c .room in
     let z = length-take-le i w (omega arith) in
-    record
-      { inside = omega arith; room = c .room; long = length-set now i (getD w i 0) ∙ c .long
-      ; so-far = ap (λ (r : List ℕ). set r i (getD w i 0)) (c .so-far ∙ ap (λ (r : List ℕ). take i w ++ r) (drop-cons l i 0 (omega arith)))
+    record {
+      inside = omega arith;
+      room = c .room;
+      long = length-set now i (getD w i 0) ∙ c .long;
+      so-far = ap (λ (r : List ℕ). set r i (getD w i 0)) (c .so-far ∙ ap (λ (r : List ℕ). take i w ++ r) (drop-cons l i 0 (omega arith)))
           ∙ set-at (take i w) (getD l i 0) (drop (suc i) l) (getD w i 0) i z
           ∙ sym (append-snoc (take i w) (getD w i 0) (drop (suc i) l))
           ∙ ap (λ (r : List ℕ). r ++ drop (suc i) l) (sym (take-suc w i 0 h))
-          ∙ ap (λ (k : ℕ). take k w ++ drop k l) (sym (add-one i))
-      }
+          ∙ ap (λ (k : ℕ). take k w ++ drop k l) (sym (add-one i));
+    }
 
 pub writing-ends : (l w now : List ℕ) (i : ℕ) → Writing l w now i → length w ≤ i → now ≡ w ++ drop (length w) l
 writing-ends l w now i c h =

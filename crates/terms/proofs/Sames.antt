@@ -43,12 +43,12 @@ module _ (I W J X : List ℕ) (m : Mark) (g : Good I W m) (s : Same I W J X m) w
 
 pub same-then : (I W J X K Y : List ℕ) (m n : Mark) → Same I W J X m → Same J X K Y n → m .terms ≤ n .terms → m .words ≤ n .words → Same I W K Y m
 same-then I W J X K Y m n a b h k =
-    record
-      { ends = λ i p. b .ends i (omega arith) ∙ a .ends i p
-      ; words = λ i p. b .words i (omega arith) ∙ a .words i p
-      ; long-index = b .long-index ∙ a .long-index
-      ; long-words = b .long-words ∙ a .long-words
-      }
+    record {
+      ends = λ i p. b .ends i (omega arith) ∙ a .ends i p;
+      words = λ i p. b .words i (omega arith) ∙ a .words i p;
+      long-index = b .long-index ∙ a .long-index;
+      long-words = b .long-words ∙ a .long-words;
+    }
 
 pub grown-then : (I W J X K Y : List ℕ) (l m n : Mark) → Grown I W J X l m → Grown J X K Y m n → Grown I W K Y l n
 grown-then I W J X K Y l m n a b =

@@ -49,7 +49,7 @@ module _ (s : List ℕ) (v : ℕ) (h : v < 64 * length s) where
   insert-at : (w : ℕ) → holds (set s (v / 64) inserted) w ≡ plus v (holds s) w
   unfolding holds
   insert-at w = elim (ℕ-discrete (w / 64) (v / 64)) [
-      yes e ↦
+    | yes e ↦
         ap (λ (i : ℕ). digit (getD (set s (v / 64) inserted) i 0) (w % 64)) e
         ∙ ap (λ (n : ℕ). digit n (w % 64)) (getD-set-same s (v / 64) inserted 0 (omega arith))
         ∙ digit-or (getD s (v / 64) 0) bitOf (w % 64)
@@ -60,7 +60,7 @@ module _ (s : List ℕ) (v : ℕ) (h : v < 64 * length s) where
         ap (λ (n : ℕ). digit n (w % 64)) (getD-set-other s (v / 64) (w / 64) inserted 0 q)
         ∙ sym (or-false (digit (getD s (w / 64) 0) (w % 64)))
         ∙ ap (λ (b : Bool). digit (getD s (w / 64) 0) (w % 64) || b) (sym (ne-eqb w v (λ e. q (ap (λ (n : ℕ). n / 64) e))))
-    ]
+  ]
 
   pub insert-law : holds (set s (v / 64) inserted) ≡ plus v (holds s)
   insert-law = λ i w. insert-at w i
@@ -79,23 +79,23 @@ joined-none s t = record { inside = omega arith; long = refl; done = λ k l. abs
 pub joined-more : (s t u : List ℕ) (i : ℕ) → Joined s t u i → i < length u → Joined s t (set u i (bitOr (getD u i 0) (getD t i 0))) (i + 1)
 joined-more s t u i j h =
     let z = j .long in
-    record
-      { inside = omega arith
-      ; long = length-set u i (bitOr (getD u i 0) (getD t i 0)) ∙ j .long
-      ; done = below-more _ i
+    record {
+      inside = omega arith;
+      long = length-set u i (bitOr (getD u i 0) (getD t i 0)) ∙ j .long;
+      done = below-more _ i
           (λ k l. getD-set-other u i k (bitOr (getD u i 0) (getD t i 0)) 0 (λ e. omega arith) ∙ j .done k l)
-          (getD-set-same u i (bitOr (getD u i 0) (getD t i 0)) 0 h ∙ ap (λ (n : ℕ). bitOr n (getD t i 0)) (j .left i (omega arith)))
-      ; left = λ k l. getD-set-other u i k (bitOr (getD u i 0) (getD t i 0)) 0 (λ e. omega arith) ∙ j .left k (omega arith)
-      }
+          (getD-set-same u i (bitOr (getD u i 0) (getD t i 0)) 0 h ∙ ap (λ (n : ℕ). bitOr n (getD t i 0)) (j .left i (omega arith)));
+      left = λ k l. getD-set-other u i k (bitOr (getD u i 0) (getD t i 0)) 0 (λ e. omega arith) ∙ j .left k (omega arith);
+    }
 
 joined-at : (s t u : List ℕ) (i : ℕ) → Joined s t u i → length u ≤ i → length s ≡ length t → (k : ℕ) → getD u k 0 ≡ bitOr (getD s k 0) (getD t k 0)
 joined-at s t u i j h e k = elim (decLt k i) [
-    yes l ↦ j .done k l
+  | yes l ↦ j .done k l
   | no q ↦
       let z = j .long in
       List·getD-eq-default u 0 (omega arith)
       ∙ sym (ap (λ (n : ℕ). bitOr n (getD t k 0)) (List·getD-eq-default s 0 (omega arith)) ∙ List·getD-eq-default t 0 (omega arith))
-  ]
+]
 
 pub joined-all : (s t u : List ℕ) (i : ℕ) → Joined s t u i → length u ≤ i → length s ≡ length t → holds u ≡ union (holds s) (holds t)
 unfolding holds
@@ -120,9 +120,9 @@ module _ (a b : List ℕ) (i : ℕ) (fits : getD b i 0 < 2 ^ 64) where
 
   pub clear-more : Clear a b (64 * i) → outside ≡ 0 → Clear a b (64 * (i + 1))
   clear-more c z w h = elim (decLt w (64 * i)) [
-      yes l ↦ c w l
+    | yes l ↦ c w l
     | no q ↦ let e : w / 64 ≡ i = omega arith in sym (outside-digit w e) ∙ ap (λ (n : ℕ). digit n (w % 64)) z ∙ digit-of-zero (w % 64)
-    ]
+  ]
 
 and-lt-64 : (x y : ℕ) → x < 2 ^ 64 → bitAnd x y < 2 ^ 64
 and-lt-64 x y h = let l = and-le-l x y in omega arith
@@ -146,9 +146,9 @@ module _ (a b : List ℕ) (i : ℕ) (ha : getD a i 0 < 2 ^ 64) (hb : getD b i 0 
     where
       below : (w : ℕ) → w < i * 64 + trailingZeros 64 (outside a b i hb) → minus (holds a) (holds b) w ≡ false
       below w k = elim (decLt w (64 * i)) [
-          yes l ↦ clear w l
+        | yes l ↦ clear w l
         | no q ↦ let l = found .low in sym (at (w - 64 * i) w (omega arith) (omega arith)) ∙ found .below (w - 64 * i) (omega arith)
-        ]
+      ]
 
 pub lowest-none : (a b : List ℕ) (i : ℕ) → Clear a b (64 * i) → length a ≤ i → 0 ≡ least (64 * length a) (minus (holds a) (holds b))
 lowest-none a b i c h = sym (least-none (64 * length a) (minus (holds a) (holds b)) (λ w l. c w (omega arith)))
@@ -193,10 +193,10 @@ pub count-more : (s : List ℕ) (i n o : ℕ) → n ≡ length (rising (64 * i) 
 count-more s i n o e f =
     let z : 64 * (i + 1) ≡ 64 * i + 64 = omega arith in
     let y : length (risingFrom (64 * i) 64 (holds s)) ≡ length (rising 64 (digit (getD s i 0))) =
-      rising-from-length (64 * i) 0 64 (holds s) (digit (getD s i 0)) (λ v l. let x : 0 + v ≡ v = omega arith in word-digit s i v l ∙ ap (digit (getD s i 0)) (sym x)) ∙ ap length (sym (rising-all 64 (digit (getD s i 0)))) in
+    rising-from-length (64 * i) 0 64 (holds s) (digit (getD s i 0)) (λ v l. let x : 0 + v ≡ v = omega arith in word-digit s i v l ∙ ap (digit (getD s i 0)) (sym x)) ∙ ap length (sym (rising-all 64 (digit (getD s i 0)))) in
     let x = length-append (rising (64 * i) (holds s)) (risingFrom (64 * i) 64 (holds s)) in
     let w : length (rising (64 * (i + 1)) (holds s)) ≡ length (rising (64 * i) (holds s) ++ risingFrom (64 * i) 64 (holds s)) =
-      ap (λ (j : ℕ). length (rising j (holds s))) z ∙ ap length (rising-split (64 * i) 64 (holds s)) in
+    ap (λ (j : ℕ). length (rising j (holds s))) z ∙ ap length (rising-split (64 * i) 64 (holds s)) in
     omega arith
 
 pub count-all : (s : List ℕ) (i n : ℕ) → i ≤ length s → length s ≤ i → n ≡ length (rising (64 * i) (holds s)) → n ≡ length (rising (64 * length s) (holds s))

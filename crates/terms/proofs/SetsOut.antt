@@ -55,9 +55,9 @@ module _ (all out₀ out : List ℕ) (n base left at k : ℕ) (y : Laying all ou
 
   pub skip-small : trailingZeros 64 left < base + 64 - at
   skip-small = elim (decLt (trailingZeros 64 left) (base + 64 - at)) [
-      yes p ↦ p
+    | yes p ↦ p
     | no q ↦ absurd (true≢false (sym (found .here) ∙ digit-high left (base + 64 - at) (trailingZeros 64 left) (y .small) (omega arith)))
-    ]
+  ]
 
   abbrev rest : List ℕ
   rest = risingFrom (at + trailingZeros 64 left + 1) (base + 64 - (at + trailingZeros 64 left + 1)) (shifted (at + trailingZeros 64 left + 1) (left / 2 ^ trailingZeros 64 left / 2 ^ 1))
@@ -71,14 +71,14 @@ module _ (all out₀ out : List ℕ) (n base left at k : ℕ) (y : Laying all ou
       let a : suc (at + t) ≡ at + t + 1 = omega arith in
       let b : at + (base + 64 - at) - suc (at + t) ≡ base + 64 - (at + t + 1) = omega arith in
       rising-from-here at (base + 64 - at) (shifted at left) (at + t) (omega arith) (omega arith) (ap (digit left) e ∙ found .here)
-        (λ w p q. found .below (w - at) (omega arith))
+      (λ w p q. found .below (w - at) (omega arith))
       ∙ ap (λ (l : List ℕ). (at + t) ∷ l)
-        (ap (λ (j : ℕ). risingFrom (suc (at + t)) j (shifted at left)) b
-        ∙ ap (λ (j : ℕ). risingFrom j (base + 64 - (at + t + 1)) (shifted at left)) a
-        ∙ rising-from-agree (at + t + 1) (base + 64 - (at + t + 1)) (shifted at left) (shifted (at + t + 1) (left / 2 ^ t / 2 ^ 1))
-          (λ v p q.
-            let f : t + 1 + (v - (at + t + 1)) ≡ v - at = omega arith in
-            ap (digit left) (sym f) ∙ sym (digit-shift left (t + 1) (v - (at + t + 1))) ∙ ap (λ (m : ℕ). digit m (v - (at + t + 1))) (sym (shr-shr left t 1))))
+      (ap (λ (j : ℕ). risingFrom (suc (at + t)) j (shifted at left)) b
+      ∙ ap (λ (j : ℕ). risingFrom j (base + 64 - (at + t + 1)) (shifted at left)) a
+      ∙ rising-from-agree (at + t + 1) (base + 64 - (at + t + 1)) (shifted at left) (shifted (at + t + 1) (left / 2 ^ t / 2 ^ 1))
+      (λ v p q.
+      let f : t + 1 + (v - (at + t + 1)) ≡ v - at = omega arith in
+      ap (digit left) (sym f) ∙ sym (digit-shift left (t + 1) (v - (at + t + 1))) ∙ ap (λ (m : ℕ). digit m (v - (at + t + 1))) (sym (shr-shr left t 1))))
 
   pub laying-fits : k < length out
   laying-fits = let a = y .room in let b = ap length rest-is in omega arith
@@ -93,17 +93,17 @@ module _ (all out₀ out : List ℕ) (n base left at k : ℕ) (y : Laying all ou
       let f = ap length rest-is in
       let g = length-set out k (at + t) in
       let w : base + 64 - (at + t + 1) + (t + 1) ≡ base + 64 - at = omega arith in
-      record
-        { low = omega arith
-        ; base-small = y .base-small
-        ; high = omega arith
-        ; word = let p = shr-le left t in let q = shr-le (left / 2 ^ t) 1 in let r = y .word in omega arith
-        ; small = subst (λ (m : ℕ). m < 2 ^ (base + 64 - (at + t + 1))) (sym (shr-shr left t 1)) (shr-lt (base + 64 - (at + t + 1)) (t + 1) (subst (λ (j : ℕ). left < 2 ^ j) (sym w) (y .small)))
-        ; room = omega arith
-        ; long = length-set out k (at + t) ∙ y .long
-        ; count = omega arith
-        ; cells = ap (λ (j : ℕ). sets (set out k (at + t)) j rest) (add-one k) ∙ ap (sets out k) (sym rest-is) ∙ y .cells
-        }
+      record {
+        low = omega arith;
+        base-small = y .base-small;
+        high = omega arith;
+        word = let p = shr-le left t in let q = shr-le (left / 2 ^ t) 1 in let r = y .word in omega arith;
+        small = subst (λ (m : ℕ). m < 2 ^ (base + 64 - (at + t + 1))) (sym (shr-shr left t 1)) (shr-lt (base + 64 - (at + t + 1)) (t + 1) (subst (λ (j : ℕ). left < 2 ^ j) (sym w) (y .small)));
+        room = omega arith;
+        long = length-set out k (at + t) ∙ y .long;
+        count = omega arith;
+        cells = ap (λ (j : ℕ). sets (set out k (at + t)) j rest) (add-one k) ∙ ap (sets out k) (sym rest-is) ∙ y .cells;
+      }
 
 module _ (all out₀ out : List ℕ) (n base left at k : ℕ) (y : Laying all out₀ out n base left at k) (none : left ≡ 0) where
   nothing-left : risingFrom at (base + 64 - at) (shifted at left) ≡ []
@@ -154,7 +154,7 @@ module _ (s out₀ out : List ℕ) (n i : ℕ) (y : LayingAll s out₀ out n i) 
       ∙ rising-from-split (i * 64) 64 (64 * length s - (i + 1) * 64) (holds s)
       ∙ ap (λ (j : ℕ). risingFrom (i * 64) 64 (holds s) ++ risingFrom j (64 * length s - (i + 1) * 64) (holds s)) b
       ∙ ap (λ (l : List ℕ). l ++ later) (rising-from-agree (i * 64) 64 (holds s) (shifted (i * 64) (getD s i 0))
-        (λ v p q. let d : 64 * i + (v - i * 64) ≡ v = omega arith in ap (holds s) (sym d) ∙ word-digit s i (v - i * 64) (omega arith)))
+      (λ v p q. let d : 64 * i + (v - i * 64) ≡ v = omega arith in ap (holds s) (sym d) ∙ word-digit s i (v - i * 64) (omega arith)))
 
   pub all-asks : (i * 64 ≤ 65472) × (n + length (risingFrom (i * 64) 64 (shifted (i * 64) (getD s i 0))) ≤ length out)
   all-asks =
@@ -172,14 +172,14 @@ module _ (s out₀ out : List ℕ) (n i : ℕ) (y : LayingAll s out₀ out n i) 
       let d = length-append here later in
       let f = y .count in
       let g = p .0 in
-      record
-        { inside = omega arith
-        ; few = y .few
-        ; room = omega arith
-        ; long = e ∙ y .long
-        ; count = omega arith
-        ; cells = ap (λ (l : List ℕ). sets l r later) (p .1) ∙ ap (λ (j : ℕ). sets (sets out n here) j later) (p .0) ∙ sym (sets-append out n here later) ∙ ap (sets out n) (sym here-later) ∙ y .cells
-        }
+      record {
+        inside = omega arith;
+        few = y .few;
+        room = omega arith;
+        long = e ∙ y .long;
+        count = omega arith;
+        cells = ap (λ (l : List ℕ). sets l r later) (p .1) ∙ ap (λ (j : ℕ). sets (sets out n here) j later) (p .0) ∙ sym (sets-append out n here later) ∙ ap (sets out n) (sym here-later) ∙ y .cells;
+      }
 
 pub all-done : (s out₀ out : List ℕ) (n i : ℕ) → LayingAll s out₀ out n i → length s ≤ i → (n ≡ length (rising (64 * length s) (holds s))) × (out ≡ sets out₀ 0 (rising (64 * length s) (holds s)))
 all-done s out₀ out n i y h =

@@ -45,14 +45,21 @@ unfolding sub
 looping-begins I W old map memo id s r b h =
     let l = node-rise I W old (r .good) id (r .there) s b in
     let t = ap (sub (replacement (made I W old) map)) (term-app I W old (r .good) id (r .there) s b h) in
-    record
-      { ready = r; begins = b; ends = refl; small = h
-      ; grown = grown-self I W old (r .good)
-      ; knows = r .knows; keeps = λ i p. p; long = refl; from = omega arith; upto = omega arith
-      ; done = λ k p q. absurd (omega arith)
-      ; left = ap (λ (u : Tree). make u (made I W old)) t ∙ make-app (made I W old) _ _
-          ∙ ap (λ (u : Tree). then (makes (subs (replacement (made I W old) map) (argsOf (made I W old) (run W (s + 1) (getD I id 0 - (s + 1))))) (made I W old)) (λ _ n. keep u n)) (sym t)
-      }
+    record {
+      ready = r;
+      begins = b;
+      ends = refl;
+      small = h;
+      grown = grown-self I W old (r .good);
+      knows = r .knows;
+      keeps = λ i p. p;
+      long = refl;
+      from = omega arith;
+      upto = omega arith;
+      done = λ k p q. absurd (omega arith);
+      left = ap (λ (u : Tree). make u (made I W old)) t ∙ make-app (made I W old) _ _
+          ∙ ap (λ (u : Tree). then (makes (subs (replacement (made I W old) map) (argsOf (made I W old) (run W (s + 1) (getD I id 0 - (s + 1))))) (made I W old)) (λ _ n. keep u n)) (sym t);
+    }
 
 module _ (I W : List ℕ) (old : Mark) (map memo : List ℕ) (id s e : ℕ) (J X memo′ : List ℕ) (m : Mark) (at : ℕ) (l : Looping I W old map memo id s e J X memo′ m at) where
   abbrev σ : ℕ → Tree
@@ -90,13 +97,13 @@ module _ (I W : List ℕ) (old : Mark) (map memo : List ℕ) (id s e : ℕ) (J X
         let c = l .ready .inside in
         let d = l .grown .more in
         let f = l .long in
-        record
-          { good = l .grown .good
-          ; bound = λ v. let x = l .ready .bound v in omega arith
-          ; there = omega arith
-          ; inside = omega arith
-          ; knows = λ i p. subst (λ (τ : ℕ → Tree). Knows (made J X m) τ memo′ i) (sym same-replacement) (l .knows i p)
-          }
+        record {
+          good = l .grown .good;
+          bound = λ v. let x = l .ready .bound v in omega arith;
+          there = omega arith;
+          inside = omega arith;
+          knows = λ i p. subst (λ (τ : ℕ → Tree). Knows (made J X m) τ memo′ i) (sym same-replacement) (l .knows i p);
+        }
 
     -- what the call asks for, in the trees of the beginning
     call-tree : substituted J X m map (getD X at 0) ≡ sub σ (getD (made I W old) (getD W at 0) (var 0))
@@ -117,27 +124,30 @@ module _ (I W : List ℕ) (old : Mark) (map memo : List ℕ) (id s e : ℕ) (J X
     looping-on : (K Y memo″ : List ℕ) (n : ℕ) (new : Mark) → length memo″ ≡ length memo′ → Done J X K Y m map memo′ memo″ (getD X at 0) n new → Looping I W old map memo id s e K Y memo″ new (at + 1)
     looping-on K Y memo″ n new q d =
         let f = l .from in
-        record
-          { ready = l .ready; begins = l .begins; ends = l .ends; small = l .small
-          ; grown = grown-then I W J X K Y old m new (l .grown) (d .stored .grown)
-          ; knows = λ i p. subst (λ (τ : ℕ → Tree). Knows (made K Y new) τ memo″ i) same-replacement (d .knows i p)
-          ; keeps = λ i p. d .keeps i (l .keeps i p)
-          ; long = q ∙ l .long
-          ; from = omega arith
-          ; upto = omega arith
-          ; done = λ k a b. ⊎-elim
+        record {
+          ready = l .ready;
+          begins = l .begins;
+          ends = l .ends;
+          small = l .small;
+          grown = grown-then I W J X K Y old m new (l .grown) (d .stored .grown);
+          knows = λ i p. subst (λ (τ : ℕ → Tree). Knows (made K Y new) τ memo″ i) same-replacement (d .knows i p);
+          keeps = λ i p. d .keeps i (l .keeps i p);
+          long = q ∙ l .long;
+          from = omega arith;
+          upto = omega arith;
+          done = λ k a b. ⊎-elim
               (λ p. d .keeps _ (l .done k a p))
               (λ p. subst (λ (j : ℕ). 0 < getD memo″ (getD W j 0) 0) (sym p) (subst (λ (i : ℕ). 0 < getD memo″ i 0) (word-same at h) (d .known)))
-              (last-or k at (omega arith))
-          ; left = left-split ∙ makes-more (made J X m) _ _ (λ n. keep (substituted I W old map id) n) _ (made K Y new) (ap (λ (u : Tree). make u (made J X m)) (sym call-tree) ∙ d .stored .makes)
-          }
+              (last-or k at (omega arith));
+          left = left-split ∙ makes-more (made J X m) _ _ (λ n. keep (substituted I W old map id) n) _ (made K Y new) (ap (λ (u : Tree). make u (made J X m)) (sym call-tree) ∙ d .stored .makes);
+        }
 
     looping-full : (K Y : List ℕ) (row : ℕ) (new : Mark) → Refused Tree J X K Y m (asked J X m map (getD X at 0)) row new → Refused Tree I W K Y old (asked I W old map id) row new
     looping-full K Y row new d =
-        record
-          { grown = grown-then I W J X K Y old m new (l .grown) (d .grown)
-          ; makes = left-split ∙ makes-stop (made J X m) _ _ (λ n. keep (substituted I W old map id) n) 60 row (made K Y new) (ap (λ (u : Tree). make u (made J X m)) (sym call-tree) ∙ d .makes)
-          }
+        record {
+          grown = grown-then I W J X K Y old m new (l .grown) (d .grown);
+          makes = left-split ∙ makes-stop (made J X m) _ _ (λ n. keep (substituted I W old map id) n) 60 row (made K Y new) (ap (λ (u : Tree). make u (made J X m)) (sym call-tree) ∙ d .makes);
+        }
 
     -- from the call's answer and the arm that took it apart
     pub arm-term : (K Y memo″ : List ℕ) (r : Kept) → Substituted J X K Y m map memo′ memo″ (getD X at 0) r → length memo″ ≡ length memo′ → (n : ℕ) (new : Mark) → r ≡ Term n new
@@ -161,10 +171,12 @@ module _ (I W : List ℕ) (old : Mark) (map memo : List ℕ) (id s e : ℕ) (J X
         let d = l .grown .same .long-words in
         let f = l .ready .inside in
         let g = l .long in
-        record
-          { some = rise; narrow = omega arith; fits = omega arith
-          ; known = λ k p q. subst (Known memo′) (sym (word-same k q)) (let j = arg-below k p q in record { inside = omega arith; some = l .done k p (omega arith) })
-          }
+        record {
+          some = rise;
+          narrow = omega arith;
+          fits = omega arith;
+          known = λ k p q. subst (Known memo′) (sym (word-same k q)) (let j = arg-below k p q in record { inside = omega arith; some = l .done k p (omega arith) });
+        }
 
     args-same : run X (s + 1) (e - (s + 1)) ≡ run W (s + 1) (e - (s + 1))
     args-same = let a = rise in run-same W X e (s + 1) (e - (s + 1)) word-same (l .grown .same .long-words) (omega arith) inside
@@ -232,15 +244,15 @@ module _ (I W : List ℕ) (old : Mark) (map memo : List ℕ) (id s e : ℕ) (J X
           let num : n ≡ number (made K Y new) (substituted I W old map id) = f .numbered ∙ ap (number (made K Y new)) tree-rebuilt in
           let at-n : getD (made K Y new) n (var 0) ≡ substituted I W old map id = ap (λ (q : ℕ). getD (made K Y new) q (var 0)) num ∙ number-is (made K Y new) _ (omega arith) in
           let here : getD (made K Y new) id (var 0) ≡ getD (made I W old) id (var 0) = getD-grown J X K Y m (l .grown .good) (f .grown .same) (new .terms) id b (omega arith) ∙ grown-at id c in
-          record
-            { stored = record
-                { grown = grown-then I W J X K Y old m new (l .grown) (f .grown)
-                ; makes = asked-keeps ∙ f .makes ∙ ap (λ (u : Tree). ok u (made K Y new)) tree-rebuilt
-                ; numbered = num
-                ; there = there
-                }
-            ; knows = knows-set (made K Y new) σ memo′ id n inn (omega arith) (omega arith) (at-n ∙ ap (sub σ) (sym here))
-                (λ i q. knows-grown J X K Y m new (l .grown .good) (f .grown) σ memo′ i q (l .knows i q))
-            ; known = known-set memo′ id n inn
-            ; keeps = λ i q. keeps-set memo′ id n inn i (l .keeps i q)
-            }
+          record {
+            stored = record {
+              grown = grown-then I W J X K Y old m new (l .grown) (f .grown);
+              makes = asked-keeps ∙ f .makes ∙ ap (λ (u : Tree). ok u (made K Y new)) tree-rebuilt;
+              numbered = num;
+              there = there;
+            };
+            knows = knows-set (made K Y new) σ memo′ id n inn (omega arith) (omega arith) (at-n ∙ ap (sub σ) (sym here))
+                (λ i q. knows-grown J X K Y m new (l .grown .good) (f .grown) σ memo′ i q (l .knows i q));
+            known = known-set memo′ id n inn;
+            keeps = λ i q. keeps-set memo′ id n inn i (l .keeps i q);
+          }

@@ -37,17 +37,19 @@ replacement-grown I W J X old m g s l map b = λ i v. go v (eqb (getD map v 0) 0
 pub knows-set : (M : Made) (σ : ℕ → Tree) (memo : List ℕ) (id v : ℕ) → id < length memo → id < length M → v < length M → getD M v (var 0) ≡ sub σ (getD M id (var 0))
     → ((i : ℕ) → 0 < getD memo i 0 → Knows M σ memo i) → (i : ℕ) → 0 < getD (set memo id (v + 1)) i 0 → Knows M σ (set memo id (v + 1)) i
 knows-set M σ memo id v a b d e k i p = elim (ℕ-discrete i id) [
-    yes q ↦ (let z : getD (set memo id (v + 1)) i 0 ≡ v + 1 = ap (λ (j : ℕ). getD (set memo id (v + 1)) j 0) q ∙ getD-set-same memo id (v + 1) 0 a in
+  | yes q ↦ (let z : getD (set memo id (v + 1)) i 0 ≡ v + 1 = ap (λ (j : ℕ). getD (set memo id (v + 1)) j 0) q ∙ getD-set-same memo id (v + 1) 0 a in
       let y : v + 1 - 1 ≡ v = omega arith in
       record { old = omega arith; new = omega arith; is = rw (z, y, q) e })
   | no q ↦ (let z : getD (set memo id (v + 1)) i 0 ≡ getD memo i 0 = getD-set-other memo id i (v + 1) 0 q in
       let r = k i (omega arith) in
-      record { old = r .old; new = rw z (r .new); is = rw z (r .is) }) ]
+      record { old = r .old; new = rw z (r .new); is = rw z (r .is) })
+]
 
 pub keeps-set : (memo : List ℕ) (id v : ℕ) → id < length memo → (i : ℕ) → 0 < getD memo i 0 → 0 < getD (set memo id (v + 1)) i 0
 keeps-set memo id v a i p = elim (ℕ-discrete i id) [
-    yes q ↦ (let z : getD (set memo id (v + 1)) i 0 ≡ v + 1 = ap (λ (j : ℕ). getD (set memo id (v + 1)) j 0) q ∙ getD-set-same memo id (v + 1) 0 a in omega arith)
-  | no q ↦ rw (getD-set-other memo id i (v + 1) 0 q) p ]
+  | yes q ↦ (let z : getD (set memo id (v + 1)) i 0 ≡ v + 1 = ap (λ (j : ℕ). getD (set memo id (v + 1)) j 0) q ∙ getD-set-same memo id (v + 1) 0 a in omega arith)
+  | no q ↦ rw (getD-set-other memo id i (v + 1) 0 q) p
+]
 
 pub known-set : (memo : List ℕ) (id v : ℕ) → id < length memo → 0 < getD (set memo id (v + 1)) id 0
 known-set memo id v a = rw (getD-set-same memo id (v + 1) 0 a) (omega arith)
@@ -59,11 +61,11 @@ knows-grown J X K Y m new g w σ memo i p k =
     let o = k .old in
     let n = k .new in
     let l = w .more in
-    record
-      { old = omega arith
-      ; new = omega arith
-      ; is = getD-grown J X K Y m g (w .same) (new .terms) (getD memo i 0 - 1) l (omega arith) ∙ k .is ∙ ap (sub σ) (sym (getD-grown J X K Y m g (w .same) (new .terms) i l (omega arith)))
-      }
+    record {
+      old = omega arith;
+      new = omega arith;
+      is = getD-grown J X K Y m g (w .same) (new .terms) (getD memo i 0 - 1) l (omega arith) ∙ k .is ∙ ap (sub σ) (sym (getD-grown J X K Y m g (w .same) (new .terms) i l (omega arith)));
+    }
 
 -- The result is there already --------------------------------------------------------------------------------------------------------------
 
@@ -73,23 +75,23 @@ module _ (I W : List ℕ) (m : Mark) (map memo : List ℕ) (id : ℕ) (r : Ready
       let k = r .knows id (omega arith) in
       let z = length-trees I W (m .terms) in
       let y = k .new in
-      record
-        { stored = there-stored I W m (r .good) (getD memo id 0 - 1) (omega arith) (substituted I W m map id) (k .is)
-        ; knows = r .knows
-        ; known = omega arith
-        ; keeps = λ i p. p
-        }
+      record {
+        stored = there-stored I W m (r .good) (getD memo id 0 - 1) (omega arith) (substituted I W m map id) (k .is);
+        knows = r .knows;
+        known = omega arith;
+        keeps = λ i p. p;
+      }
 
   sub-at : (v : ℕ) → v < m .terms → getD (made I W m) v (var 0) ≡ substituted I W m map id → Done I W I W m map memo (set memo id (v + 1)) id v m
   sub-at v l e =
       let z = length-trees I W (m .terms) in
       let h = r .there in
-      record
-        { stored = there-stored I W m (r .good) v l (substituted I W m map id) e
-        ; knows = knows-set (made I W m) (replacement (made I W m) map) memo id v (r .inside) (omega arith) (omega arith) e (r .knows)
-        ; known = known-set memo id v (r .inside)
-        ; keeps = keeps-set memo id v (r .inside)
-        }
+      record {
+        stored = there-stored I W m (r .good) v l (substituted I W m map id) e;
+        knows = knows-set (made I W m) (replacement (made I W m) map) memo id v (r .inside) (omega arith) (omega arith) e (r .knows);
+        known = known-set memo id v (r .inside);
+        keeps = keeps-set memo id v (r .inside);
+      }
 
   pub sub-none : getD I (FLAGS + id) 0 ≡ 0 → Done I W I W m map memo (set memo id (id + 1)) id id m
   sub-none e = sub-at id (r .there) (sym (sub-closed (replacement (made I W m) map) _ (no-variable I W m (r .good) id (r .there) e)))
@@ -109,4 +111,4 @@ module _ (I W : List ℕ) (m : Mark) (map memo : List ℕ) (id : ℕ) (r : Ready
       let t = term-var I W m (r .good) id (r .there) s e h in
       let i = image-is (getD W s 0 - SYMBOLS) t in
       sub-at w (subst (λ (q : ℕ). q < m .terms) (sym f) (i .0))
-        (ap (λ (q : ℕ). getD (made I W m) q (var 0)) f ∙ i .1 ∙ sym (ap (sub (replacement (made I W m) map)) t))
+      (ap (λ (q : ℕ). getD (made I W m) q (var 0)) f ∙ i .1 ∙ sym (ap (sub (replacement (made I W m) map)) t))

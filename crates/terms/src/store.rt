@@ -15,7 +15,7 @@ use rules::TERMS;
 // The four parts of the index: ends, chains, flags, heads.
 const CHAINS: usize = 4096;
 
-const FLAGS: usize = 8192;
+pub const FLAGS: usize = 8192;
 
 const HEADS: usize = 12288;
 
@@ -175,7 +175,7 @@ fn unlink(index: &mut [u32], n: usize, bucket: usize)
 }
 
 // Every cell becomes 0.
-fn wipe(cells: &mut [u32])
+pub fn wipe(cells: &mut [u32])
     ensures { λ _. ⌜ now (cells .exit) ≡ replicate (length (now (cells .entry))) 0 ⌝ }
 {
     let mut i = 0;

@@ -8,14 +8,13 @@ ghost use Rattle.rules.specs.Store.{keep as keepTree, substitute as substituteT
 ghost use Rattle.terms.specs.Table.{treeAt, made, Good, Shaped, After};
 ghost use Rattle.terms.specs.Collect.{tree};
 ghost use Rattle.terms.specs.Subst.{replacement, image, rebuilt, Rebuildable, substituted, asked, Replaceable, Ready, Substituted};
+use crate::store::FLAGS;
 use crate::store::Kept;
 use crate::store::Mark;
 use crate::store::keep;
 use crate::store::start_of;
+use crate::store::wipe;
 use rules::SYMBOLS;
-
-// Where the index says whether a term has a variable.
-const FLAGS: usize = 8192;
 
 // The number that the map gives the variable `v`, or `id` where it leaves the variable.
 fn image_of(map: &[u32], v: usize, id: usize) -> usize
@@ -43,7 +42,14 @@ fn gather(words: &[u32], memo: &[u32], start: usize, end: usize, node: &mut [u32
 }
 
 // The node that stands from `start` to `end`, with its arguments as the memo has them, comes into the store.
-fn rebuild(index: &mut [u32], words: &mut [u32], mark: Mark, memo: &[u32], start: usize, end: usize) -> Kept
+fn rebuild(
+    index: &mut [u32],
+    words: &mut [u32],
+    mark: Mark,
+    memo: &[u32],
+    start: usize,
+    end: usize,
+) -> Kept
     requires { ⌜ Good (now index) (now words) mark ⌝ }
     requires { ⌜ Rebuildable (now words) (now memo) start end ⌝ }
     requires { ⌜ Shaped (mark .terms) (rebuilt (now words) (now memo) start end) ⌝ }
@@ -103,17 +109,6 @@ fn replace(
             Kept::Term(n, next)
         }
         Kept::Full(row, last) => Kept::Full(row, last),
-    }
-}
-
-// Every cell is set to 0.
-fn wipe(cells: &mut [u32])
-    ensures { λ _. ⌜ now (cells .exit) ≡ replicate (length (now (cells .entry))) 0 ⌝ }
-{
-    let mut i = 0;
-    while i < cells.len() {
-        cells[i] = 0;
-        i += 1;
     }
 }
 

@@ -9,12 +9,10 @@ ghost use Rattle.terms.specs.Collect.{tree, Seen, Readable, Collected};
 use crate::sets::clear;
 use crate::sets::has;
 use crate::sets::insert;
+use crate::store::FLAGS;
 use crate::store::Mark;
 use crate::store::start_of;
 use rules::SYMBOLS;
-
-// Where the index says whether a term has a variable.
-const FLAGS: usize = 8192;
 
 // The variables of the term `id` join the set; a term that was visited has its own there already.
 fn collect(index: &[u32], words: &[u32], mark: Mark, id: usize, seen: &mut [u64], set: &mut [u64])
@@ -45,11 +43,36 @@ fn collect(index: &[u32], words: &[u32], mark: Mark, id: usize, seen: &mut [u64]
 }
 
 // The variables of the term `id` join the set. `seen` is scratch: zero before and after.
-pub fn variables(index: &[u32], words: &[u32], mark: Mark, id: usize, seen: &mut [u64], set: &mut [u64])
+pub fn variables(
+    index: &[u32],
+    words: &[u32],
+    mark: Mark,
+    id: usize,
+    seen: &mut [u64],
+    set: &mut [u64],
+)
     requires { ⌜ Readable (now index) (now words) mark id (now seen) (now set) ⌝ }
     requires { ⌜ now seen ≡ replicate (length (now seen)) 0 ⌝ }
     ensures { λ _. ⌜ (holds (now (set .exit)) ≡ union (holds (now (set .entry))) (variablesIn (tree (now (index .entry)) (now (words .entry)) mark id))) × (now (seen .exit) ≡ now (seen .entry)) ⌝ }
 {
     collect(index, words, mark, id, seen, set);
     clear(seen);
+}
+
+// Whether the variable `x` occurs in the term `id`. `seen` is scratch: zero before and after.
+pub fn occurs(
+    index: &[u32],
+    words: &[u32],
+    mark: Mark,
+    id: usize,
+    x: usize,
+    seen: &mut [u64],
+) -> bool
+    requires { ⌜ Readable (now index) (now words) mark id (now seen) (replicate 8 0) ⌝ }
+    requires { ⌜ (now seen ≡ replicate (length (now seen)) 0) × (x < 512) ⌝ }
+    ensures { λ r. ⌜ (r ≡ variablesIn (tree (now (index .entry)) (now (words .entry)) mark id) x) × (now (seen .exit) ≡ now (seen .entry)) ⌝ }
+{
+    let mut set = [0u64; 8];
+    variables(index, words, mark, id, seen, &mut set);
+    has(&set, x)
 }
