@@ -9,7 +9,7 @@ use lib.Dec.{eqb}
 use lib.ListN.{length, getD, take, drop}
 use Rattle.rules.specs.Text.{same}
 use Rattle.rules.specs.Find.{first}
-use Rattle.rules.specs.FindLaws.{first-here, first-later, first-over}
+use Rattle.rules.specs.Laws.Find.{first-here, first-later, first-over}
 use Rattle.rules.specs.Sexp.{Name}
 use Rattle.rules.specs.Theory.{Symbol, noName, noSymbol, isPredicate}
 use Rattle.kernel.specs.Named.{NameIn, NameAt, NameRows, SomeNames, foundOf, kindOf, ofKind, SymbolAt, SomeSymbol, SymbolRows, SomeSymbols, called}

@@ -12,7 +12,7 @@ use lib.Seq.{drop-cons}
 use borrow.Author.Tests.{eqb-true}
 use Rattle.rules.specs.Text.{same}
 use Rattle.rules.specs.Find.{first}
-use Rattle.rules.specs.FindLaws.{next, first-next, First, first-some}
+use Rattle.rules.specs.Laws.Find.{next, first-next, First, first-some}
 use Rattle.rules.specs.Theory.{noName}
 use Rattle.rules.specs.Lex.{Kind, blank, left, right, semicolon, letter, kind, letters, lexing}
 use Rattle.rules.specs.Sexp.{Sexp, Sexps, atom, list, Name, marked}

@@ -15,7 +15,7 @@ use Rattle.rules.specs.Tree.{none}
 use Rattle.rules.specs.Theory.{rule, rulesOf}
 use Rattle.rules.specs.State.{State, Fact}
 use Rattle.rules.specs.Invert.{predicateOf}
-use Rattle.meaning.specs.Tree.{In}
+use Rattle.meaning.specs.Trees.Tree.{In}
 use Rattle.meaning.specs.Truth.{At}
 
 -- Items ---------------------------------------------------------------------------------------------------------------------------

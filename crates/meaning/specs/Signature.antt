@@ -5,7 +5,7 @@ use mathlib.Core.List.{List, [], _∷_}
 use lib.ListN.{length, getD}
 use Rattle.rules.specs.Tree.{Tree, Trees, var, app, none, more}
 use Rattle.rules.specs.Theory.{Theory, Rule, RuleVar, noName, inputs, output, rule}
-use Rattle.meaning.specs.Tree.{Sig}
+use Rattle.meaning.specs.Trees.Tree.{Sig}
 
 -- the symbols that a theory declares; sorts are numbered from 1, and judgments have sort 0
 unfoldable pub sig : Theory → Sig

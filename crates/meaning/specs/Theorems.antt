@@ -1,5 +1,5 @@
 -- What is claimed of the definition, stated alone. The words are defined in Signature (ground terms), Derivation, Truth, Named (the
--- premise), Sets and BridgeCheck (`Taken`, `after`, `Calmly`).
+-- premise), Sets and Bridge/Check (`Taken`, `after`, `Calmly`).
 --
 --     facts-true           every recorded fact is true
 --     goals-derivable      every ground instance of a goal that was taken is derivable
@@ -14,7 +14,7 @@
 --
 -- The other theorems stand where their words do:
 --     derivation-accepted   (Accepted) a written derivation is accepted, unless 2, 5 or 60 refuses it
---     unify-complete, unify-general, unify-sorted   (UnifyRight) unification fails only where nothing unifies, and is most general
+--     unify-complete, unify-general, unify-sorted   (Unification/Right) unification fails only where nothing unifies, and is most general
 --     examples              (Examples of `rules`) the worked examples hold
 use Prim.Native.Nat.{ℕ}
 use mathlib.Core.Path.{_≡_, refl, sym, subst}
@@ -28,15 +28,15 @@ use Rattle.rules.specs.Tree.{Tree, Trees, none, sub}
 use Rattle.rules.specs.Theory.{Theory}
 use Rattle.rules.specs.State.{State, Fact, Goal, sortOfVar}
 use Rattle.rules.specs.Check.{Report, accepts, check}
-use Rattle.meaning.specs.Tree.{Occ, Occs, Among}
+use Rattle.meaning.specs.Trees.Tree.{Occ, Occs, Among}
 use Rattle.meaning.specs.Signature.{sig, Value}
 use Rattle.meaning.specs.Derivation.{Der, RuleOf, Derivable}
 use Rattle.meaning.specs.Truth.{At, True}
 use Rattle.meaning.specs.Named.{RuleHyp}
 use Rattle.meaning.specs.Sets.{Sets, ofTheory, Within}
-use Rattle.meaning.specs.Well.{Agree}
-use Rattle.meaning.specs.BridgeRun.{Good, good-true, cited, good-goal}
-use Rattle.meaning.specs.BridgeCheck.{Taken, after, Calmly, Respectful, CalmTexts, theory-respected, taken-good, taken-theory, proof-good, check-good, AllTaken, accepted-taken}
+use Rattle.meaning.specs.Bridge.Well.{Agree}
+use Rattle.meaning.specs.Bridge.Run.{Good, good-true, cited, good-goal}
+use Rattle.meaning.specs.Bridge.Check.{Taken, after, Calmly, Respectful, CalmTexts, theory-respected, taken-good, taken-theory, proof-good, check-good, AllTaken, accepted-taken}
 
 -- Definitions -----------------------------------------------------------------------------------------------------------------------
 

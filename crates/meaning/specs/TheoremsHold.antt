@@ -15,24 +15,24 @@ use Rattle.rules.specs.Find.{entry}
 use Rattle.rules.specs.Tree.{Tree, Trees, var, app, none, more as moreTrees, sub}
 use Rattle.rules.specs.Theory.{Theory, noTheory, rule}
 use Rattle.rules.specs.Declare.{declare}
-use Rattle.rules.specs.DeclareLaws.{reached}
+use Rattle.rules.specs.Laws.Declare.{reached}
 use Rattle.rules.specs.State.{State, Fact, Goal, begin, isNone}
 use Rattle.rules.specs.Judge.{Judged, done, whole}
 use Rattle.rules.specs.Proof.{takeGoal, takeForm}
 use Rattle.rules.specs.Check.{accepts, check, checking, report}
 use Rattle.rules.specs.Run.{line, running}
 use Rattle.rules.specs.Examples.{theory}
-use Rattle.meaning.specs.Tree.{Occ, Occs, In, Among}
-use Rattle.meaning.specs.TreeTests.{true-false}
+use Rattle.meaning.specs.Trees.Tree.{Occ, Occs, In, Among}
+use Rattle.meaning.specs.Trees.Tests.{true-false}
 use Rattle.meaning.specs.Signature.{sig, Value}
 use Rattle.meaning.specs.Derivation.{Der, node, Ders, leaf, both, RuleOf, Derivable}
 use Rattle.meaning.specs.Truth.{At, HypOf, Needs, Free, Mentions, Varies, Holds, Gives, Entails, True}
-use Rattle.meaning.specs.Sound.{ders-in}
+use Rattle.meaning.specs.Lemmas.Sound.{ders-in}
 use Rattle.meaning.specs.Named.{RuleHyp, Calm}
-use Rattle.meaning.specs.Asked.{both-true, at-unique}
-use Rattle.meaning.specs.BridgeRefs.{is-none}
-use Rattle.meaning.specs.BridgeRun.{final, IfTaken, Throughout}
-use Rattle.meaning.specs.BridgeCheck.{Taken, after, Calmly}
+use Rattle.meaning.specs.Bridge.Asked.{both-true, at-unique}
+use Rattle.meaning.specs.Bridge.Refs.{is-none}
+use Rattle.meaning.specs.Bridge.Run.{final, IfTaken, Throughout}
+use Rattle.meaning.specs.Bridge.Check.{Taken, after, Calmly}
 use Rattle.meaning.specs.Theorems.{sortsOf, goals-derivable}
 
 -- A test for the premise ------------------------------------------------------------------------------------------------------------

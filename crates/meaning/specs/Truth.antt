@@ -8,7 +8,7 @@ use mathlib.Core.List.{List, [], _∷_}
 use Rattle.rules.specs.Tree.{Tree, Trees, none, sub, subs}
 use Rattle.rules.specs.Theory.{Theory}
 use Rattle.rules.specs.State.{Fact}
-use Rattle.meaning.specs.Tree.{Occ, Occs, In}
+use Rattle.meaning.specs.Trees.Tree.{Occ, Occs, In}
 use Rattle.meaning.specs.Signature.{sig, Value}
 use Rattle.meaning.specs.Derivation.{Der, Ders}
 

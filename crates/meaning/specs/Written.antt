@@ -1,9 +1,9 @@
--- The words of demand 3, fourth part: written derivations. Definitions only; WrittenExample has one that computes.
+-- The words of demand 3, fourth part: written derivations. Definitions only; Writing/Example has one that computes.
 -- "A written derivation has a theory that is not refused; its goals text is one goal, the root's judgment, without listed hypotheses. Its
 -- proof has for each node one `step`, under the next index and behind its children's, with the node's rule, the children in order by bare
 -- index and the conclusion; last comes the `result` with the root's index, and there is no other form."
 -- Here a step may also be the child of several others, or of none: AcceptedTree has how the nodes of any derivation are such steps, and
--- WrittenTree that only what is derivable is written.
+-- Writing/Tree that only what is derivable is written.
 use Prim.Native.Nat.{ℕ, suc, _<_}
 use mathlib.Core.Path.{_≡_}
 use mathlib.Core.Logic.{_⊎_}

@@ -9,7 +9,7 @@ use lib.ListN.{length, getD, drop, drop-of-length-le}
 use borrow.Author.Tests.{ne-eqb, le-leb, lt-leb}
 use Rattle.rules.specs.Text.{plain}
 use Rattle.rules.specs.Lex.{Kind, blank, left, right, semicolon, letter, white, kind, letters}
-use Rattle.rules.specs.LexLaws.{kind-blank, kind-left, kind-right, kind-semicolon, kind-letter, drop-at, place-letters-more, place-letters-none, letters-end}
+use Rattle.rules.specs.Laws.Lex.{kind-blank, kind-left, kind-right, kind-semicolon, kind-letter, drop-at, place-letters-more, place-letters-none, letters-end}
 use Rattle.sexp.specs.Lexed.{wide, isLetter}
 
 -- white space

@@ -10,7 +10,7 @@ use lib.Seq.{take-all}
 use lib.Dec.{ltb, leb}
 use borrow.Author.Tests.{eq-eqb, ne-eqb, le-leb, lt-leb, lt-ltb, le-ltb}
 use Rattle.rules.specs.Index.{digit, digits, value, number, indexOf}
-use Rattle.rules.specs.LexLaws.{drop-at}
+use Rattle.rules.specs.Laws.Lex.{drop-at}
 use Rattle.sexp.specs.Names.{spelling}
 use Rattle.sexp.specs.declared.names.Index.the-variants.{Number, Unreadable}
 

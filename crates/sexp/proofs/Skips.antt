@@ -5,7 +5,7 @@ use mathlib.Core.List.{List}
 use native.Mathlib.Omega.{arith}
 use lib.ListN.{length, getD}
 use Rattle.rules.specs.Lex.{white}
-use Rattle.rules.specs.LexLaws.{place-blank, place-semicolon, kind-semicolon}
+use Rattle.rules.specs.Laws.Lex.{place-blank, place-semicolon, kind-semicolon}
 use Rattle.sexp.specs.Lexed.{wide, from, LineEnd, Skipped}
 use Rattle.sexp.proofs.ByteLaws.{is-white, one-wide, not-white, not-blank, not-semicolon}
 

@@ -7,9 +7,9 @@ use native.Mathlib.Omega.{arith}
 use lib.ListN.{length, drop, set, getD, replicate, length-append, length-drop}
 use Rattle.rules.specs.Limits.{LENGTH, DEPTH}
 use Rattle.rules.specs.Lex.{kind, letter, word, between, letters}
-use Rattle.rules.specs.LexLaws.{kind-left, kind-right, place-left, place-right, place-letter, place-letters-more, place-behind, letters-front, at-end}
+use Rattle.rules.specs.Laws.Lex.{kind-left, kind-right, place-left, place-right, place-letter, place-letters-more, place-behind, letters-front, at-end}
 use Rattle.rules.specs.Sexp.{Sexp, Sexps, atom, list, nil, snoc, Text, ends as ended, fails, more, forms, readFrom}
-use Rattle.rules.specs.SexpLaws.{forms-opens, forms-deep, forms-stray, forms-closes, forms-closed, forms-word, forms-bare, forms-ends, forms-open-end}
+use Rattle.rules.specs.Laws.Sexp.{forms-opens, forms-deep, forms-stray, forms-closes, forms-closed, forms-word, forms-bare, forms-ends, forms-open-end}
 use Rattle.sexp.specs.Lexed.{from, Skipped}
 use Rattle.sexp.specs.Encode.{encode, encodes}
 use Rattle.sexp.specs.Reads.{Clear, answer, written, Behind, ReadRight}

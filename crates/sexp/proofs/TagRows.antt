@@ -9,7 +9,7 @@ use lib.Dec.{eqb, leb}
 use lib.ListN.{length, getD, take, drop}
 use borrow.Author.Tests.{eqb-true, leb-true, le-leb, lt-leb}
 use Rattle.rules.specs.Text.{bytes, same}
-use Rattle.rules.specs.TextLaws.{same-equal}
+use Rattle.rules.specs.Laws.Text.{same-equal}
 use Rattle.rules.specs.Tags.{within, tagging}
 use Rattle.sexp.specs.TagTable.{shapes, shapeAt, suits}
 use Rattle.sexp.proofs.TableLaws.{at}

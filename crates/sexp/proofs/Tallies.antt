@@ -5,7 +5,7 @@ use mathlib.Core.List.{List}
 use native.Mathlib.Omega.{arith}
 use lib.ListN.{length}
 use Rattle.rules.specs.Sexp.{Sexp, Sexps, nil, cons, count, item}
-use Rattle.rules.specs.SexpLaws.{count-cons}
+use Rattle.rules.specs.Laws.Sexp.{count-cons}
 use Rattle.sexp.specs.Encode.{encode, encodes}
 use Rattle.sexp.specs.Items.{Items, Reaches, itemAt, itemOf, behind, place}
 use Rattle.sexp.specs.declared.items.Item.{Item}

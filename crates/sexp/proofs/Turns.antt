@@ -6,9 +6,9 @@ use native.Mathlib.Omega.{arith}
 use lib.ListN.{length, drop, getD, length-drop}
 use Rattle.rules.specs.Limits.{DEPTH}
 use Rattle.rules.specs.Lex.{kind, letter, word, between, letters}
-use Rattle.rules.specs.LexLaws.{kind-left, kind-right, place-left, place-right, place-letter, place-letters-more, place-behind, letters-front, at-end}
+use Rattle.rules.specs.Laws.Lex.{kind-left, kind-right, place-left, place-right, place-letter, place-letters-more, place-behind, letters-front, at-end}
 use Rattle.rules.specs.Sexp.{Sexp, Sexps, atom, list, nil, snoc, Text, ends, fails, more, forms, read}
-use Rattle.rules.specs.SexpLaws.{forms-opens, forms-deep, forms-stray, forms-closes, forms-closed, forms-word, forms-bare, forms-ends, forms-open-end}
+use Rattle.rules.specs.Laws.Sexp.{forms-opens, forms-deep, forms-stray, forms-closes, forms-closed, forms-word, forms-bare, forms-ends, forms-open-end}
 use Rattle.sexp.specs.Lexed.{from, Skipped}
 use Rattle.sexp.specs.Whole.{wholeOf}
 use Rattle.sexp.specs.declared.sexp.Whole.the-variants.{Forms, Refused}

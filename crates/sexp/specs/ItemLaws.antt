@@ -8,7 +8,7 @@ use lib.ListN.{length, drop, getD, length-append, length-drop}
 use lib.Seq.{getD-drop, drop-drop, drop-append-seam}
 use borrow.Author.Tests.{eq-eqb, ne-eqb}
 use Rattle.rules.specs.Sexp.{Sexp, Sexps, atom, list, nil, cons, count, item, rest}
-use Rattle.rules.specs.SexpLaws.{rest-item}
+use Rattle.rules.specs.Laws.Sexp.{rest-item}
 use Rattle.sexp.specs.Encode.{encode, encodes}
 use Rattle.sexp.specs.Items.{itemOf, itemAt, behind, place}
 use Rattle.sexp.specs.declared.items.Item.the-variants.{Atom, List as Part}

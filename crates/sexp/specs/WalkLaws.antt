@@ -7,7 +7,7 @@ use native.Mathlib.Omega.{arith}
 use lib.ListN.{length, take, drop, length-drop, length-take}
 use lib.Seq.{drop-drop, take-append-seam, take-all}
 use Rattle.rules.specs.Lex.{letters}
-use Rattle.rules.specs.LexLaws.{letters-front}
+use Rattle.rules.specs.Laws.Lex.{letters-front}
 use Rattle.rules.specs.Sexp.{Sexp, Sexps, atom, list, nil, cons, count, item, rest}
 use Rattle.sexp.specs.Encode.{encode, encodes}
 use Rattle.sexp.specs.Spelt.{AtomAt, Spelt, Spells}

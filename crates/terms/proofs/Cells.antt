@@ -10,7 +10,7 @@ use lib.Seq.{take-suc, take-add, take-all, take-take, length-take-le, ext-getD, 
 use Rattle.rules.specs.Limits.{SYMBOLS, TERMS, WORDS}
 use Rattle.rules.specs.Tree.{Tree, Trees, var, app, none, more, node}
 use Rattle.rules.specs.Store.{Made, number, words}
-use Rattle.rules.specs.StoreLaws.{Apart, number-of, words-more}
+use Rattle.rules.specs.Laws.Store.{Apart, number-of, words-more}
 use Rattle.rules.specs.TheoryTables.{filled}
 use Rattle.rules.specs.StateTables.{numbers, nodeCells, wordCells, endCells}
 use Rattle.terms.specs.declared.store.Mark.{Mark}

@@ -9,7 +9,7 @@ use Rattle.rules.specs.Limits.{SYMBOLS, TERMS, WORDS}
 use Rattle.rules.specs.Out.{Out, ok}
 use Rattle.rules.specs.Tree.{Tree, Trees, var, app, none, more}
 use Rattle.rules.specs.Store.{Made, number, make}
-use Rattle.rules.specs.StoreLaws.{Apart, Closed, Ins, number-is, number-of, make-old}
+use Rattle.rules.specs.Laws.Store.{Apart, Closed, Ins, number-is, number-of, make-old}
 use Rattle.terms.specs.declared.store.Mark.{Mark}
 use Rattle.terms.specs.Table.{argsOf, treeAt, made, Shaped, isVar, isApp, Good, Stored}
 use Rattle.terms.proofs.Tables.{length-trees, tree-here, tree-app, tree-var}

@@ -10,9 +10,9 @@ use lib.Dec.{eqb}
 use borrow.Author.Tests.{eq-eqb, eqb-true}
 use Rattle.rules.specs.Limits.{SYMBOLS, TERMS, WORDS}
 use Rattle.rules.specs.Find.{Set, empty, union}
-use Rattle.rules.specs.SetLaws.{or-left, or-right, union-assoc, union-empty, union-inside}
+use Rattle.rules.specs.Laws.Set.{or-left, or-right, union-assoc, union-empty, union-inside}
 use Rattle.rules.specs.Tree.{Tree, Trees, var, app, isOpen, variables, variablesOf}
-use Rattle.rules.specs.TreeLaws.{closed-empty, variables-var, variables-app, variables-none, variables-more}
+use Rattle.rules.specs.Laws.Tree.{closed-empty, variables-var, variables-app, variables-none, variables-more}
 use Rattle.terms.specs.declared.store.Mark.{Mark}
 use Rattle.terms.specs.Sets.{holds, plus}
 use Rattle.terms.specs.Table.{FLAGS, run, start, argsOf, made, Good}

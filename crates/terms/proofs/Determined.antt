@@ -11,7 +11,7 @@ use lib.Seq.{ext-getD}
 use Rattle.rules.specs.Limits.{TERMS}
 use Rattle.rules.specs.Tree.{var, isOpen}
 use Rattle.rules.specs.Store.{Made}
-use Rattle.rules.specs.StoreLaws.{Apart}
+use Rattle.rules.specs.Laws.Store.{Apart}
 use Rattle.rules.specs.Match.{Bound}
 use Rattle.terms.specs.declared.store.Mark.{Mark}
 use Rattle.terms.specs.Table.{CHAINS, FLAGS, HEADS, INDEX, BUCKETS, start, nodeAt, treeAt, trees, made, hash, bucket, latest, flag, Shaped, Good, Same, Grown, Part, Back}

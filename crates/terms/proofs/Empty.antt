@@ -6,7 +6,7 @@ use native.Mathlib.Omega.{arith}
 use native.Mathlib.Nat.{not-suc-le-zero}
 use lib.ListN.{length, getD, replicate, length-replicate}
 use Rattle.rules.specs.Limits.{TERMS, WORDS}
-use Rattle.rules.specs.StoreLaws.{Apart}
+use Rattle.rules.specs.Laws.Store.{Apart}
 use Rattle.terms.specs.declared.store.Mark.{Mark}
 use Rattle.terms.specs.Table.{CHAINS, FLAGS, HEADS, INDEX, start, trees, made, latest, Good}
 use Rattle.terms.proofs.Fresh.{getD-zeros}

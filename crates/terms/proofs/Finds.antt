@@ -9,7 +9,7 @@ use lib.ListN.{length, getD}
 use Rattle.rules.specs.Limits.{TERMS, WORDS}
 use Rattle.rules.specs.Tree.{Tree}
 use Rattle.rules.specs.Store.{Made, stored, number}
-use Rattle.rules.specs.StoreLaws.{stored-true, stored-false, number-le}
+use Rattle.rules.specs.Laws.Store.{stored-true, stored-false, number-le}
 use Rattle.terms.specs.declared.store.Mark.{Mark}
 use Rattle.terms.specs.Table.{CHAINS, HEADS, INDEX, BUCKETS, run, start, nodeAt, treeAt, trees, made, hash, bucket, latest, Shaped, Good}
 use Rattle.terms.specs.Node.{sameWords, seek}

@@ -10,7 +10,7 @@ use lib.Seq.{getD-set-same, getD-set-other, getD-take, getD-drop, getD-append-ad
 use Rattle.rules.specs.Limits.{TERMS}
 use Rattle.rules.specs.Tree.{Tree, var, isOpen}
 use Rattle.rules.specs.Store.{Made}
-use Rattle.rules.specs.StoreLaws.{Apart}
+use Rattle.rules.specs.Laws.Store.{Apart}
 use Rattle.terms.specs.declared.store.Mark.{Mark}
 use Rattle.terms.specs.Table.{CHAINS, FLAGS, HEADS, INDEX, BUCKETS, run, start, nodeAt, trees, made, hash, bucket, latest, flag, Shaped, Good, Same, Part, Back, lower}
 use Rattle.terms.specs.Node.{Unlinked}

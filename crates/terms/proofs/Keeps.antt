@@ -12,7 +12,7 @@ use Rattle.rules.specs.Limits.{TERMS, WORDS}
 use Rattle.rules.specs.Out.{Out, ok, refuse}
 use Rattle.rules.specs.Tree.{Tree, var, isOpen, node}
 use Rattle.rules.specs.Store.{Made, number, words, keep}
-use Rattle.rules.specs.StoreLaws.{Apart, length-snoc, getD-last, apart-more, number-of, keep-old, keep-8, keep-9, keep-new}
+use Rattle.rules.specs.Laws.Store.{Apart, length-snoc, getD-last, apart-more, number-of, keep-old, keep-8, keep-9, keep-new}
 use Rattle.terms.specs.declared.store.Mark.{Mark}
 use Rattle.terms.specs.Table.{CHAINS, FLAGS, HEADS, INDEX, BUCKETS, run, start, nodeAt, treeAt, trees, made, hash, bucket, latest, flag, Shaped, Node, Good, Same, Grown, Stored, Refused}
 use Rattle.terms.specs.Node.{seek, Linked}

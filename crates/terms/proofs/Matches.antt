@@ -12,9 +12,9 @@ use lib.Seq.{getD-set-same, getD-set-other}
 use borrow.Author.Tests.{eq-eqb, ne-eqb}
 use Rattle.rules.specs.Limits.{SYMBOLS, ARGUMENTS, RULEVARS}
 use Rattle.rules.specs.Tree.{Tree, Trees, var, app, none, more, size, sizes, countTrees}
-use Rattle.rules.specs.TreeLaws.{not-same, same-self}
+use Rattle.rules.specs.Laws.Tree.{not-same, same-self}
 use Rattle.rules.specs.Store.{Made}
-use Rattle.rules.specs.StoreLaws.{Apart}
+use Rattle.rules.specs.Laws.Store.{Apart}
 use Rattle.rules.specs.Match.{Bound, bind, matchVar, andThen, matches, matchAll}
 use Rattle.terms.specs.Table.{argsOf, treeAt, trees}
 use Rattle.terms.specs.Patterns.{arity, Stands, Standing, Reads, treeIn, boundOf, Cells, Tried, hit, miss}

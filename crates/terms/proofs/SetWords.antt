@@ -17,7 +17,7 @@ use lib.Bits.{bitAnd, bitOr, and-le-l, and-mask}
 use lib.Count.{trailingZeros, ones, ones-step}
 use borrow.Author.Tests.{eq-eqb, ne-eqb, eqb-true, eqb-false}
 use Rattle.rules.specs.Find.{Set, empty, union, minus, least, rising, risingFrom}
-use Rattle.rules.specs.SetLaws.{least-none, least-here, rising-all, rising-none, rising-split, rising-from-length}
+use Rattle.rules.specs.Laws.Set.{least-none, least-here, rising-all, rising-none, rising-split, rising-from-length}
 use Rattle.terms.specs.Sets.{digit, holds, plus}
 use Rattle.terms.proofs.Digits.{digit-or, digit-and, digit-not, digit-one, digit-zero, digit-suc, digit-of-zero, Lowest, lowest}
 

@@ -14,7 +14,7 @@ use lib.ListN.{length, getD, set, length-set, length-append}
 use lib.Seq.{sets, length-sets}
 use lib.Count.{trailingZeros, trailing-le}
 use Rattle.rules.specs.Find.{Set, rising, risingFrom}
-use Rattle.rules.specs.SetLaws.{rising-all, rising-split, rising-from-none, rising-from-here, rising-from-agree, rising-from-split}
+use Rattle.rules.specs.Laws.Set.{rising-all, rising-split, rising-from-none, rising-from-here, rising-from-agree, rising-from-split}
 use Rattle.terms.specs.Sets.{digit, holds, shifted}
 use Rattle.terms.proofs.Digits.{digit-of-zero, Lowest, lowest}
 use Rattle.terms.proofs.SetWords.{word-digit}

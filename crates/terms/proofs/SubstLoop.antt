@@ -10,7 +10,7 @@ use Rattle.rules.specs.Limits.{SYMBOLS, TERMS, WORDS}
 use Rattle.rules.specs.Out.{Out, ok, refuse, then}
 use Rattle.rules.specs.Tree.{Tree, Trees, var, app, none, more, sub, subs}
 use Rattle.rules.specs.Store.{Made, number, keep, make, makes}
-use Rattle.rules.specs.StoreLaws.{number-is, make-app, makes-none, makes-more, makes-stop}
+use Rattle.rules.specs.Laws.Store.{number-is, make-app, makes-none, makes-more, makes-stop}
 use Rattle.terms.specs.declared.store.Mark.{Mark}
 use Rattle.terms.specs.declared.store.Kept.{Kept}
 use Rattle.terms.specs.declared.store.Kept.the-variants.{Term, Full}

@@ -11,7 +11,7 @@ use lib.Dec.{eqb}
 use borrow.Author.Tests.{eqb-true, eqb-false}
 use Rattle.rules.specs.Limits.{SYMBOLS, TERMS, WORDS}
 use Rattle.rules.specs.Tree.{Tree, Trees, var, app, sub}
-use Rattle.rules.specs.TreeLaws.{sub-closed}
+use Rattle.rules.specs.Laws.Tree.{sub-closed}
 use Rattle.rules.specs.Store.{Made}
 use Rattle.terms.specs.declared.store.Mark.{Mark}
 use Rattle.terms.specs.Table.{FLAGS, start, trees, made, Good, Same, Grown}

@@ -14,7 +14,7 @@ use borrow.Author.Tests.{lt-ltb, le-ltb}
 use Rattle.rules.specs.Limits.{SYMBOLS, TERMS, WORDS}
 use Rattle.rules.specs.Tree.{Tree, Trees, var, app, none, more, countTrees, node}
 use Rattle.rules.specs.Store.{Made, number, words}
-use Rattle.rules.specs.StoreLaws.{Apart, Closed, Ins, length-snoc, getD-last, number-first, number-none, number-is, number-of, words-more}
+use Rattle.rules.specs.Laws.Store.{Apart, Closed, Ins, length-snoc, getD-last, number-first, number-none, number-is, number-of, words-more}
 use Rattle.terms.specs.declared.store.Mark.{Mark}
 use Rattle.terms.specs.Table.{run, start, nodeAt, argsOf, treeAt, trees, made, Shaped, isVar, isApp, Good}
 use Rattle.terms.proofs.Words.{run-length, run-at, run-more}

@@ -3,7 +3,7 @@ use Prim.Native.Nat.{ℕ, _+_, _-_, _≤_, _<_}
 use lib.ListN.{length, drop, getD}
 use native.Mathlib.Omega.{arith}
 use Rattle.rules.specs.Text.{same}
-use Rattle.rules.specs.TextLaws.{same-lengths, same-on, same-off, same-over}
+use Rattle.rules.specs.Laws.Text.{same-lengths, same-on, same-off, same-over}
 use borrow.Author.Needs.{needs}
 use Rattle.kernel.proofs.names.same_bytes.Statement.{statement}
 use Rattle.kernel.proofs.names.same_bytes.Tie as tie

@@ -4,7 +4,7 @@ use Prim.Native.Nat.{_-_, _≤_}
 use lib.ListN.{length, drop}
 use native.Mathlib.Omega.{arith}
 use Rattle.rules.specs.Lex.{tokens, inComment, between}
-use Rattle.rules.specs.LexLaws.{place-in-comment, place-comment-over, at-end}
+use Rattle.rules.specs.Laws.Lex.{place-in-comment, place-comment-over, at-end}
 use borrow.Author.Needs.{needs}
 use Rattle.sexp.proofs.lex.line_end.Statement.{statement}
 use Rattle.sexp.proofs.lex.line_end.Tie as tie

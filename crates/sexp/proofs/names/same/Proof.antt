@@ -4,7 +4,7 @@ use Prim.Native.Nat.{_-_, _≤_}
 use lib.ListN.{length, drop}
 use native.Mathlib.Omega.{arith}
 use Rattle.rules.specs.Text.{same}
-use Rattle.rules.specs.TextLaws.{same-lengths, same-on, same-off, same-over}
+use Rattle.rules.specs.Laws.Text.{same-lengths, same-on, same-off, same-over}
 use Rattle.sexp.proofs.names.same.Statement.{statement}
 use Rattle.sexp.proofs.names.same.Tie as tie
 
