@@ -115,8 +115,9 @@ module _ {text table name : List ℕ} {b : Bool} {count i : ℕ} (k : Seeking te
           some = k .some;
           low = omega (arith, h);
           same = λ ss r.
-            let l : i < length ss = omega (arith, h, r .many) in
-            k .same ss r ∙ first-later (called b name) ss i noSymbol l (sym (f _ (r .row i l)) ∙ e) }
+              let l : i < length ss = omega (arith, h, r .many) in
+              k .same ss r ∙ first-later (called b name) ss i noSymbol l (sym (f _ (r .row i l)) ∙ e);
+        }
 
   pub seeking-over : count ≤ i → (ss : List Symbol) → SymbolRows text table count ss → Missing ≡ foundOf (first (called b name) ss 0)
   seeking-over h ss r = ap foundOf (sym (k .same ss r ∙ first-over (called b name) ss i (omega (arith, h, r .many))))

@@ -119,7 +119,8 @@ proper-found text (atom p bs) r s e k a b = go (marked bs) refl (sym b ∙ a)
           end = omega (arith, es, ee);
           high = w .high;
           part = rw es (w .part);
-          stands = record { inside = omega (arith, w .high, ee); spelt = rw n at (w .part) } }
+          stands = record { inside = omega (arith, w .high, ee); spelt = rw n at (w .part) };
+        }
 
 pub proper-missing : (x : Sexp) (r : Spelling) → r ≡ nameOf (proper x) → r ≡ Refused → proper x ≡ nothing
 proper-missing x r a b = go (proper x) (sym b ∙ a)
@@ -147,7 +148,7 @@ module _ (text : List ℕ) (ns : List Name) (x : Sexp) (s e : ℕ) (k : Proper t
   unfolding sortOf sortOfName
   sort-is =
       ap (sortOfName ns) (k .is) ∙ ap (λ l. first (λ (n : Name). same (n .bytes) l) ns 1) (sym (k .part))
-        ∙ first-next (λ (n : Name). same (n .bytes) (take (e - s) (drop s text))) ns 0
+      ∙ first-next (λ (n : Name). same (n .bytes) (take (e - s) (drop s text))) ns 0
 
   pub sort-found : (i : ℕ) → r ≡ At i → At (i + 1) ≡ foundOf (sortOf ns x)
   unfolding next

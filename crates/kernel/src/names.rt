@@ -35,7 +35,14 @@ fn same_bytes(s: &[u8], t: &[u8]) -> bool
 }
 
 // The number of the first of `count` rows whose name has these bytes: rows of `width` cells with the name from `place` on.
-pub fn named(text: &[u8], table: &[u32], width: usize, place: usize, count: usize, name: &[u8]) -> Found
+pub fn named(
+    text: &[u8],
+    table: &[u32],
+    width: usize,
+    place: usize,
+    count: usize,
+    name: &[u8],
+) -> Found
     requires { ⌜ SomeNames (now text) (now table) width place count ⌝ }
     ensures { λ r. ⌜ ((ns : List Name) → NameRows (now (text .entry)) (now (table .entry)) width place count ns →
         r ≡ foundOf (first (λ n. same (n .bytes) (now (name .entry))) ns 0)) ⌝ }
@@ -79,7 +86,13 @@ fn is_symbol(text: &[u8], symbols: &[u32], row: usize, predicate: bool, name: &[
 }
 
 // The number of the first predicate, or of the first constructor, whose name has these bytes.
-pub fn symbol_named(text: &[u8], symbols: &[u32], count: usize, predicate: bool, name: &[u8]) -> Found
+pub fn symbol_named(
+    text: &[u8],
+    symbols: &[u32],
+    count: usize,
+    predicate: bool,
+    name: &[u8],
+) -> Found
     requires { ⌜ SomeSymbols (now text) (now symbols) count ⌝ }
     ensures { λ r. ⌜ ((ss : List Symbol) → SymbolRows (now (text .entry)) (now (symbols .entry)) count ss →
         r ≡ foundOf (first (called predicate (now (name .entry))) ss 0)) ⌝ }

@@ -9,9 +9,10 @@ ghost use Rattle.sexp.specs.Spelt.{Spelt};
 ghost use Rattle.sexp.specs.Items.{itemOf};
 ghost use Rattle.kernel.specs.Spelled.{SomeItem, nameOf, proper, sortOf};
 ghost use Rattle.kernel.specs.Named.{NameRows, SomeNames, foundOf};
+use crate::names::Found;
+use crate::names::named;
 use sexp::items::Item;
 use sexp::lex;
-use crate::names::{named, Found};
 
 pub enum Spelling {
     Name(usize, usize),

@@ -1,3 +1,4 @@
+-- From the definition to the lemmas: what each form takes is what its lemma assumes, and every state reached is good.
 pub mod Asked
 pub mod Well
 pub mod Read

@@ -182,7 +182,7 @@ pub not-calm : ¬ (Calmly (read proofG) SG)
 unfolding sub head
 not-calm c =
     not-derivable badFirst
-      (goals-derivable theory goalsG T SG takenG (read proofG) c 0 goalG goal-G refl refl (λ _. app 0 none) (λ v o. absurd (no-variable v o))) refl
+    (goals-derivable theory goalsG T SG takenG (read proofG) c 0 goalG goal-G refl refl (λ _. app 0 none) (λ v o. absurd (no-variable v o))) refl
 
 -- Why such a hypothesis is not claimed to be true -------------------------------------------------------------------------------------
 
@@ -217,9 +217,9 @@ hyp-holds : (vs : ℕ → ℕ) → Holds T vs (RuleOf T) (λ _. app 0 none) hypG
 unfolding Holds Mentions Occ In sub head argument Among
 hyp-holds vs δ vary ds =
     absurd
-      (not-adult (app 3 (moreTrees (δ 1) none))
-        (ders-in T (RuleOf T) (moreTrees (app 3 (moreTrees (δ 1) none)) none) (app 3 (moreTrees (δ 1) none)) ds (inl refl)) refl
-        (ap head (vary .same 1 (inr (inl (inl refl))) (λ i. i))))
+    (not-adult (app 3 (moreTrees (δ 1) none))
+    (ders-in T (RuleOf T) (moreTrees (app 3 (moreTrees (δ 1) none)) none) (app 3 (moreTrees (δ 1) none)) ds (inl refl)) refl
+    (ap head (vary .same 1 (inr (inl (inl refl))) (λ i. i))))
 
 first-value : Value (sig T) (app 0 none) Pass
 unfolding running T reached Value sig
@@ -231,7 +231,7 @@ hyp-valued v (inl (inl o)) = absurd o
 hyp-valued v (inl (inr o)) = absurd o
 hyp-valued v (inr (inl (inl e))) =
     subst (λ k. Value (sig T) (app 0 none) (sortsOf (after (read proofG) SG) k)) (sym e)
-      (subst (λ s. Value (sig T) (app 0 none) s) (sym sort-of-y) first-value)
+    (subst (λ s. Value (sig T) (app 0 none) s) (sym sort-of-y) first-value)
 hyp-valued v (inr (inl (inr o))) = absurd o
 hyp-valued v (inr (inr o)) = absurd o
 

@@ -1,3 +1,4 @@
+-- Written derivations are accepted exactly when they stay inside the limits; Accepted has the theorem.
 pub mod Gather
 pub mod Read
 pub mod Terms

@@ -1,3 +1,4 @@
+-- Laws of the definition: single steps for other proofs to cite, and the theorems that a wrong definition would not pass.
 pub mod Text
 pub mod Lex
 pub mod Sexp

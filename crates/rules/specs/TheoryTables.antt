@@ -120,7 +120,7 @@ theoryOf (refused n d k T) = T
 abbrev small : Theory
 small =
     theoryOf (whole declare (read (bytes "(sort N)(ctor z () N)(ctor s (N) N)(pred le (N N))(rule b () (le z ?x))(rule t ((le ?x (s ?y))) (le ?y ?x))(sort N)"))
-      noTheory)
+    noTheory)
 
 small-sorts : take 4 (sortTable small) ≡ 6 ∷ 7 ∷ 0 ∷ 0 ∷ []
 unfolding tabling judging

@@ -22,7 +22,6 @@ use Rattle.rules.specs.Tree.{Tree, Trees, var, app, none, more, variable
 use Rattle.rules.specs.Theory.{Symbol, RuleVar, Rule, Theory, noTheory, noName, noSymbol, sortNamed, ruleNamed, isPredicate, predicateNamed, constructorNamed, inputs, output, ruleWords}
 use Rattle.rules.specs.Laws.Theory.{All, empty, both, IsSort, sortIn, Sorted, Sorteds, Judgment, Judgments, SymbolFormed, RuleFormed, WellFormed, all-snoc, all-map, all-at}
 use Rattle.rules.specs.Declare.{isNew, noRuleVar, properName, sort, sorts, Reading, word, metOrNew, variable, head, pattern, compound, patterns, predicated, judgment, judgments, schema, addSort, addSymbol, addCtor, addPred, addRule, declareAs, declare}
-
 use Rattle.rules.specs.Laws.Pattern.{Reads, schema-reads, ReadRule}
 use Rattle.rules.specs.Tags.{Declaration, aSort, aCtor, aPred, aRule, declaration}
 use Rattle.rules.specs.Judge.{Judged, done, refused, through, unread, whole}
@@ -41,11 +40,14 @@ is-sort-grows g s h = record { positive = h .positive; declared = omega (arith, 
 
 mutual
   unfolding Sorted
+
   sorted-grows : (t : Tree) (T U : Theory) → Grows T U → (vs : List RuleVar) (s : ℕ) → Sorted T vs t s → Sorted U vs t s
   sorted-grows (var i) T U g vs s h = h
-  sorted-grows (app c ts) T U g vs s h =
-      (omega (arith, h .0, g .symbols), g .outs c (h .0) ∙ h .1,
-        subst (λ ss. Sorteds U vs ts ss) (sym (g .ins c (h .0))) (sorteds-grows ts T U g vs (inputs T c) (h .2)))
+  sorted-grows (app c ts) T U g vs s h = (
+    omega (arith, h .0, g .symbols),
+    g .outs c (h .0) ∙ h .1,
+    subst (λ ss. Sorteds U vs ts ss) (sym (g .ins c (h .0))) (sorteds-grows ts T U g vs (inputs T c) (h .2)),
+  )
 
   sorteds-grows : (ts : Trees) (T U : Theory) → Grows T U → (vs : List RuleVar) (ss : List ℕ) → Sorteds T vs ts ss → Sorteds U vs ts ss
   sorteds-grows none T U g vs [] h = tt
@@ -56,9 +58,11 @@ mutual
 judgment-grows : (t : Tree) (T U : Theory) → Grows T U → (vs : List RuleVar) → Judgment T vs t → Judgment U vs t
 unfolding Judgment
 judgment-grows (var i) T U g vs h = absurd h
-judgment-grows (app c ts) T U g vs h =
-    (omega (arith, h .0, g .symbols), g .outs c (h .0) ∙ h .1,
-      subst (λ ss. Sorteds U vs ts ss) (sym (g .ins c (h .0))) (sorteds-grows ts T U g vs (inputs T c) (h .2)))
+judgment-grows (app c ts) T U g vs h = (
+  omega (arith, h .0, g .symbols),
+  g .outs c (h .0) ∙ h .1,
+  subst (λ ss. Sorteds U vs ts ss) (sym (g .ins c (h .0))) (sorteds-grows ts T U g vs (inputs T c) (h .2)),
+)
 
 judgments-grows : (ts : Trees) (T U : Theory) → Grows T U → (vs : List RuleVar) → Judgments T vs ts → Judgments U vs ts
 unfolding Judgments
@@ -75,7 +79,8 @@ rule-grows {T} {U} g r h =
       sorts = all-map (λ v. is-sort-grows g (v .sort)) (h .sorts);
       premises = judgments-grows (r .premises) T U g (r .vars) (h .premises);
       conclusion = judgment-grows (r .conclusion) T U g (r .vars) (h .conclusion);
-      occur = h .occur }
+      occur = h .occur;
+    }
 
 -- Sorts and symbols ------------------------------------------------------------------------------------------------------------
 
@@ -84,15 +89,15 @@ module _ {S B : Type 0} {P : B → S → Type 0} where
   unfolding properName then
   by-proper x s f h =
       by-assoc (name 11 x s) _ f (by-name 11 x s _ λ n e.
-        by-assoc (ask 11 (not (marked (n .bytes))) s) _ f (by-ask 11 (not (marked (n .bytes))) s _ λ b. h n))
+      by-assoc (ask 11 (not (marked (n .bytes))) s) _ f (by-ask 11 (not (marked (n .bytes))) s _ λ b. h n))
 
   by-sort : (T : Theory) (x : Sexp) (s : S) (f : ℕ → S → Out S B) → ((k : ℕ) → IsSort T k → Ok P (f k s)) → Ok P (then (sort T x s) f)
   unfolding sort sortNamed
   by-sort T x s f h =
       by-assoc (properName x s) _ f (by-proper x s _ λ n.
-        by-found 11 (sortNamed T (n .bytes)) s _ λ k e.
-        let r = first-some (λ (m : Name). same (m .bytes) (n .bytes)) (T .sorts) 1 k noName e in
-        h k (record { positive = omega (arith, r .is); declared = omega (arith, r .is, r .inside) }))
+      by-found 11 (sortNamed T (n .bytes)) s _ λ k e.
+      let r = first-some (λ (m : Name). same (m .bytes) (n .bytes)) (T .sorts) 1 k noName e in
+      h k (record { positive = omega (arith, r .is); declared = omega (arith, r .is, r .inside) }))
 
 -- the argument sorts are declared ones, and not too many
 by-sorts : {S B : Type 0} {P : B → S → Type 0} (T : Theory) (xs : Sexps) (k : ℕ) (s : S) (f : List ℕ → S → Out S B) → k ≤ ARGUMENTS →
@@ -101,9 +106,9 @@ unfolding sorts then
 by-sorts T nil k s f l h = h [] empty (omega (arith, l))
 by-sorts T (cons x xs) k s f l h =
     by-assoc (sort T x s) _ f (by-sort T x s _ λ i a.
-      by-assoc (room 3 (ltb k ARGUMENTS) s) _ f (by-room 3 (ltb k ARGUMENTS) s _ λ b.
-        by-assoc (sorts T xs (suc k) s) _ f (by-sorts T xs (suc k) s _ (ltb-true k ARGUMENTS b) λ ss are c.
-          h (i ∷ ss) (both a are) (omega (arith, c)))))
+    by-assoc (room 3 (ltb k ARGUMENTS) s) _ f (by-room 3 (ltb k ARGUMENTS) s _ λ b.
+    by-assoc (sorts T xs (suc k) s) _ f (by-sorts T xs (suc k) s _ (ltb-true k ARGUMENTS b) λ ss are c.
+    h (i ∷ ss) (both a are) (omega (arith, c)))))
 
 -- one sort more
 grows-sort : (T : Theory) (n : Name) → Grows T (record { sorts = T .sorts ++ (n ∷ []); symbols = T .symbols; rules = T .rules })
@@ -123,7 +128,8 @@ add-sort-keeps T xs w =
       row4 = w .row4;
       row6 = w .row6;
       symbols = all-map (symbol-grows (grows-sort T n)) (w .symbols);
-      rules = all-map (rule-grows (grows-sort T n)) (w .rules) })
+      rules = all-map (rule-grows (grows-sort T n)) (w .rules);
+    })
 
 -- one symbol more
 grows-symbol : (T : Theory) (s : Symbol) → Grows T (record { sorts = T .sorts; symbols = T .symbols ++ (s ∷ []); rules = T .rules })
@@ -133,7 +139,8 @@ grows-symbol T s =
       sorts = omega arith;
       symbols = omega (arith, length-append (T .symbols) (s ∷ []));
       ins = λ c l. ap (λ (d : Symbol). d .inputs) (getD-front (T .symbols) (s ∷ []) c noSymbol l);
-      outs = λ c l. ap (λ (d : Symbol). d .output) (getD-front (T .symbols) (s ∷ []) c noSymbol l) }
+      outs = λ c l. ap (λ (d : Symbol). d .output) (getD-front (T .symbols) (s ∷ []) c noSymbol l);
+    }
 
 symbol-added : (T : Theory) (s : Symbol) → WellFormed T → SymbolFormed T s → length (T .symbols) < SYMBOLS →
     WellFormed (record { sorts = T .sorts; symbols = T .symbols ++ (s ∷ []); rules = T .rules })
@@ -144,7 +151,8 @@ symbol-added T s w k h =
       row4 = w .row4;
       row6 = w .row6;
       symbols = all-snoc (all-map (symbol-grows (grows-symbol T s)) (w .symbols)) (symbol-grows (grows-symbol T s) s k);
-      rules = all-map (rule-grows (grows-symbol T s)) (w .rules) }
+      rules = all-map (rule-grows (grows-symbol T s)) (w .rules);
+    }
 
 add-symbol-keeps : (T : Theory) (s : Symbol) → WellFormed T → SymbolFormed T s → Ok (λ u U. WellFormed U) (addSymbol s T)
 unfolding addSymbol then
@@ -186,9 +194,9 @@ add-rule-keeps : (T : Theory) (xs : Sexps) → WellFormed T → Ok (λ u U. Well
 unfolding addRule then
 add-rule-keeps T xs w =
     by-beside (schema T xs) (record { vars = []; words = ruleWords (T .rules) }) T _
-      (schema-reads T (w .symbols) xs (record { vars = []; words = ruleWords (T .rules) })
-        (record { few = omega arith; roomy = w .row6; sorts = empty }))
-      λ q U k.
+    (schema-reads T (w .symbols) xs (record { vars = []; words = ruleWords (T .rules) })
+    (record { few = omega arith; roomy = w .row6; sorts = empty }))
+    λ q U k.
     by-proper (item xs 1) T _ λ n.
     by-ask 11 (isNew (ruleNamed T (n .bytes))) T _ λ f.
     by-room 4 (ltb (length (T .rules)) RULES) T _ λ h.
@@ -205,7 +213,9 @@ add-rule-keeps T xs w =
         sorts = k .reads .sorts;
         premises = k .premises;
         conclusion = k .conclusion;
-        occur = λ i l. k .occur i (omega arith) l })) })
+        occur = λ i l. k .occur i (omega arith) l;
+      }));
+    })
 
 -- Declarations -----------------------------------------------------------------------------------------------------------------
 

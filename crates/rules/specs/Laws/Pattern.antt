@@ -42,6 +42,7 @@ extends-snoc vs v =
 
 mutual
   unfolding Sorted
+
   sorted-extends : (t : Tree) (T : Theory) (vs ws : List RuleVar) (s : ℕ) → Extends vs ws → Sorted T vs t s → Sorted T ws t s
   sorted-extends (var i) T vs ws s e h = (omega (arith, e .longer, h .0), e .alike i (h .0) ∙ h .1)
   sorted-extends (app c ts) T vs ws s e h = (h .0, h .1, sorteds-extends ts T vs ws (inputs T c) e (h .2))
@@ -73,9 +74,11 @@ went-then {U = U} a b e f g =
       reads = b .reads;
       extends = extends-then (a .extends) (b .extends);
       words = omega (arith, a .words, b .words, e);
-      occur = λ i l k. elim (decLt i (length (U .vars)))
-        [ yes p ↦ f i (a .occur i l p)
-        | no q ↦ g i (b .occur i (omega (arith, q)) k) ] }
+      occur = λ i l k. elim (decLt i (length (U .vars))) [
+        | yes p ↦ f i (a .occur i l p)
+        | no q ↦ g i (b .occur i (omega (arith, q)) k)
+      ];
+    }
 
 -- no variable
 abbrev nobody : ℕ → Bool
@@ -93,7 +96,8 @@ word-reads T R g =
       reads = record { few = g .few; roomy = ltb-true (R .words) PATTERNS h; sorts = g .sorts };
       extends = extends-refl (R .vars);
       words = omega arith;
-      occur = λ i a b. absurd (omega (arith, a, b)) })
+      occur = λ i a b. absurd (omega (arith, a, b));
+    })
 
 -- a variable's number i; where it is new, it is the only new one
 pub record Met (T : Theory) (R U : Reading) (i s : ℕ) : Type 0 where
@@ -121,7 +125,8 @@ met-reads T n s nothing R f g k =
       words = refl;
       there = omega (arith, long);
       sorted = ap (λ (w : RuleVar). w .sort) (getD-append-seam (R .vars) v [] noRuleVar);
-      only = λ j a b. omega (arith, a, b, long) })
+      only = λ j a b. omega (arith, a, b, long);
+    })
 
 -- a pattern of sort s was read
 pub record ReadAs (T : Theory) (R U : Reading) (t : Tree) (s : ℕ) : Type 0 where
@@ -133,16 +138,17 @@ unfolding variable then Sorted variables size
 variable-reads T n s R g k =
     by-ask 11 (leb 2 (length (n .bytes))) R _ λ h.
     by-then (metOrNew n s (first (λ v. same (v .name .bytes) (n .bytes)) (R .vars) 0) R) _
-      (met-reads T n s (first (λ v. same (v .name .bytes) (n .bytes)) (R .vars) 0) R
-        (λ i e. let r = first-some (λ (v : RuleVar). same (v .name .bytes) (n .bytes)) (R .vars) 0 i noRuleVar e in omega (arith, r .is, r .inside)) g k)
-      λ i U e m.
+    (met-reads T n s (first (λ v. same (v .name .bytes) (n .bytes)) (R .vars) 0) R
+    (λ i e. let r = first-some (λ (v : RuleVar). same (v .name .bytes) (n .bytes)) (R .vars) 0 i noRuleVar e in omega (arith, r .is, r .inside)) g k)
+    λ i U e m.
     by-then (word U) _ (word-reads T U (m .reads))
-      λ u W e′ w.
+    λ u W e′ w.
     fine (record {
       sorted = sorted-extends (var i) T (U .vars) (W .vars) s (w .extends) (m .there, m .sorted);
       went = went-then {m = 0} {here = λ j. eqb j i}
-        (record { reads = m .reads; extends = m .extends; words = omega (arith, m .words); occur = λ j a b. eq-eqb j i (m .only j a b) })
-        w (omega arith) (λ j h. h) (λ j h. never h) })
+          (record { reads = m .reads; extends = m .extends; words = omega (arith, m .words); occur = λ j a b. eq-eqb j i (m .only j a b) })
+          w (omega arith) (λ j h. h) (λ j h. never h);
+    })
 
 -- a symbol's number was found, and its word read
 pub record Headed (T : Theory) (R U : Reading) (c s k : ℕ) : Type 0 where
@@ -169,9 +175,11 @@ predicate-known : (T : Theory) (n : List ℕ) (c : ℕ) → predicateNamed T n �
 unfolding predicateNamed isPredicate output
 predicate-known T n c e =
     let r = first-some (λ (s : Symbol). isPredicate s && same (s .name .bytes) n) (T .symbols) 0 c noSymbol e in
-    let p : c ≡ r .place = omega (arith, r .is) in
-    (omega (arith, r .is, r .inside), ap (λ (i : ℕ). getD (T .symbols) i noSymbol .output) p ∙
-      eqb-true _ 0 (and-left (isPredicate (getD (T .symbols) (r .place) noSymbol)) _ (r .passes)))
+    let p : c ≡ r .place = omega (arith, r .is) in (
+      omega (arith, r .is, r .inside),
+      ap (λ (i : ℕ). getD (T .symbols) i noSymbol .output) p ∙
+          eqb-true _ 0 (and-left (isPredicate (getD (T .symbols) (r .place) noSymbol)) _ (r .passes)),
+    )
 
 head-reads : (T : Theory) (s k : ℕ) (n : List ℕ) (R : Reading) → Reads T R → Ok (λ c U. Headed T R U c s k) (head T s k n R)
 unfolding head then
@@ -215,15 +223,17 @@ no-inputs T vs (s ∷ ss) e = absurd (omega arith)
 
 mutual
   unfolding pattern then Sorted variables size count
+
   pattern-reads : (x : Sexp) (T : Theory) (s : ℕ) (R : Reading) → All (SymbolFormed T) (T .symbols) → Reads T R → IsSort T s →
       Ok (λ t U. ReadAs T R U t s) (pattern T x s R)
   pattern-reads (atom p bs) T s R f g k =
       either (marked bs) _ _ R
-        (variable-reads T (record { start = p; bytes = bs }) s R g k)
-        (by-then (head T s 0 bs R) _ (head-reads T s 0 bs R g) λ c U e d.
-          fine (record {
-            sorted = (d .known, d .output, no-inputs T (U .vars) (inputs T c) (d .many));
-            went = went-then (d .went) (went-none T U (d .went .reads)) (omega arith) (λ j b. b) (λ j b. b) }))
+      (variable-reads T (record { start = p; bytes = bs }) s R g k)
+      (by-then (head T s 0 bs R) _ (head-reads T s 0 bs R g) λ c U e d.
+      fine (record {
+        sorted = (d .known, d .output, no-inputs T (U .vars) (inputs T c) (d .many));
+        went = went-then (d .went) (went-none T U (d .went .reads)) (omega arith) (λ j b. b) (λ j b. b);
+      }))
   pattern-reads (list xs) T s R f g k = compound-reads xs T s R f g k
 
   compound-reads : (xs : Sexps) (T : Theory) (s : ℕ) (R : Reading) → All (SymbolFormed T) (T .symbols) → Reads T R → IsSort T s →
@@ -234,11 +244,12 @@ mutual
       by-ask 12 (leb 1 (count xs)) R _ λ h.
       by-then (head T s (count xs) (n .bytes) R) _ (head-reads T s (count xs) (n .bytes) R g) λ c U e₁ d.
       by-then (patterns T xs (inputs T c) U) _
-        (patterns-reads xs T (inputs T c) U f (d .went .reads) (inputs-sorts T c f (d .known)) (sym (d .many)))
-        λ ts W e₂ r.
+      (patterns-reads xs T (inputs T c) U f (d .went .reads) (inputs-sorts T c f (d .known)) (sym (d .many)))
+      λ ts W e₂ r.
       fine (record {
         sorted = (d .known, d .output, r .sorted);
-        went = went-then (d .went) (r .went) (omega arith) (λ j b. never b) (λ j b. b) })
+        went = went-then (d .went) (r .went) (omega arith) (λ j b. never b) (λ j b. b);
+      })
 
   patterns-reads : (xs : Sexps) (T : Theory) (ss : List ℕ) (R : Reading) → All (SymbolFormed T) (T .symbols) → Reads T R →
       All (IsSort T) ss → count xs ≡ length ss → Ok (λ ts U. ReadAll T R U ts ss) (patterns T xs ss R)
@@ -250,7 +261,8 @@ mutual
       by-then (patterns T xs ss U) _ (patterns-reads xs T ss U f (r .went .reads) is (omega arith)) λ ts W e₂ q.
       fine (record {
         sorted = (sorted-extends t T (U .vars) (W .vars) s (q .went .extends) (r .sorted), q .sorted);
-        went = went-then (r .went) (q .went) refl (λ j b. elim-left (variables t j) _ b) (λ j b. elim-right (variables t j) _ b) })
+        went = went-then (r .went) (q .went) refl (λ j b. elim-left (variables t j) _ b) (λ j b. elim-right (variables t j) _ b);
+      })
 
 -- Judgments --------------------------------------------------------------------------------------------------------------------
 
@@ -284,8 +296,8 @@ module _ (T : Theory) (f : All (SymbolFormed T) (T .symbols)) where
       by-then (word R) _ (word-reads T R g) λ u U e₂ w.
       let k = predicate-known T (n .bytes) p e₁ in
       by-then (patterns T xs (inputs T p) U) _
-        (patterns-reads xs T (inputs T p) U f (w .reads) (inputs-sorts T p f (k .0)) (sym (eqb-true _ (count xs) h)))
-        λ ts W e₃ r.
+      (patterns-reads xs T (inputs T p) U f (w .reads) (inputs-sorts T p f (k .0)) (sym (eqb-true _ (count xs) h)))
+      λ ts W e₃ r.
       fine (record { judged = (k .0, k .1, r .sorted); went = went-then w (r .went) (omega arith) (λ j b. never b) (λ j b. b) })
 
   judgment-reads : (x : Sexp) (R : Reading) → Reads T R → Ok (λ t U. ReadJudgment T R U t) (judgment T x R)
@@ -300,7 +312,8 @@ module _ (T : Theory) (f : All (SymbolFormed T) (T .symbols)) where
       by-then (judgments T xs U) _ (judgments-reads xs U (r .went .reads)) λ ts W e₂ q.
       fine (record {
         judged = (judgment-extends t T (U .vars) (W .vars) (q .went .extends) (r .judged), q .judged);
-        went = went-then (r .went) (q .went) refl (λ j b. elim-left (variables t j) _ b) (λ j b. elim-right (variables t j) _ b) })
+        went = went-then (r .went) (q .went) refl (λ j b. elim-left (variables t j) _ b) (λ j b. elim-right (variables t j) _ b);
+      })
 
   -- premises and conclusion were read
   pub record ReadRule (R U : Reading) (ps : Trees) (c : Tree) : Type 0 where
@@ -321,6 +334,8 @@ module _ (T : Theory) (f : All (SymbolFormed T) (T .symbols)) where
         premises = judgments-extends ps T (U .vars) (W .vars) (q .went .extends) (r .judged);
         conclusion = q .judged;
         words = omega (arith, r .went .words, q .went .words);
-        occur = λ i a b. elim (decLt i (length (U .vars)))
-          [ yes l ↦ inl (r .went .occur i a l)
-          | no m ↦ inr (q .went .occur i (omega (arith, m)) b) ] })
+        occur = λ i a b. elim (decLt i (length (U .vars))) [
+          | yes l ↦ inl (r .went .occur i a l)
+          | no m ↦ inr (q .went .occur i (omega (arith, m)) b)
+        ];
+      })

@@ -48,9 +48,9 @@ module _ {A : Type 0} (f : A → List ℕ) where
     row-cell (x ∷ xs) rest zero j i d l m e =
         let q : i ≡ j = omega (arith, e, mul-zero w) in
         ap (λ l. getD l i 0) (append-assoc (f x) (rows f xs) rest) ∙ ap (λ n. getD (f x ++ (rows f xs ++ rest)) n 0) q
-          ∙ getD-front (f x) (rows f xs ++ rest) j 0 (omega (arith, h x, m))
+        ∙ getD-front (f x) (rows f xs ++ rest) j 0 (omega (arith, h x, m))
     row-cell (x ∷ xs) rest (suc k) j i d l m e =
         let q : i ≡ length (f x) + (w * k + j) = omega (arith, e, mul-suc w k, h x) in
         ap (λ l. getD l i 0) (append-assoc (f x) (rows f xs) rest) ∙ ap (λ n. getD (f x ++ (rows f xs ++ rest)) n 0) q
-          ∙ getD-append-add (f x) (rows f xs ++ rest) (w * k + j) 0
-          ∙ row-cell xs rest k j (w * k + j) d (omega arith) m refl
+        ∙ getD-append-add (f x) (rows f xs ++ rest) (w * k + j) 0
+        ∙ row-cell xs rest k j (w * k + j) d (omega arith) m refl
