@@ -13,7 +13,7 @@
 -- answers `rules` fixes; TheoremsHold shows a goal that is taken, and what the claim says of it.
 --
 -- The other theorems stand where their words do:
---     derivation-accepted   (Accepted) a written derivation is accepted, unless 2, 5 or 60 refuses it
+--     derivation-accepted   (Writing/Accepted) a written derivation is accepted, unless 2, 5 or 60 refuses it
 --     unify-complete, unify-general, unify-sorted   (Unification/Right) unification fails only where nothing unifies, and is most general
 --     examples              (Examples of `rules`) the worked examples hold
 use Prim.Native.Nat.{ℕ}
