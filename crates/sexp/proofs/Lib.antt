@@ -1,5 +1,6 @@
--- Laws on which the proofs of the functions stand: of bytes, of cells, and of each loop as steps from state to state.
+-- Laws on which the proofs of the functions stand: of bytes and blocks of them, of cells, and of each loop as steps from state to state.
 pub mod ByteLaws
+pub mod Blocks
 pub mod Skips
 pub mod CellLaws
 pub mod OpenLists

@@ -1,12 +1,13 @@
 // The questions put to a text before it is read, and what stands at a place of it. How wide the white space at a place is, and which
 // bytes are allowed, is said here alone.
 ghost use mathlib.Core.Path.{_≡_};
+ghost use mathlib.Core.Bool.{true};
 ghost use Prim.Native.Nat.{_+_, _≤_, _<_};
 ghost use lib.Dec.{leb};
 ghost use lib.ListN.{length, getD, drop};
 ghost use Rattle.rules.specs.Text.{plain, short};
 ghost use Rattle.rules.specs.Lex.{white, kind, letters};
-ghost use Rattle.sexp.specs.Lexed.{wide, isLetter, LineEnd, Skipped};
+ghost use Rattle.sexp.specs.Lexed.{wide, isLetter, InAtom, InComment, LineEnd, Skipped};
 
 // Question 1, of one table.
 pub fn fits(len: usize, limit: usize) -> bool
@@ -72,7 +73,48 @@ fn is_letter(text: &[u8], at: usize) -> bool
     b != b';'
 }
 
-// The place behind the atom that begins, or goes on, at a place.
+// Whether 64 bytes from a place on are letters for sure: all lie above the brackets and white space, and none is `;`. The few letters
+// below get a no, and are then looked at one by one. There is no way out of the loop, so that the machine can take many bytes at a time.
+fn block_of_letters(text: &[u8], at: usize) -> bool
+    requires { ⌜ at + 64 ≤ length (now text) ⌝ }
+    ensures { λ r. ⌜ (r ≡ true → InAtom (now (text .entry)) at (at + 64)) ⌝ }
+{
+    let mut above = true;
+    let mut clean = true;
+    let mut i = 0;
+    while i < 64 {
+        let b = text[at + i];
+        if b <= b')' {
+            above = false;
+        }
+        if b == b';' {
+            clean = false;
+        }
+        i += 1;
+    }
+    if above {
+        return clean;
+    }
+    false
+}
+
+// Behind the blocks of letters that begin at a place.
+fn skip_letters(text: &[u8], from: usize) -> usize
+    requires { ⌜ from ≤ length (now text) ⌝ }
+    ensures { λ r. ⌜ InAtom (now (text .entry)) from r ⌝ }
+{
+    let mut at = from;
+    while text.len() - at >= 64 {
+        if block_of_letters(text, at) {
+            at += 64;
+        } else {
+            return at;
+        }
+    }
+    at
+}
+
+// The place behind the atom that begins, or goes on, at a place. Most atoms are short, so that blocks are tried at each 64th place only.
 pub fn atom_end(text: &[u8], start: usize) -> usize
     requires { ⌜ start ≤ length (now text) ⌝ }
     ensures { λ r. ⌜ r ≡ start + length (letters (drop start (now (text .entry)))) ⌝ }
@@ -84,11 +126,46 @@ pub fn atom_end(text: &[u8], start: usize) -> usize
         } else {
             return at;
         }
+        if at % 64 == 0 {
+            at = skip_letters(text, at);
+        }
     }
     at
 }
 
-// The place of the next byte 10, or the end of the text.
+// Whether none of 64 bytes from a place on is 10; without a way out here too.
+fn block_of_line(text: &[u8], at: usize) -> bool
+    requires { ⌜ at + 64 ≤ length (now text) ⌝ }
+    ensures { λ r. ⌜ (r ≡ true → InComment (now (text .entry)) at (at + 64)) ⌝ }
+{
+    let mut clean = true;
+    let mut i = 0;
+    while i < 64 {
+        if text[at + i] == 10 {
+            clean = false;
+        }
+        i += 1;
+    }
+    clean
+}
+
+// Behind the blocks without a byte 10 that begin at a place.
+fn skip_line(text: &[u8], from: usize) -> usize
+    requires { ⌜ from ≤ length (now text) ⌝ }
+    ensures { λ r. ⌜ InComment (now (text .entry)) from r ⌝ }
+{
+    let mut at = from;
+    while text.len() - at >= 64 {
+        if block_of_line(text, at) {
+            at += 64;
+        } else {
+            return at;
+        }
+    }
+    at
+}
+
+// The place of the next byte 10, or the end of the text. Blocks begin at each 64th place, where the machine reads them fastest.
 fn line_end(text: &[u8], from: usize) -> usize
     requires { ⌜ from ≤ length (now text) ⌝ }
     ensures { λ r. ⌜ LineEnd (now (text .entry)) from r ⌝ }
@@ -99,6 +176,9 @@ fn line_end(text: &[u8], from: usize) -> usize
             return at;
         }
         at += 1;
+        if at % 64 == 0 {
+            at = skip_line(text, at);
+        }
     }
     at
 }

@@ -1,40 +1,49 @@
--- `sexp::lex::line_end` meets its contract. The loop: what the definition reads in the comment from here is what it reads from its start. Assumes nothing.
-use mathlib.Core.Path.{_≡_, refl, sym, _∙_}
-use Prim.Native.Nat.{_-_, _≤_}
-use lib.ListN.{length, drop}
+-- `sexp::lex::line_end` meets its contract. The loop: the comment that was open at its start is still open here. Assumes nothing.
+use mathlib.Core.Path.{refl}
+use Prim.Native.Nat.{_-_}
+use lib.ListN.{length}
 use native.Mathlib.Omega.{arith}
-use Rattle.rules.specs.Lex.{tokens, inComment, between}
-use Rattle.rules.specs.Laws.Lex.{place-in-comment, place-comment-over, at-end}
+use Rattle.sexp.specs.Lexed.{InComment}
+use Rattle.sexp.proofs.Blocks.{comment-begin, comment-byte, comment-block, comment-stop, comment-over}
 use borrow.Author.Needs.{needs}
 use Rattle.sexp.proofs.lex.line_end.Statement.{statement}
 use Rattle.sexp.proofs.lex.line_end.Tie as tie
 
 abbrev Inv-loop : tie.InvT-loop
-Inv-loop text from at₀ at = (from ≤ at) × (at ≤ length text) × (tokens inComment from (drop from text) ≡ tokens inComment at (drop at text))
+Inv-loop text from at₀ at = InComment text from at
 
 abbrev μ-loop : tie.MeasureT-loop
 μ-loop text from at₀ at = length text - at
 
 loop-holds : tie.Need-loop-holds Inv-loop μ-loop
-loop-holds c = (omega arith, omega (arith, (c .pre)), refl)
+loop-holds c = comment-begin _ _ _ (c .before .pre) refl
 
 shared-slice-read-if1 : tie.Need-shared-slice-read-if1 Inv-loop μ-loop
 shared-slice-read-if1 c = search needs
 
 returns : tie.Need-returns Inv-loop μ-loop
-returns c = record { low = omega arith; high = omega arith; same = (c .before .before .before .loop) .inv .2 ∙ place-comment-over _ _ ((c .before .before .loop-test) .taken) ((c .if1) .taken) }
+returns c = comment-stop ((c .before .before .before .loop) .inv) ((c .before .before .loop-test) .taken) ((c .if1) .taken)
 
 add-at : tie.Need-add-at Inv-loop μ-loop
 add-at c = search needs
 
+skip-line-requires : tie.Need-skip-line-requires Inv-loop μ-loop
+skip-line-requires c κs = omega (arith, (c .before .before .before .loop-test) .taken)
+
 loop-less : tie.Need-loop-less Inv-loop μ-loop
-loop-less c = search needs
+loop-less c = omega (arith, (c .before .before .before .before .loop-test) .taken, (c .skip-line) .ensures .low)
 
 loop-again : tie.Need-loop-again Inv-loop μ-loop
-loop-again c = (omega arith, omega arith, (c .before .before .before .loop) .inv .2 ∙ place-in-comment _ _ ((c .before .before .loop-test) .taken) ((c .if1) .left))
+loop-again c = comment-block (comment-byte ((c .before .before .before .before .before .loop) .inv) ((c .before .before .before .before .loop-test) .taken) ((c .before .before .if1) .left) refl) ((c .skip-line) .ensures)
+
+loop-less-2 : tie.Need-loop-less-2 Inv-loop μ-loop
+loop-less-2 c = omega (arith, (c .before .before .before .loop-test) .taken)
+
+loop-again-2 : tie.Need-loop-again-2 Inv-loop μ-loop
+loop-again-2 c = comment-byte ((c .before .before .before .before .loop) .inv) ((c .before .before .before .loop-test) .taken) ((c .before .if1) .left) refl
 
 returns-2 : tie.Need-returns-2 Inv-loop μ-loop
-returns-2 c = record { low = omega arith; high = omega arith; same = (c .before .loop) .inv .2 ∙ at-end inComment _ _ ((c .loop-test) .left) ∙ sym (at-end between _ _ ((c .loop-test) .left)) }
+returns-2 c = comment-over ((c .before .loop) .inv) ((c .loop-test) .left)
 
 pub line-end-spec : {M : Type 1} → statement M
 line-end-spec =
@@ -46,6 +55,9 @@ line-end-spec =
     shared-slice-read-if1
     returns
     add-at
+    skip-line-requires
     loop-less
     loop-again
+    loop-less-2
+    loop-again-2
     returns-2)
