@@ -15,13 +15,14 @@ use Rattle.rules.specs.Find.{first}
 use Rattle.rules.specs.Laws.Find.{next, first-next, First, first-some}
 use Rattle.rules.specs.Theory.{noName}
 use Rattle.rules.specs.Lex.{Kind, blank, left, right, semicolon, letter, kind, letters, lexing}
-use Rattle.rules.specs.Sexp.{Sexp, Sexps, atom, list, Name, marked}
+use Rattle.rules.specs.Sexp.{Sexp, Sexps, atom, list, Name, marked, item}
 use Rattle.sexp.specs.Spelt.{AtomAt, Spelt}
-use Rattle.sexp.specs.Items.{itemOf}
-use Rattle.sexp.specs.WalkLaws.{AtomIs, atom-is, Span, span}
+use Rattle.sexp.specs.Items.{itemOf, Holds}
+use Rattle.sexp.specs.WalkLaws.{AtomIs, atom-is, Span, span, spells-item}
 use Rattle.sexp.specs.declared.items.Item.{Item}
 use Rattle.sexp.specs.declared.items.Item.the-variants.{Atom, List as Part}
-use Rattle.kernel.specs.Spelled.{SomeItem, proper, nameOf, sortOf, sortOfName}
+use Rattle.kernel.specs.Spelled.{SomeItem, nameOf}
+use Rattle.rules.specs.Laws.Declaring.{proper, sortOf, sortOfName}
 use Rattle.kernel.specs.Named.{NameIn, foundOf}
 use Rattle.kernel.specs.declared.names.Found.{Found}
 use Rattle.kernel.specs.declared.names.Found.the-variants.{At, Missing}
@@ -163,3 +164,13 @@ pub found-inside : (name : List ℕ) (ns : List Name) (r : Found) (i : ℕ) → 
 found-inside name ns r i a b =
     let f = first-some (λ (n : Name). same (n .bytes) name) ns 0 i noName (found-at (first (λ (n : Name). same (n .bytes) name) ns 0) r i a b) in
     omega (arith, f .is, f .inside)
+
+-- the answers of `proper_at`
+module _ {text words : List ℕ} (k : ℕ) {r : Spelling} where
+  pub proper-here : {s e : ℕ} (xs : Sexps) → ((ys : Sexps) → Holds text words ys → r ≡ nameOf (proper (item ys k))) → r ≡ NameAt s e → Holds text words xs →
+      Proper text (item xs k) s e
+  proper-here {s} {e} xs a b h = proper-found text (item xs k) r s e (spells-item h k) (a xs h) b
+
+  pub proper-nowhere : (xs : Sexps) → ((ys : Sexps) → Holds text words ys → r ≡ nameOf (proper (item ys k))) → r ≡ Refused → Holds text words xs →
+      proper (item xs k) ≡ nothing
+  proper-nowhere xs a b h = proper-missing (item xs k) r (a xs h) b

@@ -1,2 +1,4 @@
 pub mod Named
 pub mod Spelled
+pub mod Held
+pub mod Reading

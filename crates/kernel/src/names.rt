@@ -6,32 +6,15 @@ ghost use mathlib.Core.List.{List};
 ghost use mathlib.Core.Bool.{Bool};
 ghost use lib.ListN.{length};
 ghost use Rattle.rules.specs.Text.{same};
-ghost use Rattle.kernel.specs.Named.{kindOf};
 ghost use Rattle.rules.specs.Find.{first};
 ghost use Rattle.rules.specs.Sexp.{Name};
 ghost use Rattle.rules.specs.Theory.{Symbol};
-ghost use Rattle.kernel.specs.Named.{NameRows, SomeNames, SymbolAt, SomeSymbol, SymbolRows, SomeSymbols, foundOf, called};
+ghost use Rattle.kernel.specs.Named.{NameRows, SomeNames, SymbolAt, SomeSymbol, SymbolRows, SomeSymbols, foundOf, kindOf, called};
+use sexp::names::same;
 
 pub enum Found {
     At(usize),
     Missing,
-}
-
-// Whether two runs of bytes are the same.
-fn same_bytes(s: &[u8], t: &[u8]) -> bool
-    ensures { λ r. ⌜ r ≡ same (now (s .entry)) (now (t .entry)) ⌝ }
-{
-    if s.len() != t.len() {
-        return false;
-    }
-    let mut i: usize = 0;
-    while i < s.len() {
-        if s[i] != t[i] {
-            return false;
-        }
-        i += 1;
-    }
-    true
 }
 
 // The number of the first of `count` rows whose name has these bytes: rows of `width` cells with the name from `place` on.
@@ -52,7 +35,7 @@ pub fn named(
         let at = width * i + place;
         let start = table[at] as usize;
         let end = table[at + 1] as usize;
-        if same_bytes(&text[start..end], name) {
+        if same(&text[start..end], name) {
             return Found::At(i);
         }
         i += 1;
@@ -80,7 +63,7 @@ fn is_symbol(text: &[u8], symbols: &[u32], row: usize, predicate: bool, name: &[
         let at = first + 2;
         let start = symbols[at] as usize;
         let end = symbols[at + 1] as usize;
-        return same_bytes(&text[start..end], name);
+        return same(&text[start..end], name);
     }
     false
 }

@@ -1,16 +1,22 @@
 // Sorts, constructors and predicates, from the items of their declarations to their rows.
 ghost use mathlib.Core.Path.{_≡_};
 ghost use Prim.Native.Nat.{ℕ, _+_, _<_};
-ghost use mathlib.Core.List.{List};
+ghost use mathlib.Core.List.{List, [], _∷_};
 ghost use lib.ListN.{length, drop};
+ghost use lib.Seq.{sets};
 ghost use Rattle.rules.specs.Lex.{letters};
-ghost use Rattle.rules.specs.Sexp.{Sexp, Name, marked};
+ghost use Rattle.rules.specs.Sexp.{Sexp, Sexps, Name, marked, item};
+ghost use Rattle.rules.specs.Theory.{Theory};
+ghost use Rattle.rules.specs.Declare.{addSort};
 ghost use Rattle.sexp.specs.Spelt.{Spelt};
-ghost use Rattle.sexp.specs.Items.{itemOf};
-ghost use Rattle.kernel.specs.Spelled.{SomeItem, nameOf, proper, sortOf};
+ghost use Rattle.sexp.specs.Items.{itemOf, Holds};
+ghost use Rattle.rules.specs.Laws.Declaring.{proper, sortOf};
+ghost use Rattle.kernel.specs.Spelled.{SomeItem, Reaching, nameOf};
 ghost use Rattle.kernel.specs.Named.{NameRows, SomeNames, foundOf};
+ghost use Rattle.kernel.specs.Held.{NameFits, Form, SortsHeld, SomeSorts, SortAdded};
 use crate::names::Found;
 use crate::names::named;
+use sexp::items;
 use sexp::items::Item;
 use sexp::lex;
 
@@ -19,8 +25,14 @@ pub enum Spelling {
     Refused,
 }
 
+// A declaration is taken, with a number of things that are there now, or refused by number and detail.
+pub enum Added {
+    Ok(usize),
+    No(usize, usize),
+}
+
 // Whether the atom at a place starts with `?`.
-fn marked(text: &[u8], start: usize) -> bool
+pub fn marked(text: &[u8], start: usize) -> bool
     requires { ⌜ start < length (now text) ⌝ }
     ensures { λ r. ⌜ r ≡ marked (letters (drop start (now (text .entry)))) ⌝ }
 {
@@ -43,6 +55,15 @@ pub fn proper(text: &[u8], item: Item) -> Spelling
     }
 }
 
+// The same of the item with that number.
+pub fn proper_at(text: &[u8], form: &[u32], number: usize) -> Spelling
+    requires { ⌜ Reaching (now text) (now form) number ⌝ }
+    ensures { λ r. ⌜ ((xs : Sexps) → Holds (now (text .entry)) (now (form .entry)) xs → r ≡ nameOf (proper (item xs number))) ⌝ }
+{
+    let item = items::nth(form, number);
+    proper(text, item)
+}
+
 // The number of the sort that an item names, from 1 on.
 pub fn sort(text: &[u8], item: Item, sorts: &[u32], count: usize) -> Found
     requires { ⌜ SomeItem (now text) item ⌝ }
@@ -57,4 +78,33 @@ pub fn sort(text: &[u8], item: Item, sorts: &[u32], count: usize) -> Found
         return Found::Missing;
     };
     Found::At(i + 1)
+}
+
+// A name's two cells.
+pub fn put_name(table: &mut [u32], at: usize, start: usize, end: usize)
+    requires { ⌜ NameFits (length (now table)) at start end ⌝ }
+    ensures { λ _. ⌜ now (table .exit) ≡ sets (now (table .entry)) at (start ∷ end ∷ []) ⌝ }
+{
+    table[at] = start as u32;
+    table[at + 1] = end as u32;
+}
+
+// `(sort NAME)`, given the items of the form; `count` sorts are there.
+pub fn add_sort(text: &[u8], form: &[u32], sorts: &mut [u32], count: usize) -> Added
+    requires { ⌜ Form (now text) (now form) 2 ⌝ }
+    requires { ⌜ SomeSorts (now text) (now sorts) count ⌝ }
+    ensures { λ r. ⌜ ((T : Theory) (xs : Sexps) → SortsHeld (now (text .entry)) (now (sorts .entry)) count (T .sorts) → Holds (now (text .entry)) (now (form .entry)) xs →
+        SortAdded (now (text .entry)) (now (sorts .entry)) (now (sorts .exit)) T (addSort xs T) r) ⌝ }
+{
+    let Spelling::Name(start, end) = proper_at(text, form, 1) else {
+        return Added::No(11, 0);
+    };
+    let Found::Missing = named(text, sorts, 2, 0, count, &text[start..end]) else {
+        return Added::No(11, 0);
+    };
+    if count >= rules::SORTS {
+        return Added::No(60, 1);
+    }
+    put_name(sorts, 2 * count, start, end);
+    Added::Ok(count + 1)
 }

@@ -31,3 +31,5 @@ pub mod Fact
 pub mod StateRows
 pub mod Count
 pub mod Inside
+pub mod Declaring
+pub mod PatternSteps

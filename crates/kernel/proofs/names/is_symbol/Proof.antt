@@ -8,7 +8,7 @@ use Rattle.kernel.proofs.names.is_symbol.Tie as tie
 use Rattle.kernel.proofs.names.is_symbol.Reads as reads
 use Rattle.kernel.proofs.names.is_symbol.Lts as lts
 use Rattle.kernel.proofs.names.is_kind.Reads as is-kind-reads
-use Rattle.kernel.proofs.names.same_bytes.Reads as same-bytes-reads
+use Rattle.sexp.proofs.names.same.Reads as same-reads
 
 -- src/names.rt:71:17
 mul-first : tie.Need-mul-first
@@ -59,24 +59,24 @@ cast-end : tie.Need-cast-end
 cast-end c = search needs
 
 -- src/names.rt:76:27
-sub-same-bytes : tie.Need-sub-same-bytes
-sub-same-bytes c = search needs
+sub-same : tie.Need-sub-same
+sub-same c = search needs
 
 -- src/names.rt:76:27
-part-same-bytes-start : tie.Need-part-same-bytes-start
-part-same-bytes-start c = search needs
+part-same-start : tie.Need-part-same-start
+part-same-start c = search needs
 
 -- src/names.rt:76:27
-part-same-bytes-end : tie.Need-part-same-bytes-end
-part-same-bytes-end c = search needs
+part-same-end : tie.Need-part-same-end
+part-same-end c = search needs
 
 -- src/names.rt:76:9
-same-bytes-requires : tie.Need-same-bytes-requires
-same-bytes-requires c κs = search needs
+same-requires : tie.Need-same-requires
+same-requires c κs = search needs
 
 -- src/names.rt:76:9
 returns : tie.Need-returns
-returns c = λ s a. (c .same-bytes) .ensures ∙ symbol-is ((c .before .before .before .before .before .before .before .before .before .before .args) .name .now) ((c .before .before .before .before .before .before .before .before .before .before .args) .predicate) a (sym ((c .before .before .before .before .before .is-kind) .ensures) ∙ (c .before .before .before .before .if1) .taken)
+returns c = λ s a. (c .same) .ensures ∙ symbol-is ((c .before .before .before .before .before .before .before .before .before .before .args) .name .now) ((c .before .before .before .before .before .before .before .before .before .before .args) .predicate) a (sym ((c .before .before .before .before .before .is-kind) .ensures) ∙ (c .before .before .before .before .if1) .taken)
 
 -- src/names.rt:67:1
 returns-2 : tie.Need-returns-2
@@ -98,9 +98,9 @@ is-symbol-spec =
     mul-end
     shared-slice-read-end
     cast-end
-    sub-same-bytes
-    part-same-bytes-start
-    part-same-bytes-end
-    same-bytes-requires
+    sub-same
+    part-same-start
+    part-same-end
+    same-requires
     returns
     returns-2)

@@ -7,7 +7,7 @@ use Rattle.kernel.proofs.names.named.Statement.{statement}
 use Rattle.kernel.proofs.names.named.Tie as tie
 use Rattle.kernel.proofs.names.named.Reads as reads
 use Rattle.kernel.proofs.names.named.Lts as lts
-use Rattle.kernel.proofs.names.same_bytes.Reads as same-bytes-reads
+use Rattle.sexp.proofs.names.same.Reads as same-reads
 
 abbrev Inv-loop : tie.InvT-loop
 Inv-loop text table width place count name i₀ i = Looking text table name width place count i
@@ -56,24 +56,24 @@ cast-end : tie.Need-cast-end Inv-loop μ-loop
 cast-end c = omega (arith, (c .shared-slice-known5) .given ((c .before .before .before .before .before .before .before .args) .width * (c .before .before .before .loop) .i + (c .before .before .before .before .before .before .before .args) .place + 1))
 
 -- src/names.rt:47:23
-sub-same-bytes : tie.Need-sub-same-bytes Inv-loop μ-loop
-sub-same-bytes c = name-order (looking-row ((c .before .before .before .loop) .inv) ((c .before .before .loop-test) .taken))
+sub-same : tie.Need-sub-same Inv-loop μ-loop
+sub-same c = name-order (looking-row ((c .before .before .before .loop) .inv) ((c .before .before .loop-test) .taken))
 
 -- src/names.rt:47:23
-part-same-bytes-start : tie.Need-part-same-bytes-start Inv-loop μ-loop
-part-same-bytes-start c = name-order (looking-row ((c .before .before .before .loop) .inv) ((c .before .before .loop-test) .taken))
+part-same-start : tie.Need-part-same-start Inv-loop μ-loop
+part-same-start c = name-order (looking-row ((c .before .before .before .loop) .inv) ((c .before .before .loop-test) .taken))
 
 -- src/names.rt:47:23
-part-same-bytes-end : tie.Need-part-same-bytes-end Inv-loop μ-loop
-part-same-bytes-end c = name-within (looking-row ((c .before .before .before .loop) .inv) ((c .before .before .loop-test) .taken))
+part-same-end : tie.Need-part-same-end Inv-loop μ-loop
+part-same-end c = name-within (looking-row ((c .before .before .before .loop) .inv) ((c .before .before .loop-test) .taken))
 
 -- src/names.rt:47:12
-same-bytes-requires : tie.Need-same-bytes-requires Inv-loop μ-loop
-same-bytes-requires c κs = search needs
+same-requires : tie.Need-same-requires Inv-loop μ-loop
+same-requires c κs = search needs
 
 -- src/names.rt:48:13
 returns : tie.Need-returns Inv-loop μ-loop
-returns c = λ ns r. looking-here ((c .before .before .before .before .before .before .loop) .inv) ((c .before .before .before .before .before .loop-test) .taken) ns r (sym ((c .before .same-bytes) .ensures) ∙ (c .if1) .taken)
+returns c = λ ns r. looking-here ((c .before .before .before .before .before .before .loop) .inv) ((c .before .before .before .before .before .loop-test) .taken) ns r (sym ((c .before .same) .ensures) ∙ (c .if1) .taken)
 
 -- src/names.rt:50:9
 add-i : tie.Need-add-i Inv-loop μ-loop
@@ -85,7 +85,7 @@ loop-less c = search needs
 
 -- src/names.rt:43:5
 loop-again : tie.Need-loop-again Inv-loop μ-loop
-loop-again c = looking-on ((c .before .before .before .before .before .before .loop) .inv) ((c .before .before .before .before .before .loop-test) .taken) (sym ((c .before .same-bytes) .ensures) ∙ (c .if1) .left)
+loop-again c = looking-on ((c .before .before .before .before .before .before .loop) .inv) ((c .before .before .before .before .before .loop-test) .taken) (sym ((c .before .same) .ensures) ∙ (c .if1) .left)
 
 -- src/names.rt:37:1
 returns-2 : tie.Need-returns-2 Inv-loop μ-loop
@@ -107,10 +107,10 @@ named-spec =
     mul-end
     shared-slice-read-end
     cast-end
-    sub-same-bytes
-    part-same-bytes-start
-    part-same-bytes-end
-    same-bytes-requires
+    sub-same
+    part-same-start
+    part-same-end
+    same-requires
     returns
     add-i
     loop-less

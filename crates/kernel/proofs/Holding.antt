@@ -1,0 +1,252 @@
+-- Tables that hold sorts and symbols: their rows as the look-ups read them, and one more. Assumes nothing.
+use mathlib.Core.Path.{_≡_, refl, sym, ap, _∙_, subst}
+use Prim.Native.Nat.{ℕ, zero, suc, _+_, _-_, _*_, _^_, _<_, _≤_}
+use mathlib.Core.Bool.{Bool, true, false, not}
+use mathlib.Core.Option.{Option, some, none as nothing}
+use mathlib.Core.List.{List, [], _∷_, _++_}
+use native.Mathlib.Omega.{arith}
+use native.Mathlib.Numerals.{add-one}
+use lib.ListN.{length, getD, take, drop, set, replicate, length-append, length-set}
+use lib.Seq.{sets, sets-eq, length-sets, take-at, take-length, paste, paste-zero, paste-suc, length-paste}
+use Rattle.rules.specs.Limits.{LENGTH, SORTS, SYMBOLS, ARGUMENTS}
+use Rattle.rules.specs.Text.{same}
+use Rattle.rules.specs.Find.{first}
+use Rattle.rules.specs.Laws.Find.{next, first-next, getD-front}
+use Rattle.rules.specs.Out.{Out, ok, refuse}
+use Rattle.rules.specs.Sexp.{Sexp, Sexps, item, count, Name}
+use Rattle.rules.specs.Theory.{Theory, Symbol, noName, noSymbol, sortNamed}
+use Rattle.rules.specs.Laws.Theory.{All, all-at, all-snoc}
+use Rattle.rules.specs.TheoryTables.{nameCells, rows, symbolRow, inputRow, filled}
+use Rattle.rules.specs.Laws.Row.{rows-snoc, length-rows, row-cell, append-assoc, length-filled, filled-fits}
+use Rattle.rules.specs.Declare.{addSort, addSymbol}
+use Rattle.rules.specs.Laws.Declaring.{proper, withSort, add-sort-unnamed, add-sort-known, add-sort-full, add-sort-new, add-symbol-full, add-symbol-new}
+use Rattle.sexp.specs.Items.{Holds, itemOf, place}
+use Rattle.sexp.specs.WalkLaws.{spells-item}
+use Rattle.kernel.specs.Named.{NameIn, NameAt, NameRows, SymbolAt, SymbolRows, foundOf}
+use Rattle.kernel.specs.Spelled.{SomeItem, Reaching, nameOf}
+use Rattle.kernel.specs.Held.{Front, NameFits, Form, SortsHeld, SortStored, SortAdded, SymbolsHeld, SymbolIs, SymbolStored}
+use Rattle.kernel.proofs.Spellings.{Proper, found-at, found-missing}
+use Rattle.kernel.specs.declared.names.Found.{Found}
+use Rattle.kernel.specs.declared.names.Found.the-variants.{At, Missing}
+
+-- the first cells, and more written behind them
+pub front-write : (table xs vs : List ℕ) (i : ℕ) → Front table xs → length xs ≡ i → i + length vs ≤ length table → Front (sets table i vs) (xs ++ vs)
+front-write table xs vs i f e h =
+    record {
+      rest = drop (i + length vs) table;
+      is = sets-eq vs table i h ∙ ap (λ l. l ++ vs ++ drop (i + length vs) table) (ap (take i) (f .is) ∙ take-at xs (f .rest) i e);
+    }
+
+pub front-same : {table xs ys : List ℕ} → Front table xs → xs ≡ ys → Front table ys
+front-same f e = record { rest = f .rest; is = f .is ∙ ap (λ l. l ++ f .rest) e }
+
+-- a row more
+pub front-row : {A : Type 0} (f : A → List ℕ) (table : List ℕ) (xs : List A) (y : A) (vs : List ℕ) (i : ℕ) → Front table (rows f xs) → f y ≡ vs →
+    length (rows f xs) ≡ i → i + length vs ≤ length table → Front (sets table i vs) (rows f (xs ++ (y ∷ [])))
+front-row f table xs y vs i k e l h =
+    front-same (front-write table (rows f xs) vs i k l h) (ap (λ z. rows f xs ++ z) (sym e) ∙ sym (rows-snoc f xs y))
+
+name-cells-two : (n : Name) → length (nameCells n) ≡ 2
+unfolding nameCells
+name-cells-two n = refl
+
+-- Sorts --------------------------------------------------------------------------------------------------------------------------
+
+module _ {text table : List ℕ} {count : ℕ} {ns : List Name} (h : SortsHeld text table count ns) where
+  pub sorts-cells : length (rows nameCells ns) ≡ 2 * count
+  sorts-cells = length-rows nameCells 2 name-cells-two ns ∙ ap (λ k. 2 * k) (h .many)
+
+  sorts-room : 2 * count ≤ length table
+  sorts-room = omega (arith, sorts-cells, ap length (h .front .is), length-append (rows nameCells ns) (h .front .rest))
+
+  pub sorts-few : count ≤ SORTS
+  sorts-few = omega (arith, sorts-room, h .long)
+
+  pub sorts-rows : NameRows text table 2 0 count ns
+  unfolding nameCells
+  sorts-rows =
+      record {
+        many = h .many;
+        row = λ k l. record {
+          inside = omega (arith, sorts-room, l, h .many);
+          start = ap (λ t. getD t (2 * k + 0) 0) (h .front .is) ∙ row-cell nameCells 2 name-cells-two ns (h .front .rest) k 0 (2 * k + 0) noName l (omega arith) refl;
+          end = ap (λ t. getD t (2 * k + 0 + 1) 0) (h .front .is) ∙ row-cell nameCells 2 name-cells-two ns (h .front .rest) k 1 (2 * k + 0 + 1) noName l (omega arith) (omega arith);
+          name = all-at ns k noName (h .names) l;
+        };
+      }
+
+  pub sort-fits : (x : Sexp) (s e : ℕ) → Proper text x s e → length text ≤ LENGTH → count < SORTS → NameFits (length table) (2 * count) s e
+  sort-fits x s e p t l =
+      record { inside = omega (arith, h .long, l); first = omega (arith, p .end, p .high, t); last = omega (arith, p .high, t) }
+
+  pub sorts-more : (n : Name) (s e : ℕ) → NameIn text n → n .start ≡ s → s + length (n .bytes) ≡ e → count < SORTS →
+      SortsHeld text (sets table (2 * count) (s ∷ e ∷ [])) (count + 1) (ns ++ (n ∷ []))
+  unfolding nameCells
+  sorts-more n s e k a b l =
+      let q : nameCells n ≡ s ∷ e ∷ [] = λ i. a i ∷ (ap (λ z. z + length (n .bytes)) a ∙ b) i ∷ [] in
+      record {
+        many = omega (arith, length-append ns (n ∷ []), h .many);
+        long = length-sets table (2 * count) (s ∷ e ∷ []) ∙ h .long;
+        front = front-row nameCells table ns n (s ∷ e ∷ []) (2 * count) (h .front) q sorts-cells (omega (arith, h .long, l));
+        names = all-snoc (h .names) k;
+      }
+
+-- the answers of `add_sort`
+module _ {text table : List ℕ} {count : ℕ} (T : Theory) (xs : Sexps) (h : SortsHeld text table count (T .sorts)) (s e : ℕ)
+    (p : Proper text (item xs 1) s e) (r : Found)
+    (a : r ≡ foundOf (first (λ n. same (n .bytes) (take (e - s) (drop s text))) (T .sorts) 0)) where
+  named-so : sortNamed T (p .name .bytes) ≡ next (first (λ n. same (n .bytes) (take (e - s) (drop s text))) (T .sorts) 0)
+  unfolding sortNamed
+  named-so =
+      ap (λ l. first (λ (n : Name). same (n .bytes) l) (T .sorts) 1) (sym (p .part))
+      ∙ first-next (λ (n : Name). same (n .bytes) (take (e - s) (drop s text))) (T .sorts) 0
+
+  pub sort-twice : (i : ℕ) → r ≡ At i → addSort xs T ≡ refuse 11 0 T
+  unfolding next
+  sort-twice i b = add-sort-known T xs (p .name) (p .is) (suc i) (named-so ∙ ap next (found-at (first (λ (n : Name). same (n .bytes) (take (e - s) (drop s text))) (T .sorts) 0) r i a b))
+
+  module _ (b : r ≡ Missing) where
+    sort-fresh : sortNamed T (p .name .bytes) ≡ nothing
+    unfolding next
+    sort-fresh = named-so ∙ ap next (found-missing (first (λ (n : Name). same (n .bytes) (take (e - s) (drop s text))) (T .sorts) 0) r a b)
+
+    pub sort-full : SORTS ≤ count → addSort xs T ≡ refuse 60 1 T
+    sort-full l = add-sort-full T xs (p .name) (p .is) sort-fresh (omega (arith, l, h .many))
+
+    pub sort-stored : (l : count < SORTS) → SortStored text (sets table (2 * count) (s ∷ e ∷ [])) T (addSort xs T) (count + 1)
+    sort-stored l =
+        record {
+          name = p .name;
+          is = add-sort-new T xs (p .name) (p .is) sort-fresh (omega (arith, l, h .many));
+          held = sorts-more h (p .name) s e (p .stands) (p .start) (p .end) l;
+        }
+
+-- Copying a row ------------------------------------------------------------------------------------------------------------------
+
+pub record Copying (before now : List ℕ) (at : ℕ) (row : List ℕ) (i : ℕ) : Type 0 where
+  pub low : i ≤ length row
+  pub long : length now ≡ length before
+  pub cells : now ≡ paste before at row i
+
+pub copying-none : (table : List ℕ) (at : ℕ) (row : List ℕ) → at + length row ≤ length table → Copying table table at row 0
+copying-none table at row h = record { low = omega arith; long = refl; cells = paste-zero table at row }
+
+pub copying-more : {before now row : List ℕ} {at i : ℕ} → Copying before now at row i → at + length row ≤ length before → i < length row →
+    Copying before (set now (at + i) (getD row i 0)) at row (i + 1)
+copying-more {before} {now} {row} {at} {i} k h l =
+    record {
+      low = omega (arith, l);
+      long = length-set now (at + i) (getD row i 0) ∙ k .long;
+      cells = ap (λ t. set t (at + i) (getD row i 0)) (k .cells) ∙ paste-suc before at row i 0 (omega (arith, h, l)) l ∙ ap (paste before at row) (sym (add-one i));
+    }
+
+pub copied : {before now row : List ℕ} {at i : ℕ} → Copying before now at row i → length row ≤ i → now ≡ paste before at row (length row)
+copied {before} {now} {row} {at} {i} k h =
+    let e : i ≡ length row = omega (arith, h, k .low) in
+    k .cells ∙ ap (paste before at row) e
+
+-- Symbols ------------------------------------------------------------------------------------------------------------------------
+
+pub front-paste : (table xs row : List ℕ) (i : ℕ) → Front table xs → length xs ≡ i → i + length row ≤ length table → Front (paste table i row (length row)) (xs ++ row)
+front-paste table xs row i f e h =
+    record {
+      rest = drop (i + length row) table;
+      is = ap (λ l. l ++ take (length row) row ++ drop (i + length row) table) (ap (take i) (f .is) ∙ take-at xs (f .rest) i e)
+          ∙ ap (λ l. xs ++ l ++ drop (i + length row) table) (take-length row);
+    }
+
+symbol-row-four : (s : Symbol) → length (symbolRow s) ≡ 4
+unfolding symbolRow nameCells
+symbol-row-four s = refl
+
+input-row-long : (s : Symbol) → length (inputRow s) ≡ ARGUMENTS
+unfolding inputRow
+input-row-long s = length-filled ARGUMENTS (s .inputs)
+
+module _ {text symbols inputs : List ℕ} {count : ℕ} {ss : List Symbol} (h : SymbolsHeld text symbols inputs count ss) where
+  symbols-cells : length (rows symbolRow ss) ≡ 4 * count
+  symbols-cells = length-rows symbolRow 4 symbol-row-four ss ∙ ap (λ k. 4 * k) (h .many)
+
+  inputs-cells : length (rows inputRow ss) ≡ ARGUMENTS * count
+  inputs-cells = length-rows inputRow ARGUMENTS input-row-long ss ∙ ap (λ k. ARGUMENTS * k) (h .many)
+
+  symbols-room : 4 * count ≤ length symbols
+  symbols-room = omega (arith, symbols-cells, ap length (h .front .is), length-append (rows symbolRow ss) (h .front .rest))
+
+  pub symbols-few : count ≤ SYMBOLS
+  symbols-few = omega (arith, symbols-room, h .long)
+
+  symbol-cell : (k j i : ℕ) → k < length ss → j < 4 → i ≡ 4 * k + j → getD symbols i 0 ≡ getD (symbolRow (getD ss k noSymbol)) j 0
+  symbol-cell k j i l m e =
+      ap (λ t. getD t i 0) (h .front .is) ∙ row-cell symbolRow 4 symbol-row-four ss (h .front .rest) k j i noSymbol l m e
+
+  pub symbols-rows : SymbolRows text symbols count ss
+  unfolding symbolRow nameCells
+  symbols-rows =
+      record {
+        many = h .many;
+        row = λ k l. record {
+          output = symbol-cell k 0 (4 * k) l (omega arith) (omega arith);
+          arity = symbol-cell k 1 (4 * k + 1) l (omega arith) refl;
+          name = record {
+            inside = omega (arith, symbols-room, l, h .many);
+            start = symbol-cell k 2 (4 * k + 2) l (omega arith) refl;
+            end = symbol-cell k 3 (4 * k + 2 + 1) l (omega arith) (omega arith);
+            name = all-at ss k noSymbol (h .names) l;
+          };
+        };
+      }
+
+  module _ (s : Symbol) (output arity start end : ℕ) (row : List ℕ) (is : SymbolIs text s output arity start end row) (l : count < SYMBOLS) where
+    row-is : symbolRow s ≡ output ∷ arity ∷ start ∷ end ∷ []
+    unfolding symbolRow nameCells
+    row-is = λ i. is .outputs i ∷ is .arities i ∷ is .starts i ∷ (ap (λ z. z + length (s .name .bytes)) (is .starts) ∙ is .ends) i ∷ []
+
+    two : suc (4 * count + 1) ≡ 4 * count + 2
+    two = omega arith
+
+    pub symbols-more : SymbolsHeld text (sets (set (set symbols (4 * count) output) (4 * count + 1) arity) (4 * count + 2) (start ∷ end ∷ []))
+        (paste inputs (16 * count) row (length row)) (count + 1) (ss ++ (s ∷ []))
+    unfolding inputRow
+    symbols-more =
+        let e : sets symbols (4 * count) (output ∷ arity ∷ start ∷ end ∷ []) ≡ sets (set (set symbols (4 * count) output) (4 * count + 1) arity) (4 * count + 2) (start ∷ end ∷ []) =
+        ap (λ (k : ℕ). sets (set (set symbols (4 * count) output) k arity) (suc k) (start ∷ end ∷ [])) (sym (add-one (4 * count)))
+        ∙ ap (λ (k : ℕ). sets (set (set symbols (4 * count) output) (4 * count + 1) arity) k (start ∷ end ∷ [])) two in
+        let lr : length row ≡ ARGUMENTS = ap length (sym (is .cells)) ∙ length-filled ARGUMENTS (s .inputs) in
+        record {
+          many = omega (arith, length-append ss (s ∷ []), h .many);
+          long = ap length (sym e) ∙ length-sets symbols (4 * count) (output ∷ arity ∷ start ∷ end ∷ []) ∙ h .long;
+          longs = length-paste inputs (16 * count) row (length row) (omega (arith, lr, h .longs, l)) (omega arith) ∙ h .longs;
+          front = subst (λ t. Front t (rows symbolRow (ss ++ (s ∷ [])))) e
+              (front-row symbolRow symbols ss s (output ∷ arity ∷ start ∷ end ∷ []) (4 * count) (h .front) row-is symbols-cells (omega (arith, h .long, l)));
+          fronts = front-same (front-paste inputs (rows inputRow ss) row (16 * count) (h .fronts) inputs-cells (omega (arith, lr, h .longs, l)))
+              (ap (λ z. rows inputRow ss ++ z) (sym (is .cells)) ∙ sym (rows-snoc inputRow ss s));
+          names = all-snoc (h .names) (is .named);
+          few = all-snoc (h .few) (is .few);
+        }
+
+pub symbol-full : {text symbols inputs : List ℕ} {count : ℕ} (T : Theory) (s : Symbol) → SymbolsHeld text symbols inputs count (T .symbols) → SYMBOLS ≤ count →
+    addSymbol s T ≡ refuse 60 2 T
+symbol-full T s h l = add-symbol-full T s (omega (arith, l, h .many))
+
+pub symbol-stored : {text symbols inputs : List ℕ} {count : ℕ} (T : Theory) (s : Symbol) (h : SymbolsHeld text symbols inputs count (T .symbols))
+    (output arity start end : ℕ) (row : List ℕ) → SymbolIs text s output arity start end row → count < SYMBOLS →
+    SymbolStored text (sets (set (set symbols (4 * count) output) (4 * count + 1) arity) (4 * count + 2) (start ∷ end ∷ []))
+    (paste inputs (16 * count) row (length row)) T (addSymbol s T) (count + 1)
+symbol-stored T s h output arity start end row is l =
+    record { symbol = s; is = add-symbol-new T s (omega (arith, l, h .many)); held = symbols-more h s output arity start end row is l }
+
+-- an argument's sort
+module _ {text symbols inputs : List ℕ} {count : ℕ} {ss : List Symbol} (h : SymbolsHeld text symbols inputs count ss) (c k : ℕ) (l : c < length ss)
+    (m : k < length (getD ss c noSymbol .inputs)) where
+  pub input-place : ARGUMENTS * c + k < length inputs
+  input-place = omega (arith, all-at ss c noSymbol (h .few) l, m, h .longs, symbols-few h, h .many, l)
+
+  pub input-cell : getD inputs (ARGUMENTS * c + k) 0 ≡ getD (getD ss c noSymbol .inputs) k 0
+  unfolding inputRow
+  input-cell =
+      let few = all-at ss c noSymbol (h .few) l in
+      ap (λ t. getD t (ARGUMENTS * c + k) 0) (h .fronts .is)
+      ∙ row-cell inputRow ARGUMENTS input-row-long ss (h .fronts .rest) c k (ARGUMENTS * c + k) noSymbol l (omega (arith, few, m)) refl
+      ∙ ap (λ t. getD t k 0) (filled-fits ARGUMENTS (getD ss c noSymbol .inputs) few)
+      ∙ getD-front (getD ss c noSymbol .inputs) (replicate (ARGUMENTS - length (getD ss c noSymbol .inputs)) 0) k 0 m

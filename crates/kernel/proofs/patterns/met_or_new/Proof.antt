@@ -1,0 +1,148 @@
+use mathlib.Core.Path.{_≡_, refl, sym, ap, _∙_}
+use Prim.Native.Nat.{ℕ, _+_, _-_, _*_}
+use native.Mathlib.Omega.{arith}
+use lib.ListN.{length, set, length-set, take, drop}
+use Rattle.kernel.proofs.Vars.{namesOf, vars-rows, var-inside, var-place, var-fits, met-again, met-wrongly, met-full, met-new}
+use borrow.Author.Needs.{needs}
+use Rattle.kernel.proofs.patterns.met_or_new.Statement.{statement}
+use Rattle.kernel.proofs.patterns.met_or_new.Tie as tie
+use Rattle.kernel.proofs.patterns.met_or_new.Reads as reads
+use Rattle.kernel.proofs.patterns.met_or_new.Lts as lts
+use Rattle.kernel.proofs.names.named.Reads as named-reads
+use Rattle.kernel.proofs.patterns.same_sort.Reads as same-sort-reads
+use Rattle.kernel.proofs.symbols.put_name.Reads as put-name-reads
+
+-- src/patterns.rt:50:42
+sub-named : tie.Need-sub-named
+sub-named c = search needs
+
+-- src/patterns.rt:50:42
+part-named-start : tie.Need-part-named-start
+part-named-start c = search needs
+
+-- src/patterns.rt:50:42
+part-named-end : tie.Need-part-named-end
+part-named-end c = search needs
+
+-- src/patterns.rt:50:11
+named-requires : tie.Need-named-requires
+named-requires c κs = (namesOf ((c .before .before .before .before .pre) .vs), vars-rows ((c .before .before .before .before .pre) .held))
+
+-- src/patterns.rt:51:19
+enum-known-i : tie.Need-enum-known-i
+enum-known-i c = search needs
+
+-- src/patterns.rt:52:28
+mul-had : tie.Need-mul-had
+mul-had c = omega (arith, var-place ((c .before .before .before .before .before .before .before .before .pre) .held) _ (var-inside ((c .before .before .before .before .before .before .before .before .pre) .held) _ _ _ ((c .before .before .before .named) .ensures) ((c .before .i) .given .1)), (c .before .before .before .before .before .before .before .before .good))
+
+-- src/patterns.rt:52:23
+mul-had-2 : tie.Need-mul-had-2
+mul-had-2 c = omega (arith, var-place ((c .before .before .before .before .before .before .before .before .pre) .held) _ (var-inside ((c .before .before .before .before .before .before .before .before .pre) .held) _ _ _ ((c .before .before .before .named) .ensures) ((c .before .i) .given .1)), (c .before .before .before .before .before .before .before .before .good))
+
+-- src/patterns.rt:52:23
+slice-read-had : tie.Need-slice-read-had
+slice-read-had c = var-place ((c .before .before .before .before .before .before .before .before .before .pre) .held) _ (var-inside ((c .before .before .before .before .before .before .before .before .before .pre) .held) _ _ _ ((c .before .before .before .before .named) .ensures) ((c .before .before .i) .given .1))
+
+-- src/patterns.rt:52:23
+cast-had : tie.Need-cast-had
+cast-had c = omega (arith, (c .slice-known2) .given (3 * (c .before .before .i) .given .0 .0))
+
+-- src/patterns.rt:53:16
+same-sort-requires : tie.Need-same-sort-requires
+same-sort-requires c κs = search needs
+
+-- src/patterns.rt:54:17
+same-length : tie.Need-same-length
+same-length c = search needs
+
+-- src/patterns.rt:54:17
+returns : tie.Need-returns
+returns c = λ R n h k. met-again ((c .before .before .before .before .before .before .before .before .before .before .before .args) .sort) R n h k _ ((c .before .before .before .before .before .before .named) .ensures) _ ((c .before .before .before .before .i) .given .1) (sym ((c .before .same-sort) .ensures) ∙ (c .if1) .taken)
+
+-- src/patterns.rt:59:16
+enum-told : tie.Need-enum-told
+enum-told c = search needs
+
+-- src/patterns.rt:60:17
+same-length-2 : tie.Need-same-length-2
+same-length-2 c = search needs
+
+-- src/patterns.rt:60:17
+returns-2 : tie.Need-returns-2
+returns-2 c = λ R n h k. met-full ((c .before .before .before .before .before .before .before .before .args) .sort) R n h k _ ((c .before .before .before .named) .ensures) ((c .before .enum-told) .given .1) ((c .if2) .taken)
+
+-- src/patterns.rt:62:22
+mul-at : tie.Need-mul-at
+mul-at c = search needs
+
+-- src/patterns.rt:63:24
+cast-vars : tie.Need-cast-vars
+cast-vars c = search needs
+
+-- src/patterns.rt:63:13
+mul-vars : tie.Need-mul-vars
+mul-vars c = search needs
+
+-- src/patterns.rt:63:13
+slice-write-vars : tie.Need-slice-write-vars
+slice-write-vars c = search needs
+
+-- src/patterns.rt:64:28
+add-put-name : tie.Need-add-put-name
+add-put-name c = search needs
+
+-- src/patterns.rt:64:13
+put-name-requires : tie.Need-put-name-requires
+put-name-requires c κs = var-fits ((c .before .before .before .before .before .before .before .before .before .pre)) ((c .before .if2) .left)
+
+-- src/patterns.rt:65:29
+add-t25 : tie.Need-add-t25
+add-t25 c = search needs
+
+-- src/patterns.rt:45:1
+same-length-3 : tie.Need-same-length-3
+same-length-3 c = search needs
+
+-- src/patterns.rt:45:1
+returns-3 : tie.Need-returns-3
+returns-3 c = λ R n h k. met-wrongly ((c .before .before .before .before .before .before .before .before .before .before .before .args) .sort) R n h k _ ((c .before .before .before .before .before .before .named) .ensures) _ ((c .before .before .before .before .i) .given .1) (sym ((c .before .same-sort) .ensures) ∙ (c .if1) .left)
+
+-- src/patterns.rt:45:1
+same-length-4 : tie.Need-same-length-4
+same-length-4 c = ((c .before .before .put-name) .kept .0) ∙ length-set ((c .before .before .before .before .before .before .before .before .before .before .before .before .args) .vars .now) (3 * (c .before .before .before .before .before .before .before .before .before .before .before .before .args) .count) ((c .before .before .before .before .before .before .before .before .before .before .before .before .args) .sort)
+
+-- src/patterns.rt:45:1
+returns-4 : tie.Need-returns-4
+returns-4 c = λ R n h k. rw ((c .before .before .put-name) .ensures) (met-new ((c .before .before .before .before .before .before .before .before .before .before .before .before .args) .sort) R n h k _ ((c .before .before .before .before .before .before .before .named) .ensures) ((c .before .before .before .before .before .enum-told) .given .1) ((c .before .before .before .before .if2) .left))
+
+pub met-or-new-spec : {M : Type 1} → statement M
+met-or-new-spec =
+    tie.close
+    (tie.spec
+    sub-named
+    part-named-start
+    part-named-end
+    named-requires
+    enum-known-i
+    mul-had
+    mul-had-2
+    slice-read-had
+    cast-had
+    same-sort-requires
+    same-length
+    returns
+    enum-told
+    same-length-2
+    returns-2
+    mul-at
+    cast-vars
+    mul-vars
+    slice-write-vars
+    add-put-name
+    put-name-requires
+    add-t25
+    same-length-3
+    returns-3
+    same-length-4
+    returns-4)

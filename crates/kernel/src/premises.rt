@@ -1,0 +1,65 @@
+// The premises of a rule: the judgments that the items of a list spell, one behind the other.
+ghost use mathlib.Core.Path.{_≡_};
+ghost use Prim.Native.Nat.{ℕ};
+ghost use lib.ListN.{length};
+ghost use Rattle.rules.specs.Sexp.{Sexps};
+ghost use Rattle.rules.specs.Theory.{Theory};
+ghost use Rattle.rules.specs.Declare.{Reading, judgments};
+ghost use Rattle.rules.specs.TheoryTables.{prefixes};
+ghost use Rattle.sexp.specs.Items.{Holds};
+ghost use Rattle.kernel.specs.Held.{SymbolsHeld};
+ghost use Rattle.kernel.specs.Reading.{Reads, PatternRead, Patterning};
+use crate::patterns::Made;
+use crate::terms::judgment;
+use sexp::items;
+use sexp::items::Item;
+
+// No more than row 6 allows are read, so the calls are no more than that deep.
+pub fn premises(
+    text: &[u8],
+    cells: &[u32],
+    symbols: &[u32],
+    inputs: &[u32],
+    known: usize,
+    vars: &mut [u32],
+    count: usize,
+    patterns: &mut [u32],
+    used: usize,
+) -> Made
+    requires { ⌜ Patterning (now text) (now cells) (now symbols) (now inputs) known (now vars) count (length (now patterns)) used ⌝ }
+    ensures { λ r. ⌜ ((T : Theory) (R : Reading) (zs : Sexps) → SymbolsHeld (now (text .entry)) (now (symbols .entry)) (now (inputs .entry)) known (T .symbols) →
+        Reads (now (text .entry)) (now (vars .entry)) count used R → Holds (now (text .entry)) (now (cells .entry)) zs →
+        PatternRead prefixes (now (text .entry)) (now (vars .exit)) (now (patterns .entry)) (now (patterns .exit)) used (judgments T zs R) r) ⌝ }
+{
+    if cells.len() == 0 {
+        return Made::Ok(count, used);
+    }
+    let Item::List(a, b) = items::item_at(cells, 0) else {
+        return Made::No(11, 0);
+    };
+    let r = judgment(
+        text,
+        &cells[a..b],
+        symbols,
+        inputs,
+        known,
+        vars,
+        count,
+        patterns,
+        used,
+    );
+    let Made::Ok(v, w) = r else {
+        return r;
+    };
+    premises(
+        text,
+        &cells[b..],
+        symbols,
+        inputs,
+        known,
+        vars,
+        v,
+        patterns,
+        w,
+    )
+}
