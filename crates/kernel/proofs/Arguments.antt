@@ -23,10 +23,10 @@ use Rattle.sexp.specs.Items.{Holds, itemOf}
 use Rattle.sexp.specs.Spelt.{Spelt}
 use Rattle.sexp.specs.WalkLaws.{ListIs, AtomIs}
 use Rattle.sexp.specs.declared.items.Item.{Item}
-use Rattle.kernel.specs.Named.{NameRows, foundOf}
+use Rattle.sexp.specs.NameRows.{NameRows, foundOf}
 use Rattle.kernel.specs.Held.{SortsHeld, SomeSorts, Gathering, ArgumentsStored, ArgumentsRead}
-use Rattle.kernel.specs.declared.names.Found.{Found}
-use Rattle.kernel.specs.declared.names.Found.the-variants.{At, Missing}
+use Rattle.sexp.specs.declared.names.Found.{Found}
+use Rattle.sexp.specs.declared.names.Found.the-variants.{At, Missing}
 use Rattle.kernel.specs.declared.symbols.Added.{Added}
 use Rattle.kernel.specs.declared.symbols.Added.the-variants.{Ok, No}
 use Rattle.kernel.proofs.Spellings.{found-at, found-missing}

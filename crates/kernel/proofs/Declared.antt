@@ -17,11 +17,12 @@ use Rattle.rules.specs.Laws.Declaring.{sortOf, argumentsOf, constructorOf, ctor
 use Rattle.sexp.specs.Items.{Holds, itemOf, place}
 use Rattle.sexp.specs.WalkLaws.{spells-item}
 use Rattle.sexp.specs.declared.items.Item.{Item}
-use Rattle.kernel.specs.Named.{foundOf, called, ofKind, SymbolRows}
+use Rattle.kernel.specs.Named.{called, ofKind, SymbolRows}
+use Rattle.sexp.specs.NameRows.{foundOf}
 use Rattle.kernel.specs.Spelled.{SomeItem, Reaching}
 use Rattle.kernel.specs.Held.{Form, SortsHeld, SomeSorts, ArgumentsStored, ArgumentsRead, SymbolsHeld, SymbolFits, SymbolIs, SymbolAdded}
-use Rattle.kernel.specs.declared.names.Found.{Found}
-use Rattle.kernel.specs.declared.names.Found.the-variants.{At, Missing}
+use Rattle.sexp.specs.declared.names.Found.{Found}
+use Rattle.sexp.specs.declared.names.Found.the-variants.{At, Missing}
 use Rattle.kernel.specs.declared.symbols.Added.{Added}
 use Rattle.kernel.specs.declared.symbols.Added.the-variants.{Ok, No}
 use Rattle.kernel.proofs.Spellings.{Proper, found-at, found-missing}

@@ -22,12 +22,13 @@ use Rattle.rules.specs.Declare.{addSort, addSymbol}
 use Rattle.rules.specs.Laws.Declaring.{proper, withSort, add-sort-unnamed, add-sort-known, add-sort-full, add-sort-new, add-symbol-full, add-symbol-new}
 use Rattle.sexp.specs.Items.{Holds, itemOf, place}
 use Rattle.sexp.specs.WalkLaws.{spells-item}
-use Rattle.kernel.specs.Named.{NameIn, NameAt, NameRows, SymbolAt, SymbolRows, foundOf}
+use Rattle.kernel.specs.Named.{SymbolAt, SymbolRows}
+use Rattle.sexp.specs.NameRows.{NameIn, NameAt, NameRows, foundOf}
 use Rattle.kernel.specs.Spelled.{SomeItem, Reaching, nameOf}
 use Rattle.kernel.specs.Held.{Front, NameFits, Form, SortsHeld, SortStored, SortAdded, SymbolsHeld, SymbolIs, SymbolStored}
 use Rattle.kernel.proofs.Spellings.{Proper, found-at, found-missing}
-use Rattle.kernel.specs.declared.names.Found.{Found}
-use Rattle.kernel.specs.declared.names.Found.the-variants.{At, Missing}
+use Rattle.sexp.specs.declared.names.Found.{Found}
+use Rattle.sexp.specs.declared.names.Found.the-variants.{At, Missing}
 
 -- the first cells, and more written behind them
 pub front-write : (table xs vs : List ℕ) (i : ℕ) → Front table xs → length xs ≡ i → i + length vs ≤ length table → Front (sets table i vs) (xs ++ vs)

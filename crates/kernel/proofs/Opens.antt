@@ -22,11 +22,12 @@ use Rattle.sexp.specs.Items.{Holds, itemAt, itemOf, behind}
 use Rattle.sexp.specs.WalkLaws.{AtomIs, atom-is}
 use Rattle.sexp.specs.declared.items.Item.{Item}
 use Rattle.sexp.specs.declared.items.Item.the-variants.{Atom, List as Part}
-use Rattle.kernel.specs.Named.{foundOf, called, ofKind, SymbolRows}
+use Rattle.kernel.specs.Named.{called, ofKind, SymbolRows}
+use Rattle.sexp.specs.NameRows.{foundOf}
 use Rattle.kernel.specs.Held.{SymbolsHeld}
 use Rattle.kernel.specs.Reading.{Stopped, Head, HeadRead, Opened, OpenedRead}
-use Rattle.kernel.specs.declared.names.Found.{Found}
-use Rattle.kernel.specs.declared.names.Found.the-variants.{At, Missing}
+use Rattle.sexp.specs.declared.names.Found.{Found}
+use Rattle.sexp.specs.declared.names.Found.the-variants.{At, Missing}
 use Rattle.kernel.specs.declared.patterns.Made.{Made}
 use Rattle.kernel.specs.declared.patterns.Made.the-variants.{Ok, No}
 use Rattle.kernel.proofs.Spellings.{found-at, found-missing}

@@ -23,9 +23,9 @@ use Rattle.sexp.specs.declared.items.Item.{Item}
 use Rattle.sexp.specs.declared.items.Item.the-variants.{Atom, List as Part}
 use Rattle.kernel.specs.Spelled.{SomeItem, nameOf}
 use Rattle.rules.specs.Laws.Declaring.{proper, sortOf, sortOfName}
-use Rattle.kernel.specs.Named.{NameIn, foundOf}
-use Rattle.kernel.specs.declared.names.Found.{Found}
-use Rattle.kernel.specs.declared.names.Found.the-variants.{At, Missing}
+use Rattle.sexp.specs.NameRows.{NameIn, foundOf}
+use Rattle.sexp.specs.declared.names.Found.{Found}
+use Rattle.sexp.specs.declared.names.Found.the-variants.{At, Missing}
 use Rattle.kernel.specs.declared.symbols.Spelling.{Spelling}
 use Rattle.kernel.specs.declared.symbols.Spelling.the-variants.{Name as NameAt, Refused}
 

@@ -21,11 +21,11 @@ use Rattle.rules.specs.TheoryTables.{nameCells, rows, varRow}
 use Rattle.rules.specs.Laws.Row.{rows-snoc, length-rows, row-cell}
 use Rattle.rules.specs.Declare.{Reading, noRuleVar, metOrNew}
 use Rattle.rules.specs.Laws.PatternSteps.{varNamed, withVar, met-other, met-same, new-full, new-more}
-use Rattle.kernel.specs.Named.{NameIn, NameAt, NameRows, foundOf}
+use Rattle.sexp.specs.NameRows.{NameIn, NameAt, NameRows, foundOf}
 use Rattle.kernel.specs.Held.{Front, NameFits}
 use Rattle.kernel.specs.Reading.{Spans, VarsHeld, Meeting, Met, MetRead}
-use Rattle.kernel.specs.declared.names.Found.{Found}
-use Rattle.kernel.specs.declared.names.Found.the-variants.{At, Missing}
+use Rattle.sexp.specs.declared.names.Found.{Found}
+use Rattle.sexp.specs.declared.names.Found.the-variants.{At, Missing}
 use Rattle.kernel.specs.declared.patterns.Made.{Made}
 use Rattle.kernel.specs.declared.patterns.Made.the-variants.{Ok, No}
 use Rattle.kernel.proofs.Spellings.{found-at, found-missing, found-inside}

@@ -23,11 +23,12 @@ use Rattle.rules.specs.Declare.{Reading, word, metOrNew, variable, head, patter
 use Rattle.rules.specs.Laws.PatternSteps.{varNamed, worded, word-full, word-more, variable-short, variable-asks, head-unknown, head-sort, head-count, head-asks, pattern-marked, pattern-atom}
 use Rattle.sexp.specs.Spelt.{AtomAt}
 use Rattle.sexp.specs.WalkLaws.{Span, span}
-use Rattle.kernel.specs.Named.{NameIn, foundOf, called, ofKind, SymbolRows}
+use Rattle.kernel.specs.Named.{called, ofKind, SymbolRows}
+use Rattle.sexp.specs.NameRows.{NameIn, foundOf}
 use Rattle.kernel.specs.Held.{SymbolsHeld, SomeSymbolsHeld}
 use Rattle.kernel.specs.Reading.{WordFits, WordPut, Spans, VarsHeld, Meeting, Met, MetRead, Reads, Ready, Written, Stopped, PatternRead, Heading, Head, HeadRead}
-use Rattle.kernel.specs.declared.names.Found.{Found}
-use Rattle.kernel.specs.declared.names.Found.the-variants.{At, Missing}
+use Rattle.sexp.specs.declared.names.Found.{Found}
+use Rattle.sexp.specs.declared.names.Found.the-variants.{At, Missing}
 use Rattle.kernel.specs.declared.patterns.Made.{Made}
 use Rattle.kernel.specs.declared.patterns.Made.the-variants.{Ok, No}
 use Rattle.kernel.proofs.Spellings.{found-at, found-missing}

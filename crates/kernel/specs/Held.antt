@@ -12,7 +12,7 @@ use Rattle.rules.specs.Laws.Theory.{All}
 use Rattle.rules.specs.TheoryTables.{filled, sortCells, symbolCells, inputCells}
 use Rattle.rules.specs.Laws.Declaring.{withSort, withSymbol}
 use Rattle.sexp.specs.Items.{Holds}
-use Rattle.kernel.specs.Named.{NameIn}
+use Rattle.sexp.specs.NameRows.{NameIn}
 use Rattle.kernel.specs.declared.symbols.Added.{Added}
 use Rattle.kernel.specs.declared.symbols.Added.the-variants.{Ok, No}
 

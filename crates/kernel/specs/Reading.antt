@@ -15,7 +15,7 @@ use Rattle.rules.specs.TheoryTables.{varCells}
 use Rattle.rules.specs.Declare.{Reading, patterns}
 use Rattle.rules.specs.Laws.PatternSteps.{worded}
 use Rattle.sexp.specs.Items.{Holds}
-use Rattle.kernel.specs.Named.{NameIn}
+use Rattle.sexp.specs.NameRows.{NameIn}
 use Rattle.kernel.specs.Held.{Front, SomeSymbolsHeld}
 use Rattle.kernel.specs.declared.patterns.Made.{Made}
 use Rattle.kernel.specs.declared.patterns.Made.the-variants.{Ok, No}

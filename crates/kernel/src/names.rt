@@ -1,5 +1,4 @@
-// Looking names up: the first row of a table whose name has given bytes. A name is the place of its first byte in the theory's text and the
-// place behind its last.
+// Looking symbols up: the first predicate, or the first constructor, whose name has given bytes.
 ghost use mathlib.Core.Path.{_≡_};
 ghost use Prim.Native.Nat.{ℕ};
 ghost use mathlib.Core.List.{List};
@@ -7,41 +6,11 @@ ghost use mathlib.Core.Bool.{Bool};
 ghost use lib.ListN.{length};
 ghost use Rattle.rules.specs.Text.{same};
 ghost use Rattle.rules.specs.Find.{first};
-ghost use Rattle.rules.specs.Sexp.{Name};
 ghost use Rattle.rules.specs.Theory.{Symbol};
-ghost use Rattle.kernel.specs.Named.{NameRows, SomeNames, SymbolAt, SomeSymbol, SymbolRows, SomeSymbols, foundOf, kindOf, called};
+ghost use Rattle.kernel.specs.Named.{SymbolAt, SomeSymbol, SymbolRows, SomeSymbols, kindOf, called};
+ghost use Rattle.sexp.specs.NameRows.{foundOf};
+use sexp::names::Found;
 use sexp::names::same;
-
-pub enum Found {
-    At(usize),
-    Missing,
-}
-
-// The number of the first of `count` rows whose name has these bytes: rows of `width` cells with the name from `place` on.
-pub fn named(
-    text: &[u8],
-    table: &[u32],
-    width: usize,
-    place: usize,
-    count: usize,
-    name: &[u8],
-) -> Found
-    requires { ⌜ SomeNames (now text) (now table) width place count ⌝ }
-    ensures { λ r. ⌜ ((ns : List Name) → NameRows (now (text .entry)) (now (table .entry)) width place count ns →
-        r ≡ foundOf (first (λ n. same (n .bytes) (now (name .entry))) ns 0)) ⌝ }
-{
-    let mut i: usize = 0;
-    while i < count {
-        let at = width * i + place;
-        let start = table[at] as usize;
-        let end = table[at + 1] as usize;
-        if same(&text[start..end], name) {
-            return Found::At(i);
-        }
-        i += 1;
-    }
-    Found::Missing
-}
 
 // Whether a symbol with that output is a predicate, or is none.
 fn is_kind(output: u32, predicate: bool) -> bool

@@ -12,12 +12,12 @@ ghost use Rattle.rules.specs.Laws.PatternSteps.{varNamed};
 ghost use Rattle.rules.specs.TheoryTables.{prefix};
 ghost use Rattle.kernel.specs.Held.{SymbolsHeld, SomeSymbolsHeld};
 ghost use Rattle.kernel.specs.Reading.{WordFits, WordPut, Spans, VarsHeld, Meeting, MetRead, Reads, Ready, PatternRead, Heading, HeadRead};
-use crate::names::Found;
-use crate::names::named;
 use crate::names::symbol_named;
 use crate::symbols::marked;
 use crate::symbols::put_name;
 use sexp::lex;
+use sexp::names::Found;
+use sexp::names::named;
 
 // Two numbers of what is there now, or a refusal by number and detail.
 pub enum Made {

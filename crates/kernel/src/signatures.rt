@@ -11,7 +11,6 @@ ghost use Rattle.rules.specs.Laws.Declaring.{argumentsOf};
 ghost use Rattle.sexp.specs.Items.{Holds};
 ghost use Rattle.kernel.specs.Spelled.{Reaching};
 ghost use Rattle.kernel.specs.Held.{Form, SortsHeld, SomeSorts, Gathering, ArgumentsRead, SymbolsHeld, SomeSymbolsHeld, SymbolFits, SymbolIs, SymbolAdded};
-use crate::names::Found;
 use crate::names::symbol_named;
 use crate::symbols::Added;
 use crate::symbols::Spelling;
@@ -20,6 +19,7 @@ use crate::symbols::put_name;
 use crate::symbols::sort;
 use sexp::items;
 use sexp::items::Item;
+use sexp::names::Found;
 
 // The sorts that the items name, into a row that has `count` of them.
 fn argument_sorts(

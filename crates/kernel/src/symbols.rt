@@ -12,13 +12,13 @@ ghost use Rattle.sexp.specs.Spelt.{Spelt};
 ghost use Rattle.sexp.specs.Items.{itemOf, Holds};
 ghost use Rattle.rules.specs.Laws.Declaring.{proper, sortOf};
 ghost use Rattle.kernel.specs.Spelled.{SomeItem, Reaching, nameOf};
-ghost use Rattle.kernel.specs.Named.{NameRows, SomeNames, foundOf};
+ghost use Rattle.sexp.specs.NameRows.{NameRows, SomeNames, foundOf};
 ghost use Rattle.kernel.specs.Held.{NameFits, Form, SortsHeld, SomeSorts, SortAdded};
-use crate::names::Found;
-use crate::names::named;
 use sexp::items;
 use sexp::items::Item;
 use sexp::lex;
+use sexp::names::Found;
+use sexp::names::named;
 
 pub enum Spelling {
     Name(usize, usize),

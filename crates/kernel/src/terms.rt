@@ -10,7 +10,6 @@ ghost use Rattle.rules.specs.TheoryTables.{prefix, prefixes};
 ghost use Rattle.sexp.specs.Items.{Holds};
 ghost use Rattle.kernel.specs.Held.{SymbolsHeld};
 ghost use Rattle.kernel.specs.Reading.{Reads, PatternRead, OpenedRead, Opening, Patterning, Placed, Arguing};
-use crate::names::Found;
 use crate::names::symbol_named;
 use crate::patterns::Made;
 use crate::patterns::atomic;
@@ -19,6 +18,7 @@ use crate::patterns::put_word;
 use sexp::items;
 use sexp::items::Item;
 use sexp::lex;
+use sexp::names::Found;
 
 // The constructor that a list of a term begins with, and its word; a list of one is refused before its name is looked up.
 fn open_term(

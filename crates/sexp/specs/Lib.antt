@@ -9,4 +9,6 @@ pub mod WalkLaws
 pub mod ReadLaws
 pub mod Whole
 pub mod Names
+pub mod NameRows
+pub mod RowLaws
 pub mod TagTable

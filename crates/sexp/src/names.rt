@@ -1,9 +1,13 @@
-// The bytes of names: whether two are equal, and the index that a name spells.
+// The bytes of names: whether two are equal, the index that a name spells, and the first row of a table that holds a name.
 ghost use mathlib.Core.Path.{_≡_};
 ghost use Prim.Native.Nat.{_<_};
 ghost use Rattle.rules.specs.Text.{same};
 ghost use Rattle.rules.specs.Index.{number, indexOf};
 ghost use Rattle.sexp.specs.Names.{spelling};
+ghost use mathlib.Core.List.{List};
+ghost use Rattle.rules.specs.Find.{first};
+ghost use Rattle.rules.specs.Sexp.{Name};
+ghost use Rattle.sexp.specs.NameRows.{NameRows, SomeNames, foundOf};
 
 // What a name spells, read as an index.
 pub enum Index {
@@ -73,4 +77,36 @@ pub fn index_of(name: &[u8]) -> Index
         return number(&name[1..]);
     }
     number(name)
+}
+
+// A row by its number.
+pub enum Found {
+    At(usize),
+    Missing,
+}
+
+// The number of the first of `count` rows whose name has these bytes: rows of `width` cells with the name from `place` on.
+pub fn named(
+    text: &[u8],
+    table: &[u32],
+    width: usize,
+    place: usize,
+    count: usize,
+    name: &[u8],
+) -> Found
+    requires { ⌜ SomeNames (now text) (now table) width place count ⌝ }
+    ensures { λ r. ⌜ ((ns : List Name) → NameRows (now (text .entry)) (now (table .entry)) width place count ns →
+        r ≡ foundOf (first (λ n. same (n .bytes) (now (name .entry))) ns 0)) ⌝ }
+{
+    let mut i: usize = 0;
+    while i < count {
+        let at = width * i + place;
+        let start = table[at] as usize;
+        let end = table[at + 1] as usize;
+        if same(&text[start..end], name) {
+            return Found::At(i);
+        }
+        i += 1;
+    }
+    Found::Missing
 }

@@ -8,7 +8,7 @@ use Rattle.kernel.proofs.symbols.add_sort.Statement.{statement}
 use Rattle.kernel.proofs.symbols.add_sort.Tie as tie
 use Rattle.kernel.proofs.symbols.add_sort.Reads as reads
 use Rattle.kernel.proofs.symbols.add_sort.Lts as lts
-use Rattle.kernel.proofs.names.named.Reads as named-reads
+use Rattle.sexp.proofs.names.named.Reads as named-reads
 use Rattle.kernel.proofs.symbols.proper_at.Reads as proper-at-reads
 use Rattle.kernel.proofs.symbols.put_name.Reads as put-name-reads
 

@@ -6,7 +6,7 @@ use Rattle.kernel.proofs.symbols.sort.Statement.{statement}
 use Rattle.kernel.proofs.symbols.sort.Tie as tie
 use Rattle.kernel.proofs.symbols.sort.Reads as reads
 use Rattle.kernel.proofs.symbols.sort.Lts as lts
-use Rattle.kernel.proofs.names.named.Reads as named-reads
+use Rattle.sexp.proofs.names.named.Reads as named-reads
 use Rattle.kernel.proofs.symbols.proper.Reads as proper-reads
 
 -- src/symbols.rt:52:38

@@ -1,13 +1,13 @@
 use mathlib.Core.Path.{_≡_, refl, sym, ap, _∙_}
 use Prim.Native.Nat.{ℕ, _+_, _-_, _*_, _≤_, _<_}
 use native.Mathlib.Omega.{arith}
-use Rattle.kernel.proofs.Rows.{Looking, looking-start, looking-row, looking-here, looking-on, looking-over, name-order, name-within}
+use Rattle.sexp.specs.RowLaws.{Looking, looking-start, looking-row, looking-here, looking-on, looking-over, name-order, name-within}
 use borrow.Author.Needs.{needs}
-use Rattle.kernel.proofs.names.named.Statement.{statement}
-use Rattle.kernel.proofs.names.named.Tie as tie
-use Rattle.kernel.proofs.names.named.Reads as reads
-use Rattle.kernel.proofs.names.named.Lts as lts
+use Rattle.sexp.proofs.names.named.Statement.{statement}
+use Rattle.sexp.proofs.names.named.Tie as tie
+use Rattle.sexp.proofs.names.named.Reads as reads
+use Rattle.sexp.proofs.names.named.Lts as lts
 use Rattle.sexp.proofs.names.same.Reads as same-reads
 
 abbrev Inv-loop : tie.InvT-loop
 Inv-loop text table width place count name i₀ i = Looking text table name width place count i
