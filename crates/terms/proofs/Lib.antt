@@ -27,3 +27,5 @@ pub mod Skips
 pub mod Cells
 pub mod Empty
 pub mod Singles
+pub mod Compares
+pub mod Piles
