@@ -12,13 +12,13 @@ use Rattle.rules.specs.Laws.Lex.{kind-letter, place-in-comment, place-comment-o
 use Rattle.sexp.specs.Lexed.{InAtom, InComment, LineEnd}
 use Rattle.sexp.proofs.ByteLaws.{letters-on, letters-off, letters-over}
 
--- above `)` there is no white space
-not-white : (b : ℕ) → 41 < b → white b ≡ false
+-- above `)` and below 128 there is no white space
+not-white : (b : ℕ) → 41 < b → b ≤ 127 → white b ≡ false
 unfolding white
-not-white b h = rw (le-leb 9 b (omega arith), lt-leb b 13 (omega arith), ne-eqb b 32 (λ e. absurd (omega arith)))
+not-white b h l = rw (le-leb 9 b (omega arith), lt-leb b 13 (omega arith), ne-eqb b 32 (λ e. absurd (omega arith)))
 
-pub above-letter : (b : ℕ) → 41 < b → (b ≡ 59 → ⊥) → kind b ≡ letter
-above-letter b h s = kind-letter b (not-white b h) (λ e. absurd (omega arith)) (λ e. absurd (omega arith)) s
+pub above-letter : (b : ℕ) → 41 < b → b ≤ 127 → (b ≡ 59 → ⊥) → kind b ≡ letter
+above-letter b h l s = kind-letter b (not-white b h l) (λ e. absurd (omega arith)) (λ e. absurd (omega arith)) s
 
 -- a mark that a branch takes away: where it stands, it stood before, and the branch was not taken
 pub left-standing : {T F : Type 0} {old new : Bool} → ((_ : T) × (new ≡ false)) ⊎ ((_ : F) × (new ≡ old)) → new ≡ true → (_ : F) × (old ≡ true)

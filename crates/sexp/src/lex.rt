@@ -73,13 +73,14 @@ fn is_letter(text: &[u8], at: usize) -> bool
     b != b';'
 }
 
-// Whether 64 bytes from a place on are letters for sure: all lie above the brackets and white space, and none is `;`. The few letters
-// below get a no, and are then looked at one by one. There is no way out of the loop, so that the machine can take many bytes at a time.
+// Whether 64 bytes from a place on are letters for sure: all lie above the brackets and white space and below 128, and none is `;`. Other
+// letters get a no, and are then looked at one by one. There is no way out of the loop, so that the machine can take many bytes at a time.
 fn block_of_letters(text: &[u8], at: usize) -> bool
     requires { ⌜ at + 64 ≤ length (now text) ⌝ }
     ensures { λ r. ⌜ (r ≡ true → InAtom (now (text .entry)) at (at + 64)) ⌝ }
 {
     let mut above = true;
+    let mut below = true;
     let mut clean = true;
     let mut i = 0;
     while i < 64 {
@@ -87,13 +88,18 @@ fn block_of_letters(text: &[u8], at: usize) -> bool
         if b <= b')' {
             above = false;
         }
+        if 127 < b {
+            below = false;
+        }
         if b == b';' {
             clean = false;
         }
         i += 1;
     }
     if above {
-        return clean;
+        if below {
+            return clean;
+        }
     }
     false
 }

@@ -1,4 +1,4 @@
--- `sexp::lex::block_of_letters` meets its contract. The loop: where both marks still stand, the bytes passed are letters. Assumes nothing.
+-- `sexp::lex::block_of_letters` meets its contract. The loop: where all marks still stand, the bytes passed are letters. Assumes nothing.
 use mathlib.Core.Path.{_≡_}
 use mathlib.Core.Bool.{true}
 use Prim.Native.Nat.{ℕ, _+_, _-_, _≤_}
@@ -11,13 +11,14 @@ use Rattle.sexp.proofs.lex.block_of_letters.Statement.{statement}
 use Rattle.sexp.proofs.lex.block_of_letters.Tie as tie
 
 abbrev Inv-loop : tie.InvT-loop
-Inv-loop text at above₀ clean₀ i₀ above clean i = (i ≤ 64) × (at + 64 ≤ length text) × (above ≡ true → clean ≡ true → InAtom text at (at + i))
+Inv-loop text at above₀ below₀ clean₀ i₀ above below clean i =
+    (i ≤ 64) × (at + 64 ≤ length text) × (above ≡ true → below ≡ true → clean ≡ true → InAtom text at (at + i))
 
 abbrev μ-loop : tie.MeasureT-loop
-μ-loop text at above₀ clean₀ i₀ above clean i = 64 - i
+μ-loop text at above₀ below₀ clean₀ i₀ above below clean i = 64 - i
 
 loop-holds : tie.Need-loop-holds Inv-loop μ-loop
-loop-holds c = (omega arith, c .pre, λ _ _. atom-begin _ _ _ (omega (arith, c .pre)) (omega arith))
+loop-holds c = (omega arith, c .pre, λ _ _ _. atom-begin _ _ _ (omega (arith, c .pre)) (omega arith))
 
 add-b : tie.Need-add-b Inv-loop μ-loop
 add-b c = search needs
@@ -34,16 +35,20 @@ loop-less c = search needs
 loop-again : tie.Need-loop-again Inv-loop μ-loop
 loop-again c = (
   omega arith,
-  (c .before .before .before .before .loop) .inv .1,
-  λ e f. let v = left-standing ((c .before .if1) .came) e in let w = left-standing ((c .if2) .came) f in
-      atom-byte ((c .before .before .before .before .loop) .inv .2 (v .1) (w .1)) (omega (arith, (c .before .before .before .before .loop) .inv .1)) (above-letter _ (v .0 .left) (w .0 .left)) (omega arith),
+  (c .before .before .before .before .before .loop) .inv .1,
+  λ e g f. let v = left-standing ((c .before .before .if1) .came) e in let u = left-standing ((c .before .if2) .came) g in let w = left-standing ((c .if3) .came) f in
+      atom-byte ((c .before .before .before .before .before .loop) .inv .2 (v .1) (u .1) (w .1)) (omega (arith, (c .before .before .before .before .before .loop) .inv .1))
+      (above-letter _ (v .0 .left) (u .0 .left) (w .0 .left)) (omega arith),
 )
 
 returns : tie.Need-returns Inv-loop μ-loop
-returns c = λ e. let z : (c .before .before .loop) .i ≡ 64 = omega (arith, (c .before .before .loop) .inv .0) in rw z at ((c .before .before .loop) .inv .2 ((c .if3) .taken) e)
+returns c = λ e. let z : (c .before .before .before .loop) .i ≡ 64 = omega (arith, (c .before .before .before .loop) .inv .0) in rw z at ((c .before .before .before .loop) .inv .2 ((c .before .if4) .taken) ((c .if5) .taken) e)
 
 returns-2 : tie.Need-returns-2 Inv-loop μ-loop
 returns-2 c = λ e. absurd (let z : _≡_ {A = ℕ} 0 1 = cc in omega arith)
+
+returns-3 : tie.Need-returns-3 Inv-loop μ-loop
+returns-3 c = λ e. absurd (let z : _≡_ {A = ℕ} 0 1 = cc in omega arith)
 
 pub block-of-letters-spec : {M : Type 1} → statement M
 block-of-letters-spec =
@@ -58,4 +63,5 @@ block-of-letters-spec =
     loop-less
     loop-again
     returns
-    returns-2)
+    returns-2
+    returns-3)
