@@ -2,3 +2,5 @@ pub mod Named
 pub mod Spelled
 pub mod Held
 pub mod Reading
+pub mod HeldRules
+pub mod Parsed
