@@ -14,10 +14,10 @@ use Rattle.rules.specs.Laws.Store.{Apart}
 use Rattle.rules.specs.Store.{Made}
 use Rattle.rules.specs.Unify.{Look, agree, clash, binds, parts, bindOrClash, differ, look}
 use Rattle.terms.specs.declared.store.Mark.{Mark}
-use Rattle.terms.specs.declared.unify.Asks.{Asks}
+use Rattle.terms.specs.declared.pairs.Asks.{Asks}
 use Rattle.terms.specs.Table.{run, start, argsOf, made, trees, Good}
 use Rattle.terms.specs.Collect.{tree, Readable}
-use Rattle.terms.specs.Unify.{Searchable, Comparable, BindsTo, PartsAt, Answered}
+use Rattle.terms.specs.Pairs.{Searchable, Comparable, BindsTo, PartsAt, Answered}
 use Rattle.terms.proofs.Words.{run-length}
 use Rattle.terms.proofs.Tables.{length-trees, args-count}
 use Rattle.terms.proofs.Terms.{node-rise, node-narrow, node-within, node-inside, start-in, term-app, term-var, args-below}

@@ -5,7 +5,7 @@ use native.Mathlib.Omega.{arith}
 use native.Mathlib.Numerals.{add-one}
 use mathlib.Core.List.{List, [], _∷_}
 use lib.ListN.{length, getD, set, length-set}
-use Rattle.terms.specs.Unify.{piled}
+use Rattle.terms.specs.Pairs.{piled}
 
 pub record Piling (W : List ℕ) (a b n : ℕ) (P : List ℕ) (w : ℕ) (now : List ℕ) (k : ℕ) : Type 0 where
   pub upto : k ≤ n

@@ -1,28 +1,28 @@
 use Rattle.terms.proofs.Compares.{bind-clash, bind-to, searches}
 use borrow.Author.Needs.{needs}
-use Rattle.terms.proofs.unify.bind.Statement.{statement}
-use Rattle.terms.proofs.unify.bind.Tie as tie
-use Rattle.terms.proofs.unify.bind.Reads as reads
-use Rattle.terms.proofs.unify.bind.Lts as lts
+use Rattle.terms.proofs.pairs.bind.Statement.{statement}
+use Rattle.terms.proofs.pairs.bind.Tie as tie
+use Rattle.terms.proofs.pairs.bind.Reads as reads
+use Rattle.terms.proofs.pairs.bind.Lts as lts
 use Rattle.terms.proofs.variables.occurs.Reads as occurs-reads
 
--- src/unify.rt:29:8
+-- src/pairs.rt:29:8
 occurs-requires : tie.Need-occurs-requires
 occurs-requires c κs = (searches _ _ _ _ 0 _ ((c .before .before .before .before .pre) .0), ((c .before .before .before .before .pre) .0 .fresh, (c .before .before .before .before .pre) .1))
 
--- src/unify.rt:30:9
+-- src/pairs.rt:30:9
 same-length : tie.Need-same-length
 same-length c = search needs
 
--- src/unify.rt:30:9
+-- src/pairs.rt:30:9
 returns : tie.Need-returns
 returns c = (bind-clash _ _ _ ((c .before .before .before .occurs) .ensures .0) ((c .if1) .taken), (c .before .before .before .occurs) .ensures .1)
 
--- src/unify.rt:24:1
+-- src/pairs.rt:24:1
 same-length-2 : tie.Need-same-length-2
 same-length-2 c = search needs
 
--- src/unify.rt:24:1
+-- src/pairs.rt:24:1
 returns-2 : tie.Need-returns-2
 returns-2 c = (bind-to _ _ _ _ _ _ ((c .before .before .before .before .before .before .before .before .pre) .0) ((c .before .before .before .before .before .before .before .before .pre) .1) _ ((c .before .before .before .occurs) .ensures .0) ((c .if1) .left), (c .before .before .before .occurs) .ensures .1)
 

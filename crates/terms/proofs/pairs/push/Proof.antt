@@ -3,10 +3,10 @@ use native.Mathlib.Omega.{arith}
 use lib.ListN.{getD, length-set}
 use Rattle.terms.proofs.Piles.{Piling, piling-begins, piling-on, piling-ends}
 use borrow.Author.Needs.{needs}
-use Rattle.terms.proofs.unify.push.Statement.{statement}
-use Rattle.terms.proofs.unify.push.Tie as tie
-use Rattle.terms.proofs.unify.push.Reads as reads
-use Rattle.terms.proofs.unify.push.Lts as lts
+use Rattle.terms.proofs.pairs.push.Statement.{statement}
+use Rattle.terms.proofs.pairs.push.Tie as tie
+use Rattle.terms.proofs.pairs.push.Reads as reads
+use Rattle.terms.proofs.pairs.push.Lts as lts
 
 abbrev Inv-loop : tie.InvT-loop
 Inv-loop words left right count pairs₀ waiting k₀ pairs k = Piling words left right count pairs₀ waiting pairs k
@@ -14,87 +14,87 @@ Inv-loop words left right count pairs₀ waiting k₀ pairs k = Piling words lef
 abbrev μ-loop : tie.MeasureT-loop
 μ-loop words left right count pairs₀ waiting k₀ pairs k = count - k
 
--- src/unify.rt:70:5
+-- src/pairs.rt:70:5
 loop-holds : tie.Need-loop-holds Inv-loop μ-loop
 loop-holds c = piling-begins _ _ _ _ _ _ (c .pre)
 
--- src/unify.rt:71:42
+-- src/pairs.rt:71:42
 add-pairs : tie.Need-add-pairs Inv-loop μ-loop
 add-pairs c = omega (arith, (c .before .loop) .inv .left, (c .before .loop) .inv .right, (c .before .loop) .inv .room, (c .before .loop) .inv .long, (c .loop-test) .taken, (c .before .before .good) .0 .0, (c .before .before .good) .0 .1, (c .before .before .good) .1 .1 .1 .1 .0 .0, (c .before .before .good) .1 .1 .1 .1 .0 .1)
 
--- src/unify.rt:71:36
+-- src/pairs.rt:71:36
 mul-pairs : tie.Need-mul-pairs Inv-loop μ-loop
 mul-pairs c = omega (arith, (c .before .loop) .inv .left, (c .before .loop) .inv .right, (c .before .loop) .inv .room, (c .before .loop) .inv .long, (c .loop-test) .taken, (c .before .before .good) .0 .0, (c .before .before .good) .0 .1, (c .before .before .good) .1 .1 .1 .1 .0 .0, (c .before .before .good) .1 .1 .1 .1 .0 .1)
 
--- src/unify.rt:71:36
+-- src/pairs.rt:71:36
 shared-slice-read-pairs : tie.Need-shared-slice-read-pairs Inv-loop μ-loop
 shared-slice-read-pairs c = omega (arith, (c .before .before .loop) .inv .left, (c .before .before .loop) .inv .right, (c .before .before .loop) .inv .room, (c .before .before .loop) .inv .long, (c .before .loop-test) .taken)
 
--- src/unify.rt:71:20
+-- src/pairs.rt:71:20
 add-pairs-2 : tie.Need-add-pairs-2 Inv-loop μ-loop
 add-pairs-2 c = omega (arith, (c .before .before .loop) .inv .left, (c .before .before .loop) .inv .right, (c .before .before .loop) .inv .room, (c .before .before .loop) .inv .long, (c .before .loop-test) .taken, (c .before .before .before .good) .0 .0, (c .before .before .before .good) .0 .1, (c .before .before .before .good) .1 .1 .1 .1 .0 .0, (c .before .before .before .good) .1 .1 .1 .1 .0 .1)
 
--- src/unify.rt:71:15
+-- src/pairs.rt:71:15
 mul-pairs-2 : tie.Need-mul-pairs-2 Inv-loop μ-loop
 mul-pairs-2 c = omega (arith, (c .before .before .loop) .inv .left, (c .before .before .loop) .inv .right, (c .before .before .loop) .inv .room, (c .before .before .loop) .inv .long, (c .before .loop-test) .taken, (c .before .before .before .good) .0 .0, (c .before .before .before .good) .0 .1, (c .before .before .before .good) .1 .1 .1 .1 .0 .0, (c .before .before .before .good) .1 .1 .1 .1 .0 .1)
 
--- src/unify.rt:71:9
+-- src/pairs.rt:71:9
 mul-pairs-3 : tie.Need-mul-pairs-3 Inv-loop μ-loop
 mul-pairs-3 c = omega (arith, (c .before .before .loop) .inv .left, (c .before .before .loop) .inv .right, (c .before .before .loop) .inv .room, (c .before .before .loop) .inv .long, (c .before .loop-test) .taken, (c .before .before .before .good) .0 .0, (c .before .before .before .good) .0 .1, (c .before .before .before .good) .1 .1 .1 .1 .0 .0, (c .before .before .before .good) .1 .1 .1 .1 .0 .1)
 
--- src/unify.rt:71:9
+-- src/pairs.rt:71:9
 slice-write-pairs : tie.Need-slice-write-pairs Inv-loop μ-loop
 slice-write-pairs c = omega (arith, (c .before .before .loop) .inv .left, (c .before .before .loop) .inv .right, (c .before .before .loop) .inv .room, (c .before .before .loop) .inv .long, (c .before .loop-test) .taken)
 
--- src/unify.rt:72:46
+-- src/pairs.rt:72:46
 add-pairs-3 : tie.Need-add-pairs-3 Inv-loop μ-loop
 add-pairs-3 c = omega (arith, (c .before .before .loop) .inv .left, (c .before .before .loop) .inv .right, (c .before .before .loop) .inv .room, (c .before .before .loop) .inv .long, (c .before .loop-test) .taken, (c .before .before .before .good) .0 .0, (c .before .before .before .good) .0 .1, (c .before .before .before .good) .1 .1 .1 .1 .0 .0, (c .before .before .before .good) .1 .1 .1 .1 .0 .1)
 
--- src/unify.rt:72:40
+-- src/pairs.rt:72:40
 mul-pairs-4 : tie.Need-mul-pairs-4 Inv-loop μ-loop
 mul-pairs-4 c = omega (arith, (c .before .before .loop) .inv .left, (c .before .before .loop) .inv .right, (c .before .before .loop) .inv .room, (c .before .before .loop) .inv .long, (c .before .loop-test) .taken, (c .before .before .before .good) .0 .0, (c .before .before .before .good) .0 .1, (c .before .before .before .good) .1 .1 .1 .1 .0 .0, (c .before .before .before .good) .1 .1 .1 .1 .0 .1)
 
--- src/unify.rt:72:40
+-- src/pairs.rt:72:40
 shared-slice-read-pairs-2 : tie.Need-shared-slice-read-pairs-2 Inv-loop μ-loop
 shared-slice-read-pairs-2 c = omega (arith, (c .before .before .before .loop) .inv .left, (c .before .before .before .loop) .inv .right, (c .before .before .before .loop) .inv .room, (c .before .before .before .loop) .inv .long, (c .before .before .loop-test) .taken)
 
--- src/unify.rt:72:20
+-- src/pairs.rt:72:20
 add-pairs-4 : tie.Need-add-pairs-4 Inv-loop μ-loop
 add-pairs-4 c = omega (arith, (c .before .before .before .loop) .inv .left, (c .before .before .before .loop) .inv .right, (c .before .before .before .loop) .inv .room, (c .before .before .before .loop) .inv .long, (c .before .before .loop-test) .taken, (c .before .before .before .before .good) .0 .0, (c .before .before .before .before .good) .0 .1, (c .before .before .before .before .good) .1 .1 .1 .1 .0 .0, (c .before .before .before .before .good) .1 .1 .1 .1 .0 .1)
 
--- src/unify.rt:72:15
+-- src/pairs.rt:72:15
 mul-pairs-5 : tie.Need-mul-pairs-5 Inv-loop μ-loop
 mul-pairs-5 c = omega (arith, (c .before .before .before .loop) .inv .left, (c .before .before .before .loop) .inv .right, (c .before .before .before .loop) .inv .room, (c .before .before .before .loop) .inv .long, (c .before .before .loop-test) .taken, (c .before .before .before .before .good) .0 .0, (c .before .before .before .before .good) .0 .1, (c .before .before .before .before .good) .1 .1 .1 .1 .0 .0, (c .before .before .before .before .good) .1 .1 .1 .1 .0 .1)
 
--- src/unify.rt:72:15
+-- src/pairs.rt:72:15
 add-pairs-5 : tie.Need-add-pairs-5 Inv-loop μ-loop
 add-pairs-5 c = omega (arith, (c .before .before .before .loop) .inv .left, (c .before .before .before .loop) .inv .right, (c .before .before .before .loop) .inv .room, (c .before .before .before .loop) .inv .long, (c .before .before .loop-test) .taken, (c .before .before .before .before .good) .0 .0, (c .before .before .before .before .good) .0 .1, (c .before .before .before .before .good) .1 .1 .1 .1 .0 .0, (c .before .before .before .before .good) .1 .1 .1 .1 .0 .1)
 
--- src/unify.rt:72:9
+-- src/pairs.rt:72:9
 mul-pairs-6 : tie.Need-mul-pairs-6 Inv-loop μ-loop
 mul-pairs-6 c = omega (arith, (c .before .before .before .loop) .inv .left, (c .before .before .before .loop) .inv .right, (c .before .before .before .loop) .inv .room, (c .before .before .before .loop) .inv .long, (c .before .before .loop-test) .taken, (c .before .before .before .before .good) .0 .0, (c .before .before .before .before .good) .0 .1, (c .before .before .before .before .good) .1 .1 .1 .1 .0 .0, (c .before .before .before .before .good) .1 .1 .1 .1 .0 .1)
 
--- src/unify.rt:72:9
+-- src/pairs.rt:72:9
 slice-write-pairs-2 : tie.Need-slice-write-pairs-2 Inv-loop μ-loop
 slice-write-pairs-2 c = omega (arith, (c .before .before .before .loop) .inv .room, (c .before .before .before .loop) .inv .long, (c .before .before .loop-test) .taken, length-set ((c .before .before .before .loop) .pairs) (2 * ((c .before .before .before .before .args) .waiting + (c .before .before .before .loop) .k)) (getD ((c .before .before .before .before .args) .words .now) ((c .before .before .before .before .args) .left + (c .before .before .before .loop) .k) 0))
 
--- src/unify.rt:73:9
+-- src/pairs.rt:73:9
 add-k : tie.Need-add-k Inv-loop μ-loop
 add-k c = omega (arith, (c .before .before .before .loop) .inv .left, (c .before .before .before .loop) .inv .right, (c .before .before .before .loop) .inv .room, (c .before .before .before .loop) .inv .long, (c .before .before .loop-test) .taken, (c .before .before .before .before .good) .0 .0, (c .before .before .before .before .good) .0 .1, (c .before .before .before .before .good) .1 .1 .1 .1 .0 .0, (c .before .before .before .before .good) .1 .1 .1 .1 .0 .1)
 
--- src/unify.rt:70:5
+-- src/pairs.rt:70:5
 loop-less : tie.Need-loop-less Inv-loop μ-loop
 loop-less c = omega (arith, (c .before .before .loop-test) .taken)
 
--- src/unify.rt:70:5
+-- src/pairs.rt:70:5
 loop-again : tie.Need-loop-again Inv-loop μ-loop
 loop-again c = piling-on _ _ _ _ _ _ _ _ ((c .before .before .before .loop) .inv) ((c .before .before .loop-test) .taken)
 
--- src/unify.rt:65:1
+-- src/pairs.rt:65:1
 same-length : tie.Need-same-length Inv-loop μ-loop
 same-length c = (c .before .loop) .inv .long
 
--- src/unify.rt:65:1
+-- src/pairs.rt:65:1
 returns : tie.Need-returns Inv-loop μ-loop
 returns c = piling-ends _ _ _ _ _ _ _ _ ((c .before .loop) .inv) ((c .loop-test) .left)
 

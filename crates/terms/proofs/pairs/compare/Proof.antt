@@ -3,126 +3,126 @@ use mathlib.Core.Path.{refl, _∙_}
 use Rattle.terms.proofs.Terms.{start-in, end-in, node-rise, node-inside}
 use Rattle.terms.proofs.Compares.{both-one, left-asks, left-binds, right-asks, right-binds, heads-clash, counts-clash, parts-at}
 use borrow.Author.Needs.{needs}
-use Rattle.terms.proofs.unify.compare.Statement.{statement}
-use Rattle.terms.proofs.unify.compare.Tie as tie
-use Rattle.terms.proofs.unify.compare.Reads as reads
-use Rattle.terms.proofs.unify.compare.Lts as lts
+use Rattle.terms.proofs.pairs.compare.Statement.{statement}
+use Rattle.terms.proofs.pairs.compare.Tie as tie
+use Rattle.terms.proofs.pairs.compare.Reads as reads
+use Rattle.terms.proofs.pairs.compare.Lts as lts
 use Rattle.terms.proofs.store.start_of.Reads as start-of-reads
-use Rattle.terms.proofs.unify.bind.Reads as bind-reads
+use Rattle.terms.proofs.pairs.bind.Reads as bind-reads
 
--- src/unify.rt:42:9
+-- src/pairs.rt:42:9
 returns : tie.Need-returns
 returns c = (both-one _ _ _ _ _ _ (c .before .before .before .before .pre) ((c .if1) .taken), refl)
 
--- src/unify.rt:44:9
+-- src/pairs.rt:44:9
 start-of-requires : tie.Need-start-of-requires
 start-of-requires c κs = omega (arith, end-in _ _ _ ((c .before .before .before .before .pre) .left .good) _ ((c .before .before .before .before .pre) .left .there))
 
--- src/unify.rt:45:16
+-- src/pairs.rt:45:16
 mul-head : tie.Need-mul-head
 mul-head c = omega (arith, start-in _ _ _ ((c .before .before .before .before .before .pre) .left .good) _ ((c .before .before .before .before .before .pre) .left .there) _ ((c .start-of) .ensures), (c .before .before .before .before .before .pre) .left .good .words)
 
--- src/unify.rt:45:16
+-- src/pairs.rt:45:16
 shared-slice-read-head : tie.Need-shared-slice-read-head
 shared-slice-read-head c = start-in _ _ _ ((c .before .before .before .before .before .before .pre) .left .good) _ ((c .before .before .before .before .before .before .pre) .left .there) _ ((c .before .start-of) .ensures)
 
--- src/unify.rt:45:16
+-- src/pairs.rt:45:16
 cast-head : tie.Need-cast-head
 cast-head c = omega (arith, (c .shared-slice-known3) .given ((c .before .start-of) .result))
 
--- src/unify.rt:47:9
+-- src/pairs.rt:47:9
 bind-requires : tie.Need-bind-requires
 bind-requires c κs = left-asks _ _ _ _ _ _ (c .before .before .before .before .before .before .before .before .pre) ((c .before .before .before .before .if1) .left) _ ((c .before .before .before .start-of) .ensures) ((c .before .if2) .taken)
 
--- src/unify.rt:47:9
+-- src/pairs.rt:47:9
 same-length : tie.Need-same-length
 same-length c = search needs
 
--- src/unify.rt:47:9
+-- src/pairs.rt:47:9
 returns-2 : tie.Need-returns-2
 returns-2 c = (left-binds _ _ _ _ _ _ (c .before .before .before .before .before .before .before .before .before .before .before .pre) ((c .before .before .before .before .before .before .before .if1) .left) _ ((c .before .before .before .before .before .before .start-of) .ensures) ((c .before .before .before .before .if2) .taken) ((c .before .before .bind) .result) ((c .before .before .bind) .ensures .0), (c .before .before .bind) .ensures .1)
 
--- src/unify.rt:49:9
+-- src/pairs.rt:49:9
 start-of-requires-2 : tie.Need-start-of-requires-2
 start-of-requires-2 c κs = omega (arith, end-in _ _ _ ((c .before .before .before .before .before .before .before .pre) .right .good) _ ((c .before .before .before .before .before .before .before .pre) .right .there))
 
--- src/unify.rt:50:17
+-- src/pairs.rt:50:17
 mul-other : tie.Need-mul-other
 mul-other c = omega (arith, start-in _ _ _ ((c .before .before .before .before .before .before .before .before .pre) .right .good) _ ((c .before .before .before .before .before .before .before .before .pre) .right .there) _ ((c .start-of2) .ensures), (c .before .before .before .before .before .before .before .before .pre) .right .good .words)
 
--- src/unify.rt:50:17
+-- src/pairs.rt:50:17
 shared-slice-read-other : tie.Need-shared-slice-read-other
 shared-slice-read-other c = start-in _ _ _ ((c .before .before .before .before .before .before .before .before .before .pre) .right .good) _ ((c .before .before .before .before .before .before .before .before .before .pre) .right .there) _ ((c .before .start-of2) .ensures)
 
--- src/unify.rt:50:17
+-- src/pairs.rt:50:17
 cast-other : tie.Need-cast-other
 cast-other c = omega (arith, (c .shared-slice-known4) .given ((c .before .start-of2) .result))
 
--- src/unify.rt:52:9
+-- src/pairs.rt:52:9
 bind-requires-2 : tie.Need-bind-requires-2
 bind-requires-2 c κs = right-asks _ _ _ _ _ _ (c .before .before .before .before .before .before .before .before .before .before .before .pre) ((c .before .before .before .before .before .before .before .if1) .left) _ ((c .before .before .before .before .before .before .start-of) .ensures) ((c .before .before .before .before .if2) .left) _ ((c .before .before .before .start-of2) .ensures) ((c .before .if3) .taken)
 
--- src/unify.rt:52:9
+-- src/pairs.rt:52:9
 same-length-2 : tie.Need-same-length-2
 same-length-2 c = search needs
 
--- src/unify.rt:52:9
+-- src/pairs.rt:52:9
 returns-3 : tie.Need-returns-3
 returns-3 c = (right-binds _ _ _ _ _ _ (c .before .before .before .before .before .before .before .before .before .before .before .before .before .before .pre) ((c .before .before .before .before .before .before .before .before .before .before .if1) .left) _ ((c .before .before .before .before .before .before .before .before .before .start-of) .ensures) ((c .before .before .before .before .before .before .before .if2) .left) _ ((c .before .before .before .before .before .before .start-of2) .ensures) ((c .before .before .before .before .if3) .taken) ((c .before .before .bind2) .result) ((c .before .before .bind2) .ensures .0), (c .before .before .bind2) .ensures .1)
 
--- src/unify.rt:55:9
+-- src/pairs.rt:55:9
 returns-4 : tie.Need-returns-4
 returns-4 c = (heads-clash _ _ _ _ _ _ (c .before .before .before .before .before .before .before .before .before .before .before .pre) ((c .before .before .before .before .before .before .before .if1) .left) _ ((c .before .before .before .before .before .before .start-of) .ensures) ((c .before .before .before .before .if2) .left) _ ((c .before .before .before .start-of2) .ensures) ((c .before .if3) .left) ((c .if4) .taken), refl)
 
--- src/unify.rt:57:17
+-- src/pairs.rt:57:17
 mul-count : tie.Need-mul-count
 mul-count c = omega (arith, end-in _ _ _ ((c .before .before .before .before .before .before .before .before .before .before .before .pre) .left .good) _ ((c .before .before .before .before .before .before .before .before .before .before .before .pre) .left .there), (c .before .before .before .before .before .before .before .before .before .before .before .pre) .left .good .index)
 
--- src/unify.rt:57:17
+-- src/pairs.rt:57:17
 shared-slice-read-count : tie.Need-shared-slice-read-count
 shared-slice-read-count c = end-in _ _ _ ((c .before .before .before .before .before .before .before .before .before .before .before .before .pre) .left .good) _ ((c .before .before .before .before .before .before .before .before .before .before .before .before .pre) .left .there)
 
--- src/unify.rt:57:17
+-- src/pairs.rt:57:17
 cast-count : tie.Need-cast-count
 cast-count c = omega (arith, (c .shared-slice-known5) .given ((c .before .before .before .before .before .before .before .before .before .before .before .before .args) .s))
 
--- src/unify.rt:57:17
+-- src/pairs.rt:57:17
 sub-count : tie.Need-sub-count
 sub-count c = omega (arith, node-rise _ _ _ ((c .before .before .before .before .before .before .before .before .before .before .before .before .pre) .left .good) _ ((c .before .before .before .before .before .before .before .before .before .before .before .before .pre) .left .there) _ ((c .before .before .before .before .before .before .before .start-of) .ensures))
 
--- src/unify.rt:58:8
+-- src/pairs.rt:58:8
 mul-if5 : tie.Need-mul-if5
 mul-if5 c = omega (arith, end-in _ _ _ ((c .before .before .before .before .before .before .before .before .before .before .before .before .pre) .right .good) _ ((c .before .before .before .before .before .before .before .before .before .before .before .before .pre) .right .there), (c .before .before .before .before .before .before .before .before .before .before .before .before .pre) .right .good .index)
 
--- src/unify.rt:58:8
+-- src/pairs.rt:58:8
 shared-slice-read-if5 : tie.Need-shared-slice-read-if5
 shared-slice-read-if5 c = end-in _ _ _ ((c .before .before .before .before .before .before .before .before .before .before .before .before .before .pre) .right .good) _ ((c .before .before .before .before .before .before .before .before .before .before .before .before .before .pre) .right .there)
 
--- src/unify.rt:58:8
+-- src/pairs.rt:58:8
 cast-if5 : tie.Need-cast-if5
 cast-if5 c = omega (arith, (c .shared-slice-known6) .given ((c .before .before .before .before .before .before .before .before .before .before .before .before .before .args) .t))
 
--- src/unify.rt:58:8
+-- src/pairs.rt:58:8
 sub-if5 : tie.Need-sub-if5
 sub-if5 c = omega (arith, node-rise _ _ _ ((c .before .before .before .before .before .before .before .before .before .before .before .before .before .pre) .right .good) _ ((c .before .before .before .before .before .before .before .before .before .before .before .before .before .pre) .right .there) _ ((c .before .before .before .before .before .start-of2) .ensures))
 
--- src/unify.rt:59:9
+-- src/pairs.rt:59:9
 returns-5 : tie.Need-returns-5
 returns-5 c = (counts-clash _ _ _ _ _ _ (c .before .before .before .before .before .before .before .before .before .before .before .before .before .before .pre) ((c .before .before .before .before .before .before .before .before .before .before .if1) .left) _ ((c .before .before .before .before .before .before .before .before .before .start-of) .ensures) ((c .before .before .before .before .before .before .before .if2) .left) _ ((c .before .before .before .before .before .before .start-of2) .ensures) ((c .before .before .before .before .if3) .left) ((c .before .before .before .if4) .left) ((c .if5) .taken), refl)
 
--- src/unify.rt:61:17
+-- src/pairs.rt:61:17
 add-t13 : tie.Need-add-t13
 add-t13 c = omega (arith, start-in _ _ _ ((c .before .before .before .before .before .before .before .before .before .before .before .before .before .before .pre) .left .good) _ ((c .before .before .before .before .before .before .before .before .before .before .before .before .before .before .pre) .left .there) _ ((c .before .before .before .before .before .before .before .before .before .start-of) .ensures), (c .before .before .before .before .before .before .before .before .before .before .before .before .before .before .pre) .left .good .words)
 
--- src/unify.rt:61:27
+-- src/pairs.rt:61:27
 add-t24 : tie.Need-add-t24
 add-t24 c = omega (arith, start-in _ _ _ ((c .before .before .before .before .before .before .before .before .before .before .before .before .before .before .pre) .right .good) _ ((c .before .before .before .before .before .before .before .before .before .before .before .before .before .before .pre) .right .there) _ ((c .before .before .before .before .before .before .start-of2) .ensures), (c .before .before .before .before .before .before .before .before .before .before .before .before .before .before .pre) .right .good .words)
 
--- src/unify.rt:61:38
+-- src/pairs.rt:61:38
 sub-t26 : tie.Need-sub-t26
 sub-t26 c = omega (arith, node-rise _ _ _ ((c .before .before .before .before .before .before .before .before .before .before .before .before .before .before .pre) .left .good) _ ((c .before .before .before .before .before .before .before .before .before .before .before .before .before .before .pre) .left .there) _ ((c .before .before .before .before .before .before .before .before .before .start-of) .ensures))
 
--- src/unify.rt:36:1
+-- src/pairs.rt:36:1
 returns-6 : tie.Need-returns-6
 returns-6 c = (parts-at _ _ _ _ _ _ (c .before .before .before .before .before .before .before .before .before .before .before .before .before .before .pre) ((c .before .before .before .before .before .before .before .before .before .before .if1) .left) _ ((c .before .before .before .before .before .before .before .before .before .start-of) .ensures) ((c .before .before .before .before .before .before .before .if2) .left) _ ((c .before .before .before .before .before .before .start-of2) .ensures) ((c .before .before .before .before .if3) .left) ((c .before .before .before .if4) .left) ((c .if5) .left), refl)
 

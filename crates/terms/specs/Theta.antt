@@ -1,0 +1,59 @@
+-- A substitution that grows, in cells: the cell of a variable has the number of its value with 1 added; 0 leaves the variable. What the
+-- contract of `extend` cites. Assumes nothing.
+use mathlib.Core.Path.{_≡_}
+use Prim.Native.Nat.{ℕ, suc, _-_, _≤_, _<_}
+use mathlib.Core.Bool.{Bool, true, false}
+use mathlib.Core.List.{List, [], _∷_}
+use lib.ListN.{length, getD, replicate}
+use lib.Dec.{eqb}
+use Rattle.rules.specs.Limits.{VARIABLES, TERMS}
+use Rattle.rules.specs.Out.{Out, ok}
+use Rattle.rules.specs.Tree.{var}
+use Rattle.rules.specs.Store.{Made}
+use Rattle.rules.specs.Unify.{Binding, insert, replace}
+use Rattle.terms.specs.declared.store.Mark.{Mark}
+use Rattle.terms.specs.declared.theta.Grew.{Grew}
+use Rattle.terms.specs.declared.theta.Grew.the-variants.{Ok, Full}
+use Rattle.terms.specs.Table.{made, Good, Grown, Refused}
+use Rattle.terms.specs.Collect.{tree}
+
+-- the bindings that the cells of variable v and the ones behind it stand for
+unfoldable pub bindings : Made → List ℕ → ℕ → List Binding
+bindings M [] v = []
+bindings M (c ∷ cs) v = elim (eqb c 0) [
+  | true ↦ bindings M cs (suc v)
+  | false ↦ record { variable = v; value = getD M (c - 1) (var 0) } ∷ bindings M cs (suc v)
+]
+
+-- cells for every variable, of terms that are there
+pub record Theta (m : Mark) (theta : List ℕ) : Type 0 where
+  pub long : length theta ≡ VARIABLES
+  pub bound : (v : ℕ) → getD theta v 0 ≤ m .terms
+
+abbrev pub Zeros : List ℕ → Type 0
+Zeros cells = cells ≡ replicate (length cells) 0
+
+-- a variable without a value, and a term for it
+pub record Extendable (I W : List ℕ) (m : Mark) (theta map memo : List ℕ) (x u : ℕ) : Type 0 where
+  pub good : Good I W m
+  pub cells : Theta m theta
+  pub small : x < VARIABLES
+  pub unbound : getD theta x 0 ≡ 0
+  pub there : u < m .terms
+  pub wide : length map ≡ VARIABLES
+  pub blank : Zeros map
+  pub long : TERMS ≤ length memo
+  pub empty : Zeros memo
+
+-- the values are changed, and x has its value among them
+pub record Bound (I W J X : List ℕ) (old : Mark) (theta : List ℕ) (x u : ℕ) (K : Out Made (List Binding)) (new : Mark) : Type 0 where
+  pub grown : Grown I W J X old new
+  pub values : List Binding
+  pub makes : K ≡ ok values (made J X new)
+  pub cells : Theta new theta
+  pub is : bindings (made J X new) theta 0 ≡ insert (record { variable = x; value = tree I W old u }) values
+
+-- theta: the cells afterwards
+abbrev pub Extended : List ℕ → List ℕ → List ℕ → List ℕ → Mark → List ℕ → ℕ → ℕ → Out Made (List Binding) → Grew → Type 0
+Extended I W J X old theta x u K (Ok new) = Bound I W J X old theta x u K new
+Extended I W J X old theta x u K (Full r new) = Refused (List Binding) I W J X old K r new × (length theta ≡ VARIABLES)
