@@ -11,6 +11,7 @@ use Rattle.rules.specs.Limits.{TERMS, WORDS}
 use Rattle.rules.specs.Out.{Out, ok, refuse, then}
 use Rattle.rules.specs.Tree.{Tree, Trees, var, app, none, more, node}
 use Rattle.rules.specs.Store.{Made, stored, words, keep, make, makes}
+use Rattle.rules.specs.Laws.Store.{words-more}
 use Rattle.meaning.specs.Written.{once, gather, gathers, few}
 
 -- More of them --------------------------------------------------------------------------------------------------------------------
@@ -29,18 +30,13 @@ small-within m u h s = record { terms = omega arith; words = omega arith }
 within-then : (m u v : Made) → Within m u → Within u v → Within m v
 within-then m u v h k = record { terms = omega arith; words = omega arith }
 
-words-snoc : (m : Made) (t : Tree) → words (m ++ (t ∷ [])) ≡ words m + node t
-unfolding words
-words-snoc [] t = omega arith
-words-snoc (u ∷ m) t = let h = words-snoc m t in omega arith
-
 once-within : (t : Tree) (m : Made) → Within m (once t m)
 unfolding once
 once-within t m = go (stored m t)
   where
     go : (b : Bool) → Within m (elim b as (λ _. Made) [ true ↦ m | false ↦ m ++ (t ∷ []) ])
     go true = record { terms = omega arith; words = omega arith }
-    go false = let a = length-append m (t ∷ []) in let b = words-snoc m t in record { terms = omega arith; words = omega arith }
+    go false = let a = length-append m (t ∷ []) in let b = words-more m t in record { terms = omega arith; words = omega arith }
 
 mutual
   unfolding gather
@@ -71,10 +67,10 @@ keep-holds t m s = go (stored m t) (ltb (length m) TERMS) (leb (words m + node t
         ]) (elim a as (λ _. Made) [ true ↦ m | false ↦ m ++ (t ∷ []) ])
     go true b c e f g = (refl, s)
     go false true true e f g =
-        let long = length-append m (t ∷ []) in let wide = words-snoc m t in
+        let long = length-append m (t ∷ []) in let wide = words-more m t in
         let room = ltb-true (length m) TERMS f in let fits = leb-true (words m + node t) WORDS g in
         (refl, record { terms = omega arith; words = omega arith })
-    go false true false e f g = λ h. let wide = words-snoc m t in let full = leb-false (words m + node t) WORDS g in omega arith
+    go false true false e f g = λ h. let wide = words-more m t in let full = leb-false (words m + node t) WORDS g in omega arith
     go false false c e f g = λ h. let long = length-append m (t ∷ []) in let full = ltb-false (length m) TERMS f in omega arith
 
 -- one action behind another

@@ -15,6 +15,7 @@ use Rattle.rules.specs.Find.{entry}
 use Rattle.rules.specs.Sexp.{Sexp}
 use Rattle.rules.specs.Tree.{Tree, Trees, app, sameTree, node}
 use Rattle.rules.specs.Laws.Tree.{same-tree, same-self}
+use Rattle.rules.specs.Laws.Store.{words-more}
 use Rattle.rules.specs.Store.{Made, stored, number, words}
 use Rattle.rules.specs.Theory.{Theory}
 use Rattle.rules.specs.State.{State, Counts, begin}
@@ -123,11 +124,6 @@ closed-below b (t ∷ m) c ts k (inl e) =
     (arguments-each (λ u. In u b) c ts (subst (Arguments (λ u. In u b)) (sym e) (k .0)))
 closed-below b (t ∷ m) c ts k (inr i) = subst (λ l. Each (λ u. In u l) ts) (append-assoc b (t ∷ []) m) (closed-below (b ++ (t ∷ [])) m c ts (k .1) i)
 
-pub words-snoc : (m : Made) (t : Tree) → words (m ++ (t ∷ [])) ≡ words m + node t
-unfolding words
-words-snoc [] t = omega arith
-words-snoc (u ∷ m) t = let e = words-snoc m t in omega arith
-
 pub not-stored : (m : Made) (t : Tree) → stored m t ≡ false → ¬ (In t m)
 not-stored m t e i = true≢false (sym (in-stored m t i) ∙ e)
 
@@ -140,7 +136,7 @@ sound = record {
     distinct = distinct-snoc m t (g .distinct) (not-stored m t e);
     closed = closed-snoc [] m t (g .closed) a;
     row8 = omega (arith, length-append m (t ∷ []));
-    row9 = omega (arith, words-snoc m t);
+    row9 = omega (arith, words-more m t);
   };
   last = in-last;
   longer = in-front;
