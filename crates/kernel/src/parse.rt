@@ -36,15 +36,5 @@ pub fn parse(
         ≡ laid (tables (now (sorts .entry)) (now (symbols .entry)) (now (inputs .entry)) (now (rules .entry)) (now (vars .entry)) (now (patterns .entry))) (theoryOf (verdict (now (text .entry)))) ⌝ }
     ensures { λ _. ⌜ now (cells .exit) ≡ now (cells .entry) ⌝ }
 {
-    Judged::Refused(
-        4,
-        0,
-        0,
-        Counts {
-            sorts: 0,
-            symbols: 0,
-            rules: 0,
-            words: 0,
-        },
-    )
+    Judged::Refused(4, 0, 0, Counts { sorts: 0, symbols: 0, rules: 0, words: 0 })
 }
