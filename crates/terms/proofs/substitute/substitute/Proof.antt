@@ -4,7 +4,7 @@ use Rattle.terms.proofs.substitute.substitute.Statement.{statement}
 use Rattle.terms.proofs.substitute.substitute.Tie as tie
 use Rattle.terms.proofs.substitute.substitute.Reads as reads
 use Rattle.terms.proofs.substitute.substitute.Lts as lts
-use Rattle.terms.proofs.substitute.replace.Reads as replace-reads
+use Rattle.terms.proofs.replace.replace.Reads as replace-reads
 use Rattle.terms.proofs.store.wipe.Reads as wipe-reads
 
 -- src/substitute.rt:135:46
