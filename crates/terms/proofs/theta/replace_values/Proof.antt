@@ -18,7 +18,7 @@ abbrev μ-loop : tie.MeasureT-loop
 
 -- src/theta.rt:35:5
 loop-holds : tie.Need-loop-holds Inv-loop μ-loop
-loop-holds c = changing-begins _ _ _ _ _ _ (c .pre)
+loop-holds c = changing-begins _ _ _ _ _ _ (c .before .before .before .before .before .pre)
 
 -- src/theta.rt:36:21
 mul-bound : tie.Need-mul-bound Inv-loop μ-loop
@@ -30,7 +30,7 @@ slice-read-bound c = search needs
 
 -- src/theta.rt:36:21
 cast-bound : tie.Need-cast-bound Inv-loop μ-loop
-cast-bound c = ?
+cast-bound c = omega (arith, (c .slice-known5) .given ((c .before .before .loop) .v))
 
 -- src/theta.rt:38:13
 add-v : tie.Need-add-v Inv-loop μ-loop
@@ -42,7 +42,7 @@ loop-less c = search needs
 
 -- src/theta.rt:35:5
 loop-again : tie.Need-loop-again Inv-loop μ-loop
-loop-again c = ?
+loop-again c = changing-skip _ _ _ _ _ _ _ _ _ _ _ _ ((c .before .before .before .loop) .inv) ((c .before .before .loop-test) .taken) ((c .if1) .taken)
 
 -- src/theta.rt:41:51
 sub-replace : tie.Need-sub-replace Inv-loop μ-loop
@@ -50,7 +50,7 @@ sub-replace c = search needs
 
 -- src/theta.rt:41:15
 replace-requires : tie.Need-replace-requires Inv-loop μ-loop
-replace-requires c κs = ?
+replace-requires c κs = value-ready _ _ _ _ _ _ _ _ _ _ _ _ ((c .before .before .before .before .before .before .loop) .inv) ((c .before .before .before .before .before .loop-test) .taken) ((c .before .before .before .if1) .left)
 
 -- src/theta.rt:42:24
 enum-known-n : tie.Need-enum-known-n Inv-loop μ-loop
@@ -58,11 +58,11 @@ enum-known-n c = search needs
 
 -- src/theta.rt:43:29
 add-theta : tie.Need-add-theta Inv-loop μ-loop
-add-theta c = ?
+add-theta c = omega (arith, term-there _ _ _ _ _ _ _ _ _ _ _ _ ((c .before .before .before .before .before .before .before .before .before .before .before .before .before .before .before .before .loop) .inv) ((c .before .before .before .before .before .before .before .before .before .before .before .before .before .before .before .loop-test) .taken) ((c .before .before .before .before .before .before .before .before .before .before .before .before .before .if1) .left) _ _ ((c .before .before .before .before .before .before .before .before .before .replace) .last .1 .1 .1 .1 .0) ((c .before .before .before .before .before .before .before .before .before .replace) .result) ((c .before .before .before .before .before .before .before .before .before .replace) .ensures) _ _ ((c .before .n) .given .1))
 
 -- src/theta.rt:43:28
 cast-theta : tie.Need-cast-theta Inv-loop μ-loop
-cast-theta c = ?
+cast-theta c = omega (arith, term-there _ _ _ _ _ _ _ _ _ _ _ _ ((c .before .before .before .before .before .before .before .before .before .before .before .before .before .before .before .before .loop) .inv) ((c .before .before .before .before .before .before .before .before .before .before .before .before .before .before .before .loop-test) .taken) ((c .before .before .before .before .before .before .before .before .before .before .before .before .before .if1) .left) _ _ ((c .before .before .before .before .before .before .before .before .before .replace) .last .1 .1 .1 .1 .0) ((c .before .before .before .before .before .before .before .before .before .replace) .result) ((c .before .before .before .before .before .before .before .before .before .replace) .ensures) _ _ ((c .before .n) .given .1))
 
 -- src/theta.rt:43:17
 mul-theta : tie.Need-mul-theta Inv-loop μ-loop
@@ -94,7 +94,7 @@ same-length-4 c = search needs
 
 -- src/theta.rt:47:17
 returns : tie.Need-returns Inv-loop μ-loop
-returns c = ?
+returns c = value-full _ _ _ _ _ _ _ _ _ _ _ _ ((c .before .before .before .before .before .before .before .before .before .before .before .before .before .before .before .before .loop) .inv) ((c .before .before .before .before .before .before .before .before .before .before .before .before .before .before .before .loop-test) .taken) ((c .before .before .before .before .before .before .before .before .before .before .before .before .before .if1) .left) _ _ ((c .before .before .before .before .before .before .before .before .before .replace) .last .1 .1 .1 .1 .0) ((c .before .before .before .before .before .before .before .before .before .replace) .result) ((c .before .before .before .before .before .before .before .before .before .replace) .ensures) _ _ ((c .before .row) .given .1)
 
 -- src/theta.rt:50:9
 add-v-2 : tie.Need-add-v-2 Inv-loop μ-loop
@@ -106,7 +106,7 @@ loop-less-2 c = search needs
 
 -- src/theta.rt:35:5
 loop-again-2 : tie.Need-loop-again-2 Inv-loop μ-loop
-loop-again-2 c = ?
+loop-again-2 c = value-term _ _ _ _ _ _ _ _ _ _ _ _ ((c .before .before .before .before .before .before .before .before .before .before .before .before .before .before .before .before .loop) .inv) ((c .before .before .before .before .before .before .before .before .before .before .before .before .before .before .before .loop-test) .taken) ((c .before .before .before .before .before .before .before .before .before .before .before .before .before .if1) .left) _ _ ((c .before .before .before .before .before .before .before .before .before .replace) .last .1 .1 .1 .1 .0) ((c .before .before .before .before .before .before .before .before .before .replace) .result) ((c .before .before .before .before .before .before .before .before .before .replace) .ensures) ((c .before .before .before .before .before .before .before .before .before .replace) .kept .1 .1 .1 .1 .0) _ _ ((c .before .n) .given .1)
 
 -- src/theta.rt:21:1
 same-length-5 : tie.Need-same-length-5 Inv-loop μ-loop
@@ -126,7 +126,7 @@ same-length-8 c = search needs
 
 -- src/theta.rt:21:1
 returns-2 : tie.Need-returns-2 Inv-loop μ-loop
-returns-2 c = ?
+returns-2 c = changing-ends _ _ _ _ _ _ _ _ _ _ _ _ ((c .before .loop) .inv) ((c .loop-test) .left)
 
 pub replace-values-spec : {M : Type 1} → statement M
 replace-values-spec =
