@@ -32,3 +32,4 @@ pub mod Piles
 pub mod Waits
 pub mod Bindings
 pub mod Values
+pub mod Extends
