@@ -1,12 +1,12 @@
 -- A substitution that gets one binding more: the values change first, then the variable has its own. Assumes nothing.
 use mathlib.Core.Path.{_≡_, refl, sym, ap, _∙_, subst}
 use mathlib.Core.List.{List, [], _∷_}
-use Prim.Native.Nat.{ℕ, zero, suc, _+_, _-_, _≤_, _<_}
+use Prim.Native.Nat.{ℕ, _+_, _-_, _≤_, _<_}
 use native.Mathlib.Omega.{arith}
 use native.Mathlib.Decide.{ℕ-discrete}
-use lib.ListN.{length, getD, set, take, replicate, length-set}
+use lib.ListN.{length, getD, set, take, length-set}
 use lib.Seq.{getD-set-same, getD-set-other, ext-getD}
-use Rattle.rules.specs.Limits.{VARIABLES, TERMS}
+use Rattle.rules.specs.Limits.{VARIABLES}
 use Rattle.rules.specs.Out.{Out, ok, then, Act}
 use Rattle.rules.specs.Tree.{Tree, var, single}
 use Rattle.rules.specs.Store.{Made, substitute}
@@ -17,11 +17,11 @@ use Rattle.terms.specs.declared.theta.Grew.the-variants.{Ok, Full}
 use Rattle.terms.specs.Table.{made, Refused}
 use Rattle.terms.specs.Collect.{tree}
 use Rattle.terms.specs.Subst.{replacement}
-use Rattle.terms.specs.Theta.{bindings, Theta, inValues, Changeable, Changed, ChangedAs, Extendable, Bound}
+use Rattle.terms.specs.Theta.{bindings, inValues, Changeable, Changed, ChangedAs, Extendable, Bound}
 use Rattle.terms.proofs.Fresh.{getD-zeros, part-long, part-none}
 use Rattle.terms.proofs.Singles.{single-map}
 use Rattle.terms.proofs.Waits.{getD-more}
-use Rattle.terms.proofs.Bindings.{binding, bindings-insert}
+use Rattle.terms.proofs.Bindings.{bindings-insert}
 
 -- one tree for one variable is a replacement
 replace-values : (x : ℕ) (t : Tree) (θ : List Binding) → inValues (single x t) θ ≡ replace x t θ

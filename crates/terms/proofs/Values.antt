@@ -1,25 +1,25 @@
 -- The loop over the values of a substitution, each of them under one replacement, with one memo for all. Assumes nothing.
 use mathlib.Core.Path.{_≡_, refl, sym, ap, _∙_, subst}
 use mathlib.Core.List.{List, [], _∷_, _++_, append-nil, append-assoc}
-use Prim.Native.Nat.{ℕ, zero, suc, _+_, _-_, _≤_, _<_}
+use Prim.Native.Nat.{ℕ, suc, _+_, _-_, _≤_, _<_}
 use native.Mathlib.Omega.{arith}
 use native.Mathlib.Decide.{decLt, ℕ-discrete}
 use native.Mathlib.Numerals.{add-one}
 use lib.ListN.{length, getD, take, drop, set, length-set, drop-of-length-le, List·getD-eq-default}
 use lib.Seq.{length-take-le, take-suc, take-suc-set, take-all, drop-cons, getD-take, getD-set-same, getD-set-other}
-use Rattle.rules.specs.Limits.{VARIABLES, TERMS}
+use Rattle.rules.specs.Limits.{TERMS}
 use Rattle.rules.specs.Out.{Out, ok, refuse, then}
 use Rattle.rules.specs.Tree.{Tree, var, sub}
-use Rattle.rules.specs.Store.{Made, number, make, substitute}
+use Rattle.rules.specs.Store.{Made, make, substitute}
 use Rattle.rules.specs.Laws.Out.{then-then}
 use Rattle.rules.specs.Laws.Store.{then-ok, then-refuse, number-is}
 use Rattle.rules.specs.Unify.{Binding}
 use Rattle.terms.specs.declared.store.Mark.{Mark}
 use Rattle.terms.specs.declared.store.Kept.{Kept}
 use Rattle.terms.specs.declared.store.Kept.the-variants.{Term, Full}
-use Rattle.terms.specs.Table.{made, Good, Grown, Refused}
+use Rattle.terms.specs.Table.{made, Grown, Refused}
 use Rattle.terms.specs.Subst.{replacement, Knows, substituted, asked, Ready, Done, Substituted}
-use Rattle.terms.specs.Theta.{bindings, Theta, inValues, Changeable, Changed}
+use Rattle.terms.specs.Theta.{bindings, inValues, Changeable, Changed}
 use Rattle.terms.proofs.Tables.{length-trees}
 use Rattle.terms.proofs.Sames.{grown-self, grown-then}
 use Rattle.terms.proofs.Substs.{replacement-grown}
@@ -118,8 +118,10 @@ module _ (I W : List ℕ) (old : Mark) (theta map memo : List ℕ) (J X theta′
       where
         now : bindings (made J X m) (take (suc v) theta′) 0 ≡ bindings (made J X m) (take v theta′) 0
         now = ap (λ (r : List ℕ). bindings (made J X m) r 0) (take-suc theta′ v 0 h) ∙ bindings-snoc-zero (made J X m) (take v theta′) (getD theta′ v 0) v front z ∙ append-nil _
+
         behind : bindings (made I W old) (drop v theta) v ≡ bindings (made I W old) (drop (suc v) theta) (suc v)
         behind = ap (λ (r : List ℕ). bindings (made I W old) r v) (drop-cons theta v 0 inside) ∙ bindings-zero (made I W old) (getD theta v 0) (drop (suc v) theta) v (sym cell ∙ z)
+
         left : K₀ ≡ then (inValues σ (bindings (made I W old) (drop (suc v) theta) (suc v)) (made J X m)) (λ ζ n. ok (bindings (made J X m) (take (suc v) theta′) 0 ++ ζ) n)
         left = l .left ∙ (λ i. then (inValues σ (behind i) (made J X m)) (λ ζ n. ok (sym now i ++ ζ) n))
 

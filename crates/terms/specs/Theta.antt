@@ -7,7 +7,7 @@ use mathlib.Core.List.{List, [], _∷_}
 use lib.ListN.{length, getD, replicate}
 use lib.Dec.{eqb}
 use Rattle.rules.specs.Limits.{VARIABLES, TERMS}
-use Rattle.rules.specs.Out.{Out, ok, then, Act, _>>=_, pure}
+use Rattle.rules.specs.Out.{Out, ok, Act, _>>=_, pure}
 use Rattle.rules.specs.Tree.{Tree, var}
 use Rattle.rules.specs.Store.{Made, substitute}
 use Rattle.rules.specs.Unify.{Binding, insert, replace}

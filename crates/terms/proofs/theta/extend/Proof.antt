@@ -1,7 +1,3 @@
-use mathlib.Core.Path.{sym, _∙_}
-use Prim.Native.Nat.{_+_, _-_}
-use native.Mathlib.Omega.{arith}
-use lib.ListN.{length, length-set}
 use Rattle.terms.proofs.Fresh.{part-long, part-again, part-wiped}
 use Rattle.terms.proofs.Extends.{in-one, map-back, memo-long, extend-ready, extended-ok, extended-full}
 use borrow.Author.Needs.{needs}

@@ -1,7 +1,6 @@
-use mathlib.Core.Path.{sym, _∙_}
-use Prim.Native.Nat.{_+_, _-_}
+use Prim.Native.Nat.{_-_}
 use native.Mathlib.Omega.{arith}
-use lib.ListN.{length, length-set}
+use lib.ListN.{length}
 use Rattle.terms.proofs.Values.{Changing, changing-begins, changing-skip, value-ready, value-term, term-there, value-full, changing-ends}
 use borrow.Author.Needs.{needs}
 use Rattle.terms.proofs.theta.replace_values.Statement.{statement}
