@@ -29,3 +29,7 @@ pub mod Empty
 pub mod Singles
 pub mod Compares
 pub mod Piles
+pub mod Waits
+pub mod Bindings
+pub mod Values
+pub mod Extends

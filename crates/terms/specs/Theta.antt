@@ -1,5 +1,5 @@
 -- A substitution that grows, in cells: the cell of a variable has the number of its value with 1 added; 0 leaves the variable. What the
--- contract of `extend` cites. Assumes nothing.
+-- contracts of `extend` and of its loop cite. Assumes nothing.
 use mathlib.Core.Path.{_≡_}
 use Prim.Native.Nat.{ℕ, suc, _-_, _≤_, _<_}
 use mathlib.Core.Bool.{Bool, true, false}
@@ -7,9 +7,9 @@ use mathlib.Core.List.{List, [], _∷_}
 use lib.ListN.{length, getD, replicate}
 use lib.Dec.{eqb}
 use Rattle.rules.specs.Limits.{VARIABLES, TERMS}
-use Rattle.rules.specs.Out.{Out, ok}
-use Rattle.rules.specs.Tree.{var}
-use Rattle.rules.specs.Store.{Made}
+use Rattle.rules.specs.Out.{Out, ok, Act, _>>=_, pure}
+use Rattle.rules.specs.Tree.{Tree, var}
+use Rattle.rules.specs.Store.{Made, substitute}
 use Rattle.rules.specs.Unify.{Binding, insert, replace}
 use Rattle.terms.specs.declared.store.Mark.{Mark}
 use Rattle.terms.specs.declared.theta.Grew.{Grew}
@@ -32,6 +32,38 @@ pub record Theta (m : Mark) (theta : List ℕ) : Type 0 where
 
 abbrev pub Zeros : List ℕ → Type 0
 Zeros cells = cells ≡ replicate (length cells) 0
+
+-- Every value under a replacement ----------------------------------------------------------------------------------------------------
+
+-- one value after the other
+unfoldable pub inValues : (ℕ → Tree) → List Binding → Act Made (List Binding)
+inValues σ [] = pure []
+inValues σ (b ∷ θ) = do
+  t ← substitute σ (b .value)
+  ζ ← inValues σ θ
+  pure (record { variable = b .variable; value = t } ∷ ζ)
+
+-- a map of terms that are there, and a memo without results
+pub record Changeable (I W : List ℕ) (m : Mark) (theta map memo : List ℕ) : Type 0 where
+  pub good : Good I W m
+  pub cells : Theta m theta
+  pub bound : (v : ℕ) → getD map v 0 ≤ m .terms
+  pub long : m .terms ≤ length memo
+  pub empty : (i : ℕ) → getD memo i 0 ≡ 0
+
+-- the cells have the values of the definition's answer K; a variable without a value has none
+pub record Changed (I W J X : List ℕ) (old : Mark) (theta theta′ : List ℕ) (K : Out Made (List Binding)) (new : Mark) : Type 0 where
+  pub grown : Grown I W J X old new
+  pub makes : K ≡ ok (bindings (made J X new) theta′ 0) (made J X new)
+  pub cells : Theta new theta′
+  pub unbound : (v : ℕ) → getD theta v 0 ≡ 0 → getD theta′ v 0 ≡ 0
+
+-- theta, theta′: the cells before and afterwards
+abbrev pub ChangedAs : List ℕ → List ℕ → List ℕ → List ℕ → Mark → List ℕ → List ℕ → Out Made (List Binding) → Grew → Type 0
+ChangedAs I W J X old theta theta′ K (Ok new) = Changed I W J X old theta theta′ K new
+ChangedAs I W J X old theta theta′ K (Full r new) = Refused (List Binding) I W J X old K r new
+
+-- One binding more -------------------------------------------------------------------------------------------------------------------
 
 -- a variable without a value, and a term for it
 pub record Extendable (I W : List ℕ) (m : Mark) (theta map memo : List ℕ) (x u : ℕ) : Type 0 where

@@ -1,116 +1,15 @@
-// A term under a substitution: recursion on falling term numbers. A memo keeps the results, so that a shared subterm is visited once,
-// and a term without variables is its own result.
+// A term under a substitution, with a memo that is zero before and after (src/replace.rt).
 ghost use mathlib.Core.Path.{_≡_};
-ghost use mathlib.Core.List.{_++_};
-ghost use Prim.Native.Nat.{ℕ, _+_, _-_, _≤_, _<_};
-ghost use lib.ListN.{length, drop, replicate};
-ghost use Rattle.rules.specs.Store.{keep as keepTree, substitute as substituteTree};
-ghost use Rattle.terms.specs.Table.{treeAt, made, Good, Shaped, After};
+ghost use Prim.Native.Nat.{ℕ, _≤_};
+ghost use lib.ListN.{length, replicate};
+ghost use Rattle.rules.specs.Store.{substitute as substituteTree};
+ghost use Rattle.terms.specs.Table.{made, After};
 ghost use Rattle.terms.specs.Collect.{tree};
-ghost use Rattle.terms.specs.Subst.{replacement, image, rebuilt, Rebuildable, substituted, asked, Replaceable, Ready, Substituted};
-use crate::store::FLAGS;
+ghost use Rattle.terms.specs.Subst.{replacement, substituted, Replaceable};
+use crate::replace::replace;
 use crate::store::Kept;
 use crate::store::Mark;
-use crate::store::keep;
-use crate::store::start_of;
 use crate::store::wipe;
-use rules::SYMBOLS;
-
-// The number that the map gives the variable `v`, or `id` where it leaves the variable.
-fn image_of(map: &[u32], v: usize, id: usize) -> usize
-    ensures { λ r. ⌜ r ≡ image (now (map .entry)) v id ⌝ }
-{
-    if map.len() <= v {
-        return id;
-    }
-    let bound = map[v] as usize;
-    if bound == 0 { id } else { bound - 1 }
-}
-
-// The node that stands from `start` to `end`, with its arguments as the memo has them.
-fn gather(words: &[u32], memo: &[u32], start: usize, end: usize, node: &mut [u32])
-    requires { ⌜ Rebuildable (now words) (now memo) start end ⌝ }
-    requires { ⌜ 17 ≤ length (now node) ⌝ }
-    ensures { λ _. ⌜ now (node .exit) ≡ rebuilt (now (words .entry)) (now (memo .entry)) start end ++ drop (end - start) (now (node .entry)) ⌝ }
-{
-    node[0] = words[start];
-    let mut at = start + 1;
-    while at < end {
-        node[at - start] = memo[words[at] as usize] - 1;
-        at += 1;
-    }
-}
-
-// The node that stands from `start` to `end`, with its arguments as the memo has them, comes into the store.
-fn rebuild(
-    index: &mut [u32],
-    words: &mut [u32],
-    mark: Mark,
-    memo: &[u32],
-    start: usize,
-    end: usize,
-) -> Kept
-    requires { ⌜ Good (now index) (now words) mark ⌝ }
-    requires { ⌜ Rebuildable (now words) (now memo) start end ⌝ }
-    requires { ⌜ Shaped (mark .terms) (rebuilt (now words) (now memo) start end) ⌝ }
-    ensures { λ r. ⌜ After (now (index .entry)) (now (words .entry)) (now (index .exit)) (now (words .exit)) mark (treeAt (made (now (index .entry)) (now (words .entry)) mark) (rebuilt (now (words .entry)) (now (memo .entry)) start end)) (keepTree (treeAt (made (now (index .entry)) (now (words .entry)) mark) (rebuilt (now (words .entry)) (now (memo .entry)) start end)) (made (now (index .entry)) (now (words .entry)) mark)) r ⌝ }
-{
-    let mut node = [0u32; 17];
-    let len = end - start;
-    gather(words, memo, start, end, &mut node);
-    keep(index, words, mark, &node[..len])
-}
-
-// The term `id` under the substitution `map`, with the results that the memo has.
-fn replace(
-    index: &mut [u32],
-    words: &mut [u32],
-    mark: Mark,
-    map: &[u32],
-    memo: &mut [u32],
-    id: usize,
-) -> Kept
-    requires { ⌜ Ready (now index) (now words) mark (now map) (now memo) id ⌝ }
-    ensures { λ r. ⌜ Substituted (now (index .entry)) (now (words .entry)) (now (index .exit)) (now (words .exit)) mark (now (map .entry)) (now (memo .entry)) (now (memo .exit)) id r ⌝ }
-{
-    let known = memo[id] as usize;
-    if known != 0 {
-        return Kept::Term(known - 1, mark);
-    }
-    if index[FLAGS + id] == 0 {
-        memo[id] = (id + 1) as u32;
-        return Kept::Term(id, mark);
-    }
-    let start = start_of(index, id);
-    let end = index[id] as usize;
-    let head = words[start] as usize;
-    if SYMBOLS <= head {
-        let value = image_of(map, head - SYMBOLS, id);
-        memo[id] = (value + 1) as u32;
-        return Kept::Term(value, mark);
-    }
-    let mut m = mark;
-    let mut at = start + 1;
-    while at < end {
-        let arg = words[at] as usize;
-        match replace(index, words, m, map, memo, arg) {
-            Kept::Term(_, next) => {
-                m = next;
-            }
-            Kept::Full(row, last) => {
-                return Kept::Full(row, last);
-            }
-        }
-        at += 1;
-    }
-    match rebuild(index, words, m, memo, start, end) {
-        Kept::Term(n, next) => {
-            memo[id] = (n + 1) as u32;
-            Kept::Term(n, next)
-        }
-        Kept::Full(row, last) => Kept::Full(row, last),
-    }
-}
 
 // The term `id` under the substitution `map`. `memo` is scratch: zero before and after.
 pub fn substitute(

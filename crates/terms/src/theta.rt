@@ -4,13 +4,52 @@ ghost use Prim.Native.Nat.{ℕ};
 ghost use Rattle.rules.specs.Unify.{replace};
 ghost use Rattle.terms.specs.Table.{made};
 ghost use Rattle.terms.specs.Collect.{tree};
-ghost use Rattle.terms.specs.Theta.{bindings, Extendable, Extended};
+ghost use Rattle.terms.specs.Subst.{replacement};
+ghost use Rattle.terms.specs.Theta.{bindings, inValues, Changeable, ChangedAs, Extendable, Extended};
+use crate::replace::replace;
+use crate::store::Kept;
 use crate::store::Mark;
+use crate::store::wipe;
 
 // What is used of the store now, or the row of question 60 that has no room, with the mark of the moment.
 pub enum Grew {
     Ok(Mark),
     Full(usize, Mark),
+}
+
+// Every value under the substitution `map`, by rising variable. The memo serves all of them, as the substitution is one.
+fn replace_values(
+    index: &mut [u32],
+    words: &mut [u32],
+    mark: Mark,
+    theta: &mut [u32],
+    map: &[u32],
+    memo: &mut [u32],
+) -> Grew
+    requires { ⌜ Changeable (now index) (now words) mark (now theta) (now map) (now memo) ⌝ }
+    ensures { λ r. ⌜ ChangedAs (now (index .entry)) (now (words .entry)) (now (index .exit)) (now (words .exit)) mark (now (theta .entry)) (now (theta .exit))
+        (inValues (replacement (made (now (index .entry)) (now (words .entry)) mark) (now (map .entry))) (bindings (made (now (index .entry)) (now (words .entry)) mark) (now (theta .entry)) 0) (made (now (index .entry)) (now (words .entry)) mark)) r ⌝ }
+{
+    let mut m = mark;
+    let mut v = 0;
+    while v < theta.len() {
+        let bound = theta[v] as usize;
+        if bound == 0 {
+            v += 1;
+            continue;
+        }
+        match replace(index, words, m, map, memo, bound - 1) {
+            Kept::Term(n, next) => {
+                theta[v] = (n + 1) as u32;
+                m = next;
+            }
+            Kept::Full(row, last) => {
+                return Grew::Full(row, last);
+            }
+        }
+        v += 1;
+    }
+    Grew::Ok(m)
 }
 
 // The variable `x` gets the value `u`: `u` for `x` in every value, by rising variable, then `x` itself. `map` and `memo` are scratch: zero
@@ -30,5 +69,16 @@ pub fn extend(
         (replace x (tree (now (index .entry)) (now (words .entry)) mark u) (bindings (made (now (index .entry)) (now (words .entry)) mark) (now (theta .entry)) 0) (made (now (index .entry)) (now (words .entry)) mark)) r ⌝ }
     ensures { λ _. ⌜ (now (map .exit) ≡ now (map .entry)) × (now (memo .exit) ≡ now (memo .entry)) ⌝ }
 {
-    Grew::Ok(mark)
+    let terms = mark.terms;
+    map[x] = (u + 1) as u32;
+    let r = replace_values(index, words, mark, theta, map, &mut memo[..terms]);
+    map[x] = 0;
+    wipe(&mut memo[..terms]);
+    match r {
+        Grew::Ok(m) => {
+            theta[x] = (u + 1) as u32;
+            Grew::Ok(m)
+        }
+        Grew::Full(row, last) => Grew::Full(row, last),
+    }
 }

@@ -10,14 +10,14 @@ use borrow.Author.Needs.{needs}
 use Prim.Native.Nat.{ℕ, _<_}
 use borrow.Fn.Kinds.{In}
 use borrow.Fn.PlainCycle.{Measures, is, falls, and}
-use Rattle.terms.proofs.substitute.replace.Reads as replace
-use Rattle.terms.proofs.substitute.replace.Kinds as replace-kinds
-use Rattle.terms.proofs.substitute.+replace.Lts-replace as replace-lts
+use Rattle.terms.proofs.replace.replace.Reads as replace
+use Rattle.terms.proofs.replace.replace.Kinds as replace-kinds
+use Rattle.terms.proofs.replace.+replace.Lts-replace as replace-lts
 use Rattle.terms.proofs.store.start_of.Reads as start-of-reads
-use Rattle.terms.proofs.substitute.image_of.Reads as image-of-reads
-use Rattle.terms.proofs.substitute.rebuild.Reads as rebuild-reads
-use Rattle.terms.proofs.substitute.+replace.{statement}
-use Rattle.terms.proofs.substitute.+replace.Tie.{close}
+use Rattle.terms.proofs.replace.image_of.Reads as image-of-reads
+use Rattle.terms.proofs.replace.rebuild.Reads as rebuild-reads
+use Rattle.terms.proofs.replace.+replace.{statement}
+use Rattle.terms.proofs.replace.+replace.Tie.{close}
 
 abbrev μ-replace : Measures 4 replace-kinds.ps ℕ
 μ-replace κs a = a .1 .1 .1 .1 .1 .0
@@ -38,239 +38,239 @@ replace-Inv-loop index₀ words₀ map memo₀ id known start end head m₀ at�
 abbrev replace-μ-loop : replace-lts.MeasureT-loop
 replace-μ-loop index₀ words₀ map memo₀ id known start end head m₀ at₀ index words memo m at = end - at
 
--- src/substitute.rt:71:17
+-- src/replace.rt:74:17
 replace-mul-known : (t : ℕ) → replace-lts.Need-mul-known (cs t) (replace-at t) replace.Post replace-Inv-loop replace-μ-loop
 replace-mul-known t c = search needs
 
--- src/substitute.rt:71:17
+-- src/replace.rt:74:17
 replace-slice-read-known : (t : ℕ) → replace-lts.Need-slice-read-known (cs t) (replace-at t) replace.Post replace-Inv-loop replace-μ-loop
 replace-slice-read-known t c = search needs
 
--- src/substitute.rt:71:17
+-- src/replace.rt:74:17
 replace-cast-known : (t : ℕ) → replace-lts.Need-cast-known (cs t) (replace-at t) replace.Post replace-Inv-loop replace-μ-loop
 replace-cast-known t c = omega (arith, (c .slice-known4) .given ((c .before .before .before .before .before .args) .id))
 
--- src/substitute.rt:73:27
+-- src/replace.rt:76:27
 replace-sub-t26 : (t : ℕ) → replace-lts.Need-sub-t26 (cs t) (replace-at t) replace.Post replace-Inv-loop replace-μ-loop
 replace-sub-t26 t c = search needs
 
--- src/substitute.rt:73:9
+-- src/replace.rt:76:9
 replace-returns : (t : ℕ) → replace-lts.Need-returns (cs t) (replace-at t) replace.Post replace-Inv-loop replace-μ-loop
 replace-returns t c = sub-known _ _ _ _ _ _ ((c .before .before .before .before .before .before .pre) .1) ((c .if1) .taken)
 
--- src/substitute.rt:75:14
+-- src/replace.rt:78:14
 replace-add-if2 : (t : ℕ) → replace-lts.Need-add-if2 (cs t) (replace-at t) replace.Post replace-Inv-loop replace-μ-loop
 replace-add-if2 t c = omega (arith, flag-in _ _ _ ((c .before .before .before .before .before .before .pre) .1 .good) _ ((c .before .before .before .before .before .before .pre) .1 .there), (c .before .before .before .before .before .before .pre) .1 .good .index)
 
--- src/substitute.rt:75:8
+-- src/replace.rt:78:8
 replace-mul-if2 : (t : ℕ) → replace-lts.Need-mul-if2 (cs t) (replace-at t) replace.Post replace-Inv-loop replace-μ-loop
 replace-mul-if2 t c = omega (arith, flag-in _ _ _ ((c .before .before .before .before .before .before .pre) .1 .good) _ ((c .before .before .before .before .before .before .pre) .1 .there), (c .before .before .before .before .before .before .pre) .1 .good .index)
 
--- src/substitute.rt:75:8
+-- src/replace.rt:78:8
 replace-slice-read-if2 : (t : ℕ) → replace-lts.Need-slice-read-if2 (cs t) (replace-at t) replace.Post replace-Inv-loop replace-μ-loop
 replace-slice-read-if2 t c = flag-in _ _ _ ((c .before .before .before .before .before .before .before .pre) .1 .good) _ ((c .before .before .before .before .before .before .before .pre) .1 .there)
 
--- src/substitute.rt:76:21
+-- src/replace.rt:79:21
 replace-add-memo : (t : ℕ) → replace-lts.Need-add-memo (cs t) (replace-at t) replace.Post replace-Inv-loop replace-μ-loop
 replace-add-memo t c = omega (arith, (c .before .before .before .before .before .before .before .before .pre) .1 .there, (c .before .before .before .before .before .before .before .before .pre) .1 .good .room)
 
--- src/substitute.rt:76:20
+-- src/replace.rt:79:20
 replace-cast-memo : (t : ℕ) → replace-lts.Need-cast-memo (cs t) (replace-at t) replace.Post replace-Inv-loop replace-μ-loop
 replace-cast-memo t c = omega (arith, (c .before .before .before .before .before .before .before .before .pre) .1 .there, (c .before .before .before .before .before .before .before .before .pre) .1 .good .room)
 
--- src/substitute.rt:76:9
+-- src/replace.rt:79:9
 replace-mul-memo : (t : ℕ) → replace-lts.Need-mul-memo (cs t) (replace-at t) replace.Post replace-Inv-loop replace-μ-loop
 replace-mul-memo t c = search needs
 
--- src/substitute.rt:76:9
+-- src/replace.rt:79:9
 replace-slice-write-memo : (t : ℕ) → replace-lts.Need-slice-write-memo (cs t) (replace-at t) replace.Post replace-Inv-loop replace-μ-loop
 replace-slice-write-memo t c = search needs
 
--- src/substitute.rt:77:9
+-- src/replace.rt:80:9
 replace-same-length : (t : ℕ) → replace-lts.Need-same-length (cs t) (replace-at t) replace.Post replace-Inv-loop replace-μ-loop
 replace-same-length t c = search needs
 
--- src/substitute.rt:77:9
+-- src/replace.rt:80:9
 replace-returns-2 : (t : ℕ) → replace-lts.Need-returns-2 (cs t) (replace-at t) replace.Post replace-Inv-loop replace-μ-loop
 replace-returns-2 t c = sub-none _ _ _ _ _ _ ((c .before .before .before .before .before .before .before .before .pre) .1) ((c .if2) .taken)
 
--- src/substitute.rt:79:9
+-- src/replace.rt:82:9
 replace-start-of-requires : (t : ℕ) → replace-lts.Need-start-of-requires (cs t) (replace-at t) replace.Post replace-Inv-loop replace-μ-loop
 replace-start-of-requires t c κs = omega (arith, end-in _ _ _ ((c .before .before .before .before .before .before .before .before .before .pre) .1 .good) _ ((c .before .before .before .before .before .before .before .before .before .pre) .1 .there))
 
--- src/substitute.rt:80:15
+-- src/replace.rt:83:15
 replace-mul-end : (t : ℕ) → replace-lts.Need-mul-end (cs t) (replace-at t) replace.Post replace-Inv-loop replace-μ-loop
 replace-mul-end t c = omega (arith, end-in _ _ _ ((c .before .before .before .before .before .before .before .before .before .before .pre) .1 .good) _ ((c .before .before .before .before .before .before .before .before .before .before .pre) .1 .there), (c .before .before .before .before .before .before .before .before .before .before .pre) .1 .good .index)
 
--- src/substitute.rt:80:15
+-- src/replace.rt:83:15
 replace-slice-read-end : (t : ℕ) → replace-lts.Need-slice-read-end (cs t) (replace-at t) replace.Post replace-Inv-loop replace-μ-loop
 replace-slice-read-end t c = end-in _ _ _ ((c .before .before .before .before .before .before .before .before .before .before .before .pre) .1 .good) _ ((c .before .before .before .before .before .before .before .before .before .before .before .pre) .1 .there)
 
--- src/substitute.rt:80:15
+-- src/replace.rt:83:15
 replace-cast-end : (t : ℕ) → replace-lts.Need-cast-end (cs t) (replace-at t) replace.Post replace-Inv-loop replace-μ-loop
 replace-cast-end t c = omega (arith, (c .slice-known6) .given ((c .before .before .before .before .before .before .before .before .before .before .before .args) .id))
 
--- src/substitute.rt:81:16
+-- src/replace.rt:84:16
 replace-mul-head : (t : ℕ) → replace-lts.Need-mul-head (cs t) (replace-at t) replace.Post replace-Inv-loop replace-μ-loop
 replace-mul-head t c = omega (arith, start-in _ _ _ ((c .before .before .before .before .before .before .before .before .before .before .before .pre) .1 .good) _ ((c .before .before .before .before .before .before .before .before .before .before .before .pre) .1 .there) _ ((c .before .start-of) .ensures), (c .before .before .before .before .before .before .before .before .before .before .before .pre) .1 .good .words)
 
--- src/substitute.rt:81:16
+-- src/replace.rt:84:16
 replace-slice-read-head : (t : ℕ) → replace-lts.Need-slice-read-head (cs t) (replace-at t) replace.Post replace-Inv-loop replace-μ-loop
 replace-slice-read-head t c = start-in _ _ _ ((c .before .before .before .before .before .before .before .before .before .before .before .before .pre) .1 .good) _ ((c .before .before .before .before .before .before .before .before .before .before .before .before .pre) .1 .there) _ ((c .before .before .start-of) .ensures)
 
--- src/substitute.rt:81:16
+-- src/replace.rt:84:16
 replace-cast-head : (t : ℕ) → replace-lts.Need-cast-head (cs t) (replace-at t) replace.Post replace-Inv-loop replace-μ-loop
 replace-cast-head t c = omega (arith, (c .slice-known7) .given ((c .before .before .start-of) .result))
 
--- src/substitute.rt:83:13
+-- src/replace.rt:86:13
 replace-image-of-requires : (t : ℕ) → replace-lts.Need-image-of-requires (cs t) (replace-at t) replace.Post replace-Inv-loop replace-μ-loop
 replace-image-of-requires t c κs = search needs
 
--- src/substitute.rt:84:21
+-- src/replace.rt:87:21
 replace-add-memo-2 : (t : ℕ) → replace-lts.Need-add-memo-2 (cs t) (replace-at t) replace.Post replace-Inv-loop replace-μ-loop
 replace-add-memo-2 t c = omega (arith, sub-var _ _ _ _ _ _ ((c .before .before .before .before .before .before .before .before .before .before .before .before .before .before .pre) .1) _ _ ((c .before .before .before .before .start-of) .ensures) ((c .before .if3) .taken) ((c .image-of) .ensures) .stored .there, (c .before .before .before .before .before .before .before .before .before .before .before .before .before .before .pre) .1 .good .room)
 
--- src/substitute.rt:84:20
+-- src/replace.rt:87:20
 replace-cast-memo-2 : (t : ℕ) → replace-lts.Need-cast-memo-2 (cs t) (replace-at t) replace.Post replace-Inv-loop replace-μ-loop
 replace-cast-memo-2 t c = omega (arith, sub-var _ _ _ _ _ _ ((c .before .before .before .before .before .before .before .before .before .before .before .before .before .before .pre) .1) _ _ ((c .before .before .before .before .start-of) .ensures) ((c .before .if3) .taken) ((c .image-of) .ensures) .stored .there, (c .before .before .before .before .before .before .before .before .before .before .before .before .before .before .pre) .1 .good .room)
 
--- src/substitute.rt:84:9
+-- src/replace.rt:87:9
 replace-mul-memo-2 : (t : ℕ) → replace-lts.Need-mul-memo-2 (cs t) (replace-at t) replace.Post replace-Inv-loop replace-μ-loop
 replace-mul-memo-2 t c = search needs
 
--- src/substitute.rt:84:9
+-- src/replace.rt:87:9
 replace-slice-write-memo-2 : (t : ℕ) → replace-lts.Need-slice-write-memo-2 (cs t) (replace-at t) replace.Post replace-Inv-loop replace-μ-loop
 replace-slice-write-memo-2 t c = search needs
 
--- src/substitute.rt:85:9
+-- src/replace.rt:88:9
 replace-same-length-2 : (t : ℕ) → replace-lts.Need-same-length-2 (cs t) (replace-at t) replace.Post replace-Inv-loop replace-μ-loop
 replace-same-length-2 t c = search needs
 
--- src/substitute.rt:85:9
+-- src/replace.rt:88:9
 replace-same-length-3 : (t : ℕ) → replace-lts.Need-same-length-3 (cs t) (replace-at t) replace.Post replace-Inv-loop replace-μ-loop
 replace-same-length-3 t c = search needs
 
--- src/substitute.rt:85:9
+-- src/replace.rt:88:9
 replace-returns-3 : (t : ℕ) → replace-lts.Need-returns-3 (cs t) (replace-at t) replace.Post replace-Inv-loop replace-μ-loop
 replace-returns-3 t c = sub-var _ _ _ _ _ _ ((c .before .before .before .before .before .before .before .before .before .before .before .before .before .before .pre) .1) _ _ ((c .before .before .before .before .start-of) .ensures) ((c .before .if3) .taken) ((c .image-of) .ensures)
 
--- src/substitute.rt:88:18
+-- src/replace.rt:91:18
 replace-add-at : (t : ℕ) → replace-lts.Need-add-at (cs t) (replace-at t) replace.Post replace-Inv-loop replace-μ-loop
 replace-add-at t c = omega (arith, start-in _ _ _ ((c .before .before .before .before .before .before .before .before .before .before .before .before .before .pre) .1 .good) _ ((c .before .before .before .before .before .before .before .before .before .before .before .before .before .pre) .1 .there) _ ((c .before .before .before .start-of) .ensures), (c .before .before .before .before .before .before .before .before .before .before .before .before .before .pre) .1 .good .words)
 
--- src/substitute.rt:89:5
+-- src/replace.rt:92:5
 replace-loop-holds : (t : ℕ) → replace-lts.Need-loop-holds (cs t) (replace-at t) replace.Post replace-Inv-loop replace-μ-loop
 replace-loop-holds t c = looping-begins _ _ _ _ _ _ _ ((c .before .before .before .before .before .before .before .before .before .before .before .before .before .pre) .1) ((c .before .before .before .start-of) .ensures) ((c .if3) .left)
 
--- src/substitute.rt:90:19
+-- src/replace.rt:93:19
 replace-mul-arg : (t : ℕ) → replace-lts.Need-mul-arg (cs t) (replace-at t) replace.Post replace-Inv-loop replace-μ-loop
 replace-mul-arg t c = omega (arith, arg-in _ _ _ _ _ _ _ _ _ _ _ _ _ ((c .before .loop) .inv) ((c .loop-test) .taken), (c .before .loop) .inv .grown .good .words)
 
--- src/substitute.rt:90:19
+-- src/replace.rt:93:19
 replace-slice-read-arg : (t : ℕ) → replace-lts.Need-slice-read-arg (cs t) (replace-at t) replace.Post replace-Inv-loop replace-μ-loop
 replace-slice-read-arg t c = arg-in _ _ _ _ _ _ _ _ _ _ _ _ _ ((c .before .before .loop) .inv) ((c .before .loop-test) .taken)
 
--- src/substitute.rt:90:19
+-- src/replace.rt:93:19
 replace-cast-arg : (t : ℕ) → replace-lts.Need-cast-arg (cs t) (replace-at t) replace.Post replace-Inv-loop replace-μ-loop
 replace-cast-arg t c = omega (arith, (c .slice-known8) .given ((c .before .before .loop) .at))
 
--- src/substitute.rt:91:15
+-- src/replace.rt:94:15
 replace-replace-requires : (t : ℕ) → replace-lts.Need-replace-requires (cs t) (replace-at t) replace.Post replace-Inv-loop replace-μ-loop
 replace-replace-requires t c κs = (omega (arith, arg-falls _ _ _ _ _ _ _ _ _ _ _ _ _ ((c .before .before .before .before .before .loop) .inv) ((c .before .before .before .before .loop-test) .taken), (c .before .before .before .before .before .before .before .before .before .before .before .before .before .before .before .before .before .before .before .pre) .0), arg-ready _ _ _ _ _ _ _ _ _ _ _ _ _ ((c .before .before .before .before .before .loop) .inv) ((c .before .before .before .before .loop-test) .taken))
 
--- src/substitute.rt:92:27
+-- src/replace.rt:95:27
 replace-enum-known-next : (t : ℕ) → replace-lts.Need-enum-known-next (cs t) (replace-at t) replace.Post replace-Inv-loop replace-μ-loop
 replace-enum-known-next t c = search needs
 
--- src/substitute.rt:95:24
+-- src/replace.rt:98:24
 replace-enum-known-row : (t : ℕ) → replace-lts.Need-enum-known-row (cs t) (replace-at t) replace.Post replace-Inv-loop replace-μ-loop
 replace-enum-known-row t c = search needs
 
--- src/substitute.rt:96:17
+-- src/replace.rt:99:17
 replace-same-length-4 : (t : ℕ) → replace-lts.Need-same-length-4 (cs t) (replace-at t) replace.Post replace-Inv-loop replace-μ-loop
 replace-same-length-4 t c = search needs
 
--- src/substitute.rt:96:17
+-- src/replace.rt:99:17
 replace-same-length-5 : (t : ℕ) → replace-lts.Need-same-length-5 (cs t) (replace-at t) replace.Post replace-Inv-loop replace-μ-loop
 replace-same-length-5 t c = search needs
 
--- src/substitute.rt:96:17
+-- src/replace.rt:99:17
 replace-same-length-6 : (t : ℕ) → replace-lts.Need-same-length-6 (cs t) (replace-at t) replace.Post replace-Inv-loop replace-μ-loop
 replace-same-length-6 t c = search needs
 
--- src/substitute.rt:96:17
+-- src/replace.rt:99:17
 replace-returns-4 : (t : ℕ) → replace-lts.Need-returns-4 (cs t) (replace-at t) replace.Post replace-Inv-loop replace-μ-loop
 replace-returns-4 t c = arm-full _ _ _ _ _ _ _ _ _ _ _ _ _ ((c .before .before .before .before .before .before .before .before .before .before .before .before .before .before .before .loop) .inv) ((c .before .before .before .before .before .before .before .before .before .before .before .before .before .before .loop-test) .taken) _ _ ((c .before .before .before .before .before .before .before .before .before .replace) .last .1 .1 .1 .1 .0) ((c .before .before .before .before .before .before .before .before .before .replace) .result) ((c .before .before .before .before .before .before .before .before .before .replace) .ensures) _ _ ((c .before .row) .given .1)
 
--- src/substitute.rt:99:9
+-- src/replace.rt:102:9
 replace-add-at-2 : (t : ℕ) → replace-lts.Need-add-at-2 (cs t) (replace-at t) replace.Post replace-Inv-loop replace-μ-loop
 replace-add-at-2 t c = omega (arith, arg-in _ _ _ _ _ _ _ _ _ _ _ _ _ ((c .before .before .before .before .before .before .before .before .before .before .before .before .before .before .before .loop) .inv) ((c .before .before .before .before .before .before .before .before .before .before .before .before .before .before .loop-test) .taken), (c .before .before .before .before .before .before .before .before .before .before .before .before .before .before .before .loop) .inv .grown .good .words)
 
--- src/substitute.rt:89:5
+-- src/replace.rt:92:5
 replace-loop-less : (t : ℕ) → replace-lts.Need-loop-less (cs t) (replace-at t) replace.Post replace-Inv-loop replace-μ-loop
 replace-loop-less t c = search needs
 
--- src/substitute.rt:89:5
+-- src/replace.rt:92:5
 replace-loop-again : (t : ℕ) → replace-lts.Need-loop-again (cs t) (replace-at t) replace.Post replace-Inv-loop replace-μ-loop
 replace-loop-again t c = arm-term _ _ _ _ _ _ _ _ _ _ _ _ _ ((c .before .before .before .before .before .before .before .before .before .before .before .before .before .before .before .loop) .inv) ((c .before .before .before .before .before .before .before .before .before .before .before .before .before .before .loop-test) .taken) _ _ _ ((c .before .before .before .before .before .before .before .before .before .replace) .result) ((c .before .before .before .before .before .before .before .before .before .replace) .ensures) ((c .before .before .before .before .before .before .before .before .before .replace) .kept .1 .1 .1 .1 .0) _ _ ((c .before .next) .given .1)
 
--- src/substitute.rt:101:11
+-- src/replace.rt:104:11
 replace-rebuild-requires : (t : ℕ) → replace-lts.Need-rebuild-requires (cs t) (replace-at t) replace.Post replace-Inv-loop replace-μ-loop
 replace-rebuild-requires t c κs = ((c .before .before .before .before .loop) .inv .grown .good, (rebuildable _ _ _ _ _ _ _ _ _ _ _ _ _ ((c .before .before .before .before .loop) .inv) ((c .before .before .before .loop-test) .left), rebuilt-shaped _ _ _ _ _ _ _ _ _ _ _ _ _ ((c .before .before .before .before .loop) .inv) ((c .before .before .before .loop-test) .left)))
 
--- src/substitute.rt:102:20
+-- src/replace.rt:105:20
 replace-enum-known-n : (t : ℕ) → replace-lts.Need-enum-known-n (cs t) (replace-at t) replace.Post replace-Inv-loop replace-μ-loop
 replace-enum-known-n t c = search needs
 
--- src/substitute.rt:103:25
+-- src/replace.rt:106:25
 replace-add-memo-3 : (t : ℕ) → replace-lts.Need-add-memo-3 (cs t) (replace-at t) replace.Post replace-Inv-loop replace-μ-loop
 replace-add-memo-3 t c = let d = end-term _ _ _ _ _ _ _ _ _ _ _ _ _ ((c .before .before .before .before .before .before .before .before .before .before .before .before .loop) .inv) ((c .before .before .before .before .before .before .before .before .before .before .before .loop-test) .left) _ _ ((c .before .before .before .before .before .before .before .rebuild) .result) ((c .before .before .before .before .before .before .before .rebuild) .ensures) _ _ ((c .before .n) .given .1) in omega (arith, d .stored .there, d .stored .grown .good .room)
 
--- src/substitute.rt:103:24
+-- src/replace.rt:106:24
 replace-cast-memo-3 : (t : ℕ) → replace-lts.Need-cast-memo-3 (cs t) (replace-at t) replace.Post replace-Inv-loop replace-μ-loop
 replace-cast-memo-3 t c = let d = end-term _ _ _ _ _ _ _ _ _ _ _ _ _ ((c .before .before .before .before .before .before .before .before .before .before .before .before .loop) .inv) ((c .before .before .before .before .before .before .before .before .before .before .before .loop-test) .left) _ _ ((c .before .before .before .before .before .before .before .rebuild) .result) ((c .before .before .before .before .before .before .before .rebuild) .ensures) _ _ ((c .before .n) .given .1) in omega (arith, d .stored .there, d .stored .grown .good .room)
 
--- src/substitute.rt:103:13
+-- src/replace.rt:106:13
 replace-mul-memo-3 : (t : ℕ) → replace-lts.Need-mul-memo-3 (cs t) (replace-at t) replace.Post replace-Inv-loop replace-μ-loop
 replace-mul-memo-3 t c = omega (arith, (c .before .before .before .before .before .before .before .before .before .before .before .before .before .before .before .before .before .before .before .before .before .before .before .before .before .before .pre) .1 .there, (c .before .before .before .before .before .before .before .before .before .before .before .before .before .before .before .before .before .before .before .before .before .before .before .before .before .before .pre) .1 .good .room)
 
--- src/substitute.rt:103:13
+-- src/replace.rt:106:13
 replace-slice-write-memo-3 : (t : ℕ) → replace-lts.Need-slice-write-memo-3 (cs t) (replace-at t) replace.Post replace-Inv-loop replace-μ-loop
 replace-slice-write-memo-3 t c = omega (arith, (c .before .before .before .before .before .before .before .before .before .before .before .before .loop) .inv .ready .inside, (c .before .before .before .before .before .before .before .before .before .before .before .before .loop) .inv .long)
 
--- src/substitute.rt:106:20
+-- src/replace.rt:109:20
 replace-enum-known-row-2 : (t : ℕ) → replace-lts.Need-enum-known-row-2 (cs t) (replace-at t) replace.Post replace-Inv-loop replace-μ-loop
 replace-enum-known-row-2 t c = search needs
 
--- src/substitute.rt:60:1
+-- src/replace.rt:63:1
 replace-same-length-7 : (t : ℕ) → replace-lts.Need-same-length-7 (cs t) (replace-at t) replace.Post replace-Inv-loop replace-μ-loop
 replace-same-length-7 t c = search needs
 
--- src/substitute.rt:60:1
+-- src/replace.rt:63:1
 replace-same-length-8 : (t : ℕ) → replace-lts.Need-same-length-8 (cs t) (replace-at t) replace.Post replace-Inv-loop replace-μ-loop
 replace-same-length-8 t c = search needs
 
--- src/substitute.rt:60:1
+-- src/replace.rt:63:1
 replace-same-length-9 : (t : ℕ) → replace-lts.Need-same-length-9 (cs t) (replace-at t) replace.Post replace-Inv-loop replace-μ-loop
 replace-same-length-9 t c = search needs
 
--- src/substitute.rt:60:1
+-- src/replace.rt:63:1
 replace-returns-5 : (t : ℕ) → replace-lts.Need-returns-5 (cs t) (replace-at t) replace.Post replace-Inv-loop replace-μ-loop
 replace-returns-5 t c = end-term _ _ _ _ _ _ _ _ _ _ _ _ _ ((c .before .before .before .before .before .before .before .before .before .before .before .before .loop) .inv) ((c .before .before .before .before .before .before .before .before .before .before .before .loop-test) .left) _ _ ((c .before .before .before .before .before .before .before .rebuild) .result) ((c .before .before .before .before .before .before .before .rebuild) .ensures) _ _ ((c .before .n) .given .1)
 
--- src/substitute.rt:60:1
+-- src/replace.rt:63:1
 replace-same-length-10 : (t : ℕ) → replace-lts.Need-same-length-10 (cs t) (replace-at t) replace.Post replace-Inv-loop replace-μ-loop
 replace-same-length-10 t c = search needs
 
--- src/substitute.rt:60:1
+-- src/replace.rt:63:1
 replace-same-length-11 : (t : ℕ) → replace-lts.Need-same-length-11 (cs t) (replace-at t) replace.Post replace-Inv-loop replace-μ-loop
 replace-same-length-11 t c = search needs
 
--- src/substitute.rt:60:1
+-- src/replace.rt:63:1
 replace-same-length-12 : (t : ℕ) → replace-lts.Need-same-length-12 (cs t) (replace-at t) replace.Post replace-Inv-loop replace-μ-loop
 replace-same-length-12 t c = search needs
 
--- src/substitute.rt:60:1
+-- src/replace.rt:63:1
 replace-returns-6 : (t : ℕ) → replace-lts.Need-returns-6 (cs t) (replace-at t) replace.Post replace-Inv-loop replace-μ-loop
 replace-returns-6 t c = end-full _ _ _ _ _ _ _ _ _ _ _ _ _ ((c .before .before .before .before .before .before .before .before .before .before .before .before .loop) .inv) ((c .before .before .before .before .before .before .before .before .before .before .before .loop-test) .left) _ _ ((c .before .before .before .before .before .before .before .rebuild) .result) ((c .before .before .before .before .before .before .before .rebuild) .ensures) _ _ ((c .before .row2) .given .1)
 

@@ -1,45 +1,45 @@
 use Rattle.terms.proofs.Gathers.{gathered-node, gathered-long, rebuild-done}
 use borrow.Author.Needs.{needs}
-use Rattle.terms.proofs.substitute.rebuild.Statement.{statement}
-use Rattle.terms.proofs.substitute.rebuild.Tie as tie
-use Rattle.terms.proofs.substitute.rebuild.Reads as reads
-use Rattle.terms.proofs.substitute.rebuild.Lts as lts
+use Rattle.terms.proofs.replace.rebuild.Statement.{statement}
+use Rattle.terms.proofs.replace.rebuild.Tie as tie
+use Rattle.terms.proofs.replace.rebuild.Reads as reads
+use Rattle.terms.proofs.replace.rebuild.Lts as lts
 use Rattle.terms.proofs.store.keep.Reads as keep-reads
-use Rattle.terms.proofs.substitute.gather.Reads as gather-reads
+use Rattle.terms.proofs.replace.gather.Reads as gather-reads
 
--- src/substitute.rt:54:15
+-- src/replace.rt:57:15
 sub-len : tie.Need-sub-len
 sub-len c = search needs
 
--- src/substitute.rt:55:37
+-- src/replace.rt:58:37
 slice-aggregate-gather : tie.Need-slice-aggregate-gather
 slice-aggregate-gather c = search needs
 
--- src/substitute.rt:55:5
+-- src/replace.rt:58:5
 gather-requires : tie.Need-gather-requires
 gather-requires c κs = search needs
 
--- src/substitute.rt:56:30
+-- src/replace.rt:59:30
 array-share-prefix-node : tie.Need-array-share-prefix-node
 array-share-prefix-node c = search needs
 
--- src/substitute.rt:56:30
+-- src/replace.rt:59:30
 slice-aggregate-keep : tie.Need-slice-aggregate-keep
 slice-aggregate-keep c = gathered-long _ _ _ _ ((c .before .before .before .before .before .before .before .before .before .before .pre) .1 .0) _ _ ((c .before .before .before .before .gather) .ensures)
 
--- src/substitute.rt:56:5
+-- src/replace.rt:59:5
 keep-requires : tie.Need-keep-requires
 keep-requires c κs = ((c .before .before .before .before .before .before .before .before .before .before .pre) .0, gathered-node _ _ _ _ ((c .before .before .before .before .before .before .before .before .before .before .pre) .1 .0) _ _ ((c .before .before .before .before .gather) .ensures) _ ((c .before .before .before .before .before .before .before .before .before .before .pre) .1 .1))
 
--- src/substitute.rt:47:1
+-- src/replace.rt:43:1
 same-length : tie.Need-same-length
 same-length c = search needs
 
--- src/substitute.rt:47:1
+-- src/replace.rt:43:1
 same-length-2 : tie.Need-same-length-2
 same-length-2 c = search needs
 
--- src/substitute.rt:47:1
+-- src/replace.rt:43:1
 returns : tie.Need-returns
 returns c = rebuild-done _ _ _ _ ((c .before .before .before .before .before .before .before .before .before .before .before .before .before .before .before .pre) .1 .0) _ _ ((c .before .before .before .before .before .before .before .before .before .gather) .ensures) _ _ ((c .before .before .before .before .keep) .last .0) ((c .before .before .before .before .keep) .last .1 .0) _ ((c .before .before .before .before .keep) .result) ((c .before .before .before .before .keep) .ensures)
 
