@@ -29,3 +29,4 @@ pub mod Empty
 pub mod Singles
 pub mod Compares
 pub mod Piles
+pub mod Waits

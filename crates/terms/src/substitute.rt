@@ -62,7 +62,7 @@ fn rebuild(
 }
 
 // The term `id` under the substitution `map`, with the results that the memo has.
-fn replace(
+pub fn replace(
     index: &mut [u32],
     words: &mut [u32],
     mark: Mark,
