@@ -30,3 +30,5 @@ pub mod Singles
 pub mod Compares
 pub mod Piles
 pub mod Waits
+pub mod Sides
+pub mod Looks
