@@ -32,3 +32,4 @@ pub mod Piles
 pub mod Waits
 pub mod Sides
 pub mod Looks
+pub mod Turns

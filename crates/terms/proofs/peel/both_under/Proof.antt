@@ -1,3 +1,4 @@
+use Rattle.terms.proofs.Sides.{first-full, second-ready, second-full, both-done}
 use borrow.Author.Needs.{needs}
 use Rattle.terms.proofs.peel.both_under.Statement.{statement}
 use Rattle.terms.proofs.peel.both_under.Tie as tie
@@ -19,7 +20,7 @@ enum-known-a c = search needs
 
 -- src/peel.rt:61:38
 replace-requires-2 : tie.Need-replace-requires-2
-replace-requires-2 c κs = ?
+replace-requires-2 c κs = second-ready _ _ _ _ _ _ _ (c .before .before .before .before .before .before .before .before .before .before .before .before .before .before .before .before .before .before .before .before .pre) _ _ ((c .before .before .before .before .before .before .before .before .before .before .before .before .replace) .last .1 .1 .1 .1 .0) ((c .before .before .before .before .before .before .before .before .before .before .before .before .replace) .result) ((c .before .before .before .before .before .before .before .before .before .before .before .before .replace) .ensures) _ _ ((c .before .before .before .before .a) .given .1) ((c .before .before .before .before .before .before .before .before .before .before .before .before .replace) .kept .1 .1 .1 .1 .0)
 
 -- src/peel.rt:62:24
 enum-known-row-2 : tie.Need-enum-known-row-2
@@ -43,7 +44,7 @@ same-length-3 c = search needs
 
 -- src/peel.rt:47:1
 returns : tie.Need-returns
-returns c = ?
+returns c = first-full _ _ _ _ _ _ _ (c .before .before .before .before .before .before .before .before .before .before .before .before .before .before .before .before .before .pre) _ _ ((c .before .before .before .before .before .before .before .before .before .replace) .last .1 .1 .1 .1 .0) ((c .before .before .before .before .before .before .before .before .before .replace) .result) ((c .before .before .before .before .before .before .before .before .before .replace) .ensures) _ _ ((c .before .row) .given .1)
 
 -- src/peel.rt:47:1
 same-length-4 : tie.Need-same-length-4
@@ -59,7 +60,7 @@ same-length-6 c = search needs
 
 -- src/peel.rt:47:1
 returns-2 : tie.Need-returns-2
-returns-2 c = ?
+returns-2 c = second-full _ _ _ _ _ _ _ (c .before .before .before .before .before .before .before .before .before .before .before .before .before .before .before .before .before .before .before .before .before .before .before .before .before .before .before .before .before .before .pre) _ _ ((c .before .before .before .before .before .before .before .before .before .before .before .before .before .before .before .before .before .before .before .before .before .before .replace) .last .1 .1 .1 .1 .0) ((c .before .before .before .before .before .before .before .before .before .before .before .before .before .before .before .before .before .before .before .before .before .before .replace) .result) ((c .before .before .before .before .before .before .before .before .before .before .before .before .before .before .before .before .before .before .before .before .before .before .replace) .ensures) _ _ ((c .before .before .before .before .before .before .before .before .before .before .before .before .before .before .a) .given .1) _ _ ((c .before .before .before .before .before .before .before .before .before .replace2) .last .1 .1 .1 .1 .0) ((c .before .before .before .before .before .before .before .before .before .replace2) .result) ((c .before .before .before .before .before .before .before .before .before .replace2) .ensures) _ _ ((c .before .row2) .given .1)
 
 -- src/peel.rt:47:1
 same-length-7 : tie.Need-same-length-7
@@ -75,7 +76,7 @@ same-length-9 c = search needs
 
 -- src/peel.rt:47:1
 returns-3 : tie.Need-returns-3
-returns-3 c = ?
+returns-3 c = both-done _ _ _ _ _ _ _ (c .before .before .before .before .before .before .before .before .before .before .before .before .before .before .before .before .before .before .before .before .before .before .before .before .before .before .before .before .before .before .pre) _ _ ((c .before .before .before .before .before .before .before .before .before .before .before .before .before .before .before .before .before .before .before .before .before .before .replace) .last .1 .1 .1 .1 .0) ((c .before .before .before .before .before .before .before .before .before .before .before .before .before .before .before .before .before .before .before .before .before .before .replace) .result) ((c .before .before .before .before .before .before .before .before .before .before .before .before .before .before .before .before .before .before .before .before .before .before .replace) .ensures) _ _ ((c .before .before .before .before .before .before .before .before .before .before .before .before .before .before .a) .given .1) _ _ ((c .before .before .before .before .before .before .before .before .before .replace2) .last .1 .1 .1 .1 .0) ((c .before .before .before .before .before .before .before .before .before .replace2) .result) ((c .before .before .before .before .before .before .before .before .before .replace2) .ensures) _ _ ((c .before .b) .given .1)
 
 pub both-under-spec : {M : Type 1} → statement M
 both-under-spec =
