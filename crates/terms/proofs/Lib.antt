@@ -33,3 +33,4 @@ pub mod Waits
 pub mod Sides
 pub mod Looks
 pub mod Turns
+pub mod Peels

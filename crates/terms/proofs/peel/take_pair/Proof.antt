@@ -1,3 +1,7 @@
+use native.Mathlib.Omega.{arith}
+use Prim.Native.Nat.{_+_, _-_, _*_}
+use Rattle.terms.proofs.Turns.{pair-sideable, pair-full, pair-lookable, pair-clash, pair-crowd, pair-binds, pair-more}
+use mathlib.Core.Path.{refl}
 use borrow.Author.Needs.{needs}
 use Rattle.terms.proofs.peel.take_pair.Statement.{statement}
 use Rattle.terms.proofs.peel.take_pair.Tie as tie
@@ -24,7 +28,7 @@ slice-read-s c = search needs
 
 -- src/peel.rt:113:13
 cast-s : tie.Need-cast-s
-cast-s c = ?
+cast-s c = omega (arith, (c .slice-known6) .given (2 * ((c .before .before .before .before .before .before .before .args) .waiting - 1)))
 
 -- src/peel.rt:114:19
 mul-t : tie.Need-mul-t
@@ -44,11 +48,11 @@ slice-read-t c = search needs
 
 -- src/peel.rt:114:13
 cast-t : tie.Need-cast-t
-cast-t c = ?
+cast-t c = omega (arith, (c .slice-known7) .given (2 * ((c .before .before .before .before .before .before .before .before .args) .waiting - 1) + 1))
 
 -- src/peel.rt:115:11
 both-under-requires : tie.Need-both-under-requires
-both-under-requires c κs = ?
+both-under-requires c κs = pair-sideable _ _ _ _ _ _ ((c .before .before .before .before .before .before .before .before .before .before .before .args) .seen .now) _ (c .before .before .before .before .before .before .before .before .before .before .before .pre)
 
 -- src/peel.rt:116:21
 enum-known-row : tie.Need-enum-known-row
@@ -60,7 +64,7 @@ enum-known-a c = search needs
 
 -- src/peel.rt:117:41
 onward-requires : tie.Need-onward-requires
-onward-requires c κs = ?
+onward-requires c κs = pair-lookable _ _ _ _ _ _ _ _ (c .before .before .before .before .before .before .before .before .before .before .before .before .before .before .before .before .before .before .before .before .before .before .before .before .before .pre) _ _ ((c .before .before .before .before .before .before .before .before .before .before .before .before .before .both-under) .last .1 .1 .1 .1 .0) ((c .before .before .before .before .before .before .before .before .before .before .before .before .before .both-under) .result) ((c .before .before .before .before .before .before .before .before .before .before .before .before .before .both-under) .ensures) _ _ _ ((c .before .before .before .before .before .a) .given .1)
 
 -- src/peel.rt:118:24
 enum-known-more : tie.Need-enum-known-more
@@ -92,7 +96,7 @@ same-length-3 c = search needs
 
 -- src/peel.rt:98:1
 returns : tie.Need-returns
-returns c = ?
+returns c = (pair-full _ _ _ _ _ _ ((c .before .before .before .before .before .before .before .before .before .before .before .before .before .before .before .before .before .before .before .before .before .args) .seen .now) _ (c .before .before .before .before .before .before .before .before .before .before .before .before .before .before .before .before .before .before .before .before .before .pre) _ _ ((c .before .before .before .before .before .before .before .before .before .both-under) .last .1 .1 .1 .1 .0) ((c .before .before .before .before .before .before .before .before .before .both-under) .result) ((c .before .before .before .before .before .before .before .before .before .both-under) .ensures) _ _ ((c .before .row) .given .1), refl)
 
 -- src/peel.rt:98:1
 same-length-4 : tie.Need-same-length-4
@@ -116,7 +120,7 @@ same-length-8 c = search needs
 
 -- src/peel.rt:98:1
 returns-2 : tie.Need-returns-2
-returns-2 c = ?
+returns-2 c = (pair-more _ _ _ _ _ _ _ _ (c .before .before .before .before .before .before .before .before .before .before .before .before .before .before .before .before .before .before .before .before .before .before .before .before .before .before .before .before .before .before .before .before .before .pre) _ _ ((c .before .before .before .before .before .before .before .before .before .before .before .before .before .before .before .before .before .before .before .before .before .both-under) .last .1 .1 .1 .1 .0) ((c .before .before .before .before .before .before .before .before .before .before .before .before .before .before .before .before .before .before .before .before .before .both-under) .result) ((c .before .before .before .before .before .before .before .before .before .before .before .before .before .before .before .before .before .before .before .before .before .both-under) .ensures) _ _ _ ((c .before .before .before .before .before .before .before .before .before .before .before .before .before .a) .given .1) ((c .before .before .before .before .before .before .before .onward) .last .1 .1 .1 .1 .1 .0) ((c .before .before .before .before .before .before .before .onward) .result) ((c .before .before .before .before .before .before .before .onward) .ensures .0) _ ((c .before .more) .given .1) ((c .before .before .before .before .before .before .before .onward) .kept .1 .1 .1 .1 .1 .0) ((c .before .before .before .before .before .before .before .before .before .before .before .before .before .before .before .before .before .before .before .before .before .both-under) .kept .1 .1 .1 .1 .0), (c .before .before .before .before .before .before .before .onward) .ensures .1)
 
 -- src/peel.rt:98:1
 same-length-9 : tie.Need-same-length-9
@@ -140,7 +144,7 @@ same-length-13 c = search needs
 
 -- src/peel.rt:98:1
 returns-3 : tie.Need-returns-3
-returns-3 c = ?
+returns-3 c = (pair-clash _ _ _ _ _ _ ((c .before .before .before .before .before .before .before .before .before .before .before .before .before .before .before .before .before .before .before .before .before .before .before .before .before .before .before .before .before .before .before .before .args) .seen .now) _ (c .before .before .before .before .before .before .before .before .before .before .before .before .before .before .before .before .before .before .before .before .before .before .before .before .before .before .before .before .before .before .before .before .pre) _ _ ((c .before .before .before .before .before .before .before .before .before .before .before .before .before .before .before .before .before .before .before .before .both-under) .last .1 .1 .1 .1 .0) ((c .before .before .before .before .before .before .before .before .before .before .before .before .before .before .before .before .before .before .before .before .both-under) .result) ((c .before .before .before .before .before .before .before .before .before .before .before .before .before .before .before .before .before .before .before .before .both-under) .ensures) _ _ _ ((c .before .before .before .before .before .before .before .before .before .before .before .before .a) .given .1) ((c .before .before .before .before .before .before .onward) .last .1 .1 .1 .1 .1 .0) ((c .before .before .before .before .before .before .onward) .result) ((c .before .before .before .before .before .before .onward) .ensures .0) ((c .enum-told) .given .1), (c .before .before .before .before .before .before .onward) .ensures .1)
 
 -- src/peel.rt:98:1
 same-length-14 : tie.Need-same-length-14
@@ -164,7 +168,7 @@ same-length-18 c = search needs
 
 -- src/peel.rt:98:1
 returns-4 : tie.Need-returns-4
-returns-4 c = ?
+returns-4 c = (pair-binds _ _ _ _ _ _ ((c .before .before .before .before .before .before .before .before .before .before .before .before .before .before .before .before .before .before .before .before .before .before .before .before .before .before .before .before .before .before .before .before .before .args) .seen .now) _ (c .before .before .before .before .before .before .before .before .before .before .before .before .before .before .before .before .before .before .before .before .before .before .before .before .before .before .before .before .before .before .before .before .before .pre) _ _ ((c .before .before .before .before .before .before .before .before .before .before .before .before .before .before .before .before .before .before .before .before .before .both-under) .last .1 .1 .1 .1 .0) ((c .before .before .before .before .before .before .before .before .before .before .before .before .before .before .before .before .before .before .before .before .before .both-under) .result) ((c .before .before .before .before .before .before .before .before .before .before .before .before .before .before .before .before .before .before .before .before .before .both-under) .ensures) _ _ _ ((c .before .before .before .before .before .before .before .before .before .before .before .before .before .a) .given .1) ((c .before .before .before .before .before .before .before .onward) .last .1 .1 .1 .1 .1 .0) ((c .before .before .before .before .before .before .before .onward) .result) ((c .before .before .before .before .before .before .before .onward) .ensures .0) _ _ ((c .before .x) .given .1), (c .before .before .before .before .before .before .before .onward) .ensures .1)
 
 -- src/peel.rt:98:1
 same-length-19 : tie.Need-same-length-19
@@ -188,7 +192,7 @@ same-length-23 c = search needs
 
 -- src/peel.rt:98:1
 returns-5 : tie.Need-returns-5
-returns-5 c = ?
+returns-5 c = (pair-crowd _ _ _ _ _ _ ((c .before .before .before .before .before .before .before .before .before .before .before .before .before .before .before .before .before .before .before .before .before .before .before .before .before .before .before .before .before .before .before .before .args) .seen .now) _ (c .before .before .before .before .before .before .before .before .before .before .before .before .before .before .before .before .before .before .before .before .before .before .before .before .before .before .before .before .before .before .before .before .pre) _ _ ((c .before .before .before .before .before .before .before .before .before .before .before .before .before .before .before .before .before .before .before .before .both-under) .last .1 .1 .1 .1 .0) ((c .before .before .before .before .before .before .before .before .before .before .before .before .before .before .before .before .before .before .before .before .both-under) .result) ((c .before .before .before .before .before .before .before .before .before .before .before .before .before .before .before .before .before .before .before .before .both-under) .ensures) _ _ _ ((c .before .before .before .before .before .before .before .before .before .before .before .before .a) .given .1) ((c .before .before .before .before .before .before .onward) .last .1 .1 .1 .1 .1 .0) ((c .before .before .before .before .before .before .onward) .result) ((c .before .before .before .before .before .before .onward) .ensures .0) ((c .enum-told2) .given .1), (c .before .before .before .before .before .before .onward) .ensures .1)
 
 pub take-pair-spec : {M : Type 1} → statement M
 take-pair-spec =
