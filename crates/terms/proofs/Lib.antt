@@ -34,3 +34,4 @@ pub mod Sides
 pub mod Looks
 pub mod Turns
 pub mod Peels
+pub mod Solves
