@@ -1,3 +1,5 @@
+use mathlib.Core.Path.{refl, _∙_}
+use Rattle.terms.proofs.Solves.{wiped-back, round-found, round-apart, round-full, round-extends, bind-full, bind-more}
 use borrow.Author.Needs.{needs}
 use Rattle.terms.proofs.unify.bind_next.Statement.{statement}
 use Rattle.terms.proofs.unify.bind_next.Tie as tie
@@ -33,7 +35,7 @@ enum-known-r-4 c = search needs
 
 -- src/unify.rt:53:50
 extend-requires : tie.Need-extend-requires
-extend-requires c κs = ?
+extend-requires c κs = round-extends _ _ _ _ _ _ _ _ _ (c .before .before .before .before .before .before .before .before .before .before .before .before .before .before .before .before .before .before .before .before .before .before .before .before .before .before .before .before .before .before .before .before .before .before .before .before .pre) _ _ ((c .before .before .before .before .before .before .before .before .before .before .before .before .before .before .before .before .before .before .before .before .before .before .peel) .last .1 .1 .1 .1 .1 .0) ((c .before .before .before .before .before .before .before .before .before .before .before .before .before .before .before .before .before .before .before .before .before .before .peel) .result) ((c .before .before .before .before .before .before .before .before .before .before .before .before .before .before .before .before .before .before .before .before .before .before .peel) .ensures .0) _ _ _ _ ((c .before .before .before .before .before .before .r4) .given .1) _ (wiped-back _ _ _ _ _ _ _ _ _ (c .before .before .before .before .before .before .before .before .before .before .before .before .before .before .before .before .before .before .before .before .before .before .before .before .before .before .before .before .before .before .before .before .before .before .before .before .pre) ((c .before .before .before .before .before .before .before .before .before .before .before .before .before .before .before .before .before .before .before .before .before .before .peel) .last .1 .1 .1 .1 .0) _ ((c .before .before .before .before .before .before .before .before .before .before .before .before .before .before .before .before .before .before .before .before .before .before .peel) .kept .1 .1 .1 .1 .0) ((c .before .before .before .before .before .before .before .before .before .before .wipe) .ensures))
 
 -- src/unify.rt:54:22
 enum-known-new : tie.Need-enum-known-new
@@ -69,7 +71,7 @@ same-length-6 c = search needs
 
 -- src/unify.rt:32:1
 returns : tie.Need-returns
-returns c = ?
+returns c = (round-found _ _ _ _ _ _ _ _ _ (c .before .before .before .before .before .before .before .before .before .before .before .before .before .before .before .before .before .before .before .before .before .before .before .before .before .before .before .before .before .before .before .pre) _ _ ((c .before .before .before .before .before .before .before .before .before .before .before .before .before .before .before .before .before .peel) .last .1 .1 .1 .1 .1 .0) ((c .before .before .before .before .before .before .before .before .before .before .before .before .before .before .before .before .before .peel) .result) ((c .before .before .before .before .before .before .before .before .before .before .before .before .before .before .before .before .before .peel) .ensures .0) _ ((c .before .r) .given .1), (refl, wiped-back _ _ _ _ _ _ _ _ _ (c .before .before .before .before .before .before .before .before .before .before .before .before .before .before .before .before .before .before .before .before .before .before .before .before .before .before .before .before .before .before .before .pre) ((c .before .before .before .before .before .before .before .before .before .before .before .before .before .before .before .before .before .peel) .last .1 .1 .1 .1 .0) _ ((c .before .before .before .before .before .before .before .before .before .before .before .before .before .before .before .before .before .peel) .kept .1 .1 .1 .1 .0) ((c .before .before .before .before .before .wipe) .ensures), (c .before .before .before .before .before .before .before .before .before .before .before .before .before .before .before .before .before .peel) .ensures .1))
 
 -- src/unify.rt:32:1
 same-length-7 : tie.Need-same-length-7
@@ -97,7 +99,7 @@ same-length-12 c = search needs
 
 -- src/unify.rt:32:1
 returns-2 : tie.Need-returns-2
-returns-2 c = ?
+returns-2 c = (round-apart _ _ _ _ _ _ _ _ _ (c .before .before .before .before .before .before .before .before .before .before .before .before .before .before .before .before .before .before .before .before .before .before .before .before .before .before .before .before .before .before .before .pre) _ _ ((c .before .before .before .before .before .before .before .before .before .before .before .before .before .before .before .before .before .peel) .last .1 .1 .1 .1 .1 .0) ((c .before .before .before .before .before .before .before .before .before .before .before .before .before .before .before .before .before .peel) .result) ((c .before .before .before .before .before .before .before .before .before .before .before .before .before .before .before .before .before .peel) .ensures .0) _ ((c .before .r2) .given .1), (refl, wiped-back _ _ _ _ _ _ _ _ _ (c .before .before .before .before .before .before .before .before .before .before .before .before .before .before .before .before .before .before .before .before .before .before .before .before .before .before .before .before .before .before .before .pre) ((c .before .before .before .before .before .before .before .before .before .before .before .before .before .before .before .before .before .peel) .last .1 .1 .1 .1 .0) _ ((c .before .before .before .before .before .before .before .before .before .before .before .before .before .before .before .before .before .peel) .kept .1 .1 .1 .1 .0) ((c .before .before .before .before .before .wipe) .ensures), (c .before .before .before .before .before .before .before .before .before .before .before .before .before .before .before .before .before .peel) .ensures .1))
 
 -- src/unify.rt:32:1
 same-length-13 : tie.Need-same-length-13
@@ -125,15 +127,15 @@ same-length-18 c = search needs
 
 -- src/unify.rt:32:1
 returns-3 : tie.Need-returns-3
-returns-3 c = ?
+returns-3 c = (round-full _ _ _ _ _ _ _ _ _ (c .before .before .before .before .before .before .before .before .before .before .before .before .before .before .before .before .before .before .before .before .before .before .before .before .before .before .before .before .before .before .before .pre) _ _ ((c .before .before .before .before .before .before .before .before .before .before .before .before .before .before .before .before .before .peel) .last .1 .1 .1 .1 .1 .0) ((c .before .before .before .before .before .before .before .before .before .before .before .before .before .before .before .before .before .peel) .result) ((c .before .before .before .before .before .before .before .before .before .before .before .before .before .before .before .before .before .peel) .ensures .0) _ _ ((c .before .r3) .given .1), (refl, wiped-back _ _ _ _ _ _ _ _ _ (c .before .before .before .before .before .before .before .before .before .before .before .before .before .before .before .before .before .before .before .before .before .before .before .before .before .before .before .before .before .before .before .pre) ((c .before .before .before .before .before .before .before .before .before .before .before .before .before .before .before .before .before .peel) .last .1 .1 .1 .1 .0) _ ((c .before .before .before .before .before .before .before .before .before .before .before .before .before .before .before .before .before .peel) .kept .1 .1 .1 .1 .0) ((c .before .before .before .before .before .wipe) .ensures), (c .before .before .before .before .before .before .before .before .before .before .before .before .before .before .before .before .before .peel) .ensures .1))
 
 -- src/unify.rt:32:1
 same-length-19 : tie.Need-same-length-19
-same-length-19 c = ?
+same-length-19 c = (c .before .before .before .before .before .before .before .before .before .before .before .before .before .extend) .kept .0 ∙ (c .before .before .before .before .before .before .before .before .before .before .before .before .before .before .before .before .before .before .before .before .before .before .before .before .before .before .before .before .before .before .before .before .before .before .before .before .peel) .kept .0
 
 -- src/unify.rt:32:1
 same-length-20 : tie.Need-same-length-20
-same-length-20 c = ?
+same-length-20 c = (c .before .before .before .before .before .before .before .before .before .before .before .before .before .extend) .kept .1 .0 ∙ (c .before .before .before .before .before .before .before .before .before .before .before .before .before .before .before .before .before .before .before .before .before .before .before .before .before .before .before .before .before .before .before .before .before .before .before .before .peel) .kept .1 .0
 
 -- src/unify.rt:32:1
 same-length-21 : tie.Need-same-length-21
@@ -145,7 +147,7 @@ same-length-22 c = search needs
 
 -- src/unify.rt:32:1
 same-length-23 : tie.Need-same-length-23
-same-length-23 c = search needs
+same-length-23 c = (c .before .before .before .before .before .before .before .before .before .before .before .before .before .extend) .kept .1 .1 .1 .1 .1 .0 ∙ (c .before .before .before .before .before .before .before .before .before .before .before .before .before .before .before .before .before .before .before .before .before .before .before .before .wipe) .kept .0 ∙ (c .before .before .before .before .before .before .before .before .before .before .before .before .before .before .before .before .before .before .before .before .before .before .before .before .before .before .before .before .before .before .before .before .before .before .before .before .peel) .kept .1 .1 .1 .1 .0
 
 -- src/unify.rt:32:1
 same-length-24 : tie.Need-same-length-24
@@ -157,15 +159,15 @@ same-length-25 c = search needs
 
 -- src/unify.rt:32:1
 returns-4 : tie.Need-returns-4
-returns-4 c = ?
+returns-4 c = (bind-more _ _ _ _ _ _ _ _ _ (c .before .before .before .before .before .before .before .before .before .before .before .before .before .before .before .before .before .before .before .before .before .before .before .before .before .before .before .before .before .before .before .before .before .before .before .before .before .before .before .before .before .before .before .before .before .before .before .before .before .before .pre) _ _ ((c .before .before .before .before .before .before .before .before .before .before .before .before .before .before .before .before .before .before .before .before .before .before .before .before .before .before .before .before .before .before .before .before .before .before .before .before .peel) .last .1 .1 .1 .1 .1 .0) ((c .before .before .before .before .before .before .before .before .before .before .before .before .before .before .before .before .before .before .before .before .before .before .before .before .before .before .before .before .before .before .before .before .before .before .before .before .peel) .result) ((c .before .before .before .before .before .before .before .before .before .before .before .before .before .before .before .before .before .before .before .before .before .before .before .before .before .before .before .before .before .before .before .before .before .before .before .before .peel) .ensures .0) _ _ _ _ ((c .before .before .before .before .before .before .before .before .before .before .before .before .before .before .before .before .before .before .before .before .r4) .given .1) _ _ ((c .before .before .before .before .before .before .before .before .before .before .before .before .before .extend) .last .1 .1 .1 .0) ((c .before .before .before .before .before .before .before .before .before .before .before .before .before .extend) .result) ((c .before .before .before .before .before .before .before .before .before .before .before .before .before .extend) .ensures .0) _ ((c .before .new) .given .1) ((c .before .before .before .before .before .before .before .before .before .before .before .before .before .before .before .before .before .before .before .before .before .before .before .before .before .before .before .before .before .before .before .before .before .before .before .before .peel) .kept .1 .1 .1 .1 .1 .0), ((c .before .before .before .before .before .before .before .before .before .before .before .before .before .extend) .ensures .1 .0, (c .before .before .before .before .before .before .before .before .before .before .before .before .before .extend) .ensures .1 .1 ∙ wiped-back _ _ _ _ _ _ _ _ _ (c .before .before .before .before .before .before .before .before .before .before .before .before .before .before .before .before .before .before .before .before .before .before .before .before .before .before .before .before .before .before .before .before .before .before .before .before .before .before .before .before .before .before .before .before .before .before .before .before .before .before .pre) ((c .before .before .before .before .before .before .before .before .before .before .before .before .before .before .before .before .before .before .before .before .before .before .before .before .before .before .before .before .before .before .before .before .before .before .before .before .peel) .last .1 .1 .1 .1 .0) _ ((c .before .before .before .before .before .before .before .before .before .before .before .before .before .before .before .before .before .before .before .before .before .before .before .before .before .before .before .before .before .before .before .before .before .before .before .before .peel) .kept .1 .1 .1 .1 .0) ((c .before .before .before .before .before .before .before .before .before .before .before .before .before .before .before .before .before .before .before .before .before .before .before .before .wipe) .ensures), (c .before .before .before .before .before .before .before .before .before .before .before .before .before .before .before .before .before .before .before .before .before .before .before .before .before .before .before .before .before .before .before .before .before .before .before .before .peel) .ensures .1))
 
 -- src/unify.rt:32:1
 same-length-26 : tie.Need-same-length-26
-same-length-26 c = ?
+same-length-26 c = (c .before .before .before .before .before .before .before .before .before .before .before .before .before .extend) .kept .0 ∙ (c .before .before .before .before .before .before .before .before .before .before .before .before .before .before .before .before .before .before .before .before .before .before .before .before .before .before .before .before .before .before .before .before .before .before .before .before .peel) .kept .0
 
 -- src/unify.rt:32:1
 same-length-27 : tie.Need-same-length-27
-same-length-27 c = ?
+same-length-27 c = (c .before .before .before .before .before .before .before .before .before .before .before .before .before .extend) .kept .1 .0 ∙ (c .before .before .before .before .before .before .before .before .before .before .before .before .before .before .before .before .before .before .before .before .before .before .before .before .before .before .before .before .before .before .before .before .before .before .before .before .peel) .kept .1 .0
 
 -- src/unify.rt:32:1
 same-length-28 : tie.Need-same-length-28
@@ -177,7 +179,7 @@ same-length-29 c = search needs
 
 -- src/unify.rt:32:1
 same-length-30 : tie.Need-same-length-30
-same-length-30 c = ?
+same-length-30 c = (c .before .before .before .before .before .before .before .before .before .before .before .before .before .extend) .kept .1 .1 .1 .1 .1 .0 ∙ (c .before .before .before .before .before .before .before .before .before .before .before .before .before .before .before .before .before .before .before .before .before .before .before .before .wipe) .kept .0 ∙ (c .before .before .before .before .before .before .before .before .before .before .before .before .before .before .before .before .before .before .before .before .before .before .before .before .before .before .before .before .before .before .before .before .before .before .before .before .peel) .kept .1 .1 .1 .1 .0
 
 -- src/unify.rt:32:1
 same-length-31 : tie.Need-same-length-31
@@ -189,7 +191,7 @@ same-length-32 c = search needs
 
 -- src/unify.rt:32:1
 returns-5 : tie.Need-returns-5
-returns-5 c = ?
+returns-5 c = (bind-full _ _ _ _ _ _ _ _ _ (c .before .before .before .before .before .before .before .before .before .before .before .before .before .before .before .before .before .before .before .before .before .before .before .before .before .before .before .before .before .before .before .before .before .before .before .before .before .before .before .before .before .before .before .before .before .before .before .before .before .before .pre) _ _ ((c .before .before .before .before .before .before .before .before .before .before .before .before .before .before .before .before .before .before .before .before .before .before .before .before .before .before .before .before .before .before .before .before .before .before .before .before .peel) .last .1 .1 .1 .1 .1 .0) ((c .before .before .before .before .before .before .before .before .before .before .before .before .before .before .before .before .before .before .before .before .before .before .before .before .before .before .before .before .before .before .before .before .before .before .before .before .peel) .result) ((c .before .before .before .before .before .before .before .before .before .before .before .before .before .before .before .before .before .before .before .before .before .before .before .before .before .before .before .before .before .before .before .before .before .before .before .before .peel) .ensures .0) _ _ _ _ ((c .before .before .before .before .before .before .before .before .before .before .before .before .before .before .before .before .before .before .before .before .r4) .given .1) _ _ ((c .before .before .before .before .before .before .before .before .before .before .before .before .before .extend) .last .1 .1 .1 .0) ((c .before .before .before .before .before .before .before .before .before .before .before .before .before .extend) .result) ((c .before .before .before .before .before .before .before .before .before .before .before .before .before .extend) .ensures .0) _ _ ((c .before .row) .given .1), ((c .before .before .before .before .before .before .before .before .before .before .before .before .before .extend) .ensures .1 .0, (c .before .before .before .before .before .before .before .before .before .before .before .before .before .extend) .ensures .1 .1 ∙ wiped-back _ _ _ _ _ _ _ _ _ (c .before .before .before .before .before .before .before .before .before .before .before .before .before .before .before .before .before .before .before .before .before .before .before .before .before .before .before .before .before .before .before .before .before .before .before .before .before .before .before .before .before .before .before .before .before .before .before .before .before .before .pre) ((c .before .before .before .before .before .before .before .before .before .before .before .before .before .before .before .before .before .before .before .before .before .before .before .before .before .before .before .before .before .before .before .before .before .before .before .before .peel) .last .1 .1 .1 .1 .0) _ ((c .before .before .before .before .before .before .before .before .before .before .before .before .before .before .before .before .before .before .before .before .before .before .before .before .before .before .before .before .before .before .before .before .before .before .before .before .peel) .kept .1 .1 .1 .1 .0) ((c .before .before .before .before .before .before .before .before .before .before .before .before .before .before .before .before .before .before .before .before .before .before .before .before .wipe) .ensures), (c .before .before .before .before .before .before .before .before .before .before .before .before .before .before .before .before .before .before .before .before .before .before .before .before .before .before .before .before .before .before .before .before .before .before .before .before .peel) .ensures .1))
 
 pub bind-next-spec : {M : Type 1} → statement M
 bind-next-spec =
