@@ -35,3 +35,4 @@ pub mod Looks
 pub mod Turns
 pub mod Peels
 pub mod Solves
+pub mod Unifies
