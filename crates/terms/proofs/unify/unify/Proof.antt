@@ -1,3 +1,6 @@
+use mathlib.Core.Path.{ap}
+use lib.ListN.{length}
+use Rattle.terms.proofs.Unifies.{unify-begins, pairs-back, unify-found, unify-apart, unify-full}
 use borrow.Author.Needs.{needs}
 use Rattle.terms.proofs.unify.unify.Statement.{statement}
 use Rattle.terms.proofs.unify.unify.Tie as tie
@@ -24,7 +27,7 @@ slice-write-pairs-2 c = search needs
 
 -- src/unify.rt:127:9
 solve-requires : tie.Need-solve-requires
-solve-requires c κs = ?
+solve-requires c κs = unify-begins _ _ _ _ _ _ _ _ _ _ (c .before .before .before .before .before .before .before .before .before .before .before .before .before .before .pre)
 
 -- src/unify.rt:128:5
 wipe-requires : tie.Need-wipe-requires
@@ -72,7 +75,7 @@ same-length-5 c = search needs
 
 -- src/unify.rt:107:1
 same-length-6 : tie.Need-same-length-6
-same-length-6 c = ?
+same-length-6 c = ap length (pairs-back _ _ _ _ _ _ _ _ _ _ (c .before .before .before .before .before .before .before .before .before .before .before .before .before .before .before .before .before .before .before .before .before .before .before .before .before .before .before .before .before .before .before .before .before .before .before .before .pre) ((c .before .before .before .before .before .before .before .before .before .before .before .before .before .before .before .before .before .before .before .before .before .solve) .last .1 .1 .1 .1 .1 .1 .1 .0) _ ((c .before .before .before .before .before .before .before .before .before .before .before .before .before .before .before .before .before .before .before .before .before .solve) .kept .1 .1 .1 .1 .1 .1 .1 .0) ((c .before .before .before .before .before .wipe) .ensures))
 
 -- src/unify.rt:107:1
 same-length-7 : tie.Need-same-length-7
@@ -80,7 +83,7 @@ same-length-7 c = search needs
 
 -- src/unify.rt:107:1
 returns : tie.Need-returns
-returns c = ?
+returns c = (unify-found _ _ _ _ _ _ _ _ _ _ (c .before .before .before .before .before .before .before .before .before .before .before .before .before .before .before .before .before .before .before .before .before .before .before .before .before .before .before .before .before .before .before .before .before .before .before .before .pre) _ _ ((c .before .before .before .before .before .before .before .before .before .before .before .before .before .before .before .before .before .before .before .before .before .solve) .last .1 .1 .1 .1 .0) _ ((c .before .before .before .before .before .before .before .before .before .before .before .before .before .before .before .before .before .before .before .before .before .solve) .result) ((c .before .before .before .before .before .before .before .before .before .before .before .before .before .before .before .before .before .before .before .before .before .solve) .ensures .0) _ ((c .before .r) .given .1), ((c .before .before .before .before .before .before .before .before .before .before .before .before .before .before .before .before .before .before .before .before .before .solve) .ensures .1 .0, (c .before .before .before .before .before .before .before .before .before .before .before .before .before .before .before .before .before .before .before .before .before .solve) .ensures .1 .1, pairs-back _ _ _ _ _ _ _ _ _ _ (c .before .before .before .before .before .before .before .before .before .before .before .before .before .before .before .before .before .before .before .before .before .before .before .before .before .before .before .before .before .before .before .before .before .before .before .before .pre) ((c .before .before .before .before .before .before .before .before .before .before .before .before .before .before .before .before .before .before .before .before .before .solve) .last .1 .1 .1 .1 .1 .1 .1 .0) _ ((c .before .before .before .before .before .before .before .before .before .before .before .before .before .before .before .before .before .before .before .before .before .solve) .kept .1 .1 .1 .1 .1 .1 .1 .0) ((c .before .before .before .before .before .wipe) .ensures), (c .before .before .before .before .before .before .before .before .before .before .before .before .before .before .before .before .before .before .before .before .before .solve) .ensures .1 .2))
 
 -- src/unify.rt:107:1
 same-length-8 : tie.Need-same-length-8
@@ -104,7 +107,7 @@ same-length-12 c = search needs
 
 -- src/unify.rt:107:1
 same-length-13 : tie.Need-same-length-13
-same-length-13 c = ?
+same-length-13 c = ap length (pairs-back _ _ _ _ _ _ _ _ _ _ (c .before .before .before .before .before .before .before .before .before .before .before .before .before .before .before .before .before .before .before .before .before .before .before .before .before .before .before .before .before .before .before .before .before .before .before .before .before .before .before .before .pre) ((c .before .before .before .before .before .before .before .before .before .before .before .before .before .before .before .before .before .before .before .before .before .before .before .before .before .solve) .last .1 .1 .1 .1 .1 .1 .1 .0) _ ((c .before .before .before .before .before .before .before .before .before .before .before .before .before .before .before .before .before .before .before .before .before .before .before .before .before .solve) .kept .1 .1 .1 .1 .1 .1 .1 .0) ((c .before .before .before .before .before .before .before .before .before .wipe) .ensures))
 
 -- src/unify.rt:107:1
 same-length-14 : tie.Need-same-length-14
@@ -112,7 +115,7 @@ same-length-14 c = search needs
 
 -- src/unify.rt:107:1
 returns-2 : tie.Need-returns-2
-returns-2 c = ?
+returns-2 c = (unify-apart _ _ _ _ _ _ _ _ _ _ (c .before .before .before .before .before .before .before .before .before .before .before .before .before .before .before .before .before .before .before .before .before .before .before .before .before .before .before .before .before .before .before .before .before .before .before .before .before .before .before .before .pre) _ _ ((c .before .before .before .before .before .before .before .before .before .before .before .before .before .before .before .before .before .before .before .before .before .before .before .before .before .solve) .last .1 .1 .1 .1 .0) _ ((c .before .before .before .before .before .before .before .before .before .before .before .before .before .before .before .before .before .before .before .before .before .before .before .before .before .solve) .result) ((c .before .before .before .before .before .before .before .before .before .before .before .before .before .before .before .before .before .before .before .before .before .before .before .before .before .solve) .ensures .0) _ ((c .before .before .before .before .before .before .before .before .before .before .before .before .before .before .before .before .before .before .before .before .before .before .before .before .before .solve) .kept .1 .1 .1 .1 .0) ((c .before .before .wipe2) .ensures) _ ((c .before .before .before .before .before .r2) .given .1), ((c .before .before .before .before .before .before .before .before .before .before .before .before .before .before .before .before .before .before .before .before .before .before .before .before .before .solve) .ensures .1 .0, (c .before .before .before .before .before .before .before .before .before .before .before .before .before .before .before .before .before .before .before .before .before .before .before .before .before .solve) .ensures .1 .1, pairs-back _ _ _ _ _ _ _ _ _ _ (c .before .before .before .before .before .before .before .before .before .before .before .before .before .before .before .before .before .before .before .before .before .before .before .before .before .before .before .before .before .before .before .before .before .before .before .before .before .before .before .before .pre) ((c .before .before .before .before .before .before .before .before .before .before .before .before .before .before .before .before .before .before .before .before .before .before .before .before .before .solve) .last .1 .1 .1 .1 .1 .1 .1 .0) _ ((c .before .before .before .before .before .before .before .before .before .before .before .before .before .before .before .before .before .before .before .before .before .before .before .before .before .solve) .kept .1 .1 .1 .1 .1 .1 .1 .0) ((c .before .before .before .before .before .before .before .before .before .wipe) .ensures), (c .before .before .before .before .before .before .before .before .before .before .before .before .before .before .before .before .before .before .before .before .before .before .before .before .before .solve) .ensures .1 .2))
 
 -- src/unify.rt:107:1
 same-length-15 : tie.Need-same-length-15
@@ -136,7 +139,7 @@ same-length-19 c = search needs
 
 -- src/unify.rt:107:1
 same-length-20 : tie.Need-same-length-20
-same-length-20 c = ?
+same-length-20 c = ap length (pairs-back _ _ _ _ _ _ _ _ _ _ (c .before .before .before .before .before .before .before .before .before .before .before .before .before .before .before .before .before .before .before .before .before .before .before .before .before .before .before .before .before .before .before .before .before .before .before .before .before .before .before .before .pre) ((c .before .before .before .before .before .before .before .before .before .before .before .before .before .before .before .before .before .before .before .before .before .before .before .before .before .solve) .last .1 .1 .1 .1 .1 .1 .1 .0) _ ((c .before .before .before .before .before .before .before .before .before .before .before .before .before .before .before .before .before .before .before .before .before .before .before .before .before .solve) .kept .1 .1 .1 .1 .1 .1 .1 .0) ((c .before .before .before .before .before .before .before .before .before .wipe) .ensures))
 
 -- src/unify.rt:107:1
 same-length-21 : tie.Need-same-length-21
@@ -144,7 +147,7 @@ same-length-21 c = search needs
 
 -- src/unify.rt:107:1
 returns-3 : tie.Need-returns-3
-returns-3 c = ?
+returns-3 c = (unify-full _ _ _ _ _ _ _ _ _ _ (c .before .before .before .before .before .before .before .before .before .before .before .before .before .before .before .before .before .before .before .before .before .before .before .before .before .before .before .before .before .before .before .before .before .before .before .before .before .before .before .before .pre) _ _ ((c .before .before .before .before .before .before .before .before .before .before .before .before .before .before .before .before .before .before .before .before .before .before .before .before .before .solve) .last .1 .1 .1 .1 .0) _ ((c .before .before .before .before .before .before .before .before .before .before .before .before .before .before .before .before .before .before .before .before .before .before .before .before .before .solve) .result) ((c .before .before .before .before .before .before .before .before .before .before .before .before .before .before .before .before .before .before .before .before .before .before .before .before .before .solve) .ensures .0) _ ((c .before .before .before .before .before .before .before .before .before .before .before .before .before .before .before .before .before .before .before .before .before .before .before .before .before .solve) .kept .1 .1 .1 .1 .0) ((c .before .before .wipe3) .ensures) _ _ ((c .before .before .before .before .before .r3) .given .1), ((c .before .before .before .before .before .before .before .before .before .before .before .before .before .before .before .before .before .before .before .before .before .before .before .before .before .solve) .ensures .1 .0, (c .before .before .before .before .before .before .before .before .before .before .before .before .before .before .before .before .before .before .before .before .before .before .before .before .before .solve) .ensures .1 .1, pairs-back _ _ _ _ _ _ _ _ _ _ (c .before .before .before .before .before .before .before .before .before .before .before .before .before .before .before .before .before .before .before .before .before .before .before .before .before .before .before .before .before .before .before .before .before .before .before .before .before .before .before .before .pre) ((c .before .before .before .before .before .before .before .before .before .before .before .before .before .before .before .before .before .before .before .before .before .before .before .before .before .solve) .last .1 .1 .1 .1 .1 .1 .1 .0) _ ((c .before .before .before .before .before .before .before .before .before .before .before .before .before .before .before .before .before .before .before .before .before .before .before .before .before .solve) .kept .1 .1 .1 .1 .1 .1 .1 .0) ((c .before .before .before .before .before .before .before .before .before .wipe) .ensures), (c .before .before .before .before .before .before .before .before .before .before .before .before .before .before .before .before .before .before .before .before .before .before .before .before .before .solve) .ensures .1 .2))
 
 pub unify-spec : {M : Type 1} → statement M
 unify-spec =
