@@ -33,3 +33,9 @@ pub mod Waits
 pub mod Bindings
 pub mod Values
 pub mod Extends
+pub mod Sides
+pub mod Looks
+pub mod Turns
+pub mod Peels
+pub mod Solves
+pub mod Unifies

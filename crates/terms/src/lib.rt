@@ -2,6 +2,7 @@
 // unification, and a rule's patterns matched and built. Each function is proved equal to the definition in the crate `rules`.
 mod pairs;
 pub mod patterns;
+mod peel;
 mod replace;
 pub mod sets;
 pub mod store;

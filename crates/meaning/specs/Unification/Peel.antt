@@ -85,7 +85,7 @@ sorted-after : (S : Sig) (vs : ℕ → ℕ) (θ : List Binding) → SortedBindin
 sorted-after S vs θ b t s h = sorted-sub S vs vs (along θ) t s h (λ v o. sorts-after S vs θ b v)
 
 module _ (Own : ℕ → Type 0) (θ : List Binding) (set : Settled θ) (own : WithinBindings Own θ) where
-  within-after : (t : Tree) → Within Own t → Within Own (sub (along θ) t)
+  pub within-after : (t : Tree) → Within Own t → Within Own (sub (along θ) t)
   unfolding Occ
   within-after t h v o = let r = sub-occ (along θ) t v o in go (r .0) (r .1) (r .2) (along-cases (λ y u. Own y × Within Own u) θ own (r .0))
     where
@@ -105,7 +105,7 @@ module _ (Own : ℕ → Type 0) (θ : List Binding) (set : Settled θ) (own : Wi
   push-weight (more t ts) (more u us) w = let h = push-weight ts us (record { left = t; right = u } ∷ w) in omega arith
 
   -- a tree whose head has arguments gives pairs that weigh less than it
-  lighter : (k : ℕ) (t : Tree) (c : ℕ) (ts us : Trees) (w : List Pair) → sub (along θ) t ≡ app c ts
+  pub lighter : (k : ℕ) (t : Tree) (c : ℕ) (ts us : Trees) (w : List Pair) → sub (along θ) t ≡ app c ts
       → size (sub (along θ) t) + weight θ w ≤ k → weight θ (push ts us w) < k
   unfolding size
   lighter k t c ts us w e f =
@@ -170,7 +170,7 @@ module _ (Own : ℕ → Type 0) (θ : List Binding) (set : Settled θ) (own : Wi
         push-sorted S vs ts us (S .ins c) w (l .2) (r .2) (q .1);
   }
 
-  within-parts : (p : Pair) (w : List Pair) (c : ℕ) (ts us : Trees) → sub (along θ) (p .left) ≡ app c ts → sub (along θ) (p .right) ≡ app c us
+  pub within-parts : (p : Pair) (w : List Pair) (c : ℕ) (ts us : Trees) → sub (along θ) (p .left) ≡ app c ts → sub (along θ) (p .right) ≡ app c us
       → WithinPairs Own (p ∷ w) → WithinPairs Own (push ts us w)
   unfolding WithinPairs Occ
   within-parts p w c ts us el er i =

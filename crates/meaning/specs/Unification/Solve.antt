@@ -58,7 +58,7 @@ module _ (x : ℕ) (u : Tree) (θ : List Binding) (new : ¬ (Bound x θ)) where
         | inr p ↦ subst (λ t. Sorted S vs t (vs z)) (sym (p .1)) refl
       ]
 
-  within-extended : (Own : ℕ → Type 0) → Own x × Within Own u → WithinBindings Own θ → WithinBindings Own (extended x u θ)
+  pub within-extended : (Own : ℕ → Type 0) → Own x × Within Own u → WithinBindings Own θ → WithinBindings Own (extended x u θ)
   unfolding Occ
   within-extended Own k b =
       each-extended x u θ new (λ v t. Own v × Within Own t) (λ v t. Own v × Within Own t) k

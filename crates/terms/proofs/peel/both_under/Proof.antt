@@ -1,0 +1,102 @@
+use Rattle.terms.proofs.Sides.{first-full, second-ready, second-full, both-done}
+use borrow.Author.Needs.{needs}
+use Rattle.terms.proofs.peel.both_under.Statement.{statement}
+use Rattle.terms.proofs.peel.both_under.Tie as tie
+use Rattle.terms.proofs.peel.both_under.Reads as reads
+use Rattle.terms.proofs.peel.both_under.Lts as lts
+use Rattle.terms.proofs.replace.replace.Reads as replace-reads
+
+-- src/peel.rt:59:11
+replace-requires : tie.Need-replace-requires
+replace-requires c κs = search needs
+
+-- src/peel.rt:60:20
+enum-known-row : tie.Need-enum-known-row
+enum-known-row c = search needs
+
+-- src/peel.rt:61:20
+enum-known-a : tie.Need-enum-known-a
+enum-known-a c = search needs
+
+-- src/peel.rt:61:38
+replace-requires-2 : tie.Need-replace-requires-2
+replace-requires-2 c κs = second-ready _ _ _ _ _ _ _ (c .before .before .before .before .before .before .before .before .before .before .before .before .before .before .before .before .before .before .before .before .pre) _ _ ((c .before .before .before .before .before .before .before .before .before .before .before .before .replace) .last .1 .1 .1 .1 .0) ((c .before .before .before .before .before .before .before .before .before .before .before .before .replace) .result) ((c .before .before .before .before .before .before .before .before .before .before .before .before .replace) .ensures) _ _ ((c .before .before .before .before .a) .given .1) ((c .before .before .before .before .before .before .before .before .before .before .before .before .replace) .kept .1 .1 .1 .1 .0)
+
+-- src/peel.rt:62:24
+enum-known-row-2 : tie.Need-enum-known-row-2
+enum-known-row-2 c = search needs
+
+-- src/peel.rt:63:24
+enum-known-b : tie.Need-enum-known-b
+enum-known-b c = search needs
+
+-- src/peel.rt:47:1
+same-length : tie.Need-same-length
+same-length c = search needs
+
+-- src/peel.rt:47:1
+same-length-2 : tie.Need-same-length-2
+same-length-2 c = search needs
+
+-- src/peel.rt:47:1
+same-length-3 : tie.Need-same-length-3
+same-length-3 c = search needs
+
+-- src/peel.rt:47:1
+returns : tie.Need-returns
+returns c = first-full _ _ _ _ _ _ _ (c .before .before .before .before .before .before .before .before .before .before .before .before .before .before .before .before .before .pre) _ _ ((c .before .before .before .before .before .before .before .before .before .replace) .last .1 .1 .1 .1 .0) ((c .before .before .before .before .before .before .before .before .before .replace) .result) ((c .before .before .before .before .before .before .before .before .before .replace) .ensures) _ _ ((c .before .row) .given .1)
+
+-- src/peel.rt:47:1
+same-length-4 : tie.Need-same-length-4
+same-length-4 c = search needs
+
+-- src/peel.rt:47:1
+same-length-5 : tie.Need-same-length-5
+same-length-5 c = search needs
+
+-- src/peel.rt:47:1
+same-length-6 : tie.Need-same-length-6
+same-length-6 c = search needs
+
+-- src/peel.rt:47:1
+returns-2 : tie.Need-returns-2
+returns-2 c = second-full _ _ _ _ _ _ _ (c .before .before .before .before .before .before .before .before .before .before .before .before .before .before .before .before .before .before .before .before .before .before .before .before .before .before .before .before .before .before .pre) _ _ ((c .before .before .before .before .before .before .before .before .before .before .before .before .before .before .before .before .before .before .before .before .before .before .replace) .last .1 .1 .1 .1 .0) ((c .before .before .before .before .before .before .before .before .before .before .before .before .before .before .before .before .before .before .before .before .before .before .replace) .result) ((c .before .before .before .before .before .before .before .before .before .before .before .before .before .before .before .before .before .before .before .before .before .before .replace) .ensures) _ _ ((c .before .before .before .before .before .before .before .before .before .before .before .before .before .before .a) .given .1) _ _ ((c .before .before .before .before .before .before .before .before .before .replace2) .last .1 .1 .1 .1 .0) ((c .before .before .before .before .before .before .before .before .before .replace2) .result) ((c .before .before .before .before .before .before .before .before .before .replace2) .ensures) _ _ ((c .before .row2) .given .1)
+
+-- src/peel.rt:47:1
+same-length-7 : tie.Need-same-length-7
+same-length-7 c = search needs
+
+-- src/peel.rt:47:1
+same-length-8 : tie.Need-same-length-8
+same-length-8 c = search needs
+
+-- src/peel.rt:47:1
+same-length-9 : tie.Need-same-length-9
+same-length-9 c = search needs
+
+-- src/peel.rt:47:1
+returns-3 : tie.Need-returns-3
+returns-3 c = both-done _ _ _ _ _ _ _ (c .before .before .before .before .before .before .before .before .before .before .before .before .before .before .before .before .before .before .before .before .before .before .before .before .before .before .before .before .before .before .pre) _ _ ((c .before .before .before .before .before .before .before .before .before .before .before .before .before .before .before .before .before .before .before .before .before .before .replace) .last .1 .1 .1 .1 .0) ((c .before .before .before .before .before .before .before .before .before .before .before .before .before .before .before .before .before .before .before .before .before .before .replace) .result) ((c .before .before .before .before .before .before .before .before .before .before .before .before .before .before .before .before .before .before .before .before .before .before .replace) .ensures) _ _ ((c .before .before .before .before .before .before .before .before .before .before .before .before .before .before .a) .given .1) _ _ ((c .before .before .before .before .before .before .before .before .before .replace2) .last .1 .1 .1 .1 .0) ((c .before .before .before .before .before .before .before .before .before .replace2) .result) ((c .before .before .before .before .before .before .before .before .before .replace2) .ensures) _ _ ((c .before .b) .given .1)
+
+pub both-under-spec : {M : Type 1} → statement M
+both-under-spec =
+    tie.close
+    (tie.spec
+    replace-requires
+    enum-known-row
+    enum-known-a
+    replace-requires-2
+    enum-known-row-2
+    enum-known-b
+    same-length
+    same-length-2
+    same-length-3
+    returns
+    same-length-4
+    same-length-5
+    same-length-6
+    returns-2
+    same-length-7
+    same-length-8
+    same-length-9
+    returns-3)

@@ -1,0 +1,183 @@
+use mathlib.Core.Path.{ap, _∙_}
+use lib.ListN.{length}
+use Rattle.terms.specs.Peel.{weighs}
+use Rattle.terms.proofs.Peels.{Peeling, peeling-begins, peeling-asks, peeling-less, peeling-on, peeling-clash, peeling-binds, peeling-full, peeling-ends}
+use borrow.Author.Needs.{needs}
+use Rattle.terms.proofs.peel.peel.Statement.{statement}
+use Rattle.terms.proofs.peel.peel.Tie as tie
+use Rattle.terms.proofs.peel.peel.Reads as reads
+use Rattle.terms.proofs.peel.peel.Lts as lts
+use Rattle.terms.proofs.peel.take_pair.Reads as take-pair-reads
+
+abbrev Inv-loop : tie.InvT-loop
+Inv-loop index₀ words₀ theta memo₀ pairs₀ seen₀ waiting m₀ w₀ index words memo pairs seen m w = Peeling index₀ words₀ m₀ theta memo₀ pairs₀ seen₀ waiting index words memo pairs seen m w
+
+abbrev μ-loop : tie.MeasureT-loop
+μ-loop index₀ words₀ theta memo₀ pairs₀ seen₀ waiting m₀ w₀ index words memo pairs seen m w = weighs index words m theta pairs w
+
+-- src/peel.rt:144:5
+loop-holds : tie.Need-loop-holds Inv-loop μ-loop
+loop-holds c = peeling-begins _ _ _ _ _ _ _ _ (c .before .before .before .before .before .before .pre)
+
+-- src/peel.rt:145:15
+take-pair-requires : tie.Need-take-pair-requires Inv-loop μ-loop
+take-pair-requires c κs = peeling-asks _ _ _ _ _ _ _ _ _ _ _ _ _ _ _ ((c .before .before .before .before .before .before .loop) .inv) ((c .before .before .before .before .before .loop-test) .taken)
+
+-- src/peel.rt:146:24
+enum-known-more : tie.Need-enum-known-more Inv-loop μ-loop
+enum-known-more c = search needs
+
+-- src/peel.rt:144:5
+loop-less : tie.Need-loop-less Inv-loop μ-loop
+loop-less c = peeling-less _ _ _ _ _ _ _ _ _ _ _ _ _ _ _ ((c .before .before .before .before .before .before .before .before .before .before .before .before .before .before .before .before .before .before .before .before .loop) .inv) _ _ ((c .before .before .before .before .before .before .before .before .before .before .before .before .before .take-pair) .last .1 .1 .1 .1 .0) _ ((c .before .before .before .before .before .before .before .before .before .before .before .before .before .take-pair) .result) ((c .before .before .before .before .before .before .before .before .before .before .before .before .before .take-pair) .ensures .0) _ _ ((c .before .more) .given .1)
+
+-- src/peel.rt:144:5
+loop-again : tie.Need-loop-again Inv-loop μ-loop
+loop-again c = peeling-on _ _ _ _ _ _ _ _ _ _ _ _ _ _ _ ((c .before .before .before .before .before .before .before .before .before .before .before .before .before .before .before .before .before .before .before .before .loop) .inv) _ _ ((c .before .before .before .before .before .before .before .before .before .before .before .before .before .take-pair) .last .1 .1 .1 .1 .0) _ ((c .before .before .before .before .before .before .before .before .before .before .before .before .before .take-pair) .result) ((c .before .before .before .before .before .before .before .before .before .before .before .before .before .take-pair) .ensures .0) _ _ ((c .before .more) .given .1) _ ((c .before .before .before .before .before .before .before .before .before .before .before .before .before .take-pair) .ensures .1) ((c .before .before .before .before .before .before .before .before .before .before .before .before .before .take-pair) .kept .1 .1 .1 .1 .0) ((c .before .before .before .before .before .before .before .before .before .before .before .before .before .take-pair) .kept .1 .1 .1 .1 .1 .0)
+
+-- src/peel.rt:150:25
+enum-known-last : tie.Need-enum-known-last Inv-loop μ-loop
+enum-known-last c = search needs
+
+-- src/peel.rt:151:17
+same-length : tie.Need-same-length Inv-loop μ-loop
+same-length c = (c .before .before .before .before .before .before .before .before .before .before .before .before .before .take-pair) .kept .0 ∙ (c .before .before .before .before .before .before .before .before .before .before .before .before .before .before .before .before .before .before .before .before .loop) .inv .grown .same .long-index
+
+-- src/peel.rt:151:17
+same-length-2 : tie.Need-same-length-2 Inv-loop μ-loop
+same-length-2 c = (c .before .before .before .before .before .before .before .before .before .before .before .before .before .take-pair) .kept .1 .0 ∙ (c .before .before .before .before .before .before .before .before .before .before .before .before .before .before .before .before .before .before .before .before .loop) .inv .grown .same .long-words
+
+-- src/peel.rt:151:17
+same-length-3 : tie.Need-same-length-3 Inv-loop μ-loop
+same-length-3 c = (c .before .before .before .before .before .before .before .before .before .before .before .before .before .take-pair) .kept .1 .1 .1 .1 .0 ∙ (c .before .before .before .before .before .before .before .before .before .before .before .before .before .before .before .before .before .before .before .before .loop) .inv .long-memo
+
+-- src/peel.rt:151:17
+same-length-4 : tie.Need-same-length-4 Inv-loop μ-loop
+same-length-4 c = (c .before .before .before .before .before .before .before .before .before .before .before .before .before .take-pair) .kept .1 .1 .1 .1 .1 .0 ∙ (c .before .before .before .before .before .before .before .before .before .before .before .before .before .before .before .before .before .before .before .before .loop) .inv .long-pairs
+
+-- src/peel.rt:151:17
+same-length-5 : tie.Need-same-length-5 Inv-loop μ-loop
+same-length-5 c = (c .before .before .before .before .before .before .before .before .before .before .before .before .before .take-pair) .kept .1 .1 .1 .1 .1 .1 .0 ∙ ap length ((c .before .before .before .before .before .before .before .before .before .before .before .before .before .before .before .before .before .before .before .before .loop) .inv .same-seen)
+
+-- src/peel.rt:151:17
+returns : tie.Need-returns Inv-loop μ-loop
+returns c = (peeling-clash _ _ _ _ _ _ _ _ _ _ _ _ _ _ _ ((c .before .before .before .before .before .before .before .before .before .before .before .before .before .before .before .before .before .before .before .before .loop) .inv) _ _ ((c .before .before .before .before .before .before .before .before .before .before .before .before .before .take-pair) .last .1 .1 .1 .1 .0) ((c .before .before .before .before .before .before .before .before .before .before .before .before .before .take-pair) .last .1 .1 .1 .1 .1 .0) ((c .before .before .before .before .before .before .before .before .before .before .before .before .before .take-pair) .result) ((c .before .before .before .before .before .before .before .before .before .before .before .before .before .take-pair) .ensures .0) _ ((c .before .last) .given .1), (c .before .before .before .before .before .before .before .before .before .before .before .before .before .take-pair) .ensures .1 ∙ (c .before .before .before .before .before .before .before .before .before .before .before .before .before .before .before .before .before .before .before .before .loop) .inv .same-seen)
+
+-- src/peel.rt:153:25
+enum-known-x : tie.Need-enum-known-x Inv-loop μ-loop
+enum-known-x c = search needs
+
+-- src/peel.rt:154:17
+same-length-6 : tie.Need-same-length-6 Inv-loop μ-loop
+same-length-6 c = (c .before .before .before .before .before .before .before .before .before .before .before .before .before .take-pair) .kept .0 ∙ (c .before .before .before .before .before .before .before .before .before .before .before .before .before .before .before .before .before .before .before .before .loop) .inv .grown .same .long-index
+
+-- src/peel.rt:154:17
+same-length-7 : tie.Need-same-length-7 Inv-loop μ-loop
+same-length-7 c = (c .before .before .before .before .before .before .before .before .before .before .before .before .before .take-pair) .kept .1 .0 ∙ (c .before .before .before .before .before .before .before .before .before .before .before .before .before .before .before .before .before .before .before .before .loop) .inv .grown .same .long-words
+
+-- src/peel.rt:154:17
+same-length-8 : tie.Need-same-length-8 Inv-loop μ-loop
+same-length-8 c = (c .before .before .before .before .before .before .before .before .before .before .before .before .before .take-pair) .kept .1 .1 .1 .1 .0 ∙ (c .before .before .before .before .before .before .before .before .before .before .before .before .before .before .before .before .before .before .before .before .loop) .inv .long-memo
+
+-- src/peel.rt:154:17
+same-length-9 : tie.Need-same-length-9 Inv-loop μ-loop
+same-length-9 c = (c .before .before .before .before .before .before .before .before .before .before .before .before .before .take-pair) .kept .1 .1 .1 .1 .1 .0 ∙ (c .before .before .before .before .before .before .before .before .before .before .before .before .before .before .before .before .before .before .before .before .loop) .inv .long-pairs
+
+-- src/peel.rt:154:17
+same-length-10 : tie.Need-same-length-10 Inv-loop μ-loop
+same-length-10 c = (c .before .before .before .before .before .before .before .before .before .before .before .before .before .take-pair) .kept .1 .1 .1 .1 .1 .1 .0 ∙ ap length ((c .before .before .before .before .before .before .before .before .before .before .before .before .before .before .before .before .before .before .before .before .loop) .inv .same-seen)
+
+-- src/peel.rt:154:17
+returns-2 : tie.Need-returns-2 Inv-loop μ-loop
+returns-2 c = (peeling-binds _ _ _ _ _ _ _ _ _ _ _ _ _ _ _ ((c .before .before .before .before .before .before .before .before .before .before .before .before .before .before .before .before .before .before .before .before .loop) .inv) _ _ ((c .before .before .before .before .before .before .before .before .before .before .before .before .before .take-pair) .last .1 .1 .1 .1 .0) ((c .before .before .before .before .before .before .before .before .before .before .before .before .before .take-pair) .last .1 .1 .1 .1 .1 .0) ((c .before .before .before .before .before .before .before .before .before .before .before .before .before .take-pair) .result) ((c .before .before .before .before .before .before .before .before .before .before .before .before .before .take-pair) .ensures .0) _ _ _ _ ((c .before .x) .given .1), (c .before .before .before .before .before .before .before .before .before .before .before .before .before .take-pair) .ensures .1 ∙ (c .before .before .before .before .before .before .before .before .before .before .before .before .before .before .before .before .before .before .before .before .loop) .inv .same-seen)
+
+-- src/peel.rt:156:24
+enum-known-row : tie.Need-enum-known-row Inv-loop μ-loop
+enum-known-row c = search needs
+
+-- src/peel.rt:157:17
+same-length-11 : tie.Need-same-length-11 Inv-loop μ-loop
+same-length-11 c = (c .before .before .before .before .before .before .before .before .before .before .before .before .before .take-pair) .kept .0 ∙ (c .before .before .before .before .before .before .before .before .before .before .before .before .before .before .before .before .before .before .before .before .loop) .inv .grown .same .long-index
+
+-- src/peel.rt:157:17
+same-length-12 : tie.Need-same-length-12 Inv-loop μ-loop
+same-length-12 c = (c .before .before .before .before .before .before .before .before .before .before .before .before .before .take-pair) .kept .1 .0 ∙ (c .before .before .before .before .before .before .before .before .before .before .before .before .before .before .before .before .before .before .before .before .loop) .inv .grown .same .long-words
+
+-- src/peel.rt:157:17
+same-length-13 : tie.Need-same-length-13 Inv-loop μ-loop
+same-length-13 c = (c .before .before .before .before .before .before .before .before .before .before .before .before .before .take-pair) .kept .1 .1 .1 .1 .0 ∙ (c .before .before .before .before .before .before .before .before .before .before .before .before .before .before .before .before .before .before .before .before .loop) .inv .long-memo
+
+-- src/peel.rt:157:17
+same-length-14 : tie.Need-same-length-14 Inv-loop μ-loop
+same-length-14 c = (c .before .before .before .before .before .before .before .before .before .before .before .before .before .take-pair) .kept .1 .1 .1 .1 .1 .0 ∙ (c .before .before .before .before .before .before .before .before .before .before .before .before .before .before .before .before .before .before .before .before .loop) .inv .long-pairs
+
+-- src/peel.rt:157:17
+same-length-15 : tie.Need-same-length-15 Inv-loop μ-loop
+same-length-15 c = (c .before .before .before .before .before .before .before .before .before .before .before .before .before .take-pair) .kept .1 .1 .1 .1 .1 .1 .0 ∙ ap length ((c .before .before .before .before .before .before .before .before .before .before .before .before .before .before .before .before .before .before .before .before .loop) .inv .same-seen)
+
+-- src/peel.rt:157:17
+returns-3 : tie.Need-returns-3 Inv-loop μ-loop
+returns-3 c = (peeling-full _ _ _ _ _ _ _ _ _ _ _ _ _ _ _ ((c .before .before .before .before .before .before .before .before .before .before .before .before .before .before .before .before .before .before .before .before .loop) .inv) _ _ ((c .before .before .before .before .before .before .before .before .before .before .before .before .before .take-pair) .last .1 .1 .1 .1 .0) ((c .before .before .before .before .before .before .before .before .before .before .before .before .before .take-pair) .last .1 .1 .1 .1 .1 .0) ((c .before .before .before .before .before .before .before .before .before .before .before .before .before .take-pair) .result) ((c .before .before .before .before .before .before .before .before .before .before .before .before .before .take-pair) .ensures .0) _ _ ((c .before .row) .given .1), (c .before .before .before .before .before .before .before .before .before .before .before .before .before .take-pair) .ensures .1 ∙ (c .before .before .before .before .before .before .before .before .before .before .before .before .before .before .before .before .before .before .before .before .loop) .inv .same-seen)
+
+-- src/peel.rt:127:1
+same-length-16 : tie.Need-same-length-16 Inv-loop μ-loop
+same-length-16 c = (c .before .loop) .inv .grown .same .long-index
+
+-- src/peel.rt:127:1
+same-length-17 : tie.Need-same-length-17 Inv-loop μ-loop
+same-length-17 c = (c .before .loop) .inv .grown .same .long-words
+
+-- src/peel.rt:127:1
+same-length-18 : tie.Need-same-length-18 Inv-loop μ-loop
+same-length-18 c = (c .before .loop) .inv .long-memo
+
+-- src/peel.rt:127:1
+same-length-19 : tie.Need-same-length-19 Inv-loop μ-loop
+same-length-19 c = (c .before .loop) .inv .long-pairs
+
+-- src/peel.rt:127:1
+same-length-20 : tie.Need-same-length-20 Inv-loop μ-loop
+same-length-20 c = ap length ((c .before .loop) .inv .same-seen)
+
+-- src/peel.rt:127:1
+returns-4 : tie.Need-returns-4 Inv-loop μ-loop
+returns-4 c = (peeling-ends _ _ _ _ _ _ _ _ _ _ _ _ _ _ _ ((c .before .loop) .inv) ((c .loop-test) .left), (c .before .loop) .inv .same-seen)
+
+pub peel-spec : {M : Type 1} → statement M
+peel-spec =
+    tie.close
+    (tie.spec
+    Inv-loop
+    μ-loop
+    loop-holds
+    take-pair-requires
+    enum-known-more
+    loop-less
+    loop-again
+    enum-known-last
+    same-length
+    same-length-2
+    same-length-3
+    same-length-4
+    same-length-5
+    returns
+    enum-known-x
+    same-length-6
+    same-length-7
+    same-length-8
+    same-length-9
+    same-length-10
+    returns-2
+    enum-known-row
+    same-length-11
+    same-length-12
+    same-length-13
+    same-length-14
+    same-length-15
+    returns-3
+    same-length-16
+    same-length-17
+    same-length-18
+    same-length-19
+    same-length-20
+    returns-4)

@@ -1,0 +1,190 @@
+use mathlib.Core.Path.{ap}
+use lib.ListN.{length}
+use Rattle.terms.proofs.Unifies.{unify-begins, pairs-back, unify-found, unify-apart, unify-full}
+use borrow.Author.Needs.{needs}
+use Rattle.terms.proofs.unify.unify.Statement.{statement}
+use Rattle.terms.proofs.unify.unify.Tie as tie
+use Rattle.terms.proofs.unify.unify.Reads as reads
+use Rattle.terms.proofs.unify.unify.Lts as lts
+use Rattle.terms.proofs.store.wipe.Reads as wipe-reads
+use Rattle.terms.proofs.unify.solve.Reads as solve-reads
+
+-- src/unify.rt:125:16
+cast-pairs : tie.Need-cast-pairs
+cast-pairs c = search needs
+
+-- src/unify.rt:125:5
+slice-write-pairs : tie.Need-slice-write-pairs
+slice-write-pairs c = search needs
+
+-- src/unify.rt:126:16
+cast-pairs-2 : tie.Need-cast-pairs-2
+cast-pairs-2 c = search needs
+
+-- src/unify.rt:126:5
+slice-write-pairs-2 : tie.Need-slice-write-pairs-2
+slice-write-pairs-2 c = search needs
+
+-- src/unify.rt:127:9
+solve-requires : tie.Need-solve-requires
+solve-requires c κs = unify-begins _ _ _ _ _ _ _ _ _ _ (c .before .before .before .before .before .before .before .before .before .before .before .before .before .before .pre)
+
+-- src/unify.rt:128:5
+wipe-requires : tie.Need-wipe-requires
+wipe-requires c κs = search needs
+
+-- src/unify.rt:130:24
+enum-known-r : tie.Need-enum-known-r
+enum-known-r c = search needs
+
+-- src/unify.rt:131:24
+enum-known-r-2 : tie.Need-enum-known-r-2
+enum-known-r-2 c = search needs
+
+-- src/unify.rt:132:13
+wipe-requires-2 : tie.Need-wipe-requires-2
+wipe-requires-2 c κs = search needs
+
+-- src/unify.rt:135:23
+enum-known-r-3 : tie.Need-enum-known-r-3
+enum-known-r-3 c = search needs
+
+-- src/unify.rt:136:13
+wipe-requires-3 : tie.Need-wipe-requires-3
+wipe-requires-3 c κs = search needs
+
+-- src/unify.rt:107:1
+same-length : tie.Need-same-length
+same-length c = search needs
+
+-- src/unify.rt:107:1
+same-length-2 : tie.Need-same-length-2
+same-length-2 c = search needs
+
+-- src/unify.rt:107:1
+same-length-3 : tie.Need-same-length-3
+same-length-3 c = search needs
+
+-- src/unify.rt:107:1
+same-length-4 : tie.Need-same-length-4
+same-length-4 c = search needs
+
+-- src/unify.rt:107:1
+same-length-5 : tie.Need-same-length-5
+same-length-5 c = search needs
+
+-- src/unify.rt:107:1
+same-length-6 : tie.Need-same-length-6
+same-length-6 c = ap length (pairs-back _ _ _ _ _ _ _ _ _ _ (c .before .before .before .before .before .before .before .before .before .before .before .before .before .before .before .before .before .before .before .before .before .before .before .before .before .before .before .before .before .before .before .before .before .before .before .before .pre) ((c .before .before .before .before .before .before .before .before .before .before .before .before .before .before .before .before .before .before .before .before .before .solve) .last .1 .1 .1 .1 .1 .1 .1 .0) _ ((c .before .before .before .before .before .before .before .before .before .before .before .before .before .before .before .before .before .before .before .before .before .solve) .kept .1 .1 .1 .1 .1 .1 .1 .0) ((c .before .before .before .before .before .wipe) .ensures))
+
+-- src/unify.rt:107:1
+same-length-7 : tie.Need-same-length-7
+same-length-7 c = search needs
+
+-- src/unify.rt:107:1
+returns : tie.Need-returns
+returns c = (unify-found _ _ _ _ _ _ _ _ _ _ (c .before .before .before .before .before .before .before .before .before .before .before .before .before .before .before .before .before .before .before .before .before .before .before .before .before .before .before .before .before .before .before .before .before .before .before .before .pre) _ _ ((c .before .before .before .before .before .before .before .before .before .before .before .before .before .before .before .before .before .before .before .before .before .solve) .last .1 .1 .1 .1 .0) _ ((c .before .before .before .before .before .before .before .before .before .before .before .before .before .before .before .before .before .before .before .before .before .solve) .result) ((c .before .before .before .before .before .before .before .before .before .before .before .before .before .before .before .before .before .before .before .before .before .solve) .ensures .0) _ ((c .before .r) .given .1), ((c .before .before .before .before .before .before .before .before .before .before .before .before .before .before .before .before .before .before .before .before .before .solve) .ensures .1 .0, (c .before .before .before .before .before .before .before .before .before .before .before .before .before .before .before .before .before .before .before .before .before .solve) .ensures .1 .1, pairs-back _ _ _ _ _ _ _ _ _ _ (c .before .before .before .before .before .before .before .before .before .before .before .before .before .before .before .before .before .before .before .before .before .before .before .before .before .before .before .before .before .before .before .before .before .before .before .before .pre) ((c .before .before .before .before .before .before .before .before .before .before .before .before .before .before .before .before .before .before .before .before .before .solve) .last .1 .1 .1 .1 .1 .1 .1 .0) _ ((c .before .before .before .before .before .before .before .before .before .before .before .before .before .before .before .before .before .before .before .before .before .solve) .kept .1 .1 .1 .1 .1 .1 .1 .0) ((c .before .before .before .before .before .wipe) .ensures), (c .before .before .before .before .before .before .before .before .before .before .before .before .before .before .before .before .before .before .before .before .before .solve) .ensures .1 .2))
+
+-- src/unify.rt:107:1
+same-length-8 : tie.Need-same-length-8
+same-length-8 c = search needs
+
+-- src/unify.rt:107:1
+same-length-9 : tie.Need-same-length-9
+same-length-9 c = search needs
+
+-- src/unify.rt:107:1
+same-length-10 : tie.Need-same-length-10
+same-length-10 c = search needs
+
+-- src/unify.rt:107:1
+same-length-11 : tie.Need-same-length-11
+same-length-11 c = search needs
+
+-- src/unify.rt:107:1
+same-length-12 : tie.Need-same-length-12
+same-length-12 c = search needs
+
+-- src/unify.rt:107:1
+same-length-13 : tie.Need-same-length-13
+same-length-13 c = ap length (pairs-back _ _ _ _ _ _ _ _ _ _ (c .before .before .before .before .before .before .before .before .before .before .before .before .before .before .before .before .before .before .before .before .before .before .before .before .before .before .before .before .before .before .before .before .before .before .before .before .before .before .before .before .pre) ((c .before .before .before .before .before .before .before .before .before .before .before .before .before .before .before .before .before .before .before .before .before .before .before .before .before .solve) .last .1 .1 .1 .1 .1 .1 .1 .0) _ ((c .before .before .before .before .before .before .before .before .before .before .before .before .before .before .before .before .before .before .before .before .before .before .before .before .before .solve) .kept .1 .1 .1 .1 .1 .1 .1 .0) ((c .before .before .before .before .before .before .before .before .before .wipe) .ensures))
+
+-- src/unify.rt:107:1
+same-length-14 : tie.Need-same-length-14
+same-length-14 c = search needs
+
+-- src/unify.rt:107:1
+returns-2 : tie.Need-returns-2
+returns-2 c = (unify-apart _ _ _ _ _ _ _ _ _ _ (c .before .before .before .before .before .before .before .before .before .before .before .before .before .before .before .before .before .before .before .before .before .before .before .before .before .before .before .before .before .before .before .before .before .before .before .before .before .before .before .before .pre) _ _ ((c .before .before .before .before .before .before .before .before .before .before .before .before .before .before .before .before .before .before .before .before .before .before .before .before .before .solve) .last .1 .1 .1 .1 .0) _ ((c .before .before .before .before .before .before .before .before .before .before .before .before .before .before .before .before .before .before .before .before .before .before .before .before .before .solve) .result) ((c .before .before .before .before .before .before .before .before .before .before .before .before .before .before .before .before .before .before .before .before .before .before .before .before .before .solve) .ensures .0) _ ((c .before .before .before .before .before .before .before .before .before .before .before .before .before .before .before .before .before .before .before .before .before .before .before .before .before .solve) .kept .1 .1 .1 .1 .0) ((c .before .before .wipe2) .ensures) _ ((c .before .before .before .before .before .r2) .given .1), ((c .before .before .before .before .before .before .before .before .before .before .before .before .before .before .before .before .before .before .before .before .before .before .before .before .before .solve) .ensures .1 .0, (c .before .before .before .before .before .before .before .before .before .before .before .before .before .before .before .before .before .before .before .before .before .before .before .before .before .solve) .ensures .1 .1, pairs-back _ _ _ _ _ _ _ _ _ _ (c .before .before .before .before .before .before .before .before .before .before .before .before .before .before .before .before .before .before .before .before .before .before .before .before .before .before .before .before .before .before .before .before .before .before .before .before .before .before .before .before .pre) ((c .before .before .before .before .before .before .before .before .before .before .before .before .before .before .before .before .before .before .before .before .before .before .before .before .before .solve) .last .1 .1 .1 .1 .1 .1 .1 .0) _ ((c .before .before .before .before .before .before .before .before .before .before .before .before .before .before .before .before .before .before .before .before .before .before .before .before .before .solve) .kept .1 .1 .1 .1 .1 .1 .1 .0) ((c .before .before .before .before .before .before .before .before .before .wipe) .ensures), (c .before .before .before .before .before .before .before .before .before .before .before .before .before .before .before .before .before .before .before .before .before .before .before .before .before .solve) .ensures .1 .2))
+
+-- src/unify.rt:107:1
+same-length-15 : tie.Need-same-length-15
+same-length-15 c = search needs
+
+-- src/unify.rt:107:1
+same-length-16 : tie.Need-same-length-16
+same-length-16 c = search needs
+
+-- src/unify.rt:107:1
+same-length-17 : tie.Need-same-length-17
+same-length-17 c = search needs
+
+-- src/unify.rt:107:1
+same-length-18 : tie.Need-same-length-18
+same-length-18 c = search needs
+
+-- src/unify.rt:107:1
+same-length-19 : tie.Need-same-length-19
+same-length-19 c = search needs
+
+-- src/unify.rt:107:1
+same-length-20 : tie.Need-same-length-20
+same-length-20 c = ap length (pairs-back _ _ _ _ _ _ _ _ _ _ (c .before .before .before .before .before .before .before .before .before .before .before .before .before .before .before .before .before .before .before .before .before .before .before .before .before .before .before .before .before .before .before .before .before .before .before .before .before .before .before .before .pre) ((c .before .before .before .before .before .before .before .before .before .before .before .before .before .before .before .before .before .before .before .before .before .before .before .before .before .solve) .last .1 .1 .1 .1 .1 .1 .1 .0) _ ((c .before .before .before .before .before .before .before .before .before .before .before .before .before .before .before .before .before .before .before .before .before .before .before .before .before .solve) .kept .1 .1 .1 .1 .1 .1 .1 .0) ((c .before .before .before .before .before .before .before .before .before .wipe) .ensures))
+
+-- src/unify.rt:107:1
+same-length-21 : tie.Need-same-length-21
+same-length-21 c = search needs
+
+-- src/unify.rt:107:1
+returns-3 : tie.Need-returns-3
+returns-3 c = (unify-full _ _ _ _ _ _ _ _ _ _ (c .before .before .before .before .before .before .before .before .before .before .before .before .before .before .before .before .before .before .before .before .before .before .before .before .before .before .before .before .before .before .before .before .before .before .before .before .before .before .before .before .pre) _ _ ((c .before .before .before .before .before .before .before .before .before .before .before .before .before .before .before .before .before .before .before .before .before .before .before .before .before .solve) .last .1 .1 .1 .1 .0) _ ((c .before .before .before .before .before .before .before .before .before .before .before .before .before .before .before .before .before .before .before .before .before .before .before .before .before .solve) .result) ((c .before .before .before .before .before .before .before .before .before .before .before .before .before .before .before .before .before .before .before .before .before .before .before .before .before .solve) .ensures .0) _ ((c .before .before .before .before .before .before .before .before .before .before .before .before .before .before .before .before .before .before .before .before .before .before .before .before .before .solve) .kept .1 .1 .1 .1 .0) ((c .before .before .wipe3) .ensures) _ _ ((c .before .before .before .before .before .r3) .given .1), ((c .before .before .before .before .before .before .before .before .before .before .before .before .before .before .before .before .before .before .before .before .before .before .before .before .before .solve) .ensures .1 .0, (c .before .before .before .before .before .before .before .before .before .before .before .before .before .before .before .before .before .before .before .before .before .before .before .before .before .solve) .ensures .1 .1, pairs-back _ _ _ _ _ _ _ _ _ _ (c .before .before .before .before .before .before .before .before .before .before .before .before .before .before .before .before .before .before .before .before .before .before .before .before .before .before .before .before .before .before .before .before .before .before .before .before .before .before .before .before .pre) ((c .before .before .before .before .before .before .before .before .before .before .before .before .before .before .before .before .before .before .before .before .before .before .before .before .before .solve) .last .1 .1 .1 .1 .1 .1 .1 .0) _ ((c .before .before .before .before .before .before .before .before .before .before .before .before .before .before .before .before .before .before .before .before .before .before .before .before .before .solve) .kept .1 .1 .1 .1 .1 .1 .1 .0) ((c .before .before .before .before .before .before .before .before .before .wipe) .ensures), (c .before .before .before .before .before .before .before .before .before .before .before .before .before .before .before .before .before .before .before .before .before .before .before .before .before .solve) .ensures .1 .2))
+
+pub unify-spec : {M : Type 1} → statement M
+unify-spec =
+    tie.close
+    (tie.spec
+    cast-pairs
+    slice-write-pairs
+    cast-pairs-2
+    slice-write-pairs-2
+    solve-requires
+    wipe-requires
+    enum-known-r
+    enum-known-r-2
+    wipe-requires-2
+    enum-known-r-3
+    wipe-requires-3
+    same-length
+    same-length-2
+    same-length-3
+    same-length-4
+    same-length-5
+    same-length-6
+    same-length-7
+    returns
+    same-length-8
+    same-length-9
+    same-length-10
+    same-length-11
+    same-length-12
+    same-length-13
+    same-length-14
+    returns-2
+    same-length-15
+    same-length-16
+    same-length-17
+    same-length-18
+    same-length-19
+    same-length-20
+    same-length-21
+    returns-3)
