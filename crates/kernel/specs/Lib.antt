@@ -4,3 +4,4 @@ pub mod Held
 pub mod Reading
 pub mod HeldRules
 pub mod Parsed
+pub mod Readers

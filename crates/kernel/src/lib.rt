@@ -4,6 +4,7 @@ mod names;
 pub mod parse;
 mod patterns;
 mod premises;
+pub mod readers;
 mod rule;
 mod signatures;
 mod symbols;
