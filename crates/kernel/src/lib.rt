@@ -6,6 +6,7 @@ mod patterns;
 mod premises;
 pub mod readers;
 mod rule;
+pub mod rule_readers;
 mod signatures;
 mod symbols;
 mod terms;

@@ -1,0 +1,68 @@
+// Reading the tables of rules: a rule's variables, premises and words by its number, its number by name.
+ghost use mathlib.Core.Path.{_≡_};
+ghost use Prim.Native.Nat.{ℕ, _<_};
+ghost use mathlib.Core.List.{List};
+ghost use lib.ListN.{length, getD};
+ghost use Rattle.rules.specs.Tree.{countTrees};
+ghost use Rattle.rules.specs.Theory.{Theory, rule, ruleNamed};
+ghost use Rattle.rules.specs.Declare.{noRuleVar};
+ghost use Rattle.sexp.specs.NameRows.{foundOf};
+ghost use Rattle.kernel.specs.HeldRules.{RulesHeld};
+ghost use Rattle.kernel.specs.Readers.{KnownRule, KnownVar, NamedRules, WordsAt};
+use sexp::names::Found;
+use sexp::names::named;
+
+// Words of patterns: the first place, and the place behind the last.
+pub struct Span {
+    pub from: usize,
+    pub end: usize,
+}
+
+// The rule with these bytes for a name.
+pub fn rule_named(text: &[u8], rules: &[u32], count: usize, name: &[u8]) -> Found
+    requires { ⌜ NamedRules (now text) (now rules) count ⌝ }
+    ensures { λ a. ⌜ ((T : Theory) (vars patterns : List ℕ) (words : ℕ) → RulesHeld (now (text .entry)) (now (rules .entry)) vars patterns count words (T .rules) →
+        a ≡ foundOf (ruleNamed T (now (name .entry)))) ⌝ }
+{
+    named(text, rules, 6, 0, count, name)
+}
+
+// How many variables rule r has.
+pub fn variables(rules: &[u32], r: usize) -> usize
+    requires { ⌜ KnownRule (now rules) r ⌝ }
+    ensures { λ a. ⌜ ((T : Theory) (text vars patterns : List ℕ) (count words : ℕ) → RulesHeld text (now (rules .entry)) vars patterns count words (T .rules) → r < count →
+        a ≡ length (rule T r .vars)) ⌝ }
+{
+    rules[6 * r + 2] as usize
+}
+
+// How many premises rule r has.
+pub fn premises(rules: &[u32], r: usize) -> usize
+    requires { ⌜ KnownRule (now rules) r ⌝ }
+    ensures { λ a. ⌜ ((T : Theory) (text vars patterns : List ℕ) (count words : ℕ) → RulesHeld text (now (rules .entry)) vars patterns count words (T .rules) → r < count →
+        a ≡ countTrees (rule T r .premises)) ⌝ }
+{
+    rules[6 * r + 3] as usize
+}
+
+// The words of rule r: its premises in order, then its conclusion.
+pub fn words(rules: &[u32], r: usize) -> Span
+    requires { ⌜ KnownRule (now rules) r ⌝ }
+    ensures { λ a. ⌜ ((T : Theory) (text vars patterns : List ℕ) (count used : ℕ) → RulesHeld text (now (rules .entry)) vars patterns count used (T .rules) → r < count →
+        WordsAt patterns T r a) ⌝ }
+{
+    let at = 6 * r + 4;
+    Span {
+        from: rules[at] as usize,
+        end: rules[at + 1] as usize,
+    }
+}
+
+// The sort of variable i of rule r.
+pub fn variable_sort(vars: &[u32], r: usize, i: usize) -> usize
+    requires { ⌜ KnownVar (now vars) r i ⌝ }
+    ensures { λ a. ⌜ ((T : Theory) (text rules patterns : List ℕ) (count words : ℕ) → RulesHeld text rules (now (vars .entry)) patterns count words (T .rules) → r < count →
+        i < length (rule T r .vars) → a ≡ getD (rule T r .vars) i noRuleVar .sort) ⌝ }
+{
+    vars[3 * (rules::RULEVARS * r + i)] as usize
+}
