@@ -6,17 +6,20 @@ use mathlib.Core.Option.{Option, some, none as nothing}
 use mathlib.Core.List.{List}
 use native.Mathlib.Omega.{arith}
 use native.Mathlib.Numerals.{add-one}
+use lib.Dec.{eqb}
 use lib.ListN.{length, getD}
+use borrow.Author.Tests.{eq-eqb, ne-eqb}
 use Rattle.rules.specs.Limits.{SORTS, SYMBOLS, ARGUMENTS}
 use Rattle.rules.specs.Text.{same}
 use Rattle.rules.specs.Find.{first}
-use Rattle.rules.specs.Laws.Find.{next, first-next}
+use Rattle.rules.specs.Laws.Find.{next, first-next, first-here, first-later, first-over}
 use Rattle.rules.specs.Sexp.{Name}
 use Rattle.rules.specs.Theory.{Theory, Symbol, noSymbol, inputs, output, sortNamed, constructorNamed, predicateNamed}
 use Rattle.sexp.specs.NameRows.{NameRows, SomeNames, foundOf}
 use Rattle.kernel.specs.Named.{ofKind, SymbolRows, SomeSymbols, called}
 use Rattle.kernel.specs.Held.{SortsHeld, SomeSorts, SymbolsHeld}
-use Rattle.kernel.specs.Readers.{KnownSymbol, KnownInput, NamedSymbols}
+use Rattle.kernel.specs.Readers.{KnownSymbol, KnownInput, NamedSymbols, CountedSymbols}
+use Rattle.kernel.specs.Listing.{nextConstructor}
 use Rattle.kernel.proofs.Holding.{sorts-rows, sorts-few, symbols-rows, symbols-few, input-place, input-cell}
 use Rattle.kernel.proofs.Spellings.{found-at, found-missing, found-inside}
 use Rattle.sexp.specs.declared.names.Found.{Found}
@@ -84,3 +87,41 @@ module _ (T : Theory) {text symbols ins : List ℕ} {count : ℕ} (h : SymbolsHe
       r ≡ foundOf (predicateNamed T name)
   unfolding predicateNamed ofKind
   predicate-is a = a (T .symbols) (symbols-rows h)
+
+-- Constructors one after the other -----------------------------------------------------------------------------------------------
+
+-- a search for a constructor of a sort that stands at a symbol
+pub record Scanning (symbols : List ℕ) (count sort from i : ℕ) : Type 0 where
+  pub counted : CountedSymbols symbols count
+  pub same : (T : Theory) (text inputs : List ℕ) → SymbolsHeld text symbols inputs count (T .symbols) → nextConstructor T sort from ≡ nextConstructor T sort i
+
+pub scanning-start : (symbols : List ℕ) (count sort from : ℕ) → CountedSymbols symbols count → Scanning symbols count sort from from
+scanning-start symbols count sort from s = record { counted = s; same = λ T text ins h. refl }
+
+module _ {symbols : List ℕ} {count sort from i : ℕ} (k : Scanning symbols count sort from i) where
+  pub scanning-known : i < count → KnownSymbol symbols i
+  scanning-known l = record { text = k .counted .0; inputs = k .counted .1 .0; count = count; held = k .counted .1 .1; known = l }
+
+  module _ (l : i < count) (r : ℕ)
+      (a : (T : Theory) (text inputs : List ℕ) (n : ℕ) → SymbolsHeld text symbols inputs n (T .symbols) → i < n → r ≡ output T i) where
+    pub scanning-here : r ≡ sort → (T : Theory) (text ins : List ℕ) → SymbolsHeld text symbols ins count (T .symbols) → At i ≡ foundOf (nextConstructor T sort from)
+    unfolding nextConstructor output
+    scanning-here e T text ins h =
+        ap foundOf
+        (sym
+        (k .same T text ins h
+        ∙ first-here (λ (c : Symbol). eqb (c .output) sort) (T .symbols) i noSymbol (omega (arith, l, h .many)) (eq-eqb _ _ (sym (a T text ins count h l) ∙ e))))
+
+    pub scanning-on : (r ≡ sort → ⊥) → Scanning symbols count sort from (i + 1)
+    unfolding nextConstructor output
+    scanning-on e =
+        record {
+          counted = k .counted;
+          same = λ T text ins h. k .same T text ins h
+              ∙ first-later (λ (c : Symbol). eqb (c .output) sort) (T .symbols) i noSymbol (omega (arith, l, h .many)) (ne-eqb _ _ (λ q. e (a T text ins count h l ∙ q)));
+        }
+
+  pub scanning-over : count ≤ i → (T : Theory) (text ins : List ℕ) → SymbolsHeld text symbols ins count (T .symbols) → Missing ≡ foundOf (nextConstructor T sort from)
+  unfolding nextConstructor
+  scanning-over l T text ins h =
+      ap foundOf (sym (k .same T text ins h ∙ first-over (λ (c : Symbol). eqb (c .output) sort) (T .symbols) i (omega (arith, l, h .many))))

@@ -5,3 +5,4 @@ pub mod Reading
 pub mod HeldRules
 pub mod Parsed
 pub mod Readers
+pub mod Listing

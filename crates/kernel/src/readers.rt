@@ -1,4 +1,5 @@
-// Reading the tables of sorts and symbols: a symbol's signature by its number, numbers by name.
+// Reading the tables of sorts and symbols: a symbol's signature by its number, numbers by name, and the constructors of a
+// sort one after the other.
 ghost use mathlib.Core.Path.{_≡_};
 ghost use Prim.Native.Nat.{ℕ, _<_};
 ghost use mathlib.Core.List.{List};
@@ -6,7 +7,8 @@ ghost use lib.ListN.{length, getD};
 ghost use Rattle.rules.specs.Theory.{Theory, inputs as inputsOf, output as outputOf, sortNamed, constructorNamed, predicateNamed};
 ghost use Rattle.sexp.specs.NameRows.{foundOf};
 ghost use Rattle.kernel.specs.Held.{SortsHeld, SomeSorts, SymbolsHeld};
-ghost use Rattle.kernel.specs.Readers.{KnownSymbol, KnownInput, NamedSymbols};
+ghost use Rattle.kernel.specs.Readers.{KnownSymbol, KnownInput, NamedSymbols, CountedSymbols};
+ghost use Rattle.kernel.specs.Listing.{nextConstructor};
 use crate::names::symbol_named;
 use sexp::names::Found;
 use sexp::names::named;
@@ -65,4 +67,20 @@ pub fn predicate_named(text: &[u8], symbols: &[u32], count: usize, name: &[u8]) 
         r ≡ foundOf (predicateNamed T (now (name .entry)))) ⌝ }
 {
     symbol_named(text, symbols, count, true, name)
+}
+
+// The first constructor of that sort whose number is `from` or greater.
+pub fn next_constructor(symbols: &[u32], count: usize, sort: usize, from: usize) -> Found
+    requires { ⌜ CountedSymbols (now symbols) count ⌝ }
+    ensures { λ r. ⌜ ((T : Theory) (text inputs : List ℕ) → SymbolsHeld text (now (symbols .entry)) inputs count (T .symbols) →
+        r ≡ foundOf (nextConstructor T sort from)) ⌝ }
+{
+    let mut i = from;
+    while i < count {
+        if output(symbols, i) == sort {
+            return Found::At(i);
+        }
+        i += 1;
+    }
+    Found::Missing
 }
