@@ -3,12 +3,15 @@ ghost use mathlib.Core.Path.{_≡_};
 ghost use Prim.Native.Nat.{ℕ, _<_};
 ghost use mathlib.Core.List.{List};
 ghost use lib.ListN.{length, getD};
+ghost use Rattle.rules.specs.Limits.{SYMBOLS};
 ghost use Rattle.rules.specs.Tree.{countTrees};
 ghost use Rattle.rules.specs.Theory.{Theory, rule, ruleNamed};
 ghost use Rattle.rules.specs.Declare.{noRuleVar};
 ghost use Rattle.sexp.specs.NameRows.{foundOf};
+ghost use Rattle.kernel.specs.Held.{SymbolsHeld};
 ghost use Rattle.kernel.specs.HeldRules.{RulesHeld};
-ghost use Rattle.kernel.specs.Readers.{KnownRule, KnownVar, NamedRules, WordsAt};
+ghost use Rattle.kernel.specs.Readers.{KnownRule, KnownVar, NamedRules, WordsAt, KnownWord, argumentsBehind, FormedRules, KnownFormedRule, conclusionAt};
+use crate::readers::arity;
 use sexp::names::Found;
 use sexp::names::named;
 
@@ -65,4 +68,33 @@ pub fn variable_sort(vars: &[u32], r: usize, i: usize) -> usize
         i < length (rule T r .vars) → a ≡ getD (rule T r .vars) i noRuleVar .sort) ⌝ }
 {
     vars[3 * (rules::RULEVARS * r + i)] as usize
+}
+
+// How many arguments stand behind a word: a symbol's, or none behind a variable.
+fn arguments_behind(symbols: &[u32], word: usize) -> usize
+    requires { ⌜ KnownWord (now symbols) word ⌝ }
+    ensures { λ a. ⌜ ((T : Theory) (text inputs : List ℕ) (count : ℕ) → SymbolsHeld text (now (symbols .entry)) inputs count (T .symbols) →
+        (word < SYMBOLS → word < count) → a ≡ argumentsBehind T word) ⌝ }
+{
+    if word < rules::SYMBOLS {
+        return arity(symbols, word);
+    }
+    0
+}
+
+// The place of the first word of the conclusion of rule r: behind the words of its premises.
+pub fn conclusion(patterns: &[u32], rules: &[u32], symbols: &[u32], r: usize) -> usize
+    requires { ⌜ KnownFormedRule (now symbols) (now rules) (now patterns) r ⌝ }
+    ensures { λ a. ⌜ ((T : Theory) (count : ℕ) → FormedRules (now (symbols .entry)) (now (rules .entry)) (now (patterns .entry)) count T → r < count →
+        a ≡ conclusionAt T r) ⌝ }
+{
+    let span = words(rules, r);
+    let mut place = span.from;
+    let mut left = premises(rules, r);
+    while left != 0 {
+        let more = arguments_behind(symbols, patterns[place] as usize);
+        left = left - 1 + more;
+        place += 1;
+    }
+    place
 }
