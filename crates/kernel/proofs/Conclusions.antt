@@ -107,7 +107,7 @@ pub record Begins (P : List ℕ) (place x : ℕ) (ys : List ℕ) : Type 0 where
   pub word : getD P place 0 ≡ x
   pub rest : drop (place + 1) P ≡ ys
 
-begins : (P : List ℕ) (place x : ℕ) (ys : List ℕ) → drop place P ≡ x ∷ ys → Begins P place x ys
+pub begins : (P : List ℕ) (place x : ℕ) (ys : List ℕ) → drop place P ≡ x ∷ ys → Begins P place x ys
 begins [] zero x ys e = absurd (let z : _≡_ {A = ℕ} 0 1 = cc in omega arith)
 begins [] (suc k) x ys e = absurd (let z : _≡_ {A = ℕ} 0 1 = cc in omega arith)
 begins (p ∷ ps) zero x ys e = record { inside = omega arith; word = cc; rest = cc }

@@ -1,16 +1,18 @@
-// Reading the tables of rules: a rule's variables, premises and words by its number, its number by name.
+// Reading the tables of rules: a rule's variables, premises and words by its number, its number by name, and the rules of a
+// predicate one after the other.
 ghost use mathlib.Core.Path.{_≡_};
 ghost use Prim.Native.Nat.{ℕ, _<_};
 ghost use mathlib.Core.List.{List};
 ghost use lib.ListN.{length, getD};
 ghost use Rattle.rules.specs.Limits.{SYMBOLS};
 ghost use Rattle.rules.specs.Tree.{countTrees};
-ghost use Rattle.rules.specs.Theory.{Theory, rule, ruleNamed};
+ghost use Rattle.rules.specs.Theory.{Theory, rule, ruleNamed, headIs};
 ghost use Rattle.rules.specs.Declare.{noRuleVar};
 ghost use Rattle.sexp.specs.NameRows.{foundOf};
 ghost use Rattle.kernel.specs.Held.{SymbolsHeld};
 ghost use Rattle.kernel.specs.HeldRules.{RulesHeld};
-ghost use Rattle.kernel.specs.Readers.{KnownRule, KnownVar, NamedRules, WordsAt, KnownWord, argumentsBehind, FormedRules, KnownFormedRule, conclusionAt};
+ghost use Rattle.kernel.specs.Readers.{KnownRule, KnownVar, NamedRules, WordsAt, KnownWord, argumentsBehind, FormedRules, KnownFormedRule, SomeFormedRules, conclusionAt};
+ghost use Rattle.kernel.specs.Listing.{nextRule};
 use crate::readers::arity;
 use sexp::names::Found;
 use sexp::names::named;
@@ -97,4 +99,36 @@ pub fn conclusion(patterns: &[u32], rules: &[u32], symbols: &[u32], r: usize) ->
         place += 1;
     }
     place
+}
+
+// Whether the conclusion of rule r is of that predicate.
+fn concludes(patterns: &[u32], rules: &[u32], symbols: &[u32], r: usize, predicate: usize) -> bool
+    requires { ⌜ KnownFormedRule (now symbols) (now rules) (now patterns) r ⌝ }
+    ensures { λ a. ⌜ ((T : Theory) (count : ℕ) → FormedRules (now (symbols .entry)) (now (rules .entry)) (now (patterns .entry)) count T → r < count →
+        a ≡ headIs predicate (rule T r .conclusion)) ⌝ }
+{
+    let place = conclusion(patterns, rules, symbols, r);
+    predicate == patterns[place] as usize
+}
+
+// The first rule of that predicate whose number is `from` or greater.
+pub fn next_rule(
+    rules: &[u32],
+    patterns: &[u32],
+    symbols: &[u32],
+    count: usize,
+    predicate: usize,
+    from: usize,
+) -> Found
+    requires { ⌜ SomeFormedRules (now symbols) (now rules) (now patterns) count ⌝ }
+    ensures { λ a. ⌜ ((T : Theory) → FormedRules (now (symbols .entry)) (now (rules .entry)) (now (patterns .entry)) count T → a ≡ foundOf (nextRule T predicate from)) ⌝ }
+{
+    let mut i = from;
+    while i < count {
+        if concludes(patterns, rules, symbols, i, predicate) {
+            return Found::At(i);
+        }
+        i += 1;
+    }
+    Found::Missing
 }
