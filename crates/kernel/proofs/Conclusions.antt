@@ -1,26 +1,22 @@
 -- Going over the words of a rule's premises: how many trees are left, and that the conclusion stands behind them. Assumes nothing.
 use mathlib.Core.Path.{_≡_, refl, sym, ap, _∙_, subst}
-use Prim.Native.Nat.{ℕ, zero, suc, _+_, _-_, _*_, _<_, _≤_}
+use Prim.Native.Nat.{ℕ, zero, suc, _+_, _-_, _<_, _≤_}
 use mathlib.Core.Bool.{Bool, true, false}
 use mathlib.Core.List.{List, [], _∷_, _++_}
 use native.Mathlib.Omega.{arith}
-use native.Mathlib.Numerals.{add-one}
-use lib.Dec.{ltb}
 use lib.ListN.{length, getD, drop, length-append, length-drop}
-use lib.Seq.{drop-cons}
 use borrow.Author.Tests.{lt-ltb, le-ltb}
-use Rattle.rules.specs.Limits.{SYMBOLS, ARGUMENTS, PATTERNS}
+use Rattle.rules.specs.Limits.{SYMBOLS, ARGUMENTS}
 use Rattle.rules.specs.Tree.{Tree, Trees, var, app, none, more, countTrees}
-use Rattle.rules.specs.Theory.{Theory, Rule, RuleVar, noSymbol, noRule, inputs, rule}
+use Rattle.rules.specs.Theory.{Theory, RuleVar, noSymbol, noRule, inputs, rule}
 use Rattle.rules.specs.Laws.Theory.{Sorted, Sorteds, Judgment, Judgments, WellFormed, all-at}
 use Rattle.rules.specs.TheoryTables.{prefix, prefixes, patternRow, patternCells}
 use Rattle.rules.specs.Laws.Row.{append-assoc}
 use Rattle.kernel.specs.Held.{SymbolsHeld}
 use Rattle.kernel.specs.HeldRules.{RulesHeld}
-use Rattle.kernel.specs.Readers.{KnownSymbol, KnownRule, KnownWord, argumentsBehind, wordsBefore, WordsAt, FormedRules, KnownFormedRule, conclusionAt}
+use Rattle.kernel.specs.Readers.{KnownRule, KnownWord, argumentsBehind, WordsAt, FormedRules, KnownFormedRule, conclusionAt}
 use Rattle.kernel.specs.declared.rule_readers.Span.{Span}
-use Rattle.kernel.proofs.Holding.{symbols-few}
-use Rattle.kernel.proofs.RuleRows.{words-here, words-inside}
+use Rattle.kernel.proofs.RuleRows.{words-here}
 
 -- Patterns that fit their symbols ------------------------------------------------------------------------------------------------
 
@@ -44,6 +40,7 @@ module _ (T : Theory) (vs : List RuleVar) where
 
   mutual
     unfolding Sorted Fits
+
     sorted-fits : (t : Tree) (s : ℕ) → Sorted T vs t s → Fits T t
     sorted-fits (var i) s h = tt
     sorted-fits (app c ts) s h = (h .0, sorteds-count ts (inputs T c) (h .2), sorteds-fit ts (inputs T c) (h .2))
@@ -217,7 +214,7 @@ known-rule {symbols} {rules} {patterns} {r} k =
 module _ {symbols rules patterns : List ℕ} {r : ℕ} (s : Span) (n : ℕ)
     (a : (T : Theory) (text vars patterns : List ℕ) (count used : ℕ) → RulesHeld text rules vars patterns count used (T .rules) → r < count → WordsAt patterns T r s)
     (b : (T : Theory) (text vars patterns : List ℕ) (count used : ℕ) → RulesHeld text rules vars patterns count used (T .rules) → r < count →
-        n ≡ countTrees (rule T r .premises)) where
+    n ≡ countTrees (rule T r .premises)) where
   ahead-start : (T : Theory) (count : ℕ) → FormedRules symbols rules patterns count T → r < count → Ahead T patterns (conclusionAt T r) (s .from) n
   unfolding conclusionAt patternRow
   ahead-start T count f l =
@@ -254,7 +251,7 @@ module _ {symbols rules patterns : List ℕ} {r place left : ℕ} (k : Passing s
 
   module _ (n : ℕ)
       (a : (T : Theory) (text inputs : List ℕ) (count : ℕ) → SymbolsHeld text symbols inputs count (T .symbols) →
-          (getD patterns place 0 < SYMBOLS → getD patterns place 0 < count) → n ≡ argumentsBehind T (getD patterns place 0)) (z : left ≡ 0 → ⊥) where
+      (getD patterns place 0 < SYMBOLS → getD patterns place 0 < count) → n ≡ argumentsBehind T (getD patterns place 0)) (z : left ≡ 0 → ⊥) where
     pub passing-few : n ≤ ARGUMENTS
     passing-few =
         let f = k .some .formed in

@@ -2,24 +2,22 @@
 use mathlib.Core.Path.{_≡_, refl, sym, ap, _∙_}
 use Prim.Native.Nat.{ℕ, suc, _+_, _<_, _≤_}
 use mathlib.Core.Bool.{Bool, true, false}
-use mathlib.Core.List.{List, [], _∷_, _++_}
+use mathlib.Core.List.{List, _++_}
 use native.Mathlib.Omega.{arith}
 use lib.Dec.{eqb}
-use lib.ListN.{length, getD, take, drop}
+use lib.ListN.{length, getD, drop}
 use lib.Seq.{drop-drop, drop-append-seam}
-use Rattle.rules.specs.Tree.{Tree, Trees, var, app}
-use Rattle.rules.specs.Find.{first}
+use Rattle.rules.specs.Tree.{Tree, var, app}
 use Rattle.rules.specs.Laws.Find.{first-here, first-later, first-over}
 use Rattle.rules.specs.Theory.{Theory, Rule, noRule, rule, headIs}
-use Rattle.rules.specs.Laws.Theory.{Judgment, WellFormed, all-at}
+use Rattle.rules.specs.Laws.Theory.{Judgment, all-at}
 use Rattle.rules.specs.TheoryTables.{prefix, prefixes, patternRow, patternCells}
 use Rattle.rules.specs.Laws.Row.{append-assoc}
 use Rattle.sexp.specs.NameRows.{foundOf}
 use Rattle.kernel.specs.Readers.{wordsBefore, conclusionAt, FormedRules, SomeFormedRules, KnownFormedRule}
 use Rattle.kernel.specs.Listing.{nextRule}
 use Rattle.kernel.proofs.RuleRows.{words-here}
-use Rattle.kernel.proofs.Conclusions.{Begins, begins}
-use Rattle.sexp.specs.declared.names.Found.{Found}
+use Rattle.kernel.proofs.Conclusions.{begins}
 use Rattle.sexp.specs.declared.names.Found.the-variants.{At, Missing}
 
 -- One rule -----------------------------------------------------------------------------------------------------------------------

@@ -1,15 +1,14 @@
 -- The entries of the tables of sorts and symbols, as the readers read them. Assumes nothing.
 use mathlib.Core.Path.{_≡_, refl, sym, ap, _∙_}
-use Prim.Native.Nat.{ℕ, zero, suc, _+_, _*_, _<_, _≤_}
-use mathlib.Core.Bool.{Bool, true, false, _&&_, not}
-use mathlib.Core.Option.{Option, some, none as nothing}
+use Prim.Native.Nat.{ℕ, _+_, _*_, _<_, _≤_}
+use mathlib.Core.Bool.{true, false}
 use mathlib.Core.List.{List}
 use native.Mathlib.Omega.{arith}
 use native.Mathlib.Numerals.{add-one}
 use lib.Dec.{eqb}
 use lib.ListN.{length, getD}
 use borrow.Author.Tests.{eq-eqb, ne-eqb}
-use Rattle.rules.specs.Limits.{SORTS, SYMBOLS, ARGUMENTS}
+use Rattle.rules.specs.Limits.{SORTS, ARGUMENTS}
 use Rattle.rules.specs.Text.{same}
 use Rattle.rules.specs.Find.{first}
 use Rattle.rules.specs.Laws.Find.{next, first-next, first-here, first-later, first-over}

@@ -2,13 +2,12 @@
 use mathlib.Core.Path.{_≡_, refl, sym, ap, _∙_, subst}
 use Prim.Native.Nat.{ℕ, zero, suc, _+_, _-_, _*_, _<_, _≤_}
 use mathlib.Core.Bool.{Bool, true, false}
-use mathlib.Core.Option.{Option, some, none as nothing}
+use mathlib.Core.Option.{Option, some}
 use mathlib.Core.List.{List, [], _∷_, _++_}
 use native.Mathlib.Omega.{arith}
-use native.Mathlib.Nat.{mul-suc, mul-zero, add-zero}
 use lib.ListN.{length, getD, take, drop, replicate, length-append}
 use lib.Seq.{getD-append-add, take-append-seam, drop-append-seam}
-use Rattle.rules.specs.Limits.{RULES, RULEVARS, PATTERNS}
+use Rattle.rules.specs.Limits.{RULES, RULEVARS}
 use Rattle.rules.specs.Text.{same}
 use Rattle.rules.specs.Find.{first}
 use Rattle.rules.specs.Laws.Find.{getD-front}
@@ -16,15 +15,13 @@ use Rattle.rules.specs.Sexp.{Name}
 use Rattle.rules.specs.Tree.{countTrees}
 use Rattle.rules.specs.Theory.{Theory, Rule, RuleVar, noName, noRule, rule, ruleNamed}
 use Rattle.rules.specs.Declare.{noRuleVar}
-use Rattle.rules.specs.Laws.Theory.{All, all-at}
-use Rattle.rules.specs.TheoryTables.{nameCells, rows, filled, varRow, varCells, ruleVarRow, ruleVarCells, ruleRow, ruleCells, patternRow, patternCells}
+use Rattle.rules.specs.Laws.Theory.{all-at}
+use Rattle.rules.specs.TheoryTables.{nameCells, rows, varRow, varCells, ruleVarRow, ruleRow, ruleCells, patternRow, patternCells}
 use Rattle.rules.specs.Laws.Row.{append-assoc, length-rows, row-cell, length-filled, filled-fits}
-use Rattle.sexp.specs.NameRows.{NameIn, NameAt, NameRows, SomeNames, foundOf}
-use Rattle.kernel.specs.Held.{Front}
+use Rattle.sexp.specs.NameRows.{NameAt, NameRows, SomeNames, foundOf}
 use Rattle.kernel.specs.HeldRules.{RulesHeld}
 use Rattle.kernel.specs.Readers.{KnownRule, KnownVar, NamedRules, wordsBefore, WordsAt}
 use Rattle.sexp.specs.declared.names.Found.{Found}
-use Rattle.kernel.specs.declared.rule_readers.Span.{Span}
 
 -- The table of rules -------------------------------------------------------------------------------------------------------------
 
@@ -152,8 +149,15 @@ rule-place k = omega (arith, k .known, rules-few (k .held .1), k .held .1 .long)
 
 pub var-place : {vars : List ℕ} {r i : ℕ} → KnownVar vars r i → 3 * (RULEVARS * r + i) < length vars
 var-place {vars} {r} {i} k =
-    omega (arith, k .known, k .held .1 .many, rules-few (k .held .1), k .held .1 .longs, k .there,
-    all-at (k .held .0) r noRule (k .held .1 .sorted) (omega (arith, k .known, k .held .1 .many)))
+    omega (
+      arith,
+      k .known,
+      k .held .1 .many,
+      rules-few (k .held .1),
+      k .held .1 .longs,
+      k .there,
+      all-at (k .held .0) r noRule (k .held .1 .sorted) (omega (arith, k .known, k .held .1 .many)),
+    )
 
 -- the answers of the readers
 module _ (T : Theory) {text rules vars patterns : List ℕ} {count words : ℕ} (h : RulesHeld text rules vars patterns count words (T .rules)) where
@@ -193,9 +197,12 @@ module _ (T : Theory) {text rules vars patterns : List ℕ} {count words : ℕ} 
     pub words-inside : wordsBefore (T .rules) r + length (patternRow (rule T r)) ≤ length patterns
     unfolding rule wordsBefore
     words-inside =
-        omega (arith, ap length (words-split h r there),
-        length-append (patternCells (take r (T .rules))) (patternRow (getD (T .rules) r noRule) ++ (patternCells (drop (suc r) (T .rules)) ++ h .written .rest)),
-        length-append (patternRow (getD (T .rules) r noRule)) (patternCells (drop (suc r) (T .rules)) ++ h .written .rest))
+        omega (
+          arith,
+          ap length (words-split h r there),
+          length-append (patternCells (take r (T .rules))) (patternRow (getD (T .rules) r noRule) ++ (patternCells (drop (suc r) (T .rules)) ++ h .written .rest)),
+          length-append (patternRow (getD (T .rules) r noRule)) (patternCells (drop (suc r) (T .rules)) ++ h .written .rest),
+        )
 
     pub words-at : WordsAt patterns T r (record { from = getD rules (6 * r + 4) 0; end = getD rules (6 * r + 4 + 1) 0 })
     words-at =

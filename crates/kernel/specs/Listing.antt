@@ -47,9 +47,10 @@ module _ {A : Type 0} (p : A → Bool) (xs : List A) (d : A) where
   within : (n i : ℕ) → length xs ≤ i + n → every p (drop i xs) i ≡ withRest (first p (drop i xs) i)
   within zero i l = over i (omega arith)
   within (suc n) i l =
-      elim (decLt i (length xs))
-      [ yes h ↦ here i h (p (getD xs i d)) refl (within n (suc i) (omega arith))
-      | no h ↦ over i (omega arith) ]
+      elim (decLt i (length xs)) [
+        | yes h ↦ here i h (p (getD xs i d)) refl (within n (suc i) (omega arith))
+        | no h ↦ over i (omega arith)
+      ]
 
   -- the numbers from i on are the first answer and the numbers behind it
   pub every-first : (i : ℕ) → every p (drop i xs) i ≡ withRest (first p (drop i xs) i)

@@ -1,5 +1,4 @@
 use Rattle.kernel.proofs.Readings.{some-rows, constructor-is}
-use borrow.Author.Needs.{needs}
 use Rattle.kernel.proofs.readers.constructor_named.Statement.{statement}
 use Rattle.kernel.proofs.readers.constructor_named.Tie as tie
 use Rattle.kernel.proofs.readers.constructor_named.Reads as reads

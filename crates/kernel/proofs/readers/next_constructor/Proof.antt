@@ -1,5 +1,4 @@
 use Rattle.kernel.proofs.Readings.{Scanning, scanning-start, scanning-known, scanning-here, scanning-on, scanning-over}
-use native.Mathlib.Omega.{arith}
 use Prim.Native.Nat.{_-_}
 use borrow.Author.Needs.{needs}
 use Rattle.kernel.proofs.readers.next_constructor.Statement.{statement}

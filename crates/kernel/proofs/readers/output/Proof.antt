@@ -1,7 +1,6 @@
 use native.Mathlib.Omega.{arith}
-use Prim.Native.Nat.{_+_, _*_}
+use Prim.Native.Nat.{_*_}
 use Rattle.kernel.proofs.Readings.{symbol-place, output-cell}
-use borrow.Author.Needs.{needs}
 use Rattle.kernel.proofs.readers.output.Statement.{statement}
 use Rattle.kernel.proofs.readers.output.Tie as tie
 use Rattle.kernel.proofs.readers.output.Reads as reads

@@ -1,5 +1,4 @@
 use Rattle.kernel.proofs.Readings.{some-rows, predicate-is}
-use borrow.Author.Needs.{needs}
 use Rattle.kernel.proofs.readers.predicate_named.Statement.{statement}
 use Rattle.kernel.proofs.readers.predicate_named.Tie as tie
 use Rattle.kernel.proofs.readers.predicate_named.Reads as reads

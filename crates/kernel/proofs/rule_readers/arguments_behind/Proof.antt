@@ -1,6 +1,5 @@
 use Rattle.kernel.proofs.Conclusions.{behind-symbol, behind-variable}
 use mathlib.Core.Path.{refl, _∙_}
-use borrow.Author.Needs.{needs}
 use Rattle.kernel.proofs.rule_readers.arguments_behind.Statement.{statement}
 use Rattle.kernel.proofs.rule_readers.arguments_behind.Tie as tie
 use Rattle.kernel.proofs.rule_readers.arguments_behind.Reads as reads

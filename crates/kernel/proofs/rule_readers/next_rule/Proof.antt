@@ -1,5 +1,4 @@
 use Rattle.kernel.proofs.Heads.{Scanning, scanning-start, scanning-known, scanning-here, scanning-on, scanning-over}
-use native.Mathlib.Omega.{arith}
 use Prim.Native.Nat.{_-_}
 use borrow.Author.Needs.{needs}
 use Rattle.kernel.proofs.rule_readers.next_rule.Statement.{statement}

@@ -1,7 +1,6 @@
 use Rattle.kernel.proofs.RuleRows.{rule-place, premises-cell}
 use Prim.Native.Nat.{_+_, _*_}
 use native.Mathlib.Omega.{arith}
-use borrow.Author.Needs.{needs}
 use Rattle.kernel.proofs.rule_readers.premises.Statement.{statement}
 use Rattle.kernel.proofs.rule_readers.premises.Tie as tie
 use Rattle.kernel.proofs.rule_readers.premises.Reads as reads

@@ -1,7 +1,6 @@
 use Rattle.kernel.proofs.RuleRows.{var-place, var-cell}
 use Prim.Native.Nat.{_+_, _*_}
 use native.Mathlib.Omega.{arith}
-use borrow.Author.Needs.{needs}
 use Rattle.kernel.proofs.rule_readers.variable_sort.Statement.{statement}
 use Rattle.kernel.proofs.rule_readers.variable_sort.Tie as tie
 use Rattle.kernel.proofs.rule_readers.variable_sort.Reads as reads

@@ -1,7 +1,6 @@
 use Rattle.kernel.proofs.RuleRows.{rule-place, variables-cell}
 use Prim.Native.Nat.{_+_, _*_}
 use native.Mathlib.Omega.{arith}
-use borrow.Author.Needs.{needs}
 use Rattle.kernel.proofs.rule_readers.variables.Statement.{statement}
 use Rattle.kernel.proofs.rule_readers.variables.Tie as tie
 use Rattle.kernel.proofs.rule_readers.variables.Reads as reads

@@ -1,7 +1,6 @@
 use Rattle.kernel.proofs.RuleRows.{rule-place, words-at}
 use Prim.Native.Nat.{_+_, _*_}
 use native.Mathlib.Omega.{arith}
-use borrow.Author.Needs.{needs}
 use Rattle.kernel.proofs.rule_readers.words.Statement.{statement}
 use Rattle.kernel.proofs.rule_readers.words.Tie as tie
 use Rattle.kernel.proofs.rule_readers.words.Reads as reads
