@@ -15,6 +15,7 @@ use Rattle.rules.specs.Laws.Row.{append-assoc}
 use Rattle.kernel.specs.Held.{SymbolsHeld}
 use Rattle.kernel.specs.HeldRules.{RulesHeld}
 use Rattle.kernel.specs.Readers.{KnownRule, KnownWord, argumentsBehind, WordsAt, FormedRules, KnownFormedRule, conclusionAt}
+use Rattle.kernel.specs.Entries.{known-symbol, known-rule}
 use Rattle.kernel.specs.declared.rule_readers.Span.{Span}
 use Rattle.kernel.proofs.RuleRows.{words-here}
 
@@ -199,17 +200,8 @@ pub record Passing (symbols rules patterns : List ℕ) (r place left : ℕ) : Ty
   pub some : KnownFormedRule symbols rules patterns r
   pub ahead : (T : Theory) (count : ℕ) → FormedRules symbols rules patterns count T → r < count → Ahead T patterns (conclusionAt T r) place left
 
-pub known-rule : {symbols rules patterns : List ℕ} {r : ℕ} → KnownFormedRule symbols rules patterns r → KnownRule rules r
-known-rule {symbols} {rules} {patterns} {r} k =
-    record {
-      text = k .formed .text;
-      vars = k .formed .vars;
-      patterns = patterns;
-      count = k .count;
-      words = k .formed .words;
-      held = (k .T .rules, k .formed .held);
-      known = k .known;
-    }
+pub rule-there : {symbols rules patterns : List ℕ} {r : ℕ} → KnownFormedRule symbols rules patterns r → KnownRule rules r
+rule-there k = known-rule (k .formed .held) (k .known)
 
 module _ {symbols rules patterns : List ℕ} {r : ℕ} (s : Span) (n : ℕ)
     (a : (T : Theory) (text vars patterns : List ℕ) (count used : ℕ) → RulesHeld text rules vars patterns count used (T .rules) → r < count → WordsAt patterns T r s)
@@ -241,13 +233,7 @@ module _ {symbols rules patterns : List ℕ} {r place left : ℕ} (k : Passing s
   pub passing-word : (left ≡ 0 → ⊥) → KnownWord symbols (getD patterns place 0)
   passing-word z l =
       let f = k .some .formed in
-      record {
-        text = f .text;
-        inputs = f .ins;
-        count = f .known;
-        held = (k .some .T .symbols, f .signature);
-        known = omega (arith, passing-next z .known l, f .signature .many);
-      }
+      known-symbol (f .signature) (omega (arith, passing-next z .known l, f .signature .many))
 
   module _ (n : ℕ)
       (a : (T : Theory) (text inputs : List ℕ) (count : ℕ) → SymbolsHeld text symbols inputs count (T .symbols) →

@@ -15,6 +15,7 @@ use Rattle.rules.specs.TheoryTables.{prefix, prefixes, patternRow, patternCells
 use Rattle.rules.specs.Laws.Row.{append-assoc}
 use Rattle.sexp.specs.NameRows.{foundOf}
 use Rattle.kernel.specs.Readers.{wordsBefore, conclusionAt, FormedRules, SomeFormedRules, KnownFormedRule}
+use Rattle.kernel.specs.Entries.{formed-rule}
 use Rattle.kernel.specs.Listing.{nextRule}
 use Rattle.kernel.proofs.RuleRows.{words-here}
 use Rattle.kernel.proofs.Conclusions.{begins}
@@ -78,7 +79,7 @@ scanning-start predicate from s = record { counted = s; same = λ T f. refl }
 
 module _ {symbols rules patterns : List ℕ} {count predicate from i : ℕ} (k : Scanning symbols rules patterns count predicate from i) where
   pub scanning-known : i < count → KnownFormedRule symbols rules patterns i
-  scanning-known l = record { count = count; T = k .counted .0; formed = k .counted .1; known = l }
+  scanning-known l = formed-rule (k .counted .1) l
 
   module _ (l : i < count) (b : Bool)
       (a : (T : Theory) (n : ℕ) → FormedRules symbols rules patterns n T → i < n → b ≡ headIs predicate (rule T i .conclusion)) where

@@ -18,6 +18,7 @@ use Rattle.sexp.specs.NameRows.{NameRows, SomeNames, foundOf}
 use Rattle.kernel.specs.Named.{ofKind, SymbolRows, SomeSymbols, called}
 use Rattle.kernel.specs.Held.{SortsHeld, SomeSorts, SymbolsHeld}
 use Rattle.kernel.specs.Readers.{KnownSymbol, KnownInput, NamedSymbols, CountedSymbols}
+use Rattle.kernel.specs.Entries.{known-symbol}
 use Rattle.kernel.specs.Listing.{nextConstructor}
 use Rattle.kernel.proofs.Holding.{sorts-rows, sorts-few, symbols-rows, symbols-few, input-place, input-cell}
 use Rattle.kernel.proofs.Spellings.{found-at, found-missing, found-inside}
@@ -99,7 +100,7 @@ scanning-start symbols count sort from s = record { counted = s; same = λ T tex
 
 module _ {symbols : List ℕ} {count sort from i : ℕ} (k : Scanning symbols count sort from i) where
   pub scanning-known : i < count → KnownSymbol symbols i
-  scanning-known l = record { text = k .counted .0; inputs = k .counted .1 .0; count = count; held = k .counted .1 .1; known = l }
+  scanning-known l = known-symbol (k .counted .1 .1 .1) l
 
   module _ (l : i < count) (r : ℕ)
       (a : (T : Theory) (text inputs : List ℕ) (n : ℕ) → SymbolsHeld text symbols inputs n (T .symbols) → i < n → r ≡ output T i) where

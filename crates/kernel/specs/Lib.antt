@@ -6,3 +6,4 @@ pub mod HeldRules
 pub mod Parsed
 pub mod Readers
 pub mod Listing
+pub mod Entries

@@ -1,4 +1,4 @@
-use Rattle.kernel.proofs.Conclusions.{Passing, known-rule, passing-start, passing-next, passing-word, passing-few, passing-on, passing-over}
+use Rattle.kernel.proofs.Conclusions.{Passing, rule-there, passing-start, passing-next, passing-word, passing-few, passing-on, passing-over}
 use native.Mathlib.Omega.{arith}
 use Prim.Native.Nat.{_-_}
 use lib.ListN.{length}
@@ -19,11 +19,11 @@ abbrev μ-loop : tie.MeasureT-loop
 
 -- src/rule_readers.rt:91:9
 words-requires : tie.Need-words-requires Inv-loop μ-loop
-words-requires c κs = known-rule ((c .before .before .before) .pre)
+words-requires c κs = rule-there ((c .before .before .before) .pre)
 
 -- src/rule_readers.rt:93:9
 premises-requires : tie.Need-premises-requires Inv-loop μ-loop
-premises-requires c κs = known-rule ((c .before .before .before .before) .pre)
+premises-requires c κs = rule-there ((c .before .before .before .before) .pre)
 
 -- src/rule_readers.rt:94:5
 loop-holds : tie.Need-loop-holds Inv-loop μ-loop
