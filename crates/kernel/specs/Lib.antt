@@ -4,3 +4,6 @@ pub mod Held
 pub mod Reading
 pub mod HeldRules
 pub mod Parsed
+pub mod Readers
+pub mod Listing
+pub mod Entries

@@ -1,0 +1,229 @@
+-- The rows of the tables of rules, as the readers read them. Assumes nothing.
+use mathlib.Core.Path.{_≡_, refl, sym, ap, _∙_, subst}
+use Prim.Native.Nat.{ℕ, zero, suc, _+_, _-_, _*_, _<_, _≤_}
+use mathlib.Core.Bool.{Bool, true, false}
+use mathlib.Core.Option.{Option, some}
+use mathlib.Core.List.{List, [], _∷_, _++_}
+use native.Mathlib.Omega.{arith}
+use lib.ListN.{length, getD, take, drop, replicate, length-append}
+use lib.Seq.{getD-append-add, take-append-seam, drop-append-seam}
+use Rattle.rules.specs.Limits.{RULES, RULEVARS}
+use Rattle.rules.specs.Text.{same}
+use Rattle.rules.specs.Find.{first}
+use Rattle.rules.specs.Laws.Find.{getD-front}
+use Rattle.rules.specs.Sexp.{Name}
+use Rattle.rules.specs.Tree.{countTrees}
+use Rattle.rules.specs.Theory.{Theory, Rule, RuleVar, noName, noRule, rule, ruleNamed}
+use Rattle.rules.specs.Declare.{noRuleVar}
+use Rattle.rules.specs.Laws.Theory.{all-at}
+use Rattle.rules.specs.TheoryTables.{nameCells, rows, varRow, varCells, ruleVarRow, ruleRow, ruleCells, patternRow, patternCells}
+use Rattle.rules.specs.Laws.Row.{append-assoc, length-rows, row-cell, length-filled, filled-fits}
+use Rattle.sexp.specs.NameRows.{NameAt, NameRows, SomeNames, foundOf}
+use Rattle.kernel.specs.HeldRules.{RulesHeld}
+use Rattle.kernel.specs.Readers.{KnownRule, KnownVar, NamedRules, wordsBefore, WordsAt}
+use Rattle.sexp.specs.declared.names.Found.{Found}
+
+-- The table of rules -------------------------------------------------------------------------------------------------------------
+
+rule-row-six : (r : Rule) (at : ℕ) → length (ruleRow r at) ≡ 6
+unfolding ruleRow nameCells
+rule-row-six r at = refl
+
+length-rule-cells : (rs : List Rule) (at : ℕ) → length (ruleCells rs at) ≡ 6 * length rs
+unfolding ruleCells
+length-rule-cells [] at = omega arith
+length-rule-cells (r ∷ rs) at =
+    omega (arith, length-append (ruleRow r at) (ruleCells rs (at + length (patternRow r))), rule-row-six r at, length-rule-cells rs (at + length (patternRow r)))
+
+-- the cell j of rule k, whose first word stands behind those of the rules before
+rule-cell : (rs : List Rule) (at : ℕ) (rest : List ℕ) (k j i : ℕ) → k < length rs → j < 6 → i ≡ 6 * k + j →
+    getD (ruleCells rs at ++ rest) i 0 ≡ getD (ruleRow (getD rs k noRule) (at + wordsBefore rs k)) j 0
+unfolding ruleCells rows wordsBefore
+rule-cell [] at rest k j i l m e = absurd (omega arith)
+rule-cell (r ∷ rs) at rest zero j i l m e =
+    let q : i ≡ j = omega (arith, e) in
+    let z : at ≡ at + 0 = omega arith in
+    let next = ruleCells rs (at + length (patternRow r)) in
+    ap (λ (n : List ℕ). getD n i 0) (append-assoc (ruleRow r at) next rest) ∙ ap (λ (n : ℕ). getD (ruleRow r at ++ (next ++ rest)) n 0) q
+    ∙ getD-front (ruleRow r at) (next ++ rest) j 0 (omega (arith, rule-row-six r at, m))
+    ∙ ap (λ (n : ℕ). getD (ruleRow r n) j 0) z
+rule-cell (r ∷ rs) at rest (suc k) j i l m e =
+    let q : i ≡ length (ruleRow r at) + (6 * k + j) = omega (arith, e, rule-row-six r at) in
+    let next = ruleCells rs (at + length (patternRow r)) in
+    let z : at + length (patternRow r) + length (patternCells (take k rs)) ≡ at + length (patternRow r ++ patternCells (take k rs)) =
+    omega (arith, length-append (patternRow r) (patternCells (take k rs))) in
+    ap (λ (n : List ℕ). getD n i 0) (append-assoc (ruleRow r at) next rest) ∙ ap (λ (n : ℕ). getD (ruleRow r at ++ (next ++ rest)) n 0) q
+    ∙ getD-append-add (ruleRow r at) (next ++ rest) (6 * k + j) 0
+    ∙ rule-cell rs (at + length (patternRow r)) rest k j (6 * k + j) (omega arith) m refl
+    ∙ ap (λ (n : ℕ). getD (ruleRow (getD rs k noRule) n) j 0) z
+
+-- one row among others
+pub rows-split : {A : Type 0} (f : A → List ℕ) (xs : List A) (k : ℕ) (d : A) → k < length xs →
+    rows f xs ≡ rows f (take k xs) ++ (f (getD xs k d) ++ rows f (drop (suc k) xs))
+unfolding rows
+rows-split f [] k d l = absurd (omega arith)
+rows-split f (x ∷ xs) zero d l = refl
+rows-split f (x ∷ xs) (suc k) d l =
+    ap (λ z. f x ++ z) (rows-split f xs k d (omega arith)) ∙ sym (append-assoc (f x) (rows f (take k xs)) (f (getD xs k d) ++ rows f (drop (suc k) xs)))
+
+-- The names of rules -------------------------------------------------------------------------------------------------------------
+
+unfoldable pub ruleNames : List Rule → List Name
+ruleNames [] = []
+ruleNames (r ∷ rs) = r .name ∷ ruleNames rs
+
+length-rule-names : (rs : List Rule) → length (ruleNames rs) ≡ length rs
+unfolding ruleNames
+length-rule-names [] = refl
+length-rule-names (r ∷ rs) = ap suc (length-rule-names rs)
+
+rule-name-at : (rs : List Rule) (k : ℕ) → getD (ruleNames rs) k noName ≡ getD rs k noRule .name
+unfolding ruleNames
+rule-name-at [] k = refl
+rule-name-at (r ∷ rs) zero = refl
+rule-name-at (r ∷ rs) (suc k) = rule-name-at rs k
+
+first-rule-name : (rs : List Rule) (n : List ℕ) (k : ℕ) → first (λ r. same (r .name .bytes) n) rs k ≡ first (λ m. same (m .bytes) n) (ruleNames rs) k
+unfolding ruleNames first
+first-rule-name [] n k = refl
+first-rule-name (r ∷ rs) n k = go (same (r .name .bytes) n) (first-rule-name rs n (suc k))
+  where
+    go : (b : Bool) → first (λ r. same (r .name .bytes) n) rs (suc k) ≡ first (λ m. same (m .bytes) n) (ruleNames rs) (suc k) →
+        _≡_ {A = Option ℕ} (elim b [ true ↦ some k | false ↦ first (λ r. same (r .name .bytes) n) rs (suc k) ]) (elim b [ true ↦ some k | false ↦ first (λ m. same (m .bytes) n) (ruleNames rs) (suc k) ])
+    go true e = refl
+    go false e = e
+
+-- The rows of rules that are held ------------------------------------------------------------------------------------------------
+
+var-row-three : (v : RuleVar) → length (varRow v) ≡ 3
+unfolding varRow nameCells
+var-row-three v = refl
+
+rule-var-row-long : (r : Rule) → length (ruleVarRow r) ≡ 3 * RULEVARS
+unfolding ruleVarRow
+rule-var-row-long r = length-filled (3 * RULEVARS) (varCells (r .vars))
+
+module _ {text rules vars patterns : List ℕ} {count words : ℕ} {rs : List Rule} (h : RulesHeld text rules vars patterns count words rs) where
+  rules-room : 6 * count ≤ length rules
+  rules-room =
+      omega (arith, length-rule-cells rs 0, h .many, ap length (h .front .is), length-append (ruleCells rs 0) (h .front .rest))
+
+  pub rules-few : count ≤ RULES
+  rules-few = omega (arith, rules-room, h .long)
+
+  rule-cell-at : (k j i : ℕ) → k < length rs → j < 6 → i ≡ 6 * k + j → getD rules i 0 ≡ getD (ruleRow (getD rs k noRule) (wordsBefore rs k)) j 0
+  rule-cell-at k j i l m e =
+      let z : 0 + wordsBefore rs k ≡ wordsBefore rs k = omega arith in
+      ap (λ (t : List ℕ). getD t i 0) (h .front .is) ∙ rule-cell rs 0 (h .front .rest) k j i l m e
+      ∙ ap (λ (n : ℕ). getD (ruleRow (getD rs k noRule) n) j 0) z
+
+  pub rules-rows : NameRows text rules 6 0 count (ruleNames rs)
+  unfolding ruleRow nameCells
+  rules-rows =
+      record {
+        many = length-rule-names rs ∙ h .many;
+        row = λ k l.
+            let m : k < length rs = omega (arith, l, length-rule-names rs) in
+            subst (λ n. NameAt text rules (6 * k + 0) n) (sym (rule-name-at rs k))
+            (record {
+              inside = omega (arith, rules-room, m, h .many);
+              start = rule-cell-at k 0 (6 * k + 0) m (omega arith) refl;
+              end = rule-cell-at k 1 (6 * k + 0 + 1) m (omega arith) (omega arith);
+              name = all-at rs k noRule (h .names) m;
+            });
+      }
+
+  -- the words of a rule, and those of the rules behind
+  pub words-split : (k : ℕ) → k < length rs →
+      patterns ≡ patternCells (take k rs) ++ (patternRow (getD rs k noRule) ++ (patternCells (drop (suc k) rs) ++ h .written .rest))
+  words-split k l =
+      h .written .is ∙ ap (λ t. t ++ h .written .rest) (rows-split patternRow rs k noRule l)
+      ∙ append-assoc (patternCells (take k rs)) (patternRow (getD rs k noRule) ++ patternCells (drop (suc k) rs)) (h .written .rest)
+      ∙ ap (λ t. patternCells (take k rs) ++ t) (append-assoc (patternRow (getD rs k noRule)) (patternCells (drop (suc k) rs)) (h .written .rest))
+
+pub some-rule-names : {text rules : List ℕ} {count : ℕ} → NamedRules text rules count → SomeNames text rules 6 0 count
+some-rule-names s = (ruleNames (s .3 .0), rules-rows (s .3 .1))
+
+pub rule-place : {rules : List ℕ} {r : ℕ} → KnownRule rules r → 6 * r + 5 < length rules
+rule-place k = omega (arith, k .known, rules-few (k .held .1), k .held .1 .long)
+
+pub var-place : {vars : List ℕ} {r i : ℕ} → KnownVar vars r i → 3 * (RULEVARS * r + i) < length vars
+var-place {vars} {r} {i} k =
+    omega (
+      arith,
+      k .known,
+      k .held .1 .many,
+      rules-few (k .held .1),
+      k .held .1 .longs,
+      k .there,
+      all-at (k .held .0) r noRule (k .held .1 .sorted) (omega (arith, k .known, k .held .1 .many)),
+    )
+
+-- the answers of the readers
+module _ (T : Theory) {text rules vars patterns : List ℕ} {count words : ℕ} (h : RulesHeld text rules vars patterns count words (T .rules)) where
+  pub rule-is : (name : List ℕ) (a : Found) → ((ns : List Name) → NameRows text rules 6 0 count ns → a ≡ foundOf (first (λ n. same (n .bytes) name) ns 0)) →
+      a ≡ foundOf (ruleNamed T name)
+  unfolding ruleNamed
+  rule-is name a e = e (ruleNames (T .rules)) (rules-rows h) ∙ ap foundOf (sym (first-rule-name (T .rules) name 0))
+
+  module _ (r : ℕ) (l : r < count) where
+    there : r < length (T .rules)
+    there = omega (arith, l, h .many)
+
+    pub variables-cell : getD rules (6 * r + 2) 0 ≡ length (rule T r .vars)
+    unfolding rule ruleRow nameCells
+    variables-cell = rule-cell-at h r 2 (6 * r + 2) there (omega arith) refl
+
+    pub premises-cell : getD rules (6 * r + 3) 0 ≡ countTrees (rule T r .premises)
+    unfolding rule ruleRow nameCells
+    premises-cell = rule-cell-at h r 3 (6 * r + 3) there (omega arith) refl
+
+    pub from-cell : getD rules (6 * r + 4) 0 ≡ wordsBefore (T .rules) r
+    unfolding ruleRow nameCells
+    from-cell = rule-cell-at h r 4 (6 * r + 4) there (omega arith) refl
+
+    end-cell : getD rules (6 * r + 4 + 1) 0 ≡ wordsBefore (T .rules) r + length (patternRow (rule T r))
+    unfolding rule ruleRow nameCells
+    end-cell = rule-cell-at h r 5 (6 * r + 4 + 1) there (omega arith) (omega arith)
+
+    -- the words from the rule's place on
+    pub words-here : drop (wordsBefore (T .rules) r) patterns
+        ≡ patternRow (rule T r) ++ (patternCells (drop (suc r) (T .rules)) ++ h .written .rest)
+    unfolding rule wordsBefore
+    words-here =
+        ap (drop (length (patternCells (take r (T .rules))))) (words-split h r there)
+        ∙ drop-append-seam (patternCells (take r (T .rules))) (patternRow (getD (T .rules) r noRule) ++ (patternCells (drop (suc r) (T .rules)) ++ h .written .rest))
+
+    pub words-inside : wordsBefore (T .rules) r + length (patternRow (rule T r)) ≤ length patterns
+    unfolding rule wordsBefore
+    words-inside =
+        omega (
+          arith,
+          ap length (words-split h r there),
+          length-append (patternCells (take r (T .rules))) (patternRow (getD (T .rules) r noRule) ++ (patternCells (drop (suc r) (T .rules)) ++ h .written .rest)),
+          length-append (patternRow (getD (T .rules) r noRule)) (patternCells (drop (suc r) (T .rules)) ++ h .written .rest),
+        )
+
+    pub words-at : WordsAt patterns T r (record { from = getD rules (6 * r + 4) 0; end = getD rules (6 * r + 4 + 1) 0 })
+    words-at =
+        let n : getD rules (6 * r + 4 + 1) 0 - getD rules (6 * r + 4) 0 ≡ length (patternRow (rule T r)) = omega (arith, from-cell, end-cell) in
+        record {
+          starts = from-cell;
+          ends = omega (arith, from-cell, end-cell);
+          inside = omega (arith, end-cell, words-inside);
+          row = ap (λ (k : ℕ). take k (drop (getD rules (6 * r + 4) 0) patterns)) n
+              ∙ ap (λ (k : ℕ). take (length (patternRow (rule T r))) (drop k patterns)) from-cell
+              ∙ ap (take (length (patternRow (rule T r)))) words-here
+              ∙ take-append-seam (patternRow (rule T r)) (patternCells (drop (suc r) (T .rules)) ++ h .written .rest);
+        }
+
+    pub var-cell : (i : ℕ) → i < length (rule T r .vars) → getD vars (3 * (RULEVARS * r + i)) 0 ≡ getD (rule T r .vars) i noRuleVar .sort
+    unfolding rule ruleVarRow varRow
+    var-cell i m =
+        let few = all-at (T .rules) r noRule (h .sorted) there in
+        let vs = getD (T .rules) r noRule .vars in
+        let many = length-rows varRow 3 var-row-three vs in
+        ap (λ (t : List ℕ). getD t (3 * (RULEVARS * r + i)) 0) (h .fronts .is)
+        ∙ row-cell ruleVarRow (3 * RULEVARS) rule-var-row-long (T .rules) (h .fronts .rest) r (3 * i) (3 * (RULEVARS * r + i)) noRule there (omega (arith, few, m)) (omega arith)
+        ∙ ap (λ (t : List ℕ). getD t (3 * i) 0) (filled-fits (3 * RULEVARS) (varCells vs) (omega (arith, many, few)))
+        ∙ row-cell varRow 3 var-row-three vs (replicate (3 * RULEVARS - length (varCells vs)) 0) i 0 (3 * i) noRuleVar m (omega arith) (omega arith)
