@@ -1,0 +1,211 @@
+-- Tables that hold rules: their rows as the look-up reads them, their words, and one more. Assumes nothing.
+use mathlib.Core.Path.{_≡_, refl, sym, ap, _∙_, subst}
+use Prim.Native.Nat.{ℕ, zero, suc, _+_, _-_, _*_, _<_, _≤_}
+use mathlib.Core.List.{List, [], _∷_, _++_}
+use native.Mathlib.Omega.{arith}
+use native.Mathlib.Nat.{mul-suc, mul-zero, zero-add}
+use lib.ListN.{length, getD, take, drop, set, length-append, take-append-drop}
+use lib.Seq.{sets, length-sets, take-at, getD-append-add, paste, length-paste, length-take-le}
+use Rattle.rules.specs.Limits.{RULES, RULEVARS, PATTERNS}
+use Rattle.rules.specs.Laws.Find.{getD-front}
+use Rattle.rules.specs.Sexp.{Name}
+use Rattle.rules.specs.Tree.{Tree, Trees, var, app, none, more, countTrees, size, sizes}
+use Rattle.rules.specs.Theory.{Theory, Rule, noName, noRule, ruleWords}
+use Rattle.rules.specs.Laws.Theory.{All, all-at, all-snoc}
+use Rattle.rules.specs.TheoryTables.{filled, rows, nameCells, prefix, prefixes, patternRow, varCells, ruleVarRow, ruleRow, ruleCells}
+use Rattle.rules.specs.Laws.Row.{append-assoc, append-nil, rows-snoc, length-rows, length-filled}
+use Rattle.sexp.specs.NameRows.{NameIn, NameAt, NameRows}
+use Rattle.kernel.specs.Held.{Front}
+use Rattle.kernel.specs.HeldRules.{RulesHeld, RuleIs}
+use Rattle.kernel.proofs.Holding.{front-write, front-same, front-paste}
+use Rattle.kernel.proofs.Vars.{namesOf, length-names, name-of}
+
+-- Words --------------------------------------------------------------------------------------------------------------------------
+
+mutual
+  unfolding prefix size
+
+  prefix-length : (p : Tree) → length (prefix p) ≡ size p
+  prefix-length (var v) = refl
+  prefix-length (app c ts) = ap suc (prefixes-length ts)
+
+  prefixes-length : (ts : Trees) → length (prefixes ts) ≡ sizes ts
+  prefixes-length none = refl
+  prefixes-length (more t ts) = let a = prefix-length t in let b = prefixes-length ts in length-append (prefix t) (prefixes ts) ∙ omega arith
+
+some-word : (t : Tree) → 1 ≤ length (prefix t)
+unfolding prefix
+some-word (var v) = omega arith
+some-word (app c ts) = omega arith
+
+-- no more trees than words
+pub count-few : (ts : Trees) → countTrees ts ≤ length (prefixes ts)
+unfolding prefix countTrees
+count-few none = omega arith
+count-few (more t ts) = omega (arith, length-append (prefix t) (prefixes ts), some-word t, count-few ts)
+
+-- row 6 counts the words
+words-counted : (rs : List Rule) → length (rows patternRow rs) ≡ ruleWords rs
+unfolding rows patternRow ruleWords
+words-counted [] = refl
+words-counted (r ∷ rs) =
+    omega (arith, length-append (prefixes (r .premises) ++ prefix (r .conclusion)) (rows patternRow rs), length-append (prefixes (r .premises)) (prefix (r .conclusion)),
+    prefixes-length (r .premises), prefix-length (r .conclusion), words-counted rs)
+
+front-taken : (table xs : List ℕ) (n : ℕ) → take n table ≡ xs → Front table xs
+front-taken table xs n e = record { rest = drop n table; is = sym (take-append-drop n table) ∙ ap (λ l. l ++ drop n table) e }
+
+-- Rows ---------------------------------------------------------------------------------------------------------------------------
+
+abbrev pub ruleName : Rule → Name
+ruleName r = r .name
+
+rule-row-six : (r : Rule) (at : ℕ) → length (ruleRow r at) ≡ 6
+unfolding ruleRow nameCells
+rule-row-six r at = refl
+
+length-rule-cells : (rs : List Rule) (at : ℕ) → length (ruleCells rs at) ≡ 6 * length rs
+unfolding ruleCells
+length-rule-cells [] at = omega arith
+length-rule-cells (r ∷ rs) at =
+    omega (arith, length-append (ruleRow r at) (ruleCells rs (at + length (patternRow r))), rule-row-six r at, length-rule-cells rs (at + length (patternRow r)), mul-suc 6 (length rs))
+
+-- a rule's name stands first in its row
+name-first : (r : Rule) (at j : ℕ) → j < 2 → getD (ruleRow r at) j 0 ≡ getD (nameCells (r .name)) j 0
+unfolding ruleRow nameCells
+name-first r at j l = getD-front (nameCells (r .name)) (length (r .vars) ∷ countTrees (r .premises) ∷ at ∷ (at + length (patternRow r)) ∷ []) j 0 l
+
+name-cell : (rs : List Rule) (rest : List ℕ) (at k j i : ℕ) → k < length rs → j < 2 → i ≡ 6 * k + j → getD (ruleCells rs at ++ rest) i 0 ≡ getD (nameCells (getD rs k noRule .name)) j 0
+unfolding ruleCells
+name-cell [] rest at k j i l m e = absurd (omega arith)
+name-cell (r ∷ rs) rest at zero j i l m e =
+    let q : i ≡ j = omega (arith, e) in
+    let next = ruleCells rs (at + length (patternRow r)) in
+    ap (λ z. getD z i 0) (append-assoc (ruleRow r at) next rest) ∙ ap (λ n. getD (ruleRow r at ++ (next ++ rest)) n 0) q
+    ∙ getD-front (ruleRow r at) (next ++ rest) j 0 (omega (arith, rule-row-six r at, m)) ∙ name-first r at j m
+name-cell (r ∷ rs) rest at (suc k) j i l m e =
+    let q : i ≡ length (ruleRow r at) + (6 * k + j) = omega (arith, e, mul-suc 6 k, rule-row-six r at) in
+    let next = ruleCells rs (at + length (patternRow r)) in
+    ap (λ z. getD z i 0) (append-assoc (ruleRow r at) next rest) ∙ ap (λ n. getD (ruleRow r at ++ (next ++ rest)) n 0) q
+    ∙ getD-append-add (ruleRow r at) (next ++ rest) (6 * k + j) 0
+    ∙ name-cell rs rest (at + length (patternRow r)) k j (6 * k + j) (omega arith) m refl
+
+rule-cells-snoc : (rs : List Rule) (u : Rule) (at : ℕ) → ruleCells (rs ++ (u ∷ [])) at ≡ ruleCells rs at ++ ruleRow u (at + length (rows patternRow rs))
+unfolding ruleCells rows
+rule-cells-snoc [] u at =
+    let z : at ≡ at + 0 = omega arith in
+    append-nil (ruleRow u at) ∙ ap (ruleRow u) z
+rule-cells-snoc (r ∷ rs) u at =
+    let n : at + length (patternRow r) + length (rows patternRow rs) ≡ at + length (patternRow r ++ rows patternRow rs) = omega (arith, length-append (patternRow r) (rows patternRow rs)) in
+    ap (λ l. ruleRow r at ++ l) (rule-cells-snoc rs u (at + length (patternRow r)))
+    ∙ sym (append-assoc (ruleRow r at) (ruleCells rs (at + length (patternRow r))) (ruleRow u (at + length (patternRow r) + length (rows patternRow rs))))
+    ∙ ap (λ (k : ℕ). (ruleRow r at ++ ruleCells rs (at + length (patternRow r))) ++ ruleRow u k) n
+
+var-row-long : (r : Rule) → length (ruleVarRow r) ≡ 3 * RULEVARS
+unfolding ruleVarRow
+var-row-long r = length-filled (3 * RULEVARS) (varCells (r .vars))
+
+-- What is held -------------------------------------------------------------------------------------------------------------------
+
+module _ {text rules vars patterns : List ℕ} {count used : ℕ} {rs : List Rule} (h : RulesHeld text rules vars patterns count used rs) where
+  rules-cells : length (ruleCells rs 0) ≡ 6 * count
+  rules-cells = length-rule-cells rs 0 ∙ ap (λ k. 6 * k) (h .many)
+
+  rules-room : 6 * count ≤ length rules
+  rules-room = omega (arith, rules-cells, ap length (h .front .is), length-append (ruleCells rs 0) (h .front .rest))
+
+  vars-cells : length (rows ruleVarRow rs) ≡ 3 * RULEVARS * count
+  vars-cells = length-rows ruleVarRow (3 * RULEVARS) var-row-long rs ∙ ap (λ k. 3 * RULEVARS * k) (h .many)
+
+  words-cells : length (rows patternRow rs) ≡ used
+  words-cells = words-counted rs ∙ h .used
+
+  -- the words that are used
+  words-taken : take used patterns ≡ rows patternRow rs
+  words-taken = ap (take used) (h .written .is) ∙ take-at (rows patternRow rs) (h .written .rest) used words-cells
+
+  pub rules-names : NameRows text rules 6 0 count (namesOf ruleName rs)
+  unfolding nameCells
+  rules-names =
+      record {
+        many = length-names ruleName rs ∙ h .many;
+        row = λ k l.
+            let m : k < length rs = omega (arith, l, length-names ruleName rs) in
+            subst (λ n. NameAt text rules (6 * k + 0) n) (sym (name-of ruleName rs k noRule refl))
+            (record {
+              inside = omega (arith, rules-room, m, h .many);
+              start = ap (λ t. getD t (6 * k + 0) 0) (h .front .is) ∙ name-cell rs (h .front .rest) 0 k 0 (6 * k + 0) m (omega arith) refl;
+              end = ap (λ t. getD t (6 * k + 0 + 1) 0) (h .front .is) ∙ name-cell rs (h .front .rest) 0 k 1 (6 * k + 0 + 1) m (omega arith) (omega arith);
+              name = all-at rs k noRule (h .names) m;
+            });
+      }
+
+  -- other words behind those that are used
+  pub rules-kept : (after : List ℕ) → take used after ≡ take used patterns → length after ≡ length patterns → RulesHeld text rules vars after count used rs
+  rules-kept after e l =
+      record {
+        many = h .many;
+        used = h .used;
+        few = h .few;
+        long = h .long;
+        longs = h .longs;
+        room = l ∙ h .room;
+        front = h .front;
+        fronts = h .fronts;
+        written = front-taken after (rows patternRow rs) used (e ∙ words-taken);
+        names = h .names;
+        sorted = h .sorted;
+      }
+
+  module _ {u : Rule} {start end variables premises last : ℕ} {row : List ℕ} (is : RuleIs text patterns u start end variables premises used last row) (l : count < RULES) where
+    words-then : take last patterns ≡ rows patternRow (rs ++ (u ∷ []))
+    words-then = is .words ∙ ap (λ z. z ++ patternRow u) words-taken ∙ sym (rows-snoc patternRow rs u)
+
+    last-is : length (rows patternRow (rs ++ (u ∷ []))) ≡ last
+    last-is = ap length (sym words-then) ∙ length-take-le last patterns (omega (arith, is .room, h .room))
+
+    behind-is : used + length (patternRow u) ≡ last
+    behind-is = omega (arith, last-is, ap length (rows-snoc patternRow rs u), length-append (rows patternRow rs) (patternRow u), words-cells)
+
+    row-is : ruleRow u (0 + length (rows patternRow rs)) ≡ start ∷ end ∷ variables ∷ premises ∷ used ∷ last ∷ []
+    unfolding ruleRow nameCells
+    row-is =
+        let z : 0 + length (rows patternRow rs) ≡ used = omega (arith, words-cells) in
+        ap (λ (k : ℕ). ruleRow u k) z
+        ∙ (λ i. is .starts i ∷ (ap (λ n. n + length (u .name .bytes)) (is .starts) ∙ is .ends) i ∷ is .many i ∷ is .judgments i ∷ used ∷ behind-is i ∷ [])
+
+    row-long : length row ≡ 3 * RULEVARS
+    row-long = ap length (sym (is .cells)) ∙ var-row-long u
+
+    -- the cells one after the other
+    abbrev pub written-row : List ℕ
+    written-row =
+        set (set (set (set (sets rules (6 * count) (start ∷ end ∷ [])) (6 * count + 2) variables) (6 * count + 3) premises) (6 * count + 4) used) (6 * count + 5) last
+
+    cells-at-once : sets rules (6 * count) (start ∷ end ∷ variables ∷ premises ∷ used ∷ last ∷ []) ≡ written-row
+    cells-at-once =
+        let a : suc (suc (6 * count)) ≡ 6 * count + 2 = omega arith in
+        let b : suc (suc (suc (6 * count))) ≡ 6 * count + 3 = omega arith in
+        let c : suc (suc (suc (suc (6 * count)))) ≡ 6 * count + 4 = omega arith in
+        let d : suc (suc (suc (suc (suc (6 * count))))) ≡ 6 * count + 5 = omega arith in
+        λ i. set (set (set (set (sets rules (6 * count) (start ∷ end ∷ [])) (a i) variables) (b i) premises) (c i) used) (d i) last
+
+    pub rules-more : RulesHeld text written-row (paste vars (48 * count) row (length row)) patterns (count + 1) last (rs ++ (u ∷ []))
+    rules-more =
+        let cells = start ∷ end ∷ variables ∷ premises ∷ used ∷ last ∷ [] in
+        record {
+          many = omega (arith, length-append rs (u ∷ []), h .many);
+          used = sym (words-counted (rs ++ (u ∷ []))) ∙ last-is;
+          few = is .room;
+          long = ap length (sym cells-at-once) ∙ length-sets rules (6 * count) cells ∙ h .long;
+          longs = length-paste vars (48 * count) row (length row) (omega (arith, row-long, h .longs, l)) (omega arith) ∙ h .longs;
+          room = h .room;
+          front = subst (λ t. Front t (ruleCells (rs ++ (u ∷ [])) 0)) cells-at-once
+              (front-same (front-write rules (ruleCells rs 0) cells (6 * count) (h .front) rules-cells (omega (arith, h .long, l)))
+              (ap (λ z. ruleCells rs 0 ++ z) (sym row-is) ∙ sym (rule-cells-snoc rs u 0)));
+          fronts = front-same (front-paste vars (rows ruleVarRow rs) row (48 * count) (h .fronts) vars-cells (omega (arith, row-long, h .longs, l)))
+              (ap (λ z. rows ruleVarRow rs ++ z) (sym (is .cells)) ∙ sym (rows-snoc ruleVarRow rs u));
+          written = front-taken patterns (rows patternRow (rs ++ (u ∷ []))) last words-then;
+          names = all-snoc (h .names) (is .named);
+          sorted = all-snoc (h .sorted) (omega (arith, is .many, is .few));
+        }

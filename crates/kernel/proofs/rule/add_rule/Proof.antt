@@ -1,0 +1,149 @@
+use borrow.Author.Needs.{needs}
+use Rattle.kernel.proofs.rule.add_rule.Statement.{statement}
+use Rattle.kernel.proofs.rule.add_rule.Tie as tie
+use Rattle.kernel.proofs.rule.add_rule.Reads as reads
+use Rattle.kernel.proofs.rule.add_rule.Lts as lts
+use Rattle.kernel.proofs.rule.premise_count.Reads as premise-count-reads
+use Rattle.kernel.proofs.rule.schema.Reads as schema-reads
+use Rattle.kernel.proofs.rule.store.Reads as store-reads
+use Rattle.kernel.proofs.symbols.proper_at.Reads as proper-at-reads
+use Rattle.sexp.proofs.names.named.Reads as named-reads
+
+-- src/rule.rt:146:9
+slice-aggregate-schema : tie.Need-slice-aggregate-schema
+slice-aggregate-schema c = search needs
+
+-- src/rule.rt:140:9
+schema-requires : tie.Need-schema-requires
+schema-requires c κs = ?
+
+-- src/rule.rt:150:18
+enum-known-r : tie.Need-enum-known-r
+enum-known-r c = search needs
+
+-- src/rule.rt:151:9
+enum-told : tie.Need-enum-told
+enum-told c = search needs
+
+-- src/rule.rt:151:9
+same-length : tie.Need-same-length
+same-length c = search needs
+
+-- src/rule.rt:151:9
+returns : tie.Need-returns
+returns c = ?
+
+-- src/rule.rt:153:38
+proper-at-requires : tie.Need-proper-at-requires
+proper-at-requires c κs = ?
+
+-- src/rule.rt:153:24
+enum-known-start : tie.Need-enum-known-start
+enum-known-start c = search needs
+
+-- src/rule.rt:154:9
+enum-told-2 : tie.Need-enum-told-2
+enum-told-2 c = search needs
+
+-- src/rule.rt:154:9
+same-length-2 : tie.Need-same-length-2
+same-length-2 c = search needs
+
+-- src/rule.rt:154:9
+returns-2 : tie.Need-returns-2
+returns-2 c = ?
+
+-- src/rule.rt:156:58
+sub-named : tie.Need-sub-named
+sub-named c = ?
+
+-- src/rule.rt:156:58
+part-named-start : tie.Need-part-named-start
+part-named-start c = ?
+
+-- src/rule.rt:156:58
+part-named-end : tie.Need-part-named-end
+part-named-end c = ?
+
+-- src/rule.rt:156:26
+named-requires : tie.Need-named-requires
+named-requires c κs = ?
+
+enum-told-3 : tie.Need-enum-told-3
+enum-told-3 c = search needs
+
+-- src/rule.rt:157:9
+enum-told-4 : tie.Need-enum-told-4
+enum-told-4 c = search needs
+
+-- src/rule.rt:157:9
+same-length-3 : tie.Need-same-length-3
+same-length-3 c = search needs
+
+-- src/rule.rt:157:9
+same-length-4 : tie.Need-same-length-4
+same-length-4 c = search needs
+
+-- src/rule.rt:157:9
+returns-3 : tie.Need-returns-3
+returns-3 c = ?
+
+-- src/rule.rt:159:9
+premise-count-requires : tie.Need-premise-count-requires
+premise-count-requires c κs = search needs
+
+-- src/rule.rt:170:9
+slice-aggregate-store : tie.Need-slice-aggregate-store
+slice-aggregate-store c = search needs
+
+-- src/rule.rt:160:5
+store-requires : tie.Need-store-requires
+store-requires c κs = ?
+
+-- src/rule.rt:119:1
+same-length-5 : tie.Need-same-length-5
+same-length-5 c = search needs
+
+-- src/rule.rt:119:1
+same-length-6 : tie.Need-same-length-6
+same-length-6 c = search needs
+
+-- src/rule.rt:119:1
+same-length-7 : tie.Need-same-length-7
+same-length-7 c = search needs
+
+-- src/rule.rt:119:1
+returns-4 : tie.Need-returns-4
+returns-4 c = ?
+
+pub add-rule-spec : {M : Type 1} → statement M
+add-rule-spec =
+    tie.close
+    (tie.spec
+    slice-aggregate-schema
+    schema-requires
+    enum-known-r
+    enum-told
+    same-length
+    returns
+    proper-at-requires
+    enum-known-start
+    enum-told-2
+    same-length-2
+    returns-2
+    sub-named
+    part-named-start
+    part-named-end
+    named-requires
+    enum-told-3
+    enum-told-4
+    same-length-3
+    same-length-4
+    returns-3
+    premise-count-requires
+    slice-aggregate-store
+    store-requires
+    same-length-5
+    same-length-6
+    same-length-7
+    returns-4)
