@@ -1,3 +1,8 @@
+use mathlib.Core.Path.{_≡_, refl, _∙_}
+use Prim.Native.Nat.{_+_, _*_, _<_, _≤_}
+use native.Mathlib.Omega.{arith}
+use lib.ListN.{set, length-set}
+use Rattle.kernel.proofs.RuleRows.{rules-more}
 use borrow.Author.Needs.{needs}
 use Rattle.kernel.proofs.rule.store.Statement.{statement}
 use Rattle.kernel.proofs.rule.store.Tie as tie
@@ -8,7 +13,7 @@ use Rattle.kernel.proofs.symbols.put_name.Reads as put-name-reads
 
 -- src/rule.rt:105:9
 returns : tie.Need-returns
-returns c = search needs
+returns c = λ text patterns rs u h is. ((c .if1) .taken, refl, refl, refl, refl)
 
 -- src/rule.rt:107:14
 mul-at : tie.Need-mul-at
@@ -48,7 +53,7 @@ mul-rules-2 c = search needs
 
 -- src/rule.rt:110:5
 slice-write-rules-2 : tie.Need-slice-write-rules-2
-slice-write-rules-2 c = ?
+slice-write-rules-2 c = omega (arith, length-set ((c .before .before .put-name) .last .0) (6 * (c .before .before .before .before .before .before .before .before .args) .count + 2) ((c .before .before .before .before .before .before .before .before .args) .variables), (c .before .before .put-name) .kept .0, (c .before .before .before .before .before .before .before .before .pre) .long, (c .before .before .before .before .if1) .left)
 
 -- src/rule.rt:111:21
 cast-rules-3 : tie.Need-cast-rules-3
@@ -64,7 +69,7 @@ mul-rules-3 c = search needs
 
 -- src/rule.rt:111:5
 slice-write-rules-3 : tie.Need-slice-write-rules-3
-slice-write-rules-3 c = ?
+slice-write-rules-3 c = omega (arith, length-set ((c .before .before .put-name) .last .0) (6 * (c .before .before .before .before .before .before .before .before .args) .count + 2) ((c .before .before .before .before .before .before .before .before .args) .variables), length-set (set ((c .before .before .put-name) .last .0) (6 * (c .before .before .before .before .before .before .before .before .args) .count + 2) ((c .before .before .before .before .before .before .before .before .args) .variables)) (6 * (c .before .before .before .before .before .before .before .before .args) .count + 3) ((c .before .before .before .before .before .before .before .before .args) .premises), (c .before .before .put-name) .kept .0, (c .before .before .before .before .before .before .before .before .pre) .long, (c .before .before .before .before .if1) .left)
 
 -- src/rule.rt:112:21
 cast-rules-4 : tie.Need-cast-rules-4
@@ -80,7 +85,7 @@ mul-rules-4 c = search needs
 
 -- src/rule.rt:112:5
 slice-write-rules-4 : tie.Need-slice-write-rules-4
-slice-write-rules-4 c = ?
+slice-write-rules-4 c = omega (arith, length-set ((c .before .before .put-name) .last .0) (6 * (c .before .before .before .before .before .before .before .before .args) .count + 2) ((c .before .before .before .before .before .before .before .before .args) .variables), length-set (set ((c .before .before .put-name) .last .0) (6 * (c .before .before .before .before .before .before .before .before .args) .count + 2) ((c .before .before .before .before .before .before .before .before .args) .variables)) (6 * (c .before .before .before .before .before .before .before .before .args) .count + 3) ((c .before .before .before .before .before .before .before .before .args) .premises), length-set (set (set ((c .before .before .put-name) .last .0) (6 * (c .before .before .before .before .before .before .before .before .args) .count + 2) ((c .before .before .before .before .before .before .before .before .args) .variables)) (6 * (c .before .before .before .before .before .before .before .before .args) .count + 3) ((c .before .before .before .before .before .before .before .before .args) .premises)) (6 * (c .before .before .before .before .before .before .before .before .args) .count + 4) ((c .before .before .before .before .before .before .before .before .args) .first), (c .before .before .put-name) .kept .0, (c .before .before .before .before .before .before .before .before .pre) .long, (c .before .before .before .before .if1) .left)
 
 -- src/rule.rt:113:19
 mul-put-row : tie.Need-mul-put-row
@@ -96,7 +101,7 @@ add-t18 c = search needs
 
 -- src/rule.rt:87:1
 same-length : tie.Need-same-length
-same-length c = search needs
+same-length c = length-set (set (set (set ((c .before .before .before .before .before .before .put-name) .last .0) (6 * (c .before .before .before .before .before .before .before .before .before .before .before .before .args) .count + 2) ((c .before .before .before .before .before .before .before .before .before .before .before .before .args) .variables)) (6 * (c .before .before .before .before .before .before .before .before .before .before .before .before .args) .count + 3) ((c .before .before .before .before .before .before .before .before .before .before .before .before .args) .premises)) (6 * (c .before .before .before .before .before .before .before .before .before .before .before .before .args) .count + 4) ((c .before .before .before .before .before .before .before .before .before .before .before .before .args) .first)) (6 * (c .before .before .before .before .before .before .before .before .before .before .before .before .args) .count + 5) ((c .before .before .before .before .before .before .before .before .before .before .before .before .args) .last) ∙ length-set (set (set ((c .before .before .before .before .before .before .put-name) .last .0) (6 * (c .before .before .before .before .before .before .before .before .before .before .before .before .args) .count + 2) ((c .before .before .before .before .before .before .before .before .before .before .before .before .args) .variables)) (6 * (c .before .before .before .before .before .before .before .before .before .before .before .before .args) .count + 3) ((c .before .before .before .before .before .before .before .before .before .before .before .before .args) .premises)) (6 * (c .before .before .before .before .before .before .before .before .before .before .before .before .args) .count + 4) ((c .before .before .before .before .before .before .before .before .before .before .before .before .args) .first) ∙ length-set (set ((c .before .before .before .before .before .before .put-name) .last .0) (6 * (c .before .before .before .before .before .before .before .before .before .before .before .before .args) .count + 2) ((c .before .before .before .before .before .before .before .before .before .before .before .before .args) .variables)) (6 * (c .before .before .before .before .before .before .before .before .before .before .before .before .args) .count + 3) ((c .before .before .before .before .before .before .before .before .before .before .before .before .args) .premises) ∙ length-set ((c .before .before .before .before .before .before .put-name) .last .0) (6 * (c .before .before .before .before .before .before .before .before .before .before .before .before .args) .count + 2) ((c .before .before .before .before .before .before .before .before .before .before .before .before .args) .variables) ∙ (c .before .before .before .before .before .before .put-name) .kept .0
 
 -- src/rule.rt:87:1
 same-length-2 : tie.Need-same-length-2
@@ -104,7 +109,7 @@ same-length-2 c = search needs
 
 -- src/rule.rt:87:1
 returns-2 : tie.Need-returns-2
-returns-2 c = ?
+returns-2 c = λ text patterns rs u h is. ((c .before .before .before .before .before .before .before .before .if1) .left, rw ((c .before .before .before .before .before .before .put-name) .ensures, (c .before .before .put-row) .ensures) (rules-more h is ((c .before .before .before .before .before .before .before .before .if1) .left)))
 
 pub store-spec : {M : Type 1} → statement M
 store-spec =
