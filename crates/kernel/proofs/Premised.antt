@@ -1,20 +1,19 @@
 -- The premises of a rule, one at a time: where their reader stands, and what it answers. Assumes nothing.
 use mathlib.Core.Path.{_≡_, refl, sym, ap, _∙_, subst}
-use Prim.Native.Nat.{ℕ, _+_, _-_, _<_, _≤_}
-use mathlib.Core.List.{List, _++_}
+use Prim.Native.Nat.{ℕ, _-_, _<_, _≤_}
+use mathlib.Core.List.{List}
 use native.Mathlib.Omega.{arith}
 use lib.ListN.{length, take, drop}
-use Rattle.rules.specs.Limits.{LENGTH, PATTERNS}
-use Rattle.rules.specs.Out.{Out, ok, refuse, then}
-use Rattle.rules.specs.Sexp.{Sexp, Sexps, list, cons}
-use Rattle.rules.specs.Tree.{Tree, Trees, none, more}
+use Rattle.rules.specs.Limits.{PATTERNS}
+use Rattle.rules.specs.Out.{ok, then}
+use Rattle.rules.specs.Sexp.{Sexps, list, cons}
+use Rattle.rules.specs.Tree.{none, more}
 use Rattle.rules.specs.Theory.{Theory}
 use Rattle.rules.specs.TheoryTables.{prefix, prefixes}
 use Rattle.rules.specs.Laws.Row.{append-nil}
 use Rattle.rules.specs.Declare.{Reading, predicated, judgments}
 use Rattle.rules.specs.Laws.PatternSteps.{judgments-none, judgments-atom, judgments-more}
 use Rattle.sexp.specs.Items.{Holds, itemAt}
-use Rattle.sexp.specs.ItemLaws.{More}
 use Rattle.sexp.specs.WalkLaws.{Walk, walk-start, walk-more, walk-over, walk-atom, walk-list, past-list, list-on}
 use Rattle.sexp.specs.declared.items.Item.{Item}
 use Rattle.sexp.specs.declared.items.Item.the-variants.{Atom, List as Part}

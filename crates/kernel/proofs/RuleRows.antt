@@ -3,18 +3,18 @@ use mathlib.Core.Path.{_≡_, refl, sym, ap, _∙_, subst}
 use Prim.Native.Nat.{ℕ, zero, suc, _+_, _-_, _*_, _<_, _≤_}
 use mathlib.Core.List.{List, [], _∷_, _++_}
 use native.Mathlib.Omega.{arith}
-use native.Mathlib.Nat.{mul-suc, mul-zero, zero-add}
+use native.Mathlib.Nat.{mul-suc}
 use lib.ListN.{length, getD, take, drop, set, length-append, take-append-drop}
 use lib.Seq.{sets, length-sets, take-at, getD-append-add, paste, length-paste, length-take-le}
-use Rattle.rules.specs.Limits.{RULES, RULEVARS, PATTERNS}
+use Rattle.rules.specs.Limits.{RULES, RULEVARS}
 use Rattle.rules.specs.Laws.Find.{getD-front}
 use Rattle.rules.specs.Sexp.{Name}
 use Rattle.rules.specs.Tree.{Tree, Trees, var, app, none, more, countTrees, size, sizes}
-use Rattle.rules.specs.Theory.{Theory, Rule, noName, noRule, ruleWords}
-use Rattle.rules.specs.Laws.Theory.{All, all-at, all-snoc}
-use Rattle.rules.specs.TheoryTables.{filled, rows, nameCells, prefix, prefixes, patternRow, varCells, ruleVarRow, ruleRow, ruleCells}
+use Rattle.rules.specs.Theory.{Rule, noRule, ruleWords}
+use Rattle.rules.specs.Laws.Theory.{all-at, all-snoc}
+use Rattle.rules.specs.TheoryTables.{rows, nameCells, prefix, prefixes, patternRow, varCells, ruleVarRow, ruleRow, ruleCells}
 use Rattle.rules.specs.Laws.Row.{append-assoc, append-nil, rows-snoc, length-rows, length-filled}
-use Rattle.sexp.specs.NameRows.{NameIn, NameAt, NameRows}
+use Rattle.sexp.specs.NameRows.{NameAt, NameRows}
 use Rattle.kernel.specs.Held.{Front}
 use Rattle.kernel.specs.HeldRules.{RulesHeld, RuleIs}
 use Rattle.kernel.proofs.Holding.{front-write, front-same, front-paste}

@@ -1,16 +1,16 @@
 -- The answers of `add_rule`, question by question. Assumes nothing.
 use mathlib.Core.Path.{_≡_, refl, sym, ap, _∙_, subst}
-use Prim.Native.Nat.{ℕ, _+_, _-_, _*_, _^_, _<_, _≤_}
-use mathlib.Core.Option.{Option, some, none as nothing}
-use mathlib.Core.List.{List, [], _∷_, _++_}
+use Prim.Native.Nat.{ℕ, _+_, _-_, _*_, _≤_}
+use mathlib.Core.Option.{some, none as nothing}
+use mathlib.Core.List.{List, [], _++_}
 use native.Mathlib.Omega.{arith}
 use lib.ListN.{length, take, drop, replicate, length-append}
 use lib.Seq.{length-take-le}
-use Rattle.rules.specs.Limits.{LENGTH, RULES, RULEVARS, PATTERNS}
+use Rattle.rules.specs.Limits.{LENGTH, RULEVARS, PATTERNS}
 use Rattle.rules.specs.Text.{same}
 use Rattle.rules.specs.Find.{first}
-use Rattle.rules.specs.Out.{Out, ok, refuse}
-use Rattle.rules.specs.Sexp.{Sexp, Sexps, list, item, count as itemCount, Name}
+use Rattle.rules.specs.Out.{Out, refuse}
+use Rattle.rules.specs.Sexp.{Sexps, list, item, count as itemCount, Name}
 use Rattle.rules.specs.Tree.{Tree, Trees, countTrees}
 use Rattle.rules.specs.Theory.{Theory, Symbol, Rule, ruleNamed}
 use Rattle.rules.specs.Laws.Theory.{empty}
@@ -21,15 +21,15 @@ use Rattle.sexp.specs.Items.{Holds}
 use Rattle.sexp.specs.NameRows.{NameRows, foundOf}
 use Rattle.sexp.specs.declared.names.Found.{Found}
 use Rattle.sexp.specs.declared.names.Found.the-variants.{At, Missing}
-use Rattle.kernel.specs.Held.{Form, SymbolsHeld, SomeSymbolsHeld}
+use Rattle.kernel.specs.Held.{Form, SomeSymbolsHeld}
 use Rattle.kernel.specs.Reading.{VarsHeld, Reads, Written, Stopped, PatternRead}
-use Rattle.kernel.specs.HeldRules.{schemaCells, Beginning, RulesHeld, SomeRules, RuleFits, RuleIs, RulePut, withRule, RuleStored, RuleRefused, RuleAdded}
+use Rattle.kernel.specs.HeldRules.{schemaCells, Beginning, RulesHeld, SomeRules, RuleFits, RuleIs, RulePut, RuleRefused, RuleAdded}
 use Rattle.kernel.specs.declared.patterns.Made.{Made}
 use Rattle.kernel.specs.declared.patterns.Made.the-variants.{Ok, No}
 use Rattle.kernel.proofs.Spellings.{Proper, found-at, found-missing}
 use Rattle.kernel.proofs.Vars.{namesOf, first-name, vars-few, vars-filled}
 use Rattle.kernel.proofs.Schemas.{written-kept}
-use Rattle.kernel.proofs.Ruling.{begun, ruleOf, rule-stopped, rule-unnamed, rule-twice, rule-full, rule-new, premised}
+use Rattle.kernel.proofs.Ruling.{begun, ruleOf, rule-stopped, rule-unnamed, rule-twice, rule-full, rule-new, premise-list}
 use Rattle.kernel.proofs.RuleRows.{ruleName, rules-names, rules-kept, count-few}
 
 -- some theory with these symbols and rules
@@ -110,7 +110,7 @@ module _ {text rules vars P table M : List ℕ} {count used variables last : ℕ
     module _ {form : List ℕ} (k : Holds text form xs) (n : 4 ≡ itemCount xs) {premises : ℕ}
         (a : (t : List ℕ) (ys zs : Sexps) → Holds t form ys → 4 ≡ itemCount ys → item ys 2 ≡ list zs → premises ≡ itemCount zs) where
       counted : countTrees (w .tree .0) ≡ premises
-      counted = let q = premised T xs (begun T) (w .now) (w .tree) (w .is) in q .many ∙ sym (a text xs (q .items) k n (q .is))
+      counted = let q = premise-list T xs (begun T) (w .now) (w .tree) (w .is) in q .many ∙ sym (a text xs (q .items) k n (q .is))
 
       pub rule-is : RuleIs text M ruleNow s e variables premises used last table
       unfolding ruleVarRow patternRow

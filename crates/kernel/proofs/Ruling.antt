@@ -1,10 +1,8 @@
 -- The questions of a rule's declaration one at a time, as code puts them, and how many premises it has. Assumes nothing.
 use mathlib.Core.Path.{_≡_, refl, sym, ap, _∙_}
-use Prim.Native.Nat.{ℕ, zero, suc, _<_, _≤_}
-use mathlib.Core.Bool.{Bool, true, false}
-use mathlib.Core.Option.{Option, some, none as nothing}
-use mathlib.Core.List.{List, [], _∷_, _++_}
-use native.Mathlib.Omega.{arith}
+use Prim.Native.Nat.{ℕ, suc, _<_, _≤_}
+use mathlib.Core.Option.{some, none as nothing}
+use mathlib.Core.List.{[]}
 use lib.Dec.{ltb}
 use lib.ListN.{length}
 use borrow.Author.Tests.{lt-ltb, le-ltb}
@@ -17,6 +15,7 @@ use Rattle.rules.specs.Declare.{Reading, isNew, properName, predicated, judgmen
 use Rattle.rules.specs.Laws.Declaring.{proper, proper-asks}
 use Rattle.rules.specs.Laws.PatternSteps.{schema-no-premises, schema-stopped, schema-no-conclusion, schema-asks}
 use Rattle.kernel.specs.HeldRules.{withRule}
+use Rattle.kernel.proofs.Spellings.{never}
 
 -- no variable yet, and the words of the rules before
 abbrev pub begun : Theory → Reading
@@ -74,9 +73,6 @@ module _ (T : Theory) (xs : Sexps) where
 
 -- The number of premises ---------------------------------------------------------------------------------------------------------
 
-clash : {A : Type 0} → _≡_ {A = ℕ} 0 1 → A
-clash z = absurd (omega arith)
-
 -- one judgment for each item
 judged-count : (T : Theory) (zs : Sexps) (R U : Reading) (ts : Trees) → judgments T zs R ≡ ok ts U → countTrees ts ≡ count zs
 unfolding judgments countTrees count then
@@ -85,35 +81,35 @@ judged-count T (cons x xs) R U ts e = go (λ Y W us. judged-count T xs Y W us) (
   where
     go : ((Y W : Reading) (us : Trees) → judgments T xs Y ≡ ok us W → countTrees us ≡ count xs) → (o : Out Reading Tree) →
         then o (λ t Y. then (judgments T xs Y) (λ us W. ok (more t us) W)) ≡ ok ts U → countTrees ts ≡ suc (count xs)
-    go f (refuse n d Y) g = clash cc
+    go f (refuse n d Y) g = never cc
     go f (ok t Y) g = on (judgments T xs Y) refl g
       where
         on : (o : Out Reading Trees) → judgments T xs Y ≡ o → then o (λ us W. ok (more t us) W) ≡ ok ts U → countTrees ts ≡ suc (count xs)
-        on (refuse n d W) h k = clash cc
+        on (refuse n d W) h k = never cc
         on (ok us W) h k = let z : ts ≡ more t us = cc in ap countTrees z ∙ ap suc (f Y W us h)
 
 -- the premises of a rule that was read are the items of a list
-pub record Premised (xs : Sexps) (ps : Trees) : Type 0 where
+pub record PremiseList (xs : Sexps) (ps : Trees) : Type 0 where
   pub items : Sexps
   pub is : item xs 2 ≡ list items
   pub many : countTrees ps ≡ count items
 
-pub premised : (T : Theory) (xs : Sexps) (R U : Reading) (p : Trees × Tree) → schema T xs R ≡ ok p U → Premised xs (p .0)
+pub premise-list : (T : Theory) (xs : Sexps) (R U : Reading) (p : Trees × Tree) → schema T xs R ≡ ok p U → PremiseList xs (p .0)
 unfolding then
-premised T xs R U p e = go (item xs 2) refl
+premise-list T xs R U p e = go (item xs 2) refl
   where
-    go : (x : Sexp) → item xs 2 ≡ x → Premised xs (p .0)
-    go (atom q bs) f = clash (let z : refuse 11 0 R ≡ ok p U = sym (schema-no-premises R T xs q bs f) ∙ e in cc)
+    go : (x : Sexp) → item xs 2 ≡ x → PremiseList xs (p .0)
+    go (atom q bs) f = never (let z : refuse 11 0 R ≡ ok p U = sym (schema-no-premises R T xs q bs f) ∙ e in cc)
     go (list ys) f = read (judgments T ys R) refl
       where
-        read : (o : Out Reading Trees) → judgments T ys R ≡ o → Premised xs (p .0)
-        read (refuse n d Y) g = clash (let z : refuse n d Y ≡ ok p U = sym (schema-stopped R T xs ys f n d Y g) ∙ e in cc)
+        read : (o : Out Reading Trees) → judgments T ys R ≡ o → PremiseList xs (p .0)
+        read (refuse n d Y) g = never (let z : refuse n d Y ≡ ok p U = sym (schema-stopped R T xs ys f n d Y g) ∙ e in cc)
         read (ok ps Y) g = last (item xs 3) refl
           where
-            last : (x : Sexp) → item xs 3 ≡ x → Premised xs (p .0)
-            last (atom q bs) h = clash (let z : refuse 11 0 Y ≡ ok p U = sym (schema-no-conclusion R T xs ys f ps Y g q bs h) ∙ e in cc)
+            last : (x : Sexp) → item xs 3 ≡ x → PremiseList xs (p .0)
+            last (atom q bs) h = never (let z : refuse 11 0 Y ≡ ok p U = sym (schema-no-conclusion R T xs ys f ps Y g q bs h) ∙ e in cc)
             last (list zs) h = end (predicated T zs Y) (sym (schema-asks R T xs ys f ps Y g zs h) ∙ e)
               where
-                end : (o : Out Reading Tree) → then o (λ c W. ok (ps, c) W) ≡ ok p U → Premised xs (p .0)
-                end (refuse n d W) k = clash cc
+                end : (o : Out Reading Tree) → then o (λ c W. ok (ps, c) W) ≡ ok p U → PremiseList xs (p .0)
+                end (refuse n d W) k = never cc
                 end (ok c W) k = let z : (ps, c) ≡ p = cc in record { items = ys; is = f; many = ap (λ q. countTrees (q .0)) (sym z) ∙ judged-count T ys R Y ps g }

@@ -5,24 +5,25 @@ use mathlib.Core.List.{List, _++_}
 use native.Mathlib.Omega.{arith}
 use lib.ListN.{length, take, drop}
 use Rattle.rules.specs.Limits.{PATTERNS}
-use Rattle.rules.specs.Out.{Out, ok, refuse, then}
+use Rattle.rules.specs.Out.{Out, ok, then}
 use Rattle.rules.specs.Sexp.{Sexp, Sexps, list, item, count}
-use Rattle.rules.specs.Tree.{Tree, Trees}
+use Rattle.rules.specs.Tree.{Trees}
 use Rattle.rules.specs.Theory.{Theory}
 use Rattle.rules.specs.TheoryTables.{prefix, prefixes}
 use Rattle.rules.specs.Laws.Row.{append-assoc}
 use Rattle.rules.specs.Declare.{Reading, predicated, judgments, schema}
 use Rattle.rules.specs.Laws.PatternSteps.{schema-no-premises, schema-stopped, schema-no-conclusion, schema-asks}
 use Rattle.sexp.specs.Encode.{encodes}
-use Rattle.sexp.specs.Items.{Holds, itemOf, place}
+use Rattle.sexp.specs.Items.{itemOf, place}
 use Rattle.sexp.specs.WalkLaws.{AtomIs, ListIs, nth-list}
 use Rattle.sexp.specs.declared.items.Item.{Item}
 use Rattle.sexp.specs.declared.items.Item.the-variants.{List as Part}
 use Rattle.kernel.specs.Held.{Form}
-use Rattle.kernel.specs.Reading.{Reads, Written, Stopped, PatternRead, Patterning}
+use Rattle.kernel.specs.Reading.{Written, Stopped, PatternRead, Patterning}
 use Rattle.kernel.specs.HeldRules.{schemaCells, Beginning}
 use Rattle.kernel.specs.declared.patterns.Made.{Made}
 use Rattle.kernel.specs.declared.patterns.Made.the-variants.{Ok, No}
+use Rattle.kernel.proofs.Spellings.{never}
 use Rattle.kernel.proofs.Trees.{kept-front, longer}
 
 -- a list among the items of a form
@@ -105,7 +106,7 @@ module _ {text : List ℕ} (T : Theory) (R : Reading) (xs : Sexps) where
 -- The number of premises ---------------------------------------------------------------------------------------------------------
 
 pub no-atom : {A : Type 0} {text : List ℕ} {x : Sexp} {p : ℕ} {ys : Sexps} → AtomIs text x p → x ≡ list ys → A
-no-atom f e = absurd (let z : _≡_ {A = ℕ} 0 1 = let q = f .is in cc in omega arith)
+no-atom f e = let q = f .is in never cc
 
 pub same-items : {text words : List ℕ} {x : Sexp} {a b n : ℕ} {ys : Sexps} → ListIs text words x a b → x ≡ list ys →
     ((zs : Sexps) → take (b - a) (drop a words) ≡ encodes zs → n ≡ count zs) → n ≡ count ys

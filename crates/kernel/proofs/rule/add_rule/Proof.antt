@@ -1,5 +1,5 @@
-use mathlib.Core.Path.{_≡_, refl, _∙_}
-use Prim.Native.Nat.{_+_, _-_, _*_, _<_, _≤_}
+use mathlib.Core.Path.{refl}
+use Prim.Native.Nat.{_-_}
 use native.Mathlib.Omega.{arith}
 use Rattle.rules.specs.Declare.{schema}
 use Rattle.kernel.proofs.Spellings.{proper-here, proper-nowhere}

@@ -1,5 +1,4 @@
-use mathlib.Core.Path.{_≡_, refl, sym, ap, _∙_}
-use Prim.Native.Nat.{_+_, _-_, _*_, _<_, _≤_}
+use Prim.Native.Nat.{_-_}
 use native.Mathlib.Omega.{arith}
 use Rattle.sexp.specs.WalkLaws.{nth-atom, nth-list}
 use Rattle.kernel.proofs.Schemas.{list-at, no-atom, same-items}
