@@ -152,7 +152,7 @@ module _ {text cells symbols inputs : List ℕ} {known : ℕ} {table₀ : List �
 
     module _ (table′ M′ : List ℕ) (r : Made)
         (q : (T : Theory) (R : Reading) (zs : Sexps) → SymbolsHeld text symbols inputs known (T .symbols) → Reads text table v w R → Holds text (take (b - a) (drop a cells)) zs →
-            PatternRead prefix text table′ M M′ w (predicated T zs R) r) where
+        PatternRead prefix text table′ M M′ w (predicated T zs R) r) where
       pub running-stops : {x d : ℕ} → r ≡ No x d → (T : Theory) (R : Reading) (zs : Sexps) → SymbolsHeld text symbols inputs known (T .symbols) → Reads text table₀ count used R →
           Holds text cells zs → PatternRead prefixes text table′ P M′ used (judgments T zs R) r
       running-stops c T R zs s y k =

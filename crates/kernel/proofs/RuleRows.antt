@@ -49,8 +49,14 @@ words-counted : (rs : List Rule) → length (rows patternRow rs) ≡ ruleWords r
 unfolding rows patternRow ruleWords
 words-counted [] = refl
 words-counted (r ∷ rs) =
-    omega (arith, length-append (prefixes (r .premises) ++ prefix (r .conclusion)) (rows patternRow rs), length-append (prefixes (r .premises)) (prefix (r .conclusion)),
-    prefixes-length (r .premises), prefix-length (r .conclusion), words-counted rs)
+    omega (
+      arith,
+      length-append (prefixes (r .premises) ++ prefix (r .conclusion)) (rows patternRow rs),
+      length-append (prefixes (r .premises)) (prefix (r .conclusion)),
+      prefixes-length (r .premises),
+      prefix-length (r .conclusion),
+      words-counted rs,
+    )
 
 front-taken : (table xs : List ℕ) (n : ℕ) → take n table ≡ xs → Front table xs
 front-taken table xs n e = record { rest = drop n table; is = sym (take-append-drop n table) ∙ ap (λ l. l ++ drop n table) e }

@@ -137,16 +137,7 @@ pub fn add_rule(
         RuleAdded (now (text .entry)) (now (rules .exit)) (now (vars .exit)) (now (patterns .exit)) T (addRule xs T) count used r) ⌝ }
 {
     let mut row = [0u32; 48];
-    let r = schema(
-        text,
-        form,
-        symbols,
-        inputs,
-        known,
-        &mut row,
-        patterns,
-        used,
-    );
+    let r = schema(text, form, symbols, inputs, known, &mut row, patterns, used);
     let Made::Ok(variables, last) = r else {
         return r;
     };
