@@ -117,7 +117,7 @@ unfolding argumentsOf
 arguments-list T x k = sym (ap (argumentsOf T) (k .is))
 
 -- a row that was empty is filled with its sorts
-drop-zeros : (n k : ℕ) → drop k (replicate n 0) ≡ replicate {A = ℕ} (n - k) 0
+pub drop-zeros : (n k : ℕ) → drop k (replicate n 0) ≡ replicate {A = ℕ} (n - k) 0
 drop-zeros n zero = ap (λ m. replicate {A = ℕ} m 0) (sym (sub-zero n))
 drop-zeros zero (suc k) = ap (λ m. replicate {A = ℕ} m 0) (sym (zero-sub (suc k)))
 drop-zeros (suc n) (suc k) = drop-zeros n k ∙ ap (λ m. replicate {A = ℕ} m 0) (sym (suc-sub-suc n k))

@@ -1,8 +1,6 @@
 -- The rows of the tables of rules, as the readers read them. Assumes nothing.
 use mathlib.Core.Path.{_≡_, refl, sym, ap, _∙_, subst}
 use Prim.Native.Nat.{ℕ, zero, suc, _+_, _-_, _*_, _<_, _≤_}
-use mathlib.Core.Bool.{Bool, true, false}
-use mathlib.Core.Option.{Option, some}
 use mathlib.Core.List.{List, [], _∷_, _++_}
 use native.Mathlib.Omega.{arith}
 use lib.ListN.{length, getD, take, drop, replicate, length-append}
@@ -13,7 +11,7 @@ use Rattle.rules.specs.Find.{first}
 use Rattle.rules.specs.Laws.Find.{getD-front}
 use Rattle.rules.specs.Sexp.{Name}
 use Rattle.rules.specs.Tree.{countTrees}
-use Rattle.rules.specs.Theory.{Theory, Rule, RuleVar, noName, noRule, rule, ruleNamed}
+use Rattle.rules.specs.Theory.{Theory, Rule, noRule, rule, ruleNamed}
 use Rattle.rules.specs.Declare.{noRuleVar}
 use Rattle.rules.specs.Laws.Theory.{all-at}
 use Rattle.rules.specs.TheoryTables.{nameCells, rows, varRow, varCells, ruleVarRow, ruleRow, ruleCells, patternRow, patternCells}
@@ -21,15 +19,16 @@ use Rattle.rules.specs.Laws.Row.{append-assoc, length-rows, row-cell, length-fi
 use Rattle.sexp.specs.NameRows.{NameAt, NameRows, SomeNames, foundOf}
 use Rattle.kernel.specs.HeldRules.{RulesHeld}
 use Rattle.kernel.specs.Readers.{KnownRule, KnownVar, NamedRules, wordsBefore, WordsAt}
+use Rattle.kernel.proofs.Vars.{namesOf, length-names, name-of, first-name, var-row-three}
 use Rattle.sexp.specs.declared.names.Found.{Found}
 
 -- The table of rules -------------------------------------------------------------------------------------------------------------
 
-rule-row-six : (r : Rule) (at : ℕ) → length (ruleRow r at) ≡ 6
+pub rule-row-six : (r : Rule) (at : ℕ) → length (ruleRow r at) ≡ 6
 unfolding ruleRow nameCells
 rule-row-six r at = refl
 
-length-rule-cells : (rs : List Rule) (at : ℕ) → length (ruleCells rs at) ≡ 6 * length rs
+pub length-rule-cells : (rs : List Rule) (at : ℕ) → length (ruleCells rs at) ≡ 6 * length rs
 unfolding ruleCells
 length-rule-cells [] at = omega arith
 length-rule-cells (r ∷ rs) at =
@@ -66,45 +65,17 @@ rows-split f (x ∷ xs) zero d l = refl
 rows-split f (x ∷ xs) (suc k) d l =
     ap (λ z. f x ++ z) (rows-split f xs k d (omega arith)) ∙ sym (append-assoc (f x) (rows f (take k xs)) (f (getD xs k d) ++ rows f (drop (suc k) xs)))
 
--- The names of rules -------------------------------------------------------------------------------------------------------------
-
-unfoldable pub ruleNames : List Rule → List Name
-ruleNames [] = []
-ruleNames (r ∷ rs) = r .name ∷ ruleNames rs
-
-length-rule-names : (rs : List Rule) → length (ruleNames rs) ≡ length rs
-unfolding ruleNames
-length-rule-names [] = refl
-length-rule-names (r ∷ rs) = ap suc (length-rule-names rs)
-
-rule-name-at : (rs : List Rule) (k : ℕ) → getD (ruleNames rs) k noName ≡ getD rs k noRule .name
-unfolding ruleNames
-rule-name-at [] k = refl
-rule-name-at (r ∷ rs) zero = refl
-rule-name-at (r ∷ rs) (suc k) = rule-name-at rs k
-
-first-rule-name : (rs : List Rule) (n : List ℕ) (k : ℕ) → first (λ r. same (r .name .bytes) n) rs k ≡ first (λ m. same (m .bytes) n) (ruleNames rs) k
-unfolding ruleNames first
-first-rule-name [] n k = refl
-first-rule-name (r ∷ rs) n k = go (same (r .name .bytes) n) (first-rule-name rs n (suc k))
-  where
-    go : (b : Bool) → first (λ r. same (r .name .bytes) n) rs (suc k) ≡ first (λ m. same (m .bytes) n) (ruleNames rs) (suc k) →
-        _≡_ {A = Option ℕ} (elim b [ true ↦ some k | false ↦ first (λ r. same (r .name .bytes) n) rs (suc k) ]) (elim b [ true ↦ some k | false ↦ first (λ m. same (m .bytes) n) (ruleNames rs) (suc k) ])
-    go true e = refl
-    go false e = e
-
 -- The rows of rules that are held ------------------------------------------------------------------------------------------------
 
-var-row-three : (v : RuleVar) → length (varRow v) ≡ 3
-unfolding varRow nameCells
-var-row-three v = refl
+abbrev pub ruleName : Rule → Name
+ruleName r = r .name
 
-rule-var-row-long : (r : Rule) → length (ruleVarRow r) ≡ 3 * RULEVARS
+pub rule-var-row-long : (r : Rule) → length (ruleVarRow r) ≡ 3 * RULEVARS
 unfolding ruleVarRow
 rule-var-row-long r = length-filled (3 * RULEVARS) (varCells (r .vars))
 
 module _ {text rules vars patterns : List ℕ} {count words : ℕ} {rs : List Rule} (h : RulesHeld text rules vars patterns count words rs) where
-  rules-room : 6 * count ≤ length rules
+  pub rules-room : 6 * count ≤ length rules
   rules-room =
       omega (arith, length-rule-cells rs 0, h .many, ap length (h .front .is), length-append (ruleCells rs 0) (h .front .rest))
 
@@ -117,14 +88,14 @@ module _ {text rules vars patterns : List ℕ} {count words : ℕ} {rs : List Ru
       ap (λ (t : List ℕ). getD t i 0) (h .front .is) ∙ rule-cell rs 0 (h .front .rest) k j i l m e
       ∙ ap (λ (n : ℕ). getD (ruleRow (getD rs k noRule) n) j 0) z
 
-  pub rules-rows : NameRows text rules 6 0 count (ruleNames rs)
+  pub rules-rows : NameRows text rules 6 0 count (namesOf ruleName rs)
   unfolding ruleRow nameCells
   rules-rows =
       record {
-        many = length-rule-names rs ∙ h .many;
+        many = length-names ruleName rs ∙ h .many;
         row = λ k l.
-            let m : k < length rs = omega (arith, l, length-rule-names rs) in
-            subst (λ n. NameAt text rules (6 * k + 0) n) (sym (rule-name-at rs k))
+            let m : k < length rs = omega (arith, l, length-names ruleName rs) in
+            subst (λ n. NameAt text rules (6 * k + 0) n) (sym (name-of ruleName rs k noRule refl))
             (record {
               inside = omega (arith, rules-room, m, h .many);
               start = rule-cell-at k 0 (6 * k + 0) m (omega arith) refl;
@@ -142,7 +113,7 @@ module _ {text rules vars patterns : List ℕ} {count words : ℕ} {rs : List Ru
       ∙ ap (λ t. patternCells (take k rs) ++ t) (append-assoc (patternRow (getD rs k noRule)) (patternCells (drop (suc k) rs)) (h .written .rest))
 
 pub some-rule-names : {text rules : List ℕ} {count : ℕ} → NamedRules text rules count → SomeNames text rules 6 0 count
-some-rule-names s = (ruleNames (s .3 .0), rules-rows (s .3 .1))
+some-rule-names s = (namesOf ruleName (s .3 .0), rules-rows (s .3 .1))
 
 pub rule-place : {rules : List ℕ} {r : ℕ} → KnownRule rules r → 6 * r + 5 < length rules
 rule-place k = omega (arith, k .known, rules-few (k .held .1), k .held .1 .long)
@@ -164,7 +135,7 @@ module _ (T : Theory) {text rules vars patterns : List ℕ} {count words : ℕ} 
   pub rule-is : (name : List ℕ) (a : Found) → ((ns : List Name) → NameRows text rules 6 0 count ns → a ≡ foundOf (first (λ n. same (n .bytes) name) ns 0)) →
       a ≡ foundOf (ruleNamed T name)
   unfolding ruleNamed
-  rule-is name a e = e (ruleNames (T .rules)) (rules-rows h) ∙ ap foundOf (sym (first-rule-name (T .rules) name 0))
+  rule-is name a e = e (namesOf ruleName (T .rules)) (rules-rows h) ∙ ap foundOf (sym (first-name ruleName (T .rules) name 0))
 
   module _ (r : ℕ) (l : r < count) where
     there : r < length (T .rules)

@@ -41,7 +41,7 @@ no-mark b k e n = go (eqb b 63) refl
     go false f = refl
     go true f = absurd (n (sym (ap kind (eqb-true b 63 f) ∙ mark-is-letter) ∙ e))
 
-never : {A : Type 0} → _≡_ {A = ℕ} 0 1 → A
+pub never : {A : Type 0} → _≡_ {A = ℕ} 0 1 → A
 never z = absurd (omega arith)
 
 marked-front : (b : ℕ) (t : List ℕ) → eqb b 63 ≡ marked (letters (b ∷ t))

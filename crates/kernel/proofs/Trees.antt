@@ -33,14 +33,14 @@ abbrev pub symbolic : List Symbol → Theory
 symbolic ss = record { sorts = []; symbols = ss; rules = [] }
 
 -- words that were there stay there, where more were written behind them
-kept-front : (P M Q w : List ℕ) (used next : ℕ) → used ≤ length P → take next M ≡ take used P ++ w → take next Q ≡ take next M → used ≤ next → take used Q ≡ take used P
+pub kept-front : (P M Q w : List ℕ) (used next : ℕ) → used ≤ length P → take next M ≡ take used P ++ w → take next Q ≡ take next M → used ≤ next → take used Q ≡ take used P
 kept-front P M Q w used next l e f m =
     let n : length (take used P) ≡ used = length-take-le used P l in
     sym (take-take used next Q m) ∙ ap (take used) (f ∙ e) ∙ take-append-le used (take used P) w (omega (arith, n))
     ∙ take-all used (take used P) (omega (arith, n))
 
 -- how long the words are
-longer : (P Q w : List ℕ) (used next : ℕ) → used ≤ length P → next ≤ length Q → take next Q ≡ take used P ++ w → used ≤ next
+pub longer : (P Q w : List ℕ) (used next : ℕ) → used ≤ length P → next ≤ length Q → take next Q ≡ take used P ++ w → used ≤ next
 longer P Q w used next l m e =
     omega (arith, ap length e, length-append (take used P) w, length-take-le used P l, length-take-le next Q m)
 

@@ -7,8 +7,8 @@ use mathlib.Core.List.{List, [], _∷_, _++_}
 use native.Mathlib.Omega.{arith}
 use native.Mathlib.Numerals.{add-one}
 use lib.Dec.{eqb}
-use lib.ListN.{length, getD, take, drop, set, length-append, length-set}
-use lib.Seq.{sets, length-sets}
+use lib.ListN.{length, getD, take, drop, set, replicate, length-append, length-set}
+use lib.Seq.{sets, length-sets, drop-drop, drop-set-lt, drop-at}
 use borrow.Author.Tests.{eqb-true, eqb-false}
 use Rattle.rules.specs.Limits.{LENGTH, SORTS, RULEVARS}
 use Rattle.rules.specs.Text.{same}
@@ -17,8 +17,8 @@ use Rattle.rules.specs.Out.{Out, ok, refuse}
 use Rattle.rules.specs.Sexp.{Name}
 use Rattle.rules.specs.Theory.{RuleVar, noName}
 use Rattle.rules.specs.Laws.Theory.{All, empty, both, all-at, all-snoc}
-use Rattle.rules.specs.TheoryTables.{nameCells, rows, varRow}
-use Rattle.rules.specs.Laws.Row.{rows-snoc, length-rows, row-cell}
+use Rattle.rules.specs.TheoryTables.{nameCells, rows, varRow, filled}
+use Rattle.rules.specs.Laws.Row.{length-rows, row-cell, filled-fits}
 use Rattle.rules.specs.Declare.{Reading, noRuleVar, metOrNew}
 use Rattle.rules.specs.Laws.PatternSteps.{varNamed, withVar, met-other, met-same, new-full, new-more}
 use Rattle.sexp.specs.NameRows.{NameIn, NameAt, NameRows, foundOf}
@@ -30,37 +30,42 @@ use Rattle.kernel.specs.declared.patterns.Made.{Made}
 use Rattle.kernel.specs.declared.patterns.Made.the-variants.{Ok, No}
 use Rattle.kernel.proofs.Spellings.{found-at, found-missing, found-inside}
 use Rattle.kernel.proofs.Holding.{front-row}
+use Rattle.kernel.proofs.Arguments.{drop-zeros}
 
--- The names of variables ---------------------------------------------------------------------------------------------------------
+-- The names of things in a list -----------------------------------------------------------------------------------------------------
 
-unfoldable pub namesOf : List RuleVar → List Name
-namesOf [] = []
-namesOf (v ∷ vs) = v .name ∷ namesOf vs
+unfoldable pub namesOf : {A : Type 0} → (A → Name) → List A → List Name
+namesOf f [] = []
+namesOf f (x ∷ xs) = f x ∷ namesOf f xs
 
-length-names : (vs : List RuleVar) → length (namesOf vs) ≡ length vs
-unfolding namesOf
-length-names [] = refl
-length-names (v ∷ vs) = ap suc (length-names vs)
+module _ {A : Type 0} (f : A → Name) where
+  pub length-names : (xs : List A) → length (namesOf f xs) ≡ length xs
+  unfolding namesOf
+  length-names [] = refl
+  length-names (x ∷ xs) = ap suc (length-names xs)
 
-name-of : (vs : List RuleVar) (k : ℕ) → getD (namesOf vs) k noName ≡ getD vs k noRuleVar .name
-unfolding namesOf
-name-of [] k = refl
-name-of (v ∷ vs) zero = refl
-name-of (v ∷ vs) (suc k) = name-of vs k
+  pub name-of : (xs : List A) (k : ℕ) (d : A) → f d ≡ noName → getD (namesOf f xs) k noName ≡ f (getD xs k d)
+  unfolding namesOf
+  name-of [] k d e = sym e
+  name-of (x ∷ xs) zero d e = refl
+  name-of (x ∷ xs) (suc k) d e = name-of xs k d e
 
-first-name : (vs : List RuleVar) (n : List ℕ) (k : ℕ) → first (λ v. same (v .name .bytes) n) vs k ≡ first (λ m. same (m .bytes) n) (namesOf vs) k
-unfolding namesOf first
-first-name [] n k = refl
-first-name (v ∷ vs) n k = go (same (v .name .bytes) n) (first-name vs n (suc k))
-  where
-    go : (b : Bool) → first (λ w. same (w .name .bytes) n) vs (suc k) ≡ first (λ m. same (m .bytes) n) (namesOf vs) (suc k) →
-        _≡_ {A = Option ℕ} (elim b [ true ↦ some k | false ↦ first (λ w. same (w .name .bytes) n) vs (suc k) ]) (elim b [ true ↦ some k | false ↦ first (λ m. same (m .bytes) n) (namesOf vs) (suc k) ])
-    go true e = refl
-    go false e = e
+  pub first-name : (xs : List A) (n : List ℕ) (k : ℕ) → first (λ x. same (f x .bytes) n) xs k ≡ first (λ m. same (m .bytes) n) (namesOf f xs) k
+  unfolding namesOf first
+  first-name [] n k = refl
+  first-name (x ∷ xs) n k = go (same (f x .bytes) n) (first-name xs n (suc k))
+    where
+      go : (b : Bool) → first (λ y. same (f y .bytes) n) xs (suc k) ≡ first (λ m. same (m .bytes) n) (namesOf f xs) (suc k) →
+          _≡_ {A = Option ℕ} (elim b [ true ↦ some k | false ↦ first (λ y. same (f y .bytes) n) xs (suc k) ]) (elim b [ true ↦ some k | false ↦ first (λ m. same (m .bytes) n) (namesOf f xs) (suc k) ])
+      go true e = refl
+      go false e = e
 
 -- The row ------------------------------------------------------------------------------------------------------------------------
 
-var-row-three : (v : RuleVar) → length (varRow v) ≡ 3
+abbrev pub varName : RuleVar → Name
+varName v = v .name
+
+pub var-row-three : (v : RuleVar) → length (varRow v) ≡ 3
 unfolding varRow nameCells
 var-row-three v = refl
 
@@ -77,14 +82,14 @@ module _ {text table : List ℕ} {count : ℕ} {vs : List RuleVar} (h : VarsHeld
   var-cell : (k j i : ℕ) → k < length vs → j < 3 → i ≡ 3 * k + j → getD table i 0 ≡ getD (varRow (getD vs k noRuleVar)) j 0
   var-cell k j i l m e = ap (λ t. getD t i 0) (h .front .is) ∙ row-cell varRow 3 var-row-three vs (h .front .rest) k j i noRuleVar l m e
 
-  pub vars-rows : NameRows text table 3 1 count (namesOf vs)
+  pub vars-rows : NameRows text table 3 1 count (namesOf varName vs)
   unfolding varRow nameCells
   vars-rows =
       record {
-        many = length-names vs ∙ h .many;
+        many = length-names varName vs ∙ h .many;
         row = λ k l.
-            let m : k < length vs = omega (arith, l, length-names vs) in
-            subst (λ n. NameAt text table (3 * k + 1) n) (sym (name-of vs k))
+            let m : k < length vs = omega (arith, l, length-names varName vs) in
+            subst (λ n. NameAt text table (3 * k + 1) n) (sym (name-of varName vs k noRuleVar refl))
             (record {
               inside = omega (arith, vars-room, m, h .many);
               start = var-cell k 1 (3 * k + 1) m (omega arith) refl;
@@ -99,10 +104,21 @@ module _ {text table : List ℕ} {count : ℕ} {vs : List RuleVar} (h : VarsHeld
 
   -- the row of what is found is inside
   pub var-inside : (name : List ℕ) (r : Found) (i : ℕ) → ((ns : List Name) → NameRows text table 3 1 count ns → r ≡ foundOf (first (λ n. same (n .bytes) name) ns 0)) → r ≡ At i → i < count
-  var-inside name r i a b = omega (arith, found-inside name (namesOf vs) r i (a (namesOf vs) vars-rows) b, length-names vs, h .many)
+  var-inside name r i a b = omega (arith, found-inside name (namesOf varName vs) r i (a (namesOf varName vs) vars-rows) b, length-names varName vs, h .many)
 
   pub var-place : (i : ℕ) → i < count → 3 * i < length table
   var-place i l = omega (arith, l, vars-room)
+
+  -- three cells more leave zero behind them
+  blank-more : (s start end : ℕ) → drop (3 * (count + 1)) (sets (set table (3 * count) s) (3 * count + 1) (start ∷ end ∷ [])) ≡ replicate (3 * RULEVARS - 3 * (count + 1)) 0
+  blank-more s start end =
+      let n : 3 * (count + 1) ≡ 3 * count + 3 = omega arith in
+      let m : 3 * RULEVARS - 3 * count - 3 ≡ 3 * RULEVARS - 3 * (count + 1) = omega arith in
+      drop-set-lt (3 * (count + 1)) (set (set table (3 * count) s) (3 * count + 1) start) (suc (3 * count + 1)) end (omega arith)
+      ∙ drop-set-lt (3 * (count + 1)) (set table (3 * count) s) (3 * count + 1) start (omega arith)
+      ∙ drop-set-lt (3 * (count + 1)) table (3 * count) s (omega arith)
+      ∙ ap (λ (k : ℕ). drop k table) n ∙ sym (drop-drop 3 (3 * count) table) ∙ ap (drop 3) (h .blank) ∙ drop-zeros (3 * RULEVARS - 3 * count) 3
+      ∙ ap (λ (k : ℕ). replicate k 0) m
 
   pub vars-more : (n : Name) (s start end : ℕ) → Spans text n start end → count < RULEVARS →
       VarsHeld text (sets (set table (3 * count) s) (3 * count + 1) (start ∷ end ∷ [])) (count + 1) (vs ++ (record { name = n; sort = s } ∷ []))
@@ -117,8 +133,18 @@ module _ {text table : List ℕ} {count : ℕ} {vs : List RuleVar} (h : VarsHeld
         long = ap length (sym e) ∙ length-sets table (3 * count) (s ∷ start ∷ end ∷ []) ∙ h .long;
         front = subst (λ t. Front t (rows varRow (vs ++ (v ∷ [])))) e
             (front-row varRow table vs v (s ∷ start ∷ end ∷ []) (3 * count) (h .front) q vars-cells (omega (arith, h .long, l)));
+        blank = blank-more s start end;
         names = all-snoc (h .names) (k .named);
       }
+
+  -- the whole row
+  pub vars-filled : filled (3 * RULEVARS) (rows varRow vs) ≡ table
+  vars-filled =
+      let n : 3 * RULEVARS - length (rows varRow vs) ≡ 3 * RULEVARS - 3 * count = omega (arith, vars-cells) in
+      filled-fits (3 * RULEVARS) (rows varRow vs) (omega (arith, vars-cells, vars-few))
+      ∙ ap (λ (k : ℕ). rows varRow vs ++ replicate k 0) n
+      ∙ ap (λ l. rows varRow vs ++ l) (sym (h .blank) ∙ ap (drop (3 * count)) (h .front .is) ∙ drop-at (rows varRow vs) (h .front .rest) (3 * count) vars-cells)
+      ∙ sym (h .front .is)
 
 -- a new name fits
 pub var-fits : {text table : List ℕ} {start end sort count : ℕ} (m : Meeting text start end sort table count) → count < RULEVARS →
@@ -139,13 +165,13 @@ spans-part {text} {n} {start} {end} k =
 
 module _ (sort : ℕ) {text table : List ℕ} {count start end : ℕ} (R : Reading) (n : Name) (h : VarsHeld text table count (R .vars)) (k : Spans text n start end) (r : Found)
     (a : (ns : List Name) → NameRows text table 3 1 count ns → r ≡ foundOf (first (λ m. same (m .bytes) (take (end - start) (drop start text))) ns 0)) where
-  found-so : varNamed (R .vars) (n .bytes) ≡ first (λ m. same (m .bytes) (take (end - start) (drop start text))) (namesOf (R .vars)) 0
+  found-so : varNamed (R .vars) (n .bytes) ≡ first (λ m. same (m .bytes) (take (end - start) (drop start text))) (namesOf varName (R .vars)) 0
   found-so =
-      ap (λ l. first (λ (v : RuleVar). same (v .name .bytes) l) (R .vars) 0) (sym (spans-part k)) ∙ first-name (R .vars) (take (end - start) (drop start text)) 0
+      ap (λ l. first (λ (v : RuleVar). same (v .name .bytes) l) (R .vars) 0) (sym (spans-part k)) ∙ first-name varName (R .vars) (take (end - start) (drop start text)) 0
 
   module _ (i : ℕ) (b : r ≡ At i) where
     so : metOrNew n sort (varNamed (R .vars) (n .bytes)) R ≡ metOrNew n sort (some i) R
-    so = ap (λ o. metOrNew n sort o R) (found-so ∙ found-at (first (λ (m : Name). same (m .bytes) (take (end - start) (drop start text))) (namesOf (R .vars)) 0) r i (a (namesOf (R .vars)) (vars-rows h)) b)
+    so = ap (λ o. metOrNew n sort o R) (found-so ∙ found-at (first (λ (m : Name). same (m .bytes) (take (end - start) (drop start text))) (namesOf varName (R .vars)) 0) r i (a (namesOf varName (R .vars)) (vars-rows h)) b)
 
     inside : i < count
     inside = var-inside h (take (end - start) (drop start text)) r i a b
@@ -165,7 +191,7 @@ module _ (sort : ℕ) {text table : List ℕ} {count start end : ℕ} (R : Readi
 
   module _ (b : r ≡ Missing) where
     none-so : metOrNew n sort (varNamed (R .vars) (n .bytes)) R ≡ metOrNew n sort nothing R
-    none-so = ap (λ o. metOrNew n sort o R) (found-so ∙ found-missing (first (λ (m : Name). same (m .bytes) (take (end - start) (drop start text))) (namesOf (R .vars)) 0) r (a (namesOf (R .vars)) (vars-rows h)) b)
+    none-so = ap (λ o. metOrNew n sort o R) (found-so ∙ found-missing (first (λ (m : Name). same (m .bytes) (take (end - start) (drop start text))) (namesOf varName (R .vars)) 0) r (a (namesOf varName (R .vars)) (vars-rows h)) b)
 
     pub met-full : RULEVARS ≤ count → metOrNew n sort (varNamed (R .vars) (n .bytes)) R ≡ refuse 60 5 R
     met-full l = none-so ∙ new-full R n sort (omega (arith, l, h .many))

@@ -1,17 +1,40 @@
 -- Tables that hold the rules of a theory in their first cells, and what the writer of a rule cites. Assumes nothing.
 use mathlib.Core.Path.{_≡_}
-use Prim.Native.Nat.{ℕ, _*_, _≤_}
+use Prim.Native.Nat.{ℕ, _+_, _*_, _^_, _<_, _≤_}
 use mathlib.Core.List.{List, [], _∷_, _++_}
-use lib.ListN.{length}
+use lib.ListN.{length, take}
 use Rattle.rules.specs.Limits.{RULES, RULEVARS, PATTERNS}
 use Rattle.rules.specs.Out.{Out, ok, refuse}
+use Rattle.rules.specs.Tree.{Tree, Trees, countTrees}
 use Rattle.rules.specs.Theory.{Theory, Rule, ruleWords}
 use Rattle.rules.specs.Laws.Theory.{All}
-use Rattle.rules.specs.TheoryTables.{ruleCells, ruleVarCells, patternCells}
+use Rattle.rules.specs.TheoryTables.{prefix, prefixes, patternRow, ruleVarRow, ruleCells, ruleVarCells, patternCells}
+use Rattle.rules.specs.Declare.{Reading}
 use Rattle.sexp.specs.NameRows.{NameIn}
-use Rattle.kernel.specs.Held.{Front}
+use Rattle.kernel.specs.Held.{Front, Form, SomeSymbolsHeld}
+use Rattle.kernel.specs.Reading.{Reads}
 use Rattle.kernel.specs.declared.patterns.Made.{Made}
 use Rattle.kernel.specs.declared.patterns.Made.the-variants.{Ok, No}
+
+-- Reading ------------------------------------------------------------------------------------------------------------------------
+
+-- the words of premises and a conclusion
+abbrev pub schemaCells : Trees × Tree → List ℕ
+schemaCells p = prefixes (p .0) ++ prefix (p .1)
+
+-- what `schema` is given: a rule's form, and an empty row for its variables
+pub record Beginning (text items symbols inputs : List ℕ) (known : ℕ) (row : List ℕ) (room used : ℕ) : Type 0 where
+  pub form : Form text items 4
+  pub held : SomeSymbolsHeld text symbols inputs known
+  pub so-far : Reading
+  pub reads : Reads text row 0 used so-far
+  pub long : room ≡ PATTERNS
+
+-- a rule's form, of whatever text
+abbrev pub SomeForm : List ℕ → Type 0
+SomeForm items = (text : List ℕ) × Form text items 4
+
+-- The tables ---------------------------------------------------------------------------------------------------------------------
 
 -- so many rules, whose patterns have so many words
 pub record RulesHeld (text rules vars patterns : List ℕ) (count words : ℕ) (rs : List Rule) : Type 0 where
@@ -29,6 +52,35 @@ pub record RulesHeld (text rules vars patterns : List ℕ) (count words : ℕ) (
 
 abbrev pub SomeRules : List ℕ → List ℕ → List ℕ → List ℕ → ℕ → ℕ → Type 0
 SomeRules text rules vars patterns count words = (rs : List Rule) × RulesHeld text rules vars patterns count words rs
+
+-- numbers that fit into the cells of a rule
+pub record RuleFits (room rooms start end variables premises first last row : ℕ) : Type 0 where
+  pub long : room ≡ 6 * RULES
+  pub longs : rooms ≡ 3 * RULEVARS * RULES
+  pub starts : start < 2 ^ 32
+  pub ends : end < 2 ^ 32
+  pub many : variables < 2 ^ 32
+  pub judgments : premises < 2 ^ 32
+  pub low : first < 2 ^ 32
+  pub high : last < 2 ^ 32
+  pub rows : row ≡ 3 * RULEVARS
+
+-- these are the cells of a rule, and its words are the last
+pub record RuleIs (text patterns : List ℕ) (r : Rule) (start end variables premises first last : ℕ) (row : List ℕ) : Type 0 where
+  pub named : NameIn text (r .name)
+  pub starts : r .name .start ≡ start
+  pub ends : start + length (r .name .bytes) ≡ end
+  pub many : length (r .vars) ≡ variables
+  pub few : variables ≤ RULEVARS
+  pub judgments : countTrees (r .premises) ≡ premises
+  pub cells : ruleVarRow r ≡ row
+  pub words : take last patterns ≡ take first patterns ++ patternRow r
+  pub room : last ≤ PATTERNS
+
+-- what is stored, and what the lack of room leaves
+abbrev pub RulePut : List ℕ → List ℕ → List ℕ → List ℕ → List ℕ → List ℕ → ℕ → List Rule → Rule → Made → Type 0
+RulePut text rules vars rules′ vars′ patterns count rs u (Ok n w) = (count < RULES) × RulesHeld text rules′ vars′ patterns n w (rs ++ (u ∷ []))
+RulePut text rules vars rules′ vars′ patterns count rs u (No a d) = (RULES ≤ count) × (a ≡ 60) × (d ≡ 4) × (rules′ ≡ rules) × (vars′ ≡ vars)
 
 abbrev pub withRule : Theory → Rule → Theory
 withRule T r = record { sorts = T .sorts; symbols = T .symbols; rules = T .rules ++ (r ∷ []) }

@@ -4,7 +4,7 @@ use mathlib.Core.Path.{_≡_}
 use Prim.Native.Nat.{ℕ, _+_, _-_, _*_, _^_, _<_, _≤_}
 use mathlib.Core.Bool.{Bool, true, false}
 use mathlib.Core.List.{List, [], _∷_, _++_}
-use lib.ListN.{length, getD, take, drop, set}
+use lib.ListN.{length, getD, take, drop, set, replicate}
 use Rattle.rules.specs.Limits.{LENGTH, RULEVARS, PATTERNS}
 use Rattle.rules.specs.Out.{Out, ok, refuse, then}
 use Rattle.rules.specs.Sexp.{Sexp, Sexps, cons, count, Name}
@@ -38,10 +38,12 @@ pub record Spans (text : List ℕ) (n : Name) (start end : ℕ) : Type 0 where
   pub starts : n .start ≡ start
   pub ends : start + length (n .bytes) ≡ end
 
+-- so many variables in a row, and zero behind them
 pub record VarsHeld (text table : List ℕ) (count : ℕ) (vs : List RuleVar) : Type 0 where
   pub many : length vs ≡ count
   pub long : length table ≡ 3 * RULEVARS
   pub front : Front table (varCells vs)
+  pub blank : drop (3 * count) table ≡ replicate (3 * RULEVARS - 3 * count) 0
   pub names : All (λ v. NameIn text (v .name)) vs
 
 -- what `met_or_new` is given

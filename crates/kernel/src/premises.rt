@@ -14,7 +14,6 @@ use crate::terms::judgment;
 use sexp::items;
 use sexp::items::Item;
 
-// No more than row 6 allows are read, so the calls are no more than that deep.
 pub fn premises(
     text: &[u8],
     cells: &[u32],
@@ -31,35 +30,30 @@ pub fn premises(
         Reads (now (text .entry)) (now (vars .entry)) count used R → Holds (now (text .entry)) (now (cells .entry)) zs →
         PatternRead prefixes (now (text .entry)) (now (vars .exit)) (now (patterns .entry)) (now (patterns .exit)) used (judgments T zs R) r) ⌝ }
 {
-    if cells.len() == 0 {
-        return Made::Ok(count, used);
+    let mut at = 0;
+    let mut v = count;
+    let mut w = used;
+    while at < cells.len() {
+        let Item::List(a, b) = items::item_at(cells, at) else {
+            return Made::No(11, 0);
+        };
+        let r = judgment(
+            text,
+            &cells[a..b],
+            symbols,
+            inputs,
+            known,
+            vars,
+            v,
+            patterns,
+            w,
+        );
+        let Made::Ok(n, m) = r else {
+            return r;
+        };
+        v = n;
+        w = m;
+        at = b;
     }
-    let Item::List(a, b) = items::item_at(cells, 0) else {
-        return Made::No(11, 0);
-    };
-    let r = judgment(
-        text,
-        &cells[a..b],
-        symbols,
-        inputs,
-        known,
-        vars,
-        count,
-        patterns,
-        used,
-    );
-    let Made::Ok(v, w) = r else {
-        return r;
-    };
-    premises(
-        text,
-        &cells[b..],
-        symbols,
-        inputs,
-        known,
-        vars,
-        v,
-        patterns,
-        w,
-    )
+    Made::Ok(v, w)
 }

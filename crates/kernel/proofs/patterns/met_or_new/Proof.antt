@@ -2,7 +2,7 @@ use mathlib.Core.Path.{_≡_, refl, sym, ap, _∙_}
 use Prim.Native.Nat.{ℕ, _+_, _-_, _*_}
 use native.Mathlib.Omega.{arith}
 use lib.ListN.{length, set, length-set, take, drop}
-use Rattle.kernel.proofs.Vars.{namesOf, vars-rows, var-inside, var-place, var-fits, met-again, met-wrongly, met-full, met-new}
+use Rattle.kernel.proofs.Vars.{namesOf, varName, vars-rows, var-inside, var-place, var-fits, met-again, met-wrongly, met-full, met-new}
 use borrow.Author.Needs.{needs}
 use Rattle.kernel.proofs.patterns.met_or_new.Statement.{statement}
 use Rattle.kernel.proofs.patterns.met_or_new.Tie as tie
@@ -26,7 +26,7 @@ part-named-end c = search needs
 
 -- src/patterns.rt:50:11
 named-requires : tie.Need-named-requires
-named-requires c κs = (namesOf ((c .before .before .before .before .pre) .vs), vars-rows ((c .before .before .before .before .pre) .held))
+named-requires c κs = (namesOf varName ((c .before .before .before .before .pre) .vs), vars-rows ((c .before .before .before .before .pre) .held))
 
 -- src/patterns.rt:51:19
 enum-known-i : tie.Need-enum-known-i
