@@ -1,0 +1,119 @@
+-- The tables of a theory when the cells behind what is used are zero. Assumes nothing.
+use mathlib.Core.Path.{_≡_, refl, sym, ap, _∙_}
+use Prim.Native.Nat.{ℕ, _+_, _-_, _*_, _≤_}
+use mathlib.Core.List.{List, [], _∷_, _++_}
+use native.Mathlib.Omega.{arith}
+use native.Mathlib.Nat.{mul-suc}
+use lib.ListN.{length, take, drop, replicate, length-append}
+use lib.Seq.{take-at}
+use Rattle.rules.specs.Limits.{SORTS, SYMBOLS, ARGUMENTS, RULES, RULEVARS, PATTERNS}
+use Rattle.rules.specs.Sexp.{Name}
+use Rattle.rules.specs.Tree.{Tree, Trees, var, app, none, more, size, sizes}
+use Rattle.rules.specs.Theory.{Theory, Symbol, Rule, ruleWords}
+use Rattle.rules.specs.TheoryTables.{filled, rows, nameCells, symbolRow, inputRow, prefix, prefixes, patternRow, varCells, ruleVarRow, ruleRow, ruleCells, sortTable, symbolTable, inputTable, ruleTable, ruleVarTable, patternTable}
+use Rattle.rules.specs.Laws.Row.{length-rows, length-filled, filled-fits}
+use Rattle.kernel.specs.Held.{Front}
+use Rattle.kernel.specs.Parsed.{Tables, tables, TheoryHeld, Exact, Within, front, wiped, countsOf, laidExactly, laid}
+use Rattle.kernel.specs.declared.parse.Counts.{Counts}
+
+-- one table: the cells that are used, and how many
+module _ {table xs : List ℕ} (f : Front table xs) {k : ℕ} (e : length xs ≡ k) where
+  pub front-inside : k ≤ length table
+  front-inside = omega (arith, e, ap length (f .is), length-append xs (f .rest))
+
+  pub front-filled : (n : ℕ) → length table ≡ n → front k table ≡ filled n xs
+  front-filled n l =
+      let t : take k table ≡ xs = ap (take k) (f .is) ∙ take-at xs (f .rest) k e in
+      let m : length table - k ≡ n - length xs = omega (arith, e, l) in
+      ap (λ (y : List ℕ). y ++ replicate (length table - k) 0) t ∙ ap (λ (j : ℕ). xs ++ replicate j 0) m
+      ∙ sym (filled-fits n xs (omega (arith, e, l, front-inside)))
+
+-- How many cells are used ----------------------------------------------------------------------------------------------------------
+
+sort-cells : (ns : List Name) → length (rows nameCells ns) ≡ 2 * length ns
+unfolding nameCells
+sort-cells ns = length-rows nameCells 2 (λ n. refl) ns
+
+symbol-cells : (ss : List Symbol) → length (rows symbolRow ss) ≡ 4 * length ss
+unfolding symbolRow nameCells
+symbol-cells ss = length-rows symbolRow 4 (λ s. refl) ss
+
+input-cells : (ss : List Symbol) → length (rows inputRow ss) ≡ ARGUMENTS * length ss
+unfolding inputRow
+input-cells ss = length-rows inputRow ARGUMENTS (λ s. length-filled ARGUMENTS (s .inputs)) ss
+
+var-cells : (rs : List Rule) → length (rows ruleVarRow rs) ≡ 3 * RULEVARS * length rs
+unfolding ruleVarRow
+var-cells rs = length-rows ruleVarRow (3 * RULEVARS) (λ r. length-filled (3 * RULEVARS) (varCells (r .vars))) rs
+
+rule-row-six : (r : Rule) (at : ℕ) → length (ruleRow r at) ≡ 6
+unfolding ruleRow nameCells
+rule-row-six r at = refl
+
+rule-cells : (rs : List Rule) (at : ℕ) → length (ruleCells rs at) ≡ 6 * length rs
+unfolding ruleCells
+rule-cells [] at = refl
+rule-cells (r ∷ rs) at =
+    omega (arith, length-append (ruleRow r at) (ruleCells rs (at + length (patternRow r))), rule-row-six r at, rule-cells rs (at + length (patternRow r)))
+
+-- a tree has a word for each of its nodes
+mutual
+  unfolding prefix size
+  prefix-words : (t : Tree) → length (prefix t) ≡ size t
+  prefix-words (var i) = refl
+  prefix-words (app c ts) = omega (arith, prefixes-words ts)
+
+  prefixes-words : (ts : Trees) → length (prefixes ts) ≡ sizes ts
+  prefixes-words none = refl
+  prefixes-words (more t ts) = omega (arith, length-append (prefix t) (prefixes ts), prefix-words t, prefixes-words ts)
+
+pattern-cells : (rs : List Rule) → length (rows patternRow rs) ≡ ruleWords rs
+unfolding rows patternRow ruleWords
+pattern-cells [] = refl
+pattern-cells (r ∷ rs) =
+    omega (
+      arith,
+      length-append (prefixes (r .premises) ++ prefix (r .conclusion)) (rows patternRow rs),
+      length-append (prefixes (r .premises)) (prefix (r .conclusion)),
+      prefixes-words (r .premises),
+      prefix-words (r .conclusion),
+      pattern-cells rs,
+    )
+
+-- All tables -----------------------------------------------------------------------------------------------------------------------
+
+pub counts-are : {text : List ℕ} {t : Tables} {n : Counts} {T : Theory} → TheoryHeld text t n T → n ≡ countsOf T
+counts-are h =
+    λ i. record { sorts = sym (h .sorts .many) i; symbols = sym (h .symbols .many) i; rules = sym (h .rules .many) i; words = sym (h .rules .used) i }
+
+module _ {text : List ℕ} {t : Tables} (T : Theory) (h : TheoryHeld text t (countsOf T) T) where
+  pub within-of : Within t (countsOf T)
+  within-of =
+      record {
+        sorts = front-inside (h .sorts .front) (sort-cells (T .sorts));
+        symbols = front-inside (h .symbols .front) (symbol-cells (T .symbols));
+        inputs = front-inside (h .symbols .fronts) (input-cells (T .symbols));
+        rules = front-inside (h .rules .front) (rule-cells (T .rules) 0);
+        rule-vars = front-inside (h .rules .fronts) (var-cells (T .rules));
+        patterns = front-inside (h .rules .written) (pattern-cells (T .rules));
+      }
+
+  pub laid-of : wiped t (countsOf T) ≡ laidExactly T
+  unfolding sortTable symbolTable inputTable ruleTable ruleVarTable patternTable
+  laid-of =
+      λ i. tables
+          (front-filled (h .sorts .front) (sort-cells (T .sorts)) (2 * SORTS) (h .sorts .long) i)
+          (front-filled (h .symbols .front) (symbol-cells (T .symbols)) (4 * SYMBOLS) (h .symbols .long) i)
+          (front-filled (h .symbols .fronts) (input-cells (T .symbols)) (ARGUMENTS * SYMBOLS) (h .symbols .longs) i)
+          (front-filled (h .rules .front) (rule-cells (T .rules) 0) (6 * RULES) (h .rules .long) i)
+          (front-filled (h .rules .fronts) (var-cells (T .rules)) (3 * RULEVARS * RULES) (h .rules .longs) i)
+          (front-filled (h .rules .written) (pattern-cells (T .rules)) PATTERNS (h .rules .room) i)
+
+-- tables of the named lengths, with what lies behind in longer ones
+pub laid-longer : (t : Tables) (T : Theory) (s y i r v p : List ℕ) → tables s y i r v p ≡ laidExactly T →
+    tables (s ++ drop (2 * SORTS) (t .sorts)) (y ++ drop (4 * SYMBOLS) (t .symbols)) (i ++ drop (ARGUMENTS * SYMBOLS) (t .inputs))
+    (r ++ drop (6 * RULES) (t .rules)) (v ++ drop (3 * RULEVARS * RULES) (t .rule-vars)) (p ++ drop PATTERNS (t .patterns))
+    ≡ laid t T
+laid-longer t T s y i r v p e =
+    ap (λ (u : Tables). tables (u .sorts ++ drop (2 * SORTS) (t .sorts)) (u .symbols ++ drop (4 * SYMBOLS) (t .symbols)) (u .inputs ++ drop (ARGUMENTS * SYMBOLS) (t .inputs))
+    (u .rules ++ drop (6 * RULES) (t .rules)) (u .rule-vars ++ drop (3 * RULEVARS * RULES) (t .rule-vars)) (u .patterns ++ drop PATTERNS (t .patterns))) e
