@@ -4,16 +4,16 @@ use Prim.Native.Nat.{ℕ, _+_, _-_, _*_, _≤_}
 use mathlib.Core.List.{List, [], _∷_, _++_}
 use native.Mathlib.Omega.{arith}
 use native.Mathlib.Nat.{mul-suc}
-use lib.ListN.{length, take, drop, replicate, length-append}
-use lib.Seq.{take-at}
+use lib.ListN.{length, take, drop, replicate, length-append, length-take, length-drop, drop-of-length-le}
+use lib.Seq.{take-at, length-take-le}
 use Rattle.rules.specs.Limits.{SORTS, SYMBOLS, ARGUMENTS, RULES, RULEVARS, PATTERNS}
 use Rattle.rules.specs.Sexp.{Name}
 use Rattle.rules.specs.Tree.{Tree, Trees, var, app, none, more, size, sizes}
 use Rattle.rules.specs.Theory.{Theory, Symbol, Rule, ruleWords}
 use Rattle.rules.specs.TheoryTables.{filled, rows, nameCells, symbolRow, inputRow, prefix, prefixes, patternRow, varCells, ruleVarRow, ruleRow, ruleCells, sortTable, symbolTable, inputTable, ruleTable, ruleVarTable, patternTable}
-use Rattle.rules.specs.Laws.Row.{length-rows, length-filled, filled-fits}
+use Rattle.rules.specs.Laws.Row.{append-nil, length-rows, length-filled, filled-fits}
 use Rattle.kernel.specs.Held.{Front}
-use Rattle.kernel.specs.Parsed.{Tables, tables, TheoryHeld, Exact, Within, front, wiped, countsOf, laidExactly, laid}
+use Rattle.kernel.specs.Parsed.{Tables, tables, TheoryHeld, Roomy, Exact, Within, front, wiped, countsOf, laidExactly, laid}
 use Rattle.kernel.specs.declared.parse.Counts.{Counts}
 
 -- one table: the cells that are used, and how many
@@ -27,6 +27,16 @@ module _ {table xs : List ℕ} (f : Front table xs) {k : ℕ} (e : length xs ≡
       let m : length table - k ≡ n - length xs = omega (arith, e, l) in
       ap (λ (y : List ℕ). y ++ replicate (length table - k) 0) t ∙ ap (λ (j : ℕ). xs ++ replicate j 0) m
       ∙ sym (filled-fits n xs (omega (arith, e, l, front-inside)))
+
+-- a table whose part from a place on was set to zero
+pub zero-behind : (table ys : List ℕ) (k : ℕ) → ys ≡ replicate (length table - k) 0 ++ drop (length table - k) (take (length table - k) (drop k table)) →
+    take k table ++ (ys ++ drop (length table - k) (drop k table)) ≡ front k table
+zero-behind table ys k e =
+    let n = length table - k in
+    let a : drop n (take n (drop k table)) ≡ [] = drop-of-length-le (take n (drop k table)) {i = n} (omega (arith, length-take n (drop k table))) in
+    let b : drop n (drop k table) ≡ [] = drop-of-length-le (drop k table) {i = n} (omega (arith, length-drop k table)) in
+    let z : ys ≡ replicate n 0 = e ∙ ap (λ (l : List ℕ). replicate n 0 ++ l) a ∙ append-nil (replicate n 0) in
+    ap (λ (l : List ℕ). take k table ++ (ys ++ l)) b ∙ ap (λ (l : List ℕ). take k table ++ l) (append-nil ys ∙ z)
 
 -- How many cells are used ----------------------------------------------------------------------------------------------------------
 
@@ -117,3 +127,20 @@ pub laid-longer : (t : Tables) (T : Theory) (s y i r v p : List ℕ) → tables 
 laid-longer t T s y i r v p e =
     ap (λ (u : Tables). tables (u .sorts ++ drop (2 * SORTS) (t .sorts)) (u .symbols ++ drop (4 * SYMBOLS) (t .symbols)) (u .inputs ++ drop (ARGUMENTS * SYMBOLS) (t .inputs))
     (u .rules ++ drop (6 * RULES) (t .rules)) (u .rule-vars ++ drop (3 * RULEVARS * RULES) (t .rule-vars)) (u .patterns ++ drop PATTERNS (t .patterns))) e
+
+pub longer : (n : ℕ) (ys l : List ℕ) → n ≤ length l → length ys ≡ length (take n l) → length (ys ++ drop n l) ≡ length l
+longer n ys l h e = omega (arith, length-append ys (drop n l), e, length-take-le n l h, length-drop n l)
+
+-- the named lengths of tables that have them at least
+pub exact-fronts : (t : Tables) → Roomy t →
+    Exact (tables (take (2 * SORTS) (t .sorts)) (take (4 * SYMBOLS) (t .symbols)) (take (ARGUMENTS * SYMBOLS) (t .inputs)) (take (6 * RULES) (t .rules))
+    (take (3 * RULEVARS * RULES) (t .rule-vars)) (take PATTERNS (t .patterns)))
+exact-fronts t r =
+    record {
+      sorts = length-take-le (2 * SORTS) (t .sorts) (r .sorts);
+      symbols = length-take-le (4 * SYMBOLS) (t .symbols) (r .symbols);
+      inputs = length-take-le (ARGUMENTS * SYMBOLS) (t .inputs) (r .inputs);
+      rules = length-take-le (6 * RULES) (t .rules) (r .rules);
+      rule-vars = length-take-le (3 * RULEVARS * RULES) (t .rule-vars) (r .rule-vars);
+      patterns = length-take-le PATTERNS (t .patterns) (r .patterns);
+    }

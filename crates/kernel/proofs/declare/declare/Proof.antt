@@ -20,7 +20,7 @@ returns : tie.Need-returns
 returns c = λ T x h k. (form-atom k ((c .before .before .item-at) .ensures) ((c .enum-told) .given .1) T, h)
 
 mul-declare-items : tie.Need-mul-declare-items
-mul-declare-items c = search needs
+mul-declare-items c = omega (arith, (form-list ((c .before .before .before .before .before .before .before .before .before .before .before .before .pre) .formed) ((c .before .before .before .item-at) .ensures) ((c .before .a) .given .1)) .low, (form-list ((c .before .before .before .before .before .before .before .before .before .before .before .before .pre) .formed) ((c .before .before .before .item-at) .ensures) ((c .before .a) .given .1)) .high, (c .before .before .before .before .before .before .before .before .before .before .before .before .good) .1 .0)
 
 sub-declare-items : tie.Need-sub-declare-items
 sub-declare-items c = (form-list ((c .before .before .before .before .before .before .before .before .before .before .before .before .pre) .formed) ((c .before .before .before .item-at) .ensures) ((c .before .a) .given .1)) .low

@@ -12,10 +12,10 @@ enum-known-r-2 : tie.Need-enum-known-r-2
 enum-known-r-2 c = search needs
 
 returns : tie.Need-returns
-returns c = ?
+returns c = ap countsIn (sym ((c .before .r) .given .1))
 
 returns-2 : tie.Need-returns-2
-returns-2 c = ?
+returns-2 c = ap countsIn (sym ((c .before .r2) .given .1))
 
 pub counts-in-spec : {M : Type 1} → statement M
 counts-in-spec =

@@ -1,5 +1,6 @@
 -- `kernel::parse::wipe` meets its contract. Assumes nothing.
 use native.Mathlib.Omega.{arith}
+use Rattle.kernel.proofs.Laid.{zero-behind}
 use borrow.Author.Needs.{needs}
 use Rattle.kernel.proofs.parse.wipe.Statement.{statement}
 use Rattle.kernel.proofs.parse.wipe.Tie as tie
@@ -26,7 +27,7 @@ same-length : tie.Need-same-length
 same-length c = search needs
 
 returns : tie.Need-returns
-returns c = ?
+returns c = zero-behind ((c .before .before .before .before .before .args) .table .now) ((c .before .before .clear) .last .0) ((c .before .before .before .before .before .args) .from) ((c .before .before .clear) .ensures)
 
 pub wipe-spec : {M : Type 1} → statement M
 wipe-spec =
