@@ -69,6 +69,7 @@ rule-cells (r ∷ rs) at =
 -- a tree has a word for each of its nodes
 mutual
   unfolding prefix size
+
   prefix-words : (t : Tree) → length (prefix t) ≡ size t
   prefix-words (var i) = refl
   prefix-words (app c ts) = omega (arith, prefixes-words ts)
@@ -112,12 +113,12 @@ module _ {text : List ℕ} {t : Tables} (T : Theory) (h : TheoryHeld text t (cou
   unfolding sortTable symbolTable inputTable ruleTable ruleVarTable patternTable
   laid-of =
       λ i. tables
-          (front-filled (h .sorts .front) (sort-cells (T .sorts)) (2 * SORTS) (h .sorts .long) i)
-          (front-filled (h .symbols .front) (symbol-cells (T .symbols)) (4 * SYMBOLS) (h .symbols .long) i)
-          (front-filled (h .symbols .fronts) (input-cells (T .symbols)) (ARGUMENTS * SYMBOLS) (h .symbols .longs) i)
-          (front-filled (h .rules .front) (rule-cells (T .rules) 0) (6 * RULES) (h .rules .long) i)
-          (front-filled (h .rules .fronts) (var-cells (T .rules)) (3 * RULEVARS * RULES) (h .rules .longs) i)
-          (front-filled (h .rules .written) (pattern-cells (T .rules)) PATTERNS (h .rules .room) i)
+      (front-filled (h .sorts .front) (sort-cells (T .sorts)) (2 * SORTS) (h .sorts .long) i)
+      (front-filled (h .symbols .front) (symbol-cells (T .symbols)) (4 * SYMBOLS) (h .symbols .long) i)
+      (front-filled (h .symbols .fronts) (input-cells (T .symbols)) (ARGUMENTS * SYMBOLS) (h .symbols .longs) i)
+      (front-filled (h .rules .front) (rule-cells (T .rules) 0) (6 * RULES) (h .rules .long) i)
+      (front-filled (h .rules .fronts) (var-cells (T .rules)) (3 * RULEVARS * RULES) (h .rules .longs) i)
+      (front-filled (h .rules .written) (pattern-cells (T .rules)) PATTERNS (h .rules .room) i)
 
 -- tables of the named lengths, with what lies behind in longer ones
 pub laid-longer : (t : Tables) (T : Theory) (s y i r v p : List ℕ) → tables s y i r v p ≡ laidExactly T →

@@ -22,7 +22,7 @@ use Rattle.sexp.specs.Whole.{wholeOf}
 use Rattle.sexp.specs.declared.sexp.Read.{Read}
 use Rattle.sexp.specs.declared.sexp.Read.the-variants.{End, Form, Refused as ReadRefused}
 use Rattle.sexp.specs.declared.sexp.Whole.the-variants.{Forms, Refused as WholeRefused}
-use Rattle.kernel.specs.Parsed.{Tables, TheoryHeld, Formed, Declaring, DeclaredAs, Taken, Exact, Legible, Run, countsOf, countsIn, judgedOf, theoryOf, verdict, Within, wiped, laidExactly}
+use Rattle.kernel.specs.Parsed.{Tables, TheoryHeld, Formed, Declaring, DeclaredAs, Taken, Exact, Legible, Run, countsOf, noCounts, countsIn, judgedOf, theoryOf, verdict, Within, wiped, laidExactly}
 use Rattle.kernel.specs.declared.parse.Counts.{Counts}
 use Rattle.kernel.specs.declared.declare.Declared.{Declared}
 use Rattle.kernel.specs.declared.declare.Declared.the-variants.{Ok, No}
@@ -65,11 +65,8 @@ module _ {text : List ℕ} {t : Tables} {n : Counts} (T : Theory) (h : TheoryHel
   run-refused : (J : Verdict Theory) (a d k : ℕ) → J ≡ refused a d k T → Run text t J (Refused a d k n)
   run-refused J a d k e = subst (λ z. Run text t z (Refused a d k n)) (sym e) (record { answers = ap (Refused a d k) (counts-are h); held = counted })
 
-abbrev pub none : Counts
-none = record { sorts = 0; symbols = 0; rules = 0; words = 0 }
-
 -- nothing is held in tables of any content
-pub held-none : (text : List ℕ) (t : Tables) → Exact t → TheoryHeld text t none noTheory
+pub held-none : (text : List ℕ) (t : Tables) → Exact t → TheoryHeld text t noCounts noTheory
 unfolding rows ruleCells ruleWords
 held-none text t x =
     record {
@@ -117,11 +114,15 @@ whole-forms (fails j) m n e = never cc
 whole-forms (more (atom p bs) q t) m n e = whole-forms t m n e
 whole-forms (more (list xs) q t) m n e = whole-forms t (suc m) n (ap (wholeOf t) (sym (add-one m)) ∙ e)
 
-pub unread-refused : (text : List ℕ) (t : Tables) (n k : ℕ) → wholeOf (read text) 0 ≡ WholeRefused n k → Exact t → Run text t (verdict text) (Refused n 0 k none)
-unfolding verdict whole
-unread-refused text t n k e x =
-    run-refused noTheory (held-none text t x) (verdict text) n 0 k
-    (ap (λ (o : Option (ℕ × ℕ)). elim o [ nothing ↦ through declare (read text) 0 noTheory | some r ↦ refused (r .0) 0 (r .1) noTheory ]) (whole-refused (read text) 0 n k e))
+module _ (text : List ℕ) (t : Tables) (x : Exact t) (c : Counts) (z : c ≡ noCounts) where
+  start-held : TheoryHeld text t c noTheory
+  start-held = subst (λ m. TheoryHeld text t m noTheory) (sym z) (held-none text t x)
+
+  pub unread-refused : (n k : ℕ) → wholeOf (read text) 0 ≡ WholeRefused n k → Run text t (verdict text) (Refused n 0 k c)
+  unfolding verdict whole
+  unread-refused n k e =
+      run-refused noTheory start-held (verdict text) n 0 k
+      (ap (λ (o : Option (ℕ × ℕ)). elim o [ nothing ↦ through declare (read text) 0 noTheory | some r ↦ refused (r .0) 0 (r .1) noTheory ]) (whole-refused (read text) 0 n k e))
 
 pub read-whole : (text : List ℕ) (t : Tables) (r : Judged) (n : ℕ) → wholeOf (read text) 0 ≡ Forms n → Run text t (through declare (read text) 0 noTheory) r → Run text t (verdict text) r
 unfolding verdict whole
@@ -141,11 +142,11 @@ pub record Going (text cells₀ cells : List ℕ) (t : Tables) (held : Counts) (
   pub high : at ≤ length text
   pub few : forms ≤ at
 
-pub going-first : (text cells : List ℕ) (t : Tables) → Legible text cells → Exact t → Going text cells cells t none 0 0
-going-first text cells t l x =
+pub going-first : (text cells : List ℕ) (t : Tables) (x : Exact t) (c : Counts) → c ≡ noCounts → Legible text cells → Going text cells cells t c 0 0
+going-first text cells t x c z l =
     record {
       T = noTheory;
-      theory = held-none text t x;
+      theory = start-held text t x c z;
       left = ap (λ y. through declare y 0 noTheory) (sym (read-first text));
       legible = l;
       same = refl;

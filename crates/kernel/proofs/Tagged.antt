@@ -117,6 +117,7 @@ declare-list xs T = go (item xs 0)
     by : (o : Option Declaration) → then (found 10 o T) (λ d W. declareAs d xs W) ≡ taken o xs T
     by nothing = refl
     by (some d) = refl
+
     go : (x : Sexp) → then (name 10 x T) (λ t U. then (found 10 (declaration (t .bytes) (count xs)) U) (λ d W. declareAs d xs W)) ≡ taken (headed x (count xs)) xs T
     go (atom p bs) = by (declaration bs (count xs))
     go (list ys) = refl

@@ -130,6 +130,10 @@ pub record Run (text : List ℕ) (t : Tables) (J : Verdict Theory) (r : Judged) 
   pub answers : r ≡ judgedOf J
   pub held : TheoryHeld text t (countsOf (theoryOf J)) (theoryOf J)
 
+-- nothing is used
+abbrev pub noCounts : Counts
+noCounts = record { sorts = 0; symbols = 0; rules = 0; words = 0 }
+
 -- what an answer says is used
 abbrev pub countsIn : Judged → Counts
 countsIn (Done k n) = n

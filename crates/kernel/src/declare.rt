@@ -48,7 +48,12 @@ fn sorts_now(held: Counts, r: Added) -> Declared
     ensures { λ d. ⌜ d ≡ sortsNow held r ⌝ }
 {
     match r {
-        Added::Ok(n) => Declared::Ok(Counts { sorts: n, symbols: held.symbols, rules: held.rules, words: held.words }),
+        Added::Ok(n) => Declared::Ok(Counts {
+            sorts: n,
+            symbols: held.symbols,
+            rules: held.rules,
+            words: held.words,
+        }),
         Added::No(number, detail) => Declared::No(number, detail),
     }
 }
@@ -58,7 +63,12 @@ fn symbols_now(held: Counts, r: Added) -> Declared
     ensures { λ d. ⌜ d ≡ symbolsNow held r ⌝ }
 {
     match r {
-        Added::Ok(n) => Declared::Ok(Counts { sorts: held.sorts, symbols: n, rules: held.rules, words: held.words }),
+        Added::Ok(n) => Declared::Ok(Counts {
+            sorts: held.sorts,
+            symbols: n,
+            rules: held.rules,
+            words: held.words,
+        }),
         Added::No(number, detail) => Declared::No(number, detail),
     }
 }
@@ -68,7 +78,12 @@ fn rules_now(held: Counts, r: Made) -> Declared
     ensures { λ d. ⌜ d ≡ rulesNow held r ⌝ }
 {
     match r {
-        Made::Ok(n, words) => Declared::Ok(Counts { sorts: held.sorts, symbols: held.symbols, rules: n, words: words }),
+        Made::Ok(n, words) => Declared::Ok(Counts {
+            sorts: held.sorts,
+            symbols: held.symbols,
+            rules: n,
+            words: words,
+        }),
         Made::No(number, detail) => Declared::No(number, detail),
     }
 }
@@ -91,21 +106,34 @@ fn declare_items(
         Holds (now (text .entry)) (now (items .entry)) xs →
         DeclaredAs (now (text .entry)) (tables (now (sorts .exit)) (now (symbols .exit)) (now (inputs .exit)) (now (rules .exit)) (now (vars .exit)) (now (patterns .exit))) held T (taken (tagged xs) xs T) r) ⌝ }
 {
+    let known = held.sorts;
+    let count = held.symbols;
     match tag_of(text, items) {
         Declaration::Sort => {
-            let r = add_sort(text, items, sorts, held.sorts);
+            let r = add_sort(text, items, sorts, known);
             sorts_now(held, r)
         }
         Declaration::Ctor => {
-            let r = add_ctor(text, items, sorts, held.sorts, symbols, inputs, held.symbols);
+            let r = add_ctor(text, items, sorts, known, symbols, inputs, count);
             symbols_now(held, r)
         }
         Declaration::Pred => {
-            let r = add_pred(text, items, sorts, held.sorts, symbols, inputs, held.symbols);
+            let r = add_pred(text, items, sorts, known, symbols, inputs, count);
             symbols_now(held, r)
         }
         Declaration::Rule => {
-            let r = add_rule(text, items, symbols, inputs, held.symbols, rules, vars, patterns, held.rules, held.words);
+            let r = add_rule(
+                text,
+                items,
+                symbols,
+                inputs,
+                count,
+                rules,
+                vars,
+                patterns,
+                held.rules,
+                held.words,
+            );
             rules_now(held, r)
         }
         Declaration::Unknown => Declared::No(10, 0),
@@ -133,5 +161,15 @@ pub fn declare(
     let Item::List(a, b) = items::item_at(cells, 0) else {
         return Declared::No(10, 0);
     };
-    declare_items(text, &cells[a..b], sorts, symbols, inputs, rules, vars, patterns, held)
+    declare_items(
+        text,
+        &cells[a..b],
+        sorts,
+        symbols,
+        inputs,
+        rules,
+        vars,
+        patterns,
+        held,
+    )
 }

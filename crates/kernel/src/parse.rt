@@ -7,7 +7,7 @@ ghost use Rattle.rules.specs.Sexp.{read};
 ghost use Rattle.rules.specs.Theory.{noTheory};
 ghost use Rattle.rules.specs.Declare.{declare};
 ghost use Rattle.rules.specs.Judge.{through};
-ghost use Rattle.kernel.specs.Parsed.{tables, Roomy, Exact, Within, wiped, countsIn, Run, Legible, judgedOf, theoryOf, verdict, laid, laidExactly};
+ghost use Rattle.kernel.specs.Parsed.{tables, Roomy, Exact, Within, wiped, noCounts, countsIn, Run, Legible, judgedOf, theoryOf, verdict, laid, laidExactly};
 use crate::declare::Declared;
 use crate::declare::declare;
 use sexp::sexp::Read;
@@ -61,6 +61,18 @@ fn wipe_behind(
     wipe(patterns, held.words);
 }
 
+// Nothing is used.
+fn none() -> Counts
+    ensures { λ n. ⌜ n ≡ noCounts ⌝ }
+{
+    Counts {
+        sorts: 0,
+        symbols: 0,
+        rules: 0,
+        words: 0,
+    }
+}
+
 // What an answer says is used.
 fn counts_in(r: Judged) -> Counts
     ensures { λ n. ⌜ n ≡ countsIn r ⌝ }
@@ -88,20 +100,26 @@ fn declarations(
         (through declare (read (now (text .entry))) 0 noTheory) r ⌝ }
     ensures { λ _. ⌜ now (cells .exit) ≡ now (cells .entry) ⌝ }
 {
-    let mut held = Counts { sorts: 0, symbols: 0, rules: 0, words: 0 };
+    let mut held = none();
     let mut forms = 0;
     let mut at = 0;
     loop {
         match read_form(text, at, cells) {
-            Read::End => {
-                return Judged::Done(forms, held);
-            }
+            Read::End => return Judged::Done(forms, held),
             // a text that was read whole before is not refused here
-            Read::Refused(number) => {
-                return Judged::Refused(number, 0, forms, held);
-            }
+            Read::Refused(number) => return Judged::Refused(number, 0, forms, held),
             Read::Form(next, count) => {
-                let r = declare(text, &cells[..count], sorts, symbols, inputs, rules, vars, patterns, held);
+                let r = declare(
+                    text,
+                    &cells[..count],
+                    sorts,
+                    symbols,
+                    inputs,
+                    rules,
+                    vars,
+                    patterns,
+                    held,
+                );
                 clear(cells, count);
                 match r {
                     Declared::Ok(counts) => {
@@ -136,7 +154,7 @@ fn read_and_declare(
     ensures { λ _. ⌜ now (cells .exit) ≡ now (cells .entry) ⌝ }
 {
     match read_all(text) {
-        Whole::Refused(number, forms) => Judged::Refused(number, 0, forms, Counts { sorts: 0, symbols: 0, rules: 0, words: 0 }),
+        Whole::Refused(number, forms) => Judged::Refused(number, 0, forms, none()),
         Whole::Forms(_) => declarations(text, cells, sorts, symbols, inputs, rules, vars, patterns),
     }
 }

@@ -12,6 +12,9 @@ read-all-requires c κs = search needs
 enum-known-number : tie.Need-enum-known-number
 enum-known-number c = search needs
 
+none-requires : tie.Need-none-requires
+none-requires c κs = search needs
+
 enum-told : tie.Need-enum-told
 enum-told c = search needs
 
@@ -19,7 +22,7 @@ declarations-requires : tie.Need-declarations-requires
 declarations-requires c κs = (c .before .before .before .before .before .before .before .before .before .before .before .before .before .before .before .before .before .before .pre)
 
 returns : tie.Need-returns
-returns c = (unread-refused ((c .before .before .before .before .before .before .before .before .before .before .before .before .args) .text .now) (tables ((c .before .before .before .before .before .before .before .before .before .before .before .before .args) .sorts .now) ((c .before .before .before .before .before .before .before .before .before .before .before .before .args) .symbols .now) ((c .before .before .before .before .before .before .before .before .before .before .before .before .args) .inputs .now) ((c .before .before .before .before .before .before .before .before .before .before .before .before .args) .rules .now) ((c .before .before .before .before .before .before .before .before .before .before .before .before .args) .vars .now) ((c .before .before .before .before .before .before .before .before .before .before .before .before .args) .patterns .now)) _ _ (sym ((c .before .before .before .read-all) .ensures) ∙ (c .before .number) .given .1) ((c .before .before .before .before .before .before .before .before .before .before .before .before .pre) .1), refl)
+returns c = (unread-refused ((c .before .before .before .before .before .before .before .before .before .before .before .before .before .args) .text .now) (tables ((c .before .before .before .before .before .before .before .before .before .before .before .before .before .args) .sorts .now) ((c .before .before .before .before .before .before .before .before .before .before .before .before .before .args) .symbols .now) ((c .before .before .before .before .before .before .before .before .before .before .before .before .before .args) .inputs .now) ((c .before .before .before .before .before .before .before .before .before .before .before .before .before .args) .rules .now) ((c .before .before .before .before .before .before .before .before .before .before .before .before .before .args) .vars .now) ((c .before .before .before .before .before .before .before .before .before .before .before .before .before .args) .patterns .now)) ((c .before .before .before .before .before .before .before .before .before .before .before .before .before .pre) .1) ((c .none) .result) ((c .none) .ensures) _ _ (sym ((c .before .before .before .before .read-all) .ensures) ∙ (c .before .before .number) .given .1), refl)
 
 same-length : tie.Need-same-length
 same-length c = (c .before .before .before .before .before .before .before .before .before .before .before .before .before .before .declarations) .kept .1 .0
@@ -51,6 +54,7 @@ read-and-declare-spec =
     (tie.spec
     read-all-requires
     enum-known-number
+    none-requires
     enum-told
     declarations-requires
     returns
