@@ -3,7 +3,6 @@ use mathlib.Core.Path.{_≡_, refl, sym, ap, _∙_}
 use Prim.Native.Nat.{ℕ, _+_, _-_, _*_, _≤_}
 use mathlib.Core.List.{List, [], _∷_, _++_}
 use native.Mathlib.Omega.{arith}
-use native.Mathlib.Nat.{mul-suc}
 use lib.ListN.{length, take, drop, replicate, length-append, length-take, length-drop, drop-of-length-le}
 use lib.Seq.{take-at, length-take-le}
 use Rattle.rules.specs.Limits.{SORTS, SYMBOLS, ARGUMENTS, RULES, RULEVARS, PATTERNS}
@@ -13,7 +12,7 @@ use Rattle.rules.specs.Theory.{Theory, Symbol, Rule, ruleWords}
 use Rattle.rules.specs.TheoryTables.{filled, rows, nameCells, symbolRow, inputRow, prefix, prefixes, patternRow, varCells, ruleVarRow, ruleRow, ruleCells, sortTable, symbolTable, inputTable, ruleTable, ruleVarTable, patternTable}
 use Rattle.rules.specs.Laws.Row.{append-nil, length-rows, length-filled, filled-fits}
 use Rattle.kernel.specs.Held.{Front}
-use Rattle.kernel.specs.Parsed.{Tables, tables, TheoryHeld, Roomy, Exact, Within, front, wiped, countsOf, laidExactly, laid}
+use Rattle.kernel.specs.Parsed.{Tables, tables, TheoryHeld, Roomy, Exact, Within, zeroFrom, wiped, countsOf, laidExactly, laid}
 use Rattle.kernel.specs.declared.parse.Counts.{Counts}
 
 -- one table: the cells that are used, and how many
@@ -21,7 +20,7 @@ module _ {table xs : List ℕ} (f : Front table xs) {k : ℕ} (e : length xs ≡
   pub front-inside : k ≤ length table
   front-inside = omega (arith, e, ap length (f .is), length-append xs (f .rest))
 
-  pub front-filled : (n : ℕ) → length table ≡ n → front k table ≡ filled n xs
+  pub front-filled : (n : ℕ) → length table ≡ n → zeroFrom k table ≡ filled n xs
   front-filled n l =
       let t : take k table ≡ xs = ap (take k) (f .is) ∙ take-at xs (f .rest) k e in
       let m : length table - k ≡ n - length xs = omega (arith, e, l) in
@@ -30,7 +29,7 @@ module _ {table xs : List ℕ} (f : Front table xs) {k : ℕ} (e : length xs ≡
 
 -- a table whose part from a place on was set to zero
 pub zero-behind : (table ys : List ℕ) (k : ℕ) → ys ≡ replicate (length table - k) 0 ++ drop (length table - k) (take (length table - k) (drop k table)) →
-    take k table ++ (ys ++ drop (length table - k) (drop k table)) ≡ front k table
+    take k table ++ (ys ++ drop (length table - k) (drop k table)) ≡ zeroFrom k table
 zero-behind table ys k e =
     let n = length table - k in
     let a : drop n (take n (drop k table)) ≡ [] = drop-of-length-le (take n (drop k table)) {i = n} (omega (arith, length-take n (drop k table))) in

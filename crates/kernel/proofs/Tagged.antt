@@ -8,18 +8,17 @@ use native.Mathlib.Omega.{arith}
 use lib.Dec.{leb}
 use lib.ListN.{length, take, drop}
 use borrow.Author.Tests.{leb-true}
-use Rattle.rules.specs.Limits.{LENGTH}
 use Rattle.rules.specs.Lex.{letters}
-use Rattle.rules.specs.Out.{Out, ok, refuse, then, found}
+use Rattle.rules.specs.Out.{Out, refuse, then, found}
 use Rattle.rules.specs.Sexp.{Sexp, Sexps, atom, list, nil, cons, count, item, name, items}
 use Rattle.rules.specs.Tags.{Declaration, aSort, aCtor, aPred, aRule, Row, theoryTags, within, fits, tagIn, declaration}
 use Rattle.rules.specs.Theory.{Theory}
 use Rattle.rules.specs.Text.{same}
 use Rattle.rules.specs.Declare.{addSort, addCtor, addPred, addRule, declareAs, declare}
 use Rattle.sexp.specs.Encode.{encode}
-use Rattle.sexp.specs.Items.{Held, Holds, itemAt}
+use Rattle.sexp.specs.Items.{Holds, itemAt}
 use Rattle.sexp.specs.ItemLaws.{More, some-cells}
-use Rattle.sexp.specs.WalkLaws.{AtomIs, ListIs, Walk, walk-start, walk-more, walk-over, walk-atom, walk-list, Span, span}
+use Rattle.sexp.specs.WalkLaws.{ListIs, Walk, walk-start, walk-more, walk-over, walk-atom, walk-list, Span, span}
 use Rattle.sexp.specs.TagTable.{declarationAnswer}
 use Rattle.sexp.specs.declared.items.Item.{Item}
 use Rattle.sexp.specs.declared.items.Item.the-variants.{Atom, List as Part}
@@ -34,7 +33,7 @@ use Rattle.kernel.specs.declared.patterns.Made.{Made}
 use Rattle.kernel.specs.declared.patterns.Made.the-variants.{Ok as MadeOk, No as MadeNo}
 use Rattle.kernel.specs.declared.parse.Counts.{Counts}
 use Rattle.kernel.specs.declared.declare.Declared.{Declared}
-use Rattle.kernel.specs.declared.declare.Declared.the-variants.{Ok, No}
+use Rattle.kernel.specs.declared.declare.Declared.the-variants.{No}
 
 never : {A : Type 0} → _≡_ {A = ℕ} 0 1 → A
 never z = absurd (omega arith)

@@ -11,7 +11,7 @@ use Rattle.rules.specs.Sexp.{Sexp, Sexps, atom, list, item, count, read}
 use Rattle.rules.specs.Tags.{Declaration, declaration}
 use Rattle.rules.specs.Theory.{Theory, noTheory, ruleWords}
 use Rattle.rules.specs.Declare.{declareAs, declare}
-use Rattle.rules.specs.Judge.{Judged as Verdict, done, refused, whole, through}
+use Rattle.rules.specs.Judge.{Judged as Verdict, done, refused, whole}
 use Rattle.rules.specs.TheoryTables.{sortTable, symbolTable, inputTable, ruleTable, ruleVarTable, patternTable}
 use Rattle.sexp.specs.Encode.{encode}
 use Rattle.sexp.specs.Spelt.{Spelt}
@@ -149,14 +149,14 @@ pub record Within (t : Tables) (n : Counts) : Type 0 where
   pub patterns : n .words ≤ length (t .patterns)
 
 -- zero from a place on
-abbrev pub front : ℕ → List ℕ → List ℕ
-front k l = take k l ++ replicate (length l - k) 0
+abbrev pub zeroFrom : ℕ → List ℕ → List ℕ
+zeroFrom k l = take k l ++ replicate (length l - k) 0
 
 -- the tables with zero behind what is used
 abbrev pub wiped : Tables → Counts → Tables
 wiped t n =
-    tables (front (2 * n .sorts) (t .sorts)) (front (4 * n .symbols) (t .symbols)) (front (ARGUMENTS * n .symbols) (t .inputs))
-    (front (6 * n .rules) (t .rules)) (front (3 * RULEVARS * n .rules) (t .rule-vars)) (front (n .words) (t .patterns))
+    tables (zeroFrom (2 * n .sorts) (t .sorts)) (zeroFrom (4 * n .symbols) (t .symbols)) (zeroFrom (ARGUMENTS * n .symbols) (t .inputs))
+    (zeroFrom (6 * n .rules) (t .rules)) (zeroFrom (3 * RULEVARS * n .rules) (t .rule-vars)) (zeroFrom (n .words) (t .patterns))
 
 -- the tables have their named lengths at least
 pub record Roomy (t : Tables) : Type 0 where

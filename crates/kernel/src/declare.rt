@@ -1,8 +1,5 @@
 // One declaration: its tag says which of the four it is.
 ghost use mathlib.Core.Path.{_≡_};
-ghost use Prim.Native.Nat.{_<_};
-ghost use lib.ListN.{length};
-ghost use Rattle.rules.specs.Limits.{LENGTH};
 ghost use Rattle.rules.specs.Sexp.{Sexp, Sexps};
 ghost use Rattle.rules.specs.Theory.{Theory};
 ghost use Rattle.rules.specs.Declare.{declare};

@@ -1,13 +1,12 @@
 // A theory's text: read whole first, then judged declaration by declaration.
 ghost use mathlib.Core.Path.{_≡_};
-ghost use Prim.Native.Nat.{_-_, _≤_};
-ghost use mathlib.Core.List.{_++_};
-ghost use lib.ListN.{length, take, replicate};
+ghost use Prim.Native.Nat.{_≤_};
+ghost use lib.ListN.{length};
 ghost use Rattle.rules.specs.Sexp.{read};
 ghost use Rattle.rules.specs.Theory.{noTheory};
 ghost use Rattle.rules.specs.Declare.{declare};
 ghost use Rattle.rules.specs.Judge.{through};
-ghost use Rattle.kernel.specs.Parsed.{tables, Roomy, Exact, Within, wiped, noCounts, countsIn, Run, Legible, judgedOf, theoryOf, verdict, laid, laidExactly};
+ghost use Rattle.kernel.specs.Parsed.{tables, Roomy, Exact, Within, zeroFrom, wiped, noCounts, countsIn, Run, Legible, judgedOf, theoryOf, verdict, laid, laidExactly};
 use crate::declare::Declared;
 use crate::declare::declare;
 use sexp::sexp::Read;
@@ -33,7 +32,7 @@ pub enum Judged {
 // Sets the cells from a place on to zero.
 fn wipe(table: &mut [u32], from: usize)
     requires { ⌜ from ≤ length (now table) ⌝ }
-    ensures { λ _. ⌜ now (table .exit) ≡ take from (now (table .entry)) ++ replicate (length (now (table .entry)) - from) 0 ⌝ }
+    ensures { λ _. ⌜ now (table .exit) ≡ zeroFrom from (now (table .entry)) ⌝ }
 {
     let count = table.len() - from;
     clear(&mut table[from..], count);

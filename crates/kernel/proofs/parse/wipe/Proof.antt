@@ -1,5 +1,4 @@
 -- `kernel::parse::wipe` meets its contract. Assumes nothing.
-use native.Mathlib.Omega.{arith}
 use Rattle.kernel.proofs.Laid.{zero-behind}
 use borrow.Author.Needs.{needs}
 use Rattle.kernel.proofs.parse.wipe.Statement.{statement}
