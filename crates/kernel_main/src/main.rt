@@ -111,5 +111,14 @@ fn main() {
     let mut rules = [0u32; 1536];
     let mut vars = [0u32; 12288];
     let mut patterns = [0u32; 8192];
-    run(&text[..n], &mut cells, &mut sorts, &mut symbols, &mut inputs, &mut rules, &mut vars, &mut patterns);
+    run(
+        &text[..n],
+        &mut cells,
+        &mut sorts,
+        &mut symbols,
+        &mut inputs,
+        &mut rules,
+        &mut vars,
+        &mut patterns,
+    );
 }
