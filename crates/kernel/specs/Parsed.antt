@@ -1,21 +1,28 @@
 -- What the contract of `parse` cites: all tables of a theory, what they hold while declarations are taken, and what they are when a text
 -- is judged. Assumes nothing.
 use mathlib.Core.Path.{_≡_}
-use Prim.Native.Nat.{ℕ, _*_, _≤_}
+use Prim.Native.Nat.{ℕ, _-_, _*_, _≤_}
+use mathlib.Core.Option.{Option, some, none as nothing}
 use mathlib.Core.List.{List, _++_}
-use lib.ListN.{length, drop}
+use lib.ListN.{length, take, drop, replicate}
 use Rattle.rules.specs.Limits.{LENGTH, SORTS, SYMBOLS, ARGUMENTS, RULES, RULEVARS, PATTERNS}
 use Rattle.rules.specs.Out.{Out, ok, refuse}
-use Rattle.rules.specs.Sexp.{Sexp, read}
+use Rattle.rules.specs.Sexp.{Sexp, Sexps, atom, list, item, count, read}
+use Rattle.rules.specs.Tags.{Declaration, declaration}
 use Rattle.rules.specs.Theory.{Theory, noTheory, ruleWords}
-use Rattle.rules.specs.Declare.{declare}
-use Rattle.rules.specs.Judge.{Judged as Verdict, done, refused, whole, through}
+use Rattle.rules.specs.Declare.{declareAs, declare}
+use Rattle.rules.specs.Judge.{Judged as Verdict, done, refused, whole}
 use Rattle.rules.specs.TheoryTables.{sortTable, symbolTable, inputTable, ruleTable, ruleVarTable, patternTable}
 use Rattle.sexp.specs.Encode.{encode}
 use Rattle.sexp.specs.Spelt.{Spelt}
+use Rattle.sexp.specs.Items.{Holds}
 use Rattle.sexp.specs.Reads.{Clear}
 use Rattle.kernel.specs.Held.{SortsHeld, SymbolsHeld}
 use Rattle.kernel.specs.HeldRules.{RulesHeld}
+use Rattle.kernel.specs.declared.symbols.Added.{Added}
+use Rattle.kernel.specs.declared.symbols.Added.the-variants.{Ok as AddedOk, No as AddedNo}
+use Rattle.kernel.specs.declared.patterns.Made.{Made}
+use Rattle.kernel.specs.declared.patterns.Made.the-variants.{Ok as MadeOk, No as MadeNo}
 use Rattle.kernel.specs.declared.parse.Counts.{Counts}
 use Rattle.kernel.specs.declared.declare.Declared.{Declared}
 use Rattle.kernel.specs.declared.declare.Declared.the-variants.{Ok, No}
@@ -55,6 +62,40 @@ pub record Declaring (text cells : List ℕ) (t : Tables) (n : Counts) : Type 0 
   pub held : TheoryHeld text t n T
   pub short : length text ≤ LENGTH
 
+-- what `declare_items` is given
+pub record ItemsDeclaring (text items : List ℕ) (t : Tables) (n : Counts) : Type 0 where
+  pub xs : Sexps
+  pub holds : Holds text items xs
+  pub T : Theory
+  pub held : TheoryHeld text t n T
+  pub short : length text ≤ LENGTH
+
+-- the tag of a form with so many items, by the first of them
+unfoldable pub headed : Sexp → ℕ → Option Declaration
+headed (atom p bs) n = declaration bs n
+headed (list xs) n = nothing
+
+abbrev pub tagged : Sexps → Option Declaration
+tagged xs = headed (item xs 0) (count xs)
+
+-- what the definition gives for items that have that tag
+abbrev pub taken : Option Declaration → Sexps → Theory → Out Theory (Unit {0})
+taken nothing xs T = refuse 10 0 T
+taken (some d) xs T = declareAs d xs T
+
+-- what is used when a sort, a symbol or a rule is added
+abbrev pub sortsNow : Counts → Added → Declared
+sortsNow n (AddedOk k) = Ok (record { sorts = k; symbols = n .symbols; rules = n .rules; words = n .words })
+sortsNow n (AddedNo a d) = No a d
+
+abbrev pub symbolsNow : Counts → Added → Declared
+symbolsNow n (AddedOk k) = Ok (record { sorts = n .sorts; symbols = k; rules = n .rules; words = n .words })
+symbolsNow n (AddedNo a d) = No a d
+
+abbrev pub rulesNow : Counts → Made → Declared
+rulesNow n (MadeOk k w) = Ok (record { sorts = n .sorts; symbols = n .symbols; rules = k; words = w })
+rulesNow n (MadeNo a d) = No a d
+
 -- the form is taken: what the definition gives is held now
 pub record Taken (text : List ℕ) (t : Tables) (given : Out Theory (Unit {0})) (n : Counts) : Type 0 where
   pub now : Theory
@@ -85,9 +126,37 @@ unfoldable pub verdict : List ℕ → Verdict Theory
 verdict text = whole declare (read text) noTheory
 
 -- every declaration that was taken is held
-pub record Run (text : List ℕ) (t : Tables) (n : Counts) (J : Verdict Theory) (r : Judged) : Type 0 where
+pub record Run (text : List ℕ) (t : Tables) (J : Verdict Theory) (r : Judged) : Type 0 where
   pub answers : r ≡ judgedOf J
-  pub held : TheoryHeld text t n (theoryOf J)
+  pub held : TheoryHeld text t (countsOf (theoryOf J)) (theoryOf J)
+
+-- nothing is used
+abbrev pub noCounts : Counts
+noCounts = record { sorts = 0; symbols = 0; rules = 0; words = 0 }
+
+-- what an answer says is used
+abbrev pub countsIn : Judged → Counts
+countsIn (Done k n) = n
+countsIn (Refused a d k n) = n
+
+-- what is used lies inside the tables
+pub record Within (t : Tables) (n : Counts) : Type 0 where
+  pub sorts : 2 * n .sorts ≤ length (t .sorts)
+  pub symbols : 4 * n .symbols ≤ length (t .symbols)
+  pub inputs : ARGUMENTS * n .symbols ≤ length (t .inputs)
+  pub rules : 6 * n .rules ≤ length (t .rules)
+  pub rule-vars : 3 * RULEVARS * n .rules ≤ length (t .rule-vars)
+  pub patterns : n .words ≤ length (t .patterns)
+
+-- zero from a place on
+abbrev pub zeroFrom : ℕ → List ℕ → List ℕ
+zeroFrom k l = take k l ++ replicate (length l - k) 0
+
+-- the tables with zero behind what is used
+abbrev pub wiped : Tables → Counts → Tables
+wiped t n =
+    tables (zeroFrom (2 * n .sorts) (t .sorts)) (zeroFrom (4 * n .symbols) (t .symbols)) (zeroFrom (ARGUMENTS * n .symbols) (t .inputs))
+    (zeroFrom (6 * n .rules) (t .rules)) (zeroFrom (3 * RULEVARS * n .rules) (t .rule-vars)) (zeroFrom (n .words) (t .patterns))
 
 -- the tables have their named lengths at least
 pub record Roomy (t : Tables) : Type 0 where
@@ -113,7 +182,11 @@ pub record Legible (text cells : List ℕ) : Type 0 where
   pub fits : length text ≤ length cells
   pub clear : Clear cells
 
--- the tables of a theory: its entries, zero behind, and past the named lengths what was there
+-- the tables of a theory: its entries, and zero behind
+abbrev pub laidExactly : Theory → Tables
+laidExactly T = tables (sortTable T) (symbolTable T) (inputTable T) (ruleTable T) (ruleVarTable T) (patternTable T)
+
+-- the same in tables that may be longer: its entries, zero behind, and past the named lengths what was there
 abbrev pub laid : Tables → Theory → Tables
 laid t T = record {
   sorts = sortTable T ++ drop (2 * SORTS) (t .sorts);

@@ -1,0 +1,146 @@
+-- The tables of a theory when the cells behind what is used are zero. Assumes nothing.
+use mathlib.Core.Path.{_≡_, refl, sym, ap, _∙_}
+use Prim.Native.Nat.{ℕ, _+_, _-_, _*_, _≤_}
+use mathlib.Core.List.{List, [], _∷_, _++_}
+use native.Mathlib.Omega.{arith}
+use lib.ListN.{length, take, drop, replicate, length-append, length-take, length-drop, drop-of-length-le}
+use lib.Seq.{take-at, length-take-le}
+use Rattle.rules.specs.Limits.{SORTS, SYMBOLS, ARGUMENTS, RULES, RULEVARS, PATTERNS}
+use Rattle.rules.specs.Sexp.{Name}
+use Rattle.rules.specs.Tree.{Tree, Trees, var, app, none, more, size, sizes}
+use Rattle.rules.specs.Theory.{Theory, Symbol, Rule, ruleWords}
+use Rattle.rules.specs.TheoryTables.{filled, rows, nameCells, symbolRow, inputRow, prefix, prefixes, patternRow, varCells, ruleVarRow, ruleRow, ruleCells, sortTable, symbolTable, inputTable, ruleTable, ruleVarTable, patternTable}
+use Rattle.rules.specs.Laws.Row.{append-nil, length-rows, length-filled, filled-fits}
+use Rattle.kernel.specs.Held.{Front}
+use Rattle.kernel.specs.Parsed.{Tables, tables, TheoryHeld, Roomy, Exact, Within, zeroFrom, wiped, countsOf, laidExactly, laid}
+use Rattle.kernel.specs.declared.parse.Counts.{Counts}
+
+-- one table: the cells that are used, and how many
+module _ {table xs : List ℕ} (f : Front table xs) {k : ℕ} (e : length xs ≡ k) where
+  pub front-inside : k ≤ length table
+  front-inside = omega (arith, e, ap length (f .is), length-append xs (f .rest))
+
+  pub front-filled : (n : ℕ) → length table ≡ n → zeroFrom k table ≡ filled n xs
+  front-filled n l =
+      let t : take k table ≡ xs = ap (take k) (f .is) ∙ take-at xs (f .rest) k e in
+      let m : length table - k ≡ n - length xs = omega (arith, e, l) in
+      ap (λ (y : List ℕ). y ++ replicate (length table - k) 0) t ∙ ap (λ (j : ℕ). xs ++ replicate j 0) m
+      ∙ sym (filled-fits n xs (omega (arith, e, l, front-inside)))
+
+-- a table whose part from a place on was set to zero
+pub zero-behind : (table ys : List ℕ) (k : ℕ) → ys ≡ replicate (length table - k) 0 ++ drop (length table - k) (take (length table - k) (drop k table)) →
+    take k table ++ (ys ++ drop (length table - k) (drop k table)) ≡ zeroFrom k table
+zero-behind table ys k e =
+    let n = length table - k in
+    let a : drop n (take n (drop k table)) ≡ [] = drop-of-length-le (take n (drop k table)) {i = n} (omega (arith, length-take n (drop k table))) in
+    let b : drop n (drop k table) ≡ [] = drop-of-length-le (drop k table) {i = n} (omega (arith, length-drop k table)) in
+    let z : ys ≡ replicate n 0 = e ∙ ap (λ (l : List ℕ). replicate n 0 ++ l) a ∙ append-nil (replicate n 0) in
+    ap (λ (l : List ℕ). take k table ++ (ys ++ l)) b ∙ ap (λ (l : List ℕ). take k table ++ l) (append-nil ys ∙ z)
+
+-- How many cells are used ----------------------------------------------------------------------------------------------------------
+
+sort-cells : (ns : List Name) → length (rows nameCells ns) ≡ 2 * length ns
+unfolding nameCells
+sort-cells ns = length-rows nameCells 2 (λ n. refl) ns
+
+symbol-cells : (ss : List Symbol) → length (rows symbolRow ss) ≡ 4 * length ss
+unfolding symbolRow nameCells
+symbol-cells ss = length-rows symbolRow 4 (λ s. refl) ss
+
+input-cells : (ss : List Symbol) → length (rows inputRow ss) ≡ ARGUMENTS * length ss
+unfolding inputRow
+input-cells ss = length-rows inputRow ARGUMENTS (λ s. length-filled ARGUMENTS (s .inputs)) ss
+
+var-cells : (rs : List Rule) → length (rows ruleVarRow rs) ≡ 3 * RULEVARS * length rs
+unfolding ruleVarRow
+var-cells rs = length-rows ruleVarRow (3 * RULEVARS) (λ r. length-filled (3 * RULEVARS) (varCells (r .vars))) rs
+
+rule-row-six : (r : Rule) (at : ℕ) → length (ruleRow r at) ≡ 6
+unfolding ruleRow nameCells
+rule-row-six r at = refl
+
+rule-cells : (rs : List Rule) (at : ℕ) → length (ruleCells rs at) ≡ 6 * length rs
+unfolding ruleCells
+rule-cells [] at = refl
+rule-cells (r ∷ rs) at =
+    omega (arith, length-append (ruleRow r at) (ruleCells rs (at + length (patternRow r))), rule-row-six r at, rule-cells rs (at + length (patternRow r)))
+
+-- a tree has a word for each of its nodes
+mutual
+  unfolding prefix size
+
+  prefix-words : (t : Tree) → length (prefix t) ≡ size t
+  prefix-words (var i) = refl
+  prefix-words (app c ts) = omega (arith, prefixes-words ts)
+
+  prefixes-words : (ts : Trees) → length (prefixes ts) ≡ sizes ts
+  prefixes-words none = refl
+  prefixes-words (more t ts) = omega (arith, length-append (prefix t) (prefixes ts), prefix-words t, prefixes-words ts)
+
+pattern-cells : (rs : List Rule) → length (rows patternRow rs) ≡ ruleWords rs
+unfolding rows patternRow ruleWords
+pattern-cells [] = refl
+pattern-cells (r ∷ rs) =
+    omega (
+      arith,
+      length-append (prefixes (r .premises) ++ prefix (r .conclusion)) (rows patternRow rs),
+      length-append (prefixes (r .premises)) (prefix (r .conclusion)),
+      prefixes-words (r .premises),
+      prefix-words (r .conclusion),
+      pattern-cells rs,
+    )
+
+-- All tables -----------------------------------------------------------------------------------------------------------------------
+
+pub counts-are : {text : List ℕ} {t : Tables} {n : Counts} {T : Theory} → TheoryHeld text t n T → n ≡ countsOf T
+counts-are h =
+    λ i. record { sorts = sym (h .sorts .many) i; symbols = sym (h .symbols .many) i; rules = sym (h .rules .many) i; words = sym (h .rules .used) i }
+
+module _ {text : List ℕ} {t : Tables} (T : Theory) (h : TheoryHeld text t (countsOf T) T) where
+  pub within-of : Within t (countsOf T)
+  within-of =
+      record {
+        sorts = front-inside (h .sorts .front) (sort-cells (T .sorts));
+        symbols = front-inside (h .symbols .front) (symbol-cells (T .symbols));
+        inputs = front-inside (h .symbols .fronts) (input-cells (T .symbols));
+        rules = front-inside (h .rules .front) (rule-cells (T .rules) 0);
+        rule-vars = front-inside (h .rules .fronts) (var-cells (T .rules));
+        patterns = front-inside (h .rules .written) (pattern-cells (T .rules));
+      }
+
+  pub laid-of : wiped t (countsOf T) ≡ laidExactly T
+  unfolding sortTable symbolTable inputTable ruleTable ruleVarTable patternTable
+  laid-of =
+      λ i. tables
+      (front-filled (h .sorts .front) (sort-cells (T .sorts)) (2 * SORTS) (h .sorts .long) i)
+      (front-filled (h .symbols .front) (symbol-cells (T .symbols)) (4 * SYMBOLS) (h .symbols .long) i)
+      (front-filled (h .symbols .fronts) (input-cells (T .symbols)) (ARGUMENTS * SYMBOLS) (h .symbols .longs) i)
+      (front-filled (h .rules .front) (rule-cells (T .rules) 0) (6 * RULES) (h .rules .long) i)
+      (front-filled (h .rules .fronts) (var-cells (T .rules)) (3 * RULEVARS * RULES) (h .rules .longs) i)
+      (front-filled (h .rules .written) (pattern-cells (T .rules)) PATTERNS (h .rules .room) i)
+
+-- tables of the named lengths, with what lies behind in longer ones
+pub laid-longer : (t : Tables) (T : Theory) (s y i r v p : List ℕ) → tables s y i r v p ≡ laidExactly T →
+    tables (s ++ drop (2 * SORTS) (t .sorts)) (y ++ drop (4 * SYMBOLS) (t .symbols)) (i ++ drop (ARGUMENTS * SYMBOLS) (t .inputs))
+    (r ++ drop (6 * RULES) (t .rules)) (v ++ drop (3 * RULEVARS * RULES) (t .rule-vars)) (p ++ drop PATTERNS (t .patterns))
+    ≡ laid t T
+laid-longer t T s y i r v p e =
+    ap (λ (u : Tables). tables (u .sorts ++ drop (2 * SORTS) (t .sorts)) (u .symbols ++ drop (4 * SYMBOLS) (t .symbols)) (u .inputs ++ drop (ARGUMENTS * SYMBOLS) (t .inputs))
+    (u .rules ++ drop (6 * RULES) (t .rules)) (u .rule-vars ++ drop (3 * RULEVARS * RULES) (t .rule-vars)) (u .patterns ++ drop PATTERNS (t .patterns))) e
+
+pub longer : (n : ℕ) (ys l : List ℕ) → n ≤ length l → length ys ≡ length (take n l) → length (ys ++ drop n l) ≡ length l
+longer n ys l h e = omega (arith, length-append ys (drop n l), e, length-take-le n l h, length-drop n l)
+
+-- the named lengths of tables that have them at least
+pub exact-fronts : (t : Tables) → Roomy t →
+    Exact (tables (take (2 * SORTS) (t .sorts)) (take (4 * SYMBOLS) (t .symbols)) (take (ARGUMENTS * SYMBOLS) (t .inputs)) (take (6 * RULES) (t .rules))
+    (take (3 * RULEVARS * RULES) (t .rule-vars)) (take PATTERNS (t .patterns)))
+exact-fronts t r =
+    record {
+      sorts = length-take-le (2 * SORTS) (t .sorts) (r .sorts);
+      symbols = length-take-le (4 * SYMBOLS) (t .symbols) (r .symbols);
+      inputs = length-take-le (ARGUMENTS * SYMBOLS) (t .inputs) (r .inputs);
+      rules = length-take-le (6 * RULES) (t .rules) (r .rules);
+      rule-vars = length-take-le (3 * RULEVARS * RULES) (t .rule-vars) (r .rule-vars);
+      patterns = length-take-le PATTERNS (t .patterns) (r .patterns);
+    }

@@ -1,0 +1,56 @@
+-- `kernel::parse::judge` meets its contract. Assumes nothing.
+use mathlib.Core.Path.{_∙_}
+use Rattle.kernel.specs.Parsed.{tables, verdict}
+use Rattle.kernel.proofs.Runs.{run-within, run-laid}
+use borrow.Author.Needs.{needs}
+use Rattle.kernel.proofs.parse.judge.Statement.{statement}
+use Rattle.kernel.proofs.parse.judge.Tie as tie
+
+read-and-declare-requires : tie.Need-read-and-declare-requires
+read-and-declare-requires c κs = (c .before .before .before .before .before .before .before .before .before .before .before .before .before .before .before .pre)
+
+counts-in-requires : tie.Need-counts-in-requires
+counts-in-requires c κs = search needs
+
+wipe-behind-requires : tie.Need-wipe-behind-requires
+wipe-behind-requires c κs = run-within (tables ((c .before .before .before .before .before .before .before .before .before .before .before .before .before .before .before .before .before .before .before .before .before .read-and-declare) .last .1 .1 .0) ((c .before .before .before .before .before .before .before .before .before .before .before .before .before .before .before .before .before .before .before .before .before .read-and-declare) .last .1 .1 .1 .0) ((c .before .before .before .before .before .before .before .before .before .before .before .before .before .before .before .before .before .before .before .before .before .read-and-declare) .last .1 .1 .1 .1 .0) ((c .before .before .before .before .before .before .before .before .before .before .before .before .before .before .before .before .before .before .before .before .before .read-and-declare) .last .1 .1 .1 .1 .1 .0) ((c .before .before .before .before .before .before .before .before .before .before .before .before .before .before .before .before .before .before .before .before .before .read-and-declare) .last .1 .1 .1 .1 .1 .1 .0) ((c .before .before .before .before .before .before .before .before .before .before .before .before .before .before .before .before .before .before .before .before .before .read-and-declare) .last .1 .1 .1 .1 .1 .1 .1 .0)) (verdict ((c .before .before .before .before .before .before .before .before .before .before .before .before .before .before .before .before .before .before .before .before .before .before .before .before .before .before .before .before .before .before .before .before .before .before .before .before .before .args) .text .now)) ((c .before .before .before .before .before .before .before .before .before .before .before .before .before .before .before .before .before .before .before .before .before .read-and-declare) .ensures .0) ((c .counts-in) .ensures)
+
+same-length : tie.Need-same-length
+same-length c = (c .before .before .before .before .before .before .before .before .before .before .before .before .before .before .before .before .before .before .before .before .before .before .before .before .before .before .before .before .before .before .before .before .before .before .read-and-declare) .kept .1 .0
+
+same-length-2 : tie.Need-same-length-2
+same-length-2 c = (c .before .before .before .before .before .before .before .before .before .before .before .before .wipe-behind) .kept .0 ∙ (c .before .before .before .before .before .before .before .before .before .before .before .before .before .before .before .before .before .before .before .before .before .before .before .before .before .before .before .before .before .before .before .before .before .before .read-and-declare) .kept .1 .1 .0
+
+same-length-3 : tie.Need-same-length-3
+same-length-3 c = (c .before .before .before .before .before .before .before .before .before .before .before .before .wipe-behind) .kept .1 .0 ∙ (c .before .before .before .before .before .before .before .before .before .before .before .before .before .before .before .before .before .before .before .before .before .before .before .before .before .before .before .before .before .before .before .before .before .before .read-and-declare) .kept .1 .1 .1 .0
+
+same-length-4 : tie.Need-same-length-4
+same-length-4 c = (c .before .before .before .before .before .before .before .before .before .before .before .before .wipe-behind) .kept .1 .1 .0 ∙ (c .before .before .before .before .before .before .before .before .before .before .before .before .before .before .before .before .before .before .before .before .before .before .before .before .before .before .before .before .before .before .before .before .before .before .read-and-declare) .kept .1 .1 .1 .1 .0
+
+same-length-5 : tie.Need-same-length-5
+same-length-5 c = (c .before .before .before .before .before .before .before .before .before .before .before .before .wipe-behind) .kept .1 .1 .1 .0 ∙ (c .before .before .before .before .before .before .before .before .before .before .before .before .before .before .before .before .before .before .before .before .before .before .before .before .before .before .before .before .before .before .before .before .before .before .read-and-declare) .kept .1 .1 .1 .1 .1 .0
+
+same-length-6 : tie.Need-same-length-6
+same-length-6 c = (c .before .before .before .before .before .before .before .before .before .before .before .before .wipe-behind) .kept .1 .1 .1 .1 .0 ∙ (c .before .before .before .before .before .before .before .before .before .before .before .before .before .before .before .before .before .before .before .before .before .before .before .before .before .before .before .before .before .before .before .before .before .before .read-and-declare) .kept .1 .1 .1 .1 .1 .1 .0
+
+same-length-7 : tie.Need-same-length-7
+same-length-7 c = (c .before .before .before .before .before .before .before .before .before .before .before .before .wipe-behind) .kept .1 .1 .1 .1 .1 .0 ∙ (c .before .before .before .before .before .before .before .before .before .before .before .before .before .before .before .before .before .before .before .before .before .before .before .before .before .before .before .before .before .before .before .before .before .before .read-and-declare) .kept .1 .1 .1 .1 .1 .1 .1 .0
+
+returns : tie.Need-returns
+returns c = ((c .before .before .before .before .before .before .before .before .before .before .before .before .before .before .before .before .before .before .before .before .before .before .before .before .before .before .before .before .before .before .before .before .before .before .read-and-declare) .ensures .0 .answers, (run-laid (tables ((c .before .before .before .before .before .before .before .before .before .before .before .before .before .before .before .before .before .before .before .before .before .before .before .before .before .before .before .before .before .before .before .before .before .before .read-and-declare) .last .1 .1 .0) ((c .before .before .before .before .before .before .before .before .before .before .before .before .before .before .before .before .before .before .before .before .before .before .before .before .before .before .before .before .before .before .before .before .before .before .read-and-declare) .last .1 .1 .1 .0) ((c .before .before .before .before .before .before .before .before .before .before .before .before .before .before .before .before .before .before .before .before .before .before .before .before .before .before .before .before .before .before .before .before .before .before .read-and-declare) .last .1 .1 .1 .1 .0) ((c .before .before .before .before .before .before .before .before .before .before .before .before .before .before .before .before .before .before .before .before .before .before .before .before .before .before .before .before .before .before .before .before .before .before .read-and-declare) .last .1 .1 .1 .1 .1 .0) ((c .before .before .before .before .before .before .before .before .before .before .before .before .before .before .before .before .before .before .before .before .before .before .before .before .before .before .before .before .before .before .before .before .before .before .read-and-declare) .last .1 .1 .1 .1 .1 .1 .0) ((c .before .before .before .before .before .before .before .before .before .before .before .before .before .before .before .before .before .before .before .before .before .before .before .before .before .before .before .before .before .before .before .before .before .before .read-and-declare) .last .1 .1 .1 .1 .1 .1 .1 .0)) (verdict ((c .before .before .before .before .before .before .before .before .before .before .before .before .before .before .before .before .before .before .before .before .before .before .before .before .before .before .before .before .before .before .before .before .before .before .before .before .before .before .before .before .before .before .before .before .before .before .before .before .before .before .args) .text .now)) ((c .before .before .before .before .before .before .before .before .before .before .before .before .before .before .before .before .before .before .before .before .before .before .before .before .before .before .before .before .before .before .before .before .before .before .read-and-declare) .ensures .0) ((c .before .before .before .before .before .before .before .before .before .before .before .before .before .counts-in) .ensures) ((c .before .before .before .before .before .before .before .before .before .before .before .before .wipe-behind) .ensures), (c .before .before .before .before .before .before .before .before .before .before .before .before .before .before .before .before .before .before .before .before .before .before .before .before .before .before .before .before .before .before .before .before .before .before .read-and-declare) .ensures .1))
+
+pub judge-spec : {M : Type 1} → statement M
+judge-spec =
+    tie.close
+    (tie.spec
+    read-and-declare-requires
+    counts-in-requires
+    wipe-behind-requires
+    same-length
+    same-length-2
+    same-length-3
+    same-length-4
+    same-length-5
+    same-length-6
+    same-length-7
+    returns)
