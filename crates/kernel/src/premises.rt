@@ -1,6 +1,4 @@
 // The premises of a rule: the judgments that the items of a list spell, one behind the other.
-ghost use mathlib.Core.Path.{_≡_};
-ghost use Prim.Native.Nat.{ℕ};
 ghost use lib.ListN.{length};
 ghost use Rattle.rules.specs.Sexp.{Sexps};
 ghost use Rattle.rules.specs.Theory.{Theory};

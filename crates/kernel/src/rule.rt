@@ -1,6 +1,6 @@
 // Rules: the premises and the conclusion of a declaration, and the rows that are stored when all of it is taken.
 ghost use mathlib.Core.Path.{_≡_};
-ghost use Prim.Native.Nat.{ℕ, _<_};
+ghost use Prim.Native.Nat.{ℕ};
 ghost use mathlib.Core.List.{List};
 ghost use lib.ListN.{length};
 ghost use Rattle.rules.specs.Sexp.{Sexps, list, item, count as items};
