@@ -1,17 +1,15 @@
 -- Cells of pairs and of bindings against the definition of unification: pairs put onto those that wait, the replacement that bindings
 -- stand for, and that trees made later change neither. Assumes nothing.
-use mathlib.Core.Path.{_≡_, refl, sym, ap, _∙_, subst}
+use mathlib.Core.Path.{_≡_, refl, sym, ap, _∙_}
 use mathlib.Core.Bool.{Bool, true, false}
 use mathlib.Core.List.{List, [], _∷_, _++_}
-use Prim.Native.Nat.{ℕ, zero, suc, _+_, _-_, _*_, _≤_, _<_, suc-le-suc}
+use Prim.Native.Nat.{ℕ, zero, suc, _+_, _-_, _*_, _≤_, _<_}
 use native.Mathlib.Omega.{arith}
-use native.Mathlib.Numerals.{add-one}
-use native.Mathlib.Nat.{zero-lt-suc}
-use lib.ListN.{length, getD, take, drop, set, length-set, length-drop}
+use lib.ListN.{length, getD, drop, set, length-set, length-drop}
 use lib.Seq.{take-suc, getD-drop, getD-set-same, getD-set-other}
 use lib.Dec.{eqb}
 use borrow.Author.Tests.{eq-eqb, ne-eqb, eqb-false}
-use Rattle.rules.specs.Tree.{Tree, Trees, var, none, more}
+use Rattle.rules.specs.Tree.{var}
 use Rattle.rules.specs.Store.{Made}
 use Rattle.rules.specs.Unify.{Binding, Pair, along, push}
 use Rattle.terms.specs.declared.store.Mark.{Mark}

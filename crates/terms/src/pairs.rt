@@ -26,10 +26,10 @@ fn bind(index: &[u32], words: &[u32], mark: Mark, x: usize, id: usize, seen: &mu
     ensures { λ r. ⌜ Answered (now (index .entry)) (now (words .entry)) mark (bindOrClash x (tree (now (index .entry)) (now (words .entry)) mark id)) r ⌝ }
     ensures { λ _. ⌜ now (seen .exit) ≡ now (seen .entry) ⌝ }
 {
-    if occurs(index, words, mark, id, x, seen) {
-        return Asks::Clash;
+    if !occurs(index, words, mark, id, x, seen) {
+        return Asks::Binds(x, id);
     }
-    Asks::Binds(x, id)
+    Asks::Clash
 }
 
 // What the terms `s` and `t` ask for. `seen` is scratch: zero before and after.

@@ -14,71 +14,67 @@ use Rattle.terms.proofs.peel.onward.Reads as onward-reads
 sub-left : tie.Need-sub-left
 sub-left c = search needs
 
--- src/peel.rt:113:19
+-- src/peel.rt:113:14
+mul-at : tie.Need-mul-at
+mul-at c = search needs
+
+-- src/peel.rt:114:13
 mul-s : tie.Need-mul-s
 mul-s c = search needs
 
--- src/peel.rt:113:13
-mul-s-2 : tie.Need-mul-s-2
-mul-s-2 c = search needs
-
--- src/peel.rt:113:13
+-- src/peel.rt:114:13
 slice-read-s : tie.Need-slice-read-s
 slice-read-s c = search needs
 
--- src/peel.rt:113:13
+-- src/peel.rt:114:13
 cast-s : tie.Need-cast-s
 cast-s c = omega (arith, (c .slice-known6) .given (2 * ((c .before .before .before .before .before .before .before .args) .waiting - 1)))
 
--- src/peel.rt:114:19
-mul-t : tie.Need-mul-t
-mul-t c = search needs
-
--- src/peel.rt:114:19
+-- src/peel.rt:115:19
 add-t : tie.Need-add-t
 add-t c = search needs
 
--- src/peel.rt:114:13
-mul-t-2 : tie.Need-mul-t-2
-mul-t-2 c = search needs
+-- src/peel.rt:115:13
+mul-t : tie.Need-mul-t
+mul-t c = search needs
 
--- src/peel.rt:114:13
+-- src/peel.rt:115:13
 slice-read-t : tie.Need-slice-read-t
 slice-read-t c = search needs
 
--- src/peel.rt:114:13
+-- src/peel.rt:115:13
 cast-t : tie.Need-cast-t
 cast-t c = omega (arith, (c .slice-known7) .given (2 * ((c .before .before .before .before .before .before .before .before .args) .waiting - 1) + 1))
 
--- src/peel.rt:115:11
+-- src/peel.rt:116:11
 both-under-requires : tie.Need-both-under-requires
 both-under-requires c κs = pair-sideable _ _ _ _ _ _ ((c .before .before .before .before .before .before .before .before .before .before .before .args) .seen .now) _ (c .before .before .before .before .before .before .before .before .before .before .before .pre)
 
--- src/peel.rt:116:21
+-- src/peel.rt:117:21
 enum-known-row : tie.Need-enum-known-row
 enum-known-row c = search needs
 
--- src/peel.rt:117:21
+-- src/peel.rt:118:21
 enum-known-a : tie.Need-enum-known-a
 enum-known-a c = search needs
 
--- src/peel.rt:117:41
+-- src/peel.rt:118:41
 onward-requires : tie.Need-onward-requires
 onward-requires c κs = pair-lookable _ _ _ _ _ _ _ _ (c .before .before .before .before .before .before .before .before .before .before .before .before .before .before .before .before .before .before .before .before .before .before .before .before .before .pre) _ _ ((c .before .before .before .before .before .before .before .before .before .before .before .before .before .both-under) .last .1 .1 .1 .1 .0) ((c .before .before .before .before .before .before .before .before .before .before .before .before .before .both-under) .result) ((c .before .before .before .before .before .before .before .before .before .before .before .before .before .both-under) .ensures) _ _ _ ((c .before .before .before .before .before .a) .given .1)
 
--- src/peel.rt:118:24
+-- src/peel.rt:119:24
 enum-known-more : tie.Need-enum-known-more
 enum-known-more c = search needs
 
--- src/peel.rt:119:28
+-- src/peel.rt:120:28
 enum-told : tie.Need-enum-told
 enum-told c = search needs
 
--- src/peel.rt:120:25
+-- src/peel.rt:121:25
 enum-known-x : tie.Need-enum-known-x
 enum-known-x c = search needs
 
--- src/peel.rt:121:28
+-- src/peel.rt:122:28
 enum-told-2 : tie.Need-enum-told-2
 enum-told-2 c = search needs
 
@@ -144,7 +140,7 @@ same-length-13 c = search needs
 
 -- src/peel.rt:98:1
 returns-3 : tie.Need-returns-3
-returns-3 c = (pair-clash _ _ _ _ _ _ ((c .before .before .before .before .before .before .before .before .before .before .before .before .before .before .before .before .before .before .before .before .before .before .before .before .before .before .before .before .before .before .before .before .args) .seen .now) _ (c .before .before .before .before .before .before .before .before .before .before .before .before .before .before .before .before .before .before .before .before .before .before .before .before .before .before .before .before .before .before .before .before .pre) _ _ ((c .before .before .before .before .before .before .before .before .before .before .before .before .before .before .before .before .before .before .before .before .both-under) .last .1 .1 .1 .1 .0) ((c .before .before .before .before .before .before .before .before .before .before .before .before .before .before .before .before .before .before .before .before .both-under) .result) ((c .before .before .before .before .before .before .before .before .before .before .before .before .before .before .before .before .before .before .before .before .both-under) .ensures) _ _ _ ((c .before .before .before .before .before .before .before .before .before .before .before .before .a) .given .1) ((c .before .before .before .before .before .before .onward) .last .1 .1 .1 .1 .1 .0) ((c .before .before .before .before .before .before .onward) .result) ((c .before .before .before .before .before .before .onward) .ensures .0) ((c .enum-told) .given .1), (c .before .before .before .before .before .before .onward) .ensures .1)
+returns-3 c = (pair-clash _ _ _ _ _ _ ((c .before .before .before .before .before .before .before .before .before .before .before .before .before .before .before .before .before .before .before .before .before .before .before .before .before .before .before .before .before .before .before .before .args) .seen .now) _ (c .before .before .before .before .before .before .before .before .before .before .before .before .before .before .before .before .before .before .before .before .before .before .before .before .before .before .before .before .before .before .before .before .pre) _ _ ((c .before .before .before .before .before .before .before .before .before .before .before .before .before .before .before .before .before .before .before .before .both-under) .last .1 .1 .1 .1 .0) ((c .before .before .before .before .before .before .before .before .before .before .before .before .before .before .before .before .before .before .before .before .both-under) .result) ((c .before .before .before .before .before .before .before .before .before .before .before .before .before .before .before .before .before .before .before .before .both-under) .ensures) _ _ _ ((c .before .before .before .before .before .before .before .before .before .before .before .before .a) .given .1) ((c .before .before .before .before .before .before .onward) .last .1 .1 .1 .1 .1 .0) ((c .before .before .before .before .before .before .onward) .result) ((c .before .before .before .before .before .before .onward) .ensures .0) ((c .before .before .before .before .before .before .before .before .before .before .before .before .before .before .before .before .before .before .before .before .both-under) .kept .1 .1 .1 .1 .0) ((c .enum-told) .given .1), (c .before .before .before .before .before .before .onward) .ensures .1)
 
 -- src/peel.rt:98:1
 same-length-14 : tie.Need-same-length-14
@@ -168,7 +164,7 @@ same-length-18 c = search needs
 
 -- src/peel.rt:98:1
 returns-4 : tie.Need-returns-4
-returns-4 c = (pair-binds _ _ _ _ _ _ ((c .before .before .before .before .before .before .before .before .before .before .before .before .before .before .before .before .before .before .before .before .before .before .before .before .before .before .before .before .before .before .before .before .before .args) .seen .now) _ (c .before .before .before .before .before .before .before .before .before .before .before .before .before .before .before .before .before .before .before .before .before .before .before .before .before .before .before .before .before .before .before .before .before .pre) _ _ ((c .before .before .before .before .before .before .before .before .before .before .before .before .before .before .before .before .before .before .before .before .before .both-under) .last .1 .1 .1 .1 .0) ((c .before .before .before .before .before .before .before .before .before .before .before .before .before .before .before .before .before .before .before .before .before .both-under) .result) ((c .before .before .before .before .before .before .before .before .before .before .before .before .before .before .before .before .before .before .before .before .before .both-under) .ensures) _ _ _ ((c .before .before .before .before .before .before .before .before .before .before .before .before .before .a) .given .1) ((c .before .before .before .before .before .before .before .onward) .last .1 .1 .1 .1 .1 .0) ((c .before .before .before .before .before .before .before .onward) .result) ((c .before .before .before .before .before .before .before .onward) .ensures .0) _ _ ((c .before .x) .given .1), (c .before .before .before .before .before .before .before .onward) .ensures .1)
+returns-4 c = (pair-binds _ _ _ _ _ _ ((c .before .before .before .before .before .before .before .before .before .before .before .before .before .before .before .before .before .before .before .before .before .before .before .before .before .before .before .before .before .before .before .before .before .args) .seen .now) _ (c .before .before .before .before .before .before .before .before .before .before .before .before .before .before .before .before .before .before .before .before .before .before .before .before .before .before .before .before .before .before .before .before .before .pre) _ _ ((c .before .before .before .before .before .before .before .before .before .before .before .before .before .before .before .before .before .before .before .before .before .both-under) .last .1 .1 .1 .1 .0) ((c .before .before .before .before .before .before .before .before .before .before .before .before .before .before .before .before .before .before .before .before .before .both-under) .result) ((c .before .before .before .before .before .before .before .before .before .before .before .before .before .before .before .before .before .before .before .before .before .both-under) .ensures) _ _ _ ((c .before .before .before .before .before .before .before .before .before .before .before .before .before .a) .given .1) ((c .before .before .before .before .before .before .before .onward) .last .1 .1 .1 .1 .1 .0) ((c .before .before .before .before .before .before .before .onward) .result) ((c .before .before .before .before .before .before .before .onward) .ensures .0) ((c .before .before .before .before .before .before .before .before .before .before .before .before .before .before .before .before .before .before .before .before .before .both-under) .kept .1 .1 .1 .1 .0) _ _ ((c .before .x) .given .1), (c .before .before .before .before .before .before .before .onward) .ensures .1)
 
 -- src/peel.rt:98:1
 same-length-19 : tie.Need-same-length-19
@@ -199,13 +195,12 @@ take-pair-spec =
     tie.close
     (tie.spec
     sub-left
+    mul-at
     mul-s
-    mul-s-2
     slice-read-s
     cast-s
-    mul-t
     add-t
-    mul-t-2
+    mul-t
     slice-read-t
     cast-t
     both-under-requires
