@@ -1,19 +1,19 @@
 -- Pairs are taken until one binds a variable: the loop against the definition, whose number of steps bounds what the pairs weigh. Assumes
 -- nothing.
 use mathlib.Core.Path.{_≡_, refl, sym, ap, _∙_, subst}
-use mathlib.Core.List.{List, [], _∷_}
-use Prim.Native.Nat.{ℕ, zero, suc, _+_, _-_, _≤_, _<_}
+use mathlib.Core.List.{List}
+use Prim.Native.Nat.{ℕ, suc, _-_, _≤_, _<_}
 use native.Mathlib.Omega.{arith}
-use lib.ListN.{length, getD}
-use Rattle.rules.specs.Out.{Out, ok, refuse}
+use lib.ListN.{length}
+use Rattle.rules.specs.Out.{Out}
 use Rattle.rules.specs.Store.{Made}
-use Rattle.rules.specs.Unify.{Found, finished, clashed, bound, peel, weight}
+use Rattle.rules.specs.Unify.{Found, peel}
 use Rattle.terms.specs.declared.store.Mark.{Mark}
 use Rattle.terms.specs.declared.peel.Turn.{Turn}
 use Rattle.terms.specs.declared.peel.Turn.the-variants.{More, Clash, Binds, Full}
-use Rattle.terms.specs.Table.{made, Good, Grown, Refused}
+use Rattle.terms.specs.Table.{Grown, Refused}
 use Rattle.terms.specs.Pairs.{waits}
-use Rattle.terms.specs.Peel.{thetaOf, Peelable, weighs, peels, Lighter, Clashes, BindsOne, Turned, Finishes}
+use Rattle.terms.specs.Peel.{Peelable, weighs, peels, Lighter, Clashes, BindsOne, Turned, Finishes}
 use Rattle.terms.proofs.Tables.{length-trees}
 use Rattle.terms.proofs.Sames.{grown-self, grown-then}
 

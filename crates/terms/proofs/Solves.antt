@@ -2,17 +2,17 @@
 use mathlib.Core.Path.{_≡_, refl, sym, ap, _∙_, subst}
 use mathlib.Core.Logic.{inl, inr}
 use mathlib.Core.Bool.{Bool, true, false}
-use mathlib.Core.Option.{Option, some, none as nothing}
+use mathlib.Core.Option.{Option, some}
 use mathlib.Core.List.{List, [], _∷_, _++_}
-use Prim.Native.Nat.{ℕ, zero, suc, _+_, _-_, _*_, _≤_, _<_}
+use Prim.Native.Nat.{ℕ, zero, suc, _+_, _-_}
 use native.Mathlib.Omega.{arith}
 use native.Mathlib.Decide.{ℕ-discrete}
 use lib.ListN.{length, getD, take, drop, replicate, length-drop, replicate-append-replicate}
 use lib.Seq.{length-take-le, getD-drop}
 use lib.Dec.{eqb}
 use borrow.Author.Tests.{eqb-true}
-use Rattle.rules.specs.Limits.{VARIABLES, TERMS, PAIRS}
-use Rattle.rules.specs.Out.{Out, ok, refuse, then}
+use Rattle.rules.specs.Limits.{VARIABLES}
+use Rattle.rules.specs.Out.{Out, ok, then}
 use Rattle.rules.specs.Tree.{Tree, var}
 use Rattle.rules.specs.Store.{Made}
 use Rattle.rules.specs.Unify.{Binding, Pair, insert, replace, Found, finished, clashed, bound, weight, outcome, solve}
@@ -27,11 +27,11 @@ use Rattle.terms.specs.declared.theta.Grew.{Grew}
 use Rattle.terms.specs.declared.theta.Grew.the-variants.{Ok, Full as NoRoom}
 use Rattle.terms.specs.declared.peel.Peeled.{Peeled}
 use Rattle.terms.specs.declared.peel.Peeled.the-variants.{Finished, Clash, Binds, Full}
-use Rattle.terms.specs.Table.{made, Good, Grown, Refused}
+use Rattle.terms.specs.Table.{made, Refused}
 use Rattle.terms.specs.Collect.{tree}
-use Rattle.terms.specs.Theta.{bindings, Theta, Zeros, Extendable, Bound, Extended}
+use Rattle.terms.specs.Theta.{bindings, Theta, Extendable, Bound, Extended}
 use Rattle.terms.specs.Unify.{Solved, Unsolved}
-use Rattle.terms.specs.Peel.{thetaOf, pairsOf, Own, Peelable, weighs, peels, Results, Clashes, BindsOne, Finishes, PeeledAs, Solvable, solves, BoundMore}
+use Rattle.terms.specs.Peel.{thetaOf, pairsOf, Own, weighs, peels, Results, Clashes, BindsOne, Finishes, PeeledAs, Solvable, solves, BoundMore}
 use Rattle.terms.proofs.Sames.{grown-then}
 use Rattle.terms.proofs.Fresh.{getD-zeros}
 use Rattle.terms.proofs.Turns.{theta-grown, pairs-grown, cells-grown}

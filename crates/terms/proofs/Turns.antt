@@ -1,15 +1,15 @@
 -- One pair is taken: the definition's step, the terms that are compared, and that what is left weighs less. Assumes nothing.
-use mathlib.Core.Path.{_≡_, refl, sym, ap, _∙_, subst}
-use mathlib.Core.Bool.{Bool, true, false}
-use mathlib.Core.List.{List, [], _∷_}
-use Prim.Native.Nat.{ℕ, zero, suc, _+_, _-_, _*_, _≤_, _<_}
+use mathlib.Core.Path.{_≡_, sym, ap, _∙_, subst}
+use mathlib.Core.Bool.{true}
+use mathlib.Core.List.{List, _∷_}
+use Prim.Native.Nat.{ℕ, suc, _+_, _-_, _*_, _<_}
 use native.Mathlib.Omega.{arith}
 use lib.ListN.{length, getD}
-use Rattle.rules.specs.Limits.{VARIABLES, TERMS, PAIRS}
-use Rattle.rules.specs.Out.{Out, ok, refuse, then}
-use Rattle.rules.specs.Tree.{Tree, Trees, var, app, sub, variables, countTrees, size}
-use Rattle.rules.specs.Store.{Made, substitute}
-use Rattle.rules.specs.Unify.{Binding, Pair, along, Look, agree, clash, parts, look, push, Found, clashed, bound, onward, peel, weight}
+use Rattle.rules.specs.Limits.{VARIABLES}
+use Rattle.rules.specs.Out.{then}
+use Rattle.rules.specs.Tree.{Tree, Trees, app, sub, variables, countTrees, size}
+use Rattle.rules.specs.Store.{substitute}
+use Rattle.rules.specs.Unify.{Binding, Pair, along, Look, parts, look, push, Found, bound, onward, peel, weight}
 use Rattle.meaning.specs.Trees.Tree.{Occ, size-pos}
 use Rattle.meaning.specs.Trees.Tests.{variables-true}
 use Rattle.meaning.specs.Unification.List.{Settled}
@@ -22,9 +22,9 @@ use Rattle.terms.specs.declared.peel.Next.{Next}
 use Rattle.terms.specs.declared.peel.Next.the-variants as next
 use Rattle.terms.specs.Table.{made, Good, Grown, Refused}
 use Rattle.terms.specs.Collect.{tree}
-use Rattle.terms.specs.Subst.{replacement, Knows, substituted, Ready}
-use Rattle.terms.specs.Pairs.{waits, Searchable, BindsTo}
-use Rattle.terms.specs.Theta.{bindings, Theta}
+use Rattle.terms.specs.Subst.{Knows}
+use Rattle.terms.specs.Pairs.{waits}
+use Rattle.terms.specs.Theta.{Theta}
 use Rattle.terms.specs.Peel.{thetaOf, pairsOf, Own, Sideable, sided, BothSides, NoSides, Sided, Lookable, Onto, same, more, OntoPairs, Crowded, BindsHere, Looked}
 use Rattle.terms.specs.Peel.{Peelable, weighs, peels, Lighter, Results, Clashes, BindsOne}
 use Rattle.terms.proofs.Tables.{length-trees}

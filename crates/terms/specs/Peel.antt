@@ -2,12 +2,12 @@
 -- bind one variable after the other. Assumes nothing.
 use mathlib.Core.Path.{_≡_}
 use Prim.Native.Nat.{ℕ, suc, _+_, _*_, _≤_, _<_}
-use mathlib.Core.Option.{Option, some, none as nothing}
+use mathlib.Core.Option.{Option}
 use mathlib.Core.List.{List}
 use lib.ListN.{length, getD}
 use Rattle.rules.specs.Limits.{VARIABLES, TERMS, PAIRS}
 use Rattle.rules.specs.Out.{Out, ok, refuse, then}
-use Rattle.rules.specs.Tree.{Tree, Trees, sub, countTrees}
+use Rattle.rules.specs.Tree.{Tree, Trees, countTrees}
 use Rattle.rules.specs.Store.{Made, substitute}
 use Rattle.rules.specs.Unify.{Binding, Pair, Look, agree, clash, parts, push, Found, finished, clashed, bound, peel, weight, solve}
 use Rattle.meaning.specs.Unification.List.{Settled}

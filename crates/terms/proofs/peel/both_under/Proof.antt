@@ -4,7 +4,6 @@ use Rattle.terms.proofs.peel.both_under.Statement.{statement}
 use Rattle.terms.proofs.peel.both_under.Tie as tie
 use Rattle.terms.proofs.peel.both_under.Reads as reads
 use Rattle.terms.proofs.peel.both_under.Lts as lts
-use Rattle.terms.proofs.substitute.replace.Reads as replace-reads
 
 -- src/peel.rt:59:11
 replace-requires : tie.Need-replace-requires
