@@ -60,27 +60,27 @@ enum-known-row-2 c = search needs
 
 -- src/unify.rt:42:1
 same-length : tie.Need-same-length
-same-length c = search needs
+same-length c = (c .before .before .before .before .before .before .before .before .before .before .before .before .before .before .before .before .before .peel) .kept .0
 
 -- src/unify.rt:42:1
 same-length-2 : tie.Need-same-length-2
-same-length-2 c = search needs
+same-length-2 c = (c .before .before .before .before .before .before .before .before .before .before .before .before .before .before .before .before .before .peel) .kept .1 .0
 
 -- src/unify.rt:42:1
 same-length-3 : tie.Need-same-length-3
-same-length-3 c = search needs
+same-length-3 c = refl
 
 -- src/unify.rt:42:1
 same-length-4 : tie.Need-same-length-4
-same-length-4 c = search needs
+same-length-4 c = (c .before .before .clear) .kept .0 ∙ (c .before .before .before .before .before .before .before .before .before .before .before .before .before .before .before .before .before .peel) .kept .1 .1 .1 .1 .0
 
 -- src/unify.rt:42:1
 same-length-5 : tie.Need-same-length-5
-same-length-5 c = search needs
+same-length-5 c = (c .before .before .before .before .before .before .before .before .before .before .before .before .before .before .before .before .before .peel) .kept .1 .1 .1 .1 .1 .0
 
 -- src/unify.rt:42:1
 same-length-6 : tie.Need-same-length-6
-same-length-6 c = search needs
+same-length-6 c = (c .before .before .before .before .before .before .before .before .before .before .before .before .before .before .before .before .before .peel) .kept .1 .1 .1 .1 .1 .1 .0
 
 -- src/unify.rt:42:1
 returns : tie.Need-returns
@@ -88,27 +88,27 @@ returns c = (round-found _ _ _ _ _ _ _ _ _ (c .before .before .before .before .b
 
 -- src/unify.rt:42:1
 same-length-7 : tie.Need-same-length-7
-same-length-7 c = search needs
+same-length-7 c = (c .before .before .before .before .before .before .before .before .before .before .before .before .before .before .before .before .before .peel) .kept .0
 
 -- src/unify.rt:42:1
 same-length-8 : tie.Need-same-length-8
-same-length-8 c = search needs
+same-length-8 c = (c .before .before .before .before .before .before .before .before .before .before .before .before .before .before .before .before .before .peel) .kept .1 .0
 
 -- src/unify.rt:42:1
 same-length-9 : tie.Need-same-length-9
-same-length-9 c = search needs
+same-length-9 c = refl
 
 -- src/unify.rt:42:1
 same-length-10 : tie.Need-same-length-10
-same-length-10 c = search needs
+same-length-10 c = (c .before .before .clear2) .kept .0 ∙ (c .before .before .before .before .before .before .before .before .before .before .before .before .before .before .before .before .before .peel) .kept .1 .1 .1 .1 .0
 
 -- src/unify.rt:42:1
 same-length-11 : tie.Need-same-length-11
-same-length-11 c = search needs
+same-length-11 c = (c .before .before .before .before .before .before .before .before .before .before .before .before .before .before .before .before .before .peel) .kept .1 .1 .1 .1 .1 .0
 
 -- src/unify.rt:42:1
 same-length-12 : tie.Need-same-length-12
-same-length-12 c = search needs
+same-length-12 c = (c .before .before .before .before .before .before .before .before .before .before .before .before .before .before .before .before .before .peel) .kept .1 .1 .1 .1 .1 .1 .0
 
 -- src/unify.rt:42:1
 returns-2 : tie.Need-returns-2
@@ -116,27 +116,27 @@ returns-2 c = (round-apart _ _ _ _ _ _ _ _ _ (c .before .before .before .before 
 
 -- src/unify.rt:42:1
 same-length-13 : tie.Need-same-length-13
-same-length-13 c = search needs
+same-length-13 c = (c .before .before .before .before .before .before .before .before .before .before .before .before .before .before .before .before .before .peel) .kept .0
 
 -- src/unify.rt:42:1
 same-length-14 : tie.Need-same-length-14
-same-length-14 c = search needs
+same-length-14 c = (c .before .before .before .before .before .before .before .before .before .before .before .before .before .before .before .before .before .peel) .kept .1 .0
 
 -- src/unify.rt:42:1
 same-length-15 : tie.Need-same-length-15
-same-length-15 c = search needs
+same-length-15 c = refl
 
 -- src/unify.rt:42:1
 same-length-16 : tie.Need-same-length-16
-same-length-16 c = search needs
+same-length-16 c = (c .before .before .wipe) .kept .0 ∙ (c .before .before .before .before .before .before .before .before .before .before .before .before .before .before .before .before .before .peel) .kept .1 .1 .1 .1 .0
 
 -- src/unify.rt:42:1
 same-length-17 : tie.Need-same-length-17
-same-length-17 c = search needs
+same-length-17 c = (c .before .before .before .before .before .before .before .before .before .before .before .before .before .before .before .before .before .peel) .kept .1 .1 .1 .1 .1 .0
 
 -- src/unify.rt:42:1
 same-length-18 : tie.Need-same-length-18
-same-length-18 c = search needs
+same-length-18 c = (c .before .before .before .before .before .before .before .before .before .before .before .before .before .before .before .before .before .peel) .kept .1 .1 .1 .1 .1 .1 .0
 
 -- src/unify.rt:42:1
 returns-3 : tie.Need-returns-3
@@ -152,11 +152,11 @@ same-length-20 c = (c .before .before .before .before .before .before .before .b
 
 -- src/unify.rt:42:1
 same-length-21 : tie.Need-same-length-21
-same-length-21 c = search needs
+same-length-21 c = (c .before .before .before .before .before .before .before .before .before .before .before .before .before .extend) .kept .1 .1 .1 .0
 
 -- src/unify.rt:42:1
 same-length-22 : tie.Need-same-length-22
-same-length-22 c = search needs
+same-length-22 c = (c .before .before .before .before .before .before .before .before .before .before .before .before .before .extend) .kept .1 .1 .1 .1 .0
 
 -- src/unify.rt:42:1
 same-length-23 : tie.Need-same-length-23
@@ -164,11 +164,11 @@ same-length-23 c = (c .before .before .before .before .before .before .before .b
 
 -- src/unify.rt:42:1
 same-length-24 : tie.Need-same-length-24
-same-length-24 c = search needs
+same-length-24 c = (c .before .before .before .before .before .before .before .before .before .before .before .before .before .before .before .before .before .before .before .before .before .before .before .before .before .before .before .before .before .before .before .before .before .before .before .before .peel) .kept .1 .1 .1 .1 .1 .0
 
 -- src/unify.rt:42:1
 same-length-25 : tie.Need-same-length-25
-same-length-25 c = search needs
+same-length-25 c = (c .before .before .before .before .before .before .before .before .before .before .before .before .before .before .before .before .before .before .before .before .before .before .before .before .before .before .before .before .before .before .before .before .before .before .before .before .peel) .kept .1 .1 .1 .1 .1 .1 .0
 
 -- src/unify.rt:42:1
 returns-4 : tie.Need-returns-4
@@ -184,11 +184,11 @@ same-length-27 c = (c .before .before .before .before .before .before .before .b
 
 -- src/unify.rt:42:1
 same-length-28 : tie.Need-same-length-28
-same-length-28 c = search needs
+same-length-28 c = (c .before .before .before .before .before .before .before .before .before .before .before .before .before .extend) .kept .1 .1 .1 .0
 
 -- src/unify.rt:42:1
 same-length-29 : tie.Need-same-length-29
-same-length-29 c = search needs
+same-length-29 c = (c .before .before .before .before .before .before .before .before .before .before .before .before .before .extend) .kept .1 .1 .1 .1 .0
 
 -- src/unify.rt:42:1
 same-length-30 : tie.Need-same-length-30
@@ -196,11 +196,11 @@ same-length-30 c = (c .before .before .before .before .before .before .before .b
 
 -- src/unify.rt:42:1
 same-length-31 : tie.Need-same-length-31
-same-length-31 c = search needs
+same-length-31 c = (c .before .before .before .before .before .before .before .before .before .before .before .before .before .before .before .before .before .before .before .before .before .before .before .before .before .before .before .before .before .before .before .before .before .before .before .before .peel) .kept .1 .1 .1 .1 .1 .0
 
 -- src/unify.rt:42:1
 same-length-32 : tie.Need-same-length-32
-same-length-32 c = search needs
+same-length-32 c = (c .before .before .before .before .before .before .before .before .before .before .before .before .before .before .before .before .before .before .before .before .before .before .before .before .before .before .before .before .before .before .before .before .before .before .before .before .peel) .kept .1 .1 .1 .1 .1 .1 .0
 
 -- src/unify.rt:42:1
 returns-5 : tie.Need-returns-5
