@@ -1,7 +1,7 @@
 -- What two terms ask for is done: nothing, or their arguments come onto the pairs that wait. Assumes nothing.
 use mathlib.Core.Path.{_≡_, refl, sym, ap, _∙_, subst}
-use mathlib.Core.Bool.{Bool, true, false}
-use mathlib.Core.List.{List, [], _∷_}
+use mathlib.Core.Bool.{Bool}
+use mathlib.Core.List.{List}
 use Prim.Native.Nat.{ℕ, zero, suc, _+_, _*_, _≤_, _<_}
 use native.Mathlib.Omega.{arith}
 use native.Mathlib.Decide.{ℕ-discrete}
@@ -17,9 +17,9 @@ use Rattle.rules.specs.Unify.{Pair, Look, agree, clash, binds, parts, push, Fou
 use Rattle.terms.specs.declared.store.Mark.{Mark}
 use Rattle.terms.specs.declared.pairs.Asks.{Asks}
 use Rattle.terms.specs.declared.pairs.Asks.the-variants.{Nothing, Clash, Binds, Parts}
-use Rattle.terms.specs.Table.{run, argsOf, made, Good}
-use Rattle.terms.specs.Pairs.{PartsAt, BindsTo, Answered, waits, piled}
-use Rattle.terms.specs.Peel.{Lookable, Onto, same, more, OntoPairs, Crowded, BindsHere}
+use Rattle.terms.specs.Table.{run, argsOf, made}
+use Rattle.terms.specs.Pairs.{PartsAt, Answered, waits, piled}
+use Rattle.terms.specs.Peel.{Lookable, same, more, OntoPairs, Crowded, BindsHere}
 use Rattle.terms.proofs.Words.{run-length}
 use Rattle.terms.proofs.Tables.{args-count}
 use Rattle.terms.proofs.Waits.{waits-piled, length-piled}

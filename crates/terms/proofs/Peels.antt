@@ -1,19 +1,20 @@
 -- Pairs are taken until one binds a variable: the loop against the definition, whose number of steps bounds what the pairs weigh. Assumes
 -- nothing.
 use mathlib.Core.Path.{_≡_, refl, sym, ap, _∙_, subst}
-use mathlib.Core.List.{List, [], _∷_}
-use Prim.Native.Nat.{ℕ, zero, suc, _+_, _-_, _≤_, _<_}
+use mathlib.Core.List.{List}
+use Prim.Native.Nat.{ℕ, suc, _-_, _≤_, _<_}
 use native.Mathlib.Omega.{arith}
-use lib.ListN.{length, getD}
-use Rattle.rules.specs.Out.{Out, ok, refuse}
+use lib.ListN.{length}
+use Rattle.rules.specs.Out.{Out}
 use Rattle.rules.specs.Store.{Made}
-use Rattle.rules.specs.Unify.{Found, finished, clashed, bound, peel, weight}
+use Rattle.rules.specs.Unify.{Found, peel}
 use Rattle.terms.specs.declared.store.Mark.{Mark}
 use Rattle.terms.specs.declared.peel.Turn.{Turn}
 use Rattle.terms.specs.declared.peel.Turn.the-variants.{More, Clash, Binds, Full}
-use Rattle.terms.specs.Table.{made, Good, Grown, Refused}
+use Rattle.terms.specs.Table.{Grown, Refused}
 use Rattle.terms.specs.Pairs.{waits}
-use Rattle.terms.specs.Peel.{thetaOf, Peelable, weighs, peels, Lighter, Clashes, BindsOne, Turned, Finishes}
+use Rattle.terms.specs.Peel.{Peelable, weighs, peels, Lighter, Clashes, BindsOne, Turned, Finishes}
+use Rattle.terms.proofs.Tables.{length-trees}
 use Rattle.terms.proofs.Sames.{grown-self, grown-then}
 
 -- the pairs that wait now say what is left, with more steps than they weigh
@@ -38,26 +39,34 @@ module _ (I W : List ℕ) (old : Mark) (theta memo P seen : List ℕ) (w : ℕ) 
   pub peeling-asks : (v ≡ 0 → ⊥) → Peelable J X m theta memo′ P′ seen′ v × (0 < v)
   peeling-asks n = (l .peelable, omega arith)
 
-  pub peeling-ends : v ≡ 0 → Finishes I W J X old K m
+  pub peeling-ends : v ≡ 0 → Finishes I W J X old memo′ K m
   unfolding peel waits
-  peeling-ends e = record { grown = l .grown; makes = l .left ∙ ap (λ (i : ℕ). peels (suc (l .steps)) J X m theta P′ i) e }
+  peeling-ends e =
+      let a = l .peelable .memos in
+      let b = l .peelable .good .room in
+      let c = length-trees J X (m .terms) in
+      record {
+        grown = l .grown;
+        makes = l .left ∙ ap (λ (i : ℕ). peels (suc (l .steps)) J X m theta P′ i) e;
+        results = record { inside = omega arith; below = λ i h. let d = l .peelable .knows i h .old in omega arith };
+      }
 
   module _ (G Y memo″ P″ : List ℕ) (r : Turn) (d : Turned J X G Y m theta memo″ P′ P″ seen′ v r) where
-    pub peeling-clash : (new : Mark) → r ≡ Clash new → Clashes I W G Y old K new
+    pub peeling-clash : (new : Mark) → r ≡ Clash new → Clashes I W G Y old memo″ K new
     peeling-clash new e =
-        let f : (k : ℕ) → Clashes J X G Y m (peels (suc k) J X m theta P′ v) new = subst (Turned J X G Y m theta memo″ P′ P″ seen′ v) e d in
-        record { grown = grown-then I W J X G Y old m new (l .grown) (f 0 .grown); makes = l .left ∙ f (l .steps) .makes }
+        let f : (k : ℕ) → Clashes J X G Y m memo″ (peels (suc k) J X m theta P′ v) new = subst (Turned J X G Y m theta memo″ P′ P″ seen′ v) e d in
+        record { grown = grown-then I W J X G Y old m new (l .grown) (f 0 .grown); makes = l .left ∙ f (l .steps) .makes; results = f 0 .results }
 
     pub peeling-full : (row : ℕ) (new : Mark) → r ≡ Full row new → Refused Found I W G Y old K row new
     peeling-full row new e =
         let f : (k : ℕ) → Refused Found J X G Y m (peels (suc k) J X m theta P′ v) row new = subst (Turned J X G Y m theta memo″ P′ P″ seen′ v) e d in
         record { grown = grown-then I W J X G Y old m new (l .grown) (f 0 .grown); makes = l .left ∙ f (l .steps) .makes }
 
-    pub peeling-binds : (x u n : ℕ) (new : Mark) → r ≡ Binds x u n new → BindsOne I W G Y old P″ K x u n new
+    pub peeling-binds : (x u n : ℕ) (new : Mark) → r ≡ Binds x u n new → BindsOne I W G Y old memo″ P″ K x u n new
     peeling-binds x u n new e =
-        let f : (k : ℕ) → BindsOne J X G Y m P″ (peels (suc k) J X m theta P′ v) x u n new = subst (Turned J X G Y m theta memo″ P′ P″ seen′ v) e d in
+        let f : (k : ℕ) → BindsOne J X G Y m memo″ P″ (peels (suc k) J X m theta P′ v) x u n new = subst (Turned J X G Y m theta memo″ P′ P″ seen′ v) e d in
         let b = f (l .steps) in
-        record { grown = grown-then I W J X G Y old m new (l .grown) (b .grown); makes = l .left ∙ b .makes; small = b .small; known = b .known; few = b .few; there = b .there }
+        record { grown = grown-then I W J X G Y old m new (l .grown) (b .grown); makes = l .left ∙ b .makes; results = b .results; small = b .small; known = b .known; few = b .few; there = b .there }
 
     module _ (n : ℕ) (new : Mark) (e : r ≡ More n new) where
       lighter : Lighter J X G Y m theta memo″ P′ P″ seen′ v n new

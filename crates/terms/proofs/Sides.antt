@@ -1,18 +1,18 @@
 -- Both sides of a pair under the bindings: two replacements, one after the other, with one memo. Assumes nothing.
-use mathlib.Core.Path.{_≡_, refl, sym, ap, _∙_, subst}
+use mathlib.Core.Path.{_≡_, sym, ap, _∙_, subst}
 use mathlib.Core.List.{List}
-use Prim.Native.Nat.{ℕ, _≤_, _<_}
+use Prim.Native.Nat.{ℕ}
 use native.Mathlib.Omega.{arith}
-use lib.ListN.{length, getD}
-use Rattle.rules.specs.Out.{Out, ok, refuse, then}
-use Rattle.rules.specs.Tree.{Tree, var, sub}
-use Rattle.rules.specs.Store.{Made, number, make, substitute}
+use lib.ListN.{length}
+use Rattle.rules.specs.Out.{Out, then}
+use Rattle.rules.specs.Tree.{Tree, sub}
+use Rattle.rules.specs.Store.{Made, make, substitute}
 use Rattle.rules.specs.Unify.{Found}
 use Rattle.rules.specs.Laws.Store.{then-ok, then-refuse, number-is}
 use Rattle.terms.specs.declared.store.Mark.{Mark}
 use Rattle.terms.specs.declared.store.Kept.{Kept}
 use Rattle.terms.specs.declared.store.Kept.the-variants.{Term, Full}
-use Rattle.terms.specs.Table.{made, Good, Grown, Stored, Refused}
+use Rattle.terms.specs.Table.{made, Stored, Refused}
 use Rattle.terms.specs.Collect.{tree}
 use Rattle.terms.specs.Subst.{replacement, Knows, substituted, asked, Ready, Done, Substituted}
 use Rattle.terms.specs.Peel.{Sideable, sided, BothSides, NoSides}

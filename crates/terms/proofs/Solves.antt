@@ -2,15 +2,17 @@
 use mathlib.Core.Path.{_≡_, refl, sym, ap, _∙_, subst}
 use mathlib.Core.Logic.{inl, inr}
 use mathlib.Core.Bool.{Bool, true, false}
-use mathlib.Core.Option.{Option, some, none as nothing}
-use mathlib.Core.List.{List, [], _∷_}
-use Prim.Native.Nat.{ℕ, zero, suc, _+_, _-_, _*_, _≤_, _<_}
+use mathlib.Core.Option.{Option, some}
+use mathlib.Core.List.{List, [], _∷_, _++_}
+use Prim.Native.Nat.{ℕ, zero, suc, _+_, _-_}
 use native.Mathlib.Omega.{arith}
-use lib.ListN.{length, getD, replicate}
+use native.Mathlib.Decide.{ℕ-discrete}
+use lib.ListN.{length, getD, take, drop, replicate, length-drop, replicate-append-replicate}
+use lib.Seq.{length-take-le, getD-drop}
 use lib.Dec.{eqb}
 use borrow.Author.Tests.{eqb-true}
-use Rattle.rules.specs.Limits.{VARIABLES, TERMS, PAIRS}
-use Rattle.rules.specs.Out.{Out, ok, refuse, then}
+use Rattle.rules.specs.Limits.{VARIABLES}
+use Rattle.rules.specs.Out.{Out, ok, then}
 use Rattle.rules.specs.Tree.{Tree, var}
 use Rattle.rules.specs.Store.{Made}
 use Rattle.rules.specs.Unify.{Binding, Pair, insert, replace, Found, finished, clashed, bound, weight, outcome, solve}
@@ -25,11 +27,11 @@ use Rattle.terms.specs.declared.theta.Grew.{Grew}
 use Rattle.terms.specs.declared.theta.Grew.the-variants.{Ok, Full as NoRoom}
 use Rattle.terms.specs.declared.peel.Peeled.{Peeled}
 use Rattle.terms.specs.declared.peel.Peeled.the-variants.{Finished, Clash, Binds, Full}
-use Rattle.terms.specs.Table.{made, Good, Grown, Refused}
+use Rattle.terms.specs.Table.{made, Refused}
 use Rattle.terms.specs.Collect.{tree}
-use Rattle.terms.specs.Theta.{bindings, Theta, Zeros, Extendable, Bound, Extended}
+use Rattle.terms.specs.Theta.{bindings, Theta, Extendable, Bound, Extended}
 use Rattle.terms.specs.Unify.{Solved, Unsolved}
-use Rattle.terms.specs.Peel.{thetaOf, pairsOf, Own, Peelable, weighs, peels, Clashes, BindsOne, Finishes, PeeledAs, Solvable, solves, BoundMore}
+use Rattle.terms.specs.Peel.{thetaOf, pairsOf, Own, weighs, peels, Results, Clashes, BindsOne, Finishes, PeeledAs, Solvable, solves, BoundMore}
 use Rattle.terms.proofs.Sames.{grown-then}
 use Rattle.terms.proofs.Fresh.{getD-zeros}
 use Rattle.terms.proofs.Turns.{theta-grown, pairs-grown, cells-grown}
@@ -51,6 +53,33 @@ cell-bound M (c ∷ cs) v (suc x) n = go (eqb c 0) (subst (λ (k : ℕ). HasBind
     go true h = h
     go false h = inr h
 
+-- A memo set back -----------------------------------------------------------------------------------------------------------------------
+
+zeros : (l : List ℕ) → ((i : ℕ) → getD l i 0 ≡ 0) → l ≡ replicate (length l) 0
+zeros [] h = refl
+zeros (c ∷ cs) h = let e = h 0 in let ih = zeros cs (λ i. h (suc i)) in λ i. e i ∷ ih i
+
+module _ (memo : List ℕ) (m : Mark) (r : Results memo m) where
+  pub results-long : m .terms ≡ length (take (m .terms) memo)
+  results-long = sym (length-take-le (m .terms) memo (r .inside))
+
+  -- behind the terms that are there everything is zero
+  pub cleared : (now : List ℕ) → now ≡ replicate (length (take (m .terms) memo)) 0 → now ++ drop (m .terms) memo ≡ replicate (length memo) 0
+  cleared now e =
+      let n = m .terms in
+      let h = r .inside in
+      let a : now ≡ replicate n 0 = e ∙ ap (λ (k : ℕ). replicate k 0) (sym results-long) in
+      let k : length (drop n memo) ≡ length memo - n = length-drop n memo in
+      let b : drop n memo ≡ replicate (length memo - n) 0 = zeros (drop n memo) behind ∙ ap (λ (j : ℕ). replicate j 0) k in
+      let c : n + (length memo - n) ≡ length memo = omega arith in
+      (λ i. a i ++ b i) ∙ replicate-append-replicate n (length memo - n) 0 ∙ ap (λ (j : ℕ). replicate j 0) c
+    where
+      behind : (i : ℕ) → getD (drop (m .terms) memo) i 0 ≡ 0
+      behind i = elim (ℕ-discrete (getD memo (m .terms + i) 0) 0) [
+        | yes p ↦ getD-drop (m .terms) memo i 0 ∙ p
+        | no p ↦ absurd (let z = r .below (m .terms + i) (omega arith) in omega arith)
+      ]
+
 -- One round ----------------------------------------------------------------------------------------------------------------------------
 
 module _ (I W : List ℕ) (m : Mark) (theta map memo P seen : List ℕ) (w : ℕ) (q : Solvable I W m theta map memo P seen w) where
@@ -67,15 +96,21 @@ module _ (I W : List ℕ) (m : Mark) (theta map memo P seen : List ℕ) (w : ℕ
   pub wiped-back : (used now : List ℕ) → length used ≡ length memo → now ≡ replicate (length used) 0 → now ≡ memo
   wiped-back used now l e = e ∙ ap (λ (n : ℕ). replicate n 0) l ∙ sym (q .no-memos)
 
-  module _ (J X P′ : List ℕ) (r : Peeled) (d : PeeledAs I W J X m P′ K r) where
+  module _ (J X memo′ P′ : List ℕ) (r : Peeled) (d : PeeledAs I W J X m memo′ P′ K r) where
     peeled-to : (f : Found) (mid : Mark) → K ≡ ok f (made J X mid) → (n : ℕ) → solves (suc n) I W m theta P w ≡ outcome (λ ζ v. solve n ζ v) θ f (made J X mid)
     unfolding solve
     peeled-to f mid e n = then-ok K f (made J X mid) (λ g o. outcome (λ ζ v. solve n ζ v) θ g o) e
 
+    pub finished-results : (new : Mark) → r ≡ Finished new → Results memo′ new
+    finished-results new e = let f : Finishes I W J X m memo′ K new = subst (PeeledAs I W J X m memo′ P′ K) e d in f .results
+
+    pub clash-results : (new : Mark) → r ≡ Clash new → Results memo′ new
+    clash-results new e = let f : Clashes I W J X m memo′ K new = subst (PeeledAs I W J X m memo′ P′ K) e d in f .results
+
     pub round-found : (new : Mark) → r ≡ Finished new → (n : ℕ) → Solved I W J X m theta (solves (suc n) I W m theta P w) new
     unfolding outcome
     round-found new e n =
-        let f : Finishes I W J X m K new = subst (PeeledAs I W J X m P′ K) e d in
+        let f : Finishes I W J X m memo′ K new = subst (PeeledAs I W J X m memo′ P′ K) e d in
         record {
           grown = f .grown;
           makes = peeled-to finished new (f .makes) n ∙ ap (λ (ζ : List Binding). ok (some ζ) (made J X new)) (sym (theta-grown I W J X m new (q .peelable .good) (f .grown) theta (q .peelable .cells)));
@@ -84,17 +119,20 @@ module _ (I W : List ℕ) (m : Mark) (theta map memo P seen : List ℕ) (w : ℕ
 
     pub round-apart : (new : Mark) → r ≡ Clash new → (n : ℕ) → Unsolved I W J X m theta (solves (suc n) I W m theta P w) new
     unfolding outcome
-    round-apart new e n = let f : Clashes I W J X m K new = subst (PeeledAs I W J X m P′ K) e d in record { grown = f .grown; makes = peeled-to clashed new (f .makes) n }
+    round-apart new e n = let f : Clashes I W J X m memo′ K new = subst (PeeledAs I W J X m memo′ P′ K) e d in record { grown = f .grown; makes = peeled-to clashed new (f .makes) n }
 
     pub round-full : (row : ℕ) (new : Mark) → r ≡ Full row new → (n : ℕ) → Refused (Option (List Binding)) I W J X m (solves (suc n) I W m theta P w) row new
     unfolding solve
     round-full row new e n =
-        let f : Refused Found I W J X m K row new = subst (PeeledAs I W J X m P′ K) e d in
+        let f : Refused Found I W J X m K row new = subst (PeeledAs I W J X m memo′ P′ K) e d in
         record { grown = f .grown; makes = then-refuse K 60 row (made J X new) _ (f .makes) }
 
     module _ (x u v : ℕ) (mid : Mark) (e : r ≡ Binds x u v mid) where
-      one : BindsOne I W J X m P′ K x u v mid
-      one = subst (PeeledAs I W J X m P′ K) e d
+      one : BindsOne I W J X m memo′ P′ K x u v mid
+      one = subst (PeeledAs I W J X m memo′ P′ K) e d
+
+      pub one-results : Results memo′ mid
+      one-results = one .results
 
       abbrev t : Tree
       t = tree J X mid u

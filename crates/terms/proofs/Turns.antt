@@ -1,15 +1,15 @@
 -- One pair is taken: the definition's step, the terms that are compared, and that what is left weighs less. Assumes nothing.
-use mathlib.Core.Path.{_≡_, refl, sym, ap, _∙_, subst}
-use mathlib.Core.Bool.{Bool, true, false}
-use mathlib.Core.List.{List, [], _∷_}
-use Prim.Native.Nat.{ℕ, zero, suc, _+_, _-_, _*_, _≤_, _<_}
+use mathlib.Core.Path.{_≡_, sym, ap, _∙_, subst}
+use mathlib.Core.Bool.{true}
+use mathlib.Core.List.{List, _∷_}
+use Prim.Native.Nat.{ℕ, suc, _+_, _-_, _*_, _<_}
 use native.Mathlib.Omega.{arith}
 use lib.ListN.{length, getD}
-use Rattle.rules.specs.Limits.{VARIABLES, TERMS, PAIRS}
-use Rattle.rules.specs.Out.{Out, ok, refuse, then}
-use Rattle.rules.specs.Tree.{Tree, Trees, var, app, sub, variables, countTrees, size}
-use Rattle.rules.specs.Store.{Made, substitute}
-use Rattle.rules.specs.Unify.{Binding, Pair, along, Look, agree, clash, parts, look, push, Found, clashed, bound, onward, peel, weight}
+use Rattle.rules.specs.Limits.{VARIABLES}
+use Rattle.rules.specs.Out.{then}
+use Rattle.rules.specs.Tree.{Tree, Trees, app, sub, variables, countTrees, size}
+use Rattle.rules.specs.Store.{substitute}
+use Rattle.rules.specs.Unify.{Binding, Pair, along, Look, parts, look, push, Found, bound, onward, peel, weight}
 use Rattle.meaning.specs.Trees.Tree.{Occ, size-pos}
 use Rattle.meaning.specs.Trees.Tests.{variables-true}
 use Rattle.meaning.specs.Unification.List.{Settled}
@@ -22,11 +22,12 @@ use Rattle.terms.specs.declared.peel.Next.{Next}
 use Rattle.terms.specs.declared.peel.Next.the-variants as next
 use Rattle.terms.specs.Table.{made, Good, Grown, Refused}
 use Rattle.terms.specs.Collect.{tree}
-use Rattle.terms.specs.Subst.{replacement, Knows, substituted, Ready}
-use Rattle.terms.specs.Pairs.{waits, Searchable, BindsTo}
-use Rattle.terms.specs.Theta.{bindings, Theta}
+use Rattle.terms.specs.Subst.{Knows}
+use Rattle.terms.specs.Pairs.{waits}
+use Rattle.terms.specs.Theta.{Theta}
 use Rattle.terms.specs.Peel.{thetaOf, pairsOf, Own, Sideable, sided, BothSides, NoSides, Sided, Lookable, Onto, same, more, OntoPairs, Crowded, BindsHere, Looked}
-use Rattle.terms.specs.Peel.{Peelable, weighs, peels, Lighter, Clashes, BindsOne}
+use Rattle.terms.specs.Peel.{Peelable, weighs, peels, Lighter, Results, Clashes, BindsOne}
+use Rattle.terms.proofs.Tables.{length-trees}
 use Rattle.terms.proofs.Substs.{replacement-grown}
 use Rattle.terms.proofs.Waits.{getD-more, waits-more, along-is, bindings-more}
 use Rattle.terms.proofs.Looks.{length-waits, onward-agree, onward-clash, onward-binds, onward-parts, onward-crowd}
@@ -73,12 +74,6 @@ module _ (I W : List ℕ) (m : Mark) (theta memo P seen : List ℕ) (w : ℕ) (q
 
   right-there : t < m .terms
   right-there = let h = q .1 in q .0 .there (2 * (w - 1) + 1) (omega arith)
-
-  pub first-in : 2 * (w - 1) < length P
-  first-in = let h = q .1 in let a = q .0 .many in let b = q .0 .few in omega arith
-
-  pub second-in : 2 * (w - 1) + 1 < length P
-  second-in = let h = q .1 in let a = q .0 .many in let b = q .0 .few in omega arith
 
   pub pair-sideable : Sideable I W m theta memo s t
   pair-sideable =
@@ -156,9 +151,17 @@ module _ (I W : List ℕ) (m : Mark) (theta memo P seen : List ℕ) (w : ℕ) (q
       looked : (k : ℕ) → peels (suc k) I W m theta P w ≡ onward (λ z. peel k θ′ z) ps′ L (made J X new)
       looked k = stepped k ∙ both .makes _ ∙ (λ i. onward (λ z. peel k (sym same-theta i) z) (sym same-pairs i) L (made J X new))
 
+      results : length memo′ ≡ length memo → Results memo′ new
+      results g =
+          let a = q .0 .memos in
+          let b = both .grown .good .room in
+          let c = length-trees J X (new .terms) in
+          record { inside = omega arith; below = λ i h. let d = both .knows i h .old in omega arith }
+
       module _ (P′ : List ℕ) (x : Next) (n : Looked J X new P P′ (w - 1) L x) where
-        pub pair-clash : x ≡ next.Clash → (k : ℕ) → Clashes I W J X m (peels (suc k) I W m theta P w) new
-        pair-clash z k = record { grown = both .grown; makes = looked k ∙ onward-clash _ _ L (made J X new) (subst (Looked J X new P P′ (w - 1) L) z n) }
+        pub pair-clash : length memo′ ≡ length memo → x ≡ next.Clash → (k : ℕ) → Clashes I W J X m memo′ (peels (suc k) I W m theta P w) new
+        pair-clash g z k =
+            record { grown = both .grown; makes = looked k ∙ onward-clash _ _ L (made J X new) (subst (Looked J X new P P′ (w - 1) L) z n); results = results g }
 
         pub pair-crowd : x ≡ next.Crowd → (k : ℕ) → Refused Found I W J X m (peels (suc k) I W m theta P w) 14 new
         pair-crowd z k =
@@ -167,14 +170,15 @@ module _ (I W : List ℕ) (m : Mark) (theta memo P seen : List ℕ) (w : ℕ) (q
             let h = f .full in
             record { grown = both .grown; makes = looked k ∙ onward-crowd _ _ L (made J X new) (f .lefts) (f .rights) (f .asks) (omega arith) }
 
-        pub pair-binds : (v u : ℕ) → x ≡ next.Binds v u → (k : ℕ) → BindsOne I W J X m P′ (peels (suc k) I W m theta P w) v u (w - 1) new
-        pair-binds v u z k =
+        pub pair-binds : length memo′ ≡ length memo → (v u : ℕ) → x ≡ next.Binds v u → (k : ℕ) → BindsOne I W J X m memo′ P′ (peels (suc k) I W m theta P w) v u (w - 1) new
+        pair-binds g v u z k =
             let f : BindsHere J X new P P′ L v u = subst (Looked J X new P P′ (w - 1) L) z n in
             let l = pair-lookable in
-            subst (λ (o : List ℕ). BindsOne I W J X m o (peels (suc k) I W m theta P w) v u (w - 1) new) (sym (f .stays))
+            subst (λ (o : List ℕ). BindsOne I W J X m memo′ o (peels (suc k) I W m theta P w) v u (w - 1) new) (sym (f .stays))
             record {
               grown = both .grown;
               makes = looked k ∙ onward-binds _ _ L (made J X new) _ _ (f .binds .asks);
+              results = results g;
               small = f .binds .small;
               known = f .binds .there;
               few = l .few;

@@ -1,19 +1,16 @@
 -- Unification: the loop over rounds, the two terms with which it begins, and the scratch set back to zero. Assumes nothing.
 use mathlib.Core.Path.{_≡_, refl, sym, ap, _∙_, subst}
-use mathlib.Core.Bool.{Bool, true, false}
-use mathlib.Core.Option.{Option, some, none as nothing}
+use mathlib.Core.Option.{Option}
 use mathlib.Core.List.{List, [], _∷_}
-use Prim.Native.Nat.{ℕ, zero, suc, _+_, _-_, _*_, _≤_, _<_}
+use Prim.Native.Nat.{ℕ, zero, suc, _-_, _*_, _<_}
 use native.Mathlib.Omega.{arith}
 use native.Mathlib.Decide.{ℕ-discrete}
 use lib.ListN.{length, getD, set, replicate, length-set, length-replicate}
 use lib.Seq.{getD-set-same, getD-set-other}
-use Rattle.rules.specs.Limits.{VARIABLES, TERMS, PAIRS}
-use Rattle.rules.specs.Out.{Out, ok, refuse}
-use Rattle.rules.specs.Tree.{Tree, var}
+use Rattle.rules.specs.Limits.{VARIABLES}
+use Rattle.rules.specs.Out.{Out}
 use Rattle.rules.specs.Store.{Made}
-use Rattle.rules.specs.Unify.{Binding, Pair, solve, unify}
-use Rattle.meaning.specs.Trees.Tree.{Occ}
+use Rattle.rules.specs.Unify.{Binding, solve, unify}
 use Rattle.meaning.specs.Trees.Tests.{occ-variables}
 use Rattle.meaning.specs.Unification.List.{Settled, Each}
 use Rattle.meaning.specs.Unification.Pairs.{WithinPairs}
@@ -23,12 +20,12 @@ use Rattle.terms.specs.declared.unify.Round.{Round}
 use Rattle.terms.specs.declared.unify.Round.the-variants as round
 use Rattle.terms.specs.declared.unify.Unified.{Unified}
 use Rattle.terms.specs.declared.unify.Unified.the-variants.{Found, Apart, Full}
-use Rattle.terms.specs.Table.{made, Good, Grown, Refused}
+use Rattle.terms.specs.Table.{made, Grown, Refused}
 use Rattle.terms.specs.Collect.{tree}
 use Rattle.terms.specs.Pairs.{waits}
-use Rattle.terms.specs.Theta.{bindings, Theta, Zeros}
+use Rattle.terms.specs.Theta.{bindings, Zeros}
 use Rattle.terms.specs.Unify.{Solved, Unsolved, Unifiable}
-use Rattle.terms.specs.Peel.{thetaOf, pairsOf, Own, Peelable, Solvable, solves, BoundMore, Rounded, SolvedAs}
+use Rattle.terms.specs.Peel.{thetaOf, pairsOf, Own, Solvable, solves, BoundMore, Rounded, SolvedAs}
 use Rattle.terms.proofs.Sames.{grown-self, grown-then}
 use Rattle.terms.proofs.Fresh.{getD-zeros}
 

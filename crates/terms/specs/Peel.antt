@@ -2,12 +2,12 @@
 -- bind one variable after the other. Assumes nothing.
 use mathlib.Core.Path.{_≡_}
 use Prim.Native.Nat.{ℕ, suc, _+_, _*_, _≤_, _<_}
-use mathlib.Core.Option.{Option, some, none as nothing}
+use mathlib.Core.Option.{Option}
 use mathlib.Core.List.{List}
 use lib.ListN.{length, getD}
 use Rattle.rules.specs.Limits.{VARIABLES, TERMS, PAIRS}
 use Rattle.rules.specs.Out.{Out, ok, refuse, then}
-use Rattle.rules.specs.Tree.{Tree, Trees, sub, countTrees}
+use Rattle.rules.specs.Tree.{Tree, Trees, countTrees}
 use Rattle.rules.specs.Store.{Made, substitute}
 use Rattle.rules.specs.Unify.{Binding, Pair, Look, agree, clash, parts, push, Found, finished, clashed, bound, peel, weight, solve}
 use Rattle.meaning.specs.Unification.List.{Settled}
@@ -143,14 +143,21 @@ pub record Lighter (I W J X : List ℕ) (old : Mark) (theta memo′ P P′ seen 
   pub less : weighs J X new theta P′ v < weighs I W old theta P w
   pub makes : (k : ℕ) → peels (suc k) I W old theta P w ≡ peels k J X new theta P′ v
 
-pub record Clashes (I W J X : List ℕ) (old : Mark) (K : Out Made Found) (new : Mark) : Type 0 where
+-- the memo has results of terms that are there alone
+pub record Results (memo : List ℕ) (m : Mark) : Type 0 where
+  pub inside : m .terms ≤ length memo
+  pub below : (i : ℕ) → 0 < getD memo i 0 → i < m .terms
+
+pub record Clashes (I W J X : List ℕ) (old : Mark) (memo′ : List ℕ) (K : Out Made Found) (new : Mark) : Type 0 where
   pub grown : Grown I W J X old new
   pub makes : K ≡ ok clashed (made J X new)
+  pub results : Results memo′ new
 
 -- a variable x, a term u for it, and the v pairs that are left
-pub record BindsOne (I W J X : List ℕ) (old : Mark) (P′ : List ℕ) (K : Out Made Found) (x u v : ℕ) (new : Mark) : Type 0 where
+pub record BindsOne (I W J X : List ℕ) (old : Mark) (memo′ P′ : List ℕ) (K : Out Made Found) (x u v : ℕ) (new : Mark) : Type 0 where
   pub grown : Grown I W J X old new
   pub makes : K ≡ ok (bound x (tree J X new u) (pairsOf J X new P′ v)) (made J X new)
+  pub results : Results memo′ new
   pub small : x < VARIABLES
   pub known : u < new .terms
   pub few : v ≤ PAIRS
@@ -158,21 +165,22 @@ pub record BindsOne (I W J X : List ℕ) (old : Mark) (P′ : List ℕ) (K : Out
 
 abbrev pub Turned : List ℕ → List ℕ → List ℕ → List ℕ → Mark → List ℕ → List ℕ → List ℕ → List ℕ → List ℕ → ℕ → Turn → Type 0
 Turned I W J X old theta memo′ P P′ seen w (turn.More v new) = Lighter I W J X old theta memo′ P P′ seen w v new
-Turned I W J X old theta memo′ P P′ seen w (turn.Clash new) = (k : ℕ) → Clashes I W J X old (peels (suc k) I W old theta P w) new
-Turned I W J X old theta memo′ P P′ seen w (turn.Binds x u v new) = (k : ℕ) → BindsOne I W J X old P′ (peels (suc k) I W old theta P w) x u v new
+Turned I W J X old theta memo′ P P′ seen w (turn.Clash new) = (k : ℕ) → Clashes I W J X old memo′ (peels (suc k) I W old theta P w) new
+Turned I W J X old theta memo′ P P′ seen w (turn.Binds x u v new) = (k : ℕ) → BindsOne I W J X old memo′ P′ (peels (suc k) I W old theta P w) x u v new
 Turned I W J X old theta memo′ P P′ seen w (turn.Full r new) = (k : ℕ) → Refused Found I W J X old (peels (suc k) I W old theta P w) r new
 
 -- Pairs are taken --------------------------------------------------------------------------------------------------------------------
 
-pub record Finishes (I W J X : List ℕ) (old : Mark) (K : Out Made Found) (new : Mark) : Type 0 where
+pub record Finishes (I W J X : List ℕ) (old : Mark) (memo′ : List ℕ) (K : Out Made Found) (new : Mark) : Type 0 where
   pub grown : Grown I W J X old new
   pub makes : K ≡ ok finished (made J X new)
+  pub results : Results memo′ new
 
-abbrev pub PeeledAs : List ℕ → List ℕ → List ℕ → List ℕ → Mark → List ℕ → Out Made Found → Peeled → Type 0
-PeeledAs I W J X old P′ K (peeled.Finished new) = Finishes I W J X old K new
-PeeledAs I W J X old P′ K (peeled.Clash new) = Clashes I W J X old K new
-PeeledAs I W J X old P′ K (peeled.Binds x u v new) = BindsOne I W J X old P′ K x u v new
-PeeledAs I W J X old P′ K (peeled.Full r new) = Refused Found I W J X old K r new
+abbrev pub PeeledAs : List ℕ → List ℕ → List ℕ → List ℕ → Mark → List ℕ → List ℕ → Out Made Found → Peeled → Type 0
+PeeledAs I W J X old memo′ P′ K (peeled.Finished new) = Finishes I W J X old memo′ K new
+PeeledAs I W J X old memo′ P′ K (peeled.Clash new) = Clashes I W J X old memo′ K new
+PeeledAs I W J X old memo′ P′ K (peeled.Binds x u v new) = BindsOne I W J X old memo′ P′ K x u v new
+PeeledAs I W J X old memo′ P′ K (peeled.Full r new) = Refused Found I W J X old K r new
 
 -- One variable after the other -------------------------------------------------------------------------------------------------------
 

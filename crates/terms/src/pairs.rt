@@ -26,14 +26,21 @@ fn bind(index: &[u32], words: &[u32], mark: Mark, x: usize, id: usize, seen: &mu
     ensures { λ r. ⌜ Answered (now (index .entry)) (now (words .entry)) mark (bindOrClash x (tree (now (index .entry)) (now (words .entry)) mark id)) r ⌝ }
     ensures { λ _. ⌜ now (seen .exit) ≡ now (seen .entry) ⌝ }
 {
-    if occurs(index, words, mark, id, x, seen) {
-        return Asks::Clash;
+    if !occurs(index, words, mark, id, x, seen) {
+        return Asks::Binds(x, id);
     }
-    Asks::Binds(x, id)
+    Asks::Clash
 }
 
 // What the terms `s` and `t` ask for. `seen` is scratch: zero before and after.
-pub fn compare(index: &[u32], words: &[u32], mark: Mark, s: usize, t: usize, seen: &mut [u64]) -> Asks
+pub fn compare(
+    index: &[u32],
+    words: &[u32],
+    mark: Mark,
+    s: usize,
+    t: usize,
+    seen: &mut [u64],
+) -> Asks
     requires { ⌜ Comparable (now index) (now words) mark (now seen) s t ⌝ }
     ensures { λ r. ⌜ Answered (now (index .entry)) (now (words .entry)) mark (look (tree (now (index .entry)) (now (words .entry)) mark s) (tree (now (index .entry)) (now (words .entry)) mark t)) r ⌝ }
     ensures { λ _. ⌜ now (seen .exit) ≡ now (seen .entry) ⌝ }
@@ -62,7 +69,14 @@ pub fn compare(index: &[u32], words: &[u32], mark: Mark, s: usize, t: usize, see
 }
 
 // Pairs of `count` words from `left` on and from `right` on come onto those that wait.
-pub fn push(words: &[u32], left: usize, right: usize, count: usize, pairs: &mut [u32], waiting: usize)
+pub fn push(
+    words: &[u32],
+    left: usize,
+    right: usize,
+    count: usize,
+    pairs: &mut [u32],
+    waiting: usize,
+)
     requires { ⌜ (left + count ≤ length (now words)) × (right + count ≤ length (now words)) × (2 * (waiting + count) ≤ length (now pairs)) ⌝ }
     ensures { λ _. ⌜ now (pairs .exit) ≡ piled (now (words .entry)) left right (now (pairs .entry)) waiting count ⌝ }
 {

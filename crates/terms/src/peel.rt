@@ -110,8 +110,9 @@ fn take_pair(
     ensures { λ _. ⌜ now (seen .exit) ≡ now (seen .entry) ⌝ }
 {
     let left = waiting - 1;
-    let s = pairs[2 * left] as usize;
-    let t = pairs[2 * left + 1] as usize;
+    let at = 2 * left;
+    let s = pairs[at] as usize;
+    let t = pairs[at + 1] as usize;
     match both_under(index, words, mark, theta, memo, s, t) {
         Sides::Full(row, last) => Turn::Full(row, last),
         Sides::Both(a, b, new) => match onward(index, words, new, a, b, pairs, seen, left) {
@@ -135,7 +136,7 @@ pub fn peel(
     waiting: usize,
 ) -> Peeled
     requires { ⌜ Peelable (now index) (now words) mark (now theta) (now memo) (now pairs) (now seen) waiting ⌝ }
-    ensures { λ r. ⌜ PeeledAs (now (index .entry)) (now (words .entry)) (now (index .exit)) (now (words .exit)) mark (now (pairs .exit))
+    ensures { λ r. ⌜ PeeledAs (now (index .entry)) (now (words .entry)) (now (index .exit)) (now (words .exit)) mark (now (memo .exit)) (now (pairs .exit))
         (peels (suc (weighs (now (index .entry)) (now (words .entry)) mark (now (theta .entry)) (now (pairs .entry)) waiting)) (now (index .entry)) (now (words .entry)) mark (now (theta .entry)) (now (pairs .entry)) waiting) r ⌝ }
     ensures { λ _. ⌜ now (seen .exit) ≡ now (seen .entry) ⌝ }
 {

@@ -1,11 +1,12 @@
 // Unification over the store: a most general replacement that makes two terms equal, one variable bound after the other.
 ghost use mathlib.Core.Path.{_≡_};
 ghost use Prim.Native.Nat.{ℕ, suc};
+ghost use lib.ListN.{length, replicate};
 ghost use Rattle.rules.specs.Unify.{unify};
 ghost use Rattle.terms.specs.Table.{made};
 ghost use Rattle.terms.specs.Collect.{tree};
 ghost use Rattle.terms.specs.Unify.{Unifiable, UnifiedAs};
-ghost use Rattle.terms.specs.Peel.{Solvable, Rounded, solves, SolvedAs};
+ghost use Rattle.terms.specs.Peel.{Results, Solvable, Rounded, solves, SolvedAs};
 use crate::peel::Peeled;
 use crate::peel::peel;
 use crate::store::Mark;
@@ -28,6 +29,15 @@ pub enum Round {
     Full(usize, Mark),
 }
 
+// A memo of results becomes zero: only terms that are there have one.
+fn clear(memo: &mut [u32], mark: Mark)
+    requires { ⌜ Results (now memo) mark ⌝ }
+    ensures { λ _. ⌜ now (memo .exit) ≡ replicate (length (now (memo .entry))) 0 ⌝ }
+{
+    let terms = mark.terms;
+    wipe(&mut memo[..terms]);
+}
+
 // Pairs are taken until one binds a variable, and that comes into the bindings. `map`, `memo` and `seen` are scratch: zero before and after.
 fn bind_next(
     index: &mut [u32],
@@ -44,16 +54,26 @@ fn bind_next(
     ensures { λ r. ⌜ Rounded (now (index .entry)) (now (words .entry)) (now (index .exit)) (now (words .exit)) mark (now (theta .entry)) (now (theta .exit)) (now (map .entry)) (now (memo .entry)) (now (pairs .entry)) (now (pairs .exit)) (now (seen .entry)) waiting r ⌝ }
     ensures { λ _. ⌜ (now (map .exit) ≡ now (map .entry)) × (now (memo .exit) ≡ now (memo .entry)) × (now (seen .exit) ≡ now (seen .entry)) ⌝ }
 {
-    let r = peel(index, words, mark, theta, memo, pairs, seen, waiting);
-    wipe(memo);
-    match r {
-        Peeled::Finished(last) => Round::Found(last),
-        Peeled::Clash(last) => Round::Apart(last),
-        Peeled::Full(row, last) => Round::Full(row, last),
-        Peeled::Binds(x, u, left, next) => match extend(index, words, next, theta, map, memo, x, u) {
-            Grew::Ok(new) => Round::More(left, new),
-            Grew::Full(row, last) => Round::Full(row, last),
-        },
+    match peel(index, words, mark, theta, memo, pairs, seen, waiting) {
+        Peeled::Finished(last) => {
+            clear(memo, last);
+            Round::Found(last)
+        }
+        Peeled::Clash(last) => {
+            clear(memo, last);
+            Round::Apart(last)
+        }
+        Peeled::Full(row, last) => {
+            wipe(memo);
+            Round::Full(row, last)
+        }
+        Peeled::Binds(x, u, left, next) => {
+            clear(memo, next);
+            match extend(index, words, next, theta, map, memo, x, u) {
+                Grew::Ok(new) => Round::More(left, new),
+                Grew::Full(row, last) => Round::Full(row, last),
+            }
+        }
     }
 }
 

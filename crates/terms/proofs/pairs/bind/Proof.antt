@@ -1,3 +1,4 @@
+use borrow.Author.Tests.{not-true, not-false}
 use Rattle.terms.proofs.Compares.{bind-clash, bind-to, searches}
 use borrow.Author.Needs.{needs}
 use Rattle.terms.proofs.pairs.bind.Statement.{statement}
@@ -6,7 +7,7 @@ use Rattle.terms.proofs.pairs.bind.Reads as reads
 use Rattle.terms.proofs.pairs.bind.Lts as lts
 use Rattle.terms.proofs.variables.occurs.Reads as occurs-reads
 
--- src/pairs.rt:29:8
+-- src/pairs.rt:29:9
 occurs-requires : tie.Need-occurs-requires
 occurs-requires c κs = (searches _ _ _ _ 0 _ ((c .before .before .before .before .pre) .0), ((c .before .before .before .before .pre) .0 .fresh, (c .before .before .before .before .pre) .1))
 
@@ -16,7 +17,7 @@ same-length c = search needs
 
 -- src/pairs.rt:30:9
 returns : tie.Need-returns
-returns c = (bind-clash _ _ _ ((c .before .before .before .occurs) .ensures .0) ((c .if1) .taken), (c .before .before .before .occurs) .ensures .1)
+returns c = (bind-to _ _ _ _ _ _ ((c .before .before .before .before .before .before .before .before .pre) .0) ((c .before .before .before .before .before .before .before .before .pre) .1) _ ((c .before .before .before .occurs) .ensures .0) (not-true ((c .before .before .before .occurs) .result) ((c .if1) .taken)), (c .before .before .before .occurs) .ensures .1)
 
 -- src/pairs.rt:24:1
 same-length-2 : tie.Need-same-length-2
@@ -24,7 +25,7 @@ same-length-2 c = search needs
 
 -- src/pairs.rt:24:1
 returns-2 : tie.Need-returns-2
-returns-2 c = (bind-to _ _ _ _ _ _ ((c .before .before .before .before .before .before .before .before .pre) .0) ((c .before .before .before .before .before .before .before .before .pre) .1) _ ((c .before .before .before .occurs) .ensures .0) ((c .if1) .left), (c .before .before .before .occurs) .ensures .1)
+returns-2 c = (bind-clash _ _ _ ((c .before .before .before .occurs) .ensures .0) (not-false ((c .before .before .before .occurs) .result) ((c .if1) .left)), (c .before .before .before .occurs) .ensures .1)
 
 pub bind-spec : {M : Type 1} → statement M
 bind-spec = tie.close (tie.spec occurs-requires same-length returns same-length-2 returns-2)

@@ -1,10 +1,10 @@
+use mathlib.Core.Path.{_∙_}
 use Rattle.terms.proofs.Sides.{first-full, second-ready, second-full, both-done}
 use borrow.Author.Needs.{needs}
 use Rattle.terms.proofs.peel.both_under.Statement.{statement}
 use Rattle.terms.proofs.peel.both_under.Tie as tie
 use Rattle.terms.proofs.peel.both_under.Reads as reads
 use Rattle.terms.proofs.peel.both_under.Lts as lts
-use Rattle.terms.proofs.replace.replace.Reads as replace-reads
 
 -- src/peel.rt:59:11
 replace-requires : tie.Need-replace-requires
@@ -32,15 +32,15 @@ enum-known-b c = search needs
 
 -- src/peel.rt:47:1
 same-length : tie.Need-same-length
-same-length c = search needs
+same-length c = (c .before .before .before .before .before .before .before .before .before .replace) .kept .0
 
 -- src/peel.rt:47:1
 same-length-2 : tie.Need-same-length-2
-same-length-2 c = search needs
+same-length-2 c = (c .before .before .before .before .before .before .before .before .before .replace) .kept .1 .0
 
 -- src/peel.rt:47:1
 same-length-3 : tie.Need-same-length-3
-same-length-3 c = search needs
+same-length-3 c = (c .before .before .before .before .before .before .before .before .before .replace) .kept .1 .1 .1 .1 .0
 
 -- src/peel.rt:47:1
 returns : tie.Need-returns
@@ -48,15 +48,15 @@ returns c = first-full _ _ _ _ _ _ _ (c .before .before .before .before .before 
 
 -- src/peel.rt:47:1
 same-length-4 : tie.Need-same-length-4
-same-length-4 c = search needs
+same-length-4 c = (c .before .before .before .before .before .before .before .before .before .replace2) .kept .0 ∙ (c .before .before .before .before .before .before .before .before .before .before .before .before .before .before .before .before .before .before .before .before .before .before .replace) .kept .0
 
 -- src/peel.rt:47:1
 same-length-5 : tie.Need-same-length-5
-same-length-5 c = search needs
+same-length-5 c = (c .before .before .before .before .before .before .before .before .before .replace2) .kept .1 .0 ∙ (c .before .before .before .before .before .before .before .before .before .before .before .before .before .before .before .before .before .before .before .before .before .before .replace) .kept .1 .0
 
 -- src/peel.rt:47:1
 same-length-6 : tie.Need-same-length-6
-same-length-6 c = search needs
+same-length-6 c = (c .before .before .before .before .before .before .before .before .before .replace2) .kept .1 .1 .1 .1 .0 ∙ (c .before .before .before .before .before .before .before .before .before .before .before .before .before .before .before .before .before .before .before .before .before .before .replace) .kept .1 .1 .1 .1 .0
 
 -- src/peel.rt:47:1
 returns-2 : tie.Need-returns-2
@@ -64,15 +64,15 @@ returns-2 c = second-full _ _ _ _ _ _ _ (c .before .before .before .before .befo
 
 -- src/peel.rt:47:1
 same-length-7 : tie.Need-same-length-7
-same-length-7 c = search needs
+same-length-7 c = (c .before .before .before .before .before .before .before .before .before .replace2) .kept .0 ∙ (c .before .before .before .before .before .before .before .before .before .before .before .before .before .before .before .before .before .before .before .before .before .before .replace) .kept .0
 
 -- src/peel.rt:47:1
 same-length-8 : tie.Need-same-length-8
-same-length-8 c = search needs
+same-length-8 c = (c .before .before .before .before .before .before .before .before .before .replace2) .kept .1 .0 ∙ (c .before .before .before .before .before .before .before .before .before .before .before .before .before .before .before .before .before .before .before .before .before .before .replace) .kept .1 .0
 
 -- src/peel.rt:47:1
 same-length-9 : tie.Need-same-length-9
-same-length-9 c = search needs
+same-length-9 c = (c .before .before .before .before .before .before .before .before .before .replace2) .kept .1 .1 .1 .1 .0 ∙ (c .before .before .before .before .before .before .before .before .before .before .before .before .before .before .before .before .before .before .before .before .before .before .replace) .kept .1 .1 .1 .1 .0
 
 -- src/peel.rt:47:1
 returns-3 : tie.Need-returns-3

@@ -14,85 +14,81 @@ use Rattle.terms.proofs.peel.onward.Reads as onward-reads
 sub-left : tie.Need-sub-left
 sub-left c = search needs
 
--- src/peel.rt:113:19
+-- src/peel.rt:113:14
+mul-at : tie.Need-mul-at
+mul-at c = search needs
+
+-- src/peel.rt:114:13
 mul-s : tie.Need-mul-s
 mul-s c = search needs
 
--- src/peel.rt:113:13
-mul-s-2 : tie.Need-mul-s-2
-mul-s-2 c = search needs
-
--- src/peel.rt:113:13
+-- src/peel.rt:114:13
 slice-read-s : tie.Need-slice-read-s
 slice-read-s c = search needs
 
--- src/peel.rt:113:13
+-- src/peel.rt:114:13
 cast-s : tie.Need-cast-s
 cast-s c = omega (arith, (c .slice-known6) .given (2 * ((c .before .before .before .before .before .before .before .args) .waiting - 1)))
 
--- src/peel.rt:114:19
-mul-t : tie.Need-mul-t
-mul-t c = search needs
-
--- src/peel.rt:114:19
+-- src/peel.rt:115:19
 add-t : tie.Need-add-t
 add-t c = search needs
 
--- src/peel.rt:114:13
-mul-t-2 : tie.Need-mul-t-2
-mul-t-2 c = search needs
+-- src/peel.rt:115:13
+mul-t : tie.Need-mul-t
+mul-t c = search needs
 
--- src/peel.rt:114:13
+-- src/peel.rt:115:13
 slice-read-t : tie.Need-slice-read-t
 slice-read-t c = search needs
 
--- src/peel.rt:114:13
+-- src/peel.rt:115:13
 cast-t : tie.Need-cast-t
 cast-t c = omega (arith, (c .slice-known7) .given (2 * ((c .before .before .before .before .before .before .before .before .args) .waiting - 1) + 1))
 
--- src/peel.rt:115:11
+-- src/peel.rt:116:11
 both-under-requires : tie.Need-both-under-requires
 both-under-requires c κs = pair-sideable _ _ _ _ _ _ ((c .before .before .before .before .before .before .before .before .before .before .before .args) .seen .now) _ (c .before .before .before .before .before .before .before .before .before .before .before .pre)
 
--- src/peel.rt:116:21
+-- src/peel.rt:117:21
 enum-known-row : tie.Need-enum-known-row
 enum-known-row c = search needs
 
--- src/peel.rt:117:21
+-- src/peel.rt:118:21
 enum-known-a : tie.Need-enum-known-a
 enum-known-a c = search needs
 
--- src/peel.rt:117:41
+-- src/peel.rt:118:41
 onward-requires : tie.Need-onward-requires
 onward-requires c κs = pair-lookable _ _ _ _ _ _ _ _ (c .before .before .before .before .before .before .before .before .before .before .before .before .before .before .before .before .before .before .before .before .before .before .before .before .before .pre) _ _ ((c .before .before .before .before .before .before .before .before .before .before .before .before .before .both-under) .last .1 .1 .1 .1 .0) ((c .before .before .before .before .before .before .before .before .before .before .before .before .before .both-under) .result) ((c .before .before .before .before .before .before .before .before .before .before .before .before .before .both-under) .ensures) _ _ _ ((c .before .before .before .before .before .a) .given .1)
 
--- src/peel.rt:118:24
+-- src/peel.rt:119:24
 enum-known-more : tie.Need-enum-known-more
 enum-known-more c = search needs
 
--- src/peel.rt:119:28
+-- src/peel.rt:120:28
 enum-told : tie.Need-enum-told
 enum-told c = search needs
 
--- src/peel.rt:120:25
+-- src/peel.rt:121:25
 enum-known-x : tie.Need-enum-known-x
 enum-known-x c = search needs
 
--- src/peel.rt:121:28
+-- src/peel.rt:122:28
 enum-told-2 : tie.Need-enum-told-2
 enum-told-2 c = search needs
 
 -- src/peel.rt:98:1
 same-length : tie.Need-same-length
-same-length c = search needs
+same-length c = (c .before .before .before .before .before .before .before .before .before .both-under) .kept .0
 
 -- src/peel.rt:98:1
 same-length-2 : tie.Need-same-length-2
-same-length-2 c = search needs
+same-length-2 c = (c .before .before .before .before .before .before .before .before .before .both-under) .kept .1 .0
 
 -- src/peel.rt:98:1
 same-length-3 : tie.Need-same-length-3
-same-length-3 c = search needs
+same-length-3 c = (c .before .before .before .before .before .before .before .before .before .both-under) .kept .1 .1 .1 .1 .0
 
 -- src/peel.rt:98:1
 returns : tie.Need-returns
@@ -100,23 +96,23 @@ returns c = (pair-full _ _ _ _ _ _ ((c .before .before .before .before .before .
 
 -- src/peel.rt:98:1
 same-length-4 : tie.Need-same-length-4
-same-length-4 c = search needs
+same-length-4 c = (c .before .before .before .before .before .before .before .before .before .before .before .before .before .before .before .before .before .before .before .before .before .both-under) .kept .0
 
 -- src/peel.rt:98:1
 same-length-5 : tie.Need-same-length-5
-same-length-5 c = search needs
+same-length-5 c = (c .before .before .before .before .before .before .before .before .before .before .before .before .before .before .before .before .before .before .before .before .before .both-under) .kept .1 .0
 
 -- src/peel.rt:98:1
 same-length-6 : tie.Need-same-length-6
-same-length-6 c = search needs
+same-length-6 c = (c .before .before .before .before .before .before .before .before .before .before .before .before .before .before .before .before .before .before .before .before .before .both-under) .kept .1 .1 .1 .1 .0
 
 -- src/peel.rt:98:1
 same-length-7 : tie.Need-same-length-7
-same-length-7 c = search needs
+same-length-7 c = (c .before .before .before .before .before .before .before .onward) .kept .1 .1 .1 .1 .1 .0
 
 -- src/peel.rt:98:1
 same-length-8 : tie.Need-same-length-8
-same-length-8 c = search needs
+same-length-8 c = (c .before .before .before .before .before .before .before .onward) .kept .1 .1 .1 .1 .1 .1 .0
 
 -- src/peel.rt:98:1
 returns-2 : tie.Need-returns-2
@@ -124,71 +120,71 @@ returns-2 c = (pair-more _ _ _ _ _ _ _ _ (c .before .before .before .before .bef
 
 -- src/peel.rt:98:1
 same-length-9 : tie.Need-same-length-9
-same-length-9 c = search needs
+same-length-9 c = (c .before .before .before .before .before .before .before .before .before .before .before .before .before .before .before .before .before .before .before .before .both-under) .kept .0
 
 -- src/peel.rt:98:1
 same-length-10 : tie.Need-same-length-10
-same-length-10 c = search needs
+same-length-10 c = (c .before .before .before .before .before .before .before .before .before .before .before .before .before .before .before .before .before .before .before .before .both-under) .kept .1 .0
 
 -- src/peel.rt:98:1
 same-length-11 : tie.Need-same-length-11
-same-length-11 c = search needs
+same-length-11 c = (c .before .before .before .before .before .before .before .before .before .before .before .before .before .before .before .before .before .before .before .before .both-under) .kept .1 .1 .1 .1 .0
 
 -- src/peel.rt:98:1
 same-length-12 : tie.Need-same-length-12
-same-length-12 c = search needs
+same-length-12 c = (c .before .before .before .before .before .before .onward) .kept .1 .1 .1 .1 .1 .0
 
 -- src/peel.rt:98:1
 same-length-13 : tie.Need-same-length-13
-same-length-13 c = search needs
+same-length-13 c = (c .before .before .before .before .before .before .onward) .kept .1 .1 .1 .1 .1 .1 .0
 
 -- src/peel.rt:98:1
 returns-3 : tie.Need-returns-3
-returns-3 c = (pair-clash _ _ _ _ _ _ ((c .before .before .before .before .before .before .before .before .before .before .before .before .before .before .before .before .before .before .before .before .before .before .before .before .before .before .before .before .before .before .before .before .args) .seen .now) _ (c .before .before .before .before .before .before .before .before .before .before .before .before .before .before .before .before .before .before .before .before .before .before .before .before .before .before .before .before .before .before .before .before .pre) _ _ ((c .before .before .before .before .before .before .before .before .before .before .before .before .before .before .before .before .before .before .before .before .both-under) .last .1 .1 .1 .1 .0) ((c .before .before .before .before .before .before .before .before .before .before .before .before .before .before .before .before .before .before .before .before .both-under) .result) ((c .before .before .before .before .before .before .before .before .before .before .before .before .before .before .before .before .before .before .before .before .both-under) .ensures) _ _ _ ((c .before .before .before .before .before .before .before .before .before .before .before .before .a) .given .1) ((c .before .before .before .before .before .before .onward) .last .1 .1 .1 .1 .1 .0) ((c .before .before .before .before .before .before .onward) .result) ((c .before .before .before .before .before .before .onward) .ensures .0) ((c .enum-told) .given .1), (c .before .before .before .before .before .before .onward) .ensures .1)
+returns-3 c = (pair-clash _ _ _ _ _ _ ((c .before .before .before .before .before .before .before .before .before .before .before .before .before .before .before .before .before .before .before .before .before .before .before .before .before .before .before .before .before .before .before .before .args) .seen .now) _ (c .before .before .before .before .before .before .before .before .before .before .before .before .before .before .before .before .before .before .before .before .before .before .before .before .before .before .before .before .before .before .before .before .pre) _ _ ((c .before .before .before .before .before .before .before .before .before .before .before .before .before .before .before .before .before .before .before .before .both-under) .last .1 .1 .1 .1 .0) ((c .before .before .before .before .before .before .before .before .before .before .before .before .before .before .before .before .before .before .before .before .both-under) .result) ((c .before .before .before .before .before .before .before .before .before .before .before .before .before .before .before .before .before .before .before .before .both-under) .ensures) _ _ _ ((c .before .before .before .before .before .before .before .before .before .before .before .before .a) .given .1) ((c .before .before .before .before .before .before .onward) .last .1 .1 .1 .1 .1 .0) ((c .before .before .before .before .before .before .onward) .result) ((c .before .before .before .before .before .before .onward) .ensures .0) ((c .before .before .before .before .before .before .before .before .before .before .before .before .before .before .before .before .before .before .before .before .both-under) .kept .1 .1 .1 .1 .0) ((c .enum-told) .given .1), (c .before .before .before .before .before .before .onward) .ensures .1)
 
 -- src/peel.rt:98:1
 same-length-14 : tie.Need-same-length-14
-same-length-14 c = search needs
+same-length-14 c = (c .before .before .before .before .before .before .before .before .before .before .before .before .before .before .before .before .before .before .before .before .before .both-under) .kept .0
 
 -- src/peel.rt:98:1
 same-length-15 : tie.Need-same-length-15
-same-length-15 c = search needs
+same-length-15 c = (c .before .before .before .before .before .before .before .before .before .before .before .before .before .before .before .before .before .before .before .before .before .both-under) .kept .1 .0
 
 -- src/peel.rt:98:1
 same-length-16 : tie.Need-same-length-16
-same-length-16 c = search needs
+same-length-16 c = (c .before .before .before .before .before .before .before .before .before .before .before .before .before .before .before .before .before .before .before .before .before .both-under) .kept .1 .1 .1 .1 .0
 
 -- src/peel.rt:98:1
 same-length-17 : tie.Need-same-length-17
-same-length-17 c = search needs
+same-length-17 c = (c .before .before .before .before .before .before .before .onward) .kept .1 .1 .1 .1 .1 .0
 
 -- src/peel.rt:98:1
 same-length-18 : tie.Need-same-length-18
-same-length-18 c = search needs
+same-length-18 c = (c .before .before .before .before .before .before .before .onward) .kept .1 .1 .1 .1 .1 .1 .0
 
 -- src/peel.rt:98:1
 returns-4 : tie.Need-returns-4
-returns-4 c = (pair-binds _ _ _ _ _ _ ((c .before .before .before .before .before .before .before .before .before .before .before .before .before .before .before .before .before .before .before .before .before .before .before .before .before .before .before .before .before .before .before .before .before .args) .seen .now) _ (c .before .before .before .before .before .before .before .before .before .before .before .before .before .before .before .before .before .before .before .before .before .before .before .before .before .before .before .before .before .before .before .before .before .pre) _ _ ((c .before .before .before .before .before .before .before .before .before .before .before .before .before .before .before .before .before .before .before .before .before .both-under) .last .1 .1 .1 .1 .0) ((c .before .before .before .before .before .before .before .before .before .before .before .before .before .before .before .before .before .before .before .before .before .both-under) .result) ((c .before .before .before .before .before .before .before .before .before .before .before .before .before .before .before .before .before .before .before .before .before .both-under) .ensures) _ _ _ ((c .before .before .before .before .before .before .before .before .before .before .before .before .before .a) .given .1) ((c .before .before .before .before .before .before .before .onward) .last .1 .1 .1 .1 .1 .0) ((c .before .before .before .before .before .before .before .onward) .result) ((c .before .before .before .before .before .before .before .onward) .ensures .0) _ _ ((c .before .x) .given .1), (c .before .before .before .before .before .before .before .onward) .ensures .1)
+returns-4 c = (pair-binds _ _ _ _ _ _ ((c .before .before .before .before .before .before .before .before .before .before .before .before .before .before .before .before .before .before .before .before .before .before .before .before .before .before .before .before .before .before .before .before .before .args) .seen .now) _ (c .before .before .before .before .before .before .before .before .before .before .before .before .before .before .before .before .before .before .before .before .before .before .before .before .before .before .before .before .before .before .before .before .before .pre) _ _ ((c .before .before .before .before .before .before .before .before .before .before .before .before .before .before .before .before .before .before .before .before .before .both-under) .last .1 .1 .1 .1 .0) ((c .before .before .before .before .before .before .before .before .before .before .before .before .before .before .before .before .before .before .before .before .before .both-under) .result) ((c .before .before .before .before .before .before .before .before .before .before .before .before .before .before .before .before .before .before .before .before .before .both-under) .ensures) _ _ _ ((c .before .before .before .before .before .before .before .before .before .before .before .before .before .a) .given .1) ((c .before .before .before .before .before .before .before .onward) .last .1 .1 .1 .1 .1 .0) ((c .before .before .before .before .before .before .before .onward) .result) ((c .before .before .before .before .before .before .before .onward) .ensures .0) ((c .before .before .before .before .before .before .before .before .before .before .before .before .before .before .before .before .before .before .before .before .before .both-under) .kept .1 .1 .1 .1 .0) _ _ ((c .before .x) .given .1), (c .before .before .before .before .before .before .before .onward) .ensures .1)
 
 -- src/peel.rt:98:1
 same-length-19 : tie.Need-same-length-19
-same-length-19 c = search needs
+same-length-19 c = (c .before .before .before .before .before .before .before .before .before .before .before .before .before .before .before .before .before .before .before .before .both-under) .kept .0
 
 -- src/peel.rt:98:1
 same-length-20 : tie.Need-same-length-20
-same-length-20 c = search needs
+same-length-20 c = (c .before .before .before .before .before .before .before .before .before .before .before .before .before .before .before .before .before .before .before .before .both-under) .kept .1 .0
 
 -- src/peel.rt:98:1
 same-length-21 : tie.Need-same-length-21
-same-length-21 c = search needs
+same-length-21 c = (c .before .before .before .before .before .before .before .before .before .before .before .before .before .before .before .before .before .before .before .before .both-under) .kept .1 .1 .1 .1 .0
 
 -- src/peel.rt:98:1
 same-length-22 : tie.Need-same-length-22
-same-length-22 c = search needs
+same-length-22 c = (c .before .before .before .before .before .before .onward) .kept .1 .1 .1 .1 .1 .0
 
 -- src/peel.rt:98:1
 same-length-23 : tie.Need-same-length-23
-same-length-23 c = search needs
+same-length-23 c = (c .before .before .before .before .before .before .onward) .kept .1 .1 .1 .1 .1 .1 .0
 
 -- src/peel.rt:98:1
 returns-5 : tie.Need-returns-5
@@ -199,13 +195,12 @@ take-pair-spec =
     tie.close
     (tie.spec
     sub-left
+    mul-at
     mul-s
-    mul-s-2
     slice-read-s
     cast-s
-    mul-t
     add-t
-    mul-t-2
+    mul-t
     slice-read-t
     cast-t
     both-under-requires

@@ -1,5 +1,5 @@
 use mathlib.Core.Path.{refl, _∙_}
-use Rattle.terms.proofs.Solves.{wiped-back, round-found, round-apart, round-full, round-extends, bind-full, bind-more}
+use Rattle.terms.proofs.Solves.{wiped-back, finished-results, clash-results, one-results, round-found, round-apart, round-full, round-extends, bind-full, bind-more}
 use borrow.Author.Needs.{needs}
 use Rattle.terms.proofs.unify.bind_next.Statement.{statement}
 use Rattle.terms.proofs.unify.bind_next.Tie as tie
@@ -8,204 +8,220 @@ use Rattle.terms.proofs.unify.bind_next.Lts as lts
 use Rattle.terms.proofs.peel.peel.Reads as peel-reads
 use Rattle.terms.proofs.store.wipe.Reads as wipe-reads
 use Rattle.terms.proofs.theta.extend.Reads as extend-reads
+use Rattle.terms.proofs.unify.clear.Reads as clear-reads
 
--- src/unify.rt:47:9
+-- src/unify.rt:57:11
 peel-requires : tie.Need-peel-requires
 peel-requires c κs = search needs
 
--- src/unify.rt:48:5
-wipe-requires : tie.Need-wipe-requires
-wipe-requires c κs = search needs
+-- src/unify.rt:58:26
+enum-known-last : tie.Need-enum-known-last
+enum-known-last c = search needs
 
--- src/unify.rt:50:26
-enum-known-r : tie.Need-enum-known-r
-enum-known-r c = search needs
+-- src/unify.rt:59:13
+clear-requires : tie.Need-clear-requires
+clear-requires c κs = finished-results _ _ _ _ _ _ _ _ _ (c .before .before .before .before .before .before .before .before .before .before .before .before .before .before .before .before .before .before .before .before .before .before .before .before .before .before .before .before .pre) _ _ ((c .before .before .before .before .before .before .before .before .before .before .before .before .before .before .peel) .last .1 .1 .1 .1 .0) ((c .before .before .before .before .before .before .before .before .before .before .before .before .before .before .peel) .last .1 .1 .1 .1 .1 .0) ((c .before .before .before .before .before .before .before .before .before .before .before .before .before .before .peel) .result) ((c .before .before .before .before .before .before .before .before .before .before .before .before .before .before .peel) .ensures .0) _ ((c .before .before .last) .given .1)
 
--- src/unify.rt:51:23
-enum-known-r-2 : tie.Need-enum-known-r-2
-enum-known-r-2 c = search needs
+-- src/unify.rt:62:23
+enum-known-last-2 : tie.Need-enum-known-last-2
+enum-known-last-2 c = search needs
 
--- src/unify.rt:52:22
-enum-known-r-3 : tie.Need-enum-known-r-3
-enum-known-r-3 c = search needs
+-- src/unify.rt:63:13
+clear-requires-2 : tie.Need-clear-requires-2
+clear-requires-2 c κs = clash-results _ _ _ _ _ _ _ _ _ (c .before .before .before .before .before .before .before .before .before .before .before .before .before .before .before .before .before .before .before .before .before .before .before .before .before .before .before .before .pre) _ _ ((c .before .before .before .before .before .before .before .before .before .before .before .before .before .before .peel) .last .1 .1 .1 .1 .0) ((c .before .before .before .before .before .before .before .before .before .before .before .before .before .before .peel) .last .1 .1 .1 .1 .1 .0) ((c .before .before .before .before .before .before .before .before .before .before .before .before .before .before .peel) .result) ((c .before .before .before .before .before .before .before .before .before .before .before .before .before .before .peel) .ensures .0) _ ((c .before .before .last2) .given .1)
 
--- src/unify.rt:53:23
-enum-known-r-4 : tie.Need-enum-known-r-4
-enum-known-r-4 c = search needs
-
--- src/unify.rt:53:50
-extend-requires : tie.Need-extend-requires
-extend-requires c κs = round-extends _ _ _ _ _ _ _ _ _ (c .before .before .before .before .before .before .before .before .before .before .before .before .before .before .before .before .before .before .before .before .before .before .before .before .before .before .before .before .before .before .before .before .before .before .before .before .pre) _ _ ((c .before .before .before .before .before .before .before .before .before .before .before .before .before .before .before .before .before .before .before .before .before .before .peel) .last .1 .1 .1 .1 .1 .0) ((c .before .before .before .before .before .before .before .before .before .before .before .before .before .before .before .before .before .before .before .before .before .before .peel) .result) ((c .before .before .before .before .before .before .before .before .before .before .before .before .before .before .before .before .before .before .before .before .before .before .peel) .ensures .0) _ _ _ _ ((c .before .before .before .before .before .before .r4) .given .1) _ (wiped-back _ _ _ _ _ _ _ _ _ (c .before .before .before .before .before .before .before .before .before .before .before .before .before .before .before .before .before .before .before .before .before .before .before .before .before .before .before .before .before .before .before .before .before .before .before .before .pre) ((c .before .before .before .before .before .before .before .before .before .before .before .before .before .before .before .before .before .before .before .before .before .before .peel) .last .1 .1 .1 .1 .0) _ ((c .before .before .before .before .before .before .before .before .before .before .before .before .before .before .before .before .before .before .before .before .before .before .peel) .kept .1 .1 .1 .1 .0) ((c .before .before .before .before .before .before .before .before .before .before .wipe) .ensures))
-
--- src/unify.rt:54:22
-enum-known-new : tie.Need-enum-known-new
-enum-known-new c = search needs
-
--- src/unify.rt:55:24
+-- src/unify.rt:66:22
 enum-known-row : tie.Need-enum-known-row
 enum-known-row c = search needs
 
--- src/unify.rt:32:1
+-- src/unify.rt:67:13
+wipe-requires : tie.Need-wipe-requires
+wipe-requires c κs = search needs
+
+-- src/unify.rt:70:23
+enum-known-x : tie.Need-enum-known-x
+enum-known-x c = search needs
+
+-- src/unify.rt:71:13
+clear-requires-3 : tie.Need-clear-requires-3
+clear-requires-3 c κs = one-results _ _ _ _ _ _ _ _ _ (c .before .before .before .before .before .before .before .before .before .before .before .before .before .before .before .before .before .before .before .before .before .before .before .before .before .before .before .before .pre) _ _ ((c .before .before .before .before .before .before .before .before .before .before .before .before .before .before .peel) .last .1 .1 .1 .1 .0) ((c .before .before .before .before .before .before .before .before .before .before .before .before .before .before .peel) .last .1 .1 .1 .1 .1 .0) ((c .before .before .before .before .before .before .before .before .before .before .before .before .before .before .peel) .result) ((c .before .before .before .before .before .before .before .before .before .before .before .before .before .before .peel) .ensures .0) _ _ _ _ ((c .before .before .x) .given .1)
+
+-- src/unify.rt:72:19
+extend-requires : tie.Need-extend-requires
+extend-requires c κs = round-extends _ _ _ _ _ _ _ _ _ (c .before .before .before .before .before .before .before .before .before .before .before .before .before .before .before .before .before .before .before .before .before .before .before .before .before .before .before .before .before .before .before .before .before .before .before .before .pre) _ _ ((c .before .before .before .before .before .before .before .before .before .before .before .before .before .before .before .before .before .before .before .before .before .before .peel) .last .1 .1 .1 .1 .0) ((c .before .before .before .before .before .before .before .before .before .before .before .before .before .before .before .before .before .before .before .before .before .before .peel) .last .1 .1 .1 .1 .1 .0) ((c .before .before .before .before .before .before .before .before .before .before .before .before .before .before .before .before .before .before .before .before .before .before .peel) .result) ((c .before .before .before .before .before .before .before .before .before .before .before .before .before .before .before .before .before .before .before .before .before .before .peel) .ensures .0) _ _ _ _ ((c .before .before .before .before .before .before .before .before .before .before .x) .given .1) _ (wiped-back _ _ _ _ _ _ _ _ _ (c .before .before .before .before .before .before .before .before .before .before .before .before .before .before .before .before .before .before .before .before .before .before .before .before .before .before .before .before .before .before .before .before .before .before .before .before .pre) ((c .before .before .before .before .before .before .before .before .before .before .before .before .before .before .before .before .before .before .before .before .before .before .peel) .last .1 .1 .1 .1 .0) _ ((c .before .before .before .before .before .before .before .before .before .before .before .before .before .before .before .before .before .before .before .before .before .before .peel) .kept .1 .1 .1 .1 .0) ((c .before .before .before .before .before .before .before .clear3) .ensures))
+
+-- src/unify.rt:73:26
+enum-known-new : tie.Need-enum-known-new
+enum-known-new c = search needs
+
+-- src/unify.rt:74:28
+enum-known-row-2 : tie.Need-enum-known-row-2
+enum-known-row-2 c = search needs
+
+-- src/unify.rt:42:1
 same-length : tie.Need-same-length
-same-length c = search needs
+same-length c = (c .before .before .before .before .before .before .before .before .before .before .before .before .before .before .before .before .before .peel) .kept .0
 
--- src/unify.rt:32:1
+-- src/unify.rt:42:1
 same-length-2 : tie.Need-same-length-2
-same-length-2 c = search needs
+same-length-2 c = (c .before .before .before .before .before .before .before .before .before .before .before .before .before .before .before .before .before .peel) .kept .1 .0
 
--- src/unify.rt:32:1
+-- src/unify.rt:42:1
 same-length-3 : tie.Need-same-length-3
-same-length-3 c = search needs
+same-length-3 c = refl
 
--- src/unify.rt:32:1
+-- src/unify.rt:42:1
 same-length-4 : tie.Need-same-length-4
-same-length-4 c = search needs
+same-length-4 c = (c .before .before .clear) .kept .0 ∙ (c .before .before .before .before .before .before .before .before .before .before .before .before .before .before .before .before .before .peel) .kept .1 .1 .1 .1 .0
 
--- src/unify.rt:32:1
+-- src/unify.rt:42:1
 same-length-5 : tie.Need-same-length-5
-same-length-5 c = search needs
+same-length-5 c = (c .before .before .before .before .before .before .before .before .before .before .before .before .before .before .before .before .before .peel) .kept .1 .1 .1 .1 .1 .0
 
--- src/unify.rt:32:1
+-- src/unify.rt:42:1
 same-length-6 : tie.Need-same-length-6
-same-length-6 c = search needs
+same-length-6 c = (c .before .before .before .before .before .before .before .before .before .before .before .before .before .before .before .before .before .peel) .kept .1 .1 .1 .1 .1 .1 .0
 
--- src/unify.rt:32:1
+-- src/unify.rt:42:1
 returns : tie.Need-returns
-returns c = (round-found _ _ _ _ _ _ _ _ _ (c .before .before .before .before .before .before .before .before .before .before .before .before .before .before .before .before .before .before .before .before .before .before .before .before .before .before .before .before .before .before .before .pre) _ _ ((c .before .before .before .before .before .before .before .before .before .before .before .before .before .before .before .before .before .peel) .last .1 .1 .1 .1 .1 .0) ((c .before .before .before .before .before .before .before .before .before .before .before .before .before .before .before .before .before .peel) .result) ((c .before .before .before .before .before .before .before .before .before .before .before .before .before .before .before .before .before .peel) .ensures .0) _ ((c .before .r) .given .1), (refl, wiped-back _ _ _ _ _ _ _ _ _ (c .before .before .before .before .before .before .before .before .before .before .before .before .before .before .before .before .before .before .before .before .before .before .before .before .before .before .before .before .before .before .before .pre) ((c .before .before .before .before .before .before .before .before .before .before .before .before .before .before .before .before .before .peel) .last .1 .1 .1 .1 .0) _ ((c .before .before .before .before .before .before .before .before .before .before .before .before .before .before .before .before .before .peel) .kept .1 .1 .1 .1 .0) ((c .before .before .before .before .before .wipe) .ensures), (c .before .before .before .before .before .before .before .before .before .before .before .before .before .before .before .before .before .peel) .ensures .1))
+returns c = (round-found _ _ _ _ _ _ _ _ _ (c .before .before .before .before .before .before .before .before .before .before .before .before .before .before .before .before .before .before .before .before .before .before .before .before .before .before .before .before .before .before .before .pre) _ _ ((c .before .before .before .before .before .before .before .before .before .before .before .before .before .before .before .before .before .peel) .last .1 .1 .1 .1 .0) ((c .before .before .before .before .before .before .before .before .before .before .before .before .before .before .before .before .before .peel) .last .1 .1 .1 .1 .1 .0) ((c .before .before .before .before .before .before .before .before .before .before .before .before .before .before .before .before .before .peel) .result) ((c .before .before .before .before .before .before .before .before .before .before .before .before .before .before .before .before .before .peel) .ensures .0) _ ((c .before .before .before .before .before .last) .given .1), (refl, wiped-back _ _ _ _ _ _ _ _ _ (c .before .before .before .before .before .before .before .before .before .before .before .before .before .before .before .before .before .before .before .before .before .before .before .before .before .before .before .before .before .before .before .pre) ((c .before .before .before .before .before .before .before .before .before .before .before .before .before .before .before .before .before .peel) .last .1 .1 .1 .1 .0) _ ((c .before .before .before .before .before .before .before .before .before .before .before .before .before .before .before .before .before .peel) .kept .1 .1 .1 .1 .0) ((c .before .before .clear) .ensures), (c .before .before .before .before .before .before .before .before .before .before .before .before .before .before .before .before .before .peel) .ensures .1))
 
--- src/unify.rt:32:1
+-- src/unify.rt:42:1
 same-length-7 : tie.Need-same-length-7
-same-length-7 c = search needs
+same-length-7 c = (c .before .before .before .before .before .before .before .before .before .before .before .before .before .before .before .before .before .peel) .kept .0
 
--- src/unify.rt:32:1
+-- src/unify.rt:42:1
 same-length-8 : tie.Need-same-length-8
-same-length-8 c = search needs
+same-length-8 c = (c .before .before .before .before .before .before .before .before .before .before .before .before .before .before .before .before .before .peel) .kept .1 .0
 
--- src/unify.rt:32:1
+-- src/unify.rt:42:1
 same-length-9 : tie.Need-same-length-9
-same-length-9 c = search needs
+same-length-9 c = refl
 
--- src/unify.rt:32:1
+-- src/unify.rt:42:1
 same-length-10 : tie.Need-same-length-10
-same-length-10 c = search needs
+same-length-10 c = (c .before .before .clear2) .kept .0 ∙ (c .before .before .before .before .before .before .before .before .before .before .before .before .before .before .before .before .before .peel) .kept .1 .1 .1 .1 .0
 
--- src/unify.rt:32:1
+-- src/unify.rt:42:1
 same-length-11 : tie.Need-same-length-11
-same-length-11 c = search needs
+same-length-11 c = (c .before .before .before .before .before .before .before .before .before .before .before .before .before .before .before .before .before .peel) .kept .1 .1 .1 .1 .1 .0
 
--- src/unify.rt:32:1
+-- src/unify.rt:42:1
 same-length-12 : tie.Need-same-length-12
-same-length-12 c = search needs
+same-length-12 c = (c .before .before .before .before .before .before .before .before .before .before .before .before .before .before .before .before .before .peel) .kept .1 .1 .1 .1 .1 .1 .0
 
--- src/unify.rt:32:1
+-- src/unify.rt:42:1
 returns-2 : tie.Need-returns-2
-returns-2 c = (round-apart _ _ _ _ _ _ _ _ _ (c .before .before .before .before .before .before .before .before .before .before .before .before .before .before .before .before .before .before .before .before .before .before .before .before .before .before .before .before .before .before .before .pre) _ _ ((c .before .before .before .before .before .before .before .before .before .before .before .before .before .before .before .before .before .peel) .last .1 .1 .1 .1 .1 .0) ((c .before .before .before .before .before .before .before .before .before .before .before .before .before .before .before .before .before .peel) .result) ((c .before .before .before .before .before .before .before .before .before .before .before .before .before .before .before .before .before .peel) .ensures .0) _ ((c .before .r2) .given .1), (refl, wiped-back _ _ _ _ _ _ _ _ _ (c .before .before .before .before .before .before .before .before .before .before .before .before .before .before .before .before .before .before .before .before .before .before .before .before .before .before .before .before .before .before .before .pre) ((c .before .before .before .before .before .before .before .before .before .before .before .before .before .before .before .before .before .peel) .last .1 .1 .1 .1 .0) _ ((c .before .before .before .before .before .before .before .before .before .before .before .before .before .before .before .before .before .peel) .kept .1 .1 .1 .1 .0) ((c .before .before .before .before .before .wipe) .ensures), (c .before .before .before .before .before .before .before .before .before .before .before .before .before .before .before .before .before .peel) .ensures .1))
+returns-2 c = (round-apart _ _ _ _ _ _ _ _ _ (c .before .before .before .before .before .before .before .before .before .before .before .before .before .before .before .before .before .before .before .before .before .before .before .before .before .before .before .before .before .before .before .pre) _ _ ((c .before .before .before .before .before .before .before .before .before .before .before .before .before .before .before .before .before .peel) .last .1 .1 .1 .1 .0) ((c .before .before .before .before .before .before .before .before .before .before .before .before .before .before .before .before .before .peel) .last .1 .1 .1 .1 .1 .0) ((c .before .before .before .before .before .before .before .before .before .before .before .before .before .before .before .before .before .peel) .result) ((c .before .before .before .before .before .before .before .before .before .before .before .before .before .before .before .before .before .peel) .ensures .0) _ ((c .before .before .before .before .before .last2) .given .1), (refl, wiped-back _ _ _ _ _ _ _ _ _ (c .before .before .before .before .before .before .before .before .before .before .before .before .before .before .before .before .before .before .before .before .before .before .before .before .before .before .before .before .before .before .before .pre) ((c .before .before .before .before .before .before .before .before .before .before .before .before .before .before .before .before .before .peel) .last .1 .1 .1 .1 .0) _ ((c .before .before .before .before .before .before .before .before .before .before .before .before .before .before .before .before .before .peel) .kept .1 .1 .1 .1 .0) ((c .before .before .clear2) .ensures), (c .before .before .before .before .before .before .before .before .before .before .before .before .before .before .before .before .before .peel) .ensures .1))
 
--- src/unify.rt:32:1
+-- src/unify.rt:42:1
 same-length-13 : tie.Need-same-length-13
-same-length-13 c = search needs
+same-length-13 c = (c .before .before .before .before .before .before .before .before .before .before .before .before .before .before .before .before .before .peel) .kept .0
 
--- src/unify.rt:32:1
+-- src/unify.rt:42:1
 same-length-14 : tie.Need-same-length-14
-same-length-14 c = search needs
+same-length-14 c = (c .before .before .before .before .before .before .before .before .before .before .before .before .before .before .before .before .before .peel) .kept .1 .0
 
--- src/unify.rt:32:1
+-- src/unify.rt:42:1
 same-length-15 : tie.Need-same-length-15
-same-length-15 c = search needs
+same-length-15 c = refl
 
--- src/unify.rt:32:1
+-- src/unify.rt:42:1
 same-length-16 : tie.Need-same-length-16
-same-length-16 c = search needs
+same-length-16 c = (c .before .before .wipe) .kept .0 ∙ (c .before .before .before .before .before .before .before .before .before .before .before .before .before .before .before .before .before .peel) .kept .1 .1 .1 .1 .0
 
--- src/unify.rt:32:1
+-- src/unify.rt:42:1
 same-length-17 : tie.Need-same-length-17
-same-length-17 c = search needs
+same-length-17 c = (c .before .before .before .before .before .before .before .before .before .before .before .before .before .before .before .before .before .peel) .kept .1 .1 .1 .1 .1 .0
 
--- src/unify.rt:32:1
+-- src/unify.rt:42:1
 same-length-18 : tie.Need-same-length-18
-same-length-18 c = search needs
+same-length-18 c = (c .before .before .before .before .before .before .before .before .before .before .before .before .before .before .before .before .before .peel) .kept .1 .1 .1 .1 .1 .1 .0
 
--- src/unify.rt:32:1
+-- src/unify.rt:42:1
 returns-3 : tie.Need-returns-3
-returns-3 c = (round-full _ _ _ _ _ _ _ _ _ (c .before .before .before .before .before .before .before .before .before .before .before .before .before .before .before .before .before .before .before .before .before .before .before .before .before .before .before .before .before .before .before .pre) _ _ ((c .before .before .before .before .before .before .before .before .before .before .before .before .before .before .before .before .before .peel) .last .1 .1 .1 .1 .1 .0) ((c .before .before .before .before .before .before .before .before .before .before .before .before .before .before .before .before .before .peel) .result) ((c .before .before .before .before .before .before .before .before .before .before .before .before .before .before .before .before .before .peel) .ensures .0) _ _ ((c .before .r3) .given .1), (refl, wiped-back _ _ _ _ _ _ _ _ _ (c .before .before .before .before .before .before .before .before .before .before .before .before .before .before .before .before .before .before .before .before .before .before .before .before .before .before .before .before .before .before .before .pre) ((c .before .before .before .before .before .before .before .before .before .before .before .before .before .before .before .before .before .peel) .last .1 .1 .1 .1 .0) _ ((c .before .before .before .before .before .before .before .before .before .before .before .before .before .before .before .before .before .peel) .kept .1 .1 .1 .1 .0) ((c .before .before .before .before .before .wipe) .ensures), (c .before .before .before .before .before .before .before .before .before .before .before .before .before .before .before .before .before .peel) .ensures .1))
+returns-3 c = (round-full _ _ _ _ _ _ _ _ _ (c .before .before .before .before .before .before .before .before .before .before .before .before .before .before .before .before .before .before .before .before .before .before .before .before .before .before .before .before .before .before .before .pre) _ _ ((c .before .before .before .before .before .before .before .before .before .before .before .before .before .before .before .before .before .peel) .last .1 .1 .1 .1 .0) ((c .before .before .before .before .before .before .before .before .before .before .before .before .before .before .before .before .before .peel) .last .1 .1 .1 .1 .1 .0) ((c .before .before .before .before .before .before .before .before .before .before .before .before .before .before .before .before .before .peel) .result) ((c .before .before .before .before .before .before .before .before .before .before .before .before .before .before .before .before .before .peel) .ensures .0) _ _ ((c .before .before .before .before .before .row) .given .1), (refl, wiped-back _ _ _ _ _ _ _ _ _ (c .before .before .before .before .before .before .before .before .before .before .before .before .before .before .before .before .before .before .before .before .before .before .before .before .before .before .before .before .before .before .before .pre) ((c .before .before .before .before .before .before .before .before .before .before .before .before .before .before .before .before .before .peel) .last .1 .1 .1 .1 .0) _ ((c .before .before .before .before .before .before .before .before .before .before .before .before .before .before .before .before .before .peel) .kept .1 .1 .1 .1 .0) ((c .before .before .wipe) .ensures), (c .before .before .before .before .before .before .before .before .before .before .before .before .before .before .before .before .before .peel) .ensures .1))
 
--- src/unify.rt:32:1
+-- src/unify.rt:42:1
 same-length-19 : tie.Need-same-length-19
 same-length-19 c = (c .before .before .before .before .before .before .before .before .before .before .before .before .before .extend) .kept .0 ∙ (c .before .before .before .before .before .before .before .before .before .before .before .before .before .before .before .before .before .before .before .before .before .before .before .before .before .before .before .before .before .before .before .before .before .before .before .before .peel) .kept .0
 
--- src/unify.rt:32:1
+-- src/unify.rt:42:1
 same-length-20 : tie.Need-same-length-20
 same-length-20 c = (c .before .before .before .before .before .before .before .before .before .before .before .before .before .extend) .kept .1 .0 ∙ (c .before .before .before .before .before .before .before .before .before .before .before .before .before .before .before .before .before .before .before .before .before .before .before .before .before .before .before .before .before .before .before .before .before .before .before .before .peel) .kept .1 .0
 
--- src/unify.rt:32:1
+-- src/unify.rt:42:1
 same-length-21 : tie.Need-same-length-21
-same-length-21 c = search needs
+same-length-21 c = (c .before .before .before .before .before .before .before .before .before .before .before .before .before .extend) .kept .1 .1 .1 .0
 
--- src/unify.rt:32:1
+-- src/unify.rt:42:1
 same-length-22 : tie.Need-same-length-22
-same-length-22 c = search needs
+same-length-22 c = (c .before .before .before .before .before .before .before .before .before .before .before .before .before .extend) .kept .1 .1 .1 .1 .0
 
--- src/unify.rt:32:1
+-- src/unify.rt:42:1
 same-length-23 : tie.Need-same-length-23
-same-length-23 c = (c .before .before .before .before .before .before .before .before .before .before .before .before .before .extend) .kept .1 .1 .1 .1 .1 .0 ∙ (c .before .before .before .before .before .before .before .before .before .before .before .before .before .before .before .before .before .before .before .before .before .before .before .before .wipe) .kept .0 ∙ (c .before .before .before .before .before .before .before .before .before .before .before .before .before .before .before .before .before .before .before .before .before .before .before .before .before .before .before .before .before .before .before .before .before .before .before .before .peel) .kept .1 .1 .1 .1 .0
+same-length-23 c = (c .before .before .before .before .before .before .before .before .before .before .before .before .before .extend) .kept .1 .1 .1 .1 .1 .0 ∙ (c .before .before .before .before .before .before .before .before .before .before .before .before .before .before .before .before .before .before .before .before .before .clear3) .kept .0 ∙ (c .before .before .before .before .before .before .before .before .before .before .before .before .before .before .before .before .before .before .before .before .before .before .before .before .before .before .before .before .before .before .before .before .before .before .before .before .peel) .kept .1 .1 .1 .1 .0
 
--- src/unify.rt:32:1
+-- src/unify.rt:42:1
 same-length-24 : tie.Need-same-length-24
-same-length-24 c = search needs
+same-length-24 c = (c .before .before .before .before .before .before .before .before .before .before .before .before .before .before .before .before .before .before .before .before .before .before .before .before .before .before .before .before .before .before .before .before .before .before .before .before .peel) .kept .1 .1 .1 .1 .1 .0
 
--- src/unify.rt:32:1
+-- src/unify.rt:42:1
 same-length-25 : tie.Need-same-length-25
-same-length-25 c = search needs
+same-length-25 c = (c .before .before .before .before .before .before .before .before .before .before .before .before .before .before .before .before .before .before .before .before .before .before .before .before .before .before .before .before .before .before .before .before .before .before .before .before .peel) .kept .1 .1 .1 .1 .1 .1 .0
 
--- src/unify.rt:32:1
+-- src/unify.rt:42:1
 returns-4 : tie.Need-returns-4
-returns-4 c = (bind-more _ _ _ _ _ _ _ _ _ (c .before .before .before .before .before .before .before .before .before .before .before .before .before .before .before .before .before .before .before .before .before .before .before .before .before .before .before .before .before .before .before .before .before .before .before .before .before .before .before .before .before .before .before .before .before .before .before .before .before .before .pre) _ _ ((c .before .before .before .before .before .before .before .before .before .before .before .before .before .before .before .before .before .before .before .before .before .before .before .before .before .before .before .before .before .before .before .before .before .before .before .before .peel) .last .1 .1 .1 .1 .1 .0) ((c .before .before .before .before .before .before .before .before .before .before .before .before .before .before .before .before .before .before .before .before .before .before .before .before .before .before .before .before .before .before .before .before .before .before .before .before .peel) .result) ((c .before .before .before .before .before .before .before .before .before .before .before .before .before .before .before .before .before .before .before .before .before .before .before .before .before .before .before .before .before .before .before .before .before .before .before .before .peel) .ensures .0) _ _ _ _ ((c .before .before .before .before .before .before .before .before .before .before .before .before .before .before .before .before .before .before .before .before .r4) .given .1) _ _ ((c .before .before .before .before .before .before .before .before .before .before .before .before .before .extend) .last .1 .1 .1 .0) ((c .before .before .before .before .before .before .before .before .before .before .before .before .before .extend) .result) ((c .before .before .before .before .before .before .before .before .before .before .before .before .before .extend) .ensures .0) _ ((c .before .new) .given .1) ((c .before .before .before .before .before .before .before .before .before .before .before .before .before .before .before .before .before .before .before .before .before .before .before .before .before .before .before .before .before .before .before .before .before .before .before .before .peel) .kept .1 .1 .1 .1 .1 .0), ((c .before .before .before .before .before .before .before .before .before .before .before .before .before .extend) .ensures .1 .0, (c .before .before .before .before .before .before .before .before .before .before .before .before .before .extend) .ensures .1 .1 ∙ wiped-back _ _ _ _ _ _ _ _ _ (c .before .before .before .before .before .before .before .before .before .before .before .before .before .before .before .before .before .before .before .before .before .before .before .before .before .before .before .before .before .before .before .before .before .before .before .before .before .before .before .before .before .before .before .before .before .before .before .before .before .before .pre) ((c .before .before .before .before .before .before .before .before .before .before .before .before .before .before .before .before .before .before .before .before .before .before .before .before .before .before .before .before .before .before .before .before .before .before .before .before .peel) .last .1 .1 .1 .1 .0) _ ((c .before .before .before .before .before .before .before .before .before .before .before .before .before .before .before .before .before .before .before .before .before .before .before .before .before .before .before .before .before .before .before .before .before .before .before .before .peel) .kept .1 .1 .1 .1 .0) ((c .before .before .before .before .before .before .before .before .before .before .before .before .before .before .before .before .before .before .before .before .before .before .before .before .wipe) .ensures), (c .before .before .before .before .before .before .before .before .before .before .before .before .before .before .before .before .before .before .before .before .before .before .before .before .before .before .before .before .before .before .before .before .before .before .before .before .peel) .ensures .1))
+returns-4 c = (bind-more _ _ _ _ _ _ _ _ _ (c .before .before .before .before .before .before .before .before .before .before .before .before .before .before .before .before .before .before .before .before .before .before .before .before .before .before .before .before .before .before .before .before .before .before .before .before .before .before .before .before .before .before .before .before .before .before .before .before .before .before .pre) _ _ ((c .before .before .before .before .before .before .before .before .before .before .before .before .before .before .before .before .before .before .before .before .before .before .before .before .before .before .before .before .before .before .before .before .before .before .before .before .peel) .last .1 .1 .1 .1 .0) ((c .before .before .before .before .before .before .before .before .before .before .before .before .before .before .before .before .before .before .before .before .before .before .before .before .before .before .before .before .before .before .before .before .before .before .before .before .peel) .last .1 .1 .1 .1 .1 .0) ((c .before .before .before .before .before .before .before .before .before .before .before .before .before .before .before .before .before .before .before .before .before .before .before .before .before .before .before .before .before .before .before .before .before .before .before .before .peel) .result) ((c .before .before .before .before .before .before .before .before .before .before .before .before .before .before .before .before .before .before .before .before .before .before .before .before .before .before .before .before .before .before .before .before .before .before .before .before .peel) .ensures .0) _ _ _ _ ((c .before .before .before .before .before .before .before .before .before .before .before .before .before .before .before .before .before .before .before .before .before .before .before .before .x) .given .1) _ _ ((c .before .before .before .before .before .before .before .before .before .before .before .before .before .extend) .last .1 .1 .1 .0) ((c .before .before .before .before .before .before .before .before .before .before .before .before .before .extend) .result) ((c .before .before .before .before .before .before .before .before .before .before .before .before .before .extend) .ensures .0) _ ((c .before .new) .given .1) ((c .before .before .before .before .before .before .before .before .before .before .before .before .before .before .before .before .before .before .before .before .before .before .before .before .before .before .before .before .before .before .before .before .before .before .before .before .peel) .kept .1 .1 .1 .1 .1 .0), ((c .before .before .before .before .before .before .before .before .before .before .before .before .before .extend) .ensures .1 .0, (c .before .before .before .before .before .before .before .before .before .before .before .before .before .extend) .ensures .1 .1 ∙ wiped-back _ _ _ _ _ _ _ _ _ (c .before .before .before .before .before .before .before .before .before .before .before .before .before .before .before .before .before .before .before .before .before .before .before .before .before .before .before .before .before .before .before .before .before .before .before .before .before .before .before .before .before .before .before .before .before .before .before .before .before .before .pre) ((c .before .before .before .before .before .before .before .before .before .before .before .before .before .before .before .before .before .before .before .before .before .before .before .before .before .before .before .before .before .before .before .before .before .before .before .before .peel) .last .1 .1 .1 .1 .0) _ ((c .before .before .before .before .before .before .before .before .before .before .before .before .before .before .before .before .before .before .before .before .before .before .before .before .before .before .before .before .before .before .before .before .before .before .before .before .peel) .kept .1 .1 .1 .1 .0) ((c .before .before .before .before .before .before .before .before .before .before .before .before .before .before .before .before .before .before .before .before .before .clear3) .ensures), (c .before .before .before .before .before .before .before .before .before .before .before .before .before .before .before .before .before .before .before .before .before .before .before .before .before .before .before .before .before .before .before .before .before .before .before .before .peel) .ensures .1))
 
--- src/unify.rt:32:1
+-- src/unify.rt:42:1
 same-length-26 : tie.Need-same-length-26
 same-length-26 c = (c .before .before .before .before .before .before .before .before .before .before .before .before .before .extend) .kept .0 ∙ (c .before .before .before .before .before .before .before .before .before .before .before .before .before .before .before .before .before .before .before .before .before .before .before .before .before .before .before .before .before .before .before .before .before .before .before .before .peel) .kept .0
 
--- src/unify.rt:32:1
+-- src/unify.rt:42:1
 same-length-27 : tie.Need-same-length-27
 same-length-27 c = (c .before .before .before .before .before .before .before .before .before .before .before .before .before .extend) .kept .1 .0 ∙ (c .before .before .before .before .before .before .before .before .before .before .before .before .before .before .before .before .before .before .before .before .before .before .before .before .before .before .before .before .before .before .before .before .before .before .before .before .peel) .kept .1 .0
 
--- src/unify.rt:32:1
+-- src/unify.rt:42:1
 same-length-28 : tie.Need-same-length-28
-same-length-28 c = search needs
+same-length-28 c = (c .before .before .before .before .before .before .before .before .before .before .before .before .before .extend) .kept .1 .1 .1 .0
 
--- src/unify.rt:32:1
+-- src/unify.rt:42:1
 same-length-29 : tie.Need-same-length-29
-same-length-29 c = search needs
+same-length-29 c = (c .before .before .before .before .before .before .before .before .before .before .before .before .before .extend) .kept .1 .1 .1 .1 .0
 
--- src/unify.rt:32:1
+-- src/unify.rt:42:1
 same-length-30 : tie.Need-same-length-30
-same-length-30 c = (c .before .before .before .before .before .before .before .before .before .before .before .before .before .extend) .kept .1 .1 .1 .1 .1 .0 ∙ (c .before .before .before .before .before .before .before .before .before .before .before .before .before .before .before .before .before .before .before .before .before .before .before .before .wipe) .kept .0 ∙ (c .before .before .before .before .before .before .before .before .before .before .before .before .before .before .before .before .before .before .before .before .before .before .before .before .before .before .before .before .before .before .before .before .before .before .before .before .peel) .kept .1 .1 .1 .1 .0
+same-length-30 c = (c .before .before .before .before .before .before .before .before .before .before .before .before .before .extend) .kept .1 .1 .1 .1 .1 .0 ∙ (c .before .before .before .before .before .before .before .before .before .before .before .before .before .before .before .before .before .before .before .before .before .clear3) .kept .0 ∙ (c .before .before .before .before .before .before .before .before .before .before .before .before .before .before .before .before .before .before .before .before .before .before .before .before .before .before .before .before .before .before .before .before .before .before .before .before .peel) .kept .1 .1 .1 .1 .0
 
--- src/unify.rt:32:1
+-- src/unify.rt:42:1
 same-length-31 : tie.Need-same-length-31
-same-length-31 c = search needs
+same-length-31 c = (c .before .before .before .before .before .before .before .before .before .before .before .before .before .before .before .before .before .before .before .before .before .before .before .before .before .before .before .before .before .before .before .before .before .before .before .before .peel) .kept .1 .1 .1 .1 .1 .0
 
--- src/unify.rt:32:1
+-- src/unify.rt:42:1
 same-length-32 : tie.Need-same-length-32
-same-length-32 c = search needs
+same-length-32 c = (c .before .before .before .before .before .before .before .before .before .before .before .before .before .before .before .before .before .before .before .before .before .before .before .before .before .before .before .before .before .before .before .before .before .before .before .before .peel) .kept .1 .1 .1 .1 .1 .1 .0
 
--- src/unify.rt:32:1
+-- src/unify.rt:42:1
 returns-5 : tie.Need-returns-5
-returns-5 c = (bind-full _ _ _ _ _ _ _ _ _ (c .before .before .before .before .before .before .before .before .before .before .before .before .before .before .before .before .before .before .before .before .before .before .before .before .before .before .before .before .before .before .before .before .before .before .before .before .before .before .before .before .before .before .before .before .before .before .before .before .before .before .pre) _ _ ((c .before .before .before .before .before .before .before .before .before .before .before .before .before .before .before .before .before .before .before .before .before .before .before .before .before .before .before .before .before .before .before .before .before .before .before .before .peel) .last .1 .1 .1 .1 .1 .0) ((c .before .before .before .before .before .before .before .before .before .before .before .before .before .before .before .before .before .before .before .before .before .before .before .before .before .before .before .before .before .before .before .before .before .before .before .before .peel) .result) ((c .before .before .before .before .before .before .before .before .before .before .before .before .before .before .before .before .before .before .before .before .before .before .before .before .before .before .before .before .before .before .before .before .before .before .before .before .peel) .ensures .0) _ _ _ _ ((c .before .before .before .before .before .before .before .before .before .before .before .before .before .before .before .before .before .before .before .before .r4) .given .1) _ _ ((c .before .before .before .before .before .before .before .before .before .before .before .before .before .extend) .last .1 .1 .1 .0) ((c .before .before .before .before .before .before .before .before .before .before .before .before .before .extend) .result) ((c .before .before .before .before .before .before .before .before .before .before .before .before .before .extend) .ensures .0) _ _ ((c .before .row) .given .1), ((c .before .before .before .before .before .before .before .before .before .before .before .before .before .extend) .ensures .1 .0, (c .before .before .before .before .before .before .before .before .before .before .before .before .before .extend) .ensures .1 .1 ∙ wiped-back _ _ _ _ _ _ _ _ _ (c .before .before .before .before .before .before .before .before .before .before .before .before .before .before .before .before .before .before .before .before .before .before .before .before .before .before .before .before .before .before .before .before .before .before .before .before .before .before .before .before .before .before .before .before .before .before .before .before .before .before .pre) ((c .before .before .before .before .before .before .before .before .before .before .before .before .before .before .before .before .before .before .before .before .before .before .before .before .before .before .before .before .before .before .before .before .before .before .before .before .peel) .last .1 .1 .1 .1 .0) _ ((c .before .before .before .before .before .before .before .before .before .before .before .before .before .before .before .before .before .before .before .before .before .before .before .before .before .before .before .before .before .before .before .before .before .before .before .before .peel) .kept .1 .1 .1 .1 .0) ((c .before .before .before .before .before .before .before .before .before .before .before .before .before .before .before .before .before .before .before .before .before .before .before .before .wipe) .ensures), (c .before .before .before .before .before .before .before .before .before .before .before .before .before .before .before .before .before .before .before .before .before .before .before .before .before .before .before .before .before .before .before .before .before .before .before .before .peel) .ensures .1))
+returns-5 c = (bind-full _ _ _ _ _ _ _ _ _ (c .before .before .before .before .before .before .before .before .before .before .before .before .before .before .before .before .before .before .before .before .before .before .before .before .before .before .before .before .before .before .before .before .before .before .before .before .before .before .before .before .before .before .before .before .before .before .before .before .before .before .pre) _ _ ((c .before .before .before .before .before .before .before .before .before .before .before .before .before .before .before .before .before .before .before .before .before .before .before .before .before .before .before .before .before .before .before .before .before .before .before .before .peel) .last .1 .1 .1 .1 .0) ((c .before .before .before .before .before .before .before .before .before .before .before .before .before .before .before .before .before .before .before .before .before .before .before .before .before .before .before .before .before .before .before .before .before .before .before .before .peel) .last .1 .1 .1 .1 .1 .0) ((c .before .before .before .before .before .before .before .before .before .before .before .before .before .before .before .before .before .before .before .before .before .before .before .before .before .before .before .before .before .before .before .before .before .before .before .before .peel) .result) ((c .before .before .before .before .before .before .before .before .before .before .before .before .before .before .before .before .before .before .before .before .before .before .before .before .before .before .before .before .before .before .before .before .before .before .before .before .peel) .ensures .0) _ _ _ _ ((c .before .before .before .before .before .before .before .before .before .before .before .before .before .before .before .before .before .before .before .before .before .before .before .before .x) .given .1) _ _ ((c .before .before .before .before .before .before .before .before .before .before .before .before .before .extend) .last .1 .1 .1 .0) ((c .before .before .before .before .before .before .before .before .before .before .before .before .before .extend) .result) ((c .before .before .before .before .before .before .before .before .before .before .before .before .before .extend) .ensures .0) _ _ ((c .before .row2) .given .1), ((c .before .before .before .before .before .before .before .before .before .before .before .before .before .extend) .ensures .1 .0, (c .before .before .before .before .before .before .before .before .before .before .before .before .before .extend) .ensures .1 .1 ∙ wiped-back _ _ _ _ _ _ _ _ _ (c .before .before .before .before .before .before .before .before .before .before .before .before .before .before .before .before .before .before .before .before .before .before .before .before .before .before .before .before .before .before .before .before .before .before .before .before .before .before .before .before .before .before .before .before .before .before .before .before .before .before .pre) ((c .before .before .before .before .before .before .before .before .before .before .before .before .before .before .before .before .before .before .before .before .before .before .before .before .before .before .before .before .before .before .before .before .before .before .before .before .peel) .last .1 .1 .1 .1 .0) _ ((c .before .before .before .before .before .before .before .before .before .before .before .before .before .before .before .before .before .before .before .before .before .before .before .before .before .before .before .before .before .before .before .before .before .before .before .before .peel) .kept .1 .1 .1 .1 .0) ((c .before .before .before .before .before .before .before .before .before .before .before .before .before .before .before .before .before .before .before .before .before .clear3) .ensures), (c .before .before .before .before .before .before .before .before .before .before .before .before .before .before .before .before .before .before .before .before .before .before .before .before .before .before .before .before .before .before .before .before .before .before .before .before .peel) .ensures .1))
 
 pub bind-next-spec : {M : Type 1} → statement M
 bind-next-spec =
     tie.close
     (tie.spec
     peel-requires
+    enum-known-last
+    clear-requires
+    enum-known-last-2
+    clear-requires-2
+    enum-known-row
     wipe-requires
-    enum-known-r
-    enum-known-r-2
-    enum-known-r-3
-    enum-known-r-4
+    enum-known-x
+    clear-requires-3
     extend-requires
     enum-known-new
-    enum-known-row
+    enum-known-row-2
     same-length
     same-length-2
     same-length-3

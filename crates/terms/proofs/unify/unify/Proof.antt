@@ -1,4 +1,4 @@
-use mathlib.Core.Path.{ap}
+use mathlib.Core.Path.{ap, _∙_}
 use lib.ListN.{length}
 use Rattle.terms.proofs.Unifies.{unify-begins, pairs-back, unify-found, unify-apart, unify-full}
 use borrow.Author.Needs.{needs}
@@ -55,23 +55,23 @@ wipe-requires-3 c κs = search needs
 
 -- src/unify.rt:107:1
 same-length : tie.Need-same-length
-same-length c = search needs
+same-length c = (c .before .before .before .before .before .before .before .before .before .before .before .before .before .before .before .before .before .before .before .before .before .solve) .kept .0
 
 -- src/unify.rt:107:1
 same-length-2 : tie.Need-same-length-2
-same-length-2 c = search needs
+same-length-2 c = (c .before .before .before .before .before .before .before .before .before .before .before .before .before .before .before .before .before .before .before .before .before .solve) .kept .1 .0
 
 -- src/unify.rt:107:1
 same-length-3 : tie.Need-same-length-3
-same-length-3 c = search needs
+same-length-3 c = (c .before .before .before .before .before .before .before .before .before .before .before .before .before .before .before .before .before .before .before .before .before .solve) .kept .1 .1 .1 .1 .0
 
 -- src/unify.rt:107:1
 same-length-4 : tie.Need-same-length-4
-same-length-4 c = search needs
+same-length-4 c = (c .before .before .before .before .before .before .before .before .before .before .before .before .before .before .before .before .before .before .before .before .before .solve) .kept .1 .1 .1 .1 .1 .0
 
 -- src/unify.rt:107:1
 same-length-5 : tie.Need-same-length-5
-same-length-5 c = search needs
+same-length-5 c = (c .before .before .before .before .before .before .before .before .before .before .before .before .before .before .before .before .before .before .before .before .before .solve) .kept .1 .1 .1 .1 .1 .1 .0
 
 -- src/unify.rt:107:1
 same-length-6 : tie.Need-same-length-6
@@ -79,7 +79,7 @@ same-length-6 c = ap length (pairs-back _ _ _ _ _ _ _ _ _ _ (c .before .before .
 
 -- src/unify.rt:107:1
 same-length-7 : tie.Need-same-length-7
-same-length-7 c = search needs
+same-length-7 c = (c .before .before .before .before .before .before .before .before .before .before .before .before .before .before .before .before .before .before .before .before .before .solve) .kept .1 .1 .1 .1 .1 .1 .1 .1 .0
 
 -- src/unify.rt:107:1
 returns : tie.Need-returns
@@ -87,23 +87,23 @@ returns c = (unify-found _ _ _ _ _ _ _ _ _ _ (c .before .before .before .before 
 
 -- src/unify.rt:107:1
 same-length-8 : tie.Need-same-length-8
-same-length-8 c = search needs
+same-length-8 c = (c .before .before .before .before .before .before .before .before .before .before .before .before .before .before .before .before .before .before .before .before .before .before .before .before .before .solve) .kept .0
 
 -- src/unify.rt:107:1
 same-length-9 : tie.Need-same-length-9
-same-length-9 c = search needs
+same-length-9 c = (c .before .before .before .before .before .before .before .before .before .before .before .before .before .before .before .before .before .before .before .before .before .before .before .before .before .solve) .kept .1 .0
 
 -- src/unify.rt:107:1
 same-length-10 : tie.Need-same-length-10
-same-length-10 c = search needs
+same-length-10 c = (c .before .before .wipe2) .kept .0 ∙ (c .before .before .before .before .before .before .before .before .before .before .before .before .before .before .before .before .before .before .before .before .before .before .before .before .before .solve) .kept .1 .1 .1 .1 .0
 
 -- src/unify.rt:107:1
 same-length-11 : tie.Need-same-length-11
-same-length-11 c = search needs
+same-length-11 c = (c .before .before .before .before .before .before .before .before .before .before .before .before .before .before .before .before .before .before .before .before .before .before .before .before .before .solve) .kept .1 .1 .1 .1 .1 .0
 
 -- src/unify.rt:107:1
 same-length-12 : tie.Need-same-length-12
-same-length-12 c = search needs
+same-length-12 c = (c .before .before .before .before .before .before .before .before .before .before .before .before .before .before .before .before .before .before .before .before .before .before .before .before .before .solve) .kept .1 .1 .1 .1 .1 .1 .0
 
 -- src/unify.rt:107:1
 same-length-13 : tie.Need-same-length-13
@@ -111,7 +111,7 @@ same-length-13 c = ap length (pairs-back _ _ _ _ _ _ _ _ _ _ (c .before .before 
 
 -- src/unify.rt:107:1
 same-length-14 : tie.Need-same-length-14
-same-length-14 c = search needs
+same-length-14 c = (c .before .before .before .before .before .before .before .before .before .before .before .before .before .before .before .before .before .before .before .before .before .before .before .before .before .solve) .kept .1 .1 .1 .1 .1 .1 .1 .1 .0
 
 -- src/unify.rt:107:1
 returns-2 : tie.Need-returns-2
@@ -119,23 +119,23 @@ returns-2 c = (unify-apart _ _ _ _ _ _ _ _ _ _ (c .before .before .before .befor
 
 -- src/unify.rt:107:1
 same-length-15 : tie.Need-same-length-15
-same-length-15 c = search needs
+same-length-15 c = (c .before .before .before .before .before .before .before .before .before .before .before .before .before .before .before .before .before .before .before .before .before .before .before .before .before .solve) .kept .0
 
 -- src/unify.rt:107:1
 same-length-16 : tie.Need-same-length-16
-same-length-16 c = search needs
+same-length-16 c = (c .before .before .before .before .before .before .before .before .before .before .before .before .before .before .before .before .before .before .before .before .before .before .before .before .before .solve) .kept .1 .0
 
 -- src/unify.rt:107:1
 same-length-17 : tie.Need-same-length-17
-same-length-17 c = search needs
+same-length-17 c = (c .before .before .wipe3) .kept .0 ∙ (c .before .before .before .before .before .before .before .before .before .before .before .before .before .before .before .before .before .before .before .before .before .before .before .before .before .solve) .kept .1 .1 .1 .1 .0
 
 -- src/unify.rt:107:1
 same-length-18 : tie.Need-same-length-18
-same-length-18 c = search needs
+same-length-18 c = (c .before .before .before .before .before .before .before .before .before .before .before .before .before .before .before .before .before .before .before .before .before .before .before .before .before .solve) .kept .1 .1 .1 .1 .1 .0
 
 -- src/unify.rt:107:1
 same-length-19 : tie.Need-same-length-19
-same-length-19 c = search needs
+same-length-19 c = (c .before .before .before .before .before .before .before .before .before .before .before .before .before .before .before .before .before .before .before .before .before .before .before .before .before .solve) .kept .1 .1 .1 .1 .1 .1 .0
 
 -- src/unify.rt:107:1
 same-length-20 : tie.Need-same-length-20
@@ -143,7 +143,7 @@ same-length-20 c = ap length (pairs-back _ _ _ _ _ _ _ _ _ _ (c .before .before 
 
 -- src/unify.rt:107:1
 same-length-21 : tie.Need-same-length-21
-same-length-21 c = search needs
+same-length-21 c = (c .before .before .before .before .before .before .before .before .before .before .before .before .before .before .before .before .before .before .before .before .before .before .before .before .before .solve) .kept .1 .1 .1 .1 .1 .1 .1 .1 .0
 
 -- src/unify.rt:107:1
 returns-3 : tie.Need-returns-3
