@@ -2,26 +2,22 @@
 use mathlib.Core.Path.{_≡_, refl, sym, ap, _∙_, subst}
 use mathlib.Core.Bool.{Bool, true, false, false≢true}
 use mathlib.Core.List.{List, [], _∷_}
-use mathlib.Core.Logic.{⊎-elim}
 use Prim.Native.Nat.{ℕ, zero, suc, _+_, _-_, _≤_, _<_}
 use native.Mathlib.Omega.{arith}
 use native.Mathlib.Decide.{decLt}
 use native.Mathlib.Nat.{not-suc-le-zero}
 use lib.ListN.{length, getD}
-use lib.Dec.{eqb}
 use borrow.Author.Tests.{eqb-true}
 use Rattle.rules.specs.Limits.{SYMBOLS, VARIABLES}
 use Rattle.rules.specs.Out.{Out}
-use Rattle.rules.specs.Tree.{Tree, Trees, var, app, none, more, variables, variablesOf}
-use Rattle.rules.specs.Find.{Set}
+use Rattle.rules.specs.Tree.{Tree, var, more, variables}
 use Rattle.rules.specs.Store.{Made}
 use Rattle.rules.specs.Laws.Store.{number-is}
-use Rattle.rules.specs.Laws.Rising.{or-cases}
-use Rattle.rules.specs.Laws.Tree.{variables-var, variables-app, variables-none, variables-more}
+use Rattle.rules.specs.Laws.Tree.{variables-var}
 use Rattle.terms.specs.declared.store.Mark.{Mark}
 use Rattle.terms.specs.declared.store.Kept.{Kept}
 use Rattle.terms.specs.declared.store.Kept.the-variants.{Term as Number, Full as NoRoom}
-use Rattle.terms.specs.Table.{start, argsOf, treeAt, made, Shaped, isVar, isApp, Node, Good, Grown, Stored, After}
+use Rattle.terms.specs.Table.{start, argsOf, treeAt, made, isVar, isApp, Node, Good, Grown, Stored, After}
 use Rattle.terms.specs.Collect.{tree}
 use Rattle.terms.specs.Unify.{Within}
 use Rattle.terms.proofs.Tables.{length-trees, tree-app, tree-var}

@@ -1,10 +1,10 @@
 -- The tables between two calls: empty ones, and cells that are zero again. Assumes nothing.
 use mathlib.Core.Path.{_≡_, refl, sym, ap, _∙_, subst}
 use mathlib.Core.List.{List}
-use Prim.Native.Nat.{ℕ, _*_, _≤_, _<_}
+use Prim.Native.Nat.{ℕ}
 use native.Mathlib.Omega.{arith}
-use lib.ListN.{length, getD, replicate, length-replicate}
-use Rattle.rules.specs.Limits.{VARIABLES, TERMS, WORDS, PAIRS}
+use lib.ListN.{length, replicate, length-replicate}
+use Rattle.rules.specs.Limits.{VARIABLES, TERMS, WORDS}
 use Rattle.rules.specs.Out.{Out}
 use Rattle.rules.specs.Store.{Made}
 use Rattle.rules.specs.Unify.{Binding}

@@ -1,9 +1,9 @@
--- `terms_main::show_under` meets its contract. By the answer of the store. Assumes nothing.
+-- `terms_main::show::show_under` meets its contract. By the answer of the store. Assumes nothing.
 use native.Mathlib.Omega.{arith}
 use Rattle.terms_main.proofs.Places.{stored, unkept}
 use borrow.Author.Needs.{needs}
-use Rattle.terms_main.proofs.show_under.Statement.{statement}
-use Rattle.terms_main.proofs.show_under.Tie as tie
+use Rattle.terms_main.proofs.show.show_under.Statement.{statement}
+use Rattle.terms_main.proofs.show.show_under.Tie as tie
 
 substitute-requires : tie.Need-substitute-requires
 substitute-requires c κs = ((c .before .before .before .before .before .before .before .before .pre) .0, (omega (arith, (c .before .before .before .before .before .before .before .before .pre) .1 .0, (c .before .before .before .before .before .before .before .before .pre) .0 .good .room), (c .before .before .before .before .before .before .before .before .pre) .1 .1))

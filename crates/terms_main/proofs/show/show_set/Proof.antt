@@ -1,10 +1,10 @@
--- `terms_main::show_set` meets its contract.  Assumes nothing.
+-- `terms_main::show::show_set` meets its contract.  Assumes nothing.
 use Prim.Native.Nat.{_-_}
 use Rattle.rules.specs.Limits.{VARIABLES}
 use native.Mathlib.Omega.{arith}
 use borrow.Author.Needs.{needs}
-use Rattle.terms_main.proofs.show_set.Statement.{statement}
-use Rattle.terms_main.proofs.show_set.Tie as tie
+use Rattle.terms_main.proofs.show.show_set.Statement.{statement}
+use Rattle.terms_main.proofs.show.show_set.Tie as tie
 
 abbrev Inv-loop : tie.InvT-loop
 Inv-loop set v₀ t3 v = Unit {0}

@@ -1,7 +1,7 @@
--- `terms_main::show_line` meets its contract.  Assumes nothing.
+-- `terms_main::show::show_line` meets its contract.  Assumes nothing.
 use borrow.Author.Needs.{needs}
-use Rattle.terms_main.proofs.show_line.Statement.{statement}
-use Rattle.terms_main.proofs.show_line.Tie as tie
+use Rattle.terms_main.proofs.show.show_line.Statement.{statement}
+use Rattle.terms_main.proofs.show.show_line.Tie as tie
 
 write-all-requires : tie.Need-write-all-requires
 write-all-requires c κs = search needs

@@ -1,8 +1,8 @@
--- `terms_main::show_variables` meets its contract. The set has room for every variable that there can be. Assumes nothing.
+-- `terms_main::show::show_variables` meets its contract. The set has room for every variable that there can be. Assumes nothing.
 use native.Mathlib.Omega.{arith}
 use borrow.Author.Needs.{needs}
-use Rattle.terms_main.proofs.show_variables.Statement.{statement}
-use Rattle.terms_main.proofs.show_variables.Tie as tie
+use Rattle.terms_main.proofs.show.show_variables.Statement.{statement}
+use Rattle.terms_main.proofs.show.show_variables.Tie as tie
 
 slice-aggregate-variables : tie.Need-slice-aggregate-variables
 slice-aggregate-variables c = search needs

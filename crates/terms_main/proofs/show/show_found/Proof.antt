@@ -1,11 +1,11 @@
--- `terms_main::show_found` meets its contract. The store grows from the first term to the second. Assumes nothing.
+-- `terms_main::show::show_found` meets its contract. The store grows from the first term to the second. Assumes nothing.
 use mathlib.Core.Path.{sym, ap, _∙_, subst}
 use lib.ListN.{length}
 use native.Mathlib.Omega.{arith}
 use Rattle.terms.specs.Theta.{Zeros}
 use borrow.Author.Needs.{needs}
-use Rattle.terms_main.proofs.show_found.Statement.{statement}
-use Rattle.terms_main.proofs.show_found.Tie as tie
+use Rattle.terms_main.proofs.show.show_found.Statement.{statement}
+use Rattle.terms_main.proofs.show.show_found.Tie as tie
 
 show-bindings-requires : tie.Need-show-bindings-requires
 show-bindings-requires c κs = ((c .before .before .before .before .before .before .pre) .0 .0, (c .before .before .before .before .before .before .pre) .0 .1)

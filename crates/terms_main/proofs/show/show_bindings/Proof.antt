@@ -1,10 +1,10 @@
--- `terms_main::show_bindings` meets its contract. The values are numbers of terms. Assumes nothing.
+-- `terms_main::show::show_bindings` meets its contract. The values are numbers of terms. Assumes nothing.
 use Prim.Native.Nat.{_-_}
 use lib.ListN.{length}
 use native.Mathlib.Omega.{arith}
 use borrow.Author.Needs.{needs}
-use Rattle.terms_main.proofs.show_bindings.Statement.{statement}
-use Rattle.terms_main.proofs.show_bindings.Tie as tie
+use Rattle.terms_main.proofs.show.show_bindings.Statement.{statement}
+use Rattle.terms_main.proofs.show.show_bindings.Tie as tie
 
 abbrev Inv-loop : tie.InvT-loop
 Inv-loop index words mark theta v₀ t6 v = Unit {0}

@@ -1,4 +1,4 @@
--- `terms_main::show` meets its contract. Arguments have lower numbers. Assumes nothing.
+-- `terms_main::show::show` meets its contract. Arguments have lower numbers. Assumes nothing.
 use Prim.Native.Nat.{ℕ, _-_, _<_}
 use native.Mathlib.Omega.{arith}
 use Rattle.terms.proofs.Terms.{end-in, start-in}
@@ -6,15 +6,15 @@ use Rattle.terms_main.proofs.Places.{Walking, walk-start, walk-in, walk
 use borrow.Author.Needs.{needs}
 use borrow.Fn.Kinds.{In}
 use borrow.Fn.PlainCycle.{Measures, is, falls, and}
-use Rattle.terms_main.proofs.show.Reads as show
-use Rattle.terms_main.proofs.show.Kinds as show-kinds
-use Rattle.terms_main.proofs.+show.Lts-show as show-lts
+use Rattle.terms_main.proofs.show.show.Reads as show
+use Rattle.terms_main.proofs.show.show.Kinds as show-kinds
+use Rattle.terms_main.proofs.show.+show.Lts-show as show-lts
 use Rattle.io.proofs.write_all.Reads as write-all-reads
 use Rattle.terms.proofs.store.start_of.Reads as start-of-reads
-use Rattle.terms_main.proofs.name.Reads as name-reads
-use Rattle.terms_main.proofs.variable.Reads as variable-reads
-use Rattle.terms_main.proofs.+show.{statement}
-use Rattle.terms_main.proofs.+show.Tie.{close}
+use Rattle.terms_main.proofs.show.name.Reads as name-reads
+use Rattle.terms_main.proofs.show.variable.Reads as variable-reads
+use Rattle.terms_main.proofs.show.+show.{statement}
+use Rattle.terms_main.proofs.show.+show.Tie.{close}
 
 abbrev μ-show : Measures 2 show-kinds.ps ℕ
 μ-show κs a = a .1 .1 .1 .0

@@ -1,7 +1,7 @@
--- `terms_main::show_both` meets its contract.  Assumes nothing.
+-- `terms_main::show::show_both` meets its contract.  Assumes nothing.
 use borrow.Author.Needs.{needs}
-use Rattle.terms_main.proofs.show_both.Statement.{statement}
-use Rattle.terms_main.proofs.show_both.Tie as tie
+use Rattle.terms_main.proofs.show.show_both.Statement.{statement}
+use Rattle.terms_main.proofs.show.show_both.Tie as tie
 
 slice-aggregate-show-line : tie.Need-slice-aggregate-show-line
 slice-aggregate-show-line c = search needs
