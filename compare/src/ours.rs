@@ -260,20 +260,20 @@ mod terms {
         }))
     }
 
-    /// `(e l r)` and `(e z z)`, where l is a chain over all variables but z and r the same over what they get: all 512 are bound. With
+    /// `(e l r)` and `(e z z)`, where l is a chain over all variables but z and r the same over what they get: all are bound. With
     /// `linked` that is the variable before, so that each binding changes all values found until then; else it is a constant. The tables
     /// go back to what they were before each time.
-    pub fn unify(linked: bool) -> Ours<'static> {
+    pub fn unify(levels: usize, linked: bool) -> Ours<'static> {
         let mut store = Store::new();
         let c = store.keep(&[1]) as u32;
-        let x: Vec<u32> = (0..512).map(|v| store.keep(&[256 + v]) as u32).collect();
+        let x: Vec<u32> = (0..=levels as u32).map(|v| store.keep(&[256 + v]) as u32).collect();
         let (mut l, mut r) = (c, c);
-        for k in (0..511).rev() {
+        for k in (0..levels).rev() {
             let value = if linked && 0 < k { x[k - 1] } else { c };
             l = store.keep(&[2, x[k], l]) as u32;
             r = store.keep(&[2, value, r]) as u32;
         }
-        let (s, t) = (store.keep(&[3, l, r]), store.keep(&[3, x[511], x[511]]));
+        let (s, t) = (store.keep(&[3, l, r]), store.keep(&[3, x[levels], x[levels]]));
         let (index, words) = (store.index.clone(), store.words.clone());
         let (mut theta, mut map, mut memo) = (vec![0u32; 512], vec![0u32; 512], vec![0u32; 4096]);
         let (mut pairs, mut seen) = (vec![0u32; 1024], vec![0u64; 64]);
@@ -289,14 +289,14 @@ mod terms {
                 let (m, e, p, n) = (map.as_mut_ptr(), memo.as_mut_ptr(), pairs.as_mut_ptr(), seen.as_mut_ptr());
                 tariff_unify(i, cells, w, room, store.count, store.used, 512, s, t, o, thetas, m, maps, e, memos, p, waiting, n, marks)
             };
-            assert!(black_box(found) == 1 && theta.iter().all(|&v| v != 0), "all variables are bound");
+            assert!(black_box(found) == 1 && theta[..=levels].iter().all(|&v| v != 0), "all variables are bound");
         }))
     }
 }
 
 #[cfg(not(feature = "terms"))]
 mod terms {
-    pub fn unify(_: bool) -> super::Ours<'static> {
+    pub fn unify(_: usize, _: bool) -> super::Ours<'static> {
         None
     }
 
