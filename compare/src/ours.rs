@@ -1,5 +1,5 @@
 //! The seam to this product's static libraries: one function a row of `compare speed`, nothing where the part is not linked. A part is
-//! linked by its feature, `reader` (crate `exports`) or `terms` (crate `exports_terms`). What a function requires, its caller here keeps.
+//! linked by its feature, `reader` (crate `exports`: the reader and the theory) or `terms` (crate `exports_terms`). What a function requires, its caller here keeps.
 
 /// A row's own side, ready to be called again and again.
 pub type Ours<'a> = Option<Box<dyn FnMut() + 'a>>;
@@ -11,6 +11,24 @@ mod reader {
 
     unsafe extern "C" {
         fn tariff_read(text: *const u8, length: usize, words: *mut u32, cells: usize) -> usize;
+        fn tariff_parse(
+            text: *const u8,
+            length: usize,
+            cells: *mut u32,
+            room: usize,
+            sorts: *mut u32,
+            sort_cells: usize,
+            symbols: *mut u32,
+            symbol_cells: usize,
+            inputs: *mut u32,
+            input_cells: usize,
+            rules: *mut u32,
+            rule_cells: usize,
+            vars: *mut u32,
+            var_cells: usize,
+            patterns: *mut u32,
+            pattern_cells: usize,
+        ) -> usize;
     }
 
     /// A text of at most 65,536 bytes, and as many cells, which are zero and are left so.
@@ -30,6 +48,39 @@ mod reader {
         // SAFETY: as above
         Some(unsafe { tariff_read(text.as_ptr(), text.len(), words.as_mut_ptr(), words.len()) })
     }
+
+    /// A theory with so many rules, of at most 65,536 bytes. The tables have their named lengths; every cell of them is set by the call,
+    /// so they are not cleared before the next.
+    pub fn theory(text: &str, rules: usize) -> Ours<'_> {
+        let mut cells = vec![0u32; 65_536];
+        let mut tables = [2 * 64, 4 * 256, 16 * 256, 6 * 256, 3 * 16 * 256, 8192].map(|n| vec![0u32; n]);
+        assert!(text.len() <= cells.len());
+        Some(Box::new(move || {
+            let [s, y, i, r, v, p] = &mut tables;
+            // SAFETY: all slices live through the call; the cells are zero before and after, and the lengths are those it requires
+            let found = unsafe {
+                tariff_parse(
+                    text.as_ptr(),
+                    text.len(),
+                    cells.as_mut_ptr(),
+                    cells.len(),
+                    s.as_mut_ptr(),
+                    s.len(),
+                    y.as_mut_ptr(),
+                    y.len(),
+                    i.as_mut_ptr(),
+                    i.len(),
+                    r.as_mut_ptr(),
+                    r.len(),
+                    v.as_mut_ptr(),
+                    v.len(),
+                    p.as_mut_ptr(),
+                    p.len(),
+                )
+            };
+            assert_eq!(black_box(found), rules, "the theory is taken");
+        }))
+    }
 }
 
 #[cfg(not(feature = "reader"))]
@@ -41,9 +92,13 @@ mod reader {
     pub fn forms(_: &str) -> Option<usize> {
         None
     }
+
+    pub fn theory(_: &str, _: usize) -> super::Ours<'_> {
+        None
+    }
 }
 
-pub use reader::{forms, read};
+pub use reader::{forms, read, theory};
 
 #[cfg(feature = "terms")]
 mod terms {
@@ -86,6 +141,27 @@ mod terms {
             memo: *mut u32,
             length: usize,
             id: usize,
+        ) -> usize;
+        fn tariff_unify(
+            index: *mut u32,
+            cells: usize,
+            words: *mut u32,
+            room: usize,
+            count: usize,
+            used: usize,
+            variables: usize,
+            s: usize,
+            t: usize,
+            theta: *mut u32,
+            thetas: usize,
+            map: *mut u32,
+            maps: usize,
+            memo: *mut u32,
+            memos: usize,
+            pairs: *mut u32,
+            waiting: usize,
+            seen: *mut u64,
+            marks: usize,
         ) -> usize;
     }
 
@@ -183,10 +259,47 @@ mod terms {
             assert_eq!(black_box(&set)[0], 1);
         }))
     }
+
+    /// `(e l r)` and `(e z z)`, where l is a chain over all variables but z and r the same over what they get: all are bound. With
+    /// `linked` that is the variable before, so that each binding changes all values found until then; else it is a constant. The tables
+    /// go back to what they were before each time.
+    pub fn unify(levels: usize, linked: bool) -> Ours<'static> {
+        let mut store = Store::new();
+        let c = store.keep(&[1]) as u32;
+        let x: Vec<u32> = (0..=levels as u32).map(|v| store.keep(&[256 + v]) as u32).collect();
+        let (mut l, mut r) = (c, c);
+        for k in (0..levels).rev() {
+            let value = if linked && 0 < k { x[k - 1] } else { c };
+            l = store.keep(&[2, x[k], l]) as u32;
+            r = store.keep(&[2, value, r]) as u32;
+        }
+        let (s, t) = (store.keep(&[3, l, r]), store.keep(&[3, x[levels], x[levels]]));
+        let (index, words) = (store.index.clone(), store.words.clone());
+        let (mut theta, mut map, mut memo) = (vec![0u32; 512], vec![0u32; 512], vec![0u32; 4096]);
+        let (mut pairs, mut seen) = (vec![0u32; 1024], vec![0u64; 64]);
+        Some(Box::new(move || {
+            store.index.copy_from_slice(&index);
+            store.words.copy_from_slice(&words);
+            theta.fill(0);
+            let (cells, room) = (store.index.len(), store.words.len());
+            let (thetas, maps, memos, waiting, marks) = (theta.len(), map.len(), memo.len(), pairs.len(), seen.len());
+            // SAFETY: as in `keep`; the terms stand, their variables are below 512, and the other tables are zero
+            let found = unsafe {
+                let (i, w, o) = (store.index.as_mut_ptr(), store.words.as_mut_ptr(), theta.as_mut_ptr());
+                let (m, e, p, n) = (map.as_mut_ptr(), memo.as_mut_ptr(), pairs.as_mut_ptr(), seen.as_mut_ptr());
+                tariff_unify(i, cells, w, room, store.count, store.used, 512, s, t, o, thetas, m, maps, e, memos, p, waiting, n, marks)
+            };
+            assert!(black_box(found) == 1 && theta[..=levels].iter().all(|&v| v != 0), "all variables are bound");
+        }))
+    }
 }
 
 #[cfg(not(feature = "terms"))]
 mod terms {
+    pub fn unify(_: usize, _: bool) -> super::Ours<'static> {
+        None
+    }
+
     pub fn intern(_: &[Vec<u32>]) -> super::Ours<'_> {
         None
     }
@@ -200,9 +313,4 @@ mod terms {
     }
 }
 
-pub use terms::{intern, substitute, variables};
-
-/// Not linked yet: the tables of a theory.
-pub fn theory(_: &str) -> Ours<'_> {
-    None
-}
+pub use terms::{intern, substitute, unify, variables};

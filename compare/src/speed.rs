@@ -135,7 +135,7 @@ fn theories() {
         drop(black_box(oracle::Spec::parse(&text)));
     };
     assert!(kernel::Theory::parse(&text).is_ok(), "the theory is a good one");
-    print(&mut Row { name: "theory: 200 declarations", original: Box::new(original), ours: ours::theory(&text) });
+    print(&mut Row { name: "theory: 200 declarations", original: Box::new(original), ours: ours::theory(&text, 100) });
 }
 
 // Terms
@@ -218,10 +218,33 @@ fn terms() {
     }
 }
 
+/// Variables, one more for the rule that has two sides be one, and two chains of abbreviations: over the variables, and over what they get.
+fn chains(levels: usize, linked: bool) -> String {
+    let vars = (0..levels).map(|k| format!("(var x{k} S)"));
+    let rows = (0..levels).rev().map(|k| {
+        let value = if linked && 0 < k { format!("x{}", k - 1) } else { "c".to_string() };
+        format!("(def ?l{k} (f x{k} ?l{})) (def ?r{k} (f {value} ?r{}))", k + 1, k + 1)
+    });
+    let ends = format!("(var z S) (def ?l{levels} c) (def ?r{levels} c)");
+    vars.chain([ends]).chain(rows).collect::<Vec<_>>().join(" ")
+}
+
+/// The only rule for E has one side twice, so that an `invert` of a hypothesis on two terms has the original unify these. With values that
+/// change the store fills up, so that there are fewer.
+fn unifications() {
+    let theory = format!("{TREES} (pred E (S S)) (rule e () (E ?a ?a))");
+    for (name, levels, linked) in [("unify: 512 variables", 511, false), ("unify: 60 variables, values that change", 59, true)] {
+        let proof = format!("{} (step 0 p () (P c)) (hyp 1 (E ?l0 ?r0))", chains(levels, linked));
+        let took = form_more(&theory, "(goal g (P c))", &proof, &["(invert 2 1 () (P c) ((e 0 (z))))".to_string()]);
+        row_of(name, took, ours::unify(levels, linked));
+    }
+}
+
 pub fn run() -> Result<(), String> {
     println!("{:44} {:>12} {:>12} {:>8}", "microseconds", "original", "ours", "ratio");
     readers();
     theories();
     terms();
+    unifications();
     Ok(())
 }

@@ -7,7 +7,10 @@ ghost use Rattle.rules.specs.Limits.{LENGTH};
 ghost use Rattle.rules.specs.Sexp.{read};
 ghost use Rattle.sexp.specs.Reads.{Clear};
 ghost use Rattle.sexp.specs.Whole.{wholeOf};
-ghost use Rattle.exports.specs.Counts.{formsOf};
+ghost use Rattle.kernel.specs.Parsed.{tables, Roomy, Legible, judgedOf, theoryOf, verdict, laid};
+ghost use Rattle.exports.specs.Counts.{formsOf, rulesOf};
+use kernel::parse::Judged;
+use rules::RULES;
 use sexp::sexp::Read;
 use sexp::sexp::Whole;
 
@@ -55,5 +58,31 @@ pub extern "C" fn tariff_read(text: &[u8], words: &mut [u32]) -> usize
                 at = next;
             }
         }
+    }
+}
+
+// The number of a theory's rules, with its tables laid from its text; where the text is refused, one more than there can be, and the
+// tables of what stood before. `cells` are zero, at least as many as bytes, and are left so.
+#[no_mangle]
+pub extern "C" fn tariff_parse(
+    text: &[u8],
+    cells: &mut [u32],
+    sorts: &mut [u32],
+    symbols: &mut [u32],
+    inputs: &mut [u32],
+    rules: &mut [u32],
+    vars: &mut [u32],
+    patterns: &mut [u32],
+) -> usize
+    requires { ⌜ Legible (now text) (now cells) ⌝ }
+    requires { ⌜ Roomy (tables (now sorts) (now symbols) (now inputs) (now rules) (now vars) (now patterns)) ⌝ }
+    ensures { λ r. ⌜ r ≡ rulesOf (judgedOf (verdict (now (text .entry)))) ⌝ }
+    ensures { λ _. ⌜ tables (now (sorts .exit)) (now (symbols .exit)) (now (inputs .exit)) (now (rules .exit)) (now (vars .exit)) (now (patterns .exit))
+        ≡ laid (tables (now (sorts .entry)) (now (symbols .entry)) (now (inputs .entry)) (now (rules .entry)) (now (vars .entry)) (now (patterns .entry))) (theoryOf (verdict (now (text .entry)))) ⌝ }
+    ensures { λ _. ⌜ now (cells .exit) ≡ now (cells .entry) ⌝ }
+{
+    match kernel::parse::parse(text, cells, sorts, symbols, inputs, rules, vars, patterns) {
+        Judged::Done(_, counts) => counts.rules,
+        Judged::Refused(_, _, _, _) => RULES + 1,
     }
 }

@@ -1,0 +1,142 @@
+-- Terms that are read into the store: what is there of them, and that it stays. Assumes nothing.
+use mathlib.Core.Path.{_≡_, refl, sym, ap, _∙_, subst}
+use mathlib.Core.Bool.{Bool, true, false, false≢true}
+use mathlib.Core.List.{List, [], _∷_}
+use Prim.Native.Nat.{ℕ, zero, suc, _+_, _-_, _≤_, _<_}
+use native.Mathlib.Omega.{arith}
+use native.Mathlib.Decide.{decLt}
+use native.Mathlib.Nat.{not-suc-le-zero}
+use lib.ListN.{length, getD}
+use borrow.Author.Tests.{eqb-true}
+use Rattle.rules.specs.Limits.{SYMBOLS, VARIABLES}
+use Rattle.rules.specs.Out.{Out}
+use Rattle.rules.specs.Tree.{Tree, var, more, variables}
+use Rattle.rules.specs.Store.{Made}
+use Rattle.rules.specs.Laws.Store.{number-is}
+use Rattle.rules.specs.Laws.Tree.{variables-var}
+use Rattle.terms.specs.declared.store.Mark.{Mark}
+use Rattle.terms.specs.declared.store.Kept.{Kept}
+use Rattle.terms.specs.declared.store.Kept.the-variants.{Term as Number, Full as NoRoom}
+use Rattle.terms.specs.Table.{start, argsOf, treeAt, made, isVar, isApp, Node, Good, Grown, Stored, After}
+use Rattle.terms.specs.Collect.{tree}
+use Rattle.terms.specs.Unify.{Within}
+use Rattle.terms.proofs.Tables.{length-trees, tree-app, tree-var}
+use Rattle.terms.proofs.Sames.{getD-grown, grown-then}
+use Rattle.terms.proofs.Terms.{node-inside, args-below}
+use Rattle.terms_main.specs.Parts.{There, ReadAs}
+use Rattle.terms_main.specs.declared.Placed.{Placed}
+use Rattle.terms_main.specs.declared.Placed.the-variants.{Term, Full}
+
+-- the variables are among those that there can be
+abbrev pub Few : Tree → Type 0
+Few t = (v : ℕ) → variables t v ≡ true → v < VARIABLES
+
+-- what is there stays
+pub within-grown : (I W J X : List ℕ) (m n : Mark) (id : ℕ) → Good I W m → Grown I W J X m n → Within I W m id → Within J X n id
+within-grown I W J X m n id g r w =
+    record {
+      there = omega (arith, w .there, r .more);
+      few = λ v e. w .few v (ap (λ (t : Tree). variables t v) (sym (getD-grown I W J X m g (r .same) (n .terms) id (r .more) (w .there))) ∙ e);
+    }
+
+-- Answers of the store ---------------------------------------------------------------------------------------------------------
+
+module _ (I W J X : List ℕ) (m : Mark) (t : Tree) (K : Out Made Tree) (k : Kept) (a : After I W J X m t K k) where
+  pub stored : (n : ℕ) (new : Mark) → k ≡ Number n new → Stored I W J X m t K n new
+  stored n new e = subst (λ (l : Kept). After I W J X m t K l) e a
+
+  pub kept : (n : ℕ) (new : Mark) → k ≡ Number n new → Few t → There I W J X m n new
+  kept n new e f =
+      let s = stored n new e in
+      let l = length-trees J X (new .terms) in
+      let h : tree J X new n ≡ t = ap (λ (i : ℕ). getD (made J X new) i (var 0)) (s .numbered) ∙ number-is (made J X new) t (omega (arith, s .there, s .numbered, l)) in
+      record { grown = s .grown; within = record { there = s .there; few = λ v q. f v (ap (λ (u : Tree). variables u v) (sym h) ∙ q) } }
+
+  pub unkept : (r : ℕ) (new : Mark) → k ≡ NoRoom r new → Grown I W J X m new
+  unkept r new e = let f : After I W J X m t K (NoRoom r new) = subst (λ (l : Kept). After I W J X m t K l) e a in f .grown
+
+-- Nodes ------------------------------------------------------------------------------------------------------------------------
+
+pub leaf-node : (n h : ℕ) → Node n (h ∷ [])
+leaf-node n h =
+    record {
+      narrow = omega arith;
+      shaped = elim (decLt h SYMBOLS) [ yes p ↦ isApp {xs = []} p (λ k l. absurd (not-suc-le-zero l)) | no q ↦ isVar {h = h} (omega arith) ];
+    }
+
+pub leaf-few : (M : Made) (h : ℕ) → h < SYMBOLS + 10 → Few (treeAt M (h ∷ []))
+unfolding argsOf variables
+leaf-few M h b v e =
+    elim (decLt h SYMBOLS) [
+      | yes p ↦ absurd (false≢true (sym (ap (λ (t : Tree). variables t v) (tree-app M h [] p)) ∙ e))
+      | no q ↦
+          let z : v ≡ h - SYMBOLS =
+          eqb-true v (h - SYMBOLS) (sym (variables-var (h - SYMBOLS) v) ∙ sym (ap (λ (t : Tree). variables t v) (tree-var M h [] (omega arith))) ∙ e) in
+          omega arith
+    ]
+
+module _ (n h a b : ℕ) (p : h < SYMBOLS) (l : a < n) (r : b < n) where
+  pub pair-node : Node n (h ∷ a ∷ b ∷ [])
+  pair-node = record { narrow = omega arith; shaped = isApp {xs = a ∷ b ∷ []} p args }
+    where
+      args : (k : ℕ) → k < 2 → getD (a ∷ b ∷ []) k 0 < n
+      args zero q = l
+      args (suc zero) q = r
+      args (suc (suc k)) q = absurd (omega arith)
+
+pub pair-few : (M : Made) (h a b : ℕ) → h < SYMBOLS → Few (getD M a (var 0)) → Few (getD M b (var 0)) → Few (treeAt M (h ∷ a ∷ b ∷ []))
+unfolding argsOf variables
+pair-few M h a b p f g v e =
+    go (variables (getD M a (var 0)) v) (variables (getD M b (var 0)) v) refl refl (sym (ap (λ (t : Tree). variables t v) (tree-app M h (a ∷ b ∷ []) p)) ∙ e)
+  where
+    go : (x y : Bool) → variables (getD M a (var 0)) v ≡ x → variables (getD M b (var 0)) v ≡ y
+        → elim (variables (getD M a (var 0)) v) [ true ↦ true | false ↦ elim (variables (getD M b (var 0)) v) [ true ↦ true | false ↦ false ] ] ≡ true
+        → v < VARIABLES
+    go true y i j q = f v i
+    go false true i j q = g v j
+    go false false i j q = absurd (false≢true (sym (rw (i, j) refl) ∙ q))
+
+-- Reading ----------------------------------------------------------------------------------------------------------------------
+
+module _ (I W J X : List ℕ) (m : Mark) (at : ℕ) (r : Placed) (h : ReadAs I W J X m at r) where
+  pub as-term : (id next : ℕ) (new : Mark) → r ≡ Term id next new → There I W J X m id new × (at ≤ next)
+  as-term id next new e = subst (λ (q : Placed). ReadAs I W J X m at q) e h
+
+  pub as-full : (new : Mark) → r ≡ Full new → Grown I W J X m new
+  as-full new e = subst (λ (q : Placed). ReadAs I W J X m at q) e h
+
+pub sooner : (I W J X : List ℕ) (m : Mark) (at : ℕ) (r : Placed) → ReadAs I W J X m (at + 1) r → ReadAs I W J X m at r
+sooner I W J X m at (Term id next new) h = (h .0, omega (arith, h .1))
+sooner I W J X m at (Full new) h = h
+
+-- two terms, then the one over both
+pub both-read : (I W J X K Y L Z : List ℕ) (m n l : Mark) (at a p b q : ℕ) (r : Placed) → There I W J X m a n × (at + 1 ≤ p) → There J X K Y n b l × (p ≤ q)
+    → ReadAs K Y L Z l q r → ReadAs I W L Z m at r
+both-read I W J X K Y L Z m n l at a p b q (Term id next new) f g h =
+    (record { grown = grown-then I W K Y L Z m l new (grown-then I W J X K Y m n l (f .0 .grown) (g .0 .grown)) (h .0 .grown); within = h .0 .within }, omega (arith, f .1, g .1, h .1))
+both-read I W J X K Y L Z m n l at a p b q (Full new) f g h =
+    grown-then I W K Y L Z m l new (grown-then I W J X K Y m n l (f .0 .grown) (g .0 .grown)) h
+
+-- Writing ----------------------------------------------------------------------------------------------------------------------
+
+-- an application's arguments from a place on
+pub record Walking (I W : List ℕ) (m : Mark) (id s e at : ℕ) : Type 0 where
+  pub good : Good I W m
+  pub there : id < m .terms
+  pub begins : s ≡ start I id
+  pub ends : e ≡ getD I id 0
+  pub small : getD W s 0 < SYMBOLS
+  pub from : s < at
+
+pub walk-start : (I W : List ℕ) (m : Mark) (id s : ℕ) → Good I W m → id < m .terms → s ≡ start I id → getD W s 0 < SYMBOLS → Walking I W m id s (getD I id 0) (s + 1)
+walk-start I W m id s g h b q = record { good = g; there = h; begins = b; ends = refl; small = q; from = omega arith }
+
+module _ (I W : List ℕ) (m : Mark) (id s e at : ℕ) (w : Walking I W m id s e at) where
+  pub walk-in : at < e → at < length W
+  walk-in h = omega (arith, h, w .ends, node-inside I W m (w .good) id (w .there) s (w .begins))
+
+  pub walk-falls : at < e → getD W at 0 < id
+  walk-falls h = args-below I W m (w .good) id (w .there) s (w .begins) (w .small) at (w .from) (omega (arith, h, w .ends))
+
+  pub walk-on : Walking I W m id s e (at + 1)
+  walk-on = record { good = w .good; there = w .there; begins = w .begins; ends = w .ends; small = w .small; from = omega (arith, w .from) }

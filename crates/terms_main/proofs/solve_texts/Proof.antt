@@ -1,0 +1,72 @@
+-- `terms_main::solve_texts` meets its contract. The first term is read into an empty store. Assumes nothing.
+use mathlib.Core.Path.{_∙_}
+use Rattle.terms_main.specs.Parts.{none}
+use Rattle.terms_main.proofs.Places.{as-term, as-full}
+use borrow.Author.Needs.{needs}
+use Rattle.terms_main.proofs.solve_texts.Statement.{statement}
+use Rattle.terms_main.proofs.solve_texts.Tie as tie
+
+read-requires : tie.Need-read-requires
+read-requires c κs = (c .before .before .before .before .before .before .before .before .before .before .before .pre) .good
+
+enum-known-s : tie.Need-enum-known-s
+enum-known-s c = search needs
+
+solve-with-requires : tie.Need-solve-with-requires
+solve-with-requires c κs = (record { good = (as-term ((c .before .before .before .before .before .before .before .before .before .before .before .before .before .before .before .before .before .before .before .before .before .before .before .before .before .before .args) .index .now) ((c .before .before .before .before .before .before .before .before .before .before .before .before .before .before .before .before .before .before .before .before .before .before .before .before .before .before .args) .words .now) ((c .before .before .before .before .before .before .before .before .before .before .before .before .before .before .read) .last .1 .1 .0) ((c .before .before .before .before .before .before .before .before .before .before .before .before .before .before .read) .last .1 .1 .1 .0) none 0 ((c .before .before .before .before .before .before .before .before .before .before .before .before .before .before .read) .result) ((c .before .before .before .before .before .before .before .before .before .before .before .before .before .before .read) .ensures) _ _ _ ((c .before .before .before .before .before .before .before .before .s) .given .1)) .0 .grown .good; scratch = (c .before .before .before .before .before .before .before .before .before .before .before .before .before .before .before .before .before .before .before .before .before .before .before .before .before .before .pre) .scratch }, (as-term ((c .before .before .before .before .before .before .before .before .before .before .before .before .before .before .before .before .before .before .before .before .before .before .before .before .before .before .args) .index .now) ((c .before .before .before .before .before .before .before .before .before .before .before .before .before .before .before .before .before .before .before .before .before .before .before .before .before .before .args) .words .now) ((c .before .before .before .before .before .before .before .before .before .before .before .before .before .before .read) .last .1 .1 .0) ((c .before .before .before .before .before .before .before .before .before .before .before .before .before .before .read) .last .1 .1 .1 .0) none 0 ((c .before .before .before .before .before .before .before .before .before .before .before .before .before .before .read) .result) ((c .before .before .before .before .before .before .before .before .before .before .before .before .before .before .read) .ensures) _ _ _ ((c .before .before .before .before .before .before .before .before .s) .given .1)) .0 .within)
+
+enum-known-m : tie.Need-enum-known-m
+enum-known-m c = search needs
+
+same-length : tie.Need-same-length
+same-length c = (c .before .before .before .before .before .before .before .before .before .before .before .before .before .before .solve-with) .kept .1 .0 ∙ (c .before .before .before .before .before .before .before .before .before .before .before .before .before .before .before .before .before .before .before .before .before .before .before .before .before .before .before .before .before .read) .kept .1 .1 .0
+
+same-length-2 : tie.Need-same-length-2
+same-length-2 c = (c .before .before .before .before .before .before .before .before .before .before .before .before .before .before .solve-with) .kept .1 .1 .0 ∙ (c .before .before .before .before .before .before .before .before .before .before .before .before .before .before .before .before .before .before .before .before .before .before .before .before .before .before .before .before .before .read) .kept .1 .1 .1 .0
+
+same-length-3 : tie.Need-same-length-3
+same-length-3 c = (c .before .before .before .before .before .before .before .before .before .before .before .before .before .before .solve-with) .kept .1 .1 .1 .1 .1 .0
+
+same-length-4 : tie.Need-same-length-4
+same-length-4 c = (c .before .before .before .before .before .before .before .before .before .before .before .before .before .before .solve-with) .kept .1 .1 .1 .1 .1 .1 .0
+
+same-length-5 : tie.Need-same-length-5
+same-length-5 c = (c .before .before .before .before .before .before .before .before .before .before .before .before .before .before .solve-with) .kept .1 .1 .1 .1 .1 .1 .1 .0
+
+same-length-6 : tie.Need-same-length-6
+same-length-6 c = (c .before .before .before .before .before .before .before .before .before .before .before .before .before .before .solve-with) .kept .1 .1 .1 .1 .1 .1 .1 .1 .0
+
+same-length-7 : tie.Need-same-length-7
+same-length-7 c = (c .before .before .before .before .before .before .before .before .before .before .before .before .before .before .solve-with) .kept .1 .1 .1 .1 .1 .1 .1 .1 .1 .0
+
+returns : tie.Need-returns
+returns c = (c .before .before .before .before .before .before .before .before .before .before .before .before .before .before .solve-with) .ensures
+
+same-length-8 : tie.Need-same-length-8
+same-length-8 c = (c .before .before .before .before .before .before .before .read) .kept .1 .1 .0
+
+same-length-9 : tie.Need-same-length-9
+same-length-9 c = (c .before .before .before .before .before .before .before .read) .kept .1 .1 .1 .0
+
+returns-2 : tie.Need-returns-2
+returns-2 c = record { good = as-full ((c .before .before .before .before .before .before .before .before .before .before .before .before .before .before .before .before .before .before .before .args) .index .now) ((c .before .before .before .before .before .before .before .before .before .before .before .before .before .before .before .before .before .before .before .args) .words .now) ((c .before .before .before .before .before .before .before .read) .last .1 .1 .0) ((c .before .before .before .before .before .before .before .read) .last .1 .1 .1 .0) none 0 ((c .before .before .before .before .before .before .before .read) .result) ((c .before .before .before .before .before .before .before .read) .ensures) _ ((c .before .m) .given .1) .good; scratch = (c .before .before .before .before .before .before .before .before .before .before .before .before .before .before .before .before .before .before .before .pre) .scratch }
+
+pub solve-texts-spec : {M : Type 1} → statement M
+solve-texts-spec =
+    tie.close
+    (tie.spec
+    read-requires
+    enum-known-s
+    solve-with-requires
+    enum-known-m
+    same-length
+    same-length-2
+    same-length-3
+    same-length-4
+    same-length-5
+    same-length-6
+    same-length-7
+    returns
+    same-length-8
+    same-length-9
+    returns-2)
