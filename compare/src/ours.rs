@@ -61,6 +61,7 @@ mod terms {
             node: *const u32,
             length: usize,
         ) -> usize;
+        fn tariff_chain(index: *mut u32, cells: usize, words: *mut u32, room: usize, terms: usize) -> usize;
         fn tariff_variables(
             index: *const u32,
             cells: usize,
@@ -158,12 +159,17 @@ mod terms {
         }))
     }
 
-    /// The tables are cleared each time, as the original makes a new store each time.
-    pub fn intern(nodes: &[Vec<u32>]) -> Ours<'_> {
+    /// A chain of so many terms, each over the last one and the leaf, made in one call. The tables are cleared each time, as the original
+    /// makes a new store each time.
+    pub fn intern(terms: usize) -> Ours<'static> {
         let mut store = Store::new();
         Some(Box::new(move || {
             store.clear();
-            nodes.iter().enumerate().for_each(|(k, n)| assert_eq!(store.keep(n), k));
+            let (index, words) = (store.index.as_mut_ptr(), store.words.as_mut_ptr());
+            let (cells, room) = (store.index.len(), store.words.len());
+            // SAFETY: the slices live through the call, and an empty store is what it requires
+            let last = unsafe { tariff_chain(index, cells, words, room, terms) };
+            assert_eq!(last, terms - 1);
         }))
     }
 
@@ -187,7 +193,7 @@ mod terms {
 
 #[cfg(not(feature = "terms"))]
 mod terms {
-    pub fn intern(_: &[Vec<u32>]) -> super::Ours<'_> {
+    pub fn intern(_: usize) -> super::Ours<'static> {
         None
     }
 
