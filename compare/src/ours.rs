@@ -1,5 +1,5 @@
 //! The seam to this product's static libraries: one function a row of `compare speed`, nothing where the part is not linked. A part is
-//! linked by its feature, `reader` (crate `exports`) or `terms` (crate `exports_terms`). What a function requires, its caller here keeps.
+//! linked by its feature, `reader` (crate `exports`) or `terms` (crates `exports_terms` and `exports_store`). What a function requires, its caller here keeps.
 
 /// A row's own side, ready to be called again and again.
 pub type Ours<'a> = Option<Box<dyn FnMut() + 'a>>;
@@ -61,7 +61,16 @@ mod terms {
             node: *const u32,
             length: usize,
         ) -> usize;
-        fn tariff_chain(index: *mut u32, cells: usize, words: *mut u32, room: usize, terms: usize) -> usize;
+        fn tariff_chain(
+            index: *mut u32,
+            cells: usize,
+            words: *mut u32,
+            room: usize,
+            count: usize,
+            used: usize,
+            first: usize,
+            times: usize,
+        ) -> usize;
         fn tariff_variables(
             index: *const u32,
             cells: usize,
@@ -159,16 +168,17 @@ mod terms {
         }))
     }
 
-    /// A chain of so many terms, each over the last one and the leaf, made in one call. The tables are cleared each time, as the original
-    /// makes a new store each time.
+    /// A leaf, then a chain over it up to so many terms, made in one call. The tables are cleared each time, as the original makes a new
+    /// store each time.
     pub fn intern(terms: usize) -> Ours<'static> {
         let mut store = Store::new();
         Some(Box::new(move || {
             store.clear();
+            let first = store.keep(&[0]);
             let (index, words) = (store.index.as_mut_ptr(), store.words.as_mut_ptr());
             let (cells, room) = (store.index.len(), store.words.len());
-            // SAFETY: the slices live through the call, and an empty store is what it requires
-            let last = unsafe { tariff_chain(index, cells, words, room, terms) };
+            // SAFETY: as in `keep`; the first term stands
+            let last = unsafe { tariff_chain(index, cells, words, room, store.count, store.used, first, terms - 1) };
             assert_eq!(last, terms - 1);
         }))
     }

@@ -1,2 +1,1 @@
 mod Coded
-mod Chains

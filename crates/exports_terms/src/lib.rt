@@ -8,7 +8,7 @@ ghost use Rattle.terms.specs.Sets.{holds};
 ghost use Rattle.terms.specs.Collect.{tree, Readable};
 ghost use Rattle.terms.specs.Table.{Good, Node};
 ghost use Rattle.terms.specs.Subst.{Replaceable};
-ghost use Rattle.exports_terms.specs.Keeps.{empty, Keeps, Replaces, Chained};
+ghost use Rattle.exports_terms.specs.Keeps.{Keeps, Replaces};
 use terms::store::Kept;
 use terms::store::Mark;
 use terms::store::keep;
@@ -85,33 +85,4 @@ pub extern "C" fn tariff_substitute(
         Kept::Term(n, _) => n,
         Kept::Full(_, _) => rules::TERMS,
     }
-}
-
-// Makes so many terms in an empty store: a leaf, then each term over the last one and the leaf. The number of the last term; the number
-// of terms that fit where there is no room.
-#[no_mangle]
-pub extern "C" fn tariff_chain(index: &mut [u32], words: &mut [u32], count: usize) -> usize
-    requires { ⌜ Good (now index) (now words) empty ⌝ }
-    ensures { λ r. ⌜ Chained (now (index .entry)) (now (words .entry)) (now (index .exit)) (now (words .exit)) count r ⌝ }
-{
-    let mut node = [0u32; 3];
-    let none = Mark { terms: 0, words: 0 };
-    let Kept::Term(leaf, start) = keep(index, words, none, &node[..1]) else {
-        return rules::TERMS;
-    };
-    let mut last = leaf;
-    let mut mark = start;
-    node[0] = 9;
-    node[2] = leaf as u32;
-    let mut made = 1;
-    while made < count {
-        node[1] = last as u32;
-        let Kept::Term(next, now) = keep(index, words, mark, &node) else {
-            return rules::TERMS;
-        };
-        last = next;
-        mark = now;
-        made += 1;
-    }
-    last
 }
