@@ -14,10 +14,10 @@ use Rattle.rules.specs.Laws.Store.{number-is, number-of}
 use Rattle.terms.specs.declared.store.Mark.{Mark}
 use Rattle.terms.specs.declared.store.Kept.{Kept}
 use Rattle.terms.specs.declared.store.Kept.the-variants.{Term, Full}
-use Rattle.terms.specs.Table.{argsOf, treeAt, made, isApp, Node, Good, Stored, Refused, After}
+use Rattle.terms.specs.Table.{argsOf, treeAt, made, isApp, Node, Good, Stored, Refused, After, numberOf}
 use Rattle.terms.proofs.Tables.{tree-app, length-trees}
 use Rattle.terms.proofs.Sames.{getD-grown, grown-self, grown-then}
-use Rattle.exports_store.specs.Chains.{termOf, chain, links, Chained}
+use Rattle.exports_store.specs.Chains.{chain, links, Chained}
 
 next-tree : (M : Made) (last first : ℕ) (t : Tree) (k : ℕ) → getD M last (var 0) ≡ chain t k → getD M first (var 0) ≡ t → treeAt M (9 ∷ last ∷ first ∷ []) ≡ chain t (suc k)
 unfolding chain argsOf
@@ -121,7 +121,7 @@ module _ (I W : List ℕ) (o : Mark) (J X node : List ℕ) (first times last : �
         }
 
     pub chaining-full : (row : ℕ) (new : Mark) → r ≡ Full row new → Chained I W K Y o first times TERMS
-    unfolding termOf
+    unfolding numberOf
     chaining-full row new e =
         let f : Refused Tree J X K Y m (keep (treeAt (made J X m) (set node 1 last)) (made J X m)) row new =
         subst (After J X K Y m (treeAt (made J X m) (set node 1 last)) (keep (treeAt (made J X m) (set node 1 last)) (made J X m))) e a in
@@ -137,7 +137,7 @@ module _ (I W : List ℕ) (o : Mark) (J X node : List ℕ) (first times last : �
         }
 
   pub chaining-ends : times ≤ n → Chained I W J X o first times last
-  unfolding termOf
+  unfolding numberOf
   chaining-ends l =
       let h = c .upto in
       let z : n ≡ times = omega arith in

@@ -3,19 +3,12 @@ use mathlib.Core.Path.{_≡_}
 use mathlib.Core.List.{List}
 use Prim.Native.Nat.{ℕ, zero, suc}
 use lib.ListN.{getD}
-use Rattle.rules.specs.Limits.{TERMS}
 use Rattle.rules.specs.Out.{Act, ok, then}
 use Rattle.rules.specs.Tree.{Tree, var, app, none, more}
 use Rattle.rules.specs.Store.{Made, keep}
 use Rattle.terms.specs.declared.store.Mark.{Mark}
 use Rattle.terms.specs.declared.store.Kept.{Kept}
-use Rattle.terms.specs.declared.store.Kept.the-variants.{Term, Full}
-use Rattle.terms.specs.Table.{made, After}
-
--- a term's number, or the number of all terms, which no term has
-unfoldable pub termOf : Kept → ℕ
-termOf (Term n m) = n
-termOf (Full r m) = TERMS
+use Rattle.terms.specs.Table.{made, After, numberOf}
 
 -- a chain of trees over t: symbol 9 over the last one and t
 unfoldable pub chain : Tree → ℕ → Tree
@@ -31,4 +24,4 @@ links t (suc n) M = then (links t n M) (λ _ N. keep (chain t (suc n)) N)
 pub record Chained (I W J X : List ℕ) (m : Mark) (first times r : ℕ) : Type 0 where
   pub kept : Kept
   pub after : After I W J X m (chain (getD (made I W m) first (var 0)) times) (links (getD (made I W m) first (var 0)) times (made I W m)) kept
-  pub number : r ≡ termOf kept
+  pub number : r ≡ numberOf kept

@@ -38,7 +38,7 @@ fn bucket_of(node: &[u32]) -> usize
     let mut h = 0;
     let mut i = 0;
     while i < node.len() {
-        h = ((h + node[i] as usize) * 1640531527) % 4294967296;
+        h = ((h + node[i] as usize) * 2015346805) % 4294967296;
         i += 1;
     }
     h / 1048576
