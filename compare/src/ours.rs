@@ -1,5 +1,6 @@
 //! The seam to this product's static libraries: one function a row of `compare speed`, nothing where the part is not linked. A part is
-//! linked by its feature, `reader` (crate `exports`) or `terms` (crates `exports_terms` and `exports_store`). What a function requires, its caller here keeps.
+//! linked by its feature, `reader` (crate `exports`) or `terms` (crates `exports_terms` and `exports_store`). What a function requires,
+//! its caller here keeps.
 
 /// A row's own side, ready to be called again and again.
 pub type Ours<'a> = Option<Box<dyn FnMut() + 'a>>;

@@ -110,12 +110,12 @@ module _ (I W : List ℕ) (o : Mark) (J X node : List ℕ) (first times last : �
           old = c .old;
           there = c .there;
           stored = subst (λ (k : ℕ). Stored I W K Y o (chain tree k) (links tree k (made I W o)) next new) (sym (add-one n))
-          (record {
-            grown = grown-then I W J X K Y o m new (c .stored .grown) (f .grown);
-            makes = next-links tree (made I W o) (made J X m) n (c .stored .makes) ∙ f .makes;
-            numbered = f .numbered;
-            there = f .there;
-          });
+              (record {
+                grown = grown-then I W J X K Y o m new (c .stored .grown) (f .grown);
+                makes = next-links tree (made I W o) (made J X m) n (c .stored .makes) ∙ f .makes;
+                numbered = f .numbered;
+                there = f .there;
+              });
           upto = omega arith;
           cells = chaining-cells ∙ ap (λ (l : List ℕ). 9 ∷ getD l 1 0 ∷ first ∷ []) (sym chaining-cells);
         }
