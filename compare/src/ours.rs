@@ -1,5 +1,6 @@
 //! The seam to this product's static libraries: one function a row of `compare speed`, nothing where the part is not linked. A part is
-//! linked by its feature, `reader` (crate `exports`: the reader and the theory) or `terms` (crate `exports_terms`). What a function requires, its caller here keeps.
+//! linked by its feature, `reader` (crate `exports`: the reader and the theory) or `terms` (crates `exports_terms` and `exports_store`).
+//! What a function requires, its caller here keeps.
 
 /// A row's own side, ready to be called again and again.
 pub type Ours<'a> = Option<Box<dyn FnMut() + 'a>>;
@@ -115,6 +116,16 @@ mod terms {
             used: usize,
             node: *const u32,
             length: usize,
+        ) -> usize;
+        fn tariff_chain(
+            index: *mut u32,
+            cells: usize,
+            words: *mut u32,
+            room: usize,
+            count: usize,
+            used: usize,
+            first: usize,
+            times: usize,
         ) -> usize;
         fn tariff_variables(
             index: *const u32,
@@ -234,12 +245,18 @@ mod terms {
         }))
     }
 
-    /// The tables are cleared each time, as the original makes a new store each time.
-    pub fn intern(nodes: &[Vec<u32>]) -> Ours<'_> {
+    /// A leaf, then a chain over it up to so many terms, made in one call. The tables are cleared each time, as the original makes a new
+    /// store each time.
+    pub fn intern(terms: usize) -> Ours<'static> {
         let mut store = Store::new();
         Some(Box::new(move || {
             store.clear();
-            nodes.iter().enumerate().for_each(|(k, n)| assert_eq!(store.keep(n), k));
+            let first = store.keep(&[0]);
+            let (index, words) = (store.index.as_mut_ptr(), store.words.as_mut_ptr());
+            let (cells, room) = (store.index.len(), store.words.len());
+            // SAFETY: as in `keep`; the first term stands
+            let last = unsafe { tariff_chain(index, cells, words, room, store.count, store.used, first, terms - 1) };
+            assert_eq!(last, terms - 1);
         }))
     }
 
@@ -300,7 +317,7 @@ mod terms {
         None
     }
 
-    pub fn intern(_: &[Vec<u32>]) -> super::Ours<'_> {
+    pub fn intern(_: usize) -> super::Ours<'static> {
         None
     }
 

@@ -140,19 +140,13 @@ fn theories() {
 
 // Terms
 
-/// 4,096 different nodes: a chain, each over the last and one of the first eight.
-pub fn nodes() -> Vec<Vec<u32>> {
-    let mut nodes: Vec<Vec<u32>> = (0..8).map(|k| vec![k]).collect();
-    nodes.extend((8..4096).map(|k| vec![9, k - 1, k % 8]));
-    nodes
-}
+const TERMS: usize = 4096;
 
-fn intern(nodes: &[Vec<u32>]) -> usize {
+/// A chain of so many terms: a leaf, then each over the last one and the leaf. The number of the last term.
+fn intern(terms: usize) -> usize {
     let mut store = oracle::Store::new();
-    for node in nodes {
-        black_box(store.intern(node));
-    }
-    store.len()
+    let leaf = store.intern(&[0]);
+    (1..terms).fold(leaf, |last, _| store.intern(&[9, last, leaf])) as usize
 }
 
 /// What a form more costs the original: the time of the proof with some such forms less the time without them, by their number.
@@ -198,13 +192,10 @@ fn row_of(name: &str, original: Duration, ours: Option<Box<dyn FnMut() + '_>>) {
 }
 
 fn terms() {
-    let nodes = nodes();
     print(&mut Row {
         name: "store: 4,096 terms",
-        original: Box::new(|| {
-            black_box(intern(&nodes));
-        }),
-        ours: ours::intern(&nodes),
+        original: Box::new(|| assert_eq!(intern(black_box(TERMS)), TERMS - 1)),
+        ours: ours::intern(TERMS),
     });
     let proof = format!("{} (step 0 p () (?a ?d2000))", chain(2000));
     let applies: Vec<String> = (0..8).map(|k| format!("(apply {} 0 ((x y{k})) ())", k + 1)).collect();

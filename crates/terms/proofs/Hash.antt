@@ -16,7 +16,7 @@ use Rattle.terms.specs.Table.{hashFrom, hash, latest, BUCKETS}
 hash-from-small : (h : ℕ) (w : List ℕ) → h < 4294967296 → hashFrom h w < BUCKETS
 unfolding hashFrom
 hash-from-small h [] l = omega arith
-hash-from-small h (x ∷ w) l = hash-from-small (((h + x) * 1640531527) % 4294967296) w (omega arith)
+hash-from-small h (x ∷ w) l = hash-from-small (((h + x) * 2015346805) % 4294967296) w (omega arith)
 
 pub hash-small : (w : List ℕ) → hash w < BUCKETS
 hash-small w = hash-from-small 0 w (omega arith)
@@ -30,7 +30,7 @@ pub record Hashing (w : List ℕ) (h i : ℕ) : Type 0 where
 pub hashing-begins : (w : List ℕ) → Hashing w 0 0
 hashing-begins w = record { inside = omega arith; small = omega arith; left = refl }
 
-pub hashing-on : (w : List ℕ) (h i : ℕ) → Hashing w h i → i < length w → Hashing w (((h + getD w i 0) * 1640531527) % 4294967296) (i + 1)
+pub hashing-on : (w : List ℕ) (h i : ℕ) → Hashing w h i → i < length w → Hashing w (((h + getD w i 0) * 2015346805) % 4294967296) (i + 1)
 unfolding hashFrom
 hashing-on w h i c l = record { inside = omega arith; small = omega arith; left = c .left ∙ ap (hashFrom h) (drop-cons w i 0 l) ∙ rw (add-one i) }
 

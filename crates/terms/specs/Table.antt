@@ -78,10 +78,11 @@ pub record Node (n : ℕ) (w : List ℕ) : Type 0 where
 
 -- Buckets ----------------------------------------------------------------------------------------------------------------------
 
--- the bucket of a node
+-- the bucket of a node. The multiplier is odd and below 2 ^ 31, so that no product wraps; of such it was chosen by a test on chains,
+-- pairs, variables and constants, for few terms to a bucket
 unfoldable pub hashFrom : ℕ → List ℕ → ℕ
 hashFrom h [] = h / 1048576
-hashFrom h (w ∷ ws) = hashFrom (((h + w) * 1640531527) % 4294967296) ws
+hashFrom h (w ∷ ws) = hashFrom (((h + w) * 2015346805) % 4294967296) ws
 
 abbrev pub hash : List ℕ → ℕ
 hash w = hashFrom 0 w
@@ -149,6 +150,11 @@ pub record Refused (A : Type 0) (I W J X : List ℕ) (old : Mark) (K : Out Made 
 abbrev pub After : List ℕ → List ℕ → List ℕ → List ℕ → Mark → Tree → Out Made Tree → Kept → Type 0
 After I W J X old t K (Term n new) = Stored I W J X old t K n new
 After I W J X old t K (Full r new) = Refused Tree I W J X old K r new
+
+-- a term's number, or the number of all terms, which no term has
+unfoldable pub numberOf : Kept → ℕ
+numberOf (Term n m) = n
+numberOf (Full r m) = TERMS
 
 -- Back to an old mark ----------------------------------------------------------------------------------------------------------------
 

@@ -38,7 +38,7 @@ fn bucket_of(node: &[u32]) -> usize
     let mut h = 0;
     let mut i = 0;
     while i < node.len() {
-        h = ((h + node[i] as usize) * 1640531527) % 4294967296;
+        h = ((h + node[i] as usize) * 2015346805) % 4294967296;
         i += 1;
     }
     h / 1048576
@@ -132,6 +132,7 @@ fn write_node(tail: &mut [u32], node: &[u32])
 }
 
 // The node comes into the store: a term that is there already, or a new one; rows 8 and 9 of question 60 where it does not fit.
+// The mark and the slice are taken apart once, and handed on only in copies, so that the compiler passes their words in registers.
 pub fn keep(index: &mut [u32], words: &mut [u32], mark: Mark, node: &[u32]) -> Kept
     requires { ⌜ Good (now index) (now words) mark ⌝ }
     requires { ⌜ Node (mark .terms) (now node) ⌝ }
@@ -139,21 +140,26 @@ pub fn keep(index: &mut [u32], words: &mut [u32], mark: Mark, node: &[u32]) -> K
 {
     let terms = mark.terms;
     let used = mark.words;
-    let bucket = bucket_of(node);
-    let found = find(index, words, mark, node, bucket);
+    let old = Mark {
+        terms: terms,
+        words: used,
+    };
+    let cells = &node[..];
+    let bucket = bucket_of(cells);
+    let found = find(index, words, old, cells, bucket);
     if found != 0 {
-        return Kept::Term(found - 1, mark);
+        return Kept::Term(found - 1, old);
     }
     if TERMS <= terms {
-        return Kept::Full(8, mark);
+        return Kept::Full(8, old);
     }
-    let end = used + node.len();
+    let end = used + cells.len();
     if words.len() < end {
-        return Kept::Full(9, mark);
+        return Kept::Full(9, old);
     }
-    let flag = flag_of(index, words, mark, node);
+    let flag = flag_of(index, words, old, cells);
     link(index, terms, bucket, end, flag);
-    write_node(&mut words[used..], node);
+    write_node(&mut words[used..], cells);
     Kept::Term(
         terms,
         Mark {

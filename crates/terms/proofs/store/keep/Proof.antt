@@ -19,8 +19,8 @@ find-requires : tie.Need-find-requires
 find-requires c κs = search needs
 
 -- src/store.rt:143:27
-sub-t16 : tie.Need-sub-t16
-sub-t16 c = search needs
+sub-t19 : tie.Need-sub-t19
+sub-t19 c = search needs
 
 -- src/store.rt:143:9
 same-length : tie.Need-same-length
@@ -91,8 +91,8 @@ write-node-requires : tie.Need-write-node-requires
 write-node-requires c κs = search needs
 
 -- src/store.rt:158:20
-add-t17 : tie.Need-add-t17
-add-t17 c = search needs
+add-t20 : tie.Need-add-t20
+add-t20 c = search needs
 
 -- src/store.rt:133:1
 same-length-7 : tie.Need-same-length-7
@@ -112,7 +112,7 @@ keep-spec =
     (tie.spec
     bucket-of-requires
     find-requires
-    sub-t16
+    sub-t19
     same-length
     same-length-2
     returns
@@ -130,7 +130,7 @@ keep-spec =
     part-write-node-start
     part-write-node-end
     write-node-requires
-    add-t17
+    add-t20
     same-length-7
     same-length-8
     returns-4)
