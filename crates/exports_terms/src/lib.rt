@@ -8,11 +8,15 @@ ghost use Rattle.terms.specs.Sets.{holds};
 ghost use Rattle.terms.specs.Collect.{tree, Readable};
 ghost use Rattle.terms.specs.Table.{Good, Node};
 ghost use Rattle.terms.specs.Subst.{Replaceable};
+ghost use Rattle.terms.specs.Unify.{Unifiable};
 ghost use Rattle.exports_terms.specs.Keeps.{Keeps, Replaces};
+ghost use Rattle.exports_terms.specs.Unifies.{foundOf, Unifies};
 use terms::store::Kept;
 use terms::store::Mark;
 use terms::store::keep;
 use terms::substitute::substitute;
+use terms::unify::Unified;
+use terms::unify::unify;
 use terms::variables::variables;
 
 // The number of a node's term, which comes into the store if it is new; the number of terms that fit where it does not.
@@ -85,4 +89,44 @@ pub extern "C" fn tariff_substitute(
         Kept::Term(n, _) => n,
         Kept::Full(_, _) => rules::TERMS,
     }
+}
+
+// An answer of unification as a number: 1 where bindings are found, 0 where there are none, 2 where a table has no room.
+fn number_of(answer: Unified) -> usize
+    ensures { λ r. ⌜ r ≡ foundOf answer ⌝ }
+{
+    match answer {
+        Unified::Found(_) => 1,
+        Unified::Apart(_) => 0,
+        Unified::Full(_, _) => 2,
+    }
+}
+
+// Two terms whose variables are below `variables` are unified. The bindings found are in `theta`, in the form of a map; it is zero before,
+// and where none are found. `map`, `memo`, `pairs` and `seen` are scratch: zero before and after.
+#[no_mangle]
+pub extern "C" fn tariff_unify(
+    index: &mut [u32],
+    words: &mut [u32],
+    count: usize,
+    used: usize,
+    variables: usize,
+    s: usize,
+    t: usize,
+    theta: &mut [u32],
+    map: &mut [u32],
+    memo: &mut [u32],
+    pairs: &mut [u32],
+    seen: &mut [u64],
+) -> usize
+    requires { ⌜ Unifiable (now index) (now words) (record { terms = count; words = used }) s t (now theta) (now map) (now memo) (now pairs) (now seen) ⌝ }
+    ensures { λ r. ⌜ Unifies (now (index .entry)) (now (words .entry)) (now (index .exit)) (now (words .exit)) (record { terms = count; words = used }) variables s t (now (theta .exit)) r ⌝ }
+    ensures { λ _. ⌜ (now (map .exit) ≡ now (map .entry)) × (now (memo .exit) ≡ now (memo .entry)) × (now (pairs .exit) ≡ now (pairs .entry)) × (now (seen .exit) ≡ now (seen .entry)) ⌝ }
+{
+    let mark = Mark {
+        terms: count,
+        words: used,
+    };
+    let answer = unify(index, words, mark, variables, s, t, theta, map, memo, pairs, seen);
+    number_of(answer)
 }
