@@ -53,14 +53,14 @@ mod terms {
 
     unsafe extern "C" {
         fn tariff_keep(
+            node: *const u32,
+            length: usize,
             index: *mut u32,
             cells: usize,
             words: *mut u32,
             room: usize,
             count: usize,
             used: usize,
-            node: *const u32,
-            length: usize,
         ) -> usize;
         fn tariff_chain(
             index: *mut u32,
@@ -126,7 +126,7 @@ mod terms {
             let (index, words) = (self.index.as_mut_ptr(), self.words.as_mut_ptr());
             let (cells, room) = (self.index.len(), self.words.len());
             // SAFETY: the slices live through the call; only this function writes the tables, so that they stay what it requires
-            let id = unsafe { tariff_keep(index, cells, words, room, self.count, self.used, node.as_ptr(), node.len()) };
+            let id = unsafe { tariff_keep(node.as_ptr(), node.len(), index, cells, words, room, self.count, self.used) };
             if id == self.count {
                 self.count += 1;
                 self.used += node.len();
@@ -184,6 +184,17 @@ mod terms {
         }))
     }
 
+    /// The same chain, one call from here a term.
+    pub fn intern_each(terms: usize) -> Ours<'static> {
+        let mut store = Store::new();
+        Some(Box::new(move || {
+            store.clear();
+            let first = store.keep(&[0]);
+            let last = (1..terms).fold(first, |last, _| store.keep(&[9, last as u32, first as u32]));
+            assert_eq!(last, terms - 1);
+        }))
+    }
+
     /// As often as a `step` of one premise asks for the variables of a judgment: for the premise, and for the conclusion.
     pub fn variables(levels: usize) -> Ours<'static> {
         let mut store = Store::new();
@@ -208,6 +219,10 @@ mod terms {
         None
     }
 
+    pub fn intern_each(_: usize) -> super::Ours<'static> {
+        None
+    }
+
     pub fn substitute(_: usize) -> super::Ours<'static> {
         None
     }
@@ -217,7 +232,7 @@ mod terms {
     }
 }
 
-pub use terms::{intern, substitute, variables};
+pub use terms::{intern, intern_each, substitute, variables};
 
 /// Not linked yet: the tables of a theory.
 pub fn theory(_: &str) -> Ours<'_> {
