@@ -108,14 +108,14 @@ mod terms {
 
     unsafe extern "C" {
         fn tariff_keep(
+            node: *const u32,
+            length: usize,
             index: *mut u32,
             cells: usize,
             words: *mut u32,
             room: usize,
             count: usize,
             used: usize,
-            node: *const u32,
-            length: usize,
         ) -> usize;
         fn tariff_chain(
             index: *mut u32,
@@ -202,7 +202,7 @@ mod terms {
             let (index, words) = (self.index.as_mut_ptr(), self.words.as_mut_ptr());
             let (cells, room) = (self.index.len(), self.words.len());
             // SAFETY: the slices live through the call; only this function writes the tables, so that they stay what it requires
-            let id = unsafe { tariff_keep(index, cells, words, room, self.count, self.used, node.as_ptr(), node.len()) };
+            let id = unsafe { tariff_keep(node.as_ptr(), node.len(), index, cells, words, room, self.count, self.used) };
             if id == self.count {
                 self.count += 1;
                 self.used += node.len();
@@ -256,6 +256,17 @@ mod terms {
             let (cells, room) = (store.index.len(), store.words.len());
             // SAFETY: as in `keep`; the first term stands
             let last = unsafe { tariff_chain(index, cells, words, room, store.count, store.used, first, terms - 1) };
+            assert_eq!(last, terms - 1);
+        }))
+    }
+
+    /// The same chain, one call from here a term.
+    pub fn intern_each(terms: usize) -> Ours<'static> {
+        let mut store = Store::new();
+        Some(Box::new(move || {
+            store.clear();
+            let first = store.keep(&[0]);
+            let last = (1..terms).fold(first, |last, _| store.keep(&[9, last as u32, first as u32]));
             assert_eq!(last, terms - 1);
         }))
     }
@@ -321,6 +332,10 @@ mod terms {
         None
     }
 
+    pub fn intern_each(_: usize) -> super::Ours<'static> {
+        None
+    }
+
     pub fn substitute(_: usize) -> super::Ours<'static> {
         None
     }
@@ -330,4 +345,4 @@ mod terms {
     }
 }
 
-pub use terms::{intern, substitute, unify, variables};
+pub use terms::{intern, intern_each, substitute, unify, variables};

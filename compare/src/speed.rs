@@ -192,11 +192,9 @@ fn row_of(name: &str, original: Duration, ours: Option<Box<dyn FnMut() + '_>>) {
 }
 
 fn terms() {
-    print(&mut Row {
-        name: "store: 4,096 terms",
-        original: Box::new(|| assert_eq!(intern(black_box(TERMS)), TERMS - 1)),
-        ours: ours::intern(TERMS),
-    });
+    for (name, ours) in [("store: 4,096 terms", ours::intern(TERMS)), ("store: 4,096 terms, a call each", ours::intern_each(TERMS))] {
+        print(&mut Row { name, original: Box::new(|| assert_eq!(intern(black_box(TERMS)), TERMS - 1)), ours });
+    }
     let proof = format!("{} (step 0 p () (?a ?d2000))", chain(2000));
     let applies: Vec<String> = (0..8).map(|k| format!("(apply {} 0 ((x y{k})) ())", k + 1)).collect();
     let took = form_more(TREES, GOALS, &proof, &applies);

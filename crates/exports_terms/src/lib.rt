@@ -19,14 +19,15 @@ use terms::unify::Unified;
 use terms::unify::unify;
 use terms::variables::variables;
 
-// The number of a node's term, which comes into the store if it is new; the number of terms that fit where it does not.
+// The number of a node's term, which comes into the store if it is new; the number of terms that fit where it does not. The node is the
+// first parameter, since a slice that is passed on the stack is read there before it is quite written, for which the processor waits.
 #[no_mangle]
 pub extern "C" fn tariff_keep(
+    node: &[u32],
     index: &mut [u32],
     words: &mut [u32],
     count: usize,
     used: usize,
-    node: &[u32],
 ) -> usize
     requires { ⌜ Good (now index) (now words) (record { terms = count; words = used }) ⌝ }
     requires { ⌜ Node count (now node) ⌝ }
