@@ -7,13 +7,14 @@ use lib.ListN.{length, take, drop, replicate, length-append, length-take, length
 use lib.Seq.{take-at, length-take-le}
 use Rattle.rules.specs.Limits.{SORTS, SYMBOLS, ARGUMENTS, RULES, RULEVARS, PATTERNS}
 use Rattle.rules.specs.Sexp.{Name}
-use Rattle.rules.specs.Tree.{Tree, Trees, var, app, none, more, size, sizes}
-use Rattle.rules.specs.Theory.{Theory, Symbol, Rule, ruleWords}
-use Rattle.rules.specs.TheoryTables.{filled, rows, nameCells, symbolRow, inputRow, prefix, prefixes, patternRow, varCells, ruleVarRow, ruleRow, ruleCells, sortTable, symbolTable, inputTable, ruleTable, ruleVarTable, patternTable}
+use Rattle.rules.specs.Theory.{Theory, Symbol, Rule}
+use Rattle.rules.specs.TheoryTables.{filled, rows, nameCells, symbolRow, inputRow, patternRow, ruleVarRow, ruleCells, sortTable, symbolTable, inputTable, ruleTable, ruleVarTable, patternTable}
 use Rattle.rules.specs.Laws.Row.{append-nil, length-rows, length-filled, filled-fits}
+use Rattle.rules.specs.Laws.Prefix.{words-counted}
 use Rattle.kernel.specs.Held.{Front}
 use Rattle.kernel.specs.Parsed.{Tables, tables, TheoryHeld, Roomy, Exact, Within, zeroFrom, wiped, countsOf, laidExactly, laid}
 use Rattle.kernel.specs.declared.parse.Counts.{Counts}
+use Rattle.kernel.proofs.RuleRows.{length-rule-cells, rule-var-row-long}
 
 -- one table: the cells that are used, and how many
 module _ {table xs : List ℕ} (f : Front table xs) {k : ℕ} (e : length xs ≡ k) where
@@ -26,6 +27,10 @@ module _ {table xs : List ℕ} (f : Front table xs) {k : ℕ} (e : length xs ≡
       let m : length table - k ≡ n - length xs = omega (arith, e, l) in
       ap (λ (y : List ℕ). y ++ replicate (length table - k) 0) t ∙ ap (λ (j : ℕ). xs ++ replicate j 0) m
       ∙ sym (filled-fits n xs (omega (arith, e, l, front-inside)))
+
+-- a table of n cells, these first
+filled-front : (n : ℕ) (xs : List ℕ) → length xs ≤ n → Front (filled n xs) xs
+filled-front n xs h = record { rest = replicate (n - length xs) 0; is = filled-fits n xs h }
 
 -- a table whose part from a place on was set to zero
 pub zero-behind : (table ys : List ℕ) (k : ℕ) → ys ≡ replicate (length table - k) 0 ++ drop (length table - k) (take (length table - k) (drop k table)) →
@@ -52,43 +57,7 @@ unfolding inputRow
 input-cells ss = length-rows inputRow ARGUMENTS (λ s. length-filled ARGUMENTS (s .inputs)) ss
 
 var-cells : (rs : List Rule) → length (rows ruleVarRow rs) ≡ 3 * RULEVARS * length rs
-unfolding ruleVarRow
-var-cells rs = length-rows ruleVarRow (3 * RULEVARS) (λ r. length-filled (3 * RULEVARS) (varCells (r .vars))) rs
-
-rule-row-six : (r : Rule) (at : ℕ) → length (ruleRow r at) ≡ 6
-unfolding ruleRow nameCells
-rule-row-six r at = refl
-
-rule-cells : (rs : List Rule) (at : ℕ) → length (ruleCells rs at) ≡ 6 * length rs
-unfolding ruleCells
-rule-cells [] at = refl
-rule-cells (r ∷ rs) at =
-    omega (arith, length-append (ruleRow r at) (ruleCells rs (at + length (patternRow r))), rule-row-six r at, rule-cells rs (at + length (patternRow r)))
-
--- a tree has a word for each of its nodes
-mutual
-  unfolding prefix size
-
-  prefix-words : (t : Tree) → length (prefix t) ≡ size t
-  prefix-words (var i) = refl
-  prefix-words (app c ts) = omega (arith, prefixes-words ts)
-
-  prefixes-words : (ts : Trees) → length (prefixes ts) ≡ sizes ts
-  prefixes-words none = refl
-  prefixes-words (more t ts) = omega (arith, length-append (prefix t) (prefixes ts), prefix-words t, prefixes-words ts)
-
-pattern-cells : (rs : List Rule) → length (rows patternRow rs) ≡ ruleWords rs
-unfolding rows patternRow ruleWords
-pattern-cells [] = refl
-pattern-cells (r ∷ rs) =
-    omega (
-      arith,
-      length-append (prefixes (r .premises) ++ prefix (r .conclusion)) (rows patternRow rs),
-      length-append (prefixes (r .premises)) (prefix (r .conclusion)),
-      prefixes-words (r .premises),
-      prefix-words (r .conclusion),
-      pattern-cells rs,
-    )
+var-cells rs = length-rows ruleVarRow (3 * RULEVARS) rule-var-row-long rs
 
 -- All tables -----------------------------------------------------------------------------------------------------------------------
 
@@ -103,9 +72,9 @@ module _ {text : List ℕ} {t : Tables} (T : Theory) (h : TheoryHeld text t (cou
         sorts = front-inside (h .sorts .front) (sort-cells (T .sorts));
         symbols = front-inside (h .symbols .front) (symbol-cells (T .symbols));
         inputs = front-inside (h .symbols .fronts) (input-cells (T .symbols));
-        rules = front-inside (h .rules .front) (rule-cells (T .rules) 0);
+        rules = front-inside (h .rules .front) (length-rule-cells (T .rules) 0);
         rule-vars = front-inside (h .rules .fronts) (var-cells (T .rules));
-        patterns = front-inside (h .rules .written) (pattern-cells (T .rules));
+        patterns = front-inside (h .rules .written) (words-counted (T .rules));
       }
 
   pub laid-of : wiped t (countsOf T) ≡ laidExactly T
@@ -115,9 +84,44 @@ module _ {text : List ℕ} {t : Tables} (T : Theory) (h : TheoryHeld text t (cou
       (front-filled (h .sorts .front) (sort-cells (T .sorts)) (2 * SORTS) (h .sorts .long) i)
       (front-filled (h .symbols .front) (symbol-cells (T .symbols)) (4 * SYMBOLS) (h .symbols .long) i)
       (front-filled (h .symbols .fronts) (input-cells (T .symbols)) (ARGUMENTS * SYMBOLS) (h .symbols .longs) i)
-      (front-filled (h .rules .front) (rule-cells (T .rules) 0) (6 * RULES) (h .rules .long) i)
+      (front-filled (h .rules .front) (length-rule-cells (T .rules) 0) (6 * RULES) (h .rules .long) i)
       (front-filled (h .rules .fronts) (var-cells (T .rules)) (3 * RULEVARS * RULES) (h .rules .longs) i)
-      (front-filled (h .rules .written) (pattern-cells (T .rules)) PATTERNS (h .rules .room) i)
+      (front-filled (h .rules .written) (words-counted (T .rules)) PATTERNS (h .rules .room) i)
+
+  -- they hold what was held
+  pub laid-held : TheoryHeld text (laidExactly T) (countsOf T) T
+  unfolding sortTable symbolTable inputTable ruleTable ruleVarTable patternTable
+  laid-held =
+      record {
+        sorts = record {
+          many = h .sorts .many;
+          long = length-filled (2 * SORTS) (rows nameCells (T .sorts));
+          front = filled-front (2 * SORTS) (rows nameCells (T .sorts)) (omega (arith, within-of .sorts, sort-cells (T .sorts), h .sorts .long));
+          names = h .sorts .names;
+        };
+        symbols = record {
+          many = h .symbols .many;
+          long = length-filled (4 * SYMBOLS) (rows symbolRow (T .symbols));
+          longs = length-filled (ARGUMENTS * SYMBOLS) (rows inputRow (T .symbols));
+          front = filled-front (4 * SYMBOLS) (rows symbolRow (T .symbols)) (omega (arith, within-of .symbols, symbol-cells (T .symbols), h .symbols .long));
+          fronts = filled-front (ARGUMENTS * SYMBOLS) (rows inputRow (T .symbols)) (omega (arith, within-of .inputs, input-cells (T .symbols), h .symbols .longs));
+          names = h .symbols .names;
+          few = h .symbols .few;
+        };
+        rules = record {
+          many = h .rules .many;
+          used = h .rules .used;
+          few = h .rules .few;
+          long = length-filled (6 * RULES) (ruleCells (T .rules) 0);
+          longs = length-filled (3 * RULEVARS * RULES) (rows ruleVarRow (T .rules));
+          room = length-filled PATTERNS (rows patternRow (T .rules));
+          front = filled-front (6 * RULES) (ruleCells (T .rules) 0) (omega (arith, within-of .rules, length-rule-cells (T .rules) 0, h .rules .long));
+          fronts = filled-front (3 * RULEVARS * RULES) (rows ruleVarRow (T .rules)) (omega (arith, within-of .rule-vars, var-cells (T .rules), h .rules .longs));
+          written = filled-front PATTERNS (rows patternRow (T .rules)) (omega (arith, within-of .patterns, words-counted (T .rules), h .rules .room));
+          names = h .rules .names;
+          sorted = h .rules .sorted;
+        };
+      }
 
 -- tables of the named lengths, with what lies behind in longer ones
 pub laid-longer : (t : Tables) (T : Theory) (s y i r v p : List ℕ) → tables s y i r v p ≡ laidExactly T →

@@ -13,6 +13,7 @@ use Rattle.rules.specs.Tree.{Tree, Trees, var, app, none, more, countTrees, siz
 use Rattle.rules.specs.Theory.{Rule, noRule, ruleWords}
 use Rattle.rules.specs.Laws.Theory.{all-at, all-snoc}
 use Rattle.rules.specs.TheoryTables.{rows, nameCells, prefix, prefixes, patternRow, varCells, ruleVarRow, ruleRow, ruleCells}
+use Rattle.rules.specs.Laws.Prefix.{words-counted}
 use Rattle.rules.specs.Laws.Row.{append-assoc, append-nil, rows-snoc, length-rows, length-filled}
 use Rattle.kernel.specs.Held.{Front}
 use Rattle.kernel.specs.HeldRules.{RulesHeld, RuleIs}
@@ -20,17 +21,6 @@ use Rattle.kernel.proofs.Holding.{front-write, front-same, front-paste}
 use Rattle.kernel.proofs.RuleRows.{length-rule-cells, rule-var-row-long}
 
 -- Words --------------------------------------------------------------------------------------------------------------------------
-
-mutual
-  unfolding prefix size
-
-  prefix-length : (p : Tree) → length (prefix p) ≡ size p
-  prefix-length (var v) = refl
-  prefix-length (app c ts) = ap suc (prefixes-length ts)
-
-  prefixes-length : (ts : Trees) → length (prefixes ts) ≡ sizes ts
-  prefixes-length none = refl
-  prefixes-length (more t ts) = let a = prefix-length t in let b = prefixes-length ts in length-append (prefix t) (prefixes ts) ∙ omega arith
 
 some-word : (t : Tree) → 1 ≤ length (prefix t)
 unfolding prefix
@@ -42,20 +32,6 @@ pub count-few : (ts : Trees) → countTrees ts ≤ length (prefixes ts)
 unfolding prefix countTrees
 count-few none = omega arith
 count-few (more t ts) = omega (arith, length-append (prefix t) (prefixes ts), some-word t, count-few ts)
-
--- row 6 counts the words
-words-counted : (rs : List Rule) → length (rows patternRow rs) ≡ ruleWords rs
-unfolding rows patternRow ruleWords
-words-counted [] = refl
-words-counted (r ∷ rs) =
-    omega (
-      arith,
-      length-append (prefixes (r .premises) ++ prefix (r .conclusion)) (rows patternRow rs),
-      length-append (prefixes (r .premises)) (prefix (r .conclusion)),
-      prefixes-length (r .premises),
-      prefix-length (r .conclusion),
-      words-counted rs,
-    )
 
 front-taken : (table xs : List ℕ) (n : ℕ) → take n table ≡ xs → Front table xs
 front-taken table xs n e = record { rest = drop n table; is = sym (take-append-drop n table) ∙ ap (λ l. l ++ drop n table) e }

@@ -196,3 +196,7 @@ laid t T = record {
   rule-vars = ruleVarTable T ++ drop (3 * RULEVARS * RULES) (t .rule-vars);
   patterns = patternTable T ++ drop PATTERNS (t .patterns);
 }
+
+-- the tables of a theory hold it, which is what the readers ask for; the names stand in the text
+abbrev pub LaidHeld : List ℕ → Theory → Type 0
+LaidHeld text T = TheoryHeld text (laidExactly T) (countsOf T) T

@@ -6,7 +6,7 @@ ghost use Rattle.rules.specs.Sexp.{read};
 ghost use Rattle.rules.specs.Theory.{noTheory};
 ghost use Rattle.rules.specs.Declare.{declare};
 ghost use Rattle.rules.specs.Judge.{through};
-ghost use Rattle.kernel.specs.Parsed.{tables, Roomy, Exact, Within, zeroFrom, wiped, noCounts, countsIn, Run, Legible, judgedOf, theoryOf, verdict, laid, laidExactly};
+ghost use Rattle.kernel.specs.Parsed.{tables, Roomy, Exact, Within, zeroFrom, wiped, noCounts, countsIn, Run, Legible, judgedOf, theoryOf, verdict, laid, laidExactly, LaidHeld};
 use crate::declare::Declared;
 use crate::declare::declare;
 use sexp::sexp::Read;
@@ -175,6 +175,7 @@ fn judge(
     ensures { λ _. ⌜ tables (now (sorts .exit)) (now (symbols .exit)) (now (inputs .exit)) (now (rules .exit)) (now (vars .exit)) (now (patterns .exit))
         ≡ laidExactly (theoryOf (verdict (now (text .entry)))) ⌝ }
     ensures { λ _. ⌜ now (cells .exit) ≡ now (cells .entry) ⌝ }
+    ensures { λ _. ⌜ LaidHeld (now (text .entry)) (theoryOf (verdict (now (text .entry)))) ⌝ }
 {
     let r = read_and_declare(text, cells, sorts, symbols, inputs, rules, vars, patterns);
     wipe_behind(sorts, symbols, inputs, rules, vars, patterns, counts_in(r));
@@ -198,6 +199,7 @@ pub fn parse(
     ensures { λ _. ⌜ tables (now (sorts .exit)) (now (symbols .exit)) (now (inputs .exit)) (now (rules .exit)) (now (vars .exit)) (now (patterns .exit))
         ≡ laid (tables (now (sorts .entry)) (now (symbols .entry)) (now (inputs .entry)) (now (rules .entry)) (now (vars .entry)) (now (patterns .entry))) (theoryOf (verdict (now (text .entry)))) ⌝ }
     ensures { λ _. ⌜ now (cells .exit) ≡ now (cells .entry) ⌝ }
+    ensures { λ _. ⌜ LaidHeld (now (text .entry)) (theoryOf (verdict (now (text .entry)))) ⌝ }
 {
     judge(
         text,

@@ -12,6 +12,7 @@ pub mod Set
 pub mod Tree
 pub mod Store
 pub mod Row
+pub mod Prefix
 pub mod Keeping
 pub mod MakingWalk
 pub mod Still

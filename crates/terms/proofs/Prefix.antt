@@ -8,18 +8,8 @@ use lib.Seq.{drop-drop, drop-at, getD-drop}
 use Rattle.rules.specs.Limits.{SYMBOLS}
 use Rattle.rules.specs.Tree.{Tree, Trees, var, app, none, more, size, sizes}
 use Rattle.rules.specs.TheoryTables.{prefix, prefixes}
+use Rattle.rules.specs.Laws.Prefix.{prefix-length}
 use Rattle.terms.specs.Patterns.{Stands, Standing, Fits, FitsAll}
-
-mutual
-  unfolding prefix size
-
-  pub prefix-length : (p : Tree) → length (prefix p) ≡ size p
-  prefix-length (var v) = refl
-  prefix-length (app c ts) = ap suc (prefixes-length ts)
-
-  pub prefixes-length : (ts : Trees) → length (prefixes ts) ≡ sizes ts
-  prefixes-length none = refl
-  prefixes-length (more t ts) = let a = prefix-length t in let b = prefixes-length ts in length-append (prefix t) (prefixes ts) ∙ omega arith
 
 -- the word at a place, and what stands behind it
 first-of : (P : List ℕ) (at x : ℕ) (ys : List ℕ) → drop at P ≡ x ∷ ys → (at < length P) × (getD P at 0 ≡ x) × (drop (at + 1) P ≡ ys)
