@@ -128,6 +128,18 @@ pub extern "C" fn tariff_unify(
         terms: count,
         words: used,
     };
-    let answer = unify(index, words, mark, variables, s, t, theta, map, memo, pairs, seen);
+    let answer = unify(
+        index,
+        words,
+        mark,
+        variables,
+        s,
+        t,
+        theta,
+        map,
+        memo,
+        pairs,
+        seen,
+    );
     number_of(answer)
 }

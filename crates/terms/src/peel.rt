@@ -8,9 +8,9 @@ ghost use Rattle.terms.specs.Peel.{Sideable, Sided, Lookable, Looked, Pe
 use crate::pairs::Asks;
 use crate::pairs::compare;
 use crate::pairs::push;
+use crate::replace::replace;
 use crate::store::Kept;
 use crate::store::Mark;
-use crate::replace::replace;
 use rules::PAIRS;
 
 // Both sides' numbers, or the row of question 60 that has no room; and what is used of the store then.
