@@ -2,7 +2,6 @@
 ghost use mathlib.Core.Path.{_≡_};
 ghost use mathlib.Core.List.{List};
 ghost use Prim.Native.Nat.{ℕ, _+_, _*_, _^_, _≤_, _<_};
-ghost use lib.Dec.{eqb};
 ghost use lib.ListN.{length, drop};
 ghost use Rattle.rules.specs.Lex.{letters};
 ghost use Rattle.rules.specs.Sexp.{Name, atom};
@@ -13,6 +12,7 @@ ghost use Rattle.rules.specs.TheoryTables.{prefix};
 ghost use Rattle.kernel.specs.Held.{SymbolsHeld, SomeSymbolsHeld};
 ghost use Rattle.kernel.specs.Reading.{WordFits, WordPut, Spans, VarsHeld, Meeting, MetRead, Reads, Ready, PatternRead, Heading, HeadRead};
 use crate::names::symbol_named;
+use crate::readers::same_sort;
 use crate::symbols::marked;
 use crate::symbols::put_name;
 use sexp::lex;
@@ -23,13 +23,6 @@ use sexp::names::named;
 pub enum Made {
     Ok(usize, usize),
     No(usize, usize),
-}
-
-// Whether two sorts are the same.
-pub fn same_sort(a: usize, b: usize) -> bool
-    ensures { λ r. ⌜ r ≡ eqb a b ⌝ }
-{
-    a == b
 }
 
 // A word more, if there is room.

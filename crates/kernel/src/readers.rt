@@ -1,8 +1,9 @@
-// Reading the tables of sorts and symbols: a symbol's signature by its number, numbers by name, and the constructors of a
-// sort one after the other.
+// Reading the tables of sorts and symbols: whether two sorts are the same, a symbol's signature by its number, numbers by name, and the
+// constructors of a sort one after the other.
 ghost use mathlib.Core.Path.{_≡_};
 ghost use Prim.Native.Nat.{ℕ, _<_};
 ghost use mathlib.Core.List.{List};
+ghost use lib.Dec.{eqb};
 ghost use lib.ListN.{length, getD};
 ghost use Rattle.rules.specs.Theory.{Theory, inputs as inputsOf, output as outputOf, sortNamed, constructorNamed, predicateNamed};
 ghost use Rattle.sexp.specs.NameRows.{foundOf};
@@ -12,6 +13,13 @@ ghost use Rattle.kernel.specs.Listing.{nextConstructor};
 use crate::names::symbol_named;
 use sexp::names::Found;
 use sexp::names::named;
+
+// Whether two sorts are the same.
+pub fn same_sort(a: usize, b: usize) -> bool
+    ensures { λ r. ⌜ r ≡ eqb a b ⌝ }
+{
+    a == b
+}
 
 // How many arguments symbol c takes.
 pub fn arity(symbols: &[u32], c: usize) -> usize
@@ -77,7 +85,7 @@ pub fn next_constructor(symbols: &[u32], count: usize, sort: usize, from: usize)
 {
     let mut i = from;
     while i < count {
-        if output(symbols, i) == sort {
+        if same_sort(output(symbols, i), sort) {
             return Found::At(i);
         }
         i += 1;

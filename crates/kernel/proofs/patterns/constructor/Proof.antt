@@ -12,7 +12,7 @@ use Rattle.kernel.proofs.patterns.constructor.Reads as reads
 use Rattle.kernel.proofs.patterns.constructor.Lts as lts
 use Rattle.kernel.proofs.names.symbol_named.Reads as symbol-named-reads
 use Rattle.kernel.proofs.patterns.put_word.Reads as put-word-reads
-use Rattle.kernel.proofs.patterns.same_sort.Reads as same-sort-reads
+use Rattle.kernel.proofs.readers.same_sort.Reads as same-sort-reads
 use Rattle.sexp.proofs.lex.atom_end.Reads as atom-end-reads
 
 -- src/patterns.rt:97:9

@@ -9,7 +9,7 @@ use Rattle.kernel.proofs.patterns.met_or_new.Tie as tie
 use Rattle.kernel.proofs.patterns.met_or_new.Reads as reads
 use Rattle.kernel.proofs.patterns.met_or_new.Lts as lts
 use Rattle.sexp.proofs.names.named.Reads as named-reads
-use Rattle.kernel.proofs.patterns.same_sort.Reads as same-sort-reads
+use Rattle.kernel.proofs.readers.same_sort.Reads as same-sort-reads
 use Rattle.kernel.proofs.symbols.put_name.Reads as put-name-reads
 
 -- src/patterns.rt:50:42
