@@ -49,9 +49,10 @@ def main(crate, *names):
     edits = [e for e in sorted((here / "crates" / crate / "tried").glob("*.edit")) if not names or e.stem in names]
     with tempfile.TemporaryDirectory() as folder:
         home = pathlib.Path(folder) / "checkout"
-        shutil.copytree(here, home, ignore=shutil.ignore_patterns(".git", "compare"))
-        if not proved(home, crate)[0]:
-            raise SystemExit(f"{crate} is not proved as it stands")
+        shutil.copytree(here, home, ignore=lambda at, _: {".git", "compare"} if pathlib.Path(at) == here else set())
+        taken, said = proved(home, crate)
+        if not taken:
+            raise SystemExit(f"{said}\n{crate} is not proved as it stands")
         failed = [e.stem for e in edits if not tried(home, crate, e)]
     print(f"{len(edits) - len(failed)} refused, {len(failed)} not")
     return 1 if failed or not edits else 0
