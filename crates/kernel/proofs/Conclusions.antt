@@ -18,6 +18,7 @@ use Rattle.kernel.specs.Readers.{KnownRule, KnownWord, argumentsBehind, 
 use Rattle.kernel.specs.Entries.{known-symbol, known-rule}
 use Rattle.kernel.specs.declared.rule_readers.Span.{Span}
 use Rattle.kernel.proofs.RuleRows.{words-here}
+use Rattle.kernel.proofs.RuleStore.{count-few}
 
 -- Patterns that fit their symbols ------------------------------------------------------------------------------------------------
 
@@ -87,16 +88,6 @@ unfolding before Fits
 before-fit T none us a b = b
 before-fit T (more t ts) us a b = (a .0, before-fit T ts us (a .1) b)
 
-prefix-some : (t : Tree) → 1 ≤ length (prefix t)
-unfolding prefix
-prefix-some (var i) = omega arith
-prefix-some (app c ts) = omega arith
-
-count-words : (ts : Trees) → countTrees ts ≤ length (prefixes ts)
-unfolding countTrees prefix
-count-words none = omega arith
-count-words (more t ts) = omega (arith, count-words ts, prefix-some t, length-append (prefix t) (prefixes ts))
-
 -- The loop -----------------------------------------------------------------------------------------------------------------------
 
 -- a list from a place on that begins with x
@@ -153,7 +144,7 @@ module _ (T : Theory) (P : List ℕ) (behind place left : ℕ) (q : Ahead T P be
       let b = begins P place (SYMBOLS + i) (prefixes ts ++ rest) w in
       record {
         inside = b .inside;
-        few = omega (arith, ap length w, length-drop place P, length-append (prefixes ts) rest, count-words ts, c, b .inside);
+        few = omega (arith, ap length w, length-drop place P, length-append (prefixes ts) rest, count-few ts, c, b .inside);
         known = λ l. absurd (omega (arith, l, b .word));
         small = omega (arith, behind-variable T (getD P place 0) (omega (arith, b .word)));
         on = λ k h. record {
@@ -169,7 +160,7 @@ module _ (T : Theory) (P : List ℕ) (behind place left : ℕ) (q : Ahead T P be
       let b = begins P place d ((prefixes us ++ prefixes ts) ++ rest) w in
       record {
         inside = b .inside;
-        few = omega (arith, ap length w, length-drop place P, length-append (prefixes us ++ prefixes ts) rest, length-append (prefixes us) (prefixes ts), count-words ts, c, b .inside);
+        few = omega (arith, ap length w, length-drop place P, length-append (prefixes us ++ prefixes ts) rest, length-append (prefixes us) (prefixes ts), count-few ts, c, b .inside);
         known = λ l. subst (λ (k : ℕ). k < length (T .symbols)) (sym (b .word)) (f .0 .0);
         small = omega (arith, behind-symbol T (getD P place 0) d (b .word) (omega (arith, f .0 .0, g .row2)), few-inputs d (f .0 .0));
         on = λ k h. record {

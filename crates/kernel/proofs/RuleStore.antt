@@ -22,7 +22,7 @@ use Rattle.kernel.proofs.RuleRows.{length-rule-cells, rule-var-row-long
 
 -- Words --------------------------------------------------------------------------------------------------------------------------
 
-some-word : (t : Tree) → 1 ≤ length (prefix t)
+pub some-word : (t : Tree) → 1 ≤ length (prefix t)
 unfolding prefix
 some-word (var v) = omega arith
 some-word (app c ts) = omega arith

@@ -12,7 +12,7 @@ use Rattle.rules.specs.Store.{Made, number, make}
 use Rattle.rules.specs.Laws.Store.{Apart, Closed, Ins, number-is, number-of, make-old}
 use Rattle.terms.specs.declared.store.Mark.{Mark}
 use Rattle.terms.specs.Table.{argsOf, treeAt, made, Shaped, isVar, isApp, Good, Stored}
-use Rattle.terms.proofs.Tables.{length-trees, tree-here, tree-app, tree-var}
+use Rattle.terms.proofs.Tables.{length-trees, tree-here, tree-app, tree-var, not-var-app}
 use Rattle.terms.proofs.Sames.{grown-self}
 
 number-there : (M : Made) → Apart M → (i : ℕ) → i < length M → (t : Tree) → getD M i (var 0) ≡ t → number M t < length M
@@ -22,9 +22,6 @@ ins-args : (M : Made) → Apart M → (xs : List ℕ) → ((k : ℕ) → k < len
 unfolding argsOf
 ins-args M a [] b = tt
 ins-args M a (x ∷ xs) b = (number-there M a x (b 0 (zero-lt-suc (length xs))) _ refl, ins-args M a xs (λ k l. b (suc k) (suc-le-suc l)))
-
-not-var-app : (v c : ℕ) (ts : Trees) → var v ≡ app c ts → ⊥
-not-var-app v c ts e = let z : _≡_ {A = ℕ} 0 1 = cc in omega arith
 
 args-in : (M : Made) → Apart M → (k : ℕ) → k ≤ length M → {w : List ℕ} → Shaped k w → (f : ℕ) (ts : Trees) → treeAt M w ≡ app f ts → Ins M ts
 args-in M a k l (isVar {h = h} p) f ts e = absurd (not-var-app _ _ _ (sym (tree-var M h [] p) ∙ e))

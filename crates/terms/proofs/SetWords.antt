@@ -20,6 +20,7 @@ use Rattle.rules.specs.Find.{Set, empty, union, minus, least, rising, risingFro
 use Rattle.rules.specs.Laws.Set.{least-none, least-here, rising-all, rising-none, rising-split, rising-from-length}
 use Rattle.terms.specs.Sets.{digit, holds, plus}
 use Rattle.terms.proofs.Digits.{digit-or, digit-and, digit-not, digit-one, digit-zero, digit-suc, digit-of-zero, Lowest, lowest}
+use Rattle.terms.proofs.Fresh.{getD-zeros}
 
 eqb-iff : (a b c d : ℕ) → (a ≡ b → c ≡ d) → (c ≡ d → a ≡ b) → eqb a b ≡ eqb c d
 eqb-iff a b c d f g = elim (ℕ-discrete a b) [ yes p ↦ eq-eqb a b p ∙ sym (eq-eqb c d (f p)) | no q ↦ ne-eqb a b q ∙ sym (ne-eqb c d (λ e. q (g e))) ]
@@ -204,11 +205,6 @@ count-all s i n h k e = let z : i ≡ length s = omega arith in e ∙ ap (λ (j 
 
 -- The empty set --------------------------------------------------------------------------------------------------------------
 
-getD-zero : (n i : ℕ) → _≡_ {A = ℕ} (getD (replicate n 0) i 0) 0
-getD-zero zero i = refl
-getD-zero (suc n) zero = refl
-getD-zero (suc n) (suc i) = getD-zero n i
-
 pub holds-zero : (n : ℕ) → holds (replicate n 0) ≡ empty
 unfolding holds
-holds-zero n = λ i v. (ap (λ (w : ℕ). digit w (v % 64)) (getD-zero n (v / 64)) ∙ digit-of-zero (v % 64)) i
+holds-zero n = λ i v. (ap (λ (w : ℕ). digit w (v % 64)) (getD-zeros n (v / 64)) ∙ digit-of-zero (v % 64)) i

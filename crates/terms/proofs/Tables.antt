@@ -101,7 +101,7 @@ args-one M (x ∷ xs) (y ∷ ys) a b d e =
     let s : xs ≡ ys = args-one M xs ys a (λ j l. b (suc j) (suc-le-suc l)) (λ j l. d (suc j) (suc-le-suc l)) q in
     λ i. r i ∷ s i
 
-not-var-app : (v c : ℕ) (ts : Trees) → var v ≡ app c ts → ⊥
+pub not-var-app : (v c : ℕ) (ts : Trees) → var v ≡ app c ts → ⊥
 not-var-app v c ts e = let z : _≡_ {A = ℕ} 0 1 = cc in omega arith
 
 pub tree-one : (M : Made) {v w : List ℕ} → Apart M → Shaped (length M) v → Shaped (length M) w → treeAt M v ≡ treeAt M w → v ≡ w
