@@ -14,7 +14,7 @@ use Rattle.rules.specs.Tree.{countTrees}
 use Rattle.rules.specs.Theory.{Theory, Rule, noRule, rule, ruleNamed}
 use Rattle.rules.specs.Declare.{noRuleVar}
 use Rattle.rules.specs.Laws.Theory.{all-at}
-use Rattle.rules.specs.TheoryTables.{nameCells, rows, varRow, varCells, ruleVarRow, ruleRow, ruleCells, patternRow, patternCells}
+use Rattle.rules.specs.TheoryTables.{nameCells, rows, varRow, varRows, ruleVarRow, ruleRow, ruleCells, patternRow, patternCells}
 use Rattle.rules.specs.Laws.Row.{append-assoc, length-rows, row-cell, length-filled, filled-fits}
 use Rattle.sexp.specs.NameRows.{NameAt, NameRows, SomeNames, foundOf}
 use Rattle.kernel.specs.HeldRules.{RulesHeld}
@@ -72,7 +72,7 @@ ruleName r = r .name
 
 pub rule-var-row-long : (r : Rule) → length (ruleVarRow r) ≡ 3 * RULEVARS
 unfolding ruleVarRow
-rule-var-row-long r = length-filled (3 * RULEVARS) (varCells (r .vars))
+rule-var-row-long r = length-filled (3 * RULEVARS) (varRows (r .vars))
 
 module _ {text rules vars patterns : List ℕ} {count words : ℕ} {rs : List Rule} (h : RulesHeld text rules vars patterns count words rs) where
   pub rules-room : 6 * count ≤ length rules
@@ -196,5 +196,5 @@ module _ (T : Theory) {text rules vars patterns : List ℕ} {count words : ℕ} 
         let many = length-rows varRow 3 var-row-three vs in
         ap (λ (t : List ℕ). getD t (3 * (RULEVARS * r + i)) 0) (h .fronts .is)
         ∙ row-cell ruleVarRow (3 * RULEVARS) rule-var-row-long (T .rules) (h .fronts .rest) r (3 * i) (3 * (RULEVARS * r + i)) noRule there (omega (arith, few, m)) (omega arith)
-        ∙ ap (λ (t : List ℕ). getD t (3 * i) 0) (filled-fits (3 * RULEVARS) (varCells vs) (omega (arith, many, few)))
-        ∙ row-cell varRow 3 var-row-three vs (replicate (3 * RULEVARS - length (varCells vs)) 0) i 0 (3 * i) noRuleVar m (omega arith) (omega arith)
+        ∙ ap (λ (t : List ℕ). getD t (3 * i) 0) (filled-fits (3 * RULEVARS) (varRows vs) (omega (arith, many, few)))
+        ∙ row-cell varRow 3 var-row-three vs (replicate (3 * RULEVARS - length (varRows vs)) 0) i 0 (3 * i) noRuleVar m (omega arith) (omega arith)

@@ -12,7 +12,7 @@ use Rattle.rules.specs.Sexp.{Name}
 use Rattle.rules.specs.Tree.{Tree, Trees, var, app, none, more, countTrees, size, sizes}
 use Rattle.rules.specs.Theory.{Rule, noRule, ruleWords}
 use Rattle.rules.specs.Laws.Theory.{all-at, all-snoc}
-use Rattle.rules.specs.TheoryTables.{rows, nameCells, prefix, prefixes, patternRow, varCells, ruleVarRow, ruleRow, ruleCells}
+use Rattle.rules.specs.TheoryTables.{rows, nameCells, prefix, prefixes, patternRow, varRows, ruleVarRow, ruleRow, ruleCells}
 use Rattle.rules.specs.Laws.Prefix.{words-counted}
 use Rattle.rules.specs.Laws.Row.{append-assoc, append-nil, rows-snoc, length-rows, length-filled}
 use Rattle.kernel.specs.Held.{Front}

@@ -14,7 +14,7 @@ use Rattle.rules.specs.Theory.{Theory, noTheory, ruleWords}
 use Rattle.rules.specs.Laws.Theory.{empty}
 use Rattle.rules.specs.TheoryTables.{rows, ruleCells}
 use Rattle.rules.specs.Declare.{declare}
-use Rattle.rules.specs.Judge.{Judged as Verdict, done, refused, through, unread, whole}
+use Rattle.rules.specs.Loop.{Judged as Verdict, done, refused, through, unread, whole}
 use Rattle.sexp.specs.Encode.{encode}
 use Rattle.sexp.specs.Reads.{Clear, ReadRight}
 use Rattle.sexp.specs.ReadLaws.{read-first, FormIs, at-end, at-refused, at-form, form-cleared}

@@ -11,7 +11,7 @@ use Rattle.rules.specs.Sexp.{Sexp, Sexps, atom, list, item, count, read}
 use Rattle.rules.specs.Tags.{Declaration, declaration}
 use Rattle.rules.specs.Theory.{Theory, noTheory, ruleWords}
 use Rattle.rules.specs.Declare.{declareAs, declare}
-use Rattle.rules.specs.Judge.{Judged as Verdict, done, refused, whole}
+use Rattle.rules.specs.Loop.{Judged as Verdict, done, refused, whole}
 use Rattle.rules.specs.TheoryTables.{sortTable, symbolTable, inputTable, ruleTable, ruleVarTable, patternTable}
 use Rattle.sexp.specs.Encode.{encode}
 use Rattle.sexp.specs.Spelt.{Spelt}

@@ -11,7 +11,7 @@ use Rattle.rules.specs.Sexp.{Sexp, Sexps, cons, count, Name}
 use Rattle.rules.specs.Tree.{Tree, app}
 use Rattle.rules.specs.Theory.{RuleVar, Theory, Symbol, noSymbol, inputs}
 use Rattle.rules.specs.Laws.Theory.{All}
-use Rattle.rules.specs.TheoryTables.{varCells}
+use Rattle.rules.specs.TheoryTables.{varRows}
 use Rattle.rules.specs.Declare.{Reading, patterns}
 use Rattle.rules.specs.Laws.PatternSteps.{worded}
 use Rattle.sexp.specs.Items.{Holds}
@@ -42,7 +42,7 @@ pub record Spans (text : List ℕ) (n : Name) (start end : ℕ) : Type 0 where
 pub record VarsHeld (text table : List ℕ) (count : ℕ) (vs : List RuleVar) : Type 0 where
   pub many : length vs ≡ count
   pub long : length table ≡ 3 * RULEVARS
-  pub front : Front table (varCells vs)
+  pub front : Front table (varRows vs)
   pub blank : drop (3 * count) table ≡ replicate (3 * RULEVARS - 3 * count) 0
   pub names : All (λ v. NameIn text (v .name)) vs
 

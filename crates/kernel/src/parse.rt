@@ -5,7 +5,7 @@ ghost use lib.ListN.{length};
 ghost use Rattle.rules.specs.Sexp.{read};
 ghost use Rattle.rules.specs.Theory.{noTheory};
 ghost use Rattle.rules.specs.Declare.{declare};
-ghost use Rattle.rules.specs.Judge.{through};
+ghost use Rattle.rules.specs.Loop.{through};
 ghost use Rattle.kernel.specs.Parsed.{tables, Roomy, Exact, Within, zeroFrom, wiped, noCounts, countsIn, Run, Legible, judgedOf, theoryOf, verdict, laid, laidExactly, LaidHeld};
 use crate::declare::Declared;
 use crate::declare::declare;

@@ -17,8 +17,8 @@ use Rattle.rules.specs.Theory.{Theory, noTheory, rule}
 use Rattle.rules.specs.Declare.{declare}
 use Rattle.rules.specs.Laws.Declare.{reached}
 use Rattle.rules.specs.State.{State, Fact, Goal, begin, isNone}
-use Rattle.rules.specs.Judge.{Judged, done, whole}
-use Rattle.rules.specs.Proof.{takeGoal, takeForm}
+use Rattle.rules.specs.Loop.{Judged, done, whole}
+use Rattle.rules.specs.Forms.{takeGoal, takeForm}
 use Rattle.rules.specs.Check.{accepts, check, checking, report}
 use Rattle.rules.specs.Run.{line, running}
 use Rattle.rules.specs.Examples.{theory}

@@ -22,7 +22,7 @@ use Rattle.rules.specs.Tree.{Tree, Trees, var, app, none, more, sub, subs}
 use Rattle.rules.specs.Store.{Made, stored, words}
 use Rattle.rules.specs.Theory.{Theory, noTheory, noSymbol, rule}
 use Rattle.rules.specs.Declare.{declare}
-use Rattle.rules.specs.Judge.{done, whole}
+use Rattle.rules.specs.Loop.{done, whole}
 use Rattle.rules.specs.Check.{Report, Refusal, Answer, accepts, refuses}
 use Rattle.meaning.specs.Signature.{sig, Value, arity, ruleSort}
 

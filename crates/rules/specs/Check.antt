@@ -11,9 +11,9 @@ use Rattle.rules.specs.Find.{every}
 use Rattle.rules.specs.Tree.{isOpen}
 use Rattle.rules.specs.Theory.{Theory, noTheory}
 use Rattle.rules.specs.Declare.{declare, declaring}
-use Rattle.rules.specs.Judge.{Judged, done, refused, through, whole, judging}
+use Rattle.rules.specs.Loop.{Judged, done, refused, through, whole, judging}
 use Rattle.rules.specs.State.{State, Goal, Counts, begin}
-use Rattle.rules.specs.Proof.{takeGoal, takeForm, taking}
+use Rattle.rules.specs.Forms.{takeGoal, takeForm, taking}
 
 pub record Report : Type 0 where
   pub steps : ℕ

@@ -21,17 +21,17 @@ value n [] = n
 value n (b ∷ bs) = value (n * 10 + (b - 48)) bs
 
 -- the value of an unsigned index
-unfoldable pub number : List ℕ → Option ℕ
-number [] = nothing
-number (b ∷ bs) = elim (digits (b ∷ bs) && ltb (value 0 (b ∷ bs)) (2 ^ 64)) [ true ↦ some (value 0 (b ∷ bs)) | false ↦ nothing ]
+unfoldable pub unsigned : List ℕ → Option ℕ
+unsigned [] = nothing
+unsigned (b ∷ bs) = elim (digits (b ∷ bs) && ltb (value 0 (b ∷ bs)) (2 ^ 64)) [ true ↦ some (value 0 (b ∷ bs)) | false ↦ nothing ]
 
 unfoldable pub indexOf : List ℕ → Option ℕ
 indexOf [] = nothing
-indexOf (b ∷ bs) = elim (eqb b 43) [ true ↦ number bs | false ↦ number (b ∷ bs) ]
+indexOf (b ∷ bs) = elim (eqb b 43) [ true ↦ unsigned bs | false ↦ unsigned (b ∷ bs) ]
 
 -- `unfolding indexing` opens all of the above, for a computation
 unfoldable pub indexing : Unit {0}
-unfolding digit digits value number indexOf
+unfolding digit digits value unsigned indexOf
 indexing = tt
 
 -- Checks -----------------------------------------------------------------------------------------------------------------------

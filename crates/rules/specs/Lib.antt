@@ -14,14 +14,14 @@ pub mod Match
 pub mod Unify
 pub mod State
 pub mod Declare
-pub mod Judge
+pub mod Loop
 pub mod Read
 pub mod Reference
 pub mod Step
 pub mod Apply
 pub mod Induct
 pub mod Invert
-pub mod Proof
+pub mod Forms
 pub mod Check
 pub mod Run
 pub mod TheoryTables

@@ -28,15 +28,15 @@ binding S x = do
   t ← termOf S (item ys 1) (sortOfVar (S .vars) v)
   pure (record { variable = v; value = t })
 
-unfoldable pub binds : List Binding → Set
-binds bs v = any (λ b. eqb (b .variable) v) bs
+unfoldable pub isBound : List Binding → Set
+isBound bs v = any (λ b. eqb (b .variable) v) bs
 
 -- `(VAR TERM)`s, each variable once, kept by rising variable; these are there already
 unfoldable pub bindings : State → Sexps → List Binding → Act Made (List Binding)
 bindings S nil bs = pure bs
 bindings S (cons x xs) bs = do
   b ← binding S x
-  _ ← ask 36 (not (binds bs (b .variable)))
+  _ ← ask 36 (not (isBound bs (b .variable)))
   bindings S xs (insert b bs)
 
 -- References --------------------------------------------------------------------------------------------------------------------
@@ -105,5 +105,5 @@ scoped S used j hs = outside (least (length (S .vars)) (minus used (union (varia
 
 -- `unfolding referring` opens all of the above, for a computation
 unfoldable pub referring : Unit {0}
-unfolding unifying termReading factAt binding binds bindings instance reference hypEach hypList judgmentOf judgmentsAt outside scoped
+unfolding unifying termReading factAt binding isBound bindings instance reference hypEach hypList judgmentOf judgmentsAt outside scoped
 referring = tt

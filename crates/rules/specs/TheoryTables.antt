@@ -10,7 +10,7 @@ use Rattle.rules.specs.Sexp.{Name, read}
 use Rattle.rules.specs.Tree.{Tree, Trees, var, app, none, more, countTrees}
 use Rattle.rules.specs.Theory.{Symbol, RuleVar, Rule, Theory, noTheory}
 use Rattle.rules.specs.Declare.{declare, declaring}
-use Rattle.rules.specs.Judge.{Judged, done, refused, whole, judging}
+use Rattle.rules.specs.Loop.{Judged, done, refused, whole, judging}
 
 -- n cells: these, and zero behind
 unfoldable pub filled : ℕ → List ℕ → List ℕ
@@ -67,11 +67,11 @@ patternCells rs = rows patternRow rs
 unfoldable pub varRow : RuleVar → List ℕ
 varRow v = v .sort ∷ nameCells (v .name)
 
-abbrev pub varCells : List RuleVar → List ℕ
-varCells vs = rows varRow vs
+abbrev pub varRows : List RuleVar → List ℕ
+varRows vs = rows varRow vs
 
 unfoldable pub ruleVarRow : Rule → List ℕ
-ruleVarRow r = filled (3 * RULEVARS) (varCells (r .vars))
+ruleVarRow r = filled (3 * RULEVARS) (varRows (r .vars))
 
 abbrev pub ruleVarCells : List Rule → List ℕ
 ruleVarCells rs = rows ruleVarRow rs

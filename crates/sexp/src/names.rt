@@ -2,7 +2,7 @@
 ghost use mathlib.Core.Path.{_≡_};
 ghost use Prim.Native.Nat.{_<_};
 ghost use Rattle.rules.specs.Text.{same};
-ghost use Rattle.rules.specs.Index.{number, indexOf};
+ghost use Rattle.rules.specs.Index.{unsigned, indexOf};
 ghost use Rattle.sexp.specs.Names.{spelling};
 ghost use mathlib.Core.List.{List};
 ghost use Rattle.rules.specs.Find.{first};
@@ -40,8 +40,8 @@ fn widen(b: u8) -> usize
 }
 
 // The value of an index without a sign: digits, at least one, of a value that fits.
-fn number(digits: &[u8]) -> Index
-    ensures { λ r. ⌜ r ≡ spelling (number (now (digits .entry))) ⌝ }
+fn unsigned(digits: &[u8]) -> Index
+    ensures { λ r. ⌜ r ≡ spelling (unsigned (now (digits .entry))) ⌝ }
 {
     if digits.len() == 0 {
         return Index::Unreadable;
@@ -74,9 +74,9 @@ pub fn index_of(name: &[u8]) -> Index
         return Index::Unreadable;
     }
     if name[0] == b'+' {
-        return number(&name[1..]);
+        return unsigned(&name[1..]);
     }
-    number(name)
+    unsigned(name)
 }
 
 // A row by its number.

@@ -18,9 +18,9 @@ use Rattle.rules.specs.Declare.{declare}
 use Rattle.rules.specs.Laws.Theory.{WellFormed}
 use Rattle.rules.specs.Laws.Declare.{reached, theory-formed, nothing-formed}
 use Rattle.rules.specs.State.{State, Fact, Goal, begin, sortOfVar}
-use Rattle.rules.specs.Judge.{Judged, done, refused, through, unread, whole}
+use Rattle.rules.specs.Loop.{Judged, done, refused, through, unread, whole}
 use Rattle.rules.specs.Tags.{Tag, aVar, aDef, aStep, aHyp, aRuleHyp, anInduct, anInductWith, anApply, anInvert, aResult}
-use Rattle.rules.specs.Proof.{takeGoal, takeForm}
+use Rattle.rules.specs.Forms.{takeGoal, takeForm}
 use Rattle.rules.specs.Check.{Report, Refusal, Answer, accepts, refuses, Outcome, refusedIn, report, missing, ended, afterProof, afterGoals, afterTheory, firstFailing, readable, fitting, check}
 use Rattle.meaning.specs.Trees.Tests.{true-false}
 use Rattle.meaning.specs.Named.{Calm}

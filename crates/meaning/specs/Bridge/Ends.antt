@@ -13,7 +13,7 @@ use Rattle.rules.specs.Find.{has}
 use Rattle.rules.specs.Store.{Made}
 use Rattle.rules.specs.State.{State, varNamed}
 use Rattle.rules.specs.Read.{index, variable, others, varsList}
-use Rattle.rules.specs.Proof.{withMade, making}
+use Rattle.rules.specs.Forms.{withMade, making}
 use Rattle.meaning.specs.Unification.Acts.{Ok, of-ok}
 use Rattle.meaning.specs.Named.{Points}
 

@@ -19,8 +19,8 @@ use Rattle.rules.specs.Declare.{isNew}
 use Rattle.rules.specs.State.{State, Fact, Goal, begin as start, goalNamed, abbreviated, entries}
 use Rattle.rules.specs.Read.{judgment, judgments}
 use Rattle.rules.specs.Tags.{GoalForm, aVariable, aGoal, aGoalWith, goalForm}
-use Rattle.rules.specs.Judge.{Judged, done as ended, refused, through, unread, whole}
-use Rattle.rules.specs.Proof.{withMade, withGoals, making, addVar, addGoal, goal, takeGoal}
+use Rattle.rules.specs.Loop.{Judged, done as ended, refused, through, unread, whole}
+use Rattle.rules.specs.Forms.{withMade, withGoals, making, addVar, addGoal, goal, takeGoal}
 use Rattle.meaning.specs.Trees.Tests.{true-false}
 use Rattle.meaning.specs.Unification.Acts.{ok-any}
 use Rattle.meaning.specs.Truth.{At}

@@ -26,8 +26,8 @@ use Rattle.rules.specs.Apply.{apply}
 use Rattle.rules.specs.Induct.{keepVars, induct, inductWith}
 use Rattle.rules.specs.Invert.{Case, caseNamed, readCases, Inversion, Names, makeVars, upFrom, renamed, renaming, caseOrNot, invertRule, invertRules, predicateOf, takenVars, suit, invert}
 use Rattle.rules.specs.Tags.{Tag, aVar, aDef, aStep, aHyp, aRuleHyp, anInduct, anInductWith, anApply, anInvert, aResult, proofTag}
-use Rattle.rules.specs.Proof.{withMade, withVars, withDefs, withGoals, withFacts, making, addVar, addDef, addFact, hypothesis, oneHypothesis, oneInduction, oneInversion, someInstances}
-use Rattle.rules.specs.Proof.{addHyp, addRuleHyp, addStep, addApply, addInduct, addInductWith, addInvert, listed, takenGoal, result, next, perform, takeForm}
+use Rattle.rules.specs.Forms.{withMade, withVars, withDefs, withGoals, withFacts, making, addVar, addDef, addFact, hypothesis, oneHypothesis, oneInduction, oneInversion, someInstances}
+use Rattle.rules.specs.Forms.{addHyp, addRuleHyp, addStep, addApply, addInduct, addInductWith, addInvert, listed, takenGoal, result, next, perform, takeForm}
 use Rattle.meaning.specs.Trees.Tree.{In, Among}
 use Rattle.meaning.specs.Trees.Tests.{true-false, sameTree-true, among-true}
 use Rattle.meaning.specs.Unification.Acts.{Ok, done as fine, stopped as over, ok-then, ok-any}

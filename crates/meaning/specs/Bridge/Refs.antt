@@ -17,7 +17,7 @@ use Rattle.rules.specs.Theory.{Theory}
 use Rattle.rules.specs.Unify.{Binding, along, insert}
 use Rattle.rules.specs.State.{State, Fact, sortOfVar, isEmpty, isNone, mentioned, free, freeAt, hypVars}
 use Rattle.rules.specs.Read.{index, variable, termOf}
-use Rattle.rules.specs.Reference.{factAt, binding, binds, bindings, Ref, instance, reference, hypEach, hypList, judgmentOf, judgmentsAt, outside, scoped}
+use Rattle.rules.specs.Reference.{factAt, binding, isBound, bindings, Ref, instance, reference, hypEach, hypList, judgmentOf, judgmentsAt, outside, scoped}
 use Rattle.rules.specs.Step.{Refs, noRefs, withRef, references}
 use Rattle.meaning.specs.Trees.Tree.{Occ, Occs, Sorted, In, Among}
 use Rattle.meaning.specs.Trees.Tests.{true-false, variables-true, variablesOf-true}
@@ -177,7 +177,7 @@ module _ (U : State) (vs : ℕ → ℕ) (w : Well U vs) where
   unfolding bindings
   bindings-ok nil bs m h = done h
   bindings-ok (cons x xs) bs m h =
-      ok-then (binding-ok x m) (λ b m₁ y. ok-then (ok-ask 36 (not (binds bs (b .variable))) m₁)
+      ok-then (binding-ok x m) (λ b m₁ y. ok-then (ok-ask 36 (not (isBound bs (b .variable))) m₁)
       (λ _ m₂ _. bindings-ok xs (insert b bs) m₂
       (each-insert b (λ v t. (v < length (U .vars)) × Typed (U .theory) vs (length (U .vars)) t (vs v)) bs y h)))
 

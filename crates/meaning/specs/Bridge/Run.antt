@@ -13,7 +13,7 @@ use Rattle.rules.specs.Find.{entry}
 use Rattle.rules.specs.Tree.{Tree, Trees, none, sub, subs}
 use Rattle.rules.specs.Theory.{Theory, Rule, rule}
 use Rattle.rules.specs.State.{State, Fact, Goal}
-use Rattle.rules.specs.Judge.{Judged, done as ended, refused, through}
+use Rattle.rules.specs.Loop.{Judged, done as ended, refused, through}
 use Rattle.meaning.specs.Trees.Tree.{Occ, Occs, In, Among, among-occ}
 use Rattle.meaning.specs.Signature.{sig, Value}
 use Rattle.meaning.specs.Derivation.{Der, Ders, RuleOf}

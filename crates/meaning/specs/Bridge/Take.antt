@@ -15,7 +15,7 @@ use Rattle.rules.specs.Store.{Made}
 use Rattle.rules.specs.State.{State, Fact, Goal, goalNamed, isPlain, isEmpty}
 use Rattle.rules.specs.Reference.{Ref, instance, reference}
 use Rattle.rules.specs.Tags.{Tag, aVar, aDef, aStep, aHyp, aRuleHyp, anInduct, anInductWith, anApply, anInvert, aResult, proofTag}
-use Rattle.rules.specs.Proof.{withMade, withGoals, making, listed, takenGoal, result, next, perform, takeForm}
+use Rattle.rules.specs.Forms.{withMade, withGoals, making, listed, takenGoal, result, next, perform, takeForm}
 use Rattle.meaning.specs.Trees.Tree.{In, Among}
 use Rattle.meaning.specs.Trees.Tests.{true-false, sameTree-true, among-true}
 use Rattle.meaning.specs.Unification.Acts.{Ok, done as fine, ok-then, ok-any}

@@ -16,7 +16,7 @@ use Rattle.rules.specs.Tree.{Tree, Trees, var, app, none, more}
 use Rattle.rules.specs.Store.{Made}
 use Rattle.rules.specs.Theory.{Theory}
 use Rattle.rules.specs.State.{State, Fact, Goal, Counts, Var, Def, sortOfVar, sortOf, abbreviated, entries, factEntries}
-use Rattle.rules.specs.Proof.{withMade, withVars, withDefs, withGoals, withFacts, plus, addFact}
+use Rattle.rules.specs.Forms.{withMade, withVars, withDefs, withGoals, withFacts, plus, addFact}
 use Rattle.meaning.specs.Trees.Tree.{Occ, Sorted, In, Among}
 use Rattle.meaning.specs.Unification.Acts.{Ok, done as fine, stopped as over, of-ok}
 use Rattle.meaning.specs.Sets.{Sets}

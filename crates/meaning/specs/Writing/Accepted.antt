@@ -13,8 +13,8 @@ use Rattle.rules.specs.Laws.Theory.{WellFormed}
 use Rattle.rules.specs.Laws.Name.{Named, theory-named}
 use Rattle.rules.specs.Laws.Declare.{reached, theory-formed}
 use Rattle.rules.specs.State.{begin}
-use Rattle.rules.specs.Proof.{takeGoal}
-use Rattle.rules.specs.Judge.{whole}
+use Rattle.rules.specs.Forms.{takeGoal}
+use Rattle.rules.specs.Loop.{whole}
 use Rattle.rules.specs.Check.{Report, Refusal, accepts, refuses, refusedIn, afterGoals, afterTheory, firstFailing, readable, fitting, check}
 use Rattle.meaning.specs.Written.{Names, goalForms, proofForms, Written, inside, stepsAlone, Verdict}
 use Rattle.meaning.specs.Writing.Read.{text-read}

@@ -12,7 +12,7 @@ use Rattle.rules.specs.Laws.Theory.{WellFormed}
 use Rattle.rules.specs.Laws.Name.{Spelled}
 use Rattle.rules.specs.Declare.{declare}
 use Rattle.rules.specs.Laws.Declare.{reached, theory-formed}
-use Rattle.rules.specs.Judge.{done, whole}
+use Rattle.rules.specs.Loop.{done, whole}
 use Rattle.rules.specs.Check.{check}
 use Rattle.meaning.specs.Derivation.{Derivable}
 use Rattle.meaning.specs.Writing.Decimal.{decimal}

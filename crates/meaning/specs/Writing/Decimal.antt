@@ -9,7 +9,7 @@ use lib.Dec.{leb, ltb}
 use lib.ListN.{length}
 use borrow.Author.Tests.{ltb-true, ltb-false, leb-true, le-leb, lt-ltb, ne-eqb}
 use Rattle.rules.specs.Text.{bytes}
-use Rattle.rules.specs.Index.{digit, digits, value, number, indexOf}
+use Rattle.rules.specs.Index.{digit, digits, value, unsigned, indexOf}
 use Rattle.meaning.specs.Trees.Tests.{and-true}
 use Rattle.meaning.specs.Bridge.Asked.{both-true}
 
@@ -116,10 +116,10 @@ unfolding digits digit
 first-digit b bs e = leb-true 48 b (both-true (leb 48 b) (leb b 57) (and-true (digit b) (digits bs) e .0) .0)
 
 digits-read : (bs : List ℕ) → 1 ≤ length bs → digits bs ≡ true → value 0 bs < 2 ^ 64 → indexOf bs ≡ some (value 0 bs)
-unfolding indexOf number
+unfolding indexOf unsigned
 digits-read [] l e h = absurd (let z : ⊥ = omega arith in z)
 digits-read (b ∷ bs) l e h =
-    ap (λ z. elim z as (λ _. Option ℕ) [ true ↦ number bs | false ↦ number (b ∷ bs) ]) (ne-eqb b 43 (λ q. let z = first-digit b bs e in omega arith))
+    ap (λ z. elim z as (λ _. Option ℕ) [ true ↦ unsigned bs | false ↦ unsigned (b ∷ bs) ]) (ne-eqb b 43 (λ q. let z = first-digit b bs e in omega arith))
     ∙ ap (λ z. elim z as (λ _. Option ℕ) [ true ↦ some (value 0 (b ∷ bs)) | false ↦ nothing ]) (ap₂ _&&_ e (lt-ltb (value 0 (b ∷ bs)) (2 ^ 64) h))
 
 -- an index in decimal digits is read as itself

@@ -11,7 +11,7 @@ use Rattle.rules.specs.Tree.{Tree, app, none, more}
 use Rattle.rules.specs.Theory.{Theory, noTheory, rule}
 use Rattle.rules.specs.Declare.{declare}
 use Rattle.rules.specs.Laws.Declare.{reached}
-use Rattle.rules.specs.Judge.{whole}
+use Rattle.rules.specs.Loop.{whole}
 use Rattle.rules.specs.Check.{accepts, check, checking}
 use Rattle.rules.specs.Examples.{theory}
 use Rattle.meaning.specs.Signature.{sig, Value, arity, ruleSort}

@@ -26,7 +26,7 @@ use Rattle.rules.specs.Declare.{isNew}
 use Rattle.rules.specs.Read.{index, judgment}
 use Rattle.rules.specs.Reference.{Ref, reference}
 use Rattle.rules.specs.Step.{step}
-use Rattle.rules.specs.Proof.{withMade, making, plus, someInstances, addGoal, goal, takeGoal, addFact, addStep, listed, takenGoal, result, next, perform, takeForm}
+use Rattle.rules.specs.Forms.{withMade, making, plus, someInstances, addGoal, goal, takeGoal, addFact, addStep, listed, takenGoal, result, next, perform, takeForm}
 use Rattle.meaning.specs.Trees.Tests.{eq-sameTree}
 use Rattle.meaning.specs.Unification.Acts.{Ok, done, Grows, full, StoreRow, make-ok, make-grows}
 use Rattle.meaning.specs.Written.{Form, name, group, nil, cons, ruleName, judgmentForm, Step, conclusion, Names, Node, stepForm, resultForm}

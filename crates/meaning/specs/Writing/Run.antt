@@ -20,8 +20,8 @@ use Rattle.rules.specs.Theory.{Theory}
 use Rattle.rules.specs.Laws.Theory.{WellFormed}
 use Rattle.rules.specs.Laws.Name.{Named}
 use Rattle.rules.specs.State.{State, Fact}
-use Rattle.rules.specs.Proof.{takenGoal, takeForm}
-use Rattle.rules.specs.Judge.{Judged, done, refused, through}
+use Rattle.rules.specs.Forms.{takenGoal, takeForm}
+use Rattle.rules.specs.Loop.{Judged, done, refused, through}
 use Rattle.rules.specs.Check.{Refusal, Answer, accepts, refuses, refusedIn, countOpen, report, missing, ended, afterProof}
 use Rattle.meaning.specs.Trees.Tree.{Ground, Grounds}
 use Rattle.meaning.specs.Trees.Tests.{ground-isOpen}

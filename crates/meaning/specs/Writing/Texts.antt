@@ -16,8 +16,8 @@ use Rattle.rules.specs.Theory.{Theory}
 use Rattle.rules.specs.Laws.Theory.{WellFormed}
 use Rattle.rules.specs.Laws.Name.{Named}
 use Rattle.rules.specs.State.{begin}
-use Rattle.rules.specs.Proof.{takeGoal}
-use Rattle.rules.specs.Judge.{through, unread, whole}
+use Rattle.rules.specs.Forms.{takeGoal}
+use Rattle.rules.specs.Loop.{through, unread, whole}
 use Rattle.rules.specs.Check.{refusedIn, afterGoals, firstFailing}
 use Rattle.meaning.specs.Written.{shallows, Step, conclusions, Names, Nodes, goalForms, proofForms, treesOf, roomy, Verdict}
 use Rattle.meaning.specs.Writing.Gather.{answers, makes-few}

@@ -14,7 +14,7 @@ use Rattle.rules.specs.Theory.{Theory, noTheory, rule}
 use Rattle.rules.specs.Text.{plain}
 use Rattle.rules.specs.Sexp.{read}
 use Rattle.rules.specs.Declare.{declare}
-use Rattle.rules.specs.Judge.{done, whole}
+use Rattle.rules.specs.Loop.{done, whole}
 use Rattle.meaning.specs.Signature.{sig, Value, arity, ruleSort}
 use Rattle.meaning.specs.Derivation.{Der, Ders, node, leaf, both, RuleOf, Derivable}
 use Rattle.meaning.specs.Bridge.Asked.{no-some, some-same}

@@ -19,7 +19,7 @@ use Rattle.rules.specs.Laws.Theory.{WellFormed, all-at}
 use Rattle.rules.specs.Laws.Name.{Atoms, AllAtoms, AtomsIn, Spelled, theory-spelled}
 use Rattle.rules.specs.Declare.{declare}
 use Rattle.rules.specs.Laws.Declare.{reached}
-use Rattle.rules.specs.Judge.{whole}
+use Rattle.rules.specs.Loop.{whole}
 use Rattle.meaning.specs.Trees.Tests.{and-true}
 use Rattle.meaning.specs.Signature.{sig, Value, Values}
 use Rattle.meaning.specs.Written.{Forms, nil, cons, symbolName, ruleName, applied, termForm, termForms, judgmentForm, Step, conclusion, Node, Nodes, goalForms, atoms, stepForm, resultForm, proofForms}

@@ -16,7 +16,7 @@ use Rattle.rules.specs.Store.{Made}
 use Rattle.rules.specs.Theory.{Theory, Symbol, Rule, sortNamed, constructorNamed, predicateNamed}
 use Rattle.rules.specs.Declare.{isNew, properName, sort, sorts, addSort, addSymbol, addCtor, addPred, addRule, declareAs, declare}
 use Rattle.rules.specs.State.{State, Goal, Counts}
-use Rattle.rules.specs.Proof.{takeGoal, takeForm, takenGoal}
+use Rattle.rules.specs.Forms.{takeGoal, takeForm, takenGoal}
 use Rattle.rules.specs.Laws.Out.{Ok, fine, of-ok, by-items, by-name, by-found, by-ask}
 use Rattle.rules.specs.Laws.Theory.{All, empty, both}
 use Rattle.rules.specs.Laws.Keeping.{Each, Invariant, Still, answers}

@@ -24,7 +24,7 @@ use Rattle.rules.specs.Laws.Theory.{All, empty, both, IsSort, sortIn, So
 use Rattle.rules.specs.Declare.{isNew, noRuleVar, properName, sort, sorts, Reading, word, metOrNew, variable, head, pattern, compound, patterns, predicated, judgment, judgments, schema, addSort, addSymbol, addCtor, addPred, addRule, declareAs, declare}
 use Rattle.rules.specs.Laws.Pattern.{Reads, schema-reads, ReadRule}
 use Rattle.rules.specs.Tags.{Declaration, aSort, aCtor, aPred, aRule, declaration}
-use Rattle.rules.specs.Judge.{Judged, done, refused, through, unread, whole}
+use Rattle.rules.specs.Loop.{Judged, done, refused, through, unread, whole}
 
 -- A theory that has grown ------------------------------------------------------------------------------------------------------
 

@@ -11,7 +11,7 @@ use Rattle.rules.specs.Find.{entry}
 use Rattle.rules.specs.Sexp.{Sexp}
 use Rattle.rules.specs.Theory.{Theory}
 use Rattle.rules.specs.State.{State, Fact, Counts, begin}
-use Rattle.rules.specs.Proof.{takeGoal, takeForm, plus}
+use Rattle.rules.specs.Forms.{takeGoal, takeForm, plus}
 use Rattle.rules.specs.Check.{check}
 use Rattle.rules.specs.Laws.Out.{Ok, weaken}
 use Rattle.rules.specs.Laws.Shape.{ShapedIn, all-shaped-snoc}

@@ -19,7 +19,7 @@ use Rattle.rules.specs.Laws.Store.{words-more}
 use Rattle.rules.specs.Store.{Made, stored, number, words}
 use Rattle.rules.specs.Theory.{Theory}
 use Rattle.rules.specs.State.{State, Counts, begin}
-use Rattle.rules.specs.Proof.{takeGoal, takeForm, takenGoal}
+use Rattle.rules.specs.Forms.{takeGoal, takeForm, takenGoal}
 use Rattle.rules.specs.Check.{check}
 use Rattle.rules.specs.Laws.Out.{Ok, weaken}
 use Rattle.rules.specs.Laws.Entry.{change-all}

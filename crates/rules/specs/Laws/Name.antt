@@ -22,7 +22,7 @@ use Rattle.rules.specs.Laws.Find.{first-some, getD-front}
 use Rattle.rules.specs.Tags.{Declaration, aSort, aCtor, aPred, aRule, declaration}
 use Rattle.rules.specs.Theory.{Symbol, Rule, Theory, noTheory, noName, noSymbol, noRule, sortNamed, isPredicate, predicateNamed, constructorNamed, ruleNamed, ruleWords}
 use Rattle.rules.specs.Declare.{isNew, properName, sort, sorts, schema, addSort, addSymbol, addCtor, addPred, addRule, declareAs, declare}
-use Rattle.rules.specs.Judge.{refused, through, unread, whole}
+use Rattle.rules.specs.Loop.{refused, through, unread, whole}
 use Rattle.rules.specs.Laws.Theory.{All, empty, all-snoc}
 use Rattle.rules.specs.Laws.Declare.{reached}
 

@@ -11,9 +11,9 @@ use Rattle.rules.specs.Sexp.{Sexp, Text, ends, fails, more, read}
 use Rattle.rules.specs.Text.{short, plain}
 use Rattle.rules.specs.Theory.{Theory, noTheory}
 use Rattle.rules.specs.Declare.{declare}
-use Rattle.rules.specs.Judge.{Judged, done, refused, through, unread, whole}
+use Rattle.rules.specs.Loop.{Judged, done, refused, through, unread, whole}
 use Rattle.rules.specs.State.{State, begin}
-use Rattle.rules.specs.Proof.{takeGoal, takeForm}
+use Rattle.rules.specs.Forms.{takeGoal, takeForm}
 use Rattle.rules.specs.Check.{Outcome, refusedIn, missing, ended, afterProof, afterGoals, afterTheory, firstFailing, readable, fitting, check}
 use Rattle.rules.specs.Laws.Out.{Ok, fine, off}
 

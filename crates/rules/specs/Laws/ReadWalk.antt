@@ -16,7 +16,7 @@ use Rattle.rules.specs.Theory.{inputs, constructorNamed, predicateNamed}
 use Rattle.rules.specs.Unify.{Binding, along, insert}
 use Rattle.rules.specs.State.{State, Def, Goal, Fact, sortOf, sortOfVar, fit, varNamed, abbreviated, isEmpty}
 use Rattle.rules.specs.Read.{named, term, compound, terms, termOf, judgment, judgmentEach, judgments}
-use Rattle.rules.specs.Reference.{factAt, binding, binds, bindings, instance, reference}
+use Rattle.rules.specs.Reference.{factAt, binding, isBound, bindings, instance, reference}
 use Rattle.rules.specs.Laws.Theory.{All, empty, both, all-map}
 use Rattle.rules.specs.Laws.Entry.{all-entry, fact-entry}
 use Rattle.rules.specs.Laws.Keeping.{Each, Arguments, Invariant, Grows, Keeps, fine, off, stays, has-on, each-on, by-then, by-still, by-ask, by-found, by-either, by-given}
@@ -145,7 +145,7 @@ module _ {K : Invariant} where
   bindings-keeps S nil bs m h v = fine (stays (h .good)) v
   bindings-keeps S (cons x xs) bs m h v =
       by-then _ _ (binding-keeps S x m h) λ b u g p.
-      by-ask 36 (not (binds bs (b .variable))) _ (g .good) λ e.
+      by-ask 36 (not (isBound bs (b .variable))) _ (g .good) λ e.
       bindings-keeps S xs (insert b bs) u (ready-on h g) (insert-values K b bs u p (values-on g v))
 
   instance-keeps : (S : State) (xs : Sexps) (m : Made) → Ready K S m → Keeps K m (λ r u. K .Has u (r .judgment)) (instance S xs m)

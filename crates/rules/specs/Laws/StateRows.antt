@@ -11,7 +11,7 @@ use Rattle.rules.specs.Sexp.{Sexp}
 use Rattle.rules.specs.Tree.{countTrees}
 use Rattle.rules.specs.Theory.{Theory}
 use Rattle.rules.specs.State.{State, Goal, Fact, Counts, begin, goalEntries, factEntries, allEntries, entries}
-use Rattle.rules.specs.Proof.{takeGoal, takeForm, takenGoal}
+use Rattle.rules.specs.Forms.{takeGoal, takeForm, takenGoal}
 use Rattle.rules.specs.Check.{check}
 use Rattle.rules.specs.Laws.Out.{Ok, weaken}
 use Rattle.rules.specs.Laws.Entry.{change-length}

@@ -10,7 +10,7 @@ use Rattle.rules.specs.Store.{Made}
 use Rattle.rules.specs.State.{State, Counts, noCounts}
 use Rattle.rules.specs.Reference.{instance, reference}
 use Rattle.rules.specs.Step.{references, step}
-use Rattle.rules.specs.Proof.{oneHypothesis, oneInduction, oneInversion, someInstances}
+use Rattle.rules.specs.Forms.{oneHypothesis, oneInduction, oneInversion, someInstances}
 use Rattle.rules.specs.Laws.Out.{Ok, fine, by-then, by-items}
 use Rattle.rules.specs.Laws.Shape.{past}
 

@@ -1,10 +1,10 @@
--- `sexp::names::number` meets its contract. The loop is that of `Reading` in proofs/IndexLaws.antt. Assumes nothing.
+-- `sexp::names::unsigned` meets its contract. The loop is that of `Reading` in proofs/IndexLaws.antt. Assumes nothing.
 use Prim.Native.Nat.{_-_}
 use lib.ListN.{length}
 use Rattle.sexp.proofs.IndexLaws.{Reading, start, more, all-read, none-there, too-low, too-high, overflows}
 use borrow.Author.Needs.{needs}
-use Rattle.sexp.proofs.names.number.Statement.{statement}
-use Rattle.sexp.proofs.names.number.Tie as tie
+use Rattle.sexp.proofs.names.unsigned.Statement.{statement}
+use Rattle.sexp.proofs.names.unsigned.Tie as tie
 
 abbrev Inv-loop : tie.InvT-loop
 Inv-loop digits n₀ at₀ n at = Reading digits n at
@@ -54,8 +54,8 @@ loop-again c = more ((c .before .before .before .before .before .before .loop) .
 returns-5 : tie.Need-returns-5 Inv-loop μ-loop
 returns-5 c = all-read ((c .before .loop) .inv) ((c .before .before .if1) .left) ((c .loop-test) .left)
 
-pub number-spec : {M : Type 1} → statement M
-number-spec =
+pub unsigned-spec : {M : Type 1} → statement M
+unsigned-spec =
     tie.close
     (tie.spec
     Inv-loop
