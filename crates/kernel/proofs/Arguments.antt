@@ -1,19 +1,18 @@
 -- The argument sorts of a declaration, an item at a time. Assumes nothing.
-use mathlib.Core.Path.{_≡_, refl, sym, ap, _∙_, subst}
-use Prim.Native.Nat.{ℕ, zero, suc, _+_, _-_, _*_, _^_, _<_, _≤_}
+use mathlib.Core.Path.{_≡_, refl, sym, ap, _∙_}
+use Prim.Native.Nat.{ℕ, zero, suc, _+_, _-_, _<_, _≤_}
 use mathlib.Core.Option.{Option, some, none as nothing}
 use mathlib.Core.List.{List, [], _∷_, _++_}
 use native.Mathlib.Omega.{arith}
 use native.Mathlib.Numerals.{add-one}
-use lib.ListN.{length, getD, take, drop, set, length-set, replicate}
+use lib.ListN.{length, take, drop, set, length-set, replicate}
 use native.Mathlib.Nat.{zero-add, zero-sub, sub-zero, suc-sub-suc}
 use lib.Seq.{sets, sets-eq}
 use Rattle.rules.specs.Limits.{ARGUMENTS, SORTS}
 use Rattle.rules.specs.Text.{same}
-use Rattle.rules.specs.Find.{first}
 use Rattle.rules.specs.Laws.Find.{first-some}
-use Rattle.rules.specs.Out.{Out, ok, refuse, then}
-use Rattle.rules.specs.Sexp.{Sexp, Sexps, atom, list, nil, cons, item, Name}
+use Rattle.rules.specs.Out.{ok, refuse, then}
+use Rattle.rules.specs.Sexp.{Sexp, Sexps, item, Name}
 use Rattle.rules.specs.Theory.{Theory, noName}
 use Rattle.rules.specs.Declare.{sorts}
 use Rattle.rules.specs.TheoryTables.{filled}
@@ -24,14 +23,14 @@ use Rattle.sexp.specs.Spelt.{Spelt}
 use Rattle.sexp.specs.WalkLaws.{ListIs, AtomIs}
 use Rattle.sexp.specs.declared.items.Item.{Item}
 use Rattle.sexp.specs.NameRows.{NameRows, foundOf}
-use Rattle.kernel.specs.Held.{SortsHeld, SomeSorts, Gathering, ArgumentsStored, ArgumentsRead}
+use Rattle.kernel.specs.Held.{SortsHeld, SomeSorts, Gathering, ArgumentsRead}
 use Rattle.sexp.specs.declared.names.Found.{Found}
 use Rattle.sexp.specs.declared.names.Found.the-variants.{At, Missing}
 use Rattle.kernel.specs.declared.symbols.Added.{Added}
 use Rattle.kernel.specs.declared.symbols.Added.the-variants.{Ok, No}
-use Rattle.kernel.proofs.Spellings.{found-at, found-missing}
+use Rattle.sexp.specs.FoundLaws.{found-at, found-missing}
 use Rattle.kernel.proofs.Holding.{sorts-rows, sorts-few}
-use Rattle.kernel.proofs.Firsts.{First, none-left}
+use Rattle.sexp.specs.FirstItem.{First, none-left}
 
 -- what `sort` ensures
 abbrev pub SortTold : List ℕ → List ℕ → ℕ → Item → Found → Type 0

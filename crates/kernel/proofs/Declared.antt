@@ -1,33 +1,30 @@
 -- The answers of `add_ctor` and `add_pred`, question by question. Assumes nothing.
 use mathlib.Core.Path.{_≡_, refl, sym, ap, _∙_, subst}
-use Prim.Native.Nat.{ℕ, zero, suc, _+_, _-_, _*_, _^_, _<_, _≤_}
-use mathlib.Core.Bool.{Bool, true, false}
-use mathlib.Core.Option.{Option, some, none as nothing}
-use mathlib.Core.List.{List, [], _∷_, _++_}
+use Prim.Native.Nat.{ℕ, _-_, _<_, _≤_}
+use mathlib.Core.Bool.{true, false}
+use mathlib.Core.Option.{some, none as nothing}
+use mathlib.Core.List.{List, []}
 use native.Mathlib.Omega.{arith}
-use lib.ListN.{length, take, drop, replicate, length-replicate}
+use lib.ListN.{length, take, drop, replicate}
 use lib.Seq.{sets}
-use Rattle.rules.specs.Limits.{LENGTH, SORTS, ARGUMENTS, SYMBOLS}
+use Rattle.rules.specs.Limits.{LENGTH, SORTS, ARGUMENTS}
 use Rattle.rules.specs.Find.{first}
-use Rattle.rules.specs.Out.{Out, ok, refuse}
+use Rattle.rules.specs.Out.{Out, refuse}
 use Rattle.rules.specs.Sexp.{Sexp, Sexps, item, count, Name}
 use Rattle.rules.specs.Theory.{Theory, Symbol, constructorNamed, predicateNamed}
 use Rattle.rules.specs.Declare.{addCtor, addPred, addSymbol}
 use Rattle.rules.specs.Laws.Declaring.{sortOf, argumentsOf, constructorOf, ctor-arguments, pred-arguments, ctor-unsorted, ctor-twice, ctor-new, pred-twice, pred-new}
-use Rattle.sexp.specs.Items.{Holds, itemOf, place}
-use Rattle.sexp.specs.WalkLaws.{spells-item}
-use Rattle.sexp.specs.declared.items.Item.{Item}
-use Rattle.kernel.specs.Named.{called, ofKind, SymbolRows}
+use Rattle.kernel.specs.Named.{called, ofKind}
 use Rattle.sexp.specs.NameRows.{foundOf}
-use Rattle.kernel.specs.Spelled.{SomeItem, Reaching}
-use Rattle.kernel.specs.Held.{Form, SortsHeld, SomeSorts, ArgumentsStored, ArgumentsRead, SymbolsHeld, SymbolFits, SymbolIs, SymbolAdded}
+use Rattle.kernel.specs.Spelled.{Reaching}
+use Rattle.kernel.specs.Held.{Form, ArgumentsStored, ArgumentsRead, SymbolsHeld, SymbolFits, SymbolIs, SymbolAdded}
 use Rattle.sexp.specs.declared.names.Found.{Found}
 use Rattle.sexp.specs.declared.names.Found.the-variants.{At, Missing}
 use Rattle.kernel.specs.declared.symbols.Added.{Added}
 use Rattle.kernel.specs.declared.symbols.Added.the-variants.{Ok, No}
-use Rattle.kernel.proofs.Spellings.{Proper, found-at, found-missing}
-use Rattle.kernel.proofs.Arguments.{SortTold, sort-small, sort-known, sort-unknown, row-filled}
-use Rattle.kernel.proofs.Holding.{symbols-rows}
+use Rattle.kernel.proofs.Spellings.{Proper}
+use Rattle.sexp.specs.FoundLaws.{found-at, found-missing}
+use Rattle.kernel.proofs.Arguments.{row-filled}
 
 -- a form has the items that are asked for
 pub reaching : {text form : List ℕ} {n : ℕ} (k : ℕ) → Form text form n → k < n → Reaching text form k

@@ -1,8 +1,7 @@
 -- Tables that hold sorts and symbols: their rows as the look-ups read them, and one more. Assumes nothing.
 use mathlib.Core.Path.{_≡_, refl, sym, ap, _∙_, subst}
-use Prim.Native.Nat.{ℕ, zero, suc, _+_, _-_, _*_, _^_, _<_, _≤_}
-use mathlib.Core.Bool.{Bool, true, false, not}
-use mathlib.Core.Option.{Option, some, none as nothing}
+use Prim.Native.Nat.{ℕ, suc, _+_, _-_, _*_, _<_, _≤_}
+use mathlib.Core.Option.{none as nothing}
 use mathlib.Core.List.{List, [], _∷_, _++_}
 use native.Mathlib.Omega.{arith}
 use native.Mathlib.Numerals.{add-one}
@@ -12,21 +11,19 @@ use Rattle.rules.specs.Limits.{LENGTH, SORTS, SYMBOLS, ARGUMENTS}
 use Rattle.rules.specs.Text.{same}
 use Rattle.rules.specs.Find.{first}
 use Rattle.rules.specs.Laws.Find.{next, first-next, getD-front}
-use Rattle.rules.specs.Out.{Out, ok, refuse}
+use Rattle.rules.specs.Out.{refuse}
 use Rattle.rules.specs.Sexp.{Sexp, Sexps, item, count, Name}
 use Rattle.rules.specs.Theory.{Theory, Symbol, noName, noSymbol, sortNamed}
-use Rattle.rules.specs.Laws.Theory.{All, all-at, all-snoc}
-use Rattle.rules.specs.TheoryTables.{nameCells, rows, symbolRow, inputRow, filled}
-use Rattle.rules.specs.Laws.Row.{rows-snoc, length-rows, row-cell, append-assoc, length-filled, filled-fits}
+use Rattle.rules.specs.Laws.Theory.{all-at, all-snoc}
+use Rattle.rules.specs.TheoryTables.{nameCells, rows, symbolRow, inputRow}
+use Rattle.rules.specs.Laws.Row.{rows-snoc, length-rows, row-cell, length-filled, filled-fits}
 use Rattle.rules.specs.Declare.{addSort, addSymbol}
-use Rattle.rules.specs.Laws.Declaring.{proper, withSort, add-sort-unnamed, add-sort-known, add-sort-full, add-sort-new, add-symbol-full, add-symbol-new}
-use Rattle.sexp.specs.Items.{Holds, itemOf, place}
-use Rattle.sexp.specs.WalkLaws.{spells-item}
-use Rattle.kernel.specs.Named.{SymbolAt, SymbolRows}
-use Rattle.sexp.specs.NameRows.{NameIn, NameAt, NameRows, foundOf}
-use Rattle.kernel.specs.Spelled.{SomeItem, Reaching, nameOf}
-use Rattle.kernel.specs.Held.{Front, NameFits, Form, SortsHeld, SortStored, SortAdded, SymbolsHeld, SymbolIs, SymbolStored}
-use Rattle.kernel.proofs.Spellings.{Proper, found-at, found-missing}
+use Rattle.rules.specs.Laws.Declaring.{add-sort-known, add-sort-full, add-sort-new, add-symbol-full, add-symbol-new}
+use Rattle.kernel.specs.Named.{SymbolRows}
+use Rattle.sexp.specs.NameRows.{NameIn, NameRows, foundOf}
+use Rattle.kernel.specs.Held.{Front, NameFits, SortsHeld, SortStored, SymbolsHeld, SymbolIs, SymbolStored}
+use Rattle.kernel.proofs.Spellings.{Proper}
+use Rattle.sexp.specs.FoundLaws.{found-at, found-missing}
 use Rattle.sexp.specs.declared.names.Found.{Found}
 use Rattle.sexp.specs.declared.names.Found.the-variants.{At, Missing}
 

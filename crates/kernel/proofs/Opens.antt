@@ -1,82 +1,35 @@
 -- Lists that begin with a symbol: what the readers of heads answer. Assumes nothing.
-use mathlib.Core.Path.{_≡_, refl, sym, ap, _∙_, subst}
-use Prim.Native.Nat.{ℕ, zero, suc, _+_, _-_, _*_, _^_, _<_, _≤_}
-use mathlib.Core.Bool.{Bool, true, false}
-use mathlib.Core.Option.{Option, some, none as nothing}
-use mathlib.Core.List.{List, [], _∷_, _++_}
+use mathlib.Core.Path.{_≡_, refl, sym, ap, _∙_}
+use Prim.Native.Nat.{ℕ, _+_, _-_, _*_, _<_, _≤_}
+use mathlib.Core.Bool.{true}
+use mathlib.Core.Option.{some}
+use mathlib.Core.List.{List}
 use native.Mathlib.Omega.{arith}
-use native.Mathlib.Numerals.{add-one}
 use lib.ListN.{length, getD, take, drop, set, length-set}
-use Rattle.rules.specs.Limits.{SYMBOLS, PATTERNS}
+use Rattle.rules.specs.Limits.{PATTERNS}
 use Rattle.rules.specs.Find.{first}
 use Rattle.rules.specs.Laws.Find.{first-some}
 use Rattle.rules.specs.Lex.{letters}
 use Rattle.rules.specs.Out.{Out, ok, refuse, then}
-use Rattle.rules.specs.Sexp.{Sexp, Sexps, atom, list, nil, cons, count}
-use Rattle.rules.specs.Tree.{Tree, Trees, app}
+use Rattle.rules.specs.Sexp.{Sexps, atom, list, cons, count}
+use Rattle.rules.specs.Tree.{Tree, app}
 use Rattle.rules.specs.Theory.{Theory, Symbol, noSymbol, inputs, predicateNamed}
 use Rattle.rules.specs.Declare.{Reading, word, head, pattern, patterns, predicated}
-use Rattle.rules.specs.Laws.PatternSteps.{worded, word-full, word-more, pattern-empty, pattern-headless, pattern-lone, pattern-asks, predicated-empty, predicated-headless, predicated-unknown, predicated-count, predicated-asks}
-use Rattle.sexp.specs.Spelt.{Spelt}
-use Rattle.sexp.specs.Items.{Holds, itemAt, itemOf, behind}
-use Rattle.sexp.specs.WalkLaws.{AtomIs, atom-is}
-use Rattle.sexp.specs.declared.items.Item.{Item}
-use Rattle.sexp.specs.declared.items.Item.the-variants.{Atom, List as Part}
+use Rattle.rules.specs.Laws.PatternSteps.{word-full, word-more, pattern-empty, pattern-headless, pattern-lone, pattern-asks, predicated-empty, predicated-headless, predicated-unknown, predicated-count, predicated-asks}
+use Rattle.sexp.specs.Items.{Holds}
 use Rattle.kernel.specs.Named.{called, ofKind, SymbolRows}
 use Rattle.sexp.specs.NameRows.{foundOf}
 use Rattle.kernel.specs.Held.{SymbolsHeld}
-use Rattle.kernel.specs.Reading.{Stopped, Head, HeadRead, Opened, OpenedRead}
+use Rattle.kernel.specs.Reading.{Stopped, HeadRead, Opened, OpenedRead}
 use Rattle.sexp.specs.declared.names.Found.{Found}
 use Rattle.sexp.specs.declared.names.Found.the-variants.{At, Missing}
 use Rattle.kernel.specs.declared.patterns.Made.{Made}
 use Rattle.kernel.specs.declared.patterns.Made.the-variants.{Ok, No}
-use Rattle.kernel.proofs.Spellings.{found-at, found-missing}
+use Rattle.sexp.specs.FoundLaws.{found-at, found-missing}
 use Rattle.kernel.proofs.Holding.{symbols-rows}
-use Rattle.kernel.proofs.Firsts.{First, first-of, none-left}
-use Rattle.kernel.proofs.Words.{atom-span, words-more}
-
--- the items begin with an atom
-pub record AtomFirst (text cells : List ℕ) (zs : Sexps) (p : ℕ) : Type 0 where
-  pub others : Sexps
-  pub is : zs ≡ cons (atom p (letters (drop p text))) others
-  pub inside : p < length text
-  pub rest : Holds text (take (length cells - 1) (drop 1 cells)) others
-  pub some : 1 ≤ length cells
-
-pub atom-first : {text cells : List ℕ} {zs : Sexps} {item : Item} {p : ℕ} → Holds text cells zs → (length cells ≡ 0 → ⊥) → item ≡ itemAt cells 0 → item ≡ Atom p → AtomFirst text cells zs p
-atom-first {text} {cells} {zs} {item} {p} h l e f =
-    let o : 1 ≡ behind 0 (itemAt cells 0) = ap (behind 0) (sym f ∙ e) in
-    let k = first-of item 1 h l e o in
-    let a : AtomIs text (k .x) p = atom-is text 0 (k .x) p (k .spelt) (sym f ∙ k .at) in
-    record {
-      others = k .ys;
-      is = k .is ∙ ap (λ x. cons x (k .ys)) (a .is ∙ ap (atom p) (sym (a .stands .bytes)));
-      inside = a .stands .inside;
-      rest = k .rest;
-      some = k .high;
-    }
-
--- they begin with a list
-pub record ListFirst (zs : Sexps) : Type 0 where
-  pub inner : Sexps
-  pub others : Sexps
-  pub is : zs ≡ cons (list inner) others
-
-list-of : (at a b : ℕ) (x : Sexp) (ys zs : Sexps) → Part a b ≡ itemOf at x → zs ≡ cons x ys → ListFirst zs
-list-of at a b (atom p bs) ys zs e f = absurd (let z : _≡_ {A = ℕ} 0 1 = cc in omega arith)
-list-of at a b (list xs) ys zs e f = record { inner = xs; others = ys; is = f }
-
-pub list-first : {text cells : List ℕ} {zs : Sexps} {item : Item} {a b : ℕ} → Holds text cells zs → (length cells ≡ 0 → ⊥) → item ≡ itemAt cells 0 → item ≡ Part a b → ListFirst zs
-list-first {cells = cells} {zs = zs} {item = item} {a = a} {b = b} h l e f =
-    let k = first-of item (behind 0 (itemAt cells 0)) h l e refl in
-    list-of 0 a b (k .x) (k .ys) zs (sym f ∙ k .at) (k .is)
-
-count-cons : (x : Sexp) (xs : Sexps) → count (cons x xs) ≡ suc (count xs)
-unfolding count
-count-cons x xs = refl
-
-pub count-first : {text cells : List ℕ} {zs : Sexps} {p : ℕ} (f : AtomFirst text cells zs p) → count zs ≡ suc (count (f .others))
-count-first {text} {zs = zs} {p} f = ap count (f .is) ∙ count-cons (atom p (letters (drop p text))) (f .others)
+use Rattle.sexp.specs.FirstItem.{AtomFirst, ListFirst, count-first, none-left}
+use Rattle.kernel.proofs.Words.{words-more}
+use Rattle.sexp.specs.AtomText.{atom-span}
 
 -- a refusal with nothing written
 stopped : {P : List ℕ} {used : ℕ} {given : Out Reading Tree} (R : Reading) (a d : ℕ) → given ≡ refuse a d R → Stopped P P used given a d
@@ -84,7 +37,7 @@ stopped R a d e = record { now = R; is = e; words = refl; long = refl }
 
 -- The answers of `open_term` -----------------------------------------------------------------------------------------------------
 
-pub term-headless : (T : Theory) (R : Reading) (sort : ℕ) {zs : Sexps} (P : List ℕ) (used : ℕ) → ListFirst zs → Stopped P P used (pattern T (list zs) sort R) 11 0
+pub term-headless : (T : Theory) (R : Reading) (sort : ℕ) {text cells : List ℕ} {zs : Sexps} {a b : ℕ} (P : List ℕ) (used : ℕ) → ListFirst text cells zs a b → Stopped P P used (pattern T (list zs) sort R) 11 0
 term-headless T R sort P used f = stopped R 11 0 (ap (λ z. pattern T (list z) sort R) (f .is) ∙ pattern-headless R T sort (f .inner) (f .others))
 
 module _ (T : Theory) (R : Reading) (sort : ℕ) {text cells : List ℕ} {zs : Sexps} (P : List ℕ) (used : ℕ) where
@@ -131,7 +84,7 @@ module _ (T : Theory) (R : Reading) (sort : ℕ) {text cells : List ℕ} {zs : S
 
 -- The answers of `open_judgment` -------------------------------------------------------------------------------------------------
 
-pub judgment-headless : (T : Theory) (R : Reading) {zs : Sexps} (P : List ℕ) (used : ℕ) → ListFirst zs → Stopped P P used (predicated T zs R) 11 0
+pub judgment-headless : (T : Theory) (R : Reading) {text cells : List ℕ} {zs : Sexps} {a b : ℕ} (P : List ℕ) (used : ℕ) → ListFirst text cells zs a b → Stopped P P used (predicated T zs R) 11 0
 judgment-headless T R P used f = stopped R 11 0 (ap (λ z. predicated T z R) (f .is) ∙ predicated-headless R T (f .inner) (f .others))
 
 module _ (T : Theory) (R : Reading) {text cells : List ℕ} {zs : Sexps} (P : List ℕ) (used : ℕ) where

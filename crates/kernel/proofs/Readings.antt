@@ -21,7 +21,7 @@ use Rattle.kernel.specs.Readers.{KnownSymbol, KnownInput, NamedSymbols, 
 use Rattle.kernel.specs.Entries.{known-symbol}
 use Rattle.kernel.specs.Listing.{nextConstructor}
 use Rattle.kernel.proofs.Holding.{sorts-rows, sorts-few, symbols-rows, symbols-few, input-place, input-cell}
-use Rattle.kernel.proofs.Spellings.{found-at, found-missing, found-inside}
+use Rattle.sexp.specs.FoundLaws.{found-at, found-missing, found-inside}
 use Rattle.sexp.specs.declared.names.Found.{Found}
 use Rattle.sexp.specs.declared.names.Found.the-variants.{At, Missing}
 

@@ -1,21 +1,19 @@
 -- Symbols in rows of a table, as the look-ups read them. Assumes nothing.
 use mathlib.Core.Path.{_≡_, refl, sym, ap, _∙_}
-use Prim.Native.Nat.{ℕ, zero, suc, _+_, _-_, _*_, _<_, _≤_}
+use Prim.Native.Nat.{ℕ, _+_, _-_, _*_, _<_, _≤_}
 use mathlib.Core.Bool.{Bool, true, false, _&&_, not}
-use mathlib.Core.Option.{Option, some, none as nothing}
-use mathlib.Core.List.{List, [], _∷_, _++_}
+use mathlib.Core.Option.{some}
+use mathlib.Core.List.{List}
 use native.Mathlib.Omega.{arith}
 use lib.Dec.{eqb}
 use lib.ListN.{length, getD, take, drop}
 use Rattle.rules.specs.Text.{same}
 use Rattle.rules.specs.Find.{first}
 use Rattle.rules.specs.Laws.Find.{first-here, first-later, first-over}
-use Rattle.rules.specs.Sexp.{Name}
-use Rattle.rules.specs.Theory.{Symbol, noName, noSymbol, isPredicate}
-use Rattle.sexp.specs.RowLaws.{name-order, name-within, name-bytes}
+use Rattle.rules.specs.Theory.{Symbol, noSymbol, isPredicate}
+use Rattle.sexp.specs.RowLaws.{name-bytes}
 use Rattle.kernel.specs.Named.{kindOf, ofKind, SymbolAt, SomeSymbol, SymbolRows, SomeSymbols, called}
-use Rattle.sexp.specs.NameRows.{NameIn, NameAt, NameRows, SomeNames, foundOf}
-use Rattle.sexp.specs.declared.names.Found.{Found}
+use Rattle.sexp.specs.NameRows.{foundOf}
 use Rattle.sexp.specs.declared.names.Found.the-variants.{At, Missing}
 
 -- Symbols ------------------------------------------------------------------------------------------------------------------------

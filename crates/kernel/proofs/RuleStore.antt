@@ -1,20 +1,17 @@
 -- Tables that hold rules: their words, and one rule more. Assumes nothing.
-use mathlib.Core.Path.{_≡_, refl, sym, ap, _∙_, subst}
-use Prim.Native.Nat.{ℕ, zero, suc, _+_, _-_, _*_, _<_, _≤_}
+use mathlib.Core.Path.{_≡_, sym, ap, _∙_, subst}
+use Prim.Native.Nat.{ℕ, suc, _+_, _*_, _<_, _≤_}
 use mathlib.Core.List.{List, [], _∷_, _++_}
 use native.Mathlib.Omega.{arith}
-use native.Mathlib.Nat.{mul-suc}
-use lib.ListN.{length, getD, take, drop, set, length-append, take-append-drop}
-use lib.Seq.{sets, length-sets, take-at, getD-append-add, paste, length-paste, length-take-le}
+use lib.ListN.{length, take, drop, set, length-append, take-append-drop}
+use lib.Seq.{sets, length-sets, take-at, paste, length-paste, length-take-le}
 use Rattle.rules.specs.Limits.{RULES, RULEVARS}
-use Rattle.rules.specs.Laws.Find.{getD-front}
-use Rattle.rules.specs.Sexp.{Name}
-use Rattle.rules.specs.Tree.{Tree, Trees, var, app, none, more, countTrees, size, sizes}
-use Rattle.rules.specs.Theory.{Rule, noRule, ruleWords}
-use Rattle.rules.specs.Laws.Theory.{all-at, all-snoc}
-use Rattle.rules.specs.TheoryTables.{rows, nameCells, prefix, prefixes, patternRow, varRows, ruleVarRow, ruleRow, ruleCells}
+use Rattle.rules.specs.Tree.{Tree, Trees, var, app, none, more, countTrees}
+use Rattle.rules.specs.Theory.{Rule}
+use Rattle.rules.specs.Laws.Theory.{all-snoc}
+use Rattle.rules.specs.TheoryTables.{rows, nameCells, prefix, prefixes, patternRow, ruleVarRow, ruleRow, ruleCells}
 use Rattle.rules.specs.Laws.Prefix.{words-counted}
-use Rattle.rules.specs.Laws.Row.{append-assoc, append-nil, rows-snoc, length-rows, length-filled}
+use Rattle.rules.specs.Laws.Row.{append-assoc, append-nil, rows-snoc, length-rows}
 use Rattle.kernel.specs.Held.{Front}
 use Rattle.kernel.specs.HeldRules.{RulesHeld, RuleIs}
 use Rattle.kernel.proofs.Holding.{front-write, front-same, front-paste}

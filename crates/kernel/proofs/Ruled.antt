@@ -1,7 +1,7 @@
 -- The answers of `add_rule`, question by question. Assumes nothing.
 use mathlib.Core.Path.{_≡_, refl, sym, ap, _∙_, subst}
-use Prim.Native.Nat.{ℕ, _+_, _-_, _*_, _≤_}
-use mathlib.Core.Option.{some, none as nothing}
+use Prim.Native.Nat.{ℕ, _-_, _*_, _≤_}
+use mathlib.Core.Option.{none as nothing}
 use mathlib.Core.List.{List, [], _++_}
 use native.Mathlib.Omega.{arith}
 use lib.ListN.{length, take, drop, replicate, length-append}
@@ -26,7 +26,8 @@ use Rattle.kernel.specs.Reading.{VarsHeld, Reads, Written, Stopped, Patt
 use Rattle.kernel.specs.HeldRules.{schemaCells, Beginning, RulesHeld, SomeRules, RuleFits, RuleIs, RulePut, RuleRefused, RuleAdded}
 use Rattle.kernel.specs.declared.patterns.Made.{Made}
 use Rattle.kernel.specs.declared.patterns.Made.the-variants.{Ok, No}
-use Rattle.kernel.proofs.Spellings.{Proper, found-at, found-missing}
+use Rattle.kernel.proofs.Spellings.{Proper}
+use Rattle.sexp.specs.FoundLaws.{found-at, found-missing}
 use Rattle.kernel.proofs.Vars.{namesOf, first-name, vars-few, vars-filled}
 use Rattle.kernel.proofs.Schemas.{written-kept}
 use Rattle.kernel.proofs.Ruling.{begun, ruleOf, rule-stopped, rule-unnamed, rule-twice, rule-full, rule-new, premise-list}

@@ -15,7 +15,7 @@ use Rattle.rules.specs.Declare.{Reading, isNew, properName, predicated, judgmen
 use Rattle.rules.specs.Laws.Declaring.{proper, proper-asks}
 use Rattle.rules.specs.Laws.PatternSteps.{schema-no-premises, schema-stopped, schema-no-conclusion, schema-asks}
 use Rattle.kernel.specs.HeldRules.{withRule}
-use Rattle.kernel.proofs.Spellings.{never}
+use Rattle.sexp.specs.Never.{never}
 
 -- no variable yet, and the words of the rules before
 abbrev pub begun : Theory → Reading

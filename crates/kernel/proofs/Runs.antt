@@ -15,6 +15,7 @@ use Rattle.rules.specs.Laws.Theory.{empty}
 use Rattle.rules.specs.TheoryTables.{rows, ruleCells}
 use Rattle.rules.specs.Declare.{declare}
 use Rattle.rules.specs.Loop.{Judged as Verdict, done, refused, through, unread, whole}
+use Rattle.sexp.specs.Never.{never}
 use Rattle.sexp.specs.Encode.{encode}
 use Rattle.sexp.specs.Reads.{Clear, ReadRight}
 use Rattle.sexp.specs.ReadLaws.{read-first, FormIs, at-end, at-refused, at-form, form-cleared}
@@ -29,9 +30,6 @@ use Rattle.kernel.specs.declared.declare.Declared.the-variants.{Ok, No}
 use Rattle.kernel.specs.declared.parse.Judged.{Judged}
 use Rattle.kernel.specs.declared.parse.Judged.the-variants.{Done, Refused}
 use Rattle.kernel.proofs.Laid.{counts-are, within-of, laid-of}
-
-never : {A : Type 0} → _≡_ {A = ℕ} 0 1 → A
-never z = absurd (omega arith)
 
 -- The definition, form by form -----------------------------------------------------------------------------------------------------
 

@@ -1,6 +1,6 @@
 -- The premises and the conclusion of a rule, one behind the other: what their reader answers. Assumes nothing.
 use mathlib.Core.Path.{_≡_, refl, sym, ap, _∙_, subst}
-use Prim.Native.Nat.{ℕ, _+_, _-_, _<_, _≤_}
+use Prim.Native.Nat.{ℕ, _-_, _<_, _≤_}
 use mathlib.Core.List.{List, _++_}
 use native.Mathlib.Omega.{arith}
 use lib.ListN.{length, take, drop}
@@ -23,7 +23,7 @@ use Rattle.kernel.specs.Reading.{Written, Stopped, PatternRead, Patterni
 use Rattle.kernel.specs.HeldRules.{schemaCells, Beginning}
 use Rattle.kernel.specs.declared.patterns.Made.{Made}
 use Rattle.kernel.specs.declared.patterns.Made.the-variants.{Ok, No}
-use Rattle.kernel.proofs.Spellings.{never}
+use Rattle.sexp.specs.Never.{never}
 use Rattle.kernel.proofs.Trees.{kept-front, longer}
 
 -- a list among the items of a form

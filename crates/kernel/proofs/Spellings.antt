@@ -1,62 +1,32 @@
 -- What an item says to a question for a name. Assumes nothing.
 use mathlib.Core.Path.{_≡_, refl, sym, ap, _∙_}
-use Prim.Native.Nat.{ℕ, zero, suc, _+_, _-_, _*_, _<_, _≤_}
-use mathlib.Core.Bool.{Bool, true, false, not}
+use Prim.Native.Nat.{ℕ, _+_, _-_, _≤_}
+use mathlib.Core.Bool.{Bool, true, false}
 use mathlib.Core.Option.{Option, some, none as nothing}
-use mathlib.Core.List.{List, [], _∷_, _++_}
+use mathlib.Core.List.{List}
 use native.Mathlib.Omega.{arith}
 use native.Mathlib.Numerals.{add-one}
-use lib.Dec.{eqb}
-use lib.ListN.{length, getD, take, drop}
-use lib.Seq.{drop-cons}
-use borrow.Author.Tests.{eqb-true}
+use lib.ListN.{length, take, drop}
 use Rattle.rules.specs.Text.{same}
 use Rattle.rules.specs.Find.{first}
-use Rattle.rules.specs.Laws.Find.{next, first-next, First, first-some}
-use Rattle.rules.specs.Theory.{noName}
-use Rattle.rules.specs.Lex.{Kind, blank, left, right, semicolon, letter, kind, letters, lexing}
+use Rattle.rules.specs.Laws.Find.{next, first-next}
+use Rattle.rules.specs.Lex.{letters}
 use Rattle.rules.specs.Sexp.{Sexp, Sexps, atom, list, Name, marked, item}
-use Rattle.sexp.specs.Spelt.{AtomAt, Spelt}
+use Rattle.sexp.specs.Spelt.{Spelt}
 use Rattle.sexp.specs.Items.{itemOf, Holds}
-use Rattle.sexp.specs.WalkLaws.{AtomIs, atom-is, Span, span, spells-item}
+use Rattle.sexp.specs.WalkLaws.{Span, span, spells-item}
 use Rattle.sexp.specs.declared.items.Item.{Item}
 use Rattle.sexp.specs.declared.items.Item.the-variants.{Atom, List as Part}
-use Rattle.kernel.specs.Spelled.{SomeItem, nameOf}
+use Rattle.kernel.specs.Spelled.{nameOf}
 use Rattle.rules.specs.Laws.Declaring.{proper, sortOf, sortOfName}
+use Rattle.sexp.specs.Never.{never}
+use Rattle.sexp.specs.AtomText.{atom-text}
+use Rattle.sexp.specs.FoundLaws.{found-at, found-missing}
 use Rattle.sexp.specs.NameRows.{NameIn, foundOf}
 use Rattle.sexp.specs.declared.names.Found.{Found}
 use Rattle.sexp.specs.declared.names.Found.the-variants.{At, Missing}
 use Rattle.kernel.specs.declared.symbols.Spelling.{Spelling}
 use Rattle.kernel.specs.declared.symbols.Spelling.the-variants.{Name as NameAt, Refused}
-
--- whether an atom is marked shows in its first byte
-mark-is-letter : kind 63 ≡ letter
-unfolding lexing
-mark-is-letter = refl
-
-no-mark : (b : ℕ) (k : Kind) → kind b ≡ k → (letter ≡ k → ⊥) → eqb b 63 ≡ false
-no-mark b k e n = go (eqb b 63) refl
-  where
-    go : (t : Bool) → eqb b 63 ≡ t → t ≡ false
-    go false f = refl
-    go true f = absurd (n (sym (ap kind (eqb-true b 63 f) ∙ mark-is-letter) ∙ e))
-
-pub never : {A : Type 0} → _≡_ {A = ℕ} 0 1 → A
-never z = absurd (omega arith)
-
-marked-front : (b : ℕ) (t : List ℕ) → eqb b 63 ≡ marked (letters (b ∷ t))
-unfolding letters marked
-marked-front b t = go (kind b) refl
-  where
-    go : (k : Kind) → kind b ≡ k → eqb b 63 ≡ marked (elim k [ blank ↦ [] | left ↦ [] | right ↦ [] | semicolon ↦ [] | letter ↦ b ∷ letters t ])
-    go blank e = no-mark b blank e (λ z. never cc)
-    go left e = no-mark b left e (λ z. never cc)
-    go right e = no-mark b right e (λ z. never cc)
-    go semicolon e = no-mark b semicolon e (λ z. never cc)
-    go letter e = refl
-
-pub marked-byte : (text : List ℕ) (p : ℕ) → p < length text → eqb (getD text p 0) 63 ≡ marked (letters (drop p text))
-marked-byte text p h = marked-front (getD text p 0) (drop (suc p) text) ∙ ap (λ l. marked (letters l)) (sym (drop-cons text p 0 h))
 
 pub proper-none : (p : ℕ) (bs : List ℕ) → marked bs ≡ true → proper (atom p bs) ≡ nothing
 unfolding proper
@@ -68,15 +38,9 @@ proper-some p bs e = rw (e, proper)
 
 -- the answers of `proper`
 module _ (text : List ℕ) {item : Item} {p : ℕ} (f : item ≡ Atom p) where
-  pub atom-inside : SomeItem text item → p < length text
-  atom-inside k = atom-is text (k .1) (k .0) p (k .3) (sym f ∙ k .2) .stands .inside
-
   module _ (x : Sexp) (at : ℕ) (e : item ≡ itemOf at x) (s : Spelt text x) where
-    here : AtomIs text x p
-    here = atom-is text at x p s (sym f ∙ e)
-
     spelt-so : x ≡ atom p (letters (drop p text))
-    spelt-so = here .is ∙ ap (atom p) (sym (here .stands .bytes))
+    spelt-so = atom-text text at x s e f .is
 
     pub proper-marked : marked (letters (drop p text)) ≡ true → Refused ≡ nameOf (proper x)
     proper-marked m = ap nameOf (sym (ap proper spelt-so ∙ proper-none p (letters (drop p text)) m))
@@ -130,14 +94,6 @@ proper-missing x r a b = go (proper x) (sym b ∙ a)
     go nothing e = refl
     go (some n) e = never cc
 
-pub found-at : (o : Option ℕ) (r : Found) (k : ℕ) → r ≡ foundOf o → r ≡ At k → o ≡ some k
-found-at nothing r k a b = never cc
-found-at (some i) r k a b = let q : i ≡ k = cc in ap some q
-
-pub found-missing : (o : Option ℕ) (r : Found) → r ≡ foundOf o → r ≡ Missing → o ≡ nothing
-found-missing nothing r a b = refl
-found-missing (some i) r a b = never cc
-
 -- the answers of `sort`
 pub sort-unnamed : (ns : List Name) (x : Sexp) → proper x ≡ nothing → Missing ≡ foundOf (sortOf ns x)
 unfolding sortOf sortOfName
@@ -158,12 +114,6 @@ module _ (text : List ℕ) (ns : List Name) (x : Sexp) (s e : ℕ) (k : Proper t
   pub sort-missing : r ≡ Missing → Missing ≡ foundOf (sortOf ns x)
   unfolding next
   sort-missing b = ap foundOf (sym (sort-is ∙ ap next (found-missing (first (λ (n : Name). same (n .bytes) (take (e - s) (drop s text))) ns 0) r a b)))
-
--- what is found is one of the rows
-pub found-inside : (name : List ℕ) (ns : List Name) (r : Found) (i : ℕ) → r ≡ foundOf (first (λ n. same (n .bytes) name) ns 0) → r ≡ At i → i < length ns
-found-inside name ns r i a b =
-    let f = first-some (λ (n : Name). same (n .bytes) name) ns 0 i noName (found-at (first (λ (n : Name). same (n .bytes) name) ns 0) r i a b) in
-    omega (arith, f .is, f .inside)
 
 -- the answers of `proper_at`
 module _ {text words : List ℕ} (k : ℕ) {r : Spelling} where

@@ -15,6 +15,7 @@ use Rattle.rules.specs.Tags.{Declaration, aSort, aCtor, aPred, aRule, Row, theo
 use Rattle.rules.specs.Theory.{Theory}
 use Rattle.rules.specs.Text.{same}
 use Rattle.rules.specs.Declare.{addSort, addCtor, addPred, addRule, declareAs, declare}
+use Rattle.sexp.specs.Never.{never}
 use Rattle.sexp.specs.Encode.{encode}
 use Rattle.sexp.specs.Items.{Holds, itemAt}
 use Rattle.sexp.specs.ItemLaws.{More, some-cells}
@@ -34,9 +35,6 @@ use Rattle.kernel.specs.declared.patterns.Made.the-variants.{Ok as MadeO
 use Rattle.kernel.specs.declared.parse.Counts.{Counts}
 use Rattle.kernel.specs.declared.declare.Declared.{Declared}
 use Rattle.kernel.specs.declared.declare.Declared.the-variants.{No}
-
-never : {A : Type 0} → _≡_ {A = ℕ} 0 1 → A
-never z = absurd (omega arith)
 
 -- Tags ---------------------------------------------------------------------------------------------------------------------------
 

@@ -1,32 +1,27 @@
 -- A term from its parts: what the readers of terms, arguments and judgments answer. Assumes nothing.
 use mathlib.Core.Path.{_≡_, refl, sym, ap, _∙_, subst}
-use Prim.Native.Nat.{ℕ, zero, suc, _+_, _-_, _*_, _^_, _<_, _≤_}
+use Prim.Native.Nat.{ℕ, suc, _+_, _-_, _<_, _≤_}
 use mathlib.Core.List.{List, [], _∷_, _++_}
 use native.Mathlib.Omega.{arith}
 use native.Mathlib.Numerals.{add-one}
-use lib.ListN.{length, getD, take, drop, length-append, length-drop}
+use lib.ListN.{length, getD, take, drop, length-append}
 use lib.Seq.{drop-cons, take-take, take-append-le, take-all, length-take-le}
-use Rattle.rules.specs.Limits.{LENGTH, ARGUMENTS, PATTERNS}
-use Rattle.rules.specs.Lex.{letters}
-use Rattle.rules.specs.Out.{Out, ok, refuse, then}
-use Rattle.rules.specs.Sexp.{Sexp, Sexps, atom, list, nil, cons, count}
-use Rattle.rules.specs.Tree.{Tree, Trees, var, app, none, more}
+use Rattle.rules.specs.Limits.{LENGTH, PATTERNS}
+use Rattle.rules.specs.Out.{Out, ok, then}
+use Rattle.rules.specs.Sexp.{Sexp, Sexps, cons, count}
+use Rattle.rules.specs.Tree.{Tree, Trees, app, none, more}
 use Rattle.rules.specs.Theory.{Theory, Symbol, noSymbol, inputs}
 use Rattle.rules.specs.TheoryTables.{prefix, prefixes}
 use Rattle.rules.specs.Laws.Row.{append-assoc, append-nil}
 use Rattle.rules.specs.Declare.{Reading, pattern, patterns}
 use Rattle.rules.specs.Laws.PatternSteps.{worded, patterns-none, patterns-more}
-use Rattle.sexp.specs.Items.{Holds, itemAt}
-use Rattle.sexp.specs.WalkLaws.{walk-start, walk-list, ListIs}
+use Rattle.sexp.specs.Items.{Holds}
 use Rattle.sexp.specs.declared.items.Item.{Item}
-use Rattle.sexp.specs.declared.items.Item.the-variants.{Atom, List as Part}
 use Rattle.kernel.specs.Held.{SymbolsHeld}
-use Rattle.kernel.specs.Reading.{Reads, Written, Stopped, PatternRead, Opened, OpenedRead, Patterning, Placed, Arguing}
+use Rattle.kernel.specs.Reading.{Reads, Written, Stopped, PatternRead, Opened, OpenedRead, Placed, Arguing}
 use Rattle.kernel.specs.declared.patterns.Made.{Made}
 use Rattle.kernel.specs.declared.patterns.Made.the-variants.{Ok, No}
-use Rattle.kernel.proofs.Holding.{input-place, input-cell}
-use Rattle.kernel.proofs.Firsts.{First, first-item, none-left}
-use Rattle.kernel.proofs.Opens.{AtomFirst, atom-first}
+use Rattle.sexp.specs.FirstItem.{First, none-left}
 
 -- some theory with these symbols
 abbrev pub symbolic : List Symbol → Theory
@@ -170,22 +165,6 @@ pub written-of : {A : Type 0} (cells : A → List ℕ) (text table P M : List �
 written-of cells text table P M used given r q b = subst (λ z. PatternRead cells text table P M used given z) b q
 
 -- What callees are given ---------------------------------------------------------------------------------------------------------
-
--- the items, the first apart
-pub holds-first : {text cells : List ℕ} {zs : Sexps} {item : Item} {next : ℕ} (f : First text cells zs item next) → Holds text cells zs → Holds text cells (cons (f .x) (f .ys))
-holds-first {text} {cells} f h = subst (λ z. Holds text cells z) (f .is) h
-
--- the first item is a list
-pub some-list : {text cells : List ℕ} {zs : Sexps} {item : Item} {a b : ℕ} → Holds text cells zs → (length cells ≡ 0 → ⊥) → item ≡ itemAt cells 0 → item ≡ Part a b →
-    (x : Sexp) × ListIs text cells x a b
-some-list {item = item} h l e g = let f = first-item item h l e in (f .x, walk-list (walk-start (holds-first f h)) e g)
-
-pub inner-shorter : {text cells : List ℕ} {x : Sexp} {a b : ℕ} → ListIs text cells x a b → length (take (b - a) (drop a cells)) < length cells
-inner-shorter {cells = cells} {a = a} {b = b} k =
-    omega (arith, length-take-le (b - a) (drop a cells) (omega (arith, length-drop a cells, k .low, k .high)), k .shorter)
-
-pub cons-first : (x u : Sexp) (ys us : Sexps) → cons x ys ≡ cons u us → x ≡ u
-cons-first x u ys us e = cc
 
 -- the arguments behind a head
 pub arguing-inner : {text cells symbols inputs table P M : List ℕ} {known n used c next : ℕ} {R : Reading} {ss : List Symbol} {zs : Sexps} {given : Out Reading Tree} →

@@ -1,6 +1,6 @@
 -- A rule's variables in their row: as the look-up reads them, one met again, and a new one. Assumes nothing.
 use mathlib.Core.Path.{_≡_, refl, sym, ap, _∙_, subst}
-use Prim.Native.Nat.{ℕ, zero, suc, _+_, _-_, _*_, _^_, _<_, _≤_}
+use Prim.Native.Nat.{ℕ, zero, suc, _+_, _-_, _*_, _<_, _≤_}
 use mathlib.Core.Bool.{Bool, true, false}
 use mathlib.Core.Option.{Option, some, none as nothing}
 use mathlib.Core.List.{List, [], _∷_, _++_}
@@ -10,25 +10,23 @@ use lib.Dec.{eqb}
 use lib.ListN.{length, getD, take, drop, set, replicate, length-append, length-set}
 use lib.Seq.{sets, length-sets, drop-drop, drop-set-lt, drop-at}
 use borrow.Author.Tests.{eqb-true, eqb-false}
-use Rattle.rules.specs.Limits.{LENGTH, SORTS, RULEVARS}
+use Rattle.rules.specs.Limits.{RULEVARS}
 use Rattle.rules.specs.Text.{same}
 use Rattle.rules.specs.Find.{first}
-use Rattle.rules.specs.Out.{Out, ok, refuse}
+use Rattle.rules.specs.Out.{ok, refuse}
 use Rattle.rules.specs.Sexp.{Name}
 use Rattle.rules.specs.Theory.{RuleVar, noName}
-use Rattle.rules.specs.Laws.Theory.{All, empty, both, all-at, all-snoc}
+use Rattle.rules.specs.Laws.Theory.{all-at, all-snoc}
 use Rattle.rules.specs.TheoryTables.{nameCells, rows, varRow, filled}
 use Rattle.rules.specs.Laws.Row.{length-rows, row-cell, filled-fits}
 use Rattle.rules.specs.Declare.{Reading, noRuleVar, metOrNew}
 use Rattle.rules.specs.Laws.PatternSteps.{varNamed, withVar, met-other, met-same, new-full, new-more}
-use Rattle.sexp.specs.NameRows.{NameIn, NameAt, NameRows, foundOf}
+use Rattle.sexp.specs.NameRows.{NameAt, NameRows, foundOf}
 use Rattle.kernel.specs.Held.{Front, NameFits}
-use Rattle.kernel.specs.Reading.{Spans, VarsHeld, Meeting, Met, MetRead}
+use Rattle.kernel.specs.Reading.{Spans, VarsHeld, Meeting, Met}
 use Rattle.sexp.specs.declared.names.Found.{Found}
 use Rattle.sexp.specs.declared.names.Found.the-variants.{At, Missing}
-use Rattle.kernel.specs.declared.patterns.Made.{Made}
-use Rattle.kernel.specs.declared.patterns.Made.the-variants.{Ok, No}
-use Rattle.kernel.proofs.Spellings.{found-at, found-missing, found-inside}
+use Rattle.sexp.specs.FoundLaws.{found-at, found-missing, found-inside}
 use Rattle.kernel.proofs.Holding.{front-row}
 use Rattle.kernel.proofs.Arguments.{drop-zeros}
 

@@ -1,8 +1,8 @@
 -- Words of patterns behind those that are there: one more, and what the readers of atoms and heads answer. Assumes nothing.
 use mathlib.Core.Path.{_≡_, refl, sym, ap, _∙_, subst}
-use Prim.Native.Nat.{ℕ, zero, suc, _+_, _-_, _*_, _^_, _<_, _≤_}
+use Prim.Native.Nat.{ℕ, suc, _+_, _-_, _*_, _<_, _≤_}
 use mathlib.Core.Bool.{Bool, true, false}
-use mathlib.Core.Option.{Option, some, none as nothing}
+use mathlib.Core.Option.{some}
 use mathlib.Core.List.{List, [], _∷_, _++_}
 use native.Mathlib.Omega.{arith}
 use native.Mathlib.Numerals.{add-one}
@@ -10,28 +10,27 @@ use lib.Dec.{eqb}
 use lib.ListN.{length, getD, take, drop, set, length-set}
 use lib.Seq.{take-suc-set}
 use borrow.Author.Tests.{eqb-true, eqb-false}
-use Rattle.rules.specs.Limits.{LENGTH, SORTS, SYMBOLS, RULEVARS, PATTERNS}
+use Rattle.rules.specs.Limits.{SYMBOLS, PATTERNS}
 use Rattle.rules.specs.Find.{first}
 use Rattle.rules.specs.Laws.Find.{first-some}
 use Rattle.rules.specs.Lex.{letters}
-use Rattle.rules.specs.Out.{Out, ok, refuse, then}
-use Rattle.rules.specs.Sexp.{Sexp, Sexps, atom, list, Name, marked}
-use Rattle.rules.specs.Tree.{Tree, Trees, var, app, none, more}
+use Rattle.rules.specs.Out.{ok, refuse, then}
+use Rattle.rules.specs.Sexp.{atom, marked}
+use Rattle.rules.specs.Tree.{var, app, none}
 use Rattle.rules.specs.Theory.{Theory, Symbol, noSymbol, inputs, output, constructorNamed}
 use Rattle.rules.specs.TheoryTables.{prefix}
 use Rattle.rules.specs.Declare.{Reading, word, metOrNew, variable, head, pattern}
 use Rattle.rules.specs.Laws.PatternSteps.{varNamed, worded, word-full, word-more, variable-short, variable-asks, head-unknown, head-sort, head-count, head-asks, pattern-marked, pattern-atom}
-use Rattle.sexp.specs.Spelt.{AtomAt}
-use Rattle.sexp.specs.WalkLaws.{Span, span}
+use Rattle.sexp.specs.AtomText.{nameFrom, atom-span, atom-named}
 use Rattle.kernel.specs.Named.{called, ofKind, SymbolRows}
-use Rattle.sexp.specs.NameRows.{NameIn, foundOf}
-use Rattle.kernel.specs.Held.{SymbolsHeld, SomeSymbolsHeld}
-use Rattle.kernel.specs.Reading.{WordFits, WordPut, Spans, VarsHeld, Meeting, Met, MetRead, Reads, Ready, Written, Stopped, PatternRead, Heading, Head, HeadRead}
+use Rattle.sexp.specs.NameRows.{foundOf}
+use Rattle.kernel.specs.Held.{SymbolsHeld}
+use Rattle.kernel.specs.Reading.{WordPut, Spans, Meeting, Met, MetRead, Reads, Ready, Written, Stopped, PatternRead, Head, HeadRead}
 use Rattle.sexp.specs.declared.names.Found.{Found}
 use Rattle.sexp.specs.declared.names.Found.the-variants.{At, Missing}
 use Rattle.kernel.specs.declared.patterns.Made.{Made}
 use Rattle.kernel.specs.declared.patterns.Made.the-variants.{Ok, No}
-use Rattle.kernel.proofs.Spellings.{found-at, found-missing}
+use Rattle.sexp.specs.FoundLaws.{found-at, found-missing}
 use Rattle.kernel.proofs.Holding.{symbols-rows, symbols-few}
 
 -- A word more --------------------------------------------------------------------------------------------------------------------
@@ -48,22 +47,8 @@ words-more P Q used cell l e = ap (λ (k : ℕ). take k Q) (add-one used) ∙ ap
 
 -- An atom ------------------------------------------------------------------------------------------------------------------------
 
--- the atom that begins at a place, as a name
-abbrev pub nameFrom : List ℕ → ℕ → Name
-nameFrom text start = record { start = start; bytes = letters (drop start text) }
-
-pub atom-span : (text : List ℕ) (start end : ℕ) → start < length text → end ≡ start + length (letters (drop start text)) → Span text start end (letters (drop start text))
-atom-span text start end l e = span (record { inside = l; bytes = refl }) e
-
 pub atom-spans : (text : List ℕ) (start end : ℕ) → start < length text → end ≡ start + length (letters (drop start text)) → Spans text (nameFrom text start) start end
-atom-spans text start end l e =
-    let w = atom-span text start end l e in
-    let n : end - start ≡ length (letters (drop start text)) = omega (arith, e) in
-    record {
-      named = record { inside = omega (arith, w .high, e); spelt = rw n at (w .part) };
-      starts = refl;
-      ends = sym e;
-    }
+atom-spans text start end l e = record { named = atom-named text start l; starts = refl; ends = sym e }
 
 pub meeting : {text table : List ℕ} {start sort count room : ℕ} (end : ℕ) → Ready text start sort table count room → end ≡ start + length (letters (drop start text)) →
     Meeting text start end sort table count

@@ -2,7 +2,7 @@
 use mathlib.Core.Path.{_≡_}
 use Prim.Native.Nat.{ℕ, _+_, _*_, _^_, _<_, _≤_}
 use mathlib.Core.List.{List, [], _∷_, _++_}
-use lib.ListN.{length, take, drop}
+use lib.ListN.{length}
 use lib.Seq.{sets}
 use Rattle.rules.specs.Limits.{LENGTH, SORTS, SYMBOLS, ARGUMENTS}
 use Rattle.rules.specs.Out.{Out, ok, refuse}

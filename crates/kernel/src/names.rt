@@ -1,9 +1,6 @@
 // Looking symbols up: the first predicate, or the first constructor, whose name has given bytes.
 ghost use mathlib.Core.Path.{_≡_};
-ghost use Prim.Native.Nat.{ℕ};
 ghost use mathlib.Core.List.{List};
-ghost use mathlib.Core.Bool.{Bool};
-ghost use lib.ListN.{length};
 ghost use Rattle.rules.specs.Text.{same};
 ghost use Rattle.rules.specs.Find.{first};
 ghost use Rattle.rules.specs.Theory.{Symbol};

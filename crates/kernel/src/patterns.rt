@@ -1,7 +1,7 @@
 // The patterns of a rule: read off items in prefix notation, a word at a time, with the rule's variables numbered as they are met.
 ghost use mathlib.Core.Path.{_≡_};
 ghost use mathlib.Core.List.{List};
-ghost use Prim.Native.Nat.{ℕ, _+_, _*_, _^_, _≤_, _<_};
+ghost use Prim.Native.Nat.{ℕ, _+_, _*_, _<_};
 ghost use lib.ListN.{length, drop};
 ghost use Rattle.rules.specs.Lex.{letters};
 ghost use Rattle.rules.specs.Sexp.{Name, atom};
@@ -9,7 +9,7 @@ ghost use Rattle.rules.specs.Theory.{Theory};
 ghost use Rattle.rules.specs.Declare.{Reading, metOrNew, variable, head, pattern};
 ghost use Rattle.rules.specs.Laws.PatternSteps.{varNamed};
 ghost use Rattle.rules.specs.TheoryTables.{prefix};
-ghost use Rattle.kernel.specs.Held.{SymbolsHeld, SomeSymbolsHeld};
+ghost use Rattle.kernel.specs.Held.{SymbolsHeld};
 ghost use Rattle.kernel.specs.Reading.{WordFits, WordPut, Spans, VarsHeld, Meeting, MetRead, Reads, Ready, PatternRead, Heading, HeadRead};
 use crate::names::symbol_named;
 use crate::readers::same_sort;

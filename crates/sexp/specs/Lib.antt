@@ -1,4 +1,4 @@
--- What the contracts of the reader cite, and the laws for its callers (ItemLaws, WalkLaws, ReadLaws).
+-- What the contracts of the reader cite, and the laws for its callers (ItemLaws, WalkLaws, ReadLaws, RowLaws, AtomText, FoundLaws, FirstItem, NthItem).
 pub mod Lexed
 pub mod Encode
 pub mod Spelt
@@ -11,4 +11,9 @@ pub mod Whole
 pub mod Names
 pub mod NameRows
 pub mod RowLaws
+pub mod Never
+pub mod AtomText
+pub mod FoundLaws
+pub mod FirstItem
+pub mod NthItem
 pub mod TagTable

@@ -1,5 +1,4 @@
 use Rattle.kernel.proofs.Rows.{kind-true, kind-false}
-use borrow.Author.Needs.{needs}
 use Rattle.kernel.proofs.names.is_kind.Statement.{statement}
 use Rattle.kernel.proofs.names.is_kind.Tie as tie
 use Rattle.kernel.proofs.names.is_kind.Reads as reads

@@ -1,8 +1,5 @@
-use mathlib.Core.Path.{_≡_, refl, sym, ap, _∙_}
-use Prim.Native.Nat.{ℕ, _+_, _-_, _*_, _≤_, _<_}
-use native.Mathlib.Omega.{arith}
+use mathlib.Core.Path.{sym, _∙_}
 use Rattle.kernel.proofs.Rows.{symbol-is, symbol-not}
-use Rattle.sexp.specs.RowLaws.{name-order, name-within}
 use borrow.Author.Needs.{needs}
 use Rattle.kernel.proofs.names.is_symbol.Statement.{statement}
 use Rattle.kernel.proofs.names.is_symbol.Tie as tie

@@ -1,6 +1,4 @@
-use mathlib.Core.Path.{_≡_, refl, sym, ap, _∙_}
-use Prim.Native.Nat.{ℕ, _+_, _-_, _*_, _≤_, _<_}
-use native.Mathlib.Omega.{arith}
+use Prim.Native.Nat.{_-_}
 use Rattle.kernel.proofs.Rows.{Seeking, seeking-start, seeking-row, seeking-here, seeking-on, seeking-over}
 use borrow.Author.Needs.{needs}
 use Rattle.kernel.proofs.names.symbol_named.Statement.{statement}

@@ -1,4 +1,4 @@
-use mathlib.Core.Path.{_≡_, refl, sym, ap, _∙_}
+use mathlib.Core.Path.{sym, _∙_}
 use Rattle.kernel.proofs.Words.{atomic-marked, atomic-stopped, atomic-made}
 use borrow.Author.Needs.{needs}
 use Rattle.kernel.proofs.patterns.atomic.Statement.{statement}

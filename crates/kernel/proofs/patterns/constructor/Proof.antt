@@ -1,10 +1,10 @@
-use mathlib.Core.Path.{_≡_, refl, sym, ap, _∙_}
-use Prim.Native.Nat.{ℕ, _+_, _-_, _*_}
+use mathlib.Core.Path.{sym, _∙_}
+use Prim.Native.Nat.{_+_, _*_}
 use mathlib.Core.Bool.{false}
 use native.Mathlib.Omega.{arith}
-use lib.ListN.{length, take, drop}
 use Rattle.kernel.proofs.Holding.{symbols-rows}
-use Rattle.kernel.proofs.Words.{put-yes, put-no, atom-span, head-missing, head-wrong-sort, head-wrong-count, head-written, head-full, head-row}
+use Rattle.kernel.proofs.Words.{put-yes, put-no, head-missing, head-wrong-sort, head-wrong-count, head-written, head-full, head-row}
+use Rattle.sexp.specs.AtomText.{atom-span}
 use borrow.Author.Needs.{needs}
 use Rattle.kernel.proofs.patterns.constructor.Statement.{statement}
 use Rattle.kernel.proofs.patterns.constructor.Tie as tie

@@ -1,7 +1,7 @@
-use mathlib.Core.Path.{_≡_, refl, sym, ap, _∙_}
-use Prim.Native.Nat.{ℕ, _+_, _-_, _*_}
+use mathlib.Core.Path.{sym, _∙_}
+use Prim.Native.Nat.{_*_}
 use native.Mathlib.Omega.{arith}
-use lib.ListN.{length, set, length-set, take, drop}
+use lib.ListN.{length-set}
 use Rattle.kernel.proofs.Vars.{namesOf, varName, vars-rows, var-inside, var-place, var-fits, met-again, met-wrongly, met-full, met-new}
 use borrow.Author.Needs.{needs}
 use Rattle.kernel.proofs.patterns.met_or_new.Statement.{statement}

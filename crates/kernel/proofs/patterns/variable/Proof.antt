@@ -1,5 +1,3 @@
-use mathlib.Core.Path.{_≡_, refl, sym, ap, _∙_}
-use Prim.Native.Nat.{ℕ, _+_, _-_, _*_}
 use native.Mathlib.Omega.{arith}
 use Rattle.kernel.proofs.Words.{put-yes, put-no, atom-spans, meeting, variable-too-short, variable-unmet, met, variable-written, variable-full}
 use borrow.Author.Needs.{needs}

@@ -1,5 +1,4 @@
 use mathlib.Core.Path.{refl}
-use Prim.Native.Nat.{_-_}
 use native.Mathlib.Omega.{arith}
 use Rattle.rules.specs.Declare.{schema}
 use Rattle.kernel.proofs.Spellings.{proper-here, proper-nowhere}

@@ -1,4 +1,3 @@
-use Prim.Native.Nat.{_-_}
 use native.Mathlib.Omega.{arith}
 use Rattle.sexp.specs.WalkLaws.{nth-atom, nth-list}
 use Rattle.kernel.proofs.Schemas.{list-at, no-atom, same-items}

@@ -1,9 +1,9 @@
-use mathlib.Core.Path.{_≡_, refl, sym, ap, _∙_}
+use mathlib.Core.Path.{_∙_}
 use native.Mathlib.Omega.{arith}
-use lib.ListN.{length, set, length-set}
+use lib.ListN.{length, length-set}
 use denote.Ref.{now}
 use Rattle.kernel.proofs.Holding.{sorts-rows}
-use Rattle.kernel.proofs.Firsts.{First, first-of, first-item, some-first, rest-shorter}
+use Rattle.sexp.specs.FirstItem.{first-of, first-item, some-first, rest-shorter}
 use Rattle.kernel.proofs.Arguments.{first-small, arguments-none, arguments-unknown, arguments-full, arguments-more, gathering-next}
 use borrow.Author.Needs.{needs}
 use Prim.Native.Nat.{ℕ, _<_}

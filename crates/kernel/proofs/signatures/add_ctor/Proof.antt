@@ -1,13 +1,11 @@
-use mathlib.Core.Path.{_≡_, refl, sym, ap, _∙_, subst}
-use Prim.Native.Nat.{ℕ, _+_, _*_}
+use mathlib.Core.Path.{refl, sym, subst}
 use native.Mathlib.Omega.{arith}
-use lib.ListN.{length, length-replicate}
 use Rattle.rules.specs.Sexp.{item}
 use Rattle.rules.specs.Laws.Declaring.{ctor-unnamed}
 use Rattle.sexp.specs.Items.{place}
 use Rattle.sexp.specs.WalkLaws.{spells-item}
 use Rattle.kernel.specs.Held.{SymbolAdded}
-use Rattle.kernel.proofs.Spellings.{Proper, proper-here, proper-nowhere}
+use Rattle.kernel.proofs.Spellings.{proper-here, proper-nowhere}
 use Rattle.kernel.proofs.Holding.{sorts-rows, symbols-rows}
 use Rattle.kernel.proofs.Arguments.{sort-small, sort-known, sort-unknown}
 use Rattle.kernel.proofs.Declared.{reaching, theory-of, refused-of, stored-of, ctor-stops, ctor-again, ctor-is-new, symbol-cells, symbol-fits, ctor-no-sort}

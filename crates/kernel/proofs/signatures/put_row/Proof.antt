@@ -1,9 +1,7 @@
-use mathlib.Core.Path.{_≡_, refl, sym, ap, _∙_}
-use Prim.Native.Nat.{ℕ, _+_, _-_, _≤_, _<_}
+use Prim.Native.Nat.{_-_}
 use lib.ListN.{length}
 use native.Mathlib.Omega.{arith}
 use Rattle.kernel.proofs.Holding.{Copying, copying-none, copying-more, copied}
-use borrow.Author.Needs.{needs}
 use Rattle.kernel.proofs.signatures.put_row.Statement.{statement}
 use Rattle.kernel.proofs.signatures.put_row.Tie as tie
 use Rattle.kernel.proofs.signatures.put_row.Reads as reads

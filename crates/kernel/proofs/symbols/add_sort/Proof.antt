@@ -1,8 +1,8 @@
-use mathlib.Core.Path.{_≡_, refl, sym, ap, _∙_}
+use mathlib.Core.Path.{refl}
 use native.Mathlib.Omega.{arith}
 use Rattle.rules.specs.Laws.Declaring.{add-sort-unnamed}
-use Rattle.kernel.proofs.Spellings.{Proper, proper-here, proper-nowhere}
-use Rattle.kernel.proofs.Holding.{sorts-rows, sorts-few, sort-fits, sort-twice, sort-full, sort-stored}
+use Rattle.kernel.proofs.Spellings.{proper-here, proper-nowhere}
+use Rattle.kernel.proofs.Holding.{sorts-rows, sort-fits, sort-twice, sort-full, sort-stored}
 use borrow.Author.Needs.{needs}
 use Rattle.kernel.proofs.symbols.add_sort.Statement.{statement}
 use Rattle.kernel.proofs.symbols.add_sort.Tie as tie

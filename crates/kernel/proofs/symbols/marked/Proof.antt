@@ -1,4 +1,4 @@
-use Rattle.kernel.proofs.Spellings.{marked-byte}
+use Rattle.sexp.specs.AtomText.{marked-byte}
 use borrow.Author.Needs.{needs}
 use Rattle.kernel.proofs.symbols.marked.Statement.{statement}
 use Rattle.kernel.proofs.symbols.marked.Tie as tie

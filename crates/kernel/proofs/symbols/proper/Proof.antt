@@ -1,6 +1,7 @@
-use mathlib.Core.Path.{_≡_, refl, sym, ap, _∙_}
+use mathlib.Core.Path.{sym, _∙_}
 use native.Mathlib.Omega.{arith}
-use Rattle.kernel.proofs.Spellings.{atom-inside, proper-marked, proper-name, proper-list}
+use Rattle.sexp.specs.FirstItem.{atom-inside}
+use Rattle.kernel.proofs.Spellings.{proper-marked, proper-name, proper-list}
 use borrow.Author.Needs.{needs}
 use Rattle.kernel.proofs.symbols.proper.Statement.{statement}
 use Rattle.kernel.proofs.symbols.proper.Tie as tie

@@ -1,6 +1,6 @@
-use mathlib.Core.Path.{_≡_, refl, sym, ap, _∙_}
 use native.Mathlib.Omega.{arith}
-use Rattle.kernel.proofs.Spellings.{Proper, proper-found, proper-missing, sort-unnamed, sort-found, sort-missing, found-inside}
+use Rattle.kernel.proofs.Spellings.{proper-found, proper-missing, sort-unnamed, sort-found, sort-missing}
+use Rattle.sexp.specs.FoundLaws.{found-inside}
 use borrow.Author.Needs.{needs}
 use Rattle.kernel.proofs.symbols.sort.Statement.{statement}
 use Rattle.kernel.proofs.symbols.sort.Tie as tie

@@ -1,17 +1,16 @@
-use mathlib.Core.Path.{_≡_, refl, sym, ap, _∙_, subst}
+use mathlib.Core.Path.{refl, sym, _∙_, subst}
 use Prim.Native.Nat.{_+_, _-_, _*_}
 use native.Mathlib.Omega.{arith}
 use lib.ListN.{length, take, drop}
 use denote.Ref.{now}
-use Rattle.rules.specs.TheoryTables.{prefix, prefixes}
+use Rattle.rules.specs.TheoryTables.{prefix}
 use Rattle.rules.specs.Declare.{pattern}
 use Rattle.rules.specs.Laws.PatternSteps.{worded}
-use Rattle.sexp.specs.WalkLaws.{walk-start, walk-list}
+use Rattle.sexp.specs.WalkLaws.{walk-start, walk-list, part-shorter}
 use Rattle.kernel.specs.Reading.{PatternRead}
 use Rattle.kernel.proofs.Holding.{input-place, input-cell}
-use Rattle.kernel.proofs.Firsts.{First, first-of, first-item, rest-shorter}
-use Rattle.kernel.proofs.Opens.{atom-first}
-use Rattle.kernel.proofs.Trees.{symbolic, list-read, opened-reads, opened-placed, list-stopped, list-opened, arguments-none, placed-inside, placed-next, arguments-stopped, arguments-read, written-of, holds-first, some-list, inner-shorter, cons-first, arguing-inner, arguing-rest}
+use Rattle.sexp.specs.FirstItem.{first-of, first-item, rest-shorter, atom-first, holds-first, some-list, cons-first}
+use Rattle.kernel.proofs.Trees.{symbolic, list-read, opened-reads, opened-placed, list-stopped, list-opened, arguments-none, placed-inside, placed-next, arguments-stopped, arguments-read, written-of, arguing-inner, arguing-rest}
 use borrow.Author.Needs.{needs}
 use Prim.Native.Nat.{ℕ, _<_}
 use borrow.Fn.Kinds.{In}
@@ -358,7 +357,7 @@ term-arguments-requires : (t : ℕ) → term-lts.Need-arguments-requires (
   arguments-below t,
   arguments.Post,
 ) (term-at t) term.Post
-term-arguments-requires t c κs = (omega (arith, rest-shorter (take ((c .before .before .before .before .before .before .before .before .before .before .before .before .a) .given .0 .1 .0 - (c .before .before .before .before .before .before .before .before .before .before .before .before .a) .given .0 .0) (drop ((c .before .before .before .before .before .before .before .before .before .before .before .before .a) .given .0 .0) ((c .before .before .before .before .before .before .before .before .before .before .before .before .before .before .before .before .before .before .before .before .before .args) .cells .now))) 1 (omega arith) ((list-opened ((c .before .before .before .before .before .before .before .before .before .before .before .before .before .before .before .before .before .before .before .before .before .args) .text .now) (take ((c .before .before .before .before .before .before .before .before .before .before .before .before .a) .given .0 .1 .0 - (c .before .before .before .before .before .before .before .before .before .before .before .before .a) .given .0 .0) (drop ((c .before .before .before .before .before .before .before .before .before .before .before .before .a) .given .0 .0) ((c .before .before .before .before .before .before .before .before .before .before .before .before .before .before .before .before .before .before .before .before .before .args) .cells .now))) ((c .before .before .before .before .before .before .before .before .before .before .before .before .before .before .before .before .before .before .before .before .before .args) .patterns .now) ((c .before .before .before .before .before .before .before .before .open-term) .last .1 .1 .1 .1 .1 .0) ((c .before .before .before .before .before .before .before .before .before .before .before .before .before .before .before .before .before .before .before .before .before .args) .used) (symbolic ((c .before .before .before .before .before .before .before .before .before .before .before .before .before .before .before .before .before .before .before .before .before .pre) .1 .0 .held .0)) ((c .before .before .before .before .before .before .before .before .before .before .before .before .before .before .before .before .before .before .before .before .before .pre) .1 .0 .so-far) _ _ ((c .before .before .before .before .before .before .before .before .open-term) .result) ((c .before .before .before .before .before .before .before .before .open-term) .ensures (symbolic ((c .before .before .before .before .before .before .before .before .before .before .before .before .before .before .before .before .before .before .before .before .before .pre) .1 .0 .held .0)) ((c .before .before .before .before .before .before .before .before .before .before .before .before .before .before .before .before .before .before .before .before .before .pre) .1 .0 .so-far) _ _ ((c .before .before .before .before .before .before .before .before .before .before .before .before .before .before .before .before .before .before .before .before .before .pre) .1 .0 .held .1) ((c .before .before .before .before .before .before .before .before .before .before .before .before .before .before .before .before .before .before .before .before .before .pre) .1 .0 .reads .words) ((some-list ((c .before .before .before .before .before .before .before .before .before .before .before .before .before .before .before .before .before .before .before .before .before .pre) .1 .0 .holds) (λ z. omega (arith, z, (c .before .before .before .before .before .before .before .before .before .before .before .before .before .before .before .before .before .before .before .before .before .pre) .1 .1 .0)) ((c .before .before .before .before .before .before .before .before .before .before .before .before .before .before .item-at) .ensures) ((c .before .before .before .before .before .before .before .before .before .before .before .before .a) .given .1)) .1 .holds)) ((c .before .before .before .before .h) .given .1)) .some), inner-shorter ((some-list ((c .before .before .before .before .before .before .before .before .before .before .before .before .before .before .before .before .before .before .before .before .before .pre) .1 .0 .holds) (λ z. omega (arith, z, (c .before .before .before .before .before .before .before .before .before .before .before .before .before .before .before .before .before .before .before .before .before .pre) .1 .1 .0)) ((c .before .before .before .before .before .before .before .before .before .before .before .before .before .before .item-at) .ensures) ((c .before .before .before .before .before .before .before .before .before .before .before .before .a) .given .1)) .1), (c .before .before .before .before .before .before .before .before .before .before .before .before .before .before .before .before .before .before .before .before .before .pre) .0), arguing-inner (list-opened ((c .before .before .before .before .before .before .before .before .before .before .before .before .before .before .before .before .before .before .before .before .before .args) .text .now) (take ((c .before .before .before .before .before .before .before .before .before .before .before .before .a) .given .0 .1 .0 - (c .before .before .before .before .before .before .before .before .before .before .before .before .a) .given .0 .0) (drop ((c .before .before .before .before .before .before .before .before .before .before .before .before .a) .given .0 .0) ((c .before .before .before .before .before .before .before .before .before .before .before .before .before .before .before .before .before .before .before .before .before .args) .cells .now))) ((c .before .before .before .before .before .before .before .before .before .before .before .before .before .before .before .before .before .before .before .before .before .args) .patterns .now) ((c .before .before .before .before .before .before .before .before .open-term) .last .1 .1 .1 .1 .1 .0) ((c .before .before .before .before .before .before .before .before .before .before .before .before .before .before .before .before .before .before .before .before .before .args) .used) (symbolic ((c .before .before .before .before .before .before .before .before .before .before .before .before .before .before .before .before .before .before .before .before .before .pre) .1 .0 .held .0)) ((c .before .before .before .before .before .before .before .before .before .before .before .before .before .before .before .before .before .before .before .before .before .pre) .1 .0 .so-far) _ _ ((c .before .before .before .before .before .before .before .before .open-term) .result) ((c .before .before .before .before .before .before .before .before .open-term) .ensures (symbolic ((c .before .before .before .before .before .before .before .before .before .before .before .before .before .before .before .before .before .before .before .before .before .pre) .1 .0 .held .0)) ((c .before .before .before .before .before .before .before .before .before .before .before .before .before .before .before .before .before .before .before .before .before .pre) .1 .0 .so-far) _ _ ((c .before .before .before .before .before .before .before .before .before .before .before .before .before .before .before .before .before .before .before .before .before .pre) .1 .0 .held .1) ((c .before .before .before .before .before .before .before .before .before .before .before .before .before .before .before .before .before .before .before .before .before .pre) .1 .0 .reads .words) ((some-list ((c .before .before .before .before .before .before .before .before .before .before .before .before .before .before .before .before .before .before .before .before .before .pre) .1 .0 .holds) (λ z. omega (arith, z, (c .before .before .before .before .before .before .before .before .before .before .before .before .before .before .before .before .before .before .before .before .before .pre) .1 .1 .0)) ((c .before .before .before .before .before .before .before .before .before .before .before .before .before .before .item-at) .ensures) ((c .before .before .before .before .before .before .before .before .before .before .before .before .a) .given .1)) .1 .holds)) ((c .before .before .before .before .h) .given .1)) ((c .before .before .before .before .before .before .before .before .before .before .before .before .before .before .before .before .before .before .before .before .before .pre) .1 .0 .held .1) ((c .before .before .before .before .before .before .before .before .before .before .before .before .before .before .before .before .before .before .before .before .before .pre) .1 .0 .reads) ((c .before .before .before .before .before .before .before .before .before .before .before .before .before .before .before .before .before .before .before .before .before .pre) .1 .0 .short) ((c .before .before .before .before .before .before .before .before .before .before .before .before .before .before .before .before .before .before .before .before .before .pre) .1 .0 .long))
+term-arguments-requires t c κs = (omega (arith, rest-shorter (take ((c .before .before .before .before .before .before .before .before .before .before .before .before .a) .given .0 .1 .0 - (c .before .before .before .before .before .before .before .before .before .before .before .before .a) .given .0 .0) (drop ((c .before .before .before .before .before .before .before .before .before .before .before .before .a) .given .0 .0) ((c .before .before .before .before .before .before .before .before .before .before .before .before .before .before .before .before .before .before .before .before .before .args) .cells .now))) 1 (omega arith) ((list-opened ((c .before .before .before .before .before .before .before .before .before .before .before .before .before .before .before .before .before .before .before .before .before .args) .text .now) (take ((c .before .before .before .before .before .before .before .before .before .before .before .before .a) .given .0 .1 .0 - (c .before .before .before .before .before .before .before .before .before .before .before .before .a) .given .0 .0) (drop ((c .before .before .before .before .before .before .before .before .before .before .before .before .a) .given .0 .0) ((c .before .before .before .before .before .before .before .before .before .before .before .before .before .before .before .before .before .before .before .before .before .args) .cells .now))) ((c .before .before .before .before .before .before .before .before .before .before .before .before .before .before .before .before .before .before .before .before .before .args) .patterns .now) ((c .before .before .before .before .before .before .before .before .open-term) .last .1 .1 .1 .1 .1 .0) ((c .before .before .before .before .before .before .before .before .before .before .before .before .before .before .before .before .before .before .before .before .before .args) .used) (symbolic ((c .before .before .before .before .before .before .before .before .before .before .before .before .before .before .before .before .before .before .before .before .before .pre) .1 .0 .held .0)) ((c .before .before .before .before .before .before .before .before .before .before .before .before .before .before .before .before .before .before .before .before .before .pre) .1 .0 .so-far) _ _ ((c .before .before .before .before .before .before .before .before .open-term) .result) ((c .before .before .before .before .before .before .before .before .open-term) .ensures (symbolic ((c .before .before .before .before .before .before .before .before .before .before .before .before .before .before .before .before .before .before .before .before .before .pre) .1 .0 .held .0)) ((c .before .before .before .before .before .before .before .before .before .before .before .before .before .before .before .before .before .before .before .before .before .pre) .1 .0 .so-far) _ _ ((c .before .before .before .before .before .before .before .before .before .before .before .before .before .before .before .before .before .before .before .before .before .pre) .1 .0 .held .1) ((c .before .before .before .before .before .before .before .before .before .before .before .before .before .before .before .before .before .before .before .before .before .pre) .1 .0 .reads .words) ((some-list ((c .before .before .before .before .before .before .before .before .before .before .before .before .before .before .before .before .before .before .before .before .before .pre) .1 .0 .holds) (λ z. omega (arith, z, (c .before .before .before .before .before .before .before .before .before .before .before .before .before .before .before .before .before .before .before .before .before .pre) .1 .1 .0)) ((c .before .before .before .before .before .before .before .before .before .before .before .before .before .before .item-at) .ensures) ((c .before .before .before .before .before .before .before .before .before .before .before .before .a) .given .1)) .1 .holds)) ((c .before .before .before .before .h) .given .1)) .some), part-shorter ((some-list ((c .before .before .before .before .before .before .before .before .before .before .before .before .before .before .before .before .before .before .before .before .before .pre) .1 .0 .holds) (λ z. omega (arith, z, (c .before .before .before .before .before .before .before .before .before .before .before .before .before .before .before .before .before .before .before .before .before .pre) .1 .1 .0)) ((c .before .before .before .before .before .before .before .before .before .before .before .before .before .before .item-at) .ensures) ((c .before .before .before .before .before .before .before .before .before .before .before .before .a) .given .1)) .1), (c .before .before .before .before .before .before .before .before .before .before .before .before .before .before .before .before .before .before .before .before .before .pre) .0), arguing-inner (list-opened ((c .before .before .before .before .before .before .before .before .before .before .before .before .before .before .before .before .before .before .before .before .before .args) .text .now) (take ((c .before .before .before .before .before .before .before .before .before .before .before .before .a) .given .0 .1 .0 - (c .before .before .before .before .before .before .before .before .before .before .before .before .a) .given .0 .0) (drop ((c .before .before .before .before .before .before .before .before .before .before .before .before .a) .given .0 .0) ((c .before .before .before .before .before .before .before .before .before .before .before .before .before .before .before .before .before .before .before .before .before .args) .cells .now))) ((c .before .before .before .before .before .before .before .before .before .before .before .before .before .before .before .before .before .before .before .before .before .args) .patterns .now) ((c .before .before .before .before .before .before .before .before .open-term) .last .1 .1 .1 .1 .1 .0) ((c .before .before .before .before .before .before .before .before .before .before .before .before .before .before .before .before .before .before .before .before .before .args) .used) (symbolic ((c .before .before .before .before .before .before .before .before .before .before .before .before .before .before .before .before .before .before .before .before .before .pre) .1 .0 .held .0)) ((c .before .before .before .before .before .before .before .before .before .before .before .before .before .before .before .before .before .before .before .before .before .pre) .1 .0 .so-far) _ _ ((c .before .before .before .before .before .before .before .before .open-term) .result) ((c .before .before .before .before .before .before .before .before .open-term) .ensures (symbolic ((c .before .before .before .before .before .before .before .before .before .before .before .before .before .before .before .before .before .before .before .before .before .pre) .1 .0 .held .0)) ((c .before .before .before .before .before .before .before .before .before .before .before .before .before .before .before .before .before .before .before .before .before .pre) .1 .0 .so-far) _ _ ((c .before .before .before .before .before .before .before .before .before .before .before .before .before .before .before .before .before .before .before .before .before .pre) .1 .0 .held .1) ((c .before .before .before .before .before .before .before .before .before .before .before .before .before .before .before .before .before .before .before .before .before .pre) .1 .0 .reads .words) ((some-list ((c .before .before .before .before .before .before .before .before .before .before .before .before .before .before .before .before .before .before .before .before .before .pre) .1 .0 .holds) (λ z. omega (arith, z, (c .before .before .before .before .before .before .before .before .before .before .before .before .before .before .before .before .before .before .before .before .before .pre) .1 .1 .0)) ((c .before .before .before .before .before .before .before .before .before .before .before .before .before .before .item-at) .ensures) ((c .before .before .before .before .before .before .before .before .before .before .before .before .a) .given .1)) .1 .holds)) ((c .before .before .before .before .h) .given .1)) ((c .before .before .before .before .before .before .before .before .before .before .before .before .before .before .before .before .before .before .before .before .before .pre) .1 .0 .held .1) ((c .before .before .before .before .before .before .before .before .before .before .before .before .before .before .before .before .before .before .before .before .before .pre) .1 .0 .reads) ((c .before .before .before .before .before .before .before .before .before .before .before .before .before .before .before .before .before .before .before .before .before .pre) .1 .0 .short) ((c .before .before .before .before .before .before .before .before .before .before .before .before .before .before .before .before .before .before .before .before .before .pre) .1 .0 .long))
 
 -- src/terms.rt:68:1
 term-same-length-2 : (t : ℕ) → term-lts.Need-same-length-2 (

@@ -1,6 +1,4 @@
-use mathlib.Core.Path.{_≡_, refl, sym, ap, _∙_, subst}
 use native.Mathlib.Omega.{arith}
-use lib.ListN.{length, take, drop}
 use Rattle.rules.specs.Laws.PatternSteps.{worded}
 use Rattle.kernel.proofs.Trees.{symbolic, list-read, opened-reads, opened-placed, list-stopped, list-opened, arguing-inner}
 use borrow.Author.Needs.{needs}

@@ -1,10 +1,11 @@
-use mathlib.Core.Path.{_≡_, refl, sym, ap, _∙_}
-use Prim.Native.Nat.{ℕ, _+_, _-_, _*_}
+use Prim.Native.Nat.{_+_, _*_}
 use mathlib.Core.Bool.{true}
 use native.Mathlib.Omega.{arith}
 use Rattle.kernel.proofs.Holding.{symbols-rows}
-use Rattle.kernel.proofs.Words.{put-yes, put-no, atom-span, head-row}
-use Rattle.kernel.proofs.Opens.{atom-first, list-first, judgment-empty, judgment-headless, judgment-unknown, judgment-count, judgment-opened, judgment-full}
+use Rattle.kernel.proofs.Words.{put-yes, put-no, head-row}
+use Rattle.sexp.specs.AtomText.{atom-span}
+use Rattle.kernel.proofs.Opens.{judgment-empty, judgment-headless, judgment-unknown, judgment-count, judgment-opened, judgment-full}
+use Rattle.sexp.specs.FirstItem.{atom-first, list-first}
 use borrow.Author.Needs.{needs}
 use Rattle.kernel.proofs.terms.open_judgment.Statement.{statement}
 use Rattle.kernel.proofs.terms.open_judgment.Tie as tie

@@ -1,6 +1,5 @@
-use mathlib.Core.Path.{_≡_, refl, sym, ap, _∙_}
-use native.Mathlib.Omega.{arith}
-use Rattle.kernel.proofs.Opens.{atom-first, list-first, term-empty, term-headless, term-lone, term-opened}
+use Rattle.kernel.proofs.Opens.{term-empty, term-headless, term-lone, term-opened}
+use Rattle.sexp.specs.FirstItem.{atom-first, list-first}
 use borrow.Author.Needs.{needs}
 use Rattle.kernel.proofs.terms.open_term.Statement.{statement}
 use Rattle.kernel.proofs.terms.open_term.Tie as tie
