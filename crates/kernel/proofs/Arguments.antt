@@ -29,7 +29,7 @@ use Rattle.sexp.specs.declared.names.Found.the-variants.{At, Missing}
 use Rattle.kernel.specs.declared.symbols.Added.{Added}
 use Rattle.kernel.specs.declared.symbols.Added.the-variants.{Ok, No}
 use Rattle.sexp.specs.FoundLaws.{found-at, found-missing}
-use Rattle.kernel.proofs.Holding.{sorts-rows, sorts-few}
+use Rattle.kernel.specs.SignatureRows.{sorts-rows, sorts-few}
 use Rattle.sexp.specs.FirstItem.{First, none-left}
 
 -- what `sort` ensures

@@ -17,7 +17,7 @@ use Rattle.kernel.specs.HeldRules.{RulesHeld}
 use Rattle.kernel.specs.Readers.{KnownRule, KnownWord, argumentsBehind, WordsAt, FormedRules, KnownFormedRule, conclusionAt}
 use Rattle.kernel.specs.Entries.{known-symbol, known-rule}
 use Rattle.kernel.specs.declared.rule_readers.Span.{Span}
-use Rattle.kernel.proofs.RuleRows.{words-here}
+use Rattle.kernel.specs.RuleRows.{words-here}
 use Rattle.kernel.proofs.RuleStore.{count-few}
 
 -- Patterns that fit their symbols ------------------------------------------------------------------------------------------------

@@ -17,7 +17,7 @@ use Rattle.sexp.specs.NameRows.{foundOf}
 use Rattle.kernel.specs.Readers.{wordsBefore, conclusionAt, FormedRules, SomeFormedRules, KnownFormedRule}
 use Rattle.kernel.specs.Entries.{formed-rule}
 use Rattle.kernel.specs.Listing.{nextRule}
-use Rattle.kernel.proofs.RuleRows.{words-here}
+use Rattle.kernel.specs.RuleRows.{words-here}
 use Rattle.kernel.proofs.Conclusions.{begins}
 use Rattle.sexp.specs.declared.names.Found.the-variants.{At, Missing}
 

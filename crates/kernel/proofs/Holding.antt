@@ -5,22 +5,22 @@ use mathlib.Core.Option.{none as nothing}
 use mathlib.Core.List.{List, [], _∷_, _++_}
 use native.Mathlib.Omega.{arith}
 use native.Mathlib.Numerals.{add-one}
-use lib.ListN.{length, getD, take, drop, set, replicate, length-append, length-set}
+use lib.ListN.{length, getD, take, drop, set, length-append, length-set}
 use lib.Seq.{sets, sets-eq, length-sets, take-at, take-length, paste, paste-zero, paste-suc, length-paste}
 use Rattle.rules.specs.Limits.{LENGTH, SORTS, SYMBOLS, ARGUMENTS}
 use Rattle.rules.specs.Text.{same}
 use Rattle.rules.specs.Find.{first}
-use Rattle.rules.specs.Laws.Find.{next, first-next, getD-front}
+use Rattle.rules.specs.Laws.Find.{next, first-next}
 use Rattle.rules.specs.Out.{refuse}
 use Rattle.rules.specs.Sexp.{Sexp, Sexps, item, count, Name}
-use Rattle.rules.specs.Theory.{Theory, Symbol, noName, noSymbol, sortNamed}
-use Rattle.rules.specs.Laws.Theory.{all-at, all-snoc}
+use Rattle.rules.specs.Theory.{Theory, Symbol, sortNamed}
+use Rattle.rules.specs.Laws.Theory.{all-snoc}
 use Rattle.rules.specs.TheoryTables.{nameCells, rows, symbolRow, inputRow}
-use Rattle.rules.specs.Laws.Row.{rows-snoc, length-rows, row-cell, length-filled, filled-fits}
+use Rattle.rules.specs.Laws.Row.{rows-snoc, length-filled}
 use Rattle.rules.specs.Declare.{addSort, addSymbol}
 use Rattle.rules.specs.Laws.Declaring.{add-sort-known, add-sort-full, add-sort-new, add-symbol-full, add-symbol-new}
-use Rattle.kernel.specs.Named.{SymbolRows}
-use Rattle.sexp.specs.NameRows.{NameIn, NameRows, foundOf}
+use Rattle.sexp.specs.NameRows.{NameIn, foundOf}
+use Rattle.kernel.specs.SignatureRows.{sorts-cells, symbols-cells, inputs-cells}
 use Rattle.kernel.specs.Held.{Front, NameFits, SortsHeld, SortStored, SymbolsHeld, SymbolIs, SymbolStored}
 use Rattle.kernel.proofs.Spellings.{Proper}
 use Rattle.sexp.specs.FoundLaws.{found-at, found-missing}
@@ -44,35 +44,9 @@ pub front-row : {A : Type 0} (f : A → List ℕ) (table : List ℕ) (xs : List 
 front-row f table xs y vs i k e l h =
     front-same (front-write table (rows f xs) vs i k l h) (ap (λ z. rows f xs ++ z) (sym e) ∙ sym (rows-snoc f xs y))
 
-name-cells-two : (n : Name) → length (nameCells n) ≡ 2
-unfolding nameCells
-name-cells-two n = refl
-
 -- Sorts --------------------------------------------------------------------------------------------------------------------------
 
 module _ {text table : List ℕ} {count : ℕ} {ns : List Name} (h : SortsHeld text table count ns) where
-  pub sorts-cells : length (rows nameCells ns) ≡ 2 * count
-  sorts-cells = length-rows nameCells 2 name-cells-two ns ∙ ap (λ k. 2 * k) (h .many)
-
-  sorts-room : 2 * count ≤ length table
-  sorts-room = omega (arith, sorts-cells, ap length (h .front .is), length-append (rows nameCells ns) (h .front .rest))
-
-  pub sorts-few : count ≤ SORTS
-  sorts-few = omega (arith, sorts-room, h .long)
-
-  pub sorts-rows : NameRows text table 2 0 count ns
-  unfolding nameCells
-  sorts-rows =
-      record {
-        many = h .many;
-        row = λ k l. record {
-          inside = omega (arith, sorts-room, l, h .many);
-          start = ap (λ t. getD t (2 * k + 0) 0) (h .front .is) ∙ row-cell nameCells 2 name-cells-two ns (h .front .rest) k 0 (2 * k + 0) noName l (omega arith) refl;
-          end = ap (λ t. getD t (2 * k + 0 + 1) 0) (h .front .is) ∙ row-cell nameCells 2 name-cells-two ns (h .front .rest) k 1 (2 * k + 0 + 1) noName l (omega arith) (omega arith);
-          name = all-at ns k noName (h .names) l;
-        };
-      }
-
   pub sort-fits : (x : Sexp) (s e : ℕ) → Proper text x s e → length text ≤ LENGTH → count < SORTS → NameFits (length table) (2 * count) s e
   sort-fits x s e p t l =
       record { inside = omega (arith, h .long, l); first = omega (arith, p .end, p .high, t); last = omega (arith, p .high, t) }
@@ -85,7 +59,7 @@ module _ {text table : List ℕ} {count : ℕ} {ns : List Name} (h : SortsHeld t
       record {
         many = omega (arith, length-append ns (n ∷ []), h .many);
         long = length-sets table (2 * count) (s ∷ e ∷ []) ∙ h .long;
-        front = front-row nameCells table ns n (s ∷ e ∷ []) (2 * count) (h .front) q sorts-cells (omega (arith, h .long, l));
+        front = front-row nameCells table ns n (s ∷ e ∷ []) (2 * count) (h .front) q (sorts-cells h) (omega (arith, h .long, l));
         names = all-snoc (h .names) k;
       }
 
@@ -153,48 +127,7 @@ front-paste table xs row i f e h =
           ∙ ap (λ l. xs ++ l ++ drop (i + length row) table) (take-length row);
     }
 
-symbol-row-four : (s : Symbol) → length (symbolRow s) ≡ 4
-unfolding symbolRow nameCells
-symbol-row-four s = refl
-
-input-row-long : (s : Symbol) → length (inputRow s) ≡ ARGUMENTS
-unfolding inputRow
-input-row-long s = length-filled ARGUMENTS (s .inputs)
-
 module _ {text symbols inputs : List ℕ} {count : ℕ} {ss : List Symbol} (h : SymbolsHeld text symbols inputs count ss) where
-  symbols-cells : length (rows symbolRow ss) ≡ 4 * count
-  symbols-cells = length-rows symbolRow 4 symbol-row-four ss ∙ ap (λ k. 4 * k) (h .many)
-
-  inputs-cells : length (rows inputRow ss) ≡ ARGUMENTS * count
-  inputs-cells = length-rows inputRow ARGUMENTS input-row-long ss ∙ ap (λ k. ARGUMENTS * k) (h .many)
-
-  symbols-room : 4 * count ≤ length symbols
-  symbols-room = omega (arith, symbols-cells, ap length (h .front .is), length-append (rows symbolRow ss) (h .front .rest))
-
-  pub symbols-few : count ≤ SYMBOLS
-  symbols-few = omega (arith, symbols-room, h .long)
-
-  symbol-cell : (k j i : ℕ) → k < length ss → j < 4 → i ≡ 4 * k + j → getD symbols i 0 ≡ getD (symbolRow (getD ss k noSymbol)) j 0
-  symbol-cell k j i l m e =
-      ap (λ t. getD t i 0) (h .front .is) ∙ row-cell symbolRow 4 symbol-row-four ss (h .front .rest) k j i noSymbol l m e
-
-  pub symbols-rows : SymbolRows text symbols count ss
-  unfolding symbolRow nameCells
-  symbols-rows =
-      record {
-        many = h .many;
-        row = λ k l. record {
-          output = symbol-cell k 0 (4 * k) l (omega arith) (omega arith);
-          arity = symbol-cell k 1 (4 * k + 1) l (omega arith) refl;
-          name = record {
-            inside = omega (arith, symbols-room, l, h .many);
-            start = symbol-cell k 2 (4 * k + 2) l (omega arith) refl;
-            end = symbol-cell k 3 (4 * k + 2 + 1) l (omega arith) (omega arith);
-            name = all-at ss k noSymbol (h .names) l;
-          };
-        };
-      }
-
   module _ (s : Symbol) (output arity start end : ℕ) (row : List ℕ) (is : SymbolIs text s output arity start end row) (l : count < SYMBOLS) where
     row-is : symbolRow s ≡ output ∷ arity ∷ start ∷ end ∷ []
     unfolding symbolRow nameCells
@@ -216,8 +149,8 @@ module _ {text symbols inputs : List ℕ} {count : ℕ} {ss : List Symbol} (h : 
           long = ap length (sym e) ∙ length-sets symbols (4 * count) (output ∷ arity ∷ start ∷ end ∷ []) ∙ h .long;
           longs = length-paste inputs (16 * count) row (length row) (omega (arith, lr, h .longs, l)) (omega arith) ∙ h .longs;
           front = subst (λ t. Front t (rows symbolRow (ss ++ (s ∷ [])))) e
-              (front-row symbolRow symbols ss s (output ∷ arity ∷ start ∷ end ∷ []) (4 * count) (h .front) row-is symbols-cells (omega (arith, h .long, l)));
-          fronts = front-same (front-paste inputs (rows inputRow ss) row (16 * count) (h .fronts) inputs-cells (omega (arith, lr, h .longs, l)))
+              (front-row symbolRow symbols ss s (output ∷ arity ∷ start ∷ end ∷ []) (4 * count) (h .front) row-is (symbols-cells h) (omega (arith, h .long, l)));
+          fronts = front-same (front-paste inputs (rows inputRow ss) row (16 * count) (h .fronts) (inputs-cells h) (omega (arith, lr, h .longs, l)))
               (ap (λ z. rows inputRow ss ++ z) (sym (is .cells)) ∙ sym (rows-snoc inputRow ss s));
           names = all-snoc (h .names) (is .named);
           few = all-snoc (h .few) (is .few);
@@ -233,18 +166,3 @@ pub symbol-stored : {text symbols inputs : List ℕ} {count : ℕ} (T : Theory) 
     (paste inputs (16 * count) row (length row)) T (addSymbol s T) (count + 1)
 symbol-stored T s h output arity start end row is l =
     record { symbol = s; is = add-symbol-new T s (omega (arith, l, h .many)); held = symbols-more h s output arity start end row is l }
-
--- an argument's sort
-module _ {text symbols inputs : List ℕ} {count : ℕ} {ss : List Symbol} (h : SymbolsHeld text symbols inputs count ss) (c k : ℕ) (l : c < length ss)
-    (m : k < length (getD ss c noSymbol .inputs)) where
-  pub input-place : ARGUMENTS * c + k < length inputs
-  input-place = omega (arith, all-at ss c noSymbol (h .few) l, m, h .longs, symbols-few h, h .many, l)
-
-  pub input-cell : getD inputs (ARGUMENTS * c + k) 0 ≡ getD (getD ss c noSymbol .inputs) k 0
-  unfolding inputRow
-  input-cell =
-      let few = all-at ss c noSymbol (h .few) l in
-      ap (λ t. getD t (ARGUMENTS * c + k) 0) (h .fronts .is)
-      ∙ row-cell inputRow ARGUMENTS input-row-long ss (h .fronts .rest) c k (ARGUMENTS * c + k) noSymbol l (omega (arith, few, m)) refl
-      ∙ ap (λ t. getD t k 0) (filled-fits ARGUMENTS (getD ss c noSymbol .inputs) few)
-      ∙ getD-front (getD ss c noSymbol .inputs) (replicate (ARGUMENTS - length (getD ss c noSymbol .inputs)) 0) k 0 m

@@ -14,7 +14,7 @@ use Rattle.rules.specs.Laws.Prefix.{words-counted}
 use Rattle.kernel.specs.Held.{Front}
 use Rattle.kernel.specs.Parsed.{Tables, tables, TheoryHeld, Roomy, Exact, Within, zeroFrom, wiped, countsOf, laidExactly, laid}
 use Rattle.kernel.specs.declared.parse.Counts.{Counts}
-use Rattle.kernel.proofs.RuleRows.{length-rule-cells, rule-var-row-long}
+use Rattle.kernel.specs.RuleRows.{length-rule-cells, rule-var-row-long}
 
 -- one table: the cells that are used, and how many
 module _ {table xs : List ℕ} (f : Front table xs) {k : ℕ} (e : length xs ≡ k) where
@@ -119,7 +119,8 @@ module _ {text : List ℕ} {t : Tables} (T : Theory) (h : TheoryHeld text t (cou
           fronts = filled-front (3 * RULEVARS * RULES) (rows ruleVarRow (T .rules)) (omega (arith, within-of .rule-vars, var-cells (T .rules), h .rules .longs));
           written = filled-front PATTERNS (rows patternRow (T .rules)) (omega (arith, within-of .patterns, words-counted (T .rules), h .rules .room));
           names = h .rules .names;
-          sorted = h .rules .sorted;
+          vars-few = h .rules .vars-few;
+          vars-named = h .rules .vars-named;
         };
       }
 

@@ -26,7 +26,7 @@ use Rattle.sexp.specs.declared.names.Found.the-variants.{At, Missing}
 use Rattle.kernel.specs.declared.patterns.Made.{Made}
 use Rattle.kernel.specs.declared.patterns.Made.the-variants.{Ok, No}
 use Rattle.sexp.specs.FoundLaws.{found-at, found-missing}
-use Rattle.kernel.proofs.Holding.{symbols-rows}
+use Rattle.kernel.specs.SignatureRows.{symbols-rows}
 use Rattle.sexp.specs.FirstItem.{AtomFirst, ListFirst, count-first, none-left}
 use Rattle.kernel.proofs.Words.{words-more}
 use Rattle.sexp.specs.AtomText.{atom-span}

@@ -1,26 +1,27 @@
 -- The entries of the tables of sorts and symbols, as the readers read them. Assumes nothing.
 use mathlib.Core.Path.{_≡_, refl, sym, ap, _∙_}
-use Prim.Native.Nat.{ℕ, _+_, _*_, _<_, _≤_}
+use Prim.Native.Nat.{ℕ, suc, _+_, _*_, _<_, _≤_}
 use mathlib.Core.Bool.{true, false}
-use mathlib.Core.List.{List}
+use mathlib.Core.Option.{some}
+use mathlib.Core.List.{List, []}
 use native.Mathlib.Omega.{arith}
 use native.Mathlib.Numerals.{add-one}
 use lib.Dec.{eqb}
-use lib.ListN.{length, getD}
+use lib.ListN.{length, drop, length-drop}
 use borrow.Author.Tests.{eq-eqb, ne-eqb}
 use Rattle.rules.specs.Limits.{SORTS, ARGUMENTS}
 use Rattle.rules.specs.Text.{same}
-use Rattle.rules.specs.Find.{first}
-use Rattle.rules.specs.Laws.Find.{next, first-next, first-here, first-later, first-over}
+use Rattle.rules.specs.Find.{first, every}
+use Rattle.rules.specs.Laws.Find.{next, first-next, first-some, first-here, first-later, first-over}
 use Rattle.rules.specs.Sexp.{Name}
-use Rattle.rules.specs.Theory.{Theory, Symbol, noSymbol, inputs, output, sortNamed, constructorNamed, predicateNamed}
+use Rattle.rules.specs.Theory.{Theory, Symbol, noSymbol, inputs, output, constructors, sortNamed, constructorNamed, predicateNamed}
 use Rattle.sexp.specs.NameRows.{NameRows, SomeNames, foundOf}
 use Rattle.kernel.specs.Named.{ofKind, SymbolRows, SomeSymbols, called}
 use Rattle.kernel.specs.Held.{SortsHeld, SomeSorts, SymbolsHeld}
 use Rattle.kernel.specs.Readers.{KnownSymbol, KnownInput, NamedSymbols, CountedSymbols}
 use Rattle.kernel.specs.Entries.{known-symbol}
-use Rattle.kernel.specs.Listing.{nextConstructor}
-use Rattle.kernel.proofs.Holding.{sorts-rows, sorts-few, symbols-rows, symbols-few, input-place, input-cell}
+use Rattle.kernel.specs.Listing.{nextConstructor, withRest, every-first}
+use Rattle.kernel.specs.SignatureRows.{sorts-rows, sorts-few, symbols-rows, symbols-few, input-place}
 use Rattle.sexp.specs.FoundLaws.{found-at, found-missing, found-inside}
 use Rattle.sexp.specs.declared.names.Found.{Found}
 use Rattle.sexp.specs.declared.names.Found.the-variants.{At, Missing}
@@ -32,19 +33,6 @@ symbol-place k = omega (arith, k .known, symbols-few (k .held .1), k .held .1 .l
 
 pub argument-place : {inputs : List ℕ} {c k : ℕ} → KnownInput inputs c k → ARGUMENTS * c + k < length inputs
 argument-place {inputs} {c} {k} a = input-place (a .held .1) c k (omega (arith, a .known, a .held .1 .many)) (a .there)
-
-module _ (T : Theory) {text symbols ins : List ℕ} {count : ℕ} (h : SymbolsHeld text symbols ins count (T .symbols)) (c : ℕ) (l : c < count) where
-  pub arity-cell : getD symbols (4 * c + 1) 0 ≡ length (inputs T c)
-  unfolding inputs
-  arity-cell = symbols-rows h .row c (omega (arith, l, h .many)) .arity
-
-  pub output-cell : getD symbols (4 * c) 0 ≡ output T c
-  unfolding output
-  output-cell = symbols-rows h .row c (omega (arith, l, h .many)) .output
-
-  pub argument-cell : (k : ℕ) → k < length (inputs T c) → getD ins (ARGUMENTS * c + k) 0 ≡ getD (inputs T c) k 0
-  unfolding inputs
-  argument-cell k m = input-cell h c k (omega (arith, l, h .many)) m
 
 -- Numbers by name ----------------------------------------------------------------------------------------------------------------
 
@@ -125,3 +113,62 @@ module _ {symbols : List ℕ} {count sort from i : ℕ} (k : Scanning symbols co
   unfolding nextConstructor
   scanning-over l T text ins h =
       ap foundOf (sym (k .same T text ins h ∙ first-over (λ (c : Symbol). eqb (c .output) sort) (T .symbols) i (omega (arith, l, h .many))))
+
+-- How many there are ----------------------------------------------------------------------------------------------------------------
+
+-- so many constructors are before a number
+pub record Counting (symbols : List ℕ) (count sort n from : ℕ) : Type 0 where
+  pub counted : CountedSymbols symbols count
+  pub low : n ≤ from
+  pub high : from ≤ count
+  pub same : (T : Theory) (text inputs : List ℕ) → SymbolsHeld text symbols inputs count (T .symbols) →
+      n + length (every (λ c. eqb (c .output) sort) (drop from (T .symbols)) from) ≡ length (constructors T sort)
+
+pub counting-start : (symbols : List ℕ) (count sort : ℕ) → CountedSymbols symbols count → Counting symbols count sort 0 0
+unfolding constructors
+counting-start symbols count sort s = record { counted = s; low = omega arith; high = omega arith; same = λ T text ins h. omega arith }
+
+module _ {symbols : List ℕ} {count sort n from : ℕ} (k : Counting symbols count sort n from) (r : Found)
+    (a : (T : Theory) (text inputs : List ℕ) → SymbolsHeld text symbols inputs count (T .symbols) → r ≡ foundOf (nextConstructor T sort from)) where
+  module _ (T : Theory) {text ins : List ℕ} (h : SymbolsHeld text symbols ins count (T .symbols)) where
+    left : every (λ c. eqb (c .output) sort) (drop from (T .symbols)) from ≡ withRest (λ c. eqb (c .output) sort) (T .symbols) noSymbol (nextConstructor T sort from)
+    unfolding nextConstructor
+    left = every-first (λ (c : Symbol). eqb (c .output) sort) (T .symbols) noSymbol from
+
+    module _ {i : ℕ} (e : r ≡ At i) where
+      next-is : nextConstructor T sort from ≡ some i
+      next-is = found-at (nextConstructor T sort from) r i (a T text ins h) e
+
+      pub next-inside : i < count
+      unfolding nextConstructor
+      next-inside =
+          let f = first-some (λ (c : Symbol). eqb (c .output) sort) (drop from (T .symbols)) from i noSymbol next-is in
+          omega (arith, f .is, f .inside, length-drop from (T .symbols), h .many)
+
+      pub next-on : from ≤ i
+      unfolding nextConstructor
+      next-on = let f = first-some (λ (c : Symbol). eqb (c .output) sort) (drop from (T .symbols)) from i noSymbol next-is in omega (arith, f .is)
+
+      rest-is : length (every (λ c. eqb (c .output) sort) (drop from (T .symbols)) from) ≡ suc (length (every (λ c. eqb (c .output) sort) (drop (i + 1) (T .symbols)) (i + 1)))
+      unfolding withRest
+      rest-is = ap length (left ∙ ap (withRest (λ (c : Symbol). eqb (c .output) sort) (T .symbols) noSymbol) next-is)
+
+  pub counting-inside : {i : ℕ} → r ≡ At i → (from ≤ i) × (i < count)
+  counting-inside e = let s = k .counted .1 .1 in let T : Theory = record { sorts = []; symbols = s .0; rules = [] } in (next-on T (s .1) e, next-inside T (s .1) e)
+
+  pub counting-on : {i : ℕ} → r ≡ At i → Counting symbols count sort (n + 1) (i + 1)
+  counting-on {i} e =
+      let w = counting-inside e in
+      record {
+        counted = k .counted;
+        low = omega (arith, w .0, k .low);
+        high = omega (arith, w .1);
+        same = λ T text ins h. omega (arith, k .same T text ins h, rest-is T h e);
+      }
+
+  pub counting-over : r ≡ Missing → (T : Theory) (text ins : List ℕ) → SymbolsHeld text symbols ins count (T .symbols) → n ≡ length (constructors T sort)
+  unfolding withRest
+  counting-over e T text ins h =
+      let z : length (every (λ (c : Symbol). eqb (c .output) sort) (drop from (T .symbols)) from) ≡ 0 =
+      ap length (left T h ∙ ap (withRest (λ (c : Symbol). eqb (c .output) sort) (T .symbols) noSymbol) (found-missing (nextConstructor T sort from) r (a T text ins h) e)) in
+      omega (arith, z, k .same T text ins h)

@@ -15,7 +15,7 @@ use Rattle.rules.specs.Laws.Row.{append-assoc, append-nil, rows-snoc, length-ro
 use Rattle.kernel.specs.Held.{Front}
 use Rattle.kernel.specs.HeldRules.{RulesHeld, RuleIs}
 use Rattle.kernel.proofs.Holding.{front-write, front-same, front-paste}
-use Rattle.kernel.proofs.RuleRows.{length-rule-cells, rule-var-row-long}
+use Rattle.kernel.specs.RuleRows.{length-rule-cells, rule-var-row-long}
 
 -- Words --------------------------------------------------------------------------------------------------------------------------
 
@@ -76,7 +76,8 @@ module _ {text rules vars patterns : List ℕ} {count used : ℕ} {rs : List Rul
         fronts = h .fronts;
         written = front-taken after (rows patternRow rs) used (e ∙ words-taken);
         names = h .names;
-        sorted = h .sorted;
+        vars-few = h .vars-few;
+        vars-named = h .vars-named;
       }
 
   module _ {u : Rule} {start end variables premises last : ℕ} {row : List ℕ} (is : RuleIs text patterns u start end variables premises used last row) (l : count < RULES) where
@@ -129,5 +130,6 @@ module _ {text rules vars patterns : List ℕ} {count used : ℕ} {rs : List Rul
               (ap (λ z. rows ruleVarRow rs ++ z) (sym (is .cells)) ∙ sym (rows-snoc ruleVarRow rs u));
           written = front-taken patterns (rows patternRow (rs ++ (u ∷ []))) last words-then;
           names = all-snoc (h .names) (is .named);
-          sorted = all-snoc (h .sorted) (omega (arith, is .many, is .few));
+          vars-few = all-snoc (h .vars-few) (omega (arith, is .many, is .few));
+          vars-named = all-snoc (h .vars-named) (is .vars-named);
         }

@@ -27,11 +27,11 @@ use Rattle.kernel.specs.HeldRules.{schemaCells, Beginning, RulesHeld, So
 use Rattle.kernel.specs.declared.patterns.Made.{Made}
 use Rattle.kernel.specs.declared.patterns.Made.the-variants.{Ok, No}
 use Rattle.kernel.proofs.Spellings.{Proper}
-use Rattle.sexp.specs.FoundLaws.{found-at, found-missing}
-use Rattle.kernel.proofs.Vars.{namesOf, first-name, vars-few, vars-filled}
+use Rattle.sexp.specs.FoundLaws.{found-at, found-missing, namesOf, first-name}
+use Rattle.kernel.proofs.Vars.{vars-few, vars-filled}
 use Rattle.kernel.proofs.Schemas.{written-kept}
 use Rattle.kernel.proofs.Ruling.{begun, ruleOf, rule-stopped, rule-unnamed, rule-twice, rule-full, rule-new, premise-list}
-use Rattle.kernel.proofs.RuleRows.{ruleName, rules-rows}
+use Rattle.kernel.specs.RuleRows.{ruleName, rules-rows}
 use Rattle.kernel.proofs.RuleStore.{rules-kept, count-few}
 
 -- some theory with these symbols and rules
@@ -123,6 +123,7 @@ module _ {text rules vars P table M : List ℕ} {count used variables last : ℕ
             ends = p .end;
             many = w .reads .held .many;
             few = vars-few (w .reads .held);
+            vars-named = w .reads .held .names;
             judgments = counted;
             cells = vars-filled (w .reads .held);
             words = w .words ∙ ap (λ z. z ++ schemaCells (w .tree)) (sym kept);

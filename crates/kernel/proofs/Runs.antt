@@ -89,7 +89,8 @@ held-none text t x =
         fronts = record { rest = t .rule-vars; is = refl };
         written = record { rest = t .patterns; is = refl };
         names = empty;
-        sorted = empty;
+        vars-few = empty;
+        vars-named = empty;
       };
     }
 
@@ -216,7 +217,7 @@ module _ {text w₀ w : List ℕ} {t : Tables} {held : Counts} {forms at : ℕ} 
               few = omega (arith, form .on, g .few);
             }
 
--- The answer of `judge` ------------------------------------------------------------------------------------------------------------
+-- The answer of `parse_exact` ------------------------------------------------------------------------------------------------------------
 
 counts-in : (J : Verdict Theory) → countsIn (judgedOf J) ≡ countsOf (theoryOf J)
 counts-in (done k T) = refl

@@ -1,8 +1,8 @@
 -- A rule's variables in their row: as the look-up reads them, one met again, and a new one. Assumes nothing.
 use mathlib.Core.Path.{_≡_, refl, sym, ap, _∙_, subst}
-use Prim.Native.Nat.{ℕ, zero, suc, _+_, _-_, _*_, _<_, _≤_}
-use mathlib.Core.Bool.{Bool, true, false}
-use mathlib.Core.Option.{Option, some, none as nothing}
+use Prim.Native.Nat.{ℕ, suc, _+_, _-_, _*_, _<_, _≤_}
+use mathlib.Core.Bool.{true, false}
+use mathlib.Core.Option.{some, none as nothing}
 use mathlib.Core.List.{List, [], _∷_, _++_}
 use native.Mathlib.Omega.{arith}
 use native.Mathlib.Numerals.{add-one}
@@ -15,7 +15,7 @@ use Rattle.rules.specs.Text.{same}
 use Rattle.rules.specs.Find.{first}
 use Rattle.rules.specs.Out.{ok, refuse}
 use Rattle.rules.specs.Sexp.{Name}
-use Rattle.rules.specs.Theory.{RuleVar, noName}
+use Rattle.rules.specs.Theory.{RuleVar}
 use Rattle.rules.specs.Laws.Theory.{all-at, all-snoc}
 use Rattle.rules.specs.TheoryTables.{nameCells, rows, varRow, filled}
 use Rattle.rules.specs.Laws.Row.{length-rows, row-cell, filled-fits}
@@ -23,49 +23,16 @@ use Rattle.rules.specs.Declare.{Reading, noRuleVar, metOrNew}
 use Rattle.rules.specs.Laws.PatternSteps.{varNamed, withVar, met-other, met-same, new-full, new-more}
 use Rattle.sexp.specs.NameRows.{NameAt, NameRows, foundOf}
 use Rattle.kernel.specs.Held.{Front, NameFits}
-use Rattle.kernel.specs.Reading.{Spans, VarsHeld, Meeting, Met}
+use Rattle.kernel.specs.Reading.{VarsHeld, Meeting, Met}
+use Rattle.sexp.specs.AtomText.{Spans, spans-part}
 use Rattle.sexp.specs.declared.names.Found.{Found}
 use Rattle.sexp.specs.declared.names.Found.the-variants.{At, Missing}
-use Rattle.sexp.specs.FoundLaws.{found-at, found-missing, found-inside}
+use Rattle.sexp.specs.FoundLaws.{found-at, found-missing, found-inside, namesOf, length-names, name-of, first-name}
+use Rattle.kernel.specs.RuleRows.{varName, var-row-three}
 use Rattle.kernel.proofs.Holding.{front-row}
 use Rattle.kernel.proofs.Arguments.{drop-zeros}
 
--- The names of things in a list -----------------------------------------------------------------------------------------------------
-
-unfoldable pub namesOf : {A : Type 0} → (A → Name) → List A → List Name
-namesOf f [] = []
-namesOf f (x ∷ xs) = f x ∷ namesOf f xs
-
-module _ {A : Type 0} (f : A → Name) where
-  pub length-names : (xs : List A) → length (namesOf f xs) ≡ length xs
-  unfolding namesOf
-  length-names [] = refl
-  length-names (x ∷ xs) = ap suc (length-names xs)
-
-  pub name-of : (xs : List A) (k : ℕ) (d : A) → f d ≡ noName → getD (namesOf f xs) k noName ≡ f (getD xs k d)
-  unfolding namesOf
-  name-of [] k d e = sym e
-  name-of (x ∷ xs) zero d e = refl
-  name-of (x ∷ xs) (suc k) d e = name-of xs k d e
-
-  pub first-name : (xs : List A) (n : List ℕ) (k : ℕ) → first (λ x. same (f x .bytes) n) xs k ≡ first (λ m. same (m .bytes) n) (namesOf f xs) k
-  unfolding namesOf first
-  first-name [] n k = refl
-  first-name (x ∷ xs) n k = go (same (f x .bytes) n) (first-name xs n (suc k))
-    where
-      go : (b : Bool) → first (λ y. same (f y .bytes) n) xs (suc k) ≡ first (λ m. same (m .bytes) n) (namesOf f xs) (suc k) →
-          _≡_ {A = Option ℕ} (elim b [ true ↦ some k | false ↦ first (λ y. same (f y .bytes) n) xs (suc k) ]) (elim b [ true ↦ some k | false ↦ first (λ m. same (m .bytes) n) (namesOf f xs) (suc k) ])
-      go true e = refl
-      go false e = e
-
 -- The row ------------------------------------------------------------------------------------------------------------------------
-
-abbrev pub varName : RuleVar → Name
-varName v = v .name
-
-pub var-row-three : (v : RuleVar) → length (varRow v) ≡ 3
-unfolding varRow nameCells
-var-row-three v = refl
 
 module _ {text table : List ℕ} {count : ℕ} {vs : List RuleVar} (h : VarsHeld text table count vs) where
   vars-cells : length (rows varRow vs) ≡ 3 * count
@@ -155,11 +122,6 @@ var-fits {table = table} {sort = sort} {count = count} m l =
     }
 
 -- The answers of `met_or_new` ------------------------------------------------------------------------------------------------------
-
-pub spans-part : {text : List ℕ} {n : Name} {start end : ℕ} → Spans text n start end → take (end - start) (drop start text) ≡ n .bytes
-spans-part {text} {n} {start} {end} k =
-    let e : end - start ≡ length (n .bytes) = omega (arith, k .ends) in
-    rw (e, sym (k .starts)) (k .named .spelt)
 
 module _ (sort : ℕ) {text table : List ℕ} {count start end : ℕ} (R : Reading) (n : Name) (h : VarsHeld text table count (R .vars)) (k : Spans text n start end) (r : Found)
     (a : (ns : List Name) → NameRows text table 3 1 count ns → r ≡ foundOf (first (λ m. same (m .bytes) (take (end - start) (drop start text))) ns 0)) where

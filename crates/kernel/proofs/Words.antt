@@ -21,17 +21,17 @@ use Rattle.rules.specs.Theory.{Theory, Symbol, noSymbol, inputs, output, constr
 use Rattle.rules.specs.TheoryTables.{prefix}
 use Rattle.rules.specs.Declare.{Reading, word, metOrNew, variable, head, pattern}
 use Rattle.rules.specs.Laws.PatternSteps.{varNamed, worded, word-full, word-more, variable-short, variable-asks, head-unknown, head-sort, head-count, head-asks, pattern-marked, pattern-atom}
-use Rattle.sexp.specs.AtomText.{nameFrom, atom-span, atom-named}
+use Rattle.sexp.specs.AtomText.{nameFrom, atom-span}
 use Rattle.kernel.specs.Named.{called, ofKind, SymbolRows}
 use Rattle.sexp.specs.NameRows.{foundOf}
 use Rattle.kernel.specs.Held.{SymbolsHeld}
-use Rattle.kernel.specs.Reading.{WordPut, Spans, Meeting, Met, MetRead, Reads, Ready, Written, Stopped, PatternRead, Head, HeadRead}
+use Rattle.kernel.specs.Reading.{WordPut, Meeting, Met, MetRead, Reads, Ready, Written, Stopped, PatternRead, Head, HeadRead}
 use Rattle.sexp.specs.declared.names.Found.{Found}
 use Rattle.sexp.specs.declared.names.Found.the-variants.{At, Missing}
 use Rattle.kernel.specs.declared.patterns.Made.{Made}
 use Rattle.kernel.specs.declared.patterns.Made.the-variants.{Ok, No}
 use Rattle.sexp.specs.FoundLaws.{found-at, found-missing}
-use Rattle.kernel.proofs.Holding.{symbols-rows, symbols-few}
+use Rattle.kernel.specs.SignatureRows.{symbols-rows, symbols-few}
 
 -- A word more --------------------------------------------------------------------------------------------------------------------
 
@@ -46,9 +46,6 @@ pub words-more : (P Q : List ℕ) (used cell : ℕ) → used < length P → Q �
 words-more P Q used cell l e = ap (λ (k : ℕ). take k Q) (add-one used) ∙ ap (take (suc used)) e ∙ take-suc-set P used cell l
 
 -- An atom ------------------------------------------------------------------------------------------------------------------------
-
-pub atom-spans : (text : List ℕ) (start end : ℕ) → start < length text → end ≡ start + length (letters (drop start text)) → Spans text (nameFrom text start) start end
-atom-spans text start end l e = record { named = atom-named text start l; starts = refl; ends = sym e }
 
 pub meeting : {text table : List ℕ} {start sort count room : ℕ} (end : ℕ) → Ready text start sort table count room → end ≡ start + length (letters (drop start text)) →
     Meeting text start end sort table count

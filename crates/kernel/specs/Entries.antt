@@ -4,33 +4,40 @@ use mathlib.Core.Path.{_≡_, refl, sym, ap, _∙_}
 use Prim.Native.Nat.{ℕ, zero, suc, _+_, _-_, _<_}
 use mathlib.Core.List.{List, [], _∷_}
 use native.Mathlib.Omega.{arith}
-use lib.ListN.{length, getD, take, drop, length-append}
+use lib.ListN.{length, take, drop, length-append}
 use lib.Seq.{take-append-seam, drop-append-seam, drop-drop, take-take}
-use Rattle.rules.specs.Theory.{Theory, Symbol, Rule, noSymbol, noRule, rule}
+use Rattle.rules.specs.Theory.{Theory, Symbol, Rule, inputs as inputsOf, rule}
 use Rattle.rules.specs.TheoryTables.{prefix, prefixes, patternRow}
 use Rattle.rules.specs.Laws.Theory.{WellFormed}
 use Rattle.kernel.specs.Held.{SymbolsHeld}
 use Rattle.kernel.specs.HeldRules.{RulesHeld}
 use Rattle.kernel.specs.Parsed.{Tables, TheoryHeld}
-use Rattle.kernel.specs.Readers.{KnownSymbol, KnownInput, KnownRule, KnownVar, WordsAt, FormedRules, KnownFormedRule, conclusionAt}
+use Rattle.kernel.specs.Readers.{KnownSymbol, KnownInput, KnownRule, KnownVar, NamedVars, WordsAt, FormedRules, KnownFormedRule, conclusionAt}
 use Rattle.kernel.specs.declared.parse.Counts.{Counts}
 use Rattle.kernel.specs.declared.rule_readers.Span.{Span}
 
 -- Entries that are there ---------------------------------------------------------------------------------------------------------
 
-module _ {text symbols inputs : List ℕ} {count : ℕ} {ss : List Symbol} (h : SymbolsHeld text symbols inputs count ss) {c : ℕ} (l : c < count) where
-  pub known-symbol : KnownSymbol symbols c
-  known-symbol = record { text = text; inputs = inputs; count = count; held = (ss, h); known = l }
+pub known-symbol : {text symbols inputs : List ℕ} {count : ℕ} {ss : List Symbol} → SymbolsHeld text symbols inputs count ss → {c : ℕ} → c < count → KnownSymbol symbols c
+known-symbol {text} {inputs = inputs} {count} {ss} h l = record { text = text; inputs = inputs; count = count; held = (ss, h); known = l }
 
-  pub known-input : {k : ℕ} → k < length (getD ss c noSymbol .inputs) → KnownInput inputs c k
-  known-input m = record { text = text; symbols = symbols; count = count; held = (ss, h); known = l; there = m }
+pub known-input : (T : Theory) {text symbols inputs : List ℕ} {count : ℕ} → SymbolsHeld text symbols inputs count (T .symbols) → {c : ℕ} → c < count → {k : ℕ} →
+    k < length (inputsOf T c) → KnownInput inputs c k
+unfolding inputsOf
+known-input T {text} {symbols} {count = count} h l m = record { text = text; symbols = symbols; count = count; held = (T .symbols, h); known = l; there = m }
 
-module _ {text rules vars patterns : List ℕ} {count words : ℕ} {rs : List Rule} (h : RulesHeld text rules vars patterns count words rs) {r : ℕ} (l : r < count) where
-  pub known-rule : KnownRule rules r
-  known-rule = record { text = text; vars = vars; patterns = patterns; count = count; words = words; held = (rs, h); known = l }
+pub known-rule : {text rules vars patterns : List ℕ} {count words : ℕ} {rs : List Rule} → RulesHeld text rules vars patterns count words rs → {r : ℕ} → r < count → KnownRule rules r
+known-rule {text} {vars = vars} {patterns} {count} {words} {rs} h l =
+    record { text = text; vars = vars; patterns = patterns; count = count; words = words; held = (rs, h); known = l }
 
-  pub known-var : {i : ℕ} → i < length (getD rs r noRule .vars) → KnownVar vars r i
-  known-var m = record { text = text; rules = rules; patterns = patterns; count = count; words = words; held = (rs, h); known = l; there = m }
+module _ (T : Theory) {text rules vars patterns : List ℕ} {count words : ℕ} (h : RulesHeld text rules vars patterns count words (T .rules)) {r : ℕ} (l : r < count) where
+  pub known-var : {i : ℕ} → i < length (rule T r .vars) → KnownVar vars r i
+  unfolding rule
+  known-var m = record { text = text; rules = rules; patterns = patterns; count = count; words = words; held = (T .rules, h); known = l; there = m }
+
+  pub named-vars : {many : ℕ} → many ≡ length (rule T r .vars) → NamedVars text vars r many
+  unfolding rule
+  named-vars e = record { rules = rules; patterns = patterns; count = count; words = words; held = (T .rules, h); known = l; all = e }
 
 pub formed-rules : {text : List ℕ} {t : Tables} {n : Counts} {T : Theory} → TheoryHeld text t n T → WellFormed T →
     FormedRules (t .symbols) (t .rules) (t .patterns) (n .rules) T

@@ -48,7 +48,8 @@ pub record RulesHeld (text rules vars patterns : List ℕ) (count words : ℕ) (
   pub fronts : Front vars (ruleVarCells rs)
   pub written : Front patterns (patternCells rs)
   pub names : All (λ r. NameIn text (r .name)) rs
-  pub sorted : All (λ r. length (r .vars) ≤ RULEVARS) rs
+  pub vars-few : All (λ r. length (r .vars) ≤ RULEVARS) rs
+  pub vars-named : All (λ r. All (λ v. NameIn text (v .name)) (r .vars)) rs
 
 abbrev pub SomeRules : List ℕ → List ℕ → List ℕ → List ℕ → ℕ → ℕ → Type 0
 SomeRules text rules vars patterns count words = (rs : List Rule) × RulesHeld text rules vars patterns count words rs
@@ -72,6 +73,7 @@ pub record RuleIs (text patterns : List ℕ) (r : Rule) (start end variables pre
   pub ends : start + length (r .name .bytes) ≡ end
   pub many : length (r .vars) ≡ variables
   pub few : variables ≤ RULEVARS
+  pub vars-named : All (λ v. NameIn text (v .name)) (r .vars)
   pub judgments : countTrees (r .premises) ≡ premises
   pub cells : ruleVarRow r ≡ row
   pub words : take last patterns ≡ take first patterns ++ patternRow r

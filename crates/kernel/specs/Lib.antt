@@ -4,6 +4,8 @@ pub mod Held
 pub mod Reading
 pub mod HeldRules
 pub mod Parsed
+pub mod SignatureRows
 pub mod Readers
+pub mod RuleRows
 pub mod Listing
 pub mod Entries

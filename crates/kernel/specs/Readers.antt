@@ -63,6 +63,16 @@ pub record KnownVar (vars : List ℕ) (r i : ℕ) : Type 0 where
   pub known : r < count
   pub there : i < length (getD (held .0) r noRule .vars)
 
+-- rule r is there, with names in the text, and has so many variables
+pub record NamedVars (text vars : List ℕ) (r many : ℕ) : Type 0 where
+  pub rules : List ℕ
+  pub patterns : List ℕ
+  pub count : ℕ
+  pub words : ℕ
+  pub held : SomeRules text rules vars patterns count words
+  pub known : r < count
+  pub all : many ≡ length (getD (held .0) r noRule .vars)
+
 -- so many rules, with names in the text
 abbrev pub NamedRules : List ℕ → List ℕ → ℕ → Type 0
 NamedRules text rules count = (vars : List ℕ) × (patterns : List ℕ) × (words : ℕ) × SomeRules text rules vars patterns count words

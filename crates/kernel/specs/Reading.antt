@@ -7,7 +7,7 @@ use mathlib.Core.List.{List, [], _∷_, _++_}
 use lib.ListN.{length, getD, take, drop, set, replicate}
 use Rattle.rules.specs.Limits.{LENGTH, RULEVARS, PATTERNS}
 use Rattle.rules.specs.Out.{Out, ok, refuse, then}
-use Rattle.rules.specs.Sexp.{Sexp, Sexps, cons, count, Name}
+use Rattle.rules.specs.Sexp.{Sexp, Sexps, cons, count}
 use Rattle.rules.specs.Tree.{Tree, app}
 use Rattle.rules.specs.Theory.{RuleVar, Theory, Symbol, noSymbol, inputs}
 use Rattle.rules.specs.Laws.Theory.{All}
@@ -31,12 +31,6 @@ WordPut before after used cell true = (used < PATTERNS) × (after ≡ set before
 WordPut before after used cell false = (PATTERNS ≤ used) × (after ≡ before)
 
 -- Variables ----------------------------------------------------------------------------------------------------------------------
-
--- the name stands between two places of the text
-pub record Spans (text : List ℕ) (n : Name) (start end : ℕ) : Type 0 where
-  pub named : NameIn text n
-  pub starts : n .start ≡ start
-  pub ends : start + length (n .bytes) ≡ end
 
 -- so many variables in a row, and zero behind them
 pub record VarsHeld (text table : List ℕ) (count : ℕ) (vs : List RuleVar) : Type 0 where

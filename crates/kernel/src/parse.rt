@@ -158,8 +158,8 @@ fn read_and_declare(
     }
 }
 
-// The tables of a theory, where they have exactly the named lengths.
-fn judge(
+// The tables of a theory, from its text, where they have exactly the named lengths. `cells` is scratch: zero before and after.
+pub fn parse_exact(
     text: &[u8],
     cells: &mut [u32],
     sorts: &mut [u32],
@@ -182,7 +182,7 @@ fn judge(
     r
 }
 
-// The tables of a theory, from its text. `cells` is scratch: zero before and after.
+// The same in tables that may be longer.
 pub fn parse(
     text: &[u8],
     cells: &mut [u32],
@@ -201,7 +201,7 @@ pub fn parse(
     ensures { λ _. ⌜ now (cells .exit) ≡ now (cells .entry) ⌝ }
     ensures { λ _. ⌜ LaidHeld (now (text .entry)) (theoryOf (verdict (now (text .entry)))) ⌝ }
 {
-    judge(
+    parse_exact(
         text,
         cells,
         &mut sorts[..2 * rules::SORTS],

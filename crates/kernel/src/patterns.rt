@@ -10,7 +10,8 @@ ghost use Rattle.rules.specs.Declare.{Reading, metOrNew, variable, head, patter
 ghost use Rattle.rules.specs.Laws.PatternSteps.{varNamed};
 ghost use Rattle.rules.specs.TheoryTables.{prefix};
 ghost use Rattle.kernel.specs.Held.{SymbolsHeld};
-ghost use Rattle.kernel.specs.Reading.{WordFits, WordPut, Spans, VarsHeld, Meeting, MetRead, Reads, Ready, PatternRead, Heading, HeadRead};
+ghost use Rattle.kernel.specs.Reading.{WordFits, WordPut, VarsHeld, Meeting, MetRead, Reads, Ready, PatternRead, Heading, HeadRead};
+ghost use Rattle.sexp.specs.AtomText.{Spans};
 use crate::names::symbol_named;
 use crate::readers::same_sort;
 use crate::symbols::marked;

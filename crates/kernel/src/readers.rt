@@ -1,11 +1,11 @@
 // Reading the tables of sorts and symbols: whether two sorts are the same, a symbol's signature by its number, numbers by name, and the
-// constructors of a sort one after the other.
+// constructors of a sort one after the other, or how many.
 ghost use mathlib.Core.Path.{_≡_};
 ghost use Prim.Native.Nat.{ℕ, _<_};
 ghost use mathlib.Core.List.{List};
 ghost use lib.Dec.{eqb};
 ghost use lib.ListN.{length, getD};
-ghost use Rattle.rules.specs.Theory.{Theory, inputs as inputsOf, output as outputOf, sortNamed, constructorNamed, predicateNamed};
+ghost use Rattle.rules.specs.Theory.{Theory, inputs as inputsOf, output as outputOf, constructors as constructorsOf, sortNamed, constructorNamed, predicateNamed};
 ghost use Rattle.sexp.specs.NameRows.{foundOf};
 ghost use Rattle.kernel.specs.Held.{SortsHeld, SomeSorts, SymbolsHeld};
 ghost use Rattle.kernel.specs.Readers.{KnownSymbol, KnownInput, NamedSymbols, CountedSymbols};
@@ -91,4 +91,21 @@ pub fn next_constructor(symbols: &[u32], count: usize, sort: usize, from: usize)
         i += 1;
     }
     Found::Missing
+}
+
+// How many constructors that sort has.
+pub fn constructors(symbols: &[u32], count: usize, sort: usize) -> usize
+    requires { ⌜ CountedSymbols (now symbols) count ⌝ }
+    ensures { λ r. ⌜ ((T : Theory) (text inputs : List ℕ) → SymbolsHeld text (now (symbols .entry)) inputs count (T .symbols) →
+        r ≡ length (constructorsOf T sort)) ⌝ }
+{
+    let mut n = 0;
+    let mut from = 0;
+    loop {
+        let Found::At(i) = next_constructor(symbols, count, sort, from) else {
+            return n;
+        };
+        n += 1;
+        from = i + 1;
+    }
 }

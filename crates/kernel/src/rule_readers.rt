@@ -1,23 +1,26 @@
-// Reading the tables of rules: a rule's variables, premises and words by its number, its number by name, and the rules of a
-// predicate one after the other.
+// Reading the tables of rules: a rule's name, variables, premises and words by its number, its number and that of a variable by name, and
+// the rules of a predicate one after the other.
 ghost use mathlib.Core.Path.{_≡_};
 ghost use Prim.Native.Nat.{ℕ, _<_};
 ghost use mathlib.Core.List.{List};
 ghost use lib.ListN.{length, getD};
 ghost use Rattle.rules.specs.Limits.{SYMBOLS};
+ghost use Rattle.rules.specs.Text.{same};
+ghost use Rattle.rules.specs.Find.{first};
 ghost use Rattle.rules.specs.Tree.{countTrees};
 ghost use Rattle.rules.specs.Theory.{Theory, rule, ruleNamed, headIs};
 ghost use Rattle.rules.specs.Declare.{noRuleVar};
 ghost use Rattle.sexp.specs.NameRows.{foundOf};
+ghost use Rattle.sexp.specs.AtomText.{Spans};
 ghost use Rattle.kernel.specs.Held.{SymbolsHeld};
 ghost use Rattle.kernel.specs.HeldRules.{RulesHeld};
-ghost use Rattle.kernel.specs.Readers.{KnownRule, KnownVar, NamedRules, WordsAt, KnownWord, argumentsBehind, FormedRules, KnownFormedRule, SomeFormedRules, conclusionAt};
+ghost use Rattle.kernel.specs.Readers.{KnownRule, KnownVar, NamedRules, NamedVars, WordsAt, KnownWord, argumentsBehind, FormedRules, KnownFormedRule, SomeFormedRules, conclusionAt};
 ghost use Rattle.kernel.specs.Listing.{nextRule};
 use crate::readers::arity;
 use sexp::names::Found;
 use sexp::names::named;
 
-// Words of patterns: the first place, and the place behind the last.
+// A part of the words of patterns, or of the text: the first place, and the place behind the last.
 pub struct Span {
     pub from: usize,
     pub end: usize,
@@ -30,6 +33,19 @@ pub fn rule_named(text: &[u8], rules: &[u32], count: usize, name: &[u8]) -> Foun
         a ≡ foundOf (ruleNamed T (now (name .entry)))) ⌝ }
 {
     named(text, rules, 6, 0, count, name)
+}
+
+// Where the name of rule r stands in the text.
+pub fn rule_name(rules: &[u32], r: usize) -> Span
+    requires { ⌜ KnownRule (now rules) r ⌝ }
+    ensures { λ a. ⌜ ((T : Theory) (text vars patterns : List ℕ) (count words : ℕ) → RulesHeld text (now (rules .entry)) vars patterns count words (T .rules) → r < count →
+        Spans text (rule T r .name) (a .from) (a .end)) ⌝ }
+{
+    let at = 6 * r;
+    Span {
+        from: rules[at] as usize,
+        end: rules[at + 1] as usize,
+    }
 }
 
 // How many variables rule r has.
@@ -70,6 +86,15 @@ pub fn variable_sort(vars: &[u32], r: usize, i: usize) -> usize
         i < length (rule T r .vars) → a ≡ getD (rule T r .vars) i noRuleVar .sort) ⌝ }
 {
     vars[3 * (rules::RULEVARS * r + i)] as usize
+}
+
+// The variable of rule r with these bytes for a name; `count` is how many it has.
+pub fn rule_var_named(text: &[u8], vars: &[u32], r: usize, count: usize, name: &[u8]) -> Found
+    requires { ⌜ NamedVars (now text) (now vars) r count ⌝ }
+    ensures { λ a. ⌜ ((T : Theory) (rules patterns : List ℕ) (known words : ℕ) → RulesHeld (now (text .entry)) rules (now (vars .entry)) patterns known words (T .rules) →
+        r < known → count ≡ length (rule T r .vars) → a ≡ foundOf (first (λ v. same (v .name .bytes) (now (name .entry))) (rule T r .vars) 0)) ⌝ }
+{
+    named(text, vars, 3, 3 * rules::RULEVARS * r + 1, count, name)
 }
 
 // How many arguments stand behind a word: a symbol's, or none behind a variable.

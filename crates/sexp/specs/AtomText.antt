@@ -14,7 +14,7 @@ use Rattle.sexp.specs.Never.{never}
 use Rattle.sexp.specs.Spelt.{Spelt}
 use Rattle.sexp.specs.Items.{itemOf}
 use Rattle.sexp.specs.WalkLaws.{AtomIs, atom-is, Span, span}
-use Rattle.sexp.specs.NameRows.{NameIn}
+use Rattle.sexp.specs.NameRows.{NameIn, NameAt}
 use Rattle.sexp.specs.declared.items.Item.{Item}
 use Rattle.sexp.specs.declared.items.Item.the-variants.{Atom}
 
@@ -56,7 +56,34 @@ atom-named text p l =
     let n : p + length (letters (drop p text)) - p ≡ length (letters (drop p text)) = omega arith in
     record { inside = w .high; spelt = rw n at (w .part) }
 
--- Its mark ----------------------------------------------------------------------------------------------------------------------
+-- Names between two places ---------------------------------------------------------------------------------------------------------
+
+-- the name stands between two places of the text
+pub record Spans (text : List ℕ) (n : Name) (start end : ℕ) : Type 0 where
+  pub named : NameIn text n
+  pub starts : n .start ≡ start
+  pub ends : start + length (n .bytes) ≡ end
+
+module _ {text : List ℕ} {n : Name} {start end : ℕ} (k : Spans text n start end) where
+  pub spans-low : start ≤ end
+  spans-low = omega (arith, k .ends)
+
+  pub spans-high : end ≤ length text
+  spans-high = omega (arith, k .named .inside, k .starts, k .ends)
+
+  pub spans-part : take (end - start) (drop start text) ≡ n .bytes
+  spans-part =
+      let e : end - start ≡ length (n .bytes) = omega (arith, k .ends) in
+      rw (e, sym (k .starts)) (k .named .spelt)
+
+pub atom-spans : (text : List ℕ) (start end : ℕ) → start < length text → end ≡ start + length (letters (drop start text)) → Spans text (nameFrom text start) start end
+atom-spans text start end l e = record { named = atom-named text start l; starts = refl; ends = sym e }
+
+-- two cells of a table
+pub cells-span : {text table : List ℕ} {at : ℕ} {n : Name} → NameAt text table at n → Spans text n (getD table at 0) (getD table (at + 1) 0)
+cells-span k = record { named = k .name; starts = sym (k .start); ends = omega (arith, k .start, k .end) }
+
+-- The mark of an atom ----------------------------------------------------------------------------------------------------------------------
 
 -- it shows in the first byte
 mark-is-letter : kind 63 ≡ letter

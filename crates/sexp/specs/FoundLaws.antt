@@ -1,9 +1,9 @@
 -- Laws for those who look names up: what an answer says of the definition's look-up. Assumes nothing.
-use mathlib.Core.Path.{_≡_, refl, ap}
-use Prim.Native.Nat.{ℕ, _<_}
-use mathlib.Core.Bool.{Bool, true}
+use mathlib.Core.Path.{_≡_, refl, sym, ap, _∙_}
+use Prim.Native.Nat.{ℕ, zero, suc, _<_}
+use mathlib.Core.Bool.{Bool, true, false}
 use mathlib.Core.Option.{Option, some, none as nothing}
-use mathlib.Core.List.{List}
+use mathlib.Core.List.{List, [], _∷_}
 use native.Mathlib.Omega.{arith}
 use lib.ListN.{length, getD}
 use Rattle.rules.specs.Text.{same}
@@ -12,7 +12,7 @@ use Rattle.rules.specs.Laws.Find.{first-some}
 use Rattle.rules.specs.Sexp.{Name}
 use Rattle.rules.specs.Theory.{noName}
 use Rattle.sexp.specs.Never.{never}
-use Rattle.sexp.specs.NameRows.{foundOf}
+use Rattle.sexp.specs.NameRows.{NameRows, foundOf}
 use Rattle.sexp.specs.declared.names.Found.{Found}
 use Rattle.sexp.specs.declared.names.Found.the-variants.{At, Missing}
 
@@ -37,3 +37,37 @@ found-passing p xs d r i a b =
 
 pub found-inside : (name : List ℕ) (ns : List Name) (r : Found) (i : ℕ) → r ≡ foundOf (first (λ n. same (n .bytes) name) ns 0) → r ≡ At i → i < length ns
 found-inside name ns r i a b = found-passing (λ (n : Name). same (n .bytes) name) ns noName r i a b .inside
+
+-- The names of things in a list -----------------------------------------------------------------------------------------------------
+
+unfoldable pub namesOf : {A : Type 0} → (A → Name) → List A → List Name
+namesOf f [] = []
+namesOf f (x ∷ xs) = f x ∷ namesOf f xs
+
+module _ {A : Type 0} (f : A → Name) where
+  pub length-names : (xs : List A) → length (namesOf f xs) ≡ length xs
+  unfolding namesOf
+  length-names [] = refl
+  length-names (x ∷ xs) = ap suc (length-names xs)
+
+  pub name-of : (xs : List A) (k : ℕ) (d : A) → f d ≡ noName → getD (namesOf f xs) k noName ≡ f (getD xs k d)
+  unfolding namesOf
+  name-of [] k d e = sym e
+  name-of (x ∷ xs) zero d e = refl
+  name-of (x ∷ xs) (suc k) d e = name-of xs k d e
+
+  pub first-name : (xs : List A) (n : List ℕ) (k : ℕ) → first (λ x. same (f x .bytes) n) xs k ≡ first (λ m. same (m .bytes) n) (namesOf f xs) k
+  unfolding namesOf first
+  first-name [] n k = refl
+  first-name (x ∷ xs) n k = go (same (f x .bytes) n) (first-name xs n (suc k))
+    where
+      go : (b : Bool) → first (λ y. same (f y .bytes) n) xs (suc k) ≡ first (λ m. same (m .bytes) n) (namesOf f xs) (suc k) →
+          _≡_ {A = Option ℕ} (elim b [ true ↦ some k | false ↦ first (λ y. same (f y .bytes) n) xs (suc k) ]) (elim b [ true ↦ some k | false ↦ first (λ m. same (m .bytes) n) (namesOf f xs) (suc k) ])
+      go true e = refl
+      go false e = e
+
+-- what `named` answers, of things by their names
+pub named-so : {A : Type 0} (f : A → Name) (xs : List A) {text table : List ℕ} {w o count : ℕ} (name : List ℕ) (r : Found) →
+    ((ns : List Name) → NameRows text table w o count ns → r ≡ foundOf (first (λ n. same (n .bytes) name) ns 0)) → NameRows text table w o count (namesOf f xs) →
+    r ≡ foundOf (first (λ x. same (f x .bytes) name) xs 0)
+named-so f xs name r a h = a (namesOf f xs) h ∙ ap foundOf (sym (first-name f xs name 0))

@@ -2,7 +2,7 @@ use mathlib.Core.Path.{sym, _∙_}
 use Prim.Native.Nat.{_+_, _*_}
 use mathlib.Core.Bool.{false}
 use native.Mathlib.Omega.{arith}
-use Rattle.kernel.proofs.Holding.{symbols-rows}
+use Rattle.kernel.specs.SignatureRows.{symbols-rows}
 use Rattle.kernel.proofs.Words.{put-yes, put-no, head-missing, head-wrong-sort, head-wrong-count, head-written, head-full, head-row}
 use Rattle.sexp.specs.AtomText.{atom-span}
 use borrow.Author.Needs.{needs}

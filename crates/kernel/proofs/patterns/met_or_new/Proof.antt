@@ -2,7 +2,9 @@ use mathlib.Core.Path.{sym, _∙_}
 use Prim.Native.Nat.{_*_}
 use native.Mathlib.Omega.{arith}
 use lib.ListN.{length-set}
-use Rattle.kernel.proofs.Vars.{namesOf, varName, vars-rows, var-inside, var-place, var-fits, met-again, met-wrongly, met-full, met-new}
+use Rattle.kernel.proofs.Vars.{vars-rows, var-inside, var-place, var-fits, met-again, met-wrongly, met-full, met-new}
+use Rattle.kernel.specs.RuleRows.{varName}
+use Rattle.sexp.specs.FoundLaws.{namesOf}
 use borrow.Author.Needs.{needs}
 use Rattle.kernel.proofs.patterns.met_or_new.Statement.{statement}
 use Rattle.kernel.proofs.patterns.met_or_new.Tie as tie

@@ -1,5 +1,6 @@
 use native.Mathlib.Omega.{arith}
-use Rattle.kernel.proofs.Words.{put-yes, put-no, atom-spans, meeting, variable-too-short, variable-unmet, met, variable-written, variable-full}
+use Rattle.kernel.proofs.Words.{put-yes, put-no, meeting, variable-too-short, variable-unmet, met, variable-written, variable-full}
+use Rattle.sexp.specs.AtomText.{atom-spans}
 use borrow.Author.Needs.{needs}
 use Rattle.kernel.proofs.patterns.variable.Statement.{statement}
 use Rattle.kernel.proofs.patterns.variable.Tie as tie

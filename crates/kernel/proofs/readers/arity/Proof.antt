@@ -1,6 +1,7 @@
 use native.Mathlib.Omega.{arith}
 use Prim.Native.Nat.{_+_, _*_}
-use Rattle.kernel.proofs.Readings.{symbol-place, arity-cell}
+use Rattle.kernel.proofs.Readings.{symbol-place}
+use Rattle.kernel.specs.SignatureRows.{arity-cell}
 use Rattle.kernel.proofs.readers.arity.Statement.{statement}
 use Rattle.kernel.proofs.readers.arity.Tie as tie
 use Rattle.kernel.proofs.readers.arity.Reads as reads

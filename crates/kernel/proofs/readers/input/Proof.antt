@@ -1,6 +1,7 @@
 use native.Mathlib.Omega.{arith}
 use Prim.Native.Nat.{_+_, _*_}
-use Rattle.kernel.proofs.Readings.{argument-place, argument-cell}
+use Rattle.kernel.proofs.Readings.{argument-place}
+use Rattle.kernel.specs.SignatureRows.{argument-cell}
 use Rattle.kernel.proofs.readers.input.Statement.{statement}
 use Rattle.kernel.proofs.readers.input.Tie as tie
 use Rattle.kernel.proofs.readers.input.Reads as reads

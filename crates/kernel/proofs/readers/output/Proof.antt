@@ -1,6 +1,7 @@
 use native.Mathlib.Omega.{arith}
 use Prim.Native.Nat.{_*_}
-use Rattle.kernel.proofs.Readings.{symbol-place, output-cell}
+use Rattle.kernel.proofs.Readings.{symbol-place}
+use Rattle.kernel.specs.SignatureRows.{output-cell}
 use Rattle.kernel.proofs.readers.output.Statement.{statement}
 use Rattle.kernel.proofs.readers.output.Tie as tie
 use Rattle.kernel.proofs.readers.output.Reads as reads

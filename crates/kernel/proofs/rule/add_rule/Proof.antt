@@ -3,9 +3,9 @@ use native.Mathlib.Omega.{arith}
 use Rattle.rules.specs.Declare.{schema}
 use Rattle.kernel.proofs.Spellings.{proper-here, proper-nowhere}
 use Rattle.kernel.proofs.Declared.{reaching}
-use Rattle.kernel.proofs.Vars.{namesOf}
+use Rattle.sexp.specs.FoundLaws.{namesOf}
 use Rattle.kernel.proofs.Ruling.{begun}
-use Rattle.kernel.proofs.RuleRows.{ruleName, rules-rows}
+use Rattle.kernel.specs.RuleRows.{ruleName, rules-rows}
 use Rattle.kernel.proofs.Ruled.{ruled, reads-none, beginning, rule-stops, schema-of, held-still, rule-no-name, rule-again, rule-put, rule-is, rule-fits}
 use borrow.Author.Needs.{needs}
 use Rattle.kernel.proofs.rule.add_rule.Statement.{statement}

@@ -1,4 +1,4 @@
-use Rattle.kernel.proofs.RuleRows.{rule-place, premises-cell}
+use Rattle.kernel.specs.RuleRows.{rule-place, premises-cell}
 use Prim.Native.Nat.{_+_, _*_}
 use native.Mathlib.Omega.{arith}
 use Rattle.kernel.proofs.rule_readers.premises.Statement.{statement}

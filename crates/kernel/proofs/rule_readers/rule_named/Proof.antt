@@ -1,4 +1,4 @@
-use Rattle.kernel.proofs.RuleRows.{some-rule-names, rule-is}
+use Rattle.kernel.specs.RuleRows.{some-rule-names, rule-is}
 use Rattle.kernel.proofs.rule_readers.rule_named.Statement.{statement}
 use Rattle.kernel.proofs.rule_readers.rule_named.Tie as tie
 use Rattle.kernel.proofs.rule_readers.rule_named.Reads as reads

@@ -1,4 +1,4 @@
-use Rattle.kernel.proofs.RuleRows.{var-place, var-cell}
+use Rattle.kernel.specs.RuleRows.{var-place, var-cell}
 use Prim.Native.Nat.{_+_, _*_}
 use native.Mathlib.Omega.{arith}
 use Rattle.kernel.proofs.rule_readers.variable_sort.Statement.{statement}

@@ -1,4 +1,4 @@
-use Rattle.kernel.proofs.RuleRows.{rule-place, words-at}
+use Rattle.kernel.specs.RuleRows.{rule-place, words-at}
 use Prim.Native.Nat.{_+_, _*_}
 use native.Mathlib.Omega.{arith}
 use Rattle.kernel.proofs.rule_readers.words.Statement.{statement}

@@ -2,7 +2,7 @@ use mathlib.Core.Path.{_∙_}
 use native.Mathlib.Omega.{arith}
 use lib.ListN.{length, length-set}
 use denote.Ref.{now}
-use Rattle.kernel.proofs.Holding.{sorts-rows}
+use Rattle.kernel.specs.SignatureRows.{sorts-rows}
 use Rattle.sexp.specs.FirstItem.{first-of, first-item, some-first, rest-shorter}
 use Rattle.kernel.proofs.Arguments.{first-small, arguments-none, arguments-unknown, arguments-full, arguments-more, gathering-next}
 use borrow.Author.Needs.{needs}

@@ -6,7 +6,7 @@ use Rattle.sexp.specs.Items.{place}
 use Rattle.sexp.specs.WalkLaws.{spells-item}
 use Rattle.kernel.specs.Held.{SymbolAdded}
 use Rattle.kernel.proofs.Spellings.{proper-here, proper-nowhere}
-use Rattle.kernel.proofs.Holding.{sorts-rows, symbols-rows}
+use Rattle.kernel.specs.SignatureRows.{sorts-rows, symbols-rows}
 use Rattle.kernel.proofs.Arguments.{sort-small, sort-known, sort-unknown}
 use Rattle.kernel.proofs.Declared.{reaching, theory-of, refused-of, stored-of, ctor-stops, ctor-again, ctor-is-new, symbol-cells, symbol-fits, ctor-no-sort}
 use borrow.Author.Needs.{needs}

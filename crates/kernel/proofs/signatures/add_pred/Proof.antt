@@ -3,7 +3,7 @@ use native.Mathlib.Omega.{arith}
 use Rattle.rules.specs.Laws.Declaring.{pred-unnamed}
 use Rattle.kernel.specs.Held.{SymbolAdded}
 use Rattle.kernel.proofs.Spellings.{proper-here, proper-nowhere}
-use Rattle.kernel.proofs.Holding.{symbols-rows}
+use Rattle.kernel.specs.SignatureRows.{symbols-rows}
 use Rattle.kernel.proofs.Declared.{reaching, theory-of, refused-of, stored-of, pred-stops, pred-again, pred-is-new, symbol-cells, symbol-fits}
 use borrow.Author.Needs.{needs}
 use Rattle.kernel.proofs.signatures.add_pred.Statement.{statement}

@@ -2,7 +2,8 @@ use mathlib.Core.Path.{refl}
 use native.Mathlib.Omega.{arith}
 use Rattle.rules.specs.Laws.Declaring.{add-sort-unnamed}
 use Rattle.kernel.proofs.Spellings.{proper-here, proper-nowhere}
-use Rattle.kernel.proofs.Holding.{sorts-rows, sort-fits, sort-twice, sort-full, sort-stored}
+use Rattle.kernel.proofs.Holding.{sort-fits, sort-twice, sort-full, sort-stored}
+use Rattle.kernel.specs.SignatureRows.{sorts-rows}
 use borrow.Author.Needs.{needs}
 use Rattle.kernel.proofs.symbols.add_sort.Statement.{statement}
 use Rattle.kernel.proofs.symbols.add_sort.Tie as tie

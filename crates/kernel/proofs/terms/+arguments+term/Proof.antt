@@ -8,7 +8,7 @@ use Rattle.rules.specs.Declare.{pattern}
 use Rattle.rules.specs.Laws.PatternSteps.{worded}
 use Rattle.sexp.specs.WalkLaws.{walk-start, walk-list, part-shorter}
 use Rattle.kernel.specs.Reading.{PatternRead}
-use Rattle.kernel.proofs.Holding.{input-place, input-cell}
+use Rattle.kernel.specs.SignatureRows.{input-place, input-cell}
 use Rattle.sexp.specs.FirstItem.{first-of, first-item, rest-shorter, atom-first, holds-first, some-list, cons-first}
 use Rattle.kernel.proofs.Trees.{symbolic, list-read, opened-reads, opened-placed, list-stopped, list-opened, arguments-none, placed-inside, placed-next, arguments-stopped, arguments-read, written-of, arguing-inner, arguing-rest}
 use borrow.Author.Needs.{needs}

@@ -1,7 +1,7 @@
 use Prim.Native.Nat.{_+_, _*_}
 use mathlib.Core.Bool.{true}
 use native.Mathlib.Omega.{arith}
-use Rattle.kernel.proofs.Holding.{symbols-rows}
+use Rattle.kernel.specs.SignatureRows.{symbols-rows}
 use Rattle.kernel.proofs.Words.{put-yes, put-no, head-row}
 use Rattle.sexp.specs.AtomText.{atom-span}
 use Rattle.kernel.proofs.Opens.{judgment-empty, judgment-headless, judgment-unknown, judgment-count, judgment-opened, judgment-full}

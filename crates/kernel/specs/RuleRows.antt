@@ -1,4 +1,5 @@
--- The rows of the tables of rules, as the readers read them. Assumes nothing.
+-- The tables of rules as rows: where each entry and its words stand, for the readers and for laws that speak of these tables. Assumes
+-- nothing.
 use mathlib.Core.Path.{_≡_, refl, sym, ap, _∙_, subst}
 use Prim.Native.Nat.{ℕ, zero, suc, _+_, _-_, _*_, _<_, _≤_}
 use mathlib.Core.List.{List, [], _∷_, _++_}
@@ -11,16 +12,26 @@ use Rattle.rules.specs.Find.{first}
 use Rattle.rules.specs.Laws.Find.{getD-front}
 use Rattle.rules.specs.Sexp.{Name}
 use Rattle.rules.specs.Tree.{countTrees}
-use Rattle.rules.specs.Theory.{Theory, Rule, noRule, rule, ruleNamed}
+use Rattle.rules.specs.Theory.{Theory, RuleVar, Rule, noRule, rule, ruleNamed}
 use Rattle.rules.specs.Declare.{noRuleVar}
 use Rattle.rules.specs.Laws.Theory.{all-at}
 use Rattle.rules.specs.TheoryTables.{nameCells, rows, varRow, varRows, ruleVarRow, ruleRow, ruleCells, patternRow, patternCells}
 use Rattle.rules.specs.Laws.Row.{append-assoc, length-rows, row-cell, length-filled, filled-fits}
+use Rattle.sexp.specs.AtomText.{Spans}
 use Rattle.sexp.specs.NameRows.{NameAt, NameRows, SomeNames, foundOf}
 use Rattle.kernel.specs.HeldRules.{RulesHeld}
-use Rattle.kernel.specs.Readers.{KnownRule, KnownVar, NamedRules, wordsBefore, WordsAt}
-use Rattle.kernel.proofs.Vars.{namesOf, length-names, name-of, first-name, var-row-three}
+use Rattle.kernel.specs.Readers.{KnownRule, KnownVar, NamedRules, NamedVars, wordsBefore, WordsAt}
+use Rattle.sexp.specs.FoundLaws.{namesOf, length-names, name-of, first-name, named-so}
 use Rattle.sexp.specs.declared.names.Found.{Found}
+
+-- The variables of a rule ------------------------------------------------------------------------------------------------------------
+
+abbrev pub varName : RuleVar → Name
+varName v = v .name
+
+pub var-row-three : (v : RuleVar) → length (varRow v) ≡ 3
+unfolding varRow nameCells
+var-row-three v = refl
 
 -- The table of rules -------------------------------------------------------------------------------------------------------------
 
@@ -127,7 +138,7 @@ var-place {vars} {r} {i} k =
       rules-few (k .held .1),
       k .held .1 .longs,
       k .there,
-      all-at (k .held .0) r noRule (k .held .1 .sorted) (omega (arith, k .known, k .held .1 .many)),
+      all-at (k .held .0) r noRule (k .held .1 .vars-few) (omega (arith, k .known, k .held .1 .many)),
     )
 
 -- the answers of the readers
@@ -188,13 +199,64 @@ module _ (T : Theory) {text rules vars patterns : List ℕ} {count words : ℕ} 
               ∙ take-append-seam (patternRow (rule T r)) (patternCells (drop (suc r) (T .rules)) ++ h .written .rest);
         }
 
-    pub var-cell : (i : ℕ) → i < length (rule T r .vars) → getD vars (3 * (RULEVARS * r + i)) 0 ≡ getD (rule T r .vars) i noRuleVar .sort
-    unfolding rule ruleVarRow varRow
-    var-cell i m =
-        let few = all-at (T .rules) r noRule (h .sorted) there in
+    -- the cells of variable i: its sort, its name
+    var-cells : (i j k : ℕ) → i < length (rule T r .vars) → j < 3 → k ≡ 3 * RULEVARS * r + (3 * i + j) → getD vars k 0 ≡ getD (varRow (getD (rule T r .vars) i noRuleVar)) j 0
+    unfolding rule ruleVarRow
+    var-cells i j k m n e =
+        let few = all-at (T .rules) r noRule (h .vars-few) there in
         let vs = getD (T .rules) r noRule .vars in
         let many = length-rows varRow 3 var-row-three vs in
-        ap (λ (t : List ℕ). getD t (3 * (RULEVARS * r + i)) 0) (h .fronts .is)
-        ∙ row-cell ruleVarRow (3 * RULEVARS) rule-var-row-long (T .rules) (h .fronts .rest) r (3 * i) (3 * (RULEVARS * r + i)) noRule there (omega (arith, few, m)) (omega arith)
-        ∙ ap (λ (t : List ℕ). getD t (3 * i) 0) (filled-fits (3 * RULEVARS) (varRows vs) (omega (arith, many, few)))
-        ∙ row-cell varRow 3 var-row-three vs (replicate (3 * RULEVARS - length (varRows vs)) 0) i 0 (3 * i) noRuleVar m (omega arith) (omega arith)
+        ap (λ (t : List ℕ). getD t k 0) (h .fronts .is)
+        ∙ row-cell ruleVarRow (3 * RULEVARS) rule-var-row-long (T .rules) (h .fronts .rest) r (3 * i + j) k noRule there (omega (arith, few, m, n)) e
+        ∙ ap (λ (t : List ℕ). getD t (3 * i + j) 0) (filled-fits (3 * RULEVARS) (varRows vs) (omega (arith, many, few)))
+        ∙ row-cell varRow 3 var-row-three vs (replicate (3 * RULEVARS - length (varRows vs)) 0) i j (3 * i + j) noRuleVar m n refl
+
+    pub var-cell : (i : ℕ) → i < length (rule T r .vars) → getD vars (3 * (RULEVARS * r + i)) 0 ≡ getD (rule T r .vars) i noRuleVar .sort
+    unfolding varRow
+    var-cell i m = var-cells i 0 (3 * (RULEVARS * r + i)) m (omega arith) (omega arith)
+
+    -- the names of a rule's variables
+    pub vars-rows : NameRows text vars 3 (3 * RULEVARS * r + 1) (length (rule T r .vars)) (namesOf varName (rule T r .vars))
+    unfolding rule varRow nameCells
+    vars-rows =
+        let vs = getD (T .rules) r noRule .vars in
+        let few = all-at (T .rules) r noRule (h .vars-few) there in
+        record {
+          many = length-names varName vs;
+          row = λ k l.
+              let m : k < length vs = omega (arith, l, length-names varName vs) in
+              subst (λ n. NameAt text vars (3 * k + (3 * RULEVARS * r + 1)) n) (sym (name-of varName vs k noRuleVar refl))
+              (record {
+                inside = omega (arith, h .longs, rules-few h, few, m, there, h .many);
+                start = var-cells k 1 (3 * k + (3 * RULEVARS * r + 1)) m (omega arith) (omega arith);
+                end = var-cells k 2 (3 * k + (3 * RULEVARS * r + 1) + 1) m (omega arith) (omega arith);
+                name = all-at vs k noRuleVar (all-at (T .rules) r noRule (h .vars-named) there) m;
+              });
+        }
+
+    -- the rule's own name
+    pub rule-spans : Spans text (rule T r .name) (getD rules (6 * r) 0) (getD rules (6 * r + 1) 0)
+    unfolding rule ruleRow nameCells
+    rule-spans =
+        let a : getD rules (6 * r) 0 ≡ getD (T .rules) r noRule .name .start = rule-cell-at h r 0 (6 * r) there (omega arith) (omega arith) in
+        let b : getD rules (6 * r + 1) 0 ≡ getD (T .rules) r noRule .name .start + length (getD (T .rules) r noRule .name .bytes) =
+        rule-cell-at h r 1 (6 * r + 1) there (omega arith) (omega arith) in
+        record { named = all-at (T .rules) r noRule (h .names) there; starts = sym a; ends = omega (arith, a, b) }
+
+-- what `rule_var_named` asks of its rows, and answers
+pub some-var-names : {text vars : List ℕ} {r many : ℕ} → NamedVars text vars r many → SomeNames text vars 3 (3 * RULEVARS * r + 1) many
+unfolding rule
+some-var-names {text} {vars} {r} {many} k =
+    let T : Theory = record { sorts = []; symbols = []; rules = k .held .0 } in
+    (namesOf varName (rule T r .vars), subst (λ (n : ℕ). NameRows text vars 3 (3 * RULEVARS * r + 1) n (namesOf varName (rule T r .vars))) (sym (k .all)) (vars-rows T (k .held .1) r (k .known)))
+
+pub named-few : {text vars : List ℕ} {r many : ℕ} → NamedVars text vars r many → r < RULES
+named-few k = omega (arith, k .known, rules-few (k .held .1))
+
+pub var-is : (T : Theory) {text rules vars patterns : List ℕ} {count words : ℕ} → RulesHeld text rules vars patterns count words (T .rules) → (r : ℕ) → r < count →
+    {many : ℕ} → many ≡ length (rule T r .vars) → (name : List ℕ) (a : Found) →
+    ((ns : List Name) → NameRows text vars 3 (3 * RULEVARS * r + 1) many ns → a ≡ foundOf (first (λ n. same (n .bytes) name) ns 0)) →
+    a ≡ foundOf (first (λ v. same (v .name .bytes) name) (rule T r .vars) 0)
+var-is T {text} {vars = vars} h r l {many} m name a e =
+    named-so varName (rule T r .vars) name a e
+    (subst (λ (n : ℕ). NameRows text vars 3 (3 * RULEVARS * r + 1) n (namesOf varName (rule T r .vars))) (sym m) (vars-rows T h r l))

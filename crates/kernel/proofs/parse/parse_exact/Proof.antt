@@ -4,8 +4,8 @@ use Rattle.kernel.specs.Parsed.{tables, verdict}
 use Rattle.kernel.proofs.Laid.{laid-held}
 use Rattle.kernel.proofs.Runs.{run-within, run-laid}
 use borrow.Author.Needs.{needs}
-use Rattle.kernel.proofs.parse.judge.Statement.{statement}
-use Rattle.kernel.proofs.parse.judge.Tie as tie
+use Rattle.kernel.proofs.parse.parse_exact.Statement.{statement}
+use Rattle.kernel.proofs.parse.parse_exact.Tie as tie
 
 read-and-declare-requires : tie.Need-read-and-declare-requires
 read-and-declare-requires c κs = (c .before .before .before .before .before .before .before .before .before .before .before .before .before .before .before .pre)
@@ -40,8 +40,8 @@ same-length-7 c = (c .before .before .before .before .before .before .before .be
 returns : tie.Need-returns
 returns c = ((c .before .before .before .before .before .before .before .before .before .before .before .before .before .before .before .before .before .before .before .before .before .before .before .before .before .before .before .before .before .before .before .before .before .before .read-and-declare) .ensures .0 .answers, (run-laid (tables ((c .before .before .before .before .before .before .before .before .before .before .before .before .before .before .before .before .before .before .before .before .before .before .before .before .before .before .before .before .before .before .before .before .before .before .read-and-declare) .last .1 .1 .0) ((c .before .before .before .before .before .before .before .before .before .before .before .before .before .before .before .before .before .before .before .before .before .before .before .before .before .before .before .before .before .before .before .before .before .before .read-and-declare) .last .1 .1 .1 .0) ((c .before .before .before .before .before .before .before .before .before .before .before .before .before .before .before .before .before .before .before .before .before .before .before .before .before .before .before .before .before .before .before .before .before .before .read-and-declare) .last .1 .1 .1 .1 .0) ((c .before .before .before .before .before .before .before .before .before .before .before .before .before .before .before .before .before .before .before .before .before .before .before .before .before .before .before .before .before .before .before .before .before .before .read-and-declare) .last .1 .1 .1 .1 .1 .0) ((c .before .before .before .before .before .before .before .before .before .before .before .before .before .before .before .before .before .before .before .before .before .before .before .before .before .before .before .before .before .before .before .before .before .before .read-and-declare) .last .1 .1 .1 .1 .1 .1 .0) ((c .before .before .before .before .before .before .before .before .before .before .before .before .before .before .before .before .before .before .before .before .before .before .before .before .before .before .before .before .before .before .before .before .before .before .read-and-declare) .last .1 .1 .1 .1 .1 .1 .1 .0)) (verdict ((c .before .before .before .before .before .before .before .before .before .before .before .before .before .before .before .before .before .before .before .before .before .before .before .before .before .before .before .before .before .before .before .before .before .before .before .before .before .before .before .before .before .before .before .before .before .before .before .before .before .before .args) .text .now)) ((c .before .before .before .before .before .before .before .before .before .before .before .before .before .before .before .before .before .before .before .before .before .before .before .before .before .before .before .before .before .before .before .before .before .before .read-and-declare) .ensures .0) ((c .before .before .before .before .before .before .before .before .before .before .before .before .before .counts-in) .ensures) ((c .before .before .before .before .before .before .before .before .before .before .before .before .wipe-behind) .ensures), ((c .before .before .before .before .before .before .before .before .before .before .before .before .before .before .before .before .before .before .before .before .before .before .before .before .before .before .before .before .before .before .before .before .before .before .read-and-declare) .ensures .1, laid-held _ ((c .before .before .before .before .before .before .before .before .before .before .before .before .before .before .before .before .before .before .before .before .before .before .before .before .before .before .before .before .before .before .before .before .before .before .read-and-declare) .ensures .0 .held))))
 
-pub judge-spec : {M : Type 1} → statement M
-judge-spec =
+pub parse-exact-spec : {M : Type 1} → statement M
+parse-exact-spec =
     tie.close
     (tie.spec
     read-and-declare-requires
