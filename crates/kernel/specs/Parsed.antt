@@ -16,7 +16,6 @@ use Rattle.rules.specs.TheoryTables.{sortTable, symbolTable, inputTable, ruleTa
 use Rattle.sexp.specs.Encode.{encode}
 use Rattle.sexp.specs.Spelt.{Spelt}
 use Rattle.sexp.specs.Items.{Holds}
-use Rattle.sexp.specs.Reads.{Clear}
 use Rattle.kernel.specs.Held.{SortsHeld, SymbolsHeld}
 use Rattle.kernel.specs.HeldRules.{RulesHeld}
 use Rattle.kernel.specs.declared.symbols.Added.{Added}
@@ -175,12 +174,6 @@ pub record Exact (t : Tables) : Type 0 where
   pub rules : length (t .rules) ≡ 6 * RULES
   pub rule-vars : length (t .rule-vars) ≡ 3 * RULEVARS * RULES
   pub patterns : length (t .patterns) ≡ PATTERNS
-
--- a text that is not too long, with cells of zeros for its forms
-pub record Legible (text cells : List ℕ) : Type 0 where
-  pub short : length text ≤ LENGTH
-  pub fits : length text ≤ length cells
-  pub clear : Clear cells
 
 -- the tables of a theory: its entries, and zero behind
 abbrev pub laidExactly : Theory → Tables

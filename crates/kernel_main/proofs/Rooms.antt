@@ -4,7 +4,8 @@ use Prim.Native.Nat.{ℕ, _≤_}
 use mathlib.Core.List.{List}
 use native.Mathlib.Omega.{arith}
 use lib.ListN.{length, take, replicate, length-take, length-replicate}
-use Rattle.kernel.specs.Parsed.{tables, Legible, Roomy}
+use Rattle.kernel.specs.Parsed.{tables, Roomy}
+use Rattle.sexp.specs.Through.{Legible}
 
 -- zero cells for a text of at most 4,096 bytes
 pub legible : (text : List ℕ) → length text ≤ 4096 → Legible text (replicate 4096 0)

@@ -1,5 +1,6 @@
 // Reads up to 4,096 bytes of a theory from standard input and writes the answer, then the used rows of each table, a row a line.
-ghost use Rattle.kernel.specs.Parsed.{tables, Roomy, Legible};
+ghost use Rattle.kernel.specs.Parsed.{tables, Roomy};
+ghost use Rattle.sexp.specs.Through.{Legible};
 use kernel::parse::Counts;
 use kernel::parse::Judged;
 

@@ -1,4 +1,4 @@
--- What the contracts of the reader cite, and the laws for its callers (ItemLaws, WalkLaws, ReadLaws, RowLaws, AtomText, FoundLaws, FirstItem, NthItem).
+-- What the contracts of the reader cite, and the laws for its callers (ItemLaws, WalkLaws, ReadLaws, RowLaws, AtomText, FoundLaws, FirstItem, NthItem, Through).
 pub mod Lexed
 pub mod Encode
 pub mod Spelt
@@ -8,6 +8,7 @@ pub mod ItemLaws
 pub mod WalkLaws
 pub mod ReadLaws
 pub mod Whole
+pub mod Through
 pub mod Names
 pub mod NameRows
 pub mod RowLaws
