@@ -6,9 +6,9 @@ use mathlib.Core.List.{List, [], _∷_}
 use native.Mathlib.Omega.{arith}
 use lib.ListN.{length, take, drop, length-append}
 use lib.Seq.{take-append-seam, drop-append-seam, drop-drop, take-take}
-use Rattle.rules.specs.Theory.{Theory, Symbol, Rule, inputs as inputsOf, rule}
+use Rattle.rules.specs.Theory.{Theory, Symbol, Rule, noRule, inputs as inputsOf, rule}
 use Rattle.rules.specs.TheoryTables.{prefix, prefixes, patternRow}
-use Rattle.rules.specs.Laws.Theory.{WellFormed}
+use Rattle.rules.specs.Laws.Theory.{WellFormed, RuleFormed, all-at}
 use Rattle.kernel.specs.Held.{SymbolsHeld}
 use Rattle.kernel.specs.HeldRules.{RulesHeld}
 use Rattle.kernel.specs.Parsed.{Tables, TheoryHeld}
@@ -56,6 +56,10 @@ formed-rules {text} {t} {n} h g =
 pub formed-rule : {symbols rules patterns : List ℕ} {count r : ℕ} {T : Theory} → FormedRules symbols rules patterns count T → r < count →
     KnownFormedRule symbols rules patterns r
 formed-rule {symbols} {rules} {patterns} {count} {r} {T} f l = record { count = count; T = T; formed = f; known = l }
+
+pub rule-formed : {symbols rules patterns : List ℕ} {count r : ℕ} {T : Theory} → FormedRules symbols rules patterns count T → r < count → RuleFormed T (rule T r)
+unfolding rule
+rule-formed {r = r} {T} f l = all-at (T .rules) r noRule (f .formed .rules) (omega (arith, l, f .held .many))
 
 -- The parts of a rule ------------------------------------------------------------------------------------------------------------
 
