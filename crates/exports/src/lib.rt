@@ -7,7 +7,7 @@ ghost use Rattle.rules.specs.Limits.{LENGTH};
 ghost use Rattle.rules.specs.Sexp.{read};
 ghost use Rattle.sexp.specs.Reads.{Clear};
 ghost use Rattle.sexp.specs.Whole.{wholeOf};
-ghost use Rattle.kernel.specs.Parsed.{tables, Roomy, judgedOf, theoryOf, verdict, laid};
+ghost use Rattle.kernel.specs.Parsed.{theoryLists, Roomy, judgedOf, theoryOf, verdict, laidTheory};
 ghost use Rattle.sexp.specs.Through.{Legible};
 ghost use Rattle.exports.specs.Counts.{formsOf, rulesOf};
 use kernel::parse::Judged;
@@ -76,10 +76,10 @@ pub extern "C" fn tariff_parse(
     patterns: &mut [u32],
 ) -> usize
     requires { ⌜ Legible (now text) (now cells) ⌝ }
-    requires { ⌜ Roomy (tables (now sorts) (now symbols) (now inputs) (now rules) (now vars) (now patterns)) ⌝ }
+    requires { ⌜ Roomy (theoryLists (now sorts) (now symbols) (now inputs) (now rules) (now vars) (now patterns)) ⌝ }
     ensures { λ r. ⌜ r ≡ rulesOf (judgedOf (verdict (now (text .entry)))) ⌝ }
-    ensures { λ _. ⌜ tables (now (sorts .exit)) (now (symbols .exit)) (now (inputs .exit)) (now (rules .exit)) (now (vars .exit)) (now (patterns .exit))
-        ≡ laid (tables (now (sorts .entry)) (now (symbols .entry)) (now (inputs .entry)) (now (rules .entry)) (now (vars .entry)) (now (patterns .entry))) (theoryOf (verdict (now (text .entry)))) ⌝ }
+    ensures { λ _. ⌜ theoryLists (now (sorts .exit)) (now (symbols .exit)) (now (inputs .exit)) (now (rules .exit)) (now (vars .exit)) (now (patterns .exit))
+        ≡ laidTheory (theoryLists (now (sorts .entry)) (now (symbols .entry)) (now (inputs .entry)) (now (rules .entry)) (now (vars .entry)) (now (patterns .entry))) (theoryOf (verdict (now (text .entry)))) ⌝ }
     ensures { λ _. ⌜ now (cells .exit) ≡ now (cells .entry) ⌝ }
 {
     match kernel::parse::parse(text, cells, sorts, symbols, inputs, rules, vars, patterns) {

@@ -30,7 +30,7 @@ use Rattle.kernel.specs.declared.symbols.Added.{Added}
 use Rattle.kernel.specs.declared.symbols.Added.the-variants.{Ok, No}
 use Rattle.sexp.specs.FoundLaws.{found-at, found-missing}
 use Rattle.kernel.specs.SignatureRows.{sorts-rows, sorts-few}
-use Rattle.sexp.specs.FirstItem.{First, none-left}
+use Rattle.sexp.specs.FirstItem.{ItemFirst, none-left}
 
 -- what `sort` ensures
 abbrev pub SortTold : List ℕ → List ℕ → ℕ → Item → Found → Type 0
@@ -68,7 +68,7 @@ arguments-none text cells row count T xs h e l =
     }
 
 -- the sort that the first item names
-module _ {text table cells : List ℕ} {known next : ℕ} {item : Item} {r : Found} (told : SortTold text table known item r) {xs : Sexps} (f : First text cells xs item next) where
+module _ {text table cells : List ℕ} {known next : ℕ} {item : Item} {r : Found} (told : SortTold text table known item r) {xs : Sexps} (f : ItemFirst text cells xs item next) where
   pub first-small : (s : ℕ) → r ≡ At s → SomeSorts text table known → s ≤ SORTS
   first-small s a h = sort-small told s a h (f .x) 0 (f .at) (f .spelt)
 
@@ -100,7 +100,7 @@ module _ {text table cells : List ℕ} {known next : ℕ} {item : Item} {r : Fou
       arguments-more row row′ (No x d) l k = so-far l ∙ ap (λ q. then q (λ ss u. ok (s ∷ ss) u)) k
 
 -- the items behind come next
-pub gathering-next : {text cells sorts : List ℕ} {known count next : ℕ} {xs : Sexps} {item : Item} (row : List ℕ) (s : ℕ) → First text cells xs item next → SomeSorts text sorts known →
+pub gathering-next : {text cells sorts : List ℕ} {known count next : ℕ} {xs : Sexps} {item : Item} (row : List ℕ) (s : ℕ) → ItemFirst text cells xs item next → SomeSorts text sorts known →
     length row ≡ ARGUMENTS → count < ARGUMENTS →
     Gathering text (take (length cells - next) (drop next cells)) sorts known (length (set row count s)) (count + 1)
 gathering-next {count = count} row s f h e l =

@@ -24,13 +24,13 @@ use Rattle.kernel.proofs.RuleStore.{count-few}
 
 -- a symbol's arguments are as many as its inputs
 unfoldable mutual
-  pub Fits : Theory → Tree → Type 0
-  Fits T (var i) = Unit {0}
-  Fits T (app c ts) = (c < length (T .symbols)) × (countTrees ts ≡ length (inputs T c)) × FitAll T ts
+  pub Saturated : Theory → Tree → Type 0
+  Saturated T (var i) = Unit {0}
+  Saturated T (app c ts) = (c < length (T .symbols)) × (countTrees ts ≡ length (inputs T c)) × AllSaturated T ts
 
-  pub FitAll : Theory → Trees → Type 0
-  FitAll T none = Unit {0}
-  FitAll T (more t ts) = Fits T t × FitAll T ts
+  pub AllSaturated : Theory → Trees → Type 0
+  AllSaturated T none = Unit {0}
+  AllSaturated T (more t ts) = Saturated T t × AllSaturated T ts
 
 module _ (T : Theory) (vs : List RuleVar) where
   sorteds-count : (ts : Trees) (ss : List ℕ) → Sorteds T vs ts ss → countTrees ts ≡ length ss
@@ -41,28 +41,28 @@ module _ (T : Theory) (vs : List RuleVar) where
   sorteds-count (more t ts) (s ∷ ss) h = ap suc (sorteds-count ts ss (h .1))
 
   mutual
-    unfolding Sorted Fits
+    unfolding Sorted Saturated
 
-    sorted-fits : (t : Tree) (s : ℕ) → Sorted T vs t s → Fits T t
+    sorted-fits : (t : Tree) (s : ℕ) → Sorted T vs t s → Saturated T t
     sorted-fits (var i) s h = tt
     sorted-fits (app c ts) s h = (h .0, sorteds-count ts (inputs T c) (h .2), sorteds-fit ts (inputs T c) (h .2))
 
-    sorteds-fit : (ts : Trees) (ss : List ℕ) → Sorteds T vs ts ss → FitAll T ts
+    sorteds-fit : (ts : Trees) (ss : List ℕ) → Sorteds T vs ts ss → AllSaturated T ts
     sorteds-fit none ss h = tt
     sorteds-fit (more t ts) [] h = absurd h
     sorteds-fit (more t ts) (s ∷ ss) h = (sorted-fits t s (h .0), sorteds-fit ts ss (h .1))
 
-  judgment-fits : (t : Tree) → Judgment T vs t → Fits T t
-  unfolding Judgment Fits
+  judgment-fits : (t : Tree) → Judgment T vs t → Saturated T t
+  unfolding Judgment Saturated
   judgment-fits (var i) h = absurd h
   judgment-fits (app p ts) h = (h .0, sorteds-count ts (inputs T p) (h .2), sorteds-fit ts (inputs T p) (h .2))
 
-  judgments-fit : (ts : Trees) → Judgments T vs ts → FitAll T ts
-  unfolding Judgments Fits
+  judgments-fit : (ts : Trees) → Judgments T vs ts → AllSaturated T ts
+  unfolding Judgments Saturated
   judgments-fit none h = tt
   judgments-fit (more t ts) h = (judgment-fits t (h .0), judgments-fit ts (h .1))
 
-premises-fit : (T : Theory) → WellFormed T → (r : ℕ) → r < length (T .rules) → FitAll T (rule T r .premises)
+premises-fit : (T : Theory) → WellFormed T → (r : ℕ) → r < length (T .rules) → AllSaturated T (rule T r .premises)
 unfolding rule
 premises-fit T g r l = judgments-fit T (getD (T .rules) r noRule .vars) (getD (T .rules) r noRule .premises) (all-at (T .rules) r noRule (g .rules) l .premises)
 
@@ -83,8 +83,8 @@ unfolding before prefix
 before-prefixes none us = refl
 before-prefixes (more t ts) us = ap (λ l. prefix t ++ l) (before-prefixes ts us) ∙ sym (append-assoc (prefix t) (prefixes ts) (prefixes us))
 
-before-fit : (T : Theory) (ts us : Trees) → FitAll T ts → FitAll T us → FitAll T (before ts us)
-unfolding before Fits
+before-fit : (T : Theory) (ts us : Trees) → AllSaturated T ts → AllSaturated T us → AllSaturated T (before ts us)
+unfolding before Saturated
 before-fit T none us a b = b
 before-fit T (more t ts) us a b = (a .0, before-fit T ts us (a .1) b)
 
@@ -108,7 +108,7 @@ begins (p ∷ ps) (suc k) x ys e =
 -- `left` trees stand from `place` on
 pub record Ahead (T : Theory) (P : List ℕ) (behind place left : ℕ) : Type 0 where
   pub trees : Trees
-  pub fit : FitAll T trees
+  pub fit : AllSaturated T trees
   pub count : countTrees trees ≡ left
   pub rest : List ℕ
   pub words : drop place P ≡ prefixes trees ++ rest
@@ -136,9 +136,9 @@ module _ (T : Theory) (P : List ℕ) (behind place left : ℕ) (q : Ahead T P be
   unfolding inputs
   few-inputs c l = all-at (T .symbols) c noSymbol (g .symbols) l .few
 
-  next-word : (ts : Trees) → FitAll T ts → countTrees ts ≡ left → (rest : List ℕ) → drop place P ≡ prefixes ts ++ rest → place + length (prefixes ts) ≡ behind →
+  next-word : (ts : Trees) → AllSaturated T ts → countTrees ts ≡ left → (rest : List ℕ) → drop place P ≡ prefixes ts ++ rest → place + length (prefixes ts) ≡ behind →
       NextWord T P behind place left
-  unfolding Fits countTrees prefix
+  unfolding Saturated countTrees prefix
   next-word none f c rest w e = absurd (n (sym c))
   next-word (more (var i) ts) f c rest w e =
       let b = begins P place (SYMBOLS + i) (prefixes ts ++ rest) w in

@@ -1,12 +1,12 @@
 -- Tables that hold sorts and symbols: their rows as the look-ups read them, and one more. Assumes nothing.
-use mathlib.Core.Path.{_≡_, refl, sym, ap, _∙_, subst}
+use mathlib.Core.Path.{_≡_, sym, ap, _∙_, subst}
 use Prim.Native.Nat.{ℕ, suc, _+_, _-_, _*_, _<_, _≤_}
 use mathlib.Core.Option.{none as nothing}
 use mathlib.Core.List.{List, [], _∷_, _++_}
 use native.Mathlib.Omega.{arith}
 use native.Mathlib.Numerals.{add-one}
-use lib.ListN.{length, getD, take, drop, set, length-append, length-set}
-use lib.Seq.{sets, sets-eq, length-sets, take-at, take-length, paste, paste-zero, paste-suc, length-paste}
+use lib.ListN.{length-drop, drop-of-length-le, length, take, drop, set, length-append}
+use lib.Seq.{drop-drop, take-all, sets, sets-eq, length-sets, take-at, take-length, paste, length-paste}
 use Rattle.rules.specs.Limits.{LENGTH, SORTS, SYMBOLS, ARGUMENTS}
 use Rattle.rules.specs.Text.{same}
 use Rattle.rules.specs.Find.{first}
@@ -16,7 +16,7 @@ use Rattle.rules.specs.Sexp.{Sexp, Sexps, item, count, Name}
 use Rattle.rules.specs.Theory.{Theory, Symbol, sortNamed}
 use Rattle.rules.specs.Laws.Theory.{all-snoc}
 use Rattle.rules.specs.TheoryTables.{nameCells, rows, symbolRow, inputRow}
-use Rattle.rules.specs.Laws.Row.{rows-snoc, length-filled}
+use Rattle.rules.specs.Laws.Row.{append-nil, append-assoc, rows-snoc, length-filled}
 use Rattle.rules.specs.Declare.{addSort, addSymbol}
 use Rattle.rules.specs.Laws.Declaring.{add-sort-known, add-sort-full, add-sort-new, add-symbol-full, add-symbol-new}
 use Rattle.sexp.specs.NameRows.{NameIn, foundOf}
@@ -95,27 +95,21 @@ module _ {text table : List ℕ} {count : ℕ} (T : Theory) (xs : Sexps) (h : So
 
 -- Copying a row ------------------------------------------------------------------------------------------------------------------
 
-pub record Copying (before now : List ℕ) (at : ℕ) (row : List ℕ) (i : ℕ) : Type 0 where
-  pub low : i ≤ length row
-  pub long : length now ≡ length before
-  pub cells : now ≡ paste before at row i
+-- a table whose part from a place on was lent, and came back as ys
+pub part-back : (table ys : List ℕ) (k : ℕ) → take k table ++ (ys ++ drop (length table - k) (drop k table)) ≡ take k table ++ ys
+part-back table ys k =
+    let b : drop (length table - k) (drop k table) ≡ [] = drop-of-length-le (drop k table) {i = length table - k} (omega (arith, length-drop k table)) in
+    ap (λ (l : List ℕ). take k table ++ (ys ++ l)) b ∙ ap (λ (l : List ℕ). take k table ++ l) (append-nil ys)
 
-pub copying-none : (table : List ℕ) (at : ℕ) (row : List ℕ) → at + length row ≤ length table → Copying table table at row 0
-copying-none table at row h = record { low = omega arith; long = refl; cells = paste-zero table at row }
-
-pub copying-more : {before now row : List ℕ} {at i : ℕ} → Copying before now at row i → at + length row ≤ length before → i < length row →
-    Copying before (set now (at + i) (getD row i 0)) at row (i + 1)
-copying-more {before} {now} {row} {at} {i} k h l =
-    record {
-      low = omega (arith, l);
-      long = length-set now (at + i) (getD row i 0) ∙ k .long;
-      cells = ap (λ t. set t (at + i) (getD row i 0)) (k .cells) ∙ paste-suc before at row i 0 (omega (arith, h, l)) l ∙ ap (paste before at row) (sym (add-one i));
-    }
-
-pub copied : {before now row : List ℕ} {at i : ℕ} → Copying before now at row i → length row ≤ i → now ≡ paste before at row (length row)
-copied {before} {now} {row} {at} {i} k h =
-    let e : i ≡ length row = omega (arith, h, k .low) in
-    k .cells ∙ ap (paste before at row) e
+pub row-pasted : (table ys : List ℕ) (k : ℕ) (row : List ℕ) → ys ≡ row ++ drop (length row) (take (length table - k) (drop k table)) →
+    take k table ++ (ys ++ drop (length table - k) (drop k table)) ≡ paste table k row (length row)
+row-pasted table ys k row e =
+    let a : take (length table - k) (drop k table) ≡ drop k table = take-all (length table - k) (drop k table) (omega (arith, length-drop k table)) in
+    part-back table ys k ∙ ap (λ (l : List ℕ). take k table ++ l) e
+    ∙ ap (λ (l : List ℕ). take k table ++ (row ++ drop (length row) l)) a
+    ∙ ap (λ (l : List ℕ). take k table ++ (row ++ l)) (drop-drop (length row) k table)
+    ∙ sym (append-assoc (take k table) row (drop (k + length row) table))
+    ∙ ap (λ (l : List ℕ). take k table ++ l ++ drop (k + length row) table) (sym (take-length row))
 
 -- Symbols ------------------------------------------------------------------------------------------------------------------------
 
@@ -137,7 +131,7 @@ module _ {text symbols inputs : List ℕ} {count : ℕ} {ss : List Symbol} (h : 
     two = omega arith
 
     pub symbols-more : SymbolsHeld text (sets (set (set symbols (4 * count) output) (4 * count + 1) arity) (4 * count + 2) (start ∷ end ∷ []))
-        (paste inputs (16 * count) row (length row)) (count + 1) (ss ++ (s ∷ []))
+        (paste inputs (ARGUMENTS * count) row (length row)) (count + 1) (ss ++ (s ∷ []))
     unfolding inputRow
     symbols-more =
         let e : sets symbols (4 * count) (output ∷ arity ∷ start ∷ end ∷ []) ≡ sets (set (set symbols (4 * count) output) (4 * count + 1) arity) (4 * count + 2) (start ∷ end ∷ []) =
@@ -147,10 +141,10 @@ module _ {text symbols inputs : List ℕ} {count : ℕ} {ss : List Symbol} (h : 
         record {
           many = omega (arith, length-append ss (s ∷ []), h .many);
           long = ap length (sym e) ∙ length-sets symbols (4 * count) (output ∷ arity ∷ start ∷ end ∷ []) ∙ h .long;
-          longs = length-paste inputs (16 * count) row (length row) (omega (arith, lr, h .longs, l)) (omega arith) ∙ h .longs;
+          longs = length-paste inputs (ARGUMENTS * count) row (length row) (omega (arith, lr, h .longs, l)) (omega arith) ∙ h .longs;
           front = subst (λ t. Front t (rows symbolRow (ss ++ (s ∷ [])))) e
               (front-row symbolRow symbols ss s (output ∷ arity ∷ start ∷ end ∷ []) (4 * count) (h .front) row-is (symbols-cells h) (omega (arith, h .long, l)));
-          fronts = front-same (front-paste inputs (rows inputRow ss) row (16 * count) (h .fronts) (inputs-cells h) (omega (arith, lr, h .longs, l)))
+          fronts = front-same (front-paste inputs (rows inputRow ss) row (ARGUMENTS * count) (h .fronts) (inputs-cells h) (omega (arith, lr, h .longs, l)))
               (ap (λ z. rows inputRow ss ++ z) (sym (is .cells)) ∙ sym (rows-snoc inputRow ss s));
           names = all-snoc (h .names) (is .named);
           few = all-snoc (h .few) (is .few);
@@ -163,6 +157,6 @@ symbol-full T s h l = add-symbol-full T s (omega (arith, l, h .many))
 pub symbol-stored : {text symbols inputs : List ℕ} {count : ℕ} (T : Theory) (s : Symbol) (h : SymbolsHeld text symbols inputs count (T .symbols))
     (output arity start end : ℕ) (row : List ℕ) → SymbolIs text s output arity start end row → count < SYMBOLS →
     SymbolStored text (sets (set (set symbols (4 * count) output) (4 * count + 1) arity) (4 * count + 2) (start ∷ end ∷ []))
-    (paste inputs (16 * count) row (length row)) T (addSymbol s T) (count + 1)
+    (paste inputs (ARGUMENTS * count) row (length row)) T (addSymbol s T) (count + 1)
 symbol-stored T s h output arity start end row is l =
     record { symbol = s; is = add-symbol-new T s (omega (arith, l, h .many)); held = symbols-more h s output arity start end row is l }

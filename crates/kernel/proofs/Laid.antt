@@ -1,18 +1,19 @@
 -- The tables of a theory when the cells behind what is used are zero. Assumes nothing.
 use mathlib.Core.Path.{_≡_, refl, sym, ap, _∙_}
 use Prim.Native.Nat.{ℕ, _-_, _*_, _≤_}
-use mathlib.Core.List.{List, [], _++_}
+use mathlib.Core.List.{List, _++_}
 use native.Mathlib.Omega.{arith}
-use lib.ListN.{length, take, drop, replicate, length-append, length-take, length-drop, drop-of-length-le}
+use lib.ListN.{length, take, drop, replicate, length-append, length-drop}
 use lib.Seq.{take-at, length-take-le}
 use Rattle.rules.specs.Limits.{SORTS, SYMBOLS, ARGUMENTS, RULES, RULEVARS, PATTERNS}
 use Rattle.rules.specs.Sexp.{Name}
 use Rattle.rules.specs.Theory.{Theory, Symbol, Rule}
 use Rattle.rules.specs.TheoryTables.{filled, rows, nameCells, symbolRow, inputRow, patternRow, ruleVarRow, ruleCells, sortTable, symbolTable, inputTable, ruleTable, ruleVarTable, patternTable}
-use Rattle.rules.specs.Laws.Row.{append-nil, length-rows, length-filled, filled-fits}
+use Rattle.rules.specs.Laws.Row.{length-rows, length-filled, filled-fits}
 use Rattle.rules.specs.Laws.Prefix.{words-counted}
 use Rattle.kernel.specs.Held.{Front}
-use Rattle.kernel.specs.Parsed.{Tables, tables, TheoryHeld, Roomy, Exact, Within, zeroFrom, wiped, countsOf, laidExactly, laid}
+use Rattle.kernel.specs.Parsed.{TheoryLists, theoryLists, TheoryHeld, Roomy, Exact, CountsFit, zeroFrom, wiped, countsOf, theoryTables}
+use Rattle.kernel.proofs.Holding.{part-back}
 use Rattle.kernel.specs.declared.parse.Counts.{Counts}
 use Rattle.kernel.specs.RuleRows.{length-rule-cells, rule-var-row-long}
 
@@ -33,14 +34,11 @@ filled-front : (n : ℕ) (xs : List ℕ) → length xs ≤ n → Front (filled n
 filled-front n xs h = record { rest = replicate (n - length xs) 0; is = filled-fits n xs h }
 
 -- a table whose part from a place on was set to zero
-pub zero-behind : (table ys : List ℕ) (k : ℕ) → ys ≡ replicate (length table - k) 0 ++ drop (length table - k) (take (length table - k) (drop k table)) →
+pub zero-behind : (table ys : List ℕ) (k : ℕ) → ys ≡ replicate (length (take (length table - k) (drop k table))) 0 →
     take k table ++ (ys ++ drop (length table - k) (drop k table)) ≡ zeroFrom k table
 zero-behind table ys k e =
-    let n = length table - k in
-    let a : drop n (take n (drop k table)) ≡ [] = drop-of-length-le (take n (drop k table)) {i = n} (omega (arith, length-take n (drop k table))) in
-    let b : drop n (drop k table) ≡ [] = drop-of-length-le (drop k table) {i = n} (omega (arith, length-drop k table)) in
-    let z : ys ≡ replicate n 0 = e ∙ ap (λ (l : List ℕ). replicate n 0 ++ l) a ∙ append-nil (replicate n 0) in
-    ap (λ (l : List ℕ). take k table ++ (ys ++ l)) b ∙ ap (λ (l : List ℕ). take k table ++ l) (append-nil ys ∙ z)
+    let n : length (take (length table - k) (drop k table)) ≡ length table - k = length-take-le (length table - k) (drop k table) (omega (arith, length-drop k table)) in
+    part-back table ys k ∙ ap (λ (l : List ℕ). take k table ++ l) (e ∙ ap (λ (m : ℕ). replicate m 0) n)
 
 -- How many cells are used ----------------------------------------------------------------------------------------------------------
 
@@ -61,26 +59,26 @@ var-cells rs = length-rows ruleVarRow (3 * RULEVARS) rule-var-row-long rs
 
 -- All tables -----------------------------------------------------------------------------------------------------------------------
 
-pub counts-are : {text : List ℕ} {t : Tables} {n : Counts} {T : Theory} → TheoryHeld text t n T → n ≡ countsOf T
+pub counts-are : {text : List ℕ} {t : TheoryLists} {n : Counts} {T : Theory} → TheoryHeld text t n T → n ≡ countsOf T
 counts-are h =
     λ i. record { sorts = sym (h .sorts .many) i; symbols = sym (h .symbols .many) i; rules = sym (h .rules .many) i; words = sym (h .rules .used) i }
 
-module _ {text : List ℕ} {t : Tables} (T : Theory) (h : TheoryHeld text t (countsOf T) T) where
-  pub within-of : Within t (countsOf T)
+module _ {text : List ℕ} {t : TheoryLists} (T : Theory) (h : TheoryHeld text t (countsOf T) T) where
+  pub within-of : CountsFit t (countsOf T)
   within-of =
       record {
         sorts = front-inside (h .sorts .front) (sort-cells (T .sorts));
         symbols = front-inside (h .symbols .front) (symbol-cells (T .symbols));
         inputs = front-inside (h .symbols .fronts) (input-cells (T .symbols));
         rules = front-inside (h .rules .front) (length-rule-cells (T .rules) 0);
-        rule-vars = front-inside (h .rules .fronts) (var-cells (T .rules));
+        ruleVars = front-inside (h .rules .fronts) (var-cells (T .rules));
         patterns = front-inside (h .rules .written) (words-counted (T .rules));
       }
 
-  pub laid-of : wiped t (countsOf T) ≡ laidExactly T
+  pub laid-of : wiped t (countsOf T) ≡ theoryTables T
   unfolding sortTable symbolTable inputTable ruleTable ruleVarTable patternTable
   laid-of =
-      λ i. tables
+      λ i. theoryLists
       (front-filled (h .sorts .front) (sort-cells (T .sorts)) (2 * SORTS) (h .sorts .long) i)
       (front-filled (h .symbols .front) (symbol-cells (T .symbols)) (4 * SYMBOLS) (h .symbols .long) i)
       (front-filled (h .symbols .fronts) (input-cells (T .symbols)) (ARGUMENTS * SYMBOLS) (h .symbols .longs) i)
@@ -89,7 +87,7 @@ module _ {text : List ℕ} {t : Tables} (T : Theory) (h : TheoryHeld text t (cou
       (front-filled (h .rules .written) (words-counted (T .rules)) PATTERNS (h .rules .room) i)
 
   -- they hold what was held
-  pub laid-held : TheoryHeld text (laidExactly T) (countsOf T) T
+  pub laid-held : TheoryHeld text (theoryTables T) (countsOf T) T
   unfolding sortTable symbolTable inputTable ruleTable ruleVarTable patternTable
   laid-held =
       record {
@@ -116,7 +114,7 @@ module _ {text : List ℕ} {t : Tables} (T : Theory) (h : TheoryHeld text t (cou
           longs = length-filled (3 * RULEVARS * RULES) (rows ruleVarRow (T .rules));
           room = length-filled PATTERNS (rows patternRow (T .rules));
           front = filled-front (6 * RULES) (ruleCells (T .rules) 0) (omega (arith, within-of .rules, length-rule-cells (T .rules) 0, h .rules .long));
-          fronts = filled-front (3 * RULEVARS * RULES) (rows ruleVarRow (T .rules)) (omega (arith, within-of .rule-vars, var-cells (T .rules), h .rules .longs));
+          fronts = filled-front (3 * RULEVARS * RULES) (rows ruleVarRow (T .rules)) (omega (arith, within-of .ruleVars, var-cells (T .rules), h .rules .longs));
           written = filled-front PATTERNS (rows patternRow (T .rules)) (omega (arith, within-of .patterns, words-counted (T .rules), h .rules .room));
           names = h .rules .names;
           vars-few = h .rules .vars-few;
@@ -124,28 +122,19 @@ module _ {text : List ℕ} {t : Tables} (T : Theory) (h : TheoryHeld text t (cou
         };
       }
 
--- tables of the named lengths, with what lies behind in longer ones
-pub laid-longer : (t : Tables) (T : Theory) (s y i r v p : List ℕ) → tables s y i r v p ≡ laidExactly T →
-    tables (s ++ drop (2 * SORTS) (t .sorts)) (y ++ drop (4 * SYMBOLS) (t .symbols)) (i ++ drop (ARGUMENTS * SYMBOLS) (t .inputs))
-    (r ++ drop (6 * RULES) (t .rules)) (v ++ drop (3 * RULEVARS * RULES) (t .rule-vars)) (p ++ drop PATTERNS (t .patterns))
-    ≡ laid t T
-laid-longer t T s y i r v p e =
-    ap (λ (u : Tables). tables (u .sorts ++ drop (2 * SORTS) (t .sorts)) (u .symbols ++ drop (4 * SYMBOLS) (t .symbols)) (u .inputs ++ drop (ARGUMENTS * SYMBOLS) (t .inputs))
-    (u .rules ++ drop (6 * RULES) (t .rules)) (u .rule-vars ++ drop (3 * RULEVARS * RULES) (t .rule-vars)) (u .patterns ++ drop PATTERNS (t .patterns))) e
-
 pub longer : (n : ℕ) (ys l : List ℕ) → n ≤ length l → length ys ≡ length (take n l) → length (ys ++ drop n l) ≡ length l
 longer n ys l h e = omega (arith, length-append ys (drop n l), e, length-take-le n l h, length-drop n l)
 
 -- the named lengths of tables that have them at least
-pub exact-fronts : (t : Tables) → Roomy t →
-    Exact (tables (take (2 * SORTS) (t .sorts)) (take (4 * SYMBOLS) (t .symbols)) (take (ARGUMENTS * SYMBOLS) (t .inputs)) (take (6 * RULES) (t .rules))
-    (take (3 * RULEVARS * RULES) (t .rule-vars)) (take PATTERNS (t .patterns)))
+pub exact-fronts : (t : TheoryLists) → Roomy t →
+    Exact (theoryLists (take (2 * SORTS) (t .sorts)) (take (4 * SYMBOLS) (t .symbols)) (take (ARGUMENTS * SYMBOLS) (t .inputs)) (take (6 * RULES) (t .rules))
+    (take (3 * RULEVARS * RULES) (t .ruleVars)) (take PATTERNS (t .patterns)))
 exact-fronts t r =
     record {
       sorts = length-take-le (2 * SORTS) (t .sorts) (r .sorts);
       symbols = length-take-le (4 * SYMBOLS) (t .symbols) (r .symbols);
       inputs = length-take-le (ARGUMENTS * SYMBOLS) (t .inputs) (r .inputs);
       rules = length-take-le (6 * RULES) (t .rules) (r .rules);
-      rule-vars = length-take-le (3 * RULEVARS * RULES) (t .rule-vars) (r .rule-vars);
+      ruleVars = length-take-le (3 * RULEVARS * RULES) (t .ruleVars) (r .ruleVars);
       patterns = length-take-le PATTERNS (t .patterns) (r .patterns);
     }

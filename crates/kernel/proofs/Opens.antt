@@ -23,8 +23,8 @@ use Rattle.kernel.specs.Held.{SymbolsHeld}
 use Rattle.kernel.specs.Reading.{Stopped, HeadRead, Opened, OpenedRead}
 use Rattle.sexp.specs.declared.names.Found.{Found}
 use Rattle.sexp.specs.declared.names.Found.the-variants.{At, Missing}
-use Rattle.kernel.specs.declared.patterns.Made.{Made}
-use Rattle.kernel.specs.declared.patterns.Made.the-variants.{Ok, No}
+use Rattle.kernel.specs.declared.patterns.Reply.{Reply}
+use Rattle.kernel.specs.declared.patterns.Reply.the-variants.{Ok, No}
 use Rattle.sexp.specs.FoundLaws.{found-at, found-missing}
 use Rattle.kernel.specs.SignatureRows.{symbols-rows}
 use Rattle.sexp.specs.FirstItem.{AtomFirst, ListFirst, count-first, none-left}
@@ -56,7 +56,7 @@ module _ (T : Theory) (R : Reading) (sort : ℕ) {text cells : List ℕ} {zs : S
           ap (λ z. pattern T (list z) sort R) (f .is) ∙ pattern-asks R T sort p (letters (drop p text)) (f .others) (omega (arith, k, l))
           ∙ ap (λ n. then (head T sort n (letters (drop p text)) R) (λ c U. then (patterns T (f .others) (inputs T c) U) (λ ts W. ok (app c ts) W))) k
 
-      pub term-opened : (Q : List ℕ) (r : Made) → HeadRead P Q used T R (many - 1) (head T sort (many - 1) (letters (drop p text)) R) r →
+      pub term-opened : (Q : List ℕ) (r : Reply) → HeadRead P Q used T R (many - 1) (head T sort (many - 1) (letters (drop p text)) R) r →
           OpenedRead text cells P Q used T R zs (pattern T (list zs) sort R) r
       unfolding then
       term-opened Q (Ok h next) k =

@@ -18,9 +18,9 @@ use Rattle.sexp.specs.WalkLaws.{Walk, walk-start, walk-more, walk-over, walk-at
 use Rattle.sexp.specs.declared.items.Item.{Item}
 use Rattle.sexp.specs.declared.items.Item.the-variants.{Atom, List as Part}
 use Rattle.kernel.specs.Held.{SymbolsHeld}
-use Rattle.kernel.specs.Reading.{Reads, Written, Stopped, PatternRead, Patterning}
-use Rattle.kernel.specs.declared.patterns.Made.{Made}
-use Rattle.kernel.specs.declared.patterns.Made.the-variants.{Ok, No}
+use Rattle.kernel.specs.Reading.{ReadSoFar, Written, Stopped, PatternRead, Patterning}
+use Rattle.kernel.specs.declared.patterns.Reply.{Reply}
+use Rattle.kernel.specs.declared.patterns.Reply.the-variants.{Ok, No}
 use Rattle.kernel.proofs.Trees.{symbolic, pair-stopped, pair-read, written-of}
 
 -- the next item is a list, and the others stand behind it
@@ -54,16 +54,16 @@ next-list {text} {cells} {at} k h e g =
 -- Where the reader stands ----------------------------------------------------------------------------------------------------------
 
 -- what the rest answers, all answer
-pub record Going (text cells : List ℕ) (T : Theory) (R : Reading) (zs : Sexps) (P : List ℕ) (used : ℕ) (table M : List ℕ) (at v w : ℕ) : Type 0 where
+pub record Premising (text cells : List ℕ) (T : Theory) (R : Reading) (zs : Sexps) (P : List ℕ) (used : ℕ) (table M : List ℕ) (at v w : ℕ) : Type 0 where
   pub left : Sexps
   pub walk : Walk text cells at left
   pub now : Reading
-  pub reads : Reads text table v w now
+  pub reads : ReadSoFar text table v w now
   pub long : length M ≡ length P
-  pub onward : (table′ Q : List ℕ) (r : Made) → PatternRead prefixes text table′ M Q w (judgments T left now) r → PatternRead prefixes text table′ P Q used (judgments T zs R) r
+  pub onward : (table′ Q : List ℕ) (r : Reply) → PatternRead prefixes text table′ M Q w (judgments T left now) r → PatternRead prefixes text table′ P Q used (judgments T zs R) r
 
 module _ {text cells : List ℕ} {T : Theory} {R : Reading} {zs : Sexps} {P : List ℕ} {used : ℕ} {table M : List ℕ} {at v w : ℕ}
-    (g : Going text cells T R zs P used table M at v w) where
+    (g : Premising text cells T R zs P used table M at v w) where
   pub going-over : length cells ≤ at → Written prefixes text table P M used (judgments T zs R) v w
   unfolding prefix
   going-over h =
@@ -96,12 +96,12 @@ module _ {text cells : List ℕ} {T : Theory} {R : Reading} {zs : Sexps} {P : Li
     low : w ≤ length M
     low = omega (arith, g .reads .room, g .long, long)
 
-    pub going-stops : (table′ M′ : List ℕ) (r : Made) {x d : ℕ} → PatternRead prefix text table′ M M′ w (predicated T (f .inner) (g .now)) r → r ≡ No x d →
+    pub going-stops : (table′ M′ : List ℕ) (r : Reply) {x d : ℕ} → PatternRead prefix text table′ M M′ w (predicated T (f .inner) (g .now)) r → r ≡ No x d →
         PatternRead prefixes text table′ P M′ used (judgments T zs R) r
     going-stops table′ M′ r q e =
         g .onward table′ M′ r (pair-stopped text (predicated T (f .inner) (g .now)) (λ U. judgments T (f .others) U) splits w M low table′ M′ r q e)
 
-    pub going-on : {table′ M′ : List ℕ} {n m : ℕ} → Written prefix text table′ M M′ w (predicated T (f .inner) (g .now)) n m → Going text cells T R zs P used table′ M′ b n m
+    pub going-on : {table′ M′ : List ℕ} {n m : ℕ} → Written prefix text table′ M M′ w (predicated T (f .inner) (g .now)) n m → Premising text cells T R zs P used table′ M′ b n m
     going-on {M′ = M′} {m = m} k =
         let high : m ≤ length M′ = omega (arith, k .reads .room, k .long, g .long, long) in
         record {
@@ -117,8 +117,8 @@ module _ {text cells : List ℕ} {T : Theory} {R : Reading} {zs : Sexps} {P : Li
 
 -- the same for whatever theory the tables hold
 pub record Running (text cells symbols inputs : List ℕ) (known : ℕ) (table₀ : List ℕ) (count : ℕ) (P : List ℕ) (used : ℕ) (table M : List ℕ) (at v w : ℕ) : Type 0 where
-  pub goes : (T : Theory) (R : Reading) (zs : Sexps) → SymbolsHeld text symbols inputs known (T .symbols) → Reads text table₀ count used R → Holds text cells zs →
-      Going text cells T R zs P used table M at v w
+  pub goes : (T : Theory) (R : Reading) (zs : Sexps) → SymbolsHeld text symbols inputs known (T .symbols) → ReadSoFar text table₀ count used R → Holds text cells zs →
+      Premising text cells T R zs P used table M at v w
 
 pub running-start : (text cells symbols inputs : List ℕ) (known : ℕ) (table : List ℕ) (count : ℕ) (P : List ℕ) (used : ℕ) →
     Running text cells symbols inputs known table count P used table P 0 count used
@@ -128,7 +128,7 @@ running-start text cells symbols inputs known table count P used =
 module _ {text cells symbols inputs : List ℕ} {known : ℕ} {table₀ : List ℕ} {count : ℕ} {P : List ℕ} {used : ℕ} {table M : List ℕ} {at v w : ℕ}
     (i : Running text cells symbols inputs known table₀ count P used table M at v w) (p : Patterning text cells symbols inputs known table₀ count (length P) used) where
   -- for the theory that is asked for
-  pub here : Going text cells (symbolic (p .held .0)) (p .so-far) (p .zs) P used table M at v w
+  pub here : Premising text cells (symbolic (p .held .0)) (p .so-far) (p .zs) P used table M at v w
   here = i .goes (symbolic (p .held .0)) (p .so-far) (p .zs) (p .held .1) (p .reads) (p .holds)
 
   pub vars-long : length table ≡ length table₀
@@ -150,10 +150,10 @@ module _ {text cells symbols inputs : List ℕ} {known : ℕ} {table₀ : List �
           long = here .long ∙ p .long;
         }
 
-    module _ (table′ M′ : List ℕ) (r : Made)
-        (q : (T : Theory) (R : Reading) (zs : Sexps) → SymbolsHeld text symbols inputs known (T .symbols) → Reads text table v w R → Holds text (take (b - a) (drop a cells)) zs →
+    module _ (table′ M′ : List ℕ) (r : Reply)
+        (q : (T : Theory) (R : Reading) (zs : Sexps) → SymbolsHeld text symbols inputs known (T .symbols) → ReadSoFar text table v w R → Holds text (take (b - a) (drop a cells)) zs →
         PatternRead prefix text table′ M M′ w (predicated T zs R) r) where
-      pub running-stops : {x d : ℕ} → r ≡ No x d → (T : Theory) (R : Reading) (zs : Sexps) → SymbolsHeld text symbols inputs known (T .symbols) → Reads text table₀ count used R →
+      pub running-stops : {x d : ℕ} → r ≡ No x d → (T : Theory) (R : Reading) (zs : Sexps) → SymbolsHeld text symbols inputs known (T .symbols) → ReadSoFar text table₀ count used R →
           Holds text cells zs → PatternRead prefixes text table′ P M′ used (judgments T zs R) r
       running-stops c T R zs s y k =
           let o = i .goes T R zs s y k in

@@ -113,7 +113,7 @@ module _ {text rules vars patterns : List ℕ} {count used : ℕ} {rs : List Rul
         let d : suc (suc (suc (suc (suc (6 * count))))) ≡ 6 * count + 5 = omega arith in
         λ i. set (set (set (set (sets rules (6 * count) (start ∷ end ∷ [])) (a i) variables) (b i) premises) (c i) used) (d i) last
 
-    pub rules-more : RulesHeld text written-row (paste vars (48 * count) row (length row)) patterns (count + 1) last (rs ++ (u ∷ []))
+    pub rules-more : RulesHeld text written-row (paste vars (3 * RULEVARS * count) row (length row)) patterns (count + 1) last (rs ++ (u ∷ []))
     rules-more =
         let cells = start ∷ end ∷ variables ∷ premises ∷ used ∷ last ∷ [] in
         record {
@@ -121,12 +121,12 @@ module _ {text rules vars patterns : List ℕ} {count used : ℕ} {rs : List Rul
           used = sym (words-counted (rs ++ (u ∷ []))) ∙ last-is;
           few = is .room;
           long = ap length (sym cells-at-once) ∙ length-sets rules (6 * count) cells ∙ h .long;
-          longs = length-paste vars (48 * count) row (length row) (omega (arith, row-long, h .longs, l)) (omega arith) ∙ h .longs;
+          longs = length-paste vars (3 * RULEVARS * count) row (length row) (omega (arith, row-long, h .longs, l)) (omega arith) ∙ h .longs;
           room = h .room;
           front = subst (λ t. Front t (ruleCells (rs ++ (u ∷ [])) 0)) cells-at-once
               (front-same (front-write rules (ruleCells rs 0) cells (6 * count) (h .front) rules-cells (omega (arith, h .long, l)))
               (ap (λ z. ruleCells rs 0 ++ z) (sym row-is) ∙ sym (rule-cells-snoc rs u 0)));
-          fronts = front-same (front-paste vars (rows ruleVarRow rs) row (48 * count) (h .fronts) vars-cells (omega (arith, row-long, h .longs, l)))
+          fronts = front-same (front-paste vars (rows ruleVarRow rs) row (3 * RULEVARS * count) (h .fronts) vars-cells (omega (arith, row-long, h .longs, l)))
               (ap (λ z. rows ruleVarRow rs ++ z) (sym (is .cells)) ∙ sym (rows-snoc ruleVarRow rs u));
           written = front-taken patterns (rows patternRow (rs ++ (u ∷ []))) last words-then;
           names = all-snoc (h .names) (is .named);

@@ -22,10 +22,10 @@ use Rattle.sexp.specs.NameRows.{NameRows, foundOf}
 use Rattle.sexp.specs.declared.names.Found.{Found}
 use Rattle.sexp.specs.declared.names.Found.the-variants.{At, Missing}
 use Rattle.kernel.specs.Held.{Form, SomeSymbolsHeld}
-use Rattle.kernel.specs.Reading.{VarsHeld, Reads, Written, Stopped, PatternRead}
+use Rattle.kernel.specs.Reading.{VarsHeld, ReadSoFar, Written, Stopped, PatternRead}
 use Rattle.kernel.specs.HeldRules.{schemaCells, Beginning, RulesHeld, SomeRules, RuleFits, RuleIs, RulePut, RuleRefused, RuleAdded}
-use Rattle.kernel.specs.declared.patterns.Made.{Made}
-use Rattle.kernel.specs.declared.patterns.Made.the-variants.{Ok, No}
+use Rattle.kernel.specs.declared.patterns.Reply.{Reply}
+use Rattle.kernel.specs.declared.patterns.Reply.the-variants.{Ok, No}
 use Rattle.kernel.proofs.Spellings.{Proper}
 use Rattle.sexp.specs.FoundLaws.{found-at, found-missing, namesOf, first-name}
 use Rattle.kernel.proofs.Vars.{vars-few, vars-filled}
@@ -45,7 +45,7 @@ no-vars text =
     record { many = refl; long = refl; front = record { rest = replicate (3 * RULEVARS) 0; is = refl }; blank = refl; names = empty }
 
 module _ {text rules vars P : List ℕ} {count used : ℕ} where
-  pub reads-none : (T : Theory) (row : List ℕ) → row ≡ replicate (3 * RULEVARS) 0 → RulesHeld text rules vars P count used (T .rules) → Reads text row 0 used (begun T)
+  pub reads-none : (T : Theory) (row : List ℕ) → row ≡ replicate (3 * RULEVARS) 0 → RulesHeld text rules vars P count used (T .rules) → ReadSoFar text row 0 used (begun T)
   reads-none T row e h = record { held = subst (λ z. VarsHeld text z 0 []) (sym e) (no-vars text); words = h .used; room = h .few }
 
   pub beginning : {form symbols inputs : List ℕ} {known : ℕ} (row : List ℕ) → row ≡ replicate (3 * RULEVARS) 0 → Form text form 4 → (s : SomeSymbolsHeld text symbols inputs known) →
@@ -54,14 +54,14 @@ module _ {text rules vars P : List ℕ} {count used : ℕ} where
       record { form = f; held = s; so-far = begun (ruled (s .0) (r .0)); reads = reads-none (ruled (s .0) (r .0)) row e (r .1); long = r .1 .room }
 
 -- where the judgments are refused
-pub rule-stops : (text rules vars P table M : List ℕ) {count used : ℕ} (T : Theory) (xs : Sexps) (r : Made) {a d : ℕ} → RulesHeld text rules vars P count used (T .rules) →
+pub rule-stops : (text rules vars P table M : List ℕ) {count used : ℕ} (T : Theory) (xs : Sexps) (r : Reply) {a d : ℕ} → RulesHeld text rules vars P count used (T .rules) →
     PatternRead schemaCells text table P M used (schema T xs (begun T)) r → r ≡ No a d → RuleAdded text rules vars M T (addRule xs T) count used r
 rule-stops text rules vars P table M {count} {used} T xs r {a} {d} h q b =
     let w : Stopped P M used (schema T xs (begun T)) a d = subst (λ z. PatternRead schemaCells text table P M used (schema T xs (begun T)) z) b q in
     subst (λ z. RuleAdded text rules vars M T (addRule xs T) count used z) (sym b)
     (record { is = rule-stopped T xs a d (w .now) (w .is); held = rules-kept h M (w .words) (w .long) })
 
-pub schema-of : (text table P M : List ℕ) (used : ℕ) (given : Out Reading (Trees × Tree)) (r : Made) {n m : ℕ} → PatternRead schemaCells text table P M used given r → r ≡ Ok n m →
+pub schema-of : (text table P M : List ℕ) (used : ℕ) (given : Out Reading (Trees × Tree)) (r : Reply) {n m : ℕ} → PatternRead schemaCells text table P M used given r → r ≡ Ok n m →
     Written schemaCells text table P M used given n m
 schema-of text table P M used given r q b = subst (λ z. PatternRead schemaCells text table P M used given z) b q
 
@@ -99,7 +99,7 @@ module _ {text rules vars P table M : List ℕ} {count used variables last : ℕ
         fresh : ruleNamed T (p .name .bytes) ≡ nothing
         fresh = found-so ∙ found-missing (first (λ (n : Name). same (n .bytes) (take (e - s) (drop s text))) (namesOf ruleName (T .rules)) 0) q (a (namesOf ruleName (T .rules)) (rules-rows h)) c
 
-        pub rule-put : (rules′ vars′ : List ℕ) (r : Made) → RulePut text rules vars rules′ vars′ M count (T .rules) ruleNow r → RuleAdded text rules′ vars′ M T (addRule xs T) count used r
+        pub rule-put : (rules′ vars′ : List ℕ) (r : Reply) → RulePut text rules vars rules′ vars′ M count (T .rules) ruleNow r → RuleAdded text rules′ vars′ M T (addRule xs T) count used r
         rule-put rules′ vars′ (Ok n k) g =
             record { rule = ruleNow; is = rule-new T xs (w .tree) (w .now) (w .is) (p .name) (p .is) fresh (omega (arith, g .0, h .many)); held = g .1 }
         rule-put rules′ vars′ (No x d) g =

@@ -19,7 +19,7 @@ use Rattle.sexp.specs.declared.sexp.Read.{Read}
 use Rattle.sexp.specs.declared.sexp.Read.the-variants.{End, Form, Refused as ReadRefused}
 use Rattle.sexp.specs.declared.sexp.Whole.{Whole}
 use Rattle.sexp.specs.declared.sexp.Whole.the-variants.{Forms, Refused as Unreadable}
-use Rattle.kernel.specs.Parsed.{Tables, TheoryHeld, Formed, Declaring, DeclaredAs, Taken, Exact, Run, countsOf, noCounts, countsIn, judgedOf, theoryOf, verdict, Within, wiped, laidExactly}
+use Rattle.kernel.specs.Parsed.{TheoryLists, TheoryHeld, Formed, Declaring, DeclaredAs, Taken, Exact, Run, countsOf, noCounts, countsIn, judgedOf, theoryOf, verdict, CountsFit, wiped, theoryTables}
 use Rattle.kernel.specs.declared.parse.Counts.{Counts}
 use Rattle.kernel.specs.declared.declare.Declared.{Declared}
 use Rattle.kernel.specs.declared.declare.Declared.the-variants.{Ok, No}
@@ -29,7 +29,7 @@ use Rattle.kernel.proofs.Laid.{counts-are, within-of, laid-of}
 
 -- What is held at the end ----------------------------------------------------------------------------------------------------------
 
-module _ {text : List ℕ} {t : Tables} {n : Counts} (T : Theory) (h : TheoryHeld text t n T) where
+module _ {text : List ℕ} {t : TheoryLists} {n : Counts} (T : Theory) (h : TheoryHeld text t n T) where
   counted : TheoryHeld text t (countsOf T) T
   counted = subst (λ m. TheoryHeld text t m T) (counts-are h) h
 
@@ -40,7 +40,7 @@ module _ {text : List ℕ} {t : Tables} {n : Counts} (T : Theory) (h : TheoryHel
   run-refused J a d k e = subst (λ z. Run text t z (Refused a d k n)) (sym e) (record { answers = ap (Refused a d k) (counts-are h); held = counted })
 
 -- nothing is held in tables of any content
-pub held-none : (text : List ℕ) (t : Tables) → Exact t → TheoryHeld text t noCounts noTheory
+pub held-none : (text : List ℕ) (t : TheoryLists) → Exact t → TheoryHeld text t noCounts noTheory
 unfolding rows ruleCells ruleWords
 held-none text t x =
     record {
@@ -59,10 +59,10 @@ held-none text t x =
         used = refl;
         few = omega arith;
         long = x .rules;
-        longs = x .rule-vars;
+        longs = x .ruleVars;
         room = x .patterns;
         front = record { rest = t .rules; is = refl };
-        fronts = record { rest = t .rule-vars; is = refl };
+        fronts = record { rest = t .ruleVars; is = refl };
         written = record { rest = t .patterns; is = refl };
         names = empty;
         vars-few = empty;
@@ -72,7 +72,7 @@ held-none text t x =
 
 -- A text that is read whole --------------------------------------------------------------------------------------------------------
 
-module _ (text : List ℕ) (t : Tables) (x : Exact t) (c : Counts) (z : c ≡ noCounts) where
+module _ (text : List ℕ) (t : TheoryLists) (x : Exact t) (c : Counts) (z : c ≡ noCounts) where
   start-held : TheoryHeld text t c noTheory
   start-held = subst (λ m. TheoryHeld text t m noTheory) (sym z) (held-none text t x)
 
@@ -80,7 +80,7 @@ module _ (text : List ℕ) (t : Tables) (x : Exact t) (c : Counts) (z : c ≡ no
   unfolding verdict
   unread-refused r e {n} {k} b = run-refused noTheory start-held (verdict text) n 0 k (whole-refused declare noTheory (read text) r e b)
 
-pub read-whole : (text : List ℕ) (t : Tables) (r : Judged) (w : Whole) → w ≡ wholeOf (read text) 0 → {n : ℕ} → w ≡ Forms n → Run text t (through declare (read text) 0 noTheory) r →
+pub read-whole : (text : List ℕ) (t : TheoryLists) (r : Judged) (w : Whole) → w ≡ wholeOf (read text) 0 → {n : ℕ} → w ≡ Forms n → Run text t (through declare (read text) 0 noTheory) r →
     Run text t (verdict text) r
 unfolding verdict
 read-whole text t r w e b k = subst (λ z. Run text t z r) (sym (whole-forms declare noTheory (read text) w e b)) k
@@ -88,15 +88,15 @@ read-whole text t r w e b k = subst (λ z. Run text t z r) (sym (whole-forms dec
 -- The loop -------------------------------------------------------------------------------------------------------------------------
 
 -- so many forms are declared, and what they declare is held
-pub record Underway (text cells₀ cells : List ℕ) (t : Tables) (held : Counts) (forms at : ℕ) : Type 0 where
+pub record Underway (text cells₀ cells : List ℕ) (t : TheoryLists) (held : Counts) (forms at : ℕ) : Type 0 where
   pub T : Theory
   pub theory : TheoryHeld text t held T
   pub going : Going declare text cells₀ cells (through declare (read text) 0 noTheory) T forms at
 
-pub underway-first : (text cells : List ℕ) (t : Tables) (x : Exact t) (c : Counts) → c ≡ noCounts → Legible text cells → Underway text cells cells t c 0 0
+pub underway-first : (text cells : List ℕ) (t : TheoryLists) (x : Exact t) (c : Counts) → c ≡ noCounts → Legible text cells → Underway text cells cells t c 0 0
 underway-first text cells t x c z l = record { T = noTheory; theory = start-held text t x c z; going = going-first declare noTheory l }
 
-module _ {text w₀ w : List ℕ} {t : Tables} {held : Counts} {forms at : ℕ} (g : Underway text w₀ w t held forms at) {v : List ℕ} {r : Read} (k : ReadRight text at w v r) where
+module _ {text w₀ w : List ℕ} {t : TheoryLists} {held : Counts} {forms at : ℕ} (g : Underway text w₀ w t held forms at) {v : List ℕ} {r : Read} (k : ReadRight text at w v r) where
   pub ended : r ≡ End → Run text t (through declare (read text) 0 noTheory) (Done forms held) × (v ≡ w₀)
   ended e = let a = going-ends (g .going) k e in (run-done (g .T) (g .theory) _ forms (a .0), a .1)
 
@@ -114,7 +114,7 @@ module _ {text w₀ w : List ℕ} {t : Tables} {held : Counts} {forms at : ℕ} 
     pub declaring : Declaring text (take n v) t held
     declaring = record { x = form .form; formed = formed; T = g .T; held = g .theory; short = g .going .legible .short }
 
-    module _ (t′ : Tables) {q : Declared} (d : DeclaredAs text t′ held (g .T) (declare (form .form) (g .T)) q) where
+    module _ (t′ : TheoryLists) {q : Declared} (d : DeclaredAs text t′ held (g .T) (declare (form .form) (g .T)) q) where
       pub declared-no : {a b : ℕ} → q ≡ No a b → Run text t′ (through declare (read text) 0 noTheory) (Refused a b forms held)
       declared-no {a} {b} f =
           let s : DeclaredAs text t′ held (g .T) (declare (form .form) (g .T)) (No a b) = subst (DeclaredAs text t′ held (g .T) (declare (form .form) (g .T))) f d in
@@ -131,12 +131,12 @@ counts-in : (J : Verdict Theory) → countsIn (judgedOf J) ≡ countsOf (theoryO
 counts-in (done k T) = refl
 counts-in (refused a d k T) = refl
 
-module _ {text : List ℕ} (t : Tables) (J : Verdict Theory) {r : Judged} (k : Run text t J r) {n : Counts} (e : n ≡ countsIn r) where
+module _ {text : List ℕ} (t : TheoryLists) (J : Verdict Theory) {r : Judged} (k : Run text t J r) {n : Counts} (e : n ≡ countsIn r) where
   counts-so : n ≡ countsOf (theoryOf J)
   counts-so = e ∙ ap countsIn (k .answers) ∙ counts-in J
 
-  pub run-within : Within t n
-  run-within = subst (Within t) (sym counts-so) (within-of (theoryOf J) (k .held))
+  pub run-within : CountsFit t n
+  run-within = subst (CountsFit t) (sym counts-so) (within-of (theoryOf J) (k .held))
 
-  pub run-laid : {u : Tables} → u ≡ wiped t n → u ≡ laidExactly (theoryOf J)
+  pub run-laid : {u : TheoryLists} → u ≡ wiped t n → u ≡ theoryTables (theoryOf J)
   run-laid f = f ∙ ap (wiped t) counts-so ∙ laid-of (theoryOf J) (k .held)

@@ -21,8 +21,8 @@ use Rattle.sexp.specs.declared.items.Item.the-variants.{List as Part}
 use Rattle.kernel.specs.Held.{Form}
 use Rattle.kernel.specs.Reading.{Written, Stopped, PatternRead, Patterning}
 use Rattle.kernel.specs.HeldRules.{schemaCells, Beginning}
-use Rattle.kernel.specs.declared.patterns.Made.{Made}
-use Rattle.kernel.specs.declared.patterns.Made.the-variants.{Ok, No}
+use Rattle.kernel.specs.declared.patterns.Reply.{Reply}
+use Rattle.kernel.specs.declared.patterns.Reply.the-variants.{Ok, No}
 use Rattle.sexp.specs.Never.{never}
 use Rattle.kernel.proofs.Trees.{kept-front, longer}
 
@@ -57,7 +57,7 @@ module _ {text : List ℕ} (T : Theory) (R : Reading) (xs : Sexps) where
   schema-atom {p = p} f = record { now = R; is = schema-no-premises R T xs p (f .bytes) (f .is); words = refl; long = refl }
 
   module _ {form : List ℕ} {a b : ℕ} (l : ListIs text form (item xs 2) a b) (used : ℕ) (P : List ℕ) where
-    pub schema-stops : (table M : List ℕ) (r : Made) {x d : ℕ} → PatternRead prefixes text table P M used (judgments T (l .items) R) r → r ≡ No x d →
+    pub schema-stops : (table M : List ℕ) (r : Reply) {x d : ℕ} → PatternRead prefixes text table P M used (judgments T (l .items) R) r → r ≡ No x d →
         PatternRead schemaCells text table P M used (schema T xs R) r
     schema-stops table M r {x} {d} q e =
         let w : Stopped P M used (judgments T (l .items) R) x d = subst (λ z. PatternRead prefixes text table P M used (judgments T (l .items) R) z) e q in
@@ -81,7 +81,7 @@ module _ {text : List ℕ} (T : Theory) (R : Reading) (xs : Sexps) where
         so-far : schema T xs R ≡ then (predicated T (j .items) (w .now)) (λ t W. ok (w .tree, t) W)
         so-far = schema-asks R T xs (l .items) (l .is) (w .tree) (w .now) (w .is) (j .items) (j .is)
 
-        pub schema-read : (table′ Q : List ℕ) (r : Made) → PatternRead prefix text table′ M Q m (predicated T (j .items) (w .now)) r →
+        pub schema-read : (table′ Q : List ℕ) (r : Reply) → PatternRead prefix text table′ M Q m (predicated T (j .items) (w .now)) r →
             PatternRead schemaCells text table′ P Q used (schema T xs R) r
         unfolding then
         schema-read table′ Q (Ok v y) q =

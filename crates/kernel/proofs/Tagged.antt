@@ -27,11 +27,11 @@ use Rattle.sexp.specs.declared.tags.Declaration.{Declaration as Tag}
 use Rattle.sexp.specs.declared.tags.Declaration.the-variants.{Sort, Ctor, Pred, Rule, Unknown}
 use Rattle.kernel.specs.Held.{Form, SortAdded, SymbolAdded}
 use Rattle.kernel.specs.HeldRules.{RuleAdded}
-use Rattle.kernel.specs.Parsed.{Tables, tables, TheoryHeld, Formed, ItemsDeclaring, DeclaredAs, headed, tagged, taken, sortsNow, symbolsNow, rulesNow}
+use Rattle.kernel.specs.Parsed.{TheoryLists, theoryLists, TheoryHeld, Formed, ItemsDeclaring, DeclaredAs, headed, tagged, taken, sortsNow, symbolsNow, rulesNow}
 use Rattle.kernel.specs.declared.symbols.Added.{Added}
 use Rattle.kernel.specs.declared.symbols.Added.the-variants.{Ok as AddedOk, No as AddedNo}
-use Rattle.kernel.specs.declared.patterns.Made.{Made}
-use Rattle.kernel.specs.declared.patterns.Made.the-variants.{Ok as MadeOk, No as MadeNo}
+use Rattle.kernel.specs.declared.patterns.Reply.{Reply}
+use Rattle.kernel.specs.declared.patterns.Reply.the-variants.{Ok as ReplyOk, No as ReplyNo}
 use Rattle.kernel.specs.declared.parse.Counts.{Counts}
 use Rattle.kernel.specs.declared.declare.Declared.{Declared}
 use Rattle.kernel.specs.declared.declare.Declared.the-variants.{No}
@@ -164,19 +164,19 @@ module _ {text words : List ℕ} (xs : Sexps) (h : Holds text words xs) (n : len
 pub item-many : (xs : Sexps) (d : Declaration) → tagged xs ≡ some d → many d ≡ count xs
 item-many xs d e = sym (headed-many (item xs 0) (count xs) d e)
 
-pub form-of : {text words : List ℕ} {t : Tables} {n : Counts} (k : ItemsDeclaring text words t n) (d : Declaration) → tagged (k .xs) ≡ some d → Form text words (many d)
+pub form-of : {text words : List ℕ} {t : TheoryLists} {n : Counts} (k : ItemsDeclaring text words t n) (d : Declaration) → tagged (k .xs) ≡ some d → Form text words (many d)
 form-of k d e = record { xs = k .xs; holds = k .holds; many = item-many (k .xs) d e; short = k .short }
 
-module _ {text : List ℕ} (t : Tables) (n : Counts) (T : Theory) (xs : Sexps) (h : TheoryHeld text t n T) where
-  given-as : {d : Declaration} (u : Tables) (r : Declared) → tagged xs ≡ some d → DeclaredAs text u n T (declareAs d xs T) r → DeclaredAs text u n T (taken (tagged xs) xs T) r
+module _ {text : List ℕ} (t : TheoryLists) (n : Counts) (T : Theory) (xs : Sexps) (h : TheoryHeld text t n T) where
+  given-as : {d : Declaration} (u : TheoryLists) (r : Declared) → tagged xs ≡ some d → DeclaredAs text u n T (declareAs d xs T) r → DeclaredAs text u n T (taken (tagged xs) xs T) r
   given-as u r e k = subst (λ o. DeclaredAs text u n T (taken o xs T) r) (sym e) k
 
   pub no-tag : tagged xs ≡ nothing → DeclaredAs text t n T (taken (tagged xs) xs T) (No 10 0)
   no-tag e = (ap (λ o. taken o xs T) e, h)
 
   module _ (s : List ℕ) where
-    abbrev with-sorts : Tables
-    with-sorts = tables s (t .symbols) (t .inputs) (t .rules) (t .rule-vars) (t .patterns)
+    abbrev with-sorts : TheoryLists
+    with-sorts = theoryLists s (t .symbols) (t .inputs) (t .rules) (t .ruleVars) (t .patterns)
 
     sort-step : (r : Added) → SortAdded text (t .sorts) s T (addSort xs T) r → DeclaredAs text with-sorts n T (declareAs aSort xs T) (sortsNow n r)
     unfolding declareAs
@@ -193,8 +193,8 @@ module _ {text : List ℕ} (t : Tables) (n : Counts) (T : Theory) (xs : Sexps) (
     sort-taken e r d a f = subst (λ z. DeclaredAs text with-sorts n T (taken (tagged xs) xs T) z) (sym f) (given-as with-sorts (sortsNow n r) e (sort-step r a))
 
   module _ (y i : List ℕ) where
-    abbrev with-symbols : Tables
-    with-symbols = tables (t .sorts) y i (t .rules) (t .rule-vars) (t .patterns)
+    abbrev with-symbols : TheoryLists
+    with-symbols = theoryLists (t .sorts) y i (t .rules) (t .ruleVars) (t .patterns)
 
     symbol-step : (g : Out Theory (Unit {0})) (r : Added) → SymbolAdded text (t .symbols) (t .inputs) y i T g r → DeclaredAs text with-symbols n T g (symbolsNow n r)
     symbol-step g (AddedOk k) a =
@@ -216,20 +216,20 @@ module _ {text : List ℕ} (t : Tables) (n : Counts) (T : Theory) (xs : Sexps) (
     pred-taken e r d a f = subst (λ z. DeclaredAs text with-symbols n T (taken (tagged xs) xs T) z) (sym f) (given-as with-symbols (symbolsNow n r) e (symbol-step (addPred xs T) r a))
 
   module _ (u w p : List ℕ) where
-    abbrev with-rules : Tables
-    with-rules = tables (t .sorts) (t .symbols) (t .inputs) u w p
+    abbrev with-rules : TheoryLists
+    with-rules = theoryLists (t .sorts) (t .symbols) (t .inputs) u w p
 
-    rule-step : (r : Made) → RuleAdded text u w p T (addRule xs T) (n .rules) (n .words) r → DeclaredAs text with-rules n T (declareAs aRule xs T) (rulesNow n r)
+    rule-step : (r : Reply) → RuleAdded text u w p T (addRule xs T) (n .rules) (n .words) r → DeclaredAs text with-rules n T (declareAs aRule xs T) (rulesNow n r)
     unfolding declareAs
-    rule-step (MadeOk k m) a =
+    rule-step (ReplyOk k m) a =
         record {
           now = _;
           is = a .is;
           held = record { sorts = h .sorts; symbols = h .symbols; rules = a .held };
         }
-    rule-step (MadeNo b d) a = (a .is, record { sorts = h .sorts; symbols = h .symbols; rules = a .held })
+    rule-step (ReplyNo b d) a = (a .is, record { sorts = h .sorts; symbols = h .symbols; rules = a .held })
 
-    pub rule-taken : tagged xs ≡ some aRule → (r : Made) (d : Declared) → RuleAdded text u w p T (addRule xs T) (n .rules) (n .words) r → d ≡ rulesNow n r →
+    pub rule-taken : tagged xs ≡ some aRule → (r : Reply) (d : Declared) → RuleAdded text u w p T (addRule xs T) (n .rules) (n .words) r → d ≡ rulesNow n r →
         DeclaredAs text with-rules n T (taken (tagged xs) xs T) d
     rule-taken e r d a f = subst (λ z. DeclaredAs text with-rules n T (taken (tagged xs) xs T) z) (sym f) (given-as with-rules (rulesNow n r) e (rule-step r a))
 

@@ -18,10 +18,10 @@ use Rattle.rules.specs.Laws.PatternSteps.{worded, patterns-none, patterns-more}
 use Rattle.sexp.specs.Items.{Holds}
 use Rattle.sexp.specs.declared.items.Item.{Item}
 use Rattle.kernel.specs.Held.{SymbolsHeld}
-use Rattle.kernel.specs.Reading.{Reads, Written, Stopped, PatternRead, Opened, OpenedRead, Placed, Arguing}
-use Rattle.kernel.specs.declared.patterns.Made.{Made}
-use Rattle.kernel.specs.declared.patterns.Made.the-variants.{Ok, No}
-use Rattle.sexp.specs.FirstItem.{First, none-left}
+use Rattle.kernel.specs.Reading.{ReadSoFar, Written, Stopped, PatternRead, Opened, OpenedRead, Placed, Arguing}
+use Rattle.kernel.specs.declared.patterns.Reply.{Reply}
+use Rattle.kernel.specs.declared.patterns.Reply.the-variants.{Ok, No}
+use Rattle.sexp.specs.FirstItem.{ItemFirst, none-left}
 
 -- some theory with these symbols
 abbrev pub symbolic : List Symbol → Theory
@@ -43,7 +43,7 @@ longer P Q w used next l m e =
 
 module _ {text cells P M : List ℕ} {used : ℕ} {T : Theory} {R : Reading} {zs : Sexps} {given : Out Reading Tree} {c next : ℕ} (o : Opened text cells P M used T R zs given c next)
     (l : used ≤ length P) where
-  pub list-read : (table Q : List ℕ) (r : Made) → PatternRead prefixes text table M Q next (patterns T (o .others) (inputs T c) (worded R)) r →
+  pub list-read : (table Q : List ℕ) (r : Reply) → PatternRead prefixes text table M Q next (patterns T (o .others) (inputs T c) (worded R)) r →
       PatternRead prefix text table P Q used given r
   unfolding then prefix
   list-read table Q (Ok n m) k =
@@ -63,7 +63,7 @@ module _ {text cells P M : List ℕ} {used : ℕ} {T : Theory} {R : Reading} {zs
         long = k .long ∙ o .long;
       }
 
-  pub opened-reads : {table : List ℕ} {n : ℕ} → Reads text table n used R → Reads text table n next (worded R)
+  pub opened-reads : {table : List ℕ} {n : ℕ} → ReadSoFar text table n used R → ReadSoFar text table n next (worded R)
   opened-reads h = record { held = h .held; words = omega (arith, h .words, o .nexts); room = o .room }
 
   pub opened-placed : Placed (T .symbols) c 0 (o .others)
@@ -71,19 +71,19 @@ module _ {text cells P M : List ℕ} {used : ℕ} {T : Theory} {R : Reading} {zs
   opened-placed = record { known = o .known; many = omega (arith, o .many) }
 
 -- where the head is refused
-pub list-stopped : (text cells table P Q : List ℕ) (used : ℕ) (T : Theory) (R : Reading) (zs : Sexps) (given : Out Reading Tree) (r : Made) {a d : ℕ} →
+pub list-stopped : (text cells table P Q : List ℕ) (used : ℕ) (T : Theory) (R : Reading) (zs : Sexps) (given : Out Reading Tree) (r : Reply) {a d : ℕ} →
     OpenedRead text cells P Q used T R zs given r → r ≡ No a d → PatternRead prefix text table P Q used given r
 list-stopped text cells table P Q used T R zs given r {a} {d} k b =
     subst (λ z. PatternRead prefix text table P Q used given z) (sym b) (subst (λ z. OpenedRead text cells P Q used T R zs given z) b k)
 
-pub list-opened : (text cells P Q : List ℕ) (used : ℕ) (T : Theory) (R : Reading) (zs : Sexps) (given : Out Reading Tree) (r : Made) {c next : ℕ} →
+pub list-opened : (text cells P Q : List ℕ) (used : ℕ) (T : Theory) (R : Reading) (zs : Sexps) (given : Out Reading Tree) (r : Reply) {c next : ℕ} →
     OpenedRead text cells P Q used T R zs given r → r ≡ Ok c next → Opened text cells P Q used T R zs given c next
 list-opened text cells P Q used T R zs given r k b = subst (λ z. OpenedRead text cells P Q used T R zs given z) b k
 
 -- one tree and others behind it
 module _ (text : List ℕ) {given : Out Reading Trees} (this : Out Reading Tree) (others : Reading → Out Reading Trees)
     (splits : given ≡ then this (λ t U. then (others U) (λ ts W. ok (more t ts) W))) (used : ℕ) (P : List ℕ) (l : used ≤ length P) where
-  pub pair-stopped : (table M : List ℕ) (r : Made) {a d : ℕ} → PatternRead prefix text table P M used this r → r ≡ No a d → PatternRead prefixes text table P M used given r
+  pub pair-stopped : (table M : List ℕ) (r : Reply) {a d : ℕ} → PatternRead prefix text table P M used this r → r ≡ No a d → PatternRead prefixes text table P M used given r
   unfolding then
   pair-stopped table M r {a} {d} q b =
       let w : Stopped P M used this a d = subst (λ z. PatternRead prefix text table P M used this z) b q in
@@ -95,7 +95,7 @@ module _ (text : List ℕ) {given : Out Reading Trees} (this : Out Reading Tree)
     unfolding then
     so-far = splits ∙ ap (λ z. then z (λ t U. then (others U) (λ ts W. ok (more t ts) W))) (w .is)
 
-    pub pair-read : (table′ Q : List ℕ) (r : Made) → PatternRead prefixes text table′ M Q m (others (w .now)) r → PatternRead prefixes text table′ P Q used given r
+    pub pair-read : (table′ Q : List ℕ) (r : Reply) → PatternRead prefixes text table′ M Q m (others (w .now)) r → PatternRead prefixes text table′ P Q used given r
     unfolding then prefix
     pair-read table′ Q (Ok v u) q =
         record {
@@ -116,7 +116,7 @@ module _ (text : List ℕ) {given : Out Reading Trees} (this : Out Reading Tree)
 
 -- Arguments ----------------------------------------------------------------------------------------------------------------------
 
-pub arguments-none : {text cells table P : List ℕ} {n used : ℕ} {R : Reading} {zs : Sexps} (T : Theory) (ss : List ℕ) → Holds text cells zs → length cells ≡ 0 → Reads text table n used R →
+pub arguments-none : {text cells table P : List ℕ} {n used : ℕ} {R : Reading} {zs : Sexps} (T : Theory) (ss : List ℕ) → Holds text cells zs → length cells ≡ 0 → ReadSoFar text table n used R →
     Written prefixes text table P P used (patterns T zs ss R) n used
 unfolding prefix
 arguments-none {P = P} {used = used} {R = R} T ss h l k =
@@ -141,7 +141,7 @@ module _ {ss : List Symbol} {c k : ℕ} {zs : Sexps} (p : Placed ss c k zs) {x :
   pub placed-next : Placed ss c (k + 1) ys
   placed-next = record { known = p .known; many = omega (arith, p .many, count-more) }
 
-module _ {text cells : List ℕ} {zs : Sexps} {item : Item} {next k c sort : ℕ} (T : Theory) (R : Reading) (f : First text cells zs item next) (p : Placed (T .symbols) c k zs)
+module _ {text cells : List ℕ} {zs : Sexps} {item : Item} {next k c sort : ℕ} (T : Theory) (R : Reading) (f : ItemFirst text cells zs item next) (p : Placed (T .symbols) c k zs)
     (s : sort ≡ getD (getD (T .symbols) c noSymbol .inputs) k 0) where
   splits : patterns T zs (drop k (inputs T c)) R ≡ then (pattern T (f .x) sort R) (λ t U. then (patterns T (f .ys) (drop (k + 1) (inputs T c)) U) (λ ts W. ok (more t ts) W))
   unfolding inputs
@@ -152,15 +152,15 @@ module _ {text cells : List ℕ} {zs : Sexps} {item : Item} {next k c sort : ℕ
       ap (λ z. patterns T z (drop k (inputs T c)) R) (f .is) ∙ ap (λ z. patterns T (cons (f .x) (f .ys)) z R) d ∙ patterns-more R T (f .x) (f .ys) sort (drop (k + 1) (inputs T c))
 
   module _ (used : ℕ) (P : List ℕ) (l : used ≤ length P) where
-    pub arguments-stopped : (table M : List ℕ) (r : Made) {a d : ℕ} → PatternRead prefix text table P M used (pattern T (f .x) sort R) r → r ≡ No a d →
+    pub arguments-stopped : (table M : List ℕ) (r : Reply) {a d : ℕ} → PatternRead prefix text table P M used (pattern T (f .x) sort R) r → r ≡ No a d →
         PatternRead prefixes text table P M used (patterns T zs (drop k (inputs T c)) R) r
     arguments-stopped = pair-stopped text (pattern T (f .x) sort R) (λ U. patterns T (f .ys) (drop (k + 1) (inputs T c)) U) splits used P l
 
-    pub arguments-read : {table M : List ℕ} {n m : ℕ} (w : Written prefix text table P M used (pattern T (f .x) sort R) n m) → m ≤ length M → (table′ Q : List ℕ) (r : Made) →
+    pub arguments-read : {table M : List ℕ} {n m : ℕ} (w : Written prefix text table P M used (pattern T (f .x) sort R) n m) → m ≤ length M → (table′ Q : List ℕ) (r : Reply) →
         PatternRead prefixes text table′ M Q m (patterns T (f .ys) (drop (k + 1) (inputs T c)) (w .now)) r → PatternRead prefixes text table′ P Q used (patterns T zs (drop k (inputs T c)) R) r
     arguments-read w g = pair-read text (pattern T (f .x) sort R) (λ U. patterns T (f .ys) (drop (k + 1) (inputs T c)) U) splits used P l w g
 
-pub written-of : {A : Type 0} (cells : A → List ℕ) (text table P M : List ℕ) (used : ℕ) (given : Out Reading A) (r : Made) {n m : ℕ} → PatternRead cells text table P M used given r → r ≡ Ok n m →
+pub written-of : {A : Type 0} (cells : A → List ℕ) (text table P M : List ℕ) (used : ℕ) (given : Out Reading A) (r : Reply) {n m : ℕ} → PatternRead cells text table P M used given r → r ≡ Ok n m →
     Written cells text table P M used given n m
 written-of cells text table P M used given r q b = subst (λ z. PatternRead cells text table P M used given z) b q
 
@@ -168,7 +168,7 @@ written-of cells text table P M used given r q b = subst (λ z. PatternRead cell
 
 -- the arguments behind a head
 pub arguing-inner : {text cells symbols inputs table P M : List ℕ} {known n used c next : ℕ} {R : Reading} {ss : List Symbol} {zs : Sexps} {given : Out Reading Tree} →
-    (o : Opened text cells P M used (symbolic ss) R zs given c next) → SymbolsHeld text symbols inputs known ss → Reads text table n used R → length text ≤ LENGTH → length P ≡ PATTERNS →
+    (o : Opened text cells P M used (symbolic ss) R zs given c next) → SymbolsHeld text symbols inputs known ss → ReadSoFar text table n used R → length text ≤ LENGTH → length P ≡ PATTERNS →
     Arguing text (take (length cells - 1) (drop 1 cells)) symbols inputs known table n (length M) next c 0
 arguing-inner {P = P} {used = used} {R = R} {ss = ss} o h r s l =
     let m : used ≤ length P = omega (arith, r .room, l) in
@@ -179,7 +179,7 @@ arguing-inner {P = P} {used = used} {R = R} {ss = ss} o h r s l =
 
 -- the arguments behind one
 pub arguing-rest : {text cells symbols inputs table table′ P M : List ℕ} {known n used c k next v w : ℕ} {item : Item} {given : Out Reading Tree}
-    (a : Arguing text cells symbols inputs known table n (length P) used c k) (f : First text cells (a .given .zs) item next) → Written prefix text table′ P M used given v w →
+    (a : Arguing text cells symbols inputs known table n (length P) used c k) (f : ItemFirst text cells (a .given .zs) item next) → Written prefix text table′ P M used given v w →
     Arguing text (take (length cells - next) (drop next cells)) symbols inputs known table′ v (length M) w c (k + 1)
 arguing-rest a f q =
     record {

@@ -25,11 +25,11 @@ use Rattle.sexp.specs.AtomText.{nameFrom, atom-span}
 use Rattle.kernel.specs.Named.{called, ofKind, SymbolRows}
 use Rattle.sexp.specs.NameRows.{foundOf}
 use Rattle.kernel.specs.Held.{SymbolsHeld}
-use Rattle.kernel.specs.Reading.{WordPut, Meeting, Met, MetRead, Reads, Ready, Written, Stopped, PatternRead, Head, HeadRead}
+use Rattle.kernel.specs.Reading.{WordPut, Meeting, Met, MetRead, ReadSoFar, AtomReading, Written, Stopped, PatternRead, Head, HeadRead}
 use Rattle.sexp.specs.declared.names.Found.{Found}
 use Rattle.sexp.specs.declared.names.Found.the-variants.{At, Missing}
-use Rattle.kernel.specs.declared.patterns.Made.{Made}
-use Rattle.kernel.specs.declared.patterns.Made.the-variants.{Ok, No}
+use Rattle.kernel.specs.declared.patterns.Reply.{Reply}
+use Rattle.kernel.specs.declared.patterns.Reply.the-variants.{Ok, No}
 use Rattle.sexp.specs.FoundLaws.{found-at, found-missing}
 use Rattle.kernel.specs.SignatureRows.{symbols-rows, symbols-few}
 
@@ -47,7 +47,7 @@ words-more P Q used cell l e = ap (λ (k : ℕ). take k Q) (add-one used) ∙ ap
 
 -- An atom ------------------------------------------------------------------------------------------------------------------------
 
-pub meeting : {text table : List ℕ} {start sort count room : ℕ} (end : ℕ) → Ready text start sort table count room → end ≡ start + length (letters (drop start text)) →
+pub meeting : {text table : List ℕ} {start sort count room : ℕ} (end : ℕ) → AtomReading text start sort table count room → end ≡ start + length (letters (drop start text)) →
     Meeting text start end sort table count
 meeting {text} {start = start} end k e =
     record { vs = k .vs; held = k .held; low = omega (arith, e); high = atom-span text start end (k .inside) e .high; short = k .short; small = k .small }
@@ -63,7 +63,7 @@ module _ (text : List ℕ) (start end sort : ℕ) (e : end ≡ start + length (l
     asks : variable (nameFrom text start) sort R ≡ then (metOrNew (nameFrom text start) sort (varNamed (R .vars) (letters (drop start text))) R) (λ i U. then (word U) (λ u W. ok (var i) W))
     asks = variable-asks R (nameFrom text start) sort (omega (arith, e, l))
 
-    pub variable-unmet : (table P : List ℕ) (used : ℕ) (r : Made) {a d : ℕ} → MetRead text table R (metOrNew (nameFrom text start) sort (varNamed (R .vars) (letters (drop start text))) R) r → r ≡ No a d →
+    pub variable-unmet : (table P : List ℕ) (used : ℕ) (r : Reply) {a d : ℕ} → MetRead text table R (metOrNew (nameFrom text start) sort (varNamed (R .vars) (letters (drop start text))) R) r → r ≡ No a d →
         PatternRead prefix text table P P used (variable (nameFrom text start) sort R) r
     unfolding then
     variable-unmet table P used r {a} {d} m b =
@@ -71,7 +71,7 @@ module _ (text : List ℕ) (start end sort : ℕ) (e : end ≡ start + length (l
         subst (λ z. PatternRead prefix text table P P used (variable (nameFrom text start) sort R) z) (sym b)
         (record { now = R; is = asks ∙ ap (λ z. then z (λ i U. then (word U) (λ u W. ok (var i) W))) q; words = refl; long = refl })
 
-    module _ (table : List ℕ) (r : Made) {i now : ℕ} (m : MetRead text table R (metOrNew (nameFrom text start) sort (varNamed (R .vars) (letters (drop start text))) R) r)
+    module _ (table : List ℕ) (r : Reply) {i now : ℕ} (m : MetRead text table R (metOrNew (nameFrom text start) sort (varNamed (R .vars) (letters (drop start text))) R) r)
         (b : r ≡ Ok i now) where
       pub met : Met text table R (metOrNew (nameFrom text start) sort (varNamed (R .vars) (letters (drop start text))) R) i now
       met = subst (λ z. MetRead text table R (metOrNew (nameFrom text start) sort (varNamed (R .vars) (letters (drop start text))) R) z) b m
@@ -80,7 +80,7 @@ module _ (text : List ℕ) (start end sort : ℕ) (e : end ≡ start + length (l
       unfolding then
       so = asks ∙ ap (λ z. then z (λ i U. then (word U) (λ u W. ok (var i) W))) (met .is)
 
-      pub variable-written : {used : ℕ} (P Q : List ℕ) → R .words ≡ used → length P ≡ PATTERNS → (used < PATTERNS) × (Q ≡ set P used (256 + i)) →
+      pub variable-written : {used : ℕ} (P Q : List ℕ) → R .words ≡ used → length P ≡ PATTERNS → (used < PATTERNS) × (Q ≡ set P used (SYMBOLS + i)) →
           Written prefix text table P Q used (variable (nameFrom text start) sort R) now (used + 1)
       unfolding then prefix
       variable-written {used} P Q w g k =
@@ -89,8 +89,8 @@ module _ (text : List ℕ) (start end sort : ℕ) (e : end ≡ start + length (l
             now = worded (met .now);
             is = so ∙ ap (λ z. then z (λ u W. ok (var i) W)) (word-more (met .now) (omega (arith, met .words, w, k .0)));
             reads = record { held = met .held; words = omega (arith, met .words, w); room = omega (arith, k .0) };
-            words = words-more P Q used (256 + i) (omega (arith, g, k .0)) (k .1);
-            long = ap length (k .1) ∙ length-set P used (256 + i);
+            words = words-more P Q used (SYMBOLS + i) (omega (arith, g, k .0)) (k .1);
+            long = ap length (k .1) ∙ length-set P used (SYMBOLS + i);
           }
 
       pub variable-full : {used : ℕ} (P Q : List ℕ) → R .words ≡ used → (PATTERNS ≤ used) × (Q ≡ P) → Stopped P Q used (variable (nameFrom text start) sort R) 60 6
@@ -187,12 +187,12 @@ head-row {ss = ss} name b r c h a e =
 -- The answers of `atomic` --------------------------------------------------------------------------------------------------------
 
 module _ (text : List ℕ) (start sort : ℕ) (T : Theory) (R : Reading) (table P Q : List ℕ) (used : ℕ) where
-  pub atomic-marked : marked (letters (drop start text)) ≡ true → (r : Made) → PatternRead prefix text table P Q used (variable (nameFrom text start) sort R) r →
+  pub atomic-marked : marked (letters (drop start text)) ≡ true → (r : Reply) → PatternRead prefix text table P Q used (variable (nameFrom text start) sort R) r →
       PatternRead prefix text table P Q used (pattern T (atom start (letters (drop start text))) sort R) r
   atomic-marked m r k =
       subst (λ z. PatternRead prefix text table P Q used z r) (sym (pattern-marked R T sort start (letters (drop start text)) m)) k
 
-  module _ (m : marked (letters (drop start text)) ≡ false) (r : Made) (k : HeadRead P Q used T R 0 (head T sort 0 (letters (drop start text)) R) r) where
+  module _ (m : marked (letters (drop start text)) ≡ false) (r : Reply) (k : HeadRead P Q used T R 0 (head T sort 0 (letters (drop start text)) R) r) where
     pub atomic-stopped : {a d : ℕ} → r ≡ No a d → PatternRead prefix text table P Q used (pattern T (atom start (letters (drop start text))) sort R) r
     unfolding then
     atomic-stopped {a} {d} b =
@@ -205,7 +205,7 @@ module _ (text : List ℕ) (start sort : ℕ) (T : Theory) (R : Reading) (table 
           long = q .long;
         })
 
-    pub atomic-made : {c next count : ℕ} → r ≡ Ok c next → Reads text table count used R →
+    pub atomic-made : {c next count : ℕ} → r ≡ Ok c next → ReadSoFar text table count used R →
         Written prefix text table P Q used (pattern T (atom start (letters (drop start text))) sort R) count next
     unfolding then prefix
     atomic-made {c} {next} b h =

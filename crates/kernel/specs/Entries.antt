@@ -11,7 +11,7 @@ use Rattle.rules.specs.TheoryTables.{prefix, prefixes, patternRow}
 use Rattle.rules.specs.Laws.Theory.{WellFormed, RuleFormed, all-at}
 use Rattle.kernel.specs.Held.{SymbolsHeld}
 use Rattle.kernel.specs.HeldRules.{RulesHeld}
-use Rattle.kernel.specs.Parsed.{Tables, TheoryHeld}
+use Rattle.kernel.specs.Parsed.{TheoryLists, TheoryHeld}
 use Rattle.kernel.specs.Readers.{KnownSymbol, KnownInput, KnownRule, KnownVar, NamedVars, WordsAt, FormedRules, KnownFormedRule, conclusionAt}
 use Rattle.kernel.specs.declared.parse.Counts.{Counts}
 use Rattle.kernel.specs.declared.rule_readers.Span.{Span}
@@ -39,13 +39,13 @@ module _ (T : Theory) {text rules vars patterns : List ℕ} {count words : ℕ} 
   unfolding rule
   named-vars e = record { rules = rules; patterns = patterns; count = count; words = words; held = (T .rules, h); known = l; all = e }
 
-pub formed-rules : {text : List ℕ} {t : Tables} {n : Counts} {T : Theory} → TheoryHeld text t n T → WellFormed T →
+pub formed-rules : {text : List ℕ} {t : TheoryLists} {n : Counts} {T : Theory} → TheoryHeld text t n T → WellFormed T →
     FormedRules (t .symbols) (t .rules) (t .patterns) (n .rules) T
 formed-rules {text} {t} {n} h g =
     record {
       text = text;
       ins = t .inputs;
-      vars = t .rule-vars;
+      vars = t .ruleVars;
       known = n .symbols;
       words = n .words;
       formed = g;

@@ -12,9 +12,9 @@ use Rattle.rules.specs.TheoryTables.{prefix, prefixes, patternRow, ruleVarRow, 
 use Rattle.rules.specs.Declare.{Reading}
 use Rattle.sexp.specs.NameRows.{NameIn}
 use Rattle.kernel.specs.Held.{Front, Form, SomeSymbolsHeld}
-use Rattle.kernel.specs.Reading.{Reads}
-use Rattle.kernel.specs.declared.patterns.Made.{Made}
-use Rattle.kernel.specs.declared.patterns.Made.the-variants.{Ok, No}
+use Rattle.kernel.specs.Reading.{ReadSoFar}
+use Rattle.kernel.specs.declared.patterns.Reply.{Reply}
+use Rattle.kernel.specs.declared.patterns.Reply.the-variants.{Ok, No}
 
 -- Reading ------------------------------------------------------------------------------------------------------------------------
 
@@ -27,7 +27,7 @@ pub record Beginning (text items symbols inputs : List ℕ) (known : ℕ) (row :
   pub form : Form text items 4
   pub held : SomeSymbolsHeld text symbols inputs known
   pub so-far : Reading
-  pub reads : Reads text row 0 used so-far
+  pub reads : ReadSoFar text row 0 used so-far
   pub long : room ≡ PATTERNS
 
 -- a rule's form, of whatever text
@@ -80,7 +80,7 @@ pub record RuleIs (text patterns : List ℕ) (r : Rule) (start end variables pre
   pub room : last ≤ PATTERNS
 
 -- what is stored, and what the lack of room leaves
-abbrev pub RulePut : List ℕ → List ℕ → List ℕ → List ℕ → List ℕ → List ℕ → ℕ → List Rule → Rule → Made → Type 0
+abbrev pub RulePut : List ℕ → List ℕ → List ℕ → List ℕ → List ℕ → List ℕ → ℕ → List Rule → Rule → Reply → Type 0
 RulePut text rules vars rules′ vars′ patterns count rs u (Ok n w) = (count < RULES) × RulesHeld text rules′ vars′ patterns n w (rs ++ (u ∷ []))
 RulePut text rules vars rules′ vars′ patterns count rs u (No a d) = (RULES ≤ count) × (a ≡ 60) × (d ≡ 4) × (rules′ ≡ rules) × (vars′ ≡ vars)
 
@@ -99,6 +99,6 @@ pub record RuleRefused (text rules vars patterns : List ℕ) (T : Theory) (given
   pub held : RulesHeld text rules vars patterns count words (T .rules)
 
 -- text, then the tables afterwards, and what was held before
-abbrev pub RuleAdded : List ℕ → List ℕ → List ℕ → List ℕ → Theory → Out Theory (Unit {0}) → ℕ → ℕ → Made → Type 0
+abbrev pub RuleAdded : List ℕ → List ℕ → List ℕ → List ℕ → Theory → Out Theory (Unit {0}) → ℕ → ℕ → Reply → Type 0
 RuleAdded text rules vars patterns T given count words (Ok n w) = RuleStored text rules vars patterns T given n w
 RuleAdded text rules vars patterns T given count words (No a d) = RuleRefused text rules vars patterns T given count words a d

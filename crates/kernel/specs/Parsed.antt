@@ -4,7 +4,7 @@ use mathlib.Core.Path.{_≡_}
 use Prim.Native.Nat.{ℕ, _-_, _*_, _≤_}
 use mathlib.Core.Option.{Option, some, none as nothing}
 use mathlib.Core.List.{List, _++_}
-use lib.ListN.{length, take, drop, replicate}
+use lib.ListN.{length, take, replicate}
 use Rattle.rules.specs.Limits.{LENGTH, SORTS, SYMBOLS, ARGUMENTS, RULES, RULEVARS, PATTERNS}
 use Rattle.rules.specs.Out.{Out, ok, refuse}
 use Rattle.rules.specs.Sexp.{Sexp, Sexps, atom, list, item, count, read}
@@ -13,6 +13,7 @@ use Rattle.rules.specs.Theory.{Theory, noTheory, ruleWords}
 use Rattle.rules.specs.Declare.{declareAs, declare}
 use Rattle.rules.specs.Loop.{Judged as Verdict, done, refused, whole}
 use Rattle.rules.specs.TheoryTables.{sortTable, symbolTable, inputTable, ruleTable, ruleVarTable, patternTable}
+use Rattle.rules.specs.StateTables.{laid}
 use Rattle.sexp.specs.Encode.{encode}
 use Rattle.sexp.specs.Spelt.{Spelt}
 use Rattle.sexp.specs.Items.{Holds}
@@ -20,33 +21,33 @@ use Rattle.kernel.specs.Held.{SortsHeld, SymbolsHeld}
 use Rattle.kernel.specs.HeldRules.{RulesHeld}
 use Rattle.kernel.specs.declared.symbols.Added.{Added}
 use Rattle.kernel.specs.declared.symbols.Added.the-variants.{Ok as AddedOk, No as AddedNo}
-use Rattle.kernel.specs.declared.patterns.Made.{Made}
-use Rattle.kernel.specs.declared.patterns.Made.the-variants.{Ok as MadeOk, No as MadeNo}
+use Rattle.kernel.specs.declared.patterns.Reply.{Reply}
+use Rattle.kernel.specs.declared.patterns.Reply.the-variants.{Ok as ReplyOk, No as ReplyNo}
 use Rattle.kernel.specs.declared.parse.Counts.{Counts}
 use Rattle.kernel.specs.declared.declare.Declared.{Declared}
 use Rattle.kernel.specs.declared.declare.Declared.the-variants.{Ok, No}
 use Rattle.kernel.specs.declared.parse.Judged.{Judged}
 use Rattle.kernel.specs.declared.parse.Judged.the-variants.{Done, Refused}
 
--- the six tables
-pub record Tables : Type 0 where
+-- the six tables of a theory
+pub record TheoryLists : Type 0 where
   pub sorts : List ℕ
   pub symbols : List ℕ
   pub inputs : List ℕ
   pub rules : List ℕ
-  pub rule-vars : List ℕ
+  pub ruleVars : List ℕ
   pub patterns : List ℕ
 
-abbrev pub tables : (sorts symbols inputs rules vars patterns : List ℕ) → Tables
-tables s y i r v p = record { sorts = s; symbols = y; inputs = i; rules = r; rule-vars = v; patterns = p }
+abbrev pub theoryLists : (sorts symbols inputs rules vars patterns : List ℕ) → TheoryLists
+theoryLists s y i r v p = record { sorts = s; symbols = y; inputs = i; rules = r; ruleVars = v; patterns = p }
 
 -- While declarations are taken -----------------------------------------------------------------------------------------------------
 
 -- their first cells hold a theory
-pub record TheoryHeld (text : List ℕ) (t : Tables) (n : Counts) (T : Theory) : Type 0 where
+pub record TheoryHeld (text : List ℕ) (t : TheoryLists) (n : Counts) (T : Theory) : Type 0 where
   pub sorts : SortsHeld text (t .sorts) (n .sorts) (T .sorts)
   pub symbols : SymbolsHeld text (t .symbols) (t .inputs) (n .symbols) (T .symbols)
-  pub rules : RulesHeld text (t .rules) (t .rule-vars) (t .patterns) (n .rules) (n .words) (T .rules)
+  pub rules : RulesHeld text (t .rules) (t .ruleVars) (t .patterns) (n .rules) (n .words) (T .rules)
 
 -- the cells of one form of the text
 pub record Formed (text cells : List ℕ) (x : Sexp) : Type 0 where
@@ -54,7 +55,7 @@ pub record Formed (text cells : List ℕ) (x : Sexp) : Type 0 where
   pub spelt : Spelt text x
 
 -- what `declare` is given
-pub record Declaring (text cells : List ℕ) (t : Tables) (n : Counts) : Type 0 where
+pub record Declaring (text cells : List ℕ) (t : TheoryLists) (n : Counts) : Type 0 where
   pub x : Sexp
   pub formed : Formed text cells x
   pub T : Theory
@@ -62,7 +63,7 @@ pub record Declaring (text cells : List ℕ) (t : Tables) (n : Counts) : Type 0 
   pub short : length text ≤ LENGTH
 
 -- what `declare_items` is given
-pub record ItemsDeclaring (text items : List ℕ) (t : Tables) (n : Counts) : Type 0 where
+pub record ItemsDeclaring (text items : List ℕ) (t : TheoryLists) (n : Counts) : Type 0 where
   pub xs : Sexps
   pub holds : Holds text items xs
   pub T : Theory
@@ -91,18 +92,18 @@ abbrev pub symbolsNow : Counts → Added → Declared
 symbolsNow n (AddedOk k) = Ok (record { sorts = n .sorts; symbols = k; rules = n .rules; words = n .words })
 symbolsNow n (AddedNo a d) = No a d
 
-abbrev pub rulesNow : Counts → Made → Declared
-rulesNow n (MadeOk k w) = Ok (record { sorts = n .sorts; symbols = n .symbols; rules = k; words = w })
-rulesNow n (MadeNo a d) = No a d
+abbrev pub rulesNow : Counts → Reply → Declared
+rulesNow n (ReplyOk k w) = Ok (record { sorts = n .sorts; symbols = n .symbols; rules = k; words = w })
+rulesNow n (ReplyNo a d) = No a d
 
 -- the form is taken: what the definition gives is held now
-pub record Taken (text : List ℕ) (t : Tables) (given : Out Theory (Unit {0})) (n : Counts) : Type 0 where
+pub record Taken (text : List ℕ) (t : TheoryLists) (given : Out Theory (Unit {0})) (n : Counts) : Type 0 where
   pub now : Theory
   pub is : given ≡ ok tt now
   pub held : TheoryHeld text t n now
 
 -- the form is refused: what was held before is held still
-abbrev pub DeclaredAs : List ℕ → Tables → Counts → Theory → Out Theory (Unit {0}) → Declared → Type 0
+abbrev pub DeclaredAs : List ℕ → TheoryLists → Counts → Theory → Out Theory (Unit {0}) → Declared → Type 0
 DeclaredAs text t n T given (Ok m) = Taken text t given m
 DeclaredAs text t n T given (No a d) = (given ≡ refuse a d T) × TheoryHeld text t n T
 
@@ -125,7 +126,7 @@ unfoldable pub verdict : List ℕ → Verdict Theory
 verdict text = whole declare (read text) noTheory
 
 -- every declaration that was taken is held
-pub record Run (text : List ℕ) (t : Tables) (J : Verdict Theory) (r : Judged) : Type 0 where
+pub record Run (text : List ℕ) (t : TheoryLists) (J : Verdict Theory) (r : Judged) : Type 0 where
   pub answers : r ≡ judgedOf J
   pub held : TheoryHeld text t (countsOf (theoryOf J)) (theoryOf J)
 
@@ -139,12 +140,12 @@ countsIn (Done k n) = n
 countsIn (Refused a d k n) = n
 
 -- what is used lies inside the tables
-pub record Within (t : Tables) (n : Counts) : Type 0 where
+pub record CountsFit (t : TheoryLists) (n : Counts) : Type 0 where
   pub sorts : 2 * n .sorts ≤ length (t .sorts)
   pub symbols : 4 * n .symbols ≤ length (t .symbols)
   pub inputs : ARGUMENTS * n .symbols ≤ length (t .inputs)
   pub rules : 6 * n .rules ≤ length (t .rules)
-  pub rule-vars : 3 * RULEVARS * n .rules ≤ length (t .rule-vars)
+  pub ruleVars : 3 * RULEVARS * n .rules ≤ length (t .ruleVars)
   pub patterns : n .words ≤ length (t .patterns)
 
 -- zero from a place on
@@ -152,44 +153,39 @@ abbrev pub zeroFrom : ℕ → List ℕ → List ℕ
 zeroFrom k l = take k l ++ replicate (length l - k) 0
 
 -- the tables with zero behind what is used
-abbrev pub wiped : Tables → Counts → Tables
+abbrev pub wiped : TheoryLists → Counts → TheoryLists
 wiped t n =
-    tables (zeroFrom (2 * n .sorts) (t .sorts)) (zeroFrom (4 * n .symbols) (t .symbols)) (zeroFrom (ARGUMENTS * n .symbols) (t .inputs))
-    (zeroFrom (6 * n .rules) (t .rules)) (zeroFrom (3 * RULEVARS * n .rules) (t .rule-vars)) (zeroFrom (n .words) (t .patterns))
+    theoryLists (zeroFrom (2 * n .sorts) (t .sorts)) (zeroFrom (4 * n .symbols) (t .symbols)) (zeroFrom (ARGUMENTS * n .symbols) (t .inputs))
+    (zeroFrom (6 * n .rules) (t .rules)) (zeroFrom (3 * RULEVARS * n .rules) (t .ruleVars)) (zeroFrom (n .words) (t .patterns))
 
 -- the tables have their named lengths at least
-pub record Roomy (t : Tables) : Type 0 where
+pub record Roomy (t : TheoryLists) : Type 0 where
   pub sorts : 2 * SORTS ≤ length (t .sorts)
   pub symbols : 4 * SYMBOLS ≤ length (t .symbols)
   pub inputs : ARGUMENTS * SYMBOLS ≤ length (t .inputs)
   pub rules : 6 * RULES ≤ length (t .rules)
-  pub rule-vars : 3 * RULEVARS * RULES ≤ length (t .rule-vars)
+  pub ruleVars : 3 * RULEVARS * RULES ≤ length (t .ruleVars)
   pub patterns : PATTERNS ≤ length (t .patterns)
 
 -- just these
-pub record Exact (t : Tables) : Type 0 where
+pub record Exact (t : TheoryLists) : Type 0 where
   pub sorts : length (t .sorts) ≡ 2 * SORTS
   pub symbols : length (t .symbols) ≡ 4 * SYMBOLS
   pub inputs : length (t .inputs) ≡ ARGUMENTS * SYMBOLS
   pub rules : length (t .rules) ≡ 6 * RULES
-  pub rule-vars : length (t .rule-vars) ≡ 3 * RULEVARS * RULES
+  pub ruleVars : length (t .ruleVars) ≡ 3 * RULEVARS * RULES
   pub patterns : length (t .patterns) ≡ PATTERNS
 
 -- the tables of a theory: its entries, and zero behind
-abbrev pub laidExactly : Theory → Tables
-laidExactly T = tables (sortTable T) (symbolTable T) (inputTable T) (ruleTable T) (ruleVarTable T) (patternTable T)
+abbrev pub theoryTables : Theory → TheoryLists
+theoryTables T = theoryLists (sortTable T) (symbolTable T) (inputTable T) (ruleTable T) (ruleVarTable T) (patternTable T)
 
--- the same in tables that may be longer: its entries, zero behind, and past the named lengths what was there
-abbrev pub laid : Tables → Theory → Tables
-laid t T = record {
-  sorts = sortTable T ++ drop (2 * SORTS) (t .sorts);
-  symbols = symbolTable T ++ drop (4 * SYMBOLS) (t .symbols);
-  inputs = inputTable T ++ drop (ARGUMENTS * SYMBOLS) (t .inputs);
-  rules = ruleTable T ++ drop (6 * RULES) (t .rules);
-  rule-vars = ruleVarTable T ++ drop (3 * RULEVARS * RULES) (t .rule-vars);
-  patterns = patternTable T ++ drop PATTERNS (t .patterns);
-}
+-- the same in tables that may be longer: past the named lengths what was there
+abbrev pub laidTheory : TheoryLists → Theory → TheoryLists
+laidTheory t T =
+    theoryLists (laid (sortTable T) (t .sorts)) (laid (symbolTable T) (t .symbols)) (laid (inputTable T) (t .inputs)) (laid (ruleTable T) (t .rules))
+    (laid (ruleVarTable T) (t .ruleVars)) (laid (patternTable T) (t .patterns))
 
 -- the tables of a theory hold it, which is what the readers ask for; the names stand in the text
 abbrev pub LaidHeld : List ℕ → Theory → Type 0
-LaidHeld text T = TheoryHeld text (laidExactly T) (countsOf T) T
+LaidHeld text T = TheoryHeld text (theoryTables T) (countsOf T) T

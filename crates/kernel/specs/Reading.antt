@@ -17,8 +17,8 @@ use Rattle.rules.specs.Laws.PatternSteps.{worded}
 use Rattle.sexp.specs.Items.{Holds}
 use Rattle.sexp.specs.NameRows.{NameIn}
 use Rattle.kernel.specs.Held.{Front, SomeSymbolsHeld}
-use Rattle.kernel.specs.declared.patterns.Made.{Made}
-use Rattle.kernel.specs.declared.patterns.Made.the-variants.{Ok, No}
+use Rattle.kernel.specs.declared.patterns.Reply.{Reply}
+use Rattle.kernel.specs.declared.patterns.Reply.the-variants.{Ok, No}
 
 -- Words --------------------------------------------------------------------------------------------------------------------------
 
@@ -57,20 +57,20 @@ pub record Met (text table : List ℕ) (R : Reading) (given : Out Reading ℕ) (
   pub held : VarsHeld text table count (now .vars)
   pub small : i < RULEVARS
 
-abbrev pub MetRead : List ℕ → List ℕ → Reading → Out Reading ℕ → Made → Type 0
+abbrev pub MetRead : List ℕ → List ℕ → Reading → Out Reading ℕ → Reply → Type 0
 MetRead text table R given (Ok i count) = Met text table R given i count
 MetRead text table R given (No a d) = given ≡ refuse a d R
 
 -- Patterns -----------------------------------------------------------------------------------------------------------------------
 
 -- what is read so far is held: variables in their row, and so many words
-pub record Reads (text table : List ℕ) (count used : ℕ) (R : Reading) : Type 0 where
+pub record ReadSoFar (text table : List ℕ) (count used : ℕ) (R : Reading) : Type 0 where
   pub held : VarsHeld text table count (R .vars)
   pub words : R .words ≡ used
   pub room : used ≤ PATTERNS
 
 -- what the readers of atoms are given
-pub record Ready (text : List ℕ) (start sort : ℕ) (table : List ℕ) (count room : ℕ) : Type 0 where
+pub record AtomReading (text : List ℕ) (start sort : ℕ) (table : List ℕ) (count room : ℕ) : Type 0 where
   pub vs : List RuleVar
   pub held : VarsHeld text table count vs
   pub inside : start < length text
@@ -83,7 +83,7 @@ pub record Written {A : Type 0} (cells : A → List ℕ) (text table before afte
   pub tree : A
   pub now : Reading
   pub is : given ≡ ok tree now
-  pub reads : Reads text table count next now
+  pub reads : ReadSoFar text table count next now
   pub words : take next after ≡ take used before ++ cells tree
   pub long : length after ≡ length before
 
@@ -94,7 +94,7 @@ pub record Stopped {A : Type 0} (before after : List ℕ) (used : ℕ) (given : 
   pub words : take used after ≡ take used before
   pub long : length after ≡ length before
 
-abbrev pub PatternRead : {A : Type 0} → (A → List ℕ) → List ℕ → List ℕ → List ℕ → List ℕ → ℕ → Out Reading A → Made → Type 0
+abbrev pub PatternRead : {A : Type 0} → (A → List ℕ) → List ℕ → List ℕ → List ℕ → List ℕ → ℕ → Out Reading A → Reply → Type 0
 PatternRead cells text table before after used given (Ok count next) = Written cells text table before after used given count next
 PatternRead cells text table before after used given (No a d) = Stopped before after used given a d
 
@@ -116,7 +116,7 @@ pub record Head (before after : List ℕ) (used : ℕ) (T : Theory) (R : Reading
   pub room : next ≤ PATTERNS
   pub long : length after ≡ length before
 
-abbrev pub HeadRead : List ℕ → List ℕ → ℕ → Theory → Reading → ℕ → Out Reading ℕ → Made → Type 0
+abbrev pub HeadRead : List ℕ → List ℕ → ℕ → Theory → Reading → ℕ → Out Reading ℕ → Reply → Type 0
 HeadRead before after used T R arity given (Ok c next) = Head before after used T R arity given c next
 HeadRead before after used T R arity given (No a d) = Stopped before after used given a d
 
@@ -135,7 +135,7 @@ pub record Opened (text cells before after : List ℕ) (used : ℕ) (T : Theory)
   pub room : next ≤ PATTERNS
   pub long : length after ≡ length before
 
-abbrev pub OpenedRead : List ℕ → List ℕ → List ℕ → List ℕ → ℕ → Theory → Reading → Sexps → Out Reading Tree → Made → Type 0
+abbrev pub OpenedRead : List ℕ → List ℕ → List ℕ → List ℕ → ℕ → Theory → Reading → Sexps → Out Reading Tree → Reply → Type 0
 OpenedRead text cells before after used T R zs given (Ok c next) = Opened text cells before after used T R zs given c next
 OpenedRead text cells before after used T R zs given (No a d) = Stopped before after used given a d
 
@@ -153,7 +153,7 @@ pub record Patterning (text cells symbols inputs : List ℕ) (known : ℕ) (tabl
   pub holds : Holds text cells zs
   pub held : SomeSymbolsHeld text symbols inputs known
   pub so-far : Reading
-  pub reads : Reads text table count used so-far
+  pub reads : ReadSoFar text table count used so-far
   pub short : length text ≤ LENGTH
   pub long : room ≡ PATTERNS
 

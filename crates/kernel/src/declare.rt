@@ -5,9 +5,9 @@ ghost use Rattle.rules.specs.Theory.{Theory};
 ghost use Rattle.rules.specs.Declare.{declare};
 ghost use Rattle.sexp.specs.Items.{Held, Holds};
 ghost use Rattle.sexp.specs.TagTable.{declarationAnswer};
-ghost use Rattle.kernel.specs.Parsed.{tables, TheoryHeld, Formed, Declaring, DeclaredAs, tagged, ItemsDeclaring, taken, sortsNow, symbolsNow, rulesNow};
+ghost use Rattle.kernel.specs.Parsed.{theoryLists, TheoryHeld, Formed, Declaring, DeclaredAs, tagged, ItemsDeclaring, taken, sortsNow, symbolsNow, rulesNow};
 use crate::parse::Counts;
-use crate::patterns::Made;
+use crate::patterns::Reply;
 use crate::rule::add_rule;
 use crate::signatures::add_ctor;
 use crate::signatures::add_pred;
@@ -71,17 +71,17 @@ fn symbols_now(held: Counts, r: Added) -> Declared
 }
 
 // When a rule is.
-fn rules_now(held: Counts, r: Made) -> Declared
+fn rules_now(held: Counts, r: Reply) -> Declared
     ensures { λ d. ⌜ d ≡ rulesNow held r ⌝ }
 {
     match r {
-        Made::Ok(n, words) => Declared::Ok(Counts {
+        Reply::Ok(n, words) => Declared::Ok(Counts {
             sorts: held.sorts,
             symbols: held.symbols,
             rules: n,
             words: words,
         }),
-        Made::No(number, detail) => Declared::No(number, detail),
+        Reply::No(number, detail) => Declared::No(number, detail),
     }
 }
 
@@ -97,11 +97,11 @@ fn declare_items(
     patterns: &mut [u32],
     held: Counts,
 ) -> Declared
-    requires { ⌜ ItemsDeclaring (now text) (now items) (tables (now sorts) (now symbols) (now inputs) (now rules) (now vars) (now patterns)) held ⌝ }
+    requires { ⌜ ItemsDeclaring (now text) (now items) (theoryLists (now sorts) (now symbols) (now inputs) (now rules) (now vars) (now patterns)) held ⌝ }
     ensures { λ r. ⌜ ((T : Theory) (xs : Sexps) →
-        TheoryHeld (now (text .entry)) (tables (now (sorts .entry)) (now (symbols .entry)) (now (inputs .entry)) (now (rules .entry)) (now (vars .entry)) (now (patterns .entry))) held T →
+        TheoryHeld (now (text .entry)) (theoryLists (now (sorts .entry)) (now (symbols .entry)) (now (inputs .entry)) (now (rules .entry)) (now (vars .entry)) (now (patterns .entry))) held T →
         Holds (now (text .entry)) (now (items .entry)) xs →
-        DeclaredAs (now (text .entry)) (tables (now (sorts .exit)) (now (symbols .exit)) (now (inputs .exit)) (now (rules .exit)) (now (vars .exit)) (now (patterns .exit))) held T (taken (tagged xs) xs T) r) ⌝ }
+        DeclaredAs (now (text .entry)) (theoryLists (now (sorts .exit)) (now (symbols .exit)) (now (inputs .exit)) (now (rules .exit)) (now (vars .exit)) (now (patterns .exit))) held T (taken (tagged xs) xs T) r) ⌝ }
 {
     let known = held.sorts;
     let count = held.symbols;
@@ -149,11 +149,11 @@ pub fn declare(
     patterns: &mut [u32],
     held: Counts,
 ) -> Declared
-    requires { ⌜ Declaring (now text) (now cells) (tables (now sorts) (now symbols) (now inputs) (now rules) (now vars) (now patterns)) held ⌝ }
+    requires { ⌜ Declaring (now text) (now cells) (theoryLists (now sorts) (now symbols) (now inputs) (now rules) (now vars) (now patterns)) held ⌝ }
     ensures { λ r. ⌜ ((T : Theory) (x : Sexp) →
-        TheoryHeld (now (text .entry)) (tables (now (sorts .entry)) (now (symbols .entry)) (now (inputs .entry)) (now (rules .entry)) (now (vars .entry)) (now (patterns .entry))) held T →
+        TheoryHeld (now (text .entry)) (theoryLists (now (sorts .entry)) (now (symbols .entry)) (now (inputs .entry)) (now (rules .entry)) (now (vars .entry)) (now (patterns .entry))) held T →
         Formed (now (text .entry)) (now (cells .entry)) x →
-        DeclaredAs (now (text .entry)) (tables (now (sorts .exit)) (now (symbols .exit)) (now (inputs .exit)) (now (rules .exit)) (now (vars .exit)) (now (patterns .exit))) held T (declare x T) r) ⌝ }
+        DeclaredAs (now (text .entry)) (theoryLists (now (sorts .exit)) (now (symbols .exit)) (now (inputs .exit)) (now (rules .exit)) (now (vars .exit)) (now (patterns .exit))) held T (declare x T) r) ⌝ }
 {
     let Item::List(a, b) = items::item_at(cells, 0) else {
         return Declared::No(10, 0);

@@ -6,7 +6,7 @@ ghost use Rattle.rules.specs.Sexp.{read};
 ghost use Rattle.rules.specs.Theory.{noTheory};
 ghost use Rattle.rules.specs.Declare.{declare};
 ghost use Rattle.rules.specs.Loop.{through};
-ghost use Rattle.kernel.specs.Parsed.{tables, Roomy, Exact, Within, zeroFrom, wiped, noCounts, countsIn, Run, judgedOf, theoryOf, verdict, laid, laidExactly, LaidHeld};
+ghost use Rattle.kernel.specs.Parsed.{theoryLists, Roomy, Exact, CountsFit, zeroFrom, wiped, noCounts, countsIn, Run, judgedOf, theoryOf, verdict, laidTheory, theoryTables, LaidHeld};
 ghost use Rattle.sexp.specs.Through.{Legible};
 use crate::declare::Declared;
 use crate::declare::declare;
@@ -35,8 +35,7 @@ fn wipe(table: &mut [u32], from: usize)
     requires { ⌜ from ≤ length (now table) ⌝ }
     ensures { λ _. ⌜ now (table .exit) ≡ zeroFrom from (now (table .entry)) ⌝ }
 {
-    let count = table.len() - from;
-    clear(&mut table[from..], count);
+    cells::clear(&mut table[from..]);
 }
 
 // Sets the cells behind what is used to zero.
@@ -49,9 +48,9 @@ fn wipe_behind(
     patterns: &mut [u32],
     held: Counts,
 )
-    requires { ⌜ Within (tables (now sorts) (now symbols) (now inputs) (now rules) (now vars) (now patterns)) held ⌝ }
-    ensures { λ _. ⌜ tables (now (sorts .exit)) (now (symbols .exit)) (now (inputs .exit)) (now (rules .exit)) (now (vars .exit)) (now (patterns .exit))
-        ≡ wiped (tables (now (sorts .entry)) (now (symbols .entry)) (now (inputs .entry)) (now (rules .entry)) (now (vars .entry)) (now (patterns .entry))) held ⌝ }
+    requires { ⌜ CountsFit (theoryLists (now sorts) (now symbols) (now inputs) (now rules) (now vars) (now patterns)) held ⌝ }
+    ensures { λ _. ⌜ theoryLists (now (sorts .exit)) (now (symbols .exit)) (now (inputs .exit)) (now (rules .exit)) (now (vars .exit)) (now (patterns .exit))
+        ≡ wiped (theoryLists (now (sorts .entry)) (now (symbols .entry)) (now (inputs .entry)) (now (rules .entry)) (now (vars .entry)) (now (patterns .entry))) held ⌝ }
 {
     wipe(sorts, 2 * held.sorts);
     wipe(symbols, 4 * held.symbols);
@@ -95,8 +94,8 @@ fn declarations(
     patterns: &mut [u32],
 ) -> Judged
     requires { ⌜ Legible (now text) (now cells) ⌝ }
-    requires { ⌜ Exact (tables (now sorts) (now symbols) (now inputs) (now rules) (now vars) (now patterns)) ⌝ }
-    ensures { λ r. ⌜ Run (now (text .entry)) (tables (now (sorts .exit)) (now (symbols .exit)) (now (inputs .exit)) (now (rules .exit)) (now (vars .exit)) (now (patterns .exit)))
+    requires { ⌜ Exact (theoryLists (now sorts) (now symbols) (now inputs) (now rules) (now vars) (now patterns)) ⌝ }
+    ensures { λ r. ⌜ Run (now (text .entry)) (theoryLists (now (sorts .exit)) (now (symbols .exit)) (now (inputs .exit)) (now (rules .exit)) (now (vars .exit)) (now (patterns .exit)))
         (through declare (read (now (text .entry))) 0 noTheory) r ⌝ }
     ensures { λ _. ⌜ now (cells .exit) ≡ now (cells .entry) ⌝ }
 {
@@ -148,8 +147,8 @@ fn read_and_declare(
     patterns: &mut [u32],
 ) -> Judged
     requires { ⌜ Legible (now text) (now cells) ⌝ }
-    requires { ⌜ Exact (tables (now sorts) (now symbols) (now inputs) (now rules) (now vars) (now patterns)) ⌝ }
-    ensures { λ r. ⌜ Run (now (text .entry)) (tables (now (sorts .exit)) (now (symbols .exit)) (now (inputs .exit)) (now (rules .exit)) (now (vars .exit)) (now (patterns .exit)))
+    requires { ⌜ Exact (theoryLists (now sorts) (now symbols) (now inputs) (now rules) (now vars) (now patterns)) ⌝ }
+    ensures { λ r. ⌜ Run (now (text .entry)) (theoryLists (now (sorts .exit)) (now (symbols .exit)) (now (inputs .exit)) (now (rules .exit)) (now (vars .exit)) (now (patterns .exit)))
         (verdict (now (text .entry))) r ⌝ }
     ensures { λ _. ⌜ now (cells .exit) ≡ now (cells .entry) ⌝ }
 {
@@ -171,10 +170,10 @@ pub fn parse_exact(
     patterns: &mut [u32],
 ) -> Judged
     requires { ⌜ Legible (now text) (now cells) ⌝ }
-    requires { ⌜ Exact (tables (now sorts) (now symbols) (now inputs) (now rules) (now vars) (now patterns)) ⌝ }
+    requires { ⌜ Exact (theoryLists (now sorts) (now symbols) (now inputs) (now rules) (now vars) (now patterns)) ⌝ }
     ensures { λ r. ⌜ r ≡ judgedOf (verdict (now (text .entry))) ⌝ }
-    ensures { λ _. ⌜ tables (now (sorts .exit)) (now (symbols .exit)) (now (inputs .exit)) (now (rules .exit)) (now (vars .exit)) (now (patterns .exit))
-        ≡ laidExactly (theoryOf (verdict (now (text .entry)))) ⌝ }
+    ensures { λ _. ⌜ theoryLists (now (sorts .exit)) (now (symbols .exit)) (now (inputs .exit)) (now (rules .exit)) (now (vars .exit)) (now (patterns .exit))
+        ≡ theoryTables (theoryOf (verdict (now (text .entry)))) ⌝ }
     ensures { λ _. ⌜ now (cells .exit) ≡ now (cells .entry) ⌝ }
     ensures { λ _. ⌜ LaidHeld (now (text .entry)) (theoryOf (verdict (now (text .entry)))) ⌝ }
 {
@@ -195,10 +194,10 @@ pub fn parse(
     patterns: &mut [u32],
 ) -> Judged
     requires { ⌜ Legible (now text) (now cells) ⌝ }
-    requires { ⌜ Roomy (tables (now sorts) (now symbols) (now inputs) (now rules) (now vars) (now patterns)) ⌝ }
+    requires { ⌜ Roomy (theoryLists (now sorts) (now symbols) (now inputs) (now rules) (now vars) (now patterns)) ⌝ }
     ensures { λ r. ⌜ r ≡ judgedOf (verdict (now (text .entry))) ⌝ }
-    ensures { λ _. ⌜ tables (now (sorts .exit)) (now (symbols .exit)) (now (inputs .exit)) (now (rules .exit)) (now (vars .exit)) (now (patterns .exit))
-        ≡ laid (tables (now (sorts .entry)) (now (symbols .entry)) (now (inputs .entry)) (now (rules .entry)) (now (vars .entry)) (now (patterns .entry))) (theoryOf (verdict (now (text .entry)))) ⌝ }
+    ensures { λ _. ⌜ theoryLists (now (sorts .exit)) (now (symbols .exit)) (now (inputs .exit)) (now (rules .exit)) (now (vars .exit)) (now (patterns .exit))
+        ≡ laidTheory (theoryLists (now (sorts .entry)) (now (symbols .entry)) (now (inputs .entry)) (now (rules .entry)) (now (vars .entry)) (now (patterns .entry))) (theoryOf (verdict (now (text .entry)))) ⌝ }
     ensures { λ _. ⌜ now (cells .exit) ≡ now (cells .entry) ⌝ }
     ensures { λ _. ⌜ LaidHeld (now (text .entry)) (theoryOf (verdict (now (text .entry)))) ⌝ }
 {

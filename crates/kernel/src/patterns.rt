@@ -10,7 +10,7 @@ ghost use Rattle.rules.specs.Declare.{Reading, metOrNew, variable, head, patter
 ghost use Rattle.rules.specs.Laws.PatternSteps.{varNamed};
 ghost use Rattle.rules.specs.TheoryTables.{prefix};
 ghost use Rattle.kernel.specs.Held.{SymbolsHeld};
-ghost use Rattle.kernel.specs.Reading.{WordFits, WordPut, VarsHeld, Meeting, MetRead, Reads, Ready, PatternRead, Heading, HeadRead};
+ghost use Rattle.kernel.specs.Reading.{WordFits, WordPut, VarsHeld, Meeting, MetRead, ReadSoFar, AtomReading, PatternRead, Heading, HeadRead};
 ghost use Rattle.sexp.specs.AtomText.{Spans};
 use crate::names::symbol_named;
 use crate::readers::same_sort;
@@ -21,7 +21,7 @@ use sexp::names::Found;
 use sexp::names::named;
 
 // Two numbers of what is there now, or a refusal by number and detail.
-pub enum Made {
+pub enum Reply {
     Ok(usize, usize),
     No(usize, usize),
 }
@@ -46,7 +46,7 @@ fn met_or_new(
     sort: usize,
     vars: &mut [u32],
     count: usize,
-) -> Made
+) -> Reply
     requires { ⌜ Meeting (now text) start end sort (now vars) count ⌝ }
     ensures { λ r. ⌜ ((R : Reading) (n : Name) → VarsHeld (now (text .entry)) (now (vars .entry)) count (R .vars) → Spans (now (text .entry)) n start end →
         MetRead (now (text .entry)) (now (vars .exit)) R (metOrNew n sort (varNamed (R .vars) (n .bytes)) R) r) ⌝ }
@@ -55,18 +55,18 @@ fn met_or_new(
         Found::At(i) => {
             let had = vars[3 * i] as usize;
             if same_sort(had, sort) {
-                return Made::Ok(i, count);
+                return Reply::Ok(i, count);
             }
-            Made::No(12, 0)
+            Reply::No(12, 0)
         }
         Found::Missing => {
             if count >= rules::RULEVARS {
-                return Made::No(60, 5);
+                return Reply::No(60, 5);
             }
             let at = 3 * count;
             vars[at] = sort as u32;
             put_name(vars, at + 1, start, end);
-            Made::Ok(count, count + 1)
+            Reply::Ok(count, count + 1)
         }
     }
 }
@@ -80,24 +80,24 @@ fn variable(
     count: usize,
     patterns: &mut [u32],
     used: usize,
-) -> Made
-    requires { ⌜ Ready (now text) start sort (now vars) count (length (now patterns)) ⌝ }
-    ensures { λ r. ⌜ ((R : Reading) → Reads (now (text .entry)) (now (vars .entry)) count used R →
+) -> Reply
+    requires { ⌜ AtomReading (now text) start sort (now vars) count (length (now patterns)) ⌝ }
+    ensures { λ r. ⌜ ((R : Reading) → ReadSoFar (now (text .entry)) (now (vars .entry)) count used R →
         PatternRead prefix (now (text .entry)) (now (vars .exit)) (now (patterns .entry)) (now (patterns .exit)) used
         (variable (record { start = start; bytes = letters (drop start (now (text .entry))) }) sort R) r) ⌝ }
 {
     let end = lex::atom_end(text, start);
     if end - start < 2 {
-        return Made::No(11, 0);
+        return Reply::No(11, 0);
     }
     let m = met_or_new(text, start, end, sort, vars, count);
-    let Made::Ok(i, now) = m else {
+    let Reply::Ok(i, now) = m else {
         return m;
     };
-    if put_word(patterns, used, 256 + i) {
-        return Made::Ok(now, used + 1);
+    if put_word(patterns, used, rules::SYMBOLS + i) {
+        return Reply::Ok(now, used + 1);
     }
-    Made::No(60, 6)
+    Reply::No(60, 6)
 }
 
 // A constructor of a sort with so many arguments, and its word.
@@ -110,28 +110,28 @@ pub fn constructor(
     count: usize,
     patterns: &mut [u32],
     used: usize,
-) -> Made
+) -> Reply
     requires { ⌜ Heading (now text) start (now symbols) count (length (now patterns)) ⌝ }
     ensures { λ r. ⌜ ((T : Theory) (R : Reading) (inputs : List ℕ) → SymbolsHeld (now (text .entry)) (now (symbols .entry)) inputs count (T .symbols) → R .words ≡ used →
         HeadRead (now (patterns .entry)) (now (patterns .exit)) used T R arity (head T sort arity (letters (drop start (now (text .entry)))) R) r) ⌝ }
 {
     let end = lex::atom_end(text, start);
     let Found::At(c) = symbol_named(text, symbols, count, false, &text[start..end]) else {
-        return Made::No(11, 0);
+        return Reply::No(11, 0);
     };
     let at = 4 * c;
     let output = symbols[at] as usize;
     if same_sort(output, sort) {
         let many = symbols[at + 1] as usize;
         if many != arity {
-            return Made::No(12, 0);
+            return Reply::No(12, 0);
         }
         if put_word(patterns, used, c) {
-            return Made::Ok(c, used + 1);
+            return Reply::Ok(c, used + 1);
         }
-        return Made::No(60, 6);
+        return Reply::No(60, 6);
     }
-    Made::No(12, 0)
+    Reply::No(12, 0)
 }
 
 // A term of a sort that is an atom.
@@ -145,11 +145,11 @@ pub fn atomic(
     count: usize,
     patterns: &mut [u32],
     used: usize,
-) -> Made
-    requires { ⌜ Ready (now text) start sort (now vars) count (length (now patterns)) ⌝ }
+) -> Reply
+    requires { ⌜ AtomReading (now text) start sort (now vars) count (length (now patterns)) ⌝ }
     requires { ⌜ Heading (now text) start (now symbols) known (length (now patterns)) ⌝ }
     ensures { λ r. ⌜ ((T : Theory) (R : Reading) (inputs : List ℕ) → SymbolsHeld (now (text .entry)) (now (symbols .entry)) inputs known (T .symbols) →
-        Reads (now (text .entry)) (now (vars .entry)) count used R →
+        ReadSoFar (now (text .entry)) (now (vars .entry)) count used R →
         PatternRead prefix (now (text .entry)) (now (vars .exit)) (now (patterns .entry)) (now (patterns .exit)) used
         (pattern T (atom start (letters (drop start (now (text .entry))))) sort R) r) ⌝ }
 {
@@ -157,8 +157,8 @@ pub fn atomic(
         return variable(text, start, sort, vars, count, patterns, used);
     }
     let h = constructor(text, start, sort, 0, symbols, known, patterns, used);
-    let Made::Ok(_, next) = h else {
+    let Reply::Ok(_, next) = h else {
         return h;
     };
-    Made::Ok(count, next)
+    Reply::Ok(count, next)
 }

@@ -6,8 +6,8 @@ ghost use Rattle.rules.specs.Declare.{Reading, judgments};
 ghost use Rattle.rules.specs.TheoryTables.{prefixes};
 ghost use Rattle.sexp.specs.Items.{Holds};
 ghost use Rattle.kernel.specs.Held.{SymbolsHeld};
-ghost use Rattle.kernel.specs.Reading.{Reads, PatternRead, Patterning};
-use crate::patterns::Made;
+ghost use Rattle.kernel.specs.Reading.{ReadSoFar, PatternRead, Patterning};
+use crate::patterns::Reply;
 use crate::terms::judgment;
 use sexp::items;
 use sexp::items::Item;
@@ -22,10 +22,10 @@ pub fn premises(
     count: usize,
     patterns: &mut [u32],
     used: usize,
-) -> Made
+) -> Reply
     requires { ⌜ Patterning (now text) (now cells) (now symbols) (now inputs) known (now vars) count (length (now patterns)) used ⌝ }
     ensures { λ r. ⌜ ((T : Theory) (R : Reading) (zs : Sexps) → SymbolsHeld (now (text .entry)) (now (symbols .entry)) (now (inputs .entry)) known (T .symbols) →
-        Reads (now (text .entry)) (now (vars .entry)) count used R → Holds (now (text .entry)) (now (cells .entry)) zs →
+        ReadSoFar (now (text .entry)) (now (vars .entry)) count used R → Holds (now (text .entry)) (now (cells .entry)) zs →
         PatternRead prefixes (now (text .entry)) (now (vars .exit)) (now (patterns .entry)) (now (patterns .exit)) used (judgments T zs R) r) ⌝ }
 {
     let mut at = 0;
@@ -33,7 +33,7 @@ pub fn premises(
     let mut w = used;
     while at < cells.len() {
         let Item::List(a, b) = items::item_at(cells, at) else {
-            return Made::No(11, 0);
+            return Reply::No(11, 0);
         };
         let r = judgment(
             text,
@@ -46,12 +46,12 @@ pub fn premises(
             patterns,
             w,
         );
-        let Made::Ok(n, m) = r else {
+        let Reply::Ok(n, m) = r else {
             return r;
         };
         v = n;
         w = m;
         at = b;
     }
-    Made::Ok(v, w)
+    Reply::Ok(v, w)
 }

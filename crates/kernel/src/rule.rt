@@ -8,9 +8,9 @@ ghost use Rattle.rules.specs.Theory.{Theory, Rule};
 ghost use Rattle.rules.specs.Declare.{Reading, schema, addRule};
 ghost use Rattle.sexp.specs.Items.{Holds};
 ghost use Rattle.kernel.specs.Held.{Form, SymbolsHeld, SomeSymbolsHeld};
-ghost use Rattle.kernel.specs.Reading.{Reads, PatternRead};
+ghost use Rattle.kernel.specs.Reading.{ReadSoFar, PatternRead};
 ghost use Rattle.kernel.specs.HeldRules.{schemaCells, Beginning, SomeForm, RulesHeld, SomeRules, RuleFits, RuleIs, RulePut, RuleAdded};
-use crate::patterns::Made;
+use crate::patterns::Reply;
 use crate::premises::premises;
 use crate::signatures::put_row;
 use crate::symbols::Spelling;
@@ -33,14 +33,14 @@ fn schema(
     row: &mut [u32],
     patterns: &mut [u32],
     used: usize,
-) -> Made
+) -> Reply
     requires { ⌜ Beginning (now text) (now form) (now symbols) (now inputs) known (now row) (length (now patterns)) used ⌝ }
     ensures { λ r. ⌜ ((T : Theory) (R : Reading) (xs : Sexps) → SymbolsHeld (now (text .entry)) (now (symbols .entry)) (now (inputs .entry)) known (T .symbols) →
-        Reads (now (text .entry)) (now (row .entry)) 0 used R → Holds (now (text .entry)) (now (form .entry)) xs → 4 ≡ items xs →
+        ReadSoFar (now (text .entry)) (now (row .entry)) 0 used R → Holds (now (text .entry)) (now (form .entry)) xs → 4 ≡ items xs →
         PatternRead schemaCells (now (text .entry)) (now (row .exit)) (now (patterns .entry)) (now (patterns .exit)) used (schema T xs R) r) ⌝ }
 {
     let Item::List(a, b) = items::nth(form, 2) else {
-        return Made::No(11, 0);
+        return Reply::No(11, 0);
     };
     let r = premises(
         text,
@@ -53,11 +53,11 @@ fn schema(
         patterns,
         used,
     );
-    let Made::Ok(v, w) = r else {
+    let Reply::Ok(v, w) = r else {
         return r;
     };
     let Item::List(a, b) = items::nth(form, 3) else {
-        return Made::No(11, 0);
+        return Reply::No(11, 0);
     };
     judgment(
         text,
@@ -95,14 +95,14 @@ fn store(
     first: usize,
     last: usize,
     row: &[u32],
-) -> Made
+) -> Reply
     requires { ⌜ RuleFits (length (now rules)) (length (now vars)) start end variables premises first last (length (now row)) ⌝ }
     ensures { λ r. ⌜ ((text patterns : List ℕ) (rs : List Rule) (u : Rule) → RulesHeld text (now (rules .entry)) (now (vars .entry)) patterns count first rs →
         RuleIs text patterns u start end variables premises first last (now (row .entry)) →
         RulePut text (now (rules .entry)) (now (vars .entry)) (now (rules .exit)) (now (vars .exit)) patterns count rs u r) ⌝ }
 {
     if count >= RULES {
-        return Made::No(60, 4);
+        return Reply::No(60, 4);
     }
     let at = 6 * count;
     put_name(rules, at, start, end);
@@ -110,8 +110,8 @@ fn store(
     rules[at + 3] = premises as u32;
     rules[at + 4] = first as u32;
     rules[at + 5] = last as u32;
-    put_row(vars, 48 * count, row);
-    Made::Ok(count + 1, last)
+    put_row(vars, 3 * rules::RULEVARS * count, row);
+    Reply::Ok(count + 1, last)
 }
 
 // `(rule NAME (JUDGMENT...) JUDGMENT)`, given the items of the form; `count` rules with `used` words are there. The words of a rule that
@@ -127,7 +127,7 @@ pub fn add_rule(
     patterns: &mut [u32],
     count: usize,
     used: usize,
-) -> Made
+) -> Reply
     requires { ⌜ Form (now text) (now form) 4 ⌝ }
     requires { ⌜ SomeSymbolsHeld (now text) (now symbols) (now inputs) known ⌝ }
     requires { ⌜ SomeRules (now text) (now rules) (now vars) (now patterns) count used ⌝ }
@@ -136,16 +136,16 @@ pub fn add_rule(
         Holds (now (text .entry)) (now (form .entry)) xs → 4 ≡ items xs →
         RuleAdded (now (text .entry)) (now (rules .exit)) (now (vars .exit)) (now (patterns .exit)) T (addRule xs T) count used r) ⌝ }
 {
-    let mut row = [0u32; 48];
+    let mut row = [0u32; 3 * rules::RULEVARS];
     let r = schema(text, form, symbols, inputs, known, &mut row, patterns, used);
-    let Made::Ok(variables, last) = r else {
+    let Reply::Ok(variables, last) = r else {
         return r;
     };
     let Spelling::Name(start, end) = proper_at(text, form, 1) else {
-        return Made::No(11, 0);
+        return Reply::No(11, 0);
     };
     let Found::Missing = named(text, rules, 6, 0, count, &text[start..end]) else {
-        return Made::No(11, 0);
+        return Reply::No(11, 0);
     };
     let premises = premise_count(form);
     store(

@@ -41,10 +41,10 @@ pub fn rule_name(rules: &[u32], r: usize) -> Span
     ensures { λ a. ⌜ ((T : Theory) (text vars patterns : List ℕ) (count words : ℕ) → RulesHeld text (now (rules .entry)) vars patterns count words (T .rules) → r < count →
         Spans text (rule T r .name) (a .from) (a .end)) ⌝ }
 {
-    let at = 6 * r;
+    let first = 6 * r;
     Span {
-        from: rules[at] as usize,
-        end: rules[at + 1] as usize,
+        from: rules[first] as usize,
+        end: rules[first + 1] as usize,
     }
 }
 

@@ -2,6 +2,7 @@
 ghost use mathlib.Core.Path.{_≡_};
 ghost use Prim.Native.Nat.{ℕ, _+_, _*_, _≤_, _<_};
 ghost use mathlib.Core.List.{List};
+ghost use Rattle.rules.specs.Limits.{ARGUMENTS};
 ghost use lib.ListN.{length};
 ghost use lib.Seq.{paste};
 ghost use Rattle.rules.specs.Sexp.{Sexps, item, count as items};
@@ -53,7 +54,7 @@ fn argument_sorts(
 fn arguments_at(text: &[u8], form: &[u32], sorts: &[u32], known: usize, row: &mut [u32]) -> Added
     requires { ⌜ Reaching (now text) (now form) 2 ⌝ }
     requires { ⌜ SomeSorts (now text) (now sorts) known ⌝ }
-    requires { ⌜ length (now row) ≡ 16 ⌝ }
+    requires { ⌜ length (now row) ≡ ARGUMENTS ⌝ }
     ensures { λ r. ⌜ ((T : Theory) (xs : Sexps) → SortsHeld (now (text .entry)) (now (sorts .entry)) known (T .sorts) → Holds (now (text .entry)) (now (form .entry)) xs → 2 < items xs →
         ArgumentsRead (now (row .entry)) (now (row .exit)) 0 (argumentsOf T (item xs 2)) r) ⌝ }
 {
@@ -68,11 +69,7 @@ pub fn put_row(table: &mut [u32], at: usize, row: &[u32])
     requires { ⌜ at + length (now row) ≤ length (now table) ⌝ }
     ensures { λ _. ⌜ now (table .exit) ≡ paste (now (table .entry)) at (now (row .entry)) (length (now (row .entry))) ⌝ }
 {
-    let mut i: usize = 0;
-    while i < row.len() {
-        table[at + i] = row[i];
-        i += 1;
-    }
+    cells::write(&mut table[at..], row);
 }
 
 // Stores a symbol, if there is room.
@@ -98,7 +95,7 @@ fn store(
     symbols[at] = output as u32;
     symbols[at + 1] = arity as u32;
     put_name(symbols, at + 2, start, end);
-    put_row(inputs, 16 * count, row);
+    put_row(inputs, rules::ARGUMENTS * count, row);
     Added::Ok(count + 1)
 }
 
@@ -122,7 +119,7 @@ pub fn add_ctor(
     let Spelling::Name(start, end) = proper_at(text, form, 1) else {
         return Added::No(11, 0);
     };
-    let mut row = [0u32; 16];
+    let mut row = [0u32; rules::ARGUMENTS];
     let r = arguments_at(text, form, sorts, known, &mut row);
     let Added::Ok(arity) = r else {
         return r;
@@ -157,7 +154,7 @@ pub fn add_pred(
     let Spelling::Name(start, end) = proper_at(text, form, 1) else {
         return Added::No(11, 0);
     };
-    let mut row = [0u32; 16];
+    let mut row = [0u32; rules::ARGUMENTS];
     let r = arguments_at(text, form, sorts, known, &mut row);
     let Added::Ok(arity) = r else {
         return r;

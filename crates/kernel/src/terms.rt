@@ -9,9 +9,9 @@ ghost use Rattle.rules.specs.Declare.{Reading, pattern, patterns as patternsOf,
 ghost use Rattle.rules.specs.TheoryTables.{prefix, prefixes};
 ghost use Rattle.sexp.specs.Items.{Holds};
 ghost use Rattle.kernel.specs.Held.{SymbolsHeld};
-ghost use Rattle.kernel.specs.Reading.{Reads, PatternRead, OpenedRead, Opening, Patterning, Placed, Arguing};
+ghost use Rattle.kernel.specs.Reading.{ReadSoFar, PatternRead, OpenedRead, Opening, Patterning, Placed, Arguing};
 use crate::names::symbol_named;
-use crate::patterns::Made;
+use crate::patterns::Reply;
 use crate::patterns::atomic;
 use crate::patterns::constructor;
 use crate::patterns::put_word;
@@ -29,21 +29,21 @@ fn open_term(
     known: usize,
     patterns: &mut [u32],
     used: usize,
-) -> Made
+) -> Reply
     requires { ⌜ Opening (now text) (now cells) (now symbols) known (length (now patterns)) ⌝ }
     ensures { λ r. ⌜ ((T : Theory) (R : Reading) (inputs : List ℕ) (zs : Sexps) → SymbolsHeld (now (text .entry)) (now (symbols .entry)) inputs known (T .symbols) →
         R .words ≡ used → Holds (now (text .entry)) (now (cells .entry)) zs →
         OpenedRead (now (text .entry)) (now (cells .entry)) (now (patterns .entry)) (now (patterns .exit)) used T R zs (pattern T (list zs) sort R) r) ⌝ }
 {
     if cells.len() == 0 {
-        return Made::No(11, 0);
+        return Reply::No(11, 0);
     }
     let Item::Atom(start) = items::item_at(cells, 0) else {
-        return Made::No(11, 0);
+        return Reply::No(11, 0);
     };
     let many = items::count(cells);
     if many < 2 {
-        return Made::No(12, 0);
+        return Reply::No(12, 0);
     }
     constructor(text, start, sort, many - 1, symbols, known, patterns, used)
 }
@@ -56,31 +56,31 @@ fn open_judgment(
     known: usize,
     patterns: &mut [u32],
     used: usize,
-) -> Made
+) -> Reply
     requires { ⌜ Opening (now text) (now cells) (now symbols) known (length (now patterns)) ⌝ }
     ensures { λ r. ⌜ ((T : Theory) (R : Reading) (inputs : List ℕ) (zs : Sexps) → SymbolsHeld (now (text .entry)) (now (symbols .entry)) inputs known (T .symbols) →
         R .words ≡ used → Holds (now (text .entry)) (now (cells .entry)) zs →
         OpenedRead (now (text .entry)) (now (cells .entry)) (now (patterns .entry)) (now (patterns .exit)) used T R zs (predicated T zs R) r) ⌝ }
 {
     if cells.len() == 0 {
-        return Made::No(11, 0);
+        return Reply::No(11, 0);
     }
     let Item::Atom(start) = items::item_at(cells, 0) else {
-        return Made::No(11, 0);
+        return Reply::No(11, 0);
     };
     let end = lex::atom_end(text, start);
     let Found::At(p) = symbol_named(text, symbols, known, true, &text[start..end]) else {
-        return Made::No(11, 0);
+        return Reply::No(11, 0);
     };
     let arity = symbols[4 * p + 1] as usize;
     let many = items::count(cells);
     if arity + 1 != many {
-        return Made::No(12, 0);
+        return Reply::No(12, 0);
     }
     if put_word(patterns, used, p) {
-        return Made::Ok(p, used + 1);
+        return Reply::Ok(p, used + 1);
     }
-    Made::No(60, 6)
+    Reply::No(60, 6)
 }
 
 // The term of a sort that the first item spells.
@@ -95,11 +95,11 @@ fn term(
     count: usize,
     patterns: &mut [u32],
     used: usize,
-) -> Made
+) -> Reply
     requires { ⌜ Patterning (now text) (now cells) (now symbols) (now inputs) known (now vars) count (length (now patterns)) used ⌝ }
     requires { ⌜ (0 < length (now cells)) × (sort < 2 ^ 32) ⌝ }
     ensures { λ r. ⌜ ((T : Theory) (R : Reading) (x : Sexp) (ys : Sexps) → SymbolsHeld (now (text .entry)) (now (symbols .entry)) (now (inputs .entry)) known (T .symbols) →
-        Reads (now (text .entry)) (now (vars .entry)) count used R → Holds (now (text .entry)) (now (cells .entry)) (cons x ys) →
+        ReadSoFar (now (text .entry)) (now (vars .entry)) count used R → Holds (now (text .entry)) (now (cells .entry)) (cons x ys) →
         PatternRead prefix (now (text .entry)) (now (vars .exit)) (now (patterns .entry)) (now (patterns .exit)) used (pattern T x sort R) r) ⌝ }
 {
     match items::item_at(cells, 0) {
@@ -117,7 +117,7 @@ fn term(
         Item::List(a, b) => {
             let inner = &cells[a..b];
             let h = open_term(text, inner, sort, symbols, known, patterns, used);
-            let Made::Ok(c, next) = h else {
+            let Reply::Ok(c, next) = h else {
                 return h;
             };
             arguments(
@@ -150,16 +150,16 @@ fn arguments(
     count: usize,
     patterns: &mut [u32],
     used: usize,
-) -> Made
+) -> Reply
     requires { ⌜ Arguing (now text) (now cells) (now symbols) (now inputs) known (now vars) count (length (now patterns)) used c k ⌝ }
     ensures { λ r. ⌜ ((T : Theory) (R : Reading) (zs : Sexps) → SymbolsHeld (now (text .entry)) (now (symbols .entry)) (now (inputs .entry)) known (T .symbols) →
-        Reads (now (text .entry)) (now (vars .entry)) count used R → Holds (now (text .entry)) (now (cells .entry)) zs → Placed (T .symbols) c k zs →
+        ReadSoFar (now (text .entry)) (now (vars .entry)) count used R → Holds (now (text .entry)) (now (cells .entry)) zs → Placed (T .symbols) c k zs →
         PatternRead prefixes (now (text .entry)) (now (vars .exit)) (now (patterns .entry)) (now (patterns .exit)) used (patternsOf T zs (drop k (inputsOf T c)) R) r) ⌝ }
 {
     if cells.len() == 0 {
-        return Made::Ok(count, used);
+        return Reply::Ok(count, used);
     }
-    let sort = inputs[16 * c + k] as usize;
+    let sort = inputs[rules::ARGUMENTS * c + k] as usize;
     let r = term(
         text,
         cells,
@@ -172,7 +172,7 @@ fn arguments(
         patterns,
         used,
     );
-    let Made::Ok(v, w) = r else {
+    let Reply::Ok(v, w) = r else {
         return r;
     };
     let next = items::after(cells, 0);
@@ -202,14 +202,14 @@ pub fn judgment(
     count: usize,
     patterns: &mut [u32],
     used: usize,
-) -> Made
+) -> Reply
     requires { ⌜ Patterning (now text) (now cells) (now symbols) (now inputs) known (now vars) count (length (now patterns)) used ⌝ }
     ensures { λ r. ⌜ ((T : Theory) (R : Reading) (zs : Sexps) → SymbolsHeld (now (text .entry)) (now (symbols .entry)) (now (inputs .entry)) known (T .symbols) →
-        Reads (now (text .entry)) (now (vars .entry)) count used R → Holds (now (text .entry)) (now (cells .entry)) zs →
+        ReadSoFar (now (text .entry)) (now (vars .entry)) count used R → Holds (now (text .entry)) (now (cells .entry)) zs →
         PatternRead prefix (now (text .entry)) (now (vars .exit)) (now (patterns .entry)) (now (patterns .exit)) used (predicated T zs R) r) ⌝ }
 {
     let h = open_judgment(text, cells, symbols, known, patterns, used);
-    let Made::Ok(p, next) = h else {
+    let Reply::Ok(p, next) = h else {
         return h;
     };
     arguments(

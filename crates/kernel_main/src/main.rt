@@ -1,5 +1,5 @@
 // Reads up to 4,096 bytes of a theory from standard input and writes the answer, then the used rows of each table, a row a line.
-ghost use Rattle.kernel.specs.Parsed.{tables, Roomy};
+ghost use Rattle.kernel.specs.Parsed.{theoryLists, Roomy};
 ghost use Rattle.sexp.specs.Through.{Legible};
 use kernel::parse::Counts;
 use kernel::parse::Judged;
@@ -95,7 +95,7 @@ fn run(
     patterns: &mut [u32],
 )
     requires { ⌜ Legible (now text) (now cells) ⌝ }
-    requires { ⌜ Roomy (tables (now sorts) (now symbols) (now inputs) (now rules) (now vars) (now patterns)) ⌝ }
+    requires { ⌜ Roomy (theoryLists (now sorts) (now symbols) (now inputs) (now rules) (now vars) (now patterns)) ⌝ }
 {
     let r = kernel::parse::parse(text, cells, sorts, symbols, inputs, rules, vars, patterns);
     let held = show_answer(r);
@@ -105,13 +105,14 @@ fn run(
 fn main() {
     let mut text = io::buffer();
     let n = io::read_full(0, &mut text);
+    // a cell for each byte of the buffer
     let mut cells = [0u32; 4096];
-    let mut sorts = [0u32; 128];
-    let mut symbols = [0u32; 1024];
-    let mut inputs = [0u32; 4096];
-    let mut rules = [0u32; 1536];
-    let mut vars = [0u32; 12288];
-    let mut patterns = [0u32; 8192];
+    let mut sorts = [0u32; 2 * rules::SORTS];
+    let mut symbols = [0u32; 4 * rules::SYMBOLS];
+    let mut inputs = [0u32; rules::ARGUMENTS * rules::SYMBOLS];
+    let mut rules = [0u32; 6 * rules::RULES];
+    let mut vars = [0u32; 3 * rules::RULEVARS * rules::RULES];
+    let mut patterns = [0u32; rules::PATTERNS];
     run(
         &text[..n],
         &mut cells,

@@ -28,7 +28,7 @@ atom-inside text f k = atom-text text (k .1) (k .0) (k .3) (k .2) f .inside
 -- The first item -----------------------------------------------------------------------------------------------------------------
 
 -- the items are one and others; `next` is the place behind the first
-pub record First (text cells : List ℕ) (xs : Sexps) (item : Item) (next : ℕ) : Type 0 where
+pub record ItemFirst (text cells : List ℕ) (xs : Sexps) (item : Item) (next : ℕ) : Type 0 where
   pub x : Sexp
   pub ys : Sexps
   pub is : xs ≡ cons x ys
@@ -42,12 +42,12 @@ pub none-left : {text cells : List ℕ} {xs : Sexps} → Holds text cells xs →
 none-left h e = walk-over (walk-start h) (omega (arith, e))
 
 pub first-of : {text cells : List ℕ} {xs : Sexps} (item : Item) (next : ℕ) → Holds text cells xs → (length cells ≡ 0 → ⊥) → item ≡ itemAt cells 0 →
-    next ≡ behind 0 (itemAt cells 0) → First text cells xs item next
+    next ≡ behind 0 (itemAt cells 0) → ItemFirst text cells xs item next
 first-of {text} {cells} {xs} item next h l e f =
     let m = walk-more (walk-start h) (omega (arith, l)) in
     go (m .first) (m .others) (m .is) h
   where
-    go : (x : Sexp) (ys : Sexps) → xs ≡ cons x ys → Holds text cells xs → First text cells xs item next
+    go : (x : Sexp) (ys : Sexps) → xs ≡ cons x ys → Holds text cells xs → ItemFirst text cells xs item next
     go x ys i k =
         let w : Walk text cells 0 (cons x ys) = rw i at (walk-start k) in
         let c : itemAt cells 0 ≡ itemOf 0 x = item-here x (w .here) in
@@ -67,7 +67,7 @@ first-of {text} {cells} {xs} item next h l e f =
 
 -- the same, where the place behind is not asked for
 pub first-item : {text cells : List ℕ} {xs : Sexps} (item : Item) → Holds text cells xs → (length cells ≡ 0 → ⊥) → item ≡ itemAt cells 0 →
-    First text cells xs item (behind 0 (itemAt cells 0))
+    ItemFirst text cells xs item (behind 0 (itemAt cells 0))
 first-item item h l e = first-of item (behind 0 (itemAt _ 0)) h l e refl
 
 pub some-first : {text cells : List ℕ} {xs : Sexps} (item : Item) → Holds text cells xs → (length cells ≡ 0 → ⊥) → item ≡ itemAt cells 0 → SomeItem text item
@@ -82,7 +82,7 @@ count-more : (x : Sexp) (xs ys : Sexps) → xs ≡ cons x ys → count xs ≡ su
 unfolding count
 count-more x xs ys e = ap count e
 
-module _ {text cells : List ℕ} {xs : Sexps} {item : Item} {next : ℕ} (f : First text cells xs item next) where
+module _ {text cells : List ℕ} {xs : Sexps} {item : Item} {next : ℕ} (f : ItemFirst text cells xs item next) where
   pub first-count : count xs ≡ suc (count (f .ys))
   first-count = count-more (f .x) xs (f .ys) (f .is)
 

@@ -25,18 +25,18 @@ found-missing nothing r a b = refl
 found-missing (some i) r a b = never cc
 
 -- what is found is one of the entries, and passes
-pub record Passing {A : Type 0} (p : A → Bool) (xs : List A) (i : ℕ) (d : A) : Type 0 where
+pub record FoundEntry {A : Type 0} (p : A → Bool) (xs : List A) (i : ℕ) (d : A) : Type 0 where
   pub inside : i < length xs
   pub passes : p (getD xs i d) ≡ true
 
-pub found-passing : {A : Type 0} (p : A → Bool) (xs : List A) (d : A) (r : Found) (i : ℕ) → r ≡ foundOf (first p xs 0) → r ≡ At i → Passing p xs i d
-found-passing p xs d r i a b =
+pub found-entry : {A : Type 0} (p : A → Bool) (xs : List A) (d : A) (r : Found) (i : ℕ) → r ≡ foundOf (first p xs 0) → r ≡ At i → FoundEntry p xs i d
+found-entry p xs d r i a b =
     let f = first-some p xs 0 i d (found-at (first p xs 0) r i a b) in
     let z : f .place ≡ i = omega (arith, f .is) in
     record { inside = omega (arith, z, f .inside); passes = rw z at (f .passes) }
 
 pub found-inside : (name : List ℕ) (ns : List Name) (r : Found) (i : ℕ) → r ≡ foundOf (first (λ n. same (n .bytes) name) ns 0) → r ≡ At i → i < length ns
-found-inside name ns r i a b = found-passing (λ (n : Name). same (n .bytes) name) ns noName r i a b .inside
+found-inside name ns r i a b = found-entry (λ (n : Name). same (n .bytes) name) ns noName r i a b .inside
 
 -- The names of things in a list -----------------------------------------------------------------------------------------------------
 

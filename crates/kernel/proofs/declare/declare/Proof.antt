@@ -1,7 +1,7 @@
 -- `kernel::declare::declare` meets its contract. Assumes nothing.
 use mathlib.Core.Path.{sym, subst}
 use native.Mathlib.Omega.{arith}
-use Rattle.kernel.specs.Parsed.{tables, DeclaredAs}
+use Rattle.kernel.specs.Parsed.{theoryLists, DeclaredAs}
 use Rattle.kernel.proofs.Tagged.{form-some, form-atom, form-list, form-declares}
 use borrow.Author.Needs.{needs}
 use Rattle.kernel.proofs.declare.declare.Statement.{statement}
@@ -53,7 +53,7 @@ same-length-6 : tie.Need-same-length-6
 same-length-6 c = (c .before .before .before .before .before .before .before .before .before .before .before .before .declare-items) .kept .1 .1 .1 .1 .1 .1 .1 .0
 
 returns-2 : tie.Need-returns-2
-returns-2 c = λ T x h k. subst (λ z. DeclaredAs ((c .before .before .before .before .before .before .before .before .before .before .before .before .before .before .before .before .before .before .before .before .before .before .before .before .before .before .before .before .before .before .before .before .args) .text .now) (tables ((c .before .before .before .before .before .before .before .before .before .before .before .before .declare-items) .last .1 .1 .0) ((c .before .before .before .before .before .before .before .before .before .before .before .before .declare-items) .last .1 .1 .1 .0) ((c .before .before .before .before .before .before .before .before .before .before .before .before .declare-items) .last .1 .1 .1 .1 .0) ((c .before .before .before .before .before .before .before .before .before .before .before .before .declare-items) .last .1 .1 .1 .1 .1 .0) ((c .before .before .before .before .before .before .before .before .before .before .before .before .declare-items) .last .1 .1 .1 .1 .1 .1 .0) ((c .before .before .before .before .before .before .before .before .before .before .before .before .declare-items) .last .1 .1 .1 .1 .1 .1 .1 .0)) ((c .before .before .before .before .before .before .before .before .before .before .before .before .before .before .before .before .before .before .before .before .before .before .before .before .before .before .before .before .before .before .before .before .args) .held) T z ((c .before .before .before .before .before .before .before .before .before .before .before .before .declare-items) .result)) (sym (form-declares k ((c .before .before .before .before .before .before .before .before .before .before .before .before .before .before .before .before .before .before .before .before .before .before .before .item-at) .ensures) ((c .before .before .before .before .before .before .before .before .before .before .before .before .before .before .before .before .before .before .before .before .before .a) .given .1) T)) ((c .before .before .before .before .before .before .before .before .before .before .before .before .declare-items) .ensures T ((form-list k ((c .before .before .before .before .before .before .before .before .before .before .before .before .before .before .before .before .before .before .before .before .before .before .before .item-at) .ensures) ((c .before .before .before .before .before .before .before .before .before .before .before .before .before .before .before .before .before .before .before .before .before .a) .given .1)) .items) h ((form-list k ((c .before .before .before .before .before .before .before .before .before .before .before .before .before .before .before .before .before .before .before .before .before .before .before .item-at) .ensures) ((c .before .before .before .before .before .before .before .before .before .before .before .before .before .before .before .before .before .before .before .before .before .a) .given .1)) .holds))
+returns-2 c = λ T x h k. subst (λ z. DeclaredAs ((c .before .before .before .before .before .before .before .before .before .before .before .before .before .before .before .before .before .before .before .before .before .before .before .before .before .before .before .before .before .before .before .before .args) .text .now) (theoryLists ((c .before .before .before .before .before .before .before .before .before .before .before .before .declare-items) .last .1 .1 .0) ((c .before .before .before .before .before .before .before .before .before .before .before .before .declare-items) .last .1 .1 .1 .0) ((c .before .before .before .before .before .before .before .before .before .before .before .before .declare-items) .last .1 .1 .1 .1 .0) ((c .before .before .before .before .before .before .before .before .before .before .before .before .declare-items) .last .1 .1 .1 .1 .1 .0) ((c .before .before .before .before .before .before .before .before .before .before .before .before .declare-items) .last .1 .1 .1 .1 .1 .1 .0) ((c .before .before .before .before .before .before .before .before .before .before .before .before .declare-items) .last .1 .1 .1 .1 .1 .1 .1 .0)) ((c .before .before .before .before .before .before .before .before .before .before .before .before .before .before .before .before .before .before .before .before .before .before .before .before .before .before .before .before .before .before .before .before .args) .held) T z ((c .before .before .before .before .before .before .before .before .before .before .before .before .declare-items) .result)) (sym (form-declares k ((c .before .before .before .before .before .before .before .before .before .before .before .before .before .before .before .before .before .before .before .before .before .before .before .item-at) .ensures) ((c .before .before .before .before .before .before .before .before .before .before .before .before .before .before .before .before .before .before .before .before .before .a) .given .1) T)) ((c .before .before .before .before .before .before .before .before .before .before .before .before .declare-items) .ensures T ((form-list k ((c .before .before .before .before .before .before .before .before .before .before .before .before .before .before .before .before .before .before .before .before .before .before .before .item-at) .ensures) ((c .before .before .before .before .before .before .before .before .before .before .before .before .before .before .before .before .before .before .before .before .before .a) .given .1)) .items) h ((form-list k ((c .before .before .before .before .before .before .before .before .before .before .before .before .before .before .before .before .before .before .before .before .before .before .before .item-at) .ensures) ((c .before .before .before .before .before .before .before .before .before .before .before .before .before .before .before .before .before .before .before .before .before .a) .given .1)) .holds))
 
 pub declare-spec : {M : Type 1} → statement M
 declare-spec =

@@ -2,7 +2,7 @@
 use mathlib.Core.Path.{refl}
 use Rattle.rules.specs.Tags.{aSort, aCtor, aPred, aRule}
 use Rattle.sexp.specs.declared.tags.Declaration.the-variants.{Sort, Ctor, Pred, Rule, Unknown}
-use Rattle.kernel.specs.Parsed.{tables}
+use Rattle.kernel.specs.Parsed.{theoryLists}
 use Rattle.kernel.proofs.Tagged.{told, item-many, form-of, no-tag, sort-taken, ctor-taken, pred-taken, rule-taken}
 use borrow.Author.Needs.{needs}
 use Rattle.kernel.proofs.declare.declare_items.Statement.{statement}
@@ -54,7 +54,7 @@ same-length : tie.Need-same-length
 same-length c = (c .before .before .before .add-sort) .kept .1 .1 .0
 
 returns : tie.Need-returns
-returns c = λ T xs h k. sort-taken (tables ((c .before .before .before .before .before .before .before .before .before .before .before .before .before .before .before .before .args) .sorts .now) ((c .before .before .before .before .before .before .before .before .before .before .before .before .before .before .before .before .args) .symbols .now) ((c .before .before .before .before .before .before .before .before .before .before .before .before .before .before .before .before .args) .inputs .now) ((c .before .before .before .before .before .before .before .before .before .before .before .before .before .before .before .before .args) .rules .now) ((c .before .before .before .before .before .before .before .before .before .before .before .before .before .before .before .before .args) .vars .now) ((c .before .before .before .before .before .before .before .before .before .before .before .before .before .before .before .before .args) .patterns .now)) ((c .before .before .before .before .before .before .before .before .before .before .before .before .before .before .before .before .args) .held) T xs h ((c .before .before .before .add-sort) .last .1 .1 .0) (told Sort ((c .before .before .before .before .before .before .before .tag-of) .ensures xs k) ((c .before .before .before .before .before .enum-told) .given .1)) ((c .before .before .before .add-sort) .result) ((c .sorts-now) .result) ((c .before .before .before .add-sort) .ensures T xs (h .sorts) k) ((c .sorts-now) .ensures)
+returns c = λ T xs h k. sort-taken (theoryLists ((c .before .before .before .before .before .before .before .before .before .before .before .before .before .before .before .before .args) .sorts .now) ((c .before .before .before .before .before .before .before .before .before .before .before .before .before .before .before .before .args) .symbols .now) ((c .before .before .before .before .before .before .before .before .before .before .before .before .before .before .before .before .args) .inputs .now) ((c .before .before .before .before .before .before .before .before .before .before .before .before .before .before .before .before .args) .rules .now) ((c .before .before .before .before .before .before .before .before .before .before .before .before .before .before .before .before .args) .vars .now) ((c .before .before .before .before .before .before .before .before .before .before .before .before .before .before .before .before .args) .patterns .now)) ((c .before .before .before .before .before .before .before .before .before .before .before .before .before .before .before .before .args) .held) T xs h ((c .before .before .before .add-sort) .last .1 .1 .0) (told Sort ((c .before .before .before .before .before .before .before .tag-of) .ensures xs k) ((c .before .before .before .before .before .enum-told) .given .1)) ((c .before .before .before .add-sort) .result) ((c .sorts-now) .result) ((c .before .before .before .add-sort) .ensures T xs (h .sorts) k) ((c .sorts-now) .ensures)
 
 same-length-2 : tie.Need-same-length-2
 same-length-2 c = refl
@@ -66,7 +66,7 @@ same-length-4 : tie.Need-same-length-4
 same-length-4 c = (c .before .before .before .before .before .add-ctor) .kept .1 .1 .1 .1 .1 .0
 
 returns-2 : tie.Need-returns-2
-returns-2 c = λ T xs h k. ctor-taken (tables ((c .before .before .before .before .before .before .before .before .before .before .before .before .before .before .before .before .before .before .before .before .args) .sorts .now) ((c .before .before .before .before .before .before .before .before .before .before .before .before .before .before .before .before .before .before .before .before .args) .symbols .now) ((c .before .before .before .before .before .before .before .before .before .before .before .before .before .before .before .before .before .before .before .before .args) .inputs .now) ((c .before .before .before .before .before .before .before .before .before .before .before .before .before .before .before .before .before .before .before .before .args) .rules .now) ((c .before .before .before .before .before .before .before .before .before .before .before .before .before .before .before .before .before .before .before .before .args) .vars .now) ((c .before .before .before .before .before .before .before .before .before .before .before .before .before .before .before .before .before .before .before .before .args) .patterns .now)) ((c .before .before .before .before .before .before .before .before .before .before .before .before .before .before .before .before .before .before .before .before .args) .held) T xs h ((c .before .before .before .before .before .add-ctor) .last .1 .1 .1 .1 .0) ((c .before .before .before .before .before .add-ctor) .last .1 .1 .1 .1 .1 .0) (told Ctor ((c .before .before .before .before .before .before .before .before .before .before .before .tag-of) .ensures xs k) ((c .before .before .before .before .before .before .before .before .before .enum-told2) .given .1)) ((c .before .before .before .before .before .add-ctor) .result) ((c .symbols-now) .result) ((c .before .before .before .before .before .add-ctor) .ensures T xs (h .sorts) (h .symbols) k (item-many xs aCtor (told Ctor ((c .before .before .before .before .before .before .before .before .before .before .before .tag-of) .ensures xs k) ((c .before .before .before .before .before .before .before .before .before .enum-told2) .given .1)))) ((c .symbols-now) .ensures)
+returns-2 c = λ T xs h k. ctor-taken (theoryLists ((c .before .before .before .before .before .before .before .before .before .before .before .before .before .before .before .before .before .before .before .before .args) .sorts .now) ((c .before .before .before .before .before .before .before .before .before .before .before .before .before .before .before .before .before .before .before .before .args) .symbols .now) ((c .before .before .before .before .before .before .before .before .before .before .before .before .before .before .before .before .before .before .before .before .args) .inputs .now) ((c .before .before .before .before .before .before .before .before .before .before .before .before .before .before .before .before .before .before .before .before .args) .rules .now) ((c .before .before .before .before .before .before .before .before .before .before .before .before .before .before .before .before .before .before .before .before .args) .vars .now) ((c .before .before .before .before .before .before .before .before .before .before .before .before .before .before .before .before .before .before .before .before .args) .patterns .now)) ((c .before .before .before .before .before .before .before .before .before .before .before .before .before .before .before .before .before .before .before .before .args) .held) T xs h ((c .before .before .before .before .before .add-ctor) .last .1 .1 .1 .1 .0) ((c .before .before .before .before .before .add-ctor) .last .1 .1 .1 .1 .1 .0) (told Ctor ((c .before .before .before .before .before .before .before .before .before .before .before .tag-of) .ensures xs k) ((c .before .before .before .before .before .before .before .before .before .enum-told2) .given .1)) ((c .before .before .before .before .before .add-ctor) .result) ((c .symbols-now) .result) ((c .before .before .before .before .before .add-ctor) .ensures T xs (h .sorts) (h .symbols) k (item-many xs aCtor (told Ctor ((c .before .before .before .before .before .before .before .before .before .before .before .tag-of) .ensures xs k) ((c .before .before .before .before .before .before .before .before .before .enum-told2) .given .1)))) ((c .symbols-now) .ensures)
 
 same-length-5 : tie.Need-same-length-5
 same-length-5 c = refl
@@ -78,7 +78,7 @@ same-length-7 : tie.Need-same-length-7
 same-length-7 c = (c .before .before .before .before .before .add-pred) .kept .1 .1 .1 .1 .1 .0
 
 returns-3 : tie.Need-returns-3
-returns-3 c = λ T xs h k. pred-taken (tables ((c .before .before .before .before .before .before .before .before .before .before .before .before .before .before .before .before .before .before .before .before .args) .sorts .now) ((c .before .before .before .before .before .before .before .before .before .before .before .before .before .before .before .before .before .before .before .before .args) .symbols .now) ((c .before .before .before .before .before .before .before .before .before .before .before .before .before .before .before .before .before .before .before .before .args) .inputs .now) ((c .before .before .before .before .before .before .before .before .before .before .before .before .before .before .before .before .before .before .before .before .args) .rules .now) ((c .before .before .before .before .before .before .before .before .before .before .before .before .before .before .before .before .before .before .before .before .args) .vars .now) ((c .before .before .before .before .before .before .before .before .before .before .before .before .before .before .before .before .before .before .before .before .args) .patterns .now)) ((c .before .before .before .before .before .before .before .before .before .before .before .before .before .before .before .before .before .before .before .before .args) .held) T xs h ((c .before .before .before .before .before .add-pred) .last .1 .1 .1 .1 .0) ((c .before .before .before .before .before .add-pred) .last .1 .1 .1 .1 .1 .0) (told Pred ((c .before .before .before .before .before .before .before .before .before .before .before .tag-of) .ensures xs k) ((c .before .before .before .before .before .before .before .before .before .enum-told3) .given .1)) ((c .before .before .before .before .before .add-pred) .result) ((c .symbols-now2) .result) ((c .before .before .before .before .before .add-pred) .ensures T xs (h .sorts) (h .symbols) k (item-many xs aPred (told Pred ((c .before .before .before .before .before .before .before .before .before .before .before .tag-of) .ensures xs k) ((c .before .before .before .before .before .before .before .before .before .enum-told3) .given .1)))) ((c .symbols-now2) .ensures)
+returns-3 c = λ T xs h k. pred-taken (theoryLists ((c .before .before .before .before .before .before .before .before .before .before .before .before .before .before .before .before .before .before .before .before .args) .sorts .now) ((c .before .before .before .before .before .before .before .before .before .before .before .before .before .before .before .before .before .before .before .before .args) .symbols .now) ((c .before .before .before .before .before .before .before .before .before .before .before .before .before .before .before .before .before .before .before .before .args) .inputs .now) ((c .before .before .before .before .before .before .before .before .before .before .before .before .before .before .before .before .before .before .before .before .args) .rules .now) ((c .before .before .before .before .before .before .before .before .before .before .before .before .before .before .before .before .before .before .before .before .args) .vars .now) ((c .before .before .before .before .before .before .before .before .before .before .before .before .before .before .before .before .before .before .before .before .args) .patterns .now)) ((c .before .before .before .before .before .before .before .before .before .before .before .before .before .before .before .before .before .before .before .before .args) .held) T xs h ((c .before .before .before .before .before .add-pred) .last .1 .1 .1 .1 .0) ((c .before .before .before .before .before .add-pred) .last .1 .1 .1 .1 .1 .0) (told Pred ((c .before .before .before .before .before .before .before .before .before .before .before .tag-of) .ensures xs k) ((c .before .before .before .before .before .before .before .before .before .enum-told3) .given .1)) ((c .before .before .before .before .before .add-pred) .result) ((c .symbols-now2) .result) ((c .before .before .before .before .before .add-pred) .ensures T xs (h .sorts) (h .symbols) k (item-many xs aPred (told Pred ((c .before .before .before .before .before .before .before .before .before .before .before .tag-of) .ensures xs k) ((c .before .before .before .before .before .before .before .before .before .enum-told3) .given .1)))) ((c .symbols-now2) .ensures)
 
 same-length-8 : tie.Need-same-length-8
 same-length-8 c = refl
@@ -96,10 +96,10 @@ same-length-12 : tie.Need-same-length-12
 same-length-12 c = (c .before .before .before .before .before .before .before .add-rule) .kept .1 .1 .1 .1 .1 .1 .1 .0
 
 returns-4 : tie.Need-returns-4
-returns-4 c = λ T xs h k. rule-taken (tables ((c .before .before .before .before .before .before .before .before .before .before .before .before .before .before .before .before .before .before .before .before .before .before .before .before .args) .sorts .now) ((c .before .before .before .before .before .before .before .before .before .before .before .before .before .before .before .before .before .before .before .before .before .before .before .before .args) .symbols .now) ((c .before .before .before .before .before .before .before .before .before .before .before .before .before .before .before .before .before .before .before .before .before .before .before .before .args) .inputs .now) ((c .before .before .before .before .before .before .before .before .before .before .before .before .before .before .before .before .before .before .before .before .before .before .before .before .args) .rules .now) ((c .before .before .before .before .before .before .before .before .before .before .before .before .before .before .before .before .before .before .before .before .before .before .before .before .args) .vars .now) ((c .before .before .before .before .before .before .before .before .before .before .before .before .before .before .before .before .before .before .before .before .before .before .before .before .args) .patterns .now)) ((c .before .before .before .before .before .before .before .before .before .before .before .before .before .before .before .before .before .before .before .before .before .before .before .before .args) .held) T xs h ((c .before .before .before .before .before .before .before .add-rule) .last .1 .1 .1 .1 .1 .0) ((c .before .before .before .before .before .before .before .add-rule) .last .1 .1 .1 .1 .1 .1 .0) ((c .before .before .before .before .before .before .before .add-rule) .last .1 .1 .1 .1 .1 .1 .1 .0) (told Rule ((c .before .before .before .before .before .before .before .before .before .before .before .before .before .before .before .tag-of) .ensures xs k) ((c .before .before .before .before .before .before .before .before .before .before .before .before .before .enum-told4) .given .1)) ((c .before .before .before .before .before .before .before .add-rule) .result) ((c .rules-now) .result) ((c .before .before .before .before .before .before .before .add-rule) .ensures T xs (h .symbols) (h .rules) k (item-many xs aRule (told Rule ((c .before .before .before .before .before .before .before .before .before .before .before .before .before .before .before .tag-of) .ensures xs k) ((c .before .before .before .before .before .before .before .before .before .before .before .before .before .enum-told4) .given .1)))) ((c .rules-now) .ensures)
+returns-4 c = λ T xs h k. rule-taken (theoryLists ((c .before .before .before .before .before .before .before .before .before .before .before .before .before .before .before .before .before .before .before .before .before .before .before .before .args) .sorts .now) ((c .before .before .before .before .before .before .before .before .before .before .before .before .before .before .before .before .before .before .before .before .before .before .before .before .args) .symbols .now) ((c .before .before .before .before .before .before .before .before .before .before .before .before .before .before .before .before .before .before .before .before .before .before .before .before .args) .inputs .now) ((c .before .before .before .before .before .before .before .before .before .before .before .before .before .before .before .before .before .before .before .before .before .before .before .before .args) .rules .now) ((c .before .before .before .before .before .before .before .before .before .before .before .before .before .before .before .before .before .before .before .before .before .before .before .before .args) .vars .now) ((c .before .before .before .before .before .before .before .before .before .before .before .before .before .before .before .before .before .before .before .before .before .before .before .before .args) .patterns .now)) ((c .before .before .before .before .before .before .before .before .before .before .before .before .before .before .before .before .before .before .before .before .before .before .before .before .args) .held) T xs h ((c .before .before .before .before .before .before .before .add-rule) .last .1 .1 .1 .1 .1 .0) ((c .before .before .before .before .before .before .before .add-rule) .last .1 .1 .1 .1 .1 .1 .0) ((c .before .before .before .before .before .before .before .add-rule) .last .1 .1 .1 .1 .1 .1 .1 .0) (told Rule ((c .before .before .before .before .before .before .before .before .before .before .before .before .before .before .before .tag-of) .ensures xs k) ((c .before .before .before .before .before .before .before .before .before .before .before .before .before .enum-told4) .given .1)) ((c .before .before .before .before .before .before .before .add-rule) .result) ((c .rules-now) .result) ((c .before .before .before .before .before .before .before .add-rule) .ensures T xs (h .symbols) (h .rules) k (item-many xs aRule (told Rule ((c .before .before .before .before .before .before .before .before .before .before .before .before .before .before .before .tag-of) .ensures xs k) ((c .before .before .before .before .before .before .before .before .before .before .before .before .before .enum-told4) .given .1)))) ((c .rules-now) .ensures)
 
 returns-5 : tie.Need-returns-5
-returns-5 c = λ T xs h k. no-tag (tables ((c .before .before .before .before .before .before .before .before .before .before .before .args) .sorts .now) ((c .before .before .before .before .before .before .before .before .before .before .before .args) .symbols .now) ((c .before .before .before .before .before .before .before .before .before .before .before .args) .inputs .now) ((c .before .before .before .before .before .before .before .before .before .before .before .args) .rules .now) ((c .before .before .before .before .before .before .before .before .before .before .before .args) .vars .now) ((c .before .before .before .before .before .before .before .before .before .before .before .args) .patterns .now)) ((c .before .before .before .before .before .before .before .before .before .before .before .args) .held) T xs h (told Unknown ((c .before .before .tag-of) .ensures xs k) ((c .enum-told5) .given .1))
+returns-5 c = λ T xs h k. no-tag (theoryLists ((c .before .before .before .before .before .before .before .before .before .before .before .args) .sorts .now) ((c .before .before .before .before .before .before .before .before .before .before .before .args) .symbols .now) ((c .before .before .before .before .before .before .before .before .before .before .before .args) .inputs .now) ((c .before .before .before .before .before .before .before .before .before .before .before .args) .rules .now) ((c .before .before .before .before .before .before .before .before .before .before .before .args) .vars .now) ((c .before .before .before .before .before .before .before .before .before .before .before .args) .patterns .now)) ((c .before .before .before .before .before .before .before .before .before .before .before .args) .held) T xs h (told Unknown ((c .before .before .tag-of) .ensures xs k) ((c .enum-told5) .given .1))
 
 pub declare-items-spec : {M : Type 1} → statement M
 declare-items-spec =

@@ -3,8 +3,9 @@ use mathlib.Core.Path.{sym}
 use Prim.Native.Nat.{_*_}
 use lib.Seq.{length-take-le}
 use Rattle.rules.specs.Limits.{SORTS, SYMBOLS, ARGUMENTS, RULES, RULEVARS, PATTERNS}
-use Rattle.kernel.specs.Parsed.{tables, theoryOf, verdict}
-use Rattle.kernel.proofs.Laid.{laid-longer, longer, exact-fronts}
+use Rattle.kernel.specs.Parsed.{theoryLists, theoryOf, verdict}
+use Rattle.kernel.specs.Layout.{laid-longer}
+use Rattle.kernel.proofs.Laid.{longer, exact-fronts}
 use borrow.Author.Needs.{needs}
 use Rattle.kernel.proofs.parse.parse.Statement.{statement}
 use Rattle.kernel.proofs.parse.parse.Tie as tie
@@ -52,10 +53,10 @@ mul-parse-exact-6 : tie.Need-mul-parse-exact-6
 mul-parse-exact-6 c = search needs
 
 slice-relend-prefix-parse-exact-5 : tie.Need-slice-relend-prefix-parse-exact-5
-slice-relend-prefix-parse-exact-5 c = (c .before .before .before .before .before .before .before .before .before .before .before .before .before .pre) .1 .rule-vars
+slice-relend-prefix-parse-exact-5 c = (c .before .before .before .before .before .before .before .before .before .before .before .before .before .pre) .1 .ruleVars
 
 slice-aggregate-parse-exact-5 : tie.Need-slice-aggregate-parse-exact-5
-slice-aggregate-parse-exact-5 c = sym (length-take-le (3 * RULEVARS * RULES) ((c .before .before .before .before .before .before .before .before .before .before .before .before .before .before .args) .vars .now) ((c .before .before .before .before .before .before .before .before .before .before .before .before .before .before .pre) .1 .rule-vars))
+slice-aggregate-parse-exact-5 c = sym (length-take-le (3 * RULEVARS * RULES) ((c .before .before .before .before .before .before .before .before .before .before .before .before .before .before .args) .vars .now) ((c .before .before .before .before .before .before .before .before .before .before .before .before .before .before .pre) .1 .ruleVars))
 
 slice-relend-prefix-parse-exact-6 : tie.Need-slice-relend-prefix-parse-exact-6
 slice-relend-prefix-parse-exact-6 c = (c .before .before .before .before .before .before .before .before .before .before .before .before .before .before .pre) .1 .patterns
@@ -64,7 +65,7 @@ slice-aggregate-parse-exact-6 : tie.Need-slice-aggregate-parse-exact-6
 slice-aggregate-parse-exact-6 c = sym (length-take-le PATTERNS ((c .before .before .before .before .before .before .before .before .before .before .before .before .before .before .before .args) .patterns .now) ((c .before .before .before .before .before .before .before .before .before .before .before .before .before .before .before .pre) .1 .patterns))
 
 parse-exact-requires : tie.Need-parse-exact-requires
-parse-exact-requires c κs = ((c .before .before .before .before .before .before .before .before .before .before .before .before .before .before .before .pre) .0, exact-fronts (tables ((c .before .before .before .before .before .before .before .before .before .before .before .before .before .before .before .args) .sorts .now) ((c .before .before .before .before .before .before .before .before .before .before .before .before .before .before .before .args) .symbols .now) ((c .before .before .before .before .before .before .before .before .before .before .before .before .before .before .before .args) .inputs .now) ((c .before .before .before .before .before .before .before .before .before .before .before .before .before .before .before .args) .rules .now) ((c .before .before .before .before .before .before .before .before .before .before .before .before .before .before .before .args) .vars .now) ((c .before .before .before .before .before .before .before .before .before .before .before .before .before .before .before .args) .patterns .now)) ((c .before .before .before .before .before .before .before .before .before .before .before .before .before .before .before .pre) .1))
+parse-exact-requires c κs = ((c .before .before .before .before .before .before .before .before .before .before .before .before .before .before .before .pre) .0, exact-fronts (theoryLists ((c .before .before .before .before .before .before .before .before .before .before .before .before .before .before .before .args) .sorts .now) ((c .before .before .before .before .before .before .before .before .before .before .before .before .before .before .before .args) .symbols .now) ((c .before .before .before .before .before .before .before .before .before .before .before .before .before .before .before .args) .inputs .now) ((c .before .before .before .before .before .before .before .before .before .before .before .before .before .before .before .args) .rules .now) ((c .before .before .before .before .before .before .before .before .before .before .before .before .before .before .before .args) .vars .now) ((c .before .before .before .before .before .before .before .before .before .before .before .before .before .before .before .args) .patterns .now)) ((c .before .before .before .before .before .before .before .before .before .before .before .before .before .before .before .pre) .1))
 
 same-length : tie.Need-same-length
 same-length c = (c .before .before .before .before .before .before .before .before .before .before .before .before .before .before .parse-exact) .kept .1 .0
@@ -82,13 +83,13 @@ same-length-5 : tie.Need-same-length-5
 same-length-5 c = longer (6 * RULES) ((c .before .before .before .before .before .before .before .before .before .before .before .before .before .before .parse-exact) .last .1 .1 .1 .1 .1 .0) ((c .before .before .before .before .before .before .before .before .before .before .before .before .before .before .before .before .before .before .before .before .before .before .before .before .before .before .before .before .before .before .args) .rules .now) ((c .before .before .before .before .before .before .before .before .before .before .before .before .before .before .before .before .before .before .before .before .before .before .before .before .before .before .before .before .before .before .pre) .1 .rules) ((c .before .before .before .before .before .before .before .before .before .before .before .before .before .before .parse-exact) .kept .1 .1 .1 .1 .1 .0)
 
 same-length-6 : tie.Need-same-length-6
-same-length-6 c = longer (3 * RULEVARS * RULES) ((c .before .before .before .before .before .before .before .before .before .before .before .before .before .before .parse-exact) .last .1 .1 .1 .1 .1 .1 .0) ((c .before .before .before .before .before .before .before .before .before .before .before .before .before .before .before .before .before .before .before .before .before .before .before .before .before .before .before .before .before .before .args) .vars .now) ((c .before .before .before .before .before .before .before .before .before .before .before .before .before .before .before .before .before .before .before .before .before .before .before .before .before .before .before .before .before .before .pre) .1 .rule-vars) ((c .before .before .before .before .before .before .before .before .before .before .before .before .before .before .parse-exact) .kept .1 .1 .1 .1 .1 .1 .0)
+same-length-6 c = longer (3 * RULEVARS * RULES) ((c .before .before .before .before .before .before .before .before .before .before .before .before .before .before .parse-exact) .last .1 .1 .1 .1 .1 .1 .0) ((c .before .before .before .before .before .before .before .before .before .before .before .before .before .before .before .before .before .before .before .before .before .before .before .before .before .before .before .before .before .before .args) .vars .now) ((c .before .before .before .before .before .before .before .before .before .before .before .before .before .before .before .before .before .before .before .before .before .before .before .before .before .before .before .before .before .before .pre) .1 .ruleVars) ((c .before .before .before .before .before .before .before .before .before .before .before .before .before .before .parse-exact) .kept .1 .1 .1 .1 .1 .1 .0)
 
 same-length-7 : tie.Need-same-length-7
 same-length-7 c = longer PATTERNS ((c .before .before .before .before .before .before .before .before .before .before .before .before .before .before .parse-exact) .last .1 .1 .1 .1 .1 .1 .1 .0) ((c .before .before .before .before .before .before .before .before .before .before .before .before .before .before .before .before .before .before .before .before .before .before .before .before .before .before .before .before .before .before .args) .patterns .now) ((c .before .before .before .before .before .before .before .before .before .before .before .before .before .before .before .before .before .before .before .before .before .before .before .before .before .before .before .before .before .before .pre) .1 .patterns) ((c .before .before .before .before .before .before .before .before .before .before .before .before .before .before .parse-exact) .kept .1 .1 .1 .1 .1 .1 .1 .0)
 
 returns : tie.Need-returns
-returns c = ((c .before .before .before .before .before .before .before .before .before .before .before .before .before .before .parse-exact) .ensures .0, (laid-longer (tables ((c .before .before .before .before .before .before .before .before .before .before .before .before .before .before .before .before .before .before .before .before .before .before .before .before .before .before .before .before .before .before .args) .sorts .now) ((c .before .before .before .before .before .before .before .before .before .before .before .before .before .before .before .before .before .before .before .before .before .before .before .before .before .before .before .before .before .before .args) .symbols .now) ((c .before .before .before .before .before .before .before .before .before .before .before .before .before .before .before .before .before .before .before .before .before .before .before .before .before .before .before .before .before .before .args) .inputs .now) ((c .before .before .before .before .before .before .before .before .before .before .before .before .before .before .before .before .before .before .before .before .before .before .before .before .before .before .before .before .before .before .args) .rules .now) ((c .before .before .before .before .before .before .before .before .before .before .before .before .before .before .before .before .before .before .before .before .before .before .before .before .before .before .before .before .before .before .args) .vars .now) ((c .before .before .before .before .before .before .before .before .before .before .before .before .before .before .before .before .before .before .before .before .before .before .before .before .before .before .before .before .before .before .args) .patterns .now)) (theoryOf (verdict ((c .before .before .before .before .before .before .before .before .before .before .before .before .before .before .before .before .before .before .before .before .before .before .before .before .before .before .before .before .before .before .args) .text .now))) ((c .before .before .before .before .before .before .before .before .before .before .before .before .before .before .parse-exact) .last .1 .1 .0) ((c .before .before .before .before .before .before .before .before .before .before .before .before .before .before .parse-exact) .last .1 .1 .1 .0) ((c .before .before .before .before .before .before .before .before .before .before .before .before .before .before .parse-exact) .last .1 .1 .1 .1 .0) ((c .before .before .before .before .before .before .before .before .before .before .before .before .before .before .parse-exact) .last .1 .1 .1 .1 .1 .0) ((c .before .before .before .before .before .before .before .before .before .before .before .before .before .before .parse-exact) .last .1 .1 .1 .1 .1 .1 .0) ((c .before .before .before .before .before .before .before .before .before .before .before .before .before .before .parse-exact) .last .1 .1 .1 .1 .1 .1 .1 .0) ((c .before .before .before .before .before .before .before .before .before .before .before .before .before .before .parse-exact) .ensures .1 .0), (c .before .before .before .before .before .before .before .before .before .before .before .before .before .before .parse-exact) .ensures .1 .1))
+returns c = ((c .before .before .before .before .before .before .before .before .before .before .before .before .before .before .parse-exact) .ensures .0, (laid-longer (theoryLists ((c .before .before .before .before .before .before .before .before .before .before .before .before .before .before .before .before .before .before .before .before .before .before .before .before .before .before .before .before .before .before .args) .sorts .now) ((c .before .before .before .before .before .before .before .before .before .before .before .before .before .before .before .before .before .before .before .before .before .before .before .before .before .before .before .before .before .before .args) .symbols .now) ((c .before .before .before .before .before .before .before .before .before .before .before .before .before .before .before .before .before .before .before .before .before .before .before .before .before .before .before .before .before .before .args) .inputs .now) ((c .before .before .before .before .before .before .before .before .before .before .before .before .before .before .before .before .before .before .before .before .before .before .before .before .before .before .before .before .before .before .args) .rules .now) ((c .before .before .before .before .before .before .before .before .before .before .before .before .before .before .before .before .before .before .before .before .before .before .before .before .before .before .before .before .before .before .args) .vars .now) ((c .before .before .before .before .before .before .before .before .before .before .before .before .before .before .before .before .before .before .before .before .before .before .before .before .before .before .before .before .before .before .args) .patterns .now)) (theoryOf (verdict ((c .before .before .before .before .before .before .before .before .before .before .before .before .before .before .before .before .before .before .before .before .before .before .before .before .before .before .before .before .before .before .args) .text .now))) ((c .before .before .before .before .before .before .before .before .before .before .before .before .before .before .parse-exact) .last .1 .1 .0) ((c .before .before .before .before .before .before .before .before .before .before .before .before .before .before .parse-exact) .last .1 .1 .1 .0) ((c .before .before .before .before .before .before .before .before .before .before .before .before .before .before .parse-exact) .last .1 .1 .1 .1 .0) ((c .before .before .before .before .before .before .before .before .before .before .before .before .before .before .parse-exact) .last .1 .1 .1 .1 .1 .0) ((c .before .before .before .before .before .before .before .before .before .before .before .before .before .before .parse-exact) .last .1 .1 .1 .1 .1 .1 .0) ((c .before .before .before .before .before .before .before .before .before .before .before .before .before .before .parse-exact) .last .1 .1 .1 .1 .1 .1 .1 .0) ((c .before .before .before .before .before .before .before .before .before .before .before .before .before .before .parse-exact) .ensures .1 .0), (c .before .before .before .before .before .before .before .before .before .before .before .before .before .before .parse-exact) .ensures .1 .1))
 
 pub parse-spec : {M : Type 1} → statement M
 parse-spec =

@@ -1,6 +1,6 @@
 -- `kernel::parse::read_and_declare` meets its contract. Assumes nothing.
 use mathlib.Core.Path.{refl}
-use Rattle.kernel.specs.Parsed.{tables}
+use Rattle.kernel.specs.Parsed.{theoryLists}
 use Rattle.kernel.proofs.Runs.{unread-refused, read-whole}
 use borrow.Author.Needs.{needs}
 use Rattle.kernel.proofs.parse.read_and_declare.Statement.{statement}
@@ -22,7 +22,7 @@ declarations-requires : tie.Need-declarations-requires
 declarations-requires c κs = (c .before .before .before .before .before .before .before .before .before .before .before .before .before .before .before .before .before .before .pre)
 
 returns : tie.Need-returns
-returns c = (unread-refused ((c .before .before .before .before .before .before .before .before .before .before .before .before .before .args) .text .now) (tables ((c .before .before .before .before .before .before .before .before .before .before .before .before .before .args) .sorts .now) ((c .before .before .before .before .before .before .before .before .before .before .before .before .before .args) .symbols .now) ((c .before .before .before .before .before .before .before .before .before .before .before .before .before .args) .inputs .now) ((c .before .before .before .before .before .before .before .before .before .before .before .before .before .args) .rules .now) ((c .before .before .before .before .before .before .before .before .before .before .before .before .before .args) .vars .now) ((c .before .before .before .before .before .before .before .before .before .before .before .before .before .args) .patterns .now)) ((c .before .before .before .before .before .before .before .before .before .before .before .before .before .pre) .1) ((c .none) .result) ((c .none) .ensures) _ ((c .before .before .before .before .read-all) .ensures) ((c .before .before .number) .given .1), refl)
+returns c = (unread-refused ((c .before .before .before .before .before .before .before .before .before .before .before .before .before .args) .text .now) (theoryLists ((c .before .before .before .before .before .before .before .before .before .before .before .before .before .args) .sorts .now) ((c .before .before .before .before .before .before .before .before .before .before .before .before .before .args) .symbols .now) ((c .before .before .before .before .before .before .before .before .before .before .before .before .before .args) .inputs .now) ((c .before .before .before .before .before .before .before .before .before .before .before .before .before .args) .rules .now) ((c .before .before .before .before .before .before .before .before .before .before .before .before .before .args) .vars .now) ((c .before .before .before .before .before .before .before .before .before .before .before .before .before .args) .patterns .now)) ((c .before .before .before .before .before .before .before .before .before .before .before .before .before .pre) .1) ((c .none) .result) ((c .none) .ensures) _ ((c .before .before .before .before .read-all) .ensures) ((c .before .before .number) .given .1), refl)
 
 same-length : tie.Need-same-length
 same-length c = (c .before .before .before .before .before .before .before .before .before .before .before .before .before .before .declarations) .kept .1 .0
@@ -46,7 +46,7 @@ same-length-7 : tie.Need-same-length-7
 same-length-7 c = (c .before .before .before .before .before .before .before .before .before .before .before .before .before .before .declarations) .kept .1 .1 .1 .1 .1 .1 .1 .0
 
 returns-2 : tie.Need-returns-2
-returns-2 c = (read-whole ((c .before .before .before .before .before .before .before .before .before .before .before .before .before .before .before .before .before .before .before .before .before .before .before .before .before .before .before .before .before .before .before .before .before .args) .text .now) (tables ((c .before .before .before .before .before .before .before .before .before .before .before .before .before .before .declarations) .last .1 .1 .0) ((c .before .before .before .before .before .before .before .before .before .before .before .before .before .before .declarations) .last .1 .1 .1 .0) ((c .before .before .before .before .before .before .before .before .before .before .before .before .before .before .declarations) .last .1 .1 .1 .1 .0) ((c .before .before .before .before .before .before .before .before .before .before .before .before .before .before .declarations) .last .1 .1 .1 .1 .1 .0) ((c .before .before .before .before .before .before .before .before .before .before .before .before .before .before .declarations) .last .1 .1 .1 .1 .1 .1 .0) ((c .before .before .before .before .before .before .before .before .before .before .before .before .before .before .declarations) .last .1 .1 .1 .1 .1 .1 .1 .0)) ((c .before .before .before .before .before .before .before .before .before .before .before .before .before .before .declarations) .result) _ ((c .before .before .before .before .before .before .before .before .before .before .before .before .before .before .before .before .before .before .before .before .before .before .before .before .read-all) .ensures) ((c .before .before .before .before .before .before .before .before .before .before .before .before .before .before .before .before .before .before .before .before .before .before .enum-told) .given .1) ((c .before .before .before .before .before .before .before .before .before .before .before .before .before .before .declarations) .ensures .0), (c .before .before .before .before .before .before .before .before .before .before .before .before .before .before .declarations) .ensures .1)
+returns-2 c = (read-whole ((c .before .before .before .before .before .before .before .before .before .before .before .before .before .before .before .before .before .before .before .before .before .before .before .before .before .before .before .before .before .before .before .before .before .args) .text .now) (theoryLists ((c .before .before .before .before .before .before .before .before .before .before .before .before .before .before .declarations) .last .1 .1 .0) ((c .before .before .before .before .before .before .before .before .before .before .before .before .before .before .declarations) .last .1 .1 .1 .0) ((c .before .before .before .before .before .before .before .before .before .before .before .before .before .before .declarations) .last .1 .1 .1 .1 .0) ((c .before .before .before .before .before .before .before .before .before .before .before .before .before .before .declarations) .last .1 .1 .1 .1 .1 .0) ((c .before .before .before .before .before .before .before .before .before .before .before .before .before .before .declarations) .last .1 .1 .1 .1 .1 .1 .0) ((c .before .before .before .before .before .before .before .before .before .before .before .before .before .before .declarations) .last .1 .1 .1 .1 .1 .1 .1 .0)) ((c .before .before .before .before .before .before .before .before .before .before .before .before .before .before .declarations) .result) _ ((c .before .before .before .before .before .before .before .before .before .before .before .before .before .before .before .before .before .before .before .before .before .before .before .before .read-all) .ensures) ((c .before .before .before .before .before .before .before .before .before .before .before .before .before .before .before .before .before .before .before .before .before .before .enum-told) .given .1) ((c .before .before .before .before .before .before .before .before .before .before .before .before .before .before .declarations) .ensures .0), (c .before .before .before .before .before .before .before .before .before .before .before .before .before .before .declarations) .ensures .1)
 
 pub read-and-declare-spec : {M : Type 1} → statement M
 read-and-declare-spec =

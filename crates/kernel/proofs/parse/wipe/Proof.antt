@@ -4,9 +4,6 @@ use borrow.Author.Needs.{needs}
 use Rattle.kernel.proofs.parse.wipe.Statement.{statement}
 use Rattle.kernel.proofs.parse.wipe.Tie as tie
 
-sub-count : tie.Need-sub-count
-sub-count c = search needs
-
 mul-clear : tie.Need-mul-clear
 mul-clear c = search needs
 
@@ -32,7 +29,6 @@ pub wipe-spec : {M : Type 1} → statement M
 wipe-spec =
     tie.close
     (tie.spec
-    sub-count
     mul-clear
     sub-clear
     part-clear-start

@@ -1,6 +1,6 @@
 -- `kernel::parse::wipe_behind` meets its contract. Assumes nothing.
 use native.Mathlib.Omega.{arith}
-use Rattle.kernel.specs.Parsed.{tables}
+use Rattle.kernel.specs.Parsed.{theoryLists}
 use borrow.Author.Needs.{needs}
 use Rattle.kernel.proofs.parse.wipe_behind.Statement.{statement}
 use Rattle.kernel.proofs.parse.wipe_behind.Tie as tie
@@ -33,10 +33,10 @@ mul-wipe-5 : tie.Need-mul-wipe-5
 mul-wipe-5 c = search needs
 
 mul-wipe-6 : tie.Need-mul-wipe-6
-mul-wipe-6 c = omega (arith, (c .before .before .before .before .before .before .before .before .before .before .before .before .before .before .before .before .before .before .before .before .before .before .before .before .before .before .before .before .pre) .rule-vars, (c .before .before .before .before .before .before .before .before .before .before .before .before .before .before .before .before .before .before .before .before .before .before .before .before .before .before .before .before .good) .1 .1 .1 .1 .0 .0)
+mul-wipe-6 c = omega (arith, (c .before .before .before .before .before .before .before .before .before .before .before .before .before .before .before .before .before .before .before .before .before .before .before .before .before .before .before .before .pre) .ruleVars, (c .before .before .before .before .before .before .before .before .before .before .before .before .before .before .before .before .before .before .before .before .before .before .before .before .before .before .before .before .good) .1 .1 .1 .1 .0 .0)
 
 wipe-requires-5 : tie.Need-wipe-requires-5
-wipe-requires-5 c κs = (c .before .before .before .before .before .before .before .before .before .before .before .before .before .before .before .before .before .before .before .before .before .before .before .before .before .before .before .before .pre) .rule-vars
+wipe-requires-5 c κs = (c .before .before .before .before .before .before .before .before .before .before .before .before .before .before .before .before .before .before .before .before .before .before .before .before .before .before .before .before .pre) .ruleVars
 
 wipe-requires-6 : tie.Need-wipe-requires-6
 wipe-requires-6 c κs = (c .before .before .before .before .before .before .before .before .before .before .before .before .before .before .before .before .before .before .before .before .before .before .before .before .before .before .before .before .before .before .before .before .pre) .patterns
@@ -60,7 +60,7 @@ same-length-6 : tie.Need-same-length-6
 same-length-6 c = (c .before .before .wipe6) .kept .0
 
 returns : tie.Need-returns
-returns c = λ i. tables ((c .before .before .before .before .before .before .before .before .before .before .before .before .before .before .before .before .before .before .before .before .before .before .before .before .before .before .wipe) .ensures i) ((c .before .before .before .before .before .before .before .before .before .before .before .before .before .before .before .before .before .before .before .before .before .wipe2) .ensures i) ((c .before .before .before .before .before .before .before .before .before .before .before .before .before .before .before .before .wipe3) .ensures i) ((c .before .before .before .before .before .before .before .before .before .before .before .wipe4) .ensures i) ((c .before .before .before .before .before .before .wipe5) .ensures i) ((c .before .before .wipe6) .ensures i)
+returns c = λ i. theoryLists ((c .before .before .before .before .before .before .before .before .before .before .before .before .before .before .before .before .before .before .before .before .before .before .before .before .before .before .wipe) .ensures i) ((c .before .before .before .before .before .before .before .before .before .before .before .before .before .before .before .before .before .before .before .before .before .wipe2) .ensures i) ((c .before .before .before .before .before .before .before .before .before .before .before .before .before .before .before .before .wipe3) .ensures i) ((c .before .before .before .before .before .before .before .before .before .before .before .wipe4) .ensures i) ((c .before .before .before .before .before .before .wipe5) .ensures i) ((c .before .before .wipe6) .ensures i)
 
 pub wipe-behind-spec : {M : Type 1} → statement M
 wipe-behind-spec =

@@ -1,5 +1,6 @@
 use native.Mathlib.Omega.{arith}
 use Prim.Native.Nat.{_+_, _*_}
+use Rattle.rules.specs.Limits.{ARGUMENTS}
 use Rattle.kernel.proofs.Readings.{argument-place}
 use Rattle.kernel.specs.SignatureRows.{argument-cell}
 use Rattle.kernel.proofs.readers.input.Statement.{statement}
@@ -25,7 +26,7 @@ shared-slice-read-result c = argument-place (c .before .pre)
 
 -- src/readers.rt:38:5
 cast-result : tie.Need-cast-result
-cast-result c = omega (arith, (c .shared-slice-known) .given (16 * (c .before .args) .c + (c .before .args) .k))
+cast-result c = omega (arith, (c .shared-slice-known) .given (ARGUMENTS * (c .before .args) .c + (c .before .args) .k))
 
 -- src/readers.rt:33:1
 returns : tie.Need-returns

@@ -91,13 +91,16 @@ slice-write-rules-4 c = omega (arith, length-set ((c .before .before .put-name) 
 mul-put-row : tie.Need-mul-put-row
 mul-put-row c = search needs
 
+mul-put-row-2 : tie.Need-mul-put-row-2
+mul-put-row-2 c = search needs
+
 -- src/rule.rt:113:5
 put-row-requires : tie.Need-put-row-requires
 put-row-requires c κs = search needs
 
 -- src/rule.rt:114:14
-add-t18 : tie.Need-add-t18
-add-t18 c = search needs
+add-t17 : tie.Need-add-t17
+add-t17 c = search needs
 
 -- src/rule.rt:87:1
 same-length : tie.Need-same-length
@@ -135,8 +138,9 @@ store-spec =
     mul-rules-4
     slice-write-rules-4
     mul-put-row
+    mul-put-row-2
     put-row-requires
-    add-t18
+    add-t17
     same-length
     same-length-2
     returns-2)

@@ -7,8 +7,8 @@ use Rattle.kernel.proofs.rule_readers.rule_name.Reads as reads
 use Rattle.kernel.proofs.rule_readers.rule_name.Lts as lts
 
 -- src/rule_readers.rt:44:14
-mul-at : tie.Need-mul-at
-mul-at c = omega (arith, rule-place (c .pre), (c .good) .0)
+mul-first : tie.Need-mul-first
+mul-first c = omega (arith, rule-place (c .pre), (c .good) .0)
 
 -- src/rule_readers.rt:46:15
 mul-t4 : tie.Need-mul-t4
@@ -46,7 +46,7 @@ pub rule-name-spec : {M : Type 1} → statement M
 rule-name-spec =
     tie.close
     (tie.spec
-    mul-at
+    mul-first
     mul-t4
     shared-slice-read-t6
     cast-t7

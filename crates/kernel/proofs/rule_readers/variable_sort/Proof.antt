@@ -1,3 +1,4 @@
+use Rattle.rules.specs.Limits.{RULEVARS}
 use Rattle.kernel.specs.RuleRows.{var-place, var-cell}
 use Prim.Native.Nat.{_+_, _*_}
 use native.Mathlib.Omega.{arith}
@@ -28,7 +29,7 @@ shared-slice-read-result c = var-place (c .before .pre)
 
 -- src/rule_readers.rt:67:5
 cast-result : tie.Need-cast-result
-cast-result c = omega (arith, (c .shared-slice-known) .given (3 * (16 * (c .before .args) .r + (c .before .args) .i)))
+cast-result c = omega (arith, (c .shared-slice-known) .given (3 * (RULEVARS * (c .before .args) .r + (c .before .args) .i)))
 
 -- src/rule_readers.rt:62:1
 returns : tie.Need-returns

@@ -3,6 +3,7 @@ use Prim.Native.Nat.{_+_, _-_, _*_}
 use native.Mathlib.Omega.{arith}
 use lib.ListN.{length, take, drop}
 use denote.Ref.{now}
+use Rattle.rules.specs.Limits.{ARGUMENTS}
 use Rattle.rules.specs.TheoryTables.{prefix}
 use Rattle.rules.specs.Declare.{pattern}
 use Rattle.rules.specs.Laws.PatternSteps.{worded}
@@ -72,11 +73,11 @@ arguments-shared-slice-read-sort t c = (input-place ((c .before .before .before 
 
 -- src/terms.rt:98:16
 arguments-cast-sort : (t : ℕ) → arguments-lts.Need-cast-sort (cs t) (arguments-at t) arguments.Post
-arguments-cast-sort t c = omega (arith, (c .shared-slice-known5) .given (16 * (c .before .before .before .before .before .before .before .before .args) .c + (c .before .before .before .before .before .before .before .before .args) .k))
+arguments-cast-sort t c = omega (arith, (c .shared-slice-known5) .given (ARGUMENTS * (c .before .before .before .before .before .before .before .before .args) .c + (c .before .before .before .before .before .before .before .before .args) .k))
 
 -- src/terms.rt:99:9
 arguments-term-requires : (t : ℕ) → arguments-lts.Need-term-requires (cs t) (arguments-at t) arguments.Post
-arguments-term-requires t c κs = (omega (arith, (c .before .before .before .before .before .before .before .before .before .before .pre) .0), ((c .before .before .before .before .before .before .before .before .before .before .pre) .1 .given, (omega (arith, (c .before .before .before .if1) .left), omega (arith, (c .before .before .shared-slice-known5) .given (16 * (c .before .before .before .before .before .before .before .before .before .before .args) .c + (c .before .before .before .before .before .before .before .before .before .before .args) .k)))))
+arguments-term-requires t c κs = (omega (arith, (c .before .before .before .before .before .before .before .before .before .before .pre) .0), ((c .before .before .before .before .before .before .before .before .before .before .pre) .1 .given, (omega (arith, (c .before .before .before .if1) .left), omega (arith, (c .before .before .shared-slice-known5) .given (ARGUMENTS * (c .before .before .before .before .before .before .before .before .before .before .args) .c + (c .before .before .before .before .before .before .before .before .before .before .args) .k)))))
 
 -- src/terms.rt:100:18
 arguments-enum-known-r : (t : ℕ) → arguments-lts.Need-enum-known-r (cs t) (arguments-at t) arguments.Post
