@@ -1,4 +1,5 @@
 // From the text of a theory to its tables.
+pub mod atoms;
 mod declare;
 mod names;
 pub mod parse;

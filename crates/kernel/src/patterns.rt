@@ -14,8 +14,8 @@ ghost use Rattle.kernel.specs.Reading.{WordFits, WordPut, VarsHeld, Meet
 ghost use Rattle.sexp.specs.AtomText.{Spans};
 use crate::names::symbol_named;
 use crate::readers::same_sort;
-use crate::symbols::marked;
-use crate::symbols::put_name;
+use crate::atoms::marked;
+use crate::atoms::put_name;
 use sexp::lex;
 use sexp::names::Found;
 use sexp::names::named;

@@ -15,7 +15,7 @@ use crate::premises::premises;
 use crate::signatures::put_row;
 use crate::symbols::Spelling;
 use crate::symbols::proper_at;
-use crate::symbols::put_name;
+use crate::atoms::put_name;
 use crate::terms::judgment;
 use rules::RULES;
 use sexp::items;

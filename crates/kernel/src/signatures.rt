@@ -16,7 +16,7 @@ use crate::names::symbol_named;
 use crate::symbols::Added;
 use crate::symbols::Spelling;
 use crate::symbols::proper_at;
-use crate::symbols::put_name;
+use crate::atoms::put_name;
 use crate::symbols::sort;
 use sexp::items;
 use sexp::items::Item;

@@ -1,10 +1,7 @@
 // Sorts, constructors and predicates, from the items of their declarations to their rows.
 ghost use mathlib.Core.Path.{_≡_};
-ghost use Prim.Native.Nat.{ℕ, _+_, _<_};
-ghost use mathlib.Core.List.{List, [], _∷_};
-ghost use lib.ListN.{length, drop};
-ghost use lib.Seq.{sets};
-ghost use Rattle.rules.specs.Lex.{letters};
+ghost use Prim.Native.Nat.{ℕ, _+_};
+ghost use mathlib.Core.List.{List};
 ghost use Rattle.rules.specs.Sexp.{Sexp, Sexps, Name, marked, item};
 ghost use Rattle.rules.specs.Theory.{Theory};
 ghost use Rattle.rules.specs.Declare.{addSort};
@@ -14,7 +11,9 @@ ghost use Rattle.rules.specs.Laws.Declaring.{proper, sortOf};
 ghost use Rattle.kernel.specs.Spelled.{Reaching, nameOf};
 ghost use Rattle.sexp.specs.FirstItem.{SomeItem};
 ghost use Rattle.sexp.specs.NameRows.{NameRows, SomeNames, foundOf};
-ghost use Rattle.kernel.specs.Held.{NameFits, Form, SortsHeld, SomeSorts, SortAdded};
+ghost use Rattle.kernel.specs.Held.{Form, SortsHeld, SomeSorts, SortAdded};
+use crate::atoms::marked;
+use crate::atoms::put_name;
 use sexp::items;
 use sexp::items::Item;
 use sexp::lex;
@@ -30,14 +29,6 @@ pub enum Spelling {
 pub enum Added {
     Ok(usize),
     No(usize, usize),
-}
-
-// Whether the atom at a place starts with `?`.
-pub fn marked(text: &[u8], start: usize) -> bool
-    requires { ⌜ start < length (now text) ⌝ }
-    ensures { λ r. ⌜ r ≡ marked (letters (drop start (now (text .entry)))) ⌝ }
-{
-    text[start] == b'?'
 }
 
 // Question 11, `name`: an atom that does not start with `?`, by its first place and the place behind it.
@@ -79,15 +70,6 @@ pub fn sort(text: &[u8], item: Item, sorts: &[u32], count: usize) -> Found
         return Found::Missing;
     };
     Found::At(i + 1)
-}
-
-// A name's two cells.
-pub fn put_name(table: &mut [u32], at: usize, start: usize, end: usize)
-    requires { ⌜ NameFits (length (now table)) at start end ⌝ }
-    ensures { λ _. ⌜ now (table .exit) ≡ sets (now (table .entry)) at (start ∷ end ∷ []) ⌝ }
-{
-    table[at] = start as u32;
-    table[at + 1] = end as u32;
 }
 
 // `(sort NAME)`, given the items of the form; `count` sorts are there.

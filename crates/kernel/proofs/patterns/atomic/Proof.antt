@@ -7,7 +7,7 @@ use Rattle.kernel.proofs.patterns.atomic.Reads as reads
 use Rattle.kernel.proofs.patterns.atomic.Lts as lts
 use Rattle.kernel.proofs.patterns.constructor.Reads as constructor-reads
 use Rattle.kernel.proofs.patterns.variable.Reads as variable-reads
-use Rattle.kernel.proofs.symbols.marked.Reads as marked-reads
+use Rattle.kernel.proofs.atoms.marked.Reads as marked-reads
 
 -- src/patterns.rt:125:8
 marked-requires : tie.Need-marked-requires

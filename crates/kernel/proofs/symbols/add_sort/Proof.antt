@@ -11,7 +11,7 @@ use Rattle.kernel.proofs.symbols.add_sort.Reads as reads
 use Rattle.kernel.proofs.symbols.add_sort.Lts as lts
 use Rattle.sexp.proofs.names.named.Reads as named-reads
 use Rattle.kernel.proofs.symbols.proper_at.Reads as proper-at-reads
-use Rattle.kernel.proofs.symbols.put_name.Reads as put-name-reads
+use Rattle.kernel.proofs.atoms.put_name.Reads as put-name-reads
 
 -- src/symbols.rt:98:38
 proper-at-requires : tie.Need-proper-at-requires

@@ -7,7 +7,7 @@ use Rattle.kernel.proofs.symbols.proper.Statement.{statement}
 use Rattle.kernel.proofs.symbols.proper.Tie as tie
 use Rattle.kernel.proofs.symbols.proper.Reads as reads
 use Rattle.kernel.proofs.symbols.proper.Lts as lts
-use Rattle.kernel.proofs.symbols.marked.Reads as marked-reads
+use Rattle.kernel.proofs.atoms.marked.Reads as marked-reads
 use Rattle.sexp.proofs.lex.atom_end.Reads as atom-end-reads
 
 -- src/symbols.rt:35:20

@@ -1,9 +1,9 @@
 use Rattle.sexp.specs.AtomText.{marked-byte}
 use borrow.Author.Needs.{needs}
-use Rattle.kernel.proofs.symbols.marked.Statement.{statement}
-use Rattle.kernel.proofs.symbols.marked.Tie as tie
-use Rattle.kernel.proofs.symbols.marked.Reads as reads
-use Rattle.kernel.proofs.symbols.marked.Lts as lts
+use Rattle.kernel.proofs.atoms.marked.Statement.{statement}
+use Rattle.kernel.proofs.atoms.marked.Tie as tie
+use Rattle.kernel.proofs.atoms.marked.Reads as reads
+use Rattle.kernel.proofs.atoms.marked.Lts as lts
 
 -- src/symbols.rt:24:5
 shared-slice-read-result : tie.Need-shared-slice-read-result

@@ -3,10 +3,10 @@ use Prim.Native.Nat.{ℕ}
 use native.Mathlib.Numerals.{add-one}
 use lib.ListN.{set}
 use borrow.Author.Needs.{needs}
-use Rattle.kernel.proofs.symbols.put_name.Statement.{statement}
-use Rattle.kernel.proofs.symbols.put_name.Tie as tie
-use Rattle.kernel.proofs.symbols.put_name.Reads as reads
-use Rattle.kernel.proofs.symbols.put_name.Lts as lts
+use Rattle.kernel.proofs.atoms.put_name.Statement.{statement}
+use Rattle.kernel.proofs.atoms.put_name.Tie as tie
+use Rattle.kernel.proofs.atoms.put_name.Reads as reads
+use Rattle.kernel.proofs.atoms.put_name.Lts as lts
 
 -- src/symbols.rt:87:17
 cast-table : tie.Need-cast-table
