@@ -80,7 +80,8 @@ module _ (text : List ℕ) (t : TheoryLists) (x : Exact t) (c : Counts) (z : c �
   unfolding verdict
   unread-refused r e {n} {k} b = run-refused noTheory start-held (verdict text) n 0 k (whole-refused declare noTheory (read text) r e b)
 
-pub read-whole : (text : List ℕ) (t : TheoryLists) (r : Judged) (w : Whole) → w ≡ wholeOf (read text) 0 → {n : ℕ} → w ≡ Forms n → Run text t (through declare (read text) 0 noTheory) r →
+pub read-whole : (text : List ℕ) (t : TheoryLists) (r : Judged) (w : Whole) → w ≡ wholeOf (read text) 0 → {n : ℕ} → w ≡ Forms n →
+    Run text t (through declare (read text) 0 noTheory) r →
     Run text t (verdict text) r
 unfolding verdict
 read-whole text t r w e b k = subst (λ z. Run text t z r) (sym (whole-forms declare noTheory (read text) w e b)) k
@@ -96,7 +97,8 @@ pub record Underway (text cells₀ cells : List ℕ) (t : TheoryLists) (held : C
 pub underway-first : (text cells : List ℕ) (t : TheoryLists) (x : Exact t) (c : Counts) → c ≡ noCounts → Legible text cells → Underway text cells cells t c 0 0
 underway-first text cells t x c z l = record { T = noTheory; theory = start-held text t x c z; going = going-first declare noTheory l }
 
-module _ {text w₀ w : List ℕ} {t : TheoryLists} {held : Counts} {forms at : ℕ} (g : Underway text w₀ w t held forms at) {v : List ℕ} {r : Read} (k : ReadRight text at w v r) where
+module _ {text w₀ w : List ℕ} {t : TheoryLists} {held : Counts} {forms at : ℕ} (g : Underway text w₀ w t held forms at)
+    {v : List ℕ} {r : Read} (k : ReadRight text at w v r) where
   pub ended : r ≡ End → Run text t (through declare (read text) 0 noTheory) (Done forms held) × (v ≡ w₀)
   ended e = let a = going-ends (g .going) k e in (run-done (g .T) (g .theory) _ forms (a .0), a .1)
 

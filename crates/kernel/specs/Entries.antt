@@ -18,19 +18,23 @@ use Rattle.kernel.specs.declared.rule_readers.Span.{Span}
 
 -- Entries that are there ---------------------------------------------------------------------------------------------------------
 
-pub known-symbol : {text symbols inputs : List ℕ} {count : ℕ} {ss : List Symbol} → SymbolsHeld text symbols inputs count ss → {c : ℕ} → c < count → KnownSymbol symbols c
+pub known-symbol : {text symbols inputs : List ℕ} {count : ℕ} {ss : List Symbol} → SymbolsHeld text symbols inputs count ss → {c : ℕ} → c < count →
+    KnownSymbol symbols c
 known-symbol {text} {inputs = inputs} {count} {ss} h l = record { text = text; inputs = inputs; count = count; held = (ss, h); known = l }
 
-pub known-input : (T : Theory) {text symbols inputs : List ℕ} {count : ℕ} → SymbolsHeld text symbols inputs count (T .symbols) → {c : ℕ} → c < count → {k : ℕ} →
-    k < length (inputsOf T c) → KnownInput inputs c k
+pub known-input : (T : Theory) {text symbols inputs : List ℕ} {count : ℕ} → SymbolsHeld text symbols inputs count (T .symbols) → {c : ℕ} →
+    c < count → {k : ℕ} → k < length (inputsOf T c) → KnownInput inputs c k
 unfolding inputsOf
-known-input T {text} {symbols} {count = count} h l m = record { text = text; symbols = symbols; count = count; held = (T .symbols, h); known = l; there = m }
+known-input T {text} {symbols} {count = count} h l m =
+    record { text = text; symbols = symbols; count = count; held = (T .symbols, h); known = l; there = m }
 
-pub known-rule : {text rules vars patterns : List ℕ} {count words : ℕ} {rs : List Rule} → RulesHeld text rules vars patterns count words rs → {r : ℕ} → r < count → KnownRule rules r
+pub known-rule : {text rules vars patterns : List ℕ} {count words : ℕ} {rs : List Rule} → RulesHeld text rules vars patterns count words rs →
+    {r : ℕ} → r < count → KnownRule rules r
 known-rule {text} {vars = vars} {patterns} {count} {words} {rs} h l =
     record { text = text; vars = vars; patterns = patterns; count = count; words = words; held = (rs, h); known = l }
 
-module _ (T : Theory) {text rules vars patterns : List ℕ} {count words : ℕ} (h : RulesHeld text rules vars patterns count words (T .rules)) {r : ℕ} (l : r < count) where
+module _ (T : Theory) {text rules vars patterns : List ℕ} {count words : ℕ} (h : RulesHeld text rules vars patterns count words (T .rules))
+    {r : ℕ} (l : r < count) where
   pub known-var : {i : ℕ} → i < length (rule T r .vars) → KnownVar vars r i
   unfolding rule
   known-var m = record { text = text; rules = rules; patterns = patterns; count = count; words = words; held = (T .rules, h); known = l; there = m }
@@ -57,7 +61,8 @@ pub formed-rule : {symbols rules patterns : List ℕ} {count r : ℕ} {T : Theor
     KnownFormedRule symbols rules patterns r
 formed-rule {symbols} {rules} {patterns} {count} {r} {T} f l = record { count = count; T = T; formed = f; known = l }
 
-pub rule-formed : {symbols rules patterns : List ℕ} {count r : ℕ} {T : Theory} → FormedRules symbols rules patterns count T → r < count → RuleFormed T (rule T r)
+pub rule-formed : {symbols rules patterns : List ℕ} {count r : ℕ} {T : Theory} → FormedRules symbols rules patterns count T → r < count →
+    RuleFormed T (rule T r)
 unfolding rule
 rule-formed {r = r} {T} f l = all-at (T .rules) r noRule (f .formed .rules) (omega (arith, l, f .held .many))
 

@@ -11,7 +11,11 @@ use Rattle.rules.specs.StateTables.{Tables, Long, laid}
 use Rattle.rules.specs.Laws.Row.{length-filled}
 use Rattle.rules.specs.Laws.Theory.{WellFormed}
 use Rattle.rules.specs.Laws.Declare.{reached, theory-formed}
-use Rattle.kernel.specs.Parsed.{TheoryLists, theoryLists, Roomy, Exact, theoryOf, verdict, theoryTables, laidTheory}
+use Rattle.sexp.specs.Never.{never}
+use Rattle.kernel.specs.Parsed.{TheoryLists, theoryLists, TheoryHeld, Roomy, Exact, countsOf, judgedOf, theoryOf, verdict, theoryTables, laidTheory, LaidHeld}
+use Rattle.kernel.specs.declared.parse.Counts.{Counts}
+use Rattle.kernel.specs.declared.parse.Judged.{Judged as Answer}
+use Rattle.kernel.specs.declared.parse.Judged.the-variants.{Done, Refused}
 
 abbrev pub theoryPart : Tables → TheoryLists
 theoryPart B = theoryLists (B .sorts) (B .symbols) (B .inputs) (B .rules) (B .ruleVars) (B .patterns)
@@ -64,3 +68,29 @@ reached-is (refused n d k T) = refl
 pub verdict-formed : (text : List ℕ) → WellFormed (theoryOf (verdict text))
 unfolding verdict
 verdict-formed text = subst WellFormed (reached-is (verdict text)) (theory-formed text)
+
+-- The answers of `parse_exact` -----------------------------------------------------------------------------------------------------
+
+module _ (r : Answer) (J : Judged Theory) (a : r ≡ judgedOf J) where
+  pub judged-done : {k : ℕ} {n : Counts} → r ≡ Done k n → (J ≡ done k (theoryOf J)) × (n ≡ countsOf (theoryOf J))
+  judged-done {k} {n} b = go J (sym b ∙ a)
+    where
+      go : (I : Judged Theory) → Done k n ≡ judgedOf I → (I ≡ done k (theoryOf I)) × (n ≡ countsOf (theoryOf I))
+      go (done j T) e = (let z : j ≡ k = cc in ap (λ (m : ℕ). done m T) z, cc)
+      go (refused m d j T) e = never cc
+
+  pub judged-refused : {m d k : ℕ} {n : Counts} → r ≡ Refused m d k n → (J ≡ refused m d k (theoryOf J)) × (n ≡ countsOf (theoryOf J))
+  judged-refused {m} {d} {k} {n} b = go J (sym b ∙ a)
+    where
+      go : (I : Judged Theory) → Refused m d k n ≡ judgedOf I → (I ≡ refused m d k (theoryOf I)) × (n ≡ countsOf (theoryOf I))
+      go (done j T) e = never cc
+      go (refused i c j T) e =
+          let x : i ≡ m = cc in
+          let y : c ≡ d = cc in
+          let z : j ≡ k = cc in
+          (λ u. refused (x u) (y u) (z u) T, cc)
+
+-- the tables hold what was declared
+pub parsed-held : (text : List ℕ) (t : TheoryLists) (n : Counts) (T : Theory) → t ≡ theoryTables T → LaidHeld text T → n ≡ countsOf T →
+    TheoryHeld text t n T
+parsed-held text t n T e h c = subst (λ m. TheoryHeld text t m T) (sym c) (subst (λ u. TheoryHeld text u (countsOf T) T) (sym e) h)

@@ -200,7 +200,8 @@ module _ (T : Theory) {text rules vars patterns : List ℕ} {count words : ℕ} 
         }
 
     -- the cells of variable i: its sort, its name
-    var-cells : (i j k : ℕ) → i < length (rule T r .vars) → j < 3 → k ≡ 3 * RULEVARS * r + (3 * i + j) → getD vars k 0 ≡ getD (varRow (getD (rule T r .vars) i noRuleVar)) j 0
+    var-cells : (i j k : ℕ) → i < length (rule T r .vars) → j < 3 → k ≡ 3 * RULEVARS * r + (3 * i + j) →
+        getD vars k 0 ≡ getD (varRow (getD (rule T r .vars) i noRuleVar)) j 0
     unfolding rule ruleVarRow
     var-cells i j k m n e =
         let few = all-at (T .rules) r noRule (h .vars-few) there in
@@ -248,13 +249,14 @@ pub some-var-names : {text vars : List ℕ} {r many : ℕ} → NamedVars text va
 unfolding rule
 some-var-names {text} {vars} {r} {many} k =
     let T : Theory = record { sorts = []; symbols = []; rules = k .held .0 } in
-    (namesOf varName (rule T r .vars), subst (λ (n : ℕ). NameRows text vars 3 (3 * RULEVARS * r + 1) n (namesOf varName (rule T r .vars))) (sym (k .all)) (vars-rows T (k .held .1) r (k .known)))
+    let ns = namesOf varName (rule T r .vars) in
+    (ns, subst (λ (n : ℕ). NameRows text vars 3 (3 * RULEVARS * r + 1) n ns) (sym (k .all)) (vars-rows T (k .held .1) r (k .known)))
 
 pub named-few : {text vars : List ℕ} {r many : ℕ} → NamedVars text vars r many → r < RULES
 named-few k = omega (arith, k .known, rules-few (k .held .1))
 
-pub var-is : (T : Theory) {text rules vars patterns : List ℕ} {count words : ℕ} → RulesHeld text rules vars patterns count words (T .rules) → (r : ℕ) → r < count →
-    {many : ℕ} → many ≡ length (rule T r .vars) → (name : List ℕ) (a : Found) →
+pub var-is : (T : Theory) {text rules vars patterns : List ℕ} {count words : ℕ} → RulesHeld text rules vars patterns count words (T .rules) →
+    (r : ℕ) → r < count → {many : ℕ} → many ≡ length (rule T r .vars) → (name : List ℕ) (a : Found) →
     ((ns : List Name) → NameRows text vars 3 (3 * RULEVARS * r + 1) many ns → a ≡ foundOf (first (λ n. same (n .bytes) name) ns 0)) →
     a ≡ foundOf (first (λ v. same (v .name .bytes) name) (rule T r .vars) 0)
 var-is T {text} {vars = vars} h r l {many} m name a e =

@@ -76,7 +76,8 @@ module _ {text : List ℕ} {n : Name} {start end : ℕ} (k : Spans text n start 
       let e : end - start ≡ length (n .bytes) = omega (arith, k .ends) in
       rw (e, sym (k .starts)) (k .named .spelt)
 
-pub atom-spans : (text : List ℕ) (start end : ℕ) → start < length text → end ≡ start + length (letters (drop start text)) → Spans text (nameFrom text start) start end
+pub atom-spans : (text : List ℕ) (start end : ℕ) → start < length text → end ≡ start + length (letters (drop start text)) →
+    Spans text (nameFrom text start) start end
 atom-spans text start end l e = record { named = atom-named text start l; starts = refl; ends = sym e }
 
 -- two cells of a table

@@ -62,12 +62,14 @@ module _ {A : Type 0} (f : A → Name) where
   first-name (x ∷ xs) n k = go (same (f x .bytes) n) (first-name xs n (suc k))
     where
       go : (b : Bool) → first (λ y. same (f y .bytes) n) xs (suc k) ≡ first (λ m. same (m .bytes) n) (namesOf f xs) (suc k) →
-          _≡_ {A = Option ℕ} (elim b [ true ↦ some k | false ↦ first (λ y. same (f y .bytes) n) xs (suc k) ]) (elim b [ true ↦ some k | false ↦ first (λ m. same (m .bytes) n) (namesOf f xs) (suc k) ])
+          _≡_ {A = Option ℕ} (elim b [ true ↦ some k | false ↦ first (λ y. same (f y .bytes) n) xs (suc k) ])
+          (elim b [ true ↦ some k | false ↦ first (λ m. same (m .bytes) n) (namesOf f xs) (suc k) ])
       go true e = refl
       go false e = e
 
 -- what `named` answers, of things by their names
 pub named-so : {A : Type 0} (f : A → Name) (xs : List A) {text table : List ℕ} {w o count : ℕ} (name : List ℕ) (r : Found) →
-    ((ns : List Name) → NameRows text table w o count ns → r ≡ foundOf (first (λ n. same (n .bytes) name) ns 0)) → NameRows text table w o count (namesOf f xs) →
+    ((ns : List Name) → NameRows text table w o count ns → r ≡ foundOf (first (λ n. same (n .bytes) name) ns 0)) →
+    NameRows text table w o count (namesOf f xs) →
     r ≡ foundOf (first (λ x. same (f x .bytes) name) xs 0)
 named-so f xs name r a h = a (namesOf f xs) h ∙ ap foundOf (sym (first-name f xs name 0))

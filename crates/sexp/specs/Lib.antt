@@ -1,4 +1,5 @@
--- What the contracts of the reader cite, and the laws for its callers (ItemLaws, WalkLaws, ReadLaws, RowLaws, AtomText, FoundLaws, FirstItem, NthItem, Through).
+-- What the contracts of the reader cite, and the laws for its callers (ItemLaws, WalkLaws, ReadLaws, RowLaws,
+-- AtomText, FoundLaws, FirstItem, NthItem, Through).
 pub mod Lexed
 pub mod Encode
 pub mod Spelt

@@ -69,7 +69,9 @@ module _ {S : Type 0} (f : Sexp → Act S (Unit {0})) (k : ℕ) (s : S) where
   module _ (x : Sexp) (p : ℕ) (t : Text) where
     pub through-taken : (u : S) → f x s ≡ ok tt u → through f (more x p t) k s ≡ through f t (k + 1) u
     unfolding through
-    through-taken u e = ap (λ (o : Out S (Unit {0})). elim o [ ok a z ↦ through f t (suc k) z | refuse n d z ↦ refused n d k s ]) e ∙ ap (λ (j : ℕ). through f t j u) (sym (add-one k))
+    through-taken u e =
+        ap (λ (o : Out S (Unit {0})). elim o [ ok a z ↦ through f t (suc k) z | refuse n d z ↦ refused n d k s ]) e
+        ∙ ap (λ (j : ℕ). through f t j u) (sym (add-one k))
 
     pub through-refused : (n d : ℕ) (u : S) → f x s ≡ refuse n d u → through f (more x p t) k s ≡ refused n d k s
     unfolding through
@@ -86,7 +88,8 @@ pub record Going {S : Type 0} (f : Sexp → Act S (Unit {0})) (text w₀ w : Lis
   pub high : at ≤ length text
   pub few : forms ≤ at
 
-pub going-first : {S : Type 0} (f : Sexp → Act S (Unit {0})) (s : S) {text w : List ℕ} → Legible text w → Going f text w w (through f (read text) 0 s) s 0 0
+pub going-first : {S : Type 0} (f : Sexp → Act S (Unit {0})) (s : S) {text w : List ℕ} → Legible text w →
+    Going f text w w (through f (read text) 0 s) s 0 0
 going-first f s {text} l =
     record { left = ap (λ t. through f t 0 s) (sym (read-first text)); legible = l; same = refl; high = omega arith; few = omega arith }
 
@@ -139,7 +142,8 @@ module _ {S : Type 0} {f : Sexp → Act S (Unit {0})} {text w₀ w : List ℕ} {
       pub going-taken : {u : List ℕ} {z : S} → f (going-form .form) s ≡ ok tt z → u ≡ replicate n 0 ++ drop n v → Going f text w₀ u J z (forms + 1) p
       going-taken {z = z} h c =
           record {
-            left = sym (through-taken f forms s (going-form .form) p (readFrom text p) z h) ∙ ap (λ t. through f t forms s) (sym (going-form .reads)) ∙ g .left;
+            left = sym (through-taken f forms s (going-form .form) p (readFrom text p) z h)
+                ∙ ap (λ t. through f t forms s) (sym (going-form .reads)) ∙ g .left;
             legible = g .legible;
             same = going-cleared c;
             high = going-form .within;

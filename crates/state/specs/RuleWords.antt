@@ -53,7 +53,8 @@ mutual
 
 -- Patterns of a well-formed theory ---------------------------------------------------------------------------------------------------
 
-module _ (T : Theory) (g : WellFormed T) {text symbols ins : List ℕ} {known : ℕ} (h : SymbolsHeld text symbols ins known (T .symbols)) (vs : List RuleVar) (m : length vs ≤ RULEVARS) where
+module _ (T : Theory) (g : WellFormed T) {text symbols ins : List ℕ} {known : ℕ} (h : SymbolsHeld text symbols ins known (T .symbols))
+    (vs : List RuleVar) (m : length vs ≤ RULEVARS) where
   sorteds-count : (ts : Trees) (ss : List ℕ) → Sorteds T vs ts ss → countTrees ts ≡ length ss
   unfolding Sorted countTrees
   sorteds-count none [] k = refl
