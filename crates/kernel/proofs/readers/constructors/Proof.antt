@@ -1,3 +1,4 @@
+-- `kernel::readers::constructors` meets its contract. Assumes nothing.
 use Rattle.kernel.proofs.Readings.{Counting, counting-start, counting-inside, counting-on, counting-over}
 use Prim.Native.Nat.{_-_}
 use native.Mathlib.Omega.{arith}

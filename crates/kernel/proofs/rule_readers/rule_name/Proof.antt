@@ -1,3 +1,4 @@
+-- `kernel::rule_readers::rule_name` meets its contract. Assumes nothing.
 use Rattle.kernel.specs.RuleRows.{rule-place, rule-spans}
 use Prim.Native.Nat.{_+_, _*_}
 use native.Mathlib.Omega.{arith}

@@ -1,3 +1,4 @@
+-- `kernel::rule_readers::rule_var_named` meets its contract. Assumes nothing.
 use Rattle.kernel.specs.RuleRows.{some-var-names, named-few, var-is}
 use native.Mathlib.Omega.{arith}
 use borrow.Author.Needs.{needs}
