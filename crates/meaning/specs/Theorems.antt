@@ -20,11 +20,14 @@ use Prim.Native.Nat.{ℕ}
 use mathlib.Core.Path.{_≡_, refl, sym, subst}
 use mathlib.Core.Logic.{_⊎_, inl, inr}
 use mathlib.Core.Bool.{Bool, true}
-use mathlib.Core.Option.{Option, some}
+use mathlib.Core.Option.{some, none as nothing}
 use mathlib.Core.List.{List}
-use Rattle.rules.specs.Sexp.{Text}
+use Rattle.rules.specs.Out.{ok}
+use Rattle.rules.specs.Sexp.{Sexps, Text}
 use Rattle.rules.specs.Find.{entry}
 use Rattle.rules.specs.Tree.{Tree, Trees, none, sub}
+use Rattle.rules.specs.Store.{Made}
+use Rattle.rules.specs.Unify.{unify}
 use Rattle.rules.specs.Theory.{Theory}
 use Rattle.rules.specs.State.{State, Fact, Goal, sortOfVar}
 use Rattle.rules.specs.Check.{Report, accepts, check}
@@ -34,9 +37,11 @@ use Rattle.meaning.specs.Derivation.{Der, RuleOf, Derivable}
 use Rattle.meaning.specs.Truth.{At, True}
 use Rattle.meaning.specs.Named.{RuleHyp}
 use Rattle.meaning.specs.Sets.{Sets, ofTheory, Within}
+use Rattle.meaning.specs.Inversions.{Comes}
 use Rattle.meaning.specs.Bridge.Well.{Agree}
+use Rattle.meaning.specs.Bridge.Unified.{comes-complete}
 use Rattle.meaning.specs.Bridge.Run.{Good, good-true, cited, good-goal}
-use Rattle.meaning.specs.Bridge.Check.{Taken, after, Calmly, Respectful, CalmTexts, theory-respected, taken-good, taken-theory, proof-good, check-good, AllTaken, accepted-taken}
+use Rattle.meaning.specs.Bridge.Check.{Taken, after, Calmly, Respectful, CalmTexts, theory-respected, taken-good, taken-theory, after-bounded, proof-good, check-good, AllTaken, accepted-taken}
 
 -- Definitions -----------------------------------------------------------------------------------------------------------------------
 
@@ -104,6 +109,16 @@ pub goals-derivable : (theory goals : List ℕ) (T : Theory) (S : State) → Tak
     → (γ : ℕ → Tree) → Grounds T (after forms S) g γ → Derivable T (sub γ (g .judgment))
 goals-derivable theory goals T S t forms c i g e k n γ v =
     goals-follow theory goals T S t forms c i g e k γ v (λ t i. absurd (nothing-listed (g .hyps) n t i))
+
+-- Unification -----------------------------------------------------------------------------------------------------------------------
+
+-- For a theory and goals that are taken, behind any list of forms, calm or not, taken or refused: where an inversion comes to unify a
+-- hypothesis with a rule's conclusion and finds nothing, no replacement makes them equal. So no rule is passed over that could conclude
+-- the hypothesis, and 46 refuses no case of such a rule.
+pub inversions-complete : (theory goals : List ℕ) (T : Theory) (S : State) → Taken theory goals T S → (forms : Text)
+    → (xs : Sexps) (n : ℕ) (s t : Tree) (m m′ : Made) → Comes (after forms S) xs n s t m → unify n s t m ≡ ok nothing m′
+    → (σ : ℕ → Tree) → ¬ (sub σ s ≡ sub σ t)
+inversions-complete theory goals T S k forms = comes-complete (after forms S) (after-bounded theory goals T S k forms)
 
 -- The whole check -------------------------------------------------------------------------------------------------------------------
 

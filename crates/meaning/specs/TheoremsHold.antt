@@ -16,6 +16,7 @@ use Rattle.rules.specs.Tree.{Tree, Trees, var, app, none, more as moreTrees, su
 use Rattle.rules.specs.Theory.{Theory, noTheory, rule}
 use Rattle.rules.specs.Declare.{declare}
 use Rattle.rules.specs.Laws.Declare.{reached}
+use Rattle.rules.specs.Laws.Reached.{endOf}
 use Rattle.rules.specs.State.{State, Fact, Goal, begin, isNone}
 use Rattle.rules.specs.Loop.{Judged, done, whole}
 use Rattle.rules.specs.Forms.{takeGoal, takeForm}
@@ -31,7 +32,7 @@ use Rattle.meaning.specs.Lemmas.Sound.{ders-in}
 use Rattle.meaning.specs.Named.{RuleHyp, Calm}
 use Rattle.meaning.specs.Bridge.Asked.{both-true, at-unique}
 use Rattle.meaning.specs.Bridge.Refs.{is-none}
-use Rattle.meaning.specs.Bridge.Run.{final, IfTaken, Throughout}
+use Rattle.meaning.specs.Bridge.Run.{IfTaken, Throughout}
 use Rattle.meaning.specs.Bridge.Check.{Taken, after, Calmly}
 use Rattle.meaning.specs.Theorems.{sortsOf, goals-derivable}
 
@@ -80,14 +81,14 @@ unfoldable pub T : Theory
 T = reached (whole declare (read theory) noTheory)
 
 unfoldable pub S : State
-S = final (whole takeGoal (read goalsA) (begin T))
+S = endOf (whole takeGoal (read goalsA) (begin T))
 
 takenA : Taken theory goalsA T S
-unfolding running T S reached final
+unfolding running T S reached endOf
 takenA = record { theory-forms = 13; theory-taken = refl; goal-forms = 2; goals-taken = refl }
 
 testA : unruled (read proofA) S ≡ true
-unfolding running T S reached final unruled noPremises
+unfolding running T S reached endOf unruled noPremises
 testA = refl
 
 calmA : Calmly (read proofA) S
@@ -105,11 +106,11 @@ abbrev goalA : Goal
 goalA = record { name = record { start = 19; bytes = bytes "g" }; judgment = Child (var 0); hyps = none; taken = true }
 
 goal-taken : entry (after (read proofA) S .goals) 0 ≡ some goalA
-unfolding running T S reached final after
+unfolding running T S reached endOf after
 goal-taken = refl
 
 sort-of-x : sortsOf (after (read proofA) S) 0 ≡ Pass
-unfolding running T S reached final after
+unfolding running T S reached endOf after
 sort-of-x = refl
 
 only-x : (w : ℕ) → Occ w (Child (var 0)) ⊎ Occs w none → w ≡ 0
@@ -158,17 +159,17 @@ unfolding running head
 premise-needed = (refl, λ d. not-derivable badFirst d refl)
 
 unfoldable pub SG : State
-SG = final (whole takeGoal (read goalsG) (begin T))
+SG = endOf (whole takeGoal (read goalsG) (begin T))
 
 takenG : Taken theory goalsG T SG
-unfolding running T SG reached final
+unfolding running T SG reached endOf
 takenG = record { theory-forms = 13; theory-taken = refl; goal-forms = 3; goals-taken = refl }
 
 abbrev goalG : Goal
 goalG = record { name = record { start = 32; bytes = bytes "g" }; judgment = badFirst; hyps = none; taken = true }
 
 goal-G : entry (after (read proofG) SG .goals) 0 ≡ some goalG
-unfolding running T SG reached final after
+unfolding running T SG reached endOf after
 goal-G = refl
 
 no-variable : (v : ℕ) → Occ v badFirst ⊎ Occs v none → ⊥
@@ -191,11 +192,11 @@ abbrev hypG : Fact
 hypG = record { judgment = badFirst; hyps = 3 ∷ []; assumed = true; premises = moreTrees (app 3 (moreTrees (var 1) none)) none; general = []; footing = [] }
 
 recorded : At (after (read proofG) SG .facts) 3 hypG
-unfolding running T SG reached final after At
+unfolding running T SG reached endOf after At
 recorded = refl
 
 sort-of-y : sortsOf (after (read proofG) SG) 1 ≡ Pass
-unfolding running T SG reached final after
+unfolding running T SG reached endOf after
 sort-of-y = refl
 
 argument : Tree → ℕ

@@ -17,6 +17,8 @@ use Rattle.rules.specs.Theory.{Theory, noTheory}
 use Rattle.rules.specs.Declare.{declare}
 use Rattle.rules.specs.Laws.Theory.{WellFormed}
 use Rattle.rules.specs.Laws.Declare.{reached, theory-formed, nothing-formed}
+use Rattle.rules.specs.Laws.Reached.{endOf}
+use Rattle.rules.specs.Laws.Bounded.{BoundedCheck, goals-bounded, forms-bounded}
 use Rattle.rules.specs.State.{State, Fact, Goal, begin, sortOfVar}
 use Rattle.rules.specs.Loop.{Judged, done, refused, through, unread, whole}
 use Rattle.rules.specs.Tags.{Tag, aVar, aDef, aStep, aHyp, aRuleHyp, anInduct, anInductWith, anApply, anInvert, aResult}
@@ -33,7 +35,7 @@ use Rattle.meaning.specs.Bridge.Ends.{Ends, done as taken}
 use Rattle.meaning.specs.Bridge.Took.{Post}
 use Rattle.meaning.specs.Bridge.Theory.{well-theory}
 use Rattle.meaning.specs.Bridge.Take.{Asks, take-form-ok}
-use Rattle.meaning.specs.Bridge.Run.{final, IfTaken, Throughout, Good, run-extends, run-good}
+use Rattle.meaning.specs.Bridge.Run.{IfTaken, Throughout, Good, run-extends, run-good}
 use Rattle.meaning.specs.Bridge.Goals.{Anything, take-goal-ok, anything, start-good}
 
 -- Definitions -----------------------------------------------------------------------------------------------------------------------
@@ -47,7 +49,7 @@ pub record Taken (theory goals : List ℕ) (T : Theory) (S : State) : Type 0 whe
 
 -- the state behind the forms of a proof: behind the last of them, or before the first that is refused
 unfoldable pub after : Text → State → State
-after forms S = final (through takeForm forms 0 S)
+after forms S = endOf (through takeForm forms 0 S)
 
 -- no reference and no case of a form that is taken names a rule hypothesis with premises
 abbrev pub Calmly : Text → State → Type 0
@@ -117,27 +119,38 @@ theory-respected T (more x p t) S e = go (takeForm x S) (take-form-ok (ofTheory 
 
 -- The proof -------------------------------------------------------------------------------------------------------------------------
 
-at-start : (K : Sets) (T : Theory) → WellTheory T → (vs : ℕ → ℕ) (n k : ℕ) → Good K T vs (final {S = State} (refused n 0 k (begin T)))
-unfolding final
+at-start : (K : Sets) (T : Theory) → WellTheory T → (vs : ℕ → ℕ) (n k : ℕ) → Good K T vs (endOf {S = State} (refused n 0 k (begin T)))
+unfolding endOf
 at-start K T w vs n k = start-good K T w vs
 
-whole-good : (K : Sets) (T : Theory) → WellTheory T → (t : Text) (vs : ℕ → ℕ) → Agree vs (final (whole takeGoal t (begin T)) .vars)
-    → Good K T vs (final (whole takeGoal t (begin T)))
+whole-good : (K : Sets) (T : Theory) → WellTheory T → (t : Text) (vs : ℕ → ℕ) → Agree vs (endOf (whole takeGoal t (begin T)) .vars)
+    → Good K T vs (endOf (whole takeGoal t (begin T)))
 unfolding whole
 whole-good K T w t vs a = go (unread t 0) a
   where
     go : (o : Option (ℕ × ℕ))
-        → Agree vs (final {S = State} (elim o as (λ _. Judged State) [ nothing ↦ through takeGoal t 0 (begin T) | some r ↦ refused (r .0) 0 (r .1) (begin T) ]) .vars)
-        → Good K T vs (final {S = State} (elim o as (λ _. Judged State) [ nothing ↦ through takeGoal t 0 (begin T) | some r ↦ refused (r .0) 0 (r .1) (begin T) ]))
+        → Agree vs (endOf {S = State} (elim o as (λ _. Judged State) [ nothing ↦ through takeGoal t 0 (begin T) | some r ↦ refused (r .0) 0 (r .1) (begin T) ]) .vars)
+        → Good K T vs (endOf {S = State} (elim o as (λ _. Judged State) [ nothing ↦ through takeGoal t 0 (begin T) | some r ↦ refused (r .0) 0 (r .1) (begin T) ]))
     go nothing b = run-good K takeGoal Anything (take-goal-ok K) T vs t 0 (begin T) (start-good K T w vs) (anything t (begin T)) b
     go (some r) b = at-start K T w vs (r .0) (r .1)
 
+-- the theory is as declared ones are
+taken-formed : (theory goals : List ℕ) (T : Theory) (S : State) → Taken theory goals T S → WellFormed T
+unfolding reached
+taken-formed theory goals T S t = subst (λ z. WellFormed (reached z)) (t .theory-taken) (theory-formed theory)
+
+-- whatever the forms, every tree behind them is over variables that are there
+pub after-bounded : (theory goals : List ℕ) (T : Theory) (S : State) → Taken theory goals T S → (forms : Text) → BoundedCheck (after forms S)
+unfolding after endOf
+after-bounded theory goals T S t forms =
+    forms-bounded S (subst (λ z. BoundedCheck (endOf z)) (t .goals-taken) (goals-bounded T (taken-formed theory goals T S t) (read goals))) forms 0
+
 pub taken-good : (theory goals : List ℕ) (T : Theory) (S : State) → Taken theory goals T S → (K : Sets) (vs : ℕ → ℕ) → Agree vs (S .vars) → Good K T vs S
-unfolding reached final
+unfolding endOf
 taken-good theory goals T S t K vs a =
-    subst (λ z. Good K T vs z) (ap final (t .goals-taken))
-    (whole-good K T (well-theory T (subst (λ z. WellFormed (reached z)) (t .theory-taken) (theory-formed theory))) (read goals) vs
-    (subst (λ (z : State). Agree vs (z .vars)) (sym (ap final (t .goals-taken))) a))
+    subst (λ z. Good K T vs z) (ap endOf (t .goals-taken))
+    (whole-good K T (well-theory T (taken-formed theory goals T S t)) (read goals) vs
+    (subst (λ (z : State). Agree vs (z .vars)) (sym (ap endOf (t .goals-taken))) a))
 
 pub taken-theory : (theory goals : List ℕ) (T : Theory) (S : State) → Taken theory goals T S → S .theory ≡ T
 unfolding Agree
@@ -148,11 +161,11 @@ pub proof-good : (K : Sets) (T : Theory) → Within K T → (S : State) → S .t
 unfolding after
 proof-good K T w S e g forms c r vs a =
     run-good K takeForm (Asks K) (take-form-ok K) T vs forms 0 S
-    (g vs (agree-extends vs (S .vars) (final (through takeForm forms 0 S) .vars) (run-extends K takeForm (Asks K) (take-form-ok K) forms 0 S) a))
+    (g vs (agree-extends vs (S .vars) (endOf (through takeForm forms 0 S) .vars) (run-extends K takeForm (Asks K) (take-form-ok K) forms 0 S) a))
     (asks K T w forms S e c r) a
 
 through-good : (T : Theory) (S : State) → S .theory ≡ T → ((us : ℕ → ℕ) → Agree us (S .vars) → Good (ofTheory T) T us S) → (forms : Text) → Calmly forms S
-    → (vs : ℕ → ℕ) → Agree vs (final (through takeForm forms 0 S) .vars) → Good (ofTheory T) T vs (final (through takeForm forms 0 S))
+    → (vs : ℕ → ℕ) → Agree vs (endOf (through takeForm forms 0 S) .vars) → Good (ofTheory T) T vs (endOf (through takeForm forms 0 S))
 unfolding after
 through-good T S e g forms c vs a = proof-good (ofTheory T) T (λ n r k. k) S e g forms c (theory-respected T forms S e) vs a
 
@@ -166,8 +179,8 @@ fair : (vs : ℕ → ℕ) (T : Theory) (S : State) → Good (ofTheory T) T vs S 
 fair vs T S g = subst (λ z. Good (ofTheory z) z vs S) (sym (g .theory)) g
 
 module _ (theory goals proof : List ℕ) (calm : CalmTexts theory goals proof) (vs : ℕ → ℕ) where
-  after-proof-fair : (J : Judged State) → (Agree vs (final J .vars) → Good (ofTheory (final J .theory)) (final J .theory) vs (final J)) → Fair vs (afterProof J)
-  unfolding afterProof ended refusedIn final
+  after-proof-fair : (J : Judged State) → (Agree vs (endOf J .vars) → Good (ofTheory (endOf J .theory)) (endOf J .theory) vs (endOf J)) → Fair vs (afterProof J)
+  unfolding afterProof ended refusedIn endOf
   after-proof-fair (done k S) h = go (missing S)
     where
       go : (l : List ℕ) → Fair vs (ended k S l)
@@ -175,16 +188,16 @@ module _ (theory goals proof : List ℕ) (calm : CalmTexts theory goals proof) (
       go (x ∷ l) = h
   after-proof-fair (refused n d k S) h = h
 
-  after-goals-fair : (T : Theory) (J : Judged State) → ((us : ℕ → ℕ) → Agree us (final J .vars) → Good (ofTheory T) T us (final J))
+  after-goals-fair : (T : Theory) (J : Judged State) → ((us : ℕ → ℕ) → Agree us (endOf J .vars) → Good (ofTheory T) T us (endOf J))
       → ((k : ℕ) (S : State) → J ≡ done k S → Calmly (read proof) S) → Fair vs (afterGoals proof J)
-  unfolding afterGoals refusedIn final Agree
+  unfolding afterGoals refusedIn endOf Agree
   after-goals-fair T (refused n d k S) g c = λ a. fair vs T S (g vs a)
   after-goals-fair T (done k S) g c = go (eqb (length (S .goals)) 0)
     where
       go : (b : Bool) → Fair vs (elim b as (λ _. Outcome) [ true ↦ refusedIn 2 25 0 k S | false ↦ afterProof (through takeForm (read proof) 0 S) ])
       go true = λ a. fair vs T S (g vs a)
       go false = after-proof-fair (through takeForm (read proof) 0 S)
-          (λ a. fair vs T (final (through takeForm (read proof) 0 S)) (through-good T S (g (λ v. sortOfVar (S .vars) v) (λ v l. refl) .theory) g (read proof) (c k S refl) vs a))
+          (λ a. fair vs T (endOf (through takeForm (read proof) 0 S)) (through-good T S (g (λ v. sortOfVar (S .vars) v) (λ v l. refl) .theory) g (read proof) (c k S refl) vs a))
 
   calm-of : (k : ℕ) (T : Theory) → whole declare (read theory) noTheory ≡ done k T → (l : ℕ) (S : State)
       → whole takeGoal (read goals) (begin T) ≡ done l S → Calmly (read proof) S

@@ -31,7 +31,7 @@ use Rattle.meaning.specs.Bridge.Well.{WellTheory, Agree, Extends, Well, 
 use Rattle.meaning.specs.Bridge.Ends.{Ends, done, stopped, ends-map, keeping, keeps-ask, keeps-room, keeps-found, keeps-name, keeps-items, making-then}
 use Rattle.meaning.specs.Bridge.Took.{Settled, Took, Post}
 use Rattle.meaning.specs.Bridge.Proof.{add-var-ok}
-use Rattle.meaning.specs.Bridge.Run.{final, IfTaken, Throughout, Good, run-extends, run-good}
+use Rattle.meaning.specs.Bridge.Run.{IfTaken, Throughout, Good, run-extends, run-good}
 
 -- nothing is asked of a form of the goals
 abbrev pub Anything : State → Sexp → Type 0

@@ -13,7 +13,8 @@ use Rattle.rules.specs.Find.{entry}
 use Rattle.rules.specs.Tree.{Tree, Trees, none, sub, subs}
 use Rattle.rules.specs.Theory.{Theory, Rule, rule}
 use Rattle.rules.specs.State.{State, Fact, Goal}
-use Rattle.rules.specs.Loop.{Judged, done as ended, refused, through}
+use Rattle.rules.specs.Loop.{Judged, refused, through}
+use Rattle.rules.specs.Laws.Reached.{endOf}
 use Rattle.meaning.specs.Trees.Tree.{Occ, Occs, In, Among, among-occ}
 use Rattle.meaning.specs.Signature.{sig, Value}
 use Rattle.meaning.specs.Derivation.{Der, Ders, RuleOf}
@@ -31,11 +32,6 @@ use Rattle.meaning.specs.Bridge.Ends.{Ends, done, stopped}
 use Rattle.meaning.specs.Bridge.Took.{Kept, resting, Settled, Took, Post}
 
 -- Definitions -----------------------------------------------------------------------------------------------------------------------
-
--- the state that is kept: the one behind the last form taken
-unfoldable pub final : {S : Type 0} → Judged S → S
-final (ended k s) = s
-final (refused n d k s) = s
 
 -- C of a form that was taken, and K of the state behind it
 unfoldable pub IfTaken : Type 0 → (State → Type 0) → Out State (Unit {0}) → Type 0
@@ -106,35 +102,35 @@ good-step K T vs S S′ g k t = record {
 module _ (K : Sets) (f : Sexp → Act State (Unit {0})) (C : State → Sexp → Type 0)
     (takes : (x : Sexp) (S : State) → Ends (λ _ S′. Post K (C S x) S S′) (f x S)) where
   -- variables are only added
-  pub run-extends : (t : Text) (k : ℕ) (S : State) → Extends (S .vars) (final (through f t k S) .vars)
-  unfolding through final
+  pub run-extends : (t : Text) (k : ℕ) (S : State) → Extends (S .vars) (endOf (through f t k S) .vars)
+  unfolding through endOf
   run-extends ends k S = extends-same (S .vars)
   run-extends (fails n) k S = extends-same (S .vars)
   run-extends (more x p t) k S = go (f x S) (takes x S) (λ u. run-extends t (suc k) u)
     where
       go : (o : Out State (Unit {0})) → Ends (λ _ S′. Post K (C S x) S S′) o
-          → ((u : State) → Extends (u .vars) (final (through f t (suc k) u) .vars))
+          → ((u : State) → Extends (u .vars) (endOf (through f t (suc k) u) .vars))
           → Extends (S .vars)
-          (final {S = State} (elim o as (λ _. Judged State) [ ok a u ↦ through f t (suc k) u | refuse n d u ↦ refused n d k S ]) .vars)
-      go (ok a u) (done h) r = extends-both (S .vars) (u .vars) (final (through f t (suc k) u) .vars) (h .kept .vars) (r u)
+          (endOf {S = State} (elim o as (λ _. Judged State) [ ok a u ↦ through f t (suc k) u | refuse n d u ↦ refused n d k S ]) .vars)
+      go (ok a u) (done h) r = extends-both (S .vars) (u .vars) (endOf (through f t (suc k) u) .vars) (h .kept .vars) (r u)
       go (refuse n d u) h r = extends-same (S .vars)
 
   -- all forms, a refused one at the end included
   pub run-good : (T : Theory) (vs : ℕ → ℕ) (t : Text) (k : ℕ) (S : State) → Good K T vs S → Throughout C f t S
-      → Agree vs (final (through f t k S) .vars) → Good K T vs (final (through f t k S))
-  unfolding through final Throughout IfTaken
+      → Agree vs (endOf (through f t k S) .vars) → Good K T vs (endOf (through f t k S))
+  unfolding through endOf Throughout IfTaken
   run-good T vs ends k S g c a = g
   run-good T vs (fails n) k S g c a = g
   run-good T vs (more x p t) k S g c a = go (f x S) (takes x S) c a (λ u h d b. run-good T vs t (suc k) u h d b)
     where
       go : (o : Out State (Unit {0})) → Ends (λ _ S′. Post K (C S x) S S′) o → IfTaken (C S x) (λ u. Throughout C f t u) o
-          → Agree vs (final {S = State} (elim o as (λ _. Judged State) [ ok a u ↦ through f t (suc k) u | refuse n d u ↦ refused n d k S ]) .vars)
-          → ((u : State) → Good K T vs u → Throughout C f t u → Agree vs (final (through f t (suc k) u) .vars)
-          → Good K T vs (final (through f t (suc k) u)))
-          → Good K T vs (final {S = State} (elim o as (λ _. Judged State) [ ok a u ↦ through f t (suc k) u | refuse n d u ↦ refused n d k S ]))
+          → Agree vs (endOf {S = State} (elim o as (λ _. Judged State) [ ok a u ↦ through f t (suc k) u | refuse n d u ↦ refused n d k S ]) .vars)
+          → ((u : State) → Good K T vs u → Throughout C f t u → Agree vs (endOf (through f t (suc k) u) .vars)
+          → Good K T vs (endOf (through f t (suc k) u)))
+          → Good K T vs (endOf {S = State} (elim o as (λ _. Judged State) [ ok a u ↦ through f t (suc k) u | refuse n d u ↦ refused n d k S ]))
       go (ok a u) (done h) c b r =
           r u (good-step K T vs S u g (h .kept)
-          (h .took vs (g .well) (c .0) (agree-extends vs (u .vars) (final (through f t (suc k) u) .vars) (run-extends t (suc k) u) b))) (c .1) b
+          (h .took vs (g .well) (c .0) (agree-extends vs (u .vars) (endOf (through f t (suc k) u) .vars) (run-extends t (suc k) u) b))) (c .1) b
       go (refuse n d u) h c b r = g
 
 -- What it comes to ------------------------------------------------------------------------------------------------------------------

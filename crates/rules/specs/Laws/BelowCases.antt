@@ -8,18 +8,18 @@ use mathlib.Core.List.{List, [], _∷_, _++_}
 use native.Mathlib.Omega.{arith}
 use borrow.Author.Tests.{eqb-true}
 use lib.Dec.{eqb, ltb}
-use lib.ListN.{length, getD, length-append}
+use lib.ListN.{length, length-append}
 use Rattle.rules.specs.Limits.{VARIABLES}
-use Rattle.rules.specs.Out.{Out, ok, ask}
+use Rattle.rules.specs.Out.{ok, ask}
 use Rattle.rules.specs.Sexp.{Sexp, Sexps, nil, cons, count, item, rest}
 use Rattle.rules.specs.Find.{entry, every, all, has}
 use Rattle.rules.specs.Tree.{Tree, Trees, var, app, none, more, sameTree, sub, single}
-use Rattle.rules.specs.Store.{Made, substitute}
+use Rattle.rules.specs.Store.{Made}
 use Rattle.rules.specs.Theory.{Theory, Rule, RuleVar, noName, noRule, inputs, constructors, rule, headIs, rulesOf}
-use Rattle.rules.specs.Unify.{Binding, along, unify}
+use Rattle.rules.specs.Unify.{Binding, along}
 use Rattle.rules.specs.State.{State, Var, Fact, sortOfVar, varNamed, isPlain}
 use Rattle.rules.specs.Read.{variable}
-use Rattle.rules.specs.Reference.{factAt, hypList, judgmentsAt}
+use Rattle.rules.specs.Reference.{hypList, judgmentsAt}
 use Rattle.rules.specs.Induct.{Motive, motiveVars, caseVars, keepVars, hypothesisAt, hypotheses, allowedHyp, inductCase, inductCases, inductOn, induct, inductWith}
 use Rattle.rules.specs.Invert.{Case, caseNamed, Inversion, takenVars, Names, suit, makeVars, upFrom, renamed, renaming, rulePremises, without, clear, contextFact, contextFacts, allowedIn, invertCase, caseOrNot, invertRule, invertRules, predicateOf, invert}
 use Rattle.rules.specs.Laws.Out.{Ok, of-ok}
@@ -323,7 +323,7 @@ every-below p (x ∷ xs) k = go (p x) (all-map (λ v l. omega arith) (every-belo
     go true h = both {x = k} (omega arith) h
     go false h = h
 
-rules-of-below : (T : Theory) (p : ℕ) → AllBelow (length (T .rules)) (rulesOf T p)
+pub rules-of-below : (T : Theory) (p : ℕ) → AllBelow (length (T .rules)) (rulesOf T p)
 unfolding rulesOf
 rules-of-below T p = all-map (λ r l. omega arith) (every-below (λ (r : Rule). headIs p (r .conclusion)) (T .rules) 0)
 

@@ -18,7 +18,7 @@ use Rattle.rules.specs.Theory.{Rule, inputs, constructorNamed, predicate
 use Rattle.rules.specs.Declare.{noRuleVar, isNew}
 use Rattle.rules.specs.Match.{Bound, matchAll}
 use Rattle.rules.specs.Unify.{Binding, along, insert}
-use Rattle.rules.specs.State.{State, Var, noVar, Def, Goal, Fact, sortOf, sortOfVar, fit, varNamed, abbreviated, isEmpty, isPlain}
+use Rattle.rules.specs.State.{State, Var, noVar, Goal, Fact, sortOf, sortOfVar, fit, varNamed, abbreviated, isEmpty, isPlain}
 use Rattle.rules.specs.Read.{variable, named, term, compound, terms, termOf, judgment, judgmentEach, judgments}
 use Rattle.rules.specs.Reference.{factAt, binding, isBound, bindings, instance, reference, judgmentOf, judgmentsAt}
 use Rattle.rules.specs.Step.{Items, noItems, references, bindItem, stateItem, readItem, readItems, matchStated, conclude, step}

@@ -3,11 +3,10 @@
 -- over a variable which is not there, or forgot the variables that `invert` makes, would be caught here. Unification counts its steps by
 -- that number, so that it ends for no other reason than the trees. Assumes nothing.
 use Prim.Native.Nat.{ℕ, _+_, _≤_, _<_}
-use mathlib.Core.Path.{_≡_, refl, subst, sym, _∙_}
-use mathlib.Core.Bool.{true, _&&_, not}
+use mathlib.Core.Path.{_≡_, refl, subst, sym}
+use mathlib.Core.Bool.{_&&_, not}
 use mathlib.Core.List.{List, [], _∷_, _++_}
 use native.Mathlib.Omega.{arith}
-use borrow.Author.Tests.{ltb-true}
 use lib.Dec.{leb, ltb}
 use lib.ListN.{length, length-append}
 use Rattle.rules.specs.Limits.{VARIABLES, DEFS, GOALS, FACTS, ENTRIES}
@@ -27,9 +26,9 @@ use Rattle.rules.specs.Apply.{apply}
 use Rattle.rules.specs.Induct.{induct, inductWith}
 use Rattle.rules.specs.Invert.{invert}
 use Rattle.rules.specs.Loop.{through, whole}
-use Rattle.rules.specs.Forms.{withMade, withVars, withDefs, withGoals, withFacts, making, addDef, addGoal, goal, takeGoal, addFact, hypothesis, oneHypothesis, oneInduction, oneInversion, someInstances, addHyp, addRuleHyp, addStep, addApply, addInduct, addInductWith, addInvert, listed, takenGoal, result, next, perform, takeForm}
+use Rattle.rules.specs.Forms.{withMade, withVars, withDefs, withGoals, making, addDef, addGoal, goal, takeGoal, addFact, oneHypothesis, oneInduction, oneInversion, someInstances, addHyp, addRuleHyp, addStep, addApply, addInduct, addInductWith, addInvert, listed, takenGoal, result, perform, takeForm}
 use Rattle.rules.specs.Check.{check}
-use Rattle.rules.specs.Laws.Out.{Ok, fine, off, of-ok, by-name, by-items, by-ask, by-room, by-found}
+use Rattle.rules.specs.Laws.Out.{Ok, fine, off, by-name, by-items, by-ask, by-room, by-found}
 use Rattle.rules.specs.Laws.Theory.{empty, all-snoc, WellFormed}
 use Rattle.rules.specs.Laws.Entry.{change-all}
 use Rattle.rules.specs.Laws.Still.{vars-list-still}
