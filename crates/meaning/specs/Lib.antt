@@ -6,6 +6,7 @@ pub mod Truth
 pub mod Lemmas
 pub mod Named
 pub mod Sets
+pub mod Runs
 pub mod Inversions
 pub mod Bridge
 pub mod Written

@@ -32,8 +32,7 @@ use Rattle.meaning.specs.Lemmas.Sound.{ders-in}
 use Rattle.meaning.specs.Named.{RuleHyp, Calm}
 use Rattle.meaning.specs.Bridge.Asked.{both-true, at-unique}
 use Rattle.meaning.specs.Bridge.Refs.{is-none}
-use Rattle.meaning.specs.Bridge.Run.{IfTaken, Throughout}
-use Rattle.meaning.specs.Bridge.Check.{Taken, after, Calmly}
+use Rattle.meaning.specs.Runs.{Taken, after, IfTaken, Throughout, Calmly}
 use Rattle.meaning.specs.Theorems.{sortsOf, goals-derivable}
 
 -- A test for the premise ------------------------------------------------------------------------------------------------------------

@@ -141,54 +141,54 @@ below-arguments n c ts h = belows-each n ts h
 -- Through the questions ---------------------------------------------------------------------------------------------------------------
 
 -- P of what is answered and of the state then; R of the state of a refusal
-pub data Ends {S A : Type 0} (P : A → S → Type 0) (R : S → Type 0) : Out S A → Type 0 where
-  fine : {a : A} {s : S} → P a s → Ends P R (ok a s)
-  off : {n d : ℕ} {s : S} → R s → Ends P R (refuse n d s)
+pub data Leaves {S A : Type 0} (P : A → S → Type 0) (R : S → Type 0) : Out S A → Type 0 where
+  fine : {a : A} {s : S} → P a s → Leaves P R (ok a s)
+  off : {n d : ℕ} {s : S} → R s → Leaves P R (refuse n d s)
 
 -- the made trees are below n, whether it answers or refuses; what it answers has the property
 abbrev pub Bounds : ℕ → {A : Type 0} → (A → Type 0) → Out Made A → Type 0
-Bounds n P o = Ends (λ a u. MadeBelow n u × P a) (MadeBelow n) o
+Bounds n P o = Leaves (λ a u. MadeBelow n u × P a) (MadeBelow n) o
 
-pub weaken : {S A : Type 0} {P Q : A → S → Type 0} {R Z : S → Type 0} {o : Out S A} → Ends P R o → ((a : A) (s : S) → P a s → Q a s)
-    → ((s : S) → R s → Z s) → Ends Q Z o
+pub weaken : {S A : Type 0} {P Q : A → S → Type 0} {R Z : S → Type 0} {o : Out S A} → Leaves P R o → ((a : A) (s : S) → P a s → Q a s)
+    → ((s : S) → R s → Z s) → Leaves Q Z o
 weaken (fine p) f g = fine (f _ _ p)
 weaken (off r) f g = off (g _ r)
 
 module _ {S : Type 0} {R : S → Type 0} where
-  pub by-then : {A B : Type 0} {P : B → S → Type 0} {Q : A → S → Type 0} (o : Out S A) (f : A → S → Out S B) → Ends Q R o
-      → ((a : A) (s : S) → Q a s → Ends P R (f a s)) → Ends P R (then o f)
+  pub by-then : {A B : Type 0} {P : B → S → Type 0} {Q : A → S → Type 0} (o : Out S A) (f : A → S → Out S B) → Leaves Q R o
+      → ((a : A) (s : S) → Q a s → Leaves P R (f a s)) → Leaves P R (then o f)
   unfolding then
   by-then (ok a s) f (fine q) k = k a s q
   by-then (refuse n d s) f (off r) k = off r
 
   module _ {B : Type 0} {P : B → S → Type 0} {s : S} where
     -- an action that leaves the state as it is
-    pub by-still : {A : Type 0} (o : Out S A) (f : A → S → Out S B) → R s → Still s o → ((a : A) → o ≡ ok a s → Ends P R (f a s)) → Ends P R (then o f)
+    pub by-still : {A : Type 0} (o : Out S A) (f : A → S → Out S B) → R s → Still s o → ((a : A) → o ≡ ok a s → Leaves P R (f a s)) → Leaves P R (then o f)
     unfolding then
     by-still (ok a u) f r answers k = k a refl
     by-still (refuse n d u) f r refuses k = off r
 
-    pub by-ask : (n : ℕ) (b : Bool) (f : Unit {0} → S → Out S B) → R s → (b ≡ true → Ends P R (f tt s)) → Ends P R (then (ask n b s) f)
+    pub by-ask : (n : ℕ) (b : Bool) (f : Unit {0} → S → Out S B) → R s → (b ≡ true → Leaves P R (f tt s)) → Leaves P R (then (ask n b s) f)
     unfolding then
     by-ask n true f r k = k refl
     by-ask n false f r k = off r
 
-    pub by-room : (n : ℕ) (b : Bool) (f : Unit {0} → S → Out S B) → R s → (b ≡ true → Ends P R (f tt s)) → Ends P R (then (room n b s) f)
+    pub by-room : (n : ℕ) (b : Bool) (f : Unit {0} → S → Out S B) → R s → (b ≡ true → Leaves P R (f tt s)) → Leaves P R (then (room n b s) f)
     unfolding then
     by-room n true f r k = k refl
     by-room n false f r k = off r
 
-    pub by-found : {A : Type 0} (n : ℕ) (o : Option A) (f : A → S → Out S B) → R s → ((a : A) → o ≡ some a → Ends P R (f a s)) → Ends P R (then (found n o s) f)
+    pub by-found : {A : Type 0} (n : ℕ) (o : Option A) (f : A → S → Out S B) → R s → ((a : A) → o ≡ some a → Leaves P R (f a s)) → Leaves P R (then (found n o s) f)
     unfolding then
     by-found n (some a) f r k = k a refl
     by-found n nothing f r k = off r
 
-    pub by-either : (b : Bool) (f g : S → Out S B) → Ends P R (f s) → Ends P R (g s) → Ends P R ((elim b as (λ (z : Bool). Act S B) [ true ↦ f | false ↦ g ]) s)
+    pub by-either : (b : Bool) (f g : S → Out S B) → Leaves P R (f s) → Leaves P R (g s) → Leaves P R ((elim b as (λ (z : Bool). Act S B) [ true ↦ f | false ↦ g ]) s)
     by-either true f g h k = h
     by-either false f g h k = k
 
-    pub by-given : {A : Type 0} (o : Option A) (f : A → S → Out S B) (g : S → Out S B) → ((a : A) → o ≡ some a → Ends P R (f a s)) → Ends P R (g s)
-        → Ends P R ((elim o as (λ (z : Option A). Act S B) [ some a ↦ f a | nothing ↦ g ]) s)
+    pub by-given : {A : Type 0} (o : Option A) (f : A → S → Out S B) (g : S → Out S B) → ((a : A) → o ≡ some a → Leaves P R (f a s)) → Leaves P R (g s)
+        → Leaves P R ((elim o as (λ (z : Option A). Act S B) [ some a ↦ f a | nothing ↦ g ]) s)
     by-given (some a) f g h k = h a refl
     by-given nothing f g h k = k
 

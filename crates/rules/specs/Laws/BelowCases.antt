@@ -29,7 +29,7 @@ use Rattle.rules.specs.Laws.Rising.{rising-all-of}
 use Rattle.rules.specs.Laws.Still.{items-still, index-still, variable-still, fact-at-still, hyp-list-still, case-vars-still, read-cases-still, renamed-still}
 use Rattle.rules.specs.Laws.CaseWalk.{Longer, same-vars, longer-on, make-vars-longer}
 use Rattle.rules.specs.Laws.Shape.{past}
-use Rattle.rules.specs.Laws.Below.{Below, Belows, MadeBelow, ValuesBelow, UnifierBelow, Ends, Bounds, fine, off, below-up, made-up, sub-below, along-below, single-below, weaken}
+use Rattle.rules.specs.Laws.Below.{Below, Belows, MadeBelow, ValuesBelow, UnifierBelow, Leaves, Bounds, fine, off, below-up, made-up, sub-below, along-below, single-below, weaken}
 use Rattle.rules.specs.Laws.Below.{by-then, by-still, by-ask, by-either, keep-below, instance-below, substitute-below, substitutes-below, unify-below}
 use Rattle.rules.specs.Laws.BelowRead.{FactBelow, StateBelow, state-up, var-named-below, judgments-at-below, fact-below, judgment-below}
 
@@ -331,7 +331,7 @@ rules-of-below T p = all-map (λ r l. omega arith) (every-below (λ (r : Rule). 
 module _ (S : State) (I : Inversion) where
   invert-rule-below : (R : Rule) → RuleFormed (S .theory) R → (N : Names) (m : Made) → length (N .vars) ≤ VARIABLES → StateBelow (length (N .vars)) S
       → InversionBelow (length (N .vars)) I → MadeBelow (length (N .vars)) m
-      → Ends (λ M u. MadeBelow (length (M .vars)) u × Longer (N .vars) (M .vars)) (MadeBelow VARIABLES) (invertRule S I R N m)
+      → Leaves (λ M u. MadeBelow (length (M .vars)) u × Longer (N .vars) (M .vars)) (MadeBelow VARIABLES) (invertRule S I R N m)
   unfolding invertRule
   invert-rule-below R rf N m row low inv g =
       by-still _ _ (made-up (length (N .vars)) VARIABLES row m g) (renamed-still S I R (caseNamed (I .cases) (R .name .bytes)) N) λ r e.
@@ -350,7 +350,7 @@ module _ (S : State) (I : Inversion) where
 
   invert-rules-below : (rs : List ℕ) → AllBelow (length (S .theory .rules)) rs → WellFormed (S .theory) → (N : Names) (m : Made)
       → length (N .vars) ≤ VARIABLES → StateBelow (length (N .vars)) S → InversionBelow (length (N .vars)) I → MadeBelow (length (N .vars)) m
-      → Ends (λ M u. MadeBelow (length (M .vars)) u × Longer (N .vars) (M .vars)) (MadeBelow VARIABLES) (invertRules S I rs N m)
+      → Leaves (λ M u. MadeBelow (length (M .vars)) u × Longer (N .vars) (M .vars)) (MadeBelow VARIABLES) (invertRules S I rs N m)
   unfolding invertRules
   invert-rules-below [] k wf N m row low inv g = fine (g, same-vars (N .vars))
   invert-rules-below (r ∷ rs) (both l k) wf N m row low inv g =
@@ -363,7 +363,7 @@ module _ (S : State) (I : Inversion) where
 -- behind the form the made trees are below the number of variables with those made; on a refusal, inside row 7
 pub invert-below : (S : State) → WellFormed (S .theory) → length (S .vars) ≤ VARIABLES → StateBelow (length (S .vars)) S → (xs : Sexps) (m : Made)
     → MadeBelow (length (S .vars)) m
-    → Ends (λ r u. MadeBelow (length (r .1)) u × FactBelow (length (r .1)) (r .0) × Longer (S .vars) (r .1)) (MadeBelow VARIABLES) (invert S xs m)
+    → Leaves (λ r u. MadeBelow (length (r .1)) u × FactBelow (length (r .1)) (r .0) × Longer (S .vars) (r .1)) (MadeBelow VARIABLES) (invert S xs m)
 unfolding invert Below
 invert-below S wf row low xs m g =
     by-still _ _ up (index-still 34 (item xs 2)) λ i e.

@@ -36,7 +36,7 @@ use Rattle.rules.specs.Laws.CaseWalk.{Longer, same-vars}
 use Rattle.rules.specs.Laws.Form.{grown, entriesSoFar, go-on, from-still, next-still, add-var-takes}
 use Rattle.rules.specs.Laws.Appends.{take-goal-appends, take-form-appends}
 use Rattle.rules.specs.Laws.Reached.{endOf, through-reaches, whole-reaches, check-reaches-formed}
-use Rattle.rules.specs.Laws.Below.{Below, Belows, MadeBelow, Ends, made-up}
+use Rattle.rules.specs.Laws.Below.{Below, Belows, MadeBelow, Leaves, made-up}
 use Rattle.rules.specs.Laws.Below as below
 use Rattle.rules.specs.Laws.BelowRead.{FactBelow, GoalBelow, StateBelow, state-up, term-below, judgment-below, judgments-below, reference-below, step-below, apply-below}
 use Rattle.rules.specs.Laws.BelowCases.{longer-length, induct-below, induct-with-below, invert-below}
@@ -92,14 +92,14 @@ abbrev Keeps : Out State (Unit {0}) → Type 0
 Keeps o = Ok (λ a U. BoundedState U) o
 
 module _ {A B : Type 0} {P : B → State → Type 0} {Q : A → Made → Type 0} {R : Made → Type 0} where
-  told-making : (T : State) (f : A → State → Out State B) (o : Out Made A) → Ends Q R o → ((a : A) (u : Made) → Q a u → Ok P (f a (withMade T u)))
+  told-making : (T : State) (f : A → State → Out State B) (o : Out Made A) → Leaves Q R o → ((a : A) (u : Made) → Q a u → Ok P (f a (withMade T u)))
       → Ok P (then (elim o [ ok a u ↦ ok a (withMade T u) | refuse n d u ↦ refuse n d (withMade T u) ]) f)
   unfolding then
   told-making T f (ok a u) (below.fine q) k = k a u q
   told-making T f (refuse n d u) (below.off r) k = off
 
   -- an action on the made trees
-  by-making : (act : Act Made A) (T : State) (f : A → State → Out State B) → Ends Q R (act (T .made))
+  by-making : (act : Act Made A) (T : State) (f : A → State → Out State B) → Leaves Q R (act (T .made))
       → ((a : A) (u : Made) → Q a u → Ok P (f a (withMade T u))) → Ok P (then (making act T) f)
   unfolding making
   by-making act T f h k = told-making T f (act (T .made)) h k
