@@ -9,6 +9,7 @@ pub mod Sets
 pub mod Runs
 pub mod Inversions
 pub mod Bridge
+pub mod Premise
 pub mod Written
 pub mod Writing
 pub mod Theorems
