@@ -38,7 +38,7 @@ use Rattle.meaning.specs.Bridge.Asked.{at-unique}
 use Rattle.meaning.specs.Runs.{Taken, after, OrLater, Somewhere, Calmly, Results}
 use Rattle.meaning.specs.Premise.{throughout, calm, calm-run, resting, respects, respectful-run, testing}
 use Rattle.meaning.specs.Inversions.{asked, firstNames, tried, Turn, Comes}
-use Rattle.meaning.specs.Theorems.{sortsOf, goals-firm, facts-true, goals-derivable, inversions-complete}
+use Rattle.meaning.specs.Theorems.{sortsOf, facts-firm, goals-firm, facts-true, goals-derivable, inversions-complete}
 
 -- Example A -------------------------------------------------------------------------------------------------------------------------
 
@@ -297,6 +297,31 @@ ruled-true = (
   facts-true theory goalsG T SG takenG (read ruled) calm-ruled 3 renewedFirst (ruled-there .0) (λ h. true-false false (h .0) refl),
   facts-true theory goalsG T SG takenG (read ruled) calm-ruled 5 badAgain (ruled-there .1) (λ h. true-false false (h .0) refl),
 )
+
+-- its footings as recorded: fact 3 rests on c0, by its reference, and on no rule of the hypothesis that it applies
+recordedFooting : ℕ → List ℕ
+recordedFooting n = elim (entry (after (read ruled) SG .facts) n) [ some f ↦ f .footing | nothing ↦ [] ]
+
+respects-ruled : throughout (respects recordedFooting) (read ruled) SG ≡ true
+unfolding running T SG reached endOf after testing recordedFooting
+respects-ruled = refl
+
+footing-three : recordedFooting 3 ≡ 0 ∷ []
+unfolding running T SG reached endOf after recordedFooting
+footing-three = refl
+
+only-c0 : (r : ℕ) → In r (0 ∷ []) → RuleOf T r
+unfolding running T reached In
+only-c0 r (inl e) = omega arith
+only-c0 r (inr e) = absurd e
+
+-- so c0 suffices for it
+pub ruled-firm : True T (sortsOf (after (read ruled) SG)) (λ r. In r (0 ∷ [])) (after (read ruled) SG .facts) renewedFirst
+unfolding RuleHyp
+ruled-firm =
+    facts-firm theory goalsG T SG takenG (resting T recordedFooting) (λ n r k. k) (read ruled) calm-ruled
+    (respectful-run T recordedFooting (read ruled) SG respects-ruled) 3 renewedFirst (ruled-there .0) (λ h. true-false false (h .0) refl) (λ r. In r (0 ∷ []))
+    (record { mine = λ r k. subst (λ l. In r l) footing-three k; theirs = only-c0 })
 
 -- A unification that finds nothing ----------------------------------------------------------------------------------------------------
 

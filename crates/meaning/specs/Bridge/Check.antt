@@ -1,9 +1,9 @@
 -- From the parts to the whole check: the state that an answer is given in is good, and where the answer is an acceptance every goal was
 -- taken. Assumes nothing.
-use Prim.Native.Nat.{ℕ, zero, suc, _<_}
+use Prim.Native.Nat.{ℕ, zero, suc}
 use native.Mathlib.Omega.{arith}
 use mathlib.Core.Path.{_≡_, refl, sym, _∙_, ap, subst}
-use mathlib.Core.Logic.{_⊎_, inl, inr}
+use mathlib.Core.Logic.{inl, inr}
 use mathlib.Core.Bool.{Bool, true, false, not}
 use mathlib.Core.Option.{Option, some, none as nothing}
 use mathlib.Core.List.{List, [], _∷_}
@@ -19,18 +19,17 @@ use Rattle.rules.specs.Laws.Theory.{WellFormed}
 use Rattle.rules.specs.Laws.Declare.{reached, theory-formed, nothing-formed}
 use Rattle.rules.specs.Laws.Reached.{endOf}
 use Rattle.rules.specs.Laws.Bounded.{BoundedCheck, goals-bounded, forms-bounded}
-use Rattle.rules.specs.State.{State, Fact, Goal, begin, sortOfVar}
+use Rattle.rules.specs.State.{State, Goal, begin, sortOfVar}
 use Rattle.rules.specs.Loop.{Judged, done, refused, through, unread, whole}
 use Rattle.rules.specs.Tags.{Tag, aVar, aDef, aStep, aHyp, aRuleHyp, anInduct, anInductWith, anApply, anInvert, aResult}
 use Rattle.rules.specs.Forms.{takeGoal, takeForm}
-use Rattle.rules.specs.Check.{Report, Refusal, Answer, accepts, refuses, Outcome, refusedIn, report, missing, ended, afterProof, afterGoals, afterTheory, firstFailing, readable, fitting, check}
-use Rattle.meaning.specs.Trees.Tests.{true-false}
+use Rattle.rules.specs.Check.{Report, Answer, accepts, refuses, Outcome, refusedIn, report, missing, ended, afterProof, afterGoals, afterTheory, firstFailing, readable, fitting, check}
 use Rattle.meaning.specs.Named.{Calm, ResultOf}
 use Rattle.meaning.specs.Runs.{Taken, after, IfTaken, Throughout, OrLater, Somewhere, Calmly, Respectful, CalmTexts, Results}
 use Rattle.meaning.specs.Derivation.{RuleOf}
 use Rattle.meaning.specs.Sets.{Sets, ofTheory, RuleAt, RuleAs, Tagged, Respects, Within}
 use Rattle.meaning.specs.Bridge.Asked.{no-some, some-same}
-use Rattle.meaning.specs.Bridge.Well.{WellTheory, Agree, Extends, agree-extends}
+use Rattle.meaning.specs.Bridge.Well.{WellTheory, Agree, agree-extends}
 use Rattle.meaning.specs.Bridge.Read.{rule-known}
 use Rattle.meaning.specs.Bridge.Ends.{Ends, done as taken}
 use Rattle.meaning.specs.Bridge.Took.{Post}

@@ -1,36 +1,34 @@
 -- The forms of the goals: each keeps a state good, no fact comes and no goal is taken. Of a well state.
-use Prim.Native.Nat.{ℕ, zero, suc, _+_, _<_}
+use Prim.Native.Nat.{ℕ, _+_}
 use native.Mathlib.Omega.{arith}
-use mathlib.Core.Path.{_≡_, refl, sym, _∙_, ap, subst}
-use mathlib.Core.Logic.{_⊎_, inl, inr}
-use mathlib.Core.Bool.{Bool, true, false}
-use mathlib.Core.Option.{Option, some, none as nothing}
-use mathlib.Core.List.{List, [], _∷_, _++_}
+use mathlib.Core.Path.{refl, ap}
+use mathlib.Core.Logic.{inl, inr}
+use mathlib.Core.Bool.{false}
+use mathlib.Core.List.{[], _∷_}
 use lib.Dec.{ltb, leb}
 use lib.ListN.{length}
 use Rattle.rules.specs.Limits.{GOALS, ENTRIES}
-use Rattle.rules.specs.Out.{Out, ok, refuse, then, Act, ask, room, found, get, put}
-use Rattle.rules.specs.Sexp.{Sexp, Sexps, atom, list, count, item, name, items, Text, ends, fails, more}
+use Rattle.rules.specs.Out.{Out, ok, refuse, then}
+use Rattle.rules.specs.Sexp.{Sexp, Sexps, count, item, name, Text, ends, fails, more}
 use Rattle.rules.specs.Find.{entry}
 use Rattle.rules.specs.Tree.{Tree, Trees, none, countTrees}
 use Rattle.rules.specs.Store.{Made}
 use Rattle.rules.specs.Theory.{Theory}
 use Rattle.rules.specs.Declare.{isNew}
-use Rattle.rules.specs.State.{State, Fact, Goal, begin as start, goalNamed, abbreviated, entries}
+use Rattle.rules.specs.State.{State, Goal, begin as start, goalNamed, abbreviated, entries}
 use Rattle.rules.specs.Read.{judgment, judgments}
 use Rattle.rules.specs.Tags.{GoalForm, aVariable, aGoal, aGoalWith, goalForm}
-use Rattle.rules.specs.Loop.{Judged, done as ended, refused, through, unread, whole}
-use Rattle.rules.specs.Forms.{withMade, withGoals, making, addVar, addGoal, goal, takeGoal}
+use Rattle.rules.specs.Forms.{withMade, addGoal, goal, takeGoal}
 use Rattle.rules.specs.Laws.Entry.{entry-front, entry-snoc}
 use Rattle.meaning.specs.Trees.Tests.{true-false}
 use Rattle.meaning.specs.Unification.Acts.{ok-any}
 use Rattle.meaning.specs.Truth.{At}
-use Rattle.meaning.specs.Lemmas.Forms.{Run, begin}
+use Rattle.meaning.specs.Lemmas.Forms.{begin}
 use Rattle.meaning.specs.Sets.{Sets}
-use Rattle.meaning.specs.Bridge.Asked.{no-some, some-same}
-use Rattle.meaning.specs.Bridge.Well.{WellTheory, Agree, Extends, Well, extends-same, agree-extends}
-use Rattle.meaning.specs.Bridge.Ends.{Ends, done, stopped, ends-map, keeping, keeps-ask, keeps-room, keeps-found, keeps-name, keeps-items, making-then}
-use Rattle.meaning.specs.Bridge.Took.{Settled, Took, Post}
+use Rattle.meaning.specs.Bridge.Asked.{no-some}
+use Rattle.meaning.specs.Bridge.Well.{WellTheory, Agree, extends-same}
+use Rattle.meaning.specs.Bridge.Ends.{Ends, done, keeping, keeps-ask, keeps-room, keeps-found, keeps-name, keeps-items, making-then}
+use Rattle.meaning.specs.Bridge.Took.{Post}
 use Rattle.meaning.specs.Bridge.Proof.{add-var-ok}
 use Rattle.meaning.specs.Runs.{IfTaken, Throughout}
 use Rattle.meaning.specs.Bridge.Run.{Good}

@@ -1,52 +1,50 @@
 -- Every form of the proof, as an action on the state, does to it what `Took` says. Of a well state.
-use Prim.Native.Nat.{ℕ, zero, suc, _+_, _<_, _≤_}
+use Prim.Native.Nat.{ℕ, _+_}
 use native.Mathlib.Omega.{arith}
-use native.Mathlib.Decide.{ℕ-discrete}
-use mathlib.Core.Path.{_≡_, refl, sym, _∙_, ap, subst}
+use mathlib.Core.Path.{_≡_, refl, sym, subst}
 use mathlib.Core.Logic.{_⊎_, inl, inr}
 use mathlib.Core.Bool.{Bool, true, false, _&&_, not}
 use mathlib.Core.Option.{Option, some, none as nothing}
 use mathlib.Core.List.{List, [], _∷_, _++_}
-use lib.Dec.{eqb, ltb, leb}
+use lib.Dec.{ltb, leb}
 use lib.ListN.{length}
 use Rattle.rules.specs.Limits.{VARIABLES, DEFS}
-use Rattle.rules.specs.Out.{Out, ok, refuse, then, Act, ask, room, found, get, put}
+use Rattle.rules.specs.Out.{Out, then}
 use Rattle.rules.specs.Text.{same}
-use Rattle.rules.specs.Sexp.{Sexp, Sexps, atom, list, count, item, name, items, marked}
+use Rattle.rules.specs.Sexp.{Sexp, Sexps, item, name, marked}
 use Rattle.rules.specs.Find.{all, has}
-use Rattle.rules.specs.Tree.{Tree, Trees, none, more, sameTree, among}
+use Rattle.rules.specs.Tree.{Tree, Trees, none}
 use Rattle.rules.specs.Store.{Made}
-use Rattle.rules.specs.Theory.{Theory, Rule, rule, rulesOf, sortNamed, constructorNamed, predicateNamed}
+use Rattle.rules.specs.Theory.{Rule, rule, sortNamed, constructorNamed, predicateNamed}
 use Rattle.rules.specs.Declare.{isNew}
-use Rattle.rules.specs.State.{State, Fact, Goal, Counts, Var, Def, noCounts, varNamed, goalNamed, abbreviated, isPlain, sortOf}
-use Rattle.rules.specs.Read.{index, term, judgment, judgments, varsList}
-use Rattle.rules.specs.Reference.{Ref, reference, hypList, factAt}
+use Rattle.rules.specs.State.{State, Fact, Var, Def, noCounts, varNamed, abbreviated, isPlain, sortOf}
+use Rattle.rules.specs.Read.{term, judgment, judgments, varsList}
 use Rattle.rules.specs.Step.{step}
 use Rattle.rules.specs.Apply.{apply}
 use Rattle.rules.specs.Induct.{keepVars, induct, inductWith}
-use Rattle.rules.specs.Invert.{Case, caseNamed, readCases, Inversion, Names, makeVars, upFrom, renamed, renaming, caseOrNot, invertRule, invertRules, predicateOf, takenVars, suit, invert}
-use Rattle.rules.specs.Tags.{Tag, aVar, aDef, aStep, aHyp, aRuleHyp, anInduct, anInductWith, anApply, anInvert, aResult, proofTag}
-use Rattle.rules.specs.Forms.{withMade, withVars, withDefs, withGoals, withFacts, making, addVar, addDef, addFact, hypothesis, oneHypothesis, oneInduction, oneInversion, someInstances}
-use Rattle.rules.specs.Forms.{addHyp, addRuleHyp, addStep, addApply, addInduct, addInductWith, addInvert, listed, takenGoal, result, next, perform, takeForm}
-use Rattle.meaning.specs.Trees.Tree.{In, Among}
-use Rattle.meaning.specs.Trees.Tests.{true-false, sameTree-true, among-true}
-use Rattle.meaning.specs.Unification.Acts.{Ok, done as fine, stopped as over, ok-then, ok-any}
-use Rattle.meaning.specs.Truth.{At, Plain}
-use Rattle.meaning.specs.Lemmas.Forms.{grown, Ref as RefForm, hyp}
-use Rattle.meaning.specs.Named.{ItemOf, NamesAs, ResultAs, SomeRefers, SomeCases, SomeInverts, tagOf, Names as NamesFact, RuleHyp, Calm}
+use Rattle.rules.specs.Invert.{Case, caseNamed, Inversion, Names, renamed, invertRule, invertRules, takenVars, suit, invert}
+use Rattle.rules.specs.Tags.{Tag, aDef, aStep, aHyp, aRuleHyp, anInduct, anInductWith, anApply, anInvert}
+use Rattle.rules.specs.Forms.{withMade, withVars, withDefs, addVar, addDef, hypothesis, oneHypothesis, oneInduction, oneInversion, someInstances}
+use Rattle.rules.specs.Forms.{addHyp, addRuleHyp, addStep, addApply, addInduct, addInductWith, addInvert}
+use Rattle.meaning.specs.Trees.Tree.{In}
+use Rattle.meaning.specs.Trees.Tests.{true-false}
+use Rattle.meaning.specs.Unification.Acts.{Ok, done as fine, ok-then, ok-any}
+use Rattle.meaning.specs.Truth.{At}
+use Rattle.meaning.specs.Lemmas.Forms.{hyp}
+use Rattle.meaning.specs.Named.{ItemOf, NamesAs, ResultAs, SomeRefers, SomeCases, RuleHyp}
 use Rattle.meaning.specs.Derivation.{RuleOf}
 use Rattle.meaning.specs.Sets.{Sets, RuleAs, CitesAs}
-use Rattle.meaning.specs.Bridge.Asked.{no-some, some-same, both-true, ok-map, ok-ask, entry-at, at-entry, all-in}
-use Rattle.meaning.specs.Bridge.Well.{Typed, Judgment, Judgments, WellFact, Agree, Extends, Well, extends-same, extends-one, extends-both}
-use Rattle.meaning.specs.Bridge.Read.{fact-ok, term-ok, judgment-ok, judgments-ok}
+use Rattle.meaning.specs.Bridge.Asked.{some-same, ok-map, ok-ask}
+use Rattle.meaning.specs.Bridge.Well.{Typed, Judgment, Judgments, Agree, Extends, Well, extends-same, extends-one, extends-both}
+use Rattle.meaning.specs.Bridge.Read.{term-ok, judgment-ok, judgments-ok}
 use Rattle.meaning.specs.Bridge.Refs.{calm-free, Citable, Free-of-rules}
 use Rattle.meaning.specs.Bridge.Step.{Fine, step-ok}
-use Rattle.meaning.specs.Bridge.Apply.{is-plain, in-here, apply-ok}
+use Rattle.meaning.specs.Bridge.Apply.{in-here, apply-ok}
 use Rattle.meaning.specs.Bridge.Induct.{Cases-free, induct-ok, induct-with-ok}
 use Rattle.meaning.specs.Bridge.Names.{madeFor, make-vars-ok}
 use Rattle.meaning.specs.Bridge.Invert.{invert-ok}
-use Rattle.meaning.specs.Bridge.Ends.{Ends, done, stopped, Keeps, ends-then, ends-map, keeping, keeps-ask, keeps-room, keeps-found, keeps-name, keeps-items, keeps-index, keeps-vars-list, making-then}
-use Rattle.meaning.specs.Bridge.Took.{Kept, resting, Settled, Took, Post, ok-all, no-result, well-vars, well-fact, add-fact, fact-post}
+use Rattle.meaning.specs.Bridge.Ends.{Ends, done, ends-map, keeping, keeps-ask, keeps-room, keeps-found, keeps-name, keeps-vars-list, making-then}
+use Rattle.meaning.specs.Bridge.Took.{Post, ok-all, no-result, well-vars, add-fact, fact-post}
 
 -- what is asked of a form: the facts that it names are no rule hypotheses with premises, and the sets respect what it cites
 pub record Clear (K : Sets) (t : Tag) (S : State) (xs : Sexps) : Type 0 where

@@ -1,35 +1,35 @@
 -- Going through a proof: every state reached from a good one is good, so every fact is true and every goal that was taken is derivable.
 -- Definitions of what is said of a run first, then the induction.
-use Prim.Native.Nat.{ℕ, zero, suc, _<_}
-use mathlib.Core.Path.{_≡_, refl, sym, _∙_, ap, subst}
+use Prim.Native.Nat.{ℕ, suc}
+use mathlib.Core.Path.{_≡_, sym, _∙_, subst}
 use mathlib.Core.Logic.{_⊎_, inl, inr}
-use mathlib.Core.Bool.{Bool, true, false}
-use mathlib.Core.Option.{Option, some, none as nothing}
-use mathlib.Core.List.{List, [], _∷_, _++_}
+use mathlib.Core.Bool.{true}
+use mathlib.Core.Option.{some}
+use mathlib.Core.List.{List}
 use lib.ListN.{length}
 use Rattle.rules.specs.Out.{Out, ok, refuse, Act}
 use Rattle.rules.specs.Sexp.{Sexp, Text, ends, fails, more}
 use Rattle.rules.specs.Find.{entry}
-use Rattle.rules.specs.Tree.{Tree, Trees, none, sub, subs}
-use Rattle.rules.specs.Theory.{Theory, Rule, rule}
+use Rattle.rules.specs.Tree.{Tree, Trees, none, sub}
+use Rattle.rules.specs.Theory.{Theory, rule}
 use Rattle.rules.specs.State.{State, Fact, Goal}
 use Rattle.rules.specs.Loop.{Judged, refused, through}
 use Rattle.rules.specs.Laws.Reached.{endOf}
 use Rattle.meaning.specs.Trees.Tree.{Occ, Occs, In, Among, among-occ}
 use Rattle.meaning.specs.Signature.{sig, Value}
-use Rattle.meaning.specs.Derivation.{Der, Ders, RuleOf}
-use Rattle.meaning.specs.Truth.{Mentions, Free, At, HypOf, Needs, Holds, Gives, Entails, True, Plain}
+use Rattle.meaning.specs.Derivation.{Der, RuleOf}
+use Rattle.meaning.specs.Truth.{Mentions, Free, At, HypOf, Needs, Holds, Gives, True, Plain}
 use Rattle.meaning.specs.Lemmas.Sound.{plain-holds}
 use Rattle.meaning.specs.Lemmas.Inverts.{Shaped}
-use Rattle.meaning.specs.Lemmas.Forms.{grown, Allowed, Cites, Ref, bare, inst, Form, Run, begin, take}
+use Rattle.meaning.specs.Lemmas.Forms.{grown, Allowed, Cites, Ref, bare, inst, Form, Run, take}
 use Rattle.meaning.specs.Lemmas.Run.{at-grown, run-sound, ref-gives}
 use Rattle.meaning.specs.Named.{RuleHyp}
 use Rattle.meaning.specs.Runs.{IfTaken, Throughout, OrLater, Somewhere}
 use Rattle.meaning.specs.Sets.{Sets, Within}
 use Rattle.meaning.specs.Bridge.Asked.{some-same, at-unique}
-use Rattle.meaning.specs.Bridge.Well.{WellRule, WellTheory, Agree, Extends, Well, app-form, extends-same, extends-both, agree-extends}
+use Rattle.meaning.specs.Bridge.Well.{WellTheory, Agree, Extends, Well, app-form, extends-same, extends-both, agree-extends}
 use Rattle.meaning.specs.Bridge.Refs.{calm-free}
-use Rattle.meaning.specs.Bridge.Ends.{Ends, done, stopped}
+use Rattle.meaning.specs.Bridge.Ends.{Ends, done}
 use Rattle.meaning.specs.Bridge.Took.{Kept, resting, Settled, Took, Post}
 
 -- Definitions -----------------------------------------------------------------------------------------------------------------------
@@ -177,7 +177,7 @@ module _ (K : Sets) (f : Sexp → Act State (Unit {0})) (C : State → Sexp → 
           (endOf {S = State} (elim o as (λ _. Judged State) [ ok a u ↦ through f t (suc k) u | refuse n d u ↦ refused n d k S ]))
       go (ok a u) (done h) c b r =
           let one = passed-step K T vs (B S x) S u g (h .kept)
-              (h .took vs (g .well) (c .0) (agree-extends vs (u .vars) (endOf (through f t (suc k) u) .vars) (run-extends t (suc k) u) b)) in
+          (h .took vs (g .well) (c .0) (agree-extends vs (u .vars) (endOf (through f t (suc k) u) .vars) (run-extends t (suc k) u) b)) in
           passed-both K T vs (B S x) (λ n i. Somewhere (λ U y. B U y n i) f t u) S u (endOf (through f t (suc k) u)) one (r u (one .good) (c .1) b)
       go (refuse n d u) h c b r = passed-none K T vs (λ n i. ⊥) (λ n i b. b) S g
 

@@ -2,21 +2,21 @@
 use Prim.Native.Nat.{ℕ, zero, suc}
 use mathlib.Core.Path.{_≡_, refl, sym, _∙_, ap, subst}
 use mathlib.Core.Logic.{_⊎_, inl, inr}
-use mathlib.Core.Bool.{Bool, true, false, _&&_, not}
+use mathlib.Core.Bool.{true, false, not}
 use mathlib.Core.Option.{Option, some, none as nothing}
 use mathlib.Core.List.{List, [], _∷_}
 use lib.Dec.{eqb}
 use lib.ListN.{length}
-use Rattle.rules.specs.Out.{Out, ok, refuse, then, Act, ask, found, get, put}
-use Rattle.rules.specs.Sexp.{Sexp, Sexps, atom, list, count, item, name, items}
+use Rattle.rules.specs.Out.{then}
+use Rattle.rules.specs.Sexp.{Sexp, Sexps, atom, list, count, item}
 use Rattle.rules.specs.Find.{entry, all, change}
-use Rattle.rules.specs.Tree.{Tree, Trees, sameTree, among}
+use Rattle.rules.specs.Tree.{Trees, sameTree, among}
 use Rattle.rules.specs.Store.{Made}
 use Rattle.rules.specs.State.{State, Fact, Goal, goalNamed, isPlain, isEmpty}
 use Rattle.rules.specs.Reference.{Ref, instance, reference}
 use Rattle.rules.specs.Tags.{Tag, aVar, aDef, aStep, aHyp, aRuleHyp, anInduct, anInductWith, anApply, anInvert, aResult, proofTag}
-use Rattle.rules.specs.Forms.{withMade, withGoals, making, listed, takenGoal, result, next, perform, takeForm}
-use Rattle.meaning.specs.Trees.Tree.{In, Among}
+use Rattle.rules.specs.Forms.{withMade, listed, takenGoal, result, next, perform, takeForm}
+use Rattle.meaning.specs.Trees.Tree.{Among}
 use Rattle.meaning.specs.Trees.Tests.{true-false, sameTree-true, among-true}
 use Rattle.meaning.specs.Unification.Acts.{Ok, done as fine, ok-then, ok-any}
 use Rattle.meaning.specs.Truth.{At, Plain}
@@ -24,10 +24,10 @@ use Rattle.meaning.specs.Lemmas.Forms.{Ref as RefForm}
 use Rattle.meaning.specs.Named.{Points, Refers, NamesAs, tagOf, Names, RuleHyp, Calm, GoalAt, ResultAs, ResultOf}
 use Rattle.meaning.specs.Sets.{Sets, RuleAs, CitesAs, Tagged, Respects, Within}
 use Rattle.meaning.specs.Bridge.Asked.{no-some, some-same, both-true, ok-ask, ok-index, entry-at, all-in}
-use Rattle.meaning.specs.Bridge.Well.{Agree, Well, extends-same}
+use Rattle.meaning.specs.Bridge.Well.{Well, extends-same}
 use Rattle.meaning.specs.Bridge.Refs.{calm-free, Citable, Free-of-rules, RefOk, reference-ok}
 use Rattle.meaning.specs.Bridge.Apply.{is-plain}
-use Rattle.meaning.specs.Bridge.Ends.{Ends, done, stopped, Keeps, ends-map, keeping, keeps-ask, keeps-found, keeps-name, keeps-items, keeps-index, making-then}
+use Rattle.meaning.specs.Bridge.Ends.{Ends, done, Keeps, ends-map, keeping, keeps-ask, keeps-found, keeps-name, keeps-items, keeps-index, making-then}
 use Rattle.meaning.specs.Bridge.Took.{resting, Settled, Took, Post, ok-all}
 use Rattle.meaning.specs.Bridge.Proof.{Clear, After, add-var-ok, add-def-ok, add-hyp-ok, add-rule-hyp-ok, add-step-ok, add-apply-ok, add-induct-ok, add-induct-with-ok, add-invert-ok}
 

@@ -1,31 +1,31 @@
 -- What one form of the proof does to the state: the theory stays, variables are added at the end, at most one fact is added, by a form whose
 -- tests held, and a goal is taken by a reference that gives it. Definitions, and the changes that storing makes.
-use Prim.Native.Nat.{ℕ, zero, suc, _+_, _<_, _≤_}
+use Prim.Native.Nat.{ℕ, suc, _+_, _<_, _≤_}
 use native.Mathlib.Omega.{arith}
-use mathlib.Core.Path.{_≡_, refl, sym, _∙_, ap, subst}
+use mathlib.Core.Path.{_≡_, refl, sym, _∙_, subst}
 use mathlib.Core.Logic.{_⊎_, inl, inr}
-use mathlib.Core.Bool.{Bool, true, false}
-use mathlib.Core.Option.{Option, some, none as nothing}
-use mathlib.Core.List.{List, [], _∷_, _++_}
+use mathlib.Core.Bool.{true, false}
+use mathlib.Core.Option.{some}
+use mathlib.Core.List.{List, [], _∷_}
 use lib.Dec.{ltb, leb}
 use lib.ListN.{length, length-append}
 use Rattle.rules.specs.Limits.{FACTS, ENTRIES}
-use Rattle.rules.specs.Out.{Out, ok, refuse, then, Act, room, get, put}
+use Rattle.rules.specs.Out.{Out, ok, refuse, then}
 use Rattle.rules.specs.Find.{entry}
-use Rattle.rules.specs.Tree.{Tree, Trees, var, app, none, more}
+use Rattle.rules.specs.Tree.{Tree, var, app, none}
 use Rattle.rules.specs.Store.{Made}
 use Rattle.rules.specs.Theory.{Theory}
-use Rattle.rules.specs.State.{State, Fact, Goal, Counts, Var, Def, sortOfVar, sortOf, abbreviated, entries, factEntries}
-use Rattle.rules.specs.Forms.{withMade, withVars, withDefs, withGoals, withFacts, plus, addFact}
-use Rattle.meaning.specs.Trees.Tree.{Occ, Sorted, In, Among}
+use Rattle.rules.specs.State.{State, Fact, Goal, Counts, Var, sortOf, entries, factEntries}
+use Rattle.rules.specs.Forms.{withMade, withVars, withFacts, plus, addFact}
+use Rattle.meaning.specs.Trees.Tree.{Occ, In, Among}
 use Rattle.meaning.specs.Unification.Acts.{Ok, done as fine, stopped as over, of-ok}
 use Rattle.meaning.specs.Sets.{Sets}
 use Rattle.meaning.specs.Truth.{At, Plain}
 use Rattle.meaning.specs.Lemmas.Forms.{grown, Ref as RefForm, Form}
-use Rattle.meaning.specs.Lemmas.Run.{at-grown, at-last, at-split}
-use Rattle.meaning.specs.Bridge.Well.{Typed, WellFact, Agree, Extends, Well, typed-more, fact-more, extends-same, extends-length}
+use Rattle.meaning.specs.Lemmas.Run.{at-split}
+use Rattle.meaning.specs.Bridge.Well.{Typed, WellFact, Agree, Extends, Well, typed-more, fact-more, extends-length}
 use Rattle.meaning.specs.Bridge.Step.{Fine}
-use Rattle.meaning.specs.Bridge.Ends.{Ends, done, stopped, ends-then, keeping, keeps-room}
+use Rattle.meaning.specs.Bridge.Ends.{Ends, done, keeping, keeps-room}
 
 -- Definitions -----------------------------------------------------------------------------------------------------------------------
 

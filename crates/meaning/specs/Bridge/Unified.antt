@@ -62,7 +62,7 @@ tried-below S I R rf N l m =
     past _ _ λ ts v e. past _ _ λ t w f.
     fine (
       subst (λ z. Below (length (r .1 .vars)) z) (sym (substitute-answer (renaming (r .0)) (R .conclusion) t v w f .0))
-      (conclusion-below (S .theory) R rf (length (r .1 .vars)) (r .0) (h .below) (h .many)),
+          (conclusion-below (S .theory) R rf (length (r .1 .vars)) (r .0) (h .below) (h .many)),
       let q = longer-length (h .longer) in omega arith,
     )
 
@@ -70,13 +70,12 @@ tried-below S I R rf N l m =
 pub comes-below : (S : State) → BoundedCheck S → (xs : Sexps) (n : ℕ) (s t : Tree) (u : Made) → Comes S xs n s t u → Below n s × Below n t
 comes-below S h xs n s t u c =
     let turns = turn-there S (c .inversion) (h .theory) (itsRules S (c .inversion)) (rules-of-below (S .theory) (predicateOf (c .inversion .hypothesis)))
-        (firstNames S) (c .before) (omega arith) (c .rule) (c .names) (c .made) (c .turn) in
+    (firstNames S) (c .before) (omega arith) (c .rule) (c .names) (c .made) (c .turn) in
     let tries = of-ok (tried-below S (c .inversion) (c .rule) (turns .0) (c .names) (turns .1) (c .made)) (c .tries) in
-    let m = length (c .trial .names .vars) in
-    (
+    let m = length (c .trial .names .vars) in (
       rw (c .unifies .0, c .unifies .1)
-      (below-up (length (S .vars)) m (tries .1) (c .inversion .hypothesis)
-      (of-ok (asked-below (length (S .vars)) S (h .bounded .trees) xs (S .made)) (c .asks))),
+          (below-up (length (S .vars)) m (tries .1) (c .inversion .hypothesis)
+          (of-ok (asked-below (length (S .vars)) S (h .bounded .trees) xs (S .made)) (c .asks))),
       rw (c .unifies .0, c .unifies .2) (tries .0),
     )
 

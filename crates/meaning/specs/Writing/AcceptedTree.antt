@@ -1,13 +1,13 @@
 -- Every derivation over a theory that a text declares has texts of its own, and these are accepted exactly when they are inside the limits;
 -- a derivation of so many nodes that an index does not fit 64 bits is refused by 2. So a written derivation is no more and no less than a
 -- derivation. Assumes nothing.
-use Prim.Native.Nat.{ℕ, suc, _+_, _^_, _≤_, _<_}
+use Prim.Native.Nat.{ℕ, suc, _^_, _≤_, _<_}
 use native.Mathlib.Omega.{arith}
 use native.Mathlib.Decide.{decLt}
 use mathlib.Core.Path.{_≡_, subst}
 use mathlib.Core.Logic.{inl}
 use mathlib.Core.Bool.{Bool, true, false, _&&_}
-use mathlib.Core.List.{List, [], _∷_, _++_}
+use mathlib.Core.List.{List, [], _∷_}
 use lib.ListN.{length, length-append}
 use borrow.Author.Tests.{lt-leb}
 use Rattle.rules.specs.Limits.{LENGTH}

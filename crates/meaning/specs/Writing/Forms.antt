@@ -181,13 +181,17 @@ module _ (T : Theory) (w : WellFormed T) (nm : Named T) (n : List ℕ) (j : Tree
   pub goal-taken : (b : Bool) (x : Sexp) → bare x ≡ theGoal b T n j → (q : ℕ) × GoalTook T q n j (make j []) (takeGoal x (begin T))
   unfolding theGoal
   goal-taken false x e =
-      let h = three x (bytes "goal") n (judgmentForm T j) e in
-      (h .second, goal-from (h .second) _ (ap (λ y. takeGoal y (begin T)) (h .is) ∙ goal-begins T n j (h .first) (h .second) (h .third) (make j [])
-      (judgment-begins (h .third) (h .thirds))))
+      let h = three x (bytes "goal") n (judgmentForm T j) e in (
+        h .second,
+        goal-from (h .second) _ (ap (λ y. takeGoal y (begin T)) (h .is) ∙ goal-begins T n j (h .first) (h .second) (h .third) (make j [])
+            (judgment-begins (h .third) (h .thirds))),
+      )
   goal-taken true x e =
-      let h = four x (bytes "goal") n (judgmentForm T j) e in
-      (h .second, goal-from (h .second) _ (ap (λ y. takeGoal y (begin T)) (h .is) ∙ goal-begins-listing T n j (h .first) (h .second) (h .fourth) (make j [])
-      (judgment-begins (h .fourth) (h .fourths))))
+      let h = four x (bytes "goal") n (judgmentForm T j) e in (
+        h .second,
+        goal-from (h .second) _ (ap (λ y. takeGoal y (begin T)) (h .is) ∙ goal-begins-listing T n j (h .first) (h .second) (h .fourth) (make j [])
+            (judgment-begins (h .fourth) (h .fourths))),
+      )
 
 -- A step --------------------------------------------------------------------------------------------------------------------------
 

@@ -9,6 +9,7 @@ use mathlib.Core.Option.{some}
 use mathlib.Core.List.{List, [], _∷_, _++_, append-assoc, append-nil}
 use lib.ListN.{length, length-append}
 use Rattle.rules.specs.Find.{entry}
+use Rattle.rules.specs.Laws.Entry.{entry-front}
 use Rattle.rules.specs.Tree.{Tree, Trees, none, more, sub, subs}
 use Rattle.rules.specs.Theory.{Theory, noTheory, rule}
 use Rattle.rules.specs.Text.{plain}
@@ -50,12 +51,6 @@ unfoldable mutual
 -- Lists ---------------------------------------------------------------------------------------------------------------------------
 
 module _ {A : Type 0} where
-  entry-front : (xs ys : List A) (i : ℕ) (x : A) → entry xs i ≡ some x → entry (xs ++ ys) i ≡ some x
-  unfolding entry
-  entry-front [] ys i x e = absurd (no-some e)
-  entry-front (y ∷ xs) ys zero x e = e
-  entry-front (y ∷ xs) ys (suc i) x e = entry-front xs ys i x e
-
   entry-seam : (xs : List A) (x : A) (i : ℕ) → i ≡ length xs → entry (xs ++ (x ∷ [])) i ≡ some x
   unfolding entry
   entry-seam [] x zero e = refl
