@@ -146,7 +146,10 @@ result-ok K xs S =
         facts = inl refl;
         goals = λ i h q t. elim (entry-change (S .goals) k takenGoal i h q) [
           | inl p ↦ inl p
-          | inr p ↦ inr (o (inl tt) .0, (subst (λ z. GoalAt (S .goals) (item xs 1) z) p (named (S .goals) (item xs 1) (ei .0) (n .bytes) k (ei .1) ek), o (inl tt) .1))
+          | inr p ↦ inr (
+            o (inl tt) .0,
+            (subst (λ z. GoalAt (S .goals) (item xs 1) z) p (named (S .goals) (item xs 1) (ei .0) (n .bytes) k (ei .1) ek), o (inl tt) .1),
+          )
         ];
         settles = λ i j b. subst (λ z. (h : Goal) × (entry (change (S .goals) k takenGoal) z ≡ some h) × Settled K (S .theory) vs (S .facts) j h)
             (goal-one (S .goals) (item xs 1) k i (named (S .goals) (item xs 1) (ei .0) (n .bytes) k (ei .1) ek) (b .0))
@@ -224,6 +227,7 @@ take-form-ok K x S =
     keeping _ (keeps-found 30 (proofTag (n .bytes) (count xs)) S) (λ t et.
     ends-map (λ _ S′ h. record {
       kept = h .kept;
-      took = λ vs w c a. took-by (λ k i. tagged S x xs (ei .0) (n .bytes) t ex (ei .1) et k i) (h .took vs w (clear-of K S x xs (ei .0) (n .bytes) t ex (ei .1) et c) a);
+      took = λ vs w c a. took-by (λ k i. tagged S x xs (ei .0) (n .bytes) t ex (ei .1) et k i)
+          (h .took vs w (clear-of K S x xs (ei .0) (n .bytes) t ex (ei .1) et c) a);
     })
     (perform-ok K t xs S))))

@@ -122,7 +122,8 @@ add-fact f c S =
     keeping _ (keeps-room 13 (leb (entries S + factEntries f) ENTRIES) S) (λ _ _. done refl))
 
 -- a fact that is fine, stored behind the made trees and variables of its form
-pub fact-post : {By : ℕ → ℕ → Type 0} {C : Type 0} (K : Sets) → ((k i : ℕ) → ¬ (By k i)) → (S : State) (m : Made) (xs : List Var) → Extends (S .vars) xs → (f : Fact) (c : Counts)
+pub fact-post : {By : ℕ → ℕ → Type 0} {C : Type 0} (K : Sets) → ((k i : ℕ) → ¬ (By k i)) → (S : State) (m : Made) (xs : List Var)
+    → Extends (S .vars) xs → (f : Fact) (c : Counts)
     → ((vs : ℕ → ℕ) (w : Well S vs) → C → Agree vs xs → Fine K S vs w f)
     → Post K By C S (withFacts (withVars (withMade S m) xs) (grown (S .facts) f) c)
 fact-post K void S m xs e f c h = record {

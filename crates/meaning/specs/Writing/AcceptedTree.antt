@@ -120,5 +120,6 @@ module _ (t : List ℕ) (T : Theory) (k : ℕ) (taken : whole declare (read t) n
     | no large ↦
         let l : 2 ^ 64 ≤ below d = omega arith in
         let r = tree-large l in
-        out treeFits (suc (below d)) (check t goals proof .answer) (r .0) (and-false (short t && (short goals && short proof)) _ (large-long l)) (r .1) (inl (r .2))
+        out treeFits (suc (below d)) (check t goals proof .answer) (r .0) (and-false (short t && (short goals && short proof)) _ (large-long l)) (r .1)
+        (inl (r .2))
   ]

@@ -61,8 +61,10 @@ mutual
 
   pub variables-belows : (n : ℕ) (ts : Trees) → ((v : ℕ) → variablesOf ts v ≡ true → v < n) → Belows n ts
   variables-belows n none h = tt
-  variables-belows n (more t ts) h =
-      (variables-below n t (λ v e. h v (left (variables t v) (variablesOf ts v) e)), variables-belows n ts (λ v e. h v (right (variables t v) (variablesOf ts v) e)))
+  variables-belows n (more t ts) h = (
+    variables-below n t (λ v e. h v (left (variables t v) (variablesOf ts v) e)),
+    variables-belows n ts (λ v e. h v (right (variables t v) (variablesOf ts v) e)),
+  )
     where
       left : (a b : Bool) → a ≡ true → elim a as (λ _. Bool) [ true ↦ true | false ↦ b ] ≡ true
       left true b e = refl
@@ -178,12 +180,14 @@ module _ {S : Type 0} {R : S → Type 0} where
     by-room n true f r k = k refl
     by-room n false f r k = off r
 
-    pub by-found : {A : Type 0} (n : ℕ) (o : Option A) (f : A → S → Out S B) → R s → ((a : A) → o ≡ some a → Leaves P R (f a s)) → Leaves P R (then (found n o s) f)
+    pub by-found : {A : Type 0} (n : ℕ) (o : Option A) (f : A → S → Out S B) → R s
+        → ((a : A) → o ≡ some a → Leaves P R (f a s)) → Leaves P R (then (found n o s) f)
     unfolding then
     by-found n (some a) f r k = k a refl
     by-found n nothing f r k = off r
 
-    pub by-either : (b : Bool) (f g : S → Out S B) → Leaves P R (f s) → Leaves P R (g s) → Leaves P R ((elim b as (λ (z : Bool). Act S B) [ true ↦ f | false ↦ g ]) s)
+    pub by-either : (b : Bool) (f g : S → Out S B) → Leaves P R (f s) → Leaves P R (g s)
+        → Leaves P R ((elim b as (λ (z : Bool). Act S B) [ true ↦ f | false ↦ g ]) s)
     by-either true f g h k = h
     by-either false f g h k = k
 

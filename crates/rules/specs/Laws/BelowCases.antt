@@ -37,11 +37,11 @@ use Rattle.rules.specs.Laws.BelowRead.{FactBelow, StateBelow, state-up, 
 abbrev pub AllBelow : ℕ → List ℕ → Type 0
 AllBelow n vs = All (λ v. v < n) vs
 
-ask-bounds : (n k : ℕ) (b : Bool) (m : Made) → MadeBelow n m → Bounds n (λ a. Unit {0}) (ask k b m)
+pub ask-bounds : (n k : ℕ) (b : Bool) (m : Made) → MadeBelow n m → Bounds n (λ a. Unit {0}) (ask k b m)
 ask-bounds n k true m g = fine (g, tt)
 ask-bounds n k false m g = off g
 
-keep-vars-below : (n : ℕ) (vs : List ℕ) (m : Made) → MadeBelow n m → AllBelow n vs → Bounds n (Belows n) (keepVars vs m)
+pub keep-vars-below : (n : ℕ) (vs : List ℕ) (m : Made) → MadeBelow n m → AllBelow n vs → Bounds n (Belows n) (keepVars vs m)
 unfolding keepVars Below
 keep-vars-below n [] m g h = fine (g, tt)
 keep-vars-below n (v ∷ vs) m g (both l h) =
@@ -49,7 +49,7 @@ keep-vars-below n (v ∷ vs) m g (both l h) =
 
 -- Induction -------------------------------------------------------------------------------------------------------------------------
 
-case-vars-there : (S : State) (M : Motive) (xs : Sexps) (ss vs : List ℕ) (m : Made) → AllBelow (length (S .vars)) vs
+pub case-vars-there : (S : State) (M : Motive) (xs : Sexps) (ss vs : List ℕ) (m : Made) → AllBelow (length (S .vars)) vs
     → Ok (λ ws u. AllBelow (length (S .vars)) ws) (caseVars S M xs ss vs m)
 unfolding caseVars variable
 case-vars-there S M nil ss vs m h = outs.fine h
@@ -60,16 +60,16 @@ case-vars-there S M (cons x xs) (s ∷ ss) vs m h =
     outs.by-ask 42 (eqb (sortOfVar (S .vars) v) s && (not (motiveVars M v) && not (has vs v))) m _ λ k.
     case-vars-there S M xs ss (vs ++ (v ∷ [])) m (all-snoc h (var-named-below (S .vars) (a .bytes) v f)))
 
-hyp-list-there : (p : Fact → Bool) (S : State) (x : Sexp) (m : Made) → Ok (λ hs u. AllBelow (length (S .facts)) hs) (hypList p S x m)
+pub hyp-list-there : (p : Fact → Bool) (S : State) (x : Sexp) (m : Made) → Ok (λ hs u. AllBelow (length (S .facts)) hs) (hypList p S x m)
 unfolding hypList
 hyp-list-there p S x m = past _ _ λ xs a e. past _ _ λ hs b f. outs.fine (rising-all-of (length (S .facts)) (has hs) (λ v l t. l))
 
-record MotiveBelow (n : ℕ) (M : Motive) : Type 0 where
-  judgment : Below n (M .judgment)
-  premises : Belows n (M .premises)
+pub record MotiveBelow (n : ℕ) (M : Motive) : Type 0 where
+  pub judgment : Below n (M .judgment)
+  pub premises : Belows n (M .premises)
 
 module _ (n : ℕ) (M : Motive) (mb : MotiveBelow n M) where
-  hypothesis-below : (v : ℕ) (m : Made) → MadeBelow n m → v < n → Bounds n (λ h. Unit {0}) (hypothesisAt M v m)
+  pub hypothesis-below : (v : ℕ) (m : Made) → MadeBelow n m → v < n → Bounds n (λ h. Unit {0}) (hypothesisAt M v m)
   unfolding hypothesisAt Below
   hypothesis-below v m g l =
       by-then _ _ (keep-below n (var v) m g l) λ y u p.
@@ -77,7 +77,7 @@ module _ (n : ℕ) (M : Motive) (mb : MotiveBelow n M) where
       by-then _ _ (substitute-below n (single (M .variable) y) (single-below n (M .variable) y (p .1)) (M .judgment) w (q .0) (mb .judgment)) λ j z r.
       fine (r .0, tt)
 
-  hypotheses-below : (vs ss : List ℕ) (m : Made) → MadeBelow n m → AllBelow n vs → Bounds n (λ h. Unit {0}) (hypotheses M vs ss m)
+  pub hypotheses-below : (vs ss : List ℕ) (m : Made) → MadeBelow n m → AllBelow n vs → Bounds n (λ h. Unit {0}) (hypotheses M vs ss m)
   unfolding hypotheses
   hypotheses-below [] ss m g h = fine (g, tt)
   hypotheses-below (v ∷ vs) [] m g h = fine (g, tt)
@@ -87,7 +87,7 @@ module _ (n : ℕ) (M : Motive) (mb : MotiveBelow n M) where
       (hypotheses-below vs ss m g h)
 
   module _ (S : State) (low : StateBelow n S) where
-    induct-case-below : (x : Sexp) (c : ℕ) (m : Made) → MadeBelow n m → Bounds n (λ a. Unit {0}) (inductCase S M x c m)
+    pub induct-case-below : (x : Sexp) (c : ℕ) (m : Made) → MadeBelow n m → Bounds n (λ a. Unit {0}) (inductCase S M x c m)
     unfolding inductCase Below
     induct-case-below x c m g =
         by-still _ _ g (items-still 41 x) λ ys e.
@@ -107,14 +107,14 @@ module _ (n : ℕ) (M : Motive) (mb : MotiveBelow n M) where
         there ys vs e =
             all-map (λ v l. let k = low .vars in omega arith) (of-ok (case-vars-there S M (rest ys 1) (inputs (S .theory) c) [] m empty) e)
 
-    induct-cases-below : (xs : Sexps) (cs : List ℕ) (m : Made) → MadeBelow n m → Bounds n (λ a. Unit {0}) (inductCases S M xs cs m)
+    pub induct-cases-below : (xs : Sexps) (cs : List ℕ) (m : Made) → MadeBelow n m → Bounds n (λ a. Unit {0}) (inductCases S M xs cs m)
     unfolding inductCases
     induct-cases-below nil cs m g = fine (g, tt)
     induct-cases-below (cons x xs) [] m g = fine (g, tt)
     induct-cases-below (cons x xs) (c ∷ cs) m g = by-then _ _ (induct-case-below x c m g) λ a u p. induct-cases-below xs cs u (p .0)
 
 module _ (n : ℕ) (S : State) (low : StateBelow n S) where
-  induct-on-below : (x : ℕ) (hs : List ℕ) (y z : Sexp) (m : Made) → MadeBelow n m → AllBelow (length (S .facts)) hs
+  pub induct-on-below : (x : ℕ) (hs : List ℕ) (y z : Sexp) (m : Made) → MadeBelow n m → AllBelow (length (S .facts)) hs
       → Bounds n (FactBelow n) (inductOn S x hs y z m)
   unfolding inductOn Below
   induct-on-below x hs y z m g h =
@@ -229,7 +229,7 @@ renamed-renames S I R nothing N m h l =
       longer = of-ok (make-vars-longer (R .vars) (N .vars) m) e;
     })
 
-renaming-below : (n k : ℕ) (xs : List ℕ) → AllBelow n xs → length xs ≡ k → (i : ℕ) → i < k → Below n (renaming xs i)
+pub renaming-below : (n k : ℕ) (xs : List ℕ) → AllBelow n xs → length xs ≡ k → (i : ℕ) → i < k → Below n (renaming xs i)
 unfolding renaming Below
 renaming-below n k xs b e i l = all-at xs i 0 b (omega arith)
 
@@ -242,7 +242,7 @@ conclusion-below T R h n xs b e =
 
 -- Inversion ---------------------------------------------------------------------------------------------------------------------------
 
-without-values : (n : ℕ) (vs : List ℕ) (θ : List Binding) → ValuesBelow n θ → ValuesBelow n (without vs θ)
+pub without-values : (n : ℕ) (vs : List ℕ) (θ : List Binding) → ValuesBelow n θ → ValuesBelow n (without vs θ)
 unfolding without
 without-values n vs [] h = empty
 without-values n vs (b ∷ θ) (both p h) = go (has vs (b .variable)) (without-values n vs θ h)
@@ -251,7 +251,7 @@ without-values n vs (b ∷ θ) (both p h) = go (has vs (b .variable)) (without-v
     go true q = q
     go false q = both p q
 
-rule-premises-below : (n k : ℕ) (ρ θ : ℕ → Tree) → ((v : ℕ) → v < k → Below n (ρ v)) → ((v : ℕ) → v < n → Below n (θ v)) → (ps : Trees) (m : Made)
+pub rule-premises-below : (n k : ℕ) (ρ θ : ℕ → Tree) → ((v : ℕ) → v < k → Below n (ρ v)) → ((v : ℕ) → v < n → Below n (θ v)) → (ps : Trees) (m : Made)
     → MadeBelow n m → Belows k ps → Bounds n (λ a. Unit {0}) (rulePremises ρ θ ps m)
 unfolding rulePremises Below
 rule-premises-below n k ρ θ r s none m g h = fine (g, tt)
@@ -260,7 +260,7 @@ rule-premises-below n k ρ θ r s (more p ps) m g h =
     by-then _ _ (substitute-below n θ s t u (a .0) (a .1)) λ x w b.
     by-then _ _ (rule-premises-below n k ρ θ r s ps w (b .0) (h .1)) λ us v c. fine (c .0, tt)
 
-context-fact-below : (n : ℕ) (θ : List Binding) (f : Fact) (m : Made) → MadeBelow n m → ValuesBelow n θ → FactBelow n f
+pub context-fact-below : (n : ℕ) (θ : List Binding) (f : Fact) (m : Made) → MadeBelow n m → ValuesBelow n θ → FactBelow n f
     → Bounds n (λ a. Unit {0}) (contextFact θ f m)
 unfolding contextFact
 context-fact-below n θ f m g h k =
@@ -276,11 +276,11 @@ pub record InversionBelow (n : ℕ) (I : Inversion) : Type 0 where
   pub hypothesis : Below n (I .hypothesis)
   pub judgment : Below n (I .judgment)
 
-inversion-up : (n k : ℕ) → n ≤ k → (I : Inversion) → InversionBelow n I → InversionBelow k I
+pub inversion-up : (n k : ℕ) → n ≤ k → (I : Inversion) → InversionBelow n I → InversionBelow k I
 inversion-up n k l I h = record { hypothesis = below-up n k l (I .hypothesis) (h .hypothesis); judgment = below-up n k l (I .judgment) (h .judgment) }
 
 module _ (n : ℕ) (S : State) (low : StateBelow n S) where
-  context-facts-below : (θ : List Binding) (hs : List ℕ) (m : Made) → MadeBelow n m → ValuesBelow n θ → Bounds n (λ a. Unit {0}) (contextFacts S θ hs m)
+  pub context-facts-below : (θ : List Binding) (hs : List ℕ) (m : Made) → MadeBelow n m → ValuesBelow n θ → Bounds n (λ a. Unit {0}) (contextFacts S θ hs m)
   unfolding contextFacts
   context-facts-below θ [] m g h = fine (g, tt)
   context-facts-below θ (i ∷ is) m g h =
@@ -290,7 +290,7 @@ module _ (n : ℕ) (S : State) (low : StateBelow n S) where
 
   module _ (I : Inversion) (inv : InversionBelow n I) (R : Rule) (rf : RuleFormed (S .theory) R) (xs : List ℕ) (b : AllBelow n xs)
       (e : length xs ≡ length (R .vars)) where
-    invert-case-below : (θ : List Binding) (c : Case) (m : Made) → MadeBelow n m → ValuesBelow n θ
+    pub invert-case-below : (θ : List Binding) (c : Case) (m : Made) → MadeBelow n m → ValuesBelow n θ
         → Bounds n (λ a. Unit {0}) (invertCase S I R (renaming xs) θ c m)
     unfolding invertCase
     invert-case-below θ c m g h =
@@ -302,7 +302,7 @@ module _ (n : ℕ) (S : State) (low : StateBelow n S) where
         by-ask 43 (sameTree (f .judgment) j) _ (r .0) λ k.
         ask-bounds n 44 (all (λ h. allowedIn (az ++ bs) (entry (S .facts) h)) (f .hyps)) v (r .0)
 
-    case-or-not-below : (θ : Option (List Binding)) (c : Option Case) (m : Made) → MadeBelow n m → UnifierBelow n θ
+    pub case-or-not-below : (θ : Option (List Binding)) (c : Option Case) (m : Made) → MadeBelow n m → UnifierBelow n θ
         → Bounds n (λ a. Unit {0}) (caseOrNot S I R (renaming xs) θ c m)
     unfolding caseOrNot UnifierBelow
     case-or-not-below nothing nothing m g h = fine (g, tt)
@@ -319,7 +319,8 @@ unfolding every
 every-below p [] k = empty
 every-below p (x ∷ xs) k = go (p x) (all-map (λ v l. omega arith) (every-below p xs (suc k)))
   where
-    go : (b : Bool) → AllBelow (k + suc (length xs)) (every p xs (suc k)) → AllBelow (k + suc (length xs)) (elim b [ true ↦ k ∷ every p xs (suc k) | false ↦ every p xs (suc k) ])
+    go : (b : Bool) → AllBelow (k + suc (length xs)) (every p xs (suc k))
+        → AllBelow (k + suc (length xs)) (elim b [ true ↦ k ∷ every p xs (suc k) | false ↦ every p xs (suc k) ])
     go true h = both {x = k} (omega arith) h
     go false h = h
 
@@ -329,7 +330,7 @@ rules-of-below T p = all-map (λ r l. omega arith) (every-below (λ (r : Rule). 
 
 -- one rule: what is made is below the number of variables that there are behind it; on a refusal, inside row 7
 module _ (S : State) (I : Inversion) where
-  invert-rule-below : (R : Rule) → RuleFormed (S .theory) R → (N : Names) (m : Made) → length (N .vars) ≤ VARIABLES → StateBelow (length (N .vars)) S
+  pub invert-rule-below : (R : Rule) → RuleFormed (S .theory) R → (N : Names) (m : Made) → length (N .vars) ≤ VARIABLES → StateBelow (length (N .vars)) S
       → InversionBelow (length (N .vars)) I → MadeBelow (length (N .vars)) m
       → Leaves (λ M u. MadeBelow (length (M .vars)) u × Longer (N .vars) (M .vars)) (MadeBelow VARIABLES) (invertRule S I R N m)
   unfolding invertRule
@@ -348,7 +349,7 @@ module _ (S : State) (I : Inversion) where
       (λ M u h. subst (λ (L : Names). MadeBelow (length (L .vars)) u × Longer (N .vars) (L .vars)) (sym (h .1)) (h .0, q .longer))
       (λ u h. made-up n VARIABLES (q .longer .row row) u h)
 
-  invert-rules-below : (rs : List ℕ) → AllBelow (length (S .theory .rules)) rs → WellFormed (S .theory) → (N : Names) (m : Made)
+  pub invert-rules-below : (rs : List ℕ) → AllBelow (length (S .theory .rules)) rs → WellFormed (S .theory) → (N : Names) (m : Made)
       → length (N .vars) ≤ VARIABLES → StateBelow (length (N .vars)) S → InversionBelow (length (N .vars)) I → MadeBelow (length (N .vars)) m
       → Leaves (λ M u. MadeBelow (length (M .vars)) u × Longer (N .vars) (M .vars)) (MadeBelow VARIABLES) (invertRules S I rs N m)
   unfolding invertRules

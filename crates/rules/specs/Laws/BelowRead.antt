@@ -78,7 +78,7 @@ judgments-at-below n fs [] a k = tt
 judgments-at-below n fs (h ∷ hs) a (both l k) = (judgment-of-below n fs h a l, judgments-at-below n fs hs a k)
 
 -- plain hypotheses are there
-plain-there : (fs : List Fact) (hs : List ℕ) → all (plainAt fs) hs ≡ true → All (λ h. h < length fs) hs
+pub plain-there : (fs : List Fact) (hs : List ℕ) → all (plainAt fs) hs ≡ true → All (λ h. h < length fs) hs
 unfolding all plainAt
 plain-there fs [] e = empty
 plain-there fs (h ∷ hs) e = go (entry fs h) refl e (plain-there fs hs)
@@ -99,7 +99,7 @@ module _ (n : ℕ) (S : State) (low : StateBelow n S) where
 
   -- Terms and judgments -------------------------------------------------------------------------------------------------------------
 
-  named-below : (x : List ℕ) (m : Made) → MadeBelow n m → Bounds n (Below n) (named S x m)
+  pub named-below : (x : List ℕ) (m : Made) → MadeBelow n m → Bounds n (Below n) (named S x m)
   unfolding named Below
   named-below x m g =
       by-given (varNamed (S .vars) x) _ _
@@ -114,7 +114,7 @@ module _ (n : ℕ) (S : State) (low : StateBelow n S) where
         by-either (marked bs) _ _ (found-bounds n 22 (abbreviated (S .defs) bs) m g (abbreviated-has (Below n) (S .defs) bs (low .defs))) (named-below bs m g)
     term-below (list xs) m g = compound-below xs m g
 
-    compound-below : (xs : Sexps) (m : Made) → MadeBelow n m → Bounds n (Below n) (compound S xs m)
+    pub compound-below : (xs : Sexps) (m : Made) → MadeBelow n m → Bounds n (Below n) (compound S xs m)
     compound-below nil m g = off g
     compound-below (cons x xs) m g =
         by-still _ _ g (name-still 22 x) λ a e.
@@ -123,12 +123,12 @@ module _ (n : ℕ) (S : State) (low : StateBelow n S) where
         by-then _ _ (terms-below xs m g) λ ts u p.
         by-ask 23 (fit (S .theory) (S .vars) ts (inputs (S .theory) c)) _ (p .0) λ j. keep-below n (app c ts) u (p .0) (p .1)
 
-    terms-below : (xs : Sexps) (m : Made) → MadeBelow n m → Bounds n (Belows n) (terms S xs m)
+    pub terms-below : (xs : Sexps) (m : Made) → MadeBelow n m → Bounds n (Belows n) (terms S xs m)
     terms-below nil m g = fine (g, tt)
     terms-below (cons x xs) m g =
         by-then _ _ (term-below x m g) λ t u p. by-then _ _ (terms-below xs u (p .0)) λ ts w q. fine (q .0, (p .1, q .1))
 
-  term-of-below : (x : Sexp) (s : ℕ) (m : Made) → MadeBelow n m → Bounds n (Below n) (termOf S x s m)
+  pub term-of-below : (x : Sexp) (s : ℕ) (m : Made) → MadeBelow n m → Bounds n (Below n) (termOf S x s m)
   unfolding termOf
   term-of-below x s m g = by-then _ _ (term-below x m g) λ t u p. by-ask 23 (eqb (sortOf (S .theory) (S .vars) t) s) _ (p .0) λ e. fine p
 
@@ -141,7 +141,7 @@ module _ (n : ℕ) (S : State) (low : StateBelow n S) where
       by-then _ _ (terms-below (rest xs 1) m g) λ ts u p.
       by-ask 23 (fit (S .theory) (S .vars) ts (inputs (S .theory) c)) _ (p .0) λ e. keep-below n (app c ts) u (p .0) (p .1)
 
-  judgment-each-below : (xs : Sexps) (m : Made) → MadeBelow n m → Bounds n (Belows n) (judgmentEach S xs m)
+  pub judgment-each-below : (xs : Sexps) (m : Made) → MadeBelow n m → Bounds n (Belows n) (judgmentEach S xs m)
   unfolding judgmentEach Below
   judgment-each-below nil m g = fine (g, tt)
   judgment-each-below (cons x xs) m g =
@@ -153,7 +153,7 @@ module _ (n : ℕ) (S : State) (low : StateBelow n S) where
 
   -- References ------------------------------------------------------------------------------------------------------------------------
 
-  binding-below : (x : Sexp) (m : Made) → MadeBelow n m → Bounds n (λ b. Below n (b .value)) (binding S x m)
+  pub binding-below : (x : Sexp) (m : Made) → MadeBelow n m → Bounds n (λ b. Below n (b .value)) (binding S x m)
   unfolding binding
   binding-below x m g =
       by-still _ _ g (items-still 36 x) λ ys e.
@@ -168,7 +168,7 @@ module _ (n : ℕ) (S : State) (low : StateBelow n S) where
       by-then _ _ (binding-below x m g) λ b u p.
       by-ask 36 (not (isBound bs (b .variable))) _ (p .0) λ e. bindings-below xs (insert b bs) u (p .0) (insert-all b bs (p .1) h)
 
-  bracket-below : (xs : Sexps) (m : Made) → MadeBelow n m → Bounds n (λ r. Below n (r .judgment)) (instance S xs m)
+  pub bracket-below : (xs : Sexps) (m : Made) → MadeBelow n m → Bounds n (λ r. Below n (r .judgment)) (instance S xs m)
   unfolding instance
   bracket-below xs m g =
       by-still _ _ g (index-still 34 (item xs 0)) λ i e.
@@ -185,24 +185,24 @@ module _ (n : ℕ) (S : State) (low : StateBelow n S) where
 
   -- Steps -----------------------------------------------------------------------------------------------------------------------------
 
-  references-below : (xs : Sexps) (m : Made) → MadeBelow n m → Bounds n (λ rs. Belows n (rs .judgments)) (references S xs m)
+  pub references-below : (xs : Sexps) (m : Made) → MadeBelow n m → Bounds n (λ rs. Belows n (rs .judgments)) (references S xs m)
   unfolding references Below
   references-below nil m g = fine (g, tt)
   references-below (cons x xs) m g =
       by-then _ _ (reference-below x m g) λ r u p. by-then _ _ (references-below xs u (p .0)) λ rs w q. fine (q .0, (p .1, q .1))
 
   -- the trees of the items
-  record ItemsBelow (it : Items) : Type 0 where
-    bound : Bounded (Below n) (it .bound)
-    stated : (t : Tree) → it .stated ≡ some t → Below n t
+  pub record ItemsBelow (it : Items) : Type 0 where
+    pub bound : Bounded (Below n) (it .bound)
+    pub stated : (t : Tree) → it .stated ≡ some t → Below n t
 
-  no-items : ItemsBelow noItems
+  pub no-items : ItemsBelow noItems
   no-items = record {
     bound = λ v t e. absurd (let z : _≡_ {A = ℕ} 0 1 = cc in omega arith);
     stated = λ t e. absurd (let z : _≡_ {A = ℕ} 0 1 = cc in omega arith);
   }
 
-  bind-item-below : (R : Rule) (x : List ℕ) (y : Sexp) (it : Items) (m : Made) → MadeBelow n m → ItemsBelow it → Bounds n ItemsBelow (bindItem S R x y it m)
+  pub bind-item-below : (R : Rule) (x : List ℕ) (y : Sexp) (it : Items) (m : Made) → MadeBelow n m → ItemsBelow it → Bounds n ItemsBelow (bindItem S R x y it m)
   unfolding bindItem
   bind-item-below R x y it m g h =
       by-found 36 (first (λ v. same (v .name .bytes) x) (R .vars) 0) _ g λ i e.
@@ -210,32 +210,32 @@ module _ (n : ℕ) (S : State) (low : StateBelow n S) where
       by-ask 36 (isNew (it .bound i)) _ (p .0) λ f.
       fine (p .0, record { bound = bind-bounded (Below n) (below-arguments n) (it .bound) i t (h .bound) (p .1); stated = h .stated })
 
-  state-item-below : (x : Sexp) (it : Items) (m : Made) → MadeBelow n m → ItemsBelow it → Bounds n ItemsBelow (stateItem S x it m)
+  pub state-item-below : (x : Sexp) (it : Items) (m : Made) → MadeBelow n m → ItemsBelow it → Bounds n ItemsBelow (stateItem S x it m)
   unfolding stateItem
   state-item-below x it m g h =
       by-then _ _ (judgment-below x m g) λ j u p.
       by-ask 37 (isNew (it .stated)) _ (p .0) λ f.
       fine (p .0, record { bound = h .bound; stated = λ t e. let q : j ≡ t = cc in subst (Below n) q (p .1) })
 
-  read-item-below : (R : Rule) (x : Sexp) (it : Items) (m : Made) → MadeBelow n m → ItemsBelow it → Bounds n ItemsBelow (readItem S R x it m)
+  pub read-item-below : (R : Rule) (x : Sexp) (it : Items) (m : Made) → MadeBelow n m → ItemsBelow it → Bounds n ItemsBelow (readItem S R x it m)
   unfolding readItem
   read-item-below R x it m g h =
       by-still _ _ g (items-still 22 x) λ ys e.
       by-still _ _ g (name-still 22 (item ys 0)) λ a f.
       by-either (marked (a .bytes) && eqb (count ys) 2) _ _ (bind-item-below R (a .bytes) (item ys 1) it m g h) (state-item-below x it m g h)
 
-  read-items-below : (R : Rule) (xs : Sexps) (it : Items) (m : Made) → MadeBelow n m → ItemsBelow it → Bounds n ItemsBelow (readItems S R xs it m)
+  pub read-items-below : (R : Rule) (xs : Sexps) (it : Items) (m : Made) → MadeBelow n m → ItemsBelow it → Bounds n ItemsBelow (readItems S R xs it m)
   unfolding readItems
   read-items-below R nil it m g h = fine (g, h)
   read-items-below R (cons x xs) it m g h = by-then _ _ (read-item-below R x it m g h) λ b u p. read-items-below R xs b u (p .0) (p .1)
 
-  conclude-below : (p : Tree) (o : Option Tree) (b : Bound) (m : Made) → MadeBelow n m → ((t : Tree) → o ≡ some t → Below n t) → Bounded (Below n) b
+  pub conclude-below : (p : Tree) (o : Option Tree) (b : Bound) (m : Made) → MadeBelow n m → ((t : Tree) → o ≡ some t → Below n t) → Bounded (Below n) b
       → Bounds n (Below n) (conclude p o b m)
   unfolding conclude
   conclude-below p (some j) b m g h k = fine (g, h j refl)
   conclude-below p nothing b m g h k = build-below n p b m g k
 
-  matched-below : (R : Rule) (js : Trees) (it : Items) (b c : Bound) → ItemsBelow it → Belows n js
+  pub matched-below : (R : Rule) (js : Trees) (it : Items) (b c : Bound) → ItemsBelow it → Belows n js
       → matchStated (R .conclusion) (it .stated) (it .bound) ≡ some b → matchAll (R .premises) js b ≡ some c → Bounded (Below n) c
   matched-below R js it b c a h e f =
       bounded (Below n) (matchAll (R .premises) js b) c (match-all-bounded (Below n) (below-arguments n) (R .premises) js b
@@ -259,7 +259,7 @@ module _ (n : ℕ) (S : State) (low : StateBelow n S) where
 
   -- Applications ------------------------------------------------------------------------------------------------------------------------
 
-  applied-below : (bs : List Binding) (i : ℕ) (f : Fact) (m : Made) → MadeBelow n m → FactBelow n f
+  pub applied-below : (bs : List Binding) (i : ℕ) (f : Fact) (m : Made) → MadeBelow n m → FactBelow n f
       → Bounds n (λ a. Below n (a .conclusion) × Belows n (a .premises)) (applied S bs i f m)
   unfolding applied
   applied-below bs i f m g h =
@@ -268,7 +268,7 @@ module _ (n : ℕ) (S : State) (low : StateBelow n S) where
       (by-ask 40 (all (plainAt (S .facts)) (f .hyps)) _ g λ e.
       fine (g, (h .judgment, judgments-at-below n (S .facts) (f .hyps) (low .facts) (plain-there (S .facts) (f .hyps) e))))
 
-  discharge-below : (bs : List Binding) → ValuesBelow n bs → (xs : Sexps) (ps : Trees) (m : Made) → MadeBelow n m → Belows n ps
+  pub discharge-below : (bs : List Binding) → ValuesBelow n bs → (xs : Sexps) (ps : Trees) (m : Made) → MadeBelow n m → Belows n ps
       → Bounds n (λ rs. Unit {0}) (discharge S bs xs ps m)
   unfolding discharge Below
   discharge-below bs b nil ps m g h = fine (g, tt)
