@@ -125,7 +125,7 @@ pub facts-firm : (theory goals : List ℕ) (T : Theory) (S : State) → Taken th
     → True T (sortsOf (after forms S)) R (after forms S .facts) f
 facts-firm theory goals T S t K w forms c r = facts-and-goals-firm theory goals T S t K w forms c r .facts
 
--- what CR 5 and CR 12 speak of: i is the fact that the goal's result names
+-- i: the fact that the goal's result names
 pub goals-firm : (theory goals : List ℕ) (T : Theory) (S : State) → Taken theory goals T S → (K : Sets) → Within K T
     → (forms : Text) → Calmly forms S → Respectful K forms S
     → (k : ℕ) (g : Goal) → entry (after forms S .goals) k ≡ some g → (i : ℕ) → Results forms S k i → (R : ℕ → Type 0) → Suffices K i R
@@ -152,8 +152,8 @@ goals-derivable theory goals T S t forms c k g e q n γ v =
 -- Unification -----------------------------------------------------------------------------------------------------------------------
 
 -- For a theory and goals that are taken, behind any list of forms, calm or not, taken or refused: where an inversion comes to unify a
--- hypothesis with a rule's conclusion and finds nothing, no replacement makes them equal. So no rule is passed over that could conclude
--- the hypothesis, and 46 refuses no case of such a rule.
+-- hypothesis with a rule's conclusion and finds nothing, no replacement makes them equal. This rules out that a rule is passed over, or a
+-- case refused by 46, because the number of variables was too low for the steps.
 pub inversions-complete : (theory goals : List ℕ) (T : Theory) (S : State) → Taken theory goals T S → (forms : Text)
     → (xs : Sexps) (n : ℕ) (s t : Tree) (m m′ : Made) → Comes (after forms S) xs n s t m → unify n s t m ≡ ok nothing m′
     → (σ : ℕ → Tree) → ¬ (sub σ s ≡ sub σ t)

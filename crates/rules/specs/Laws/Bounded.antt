@@ -5,6 +5,7 @@
 use Prim.Native.Nat.{ℕ, _+_, _≤_, _<_}
 use mathlib.Core.Path.{_≡_, refl, subst, sym}
 use mathlib.Core.Bool.{_&&_, not}
+use mathlib.Core.Logic.{inl, inr}
 use mathlib.Core.List.{List, [], _∷_, _++_}
 use native.Mathlib.Omega.{arith}
 use lib.Dec.{leb, ltb}
@@ -14,7 +15,7 @@ use Rattle.rules.specs.Out.{Out, ok, refuse, then, Act}
 use Rattle.rules.specs.Sexp.{Sexp, Sexps, Text, count, item, marked}
 use Rattle.rules.specs.Tags.{Tag, aVar, aDef, aStep, aHyp, aRuleHyp, anInduct, anInductWith, anApply, anInvert, aResult, proofTag, GoalForm, aVariable, aGoal, aGoalWith, goalForm}
 use Rattle.rules.specs.Find.{entry, all, change}
-use Rattle.rules.specs.Tree.{Tree, Trees, none, sameTree, countTrees}
+use Rattle.rules.specs.Tree.{Tree, Trees, none, more, sameTree, countTrees}
 use Rattle.rules.specs.Store.{Made}
 use Rattle.rules.specs.Theory.{Theory}
 use Rattle.rules.specs.Declare.{isNew}
@@ -29,9 +30,12 @@ use Rattle.rules.specs.Loop.{through, whole}
 use Rattle.rules.specs.Forms.{withMade, withVars, withDefs, withGoals, making, addDef, addGoal, goal, takeGoal, addFact, oneHypothesis, oneInduction, oneInversion, someInstances, addHyp, addRuleHyp, addStep, addApply, addInduct, addInductWith, addInvert, listed, takenGoal, result, perform, takeForm}
 use Rattle.rules.specs.Check.{check}
 use Rattle.rules.specs.Laws.Out.{Ok, fine, off, by-name, by-items, by-ask, by-room, by-found}
-use Rattle.rules.specs.Laws.Theory.{empty, all-snoc, WellFormed}
+use Rattle.rules.specs.Laws.Theory.{empty, both, all-snoc, all-map, WellFormed}
 use Rattle.rules.specs.Laws.Entry.{change-all}
+use Rattle.rules.specs.Laws.Keeping.{Each}
 use Rattle.rules.specs.Laws.Still.{vars-list-still}
+use Rattle.rules.specs.Laws.ReadWalk.{Ready}
+use Rattle.rules.specs.Laws.Made.{In, sound}
 use Rattle.rules.specs.Laws.CaseWalk.{Longer, same-vars}
 use Rattle.rules.specs.Laws.Form.{grown, entriesSoFar, go-on, from-still, next-still, add-var-takes}
 use Rattle.rules.specs.Laws.Appends.{take-goal-appends, take-form-appends}
@@ -46,6 +50,29 @@ pub record BoundedState (S : State) : Type 0 where
   pub row7 : length (S .vars) ≤ VARIABLES
   pub made : MadeBelow (length (S .vars)) (S .made)
   pub trees : StateBelow (length (S .vars)) S
+
+-- Trees among the made ones ---------------------------------------------------------------------------------------------------------
+
+pub made-in : (n : ℕ) (m : Made) (t : Tree) → MadeBelow n m → In t m → Below n t
+unfolding In
+made-in n [] t h i = absurd i
+made-in n (u ∷ m) t (both p h) (inl e) = subst (Below n) (sym e) p
+made-in n (u ∷ m) t (both p h) (inr i) = made-in n m t h i
+
+each-in : (n : ℕ) (m : Made) (ts : Trees) → MadeBelow n m → Each (λ t. In t m) ts → Belows n ts
+unfolding Each Below
+each-in n m none h i = tt
+each-in n m (more t ts) h i = (made-in n m t h (i .0), each-in n m ts h (i .1))
+
+-- a state whose trees are among the made ones
+pub ready-below : (n : ℕ) (S : State) (m : Made) → Ready sound S m → length (S .vars) ≤ n → MadeBelow n m → StateBelow n S
+unfolding sound
+ready-below n S m r l h = record {
+  vars = l;
+  defs = all-map (λ d i. made-in n m (d .term) h i) (r .defs);
+  goals = all-map (λ g i. record { judgment = made-in n m (g .judgment) h (i .judgment); hyps = each-in n m (g .hyps) h (i .hyps) }) (r .goals);
+  facts = all-map (λ f i. record { judgment = made-in n m (f .judgment) h (i .judgment); premises = each-in n m (f .premises) h (i .premises) }) (r .facts);
+}
 
 -- The state with one part anew --------------------------------------------------------------------------------------------------------
 
