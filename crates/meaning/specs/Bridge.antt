@@ -18,3 +18,4 @@ pub mod Run
 pub mod Theory
 pub mod Goals
 pub mod Check
+pub mod Unified

@@ -1,10 +1,10 @@
 -- The premise of demand 3: which facts a form of the proof names by a reference or by a case, and that none of them is a rule hypothesis
 -- with premises. "The first place of `apply`, the context list of `invert` and ignored cases do not count as references or cases."
--- Definitions only.
+-- Then what a `result` names. Definitions only.
 use Prim.Native.Nat.{ℕ}
 use mathlib.Core.Path.{_≡_}
 use mathlib.Core.Logic.{_⊎_}
-use mathlib.Core.Bool.{Bool, true}
+use mathlib.Core.Bool.{true}
 use mathlib.Core.Option.{Option, some, none as nothing}
 use mathlib.Core.List.{List}
 use Rattle.rules.specs.Text.{same}
@@ -13,7 +13,7 @@ use Rattle.rules.specs.Index.{indexOf}
 use Rattle.rules.specs.Tags.{Tag, aVar, aDef, aStep, aHyp, aRuleHyp, anInduct, anInductWith, anApply, anInvert, aResult, proofTag}
 use Rattle.rules.specs.Tree.{none}
 use Rattle.rules.specs.Theory.{rule, rulesOf}
-use Rattle.rules.specs.State.{State, Fact}
+use Rattle.rules.specs.State.{State, Fact, Goal, goalNamed}
 use Rattle.rules.specs.Invert.{predicateOf}
 use Rattle.meaning.specs.Trees.Tree.{In}
 use Rattle.meaning.specs.Truth.{At}
@@ -101,3 +101,27 @@ RuleHyp f = (f .assumed ≡ true) × ¬ (f .premises ≡ none)
 -- no reference and no case of the form names a rule hypothesis with premises
 unfoldable pub Calm : State → Sexp → Type 0
 Calm S x = (i : ℕ) (f : Fact) → Names S x i → At (S .facts) i f → ¬ (RuleHyp f)
+
+-- Results ---------------------------------------------------------------------------------------------------------------------------
+
+-- the atom is the name of goal k
+unfoldable pub GoalAt : List Goal → Sexp → ℕ → Type 0
+GoalAt gs (atom p bs) k = goalNamed gs bs ≡ some k
+GoalAt gs (list xs) k = ⊥
+
+-- the result of goal k by fact i, bare or as an instance
+unfoldable pub ResultAs : Tag → State → Sexps → ℕ → ℕ → Type 0
+ResultAs aResult S xs k i = GoalAt (S .goals) (item xs 1) k × Refers (item xs 2) i
+ResultAs aVar S xs k i = ⊥
+ResultAs aDef S xs k i = ⊥
+ResultAs aHyp S xs k i = ⊥
+ResultAs aRuleHyp S xs k i = ⊥
+ResultAs aStep S xs k i = ⊥
+ResultAs anApply S xs k i = ⊥
+ResultAs anInduct S xs k i = ⊥
+ResultAs anInductWith S xs k i = ⊥
+ResultAs anInvert S xs k i = ⊥
+
+unfoldable pub ResultOf : State → Sexp → ℕ → ℕ → Type 0
+ResultOf S (atom p bs) k i = ⊥
+ResultOf S (list xs) k i = (t : Tag) × (tagOf (item xs 0) (count xs) ≡ some t) × ResultAs t S xs k i

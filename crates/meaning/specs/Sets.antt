@@ -4,12 +4,12 @@
 use Prim.Native.Nat.{ℕ}
 use mathlib.Core.Path.{_≡_}
 use mathlib.Core.Logic.{_⊎_}
-use mathlib.Core.Option.{Option, some}
+use mathlib.Core.Option.{some}
 use lib.ListN.{length}
 use Rattle.rules.specs.Sexp.{Sexp, Sexps, atom, list, count, item}
 use Rattle.rules.specs.Tags.{Tag, aVar, aDef, aStep, aHyp, aRuleHyp, anInduct, anInductWith, anApply, anInvert, aResult}
 use Rattle.rules.specs.Theory.{Theory, ruleNamed}
-use Rattle.rules.specs.State.{State, Fact}
+use Rattle.rules.specs.State.{State}
 use Rattle.meaning.specs.Derivation.{RuleOf}
 use Rattle.meaning.specs.Named.{Points, SomeRefers, NamesAs, tagOf}
 

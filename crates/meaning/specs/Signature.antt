@@ -1,10 +1,10 @@
 -- The words of demand 3, first part: the signature that a theory declares, and ground terms. Definitions only.
-use Prim.Native.Nat.{ℕ, zero, suc, _<_}
+use Prim.Native.Nat.{ℕ, _<_}
 use mathlib.Core.Path.{_≡_}
 use mathlib.Core.List.{List, [], _∷_}
 use lib.ListN.{length, getD}
 use Rattle.rules.specs.Tree.{Tree, Trees, var, app, none, more}
-use Rattle.rules.specs.Theory.{Theory, Rule, RuleVar, noName, inputs, output, rule}
+use Rattle.rules.specs.Theory.{Theory, Rule, noName, inputs, output}
 use Rattle.meaning.specs.Trees.Tree.{Sig}
 
 -- the symbols that a theory declares; sorts are numbered from 1, and judgments have sort 0

@@ -1,72 +1,44 @@
 -- The theorems are not empty. Example A: its texts are taken, its premise holds, and what `goals-derivable` says of it is that `Child t`
--- is derivable for every ground term t of sort Pass. Example G: its texts are accepted though the goal `Bad first` is not derivable, so the
--- premise of the theorems is needed; it does not hold of G, and the hypothesis that G names is not true itself. Assumes nothing.
-use Prim.Native.Nat.{ℕ, zero, suc, _<_}
+-- is derivable for every ground term t of sort Pass, and `goals-firm` that the rules c0 and c1 suffice. Example G: its texts are accepted
+-- though the goal `Bad first` is not derivable, so the premise of the theorems is needed; it does not hold of G, and the hypothesis that G
+-- names is not true itself. A run that is calm although rule hypotheses with premises stand in places that do not count. Example I:
+-- a unification that finds nothing. Assumes nothing.
+use Prim.Native.Nat.{ℕ, zero, suc}
 use native.Mathlib.Omega.{arith}
 use mathlib.Core.Path.{_≡_, refl, sym, _∙_, ap, subst}
 use mathlib.Core.Logic.{_⊎_, inl, inr}
-use mathlib.Core.Bool.{Bool, true, false, _&&_}
-use mathlib.Core.Option.{Option, some}
-use mathlib.Core.List.{List, [], _∷_}
-use Rattle.rules.specs.Out.{Out, ok, refuse, Act}
+use mathlib.Core.Bool.{true, false}
+use mathlib.Core.Option.{some, none as nothing}
+use mathlib.Core.List.{List, [], _∷_, _++_}
+use Rattle.rules.specs.Out.{ok}
 use Rattle.rules.specs.Text.{bytes}
-use Rattle.rules.specs.Sexp.{Sexp, Text, ends, fails, more, read}
+use Rattle.rules.specs.Sexp.{Sexps, atom, list, nil, Text, ends, fails, more, read}
+use Rattle.rules.specs.Tags.{aResult}
 use Rattle.rules.specs.Find.{entry}
-use Rattle.rules.specs.Tree.{Tree, Trees, var, app, none, more as moreTrees, sub}
-use Rattle.rules.specs.Theory.{Theory, noTheory, rule}
+use Rattle.rules.specs.Tree.{Tree, var, app, none, more as moreTrees, sub}
+use Rattle.rules.specs.Store.{Made}
+use Rattle.rules.specs.Unify.{unify}
+use Rattle.rules.specs.Theory.{Theory, noName, noTheory, rule}
 use Rattle.rules.specs.Declare.{declare}
 use Rattle.rules.specs.Laws.Declare.{reached}
-use Rattle.rules.specs.State.{State, Fact, Goal, begin, isNone}
-use Rattle.rules.specs.Loop.{Judged, done, whole}
-use Rattle.rules.specs.Forms.{takeGoal, takeForm}
-use Rattle.rules.specs.Check.{accepts, check, checking, report}
+use Rattle.rules.specs.Laws.Reached.{endOf}
+use Rattle.rules.specs.State.{State, Fact, Goal, begin}
+use Rattle.rules.specs.Loop.{whole}
+use Rattle.rules.specs.Forms.{takeGoal}
 use Rattle.rules.specs.Run.{line, running}
 use Rattle.rules.specs.Examples.{theory}
 use Rattle.meaning.specs.Trees.Tree.{Occ, Occs, In, Among}
 use Rattle.meaning.specs.Trees.Tests.{true-false}
 use Rattle.meaning.specs.Signature.{sig, Value}
-use Rattle.meaning.specs.Derivation.{Der, node, Ders, leaf, both, RuleOf, Derivable}
-use Rattle.meaning.specs.Truth.{At, HypOf, Needs, Free, Mentions, Varies, Holds, Gives, Entails, True}
+use Rattle.meaning.specs.Derivation.{Der, node, RuleOf, Derivable}
+use Rattle.meaning.specs.Truth.{At, HypOf, Needs, Free, Mentions, Holds, Gives, Entails, True}
 use Rattle.meaning.specs.Lemmas.Sound.{ders-in}
-use Rattle.meaning.specs.Named.{RuleHyp, Calm}
-use Rattle.meaning.specs.Bridge.Asked.{both-true, at-unique}
-use Rattle.meaning.specs.Bridge.Refs.{is-none}
-use Rattle.meaning.specs.Bridge.Run.{final, IfTaken, Throughout}
-use Rattle.meaning.specs.Bridge.Check.{Taken, after, Calmly}
-use Rattle.meaning.specs.Theorems.{sortsOf, goals-derivable}
-
--- A test for the premise ------------------------------------------------------------------------------------------------------------
-
--- no fact has premises
-unfoldable noPremises : List Fact → Bool
-noPremises [] = true
-noPremises (f ∷ fs) = isNone (f .premises) && noPremises fs
-
-no-premises : (fs : List Fact) → noPremises fs ≡ true → (i : ℕ) (f : Fact) → At fs i f → f .premises ≡ none
-unfolding noPremises At
-no-premises [] e i f a = absurd a
-no-premises (g ∷ fs) e zero f a =
-    subst (λ (h : Fact). h .premises ≡ none) a (is-none (g .premises) (both-true (isNone (g .premises)) (noPremises fs) e .0))
-no-premises (g ∷ fs) e (suc i) f a = no-premises fs (both-true (isNone (g .premises)) (noPremises fs) e .1) i f a
-
--- whether no fact has premises at any form that is taken
-unfoldable unruled : Text → State → Bool
-unruled ends S = true
-unruled (fails n) S = true
-unruled (more x p t) S = elim (takeForm x S) [ ok a u ↦ noPremises (S .facts) && unruled t u | refuse n d u ↦ true ]
-
-unruled-calm : (t : Text) (S : State) → unruled t S ≡ true → Calmly t S
-unfolding unruled Throughout IfTaken Calm RuleHyp
-unruled-calm ends S e = tt
-unruled-calm (fails n) S e = tt
-unruled-calm (more x p t) S e = go (takeForm x S) e (λ u q. unruled-calm t u q)
-  where
-    go : (o : Out State (Unit {0})) → elim o as (λ _. Bool) [ ok a u ↦ noPremises (S .facts) && unruled t u | refuse n d u ↦ true ] ≡ true
-        → ((u : State) → unruled t u ≡ true → Throughout Calm takeForm t u) → IfTaken (Calm S x) (λ u. Throughout Calm takeForm t u) o
-    go (ok a u) q r =
-        let b = both-true (noPremises (S .facts)) (unruled t u) q in
-        ((λ i f n k h. h .1 (no-premises (S .facts) (b .0) i f k)), r u (b .1))
-    go (refuse n d u) q r = tt
+use Rattle.meaning.specs.Named.{Points, Refers, tagOf, RuleHyp, GoalAt, ResultAs, ResultOf}
+use Rattle.meaning.specs.Bridge.Asked.{at-unique}
+use Rattle.meaning.specs.Runs.{Taken, after, OrLater, Somewhere, Calmly, Results}
+use Rattle.meaning.specs.Premise.{throughout, calm, calm-run, resting, respects, respectful-run, testing}
+use Rattle.meaning.specs.Inversions.{asked, firstNames, tried, Turn, Comes}
+use Rattle.meaning.specs.Theorems.{sortsOf, facts-firm, goals-firm, facts-true, goals-derivable, inversions-complete}
 
 -- Example A -------------------------------------------------------------------------------------------------------------------------
 
@@ -80,18 +52,18 @@ unfoldable pub T : Theory
 T = reached (whole declare (read theory) noTheory)
 
 unfoldable pub S : State
-S = final (whole takeGoal (read goalsA) (begin T))
+S = endOf (whole takeGoal (read goalsA) (begin T))
 
 takenA : Taken theory goalsA T S
-unfolding running T S reached final
+unfolding running T S reached endOf
 takenA = record { theory-forms = 13; theory-taken = refl; goal-forms = 2; goals-taken = refl }
 
-testA : unruled (read proofA) S ≡ true
-unfolding running T S reached final unruled noPremises
+testA : throughout calm (read proofA) S ≡ true
+unfolding running T S reached endOf testing
 testA = refl
 
 calmA : Calmly (read proofA) S
-calmA = unruled-calm (read proofA) S testA
+calmA = calm-run (read proofA) S testA
 
 -- `Child` is symbol 2, and sort 1 is Pass
 abbrev Child : Tree → Tree
@@ -105,11 +77,11 @@ abbrev goalA : Goal
 goalA = record { name = record { start = 19; bytes = bytes "g" }; judgment = Child (var 0); hyps = none; taken = true }
 
 goal-taken : entry (after (read proofA) S .goals) 0 ≡ some goalA
-unfolding running T S reached final after
+unfolding running T S reached endOf after
 goal-taken = refl
 
 sort-of-x : sortsOf (after (read proofA) S) 0 ≡ Pass
-unfolding running T S reached final after
+unfolding running T S reached endOf after
 sort-of-x = refl
 
 only-x : (w : ℕ) → Occ w (Child (var 0)) ⊎ Occs w none → w ≡ 0
@@ -122,6 +94,38 @@ only-x w (inr e) = absurd e
 pub child : (t : Tree) → Value (sig T) t Pass → Derivable T (Child t)
 unfolding sub
 child t v = goals-derivable theory goalsA T S takenA (read proofA) calmA 0 goalA goal-taken refl refl (λ _. t) (λ w o. sorted w (only-x w o))
+  where
+    sorted : (w : ℕ) → w ≡ 0 → Value (sig T) t (sortsOf (after (read proofA) S) w)
+    sorted w e = subst (λ s. Value (sig T) t s) (sym (ap (sortsOf (after (read proofA) S)) e ∙ sort-of-x)) v
+
+-- Its footings, which reach through references and cases: fact 3 rests on c0 and c1 alone
+footings : ℕ → List ℕ
+footings zero = 0 ∷ []
+footings (suc zero) = []
+footings (suc (suc zero)) = 1 ∷ []
+footings (suc (suc (suc n))) = 0 ∷ 1 ∷ []
+
+respectsA : throughout (respects footings) (read proofA) S ≡ true
+unfolding running T S reached endOf testing footings
+respectsA = refl
+
+-- its result, the sixth form, names fact 3
+resultA : Results (read proofA) S 0 3
+unfolding running T S reached endOf Somewhere OrLater ResultOf tagOf ResultAs GoalAt Refers Points
+resultA = inr (inr (inr (inr (inr (inl (aResult, refl, (refl, refl)))))))
+
+two-rules : (r : ℕ) → In r (0 ∷ 1 ∷ []) → RuleOf T r
+unfolding running T reached In
+two-rules r (inl e) = omega arith
+two-rules r (inr (inl e)) = omega arith
+two-rules r (inr (inr e)) = absurd e
+
+-- what `goals-firm` gives for it: these two rules suffice
+pub child-by-two : (t : Tree) → Value (sig T) t Pass → Der T (λ r. In r (0 ∷ 1 ∷ [])) (Child t)
+unfolding sub Among footings
+child-by-two t v =
+    goals-firm theory goalsA T S takenA (resting T footings) (λ n r k. k) (read proofA) calmA (respectful-run T footings (read proofA) S respectsA)
+    0 goalA goal-taken 3 resultA (λ r. In r (0 ∷ 1 ∷ [])) (record { mine = λ r k. k; theirs = two-rules }) (λ _. t) (λ w o. sorted w (only-x w o)) (λ u i. absurd i)
   where
     sorted : (w : ℕ) → w ≡ 0 → Value (sig T) t (sortsOf (after (read proofA) S) w)
     sorted w e = subst (λ s. Value (sig T) t s) (sym (ap (sortsOf (after (read proofA) S)) e ∙ sort-of-x)) v
@@ -158,17 +162,17 @@ unfolding running head
 premise-needed = (refl, λ d. not-derivable badFirst d refl)
 
 unfoldable pub SG : State
-SG = final (whole takeGoal (read goalsG) (begin T))
+SG = endOf (whole takeGoal (read goalsG) (begin T))
 
 takenG : Taken theory goalsG T SG
-unfolding running T SG reached final
+unfolding running T SG reached endOf
 takenG = record { theory-forms = 13; theory-taken = refl; goal-forms = 3; goals-taken = refl }
 
 abbrev goalG : Goal
 goalG = record { name = record { start = 32; bytes = bytes "g" }; judgment = badFirst; hyps = none; taken = true }
 
 goal-G : entry (after (read proofG) SG .goals) 0 ≡ some goalG
-unfolding running T SG reached final after
+unfolding running T SG reached endOf after
 goal-G = refl
 
 no-variable : (v : ℕ) → Occ v badFirst ⊎ Occs v none → ⊥
@@ -191,11 +195,11 @@ abbrev hypG : Fact
 hypG = record { judgment = badFirst; hyps = 3 ∷ []; assumed = true; premises = moreTrees (app 3 (moreTrees (var 1) none)) none; general = []; footing = [] }
 
 recorded : At (after (read proofG) SG .facts) 3 hypG
-unfolding running T SG reached final after At
+unfolding running T SG reached endOf after At
 recorded = refl
 
 sort-of-y : sortsOf (after (read proofG) SG) 1 ≡ Pass
-unfolding running T SG reached final after
+unfolding running T SG reached endOf after
 sort-of-y = refl
 
 argument : Tree → ℕ
@@ -255,3 +259,123 @@ hypothesis-not-true t = not-derivable badFirst (t (λ _. app 0 none) needed held
         → Holds T (sortsOf (after (read proofG) SG)) (RuleOf T) (λ _. app 0 none) g
     held g x =
         subst (λ z. Holds T (sortsOf (after (read proofG) SG)) (RuleOf T) (λ _. app 0 none) z) (only-hyp g x) (hyp-holds (sortsOf (after (read proofG) SG)))
+
+-- A calm run with rule hypotheses ----------------------------------------------------------------------------------------------------
+
+-- behind the goals of example G, with variables x and y: two rule hypotheses with premises, one in the first place of `apply`, the other in
+-- the context of `invert`, in its cases for a rule of another predicate and for no rule, which are ignored, and in a last form that is refused
+abbrev ruled : List ℕ
+ruled =
+    bytes "(hyp 0 ((Child x)) (Child (renew x)) (x)) (hyp 1 ((Adult y)) (Bad first) ()) (step 2 c0 ()) (apply 3 0 ((x first)) (2)) (hyp 4 (Same x x)) (invert 5 4 (1) (Bad first) ((c0 1 ()) (c9 1 ()))) (result g 1)"
+
+-- it is calm all the same, since these places do not count
+test-ruled : throughout calm (read ruled) SG ≡ true
+unfolding running T SG reached endOf testing
+test-ruled = refl
+
+pub calm-ruled : Calmly (read ruled) SG
+calm-ruled = calm-run (read ruled) SG test-ruled
+
+-- what the theorem says of facts 3 and 5: Child (renew first), and Bad first, if what they rest on holds
+abbrev renewedFirst : Fact
+renewedFirst =
+    record { judgment = Child (app 1 (moreTrees (app 0 none) none)); hyps = 0 ∷ []; assumed = false; premises = none; general = []; footing = 0 ∷ [] }
+
+abbrev badAgain : Fact
+badAgain = record { judgment = badFirst; hyps = 1 ∷ 4 ∷ []; assumed = false; premises = none; general = []; footing = [] }
+
+ruled-there : At (after (read ruled) SG .facts) 3 renewedFirst × At (after (read ruled) SG .facts) 5 badAgain
+unfolding running T SG reached endOf after At
+ruled-there = (refl, refl)
+
+abbrev TrueRuled : Fact → Type 0
+TrueRuled f = True T (sortsOf (after (read ruled) SG)) (RuleOf T) (after (read ruled) SG .facts) f
+
+pub ruled-true : TrueRuled renewedFirst × TrueRuled badAgain
+unfolding RuleHyp
+ruled-true = (
+  facts-true theory goalsG T SG takenG (read ruled) calm-ruled 3 renewedFirst (ruled-there .0) (λ h. true-false false (h .0) refl),
+  facts-true theory goalsG T SG takenG (read ruled) calm-ruled 5 badAgain (ruled-there .1) (λ h. true-false false (h .0) refl),
+)
+
+-- its footings as recorded: fact 3 rests on c0, by its reference, and on no rule of the hypothesis that it applies
+recordedFooting : ℕ → List ℕ
+recordedFooting n = elim (entry (after (read ruled) SG .facts) n) [ some f ↦ f .footing | nothing ↦ [] ]
+
+respects-ruled : throughout (respects recordedFooting) (read ruled) SG ≡ true
+unfolding running T SG reached endOf after testing recordedFooting
+respects-ruled = refl
+
+footing-three : recordedFooting 3 ≡ 0 ∷ []
+unfolding running T SG reached endOf after recordedFooting
+footing-three = refl
+
+only-c0 : (r : ℕ) → In r (0 ∷ []) → RuleOf T r
+unfolding running T reached In
+only-c0 r (inl e) = omega arith
+only-c0 r (inr e) = absurd e
+
+-- so c0 suffices for it
+pub ruled-firm : True T (sortsOf (after (read ruled) SG)) (λ r. In r (0 ∷ [])) (after (read ruled) SG .facts) renewedFirst
+unfolding RuleHyp
+ruled-firm =
+    facts-firm theory goalsG T SG takenG (resting T recordedFooting) (λ n r k. k) (read ruled) calm-ruled
+    (respectful-run T recordedFooting (read ruled) SG respects-ruled) 3 renewedFirst (ruled-there .0) (λ h. true-false false (h .0) refl) (λ r. In r (0 ∷ []))
+    (record { mine = λ r k. subst (λ l. In r l) footing-three k; theirs = only-c0 })
+
+-- A unification that finds nothing ----------------------------------------------------------------------------------------------------
+
+-- example I: an inversion of Same x x comes to unify it with the conclusion of `s` over a variable made for it, Same z (renew z)
+itemsOf : Text → Sexps
+itemsOf ends = nil
+itemsOf (fails n) = nil
+itemsOf (more (atom p bs) q t) = nil
+itemsOf (more (list xs) q t) = xs
+
+abbrev hypI : List ℕ
+hypI = bytes "(hyp 0 (Same x x))"
+
+abbrev stateI : State
+stateI = after (read hypI) SG
+
+abbrev invertI : Sexps
+invertI = itemsOf (read (bytes "(invert 1 0 () (Bad first) ())"))
+
+abbrev sameI : Tree
+sameI = app 5 (moreTrees (var 0) (moreTrees (var 0) none))
+
+abbrev renewI : Tree
+renewI = app 1 (moreTrees (var 2) none)
+
+abbrev ruleI : Tree
+ruleI = app 5 (moreTrees (var 2) (moreTrees renewI none))
+
+abbrev beforeI : Made
+beforeI = app 0 none ∷ badFirst ∷ var 0 ∷ sameI ∷ []
+
+abbrev madeI : Made
+madeI = app 0 none ∷ badFirst ∷ var 0 ∷ sameI ∷ var 2 ∷ renewI ∷ ruleI ∷ []
+
+comes-I : Comes stateI invertI 3 sameI ruleI madeI
+unfolding running T SG reached endOf after itemsOf asked Turn tried
+comes-I = record {
+  place = 0;
+  inversion = record { hypothesis = sameI; judgment = badFirst; context = []; cases = [] };
+  before = beforeI;
+  asks = refl;
+  rule = rule (stateI .theory) 3;
+  names = firstNames stateI;
+  made = beforeI;
+  turn = inl (refl, refl, refl);
+  trial = record { renamed = 2 ∷ []; names = record { vars = stateI .vars ++ (record { sort = 1; text = 0; name = noName } ∷ []); seen = [] }; conclusion = ruleI };
+  tries = refl;
+  unifies = (refl, refl, refl);
+}
+
+nothing-found : (m : Made) × (unify 3 sameI ruleI madeI ≡ ok nothing m)
+unfolding running
+nothing-found = (_, refl)
+
+-- and rightly
+pub no-unifier : (σ : ℕ → Tree) → ¬ (sub σ sameI ≡ sub σ ruleI)
+no-unifier = inversions-complete theory goalsG T SG takenG (read hypI) invertI 3 sameI ruleI madeI (nothing-found .0) comes-I (nothing-found .1)

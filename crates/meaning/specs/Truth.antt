@@ -1,11 +1,11 @@
 -- The words of demand 3, third part: a hypothesis's free variables, when it holds, when a fact is true. Definitions only.
 -- "A hypothesis's free variables are those of its judgment and premises that are not generalised. It holds when, for each ground value
 -- of its generalised variables that occur in it, its judgment is derivable if all its premises are."
-use Prim.Native.Nat.{ℕ, zero, suc, _<_}
+use Prim.Native.Nat.{ℕ, zero, suc}
 use mathlib.Core.Path.{_≡_}
 use mathlib.Core.Logic.{_⊎_}
 use mathlib.Core.List.{List, [], _∷_}
-use Rattle.rules.specs.Tree.{Tree, Trees, none, sub, subs}
+use Rattle.rules.specs.Tree.{Tree, none, sub, subs}
 use Rattle.rules.specs.Theory.{Theory}
 use Rattle.rules.specs.State.{Fact}
 use Rattle.meaning.specs.Trees.Tree.{Occ, Occs, In}

@@ -146,9 +146,13 @@ Nodes T cs (s ∷ ss) = Node T cs s × Nodes T (cs ++ (conclusion T s ∷ [])) s
 
 -- How goals and proof are written -------------------------------------------------------------------------------------------------
 
--- (goal NAME JUDGMENT)
-unfoldable pub goalForms : Theory → List ℕ → Tree → Forms
-goalForms T n j = cons (group (cons (name (bytes "goal")) (cons (name n) (cons (judgmentForm T j) nil)))) nil
+-- one goal without listed hypotheses: (goal NAME JUDGMENT), or with an empty list of them, (goal NAME () JUDGMENT)
+unfoldable pub theGoal : Bool → Theory → List ℕ → Tree → Form
+theGoal false T n j = group (cons (name (bytes "goal")) (cons (name n) (cons (judgmentForm T j) nil)))
+theGoal true T n j = group (cons (name (bytes "goal")) (cons (name n) (cons (group nil) (cons (judgmentForm T j) nil))))
+
+unfoldable pub goalForms : Bool → Theory → List ℕ → Tree → Forms
+goalForms b T n j = cons (theGoal b T n j) nil
 
 unfoldable pub atoms : List (List ℕ) → Forms
 atoms [] = nil
@@ -170,7 +174,7 @@ proofForms T (s ∷ ss) n r = cons (stepForm T s) (proofForms T ss n r)
 
 -- Written derivations -------------------------------------------------------------------------------------------------------------
 
--- theory, goals, proof; root: the index that the result names. The bytes pass question 3
+-- theory, goals, proof; root: the index that the result names; listing: whether the goal has an empty list. The bytes pass question 3
 pub record Written (t g p : List ℕ) : Type 0 where
   pub theory : Theory
   pub forms : ℕ
@@ -181,7 +185,8 @@ pub record Written (t g p : List ℕ) : Type 0 where
   pub judgment : Tree
   pub concluded : Names (conclusions theory steps) root judgment
   pub goal : List ℕ
-  pub goals : Writes g (goalForms theory goal judgment)
+  pub listing : Bool
+  pub goals : Writes g (goalForms listing theory goal judgment)
   pub proof : Writes p (proofForms theory steps goal root)
   pub plains : (plain t ≡ true) × (plain g ≡ true) × (plain p ≡ true)
 
@@ -214,12 +219,14 @@ few m = leb (length m) TERMS && leb (words m) WORDS
 unfoldable pub roomy : Theory → Tree → List Step → Bool
 roomy T j ss = leb (length ss) FACTS && few (gathers (more j (treesOf (conclusions T ss))) [])
 
--- inside the limits: questions 2, 5 and 60
+-- inside the limits: questions 2, 5 and 60. Of three texts, the forms of goals and proof, and the derivation
+unfoldable pub fits : List ℕ → List ℕ → List ℕ → Forms → Forms → Theory → Tree → List Step → Bool
+fits t g p gs ps T j ss = (short t && (short g && short p)) && ((shallows 0 gs && shallows 0 ps) && roomy T j ss)
+
 unfoldable pub inside : {t g p : List ℕ} → Written t g p → Bool
 inside {t} {g} {p} w =
-    (short t && (short g && short p))
-    && ((shallows 0 (goalForms (w .theory) (w .goal) (w .judgment)) && shallows 0 (proofForms (w .theory) (w .steps) (w .goal) (w .root)))
-    && roomy (w .theory) (w .judgment) (w .steps))
+    fits t g p (goalForms (w .listing) (w .theory) (w .goal) (w .judgment)) (proofForms (w .theory) (w .steps) (w .goal) (w .root))
+    (w .theory) (w .judgment) (w .steps)
 
 -- n steps, one goal, which is not open, and nothing else
 unfoldable pub stepsAlone : ℕ → Report

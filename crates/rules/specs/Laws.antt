@@ -34,3 +34,7 @@ pub mod Count
 pub mod Inside
 pub mod Declaring
 pub mod PatternSteps
+pub mod Below
+pub mod BelowRead
+pub mod BelowCases
+pub mod Bounded

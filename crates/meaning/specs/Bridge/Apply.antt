@@ -1,39 +1,36 @@
 -- `apply`, on a hypothesis and on another fact: the fact that the definition takes is well-sorted, and satisfies what the form's lemma
 -- asks. Of a well state.
-use Prim.Native.Nat.{ℕ, zero, suc, _<_, _≤_}
+use Prim.Native.Nat.{ℕ, suc, _<_}
 use native.Mathlib.Omega.{arith}
 use mathlib.Core.Path.{_≡_, refl, sym, _∙_, ap, ap₂, subst}
-use mathlib.Core.Logic.{_⊎_, inl, inr}
+use mathlib.Core.Logic.{inl, inr}
 use mathlib.Core.Bool.{Bool, true, false, _&&_, _||_}
 use mathlib.Core.Option.{Option, some, none as nothing}
-use mathlib.Core.List.{List, [], _∷_, _++_}
+use mathlib.Core.List.{List, [], _∷_}
 use lib.Dec.{eqb}
 use lib.ListN.{length}
 use borrow.Author.Tests.{eqb-true}
-use Rattle.rules.specs.Out.{Out, ok, refuse, then, Act, ask, found}
-use Rattle.rules.specs.Sexp.{Sexp, Sexps, atom, list, nil, cons, count, item, rest, items}
-use Rattle.rules.specs.Find.{Set, entry, all, has, union, rising}
-use Rattle.rules.specs.Tree.{Tree, Trees, var, app, none, more, variables, variablesOf, countTrees, sameTree, sub, subs}
-use Rattle.rules.specs.Store.{Made, substitute}
+use Rattle.rules.specs.Sexp.{Sexp, Sexps, nil, cons, count, item}
+use Rattle.rules.specs.Find.{entry, all, has, union, rising}
+use Rattle.rules.specs.Tree.{Tree, Trees, none, more, variables, variablesOf, countTrees, sameTree, sub, subs}
+use Rattle.rules.specs.Store.{Made}
 use Rattle.rules.specs.Unify.{Binding, along}
 use Rattle.rules.specs.State.{State, Fact, isNone, isEmpty, isPlain}
-use Rattle.rules.specs.Read.{index}
-use Rattle.rules.specs.Reference.{Ref, bindings, factAt, judgmentsAt, reference, scoped}
-use Rattle.rules.specs.Step.{Refs, noRefs, withRef}
+use Rattle.rules.specs.Reference.{judgmentsAt}
+use Rattle.rules.specs.Step.{Refs}
 use Rattle.rules.specs.Apply.{Applied, plainAt, applied, discharge, valueVars, apply}
-use Rattle.meaning.specs.Trees.Tree.{Occ, Occs, Sorted, In, Among, among-occ, among-subs}
-use Rattle.meaning.specs.Trees.Tests.{true-false, and-true, sameTree-true, occ-variables, occs-variablesOf}
-use Rattle.meaning.specs.Unification.Acts.{Ok, done, stopped, ok-then, ok-any, substitute-ok}
+use Rattle.meaning.specs.Trees.Tree.{Occ, Occs, In, Among, among-occ, among-subs}
+use Rattle.meaning.specs.Trees.Tests.{and-true, sameTree-true, occ-variables, occs-variablesOf}
+use Rattle.meaning.specs.Unification.Acts.{Ok, done, ok-then, substitute-ok}
 use Rattle.meaning.specs.Unification.List.{Bound, Each, along-cases, each-map}
-use Rattle.meaning.specs.Signature.{sig, PROP}
-use Rattle.meaning.specs.Truth.{Free, At, HypOf, Needs, Plain}
-use Rattle.meaning.specs.Lemmas.Forms.{Ref as RefForm, Refs as RefForms, Allowed, ApplyHyp, ApplyFact, Form, apply-hyp, apply-fact}
+use Rattle.meaning.specs.Truth.{At, HypOf, Needs, Plain}
+use Rattle.meaning.specs.Lemmas.Forms.{Ref as RefForm, Refs as RefForms, Allowed, apply-hyp, apply-fact}
 use Rattle.meaning.specs.Named.{Points, Item, ItemOf}
 use Rattle.meaning.specs.Sets.{Sets}
-use Rattle.meaning.specs.Bridge.Asked.{no-some, some-same, both-true, true-left, true-right, ok-ask, ok-found, ok-map, ok-if, ok-items, ok-index, at-entry, at-below, all-in, has-in, in-has, rising-in, in-rising}
+use Rattle.meaning.specs.Bridge.Asked.{no-some, some-same, both-true, true-left, true-right, ok-ask, ok-if, ok-items, ok-index, at-entry, at-below, all-in, has-in, in-has, rising-in, in-rising}
 use Rattle.meaning.specs.Bridge.Well.{Typed, Judgment, Judgments, WellFact, Well, judgments-small}
 use Rattle.meaning.specs.Bridge.Read.{fact-ok}
-use Rattle.meaning.specs.Bridge.Refs.{is-none, is-empty, Scoped, scoped-ok, BindsOk, bindings-ok, along-sorted, along-typed, along-judgment, at-judgments}
+use Rattle.meaning.specs.Bridge.Refs.{is-none, is-empty, Scoped, scoped-ok, BindsOk, bindings-ok, along-sorted, along-judgment, at-judgments}
 use Rattle.meaning.specs.Bridge.Refs.{Citable, cite, Free-of-rules, reference-ok, RefsOk, no-refs-ok, with-ref-ok}
 use Rattle.meaning.specs.Bridge.Step.{Fine}
 

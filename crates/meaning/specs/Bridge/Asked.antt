@@ -6,19 +6,19 @@ use mathlib.Core.Path.{_≡_, refl, sym, _∙_, ap, subst}
 use mathlib.Core.Logic.{_⊎_, inl, inr}
 use mathlib.Core.Bool.{Bool, true, false, _&&_, _||_, not}
 use mathlib.Core.Option.{Option, some, none as nothing}
-use mathlib.Core.List.{List, [], _∷_, _++_}
+use mathlib.Core.List.{List, [], _∷_}
 use lib.Dec.{eqb}
 use lib.ListN.{length, getD}
-use borrow.Author.Tests.{eqb-true, eqb-false, eq-eqb, ne-eqb}
+use borrow.Author.Tests.{eqb-true, eqb-false}
 use Rattle.rules.specs.Out.{Out, ok, refuse, then, Act, ask, room, found}
-use Rattle.rules.specs.Sexp.{Sexp, Sexps, atom, list, nil, cons, name, items}
+use Rattle.rules.specs.Sexp.{Sexp, atom, list, name, items}
 use Rattle.rules.specs.Index.{indexOf}
-use Rattle.rules.specs.Find.{Set, first, entry, every, any, all, has, risingFrom, rising, leastFrom, least}
+use Rattle.rules.specs.Find.{Set, first, entry, every, all, has, risingFrom, rising, leastFrom, least}
 use Rattle.rules.specs.State.{Fact}
 use Rattle.rules.specs.Read.{index}
 use Rattle.meaning.specs.Trees.Tree.{In}
 use Rattle.meaning.specs.Trees.Tests.{true-false}
-use Rattle.meaning.specs.Unification.Acts.{Ok, done, stopped, ok-then, ok-any}
+use Rattle.meaning.specs.Unification.Acts.{Ok, done, stopped}
 use Rattle.meaning.specs.Truth.{At}
 use Rattle.meaning.specs.Named.{Points}
 

@@ -1,36 +1,31 @@
 -- A case of `invert`: what it is read from, and what it may rest on. Of a well state.
-use Prim.Native.Nat.{ℕ, zero, suc, _+_, _<_, _≤_}
-use native.Mathlib.Omega.{arith}
+use Prim.Native.Nat.{ℕ, _+_}
 use mathlib.Core.Path.{_≡_, refl, sym, _∙_, ap, ap₂, subst}
 use mathlib.Core.Logic.{_⊎_, inl, inr}
 use mathlib.Core.Bool.{Bool, true, false, _&&_, not}
-use mathlib.Core.Option.{Option, some, none as nothing}
+use mathlib.Core.Option.{Option, some}
 use mathlib.Core.List.{List, [], _∷_, _++_}
 use lib.Dec.{eqb}
 use lib.ListN.{length}
 use borrow.Author.Tests.{eqb-true, eq-eqb, ne-eqb}
-use Rattle.rules.specs.Out.{Out, ok, refuse, then, Act, ask, found}
 use Rattle.rules.specs.Text.{same}
-use Rattle.rules.specs.Sexp.{Sexp, Sexps, atom, list, nil, cons, count, item, Name, name, items}
-use Rattle.rules.specs.Find.{Set, entry, any, all, has}
-use Rattle.rules.specs.Tree.{Tree, Trees, var, app, none, more, variables, sameTree, sameTrees, sub, subs}
-use Rattle.rules.specs.Store.{Made, substitute, substitutes}
+use Rattle.rules.specs.Sexp.{Sexp, Sexps, atom, list, nil, cons, count, item, name}
+use Rattle.rules.specs.Find.{any, all, has}
+use Rattle.rules.specs.Tree.{Tree, Trees, var, none, more, variables, sameTree, sameTrees, sub, subs}
+use Rattle.rules.specs.Store.{Made}
 use Rattle.rules.specs.Theory.{Rule}
 use Rattle.rules.specs.Unify.{Binding, along}
 use Rattle.rules.specs.State.{State, Fact}
-use Rattle.rules.specs.Read.{index, varsList}
-use Rattle.rules.specs.Reference.{factAt}
 use Rattle.rules.specs.Invert.{Case, caseNamed, readCase, readCases, Allowed, rulePremises, without, clear, contextFact, contextFacts, isAllowed, allowedIn}
-use Rattle.meaning.specs.Trees.Tree.{Occ, Occs, In, Among}
+use Rattle.meaning.specs.Trees.Tree.{Occ, In, Among}
 use Rattle.meaning.specs.Trees.Tests.{true-false, and-true, true-and, or-true, sameTree-true, sameTrees-true, occ-variables}
-use Rattle.meaning.specs.Unification.Acts.{Ok, done, stopped, ok-then, ok-any, substitute-ok, substitutes-ok}
-use Rattle.meaning.specs.Unification.List.{Bound, Each, along-cases}
+use Rattle.meaning.specs.Unification.Acts.{Ok, done, stopped, ok-then, substitute-ok, substitutes-ok}
+use Rattle.meaning.specs.Unification.List.{Each, along-cases}
 use Rattle.meaning.specs.Truth.{At, Plain}
 use Rattle.meaning.specs.Lemmas.Inverts.{renamed, Leaves, InvertHyp, of-rule, of-context}
 use Rattle.meaning.specs.Lemmas.Forms.{InContext}
-use Rattle.meaning.specs.Named.{Points, Spells, Item, CasesFor}
-use Rattle.meaning.specs.Bridge.Asked.{no-some, some-same, both-true, not-true, ok-ask, ok-map, ok-items, ok-index, at-entry, at-unique, all-in, has-in, in-has}
-use Rattle.meaning.specs.Bridge.Well.{Well}
+use Rattle.meaning.specs.Named.{Spells, Item, CasesFor}
+use Rattle.meaning.specs.Bridge.Asked.{no-some, some-same, both-true, not-true, ok-ask, ok-items, ok-index, at-unique, all-in, has-in, in-has}
 use Rattle.meaning.specs.Bridge.Read.{VarsOk, vars-list-ok, fact-ok}
 
 -- Names -----------------------------------------------------------------------------------------------------------------------------

@@ -1,9 +1,9 @@
 -- From the parts to the whole check: the state that an answer is given in is good, and where the answer is an acceptance every goal was
 -- taken. Assumes nothing.
-use Prim.Native.Nat.{ℕ, zero, suc, _<_}
+use Prim.Native.Nat.{ℕ, zero, suc}
 use native.Mathlib.Omega.{arith}
 use mathlib.Core.Path.{_≡_, refl, sym, _∙_, ap, subst}
-use mathlib.Core.Logic.{_⊎_, inl, inr}
+use mathlib.Core.Logic.{inl, inr}
 use mathlib.Core.Bool.{Bool, true, false, not}
 use mathlib.Core.Option.{Option, some, none as nothing}
 use mathlib.Core.List.{List, [], _∷_}
@@ -17,49 +17,26 @@ use Rattle.rules.specs.Theory.{Theory, noTheory}
 use Rattle.rules.specs.Declare.{declare}
 use Rattle.rules.specs.Laws.Theory.{WellFormed}
 use Rattle.rules.specs.Laws.Declare.{reached, theory-formed, nothing-formed}
-use Rattle.rules.specs.State.{State, Fact, Goal, begin, sortOfVar}
+use Rattle.rules.specs.Laws.Reached.{endOf}
+use Rattle.rules.specs.Laws.Bounded.{BoundedCheck, goals-bounded, forms-bounded}
+use Rattle.rules.specs.State.{State, Goal, begin, sortOfVar}
 use Rattle.rules.specs.Loop.{Judged, done, refused, through, unread, whole}
 use Rattle.rules.specs.Tags.{Tag, aVar, aDef, aStep, aHyp, aRuleHyp, anInduct, anInductWith, anApply, anInvert, aResult}
 use Rattle.rules.specs.Forms.{takeGoal, takeForm}
-use Rattle.rules.specs.Check.{Report, Refusal, Answer, accepts, refuses, Outcome, refusedIn, report, missing, ended, afterProof, afterGoals, afterTheory, firstFailing, readable, fitting, check}
-use Rattle.meaning.specs.Trees.Tests.{true-false}
-use Rattle.meaning.specs.Named.{Calm}
+use Rattle.rules.specs.Check.{Report, Answer, accepts, refuses, Outcome, refusedIn, report, missing, ended, afterProof, afterGoals, afterTheory, firstFailing, readable, fitting, check}
+use Rattle.meaning.specs.Named.{Calm, ResultOf}
+use Rattle.meaning.specs.Runs.{Taken, after, IfTaken, Throughout, OrLater, Somewhere, Calmly, Respectful, CalmTexts, Results}
 use Rattle.meaning.specs.Derivation.{RuleOf}
 use Rattle.meaning.specs.Sets.{Sets, ofTheory, RuleAt, RuleAs, Tagged, Respects, Within}
 use Rattle.meaning.specs.Bridge.Asked.{no-some, some-same}
-use Rattle.meaning.specs.Bridge.Well.{WellTheory, Agree, Extends, agree-extends}
+use Rattle.meaning.specs.Bridge.Well.{WellTheory, Agree, agree-extends}
 use Rattle.meaning.specs.Bridge.Read.{rule-known}
 use Rattle.meaning.specs.Bridge.Ends.{Ends, done as taken}
 use Rattle.meaning.specs.Bridge.Took.{Post}
 use Rattle.meaning.specs.Bridge.Theory.{well-theory}
 use Rattle.meaning.specs.Bridge.Take.{Asks, take-form-ok}
-use Rattle.meaning.specs.Bridge.Run.{final, IfTaken, Throughout, Good, run-extends, run-good}
+use Rattle.meaning.specs.Bridge.Run.{Good, Passed, passed-none, passed-void, run-extends, run-passed}
 use Rattle.meaning.specs.Bridge.Goals.{Anything, take-goal-ok, anything, start-good}
-
--- Definitions -----------------------------------------------------------------------------------------------------------------------
-
--- a theory text and a goals text that are taken, and the state behind them
-pub record Taken (theory goals : List ℕ) (T : Theory) (S : State) : Type 0 where
-  pub theory-forms : ℕ
-  pub theory-taken : whole declare (read theory) noTheory ≡ done theory-forms T
-  pub goal-forms : ℕ
-  pub goals-taken : whole takeGoal (read goals) (begin T) ≡ done goal-forms S
-
--- the state behind the forms of a proof: behind the last of them, or before the first that is refused
-unfoldable pub after : Text → State → State
-after forms S = final (through takeForm forms 0 S)
-
--- no reference and no case of a form that is taken names a rule hypothesis with premises
-abbrev pub Calmly : Text → State → Type 0
-Calmly forms S = Throughout Calm takeForm forms S
-
--- the sets respect every form that is taken
-abbrev pub Respectful : Sets → Text → State → Type 0
-Respectful K forms S = Throughout (Respects K) takeForm forms S
-
--- the premise, of three texts
-unfoldable pub CalmTexts : List ℕ → List ℕ → List ℕ → Type 0
-CalmTexts theory goals proof = (T : Theory) (S : State) → Taken theory goals T S → Calmly (read proof) S
 
 -- The premise -----------------------------------------------------------------------------------------------------------------------
 
@@ -71,7 +48,7 @@ asks K T w ends S e c r = tt
 asks K T w (fails n) S e c r = tt
 asks K T w (more x p t) S e c r = go (takeForm x S) (take-form-ok K x S) c r (λ u q d h. asks K T w t u q d h)
   where
-    go : (o : Out State (Unit {0})) → Ends (λ _ S′. Post K (Asks K S x) S S′) o → IfTaken (Calm S x) (λ u. Calmly t u) o
+    go : (o : Out State (Unit {0})) → Ends (λ _ S′. Post K (ResultOf S x) (Asks K S x) S S′) o → IfTaken (Calm S x) (λ u. Calmly t u) o
         → IfTaken (Respects K S x) (λ u. Respectful K t u) o
         → ((u : State) → u .theory ≡ T → Calmly t u → Respectful K t u → Throughout (Asks K) takeForm t u)
         → IfTaken (Asks K S x) (λ u. Throughout (Asks K) takeForm t u) o
@@ -109,7 +86,7 @@ theory-respected T ends S e = tt
 theory-respected T (fails n) S e = tt
 theory-respected T (more x p t) S e = go (takeForm x S) (take-form-ok (ofTheory T) x S) (λ u q. theory-respected T t u q)
   where
-    go : (o : Out State (Unit {0})) → Ends (λ _ S′. Post (ofTheory T) (Asks (ofTheory T) S x) S S′) o
+    go : (o : Out State (Unit {0})) → Ends (λ _ S′. Post (ofTheory T) (ResultOf S x) (Asks (ofTheory T) S x) S S′) o
         → ((u : State) → u .theory ≡ T → Respectful (ofTheory T) t u) → IfTaken (Respects (ofTheory T) S x) (λ u. Respectful (ofTheory T) t u) o
     go (ok a u) (taken h) k =
         (record { rests = λ r q. subst (λ z. RuleOf z r) e (tagged-rule S x r q); cites = λ i q. ((λ r q. q), (λ r q. q)) }, k u (h .kept .theory ∙ e))
@@ -117,44 +94,83 @@ theory-respected T (more x p t) S e = go (takeForm x S) (take-form-ok (ofTheory 
 
 -- The proof -------------------------------------------------------------------------------------------------------------------------
 
-at-start : (K : Sets) (T : Theory) → WellTheory T → (vs : ℕ → ℕ) (n k : ℕ) → Good K T vs (final {S = State} (refused n 0 k (begin T)))
-unfolding final
-at-start K T w vs n k = start-good K T w vs
+-- the goals have no results
+nowhere : (t : Text) (S : State) → ¬ (Somewhere (λ U x. ⊥) takeGoal t S)
+unfolding Somewhere OrLater
+nowhere ends S b = b
+nowhere (fails n) S b = b
+nowhere (more x p t) S b = go (takeGoal x S) b (λ u c. nowhere t u c)
+  where
+    go : (o : Out State (Unit {0})) → OrLater ⊥ (λ u. Somewhere (λ U x. ⊥) takeGoal t u) o → ((u : State) → ¬ (Somewhere (λ U x. ⊥) takeGoal t u)) → ⊥
+    go (ok a u) (inl b) k = b
+    go (ok a u) (inr b) k = k u b
+    go (refuse n d u) b k = b
 
-whole-good : (K : Sets) (T : Theory) → WellTheory T → (t : Text) (vs : ℕ → ℕ) → Agree vs (final (whole takeGoal t (begin T)) .vars)
-    → Good K T vs (final (whole takeGoal t (begin T)))
-unfolding whole
-whole-good K T w t vs a = go (unread t 0) a
+whole-passed : (K : Sets) (T : Theory) → WellTheory T → (t : Text) (vs : ℕ → ℕ) → Agree vs (endOf (whole takeGoal t (begin T)) .vars)
+    → Passed K T vs (λ k i. ⊥) (begin T) (endOf (whole takeGoal t (begin T)))
+unfolding whole endOf
+whole-passed K T w t vs a = go (unread t 0) a
   where
     go : (o : Option (ℕ × ℕ))
-        → Agree vs (final {S = State} (elim o as (λ _. Judged State) [ nothing ↦ through takeGoal t 0 (begin T) | some r ↦ refused (r .0) 0 (r .1) (begin T) ]) .vars)
-        → Good K T vs (final {S = State} (elim o as (λ _. Judged State) [ nothing ↦ through takeGoal t 0 (begin T) | some r ↦ refused (r .0) 0 (r .1) (begin T) ]))
-    go nothing b = run-good K takeGoal Anything (take-goal-ok K) T vs t 0 (begin T) (start-good K T w vs) (anything t (begin T)) b
-    go (some r) b = at-start K T w vs (r .0) (r .1)
+        → Agree vs (endOf {S = State} (elim o as (λ _. Judged State) [ nothing ↦ through takeGoal t 0 (begin T) | some r ↦ refused (r .0) 0 (r .1) (begin T) ]) .vars)
+        → Passed K T vs (λ k i. ⊥) (begin T)
+        (endOf {S = State} (elim o as (λ _. Judged State) [ nothing ↦ through takeGoal t 0 (begin T) | some r ↦ refused (r .0) 0 (r .1) (begin T) ]))
+    go nothing b =
+        passed-void K T vs (λ n i. Somewhere (λ U x. ⊥) takeGoal t (begin T)) (λ n i. nowhere t (begin T)) (begin T) (endOf (through takeGoal t 0 (begin T)))
+        (run-passed K takeGoal Anything (λ S x k i. ⊥) (take-goal-ok K) T vs t 0 (begin T) (start-good K T w vs) (anything t (begin T)) b)
+    go (some r) b = passed-none K T vs (λ k i. ⊥) (λ k i b. b) (begin T) (start-good K T w vs)
+
+whole-good : (K : Sets) (T : Theory) → WellTheory T → (t : Text) (vs : ℕ → ℕ) → Agree vs (endOf (whole takeGoal t (begin T)) .vars)
+    → Good K T vs (endOf (whole takeGoal t (begin T)))
+whole-good K T w t vs a = whole-passed K T w t vs a .good
+
+-- the theory is as declared ones are
+taken-formed : (theory goals : List ℕ) (T : Theory) (S : State) → Taken theory goals T S → WellFormed T
+unfolding reached
+taken-formed theory goals T S t = subst (λ z. WellFormed (reached z)) (t .theory-taken) (theory-formed theory)
+
+-- whatever the forms, every tree behind them is over variables that are there
+pub after-bounded : (theory goals : List ℕ) (T : Theory) (S : State) → Taken theory goals T S → (forms : Text) → BoundedCheck (after forms S)
+unfolding after endOf
+after-bounded theory goals T S t forms =
+    forms-bounded S (subst (λ z. BoundedCheck (endOf z)) (t .goals-taken) (goals-bounded T (taken-formed theory goals T S t) (read goals))) forms 0
+
+-- behind the goals, before the proof
+taken-passed : (theory goals : List ℕ) (T : Theory) (S : State) → Taken theory goals T S → (K : Sets) (vs : ℕ → ℕ) → Agree vs (S .vars)
+    → Passed K T vs (λ k i. ⊥) (begin T) S
+unfolding endOf
+taken-passed theory goals T S t K vs a =
+    subst (λ z. Passed K T vs (λ k i. ⊥) (begin T) z) (ap endOf (t .goals-taken))
+    (whole-passed K T (well-theory T (taken-formed theory goals T S t)) (read goals) vs
+    (subst (λ (z : State). Agree vs (z .vars)) (sym (ap endOf (t .goals-taken))) a))
 
 pub taken-good : (theory goals : List ℕ) (T : Theory) (S : State) → Taken theory goals T S → (K : Sets) (vs : ℕ → ℕ) → Agree vs (S .vars) → Good K T vs S
-unfolding reached final
-taken-good theory goals T S t K vs a =
-    subst (λ z. Good K T vs z) (ap final (t .goals-taken))
-    (whole-good K T (well-theory T (subst (λ z. WellFormed (reached z)) (t .theory-taken) (theory-formed theory))) (read goals) vs
-    (subst (λ (z : State). Agree vs (z .vars)) (sym (ap final (t .goals-taken))) a))
+taken-good theory goals T S t K vs a = taken-passed theory goals T S t K vs a .good
+
+-- no goal is taken there
+pub taken-fresh : (theory goals : List ℕ) (T : Theory) (S : State) → Taken theory goals T S → (k : ℕ) (g : Goal) → entry (S .goals) k ≡ some g
+    → ¬ (g .taken ≡ true)
+unfolding Agree entry
+taken-fresh theory goals T S t k g e q =
+    elim (taken-passed theory goals T S t (ofTheory T) (λ v. sortOfVar (S .vars) v) (λ v l. refl) .taken k g e q) [ inl p ↦ no-some p | inr p ↦ p .1 ]
 
 pub taken-theory : (theory goals : List ℕ) (T : Theory) (S : State) → Taken theory goals T S → S .theory ≡ T
 unfolding Agree
 taken-theory theory goals T S t = taken-good theory goals T S t (ofTheory T) (λ v. sortOfVar (S .vars) v) (λ v l. refl) .theory
 
-pub proof-good : (K : Sets) (T : Theory) → Within K T → (S : State) → S .theory ≡ T → ((vs : ℕ → ℕ) → Agree vs (S .vars) → Good K T vs S)
-    → (forms : Text) → Calmly forms S → Respectful K forms S → (vs : ℕ → ℕ) → Agree vs (after forms S .vars) → Good K T vs (after forms S)
+pub proof-passed : (K : Sets) (T : Theory) → Within K T → (S : State) → S .theory ≡ T → ((vs : ℕ → ℕ) → Agree vs (S .vars) → Good K T vs S)
+    → (forms : Text) → Calmly forms S → Respectful K forms S → (vs : ℕ → ℕ) → Agree vs (after forms S .vars)
+    → Passed K T vs (Results forms S) S (after forms S)
 unfolding after
-proof-good K T w S e g forms c r vs a =
-    run-good K takeForm (Asks K) (take-form-ok K) T vs forms 0 S
-    (g vs (agree-extends vs (S .vars) (final (through takeForm forms 0 S) .vars) (run-extends K takeForm (Asks K) (take-form-ok K) forms 0 S) a))
+proof-passed K T w S e g forms c r vs a =
+    run-passed K takeForm (Asks K) ResultOf (take-form-ok K) T vs forms 0 S
+    (g vs (agree-extends vs (S .vars) (endOf (through takeForm forms 0 S) .vars) (run-extends K takeForm (Asks K) ResultOf (take-form-ok K) forms 0 S) a))
     (asks K T w forms S e c r) a
 
 through-good : (T : Theory) (S : State) → S .theory ≡ T → ((us : ℕ → ℕ) → Agree us (S .vars) → Good (ofTheory T) T us S) → (forms : Text) → Calmly forms S
-    → (vs : ℕ → ℕ) → Agree vs (final (through takeForm forms 0 S) .vars) → Good (ofTheory T) T vs (final (through takeForm forms 0 S))
+    → (vs : ℕ → ℕ) → Agree vs (endOf (through takeForm forms 0 S) .vars) → Good (ofTheory T) T vs (endOf (through takeForm forms 0 S))
 unfolding after
-through-good T S e g forms c vs a = proof-good (ofTheory T) T (λ n r k. k) S e g forms c (theory-respected T forms S e) vs a
+through-good T S e g forms c vs a = proof-passed (ofTheory T) T (λ n r k. k) S e g forms c (theory-respected T forms S e) vs a .good
 
 -- The whole check -------------------------------------------------------------------------------------------------------------------
 
@@ -166,8 +182,8 @@ fair : (vs : ℕ → ℕ) (T : Theory) (S : State) → Good (ofTheory T) T vs S 
 fair vs T S g = subst (λ z. Good (ofTheory z) z vs S) (sym (g .theory)) g
 
 module _ (theory goals proof : List ℕ) (calm : CalmTexts theory goals proof) (vs : ℕ → ℕ) where
-  after-proof-fair : (J : Judged State) → (Agree vs (final J .vars) → Good (ofTheory (final J .theory)) (final J .theory) vs (final J)) → Fair vs (afterProof J)
-  unfolding afterProof ended refusedIn final
+  after-proof-fair : (J : Judged State) → (Agree vs (endOf J .vars) → Good (ofTheory (endOf J .theory)) (endOf J .theory) vs (endOf J)) → Fair vs (afterProof J)
+  unfolding afterProof ended refusedIn endOf
   after-proof-fair (done k S) h = go (missing S)
     where
       go : (l : List ℕ) → Fair vs (ended k S l)
@@ -175,16 +191,16 @@ module _ (theory goals proof : List ℕ) (calm : CalmTexts theory goals proof) (
       go (x ∷ l) = h
   after-proof-fair (refused n d k S) h = h
 
-  after-goals-fair : (T : Theory) (J : Judged State) → ((us : ℕ → ℕ) → Agree us (final J .vars) → Good (ofTheory T) T us (final J))
+  after-goals-fair : (T : Theory) (J : Judged State) → ((us : ℕ → ℕ) → Agree us (endOf J .vars) → Good (ofTheory T) T us (endOf J))
       → ((k : ℕ) (S : State) → J ≡ done k S → Calmly (read proof) S) → Fair vs (afterGoals proof J)
-  unfolding afterGoals refusedIn final Agree
+  unfolding afterGoals refusedIn endOf Agree
   after-goals-fair T (refused n d k S) g c = λ a. fair vs T S (g vs a)
   after-goals-fair T (done k S) g c = go (eqb (length (S .goals)) 0)
     where
       go : (b : Bool) → Fair vs (elim b as (λ _. Outcome) [ true ↦ refusedIn 2 25 0 k S | false ↦ afterProof (through takeForm (read proof) 0 S) ])
       go true = λ a. fair vs T S (g vs a)
       go false = after-proof-fair (through takeForm (read proof) 0 S)
-          (λ a. fair vs T (final (through takeForm (read proof) 0 S)) (through-good T S (g (λ v. sortOfVar (S .vars) v) (λ v l. refl) .theory) g (read proof) (c k S refl) vs a))
+          (λ a. fair vs T (endOf (through takeForm (read proof) 0 S)) (through-good T S (g (λ v. sortOfVar (S .vars) v) (λ v l. refl) .theory) g (read proof) (c k S refl) vs a))
 
   calm-of : (k : ℕ) (T : Theory) → whole declare (read theory) noTheory ≡ done k T → (l : ℕ) (S : State)
       → whole takeGoal (read goals) (begin T) ≡ done l S → Calmly (read proof) S

@@ -1,13 +1,12 @@
 -- Actions on the whole state: what an answer says of the value and of the state behind it. Most questions keep the state; an action on the
 -- made trees changes those alone. Assumes nothing.
-use Prim.Native.Nat.{ℕ, zero, suc}
-use native.Mathlib.Omega.{arith}
-use mathlib.Core.Path.{_≡_, refl, sym, _∙_, ap, subst}
+use Prim.Native.Nat.{ℕ}
+use mathlib.Core.Path.{_≡_, refl, sym, subst}
 use mathlib.Core.Bool.{Bool, true, false, not}
 use mathlib.Core.Option.{Option, some, none as nothing}
 use mathlib.Core.List.{List, [], _∷_, _++_}
 use Rattle.rules.specs.Out.{Out, ok, refuse, then, Act, ask, room, found}
-use Rattle.rules.specs.Sexp.{Sexp, Sexps, atom, list, nil, cons, Name, name, items}
+use Rattle.rules.specs.Sexp.{Sexp, Sexps, atom, list, nil, cons, name, items}
 use Rattle.rules.specs.Index.{indexOf}
 use Rattle.rules.specs.Find.{has}
 use Rattle.rules.specs.Store.{Made}

@@ -1,37 +1,36 @@
 -- `induct`, of both kinds: the fact that the definition takes is well-sorted, and satisfies what the form's lemma asks. Of a well state.
-use Prim.Native.Nat.{ℕ, zero, suc, _+_, _<_, _≤_}
+use Prim.Native.Nat.{ℕ, suc, _+_, _<_}
 use native.Mathlib.Omega.{arith}
 use mathlib.Core.Path.{_≡_, refl, sym, _∙_, ap, ap₂, subst}
 use mathlib.Core.Logic.{_⊎_, inl, inr}
 use mathlib.Core.Bool.{Bool, true, false, _&&_, _||_, not}
-use mathlib.Core.Option.{Option, some, none as nothing}
+use mathlib.Core.Option.{some}
 use mathlib.Core.List.{List, [], _∷_, _++_, append-assoc}
 use lib.Dec.{eqb}
 use lib.ListN.{length, getD}
 use borrow.Author.Tests.{eqb-true, eqb-false, eq-eqb}
-use Rattle.rules.specs.Out.{Out, ok, refuse, then, Act, ask, found}
-use Rattle.rules.specs.Sexp.{Sexp, Sexps, atom, list, nil, cons, count, item, rest, items}
-use Rattle.rules.specs.Find.{Set, entry, every, any, all, has, union}
-use Rattle.rules.specs.Tree.{Tree, Trees, var, app, none, more, variables, variablesOf, sameTree, sameTrees, among, single, sub, subs}
-use Rattle.rules.specs.Store.{Made, keep, substitute, substitutes}
-use Rattle.rules.specs.Theory.{Theory, Symbol, noSymbol, inputs, output, constructors}
+use Rattle.rules.specs.Sexp.{Sexp, Sexps, nil, cons, count, item, rest}
+use Rattle.rules.specs.Find.{entry, every, any, all, has}
+use Rattle.rules.specs.Tree.{Tree, Trees, var, app, none, more, variables, variablesOf, sameTree, sameTrees, among, single}
+use Rattle.rules.specs.Store.{Made}
+use Rattle.rules.specs.Theory.{Theory, noSymbol, inputs, output, constructors}
 use Rattle.rules.specs.State.{State, Fact, sortOfVar, isNone, isPlain}
-use Rattle.rules.specs.Read.{index, variable, judgment}
-use Rattle.rules.specs.Reference.{factAt, hypList, judgmentsAt}
+use Rattle.rules.specs.Read.{variable, judgment}
+use Rattle.rules.specs.Reference.{judgmentsAt}
 use Rattle.rules.specs.Induct.{Motive as MotiveOf, motiveVars, caseVars, keepVars, Hyp, hypothesisAt, hypotheses, allowedPlain, allowedRule, allowedHyp}
 use Rattle.rules.specs.Induct.{inductCase, inductCases, inductOn, induct, inductWith}
-use Rattle.meaning.specs.Trees.Tree.{Occ, Occs, Sorted, In, Among}
-use Rattle.meaning.specs.Trees.Tests.{true-false, and-true, or-true, sameTree-true, sameTrees-true, among-true, variables-true, variablesOf-true, occ-variables, occs-variablesOf}
-use Rattle.meaning.specs.Unification.Acts.{Ok, done, stopped, ok-then, ok-any, keep-ok, substitute-ok, substitutes-ok}
-use Rattle.meaning.specs.Signature.{sig, PROP}
+use Rattle.meaning.specs.Trees.Tree.{Occ, Occs, In, Among}
+use Rattle.meaning.specs.Trees.Tests.{true-false, or-true, sameTree-true, sameTrees-true, among-true, variables-true, variablesOf-true, occ-variables, occs-variablesOf}
+use Rattle.meaning.specs.Unification.Acts.{Ok, done, ok-then, keep-ok, substitute-ok, substitutes-ok}
+use Rattle.meaning.specs.Signature.{sig}
 use Rattle.meaning.specs.Truth.{At, HypOf, Plain}
 use Rattle.meaning.specs.Trees.Replace.{vars, Fit, Distinct}
 use Rattle.meaning.specs.Lemmas.Inducts.{CaseHyp, premise, plainly, ruled, Motive, Below, at, ats}
-use Rattle.meaning.specs.Lemmas.Forms.{InductCase, InductForm, Form, induct as anInduct}
-use Rattle.meaning.specs.Named.{Points, Item, ItemOf, Cases}
+use Rattle.meaning.specs.Lemmas.Forms.{InductCase, induct as anInduct}
+use Rattle.meaning.specs.Named.{Item, ItemOf, Cases}
 use Rattle.meaning.specs.Sets.{Sets}
-use Rattle.meaning.specs.Bridge.Asked.{both-true, either-true, true-left, true-right, not-true, ok-ask, ok-map, ok-if, ok-items, ok-index, at-entry, at-unique, at-below, every-in, all-in, has-in}
-use Rattle.meaning.specs.Bridge.Well.{Judgment, Judgments, WellFact, Agree, Well}
+use Rattle.meaning.specs.Bridge.Asked.{both-true, either-true, true-left, true-right, not-true, ok-ask, ok-map, ok-if, ok-items, ok-index, at-entry, at-unique, at-below, every-in, all-in}
+use Rattle.meaning.specs.Bridge.Well.{Judgments, Agree, Well}
 use Rattle.meaning.specs.Bridge.Read.{in-snoc, distinct-snoc, not-has, variable-ok, fact-ok, judgment-ok}
 use Rattle.meaning.specs.Bridge.Refs.{is-none, HypsOk, hyp-list-ok, judgments-at, Citable, cite}
 use Rattle.meaning.specs.Bridge.Apply.{is-plain}

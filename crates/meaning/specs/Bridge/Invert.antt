@@ -1,50 +1,45 @@
 -- `invert`: the fact that the definition takes is well-sorted, and satisfies what the form's lemma asks. Of a well state. The variables
 -- that it makes are there from the next state on, so that the sorts must agree with that state's.
-use Prim.Native.Nat.{ℕ, zero, suc, _+_, _<_, _≤_}
+use Prim.Native.Nat.{ℕ, _+_, _<_}
 use native.Mathlib.Omega.{arith}
-use mathlib.Core.Path.{_≡_, refl, sym, _∙_, ap, ap₂, subst}
+use mathlib.Core.Path.{_≡_, refl, sym, _∙_, ap, subst}
 use mathlib.Core.Logic.{_⊎_, inl, inr}
-use mathlib.Core.Bool.{Bool, true, false, _&&_, _||_, not}
+use mathlib.Core.Bool.{true, false, _&&_, _||_, not}
 use mathlib.Core.Option.{Option, some, none as nothing}
-use mathlib.Core.List.{List, [], _∷_, _++_, append-assoc, append-nil}
-use lib.Dec.{eqb, ltb}
+use mathlib.Core.List.{List, [], _∷_, _++_}
 use lib.ListN.{length, getD}
-use borrow.Author.Tests.{eqb-true, eq-eqb}
-use Rattle.rules.specs.Limits.{VARIABLES}
-use Rattle.rules.specs.Out.{Out, ok, refuse, then, Act, ask, room, found}
-use Rattle.rules.specs.Sexp.{Sexp, Sexps, item, items}
-use Rattle.rules.specs.Find.{Set, entry, every, all, has, union, rising}
-use Rattle.rules.specs.Tree.{Tree, Trees, var, app, none, more, variables, variablesOf, sameTree, sub, subs}
-use Rattle.rules.specs.Store.{Made, substitute}
-use Rattle.rules.specs.Theory.{Theory, Rule, RuleVar, noName, noRule, rule, headIs, rulesOf}
+use borrow.Author.Tests.{eq-eqb}
+use Rattle.rules.specs.Out.{ok}
+use Rattle.rules.specs.Sexp.{Sexps, item}
+use Rattle.rules.specs.Find.{entry, every, all, has, union, rising}
+use Rattle.rules.specs.Tree.{Tree, Trees, app, none, variables, variablesOf, sameTree, sub}
+use Rattle.rules.specs.Store.{Made}
+use Rattle.rules.specs.Theory.{Theory, Rule, noName, noRule, rule, headIs, rulesOf}
 use Rattle.rules.specs.Unify.{Binding, along, unify}
 use Rattle.rules.specs.State.{State, Fact, Var, sortOfVar, isPlain, mentioned}
-use Rattle.rules.specs.Read.{index, judgment}
-use Rattle.rules.specs.Reference.{factAt, hypList}
+use Rattle.rules.specs.Read.{judgment}
 use Rattle.rules.specs.Induct.{keepVars}
-use Rattle.rules.specs.Invert.{Case, caseNamed, readCases, Inversion, mentionedAt, contextVars, takenVars, Names, suit, upFrom, renamed as renamedTo, renaming}
-use Rattle.rules.specs.Invert.{rulePremises, contextFacts, allowedIn, invertCase, caseOrNot, invertRule, invertRules, predicateOf, invert}
-use Rattle.meaning.specs.Trees.Tree.{Occ, Occs, Sorted, In, Among, sorted-sub, sub-occ}
-use Rattle.meaning.specs.Trees.Tests.{true-false, and-true, sameTree-true, occ-variables, occs-variablesOf}
+use Rattle.rules.specs.Invert.{Case, caseNamed, Inversion, mentionedAt, contextVars, takenVars, Names, suit, upFrom, renamed as renamedTo, renaming}
+use Rattle.rules.specs.Invert.{allowedIn, invertCase, caseOrNot, invertRule, invertRules, predicateOf, invert}
+use Rattle.meaning.specs.Trees.Tree.{Occ, Occs, Sorted, In, sorted-sub, sub-occ}
+use Rattle.meaning.specs.Trees.Tests.{true-false, sameTree-true, occ-variables, occs-variablesOf}
 use Rattle.meaning.specs.Unification.Acts.{Ok, done, stopped, ok-then, ok-any, substitute-ok}
 use Rattle.meaning.specs.Unification.Right.{unify-complete, unify-general, unify-sorts}
 use Rattle.meaning.specs.Signature.{sig, PROP, arity, ruleSort}
 use Rattle.meaning.specs.Derivation.{RuleOf}
-use Rattle.meaning.specs.Truth.{Mentions, At, HypOf, Plain}
-use Rattle.meaning.specs.Trees.Replace.{Distinct}
-use Rattle.meaning.specs.Lemmas.Inverts.{renamed, Used, Apart, General, InvertHyp}
-use Rattle.meaning.specs.Lemmas.Forms.{InContext, InvertCase, InvertCased, lone, paired, InvertRule, InvertForm, Form, invert as anInvert}
-use Rattle.meaning.specs.Named.{Points, Item, ItemOf, CasesFor, SomeInverts}
+use Rattle.meaning.specs.Truth.{Mentions, At, HypOf}
+use Rattle.meaning.specs.Lemmas.Inverts.{renamed, Used, Apart}
+use Rattle.meaning.specs.Lemmas.Forms.{InContext, InvertCase, InvertCased, lone, paired, InvertRule, invert as anInvert}
+use Rattle.meaning.specs.Named.{ItemOf, CasesFor, SomeInverts}
 use Rattle.meaning.specs.Sets.{Sets}
-use Rattle.meaning.specs.Bridge.Asked.{no-some, both-true, true-left, true-right, not-true, ok-self, ok-ask, ok-space, ok-map, ok-items, ok-index, at-entry, at-below, every-in, in-every, all-in, has-in, in-has, rising-in, in-rising}
-use Rattle.meaning.specs.Bridge.Well.{IsApp, Typed, Judgment, Judgments, WellRule, WellTheory, WellFact, Agree, Extends, Well, app-form, judgments-small, extends-same, extends-both, extends-length, agree-extends}
+use Rattle.meaning.specs.Bridge.Asked.{both-true, true-left, true-right, not-true, ok-self, ok-ask, ok-map, ok-items, ok-index, at-entry, at-below, every-in, in-every, all-in, in-has, rising-in, in-rising}
+use Rattle.meaning.specs.Bridge.Well.{Judgment, Judgments, WellRule, WellTheory, Agree, Extends, Well, app-form, judgments-small, extends-same, extends-both, extends-length, agree-extends}
 use Rattle.meaning.specs.Bridge.Read.{VarsOk, fact-ok, judgment-ok}
 use Rattle.meaning.specs.Bridge.Refs.{HypsOk, hyp-list-ok, Citable, cite}
 use Rattle.meaning.specs.Bridge.Apply.{is-plain, in-here}
 use Rattle.meaning.specs.Bridge.Step.{Fine}
-use Rattle.meaning.specs.Bridge.Induct.{keep-vars-ok}
 use Rattle.meaning.specs.Bridge.Names.{get-in, get-distinct, suit-sorts, get-up, madeFor, make-vars-ok, made-length, made-sort}
-use Rattle.meaning.specs.Bridge.Case.{CaseOk, CasesOk, read-cases-ok, case-found, Uncaptured, FromRule, FromContext, EachA, rule-premises-ok, context-facts-ok, allowed-in, premises-and-context}
+use Rattle.meaning.specs.Bridge.Case.{CasesOk, read-cases-ok, case-found, Uncaptured, rule-premises-ok, context-facts-ok, allowed-in, premises-and-context}
 
 -- The renaming ----------------------------------------------------------------------------------------------------------------------
 

@@ -1,21 +1,20 @@
 -- What the success of `matches` and `build` says: the bindings make the pattern the tree, every variable of the pattern is bound, and
 -- nothing else is newly bound. Assumes nothing.
-use Prim.Native.Nat.{ℕ, zero, suc, _<_}
+use Prim.Native.Nat.{ℕ}
 use native.Mathlib.Decide.{ℕ-discrete}
 use mathlib.Core.Path.{_≡_, refl, sym, _∙_, ap, ap₂, subst}
 use mathlib.Core.Logic.{_⊎_, inl, inr}
 use mathlib.Core.Bool.{Bool, true, false}
 use mathlib.Core.Option.{Option, some, none as nothing}
 use lib.Dec.{eqb}
-use borrow.Author.Tests.{eqb-true, eqb-false, eq-eqb, ne-eqb}
-use Rattle.rules.specs.Out.{Out, ok, refuse, then, found}
+use borrow.Author.Tests.{eqb-true, eq-eqb, ne-eqb}
 use Rattle.rules.specs.Tree.{Tree, Trees, var, app, none, more, sameTree, sub, subs}
-use Rattle.rules.specs.Store.{Made, keep}
+use Rattle.rules.specs.Store.{Made}
 use Rattle.rules.specs.Match.{Bound, bind, matchVar, andThen, matches, matchAll, build, builds}
 use Rattle.meaning.specs.Trees.Tree.{Occ, Occs}
-use Rattle.meaning.specs.Trees.Tests.{true-false, sameTree-true}
-use Rattle.meaning.specs.Unification.Acts.{Ok, done, stopped, ok-then, ok-any, keep-ok}
-use Rattle.meaning.specs.Bridge.Asked.{no-some, some-same, ok-found, ok-map}
+use Rattle.meaning.specs.Trees.Tests.{sameTree-true}
+use Rattle.meaning.specs.Unification.Acts.{Ok, done, ok-then, keep-ok}
+use Rattle.meaning.specs.Bridge.Asked.{no-some, ok-found, ok-map}
 
 -- b′ has all that b has
 unfoldable pub Grows : Bound → Bound → Type 0

@@ -1,22 +1,21 @@
 -- The names of a rule's variables in `invert`: those of its case, or variables that are made. Assumes nothing.
-use Prim.Native.Nat.{ℕ, zero, suc, _+_, _<_, _≤_}
+use Prim.Native.Nat.{ℕ, zero, suc, _+_, _<_}
 use native.Mathlib.Omega.{arith}
 use mathlib.Core.Path.{_≡_, refl, sym, _∙_, ap, subst}
 use mathlib.Core.Logic.{inl, inr}
-use mathlib.Core.Bool.{Bool, true, false}
+use mathlib.Core.Bool.{true, false}
 use mathlib.Core.List.{List, [], _∷_, _++_, append-assoc, append-nil}
 use lib.Dec.{eqb, ltb}
 use lib.ListN.{length, getD}
 use borrow.Author.Tests.{eqb-true}
 use Rattle.rules.specs.Limits.{VARIABLES}
-use Rattle.rules.specs.Out.{Out, ok, refuse, then, Act, room}
 use Rattle.rules.specs.Store.{Made}
 use Rattle.rules.specs.Theory.{RuleVar, noName}
 use Rattle.rules.specs.State.{Var, sortOfVar}
 use Rattle.rules.specs.Invert.{suit, makeVars, upFrom}
 use Rattle.meaning.specs.Trees.Tree.{In}
 use Rattle.meaning.specs.Trees.Tests.{true-false, and-true}
-use Rattle.meaning.specs.Unification.Acts.{Ok, done, stopped, ok-then}
+use Rattle.meaning.specs.Unification.Acts.{Ok, done, ok-then}
 use Rattle.meaning.specs.Trees.Replace.{Distinct}
 use Rattle.meaning.specs.Bridge.Asked.{ok-space, ok-map}
 

@@ -1,52 +1,50 @@
 -- Every form of the proof, as an action on the state, does to it what `Took` says. Of a well state.
-use Prim.Native.Nat.{ℕ, zero, suc, _+_, _<_, _≤_}
+use Prim.Native.Nat.{ℕ, _+_}
 use native.Mathlib.Omega.{arith}
-use native.Mathlib.Decide.{ℕ-discrete}
-use mathlib.Core.Path.{_≡_, refl, sym, _∙_, ap, subst}
+use mathlib.Core.Path.{_≡_, refl, sym, subst}
 use mathlib.Core.Logic.{_⊎_, inl, inr}
 use mathlib.Core.Bool.{Bool, true, false, _&&_, not}
 use mathlib.Core.Option.{Option, some, none as nothing}
 use mathlib.Core.List.{List, [], _∷_, _++_}
-use lib.Dec.{eqb, ltb, leb}
+use lib.Dec.{ltb, leb}
 use lib.ListN.{length}
 use Rattle.rules.specs.Limits.{VARIABLES, DEFS}
-use Rattle.rules.specs.Out.{Out, ok, refuse, then, Act, ask, room, found, get, put}
+use Rattle.rules.specs.Out.{Out, then}
 use Rattle.rules.specs.Text.{same}
-use Rattle.rules.specs.Sexp.{Sexp, Sexps, atom, list, count, item, name, items, marked}
+use Rattle.rules.specs.Sexp.{Sexp, Sexps, item, name, marked}
 use Rattle.rules.specs.Find.{all, has}
-use Rattle.rules.specs.Tree.{Tree, Trees, none, more, sameTree, among}
+use Rattle.rules.specs.Tree.{Tree, Trees, none}
 use Rattle.rules.specs.Store.{Made}
-use Rattle.rules.specs.Theory.{Theory, Rule, rule, rulesOf, sortNamed, constructorNamed, predicateNamed}
+use Rattle.rules.specs.Theory.{Rule, rule, sortNamed, constructorNamed, predicateNamed}
 use Rattle.rules.specs.Declare.{isNew}
-use Rattle.rules.specs.State.{State, Fact, Goal, Counts, Var, Def, noCounts, varNamed, goalNamed, abbreviated, isPlain, sortOf}
-use Rattle.rules.specs.Read.{index, term, judgment, judgments, varsList}
-use Rattle.rules.specs.Reference.{Ref, reference, hypList, factAt}
+use Rattle.rules.specs.State.{State, Fact, Var, Def, noCounts, varNamed, abbreviated, isPlain, sortOf}
+use Rattle.rules.specs.Read.{term, judgment, judgments, varsList}
 use Rattle.rules.specs.Step.{step}
 use Rattle.rules.specs.Apply.{apply}
 use Rattle.rules.specs.Induct.{keepVars, induct, inductWith}
-use Rattle.rules.specs.Invert.{Case, caseNamed, readCases, Inversion, Names, makeVars, upFrom, renamed, renaming, caseOrNot, invertRule, invertRules, predicateOf, takenVars, suit, invert}
-use Rattle.rules.specs.Tags.{Tag, aVar, aDef, aStep, aHyp, aRuleHyp, anInduct, anInductWith, anApply, anInvert, aResult, proofTag}
-use Rattle.rules.specs.Forms.{withMade, withVars, withDefs, withGoals, withFacts, making, addVar, addDef, addFact, hypothesis, oneHypothesis, oneInduction, oneInversion, someInstances}
-use Rattle.rules.specs.Forms.{addHyp, addRuleHyp, addStep, addApply, addInduct, addInductWith, addInvert, listed, takenGoal, result, next, perform, takeForm}
-use Rattle.meaning.specs.Trees.Tree.{In, Among}
-use Rattle.meaning.specs.Trees.Tests.{true-false, sameTree-true, among-true}
-use Rattle.meaning.specs.Unification.Acts.{Ok, done as fine, stopped as over, ok-then, ok-any}
-use Rattle.meaning.specs.Truth.{At, Plain}
-use Rattle.meaning.specs.Lemmas.Forms.{grown, Ref as RefForm, hyp}
-use Rattle.meaning.specs.Named.{ItemOf, NamesAs, SomeRefers, SomeCases, SomeInverts, tagOf, Names as NamesFact, RuleHyp, Calm}
+use Rattle.rules.specs.Invert.{Case, caseNamed, Inversion, Names, renamed, invertRule, invertRules, takenVars, suit, invert}
+use Rattle.rules.specs.Tags.{Tag, aDef, aStep, aHyp, aRuleHyp, anInduct, anInductWith, anApply, anInvert}
+use Rattle.rules.specs.Forms.{withMade, withVars, withDefs, addVar, addDef, hypothesis, oneHypothesis, oneInduction, oneInversion, someInstances}
+use Rattle.rules.specs.Forms.{addHyp, addRuleHyp, addStep, addApply, addInduct, addInductWith, addInvert}
+use Rattle.meaning.specs.Trees.Tree.{In}
+use Rattle.meaning.specs.Trees.Tests.{true-false}
+use Rattle.meaning.specs.Unification.Acts.{Ok, done as fine, ok-then, ok-any}
+use Rattle.meaning.specs.Truth.{At}
+use Rattle.meaning.specs.Lemmas.Forms.{hyp}
+use Rattle.meaning.specs.Named.{ItemOf, NamesAs, ResultAs, SomeRefers, SomeCases, RuleHyp}
 use Rattle.meaning.specs.Derivation.{RuleOf}
 use Rattle.meaning.specs.Sets.{Sets, RuleAs, CitesAs}
-use Rattle.meaning.specs.Bridge.Asked.{no-some, some-same, both-true, ok-map, ok-ask, entry-at, at-entry, all-in}
-use Rattle.meaning.specs.Bridge.Well.{Typed, Judgment, Judgments, WellFact, Agree, Extends, Well, extends-same, extends-one, extends-both}
-use Rattle.meaning.specs.Bridge.Read.{fact-ok, term-ok, judgment-ok, judgments-ok}
+use Rattle.meaning.specs.Bridge.Asked.{some-same, ok-map, ok-ask}
+use Rattle.meaning.specs.Bridge.Well.{Typed, Judgment, Judgments, Agree, Extends, Well, extends-same, extends-one, extends-both}
+use Rattle.meaning.specs.Bridge.Read.{term-ok, judgment-ok, judgments-ok}
 use Rattle.meaning.specs.Bridge.Refs.{calm-free, Citable, Free-of-rules}
 use Rattle.meaning.specs.Bridge.Step.{Fine, step-ok}
-use Rattle.meaning.specs.Bridge.Apply.{is-plain, in-here, apply-ok}
+use Rattle.meaning.specs.Bridge.Apply.{in-here, apply-ok}
 use Rattle.meaning.specs.Bridge.Induct.{Cases-free, induct-ok, induct-with-ok}
 use Rattle.meaning.specs.Bridge.Names.{madeFor, make-vars-ok}
 use Rattle.meaning.specs.Bridge.Invert.{invert-ok}
-use Rattle.meaning.specs.Bridge.Ends.{Ends, done, stopped, Keeps, ends-then, ends-map, keeping, keeps-ask, keeps-room, keeps-found, keeps-name, keeps-items, keeps-index, keeps-vars-list, making-then}
-use Rattle.meaning.specs.Bridge.Took.{Kept, resting, Settled, Took, Post, ok-all, well-vars, well-fact, add-fact, fact-post}
+use Rattle.meaning.specs.Bridge.Ends.{Ends, done, ends-map, keeping, keeps-ask, keeps-room, keeps-found, keeps-name, keeps-vars-list, making-then}
+use Rattle.meaning.specs.Bridge.Took.{Post, ok-all, no-result, well-vars, add-fact, fact-post}
 
 -- what is asked of a form: the facts that it names are no rule hypotheses with premises, and the sets respect what it cites
 pub record Clear (K : Sets) (t : Tag) (S : State) (xs : Sexps) : Type 0 where
@@ -57,7 +55,7 @@ pub record Clear (K : Sets) (t : Tag) (S : State) (xs : Sexps) : Type 0 where
   pub within : (r : ℕ) → K .known (length (S .facts)) r → RuleOf (S .theory) r
 
 abbrev pub After : Sets → Tag → Sexps → State → Out State (Unit {0}) → Type 0
-After K t xs S o = Ends (λ _ S′. Post K (Clear K t S xs) S S′) o
+After K t xs S o = Ends (λ _ S′. Post K (ResultAs t S xs) (Clear K t S xs) S S′) o
 
 -- a state and what is asked of it
 abbrev Given : Sets → Tag → Sexps → State → Type 0
@@ -65,28 +63,23 @@ Given K t xs S = (vs : ℕ → ℕ) × Well S vs × Clear K t S xs
 
 -- Variables and abbreviations -------------------------------------------------------------------------------------------------------
 
-pub add-var-ok : (K : Sets) (C : Type 0) (text : ℕ) (xs : Sexps) (S : State) → Ends (λ _ S′. Post K C S S′ × (S′ .facts ≡ S .facts) × (S′ .goals ≡ S .goals)) (addVar text xs S)
+pub add-var-ok : {By : ℕ → ℕ → Type 0} (K : Sets) → ((k i : ℕ) → ¬ (By k i)) → (C : Type 0) (text : ℕ) (xs : Sexps) (S : State)
+    → Ends (λ _ S′. Post K By C S S′) (addVar text xs S)
 unfolding addVar then
-add-var-ok K C text xs S =
+add-var-ok K void C text xs S =
     keeping _ (keeps-name 21 (item xs 1) S) (λ n _.
     keeping _ (keeps-name 21 (item xs 2) S) (λ s _.
     keeping _ (keeps-found 21 (sortNamed (S .theory) (s .bytes)) S) (λ k _.
     keeping _ (keeps-ask 21 (not (marked (n .bytes)) && (isNew (constructorNamed (S .theory) (n .bytes))
     && (isNew (predicateNamed (S .theory) (n .bytes)) && isNew (varNamed (S .vars) (n .bytes))))) S) (λ _ _.
     keeping _ (keeps-room 7 (ltb (length (S .vars)) VARIABLES) S) (λ _ _.
-    done (
-      record {
-        kept = record { theory = refl; vars = extends-one (S .vars) (record { sort = k; text = text; name = n }) };
-        took = λ vs w _ a. record {
-          well = well-vars S vs w (S .made) (S .vars ++ (record { sort = k; text = text; name = n } ∷ []))
-              (extends-one (S .vars) (record { sort = k; text = text; name = n })) a;
-          facts = inl refl;
-          goals = λ i g q t. inl q;
-        };
-      },
-      refl,
-      refl,
-    ))))))
+    done (record {
+      kept = record { theory = refl; vars = extends-one (S .vars) (record { sort = k; text = text; name = n }) };
+      took = λ vs w _ a. no-result K void S vs (withVars S (S .vars ++ (record { sort = k; text = text; name = n } ∷ []))) refl
+          (well-vars S vs w (S .made) (S .vars ++ (record { sort = k; text = text; name = n } ∷ []))
+          (extends-one (S .vars) (record { sort = k; text = text; name = n })) a)
+          (inl refl);
+    }))))))
 
 abbreviated-more : (ds : List Def) (d : Def) (x : List ℕ) (t : Tree) → abbreviated (ds ++ (d ∷ [])) x ≡ some t
     → (abbreviated ds x ≡ some t) ⊎ (d .term ≡ t)
@@ -117,7 +110,7 @@ well-def S vs w m d y = record {
 }
 
 pub add-def-ok : (K : Sets) (xs : Sexps) (S : State) → After K aDef xs S (addDef xs S)
-unfolding addDef then
+unfolding addDef then ResultAs
 add-def-ok K xs S =
     keeping _ (keeps-name 33 (item xs 1) S) (λ n _.
     keeping _ (keeps-ask 33 (marked (n .bytes) && leb 2 (length (n .bytes))) S) (λ _ _.
@@ -128,11 +121,8 @@ add-def-ok K xs S =
     keeping _ (keeps-room 10 (ltb (length (S .defs)) DEFS) (withMade S m)) (λ _ _.
     done (record {
       kept = record { theory = refl; vars = extends-same (S .vars) };
-      took = λ vs w _ _. record {
-        well = well-def S vs w m (record { name = n; term = t }) (y (vs, w));
-        facts = inl refl;
-        goals = λ i g q t. inl q;
-      };
+      took = λ vs w _ _. no-result K (λ k i b. b) S vs (withDefs (withMade S m) (S .defs ++ (record { name = n; term = t } ∷ []))) refl
+          (well-def S vs w m (record { name = n; term = t }) (y (vs, w))) (inl refl);
     }))))))
 
 -- Hypotheses ------------------------------------------------------------------------------------------------------------------------
@@ -151,17 +141,17 @@ hyp-fine K S vs w j ps gs a b = record {
 }
 
 pub add-hyp-ok : (K : Sets) (xs : Sexps) (S : State) → After K aHyp xs S (addHyp xs S)
-unfolding addHyp then Judgments
+unfolding addHyp then Judgments ResultAs
 add-hyp-ok K xs S =
     making-then (judgment S (item xs 2)) S _
     (ok-all {I = (vs : ℕ → ℕ) × Well S vs} {P = λ i t. Judgment (S .theory) (i .0) (length (S .vars)) t}
     (judgment S (item xs 2) (S .made)) (λ i. judgment-ok S (i .0) (i .1) (item xs 2) (S .made))) (λ j m y.
-    ends-map (λ _ S′ e. subst (λ z. Post K (Clear K aHyp S xs) S z) (sym e)
-    (fact-post K S m (S .vars) (extends-same (S .vars)) (hypothesis (length (S .facts)) j none []) _ (λ vs w _ _. hyp-fine K S vs w j none [] (y (vs, w)) tt)))
+    ends-map (λ _ S′ e. subst (λ z. Post K (ResultAs aHyp S xs) (Clear K aHyp S xs) S z) (sym e)
+    (fact-post K (λ k i b. b) S m (S .vars) (extends-same (S .vars)) (hypothesis (length (S .facts)) j none []) _ (λ vs w _ _. hyp-fine K S vs w j none [] (y (vs, w)) tt)))
     (add-fact (hypothesis (length (S .facts)) j none []) oneHypothesis (withMade S m)))
 
 pub add-rule-hyp-ok : (K : Sets) (xs : Sexps) (S : State) → After K aRuleHyp xs S (addRuleHyp xs S)
-unfolding addRuleHyp then
+unfolding addRuleHyp then ResultAs
 add-rule-hyp-ok K xs S =
     making-then (judgments S (item xs 2)) S _
     (ok-all {I = (vs : ℕ → ℕ) × Well S vs} {P = λ i t. Judgments (S .theory) (i .0) (length (S .vars)) t}
@@ -170,8 +160,8 @@ add-rule-hyp-ok K xs S =
     (ok-all {I = (vs : ℕ → ℕ) × Well S vs} {P = λ i t. Judgment (S .theory) (i .0) (length (S .vars)) t}
     (judgment S (item xs 3) m) (λ i. judgment-ok S (i .0) (i .1) (item xs 3) m)) (λ j m₁ y.
     keeping _ (keeps-vars-list 36 S (item xs 4) (withMade S m₁) (ok-any (varsList 36 S (item xs 4) (withMade S m₁)))) (λ gs _.
-    ends-map (λ _ S′ e. subst (λ z. Post K (Clear K aRuleHyp S xs) S z) (sym e)
-    (fact-post K S m₁ (S .vars) (extends-same (S .vars)) (hypothesis (length (S .facts)) j ps gs) _
+    ends-map (λ _ S′ e. subst (λ z. Post K (ResultAs aRuleHyp S xs) (Clear K aRuleHyp S xs) S z) (sym e)
+    (fact-post K (λ k i b. b) S m₁ (S .vars) (extends-same (S .vars)) (hypothesis (length (S .facts)) j ps gs) _
     (λ vs w _ _. hyp-fine K S vs w j ps gs (y (vs, w)) (x (vs, w)))))
     (add-fact (hypothesis (length (S .facts)) j ps gs) oneHypothesis (withMade S m₁)))))
 
@@ -193,44 +183,44 @@ cases-free K S vs w y c e x k i f r a =
     (calm-free (S .theory) vs (length (S .vars)) (length (S .facts)) f (w .facts i f a) (c i f (x, k, r) a), e i (x, k, r))
 
 pub add-step-ok : (K : Sets) (xs : Sexps) (S : State) → After K aStep xs S (addStep xs S)
-unfolding addStep then NamesAs RuleAs CitesAs Citable
+unfolding addStep then NamesAs RuleAs CitesAs Citable ResultAs
 add-step-ok K xs S =
     making-then (step S xs) S _
     (ok-all {I = Given K aStep xs S} {P = λ i r. Fine K S (i .0) (i .1) (r .0)} (step S xs (S .made))
     (λ i. step-ok K S (i .0) (i .1) xs (refs-free K S (i .0) (i .1) (item xs 3) (i .2 .calm) (i .2 .cites)) (i .2 .rests) (S .made))) (λ r m y.
-    ends-map (λ _ S′ e. subst (λ z. Post K (Clear K aStep S xs) S z) (sym e)
-    (fact-post K S m (S .vars) (extends-same (S .vars)) (r .0) _ (λ vs w c _. y (vs, w, c))))
+    ends-map (λ _ S′ e. subst (λ z. Post K (ResultAs aStep S xs) (Clear K aStep S xs) S z) (sym e)
+    (fact-post K (λ k i b. b) S m (S .vars) (extends-same (S .vars)) (r .0) _ (λ vs w c _. y (vs, w, c))))
     (add-fact (r .0) (someInstances (r .1)) (withMade S m)))
 
 pub add-apply-ok : (K : Sets) (xs : Sexps) (S : State) → After K anApply xs S (addApply xs S)
-unfolding addApply then NamesAs RuleAs CitesAs Citable
+unfolding addApply then NamesAs RuleAs CitesAs Citable ResultAs
 add-apply-ok K xs S =
     making-then (apply S xs) S _
     (ok-all {I = Given K anApply xs S} {P = λ i f. Fine K S (i .0) (i .1) f} (apply S xs (S .made))
     (λ i. apply-ok K S (i .0) (i .1) xs (λ k p. i .2 .cites k (inl p))
     (refs-free K S (i .0) (i .1) (item xs 4) (i .2 .calm) (λ k p. i .2 .cites k (inr p))) (S .made))) (λ f m y.
-    ends-map (λ _ S′ e. subst (λ z. Post K (Clear K anApply S xs) S z) (sym e)
-    (fact-post K S m (S .vars) (extends-same (S .vars)) f _ (λ vs w c _. y (vs, w, c))))
+    ends-map (λ _ S′ e. subst (λ z. Post K (ResultAs anApply S xs) (Clear K anApply S xs) S z) (sym e)
+    (fact-post K (λ k i b. b) S m (S .vars) (extends-same (S .vars)) f _ (λ vs w c _. y (vs, w, c))))
     (add-fact f noCounts (withMade S m)))
 
 pub add-induct-ok : (K : Sets) (xs : Sexps) (S : State) → After K anInduct xs S (addInduct xs S)
-unfolding addInduct then NamesAs RuleAs CitesAs Citable
+unfolding addInduct then NamesAs RuleAs CitesAs Citable ResultAs
 add-induct-ok K xs S =
     making-then (induct S xs) S _
     (ok-all {I = Given K anInduct xs S} {P = λ i f. Fine K S (i .0) (i .1) f} (induct S xs (S .made))
     (λ i. induct-ok K S (i .0) (i .1) xs (cases-free K S (i .0) (i .1) (item xs 4) (i .2 .calm) (i .2 .cites)) (S .made))) (λ f m y.
-    ends-map (λ _ S′ e. subst (λ z. Post K (Clear K anInduct S xs) S z) (sym e)
-    (fact-post K S m (S .vars) (extends-same (S .vars)) f _ (λ vs w c _. y (vs, w, c))))
+    ends-map (λ _ S′ e. subst (λ z. Post K (ResultAs anInduct S xs) (Clear K anInduct S xs) S z) (sym e)
+    (fact-post K (λ k i b. b) S m (S .vars) (extends-same (S .vars)) f _ (λ vs w c _. y (vs, w, c))))
     (add-fact f oneInduction (withMade S m)))
 
 pub add-induct-with-ok : (K : Sets) (xs : Sexps) (S : State) → After K anInductWith xs S (addInductWith xs S)
-unfolding addInductWith then NamesAs RuleAs CitesAs Citable
+unfolding addInductWith then NamesAs RuleAs CitesAs Citable ResultAs
 add-induct-with-ok K xs S =
     making-then (inductWith S xs) S _
     (ok-all {I = Given K anInductWith xs S} {P = λ i f. Fine K S (i .0) (i .1) f} (inductWith S xs (S .made))
     (λ i. induct-with-ok K S (i .0) (i .1) xs (cases-free K S (i .0) (i .1) (item xs 5) (i .2 .calm) (i .2 .cites)) (S .made))) (λ f m y.
-    ends-map (λ _ S′ e. subst (λ z. Post K (Clear K anInductWith S xs) S z) (sym e)
-    (fact-post K S m (S .vars) (extends-same (S .vars)) f _ (λ vs w c _. y (vs, w, c))))
+    ends-map (λ _ S′ e. subst (λ z. Post K (ResultAs anInductWith S xs) (Clear K anInductWith S xs) S z) (sym e)
+    (fact-post K (λ k i b. b) S m (S .vars) (extends-same (S .vars)) f _ (λ vs w c _. y (vs, w, c))))
     (add-fact f oneInduction (withMade S m)))
 
 -- made variables stand behind those that were there
@@ -261,12 +251,12 @@ invert-extends S xs m =
     ok-then (rules-extend S _ _ (record { vars = S .vars; seen = [] }) m₇) (λ N m₈ e. fine e))))))))
 
 pub add-invert-ok : (K : Sets) (xs : Sexps) (S : State) → After K anInvert xs S (addInvert xs S)
-unfolding addInvert then NamesAs RuleAs CitesAs Citable
+unfolding addInvert then NamesAs RuleAs CitesAs Citable ResultAs
 add-invert-ok K xs S =
     making-then (invert S xs) S _
     (ok-all {I = Unit {0} ⊎ Given K anInvert xs S} {P = λ i r. Made-by r i} (invert S xs (S .made)) (λ i. by i)) (λ r m y.
-    ends-map (λ _ S′ e. subst (λ z. Post K (Clear K anInvert S xs) S z) (sym e)
-    (fact-post K S m (r .1) (y (inl tt)) (r .0) _ (λ vs w c a. y (inr (vs, w, c)) a)))
+    ends-map (λ _ S′ e. subst (λ z. Post K (ResultAs anInvert S xs) (Clear K anInvert S xs) S z) (sym e)
+    (fact-post K (λ k i b. b) S m (r .1) (y (inl tt)) (r .0) _ (λ vs w c a. y (inr (vs, w, c)) a)))
     (add-fact (r .0) oneInversion (withVars (withMade S m) (r .1))))
   where
     Made-by : Fact × List Var → Unit {0} ⊎ Given K anInvert xs S → Type 0

@@ -1,21 +1,20 @@
 -- What is read is well-sorted over the variables that are there: terms, judgments, variables, facts named by number. Of a well state.
-use Prim.Native.Nat.{ℕ, zero, suc, _<_, _≤_}
-use mathlib.Core.Path.{_≡_, refl, sym, _∙_, ap, subst}
+use Prim.Native.Nat.{ℕ, _<_}
+use mathlib.Core.Path.{_≡_, refl, sym, subst}
 use mathlib.Core.Logic.{_⊎_, inl, inr}
-use mathlib.Core.Bool.{Bool, true, false, _&&_, not}
-use mathlib.Core.Option.{Option, some, none as nothing}
+use mathlib.Core.Bool.{true, false, _&&_, not}
+use mathlib.Core.Option.{some}
 use mathlib.Core.List.{List, [], _∷_, _++_}
 use lib.Dec.{eqb, leb}
 use lib.ListN.{length, getD}
 use borrow.Author.Tests.{eqb-true}
-use Rattle.rules.specs.Out.{Out, ok, refuse, then, Act, ask, found}
 use Rattle.rules.specs.Text.{same}
-use Rattle.rules.specs.Sexp.{Sexp, Sexps, atom, list, nil, cons, count, item, rest, name, items, marked}
-use Rattle.rules.specs.Find.{first, entry, has}
+use Rattle.rules.specs.Sexp.{Sexp, Sexps, atom, list, nil, cons, count, item, rest, name, marked}
+use Rattle.rules.specs.Find.{entry, has}
 use Rattle.rules.specs.Tree.{Tree, Trees, var, app, none, more}
 use Rattle.rules.specs.Store.{Made, keep}
-use Rattle.rules.specs.Theory.{Theory, Symbol, noSymbol, noRule, inputs, output, isPredicate, constructorNamed, predicateNamed, ruleNamed}
-use Rattle.rules.specs.State.{State, Fact, Var, noVar, sortOfVar, sortOf, fit, varNamed, abbreviated, isEmpty}
+use Rattle.rules.specs.Theory.{Theory, noSymbol, noRule, inputs, output, isPredicate, constructorNamed, predicateNamed, ruleNamed}
+use Rattle.rules.specs.State.{State, Var, noVar, sortOf, fit, varNamed, abbreviated, isEmpty}
 use Rattle.rules.specs.Read.{variable, others, varsList, named, term, compound, terms, termOf, judgment, judgmentEach, judgments}
 use Rattle.rules.specs.Reference.{factAt}
 use Rattle.meaning.specs.Trees.Tree.{Occ, Occs, Sorted, Sorteds, In}
@@ -24,7 +23,7 @@ use Rattle.meaning.specs.Unification.Acts.{Ok, done, stopped, ok-then, o
 use Rattle.meaning.specs.Signature.{sig, PROP}
 use Rattle.meaning.specs.Truth.{At}
 use Rattle.meaning.specs.Trees.Replace.{Distinct}
-use Rattle.meaning.specs.Bridge.Asked.{no-some, both-true, not-true, ok-ask, ok-found, ok-map, ok-if, ok-case, ok-items, first-zero, entry-at, has-in, in-has}
+use Rattle.meaning.specs.Bridge.Asked.{both-true, not-true, ok-ask, ok-found, ok-map, ok-if, ok-case, ok-items, first-zero, entry-at, in-has}
 use Rattle.meaning.specs.Bridge.Well.{IsApp, Typed, Judgment, Judgments, Agree, Well}
 
 -- Look-ups by name ------------------------------------------------------------------------------------------------------------------

@@ -1,35 +1,34 @@
 -- References, bindings, lists of hypotheses and question 39: what the definition takes of them is what the forms' lemmas ask. Of a well
 -- state.
-use Prim.Native.Nat.{ℕ, zero, suc, _<_, _≤_}
+use Prim.Native.Nat.{ℕ, zero, suc, _<_}
 use mathlib.Core.Path.{_≡_, refl, sym, _∙_, ap, subst}
 use mathlib.Core.Logic.{_⊎_, inl, inr}
 use mathlib.Core.Bool.{Bool, true, false, _&&_, _||_, not}
 use mathlib.Core.Option.{Option, some, none as nothing}
-use mathlib.Core.List.{List, [], _∷_, _++_}
+use mathlib.Core.List.{List, [], _∷_}
 use lib.Dec.{eqb}
 use lib.ListN.{length}
-use Rattle.rules.specs.Out.{Out, ok, refuse, then, Act, ask, found}
-use Rattle.rules.specs.Sexp.{Sexp, Sexps, atom, list, nil, cons, count, item, rest, items}
-use Rattle.rules.specs.Find.{Set, entry, has, union, minus, rising, least}
-use Rattle.rules.specs.Tree.{Tree, Trees, var, app, none, more, variables, variablesOf, sub, subs}
-use Rattle.rules.specs.Store.{Made, substitute}
+use Rattle.rules.specs.Sexp.{Sexp, Sexps, atom, list, nil, cons, count, item, rest}
+use Rattle.rules.specs.Find.{Set, entry, has, union, minus, least}
+use Rattle.rules.specs.Tree.{Tree, Trees, none, more, variables, variablesOf, sub}
+use Rattle.rules.specs.Store.{Made}
 use Rattle.rules.specs.Theory.{Theory}
 use Rattle.rules.specs.Unify.{Binding, along, insert}
 use Rattle.rules.specs.State.{State, Fact, sortOfVar, isEmpty, isNone, mentioned, free, freeAt, hypVars}
-use Rattle.rules.specs.Read.{index, variable, termOf}
-use Rattle.rules.specs.Reference.{factAt, binding, isBound, bindings, Ref, instance, reference, hypEach, hypList, judgmentOf, judgmentsAt, outside, scoped}
+use Rattle.rules.specs.Read.{variable}
+use Rattle.rules.specs.Reference.{binding, isBound, bindings, Ref, instance, reference, hypEach, hypList, judgmentOf, judgmentsAt, outside, scoped}
 use Rattle.rules.specs.Step.{Refs, noRefs, withRef, references}
-use Rattle.meaning.specs.Trees.Tree.{Occ, Occs, Sorted, In, Among}
+use Rattle.meaning.specs.Trees.Tree.{Occ, Sorted, In, Among}
 use Rattle.meaning.specs.Trees.Tests.{true-false, variables-true, variablesOf-true}
-use Rattle.meaning.specs.Unification.Acts.{Ok, done, stopped, ok-then, ok-any, substitute-ok}
-use Rattle.meaning.specs.Unification.List.{Bound, Each, along-cases, each-insert}
-use Rattle.meaning.specs.Signature.{sig, PROP}
-use Rattle.meaning.specs.Truth.{Mentions, Free, At, HypOf}
+use Rattle.meaning.specs.Unification.Acts.{Ok, done, stopped, ok-then, substitute-ok}
+use Rattle.meaning.specs.Unification.List.{Each, along-cases, each-insert}
+use Rattle.meaning.specs.Signature.{sig}
+use Rattle.meaning.specs.Truth.{Mentions, Free, At}
 use Rattle.meaning.specs.Lemmas.Forms.{Cites, Ref as RefForm, bare, inst, Refs as RefForms}
 use Rattle.meaning.specs.Named.{Points, Item, Refers, RuleHyp}
 use Rattle.meaning.specs.Sets.{Sets}
-use Rattle.meaning.specs.Bridge.Asked.{no-some, some-same, both-true, either-true, not-true, ok-ask, ok-found, ok-map, ok-items, ok-index, entry-at, at-entry, at-below, has-in, in-has, in-rising, least-zero}
-use Rattle.meaning.specs.Bridge.Well.{IsApp, Typed, Judgment, Judgments, WellFact, Agree, Well, judgment-sub}
+use Rattle.meaning.specs.Bridge.Asked.{both-true, either-true, not-true, ok-ask, ok-map, ok-items, ok-index, entry-at, at-entry, has-in, in-has, in-rising, least-zero}
+use Rattle.meaning.specs.Bridge.Well.{Typed, Judgment, Judgments, WellFact, Agree, Well, judgment-sub}
 use Rattle.meaning.specs.Bridge.Read.{variable-ok, fact-ok, term-of-ok}
 
 -- Small tests -----------------------------------------------------------------------------------------------------------------------

@@ -1,37 +1,35 @@
 -- `step`: the fact that the definition takes is well-sorted, and satisfies what the form's lemma asks. Of a well state.
-use Prim.Native.Nat.{ℕ, zero, suc, _<_, _≤_}
+use Prim.Native.Nat.{ℕ, suc, _<_}
 use native.Mathlib.Omega.{arith}
 use mathlib.Core.Path.{_≡_, refl, sym, _∙_, ap, subst}
-use mathlib.Core.Logic.{_⊎_, inl, inr}
-use mathlib.Core.Bool.{Bool, true, false, _&&_, _||_}
+use mathlib.Core.Logic.{inl, inr}
+use mathlib.Core.Bool.{false, _&&_}
 use mathlib.Core.Option.{Option, some, none as nothing}
-use mathlib.Core.List.{List, [], _∷_, _++_}
+use mathlib.Core.List.{List, []}
 use lib.Dec.{eqb}
 use lib.ListN.{length, getD}
-use Rattle.rules.specs.Out.{Out, ok, refuse, then, Act, ask, found}
 use Rattle.rules.specs.Text.{same}
-use Rattle.rules.specs.Sexp.{Sexp, Sexps, atom, list, nil, cons, count, item, rest, name, items, marked}
-use Rattle.rules.specs.Find.{Set, first, has, union, rising}
-use Rattle.rules.specs.Tree.{Tree, Trees, var, app, none, more, variablesOf, countTrees, sub, subs}
+use Rattle.rules.specs.Sexp.{Sexp, Sexps, nil, cons, count, item, rest, name, marked}
+use Rattle.rules.specs.Find.{first, union, rising}
+use Rattle.rules.specs.Tree.{Tree, none, variablesOf, countTrees, sub, subs}
 use Rattle.rules.specs.Store.{Made}
-use Rattle.rules.specs.Theory.{Theory, Rule, RuleVar, ruleNamed, rule}
+use Rattle.rules.specs.Theory.{Rule, ruleNamed, rule}
 use Rattle.rules.specs.Declare.{noRuleVar, isNew}
-use Rattle.rules.specs.Match.{Bound, unbound, bind, matches, matchAll, build}
+use Rattle.rules.specs.Match.{Bound, matchAll}
 use Rattle.rules.specs.State.{State, Fact}
-use Rattle.rules.specs.Read.{termOf, judgment}
-use Rattle.rules.specs.Reference.{Ref, reference, scoped}
-use Rattle.rules.specs.Step.{Refs, references, Items, noItems, bindItem, stateItem, readItem, readItems, matchStated, conclude, step}
-use Rattle.meaning.specs.Trees.Tree.{Occ, Occs, Sorted, In, sub-sorted, occ-sub, occs-subs}
+use Rattle.rules.specs.Read.{judgment}
+use Rattle.rules.specs.Step.{Refs, Items, noItems, bindItem, stateItem, readItem, readItems, matchStated, conclude, step}
+use Rattle.meaning.specs.Trees.Tree.{Occ, Occs, Sorted, sub-sorted, occ-sub, occs-subs}
 use Rattle.meaning.specs.Trees.Tests.{occs-variablesOf}
-use Rattle.meaning.specs.Unification.Acts.{Ok, done, stopped, ok-then, ok-any}
-use Rattle.meaning.specs.Signature.{sig, PROP, arity, ruleSort}
-use Rattle.meaning.specs.Truth.{Free, At, HypOf, Needs}
-use Rattle.meaning.specs.Lemmas.Forms.{Refs as RefForms, Allowed, StepForm, Form, step as aStep}
-use Rattle.meaning.specs.Named.{Item, ItemOf}
+use Rattle.meaning.specs.Unification.Acts.{Ok, done, ok-then, ok-any}
+use Rattle.meaning.specs.Signature.{sig, PROP, ruleSort}
+use Rattle.meaning.specs.Truth.{HypOf, Needs}
+use Rattle.meaning.specs.Lemmas.Forms.{Refs as RefForms, Allowed, Form, step as aStep}
+use Rattle.meaning.specs.Named.{ItemOf}
 use Rattle.meaning.specs.Sets.{Sets, RuleAt}
-use Rattle.meaning.specs.Bridge.Asked.{no-some, some-same, true-left, ok-ask, ok-found, ok-map, ok-if, ok-atom, ok-items, rising-in, in-rising}
+use Rattle.meaning.specs.Bridge.Asked.{no-some, some-same, true-left, ok-ask, ok-found, ok-if, ok-atom, ok-items, rising-in, in-rising}
 use Rattle.meaning.specs.Bridge.Matching.{Agrees, Grows, Matched, MatchedAll, matched, matched-all, bind-cases, filled, filled-agrees, Built, build-ok}
-use Rattle.meaning.specs.Bridge.Well.{IsApp, Props, Typed, Judgment, Judgments, WellRule, WellTheory, WellFact, Well, judgment-sub, judgments-small, judgments-props, props-bound}
+use Rattle.meaning.specs.Bridge.Well.{Props, Typed, Judgment, Judgments, WellRule, WellTheory, WellFact, Well, judgment-sub, judgments-small, judgments-props, props-bound}
 use Rattle.meaning.specs.Bridge.Read.{rule-known, term-of-ok, judgment-ok}
 use Rattle.meaning.specs.Bridge.Refs.{Scoped, scoped-ok, Free-of-rules, RefsOk, references-ok}
 

@@ -2,46 +2,61 @@
 use Prim.Native.Nat.{ℕ, zero, suc}
 use mathlib.Core.Path.{_≡_, refl, sym, _∙_, ap, subst}
 use mathlib.Core.Logic.{_⊎_, inl, inr}
-use mathlib.Core.Bool.{Bool, true, false, _&&_, not}
+use mathlib.Core.Bool.{true, false, not}
 use mathlib.Core.Option.{Option, some, none as nothing}
 use mathlib.Core.List.{List, [], _∷_}
 use lib.Dec.{eqb}
 use lib.ListN.{length}
-use Rattle.rules.specs.Out.{Out, ok, refuse, then, Act, ask, found, get, put}
-use Rattle.rules.specs.Sexp.{Sexp, Sexps, atom, list, count, item, name, items}
+use Rattle.rules.specs.Out.{then}
+use Rattle.rules.specs.Sexp.{Sexp, Sexps, atom, list, count, item}
 use Rattle.rules.specs.Find.{entry, all, change}
-use Rattle.rules.specs.Tree.{Tree, Trees, sameTree, among}
+use Rattle.rules.specs.Tree.{Trees, sameTree, among}
 use Rattle.rules.specs.Store.{Made}
 use Rattle.rules.specs.State.{State, Fact, Goal, goalNamed, isPlain, isEmpty}
 use Rattle.rules.specs.Reference.{Ref, instance, reference}
 use Rattle.rules.specs.Tags.{Tag, aVar, aDef, aStep, aHyp, aRuleHyp, anInduct, anInductWith, anApply, anInvert, aResult, proofTag}
-use Rattle.rules.specs.Forms.{withMade, withGoals, making, listed, takenGoal, result, next, perform, takeForm}
-use Rattle.meaning.specs.Trees.Tree.{In, Among}
+use Rattle.rules.specs.Forms.{withMade, listed, takenGoal, result, next, perform, takeForm}
+use Rattle.meaning.specs.Trees.Tree.{Among}
 use Rattle.meaning.specs.Trees.Tests.{true-false, sameTree-true, among-true}
 use Rattle.meaning.specs.Unification.Acts.{Ok, done as fine, ok-then, ok-any}
 use Rattle.meaning.specs.Truth.{At, Plain}
 use Rattle.meaning.specs.Lemmas.Forms.{Ref as RefForm}
-use Rattle.meaning.specs.Named.{Points, Refers, NamesAs, tagOf, Names, RuleHyp, Calm}
+use Rattle.meaning.specs.Named.{Points, Refers, NamesAs, tagOf, Names, RuleHyp, Calm, GoalAt, ResultAs, ResultOf}
 use Rattle.meaning.specs.Sets.{Sets, RuleAs, CitesAs, Tagged, Respects, Within}
 use Rattle.meaning.specs.Bridge.Asked.{no-some, some-same, both-true, ok-ask, ok-index, entry-at, all-in}
-use Rattle.meaning.specs.Bridge.Well.{Agree, Well, extends-same}
+use Rattle.meaning.specs.Bridge.Well.{Well, extends-same}
 use Rattle.meaning.specs.Bridge.Refs.{calm-free, Citable, Free-of-rules, RefOk, reference-ok}
 use Rattle.meaning.specs.Bridge.Apply.{is-plain}
-use Rattle.meaning.specs.Bridge.Ends.{Ends, done, stopped, Keeps, ends-map, keeping, keeps-ask, keeps-found, keeps-name, keeps-items, keeps-index, making-then}
+use Rattle.meaning.specs.Bridge.Ends.{Ends, done, Keeps, ends-map, keeping, keeps-ask, keeps-found, keeps-name, keeps-items, keeps-index, making-then}
 use Rattle.meaning.specs.Bridge.Took.{resting, Settled, Took, Post, ok-all}
 use Rattle.meaning.specs.Bridge.Proof.{Clear, After, add-var-ok, add-def-ok, add-hyp-ok, add-rule-hyp-ok, add-step-ok, add-apply-ok, add-induct-ok, add-induct-with-ok, add-invert-ok}
 
 -- Results ---------------------------------------------------------------------------------------------------------------------------
 
 -- an entry of a changed list is an old one, or the changed one
-entry-change : {A : Type 0} (xs : List A) (k : ℕ) (f : A → A) (i : ℕ) (y : A) → entry (change xs k f) i ≡ some y
-    → (entry xs i ≡ some y) ⊎ ((x : A) × (entry xs k ≡ some x) × (f x ≡ y))
+entry-change : {A : Type 0} (xs : List A) (k : ℕ) (f : A → A) (i : ℕ) (y : A) → entry (change xs k f) i ≡ some y → (entry xs i ≡ some y) ⊎ (k ≡ i)
 unfolding entry change
 entry-change [] k f i y e = absurd (no-some e)
-entry-change (x ∷ xs) zero f zero y e = inr (x, refl, some-same e)
+entry-change (x ∷ xs) zero f zero y e = inr refl
 entry-change (x ∷ xs) zero f (suc i) y e = inl e
 entry-change (x ∷ xs) (suc k) f zero y e = inl e
-entry-change (x ∷ xs) (suc k) f (suc i) y e = entry-change xs k f i y e
+entry-change (x ∷ xs) (suc k) f (suc i) y e = elim (entry-change xs k f i y e) [ inl p ↦ inl p | inr p ↦ inr (ap suc p) ]
+
+changed : {A : Type 0} (xs : List A) (k : ℕ) (f : A → A) (x : A) → entry xs k ≡ some x → entry (change xs k f) k ≡ some (f x)
+unfolding entry change
+changed [] k f x e = absurd (no-some e)
+changed (y ∷ xs) zero f x e = ap (λ z. some (f z)) (some-same e)
+changed (y ∷ xs) (suc k) f x e = changed xs k f x e
+
+-- a goal keeps its judgment and what it lists
+goal-stays : (gs : List Goal) (k i : ℕ) (g : Goal) → entry gs i ≡ some g
+    → (h : Goal) × (entry (change gs k takenGoal) i ≡ some h) × (h .judgment ≡ g .judgment) × (h .hyps ≡ g .hyps)
+unfolding entry change
+goal-stays [] k i g e = absurd (no-some e)
+goal-stays (x ∷ gs) zero zero g e = (takenGoal x, refl, ap (λ (z : Goal). z .judgment) (some-same e), ap (λ (z : Goal). z .hyps) (some-same e))
+goal-stays (x ∷ gs) zero (suc i) g e = (g, e, refl, refl)
+goal-stays (x ∷ gs) (suc k) zero g e = (g, e, refl, refl)
+goal-stays (x ∷ gs) (suc k) (suc i) g e = goal-stays gs k i g e
 
 -- a hypothesis that may stay is plain, and listed at the goal
 listed-ok : (fs : List Fact) (hs : Trees) (h : ℕ) → listed hs (entry fs h) ≡ true → (d : Fact) × At fs h d × Plain d × Among (d .judgment) hs
@@ -56,9 +71,8 @@ listed-ok fs hs h e = go (entry fs h) refl e
 
 settles : (K : Sets) (S : State) (vs : ℕ → ℕ) (w : Well S vs) (i : ℕ) (r : Ref) → RefOk K S vs w i r → (g : Goal)
     → all (λ h. listed (g .hyps) (entry (S .facts) h)) (r .hyps) ≡ true → sameTree (r .judgment) (g .judgment) ≡ true
-    → Settled K (S .theory) vs (S .facts) (takenGoal g)
+    → Settled K (S .theory) vs (S .facts) i (takenGoal g)
 settles K S vs w i r o g l e = record {
-  cited = i;
   rests = r .hyps;
   gives = subst (λ t. RefForm (S .theory) vs (K .known) (K .part) (S .facts) i (resting (g .judgment) (r .hyps)) t)
       (sameTree-true (r .judgment) (g .judgment) e) (o .gives (resting (g .judgment) (r .hyps)) (λ h i. i));
@@ -83,6 +97,16 @@ unfolding Refers
 refers-one (atom p bs) i j a b = points-one (atom p bs) i j a b
 refers-one (list xs) i j a b = points-one (item xs 0) i j a b
 
+-- a name is of one goal
+named : (gs : List Goal) (x : Sexp) (p : ℕ) (bs : List ℕ) (k : ℕ) → x ≡ atom p bs → goalNamed gs bs ≡ some k → GoalAt gs x k
+unfolding GoalAt
+named gs x p bs k e q = subst (λ z. GoalAt gs z k) (sym e) q
+
+goal-one : (gs : List Goal) (x : Sexp) (k i : ℕ) → GoalAt gs x k → GoalAt gs x i → k ≡ i
+unfolding GoalAt
+goal-one gs (atom p bs) k i a b = some-same (sym a ∙ b)
+goal-one gs (list xs) k i a b = absurd a
+
 ref-free : (K : Sets) (S : State) (vs : ℕ → ℕ) (w : Well S vs) (x : Sexp)
     → ((i : ℕ) (f : Fact) → Refers x i → At (S .facts) i f → ¬ (RuleHyp f)) → (n : ℕ) → Refers x n → Free-of-rules K S vs w n x
 unfolding Free-of-rules Citable
@@ -105,10 +129,10 @@ result-by K xs S (inl u) = reference-points S (item xs 2) (S .made)
 result-by K xs S (inr (vs, w, c, i, e)) = reference-ok K S vs w i (item xs 2) (ref-free K S vs w (item xs 2) (c .calm) i e) (S .made)
 
 result-ok : (K : Sets) (xs : Sexps) (S : State) → After K aResult xs S (result xs S)
-unfolding result then ResultBy
+unfolding result then ResultBy ResultAs
 result-ok K xs S =
-    keeping _ (keeps-name 50 (item xs 1) S) (λ n _.
-    keeping _ (keeps-found 50 (goalNamed (S .goals) (n .bytes)) S) (λ k _.
+    keeping _ (keeps-name 50 (item xs 1) S) (λ n ei.
+    keeping _ (keeps-found 50 (goalNamed (S .goals) (n .bytes)) S) (λ k ek.
     keeping _ (keeps-found 50 (entry (S .goals) k) S) (λ g eg.
     keeping _ (keeps-ask 50 (not (g .taken)) S) (λ _ _.
     making-then (reference S (item xs 2)) S _
@@ -122,9 +146,15 @@ result-ok K xs S =
         facts = inl refl;
         goals = λ i h q t. elim (entry-change (S .goals) k takenGoal i h q) [
           | inl p ↦ inl p
-          | inr p ↦ inr (subst (λ z. Settled K (S .theory) vs (S .facts) z) (ap takenGoal (some-same (sym eg ∙ p .1)) ∙ p .2)
-              (settles K S vs w (o (inl tt) .0) r (o (inr (vs, w, c, o (inl tt) .0, o (inl tt) .1))) g l e))
+          | inr p ↦ inr (
+            o (inl tt) .0,
+            (subst (λ z. GoalAt (S .goals) (item xs 1) z) p (named (S .goals) (item xs 1) (ei .0) (n .bytes) k (ei .1) ek), o (inl tt) .1),
+          )
         ];
+        settles = λ i j b. subst (λ z. (h : Goal) × (entry (change (S .goals) k takenGoal) z ≡ some h) × Settled K (S .theory) vs (S .facts) j h)
+            (goal-one (S .goals) (item xs 1) k i (named (S .goals) (item xs 1) (ei .0) (n .bytes) k (ei .1) ek) (b .0))
+            (takenGoal g, changed (S .goals) k takenGoal g eg, settles K S vs w j r (o (inr (vs, w, c, j, b .1))) g l e);
+        stays = λ i h q. goal-stays (S .goals) k i h q;
       };
     }))))))))
 
@@ -136,8 +166,8 @@ next-keeps xs S =
     keeping _ (keeps-index 31 (item xs 1) S) (λ i _. ends-map (λ _ z p. (p .0, tt)) (keeps-ask 32 (eqb i (length (S .facts))) S))
 
 perform-ok : (K : Sets) (t : Tag) (xs : Sexps) (S : State) → After K t xs S (perform t xs S)
-unfolding perform
-perform-ok K aVar xs S = ends-map (λ _ S′ h. h .0) (add-var-ok K (Clear K aVar S xs) 3 xs S)
+unfolding perform ResultAs
+perform-ok K aVar xs S = add-var-ok K (λ k i b. b) (Clear K aVar S xs) 3 xs S
 perform-ok K aDef xs S = add-def-ok K xs S
 perform-ok K aStep xs S = keeping _ (next-keeps xs S) (λ _ _. add-step-ok K xs S)
 perform-ok K aHyp xs S = keeping _ (next-keeps xs S) (λ _ _. add-hyp-ok K xs S)
@@ -169,11 +199,35 @@ clear-of K S x xs p bs t ex ei et c = record {
     tag : tagOf (item xs 0) (count xs) ≡ some t
     tag = ap (λ z. tagOf z (count xs)) ei ∙ et
 
-pub take-form-ok : (K : Sets) (x : Sexp) (S : State) → Ends (λ _ S′. Post K (Asks K S x) S S′) (takeForm x S)
+-- what the form is a result of, by its tag
+tagged : (S : State) (x : Sexp) (xs : Sexps) (p : ℕ) (bs : List ℕ) (t : Tag) → x ≡ list xs → item xs 0 ≡ atom p bs → proofTag bs (count xs) ≡ some t
+    → (k i : ℕ) → (ResultAs t S xs k i → ResultOf S x k i) × (ResultOf S x k i → ResultAs t S xs k i)
+unfolding ResultOf tagOf
+tagged S x xs p bs t ex ei et k i = subst (λ z. (ResultAs t S xs k i → ResultOf S z k i) × (ResultOf S z k i → ResultAs t S xs k i)) (sym ex)
+    ((λ r. (t, tag, r)), (λ r. subst (λ u. ResultAs u S xs k i) (some-same (sym (r .1) ∙ tag)) (r .2)))
+  where
+    tag : tagOf (item xs 0) (count xs) ≡ some t
+    tag = ap (λ z. tagOf z (count xs)) ei ∙ et
+
+took-by : {K : Sets} {A B : ℕ → ℕ → Type 0} {S : State} {vs : ℕ → ℕ} {S′ : State} → ((k i : ℕ) → (A k i → B k i) × (B k i → A k i)) → Took K A S vs S′
+    → Took K B S vs S′
+took-by h t = record {
+  well = t .well;
+  facts = t .facts;
+  goals = λ k g q a. elim (t .goals k g q a) [ inl p ↦ inl p | inr p ↦ inr (p .0, h k (p .0) .0 (p .1)) ];
+  settles = λ k i b. t .settles k i (h k i .1 b);
+  stays = t .stays;
+}
+
+pub take-form-ok : (K : Sets) (x : Sexp) (S : State) → Ends (λ _ S′. Post K (ResultOf S x) (Asks K S x) S S′) (takeForm x S)
 unfolding takeForm
 take-form-ok K x S =
     keeping _ (keeps-items 30 x S) (λ xs ex.
     keeping _ (keeps-name 30 (item xs 0) S) (λ n ei.
     keeping _ (keeps-found 30 (proofTag (n .bytes) (count xs)) S) (λ t et.
-    ends-map (λ _ S′ h. record { kept = h .kept; took = λ vs w c a. h .took vs w (clear-of K S x xs (ei .0) (n .bytes) t ex (ei .1) et c) a })
+    ends-map (λ _ S′ h. record {
+      kept = h .kept;
+      took = λ vs w c a. took-by (λ k i. tagged S x xs (ei .0) (n .bytes) t ex (ei .1) et k i)
+          (h .took vs w (clear-of K S x xs (ei .0) (n .bytes) t ex (ei .1) et c) a);
+    })
     (perform-ok K t xs S))))

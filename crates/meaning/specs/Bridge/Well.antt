@@ -1,18 +1,18 @@
 -- What every reached theory and state satisfies: rules, made trees, facts and goals are well-sorted, over variables that are there; a fact
 -- rests on facts that are there; only a hypothesis has premises. The sorts of the variables are those of the last state reached, which
 -- agree with the sorts of every state before. Definitions, and that more of everything keeps them.
-use Prim.Native.Nat.{ℕ, zero, suc, _<_, _≤_}
+use Prim.Native.Nat.{ℕ, _<_, _≤_}
 use native.Mathlib.Omega.{arith}
 use mathlib.Core.Path.{_≡_, refl, sym, _∙_, ap, subst}
 use mathlib.Core.Logic.{_⊎_, inl, inr}
-use mathlib.Core.Bool.{Bool, true, false}
-use mathlib.Core.Option.{Option, some}
+use mathlib.Core.Bool.{false}
+use mathlib.Core.Option.{some}
 use mathlib.Core.List.{List, [], _∷_, _++_, append-assoc, append-nil}
 use lib.ListN.{length, getD, length-append, List·getD-append}
 use Rattle.rules.specs.Tree.{Tree, Trees, var, app, none, more, sub, subs}
 use Rattle.rules.specs.Theory.{Theory, Rule, rule}
 use Rattle.rules.specs.State.{State, Fact, Var, noVar, sortOfVar, sortOf, abbreviated}
-use Rattle.meaning.specs.Trees.Tree.{Occ, Occs, Sig, Sorted, In, Among, sorted-sub, sub-sorted, sub-occ, subs-occs, occ-sub}
+use Rattle.meaning.specs.Trees.Tree.{Occ, Occs, Sig, Sorted, In, Among, sorted-sub, sub-sorted, sub-occ}
 use Rattle.meaning.specs.Signature.{sig, PROP, arity, ruleSort}
 use Rattle.meaning.specs.Truth.{At}
 

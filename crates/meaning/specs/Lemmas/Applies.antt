@@ -1,17 +1,17 @@
 -- `apply` on a hypothesis and on another fact, and a reference with bindings: the fact that they give is true. Generic in the set of rules.
 -- Assumes nothing.
-use Prim.Native.Nat.{ℕ, zero, suc, _<_}
-use mathlib.Core.Path.{_≡_, refl, sym, _∙_, ap, ap₂, subst}
+use Prim.Native.Nat.{ℕ}
+use mathlib.Core.Path.{_≡_, refl, sym, _∙_, ap, subst}
 use mathlib.Core.Logic.{_⊎_, inl, inr}
-use mathlib.Core.List.{List, [], _∷_}
-use Rattle.rules.specs.Tree.{Tree, Trees, var, app, none, more, sub, subs}
-use Rattle.rules.specs.Theory.{Theory, Rule, rule}
+use mathlib.Core.List.{[]}
+use Rattle.rules.specs.Tree.{Tree, var, none, sub, subs}
+use Rattle.rules.specs.Theory.{Theory}
 use Rattle.rules.specs.State.{Fact}
-use Rattle.meaning.specs.Trees.Tree.{Occ, Occs, Sig, Sorted, Sorteds, In, Among}
-use Rattle.meaning.specs.Trees.Tree.{sub-ext, subs-ext, sub-sub, subs-subs, occ-sub, occs-subs, sub-occ, subs-occs}
-use Rattle.meaning.specs.Signature.{sig, Value, Values, arity, ruleSort}
-use Rattle.meaning.specs.Derivation.{Der, node, Ders, leaf, both}
-use Rattle.meaning.specs.Truth.{Mentions, Free, At, HypOf, Needs, Varies, Holds, Gives, Entails, True, Plain}
+use Rattle.meaning.specs.Trees.Tree.{Occ, Occs, Sorted, In}
+use Rattle.meaning.specs.Trees.Tree.{sub-sub, subs-subs, occ-sub, occs-subs}
+use Rattle.meaning.specs.Signature.{sig, Value}
+use Rattle.meaning.specs.Derivation.{Der, Ders}
+use Rattle.meaning.specs.Truth.{Mentions, Free, Needs, Varies, Holds, Gives, Entails}
 use Rattle.meaning.specs.Lemmas.Sound.{value-sub, GivesAll, gives-ders, plain-holds}
 
 module _ (T : Theory) (vs : ℕ → ℕ) (R : ℕ → Type 0) where

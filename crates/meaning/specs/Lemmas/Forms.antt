@@ -1,15 +1,15 @@
 -- The tests of each form as conditions on trees: what `rules` must have asked for the form's lemma to apply. Definitions only.
 -- T: the theory; vs: the sorts of the variables; Part n r: fact number n rests on the rule r; Known n r: it stays true where the rule r is
 -- there. For demand 3 both are "r is a rule of the theory"; a footing, or a theory with more rules, are other choices.
-use Prim.Native.Nat.{ℕ, zero, suc, _<_}
+use Prim.Native.Nat.{ℕ, _<_}
 use mathlib.Core.Path.{_≡_}
 use mathlib.Core.Logic.{_⊎_}
 use mathlib.Core.List.{List, [], _∷_, _++_}
 use lib.ListN.{length}
-use Rattle.rules.specs.Tree.{Tree, Trees, var, app, none, more, sub, subs, single}
+use Rattle.rules.specs.Tree.{Tree, Trees, var, app, none, more, sub, subs}
 use Rattle.rules.specs.Theory.{Theory, Rule, rule}
 use Rattle.rules.specs.State.{Fact}
-use Rattle.meaning.specs.Trees.Tree.{Occ, Occs, Sig, Sorted, Sorteds, In, Among}
+use Rattle.meaning.specs.Trees.Tree.{Occ, Occs, Sorted, In, Among}
 use Rattle.meaning.specs.Signature.{sig, arity, ruleSort}
 use Rattle.meaning.specs.Truth.{At, HypOf, Needs, Plain}
 use Rattle.meaning.specs.Trees.Replace.{vars, Fit, Distinct}

@@ -1,16 +1,15 @@
 -- A list of facts, each taken by a form whose tests held: every one of them is true. Generic in the rules on which a fact rests and in
 -- those that it tolerates. Assumes nothing.
-use Prim.Native.Nat.{ℕ, zero, suc, _<_}
+use Prim.Native.Nat.{ℕ, zero, suc}
 use mathlib.Core.Path.{_≡_, refl, sym, _∙_, ap, subst}
 use mathlib.Core.Logic.{_⊎_, inl, inr}
-use mathlib.Core.List.{List, [], _∷_, _++_}
+use mathlib.Core.List.{List, [], _∷_}
 use lib.ListN.{length}
-use Rattle.rules.specs.Tree.{Tree, Trees, var, app, none, more, sub, subs}
+use Rattle.rules.specs.Tree.{Tree, Trees, app, none, more, sub, subs}
 use Rattle.rules.specs.Theory.{Theory, Rule, rule}
 use Rattle.rules.specs.State.{Fact}
-use Rattle.meaning.specs.Trees.Tree.{Occ, Occs, Sorted, In, Among, occ-sub, occs-subs}
-use Rattle.meaning.specs.Truth.{Mentions, Free, At, HypOf, Needs, Varies, Holds, Gives, Entails, True, Plain}
-use Rattle.meaning.specs.Derivation.{Der, Ders, leaf}
+use Rattle.meaning.specs.Trees.Tree.{Occ, Occs, In, occ-sub, occs-subs}
+use Rattle.meaning.specs.Truth.{At, HypOf, Needs, Gives, Entails, True, Plain}
 use Rattle.meaning.specs.Lemmas.Sound.{GivesAll, gives-ref, hyp-true}
 use Rattle.meaning.specs.Lemmas.Steps.{step-true}
 use Rattle.meaning.specs.Lemmas.Applies.{apply-hyp-true, apply-fact-true, instance-true}

@@ -1,17 +1,17 @@
 -- Laws of the words of demand 3 that every form's lemma uses: values of replaced trees, lists of derivations, plain hypotheses, and what a
 -- reference to a true fact gives. Generic in the set of rules. Assumes nothing.
-use Prim.Native.Nat.{ℕ, zero, suc, _<_}
-use mathlib.Core.Path.{_≡_, refl, sym, _∙_, ap, ap₂, subst}
-use mathlib.Core.Logic.{_⊎_, inl, inr}
+use Prim.Native.Nat.{ℕ}
+use mathlib.Core.Path.{_≡_, refl, sym, subst}
+use mathlib.Core.Logic.{inl, inr}
 use mathlib.Core.List.{List, [], _∷_}
 use Rattle.rules.specs.Tree.{Tree, Trees, var, app, none, more, sub, subs}
-use Rattle.rules.specs.Theory.{Theory, Rule, rule}
+use Rattle.rules.specs.Theory.{Theory}
 use Rattle.rules.specs.State.{Fact}
 use Rattle.meaning.specs.Trees.Tree.{Occ, Occs, Sig, Sorted, Sorteds, In, Among}
-use Rattle.meaning.specs.Trees.Tree.{sub-ext, subs-ext, sub-sub, subs-subs, occ-sub, occs-subs, sub-occ, subs-occs}
-use Rattle.meaning.specs.Signature.{sig, Value, Values, arity, ruleSort}
-use Rattle.meaning.specs.Derivation.{Der, node, Ders, leaf, both}
-use Rattle.meaning.specs.Truth.{Mentions, Free, At, HypOf, Needs, Varies, Holds, Gives, Entails, True, Plain}
+use Rattle.meaning.specs.Trees.Tree.{sub-ext}
+use Rattle.meaning.specs.Signature.{sig, Value, Values}
+use Rattle.meaning.specs.Derivation.{Der, Ders, leaf, both}
+use Rattle.meaning.specs.Truth.{Mentions, Needs, Varies, Holds, Gives, Entails, Plain}
 
 -- a replacement by ground terms, both ways
 module _ (S : Sig) (ps : ℕ → ℕ) (f : ℕ → Tree) where

@@ -1,16 +1,14 @@
 -- `step`: the fact that a rule gives from true facts is true. Generic in the set of rules. Assumes nothing.
-use Prim.Native.Nat.{ℕ, zero, suc, _<_}
-use mathlib.Core.Path.{_≡_, refl, sym, _∙_, ap, ap₂, subst}
-use mathlib.Core.Logic.{_⊎_, inl, inr}
-use mathlib.Core.List.{List, [], _∷_}
-use Rattle.rules.specs.Tree.{Tree, Trees, var, app, none, more, sub, subs}
-use Rattle.rules.specs.Theory.{Theory, Rule, rule}
+use Prim.Native.Nat.{ℕ, _<_}
+use mathlib.Core.Path.{_≡_, sym, _∙_, ap, subst}
+use Rattle.rules.specs.Tree.{Tree, sub, subs}
+use Rattle.rules.specs.Theory.{Theory, rule}
 use Rattle.rules.specs.State.{Fact}
-use Rattle.meaning.specs.Trees.Tree.{Occ, Occs, Sig, Sorted, Sorteds, In, Among}
-use Rattle.meaning.specs.Trees.Tree.{sub-ext, subs-ext, sub-sub, subs-subs, occ-sub, occs-subs, sub-occ, subs-occs}
-use Rattle.meaning.specs.Signature.{sig, Value, Values, arity, ruleSort}
-use Rattle.meaning.specs.Derivation.{Der, node, Ders, leaf, both}
-use Rattle.meaning.specs.Truth.{Mentions, Free, At, HypOf, Needs, Varies, Holds, Gives, Entails, True, Plain}
+use Rattle.meaning.specs.Trees.Tree.{Occ, Sorted}
+use Rattle.meaning.specs.Trees.Tree.{sub-sub, subs-subs}
+use Rattle.meaning.specs.Signature.{sig, arity, ruleSort}
+use Rattle.meaning.specs.Derivation.{node, Ders}
+use Rattle.meaning.specs.Truth.{Needs, Gives, Entails}
 use Rattle.meaning.specs.Lemmas.Sound.{value-sub, GivesAll, gives-ders}
 
 module _ (T : Theory) (vs : ℕ → ℕ) (R : ℕ → Type 0) where

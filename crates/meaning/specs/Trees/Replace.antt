@@ -6,7 +6,7 @@ use mathlib.Core.Logic.{_⊎_, inl, inr}
 use mathlib.Core.List.{List, [], _∷_}
 use native.Mathlib.Decide.{ℕ-discrete}
 use native.Mathlib.Omega.{arith}
-use Rattle.rules.specs.Tree.{Tree, Trees, var, app, none, more, sub, subs}
+use Rattle.rules.specs.Tree.{Tree, Trees, var, none, more, sub, subs}
 use Rattle.meaning.specs.Trees.Tree.{Occ, Occs, Sig, Sorted, Sorteds, In, Among, subs-ext}
 use Rattle.meaning.specs.Signature.{Value, Values}
 

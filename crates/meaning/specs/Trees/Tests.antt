@@ -3,13 +3,14 @@
 use mathlib.Core.Path.{_≡_, refl, sym, _∙_, ap, ap₂, subst}
 use mathlib.Core.Logic.{_⊎_, inl, inr}
 use mathlib.Core.Bool.{Bool, true, false}
-use Prim.Native.Nat.{ℕ}
+use Prim.Native.Nat.{ℕ, _<_}
 use native.Mathlib.Omega.{arith}
 use native.Mathlib.Decide.{ℕ-discrete}
 use lib.Dec.{eqb}
 use borrow.Author.Tests.{eqb-true, eq-eqb, ne-eqb}
 use Rattle.rules.specs.Tree.{Tree, Trees, var, app, none, more, sameTree, sameTrees, sub, single, variables, variablesOf, isOpen, areOpen}
 use Rattle.rules.specs.Tree.{among}
+use Rattle.rules.specs.Laws.Below.{Below, Belows}
 use Rattle.meaning.specs.Trees.Tree.{Occ, Occs, Ground, Grounds, Among, sub-ext, sub-var, ground-occ, grounds-occs}
 
 -- Tests in a row ----------------------------------------------------------------------------------------------------------------
@@ -118,6 +119,21 @@ variables-false t v e o = true-false (variables t v) (occ-variables t v o) e
 
 pub variablesOf-false : (ts : Trees) (v : ℕ) → variablesOf ts v ≡ false → ¬ (Occs v ts)
 variablesOf-false ts v e o = true-false (variablesOf ts v) (occs-variablesOf ts v o) e
+
+-- Variables below a number ----------------------------------------------------------------------------------------------------
+
+-- a variable of a tree that is below n
+mutual
+  unfolding Below Occ
+
+  pub below-occ : (n : ℕ) (t : Tree) → Below n t → (v : ℕ) → Occ v t → v < n
+  below-occ n (var w) h v o = subst (λ z. z < n) (sym o) h
+  below-occ n (app c ts) h v o = belows-occs n ts h v o
+
+  pub belows-occs : (n : ℕ) (ts : Trees) → Belows n ts → (v : ℕ) → Occs v ts → v < n
+  belows-occs n none h v o = absurd o
+  belows-occs n (more t ts) h v (inl o) = below-occ n t (h .0) v o
+  belows-occs n (more t ts) h v (inr o) = belows-occs n ts (h .1) v o
 
 -- Open trees --------------------------------------------------------------------------------------------------------------------
 

@@ -16,12 +16,22 @@ use Rattle.rules.specs.State.{begin}
 use Rattle.rules.specs.Forms.{takeGoal}
 use Rattle.rules.specs.Loop.{whole}
 use Rattle.rules.specs.Check.{Report, Refusal, accepts, refuses, refusedIn, afterGoals, afterTheory, firstFailing, readable, fitting, check}
-use Rattle.meaning.specs.Written.{Names, goalForms, proofForms, Written, inside, stepsAlone, Verdict}
+use Rattle.meaning.specs.Trees.Tests.{true-false}
+use Rattle.meaning.specs.Written.{Names, goalForms, proofForms, Written, fits, inside, stepsAlone, Verdict}
 use Rattle.meaning.specs.Writing.Read.{text-read}
 use Rattle.meaning.specs.Writing.Node.{Concludes}
 use Rattle.meaning.specs.Writing.Step.{and-false}
 use Rattle.meaning.specs.Writing.Run.{nodes-conclude, out, moved, and-on}
 use Rattle.meaning.specs.Writing.Texts.{goals-read, Passed, passed, failed, all-pass, passing}
+
+-- question 2, whatever the texts
+pub too-long : (t g p : List ℕ) → (short t && (short g && short p)) ≡ false → (r : Refusal) × (check t g p .answer ≡ refuses r) × (r .number ≡ 2)
+unfolding check fitting refusedIn
+too-long t g p e = go (passing short t g p)
+  where
+    go : Passed short t g p → (r : Refusal) × (check t g p .answer ≡ refuses r) × (r .number ≡ 2)
+    go (passed f q) = absurd (true-false (short t && (short g && short p)) f e)
+    go (failed k f q) = (record { number = 2; text = suc k; form = 0; detail = 0 }, ap (λ n. fitting t g p n .answer) q, refl)
 
 module _ {t g p : List ℕ} (w : Written t g p) where
   formed : WellFormed (w .theory)
@@ -46,18 +56,18 @@ module _ {t g p : List ℕ} (w : Written t g p) where
 
   -- every written derivation is accepted exactly when it is inside the limits, and otherwise refused by 2, 5 or 60
   pub derivation-accepted : Verdict (inside w) (length (w .steps)) (check t g p .answer)
-  unfolding inside check fitting refusedIn
+  unfolding inside fits check fitting refusedIn
   derivation-accepted = go (passing short t g p)
     where
       go : Passed short t g p → Verdict (inside w) (length (w .steps)) (check t g p .answer)
       go (passed e q) =
           moved (inside w) _ (length (w .steps)) (length (w .steps)) (check t g p .answer) _ (and-on (short t && (short g && short p)) _ e) refl (ap (λ o. o .answer) (reads-on q))
-          (goals-read (w .theory) formed named (w .goal) (w .judgment) concludes (w .root) (w .steps) (w .nodes) (w .concluded) p
+          (goals-read (w .listing) (w .theory) formed named (w .goal) (w .judgment) concludes (w .root) (w .steps) (w .nodes) (w .concluded) p
           (text-read p (proofForms (w .theory) (w .steps) (w .goal) (w .root)) (w .proof))
-          (read g) (text-read g (goalForms (w .theory) (w .goal) (w .judgment)) (w .goals)))
+          (read g) (text-read g (goalForms (w .listing) (w .theory) (w .goal) (w .judgment)) (w .goals)))
       go (failed k e q) =
-          out (inside w) (length (w .steps)) (check t g p .answer) (record { number = 2; text = suc k; form = 0; detail = 0 })
-          (and-false (short t && (short g && short p)) _ e) (ap (λ n. fitting t g p n .answer) q) (inl refl)
+          let r = too-long t g p e in
+          out (inside w) (length (w .steps)) (check t g p .answer) (r .0) (and-false (short t && (short g && short p)) _ e) (r .1) (inl (r .2))
 
   -- The same in three sentences: what is inside is accepted, what is accepted is inside, and only 2, 5 and 60 refuse ------------------
 

@@ -15,7 +15,7 @@ use Rattle.rules.specs.Out.{Out, ok, refuse, then, ask, room}
 use Rattle.rules.specs.Sexp.{Sexp, Sexps, atom, list, nil as nilˢ, cons as consˢ, count, item, name as nameˢ, items}
 use Rattle.rules.specs.Find.{first, entry, all, change}
 use Rattle.rules.specs.Index.{indexOf}
-use Rattle.rules.specs.Tags.{aStep, aResult, proofTag, aGoal, goalForm, tagging}
+use Rattle.rules.specs.Tags.{aStep, aResult, proofTag, aGoal, aGoalWith, goalForm, tagging}
 use Rattle.rules.specs.Tree.{Tree, none, sameTree, countTrees}
 use Rattle.rules.specs.Store.{Made, make}
 use Rattle.rules.specs.Theory.{Theory}
@@ -23,15 +23,15 @@ use Rattle.rules.specs.Laws.Theory.{WellFormed}
 use Rattle.rules.specs.Laws.Name.{Named, same-refl}
 use Rattle.rules.specs.State.{State, Fact, Goal, noCounts, begin, goalNamed, factEntries, allEntries, goalEntries, entries}
 use Rattle.rules.specs.Declare.{isNew}
-use Rattle.rules.specs.Read.{index, judgment}
+use Rattle.rules.specs.Read.{index, judgment, judgmentEach, judgments}
 use Rattle.rules.specs.Reference.{Ref, reference}
 use Rattle.rules.specs.Step.{step}
 use Rattle.rules.specs.Forms.{withMade, making, plus, someInstances, addGoal, goal, takeGoal, addFact, addStep, listed, takenGoal, result, next, perform, takeForm}
 use Rattle.meaning.specs.Trees.Tests.{eq-sameTree}
 use Rattle.meaning.specs.Unification.Acts.{Ok, done, Grows, full, StoreRow, make-ok, make-grows}
-use Rattle.meaning.specs.Written.{Form, name, group, nil, cons, ruleName, judgmentForm, Step, conclusion, Names, Node, stepForm, resultForm}
+use Rattle.meaning.specs.Written.{Form, name, group, nil, cons, ruleName, judgmentForm, theGoal, Step, conclusion, Names, Node, stepForm, resultForm}
 use Rattle.meaning.specs.Writing.Read.{bare}
-use Rattle.meaning.specs.Writing.Terms.{atom-of, nil-of, cons-of, headed, then-found, then-ask, then-ok, then-same, judgment-read}
+use Rattle.meaning.specs.Writing.Terms.{atom-of, list-of, nil-of, cons-of, headed, then-found, then-ask, then-ok, then-same, judgment-read}
 use Rattle.meaning.specs.Writing.Node.{Concludes, Derived, Recorded, recorded-length, Referred, reference-read}
 use Rattle.meaning.specs.Writing.Step.{StepItems, step-items, step-read}
 
@@ -108,6 +108,31 @@ three x a b f e =
       thirds = r .fronts;
     }
 
+-- two atoms, an empty list and something else
+record Four (x : Sexp) (a b : List ℕ) (f : Form) : Type 0 where
+  first : ℕ
+  second : ℕ
+  fourth : Sexp
+  is : x ≡ list (consˢ (atom first a) (consˢ (atom second b) (consˢ (list nilˢ) (consˢ fourth nilˢ))))
+  fourths : bare fourth ≡ f
+
+four : (x : Sexp) (a b : List ℕ) (f : Form) → bare x ≡ group (cons (name a) (cons (name b) (cons (group nil) (cons f nil)))) → Four x a b f
+four x a b f e =
+    let p = headed x a (cons (name b) (cons (group nil) (cons f nil))) e in
+    let q = cons-of (p .behind) (name b) (cons (group nil) (cons f nil)) (p .behinds) in
+    let q′ = atom-of (q .front) b (q .fronts) in
+    let r = cons-of (q .behind) (group nil) (cons f nil) (q .behinds) in
+    let r′ = list-of (r .front) nil (r .fronts) in
+    let s = cons-of (r .behind) f nil (r .behinds) in
+    record {
+      first = p .place;
+      second = q′ .0;
+      fourth = s .front;
+      is = p .is ∙ ap (λ ys. list (consˢ (atom (p .place) a) ys)) (q .is ∙ ap₂ consˢ (q′ .1)
+          (r .is ∙ ap₂ consˢ (r′ .1 ∙ ap list (nil-of (r′ .0) (r′ .2))) (s .is ∙ ap (consˢ (s .front)) (nil-of (s .behind) (s .behinds)))));
+      fourths = s .fronts;
+    }
+
 -- The goal ------------------------------------------------------------------------------------------------------------------------
 
 -- by whether its judgment is made
@@ -115,9 +140,9 @@ unfoldable pub GoalTook : Theory → ℕ → List ℕ → Tree → Out Made Tree
 GoalTook T p n j (ok a m) o = o ≡ ok tt (stateOf T m (awaited p n j) [])
 GoalTook T p n j (refuse k d m) o = Full o
 
-goal-tag : goalForm (bytes "goal") 3 ≡ some aGoal
+goal-tag : (goalForm (bytes "goal") 3 ≡ some aGoal) × (goalForm (bytes "goal") 4 ≡ some aGoalWith)
 unfolding tagging
-goal-tag = refl
+goal-tag = (refl, refl)
 
 module _ (T : Theory) (n : List ℕ) (j : Tree) where
   -- the form, of which only the judgment has still to be made
@@ -126,7 +151,16 @@ module _ (T : Theory) (n : List ℕ) (j : Tree) where
       ≡ then (lifted (begin T) o) (λ i S. addGoal (atom q n) none i S)
   unfolding takeGoal items item count nameˢ goal then
   goal-begins p q x o e =
-      then-found 20 (goalForm (bytes "goal") 3) aGoal (begin T) _ goal-tag
+      then-found 20 (goalForm (bytes "goal") 3) aGoal (begin T) _ (goal-tag .0)
+      ∙ then-same (making (judgment (begin T) x) (begin T)) (lifted (begin T) o) _ (making-is (judgment (begin T) x) (begin T) o e)
+
+  -- the same with an empty list
+  goal-begins-listing : (p q : ℕ) (x : Sexp) (o : Out Made Tree) → judgment (begin T) x [] ≡ o
+      → takeGoal (list (consˢ (atom p (bytes "goal")) (consˢ (atom q n) (consˢ (list nilˢ) (consˢ x nilˢ))))) (begin T)
+      ≡ then (lifted (begin T) o) (λ i S. addGoal (atom q n) none i S)
+  unfolding takeGoal items item count nameˢ goal then judgments judgmentEach making
+  goal-begins-listing p q x o e =
+      then-found 20 (goalForm (bytes "goal") 4) aGoalWith (begin T) _ (goal-tag .1)
       ∙ then-same (making (judgment (begin T) x) (begin T)) (lifted (begin T) o) _ (making-is (judgment (begin T) x) (begin T) o e)
 
   goal-ends : (q : ℕ) (o : Out Made Tree) → Makes j o → GoalTook T q n j o (then (lifted (begin T) o) (λ i S. addGoal (atom q n) none i S))
@@ -134,19 +168,30 @@ module _ (T : Theory) (n : List ℕ) (j : Tree) where
   goal-ends q (ok a m) made = refl
   goal-ends q (refuse k d m) unmade = record { row = d; state = withMade (begin T) m; is = refl }
 
--- the goal of a ground judgment
-pub goal-taken : (T : Theory) → WellFormed T → Named T → (n : List ℕ) (j : Tree) → Concludes T j → (x : Sexp)
-    → bare x ≡ group (cons (name (bytes "goal")) (cons (name n) (cons (judgmentForm T j) nil)))
-    → (q : ℕ) × GoalTook T q n j (make j []) (takeGoal x (begin T))
-goal-taken T w nm n j c x e =
-    let h = three x (bytes "goal") n (judgmentForm T j) e in (
-      h .second,
-      subst (λ o. GoalTook T (h .second) n j (make j []) o)
-          (sym (ap (λ y. takeGoal y (begin T)) (h .is) ∙ goal-begins T n j (h .first) (h .second) (h .third) (make j [])
-          (judgment-read (begin T) refl w nm (c .head) (c .arguments) (h .third) [] (h .thirds ∙ ap (judgmentForm T) (c .is)) (c .known) (c .predicate) (c .values)
-          ∙ ap (λ i. make i []) (sym (c .is)))))
-          (goal-ends T n j (h .second) (make j []) (make-cases j [])),
-    )
+-- the goal of a ground judgment, in both spellings
+module _ (T : Theory) (w : WellFormed T) (nm : Named T) (n : List ℕ) (j : Tree) (c : Concludes T j) where
+  judgment-begins : (x : Sexp) → bare x ≡ judgmentForm T j → judgment (begin T) x [] ≡ make j []
+  judgment-begins x e =
+      judgment-read (begin T) refl w nm (c .head) (c .arguments) x [] (e ∙ ap (judgmentForm T) (c .is)) (c .known) (c .predicate) (c .values)
+      ∙ ap (λ i. make i []) (sym (c .is))
+
+  goal-from : (q : ℕ) (o : Out State (Unit {0})) → o ≡ then (lifted (begin T) (make j [])) (λ i S. addGoal (atom q n) none i S) → GoalTook T q n j (make j []) o
+  goal-from q o e = subst (λ o. GoalTook T q n j (make j []) o) (sym e) (goal-ends T n j q (make j []) (make-cases j []))
+
+  pub goal-taken : (b : Bool) (x : Sexp) → bare x ≡ theGoal b T n j → (q : ℕ) × GoalTook T q n j (make j []) (takeGoal x (begin T))
+  unfolding theGoal
+  goal-taken false x e =
+      let h = three x (bytes "goal") n (judgmentForm T j) e in (
+        h .second,
+        goal-from (h .second) _ (ap (λ y. takeGoal y (begin T)) (h .is) ∙ goal-begins T n j (h .first) (h .second) (h .third) (make j [])
+            (judgment-begins (h .third) (h .thirds))),
+      )
+  goal-taken true x e =
+      let h = four x (bytes "goal") n (judgmentForm T j) e in (
+        h .second,
+        goal-from (h .second) _ (ap (λ y. takeGoal y (begin T)) (h .is) ∙ goal-begins-listing T n j (h .first) (h .second) (h .fourth) (make j [])
+            (judgment-begins (h .fourth) (h .fourths))),
+      )
 
 -- A step --------------------------------------------------------------------------------------------------------------------------
 

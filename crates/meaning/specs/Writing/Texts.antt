@@ -35,14 +35,14 @@ unfolding whole unread
 whole-one f (atom p bs) i s = refl
 whole-one f (list xs) i s = refl
 
-module _ (T : Theory) (w : WellFormed T) (nm : Named T) (gn : List ℕ) (j : Tree) (c : Concludes T j) (r : List ℕ) (ss : List Step)
+module _ (listing : Bool) (T : Theory) (w : WellFormed T) (nm : Named T) (gn : List ℕ) (j : Tree) (c : Concludes T j) (r : List ℕ) (ss : List Step)
     (n : Nodes T [] ss) (a : Names (conclusions T ss) r j) (proof : List ℕ) (rp : Reads (proofForms T ss gn r) (read proof)) where
   -- inside the limits, the texts' lengths apart
   abbrev within : Bool
-  within = (shallows 0 (goalForms T gn j) && shallows 0 (proofForms T ss gn r)) && roomy T j ss
+  within = (shallows 0 (goalForms listing T gn j) && shallows 0 (proofForms T ss gn r)) && roomy T j ss
 
   -- behind the goal
-  goal-behind : (q : ℕ) (x : Sexp) (i : ℕ) → shallows 0 (goalForms T gn j) ≡ true → (o : Out Made Tree) → make j [] ≡ o
+  goal-behind : (q : ℕ) (x : Sexp) (i : ℕ) → shallows 0 (goalForms listing T gn j) ≡ true → (o : Out Made Tree) → make j [] ≡ o
       → GoalTook T q gn j o (takeGoal x (begin T))
       → Verdict within (length ss) (afterGoals proof (whole takeGoal (moreᵗ x i ends) (begin T)) .answer)
   unfolding GoalTook roomy afterGoals through Recorded refusedIn
@@ -57,19 +57,19 @@ module _ (T : Theory) (w : WellFormed T) (nm : Named T) (gn : List ℕ) (j : Tre
       (run T w nm q gn j c r ss (read proof) 0 m [] [] tt n a (omega arith) rp)
   goal-behind q x i sh (refuse k d m) f took =
       out within (length ss) _ (record { number = 60; text = 2; form = 0; detail = took .row })
-      (and-off (shallows 0 (goalForms T gn j) && shallows 0 (proofForms T ss gn r)) _
+      (and-off (shallows 0 (goalForms listing T gn j) && shallows 0 (proofForms T ss gn r)) _
       (and-off (leb (length ss) FACTS) _ (makes-few (more j (treesOf (conclusions T ss))) ∙ makes-off j (treesOf (conclusions T ss)) [] m k d f)))
       (ap (λ z. afterGoals proof z .answer) (whole-one takeGoal x i (begin T) ∙ through-off takeGoal x i ends 0 (begin T) 60 (took .row) (took .state) (took .is)))
       (inr (inr refl))
 
-  pub goals-read : (text : Text) → Reads (goalForms T gn j) text → Verdict within (length ss) (afterGoals proof (whole takeGoal text (begin T)) .answer)
+  pub goals-read : (text : Text) → Reads (goalForms listing T gn j) text → Verdict within (length ss) (afterGoals proof (whole takeGoal text (begin T)) .answer)
   unfolding goalForms Reads whole unread afterGoals refusedIn shallows
   goals-read ends rd = absurd rd
   goals-read (fails i) rd =
       out within (length ss) _ (record { number = i; text = 2; form = 0; detail = 0 })
       (and-false _ (roomy T j ss) (and-false _ (shallows 0 (proofForms T ss gn r)) (and-false _ true (rd .1)))) refl (inr (inl (rd .0)))
   goals-read (moreᵗ x i ends) rd =
-      let g = goal-taken T w nm gn j c x (rd .0) in
+      let g = goal-taken T w nm gn j c listing x (rd .0) in
       goal-behind (g .0) x i (ap (λ b. b && true) (rd .1)) (make j []) refl (g .1)
   goals-read (moreᵗ x i (fails k)) rd = absurd (rd .2)
   goals-read (moreᵗ x i (moreᵗ y k t)) rd = absurd (rd .2)

@@ -4,11 +4,12 @@ use Prim.Native.Nat.{ℕ, zero, suc, _+_, _^_, _≤_, _<_}
 use native.Mathlib.Omega.{arith}
 use mathlib.Core.Path.{_≡_, refl, sym, _∙_, ap, ap₂, subst}
 use mathlib.Core.Logic.{_⊎_, inl, inr}
-use mathlib.Core.Bool.{true}
+use mathlib.Core.Bool.{Bool, true}
 use mathlib.Core.Option.{some}
 use mathlib.Core.List.{List, [], _∷_, _++_, append-assoc, append-nil}
 use lib.ListN.{length, length-append}
 use Rattle.rules.specs.Find.{entry}
+use Rattle.rules.specs.Laws.Entry.{entry-front}
 use Rattle.rules.specs.Tree.{Tree, Trees, none, more, sub, subs}
 use Rattle.rules.specs.Theory.{Theory, noTheory, rule}
 use Rattle.rules.specs.Text.{plain}
@@ -50,12 +51,6 @@ unfoldable mutual
 -- Lists ---------------------------------------------------------------------------------------------------------------------------
 
 module _ {A : Type 0} where
-  entry-front : (xs ys : List A) (i : ℕ) (x : A) → entry xs i ≡ some x → entry (xs ++ ys) i ≡ some x
-  unfolding entry
-  entry-front [] ys i x e = absurd (no-some e)
-  entry-front (y ∷ xs) ys zero x e = e
-  entry-front (y ∷ xs) ys (suc i) x e = entry-front xs ys i x e
-
   entry-seam : (xs : List A) (x : A) (i : ℕ) → i ≡ length xs → entry (xs ++ (x ∷ [])) i ≡ some x
   unfolding entry
   entry-seam [] x zero e = refl
@@ -180,10 +175,10 @@ postorder-nodes T j d l =
 
 -- texts of a derivation's nodes in post-order are a written derivation
 unfoldable pub tree-written : (t g p : List ℕ) (T : Theory) (k : ℕ) → whole declare (read t) noTheory ≡ done k T → (j : Tree) (d : Derivable T j)
-    → below d < 2 ^ 64 → (n : List ℕ) → Writes g (goalForms T n j) → Writes p (proofForms T (postorder 0 d) n (decimal (below d)))
+    → below d < 2 ^ 64 → (n : List ℕ) (b : Bool) → Writes g (goalForms b T n j) → Writes p (proofForms T (postorder 0 d) n (decimal (below d)))
     → (plain t ≡ true) × (plain g ≡ true) × (plain p ≡ true) → Written t g p
 unfolding Names
-tree-written t g p T k e j d l n wg wp ps =
+tree-written t g p T k e j d l n b wg wp ps =
     let h = postorder-nodes T j d l in
     record {
       theory = T;
@@ -195,6 +190,7 @@ tree-written t g p T k e j d l n wg wp ps =
       judgment = j;
       concluded = (below d, decimal-read (below d) l, h .1);
       goal = n;
+      listing = b;
       goals = wg;
       proof = wp;
       plains = ps;

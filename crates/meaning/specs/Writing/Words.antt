@@ -22,7 +22,7 @@ use Rattle.rules.specs.Laws.Declare.{reached}
 use Rattle.rules.specs.Loop.{whole}
 use Rattle.meaning.specs.Trees.Tests.{and-true}
 use Rattle.meaning.specs.Signature.{sig, Value, Values}
-use Rattle.meaning.specs.Written.{Forms, nil, cons, symbolName, ruleName, applied, termForm, termForms, judgmentForm, Step, conclusion, Node, Nodes, goalForms, atoms, stepForm, resultForm, proofForms}
+use Rattle.meaning.specs.Written.{Forms, nil, cons, symbolName, ruleName, applied, termForm, termForms, judgmentForm, Step, conclusion, Node, Nodes, theGoal, goalForms, atoms, stepForm, resultForm, proofForms}
 use Rattle.meaning.specs.Writing.Node.{Concludes, node-concludes}
 use Rattle.meaning.specs.Derivation.{Der, Ders, node, leaf, both}
 use Rattle.meaning.specs.Writing.Decimal.{decimal, Digits, decimal-digits, decimal-long}
@@ -198,9 +198,10 @@ WordSteps [] = Unit {0}
 WordSteps (s ∷ ss) = Word (s .index) × AllWords (s .children) × WordSteps ss
 
 module _ (T : Theory) (wf : WellFormed T) (sp : Spelled Word T) (n : List ℕ) (nw : Word n) where
-  pub goal-words : (j : Tree) → Concludes T j → AllWorded (goalForms T n j)
-  unfolding goalForms Worded
-  goal-words j c = ((goal-word, (nw, (judgment-words T sp j c, tt))), tt)
+  pub goal-words : (b : Bool) (j : Tree) → Concludes T j → AllWorded (goalForms b T n j)
+  unfolding goalForms theGoal Worded
+  goal-words false j c = ((goal-word, (nw, (judgment-words T sp j c, tt))), tt)
+  goal-words true j c = ((goal-word, (nw, (tt, (judgment-words T sp j c, tt)))), tt)
 
   step-words : (cs : List Tree) (s : Step) → Node T cs s → Word (s .index) → AllWords (s .children) → Worded (stepForm T s)
   unfolding stepForm Worded ruleName rule

@@ -44,7 +44,7 @@ longer-on g h = record { new = g .new ++ h .new; is = rw (h .is, g .is, append-a
 pub one-var : (vs : List Var) (v : Var) → length vs < VARIABLES → Longer vs (vs ++ (v ∷ []))
 one-var vs v h = record { new = v ∷ []; is = refl; row = λ k. omega (arith, length-append vs (v ∷ [])) }
 
-make-vars-longer : (rs : List RuleVar) (vs : List Var) (m : Made) → Ok (λ ws u. Longer vs ws) (makeVars rs vs m)
+pub make-vars-longer : (rs : List RuleVar) (vs : List Var) (m : Made) → Ok (λ ws u. Longer vs ws) (makeVars rs vs m)
 unfolding makeVars
 make-vars-longer [] vs m = outs.fine (same-vars vs)
 make-vars-longer (r ∷ rs) vs m =
@@ -52,7 +52,7 @@ make-vars-longer (r ∷ rs) vs m =
     outs.weaken (make-vars-longer rs (vs ++ (record { sort = r .sort; text = 0; name = noName } ∷ [])) m)
     (λ ws u h. longer-on (one-var vs _ (ltb-true _ VARIABLES e)) h)
 
-renamed-longer : (S : State) (I : Inversion) (R : Rule) (c : Option Case) (N : Names) (m : Made) →
+pub renamed-longer : (S : State) (I : Inversion) (R : Rule) (c : Option Case) (N : Names) (m : Made) →
     Ok (λ r u. Longer (N .vars) (r .1 .vars)) (renamed S I R c N m)
 unfolding renamed
 renamed-longer S I R (some c) N m =

@@ -1,5 +1,5 @@
 -- What holds at the beginning and is kept by every form of goals and proof holds in every state that a check reaches: of the state that its
--- answer is given in, whatever the answer. Assumes nothing.
+-- answer is given in, whatever the answer. The beginning is over a theory that was declared. Assumes nothing.
 use Prim.Native.Nat.{ℕ, zero, suc}
 use mathlib.Core.Bool.{Bool, true, false}
 use mathlib.Core.Option.{Option, some, none as nothing}
@@ -16,6 +16,8 @@ use Rattle.rules.specs.State.{State, begin}
 use Rattle.rules.specs.Forms.{takeGoal, takeForm}
 use Rattle.rules.specs.Check.{Outcome, refusedIn, missing, ended, afterProof, afterGoals, afterTheory, firstFailing, readable, fitting, check}
 use Rattle.rules.specs.Laws.Out.{Ok, fine, off}
+use Rattle.rules.specs.Laws.Theory.{WellFormed}
+use Rattle.rules.specs.Laws.Declare.{reached, theory-formed, nothing-formed}
 
 -- the state that a text leads to
 unfoldable pub endOf : {S : Type 0} → Judged S → S
@@ -44,7 +46,7 @@ module _ {S : Type 0} (P : S → Type 0) (f : Sexp → Act S (Unit {0})) (keeps 
 
 -- The whole check -----------------------------------------------------------------------------------------------------------------
 
-module _ (P : State → Type 0) (starts : (T : Theory) → P (begin T))
+module _ (P : State → Type 0) (starts : (T : Theory) → WellFormed T → P (begin T))
     (goals : (x : Sexp) (S : State) → P S → Ok (λ a U. P U) (takeGoal x S)) (forms : (x : Sexp) (S : State) → P S → Ok (λ a U. P U) (takeForm x S)) where
   ended-reaches : (k : ℕ) (S : State) (gs : List ℕ) → P S → P (ended k S gs .state)
   unfolding ended refusedIn
@@ -65,22 +67,27 @@ module _ (P : State → Type 0) (starts : (T : Theory) → P (begin T))
       go true = p
       go false = after-proof-reaches (through takeForm (read proof) 0 S) (through-reaches P takeForm forms (read proof) 0 S p)
 
-  after-theory-reaches : (goal proof : List ℕ) (j : Judged Theory) → P (afterTheory goal proof j .state)
-  unfolding afterTheory refusedIn
-  after-theory-reaches goal proof (refused n d k T) = starts T
-  after-theory-reaches goal proof (done k T) =
-      after-goals-reaches proof (whole takeGoal (read goal) (begin T)) (whole-reaches P takeGoal goals (read goal) (begin T) (starts T))
+  after-theory-reaches : (goal proof : List ℕ) (j : Judged Theory) → WellFormed (reached j) → P (afterTheory goal proof j .state)
+  unfolding afterTheory refusedIn reached
+  after-theory-reaches goal proof (refused n d k T) w = starts T w
+  after-theory-reaches goal proof (done k T) w =
+      after-goals-reaches proof (whole takeGoal (read goal) (begin T)) (whole-reaches P takeGoal goals (read goal) (begin T) (starts T w))
 
   readable-reaches : (t g f : List ℕ) (k : ℕ) → P (readable t g f k .state)
   unfolding readable refusedIn
-  readable-reaches t g f zero = after-theory-reaches g f (whole declare (read t) noTheory)
-  readable-reaches t g f (suc k) = starts noTheory
+  readable-reaches t g f zero = after-theory-reaches g f (whole declare (read t) noTheory) (theory-formed t)
+  readable-reaches t g f (suc k) = starts noTheory nothing-formed
 
   fitting-reaches : (t g f : List ℕ) (k : ℕ) → P (fitting t g f k .state)
   unfolding fitting refusedIn
   fitting-reaches t g f zero = readable-reaches t g f (firstFailing plain t g f)
-  fitting-reaches t g f (suc k) = starts noTheory
+  fitting-reaches t g f (suc k) = starts noTheory nothing-formed
 
-  pub check-reaches : (t g f : List ℕ) → P (check t g f .state)
+  pub check-reaches-formed : (t g f : List ℕ) → P (check t g f .state)
   unfolding check
-  check-reaches t g f = fitting-reaches t g f (firstFailing short t g f)
+  check-reaches-formed t g f = fitting-reaches t g f (firstFailing short t g f)
+
+-- what holds at the beginning whatever the theory
+pub check-reaches : (P : State → Type 0) → ((T : Theory) → P (begin T)) → ((x : Sexp) (S : State) → P S → Ok (λ a U. P U) (takeGoal x S))
+    → ((x : Sexp) (S : State) → P S → Ok (λ a U. P U) (takeForm x S)) → (t g f : List ℕ) → P (check t g f .state)
+check-reaches P starts goals forms = check-reaches-formed P (λ T w. starts T) goals forms

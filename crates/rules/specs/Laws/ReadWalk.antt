@@ -40,7 +40,7 @@ pub record Ready (K : Invariant) (S : State) (m : Made) : Type 0 where
   pub goals : All (GoalIn K m) (S .goals)
   pub facts : All (FactIn K m) (S .facts)
 
-abbreviated-has : (P : Tree → Type 0) (ds : List Def) (n : List ℕ) → All (λ d. P (d .term)) ds → (t : Tree) → abbreviated ds n ≡ some t → P t
+pub abbreviated-has : (P : Tree → Type 0) (ds : List Def) (n : List ℕ) → All (λ d. P (d .term)) ds → (t : Tree) → abbreviated ds n ≡ some t → P t
 unfolding abbreviated
 abbreviated-has P [] n h t e = absurd (let z : _≡_ {A = ℕ} 0 1 = cc in omega arith)
 abbreviated-has P (d ∷ ds) n (both p h) t e = go (same (d .name .bytes) n) e (abbreviated-has P ds n h t)

@@ -86,7 +86,7 @@ module _ (P : Tree → Type 0) (args : (c : ℕ) (ts : Trees) → P (app c ts) �
     match-all-bounded (more p ps) (more t ts) b h k =
         and-then-bounded (matches p t b) _ (matches-bounded p t b h (k .0)) (λ c i. match-all-bounded ps ts c i (k .1))
 
-  match-stated-bounded : (p : Tree) (o : Option Tree) (b : Bound) → Bounded P b → ((t : Tree) → o ≡ some t → P t) → IfBounded P (matchStated p o b)
+  pub match-stated-bounded : (p : Tree) (o : Option Tree) (b : Bound) → Bounded P b → ((t : Tree) → o ≡ some t → P t) → IfBounded P (matchStated p o b)
   unfolding matchStated IfBounded
   match-stated-bounded p nothing b h k = h
   match-stated-bounded p (some t) b h k = matches-bounded p t b h (k t refl)
