@@ -15,8 +15,8 @@ use Rattle.terms.specs.declared.store.Mark.{Mark}
 use Rattle.terms.specs.declared.store.Kept.{Kept}
 use Rattle.terms.specs.declared.store.Kept.the-variants.{Term, Full}
 use Rattle.terms.specs.Table.{argsOf, treeAt, made, isApp, Node, Good, Stored, Refused, After, numberOf}
-use Rattle.terms.proofs.Tables.{tree-app, length-trees}
-use Rattle.terms.proofs.Sames.{getD-grown, grown-self, grown-then}
+use Rattle.terms.specs.Laws.Tables.{tree-app, length-trees}
+use Rattle.terms.specs.Laws.Growth.{getD-grown, grown-self, grown-then}
 use Rattle.exports_store.specs.Chains.{chain, links, Chained}
 
 next-tree : (M : Made) (last first : ℕ) (t : Tree) (k : ℕ) → getD M last (var 0) ≡ chain t k → getD M first (var 0) ≡ t → treeAt M (9 ∷ last ∷ first ∷ []) ≡ chain t (suc k)

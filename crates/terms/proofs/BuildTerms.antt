@@ -1,7 +1,7 @@
 -- What building leaves in the tables, at each of its returns and in its loop over the arguments. Assumes nothing.
 use mathlib.Core.Path.{_≡_, refl, sym, ap, _∙_, subst}
 use mathlib.Core.List.{List, [], _∷_, _++_}
-use mathlib.Core.Option.{some, none as nothing}
+use mathlib.Core.Option.{some}
 use Prim.Native.Nat.{ℕ, zero, suc, _+_, _-_, _≤_, _<_}
 use native.Mathlib.Omega.{arith}
 use native.Mathlib.Decide.{ℕ-discrete}
@@ -21,11 +21,12 @@ use Rattle.terms.specs.declared.patterns.Built.{Built}
 use Rattle.terms.specs.declared.patterns.Built.the-variants.{Term, No}
 use Rattle.terms.specs.Table.{run, argsOf, treeAt, made, Shaped, isApp, Node, Good, Grown, Stored, Refused, After}
 use Rattle.terms.specs.Patterns.{arity, Stands, Reads, treeIn, boundOf, Cells, Buildable, Builds, Stops, BuiltBy, BuiltAt}
-use Rattle.terms.proofs.Words.{run-same, run-length, run-at}
-use Rattle.terms.proofs.Tables.{length-trees, tree-app}
-use Rattle.terms.proofs.Sames.{grown-self, getD-grown, grown-then}
+use Rattle.terms.specs.Laws.Runs.{run-same, run-length, run-at}
+use Rattle.terms.specs.Laws.Tables.{length-trees, tree-app}
+use Rattle.terms.specs.Laws.Growth.{grown-self, getD-grown, grown-then}
 use Rattle.terms.proofs.Matches.{stands-var, stands-app, reads-in, reads-var}
-use Rattle.terms.proofs.Builds.{onto, onto-snoc, onto-agree, build-none, build-some, Remaining, remaining-begins, remaining-reads, remaining-on, remaining-stops, remaining-ends}
+use Rattle.terms.proofs.Builds.{onto, onto-snoc, onto-agree, build-none, build-some, Remaining, remaining-begins, remaining-reads}
+use Rattle.terms.proofs.Builds.{remaining-on, remaining-stops, remaining-ends}
 
 -- Bindings stay as the store grows ---------------------------------------------------------------------------------------------------
 

@@ -1,24 +1,24 @@
 -- The collection of variables, step by step. Assumes nothing.
 use mathlib.Core.Path.{_≡_, refl, sym, ap, _∙_, subst}
-use mathlib.Core.Bool.{Bool, true, false, _||_, true≢false, false≢true}
+use mathlib.Core.Bool.{Bool, true, false, true≢false, _||_}
 use mathlib.Core.List.{List}
 use mathlib.Core.Logic.{_⊎_, inl, inr, ⊎-elim}
-use Prim.Native.Nat.{ℕ, zero, suc, _+_, _-_, _*_, _≤_, _<_}
+use Prim.Native.Nat.{ℕ, _+_, _-_, _≤_, _<_}
 use native.Mathlib.Omega.{arith}
 use lib.ListN.{length, getD, replicate}
 use lib.Dec.{eqb}
 use borrow.Author.Tests.{eq-eqb, eqb-true}
-use Rattle.rules.specs.Limits.{SYMBOLS, TERMS, WORDS}
-use Rattle.rules.specs.Find.{Set, empty, union}
+use Rattle.rules.specs.Limits.{SYMBOLS}
+use Rattle.rules.specs.Find.{Set, union}
 use Rattle.rules.specs.Laws.Set.{or-left, or-right, union-assoc, union-empty, union-inside}
-use Rattle.rules.specs.Tree.{Tree, Trees, var, app, isOpen, variables, variablesOf}
+use Rattle.rules.specs.Tree.{Tree, variables, variablesOf}
 use Rattle.rules.specs.Laws.Tree.{closed-empty, variables-var, variables-app, variables-none, variables-more}
 use Rattle.terms.specs.declared.store.Mark.{Mark}
 use Rattle.terms.specs.Sets.{holds, plus}
 use Rattle.terms.specs.Table.{FLAGS, run, start, argsOf, made, Good}
 use Rattle.terms.specs.Collect.{tree, Seen, Readable, Collected}
-use Rattle.terms.proofs.SetWords.{holds-zero}
-use Rattle.terms.proofs.Terms.{args-more, args-none, no-variable, node-rise, node-inside, term-app, term-var, args-below}
+use Rattle.terms.specs.Laws.Sets.{holds-zero}
+use Rattle.terms.specs.Laws.Terms.{args-more, args-none, no-variable, node-rise, node-inside, term-app, term-var, args-below}
 
 -- one of two
 or-true : (p q : Bool) → p || q ≡ true → (p ≡ true) ⊎ (q ≡ true)

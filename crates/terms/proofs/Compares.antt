@@ -1,26 +1,25 @@
 -- What two terms of good tables ask for, by their heads and the numbers of their arguments. Assumes nothing.
 use mathlib.Core.Path.{_≡_, refl, sym, ap, _∙_, subst}
 use mathlib.Core.Bool.{Bool, true, false}
-use Prim.Native.Nat.{ℕ, zero, suc, _+_, _-_, _≤_, _<_}
-use native.Mathlib.Omega.{arith}
 use mathlib.Core.List.{List}
-use lib.ListN.{length, getD, replicate, length-replicate}
+use Prim.Native.Nat.{ℕ, _+_, _-_, _≤_, _<_}
+use native.Mathlib.Omega.{arith}
+use lib.ListN.{getD, replicate}
 use lib.Dec.{eqb}
 use borrow.Author.Tests.{eq-eqb, ne-eqb}
 use Rattle.rules.specs.Limits.{SYMBOLS}
-use Rattle.rules.specs.Tree.{Tree, Trees, var, app, sameTree, variables, countTrees}
+use Rattle.rules.specs.Tree.{Tree, Trees, var, app, variables, countTrees}
 use Rattle.rules.specs.Laws.Tree.{same-eq, not-same, variables-var}
 use Rattle.rules.specs.Laws.Store.{Apart}
-use Rattle.rules.specs.Store.{Made}
 use Rattle.rules.specs.Unify.{Look, agree, clash, binds, parts, bindOrClash, differ, look}
 use Rattle.terms.specs.declared.store.Mark.{Mark}
 use Rattle.terms.specs.declared.pairs.Asks.{Asks}
-use Rattle.terms.specs.Table.{run, start, argsOf, made, trees, Good}
+use Rattle.terms.specs.Table.{run, start, argsOf, made, Good}
 use Rattle.terms.specs.Collect.{tree, Readable}
 use Rattle.terms.specs.Pairs.{Searchable, Comparable, BindsTo, PartsAt, Answered}
-use Rattle.terms.proofs.Words.{run-length}
-use Rattle.terms.proofs.Tables.{length-trees, args-count}
-use Rattle.terms.proofs.Terms.{node-rise, node-narrow, node-within, node-inside, start-in, term-app, term-var, args-below}
+use Rattle.terms.specs.Laws.Runs.{run-length}
+use Rattle.terms.specs.Laws.Tables.{length-trees, args-count}
+use Rattle.terms.specs.Laws.Terms.{node-rise, node-narrow, node-within, node-inside, term-app, term-var, args-below}
 
 -- The definition by cases ----------------------------------------------------------------------------------------------------------
 

@@ -18,10 +18,11 @@ use Rattle.terms.specs.Table.{made, Refused}
 use Rattle.terms.specs.Collect.{tree}
 use Rattle.terms.specs.Subst.{replacement}
 use Rattle.terms.specs.Theta.{bindings, inValues, Changeable, Changed, ChangedAs, Extendable, Bound}
-use Rattle.terms.proofs.Fresh.{getD-zeros, part-long, part-none}
+use Rattle.terms.specs.Laws.Zeros.{getD-zeros}
+use Rattle.terms.specs.Laws.Growth.{getD-more}
+use Rattle.terms.specs.Laws.Theta.{bindings-insert}
+use Rattle.terms.proofs.Fresh.{part-long, part-none}
 use Rattle.terms.proofs.Singles.{single-map}
-use Rattle.terms.proofs.Waits.{getD-more}
-use Rattle.terms.proofs.Bindings.{bindings-insert}
 
 -- one tree for one variable is a replacement
 replace-values : (x : ℕ) (t : Tree) (θ : List Binding) → inValues (single x t) θ ≡ replace x t θ

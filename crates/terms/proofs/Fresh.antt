@@ -1,26 +1,19 @@
 -- Substitution with a memo that is zero before and after. Assumes nothing.
-use mathlib.Core.Path.{_≡_, refl, sym, ap, _∙_, subst}
-use mathlib.Core.List.{List, [], _∷_, _++_}
-use Prim.Native.Nat.{ℕ, zero, suc, _+_, _-_, _≤_, _<_}
+use mathlib.Core.Path.{_≡_, sym, ap, _∙_}
+use mathlib.Core.List.{List, _++_}
+use Prim.Native.Nat.{ℕ, _+_, _-_, _≤_, _<_}
 use native.Mathlib.Omega.{arith}
 use native.Mathlib.Decide.{decLt}
-use lib.ListN.{length, getD, take, drop, replicate, length-replicate, replicate-append-replicate, getD-replicate, List·getD-eq-default}
+use lib.ListN.{length, getD, take, drop, replicate, length-replicate, replicate-append-replicate, List·getD-eq-default}
 use lib.Seq.{length-take-le, take-at, drop-at, getD-take}
-use Rattle.rules.specs.Out.{Out}
-use Rattle.rules.specs.Tree.{Tree, sub}
-use Rattle.rules.specs.Store.{Made, make, substitute}
+use Rattle.rules.specs.Store.{substitute}
 use Rattle.terms.specs.declared.store.Mark.{Mark}
 use Rattle.terms.specs.declared.store.Kept.{Kept}
 use Rattle.terms.specs.declared.store.Kept.the-variants.{Term, Full}
 use Rattle.terms.specs.Table.{made, After}
 use Rattle.terms.specs.Collect.{tree}
-use Rattle.terms.specs.Subst.{replacement, substituted, asked, Replaceable, Ready, Substituted}
-
-pub getD-zeros : (n i : ℕ) → _≡_ {A = ℕ} (getD (replicate n 0) i 0) 0
-getD-zeros n i = elim (decLt i n) [
-  | yes p ↦ getD-replicate n i 0 0 p
-  | no q ↦ List·getD-eq-default (replicate n 0) 0 {n = i} (let z = length-replicate {A = ℕ} n 0 in omega arith)
-]
+use Rattle.terms.specs.Subst.{replacement, substituted, Replaceable, Ready, Substituted}
+use Rattle.terms.specs.Laws.Zeros.{getD-zeros}
 
 -- a part of zeros
 module _ (memo : List ℕ) (n : ℕ) (h : n ≤ length memo) (z : memo ≡ replicate (length memo) 0) where

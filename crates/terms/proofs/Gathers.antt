@@ -7,16 +7,14 @@ use native.Mathlib.Omega.{arith}
 use native.Mathlib.Nat.{not-suc-le-zero, le-of-suc-le-suc, zero-lt-suc}
 use lib.ListN.{length, getD, take, drop, set, length-set, List·getD-eq-default}
 use lib.Seq.{sets, sets-eq, take-at}
-use lib.Dec.{eqb}
 use borrow.Author.Tests.{eq-eqb, ne-eqb}
-use Rattle.rules.specs.Out.{Out}
-use Rattle.rules.specs.Tree.{Tree, Trees, var, app, none, more, sub, subs}
+use Rattle.rules.specs.Tree.{Tree, var, more, sub, subs}
 use Rattle.rules.specs.Store.{Made, keep}
 use Rattle.terms.specs.declared.store.Mark.{Mark}
 use Rattle.terms.specs.declared.store.Kept.{Kept}
-use Rattle.terms.specs.Table.{run, argsOf, treeAt, made, Shaped, Node, Good, After}
+use Rattle.terms.specs.Table.{run, argsOf, treeAt, made, Shaped, Node, After}
 use Rattle.terms.specs.Subst.{image, Known, renumbered, rebuilt, Rebuildable}
-use Rattle.terms.proofs.Words.{run-length, run-more, run-none}
+use Rattle.terms.specs.Laws.Runs.{run-length, run-more, run-none}
 
 -- image_of ---------------------------------------------------------------------------------------------------------------------------
 

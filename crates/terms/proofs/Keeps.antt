@@ -1,27 +1,27 @@
 -- What `keep` leaves, in each of its four answers. Assumes nothing.
 use mathlib.Core.Path.{_≡_, refl, sym, ap, _∙_, subst}
-use mathlib.Core.List.{List, [], _∷_, _++_, append-assoc, append-nil}
-use mathlib.Core.Logic.{⊎-elim, _⊎_, inl, inr}
-use Prim.Native.Nat.{ℕ, zero, suc, _+_, _-_, _≤_, _<_}
+use mathlib.Core.List.{List, [], _∷_, _++_, append-nil}
+use mathlib.Core.Logic.{⊎-elim}
+use Prim.Native.Nat.{ℕ, _+_, _-_, _≤_, _<_}
 use native.Mathlib.Omega.{arith}
 use native.Mathlib.Decide.{ℕ-discrete}
 use native.Mathlib.Numerals.{add-one}
 use lib.ListN.{length, getD, take, drop, length-append, length-drop, List·getD-append, drop-of-length-le}
 use lib.Seq.{length-take-le, take-all, take-at, drop-at, drop-drop, getD-take, getD-drop, getD-append-add}
 use Rattle.rules.specs.Limits.{TERMS, WORDS}
-use Rattle.rules.specs.Out.{Out, ok, refuse}
-use Rattle.rules.specs.Tree.{Tree, var, isOpen, node}
+use Rattle.rules.specs.Out.{ok}
+use Rattle.rules.specs.Tree.{Tree, var, isOpen}
 use Rattle.rules.specs.Store.{Made, number, words, keep}
-use Rattle.rules.specs.Laws.Store.{Apart, length-snoc, getD-last, apart-more, number-of, keep-old, keep-8, keep-9, keep-new}
+use Rattle.rules.specs.Laws.Store.{Apart, getD-last, apart-more, number-of, keep-old, keep-8, keep-9, keep-new}
 use Rattle.terms.specs.declared.store.Mark.{Mark}
-use Rattle.terms.specs.Table.{CHAINS, FLAGS, HEADS, INDEX, BUCKETS, run, start, nodeAt, treeAt, trees, made, hash, bucket, latest, flag, Shaped, Node, Good, Same, Grown, Stored, Refused}
+use Rattle.terms.specs.Table.{CHAINS, FLAGS, HEADS, INDEX, BUCKETS, run, start, nodeAt, treeAt, trees, made, hash, bucket, latest, flag}
+use Rattle.terms.specs.Table.{Shaped, Node, Good, Same, Stored, Refused}
 use Rattle.terms.specs.Node.{seek, Linked}
-use Rattle.terms.proofs.Words.{run-length}
-use Rattle.terms.proofs.Hash.{hash-small, latest-agree, latest-here, latest-other}
-use Rattle.terms.proofs.Tables.{last-or, start-next, length-trees, getD-trees, tree-node, shaped-some, made-words}
-use Rattle.terms.proofs.Nodes.{flag-small}
+use Rattle.terms.specs.Laws.Chains.{hash-small, latest-agree, latest-here, latest-other}
+use Rattle.terms.specs.Laws.Tables.{last-or, start-next, length-trees, tree-node, shaped-some, made-words}
+use Rattle.terms.specs.Laws.Terms.{flag-small}
+use Rattle.terms.specs.Laws.Growth.{grown-self, start-same, node-same, made-same}
 use Rattle.terms.proofs.Finds.{seek-number, seek-nowhere}
-use Rattle.terms.proofs.Sames.{same-self, grown-self, start-same, node-same, made-same}
 
 -- The words with a node written behind the used ones ----------------------------------------------------------------------------------
 

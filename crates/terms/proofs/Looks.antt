@@ -20,8 +20,8 @@ use Rattle.terms.specs.declared.pairs.Asks.the-variants.{Nothing, Clash,
 use Rattle.terms.specs.Table.{run, argsOf, made}
 use Rattle.terms.specs.Pairs.{PartsAt, Answered, waits, piled}
 use Rattle.terms.specs.Peel.{Lookable, same, more, OntoPairs, Crowded, BindsHere}
-use Rattle.terms.proofs.Words.{run-length}
-use Rattle.terms.proofs.Tables.{args-count}
+use Rattle.terms.specs.Laws.Runs.{run-length}
+use Rattle.terms.specs.Laws.Tables.{args-count}
 use Rattle.terms.proofs.Waits.{waits-piled, length-piled}
 
 -- The definition by cases ------------------------------------------------------------------------------------------------------------

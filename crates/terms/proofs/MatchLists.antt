@@ -12,10 +12,12 @@ use Rattle.rules.specs.Store.{Made}
 use Rattle.rules.specs.Match.{matches, matchAll}
 use Rattle.terms.specs.declared.store.Mark.{Mark}
 use Rattle.terms.specs.Table.{argsOf, made}
-use Rattle.terms.specs.Patterns.{Standing, boundOf, Matchable, AllMatchable, Tried, hit, miss, AllTried, hits, misses, Matched, matched, other, AllMatched, all, notAll, TriedAt, TriedAll, MatchedAt, MatchedAll}
+use Rattle.terms.specs.Patterns.{Standing, boundOf, Matchable, AllMatchable, Tried, hit, miss, AllTried, hits, misses, Matched, matched, other}
+use Rattle.terms.specs.Patterns.{AllMatched, all, notAll, TriedAt, TriedAll, MatchedAt, MatchedAll}
+use Rattle.terms.specs.Laws.Tables.{length-trees}
+use Rattle.terms.specs.Laws.Patterns.{size-some}
 use Rattle.terms.proofs.Nodes.{Writing, writing-ends}
-use Rattle.terms.proofs.Tables.{length-trees}
-use Rattle.terms.proofs.Matches.{size-some, Matching, matching-reads, matching-on, matching-miss, matching-ends}
+use Rattle.terms.proofs.Matches.{Matching, matching-reads, matching-on, matching-miss, matching-ends}
 
 -- terms from k on are left
 pub record Listing (S P I W : List ℕ) (m : Mark) (B : List ℕ) (at : ℕ) (xs C : List ℕ) (place k : ℕ) : Type 0 where

@@ -16,21 +16,12 @@ use Rattle.rules.specs.Laws.Tree.{not-same, same-self}
 use Rattle.rules.specs.Store.{Made}
 use Rattle.rules.specs.Laws.Store.{Apart}
 use Rattle.rules.specs.Match.{Bound, bind, matchVar, andThen, matches, matchAll}
-use Rattle.terms.specs.Table.{argsOf, treeAt, trees}
+use Rattle.terms.specs.Table.{argsOf, treeAt}
 use Rattle.terms.specs.Patterns.{arity, Stands, Standing, Reads, treeIn, boundOf, Cells, Tried, hit, miss}
-use Rattle.terms.proofs.Tables.{tree-app, tree-var}
+use Rattle.terms.specs.Laws.Tables.{tree-app, tree-var}
+use Rattle.terms.specs.Laws.Patterns.{stands-in, size-some}
 
 -- Patterns in words ------------------------------------------------------------------------------------------------------------
-
-pub size-some : (p : Tree) → 0 < size p
-unfolding size
-size-some (var v) = omega arith
-size-some (app c ts) = omega arith
-
-pub stands-in : (S P : List ℕ) (at : ℕ) (p : Tree) → Stands S P at p → at < length P
-unfolding Stands
-stands-in S P at (var v) h = h .0
-stands-in S P at (app c ts) h = h .0
 
 pub reads-in : (S P : List ℕ) (at : ℕ) → Reads S P at → at < length P
 reads-in S P at r = stands-in S P at (r .tree) (r .stands)

@@ -1,37 +1,23 @@
 -- A new node: its flag, its place in the index, its words. Assumes nothing.
-use mathlib.Core.Path.{_≡_, refl, sym, ap, _∙_, subst}
-use mathlib.Core.Bool.{Bool, true, false, true≢false, false≢true}
+use mathlib.Core.Path.{_≡_, refl, sym, ap, _∙_}
+use mathlib.Core.Bool.{Bool, true, false}
 use mathlib.Core.List.{List, [], _∷_, _++_}
-use Prim.Native.Nat.{ℕ, zero, suc, _+_, _-_, _≤_, _<_}
+use Prim.Native.Nat.{ℕ, zero, suc, _+_, _≤_, _<_}
 use native.Mathlib.Omega.{arith}
 use native.Mathlib.Numerals.{add-one}
 use native.Mathlib.Nat.{not-suc-le-zero}
-use lib.ListN.{length, getD, set, take, drop, length-set, drop-of-length-le, length-append}
+use lib.ListN.{length, getD, set, take, drop, length-set, drop-of-length-le}
 use lib.Seq.{getD-set-same, getD-set-other, drop-cons, take-suc, take-all, set-at, append-snoc, length-take-le}
 use Rattle.rules.specs.Limits.{SYMBOLS, TERMS, WORDS}
-use Rattle.rules.specs.Tree.{Tree, Trees, var, app, none, more, isOpen, areOpen}
+use Rattle.rules.specs.Tree.{Tree, var, isOpen, areOpen}
 use Rattle.rules.specs.Store.{Made}
 use Rattle.terms.specs.declared.store.Mark.{Mark}
-use Rattle.terms.specs.Table.{CHAINS, FLAGS, HEADS, INDEX, BUCKETS, argsOf, treeAt, trees, made, flag, Shaped, isVar, isApp, Good}
+use Rattle.terms.specs.Table.{CHAINS, FLAGS, HEADS, INDEX, BUCKETS, argsOf, treeAt, made, flag, Shaped, isVar, isApp, Good}
 use Rattle.terms.specs.Node.{Linked}
-use Rattle.terms.proofs.Tables.{tree-app, tree-var, shaped-some}
+use Rattle.terms.specs.Laws.Tables.{tree-app, tree-var, shaped-some}
+use Rattle.terms.specs.Laws.Terms.{flag-open, flag-closed}
 
 -- Flags ----------------------------------------------------------------------------------------------------------------------------
-
-pub flag-small : (b : Bool) → flag b ≤ 1
-unfolding flag
-flag-small true = omega arith
-flag-small false = omega arith
-
-pub flag-open : (b : Bool) (n : ℕ) → n ≡ flag b → (n ≡ 0 → ⊥) → b ≡ true
-unfolding flag
-flag-open true n e h = refl
-flag-open false n e h = absurd (h e)
-
-pub flag-closed : (b : Bool) (n : ℕ) → n ≡ flag b → n ≡ 0 → b ≡ false
-unfolding flag
-flag-closed true n e h = absurd (omega arith)
-flag-closed false n e h = refl
 
 open-app : (M : Made) (h : ℕ) (xs : List ℕ) → h < SYMBOLS → isOpen (treeAt M (h ∷ xs)) ≡ areOpen (argsOf M xs)
 unfolding isOpen

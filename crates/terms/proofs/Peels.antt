@@ -14,8 +14,8 @@ use Rattle.terms.specs.declared.peel.Turn.the-variants.{More, Clash, Bin
 use Rattle.terms.specs.Table.{Grown, Refused}
 use Rattle.terms.specs.Pairs.{waits}
 use Rattle.terms.specs.Peel.{Peelable, weighs, peels, Lighter, Clashes, BindsOne, Turned, Finishes}
-use Rattle.terms.proofs.Tables.{length-trees}
-use Rattle.terms.proofs.Sames.{grown-self, grown-then}
+use Rattle.terms.specs.Laws.Tables.{length-trees}
+use Rattle.terms.specs.Laws.Growth.{grown-self, grown-then}
 
 -- the pairs that wait now say what is left, with more steps than they weigh
 pub record Peeling (I W : List ℕ) (old : Mark) (theta memo P seen : List ℕ) (w : ℕ) (J X memo′ P′ seen′ : List ℕ) (m : Mark) (v : ℕ) : Type 0 where

@@ -1,7 +1,7 @@
 -- What the operations on words do to the sets that the words stand for. Assumes nothing.
-use mathlib.Core.Path.{_≡_, refl, sym, ap, _∙_, subst}
-use mathlib.Core.Bool.{Bool, true, false, _&&_, _||_, not}
-use mathlib.Core.List.{List, [], _∷_, _++_}
+use mathlib.Core.Path.{_≡_, refl, sym, ap, _∙_}
+use mathlib.Core.Bool.{Bool, true, false, _&&_, not, _||_}
+use mathlib.Core.List.{List, _∷_, _++_}
 use Prim.Native.Nat.{ℕ, zero, suc, _+_, _-_, _*_, _/_, _%_, _^_, _≤_, _<_}
 use native.Mathlib.Omega.{arith}
 use native.Mathlib.Decide.{ℕ-discrete, decLt}
@@ -10,24 +10,17 @@ use native.Mathlib.Numerals.{add-one}
 use lib.Dec.{eqb, lit<}
 use lib.Pow.{shl-exact}
 use lib.Arith.{lt-one}
-use borrow.Author.Count.{below-more}
-use lib.ListN.{length, getD, set, replicate, length-set, length-append, List·getD-eq-default}
+use lib.ListN.{length, getD, set, length-set, length-append, List·getD-eq-default}
 use lib.Seq.{getD-set-same, getD-set-other}
 use lib.Bits.{bitAnd, bitOr, and-le-l, and-mask}
 use lib.Count.{trailingZeros, ones, ones-step}
-use borrow.Author.Tests.{eq-eqb, ne-eqb, eqb-true, eqb-false}
-use Rattle.rules.specs.Find.{Set, empty, union, minus, least, rising, risingFrom}
+use borrow.Author.Count.{below-more}
+use borrow.Author.Tests.{ne-eqb, eqb-true, eqb-false}
+use Rattle.rules.specs.Find.{union, minus, least, rising, risingFrom}
 use Rattle.rules.specs.Laws.Set.{least-none, least-here, rising-all, rising-none, rising-split, rising-from-length}
 use Rattle.terms.specs.Sets.{digit, holds, plus}
-use Rattle.terms.proofs.Digits.{digit-or, digit-and, digit-not, digit-one, digit-zero, digit-suc, digit-of-zero, Lowest, lowest}
-use Rattle.terms.proofs.Fresh.{getD-zeros}
-
-eqb-iff : (a b c d : ℕ) → (a ≡ b → c ≡ d) → (c ≡ d → a ≡ b) → eqb a b ≡ eqb c d
-eqb-iff a b c d f g = elim (ℕ-discrete a b) [ yes p ↦ eq-eqb a b p ∙ sym (eq-eqb c d (f p)) | no q ↦ ne-eqb a b q ∙ sym (ne-eqb c d (λ e. q (g e))) ]
-
-or-false : (b : Bool) → b || false ≡ b
-or-false true = refl
-or-false false = refl
+use Rattle.terms.specs.Laws.Digits.{digit-or, digit-and, digit-not, digit-one, digit-zero, digit-suc, digit-of-zero, Lowest, lowest}
+use Rattle.terms.specs.Laws.Sets.{eqb-iff, or-false, word-digit}
 
 -- has ------------------------------------------------------------------------------------------------------------------------
 
@@ -179,14 +172,6 @@ ones-rising (suc k) n h =
     let p = pow-suc 2 k in
     ones-step n ∙ ap (λ (m : ℕ). n % 2 + m) (ones-rising k (n / 2) (omega arith)) ∙ sym (low-first k n)
 
--- the digits of word i are the members from 64 * i on
-pub word-digit : (s : List ℕ) (i v : ℕ) → v < 64 → holds s (64 * i + v) ≡ digit (getD s i 0) v
-unfolding holds
-word-digit s i v l =
-    let p : (64 * i + v) / 64 ≡ i = omega arith in
-    let q : (64 * i + v) % 64 ≡ v = omega arith in
-    ap (λ (j : ℕ). digit (getD s j 0) ((64 * i + v) % 64)) p ∙ ap (digit (getD s i 0)) q
-
 pub count-none : (s : List ℕ) → 0 ≡ length (rising (64 * 0) (holds s))
 count-none s = sym (ap length (rising-none (holds s)))
 
@@ -202,9 +187,3 @@ count-more s i n o e f =
 
 pub count-all : (s : List ℕ) (i n : ℕ) → i ≤ length s → length s ≤ i → n ≡ length (rising (64 * i) (holds s)) → n ≡ length (rising (64 * length s) (holds s))
 count-all s i n h k e = let z : i ≡ length s = omega arith in e ∙ ap (λ (j : ℕ). length (rising (64 * j) (holds s))) z
-
--- The empty set --------------------------------------------------------------------------------------------------------------
-
-pub holds-zero : (n : ℕ) → holds (replicate n 0) ≡ empty
-unfolding holds
-holds-zero n = λ i v. (ap (λ (w : ℕ). digit w (v % 64)) (getD-zeros n (v / 64)) ∙ digit-of-zero (v % 64)) i

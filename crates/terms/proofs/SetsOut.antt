@@ -1,35 +1,20 @@
 -- Members written out by rising number. Assumes nothing.
 use mathlib.Core.Path.{_≡_, refl, sym, ap, _∙_, subst}
-use mathlib.Core.Bool.{Bool, true, false, true≢false}
+use mathlib.Core.Bool.{true≢false}
 use mathlib.Core.List.{List, [], _∷_, _++_}
-use Prim.Native.Nat.{ℕ, zero, suc, _+_, _-_, _*_, _/_, _%_, _^_, _≤_, _<_}
+use Prim.Native.Nat.{ℕ, suc, _+_, _-_, _*_, _/_, _^_, _≤_, _<_}
 use native.Mathlib.Omega.{arith}
-use native.Mathlib.Nat.{pow-suc, add-zero, add-suc}
 use native.Mathlib.Numerals.{add-one}
 use native.Mathlib.Decide.{decLt}
-use lib.Dec.{eqb}
-use lib.Arith.{lt-one}
 use lib.Pow.{shr-shr, shr-lt, shr-le}
 use lib.ListN.{length, getD, set, length-set, length-append}
-use lib.Seq.{sets, length-sets}
-use lib.Count.{trailingZeros, trailing-le}
-use Rattle.rules.specs.Find.{Set, rising, risingFrom}
-use Rattle.rules.specs.Laws.Set.{rising-all, rising-split, rising-from-none, rising-from-here, rising-from-agree, rising-from-split}
+use lib.Seq.{sets}
+use lib.Count.{trailingZeros}
+use Rattle.rules.specs.Find.{rising, risingFrom}
+use Rattle.rules.specs.Laws.Set.{rising-from-none, rising-from-here, rising-from-agree, rising-from-split}
 use Rattle.terms.specs.Sets.{digit, holds, shifted}
-use Rattle.terms.proofs.Digits.{digit-of-zero, Lowest, lowest}
-use Rattle.terms.proofs.SetWords.{word-digit}
-
--- digit k behind the first j
-digit-shift : (n j k : ℕ) → digit (n / 2 ^ j) k ≡ digit n (j + k)
-digit-shift n j k = ap (λ (m : ℕ). eqb (m % 2) 1) (shr-shr n j k)
-
--- a number below 2 ^ j has no digit from j on
-digit-high : (n j k : ℕ) → n < 2 ^ j → j ≤ k → digit n k ≡ false
-digit-high n j k h l =
-    let e : j + (k - j) ≡ k = omega arith in
-    let o : 0 + j ≡ j = omega arith in
-    let z : n / 2 ^ j ≡ 0 = lt-one (shr-lt 0 j (subst (λ (i : ℕ). n < 2 ^ i) (sym o) h)) in
-    ap (digit n) (sym e) ∙ sym (digit-shift n j (k - j)) ∙ ap (λ (m : ℕ). digit m (k - j)) z ∙ digit-of-zero (k - j)
+use Rattle.terms.specs.Laws.Digits.{digit-of-zero, Lowest, lowest, digit-shift, digit-high}
+use Rattle.terms.specs.Laws.Sets.{word-digit}
 
 -- what is left of a word, and what is left of the list, from `at` on; `all` was to be written from n on
 pub record Laying (all out₀ out : List ℕ) (n base left at k : ℕ) : Type 0 where

@@ -16,10 +16,9 @@ use Rattle.terms.specs.Table.{made, Stored, Refused}
 use Rattle.terms.specs.Collect.{tree}
 use Rattle.terms.specs.Subst.{replacement, Knows, substituted, asked, Ready, Done, Substituted}
 use Rattle.terms.specs.Peel.{Sideable, sided, BothSides, NoSides}
-use Rattle.terms.proofs.Tables.{length-trees}
-use Rattle.terms.proofs.Sames.{grown-then}
-use Rattle.terms.proofs.Substs.{replacement-grown}
-use Rattle.terms.proofs.Waits.{getD-more}
+use Rattle.terms.specs.Laws.Tables.{length-trees}
+use Rattle.terms.specs.Laws.Growth.{grown-then, getD-more}
+use Rattle.terms.specs.Laws.Theta.{replacement-grown}
 
 -- the tree of a term that is stored
 stored-tree : (I W J X : List ℕ) (old : Mark) (t : Tree) (K : Out Made Tree) (n : ℕ) (new : Mark) → Stored I W J X old t K n new → tree J X new n ≡ t

@@ -7,9 +7,10 @@ use native.Mathlib.Omega.{arith}
 use lib.ListN.{length, getD}
 use borrow.Author.Tests.{lt-ltb, le-ltb}
 use Rattle.rules.specs.Limits.{SYMBOLS, ARGUMENTS}
-use Rattle.rules.specs.Tree.{Tree, Trees, var, app, none, more, size, sizes, countTrees}
+use Rattle.rules.specs.Tree.{Trees, var, app, none, more, size, sizes, countTrees}
 use Rattle.terms.specs.Patterns.{arity, Stands, Standing, Skippable, Skipped, argsAt}
-use Rattle.terms.proofs.Matches.{size-some}
+use Rattle.terms.specs.Laws.Patterns.{size-some, before, before-count, before-sizes, before-stands, count-sizes, stands-within}
+use Rattle.terms.specs.Laws.Patterns.{standing-within}
 
 pub args-symbol : (S : List ℕ) (h : ℕ) → h < SYMBOLS → arity S h ≡ argsAt S h
 unfolding argsAt
@@ -20,47 +21,6 @@ unfolding argsAt
 args-variable S h l = sym (ap (λ (b : Bool). elim b [ true ↦ arity S h | false ↦ 0 ]) (le-ltb h SYMBOLS l))
 
 -- Lists of patterns --------------------------------------------------------------------------------------------------------------
-
--- the arguments, then what stood behind
-unfoldable before : Trees → Trees → Trees
-before none us = us
-before (more t ts) us = more t (before ts us)
-
-before-count : (ts us : Trees) → countTrees (before ts us) ≡ countTrees ts + countTrees us
-unfolding before countTrees
-before-count none us = omega arith
-before-count (more t ts) us = let e = before-count ts us in omega arith
-
-before-sizes : (ts us : Trees) → sizes (before ts us) ≡ sizes ts + sizes us
-unfolding before size
-before-sizes none us = omega arith
-before-sizes (more t ts) us = let e = before-sizes ts us in omega arith
-
-before-stands : (S P : List ℕ) (at : ℕ) (ts us : Trees) → Standing S P at ts → Standing S P (at + sizes ts) us → Standing S P at (before ts us)
-unfolding before size Stands
-before-stands S P at none us a b = let z : at + 0 ≡ at = omega arith in subst (λ (k : ℕ). Standing S P k us) z b
-before-stands S P at (more t ts) us a b =
-    let z : at + (size t + sizes ts) ≡ at + size t + sizes ts = omega arith in
-    (a .0, before-stands S P (at + size t) ts us (a .1) (subst (λ (k : ℕ). Standing S P k us) z b))
-
-count-sizes : (ts : Trees) → countTrees ts ≤ sizes ts
-unfolding countTrees size
-count-sizes none = omega arith
-count-sizes (more t ts) = let a = count-sizes ts in let b = size-some t in omega arith
-
-mutual
-  unfolding Stands size
-
-  stands-within : (S P : List ℕ) (at : ℕ) (p : Tree) → Stands S P at p → at + size p ≤ length P
-  stands-within S P at (var v) h = let a = h .0 in omega arith
-  stands-within S P at (app c ts) h = let a = h .0 in let b = standing-within S P (at + 1) ts (omega arith) (h .5) in omega arith
-
-  standing-within : (S P : List ℕ) (at : ℕ) (ts : Trees) → at ≤ length P → Standing S P at ts → at + sizes ts ≤ length P
-  standing-within S P at none l h = omega arith
-  standing-within S P at (more t ts) l h =
-      let a = stands-within S P at t (h .0) in
-      let b = standing-within S P (at + size t) ts a (h .1) in
-      omega arith
 
 -- The loop -----------------------------------------------------------------------------------------------------------------------
 

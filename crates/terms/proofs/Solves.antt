@@ -32,8 +32,8 @@ use Rattle.terms.specs.Collect.{tree}
 use Rattle.terms.specs.Theta.{bindings, Theta, Extendable, Bound, Extended}
 use Rattle.terms.specs.Unify.{Solved, Unsolved}
 use Rattle.terms.specs.Peel.{thetaOf, pairsOf, Own, weighs, peels, Results, Clashes, BindsOne, Finishes, PeeledAs, Solvable, solves, BoundMore}
-use Rattle.terms.proofs.Sames.{grown-then}
-use Rattle.terms.proofs.Fresh.{getD-zeros}
+use Rattle.terms.specs.Laws.Growth.{grown-then}
+use Rattle.terms.specs.Laws.Zeros.{getD-zeros}
 use Rattle.terms.proofs.Turns.{theta-grown, pairs-grown, cells-grown}
 
 -- a cell that is not zero is a binding

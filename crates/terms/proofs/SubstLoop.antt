@@ -1,27 +1,27 @@
 -- Substitution: the loop over a term's arguments, and the node made of their results. Assumes nothing.
 use mathlib.Core.Path.{_≡_, refl, sym, ap, _∙_, subst}
-use mathlib.Core.List.{List, [], _∷_}
+use mathlib.Core.List.{List, _∷_}
 use mathlib.Core.Logic.{⊎-elim}
-use Prim.Native.Nat.{ℕ, zero, suc, _+_, _-_, _≤_, _<_}
+use Prim.Native.Nat.{ℕ, _+_, _-_, _≤_, _<_}
 use native.Mathlib.Omega.{arith}
-use native.Mathlib.Numerals.{add-one}
-use lib.ListN.{length, getD, set, length-set}
-use Rattle.rules.specs.Limits.{SYMBOLS, TERMS, WORDS}
-use Rattle.rules.specs.Out.{Out, ok, refuse, then}
-use Rattle.rules.specs.Tree.{Tree, Trees, var, app, none, more, sub, subs}
-use Rattle.rules.specs.Store.{Made, number, keep, make, makes}
+use lib.ListN.{length, getD, set}
+use Rattle.rules.specs.Limits.{SYMBOLS}
+use Rattle.rules.specs.Out.{ok, then}
+use Rattle.rules.specs.Tree.{Tree, Trees, var, app, more, sub, subs}
+use Rattle.rules.specs.Store.{number, keep, make, makes}
 use Rattle.rules.specs.Laws.Store.{number-is, make-app, makes-none, makes-more, makes-stop}
 use Rattle.terms.specs.declared.store.Mark.{Mark}
 use Rattle.terms.specs.declared.store.Kept.{Kept}
 use Rattle.terms.specs.declared.store.Kept.the-variants.{Term, Full}
-use Rattle.terms.specs.Table.{run, start, argsOf, treeAt, made, Shaped, isApp, Good, Same, Grown, Stored, Refused, After}
+use Rattle.terms.specs.Table.{run, start, argsOf, treeAt, made, Shaped, isApp, Grown, Stored, Refused, After}
 use Rattle.terms.specs.Subst.{replacement, Known, renumbered, rebuilt, Rebuildable, Knows, substituted, asked, Ready, Done, Substituted}
-use Rattle.terms.proofs.Words.{run-length, run-at, run-same}
-use Rattle.terms.proofs.Tables.{last-or, length-trees, tree-app}
-use Rattle.terms.proofs.Sames.{getD-grown, grown-self, grown-then}
-use Rattle.terms.proofs.Terms.{args-more, args-none, node-rise, node-narrow, node-within, node-inside, term-app, args-below}
+use Rattle.terms.specs.Laws.Runs.{run-length, run-at, run-same}
+use Rattle.terms.specs.Laws.Tables.{last-or, length-trees, tree-app}
+use Rattle.terms.specs.Laws.Growth.{getD-grown, grown-self, grown-then}
+use Rattle.terms.specs.Laws.Terms.{args-more, args-none, node-rise, node-narrow, node-within, node-inside, term-app, args-below}
+use Rattle.terms.specs.Laws.Theta.{replacement-grown}
 use Rattle.terms.proofs.Gathers.{length-renumbered, getD-renumbered, args-renumbered}
-use Rattle.terms.proofs.Substs.{replacement-grown, knows-set, keeps-set, known-set, knows-grown}
+use Rattle.terms.proofs.Substs.{knows-set, keeps-set, known-set, knows-grown}
 
 -- the tables J X at m hold what was made of the arguments before `at`; what is left of them decides
 pub record Looping (I W : List ℕ) (old : Mark) (map memo : List ℕ) (id s e : ℕ) (J X memo′ : List ℕ) (m : Mark) (at : ℕ) : Type 0 where

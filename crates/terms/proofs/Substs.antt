@@ -1,36 +1,25 @@
 -- Substitution: the memo, and the terms whose result is there at once. Assumes nothing.
 use mathlib.Core.Path.{_≡_, refl, sym, ap, _∙_, subst}
 use mathlib.Core.Bool.{Bool, true, false}
-use mathlib.Core.List.{List, [], _∷_}
-use Prim.Native.Nat.{ℕ, zero, suc, _+_, _-_, _≤_, _<_}
+use mathlib.Core.List.{List}
+use Prim.Native.Nat.{ℕ, _+_, _-_, _≤_, _<_}
 use native.Mathlib.Omega.{arith}
 use native.Mathlib.Decide.{ℕ-discrete}
 use lib.ListN.{length, getD, set}
 use lib.Seq.{getD-set-same, getD-set-other}
 use lib.Dec.{eqb}
-use borrow.Author.Tests.{eqb-true, eqb-false}
-use Rattle.rules.specs.Limits.{SYMBOLS, TERMS, WORDS}
-use Rattle.rules.specs.Tree.{Tree, Trees, var, app, sub}
+use borrow.Author.Tests.{eqb-false}
+use Rattle.rules.specs.Limits.{SYMBOLS}
+use Rattle.rules.specs.Tree.{Tree, var, sub}
 use Rattle.rules.specs.Laws.Tree.{sub-closed}
 use Rattle.rules.specs.Store.{Made}
 use Rattle.terms.specs.declared.store.Mark.{Mark}
-use Rattle.terms.specs.Table.{FLAGS, start, trees, made, Good, Same, Grown}
+use Rattle.terms.specs.Table.{FLAGS, start, made, Good, Grown}
 use Rattle.terms.specs.Subst.{replacement, image, Knows, substituted, Ready, Done}
-use Rattle.terms.proofs.Tables.{length-trees}
-use Rattle.terms.proofs.Sames.{getD-grown}
-use Rattle.terms.proofs.Terms.{no-variable, term-var}
-use Rattle.terms.proofs.Closeds.{there-stored}
-
--- a replacement reads old trees alone
-pub replacement-grown : (I W J X : List ℕ) (old m : Mark) → Good I W old → Same I W J X old → old .terms ≤ m .terms → (map : List ℕ) → ((v : ℕ) → getD map v 0 ≤ old .terms)
-    → replacement (made J X m) map ≡ replacement (made I W old) map
-unfolding replacement
-replacement-grown I W J X old m g s l map b = λ i v. go v (eqb (getD map v 0) 0) refl i
-  where
-    go : (v : ℕ) (c : Bool) → eqb (getD map v 0) 0 ≡ c
-        → _≡_ {A = Tree} (elim c [ true ↦ var v | false ↦ getD (made J X m) (getD map v 0 - 1) (var 0) ]) (elim c [ true ↦ var v | false ↦ getD (made I W old) (getD map v 0 - 1) (var 0) ])
-    go v true e = refl
-    go v false e = let z = eqb-false (getD map v 0) 0 e in let y = b v in getD-grown I W J X old g s (m .terms) (getD map v 0 - 1) l (omega arith)
+use Rattle.terms.specs.Laws.Tables.{length-trees}
+use Rattle.terms.specs.Laws.Growth.{getD-grown}
+use Rattle.terms.specs.Laws.Terms.{no-variable, term-var}
+use Rattle.terms.specs.Laws.Numbers.{there-stored}
 
 -- The memo -------------------------------------------------------------------------------------------------------------------------------
 

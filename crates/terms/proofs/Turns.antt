@@ -17,20 +17,21 @@ use Rattle.meaning.specs.Unification.Pairs.{Saw, saw, WithinPairs}
 use Rattle.meaning.specs.Unification.Peel.{WithinBindings, within-after, lighter, within-parts}
 use Rattle.terms.specs.declared.store.Mark.{Mark}
 use Rattle.terms.specs.declared.peel.Sides.{Sides}
-use Rattle.terms.specs.declared.peel.Sides.the-variants as sides
 use Rattle.terms.specs.declared.peel.Next.{Next}
-use Rattle.terms.specs.declared.peel.Next.the-variants as next
 use Rattle.terms.specs.Table.{made, Good, Grown, Refused}
 use Rattle.terms.specs.Collect.{tree}
 use Rattle.terms.specs.Subst.{Knows}
 use Rattle.terms.specs.Pairs.{waits}
 use Rattle.terms.specs.Theta.{Theta}
-use Rattle.terms.specs.Peel.{thetaOf, pairsOf, Own, Sideable, sided, BothSides, NoSides, Sided, Lookable, Onto, same, more, OntoPairs, Crowded, BindsHere, Looked}
-use Rattle.terms.specs.Peel.{Peelable, weighs, peels, Lighter, Results, Clashes, BindsOne}
-use Rattle.terms.proofs.Tables.{length-trees}
-use Rattle.terms.proofs.Substs.{replacement-grown}
-use Rattle.terms.proofs.Waits.{getD-more, waits-more, along-is, bindings-more}
+use Rattle.terms.specs.Peel.{thetaOf, pairsOf, Own, Sideable, sided, BothSides, NoSides, Sided, Lookable, Onto, same, more, OntoPairs, Crowded}
+use Rattle.terms.specs.Peel.{BindsHere, Looked, Peelable, weighs, peels, Lighter, Results, Clashes, BindsOne}
+use Rattle.terms.specs.Laws.Tables.{length-trees}
+use Rattle.terms.specs.Laws.Theta.{replacement-grown, along-is, bindings-more}
+use Rattle.terms.specs.Laws.Growth.{getD-more}
+use Rattle.terms.proofs.Waits.{waits-more}
 use Rattle.terms.proofs.Looks.{length-waits, onward-agree, onward-clash, onward-binds, onward-parts, onward-crowd}
+use Rattle.terms.specs.declared.peel.Sides.the-variants as sides
+use Rattle.terms.specs.declared.peel.Next.the-variants as next
 
 -- Tables that grow -------------------------------------------------------------------------------------------------------------------
 

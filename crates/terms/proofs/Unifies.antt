@@ -2,7 +2,7 @@
 use mathlib.Core.Path.{_≡_, refl, sym, ap, _∙_, subst}
 use mathlib.Core.Option.{Option}
 use mathlib.Core.List.{List, [], _∷_}
-use Prim.Native.Nat.{ℕ, zero, suc, _-_, _*_, _<_}
+use Prim.Native.Nat.{ℕ, suc, _-_, _*_, _<_}
 use native.Mathlib.Omega.{arith}
 use native.Mathlib.Decide.{ℕ-discrete}
 use lib.ListN.{length, getD, set, replicate, length-set, length-replicate}
@@ -17,7 +17,6 @@ use Rattle.meaning.specs.Unification.Pairs.{WithinPairs}
 use Rattle.meaning.specs.Unification.Peel.{WithinBindings}
 use Rattle.terms.specs.declared.store.Mark.{Mark}
 use Rattle.terms.specs.declared.unify.Round.{Round}
-use Rattle.terms.specs.declared.unify.Round.the-variants as round
 use Rattle.terms.specs.declared.unify.Unified.{Unified}
 use Rattle.terms.specs.declared.unify.Unified.the-variants.{Found, Apart, Full}
 use Rattle.terms.specs.Table.{made, Grown, Refused}
@@ -26,8 +25,10 @@ use Rattle.terms.specs.Pairs.{waits}
 use Rattle.terms.specs.Theta.{bindings, Zeros}
 use Rattle.terms.specs.Unify.{Solved, Unsolved, Unifiable}
 use Rattle.terms.specs.Peel.{thetaOf, pairsOf, Own, Solvable, solves, BoundMore, Rounded, SolvedAs}
-use Rattle.terms.proofs.Sames.{grown-self, grown-then}
-use Rattle.terms.proofs.Fresh.{getD-zeros}
+use Rattle.terms.specs.Laws.Growth.{grown-self, grown-then}
+use Rattle.terms.specs.Laws.Zeros.{getD-zeros}
+use Rattle.terms.specs.Laws.Theta.{bindings-none}
+use Rattle.terms.specs.declared.unify.Round.the-variants as round
 
 -- The rounds ---------------------------------------------------------------------------------------------------------------------------
 
@@ -99,12 +100,6 @@ module _ (I W : List ℕ) (old : Mark) (count : ℕ) (theta map memo P seen : Li
         }
 
 -- The beginning ------------------------------------------------------------------------------------------------------------------------
-
--- cells of zeros are no bindings
-bindings-none : (M : Made) (n v : ℕ) → bindings M (replicate n 0) v ≡ []
-unfolding bindings
-bindings-none M zero v = refl
-bindings-none M (suc n) v = bindings-none M n (suc v)
 
 module _ (I W : List ℕ) (m : Mark) (s t : ℕ) (theta map memo P seen : List ℕ) (q : Unifiable I W m s t theta map memo P seen) where
   abbrev P₁ : List ℕ

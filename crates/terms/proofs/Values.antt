@@ -20,11 +20,10 @@ use Rattle.terms.specs.declared.store.Kept.the-variants.{Term, Full}
 use Rattle.terms.specs.Table.{made, Grown, Refused}
 use Rattle.terms.specs.Subst.{replacement, Knows, substituted, asked, Ready, Done, Substituted}
 use Rattle.terms.specs.Theta.{bindings, inValues, Changeable, Changed}
-use Rattle.terms.proofs.Tables.{length-trees}
-use Rattle.terms.proofs.Sames.{grown-self, grown-then}
-use Rattle.terms.proofs.Substs.{replacement-grown}
-use Rattle.terms.proofs.Waits.{getD-more, bindings-more}
-use Rattle.terms.proofs.Bindings.{binding, bindings-zero, bindings-some, bindings-snoc-zero, bindings-snoc-some}
+use Rattle.terms.specs.Laws.Tables.{length-trees}
+use Rattle.terms.specs.Laws.Growth.{grown-self, grown-then, getD-more}
+use Rattle.terms.specs.Laws.Theta.{replacement-grown, bindings-more, binding, bindings-zero, bindings-some, bindings-snoc-zero}
+use Rattle.terms.specs.Laws.Theta.{bindings-snoc-some}
 
 -- The definition, one value at a time ------------------------------------------------------------------------------------------------
 

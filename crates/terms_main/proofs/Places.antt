@@ -20,9 +20,9 @@ use Rattle.terms.specs.declared.store.Kept.the-variants.{Term as Number, Full a
 use Rattle.terms.specs.Table.{start, argsOf, treeAt, made, isVar, isApp, Node, Good, Grown, Stored, After}
 use Rattle.terms.specs.Collect.{tree}
 use Rattle.terms.specs.Unify.{Within}
-use Rattle.terms.proofs.Tables.{length-trees, tree-app, tree-var}
-use Rattle.terms.proofs.Sames.{getD-grown, grown-then}
-use Rattle.terms.proofs.Terms.{node-inside, args-below}
+use Rattle.terms.specs.Laws.Tables.{length-trees, tree-app, tree-var}
+use Rattle.terms.specs.Laws.Growth.{getD-grown, grown-then}
+use Rattle.terms.specs.Laws.Terms.{node-inside, args-below}
 use Rattle.terms_main.specs.Parts.{There, ReadAs}
 use Rattle.terms_main.specs.declared.Placed.{Placed}
 use Rattle.terms_main.specs.declared.Placed.the-variants.{Term, Full}

@@ -15,7 +15,7 @@ use Rattle.terms.specs.declared.unify.Unified.the-variants.{Found, Apart, Full}
 use Rattle.terms.specs.Table.{INDEX, start, Good, Part}
 use Rattle.terms.specs.Theta.{Zeros}
 use Rattle.terms.specs.Unify.{Scratch, Solved, UnifiedAs}
-use Rattle.terms.proofs.Empty.{good-empty}
+use Rattle.terms.specs.Laws.Empty.{good-empty}
 use Rattle.terms_main.specs.Parts.{none, Idle}
 
 pub zeros : (n : ℕ) → Zeros (replicate n 0)

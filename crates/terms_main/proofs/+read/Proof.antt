@@ -3,7 +3,7 @@ use mathlib.Core.Path.{_∙_}
 use Prim.Native.Nat.{ℕ, _+_, _-_, _<_}
 use lib.ListN.{length}
 use native.Mathlib.Omega.{arith}
-use Rattle.terms.proofs.Sames.{grown-then}
+use Rattle.terms.specs.Laws.Growth.{grown-then}
 use Rattle.terms_main.proofs.Places.{within-grown, as-term, as-full, sooner, both-read}
 use borrow.Author.Needs.{needs}
 use borrow.Fn.Kinds.{In}

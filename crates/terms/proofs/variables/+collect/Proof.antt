@@ -2,7 +2,7 @@ use mathlib.Core.Path.{sym, _∙_}
 use Prim.Native.Nat.{ℕ, _<_, _+_, _-_}
 use native.Mathlib.Omega.{arith}
 use Rattle.terms.specs.Table.{FLAGS}
-use Rattle.terms.proofs.Terms.{flag-in, end-in, start-in}
+use Rattle.terms.specs.Laws.Terms.{flag-in, end-in, start-in}
 use Rattle.terms.proofs.Collects.{closed-done, seen-done, var-small, var-done, Looping, looping-begins, arg-in, arg-falls, arg-ready, looping-on, looping-ends}
 use borrow.Author.Needs.{needs}
 use Prim.Native.Nat.{ℕ, _<_}

@@ -1,23 +1,22 @@
 -- Laws of the tables as trees. Assumes nothing.
-use mathlib.Core.Path.{_≡_, refl, sym, ap, _∙_, subst}
+use mathlib.Core.Path.{_≡_, refl, sym, ap, _∙_}
 use mathlib.Core.Bool.{Bool, true, false}
-use mathlib.Core.List.{List, [], _∷_, _++_}
+use mathlib.Core.List.{List, [], _∷_}
 use mathlib.Core.Logic.{⊎-elim, _⊎_, inl, inr}
-use Prim.Native.Nat.{ℕ, zero, suc, _+_, _-_, _≤_, _<_, suc-le-suc, zero-le}
+use Prim.Native.Nat.{ℕ, zero, suc, _+_, _-_, _≤_, _<_, suc-le-suc}
 use native.Mathlib.Omega.{arith}
 use native.Mathlib.Decide.{decLt}
 use native.Mathlib.Numerals.{add-one}
 use native.Mathlib.Nat.{not-suc-le-zero, zero-lt-suc}
-use lib.ListN.{length, getD, take, drop, List·getD-append, length-drop}
-use lib.Seq.{length-take-le}
+use lib.ListN.{length, getD, List·getD-append}
 use borrow.Author.Tests.{lt-ltb, le-ltb}
-use Rattle.rules.specs.Limits.{SYMBOLS, TERMS, WORDS}
-use Rattle.rules.specs.Tree.{Tree, Trees, var, app, none, more, countTrees, node}
+use Rattle.rules.specs.Limits.{SYMBOLS}
+use Rattle.rules.specs.Tree.{Trees, var, app, more, countTrees, node}
 use Rattle.rules.specs.Store.{Made, number, words}
-use Rattle.rules.specs.Laws.Store.{Apart, Closed, Ins, length-snoc, getD-last, number-first, number-none, number-is, number-of, words-more}
+use Rattle.rules.specs.Laws.Store.{Apart, length-snoc, getD-last, number-none, number-of, words-more}
 use Rattle.terms.specs.declared.store.Mark.{Mark}
-use Rattle.terms.specs.Table.{run, start, nodeAt, argsOf, treeAt, trees, made, Shaped, isVar, isApp, Good}
-use Rattle.terms.proofs.Words.{run-length, run-at, run-more}
+use Rattle.terms.specs.Table.{start, nodeAt, argsOf, treeAt, trees, made, Shaped, isVar, isApp, Good}
+use Rattle.terms.specs.Laws.Runs.{run-length}
 
 -- i is below n + 1: below n, or n
 pub last-or : (i n : ℕ) → i < suc n → (i < n) ⊎ (i ≡ n)

@@ -1,21 +1,21 @@
 -- Good tables hold, cell by cell, what the definition lays out for the trees made: the trees determine the words and the ends.
 -- Assumes nothing.
-use mathlib.Core.Path.{_≡_, refl, sym, ap, _∙_, subst}
+use mathlib.Core.Path.{_≡_, refl, sym, ap, _∙_}
 use mathlib.Core.List.{List, [], _∷_, _++_, append-nil, append-assoc}
 use Prim.Native.Nat.{ℕ, zero, suc, _+_, _-_, _≤_, _<_, suc-le-suc}
 use native.Mathlib.Omega.{arith}
 use native.Mathlib.Nat.{zero-lt-suc}
-use lib.ListN.{length, getD, take, drop, replicate, length-append, length-drop, length-replicate, getD-replicate, take-append-drop}
+use lib.ListN.{length, getD, take, drop, replicate, length-drop, length-replicate, getD-replicate, take-append-drop}
 use lib.Seq.{take-suc, take-add, take-all, take-take, length-take-le, ext-getD, getD-drop, getD-take}
 use Rattle.rules.specs.Limits.{SYMBOLS, TERMS, WORDS}
-use Rattle.rules.specs.Tree.{Tree, Trees, var, app, none, more, node}
-use Rattle.rules.specs.Store.{Made, number, words}
+use Rattle.rules.specs.Tree.{Tree, var, node}
+use Rattle.rules.specs.Store.{Made, words}
 use Rattle.rules.specs.Laws.Store.{Apart, number-of, words-more}
 use Rattle.rules.specs.TheoryTables.{filled}
 use Rattle.rules.specs.StateTables.{numbers, nodeCells, wordCells, endCells}
 use Rattle.terms.specs.declared.store.Mark.{Mark}
-use Rattle.terms.specs.Table.{INDEX, run, start, nodeAt, argsOf, treeAt, trees, made, Shaped, isVar, isApp, Good}
-use Rattle.terms.proofs.Tables.{length-trees, getD-trees, tree-here, tree-app, tree-var, tree-node, node-length, made-words, end-within}
+use Rattle.terms.specs.Table.{start, nodeAt, argsOf, treeAt, trees, made, Shaped, isVar, isApp, Good}
+use Rattle.terms.specs.Laws.Tables.{length-trees, getD-trees, tree-here, tree-app, tree-var, tree-node, node-length}
 
 -- A node's words -----------------------------------------------------------------------------------------------------------------------
 

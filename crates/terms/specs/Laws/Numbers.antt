@@ -1,19 +1,17 @@
 -- The trees that good tables hold: with a tree its arguments are there, so making one again changes nothing. Assumes nothing.
-use mathlib.Core.Path.{_≡_, refl, sym, ap, _∙_, subst}
+use mathlib.Core.Path.{_≡_, refl, sym, _∙_, subst}
 use mathlib.Core.List.{List, [], _∷_}
-use Prim.Native.Nat.{ℕ, zero, suc, _+_, _-_, _≤_, _<_, suc-le-suc}
+use Prim.Native.Nat.{ℕ, suc, _≤_, _<_, suc-le-suc}
 use native.Mathlib.Omega.{arith}
 use native.Mathlib.Nat.{zero-lt-suc}
 use lib.ListN.{length, getD}
-use Rattle.rules.specs.Limits.{SYMBOLS, TERMS, WORDS}
-use Rattle.rules.specs.Out.{Out, ok}
-use Rattle.rules.specs.Tree.{Tree, Trees, var, app, none, more}
+use Rattle.rules.specs.Tree.{Tree, Trees, var, app}
 use Rattle.rules.specs.Store.{Made, number, make}
 use Rattle.rules.specs.Laws.Store.{Apart, Closed, Ins, number-is, number-of, make-old}
 use Rattle.terms.specs.declared.store.Mark.{Mark}
 use Rattle.terms.specs.Table.{argsOf, treeAt, made, Shaped, isVar, isApp, Good, Stored}
-use Rattle.terms.proofs.Tables.{length-trees, tree-here, tree-app, tree-var, not-var-app}
-use Rattle.terms.proofs.Sames.{grown-self}
+use Rattle.terms.specs.Laws.Tables.{length-trees, tree-here, tree-app, tree-var, not-var-app}
+use Rattle.terms.specs.Laws.Growth.{grown-self}
 
 number-there : (M : Made) → Apart M → (i : ℕ) → i < length M → (t : Tree) → getD M i (var 0) ≡ t → number M t < length M
 number-there M a i h t e = let z = number-of M a i h t e in omega arith

@@ -2,7 +2,6 @@
 -- the tables that were. Assumes nothing.
 use mathlib.Core.Path.{_≡_, refl, sym, ap, _∙_, subst}
 use mathlib.Core.List.{List}
-use mathlib.Core.Option.{none as nothing}
 use Prim.Native.Nat.{ℕ, zero, suc, _+_, _-_, _≤_, _<_}
 use native.Mathlib.Omega.{arith}
 use native.Mathlib.Decide.{decLt}
@@ -14,12 +13,13 @@ use Rattle.rules.specs.Store.{Made}
 use Rattle.rules.specs.Laws.Store.{Apart}
 use Rattle.rules.specs.Match.{Bound}
 use Rattle.terms.specs.declared.store.Mark.{Mark}
-use Rattle.terms.specs.Table.{CHAINS, FLAGS, HEADS, INDEX, BUCKETS, start, nodeAt, treeAt, trees, made, hash, bucket, latest, flag, Shaped, Good, Same, Grown, Part, Back}
+use Rattle.terms.specs.Table.{CHAINS, FLAGS, HEADS, INDEX, BUCKETS, start, nodeAt, treeAt, made, hash, bucket, latest, flag, Shaped}
+use Rattle.terms.specs.Table.{Good, Same, Grown, Part, Back}
 use Rattle.terms.specs.Patterns.{treeIn, boundOf, Cells}
-use Rattle.terms.proofs.Words.{run-at}
-use Rattle.terms.proofs.Hash.{latest-agree}
-use Rattle.terms.proofs.Tables.{length-trees, tree-here, tree-one, wide, node-length}
-use Rattle.terms.proofs.Sames.{start-same, node-same, made-same, same-then}
+use Rattle.terms.specs.Laws.Runs.{run-at}
+use Rattle.terms.specs.Laws.Chains.{latest-agree}
+use Rattle.terms.specs.Laws.Tables.{length-trees, tree-here, tree-one, wide, node-length}
+use Rattle.terms.specs.Laws.Growth.{start-same, node-same, made-same, same-then}
 
 -- The same nodes -----------------------------------------------------------------------------------------------------------------
 

@@ -1,15 +1,15 @@
 -- Tables with nothing in them are good. Assumes nothing.
-use mathlib.Core.Path.{_≡_, refl, sym, ap, _∙_}
+use mathlib.Core.Path.{_≡_, refl}
 use mathlib.Core.List.{List, []}
-use Prim.Native.Nat.{ℕ, _+_, _≤_, _<_}
+use Prim.Native.Nat.{ℕ, _+_}
 use native.Mathlib.Omega.{arith}
 use native.Mathlib.Nat.{not-suc-le-zero}
-use lib.ListN.{length, getD, replicate, length-replicate}
-use Rattle.rules.specs.Limits.{TERMS, WORDS}
+use lib.ListN.{replicate, length-replicate}
+use Rattle.rules.specs.Limits.{WORDS}
 use Rattle.rules.specs.Laws.Store.{Apart}
 use Rattle.terms.specs.declared.store.Mark.{Mark}
 use Rattle.terms.specs.Table.{CHAINS, FLAGS, HEADS, INDEX, start, trees, made, latest, Good}
-use Rattle.terms.proofs.Fresh.{getD-zeros}
+use Rattle.terms.specs.Laws.Zeros.{getD-zeros}
 
 abbrev pub emptyMark : Mark
 emptyMark = record { terms = 0; words = 0 }

@@ -1,18 +1,36 @@
 -- One term of good tables: its node, its head and its arguments. Assumes nothing.
 use mathlib.Core.Path.{_≡_, refl, sym, ap, _∙_, subst}
 use mathlib.Core.Bool.{Bool, true, false}
-use mathlib.Core.List.{List, [], _∷_, _++_}
-use Prim.Native.Nat.{ℕ, zero, suc, _+_, _-_, _≤_, _<_}
+use mathlib.Core.List.{List, _∷_}
+use Prim.Native.Nat.{ℕ, _+_, _-_, _≤_, _<_}
 use native.Mathlib.Omega.{arith}
 use lib.ListN.{length, getD}
-use Rattle.rules.specs.Limits.{SYMBOLS, TERMS, WORDS}
-use Rattle.rules.specs.Tree.{Tree, Trees, var, app, none, more, isOpen}
+use Rattle.rules.specs.Limits.{SYMBOLS}
+use Rattle.rules.specs.Tree.{var, app, none, more, isOpen}
 use Rattle.rules.specs.Store.{Made}
 use Rattle.terms.specs.declared.store.Mark.{Mark}
-use Rattle.terms.specs.Table.{FLAGS, run, start, nodeAt, argsOf, treeAt, trees, made, flag, Shaped, isVar, isApp, Good}
-use Rattle.terms.proofs.Words.{run-length, run-at, run-more, run-none}
-use Rattle.terms.proofs.Tables.{tree-here, tree-app, tree-var, end-within}
-use Rattle.terms.proofs.Nodes.{flag-closed}
+use Rattle.terms.specs.Table.{FLAGS, run, start, nodeAt, argsOf, treeAt, made, flag, Shaped, isVar, isApp, Good}
+use Rattle.terms.specs.Laws.Runs.{run-length, run-at, run-more, run-none}
+use Rattle.terms.specs.Laws.Tables.{tree-here, tree-app, tree-var, end-within}
+
+-- Flags --------------------------------------------------------------------------------------------------------------
+
+pub flag-small : (b : Bool) → flag b ≤ 1
+unfolding flag
+flag-small true = omega arith
+flag-small false = omega arith
+
+pub flag-open : (b : Bool) (n : ℕ) → n ≡ flag b → (n ≡ 0 → ⊥) → b ≡ true
+unfolding flag
+flag-open true n e h = refl
+flag-open false n e h = absurd (h e)
+
+pub flag-closed : (b : Bool) (n : ℕ) → n ≡ flag b → n ≡ 0 → b ≡ false
+unfolding flag
+flag-closed true n e h = absurd (omega arith)
+flag-closed false n e h = refl
+
+-- Terms --------------------------------------------------------------------------------------------------------------
 
 pub args-more : (M : Made) (W : List ℕ) (at e : ℕ) → at < e → e ≤ length W → argsOf M (run W at (e - at)) ≡ more (getD M (getD W at 0) (var 0)) (argsOf M (run W (at + 1) (e - (at + 1))))
 unfolding argsOf

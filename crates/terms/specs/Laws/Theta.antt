@@ -5,13 +5,18 @@ use mathlib.Core.List.{List, [], _∷_, _++_}
 use Prim.Native.Nat.{ℕ, zero, suc, _+_, _-_, _≤_, _<_}
 use native.Mathlib.Omega.{arith}
 use native.Mathlib.Nat.{not-suc-le-zero, le-of-suc-le-suc}
-use lib.ListN.{length, getD, set}
+use lib.ListN.{length, getD, set, replicate}
 use lib.Dec.{eqb}
-use borrow.Author.Tests.{eq-eqb, ne-eqb, lt-ltb, le-ltb}
-use Rattle.rules.specs.Tree.{var}
+use borrow.Author.Tests.{eq-eqb, ne-eqb, lt-ltb, le-ltb, eqb-false}
+use Rattle.rules.specs.Tree.{var, Tree}
 use Rattle.rules.specs.Store.{Made}
-use Rattle.rules.specs.Unify.{Binding, insert}
+use Rattle.rules.specs.Unify.{Binding, insert, along}
+use Rattle.terms.specs.declared.store.Mark.{Mark}
 use Rattle.terms.specs.Theta.{bindings}
+use Rattle.terms.specs.Table.{made, Good, Same}
+use Rattle.terms.specs.Subst.{replacement}
+use Rattle.terms.specs.Laws.Growth.{getD-grown}
+use Rattle.terms.specs.declared.unify.Round.the-variants as round
 
 -- what the cell c of the variable v stands for
 abbrev pub binding : Made → ℕ → ℕ → Binding
@@ -95,3 +100,82 @@ insert-from M (d ∷ cs) a (suc k) x c e l z n = go (eqb d 0) (insert-from M cs 
 pub bindings-insert : (M : Made) (theta : List ℕ) (x c : ℕ) → x < length theta → getD theta x 0 ≡ 0 → (c ≡ 0 → ⊥)
     → bindings M (set theta x c) 0 ≡ insert (binding M x c) (bindings M theta 0)
 bindings-insert M theta x c l z n = insert-from M theta 0 x x c (omega arith) l z n
+
+-- As a replacement ----------------------------------------------------------------------------------------------------
+
+pub replacement-some : (M : Made) (map : List ℕ) (v u : ℕ) → getD map v 0 ≡ u + 1 → replacement M map v ≡ getD M u (var 0)
+unfolding replacement
+replacement-some M map v u e =
+    let a : getD map v 0 - 1 ≡ u = omega arith in
+    ap (λ (b : Bool). elim b [ true ↦ var v | false ↦ getD M (getD map v 0 - 1) (var 0) ]) (ne-eqb (getD map v 0) 0 (λ z. omega arith))
+    ∙ ap (λ (k : ℕ). getD M k (var 0)) a
+
+pub replacement-none : (M : Made) (map : List ℕ) (v : ℕ) → getD map v 0 ≡ 0 → replacement M map v ≡ var v
+unfolding replacement
+replacement-none M map v e = ap (λ (b : Bool). elim b [ true ↦ var v | false ↦ getD M (getD map v 0 - 1) (var 0) ]) (eq-eqb (getD map v 0) 0 e)
+
+-- a replacement reads old trees alone
+pub replacement-grown : (I W J X : List ℕ) (old m : Mark) → Good I W old → Same I W J X old → old .terms ≤ m .terms → (map : List ℕ) → ((v : ℕ) → getD map v 0 ≤ old .terms)
+    → replacement (made J X m) map ≡ replacement (made I W old) map
+unfolding replacement
+replacement-grown I W J X old m g s l map b = λ i v. go v (eqb (getD map v 0) 0) refl i
+  where
+    go : (v : ℕ) (c : Bool) → eqb (getD map v 0) 0 ≡ c
+        → _≡_ {A = Tree} (elim c [ true ↦ var v | false ↦ getD (made J X m) (getD map v 0 - 1) (var 0) ]) (elim c [ true ↦ var v | false ↦ getD (made I W old) (getD map v 0 - 1) (var 0) ])
+    go v true e = refl
+    go v false e = let z = eqb-false (getD map v 0) 0 e in let y = b v in getD-grown I W J X old g s (m .terms) (getD map v 0 - 1) l (omega arith)
+
+-- the cell of a says nothing of another variable
+along-skip : (M : Made) (c : ℕ) (cs : List ℕ) (a v : ℕ) → (v ≡ a → ⊥) → along (bindings M (c ∷ cs) a) v ≡ along (bindings M cs (suc a)) v
+unfolding along bindings
+along-skip M c cs a v n = go (eqb c 0)
+  where
+    go : (t : Bool)
+        → along (elim t [ true ↦ bindings M cs (suc a) | false ↦ record { variable = a; value = getD M (c - 1) (var 0) } ∷ bindings M cs (suc a) ]) v
+        ≡ along (bindings M cs (suc a)) v
+    go true = refl
+    go false = ap (λ (t : Bool). elim t [ true ↦ getD M (c - 1) (var 0) | false ↦ along (bindings M cs (suc a)) v ]) (ne-eqb v a n)
+
+-- the cells from variable a on leave those below
+along-under : (M : Made) (theta : List ℕ) (a v : ℕ) → v < a → along (bindings M theta a) v ≡ var v
+unfolding along bindings
+along-under M [] a v l = refl
+along-under M (c ∷ cs) a v l = along-skip M c cs a v (λ q. omega arith) ∙ along-under M cs (suc a) v (omega arith)
+
+-- the k-th of the cells from variable a on is that of v
+along-from : (M : Made) (theta : List ℕ) (a k v : ℕ) → v ≡ a + k → along (bindings M theta a) v ≡ elim (eqb (getD theta k 0) 0) [ true ↦ var v | false ↦ getD M (getD theta k 0 - 1) (var 0) ]
+unfolding along bindings
+along-from M [] a k v e = refl
+along-from M (c ∷ cs) a zero v e = go (eqb c 0) (along-under M cs (suc a) v (omega arith))
+  where
+    go : (t : Bool) → along (bindings M cs (suc a)) v ≡ var v
+        → along (elim t [ true ↦ bindings M cs (suc a) | false ↦ record { variable = a; value = getD M (c - 1) (var 0) } ∷ bindings M cs (suc a) ]) v
+        ≡ elim t [ true ↦ var v | false ↦ getD M (c - 1) (var 0) ]
+    go true u = u
+    go false u = ap (λ (t : Bool). elim t [ true ↦ getD M (c - 1) (var 0) | false ↦ along (bindings M cs (suc a)) v ]) (eq-eqb v a (omega arith))
+along-from M (c ∷ cs) a (suc k) v e = along-skip M c cs a v (λ q. omega arith) ∙ along-from M cs (suc a) k v (omega arith)
+
+pub along-bindings : (M : Made) (theta : List ℕ) (v : ℕ) → along (bindings M theta 0) v ≡ replacement M theta v
+unfolding replacement
+along-bindings M theta v = along-from M theta 0 v v (omega arith)
+
+-- the same as replacements
+pub along-is : (M : Made) (theta : List ℕ) → along (bindings M theta 0) ≡ replacement M theta
+along-is M theta = λ i v. along-bindings M theta v i
+
+pub bindings-more : (M N : Made) (k : ℕ) (theta : List ℕ) (a : ℕ) → ((i : ℕ) → i < k → getD N i (var 0) ≡ getD M i (var 0)) → ((v : ℕ) → getD theta v 0 ≤ k) → bindings N theta a ≡ bindings M theta a
+unfolding bindings
+bindings-more M N k [] a e b = refl
+bindings-more M N k (c ∷ cs) a e b = go (eqb c 0) refl (bindings-more M N k cs (suc a) e (λ v. b (suc v)))
+  where
+    go : (t : Bool) → eqb c 0 ≡ t → bindings N cs (suc a) ≡ bindings M cs (suc a)
+        → _≡_ {A = List Binding} (elim t [ true ↦ bindings N cs (suc a) | false ↦ record { variable = a; value = getD N (c - 1) (var 0) } ∷ bindings N cs (suc a) ])
+        (elim t [ true ↦ bindings M cs (suc a) | false ↦ record { variable = a; value = getD M (c - 1) (var 0) } ∷ bindings M cs (suc a) ])
+    go true q ih = ih
+    go false q ih = let z = eqb-false c 0 q in let y = b 0 in λ i. record { variable = a; value = e (c - 1) (omega arith) i } ∷ ih i
+
+-- cells of zeros are no bindings
+pub bindings-none : (M : Made) (n v : ℕ) → bindings M (replicate n 0) v ≡ []
+unfolding bindings
+bindings-none M zero v = refl
+bindings-none M (suc n) v = bindings-none M n (suc v)

@@ -1,17 +1,16 @@
 -- The binary digits of a number, and what the bit operations do to them. Assumes nothing.
 use mathlib.Core.Path.{_≡_, refl, sym, ap, _∙_, subst}
-use mathlib.Core.Bool.{Bool, true, false, _&&_, _||_, not}
+use mathlib.Core.Bool.{true, false, _&&_, not, _||_}
 use mathlib.Core.Logic.{_⊎_, inl, inr, ⊎-elim}
-use Prim.Native.Nat.{ℕ, zero, suc, _+_, _-_, _*_, _/_, _%_, _^_, _≤_, _<_, min, max}
+use Prim.Native.Nat.{ℕ, zero, suc, _+_, _-_, _/_, _%_, _^_, _≤_, _<_, min, max}
 use native.Mathlib.Omega.{arith}
-use native.Mathlib.Nat.{mod-lt, pow-suc, one-mul, div-one, not-suc-le-zero, zero-lt-suc}
+use native.Mathlib.Nat.{mod-lt, pow-suc, div-one, not-suc-le-zero, zero-lt-suc}
 use native.Mathlib.Numerals.{one-add}
 use lib.Dec.{eqb, eqb·zero-suc, eqb·suc-zero, eqb·suc-suc}
-use lib.Arith.{digits-mod}
-use lib.Pow.{shr-shr}
+use lib.Arith.{digits-mod, lt-one}
+use lib.Pow.{shr-shr, shr-lt}
 use lib.Bits.{bitAnd, bitOr, or-step, or-shr, and-step, and-shr}
 use lib.Count.{trailingZeros}
-use borrow.Author.Tests.{eq-eqb, ne-eqb, eqb-true, eqb-false}
 use Rattle.terms.specs.Sets.{digit}
 
 two : (n : ℕ) → (n % 2 ≡ 0) ⊎ (n % 2 ≡ 1)
@@ -128,3 +127,15 @@ lowest (suc k) n z h =
     (λ e. rw e (lowest-even k n (trailingZeros k (n / 2)) e (lowest k (n / 2) (λ q. z (omega arith)) (omega arith))))
     (λ e. rw e (lowest-odd k n e))
     (two n)
+
+-- digit k behind the first j
+pub digit-shift : (n j k : ℕ) → digit (n / 2 ^ j) k ≡ digit n (j + k)
+digit-shift n j k = ap (λ (m : ℕ). eqb (m % 2) 1) (shr-shr n j k)
+
+-- a number below 2 ^ j has no digit from j on
+pub digit-high : (n j k : ℕ) → n < 2 ^ j → j ≤ k → digit n k ≡ false
+digit-high n j k h l =
+    let e : j + (k - j) ≡ k = omega arith in
+    let o : 0 + j ≡ j = omega arith in
+    let z : n / 2 ^ j ≡ 0 = lt-one (shr-lt 0 j (subst (λ (i : ℕ). n < 2 ^ i) (sym o) h)) in
+    ap (digit n) (sym e) ∙ sym (digit-shift n j (k - j)) ∙ ap (λ (m : ℕ). digit m (k - j)) z ∙ digit-of-zero (k - j)

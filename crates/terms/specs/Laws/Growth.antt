@@ -1,16 +1,15 @@
 -- Tables that are, up to a mark, as they were. Assumes nothing.
-use mathlib.Core.Path.{_≡_, refl, sym, ap, _∙_, subst}
-use mathlib.Core.List.{List, [], _∷_, _++_}
-use Prim.Native.Nat.{ℕ, zero, suc, _+_, _-_, _≤_, _<_}
+use mathlib.Core.Path.{_≡_, refl, sym, ap, _∙_}
+use mathlib.Core.List.{List}
+use Prim.Native.Nat.{ℕ, zero, suc, _-_, _≤_, _<_}
 use native.Mathlib.Omega.{arith}
-use lib.ListN.{length, getD}
-use Rattle.rules.specs.Limits.{TERMS, WORDS}
-use Rattle.rules.specs.Tree.{Tree, var}
+use lib.ListN.{getD}
+use Rattle.rules.specs.Tree.{var}
 use Rattle.rules.specs.Store.{Made}
 use Rattle.terms.specs.declared.store.Mark.{Mark}
-use Rattle.terms.specs.Table.{run, start, nodeAt, treeAt, trees, made, Good, Same, Grown}
-use Rattle.terms.proofs.Words.{run-same}
-use Rattle.terms.proofs.Tables.{end-within, getD-trees, length-trees, trees-same}
+use Rattle.terms.specs.Table.{start, nodeAt, trees, made, Good, Same, Grown}
+use Rattle.terms.specs.Laws.Runs.{run-same}
+use Rattle.terms.specs.Laws.Tables.{end-within, getD-trees, trees-same}
 
 pub same-self : (I W : List ℕ) (m : Mark) → Same I W I W m
 same-self I W m = record { ends = λ i h. refl; words = λ i h. refl; long-index = refl; long-words = refl }
@@ -57,3 +56,7 @@ grown-then I W J X K Y l m n a b =
     let e = a .longer in
     let f = b .longer in
     record { good = b .good; more = omega arith; longer = omega arith; same = same-then I W J X K Y l m (a .same) (b .same) c e }
+
+-- the trees that were made are those of the tables afterwards
+pub getD-more : (I W J X : List ℕ) (old new : Mark) → Good I W old → Grown I W J X old new → (i : ℕ) → i < old .terms → getD (made J X new) i (var 0) ≡ getD (made I W old) i (var 0)
+getD-more I W J X old new g w i h = getD-grown I W J X old g (w .same) (new .terms) i (w .more) h
