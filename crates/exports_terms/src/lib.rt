@@ -120,7 +120,7 @@ pub extern "C" fn tariff_unify(
     pairs: &mut [u32],
     seen: &mut [u64],
 ) -> usize
-    requires { ⌜ Unifiable (now index) (now words) (record { terms = count; words = used }) s t (now theta) (now map) (now memo) (now pairs) (now seen) ⌝ }
+    requires { ⌜ Unifiable (now index) (now words) (record { terms = count; words = used }) variables s t (now theta) (now map) (now memo) (now pairs) (now seen) ⌝ }
     ensures { λ r. ⌜ Unifies (now (index .entry)) (now (words .entry)) (now (index .exit)) (now (words .exit)) (record { terms = count; words = used }) variables s t (now (theta .exit)) r ⌝ }
     ensures { λ _. ⌜ (now (map .exit) ≡ now (map .entry)) × (now (memo .exit) ≡ now (memo .entry)) × (now (pairs .exit) ≡ now (pairs .entry)) × (now (seen .exit) ≡ now (seen .entry)) ⌝ }
 {

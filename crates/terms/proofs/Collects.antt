@@ -3,11 +3,11 @@ use mathlib.Core.Path.{_≡_, refl, sym, ap, _∙_, subst}
 use mathlib.Core.Bool.{Bool, true, false, true≢false, _||_}
 use mathlib.Core.List.{List}
 use mathlib.Core.Logic.{_⊎_, inl, inr, ⊎-elim}
-use Prim.Native.Nat.{ℕ, _+_, _-_, _≤_, _<_}
+use Prim.Native.Nat.{ℕ, _+_, _-_, _*_, _≤_, _<_}
 use native.Mathlib.Omega.{arith}
 use lib.ListN.{length, getD, replicate}
 use lib.Dec.{eqb}
-use borrow.Author.Tests.{eq-eqb, eqb-true}
+use borrow.Author.Tests.{eqb-true}
 use Rattle.rules.specs.Limits.{SYMBOLS}
 use Rattle.rules.specs.Find.{Set, union}
 use Rattle.rules.specs.Laws.Set.{or-left, or-right, union-assoc, union-empty, union-inside}
@@ -18,7 +18,7 @@ use Rattle.terms.specs.Sets.{holds, plus}
 use Rattle.terms.specs.Table.{FLAGS, run, start, argsOf, made, Good}
 use Rattle.terms.specs.Collect.{tree, Seen, Readable, Collected}
 use Rattle.terms.specs.Laws.Sets.{holds-zero}
-use Rattle.terms.specs.Laws.Terms.{args-more, args-none, no-variable, node-rise, node-inside, term-app, term-var, args-below}
+use Rattle.terms.specs.Laws.Terms.{args-more, args-none, no-variable, node-rise, node-inside, term-app, term-var, variable-small, args-below}
 
 -- one of two
 or-true : (p q : Bool) → p || q ≡ true → (p ≡ true) ⊎ (q ≡ true)
@@ -51,16 +51,17 @@ module _ (I W : List ℕ) (m : Mark) (id : ℕ) where
   wider seen a b s i n v t = or-left (a v) (b v) (s i n v t)
 
   module _ (g : Good I W m) (h : id < m .terms) (s : ℕ) (b : s ≡ start I id) where
-    pub var-small : (n : ℕ) → ((v : ℕ) → variables (tree I W m id) v ≡ true → v < n) → SYMBOLS ≤ getD W s 0 → getD W s 0 - SYMBOLS < n
-    var-small n f q =
-        f (getD W s 0 - SYMBOLS) (ap (λ (t : Tree). variables t (getD W s 0 - SYMBOLS)) (term-var I W m g id h s b q) ∙ variables-var (getD W s 0 - SYMBOLS) (getD W s 0 - SYMBOLS) ∙ eq-eqb (getD W s 0 - SYMBOLS) (getD W s 0 - SYMBOLS) refl)
-
     pub var-done : (seen a a′ : Set) → Seen I W m seen a → SYMBOLS ≤ getD W s 0 → a′ ≡ plus (getD W s 0 - SYMBOLS) a → Collected I W m id a seen a′
     var-done seen a a′ k q e =
         let t = term-var I W m g id h s b q in
         let f : a′ ≡ union a (variables (tree I W m id)) =
         e ∙ (λ i v. a v || sym (variables-var (getD W s 0 - SYMBOLS) v) i) ∙ ap (λ (u : Tree). union a (variables u)) (sym t) in
         record { set = f; seen = subst (Seen I W m seen) (sym f) (wider seen a (variables (tree I W m id)) k) }
+
+-- the set has room for a variable
+pub var-fits : (I W : List ℕ) (m : Mark) (id : ℕ) (seen set : List ℕ) → Readable I W m id seen set → (s : ℕ) → s ≡ start I id → SYMBOLS ≤ getD W s 0
+    → getD W s 0 - SYMBOLS < 64 * length set
+var-fits I W m id seen set r s b q = let a = variable-small I W m (r .good) id (r .there) s b q in let d = r .broad in omega arith
 
 -- what is left of the arguments decides
 pub record Looping (I W : List ℕ) (m : Mark) (id s e : ℕ) (set₀ seen₀ set seen : List ℕ) (at : ℕ) : Type 0 where
@@ -71,7 +72,6 @@ pub record Looping (I W : List ℕ) (m : Mark) (id s e : ℕ) (set₀ seen₀ se
   pub from : s < at
   pub upto : at ≤ e
   pub left : union (holds set) (variablesOf (argsOf (made I W m) (run W at (e - at)))) ≡ union (holds set₀) (variables (tree I W m id))
-  pub among : (v : ℕ) → variablesOf (argsOf (made I W m) (run W at (e - at))) v ≡ true → variables (tree I W m id) v ≡ true
   pub visits : Seen I W m (holds seen) (holds set)
   pub long-set : length set ≡ length set₀
   pub long-seen : length seen ≡ length seen₀
@@ -90,7 +90,6 @@ looping-begins I W m id s set seen r k b q =
       from = omega arith;
       upto = omega arith;
       left = ap (union (holds set)) (sym t);
-      among = λ v e. ap (λ (a : Set). a v) t ∙ e;
       visits = k;
       long-set = refl;
       long-seen = refl;
@@ -120,7 +119,7 @@ module _ (I W : List ℕ) (m : Mark) (id s e : ℕ) (set₀ seen₀ set seen : L
           good = l .ready .good;
           there = omega arith;
           wide = omega arith;
-          bound = λ v t. let x = l .ready .bound v (l .among v (ap (λ (a : Set). a v) split ∙ or-left _ (variablesOf (argsOf (made I W m) (run W (at + 1) (e - (at + 1)))) v) t)) in let y = l .long-set in omega arith;
+          broad = let x = l .ready .broad in let y = l .long-set in omega arith;
         }
 
     pub looping-on : (set′ seen′ : List ℕ) → length set′ ≡ length set → length seen′ ≡ length seen → Collected I W m (getD W at 0) (holds set) (holds seen′) (holds set′)
@@ -137,7 +136,6 @@ module _ (I W : List ℕ) (m : Mark) (id s e : ℕ) (set₀ seen₀ set seen : L
           left = ap (λ (a : Set). union a (variablesOf (argsOf (made I W m) (run W (at + 1) (e - (at + 1)))))) (c .set)
               ∙ union-assoc (holds set) (variables (tree I W m (getD W at 0))) _
               ∙ ap (union (holds set)) (sym split) ∙ l .left;
-          among = λ v t. l .among v (ap (λ (a : Set). a v) split ∙ or-right (variables (tree I W m (getD W at 0)) v) _ t);
           visits = c .seen;
           long-set = p ∙ l .long-set;
           long-seen = q ∙ l .long-seen;

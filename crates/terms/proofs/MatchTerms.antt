@@ -21,7 +21,7 @@ use Rattle.terms.proofs.Matches.{matching-reads, matching-on, matching-
 
 -- an argument of a node is a lower term
 arg-low : (n : ℕ) {w : List ℕ} (i : ℕ) → Shaped n w → 1 ≤ i → i < length w → getD w i 0 < n
-arg-low n i (isVar {h = h} p) f b = absurd (omega arith)
+arg-low n i (isVar {h = h} p u) f b = absurd (omega arith)
 arg-low n zero (isApp {xs = xs} p b) f k = absurd (omega arith)
 arg-low n (suc i) (isApp {xs = xs} p b) f k = b i (omega arith)
 

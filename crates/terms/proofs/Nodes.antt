@@ -42,7 +42,7 @@ flagging-begins I W [] m g s h = absurd (not-suc-le-zero (shaped-some (m .terms)
 flagging-begins I W (x ∷ xs) m g s h = record { good = g; shaped = s; from = omega arith; inside = omega arith; small = h; left = open-app (made I W m) x xs h }
 
 arg-in : (n : ℕ) {w : List ℕ} (i : ℕ) → Shaped n w → getD w 0 0 < SYMBOLS → 1 ≤ i → i < length w → getD w i 0 < n
-arg-in n i (isVar {h = h} p) l f b = absurd (omega arith)
+arg-in n i (isVar {h = h} p u) l f b = absurd (omega arith)
 arg-in n zero (isApp {xs = xs} p b) l f k = absurd (omega arith)
 arg-in n (suc i) (isApp {xs = xs} p b) l f k = b i (omega arith)
 

@@ -19,9 +19,7 @@ use Rattle.rules.specs.Unify.{Binding, Pair, insert, replace, Found, finished, 
 use Rattle.rules.specs.Laws.Store.{then-ok, then-refuse}
 use Rattle.meaning.specs.Unification.Acts.{of-ok}
 use Rattle.meaning.specs.Unification.List.{Bound as HasBinding, Settled, replaced, replace-ok, extended, settled-extended}
-use Rattle.meaning.specs.Unification.Pairs.{WithinPairs}
-use Rattle.meaning.specs.Unification.Peel.{WithinBindings, Binds as BindsRightly, Peeled as PeeledRightly, peel-ok}
-use Rattle.meaning.specs.Unification.Solve.{within-extended}
+use Rattle.meaning.specs.Unification.Peel.{Binds as BindsRightly, Peeled as PeeledRightly, peel-ok}
 use Rattle.terms.specs.declared.store.Mark.{Mark}
 use Rattle.terms.specs.declared.theta.Grew.{Grew}
 use Rattle.terms.specs.declared.theta.Grew.the-variants.{Ok, Full as NoRoom}
@@ -31,10 +29,10 @@ use Rattle.terms.specs.Table.{made, Refused}
 use Rattle.terms.specs.Collect.{tree}
 use Rattle.terms.specs.Theta.{bindings, Theta, Extendable, Bound, Extended}
 use Rattle.terms.specs.Unify.{Solved, Unsolved}
-use Rattle.terms.specs.Peel.{thetaOf, pairsOf, Own, weighs, peels, Results, Clashes, BindsOne, Finishes, PeeledAs, Solvable, solves, BoundMore}
+use Rattle.terms.specs.Peel.{thetaOf, pairsOf, weighs, peels, Results, Clashes, BindsOne, Finishes, PeeledAs, Solvable, solves, BoundMore}
 use Rattle.terms.specs.Laws.Growth.{grown-then}
 use Rattle.terms.specs.Laws.Zeros.{getD-zeros}
-use Rattle.terms.proofs.Turns.{theta-grown, pairs-grown, cells-grown}
+use Rattle.terms.proofs.Turns.{Any, any-bindings, any-pairs, theta-grown, pairs-grown, cells-grown}
 
 -- a cell that is not zero is a binding
 pub cell-bound : (M : Made) (cs : List ℕ) (v x : ℕ) → (getD cs x 0 ≡ 0 → ⊥) → HasBinding (v + x) (bindings M cs v)
@@ -138,9 +136,9 @@ module _ (I W : List ℕ) (m : Mark) (theta map memo P seen : List ℕ) (w : ℕ
       t = tree J X mid u
 
       -- what the definition's answer says of the variable and its value
-      rightly : BindsRightly Own θ ps x t (pairsOf J X mid P′ v)
+      rightly : BindsRightly Any θ ps x t (pairsOf J X mid P′ v)
       unfolding PeeledRightly
-      rightly = of-ok (peel-ok Own θ (q .peelable .settled) (q .peelable .own) (suc (weight θ ps)) ps (omega arith) (q .peelable .within) (made I W m)) (one .makes)
+      rightly = of-ok (peel-ok Any θ (q .peelable .settled) (any-bindings θ) (suc (weight θ ps)) ps (omega arith) (any-pairs ps) (made I W m)) (one .makes)
 
       unbound : getD theta x 0 ≡ 0
       unbound = zero-or (getD theta x 0) (λ n. rightly .unbound (subst (λ (k : ℕ). HasBinding k θ) (omega arith) (cell-bound (made I W m) theta 0 x n)))
@@ -201,7 +199,6 @@ module _ (I W : List ℕ) (m : Mark) (theta map memo P seen : List ℕ) (w : ℕ
                     good = grew .grown .good;
                     cells = grew .cells;
                     settled = subst Settled (sym now-theta) (settled-extended x t θ (rightly .unbound) (q .peelable .settled) (rightly .absent) (rightly .free));
-                    own = subst (WithinBindings Own) (sym now-theta) (within-extended x t θ (rightly .unbound) Own (rightly .own) (q .peelable .own));
                     memos = q .peelable .memos;
                     knows = λ i p. absurd (let y : getD memo i 0 ≡ 0 = ap (λ (c : List ℕ). getD c i 0) (q .no-memos) ∙ getD-zeros (length memo) i in omega arith);
                     wide = q .peelable .wide;
@@ -209,7 +206,6 @@ module _ (I W : List ℕ) (m : Mark) (theta map memo P seen : List ℕ) (w : ℕ
                     many = l ∙ q .peelable .many;
                     few = one .few;
                     there = λ k h. let y = one .there k h in omega arith;
-                    within = subst (WithinPairs Own) (sym now-pairs) (rightly .rest);
                   };
                   maps = q .maps;
                   no-maps = q .no-maps;

@@ -11,10 +11,8 @@ use Rattle.rules.specs.Limits.{VARIABLES}
 use Rattle.rules.specs.Out.{Out}
 use Rattle.rules.specs.Store.{Made}
 use Rattle.rules.specs.Unify.{Binding, solve, unify}
-use Rattle.meaning.specs.Trees.Tests.{occ-variables}
 use Rattle.meaning.specs.Unification.List.{Settled, Each}
 use Rattle.meaning.specs.Unification.Pairs.{WithinPairs}
-use Rattle.meaning.specs.Unification.Peel.{WithinBindings}
 use Rattle.terms.specs.declared.store.Mark.{Mark}
 use Rattle.terms.specs.declared.unify.Round.{Round}
 use Rattle.terms.specs.declared.unify.Unified.{Unified}
@@ -24,7 +22,7 @@ use Rattle.terms.specs.Collect.{tree}
 use Rattle.terms.specs.Pairs.{waits}
 use Rattle.terms.specs.Theta.{bindings, Zeros}
 use Rattle.terms.specs.Unify.{Solved, Unsolved, Unifiable}
-use Rattle.terms.specs.Peel.{thetaOf, pairsOf, Own, Solvable, solves, BoundMore, Rounded, SolvedAs}
+use Rattle.terms.specs.Peel.{thetaOf, pairsOf, Solvable, solves, BoundMore, Rounded, SolvedAs}
 use Rattle.terms.specs.Laws.Growth.{grown-self, grown-then}
 use Rattle.terms.specs.Laws.Zeros.{getD-zeros}
 use Rattle.terms.specs.Laws.Theta.{bindings-none}
@@ -101,7 +99,7 @@ module _ (I W : List ℕ) (old : Mark) (count : ℕ) (theta map memo P seen : Li
 
 -- The beginning ------------------------------------------------------------------------------------------------------------------------
 
-module _ (I W : List ℕ) (m : Mark) (s t : ℕ) (theta map memo P seen : List ℕ) (q : Unifiable I W m s t theta map memo P seen) where
+module _ (I W : List ℕ) (m : Mark) (count s t : ℕ) (theta map memo P seen : List ℕ) (q : Unifiable I W m count s t theta map memo P seen) where
   abbrev P₁ : List ℕ
   P₁ = set (set P 0 s) 1 t
 
@@ -126,8 +124,8 @@ module _ (I W : List ℕ) (m : Mark) (s t : ℕ) (theta map memo P seen : List �
 
   both-there : (k : ℕ) → k < 2 * 1 → getD P₁ k 0 < m .terms
   both-there k h = elim (ℕ-discrete k 0) [
-    | yes e ↦ subst (λ (i : ℕ). i < m .terms) (sym (ap (λ (j : ℕ). getD P₁ j 0) e ∙ left-is)) (q .left .there)
-    | no n ↦ (let e : k ≡ 1 = omega arith in subst (λ (i : ℕ). i < m .terms) (sym (ap (λ (j : ℕ). getD P₁ j 0) e ∙ right-is)) (q .right .there))
+    | yes e ↦ subst (λ (i : ℕ). i < m .terms) (sym (ap (λ (j : ℕ). getD P₁ j 0) e ∙ left-is)) (q .left)
+    | no n ↦ (let e : k ≡ 1 = omega arith in subst (λ (i : ℕ). i < m .terms) (sym (ap (λ (j : ℕ). getD P₁ j 0) e ∙ right-is)) (q .right))
   ]
 
   pub unify-begins : Solvable I W m theta map memo P₁ seen 1
@@ -138,7 +136,6 @@ module _ (I W : List ℕ) (m : Mark) (s t : ℕ) (theta map memo P seen : List �
           good = q .good;
           cells = record { long = q .scratch .thetas; bound = λ v. let z = none-bound v in omega arith };
           settled = subst Settled (sym no-theta) tt;
-          own = subst (WithinBindings Own) (sym no-theta) tt;
           memos = q .scratch .memos;
           knows = λ i h. absurd (let z = none-known i in omega arith);
           wide = q .scratch .wide;
@@ -146,17 +143,15 @@ module _ (I W : List ℕ) (m : Mark) (s t : ℕ) (theta map memo P seen : List �
           many = length-set (set P 0 s) 1 t ∙ length-set P 0 s ∙ q .scratch .many;
           few = omega arith;
           there = both-there;
-          within = subst (WithinPairs Own) (sym one-pair)
-              (λ v o. q .left .few v (occ-variables (tree I W m s) v o), λ v o. q .right .few v (occ-variables (tree I W m t) v o), tt);
         };
         maps = q .scratch .maps;
         no-maps = q .scratch .no-maps;
         no-memos = q .scratch .no-memos;
       }
 
-  solves-is : (count : ℕ) → solves (suc count) I W m theta P₁ 1 ≡ unify count (tree I W m s) (tree I W m t) (made I W m)
+  solves-is : solves (suc count) I W m theta P₁ 1 ≡ unify count (tree I W m s) (tree I W m t) (made I W m)
   unfolding unify
-  solves-is count = λ i. solve (suc count) (no-theta i) (one-pair i) (made I W m)
+  solves-is = λ i. solve (suc count) (no-theta i) (one-pair i) (made I W m)
 
   -- The end ------------------------------------------------------------------------------------------------------------------------------
 
@@ -168,24 +163,24 @@ module _ (I W : List ℕ) (m : Mark) (s t : ℕ) (theta map memo P seen : List �
       let k : length now ≡ length used = ap length e ∙ length-replicate {A = ℕ} (length used) 0 in
       (k ∙ l ∙ q .scratch .thetas, e ∙ ap (λ (n : ℕ). replicate n 0) (sym k))
 
-  module _ (J X theta′ : List ℕ) (count : ℕ) (r : Unified) (d : SolvedAs I W J X m theta′ (solves (suc count) I W m theta P₁ 1) r) where
+  module _ (J X theta′ : List ℕ) (r : Unified) (d : SolvedAs I W J X m theta′ (solves (suc count) I W m theta P₁ 1) r) where
     abbrev U : Out Made (Option (List Binding))
     U = unify count (tree I W m s) (tree I W m t) (made I W m)
 
     pub unify-found : (new : Mark) → r ≡ Found new → Solved I W J X m theta′ U new
     unify-found new e =
         let f : Solved I W J X m theta′ (solves (suc count) I W m theta P₁ 1) new = subst (SolvedAs I W J X m theta′ _) e d in
-        record { grown = f .grown; makes = sym (solves-is count) ∙ f .makes; cells = f .cells }
+        record { grown = f .grown; makes = sym solves-is ∙ f .makes; cells = f .cells }
 
     module _ (theta″ : List ℕ) (l : length theta′ ≡ length theta) (z : theta″ ≡ replicate (length theta′) 0) where
       pub unify-apart : (new : Mark) → r ≡ Apart new → Unsolved I W J X m theta″ U new × (length theta″ ≡ VARIABLES) × Zeros theta″
       unify-apart new e =
           let f : Unsolved I W J X m theta′ (solves (suc count) I W m theta P₁ 1) new = subst (SolvedAs I W J X m theta′ _) e d in
           let b = theta-back theta′ theta″ l z in
-          (record { grown = f .grown; makes = sym (solves-is count) ∙ f .makes }, b .0, b .1)
+          (record { grown = f .grown; makes = sym solves-is ∙ f .makes }, b .0, b .1)
 
       pub unify-full : (row : ℕ) (new : Mark) → r ≡ Full row new → Refused (Option (List Binding)) I W J X m U row new × (length theta″ ≡ VARIABLES) × Zeros theta″
       unify-full row new e =
           let f : Refused (Option (List Binding)) I W J X m (solves (suc count) I W m theta P₁ 1) row new = subst (SolvedAs I W J X m theta′ _) e d in
           let b = theta-back theta′ theta″ l z in
-          (record { grown = f .grown; makes = sym (solves-is count) ∙ f .makes }, b .0, b .1)
+          (record { grown = f .grown; makes = sym solves-is ∙ f .makes }, b .0, b .1)

@@ -13,3 +13,4 @@ pub mod Digits
 pub mod Sets
 pub mod Theta
 pub mod Patterns
+pub mod Unify

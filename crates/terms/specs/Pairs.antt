@@ -2,11 +2,10 @@
 -- there last is the first of the definition's list. Assumes nothing.
 use mathlib.Core.Path.{_≡_}
 use Prim.Native.Nat.{ℕ, zero, suc, _+_, _*_, _≤_, _<_}
-use mathlib.Core.Bool.{Bool, true, false}
 use mathlib.Core.List.{List, [], _∷_}
 use lib.ListN.{length, getD, set, replicate}
-use Rattle.rules.specs.Limits.{TERMS}
-use Rattle.rules.specs.Tree.{Tree, var, variables}
+use Rattle.rules.specs.Limits.{VARIABLES, TERMS}
+use Rattle.rules.specs.Tree.{var}
 use Rattle.rules.specs.Store.{Made}
 use Rattle.rules.specs.Unify.{Pair, Look, agree, clash, binds, parts}
 use Rattle.terms.specs.declared.store.Mark.{Mark}
@@ -17,13 +16,12 @@ use Rattle.terms.specs.Collect.{tree}
 
 -- What two terms ask for ---------------------------------------------------------------------------------------------------------
 
--- the variables of term id can be looked at, with scratch of zeros
+-- a term whose variables can be looked for, with scratch of zeros
 pub record Searchable (I W : List ℕ) (m : Mark) (seen : List ℕ) (id : ℕ) : Type 0 where
   pub good : Good I W m
   pub there : id < m .terms
   pub wide : TERMS ≤ 64 * length seen
   pub fresh : seen ≡ replicate (length seen) 0
-  pub few : (v : ℕ) → variables (tree I W m id) v ≡ true → v < 512
 
 pub record Comparable (I W : List ℕ) (m : Mark) (seen : List ℕ) (s t : ℕ) : Type 0 where
   pub left : Searchable I W m seen s
@@ -32,7 +30,7 @@ pub record Comparable (I W : List ℕ) (m : Mark) (seen : List ℕ) (s t : ℕ) 
 -- a variable x and a term u
 pub record BindsTo (I W : List ℕ) (m : Mark) (L : Look) (x u : ℕ) : Type 0 where
   pub asks : L ≡ binds x (tree I W m u)
-  pub small : x < 512
+  pub small : x < VARIABLES
   pub there : u < m .terms
 
 -- n arguments from a on and from b on

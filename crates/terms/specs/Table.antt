@@ -8,7 +8,7 @@ use mathlib.Core.Bool.{Bool, true, false}
 use mathlib.Core.List.{List, [], _∷_, _++_}
 use lib.ListN.{length, getD, take, drop}
 use lib.Dec.{ltb, eqb}
-use Rattle.rules.specs.Limits.{SYMBOLS, TERMS, WORDS}
+use Rattle.rules.specs.Limits.{SYMBOLS, VARIABLES, TERMS, WORDS}
 use Rattle.rules.specs.Out.{Out, ok, refuse}
 use Rattle.rules.specs.Tree.{Tree, Trees, var, app, none, more, isOpen}
 use Rattle.rules.specs.Store.{Made, number}
@@ -66,9 +66,9 @@ trees I W (suc n) = trees I W n ++ (treeAt (trees I W n) (nodeAt I W n) ∷ [])
 abbrev pub made : List ℕ → List ℕ → Mark → Made
 made I W m = trees I W (m .terms)
 
--- a node: a variable's has no arguments, and a symbol's are all below n
+-- a node: a variable's has no arguments, and is one that there can be; a symbol's arguments are all below n
 pub data Shaped (n : ℕ) : List ℕ → Type 0 where
-  isVar : {h : ℕ} → SYMBOLS ≤ h → Shaped n (h ∷ [])
+  isVar : {h : ℕ} → SYMBOLS ≤ h → h < SYMBOLS + VARIABLES → Shaped n (h ∷ [])
   isApp : {h : ℕ} {xs : List ℕ} → h < SYMBOLS → ((k : ℕ) → k < length xs → getD xs k 0 < n) → Shaped n (h ∷ xs)
 
 -- a node that can be kept

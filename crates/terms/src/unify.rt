@@ -122,7 +122,7 @@ fn solve(
     }
 }
 
-// Two terms whose variables are below `count`. The bindings found are in `theta`; it is zero before, and where none are found. `map`,
+// Two terms whose variables are below `count`, so that `Apart` says that no unifier exists. The bindings found are in `theta`; it is zero before, and where none are found. `map`,
 // `memo`, `pairs` and `seen` are scratch: zero before and after.
 pub fn unify(
     index: &mut [u32],
@@ -137,7 +137,7 @@ pub fn unify(
     pairs: &mut [u32],
     seen: &mut [u64],
 ) -> Unified
-    requires { ⌜ Unifiable (now index) (now words) mark s t (now theta) (now map) (now memo) (now pairs) (now seen) ⌝ }
+    requires { ⌜ Unifiable (now index) (now words) mark count s t (now theta) (now map) (now memo) (now pairs) (now seen) ⌝ }
     ensures { λ r. ⌜ UnifiedAs (now (index .entry)) (now (words .entry)) (now (index .exit)) (now (words .exit)) mark (now (theta .exit))
         (unify count (tree (now (index .entry)) (now (words .entry)) mark s) (tree (now (index .entry)) (now (words .entry)) mark t) (made (now (index .entry)) (now (words .entry)) mark)) r ⌝ }
     ensures { λ _. ⌜ (now (map .exit) ≡ now (map .entry)) × (now (memo .exit) ≡ now (memo .entry)) × (now (pairs .exit) ≡ now (pairs .entry)) × (now (seen .exit) ≡ now (seen .entry)) ⌝ }

@@ -2,6 +2,7 @@
 ghost use mathlib.Core.Path.{_≡_};
 ghost use Prim.Native.Nat.{ℕ, _*_, _≤_, _<_};
 ghost use lib.ListN.{length, replicate};
+ghost use Rattle.rules.specs.Limits.{VARIABLES};
 ghost use Rattle.rules.specs.Find.{union};
 ghost use Rattle.rules.specs.Tree.{variables as variablesIn};
 ghost use Rattle.terms.specs.Sets.{holds};
@@ -69,7 +70,7 @@ pub fn occurs(
     seen: &mut [u64],
 ) -> bool
     requires { ⌜ Readable (now index) (now words) mark id (now seen) (replicate 8 0) ⌝ }
-    requires { ⌜ (now seen ≡ replicate (length (now seen)) 0) × (x < 512) ⌝ }
+    requires { ⌜ (now seen ≡ replicate (length (now seen)) 0) × (x < VARIABLES) ⌝ }
     ensures { λ r. ⌜ (r ≡ variablesIn (tree (now (index .entry)) (now (words .entry)) mark id) x) × (now (seen .exit) ≡ now (seen .entry)) ⌝ }
 {
     let mut set = [0u64; 8];

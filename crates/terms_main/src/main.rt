@@ -5,9 +5,9 @@
 // found before is changed by each later one. The first pair has bindings; the second fails by the occurs check, which sees x0 in
 // (f (f x0 a) a) once x1 is bound; the third by the symbols a and b.
 ghost use Prim.Native.Nat.{_+_, _<_};
-ghost use Rattle.rules.specs.Limits.{SYMBOLS};
+ghost use Rattle.rules.specs.Limits.{SYMBOLS, VARIABLES};
 ghost use Rattle.terms.specs.Table.{Good};
-ghost use Rattle.terms.specs.Unify.{Within, Unifiable};
+ghost use Rattle.terms.specs.Unify.{Unifiable};
 ghost use Rattle.terms_main.specs.Parts.{none, Idle, ReadAs};
 
 mod show;
@@ -53,7 +53,7 @@ fn solve(
     pairs: &mut [u32],
     seen: &mut [u64],
 ) -> Mark
-    requires { ⌜ Unifiable (now index) (now words) mark s t (now theta) (now map) (now memo) (now pairs) (now seen) ⌝ }
+    requires { ⌜ Unifiable (now index) (now words) mark VARIABLES s t (now theta) (now map) (now memo) (now pairs) (now seen) ⌝ }
     ensures { λ r. ⌜ Idle (now (index .exit)) (now (words .exit)) (now (theta .exit)) (now (map .exit)) (now (memo .exit)) (now (pairs .exit)) (now (seen .exit)) r ⌝ }
 {
     match unify(
@@ -107,7 +107,7 @@ fn put_pair(
     next: usize,
 ) -> Placed
     requires { ⌜ Good (now index) (now words) mark ⌝ }
-    requires { ⌜ Within (now index) (now words) mark a × Within (now index) (now words) mark b ⌝ }
+    requires { ⌜ (a < mark .terms) × (b < mark .terms) ⌝ }
     ensures { λ r. ⌜ ReadAs (now (index .entry)) (now (words .entry)) (now (index .exit)) (now (words .exit)) mark next r ⌝ }
 {
     let node = [F as u32, a as u32, b as u32];
@@ -171,7 +171,7 @@ fn solve_with(
     seen: &mut [u64],
 ) -> Mark
     requires { ⌜ Idle (now index) (now words) (now theta) (now map) (now memo) (now pairs) (now seen) mark ⌝ }
-    requires { ⌜ Within (now index) (now words) mark s ⌝ }
+    requires { ⌜ s < mark .terms ⌝ }
     ensures { λ r. ⌜ Idle (now (index .exit)) (now (words .exit)) (now (theta .exit)) (now (map .exit)) (now (memo .exit)) (now (pairs .exit)) (now (seen .exit)) r ⌝ }
 {
     match read(right, 0, index, words, mark) {

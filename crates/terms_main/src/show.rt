@@ -6,7 +6,6 @@ ghost use Rattle.rules.specs.Limits.{TERMS};
 ghost use Rattle.terms.specs.Table.{Good, Grown};
 ghost use Rattle.terms.specs.Subst.{Replaceable};
 ghost use Rattle.terms.specs.Theta.{Theta, Zeros};
-ghost use Rattle.terms.specs.Unify.{Within};
 use crate::A;
 use crate::B;
 use rules::SYMBOLS;
@@ -100,7 +99,7 @@ fn show_set(set: &[u64])
 
 // Writes the variables of the term `id`. `seen` is scratch: zero before and after.
 fn show_variables(index: &[u32], words: &[u32], mark: Mark, id: usize, seen: &mut [u64])
-    requires { ⌜ Good (now index) (now words) mark × Within (now index) (now words) mark id ⌝ }
+    requires { ⌜ Good (now index) (now words) mark × (id < mark .terms) ⌝ }
     requires { ⌜ (TERMS ≤ 64 * length (now seen)) × Zeros (now seen) ⌝ }
     ensures { λ _. ⌜ now (seen .exit) ≡ now (seen .entry) ⌝ }
 {
@@ -158,7 +157,7 @@ pub fn show_found(
 
 // Writes what the two terms are, before they are unified.
 pub fn show_both(index: &[u32], words: &[u32], mark: Mark, s: usize, t: usize, seen: &mut [u64])
-    requires { ⌜ Good (now index) (now words) mark × Within (now index) (now words) mark s × (t < mark .terms) ⌝ }
+    requires { ⌜ Good (now index) (now words) mark × (s < mark .terms) × (t < mark .terms) ⌝ }
     requires { ⌜ (TERMS ≤ 64 * length (now seen)) × Zeros (now seen) ⌝ }
     ensures { λ _. ⌜ now (seen .exit) ≡ now (seen .entry) ⌝ }
 {

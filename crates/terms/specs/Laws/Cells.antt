@@ -27,7 +27,7 @@ numbers-args M a (x ∷ xs) b =
 
 node-cells : (M : Made) → Apart M → (k : ℕ) → k ≤ length M → {w : List ℕ} → Shaped k w → nodeCells M (treeAt M w) ≡ w
 unfolding nodeCells
-node-cells M a k l (isVar {h = h} p) = let e : SYMBOLS + (h - SYMBOLS) ≡ h = omega arith in ap (nodeCells M) (tree-var M h [] p) ∙ ap (λ (j : ℕ). j ∷ []) e
+node-cells M a k l (isVar {h = h} p u) = let e : SYMBOLS + (h - SYMBOLS) ≡ h = omega arith in ap (nodeCells M) (tree-var M h [] p) ∙ ap (λ (j : ℕ). j ∷ []) e
 node-cells M a k l (isApp {h = h} {xs = xs} p b) =
     ap (nodeCells M) (tree-app M h xs p) ∙ ap (λ (r : List ℕ). h ∷ r) (numbers-args M a xs (λ j q. let z = b j q in omega arith))
 

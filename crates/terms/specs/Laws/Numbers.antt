@@ -22,7 +22,7 @@ ins-args M a [] b = tt
 ins-args M a (x ∷ xs) b = (number-there M a x (b 0 (zero-lt-suc (length xs))) _ refl, ins-args M a xs (λ k l. b (suc k) (suc-le-suc l)))
 
 args-in : (M : Made) → Apart M → (k : ℕ) → k ≤ length M → {w : List ℕ} → Shaped k w → (f : ℕ) (ts : Trees) → treeAt M w ≡ app f ts → Ins M ts
-args-in M a k l (isVar {h = h} p) f ts e = absurd (not-var-app _ _ _ (sym (tree-var M h [] p) ∙ e))
+args-in M a k l (isVar {h = h} p u) f ts e = absurd (not-var-app _ _ _ (sym (tree-var M h [] p) ∙ e))
 args-in M a k l (isApp {h = h} {xs = xs} p b) f ts e =
     let d : app h (argsOf M xs) ≡ app f ts = sym (tree-app M h xs p) ∙ e in
     let z : argsOf M xs ≡ ts = cc in

@@ -76,15 +76,15 @@ args-agree M N k [] b e = refl
 args-agree M N k (x ∷ xs) b e = λ i. more (e x (b 0 (zero-lt-suc (length xs))) i) (args-agree M N k xs (λ j l. b (suc j) (suc-le-suc l)) e i)
 
 pub tree-agree : (M N : Made) (k : ℕ) {w : List ℕ} → Shaped k w → ((i : ℕ) → i < k → getD M i (var 0) ≡ getD N i (var 0)) → treeAt M w ≡ treeAt N w
-tree-agree M N k (isVar {h = h} p) e = tree-var M h [] p ∙ sym (tree-var N h [] p)
+tree-agree M N k (isVar {h = h} p u) e = tree-var M h [] p ∙ sym (tree-var N h [] p)
 tree-agree M N k (isApp {h = h} {xs = xs} p b) e = tree-app M h xs p ∙ ap (app h) (args-agree M N k xs b e) ∙ sym (tree-app N h xs p)
 
 pub wider : (k n : ℕ) {w : List ℕ} → k ≤ n → Shaped k w → Shaped n w
-wider k n l (isVar p) = isVar p
+wider k n l (isVar p u) = isVar p u
 wider k n l (isApp {xs = xs} p b) = isApp {xs = xs} p (λ j m. let z = b j m in omega arith)
 
 pub shaped-some : (k : ℕ) {w : List ℕ} → Shaped k w → 0 < length w
-shaped-some k (isVar p) = zero-lt-suc 0
+shaped-some k (isVar p u) = zero-lt-suc 0
 shaped-some k (isApp {xs = xs} p b) = zero-lt-suc (length xs)
 
 -- two nodes that stand for one tree are one
@@ -104,13 +104,13 @@ pub not-var-app : (v c : ℕ) (ts : Trees) → var v ≡ app c ts → ⊥
 not-var-app v c ts e = let z : _≡_ {A = ℕ} 0 1 = cc in omega arith
 
 pub tree-one : (M : Made) {v w : List ℕ} → Apart M → Shaped (length M) v → Shaped (length M) w → treeAt M v ≡ treeAt M w → v ≡ w
-tree-one M a (isVar {h = h} p) (isVar {h = g} q) e =
+tree-one M a (isVar {h = h} p u) (isVar {h = g} q o) e =
     let d : var (h - SYMBOLS) ≡ var (g - SYMBOLS) = sym (tree-var M h [] p) ∙ e ∙ tree-var M g [] q in
     let z : h - SYMBOLS ≡ g - SYMBOLS = cc in
     let y : h ≡ g = omega arith in
     ap (λ (k : ℕ). k ∷ []) y
-tree-one M a (isVar {h = h} p) (isApp {h = g} {xs = ys} q d) e = absurd (not-var-app _ _ _ (sym (tree-var M h [] p) ∙ e ∙ tree-app M g ys q))
-tree-one M a (isApp {h = h} {xs = xs} p b) (isVar {h = g} q) e = absurd (not-var-app _ _ _ (sym (tree-var M g [] q) ∙ sym e ∙ tree-app M h xs p))
+tree-one M a (isVar {h = h} p u) (isApp {h = g} {xs = ys} q d) e = absurd (not-var-app _ _ _ (sym (tree-var M h [] p) ∙ e ∙ tree-app M g ys q))
+tree-one M a (isApp {h = h} {xs = xs} p b) (isVar {h = g} q o) e = absurd (not-var-app _ _ _ (sym (tree-var M g [] q) ∙ sym e ∙ tree-app M h xs p))
 tree-one M a (isApp {h = h} {xs = xs} p b) (isApp {h = g} {xs = ys} q d) e =
     let f : app h (argsOf M xs) ≡ app g (argsOf M ys) = sym (tree-app M h xs p) ∙ e ∙ tree-app M g ys q in
     let y : h ≡ g = cc in
@@ -125,7 +125,7 @@ args-count M (x ∷ xs) = ap suc (args-count M xs)
 
 pub tree-node : (M : Made) (k : ℕ) {w : List ℕ} → Shaped k w → node (treeAt M w) ≡ length w
 unfolding node
-tree-node M k (isVar {h = h} p) = ap node (tree-var M h [] p)
+tree-node M k (isVar {h = h} p u) = ap node (tree-var M h [] p)
 tree-node M k (isApp {h = h} {xs = xs} p b) = ap node (tree-app M h xs p) ∙ ap suc (args-count M xs)
 
 -- Tables that are good -----------------------------------------------------------------------------------------------------------------

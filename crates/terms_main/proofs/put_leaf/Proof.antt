@@ -2,7 +2,7 @@
 use mathlib.Core.List.{[], _∷_}
 use native.Mathlib.Omega.{arith}
 use Rattle.terms.specs.Table.{treeAt, made}
-use Rattle.terms_main.proofs.Places.{kept, unkept, leaf-node, leaf-few}
+use Rattle.terms_main.proofs.Places.{kept, unkept, leaf-node}
 use borrow.Author.Needs.{needs}
 use Rattle.terms_main.proofs.put_leaf.Statement.{statement}
 use Rattle.terms_main.proofs.put_leaf.Tie as tie
@@ -14,7 +14,7 @@ slice-aggregate-keep : tie.Need-slice-aggregate-keep
 slice-aggregate-keep c = search needs
 
 keep-requires : tie.Need-keep-requires
-keep-requires c κs = ((c .before .before .before .before .before .pre) .0, leaf-node _ _)
+keep-requires c κs = ((c .before .before .before .before .before .pre) .0, leaf-node _ _ ((c .before .before .before .before .before .pre) .1))
 
 enum-known-n : tie.Need-enum-known-n
 enum-known-n c = search needs
@@ -29,7 +29,7 @@ same-length-2 : tie.Need-same-length-2
 same-length-2 c = (c .before .before .before .before .before .before .before .keep) .kept .1 .0
 
 returns : tie.Need-returns
-returns c = (kept ((c .before .before .before .before .before .before .before .before .before .before .before .before .before .args) .index .now) ((c .before .before .before .before .before .before .before .before .before .before .before .before .before .args) .words .now) ((c .before .before .before .before .before .before .before .keep) .last .0) ((c .before .before .before .before .before .before .before .keep) .last .1 .0) ((c .before .before .before .before .before .before .before .before .before .before .before .before .before .args) .mark) (treeAt (made ((c .before .before .before .before .before .before .before .before .before .before .before .before .before .args) .index .now) ((c .before .before .before .before .before .before .before .before .before .before .before .before .before .args) .words .now) ((c .before .before .before .before .before .before .before .before .before .before .before .before .before .args) .mark)) (((c .before .before .before .before .before .before .before .before .before .before .before .before .before .args) .head) ∷ [])) _ ((c .before .before .before .before .before .before .before .keep) .result) ((c .before .before .before .before .before .before .before .keep) .ensures) _ _ ((c .before .n) .given .1) (leaf-few (made ((c .before .before .before .before .before .before .before .before .before .before .before .before .before .args) .index .now) ((c .before .before .before .before .before .before .before .before .before .before .before .before .before .args) .words .now) ((c .before .before .before .before .before .before .before .before .before .before .before .before .before .args) .mark)) ((c .before .before .before .before .before .before .before .before .before .before .before .before .before .args) .head) ((c .before .before .before .before .before .before .before .before .before .before .before .before .before .pre) .1)), omega arith)
+returns c = (kept ((c .before .before .before .before .before .before .before .before .before .before .before .before .before .args) .index .now) ((c .before .before .before .before .before .before .before .before .before .before .before .before .before .args) .words .now) ((c .before .before .before .before .before .before .before .keep) .last .0) ((c .before .before .before .before .before .before .before .keep) .last .1 .0) ((c .before .before .before .before .before .before .before .before .before .before .before .before .before .args) .mark) (treeAt (made ((c .before .before .before .before .before .before .before .before .before .before .before .before .before .args) .index .now) ((c .before .before .before .before .before .before .before .before .before .before .before .before .before .args) .words .now) ((c .before .before .before .before .before .before .before .before .before .before .before .before .before .args) .mark)) (((c .before .before .before .before .before .before .before .before .before .before .before .before .before .args) .head) ∷ [])) _ ((c .before .before .before .before .before .before .before .keep) .result) ((c .before .before .before .before .before .before .before .keep) .ensures) _ _ ((c .before .n) .given .1), omega arith)
 
 same-length-3 : tie.Need-same-length-3
 same-length-3 c = (c .before .before .before .before .before .before .before .keep) .kept .0

@@ -13,7 +13,7 @@ enum-known-s : tie.Need-enum-known-s
 enum-known-s c = search needs
 
 solve-with-requires : tie.Need-solve-with-requires
-solve-with-requires c κs = (record { good = (as-term ((c .before .before .before .before .before .before .before .before .before .before .before .before .before .before .before .before .before .before .before .before .before .before .before .before .before .before .args) .index .now) ((c .before .before .before .before .before .before .before .before .before .before .before .before .before .before .before .before .before .before .before .before .before .before .before .before .before .before .args) .words .now) ((c .before .before .before .before .before .before .before .before .before .before .before .before .before .before .read) .last .1 .1 .0) ((c .before .before .before .before .before .before .before .before .before .before .before .before .before .before .read) .last .1 .1 .1 .0) none 0 ((c .before .before .before .before .before .before .before .before .before .before .before .before .before .before .read) .result) ((c .before .before .before .before .before .before .before .before .before .before .before .before .before .before .read) .ensures) _ _ _ ((c .before .before .before .before .before .before .before .before .s) .given .1)) .0 .grown .good; scratch = (c .before .before .before .before .before .before .before .before .before .before .before .before .before .before .before .before .before .before .before .before .before .before .before .before .before .before .pre) .scratch }, (as-term ((c .before .before .before .before .before .before .before .before .before .before .before .before .before .before .before .before .before .before .before .before .before .before .before .before .before .before .args) .index .now) ((c .before .before .before .before .before .before .before .before .before .before .before .before .before .before .before .before .before .before .before .before .before .before .before .before .before .before .args) .words .now) ((c .before .before .before .before .before .before .before .before .before .before .before .before .before .before .read) .last .1 .1 .0) ((c .before .before .before .before .before .before .before .before .before .before .before .before .before .before .read) .last .1 .1 .1 .0) none 0 ((c .before .before .before .before .before .before .before .before .before .before .before .before .before .before .read) .result) ((c .before .before .before .before .before .before .before .before .before .before .before .before .before .before .read) .ensures) _ _ _ ((c .before .before .before .before .before .before .before .before .s) .given .1)) .0 .within)
+solve-with-requires c κs = (record { good = (as-term ((c .before .before .before .before .before .before .before .before .before .before .before .before .before .before .before .before .before .before .before .before .before .before .before .before .before .before .args) .index .now) ((c .before .before .before .before .before .before .before .before .before .before .before .before .before .before .before .before .before .before .before .before .before .before .before .before .before .before .args) .words .now) ((c .before .before .before .before .before .before .before .before .before .before .before .before .before .before .read) .last .1 .1 .0) ((c .before .before .before .before .before .before .before .before .before .before .before .before .before .before .read) .last .1 .1 .1 .0) none 0 ((c .before .before .before .before .before .before .before .before .before .before .before .before .before .before .read) .result) ((c .before .before .before .before .before .before .before .before .before .before .before .before .before .before .read) .ensures) _ _ _ ((c .before .before .before .before .before .before .before .before .s) .given .1)) .0 .grown .good; scratch = (c .before .before .before .before .before .before .before .before .before .before .before .before .before .before .before .before .before .before .before .before .before .before .before .before .before .before .pre) .scratch }, (as-term ((c .before .before .before .before .before .before .before .before .before .before .before .before .before .before .before .before .before .before .before .before .before .before .before .before .before .before .args) .index .now) ((c .before .before .before .before .before .before .before .before .before .before .before .before .before .before .before .before .before .before .before .before .before .before .before .before .before .before .args) .words .now) ((c .before .before .before .before .before .before .before .before .before .before .before .before .before .before .read) .last .1 .1 .0) ((c .before .before .before .before .before .before .before .before .before .before .before .before .before .before .read) .last .1 .1 .1 .0) none 0 ((c .before .before .before .before .before .before .before .before .before .before .before .before .before .before .read) .result) ((c .before .before .before .before .before .before .before .before .before .before .before .before .before .before .read) .ensures) _ _ _ ((c .before .before .before .before .before .before .before .before .s) .given .1)) .0 .there)
 
 enum-known-m : tie.Need-enum-known-m
 enum-known-m c = search needs

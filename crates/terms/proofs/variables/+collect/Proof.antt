@@ -3,7 +3,7 @@ use Prim.Native.Nat.{ℕ, _<_, _+_, _-_}
 use native.Mathlib.Omega.{arith}
 use Rattle.terms.specs.Table.{FLAGS}
 use Rattle.terms.specs.Laws.Terms.{flag-in, end-in, start-in}
-use Rattle.terms.proofs.Collects.{closed-done, seen-done, var-small, var-done, Looping, looping-begins, arg-in, arg-falls, arg-ready, looping-on, looping-ends}
+use Rattle.terms.proofs.Collects.{closed-done, seen-done, var-fits, var-done, Looping, looping-begins, arg-in, arg-falls, arg-ready, looping-on, looping-ends}
 use borrow.Author.Needs.{needs}
 use Prim.Native.Nat.{ℕ, _<_}
 use borrow.Fn.Kinds.{In}
@@ -94,7 +94,7 @@ collect-cast-head t c = omega (arith, (c .shared-slice-known5) .given ((c .befor
 
 -- src/variables.rt:35:9
 collect-insert-requires : (t : ℕ) → collect-lts.Need-insert-requires (cs t) (collect-at t) collect.Post collect-Inv-loop collect-μ-loop
-collect-insert-requires t c κs = var-small _ _ _ _ ((c .before .before .before .before .before .before .before .before .before .before .before .before .before .before .pre) .1 .0 .good) ((c .before .before .before .before .before .before .before .before .before .before .before .before .before .before .pre) .1 .0 .there) _ ((c .before .before .before .before .start-of) .ensures) _ ((c .before .before .before .before .before .before .before .before .before .before .before .before .before .before .pre) .1 .0 .bound) ((c .before .if3) .taken)
+collect-insert-requires t c κs = var-fits _ _ _ _ _ _ ((c .before .before .before .before .before .before .before .before .before .before .before .before .before .before .pre) .1 .0) _ ((c .before .before .before .before .start-of) .ensures) ((c .before .if3) .taken)
 
 -- src/variables.rt:36:9
 collect-same-length-2 : (t : ℕ) → collect-lts.Need-same-length-2 (cs t) (collect-at t) collect.Post collect-Inv-loop collect-μ-loop
