@@ -16,7 +16,7 @@ use Rattle.terms.specs.declared.store.Kept.{Kept}
 use Rattle.terms.specs.declared.store.Kept.the-variants.{Term, Full}
 use Rattle.terms.specs.Table.{argsOf, treeAt, made, isApp, Node, Good, Stored, Refused, After, numberOf}
 use Rattle.terms.specs.Laws.Tables.{tree-app, length-trees}
-use Rattle.terms.specs.Laws.Growth.{getD-grown, grown-self, grown-then}
+use Rattle.terms.specs.Laws.Growth.{grown-tree, grown-refl, grown-trans}
 use Rattle.exports_store.specs.Chains.{chain, links, Chained}
 
 next-tree : (M : Made) (last first : ℕ) (t : Tree) (k : ℕ) → getD M last (var 0) ≡ chain t k → getD M first (var 0) ≡ t → treeAt M (9 ∷ last ∷ first ∷ []) ≡ chain t (suc k)
@@ -66,7 +66,7 @@ chaining-begins I W first times o g h =
       old = g;
       there = h;
       stored = record {
-        grown = grown-self I W o g;
+        grown = grown-refl g;
         makes = refl;
         numbered = sym (number-of (made I W o) (g .apart) first (let z = length-trees I W (o .terms) in omega arith) (getD (made I W o) first (var 0)) refl);
         there = h;
@@ -98,7 +98,7 @@ module _ (I W : List ℕ) (o : Mark) (J X node : List ℕ) (first times last : �
   tree-is =
       ap (treeAt (made J X m)) chaining-cells
       ∙ next-tree (made J X m) last first tree n (there-is I W J X o m (chain tree n) (links tree n (made I W o)) last (c .stored))
-      (getD-grown I W J X o (c .old) (c .stored .grown .same) (m .terms) first (c .stored .grown .more) (c .there))
+      (grown-tree (c .stored .grown) first (c .there))
 
   module _ (K Y : List ℕ) (r : Kept) (a : After J X K Y m (treeAt (made J X m) (set node 1 last)) (keep (treeAt (made J X m) (set node 1 last)) (made J X m)) r) (l : n < times) where
     pub chaining-on : (next : ℕ) (new : Mark) → r ≡ Term next new → Chaining I W o K Y (set node 1 last) first times next new (n + 1)
@@ -111,7 +111,7 @@ module _ (I W : List ℕ) (o : Mark) (J X node : List ℕ) (first times last : �
           there = c .there;
           stored = subst (λ (k : ℕ). Stored I W K Y o (chain tree k) (links tree k (made I W o)) next new) (sym (add-one n))
               (record {
-                grown = grown-then I W J X K Y o m new (c .stored .grown) (f .grown);
+                grown = grown-trans (c .stored .grown) (f .grown);
                 makes = next-links tree (made I W o) (made J X m) n (c .stored .makes) ∙ f .makes;
                 numbered = f .numbered;
                 there = f .there;
@@ -130,7 +130,7 @@ module _ (I W : List ℕ) (o : Mark) (J X node : List ℕ) (first times last : �
         record {
           kept = Full row new;
           after = record {
-            grown = grown-then I W J X K Y o m new (c .stored .grown) (f .grown);
+            grown = grown-trans (c .stored .grown) (f .grown);
             makes = links-stop tree (made I W o) (made K Y new) row (suc n) times (omega arith) y;
           };
           number = refl;

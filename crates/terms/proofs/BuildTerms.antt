@@ -23,7 +23,7 @@ use Rattle.terms.specs.Table.{run, argsOf, treeAt, made, Shaped, isApp, 
 use Rattle.terms.specs.Patterns.{arity, Stands, Reads, treeIn, boundOf, Cells, Buildable, Builds, Stops, BuiltBy, BuiltAt}
 use Rattle.terms.specs.Laws.Runs.{run-same, run-length, run-at}
 use Rattle.terms.specs.Laws.Tables.{length-trees, tree-app}
-use Rattle.terms.specs.Laws.Growth.{grown-self, getD-grown, grown-then}
+use Rattle.terms.specs.Laws.Growth.{grown-refl, grown-tree, grown-trans}
 use Rattle.terms.proofs.Matches.{stands-var, stands-app, reads-in, reads-var}
 use Rattle.terms.proofs.Builds.{onto, onto-snoc, onto-agree, build-none, build-some, Remaining, remaining-begins, remaining-reads}
 use Rattle.terms.proofs.Builds.{remaining-on, remaining-stops, remaining-ends}
@@ -32,7 +32,7 @@ use Rattle.terms.proofs.Builds.{remaining-on, remaining-stops, remainin
 
 module _ (I W J X : List ℕ) (m new : Mark) (g : Good I W m) (h : Grown I W J X m new) where
   grown-at : (i : ℕ) → i < m .terms → getD (made I W m) i (var 0) ≡ getD (made J X new) i (var 0)
-  grown-at i l = sym (getD-grown I W J X m g (h .same) (new .terms) i (h .more) l)
+  grown-at i l = sym (grown-tree h i l)
 
   tree-in : (x : ℕ) → x ≤ m .terms → treeIn (made I W m) x ≡ treeIn (made J X new) x
   unfolding treeIn
@@ -53,7 +53,7 @@ module _ (S P I W : List ℕ) (m : Mark) (B : List ℕ) (at : ℕ) (q : Buildabl
   build-unbound l e p st =
       let v = stands-var S P at p st l in
       record {
-        grown = grown-self I W m (q .good);
+        grown = grown-refl (q .good);
         makes = ap (λ (t : Tree). build t (boundOf (made I W m) B) (made I W m)) (v .0) ∙ build-none (made I W m) B _ e;
       }
 
@@ -63,7 +63,7 @@ module _ (S P I W : List ℕ) (m : Mark) (B : List ℕ) (at : ℕ) (q : Buildabl
       let v = stands-var S P at p st l in
       let w = q .cells .within (getD P at 0 - SYMBOLS) in
       record {
-        grown = grown-self I W m (q .good);
+        grown = grown-refl (q .good);
         makes = ap (λ (t : Tree). build t (boundOf (made I W m) B) (made I W m)) (v .0) ∙ build-some (made I W m) B _ n;
         there = omega arith;
         after = ap (λ (t : Tree). at + size t) (sym (v .0));
@@ -102,7 +102,7 @@ building-begins S P I W m B at q l count f w n e =
       few = omega arith;
       upto = omega arith;
       beyond = omega arith;
-      grown = grown-self I W m (q .good);
+      grown = grown-refl (q .good);
       long = n;
       first = e;
       args = λ j h. absurd (omega arith);
@@ -140,7 +140,7 @@ module _ (S P I W : List ℕ) (m : Mark) (B : List ℕ) (at c count : ℕ) (J X 
         λ p′ st′. subst (BuiltBy J X L Y new (build p′ (boundOf (made J X new) B) (made J X new)) (place + size p′)) e (f p′ st′) in
         let o = building-reads h in
         record {
-          grown = grown-then I W J X L Y m new k′ (q .grown) (t (o .tree) (o .stands) .grown);
+          grown = grown-trans (q .grown) (t (o .tree) (o .stands) .grown);
           makes = remaining-stops S P b _ _ c count (made J X new) place k (run w 1 k) (q .going p st) h n d (made L Y k′)
               (λ p′ st′. ap (λ (x : Bound). build p′ x (made J X new)) same-bound ∙ t p′ st′ .makes);
         }
@@ -198,7 +198,7 @@ module _ (S P I W : List ℕ) (m : Mark) (B : List ℕ) (at c count : ℕ) (J X 
             few = q .few;
             upto = omega arith;
             beyond = omega arith;
-            grown = grown-then I W J X L Y m new k′ (q .grown) (of-next .grown);
+            grown = grown-trans (q .grown) (of-next .grown);
             long = length-set w (1 + k) n ∙ q .long;
             first = getD-set-other w (1 + k) 0 n 0 (λ x. omega arith) ∙ q .first;
             args = λ j p. elim (ℕ-discrete j k) [
@@ -261,7 +261,7 @@ module _ (S P I W : List ℕ) (m : Mark) (B : List ℕ) (at c count : ℕ) (J X 
           let is : getD (made L Y k′) n (var 0) ≡ treeAt (made J X new) (take (count + 1) w) =
           ap (λ (j : ℕ). getD (made L Y k′) j (var 0)) (t .numbered) ∙ number-is (made L Y k′) _ (omega arith) in
           record {
-            grown = grown-then I W J X L Y m new k′ (q .grown) (t .grown);
+            grown = grown-trans (q .grown) (t .grown);
             makes = a .0 ∙ t .makes ∙ ap (λ (x : Tree). ok x (made L Y k′)) (sym is);
             there = t .there;
             after = a .1;
@@ -270,4 +270,4 @@ module _ (S P I W : List ℕ) (m : Mark) (B : List ℕ) (at c count : ℕ) (J X 
       pub building-full : (n : ℕ) (k′ : Mark) → r ≡ Full n k′ → BuiltAt S P I W L Y m B at (No 60 n k′)
       building-full n k′ e p st =
           let t : Refused Tree J X L Y new kept n k′ = subst (After J X L Y new (treeAt (made J X new) (take (count + 1) w)) kept) e f in
-          record { grown = grown-then I W J X L Y m new k′ (q .grown) (t .grown); makes = to-keep p st .0 ∙ t .makes }
+          record { grown = grown-trans (q .grown) (t .grown); makes = to-keep p st .0 ∙ t .makes }

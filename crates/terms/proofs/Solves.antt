@@ -30,9 +30,10 @@ use Rattle.terms.specs.Collect.{tree}
 use Rattle.terms.specs.Theta.{bindings, Theta, Extendable, Bound, Extended}
 use Rattle.terms.specs.Unify.{Solved, Unsolved}
 use Rattle.terms.specs.Peel.{thetaOf, pairsOf, weighs, peels, Results, Clashes, BindsOne, Finishes, PeeledAs, Solvable, solves, BoundMore}
-use Rattle.terms.specs.Laws.Growth.{grown-then}
+use Rattle.terms.specs.Laws.Growth.{grown-trans}
 use Rattle.terms.specs.Laws.Zeros.{getD-zeros}
-use Rattle.terms.proofs.Turns.{Any, any-bindings, any-pairs, theta-grown, pairs-grown, cells-grown}
+use Rattle.terms.specs.Laws.Theta.{bindings-grown, theta-grown}
+use Rattle.terms.proofs.Turns.{Any, any-bindings, any-pairs, pairs-grown}
 
 -- a cell that is not zero is a binding
 pub cell-bound : (M : Made) (cs : List ℕ) (v x : ℕ) → (getD cs x 0 ≡ 0 → ⊥) → HasBinding (v + x) (bindings M cs v)
@@ -111,8 +112,8 @@ module _ (I W : List ℕ) (m : Mark) (theta map memo P seen : List ℕ) (w : ℕ
         let f : Finishes I W J X m memo′ K new = subst (PeeledAs I W J X m memo′ P′ K) e d in
         record {
           grown = f .grown;
-          makes = peeled-to finished new (f .makes) n ∙ ap (λ (ζ : List Binding). ok (some ζ) (made J X new)) (sym (theta-grown I W J X m new (q .peelable .good) (f .grown) theta (q .peelable .cells)));
-          cells = cells-grown I W J X m new (q .peelable .good) (f .grown) theta (q .peelable .cells);
+          makes = peeled-to finished new (f .makes) n ∙ ap (λ (ζ : List Binding). ok (some ζ) (made J X new)) (sym (bindings-grown (f .grown) (q .peelable .cells)));
+          cells = theta-grown (f .grown) (q .peelable .cells);
         }
 
     pub round-apart : (new : Mark) → r ≡ Clash new → (n : ℕ) → Unsolved I W J X m theta (solves (suc n) I W m theta P w) new
@@ -148,10 +149,10 @@ module _ (I W : List ℕ) (m : Mark) (theta map memo P seen : List ℕ) (w : ℕ
           zero-or (suc c) h = absurd (h (λ z. omega arith))
 
       cells : Theta mid theta
-      cells = cells-grown I W J X m mid (q .peelable .good) (one .grown) theta (q .peelable .cells)
+      cells = theta-grown (one .grown) (q .peelable .cells)
 
       same-theta : thetaOf J X mid theta ≡ θ
-      same-theta = theta-grown I W J X m mid (q .peelable .good) (one .grown) theta (q .peelable .cells)
+      same-theta = bindings-grown (one .grown) (q .peelable .cells)
 
       pub round-extends : (wiped : List ℕ) → wiped ≡ memo → Extendable J X mid theta map wiped x u
       round-extends wiped z =
@@ -169,7 +170,7 @@ module _ (I W : List ℕ) (m : Mark) (theta map memo P seen : List ℕ) (w : ℕ
         pub bind-full : (row : ℕ) (new : Mark) → g ≡ NoRoom row new → (n : ℕ) → Refused (Option (List Binding)) I W G Y m (solves (suc n) I W m theta P w) row new
         bind-full row new z n =
             let f : Refused (List Binding) J X G Y mid (replace x t (thetaOf J X mid theta) (made J X mid)) row new × (length theta′ ≡ VARIABLES) = subst (Extended J X G Y mid theta′ x u _) z b in
-            record { grown = grown-then I W J X G Y m mid new (one .grown) (f .0 .grown); makes = left n ∙ then-refuse _ 60 row (made G Y new) _ (f .0 .makes) }
+            record { grown = grown-trans (one .grown) (f .0 .grown); makes = left n ∙ then-refuse _ 60 row (made G Y new) _ (f .0 .makes) }
 
         module _ (new : Mark) (z : g ≡ Ok new) where
           grew : Bound J X G Y mid theta′ x u (replace x t (thetaOf J X mid theta) (made J X mid)) new
@@ -182,7 +183,7 @@ module _ (I W : List ℕ) (m : Mark) (theta map memo P seen : List ℕ) (w : ℕ
               ∙ ap (insert (record { variable = x; value = t })) (of-ok (replace-ok x t (thetaOf J X mid theta) (made J X mid)) (grew .makes) ∙ ap (replaced x t) same-theta)
 
           now-pairs : pairsOf G Y new P′ v ≡ pairsOf J X mid P′ v
-          now-pairs = pairs-grown J X G Y mid new (one .grown .good) (grew .grown) P′ v (one .there)
+          now-pairs = pairs-grown (grew .grown) P′ v (one .there)
 
           goes : (n : ℕ) → solves (suc n) I W m theta P w ≡ solves n G Y new theta′ P′ v
           goes n =
@@ -193,7 +194,7 @@ module _ (I W : List ℕ) (m : Mark) (theta map memo P seen : List ℕ) (w : ℕ
           bind-more l =
               let a = grew .grown .more in
               record {
-                grown = grown-then I W J X G Y m mid new (one .grown) (grew .grown);
+                grown = grown-trans (one .grown) (grew .grown);
                 solvable = record {
                   peelable = record {
                     good = grew .grown .good;

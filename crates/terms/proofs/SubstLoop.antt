@@ -17,7 +17,7 @@ use Rattle.terms.specs.Table.{run, start, argsOf, treeAt, made, Shaped, 
 use Rattle.terms.specs.Subst.{replacement, Known, renumbered, rebuilt, Rebuildable, Knows, substituted, asked, Ready, Done, Substituted}
 use Rattle.terms.specs.Laws.Runs.{run-length, run-at, run-same}
 use Rattle.terms.specs.Laws.Tables.{last-or, length-trees, tree-app}
-use Rattle.terms.specs.Laws.Growth.{getD-grown, grown-self, grown-then}
+use Rattle.terms.specs.Laws.Growth.{grown-tree, grown-refl, grown-trans}
 use Rattle.terms.specs.Laws.Terms.{args-more, args-none, node-rise, node-narrow, node-within, node-inside, term-app, args-below}
 use Rattle.terms.specs.Laws.Theta.{replacement-grown}
 use Rattle.terms.proofs.Gathers.{length-renumbered, getD-renumbered, args-renumbered}
@@ -50,7 +50,7 @@ looping-begins I W old map memo id s r b h =
       begins = b;
       ends = refl;
       small = h;
-      grown = grown-self I W old (r .good);
+      grown = grown-refl (r .good);
       knows = r .knows;
       keeps = λ i p. p;
       long = refl;
@@ -78,10 +78,10 @@ module _ (I W : List ℕ) (old : Mark) (map memo : List ℕ) (id s e : ℕ) (J X
   arg-below k p q = args-below I W old (l .ready .good) id (l .ready .there) s (l .begins) (l .small) k p (let b = l .ends in omega arith)
 
   grown-at : (i : ℕ) → i < old .terms → getD (made J X m) i (var 0) ≡ getD (made I W old) i (var 0)
-  grown-at i h = getD-grown I W J X old (l .ready .good) (l .grown .same) (m .terms) i (l .grown .more) h
+  grown-at i h = grown-tree (l .grown) i h
 
   same-replacement : replacement (made J X m) map ≡ replacement (made I W old) map
-  same-replacement = replacement-grown I W J X old m (l .ready .good) (l .grown .same) (l .grown .more) map (l .ready .bound)
+  same-replacement = replacement-grown (l .grown) map (l .ready .bound)
 
   module _ (h : at < e) where
     pub arg-in : at < length X
@@ -129,7 +129,7 @@ module _ (I W : List ℕ) (old : Mark) (map memo : List ℕ) (id s e : ℕ) (J X
           begins = l .begins;
           ends = l .ends;
           small = l .small;
-          grown = grown-then I W J X K Y old m new (l .grown) (d .stored .grown);
+          grown = grown-trans (l .grown) (d .stored .grown);
           knows = λ i p. subst (λ (τ : ℕ → Tree). Knows (made K Y new) τ memo″ i) same-replacement (d .knows i p);
           keeps = λ i p. d .keeps i (l .keeps i p);
           long = q ∙ l .long;
@@ -145,7 +145,7 @@ module _ (I W : List ℕ) (old : Mark) (map memo : List ℕ) (id s e : ℕ) (J X
     looping-full : (K Y : List ℕ) (row : ℕ) (new : Mark) → Refused Tree J X K Y m (asked J X m map (getD X at 0)) row new → Refused Tree I W K Y old (asked I W old map id) row new
     looping-full K Y row new d =
         record {
-          grown = grown-then I W J X K Y old m new (l .grown) (d .grown);
+          grown = grown-trans (l .grown) (d .grown);
           makes = left-split ∙ makes-stop (made J X m) _ _ (λ n. keep (substituted I W old map id) n) 60 row (made K Y new) (ap (λ (u : Tree). make u (made J X m)) (sym call-tree) ∙ d .makes);
         }
 
@@ -230,7 +230,7 @@ module _ (I W : List ℕ) (old : Mark) (map memo : List ℕ) (id s e : ℕ) (J X
       pub end-full : (row : ℕ) (new : Mark) → r ≡ Full row new → Refused Tree I W K Y old (asked I W old map id) row new
       end-full row new p =
           let f : Refused Tree J X K Y m (keep (treeAt (made J X m) (rebuilt X memo′ s e)) (made J X m)) row new = subst (After J X K Y m (treeAt (made J X m) (rebuilt X memo′ s e)) _) p d in
-          record { grown = grown-then I W J X K Y old m new (l .grown) (f .grown); makes = asked-keeps ∙ f .makes }
+          record { grown = grown-trans (l .grown) (f .grown); makes = asked-keeps ∙ f .makes }
 
       pub end-term : (n : ℕ) (new : Mark) → r ≡ Term n new → Done I W K Y old map memo (set memo′ id (n + 1)) id n new
       end-term n new p =
@@ -243,16 +243,16 @@ module _ (I W : List ℕ) (old : Mark) (map memo : List ℕ) (id s e : ℕ) (J X
           let inn : id < length memo′ = (let g = l .long in let h = l .ready .inside in omega arith) in
           let num : n ≡ number (made K Y new) (substituted I W old map id) = f .numbered ∙ ap (number (made K Y new)) tree-rebuilt in
           let at-n : getD (made K Y new) n (var 0) ≡ substituted I W old map id = ap (λ (q : ℕ). getD (made K Y new) q (var 0)) num ∙ number-is (made K Y new) _ (omega arith) in
-          let here : getD (made K Y new) id (var 0) ≡ getD (made I W old) id (var 0) = getD-grown J X K Y m (l .grown .good) (f .grown .same) (new .terms) id b (omega arith) ∙ grown-at id c in
+          let here : getD (made K Y new) id (var 0) ≡ getD (made I W old) id (var 0) = grown-tree (f .grown) id (omega arith) ∙ grown-at id c in
           record {
             stored = record {
-              grown = grown-then I W J X K Y old m new (l .grown) (f .grown);
+              grown = grown-trans (l .grown) (f .grown);
               makes = asked-keeps ∙ f .makes ∙ ap (λ (u : Tree). ok u (made K Y new)) tree-rebuilt;
               numbered = num;
               there = there;
             };
             knows = knows-set (made K Y new) σ memo′ id n inn (omega arith) (omega arith) (at-n ∙ ap (sub σ) (sym here))
-                (λ i q. knows-grown J X K Y m new (l .grown .good) (f .grown) σ memo′ i q (l .knows i q));
+                (λ i q. knows-grown J X K Y m new (f .grown) σ memo′ i q (l .knows i q));
             known = known-set memo′ id n inn;
             keeps = λ i q. keeps-set memo′ id n inn i (l .keeps i q);
           }

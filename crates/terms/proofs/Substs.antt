@@ -14,10 +14,10 @@ use Rattle.rules.specs.Tree.{Tree, var, sub}
 use Rattle.rules.specs.Laws.Tree.{sub-closed}
 use Rattle.rules.specs.Store.{Made}
 use Rattle.terms.specs.declared.store.Mark.{Mark}
-use Rattle.terms.specs.Table.{FLAGS, start, made, Good, Grown}
+use Rattle.terms.specs.Table.{FLAGS, start, made, Grown}
 use Rattle.terms.specs.Subst.{replacement, image, Knows, substituted, Ready, Done}
 use Rattle.terms.specs.Laws.Tables.{length-trees}
-use Rattle.terms.specs.Laws.Growth.{getD-grown}
+use Rattle.terms.specs.Laws.Growth.{grown-tree}
 use Rattle.terms.specs.Laws.Terms.{no-variable, term-var}
 use Rattle.terms.specs.Laws.Numbers.{there-stored}
 
@@ -43,8 +43,8 @@ keeps-set memo id v a i p = elim (ℕ-discrete i id) [
 pub known-set : (memo : List ℕ) (id v : ℕ) → id < length memo → 0 < getD (set memo id (v + 1)) id 0
 known-set memo id v a = rw (getD-set-same memo id (v + 1) 0 a) (omega arith)
 
-pub knows-grown : (J X K Y : List ℕ) (m new : Mark) → Good J X m → Grown J X K Y m new → (σ : ℕ → Tree) (memo : List ℕ) (i : ℕ) → 0 < getD memo i 0 → Knows (made J X m) σ memo i → Knows (made K Y new) σ memo i
-knows-grown J X K Y m new g w σ memo i p k =
+pub knows-grown : (J X K Y : List ℕ) (m new : Mark) → Grown J X K Y m new → (σ : ℕ → Tree) (memo : List ℕ) (i : ℕ) → 0 < getD memo i 0 → Knows (made J X m) σ memo i → Knows (made K Y new) σ memo i
+knows-grown J X K Y m new w σ memo i p k =
     let a = length-trees J X (m .terms) in
     let b = length-trees K Y (new .terms) in
     let o = k .old in
@@ -53,7 +53,7 @@ knows-grown J X K Y m new g w σ memo i p k =
     record {
       old = omega arith;
       new = omega arith;
-      is = getD-grown J X K Y m g (w .same) (new .terms) (getD memo i 0 - 1) l (omega arith) ∙ k .is ∙ ap (sub σ) (sym (getD-grown J X K Y m g (w .same) (new .terms) i l (omega arith)));
+      is = grown-tree w (getD memo i 0 - 1) (omega arith) ∙ k .is ∙ ap (sub σ) (sym (grown-tree w i (omega arith)));
     }
 
 -- The result is there already --------------------------------------------------------------------------------------------------------------

@@ -15,16 +15,15 @@ use Rattle.meaning.specs.Unification.Peel.{WithinBindings, lighter}
 use Rattle.terms.specs.declared.store.Mark.{Mark}
 use Rattle.terms.specs.declared.peel.Sides.{Sides}
 use Rattle.terms.specs.declared.peel.Next.{Next}
-use Rattle.terms.specs.Table.{made, Good, Grown, Refused}
+use Rattle.terms.specs.Table.{made, Grown, Refused}
 use Rattle.terms.specs.Collect.{tree}
 use Rattle.terms.specs.Subst.{Knows}
 use Rattle.terms.specs.Pairs.{waits}
-use Rattle.terms.specs.Theta.{Theta}
 use Rattle.terms.specs.Peel.{thetaOf, pairsOf, Sideable, sided, BothSides, NoSides, Sided, Lookable, Onto, same, more, OntoPairs, Crowded}
 use Rattle.terms.specs.Peel.{BindsHere, Looked, Peelable, weighs, peels, Lighter, Results, Clashes, BindsOne}
 use Rattle.terms.specs.Laws.Tables.{length-trees}
-use Rattle.terms.specs.Laws.Theta.{replacement-grown, along-is, bindings-more}
-use Rattle.terms.specs.Laws.Growth.{getD-more}
+use Rattle.terms.specs.Laws.Theta.{replacement-grown, along-is, bindings-grown, theta-grown}
+use Rattle.terms.specs.Laws.Growth.{grown-tree}
 use Rattle.terms.proofs.Waits.{waits-more}
 use Rattle.terms.proofs.Looks.{length-waits, onward-agree, onward-clash, onward-binds, onward-parts, onward-crowd}
 use Rattle.terms.specs.declared.peel.Sides.the-variants as sides
@@ -45,17 +44,9 @@ unfolding WithinPairs
 any-pairs [] = tt
 any-pairs (p ∷ ps) = (λ v o. tt, λ v o. tt, any-pairs ps)
 
--- Tables that grow -------------------------------------------------------------------------------------------------------------------
-
-module _ (I W J X : List ℕ) (old new : Mark) (g : Good I W old) (w : Grown I W J X old new) where
-  pub theta-grown : (theta : List ℕ) → Theta old theta → thetaOf J X new theta ≡ thetaOf I W old theta
-  theta-grown theta c = bindings-more (made I W old) (made J X new) (old .terms) theta 0 (getD-more I W J X old new g w) (c .bound)
-
-  pub pairs-grown : (P : List ℕ) (n : ℕ) → ((k : ℕ) → k < 2 * n → getD P k 0 < old .terms) → pairsOf J X new P n ≡ pairsOf I W old P n
-  pairs-grown P n h = waits-more (made I W old) (made J X new) (old .terms) P n (getD-more I W J X old new g w) h
-
-  pub cells-grown : (theta : List ℕ) → Theta old theta → Theta new theta
-  cells-grown theta c = let l = w .more in record { long = c .long; bound = λ v. let x = c .bound v in omega arith }
+-- pairs that wait are those that waited
+pub pairs-grown : {I W J X : List ℕ} {old new : Mark} → Grown I W J X old new → (P : List ℕ) (n : ℕ) → ((k : ℕ) → k < 2 * n → getD P k 0 < old .terms) → pairsOf J X new P n ≡ pairsOf I W old P n
+pairs-grown {I} {W} {J} {X} {old} {new} w P n h = waits-more (made I W old) (made J X new) (old .terms) P n (grown-tree w) h
 
 -- The last pair ----------------------------------------------------------------------------------------------------------------------
 
@@ -125,13 +116,13 @@ module _ (I W : List ℕ) (m : Mark) (theta memo P seen : List ℕ) (w : ℕ) (q
       L = look (tree J X new a) (tree J X new b)
 
       same-theta : θ′ ≡ θ
-      same-theta = theta-grown I W J X m new (q .0 .good) (both .grown) theta (q .0 .cells)
+      same-theta = bindings-grown (both .grown) (q .0 .cells)
 
       there-old : (k : ℕ) → k < 2 * (w - 1) → getD P k 0 < m .terms
       there-old k h = q .0 .there k (omega arith)
 
       same-pairs : ps′ ≡ ps
-      same-pairs = pairs-grown I W J X m new (q .0 .good) (both .grown) P (w - 1) there-old
+      same-pairs = pairs-grown (both .grown) P (w - 1) there-old
 
       left-tree : tree J X new a ≡ sub (along θ) (tree I W m s)
       left-tree = both .left ∙ ap (λ (σ : ℕ → Tree). sub σ (tree I W m s)) (sym (along-is (made I W m) theta))
@@ -236,11 +227,11 @@ module _ (I W : List ℕ) (m : Mark) (theta memo P seen : List ℕ) (w : ℕ) (q
                 grown = both .grown;
                 peelable = record {
                   good = both .grown .good;
-                  cells = cells-grown I W J X m new (q .0 .good) (both .grown) theta (q .0 .cells);
+                  cells = theta-grown (both .grown) (q .0 .cells);
                   settled = subst Settled (sym same-theta) (q .0 .settled);
                   memos = omega arith;
                   knows = λ i o. subst (λ (τ : ℕ → Tree). Knows (made J X new) τ memo′ i)
-                      (sym (replacement-grown I W J X m new (q .0 .good) (both .grown .same) (both .grown .more) theta (q .0 .cells .bound))) (both .knows i o);
+                      (sym (replacement-grown (both .grown) theta (q .0 .cells .bound))) (both .knows i o);
                   wide = q .0 .wide;
                   no-seen = q .0 .no-seen;
                   many = f ∙ q .0 .many;

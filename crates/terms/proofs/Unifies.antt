@@ -23,7 +23,7 @@ use Rattle.terms.specs.Pairs.{waits}
 use Rattle.terms.specs.Theta.{bindings, Zeros}
 use Rattle.terms.specs.Unify.{Solved, Unsolved, Unifiable}
 use Rattle.terms.specs.Peel.{thetaOf, pairsOf, Solvable, solves, BoundMore, Rounded, SolvedAs}
-use Rattle.terms.specs.Laws.Growth.{grown-self, grown-then}
+use Rattle.terms.specs.Laws.Growth.{grown-refl, grown-trans}
 use Rattle.terms.specs.Laws.Zeros.{getD-zeros}
 use Rattle.terms.specs.Laws.Theta.{bindings-none}
 use Rattle.terms.specs.declared.unify.Round.the-variants as round
@@ -44,7 +44,7 @@ pub record Solving (I W : List ℕ) (old : Mark) (count : ℕ) (theta map memo P
 pub solving-begins : (I W : List ℕ) (old : Mark) (count : ℕ) (theta map memo P seen : List ℕ) (w : ℕ) → Solvable I W old theta map memo P seen w
     → Solving I W old count theta map memo P seen w I W theta map memo P seen old w count
 solving-begins I W old count theta map memo P seen w q =
-    record { grown = grown-self I W old (q .peelable .good); solvable = q; left = refl; long-theta = refl; long-pairs = refl; same-map = refl; same-memo = refl; same-seen = refl }
+    record { grown = grown-refl (q .peelable .good); solvable = q; left = refl; long-theta = refl; long-pairs = refl; same-map = refl; same-memo = refl; same-seen = refl }
 
 module _ (I W : List ℕ) (old : Mark) (count : ℕ) (theta map memo P seen : List ℕ) (w : ℕ) (J X theta′ map′ memo′ P′ seen′ : List ℕ) (m : Mark) (v rounds : ℕ)
     (l : Solving I W old count theta map memo P seen w J X theta′ map′ memo′ P′ seen′ m v rounds)
@@ -55,17 +55,17 @@ module _ (I W : List ℕ) (old : Mark) (count : ℕ) (theta map memo P seen : Li
   pub solving-found : (new : Mark) → r ≡ round.Found new → Solved I W G Y old theta″ K new
   solving-found new e =
       let f : (n : ℕ) → Solved J X G Y m theta″ (solves (suc n) J X m theta′ P′ v) new = subst (Rounded J X G Y m theta′ theta″ map′ memo′ P′ P″ seen′ v) e d in
-      record { grown = grown-then I W J X G Y old m new (l .grown) (f 0 .grown); makes = l .left ∙ f rounds .makes; cells = f 0 .cells }
+      record { grown = grown-trans (l .grown) (f 0 .grown); makes = l .left ∙ f rounds .makes; cells = f 0 .cells }
 
   pub solving-apart : (new : Mark) → r ≡ round.Apart new → Unsolved I W G Y old theta″ K new
   solving-apart new e =
       let f : (n : ℕ) → Unsolved J X G Y m theta″ (solves (suc n) J X m theta′ P′ v) new = subst (Rounded J X G Y m theta′ theta″ map′ memo′ P′ P″ seen′ v) e d in
-      record { grown = grown-then I W J X G Y old m new (l .grown) (f 0 .grown); makes = l .left ∙ f rounds .makes }
+      record { grown = grown-trans (l .grown) (f 0 .grown); makes = l .left ∙ f rounds .makes }
 
   pub solving-full : (row : ℕ) (new : Mark) → r ≡ round.Full row new → Refused (Option (List Binding)) I W G Y old K row new
   solving-full row new e =
       let f : (n : ℕ) → Refused (Option (List Binding)) J X G Y m (solves (suc n) J X m theta′ P′ v) row new = subst (Rounded J X G Y m theta′ theta″ map′ memo′ P′ P″ seen′ v) e d in
-      record { grown = grown-then I W J X G Y old m new (l .grown) (f 0 .grown); makes = l .left ∙ f rounds .makes }
+      record { grown = grown-trans (l .grown) (f 0 .grown); makes = l .left ∙ f rounds .makes }
 
   module _ (n : ℕ) (new : Mark) (e : r ≡ round.More n new) where
     more : BoundMore J X G Y m theta′ theta″ map′ memo′ P′ P″ seen′ v n new
@@ -76,7 +76,7 @@ module _ (I W : List ℕ) (old : Mark) (count : ℕ) (theta map memo P seen : Li
     unfolding solve
     solving-ends z =
         record {
-          grown = grown-then I W J X G Y old m new (l .grown) (more .grown);
+          grown = grown-trans (l .grown) (more .grown);
           makes = l .left ∙ more .makes rounds ∙ ap (λ (k : ℕ). solves k G Y new theta″ P″ n) z;
         }
 
@@ -85,7 +85,7 @@ module _ (I W : List ℕ) (old : Mark) (count : ℕ) (theta map memo P seen : Li
     solving-on z map″ memo″ seen″ s a b =
         let c : rounds ≡ suc (rounds - 1) = omega arith in
         record {
-          grown = grown-then I W J X G Y old m new (l .grown) (more .grown);
+          grown = grown-trans (l .grown) (more .grown);
           solvable =
               subst (λ (x : List ℕ). Solvable G Y new theta″ x memo″ P″ seen″ n) (sym (s .0))
               (subst (λ (x : List ℕ). Solvable G Y new theta″ map′ x P″ seen″ n) (sym (s .1)) (subst (λ (x : List ℕ). Solvable G Y new theta″ map′ memo′ P″ x n) (sym (s .2)) (more .solvable)));

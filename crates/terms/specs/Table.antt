@@ -130,6 +130,7 @@ pub record Same (I W J X : List ℕ) (m : Mark) : Type 0 where
 
 -- the tables went from I W at the mark old to J X at the mark new: more terms, and the old ones as they were
 pub record Grown (I W J X : List ℕ) (old new : Mark) : Type 0 where
+  pub was : Good I W old
   pub good : Good J X new
   pub more : old .terms ≤ new .terms
   pub longer : old .words ≤ new .words

@@ -18,7 +18,7 @@ use Rattle.terms_main.specs.declared.Placed.the-variants.{Term, Full}
 use Rattle.terms.specs.Table.{start, isVar, isApp, Node, Good, Grown, Stored, After}
 use Rattle.terms_main.specs.Parts.{There, ReadAs}
 use Rattle.terms.specs.Unify.{Scratch, Unifiable}
-use Rattle.terms.specs.Laws.Growth.{grown-then}
+use Rattle.terms.specs.Laws.Growth.{grown-trans}
 use Rattle.terms.specs.Laws.Terms.{node-inside, args-below, variables-few}
 
 -- Answers of the store ---------------------------------------------------------------------------------------------------------
@@ -68,9 +68,9 @@ sooner I W J X m at (Full new) h = h
 pub both-read : (I W J X K Y L Z : List ℕ) (m n l : Mark) (at a p b q : ℕ) (r : Placed) → There I W J X m a n × (at + 1 ≤ p) → There J X K Y n b l × (p ≤ q)
     → ReadAs K Y L Z l q r → ReadAs I W L Z m at r
 both-read I W J X K Y L Z m n l at a p b q (Term id next new) f g h =
-    (record { grown = grown-then I W K Y L Z m l new (grown-then I W J X K Y m n l (f .0 .grown) (g .0 .grown)) (h .0 .grown); there = h .0 .there }, omega (arith, f .1, g .1, h .1))
+    (record { grown = grown-trans (grown-trans (f .0 .grown) (g .0 .grown)) (h .0 .grown); there = h .0 .there }, omega (arith, f .1, g .1, h .1))
 both-read I W J X K Y L Z m n l at a p b q (Full new) f g h =
-    grown-then I W K Y L Z m l new (grown-then I W J X K Y m n l (f .0 .grown) (g .0 .grown)) h
+    grown-trans (grown-trans (f .0 .grown) (g .0 .grown)) h
 
 -- what unification asks of a term that was there and of one that was read
 pub unifies-both : (I W J X : List ℕ) (m n : Mark) (s t : ℕ) (theta map memo pairs seen : List ℕ) → s < m .terms → There I W J X m t n → Scratch theta map memo pairs seen

@@ -25,7 +25,7 @@ use Rattle.terms.specs.Laws.Growth.{start-same, node-same, made-same, sa
 
 module _ (I W J X : List ℕ) (m : Mark) (g : Good I W m) (h : Good J X m) (s : Same I W J X m) where
   keys : (i : ℕ) → i < m .terms → bucket J X i ≡ bucket I W i
-  keys i l = ap hash (node-same I W J X m g s i l)
+  keys i l = ap hash (node-same g s i l)
 
   ends-cell : (i : ℕ) → i < TERMS → getD J i 0 ≡ getD I i 0
   ends-cell i l = elim (decLt i (m .terms)) [ yes p ↦ s .ends i p | no q ↦ h .no-ends i (omega arith) l ∙ sym (g .no-ends i (omega arith) l) ]
@@ -38,7 +38,7 @@ module _ (I W J X : List ℕ) (m : Mark) (g : Good I W m) (h : Good J X m) (s : 
 
   flags-cell : (i : ℕ) → i < TERMS → getD J (FLAGS + i) 0 ≡ getD I (FLAGS + i) 0
   flags-cell i l = elim (decLt i (m .terms)) [
-    | yes p ↦ h .flags i p ∙ ap (λ (M : Made). flag (isOpen (getD M i (var 0)))) (made-same I W J X m g s) ∙ sym (g .flags i p)
+    | yes p ↦ h .flags i p ∙ ap (λ (M : Made). flag (isOpen (getD M i (var 0)))) (made-same g s) ∙ sym (g .flags i p)
     | no q ↦ h .no-flags i (omega arith) l ∙ sym (g .no-flags i (omega arith) l)
   ]
 
@@ -138,11 +138,11 @@ module _ (I W J X : List ℕ) (m k : Mark) (g : Good I W m) (h : Good J X k) (e 
 
 module _ (I W J X : List ℕ) (old m : Mark) (g : Good I W old) (h : Grown I W J X old m) where
   pub part-grown : Part J X m old
-  part-grown = record { good = h .good; fewer = h .more; ends = g .ends ∙ sym (start-same I W J X old g (h .same) (old .terms) (omega arith)) }
+  part-grown = record { good = h .good; fewer = h .more; ends = g .ends ∙ sym (start-same g (h .same) (old .terms) (omega arith)) }
 
   -- the tables are those that were
   pub back-same : (K Y : List ℕ) → Back J X K Y old → (K ≡ I) × (Y ≡ W)
-  back-same K Y b = tables-same I W K Y old g (b .good) (same-then I W J X K Y old old (h .same) (b .same) (omega arith) (omega arith))
+  back-same K Y b = tables-same I W K Y old g (b .good) (same-then (h .same) (b .same) (omega arith) (omega arith))
 
 -- Bindings -------------------------------------------------------------------------------------------------------------------------
 

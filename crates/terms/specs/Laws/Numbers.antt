@@ -11,7 +11,7 @@ use Rattle.rules.specs.Laws.Store.{Apart, Closed, Ins, number-is, number-of, ma
 use Rattle.terms.specs.declared.store.Mark.{Mark}
 use Rattle.terms.specs.Table.{argsOf, treeAt, made, Shaped, isVar, isApp, Good, Stored}
 use Rattle.terms.specs.Laws.Tables.{length-trees, tree-here, tree-app, tree-var, not-var-app}
-use Rattle.terms.specs.Laws.Growth.{grown-self}
+use Rattle.terms.specs.Laws.Growth.{grown-refl}
 
 number-there : (M : Made) → Apart M → (i : ℕ) → i < length M → (t : Tree) → getD M i (var 0) ≡ t → number M t < length M
 number-there M a i h t e = let z = number-of M a i h t e in omega arith
@@ -41,7 +41,7 @@ module _ (I W : List ℕ) (m : Mark) (g : Good I W m) where
   there-stored i h t e =
       let z = length-trees I W (m .terms) in
       record {
-        grown = grown-self I W m g;
+        grown = grown-refl g;
         makes = make-old (made I W m) made-closed t (number-there (made I W m) (g .apart) i (omega arith) t e);
         numbered = sym (number-of (made I W m) (g .apart) i (omega arith) t e);
         there = h;

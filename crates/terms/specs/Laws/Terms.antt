@@ -8,7 +8,7 @@ use native.Mathlib.Nat.{not-suc-le-zero, zero-lt-suc}
 use lib.ListN.{length, getD}
 use borrow.Author.Tests.{eqb-true}
 use Rattle.rules.specs.Limits.{SYMBOLS, VARIABLES}
-use Rattle.rules.specs.Tree.{var, app, none, more, isOpen, Tree, Trees, variables, variablesOf}
+use Rattle.rules.specs.Tree.{var, app, none, more, isOpen, Tree, variables, variablesOf}
 use Rattle.rules.specs.Store.{Made}
 use Rattle.rules.specs.Find.{Set}
 use Rattle.rules.specs.Laws.Tree.{variables-var, variables-app}

@@ -1,21 +1,26 @@
--- Cells of a substitution as bindings: one cell at the front, one at the end, and one that gets a value. Assumes nothing.
+-- Cells of a substitution as bindings: one cell at the front, one at the end, one that gets a value; the replacement that they stand for;
+-- and that trees made later change neither. Assumes nothing.
 use mathlib.Core.Path.{_≡_, refl, sym, ap, _∙_}
-use mathlib.Core.Bool.{Bool, true, false}
+use mathlib.Core.Bool.{Bool, true, false, not, true≢false, false≢true}
 use mathlib.Core.List.{List, [], _∷_, _++_}
 use Prim.Native.Nat.{ℕ, zero, suc, _+_, _-_, _≤_, _<_}
 use native.Mathlib.Omega.{arith}
 use native.Mathlib.Nat.{not-suc-le-zero, le-of-suc-le-suc}
 use lib.ListN.{length, getD, set, replicate}
 use lib.Dec.{eqb}
-use borrow.Author.Tests.{eq-eqb, ne-eqb, lt-ltb, le-ltb, eqb-false}
+use lib.Seq.{ext-getD}
+use borrow.Author.Tests.{eq-eqb, ne-eqb, lt-ltb, le-ltb, eqb-false, eqb-true}
 use Rattle.rules.specs.Tree.{var, Tree}
 use Rattle.rules.specs.Store.{Made}
 use Rattle.rules.specs.Unify.{Binding, insert, along}
+use Rattle.rules.specs.Find.{any}
+use Rattle.rules.specs.Reference.{isBound}
+use Rattle.rules.specs.Laws.Store.{Apart}
 use Rattle.terms.specs.declared.store.Mark.{Mark}
-use Rattle.terms.specs.Theta.{bindings}
-use Rattle.terms.specs.Table.{made, Good, Same}
+use Rattle.terms.specs.Theta.{bindings, Theta, Zeros}
+use Rattle.terms.specs.Table.{made, Grown}
 use Rattle.terms.specs.Subst.{replacement}
-use Rattle.terms.specs.Laws.Growth.{getD-grown}
+use Rattle.terms.specs.Laws.Growth.{grown-tree}
 use Rattle.terms.specs.declared.unify.Round.the-variants as round
 
 -- what the cell c of the variable v stands for
@@ -115,15 +120,15 @@ unfolding replacement
 replacement-none M map v e = ap (λ (b : Bool). elim b [ true ↦ var v | false ↦ getD M (getD map v 0 - 1) (var 0) ]) (eq-eqb (getD map v 0) 0 e)
 
 -- a replacement reads old trees alone
-pub replacement-grown : (I W J X : List ℕ) (old m : Mark) → Good I W old → Same I W J X old → old .terms ≤ m .terms → (map : List ℕ) → ((v : ℕ) → getD map v 0 ≤ old .terms)
-    → replacement (made J X m) map ≡ replacement (made I W old) map
+pub replacement-grown : {I W J X : List ℕ} {old new : Mark} → Grown I W J X old new → (map : List ℕ) → ((v : ℕ) → getD map v 0 ≤ old .terms)
+    → replacement (made J X new) map ≡ replacement (made I W old) map
 unfolding replacement
-replacement-grown I W J X old m g s l map b = λ i v. go v (eqb (getD map v 0) 0) refl i
+replacement-grown {I} {W} {J} {X} {old} {new} w map b = λ i v. go v (eqb (getD map v 0) 0) refl i
   where
     go : (v : ℕ) (c : Bool) → eqb (getD map v 0) 0 ≡ c
-        → _≡_ {A = Tree} (elim c [ true ↦ var v | false ↦ getD (made J X m) (getD map v 0 - 1) (var 0) ]) (elim c [ true ↦ var v | false ↦ getD (made I W old) (getD map v 0 - 1) (var 0) ])
+        → _≡_ {A = Tree} (elim c [ true ↦ var v | false ↦ getD (made J X new) (getD map v 0 - 1) (var 0) ]) (elim c [ true ↦ var v | false ↦ getD (made I W old) (getD map v 0 - 1) (var 0) ])
     go v true e = refl
-    go v false e = let z = eqb-false (getD map v 0) 0 e in let y = b v in getD-grown I W J X old g s (m .terms) (getD map v 0 - 1) l (omega arith)
+    go v false e = let z = eqb-false (getD map v 0) 0 e in let y = b v in grown-tree w (getD map v 0 - 1) (omega arith)
 
 -- the cell of a says nothing of another variable
 along-skip : (M : Made) (c : ℕ) (cs : List ℕ) (a v : ℕ) → (v ≡ a → ⊥) → along (bindings M (c ∷ cs) a) v ≡ along (bindings M cs (suc a)) v
@@ -179,3 +184,80 @@ pub bindings-none : (M : Made) (n v : ℕ) → bindings M (replicate n 0) v ≡ 
 unfolding bindings
 bindings-none M zero v = refl
 bindings-none M (suc n) v = bindings-none M n (suc v)
+
+pub bindings-zeros : (M : Made) (theta : List ℕ) → Zeros theta → bindings M theta 0 ≡ []
+bindings-zeros M theta z = ap (λ (c : List ℕ). bindings M c 0) z ∙ bindings-none M (length theta) 0
+
+-- Tables that grow ---------------------------------------------------------------------------------------------------------------------
+
+module _ {I W J X : List ℕ} {old new : Mark} (w : Grown I W J X old new) {theta : List ℕ} (c : Theta old theta) where
+  pub bindings-grown : bindings (made J X new) theta 0 ≡ bindings (made I W old) theta 0
+  bindings-grown = bindings-more (made I W old) (made J X new) (old .terms) theta 0 (grown-tree w) (c .bound)
+
+  pub theta-grown : Theta new theta
+  theta-grown = let l = w .more in record { long = c .long; bound = λ v. let x = c .bound v in omega arith }
+
+-- What is bound ------------------------------------------------------------------------------------------------------------------------
+
+-- the cells from variable a on bind none below
+bound-under : (M : Made) (theta : List ℕ) (a v : ℕ) → v < a → isBound (bindings M theta a) v ≡ false
+unfolding isBound any bindings
+bound-under M [] a v l = refl
+bound-under M (c ∷ cs) a v l = go (eqb c 0) (bound-under M cs (suc a) v (omega arith))
+  where
+    go : (t : Bool) → isBound (bindings M cs (suc a)) v ≡ false → isBound (elim t [ true ↦ bindings M cs (suc a) | false ↦ binding M a c ∷ bindings M cs (suc a) ]) v ≡ false
+    go true u = u
+    go false u = ap (λ (b : Bool). elim b [ true ↦ true | false ↦ isBound (bindings M cs (suc a)) v ]) (ne-eqb a v (λ q. omega arith)) ∙ u
+
+bound-from : (M : Made) (theta : List ℕ) (a k v : ℕ) → v ≡ a + k → isBound (bindings M theta a) v ≡ not (eqb (getD theta k 0) 0)
+unfolding isBound any bindings
+bound-from M [] a k v e = refl
+bound-from M (c ∷ cs) a zero v e = go (eqb c 0) (bound-under M cs (suc a) v (omega arith))
+  where
+    go : (t : Bool) → isBound (bindings M cs (suc a)) v ≡ false
+        → isBound (elim t [ true ↦ bindings M cs (suc a) | false ↦ binding M a c ∷ bindings M cs (suc a) ]) v ≡ not t
+    go true u = u
+    go false u = ap (λ (b : Bool). elim b [ true ↦ true | false ↦ isBound (bindings M cs (suc a)) v ]) (eq-eqb a v (omega arith))
+bound-from M (c ∷ cs) a (suc k) v e = go (eqb c 0) (bound-from M cs (suc a) k v (omega arith))
+  where
+    go : (t : Bool) → isBound (bindings M cs (suc a)) v ≡ not (eqb (getD cs k 0) 0)
+        → isBound (elim t [ true ↦ bindings M cs (suc a) | false ↦ binding M a c ∷ bindings M cs (suc a) ]) v ≡ not (eqb (getD cs k 0) 0)
+    go true u = u
+    go false u = ap (λ (b : Bool). elim b [ true ↦ true | false ↦ isBound (bindings M cs (suc a)) v ]) (ne-eqb a v (λ q. omega arith)) ∙ u
+
+-- a variable is bound where its cell is not zero
+pub bindings-bound : (M : Made) (theta : List ℕ) (v : ℕ) → isBound (bindings M theta 0) v ≡ not (eqb (getD theta v 0) 0)
+bindings-bound M theta v = bound-from M theta 0 v v (omega arith)
+
+-- the bindings determine the cells
+cell-one : (M : Made) → Apart M → (v c d : ℕ) → c ≤ length M → d ≤ length M → not (eqb c 0) ≡ not (eqb d 0)
+    → _≡_ {A = Tree} (elim (eqb c 0) [ true ↦ var v | false ↦ getD M (c - 1) (var 0) ]) (elim (eqb d 0) [ true ↦ var v | false ↦ getD M (d - 1) (var 0) ]) → c ≡ d
+unfolding Apart
+cell-one M a v c d l k n e = go (eqb c 0) (eqb d 0) refl refl n e
+  where
+    go : (x y : Bool) → eqb c 0 ≡ x → eqb d 0 ≡ y → not x ≡ not y
+        → _≡_ {A = Tree} (elim x [ true ↦ var v | false ↦ getD M (c - 1) (var 0) ]) (elim y [ true ↦ var v | false ↦ getD M (d - 1) (var 0) ]) → c ≡ d
+    go true true p q z e = eqb-true c 0 p ∙ sym (eqb-true d 0 q)
+    go true false p q z e = absurd (false≢true z)
+    go false true p q z e = absurd (true≢false z)
+    go false false p q z e =
+        let y = eqb-false c 0 p in
+        let x = eqb-false d 0 q in
+        let w = a (c - 1) (d - 1) (omega arith) (omega arith) e in
+        omega arith
+
+pub theta-one : (M : Made) → Apart M → (theta eta : List ℕ) → length theta ≡ length eta → ((v : ℕ) → getD theta v 0 ≤ length M) → ((v : ℕ) → getD eta v 0 ≤ length M)
+    → bindings M theta 0 ≡ bindings M eta 0 → theta ≡ eta
+unfolding replacement
+theta-one M a theta eta l b d e =
+    ext-getD 0 theta eta l (λ v h.
+    cell-one M a v (getD theta v 0) (getD eta v 0) (b v) (d v)
+    (sym (bindings-bound M theta v) ∙ ap (λ (θ : List Binding). isBound θ v) e ∙ bindings-bound M eta v)
+    (sym (along-bindings M theta v) ∙ ap (λ (θ : List Binding). along θ v) e ∙ along-bindings M eta v))
+
+-- one more cell: term id for the variable v
+pub bindings-set : (M : Made) (theta : List ℕ) (v c id : ℕ) → v < length theta → getD theta v 0 ≡ 0 → c ≡ suc id
+    → bindings M (set theta v c) 0 ≡ insert (record { variable = v; value = getD M id (var 0) }) (bindings M theta 0)
+bindings-set M theta v c id l z e =
+    let q : c - 1 ≡ id = omega arith in
+    bindings-insert M theta v c l z (λ k. omega arith) ∙ ap (λ (j : ℕ). insert (record { variable = v; value = getD M j (var 0) }) (bindings M theta 0)) q

@@ -3,7 +3,7 @@ use mathlib.Core.Path.{_∙_}
 use Prim.Native.Nat.{ℕ, _+_, _-_, _<_}
 use lib.ListN.{length}
 use native.Mathlib.Omega.{arith}
-use Rattle.terms.specs.Laws.Growth.{grown-then}
+use Rattle.terms.specs.Laws.Growth.{grown-trans}
 use Rattle.terms_main.proofs.Places.{as-term, as-full, sooner, both-read}
 use borrow.Author.Needs.{needs}
 use borrow.Fn.Kinds.{In}
@@ -103,7 +103,7 @@ read-same-length-8 : (t : ℕ) → read-lts.Need-same-length-8 (cs t) (read-at t
 read-same-length-8 t c = (c .before .before .before .before .before .before .before .read2) .kept .1 .1 .1 .0 ∙ (c .before .before .before .before .before .before .before .before .before .before .before .before .before .before .before .before .before .read) .kept .1 .1 .1 .0
 
 read-returns-4 : (t : ℕ) → read-lts.Need-returns-4 (cs t) (read-at t) read.Post
-read-returns-4 t c = grown-then _ _ _ _ _ _ _ _ _ ((as-term ((c .before .before .before .before .before .before .before .before .before .before .before .before .before .before .before .before .before .before .before .before .before .before .before .before .before .before .before .args) .index .now) ((c .before .before .before .before .before .before .before .before .before .before .before .before .before .before .before .before .before .before .before .before .before .before .before .before .before .before .before .args) .words .now) ((c .before .before .before .before .before .before .before .before .before .before .before .before .before .before .before .before .before .read) .last .1 .1 .0) ((c .before .before .before .before .before .before .before .before .before .before .before .before .before .before .before .before .before .read) .last .1 .1 .1 .0) ((c .before .before .before .before .before .before .before .before .before .before .before .before .before .before .before .before .before .before .before .before .before .before .before .before .before .before .before .args) .mark) ((c .before .before .before .before .before .before .before .before .before .before .before .before .before .before .before .before .before .before .before .before .before .before .before .before .before .before .before .args) .at + 1) ((c .before .before .before .before .before .before .before .before .before .before .before .before .before .before .before .before .before .read) .result) ((c .before .before .before .before .before .before .before .before .before .before .before .before .before .before .before .before .before .read) .ensures) _ _ _ ((c .before .before .before .before .before .before .before .before .before .before .before .a) .given .1)) .0 .grown) (as-full ((c .before .before .before .before .before .before .before .before .before .before .before .before .before .before .before .before .before .read) .last .1 .1 .0) ((c .before .before .before .before .before .before .before .before .before .before .before .before .before .before .before .before .before .read) .last .1 .1 .1 .0) ((c .before .before .before .before .before .before .before .read2) .last .1 .1 .0) ((c .before .before .before .before .before .before .before .read2) .last .1 .1 .1 .0) ((c .before .before .before .before .before .before .before .before .before .before .before .a) .given .0 .1 .1 .0) ((c .before .before .before .before .before .before .before .before .before .before .before .a) .given .0 .1 .0) ((c .before .before .before .before .before .before .before .read2) .result) ((c .before .before .before .before .before .before .before .read2) .ensures) _ ((c .before .k) .given .1))
+read-returns-4 t c = grown-trans ((as-term ((c .before .before .before .before .before .before .before .before .before .before .before .before .before .before .before .before .before .before .before .before .before .before .before .before .before .before .before .args) .index .now) ((c .before .before .before .before .before .before .before .before .before .before .before .before .before .before .before .before .before .before .before .before .before .before .before .before .before .before .before .args) .words .now) ((c .before .before .before .before .before .before .before .before .before .before .before .before .before .before .before .before .before .read) .last .1 .1 .0) ((c .before .before .before .before .before .before .before .before .before .before .before .before .before .before .before .before .before .read) .last .1 .1 .1 .0) ((c .before .before .before .before .before .before .before .before .before .before .before .before .before .before .before .before .before .before .before .before .before .before .before .before .before .before .before .args) .mark) ((c .before .before .before .before .before .before .before .before .before .before .before .before .before .before .before .before .before .before .before .before .before .before .before .before .before .before .before .args) .at + 1) ((c .before .before .before .before .before .before .before .before .before .before .before .before .before .before .before .before .before .read) .result) ((c .before .before .before .before .before .before .before .before .before .before .before .before .before .before .before .before .before .read) .ensures) _ _ _ ((c .before .before .before .before .before .before .before .before .before .before .before .a) .given .1)) .0 .grown) (as-full ((c .before .before .before .before .before .before .before .before .before .before .before .before .before .before .before .before .before .read) .last .1 .1 .0) ((c .before .before .before .before .before .before .before .before .before .before .before .before .before .before .before .before .before .read) .last .1 .1 .1 .0) ((c .before .before .before .before .before .before .before .read2) .last .1 .1 .0) ((c .before .before .before .before .before .before .before .read2) .last .1 .1 .1 .0) ((c .before .before .before .before .before .before .before .before .before .before .before .a) .given .0 .1 .1 .0) ((c .before .before .before .before .before .before .before .before .before .before .before .a) .given .0 .1 .0) ((c .before .before .before .before .before .before .before .read2) .result) ((c .before .before .before .before .before .before .before .read2) .ensures) _ ((c .before .k) .given .1))
 
 read-same-length-9 : (t : ℕ) → read-lts.Need-same-length-9 (cs t) (read-at t) read.Post
 read-same-length-9 t c = (c .before .before .before .before .before .before .before .read) .kept .1 .1 .0
