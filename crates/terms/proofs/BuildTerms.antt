@@ -20,13 +20,14 @@ use Rattle.terms.specs.declared.store.Kept.the-variants.{Term as KeptTer
 use Rattle.terms.specs.declared.patterns.Built.{Built}
 use Rattle.terms.specs.declared.patterns.Built.the-variants.{Term, No}
 use Rattle.terms.specs.Table.{run, argsOf, treeAt, made, Shaped, isApp, Node, Good, Grown, Stored, Refused, After}
-use Rattle.terms.specs.Patterns.{arity, Stands, Reads, treeIn, boundOf, Cells, Buildable, Builds, Stops, BuiltBy, BuiltAt}
+use Rattle.terms.specs.Patterns.{arity, Stands, Reads, treeIn, boundOf, Cells, Buildable, Builds, Stops, BuiltAt}
 use Rattle.terms.specs.Laws.Runs.{run-same, run-length, run-at}
 use Rattle.terms.specs.Laws.Tables.{length-trees, tree-app}
 use Rattle.terms.specs.Laws.Growth.{grown-refl, grown-tree, grown-trans}
 use Rattle.terms.proofs.Matches.{stands-var, stands-app, reads-in, reads-var}
 use Rattle.terms.proofs.Builds.{onto, onto-snoc, onto-agree, build-none, build-some, Remaining, remaining-begins, remaining-reads}
 use Rattle.terms.proofs.Builds.{remaining-on, remaining-stops, remaining-ends}
+use Rattle.terms.specs.Laws.Answers.{after-term, after-full, built-term, built-no}
 
 -- Bindings stay as the store grows ---------------------------------------------------------------------------------------------------
 
@@ -53,8 +54,10 @@ module _ (S P I W : List ℕ) (m : Mark) (B : List ℕ) (at : ℕ) (q : Buildabl
   build-unbound l e p st =
       let v = stands-var S P at p st l in
       record {
-        grown = grown-refl (q .good);
-        makes = ap (λ (t : Tree). build t (boundOf (made I W m) B) (made I W m)) (v .0) ∙ build-none (made I W m) B _ e;
+        says = record {
+          grown = grown-refl (q .good);
+          makes = ap (λ (t : Tree). build t (boundOf (made I W m) B) (made I W m)) (v .0) ∙ build-none (made I W m) B _ e;
+        };
       }
 
   pub build-bound : SYMBOLS ≤ getD P at 0 → (getD B (getD P at 0 - SYMBOLS) 0 ≡ 0 → ⊥) → BuiltAt S P I W I W m B at (Term (getD B (getD P at 0 - SYMBOLS) 0 - 1) (at + 1) m)
@@ -63,10 +66,12 @@ module _ (S P I W : List ℕ) (m : Mark) (B : List ℕ) (at : ℕ) (q : Buildabl
       let v = stands-var S P at p st l in
       let w = q .cells .within (getD P at 0 - SYMBOLS) in
       record {
-        grown = grown-refl (q .good);
-        makes = ap (λ (t : Tree). build t (boundOf (made I W m) B) (made I W m)) (v .0) ∙ build-some (made I W m) B _ n;
-        there = omega arith;
-        after = ap (λ (t : Tree). at + size t) (sym (v .0));
+        says = record {
+          grown = grown-refl (q .good);
+          makes = ap (λ (t : Tree). build t (boundOf (made I W m) B) (made I W m)) (v .0) ∙ build-some (made I W m) B _ n;
+          there = omega arith;
+          after = ap (λ (t : Tree). at + size t) (sym (v .0));
+        };
       }
 
 -- The loop ---------------------------------------------------------------------------------------------------------------------------
@@ -137,17 +142,19 @@ module _ (S P I W : List ℕ) (m : Mark) (B : List ℕ) (at c count : ℕ) (J X 
     pub building-stops : (n d : ℕ) (k′ : Mark) → r ≡ No n d k′ → BuiltAt S P I W L Y m B at (No n d k′)
     building-stops n d k′ e p st =
         let t : (p : Tree) → Stands S P place p → Stops J X L Y new (build p (boundOf (made J X new) B) (made J X new)) n d k′ =
-        λ p′ st′. subst (BuiltBy J X L Y new (build p′ (boundOf (made J X new) B) (made J X new)) (place + size p′)) e (f p′ st′) in
+        λ p′ st′. built-no (f p′ st′) e in
         let o = building-reads h in
         record {
-          grown = grown-trans (q .grown) (t (o .tree) (o .stands) .grown);
-          makes = remaining-stops S P b _ _ c count (made J X new) place k (run w 1 k) (q .going p st) h n d (made L Y k′)
-              (λ p′ st′. ap (λ (x : Bound). build p′ x (made J X new)) same-bound ∙ t p′ st′ .makes);
+          says = record {
+            grown = grown-trans (q .grown) (t (o .tree) (o .stands) .grown);
+            makes = remaining-stops S P b _ _ c count (made J X new) place k (run w 1 k) (q .going p st) h n d (made L Y k′)
+                (λ p′ st′. ap (λ (x : Bound). build p′ x (made J X new)) same-bound ∙ t p′ st′ .makes);
+          };
         }
 
     module _ (n next : ℕ) (k′ : Mark) (e : r ≡ Term n next k′) where
       built : (p : Tree) → Stands S P place p → Builds J X L Y new (build p (boundOf (made J X new) B) (made J X new)) (place + size p) n next k′
-      built p st = subst (BuiltBy J X L Y new (build p (boundOf (made J X new) B) (made J X new)) (place + size p)) e (f p st)
+      built p st = built-term (f p st) e
 
       of-next : Builds J X L Y new (build (building-reads h .tree) (boundOf (made J X new) B) (made J X new)) (place + size (building-reads h .tree)) n next k′
       of-next = built (building-reads h .tree) (building-reads h .stands)
@@ -253,7 +260,7 @@ module _ (S P I W : List ℕ) (m : Mark) (B : List ℕ) (at c count : ℕ) (J X 
       pub building-done : (n : ℕ) (k′ : Mark) → r ≡ KeptTerm n k′ → BuiltAt S P I W L Y m B at (Term n place k′)
       building-done n k′ e p st =
           let t : Stored J X L Y new (treeAt (made J X new) (take (count + 1) w)) kept n k′ =
-          subst (After J X L Y new (treeAt (made J X new) (take (count + 1) w)) kept) e f in
+          after-term f e in
           let a = to-keep p st in
           let d = length-trees L Y (k′ .terms) in
           let v = t .numbered in
@@ -261,13 +268,15 @@ module _ (S P I W : List ℕ) (m : Mark) (B : List ℕ) (at c count : ℕ) (J X 
           let is : getD (made L Y k′) n (var 0) ≡ treeAt (made J X new) (take (count + 1) w) =
           ap (λ (j : ℕ). getD (made L Y k′) j (var 0)) (t .numbered) ∙ number-is (made L Y k′) _ (omega arith) in
           record {
-            grown = grown-trans (q .grown) (t .grown);
-            makes = a .0 ∙ t .makes ∙ ap (λ (x : Tree). ok x (made L Y k′)) (sym is);
-            there = t .there;
-            after = a .1;
+            says = record {
+              grown = grown-trans (q .grown) (t .grown);
+              makes = a .0 ∙ t .makes ∙ ap (λ (x : Tree). ok x (made L Y k′)) (sym is);
+              there = t .there;
+              after = a .1;
+            };
           }
 
       pub building-full : (n : ℕ) (k′ : Mark) → r ≡ Full n k′ → BuiltAt S P I W L Y m B at (No 60 n k′)
       building-full n k′ e p st =
-          let t : Refused Tree J X L Y new kept n k′ = subst (After J X L Y new (treeAt (made J X new) (take (count + 1) w)) kept) e f in
-          record { grown = grown-trans (q .grown) (t .grown); makes = to-keep p st .0 ∙ t .makes }
+          let t : Refused Tree J X L Y new kept n k′ = after-full f e in
+          record { says = record { grown = grown-trans (q .grown) (t .grown); makes = to-keep p st .0 ∙ t .makes } }

@@ -61,5 +61,5 @@ fresh-ready I W m map memo id r p =
 pub fresh-done : (I W J X : List ℕ) (m : Mark) (map memo memo′ : List ℕ) (id : ℕ) (r : Kept) → Substituted I W J X m map memo memo′ id r
     → After I W J X m (substituted I W m map id) (substitute (replacement (made I W m) map) (tree I W m id) (made I W m)) r
 unfolding substitute
-fresh-done I W J X m map memo memo′ id (Term n new) d = d .stored
-fresh-done I W J X m map memo memo′ id (Full r new) d = d
+fresh-done I W J X m map memo memo′ id (Term n new) d = record { says = d .stored }
+fresh-done I W J X m map memo memo′ id (Full r new) d = record { says = d }

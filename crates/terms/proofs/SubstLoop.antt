@@ -22,6 +22,7 @@ use Rattle.terms.specs.Laws.Terms.{args-more, args-none, node-rise, node
 use Rattle.terms.specs.Laws.Theta.{replacement-grown}
 use Rattle.terms.proofs.Gathers.{length-renumbered, getD-renumbered, args-renumbered}
 use Rattle.terms.proofs.Substs.{knows-set, keeps-set, known-set, knows-grown}
+use Rattle.terms.specs.Laws.Answers.{after-term, after-full}
 
 -- the tables J X at m hold what was made of the arguments before `at`; what is left of them decides
 pub record Looping (I W : List ℕ) (old : Mark) (map memo : List ℕ) (id s e : ℕ) (J X memo′ : List ℕ) (m : Mark) (at : ℕ) : Type 0 where
@@ -229,12 +230,12 @@ module _ (I W : List ℕ) (old : Mark) (map memo : List ℕ) (id s e : ℕ) (J X
     module _ (K Y : List ℕ) (r : Kept) (d : After J X K Y m (treeAt (made J X m) (rebuilt X memo′ s e)) (keep (treeAt (made J X m) (rebuilt X memo′ s e)) (made J X m)) r) where
       pub end-full : (row : ℕ) (new : Mark) → r ≡ Full row new → Refused Tree I W K Y old (asked I W old map id) row new
       end-full row new p =
-          let f : Refused Tree J X K Y m (keep (treeAt (made J X m) (rebuilt X memo′ s e)) (made J X m)) row new = subst (After J X K Y m (treeAt (made J X m) (rebuilt X memo′ s e)) _) p d in
+          let f : Refused Tree J X K Y m (keep (treeAt (made J X m) (rebuilt X memo′ s e)) (made J X m)) row new = after-full d p in
           record { grown = grown-trans (l .grown) (f .grown); makes = asked-keeps ∙ f .makes }
 
       pub end-term : (n : ℕ) (new : Mark) → r ≡ Term n new → Done I W K Y old map memo (set memo′ id (n + 1)) id n new
       end-term n new p =
-          let f : Stored J X K Y m (treeAt (made J X m) (rebuilt X memo′ s e)) (keep (treeAt (made J X m) (rebuilt X memo′ s e)) (made J X m)) n new = subst (After J X K Y m (treeAt (made J X m) (rebuilt X memo′ s e)) _) p d in
+          let f : Stored J X K Y m (treeAt (made J X m) (rebuilt X memo′ s e)) (keep (treeAt (made J X m) (rebuilt X memo′ s e)) (made J X m)) n new = after-term d p in
           let z = length-trees K Y (new .terms) in
           let there = f .there in
           let a = l .grown .more in

@@ -65,7 +65,7 @@ module _ (I W : List ℕ) (m : Mark) (map memo : List ℕ) (id : ℕ) (r : Ready
       let z = length-trees I W (m .terms) in
       let y = k .new in
       record {
-        stored = there-stored I W m (r .good) (getD memo id 0 - 1) (omega arith) (substituted I W m map id) (k .is);
+        stored = there-stored (r .good) (getD memo id 0 - 1) (omega arith) (substituted I W m map id) (k .is);
         knows = r .knows;
         known = omega arith;
         keeps = λ i p. p;
@@ -76,7 +76,7 @@ module _ (I W : List ℕ) (m : Mark) (map memo : List ℕ) (id : ℕ) (r : Ready
       let z = length-trees I W (m .terms) in
       let h = r .there in
       record {
-        stored = there-stored I W m (r .good) v l (substituted I W m map id) e;
+        stored = there-stored (r .good) v l (substituted I W m map id) e;
         knows = knows-set (made I W m) (replacement (made I W m) map) memo id v (r .inside) (omega arith) (omega arith) e (r .knows);
         known = known-set memo id v (r .inside);
         keeps = keeps-set memo id v (r .inside);

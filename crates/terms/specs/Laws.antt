@@ -14,3 +14,4 @@ pub mod Sets
 pub mod Theta
 pub mod Patterns
 pub mod Unify
+pub mod Answers

@@ -161,9 +161,12 @@ pub record Stops (I W J X : List ℕ) (old : Mark) (K : Out Made Tree) (q d : �
   pub grown : Grown I W J X old new
   pub makes : K ≡ refuse q d (made J X new)
 
-abbrev pub BuiltBy : List ℕ → List ℕ → List ℕ → List ℕ → Mark → Out Made Tree → ℕ → Built → Type 0
-BuiltBy I W J X old K behind (Term n place new) = Builds I W J X old K behind n place new
-BuiltBy I W J X old K behind (No q d new) = Stops I W J X old K q d new
+abbrev pub BuiltAs : List ℕ → List ℕ → List ℕ → List ℕ → Mark → Out Made Tree → ℕ → Built → Type 0
+BuiltAs I W J X old K behind (Term n place new) = Builds I W J X old K behind n place new
+BuiltAs I W J X old K behind (No q d new) = Stops I W J X old K q d new
+
+pub record BuiltBy (I W J X : List ℕ) (old : Mark) (K : Out Made Tree) (behind : ℕ) (r : Built) : Type 0 where
+  pub says : BuiltAs I W J X old K behind r
 
 -- whatever pattern stands there
 abbrev pub BuiltAt : List ℕ → List ℕ → List ℕ → List ℕ → List ℕ → List ℕ → Mark → List ℕ → ℕ → Built → Type 0

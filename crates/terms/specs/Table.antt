@@ -148,9 +148,13 @@ pub record Refused (A : Type 0) (I W J X : List ℕ) (old : Mark) (K : Out Made 
   pub grown : Grown I W J X old new
   pub makes : K ≡ refuse 60 r (made J X new)
 
-abbrev pub After : List ℕ → List ℕ → List ℕ → List ℕ → Mark → Tree → Out Made Tree → Kept → Type 0
-After I W J X old t K (Term n new) = Stored I W J X old t K n new
-After I W J X old t K (Full r new) = Refused Tree I W J X old K r new
+abbrev pub AfterAs : List ℕ → List ℕ → List ℕ → List ℕ → Mark → Tree → Out Made Tree → Kept → Type 0
+AfterAs I W J X old t K (Term n new) = Stored I W J X old t K n new
+AfterAs I W J X old t K (Full r new) = Refused Tree I W J X old K r new
+
+-- what a call that puts a tree into the store promises of its answer; a record, so that laws find its arguments
+pub record After (I W J X : List ℕ) (old : Mark) (t : Tree) (K : Out Made Tree) (r : Kept) : Type 0 where
+  pub says : AfterAs I W J X old t K r
 
 -- a term's number, or the number of all terms, which no term has
 unfoldable pub numberOf : Kept → ℕ

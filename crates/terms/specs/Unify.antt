@@ -56,3 +56,6 @@ abbrev pub UnifiedAs : List ℕ → List ℕ → List ℕ → List ℕ → Mark 
 UnifiedAs I W J X old theta K (Found new) = Solved I W J X old theta K new
 UnifiedAs I W J X old theta K (Apart new) = Unsolved I W J X old theta K new × (length theta ≡ VARIABLES) × Zeros theta
 UnifiedAs I W J X old theta K (Full r new) = Refused (Option (List Binding)) I W J X old K r new × (length theta ≡ VARIABLES) × Zeros theta
+
+pub record UnifiedBy (I W J X : List ℕ) (old : Mark) (theta : List ℕ) (K : Out Made (Option (List Binding))) (r : Unified) : Type 0 where
+  pub says : UnifiedAs I W J X old theta K r

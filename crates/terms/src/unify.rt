@@ -5,7 +5,7 @@ ghost use lib.ListN.{length, replicate};
 ghost use Rattle.rules.specs.Unify.{unify};
 ghost use Rattle.terms.specs.Table.{made};
 ghost use Rattle.terms.specs.Collect.{tree};
-ghost use Rattle.terms.specs.Unify.{Unifiable, UnifiedAs};
+ghost use Rattle.terms.specs.Unify.{Unifiable, UnifiedBy};
 ghost use Rattle.terms.specs.Peel.{Results, Solvable, Rounded, solves, SolvedAs};
 use crate::peel::Peeled;
 use crate::peel::peel;
@@ -138,7 +138,7 @@ pub fn unify(
     seen: &mut [u64],
 ) -> Unified
     requires { ⌜ Unifiable (now index) (now words) mark count s t (now theta) (now map) (now memo) (now pairs) (now seen) ⌝ }
-    ensures { λ r. ⌜ UnifiedAs (now (index .entry)) (now (words .entry)) (now (index .exit)) (now (words .exit)) mark (now (theta .exit))
+    ensures { λ r. ⌜ UnifiedBy (now (index .entry)) (now (words .entry)) (now (index .exit)) (now (words .exit)) mark (now (theta .exit))
         (unify count (tree (now (index .entry)) (now (words .entry)) mark s) (tree (now (index .entry)) (now (words .entry)) mark t) (made (now (index .entry)) (now (words .entry)) mark)) r ⌝ }
     ensures { λ _. ⌜ (now (map .exit) ≡ now (map .entry)) × (now (memo .exit) ≡ now (memo .entry)) × (now (pairs .exit) ≡ now (pairs .entry)) × (now (seen .exit) ≡ now (seen .entry)) ⌝ }
 {

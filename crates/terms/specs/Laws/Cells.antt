@@ -2,28 +2,22 @@
 -- Assumes nothing.
 use mathlib.Core.Path.{_≡_, refl, sym, ap, _∙_}
 use mathlib.Core.List.{List, [], _∷_, _++_, append-nil, append-assoc}
-use Prim.Native.Nat.{ℕ, zero, suc, _+_, _-_, _≤_, _<_, suc-le-suc}
+use Prim.Native.Nat.{ℕ, zero, suc, _+_, _-_, _≤_, _<_}
 use native.Mathlib.Omega.{arith}
-use native.Mathlib.Nat.{zero-lt-suc}
 use lib.ListN.{length, getD, take, drop, replicate, length-drop, length-replicate, getD-replicate, take-append-drop}
 use lib.Seq.{take-suc, take-add, take-all, take-take, length-take-le, ext-getD, getD-drop, getD-take}
 use Rattle.rules.specs.Limits.{SYMBOLS, TERMS, WORDS}
-use Rattle.rules.specs.Tree.{Tree, var, node}
+use Rattle.rules.specs.Tree.{Tree, node}
 use Rattle.rules.specs.Store.{Made, words}
-use Rattle.rules.specs.Laws.Store.{Apart, number-of, words-more}
+use Rattle.rules.specs.Laws.Store.{Apart, words-more}
 use Rattle.rules.specs.TheoryTables.{filled}
-use Rattle.rules.specs.StateTables.{numbers, nodeCells, wordCells, endCells}
+use Rattle.rules.specs.StateTables.{nodeCells, wordCells, endCells}
 use Rattle.terms.specs.declared.store.Mark.{Mark}
-use Rattle.terms.specs.Table.{start, nodeAt, argsOf, treeAt, trees, made, Shaped, isVar, isApp, Good}
+use Rattle.terms.specs.Table.{start, nodeAt, treeAt, trees, made, Shaped, isVar, isApp, Good}
 use Rattle.terms.specs.Laws.Tables.{length-trees, getD-trees, tree-here, tree-app, tree-var, tree-node, node-length}
+use Rattle.terms.specs.Laws.Numbers.{numbers-args}
 
 -- A node's words -----------------------------------------------------------------------------------------------------------------------
-
-numbers-args : (M : Made) → Apart M → (xs : List ℕ) → ((k : ℕ) → k < length xs → getD xs k 0 < length M) → numbers M (argsOf M xs) ≡ xs
-unfolding numbers argsOf
-numbers-args M a [] b = refl
-numbers-args M a (x ∷ xs) b =
-    λ i. number-of M a x (b 0 (zero-lt-suc (length xs))) (getD M x (var 0)) refl i ∷ numbers-args M a xs (λ k l. b (suc k) (suc-le-suc l)) i
 
 node-cells : (M : Made) → Apart M → (k : ℕ) → k ≤ length M → {w : List ℕ} → Shaped k w → nodeCells M (treeAt M w) ≡ w
 unfolding nodeCells

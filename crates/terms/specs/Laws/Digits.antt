@@ -1,10 +1,10 @@
 -- The binary digits of a number, and what the bit operations do to them. Assumes nothing.
 use mathlib.Core.Path.{_≡_, refl, sym, ap, _∙_, subst}
-use mathlib.Core.Bool.{true, false, _&&_, not, _||_}
+use mathlib.Core.Bool.{true, false, _&&_, not, _||_, true≢false, Bool}
 use mathlib.Core.Logic.{_⊎_, inl, inr, ⊎-elim}
-use Prim.Native.Nat.{ℕ, zero, suc, _+_, _-_, _/_, _%_, _^_, _≤_, _<_, min, max}
+use Prim.Native.Nat.{ℕ, zero, suc, _+_, _-_, _/_, _%_, _^_, _≤_, _<_, min, max, _*_}
 use native.Mathlib.Omega.{arith}
-use native.Mathlib.Nat.{mod-lt, pow-suc, div-one, not-suc-le-zero, zero-lt-suc}
+use native.Mathlib.Nat.{mod-lt, pow-suc, div-one, not-suc-le-zero, zero-lt-suc, div-add-mod', zero-mul}
 use native.Mathlib.Numerals.{one-add}
 use lib.Dec.{eqb, eqb·zero-suc, eqb·suc-zero, eqb·suc-suc}
 use lib.Arith.{digits-mod, lt-one}
@@ -139,3 +139,63 @@ digit-high n j k h l =
     let o : 0 + j ≡ j = omega arith in
     let z : n / 2 ^ j ≡ 0 = lt-one (shr-lt 0 j (subst (λ (i : ℕ). n < 2 ^ i) (sym o) h)) in
     ap (digit n) (sym e) ∙ sym (digit-shift n j (k - j)) ∙ ap (λ (m : ℕ). digit m (k - j)) z ∙ digit-of-zero (k - j)
+
+-- The digits determine the number ------------------------------------------------------------------------------------------------------
+
+low-one : (a b : ℕ) → digit a 0 ≡ digit b 0 → a % 2 ≡ b % 2
+low-one a b e = ⊎-elim (λ p. ⊎-elim (λ q. p ∙ sym q) (λ q. absurd (apart p q)) (two b)) (λ p. ⊎-elim (λ q. absurd (apart′ p q)) (λ q. p ∙ sym q) (two b)) (two a)
+  where
+    same : eqb (a % 2) 1 ≡ eqb (b % 2) 1
+    same = sym (digit-zero a) ∙ e ∙ digit-zero b
+
+    apart : a % 2 ≡ 0 → b % 2 ≡ 1 → ⊥
+    apart p q = true≢false (sym (ap (λ (m : ℕ). eqb m 1) q) ∙ sym same ∙ ap (λ (m : ℕ). eqb m 1) p)
+
+    apart′ : a % 2 ≡ 1 → b % 2 ≡ 0 → ⊥
+    apart′ p q = true≢false (sym (ap (λ (m : ℕ). eqb m 1) p) ∙ same ∙ ap (λ (m : ℕ). eqb m 1) q)
+
+pub digits-one : (k a b : ℕ) → a < 2 ^ k → b < 2 ^ k → ((j : ℕ) → j < k → digit a j ≡ digit b j) → a ≡ b
+digits-one zero a b h l e = omega arith
+digits-one (suc k) a b h l e =
+    let p = pow-suc 2 k in
+    let q = low-one a b (e 0 (zero-lt-suc k)) in
+    let ih = digits-one k (a / 2) (b / 2) (omega arith) (omega arith) (λ j m. sym (digit-suc a j) ∙ e (suc j) (omega arith) ∙ digit-suc b j) in
+    omega arith
+
+-- a number is below its power of two
+pub lt-pow : (n : ℕ) → n < 2 ^ n
+lt-pow zero = omega arith
+lt-pow (suc n) = let p = pow-suc 2 n in let ih = lt-pow n in omega arith
+
+-- a number without a digit from k on is below 2 ^ k
+pub digits-small : (k n : ℕ) → ((j : ℕ) → k ≤ j → digit n j ≡ false) → n < 2 ^ k
+digits-small k n h =
+    let z = lt-pow k in
+    let m : ℕ = 2 ^ k in
+    let o : n / 2 ^ k ≡ 0 =
+    digits-one (n / 2 ^ k) (n / 2 ^ k) 0 (lt-pow (n / 2 ^ k)) (let y = lt-pow (n / 2 ^ k) in omega arith)
+    (λ j l. digit-shift n k j ∙ h (k + j) (omega arith) ∙ sym (digit-of-zero j)) in
+    let r : n % 2 ^ k < 2 ^ k = mod-lt n (omega arith) in
+    let s : n / 2 ^ k * 2 ^ k + n % 2 ^ k ≡ n = div-add-mod' n (2 ^ k) in
+    let t : n / 2 ^ k * 2 ^ k ≡ 0 = ap (λ (x : ℕ). x * 2 ^ k) o ∙ zero-mul (2 ^ k) in
+    omega arith
+
+-- one digit more
+pub digit-add : (a b j : ℕ) → digit b a ≡ false → digit (2 ^ a + b) j ≡ eqb j a || digit b j
+digit-add zero b zero h =
+    let o : b % 2 ≡ 0 = ⊎-elim (λ p. p) (λ p. absurd (true≢false (sym (digit-zero b ∙ ap (λ (m : ℕ). eqb m 1) p) ∙ h))) (two b) in
+    let z : (1 + b) % 2 ≡ 1 = omega arith in
+    digit-zero (1 + b) ∙ ap (λ (m : ℕ). eqb m 1) z
+digit-add zero b (suc j) h =
+    let o : b % 2 ≡ 0 = ⊎-elim (λ p. p) (λ p. absurd (true≢false (sym (digit-zero b ∙ ap (λ (m : ℕ). eqb m 1) p) ∙ h))) (two b) in
+    let z : (1 + b) / 2 ≡ b / 2 = omega arith in
+    digit-suc (1 + b) j ∙ ap (λ (m : ℕ). digit m j) z ∙ sym (digit-suc b j) ∙ ap (λ (x : Bool). x || digit b (suc j)) (sym (eqb·suc-zero j))
+digit-add (suc a) b zero h =
+    let p = pow-suc 2 a in
+    let z : (2 ^ suc a + b) % 2 ≡ b % 2 = omega arith in
+    digit-zero (2 ^ suc a + b) ∙ ap (λ (m : ℕ). eqb m 1) z ∙ sym (digit-zero b) ∙ ap (λ (x : Bool). x || digit b 0) (sym (eqb·zero-suc a))
+digit-add (suc a) b (suc j) h =
+    let p = pow-suc 2 a in
+    let z : (2 ^ suc a + b) / 2 ≡ 2 ^ a + b / 2 = omega arith in
+    digit-suc (2 ^ suc a + b) j ∙ ap (λ (m : ℕ). digit m j) z ∙ digit-add a (b / 2) j (sym (digit-suc b a) ∙ h)
+    ∙ (λ i. sym (eqb·suc-suc j a) i || sym (digit-suc b j) i)

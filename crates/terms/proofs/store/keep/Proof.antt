@@ -32,7 +32,7 @@ same-length-2 c = search needs
 
 -- src/store.rt:143:9
 returns : tie.Need-returns
-returns c = keep-there _ _ _ _ ((c .before .before .before .before .before .before .before .before .pre) .0) ((c .before .before .before .before .before .before .before .before .pre) .1) _ ((c .before .find) .ensures) ((c .if1) .taken)
+returns c = record { says = keep-there _ _ _ _ ((c .before .before .before .before .before .before .before .before .pre) .0) ((c .before .before .before .before .before .before .before .before .pre) .1) _ ((c .before .find) .ensures) ((c .if1) .taken) }
 
 -- src/store.rt:146:9
 same-length-3 : tie.Need-same-length-3
@@ -44,7 +44,7 @@ same-length-4 c = search needs
 
 -- src/store.rt:146:9
 returns-2 : tie.Need-returns-2
-returns-2 c = keep-row-8 _ _ _ _ ((c .before .before .before .before .before .before .before .before .before .pre) .0) ((c .before .before .before .before .before .before .before .before .before .pre) .1) _ ((c .before .before .find) .ensures) ((c .before .if1) .left) ((c .if2) .taken)
+returns-2 c = record { says = keep-row-8 _ _ _ _ ((c .before .before .before .before .before .before .before .before .before .pre) .0) ((c .before .before .before .before .before .before .before .before .before .pre) .1) _ ((c .before .before .find) .ensures) ((c .before .if1) .left) ((c .if2) .taken) }
 
 -- src/store.rt:148:15
 add-end : tie.Need-add-end
@@ -60,7 +60,7 @@ same-length-6 c = search needs
 
 -- src/store.rt:150:9
 returns-3 : tie.Need-returns-3
-returns-3 c = keep-row-9 _ _ _ _ ((c .before .before .before .before .before .before .before .before .before .before .pre) .0) ((c .before .before .before .before .before .before .before .before .before .before .pre) .1) _ ((c .before .before .before .find) .ensures) ((c .before .before .if1) .left) ((c .before .if2) .left) ((c .if3) .taken)
+returns-3 c = record { says = keep-row-9 _ _ _ _ ((c .before .before .before .before .before .before .before .before .before .before .pre) .0) ((c .before .before .before .before .before .before .before .before .before .before .pre) .1) _ ((c .before .before .before .find) .ensures) ((c .before .before .if1) .left) ((c .before .if2) .left) ((c .if3) .taken) }
 
 -- src/store.rt:152:9
 flag-of-requires : tie.Need-flag-of-requires
@@ -104,7 +104,7 @@ same-length-8 c = search needs
 
 -- src/store.rt:133:1
 returns-4 : tie.Need-returns-4
-returns-4 c = keep-made _ _ _ _ ((c .before .before .before .before .before .before .before .before .before .before .before .before .before .before .before .before .before .before .before .before .before .pre) .0) ((c .before .before .before .before .before .before .before .before .before .before .before .before .before .before .before .before .before .before .before .before .before .pre) .1) _ ((c .before .before .before .before .before .before .before .before .before .before .before .before .before .before .before .before .before .bucket-of) .ensures) _ ((c .before .before .before .before .before .before .before .before .before .before .before .before .before .before .find) .ensures) ((c .before .before .before .before .before .before .before .before .before .before .before .before .before .if1) .left) ((c .before .before .before .before .before .before .before .before .before .before .before .before .if2) .left) ((c .before .before .before .before .before .before .before .before .before .before .before .if3) .left) _ ((c .before .before .before .before .before .before .before .before .flag-of) .ensures) _ ((c .before .before .before .before .before .before .link) .ensures) _ ((c .before .before .write-node) .ensures)
+returns-4 c = record { says = keep-made _ _ _ _ ((c .before .before .before .before .before .before .before .before .before .before .before .before .before .before .before .before .before .before .before .before .before .pre) .0) ((c .before .before .before .before .before .before .before .before .before .before .before .before .before .before .before .before .before .before .before .before .before .pre) .1) _ ((c .before .before .before .before .before .before .before .before .before .before .before .before .before .before .before .before .before .bucket-of) .ensures) _ ((c .before .before .before .before .before .before .before .before .before .before .before .before .before .before .find) .ensures) ((c .before .before .before .before .before .before .before .before .before .before .before .before .before .if1) .left) ((c .before .before .before .before .before .before .before .before .before .before .before .before .if2) .left) ((c .before .before .before .before .before .before .before .before .before .before .before .if3) .left) _ ((c .before .before .before .before .before .before .before .before .flag-of) .ensures) _ ((c .before .before .before .before .before .before .link) .ensures) _ ((c .before .before .write-node) .ensures) }
 
 pub keep-spec : {M : Type 1} → statement M
 keep-spec =
