@@ -1,8 +1,7 @@
 -- What building leaves in the tables, at each of its returns and in its loop over the arguments. Assumes nothing.
-use mathlib.Core.Path.{_≡_, refl, sym, ap, _∙_, subst}
+use mathlib.Core.Path.{_≡_, sym, ap, _∙_, subst}
 use mathlib.Core.List.{List, [], _∷_, _++_}
-use mathlib.Core.Option.{some}
-use Prim.Native.Nat.{ℕ, zero, suc, _+_, _-_, _≤_, _<_}
+use Prim.Native.Nat.{ℕ, suc, _+_, _-_, _≤_, _<_}
 use native.Mathlib.Omega.{arith}
 use native.Mathlib.Decide.{ℕ-discrete}
 use native.Mathlib.Numerals.{add-one}
@@ -19,30 +18,16 @@ use Rattle.terms.specs.declared.store.Kept.{Kept}
 use Rattle.terms.specs.declared.store.Kept.the-variants.{Term as KeptTerm, Full}
 use Rattle.terms.specs.declared.patterns.Built.{Built}
 use Rattle.terms.specs.declared.patterns.Built.the-variants.{Term, No}
-use Rattle.terms.specs.Table.{run, argsOf, treeAt, made, Shaped, isApp, Node, Good, Grown, Stored, Refused, After}
-use Rattle.terms.specs.Patterns.{arity, Stands, Reads, treeIn, boundOf, Cells, Buildable, Builds, Stops, BuiltAt}
+use Rattle.terms.specs.Table.{run, argsOf, treeAt, made, Shaped, isApp, Node, Grown, Stored, Refused, After}
+use Rattle.terms.specs.Patterns.{arity, Stands, Reads, boundOf, Buildable, Builds, Stops, BuiltAt}
 use Rattle.terms.specs.Laws.Runs.{run-same, run-length, run-at}
 use Rattle.terms.specs.Laws.Tables.{length-trees, tree-app}
-use Rattle.terms.specs.Laws.Growth.{grown-refl, grown-tree, grown-trans}
+use Rattle.terms.specs.Laws.Growth.{grown-refl, grown-trans, grown-tree}
+use Rattle.terms.specs.Laws.Answers.{after-term, after-full, built-term, built-no}
+use Rattle.terms.specs.Laws.Bound.{bound-grown}
 use Rattle.terms.proofs.Matches.{stands-var, stands-app, reads-in, reads-var}
 use Rattle.terms.proofs.Builds.{onto, onto-snoc, onto-agree, build-none, build-some, Remaining, remaining-begins, remaining-reads}
 use Rattle.terms.proofs.Builds.{remaining-on, remaining-stops, remaining-ends}
-use Rattle.terms.specs.Laws.Answers.{after-term, after-full, built-term, built-no}
-
--- Bindings stay as the store grows ---------------------------------------------------------------------------------------------------
-
-module _ (I W J X : List ℕ) (m new : Mark) (g : Good I W m) (h : Grown I W J X m new) where
-  grown-at : (i : ℕ) → i < m .terms → getD (made I W m) i (var 0) ≡ getD (made J X new) i (var 0)
-  grown-at i l = sym (grown-tree h i l)
-
-  tree-in : (x : ℕ) → x ≤ m .terms → treeIn (made I W m) x ≡ treeIn (made J X new) x
-  unfolding treeIn
-  tree-in zero l = refl
-  tree-in (suc x) l = ap some (grown-at x l)
-
-  pub bound-grown : (B : List ℕ) → Cells (m .terms) B → boundOf (made I W m) B ≡ boundOf (made J X new) B
-  unfolding boundOf
-  bound-grown B c = λ i v. tree-in (getD B v 0) (c .within v) i
 
 -- A variable -------------------------------------------------------------------------------------------------------------------------
 
@@ -121,7 +106,7 @@ module _ (S P I W : List ℕ) (m : Mark) (B : List ℕ) (at c count : ℕ) (J X 
   b = boundOf (made I W m) B
 
   same-bound : b ≡ boundOf (made J X new) B
-  same-bound = bound-grown I W J X m new (q .asked .good) (q .grown) B (q .asked .cells)
+  same-bound = sym (bound-grown (q .grown) (q .asked .cells))
 
   pub building-reads : k < count → Reads S P place
   building-reads h = remaining-reads S P b _ _ c count (made J X new) place k (run w 1 k) (q .going (q .asked .reads .tree) (q .asked .reads .stands)) h
@@ -187,7 +172,7 @@ module _ (S P I W : List ℕ) (m : Mark) (B : List ℕ) (at c count : ℕ) (J X 
           let d = run-length w 1 k (omega arith) in
           onto-agree (made J X new) (made L Y k′) (new .terms) (run w 1 k) _
           (λ j p. let t = run-at w 1 k j (omega arith) in let s = q .args j (omega arith) in omega arith)
-          (grown-at J X L Y new k′ (q .grown .good) (of-next .grown))
+          (λ i h. sym (grown-tree (of-next .grown) i h))
           ∙ sym (onto-snoc (made L Y k′) (run w 1 k) n ts)
           ∙ ap (λ (xs : List ℕ). onto (made L Y k′) xs ts) (sym run-new)
 

@@ -15,3 +15,4 @@ pub mod Theta
 pub mod Patterns
 pub mod Unify
 pub mod Answers
+pub mod Bound

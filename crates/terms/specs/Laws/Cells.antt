@@ -55,7 +55,7 @@ fill-law : (n : ℕ) (xs : List ℕ) → length xs ≤ n → filled n xs ≡ xs 
 unfolding filled
 fill-law n xs h = ap (λ (r : List ℕ). r ++ replicate (n - length xs) 0) (take-all n xs h)
 
-module _ (I W : List ℕ) (m : Mark) (g : Good I W m) where
+module _ {I W : List ℕ} {m : Mark} (g : Good I W m) where
   node-of : (i : ℕ) → i < m .terms → nodeCells (made I W m) (treeAt (trees I W i) (nodeAt I W i)) ≡ nodeAt I W i
   node-of i h =
       ap (nodeCells (made I W m)) (sym (getD-trees I W (m .terms) i h) ∙ tree-here I W m g i h)

@@ -23,7 +23,7 @@ use Rattle.terms.specs.Laws.Growth.{start-same, node-same, made-same, sa
 
 -- The same nodes -----------------------------------------------------------------------------------------------------------------
 
-module _ (I W J X : List ℕ) (m : Mark) (g : Good I W m) (h : Good J X m) (s : Same I W J X m) where
+module _ {I W J X : List ℕ} {m : Mark} (g : Good I W m) (h : Good J X m) (s : Same I W J X m) where
   keys : (i : ℕ) → i < m .terms → bucket J X i ≡ bucket I W i
   keys i l = ap hash (node-same g s i l)
 
@@ -73,7 +73,7 @@ module _ (I W J X : List ℕ) (m : Mark) (g : Good I W m) (h : Good J X m) (s : 
 
 -- The same trees -----------------------------------------------------------------------------------------------------------------
 
-module _ (I W J X : List ℕ) (m k : Mark) (g : Good I W m) (h : Good J X k) (e : made I W m ≡ made J X k) where
+module _ {I W J X : List ℕ} {m k : Mark} (g : Good I W m) (h : Good J X k) (e : made I W m ≡ made J X k) where
   terms-one : m .terms ≡ k .terms
   terms-one = sym (length-trees I W (m .terms)) ∙ ap length e ∙ length-trees J X (k .terms)
 
@@ -132,17 +132,17 @@ module _ (I W J X : List ℕ) (m k : Mark) (g : Good I W m) (h : Good J X k) (e 
 
   -- every cell, and the mark
   pub tables-one : (J ≡ I) × (X ≡ W) × (k ≡ m)
-  tables-one = let t = tables-same I W J X m g (subst (Good J X) mark-one h) same-one in (t .0, t .1, mark-one)
+  tables-one = let t = tables-same g (subst (Good J X) mark-one h) same-one in (t .0, t .1, mark-one)
 
 -- Back to an old mark --------------------------------------------------------------------------------------------------------------
 
-module _ (I W J X : List ℕ) (old m : Mark) (g : Good I W old) (h : Grown I W J X old m) where
+module _ {I W J X : List ℕ} {old m : Mark} (h : Grown I W J X old m) where
   pub part-grown : Part J X m old
-  part-grown = record { good = h .good; fewer = h .more; ends = g .ends ∙ sym (start-same g (h .same) (old .terms) (omega arith)) }
+  part-grown = record { good = h .good; fewer = h .more; ends = h .was .ends ∙ sym (start-same (h .was) (h .same) (old .terms) (omega arith)) }
 
   -- the tables are those that were
-  pub back-same : (K Y : List ℕ) → Back J X K Y old → (K ≡ I) × (Y ≡ W)
-  back-same K Y b = tables-same I W K Y old g (b .good) (same-then (h .same) (b .same) (omega arith) (omega arith))
+  pub back-same : {K Y : List ℕ} → Back J X K Y old → (K ≡ I) × (Y ≡ W)
+  back-same b = tables-same (h .was) (b .good) (same-then (h .same) (b .same) (omega arith) (omega arith))
 
 -- Bindings -------------------------------------------------------------------------------------------------------------------------
 

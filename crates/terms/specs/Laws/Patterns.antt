@@ -1,5 +1,5 @@
 -- A pattern's words, as the layout of the theory tables has them (`prefix`), are what matching and building ask for. Assumes nothing.
-use mathlib.Core.Path.{_≡_, sym, ap, _∙_, subst}
+use mathlib.Core.Path.{_≡_, sym, ap, _∙_, subst, refl}
 use mathlib.Core.List.{List, _∷_, _++_, append-assoc}
 use Prim.Native.Nat.{ℕ, _+_, _<_, _≤_}
 use native.Mathlib.Omega.{arith}
@@ -9,7 +9,7 @@ use Rattle.rules.specs.Limits.{SYMBOLS}
 use Rattle.rules.specs.Tree.{Tree, Trees, var, app, none, more, size, sizes, countTrees}
 use Rattle.rules.specs.TheoryTables.{prefix, prefixes}
 use Rattle.rules.specs.Laws.Prefix.{prefix-length}
-use Rattle.terms.specs.Patterns.{Stands, Standing, Fits, FitsAll}
+use Rattle.terms.specs.Patterns.{Stands, Standing, Fits, FitsAll, Skipped}
 
 -- the word at a place, and what stands behind it
 first-of : (P : List ℕ) (at x : ℕ) (ys : List ℕ) → drop at P ≡ x ∷ ys → (at < length P) × (getD P at 0 ≡ x) × (drop (at + 1) P ≡ ys)
@@ -92,3 +92,16 @@ mutual
       let a = stands-within S P at t (h .0) in
       let b = standing-within S P (at + size t) ts a (h .1) in
       omega arith
+
+-- both parts of a list of patterns
+pub before-splits : (S P : List ℕ) (at : ℕ) (ts us : Trees) → Standing S P at (before ts us) → Standing S P at ts × Standing S P (at + sizes ts) us
+unfolding before size Stands
+before-splits S P at none us h = let z : at ≡ at + 0 = omega arith in (tt, subst (λ (k : ℕ). Standing S P k us) z h)
+before-splits S P at (more t ts) us h =
+    let a = before-splits S P (at + size t) ts us (h .1) in
+    let z : at + size t + sizes ts ≡ at + (size t + sizes ts) = omega arith in
+    ((h .0, a .0), subst (λ (k : ℕ). Standing S P k us) z (a .1))
+
+-- `skip` finds what stands behind patterns, as a conclusion behind its premises
+pub skip-behind : (S P : List ℕ) (at r : ℕ) (ps : Trees) (p : Tree) → Skipped S P at (countTrees ps) r → Standing S P at ps → Stands S P (at + sizes ps) p → Stands S P r p
+skip-behind S P at r ps p s a b = subst (λ (k : ℕ). Stands S P k p) (sym (s ps a refl)) b
