@@ -6,8 +6,7 @@ use Rattle.rules.specs.Unify.{unify}
 use Rattle.terms.specs.declared.store.Mark.{Mark}
 use Rattle.terms.specs.declared.unify.Unified.{Unified}
 use Rattle.terms.specs.declared.unify.Unified.the-variants.{Found, Apart, Full}
-use Rattle.terms.specs.Table.{made}
-use Rattle.terms.specs.Collect.{tree}
+use Rattle.terms.specs.Table.{made, tree}
 use Rattle.terms.specs.Unify.{UnifiedAs}
 
 -- bindings are found, there are none, or a table has no room

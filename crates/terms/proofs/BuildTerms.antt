@@ -7,7 +7,7 @@ use native.Mathlib.Decide.{ℕ-discrete}
 use native.Mathlib.Numerals.{add-one}
 use lib.ListN.{length, getD, set, take, drop, length-set, length-drop}
 use lib.Seq.{getD-set-same, getD-set-other, getD-drop, take-suc, drop-cons, length-take-le}
-use Rattle.rules.specs.Limits.{SYMBOLS, ARGUMENTS, TERMS}
+use Rattle.rules.specs.Limits.{SYMBOLS, ARGUMENTS, TERMS, NODE}
 use Rattle.rules.specs.Out.{Out, ok}
 use Rattle.rules.specs.Tree.{Tree, Trees, var, app, more, size}
 use Rattle.rules.specs.Store.{Made, keep}
@@ -19,7 +19,7 @@ use Rattle.terms.specs.declared.store.Kept.the-variants.{Term as KeptTer
 use Rattle.terms.specs.declared.patterns.Built.{Built}
 use Rattle.terms.specs.declared.patterns.Built.the-variants.{Term, No}
 use Rattle.terms.specs.Table.{run, argsOf, treeAt, made, Shaped, isApp, Node, Grown, Stored, Refused, After}
-use Rattle.terms.specs.Patterns.{arity, Stands, Reads, boundOf, Buildable, Builds, Stops, BuiltAt}
+use Rattle.terms.specs.Patterns.{arity, Stands, PatternAt, boundOf, Buildable, Builds, Stops, BuiltAt}
 use Rattle.terms.specs.Laws.Runs.{run-same, run-length, run-at}
 use Rattle.terms.specs.Laws.Tables.{length-trees, tree-app}
 use Rattle.terms.specs.Laws.Growth.{grown-refl, grown-trans, grown-tree}
@@ -75,13 +75,13 @@ pub record Building (S P I W : List ℕ) (m : Mark) (B : List ℕ) (at c count :
   pub upto : k ≤ count
   pub beyond : at < place
   pub grown : Grown I W J X m new
-  pub long : length w ≡ 17
+  pub long : length w ≡ NODE
   pub first : getD w 0 0 ≡ c
   pub args : (j : ℕ) → j < k → getD w (1 + j) 0 < new .terms
   pub going : (p : Tree) → Stands S P at p → Remaining S P (boundOf (made I W m) B) (build p (boundOf (made I W m) B) (made I W m)) (at + size p) c count (made J X new) place k (run w 1 k)
 
 pub building-begins : (S P I W : List ℕ) (m : Mark) (B : List ℕ) (at : ℕ) → Buildable S P I W m B at → getD P at 0 < SYMBOLS
-    → (count : ℕ) → count ≡ arity S (getD P at 0) → (w : List ℕ) → length w ≡ 17 → getD w 0 0 ≡ getD P at 0 → Building S P I W m B at (getD P at 0) count I W w m (at + 1) 0
+    → (count : ℕ) → count ≡ arity S (getD P at 0) → (w : List ℕ) → length w ≡ NODE → getD w 0 0 ≡ getD P at 0 → Building S P I W m B at (getD P at 0) count I W w m (at + 1) 0
 building-begins S P I W m B at q l count f w n e =
     let a = stands-app S P at (q .reads .tree) (q .reads .stands) l in
     let b = a .count in
@@ -108,7 +108,7 @@ module _ (S P I W : List ℕ) (m : Mark) (B : List ℕ) (at c count : ℕ) (J X 
   same-bound : b ≡ boundOf (made J X new) B
   same-bound = sym (bound-grown (q .grown) (q .asked .cells))
 
-  pub building-reads : k < count → Reads S P place
+  pub building-reads : k < count → PatternAt S P place
   building-reads h = remaining-reads S P b _ _ c count (made J X new) place k (run w 1 k) (q .going (q .asked .reads .tree) (q .asked .reads .stands)) h
 
   pub building-asks : k < count → Buildable S P J X new B place

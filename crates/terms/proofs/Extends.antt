@@ -14,8 +14,7 @@ use Rattle.rules.specs.Unify.{Binding, insert, replace}
 use Rattle.terms.specs.declared.store.Mark.{Mark}
 use Rattle.terms.specs.declared.theta.Grew.{Grew}
 use Rattle.terms.specs.declared.theta.Grew.the-variants.{Ok, Full}
-use Rattle.terms.specs.Table.{made, Refused}
-use Rattle.terms.specs.Collect.{tree}
+use Rattle.terms.specs.Table.{made, Refused, tree}
 use Rattle.terms.specs.Subst.{replacement}
 use Rattle.terms.specs.Theta.{bindings, inValues, Changeable, Changed, ChangedAs, Extendable, Bound}
 use Rattle.terms.specs.Laws.Zeros.{getD-zeros}

@@ -12,8 +12,8 @@ use Rattle.rules.specs.Tree.{Tree, var, isOpen}
 use Rattle.rules.specs.Store.{Made}
 use Rattle.rules.specs.Laws.Store.{Apart}
 use Rattle.terms.specs.declared.store.Mark.{Mark}
-use Rattle.terms.specs.Table.{CHAINS, FLAGS, HEADS, INDEX, BUCKETS, run, start, nodeAt, trees, hash, bucket, latest, flag, Shaped, Good}
-use Rattle.terms.specs.Table.{Same, Part, Back, lower}
+use Rattle.terms.specs.Table.{CHAINS, FLAGS, HEADS, INDEX, BUCKETS, run, start, nodeAt, trees, hash, bucket, latest, flag, Shaped, Good, Same}
+use Rattle.terms.specs.Table.{Part, Back, lower}
 use Rattle.terms.specs.Node.{Unlinked}
 use Rattle.terms.specs.Laws.Runs.{run-same, run-length}
 use Rattle.terms.specs.Laws.Chains.{hash-small, latest-agree, latest-other}

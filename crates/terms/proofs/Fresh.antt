@@ -10,10 +10,12 @@ use Rattle.rules.specs.Store.{substitute}
 use Rattle.terms.specs.declared.store.Mark.{Mark}
 use Rattle.terms.specs.declared.store.Kept.{Kept}
 use Rattle.terms.specs.declared.store.Kept.the-variants.{Term, Full}
-use Rattle.terms.specs.Table.{made, After}
-use Rattle.terms.specs.Collect.{tree}
-use Rattle.terms.specs.Subst.{replacement, substituted, Replaceable, Ready, Substituted}
+use Rattle.terms.specs.Table.{made, After, tree}
+use Rattle.terms.specs.Subst.{replacement, substituted, Replaceable, Replacing, Substituted}
 use Rattle.terms.specs.Laws.Zeros.{getD-zeros}
+
+pub next-fits : (i n : ℕ) → i < n → i + 1 ≤ n
+next-fits i n h = omega arith
 
 -- a part of zeros
 module _ (memo : List ℕ) (n : ℕ) (h : n ≤ length memo) (z : memo ≡ replicate (length memo) 0) where
@@ -46,16 +48,16 @@ module _ (memo : List ℕ) (n : ℕ) (h : n ≤ length memo) (z : memo ≡ repli
   pub part-again : (ys : List ℕ) → length ys ≡ length (take n memo) → n ≡ length (take n (ys ++ drop n memo))
   part-again ys e = sym (ap length (take-at ys (drop n memo) n (e ∙ sym part-long)) ∙ e ∙ sym part-long)
 
-pub fresh-ready : (I W : List ℕ) (m : Mark) (map memo : List ℕ) (id : ℕ) → Replaceable I W m map id → (m .terms ≤ length memo) × (memo ≡ replicate (length memo) 0) → Ready I W m map (take (m .terms) memo) id
+pub fresh-ready : (I W : List ℕ) (m : Mark) (map memo : List ℕ) (id : ℕ) → Replaceable I W m map id → (id < length memo) × (memo ≡ replicate (length memo) 0) → Replacing I W m map (take (id + 1) memo) id
 fresh-ready I W m map memo id r p =
-    let l = part-long memo (m .terms) (p .0) (p .1) in
-    let h = r .there in
+    let h = p .0 in
+    let l = part-long memo (id + 1) (omega arith) (p .1) in
     record {
       good = r .good;
       bound = r .bound;
       there = r .there;
       inside = omega arith;
-      knows = λ i q. absurd (let z = part-none memo (m .terms) (p .0) (p .1) i in omega arith);
+      knows = λ i q. absurd (let z = part-none memo (id + 1) (omega arith) (p .1) i in omega arith);
     }
 
 pub fresh-done : (I W J X : List ℕ) (m : Mark) (map memo memo′ : List ℕ) (id : ℕ) (r : Kept) → Substituted I W J X m map memo memo′ id r

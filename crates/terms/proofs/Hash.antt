@@ -6,7 +6,7 @@ use native.Mathlib.Omega.{arith}
 use native.Mathlib.Numerals.{add-one}
 use lib.ListN.{length, getD, drop, drop-of-length-le}
 use lib.Seq.{drop-cons}
-use Rattle.terms.specs.Table.{hashFrom, hash}
+use Rattle.terms.specs.Table.{hashFrom, hash, BUCKETS}
 
 -- what is left of the node decides
 pub record Hashing (w : List ℕ) (h i : ℕ) : Type 0 where
@@ -21,6 +21,6 @@ pub hashing-on : (w : List ℕ) (h i : ℕ) → Hashing w h i → i < length w �
 unfolding hashFrom
 hashing-on w h i c l = record { inside = omega arith; small = omega arith; left = c .left ∙ ap (hashFrom h) (drop-cons w i 0 l) ∙ rw (add-one i) }
 
-pub hashing-ends : (w : List ℕ) (h i : ℕ) → Hashing w h i → length w ≤ i → h / 1048576 ≡ hash w
+pub hashing-ends : (w : List ℕ) (h i : ℕ) → Hashing w h i → length w ≤ i → h / (4294967296 / BUCKETS) ≡ hash w
 unfolding hashFrom
 hashing-ends w h i c l = sym (c .left ∙ ap (hashFrom h) (drop-of-length-le w {i = i} l))

@@ -8,7 +8,7 @@ use native.Mathlib.Decide.{ℕ-discrete}
 use native.Mathlib.Numerals.{add-one}
 use lib.ListN.{length, getD, take, drop, length-append, length-drop, List·getD-append, drop-of-length-le}
 use lib.Seq.{length-take-le, take-all, take-at, drop-at, drop-drop, getD-take, getD-drop, getD-append-add}
-use Rattle.rules.specs.Limits.{TERMS, WORDS}
+use Rattle.rules.specs.Limits.{TERMS, WORDS, NODE}
 use Rattle.rules.specs.Out.{ok}
 use Rattle.rules.specs.Tree.{Tree, var, isOpen}
 use Rattle.rules.specs.Store.{Made, number, words, keep}
@@ -176,7 +176,7 @@ module _ (I W : List ℕ) (m : Mark) (w : List ℕ) (g : Good I W m) (c : Node (
             (last-or i (m .terms) (omega arith));
         narrow = λ i l. ⊎-elim
             (λ p. let a = start-same g same i (omega arith) in let b = same .ends i p in let d = g .narrow i p in omega arith)
-            (λ e. subst (λ (j : ℕ). getD J j 0 ≤ start J j + 17) (sym e) (let a = start-new in let b = k .end in omega arith))
+            (λ e. subst (λ (j : ℕ). getD J j 0 ≤ start J j + NODE) (sym e) (let a = start-new in let b = k .end in omega arith))
             (last-or i (m .terms) (omega arith));
         shaped = λ i l. ⊎-elim
             (λ p. subst (Shaped i) (sym (node-old i p)) (g .shaped i p))

@@ -5,7 +5,7 @@ pub mod Hash
 pub mod Finds
 pub mod Nodes
 pub mod Keeps
-pub mod Collects
+pub mod Visits
 pub mod Gathers
 pub mod Substs
 pub mod SubstLoop

@@ -9,7 +9,7 @@ use lib.ListN.{length, getD, set, length-set}
 use lib.Seq.{getD-set-same, getD-set-other}
 use lib.Dec.{leb}
 use borrow.Author.Tests.{le-leb, lt-leb}
-use Rattle.rules.specs.Limits.{PAIRS}
+use Rattle.rules.specs.Limits.{PAIRS, ARGUMENTS}
 use Rattle.rules.specs.Out.{Out, ok, refuse, then, Act, room}
 use Rattle.rules.specs.Tree.{Tree, Trees, countTrees}
 use Rattle.rules.specs.Store.{Made}
@@ -112,7 +112,7 @@ module _ (I W : List ℕ) (m : Mark) (P seen : List ℕ) (w s t : ℕ) (q : Look
     count : countTrees (argsOf (made I W m) (run W a n)) ≡ n
     count = args-count (made I W m) (run W a n) ∙ run-length W a n left-in
 
-    pub sum-small : w + n ≤ 528
+    pub sum-small : w + n ≤ PAIRS + ARGUMENTS
     sum-small = let x = asks .few in let y = q .few in omega arith
 
     pub look-crowd : PAIRS < w + n → Crowded w L

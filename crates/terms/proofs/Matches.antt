@@ -16,14 +16,14 @@ use Rattle.rules.specs.Store.{Made}
 use Rattle.rules.specs.Laws.Store.{Apart}
 use Rattle.rules.specs.Match.{Bound, matchVar, andThen, matches, matchAll}
 use Rattle.terms.specs.Table.{argsOf, treeAt}
-use Rattle.terms.specs.Patterns.{arity, Stands, Standing, Reads, treeIn, boundOf, Cells, Tried, hit, miss}
+use Rattle.terms.specs.Patterns.{arity, Stands, Standing, PatternAt, treeIn, boundOf, Cells, Tried, hit, miss}
 use Rattle.terms.specs.Laws.Tables.{tree-app, tree-var}
 use Rattle.terms.specs.Laws.Patterns.{stands-in, size-some}
 use Rattle.terms.specs.Laws.Bound.{bound-set, cells-set}
 
 -- Patterns in words ------------------------------------------------------------------------------------------------------------
 
-pub reads-in : (S P : List ℕ) (at : ℕ) → Reads S P at → at < length P
+pub reads-in : (S P : List ℕ) (at : ℕ) → PatternAt S P at → at < length P
 reads-in S P at r = stands-in S P at (r .tree) (r .stands)
 
 -- a word from SYMBOLS on is a variable's
@@ -36,7 +36,7 @@ stands-var S P at (var v) h l =
     (ap var e, omega arith)
 stands-var S P at (app c ts) h l = let a = h .1 in let b = h .2 in absurd (omega arith)
 
-pub reads-var : (S P : List ℕ) (at : ℕ) → Reads S P at → SYMBOLS ≤ getD P at 0 → getD P at 0 - SYMBOLS < RULEVARS
+pub reads-var : (S P : List ℕ) (at : ℕ) → PatternAt S P at → SYMBOLS ≤ getD P at 0 → getD P at 0 - SYMBOLS < RULEVARS
 reads-var S P at r l = stands-var S P at (r .tree) (r .stands) l .1
 
 -- a word below SYMBOLS is a symbol's, and its arguments stand behind it
@@ -122,11 +122,11 @@ pub record Matching (S P : List ℕ) (M : Made) (K : Option Bound) (behind : ℕ
   pub left : K ≡ matchAll patterns (argsOf M xs) (boundOf M C)
 
 module _ (S P : List ℕ) (M : Made) (K : Option Bound) (behind : ℕ) (C : List ℕ) (place : ℕ) where
-  pub matching-reads : (x : ℕ) (xs : List ℕ) → Matching S P M K behind C place (x ∷ xs) → Reads S P place
+  pub matching-reads : (x : ℕ) (xs : List ℕ) → Matching S P M K behind C place (x ∷ xs) → PatternAt S P place
   unfolding Stands countTrees
   matching-reads x xs q = go (q .patterns) (q .stands) (q .count)
     where
-      go : (ps : Trees) → Standing S P place ps → countTrees ps ≡ suc (length xs) → Reads S P place
+      go : (ps : Trees) → Standing S P place ps → countTrees ps ≡ suc (length xs) → PatternAt S P place
       go none s e = absurd (omega arith)
       go (more p ps) s e = record { tree = p; stands = s .0 }
 

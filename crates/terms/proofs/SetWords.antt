@@ -59,41 +59,64 @@ module _ (s : List ℕ) (v : ℕ) (h : v < 64 * length s) where
   pub insert-law : holds (set s (v / 64) inserted) ≡ plus v (holds s)
   insert-law = λ i w. insert-at w i
 
--- union_into -----------------------------------------------------------------------------------------------------------------
+-- Word by word ---------------------------------------------------------------------------------------------------------------
 
-pub record Joined (s t u : List ℕ) (i : ℕ) : Type 0 where
+-- in the first i words of u each bit is f of those of s and t; the others are as they were
+pub record Joined (f : Bool → Bool → Bool) (s t u : List ℕ) (i : ℕ) : Type 0 where
   pub inside : i ≤ length s
   pub long : length u ≡ length s
-  pub done : (k : ℕ) → k < i → getD u k 0 ≡ bitOr (getD s k 0) (getD t k 0)
+  pub done : (k : ℕ) → k < i → (j : ℕ) → j < 64 → digit (getD u k 0) j ≡ f (digit (getD s k 0) j) (digit (getD t k 0) j)
   pub left : (k : ℕ) → i ≤ k → getD u k 0 ≡ getD s k 0
 
-pub joined-none : (s t : List ℕ) → Joined s t s 0
-joined-none s t = record { inside = omega arith; long = refl; done = λ k l. absurd (not-suc-le-zero l); left = λ k l. refl }
+pub joined-none : (f : Bool → Bool → Bool) (s t : List ℕ) → Joined f s t s 0
+joined-none f s t = record { inside = omega arith; long = refl; done = λ k l. absurd (not-suc-le-zero l); left = λ k l. refl }
 
-pub joined-more : (s t u : List ℕ) (i : ℕ) → Joined s t u i → i < length u → Joined s t (set u i (bitOr (getD u i 0) (getD t i 0))) (i + 1)
-joined-more s t u i j h =
-    let z = j .long in
+-- the word x comes next
+pub joined-more : (f : Bool → Bool → Bool) (s t u : List ℕ) (i x : ℕ) → Joined f s t u i → i < length u
+    → ((j : ℕ) → j < 64 → digit x j ≡ f (digit (getD u i 0) j) (digit (getD t i 0) j)) → Joined f s t (set u i x) (i + 1)
+joined-more f s t u i x q h d =
+    let z = q .long in
     record {
       inside = omega arith;
-      long = length-set u i (bitOr (getD u i 0) (getD t i 0)) ∙ j .long;
+      long = length-set u i x ∙ q .long;
       done = below-more _ i
-          (λ k l. getD-set-other u i k (bitOr (getD u i 0) (getD t i 0)) 0 (λ e. omega arith) ∙ j .done k l)
-          (getD-set-same u i (bitOr (getD u i 0) (getD t i 0)) 0 h ∙ ap (λ (n : ℕ). bitOr n (getD t i 0)) (j .left i (omega arith)));
-      left = λ k l. getD-set-other u i k (bitOr (getD u i 0) (getD t i 0)) 0 (λ e. omega arith) ∙ j .left k (omega arith);
+          (λ k l j m. ap (λ (n : ℕ). digit n j) (getD-set-other u i k x 0 (λ e. omega arith)) ∙ q .done k l j m)
+          (λ j m. ap (λ (n : ℕ). digit n j) (getD-set-same u i x 0 h) ∙ d j m ∙ ap (λ (n : ℕ). f (digit n j) (digit (getD t i 0) j)) (q .left i (omega arith)));
+      left = λ k l. getD-set-other u i k x 0 (λ e. omega arith) ∙ q .left k (omega arith);
     }
 
-joined-at : (s t u : List ℕ) (i : ℕ) → Joined s t u i → length u ≤ i → length s ≡ length t → (k : ℕ) → getD u k 0 ≡ bitOr (getD s k 0) (getD t k 0)
-joined-at s t u i j h e k = elim (decLt k i) [
-  | yes l ↦ j .done k l
-  | no q ↦
-      let z = j .long in
-      List·getD-eq-default u 0 (omega arith)
-      ∙ sym (ap (λ (n : ℕ). bitOr n (getD t k 0)) (List·getD-eq-default s 0 (omega arith)) ∙ List·getD-eq-default t 0 (omega arith))
+joined-at : (f : Bool → Bool → Bool) → f false false ≡ false → (s t u : List ℕ) (i : ℕ) → Joined f s t u i → length u ≤ i → length s ≡ length t
+    → (k j : ℕ) → j < 64 → digit (getD u k 0) j ≡ f (digit (getD s k 0) j) (digit (getD t k 0) j)
+joined-at f n s t u i q h e k j m = elim (decLt k i) [
+  | yes l ↦ q .done k l j m
+  | no o ↦
+      let z = q .long in
+      ap (λ (n : ℕ). digit n j) (List·getD-eq-default u 0 (omega arith)) ∙ digit-of-zero j
+      ∙ sym (ap (λ (n : ℕ). f (digit n j) (digit (getD t k 0) j)) (List·getD-eq-default s 0 (omega arith)) ∙ ap (λ (n : ℕ). f (digit 0 j) (digit n j)) (List·getD-eq-default t 0 (omega arith))
+      ∙ (λ d. f (digit-of-zero j d) (digit-of-zero j d)) ∙ n)
 ]
 
-pub joined-all : (s t u : List ℕ) (i : ℕ) → Joined s t u i → length u ≤ i → length s ≡ length t → holds u ≡ union (holds s) (holds t)
+joined-all : (f : Bool → Bool → Bool) → f false false ≡ false → (s t u : List ℕ) (i : ℕ) → Joined f s t u i → length u ≤ i → length s ≡ length t
+    → (v : ℕ) → holds u v ≡ f (holds s v) (holds t v)
 unfolding holds
-joined-all s t u i j h e = λ d w. (ap (λ (n : ℕ). digit n (w % 64)) (joined-at s t u i j h e (w / 64)) ∙ digit-or (getD s (w / 64) 0) (getD t (w / 64) 0) (w % 64)) d
+joined-all f n s t u i q h e v = joined-at f n s t u i q h e (v / 64) (v % 64) (omega arith)
+
+-- one bit or the other
+pub or-more : (s t u : List ℕ) (i : ℕ) → Joined (λ p q. p || q) s t u i → i < length u → Joined (λ p q. p || q) s t (set u i (bitOr (getD u i 0) (getD t i 0))) (i + 1)
+or-more s t u i q h = joined-more (λ p q. p || q) s t u i (bitOr (getD u i 0) (getD t i 0)) q h (λ j m. digit-or (getD u i 0) (getD t i 0) j)
+
+pub or-all : (s t u : List ℕ) (i : ℕ) → Joined (λ p q. p || q) s t u i → length u ≤ i → length s ≡ length t → holds u ≡ union (holds s) (holds t)
+or-all s t u i q h e = λ d v. joined-all (λ p q. p || q) refl s t u i q h e v d
+
+-- one bit and not the other
+pub minus-more : (s t u : List ℕ) (i : ℕ) → Joined (λ p q. p && not q) s t u i → i < length u → getD t i 0 < 2 ^ 64
+    → Joined (λ p q. p && not q) s t (set u i (bitAnd (getD u i 0) (18446744073709551615 - getD t i 0))) (i + 1)
+minus-more s t u i q h l =
+    joined-more (λ p q. p && not q) s t u i (bitAnd (getD u i 0) (18446744073709551615 - getD t i 0)) q h
+    (λ j m. digit-and (getD u i 0) (18446744073709551615 - getD t i 0) j ∙ ap (λ (b : Bool). digit (getD u i 0) j && b) (digit-not j 64 (getD t i 0) m l))
+
+pub minus-all : (s t u : List ℕ) (i : ℕ) → Joined (λ p q. p && not q) s t u i → length u ≤ i → length s ≡ length t → holds u ≡ minus (holds s) (holds t)
+minus-all s t u i q h e = λ d v. joined-all (λ p q. p && not q) refl s t u i q h e v d
 
 -- What is in a and not in b --------------------------------------------------------------------------------------------------
 

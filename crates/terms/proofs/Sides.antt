@@ -12,9 +12,8 @@ use Rattle.rules.specs.Laws.Store.{then-ok, then-refuse, number-is}
 use Rattle.terms.specs.declared.store.Mark.{Mark}
 use Rattle.terms.specs.declared.store.Kept.{Kept}
 use Rattle.terms.specs.declared.store.Kept.the-variants.{Term, Full}
-use Rattle.terms.specs.Table.{made, Stored, Refused}
-use Rattle.terms.specs.Collect.{tree}
-use Rattle.terms.specs.Subst.{replacement, Knows, substituted, asked, Ready, Done, Substituted}
+use Rattle.terms.specs.Table.{made, Stored, Refused, tree}
+use Rattle.terms.specs.Subst.{replacement, Knows, substituted, asked, Replacing, Done, Substituted}
 use Rattle.terms.specs.Peel.{Sideable, sided, BothSides, NoSides}
 use Rattle.terms.specs.Laws.Tables.{length-trees}
 use Rattle.terms.specs.Laws.Growth.{grown-trans, grown-tree}
@@ -51,7 +50,7 @@ module _ (I W : List ℕ) (old : Mark) (theta memo : List ℕ) (s t : ℕ) (q : 
     same-asked : substituted J X mid theta t ≡ substituted I W old theta t
     same-asked = λ i. sub (same-replacement i) (same-tree i)
 
-    pub second-ready : length memo′ ≡ length memo → Ready J X mid theta memo′ t
+    pub second-ready : length memo′ ≡ length memo → Replacing J X mid theta memo′ t
     second-ready l =
         let g = first .stored .grown .more in
         let h = q .there in

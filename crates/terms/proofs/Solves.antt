@@ -25,8 +25,7 @@ use Rattle.terms.specs.declared.theta.Grew.{Grew}
 use Rattle.terms.specs.declared.theta.Grew.the-variants.{Ok, Full as NoRoom}
 use Rattle.terms.specs.declared.peel.Peeled.{Peeled}
 use Rattle.terms.specs.declared.peel.Peeled.the-variants.{Finished, Clash, Binds, Full}
-use Rattle.terms.specs.Table.{made, Refused}
-use Rattle.terms.specs.Collect.{tree}
+use Rattle.terms.specs.Table.{made, Refused, tree}
 use Rattle.terms.specs.Theta.{bindings, Theta, Extendable, Bound, Extended}
 use Rattle.terms.specs.Unify.{Solved, Unsolved}
 use Rattle.terms.specs.Peel.{thetaOf, pairsOf, weighs, peels, Results, Clashes, BindsOne, Finishes, PeeledAs, Solvable, solves, BoundMore}

@@ -14,19 +14,19 @@ use Rattle.terms.specs.declared.store.Mark.{Mark}
 use Rattle.terms.specs.declared.store.Kept.{Kept}
 use Rattle.terms.specs.declared.store.Kept.the-variants.{Term, Full}
 use Rattle.terms.specs.Table.{run, start, argsOf, treeAt, made, Shaped, isApp, Grown, Stored, Refused, After}
-use Rattle.terms.specs.Subst.{replacement, Known, renumbered, rebuilt, Rebuildable, Knows, substituted, asked, Ready, Done, Substituted}
+use Rattle.terms.specs.Subst.{replacement, Known, renumbered, rebuilt, Rebuildable, Knows, substituted, asked, Replacing, Done, Substituted}
 use Rattle.terms.specs.Laws.Runs.{run-length, run-at, run-same}
 use Rattle.terms.specs.Laws.Tables.{last-or, length-trees, tree-app}
 use Rattle.terms.specs.Laws.Growth.{grown-tree, grown-refl, grown-trans}
 use Rattle.terms.specs.Laws.Terms.{args-more, args-none, node-rise, node-narrow, node-within, node-inside, term-app, args-below}
 use Rattle.terms.specs.Laws.Theta.{replacement-grown}
+use Rattle.terms.specs.Laws.Answers.{after-term, after-full}
 use Rattle.terms.proofs.Gathers.{length-renumbered, getD-renumbered, args-renumbered}
 use Rattle.terms.proofs.Substs.{knows-set, keeps-set, known-set, knows-grown}
-use Rattle.terms.specs.Laws.Answers.{after-term, after-full}
 
 -- the tables J X at m hold what was made of the arguments before `at`; what is left of them decides
 pub record Looping (I W : List ℕ) (old : Mark) (map memo : List ℕ) (id s e : ℕ) (J X memo′ : List ℕ) (m : Mark) (at : ℕ) : Type 0 where
-  pub ready : Ready I W old map memo id
+  pub ready : Replacing I W old map memo id
   pub begins : s ≡ start I id
   pub ends : e ≡ getD I id 0
   pub small : getD W s 0 < SYMBOLS
@@ -40,7 +40,7 @@ pub record Looping (I W : List ℕ) (old : Mark) (map memo : List ℕ) (id s e :
   pub left : asked I W old map id
       ≡ then (makes (subs (replacement (made I W old) map) (argsOf (made I W old) (run W at (e - at)))) (made J X m)) (λ _ n. keep (substituted I W old map id) n)
 
-pub looping-begins : (I W : List ℕ) (old : Mark) (map memo : List ℕ) (id s : ℕ) → Ready I W old map memo id → s ≡ start I id → getD W s 0 < SYMBOLS
+pub looping-begins : (I W : List ℕ) (old : Mark) (map memo : List ℕ) (id s : ℕ) → Replacing I W old map memo id → s ≡ start I id → getD W s 0 < SYMBOLS
     → Looping I W old map memo id s (getD I id 0) I W memo old (s + 1)
 unfolding sub
 looping-begins I W old map memo id s r b h =
@@ -91,7 +91,7 @@ module _ (I W : List ℕ) (old : Mark) (map memo : List ℕ) (id s e : ℕ) (J X
     pub arg-falls : getD X at 0 < id
     arg-falls = rw (word-same at h) (arg-below at (l .from) h)
 
-    pub arg-ready : Ready J X m map memo′ (getD X at 0)
+    pub arg-ready : Replacing J X m map memo′ (getD X at 0)
     arg-ready =
         let a = arg-falls in
         let b = l .ready .there in

@@ -15,7 +15,7 @@ use Rattle.rules.specs.Laws.Tree.{sub-closed}
 use Rattle.rules.specs.Store.{Made}
 use Rattle.terms.specs.declared.store.Mark.{Mark}
 use Rattle.terms.specs.Table.{FLAGS, start, made, Grown}
-use Rattle.terms.specs.Subst.{replacement, image, Knows, substituted, Ready, Done}
+use Rattle.terms.specs.Subst.{replacement, image, Knows, substituted, Replacing, Done}
 use Rattle.terms.specs.Laws.Tables.{length-trees}
 use Rattle.terms.specs.Laws.Growth.{grown-tree}
 use Rattle.terms.specs.Laws.Terms.{no-variable, term-var}
@@ -58,7 +58,7 @@ knows-grown J X K Y m new w σ memo i p k =
 
 -- The result is there already --------------------------------------------------------------------------------------------------------------
 
-module _ (I W : List ℕ) (m : Mark) (map memo : List ℕ) (id : ℕ) (r : Ready I W m map memo id) where
+module _ (I W : List ℕ) (m : Mark) (map memo : List ℕ) (id : ℕ) (r : Replacing I W m map memo id) where
   pub sub-known : (getD memo id 0 ≡ 0 → ⊥) → Done I W I W m map memo memo id (getD memo id 0 - 1) m
   sub-known n =
       let k = r .knows id (omega arith) in

@@ -15,8 +15,7 @@ use Rattle.meaning.specs.Unification.Peel.{WithinBindings, lighter}
 use Rattle.terms.specs.declared.store.Mark.{Mark}
 use Rattle.terms.specs.declared.peel.Sides.{Sides}
 use Rattle.terms.specs.declared.peel.Next.{Next}
-use Rattle.terms.specs.Table.{made, Grown, Refused}
-use Rattle.terms.specs.Collect.{tree}
+use Rattle.terms.specs.Table.{made, Grown, Refused, tree}
 use Rattle.terms.specs.Subst.{Knows}
 use Rattle.terms.specs.Pairs.{waits}
 use Rattle.terms.specs.Peel.{thetaOf, pairsOf, Sideable, sided, BothSides, NoSides, Sided, Lookable, Onto, same, more, OntoPairs, Crowded}

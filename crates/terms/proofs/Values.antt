@@ -18,7 +18,7 @@ use Rattle.terms.specs.declared.store.Mark.{Mark}
 use Rattle.terms.specs.declared.store.Kept.{Kept}
 use Rattle.terms.specs.declared.store.Kept.the-variants.{Term, Full}
 use Rattle.terms.specs.Table.{made, Grown, Refused}
-use Rattle.terms.specs.Subst.{replacement, Knows, substituted, asked, Ready, Done, Substituted}
+use Rattle.terms.specs.Subst.{replacement, Knows, substituted, asked, Replacing, Done, Substituted}
 use Rattle.terms.specs.Theta.{bindings, inValues, Changeable, Changed}
 use Rattle.terms.specs.Laws.Tables.{length-trees}
 use Rattle.terms.specs.Laws.Growth.{grown-refl, grown-trans, grown-tree}
@@ -132,7 +132,7 @@ module _ (I W : List ℕ) (old : Mark) (theta map memo : List ℕ) (J X theta′
       low : id < old .terms
       low = let a = cell in let b = l .ready .cells .bound v in omega arith
 
-      pub value-ready : Ready J X m map memo′ id
+      pub value-ready : Replacing J X m map memo′ id
       value-ready =
           let a = low in
           let b = l .grown .more in

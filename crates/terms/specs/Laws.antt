@@ -16,3 +16,4 @@ pub mod Patterns
 pub mod Unify
 pub mod Answers
 pub mod Bound
+pub mod Seen

@@ -12,8 +12,7 @@ use Rattle.rules.specs.Store.{Made}
 use Rattle.rules.specs.Unify.{Binding}
 use Rattle.rules.specs.Laws.Store.{then-ok, then-refuse}
 use Rattle.terms.specs.declared.store.Mark.{Mark}
-use Rattle.terms.specs.Table.{made, Good, Grown, Stored, Refused}
-use Rattle.terms.specs.Collect.{tree}
+use Rattle.terms.specs.Table.{made, Good, Grown, Stored, Refused, tree}
 use Rattle.terms.specs.Patterns.{Builds, Stops}
 use Rattle.terms.specs.Theta.{bindings}
 use Rattle.terms.specs.Unify.{Solved, Unsolved}

@@ -4,15 +4,14 @@ use mathlib.Core.Path.{_≡_}
 use Prim.Native.Nat.{ℕ, zero, suc, _+_, _*_, _≤_, _<_}
 use mathlib.Core.List.{List, [], _∷_}
 use lib.ListN.{length, getD, set, replicate}
-use Rattle.rules.specs.Limits.{VARIABLES, TERMS}
+use Rattle.rules.specs.Limits.{ARGUMENTS, VARIABLES, TERMS}
 use Rattle.rules.specs.Tree.{var}
 use Rattle.rules.specs.Store.{Made}
 use Rattle.rules.specs.Unify.{Pair, Look, agree, clash, binds, parts}
 use Rattle.terms.specs.declared.store.Mark.{Mark}
 use Rattle.terms.specs.declared.pairs.Asks.{Asks}
 use Rattle.terms.specs.declared.pairs.Asks.the-variants.{Nothing, Clash, Binds, Parts}
-use Rattle.terms.specs.Table.{run, argsOf, made, Good}
-use Rattle.terms.specs.Collect.{tree}
+use Rattle.terms.specs.Table.{run, argsOf, made, Good, tree}
 
 -- What two terms ask for ---------------------------------------------------------------------------------------------------------
 
@@ -38,7 +37,7 @@ pub record PartsAt (I W : List ℕ) (m : Mark) (L : Look) (a b n : ℕ) : Type 0
   pub asks : L ≡ parts (argsOf (made I W m) (run W a n)) (argsOf (made I W m) (run W b n))
   pub left : a + n ≤ m .words
   pub right : b + n ≤ m .words
-  pub few : n ≤ 16
+  pub few : n ≤ ARGUMENTS
   pub lefts : (k : ℕ) → k < n → getD W (a + k) 0 < m .terms
   pub rights : (k : ℕ) → k < n → getD W (b + k) 0 < m .terms
 

@@ -24,9 +24,8 @@ use Rattle.terms.specs.declared.unify.Round.{Round}
 use Rattle.terms.specs.declared.unify.Round.the-variants as round
 use Rattle.terms.specs.declared.unify.Unified.{Unified}
 use Rattle.terms.specs.declared.unify.Unified.the-variants as unified
-use Rattle.terms.specs.Table.{made, Good, Grown, Refused}
-use Rattle.terms.specs.Collect.{tree}
-use Rattle.terms.specs.Subst.{replacement, Knows, substituted, Ready}
+use Rattle.terms.specs.Table.{made, Good, Grown, Refused, tree}
+use Rattle.terms.specs.Subst.{replacement, Knows, substituted, Replacing}
 use Rattle.terms.specs.Pairs.{waits, Comparable, BindsTo}
 use Rattle.terms.specs.Theta.{bindings, Theta, Zeros}
 use Rattle.terms.specs.Unify.{Solved, Unsolved}
@@ -42,7 +41,7 @@ pairsOf I W m P w = waits (made I W m) P w
 
 -- two terms, and a memo of results
 pub record Sideable (I W : List ℕ) (m : Mark) (theta memo : List ℕ) (s t : ℕ) : Type 0 where
-  pub left : Ready I W m theta memo s
+  pub left : Replacing I W m theta memo s
   pub there : t < m .terms
   pub inside : t < length memo
 

@@ -6,6 +6,7 @@ use mathlib.Core.Bool.{true, false}
 use mathlib.Core.List.{List, [], _∷_}
 use lib.ListN.{length, getD}
 use lib.Dec.{eqb}
+use Rattle.rules.specs.Limits.{NODE}
 use Rattle.rules.specs.Out.{Out}
 use Rattle.rules.specs.Tree.{Tree, var, sub}
 use Rattle.rules.specs.Store.{Made, make}
@@ -37,7 +38,7 @@ rebuilt W memo s e = getD W s 0 ∷ renumbered memo (run W (s + 1) (e - (s + 1))
 
 pub record Rebuildable (W memo : List ℕ) (s e : ℕ) : Type 0 where
   pub some : s < e
-  pub narrow : e ≤ s + 17
+  pub narrow : e ≤ s + NODE
   pub fits : e ≤ length W
   pub known : (k : ℕ) → s < k → k < e → Known memo (getD W k 0)
 
@@ -60,7 +61,7 @@ pub record Replaceable (I W : List ℕ) (m : Mark) (map : List ℕ) (id : ℕ) :
   pub bound : (v : ℕ) → getD map v 0 ≤ m .terms
   pub there : id < m .terms
 
-pub record Ready (I W : List ℕ) (m : Mark) (map memo : List ℕ) (id : ℕ) : Type 0 where
+pub record Replacing (I W : List ℕ) (m : Mark) (map memo : List ℕ) (id : ℕ) : Type 0 where
   pub good : Good I W m
   pub bound : (v : ℕ) → getD map v 0 ≤ m .terms
   pub there : id < m .terms

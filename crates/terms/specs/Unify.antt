@@ -13,8 +13,7 @@ use Rattle.rules.specs.Unify.{Binding}
 use Rattle.terms.specs.declared.store.Mark.{Mark}
 use Rattle.terms.specs.declared.unify.Unified.{Unified}
 use Rattle.terms.specs.declared.unify.Unified.the-variants.{Found, Apart, Full}
-use Rattle.terms.specs.Table.{made, Good, Grown, Refused}
-use Rattle.terms.specs.Collect.{tree}
+use Rattle.terms.specs.Table.{made, Good, Grown, Refused, tree}
 use Rattle.terms.specs.Theta.{bindings, Theta, Zeros}
 
 -- the cells beside the store, all of them zero

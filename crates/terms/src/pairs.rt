@@ -5,7 +5,7 @@ ghost use Prim.Native.Nat.{ℕ, _+_, _*_, _≤_, _<_};
 ghost use lib.ListN.{length, replicate};
 ghost use Rattle.rules.specs.Limits.{VARIABLES};
 ghost use Rattle.rules.specs.Unify.{bindOrClash, look};
-ghost use Rattle.terms.specs.Collect.{tree};
+ghost use Rattle.terms.specs.Table.{tree};
 ghost use Rattle.terms.specs.Pairs.{Searchable, Comparable, Answered, piled};
 use crate::store::Mark;
 use crate::store::start_of;

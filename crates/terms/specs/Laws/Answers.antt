@@ -14,13 +14,13 @@ use Rattle.terms.specs.declared.store.Mark.{Mark}
 use Rattle.terms.specs.declared.store.Kept.{Kept}
 use Rattle.terms.specs.declared.store.Kept.the-variants.{Term, Full}
 use Rattle.terms.specs.declared.patterns.Built.{Built}
-use Rattle.terms.specs.declared.patterns.Built.the-variants as built
 use Rattle.terms.specs.declared.unify.Unified.{Unified}
-use Rattle.terms.specs.declared.unify.Unified.the-variants as unified
 use Rattle.terms.specs.Table.{Stored, Refused, AfterAs, After}
 use Rattle.terms.specs.Patterns.{Builds, Stops, BuiltAs, BuiltBy}
 use Rattle.terms.specs.Theta.{Zeros}
 use Rattle.terms.specs.Unify.{Solved, Unsolved, UnifiedAs, UnifiedBy}
+use Rattle.terms.specs.declared.patterns.Built.the-variants as built
+use Rattle.terms.specs.declared.unify.Unified.the-variants as unified
 
 -- `keep`, `substitute`
 module _ {I W J X : List ℕ} {old : Mark} {t : Tree} {K : Out Made Tree} {r : Kept} (a : After I W J X old t K r) where

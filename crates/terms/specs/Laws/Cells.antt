@@ -2,9 +2,9 @@
 -- Assumes nothing.
 use mathlib.Core.Path.{_≡_, refl, sym, ap, _∙_}
 use mathlib.Core.List.{List, [], _∷_, _++_, append-nil, append-assoc}
-use Prim.Native.Nat.{ℕ, zero, suc, _+_, _-_, _≤_, _<_}
+use Prim.Native.Nat.{ℕ, zero, suc, _+_, _-_, _≤_, _<_, _*_}
 use native.Mathlib.Omega.{arith}
-use lib.ListN.{length, getD, take, drop, replicate, length-drop, length-replicate, getD-replicate, take-append-drop}
+use lib.ListN.{length, getD, take, drop, replicate, length-drop, length-replicate, getD-replicate, take-append-drop, replicate-append-replicate}
 use lib.Seq.{take-suc, take-add, take-all, take-take, length-take-le, ext-getD, getD-drop, getD-take}
 use Rattle.rules.specs.Limits.{SYMBOLS, TERMS, WORDS}
 use Rattle.rules.specs.Tree.{Tree, node}
@@ -13,7 +13,7 @@ use Rattle.rules.specs.Laws.Store.{Apart, words-more}
 use Rattle.rules.specs.TheoryTables.{filled}
 use Rattle.rules.specs.StateTables.{nodeCells, wordCells, endCells}
 use Rattle.terms.specs.declared.store.Mark.{Mark}
-use Rattle.terms.specs.Table.{start, nodeAt, treeAt, trees, made, Shaped, isVar, isApp, Good}
+use Rattle.terms.specs.Table.{start, nodeAt, treeAt, trees, made, Shaped, isVar, isApp, Good, settled}
 use Rattle.terms.specs.Laws.Tables.{length-trees, getD-trees, tree-here, tree-app, tree-var, tree-node, node-length}
 use Rattle.terms.specs.Laws.Numbers.{numbers-args}
 
@@ -100,6 +100,12 @@ module _ {I W : List ℕ} {m : Mark} (g : Good I W m) where
       let e : getD I n 0 ≡ 0 + words (trees I W n) + node t = omega arith in
       (take-suc I n 0 (omega arith) ∙ (λ i. ih .0 i ++ (e i ∷ [])) ∙ sym (ends-snoc 0 (trees I W n) t), omega arith)
 
+  ends-length : length (endCells 0 (made I W m)) ≡ m .terms
+  ends-length =
+      let a = g .index in
+      let b = g .room in
+      sym (ap length (ends-to (m .terms) (omega arith) .0)) ∙ length-take-le (m .terms) I (omega arith)
+
   -- the ends are those of the trees, and zero behind
   pub ends-are : take TERMS I ≡ filled TERMS (endCells 0 (made I W m))
   ends-are =
@@ -113,3 +119,18 @@ module _ {I W : List ℕ} {m : Mark} (g : Good I W m) where
       zeros-from (take TERMS I) (m .terms) (omega arith) (λ i p q. getD-take TERMS I i 0 (omega arith) ∙ g .no-ends i p (omega arith))
       ∙ (λ i. c i ++ replicate (f i) 0)
       ∙ sym (fill-law TERMS (endCells 0 (made I W m)) (omega arith))
+
+-- zeros behind a table that is filled up already
+fill-more : (k n : ℕ) (xs : List ℕ) → length xs ≤ k → filled k xs ++ replicate n 0 ≡ filled (k + n) xs
+fill-more k n xs h =
+    let e : k - length xs + n ≡ k + n - length xs = omega arith in
+    ap (λ (r : List ℕ). r ++ replicate n 0) (fill-law k xs h) ∙ append-assoc xs (replicate (k - length xs) 0) (replicate n 0)
+    ∙ ap (λ (r : List ℕ). xs ++ r) (replicate-append-replicate (k - length xs) n 0 ∙ ap (λ (j : ℕ). replicate j 0) e)
+    ∙ sym (fill-law (k + n) xs (omega arith))
+
+-- the index without its look-up part is the table that is left after a check
+pub settled-is : {I W : List ℕ} {m : Mark} → Good I W m → settled I ≡ filled (4 * TERMS) (endCells 0 (made I W m))
+settled-is {I} {W} {m} g =
+    let l = ends-length g in
+    let r = g .room in
+    ap (λ (x : List ℕ). x ++ replicate (3 * TERMS) 0) (ends-are g) ∙ fill-more TERMS (3 * TERMS) (endCells 0 (made I W m)) (omega arith)

@@ -13,8 +13,8 @@ use Rattle.rules.specs.Store.{Made}
 use Rattle.rules.specs.Laws.Store.{Apart}
 use Rattle.rules.specs.Match.{Bound}
 use Rattle.terms.specs.declared.store.Mark.{Mark}
-use Rattle.terms.specs.Table.{CHAINS, FLAGS, HEADS, INDEX, BUCKETS, start, nodeAt, treeAt, made, hash, bucket, latest, flag, Shaped}
-use Rattle.terms.specs.Table.{Good, Same, Grown, Part, Back}
+use Rattle.terms.specs.Table.{CHAINS, FLAGS, HEADS, INDEX, BUCKETS, start, nodeAt, treeAt, made, hash, bucket, latest, flag, Shaped, Good}
+use Rattle.terms.specs.Table.{Same, Grown, Part, Back}
 use Rattle.terms.specs.Patterns.{treeIn, boundOf, Cells}
 use Rattle.terms.specs.Laws.Runs.{run-at}
 use Rattle.terms.specs.Laws.Chains.{latest-agree}

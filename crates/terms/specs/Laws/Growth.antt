@@ -9,8 +9,7 @@ use lib.Seq.{ext-getD, length-take-le, getD-take}
 use Rattle.rules.specs.Tree.{var, more}
 use Rattle.rules.specs.Store.{Made}
 use Rattle.terms.specs.declared.store.Mark.{Mark}
-use Rattle.terms.specs.Table.{start, nodeAt, argsOf, made, Good, Same, Grown}
-use Rattle.terms.specs.Collect.{tree}
+use Rattle.terms.specs.Table.{start, nodeAt, argsOf, made, Good, Same, Grown, tree}
 use Rattle.terms.specs.Laws.Runs.{run-same}
 use Rattle.terms.specs.Laws.Tables.{end-within, getD-trees, length-trees, trees-same}
 

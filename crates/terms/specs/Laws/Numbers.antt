@@ -17,8 +17,7 @@ use Rattle.rules.specs.StateTables.{numbers}
 use Rattle.rules.specs.Laws.Tree.{same-self, not-same}
 use Rattle.rules.specs.Laws.Store.{Apart, Closed, Ins, number-le, number-is, number-of, stored-true, stored-false, make-old}
 use Rattle.terms.specs.declared.store.Mark.{Mark}
-use Rattle.terms.specs.Table.{argsOf, treeAt, made, Shaped, isVar, isApp, Good, Grown, Stored}
-use Rattle.terms.specs.Collect.{tree}
+use Rattle.terms.specs.Table.{argsOf, treeAt, made, Shaped, isVar, isApp, Good, Grown, Stored, tree}
 use Rattle.terms.specs.Node.{sameWords}
 use Rattle.terms.specs.Laws.Tables.{length-trees, tree-here, tree-app, tree-var, not-var-app}
 use Rattle.terms.specs.Laws.Growth.{made-length, grown-refl, grown-tree}

@@ -5,15 +5,17 @@ use mathlib.Core.List.{List, _∷_, []}
 use Prim.Native.Nat.{ℕ, _+_, _-_, _≤_, _<_, zero, suc, suc-le-suc}
 use native.Mathlib.Omega.{arith}
 use native.Mathlib.Nat.{not-suc-le-zero, zero-lt-suc}
+use native.Mathlib.Decide.{decLt}
 use lib.ListN.{length, getD}
 use borrow.Author.Tests.{eqb-true}
-use Rattle.rules.specs.Limits.{SYMBOLS, VARIABLES}
+use Rattle.rules.specs.Limits.{SYMBOLS, VARIABLES, NODE}
 use Rattle.rules.specs.Tree.{var, app, none, more, isOpen, Tree, variables, variablesOf}
 use Rattle.rules.specs.Store.{Made}
 use Rattle.rules.specs.Find.{Set}
 use Rattle.rules.specs.Laws.Tree.{variables-var, variables-app}
 use Rattle.terms.specs.declared.store.Mark.{Mark}
 use Rattle.terms.specs.Table.{FLAGS, run, start, nodeAt, argsOf, treeAt, made, flag, Shaped, isVar, isApp, Good}
+use Rattle.terms.specs.Node.{headOf}
 use Rattle.terms.specs.Laws.Runs.{run-length, run-at, run-more, run-none}
 use Rattle.terms.specs.Laws.Tables.{tree-here, tree-app, tree-var, end-within}
 
@@ -58,7 +60,7 @@ module _ (I W : List ℕ) (m : Mark) (g : Good I W m) (id : ℕ) (h : id < m .te
     pub node-rise : s < getD I id 0
     node-rise = let a = g .rise id h in omega arith
 
-    pub node-narrow : getD I id 0 ≤ s + 17
+    pub node-narrow : getD I id 0 ≤ s + NODE
     node-narrow = let a = g .narrow id h in omega arith
 
     pub node-within : getD I id 0 ≤ m .words
@@ -101,6 +103,14 @@ module _ (I W : List ℕ) (m : Mark) (g : Good I W m) (id : ℕ) (h : id < m .te
         let e : s + 1 + (at - (s + 1)) ≡ at = omega arith in
         let z = small-args (g .shaped id h) _ _ node-split q (at - (s + 1)) (omega arith) in
         subst (λ (y : ℕ). y < id) (run-at W (s + 1) (getD I id 0 - (s + 1)) (at - (s + 1)) (omega arith) ∙ ap (λ (k : ℕ). getD W k 0) e) z
+
+-- the first word is the tree's head
+pub head-tree : (I W : List ℕ) (m : Mark) → Good I W m → (id : ℕ) → id < m .terms → (s : ℕ) → s ≡ start I id → getD W s 0 ≡ headOf (getD (made I W m) id (var 0))
+unfolding headOf
+head-tree I W m g id h s b = elim (decLt (getD W s 0) SYMBOLS) [
+  | yes q ↦ sym (ap headOf (term-app I W m g id h s b q))
+  | no q ↦ (let z : getD W s 0 ≡ SYMBOLS + (getD W s 0 - SYMBOLS) = omega arith in z ∙ sym (ap headOf (term-var I W m g id h s b (omega arith))))
+]
 
 -- Variables -------------------------------------------------------------------------------------------------------------------------
 

@@ -9,8 +9,7 @@ use Rattle.rules.specs.Unify.{unify}
 use Rattle.meaning.specs.Trees.Tests.{occ-variables}
 use Rattle.meaning.specs.Unification.Right.{Unifier, unify-complete, unify-general}
 use Rattle.terms.specs.declared.store.Mark.{Mark}
-use Rattle.terms.specs.Table.{made}
-use Rattle.terms.specs.Collect.{tree}
+use Rattle.terms.specs.Table.{made, tree}
 use Rattle.terms.specs.Theta.{bindings}
 use Rattle.terms.specs.Unify.{Unifiable, Solved, Unsolved}
 
