@@ -1,6 +1,6 @@
 // Functions on terms for programs in other languages, which link the static library. What one requires, its caller keeps.
 ghost use mathlib.Core.Path.{_≡_};
-ghost use Prim.Native.Nat.{_≤_};
+ghost use Prim.Native.Nat.{_<_};
 ghost use lib.ListN.{length, replicate};
 ghost use Rattle.rules.specs.Find.{union};
 ghost use Rattle.rules.specs.Tree.{variables as variablesIn};
@@ -78,7 +78,7 @@ pub extern "C" fn tariff_substitute(
     id: usize,
 ) -> usize
     requires { ⌜ Replaceable (now index) (now words) (record { terms = count; words = used }) (now map) id ⌝ }
-    requires { ⌜ (count ≤ length (now memo)) × (now memo ≡ replicate (length (now memo)) 0) ⌝ }
+    requires { ⌜ (id < length (now memo)) × (now memo ≡ replicate (length (now memo)) 0) ⌝ }
     ensures { λ r. ⌜ Replaces (now (index .entry)) (now (words .entry)) (now (index .exit)) (now (words .exit)) (record { terms = count; words = used }) (now (map .entry)) id r ⌝ }
     ensures { λ _. ⌜ now (memo .exit) ≡ now (memo .entry) ⌝ }
 {

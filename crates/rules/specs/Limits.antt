@@ -73,14 +73,14 @@ abbrev pub NODE : ℕ
 NODE = ARGUMENTS + 1
 
 -- the words of 64 bits of a set: of variables, facts, rules, terms
-abbrev pub VARIABLE_WORDS : ℕ
-VARIABLE_WORDS = VARIABLES / 64
+abbrev pub VARIABLEWORDS : ℕ
+VARIABLEWORDS = VARIABLES / 64
 
-abbrev pub FACT_WORDS : ℕ
-FACT_WORDS = FACTS / 64
+abbrev pub FACTWORDS : ℕ
+FACTWORDS = FACTS / 64
 
-abbrev pub RULE_WORDS : ℕ
-RULE_WORDS = RULES / 64
+abbrev pub RULEWORDS : ℕ
+RULEWORDS = RULES / 64
 
-abbrev pub TERM_WORDS : ℕ
-TERM_WORDS = TERMS / 64
+abbrev pub TERMWORDS : ℕ
+TERMWORDS = TERMS / 64

@@ -36,10 +36,10 @@ pub const PAIRS: usize = 512;
 // What follows from them: the words of a node, a head and its arguments; and the words of 64 bits of a set of variables, facts, rules, terms.
 pub const NODE: usize = ARGUMENTS + 1;
 
-pub const VARIABLE_WORDS: usize = VARIABLES / 64;
+pub const VARIABLEWORDS: usize = VARIABLES / 64;
 
-pub const FACT_WORDS: usize = FACTS / 64;
+pub const FACTWORDS: usize = FACTS / 64;
 
-pub const RULE_WORDS: usize = RULES / 64;
+pub const RULEWORDS: usize = RULES / 64;
 
-pub const TERM_WORDS: usize = TERMS / 64;
+pub const TERMWORDS: usize = TERMS / 64;

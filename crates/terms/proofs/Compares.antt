@@ -7,7 +7,7 @@ use native.Mathlib.Omega.{arith}
 use lib.ListN.{getD, replicate}
 use lib.Dec.{eqb}
 use borrow.Author.Tests.{eq-eqb, ne-eqb}
-use Rattle.rules.specs.Limits.{SYMBOLS, VARIABLES, VARIABLE_WORDS}
+use Rattle.rules.specs.Limits.{SYMBOLS, VARIABLES, VARIABLEWORDS}
 use Rattle.rules.specs.Tree.{Tree, Trees, var, app, variables, countTrees}
 use Rattle.rules.specs.Laws.Tree.{same-eq, not-same}
 use Rattle.rules.specs.Laws.Store.{Apart}
@@ -70,7 +70,7 @@ unfolding bindOrClash
 bind-binds t x r e z = ap (λ (b : Bool). elim b [ true ↦ clash | false ↦ binds x t ]) (sym e ∙ z)
 
 module _ (I W : List ℕ) (m : Mark) (seen : List ℕ) (x id : ℕ) (q : Searchable I W m seen id) where
-  pub searches : Readable I W m id seen (replicate VARIABLE_WORDS 0)
+  pub searches : Readable I W m id seen (replicate VARIABLEWORDS 0)
   searches = record { good = q .good; there = q .there; wide = q .wide; broad = omega arith }
 
   pub bind-to : x < VARIABLES → (r : Bool) → r ≡ variables (tree I W m id) x → r ≡ false → BindsTo I W m (bindOrClash x (tree I W m id)) x id

@@ -12,7 +12,7 @@ use lib.Seq.{sets}
 use lib.Count.{trailingZeros}
 use Rattle.rules.specs.Find.{rising, risingFrom}
 use Rattle.rules.specs.Laws.Set.{rising-from-none, rising-from-here, rising-from-agree, rising-from-split}
-use Rattle.rules.specs.Limits.{TERMS, TERM_WORDS}
+use Rattle.rules.specs.Limits.{TERMS, TERMWORDS}
 use Rattle.terms.specs.Sets.{digit, holds, shifted}
 use Rattle.terms.specs.Laws.Digits.{digit-of-zero, Lowest, lowest, digit-shift, digit-high}
 use Rattle.terms.specs.Laws.Sets.{word-digit}
@@ -111,13 +111,13 @@ sets-append l i (x ∷ xs) ys =
 
 pub record LayingAll (s out₀ out : List ℕ) (n i : ℕ) : Type 0 where
   pub inside : i ≤ length s
-  pub few : length s ≤ TERM_WORDS
+  pub few : length s ≤ TERMWORDS
   pub room : n + length (risingFrom (i * 64) (64 * length s - i * 64) (holds s)) ≤ length out
   pub long : length out ≡ length out₀
   pub count : n + length (risingFrom (i * 64) (64 * length s - i * 64) (holds s)) ≡ length (rising (64 * length s) (holds s))
   pub cells : sets out n (risingFrom (i * 64) (64 * length s - i * 64) (holds s)) ≡ sets out₀ 0 (rising (64 * length s) (holds s))
 
-pub all-begins : (s out : List ℕ) → length s ≤ TERM_WORDS → length (rising (64 * length s) (holds s)) ≤ length out → LayingAll s out out 0 0
+pub all-begins : (s out : List ℕ) → length s ≤ TERMWORDS → length (rising (64 * length s) (holds s)) ≤ length out → LayingAll s out out 0 0
 unfolding rising
 all-begins s out h l =
     let e : 64 * length s - 0 * 64 ≡ 64 * length s = omega arith in

@@ -8,24 +8,16 @@ use Rattle.rules.specs.Out.{Out, then}
 use Rattle.rules.specs.Tree.{Tree, sub}
 use Rattle.rules.specs.Store.{Made, make, substitute}
 use Rattle.rules.specs.Unify.{Found}
-use Rattle.rules.specs.Laws.Store.{then-ok, then-refuse, number-is}
+use Rattle.rules.specs.Laws.Store.{then-ok, then-refuse}
 use Rattle.terms.specs.declared.store.Mark.{Mark}
 use Rattle.terms.specs.declared.store.Kept.{Kept}
 use Rattle.terms.specs.declared.store.Kept.the-variants.{Term, Full}
-use Rattle.terms.specs.Table.{made, Stored, Refused, tree}
+use Rattle.terms.specs.Table.{made, Refused, tree}
 use Rattle.terms.specs.Subst.{replacement, Knows, substituted, asked, Replacing, Done, Substituted}
 use Rattle.terms.specs.Peel.{Sideable, sided, BothSides, NoSides}
-use Rattle.terms.specs.Laws.Tables.{length-trees}
 use Rattle.terms.specs.Laws.Growth.{grown-trans, grown-tree}
 use Rattle.terms.specs.Laws.Theta.{replacement-grown}
-
--- the tree of a term that is stored
-stored-tree : (I W J X : List ℕ) (old : Mark) (t : Tree) (K : Out Made Tree) (n : ℕ) (new : Mark) → Stored I W J X old t K n new → tree J X new n ≡ t
-stored-tree I W J X old t K n new d =
-    let z = length-trees J X (new .terms) in
-    let h = d .there in
-    let e = d .numbered in
-    ap (λ (i : ℕ). tree J X new i) e ∙ number-is (made J X new) t (omega arith)
+use Rattle.terms.specs.Laws.Numbers.{stored-is}
 
 module _ (I W : List ℕ) (old : Mark) (theta memo : List ℕ) (s t : ℕ) (q : Sideable I W old theta memo s t) (J X memo′ : List ℕ) (r : Kept) (d : Substituted I W J X old theta memo memo′ s r) where
   abbrev σ : ℕ → Tree
@@ -80,8 +72,8 @@ module _ (I W : List ℕ) (old : Mark) (theta memo : List ℕ) (s t : ℕ) (q : 
       pub both-done : (c : ℕ) (new : Mark) → p ≡ Term c new → BothSides I W K Y old theta memo″ s t a c new
       both-done c new z =
           let f : Done J X K Y mid theta memo′ memo″ t c new = subst (Substituted J X K Y mid theta memo′ memo″ t) z b in
-          let l : tree K Y new a ≡ substituted I W old theta s = grown-tree (f .stored .grown) a (first .stored .there) ∙ stored-tree I W J X old _ _ a mid (first .stored) in
-          let r : tree K Y new c ≡ substituted I W old theta t = stored-tree J X K Y mid _ _ c new (f .stored) ∙ same-asked in
+          let l : tree K Y new a ≡ substituted I W old theta s = grown-tree (f .stored .grown) a (first .stored .there) ∙ stored-is (first .stored) in
+          let r : tree K Y new c ≡ substituted I W old theta t = stored-is (f .stored) ∙ same-asked in
           let g = f .stored .grown .more in
           let h = first .stored .there in
           record {

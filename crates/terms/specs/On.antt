@@ -1,6 +1,9 @@
 -- What a call did to the store, said once for every answer: `Went` where the definition's action is answered, `Stopped` where it refuses.
 -- And `On`: how far a definition's `do` block has come. It began at the tables I W and the mark old with the answer K; now the tables are J X at
--- the mark now, and K is what `rest` says. A law for each kind of step takes it from bind to bind. Assumes nothing.
+-- the mark now, and K is what `rest` says. A law for each kind of step goes from bind to bind: of a block that makes u, asks, looks v up and
+-- makes us, with g the tables' Good, p and d what the two calls did, q the test's answer and e what was found, the whole is
+--     on-done (on-ok _ (on-found-some _ _ (on-ask-yes _ _ (on-ok _ (on-start g) p) q) e) d)
+-- (the block shows each `_`). Assumes nothing.
 use mathlib.Core.Path.{_≡_, refl, ap, _∙_}
 use mathlib.Core.Bool.{Bool, true, false}
 use mathlib.Core.Option.{Option, some, none as nothing}
@@ -29,6 +32,13 @@ pub record Went {A : Type 0} (I W J X : List ℕ) (old : Mark) (K : Out Made A) 
 pub record Stopped {A : Type 0} (I W J X : List ℕ) (old : Mark) (K : Out Made A) (q d : ℕ) (new : Mark) : Type 0 where
   pub grown : Grown I W J X old new
   pub makes : K ≡ refuse q d (made J X new)
+
+-- an action that makes nothing
+pub pure-went : {A : Type 0} {I W : List ℕ} {m : Mark} {K : Out Made A} {a : A} → Good I W m → K ≡ ok a (made I W m) → Went I W I W m K a m
+pure-went g e = record { grown = grown-refl g; makes = e }
+
+pub pure-stopped : {A : Type 0} {I W : List ℕ} {m : Mark} {K : Out Made A} {q d : ℕ} → Good I W m → K ≡ refuse q d (made I W m) → Stopped I W I W m K q d m
+pure-stopped g e = record { grown = grown-refl g; makes = e }
 
 module _ {I W J X : List ℕ} {old new : Mark} where
   pub stored-went : {t : Tree} {K : Out Made Tree} {n : ℕ} → Stored I W J X old t K n new → Went I W J X old K t new
@@ -63,7 +73,6 @@ module _ {A : Type 0} {I W : List ℕ} {old : Mark} {K : Out Made A} {J X : List
   pub on-is : {rest other : Out Made A} → On I W old K J X now rest → rest ≡ other → On I W old K J X now other
   on-is o e = record { grown = o .grown; here = o .here ∙ e }
 
-  -- (f is written `_`: the state of the block shows it)
   module _ {B : Type 0} {Q : Out Made B} (f : B → Made → Out Made A) where
     -- the step went well, and f comes next
     pub on-ok : {Y Z : List ℕ} {new : Mark} {a : B} → On I W old K J X now (then Q f) → Went J X Y Z now Q a new → On I W old K Y Z new (f a (made Y Z new))

@@ -1,11 +1,11 @@
-// Sets of numbers as words of 64 bits: VARIABLE_WORDS of them for variables, FACT_WORDS for facts, RULE_WORDS for rules, TERM_WORDS for
+// Sets of numbers as words of 64 bits: VARIABLEWORDS of them for variables, FACTWORDS for facts, RULEWORDS for rules, TERMWORDS for
 // terms, which are the most. A contract speaks of the set (`holds`), never of a bit. A set is emptied by `cells::clear_words`.
 ghost use mathlib.Core.Path.{_≡_};
 ghost use Prim.Native.Nat.{ℕ, _+_, _*_, _≤_, _<_};
 ghost use lib.Dec.{eqb};
 ghost use lib.ListN.{length};
 ghost use lib.Seq.{sets};
-ghost use Rattle.rules.specs.Limits.{TERMS, TERM_WORDS};
+ghost use Rattle.rules.specs.Limits.{TERMS, TERMWORDS};
 ghost use Rattle.rules.specs.Find.{union, minus, least, rising, risingFrom};
 ghost use Rattle.terms.specs.Sets.{digit, holds, plus, shifted};
 
@@ -53,7 +53,7 @@ pub fn minus_from(set: &mut [u64], other: &[u64])
 
 // The lowest of a that is not in b, counted from 1; 0 where all of a is in b.
 pub fn lowest_outside(a: &[u64], b: &[u64]) -> usize
-    requires { ⌜ (length (now a) ≡ length (now b)) × (length (now a) ≤ TERM_WORDS) ⌝ }
+    requires { ⌜ (length (now a) ≡ length (now b)) × (length (now a) ≤ TERMWORDS) ⌝ }
     ensures { λ r. ⌜ r ≡ least (64 * length (now (a .entry))) (minus (holds (now (a .entry))) (holds (now (b .entry)))) ⌝ }
 {
     let mut i = 0;
@@ -69,7 +69,7 @@ pub fn lowest_outside(a: &[u64], b: &[u64]) -> usize
 
 // Whether all of a is in b.
 pub fn subset(a: &[u64], b: &[u64]) -> bool
-    requires { ⌜ (length (now a) ≡ length (now b)) × (length (now a) ≤ TERM_WORDS) ⌝ }
+    requires { ⌜ (length (now a) ≡ length (now b)) × (length (now a) ≤ TERMWORDS) ⌝ }
     ensures { λ r. ⌜ r ≡ eqb (least (64 * length (now (a .entry))) (minus (holds (now (a .entry))) (holds (now (b .entry))))) 0 ⌝ }
 {
     lowest_outside(a, b) == 0
@@ -84,7 +84,7 @@ fn ones_of(w: u64) -> usize
 
 // How many members the set has.
 pub fn count(set: &[u64]) -> usize
-    requires { ⌜ length (now set) ≤ TERM_WORDS ⌝ }
+    requires { ⌜ length (now set) ≤ TERMWORDS ⌝ }
     ensures { λ r. ⌜ r ≡ length (rising (64 * length (now (set .entry))) (holds (now (set .entry)))) ⌝ }
 {
     let mut n = 0;
@@ -117,7 +117,7 @@ fn write_word(word: u64, base: usize, out: &mut [u32], n: usize) -> usize
 
 // The members are written out by rising number from the first cell on; what comes back is how many they are.
 pub fn write_out(set: &[u64], out: &mut [u32]) -> usize
-    requires { ⌜ length (now set) ≤ TERM_WORDS ⌝ }
+    requires { ⌜ length (now set) ≤ TERMWORDS ⌝ }
     requires { ⌜ length (rising (64 * length (now set)) (holds (now set))) ≤ length (now out) ⌝ }
     ensures { λ r. ⌜ (r ≡ length (rising (64 * length (now (set .entry))) (holds (now (set .entry))))) × (now (out .exit) ≡ sets (now (out .entry)) 0 (rising (64 * length (now (set .entry))) (holds (now (set .entry))))) ⌝ }
 {

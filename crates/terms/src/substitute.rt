@@ -5,10 +5,10 @@ ghost use lib.ListN.{length, replicate};
 ghost use Rattle.rules.specs.Store.{substitute as substituteTree};
 ghost use Rattle.terms.specs.Table.{made, After, tree};
 ghost use Rattle.terms.specs.Subst.{replacement, substituted, Replaceable};
-use cells::clear;
 use crate::replace::replace;
 use crate::store::Kept;
 use crate::store::Mark;
+use cells::clear;
 
 // The term `id` under the substitution `map`. `memo` is scratch: zero before and after; arguments have smaller numbers than their term,
 // so that no cell behind `id` is used.

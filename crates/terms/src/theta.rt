@@ -5,10 +5,10 @@ ghost use Rattle.rules.specs.Unify.{replace};
 ghost use Rattle.terms.specs.Table.{made, tree};
 ghost use Rattle.terms.specs.Subst.{replacement};
 ghost use Rattle.terms.specs.Theta.{bindings, inValues, Changeable, ChangedAs, Extendable, Extended};
-use cells::clear;
 use crate::replace::replace;
 use crate::store::Kept;
 use crate::store::Mark;
+use cells::clear;
 
 // What is used of the store now, or the row of question 60 that has no room, with the mark of the moment.
 pub enum Grew {

@@ -6,12 +6,12 @@ ghost use Rattle.rules.specs.Unify.{unify};
 ghost use Rattle.terms.specs.Table.{made, tree};
 ghost use Rattle.terms.specs.Unify.{Unifiable, UnifiedBy};
 ghost use Rattle.terms.specs.Peel.{Results, Solvable, Rounded, solves, SolvedAs};
-use cells::clear;
 use crate::peel::Peeled;
 use crate::peel::peel;
 use crate::store::Mark;
 use crate::theta::Grew;
 use crate::theta::extend;
+use cells::clear;
 
 // Bindings are found; no unifier exists; or the row of question 60 that has no room. What is used of the store then.
 pub enum Unified {

@@ -2,31 +2,24 @@
 ghost use mathlib.Core.Path.{_≡_};
 ghost use Prim.Native.Nat.{ℕ, _*_, _≤_, _<_};
 ghost use lib.ListN.{length, replicate};
-ghost use Rattle.rules.specs.Limits.{VARIABLES, VARIABLE_WORDS};
+ghost use Rattle.rules.specs.Limits.{VARIABLES, VARIABLEWORDS};
 ghost use Rattle.rules.specs.Find.{union};
 ghost use Rattle.rules.specs.Tree.{variables as variablesIn};
 ghost use Rattle.terms.specs.Table.{tree};
 ghost use Rattle.terms.specs.Sets.{holds};
 ghost use Rattle.terms.specs.Collect.{Seen, Readable, Visited};
-use cells::clear_words;
 use crate::sets::has;
 use crate::sets::insert;
 use crate::store::FLAGS;
 use crate::store::Mark;
 use crate::store::start_of;
+use cells::clear_words;
 use rules::SYMBOLS;
-use rules::VARIABLE_WORDS;
+use rules::VARIABLEWORDS;
 
 // The variables of the term `id` join the set, and its open nodes those that were visited; a term that was visited has its own there already,
 // so that over many calls, too, a shared subterm is visited once.
-pub fn visit(
-    index: &[u32],
-    words: &[u32],
-    mark: Mark,
-    id: usize,
-    seen: &mut [u64],
-    set: &mut [u64],
-)
+pub fn visit(index: &[u32], words: &[u32], mark: Mark, id: usize, seen: &mut [u64], set: &mut [u64])
     requires { ⌜ Readable (now index) (now words) mark id (now seen) (now set) ⌝ }
     requires { ⌜ Seen (now index) (now words) mark (holds (now seen)) (holds (now set)) ⌝ }
     ensures { λ _. ⌜ Visited (now (index .entry)) (now (words .entry)) mark id (holds (now (seen .entry))) (holds (now (set .entry))) (holds (now (seen .exit))) (holds (now (set .exit))) ⌝ }
@@ -79,11 +72,11 @@ pub fn occurs(
     x: usize,
     seen: &mut [u64],
 ) -> bool
-    requires { ⌜ Readable (now index) (now words) mark id (now seen) (replicate VARIABLE_WORDS 0) ⌝ }
+    requires { ⌜ Readable (now index) (now words) mark id (now seen) (replicate VARIABLEWORDS 0) ⌝ }
     requires { ⌜ (now seen ≡ replicate (length (now seen)) 0) × (x < VARIABLES) ⌝ }
     ensures { λ r. ⌜ (r ≡ variablesIn (tree (now (index .entry)) (now (words .entry)) mark id) x) × (now (seen .exit) ≡ now (seen .entry)) ⌝ }
 {
-    let mut set = [0u64; VARIABLE_WORDS];
+    let mut set = [0u64; VARIABLEWORDS];
     variables(index, words, mark, id, seen, &mut set);
     has(&set, x)
 }

@@ -11,27 +11,16 @@ use Rattle.rules.specs.Out.{Out}
 use Rattle.rules.specs.Tree.{Tree}
 use Rattle.rules.specs.Store.{Made}
 use Rattle.terms.specs.declared.store.Mark.{Mark}
-use Rattle.terms.specs.declared.store.Kept.{Kept}
-use Rattle.terms.specs.declared.store.Kept.the-variants.{Term as Number, Full as NoRoom}
 use Rattle.terms_main.specs.declared.Placed.{Placed}
 use Rattle.terms_main.specs.declared.Placed.the-variants.{Term, Full}
-use Rattle.terms.specs.Table.{start, isVar, isApp, Node, Good, Grown, Stored, After}
-use Rattle.terms_main.specs.Parts.{There, ReadAs}
+use Rattle.terms.specs.Table.{start, isVar, isApp, Node, Good, Grown, Stored}
+use Rattle.terms_main.specs.Parts.{There, ReadAs, ReadBy}
 use Rattle.terms.specs.Unify.{Scratch, Unifiable}
 use Rattle.terms.specs.Laws.Growth.{grown-trans}
 use Rattle.terms.specs.Laws.Terms.{node-inside, args-below, variables-few}
 
--- Answers of the store ---------------------------------------------------------------------------------------------------------
-
-module _ (I W J X : List ℕ) (m : Mark) (t : Tree) (K : Out Made Tree) (k : Kept) (a : After I W J X m t K k) where
-  pub stored : (n : ℕ) (new : Mark) → k ≡ Number n new → Stored I W J X m t K n new
-  stored n new e = subst (λ (l : Kept). After I W J X m t K l) e a
-
-  pub kept : (n : ℕ) (new : Mark) → k ≡ Number n new → There I W J X m n new
-  kept n new e = let s = stored n new e in record { grown = s .grown; there = s .there }
-
-  pub unkept : (r : ℕ) (new : Mark) → k ≡ NoRoom r new → Grown I W J X m new
-  unkept r new e = let f : After I W J X m t K (NoRoom r new) = subst (λ (l : Kept). After I W J X m t K l) e a in f .grown
+pub stored-there : {I W J X : List ℕ} {m new : Mark} {t : Tree} {K : Out Made Tree} {n : ℕ} → Stored I W J X m t K n new → There I W J X m n new
+stored-there s = record { grown = s .grown; there = s .there }
 
 -- Nodes ------------------------------------------------------------------------------------------------------------------------
 
@@ -53,24 +42,28 @@ module _ (n h a b : ℕ) (p : h < SYMBOLS) (l : a < n) (r : b < n) where
 
 -- Reading ----------------------------------------------------------------------------------------------------------------------
 
-module _ (I W J X : List ℕ) (m : Mark) (at : ℕ) (r : Placed) (h : ReadAs I W J X m at r) where
-  pub as-term : (id next : ℕ) (new : Mark) → r ≡ Term id next new → There I W J X m id new × (at ≤ next)
-  as-term id next new e = subst (λ (q : Placed). ReadAs I W J X m at q) e h
+module _ {I W J X : List ℕ} {m : Mark} {at : ℕ} {r : Placed} (h : ReadBy I W J X m at r) where
+  pub as-term : {id next : ℕ} {new : Mark} → r ≡ Term id next new → There I W J X m id new × (at ≤ next)
+  as-term e = subst (λ (q : Placed). ReadAs I W J X m at q) e (h .says)
 
-  pub as-full : (new : Mark) → r ≡ Full new → Grown I W J X m new
-  as-full new e = subst (λ (q : Placed). ReadAs I W J X m at q) e h
+  pub as-full : {new : Mark} → r ≡ Full new → Grown I W J X m new
+  as-full e = subst (λ (q : Placed). ReadAs I W J X m at q) e (h .says)
 
-pub sooner : (I W J X : List ℕ) (m : Mark) (at : ℕ) (r : Placed) → ReadAs I W J X m (at + 1) r → ReadAs I W J X m at r
-sooner I W J X m at (Term id next new) h = (h .0, omega (arith, h .1))
-sooner I W J X m at (Full new) h = h
+pub sooner : (I W J X : List ℕ) (m : Mark) (at : ℕ) (r : Placed) → ReadBy I W J X m (at + 1) r → ReadBy I W J X m at r
+sooner I W J X m at (Term id next new) h = record { says = (h .says .0, omega (arith, h .says .1)) }
+sooner I W J X m at (Full new) h = record { says = h .says }
 
 -- two terms, then the one over both
 pub both-read : (I W J X K Y L Z : List ℕ) (m n l : Mark) (at a p b q : ℕ) (r : Placed) → There I W J X m a n × (at + 1 ≤ p) → There J X K Y n b l × (p ≤ q)
-    → ReadAs K Y L Z l q r → ReadAs I W L Z m at r
+    → ReadBy K Y L Z l q r → ReadBy I W L Z m at r
 both-read I W J X K Y L Z m n l at a p b q (Term id next new) f g h =
-    (record { grown = grown-trans (grown-trans (f .0 .grown) (g .0 .grown)) (h .0 .grown); there = h .0 .there }, omega (arith, f .1, g .1, h .1))
-both-read I W J X K Y L Z m n l at a p b q (Full new) f g h =
-    grown-trans (grown-trans (f .0 .grown) (g .0 .grown)) h
+    record {
+      says = (
+        record { grown = grown-trans (grown-trans (f .0 .grown) (g .0 .grown)) (h .says .0 .grown); there = h .says .0 .there },
+        omega (arith, f .1, g .1, h .says .1),
+      );
+    }
+both-read I W J X K Y L Z m n l at a p b q (Full new) f g h = record { says = grown-trans (grown-trans (f .0 .grown) (g .0 .grown)) (h .says) }
 
 -- what unification asks of a term that was there and of one that was read
 pub unifies-both : (I W J X : List ℕ) (m n : Mark) (s t : ℕ) (theta map memo pairs seen : List ℕ) → s < m .terms → There I W J X m t n → Scratch theta map memo pairs seen

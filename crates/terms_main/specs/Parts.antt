@@ -25,3 +25,6 @@ pub record There (I W J X : List ℕ) (old : Mark) (id : ℕ) (new : Mark) : Typ
 abbrev pub ReadAs : List ℕ → List ℕ → List ℕ → List ℕ → Mark → ℕ → Placed → Type 0
 ReadAs I W J X old at (Term id next new) = There I W J X old id new × (at ≤ next)
 ReadAs I W J X old at (Full new) = Grown I W J X old new
+
+pub record ReadBy (I W J X : List ℕ) (old : Mark) (at : ℕ) (r : Placed) : Type 0 where
+  pub says : ReadAs I W J X old at r

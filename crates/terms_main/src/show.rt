@@ -2,7 +2,7 @@
 ghost use mathlib.Core.Path.{_≡_};
 ghost use Prim.Native.Nat.{_*_, _≤_, _<_};
 ghost use lib.ListN.{length};
-ghost use Rattle.rules.specs.Limits.{TERMS};
+ghost use Rattle.rules.specs.Limits.{TERMS, VARIABLEWORDS};
 ghost use Rattle.terms.specs.Table.{Good, Grown};
 ghost use Rattle.terms.specs.Subst.{Replaceable};
 ghost use Rattle.terms.specs.Theta.{Theta, Zeros};
@@ -10,6 +10,7 @@ use crate::A;
 use crate::B;
 use rules::SYMBOLS;
 use rules::VARIABLES;
+use rules::VARIABLEWORDS;
 use terms::store::Kept;
 use terms::store::Mark;
 use terms::store::start_of;
@@ -85,7 +86,7 @@ fn show_bindings(index: &[u32], words: &[u32], mark: Mark, theta: &[u32])
 
 // Writes the variables of a set.
 fn show_set(set: &[u64])
-    requires { ⌜ length (now set) ≡ 8 ⌝ }
+    requires { ⌜ length (now set) ≡ VARIABLEWORDS ⌝ }
 {
     let mut v = 0;
     while v < VARIABLES {
@@ -103,7 +104,7 @@ fn show_variables(index: &[u32], words: &[u32], mark: Mark, id: usize, seen: &mu
     requires { ⌜ (TERMS ≤ 64 * length (now seen)) × Zeros (now seen) ⌝ }
     ensures { λ _. ⌜ now (seen .exit) ≡ now (seen .entry) ⌝ }
 {
-    let mut set = [0u64; 8];
+    let mut set = [0u64; VARIABLEWORDS];
     terms::variables::variables(index, words, mark, id, seen, &mut set);
     io::write_all(1, b"variables");
     show_set(&set);

@@ -10,7 +10,7 @@ use native.Mathlib.Decide.{decLt, ℕ-discrete}
 use lib.ListN.{length, getD}
 use lib.Dec.{eqb}
 use borrow.Author.Tests.{eq-eqb, ne-eqb}
-use Rattle.rules.specs.Out.{ok}
+use Rattle.rules.specs.Out.{Out, ok}
 use Rattle.rules.specs.Tree.{Tree, Trees, var, app, more, sameTree, sameTrees}
 use Rattle.rules.specs.Store.{Made, stored, number, make}
 use Rattle.rules.specs.StateTables.{numbers}
@@ -125,6 +125,14 @@ module _ {I W : List ℕ} {m : Mark} (g : Good I W m) where
         there = h;
       }
 
+-- the tree that was stored stands at its number
+pub stored-is : {I W J X : List ℕ} {old new : Mark} {t : Tree} {K : Out Made Tree} {n : ℕ} → Stored I W J X old t K n new → tree J X new n ≡ t
+stored-is {J = J} {X = X} {new = new} {t = t} s =
+    let l = made-length J X new in
+    let h = s .there in
+    let e = s .numbered in
+    ap (λ (i : ℕ). tree J X new i) e ∙ number-is (made J X new) t (omega arith)
+
 -- Growth -----------------------------------------------------------------------------------------------------------------------------
 
 module _ {I W J X : List ℕ} {old new : Mark} (w : Grown I W J X old new) where
@@ -143,6 +151,10 @@ module _ {I W J X : List ℕ} {old new : Mark} (w : Grown I W J X old new) where
   grown-number t e =
       let a = grown-at t e in
       sym (ap (number (made J X new)) (a .1)) ∙ tree-number (w .good) (number (made I W old) t) (a .0)
+
+  -- an old term's tree still has its number
+  pub grown-tree-number : (i : ℕ) → i < old .terms → number (made J X new) (tree I W old i) ≡ i
+  grown-tree-number i h = grown-number (tree I W old i) (tree-stored (w .was) i h) ∙ tree-number (w .was) i h
 
   -- so do many
   pub grown-numbers : (xs : List ℕ) → ((k : ℕ) → k < length xs → getD xs k 0 < old .terms) → numbers (made J X new) (argsOf (made I W old) xs) ≡ numbers (made I W old) (argsOf (made I W old) xs)

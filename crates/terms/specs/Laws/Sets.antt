@@ -10,7 +10,7 @@ use lib.ListN.{getD, replicate, length, List·getD-eq-default}
 use lib.Seq.{ext-getD}
 use borrow.Author.Tests.{eq-eqb, ne-eqb}
 use Rattle.rules.specs.Find.{empty, Set, has, union, rising}
-use Rattle.rules.specs.Limits.{RULES, RULE_WORDS}
+use Rattle.rules.specs.Limits.{RULES, RULEWORDS}
 use Rattle.rules.specs.StateTables.{bitWord}
 use Rattle.rules.specs.Laws.Rising.{RisesFrom, Rises, rising-rises}
 use Rattle.rules.specs.Laws.Members.{has-rising-all}
@@ -135,7 +135,7 @@ word-bits w n k h l =
 abbrev pub footingWords : List ℕ → List ℕ
 footingWords xs = bitWord xs 0 ∷ bitWord xs 1 ∷ bitWord xs 2 ∷ bitWord xs 3 ∷ []
 
-four : (w : List ℕ) → length w ≡ RULE_WORDS → w ≡ getD w 0 0 ∷ getD w 1 0 ∷ getD w 2 0 ∷ getD w 3 0 ∷ []
+four : (w : List ℕ) → length w ≡ RULEWORDS → w ≡ getD w 0 0 ∷ getD w 1 0 ∷ getD w 2 0 ∷ getD w 3 0 ∷ []
 four [] e = absurd (omega arith)
 four (a ∷ []) e = absurd (omega arith)
 four (a ∷ b ∷ []) e = absurd (omega arith)
@@ -144,12 +144,12 @@ four (a ∷ b ∷ c ∷ d ∷ []) e = refl
 four (a ∷ b ∷ c ∷ d ∷ f ∷ fs) e = absurd (omega arith)
 
 -- the words of a set of rules, from the set
-pub footing-words : (w : List ℕ) (n : ℕ) → length w ≡ RULE_WORDS → ((i : ℕ) → getD w i 0 < 2 ^ 64) → ((v : ℕ) → holds w v ≡ true → v < n) → w ≡ footingWords (rising n (holds w))
+pub footing-words : (w : List ℕ) (n : ℕ) → length w ≡ RULEWORDS → ((i : ℕ) → getD w i 0 < 2 ^ 64) → ((v : ℕ) → holds w v ≡ true → v < n) → w ≡ footingWords (rising n (holds w))
 footing-words w n l b h =
     four w l
     ∙ (λ i. word-bits w n 0 h (b 0) i ∷ word-bits w n 1 h (b 1) i ∷ word-bits w n 2 h (b 2) i ∷ word-bits w n 3 h (b 3) i ∷ [])
 
-footing-at : (xs : List ℕ) (i : ℕ) → i < RULE_WORDS → getD (footingWords xs) i 0 ≡ bitWord xs i
+footing-at : (xs : List ℕ) (i : ℕ) → i < RULEWORDS → getD (footingWords xs) i 0 ≡ bitWord xs i
 footing-at xs zero l = refl
 footing-at xs (suc zero) l = refl
 footing-at xs (suc (suc zero)) l = refl
