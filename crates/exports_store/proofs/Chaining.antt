@@ -6,18 +6,20 @@ use native.Mathlib.Omega.{arith}
 use native.Mathlib.Decide.{ℕ-discrete}
 use native.Mathlib.Numerals.{add-one}
 use lib.ListN.{length, getD, set}
-use Rattle.rules.specs.Limits.{SYMBOLS, TERMS}
+use Rattle.rules.specs.Limits.{TERMS}
 use Rattle.rules.specs.Out.{Out, ok, refuse, then}
 use Rattle.rules.specs.Tree.{Tree, var, app, none, more}
 use Rattle.rules.specs.Store.{Made, number, keep}
-use Rattle.rules.specs.Laws.Store.{number-is, number-of}
+use Rattle.rules.specs.Laws.Store.{number-of}
 use Rattle.terms.specs.declared.store.Mark.{Mark}
 use Rattle.terms.specs.declared.store.Kept.{Kept}
 use Rattle.terms.specs.declared.store.Kept.the-variants.{Term, Full}
 use Rattle.terms.specs.Table.{argsOf, treeAt, made, isApp, Node, Good, Stored, Refused, After, numberOf}
-use Rattle.terms.proofs.Tables.{tree-app, length-trees}
-use Rattle.terms.proofs.Sames.{getD-grown, grown-self, grown-then}
+use Rattle.terms.specs.Laws.Tables.{tree-app, length-trees}
+use Rattle.terms.specs.Laws.Growth.{grown-tree, grown-refl, grown-trans}
 use Rattle.exports_store.specs.Chains.{chain, links, Chained}
+use Rattle.terms.specs.Laws.Answers.{after-term, after-full}
+use Rattle.terms.specs.Laws.Numbers.{stored-is}
 
 next-tree : (M : Made) (last first : ℕ) (t : Tree) (k : ℕ) → getD M last (var 0) ≡ chain t k → getD M first (var 0) ≡ t → treeAt M (9 ∷ last ∷ first ∷ []) ≡ chain t (suc k)
 unfolding chain argsOf
@@ -35,13 +37,6 @@ links-stop t M N r k (suc i) h e = elim (ℕ-discrete k (suc i)) [
   | yes q ↦ ap (λ (j : ℕ). links t j M) (sym q) ∙ e
   | no q ↦ ap (λ (o : Out Made Tree). then o (λ _ m. keep (chain t (suc i)) m)) (links-stop t M N r k i (omega arith) e)
 ]
-
-there-is : (I W J X : List ℕ) (o m : Mark) (t : Tree) (K : Out Made Tree) (n : ℕ) → Stored I W J X o t K n m → getD (made J X m) n (var 0) ≡ t
-there-is I W J X o m t K n s =
-    let z = length-trees J X (m .terms) in
-    let e = s .numbered in
-    let h = s .there in
-    ap (λ (i : ℕ). getD (made J X m) i (var 0)) e ∙ number-is (made J X m) t (omega arith)
 
 next-node : (n last first : ℕ) → last < n → first < n → Node n (9 ∷ last ∷ first ∷ [])
 next-node n last first h l = record { narrow = omega arith; shaped = isApp {h = 9} {xs = last ∷ first ∷ []} (omega arith) inside }
@@ -66,7 +61,7 @@ chaining-begins I W first times o g h =
       old = g;
       there = h;
       stored = record {
-        grown = grown-self I W o g;
+        grown = grown-refl g;
         makes = refl;
         numbered = sym (number-of (made I W o) (g .apart) first (let z = length-trees I W (o .terms) in omega arith) (getD (made I W o) first (var 0)) refl);
         there = h;
@@ -97,21 +92,21 @@ module _ (I W : List ℕ) (o : Mark) (J X node : List ℕ) (first times last : �
   tree-is : treeAt (made J X m) (set node 1 last) ≡ chain tree (suc n)
   tree-is =
       ap (treeAt (made J X m)) chaining-cells
-      ∙ next-tree (made J X m) last first tree n (there-is I W J X o m (chain tree n) (links tree n (made I W o)) last (c .stored))
-      (getD-grown I W J X o (c .old) (c .stored .grown .same) (m .terms) first (c .stored .grown .more) (c .there))
+      ∙ next-tree (made J X m) last first tree n (stored-is (c .stored))
+      (grown-tree (c .stored .grown) first (c .there))
 
   module _ (K Y : List ℕ) (r : Kept) (a : After J X K Y m (treeAt (made J X m) (set node 1 last)) (keep (treeAt (made J X m) (set node 1 last)) (made J X m)) r) (l : n < times) where
     pub chaining-on : (next : ℕ) (new : Mark) → r ≡ Term next new → Chaining I W o K Y (set node 1 last) first times next new (n + 1)
     chaining-on next new e =
         let f : Stored J X K Y m (chain tree (suc n)) (keep (chain tree (suc n)) (made J X m)) next new =
         subst (λ (t : Tree). Stored J X K Y m t (keep t (made J X m)) next new) tree-is
-        (subst (After J X K Y m (treeAt (made J X m) (set node 1 last)) (keep (treeAt (made J X m) (set node 1 last)) (made J X m))) e a) in
+        (after-term a e) in
         record {
           old = c .old;
           there = c .there;
           stored = subst (λ (k : ℕ). Stored I W K Y o (chain tree k) (links tree k (made I W o)) next new) (sym (add-one n))
               (record {
-                grown = grown-then I W J X K Y o m new (c .stored .grown) (f .grown);
+                grown = grown-trans (c .stored .grown) (f .grown);
                 makes = next-links tree (made I W o) (made J X m) n (c .stored .makes) ∙ f .makes;
                 numbered = f .numbered;
                 there = f .there;
@@ -124,14 +119,16 @@ module _ (I W : List ℕ) (o : Mark) (J X node : List ℕ) (first times last : �
     unfolding numberOf
     chaining-full row new e =
         let f : Refused Tree J X K Y m (keep (treeAt (made J X m) (set node 1 last)) (made J X m)) row new =
-        subst (After J X K Y m (treeAt (made J X m) (set node 1 last)) (keep (treeAt (made J X m) (set node 1 last)) (made J X m))) e a in
+        after-full a e in
         let y : links tree (suc n) (made I W o) ≡ refuse 60 row (made K Y new) =
         next-links tree (made I W o) (made J X m) n (c .stored .makes) ∙ ap (λ (t : Tree). keep t (made J X m)) (sym tree-is) ∙ f .makes in
         record {
           kept = Full row new;
           after = record {
-            grown = grown-then I W J X K Y o m new (c .stored .grown) (f .grown);
-            makes = links-stop tree (made I W o) (made K Y new) row (suc n) times (omega arith) y;
+            says = record {
+              grown = grown-trans (c .stored .grown) (f .grown);
+              makes = links-stop tree (made I W o) (made K Y new) row (suc n) times (omega arith) y;
+            };
           };
           number = refl;
         }
@@ -143,6 +140,6 @@ module _ (I W : List ℕ) (o : Mark) (J X node : List ℕ) (first times last : �
       let z : n ≡ times = omega arith in
       record {
         kept = Term last m;
-        after = subst (λ (k : ℕ). Stored I W J X o (chain tree k) (links tree k (made I W o)) last m) z (c .stored);
+        after = record { says = subst (λ (k : ℕ). Stored I W J X o (chain tree k) (links tree k (made I W o)) last m) z (c .stored) };
         number = refl;
       }

@@ -7,8 +7,7 @@ use Rattle.rules.specs.Store.{keep, substitute}
 use Rattle.terms.specs.declared.store.Mark.{Mark}
 use Rattle.terms.specs.declared.store.Kept.{Kept}
 use Rattle.terms.specs.declared.store.Kept.the-variants.{Term, Full}
-use Rattle.terms.specs.Table.{treeAt, made, After, numberOf}
-use Rattle.terms.specs.Collect.{tree}
+use Rattle.terms.specs.Table.{treeAt, made, After, numberOf, tree}
 use Rattle.terms.specs.Subst.{replacement, substituted}
 use Rattle.exports_terms.specs.Keeps.{Keeps, Replaces}
 

@@ -5,8 +5,7 @@ use Prim.Native.Nat.{ℕ}
 use Rattle.rules.specs.Store.{keep, substitute}
 use Rattle.terms.specs.declared.store.Mark.{Mark}
 use Rattle.terms.specs.declared.store.Kept.{Kept}
-use Rattle.terms.specs.Table.{treeAt, made, After, numberOf}
-use Rattle.terms.specs.Collect.{tree}
+use Rattle.terms.specs.Table.{treeAt, made, After, numberOf, tree}
 use Rattle.terms.specs.Subst.{replacement, substituted}
 
 -- the store went from I W at the mark to J X by the node, as `keep` has it; r is the term's number

@@ -6,9 +6,8 @@ use Rattle.rules.specs.Unify.{unify}
 use Rattle.terms.specs.declared.store.Mark.{Mark}
 use Rattle.terms.specs.declared.unify.Unified.{Unified}
 use Rattle.terms.specs.declared.unify.Unified.the-variants.{Found, Apart, Full}
-use Rattle.terms.specs.Table.{made}
-use Rattle.terms.specs.Collect.{tree}
-use Rattle.terms.specs.Unify.{UnifiedAs}
+use Rattle.terms.specs.Table.{made, tree}
+use Rattle.terms.specs.Unify.{UnifiedBy}
 
 -- bindings are found, there are none, or a table has no room
 abbrev pub foundOf : Unified → ℕ
@@ -19,5 +18,5 @@ foundOf (Full r m) = 2
 -- the store went from I W at the mark to J X by two terms, as `unify` has it; theta: the cells afterwards
 pub record Unifies (I W J X : List ℕ) (m : Mark) (variables s t : ℕ) (theta : List ℕ) (r : ℕ) : Type 0 where
   pub answer : Unified
-  pub after : UnifiedAs I W J X m theta (unify variables (tree I W m s) (tree I W m t) (made I W m)) answer
+  pub after : UnifiedBy I W J X m theta (unify variables (tree I W m s) (tree I W m t) (made I W m)) answer
   pub number : r ≡ foundOf answer

@@ -1,12 +1,12 @@
 // Functions on terms for programs in other languages, which link the static library. What one requires, its caller keeps.
 ghost use mathlib.Core.Path.{_≡_};
-ghost use Prim.Native.Nat.{_≤_};
+ghost use Prim.Native.Nat.{_<_};
 ghost use lib.ListN.{length, replicate};
 ghost use Rattle.rules.specs.Find.{union};
 ghost use Rattle.rules.specs.Tree.{variables as variablesIn};
 ghost use Rattle.terms.specs.Sets.{holds};
-ghost use Rattle.terms.specs.Collect.{tree, Readable};
-ghost use Rattle.terms.specs.Table.{Good, Node};
+ghost use Rattle.terms.specs.Collect.{Readable};
+ghost use Rattle.terms.specs.Table.{Good, Node, tree};
 ghost use Rattle.terms.specs.Subst.{Replaceable};
 ghost use Rattle.terms.specs.Unify.{Unifiable};
 ghost use Rattle.exports_terms.specs.Keeps.{Keeps, Replaces};
@@ -78,7 +78,7 @@ pub extern "C" fn tariff_substitute(
     id: usize,
 ) -> usize
     requires { ⌜ Replaceable (now index) (now words) (record { terms = count; words = used }) (now map) id ⌝ }
-    requires { ⌜ (count ≤ length (now memo)) × (now memo ≡ replicate (length (now memo)) 0) ⌝ }
+    requires { ⌜ (id < length (now memo)) × (now memo ≡ replicate (length (now memo)) 0) ⌝ }
     ensures { λ r. ⌜ Replaces (now (index .entry)) (now (words .entry)) (now (index .exit)) (now (words .exit)) (record { terms = count; words = used }) (now (map .entry)) id r ⌝ }
     ensures { λ _. ⌜ now (memo .exit) ≡ now (memo .entry) ⌝ }
 {
@@ -120,7 +120,7 @@ pub extern "C" fn tariff_unify(
     pairs: &mut [u32],
     seen: &mut [u64],
 ) -> usize
-    requires { ⌜ Unifiable (now index) (now words) (record { terms = count; words = used }) s t (now theta) (now map) (now memo) (now pairs) (now seen) ⌝ }
+    requires { ⌜ Unifiable (now index) (now words) (record { terms = count; words = used }) variables s t (now theta) (now map) (now memo) (now pairs) (now seen) ⌝ }
     ensures { λ r. ⌜ Unifies (now (index .entry)) (now (words .entry)) (now (index .exit)) (now (words .exit)) (record { terms = count; words = used }) variables s t (now (theta .exit)) r ⌝ }
     ensures { λ _. ⌜ (now (map .exit) ≡ now (map .entry)) × (now (memo .exit) ≡ now (memo .entry)) × (now (pairs .exit) ≡ now (pairs .entry)) × (now (seen .exit) ≡ now (seen .entry)) ⌝ }
 {

@@ -9,8 +9,10 @@ pub mod Pattern
 pub mod Declare
 pub mod Name
 pub mod Set
+pub mod Members
 pub mod Tree
 pub mod Store
+pub mod Build
 pub mod Row
 pub mod Prefix
 pub mod Keeping

@@ -1,6 +1,6 @@
 -- The limits: every row of question 60, the length of question 2 and the depth of question 5. src/lib.rt has the same names as
 -- constants, and no other file spells one of these numbers. Assumes nothing.
-use Prim.Native.Nat.{ℕ}
+use Prim.Native.Nat.{ℕ, _+_, _/_}
 
 -- question 2: the bytes of a text
 abbrev pub LENGTH : ℕ
@@ -65,3 +65,22 @@ ENTRIES = 16384
 -- row 14: pairs waiting in one unification
 abbrev pub PAIRS : ℕ
 PAIRS = 512
+
+-- What follows from them ---------------------------------------------------------------------------------------------------------------
+
+-- the words of a node: a head and its arguments
+abbrev pub NODE : ℕ
+NODE = ARGUMENTS + 1
+
+-- the words of 64 bits of a set: of variables, facts, rules, terms
+abbrev pub VARIABLEWORDS : ℕ
+VARIABLEWORDS = VARIABLES / 64
+
+abbrev pub FACTWORDS : ℕ
+FACTWORDS = FACTS / 64
+
+abbrev pub RULEWORDS : ℕ
+RULEWORDS = RULES / 64
+
+abbrev pub TERMWORDS : ℕ
+TERMWORDS = TERMS / 64

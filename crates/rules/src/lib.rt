@@ -32,3 +32,14 @@ pub const FACTS: usize = 1024;
 pub const ENTRIES: usize = 16384;
 // row 14: pairs waiting in one unification
 pub const PAIRS: usize = 512;
+
+// What follows from them: the words of a node, a head and its arguments; and the words of 64 bits of a set of variables, facts, rules, terms.
+pub const NODE: usize = ARGUMENTS + 1;
+
+pub const VARIABLEWORDS: usize = VARIABLES / 64;
+
+pub const FACTWORDS: usize = FACTS / 64;
+
+pub const RULEWORDS: usize = RULES / 64;
+
+pub const TERMWORDS: usize = TERMS / 64;

@@ -1,14 +1,13 @@
 -- What building leaves in the tables, at each of its returns and in its loop over the arguments. Assumes nothing.
-use mathlib.Core.Path.{_≡_, refl, sym, ap, _∙_, subst}
+use mathlib.Core.Path.{_≡_, sym, ap, _∙_, subst}
 use mathlib.Core.List.{List, [], _∷_, _++_}
-use mathlib.Core.Option.{some, none as nothing}
-use Prim.Native.Nat.{ℕ, zero, suc, _+_, _-_, _≤_, _<_}
+use Prim.Native.Nat.{ℕ, suc, _+_, _-_, _≤_, _<_}
 use native.Mathlib.Omega.{arith}
 use native.Mathlib.Decide.{ℕ-discrete}
 use native.Mathlib.Numerals.{add-one}
 use lib.ListN.{length, getD, set, take, drop, length-set, length-drop}
 use lib.Seq.{getD-set-same, getD-set-other, getD-drop, take-suc, drop-cons, length-take-le}
-use Rattle.rules.specs.Limits.{SYMBOLS, ARGUMENTS, TERMS}
+use Rattle.rules.specs.Limits.{SYMBOLS, ARGUMENTS, TERMS, NODE}
 use Rattle.rules.specs.Out.{Out, ok}
 use Rattle.rules.specs.Tree.{Tree, Trees, var, app, more, size}
 use Rattle.rules.specs.Store.{Made, keep}
@@ -19,28 +18,16 @@ use Rattle.terms.specs.declared.store.Kept.{Kept}
 use Rattle.terms.specs.declared.store.Kept.the-variants.{Term as KeptTerm, Full}
 use Rattle.terms.specs.declared.patterns.Built.{Built}
 use Rattle.terms.specs.declared.patterns.Built.the-variants.{Term, No}
-use Rattle.terms.specs.Table.{run, argsOf, treeAt, made, Shaped, isApp, Node, Good, Grown, Stored, Refused, After}
-use Rattle.terms.specs.Patterns.{arity, Stands, Reads, treeIn, boundOf, Cells, Buildable, Builds, Stops, BuiltBy, BuiltAt}
-use Rattle.terms.proofs.Words.{run-same, run-length, run-at}
-use Rattle.terms.proofs.Tables.{length-trees, tree-app}
-use Rattle.terms.proofs.Sames.{grown-self, getD-grown, grown-then}
+use Rattle.terms.specs.Table.{run, argsOf, treeAt, made, Shaped, isApp, Node, Grown, Stored, Refused, After}
+use Rattle.terms.specs.Patterns.{arity, Stands, PatternAt, boundOf, Buildable, Builds, Stops, BuiltAt}
+use Rattle.terms.specs.Laws.Runs.{run-same, run-length, run-at}
+use Rattle.terms.specs.Laws.Tables.{length-trees, tree-app}
+use Rattle.terms.specs.Laws.Growth.{grown-refl, grown-trans, grown-tree}
+use Rattle.terms.specs.Laws.Answers.{after-term, after-full, built-term, built-no}
+use Rattle.terms.specs.Laws.Bound.{bound-grown}
 use Rattle.terms.proofs.Matches.{stands-var, stands-app, reads-in, reads-var}
-use Rattle.terms.proofs.Builds.{onto, onto-snoc, onto-agree, build-none, build-some, Remaining, remaining-begins, remaining-reads, remaining-on, remaining-stops, remaining-ends}
-
--- Bindings stay as the store grows ---------------------------------------------------------------------------------------------------
-
-module _ (I W J X : List ℕ) (m new : Mark) (g : Good I W m) (h : Grown I W J X m new) where
-  grown-at : (i : ℕ) → i < m .terms → getD (made I W m) i (var 0) ≡ getD (made J X new) i (var 0)
-  grown-at i l = sym (getD-grown I W J X m g (h .same) (new .terms) i (h .more) l)
-
-  tree-in : (x : ℕ) → x ≤ m .terms → treeIn (made I W m) x ≡ treeIn (made J X new) x
-  unfolding treeIn
-  tree-in zero l = refl
-  tree-in (suc x) l = ap some (grown-at x l)
-
-  pub bound-grown : (B : List ℕ) → Cells (m .terms) B → boundOf (made I W m) B ≡ boundOf (made J X new) B
-  unfolding boundOf
-  bound-grown B c = λ i v. tree-in (getD B v 0) (c .within v) i
+use Rattle.terms.proofs.Builds.{onto, onto-snoc, onto-agree, build-none, build-some, Remaining, remaining-begins, remaining-reads}
+use Rattle.terms.proofs.Builds.{remaining-on, remaining-stops, remaining-ends}
 
 -- A variable -------------------------------------------------------------------------------------------------------------------------
 
@@ -52,8 +39,10 @@ module _ (S P I W : List ℕ) (m : Mark) (B : List ℕ) (at : ℕ) (q : Buildabl
   build-unbound l e p st =
       let v = stands-var S P at p st l in
       record {
-        grown = grown-self I W m (q .good);
-        makes = ap (λ (t : Tree). build t (boundOf (made I W m) B) (made I W m)) (v .0) ∙ build-none (made I W m) B _ e;
+        says = record {
+          grown = grown-refl (q .good);
+          makes = ap (λ (t : Tree). build t (boundOf (made I W m) B) (made I W m)) (v .0) ∙ build-none (made I W m) B _ e;
+        };
       }
 
   pub build-bound : SYMBOLS ≤ getD P at 0 → (getD B (getD P at 0 - SYMBOLS) 0 ≡ 0 → ⊥) → BuiltAt S P I W I W m B at (Term (getD B (getD P at 0 - SYMBOLS) 0 - 1) (at + 1) m)
@@ -62,10 +51,12 @@ module _ (S P I W : List ℕ) (m : Mark) (B : List ℕ) (at : ℕ) (q : Buildabl
       let v = stands-var S P at p st l in
       let w = q .cells .within (getD P at 0 - SYMBOLS) in
       record {
-        grown = grown-self I W m (q .good);
-        makes = ap (λ (t : Tree). build t (boundOf (made I W m) B) (made I W m)) (v .0) ∙ build-some (made I W m) B _ n;
-        there = omega arith;
-        after = ap (λ (t : Tree). at + size t) (sym (v .0));
+        says = record {
+          grown = grown-refl (q .good);
+          makes = ap (λ (t : Tree). build t (boundOf (made I W m) B) (made I W m)) (v .0) ∙ build-some (made I W m) B _ n;
+          there = omega arith;
+          after = ap (λ (t : Tree). at + size t) (sym (v .0));
+        };
       }
 
 -- The loop ---------------------------------------------------------------------------------------------------------------------------
@@ -84,13 +75,13 @@ pub record Building (S P I W : List ℕ) (m : Mark) (B : List ℕ) (at c count :
   pub upto : k ≤ count
   pub beyond : at < place
   pub grown : Grown I W J X m new
-  pub long : length w ≡ 17
+  pub long : length w ≡ NODE
   pub first : getD w 0 0 ≡ c
   pub args : (j : ℕ) → j < k → getD w (1 + j) 0 < new .terms
   pub going : (p : Tree) → Stands S P at p → Remaining S P (boundOf (made I W m) B) (build p (boundOf (made I W m) B) (made I W m)) (at + size p) c count (made J X new) place k (run w 1 k)
 
 pub building-begins : (S P I W : List ℕ) (m : Mark) (B : List ℕ) (at : ℕ) → Buildable S P I W m B at → getD P at 0 < SYMBOLS
-    → (count : ℕ) → count ≡ arity S (getD P at 0) → (w : List ℕ) → length w ≡ 17 → getD w 0 0 ≡ getD P at 0 → Building S P I W m B at (getD P at 0) count I W w m (at + 1) 0
+    → (count : ℕ) → count ≡ arity S (getD P at 0) → (w : List ℕ) → length w ≡ NODE → getD w 0 0 ≡ getD P at 0 → Building S P I W m B at (getD P at 0) count I W w m (at + 1) 0
 building-begins S P I W m B at q l count f w n e =
     let a = stands-app S P at (q .reads .tree) (q .reads .stands) l in
     let b = a .count in
@@ -101,7 +92,7 @@ building-begins S P I W m B at q l count f w n e =
       few = omega arith;
       upto = omega arith;
       beyond = omega arith;
-      grown = grown-self I W m (q .good);
+      grown = grown-refl (q .good);
       long = n;
       first = e;
       args = λ j h. absurd (omega arith);
@@ -115,9 +106,9 @@ module _ (S P I W : List ℕ) (m : Mark) (B : List ℕ) (at c count : ℕ) (J X 
   b = boundOf (made I W m) B
 
   same-bound : b ≡ boundOf (made J X new) B
-  same-bound = bound-grown I W J X m new (q .asked .good) (q .grown) B (q .asked .cells)
+  same-bound = sym (bound-grown (q .grown) (q .asked .cells))
 
-  pub building-reads : k < count → Reads S P place
+  pub building-reads : k < count → PatternAt S P place
   building-reads h = remaining-reads S P b _ _ c count (made J X new) place k (run w 1 k) (q .going (q .asked .reads .tree) (q .asked .reads .stands)) h
 
   pub building-asks : k < count → Buildable S P J X new B place
@@ -136,17 +127,19 @@ module _ (S P I W : List ℕ) (m : Mark) (B : List ℕ) (at c count : ℕ) (J X 
     pub building-stops : (n d : ℕ) (k′ : Mark) → r ≡ No n d k′ → BuiltAt S P I W L Y m B at (No n d k′)
     building-stops n d k′ e p st =
         let t : (p : Tree) → Stands S P place p → Stops J X L Y new (build p (boundOf (made J X new) B) (made J X new)) n d k′ =
-        λ p′ st′. subst (BuiltBy J X L Y new (build p′ (boundOf (made J X new) B) (made J X new)) (place + size p′)) e (f p′ st′) in
+        λ p′ st′. built-no (f p′ st′) e in
         let o = building-reads h in
         record {
-          grown = grown-then I W J X L Y m new k′ (q .grown) (t (o .tree) (o .stands) .grown);
-          makes = remaining-stops S P b _ _ c count (made J X new) place k (run w 1 k) (q .going p st) h n d (made L Y k′)
-              (λ p′ st′. ap (λ (x : Bound). build p′ x (made J X new)) same-bound ∙ t p′ st′ .makes);
+          says = record {
+            grown = grown-trans (q .grown) (t (o .tree) (o .stands) .grown);
+            makes = remaining-stops S P b _ _ c count (made J X new) place k (run w 1 k) (q .going p st) h n d (made L Y k′)
+                (λ p′ st′. ap (λ (x : Bound). build p′ x (made J X new)) same-bound ∙ t p′ st′ .makes);
+          };
         }
 
     module _ (n next : ℕ) (k′ : Mark) (e : r ≡ Term n next k′) where
       built : (p : Tree) → Stands S P place p → Builds J X L Y new (build p (boundOf (made J X new) B) (made J X new)) (place + size p) n next k′
-      built p st = subst (BuiltBy J X L Y new (build p (boundOf (made J X new) B) (made J X new)) (place + size p)) e (f p st)
+      built p st = built-term (f p st) e
 
       of-next : Builds J X L Y new (build (building-reads h .tree) (boundOf (made J X new) B) (made J X new)) (place + size (building-reads h .tree)) n next k′
       of-next = built (building-reads h .tree) (building-reads h .stands)
@@ -179,7 +172,7 @@ module _ (S P I W : List ℕ) (m : Mark) (B : List ℕ) (at c count : ℕ) (J X 
           let d = run-length w 1 k (omega arith) in
           onto-agree (made J X new) (made L Y k′) (new .terms) (run w 1 k) _
           (λ j p. let t = run-at w 1 k j (omega arith) in let s = q .args j (omega arith) in omega arith)
-          (grown-at J X L Y new k′ (q .grown .good) (of-next .grown))
+          (λ i h. sym (grown-tree (of-next .grown) i h))
           ∙ sym (onto-snoc (made L Y k′) (run w 1 k) n ts)
           ∙ ap (λ (xs : List ℕ). onto (made L Y k′) xs ts) (sym run-new)
 
@@ -197,7 +190,7 @@ module _ (S P I W : List ℕ) (m : Mark) (B : List ℕ) (at c count : ℕ) (J X 
             few = q .few;
             upto = omega arith;
             beyond = omega arith;
-            grown = grown-then I W J X L Y m new k′ (q .grown) (of-next .grown);
+            grown = grown-trans (q .grown) (of-next .grown);
             long = length-set w (1 + k) n ∙ q .long;
             first = getD-set-other w (1 + k) 0 n 0 (λ x. omega arith) ∙ q .first;
             args = λ j p. elim (ℕ-discrete j k) [
@@ -252,7 +245,7 @@ module _ (S P I W : List ℕ) (m : Mark) (B : List ℕ) (at c count : ℕ) (J X 
       pub building-done : (n : ℕ) (k′ : Mark) → r ≡ KeptTerm n k′ → BuiltAt S P I W L Y m B at (Term n place k′)
       building-done n k′ e p st =
           let t : Stored J X L Y new (treeAt (made J X new) (take (count + 1) w)) kept n k′ =
-          subst (After J X L Y new (treeAt (made J X new) (take (count + 1) w)) kept) e f in
+          after-term f e in
           let a = to-keep p st in
           let d = length-trees L Y (k′ .terms) in
           let v = t .numbered in
@@ -260,13 +253,15 @@ module _ (S P I W : List ℕ) (m : Mark) (B : List ℕ) (at c count : ℕ) (J X 
           let is : getD (made L Y k′) n (var 0) ≡ treeAt (made J X new) (take (count + 1) w) =
           ap (λ (j : ℕ). getD (made L Y k′) j (var 0)) (t .numbered) ∙ number-is (made L Y k′) _ (omega arith) in
           record {
-            grown = grown-then I W J X L Y m new k′ (q .grown) (t .grown);
-            makes = a .0 ∙ t .makes ∙ ap (λ (x : Tree). ok x (made L Y k′)) (sym is);
-            there = t .there;
-            after = a .1;
+            says = record {
+              grown = grown-trans (q .grown) (t .grown);
+              makes = a .0 ∙ t .makes ∙ ap (λ (x : Tree). ok x (made L Y k′)) (sym is);
+              there = t .there;
+              after = a .1;
+            };
           }
 
       pub building-full : (n : ℕ) (k′ : Mark) → r ≡ Full n k′ → BuiltAt S P I W L Y m B at (No 60 n k′)
       building-full n k′ e p st =
-          let t : Refused Tree J X L Y new kept n k′ = subst (After J X L Y new (treeAt (made J X new) (take (count + 1) w)) kept) e f in
-          record { grown = grown-then I W J X L Y m new k′ (q .grown) (t .grown); makes = to-keep p st .0 ∙ t .makes }
+          let t : Refused Tree J X L Y new kept n k′ = after-full f e in
+          record { says = record { grown = grown-trans (q .grown) (t .grown); makes = to-keep p st .0 ∙ t .makes } }

@@ -1,7 +1,6 @@
 -- Building a tree from a pattern in words: a variable's tree, the loop over the arguments, and the node at the end. Assumes nothing.
 use mathlib.Core.Path.{_≡_, refl, sym, ap, _∙_, subst}
 use mathlib.Core.List.{List, [], _∷_, _++_}
-use mathlib.Core.Option.{none as nothing}
 use Prim.Native.Nat.{ℕ, suc, _+_, _-_, _≤_, _<_, suc-le-suc}
 use native.Mathlib.Omega.{arith}
 use native.Mathlib.Nat.{zero-lt-suc}
@@ -12,7 +11,7 @@ use Rattle.rules.specs.Tree.{Tree, Trees, var, app, none, more, size, sizes, co
 use Rattle.rules.specs.Store.{Made, keep}
 use Rattle.rules.specs.Match.{Bound, build, builds}
 use Rattle.terms.specs.Table.{argsOf}
-use Rattle.terms.specs.Patterns.{arity, Stands, Standing, Reads, treeIn, boundOf}
+use Rattle.terms.specs.Patterns.{arity, Stands, Standing, PatternAt, treeIn, boundOf}
 use Rattle.terms.proofs.Matches.{stands-app}
 
 then-then : {S A B C : Type 0} (K : Out S A) (g : A → S → Out S B) (f : B → S → Out S C) → then (then K g) f ≡ then K (λ a s. then (g a s) f)
@@ -78,11 +77,11 @@ remaining-begins S P b M at p st l =
     }
 
 module _ (S P : List ℕ) (b : Bound) (K : Out Made Tree) (behind c count : ℕ) (M : Made) (place k : ℕ) (xs : List ℕ) (q : Remaining S P b K behind c count M place k xs) where
-  pub remaining-reads : k < count → Reads S P place
+  pub remaining-reads : k < count → PatternAt S P place
   unfolding Stands countTrees
   remaining-reads h = go (q .patterns) (q .stands) (q .counted)
     where
-      go : (ps : Trees) → Standing S P place ps → countTrees ps + k ≡ count → Reads S P place
+      go : (ps : Trees) → Standing S P place ps → countTrees ps + k ≡ count → PatternAt S P place
       go none s e = absurd (omega arith)
       go (more p ps) s e = record { tree = p; stands = s .0 }
 

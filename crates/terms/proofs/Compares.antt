@@ -1,26 +1,25 @@
 -- What two terms of good tables ask for, by their heads and the numbers of their arguments. Assumes nothing.
-use mathlib.Core.Path.{_≡_, refl, sym, ap, _∙_, subst}
+use mathlib.Core.Path.{_≡_, sym, ap, _∙_, subst}
 use mathlib.Core.Bool.{Bool, true, false}
-use Prim.Native.Nat.{ℕ, zero, suc, _+_, _-_, _≤_, _<_}
-use native.Mathlib.Omega.{arith}
 use mathlib.Core.List.{List}
-use lib.ListN.{length, getD, replicate, length-replicate}
+use Prim.Native.Nat.{ℕ, _+_, _-_, _≤_, _<_}
+use native.Mathlib.Omega.{arith}
+use lib.ListN.{getD, replicate}
 use lib.Dec.{eqb}
 use borrow.Author.Tests.{eq-eqb, ne-eqb}
-use Rattle.rules.specs.Limits.{SYMBOLS}
-use Rattle.rules.specs.Tree.{Tree, Trees, var, app, sameTree, variables, countTrees}
-use Rattle.rules.specs.Laws.Tree.{same-eq, not-same, variables-var}
+use Rattle.rules.specs.Limits.{SYMBOLS, VARIABLES, VARIABLEWORDS}
+use Rattle.rules.specs.Tree.{Tree, Trees, var, app, variables, countTrees}
+use Rattle.rules.specs.Laws.Tree.{same-eq, not-same}
 use Rattle.rules.specs.Laws.Store.{Apart}
-use Rattle.rules.specs.Store.{Made}
 use Rattle.rules.specs.Unify.{Look, agree, clash, binds, parts, bindOrClash, differ, look}
 use Rattle.terms.specs.declared.store.Mark.{Mark}
 use Rattle.terms.specs.declared.pairs.Asks.{Asks}
-use Rattle.terms.specs.Table.{run, start, argsOf, made, trees, Good}
-use Rattle.terms.specs.Collect.{tree, Readable}
+use Rattle.terms.specs.Table.{run, start, argsOf, made, Good, tree}
+use Rattle.terms.specs.Collect.{Readable}
 use Rattle.terms.specs.Pairs.{Searchable, Comparable, BindsTo, PartsAt, Answered}
-use Rattle.terms.proofs.Words.{run-length}
-use Rattle.terms.proofs.Tables.{length-trees, args-count}
-use Rattle.terms.proofs.Terms.{node-rise, node-narrow, node-within, node-inside, start-in, term-app, term-var, args-below}
+use Rattle.terms.specs.Laws.Runs.{run-length}
+use Rattle.terms.specs.Laws.Tables.{length-trees, args-count}
+use Rattle.terms.specs.Laws.Terms.{variable-small, node-rise, node-narrow, node-within, node-inside, term-app, term-var, args-below}
 
 -- The definition by cases ----------------------------------------------------------------------------------------------------------
 
@@ -71,10 +70,10 @@ unfolding bindOrClash
 bind-binds t x r e z = ap (λ (b : Bool). elim b [ true ↦ clash | false ↦ binds x t ]) (sym e ∙ z)
 
 module _ (I W : List ℕ) (m : Mark) (seen : List ℕ) (x id : ℕ) (q : Searchable I W m seen id) where
-  pub searches : Readable I W m id seen (replicate 8 0)
-  searches = record { good = q .good; there = q .there; wide = q .wide; bound = q .few }
+  pub searches : Readable I W m id seen (replicate VARIABLEWORDS 0)
+  searches = record { good = q .good; there = q .there; wide = q .wide; broad = omega arith }
 
-  pub bind-to : x < 512 → (r : Bool) → r ≡ variables (tree I W m id) x → r ≡ false → BindsTo I W m (bindOrClash x (tree I W m id)) x id
+  pub bind-to : x < VARIABLES → (r : Bool) → r ≡ variables (tree I W m id) x → r ≡ false → BindsTo I W m (bindOrClash x (tree I W m id)) x id
   bind-to h r e z = record { asks = bind-binds _ _ r e z; small = h; there = q .there }
 
 -- Two terms --------------------------------------------------------------------------------------------------------------------------
@@ -82,11 +81,6 @@ module _ (I W : List ℕ) (m : Mark) (seen : List ℕ) (x id : ℕ) (q : Searcha
 trees-apart : (I W : List ℕ) (m : Mark) → Good I W m → (s t : ℕ) → s < m .terms → t < m .terms → (s ≡ t → ⊥) → tree I W m s ≡ tree I W m t → ⊥
 unfolding Apart
 trees-apart I W m g s t a b n e = let z = length-trees I W (m .terms) in n (g .apart s t (omega arith) (omega arith) e)
-
-variable-small : (I W : List ℕ) (m : Mark) (seen : List ℕ) (s a : ℕ) → Searchable I W m seen s → a ≡ start I s → SYMBOLS ≤ getD W a 0 → getD W a 0 - SYMBOLS < 512
-variable-small I W m seen s a q e p =
-    q .few (getD W a 0 - SYMBOLS)
-    (ap (λ (t : Tree). variables t (getD W a 0 - SYMBOLS)) (term-var I W m (q .good) s (q .there) a e p) ∙ variables-var _ _ ∙ eq-eqb (getD W a 0 - SYMBOLS) (getD W a 0 - SYMBOLS) refl)
 
 module _ (I W : List ℕ) (m : Mark) (seen : List ℕ) (s t : ℕ) (q : Comparable I W m seen s t) where
   pub both-one : s ≡ t → look (tree I W m s) (tree I W m t) ≡ agree
@@ -96,15 +90,15 @@ module _ (I W : List ℕ) (m : Mark) (seen : List ℕ) (s t : ℕ) (q : Comparab
   differs n = look-differ _ _ (trees-apart I W m (q .left .good) s t (q .left .there) (q .right .there) n)
 
   module _ (n : s ≡ t → ⊥) (a : ℕ) (e : a ≡ start I s) where
-    pub left-asks : SYMBOLS ≤ getD W a 0 → Searchable I W m seen t × (getD W a 0 - SYMBOLS < 512)
-    left-asks p = (q .right, variable-small I W m seen s a (q .left) e p)
+    pub left-asks : SYMBOLS ≤ getD W a 0 → Searchable I W m seen t × (getD W a 0 - SYMBOLS < VARIABLES)
+    left-asks p = (q .right, variable-small I W m (q .left .good) s (q .left .there) a e p)
 
     pub left-binds : SYMBOLS ≤ getD W a 0 → (r : Asks) → Answered I W m (bindOrClash (getD W a 0 - SYMBOLS) (tree I W m t)) r → Answered I W m (look (tree I W m s) (tree I W m t)) r
     left-binds p r = subst (λ (L : Look). Answered I W m L r) (sym (differs n ∙ differ-left _ _ _ (term-var I W m (q .left .good) s (q .left .there) a e p)))
 
     module _ (p : getD W a 0 < SYMBOLS) (b : ℕ) (f : b ≡ start I t) where
-      pub right-asks : SYMBOLS ≤ getD W b 0 → Searchable I W m seen s × (getD W b 0 - SYMBOLS < 512)
-      right-asks r = (q .left, variable-small I W m seen t b (q .right) f r)
+      pub right-asks : SYMBOLS ≤ getD W b 0 → Searchable I W m seen s × (getD W b 0 - SYMBOLS < VARIABLES)
+      right-asks r = (q .left, variable-small I W m (q .right .good) t (q .right .there) b f r)
 
       left-is : tree I W m s ≡ app (getD W a 0) (argsOf (made I W m) (run W (a + 1) (getD I s 0 - (a + 1))))
       left-is = term-app I W m (q .left .good) s (q .left .there) a e p

@@ -14,14 +14,14 @@ use Rattle.rules.specs.Unify.{Binding, insert, replace}
 use Rattle.terms.specs.declared.store.Mark.{Mark}
 use Rattle.terms.specs.declared.theta.Grew.{Grew}
 use Rattle.terms.specs.declared.theta.Grew.the-variants.{Ok, Full}
-use Rattle.terms.specs.Table.{made, Refused}
-use Rattle.terms.specs.Collect.{tree}
+use Rattle.terms.specs.Table.{made, Refused, tree}
 use Rattle.terms.specs.Subst.{replacement}
 use Rattle.terms.specs.Theta.{bindings, inValues, Changeable, Changed, ChangedAs, Extendable, Bound}
-use Rattle.terms.proofs.Fresh.{getD-zeros, part-long, part-none}
+use Rattle.terms.specs.Laws.Zeros.{getD-zeros}
+use Rattle.terms.specs.Laws.Growth.{grown-tree}
+use Rattle.terms.specs.Laws.Theta.{bindings-insert}
+use Rattle.terms.proofs.Fresh.{part-long, part-none}
 use Rattle.terms.proofs.Singles.{single-map}
-use Rattle.terms.proofs.Waits.{getD-more}
-use Rattle.terms.proofs.Bindings.{bindings-insert}
 
 -- one tree for one variable is a replacement
 replace-values : (x : ℕ) (t : Tree) (θ : List Binding) → inValues (single x t) θ ≡ replace x t θ
@@ -100,7 +100,7 @@ module _ (I W : List ℕ) (m : Mark) (theta map memo : List ℕ) (x u : ℕ) (e 
             ];
           };
           is = bindings-insert (made J X new) theta′ x (u + 1) (omega arith) z (λ k. omega arith)
-              ∙ ap (λ (t : Tree). insert (record { variable = x; value = t }) (bindings (made J X new) theta′ 0)) (ap (λ (j : ℕ). getD (made J X new) j (var 0)) q ∙ getD-more I W J X m new (e .good) (c .grown) u h);
+              ∙ ap (λ (t : Tree). insert (record { variable = x; value = t }) (bindings (made J X new) theta′ 0)) (ap (λ (j : ℕ). getD (made J X new) j (var 0)) q ∙ grown-tree (c .grown) u h);
         }
 
     pub extended-full : (row : ℕ) (new : Mark) → r ≡ Full row new → length theta′ ≡ length theta → Refused (List Binding) I W J X m answer row new × (length theta′ ≡ VARIABLES)

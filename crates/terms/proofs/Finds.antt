@@ -1,21 +1,20 @@
 -- The look-up of a node along the chain of its bucket. Assumes nothing.
 use mathlib.Core.Path.{_≡_, refl, sym, ap, _∙_, subst}
-use mathlib.Core.Bool.{Bool, true, false, true≢false, false≢true}
+use mathlib.Core.Bool.{Bool, true, false, true≢false}
 use mathlib.Core.List.{List}
-use Prim.Native.Nat.{ℕ, zero, suc, _+_, _-_, _≤_, _<_}
+use Prim.Native.Nat.{ℕ, suc, _+_, _-_, _≤_, _<_}
 use native.Mathlib.Omega.{arith}
 use native.Mathlib.Decide.{decLt, ℕ-discrete}
 use lib.ListN.{length, getD}
-use Rattle.rules.specs.Limits.{TERMS, WORDS}
 use Rattle.rules.specs.Tree.{Tree}
-use Rattle.rules.specs.Store.{Made, stored, number}
+use Rattle.rules.specs.Store.{Made, number}
 use Rattle.rules.specs.Laws.Store.{stored-true, stored-false, number-le}
 use Rattle.terms.specs.declared.store.Mark.{Mark}
-use Rattle.terms.specs.Table.{CHAINS, HEADS, INDEX, BUCKETS, run, start, nodeAt, treeAt, trees, made, hash, bucket, latest, Shaped, Good}
+use Rattle.terms.specs.Table.{CHAINS, HEADS, run, start, nodeAt, treeAt, made, hash, bucket, latest, Shaped, Good}
 use Rattle.terms.specs.Node.{sameWords, seek}
+use Rattle.terms.specs.Laws.Chains.{hash-small, latest-le, latest-key, latest-skip}
+use Rattle.terms.specs.Laws.Tables.{length-trees, number-here, number-nowhere, end-within}
 use Rattle.terms.proofs.Words.{same-refl, same-true}
-use Rattle.terms.proofs.Hash.{hash-small, latest-le, latest-key, latest-skip}
-use Rattle.terms.proofs.Tables.{length-trees, number-here, number-nowhere, end-within}
 
 pub seek-here : (M : Made) (t : Tree) (i : ℕ) → number M t ≡ i → i < length M → suc i ≡ seek M t
 unfolding seek

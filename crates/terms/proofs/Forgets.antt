@@ -12,11 +12,12 @@ use Rattle.rules.specs.Tree.{Tree, var, isOpen}
 use Rattle.rules.specs.Store.{Made}
 use Rattle.rules.specs.Laws.Store.{Apart}
 use Rattle.terms.specs.declared.store.Mark.{Mark}
-use Rattle.terms.specs.Table.{CHAINS, FLAGS, HEADS, INDEX, BUCKETS, run, start, nodeAt, trees, made, hash, bucket, latest, flag, Shaped, Good, Same, Part, Back, lower}
+use Rattle.terms.specs.Table.{CHAINS, FLAGS, HEADS, INDEX, BUCKETS, run, start, nodeAt, trees, hash, bucket, latest, flag, Shaped, Good, Same}
+use Rattle.terms.specs.Table.{Part, Back, lower}
 use Rattle.terms.specs.Node.{Unlinked}
-use Rattle.terms.proofs.Words.{run-same, run-length}
-use Rattle.terms.proofs.Hash.{hash-small, latest-agree, latest-other}
-use Rattle.terms.proofs.Tables.{rising, length-trees, getD-trees, trees-same, end-within}
+use Rattle.terms.specs.Laws.Runs.{run-same, run-length}
+use Rattle.terms.specs.Laws.Chains.{hash-small, latest-agree, latest-other}
+use Rattle.terms.specs.Laws.Tables.{rising, length-trees, getD-trees, trees-same, end-within}
 
 -- The index ------------------------------------------------------------------------------------------------------------------------
 

@@ -1,26 +1,21 @@
 -- Substitution with a memo that is zero before and after. Assumes nothing.
-use mathlib.Core.Path.{_≡_, refl, sym, ap, _∙_, subst}
-use mathlib.Core.List.{List, [], _∷_, _++_}
-use Prim.Native.Nat.{ℕ, zero, suc, _+_, _-_, _≤_, _<_}
+use mathlib.Core.Path.{_≡_, sym, ap, _∙_}
+use mathlib.Core.List.{List, _++_}
+use Prim.Native.Nat.{ℕ, _+_, _-_, _≤_, _<_}
 use native.Mathlib.Omega.{arith}
 use native.Mathlib.Decide.{decLt}
-use lib.ListN.{length, getD, take, drop, replicate, length-replicate, replicate-append-replicate, getD-replicate, List·getD-eq-default}
+use lib.ListN.{length, getD, take, drop, replicate, length-replicate, replicate-append-replicate, List·getD-eq-default}
 use lib.Seq.{length-take-le, take-at, drop-at, getD-take}
-use Rattle.rules.specs.Out.{Out}
-use Rattle.rules.specs.Tree.{Tree, sub}
-use Rattle.rules.specs.Store.{Made, make, substitute}
+use Rattle.rules.specs.Store.{substitute}
 use Rattle.terms.specs.declared.store.Mark.{Mark}
 use Rattle.terms.specs.declared.store.Kept.{Kept}
 use Rattle.terms.specs.declared.store.Kept.the-variants.{Term, Full}
-use Rattle.terms.specs.Table.{made, After}
-use Rattle.terms.specs.Collect.{tree}
-use Rattle.terms.specs.Subst.{replacement, substituted, asked, Replaceable, Ready, Substituted}
+use Rattle.terms.specs.Table.{made, After, tree}
+use Rattle.terms.specs.Subst.{replacement, substituted, Replaceable, Replacing, Substituted}
+use Rattle.terms.specs.Laws.Zeros.{getD-zeros}
 
-pub getD-zeros : (n i : ℕ) → _≡_ {A = ℕ} (getD (replicate n 0) i 0) 0
-getD-zeros n i = elim (decLt i n) [
-  | yes p ↦ getD-replicate n i 0 0 p
-  | no q ↦ List·getD-eq-default (replicate n 0) 0 {n = i} (let z = length-replicate {A = ℕ} n 0 in omega arith)
-]
+pub next-fits : (i n : ℕ) → i < n → i + 1 ≤ n
+next-fits i n h = omega arith
 
 -- a part of zeros
 module _ (memo : List ℕ) (n : ℕ) (h : n ≤ length memo) (z : memo ≡ replicate (length memo) 0) where
@@ -53,20 +48,20 @@ module _ (memo : List ℕ) (n : ℕ) (h : n ≤ length memo) (z : memo ≡ repli
   pub part-again : (ys : List ℕ) → length ys ≡ length (take n memo) → n ≡ length (take n (ys ++ drop n memo))
   part-again ys e = sym (ap length (take-at ys (drop n memo) n (e ∙ sym part-long)) ∙ e ∙ sym part-long)
 
-pub fresh-ready : (I W : List ℕ) (m : Mark) (map memo : List ℕ) (id : ℕ) → Replaceable I W m map id → (m .terms ≤ length memo) × (memo ≡ replicate (length memo) 0) → Ready I W m map (take (m .terms) memo) id
+pub fresh-ready : (I W : List ℕ) (m : Mark) (map memo : List ℕ) (id : ℕ) → Replaceable I W m map id → (id < length memo) × (memo ≡ replicate (length memo) 0) → Replacing I W m map (take (id + 1) memo) id
 fresh-ready I W m map memo id r p =
-    let l = part-long memo (m .terms) (p .0) (p .1) in
-    let h = r .there in
+    let h = p .0 in
+    let l = part-long memo (id + 1) (omega arith) (p .1) in
     record {
       good = r .good;
       bound = r .bound;
       there = r .there;
       inside = omega arith;
-      knows = λ i q. absurd (let z = part-none memo (m .terms) (p .0) (p .1) i in omega arith);
+      knows = λ i q. absurd (let z = part-none memo (id + 1) (omega arith) (p .1) i in omega arith);
     }
 
 pub fresh-done : (I W J X : List ℕ) (m : Mark) (map memo memo′ : List ℕ) (id : ℕ) (r : Kept) → Substituted I W J X m map memo memo′ id r
     → After I W J X m (substituted I W m map id) (substitute (replacement (made I W m) map) (tree I W m id) (made I W m)) r
 unfolding substitute
-fresh-done I W J X m map memo memo′ id (Term n new) d = d .stored
-fresh-done I W J X m map memo memo′ id (Full r new) d = d
+fresh-done I W J X m map memo memo′ id (Term n new) d = record { says = d .stored }
+fresh-done I W J X m map memo memo′ id (Full r new) d = record { says = d }

@@ -7,16 +7,15 @@ use native.Mathlib.Omega.{arith}
 use native.Mathlib.Nat.{not-suc-le-zero, le-of-suc-le-suc, zero-lt-suc}
 use lib.ListN.{length, getD, take, drop, set, length-set, List·getD-eq-default}
 use lib.Seq.{sets, sets-eq, take-at}
-use lib.Dec.{eqb}
 use borrow.Author.Tests.{eq-eqb, ne-eqb}
-use Rattle.rules.specs.Out.{Out}
-use Rattle.rules.specs.Tree.{Tree, Trees, var, app, none, more, sub, subs}
+use Rattle.rules.specs.Tree.{Tree, var, more, sub, subs}
 use Rattle.rules.specs.Store.{Made, keep}
+use Rattle.rules.specs.Limits.{NODE}
 use Rattle.terms.specs.declared.store.Mark.{Mark}
 use Rattle.terms.specs.declared.store.Kept.{Kept}
-use Rattle.terms.specs.Table.{run, argsOf, treeAt, made, Shaped, Node, Good, After}
+use Rattle.terms.specs.Table.{run, argsOf, treeAt, made, Shaped, Node, After}
 use Rattle.terms.specs.Subst.{image, Known, renumbered, rebuilt, Rebuildable}
-use Rattle.terms.proofs.Words.{run-length, run-more, run-none}
+use Rattle.terms.specs.Laws.Runs.{run-length, run-more, run-none}
 
 -- image_of ---------------------------------------------------------------------------------------------------------------------------
 
@@ -71,13 +70,13 @@ rebuilt-length W memo s e r =
 -- what is left of the arguments decides
 pub record Gathering (W memo l now : List ℕ) (s e at : ℕ) : Type 0 where
   pub ready : Rebuildable W memo s e
-  pub room : 17 ≤ length l
+  pub room : NODE ≤ length l
   pub from : s < at
   pub upto : at ≤ e
   pub long : length now ≡ length l
   pub left : sets now (at - s) (renumbered memo (run W at (e - at))) ≡ sets l 1 (renumbered memo (run W (s + 1) (e - (s + 1))))
 
-pub gathering-begins : (W memo l : List ℕ) (h s e : ℕ) → Rebuildable W memo s e → 17 ≤ length l → Gathering W memo (set l 0 h) (set l 0 h) s e (s + 1)
+pub gathering-begins : (W memo l : List ℕ) (h s e : ℕ) → Rebuildable W memo s e → NODE ≤ length l → Gathering W memo (set l 0 h) (set l 0 h) s e (s + 1)
 gathering-begins W memo l h s e r k =
     let a = r .some in
     let z : s + 1 - s ≡ 1 = omega arith in
@@ -109,7 +108,7 @@ module _ (W memo l now : List ℕ) (s e at : ℕ) (g : Gathering W memo l now s 
             ∙ ap (sets now (at - s)) (sym (renumbered-more memo W at e h (g .ready .fits))) ∙ g .left;
       }
 
-pub gathering-ends : (W memo l now : List ℕ) (s e at : ℕ) → Gathering W memo (set l 0 (getD W s 0)) now s e at → 17 ≤ length l → e ≤ at → now ≡ rebuilt W memo s e ++ drop (e - s) l
+pub gathering-ends : (W memo l now : List ℕ) (s e at : ℕ) → Gathering W memo (set l 0 (getD W s 0)) now s e at → NODE ≤ length l → e ≤ at → now ≡ rebuilt W memo s e ++ drop (e - s) l
 gathering-ends W memo l now s e at g k h =
     let a = rebuilt-length W memo s e (g .ready) in
     let b = g .ready .narrow in

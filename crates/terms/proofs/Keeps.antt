@@ -1,27 +1,27 @@
 -- What `keep` leaves, in each of its four answers. Assumes nothing.
 use mathlib.Core.Path.{_≡_, refl, sym, ap, _∙_, subst}
-use mathlib.Core.List.{List, [], _∷_, _++_, append-assoc, append-nil}
-use mathlib.Core.Logic.{⊎-elim, _⊎_, inl, inr}
-use Prim.Native.Nat.{ℕ, zero, suc, _+_, _-_, _≤_, _<_}
+use mathlib.Core.List.{List, [], _∷_, _++_, append-nil}
+use mathlib.Core.Logic.{⊎-elim}
+use Prim.Native.Nat.{ℕ, _+_, _-_, _≤_, _<_}
 use native.Mathlib.Omega.{arith}
 use native.Mathlib.Decide.{ℕ-discrete}
 use native.Mathlib.Numerals.{add-one}
 use lib.ListN.{length, getD, take, drop, length-append, length-drop, List·getD-append, drop-of-length-le}
 use lib.Seq.{length-take-le, take-all, take-at, drop-at, drop-drop, getD-take, getD-drop, getD-append-add}
-use Rattle.rules.specs.Limits.{TERMS, WORDS}
-use Rattle.rules.specs.Out.{Out, ok, refuse}
-use Rattle.rules.specs.Tree.{Tree, var, isOpen, node}
+use Rattle.rules.specs.Limits.{TERMS, WORDS, NODE}
+use Rattle.rules.specs.Out.{ok}
+use Rattle.rules.specs.Tree.{Tree, var, isOpen}
 use Rattle.rules.specs.Store.{Made, number, words, keep}
-use Rattle.rules.specs.Laws.Store.{Apart, length-snoc, getD-last, apart-more, number-of, keep-old, keep-8, keep-9, keep-new}
+use Rattle.rules.specs.Laws.Store.{Apart, getD-last, apart-more, number-of, keep-old, keep-8, keep-9, keep-new}
 use Rattle.terms.specs.declared.store.Mark.{Mark}
-use Rattle.terms.specs.Table.{CHAINS, FLAGS, HEADS, INDEX, BUCKETS, run, start, nodeAt, treeAt, trees, made, hash, bucket, latest, flag, Shaped, Node, Good, Same, Grown, Stored, Refused}
+use Rattle.terms.specs.Table.{CHAINS, FLAGS, HEADS, INDEX, BUCKETS, run, start, nodeAt, treeAt, trees, made, hash, bucket, latest, flag}
+use Rattle.terms.specs.Table.{Shaped, Node, Good, Same, Stored, Refused}
 use Rattle.terms.specs.Node.{seek, Linked}
-use Rattle.terms.proofs.Words.{run-length}
-use Rattle.terms.proofs.Hash.{hash-small, latest-agree, latest-here, latest-other}
-use Rattle.terms.proofs.Tables.{last-or, start-next, length-trees, getD-trees, tree-node, shaped-some, made-words}
-use Rattle.terms.proofs.Nodes.{flag-small}
+use Rattle.terms.specs.Laws.Chains.{hash-small, latest-agree, latest-here, latest-other}
+use Rattle.terms.specs.Laws.Tables.{last-or, start-next, length-trees, tree-node, shaped-some, made-words}
+use Rattle.terms.specs.Laws.Terms.{flag-small}
+use Rattle.terms.specs.Laws.Growth.{grown-refl, start-same, node-same, made-same}
 use Rattle.terms.proofs.Finds.{seek-number, seek-nowhere}
-use Rattle.terms.proofs.Sames.{same-self, grown-self, start-same, node-same, made-same}
 
 -- The words with a node written behind the used ones ----------------------------------------------------------------------------------
 
@@ -66,12 +66,12 @@ module _ (I W : List ℕ) (m : Mark) (w : List ℕ) (g : Good I W m) (c : Node (
       let z = length-trees I W (m .terms) in
       let l = p .1 in
       let e = p .0 in
-      record { grown = grown-self I W m g; makes = keep-old (made I W m) _ l; numbered = sym e; there = omega arith }
+      record { grown = grown-refl g; makes = keep-old (made I W m) _ l; numbered = sym e; there = omega arith }
 
   pub keep-row-8 : r ≡ 0 → TERMS ≤ m .terms → Refused Tree I W I W m (keep (treeAt (made I W m) w) (made I W m)) 8 m
   keep-row-8 n h =
       let z = length-trees I W (m .terms) in
-      record { grown = grown-self I W m g; makes = keep-8 (made I W m) _ (seek-nowhere (made I W m) _ r f n) (omega arith) }
+      record { grown = grown-refl g; makes = keep-8 (made I W m) _ (seek-nowhere (made I W m) _ r f n) (omega arith) }
 
   pub keep-row-9 : r ≡ 0 → m .terms < TERMS → length W < m .words + length w → Refused Tree I W I W m (keep (treeAt (made I W m) w) (made I W m)) 9 m
   keep-row-9 n h l =
@@ -79,7 +79,7 @@ module _ (I W : List ℕ) (m : Mark) (w : List ℕ) (g : Good I W m) (c : Node (
       let a = made-words I W m g in
       let b = tree-node (made I W m) (m .terms) (c .shaped) in
       let d = g .words in
-      record { grown = grown-self I W m g; makes = keep-9 (made I W m) _ (seek-nowhere (made I W m) _ r f n) (omega arith) (omega arith) }
+      record { grown = grown-refl g; makes = keep-9 (made I W m) _ (seek-nowhere (made I W m) _ r f n) (omega arith) (omega arith) }
 
 -- A new term --------------------------------------------------------------------------------------------------------------------------
 
@@ -102,10 +102,10 @@ module _ (I W : List ℕ) (m : Mark) (w : List ℕ) (g : Good I W m) (c : Node (
       }
 
   node-old : (i : ℕ) → i < m .terms → nodeAt J X i ≡ nodeAt I W i
-  node-old = node-same I W J X m g same
+  node-old = node-same g same
 
   start-new : start J (m .terms) ≡ m .words
-  start-new = start-same I W J X m g same (m .terms) (omega arith) ∙ sym (g .ends)
+  start-new = start-same g same (m .terms) (omega arith) ∙ sym (g .ends)
 
   node-new : nodeAt J X (m .terms) ≡ w
   unfolding nodeAt
@@ -119,7 +119,7 @@ module _ (I W : List ℕ) (m : Mark) (w : List ℕ) (g : Good I W m) (c : Node (
   unfolding trees
   made-new =
       ap (trees J X) (add-one (m .terms))
-      ∙ (λ i. made-same I W J X m g same i ++ (treeAt (made-same I W J X m g same i) (node-new i) ∷ []))
+      ∙ (λ i. made-same g same i ++ (treeAt (made-same g same i) (node-new i) ∷ []))
 
   old-at : (i : ℕ) → i < m .terms → getD (made J X new) i (var 0) ≡ getD (made I W m) i (var 0)
   old-at i h = ap (λ (M : Made). getD M i (var 0)) made-new ∙ List·getD-append (made I W m) (t ∷ []) (var 0) i (let z = length-trees I W (m .terms) in omega arith)
@@ -171,12 +171,12 @@ module _ (I W : List ℕ) (m : Mark) (w : List ℕ) (g : Good I W m) (c : Node (
         ends = sym (k .end) ∙ start-next J (m .terms);
         within = omega arith;
         rise = λ i l. ⊎-elim
-            (λ p. let a = start-same I W J X m g same i (omega arith) in let b = same .ends i p in let d = g .rise i p in omega arith)
+            (λ p. let a = start-same g same i (omega arith) in let b = same .ends i p in let d = g .rise i p in omega arith)
             (λ e. subst (λ (j : ℕ). start J j < getD J j 0) (sym e) (let a = start-new in let b = k .end in omega arith))
             (last-or i (m .terms) (omega arith));
         narrow = λ i l. ⊎-elim
-            (λ p. let a = start-same I W J X m g same i (omega arith) in let b = same .ends i p in let d = g .narrow i p in omega arith)
-            (λ e. subst (λ (j : ℕ). getD J j 0 ≤ start J j + 17) (sym e) (let a = start-new in let b = k .end in omega arith))
+            (λ p. let a = start-same g same i (omega arith) in let b = same .ends i p in let d = g .narrow i p in omega arith)
+            (λ e. subst (λ (j : ℕ). getD J j 0 ≤ start J j + NODE) (sym e) (let a = start-new in let b = k .end in omega arith))
             (last-or i (m .terms) (omega arith));
         shaped = λ i l. ⊎-elim
             (λ p. subst (Shaped i) (sym (node-old i p)) (g .shaped i p))
@@ -200,7 +200,7 @@ module _ (I W : List ℕ) (m : Mark) (w : List ℕ) (g : Good I W m) (c : Node (
       let b = tree-node (made I W m) (m .terms) (c .shaped) in
       let d = g .words in
       record {
-        grown = record { good = good-new; more = omega arith; longer = omega arith; same = same };
+        grown = record { was = g; good = good-new; more = omega arith; longer = omega arith; same = same };
         makes = keep-new (made I W m) t absent (omega arith) (omega arith) ∙ ap (ok t) (sym made-new);
         numbered = sym (number-of (made J X new) (good-new .apart) (m .terms) (omega arith) t new-at);
         there = omega arith;

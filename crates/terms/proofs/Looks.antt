@@ -9,7 +9,7 @@ use lib.ListN.{length, getD, set, length-set}
 use lib.Seq.{getD-set-same, getD-set-other}
 use lib.Dec.{leb}
 use borrow.Author.Tests.{le-leb, lt-leb}
-use Rattle.rules.specs.Limits.{PAIRS}
+use Rattle.rules.specs.Limits.{PAIRS, ARGUMENTS}
 use Rattle.rules.specs.Out.{Out, ok, refuse, then, Act, room}
 use Rattle.rules.specs.Tree.{Tree, Trees, countTrees}
 use Rattle.rules.specs.Store.{Made}
@@ -20,8 +20,8 @@ use Rattle.terms.specs.declared.pairs.Asks.the-variants.{Nothing, Clash,
 use Rattle.terms.specs.Table.{run, argsOf, made}
 use Rattle.terms.specs.Pairs.{PartsAt, Answered, waits, piled}
 use Rattle.terms.specs.Peel.{Lookable, same, more, OntoPairs, Crowded, BindsHere}
-use Rattle.terms.proofs.Words.{run-length}
-use Rattle.terms.proofs.Tables.{args-count}
+use Rattle.terms.specs.Laws.Runs.{run-length}
+use Rattle.terms.specs.Laws.Tables.{args-count}
 use Rattle.terms.proofs.Waits.{waits-piled, length-piled}
 
 -- The definition by cases ------------------------------------------------------------------------------------------------------------
@@ -112,7 +112,7 @@ module _ (I W : List ℕ) (m : Mark) (P seen : List ℕ) (w s t : ℕ) (q : Look
     count : countTrees (argsOf (made I W m) (run W a n)) ≡ n
     count = args-count (made I W m) (run W a n) ∙ run-length W a n left-in
 
-    pub sum-small : w + n ≤ 528
+    pub sum-small : w + n ≤ PAIRS + ARGUMENTS
     sum-small = let x = asks .few in let y = q .few in omega arith
 
     pub look-crowd : PAIRS < w + n → Crowded w L

@@ -12,10 +12,11 @@ use Rattle.rules.specs.Store.{Made}
 use Rattle.rules.specs.Match.{matches, matchAll}
 use Rattle.terms.specs.declared.store.Mark.{Mark}
 use Rattle.terms.specs.Table.{argsOf, made}
-use Rattle.terms.specs.Patterns.{Standing, boundOf, Matchable, AllMatchable, Tried, hit, miss, AllTried, hits, misses, Matched, matched, other, AllMatched, all, notAll, TriedAt, TriedAll, MatchedAt, MatchedAll}
-use Rattle.terms.proofs.Nodes.{Writing, writing-ends}
-use Rattle.terms.proofs.Tables.{length-trees}
-use Rattle.terms.proofs.Matches.{size-some, Matching, matching-reads, matching-on, matching-miss, matching-ends}
+use Rattle.terms.specs.Patterns.{Standing, boundOf, Matchable, AllMatchable, Tried, hit, miss, AllTried, hits, misses, Matched, matched, other}
+use Rattle.terms.specs.Patterns.{AllMatched, all, notAll, TriedAt, TriedAll, MatchedAt, MatchedAll}
+use Rattle.terms.specs.Laws.Tables.{length-trees}
+use Rattle.terms.specs.Laws.Patterns.{size-some}
+use Rattle.terms.proofs.Matches.{Matching, matching-reads, matching-on, matching-miss, matching-ends}
 
 -- terms from k on are left
 pub record Listing (S P I W : List ℕ) (m : Mark) (B : List ℕ) (at : ℕ) (xs C : List ℕ) (place k : ℕ) : Type 0 where
@@ -82,17 +83,22 @@ module _ (S P I W : List ℕ) (m : Mark) (B : List ℕ) (at : ℕ) (xs C : List 
 
 -- The cells, and their copy --------------------------------------------------------------------------------------------------------
 
-pub copied : (l w now : List ℕ) (i : ℕ) → Writing l w now i → length w ≤ i → length l ≡ length w → now ≡ w
-copied l w now i c h e = writing-ends l w now i c h ∙ ap (λ (k : ℕ). w ++ drop k l) (sym e) ∙ ap (λ (r : List ℕ). w ++ r) (drop-length l) ∙ append-nil w
+-- a table that another, as long, was written into
+whole : (l w now : List ℕ) → length l ≡ length w → now ≡ w ++ drop (length w) l → now ≡ w
+whole l w now e d = d ∙ ap (λ (k : ℕ). w ++ drop k l) (sym e) ∙ ap (λ (r : List ℕ). w ++ r) (drop-length l) ∙ append-nil w
+
+-- the cells B were written to A, over O, and A back over what the cells had become
+pub rewritten : (B O A C D : List ℕ) → length O ≡ length B → length C ≡ length B → A ≡ B ++ drop (length B) O → D ≡ A ++ drop (length A) C → D ≡ B
+rewritten B O A C D o c a d = let e : A ≡ B = whole O B A o a in whole C A D (c ∙ ap length (sym e)) d ∙ e
 
 module _ (S P I W : List ℕ) (m : Mark) (B C : List ℕ) (at : ℕ) where
-  pub match-stays : (id r : ℕ) → TriedAt S P I W m B C at id r → r ≡ 0 → (D A : List ℕ) → D ≡ A → A ≡ B → MatchedAt S P I W m B D at id 0
-  match-stays id r t z D A d a p st = go (t p st)
+  pub match-stays : (id r : ℕ) → TriedAt S P I W m B C at id r → r ≡ 0 → (D : List ℕ) → D ≡ B → MatchedAt S P I W m B D at id 0
+  match-stays id r t z D d p st = go (t p st)
     where
       go : Tried (made I W m) C (matches p (getD (made I W m) id (var 0)) (boundOf (made I W m) B)) (at + size p) r
           → Matched (made I W m) B D (matches p (getD (made I W m) id (var 0)) (boundOf (made I W m) B)) (at + size p) 0
       go (hit k c b) = let some = size-some p in absurd (omega arith)
-      go (miss k c b) = other k (d ∙ a) refl
+      go (miss k c b) = other k d refl
 
   pub match-hits : (id r : ℕ) → TriedAt S P I W m B C at id r → (r ≡ 0 → ⊥) → MatchedAt S P I W m B C at id r
   match-hits id r t n p st = go (t p st)
@@ -102,13 +108,13 @@ module _ (S P I W : List ℕ) (m : Mark) (B C : List ℕ) (at : ℕ) where
       go (hit k c b) = matched k c b
       go (miss k c b) = absurd (n b)
 
-  pub all-stays : (xs : List ℕ) (r : Bool) → TriedAll S P I W m B C at xs r → r ≡ false → (D A : List ℕ) → D ≡ A → A ≡ B → MatchedAll S P I W m B D at xs false
-  all-stays xs r t z D A d a ps st n = go (t ps st n)
+  pub all-stays : (xs : List ℕ) (r : Bool) → TriedAll S P I W m B C at xs r → r ≡ false → (D : List ℕ) → D ≡ B → MatchedAll S P I W m B D at xs false
+  all-stays xs r t z D d ps st n = go (t ps st n)
     where
       go : AllTried (made I W m) C (matchAll ps (argsOf (made I W m) xs) (boundOf (made I W m) B)) r
           → AllMatched (made I W m) B D (matchAll ps (argsOf (made I W m) xs) (boundOf (made I W m) B)) false
       go (hits k c b) = absurd (true≢false (sym b ∙ z))
-      go (misses k c b) = notAll k (d ∙ a) refl
+      go (misses k c b) = notAll k d refl
 
   pub all-hits : (xs : List ℕ) (r : Bool) → TriedAll S P I W m B C at xs r → r ≡ true → MatchedAll S P I W m B C at xs true
   all-hits xs r t z ps st n = go (t ps st n)

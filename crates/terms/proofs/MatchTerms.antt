@@ -12,15 +12,16 @@ use Rattle.rules.specs.Match.{matches}
 use Rattle.terms.specs.declared.store.Mark.{Mark}
 use Rattle.terms.specs.Table.{run, start, nodeAt, argsOf, treeAt, made, Shaped, isVar, isApp, Good}
 use Rattle.terms.specs.Patterns.{arity, Stands, boundOf, Cells, Matchable, Tried, hit, miss, TriedAt}
-use Rattle.terms.proofs.Words.{run-more, run-none, run-length, run-at}
-use Rattle.terms.proofs.Tables.{length-trees, tree-here, end-within, args-count}
-use Rattle.terms.proofs.Matches.{stands-var, stands-app, reads-var, var-new, var-same, var-other, all-other, app-same, app-other, Matching, matching-reads, matching-on, matching-miss, matching-ends}
+use Rattle.terms.specs.Laws.Runs.{run-more, run-none, run-length, run-at}
+use Rattle.terms.specs.Laws.Tables.{length-trees, tree-here, end-within, args-count}
+use Rattle.terms.proofs.Matches.{stands-var, stands-app, reads-var, var-new, var-same, var-other, all-other, app-same, app-other, Matching}
+use Rattle.terms.proofs.Matches.{matching-reads, matching-on, matching-miss, matching-ends}
 
 -- The node of a term -------------------------------------------------------------------------------------------------------------
 
 -- an argument of a node is a lower term
 arg-low : (n : ℕ) {w : List ℕ} (i : ℕ) → Shaped n w → 1 ≤ i → i < length w → getD w i 0 < n
-arg-low n i (isVar {h = h} p) f b = absurd (omega arith)
+arg-low n i (isVar {h = h} p u) f b = absurd (omega arith)
 arg-low n zero (isApp {xs = xs} p b) f k = absurd (omega arith)
 arg-low n (suc i) (isApp {xs = xs} p b) f k = b i (omega arith)
 

@@ -5,34 +5,25 @@ use mathlib.Core.List.{List, [], _∷_}
 use mathlib.Core.Option.{Option, some, none as nothing}
 use Prim.Native.Nat.{ℕ, zero, suc, _+_, _-_, _≤_, _<_}
 use native.Mathlib.Omega.{arith}
-use native.Mathlib.Decide.{ℕ-discrete, decLt}
+use native.Mathlib.Decide.{decLt}
 use native.Mathlib.Numerals.{add-one}
-use lib.ListN.{length, getD, set, length-set}
-use lib.Seq.{getD-set-same, getD-set-other}
+use lib.ListN.{length, getD, set}
 use borrow.Author.Tests.{eq-eqb, ne-eqb}
 use Rattle.rules.specs.Limits.{SYMBOLS, ARGUMENTS, RULEVARS}
 use Rattle.rules.specs.Tree.{Tree, Trees, var, app, none, more, size, sizes, countTrees}
 use Rattle.rules.specs.Laws.Tree.{not-same, same-self}
 use Rattle.rules.specs.Store.{Made}
 use Rattle.rules.specs.Laws.Store.{Apart}
-use Rattle.rules.specs.Match.{Bound, bind, matchVar, andThen, matches, matchAll}
-use Rattle.terms.specs.Table.{argsOf, treeAt, trees}
-use Rattle.terms.specs.Patterns.{arity, Stands, Standing, Reads, treeIn, boundOf, Cells, Tried, hit, miss}
-use Rattle.terms.proofs.Tables.{tree-app, tree-var}
+use Rattle.rules.specs.Match.{Bound, matchVar, andThen, matches, matchAll}
+use Rattle.terms.specs.Table.{argsOf, treeAt}
+use Rattle.terms.specs.Patterns.{arity, Stands, Standing, PatternAt, treeIn, boundOf, Cells, Tried, hit, miss}
+use Rattle.terms.specs.Laws.Tables.{tree-app, tree-var}
+use Rattle.terms.specs.Laws.Patterns.{stands-in, size-some}
+use Rattle.terms.specs.Laws.Bound.{bound-set, cells-set}
 
 -- Patterns in words ------------------------------------------------------------------------------------------------------------
 
-pub size-some : (p : Tree) → 0 < size p
-unfolding size
-size-some (var v) = omega arith
-size-some (app c ts) = omega arith
-
-pub stands-in : (S P : List ℕ) (at : ℕ) (p : Tree) → Stands S P at p → at < length P
-unfolding Stands
-stands-in S P at (var v) h = h .0
-stands-in S P at (app c ts) h = h .0
-
-pub reads-in : (S P : List ℕ) (at : ℕ) → Reads S P at → at < length P
+pub reads-in : (S P : List ℕ) (at : ℕ) → PatternAt S P at → at < length P
 reads-in S P at r = stands-in S P at (r .tree) (r .stands)
 
 -- a word from SYMBOLS on is a variable's
@@ -45,7 +36,7 @@ stands-var S P at (var v) h l =
     (ap var e, omega arith)
 stands-var S P at (app c ts) h l = let a = h .1 in let b = h .2 in absurd (omega arith)
 
-pub reads-var : (S P : List ℕ) (at : ℕ) → Reads S P at → SYMBOLS ≤ getD P at 0 → getD P at 0 - SYMBOLS < RULEVARS
+pub reads-var : (S P : List ℕ) (at : ℕ) → PatternAt S P at → SYMBOLS ≤ getD P at 0 → getD P at 0 - SYMBOLS < RULEVARS
 reads-var S P at r l = stands-var S P at (r .tree) (r .stands) l .1
 
 -- a word below SYMBOLS is a symbol's, and its arguments stand behind it
@@ -66,35 +57,12 @@ stands-app S P at (app c ts) h l =
 -- A variable -------------------------------------------------------------------------------------------------------------------
 
 module _ (M : Made) (B : List ℕ) (v id : ℕ) (c : Cells (length M) B) (l : v < RULEVARS) (h : id < length M) where
-  bind-at : (w : ℕ) → boundOf M (set B v (id + 1)) w ≡ bind (boundOf M B) v (getD M id (var 0)) w
-  unfolding boundOf bind treeIn
-  bind-at w =
-      let long = c .long in
-      elim (ℕ-discrete w v) [
-        | yes e ↦
-            ap (treeIn M) (ap (λ (k : ℕ). getD (set B v (id + 1)) k 0) e ∙ getD-set-same B v (id + 1) 0 (omega arith) ∙ add-one id)
-            ∙ sym (ap (λ (b : Bool). elim b [ true ↦ some (getD M id (var 0)) | false ↦ boundOf M B w ]) (eq-eqb w v e))
-        | no q ↦
-            ap (treeIn M) (getD-set-other B v w (id + 1) 0 q)
-            ∙ sym (ap (λ (b : Bool). elim b [ true ↦ some (getD M id (var 0)) | false ↦ boundOf M B w ]) (ne-eqb w v q))
-      ]
-
-  bind-cells : Cells (length M) (set B v (id + 1))
-  bind-cells =
-      record {
-        long = length-set B v (id + 1) ∙ c .long;
-        within = λ w. elim (ℕ-discrete w v) [
-          | yes e ↦ let long = c .long in let z = ap (λ (k : ℕ). getD (set B v (id + 1)) k 0) e ∙ getD-set-same B v (id + 1) 0 (omega arith) in omega arith
-          | no q ↦ let z = getD-set-other B v w (id + 1) 0 q in let y = c .within w in omega arith
-        ];
-      }
-
   meets : ℕ → Option Bound
   meets x = matchVar v (getD M id (var 0)) (boundOf M B) (treeIn M x)
 
   pub var-new : getD B v 0 ≡ 0 → (at : ℕ) → Tried M (set B v (id + 1)) (matches (var v) (getD M id (var 0)) (boundOf M B)) (at + size (var v)) (at + 1)
   unfolding matches matchVar boundOf treeIn size meets
-  var-new e at = hit (ap meets e ∙ ap some (λ i w. sym (bind-at w) i)) bind-cells refl
+  var-new e at = hit (ap meets e ∙ ap some (sym (bound-set M B v id c l h))) (cells-set M B v id c l h) refl
 
   pub var-same : getD B v 0 ≡ id + 1 → (at : ℕ) → Tried M B (matches (var v) (getD M id (var 0)) (boundOf M B)) (at + size (var v)) (at + 1)
   unfolding matches matchVar boundOf treeIn size meets
@@ -154,11 +122,11 @@ pub record Matching (S P : List ℕ) (M : Made) (K : Option Bound) (behind : ℕ
   pub left : K ≡ matchAll patterns (argsOf M xs) (boundOf M C)
 
 module _ (S P : List ℕ) (M : Made) (K : Option Bound) (behind : ℕ) (C : List ℕ) (place : ℕ) where
-  pub matching-reads : (x : ℕ) (xs : List ℕ) → Matching S P M K behind C place (x ∷ xs) → Reads S P place
+  pub matching-reads : (x : ℕ) (xs : List ℕ) → Matching S P M K behind C place (x ∷ xs) → PatternAt S P place
   unfolding Stands countTrees
   matching-reads x xs q = go (q .patterns) (q .stands) (q .count)
     where
-      go : (ps : Trees) → Standing S P place ps → countTrees ps ≡ suc (length xs) → Reads S P place
+      go : (ps : Trees) → Standing S P place ps → countTrees ps ≡ suc (length xs) → PatternAt S P place
       go none s e = absurd (omega arith)
       go (more p ps) s e = record { tree = p; stands = s .0 }
 

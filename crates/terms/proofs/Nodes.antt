@@ -1,37 +1,26 @@
--- A new node: its flag, its place in the index, its words. Assumes nothing.
-use mathlib.Core.Path.{_≡_, refl, sym, ap, _∙_, subst}
-use mathlib.Core.Bool.{Bool, true, false, true≢false, false≢true}
-use mathlib.Core.List.{List, [], _∷_, _++_}
-use Prim.Native.Nat.{ℕ, zero, suc, _+_, _-_, _≤_, _<_}
+-- A new node: its flag, and its place in the index. Assumes nothing.
+use mathlib.Core.Path.{_≡_, sym, ap, _∙_}
+use mathlib.Core.Bool.{Bool, true, false, not}
+use mathlib.Core.List.{List, [], _∷_, _++_, append-nil}
+use Prim.Native.Nat.{ℕ, zero, suc, _+_, _≤_, _<_, _-_, _*_}
 use native.Mathlib.Omega.{arith}
 use native.Mathlib.Numerals.{add-one}
 use native.Mathlib.Nat.{not-suc-le-zero}
-use lib.ListN.{length, getD, set, take, drop, length-set, drop-of-length-le, length-append}
-use lib.Seq.{getD-set-same, getD-set-other, drop-cons, take-suc, take-all, set-at, append-snoc, length-take-le}
+use lib.ListN.{length, getD, set, drop, length-set, drop-of-length-le, take, replicate, length-drop}
+use lib.Seq.{getD-set-same, getD-set-other, drop-cons}
+use lib.Dec.{eqb}
 use Rattle.rules.specs.Limits.{SYMBOLS, TERMS, WORDS}
-use Rattle.rules.specs.Tree.{Tree, Trees, var, app, none, more, isOpen, areOpen}
+use Rattle.rules.specs.Tree.{Tree, var, isOpen, areOpen}
 use Rattle.rules.specs.Store.{Made}
 use Rattle.terms.specs.declared.store.Mark.{Mark}
-use Rattle.terms.specs.Table.{CHAINS, FLAGS, HEADS, INDEX, BUCKETS, argsOf, treeAt, trees, made, flag, Shaped, isVar, isApp, Good}
-use Rattle.terms.specs.Node.{Linked}
-use Rattle.terms.proofs.Tables.{tree-app, tree-var, shaped-some}
+use Rattle.terms.specs.Table.{CHAINS, FLAGS, HEADS, INDEX, BUCKETS, argsOf, treeAt, made, flag, Shaped, isVar, isApp, Good, start, run}
+use Rattle.terms.specs.Table.{settled}
+use Rattle.terms.specs.Node.{Linked, Held, HeldIn, HeadIs, OpenIs}
+use Rattle.terms.specs.Laws.Tables.{tree-app, tree-var, shaped-some}
+use Rattle.terms.specs.Laws.Terms.{flag-open, flag-closed, flag-in, start-in, head-tree}
+use Rattle.terms.specs.Laws.Runs.{run-length}
 
 -- Flags ----------------------------------------------------------------------------------------------------------------------------
-
-pub flag-small : (b : Bool) → flag b ≤ 1
-unfolding flag
-flag-small true = omega arith
-flag-small false = omega arith
-
-pub flag-open : (b : Bool) (n : ℕ) → n ≡ flag b → (n ≡ 0 → ⊥) → b ≡ true
-unfolding flag
-flag-open true n e h = refl
-flag-open false n e h = absurd (h e)
-
-pub flag-closed : (b : Bool) (n : ℕ) → n ≡ flag b → n ≡ 0 → b ≡ false
-unfolding flag
-flag-closed true n e h = absurd (omega arith)
-flag-closed false n e h = refl
 
 open-app : (M : Made) (h : ℕ) (xs : List ℕ) → h < SYMBOLS → isOpen (treeAt M (h ∷ xs)) ≡ areOpen (argsOf M xs)
 unfolding isOpen
@@ -56,7 +45,7 @@ flagging-begins I W [] m g s h = absurd (not-suc-le-zero (shaped-some (m .terms)
 flagging-begins I W (x ∷ xs) m g s h = record { good = g; shaped = s; from = omega arith; inside = omega arith; small = h; left = open-app (made I W m) x xs h }
 
 arg-in : (n : ℕ) {w : List ℕ} (i : ℕ) → Shaped n w → getD w 0 0 < SYMBOLS → 1 ≤ i → i < length w → getD w i 0 < n
-arg-in n i (isVar {h = h} p) l f b = absurd (omega arith)
+arg-in n i (isVar {h = h} p u) l f b = absurd (omega arith)
 arg-in n zero (isApp {xs = xs} p b) l f k = absurd (omega arith)
 arg-in n (suc i) (isApp {xs = xs} p b) l f k = b i (omega arith)
 
@@ -131,34 +120,33 @@ module _ (I : List ℕ) (n b e o : ℕ) (h : (length I ≡ INDEX) × (n < TERMS)
         other = λ j p q r s. getD-set-other three n j e 0 p ∙ getD-set-other two (HEADS + b) j (n + 1) 0 s ∙ getD-set-other one (FLAGS + n) j o 0 r ∙ getD-set-other I (CHAINS + n) j (getD I (HEADS + b) 0) 0 q;
       }
 
--- The words --------------------------------------------------------------------------------------------------------------------------
+-- One term -------------------------------------------------------------------------------------------------------------------------
 
-pub record Writing (l w now : List ℕ) (i : ℕ) : Type 0 where
-  pub inside : i ≤ length w
-  pub room : length w ≤ length l
-  pub long : length now ≡ length l
-  pub so-far : now ≡ take i w ++ drop i l
+-- a flag that is not zero
+pub open-flag : (b : Bool) (n : ℕ) → n ≡ flag b → not (eqb n 0) ≡ b
+unfolding flag
+open-flag true n e = ap (λ (k : ℕ). not (eqb k 0)) e
+open-flag false n e = ap (λ (k : ℕ). not (eqb k 0)) e
 
-pub writing-begins : (l w : List ℕ) → length w ≤ length l → Writing l w l 0
-writing-begins l w h = record { inside = omega arith; room = h; long = refl; so-far = refl }
+module _ (I : List ℕ) (id : ℕ) (h : HeldIn I id) where
+  pub held-flag : FLAGS + id < length I
+  held-flag = flag-in I (h .words) (h .held .mark) (h .held .good) id (h .held .there)
 
-pub writing-on : (l w now : List ℕ) (i : ℕ) → Writing l w now i → i < length w → Writing l w (set now i (getD w i 0)) (i + 1)
-writing-on l w now i c h =
-    let r = c .room in
-    let z = length-take-le i w (omega arith) in
-    record {
-      inside = omega arith;
-      room = c .room;
-      long = length-set now i (getD w i 0) ∙ c .long;
-      so-far = ap (λ (r : List ℕ). set r i (getD w i 0)) (c .so-far ∙ ap (λ (r : List ℕ). take i w ++ r) (drop-cons l i 0 (omega arith)))
-          ∙ set-at (take i w) (getD l i 0) (drop (suc i) l) (getD w i 0) i z
-          ∙ sym (append-snoc (take i w) (getD w i 0) (drop (suc i) l))
-          ∙ ap (λ (r : List ℕ). r ++ drop (suc i) l) (sym (take-suc w i 0 h))
-          ∙ ap (λ (k : ℕ). take k w ++ drop k l) (sym (add-one i));
-    }
+  pub open-is : OpenIs I id (not (eqb (getD I (FLAGS + id) 0) 0))
+  open-is W m g l = open-flag (isOpen (getD (made I W m) id (var 0))) (getD I (FLAGS + id) 0) (g .flags id l)
 
-pub writing-ends : (l w now : List ℕ) (i : ℕ) → Writing l w now i → length w ≤ i → now ≡ w ++ drop (length w) l
-writing-ends l w now i c h =
-    let a = c .inside in
-    let e : i ≡ length w = omega arith in
-    c .so-far ∙ ap (λ (k : ℕ). take k w ++ drop k l) e ∙ ap (λ (r : List ℕ). r ++ drop (length w) l) (take-all (length w) w (omega arith))
+module _ (I W : List ℕ) (id : ℕ) (h : Held I W id) (s : ℕ) (b : s ≡ start I id) where
+  pub held-start : s < length W
+  held-start = start-in I W (h .mark) (h .good) id (h .there) s b
+
+  pub head-is : HeadIs I W id (getD W s 0)
+  head-is m g l = head-tree I W m g id l s b
+
+-- the look-up part is cleared
+pub settling : (I ys : List ℕ) → length I ≡ INDEX → ys ≡ replicate (length (run I CHAINS (length I - CHAINS))) 0 → take CHAINS I ++ (ys ++ drop (length I - CHAINS) (drop CHAINS I)) ≡ settled I
+settling I ys l e =
+    let a = run-length I CHAINS (length I - CHAINS) (omega arith) in
+    let b : length (run I CHAINS (length I - CHAINS)) ≡ 3 * TERMS = omega arith in
+    let c = length-drop CHAINS I in
+    let d : drop (length I - CHAINS) (drop CHAINS I) ≡ [] = drop-of-length-le (drop CHAINS I) {i = length I - CHAINS} (omega arith) in
+    ap (λ (r : List ℕ). take CHAINS I ++ r) ((λ i. (e ∙ ap (λ (k : ℕ). replicate k 0) b) i ++ d i) ∙ append-nil (replicate (3 * TERMS) 0))

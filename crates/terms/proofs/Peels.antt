@@ -14,8 +14,8 @@ use Rattle.terms.specs.declared.peel.Turn.the-variants.{More, Clash, Bin
 use Rattle.terms.specs.Table.{Grown, Refused}
 use Rattle.terms.specs.Pairs.{waits}
 use Rattle.terms.specs.Peel.{Peelable, weighs, peels, Lighter, Clashes, BindsOne, Turned, Finishes}
-use Rattle.terms.proofs.Tables.{length-trees}
-use Rattle.terms.proofs.Sames.{grown-self, grown-then}
+use Rattle.terms.specs.Laws.Tables.{length-trees}
+use Rattle.terms.specs.Laws.Growth.{grown-refl, grown-trans}
 
 -- the pairs that wait now say what is left, with more steps than they weigh
 pub record Peeling (I W : List ℕ) (old : Mark) (theta memo P seen : List ℕ) (w : ℕ) (J X memo′ P′ seen′ : List ℕ) (m : Mark) (v : ℕ) : Type 0 where
@@ -30,7 +30,7 @@ pub record Peeling (I W : List ℕ) (old : Mark) (theta memo P seen : List ℕ) 
 
 pub peeling-begins : (I W : List ℕ) (old : Mark) (theta memo P seen : List ℕ) (w : ℕ) → Peelable I W old theta memo P seen w → Peeling I W old theta memo P seen w I W memo P seen old w
 peeling-begins I W old theta memo P seen w q =
-    record { grown = grown-self I W old (q .good); peelable = q; steps = weighs I W old theta P w; enough = omega arith; left = refl; long-memo = refl; long-pairs = refl; same-seen = refl }
+    record { grown = grown-refl (q .good); peelable = q; steps = weighs I W old theta P w; enough = omega arith; left = refl; long-memo = refl; long-pairs = refl; same-seen = refl }
 
 module _ (I W : List ℕ) (old : Mark) (theta memo P seen : List ℕ) (w : ℕ) (J X memo′ P′ seen′ : List ℕ) (m : Mark) (v : ℕ) (l : Peeling I W old theta memo P seen w J X memo′ P′ seen′ m v) where
   abbrev K : Out Made Found
@@ -55,18 +55,18 @@ module _ (I W : List ℕ) (old : Mark) (theta memo P seen : List ℕ) (w : ℕ) 
     pub peeling-clash : (new : Mark) → r ≡ Clash new → Clashes I W G Y old memo″ K new
     peeling-clash new e =
         let f : (k : ℕ) → Clashes J X G Y m memo″ (peels (suc k) J X m theta P′ v) new = subst (Turned J X G Y m theta memo″ P′ P″ seen′ v) e d in
-        record { grown = grown-then I W J X G Y old m new (l .grown) (f 0 .grown); makes = l .left ∙ f (l .steps) .makes; results = f 0 .results }
+        record { grown = grown-trans (l .grown) (f 0 .grown); makes = l .left ∙ f (l .steps) .makes; results = f 0 .results }
 
     pub peeling-full : (row : ℕ) (new : Mark) → r ≡ Full row new → Refused Found I W G Y old K row new
     peeling-full row new e =
         let f : (k : ℕ) → Refused Found J X G Y m (peels (suc k) J X m theta P′ v) row new = subst (Turned J X G Y m theta memo″ P′ P″ seen′ v) e d in
-        record { grown = grown-then I W J X G Y old m new (l .grown) (f 0 .grown); makes = l .left ∙ f (l .steps) .makes }
+        record { grown = grown-trans (l .grown) (f 0 .grown); makes = l .left ∙ f (l .steps) .makes }
 
     pub peeling-binds : (x u n : ℕ) (new : Mark) → r ≡ Binds x u n new → BindsOne I W G Y old memo″ P″ K x u n new
     peeling-binds x u n new e =
         let f : (k : ℕ) → BindsOne J X G Y m memo″ P″ (peels (suc k) J X m theta P′ v) x u n new = subst (Turned J X G Y m theta memo″ P′ P″ seen′ v) e d in
         let b = f (l .steps) in
-        record { grown = grown-then I W J X G Y old m new (l .grown) (b .grown); makes = l .left ∙ b .makes; results = b .results; small = b .small; known = b .known; few = b .few; there = b .there }
+        record { grown = grown-trans (l .grown) (b .grown); makes = l .left ∙ b .makes; results = b .results; small = b .small; known = b .known; few = b .few; there = b .there }
 
     module _ (n : ℕ) (new : Mark) (e : r ≡ More n new) where
       lighter : Lighter J X G Y m theta memo″ P′ P″ seen′ v n new
@@ -81,7 +81,7 @@ module _ (I W : List ℕ) (old : Mark) (theta memo P seen : List ℕ) (w : ℕ) 
           let g = l .enough in
           let c : l .steps ≡ suc (l .steps - 1) = omega arith in
           record {
-            grown = grown-then I W J X G Y old m new (l .grown) (lighter .grown);
+            grown = grown-trans (l .grown) (lighter .grown);
             peelable = subst (λ (z : List ℕ). Peelable G Y new theta memo″ P″ z n) (sym s) (lighter .peelable);
             steps = l .steps - 1;
             enough = omega arith;

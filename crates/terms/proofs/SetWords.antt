@@ -1,7 +1,7 @@
 -- What the operations on words do to the sets that the words stand for. Assumes nothing.
-use mathlib.Core.Path.{_≡_, refl, sym, ap, _∙_, subst}
-use mathlib.Core.Bool.{Bool, true, false, _&&_, _||_, not}
-use mathlib.Core.List.{List, [], _∷_, _++_}
+use mathlib.Core.Path.{_≡_, refl, sym, ap, _∙_}
+use mathlib.Core.Bool.{Bool, true, false, _&&_, not, _||_}
+use mathlib.Core.List.{List, _∷_, _++_}
 use Prim.Native.Nat.{ℕ, zero, suc, _+_, _-_, _*_, _/_, _%_, _^_, _≤_, _<_}
 use native.Mathlib.Omega.{arith}
 use native.Mathlib.Decide.{ℕ-discrete, decLt}
@@ -10,24 +10,17 @@ use native.Mathlib.Numerals.{add-one}
 use lib.Dec.{eqb, lit<}
 use lib.Pow.{shl-exact}
 use lib.Arith.{lt-one}
-use borrow.Author.Count.{below-more}
-use lib.ListN.{length, getD, set, replicate, length-set, length-append, List·getD-eq-default}
+use lib.ListN.{length, getD, set, length-set, length-append, List·getD-eq-default}
 use lib.Seq.{getD-set-same, getD-set-other}
 use lib.Bits.{bitAnd, bitOr, and-le-l, and-mask}
 use lib.Count.{trailingZeros, ones, ones-step}
-use borrow.Author.Tests.{eq-eqb, ne-eqb, eqb-true, eqb-false}
-use Rattle.rules.specs.Find.{Set, empty, union, minus, least, rising, risingFrom}
+use borrow.Author.Count.{below-more}
+use borrow.Author.Tests.{ne-eqb, eqb-true, eqb-false}
+use Rattle.rules.specs.Find.{union, minus, least, rising, risingFrom}
 use Rattle.rules.specs.Laws.Set.{least-none, least-here, rising-all, rising-none, rising-split, rising-from-length}
 use Rattle.terms.specs.Sets.{digit, holds, plus}
-use Rattle.terms.proofs.Digits.{digit-or, digit-and, digit-not, digit-one, digit-zero, digit-suc, digit-of-zero, Lowest, lowest}
-use Rattle.terms.proofs.Fresh.{getD-zeros}
-
-eqb-iff : (a b c d : ℕ) → (a ≡ b → c ≡ d) → (c ≡ d → a ≡ b) → eqb a b ≡ eqb c d
-eqb-iff a b c d f g = elim (ℕ-discrete a b) [ yes p ↦ eq-eqb a b p ∙ sym (eq-eqb c d (f p)) | no q ↦ ne-eqb a b q ∙ sym (ne-eqb c d (λ e. q (g e))) ]
-
-or-false : (b : Bool) → b || false ≡ b
-or-false true = refl
-or-false false = refl
+use Rattle.terms.specs.Laws.Digits.{digit-or, digit-and, digit-not, digit-one, digit-zero, digit-suc, digit-of-zero, Lowest, lowest}
+use Rattle.terms.specs.Laws.Sets.{eqb-iff, or-false, word-digit}
 
 -- has ------------------------------------------------------------------------------------------------------------------------
 
@@ -66,41 +59,64 @@ module _ (s : List ℕ) (v : ℕ) (h : v < 64 * length s) where
   pub insert-law : holds (set s (v / 64) inserted) ≡ plus v (holds s)
   insert-law = λ i w. insert-at w i
 
--- union_into -----------------------------------------------------------------------------------------------------------------
+-- Word by word ---------------------------------------------------------------------------------------------------------------
 
-pub record Joined (s t u : List ℕ) (i : ℕ) : Type 0 where
+-- in the first i words of u each bit is f of those of s and t; the others are as they were
+pub record Joined (f : Bool → Bool → Bool) (s t u : List ℕ) (i : ℕ) : Type 0 where
   pub inside : i ≤ length s
   pub long : length u ≡ length s
-  pub done : (k : ℕ) → k < i → getD u k 0 ≡ bitOr (getD s k 0) (getD t k 0)
+  pub done : (k : ℕ) → k < i → (j : ℕ) → j < 64 → digit (getD u k 0) j ≡ f (digit (getD s k 0) j) (digit (getD t k 0) j)
   pub left : (k : ℕ) → i ≤ k → getD u k 0 ≡ getD s k 0
 
-pub joined-none : (s t : List ℕ) → Joined s t s 0
-joined-none s t = record { inside = omega arith; long = refl; done = λ k l. absurd (not-suc-le-zero l); left = λ k l. refl }
+pub joined-none : (f : Bool → Bool → Bool) (s t : List ℕ) → Joined f s t s 0
+joined-none f s t = record { inside = omega arith; long = refl; done = λ k l. absurd (not-suc-le-zero l); left = λ k l. refl }
 
-pub joined-more : (s t u : List ℕ) (i : ℕ) → Joined s t u i → i < length u → Joined s t (set u i (bitOr (getD u i 0) (getD t i 0))) (i + 1)
-joined-more s t u i j h =
-    let z = j .long in
+-- the word x comes next
+pub joined-more : (f : Bool → Bool → Bool) (s t u : List ℕ) (i x : ℕ) → Joined f s t u i → i < length u
+    → ((j : ℕ) → j < 64 → digit x j ≡ f (digit (getD u i 0) j) (digit (getD t i 0) j)) → Joined f s t (set u i x) (i + 1)
+joined-more f s t u i x q h d =
+    let z = q .long in
     record {
       inside = omega arith;
-      long = length-set u i (bitOr (getD u i 0) (getD t i 0)) ∙ j .long;
+      long = length-set u i x ∙ q .long;
       done = below-more _ i
-          (λ k l. getD-set-other u i k (bitOr (getD u i 0) (getD t i 0)) 0 (λ e. omega arith) ∙ j .done k l)
-          (getD-set-same u i (bitOr (getD u i 0) (getD t i 0)) 0 h ∙ ap (λ (n : ℕ). bitOr n (getD t i 0)) (j .left i (omega arith)));
-      left = λ k l. getD-set-other u i k (bitOr (getD u i 0) (getD t i 0)) 0 (λ e. omega arith) ∙ j .left k (omega arith);
+          (λ k l j m. ap (λ (n : ℕ). digit n j) (getD-set-other u i k x 0 (λ e. omega arith)) ∙ q .done k l j m)
+          (λ j m. ap (λ (n : ℕ). digit n j) (getD-set-same u i x 0 h) ∙ d j m ∙ ap (λ (n : ℕ). f (digit n j) (digit (getD t i 0) j)) (q .left i (omega arith)));
+      left = λ k l. getD-set-other u i k x 0 (λ e. omega arith) ∙ q .left k (omega arith);
     }
 
-joined-at : (s t u : List ℕ) (i : ℕ) → Joined s t u i → length u ≤ i → length s ≡ length t → (k : ℕ) → getD u k 0 ≡ bitOr (getD s k 0) (getD t k 0)
-joined-at s t u i j h e k = elim (decLt k i) [
-  | yes l ↦ j .done k l
-  | no q ↦
-      let z = j .long in
-      List·getD-eq-default u 0 (omega arith)
-      ∙ sym (ap (λ (n : ℕ). bitOr n (getD t k 0)) (List·getD-eq-default s 0 (omega arith)) ∙ List·getD-eq-default t 0 (omega arith))
+joined-at : (f : Bool → Bool → Bool) → f false false ≡ false → (s t u : List ℕ) (i : ℕ) → Joined f s t u i → length u ≤ i → length s ≡ length t
+    → (k j : ℕ) → j < 64 → digit (getD u k 0) j ≡ f (digit (getD s k 0) j) (digit (getD t k 0) j)
+joined-at f n s t u i q h e k j m = elim (decLt k i) [
+  | yes l ↦ q .done k l j m
+  | no o ↦
+      let z = q .long in
+      ap (λ (n : ℕ). digit n j) (List·getD-eq-default u 0 (omega arith)) ∙ digit-of-zero j
+      ∙ sym (ap (λ (n : ℕ). f (digit n j) (digit (getD t k 0) j)) (List·getD-eq-default s 0 (omega arith)) ∙ ap (λ (n : ℕ). f (digit 0 j) (digit n j)) (List·getD-eq-default t 0 (omega arith))
+      ∙ (λ d. f (digit-of-zero j d) (digit-of-zero j d)) ∙ n)
 ]
 
-pub joined-all : (s t u : List ℕ) (i : ℕ) → Joined s t u i → length u ≤ i → length s ≡ length t → holds u ≡ union (holds s) (holds t)
+joined-all : (f : Bool → Bool → Bool) → f false false ≡ false → (s t u : List ℕ) (i : ℕ) → Joined f s t u i → length u ≤ i → length s ≡ length t
+    → (v : ℕ) → holds u v ≡ f (holds s v) (holds t v)
 unfolding holds
-joined-all s t u i j h e = λ d w. (ap (λ (n : ℕ). digit n (w % 64)) (joined-at s t u i j h e (w / 64)) ∙ digit-or (getD s (w / 64) 0) (getD t (w / 64) 0) (w % 64)) d
+joined-all f n s t u i q h e v = joined-at f n s t u i q h e (v / 64) (v % 64) (omega arith)
+
+-- one bit or the other
+pub or-more : (s t u : List ℕ) (i : ℕ) → Joined (λ p q. p || q) s t u i → i < length u → Joined (λ p q. p || q) s t (set u i (bitOr (getD u i 0) (getD t i 0))) (i + 1)
+or-more s t u i q h = joined-more (λ p q. p || q) s t u i (bitOr (getD u i 0) (getD t i 0)) q h (λ j m. digit-or (getD u i 0) (getD t i 0) j)
+
+pub or-all : (s t u : List ℕ) (i : ℕ) → Joined (λ p q. p || q) s t u i → length u ≤ i → length s ≡ length t → holds u ≡ union (holds s) (holds t)
+or-all s t u i q h e = λ d v. joined-all (λ p q. p || q) refl s t u i q h e v d
+
+-- one bit and not the other
+pub minus-more : (s t u : List ℕ) (i : ℕ) → Joined (λ p q. p && not q) s t u i → i < length u → getD t i 0 < 2 ^ 64
+    → Joined (λ p q. p && not q) s t (set u i (bitAnd (getD u i 0) (18446744073709551615 - getD t i 0))) (i + 1)
+minus-more s t u i q h l =
+    joined-more (λ p q. p && not q) s t u i (bitAnd (getD u i 0) (18446744073709551615 - getD t i 0)) q h
+    (λ j m. digit-and (getD u i 0) (18446744073709551615 - getD t i 0) j ∙ ap (λ (b : Bool). digit (getD u i 0) j && b) (digit-not j 64 (getD t i 0) m l))
+
+pub minus-all : (s t u : List ℕ) (i : ℕ) → Joined (λ p q. p && not q) s t u i → length u ≤ i → length s ≡ length t → holds u ≡ minus (holds s) (holds t)
+minus-all s t u i q h e = λ d v. joined-all (λ p q. p && not q) refl s t u i q h e v d
 
 -- What is in a and not in b --------------------------------------------------------------------------------------------------
 
@@ -179,14 +195,6 @@ ones-rising (suc k) n h =
     let p = pow-suc 2 k in
     ones-step n ∙ ap (λ (m : ℕ). n % 2 + m) (ones-rising k (n / 2) (omega arith)) ∙ sym (low-first k n)
 
--- the digits of word i are the members from 64 * i on
-pub word-digit : (s : List ℕ) (i v : ℕ) → v < 64 → holds s (64 * i + v) ≡ digit (getD s i 0) v
-unfolding holds
-word-digit s i v l =
-    let p : (64 * i + v) / 64 ≡ i = omega arith in
-    let q : (64 * i + v) % 64 ≡ v = omega arith in
-    ap (λ (j : ℕ). digit (getD s j 0) ((64 * i + v) % 64)) p ∙ ap (digit (getD s i 0)) q
-
 pub count-none : (s : List ℕ) → 0 ≡ length (rising (64 * 0) (holds s))
 count-none s = sym (ap length (rising-none (holds s)))
 
@@ -202,9 +210,3 @@ count-more s i n o e f =
 
 pub count-all : (s : List ℕ) (i n : ℕ) → i ≤ length s → length s ≤ i → n ≡ length (rising (64 * i) (holds s)) → n ≡ length (rising (64 * length s) (holds s))
 count-all s i n h k e = let z : i ≡ length s = omega arith in e ∙ ap (λ (j : ℕ). length (rising (64 * j) (holds s))) z
-
--- The empty set --------------------------------------------------------------------------------------------------------------
-
-pub holds-zero : (n : ℕ) → holds (replicate n 0) ≡ empty
-unfolding holds
-holds-zero n = λ i v. (ap (λ (w : ℕ). digit w (v % 64)) (getD-zeros n (v / 64)) ∙ digit-of-zero (v % 64)) i

@@ -1,40 +1,26 @@
 -- Members written out by rising number. Assumes nothing.
 use mathlib.Core.Path.{_≡_, refl, sym, ap, _∙_, subst}
-use mathlib.Core.Bool.{Bool, true, false, true≢false}
+use mathlib.Core.Bool.{true≢false}
 use mathlib.Core.List.{List, [], _∷_, _++_}
-use Prim.Native.Nat.{ℕ, zero, suc, _+_, _-_, _*_, _/_, _%_, _^_, _≤_, _<_}
+use Prim.Native.Nat.{ℕ, suc, _+_, _-_, _*_, _/_, _^_, _≤_, _<_}
 use native.Mathlib.Omega.{arith}
-use native.Mathlib.Nat.{pow-suc, add-zero, add-suc}
 use native.Mathlib.Numerals.{add-one}
 use native.Mathlib.Decide.{decLt}
-use lib.Dec.{eqb}
-use lib.Arith.{lt-one}
 use lib.Pow.{shr-shr, shr-lt, shr-le}
 use lib.ListN.{length, getD, set, length-set, length-append}
-use lib.Seq.{sets, length-sets}
-use lib.Count.{trailingZeros, trailing-le}
-use Rattle.rules.specs.Find.{Set, rising, risingFrom}
-use Rattle.rules.specs.Laws.Set.{rising-all, rising-split, rising-from-none, rising-from-here, rising-from-agree, rising-from-split}
+use lib.Seq.{sets}
+use lib.Count.{trailingZeros}
+use Rattle.rules.specs.Find.{rising, risingFrom}
+use Rattle.rules.specs.Laws.Set.{rising-from-none, rising-from-here, rising-from-agree, rising-from-split}
+use Rattle.rules.specs.Limits.{TERMS, TERMWORDS}
 use Rattle.terms.specs.Sets.{digit, holds, shifted}
-use Rattle.terms.proofs.Digits.{digit-of-zero, Lowest, lowest}
-use Rattle.terms.proofs.SetWords.{word-digit}
-
--- digit k behind the first j
-digit-shift : (n j k : ℕ) → digit (n / 2 ^ j) k ≡ digit n (j + k)
-digit-shift n j k = ap (λ (m : ℕ). eqb (m % 2) 1) (shr-shr n j k)
-
--- a number below 2 ^ j has no digit from j on
-digit-high : (n j k : ℕ) → n < 2 ^ j → j ≤ k → digit n k ≡ false
-digit-high n j k h l =
-    let e : j + (k - j) ≡ k = omega arith in
-    let o : 0 + j ≡ j = omega arith in
-    let z : n / 2 ^ j ≡ 0 = lt-one (shr-lt 0 j (subst (λ (i : ℕ). n < 2 ^ i) (sym o) h)) in
-    ap (digit n) (sym e) ∙ sym (digit-shift n j (k - j)) ∙ ap (λ (m : ℕ). digit m (k - j)) z ∙ digit-of-zero (k - j)
+use Rattle.terms.specs.Laws.Digits.{digit-of-zero, Lowest, lowest, digit-shift, digit-high}
+use Rattle.terms.specs.Laws.Sets.{word-digit}
 
 -- what is left of a word, and what is left of the list, from `at` on; `all` was to be written from n on
 pub record Laying (all out₀ out : List ℕ) (n base left at k : ℕ) : Type 0 where
   pub low : base ≤ at
-  pub base-small : base ≤ 65472
+  pub base-small : base + 64 ≤ TERMS
   pub high : at ≤ base + 64
   pub word : left < 2 ^ 64
   pub small : left < 2 ^ (base + 64 - at)
@@ -43,7 +29,7 @@ pub record Laying (all out₀ out : List ℕ) (n base left at k : ℕ) : Type 0 
   pub count : k + length (risingFrom at (base + 64 - at) (shifted at left)) ≡ n + length all
   pub cells : sets out k (risingFrom at (base + 64 - at) (shifted at left)) ≡ sets out₀ n all
 
-pub laying-begins : (out : List ℕ) (n base word : ℕ) → (base ≤ 65472) × (n + length (risingFrom base 64 (shifted base word)) ≤ length out) → word < 2 ^ 64
+pub laying-begins : (out : List ℕ) (n base word : ℕ) → (base + 64 ≤ TERMS) × (n + length (risingFrom base 64 (shifted base word)) ≤ length out) → word < 2 ^ 64
     → Laying (risingFrom base 64 (shifted base word)) out out n base word base n
 laying-begins out n base word p l =
     let e : base + 64 - base ≡ 64 = omega arith in
@@ -125,13 +111,13 @@ sets-append l i (x ∷ xs) ys =
 
 pub record LayingAll (s out₀ out : List ℕ) (n i : ℕ) : Type 0 where
   pub inside : i ≤ length s
-  pub few : length s ≤ 1024
+  pub few : length s ≤ TERMWORDS
   pub room : n + length (risingFrom (i * 64) (64 * length s - i * 64) (holds s)) ≤ length out
   pub long : length out ≡ length out₀
   pub count : n + length (risingFrom (i * 64) (64 * length s - i * 64) (holds s)) ≡ length (rising (64 * length s) (holds s))
   pub cells : sets out n (risingFrom (i * 64) (64 * length s - i * 64) (holds s)) ≡ sets out₀ 0 (rising (64 * length s) (holds s))
 
-pub all-begins : (s out : List ℕ) → length s ≤ 1024 → length (rising (64 * length s) (holds s)) ≤ length out → LayingAll s out out 0 0
+pub all-begins : (s out : List ℕ) → length s ≤ TERMWORDS → length (rising (64 * length s) (holds s)) ≤ length out → LayingAll s out out 0 0
 unfolding rising
 all-begins s out h l =
     let e : 64 * length s - 0 * 64 ≡ 64 * length s = omega arith in
@@ -156,7 +142,7 @@ module _ (s out₀ out : List ℕ) (n i : ℕ) (y : LayingAll s out₀ out n i) 
       ∙ ap (λ (l : List ℕ). l ++ later) (rising-from-agree (i * 64) 64 (holds s) (shifted (i * 64) (getD s i 0))
       (λ v p q. let d : 64 * i + (v - i * 64) ≡ v = omega arith in ap (holds s) (sym d) ∙ word-digit s i (v - i * 64) (omega arith)))
 
-  pub all-asks : (i * 64 ≤ 65472) × (n + length (risingFrom (i * 64) 64 (shifted (i * 64) (getD s i 0))) ≤ length out)
+  pub all-asks : (i * 64 + 64 ≤ TERMS) × (n + length (risingFrom (i * 64) 64 (shifted (i * 64) (getD s i 0))) ≤ length out)
   all-asks =
       let a = y .room in
       let b = ap length here-later in

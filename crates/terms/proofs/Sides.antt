@@ -8,26 +8,16 @@ use Rattle.rules.specs.Out.{Out, then}
 use Rattle.rules.specs.Tree.{Tree, sub}
 use Rattle.rules.specs.Store.{Made, make, substitute}
 use Rattle.rules.specs.Unify.{Found}
-use Rattle.rules.specs.Laws.Store.{then-ok, then-refuse, number-is}
+use Rattle.rules.specs.Laws.Store.{then-ok, then-refuse}
 use Rattle.terms.specs.declared.store.Mark.{Mark}
 use Rattle.terms.specs.declared.store.Kept.{Kept}
 use Rattle.terms.specs.declared.store.Kept.the-variants.{Term, Full}
-use Rattle.terms.specs.Table.{made, Stored, Refused}
-use Rattle.terms.specs.Collect.{tree}
-use Rattle.terms.specs.Subst.{replacement, Knows, substituted, asked, Ready, Done, Substituted}
+use Rattle.terms.specs.Table.{made, Refused, tree}
+use Rattle.terms.specs.Subst.{replacement, Knows, substituted, asked, Replacing, Done, Substituted}
 use Rattle.terms.specs.Peel.{Sideable, sided, BothSides, NoSides}
-use Rattle.terms.proofs.Tables.{length-trees}
-use Rattle.terms.proofs.Sames.{grown-then}
-use Rattle.terms.proofs.Substs.{replacement-grown}
-use Rattle.terms.proofs.Waits.{getD-more}
-
--- the tree of a term that is stored
-stored-tree : (I W J X : List ℕ) (old : Mark) (t : Tree) (K : Out Made Tree) (n : ℕ) (new : Mark) → Stored I W J X old t K n new → tree J X new n ≡ t
-stored-tree I W J X old t K n new d =
-    let z = length-trees J X (new .terms) in
-    let h = d .there in
-    let e = d .numbered in
-    ap (λ (i : ℕ). tree J X new i) e ∙ number-is (made J X new) t (omega arith)
+use Rattle.terms.specs.Laws.Growth.{grown-trans, grown-tree}
+use Rattle.terms.specs.Laws.Theta.{replacement-grown}
+use Rattle.terms.specs.Laws.Numbers.{stored-is}
 
 module _ (I W : List ℕ) (old : Mark) (theta memo : List ℕ) (s t : ℕ) (q : Sideable I W old theta memo s t) (J X memo′ : List ℕ) (r : Kept) (d : Substituted I W J X old theta memo memo′ s r) where
   abbrev σ : ℕ → Tree
@@ -44,15 +34,15 @@ module _ (I W : List ℕ) (old : Mark) (theta memo : List ℕ) (s t : ℕ) (q : 
     first = subst (Substituted I W J X old theta memo memo′ s) e d
 
     same-replacement : replacement (made J X mid) theta ≡ σ
-    same-replacement = replacement-grown I W J X old mid (q .left .good) (first .stored .grown .same) (first .stored .grown .more) theta (q .left .bound)
+    same-replacement = replacement-grown (first .stored .grown) theta (q .left .bound)
 
     same-tree : tree J X mid t ≡ tree I W old t
-    same-tree = getD-more I W J X old mid (q .left .good) (first .stored .grown) t (q .there)
+    same-tree = grown-tree (first .stored .grown) t (q .there)
 
     same-asked : substituted J X mid theta t ≡ substituted I W old theta t
     same-asked = λ i. sub (same-replacement i) (same-tree i)
 
-    pub second-ready : length memo′ ≡ length memo → Ready J X mid theta memo′ t
+    pub second-ready : length memo′ ≡ length memo → Replacing J X mid theta memo′ t
     second-ready l =
         let g = first .stored .grown .more in
         let h = q .there in
@@ -77,17 +67,17 @@ module _ (I W : List ℕ) (old : Mark) (theta memo : List ℕ) (s t : ℕ) (q : 
       pub second-full : (row : ℕ) (new : Mark) → p ≡ Full row new → NoSides I W K Y old theta s t row new
       second-full row new z =
           let f : Refused Tree J X K Y mid (asked J X mid theta t) row new = subst (Substituted J X K Y mid theta memo′ memo″ t) z b in
-          record { grown = grown-then I W J X K Y old mid new (first .stored .grown) (f .grown); makes = λ k. rest k ∙ then-refuse _ 60 row (made K Y new) _ (f .makes) }
+          record { grown = grown-trans (first .stored .grown) (f .grown); makes = λ k. rest k ∙ then-refuse _ 60 row (made K Y new) _ (f .makes) }
 
       pub both-done : (c : ℕ) (new : Mark) → p ≡ Term c new → BothSides I W K Y old theta memo″ s t a c new
       both-done c new z =
           let f : Done J X K Y mid theta memo′ memo″ t c new = subst (Substituted J X K Y mid theta memo′ memo″ t) z b in
-          let l : tree K Y new a ≡ substituted I W old theta s = getD-more J X K Y mid new (first .stored .grown .good) (f .stored .grown) a (first .stored .there) ∙ stored-tree I W J X old _ _ a mid (first .stored) in
-          let r : tree K Y new c ≡ substituted I W old theta t = stored-tree J X K Y mid _ _ c new (f .stored) ∙ same-asked in
+          let l : tree K Y new a ≡ substituted I W old theta s = grown-tree (f .stored .grown) a (first .stored .there) ∙ stored-is (first .stored) in
+          let r : tree K Y new c ≡ substituted I W old theta t = stored-is (f .stored) ∙ same-asked in
           let g = f .stored .grown .more in
           let h = first .stored .there in
           record {
-            grown = grown-then I W J X K Y old mid new (first .stored .grown) (f .stored .grown);
+            grown = grown-trans (first .stored .grown) (f .stored .grown);
             makes = λ k. rest k ∙ then-ok _ (substituted J X mid theta t) (made K Y new) _ (f .stored .makes) ∙ (λ i. k (sym l i) ((same-asked ∙ sym r) i) (made K Y new));
             left = l;
             right = r;

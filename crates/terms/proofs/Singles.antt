@@ -1,29 +1,17 @@
 -- A map with one variable bound stands for the replacement of that variable. Assumes nothing.
-use mathlib.Core.Path.{_≡_, refl, sym, ap, _∙_}
+use mathlib.Core.Path.{_≡_, sym, ap, _∙_}
 use mathlib.Core.Bool.{Bool, true, false}
-use Prim.Native.Nat.{ℕ, _+_, _-_, _<_}
+use Prim.Native.Nat.{ℕ, _+_, _<_}
 use native.Mathlib.Omega.{arith}
 use native.Mathlib.Decide.{ℕ-discrete}
-use mathlib.Core.List.{List}
-use lib.ListN.{length, getD, set, replicate, length-replicate}
+use lib.ListN.{getD, set, replicate, length-replicate}
 use lib.Seq.{getD-set-same, getD-set-other}
-use lib.Dec.{eqb}
 use borrow.Author.Tests.{eq-eqb, ne-eqb}
 use Rattle.rules.specs.Tree.{Tree, var, single}
 use Rattle.rules.specs.Store.{Made}
 use Rattle.terms.specs.Subst.{replacement}
-use Rattle.terms.proofs.Fresh.{getD-zeros}
-
-replacement-some : (M : Made) (map : List ℕ) (v u : ℕ) → getD map v 0 ≡ u + 1 → replacement M map v ≡ getD M u (var 0)
-unfolding replacement
-replacement-some M map v u e =
-    let a : getD map v 0 - 1 ≡ u = omega arith in
-    ap (λ (b : Bool). elim b [ true ↦ var v | false ↦ getD M (getD map v 0 - 1) (var 0) ]) (ne-eqb (getD map v 0) 0 (λ z. omega arith))
-    ∙ ap (λ (k : ℕ). getD M k (var 0)) a
-
-replacement-none : (M : Made) (map : List ℕ) (v : ℕ) → getD map v 0 ≡ 0 → replacement M map v ≡ var v
-unfolding replacement
-replacement-none M map v e = ap (λ (b : Bool). elim b [ true ↦ var v | false ↦ getD M (getD map v 0 - 1) (var 0) ]) (eq-eqb (getD map v 0) 0 e)
+use Rattle.terms.specs.Laws.Zeros.{getD-zeros}
+use Rattle.terms.specs.Laws.Theta.{replacement-some, replacement-none}
 
 single-here : (x v : ℕ) (t : Tree) → v ≡ x → single x t v ≡ t
 unfolding single

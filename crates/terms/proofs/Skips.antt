@@ -7,60 +7,20 @@ use native.Mathlib.Omega.{arith}
 use lib.ListN.{length, getD}
 use borrow.Author.Tests.{lt-ltb, le-ltb}
 use Rattle.rules.specs.Limits.{SYMBOLS, ARGUMENTS}
-use Rattle.rules.specs.Tree.{Tree, Trees, var, app, none, more, size, sizes, countTrees}
-use Rattle.terms.specs.Patterns.{arity, Stands, Standing, Skippable, Skipped, argsAt}
-use Rattle.terms.proofs.Matches.{size-some}
+use Rattle.rules.specs.Tree.{Trees, var, app, none, more, size, sizes, countTrees}
+use Rattle.terms.specs.Patterns.{arity, Stands, Standing, Skippable, Skipped, argsByTable}
+use Rattle.terms.specs.Laws.Patterns.{size-some, before, before-count, before-sizes, before-stands, count-sizes, stands-within}
+use Rattle.terms.specs.Laws.Patterns.{standing-within}
 
-pub args-symbol : (S : List ℕ) (h : ℕ) → h < SYMBOLS → arity S h ≡ argsAt S h
-unfolding argsAt
+pub args-symbol : (S : List ℕ) (h : ℕ) → h < SYMBOLS → arity S h ≡ argsByTable S h
+unfolding argsByTable
 args-symbol S h l = sym (ap (λ (b : Bool). elim b [ true ↦ arity S h | false ↦ 0 ]) (lt-ltb h SYMBOLS l))
 
-pub args-variable : (S : List ℕ) (h : ℕ) → SYMBOLS ≤ h → 0 ≡ argsAt S h
-unfolding argsAt
+pub args-variable : (S : List ℕ) (h : ℕ) → SYMBOLS ≤ h → 0 ≡ argsByTable S h
+unfolding argsByTable
 args-variable S h l = sym (ap (λ (b : Bool). elim b [ true ↦ arity S h | false ↦ 0 ]) (le-ltb h SYMBOLS l))
 
 -- Lists of patterns --------------------------------------------------------------------------------------------------------------
-
--- the arguments, then what stood behind
-unfoldable before : Trees → Trees → Trees
-before none us = us
-before (more t ts) us = more t (before ts us)
-
-before-count : (ts us : Trees) → countTrees (before ts us) ≡ countTrees ts + countTrees us
-unfolding before countTrees
-before-count none us = omega arith
-before-count (more t ts) us = let e = before-count ts us in omega arith
-
-before-sizes : (ts us : Trees) → sizes (before ts us) ≡ sizes ts + sizes us
-unfolding before size
-before-sizes none us = omega arith
-before-sizes (more t ts) us = let e = before-sizes ts us in omega arith
-
-before-stands : (S P : List ℕ) (at : ℕ) (ts us : Trees) → Standing S P at ts → Standing S P (at + sizes ts) us → Standing S P at (before ts us)
-unfolding before size Stands
-before-stands S P at none us a b = let z : at + 0 ≡ at = omega arith in subst (λ (k : ℕ). Standing S P k us) z b
-before-stands S P at (more t ts) us a b =
-    let z : at + (size t + sizes ts) ≡ at + size t + sizes ts = omega arith in
-    (a .0, before-stands S P (at + size t) ts us (a .1) (subst (λ (k : ℕ). Standing S P k us) z b))
-
-count-sizes : (ts : Trees) → countTrees ts ≤ sizes ts
-unfolding countTrees size
-count-sizes none = omega arith
-count-sizes (more t ts) = let a = count-sizes ts in let b = size-some t in omega arith
-
-mutual
-  unfolding Stands size
-
-  stands-within : (S P : List ℕ) (at : ℕ) (p : Tree) → Stands S P at p → at + size p ≤ length P
-  stands-within S P at (var v) h = let a = h .0 in omega arith
-  stands-within S P at (app c ts) h = let a = h .0 in let b = standing-within S P (at + 1) ts (omega arith) (h .5) in omega arith
-
-  standing-within : (S P : List ℕ) (at : ℕ) (ts : Trees) → at ≤ length P → Standing S P at ts → at + sizes ts ≤ length P
-  standing-within S P at none l h = omega arith
-  standing-within S P at (more t ts) l h =
-      let a = stands-within S P at t (h .0) in
-      let b = standing-within S P (at + size t) ts a (h .1) in
-      omega arith
 
 -- The loop -----------------------------------------------------------------------------------------------------------------------
 
@@ -92,7 +52,7 @@ module _ (S P : List ℕ) (behind place left : ℕ) (q : Behind S P behind place
   pub behind-in : (place < length P) × (place + left ≤ length P)
   behind-in = inside (q .patterns) (q .stands) (q .count)
 
-  few-args : (ps : Trees) → Standing S P place ps → countTrees ps ≡ left → argsAt S (getD P place 0) ≤ ARGUMENTS
+  few-args : (ps : Trees) → Standing S P place ps → countTrees ps ≡ left → argsByTable S (getD P place 0) ≤ ARGUMENTS
   unfolding Stands countTrees
   few-args none s e = absurd (n (sym e))
   few-args (more (var v) ps) s e =
@@ -108,10 +68,10 @@ module _ (S P : List ℕ) (behind place left : ℕ) (q : Behind S P behind place
       let z = ap (arity S) w in
       omega arith
 
-  pub behind-few : argsAt S (getD P place 0) ≤ ARGUMENTS
+  pub behind-few : argsByTable S (getD P place 0) ≤ ARGUMENTS
   behind-few = few-args (q .patterns) (q .stands) (q .count)
 
-  pub behind-on : (r : ℕ) → r ≡ argsAt S (getD P place 0) → Behind S P behind (place + 1) (left - 1 + r)
+  pub behind-on : (r : ℕ) → r ≡ argsByTable S (getD P place 0) → Behind S P behind (place + 1) (left - 1 + r)
   unfolding Stands countTrees size
   behind-on r f = go (q .patterns) (q .stands) (q .count) (q .ends)
     where
@@ -138,14 +98,14 @@ module _ (S P : List ℕ) (behind place left : ℕ) (q : Behind S P behind place
           }
 
 module _ (S P : List ℕ) (at n place left : ℕ) (q : Skipping S P at n place left) where
-  pub skipping-in : (left ≡ 0 → ⊥) → (place < length P) × (place + left ≤ length P) × (argsAt S (getD P place 0) ≤ ARGUMENTS)
+  pub skipping-in : (left ≡ 0 → ⊥) → (place < length P) × (place + left ≤ length P) × (argsByTable S (getD P place 0) ≤ ARGUMENTS)
   skipping-in h =
       let r = q .asked .reads in
       let b = q .going (r .patterns) (r .stands) (r .count) in
       let a = behind-in S P _ place left b h in
       (a .0, a .1, behind-few S P _ place left b h)
 
-  pub skipping-on : (left ≡ 0 → ⊥) → (r : ℕ) → r ≡ argsAt S (getD P place 0) → Skipping S P at n (place + 1) (left - 1 + r)
+  pub skipping-on : (left ≡ 0 → ⊥) → (r : ℕ) → r ≡ argsByTable S (getD P place 0) → Skipping S P at n (place + 1) (left - 1 + r)
   skipping-on h r e = record { asked = q .asked; going = λ ps st c. behind-on S P _ place left (q .going ps st c) h r e }
 
   pub skipping-ends : left ≡ 0 → Skipped S P at n place

@@ -19,22 +19,20 @@ use Rattle.rules.specs.Unify.{Binding, Pair, insert, replace, Found, finished, 
 use Rattle.rules.specs.Laws.Store.{then-ok, then-refuse}
 use Rattle.meaning.specs.Unification.Acts.{of-ok}
 use Rattle.meaning.specs.Unification.List.{Bound as HasBinding, Settled, replaced, replace-ok, extended, settled-extended}
-use Rattle.meaning.specs.Unification.Pairs.{WithinPairs}
-use Rattle.meaning.specs.Unification.Peel.{WithinBindings, Binds as BindsRightly, Peeled as PeeledRightly, peel-ok}
-use Rattle.meaning.specs.Unification.Solve.{within-extended}
+use Rattle.meaning.specs.Unification.Peel.{Binds as BindsRightly, Peeled as PeeledRightly, peel-ok}
 use Rattle.terms.specs.declared.store.Mark.{Mark}
 use Rattle.terms.specs.declared.theta.Grew.{Grew}
 use Rattle.terms.specs.declared.theta.Grew.the-variants.{Ok, Full as NoRoom}
 use Rattle.terms.specs.declared.peel.Peeled.{Peeled}
 use Rattle.terms.specs.declared.peel.Peeled.the-variants.{Finished, Clash, Binds, Full}
-use Rattle.terms.specs.Table.{made, Refused}
-use Rattle.terms.specs.Collect.{tree}
+use Rattle.terms.specs.Table.{made, Refused, tree}
 use Rattle.terms.specs.Theta.{bindings, Theta, Extendable, Bound, Extended}
 use Rattle.terms.specs.Unify.{Solved, Unsolved}
-use Rattle.terms.specs.Peel.{thetaOf, pairsOf, Own, weighs, peels, Results, Clashes, BindsOne, Finishes, PeeledAs, Solvable, solves, BoundMore}
-use Rattle.terms.proofs.Sames.{grown-then}
-use Rattle.terms.proofs.Fresh.{getD-zeros}
-use Rattle.terms.proofs.Turns.{theta-grown, pairs-grown, cells-grown}
+use Rattle.terms.specs.Peel.{thetaOf, pairsOf, weighs, peels, Results, Clashes, BindsOne, Finishes, PeeledAs, Solvable, solves, BoundMore}
+use Rattle.terms.specs.Laws.Growth.{grown-trans}
+use Rattle.terms.specs.Laws.Zeros.{getD-zeros}
+use Rattle.terms.specs.Laws.Theta.{bindings-grown, theta-grown}
+use Rattle.terms.proofs.Turns.{Any, any-bindings, any-pairs, pairs-grown}
 
 -- a cell that is not zero is a binding
 pub cell-bound : (M : Made) (cs : List ℕ) (v x : ℕ) → (getD cs x 0 ≡ 0 → ⊥) → HasBinding (v + x) (bindings M cs v)
@@ -113,8 +111,8 @@ module _ (I W : List ℕ) (m : Mark) (theta map memo P seen : List ℕ) (w : ℕ
         let f : Finishes I W J X m memo′ K new = subst (PeeledAs I W J X m memo′ P′ K) e d in
         record {
           grown = f .grown;
-          makes = peeled-to finished new (f .makes) n ∙ ap (λ (ζ : List Binding). ok (some ζ) (made J X new)) (sym (theta-grown I W J X m new (q .peelable .good) (f .grown) theta (q .peelable .cells)));
-          cells = cells-grown I W J X m new (q .peelable .good) (f .grown) theta (q .peelable .cells);
+          makes = peeled-to finished new (f .makes) n ∙ ap (λ (ζ : List Binding). ok (some ζ) (made J X new)) (sym (bindings-grown (f .grown) (q .peelable .cells)));
+          cells = theta-grown (f .grown) (q .peelable .cells);
         }
 
     pub round-apart : (new : Mark) → r ≡ Clash new → (n : ℕ) → Unsolved I W J X m theta (solves (suc n) I W m theta P w) new
@@ -138,9 +136,9 @@ module _ (I W : List ℕ) (m : Mark) (theta map memo P seen : List ℕ) (w : ℕ
       t = tree J X mid u
 
       -- what the definition's answer says of the variable and its value
-      rightly : BindsRightly Own θ ps x t (pairsOf J X mid P′ v)
+      rightly : BindsRightly Any θ ps x t (pairsOf J X mid P′ v)
       unfolding PeeledRightly
-      rightly = of-ok (peel-ok Own θ (q .peelable .settled) (q .peelable .own) (suc (weight θ ps)) ps (omega arith) (q .peelable .within) (made I W m)) (one .makes)
+      rightly = of-ok (peel-ok Any θ (q .peelable .settled) (any-bindings θ) (suc (weight θ ps)) ps (omega arith) (any-pairs ps) (made I W m)) (one .makes)
 
       unbound : getD theta x 0 ≡ 0
       unbound = zero-or (getD theta x 0) (λ n. rightly .unbound (subst (λ (k : ℕ). HasBinding k θ) (omega arith) (cell-bound (made I W m) theta 0 x n)))
@@ -150,10 +148,10 @@ module _ (I W : List ℕ) (m : Mark) (theta map memo P seen : List ℕ) (w : ℕ
           zero-or (suc c) h = absurd (h (λ z. omega arith))
 
       cells : Theta mid theta
-      cells = cells-grown I W J X m mid (q .peelable .good) (one .grown) theta (q .peelable .cells)
+      cells = theta-grown (one .grown) (q .peelable .cells)
 
       same-theta : thetaOf J X mid theta ≡ θ
-      same-theta = theta-grown I W J X m mid (q .peelable .good) (one .grown) theta (q .peelable .cells)
+      same-theta = bindings-grown (one .grown) (q .peelable .cells)
 
       pub round-extends : (wiped : List ℕ) → wiped ≡ memo → Extendable J X mid theta map wiped x u
       round-extends wiped z =
@@ -171,7 +169,7 @@ module _ (I W : List ℕ) (m : Mark) (theta map memo P seen : List ℕ) (w : ℕ
         pub bind-full : (row : ℕ) (new : Mark) → g ≡ NoRoom row new → (n : ℕ) → Refused (Option (List Binding)) I W G Y m (solves (suc n) I W m theta P w) row new
         bind-full row new z n =
             let f : Refused (List Binding) J X G Y mid (replace x t (thetaOf J X mid theta) (made J X mid)) row new × (length theta′ ≡ VARIABLES) = subst (Extended J X G Y mid theta′ x u _) z b in
-            record { grown = grown-then I W J X G Y m mid new (one .grown) (f .0 .grown); makes = left n ∙ then-refuse _ 60 row (made G Y new) _ (f .0 .makes) }
+            record { grown = grown-trans (one .grown) (f .0 .grown); makes = left n ∙ then-refuse _ 60 row (made G Y new) _ (f .0 .makes) }
 
         module _ (new : Mark) (z : g ≡ Ok new) where
           grew : Bound J X G Y mid theta′ x u (replace x t (thetaOf J X mid theta) (made J X mid)) new
@@ -184,7 +182,7 @@ module _ (I W : List ℕ) (m : Mark) (theta map memo P seen : List ℕ) (w : ℕ
               ∙ ap (insert (record { variable = x; value = t })) (of-ok (replace-ok x t (thetaOf J X mid theta) (made J X mid)) (grew .makes) ∙ ap (replaced x t) same-theta)
 
           now-pairs : pairsOf G Y new P′ v ≡ pairsOf J X mid P′ v
-          now-pairs = pairs-grown J X G Y mid new (one .grown .good) (grew .grown) P′ v (one .there)
+          now-pairs = pairs-grown (grew .grown) P′ v (one .there)
 
           goes : (n : ℕ) → solves (suc n) I W m theta P w ≡ solves n G Y new theta′ P′ v
           goes n =
@@ -195,13 +193,12 @@ module _ (I W : List ℕ) (m : Mark) (theta map memo P seen : List ℕ) (w : ℕ
           bind-more l =
               let a = grew .grown .more in
               record {
-                grown = grown-then I W J X G Y m mid new (one .grown) (grew .grown);
+                grown = grown-trans (one .grown) (grew .grown);
                 solvable = record {
                   peelable = record {
                     good = grew .grown .good;
                     cells = grew .cells;
                     settled = subst Settled (sym now-theta) (settled-extended x t θ (rightly .unbound) (q .peelable .settled) (rightly .absent) (rightly .free));
-                    own = subst (WithinBindings Own) (sym now-theta) (within-extended x t θ (rightly .unbound) Own (rightly .own) (q .peelable .own));
                     memos = q .peelable .memos;
                     knows = λ i p. absurd (let y : getD memo i 0 ≡ 0 = ap (λ (c : List ℕ). getD c i 0) (q .no-memos) ∙ getD-zeros (length memo) i in omega arith);
                     wide = q .peelable .wide;
@@ -209,7 +206,6 @@ module _ (I W : List ℕ) (m : Mark) (theta map memo P seen : List ℕ) (w : ℕ
                     many = l ∙ q .peelable .many;
                     few = one .few;
                     there = λ k h. let y = one .there k h in omega arith;
-                    within = subst (WithinPairs Own) (sym now-pairs) (rightly .rest);
                   };
                   maps = q .maps;
                   no-maps = q .no-maps;

@@ -1,31 +1,32 @@
 -- Substitution: the loop over a term's arguments, and the node made of their results. Assumes nothing.
 use mathlib.Core.Path.{_≡_, refl, sym, ap, _∙_, subst}
-use mathlib.Core.List.{List, [], _∷_}
+use mathlib.Core.List.{List, _∷_}
 use mathlib.Core.Logic.{⊎-elim}
-use Prim.Native.Nat.{ℕ, zero, suc, _+_, _-_, _≤_, _<_}
+use Prim.Native.Nat.{ℕ, _+_, _-_, _≤_, _<_}
 use native.Mathlib.Omega.{arith}
-use native.Mathlib.Numerals.{add-one}
-use lib.ListN.{length, getD, set, length-set}
-use Rattle.rules.specs.Limits.{SYMBOLS, TERMS, WORDS}
-use Rattle.rules.specs.Out.{Out, ok, refuse, then}
-use Rattle.rules.specs.Tree.{Tree, Trees, var, app, none, more, sub, subs}
-use Rattle.rules.specs.Store.{Made, number, keep, make, makes}
+use lib.ListN.{length, getD, set}
+use Rattle.rules.specs.Limits.{SYMBOLS}
+use Rattle.rules.specs.Out.{ok, then}
+use Rattle.rules.specs.Tree.{Tree, Trees, var, app, more, sub, subs}
+use Rattle.rules.specs.Store.{number, keep, make, makes}
 use Rattle.rules.specs.Laws.Store.{number-is, make-app, makes-none, makes-more, makes-stop}
 use Rattle.terms.specs.declared.store.Mark.{Mark}
 use Rattle.terms.specs.declared.store.Kept.{Kept}
 use Rattle.terms.specs.declared.store.Kept.the-variants.{Term, Full}
-use Rattle.terms.specs.Table.{run, start, argsOf, treeAt, made, Shaped, isApp, Good, Same, Grown, Stored, Refused, After}
-use Rattle.terms.specs.Subst.{replacement, Known, renumbered, rebuilt, Rebuildable, Knows, substituted, asked, Ready, Done, Substituted}
-use Rattle.terms.proofs.Words.{run-length, run-at, run-same}
-use Rattle.terms.proofs.Tables.{last-or, length-trees, tree-app}
-use Rattle.terms.proofs.Sames.{getD-grown, grown-self, grown-then}
-use Rattle.terms.proofs.Terms.{args-more, args-none, node-rise, node-narrow, node-within, node-inside, term-app, args-below}
+use Rattle.terms.specs.Table.{run, start, argsOf, treeAt, made, Shaped, isApp, Grown, Stored, Refused, After}
+use Rattle.terms.specs.Subst.{replacement, Known, renumbered, rebuilt, Rebuildable, Knows, substituted, asked, Replacing, Done, Substituted}
+use Rattle.terms.specs.Laws.Runs.{run-length, run-at, run-same}
+use Rattle.terms.specs.Laws.Tables.{last-or, length-trees, tree-app}
+use Rattle.terms.specs.Laws.Growth.{grown-tree, grown-refl, grown-trans}
+use Rattle.terms.specs.Laws.Terms.{args-more, args-none, node-rise, node-narrow, node-within, node-inside, term-app, args-below}
+use Rattle.terms.specs.Laws.Theta.{replacement-grown}
+use Rattle.terms.specs.Laws.Answers.{after-term, after-full}
 use Rattle.terms.proofs.Gathers.{length-renumbered, getD-renumbered, args-renumbered}
-use Rattle.terms.proofs.Substs.{replacement-grown, knows-set, keeps-set, known-set, knows-grown}
+use Rattle.terms.proofs.Substs.{knows-set, keeps-set, known-set, knows-grown}
 
 -- the tables J X at m hold what was made of the arguments before `at`; what is left of them decides
 pub record Looping (I W : List ℕ) (old : Mark) (map memo : List ℕ) (id s e : ℕ) (J X memo′ : List ℕ) (m : Mark) (at : ℕ) : Type 0 where
-  pub ready : Ready I W old map memo id
+  pub ready : Replacing I W old map memo id
   pub begins : s ≡ start I id
   pub ends : e ≡ getD I id 0
   pub small : getD W s 0 < SYMBOLS
@@ -39,7 +40,7 @@ pub record Looping (I W : List ℕ) (old : Mark) (map memo : List ℕ) (id s e :
   pub left : asked I W old map id
       ≡ then (makes (subs (replacement (made I W old) map) (argsOf (made I W old) (run W at (e - at)))) (made J X m)) (λ _ n. keep (substituted I W old map id) n)
 
-pub looping-begins : (I W : List ℕ) (old : Mark) (map memo : List ℕ) (id s : ℕ) → Ready I W old map memo id → s ≡ start I id → getD W s 0 < SYMBOLS
+pub looping-begins : (I W : List ℕ) (old : Mark) (map memo : List ℕ) (id s : ℕ) → Replacing I W old map memo id → s ≡ start I id → getD W s 0 < SYMBOLS
     → Looping I W old map memo id s (getD I id 0) I W memo old (s + 1)
 unfolding sub
 looping-begins I W old map memo id s r b h =
@@ -50,7 +51,7 @@ looping-begins I W old map memo id s r b h =
       begins = b;
       ends = refl;
       small = h;
-      grown = grown-self I W old (r .good);
+      grown = grown-refl (r .good);
       knows = r .knows;
       keeps = λ i p. p;
       long = refl;
@@ -78,10 +79,10 @@ module _ (I W : List ℕ) (old : Mark) (map memo : List ℕ) (id s e : ℕ) (J X
   arg-below k p q = args-below I W old (l .ready .good) id (l .ready .there) s (l .begins) (l .small) k p (let b = l .ends in omega arith)
 
   grown-at : (i : ℕ) → i < old .terms → getD (made J X m) i (var 0) ≡ getD (made I W old) i (var 0)
-  grown-at i h = getD-grown I W J X old (l .ready .good) (l .grown .same) (m .terms) i (l .grown .more) h
+  grown-at i h = grown-tree (l .grown) i h
 
   same-replacement : replacement (made J X m) map ≡ replacement (made I W old) map
-  same-replacement = replacement-grown I W J X old m (l .ready .good) (l .grown .same) (l .grown .more) map (l .ready .bound)
+  same-replacement = replacement-grown (l .grown) map (l .ready .bound)
 
   module _ (h : at < e) where
     pub arg-in : at < length X
@@ -90,7 +91,7 @@ module _ (I W : List ℕ) (old : Mark) (map memo : List ℕ) (id s e : ℕ) (J X
     pub arg-falls : getD X at 0 < id
     arg-falls = rw (word-same at h) (arg-below at (l .from) h)
 
-    pub arg-ready : Ready J X m map memo′ (getD X at 0)
+    pub arg-ready : Replacing J X m map memo′ (getD X at 0)
     arg-ready =
         let a = arg-falls in
         let b = l .ready .there in
@@ -129,7 +130,7 @@ module _ (I W : List ℕ) (old : Mark) (map memo : List ℕ) (id s e : ℕ) (J X
           begins = l .begins;
           ends = l .ends;
           small = l .small;
-          grown = grown-then I W J X K Y old m new (l .grown) (d .stored .grown);
+          grown = grown-trans (l .grown) (d .stored .grown);
           knows = λ i p. subst (λ (τ : ℕ → Tree). Knows (made K Y new) τ memo″ i) same-replacement (d .knows i p);
           keeps = λ i p. d .keeps i (l .keeps i p);
           long = q ∙ l .long;
@@ -145,7 +146,7 @@ module _ (I W : List ℕ) (old : Mark) (map memo : List ℕ) (id s e : ℕ) (J X
     looping-full : (K Y : List ℕ) (row : ℕ) (new : Mark) → Refused Tree J X K Y m (asked J X m map (getD X at 0)) row new → Refused Tree I W K Y old (asked I W old map id) row new
     looping-full K Y row new d =
         record {
-          grown = grown-then I W J X K Y old m new (l .grown) (d .grown);
+          grown = grown-trans (l .grown) (d .grown);
           makes = left-split ∙ makes-stop (made J X m) _ _ (λ n. keep (substituted I W old map id) n) 60 row (made K Y new) (ap (λ (u : Tree). make u (made J X m)) (sym call-tree) ∙ d .makes);
         }
 
@@ -229,12 +230,12 @@ module _ (I W : List ℕ) (old : Mark) (map memo : List ℕ) (id s e : ℕ) (J X
     module _ (K Y : List ℕ) (r : Kept) (d : After J X K Y m (treeAt (made J X m) (rebuilt X memo′ s e)) (keep (treeAt (made J X m) (rebuilt X memo′ s e)) (made J X m)) r) where
       pub end-full : (row : ℕ) (new : Mark) → r ≡ Full row new → Refused Tree I W K Y old (asked I W old map id) row new
       end-full row new p =
-          let f : Refused Tree J X K Y m (keep (treeAt (made J X m) (rebuilt X memo′ s e)) (made J X m)) row new = subst (After J X K Y m (treeAt (made J X m) (rebuilt X memo′ s e)) _) p d in
-          record { grown = grown-then I W J X K Y old m new (l .grown) (f .grown); makes = asked-keeps ∙ f .makes }
+          let f : Refused Tree J X K Y m (keep (treeAt (made J X m) (rebuilt X memo′ s e)) (made J X m)) row new = after-full d p in
+          record { grown = grown-trans (l .grown) (f .grown); makes = asked-keeps ∙ f .makes }
 
       pub end-term : (n : ℕ) (new : Mark) → r ≡ Term n new → Done I W K Y old map memo (set memo′ id (n + 1)) id n new
       end-term n new p =
-          let f : Stored J X K Y m (treeAt (made J X m) (rebuilt X memo′ s e)) (keep (treeAt (made J X m) (rebuilt X memo′ s e)) (made J X m)) n new = subst (After J X K Y m (treeAt (made J X m) (rebuilt X memo′ s e)) _) p d in
+          let f : Stored J X K Y m (treeAt (made J X m) (rebuilt X memo′ s e)) (keep (treeAt (made J X m) (rebuilt X memo′ s e)) (made J X m)) n new = after-term d p in
           let z = length-trees K Y (new .terms) in
           let there = f .there in
           let a = l .grown .more in
@@ -243,16 +244,16 @@ module _ (I W : List ℕ) (old : Mark) (map memo : List ℕ) (id s e : ℕ) (J X
           let inn : id < length memo′ = (let g = l .long in let h = l .ready .inside in omega arith) in
           let num : n ≡ number (made K Y new) (substituted I W old map id) = f .numbered ∙ ap (number (made K Y new)) tree-rebuilt in
           let at-n : getD (made K Y new) n (var 0) ≡ substituted I W old map id = ap (λ (q : ℕ). getD (made K Y new) q (var 0)) num ∙ number-is (made K Y new) _ (omega arith) in
-          let here : getD (made K Y new) id (var 0) ≡ getD (made I W old) id (var 0) = getD-grown J X K Y m (l .grown .good) (f .grown .same) (new .terms) id b (omega arith) ∙ grown-at id c in
+          let here : getD (made K Y new) id (var 0) ≡ getD (made I W old) id (var 0) = grown-tree (f .grown) id (omega arith) ∙ grown-at id c in
           record {
             stored = record {
-              grown = grown-then I W J X K Y old m new (l .grown) (f .grown);
+              grown = grown-trans (l .grown) (f .grown);
               makes = asked-keeps ∙ f .makes ∙ ap (λ (u : Tree). ok u (made K Y new)) tree-rebuilt;
               numbered = num;
               there = there;
             };
             knows = knows-set (made K Y new) σ memo′ id n inn (omega arith) (omega arith) (at-n ∙ ap (sub σ) (sym here))
-                (λ i q. knows-grown J X K Y m new (l .grown .good) (f .grown) σ memo′ i q (l .knows i q));
+                (λ i q. knows-grown J X K Y m new (f .grown) σ memo′ i q (l .knows i q));
             known = known-set memo′ id n inn;
             keeps = λ i q. keeps-set memo′ id n inn i (l .keeps i q);
           }

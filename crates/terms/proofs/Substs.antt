@@ -1,36 +1,25 @@
 -- Substitution: the memo, and the terms whose result is there at once. Assumes nothing.
 use mathlib.Core.Path.{_≡_, refl, sym, ap, _∙_, subst}
 use mathlib.Core.Bool.{Bool, true, false}
-use mathlib.Core.List.{List, [], _∷_}
-use Prim.Native.Nat.{ℕ, zero, suc, _+_, _-_, _≤_, _<_}
+use mathlib.Core.List.{List}
+use Prim.Native.Nat.{ℕ, _+_, _-_, _≤_, _<_}
 use native.Mathlib.Omega.{arith}
 use native.Mathlib.Decide.{ℕ-discrete}
 use lib.ListN.{length, getD, set}
 use lib.Seq.{getD-set-same, getD-set-other}
 use lib.Dec.{eqb}
-use borrow.Author.Tests.{eqb-true, eqb-false}
-use Rattle.rules.specs.Limits.{SYMBOLS, TERMS, WORDS}
-use Rattle.rules.specs.Tree.{Tree, Trees, var, app, sub}
+use borrow.Author.Tests.{eqb-false}
+use Rattle.rules.specs.Limits.{SYMBOLS}
+use Rattle.rules.specs.Tree.{Tree, var, sub}
 use Rattle.rules.specs.Laws.Tree.{sub-closed}
 use Rattle.rules.specs.Store.{Made}
 use Rattle.terms.specs.declared.store.Mark.{Mark}
-use Rattle.terms.specs.Table.{FLAGS, start, trees, made, Good, Same, Grown}
-use Rattle.terms.specs.Subst.{replacement, image, Knows, substituted, Ready, Done}
-use Rattle.terms.proofs.Tables.{length-trees}
-use Rattle.terms.proofs.Sames.{getD-grown}
-use Rattle.terms.proofs.Terms.{no-variable, term-var}
-use Rattle.terms.proofs.Closeds.{there-stored}
-
--- a replacement reads old trees alone
-pub replacement-grown : (I W J X : List ℕ) (old m : Mark) → Good I W old → Same I W J X old → old .terms ≤ m .terms → (map : List ℕ) → ((v : ℕ) → getD map v 0 ≤ old .terms)
-    → replacement (made J X m) map ≡ replacement (made I W old) map
-unfolding replacement
-replacement-grown I W J X old m g s l map b = λ i v. go v (eqb (getD map v 0) 0) refl i
-  where
-    go : (v : ℕ) (c : Bool) → eqb (getD map v 0) 0 ≡ c
-        → _≡_ {A = Tree} (elim c [ true ↦ var v | false ↦ getD (made J X m) (getD map v 0 - 1) (var 0) ]) (elim c [ true ↦ var v | false ↦ getD (made I W old) (getD map v 0 - 1) (var 0) ])
-    go v true e = refl
-    go v false e = let z = eqb-false (getD map v 0) 0 e in let y = b v in getD-grown I W J X old g s (m .terms) (getD map v 0 - 1) l (omega arith)
+use Rattle.terms.specs.Table.{FLAGS, start, made, Grown}
+use Rattle.terms.specs.Subst.{replacement, image, Knows, substituted, Replacing, Done}
+use Rattle.terms.specs.Laws.Tables.{length-trees}
+use Rattle.terms.specs.Laws.Growth.{grown-tree}
+use Rattle.terms.specs.Laws.Terms.{no-variable, term-var}
+use Rattle.terms.specs.Laws.Numbers.{there-stored}
 
 -- The memo -------------------------------------------------------------------------------------------------------------------------------
 
@@ -54,8 +43,8 @@ keeps-set memo id v a i p = elim (ℕ-discrete i id) [
 pub known-set : (memo : List ℕ) (id v : ℕ) → id < length memo → 0 < getD (set memo id (v + 1)) id 0
 known-set memo id v a = rw (getD-set-same memo id (v + 1) 0 a) (omega arith)
 
-pub knows-grown : (J X K Y : List ℕ) (m new : Mark) → Good J X m → Grown J X K Y m new → (σ : ℕ → Tree) (memo : List ℕ) (i : ℕ) → 0 < getD memo i 0 → Knows (made J X m) σ memo i → Knows (made K Y new) σ memo i
-knows-grown J X K Y m new g w σ memo i p k =
+pub knows-grown : (J X K Y : List ℕ) (m new : Mark) → Grown J X K Y m new → (σ : ℕ → Tree) (memo : List ℕ) (i : ℕ) → 0 < getD memo i 0 → Knows (made J X m) σ memo i → Knows (made K Y new) σ memo i
+knows-grown J X K Y m new w σ memo i p k =
     let a = length-trees J X (m .terms) in
     let b = length-trees K Y (new .terms) in
     let o = k .old in
@@ -64,19 +53,19 @@ knows-grown J X K Y m new g w σ memo i p k =
     record {
       old = omega arith;
       new = omega arith;
-      is = getD-grown J X K Y m g (w .same) (new .terms) (getD memo i 0 - 1) l (omega arith) ∙ k .is ∙ ap (sub σ) (sym (getD-grown J X K Y m g (w .same) (new .terms) i l (omega arith)));
+      is = grown-tree w (getD memo i 0 - 1) (omega arith) ∙ k .is ∙ ap (sub σ) (sym (grown-tree w i (omega arith)));
     }
 
 -- The result is there already --------------------------------------------------------------------------------------------------------------
 
-module _ (I W : List ℕ) (m : Mark) (map memo : List ℕ) (id : ℕ) (r : Ready I W m map memo id) where
+module _ (I W : List ℕ) (m : Mark) (map memo : List ℕ) (id : ℕ) (r : Replacing I W m map memo id) where
   pub sub-known : (getD memo id 0 ≡ 0 → ⊥) → Done I W I W m map memo memo id (getD memo id 0 - 1) m
   sub-known n =
       let k = r .knows id (omega arith) in
       let z = length-trees I W (m .terms) in
       let y = k .new in
       record {
-        stored = there-stored I W m (r .good) (getD memo id 0 - 1) (omega arith) (substituted I W m map id) (k .is);
+        stored = there-stored (r .good) (getD memo id 0 - 1) (omega arith) (substituted I W m map id) (k .is);
         knows = r .knows;
         known = omega arith;
         keeps = λ i p. p;
@@ -87,7 +76,7 @@ module _ (I W : List ℕ) (m : Mark) (map memo : List ℕ) (id : ℕ) (r : Ready
       let z = length-trees I W (m .terms) in
       let h = r .there in
       record {
-        stored = there-stored I W m (r .good) v l (substituted I W m map id) e;
+        stored = there-stored (r .good) v l (substituted I W m map id) e;
         knows = knows-set (made I W m) (replacement (made I W m) map) memo id v (r .inside) (omega arith) (omega arith) e (r .knows);
         known = known-set memo id v (r .inside);
         keeps = keeps-set memo id v (r .inside);

@@ -1,48 +1,51 @@
 -- One pair is taken: the definition's step, the terms that are compared, and that what is left weighs less. Assumes nothing.
 use mathlib.Core.Path.{_≡_, sym, ap, _∙_, subst}
-use mathlib.Core.Bool.{true}
-use mathlib.Core.List.{List, _∷_}
+use mathlib.Core.List.{List, [], _∷_}
 use Prim.Native.Nat.{ℕ, suc, _+_, _-_, _*_, _<_}
 use native.Mathlib.Omega.{arith}
 use lib.ListN.{length, getD}
-use Rattle.rules.specs.Limits.{VARIABLES}
 use Rattle.rules.specs.Out.{then}
-use Rattle.rules.specs.Tree.{Tree, Trees, app, sub, variables, countTrees, size}
+use Rattle.rules.specs.Tree.{Tree, Trees, app, sub, countTrees, size}
 use Rattle.rules.specs.Store.{substitute}
 use Rattle.rules.specs.Unify.{Binding, Pair, along, Look, parts, look, push, Found, bound, onward, peel, weight}
-use Rattle.meaning.specs.Trees.Tree.{Occ, size-pos}
-use Rattle.meaning.specs.Trees.Tests.{variables-true}
-use Rattle.meaning.specs.Unification.List.{Settled}
+use Rattle.meaning.specs.Trees.Tree.{size-pos}
+use Rattle.meaning.specs.Unification.List.{Settled, Each}
 use Rattle.meaning.specs.Unification.Pairs.{Saw, saw, WithinPairs}
-use Rattle.meaning.specs.Unification.Peel.{WithinBindings, within-after, lighter, within-parts}
+use Rattle.meaning.specs.Unification.Peel.{WithinBindings, lighter}
 use Rattle.terms.specs.declared.store.Mark.{Mark}
 use Rattle.terms.specs.declared.peel.Sides.{Sides}
-use Rattle.terms.specs.declared.peel.Sides.the-variants as sides
 use Rattle.terms.specs.declared.peel.Next.{Next}
-use Rattle.terms.specs.declared.peel.Next.the-variants as next
-use Rattle.terms.specs.Table.{made, Good, Grown, Refused}
-use Rattle.terms.specs.Collect.{tree}
+use Rattle.terms.specs.Table.{made, Grown, Refused, tree}
 use Rattle.terms.specs.Subst.{Knows}
 use Rattle.terms.specs.Pairs.{waits}
-use Rattle.terms.specs.Theta.{Theta}
-use Rattle.terms.specs.Peel.{thetaOf, pairsOf, Own, Sideable, sided, BothSides, NoSides, Sided, Lookable, Onto, same, more, OntoPairs, Crowded, BindsHere, Looked}
-use Rattle.terms.specs.Peel.{Peelable, weighs, peels, Lighter, Results, Clashes, BindsOne}
-use Rattle.terms.proofs.Tables.{length-trees}
-use Rattle.terms.proofs.Substs.{replacement-grown}
-use Rattle.terms.proofs.Waits.{getD-more, waits-more, along-is, bindings-more}
+use Rattle.terms.specs.Peel.{thetaOf, pairsOf, Sideable, sided, BothSides, NoSides, Sided, Lookable, Onto, same, more, OntoPairs, Crowded}
+use Rattle.terms.specs.Peel.{BindsHere, Looked, Peelable, weighs, peels, Lighter, Results, Clashes, BindsOne}
+use Rattle.terms.specs.Laws.Tables.{length-trees}
+use Rattle.terms.specs.Laws.Theta.{replacement-grown, along-is, bindings-grown, theta-grown}
+use Rattle.terms.specs.Laws.Growth.{grown-tree}
+use Rattle.terms.proofs.Waits.{waits-more}
 use Rattle.terms.proofs.Looks.{length-waits, onward-agree, onward-clash, onward-binds, onward-parts, onward-crowd}
+use Rattle.terms.specs.declared.peel.Sides.the-variants as sides
+use Rattle.terms.specs.declared.peel.Next.the-variants as next
 
--- Tables that grow -------------------------------------------------------------------------------------------------------------------
+-- Any variable: the laws that are cited here ask which ones there can be -----------------------------------------------------------
 
-module _ (I W J X : List ℕ) (old new : Mark) (g : Good I W old) (w : Grown I W J X old new) where
-  pub theta-grown : (theta : List ℕ) → Theta old theta → thetaOf J X new theta ≡ thetaOf I W old theta
-  theta-grown theta c = bindings-more (made I W old) (made J X new) (old .terms) theta 0 (getD-more I W J X old new g w) (c .bound)
+abbrev pub Any : ℕ → Type 0
+Any v = Unit {0}
 
-  pub pairs-grown : (P : List ℕ) (n : ℕ) → ((k : ℕ) → k < 2 * n → getD P k 0 < old .terms) → pairsOf J X new P n ≡ pairsOf I W old P n
-  pairs-grown P n h = waits-more (made I W old) (made J X new) (old .terms) P n (getD-more I W J X old new g w) h
+pub any-bindings : (θ : List Binding) → WithinBindings Any θ
+unfolding Each
+any-bindings [] = tt
+any-bindings (b ∷ θ) = ((tt, λ v o. tt), any-bindings θ)
 
-  pub cells-grown : (theta : List ℕ) → Theta old theta → Theta new theta
-  cells-grown theta c = let l = w .more in record { long = c .long; bound = λ v. let x = c .bound v in omega arith }
+pub any-pairs : (ps : List Pair) → WithinPairs Any ps
+unfolding WithinPairs
+any-pairs [] = tt
+any-pairs (p ∷ ps) = (λ v o. tt, λ v o. tt, any-pairs ps)
+
+-- pairs that wait are those that waited
+pub pairs-grown : {I W J X : List ℕ} {old new : Mark} → Grown I W J X old new → (P : List ℕ) (n : ℕ) → ((k : ℕ) → k < 2 * n → getD P k 0 < old .terms) → pairsOf J X new P n ≡ pairsOf I W old P n
+pairs-grown {I} {W} {J} {X} {old} {new} w P n h = waits-more (made I W old) (made J X new) (old .terms) P n (grown-tree w) h
 
 -- The last pair ----------------------------------------------------------------------------------------------------------------------
 
@@ -65,9 +68,6 @@ module _ (I W : List ℕ) (m : Mark) (theta memo P seen : List ℕ) (w : ℕ) (q
   split : pairsOf I W m P w ≡ p ∷ ps
   unfolding waits
   split = let h = q .1 in let e : w ≡ suc (w - 1) = omega arith in ap (waits (made I W m) P) e
-
-  within : WithinPairs Own (p ∷ ps)
-  within = subst (WithinPairs Own) split (q .0 .within)
 
   left-there : s < m .terms
   left-there = let h = q .1 in q .0 .there (2 * (w - 1)) (omega arith)
@@ -115,13 +115,13 @@ module _ (I W : List ℕ) (m : Mark) (theta memo P seen : List ℕ) (w : ℕ) (q
       L = look (tree J X new a) (tree J X new b)
 
       same-theta : θ′ ≡ θ
-      same-theta = theta-grown I W J X m new (q .0 .good) (both .grown) theta (q .0 .cells)
+      same-theta = bindings-grown (both .grown) (q .0 .cells)
 
       there-old : (k : ℕ) → k < 2 * (w - 1) → getD P k 0 < m .terms
       there-old k h = q .0 .there k (omega arith)
 
       same-pairs : ps′ ≡ ps
-      same-pairs = pairs-grown I W J X m new (q .0 .good) (both .grown) P (w - 1) there-old
+      same-pairs = pairs-grown (both .grown) P (w - 1) there-old
 
       left-tree : tree J X new a ≡ sub (along θ) (tree I W m s)
       left-tree = both .left ∙ ap (λ (σ : ℕ → Tree). sub σ (tree I W m s)) (sym (along-is (made I W m) theta))
@@ -129,18 +129,14 @@ module _ (I W : List ℕ) (m : Mark) (theta memo P seen : List ℕ) (w : ℕ) (q
       right-tree : tree J X new b ≡ sub (along θ) (tree I W m t)
       right-tree = both .right ∙ ap (λ (σ : ℕ → Tree). sub σ (tree I W m t)) (sym (along-is (made I W m) theta))
 
-      few-in : (u : Tree) (i : ℕ) → tree J X new i ≡ sub (along θ) u → ((v : ℕ) → Occ v u → Own v) → (v : ℕ) → variables (tree J X new i) v ≡ true → v < VARIABLES
-      few-in u i z h v o = within-after Own θ (q .0 .settled) (q .0 .own) u h v (subst (λ (x : Tree). Occ v x) z (variables-true (tree J X new i) v o))
-
       pub pair-lookable : Lookable J X new P seen (w - 1) a b
-      unfolding WithinPairs
       pair-lookable =
           let l = both .grown .more in
           let f = q .0 .few in
           record {
             both = record {
-              left = record { good = both .grown .good; there = both .left-there; wide = q .0 .wide; fresh = q .0 .no-seen; few = few-in (tree I W m s) a left-tree (within .0) };
-              right = record { good = both .grown .good; there = both .right-there; wide = q .0 .wide; fresh = q .0 .no-seen; few = few-in (tree I W m t) b right-tree (within .1) };
+              left = record { good = both .grown .good; there = both .left-there; wide = q .0 .wide; fresh = q .0 .no-seen };
+              right = record { good = both .grown .good; there = both .right-there; wide = q .0 .wide; fresh = q .0 .no-seen };
             };
             many = q .0 .many;
             few = omega arith;
@@ -220,15 +216,8 @@ module _ (I W : List ℕ) (m : Mark) (theta memo P seen : List ℕ) (w : ℕ) (q
               let y : weighs J X new theta P′ v ≡ weight θ (push ts us ps) = (λ i. weight (same-theta i) ((f ∙ ap (push ts us) same-pairs) i)) in
               let o = heads ts us c in
               let h = whole in
-              let g = lighter Own θ (q .0 .settled) (q .0 .own) (size (sub (along θ) (tree I W m s)) + weight θ ps) (tree I W m s) (o .0) ts us ps (o .1) (omega arith) in
+              let g = lighter Any θ (q .0 .settled) (any-bindings θ) (size (sub (along θ) (tree I W m s)) + weight θ ps) (tree I W m s) (o .0) ts us ps (o .1) (omega arith) in
               omega arith
-
-          keeps-within : Onto (made J X new) P P′ (w - 1) v L → WithinPairs Own qs
-          unfolding WithinPairs
-          keeps-within (same c f) = subst (WithinPairs Own) (sym (f ∙ same-pairs)) (within .2)
-          keeps-within (more ts us c l f) =
-              let o = heads ts us c in
-              subst (WithinPairs Own) (sym (f ∙ ap (push ts us) same-pairs)) (within-parts Own θ (q .0 .settled) (q .0 .own) p ps (o .0) ts us (o .1) (o .2) within)
 
           pub pair-more : length P′ ≡ length P → length memo′ ≡ length memo → Lighter I W J X m theta memo′ P P′ seen w v new
           pair-more f g =
@@ -237,18 +226,16 @@ module _ (I W : List ℕ) (m : Mark) (theta memo P seen : List ℕ) (w : ℕ) (q
                 grown = both .grown;
                 peelable = record {
                   good = both .grown .good;
-                  cells = cells-grown I W J X m new (q .0 .good) (both .grown) theta (q .0 .cells);
+                  cells = theta-grown (both .grown) (q .0 .cells);
                   settled = subst Settled (sym same-theta) (q .0 .settled);
-                  own = subst (WithinBindings Own) (sym same-theta) (q .0 .own);
                   memos = omega arith;
                   knows = λ i o. subst (λ (τ : ℕ → Tree). Knows (made J X new) τ memo′ i)
-                      (sym (replacement-grown I W J X m new (q .0 .good) (both .grown .same) (both .grown .more) theta (q .0 .cells .bound))) (both .knows i o);
+                      (sym (replacement-grown (both .grown) theta (q .0 .cells .bound))) (both .knows i o);
                   wide = q .0 .wide;
                   no-seen = q .0 .no-seen;
                   many = f ∙ q .0 .many;
                   few = got .few;
                   there = got .there;
-                  within = keeps-within (got .onto);
                 };
                 less = falls (got .onto);
                 makes = goes (got .onto);

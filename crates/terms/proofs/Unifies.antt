@@ -2,7 +2,7 @@
 use mathlib.Core.Path.{_≡_, refl, sym, ap, _∙_, subst}
 use mathlib.Core.Option.{Option}
 use mathlib.Core.List.{List, [], _∷_}
-use Prim.Native.Nat.{ℕ, zero, suc, _-_, _*_, _<_}
+use Prim.Native.Nat.{ℕ, suc, _-_, _*_, _<_}
 use native.Mathlib.Omega.{arith}
 use native.Mathlib.Decide.{ℕ-discrete}
 use lib.ListN.{length, getD, set, replicate, length-set, length-replicate}
@@ -11,23 +11,21 @@ use Rattle.rules.specs.Limits.{VARIABLES}
 use Rattle.rules.specs.Out.{Out}
 use Rattle.rules.specs.Store.{Made}
 use Rattle.rules.specs.Unify.{Binding, solve, unify}
-use Rattle.meaning.specs.Trees.Tests.{occ-variables}
 use Rattle.meaning.specs.Unification.List.{Settled, Each}
 use Rattle.meaning.specs.Unification.Pairs.{WithinPairs}
-use Rattle.meaning.specs.Unification.Peel.{WithinBindings}
 use Rattle.terms.specs.declared.store.Mark.{Mark}
 use Rattle.terms.specs.declared.unify.Round.{Round}
-use Rattle.terms.specs.declared.unify.Round.the-variants as round
 use Rattle.terms.specs.declared.unify.Unified.{Unified}
 use Rattle.terms.specs.declared.unify.Unified.the-variants.{Found, Apart, Full}
-use Rattle.terms.specs.Table.{made, Grown, Refused}
-use Rattle.terms.specs.Collect.{tree}
+use Rattle.terms.specs.Table.{made, Grown, Refused, tree}
 use Rattle.terms.specs.Pairs.{waits}
 use Rattle.terms.specs.Theta.{bindings, Zeros}
 use Rattle.terms.specs.Unify.{Solved, Unsolved, Unifiable}
-use Rattle.terms.specs.Peel.{thetaOf, pairsOf, Own, Solvable, solves, BoundMore, Rounded, SolvedAs}
-use Rattle.terms.proofs.Sames.{grown-self, grown-then}
-use Rattle.terms.proofs.Fresh.{getD-zeros}
+use Rattle.terms.specs.Peel.{thetaOf, pairsOf, Solvable, solves, BoundMore, Rounded, SolvedAs}
+use Rattle.terms.specs.Laws.Growth.{grown-refl, grown-trans}
+use Rattle.terms.specs.Laws.Zeros.{getD-zeros}
+use Rattle.terms.specs.Laws.Theta.{bindings-none}
+use Rattle.terms.specs.declared.unify.Round.the-variants as round
 
 -- The rounds ---------------------------------------------------------------------------------------------------------------------------
 
@@ -45,7 +43,7 @@ pub record Solving (I W : List ℕ) (old : Mark) (count : ℕ) (theta map memo P
 pub solving-begins : (I W : List ℕ) (old : Mark) (count : ℕ) (theta map memo P seen : List ℕ) (w : ℕ) → Solvable I W old theta map memo P seen w
     → Solving I W old count theta map memo P seen w I W theta map memo P seen old w count
 solving-begins I W old count theta map memo P seen w q =
-    record { grown = grown-self I W old (q .peelable .good); solvable = q; left = refl; long-theta = refl; long-pairs = refl; same-map = refl; same-memo = refl; same-seen = refl }
+    record { grown = grown-refl (q .peelable .good); solvable = q; left = refl; long-theta = refl; long-pairs = refl; same-map = refl; same-memo = refl; same-seen = refl }
 
 module _ (I W : List ℕ) (old : Mark) (count : ℕ) (theta map memo P seen : List ℕ) (w : ℕ) (J X theta′ map′ memo′ P′ seen′ : List ℕ) (m : Mark) (v rounds : ℕ)
     (l : Solving I W old count theta map memo P seen w J X theta′ map′ memo′ P′ seen′ m v rounds)
@@ -56,17 +54,17 @@ module _ (I W : List ℕ) (old : Mark) (count : ℕ) (theta map memo P seen : Li
   pub solving-found : (new : Mark) → r ≡ round.Found new → Solved I W G Y old theta″ K new
   solving-found new e =
       let f : (n : ℕ) → Solved J X G Y m theta″ (solves (suc n) J X m theta′ P′ v) new = subst (Rounded J X G Y m theta′ theta″ map′ memo′ P′ P″ seen′ v) e d in
-      record { grown = grown-then I W J X G Y old m new (l .grown) (f 0 .grown); makes = l .left ∙ f rounds .makes; cells = f 0 .cells }
+      record { grown = grown-trans (l .grown) (f 0 .grown); makes = l .left ∙ f rounds .makes; cells = f 0 .cells }
 
   pub solving-apart : (new : Mark) → r ≡ round.Apart new → Unsolved I W G Y old theta″ K new
   solving-apart new e =
       let f : (n : ℕ) → Unsolved J X G Y m theta″ (solves (suc n) J X m theta′ P′ v) new = subst (Rounded J X G Y m theta′ theta″ map′ memo′ P′ P″ seen′ v) e d in
-      record { grown = grown-then I W J X G Y old m new (l .grown) (f 0 .grown); makes = l .left ∙ f rounds .makes }
+      record { grown = grown-trans (l .grown) (f 0 .grown); makes = l .left ∙ f rounds .makes }
 
   pub solving-full : (row : ℕ) (new : Mark) → r ≡ round.Full row new → Refused (Option (List Binding)) I W G Y old K row new
   solving-full row new e =
       let f : (n : ℕ) → Refused (Option (List Binding)) J X G Y m (solves (suc n) J X m theta′ P′ v) row new = subst (Rounded J X G Y m theta′ theta″ map′ memo′ P′ P″ seen′ v) e d in
-      record { grown = grown-then I W J X G Y old m new (l .grown) (f 0 .grown); makes = l .left ∙ f rounds .makes }
+      record { grown = grown-trans (l .grown) (f 0 .grown); makes = l .left ∙ f rounds .makes }
 
   module _ (n : ℕ) (new : Mark) (e : r ≡ round.More n new) where
     more : BoundMore J X G Y m theta′ theta″ map′ memo′ P′ P″ seen′ v n new
@@ -77,7 +75,7 @@ module _ (I W : List ℕ) (old : Mark) (count : ℕ) (theta map memo P seen : Li
     unfolding solve
     solving-ends z =
         record {
-          grown = grown-then I W J X G Y old m new (l .grown) (more .grown);
+          grown = grown-trans (l .grown) (more .grown);
           makes = l .left ∙ more .makes rounds ∙ ap (λ (k : ℕ). solves k G Y new theta″ P″ n) z;
         }
 
@@ -86,7 +84,7 @@ module _ (I W : List ℕ) (old : Mark) (count : ℕ) (theta map memo P seen : Li
     solving-on z map″ memo″ seen″ s a b =
         let c : rounds ≡ suc (rounds - 1) = omega arith in
         record {
-          grown = grown-then I W J X G Y old m new (l .grown) (more .grown);
+          grown = grown-trans (l .grown) (more .grown);
           solvable =
               subst (λ (x : List ℕ). Solvable G Y new theta″ x memo″ P″ seen″ n) (sym (s .0))
               (subst (λ (x : List ℕ). Solvable G Y new theta″ map′ x P″ seen″ n) (sym (s .1)) (subst (λ (x : List ℕ). Solvable G Y new theta″ map′ memo′ P″ x n) (sym (s .2)) (more .solvable)));
@@ -100,13 +98,7 @@ module _ (I W : List ℕ) (old : Mark) (count : ℕ) (theta map memo P seen : Li
 
 -- The beginning ------------------------------------------------------------------------------------------------------------------------
 
--- cells of zeros are no bindings
-bindings-none : (M : Made) (n v : ℕ) → bindings M (replicate n 0) v ≡ []
-unfolding bindings
-bindings-none M zero v = refl
-bindings-none M (suc n) v = bindings-none M n (suc v)
-
-module _ (I W : List ℕ) (m : Mark) (s t : ℕ) (theta map memo P seen : List ℕ) (q : Unifiable I W m s t theta map memo P seen) where
+module _ (I W : List ℕ) (m : Mark) (count s t : ℕ) (theta map memo P seen : List ℕ) (q : Unifiable I W m count s t theta map memo P seen) where
   abbrev P₁ : List ℕ
   P₁ = set (set P 0 s) 1 t
 
@@ -131,8 +123,8 @@ module _ (I W : List ℕ) (m : Mark) (s t : ℕ) (theta map memo P seen : List �
 
   both-there : (k : ℕ) → k < 2 * 1 → getD P₁ k 0 < m .terms
   both-there k h = elim (ℕ-discrete k 0) [
-    | yes e ↦ subst (λ (i : ℕ). i < m .terms) (sym (ap (λ (j : ℕ). getD P₁ j 0) e ∙ left-is)) (q .left .there)
-    | no n ↦ (let e : k ≡ 1 = omega arith in subst (λ (i : ℕ). i < m .terms) (sym (ap (λ (j : ℕ). getD P₁ j 0) e ∙ right-is)) (q .right .there))
+    | yes e ↦ subst (λ (i : ℕ). i < m .terms) (sym (ap (λ (j : ℕ). getD P₁ j 0) e ∙ left-is)) (q .left)
+    | no n ↦ (let e : k ≡ 1 = omega arith in subst (λ (i : ℕ). i < m .terms) (sym (ap (λ (j : ℕ). getD P₁ j 0) e ∙ right-is)) (q .right))
   ]
 
   pub unify-begins : Solvable I W m theta map memo P₁ seen 1
@@ -143,7 +135,6 @@ module _ (I W : List ℕ) (m : Mark) (s t : ℕ) (theta map memo P seen : List �
           good = q .good;
           cells = record { long = q .scratch .thetas; bound = λ v. let z = none-bound v in omega arith };
           settled = subst Settled (sym no-theta) tt;
-          own = subst (WithinBindings Own) (sym no-theta) tt;
           memos = q .scratch .memos;
           knows = λ i h. absurd (let z = none-known i in omega arith);
           wide = q .scratch .wide;
@@ -151,17 +142,15 @@ module _ (I W : List ℕ) (m : Mark) (s t : ℕ) (theta map memo P seen : List �
           many = length-set (set P 0 s) 1 t ∙ length-set P 0 s ∙ q .scratch .many;
           few = omega arith;
           there = both-there;
-          within = subst (WithinPairs Own) (sym one-pair)
-              (λ v o. q .left .few v (occ-variables (tree I W m s) v o), λ v o. q .right .few v (occ-variables (tree I W m t) v o), tt);
         };
         maps = q .scratch .maps;
         no-maps = q .scratch .no-maps;
         no-memos = q .scratch .no-memos;
       }
 
-  solves-is : (count : ℕ) → solves (suc count) I W m theta P₁ 1 ≡ unify count (tree I W m s) (tree I W m t) (made I W m)
+  solves-is : solves (suc count) I W m theta P₁ 1 ≡ unify count (tree I W m s) (tree I W m t) (made I W m)
   unfolding unify
-  solves-is count = λ i. solve (suc count) (no-theta i) (one-pair i) (made I W m)
+  solves-is = λ i. solve (suc count) (no-theta i) (one-pair i) (made I W m)
 
   -- The end ------------------------------------------------------------------------------------------------------------------------------
 
@@ -173,24 +162,24 @@ module _ (I W : List ℕ) (m : Mark) (s t : ℕ) (theta map memo P seen : List �
       let k : length now ≡ length used = ap length e ∙ length-replicate {A = ℕ} (length used) 0 in
       (k ∙ l ∙ q .scratch .thetas, e ∙ ap (λ (n : ℕ). replicate n 0) (sym k))
 
-  module _ (J X theta′ : List ℕ) (count : ℕ) (r : Unified) (d : SolvedAs I W J X m theta′ (solves (suc count) I W m theta P₁ 1) r) where
+  module _ (J X theta′ : List ℕ) (r : Unified) (d : SolvedAs I W J X m theta′ (solves (suc count) I W m theta P₁ 1) r) where
     abbrev U : Out Made (Option (List Binding))
     U = unify count (tree I W m s) (tree I W m t) (made I W m)
 
     pub unify-found : (new : Mark) → r ≡ Found new → Solved I W J X m theta′ U new
     unify-found new e =
         let f : Solved I W J X m theta′ (solves (suc count) I W m theta P₁ 1) new = subst (SolvedAs I W J X m theta′ _) e d in
-        record { grown = f .grown; makes = sym (solves-is count) ∙ f .makes; cells = f .cells }
+        record { grown = f .grown; makes = sym solves-is ∙ f .makes; cells = f .cells }
 
     module _ (theta″ : List ℕ) (l : length theta′ ≡ length theta) (z : theta″ ≡ replicate (length theta′) 0) where
       pub unify-apart : (new : Mark) → r ≡ Apart new → Unsolved I W J X m theta″ U new × (length theta″ ≡ VARIABLES) × Zeros theta″
       unify-apart new e =
           let f : Unsolved I W J X m theta′ (solves (suc count) I W m theta P₁ 1) new = subst (SolvedAs I W J X m theta′ _) e d in
           let b = theta-back theta′ theta″ l z in
-          (record { grown = f .grown; makes = sym (solves-is count) ∙ f .makes }, b .0, b .1)
+          (record { grown = f .grown; makes = sym solves-is ∙ f .makes }, b .0, b .1)
 
       pub unify-full : (row : ℕ) (new : Mark) → r ≡ Full row new → Refused (Option (List Binding)) I W J X m U row new × (length theta″ ≡ VARIABLES) × Zeros theta″
       unify-full row new e =
           let f : Refused (Option (List Binding)) I W J X m (solves (suc count) I W m theta P₁ 1) row new = subst (SolvedAs I W J X m theta′ _) e d in
           let b = theta-back theta′ theta″ l z in
-          (record { grown = f .grown; makes = sym (solves-is count) ∙ f .makes }, b .0, b .1)
+          (record { grown = f .grown; makes = sym solves-is ∙ f .makes }, b .0, b .1)

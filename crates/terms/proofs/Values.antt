@@ -18,13 +18,12 @@ use Rattle.terms.specs.declared.store.Mark.{Mark}
 use Rattle.terms.specs.declared.store.Kept.{Kept}
 use Rattle.terms.specs.declared.store.Kept.the-variants.{Term, Full}
 use Rattle.terms.specs.Table.{made, Grown, Refused}
-use Rattle.terms.specs.Subst.{replacement, Knows, substituted, asked, Ready, Done, Substituted}
+use Rattle.terms.specs.Subst.{replacement, Knows, substituted, asked, Replacing, Done, Substituted}
 use Rattle.terms.specs.Theta.{bindings, inValues, Changeable, Changed}
-use Rattle.terms.proofs.Tables.{length-trees}
-use Rattle.terms.proofs.Sames.{grown-self, grown-then}
-use Rattle.terms.proofs.Substs.{replacement-grown}
-use Rattle.terms.proofs.Waits.{getD-more, bindings-more}
-use Rattle.terms.proofs.Bindings.{binding, bindings-zero, bindings-some, bindings-snoc-zero, bindings-snoc-some}
+use Rattle.terms.specs.Laws.Tables.{length-trees}
+use Rattle.terms.specs.Laws.Growth.{grown-refl, grown-trans, grown-tree}
+use Rattle.terms.specs.Laws.Theta.{replacement-grown, bindings-more, binding, bindings-zero, bindings-some, bindings-snoc-zero}
+use Rattle.terms.specs.Laws.Theta.{bindings-snoc-some}
 
 -- The definition, one value at a time ------------------------------------------------------------------------------------------------
 
@@ -67,7 +66,7 @@ unfolding bindings
 changing-begins I W old theta map memo r =
     record {
       ready = r;
-      grown = grown-self I W old (r .good);
+      grown = grown-refl (r .good);
       upto = omega arith;
       same = refl;
       long = refl;
@@ -87,7 +86,7 @@ module _ (I W : List ℕ) (old : Mark) (theta map memo : List ℕ) (J X theta′
   K₀ = inValues σ (bindings (made I W old) theta 0) (made I W old)
 
   same-replacement : replacement (made J X m) map ≡ σ
-  same-replacement = replacement-grown I W J X old m (l .ready .good) (l .grown .same) (l .grown .more) map (l .ready .bound)
+  same-replacement = replacement-grown (l .grown) map (l .ready .bound)
 
   module _ (h : v < length theta′) where
     inside : v < length theta
@@ -133,7 +132,7 @@ module _ (I W : List ℕ) (old : Mark) (theta map memo : List ℕ) (J X theta′
       low : id < old .terms
       low = let a = cell in let b = l .ready .cells .bound v in omega arith
 
-      pub value-ready : Ready J X m map memo′ id
+      pub value-ready : Replacing J X m map memo′ id
       value-ready =
           let a = low in
           let b = l .grown .more in
@@ -154,7 +153,7 @@ module _ (I W : List ℕ) (old : Mark) (theta map memo : List ℕ) (J X theta′
       call-tree : substituted J X m map id ≡ t
       call-tree =
           ap (λ (τ : ℕ → Tree). sub τ (getD (made J X m) id (var 0))) same-replacement
-          ∙ ap (sub σ) (getD-more I W J X old m (l .ready .good) (l .grown) id low)
+          ∙ ap (sub σ) (grown-tree (l .grown) id low)
           ∙ ap (λ (c : ℕ). sub σ (getD (made I W old) (c - 1) (var 0))) cell
 
       behind : bindings (made I W old) (drop v theta) v ≡ binding (made I W old) v (getD theta v 0) ∷ bindings (made I W old) (drop (suc v) theta) (suc v)
@@ -189,7 +188,7 @@ module _ (I W : List ℕ) (old : Mark) (theta map memo : List ℕ) (J X theta′
         now =
             ap (λ (r : List ℕ). bindings (made K Y new) r 0) (take-suc-set theta′ v (n + 1) h)
             ∙ bindings-snoc-some (made K Y new) (take v theta′) (n + 1) v front (λ z. omega arith)
-            ∙ (λ i. bindings-more (made J X m) (made K Y new) (m .terms) (take v theta′) 0 (getD-more J X K Y m new (l .grown .good) (d .stored .grown)) front-bound i ++ (last i ∷ []))
+            ∙ (λ i. bindings-more (made J X m) (made K Y new) (m .terms) (take v theta′) 0 (grown-tree (d .stored .grown)) front-bound i ++ (last i ∷ []))
 
         left-now : K₀ ≡ then (inValues σ (bindings (made I W old) (drop (suc v) theta) (suc v)) (made K Y new)) (λ ζ k. ok (bindings (made K Y new) (take (suc v) (set theta′ v (n + 1))) 0 ++ ζ) k)
         left-now =
@@ -209,7 +208,7 @@ module _ (I W : List ℕ) (old : Mark) (theta map memo : List ℕ) (J X theta′
             let a = inside in
             record {
               ready = l .ready;
-              grown = grown-then I W J X K Y old m new (l .grown) (d .stored .grown);
+              grown = grown-trans (l .grown) (d .stored .grown);
               upto = omega arith;
               same = length-set theta′ v (n + 1) ∙ l .same;
               long = q ∙ l .long;
@@ -236,7 +235,7 @@ module _ (I W : List ℕ) (old : Mark) (theta map memo : List ℕ) (J X theta′
       value-full K Y memo″ r d row new p =
           let f : Refused Tree J X K Y m (asked J X m map id) row new = subst (Substituted J X K Y m map memo′ memo″ id) p d in
           record {
-            grown = grown-then I W J X K Y old m new (l .grown) (f .grown);
+            grown = grown-trans (l .grown) (f .grown);
             makes = left-split ∙ values-stop σ (binding (made I W old) v (getD theta v 0)) (bindings (made I W old) (drop (suc v) theta) (suc v)) (made J X m) (λ ζ k. ok (bindings (made J X m) (take v theta′) 0 ++ ζ) k) 60 row (made K Y new)
                 (ap (λ (u : Tree). make u (made J X m)) (sym call-tree) ∙ f .makes);
           }

@@ -1,28 +1,17 @@
--- Cells of pairs and of bindings against the definition of unification: pairs put onto those that wait, the replacement that bindings
--- stand for, and that trees made later change neither. Assumes nothing.
+-- Cells of pairs against the definition of unification: pairs put onto those that wait, and that trees made later do not change them. Assumes
+-- nothing.
 use mathlib.Core.Path.{_≡_, refl, sym, ap, _∙_}
-use mathlib.Core.Bool.{Bool, true, false}
 use mathlib.Core.List.{List, [], _∷_, _++_}
-use Prim.Native.Nat.{ℕ, zero, suc, _+_, _-_, _*_, _≤_, _<_}
+use Prim.Native.Nat.{ℕ, zero, suc, _+_, _*_, _≤_, _<_}
 use native.Mathlib.Omega.{arith}
 use lib.ListN.{length, getD, drop, set, length-set, length-drop}
 use lib.Seq.{take-suc, getD-drop, getD-set-same, getD-set-other}
-use lib.Dec.{eqb}
-use borrow.Author.Tests.{eq-eqb, ne-eqb, eqb-false}
 use Rattle.rules.specs.Tree.{var}
 use Rattle.rules.specs.Store.{Made}
-use Rattle.rules.specs.Unify.{Binding, Pair, along, push}
-use Rattle.terms.specs.declared.store.Mark.{Mark}
-use Rattle.terms.specs.Table.{run, argsOf, made, Good, Grown}
-use Rattle.terms.specs.Subst.{replacement}
+use Rattle.rules.specs.Unify.{Pair, push}
+use Rattle.terms.specs.Table.{run, argsOf}
 use Rattle.terms.specs.Pairs.{waits, piled}
-use Rattle.terms.specs.Theta.{bindings}
-use Rattle.terms.proofs.Words.{run-length}
-use Rattle.terms.proofs.Sames.{getD-grown}
-
--- the trees that were made are those of the tables afterwards
-pub getD-more : (I W J X : List ℕ) (old new : Mark) → Good I W old → Grown I W J X old new → (i : ℕ) → i < old .terms → getD (made J X new) i (var 0) ≡ getD (made I W old) i (var 0)
-getD-more I W J X old new g w i h = getD-grown I W J X old g (w .same) (new .terms) i (w .more) h
+use Rattle.terms.specs.Laws.Runs.{run-length}
 
 -- Pairs that wait ------------------------------------------------------------------------------------------------------------------
 
@@ -92,54 +81,3 @@ waits-piled M W a b P w (suc n) f g h =
     ap (waits M R) z
     ∙ (λ i. record { left = getD M (c i) (var 0); right = getD M (d i) (var 0) } ∷ (u ∙ ih) i)
     ∙ sym ((λ i. push (argsOf M (run-last W a n f i)) (argsOf M (run-last W b n g i)) (waits M P w)) ∙ push-last M (run W a n) (run W b n) x y (waits M P w) (omega arith))
-
--- Bindings -------------------------------------------------------------------------------------------------------------------------
-
--- the cell of a says nothing of another variable
-along-skip : (M : Made) (c : ℕ) (cs : List ℕ) (a v : ℕ) → (v ≡ a → ⊥) → along (bindings M (c ∷ cs) a) v ≡ along (bindings M cs (suc a)) v
-unfolding along bindings
-along-skip M c cs a v n = go (eqb c 0)
-  where
-    go : (t : Bool)
-        → along (elim t [ true ↦ bindings M cs (suc a) | false ↦ record { variable = a; value = getD M (c - 1) (var 0) } ∷ bindings M cs (suc a) ]) v
-        ≡ along (bindings M cs (suc a)) v
-    go true = refl
-    go false = ap (λ (t : Bool). elim t [ true ↦ getD M (c - 1) (var 0) | false ↦ along (bindings M cs (suc a)) v ]) (ne-eqb v a n)
-
--- the cells from variable a on leave those below
-along-under : (M : Made) (theta : List ℕ) (a v : ℕ) → v < a → along (bindings M theta a) v ≡ var v
-unfolding along bindings
-along-under M [] a v l = refl
-along-under M (c ∷ cs) a v l = along-skip M c cs a v (λ q. omega arith) ∙ along-under M cs (suc a) v (omega arith)
-
--- the k-th of the cells from variable a on is that of v
-along-from : (M : Made) (theta : List ℕ) (a k v : ℕ) → v ≡ a + k → along (bindings M theta a) v ≡ elim (eqb (getD theta k 0) 0) [ true ↦ var v | false ↦ getD M (getD theta k 0 - 1) (var 0) ]
-unfolding along bindings
-along-from M [] a k v e = refl
-along-from M (c ∷ cs) a zero v e = go (eqb c 0) (along-under M cs (suc a) v (omega arith))
-  where
-    go : (t : Bool) → along (bindings M cs (suc a)) v ≡ var v
-        → along (elim t [ true ↦ bindings M cs (suc a) | false ↦ record { variable = a; value = getD M (c - 1) (var 0) } ∷ bindings M cs (suc a) ]) v
-        ≡ elim t [ true ↦ var v | false ↦ getD M (c - 1) (var 0) ]
-    go true u = u
-    go false u = ap (λ (t : Bool). elim t [ true ↦ getD M (c - 1) (var 0) | false ↦ along (bindings M cs (suc a)) v ]) (eq-eqb v a (omega arith))
-along-from M (c ∷ cs) a (suc k) v e = along-skip M c cs a v (λ q. omega arith) ∙ along-from M cs (suc a) k v (omega arith)
-
-pub along-bindings : (M : Made) (theta : List ℕ) (v : ℕ) → along (bindings M theta 0) v ≡ replacement M theta v
-unfolding replacement
-along-bindings M theta v = along-from M theta 0 v v (omega arith)
-
--- the same as replacements
-pub along-is : (M : Made) (theta : List ℕ) → along (bindings M theta 0) ≡ replacement M theta
-along-is M theta = λ i v. along-bindings M theta v i
-
-pub bindings-more : (M N : Made) (k : ℕ) (theta : List ℕ) (a : ℕ) → ((i : ℕ) → i < k → getD N i (var 0) ≡ getD M i (var 0)) → ((v : ℕ) → getD theta v 0 ≤ k) → bindings N theta a ≡ bindings M theta a
-unfolding bindings
-bindings-more M N k [] a e b = refl
-bindings-more M N k (c ∷ cs) a e b = go (eqb c 0) refl (bindings-more M N k cs (suc a) e (λ v. b (suc v)))
-  where
-    go : (t : Bool) → eqb c 0 ≡ t → bindings N cs (suc a) ≡ bindings M cs (suc a)
-        → _≡_ {A = List Binding} (elim t [ true ↦ bindings N cs (suc a) | false ↦ record { variable = a; value = getD N (c - 1) (var 0) } ∷ bindings N cs (suc a) ])
-        (elim t [ true ↦ bindings M cs (suc a) | false ↦ record { variable = a; value = getD M (c - 1) (var 0) } ∷ bindings M cs (suc a) ])
-    go true q ih = ih
-    go false q ih = let z = eqb-false c 0 q in let y = b 0 in λ i. record { variable = a; value = e (c - 1) (omega arith) i } ∷ ih i

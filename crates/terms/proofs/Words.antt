@@ -1,59 +1,17 @@
--- Runs of words in a table. Assumes nothing.
-use mathlib.Core.Path.{_≡_, refl, sym, ap, _∙_, subst}
+-- Words that are compared, from the front on. Assumes nothing.
+use mathlib.Core.Path.{_≡_, refl, sym, ap, _∙_}
 use mathlib.Core.Bool.{Bool, true, false, false≢true}
-use mathlib.Core.List.{List, [], _∷_, _++_, append-nil}
-use Prim.Native.Nat.{ℕ, zero, suc, _+_, _-_, _≤_, _<_}
+use mathlib.Core.List.{List, [], _∷_}
+use Prim.Native.Nat.{ℕ, suc, _+_, _-_, _≤_, _<_}
 use native.Mathlib.Omega.{arith}
 use native.Mathlib.Numerals.{add-one}
-use lib.ListN.{length, getD, take, drop, set, length-drop, length-set, replicate, drop-of-length-le}
-use borrow.Author.Fill.{fill-none, fill-more}
-use lib.Seq.{drop-length, length-take-le, getD-take, getD-drop, drop-cons, ext-getD}
+use lib.ListN.{length, getD, drop, drop-of-length-le}
+use lib.Seq.{drop-cons}
 use lib.Dec.{eqb}
 use borrow.Author.Tests.{eq-eqb, ne-eqb, eqb-true}
 use Rattle.terms.specs.Table.{run}
 use Rattle.terms.specs.Node.{sameWords}
-
--- a table that is cleared from the front
-pub record Clearing (l now : List ℕ) (i : ℕ) : Type 0 where
-  pub in-l : i ≤ length l
-  pub long : length now ≡ length l
-  pub so-far : now ≡ replicate i 0 ++ drop i l
-
-pub clearing-begins : (l : List ℕ) → Clearing l l 0
-clearing-begins l = record { in-l = omega arith; long = refl; so-far = fill-none l 0 }
-
-pub clearing-on : (l now : List ℕ) (i : ℕ) → Clearing l now i → i < length now → Clearing l (set now i 0) (i + 1)
-clearing-on l now i c h =
-    let e = c .long in
-    record { in-l = omega arith; long = length-set now i 0 ∙ c .long; so-far = ap (λ (r : List ℕ). set r i 0) (c .so-far) ∙ fill-more i 0 l (omega arith) }
-
-pub clearing-done : (l now : List ℕ) (i : ℕ) → Clearing l now i → length now ≤ i → now ≡ replicate (length l) 0
-clearing-done l now i c h = let e = c .long in let f : i ≡ length l = omega arith in c .so-far ∙ rw (f, drop-length l) (append-nil (replicate (length l) 0))
-
--- Runs -------------------------------------------------------------------------------------------------------------------------
-
-pub run-length : (W : List ℕ) (a len : ℕ) → a + len ≤ length W → length (run W a len) ≡ len
-run-length W a len h = length-take-le len (drop a W) (simp length-drop (omega arith))
-
-pub run-at : (W : List ℕ) (a n j : ℕ) → j < n → getD (run W a n) j 0 ≡ getD W (a + j) 0
-run-at W a n j h = getD-take n (drop a W) j 0 h ∙ getD-drop a W j 0
-
-pub run-more : (W : List ℕ) (a b : ℕ) → a < b → b ≤ length W → run W a (b - a) ≡ getD W a 0 ∷ run W (a + 1) (b - (a + 1))
-run-more W a b h k =
-    let e : b - a ≡ suc (b - (a + 1)) = omega arith in
-    let l : a < length W = omega arith in
-    rw (e, drop-cons W a 0 l, add-one a)
-
-pub run-none : (W : List ℕ) (a b : ℕ) → b ≤ a → run W a (b - a) ≡ []
-run-none W a b h = let e : b - a ≡ 0 = omega arith in rw e
-
-pub run-same : (W X : List ℕ) (u s l : ℕ) → ((i : ℕ) → i < u → getD X i 0 ≡ getD W i 0) → length X ≡ length W → s + l ≤ u → u ≤ length W → run X s l ≡ run W s l
-run-same W X u s l e n h k =
-    let a = run-length W s l (omega arith) in
-    let b = run-length X s l (omega arith) in
-    ext-getD 0 (run X s l) (run W s l) (omega arith) (λ i p. run-at X s l i (omega arith) ∙ e (s + i) (omega arith) ∙ sym (run-at W s l i (omega arith)))
-
--- Equal words ------------------------------------------------------------------------------------------------------------------
+use Rattle.terms.specs.Laws.Runs.{run-length, run-more, run-none}
 
 pub same-more : (x y : ℕ) (xs ys : List ℕ) → x ≡ y → sameWords (x ∷ xs) (y ∷ ys) ≡ sameWords xs ys
 unfolding sameWords

@@ -2,28 +2,25 @@
 -- there last is the first of the definition's list. Assumes nothing.
 use mathlib.Core.Path.{_≡_}
 use Prim.Native.Nat.{ℕ, zero, suc, _+_, _*_, _≤_, _<_}
-use mathlib.Core.Bool.{Bool, true, false}
 use mathlib.Core.List.{List, [], _∷_}
 use lib.ListN.{length, getD, set, replicate}
-use Rattle.rules.specs.Limits.{TERMS}
-use Rattle.rules.specs.Tree.{Tree, var, variables}
+use Rattle.rules.specs.Limits.{ARGUMENTS, VARIABLES, TERMS}
+use Rattle.rules.specs.Tree.{var}
 use Rattle.rules.specs.Store.{Made}
 use Rattle.rules.specs.Unify.{Pair, Look, agree, clash, binds, parts}
 use Rattle.terms.specs.declared.store.Mark.{Mark}
 use Rattle.terms.specs.declared.pairs.Asks.{Asks}
 use Rattle.terms.specs.declared.pairs.Asks.the-variants.{Nothing, Clash, Binds, Parts}
-use Rattle.terms.specs.Table.{run, argsOf, made, Good}
-use Rattle.terms.specs.Collect.{tree}
+use Rattle.terms.specs.Table.{run, argsOf, made, Good, tree}
 
 -- What two terms ask for ---------------------------------------------------------------------------------------------------------
 
--- the variables of term id can be looked at, with scratch of zeros
+-- a term whose variables can be looked for, with scratch of zeros
 pub record Searchable (I W : List ℕ) (m : Mark) (seen : List ℕ) (id : ℕ) : Type 0 where
   pub good : Good I W m
   pub there : id < m .terms
   pub wide : TERMS ≤ 64 * length seen
   pub fresh : seen ≡ replicate (length seen) 0
-  pub few : (v : ℕ) → variables (tree I W m id) v ≡ true → v < 512
 
 pub record Comparable (I W : List ℕ) (m : Mark) (seen : List ℕ) (s t : ℕ) : Type 0 where
   pub left : Searchable I W m seen s
@@ -32,7 +29,7 @@ pub record Comparable (I W : List ℕ) (m : Mark) (seen : List ℕ) (s t : ℕ) 
 -- a variable x and a term u
 pub record BindsTo (I W : List ℕ) (m : Mark) (L : Look) (x u : ℕ) : Type 0 where
   pub asks : L ≡ binds x (tree I W m u)
-  pub small : x < 512
+  pub small : x < VARIABLES
   pub there : u < m .terms
 
 -- n arguments from a on and from b on
@@ -40,7 +37,7 @@ pub record PartsAt (I W : List ℕ) (m : Mark) (L : Look) (a b n : ℕ) : Type 0
   pub asks : L ≡ parts (argsOf (made I W m) (run W a n)) (argsOf (made I W m) (run W b n))
   pub left : a + n ≤ m .words
   pub right : b + n ≤ m .words
-  pub few : n ≤ 16
+  pub few : n ≤ ARGUMENTS
   pub lefts : (k : ℕ) → k < n → getD W (a + k) 0 < m .terms
   pub rights : (k : ℕ) → k < n → getD W (b + k) 0 < m .terms
 

@@ -46,12 +46,12 @@ unfoldable mutual
   Standing S P at (more t ts) = Stands S P at t × Standing S P (at + size t) ts
 
 -- there is a pattern at that place
-pub record Reads (S P : List ℕ) (at : ℕ) : Type 0 where
+pub record PatternAt (S P : List ℕ) (at : ℕ) : Type 0 where
   pub tree : Tree
   pub stands : Stands S P at tree
 
 -- there are n patterns from that place on
-pub record ReadsAll (S P : List ℕ) (at n : ℕ) : Type 0 where
+pub record PatternsAt (S P : List ℕ) (at n : ℕ) : Type 0 where
   pub patterns : Trees
   pub stands : Standing S P at patterns
   pub count : countTrees patterns ≡ n
@@ -59,15 +59,15 @@ pub record ReadsAll (S P : List ℕ) (at n : ℕ) : Type 0 where
 -- n patterns from that place on, over a whole symbol table
 pub record Skippable (S P : List ℕ) (at n : ℕ) : Type 0 where
   pub symbols : length S ≡ 4 * SYMBOLS
-  pub reads : ReadsAll S P at n
+  pub reads : PatternsAt S P at n
 
 -- the place behind n patterns, whatever they are
 abbrev pub Skipped : List ℕ → List ℕ → ℕ → ℕ → ℕ → Type 0
 Skipped S P at n r = (ps : Trees) → Standing S P at ps → countTrees ps ≡ n → r ≡ at + sizes ps
 
 -- how many patterns stand behind a word as its arguments
-unfoldable pub argsAt : List ℕ → ℕ → ℕ
-argsAt S h = elim (ltb h SYMBOLS) [ true ↦ arity S h | false ↦ 0 ]
+unfoldable pub argsByTable : List ℕ → ℕ → ℕ
+argsByTable S h = elim (ltb h SYMBOLS) [ true ↦ arity S h | false ↦ 0 ]
 
 -- Bindings in cells ------------------------------------------------------------------------------------------------------------
 
@@ -91,7 +91,7 @@ pub record Cells (n : ℕ) (B : List ℕ) : Type 0 where
 pub record Matchable (S P I W : List ℕ) (m : Mark) (B : List ℕ) (at id : ℕ) : Type 0 where
   pub good : Good I W m
   pub symbols : length S ≡ 4 * SYMBOLS
-  pub reads : Reads S P at
+  pub reads : PatternAt S P at
   pub cells : Cells (m .terms) B
   pub there : id < m .terms
 
@@ -99,7 +99,7 @@ pub record Matchable (S P I W : List ℕ) (m : Mark) (B : List ℕ) (at id : ℕ
 pub record AllMatchable (S P I W : List ℕ) (m : Mark) (B : List ℕ) (at : ℕ) (xs : List ℕ) : Type 0 where
   pub good : Good I W m
   pub symbols : length S ≡ 4 * SYMBOLS
-  pub reads : ReadsAll S P at (length xs)
+  pub reads : PatternsAt S P at (length xs)
   pub cells : Cells (m .terms) B
   pub there : (k : ℕ) → k < length xs → getD xs k 0 < m .terms
 
@@ -146,7 +146,7 @@ MatchedAll S P I W m B C at xs r =
 pub record Buildable (S P I W : List ℕ) (m : Mark) (B : List ℕ) (at : ℕ) : Type 0 where
   pub good : Good I W m
   pub symbols : length S ≡ 4 * SYMBOLS
-  pub reads : Reads S P at
+  pub reads : PatternAt S P at
   pub cells : Cells (m .terms) B
 
 -- K is the definition's answer: term n, and the tables hold what is made
@@ -161,9 +161,12 @@ pub record Stops (I W J X : List ℕ) (old : Mark) (K : Out Made Tree) (q d : �
   pub grown : Grown I W J X old new
   pub makes : K ≡ refuse q d (made J X new)
 
-abbrev pub BuiltBy : List ℕ → List ℕ → List ℕ → List ℕ → Mark → Out Made Tree → ℕ → Built → Type 0
-BuiltBy I W J X old K behind (Term n place new) = Builds I W J X old K behind n place new
-BuiltBy I W J X old K behind (No q d new) = Stops I W J X old K q d new
+abbrev pub BuiltAs : List ℕ → List ℕ → List ℕ → List ℕ → Mark → Out Made Tree → ℕ → Built → Type 0
+BuiltAs I W J X old K behind (Term n place new) = Builds I W J X old K behind n place new
+BuiltAs I W J X old K behind (No q d new) = Stops I W J X old K q d new
+
+pub record BuiltBy (I W J X : List ℕ) (old : Mark) (K : Out Made Tree) (behind : ℕ) (r : Built) : Type 0 where
+  pub says : BuiltAs I W J X old K behind r
 
 -- whatever pattern stands there
 abbrev pub BuiltAt : List ℕ → List ℕ → List ℕ → List ℕ → List ℕ → List ℕ → Mark → List ℕ → ℕ → Built → Type 0

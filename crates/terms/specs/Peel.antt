@@ -11,8 +11,6 @@ use Rattle.rules.specs.Tree.{Tree, Trees, countTrees}
 use Rattle.rules.specs.Store.{Made, substitute}
 use Rattle.rules.specs.Unify.{Binding, Pair, Look, agree, clash, parts, push, Found, finished, clashed, bound, peel, weight, solve}
 use Rattle.meaning.specs.Unification.List.{Settled}
-use Rattle.meaning.specs.Unification.Pairs.{WithinPairs}
-use Rattle.meaning.specs.Unification.Peel.{WithinBindings}
 use Rattle.terms.specs.declared.store.Mark.{Mark}
 use Rattle.terms.specs.declared.peel.Sides.{Sides}
 use Rattle.terms.specs.declared.peel.Sides.the-variants as sides
@@ -26,9 +24,8 @@ use Rattle.terms.specs.declared.unify.Round.{Round}
 use Rattle.terms.specs.declared.unify.Round.the-variants as round
 use Rattle.terms.specs.declared.unify.Unified.{Unified}
 use Rattle.terms.specs.declared.unify.Unified.the-variants as unified
-use Rattle.terms.specs.Table.{made, Good, Grown, Refused}
-use Rattle.terms.specs.Collect.{tree}
-use Rattle.terms.specs.Subst.{replacement, Knows, substituted, Ready}
+use Rattle.terms.specs.Table.{made, Good, Grown, Refused, tree}
+use Rattle.terms.specs.Subst.{replacement, Knows, substituted, Replacing}
 use Rattle.terms.specs.Pairs.{waits, Comparable, BindsTo}
 use Rattle.terms.specs.Theta.{bindings, Theta, Zeros}
 use Rattle.terms.specs.Unify.{Solved, Unsolved}
@@ -40,15 +37,11 @@ thetaOf I W m theta = bindings (made I W m) theta 0
 abbrev pub pairsOf : List ℕ → List ℕ → Mark → List ℕ → ℕ → List Pair
 pairsOf I W m P w = waits (made I W m) P w
 
--- the variables that there can be
-abbrev pub Own : ℕ → Type 0
-Own v = v < VARIABLES
-
 -- Both sides of a pair ---------------------------------------------------------------------------------------------------------------
 
 -- two terms, and a memo of results
 pub record Sideable (I W : List ℕ) (m : Mark) (theta memo : List ℕ) (s t : ℕ) : Type 0 where
-  pub left : Ready I W m theta memo s
+  pub left : Replacing I W m theta memo s
   pub there : t < m .terms
   pub inside : t < length memo
 
@@ -118,7 +111,6 @@ pub record Peelable (I W : List ℕ) (m : Mark) (theta memo P seen : List ℕ) (
   pub good : Good I W m
   pub cells : Theta m theta
   pub settled : Settled (thetaOf I W m theta)
-  pub own : WithinBindings Own (thetaOf I W m theta)
   pub memos : TERMS ≤ length memo
   pub knows : (i : ℕ) → 0 < getD memo i 0 → Knows (made I W m) (replacement (made I W m) theta) memo i
   pub wide : TERMS ≤ 64 * length seen
@@ -126,7 +118,6 @@ pub record Peelable (I W : List ℕ) (m : Mark) (theta memo P seen : List ℕ) (
   pub many : length P ≡ 2 * PAIRS
   pub few : w ≤ PAIRS
   pub there : (k : ℕ) → k < 2 * w → getD P k 0 < m .terms
-  pub within : WithinPairs Own (pairsOf I W m P w)
 
 -- so many pairs can be taken before one binds
 abbrev pub weighs : List ℕ → List ℕ → Mark → List ℕ → List ℕ → ℕ → ℕ

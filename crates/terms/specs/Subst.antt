@@ -1,18 +1,19 @@
 -- Substitution in the tables: the replacement that a map stands for, and a memo of results. In both a cell has a term's number with 1
 -- added; 0 leaves the variable, or is not known. Assumes nothing.
 use mathlib.Core.Path.{_≡_}
-use Prim.Native.Nat.{ℕ, zero, suc, _+_, _-_, _≤_, _<_}
-use mathlib.Core.Bool.{Bool, true, false}
-use mathlib.Core.List.{List, [], _∷_, _++_}
+use Prim.Native.Nat.{ℕ, _+_, _-_, _≤_, _<_}
+use mathlib.Core.Bool.{true, false}
+use mathlib.Core.List.{List, [], _∷_}
 use lib.ListN.{length, getD}
 use lib.Dec.{eqb}
+use Rattle.rules.specs.Limits.{NODE}
 use Rattle.rules.specs.Out.{Out}
 use Rattle.rules.specs.Tree.{Tree, var, sub}
-use Rattle.rules.specs.Store.{Made, make, substitute}
+use Rattle.rules.specs.Store.{Made, make}
 use Rattle.terms.specs.declared.store.Mark.{Mark}
 use Rattle.terms.specs.declared.store.Kept.{Kept}
 use Rattle.terms.specs.declared.store.Kept.the-variants.{Term, Full}
-use Rattle.terms.specs.Table.{run, made, Good, Grown, Stored, Refused}
+use Rattle.terms.specs.Table.{run, made, Good, Stored, Refused}
 
 -- the replacement that a map stands for, over the trees made
 unfoldable pub replacement : Made → List ℕ → ℕ → Tree
@@ -37,7 +38,7 @@ rebuilt W memo s e = getD W s 0 ∷ renumbered memo (run W (s + 1) (e - (s + 1))
 
 pub record Rebuildable (W memo : List ℕ) (s e : ℕ) : Type 0 where
   pub some : s < e
-  pub narrow : e ≤ s + 17
+  pub narrow : e ≤ s + NODE
   pub fits : e ≤ length W
   pub known : (k : ℕ) → s < k → k < e → Known memo (getD W k 0)
 
@@ -60,7 +61,7 @@ pub record Replaceable (I W : List ℕ) (m : Mark) (map : List ℕ) (id : ℕ) :
   pub bound : (v : ℕ) → getD map v 0 ≤ m .terms
   pub there : id < m .terms
 
-pub record Ready (I W : List ℕ) (m : Mark) (map memo : List ℕ) (id : ℕ) : Type 0 where
+pub record Replacing (I W : List ℕ) (m : Mark) (map memo : List ℕ) (id : ℕ) : Type 0 where
   pub good : Good I W m
   pub bound : (v : ℕ) → getD map v 0 ≤ m .terms
   pub there : id < m .terms

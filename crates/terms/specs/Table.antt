@@ -1,14 +1,14 @@
 -- How two tables stand for the trees made. `words` has the nodes one after the other: a head, then the arguments' numbers; a head
--- below 256 is a symbol, from 256 on a variable. `index` has four parts: where each term's words end; the next term of its bucket with
+-- below SYMBOLS is a symbol, from there on a variable. `index` has four parts: where each term's words end; the next term of its bucket with
 -- a lower number; whether it has a variable; and for each bucket the term with the highest number. A term stands there with 1 added,
 -- 0 is none. Behind the mark everything is zero, so the trees made determine every cell. Assumes nothing.
 use mathlib.Core.Path.{_≡_}
 use Prim.Native.Nat.{ℕ, zero, suc, _+_, _-_, _*_, _/_, _%_, _≤_, _<_}
 use mathlib.Core.Bool.{Bool, true, false}
 use mathlib.Core.List.{List, [], _∷_, _++_}
-use lib.ListN.{length, getD, take, drop}
+use lib.ListN.{length, getD, take, drop, replicate}
 use lib.Dec.{ltb, eqb}
-use Rattle.rules.specs.Limits.{SYMBOLS, TERMS, WORDS}
+use Rattle.rules.specs.Limits.{SYMBOLS, VARIABLES, TERMS, WORDS, NODE}
 use Rattle.rules.specs.Out.{Out, ok, refuse}
 use Rattle.rules.specs.Tree.{Tree, Trees, var, app, none, more, isOpen}
 use Rattle.rules.specs.Store.{Made, number}
@@ -20,19 +20,19 @@ use Rattle.terms.specs.declared.store.Kept.the-variants.{Term, Full}
 -- Places in the index ----------------------------------------------------------------------------------------------------------
 
 abbrev pub BUCKETS : ℕ
-BUCKETS = 4096
+BUCKETS = TERMS
 
 abbrev pub CHAINS : ℕ
-CHAINS = 4096
+CHAINS = TERMS
 
 abbrev pub FLAGS : ℕ
-FLAGS = 8192
+FLAGS = 2 * TERMS
 
 abbrev pub HEADS : ℕ
-HEADS = 12288
+HEADS = 3 * TERMS
 
 abbrev pub INDEX : ℕ
-INDEX = 16384
+INDEX = 4 * TERMS
 
 -- Nodes ------------------------------------------------------------------------------------------------------------------------
 
@@ -66,14 +66,18 @@ trees I W (suc n) = trees I W n ++ (treeAt (trees I W n) (nodeAt I W n) ∷ [])
 abbrev pub made : List ℕ → List ℕ → Mark → Made
 made I W m = trees I W (m .terms)
 
--- a node: a variable's has no arguments, and a symbol's are all below n
+-- the tree of term i
+abbrev pub tree : List ℕ → List ℕ → Mark → ℕ → Tree
+tree I W m i = getD (made I W m) i (var 0)
+
+-- a node: a variable's has no arguments, and is one that there can be; a symbol's arguments are all below n
 pub data Shaped (n : ℕ) : List ℕ → Type 0 where
-  isVar : {h : ℕ} → SYMBOLS ≤ h → Shaped n (h ∷ [])
+  isVar : {h : ℕ} → SYMBOLS ≤ h → h < SYMBOLS + VARIABLES → Shaped n (h ∷ [])
   isApp : {h : ℕ} {xs : List ℕ} → h < SYMBOLS → ((k : ℕ) → k < length xs → getD xs k 0 < n) → Shaped n (h ∷ xs)
 
 -- a node that can be kept
 pub record Node (n : ℕ) (w : List ℕ) : Type 0 where
-  pub narrow : length w ≤ 17
+  pub narrow : length w ≤ NODE
   pub shaped : Shaped n w
 
 -- Buckets ----------------------------------------------------------------------------------------------------------------------
@@ -81,7 +85,7 @@ pub record Node (n : ℕ) (w : List ℕ) : Type 0 where
 -- the bucket of a node. The multiplier is odd and below 2 ^ 31, so that no product wraps; of such it was chosen by a test on chains,
 -- pairs, variables and constants, for few terms to a bucket
 unfoldable pub hashFrom : ℕ → List ℕ → ℕ
-hashFrom h [] = h / 1048576
+hashFrom h [] = h / (4294967296 / BUCKETS)
 hashFrom h (w ∷ ws) = hashFrom (((h + w) * 2015346805) % 4294967296) ws
 
 abbrev pub hash : List ℕ → ℕ
@@ -108,7 +112,7 @@ pub record Good (I W : List ℕ) (m : Mark) : Type 0 where
   pub ends : m .words ≡ start I (m .terms)
   pub within : m .words ≤ WORDS
   pub rise : (i : ℕ) → i < m .terms → start I i < getD I i 0
-  pub narrow : (i : ℕ) → i < m .terms → getD I i 0 ≤ start I i + 17
+  pub narrow : (i : ℕ) → i < m .terms → getD I i 0 ≤ start I i + NODE
   pub shaped : (i : ℕ) → i < m .terms → Shaped i (nodeAt I W i)
   pub apart : Apart (trees I W (m .terms))
   pub chains : (i : ℕ) → i < m .terms → getD I (CHAINS + i) 0 ≡ latest (bucket I W) (bucket I W i) i
@@ -130,6 +134,7 @@ pub record Same (I W J X : List ℕ) (m : Mark) : Type 0 where
 
 -- the tables went from I W at the mark old to J X at the mark new: more terms, and the old ones as they were
 pub record Grown (I W J X : List ℕ) (old new : Mark) : Type 0 where
+  pub was : Good I W old
   pub good : Good J X new
   pub more : old .terms ≤ new .terms
   pub longer : old .words ≤ new .words
@@ -147,14 +152,24 @@ pub record Refused (A : Type 0) (I W J X : List ℕ) (old : Mark) (K : Out Made 
   pub grown : Grown I W J X old new
   pub makes : K ≡ refuse 60 r (made J X new)
 
-abbrev pub After : List ℕ → List ℕ → List ℕ → List ℕ → Mark → Tree → Out Made Tree → Kept → Type 0
-After I W J X old t K (Term n new) = Stored I W J X old t K n new
-After I W J X old t K (Full r new) = Refused Tree I W J X old K r new
+abbrev pub AfterAs : List ℕ → List ℕ → List ℕ → List ℕ → Mark → Tree → Out Made Tree → Kept → Type 0
+AfterAs I W J X old t K (Term n new) = Stored I W J X old t K n new
+AfterAs I W J X old t K (Full r new) = Refused Tree I W J X old K r new
+
+-- what a call that puts a tree into the store promises of its answer; a record, so that laws find its arguments
+pub record After (I W J X : List ℕ) (old : Mark) (t : Tree) (K : Out Made Tree) (r : Kept) : Type 0 where
+  pub says : AfterAs I W J X old t K r
 
 -- a term's number, or the number of all terms, which no term has
 unfoldable pub numberOf : Kept → ℕ
 numberOf (Term n m) = n
 numberOf (Full r m) = TERMS
+
+-- After a check ------------------------------------------------------------------------------------------------------------------------
+
+-- the index without its look-up part: where each term's words end, and zero behind
+abbrev pub settled : List ℕ → List ℕ
+settled I = take TERMS I ++ replicate (3 * TERMS) 0
 
 -- Back to an old mark ----------------------------------------------------------------------------------------------------------------
 

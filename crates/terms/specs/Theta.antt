@@ -2,7 +2,7 @@
 -- contracts of `extend` and of its loop cite. Assumes nothing.
 use mathlib.Core.Path.{_≡_}
 use Prim.Native.Nat.{ℕ, suc, _-_, _≤_, _<_}
-use mathlib.Core.Bool.{Bool, true, false}
+use mathlib.Core.Bool.{true, false}
 use mathlib.Core.List.{List, [], _∷_}
 use lib.ListN.{length, getD, replicate}
 use lib.Dec.{eqb}
@@ -10,12 +10,11 @@ use Rattle.rules.specs.Limits.{VARIABLES, TERMS}
 use Rattle.rules.specs.Out.{Out, ok, Act, _>>=_, pure}
 use Rattle.rules.specs.Tree.{Tree, var}
 use Rattle.rules.specs.Store.{Made, substitute}
-use Rattle.rules.specs.Unify.{Binding, insert, replace}
+use Rattle.rules.specs.Unify.{Binding, insert}
 use Rattle.terms.specs.declared.store.Mark.{Mark}
 use Rattle.terms.specs.declared.theta.Grew.{Grew}
 use Rattle.terms.specs.declared.theta.Grew.the-variants.{Ok, Full}
-use Rattle.terms.specs.Table.{made, Good, Grown, Refused}
-use Rattle.terms.specs.Collect.{tree}
+use Rattle.terms.specs.Table.{made, Good, Grown, Refused, tree}
 
 -- the bindings that the cells of variable v and the ones behind it stand for
 unfoldable pub bindings : Made → List ℕ → ℕ → List Binding

@@ -1,7 +1,7 @@
 -- What the contract of `unify` cites. Assumes nothing.
 use mathlib.Core.Path.{_≡_}
 use Prim.Native.Nat.{ℕ, _*_, _≤_, _<_}
-use mathlib.Core.Bool.{Bool, true, false}
+use mathlib.Core.Bool.{true}
 use mathlib.Core.Option.{Option, some, none as nothing}
 use mathlib.Core.List.{List}
 use lib.ListN.{length}
@@ -13,14 +13,8 @@ use Rattle.rules.specs.Unify.{Binding}
 use Rattle.terms.specs.declared.store.Mark.{Mark}
 use Rattle.terms.specs.declared.unify.Unified.{Unified}
 use Rattle.terms.specs.declared.unify.Unified.the-variants.{Found, Apart, Full}
-use Rattle.terms.specs.Table.{made, Good, Grown, Refused}
-use Rattle.terms.specs.Collect.{tree}
+use Rattle.terms.specs.Table.{made, Good, Grown, Refused, tree}
 use Rattle.terms.specs.Theta.{bindings, Theta, Zeros}
-
--- a term whose variables are among those that there can be
-pub record Within (I W : List ℕ) (m : Mark) (id : ℕ) : Type 0 where
-  pub there : id < m .terms
-  pub few : (v : ℕ) → variables (tree I W m id) v ≡ true → v < VARIABLES
 
 -- the cells beside the store, all of them zero
 pub record Scratch (theta map memo pairs seen : List ℕ) : Type 0 where
@@ -35,10 +29,14 @@ pub record Scratch (theta map memo pairs seen : List ℕ) : Type 0 where
   pub wide : TERMS ≤ 64 * length seen
   pub no-seen : Zeros seen
 
-pub record Unifiable (I W : List ℕ) (m : Mark) (s t : ℕ) (theta map memo pairs seen : List ℕ) : Type 0 where
+-- two terms whose variables are below the count: so many can be bound, and that is enough for every unifier
+pub record Unifiable (I W : List ℕ) (m : Mark) (count s t : ℕ) (theta map memo pairs seen : List ℕ) : Type 0 where
   pub good : Good I W m
-  pub left : Within I W m s
-  pub right : Within I W m t
+  pub few : count ≤ VARIABLES
+  pub left : s < m .terms
+  pub right : t < m .terms
+  pub lefts : (v : ℕ) → variables (tree I W m s) v ≡ true → v < count
+  pub rights : (v : ℕ) → variables (tree I W m t) v ≡ true → v < count
   pub scratch : Scratch theta map memo pairs seen
 
 -- the bindings found are in the cells
@@ -47,7 +45,7 @@ pub record Solved (I W J X : List ℕ) (old : Mark) (theta : List ℕ) (K : Out 
   pub makes : K ≡ ok (some (bindings (made J X new) theta 0)) (made J X new)
   pub cells : Theta new theta
 
--- there is no unifier
+-- there is no unifier (Laws/Unify.antt)
 pub record Unsolved (I W J X : List ℕ) (old : Mark) (theta : List ℕ) (K : Out Made (Option (List Binding))) (new : Mark) : Type 0 where
   pub grown : Grown I W J X old new
   pub makes : K ≡ ok nothing (made J X new)
@@ -57,3 +55,6 @@ abbrev pub UnifiedAs : List ℕ → List ℕ → List ℕ → List ℕ → Mark 
 UnifiedAs I W J X old theta K (Found new) = Solved I W J X old theta K new
 UnifiedAs I W J X old theta K (Apart new) = Unsolved I W J X old theta K new × (length theta ≡ VARIABLES) × Zeros theta
 UnifiedAs I W J X old theta K (Full r new) = Refused (Option (List Binding)) I W J X old K r new × (length theta ≡ VARIABLES) × Zeros theta
+
+pub record UnifiedBy (I W J X : List ℕ) (old : Mark) (theta : List ℕ) (K : Out Made (Option (List Binding))) (r : Unified) : Type 0 where
+  pub says : UnifiedAs I W J X old theta K r

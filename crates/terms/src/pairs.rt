@@ -3,8 +3,9 @@
 ghost use mathlib.Core.Path.{_≡_};
 ghost use Prim.Native.Nat.{ℕ, _+_, _*_, _≤_, _<_};
 ghost use lib.ListN.{length, replicate};
+ghost use Rattle.rules.specs.Limits.{VARIABLES};
 ghost use Rattle.rules.specs.Unify.{bindOrClash, look};
-ghost use Rattle.terms.specs.Collect.{tree};
+ghost use Rattle.terms.specs.Table.{tree};
 ghost use Rattle.terms.specs.Pairs.{Searchable, Comparable, Answered, piled};
 use crate::store::Mark;
 use crate::store::start_of;
@@ -22,7 +23,7 @@ pub enum Asks {
 
 // The variable `x` is bound to the term `id`, unless it occurs there. `seen` is scratch: zero before and after.
 fn bind(index: &[u32], words: &[u32], mark: Mark, x: usize, id: usize, seen: &mut [u64]) -> Asks
-    requires { ⌜ Searchable (now index) (now words) mark (now seen) id × (x < 512) ⌝ }
+    requires { ⌜ Searchable (now index) (now words) mark (now seen) id × (x < VARIABLES) ⌝ }
     ensures { λ r. ⌜ Answered (now (index .entry)) (now (words .entry)) mark (bindOrClash x (tree (now (index .entry)) (now (words .entry)) mark id)) r ⌝ }
     ensures { λ _. ⌜ now (seen .exit) ≡ now (seen .entry) ⌝ }
 {

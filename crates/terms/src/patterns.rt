@@ -4,11 +4,14 @@ ghost use mathlib.Core.Path.{_≡_};
 ghost use Prim.Native.Nat.{ℕ, _+_, _*_, _≤_, _<_};
 ghost use lib.ListN.{length};
 ghost use Rattle.rules.specs.Limits.{SYMBOLS};
-ghost use Rattle.terms.specs.Patterns.{arity, Skippable, Skipped, argsAt, Matchable, AllMatchable, TriedAt, TriedAll, MatchedAt, MatchedAll, Buildable, BuiltAt};
+ghost use Rattle.terms.specs.Patterns.{arity, Skippable, Skipped, argsByTable, Matchable, AllMatchable, TriedAt, TriedAll, MatchedAt, MatchedAll, Buildable, BuiltAt};
 use crate::store::Kept;
 use crate::store::Mark;
 use crate::store::keep;
 use crate::store::start_of;
+use cells::write;
+use rules::NODE;
+use rules::RULEVARS;
 use rules::SYMBOLS;
 
 // A term's number, the place behind the pattern's words and the mark; or the question that refuses, its detail and the mark of the moment.
@@ -28,7 +31,7 @@ fn arity_of(symbols: &[u32], symbol: usize) -> usize
 // How many arguments stand behind a word: a symbol's, or none behind a variable.
 fn args_of(symbols: &[u32], head: usize) -> usize
     requires { ⌜ length (now symbols) ≡ 4 * SYMBOLS ⌝ }
-    ensures { λ r. ⌜ r ≡ argsAt (now (symbols .entry)) head ⌝ }
+    ensures { λ r. ⌜ r ≡ argsByTable (now (symbols .entry)) head ⌝ }
 {
     if head < SYMBOLS {
         return arity_of(symbols, head);
@@ -142,18 +145,6 @@ fn match_terms(
     true
 }
 
-// The cells become those of the other.
-fn copy(to: &mut [u32], from: &[u32])
-    requires { ⌜ length (now to) ≡ length (now from) ⌝ }
-    ensures { λ _. ⌜ now (to .exit) ≡ now (from .entry) ⌝ }
-{
-    let mut i = 0;
-    while i < from.len() {
-        to[i] = from[i];
-        i += 1;
-    }
-}
-
 // The pattern at `at` against the term `id`: the place behind the pattern's words, or 0 and the cells as they were.
 pub fn matches(
     symbols: &[u32],
@@ -168,11 +159,11 @@ pub fn matches(
     requires { ⌜ Matchable (now symbols) (now patterns) (now index) (now words) mark (now bound) at id ⌝ }
     ensures { λ r. ⌜ MatchedAt (now (symbols .entry)) (now (patterns .entry)) (now (index .entry)) (now (words .entry)) mark (now (bound .entry)) (now (bound .exit)) at id r ⌝ }
 {
-    let mut old = [0u32; 16];
-    copy(&mut old, bound);
+    let mut old = [0u32; RULEVARS];
+    write(&mut old, bound);
     let place = match_term(symbols, patterns, index, words, mark, bound, at, id);
     if place == 0 {
-        copy(bound, &old);
+        write(bound, &old);
         return 0;
     }
     place
@@ -192,12 +183,12 @@ pub fn match_all(
     requires { ⌜ AllMatchable (now symbols) (now patterns) (now index) (now words) mark (now bound) at (now ids) ⌝ }
     ensures { λ r. ⌜ MatchedAll (now (symbols .entry)) (now (patterns .entry)) (now (index .entry)) (now (words .entry)) mark (now (bound .entry)) (now (bound .exit)) at (now (ids .entry)) r ⌝ }
 {
-    let mut old = [0u32; 16];
-    copy(&mut old, bound);
+    let mut old = [0u32; RULEVARS];
+    write(&mut old, bound);
     if match_terms(symbols, patterns, index, words, mark, bound, at, ids) {
         return true;
     }
-    copy(bound, &old);
+    write(bound, &old);
     false
 }
 
@@ -224,7 +215,7 @@ pub fn build(
         return Built::Term(cell - 1, at + 1, mark);
     }
     let count = arity_of(symbols, head);
-    let mut node = [0u32; 17];
+    let mut node = [0u32; NODE];
     node[0] = head as u32;
     let mut m = mark;
     let mut place = at + 1;

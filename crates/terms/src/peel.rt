@@ -3,7 +3,7 @@
 ghost use mathlib.Core.Path.{_≡_};
 ghost use Prim.Native.Nat.{ℕ, suc, _<_};
 ghost use Rattle.rules.specs.Unify.{look};
-ghost use Rattle.terms.specs.Collect.{tree};
+ghost use Rattle.terms.specs.Table.{tree};
 ghost use Rattle.terms.specs.Peel.{Sideable, Sided, Lookable, Looked, Peelable, weighs, peels, Turned, PeeledAs};
 use crate::pairs::Asks;
 use crate::pairs::compare;

@@ -4,14 +4,16 @@ ghost use mathlib.Core.Path.{_≡_};
 ghost use mathlib.Core.List.{_++_};
 ghost use Prim.Native.Nat.{ℕ, _+_, _-_, _≤_, _<_};
 ghost use lib.ListN.{length, drop};
+ghost use Rattle.rules.specs.Limits.{NODE};
 ghost use Rattle.rules.specs.Store.{keep as keepTree};
 ghost use Rattle.terms.specs.Table.{treeAt, made, Good, Shaped, After};
-ghost use Rattle.terms.specs.Subst.{image, rebuilt, Rebuildable, Ready, Substituted};
+ghost use Rattle.terms.specs.Subst.{image, rebuilt, Rebuildable, Replacing, Substituted};
 use crate::store::FLAGS;
 use crate::store::Kept;
 use crate::store::Mark;
 use crate::store::keep;
 use crate::store::start_of;
+use rules::NODE;
 use rules::SYMBOLS;
 
 // The number that the map gives the variable `v`, or `id` where it leaves the variable.
@@ -28,7 +30,7 @@ fn image_of(map: &[u32], v: usize, id: usize) -> usize
 // The node that stands from `start` to `end`, with its arguments as the memo has them.
 fn gather(words: &[u32], memo: &[u32], start: usize, end: usize, node: &mut [u32])
     requires { ⌜ Rebuildable (now words) (now memo) start end ⌝ }
-    requires { ⌜ 17 ≤ length (now node) ⌝ }
+    requires { ⌜ NODE ≤ length (now node) ⌝ }
     ensures { λ _. ⌜ now (node .exit) ≡ rebuilt (now (words .entry)) (now (memo .entry)) start end ++ drop (end - start) (now (node .entry)) ⌝ }
 {
     node[0] = words[start];
@@ -53,7 +55,7 @@ fn rebuild(
     requires { ⌜ Shaped (mark .terms) (rebuilt (now words) (now memo) start end) ⌝ }
     ensures { λ r. ⌜ After (now (index .entry)) (now (words .entry)) (now (index .exit)) (now (words .exit)) mark (treeAt (made (now (index .entry)) (now (words .entry)) mark) (rebuilt (now (words .entry)) (now (memo .entry)) start end)) (keepTree (treeAt (made (now (index .entry)) (now (words .entry)) mark) (rebuilt (now (words .entry)) (now (memo .entry)) start end)) (made (now (index .entry)) (now (words .entry)) mark)) r ⌝ }
 {
-    let mut node = [0u32; 17];
+    let mut node = [0u32; NODE];
     let len = end - start;
     gather(words, memo, start, end, &mut node);
     keep(index, words, mark, &node[..len])
@@ -68,7 +70,7 @@ pub fn replace(
     memo: &mut [u32],
     id: usize,
 ) -> Kept
-    requires { ⌜ Ready (now index) (now words) mark (now map) (now memo) id ⌝ }
+    requires { ⌜ Replacing (now index) (now words) mark (now map) (now memo) id ⌝ }
     ensures { λ r. ⌜ Substituted (now (index .entry)) (now (words .entry)) (now (index .exit)) (now (words .exit)) mark (now (map .entry)) (now (memo .entry)) (now (memo .exit)) id r ⌝ }
 {
     let known = memo[id] as usize;

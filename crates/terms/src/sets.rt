@@ -1,10 +1,11 @@
-// Sets of numbers as words of 64 bits: eight words for variables, sixteen for facts, four for rules, sixty-four for terms. A contract
-// speaks of the set (`holds`), never of a bit.
+// Sets of numbers as words of 64 bits: VARIABLEWORDS of them for variables, FACTWORDS for facts, RULEWORDS for rules, TERMWORDS for
+// terms, which are the most. A contract speaks of the set (`holds`), never of a bit. A set is emptied by `cells::clear_words`.
 ghost use mathlib.Core.Path.{_≡_};
 ghost use Prim.Native.Nat.{ℕ, _+_, _*_, _≤_, _<_};
 ghost use lib.Dec.{eqb};
-ghost use lib.ListN.{length, replicate};
+ghost use lib.ListN.{length};
 ghost use lib.Seq.{sets};
+ghost use Rattle.rules.specs.Limits.{TERMS, TERMWORDS};
 ghost use Rattle.rules.specs.Find.{union, minus, least, rising, risingFrom};
 ghost use Rattle.terms.specs.Sets.{digit, holds, plus, shifted};
 
@@ -38,9 +39,21 @@ pub fn union_into(set: &mut [u64], other: &[u64])
     }
 }
 
+// The members of the other leave the set.
+pub fn minus_from(set: &mut [u64], other: &[u64])
+    requires { ⌜ length (now set) ≡ length (now other) ⌝ }
+    ensures { λ _. ⌜ holds (now (set .exit)) ≡ minus (holds (now (set .entry))) (holds (now (other .entry))) ⌝ }
+{
+    let mut i = 0;
+    while i < set.len() {
+        set[i] = set[i] & !other[i];
+        i += 1;
+    }
+}
+
 // The lowest of a that is not in b, counted from 1; 0 where all of a is in b.
 pub fn lowest_outside(a: &[u64], b: &[u64]) -> usize
-    requires { ⌜ (length (now a) ≡ length (now b)) × (length (now a) ≤ 1024) ⌝ }
+    requires { ⌜ (length (now a) ≡ length (now b)) × (length (now a) ≤ TERMWORDS) ⌝ }
     ensures { λ r. ⌜ r ≡ least (64 * length (now (a .entry))) (minus (holds (now (a .entry))) (holds (now (b .entry)))) ⌝ }
 {
     let mut i = 0;
@@ -56,7 +69,7 @@ pub fn lowest_outside(a: &[u64], b: &[u64]) -> usize
 
 // Whether all of a is in b.
 pub fn subset(a: &[u64], b: &[u64]) -> bool
-    requires { ⌜ (length (now a) ≡ length (now b)) × (length (now a) ≤ 1024) ⌝ }
+    requires { ⌜ (length (now a) ≡ length (now b)) × (length (now a) ≤ TERMWORDS) ⌝ }
     ensures { λ r. ⌜ r ≡ eqb (least (64 * length (now (a .entry))) (minus (holds (now (a .entry))) (holds (now (b .entry))))) 0 ⌝ }
 {
     lowest_outside(a, b) == 0
@@ -71,7 +84,7 @@ fn ones_of(w: u64) -> usize
 
 // How many members the set has.
 pub fn count(set: &[u64]) -> usize
-    requires { ⌜ length (now set) ≤ 1024 ⌝ }
+    requires { ⌜ length (now set) ≤ TERMWORDS ⌝ }
     ensures { λ r. ⌜ r ≡ length (rising (64 * length (now (set .entry))) (holds (now (set .entry)))) ⌝ }
 {
     let mut n = 0;
@@ -83,20 +96,9 @@ pub fn count(set: &[u64]) -> usize
     n
 }
 
-// The set is emptied.
-pub fn clear(set: &mut [u64])
-    ensures { λ _. ⌜ now (set .exit) ≡ replicate (length (now (set .entry))) 0 ⌝ }
-{
-    let mut i = 0;
-    while i < set.len() {
-        set[i] = 0;
-        i += 1;
-    }
-}
-
 // The members of a word that stands from `base` on are written by rising number from cell `n` on; what comes back is where they end.
 fn write_word(word: u64, base: usize, out: &mut [u32], n: usize) -> usize
-    requires { ⌜ (base ≤ 65472) × (n + length (risingFrom base 64 (shifted base word)) ≤ length (now out)) ⌝ }
+    requires { ⌜ (base + 64 ≤ TERMS) × (n + length (risingFrom base 64 (shifted base word)) ≤ length (now out)) ⌝ }
     ensures { λ r. ⌜ (r ≡ n + length (risingFrom base 64 (shifted base word))) × (now (out .exit) ≡ sets (now (out .entry)) n (risingFrom base 64 (shifted base word))) ⌝ }
 {
     let mut left = word;
@@ -115,7 +117,7 @@ fn write_word(word: u64, base: usize, out: &mut [u32], n: usize) -> usize
 
 // The members are written out by rising number from the first cell on; what comes back is how many they are.
 pub fn write_out(set: &[u64], out: &mut [u32]) -> usize
-    requires { ⌜ length (now set) ≤ 1024 ⌝ }
+    requires { ⌜ length (now set) ≤ TERMWORDS ⌝ }
     requires { ⌜ length (rising (64 * length (now set)) (holds (now set))) ≤ length (now out) ⌝ }
     ensures { λ r. ⌜ (r ≡ length (rising (64 * length (now (set .entry))) (holds (now (set .entry))))) × (now (out .exit) ≡ sets (now (out .entry)) 0 (rising (64 * length (now (set .entry))) (holds (now (set .entry))))) ⌝ }
 {

@@ -1,5 +1,5 @@
 // The store: the distinct terms made so far, numbered in the order made, in two tables (specs/Table.antt says how they stand for trees).
-// A node is gathered by the caller, looked up by its bucket, and only a new one is written, into the unused tail of the words.
+// A node is gathered by the caller, looked up by its bucket, and only a new one is written: the unused tail of the words is lent to the writer.
 ghost use mathlib.Core.Path.{_≡_};
 ghost use mathlib.Core.List.{_++_};
 ghost use Prim.Native.Nat.{ℕ, _+_, _-_, _≤_, _<_};
@@ -7,17 +7,22 @@ ghost use lib.ListN.{length, getD, drop, replicate};
 ghost use Rattle.rules.specs.Limits.{TERMS, WORDS};
 ghost use Rattle.rules.specs.Tree.{isOpen};
 ghost use Rattle.rules.specs.Store.{keep};
-ghost use Rattle.terms.specs.Table.{INDEX, BUCKETS, run, start, treeAt, made, hash, flag, Shaped, Node, Good, After, Part, Back, lower};
-ghost use Rattle.terms.specs.Node.{sameWords, seek, Linked, Unlinked};
+ghost use Rattle.terms.specs.Table.{INDEX, BUCKETS, run, start, treeAt, made, hash, flag, Shaped, Node, Good, After, settled, Part, Back, lower};
+ghost use Rattle.terms.specs.Node.{sameWords, seek, Linked, Unlinked, Held, HeldIn, HeadIs, OpenIs};
+use cells::clear;
+use cells::write;
 use rules::SYMBOLS;
 use rules::TERMS;
 
 // The four parts of the index: ends, chains, flags, heads.
-const CHAINS: usize = 4096;
+const CHAINS: usize = TERMS;
 
-pub const FLAGS: usize = 8192;
+pub const FLAGS: usize = 2 * TERMS;
 
-const HEADS: usize = 12288;
+const HEADS: usize = 3 * TERMS;
+
+// As many buckets as terms, each for so many values of the hash.
+const SPREAD: usize = 4294967296 / TERMS;
 
 // What is used of the tables.
 pub struct Mark {
@@ -41,7 +46,7 @@ fn bucket_of(node: &[u32]) -> usize
         h = ((h + node[i] as usize) * 2015346805) % 4294967296;
         i += 1;
     }
-    h / 1048576
+    h / SPREAD
 }
 
 // Where the words of the term `id` start.
@@ -50,6 +55,23 @@ pub fn start_of(index: &[u32], id: usize) -> usize
     ensures { λ r. ⌜ r ≡ start (now (index .entry)) id ⌝ }
 {
     if id == 0 { 0 } else { index[id - 1] as usize }
+}
+
+// The head of the term `id`: a symbol, or SYMBOLS and a variable's number.
+pub fn head(index: &[u32], words: &[u32], id: usize) -> usize
+    requires { ⌜ Held (now index) (now words) id ⌝ }
+    ensures { λ r. ⌜ HeadIs (now (index .entry)) (now (words .entry)) id r ⌝ }
+{
+    let start = start_of(index, id);
+    words[start] as usize
+}
+
+// Whether the term `id` has a variable.
+pub fn is_open(index: &[u32], id: usize) -> bool
+    requires { ⌜ HeldIn (now index) id ⌝ }
+    ensures { λ r. ⌜ OpenIs (now (index .entry)) id r ⌝ }
+{
+    index[FLAGS + id] != 0
 }
 
 // Whether the words from `start` to `end` are those of the node.
@@ -119,18 +141,6 @@ fn link(index: &mut [u32], n: usize, bucket: usize, end: usize, flag: usize)
     index[n] = end as u32;
 }
 
-// The writer of a node, into the unused tail of the words.
-fn write_node(tail: &mut [u32], node: &[u32])
-    requires { ⌜ length (now node) ≤ length (now tail) ⌝ }
-    ensures { λ _. ⌜ now (tail .exit) ≡ now (node .entry) ++ drop (length (now (node .entry))) (now (tail .entry)) ⌝ }
-{
-    let mut i = 0;
-    while i < node.len() {
-        tail[i] = node[i];
-        i += 1;
-    }
-}
-
 // The node comes into the store: a term that is there already, or a new one; rows 8 and 9 of question 60 where it does not fit.
 // The mark and the slice are taken apart once, and handed on only in copies, so that the compiler passes their words in registers.
 pub fn keep(index: &mut [u32], words: &mut [u32], mark: Mark, node: &[u32]) -> Kept
@@ -144,22 +154,22 @@ pub fn keep(index: &mut [u32], words: &mut [u32], mark: Mark, node: &[u32]) -> K
         terms: terms,
         words: used,
     };
-    let cells = &node[..];
-    let bucket = bucket_of(cells);
-    let found = find(index, words, old, cells, bucket);
+    let own = &node[..];
+    let bucket = bucket_of(own);
+    let found = find(index, words, old, own, bucket);
     if found != 0 {
         return Kept::Term(found - 1, old);
     }
     if TERMS <= terms {
         return Kept::Full(8, old);
     }
-    let end = used + cells.len();
+    let end = used + own.len();
     if words.len() < end {
         return Kept::Full(9, old);
     }
-    let flag = flag_of(index, words, old, cells);
+    let flag = flag_of(index, words, old, own);
     link(index, terms, bucket, end, flag);
-    write_node(&mut words[used..], cells);
+    write(&mut words[used..], own);
     Kept::Term(
         terms,
         Mark {
@@ -180,17 +190,6 @@ fn unlink(index: &mut [u32], n: usize, bucket: usize)
     index[n] = 0;
 }
 
-// Every cell becomes 0.
-pub fn wipe(cells: &mut [u32])
-    ensures { λ _. ⌜ now (cells .exit) ≡ replicate (length (now (cells .entry))) 0 ⌝ }
-{
-    let mut i = 0;
-    while i < cells.len() {
-        cells[i] = 0;
-        i += 1;
-    }
-}
-
 // The last term is taken away; what comes back is where its words started.
 fn drop_last(index: &mut [u32], words: &mut [u32], mark: Mark) -> usize
     requires { ⌜ Good (now index) (now words) mark × (0 < mark .terms) ⌝ }
@@ -201,7 +200,7 @@ fn drop_last(index: &mut [u32], words: &mut [u32], mark: Mark) -> usize
     let end = index[n] as usize;
     let bucket = bucket_of(&words[start..end]);
     unlink(index, n, bucket);
-    wipe(&mut words[start..end]);
+    clear(&mut words[start..end]);
     start
 }
 
@@ -224,4 +223,12 @@ pub fn forget(index: &mut [u32], words: &mut [u32], mark: Mark, old: Mark)
         );
         terms -= 1;
     }
+}
+
+// The look-up part of the index becomes zero. So it is left after a check: where each term's words end, and nothing behind.
+pub fn settle(index: &mut [u32])
+    requires { ⌜ length (now index) ≡ INDEX ⌝ }
+    ensures { λ _. ⌜ now (index .exit) ≡ settled (now (index .entry)) ⌝ }
+{
+    clear(&mut index[CHAINS..]);
 }

@@ -2,14 +2,13 @@
 ghost use mathlib.Core.Path.{_≡_};
 ghost use Prim.Native.Nat.{ℕ};
 ghost use Rattle.rules.specs.Unify.{replace};
-ghost use Rattle.terms.specs.Table.{made};
-ghost use Rattle.terms.specs.Collect.{tree};
+ghost use Rattle.terms.specs.Table.{made, tree};
 ghost use Rattle.terms.specs.Subst.{replacement};
 ghost use Rattle.terms.specs.Theta.{bindings, inValues, Changeable, ChangedAs, Extendable, Extended};
 use crate::replace::replace;
 use crate::store::Kept;
 use crate::store::Mark;
-use crate::store::wipe;
+use cells::clear;
 
 // What is used of the store now, or the row of question 60 that has no room, with the mark of the moment.
 pub enum Grew {
@@ -73,7 +72,7 @@ pub fn extend(
     map[x] = (u + 1) as u32;
     let r = replace_values(index, words, mark, theta, map, &mut memo[..terms]);
     map[x] = 0;
-    wipe(&mut memo[..terms]);
+    clear(&mut memo[..terms]);
     match r {
         Grew::Ok(m) => {
             theta[x] = (u + 1) as u32;

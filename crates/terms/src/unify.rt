@@ -3,16 +3,15 @@ ghost use mathlib.Core.Path.{_≡_};
 ghost use Prim.Native.Nat.{ℕ, suc};
 ghost use lib.ListN.{length, replicate};
 ghost use Rattle.rules.specs.Unify.{unify};
-ghost use Rattle.terms.specs.Table.{made};
-ghost use Rattle.terms.specs.Collect.{tree};
-ghost use Rattle.terms.specs.Unify.{Unifiable, UnifiedAs};
+ghost use Rattle.terms.specs.Table.{made, tree};
+ghost use Rattle.terms.specs.Unify.{Unifiable, UnifiedBy};
 ghost use Rattle.terms.specs.Peel.{Results, Solvable, Rounded, solves, SolvedAs};
 use crate::peel::Peeled;
 use crate::peel::peel;
 use crate::store::Mark;
-use crate::store::wipe;
 use crate::theta::Grew;
 use crate::theta::extend;
+use cells::clear;
 
 // Bindings are found; no unifier exists; or the row of question 60 that has no room. What is used of the store then.
 pub enum Unified {
@@ -30,12 +29,12 @@ pub enum Round {
 }
 
 // A memo of results becomes zero: only terms that are there have one.
-fn clear(memo: &mut [u32], mark: Mark)
+fn clear_memo(memo: &mut [u32], mark: Mark)
     requires { ⌜ Results (now memo) mark ⌝ }
     ensures { λ _. ⌜ now (memo .exit) ≡ replicate (length (now (memo .entry))) 0 ⌝ }
 {
     let terms = mark.terms;
-    wipe(&mut memo[..terms]);
+    clear(&mut memo[..terms]);
 }
 
 // Pairs are taken until one binds a variable, and that comes into the bindings. `map`, `memo` and `seen` are scratch: zero before and after.
@@ -56,19 +55,19 @@ fn bind_next(
 {
     match peel(index, words, mark, theta, memo, pairs, seen, waiting) {
         Peeled::Finished(last) => {
-            clear(memo, last);
+            clear_memo(memo, last);
             Round::Found(last)
         }
         Peeled::Clash(last) => {
-            clear(memo, last);
+            clear_memo(memo, last);
             Round::Apart(last)
         }
         Peeled::Full(row, last) => {
-            wipe(memo);
+            clear(memo);
             Round::Full(row, last)
         }
         Peeled::Binds(x, u, left, next) => {
-            clear(memo, next);
+            clear_memo(memo, next);
             match extend(index, words, next, theta, map, memo, x, u) {
                 Grew::Ok(new) => Round::More(left, new),
                 Grew::Full(row, last) => Round::Full(row, last),
@@ -122,7 +121,7 @@ fn solve(
     }
 }
 
-// Two terms whose variables are below `count`. The bindings found are in `theta`; it is zero before, and where none are found. `map`,
+// Two terms whose variables are below `count`, so that `Apart` says that no unifier exists. The bindings found are in `theta`; it is zero before, and where none are found. `map`,
 // `memo`, `pairs` and `seen` are scratch: zero before and after.
 pub fn unify(
     index: &mut [u32],
@@ -137,23 +136,23 @@ pub fn unify(
     pairs: &mut [u32],
     seen: &mut [u64],
 ) -> Unified
-    requires { ⌜ Unifiable (now index) (now words) mark s t (now theta) (now map) (now memo) (now pairs) (now seen) ⌝ }
-    ensures { λ r. ⌜ UnifiedAs (now (index .entry)) (now (words .entry)) (now (index .exit)) (now (words .exit)) mark (now (theta .exit))
+    requires { ⌜ Unifiable (now index) (now words) mark count s t (now theta) (now map) (now memo) (now pairs) (now seen) ⌝ }
+    ensures { λ r. ⌜ UnifiedBy (now (index .entry)) (now (words .entry)) (now (index .exit)) (now (words .exit)) mark (now (theta .exit))
         (unify count (tree (now (index .entry)) (now (words .entry)) mark s) (tree (now (index .entry)) (now (words .entry)) mark t) (made (now (index .entry)) (now (words .entry)) mark)) r ⌝ }
     ensures { λ _. ⌜ (now (map .exit) ≡ now (map .entry)) × (now (memo .exit) ≡ now (memo .entry)) × (now (pairs .exit) ≡ now (pairs .entry)) × (now (seen .exit) ≡ now (seen .entry)) ⌝ }
 {
     pairs[0] = s as u32;
     pairs[1] = t as u32;
     let r = solve(index, words, mark, count, theta, map, memo, pairs, seen, 1);
-    wipe(pairs);
+    clear(pairs);
     match r {
         Unified::Found(last) => Unified::Found(last),
         Unified::Apart(last) => {
-            wipe(theta);
+            clear(theta);
             Unified::Apart(last)
         }
         Unified::Full(row, last) => {
-            wipe(theta);
+            clear(theta);
             Unified::Full(row, last)
         }
     }

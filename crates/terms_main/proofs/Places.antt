@@ -1,79 +1,35 @@
 -- Terms that are read into the store: what is there of them, and that it stays. Assumes nothing.
-use mathlib.Core.Path.{_≡_, refl, sym, ap, _∙_, subst}
-use mathlib.Core.Bool.{Bool, true, false, false≢true}
+use mathlib.Core.Path.{_≡_, refl, subst}
 use mathlib.Core.List.{List, [], _∷_}
-use Prim.Native.Nat.{ℕ, zero, suc, _+_, _-_, _≤_, _<_}
+use Prim.Native.Nat.{ℕ, zero, suc, _+_, _≤_, _<_}
 use native.Mathlib.Omega.{arith}
 use native.Mathlib.Decide.{decLt}
 use native.Mathlib.Nat.{not-suc-le-zero}
 use lib.ListN.{length, getD}
-use borrow.Author.Tests.{eqb-true}
 use Rattle.rules.specs.Limits.{SYMBOLS, VARIABLES}
 use Rattle.rules.specs.Out.{Out}
-use Rattle.rules.specs.Tree.{Tree, var, more, variables}
+use Rattle.rules.specs.Tree.{Tree}
 use Rattle.rules.specs.Store.{Made}
-use Rattle.rules.specs.Laws.Store.{number-is}
-use Rattle.rules.specs.Laws.Tree.{variables-var}
 use Rattle.terms.specs.declared.store.Mark.{Mark}
-use Rattle.terms.specs.declared.store.Kept.{Kept}
-use Rattle.terms.specs.declared.store.Kept.the-variants.{Term as Number, Full as NoRoom}
-use Rattle.terms.specs.Table.{start, argsOf, treeAt, made, isVar, isApp, Node, Good, Grown, Stored, After}
-use Rattle.terms.specs.Collect.{tree}
-use Rattle.terms.specs.Unify.{Within}
-use Rattle.terms.proofs.Tables.{length-trees, tree-app, tree-var}
-use Rattle.terms.proofs.Sames.{getD-grown, grown-then}
-use Rattle.terms.proofs.Terms.{node-inside, args-below}
-use Rattle.terms_main.specs.Parts.{There, ReadAs}
 use Rattle.terms_main.specs.declared.Placed.{Placed}
 use Rattle.terms_main.specs.declared.Placed.the-variants.{Term, Full}
+use Rattle.terms.specs.Table.{start, isVar, isApp, Node, Good, Grown, Stored}
+use Rattle.terms_main.specs.Parts.{There, ReadAs, ReadBy}
+use Rattle.terms.specs.Unify.{Scratch, Unifiable}
+use Rattle.terms.specs.Laws.Growth.{grown-trans}
+use Rattle.terms.specs.Laws.Terms.{node-inside, args-below, variables-few}
 
--- the variables are among those that there can be
-abbrev pub Few : Tree → Type 0
-Few t = (v : ℕ) → variables t v ≡ true → v < VARIABLES
-
--- what is there stays
-pub within-grown : (I W J X : List ℕ) (m n : Mark) (id : ℕ) → Good I W m → Grown I W J X m n → Within I W m id → Within J X n id
-within-grown I W J X m n id g r w =
-    record {
-      there = omega (arith, w .there, r .more);
-      few = λ v e. w .few v (ap (λ (t : Tree). variables t v) (sym (getD-grown I W J X m g (r .same) (n .terms) id (r .more) (w .there))) ∙ e);
-    }
-
--- Answers of the store ---------------------------------------------------------------------------------------------------------
-
-module _ (I W J X : List ℕ) (m : Mark) (t : Tree) (K : Out Made Tree) (k : Kept) (a : After I W J X m t K k) where
-  pub stored : (n : ℕ) (new : Mark) → k ≡ Number n new → Stored I W J X m t K n new
-  stored n new e = subst (λ (l : Kept). After I W J X m t K l) e a
-
-  pub kept : (n : ℕ) (new : Mark) → k ≡ Number n new → Few t → There I W J X m n new
-  kept n new e f =
-      let s = stored n new e in
-      let l = length-trees J X (new .terms) in
-      let h : tree J X new n ≡ t = ap (λ (i : ℕ). getD (made J X new) i (var 0)) (s .numbered) ∙ number-is (made J X new) t (omega (arith, s .there, s .numbered, l)) in
-      record { grown = s .grown; within = record { there = s .there; few = λ v q. f v (ap (λ (u : Tree). variables u v) (sym h) ∙ q) } }
-
-  pub unkept : (r : ℕ) (new : Mark) → k ≡ NoRoom r new → Grown I W J X m new
-  unkept r new e = let f : After I W J X m t K (NoRoom r new) = subst (λ (l : Kept). After I W J X m t K l) e a in f .grown
+pub stored-there : {I W J X : List ℕ} {m new : Mark} {t : Tree} {K : Out Made Tree} {n : ℕ} → Stored I W J X m t K n new → There I W J X m n new
+stored-there s = record { grown = s .grown; there = s .there }
 
 -- Nodes ------------------------------------------------------------------------------------------------------------------------
 
-pub leaf-node : (n h : ℕ) → Node n (h ∷ [])
-leaf-node n h =
+pub leaf-node : (n h : ℕ) → h < SYMBOLS + 10 → Node n (h ∷ [])
+leaf-node n h b =
     record {
       narrow = omega arith;
-      shaped = elim (decLt h SYMBOLS) [ yes p ↦ isApp {xs = []} p (λ k l. absurd (not-suc-le-zero l)) | no q ↦ isVar {h = h} (omega arith) ];
+      shaped = elim (decLt h SYMBOLS) [ yes p ↦ isApp {xs = []} p (λ k l. absurd (not-suc-le-zero l)) | no q ↦ isVar {h = h} (omega arith) (omega arith) ];
     }
-
-pub leaf-few : (M : Made) (h : ℕ) → h < SYMBOLS + 10 → Few (treeAt M (h ∷ []))
-unfolding argsOf variables
-leaf-few M h b v e =
-    elim (decLt h SYMBOLS) [
-      | yes p ↦ absurd (false≢true (sym (ap (λ (t : Tree). variables t v) (tree-app M h [] p)) ∙ e))
-      | no q ↦
-          let z : v ≡ h - SYMBOLS =
-          eqb-true v (h - SYMBOLS) (sym (variables-var (h - SYMBOLS) v) ∙ sym (ap (λ (t : Tree). variables t v) (tree-var M h [] (omega arith))) ∙ e) in
-          omega arith
-    ]
 
 module _ (n h a b : ℕ) (p : h < SYMBOLS) (l : a < n) (r : b < n) where
   pub pair-node : Node n (h ∷ a ∷ b ∷ [])
@@ -84,38 +40,45 @@ module _ (n h a b : ℕ) (p : h < SYMBOLS) (l : a < n) (r : b < n) where
       args (suc zero) q = r
       args (suc (suc k)) q = absurd (omega arith)
 
-pub pair-few : (M : Made) (h a b : ℕ) → h < SYMBOLS → Few (getD M a (var 0)) → Few (getD M b (var 0)) → Few (treeAt M (h ∷ a ∷ b ∷ []))
-unfolding argsOf variables
-pair-few M h a b p f g v e =
-    go (variables (getD M a (var 0)) v) (variables (getD M b (var 0)) v) refl refl (sym (ap (λ (t : Tree). variables t v) (tree-app M h (a ∷ b ∷ []) p)) ∙ e)
-  where
-    go : (x y : Bool) → variables (getD M a (var 0)) v ≡ x → variables (getD M b (var 0)) v ≡ y
-        → elim (variables (getD M a (var 0)) v) [ true ↦ true | false ↦ elim (variables (getD M b (var 0)) v) [ true ↦ true | false ↦ false ] ] ≡ true
-        → v < VARIABLES
-    go true y i j q = f v i
-    go false true i j q = g v j
-    go false false i j q = absurd (false≢true (sym (rw (i, j) refl) ∙ q))
-
 -- Reading ----------------------------------------------------------------------------------------------------------------------
 
-module _ (I W J X : List ℕ) (m : Mark) (at : ℕ) (r : Placed) (h : ReadAs I W J X m at r) where
-  pub as-term : (id next : ℕ) (new : Mark) → r ≡ Term id next new → There I W J X m id new × (at ≤ next)
-  as-term id next new e = subst (λ (q : Placed). ReadAs I W J X m at q) e h
+module _ {I W J X : List ℕ} {m : Mark} {at : ℕ} {r : Placed} (h : ReadBy I W J X m at r) where
+  pub as-term : {id next : ℕ} {new : Mark} → r ≡ Term id next new → There I W J X m id new × (at ≤ next)
+  as-term e = subst (λ (q : Placed). ReadAs I W J X m at q) e (h .says)
 
-  pub as-full : (new : Mark) → r ≡ Full new → Grown I W J X m new
-  as-full new e = subst (λ (q : Placed). ReadAs I W J X m at q) e h
+  pub as-full : {new : Mark} → r ≡ Full new → Grown I W J X m new
+  as-full e = subst (λ (q : Placed). ReadAs I W J X m at q) e (h .says)
 
-pub sooner : (I W J X : List ℕ) (m : Mark) (at : ℕ) (r : Placed) → ReadAs I W J X m (at + 1) r → ReadAs I W J X m at r
-sooner I W J X m at (Term id next new) h = (h .0, omega (arith, h .1))
-sooner I W J X m at (Full new) h = h
+pub sooner : (I W J X : List ℕ) (m : Mark) (at : ℕ) (r : Placed) → ReadBy I W J X m (at + 1) r → ReadBy I W J X m at r
+sooner I W J X m at (Term id next new) h = record { says = (h .says .0, omega (arith, h .says .1)) }
+sooner I W J X m at (Full new) h = record { says = h .says }
 
 -- two terms, then the one over both
 pub both-read : (I W J X K Y L Z : List ℕ) (m n l : Mark) (at a p b q : ℕ) (r : Placed) → There I W J X m a n × (at + 1 ≤ p) → There J X K Y n b l × (p ≤ q)
-    → ReadAs K Y L Z l q r → ReadAs I W L Z m at r
+    → ReadBy K Y L Z l q r → ReadBy I W L Z m at r
 both-read I W J X K Y L Z m n l at a p b q (Term id next new) f g h =
-    (record { grown = grown-then I W K Y L Z m l new (grown-then I W J X K Y m n l (f .0 .grown) (g .0 .grown)) (h .0 .grown); within = h .0 .within }, omega (arith, f .1, g .1, h .1))
-both-read I W J X K Y L Z m n l at a p b q (Full new) f g h =
-    grown-then I W K Y L Z m l new (grown-then I W J X K Y m n l (f .0 .grown) (g .0 .grown)) h
+    record {
+      says = (
+        record { grown = grown-trans (grown-trans (f .0 .grown) (g .0 .grown)) (h .says .0 .grown); there = h .says .0 .there },
+        omega (arith, f .1, g .1, h .says .1),
+      );
+    }
+both-read I W J X K Y L Z m n l at a p b q (Full new) f g h = record { says = grown-trans (grown-trans (f .0 .grown) (g .0 .grown)) (h .says) }
+
+-- what unification asks of a term that was there and of one that was read
+pub unifies-both : (I W J X : List ℕ) (m n : Mark) (s t : ℕ) (theta map memo pairs seen : List ℕ) → s < m .terms → There I W J X m t n → Scratch theta map memo pairs seen
+    → Unifiable J X n VARIABLES s t theta map memo pairs seen
+unifies-both I W J X m n s t theta map memo pairs seen h r z =
+    let l : s < n .terms = omega (arith, h, r .grown .more) in
+    record {
+      good = r .grown .good;
+      few = omega arith;
+      left = l;
+      right = r .there;
+      lefts = variables-few J X n (r .grown .good) s l;
+      rights = variables-few J X n (r .grown .good) t (r .there);
+      scratch = z;
+    }
 
 -- Writing ----------------------------------------------------------------------------------------------------------------------
 

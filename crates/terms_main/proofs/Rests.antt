@@ -1,22 +1,16 @@
 -- The tables between two calls: empty ones, and cells that are zero again. Assumes nothing.
 use mathlib.Core.Path.{_≡_, refl, sym, ap, _∙_, subst}
 use mathlib.Core.List.{List}
-use Prim.Native.Nat.{ℕ}
+use Prim.Native.Nat.{ℕ, _*_}
 use native.Mathlib.Omega.{arith}
 use lib.ListN.{length, replicate, length-replicate}
-use Rattle.rules.specs.Limits.{VARIABLES, TERMS, WORDS}
-use Rattle.rules.specs.Out.{Out}
-use Rattle.rules.specs.Store.{Made}
-use Rattle.rules.specs.Unify.{Binding}
-use mathlib.Core.Option.{Option}
+use Rattle.rules.specs.Limits.{VARIABLES, TERMS, WORDS, PAIRS, TERMWORDS}
 use Rattle.terms.specs.declared.store.Mark.{Mark}
-use Rattle.terms.specs.declared.unify.Unified.{Unified}
-use Rattle.terms.specs.declared.unify.Unified.the-variants.{Found, Apart, Full}
 use Rattle.terms.specs.Table.{INDEX, start, Good, Part}
 use Rattle.terms.specs.Theta.{Zeros}
-use Rattle.terms.specs.Unify.{Scratch, Solved, UnifiedAs}
-use Rattle.terms.proofs.Empty.{good-empty}
+use Rattle.terms.specs.Unify.{Scratch}
 use Rattle.terms_main.specs.Parts.{none, Idle}
+use Rattle.terms.specs.Laws.Empty.{good-empty}
 
 pub zeros : (n : ℕ) → Zeros (replicate n 0)
 zeros n = ap (λ (k : ℕ). replicate {A = ℕ} k 0) (sym (length-replicate {A = ℕ} n 0))
@@ -24,7 +18,7 @@ zeros n = ap (λ (k : ℕ). replicate {A = ℕ} k 0) (sym (length-replicate {A =
 long : (n : ℕ) → length (replicate {A = ℕ} n 0) ≡ n
 long n = length-replicate {A = ℕ} n 0
 
-pub idle-start : Idle (replicate INDEX 0) (replicate WORDS 0) (replicate VARIABLES 0) (replicate VARIABLES 0) (replicate TERMS 0) (replicate 1024 0) (replicate 64 0) none
+pub idle-start : Idle (replicate INDEX 0) (replicate WORDS 0) (replicate VARIABLES 0) (replicate VARIABLES 0) (replicate TERMS 0) (replicate (2 * PAIRS) 0) (replicate TERMWORDS 0) none
 idle-start =
     record {
       good = good-empty;
@@ -36,10 +30,10 @@ idle-start =
             no-maps = zeros VARIABLES;
             memos = omega (arith, long TERMS);
             no-memos = zeros TERMS;
-            many = long 1024;
-            no-pairs = zeros 1024;
-            wide = omega (arith, long 64);
-            no-seen = zeros 64;
+            many = long (2 * PAIRS);
+            no-pairs = zeros (2 * PAIRS);
+            wide = omega (arith, long TERMWORDS);
+            no-seen = zeros TERMWORDS;
           };
     }
 
@@ -66,15 +60,3 @@ module _ (theta map memo pairs seen theta′ map′ memo′ pairs′ seen′ : L
         wide = omega (arith, s .wide, ap length d);
         no-seen = subst Zeros (sym d) (s .no-seen);
       }
-
--- Answers of unification -------------------------------------------------------------------------------------------------------
-
-module _ (I W J X : List ℕ) (old : Mark) (theta : List ℕ) (K : Out Made (Option (List Binding))) (r : Unified) (h : UnifiedAs I W J X old theta K r) where
-  pub as-found : (m : Mark) → r ≡ Found m → Solved I W J X old theta K m
-  as-found m e = subst (λ (q : Unified). UnifiedAs I W J X old theta K q) e h
-
-  pub as-apart : (m : Mark) → r ≡ Apart m → Good J X m × (length theta ≡ VARIABLES) × Zeros theta
-  as-apart m e = let u = subst (λ (q : Unified). UnifiedAs I W J X old theta K q) e h in (u .0 .grown .good, u .1, u .2)
-
-  pub as-full : (n : ℕ) (m : Mark) → r ≡ Full n m → Good J X m × (length theta ≡ VARIABLES) × Zeros theta
-  as-full n m e = let u = subst (λ (q : Unified). UnifiedAs I W J X old theta K q) e h in (u .0 .grown .good, u .1, u .2)

@@ -5,25 +5,26 @@
 // found before is changed by each later one. The first pair has bindings; the second fails by the occurs check, which sees x0 in
 // (f (f x0 a) a) once x1 is bound; the third by the symbols a and b.
 ghost use Prim.Native.Nat.{_+_, _<_};
-ghost use Rattle.rules.specs.Limits.{SYMBOLS};
+ghost use Rattle.rules.specs.Limits.{SYMBOLS, VARIABLES};
 ghost use Rattle.terms.specs.Table.{Good};
-ghost use Rattle.terms.specs.Unify.{Within, Unifiable};
-ghost use Rattle.terms_main.specs.Parts.{none, Idle, ReadAs};
+ghost use Rattle.terms.specs.Unify.{Unifiable};
+ghost use Rattle.terms_main.specs.Parts.{none, Idle, ReadBy};
 
 mod show;
 
 use crate::show::show_both;
 use crate::show::show_found;
+use cells::clear;
 use rules::PAIRS;
 use rules::SYMBOLS;
 use rules::TERMS;
+use rules::TERMWORDS;
 use rules::VARIABLES;
 use rules::WORDS;
 use terms::store::Kept;
 use terms::store::Mark;
 use terms::store::forget;
 use terms::store::keep;
-use terms::store::wipe;
 use terms::unify::Unified;
 use terms::unify::unify;
 
@@ -53,7 +54,7 @@ fn solve(
     pairs: &mut [u32],
     seen: &mut [u64],
 ) -> Mark
-    requires { ⌜ Unifiable (now index) (now words) mark s t (now theta) (now map) (now memo) (now pairs) (now seen) ⌝ }
+    requires { ⌜ Unifiable (now index) (now words) mark VARIABLES s t (now theta) (now map) (now memo) (now pairs) (now seen) ⌝ }
     ensures { λ r. ⌜ Idle (now (index .exit)) (now (words .exit)) (now (theta .exit)) (now (map .exit)) (now (memo .exit)) (now (pairs .exit)) (now (seen .exit)) r ⌝ }
 {
     match unify(
@@ -71,7 +72,7 @@ fn solve(
     ) {
         Unified::Found(m) => {
             let last = show_found(index, words, m, theta, memo, s, t);
-            wipe(theta);
+            clear(theta);
             last
         }
         Unified::Apart(m) => {
@@ -88,7 +89,7 @@ fn solve(
 // A term without arguments comes into the store; `next` is the place behind its text.
 fn put_leaf(index: &mut [u32], words: &mut [u32], mark: Mark, head: usize, next: usize) -> Placed
     requires { ⌜ Good (now index) (now words) mark × (head < SYMBOLS + 10) ⌝ }
-    ensures { λ r. ⌜ ReadAs (now (index .entry)) (now (words .entry)) (now (index .exit)) (now (words .exit)) mark next r ⌝ }
+    ensures { λ r. ⌜ ReadBy (now (index .entry)) (now (words .entry)) (now (index .exit)) (now (words .exit)) mark next r ⌝ }
 {
     let node = [head as u32];
     match keep(index, words, mark, &node) {
@@ -107,8 +108,8 @@ fn put_pair(
     next: usize,
 ) -> Placed
     requires { ⌜ Good (now index) (now words) mark ⌝ }
-    requires { ⌜ Within (now index) (now words) mark a × Within (now index) (now words) mark b ⌝ }
-    ensures { λ r. ⌜ ReadAs (now (index .entry)) (now (words .entry)) (now (index .exit)) (now (words .exit)) mark next r ⌝ }
+    requires { ⌜ (a < mark .terms) × (b < mark .terms) ⌝ }
+    ensures { λ r. ⌜ ReadBy (now (index .entry)) (now (words .entry)) (now (index .exit)) (now (words .exit)) mark next r ⌝ }
 {
     let node = [F as u32, a as u32, b as u32];
     match keep(index, words, mark, &node) {
@@ -139,7 +140,7 @@ fn head_of(c: u8) -> usize
 // The term that stands at a place of the text, read into the store; `b` stands behind the text's end.
 fn read(text: &[u8], at: usize, index: &mut [u32], words: &mut [u32], mark: Mark) -> Placed
     requires { ⌜ Good (now index) (now words) mark ⌝ }
-    ensures { λ r. ⌜ ReadAs (now (index .entry)) (now (words .entry)) (now (index .exit)) (now (words .exit)) mark at r ⌝ }
+    ensures { λ r. ⌜ ReadBy (now (index .entry)) (now (words .entry)) (now (index .exit)) (now (words .exit)) mark at r ⌝ }
 {
     if text.len() <= at {
         return put_leaf(index, words, mark, B, at);
@@ -171,7 +172,7 @@ fn solve_with(
     seen: &mut [u64],
 ) -> Mark
     requires { ⌜ Idle (now index) (now words) (now theta) (now map) (now memo) (now pairs) (now seen) mark ⌝ }
-    requires { ⌜ Within (now index) (now words) mark s ⌝ }
+    requires { ⌜ s < mark .terms ⌝ }
     ensures { λ r. ⌜ Idle (now (index .exit)) (now (words .exit)) (now (theta .exit)) (now (map .exit)) (now (memo .exit)) (now (pairs .exit)) (now (seen .exit)) r ⌝ }
 {
     match read(right, 0, index, words, mark) {
@@ -279,7 +280,7 @@ fn main() {
     let mut map = [0u32; VARIABLES];
     let mut memo = [0u32; TERMS];
     let mut pairs = [0u32; 2 * PAIRS];
-    let mut seen = [0u64; TERMS / 64];
+    let mut seen = [0u64; TERMWORDS];
     all(
         &mut index,
         &mut words,

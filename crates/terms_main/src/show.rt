@@ -2,15 +2,15 @@
 ghost use mathlib.Core.Path.{_≡_};
 ghost use Prim.Native.Nat.{_*_, _≤_, _<_};
 ghost use lib.ListN.{length};
-ghost use Rattle.rules.specs.Limits.{TERMS};
+ghost use Rattle.rules.specs.Limits.{TERMS, VARIABLEWORDS};
 ghost use Rattle.terms.specs.Table.{Good, Grown};
 ghost use Rattle.terms.specs.Subst.{Replaceable};
 ghost use Rattle.terms.specs.Theta.{Theta, Zeros};
-ghost use Rattle.terms.specs.Unify.{Within};
 use crate::A;
 use crate::B;
 use rules::SYMBOLS;
 use rules::VARIABLES;
+use rules::VARIABLEWORDS;
 use terms::store::Kept;
 use terms::store::Mark;
 use terms::store::start_of;
@@ -86,7 +86,7 @@ fn show_bindings(index: &[u32], words: &[u32], mark: Mark, theta: &[u32])
 
 // Writes the variables of a set.
 fn show_set(set: &[u64])
-    requires { ⌜ length (now set) ≡ 8 ⌝ }
+    requires { ⌜ length (now set) ≡ VARIABLEWORDS ⌝ }
 {
     let mut v = 0;
     while v < VARIABLES {
@@ -100,11 +100,11 @@ fn show_set(set: &[u64])
 
 // Writes the variables of the term `id`. `seen` is scratch: zero before and after.
 fn show_variables(index: &[u32], words: &[u32], mark: Mark, id: usize, seen: &mut [u64])
-    requires { ⌜ Good (now index) (now words) mark × Within (now index) (now words) mark id ⌝ }
+    requires { ⌜ Good (now index) (now words) mark × (id < mark .terms) ⌝ }
     requires { ⌜ (TERMS ≤ 64 * length (now seen)) × Zeros (now seen) ⌝ }
     ensures { λ _. ⌜ now (seen .exit) ≡ now (seen .entry) ⌝ }
 {
-    let mut set = [0u64; 8];
+    let mut set = [0u64; VARIABLEWORDS];
     terms::variables::variables(index, words, mark, id, seen, &mut set);
     io::write_all(1, b"variables");
     show_set(&set);
@@ -158,7 +158,7 @@ pub fn show_found(
 
 // Writes what the two terms are, before they are unified.
 pub fn show_both(index: &[u32], words: &[u32], mark: Mark, s: usize, t: usize, seen: &mut [u64])
-    requires { ⌜ Good (now index) (now words) mark × Within (now index) (now words) mark s × (t < mark .terms) ⌝ }
+    requires { ⌜ Good (now index) (now words) mark × (s < mark .terms) × (t < mark .terms) ⌝ }
     requires { ⌜ (TERMS ≤ 64 * length (now seen)) × Zeros (now seen) ⌝ }
     ensures { λ _. ⌜ now (seen .exit) ≡ now (seen .entry) ⌝ }
 {

@@ -3,8 +3,8 @@ use mathlib.Core.Path.{_∙_}
 use Prim.Native.Nat.{ℕ, _+_, _-_, _<_}
 use lib.ListN.{length}
 use native.Mathlib.Omega.{arith}
-use Rattle.terms.proofs.Sames.{grown-then}
-use Rattle.terms_main.proofs.Places.{within-grown, as-term, as-full, sooner, both-read}
+use Rattle.terms.specs.Laws.Growth.{grown-trans}
+use Rattle.terms_main.proofs.Places.{as-term, as-full, sooner, both-read}
 use borrow.Author.Needs.{needs}
 use borrow.Fn.Kinds.{In}
 use borrow.Fn.PlainCycle.{Measures, is, falls, and}
@@ -73,13 +73,13 @@ read-enum-known-a : (t : ℕ) → read-lts.Need-enum-known-a (cs t) (read-at t) 
 read-enum-known-a t c = search needs
 
 read-read-requires-2 : (t : ℕ) → read-lts.Need-read-requires-2 (cs t) (read-at t) read.Post
-read-read-requires-2 t c κs = (omega (arith, (c .before .before .before .before .before .before .before .before .before .before .before .before .before .before .before .if1) .left, (c .before .before .before .before .before .before .before .before .before .before .before .before .before .before .before .before .before .before .before .pre) .0, (as-term ((c .before .before .before .before .before .before .before .before .before .before .before .before .before .before .before .before .before .before .before .args) .index .now) ((c .before .before .before .before .before .before .before .before .before .before .before .before .before .before .before .before .before .before .before .args) .words .now) ((c .before .before .before .before .before .before .before .before .before .read) .last .1 .1 .0) ((c .before .before .before .before .before .before .before .before .before .read) .last .1 .1 .1 .0) ((c .before .before .before .before .before .before .before .before .before .before .before .before .before .before .before .before .before .before .before .args) .mark) ((c .before .before .before .before .before .before .before .before .before .before .before .before .before .before .before .before .before .before .before .args) .at + 1) ((c .before .before .before .before .before .before .before .before .before .read) .result) ((c .before .before .before .before .before .before .before .before .before .read) .ensures) _ _ _ ((c .before .before .before .a) .given .1)) .1), (as-term ((c .before .before .before .before .before .before .before .before .before .before .before .before .before .before .before .before .before .before .before .args) .index .now) ((c .before .before .before .before .before .before .before .before .before .before .before .before .before .before .before .before .before .before .before .args) .words .now) ((c .before .before .before .before .before .before .before .before .before .read) .last .1 .1 .0) ((c .before .before .before .before .before .before .before .before .before .read) .last .1 .1 .1 .0) ((c .before .before .before .before .before .before .before .before .before .before .before .before .before .before .before .before .before .before .before .args) .mark) ((c .before .before .before .before .before .before .before .before .before .before .before .before .before .before .before .before .before .before .before .args) .at + 1) ((c .before .before .before .before .before .before .before .before .before .read) .result) ((c .before .before .before .before .before .before .before .before .before .read) .ensures) _ _ _ ((c .before .before .before .a) .given .1)) .0 .grown .good)
+read-read-requires-2 t c κs = (omega (arith, (c .before .before .before .before .before .before .before .before .before .before .before .before .before .before .before .if1) .left, (c .before .before .before .before .before .before .before .before .before .before .before .before .before .before .before .before .before .before .before .pre) .0, (as-term ((c .before .before .before .before .before .before .before .before .before .read) .ensures) ((c .before .before .before .a) .given .1)) .1), (as-term ((c .before .before .before .before .before .before .before .before .before .read) .ensures) ((c .before .before .before .a) .given .1)) .0 .grown .good)
 
 read-enum-known-b : (t : ℕ) → read-lts.Need-enum-known-b (cs t) (read-at t) read.Post
 read-enum-known-b t c = search needs
 
 read-put-pair-requires : (t : ℕ) → read-lts.Need-put-pair-requires (cs t) (read-at t) read.Post
-read-put-pair-requires t c κs = ((as-term ((c .before .before .before .before .before .before .before .before .before .before .before .before .before .before .before .before .before .before .before .read) .last .1 .1 .0) ((c .before .before .before .before .before .before .before .before .before .before .before .before .before .before .before .before .before .before .before .read) .last .1 .1 .1 .0) ((c .before .before .before .before .before .before .before .before .before .read2) .last .1 .1 .0) ((c .before .before .before .before .before .before .before .before .before .read2) .last .1 .1 .1 .0) ((c .before .before .before .before .before .before .before .before .before .before .before .before .before .a) .given .0 .1 .1 .0) ((c .before .before .before .before .before .before .before .before .before .before .before .before .before .a) .given .0 .1 .0) ((c .before .before .before .before .before .before .before .before .before .read2) .result) ((c .before .before .before .before .before .before .before .before .before .read2) .ensures) _ _ _ ((c .before .before .before .b) .given .1)) .0 .grown .good, (within-grown _ _ _ _ _ _ _ ((as-term ((c .before .before .before .before .before .before .before .before .before .before .before .before .before .before .before .before .before .before .before .before .before .before .before .before .before .before .before .before .before .args) .index .now) ((c .before .before .before .before .before .before .before .before .before .before .before .before .before .before .before .before .before .before .before .before .before .before .before .before .before .before .before .before .before .args) .words .now) ((c .before .before .before .before .before .before .before .before .before .before .before .before .before .before .before .before .before .before .before .read) .last .1 .1 .0) ((c .before .before .before .before .before .before .before .before .before .before .before .before .before .before .before .before .before .before .before .read) .last .1 .1 .1 .0) ((c .before .before .before .before .before .before .before .before .before .before .before .before .before .before .before .before .before .before .before .before .before .before .before .before .before .before .before .before .before .args) .mark) ((c .before .before .before .before .before .before .before .before .before .before .before .before .before .before .before .before .before .before .before .before .before .before .before .before .before .before .before .before .before .args) .at + 1) ((c .before .before .before .before .before .before .before .before .before .before .before .before .before .before .before .before .before .before .before .read) .result) ((c .before .before .before .before .before .before .before .before .before .before .before .before .before .before .before .before .before .before .before .read) .ensures) _ _ _ ((c .before .before .before .before .before .before .before .before .before .before .before .before .before .a) .given .1)) .0 .grown .good) ((as-term ((c .before .before .before .before .before .before .before .before .before .before .before .before .before .before .before .before .before .before .before .read) .last .1 .1 .0) ((c .before .before .before .before .before .before .before .before .before .before .before .before .before .before .before .before .before .before .before .read) .last .1 .1 .1 .0) ((c .before .before .before .before .before .before .before .before .before .read2) .last .1 .1 .0) ((c .before .before .before .before .before .before .before .before .before .read2) .last .1 .1 .1 .0) ((c .before .before .before .before .before .before .before .before .before .before .before .before .before .a) .given .0 .1 .1 .0) ((c .before .before .before .before .before .before .before .before .before .before .before .before .before .a) .given .0 .1 .0) ((c .before .before .before .before .before .before .before .before .before .read2) .result) ((c .before .before .before .before .before .before .before .before .before .read2) .ensures) _ _ _ ((c .before .before .before .b) .given .1)) .0 .grown) ((as-term ((c .before .before .before .before .before .before .before .before .before .before .before .before .before .before .before .before .before .before .before .before .before .before .before .before .before .before .before .before .before .args) .index .now) ((c .before .before .before .before .before .before .before .before .before .before .before .before .before .before .before .before .before .before .before .before .before .before .before .before .before .before .before .before .before .args) .words .now) ((c .before .before .before .before .before .before .before .before .before .before .before .before .before .before .before .before .before .before .before .read) .last .1 .1 .0) ((c .before .before .before .before .before .before .before .before .before .before .before .before .before .before .before .before .before .before .before .read) .last .1 .1 .1 .0) ((c .before .before .before .before .before .before .before .before .before .before .before .before .before .before .before .before .before .before .before .before .before .before .before .before .before .before .before .before .before .args) .mark) ((c .before .before .before .before .before .before .before .before .before .before .before .before .before .before .before .before .before .before .before .before .before .before .before .before .before .before .before .before .before .args) .at + 1) ((c .before .before .before .before .before .before .before .before .before .before .before .before .before .before .before .before .before .before .before .read) .result) ((c .before .before .before .before .before .before .before .before .before .before .before .before .before .before .before .before .before .before .before .read) .ensures) _ _ _ ((c .before .before .before .before .before .before .before .before .before .before .before .before .before .a) .given .1)) .0 .within), (as-term ((c .before .before .before .before .before .before .before .before .before .before .before .before .before .before .before .before .before .before .before .read) .last .1 .1 .0) ((c .before .before .before .before .before .before .before .before .before .before .before .before .before .before .before .before .before .before .before .read) .last .1 .1 .1 .0) ((c .before .before .before .before .before .before .before .before .before .read2) .last .1 .1 .0) ((c .before .before .before .before .before .before .before .before .before .read2) .last .1 .1 .1 .0) ((c .before .before .before .before .before .before .before .before .before .before .before .before .before .a) .given .0 .1 .1 .0) ((c .before .before .before .before .before .before .before .before .before .before .before .before .before .a) .given .0 .1 .0) ((c .before .before .before .before .before .before .before .before .before .read2) .result) ((c .before .before .before .before .before .before .before .before .before .read2) .ensures) _ _ _ ((c .before .before .before .b) .given .1)) .0 .within))
+read-put-pair-requires t c κs = ((as-term ((c .before .before .before .before .before .before .before .before .before .read2) .ensures) ((c .before .before .before .b) .given .1)) .0 .grown .good, (omega (arith, (as-term ((c .before .before .before .before .before .before .before .before .before .before .before .before .before .before .before .before .before .before .before .read) .ensures) ((c .before .before .before .before .before .before .before .before .before .before .before .before .before .a) .given .1)) .0 .there, (as-term ((c .before .before .before .before .before .before .before .before .before .read2) .ensures) ((c .before .before .before .b) .given .1)) .0 .grown .more), (as-term ((c .before .before .before .before .before .before .before .before .before .read2) .ensures) ((c .before .before .before .b) .given .1)) .0 .there))
 
 read-enum-known-k : (t : ℕ) → read-lts.Need-enum-known-k (cs t) (read-at t) read.Post
 read-enum-known-k t c = search needs
@@ -94,7 +94,7 @@ read-same-length-6 : (t : ℕ) → read-lts.Need-same-length-6 (cs t) (read-at t
 read-same-length-6 t c = (c .before .before .before .before .put-pair) .kept .1 .0 ∙ (c .before .before .before .before .before .before .before .before .before .before .before .before .before .before .read2) .kept .1 .1 .1 .0 ∙ (c .before .before .before .before .before .before .before .before .before .before .before .before .before .before .before .before .before .before .before .before .before .before .before .before .read) .kept .1 .1 .1 .0
 
 read-returns-3 : (t : ℕ) → read-lts.Need-returns-3 (cs t) (read-at t) read.Post
-read-returns-3 t c = both-read _ _ _ _ _ _ ((c .before .before .before .before .put-pair) .last .0) ((c .before .before .before .before .put-pair) .last .1 .0) _ _ _ _ _ _ _ _ ((c .before .before .before .before .put-pair) .result) (as-term ((c .before .before .before .before .before .before .before .before .before .before .before .before .before .before .before .before .before .before .before .before .before .before .before .before .before .before .before .before .before .before .before .before .before .before .args) .index .now) ((c .before .before .before .before .before .before .before .before .before .before .before .before .before .before .before .before .before .before .before .before .before .before .before .before .before .before .before .before .before .before .before .before .before .before .args) .words .now) ((c .before .before .before .before .before .before .before .before .before .before .before .before .before .before .before .before .before .before .before .before .before .before .before .before .read) .last .1 .1 .0) ((c .before .before .before .before .before .before .before .before .before .before .before .before .before .before .before .before .before .before .before .before .before .before .before .before .read) .last .1 .1 .1 .0) ((c .before .before .before .before .before .before .before .before .before .before .before .before .before .before .before .before .before .before .before .before .before .before .before .before .before .before .before .before .before .before .before .before .before .before .args) .mark) ((c .before .before .before .before .before .before .before .before .before .before .before .before .before .before .before .before .before .before .before .before .before .before .before .before .before .before .before .before .before .before .before .before .before .before .args) .at + 1) ((c .before .before .before .before .before .before .before .before .before .before .before .before .before .before .before .before .before .before .before .before .before .before .before .before .read) .result) ((c .before .before .before .before .before .before .before .before .before .before .before .before .before .before .before .before .before .before .before .before .before .before .before .before .read) .ensures) _ _ _ ((c .before .before .before .before .before .before .before .before .before .before .before .before .before .before .before .before .before .before .a) .given .1)) (as-term ((c .before .before .before .before .before .before .before .before .before .before .before .before .before .before .before .before .before .before .before .before .before .before .before .before .read) .last .1 .1 .0) ((c .before .before .before .before .before .before .before .before .before .before .before .before .before .before .before .before .before .before .before .before .before .before .before .before .read) .last .1 .1 .1 .0) ((c .before .before .before .before .before .before .before .before .before .before .before .before .before .before .read2) .last .1 .1 .0) ((c .before .before .before .before .before .before .before .before .before .before .before .before .before .before .read2) .last .1 .1 .1 .0) ((c .before .before .before .before .before .before .before .before .before .before .before .before .before .before .before .before .before .before .a) .given .0 .1 .1 .0) ((c .before .before .before .before .before .before .before .before .before .before .before .before .before .before .before .before .before .before .a) .given .0 .1 .0) ((c .before .before .before .before .before .before .before .before .before .before .before .before .before .before .read2) .result) ((c .before .before .before .before .before .before .before .before .before .before .before .before .before .before .read2) .ensures) _ _ _ ((c .before .before .before .before .before .before .before .before .b) .given .1)) ((c .before .before .before .before .put-pair) .ensures)
+read-returns-3 t c = both-read _ _ _ _ _ _ ((c .before .before .before .before .put-pair) .last .0) ((c .before .before .before .before .put-pair) .last .1 .0) _ _ _ _ _ _ _ _ ((c .before .before .before .before .put-pair) .result) (as-term ((c .before .before .before .before .before .before .before .before .before .before .before .before .before .before .before .before .before .before .before .before .before .before .before .before .read) .ensures) ((c .before .before .before .before .before .before .before .before .before .before .before .before .before .before .before .before .before .before .a) .given .1)) (as-term ((c .before .before .before .before .before .before .before .before .before .before .before .before .before .before .read2) .ensures) ((c .before .before .before .before .before .before .before .before .b) .given .1)) ((c .before .before .before .before .put-pair) .ensures)
 
 read-same-length-7 : (t : ℕ) → read-lts.Need-same-length-7 (cs t) (read-at t) read.Post
 read-same-length-7 t c = (c .before .before .before .before .before .before .before .read2) .kept .1 .1 .0 ∙ (c .before .before .before .before .before .before .before .before .before .before .before .before .before .before .before .before .before .read) .kept .1 .1 .0
@@ -103,7 +103,7 @@ read-same-length-8 : (t : ℕ) → read-lts.Need-same-length-8 (cs t) (read-at t
 read-same-length-8 t c = (c .before .before .before .before .before .before .before .read2) .kept .1 .1 .1 .0 ∙ (c .before .before .before .before .before .before .before .before .before .before .before .before .before .before .before .before .before .read) .kept .1 .1 .1 .0
 
 read-returns-4 : (t : ℕ) → read-lts.Need-returns-4 (cs t) (read-at t) read.Post
-read-returns-4 t c = grown-then _ _ _ _ _ _ _ _ _ ((as-term ((c .before .before .before .before .before .before .before .before .before .before .before .before .before .before .before .before .before .before .before .before .before .before .before .before .before .before .before .args) .index .now) ((c .before .before .before .before .before .before .before .before .before .before .before .before .before .before .before .before .before .before .before .before .before .before .before .before .before .before .before .args) .words .now) ((c .before .before .before .before .before .before .before .before .before .before .before .before .before .before .before .before .before .read) .last .1 .1 .0) ((c .before .before .before .before .before .before .before .before .before .before .before .before .before .before .before .before .before .read) .last .1 .1 .1 .0) ((c .before .before .before .before .before .before .before .before .before .before .before .before .before .before .before .before .before .before .before .before .before .before .before .before .before .before .before .args) .mark) ((c .before .before .before .before .before .before .before .before .before .before .before .before .before .before .before .before .before .before .before .before .before .before .before .before .before .before .before .args) .at + 1) ((c .before .before .before .before .before .before .before .before .before .before .before .before .before .before .before .before .before .read) .result) ((c .before .before .before .before .before .before .before .before .before .before .before .before .before .before .before .before .before .read) .ensures) _ _ _ ((c .before .before .before .before .before .before .before .before .before .before .before .a) .given .1)) .0 .grown) (as-full ((c .before .before .before .before .before .before .before .before .before .before .before .before .before .before .before .before .before .read) .last .1 .1 .0) ((c .before .before .before .before .before .before .before .before .before .before .before .before .before .before .before .before .before .read) .last .1 .1 .1 .0) ((c .before .before .before .before .before .before .before .read2) .last .1 .1 .0) ((c .before .before .before .before .before .before .before .read2) .last .1 .1 .1 .0) ((c .before .before .before .before .before .before .before .before .before .before .before .a) .given .0 .1 .1 .0) ((c .before .before .before .before .before .before .before .before .before .before .before .a) .given .0 .1 .0) ((c .before .before .before .before .before .before .before .read2) .result) ((c .before .before .before .before .before .before .before .read2) .ensures) _ ((c .before .k) .given .1))
+read-returns-4 t c = record { says = grown-trans ((as-term ((c .before .before .before .before .before .before .before .before .before .before .before .before .before .before .before .before .before .read) .ensures) ((c .before .before .before .before .before .before .before .before .before .before .before .a) .given .1)) .0 .grown) (as-full ((c .before .before .before .before .before .before .before .read2) .ensures) ((c .before .k) .given .1)) }
 
 read-same-length-9 : (t : ℕ) → read-lts.Need-same-length-9 (cs t) (read-at t) read.Post
 read-same-length-9 t c = (c .before .before .before .before .before .before .before .read) .kept .1 .1 .0
@@ -112,7 +112,7 @@ read-same-length-10 : (t : ℕ) → read-lts.Need-same-length-10 (cs t) (read-at
 read-same-length-10 t c = (c .before .before .before .before .before .before .before .read) .kept .1 .1 .1 .0
 
 read-returns-5 : (t : ℕ) → read-lts.Need-returns-5 (cs t) (read-at t) read.Post
-read-returns-5 t c = as-full ((c .before .before .before .before .before .before .before .before .before .before .before .before .before .before .before .before .before .args) .index .now) ((c .before .before .before .before .before .before .before .before .before .before .before .before .before .before .before .before .before .args) .words .now) ((c .before .before .before .before .before .before .before .read) .last .1 .1 .0) ((c .before .before .before .before .before .before .before .read) .last .1 .1 .1 .0) ((c .before .before .before .before .before .before .before .before .before .before .before .before .before .before .before .before .before .args) .mark) ((c .before .before .before .before .before .before .before .before .before .before .before .before .before .before .before .before .before .args) .at + 1) ((c .before .before .before .before .before .before .before .read) .result) ((c .before .before .before .before .before .before .before .read) .ensures) _ ((c .before .m) .given .1)
+read-returns-5 t c = record { says = as-full ((c .before .before .before .before .before .before .before .read) .ensures) ((c .before .m) .given .1) }
 
 pub +read-spec : {M : Type 1} → statement M
 +read-spec = close μ-read λ t. read-lts.spec (cs t)

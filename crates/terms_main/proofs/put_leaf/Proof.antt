@@ -1,11 +1,10 @@
 -- `terms_main::put_leaf` meets its contract. The node is a leaf. Assumes nothing.
-use mathlib.Core.List.{[], _∷_}
 use native.Mathlib.Omega.{arith}
-use Rattle.terms.specs.Table.{treeAt, made}
-use Rattle.terms_main.proofs.Places.{kept, unkept, leaf-node, leaf-few}
+use Rattle.terms_main.proofs.Places.{stored-there, leaf-node}
 use borrow.Author.Needs.{needs}
 use Rattle.terms_main.proofs.put_leaf.Statement.{statement}
 use Rattle.terms_main.proofs.put_leaf.Tie as tie
+use Rattle.terms.specs.Laws.Answers.{after-term, after-full}
 
 cast-t10 : tie.Need-cast-t10
 cast-t10 c = search needs
@@ -14,7 +13,7 @@ slice-aggregate-keep : tie.Need-slice-aggregate-keep
 slice-aggregate-keep c = search needs
 
 keep-requires : tie.Need-keep-requires
-keep-requires c κs = ((c .before .before .before .before .before .pre) .0, leaf-node _ _)
+keep-requires c κs = ((c .before .before .before .before .before .pre) .0, leaf-node _ _ ((c .before .before .before .before .before .pre) .1))
 
 enum-known-n : tie.Need-enum-known-n
 enum-known-n c = search needs
@@ -29,7 +28,7 @@ same-length-2 : tie.Need-same-length-2
 same-length-2 c = (c .before .before .before .before .before .before .before .keep) .kept .1 .0
 
 returns : tie.Need-returns
-returns c = (kept ((c .before .before .before .before .before .before .before .before .before .before .before .before .before .args) .index .now) ((c .before .before .before .before .before .before .before .before .before .before .before .before .before .args) .words .now) ((c .before .before .before .before .before .before .before .keep) .last .0) ((c .before .before .before .before .before .before .before .keep) .last .1 .0) ((c .before .before .before .before .before .before .before .before .before .before .before .before .before .args) .mark) (treeAt (made ((c .before .before .before .before .before .before .before .before .before .before .before .before .before .args) .index .now) ((c .before .before .before .before .before .before .before .before .before .before .before .before .before .args) .words .now) ((c .before .before .before .before .before .before .before .before .before .before .before .before .before .args) .mark)) (((c .before .before .before .before .before .before .before .before .before .before .before .before .before .args) .head) ∷ [])) _ ((c .before .before .before .before .before .before .before .keep) .result) ((c .before .before .before .before .before .before .before .keep) .ensures) _ _ ((c .before .n) .given .1) (leaf-few (made ((c .before .before .before .before .before .before .before .before .before .before .before .before .before .args) .index .now) ((c .before .before .before .before .before .before .before .before .before .before .before .before .before .args) .words .now) ((c .before .before .before .before .before .before .before .before .before .before .before .before .before .args) .mark)) ((c .before .before .before .before .before .before .before .before .before .before .before .before .before .args) .head) ((c .before .before .before .before .before .before .before .before .before .before .before .before .before .pre) .1)), omega arith)
+returns c = record { says = (stored-there (after-term ((c .before .before .before .before .before .before .before .keep) .ensures) ((c .before .n) .given .1)), omega arith) }
 
 same-length-3 : tie.Need-same-length-3
 same-length-3 c = (c .before .before .before .before .before .before .before .keep) .kept .0
@@ -38,7 +37,7 @@ same-length-4 : tie.Need-same-length-4
 same-length-4 c = (c .before .before .before .before .before .before .before .keep) .kept .1 .0
 
 returns-2 : tie.Need-returns-2
-returns-2 c = unkept ((c .before .before .before .before .before .before .before .before .before .before .before .before .before .args) .index .now) ((c .before .before .before .before .before .before .before .before .before .before .before .before .before .args) .words .now) ((c .before .before .before .before .before .before .before .keep) .last .0) ((c .before .before .before .before .before .before .before .keep) .last .1 .0) ((c .before .before .before .before .before .before .before .before .before .before .before .before .before .args) .mark) (treeAt (made ((c .before .before .before .before .before .before .before .before .before .before .before .before .before .args) .index .now) ((c .before .before .before .before .before .before .before .before .before .before .before .before .before .args) .words .now) ((c .before .before .before .before .before .before .before .before .before .before .before .before .before .args) .mark)) (((c .before .before .before .before .before .before .before .before .before .before .before .before .before .args) .head) ∷ [])) _ ((c .before .before .before .before .before .before .before .keep) .result) ((c .before .before .before .before .before .before .before .keep) .ensures) _ _ ((c .before .m) .given .1)
+returns-2 c = record { says = after-full ((c .before .before .before .before .before .before .before .keep) .ensures) ((c .before .m) .given .1) .grown }
 
 pub put-leaf-spec : {M : Type 1} → statement M
 put-leaf-spec =

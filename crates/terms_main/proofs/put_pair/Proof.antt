@@ -1,26 +1,25 @@
 -- `terms_main::put_pair` meets its contract. The node has two arguments. Assumes nothing.
-use mathlib.Core.List.{[], _∷_}
 use native.Mathlib.Omega.{arith}
-use Rattle.terms.specs.Table.{treeAt, made}
-use Rattle.terms_main.proofs.Places.{kept, unkept, pair-node, pair-few}
+use Rattle.terms_main.proofs.Places.{stored-there, pair-node}
 use borrow.Author.Needs.{needs}
 use Rattle.terms_main.proofs.put_pair.Statement.{statement}
 use Rattle.terms_main.proofs.put_pair.Tie as tie
+use Rattle.terms.specs.Laws.Answers.{after-term, after-full}
 
 cast-t11 : tie.Need-cast-t11
 cast-t11 c = search needs
 
 cast-t12 : tie.Need-cast-t12
-cast-t12 c = omega (arith, (c .before .before .pre) .1 .0 .there, (c .before .before .pre) .0 .room)
+cast-t12 c = omega (arith, (c .before .before .pre) .1 .0, (c .before .before .pre) .0 .room)
 
 cast-t13 : tie.Need-cast-t13
-cast-t13 c = omega (arith, (c .before .before .pre) .1 .1 .there, (c .before .before .pre) .0 .room)
+cast-t13 c = omega (arith, (c .before .before .pre) .1 .1, (c .before .before .pre) .0 .room)
 
 slice-aggregate-keep : tie.Need-slice-aggregate-keep
 slice-aggregate-keep c = search needs
 
 keep-requires : tie.Need-keep-requires
-keep-requires c κs = ((c .before .before .before .before .before .pre) .0, pair-node _ _ _ _ (omega arith) ((c .before .before .before .before .before .pre) .1 .0 .there) ((c .before .before .before .before .before .pre) .1 .1 .there))
+keep-requires c κs = ((c .before .before .before .before .before .pre) .0, pair-node _ _ _ _ (omega arith) ((c .before .before .before .before .before .pre) .1 .0) ((c .before .before .before .before .before .pre) .1 .1))
 
 enum-known-n : tie.Need-enum-known-n
 enum-known-n c = search needs
@@ -35,7 +34,7 @@ same-length-2 : tie.Need-same-length-2
 same-length-2 c = (c .before .before .before .before .before .before .before .keep) .kept .1 .0
 
 returns : tie.Need-returns
-returns c = (kept ((c .before .before .before .before .before .before .before .before .before .before .before .before .before .args) .index .now) ((c .before .before .before .before .before .before .before .before .before .before .before .before .before .args) .words .now) ((c .before .before .before .before .before .before .before .keep) .last .0) ((c .before .before .before .before .before .before .before .keep) .last .1 .0) ((c .before .before .before .before .before .before .before .before .before .before .before .before .before .args) .mark) (treeAt (made ((c .before .before .before .before .before .before .before .before .before .before .before .before .before .args) .index .now) ((c .before .before .before .before .before .before .before .before .before .before .before .before .before .args) .words .now) ((c .before .before .before .before .before .before .before .before .before .before .before .before .before .args) .mark)) (2 ∷ ((c .before .before .before .before .before .before .before .before .before .before .before .before .before .args) .a) ∷ ((c .before .before .before .before .before .before .before .before .before .before .before .before .before .args) .b) ∷ [])) _ ((c .before .before .before .before .before .before .before .keep) .result) ((c .before .before .before .before .before .before .before .keep) .ensures) _ _ ((c .before .n) .given .1) (pair-few (made ((c .before .before .before .before .before .before .before .before .before .before .before .before .before .args) .index .now) ((c .before .before .before .before .before .before .before .before .before .before .before .before .before .args) .words .now) ((c .before .before .before .before .before .before .before .before .before .before .before .before .before .args) .mark)) 2 ((c .before .before .before .before .before .before .before .before .before .before .before .before .before .args) .a) ((c .before .before .before .before .before .before .before .before .before .before .before .before .before .args) .b) (omega arith) ((c .before .before .before .before .before .before .before .before .before .before .before .before .before .pre) .1 .0 .few) ((c .before .before .before .before .before .before .before .before .before .before .before .before .before .pre) .1 .1 .few)), omega arith)
+returns c = record { says = (stored-there (after-term ((c .before .before .before .before .before .before .before .keep) .ensures) ((c .before .n) .given .1)), omega arith) }
 
 same-length-3 : tie.Need-same-length-3
 same-length-3 c = (c .before .before .before .before .before .before .before .keep) .kept .0
@@ -44,7 +43,7 @@ same-length-4 : tie.Need-same-length-4
 same-length-4 c = (c .before .before .before .before .before .before .before .keep) .kept .1 .0
 
 returns-2 : tie.Need-returns-2
-returns-2 c = unkept ((c .before .before .before .before .before .before .before .before .before .before .before .before .before .args) .index .now) ((c .before .before .before .before .before .before .before .before .before .before .before .before .before .args) .words .now) ((c .before .before .before .before .before .before .before .keep) .last .0) ((c .before .before .before .before .before .before .before .keep) .last .1 .0) ((c .before .before .before .before .before .before .before .before .before .before .before .before .before .args) .mark) (treeAt (made ((c .before .before .before .before .before .before .before .before .before .before .before .before .before .args) .index .now) ((c .before .before .before .before .before .before .before .before .before .before .before .before .before .args) .words .now) ((c .before .before .before .before .before .before .before .before .before .before .before .before .before .args) .mark)) (2 ∷ ((c .before .before .before .before .before .before .before .before .before .before .before .before .before .args) .a) ∷ ((c .before .before .before .before .before .before .before .before .before .before .before .before .before .args) .b) ∷ [])) _ ((c .before .before .before .before .before .before .before .keep) .result) ((c .before .before .before .before .before .before .before .keep) .ensures) _ _ ((c .before .m) .given .1)
+returns-2 c = record { says = after-full ((c .before .before .before .before .before .before .before .keep) .ensures) ((c .before .m) .given .1) .grown }
 
 pub put-pair-spec : {M : Type 1} → statement M
 put-pair-spec =

@@ -4,10 +4,11 @@ use lib.ListN.{length}
 use native.Mathlib.Omega.{arith}
 use Rattle.rules.specs.Limits.{VARIABLES}
 use Rattle.terms.specs.Theta.{Zeros}
-use Rattle.terms_main.proofs.Rests.{wiped, scratch-again, as-found, as-apart, as-full}
+use Rattle.terms_main.proofs.Rests.{wiped, scratch-again}
 use borrow.Author.Needs.{needs}
 use Rattle.terms_main.proofs.solve.Statement.{statement}
 use Rattle.terms_main.proofs.solve.Tie as tie
+use Rattle.terms.specs.Laws.Answers.{unified-found, unified-apart, unified-full}
 
 unify-requires : tie.Need-unify-requires
 unify-requires c κs = (c .before .before .before .before .before .before .before .before .before .before .before .before .before .before .pre)
@@ -16,10 +17,10 @@ enum-known-m : tie.Need-enum-known-m
 enum-known-m c = search needs
 
 show-found-requires : tie.Need-show-found-requires
-show-found-requires c κs = (((as-found ((c .before .before .before .before .before .before .before .before .before .before .before .before .before .before .before .before .before .before .before .before .before .before .before .before .before .before .before .before .before .before .before .before .before .before .before .before .args) .index .now) ((c .before .before .before .before .before .before .before .before .before .before .before .before .before .before .before .before .before .before .before .before .before .before .before .before .before .before .before .before .before .before .before .before .before .before .before .before .args) .words .now) ((c .before .before .before .before .before .before .before .before .before .before .before .before .before .before .before .before .before .before .before .before .before .unify) .last .0) ((c .before .before .before .before .before .before .before .before .before .before .before .before .before .before .before .before .before .before .before .before .before .unify) .last .1 .0) ((c .before .before .before .before .before .before .before .before .before .before .before .before .before .before .before .before .before .before .before .before .before .before .before .before .before .before .before .before .before .before .before .before .before .before .before .before .args) .mark) ((c .before .before .before .before .before .before .before .before .before .before .before .before .before .before .before .before .before .before .before .before .before .unify) .last .1 .1 .1 .1 .1 .1 .0) _ ((c .before .before .before .before .before .before .before .before .before .before .before .before .before .before .before .before .before .before .before .before .before .unify) .result) ((c .before .before .before .before .before .before .before .before .before .before .before .before .before .before .before .before .before .before .before .before .before .unify) .ensures .0) _ ((c .before .before .before .before .before .m) .given .1)) .grown .good, (as-found ((c .before .before .before .before .before .before .before .before .before .before .before .before .before .before .before .before .before .before .before .before .before .before .before .before .before .before .before .before .before .before .before .before .before .before .before .before .args) .index .now) ((c .before .before .before .before .before .before .before .before .before .before .before .before .before .before .before .before .before .before .before .before .before .before .before .before .before .before .before .before .before .before .before .before .before .before .before .before .args) .words .now) ((c .before .before .before .before .before .before .before .before .before .before .before .before .before .before .before .before .before .before .before .before .before .unify) .last .0) ((c .before .before .before .before .before .before .before .before .before .before .before .before .before .before .before .before .before .before .before .before .before .unify) .last .1 .0) ((c .before .before .before .before .before .before .before .before .before .before .before .before .before .before .before .before .before .before .before .before .before .before .before .before .before .before .before .before .before .before .before .before .before .before .before .before .args) .mark) ((c .before .before .before .before .before .before .before .before .before .before .before .before .before .before .before .before .before .before .before .before .before .unify) .last .1 .1 .1 .1 .1 .1 .0) _ ((c .before .before .before .before .before .before .before .before .before .before .before .before .before .before .before .before .before .before .before .before .before .unify) .result) ((c .before .before .before .before .before .before .before .before .before .before .before .before .before .before .before .before .before .before .before .before .before .unify) .ensures .0) _ ((c .before .before .before .before .before .m) .given .1)) .cells, omega (arith, (c .before .before .before .before .before .before .before .before .before .before .before .before .before .before .before .before .before .before .before .before .before .before .before .before .before .before .before .before .before .before .before .before .before .before .before .before .pre) .left .there, (as-found ((c .before .before .before .before .before .before .before .before .before .before .before .before .before .before .before .before .before .before .before .before .before .before .before .before .before .before .before .before .before .before .before .before .before .before .before .before .args) .index .now) ((c .before .before .before .before .before .before .before .before .before .before .before .before .before .before .before .before .before .before .before .before .before .before .before .before .before .before .before .before .before .before .before .before .before .before .before .before .args) .words .now) ((c .before .before .before .before .before .before .before .before .before .before .before .before .before .before .before .before .before .before .before .before .before .unify) .last .0) ((c .before .before .before .before .before .before .before .before .before .before .before .before .before .before .before .before .before .before .before .before .before .unify) .last .1 .0) ((c .before .before .before .before .before .before .before .before .before .before .before .before .before .before .before .before .before .before .before .before .before .before .before .before .before .before .before .before .before .before .before .before .before .before .before .before .args) .mark) ((c .before .before .before .before .before .before .before .before .before .before .before .before .before .before .before .before .before .before .before .before .before .unify) .last .1 .1 .1 .1 .1 .1 .0) _ ((c .before .before .before .before .before .before .before .before .before .before .before .before .before .before .before .before .before .before .before .before .before .unify) .result) ((c .before .before .before .before .before .before .before .before .before .before .before .before .before .before .before .before .before .before .before .before .before .unify) .ensures .0) _ ((c .before .before .before .before .before .m) .given .1)) .grown .more), omega (arith, (c .before .before .before .before .before .before .before .before .before .before .before .before .before .before .before .before .before .before .before .before .before .before .before .before .before .before .before .before .before .before .before .before .before .before .before .before .pre) .right .there, (as-found ((c .before .before .before .before .before .before .before .before .before .before .before .before .before .before .before .before .before .before .before .before .before .before .before .before .before .before .before .before .before .before .before .before .before .before .before .before .args) .index .now) ((c .before .before .before .before .before .before .before .before .before .before .before .before .before .before .before .before .before .before .before .before .before .before .before .before .before .before .before .before .before .before .before .before .before .before .before .before .args) .words .now) ((c .before .before .before .before .before .before .before .before .before .before .before .before .before .before .before .before .before .before .before .before .before .unify) .last .0) ((c .before .before .before .before .before .before .before .before .before .before .before .before .before .before .before .before .before .before .before .before .before .unify) .last .1 .0) ((c .before .before .before .before .before .before .before .before .before .before .before .before .before .before .before .before .before .before .before .before .before .before .before .before .before .before .before .before .before .before .before .before .before .before .before .before .args) .mark) ((c .before .before .before .before .before .before .before .before .before .before .before .before .before .before .before .before .before .before .before .before .before .unify) .last .1 .1 .1 .1 .1 .1 .0) _ ((c .before .before .before .before .before .before .before .before .before .before .before .before .before .before .before .before .before .before .before .before .before .unify) .result) ((c .before .before .before .before .before .before .before .before .before .before .before .before .before .before .before .before .before .before .before .before .before .unify) .ensures .0) _ ((c .before .before .before .before .before .m) .given .1)) .grown .more)), (omega (arith, (c .before .before .before .before .before .before .before .before .before .before .before .before .before .before .before .before .before .before .before .before .before .before .before .before .before .before .before .before .before .before .before .before .before .before .before .before .pre) .scratch .memos, ap length ((c .before .before .before .before .before .before .before .before .before .before .before .before .before .before .before .before .before .before .before .before .before .unify) .ensures .1 .1)), subst Zeros (sym ((c .before .before .before .before .before .before .before .before .before .before .before .before .before .before .before .before .before .before .before .before .before .unify) .ensures .1 .1)) ((c .before .before .before .before .before .before .before .before .before .before .before .before .before .before .before .before .before .before .before .before .before .before .before .before .before .before .before .before .before .before .before .before .before .before .before .before .pre) .scratch .no-memos)))
+show-found-requires c κs = (((unified-found ((c .before .before .before .before .before .before .before .before .before .before .before .before .before .before .before .before .before .before .before .before .before .unify) .ensures .0) ((c .before .before .before .before .before .m) .given .1)) .grown .good, (unified-found ((c .before .before .before .before .before .before .before .before .before .before .before .before .before .before .before .before .before .before .before .before .before .unify) .ensures .0) ((c .before .before .before .before .before .m) .given .1)) .cells, omega (arith, (c .before .before .before .before .before .before .before .before .before .before .before .before .before .before .before .before .before .before .before .before .before .before .before .before .before .before .before .before .before .before .before .before .before .before .before .before .pre) .left, (unified-found ((c .before .before .before .before .before .before .before .before .before .before .before .before .before .before .before .before .before .before .before .before .before .unify) .ensures .0) ((c .before .before .before .before .before .m) .given .1)) .grown .more), omega (arith, (c .before .before .before .before .before .before .before .before .before .before .before .before .before .before .before .before .before .before .before .before .before .before .before .before .before .before .before .before .before .before .before .before .before .before .before .before .pre) .right, (unified-found ((c .before .before .before .before .before .before .before .before .before .before .before .before .before .before .before .before .before .before .before .before .before .unify) .ensures .0) ((c .before .before .before .before .before .m) .given .1)) .grown .more)), (omega (arith, (c .before .before .before .before .before .before .before .before .before .before .before .before .before .before .before .before .before .before .before .before .before .before .before .before .before .before .before .before .before .before .before .before .before .before .before .before .pre) .scratch .memos, ap length ((c .before .before .before .before .before .before .before .before .before .before .before .before .before .before .before .before .before .before .before .before .before .unify) .ensures .1 .1)), subst Zeros (sym ((c .before .before .before .before .before .before .before .before .before .before .before .before .before .before .before .before .before .before .before .before .before .unify) .ensures .1 .1)) ((c .before .before .before .before .before .before .before .before .before .before .before .before .before .before .before .before .before .before .before .before .before .before .before .before .before .before .before .before .before .before .before .before .before .before .before .before .pre) .scratch .no-memos)))
 
-wipe-requires : tie.Need-wipe-requires
-wipe-requires c κs = search needs
+clear-requires : tie.Need-clear-requires
+clear-requires c κs = search needs
 
 enum-known-m-2 : tie.Need-enum-known-m-2
 enum-known-m-2 c = search needs
@@ -46,7 +47,7 @@ same-length-2 : tie.Need-same-length-2
 same-length-2 c = (c .before .before .before .before .before .before .before .before .before .before .show-found) .kept .1 .0 ∙ (c .before .before .before .before .before .before .before .before .before .before .before .before .before .before .before .before .before .before .before .before .before .before .before .before .before .before .before .before .before .before .before .before .unify) .kept .1 .0
 
 same-length-3 : tie.Need-same-length-3
-same-length-3 c = (c .before .before .wipe) .kept .0 ∙ (c .before .before .before .before .before .before .before .before .before .before .before .before .before .before .before .before .before .before .before .before .before .before .before .before .before .before .before .before .before .before .before .before .unify) .kept .1 .1 .1 .1 .1 .1 .0
+same-length-3 c = (c .before .before .clear) .kept .0 ∙ (c .before .before .before .before .before .before .before .before .before .before .before .before .before .before .before .before .before .before .before .before .before .before .before .before .before .before .before .before .before .before .before .before .unify) .kept .1 .1 .1 .1 .1 .1 .0
 
 same-length-4 : tie.Need-same-length-4
 same-length-4 c = (c .before .before .before .before .before .before .before .before .before .before .before .before .before .before .before .before .before .before .before .before .before .before .before .before .before .before .before .before .before .before .before .before .unify) .kept .1 .1 .1 .1 .1 .1 .1 .0
@@ -61,7 +62,7 @@ same-length-7 : tie.Need-same-length-7
 same-length-7 c = (c .before .before .before .before .before .before .before .before .before .before .before .before .before .before .before .before .before .before .before .before .before .before .before .before .before .before .before .before .before .before .before .before .unify) .kept .1 .1 .1 .1 .1 .1 .1 .1 .1 .1 .0
 
 returns : tie.Need-returns
-returns c = record { good = (c .before .before .before .before .before .before .before .before .before .before .show-found) .ensures .0; scratch = scratch-again _ _ _ _ _ _ _ _ _ _ ((c .before .before .before .before .before .before .before .before .before .before .before .before .before .before .before .before .before .before .before .before .before .before .before .before .before .before .before .before .before .before .before .before .before .before .before .before .before .before .before .before .before .before .before .before .before .before .before .pre) .scratch) (wiped ((c .before .before .before .before .before .before .before .before .before .before .before .before .before .before .before .before .before .before .before .before .before .before .before .before .before .before .before .before .before .before .before .before .unify) .last .1 .1 .1 .1 .1 .1 .0) ((c .before .before .wipe) .last .0) VARIABLES ((c .before .before .wipe) .ensures) ((as-found ((c .before .before .before .before .before .before .before .before .before .before .before .before .before .before .before .before .before .before .before .before .before .before .before .before .before .before .before .before .before .before .before .before .before .before .before .before .before .before .before .before .before .before .before .before .before .before .before .args) .index .now) ((c .before .before .before .before .before .before .before .before .before .before .before .before .before .before .before .before .before .before .before .before .before .before .before .before .before .before .before .before .before .before .before .before .before .before .before .before .before .before .before .before .before .before .before .before .before .before .before .args) .words .now) ((c .before .before .before .before .before .before .before .before .before .before .before .before .before .before .before .before .before .before .before .before .before .before .before .before .before .before .before .before .before .before .before .before .unify) .last .0) ((c .before .before .before .before .before .before .before .before .before .before .before .before .before .before .before .before .before .before .before .before .before .before .before .before .before .before .before .before .before .before .before .before .unify) .last .1 .0) ((c .before .before .before .before .before .before .before .before .before .before .before .before .before .before .before .before .before .before .before .before .before .before .before .before .before .before .before .before .before .before .before .before .before .before .before .before .before .before .before .before .before .before .before .before .before .before .before .args) .mark) ((c .before .before .before .before .before .before .before .before .before .before .before .before .before .before .before .before .before .before .before .before .before .before .before .before .before .before .before .before .before .before .before .before .unify) .last .1 .1 .1 .1 .1 .1 .0) _ ((c .before .before .before .before .before .before .before .before .before .before .before .before .before .before .before .before .before .before .before .before .before .before .before .before .before .before .before .before .before .before .before .before .unify) .result) ((c .before .before .before .before .before .before .before .before .before .before .before .before .before .before .before .before .before .before .before .before .before .before .before .before .before .before .before .before .before .before .before .before .unify) .ensures .0) _ ((c .before .before .before .before .before .before .before .before .before .before .before .before .before .before .before .before .m) .given .1)) .cells .long)) ((c .before .before .before .before .before .before .before .before .before .before .before .before .before .before .before .before .before .before .before .before .before .before .before .before .before .before .before .before .before .before .before .before .unify) .ensures .1 .0) ((c .before .before .before .before .before .before .before .before .before .before .show-found) .ensures .1 ∙ (c .before .before .before .before .before .before .before .before .before .before .before .before .before .before .before .before .before .before .before .before .before .before .before .before .before .before .before .before .before .before .before .before .unify) .ensures .1 .1) ((c .before .before .before .before .before .before .before .before .before .before .before .before .before .before .before .before .before .before .before .before .before .before .before .before .before .before .before .before .before .before .before .before .unify) .ensures .1 .2) ((c .before .before .before .before .before .before .before .before .before .before .before .before .before .before .before .before .before .before .before .before .before .before .before .before .before .before .before .before .before .before .before .before .unify) .ensures .1 .3) }
+returns c = record { good = (c .before .before .before .before .before .before .before .before .before .before .show-found) .ensures .0; scratch = scratch-again _ _ _ _ _ _ _ _ _ _ ((c .before .before .before .before .before .before .before .before .before .before .before .before .before .before .before .before .before .before .before .before .before .before .before .before .before .before .before .before .before .before .before .before .before .before .before .before .before .before .before .before .before .before .before .before .before .before .before .pre) .scratch) (wiped ((c .before .before .before .before .before .before .before .before .before .before .before .before .before .before .before .before .before .before .before .before .before .before .before .before .before .before .before .before .before .before .before .before .unify) .last .1 .1 .1 .1 .1 .1 .0) ((c .before .before .clear) .last .0) VARIABLES ((c .before .before .clear) .ensures) ((unified-found ((c .before .before .before .before .before .before .before .before .before .before .before .before .before .before .before .before .before .before .before .before .before .before .before .before .before .before .before .before .before .before .before .before .unify) .ensures .0) ((c .before .before .before .before .before .before .before .before .before .before .before .before .before .before .before .before .m) .given .1)) .cells .long)) ((c .before .before .before .before .before .before .before .before .before .before .before .before .before .before .before .before .before .before .before .before .before .before .before .before .before .before .before .before .before .before .before .before .unify) .ensures .1 .0) ((c .before .before .before .before .before .before .before .before .before .before .show-found) .ensures .1 ∙ (c .before .before .before .before .before .before .before .before .before .before .before .before .before .before .before .before .before .before .before .before .before .before .before .before .before .before .before .before .before .before .before .before .unify) .ensures .1 .1) ((c .before .before .before .before .before .before .before .before .before .before .before .before .before .before .before .before .before .before .before .before .before .before .before .before .before .before .before .before .before .before .before .before .unify) .ensures .1 .2) ((c .before .before .before .before .before .before .before .before .before .before .before .before .before .before .before .before .before .before .before .before .before .before .before .before .before .before .before .before .before .before .before .before .unify) .ensures .1 .3) }
 
 same-length-8 : tie.Need-same-length-8
 same-length-8 c = (c .before .before .before .before .before .before .before .before .before .before .before .before .before .before .before .before .before .before .before .unify) .kept .0
@@ -85,7 +86,7 @@ same-length-14 : tie.Need-same-length-14
 same-length-14 c = (c .before .before .before .before .before .before .before .before .before .before .before .before .before .before .before .before .before .before .before .unify) .kept .1 .1 .1 .1 .1 .1 .1 .1 .1 .1 .0
 
 returns-2 : tie.Need-returns-2
-returns-2 c = record { good = (as-apart ((c .before .before .before .before .before .before .before .before .before .before .before .before .before .before .before .before .before .before .before .before .before .before .before .before .before .before .before .before .before .before .before .before .before .before .args) .index .now) ((c .before .before .before .before .before .before .before .before .before .before .before .before .before .before .before .before .before .before .before .before .before .before .before .before .before .before .before .before .before .before .before .before .before .before .args) .words .now) ((c .before .before .before .before .before .before .before .before .before .before .before .before .before .before .before .before .before .before .before .unify) .last .0) ((c .before .before .before .before .before .before .before .before .before .before .before .before .before .before .before .before .before .before .before .unify) .last .1 .0) ((c .before .before .before .before .before .before .before .before .before .before .before .before .before .before .before .before .before .before .before .before .before .before .before .before .before .before .before .before .before .before .before .before .before .before .args) .mark) ((c .before .before .before .before .before .before .before .before .before .before .before .before .before .before .before .before .before .before .before .unify) .last .1 .1 .1 .1 .1 .1 .0) _ ((c .before .before .before .before .before .before .before .before .before .before .before .before .before .before .before .before .before .before .before .unify) .result) ((c .before .before .before .before .before .before .before .before .before .before .before .before .before .before .before .before .before .before .before .unify) .ensures .0) _ ((c .before .before .before .m2) .given .1)) .0; scratch = scratch-again _ _ _ _ _ _ _ _ _ _ ((c .before .before .before .before .before .before .before .before .before .before .before .before .before .before .before .before .before .before .before .before .before .before .before .before .before .before .before .before .before .before .before .before .before .before .pre) .scratch) (((as-apart ((c .before .before .before .before .before .before .before .before .before .before .before .before .before .before .before .before .before .before .before .before .before .before .before .before .before .before .before .before .before .before .before .before .before .before .args) .index .now) ((c .before .before .before .before .before .before .before .before .before .before .before .before .before .before .before .before .before .before .before .before .before .before .before .before .before .before .before .before .before .before .before .before .before .before .args) .words .now) ((c .before .before .before .before .before .before .before .before .before .before .before .before .before .before .before .before .before .before .before .unify) .last .0) ((c .before .before .before .before .before .before .before .before .before .before .before .before .before .before .before .before .before .before .before .unify) .last .1 .0) ((c .before .before .before .before .before .before .before .before .before .before .before .before .before .before .before .before .before .before .before .before .before .before .before .before .before .before .before .before .before .before .before .before .before .before .args) .mark) ((c .before .before .before .before .before .before .before .before .before .before .before .before .before .before .before .before .before .before .before .unify) .last .1 .1 .1 .1 .1 .1 .0) _ ((c .before .before .before .before .before .before .before .before .before .before .before .before .before .before .before .before .before .before .before .unify) .result) ((c .before .before .before .before .before .before .before .before .before .before .before .before .before .before .before .before .before .before .before .unify) .ensures .0) _ ((c .before .before .before .m2) .given .1)) .1, (as-apart ((c .before .before .before .before .before .before .before .before .before .before .before .before .before .before .before .before .before .before .before .before .before .before .before .before .before .before .before .before .before .before .before .before .before .before .args) .index .now) ((c .before .before .before .before .before .before .before .before .before .before .before .before .before .before .before .before .before .before .before .before .before .before .before .before .before .before .before .before .before .before .before .before .before .before .args) .words .now) ((c .before .before .before .before .before .before .before .before .before .before .before .before .before .before .before .before .before .before .before .unify) .last .0) ((c .before .before .before .before .before .before .before .before .before .before .before .before .before .before .before .before .before .before .before .unify) .last .1 .0) ((c .before .before .before .before .before .before .before .before .before .before .before .before .before .before .before .before .before .before .before .before .before .before .before .before .before .before .before .before .before .before .before .before .before .before .args) .mark) ((c .before .before .before .before .before .before .before .before .before .before .before .before .before .before .before .before .before .before .before .unify) .last .1 .1 .1 .1 .1 .1 .0) _ ((c .before .before .before .before .before .before .before .before .before .before .before .before .before .before .before .before .before .before .before .unify) .result) ((c .before .before .before .before .before .before .before .before .before .before .before .before .before .before .before .before .before .before .before .unify) .ensures .0) _ ((c .before .before .before .m2) .given .1)) .2)) ((c .before .before .before .before .before .before .before .before .before .before .before .before .before .before .before .before .before .before .before .unify) .ensures .1 .0) ((c .before .before .before .before .before .before .before .before .before .before .before .before .before .before .before .before .before .before .before .unify) .ensures .1 .1) ((c .before .before .before .before .before .before .before .before .before .before .before .before .before .before .before .before .before .before .before .unify) .ensures .1 .2) ((c .before .before .before .before .before .before .before .before .before .before .before .before .before .before .before .before .before .before .before .unify) .ensures .1 .3) }
+returns-2 c = record { good = (unified-apart ((c .before .before .before .before .before .before .before .before .before .before .before .before .before .before .before .before .before .before .before .unify) .ensures .0) ((c .before .before .before .m2) .given .1)) .0 .grown .good; scratch = scratch-again _ _ _ _ _ _ _ _ _ _ ((c .before .before .before .before .before .before .before .before .before .before .before .before .before .before .before .before .before .before .before .before .before .before .before .before .before .before .before .before .before .before .before .before .before .before .pre) .scratch) (((unified-apart ((c .before .before .before .before .before .before .before .before .before .before .before .before .before .before .before .before .before .before .before .unify) .ensures .0) ((c .before .before .before .m2) .given .1)) .1, (unified-apart ((c .before .before .before .before .before .before .before .before .before .before .before .before .before .before .before .before .before .before .before .unify) .ensures .0) ((c .before .before .before .m2) .given .1)) .2)) ((c .before .before .before .before .before .before .before .before .before .before .before .before .before .before .before .before .before .before .before .unify) .ensures .1 .0) ((c .before .before .before .before .before .before .before .before .before .before .before .before .before .before .before .before .before .before .before .unify) .ensures .1 .1) ((c .before .before .before .before .before .before .before .before .before .before .before .before .before .before .before .before .before .before .before .unify) .ensures .1 .2) ((c .before .before .before .before .before .before .before .before .before .before .before .before .before .before .before .before .before .before .before .unify) .ensures .1 .3) }
 
 same-length-15 : tie.Need-same-length-15
 same-length-15 c = (c .before .before .before .before .before .before .before .before .before .before .before .before .before .before .before .before .before .before .before .unify) .kept .0
@@ -109,7 +110,7 @@ same-length-21 : tie.Need-same-length-21
 same-length-21 c = (c .before .before .before .before .before .before .before .before .before .before .before .before .before .before .before .before .before .before .before .unify) .kept .1 .1 .1 .1 .1 .1 .1 .1 .1 .1 .0
 
 returns-3 : tie.Need-returns-3
-returns-3 c = record { good = (as-full ((c .before .before .before .before .before .before .before .before .before .before .before .before .before .before .before .before .before .before .before .before .before .before .before .before .before .before .before .before .before .before .before .before .before .before .args) .index .now) ((c .before .before .before .before .before .before .before .before .before .before .before .before .before .before .before .before .before .before .before .before .before .before .before .before .before .before .before .before .before .before .before .before .before .before .args) .words .now) ((c .before .before .before .before .before .before .before .before .before .before .before .before .before .before .before .before .before .before .before .unify) .last .0) ((c .before .before .before .before .before .before .before .before .before .before .before .before .before .before .before .before .before .before .before .unify) .last .1 .0) ((c .before .before .before .before .before .before .before .before .before .before .before .before .before .before .before .before .before .before .before .before .before .before .before .before .before .before .before .before .before .before .before .before .before .before .args) .mark) ((c .before .before .before .before .before .before .before .before .before .before .before .before .before .before .before .before .before .before .before .unify) .last .1 .1 .1 .1 .1 .1 .0) _ ((c .before .before .before .before .before .before .before .before .before .before .before .before .before .before .before .before .before .before .before .unify) .result) ((c .before .before .before .before .before .before .before .before .before .before .before .before .before .before .before .before .before .before .before .unify) .ensures .0) _ _ ((c .before .before .before .m3) .given .1)) .0; scratch = scratch-again _ _ _ _ _ _ _ _ _ _ ((c .before .before .before .before .before .before .before .before .before .before .before .before .before .before .before .before .before .before .before .before .before .before .before .before .before .before .before .before .before .before .before .before .before .before .pre) .scratch) (((as-full ((c .before .before .before .before .before .before .before .before .before .before .before .before .before .before .before .before .before .before .before .before .before .before .before .before .before .before .before .before .before .before .before .before .before .before .args) .index .now) ((c .before .before .before .before .before .before .before .before .before .before .before .before .before .before .before .before .before .before .before .before .before .before .before .before .before .before .before .before .before .before .before .before .before .before .args) .words .now) ((c .before .before .before .before .before .before .before .before .before .before .before .before .before .before .before .before .before .before .before .unify) .last .0) ((c .before .before .before .before .before .before .before .before .before .before .before .before .before .before .before .before .before .before .before .unify) .last .1 .0) ((c .before .before .before .before .before .before .before .before .before .before .before .before .before .before .before .before .before .before .before .before .before .before .before .before .before .before .before .before .before .before .before .before .before .before .args) .mark) ((c .before .before .before .before .before .before .before .before .before .before .before .before .before .before .before .before .before .before .before .unify) .last .1 .1 .1 .1 .1 .1 .0) _ ((c .before .before .before .before .before .before .before .before .before .before .before .before .before .before .before .before .before .before .before .unify) .result) ((c .before .before .before .before .before .before .before .before .before .before .before .before .before .before .before .before .before .before .before .unify) .ensures .0) _ _ ((c .before .before .before .m3) .given .1)) .1, (as-full ((c .before .before .before .before .before .before .before .before .before .before .before .before .before .before .before .before .before .before .before .before .before .before .before .before .before .before .before .before .before .before .before .before .before .before .args) .index .now) ((c .before .before .before .before .before .before .before .before .before .before .before .before .before .before .before .before .before .before .before .before .before .before .before .before .before .before .before .before .before .before .before .before .before .before .args) .words .now) ((c .before .before .before .before .before .before .before .before .before .before .before .before .before .before .before .before .before .before .before .unify) .last .0) ((c .before .before .before .before .before .before .before .before .before .before .before .before .before .before .before .before .before .before .before .unify) .last .1 .0) ((c .before .before .before .before .before .before .before .before .before .before .before .before .before .before .before .before .before .before .before .before .before .before .before .before .before .before .before .before .before .before .before .before .before .before .args) .mark) ((c .before .before .before .before .before .before .before .before .before .before .before .before .before .before .before .before .before .before .before .unify) .last .1 .1 .1 .1 .1 .1 .0) _ ((c .before .before .before .before .before .before .before .before .before .before .before .before .before .before .before .before .before .before .before .unify) .result) ((c .before .before .before .before .before .before .before .before .before .before .before .before .before .before .before .before .before .before .before .unify) .ensures .0) _ _ ((c .before .before .before .m3) .given .1)) .2)) ((c .before .before .before .before .before .before .before .before .before .before .before .before .before .before .before .before .before .before .before .unify) .ensures .1 .0) ((c .before .before .before .before .before .before .before .before .before .before .before .before .before .before .before .before .before .before .before .unify) .ensures .1 .1) ((c .before .before .before .before .before .before .before .before .before .before .before .before .before .before .before .before .before .before .before .unify) .ensures .1 .2) ((c .before .before .before .before .before .before .before .before .before .before .before .before .before .before .before .before .before .before .before .unify) .ensures .1 .3) }
+returns-3 c = record { good = (unified-full ((c .before .before .before .before .before .before .before .before .before .before .before .before .before .before .before .before .before .before .before .unify) .ensures .0) ((c .before .before .before .m3) .given .1)) .0 .grown .good; scratch = scratch-again _ _ _ _ _ _ _ _ _ _ ((c .before .before .before .before .before .before .before .before .before .before .before .before .before .before .before .before .before .before .before .before .before .before .before .before .before .before .before .before .before .before .before .before .before .before .pre) .scratch) (((unified-full ((c .before .before .before .before .before .before .before .before .before .before .before .before .before .before .before .before .before .before .before .unify) .ensures .0) ((c .before .before .before .m3) .given .1)) .1, (unified-full ((c .before .before .before .before .before .before .before .before .before .before .before .before .before .before .before .before .before .before .before .unify) .ensures .0) ((c .before .before .before .m3) .given .1)) .2)) ((c .before .before .before .before .before .before .before .before .before .before .before .before .before .before .before .before .before .before .before .unify) .ensures .1 .0) ((c .before .before .before .before .before .before .before .before .before .before .before .before .before .before .before .before .before .before .before .unify) .ensures .1 .1) ((c .before .before .before .before .before .before .before .before .before .before .before .before .before .before .before .before .before .before .before .unify) .ensures .1 .2) ((c .before .before .before .before .before .before .before .before .before .before .before .before .before .before .before .before .before .before .before .unify) .ensures .1 .3) }
 
 pub solve-spec : {M : Type 1} → statement M
 solve-spec =
@@ -118,7 +119,7 @@ solve-spec =
     unify-requires
     enum-known-m
     show-found-requires
-    wipe-requires
+    clear-requires
     enum-known-m-2
     slice-aggregate-write-all
     write-all-requires

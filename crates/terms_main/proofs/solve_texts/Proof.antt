@@ -1,6 +1,5 @@
 -- `terms_main::solve_texts` meets its contract. The first term is read into an empty store. Assumes nothing.
 use mathlib.Core.Path.{_∙_}
-use Rattle.terms_main.specs.Parts.{none}
 use Rattle.terms_main.proofs.Places.{as-term, as-full}
 use borrow.Author.Needs.{needs}
 use Rattle.terms_main.proofs.solve_texts.Statement.{statement}
@@ -13,7 +12,7 @@ enum-known-s : tie.Need-enum-known-s
 enum-known-s c = search needs
 
 solve-with-requires : tie.Need-solve-with-requires
-solve-with-requires c κs = (record { good = (as-term ((c .before .before .before .before .before .before .before .before .before .before .before .before .before .before .before .before .before .before .before .before .before .before .before .before .before .before .args) .index .now) ((c .before .before .before .before .before .before .before .before .before .before .before .before .before .before .before .before .before .before .before .before .before .before .before .before .before .before .args) .words .now) ((c .before .before .before .before .before .before .before .before .before .before .before .before .before .before .read) .last .1 .1 .0) ((c .before .before .before .before .before .before .before .before .before .before .before .before .before .before .read) .last .1 .1 .1 .0) none 0 ((c .before .before .before .before .before .before .before .before .before .before .before .before .before .before .read) .result) ((c .before .before .before .before .before .before .before .before .before .before .before .before .before .before .read) .ensures) _ _ _ ((c .before .before .before .before .before .before .before .before .s) .given .1)) .0 .grown .good; scratch = (c .before .before .before .before .before .before .before .before .before .before .before .before .before .before .before .before .before .before .before .before .before .before .before .before .before .before .pre) .scratch }, (as-term ((c .before .before .before .before .before .before .before .before .before .before .before .before .before .before .before .before .before .before .before .before .before .before .before .before .before .before .args) .index .now) ((c .before .before .before .before .before .before .before .before .before .before .before .before .before .before .before .before .before .before .before .before .before .before .before .before .before .before .args) .words .now) ((c .before .before .before .before .before .before .before .before .before .before .before .before .before .before .read) .last .1 .1 .0) ((c .before .before .before .before .before .before .before .before .before .before .before .before .before .before .read) .last .1 .1 .1 .0) none 0 ((c .before .before .before .before .before .before .before .before .before .before .before .before .before .before .read) .result) ((c .before .before .before .before .before .before .before .before .before .before .before .before .before .before .read) .ensures) _ _ _ ((c .before .before .before .before .before .before .before .before .s) .given .1)) .0 .within)
+solve-with-requires c κs = (record { good = (as-term ((c .before .before .before .before .before .before .before .before .before .before .before .before .before .before .read) .ensures) ((c .before .before .before .before .before .before .before .before .s) .given .1)) .0 .grown .good; scratch = (c .before .before .before .before .before .before .before .before .before .before .before .before .before .before .before .before .before .before .before .before .before .before .before .before .before .before .pre) .scratch }, (as-term ((c .before .before .before .before .before .before .before .before .before .before .before .before .before .before .read) .ensures) ((c .before .before .before .before .before .before .before .before .s) .given .1)) .0 .there)
 
 enum-known-m : tie.Need-enum-known-m
 enum-known-m c = search needs
@@ -49,7 +48,7 @@ same-length-9 : tie.Need-same-length-9
 same-length-9 c = (c .before .before .before .before .before .before .before .read) .kept .1 .1 .1 .0
 
 returns-2 : tie.Need-returns-2
-returns-2 c = record { good = as-full ((c .before .before .before .before .before .before .before .before .before .before .before .before .before .before .before .before .before .before .before .args) .index .now) ((c .before .before .before .before .before .before .before .before .before .before .before .before .before .before .before .before .before .before .before .args) .words .now) ((c .before .before .before .before .before .before .before .read) .last .1 .1 .0) ((c .before .before .before .before .before .before .before .read) .last .1 .1 .1 .0) none 0 ((c .before .before .before .before .before .before .before .read) .result) ((c .before .before .before .before .before .before .before .read) .ensures) _ ((c .before .m) .given .1) .good; scratch = (c .before .before .before .before .before .before .before .before .before .before .before .before .before .before .before .before .before .before .before .pre) .scratch }
+returns-2 c = record { good = as-full ((c .before .before .before .before .before .before .before .read) .ensures) ((c .before .m) .given .1) .good; scratch = (c .before .before .before .before .before .before .before .before .before .before .before .before .before .before .before .before .before .before .before .pre) .scratch }
 
 pub solve-texts-spec : {M : Type 1} → statement M
 solve-texts-spec =

@@ -1,6 +1,6 @@
 use native.Mathlib.Omega.{arith}
 use mathlib.Core.Path.{refl, _∙_}
-use Rattle.terms.proofs.Terms.{start-in, end-in, node-rise, node-inside}
+use Rattle.terms.specs.Laws.Terms.{start-in, end-in, node-rise, node-inside}
 use Rattle.terms.proofs.Compares.{both-one, left-asks, left-binds, right-asks, right-binds, heads-clash, counts-clash, parts-at}
 use borrow.Author.Needs.{needs}
 use Rattle.terms.proofs.pairs.compare.Statement.{statement}

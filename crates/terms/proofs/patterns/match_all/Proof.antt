@@ -1,19 +1,23 @@
-use Rattle.terms.proofs.MatchLists.{all-stays, all-hits}
+use Prim.Native.Nat.{ℕ}
+use native.Mathlib.Omega.{arith}
+use lib.ListN.{length-replicate}
+use Rattle.rules.specs.Limits.{RULEVARS}
+use Rattle.terms.proofs.MatchLists.{rewritten, all-stays, all-hits}
 use borrow.Author.Needs.{needs}
 use Rattle.terms.proofs.patterns.match_all.Statement.{statement}
 use Rattle.terms.proofs.patterns.match_all.Tie as tie
 use Rattle.terms.proofs.patterns.match_all.Reads as reads
 use Rattle.terms.proofs.patterns.match_all.Lts as lts
-use Rattle.terms.proofs.patterns.copy.Reads as copy-reads
+use Rattle.cells.proofs.write.Reads as write-reads
 use Rattle.terms.proofs.patterns.match_terms.Reads as match-terms-reads
 
 -- src/patterns.rt:107:10
-slice-aggregate-copy : tie.Need-slice-aggregate-copy
-slice-aggregate-copy c = search needs
+slice-aggregate-write : tie.Need-slice-aggregate-write
+slice-aggregate-write c = search needs
 
 -- src/patterns.rt:107:5
-copy-requires : tie.Need-copy-requires
-copy-requires c κs = search needs
+write-requires : tie.Need-write-requires
+write-requires c κs = search needs
 
 -- src/patterns.rt:108:8
 match-terms-requires : tie.Need-match-terms-requires
@@ -28,12 +32,12 @@ returns : tie.Need-returns
 returns c = all-hits _ _ _ _ ((c .before .before .before .before .before .before .before .before .before .before .before .before .before .before .before .args) .mark) _ _ _ _ _ ((c .before .before .before .match-terms) .ensures) ((c .if1) .taken)
 
 -- src/patterns.rt:111:17
-slice-aggregate-copy-2 : tie.Need-slice-aggregate-copy-2
-slice-aggregate-copy-2 c = search needs
+slice-aggregate-write-2 : tie.Need-slice-aggregate-write-2
+slice-aggregate-write-2 c = search needs
 
 -- src/patterns.rt:111:5
-copy-requires-2 : tie.Need-copy-requires-2
-copy-requires-2 c κs = search needs
+write-requires-2 : tie.Need-write-requires-2
+write-requires-2 c κs = search needs
 
 -- src/patterns.rt:102:1
 same-length-2 : tie.Need-same-length-2
@@ -41,18 +45,18 @@ same-length-2 c = search needs
 
 -- src/patterns.rt:102:1
 returns-2 : tie.Need-returns-2
-returns-2 c = all-stays _ _ _ _ ((c .before .before .before .before .before .before .before .before .before .before .before .before .before .before .before .before .before .before .before .before .args) .mark) _ _ _ _ _ ((c .before .before .before .before .before .before .before .before .match-terms) .ensures) ((c .before .before .before .before .before .if1) .left) _ _ ((c .before .before .copy2) .ensures) ((c .before .before .before .before .before .before .before .before .before .before .before .copy) .ensures)
+returns-2 c = all-stays _ _ _ _ ((c .before .before .before .before .before .before .before .before .before .before .before .before .before .before .before .before .before .before .before .before .args) .mark) _ _ _ _ _ ((c .before .before .before .before .before .before .before .before .match-terms) .ensures) ((c .before .before .before .before .before .if1) .left) _ (rewritten _ _ ((c .before .before .before .before .before .before .before .before .before .before .before .write) .last .0) ((c .before .before .before .before .before .before .before .before .match-terms) .last .1 .1 .1 .1 .1 .0) _ (omega (arith, (c .before .before .before .before .before .before .before .before .before .before .before .before .before .before .before .before .before .before .before .before .pre) .cells .long, length-replicate {A = ℕ} RULEVARS 0)) ((c .before .before .before .before .before .before .before .before .match-terms) .kept .1 .1 .1 .1 .1 .0) ((c .before .before .before .before .before .before .before .before .before .before .before .write) .ensures) ((c .before .before .write2) .ensures))
 
 pub match-all-spec : {M : Type 1} → statement M
 match-all-spec =
     tie.close
     (tie.spec
-    slice-aggregate-copy
-    copy-requires
+    slice-aggregate-write
+    write-requires
     match-terms-requires
     same-length
     returns
-    slice-aggregate-copy-2
-    copy-requires-2
+    slice-aggregate-write-2
+    write-requires-2
     same-length-2
     returns-2)

@@ -3,7 +3,7 @@ use Prim.Native.Nat.{ℕ, _<_, _+_, _-_}
 use native.Mathlib.Omega.{arith}
 use lib.ListN.{length-set}
 use Rattle.terms.specs.Table.{FLAGS}
-use Rattle.terms.proofs.Terms.{flag-in, end-in, start-in}
+use Rattle.terms.specs.Laws.Terms.{flag-in, end-in, start-in}
 use Rattle.terms.proofs.Substs.{sub-known, sub-none, sub-var}
 use Rattle.terms.proofs.SubstLoop.{Looping, looping-begins, arg-in, arg-falls, arg-ready, arm-term, arm-full, rebuildable, rebuilt-shaped, end-full, end-term}
 use borrow.Author.Needs.{needs}

@@ -1,6 +1,7 @@
+use mathlib.Core.Bool.{_||_}
 use Prim.Native.Nat.{ℕ, _-_}
 use lib.ListN.{length}
-use Rattle.terms.proofs.SetWords.{Joined, joined-none, joined-more, joined-all}
+use Rattle.terms.proofs.SetWords.{Joined, joined-none, or-more, or-all}
 use borrow.Author.Needs.{needs}
 use Rattle.terms.proofs.sets.union_into.Statement.{statement}
 use Rattle.terms.proofs.sets.union_into.Tie as tie
@@ -8,14 +9,14 @@ use Rattle.terms.proofs.sets.union_into.Reads as reads
 use Rattle.terms.proofs.sets.union_into.Lts as lts
 
 abbrev Inv-loop : tie.InvT-loop
-Inv-loop set₀ other i₀ set i = Joined set₀ other set i
+Inv-loop set₀ other i₀ set i = Joined (λ p q. p || q) set₀ other set i
 
 abbrev μ-loop : tie.MeasureT-loop
 μ-loop set₀ other i₀ set i = length set₀ - i
 
 -- src/sets.rt:35:5
 loop-holds : tie.Need-loop-holds Inv-loop μ-loop
-loop-holds c = joined-none _ _
+loop-holds c = joined-none _ _ _
 
 -- src/sets.rt:36:18
 mul-set : tie.Need-mul-set Inv-loop μ-loop
@@ -51,7 +52,7 @@ loop-less c = search needs
 
 -- src/sets.rt:35:5
 loop-again : tie.Need-loop-again Inv-loop μ-loop
-loop-again c = joined-more _ _ _ _ ((c .before .before .before .loop) .inv) ((c .before .before .loop-test) .taken)
+loop-again c = or-more _ _ _ _ ((c .before .before .before .loop) .inv) ((c .before .before .loop-test) .taken)
 
 -- src/sets.rt:30:1
 same-length : tie.Need-same-length Inv-loop μ-loop
@@ -59,7 +60,7 @@ same-length c = search needs
 
 -- src/sets.rt:30:1
 returns : tie.Need-returns Inv-loop μ-loop
-returns c = joined-all _ _ _ _ ((c .before .loop) .inv) ((c .loop-test) .left) ((c .before .before .pre))
+returns c = or-all _ _ _ _ ((c .before .loop) .inv) ((c .loop-test) .left) ((c .before .before .pre))
 
 pub union-into-spec : {M : Type 1} → statement M
 union-into-spec =

@@ -9,7 +9,7 @@ use Rattle.terms.proofs.store.drop_last.Lts as lts
 use Rattle.terms.proofs.store.bucket_of.Reads as bucket-of-reads
 use Rattle.terms.proofs.store.start_of.Reads as start-of-reads
 use Rattle.terms.proofs.store.unlink.Reads as unlink-reads
-use Rattle.terms.proofs.store.wipe.Reads as wipe-reads
+use Rattle.cells.proofs.clear.Reads as clear-reads
 
 -- src/store.rt:191:13
 sub-n : tie.Need-sub-n
@@ -56,24 +56,24 @@ unlink-requires : tie.Need-unlink-requires
 unlink-requires c κs = last-unlinks _ _ _ ((c .before .before .before .before .before .before .before .before .before .before .pre)) _ ((c .before .before .before .before .before .start-of) .ensures) _ ((c .before .bucket-of) .ensures)
 
 -- src/store.rt:196:10
-mul-wipe : tie.Need-mul-wipe
-mul-wipe c = omega (arith, last-fits _ _ _ ((c .before .before .before .before .before .before .before .before .before .before .before .before .before .pre)) _ ((c .before .before .before .before .before .before .before .before .start-of) .ensures), (c .before .before .before .before .before .before .before .before .before .before .before .before .before .good) .1 .0)
+mul-clear : tie.Need-mul-clear
+mul-clear c = omega (arith, last-fits _ _ _ ((c .before .before .before .before .before .before .before .before .before .before .before .before .before .pre)) _ ((c .before .before .before .before .before .before .before .before .start-of) .ensures), (c .before .before .before .before .before .before .before .before .before .before .before .before .before .good) .1 .0)
 
 -- src/store.rt:196:10
-sub-wipe : tie.Need-sub-wipe
-sub-wipe c = omega (arith, last-fits _ _ _ ((c .before .before .before .before .before .before .before .before .before .before .before .before .before .pre)) _ ((c .before .before .before .before .before .before .before .before .start-of) .ensures))
+sub-clear : tie.Need-sub-clear
+sub-clear c = omega (arith, last-fits _ _ _ ((c .before .before .before .before .before .before .before .before .before .before .before .before .before .pre)) _ ((c .before .before .before .before .before .before .before .before .start-of) .ensures))
 
 -- src/store.rt:196:10
-part-wipe-start : tie.Need-part-wipe-start
-part-wipe-start c = omega (arith, last-fits _ _ _ ((c .before .before .before .before .before .before .before .before .before .before .before .before .before .pre)) _ ((c .before .before .before .before .before .before .before .before .start-of) .ensures))
+part-clear-start : tie.Need-part-clear-start
+part-clear-start c = omega (arith, last-fits _ _ _ ((c .before .before .before .before .before .before .before .before .before .before .before .before .before .pre)) _ ((c .before .before .before .before .before .before .before .before .start-of) .ensures))
 
 -- src/store.rt:196:10
-part-wipe-end : tie.Need-part-wipe-end
-part-wipe-end c = omega (arith, last-fits _ _ _ ((c .before .before .before .before .before .before .before .before .before .before .before .before .before .pre)) _ ((c .before .before .before .before .before .before .before .before .start-of) .ensures))
+part-clear-end : tie.Need-part-clear-end
+part-clear-end c = omega (arith, last-fits _ _ _ ((c .before .before .before .before .before .before .before .before .before .before .before .before .before .pre)) _ ((c .before .before .before .before .before .before .before .before .start-of) .ensures))
 
 -- src/store.rt:196:5
-wipe-requires : tie.Need-wipe-requires
-wipe-requires c κs = search needs
+clear-requires : tie.Need-clear-requires
+clear-requires c κs = search needs
 
 -- src/store.rt:187:1
 same-length : tie.Need-same-length
@@ -85,7 +85,7 @@ same-length-2 c = search needs
 
 -- src/store.rt:187:1
 returns : tie.Need-returns
-returns c = last-gone _ _ _ ((c .before .before .before .before .before .before .before .before .before .before .before .before .before .before .before .before .before .pre)) _ ((c .before .before .before .before .before .before .before .before .before .before .before .before .start-of) .ensures) _ ((c .before .before .before .before .before .before .before .before .bucket-of) .ensures) _ ((c .before .before .before .before .before .before .unlink) .ensures) _ ((c .before .before .wipe) .ensures)
+returns c = last-gone _ _ _ ((c .before .before .before .before .before .before .before .before .before .before .before .before .before .before .before .before .before .pre)) _ ((c .before .before .before .before .before .before .before .before .before .before .before .before .start-of) .ensures) _ ((c .before .before .before .before .before .before .before .before .bucket-of) .ensures) _ ((c .before .before .before .before .before .before .unlink) .ensures) _ ((c .before .before .clear) .ensures)
 
 pub drop-last-spec : {M : Type 1} → statement M
 drop-last-spec =
@@ -102,11 +102,11 @@ drop-last-spec =
     part-bucket-of-end
     bucket-of-requires
     unlink-requires
-    mul-wipe
-    sub-wipe
-    part-wipe-start
-    part-wipe-end
-    wipe-requires
+    mul-clear
+    sub-clear
+    part-clear-start
+    part-clear-end
+    clear-requires
     same-length
     same-length-2
     returns)

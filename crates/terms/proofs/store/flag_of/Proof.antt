@@ -3,7 +3,7 @@ use native.Mathlib.Omega.{arith}
 use lib.ListN.{length, getD}
 use Rattle.terms.specs.declared.store.Mark.{Mark}
 use Rattle.terms.specs.Table.{FLAGS, Good, Shaped}
-use Rattle.terms.proofs.Tables.{shaped-some}
+use Rattle.terms.specs.Laws.Tables.{shaped-some}
 use Rattle.terms.proofs.Nodes.{Flagging, flag-var, flagging-begins, flagging-in, flagging-hit, flagging-on, flagging-ends}
 use borrow.Author.Needs.{needs}
 use Rattle.terms.proofs.store.flag_of.Statement.{statement}

@@ -8,7 +8,7 @@ use Rattle.terms.proofs.store.bucket_of.Reads as bucket-of-reads
 use Rattle.terms.proofs.store.find.Reads as find-reads
 use Rattle.terms.proofs.store.flag_of.Reads as flag-of-reads
 use Rattle.terms.proofs.store.link.Reads as link-reads
-use Rattle.terms.proofs.store.write_node.Reads as write-node-reads
+use Rattle.cells.proofs.write.Reads as write-reads
 
 -- src/store.rt:140:9
 bucket-of-requires : tie.Need-bucket-of-requires
@@ -32,7 +32,7 @@ same-length-2 c = search needs
 
 -- src/store.rt:143:9
 returns : tie.Need-returns
-returns c = keep-there _ _ _ _ ((c .before .before .before .before .before .before .before .before .pre) .0) ((c .before .before .before .before .before .before .before .before .pre) .1) _ ((c .before .find) .ensures) ((c .if1) .taken)
+returns c = record { says = keep-there _ _ _ _ ((c .before .before .before .before .before .before .before .before .pre) .0) ((c .before .before .before .before .before .before .before .before .pre) .1) _ ((c .before .find) .ensures) ((c .if1) .taken) }
 
 -- src/store.rt:146:9
 same-length-3 : tie.Need-same-length-3
@@ -44,7 +44,7 @@ same-length-4 c = search needs
 
 -- src/store.rt:146:9
 returns-2 : tie.Need-returns-2
-returns-2 c = keep-row-8 _ _ _ _ ((c .before .before .before .before .before .before .before .before .before .pre) .0) ((c .before .before .before .before .before .before .before .before .before .pre) .1) _ ((c .before .before .find) .ensures) ((c .before .if1) .left) ((c .if2) .taken)
+returns-2 c = record { says = keep-row-8 _ _ _ _ ((c .before .before .before .before .before .before .before .before .before .pre) .0) ((c .before .before .before .before .before .before .before .before .before .pre) .1) _ ((c .before .before .find) .ensures) ((c .before .if1) .left) ((c .if2) .taken) }
 
 -- src/store.rt:148:15
 add-end : tie.Need-add-end
@@ -60,7 +60,7 @@ same-length-6 c = search needs
 
 -- src/store.rt:150:9
 returns-3 : tie.Need-returns-3
-returns-3 c = keep-row-9 _ _ _ _ ((c .before .before .before .before .before .before .before .before .before .before .pre) .0) ((c .before .before .before .before .before .before .before .before .before .before .pre) .1) _ ((c .before .before .before .find) .ensures) ((c .before .before .if1) .left) ((c .before .if2) .left) ((c .if3) .taken)
+returns-3 c = record { says = keep-row-9 _ _ _ _ ((c .before .before .before .before .before .before .before .before .before .before .pre) .0) ((c .before .before .before .before .before .before .before .before .before .before .pre) .1) _ ((c .before .before .before .find) .ensures) ((c .before .before .if1) .left) ((c .before .if2) .left) ((c .if3) .taken) }
 
 -- src/store.rt:152:9
 flag-of-requires : tie.Need-flag-of-requires
@@ -71,24 +71,24 @@ link-requires : tie.Need-link-requires
 link-requires c κs = keep-links _ _ _ _ ((c .before .before .before .before .before .before .before .before .before .before .before .before .before .before .pre) .0) _ ((c .before .before .before .before .before .before .before .before .before .before .bucket-of) .ensures) ((c .before .before .before .before .before .if2) .left) ((c .before .before .before .before .if3) .left) _ _ ((c .before .flag-of) .ensures)
 
 -- src/store.rt:154:16
-mul-write-node : tie.Need-mul-write-node
-mul-write-node c = search needs
+mul-write : tie.Need-mul-write
+mul-write c = search needs
 
 -- src/store.rt:154:16
-sub-write-node : tie.Need-sub-write-node
-sub-write-node c = search needs
+sub-write : tie.Need-sub-write
+sub-write c = search needs
 
 -- src/store.rt:154:16
-part-write-node-start : tie.Need-part-write-node-start
-part-write-node-start c = search needs
+part-write-start : tie.Need-part-write-start
+part-write-start c = search needs
 
 -- src/store.rt:154:16
-part-write-node-end : tie.Need-part-write-node-end
-part-write-node-end c = search needs
+part-write-end : tie.Need-part-write-end
+part-write-end c = search needs
 
 -- src/store.rt:154:5
-write-node-requires : tie.Need-write-node-requires
-write-node-requires c κs = search needs
+write-requires : tie.Need-write-requires
+write-requires c κs = search needs
 
 -- src/store.rt:158:20
 add-t20 : tie.Need-add-t20
@@ -104,7 +104,7 @@ same-length-8 c = search needs
 
 -- src/store.rt:133:1
 returns-4 : tie.Need-returns-4
-returns-4 c = keep-made _ _ _ _ ((c .before .before .before .before .before .before .before .before .before .before .before .before .before .before .before .before .before .before .before .before .before .pre) .0) ((c .before .before .before .before .before .before .before .before .before .before .before .before .before .before .before .before .before .before .before .before .before .pre) .1) _ ((c .before .before .before .before .before .before .before .before .before .before .before .before .before .before .before .before .before .bucket-of) .ensures) _ ((c .before .before .before .before .before .before .before .before .before .before .before .before .before .before .find) .ensures) ((c .before .before .before .before .before .before .before .before .before .before .before .before .before .if1) .left) ((c .before .before .before .before .before .before .before .before .before .before .before .before .if2) .left) ((c .before .before .before .before .before .before .before .before .before .before .before .if3) .left) _ ((c .before .before .before .before .before .before .before .before .flag-of) .ensures) _ ((c .before .before .before .before .before .before .link) .ensures) _ ((c .before .before .write-node) .ensures)
+returns-4 c = record { says = keep-made _ _ _ _ ((c .before .before .before .before .before .before .before .before .before .before .before .before .before .before .before .before .before .before .before .before .before .pre) .0) ((c .before .before .before .before .before .before .before .before .before .before .before .before .before .before .before .before .before .before .before .before .before .pre) .1) _ ((c .before .before .before .before .before .before .before .before .before .before .before .before .before .before .before .before .before .bucket-of) .ensures) _ ((c .before .before .before .before .before .before .before .before .before .before .before .before .before .before .find) .ensures) ((c .before .before .before .before .before .before .before .before .before .before .before .before .before .if1) .left) ((c .before .before .before .before .before .before .before .before .before .before .before .before .if2) .left) ((c .before .before .before .before .before .before .before .before .before .before .before .if3) .left) _ ((c .before .before .before .before .before .before .before .before .flag-of) .ensures) _ ((c .before .before .before .before .before .before .link) .ensures) _ ((c .before .before .write) .ensures) }
 
 pub keep-spec : {M : Type 1} → statement M
 keep-spec =
@@ -125,11 +125,11 @@ keep-spec =
     returns-3
     flag-of-requires
     link-requires
-    mul-write-node
-    sub-write-node
-    part-write-node-start
-    part-write-node-end
-    write-node-requires
+    mul-write
+    sub-write
+    part-write-start
+    part-write-end
+    write-requires
     add-t20
     same-length-7
     same-length-8

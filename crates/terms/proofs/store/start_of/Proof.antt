@@ -1,6 +1,6 @@
 use native.Mathlib.Omega.{arith}
 use Prim.Native.Nat.{ℕ, _-_}
-use Rattle.terms.proofs.Tables.{start-first, start-later}
+use Rattle.terms.specs.Laws.Tables.{start-first, start-later}
 use borrow.Author.Needs.{needs}
 use Rattle.terms.proofs.store.start_of.Statement.{statement}
 use Rattle.terms.proofs.store.start_of.Tie as tie

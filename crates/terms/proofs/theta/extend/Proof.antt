@@ -5,7 +5,7 @@ use Rattle.terms.proofs.theta.extend.Statement.{statement}
 use Rattle.terms.proofs.theta.extend.Tie as tie
 use Rattle.terms.proofs.theta.extend.Reads as reads
 use Rattle.terms.proofs.theta.extend.Lts as lts
-use Rattle.terms.proofs.store.wipe.Reads as wipe-reads
+use Rattle.cells.proofs.clear.Reads as clear-reads
 use Rattle.terms.proofs.theta.replace_values.Reads as replace-values-reads
 
 -- src/theta.rt:73:15
@@ -45,16 +45,16 @@ slice-write-map-2 : tie.Need-slice-write-map-2
 slice-write-map-2 c = in-one _ _ _ _ _ _ _ _ (c .before .before .before .before .before .before .before .before .before .before .before .before .before .before .before .before .before .before .before .pre)
 
 -- src/theta.rt:76:10
-slice-relend-prefix-wipe : tie.Need-slice-relend-prefix-wipe
-slice-relend-prefix-wipe c = search needs
+slice-relend-prefix-clear : tie.Need-slice-relend-prefix-clear
+slice-relend-prefix-clear c = search needs
 
 -- src/theta.rt:76:10
-slice-aggregate-wipe : tie.Need-slice-aggregate-wipe
-slice-aggregate-wipe c = part-again ((c .before .before .before .before .before .before .before .before .before .before .before .before .before .before .before .before .before .before .before .before .args) .memo .now) _ (memo-long _ _ _ _ _ _ _ _ (c .before .before .before .before .before .before .before .before .before .before .before .before .before .before .before .before .before .before .before .before .pre)) ((c .before .before .before .before .before .before .before .before .before .before .before .before .before .before .before .before .before .before .before .before .pre) .empty) ((c .before .before .before .before .before .before .before .before .before .replace-values) .last .1 .1 .1 .1 .1 .0) ((c .before .before .before .before .before .before .before .before .before .replace-values) .kept .1 .1 .1 .1 .1 .0)
+slice-aggregate-clear : tie.Need-slice-aggregate-clear
+slice-aggregate-clear c = part-again ((c .before .before .before .before .before .before .before .before .before .before .before .before .before .before .before .before .before .before .before .before .args) .memo .now) _ (memo-long _ _ _ _ _ _ _ _ (c .before .before .before .before .before .before .before .before .before .before .before .before .before .before .before .before .before .before .before .before .pre)) ((c .before .before .before .before .before .before .before .before .before .before .before .before .before .before .before .before .before .before .before .before .pre) .empty) ((c .before .before .before .before .before .before .before .before .before .replace-values) .last .1 .1 .1 .1 .1 .0) ((c .before .before .before .before .before .before .before .before .before .replace-values) .kept .1 .1 .1 .1 .1 .0)
 
 -- src/theta.rt:76:5
-wipe-requires : tie.Need-wipe-requires
-wipe-requires c κs = search needs
+clear-requires : tie.Need-clear-requires
+clear-requires c κs = search needs
 
 -- src/theta.rt:78:18
 enum-known-r : tie.Need-enum-known-r
@@ -102,7 +102,7 @@ same-length-5 c = search needs
 
 -- src/theta.rt:57:1
 returns : tie.Need-returns
-returns c = (extended-ok _ _ _ _ _ _ _ _ (c .before .before .before .before .before .before .before .before .before .before .before .before .before .before .before .before .before .before .before .before .before .before .before .before .before .before .pre) _ _ ((c .before .before .before .before .before .before .before .before .before .before .before .before .before .before .before .replace-values) .last .1 .1 .1 .0) ((c .before .before .before .before .before .before .before .before .before .before .before .before .before .before .before .replace-values) .result) ((c .before .before .before .before .before .before .before .before .before .before .before .before .before .before .before .replace-values) .ensures) _ ((c .before .r) .given .1), (map-back _ _ _ _ _ _ _ _ (c .before .before .before .before .before .before .before .before .before .before .before .before .before .before .before .before .before .before .before .before .before .before .before .before .before .before .pre), part-wiped ((c .before .before .before .before .before .before .before .before .before .before .before .before .before .before .before .before .before .before .before .before .before .before .before .before .before .before .args) .memo .now) _ (memo-long _ _ _ _ _ _ _ _ (c .before .before .before .before .before .before .before .before .before .before .before .before .before .before .before .before .before .before .before .before .before .before .before .before .before .before .pre)) ((c .before .before .before .before .before .before .before .before .before .before .before .before .before .before .before .before .before .before .before .before .before .before .before .before .before .before .pre) .empty) ((c .before .before .before .before .before .before .before .before .before .before .before .before .before .before .before .replace-values) .last .1 .1 .1 .1 .1 .0) _ ((c .before .before .before .before .before .before .before .before .before .before .before .before .before .before .before .replace-values) .kept .1 .1 .1 .1 .1 .0) ((c .before .before .before .before .before .wipe) .ensures)))
+returns c = (extended-ok _ _ _ _ _ _ _ _ (c .before .before .before .before .before .before .before .before .before .before .before .before .before .before .before .before .before .before .before .before .before .before .before .before .before .before .pre) _ _ ((c .before .before .before .before .before .before .before .before .before .before .before .before .before .before .before .replace-values) .last .1 .1 .1 .0) ((c .before .before .before .before .before .before .before .before .before .before .before .before .before .before .before .replace-values) .result) ((c .before .before .before .before .before .before .before .before .before .before .before .before .before .before .before .replace-values) .ensures) _ ((c .before .r) .given .1), (map-back _ _ _ _ _ _ _ _ (c .before .before .before .before .before .before .before .before .before .before .before .before .before .before .before .before .before .before .before .before .before .before .before .before .before .before .pre), part-wiped ((c .before .before .before .before .before .before .before .before .before .before .before .before .before .before .before .before .before .before .before .before .before .before .before .before .before .before .args) .memo .now) _ (memo-long _ _ _ _ _ _ _ _ (c .before .before .before .before .before .before .before .before .before .before .before .before .before .before .before .before .before .before .before .before .before .before .before .before .before .before .pre)) ((c .before .before .before .before .before .before .before .before .before .before .before .before .before .before .before .before .before .before .before .before .before .before .before .before .before .before .pre) .empty) ((c .before .before .before .before .before .before .before .before .before .before .before .before .before .before .before .replace-values) .last .1 .1 .1 .1 .1 .0) _ ((c .before .before .before .before .before .before .before .before .before .before .before .before .before .before .before .replace-values) .kept .1 .1 .1 .1 .1 .0) ((c .before .before .before .before .before .clear) .ensures)))
 
 -- src/theta.rt:57:1
 same-length-6 : tie.Need-same-length-6
@@ -126,7 +126,7 @@ same-length-10 c = search needs
 
 -- src/theta.rt:57:1
 returns-2 : tie.Need-returns-2
-returns-2 c = (extended-full _ _ _ _ _ _ _ _ (c .before .before .before .before .before .before .before .before .before .before .before .before .before .before .before .before .before .before .before .before .before .before .before .before .before .before .pre) _ _ ((c .before .before .before .before .before .before .before .before .before .before .before .before .before .before .before .replace-values) .last .1 .1 .1 .0) ((c .before .before .before .before .before .before .before .before .before .before .before .before .before .before .before .replace-values) .result) ((c .before .before .before .before .before .before .before .before .before .before .before .before .before .before .before .replace-values) .ensures) _ _ ((c .before .r2) .given .1) ((c .before .before .before .before .before .before .before .before .before .before .before .before .before .before .before .replace-values) .kept .1 .1 .1 .0), (map-back _ _ _ _ _ _ _ _ (c .before .before .before .before .before .before .before .before .before .before .before .before .before .before .before .before .before .before .before .before .before .before .before .before .before .before .pre), part-wiped ((c .before .before .before .before .before .before .before .before .before .before .before .before .before .before .before .before .before .before .before .before .before .before .before .before .before .before .args) .memo .now) _ (memo-long _ _ _ _ _ _ _ _ (c .before .before .before .before .before .before .before .before .before .before .before .before .before .before .before .before .before .before .before .before .before .before .before .before .before .before .pre)) ((c .before .before .before .before .before .before .before .before .before .before .before .before .before .before .before .before .before .before .before .before .before .before .before .before .before .before .pre) .empty) ((c .before .before .before .before .before .before .before .before .before .before .before .before .before .before .before .replace-values) .last .1 .1 .1 .1 .1 .0) _ ((c .before .before .before .before .before .before .before .before .before .before .before .before .before .before .before .replace-values) .kept .1 .1 .1 .1 .1 .0) ((c .before .before .before .before .before .wipe) .ensures)))
+returns-2 c = (extended-full _ _ _ _ _ _ _ _ (c .before .before .before .before .before .before .before .before .before .before .before .before .before .before .before .before .before .before .before .before .before .before .before .before .before .before .pre) _ _ ((c .before .before .before .before .before .before .before .before .before .before .before .before .before .before .before .replace-values) .last .1 .1 .1 .0) ((c .before .before .before .before .before .before .before .before .before .before .before .before .before .before .before .replace-values) .result) ((c .before .before .before .before .before .before .before .before .before .before .before .before .before .before .before .replace-values) .ensures) _ _ ((c .before .r2) .given .1) ((c .before .before .before .before .before .before .before .before .before .before .before .before .before .before .before .replace-values) .kept .1 .1 .1 .0), (map-back _ _ _ _ _ _ _ _ (c .before .before .before .before .before .before .before .before .before .before .before .before .before .before .before .before .before .before .before .before .before .before .before .before .before .before .pre), part-wiped ((c .before .before .before .before .before .before .before .before .before .before .before .before .before .before .before .before .before .before .before .before .before .before .before .before .before .before .args) .memo .now) _ (memo-long _ _ _ _ _ _ _ _ (c .before .before .before .before .before .before .before .before .before .before .before .before .before .before .before .before .before .before .before .before .before .before .before .before .before .before .pre)) ((c .before .before .before .before .before .before .before .before .before .before .before .before .before .before .before .before .before .before .before .before .before .before .before .before .before .before .pre) .empty) ((c .before .before .before .before .before .before .before .before .before .before .before .before .before .before .before .replace-values) .last .1 .1 .1 .1 .1 .0) _ ((c .before .before .before .before .before .before .before .before .before .before .before .before .before .before .before .replace-values) .kept .1 .1 .1 .1 .1 .0) ((c .before .before .before .before .before .clear) .ensures)))
 
 pub extend-spec : {M : Type 1} → statement M
 extend-spec =
@@ -141,9 +141,9 @@ extend-spec =
     replace-values-requires
     mul-map-2
     slice-write-map-2
-    slice-relend-prefix-wipe
-    slice-aggregate-wipe
-    wipe-requires
+    slice-relend-prefix-clear
+    slice-aggregate-clear
+    clear-requires
     enum-known-r
     add-theta
     cast-theta

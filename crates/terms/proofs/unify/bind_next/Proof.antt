@@ -6,9 +6,9 @@ use Rattle.terms.proofs.unify.bind_next.Tie as tie
 use Rattle.terms.proofs.unify.bind_next.Reads as reads
 use Rattle.terms.proofs.unify.bind_next.Lts as lts
 use Rattle.terms.proofs.peel.peel.Reads as peel-reads
-use Rattle.terms.proofs.store.wipe.Reads as wipe-reads
+use Rattle.cells.proofs.clear.Reads as clear-reads
 use Rattle.terms.proofs.theta.extend.Reads as extend-reads
-use Rattle.terms.proofs.unify.clear.Reads as clear-reads
+use Rattle.terms.proofs.unify.clear_memo.Reads as clear-memo-reads
 
 -- src/unify.rt:57:11
 peel-requires : tie.Need-peel-requires
@@ -19,36 +19,36 @@ enum-known-last : tie.Need-enum-known-last
 enum-known-last c = search needs
 
 -- src/unify.rt:59:13
-clear-requires : tie.Need-clear-requires
-clear-requires c κs = finished-results _ _ _ _ _ _ _ _ _ (c .before .before .before .before .before .before .before .before .before .before .before .before .before .before .before .before .before .before .before .before .before .before .before .before .before .before .before .before .pre) _ _ ((c .before .before .before .before .before .before .before .before .before .before .before .before .before .before .peel) .last .1 .1 .1 .1 .0) ((c .before .before .before .before .before .before .before .before .before .before .before .before .before .before .peel) .last .1 .1 .1 .1 .1 .0) ((c .before .before .before .before .before .before .before .before .before .before .before .before .before .before .peel) .result) ((c .before .before .before .before .before .before .before .before .before .before .before .before .before .before .peel) .ensures .0) _ ((c .before .before .last) .given .1)
+clear-memo-requires : tie.Need-clear-memo-requires
+clear-memo-requires c κs = finished-results _ _ _ _ _ _ _ _ _ (c .before .before .before .before .before .before .before .before .before .before .before .before .before .before .before .before .before .before .before .before .before .before .before .before .before .before .before .before .pre) _ _ ((c .before .before .before .before .before .before .before .before .before .before .before .before .before .before .peel) .last .1 .1 .1 .1 .0) ((c .before .before .before .before .before .before .before .before .before .before .before .before .before .before .peel) .last .1 .1 .1 .1 .1 .0) ((c .before .before .before .before .before .before .before .before .before .before .before .before .before .before .peel) .result) ((c .before .before .before .before .before .before .before .before .before .before .before .before .before .before .peel) .ensures .0) _ ((c .before .before .last) .given .1)
 
 -- src/unify.rt:62:23
 enum-known-last-2 : tie.Need-enum-known-last-2
 enum-known-last-2 c = search needs
 
 -- src/unify.rt:63:13
-clear-requires-2 : tie.Need-clear-requires-2
-clear-requires-2 c κs = clash-results _ _ _ _ _ _ _ _ _ (c .before .before .before .before .before .before .before .before .before .before .before .before .before .before .before .before .before .before .before .before .before .before .before .before .before .before .before .before .pre) _ _ ((c .before .before .before .before .before .before .before .before .before .before .before .before .before .before .peel) .last .1 .1 .1 .1 .0) ((c .before .before .before .before .before .before .before .before .before .before .before .before .before .before .peel) .last .1 .1 .1 .1 .1 .0) ((c .before .before .before .before .before .before .before .before .before .before .before .before .before .before .peel) .result) ((c .before .before .before .before .before .before .before .before .before .before .before .before .before .before .peel) .ensures .0) _ ((c .before .before .last2) .given .1)
+clear-memo-requires-2 : tie.Need-clear-memo-requires-2
+clear-memo-requires-2 c κs = clash-results _ _ _ _ _ _ _ _ _ (c .before .before .before .before .before .before .before .before .before .before .before .before .before .before .before .before .before .before .before .before .before .before .before .before .before .before .before .before .pre) _ _ ((c .before .before .before .before .before .before .before .before .before .before .before .before .before .before .peel) .last .1 .1 .1 .1 .0) ((c .before .before .before .before .before .before .before .before .before .before .before .before .before .before .peel) .last .1 .1 .1 .1 .1 .0) ((c .before .before .before .before .before .before .before .before .before .before .before .before .before .before .peel) .result) ((c .before .before .before .before .before .before .before .before .before .before .before .before .before .before .peel) .ensures .0) _ ((c .before .before .last2) .given .1)
 
 -- src/unify.rt:66:22
 enum-known-row : tie.Need-enum-known-row
 enum-known-row c = search needs
 
 -- src/unify.rt:67:13
-wipe-requires : tie.Need-wipe-requires
-wipe-requires c κs = search needs
+clear-requires : tie.Need-clear-requires
+clear-requires c κs = search needs
 
 -- src/unify.rt:70:23
 enum-known-x : tie.Need-enum-known-x
 enum-known-x c = search needs
 
 -- src/unify.rt:71:13
-clear-requires-3 : tie.Need-clear-requires-3
-clear-requires-3 c κs = one-results _ _ _ _ _ _ _ _ _ (c .before .before .before .before .before .before .before .before .before .before .before .before .before .before .before .before .before .before .before .before .before .before .before .before .before .before .before .before .pre) _ _ ((c .before .before .before .before .before .before .before .before .before .before .before .before .before .before .peel) .last .1 .1 .1 .1 .0) ((c .before .before .before .before .before .before .before .before .before .before .before .before .before .before .peel) .last .1 .1 .1 .1 .1 .0) ((c .before .before .before .before .before .before .before .before .before .before .before .before .before .before .peel) .result) ((c .before .before .before .before .before .before .before .before .before .before .before .before .before .before .peel) .ensures .0) _ _ _ _ ((c .before .before .x) .given .1)
+clear-memo-requires-3 : tie.Need-clear-memo-requires-3
+clear-memo-requires-3 c κs = one-results _ _ _ _ _ _ _ _ _ (c .before .before .before .before .before .before .before .before .before .before .before .before .before .before .before .before .before .before .before .before .before .before .before .before .before .before .before .before .pre) _ _ ((c .before .before .before .before .before .before .before .before .before .before .before .before .before .before .peel) .last .1 .1 .1 .1 .0) ((c .before .before .before .before .before .before .before .before .before .before .before .before .before .before .peel) .last .1 .1 .1 .1 .1 .0) ((c .before .before .before .before .before .before .before .before .before .before .before .before .before .before .peel) .result) ((c .before .before .before .before .before .before .before .before .before .before .before .before .before .before .peel) .ensures .0) _ _ _ _ ((c .before .before .x) .given .1)
 
 -- src/unify.rt:72:19
 extend-requires : tie.Need-extend-requires
-extend-requires c κs = round-extends _ _ _ _ _ _ _ _ _ (c .before .before .before .before .before .before .before .before .before .before .before .before .before .before .before .before .before .before .before .before .before .before .before .before .before .before .before .before .before .before .before .before .before .before .before .before .pre) _ _ ((c .before .before .before .before .before .before .before .before .before .before .before .before .before .before .before .before .before .before .before .before .before .before .peel) .last .1 .1 .1 .1 .0) ((c .before .before .before .before .before .before .before .before .before .before .before .before .before .before .before .before .before .before .before .before .before .before .peel) .last .1 .1 .1 .1 .1 .0) ((c .before .before .before .before .before .before .before .before .before .before .before .before .before .before .before .before .before .before .before .before .before .before .peel) .result) ((c .before .before .before .before .before .before .before .before .before .before .before .before .before .before .before .before .before .before .before .before .before .before .peel) .ensures .0) _ _ _ _ ((c .before .before .before .before .before .before .before .before .before .before .x) .given .1) _ (wiped-back _ _ _ _ _ _ _ _ _ (c .before .before .before .before .before .before .before .before .before .before .before .before .before .before .before .before .before .before .before .before .before .before .before .before .before .before .before .before .before .before .before .before .before .before .before .before .pre) ((c .before .before .before .before .before .before .before .before .before .before .before .before .before .before .before .before .before .before .before .before .before .before .peel) .last .1 .1 .1 .1 .0) _ ((c .before .before .before .before .before .before .before .before .before .before .before .before .before .before .before .before .before .before .before .before .before .before .peel) .kept .1 .1 .1 .1 .0) ((c .before .before .before .before .before .before .before .clear3) .ensures))
+extend-requires c κs = round-extends _ _ _ _ _ _ _ _ _ (c .before .before .before .before .before .before .before .before .before .before .before .before .before .before .before .before .before .before .before .before .before .before .before .before .before .before .before .before .before .before .before .before .before .before .before .before .pre) _ _ ((c .before .before .before .before .before .before .before .before .before .before .before .before .before .before .before .before .before .before .before .before .before .before .peel) .last .1 .1 .1 .1 .0) ((c .before .before .before .before .before .before .before .before .before .before .before .before .before .before .before .before .before .before .before .before .before .before .peel) .last .1 .1 .1 .1 .1 .0) ((c .before .before .before .before .before .before .before .before .before .before .before .before .before .before .before .before .before .before .before .before .before .before .peel) .result) ((c .before .before .before .before .before .before .before .before .before .before .before .before .before .before .before .before .before .before .before .before .before .before .peel) .ensures .0) _ _ _ _ ((c .before .before .before .before .before .before .before .before .before .before .x) .given .1) _ (wiped-back _ _ _ _ _ _ _ _ _ (c .before .before .before .before .before .before .before .before .before .before .before .before .before .before .before .before .before .before .before .before .before .before .before .before .before .before .before .before .before .before .before .before .before .before .before .before .pre) ((c .before .before .before .before .before .before .before .before .before .before .before .before .before .before .before .before .before .before .before .before .before .before .peel) .last .1 .1 .1 .1 .0) _ ((c .before .before .before .before .before .before .before .before .before .before .before .before .before .before .before .before .before .before .before .before .before .before .peel) .kept .1 .1 .1 .1 .0) ((c .before .before .before .before .before .before .before .clear-memo3) .ensures))
 
 -- src/unify.rt:73:26
 enum-known-new : tie.Need-enum-known-new
@@ -72,7 +72,7 @@ same-length-3 c = refl
 
 -- src/unify.rt:42:1
 same-length-4 : tie.Need-same-length-4
-same-length-4 c = (c .before .before .clear) .kept .0 ∙ (c .before .before .before .before .before .before .before .before .before .before .before .before .before .before .before .before .before .peel) .kept .1 .1 .1 .1 .0
+same-length-4 c = (c .before .before .clear-memo) .kept .0 ∙ (c .before .before .before .before .before .before .before .before .before .before .before .before .before .before .before .before .before .peel) .kept .1 .1 .1 .1 .0
 
 -- src/unify.rt:42:1
 same-length-5 : tie.Need-same-length-5
@@ -84,7 +84,7 @@ same-length-6 c = (c .before .before .before .before .before .before .before .be
 
 -- src/unify.rt:42:1
 returns : tie.Need-returns
-returns c = (round-found _ _ _ _ _ _ _ _ _ (c .before .before .before .before .before .before .before .before .before .before .before .before .before .before .before .before .before .before .before .before .before .before .before .before .before .before .before .before .before .before .before .pre) _ _ ((c .before .before .before .before .before .before .before .before .before .before .before .before .before .before .before .before .before .peel) .last .1 .1 .1 .1 .0) ((c .before .before .before .before .before .before .before .before .before .before .before .before .before .before .before .before .before .peel) .last .1 .1 .1 .1 .1 .0) ((c .before .before .before .before .before .before .before .before .before .before .before .before .before .before .before .before .before .peel) .result) ((c .before .before .before .before .before .before .before .before .before .before .before .before .before .before .before .before .before .peel) .ensures .0) _ ((c .before .before .before .before .before .last) .given .1), (refl, wiped-back _ _ _ _ _ _ _ _ _ (c .before .before .before .before .before .before .before .before .before .before .before .before .before .before .before .before .before .before .before .before .before .before .before .before .before .before .before .before .before .before .before .pre) ((c .before .before .before .before .before .before .before .before .before .before .before .before .before .before .before .before .before .peel) .last .1 .1 .1 .1 .0) _ ((c .before .before .before .before .before .before .before .before .before .before .before .before .before .before .before .before .before .peel) .kept .1 .1 .1 .1 .0) ((c .before .before .clear) .ensures), (c .before .before .before .before .before .before .before .before .before .before .before .before .before .before .before .before .before .peel) .ensures .1))
+returns c = (round-found _ _ _ _ _ _ _ _ _ (c .before .before .before .before .before .before .before .before .before .before .before .before .before .before .before .before .before .before .before .before .before .before .before .before .before .before .before .before .before .before .before .pre) _ _ ((c .before .before .before .before .before .before .before .before .before .before .before .before .before .before .before .before .before .peel) .last .1 .1 .1 .1 .0) ((c .before .before .before .before .before .before .before .before .before .before .before .before .before .before .before .before .before .peel) .last .1 .1 .1 .1 .1 .0) ((c .before .before .before .before .before .before .before .before .before .before .before .before .before .before .before .before .before .peel) .result) ((c .before .before .before .before .before .before .before .before .before .before .before .before .before .before .before .before .before .peel) .ensures .0) _ ((c .before .before .before .before .before .last) .given .1), (refl, wiped-back _ _ _ _ _ _ _ _ _ (c .before .before .before .before .before .before .before .before .before .before .before .before .before .before .before .before .before .before .before .before .before .before .before .before .before .before .before .before .before .before .before .pre) ((c .before .before .before .before .before .before .before .before .before .before .before .before .before .before .before .before .before .peel) .last .1 .1 .1 .1 .0) _ ((c .before .before .before .before .before .before .before .before .before .before .before .before .before .before .before .before .before .peel) .kept .1 .1 .1 .1 .0) ((c .before .before .clear-memo) .ensures), (c .before .before .before .before .before .before .before .before .before .before .before .before .before .before .before .before .before .peel) .ensures .1))
 
 -- src/unify.rt:42:1
 same-length-7 : tie.Need-same-length-7
@@ -100,7 +100,7 @@ same-length-9 c = refl
 
 -- src/unify.rt:42:1
 same-length-10 : tie.Need-same-length-10
-same-length-10 c = (c .before .before .clear2) .kept .0 ∙ (c .before .before .before .before .before .before .before .before .before .before .before .before .before .before .before .before .before .peel) .kept .1 .1 .1 .1 .0
+same-length-10 c = (c .before .before .clear-memo2) .kept .0 ∙ (c .before .before .before .before .before .before .before .before .before .before .before .before .before .before .before .before .before .peel) .kept .1 .1 .1 .1 .0
 
 -- src/unify.rt:42:1
 same-length-11 : tie.Need-same-length-11
@@ -112,7 +112,7 @@ same-length-12 c = (c .before .before .before .before .before .before .before .b
 
 -- src/unify.rt:42:1
 returns-2 : tie.Need-returns-2
-returns-2 c = (round-apart _ _ _ _ _ _ _ _ _ (c .before .before .before .before .before .before .before .before .before .before .before .before .before .before .before .before .before .before .before .before .before .before .before .before .before .before .before .before .before .before .before .pre) _ _ ((c .before .before .before .before .before .before .before .before .before .before .before .before .before .before .before .before .before .peel) .last .1 .1 .1 .1 .0) ((c .before .before .before .before .before .before .before .before .before .before .before .before .before .before .before .before .before .peel) .last .1 .1 .1 .1 .1 .0) ((c .before .before .before .before .before .before .before .before .before .before .before .before .before .before .before .before .before .peel) .result) ((c .before .before .before .before .before .before .before .before .before .before .before .before .before .before .before .before .before .peel) .ensures .0) _ ((c .before .before .before .before .before .last2) .given .1), (refl, wiped-back _ _ _ _ _ _ _ _ _ (c .before .before .before .before .before .before .before .before .before .before .before .before .before .before .before .before .before .before .before .before .before .before .before .before .before .before .before .before .before .before .before .pre) ((c .before .before .before .before .before .before .before .before .before .before .before .before .before .before .before .before .before .peel) .last .1 .1 .1 .1 .0) _ ((c .before .before .before .before .before .before .before .before .before .before .before .before .before .before .before .before .before .peel) .kept .1 .1 .1 .1 .0) ((c .before .before .clear2) .ensures), (c .before .before .before .before .before .before .before .before .before .before .before .before .before .before .before .before .before .peel) .ensures .1))
+returns-2 c = (round-apart _ _ _ _ _ _ _ _ _ (c .before .before .before .before .before .before .before .before .before .before .before .before .before .before .before .before .before .before .before .before .before .before .before .before .before .before .before .before .before .before .before .pre) _ _ ((c .before .before .before .before .before .before .before .before .before .before .before .before .before .before .before .before .before .peel) .last .1 .1 .1 .1 .0) ((c .before .before .before .before .before .before .before .before .before .before .before .before .before .before .before .before .before .peel) .last .1 .1 .1 .1 .1 .0) ((c .before .before .before .before .before .before .before .before .before .before .before .before .before .before .before .before .before .peel) .result) ((c .before .before .before .before .before .before .before .before .before .before .before .before .before .before .before .before .before .peel) .ensures .0) _ ((c .before .before .before .before .before .last2) .given .1), (refl, wiped-back _ _ _ _ _ _ _ _ _ (c .before .before .before .before .before .before .before .before .before .before .before .before .before .before .before .before .before .before .before .before .before .before .before .before .before .before .before .before .before .before .before .pre) ((c .before .before .before .before .before .before .before .before .before .before .before .before .before .before .before .before .before .peel) .last .1 .1 .1 .1 .0) _ ((c .before .before .before .before .before .before .before .before .before .before .before .before .before .before .before .before .before .peel) .kept .1 .1 .1 .1 .0) ((c .before .before .clear-memo2) .ensures), (c .before .before .before .before .before .before .before .before .before .before .before .before .before .before .before .before .before .peel) .ensures .1))
 
 -- src/unify.rt:42:1
 same-length-13 : tie.Need-same-length-13
@@ -128,7 +128,7 @@ same-length-15 c = refl
 
 -- src/unify.rt:42:1
 same-length-16 : tie.Need-same-length-16
-same-length-16 c = (c .before .before .wipe) .kept .0 ∙ (c .before .before .before .before .before .before .before .before .before .before .before .before .before .before .before .before .before .peel) .kept .1 .1 .1 .1 .0
+same-length-16 c = (c .before .before .clear) .kept .0 ∙ (c .before .before .before .before .before .before .before .before .before .before .before .before .before .before .before .before .before .peel) .kept .1 .1 .1 .1 .0
 
 -- src/unify.rt:42:1
 same-length-17 : tie.Need-same-length-17
@@ -140,7 +140,7 @@ same-length-18 c = (c .before .before .before .before .before .before .before .b
 
 -- src/unify.rt:42:1
 returns-3 : tie.Need-returns-3
-returns-3 c = (round-full _ _ _ _ _ _ _ _ _ (c .before .before .before .before .before .before .before .before .before .before .before .before .before .before .before .before .before .before .before .before .before .before .before .before .before .before .before .before .before .before .before .pre) _ _ ((c .before .before .before .before .before .before .before .before .before .before .before .before .before .before .before .before .before .peel) .last .1 .1 .1 .1 .0) ((c .before .before .before .before .before .before .before .before .before .before .before .before .before .before .before .before .before .peel) .last .1 .1 .1 .1 .1 .0) ((c .before .before .before .before .before .before .before .before .before .before .before .before .before .before .before .before .before .peel) .result) ((c .before .before .before .before .before .before .before .before .before .before .before .before .before .before .before .before .before .peel) .ensures .0) _ _ ((c .before .before .before .before .before .row) .given .1), (refl, wiped-back _ _ _ _ _ _ _ _ _ (c .before .before .before .before .before .before .before .before .before .before .before .before .before .before .before .before .before .before .before .before .before .before .before .before .before .before .before .before .before .before .before .pre) ((c .before .before .before .before .before .before .before .before .before .before .before .before .before .before .before .before .before .peel) .last .1 .1 .1 .1 .0) _ ((c .before .before .before .before .before .before .before .before .before .before .before .before .before .before .before .before .before .peel) .kept .1 .1 .1 .1 .0) ((c .before .before .wipe) .ensures), (c .before .before .before .before .before .before .before .before .before .before .before .before .before .before .before .before .before .peel) .ensures .1))
+returns-3 c = (round-full _ _ _ _ _ _ _ _ _ (c .before .before .before .before .before .before .before .before .before .before .before .before .before .before .before .before .before .before .before .before .before .before .before .before .before .before .before .before .before .before .before .pre) _ _ ((c .before .before .before .before .before .before .before .before .before .before .before .before .before .before .before .before .before .peel) .last .1 .1 .1 .1 .0) ((c .before .before .before .before .before .before .before .before .before .before .before .before .before .before .before .before .before .peel) .last .1 .1 .1 .1 .1 .0) ((c .before .before .before .before .before .before .before .before .before .before .before .before .before .before .before .before .before .peel) .result) ((c .before .before .before .before .before .before .before .before .before .before .before .before .before .before .before .before .before .peel) .ensures .0) _ _ ((c .before .before .before .before .before .row) .given .1), (refl, wiped-back _ _ _ _ _ _ _ _ _ (c .before .before .before .before .before .before .before .before .before .before .before .before .before .before .before .before .before .before .before .before .before .before .before .before .before .before .before .before .before .before .before .pre) ((c .before .before .before .before .before .before .before .before .before .before .before .before .before .before .before .before .before .peel) .last .1 .1 .1 .1 .0) _ ((c .before .before .before .before .before .before .before .before .before .before .before .before .before .before .before .before .before .peel) .kept .1 .1 .1 .1 .0) ((c .before .before .clear) .ensures), (c .before .before .before .before .before .before .before .before .before .before .before .before .before .before .before .before .before .peel) .ensures .1))
 
 -- src/unify.rt:42:1
 same-length-19 : tie.Need-same-length-19
@@ -160,7 +160,7 @@ same-length-22 c = (c .before .before .before .before .before .before .before .b
 
 -- src/unify.rt:42:1
 same-length-23 : tie.Need-same-length-23
-same-length-23 c = (c .before .before .before .before .before .before .before .before .before .before .before .before .before .extend) .kept .1 .1 .1 .1 .1 .0 ∙ (c .before .before .before .before .before .before .before .before .before .before .before .before .before .before .before .before .before .before .before .before .before .clear3) .kept .0 ∙ (c .before .before .before .before .before .before .before .before .before .before .before .before .before .before .before .before .before .before .before .before .before .before .before .before .before .before .before .before .before .before .before .before .before .before .before .before .peel) .kept .1 .1 .1 .1 .0
+same-length-23 c = (c .before .before .before .before .before .before .before .before .before .before .before .before .before .extend) .kept .1 .1 .1 .1 .1 .0 ∙ (c .before .before .before .before .before .before .before .before .before .before .before .before .before .before .before .before .before .before .before .before .before .clear-memo3) .kept .0 ∙ (c .before .before .before .before .before .before .before .before .before .before .before .before .before .before .before .before .before .before .before .before .before .before .before .before .before .before .before .before .before .before .before .before .before .before .before .before .peel) .kept .1 .1 .1 .1 .0
 
 -- src/unify.rt:42:1
 same-length-24 : tie.Need-same-length-24
@@ -172,7 +172,7 @@ same-length-25 c = (c .before .before .before .before .before .before .before .b
 
 -- src/unify.rt:42:1
 returns-4 : tie.Need-returns-4
-returns-4 c = (bind-more _ _ _ _ _ _ _ _ _ (c .before .before .before .before .before .before .before .before .before .before .before .before .before .before .before .before .before .before .before .before .before .before .before .before .before .before .before .before .before .before .before .before .before .before .before .before .before .before .before .before .before .before .before .before .before .before .before .before .before .before .pre) _ _ ((c .before .before .before .before .before .before .before .before .before .before .before .before .before .before .before .before .before .before .before .before .before .before .before .before .before .before .before .before .before .before .before .before .before .before .before .before .peel) .last .1 .1 .1 .1 .0) ((c .before .before .before .before .before .before .before .before .before .before .before .before .before .before .before .before .before .before .before .before .before .before .before .before .before .before .before .before .before .before .before .before .before .before .before .before .peel) .last .1 .1 .1 .1 .1 .0) ((c .before .before .before .before .before .before .before .before .before .before .before .before .before .before .before .before .before .before .before .before .before .before .before .before .before .before .before .before .before .before .before .before .before .before .before .before .peel) .result) ((c .before .before .before .before .before .before .before .before .before .before .before .before .before .before .before .before .before .before .before .before .before .before .before .before .before .before .before .before .before .before .before .before .before .before .before .before .peel) .ensures .0) _ _ _ _ ((c .before .before .before .before .before .before .before .before .before .before .before .before .before .before .before .before .before .before .before .before .before .before .before .before .x) .given .1) _ _ ((c .before .before .before .before .before .before .before .before .before .before .before .before .before .extend) .last .1 .1 .1 .0) ((c .before .before .before .before .before .before .before .before .before .before .before .before .before .extend) .result) ((c .before .before .before .before .before .before .before .before .before .before .before .before .before .extend) .ensures .0) _ ((c .before .new) .given .1) ((c .before .before .before .before .before .before .before .before .before .before .before .before .before .before .before .before .before .before .before .before .before .before .before .before .before .before .before .before .before .before .before .before .before .before .before .before .peel) .kept .1 .1 .1 .1 .1 .0), ((c .before .before .before .before .before .before .before .before .before .before .before .before .before .extend) .ensures .1 .0, (c .before .before .before .before .before .before .before .before .before .before .before .before .before .extend) .ensures .1 .1 ∙ wiped-back _ _ _ _ _ _ _ _ _ (c .before .before .before .before .before .before .before .before .before .before .before .before .before .before .before .before .before .before .before .before .before .before .before .before .before .before .before .before .before .before .before .before .before .before .before .before .before .before .before .before .before .before .before .before .before .before .before .before .before .before .pre) ((c .before .before .before .before .before .before .before .before .before .before .before .before .before .before .before .before .before .before .before .before .before .before .before .before .before .before .before .before .before .before .before .before .before .before .before .before .peel) .last .1 .1 .1 .1 .0) _ ((c .before .before .before .before .before .before .before .before .before .before .before .before .before .before .before .before .before .before .before .before .before .before .before .before .before .before .before .before .before .before .before .before .before .before .before .before .peel) .kept .1 .1 .1 .1 .0) ((c .before .before .before .before .before .before .before .before .before .before .before .before .before .before .before .before .before .before .before .before .before .clear3) .ensures), (c .before .before .before .before .before .before .before .before .before .before .before .before .before .before .before .before .before .before .before .before .before .before .before .before .before .before .before .before .before .before .before .before .before .before .before .before .peel) .ensures .1))
+returns-4 c = (bind-more _ _ _ _ _ _ _ _ _ (c .before .before .before .before .before .before .before .before .before .before .before .before .before .before .before .before .before .before .before .before .before .before .before .before .before .before .before .before .before .before .before .before .before .before .before .before .before .before .before .before .before .before .before .before .before .before .before .before .before .before .pre) _ _ ((c .before .before .before .before .before .before .before .before .before .before .before .before .before .before .before .before .before .before .before .before .before .before .before .before .before .before .before .before .before .before .before .before .before .before .before .before .peel) .last .1 .1 .1 .1 .0) ((c .before .before .before .before .before .before .before .before .before .before .before .before .before .before .before .before .before .before .before .before .before .before .before .before .before .before .before .before .before .before .before .before .before .before .before .before .peel) .last .1 .1 .1 .1 .1 .0) ((c .before .before .before .before .before .before .before .before .before .before .before .before .before .before .before .before .before .before .before .before .before .before .before .before .before .before .before .before .before .before .before .before .before .before .before .before .peel) .result) ((c .before .before .before .before .before .before .before .before .before .before .before .before .before .before .before .before .before .before .before .before .before .before .before .before .before .before .before .before .before .before .before .before .before .before .before .before .peel) .ensures .0) _ _ _ _ ((c .before .before .before .before .before .before .before .before .before .before .before .before .before .before .before .before .before .before .before .before .before .before .before .before .x) .given .1) _ _ ((c .before .before .before .before .before .before .before .before .before .before .before .before .before .extend) .last .1 .1 .1 .0) ((c .before .before .before .before .before .before .before .before .before .before .before .before .before .extend) .result) ((c .before .before .before .before .before .before .before .before .before .before .before .before .before .extend) .ensures .0) _ ((c .before .new) .given .1) ((c .before .before .before .before .before .before .before .before .before .before .before .before .before .before .before .before .before .before .before .before .before .before .before .before .before .before .before .before .before .before .before .before .before .before .before .before .peel) .kept .1 .1 .1 .1 .1 .0), ((c .before .before .before .before .before .before .before .before .before .before .before .before .before .extend) .ensures .1 .0, (c .before .before .before .before .before .before .before .before .before .before .before .before .before .extend) .ensures .1 .1 ∙ wiped-back _ _ _ _ _ _ _ _ _ (c .before .before .before .before .before .before .before .before .before .before .before .before .before .before .before .before .before .before .before .before .before .before .before .before .before .before .before .before .before .before .before .before .before .before .before .before .before .before .before .before .before .before .before .before .before .before .before .before .before .before .pre) ((c .before .before .before .before .before .before .before .before .before .before .before .before .before .before .before .before .before .before .before .before .before .before .before .before .before .before .before .before .before .before .before .before .before .before .before .before .peel) .last .1 .1 .1 .1 .0) _ ((c .before .before .before .before .before .before .before .before .before .before .before .before .before .before .before .before .before .before .before .before .before .before .before .before .before .before .before .before .before .before .before .before .before .before .before .before .peel) .kept .1 .1 .1 .1 .0) ((c .before .before .before .before .before .before .before .before .before .before .before .before .before .before .before .before .before .before .before .before .before .clear-memo3) .ensures), (c .before .before .before .before .before .before .before .before .before .before .before .before .before .before .before .before .before .before .before .before .before .before .before .before .before .before .before .before .before .before .before .before .before .before .before .before .peel) .ensures .1))
 
 -- src/unify.rt:42:1
 same-length-26 : tie.Need-same-length-26
@@ -192,7 +192,7 @@ same-length-29 c = (c .before .before .before .before .before .before .before .b
 
 -- src/unify.rt:42:1
 same-length-30 : tie.Need-same-length-30
-same-length-30 c = (c .before .before .before .before .before .before .before .before .before .before .before .before .before .extend) .kept .1 .1 .1 .1 .1 .0 ∙ (c .before .before .before .before .before .before .before .before .before .before .before .before .before .before .before .before .before .before .before .before .before .clear3) .kept .0 ∙ (c .before .before .before .before .before .before .before .before .before .before .before .before .before .before .before .before .before .before .before .before .before .before .before .before .before .before .before .before .before .before .before .before .before .before .before .before .peel) .kept .1 .1 .1 .1 .0
+same-length-30 c = (c .before .before .before .before .before .before .before .before .before .before .before .before .before .extend) .kept .1 .1 .1 .1 .1 .0 ∙ (c .before .before .before .before .before .before .before .before .before .before .before .before .before .before .before .before .before .before .before .before .before .clear-memo3) .kept .0 ∙ (c .before .before .before .before .before .before .before .before .before .before .before .before .before .before .before .before .before .before .before .before .before .before .before .before .before .before .before .before .before .before .before .before .before .before .before .before .peel) .kept .1 .1 .1 .1 .0
 
 -- src/unify.rt:42:1
 same-length-31 : tie.Need-same-length-31
@@ -204,7 +204,7 @@ same-length-32 c = (c .before .before .before .before .before .before .before .b
 
 -- src/unify.rt:42:1
 returns-5 : tie.Need-returns-5
-returns-5 c = (bind-full _ _ _ _ _ _ _ _ _ (c .before .before .before .before .before .before .before .before .before .before .before .before .before .before .before .before .before .before .before .before .before .before .before .before .before .before .before .before .before .before .before .before .before .before .before .before .before .before .before .before .before .before .before .before .before .before .before .before .before .before .pre) _ _ ((c .before .before .before .before .before .before .before .before .before .before .before .before .before .before .before .before .before .before .before .before .before .before .before .before .before .before .before .before .before .before .before .before .before .before .before .before .peel) .last .1 .1 .1 .1 .0) ((c .before .before .before .before .before .before .before .before .before .before .before .before .before .before .before .before .before .before .before .before .before .before .before .before .before .before .before .before .before .before .before .before .before .before .before .before .peel) .last .1 .1 .1 .1 .1 .0) ((c .before .before .before .before .before .before .before .before .before .before .before .before .before .before .before .before .before .before .before .before .before .before .before .before .before .before .before .before .before .before .before .before .before .before .before .before .peel) .result) ((c .before .before .before .before .before .before .before .before .before .before .before .before .before .before .before .before .before .before .before .before .before .before .before .before .before .before .before .before .before .before .before .before .before .before .before .before .peel) .ensures .0) _ _ _ _ ((c .before .before .before .before .before .before .before .before .before .before .before .before .before .before .before .before .before .before .before .before .before .before .before .before .x) .given .1) _ _ ((c .before .before .before .before .before .before .before .before .before .before .before .before .before .extend) .last .1 .1 .1 .0) ((c .before .before .before .before .before .before .before .before .before .before .before .before .before .extend) .result) ((c .before .before .before .before .before .before .before .before .before .before .before .before .before .extend) .ensures .0) _ _ ((c .before .row2) .given .1), ((c .before .before .before .before .before .before .before .before .before .before .before .before .before .extend) .ensures .1 .0, (c .before .before .before .before .before .before .before .before .before .before .before .before .before .extend) .ensures .1 .1 ∙ wiped-back _ _ _ _ _ _ _ _ _ (c .before .before .before .before .before .before .before .before .before .before .before .before .before .before .before .before .before .before .before .before .before .before .before .before .before .before .before .before .before .before .before .before .before .before .before .before .before .before .before .before .before .before .before .before .before .before .before .before .before .before .pre) ((c .before .before .before .before .before .before .before .before .before .before .before .before .before .before .before .before .before .before .before .before .before .before .before .before .before .before .before .before .before .before .before .before .before .before .before .before .peel) .last .1 .1 .1 .1 .0) _ ((c .before .before .before .before .before .before .before .before .before .before .before .before .before .before .before .before .before .before .before .before .before .before .before .before .before .before .before .before .before .before .before .before .before .before .before .before .peel) .kept .1 .1 .1 .1 .0) ((c .before .before .before .before .before .before .before .before .before .before .before .before .before .before .before .before .before .before .before .before .before .clear3) .ensures), (c .before .before .before .before .before .before .before .before .before .before .before .before .before .before .before .before .before .before .before .before .before .before .before .before .before .before .before .before .before .before .before .before .before .before .before .before .peel) .ensures .1))
+returns-5 c = (bind-full _ _ _ _ _ _ _ _ _ (c .before .before .before .before .before .before .before .before .before .before .before .before .before .before .before .before .before .before .before .before .before .before .before .before .before .before .before .before .before .before .before .before .before .before .before .before .before .before .before .before .before .before .before .before .before .before .before .before .before .before .pre) _ _ ((c .before .before .before .before .before .before .before .before .before .before .before .before .before .before .before .before .before .before .before .before .before .before .before .before .before .before .before .before .before .before .before .before .before .before .before .before .peel) .last .1 .1 .1 .1 .0) ((c .before .before .before .before .before .before .before .before .before .before .before .before .before .before .before .before .before .before .before .before .before .before .before .before .before .before .before .before .before .before .before .before .before .before .before .before .peel) .last .1 .1 .1 .1 .1 .0) ((c .before .before .before .before .before .before .before .before .before .before .before .before .before .before .before .before .before .before .before .before .before .before .before .before .before .before .before .before .before .before .before .before .before .before .before .before .peel) .result) ((c .before .before .before .before .before .before .before .before .before .before .before .before .before .before .before .before .before .before .before .before .before .before .before .before .before .before .before .before .before .before .before .before .before .before .before .before .peel) .ensures .0) _ _ _ _ ((c .before .before .before .before .before .before .before .before .before .before .before .before .before .before .before .before .before .before .before .before .before .before .before .before .x) .given .1) _ _ ((c .before .before .before .before .before .before .before .before .before .before .before .before .before .extend) .last .1 .1 .1 .0) ((c .before .before .before .before .before .before .before .before .before .before .before .before .before .extend) .result) ((c .before .before .before .before .before .before .before .before .before .before .before .before .before .extend) .ensures .0) _ _ ((c .before .row2) .given .1), ((c .before .before .before .before .before .before .before .before .before .before .before .before .before .extend) .ensures .1 .0, (c .before .before .before .before .before .before .before .before .before .before .before .before .before .extend) .ensures .1 .1 ∙ wiped-back _ _ _ _ _ _ _ _ _ (c .before .before .before .before .before .before .before .before .before .before .before .before .before .before .before .before .before .before .before .before .before .before .before .before .before .before .before .before .before .before .before .before .before .before .before .before .before .before .before .before .before .before .before .before .before .before .before .before .before .before .pre) ((c .before .before .before .before .before .before .before .before .before .before .before .before .before .before .before .before .before .before .before .before .before .before .before .before .before .before .before .before .before .before .before .before .before .before .before .before .peel) .last .1 .1 .1 .1 .0) _ ((c .before .before .before .before .before .before .before .before .before .before .before .before .before .before .before .before .before .before .before .before .before .before .before .before .before .before .before .before .before .before .before .before .before .before .before .before .peel) .kept .1 .1 .1 .1 .0) ((c .before .before .before .before .before .before .before .before .before .before .before .before .before .before .before .before .before .before .before .before .before .clear-memo3) .ensures), (c .before .before .before .before .before .before .before .before .before .before .before .before .before .before .before .before .before .before .before .before .before .before .before .before .before .before .before .before .before .before .before .before .before .before .before .before .peel) .ensures .1))
 
 pub bind-next-spec : {M : Type 1} → statement M
 bind-next-spec =
@@ -212,13 +212,13 @@ bind-next-spec =
     (tie.spec
     peel-requires
     enum-known-last
-    clear-requires
+    clear-memo-requires
     enum-known-last-2
-    clear-requires-2
+    clear-memo-requires-2
     enum-known-row
-    wipe-requires
+    clear-requires
     enum-known-x
-    clear-requires-3
+    clear-memo-requires-3
     extend-requires
     enum-known-new
     enum-known-row-2

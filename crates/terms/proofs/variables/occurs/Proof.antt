@@ -1,4 +1,4 @@
-use Rattle.terms.proofs.Collects.{occurs-is}
+use Rattle.terms.proofs.Visits.{occurs-is}
 use borrow.Author.Needs.{needs}
 use Rattle.terms.proofs.variables.occurs.Statement.{statement}
 use Rattle.terms.proofs.variables.occurs.Tie as tie

@@ -1,20 +1,21 @@
 use mathlib.Core.Path.{_∙_}
-use Rattle.terms.proofs.Collects.{seen-none, cleared}
+use Rattle.terms.proofs.Visits.{cleared}
 use borrow.Author.Needs.{needs}
 use Rattle.terms.proofs.variables.variables.Statement.{statement}
 use Rattle.terms.proofs.variables.variables.Tie as tie
 use Rattle.terms.proofs.variables.variables.Reads as reads
 use Rattle.terms.proofs.variables.variables.Lts as lts
-use Rattle.terms.proofs.sets.clear.Reads as clear-reads
-use Rattle.terms.proofs.variables.collect.Reads as collect-reads
+use Rattle.cells.proofs.clear_words.Reads as clear-words-reads
+use Rattle.terms.proofs.variables.visit.Reads as visit-reads
+use Rattle.terms.specs.Laws.Seen.{seen-none}
 
 -- src/variables.rt:53:5
-collect-requires : tie.Need-collect-requires
-collect-requires c κs = ((c .before .before .before .before .before .before .pre) .0, seen-none _ _ _ _ _ ((c .before .before .before .before .before .before .pre) .1))
+visit-requires : tie.Need-visit-requires
+visit-requires c κs = ((c .before .before .before .before .before .before .pre) .0, seen-none _ _ _ _ _ ((c .before .before .before .before .before .before .pre) .1))
 
 -- src/variables.rt:54:5
-clear-requires : tie.Need-clear-requires
-clear-requires c κs = search needs
+clear-words-requires : tie.Need-clear-words-requires
+clear-words-requires c κs = search needs
 
 -- src/variables.rt:48:1
 same-length : tie.Need-same-length
@@ -26,8 +27,8 @@ same-length-2 c = search needs
 
 -- src/variables.rt:48:1
 returns : tie.Need-returns
-returns c = ((c .before .before .before .before .before .before .before .before .collect) .ensures .set, cleared _ ((c .before .before .before .before .before .before .before .before .collect) .last .1 .1 .1 .1 .0) _ ((c .before .before .before .before .before .before .before .before .before .before .before .before .before .before .before .pre) .1) ((c .before .before .before .before .before .before .before .before .collect) .kept .1 .1 .1 .1 .0) ((c .before .before .clear) .ensures))
+returns c = ((c .before .before .before .before .before .before .before .before .visit) .ensures .set, cleared _ ((c .before .before .before .before .before .before .before .before .visit) .last .1 .1 .1 .1 .0) _ ((c .before .before .before .before .before .before .before .before .before .before .before .before .before .before .before .pre) .1) ((c .before .before .before .before .before .before .before .before .visit) .kept .1 .1 .1 .1 .0) ((c .before .before .clear-words) .ensures))
 
 pub variables-spec : {M : Type 1} → statement M
 variables-spec =
-    tie.close (tie.spec collect-requires clear-requires same-length same-length-2 returns)
+    tie.close (tie.spec visit-requires clear-words-requires same-length same-length-2 returns)

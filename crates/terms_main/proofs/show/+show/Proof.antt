@@ -1,7 +1,7 @@
 -- `terms_main::show::show` meets its contract. Arguments have lower numbers. Assumes nothing.
 use Prim.Native.Nat.{ℕ, _-_, _<_}
 use native.Mathlib.Omega.{arith}
-use Rattle.terms.proofs.Terms.{end-in, start-in}
+use Rattle.terms.specs.Laws.Terms.{end-in, start-in}
 use Rattle.terms_main.proofs.Places.{Walking, walk-start, walk-in, walk-falls, walk-on}
 use borrow.Author.Needs.{needs}
 use borrow.Fn.Kinds.{In}

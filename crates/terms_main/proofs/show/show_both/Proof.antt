@@ -7,7 +7,7 @@ slice-aggregate-show-line : tie.Need-slice-aggregate-show-line
 slice-aggregate-show-line c = search needs
 
 show-line-requires : tie.Need-show-line-requires
-show-line-requires c κs = ((c .before .before .before .before .pre) .0 .0, (c .before .before .before .before .pre) .0 .1 .there)
+show-line-requires c κs = ((c .before .before .before .before .pre) .0 .0, (c .before .before .before .before .pre) .0 .1)
 
 slice-aggregate-show-line-2 : tie.Need-slice-aggregate-show-line-2
 slice-aggregate-show-line-2 c = search needs
