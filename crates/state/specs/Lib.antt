@@ -1,2 +1,4 @@
 pub mod Held
 pub mod Rows
+pub mod Filled
+pub mod RowCells

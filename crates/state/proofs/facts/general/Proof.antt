@@ -1,0 +1,115 @@
+use borrow.Author.Needs.{needs}
+use Rattle.state.proofs.facts.general.Statement.{statement}
+use Rattle.state.proofs.facts.general.Tie as tie
+use Rattle.state.proofs.facts.general.Reads as reads
+use Rattle.state.proofs.facts.general.Lts as lts
+
+-- src/facts.rt:94:14
+mul-at : tie.Need-mul-at
+mul-at c = search needs
+
+-- src/facts.rt:95:22
+add-from : tie.Need-add-from
+add-from c = search needs
+
+-- src/facts.rt:95:16
+mul-from : tie.Need-mul-from
+mul-from c = search needs
+
+-- src/facts.rt:95:16
+shared-slice-read-from : tie.Need-shared-slice-read-from
+shared-slice-read-from c = search needs
+
+-- src/facts.rt:95:16
+cast-from : tie.Need-cast-from
+cast-from c = ?
+
+-- src/facts.rt:95:47
+add-from-2 : tie.Need-add-from-2
+add-from-2 c = search needs
+
+-- src/facts.rt:95:41
+mul-from-2 : tie.Need-mul-from-2
+mul-from-2 c = search needs
+
+-- src/facts.rt:95:41
+shared-slice-read-from-2 : tie.Need-shared-slice-read-from-2
+shared-slice-read-from-2 c = search needs
+
+-- src/facts.rt:95:41
+cast-from-2 : tie.Need-cast-from-2
+cast-from-2 c = ?
+
+-- src/facts.rt:95:16
+add-from-3 : tie.Need-add-from-3
+add-from-3 c = ?
+
+-- src/facts.rt:95:72
+add-from-4 : tie.Need-add-from-4
+add-from-4 c = search needs
+
+-- src/facts.rt:95:66
+mul-from-3 : tie.Need-mul-from-3
+mul-from-3 c = search needs
+
+-- src/facts.rt:95:66
+shared-slice-read-from-3 : tie.Need-shared-slice-read-from-3
+shared-slice-read-from-3 c = search needs
+
+-- src/facts.rt:95:66
+cast-from-3 : tie.Need-cast-from-3
+cast-from-3 c = ?
+
+-- src/facts.rt:95:16
+add-from-5 : tie.Need-add-from-5
+add-from-5 c = ?
+
+-- src/facts.rt:98:27
+add-t5 : tie.Need-add-t5
+add-t5 c = search needs
+
+-- src/facts.rt:98:21
+mul-t20 : tie.Need-mul-t20
+mul-t20 c = search needs
+
+-- src/facts.rt:98:21
+shared-slice-read-t19 : tie.Need-shared-slice-read-t19
+shared-slice-read-t19 c = search needs
+
+-- src/facts.rt:98:21
+cast-t17 : tie.Need-cast-t17
+cast-t17 c = ?
+
+-- src/facts.rt:98:14
+add-t16 : tie.Need-add-t16
+add-t16 c = ?
+
+-- src/facts.rt:90:1
+returns : tie.Need-returns
+returns c = search needs
+
+pub general-spec : {M : Type 1} → statement M
+general-spec =
+    tie.close
+    (tie.spec
+    mul-at
+    add-from
+    mul-from
+    shared-slice-read-from
+    cast-from
+    add-from-2
+    mul-from-2
+    shared-slice-read-from-2
+    cast-from-2
+    add-from-3
+    add-from-4
+    mul-from-3
+    shared-slice-read-from-3
+    cast-from-3
+    add-from-5
+    add-t5
+    mul-t20
+    shared-slice-read-t19
+    cast-t17
+    add-t16
+    returns)

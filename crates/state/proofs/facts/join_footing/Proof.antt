@@ -1,0 +1,56 @@
+use borrow.Author.Needs.{needs}
+use Rattle.state.proofs.facts.join_footing.Statement.{statement}
+use Rattle.state.proofs.facts.join_footing.Tie as tie
+use Rattle.state.proofs.facts.join_footing.Reads as reads
+use Rattle.state.proofs.facts.join_footing.Lts as lts
+use Rattle.terms.proofs.sets.union_into.Reads as union-into-reads
+
+-- src/facts.rt:107:16
+mul-from : tie.Need-mul-from
+mul-from c = search needs
+
+-- src/facts.rt:108:15
+add-end : tie.Need-add-end
+add-end c = search needs
+
+-- src/facts.rt:109:21
+mul-union-into : tie.Need-mul-union-into
+mul-union-into c = search needs
+
+-- src/facts.rt:109:21
+sub-union-into : tie.Need-sub-union-into
+sub-union-into c = search needs
+
+-- src/facts.rt:109:21
+part-union-into-start : tie.Need-part-union-into-start
+part-union-into-start c = search needs
+
+-- src/facts.rt:109:21
+part-union-into-end : tie.Need-part-union-into-end
+part-union-into-end c = search needs
+
+-- src/facts.rt:109:5
+union-into-requires : tie.Need-union-into-requires
+union-into-requires c κs = search needs
+
+-- src/facts.rt:103:1
+same-length : tie.Need-same-length
+same-length c = search needs
+
+-- src/facts.rt:103:1
+returns : tie.Need-returns
+returns c = ?
+
+pub join-footing-spec : {M : Type 1} → statement M
+join-footing-spec =
+    tie.close
+    (tie.spec
+    mul-from
+    add-end
+    mul-union-into
+    sub-union-into
+    part-union-into-start
+    part-union-into-end
+    union-into-requires
+    same-length
+    returns)

@@ -1,0 +1,89 @@
+use borrow.Author.Needs.{needs}
+use Rattle.state.proofs.facts.put_derived.Statement.{statement}
+use Rattle.state.proofs.facts.put_derived.Tie as tie
+use Rattle.state.proofs.facts.put_derived.Reads as reads
+use Rattle.state.proofs.facts.put_derived.Lts as lts
+use Rattle.state.proofs.facts.put_footing.Reads as put-footing-reads
+use Rattle.state.proofs.facts.put_row.Reads as put-row-reads
+use Rattle.terms.proofs.sets.count.Reads as count-reads
+use Rattle.terms.proofs.sets.write_out.Reads as write-out-reads
+
+-- src/facts.rt:166:9
+returns : tie.Need-returns
+returns c = ?
+
+-- src/facts.rt:168:9
+count-requires : tie.Need-count-requires
+count-requires c κs = search needs
+
+-- src/facts.rt:169:15
+add-end : tie.Need-add-end
+add-end c = ?
+
+-- src/facts.rt:171:9
+returns-2 : tie.Need-returns-2
+returns-2 c = ?
+
+-- src/facts.rt:173:5
+put-row-requires : tie.Need-put-row-requires
+put-row-requires c κs = search needs
+
+-- src/facts.rt:174:5
+put-footing-requires : tie.Need-put-footing-requires
+put-footing-requires c κs = search needs
+
+-- src/facts.rt:175:21
+mul-write-out : tie.Need-mul-write-out
+mul-write-out c = search needs
+
+-- src/facts.rt:175:21
+sub-write-out : tie.Need-sub-write-out
+sub-write-out c = search needs
+
+-- src/facts.rt:175:21
+part-write-out-start : tie.Need-part-write-out-start
+part-write-out-start c = search needs
+
+-- src/facts.rt:175:21
+part-write-out-end : tie.Need-part-write-out-end
+part-write-out-end c = search needs
+
+-- src/facts.rt:175:5
+write-out-requires : tie.Need-write-out-requires
+write-out-requires c κs = search needs
+
+-- src/facts.rt:148:1
+same-length : tie.Need-same-length
+same-length c = search needs
+
+-- src/facts.rt:148:1
+same-length-2 : tie.Need-same-length-2
+same-length-2 c = search needs
+
+-- src/facts.rt:148:1
+same-length-3 : tie.Need-same-length-3
+same-length-3 c = search needs
+
+-- src/facts.rt:148:1
+returns-3 : tie.Need-returns-3
+returns-3 c = ?
+
+pub put-derived-spec : {M : Type 1} → statement M
+put-derived-spec =
+    tie.close
+    (tie.spec
+    returns
+    count-requires
+    add-end
+    returns-2
+    put-row-requires
+    put-footing-requires
+    mul-write-out
+    sub-write-out
+    part-write-out-start
+    part-write-out-end
+    write-out-requires
+    same-length
+    same-length-2
+    same-length-3
+    returns-3)

@@ -1,0 +1,17 @@
+use borrow.Author.Needs.{needs}
+use Rattle.state.proofs.goals.goal_named.Statement.{statement}
+use Rattle.state.proofs.goals.goal_named.Tie as tie
+use Rattle.state.proofs.goals.goal_named.Reads as reads
+use Rattle.state.proofs.goals.goal_named.Lts as lts
+use Rattle.sexp.proofs.names.named.Reads as named-reads
+
+-- src/goals.rt:24:5
+named-requires : tie.Need-named-requires
+named-requires c κs = ?
+
+-- src/goals.rt:20:1
+returns : tie.Need-returns
+returns c = ?
+
+pub goal-named-spec : {M : Type 1} → statement M
+goal-named-spec = tie.close (tie.spec named-requires returns)

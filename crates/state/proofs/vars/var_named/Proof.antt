@@ -1,0 +1,54 @@
+use borrow.Author.Needs.{needs}
+use Rattle.state.proofs.vars.var_named.Statement.{statement}
+use Rattle.state.proofs.vars.var_named.Tie as tie
+use Rattle.state.proofs.vars.var_named.Reads as reads
+use Rattle.state.proofs.vars.var_named.Lts as lts
+use Rattle.state.proofs.vars.is_var.Reads as is-var-reads
+
+abbrev Inv-loop : tie.InvT-loop
+Inv-loop goals text vars count name i₀ i = ?
+
+abbrev μ-loop : tie.MeasureT-loop
+μ-loop goals text vars count name i₀ i = ?
+
+-- src/vars.rt:37:5
+loop-holds : tie.Need-loop-holds Inv-loop μ-loop
+loop-holds c = ?
+
+-- src/vars.rt:38:12
+is-var-requires : tie.Need-is-var-requires Inv-loop μ-loop
+is-var-requires c κs = ?
+
+-- src/vars.rt:39:13
+returns : tie.Need-returns Inv-loop μ-loop
+returns c = ?
+
+-- src/vars.rt:41:9
+add-i : tie.Need-add-i Inv-loop μ-loop
+add-i c = ?
+
+-- src/vars.rt:37:5
+loop-less : tie.Need-loop-less Inv-loop μ-loop
+loop-less c = ?
+
+-- src/vars.rt:37:5
+loop-again : tie.Need-loop-again Inv-loop μ-loop
+loop-again c = ?
+
+-- src/vars.rt:32:1
+returns-2 : tie.Need-returns-2 Inv-loop μ-loop
+returns-2 c = ?
+
+pub var-named-spec : {M : Type 1} → statement M
+var-named-spec =
+    tie.close
+    (tie.spec
+    Inv-loop
+    μ-loop
+    loop-holds
+    is-var-requires
+    returns
+    add-i
+    loop-less
+    loop-again
+    returns-2)
