@@ -2,3 +2,9 @@ pub mod Held
 pub mod Rows
 pub mod Filled
 pub mod RowCells
+pub mod RowTables
+pub mod VarLaws
+pub mod Numbered
+pub mod DefLaws
+pub mod Entries
+pub mod GoalLaws

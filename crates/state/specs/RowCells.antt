@@ -2,6 +2,7 @@
 -- where their entries begin. Assumes nothing.
 use mathlib.Core.Path.{_≡_, refl, sym, ap, _∙_}
 use Prim.Native.Nat.{ℕ, zero, suc, _+_, _*_, _<_, _≤_}
+use mathlib.Core.Bool.{false}
 use mathlib.Core.List.{List, [], _∷_, _++_, append-assoc, append-nil}
 use native.Mathlib.Omega.{arith}
 use native.Mathlib.Nat.{mul-suc, mul-zero}
@@ -58,6 +59,16 @@ module _ {A : Type 0} (f : ℕ → A → List ℕ) (s : A → ℕ) where
         ap (λ n. getD (f at x ++ running f s (at + s x) xs) n 0) q ∙ getD-append-add (f at x) (running f s (at + s x) xs) (w * k + j) 0
         ∙ running-cell (at + s x) xs k j d (omega arith) m
         ∙ ap (λ n. getD (f n (getD xs k d)) j 0) (let e : at + s x + places s (take k xs) ≡ at + (s x + places s (take k xs)) = omega arith in e)
+
+-- what stands nowhere, as `noVar` is for variables
+abbrev pub noDef : Def
+noDef = record { name = noName; term = var 0 }
+
+abbrev pub noGoal : Goal
+noGoal = record { name = noName; judgment = var 0; hyps = none; taken = false }
+
+abbrev pub noFact : Fact
+noFact = record { judgment = var 0; hyps = []; assumed = false; premises = none; general = []; footing = [] }
 
 -- Variables, abbreviations, footings -----------------------------------------------------------------------------------------------
 
