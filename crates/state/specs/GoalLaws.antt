@@ -1,9 +1,9 @@
 -- Laws of the table of goals: what its cells and its entries say, one more, one that is taken. Assumes nothing.
 use mathlib.Core.Path.{_≡_, refl, sym, ap, _∙_, subst}
-use Prim.Native.Nat.{ℕ, _+_, _-_, _*_, _<_, _≤_}
+use Prim.Native.Nat.{ℕ, suc, _+_, _-_, _*_, _<_, _≤_}
 use mathlib.Core.Bool.{Bool, true, false, not}
 use mathlib.Core.Option.{some}
-use mathlib.Core.List.{List, [], _∷_, _++_}
+use mathlib.Core.List.{List, [], _∷_, _++_, append-assoc}
 use native.Mathlib.Omega.{arith}
 use native.Mathlib.Nat.{zero-add}
 use lib.Dec.{eqb}
@@ -79,13 +79,13 @@ module _ {text rows : List ℕ} {count : ℕ} {M : Made} {gs : List Goal} (h : G
       let q = length-numbers M (g .hyps) in
       let r = length-goal-list M (take k gs) in
       let split = ap (λ l. l ++ rest) (goal-list-split M gs k noGoal m)
-          ∙ regroup (goalList M (take k gs)) (numbers M (g .hyps)) (goalList M (drop (Prim.Native.Nat.suc k) gs)) rest in
+          ∙ regroup (goalList M (take k gs)) (numbers M (g .hyps)) (goalList M (drop (suc k) gs)) rest in
       record {
         is = entry-at gs k noGoal m;
         judgment = numbered-at (cell 6 rows k 2) (sound-in M (g .judgment) (p .judgment)) (goal-at k 2 l (omega arith));
-        inside = let i = span-in ENTRIES (goalList M gs ++ rest) (goalList M (take k gs)) (numbers M (g .hyps)) (goalList M (drop (Prim.Native.Nat.suc k) gs) ++ rest) f split in omega arith;
+        inside = let i = span-in ENTRIES (goalList M gs ++ rest) (goalList M (take k gs)) (numbers M (g .hyps)) (goalList M (drop (suc k) gs) ++ rest) f split in omega arith;
         hyps = ap (λ l. part l (listSpan rows k)) e
-            ∙ span-is ENTRIES (goalList M gs ++ rest) (goalList M (take k gs)) (numbers M (g .hyps)) (goalList M (drop (Prim.Native.Nat.suc k) gs) ++ rest) f split
+            ∙ span-is ENTRIES (goalList M gs ++ rest) (goalList M (take k gs)) (numbers M (g .hyps)) (goalList M (drop (suc k) gs) ++ rest) f split
             (cell 6 rows k 3) (cell 6 rows k 3 + cell 6 rows k 4) (omega arith) (omega arith);
         many = t;
         numbered = each-numbered (g .hyps) (p .hyps);
@@ -93,7 +93,7 @@ module _ {text rows : List ℕ} {count : ℕ} {M : Made} {gs : List Goal} (h : G
       }
     where
       regroup : (w x y z : List ℕ) → (w ++ (x ++ y)) ++ z ≡ w ++ (x ++ (y ++ z))
-      regroup w x y z = simp mathlib.Core.List.append-assoc
+      regroup w x y z = simp append-assoc
 
   -- the row that `put_goal` writes
   pub goals-more : (g : Goal) (end judgment from hyps : ℕ) → count < GOALS → NameIn text (g .name) → end ≡ g .name .start + length (g .name .bytes) →

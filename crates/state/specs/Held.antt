@@ -7,7 +7,7 @@ use mathlib.Core.Bool.{Bool, true, false}
 use mathlib.Core.List.{List, _++_}
 use lib.Dec.{eqb}
 use lib.ListN.{length}
-use Rattle.rules.specs.Limits.{LENGTH, VARIABLES, DEFS, GOALS, FACTS, ENTRIES}
+use Rattle.rules.specs.Limits.{LENGTH, RULES, VARIABLES, DEFS, GOALS, FACTS, ENTRIES}
 use Rattle.rules.specs.Store.{Made}
 use Rattle.rules.specs.Theory.{Theory}
 use Rattle.rules.specs.State.{State, Var, Def, Goal, Fact, goalEntries, entries}
@@ -106,6 +106,7 @@ pub record Recorded (R : Records) (n : Sizes) (M : Made) (S : State) : Type 0 wh
   pub trees : Ready sound S M
   pub shaped : ShapedIn S
   pub general : All (λ f. All (λ v. v < length (S .vars)) (f .general)) (S .facts)
+  pub rules : length (S .theory .rules) ≤ RULES
 
 -- Rules ----------------------------------------------------------------------------------------------------------------------------
 

@@ -8,3 +8,6 @@ pub mod Numbered
 pub mod DefLaws
 pub mod Entries
 pub mod GoalLaws
+pub mod Members
+pub mod Footings
+pub mod FactLaws
