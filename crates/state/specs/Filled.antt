@@ -71,6 +71,16 @@ module _ (N : ℕ) (xs : List ℕ) (h : length xs ≤ N) where
       ∙ ap (λ m. replicate m 0) (let e : N - length xs - length row ≡ N - length (xs ++ row) = omega arith in e))
       ∙ sym (filled-fits N (xs ++ row) (omega arith))
 
+-- cells more that are zero leave a table as it is
+pub filled-zeros : (N : ℕ) (xs : List ℕ) (k : ℕ) → length xs + k ≤ N → filled N (xs ++ replicate k 0) ≡ filled N xs
+filled-zeros N xs k h =
+    let n = length-append xs (replicate k 0) in
+    let m = length-replicate {A = ℕ} k 0 in
+    filled-fits N (xs ++ replicate k 0) (omega arith) ∙ append-assoc xs (replicate k 0) (replicate (N - length (xs ++ replicate k 0)) 0)
+    ∙ ap (λ l. xs ++ l) (replicate-append-replicate k (N - length (xs ++ replicate k 0)) 0
+    ∙ ap (λ m. replicate m 0) (let e : k + (N - length (xs ++ replicate k 0)) ≡ N - length xs = omega arith in e))
+    ∙ sym (filled-fits N xs (omega arith))
+
 -- Back -----------------------------------------------------------------------------------------------------------------------------
 
 module _ (N : ℕ) (xs ys : List ℕ) (h : length xs + length ys ≤ N) where

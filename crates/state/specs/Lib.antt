@@ -11,3 +11,5 @@ pub mod GoalLaws
 pub mod Members
 pub mod Footings
 pub mod FactLaws
+pub mod Recording
+pub mod Growth
