@@ -1,3 +1,7 @@
+use Prim.Native.Nat.{_*_}
+use native.Mathlib.Omega.{arith}
+use lib.ListN.{length-set}
+use Rattle.state.proofs.Stores.{stores3}
 use borrow.Author.Needs.{needs}
 use Rattle.state.proofs.defs.put_def.Statement.{statement}
 use Rattle.state.proofs.defs.put_def.Tie as tie
@@ -34,7 +38,7 @@ mul-defs-2 c = search needs
 
 -- src/defs.rt:33:5
 slice-write-defs-2 : tie.Need-slice-write-defs-2
-slice-write-defs-2 c = ?
+slice-write-defs-2 c = simp length-set (omega arith)
 
 -- src/defs.rt:34:20
 cast-defs-3 : tie.Need-cast-defs-3
@@ -50,7 +54,7 @@ mul-defs-3 c = search needs
 
 -- src/defs.rt:34:5
 slice-write-defs-3 : tie.Need-slice-write-defs-3
-slice-write-defs-3 c = ?
+slice-write-defs-3 c = simp length-set (omega arith)
 
 -- src/defs.rt:27:1
 same-length : tie.Need-same-length
@@ -58,7 +62,7 @@ same-length c = search needs
 
 -- src/defs.rt:27:1
 returns : tie.Need-returns
-returns c = ?
+returns c = stores3 ((c .args) .defs .now) (3 * (c .args) .d) ((c .args) .start) ((c .args) .end) ((c .args) .term)
 
 pub put-def-spec : {M : Type 1} → statement M
 put-def-spec =

@@ -1,3 +1,5 @@
+use Prim.Native.Nat.{_+_, _*_}
+use native.Mathlib.Omega.{arith}
 use borrow.Author.Needs.{needs}
 use Rattle.state.proofs.facts.general.Statement.{statement}
 use Rattle.state.proofs.facts.general.Tie as tie
@@ -22,7 +24,7 @@ shared-slice-read-from c = search needs
 
 -- src/facts.rt:95:16
 cast-from : tie.Need-cast-from
-cast-from c = ?
+cast-from c = omega (arith, (c .shared-slice-known) .given (6 * (c .before .args) .i + 2))
 
 -- src/facts.rt:95:47
 add-from-2 : tie.Need-add-from-2
@@ -38,11 +40,11 @@ shared-slice-read-from-2 c = search needs
 
 -- src/facts.rt:95:41
 cast-from-2 : tie.Need-cast-from-2
-cast-from-2 c = ?
+cast-from-2 c = omega (arith, (c .shared-slice-known2) .given (6 * (c .before .before .args) .i + 3))
 
 -- src/facts.rt:95:16
 add-from-3 : tie.Need-add-from-3
-add-from-3 c = ?
+add-from-3 c = omega (arith, (c .before .shared-slice-known) .given (6 * (c .before .before .args) .i + 2), (c .shared-slice-known2) .given (6 * (c .before .before .args) .i + 3))
 
 -- src/facts.rt:95:72
 add-from-4 : tie.Need-add-from-4
@@ -58,11 +60,11 @@ shared-slice-read-from-3 c = search needs
 
 -- src/facts.rt:95:66
 cast-from-3 : tie.Need-cast-from-3
-cast-from-3 c = ?
+cast-from-3 c = omega (arith, (c .shared-slice-known3) .given (6 * (c .before .before .before .args) .i + 4))
 
 -- src/facts.rt:95:16
 add-from-5 : tie.Need-add-from-5
-add-from-5 c = ?
+add-from-5 c = omega (arith, (c .before .before .shared-slice-known) .given (6 * (c .before .before .before .args) .i + 2), (c .before .shared-slice-known2) .given (6 * (c .before .before .before .args) .i + 3), (c .shared-slice-known3) .given (6 * (c .before .before .before .args) .i + 4))
 
 -- src/facts.rt:98:27
 add-t5 : tie.Need-add-t5
@@ -78,11 +80,11 @@ shared-slice-read-t19 c = search needs
 
 -- src/facts.rt:98:21
 cast-t17 : tie.Need-cast-t17
-cast-t17 c = ?
+cast-t17 c = omega (arith, (c .shared-slice-known4) .given (6 * (c .before .before .before .before .args) .i + 5))
 
 -- src/facts.rt:98:14
 add-t16 : tie.Need-add-t16
-add-t16 c = ?
+add-t16 c = omega (arith, (c .before .before .before .shared-slice-known) .given (6 * (c .before .before .before .before .args) .i + 2), (c .before .before .shared-slice-known2) .given (6 * (c .before .before .before .before .args) .i + 3), (c .before .shared-slice-known3) .given (6 * (c .before .before .before .before .args) .i + 4), (c .shared-slice-known4) .given (6 * (c .before .before .before .before .args) .i + 5))
 
 -- src/facts.rt:90:1
 returns : tie.Need-returns

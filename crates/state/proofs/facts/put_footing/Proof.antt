@@ -1,3 +1,9 @@
+use Prim.Native.Nat.{_*_}
+use native.Mathlib.Omega.{arith}
+use lib.ListN.{length-set}
+use Rattle.state.proofs.Stores.{stores4, words4}
+use mathlib.Core.Path.{_≡_, refl, sym, ap, _∙_}
+use lib.Seq.{sets}
 use borrow.Author.Needs.{needs}
 use Rattle.state.proofs.facts.put_footing.Statement.{statement}
 use Rattle.state.proofs.facts.put_footing.Tie as tie
@@ -34,7 +40,7 @@ mul-footings-2 c = search needs
 
 -- src/facts.rt:142:5
 slice-write-footings-2 : tie.Need-slice-write-footings-2
-slice-write-footings-2 c = ?
+slice-write-footings-2 c = simp length-set (omega arith)
 
 -- src/facts.rt:143:24
 shared-slice-read-footings-3 : tie.Need-shared-slice-read-footings-3
@@ -50,7 +56,7 @@ mul-footings-3 c = search needs
 
 -- src/facts.rt:143:5
 slice-write-footings-3 : tie.Need-slice-write-footings-3
-slice-write-footings-3 c = ?
+slice-write-footings-3 c = simp length-set (omega arith)
 
 -- src/facts.rt:144:24
 shared-slice-read-footings-4 : tie.Need-shared-slice-read-footings-4
@@ -66,7 +72,7 @@ mul-footings-4 c = search needs
 
 -- src/facts.rt:144:5
 slice-write-footings-4 : tie.Need-slice-write-footings-4
-slice-write-footings-4 c = ?
+slice-write-footings-4 c = simp length-set (omega arith)
 
 -- src/facts.rt:136:1
 same-length : tie.Need-same-length
@@ -74,7 +80,7 @@ same-length c = search needs
 
 -- src/facts.rt:136:1
 returns : tie.Need-returns
-returns c = ?
+returns c = stores4 ((c .before .before .before .before .args) .footings .now) (4 * (c .before .before .before .before .args) .i) _ _ _ _ ∙ ap (sets ((c .before .before .before .before .args) .footings .now) (4 * (c .before .before .before .before .args) .i)) (words4 ((c .before .before .before .before .args) .footing .now) ((c .before .before .before .before .pre) .2))
 
 pub put-footing-spec : {M : Type 1} → statement M
 put-footing-spec =

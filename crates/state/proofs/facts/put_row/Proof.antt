@@ -1,3 +1,7 @@
+use Prim.Native.Nat.{_*_}
+use native.Mathlib.Omega.{arith}
+use lib.ListN.{length-set}
+use Rattle.state.proofs.Stores.{stores6}
 use borrow.Author.Needs.{needs}
 use Rattle.state.proofs.facts.put_row.Statement.{statement}
 use Rattle.state.proofs.facts.put_row.Tie as tie
@@ -34,7 +38,7 @@ mul-facts-2 c = search needs
 
 -- src/facts.rt:128:5
 slice-write-facts-2 : tie.Need-slice-write-facts-2
-slice-write-facts-2 c = ?
+slice-write-facts-2 c = simp length-set (omega arith)
 
 -- src/facts.rt:129:21
 cast-facts-3 : tie.Need-cast-facts-3
@@ -50,7 +54,7 @@ mul-facts-3 c = search needs
 
 -- src/facts.rt:129:5
 slice-write-facts-3 : tie.Need-slice-write-facts-3
-slice-write-facts-3 c = ?
+slice-write-facts-3 c = simp length-set (omega arith)
 
 -- src/facts.rt:130:21
 cast-facts-4 : tie.Need-cast-facts-4
@@ -66,7 +70,7 @@ mul-facts-4 c = search needs
 
 -- src/facts.rt:130:5
 slice-write-facts-4 : tie.Need-slice-write-facts-4
-slice-write-facts-4 c = ?
+slice-write-facts-4 c = simp length-set (omega arith)
 
 -- src/facts.rt:131:21
 cast-facts-5 : tie.Need-cast-facts-5
@@ -82,7 +86,7 @@ mul-facts-5 c = search needs
 
 -- src/facts.rt:131:5
 slice-write-facts-5 : tie.Need-slice-write-facts-5
-slice-write-facts-5 c = ?
+slice-write-facts-5 c = simp length-set (omega arith)
 
 -- src/facts.rt:132:21
 cast-facts-6 : tie.Need-cast-facts-6
@@ -98,7 +102,7 @@ mul-facts-6 c = search needs
 
 -- src/facts.rt:132:5
 slice-write-facts-6 : tie.Need-slice-write-facts-6
-slice-write-facts-6 c = ?
+slice-write-facts-6 c = simp length-set (omega arith)
 
 -- src/facts.rt:113:1
 same-length : tie.Need-same-length
@@ -106,7 +110,7 @@ same-length c = search needs
 
 -- src/facts.rt:113:1
 returns : tie.Need-returns
-returns c = ?
+returns c = stores6 ((c .args) .facts .now) (6 * (c .args) .i) ((c .args) .judgment) ((c .args) .assumed) ((c .args) .from) ((c .args) .hyps) ((c .args) .premises) ((c .args) .general)
 
 pub put-row-spec : {M : Type 1} → statement M
 put-row-spec =

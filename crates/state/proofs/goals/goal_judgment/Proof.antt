@@ -1,3 +1,5 @@
+use Prim.Native.Nat.{_+_, _*_}
+use native.Mathlib.Omega.{arith}
 use borrow.Author.Needs.{needs}
 use Rattle.state.proofs.goals.goal_judgment.Statement.{statement}
 use Rattle.state.proofs.goals.goal_judgment.Tie as tie
@@ -22,7 +24,7 @@ shared-slice-read-result c = search needs
 
 -- src/goals.rt:32:5
 cast-result : tie.Need-cast-result
-cast-result c = ?
+cast-result c = omega (arith, (c .shared-slice-known) .given (6 * (c .before .args) .k + 2))
 
 -- src/goals.rt:28:1
 returns : tie.Need-returns

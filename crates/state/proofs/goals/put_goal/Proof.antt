@@ -1,3 +1,7 @@
+use Prim.Native.Nat.{_*_}
+use native.Mathlib.Omega.{arith}
+use lib.ListN.{length-set}
+use Rattle.state.proofs.Stores.{stores6}
 use borrow.Author.Needs.{needs}
 use Rattle.state.proofs.goals.put_goal.Statement.{statement}
 use Rattle.state.proofs.goals.put_goal.Tie as tie
@@ -34,7 +38,7 @@ mul-goals-2 c = search needs
 
 -- src/goals.rt:79:5
 slice-write-goals-2 : tie.Need-slice-write-goals-2
-slice-write-goals-2 c = ?
+slice-write-goals-2 c = simp length-set (omega arith)
 
 -- src/goals.rt:80:21
 cast-goals-3 : tie.Need-cast-goals-3
@@ -50,7 +54,7 @@ mul-goals-3 c = search needs
 
 -- src/goals.rt:80:5
 slice-write-goals-3 : tie.Need-slice-write-goals-3
-slice-write-goals-3 c = ?
+slice-write-goals-3 c = simp length-set (omega arith)
 
 -- src/goals.rt:81:21
 cast-goals-4 : tie.Need-cast-goals-4
@@ -66,7 +70,7 @@ mul-goals-4 c = search needs
 
 -- src/goals.rt:81:5
 slice-write-goals-4 : tie.Need-slice-write-goals-4
-slice-write-goals-4 c = ?
+slice-write-goals-4 c = simp length-set (omega arith)
 
 -- src/goals.rt:82:21
 cast-goals-5 : tie.Need-cast-goals-5
@@ -82,7 +86,7 @@ mul-goals-5 c = search needs
 
 -- src/goals.rt:82:5
 slice-write-goals-5 : tie.Need-slice-write-goals-5
-slice-write-goals-5 c = ?
+slice-write-goals-5 c = simp length-set (omega arith)
 
 -- src/goals.rt:83:11
 add-goals-5 : tie.Need-add-goals-5
@@ -94,7 +98,7 @@ mul-goals-6 c = search needs
 
 -- src/goals.rt:83:5
 slice-write-goals-6 : tie.Need-slice-write-goals-6
-slice-write-goals-6 c = ?
+slice-write-goals-6 c = simp length-set (omega arith)
 
 -- src/goals.rt:65:1
 same-length : tie.Need-same-length
@@ -102,7 +106,7 @@ same-length c = search needs
 
 -- src/goals.rt:65:1
 returns : tie.Need-returns
-returns c = ?
+returns c = stores6 ((c .args) .goals .now) (6 * (c .args) .k) ((c .args) .start) ((c .args) .end) ((c .args) .judgment) ((c .args) .from) ((c .args) .hyps) 0
 
 pub put-goal-spec : {M : Type 1} → statement M
 put-goal-spec =

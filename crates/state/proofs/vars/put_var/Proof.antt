@@ -1,3 +1,7 @@
+use Prim.Native.Nat.{_*_}
+use native.Mathlib.Omega.{arith}
+use lib.ListN.{length-set}
+use Rattle.state.proofs.Stores.{stores4}
 use borrow.Author.Needs.{needs}
 use Rattle.state.proofs.vars.put_var.Statement.{statement}
 use Rattle.state.proofs.vars.put_var.Tie as tie
@@ -34,7 +38,7 @@ mul-vars-2 c = search needs
 
 -- src/vars.rt:61:5
 slice-write-vars-2 : tie.Need-slice-write-vars-2
-slice-write-vars-2 c = ?
+slice-write-vars-2 c = simp length-set (omega arith)
 
 -- src/vars.rt:62:20
 cast-vars-3 : tie.Need-cast-vars-3
@@ -50,7 +54,7 @@ mul-vars-3 c = search needs
 
 -- src/vars.rt:62:5
 slice-write-vars-3 : tie.Need-slice-write-vars-3
-slice-write-vars-3 c = ?
+slice-write-vars-3 c = simp length-set (omega arith)
 
 -- src/vars.rt:63:20
 cast-vars-4 : tie.Need-cast-vars-4
@@ -66,7 +70,7 @@ mul-vars-4 c = search needs
 
 -- src/vars.rt:63:5
 slice-write-vars-4 : tie.Need-slice-write-vars-4
-slice-write-vars-4 c = ?
+slice-write-vars-4 c = simp length-set (omega arith)
 
 -- src/vars.rt:55:1
 same-length : tie.Need-same-length
@@ -74,7 +78,7 @@ same-length c = search needs
 
 -- src/vars.rt:55:1
 returns : tie.Need-returns
-returns c = ?
+returns c = stores4 ((c .args) .vars .now) (4 * (c .args) .v) ((c .args) .sort) ((c .args) .text) ((c .args) .start) ((c .args) .end)
 
 pub put-var-spec : {M : Type 1} → statement M
 put-var-spec =
