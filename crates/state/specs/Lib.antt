@@ -11,5 +11,8 @@ pub mod GoalLaws
 pub mod Members
 pub mod Footings
 pub mod FactLaws
+pub mod Used
 pub mod Recording
 pub mod Growth
+pub mod Parts
+pub mod Stands

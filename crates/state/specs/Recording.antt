@@ -27,6 +27,7 @@ use Rattle.state.specs.declared.facts.Put.{Put}
 use Rattle.state.specs.declared.facts.Put.the-variants.{Stored}
 use Rattle.state.specs.Held.{Records, records, listed, Recorded}
 use Rattle.state.specs.Rows.{RowPut, PutAs}
+use Rattle.state.specs.Used.{factsNow}
 use Rattle.state.specs.Filled.{filled-more, filled-zeros}
 use Rattle.state.specs.Members.{Under, rising-under, has-rising}
 use Rattle.state.specs.Numbered.{length-numbers}
@@ -36,20 +37,7 @@ use Rattle.state.specs.Entries.{factPart, length-fact-part, fact-list-sn
 use Rattle.state.specs.Footings.{footing-row}
 use Rattle.state.specs.FactLaws.{fact-cells-snoc, footing-cells-snoc, facts-tabled, footings-tabled, length-listed, entries-fit}
 
--- What is used -------------------------------------------------------------------------------------------------------------------
-
--- one fact more, and the entries up to e
-abbrev pub factMore : Sizes → ℕ → Sizes
-factMore n e = record {
-  sorts = n .sorts;
-  symbols = n .symbols;
-  rules = n .rules;
-  vars = n .vars;
-  defs = n .defs;
-  goals = n .goals;
-  facts = n .facts + 1;
-  entries = e;
-}
+-- The state -----------------------------------------------------------------------------------------------------------------------
 
 abbrev pub withFact : State → Fact → Counts → State
 withFact S f c = withFacts S (S .facts ++ (f ∷ [])) c
@@ -109,7 +97,7 @@ module _ {R : Records} {n : Sizes} {M : Made} {S : State} (f : Fact) (c : Counts
   recorded-more : {Q : Records} → e ≡ n .entries + factEntries f → All (λ v. v < length (S .vars)) (f .general) →
       Q .facts ≡ filled (6 * FACTS) (factCells M (goalEntries (S .goals)) (S .facts ++ (f ∷ []))) →
       Q .footings ≡ filled (4 * FACTS) (footingCells (S .facts ++ (f ∷ []))) → Q .lists ≡ filled ENTRIES (listed M (withFact S f c)) →
-      Recorded Q (factMore n e) M (withFact S f c)
+      Recorded Q (factsNow n (n .facts + 1) e) M (withFact S f c)
   unfolding entries
   recorded-more d g a b l =
       record {
@@ -158,7 +146,7 @@ module _ {R : Records} {n : Sizes} {M : Made} {S : State} {f : Fact} {judgment :
 
   pub recorded-derived : {Q : Records} (r : Put) →
       PutAs R Q n (judgment ∷ 0 ∷ n .entries ∷ length (rising FACTS (holds hyps)) ∷ 0 ∷ 0 ∷ []) (rising FACTS (holds hyps)) footing
-      (length (rising FACTS (holds hyps))) r → r ≡ Stored e → Recorded Q (factMore n e) M (withFact S f c)
+      (length (rising FACTS (holds hyps))) r → r ≡ Stored e → Recorded Q (factsNow n (n .facts + 1) e) M (withFact S f c)
   unfolding factRow factPart factEntries countTrees bit numbers
   recorded-derived {Q} r p q =
       let s = subst (PutAs R Q n (judgment ∷ 0 ∷ n .entries ∷ length (rising FACTS (holds hyps)) ∷ 0 ∷ 0 ∷ []) (rising FACTS (holds hyps)) footing (length (rising FACTS (holds hyps)))) q p in
@@ -194,7 +182,7 @@ module _ {R : Records} {n : Sizes} {M : Made} {S : State} {f : Fact} {judgment p
     (h : Recorded R n M S) (d : Assumes M S f n judgment premises general (R .lists) L) (v : Valid M (withFact S f c)) where
   pub recorded-hypothesis : {Q : Records} (r : Put) →
       PutAs (records (R .facts) (R .footings) L) Q n (judgment ∷ 1 ∷ n .entries ∷ 1 ∷ premises ∷ general ∷ []) (n .facts ∷ []) [] (1 + premises + general) r →
-      r ≡ Stored e → Recorded Q (factMore n e) M (withFact S f c)
+      r ≡ Stored e → Recorded Q (factsNow n (n .facts + 1) e) M (withFact S f c)
   unfolding factRow factPart factEntries bit bitWord footingRow
   recorded-hypothesis {Q} r p q =
       let s = subst (PutAs (records (R .facts) (R .footings) L) Q n (judgment ∷ 1 ∷ n .entries ∷ 1 ∷ premises ∷ general ∷ []) (n .facts ∷ []) [] (1 + premises + general)) q p in
