@@ -6,7 +6,7 @@ use mathlib.Core.Option.{some}
 use mathlib.Core.List.{List, [], _∷_, _++_, append-assoc}
 use native.Mathlib.Omega.{arith}
 use lib.Dec.{eqb, eqb·suc-zero}
-use lib.ListN.{length, getD, take, drop, length-append, length-take}
+use lib.ListN.{length, getD, take, drop, replicate, length-append}
 use lib.Seq.{length-take-le}
 use Rattle.rules.specs.Limits.{RULES, GOALS, FACTS, ENTRIES}
 use Rattle.rules.specs.Find.{entry, has}
@@ -18,12 +18,13 @@ use Rattle.rules.specs.StateTables.{factCells, footingCells, goalList, factList
 use Rattle.rules.specs.Laws.Theory.{All, all-at, all-map}
 use Rattle.rules.specs.Laws.Entry.{entry-below}
 use Rattle.rules.specs.Laws.Made.{sound}
-use Rattle.rules.specs.Laws.Row.{length-filled, length-rows, rows-snoc}
+use Rattle.rules.specs.Laws.Row.{length-filled, filled-fits, length-rows, rows-snoc}
 use Rattle.rules.specs.Laws.Shape.{Shaped}
 use Rattle.terms.specs.Sets.{holds}
 use Rattle.state.specs.declared.sizes.Sizes.{Sizes}
 use Rattle.state.specs.Held.{Records, listed, GoalsHeld, Recorded}
 use Rattle.state.specs.Rows.{cell, hypsSpan, premisesSpan, generalSpan, plainRow, Putting}
+use Rattle.state.specs.Filled.{filled-front}
 use Rattle.state.specs.Numbered.{Numbered, AllNumbered, numbered-at, each-numbered, sound-in, length-numbers}
 use Rattle.state.specs.RowCells.{factRow, fact-rows, fact-width, fact-places, footingRow, footing-rows, footing-width, running-snoc, running-cell, length-running, noGoal, noFact}
 use Rattle.state.specs.RowTables.{Tabled, tabled-fits, tabled-long, tabled-at, entry-at}
@@ -100,6 +101,14 @@ module _ {R : Records} {n : Sizes} {M : Made} {S : State} (h : Recorded R n M S)
 
   pub lists-long : length (R .lists) ≡ ENTRIES
   lists-long = ap length (h .lists) ∙ length-filled ENTRIES (listed M S)
+
+  -- entries that were written behind, set to zero again: the table that there was
+  pub lists-again : (now : List ℕ) → take (n .entries) now ≡ take (n .entries) (R .lists) → take (n .entries) now ++ replicate (ENTRIES - n .entries) 0 ≡ R .lists
+  lists-again now e =
+      let k = length-listed in
+      ap (λ l. l ++ replicate (ENTRIES - n .entries) 0) (e ∙ ap (take (n .entries)) (h .lists) ∙ ap (λ j. take j (filled ENTRIES (listed M S))) (sym k)
+      ∙ filled-front ENTRIES (listed M S) (omega (arith, entries-fit)))
+      ∙ ap (λ j. listed M S ++ replicate (ENTRIES - j) 0) (sym k) ∙ sym (filled-fits ENTRIES (listed M S) (omega (arith, entries-fit))) ∙ sym (h .lists)
 
   -- there may be one fact more: what `put_derived` and `put_hypothesis` ask
   pub recorded-putting : (judgment : ℕ) → judgment < 2 ^ 32 → Putting R n judgment

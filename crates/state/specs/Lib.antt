@@ -16,3 +16,5 @@ pub mod Recording
 pub mod Growth
 pub mod Parts
 pub mod Stands
+pub mod Adding
+pub mod Updates

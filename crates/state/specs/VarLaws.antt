@@ -106,3 +106,7 @@ module _ {vars : List ℕ} {count : ℕ} {vs us : List Var} (few : ℕ) where
         stand = var-cells-less (h .stand) b e;
         names = all-front vs (b .new) (subst (All (λ v. NameIn (textOf goals text (v .text)) (v .name))) (b .is) (h .names));
       }
+
+  -- so it is the table that there was
+  pub vars-again : {was : List ℕ} → VarCells was few vs → VarCells vars count us → Behind vs us → take (4 * few) vars ++ replicate (4 * VARIABLES - 4 * few) 0 ≡ was
+  vars-again w h b = var-cells-less h b (w .many) .cells ∙ sym (w .cells)
