@@ -21,7 +21,8 @@ unfolding risingFrom
 rising-from-few k zero a = omega arith
 rising-from-few k (suc n) a = go (a k) (rising-from-few (suc k) n a)
   where
-    go : (b : Bool) → length (risingFrom (suc k) n a) ≤ n → length {A = ℕ} (elim b [ true ↦ k ∷ risingFrom (suc k) n a | false ↦ risingFrom (suc k) n a ]) ≤ suc n
+    go : (b : Bool) → length (risingFrom (suc k) n a) ≤ n →
+        length {A = ℕ} (elim b [ true ↦ k ∷ risingFrom (suc k) n a | false ↦ risingFrom (suc k) n a ]) ≤ suc n
     go true h = omega arith
     go false h = omega arith
 
@@ -42,8 +43,8 @@ module _ {R : Records} {n : Sizes} {judgment : ℕ} (hyps : List ℕ) (p : Putti
   all-hyps : rising (64 * length hyps) (holds hyps) ≡ rising FACTS (holds hyps)
   all-hyps = ap (λ k. rising k (holds hyps)) w
 
-  pub derived-13 : (row rest footing : List ℕ) (many : ℕ) → n .facts < FACTS → many ≡ length (rising (64 * length hyps) (holds hyps)) → ENTRIES < n .entries + many →
-      PutAs R R n row rest footing (length (rising FACTS (holds hyps))) (Full 13)
+  pub derived-13 : (row rest footing : List ℕ) (many : ℕ) → n .facts < FACTS → many ≡ length (rising (64 * length hyps) (holds hyps)) →
+      ENTRIES < n .entries + many → PutAs R R n row rest footing (length (rising FACTS (holds hyps))) (Full 13)
   derived-13 row rest footing many l e m =
       full-13 R n row rest footing (length (rising FACTS (holds hyps))) l (let z = ap length all-hyps in omega arith)
 

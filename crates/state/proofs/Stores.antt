@@ -1,7 +1,7 @@
 -- Rows that are written cell by cell, and cells that are read as flags. Assumes nothing.
 use mathlib.Core.Path.{_≡_, refl, sym, ap, _∙_}
-use Prim.Native.Nat.{ℕ, zero, suc, _+_, _-_, _*_, _<_, _≤_}
-use mathlib.Core.Bool.{Bool, true, false, not, _&&_}
+use Prim.Native.Nat.{ℕ, suc, _+_, _-_, _*_, _≤_}
+use mathlib.Core.Bool.{false, not, _&&_}
 use mathlib.Core.List.{List, [], _∷_, _++_, append-nil, append-assoc}
 use native.Mathlib.Omega.{arith}
 use native.Mathlib.Numerals.{add-one, add-two}
@@ -60,10 +60,13 @@ tail-sets l at tail vs h e =
 -- A plain hypothesis -------------------------------------------------------------------------------------------------------------
 
 pub plain-not : (facts : List ℕ) (i : ℕ) → getD facts (6 * i + 1) 0 ≡ 0 → false ≡ plainRow facts i
-plain-not facts i e = sym (ap (λ b. not b && (eqb (getD facts (6 * i + 4) 0) 0 && eqb (getD facts (6 * i + 5) 0) 0)) (eq-eqb (getD facts (6 * i + 1) 0) 0 e))
+plain-not facts i e =
+    sym (ap (λ b. not b && (eqb (getD facts (6 * i + 4) 0) 0 && eqb (getD facts (6 * i + 5) 0) 0)) (eq-eqb (getD facts (6 * i + 1) 0) 0 e))
 
-assumed-row : (facts : List ℕ) (i : ℕ) → (getD facts (6 * i + 1) 0 ≡ 0 → ⊥) → eqb (getD facts (6 * i + 4) 0) 0 && eqb (getD facts (6 * i + 5) 0) 0 ≡ plainRow facts i
-assumed-row facts i h = sym (ap (λ b. not b && (eqb (getD facts (6 * i + 4) 0) 0 && eqb (getD facts (6 * i + 5) 0) 0)) (ne-eqb (getD facts (6 * i + 1) 0) 0 h))
+assumed-row : (facts : List ℕ) (i : ℕ) → (getD facts (6 * i + 1) 0 ≡ 0 → ⊥) →
+    eqb (getD facts (6 * i + 4) 0) 0 && eqb (getD facts (6 * i + 5) 0) 0 ≡ plainRow facts i
+assumed-row facts i h =
+    sym (ap (λ b. not b && (eqb (getD facts (6 * i + 4) 0) 0 && eqb (getD facts (6 * i + 5) 0) 0)) (ne-eqb (getD facts (6 * i + 1) 0) 0 h))
 
 pub plain-premised : (facts : List ℕ) (i : ℕ) → (getD facts (6 * i + 1) 0 ≡ 0 → ⊥) → (getD facts (6 * i + 4) 0 ≡ 0 → ⊥) → false ≡ plainRow facts i
 plain-premised facts i h k =

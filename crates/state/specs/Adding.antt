@@ -1,22 +1,18 @@
 -- Rows 12 and 13 of question 60: `addFact` takes a fact where `put_derived` or `put_hypothesis` stored it, and refuses by the same row where they
 -- had no room, which leaves the tables as they were. Assumes nothing.
-use mathlib.Core.Path.{_≡_, refl, sym, ap, _∙_, subst}
+use mathlib.Core.Path.{_≡_, sym, ap, _∙_, subst}
 use Prim.Native.Nat.{ℕ, _+_, _<_, _≤_}
-use mathlib.Core.Bool.{Bool, true, false}
-use mathlib.Core.List.{List, [], _∷_, _++_}
+use mathlib.Core.Bool.{true, false}
+use mathlib.Core.List.{List}
 use native.Mathlib.Omega.{arith}
 use native.Mathlib.Decide.{decLt}
-use lib.Dec.{ltb, leb}
 use lib.ListN.{length}
 use borrow.Author.Tests.{lt-ltb, le-ltb, le-leb, lt-leb}
 use Rattle.rules.specs.Limits.{FACTS, ENTRIES}
-use Rattle.rules.specs.Out.{Out, ok, refuse, then}
-use Rattle.rules.specs.Find.{rising}
-use Rattle.rules.specs.Tree.{countTrees}
+use Rattle.rules.specs.Out.{ok, refuse, then}
 use Rattle.rules.specs.Store.{Made}
 use Rattle.rules.specs.State.{State, Fact, Counts, factEntries, entries}
 use Rattle.rules.specs.Forms.{addFact, plus}
-use Rattle.terms.specs.Sets.{holds}
 use Rattle.state.specs.declared.sizes.Sizes.{Sizes}
 use Rattle.state.specs.declared.facts.Put.{Put}
 use Rattle.state.specs.declared.facts.Put.the-variants.{Stored, Full}

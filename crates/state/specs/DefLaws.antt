@@ -1,6 +1,6 @@
 -- Laws of the table of abbreviations: what its cells say, one more. Assumes nothing.
 use mathlib.Core.Path.{_≡_, refl, sym, ap, _∙_}
-use Prim.Native.Nat.{ℕ, _+_, _*_, _<_, _≤_}
+use Prim.Native.Nat.{ℕ, _+_, _*_, _<_}
 use mathlib.Core.List.{List, [], _∷_, _++_}
 use native.Mathlib.Omega.{arith}
 use lib.ListN.{length, getD}
@@ -10,7 +10,7 @@ use Rattle.rules.specs.Store.{Made, number}
 use Rattle.rules.specs.State.{Def}
 use Rattle.rules.specs.TheoryTables.{filled, rows, nameCells}
 use Rattle.rules.specs.StateTables.{defCells}
-use Rattle.rules.specs.Laws.Theory.{All, all-snoc, all-at}
+use Rattle.rules.specs.Laws.Theory.{all-snoc, all-at}
 use Rattle.rules.specs.Laws.Made.{In}
 use Rattle.rules.specs.Laws.Row.{rows-snoc, length-rows, row-cell, append-nil}
 use Rattle.sexp.specs.NameRows.{NameIn}

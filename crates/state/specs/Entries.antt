@@ -1,12 +1,11 @@
 -- The entries of all lists: which part of the table a goal's and a fact's entries are. Assumes nothing.
 use mathlib.Core.Path.{_≡_, refl, sym, ap, _∙_}
-use Prim.Native.Nat.{ℕ, zero, suc, _+_, _-_, _<_, _≤_}
-use mathlib.Core.List.{List, [], _∷_, _++_, append-assoc, append-nil}
+use Prim.Native.Nat.{ℕ, zero, suc, _+_, _-_, _<_, _≤_, min}
+use mathlib.Core.List.{List, [], _∷_, _++_, append-assoc}
 use native.Mathlib.Omega.{arith}
 use native.Mathlib.Numerals.{add-one}
-use lib.ListN.{length, getD, take, drop, set, length-append, length-set}
-use lib.Seq.{sets, take-at, drop-at, set-comm, drop-cons}
-use Rattle.rules.specs.Tree.{countTrees}
+use lib.ListN.{length, getD, take, drop, set, length-append, length-take, length-drop}
+use lib.Seq.{sets, take-at, drop-at, set-comm, drop-cons, getD-take, getD-drop}
 use Rattle.rules.specs.Store.{Made}
 use Rattle.rules.specs.State.{Goal, Fact, goalEntries, factEntries, allEntries}
 use Rattle.rules.specs.TheoryTables.{filled, rows}
@@ -21,7 +20,8 @@ abbrev pub part : List ℕ → Span → List ℕ
 part lists s = take (s .end - s .from) (drop (s .from) lists)
 
 -- one cell after the other
-pub part-more : (l : List ℕ) (at end : ℕ) → at < end → end ≤ length l → take (end - at) (drop at l) ≡ getD l at 0 ∷ take (end - (at + 1)) (drop (at + 1) l)
+pub part-more : (l : List ℕ) (at end : ℕ) → at < end → end ≤ length l →
+    take (end - at) (drop at l) ≡ getD l at 0 ∷ take (end - (at + 1)) (drop (at + 1) l)
 part-more l at end h k =
     let e : end - at ≡ suc (end - (at + 1)) = omega arith in
     let m : at < length l = omega arith in
@@ -29,6 +29,15 @@ part-more l at end h k =
 
 pub part-none : (l : List ℕ) (at end : ℕ) → end ≤ at → take (end - at) (drop at l) ≡ []
 part-none l at end h = let e : end - at ≡ 0 = omega arith in rw e
+
+-- cell k of a span whose cells are known, and how many these are
+pub part-at : (l : List ℕ) (s : Span) (xs : List ℕ) (k : ℕ) → part l s ≡ xs → k < length xs → getD l (s .from + k) 0 ≡ getD xs k 0
+part-at l s xs k e h =
+    let m : k < s .end - s .from = omega (arith, ap length e, length-take (s .end - s .from) (drop (s .from) l)) in
+    sym (getD-take (s .end - s .from) (drop (s .from) l) k 0 m ∙ getD-drop (s .from) l k 0) ∙ ap (λ l. getD l k 0) e
+
+pub part-long : (l : List ℕ) (s : Span) (xs : List ℕ) → part l s ≡ xs → s .end ≤ length l → length xs ≡ s .end - s .from
+part-long l s xs e h = omega (arith, ap length e, length-take (s .end - s .from) (drop (s .from) l), length-drop (s .from) l)
 
 -- Parts of a table ---------------------------------------------------------------------------------------------------------------
 
@@ -76,7 +85,8 @@ length-goal-list M (g ∷ gs) = omega (arith, length-append (numbers M (g .hyps)
 pub length-fact-part : (M : Made) (f : Fact) → length (factPart M f) ≡ factEntries f
 unfolding factPart factEntries
 length-fact-part M f =
-    omega (arith, length-append (f .hyps ++ numbers M (f .premises)) (f .general), length-append (f .hyps) (numbers M (f .premises)), length-numbers M (f .premises))
+    let ps = numbers M (f .premises) in
+    omega (arith, length-append (f .hyps ++ ps) (f .general), length-append (f .hyps) ps, length-numbers M (f .premises))
 
 pub length-fact-list : (M : Made) (fs : List Fact) → length (factList M fs) ≡ allEntries fs
 unfolding factList allEntries factPart

@@ -1,23 +1,22 @@
 -- Laws of the tables of facts, as they are read: what the cells, the entries and the footing of a fact say. Assumes nothing.
 use mathlib.Core.Path.{_≡_, refl, sym, ap, _∙_, subst}
-use Prim.Native.Nat.{ℕ, zero, suc, _+_, _-_, _*_, _^_, _<_, _≤_}
-use mathlib.Core.Bool.{Bool, true, false, not, _&&_}
+use Prim.Native.Nat.{ℕ, suc, _+_, _-_, _*_, _^_, _<_, _≤_}
+use mathlib.Core.Bool.{not, _&&_}
 use mathlib.Core.Option.{some}
 use mathlib.Core.List.{List, [], _∷_, _++_, append-assoc}
 use native.Mathlib.Omega.{arith}
 use lib.Dec.{eqb, eqb·suc-zero}
 use lib.ListN.{length, getD, take, drop, replicate, length-append}
 use lib.Seq.{length-take-le}
-use Rattle.rules.specs.Limits.{RULES, GOALS, FACTS, ENTRIES}
+use Rattle.rules.specs.Limits.{RULES, FACTS, ENTRIES}
 use Rattle.rules.specs.Find.{entry, has}
 use Rattle.rules.specs.Tree.{Trees, none, more, countTrees}
-use Rattle.rules.specs.Store.{Made, number}
-use Rattle.rules.specs.State.{State, Goal, Fact, isNone, isEmpty, isPlain, goalEntries, factEntries, allEntries, entries}
+use Rattle.rules.specs.Store.{Made}
+use Rattle.rules.specs.State.{State, Fact, isNone, isEmpty, isPlain, goalEntries, factEntries, allEntries, entries}
 use Rattle.rules.specs.TheoryTables.{filled, rows}
-use Rattle.rules.specs.StateTables.{factCells, footingCells, goalList, factList, numbers, bit}
+use Rattle.rules.specs.StateTables.{factCells, footingCells, goalList, factList, numbers}
 use Rattle.rules.specs.Laws.Theory.{All, all-at, all-map}
 use Rattle.rules.specs.Laws.Entry.{entry-below}
-use Rattle.rules.specs.Laws.Made.{sound}
 use Rattle.rules.specs.Laws.Row.{length-filled, filled-fits, length-rows, rows-snoc}
 use Rattle.rules.specs.Laws.Shape.{Shaped}
 use Rattle.terms.specs.Sets.{holds}
@@ -28,7 +27,7 @@ use Rattle.state.specs.Filled.{filled-front}
 use Rattle.state.specs.Numbered.{Numbered, AllNumbered, numbered-at, each-numbered, sound-in, length-numbers}
 use Rattle.state.specs.RowCells.{factRow, fact-rows, fact-width, fact-places, footingRow, footing-rows, footing-width, running-snoc, running-cell, length-running, noGoal, noFact}
 use Rattle.state.specs.RowTables.{Tabled, tabled-fits, tabled-long, tabled-at, entry-at}
-use Rattle.state.specs.Entries.{part, span-in, span-is, rows-split, factPart, fact-list-split, length-goal-list, length-fact-list}
+use Rattle.state.specs.Entries.{part, span-is, rows-split, factPart, fact-list-split, length-goal-list, length-fact-list}
 use Rattle.state.specs.GoalLaws.{GoalRow, goal-row, bit-flag}
 use Rattle.state.specs.Footings.{footing-below, footing-holds}
 
@@ -103,7 +102,8 @@ module _ {R : Records} {n : Sizes} {M : Made} {S : State} (h : Recorded R n M S)
   lists-long = ap length (h .lists) ∙ length-filled ENTRIES (listed M S)
 
   -- entries that were written behind, set to zero again: the table that there was
-  pub lists-again : (now : List ℕ) → take (n .entries) now ≡ take (n .entries) (R .lists) → take (n .entries) now ++ replicate (ENTRIES - n .entries) 0 ≡ R .lists
+  pub lists-again : (now : List ℕ) → take (n .entries) now ≡ take (n .entries) (R .lists) →
+      take (n .entries) now ++ replicate (ENTRIES - n .entries) 0 ≡ R .lists
   lists-again now e =
       let k = length-listed in
       ap (λ l. l ++ replicate (ENTRIES - n .entries) 0) (e ∙ ap (take (n .entries)) (h .lists) ∙ ap (λ j. take j (filled ENTRIES (listed M S))) (sym k)
@@ -140,7 +140,8 @@ module _ {R : Records} {n : Sizes} {M : Made} {S : State} (h : Recorded R n M S)
     before-long : length before ≡ cell 6 (R .facts) i 2
     unfolding factRow
     before-long =
-        omega (arith, length-append (goalList M (S .goals)) (factList M (take i (S .facts))), length-goal-list M (S .goals), length-fact-list M (take i (S .facts)), fact-at i 2 l (omega arith))
+        let a = length-append (goalList M (S .goals)) (factList M (take i (S .facts))) in
+        omega (arith, length-goal-list M (S .goals), length-fact-list M (take i (S .facts)), fact-at i 2 l (omega arith))
 
     split : listed M S ≡ before ++ (this .hyps ++ (numbers M (this .premises) ++ (this .general ++ behind)))
     unfolding factPart
@@ -158,7 +159,8 @@ module _ {R : Records} {n : Sizes} {M : Made} {S : State} (h : Recorded R n M S)
     hyps-here =
         ap (λ l. part l (hypsSpan (R .facts) i)) (h .lists)
         ∙ span-is ENTRIES (listed M S) before (this .hyps) (numbers M (this .premises) ++ (this .general ++ behind)) fits split
-        (cell 6 (R .facts) i 2) (cell 6 (R .facts) i 2 + cell 6 (R .facts) i 3) (sym before-long) (ap (λ k. cell 6 (R .facts) i 2 + k) (fact-at i 3 l (omega arith)))
+        (cell 6 (R .facts) i 2) (cell 6 (R .facts) i 2 + cell 6 (R .facts) i 3) (sym before-long)
+        (ap (λ k. cell 6 (R .facts) i 2 + k) (fact-at i 3 l (omega arith)))
 
     premises-here : part (R .lists) (premisesSpan (R .facts) i) ≡ numbers M (this .premises)
     unfolding factRow
@@ -181,7 +183,8 @@ module _ {R : Records} {n : Sizes} {M : Made} {S : State} (h : Recorded R n M S)
         let ps = numbers M (this .premises) in
         ap (λ l. part l (generalSpan (R .facts) i)) (h .lists)
         ∙ span-is ENTRIES (listed M S) ((before ++ this .hyps) ++ ps) (this .general) behind fits
-        (split ∙ sym (append-assoc before (this .hyps) (ps ++ (this .general ++ behind))) ∙ sym (append-assoc (before ++ this .hyps) ps (this .general ++ behind)))
+        (split ∙ sym (append-assoc before (this .hyps) (ps ++ (this .general ++ behind)))
+        ∙ sym (append-assoc (before ++ this .hyps) ps (this .general ++ behind)))
         (generalSpan (R .facts) i .from) (generalSpan (R .facts) i .end)
         (omega (arith, before-long, length-append before (this .hyps), length-append (before ++ this .hyps) ps)) (omega arith)
 
@@ -204,7 +207,8 @@ module _ {R : Records} {n : Sizes} {M : Made} {S : State} (h : Recorded R n M S)
         ap (λ l. take 4 (drop (4 * i) l)) (footings-tabled .is)
         ∙ ap (λ k. take k (drop (4 * i) (filled (4 * FACTS) (footingCells (S .facts))))) (let z : 4 ≡ 4 * i + 4 - 4 * i = omega arith in z)
         ∙ span-is (4 * FACTS) (footingCells (S .facts)) (rows footingRow (take i (S .facts))) (footingRow this) (rows footingRow (drop (suc i) (S .facts)))
-        (tabled-fits footings-tabled) (footing-rows (S .facts) ∙ rows-split footingRow (S .facts) i noFact there) (4 * i) (4 * i + 4) (omega arith) (omega arith)
+        (tabled-fits footings-tabled) (footing-rows (S .facts) ∙ rows-split footingRow (S .facts) i noFact there)
+        (4 * i) (4 * i + 4) (omega arith) (omega arith)
 
     pub fact-row : FactRow R n M S i (getD (S .facts) i noFact)
     unfolding factRow isPlain
@@ -230,7 +234,8 @@ module _ {R : Records} {n : Sizes} {M : Made} {S : State} (h : Recorded R n M S)
         }
 
 -- the fact that the definition finds
-pub fact-row-of : {R : Records} {n : Sizes} {M : Made} {S : State} (i : ℕ) {f : Fact} → Recorded R n M S → entry (S .facts) i ≡ some f → FactRow R n M S i f
+pub fact-row-of : {R : Records} {n : Sizes} {M : Made} {S : State} (i : ℕ) {f : Fact} → Recorded R n M S → entry (S .facts) i ≡ some f →
+    FactRow R n M S i f
 fact-row-of {R} {n} {M} {S} i {f} h e =
     let l = entry-below (S .facts) i f e in
     let k : i < n .facts = omega (arith, h .many) in

@@ -1,7 +1,7 @@
 -- Tables that hold their first cells and zero behind, as they are read and written: a cell, a part, cells more, cells less. Assumes nothing.
-use mathlib.Core.Path.{_≡_, refl, sym, ap, _∙_, subst}
+use mathlib.Core.Path.{_≡_, refl, sym, ap, _∙_}
 use Prim.Native.Nat.{ℕ, zero, suc, _+_, _-_, _<_, _≤_}
-use mathlib.Core.List.{List, [], _∷_, _++_, append-assoc, append-nil}
+use mathlib.Core.List.{List, [], _++_, append-assoc, append-nil}
 use native.Mathlib.Omega.{arith}
 use native.Mathlib.Decide.{decLt}
 use lib.ListN.{length, getD, take, drop, set, replicate, length-append, length-drop, length-set, length-replicate, getD-replicate, replicate-append-replicate, List·getD-eq-default, List·getD-append, drop-of-length-le}
@@ -106,13 +106,14 @@ module _ (N : ℕ) (xs ys : List ℕ) (h : length xs + length ys ≤ N) where
       let n = length-append xs ys in
       let m = length-replicate {A = ℕ} (N - length (xs ++ ys)) 0 in
       let o = length-replicate {A = ℕ} (length ys) 0 in
+      let w = length (replicate {A = ℕ} (length ys) 0) in
       let p = length-append ys z in
       let q = length-append xs (ys ++ z) in
       ap (λ i. sets (filled N (xs ++ ys)) i (replicate (length ys) 0)) e
       ∙ ap (λ l. sets l (length xs) (replicate (length ys) 0)) (filled-fits N (xs ++ ys) both-fit ∙ append-assoc xs ys z)
       ∙ sets-eq (replicate (length ys) 0) (xs ++ (ys ++ z)) (length xs) (omega arith)
-      ∙ ap (λ l. l ++ replicate (length ys) 0 ++ drop (length xs + length (replicate {A = ℕ} (length ys) 0)) (xs ++ (ys ++ z))) (take-at xs (ys ++ z) (length xs) refl)
-      ∙ ap (λ l. xs ++ replicate (length ys) 0 ++ l) (drop-append-add xs (ys ++ z) (length (replicate {A = ℕ} (length ys) 0)) ∙ drop-at ys z (length (replicate {A = ℕ} (length ys) 0)) (sym o))
+      ∙ ap (λ l. l ++ replicate (length ys) 0 ++ drop (length xs + w) (xs ++ (ys ++ z))) (take-at xs (ys ++ z) (length xs) refl)
+      ∙ ap (λ l. xs ++ replicate (length ys) 0 ++ l) (drop-append-add xs (ys ++ z) w ∙ drop-at ys z w (sym o))
       ∙ append-assoc xs (replicate (length ys) 0) z ∙ ap (λ l. xs ++ l) (replicate-append-replicate (length ys) (N - length (xs ++ ys)) 0
       ∙ ap (λ m. replicate m 0) (let e : length ys + (N - length (xs ++ ys)) ≡ N - length xs = omega arith in e))
       ∙ sym (filled-fits N xs (omega arith))

@@ -125,11 +125,14 @@ word-here a i (suc m) j l =
         let r : (64 * i + j) % 64 ≡ j = omega arith in
         let x = value a (suc (64 * i + j)) m in
         let h : bitWord (risingFrom (suc (64 * i + j)) m a) i ≡ x * (2 ^ j * 2) = e ∙ ap (λ n. x * n) (pow-suc 2 j) in
-        rw (bitWord, eq-eqb ((64 * i + j) / 64) i d, r) (
-        (let o = one-mul (2 ^ j) in let s : 2 ^ j + bitWord (risingFrom (suc (64 * i + j)) m a) i ≡ 1 * 2 ^ j + x * (2 ^ j * 2) = omega arith in s) ∙ twice 1 x (2 ^ j))
+        let o = one-mul (2 ^ j) in
+        let s : 2 ^ j + bitWord (risingFrom (suc (64 * i + j)) m a) i ≡ 1 * 2 ^ j + x * (2 ^ j * 2) = omega arith in
+        rw (bitWord, eq-eqb ((64 * i + j) / 64) i d, r) (s ∙ twice 1 x (2 ^ j))
     go false e =
         let x = value a (suc (64 * i + j)) m in
-        e ∙ ap (λ n. x * n) (pow-suc 2 j) ∙ (let o = zero-mul (2 ^ j) in let s : x * (2 ^ j * 2) ≡ 0 * 2 ^ j + x * (2 ^ j * 2) = omega arith in s) ∙ twice 0 x (2 ^ j)
+        let o = zero-mul (2 ^ j) in
+        let s : x * (2 ^ j * 2) ≡ 0 * 2 ^ j + x * (2 ^ j * 2) = omega arith in
+        e ∙ ap (λ n. x * n) (pow-suc 2 j) ∙ s ∙ twice 0 x (2 ^ j)
 
 -- word i of a set that is written out to n
 word-of : (a : Set) (n i : ℕ) → 64 * i + 64 ≤ n → bitWord (rising n a) i ≡ value a (64 * i) 64
@@ -141,10 +144,12 @@ word-of a n i l =
     let behind = word-other (64 * i + 64) r a i (λ v h k q. omega arith) in
     let here : bitWord (risingFrom (64 * i) 64 a) i ≡ value a (64 * i) 64 =
         subst (λ k. bitWord (risingFrom k 64 a) i ≡ value a k 64 * 2 ^ 0) z (word-here a i 64 0 (omega arith)) ∙ mul-one (value a (64 * i) 64) in
-    ap (λ k. bitWord (rising k a) i) e ∙ ap (λ l. bitWord l i) (rising-split (64 * i) (64 + r) a ∙ ap (λ l. rising (64 * i) a ++ l) (rising-from-split (64 * i) 64 r a))
+    ap (λ k. bitWord (rising k a) i) e
+    ∙ ap (λ l. bitWord l i) (rising-split (64 * i) (64 + r) a ∙ ap (λ l. rising (64 * i) a ++ l) (rising-from-split (64 * i) 64 r a))
     ∙ word-append (rising (64 * i) a) (risingFrom (64 * i) 64 a ++ risingFrom (64 * i + 64) r a) i
     ∙ ap (λ n. bitWord (rising (64 * i) a) i + n) (word-append (risingFrom (64 * i) 64 a) (risingFrom (64 * i + 64) r a) i)
-    ∙ (let s : bitWord (rising (64 * i) a) i + (bitWord (risingFrom (64 * i) 64 a) i + bitWord (risingFrom (64 * i + 64) r a) i) ≡ value a (64 * i) 64 = omega arith in s)
+    ∙ (let s : bitWord (rising (64 * i) a) i + (bitWord (risingFrom (64 * i) 64 a) i + bitWord (risingFrom (64 * i + 64) r a) i)
+        ≡ value a (64 * i) 64 = omega arith in s)
 
 -- Rows -----------------------------------------------------------------------------------------------------------------------------
 

@@ -1,13 +1,13 @@
 -- Laws of the table of goals: what its cells and its entries say, one more, one that is taken. Assumes nothing.
-use mathlib.Core.Path.{_≡_, refl, sym, ap, _∙_, subst}
-use Prim.Native.Nat.{ℕ, suc, _+_, _-_, _*_, _<_, _≤_}
+use mathlib.Core.Path.{_≡_, refl, sym, ap, _∙_}
+use Prim.Native.Nat.{ℕ, suc, _+_, _*_, _<_, _≤_}
 use mathlib.Core.Bool.{Bool, true, false, not}
 use mathlib.Core.Option.{some}
 use mathlib.Core.List.{List, [], _∷_, _++_, append-assoc}
 use native.Mathlib.Omega.{arith}
 use native.Mathlib.Nat.{zero-add}
 use lib.Dec.{eqb}
-use lib.ListN.{length, getD, take, drop, set, length-append}
+use lib.ListN.{length, getD, take, drop, set}
 use lib.Seq.{sets}
 use Rattle.rules.specs.Limits.{GOALS, ENTRIES}
 use Rattle.rules.specs.Find.{entry, change}
@@ -32,7 +32,8 @@ use Rattle.state.specs.Entries.{part, span-in, span-is, goal-list-split,
 pub length-goal-cells : (M : Made) (at : ℕ) (gs : List Goal) → length (goalCells M at gs) ≡ 6 * length gs
 length-goal-cells M at gs = ap length (goal-rows M at gs) ∙ length-running (goalRow M) goalPlaces 6 (goal-width M) at gs
 
-pub goal-cells-snoc : (M : Made) (at : ℕ) (gs : List Goal) (g : Goal) → goalCells M at (gs ++ (g ∷ [])) ≡ goalCells M at gs ++ goalRow M (at + goalEntries gs) g
+pub goal-cells-snoc : (M : Made) (at : ℕ) (gs : List Goal) (g : Goal) →
+    goalCells M at (gs ++ (g ∷ [])) ≡ goalCells M at gs ++ goalRow M (at + goalEntries gs) g
 goal-cells-snoc M at gs g =
     goal-rows M at (gs ++ (g ∷ [])) ∙ running-snoc (goalRow M) goalPlaces at gs g
     ∙ (λ i. sym (goal-rows M at gs) i ++ goalRow M (at + goal-places gs i) g)
@@ -83,7 +84,9 @@ module _ {text rows : List ℕ} {count : ℕ} {M : Made} {gs : List Goal} (h : G
       record {
         is = entry-at gs k noGoal m;
         judgment = numbered-at (cell 6 rows k 2) (sound-in M (g .judgment) (p .judgment)) (goal-at k 2 l (omega arith));
-        inside = let i = span-in ENTRIES (goalList M gs ++ rest) (goalList M (take k gs)) (numbers M (g .hyps)) (goalList M (drop (suc k) gs) ++ rest) f split in omega arith;
+        inside =
+            let i = span-in ENTRIES (goalList M gs ++ rest) (goalList M (take k gs)) (numbers M (g .hyps)) (goalList M (drop (suc k) gs) ++ rest) f split in
+            omega arith;
         hyps = ap (λ l. part l (listSpan rows k)) e
             ∙ span-is ENTRIES (goalList M gs ++ rest) (goalList M (take k gs)) (numbers M (g .hyps)) (goalList M (drop (suc k) gs) ++ rest) f split
             (cell 6 rows k 3) (cell 6 rows k 3 + cell 6 rows k 4) (omega arith) (omega arith);

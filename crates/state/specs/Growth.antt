@@ -3,21 +3,38 @@
 use mathlib.Core.Path.{_≡_, refl, sym, ap, _∙_}
 use Prim.Native.Nat.{ℕ, _+_, _*_}
 use mathlib.Core.List.{List, [], _∷_, _++_}
+use native.Mathlib.Omega.{arith}
 use lib.ListN.{length}
 use Rattle.rules.specs.Limits.{DEFS, GOALS, FACTS, ENTRIES}
+use Rattle.rules.specs.Out.{Out, ok, refuse}
 use Rattle.rules.specs.Tree.{Tree, countTrees}
 use Rattle.rules.specs.Store.{Made}
 use Rattle.rules.specs.State.{State, Def, Goal, Fact, goalEntries, factEntries, entries}
 use Rattle.rules.specs.Forms.{withMade}
 use Rattle.rules.specs.TheoryTables.{filled, nameCells}
-use Rattle.rules.specs.StateTables.{defCells, goalCells, factCells, goalList, factList, numbers, bit}
-use Rattle.rules.specs.Laws.Theory.{All, empty, both, all-map}
-use Rattle.rules.specs.Laws.Keeping.{Grows}
+use Rattle.rules.specs.StateTables.{defCells, goalCells, factCells, goalList, factList, bit}
+use Rattle.rules.specs.Laws.Theory.{All, both, all-map}
+use Rattle.rules.specs.Laws.Keeping.{Invariant, Grows, Keeps, fine, off}
 use Rattle.rules.specs.Laws.Made.{In, sound, in-front}
-use Rattle.rules.specs.Laws.ReadWalk.{Ready, FactIn, GoalIn, ready-on}
+use Rattle.rules.specs.Laws.ReadWalk.{FactIn, GoalIn, ready-on}
 use Rattle.state.specs.declared.sizes.Sizes.{Sizes}
-use Rattle.state.specs.Held.{DefsHeld, GoalsHeld, Names, Spelling, Records, listed, Recorded}
+use Rattle.state.specs.Held.{DefsHeld, GoalsHeld, Names, Spelling, Records, Recorded}
 use Rattle.state.specs.Numbered.{sound-in, number-on, numbers-on}
+
+-- What an action has made ----------------------------------------------------------------------------------------------------------
+
+-- by the laws of the definition, as `term-keeps`, and the answer that a contract gives
+pub grows-ok : {K : Invariant} {M U : Made} {A : Type 0} {P : A → Made → Type 0} {o : Out Made A} {a : A} → Keeps K M P o → o ≡ ok a U → Grows K M U × P a U
+grows-ok {U = U} {a = a} (fine {a = b} {u = w} g p) e =
+    let q : b ≡ a = cc in
+    let r : w ≡ U = cc in
+    (rw r at g, rw (q, r) at p)
+grows-ok (off g) e = absurd (let z : _≡_ {A = ℕ} 0 1 = cc in omega arith)
+
+pub grows-refuse : {K : Invariant} {M U : Made} {A : Type 0} {P : A → Made → Type 0} {o : Out Made A} {n d : ℕ} → Keeps K M P o → o ≡ refuse n d U →
+    Grows K M U
+grows-refuse (fine g p) e = absurd (let z : _≡_ {A = ℕ} 0 1 = cc in omega arith)
+grows-refuse {U = U} (off {u = w} g) e = let r : w ≡ U = cc in rw r at g
 
 module _ {M U : Made} (g : Grows sound M U) where
   in-on : (t : Tree) → In t M → In t U

@@ -2,16 +2,16 @@
 -- texts; a term is its place among the made trees M. Each is said row by row, so that a program can test it by one walk over the table.
 -- Assumes nothing.
 use mathlib.Core.Path.{_≡_}
-use Prim.Native.Nat.{ℕ, _+_, _*_, _<_, _≤_}
-use mathlib.Core.Bool.{Bool, true, false}
+use Prim.Native.Nat.{ℕ, _*_, _<_, _≤_}
+use mathlib.Core.Bool.{true, false}
 use mathlib.Core.List.{List, _++_}
 use lib.Dec.{eqb}
 use lib.ListN.{length}
 use Rattle.rules.specs.Limits.{LENGTH, RULES, VARIABLES, DEFS, GOALS, FACTS, ENTRIES}
 use Rattle.rules.specs.Store.{Made}
 use Rattle.rules.specs.Theory.{Theory}
-use Rattle.rules.specs.State.{State, Var, Def, Goal, Fact, goalEntries, entries}
-use Rattle.rules.specs.TheoryTables.{filled, symbolTable, inputTable}
+use Rattle.rules.specs.State.{State, Var, Def, Goal, goalEntries, entries}
+use Rattle.rules.specs.TheoryTables.{filled, symbolTable}
 use Rattle.rules.specs.StateTables.{varCells, defCells, goalCells, factCells, footingCells, goalList, factList}
 use Rattle.rules.specs.Laws.Theory.{All, WellFormed}
 use Rattle.rules.specs.Laws.Made.{In, sound}

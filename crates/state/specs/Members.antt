@@ -8,7 +8,7 @@ use native.Mathlib.Decide.{decLt, ℕ-discrete}
 use lib.Dec.{eqb}
 use borrow.Author.Tests.{eq-eqb, ne-eqb}
 use Rattle.rules.specs.Find.{Set, has, rising, risingFrom}
-use Rattle.rules.specs.Laws.Theory.{All, empty, both, all-map}
+use Rattle.rules.specs.Laws.Theory.{All, both, all-map}
 use Rattle.rules.specs.Laws.Set.{rising-split, rising-from-none, rising-from-agree}
 use Rattle.rules.specs.Laws.Rising.{Rises, RisesFrom}
 

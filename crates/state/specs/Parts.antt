@@ -1,6 +1,6 @@
 -- One part of the state anew, in the tables that it does not touch: what names stand for and what is recorded, beside a variable, an abbreviation,
 -- a goal or a fact more. Assumes nothing.
-use mathlib.Core.Path.{_≡_, refl, sym, ap, _∙_, subst}
+use mathlib.Core.Path.{_≡_, refl, sym, ap, _∙_}
 use Prim.Native.Nat.{ℕ, zero, suc, _+_, _*_, _<_, _≤_}
 use mathlib.Core.List.{List, [], _∷_, _++_, append-nil}
 use native.Mathlib.Omega.{arith}
@@ -18,9 +18,9 @@ use Rattle.rules.specs.Laws.Theory.{All, all-map, all-snoc}
 use Rattle.rules.specs.Laws.Appends.{Behind}
 use Rattle.rules.specs.Laws.Entry.{change-length, change-all}
 use Rattle.rules.specs.Laws.Made.{sound}
-use Rattle.rules.specs.Laws.ReadWalk.{Ready, FactIn, GoalIn}
+use Rattle.rules.specs.Laws.ReadWalk.{FactIn, GoalIn}
 use Rattle.state.specs.declared.sizes.Sizes.{Sizes}
-use Rattle.state.specs.Held.{VarsHeld, DefsHeld, Names, names, Spelling, Records, records, listed, Recorded, RuleLists, Ruled}
+use Rattle.state.specs.Held.{VarsHeld, DefsHeld, Names, names, Spelling, Records, records, listed, Recorded}
 use Rattle.state.specs.Used.{varsNow, defsNow, goalsNow, factsNow}
 use Rattle.state.specs.Filled.{filled-more}
 use Rattle.state.specs.Numbered.{in-sound, length-numbers}

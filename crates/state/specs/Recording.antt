@@ -1,15 +1,15 @@
 -- One fact more in the tables of facts: from what `put_derived` and `put_hypothesis` leave to the state with that fact. Assumes nothing.
 use mathlib.Core.Path.{_≡_, refl, sym, ap, _∙_, subst}
-use Prim.Native.Nat.{ℕ, zero, suc, _+_, _-_, _*_, _^_, _<_, _≤_}
-use mathlib.Core.Bool.{Bool, true, false}
+use Prim.Native.Nat.{ℕ, _+_, _*_, _^_, _<_, _≤_}
+use mathlib.Core.Bool.{true, false}
 use mathlib.Core.Option.{some}
 use mathlib.Core.List.{List, [], _∷_, _++_, append-assoc, append-nil}
 use native.Mathlib.Omega.{arith}
-use lib.ListN.{length, getD, replicate, length-append}
+use lib.ListN.{length, getD, length-append}
 use lib.Seq.{sets}
-use Rattle.rules.specs.Limits.{RULES, FACTS, ENTRIES}
+use Rattle.rules.specs.Limits.{FACTS, ENTRIES}
 use Rattle.rules.specs.Find.{entry, has, rising}
-use Rattle.rules.specs.Tree.{Trees, none, countTrees}
+use Rattle.rules.specs.Tree.{countTrees}
 use Rattle.rules.specs.Store.{Made, number}
 use Rattle.rules.specs.State.{State, Fact, Counts, goalEntries, factEntries, allEntries, entries}
 use Rattle.rules.specs.Forms.{withFacts}
@@ -26,14 +26,14 @@ use Rattle.state.specs.declared.sizes.Sizes.{Sizes}
 use Rattle.state.specs.declared.facts.Put.{Put}
 use Rattle.state.specs.declared.facts.Put.the-variants.{Stored}
 use Rattle.state.specs.Held.{Records, records, listed, Recorded}
-use Rattle.state.specs.Rows.{RowPut, PutAs}
+use Rattle.state.specs.Rows.{PutAs}
 use Rattle.state.specs.Used.{factsNow}
 use Rattle.state.specs.Filled.{filled-more, filled-zeros}
 use Rattle.state.specs.Members.{Under, rising-under, has-rising}
 use Rattle.state.specs.Numbered.{length-numbers}
 use Rattle.state.specs.RowCells.{factRow, fact-width, footingRow, footing-width}
-use Rattle.state.specs.RowTables.{tabled-fits, tabled-more, length-one-more}
-use Rattle.state.specs.Entries.{factPart, length-fact-part, fact-list-snoc, sets-first}
+use Rattle.state.specs.RowTables.{tabled-more, length-one-more}
+use Rattle.state.specs.Entries.{factPart, fact-list-snoc, sets-first}
 use Rattle.state.specs.Footings.{footing-row}
 use Rattle.state.specs.FactLaws.{fact-cells-snoc, footing-cells-snoc, facts-tabled, footings-tabled, length-listed, entries-fit}
 
@@ -41,6 +41,16 @@ use Rattle.state.specs.FactLaws.{fact-cells-snoc, footing-cells-snoc, fa
 
 abbrev pub withFact : State → Fact → Counts → State
 withFact S f c = withFacts S (S .facts ++ (f ∷ [])) c
+
+-- what `put_derived` ensures, and what `put_hypothesis` does
+abbrev pub DerivedPut : Records → Records → Sizes → ℕ → List ℕ → List ℕ → Put → Type 0
+DerivedPut R Q n judgment hyps footing r =
+    PutAs R Q n (judgment ∷ 0 ∷ n .entries ∷ length (rising FACTS (holds hyps)) ∷ 0 ∷ 0 ∷ []) (rising FACTS (holds hyps)) footing
+    (length (rising FACTS (holds hyps))) r
+
+abbrev pub HypothesisPut : Records → Records → Sizes → ℕ → ℕ → ℕ → Put → Type 0
+HypothesisPut R Q n judgment premises general r =
+    PutAs R Q n (judgment ∷ 1 ∷ n .entries ∷ 1 ∷ premises ∷ general ∷ []) (n .facts ∷ []) [] (1 + premises + general) r
 
 -- what the laws of the definition say of every state that is reached
 pub record Valid (M : Made) (S : State) : Type 0 where
@@ -102,7 +112,8 @@ module _ {R : Records} {n : Sizes} {M : Made} {S : State} (f : Fact) (c : Counts
   recorded-more d g a b l =
       record {
         many = sym (length-one-more (S .facts) f ∙ ap (λ k. k + 1) (sym (h .many)));
-        used = d ∙ (let z : n .entries + factEntries f ≡ goalEntries (S .goals) + allEntries (S .facts ++ (f ∷ [])) = omega (arith, entries-snoc (S .facts) f, h .used) in z);
+        used = d ∙ (let q = entries-snoc (S .facts) f in
+            let z : n .entries + factEntries f ≡ goalEntries (S .goals) + allEntries (S .facts ++ (f ∷ [])) = omega (arith, h .used) in z);
         facts = a;
         footings = b;
         lists = l;
@@ -144,12 +155,11 @@ module _ {R : Records} {n : Sizes} {M : Made} {S : State} {f : Fact} {judgment :
       footing-row f (h .rules) (derived-shaped .footing) footing (d .words) (d .fit)
       (sym (ap has (d .uses) ∙ has-rising (length (S .theory .rules)) (holds footing) (d .known)))
 
-  pub recorded-derived : {Q : Records} (r : Put) →
-      PutAs R Q n (judgment ∷ 0 ∷ n .entries ∷ length (rising FACTS (holds hyps)) ∷ 0 ∷ 0 ∷ []) (rising FACTS (holds hyps)) footing
-      (length (rising FACTS (holds hyps))) r → r ≡ Stored e → Recorded Q (factsNow n (n .facts + 1) e) M (withFact S f c)
+  pub recorded-derived : {Q : Records} (r : Put) → DerivedPut R Q n judgment hyps footing r → r ≡ Stored e →
+      Recorded Q (factsNow n (n .facts + 1) e) M (withFact S f c)
   unfolding factRow factPart factEntries countTrees bit numbers
   recorded-derived {Q} r p q =
-      let s = subst (PutAs R Q n (judgment ∷ 0 ∷ n .entries ∷ length (rising FACTS (holds hyps)) ∷ 0 ∷ 0 ∷ []) (rising FACTS (holds hyps)) footing (length (rising FACTS (holds hyps)))) q p in
+      let s = subst (DerivedPut R Q n judgment hyps footing) q p in
       let w = derived-shaped .plain (d .assumed) in
       let many = ap length derived-hyps in
       let none-many = ap countTrees (w .0) in
@@ -160,8 +170,11 @@ module _ {R : Records} {n : Sizes} {M : Made} {S : State} {f : Fact} {judgment :
           sym ((λ i. f .hyps ++ numbers M (w .0 i) ++ w .1 i) ∙ append-nil (f .hyps ++ []) ∙ append-nil (f .hyps) ∙ derived-hyps) in
       let footed : Q .footings ≡ filled (4 * FACTS) (footingCells (S .facts ++ (f ∷ []))) =
           s .0 .footings ∙ ap (λ l. sets (R .footings) (4 * n .facts) l) derived-words
-          ∙ tabled-more (footings-tabled h) (footingRow f) (footing-width f) (s .0 .room) .is ∙ ap (filled (4 * FACTS)) (sym (footing-cells-snoc (S .facts) f)) in
-      recorded-more f c e h v (s .1 ∙ (let z : n .entries + length (rising FACTS (holds hyps)) ≡ n .entries + (length (f .hyps) + countTrees (f .premises) + length (f .general)) = omega (arith, many, none-many, no-general) in z))
+          ∙ tabled-more (footings-tabled h) (footingRow f) (footing-width f) (s .0 .room) .is
+          ∙ ap (filled (4 * FACTS)) (sym (footing-cells-snoc (S .facts) f)) in
+      let sum : n .entries + length (rising FACTS (holds hyps)) ≡ n .entries + (length (f .hyps) + countTrees (f .premises) + length (f .general)) =
+          omega (arith, many, none-many, no-general) in
+      recorded-more f c e h v (s .1 ∙ sum)
       (subst (All (λ v. v < length (S .vars))) (sym (w .1)) empty)
       (s .0 .facts ∙ recorded-row f c e h v (judgment ∷ 0 ∷ n .entries ∷ length (rising FACTS (holds hyps)) ∷ 0 ∷ 0 ∷ []) (s .0 .room) row)
       footed
@@ -180,12 +193,11 @@ pub record Assumes (M : Made) (S : State) (f : Fact) (n : Sizes) (judgment premi
 
 module _ {R : Records} {n : Sizes} {M : Made} {S : State} {f : Fact} {judgment premises general : ℕ} {L : List ℕ} (c : Counts) (e : ℕ)
     (h : Recorded R n M S) (d : Assumes M S f n judgment premises general (R .lists) L) (v : Valid M (withFact S f c)) where
-  pub recorded-hypothesis : {Q : Records} (r : Put) →
-      PutAs (records (R .facts) (R .footings) L) Q n (judgment ∷ 1 ∷ n .entries ∷ 1 ∷ premises ∷ general ∷ []) (n .facts ∷ []) [] (1 + premises + general) r →
-      r ≡ Stored e → Recorded Q (factsNow n (n .facts + 1) e) M (withFact S f c)
+  pub recorded-hypothesis : {Q : Records} (r : Put) → HypothesisPut (records (R .facts) (R .footings) L) Q n judgment premises general r → r ≡ Stored e →
+      Recorded Q (factsNow n (n .facts + 1) e) M (withFact S f c)
   unfolding factRow factPart factEntries bit bitWord footingRow
   recorded-hypothesis {Q} r p q =
-      let s = subst (PutAs (records (R .facts) (R .footings) L) Q n (judgment ∷ 1 ∷ n .entries ∷ 1 ∷ premises ∷ general ∷ []) (n .facts ∷ []) [] (1 + premises + general)) q p in
+      let s = subst (HypothesisPut (records (R .facts) (R .footings) L) Q n judgment premises general) q p in
       let o = new-shaped (length (S .theory .rules)) (S .facts) f (v .shaped) .own (d .assumed) in
       let own : f .hyps ≡ n .facts ∷ [] = o .0 ∙ ap (λ k. k ∷ []) (sym (h .many)) in
       let many = ap length own in
@@ -201,7 +213,9 @@ module _ {R : Records} {n : Sizes} {M : Made} {S : State} {f : Fact} {judgment p
           ∙ sym (filled-zeros (4 * FACTS) (footingCells (S .facts)) 4 (omega (arith, footings-tabled h .many, s .0 .room)))
           ∙ ap (filled (4 * FACTS)) (sym (footing-cells-snoc (S .facts) f
           ∙ ap (λ l. footingCells (S .facts) ++ (bitWord l 0 ∷ bitWord l 1 ∷ bitWord l 2 ∷ bitWord l 3 ∷ [])) (o .1))) in
-      recorded-more f c e h v (s .1 ∙ (let z : n .entries + (1 + premises + general) ≡ n .entries + (length (f .hyps) + countTrees (f .premises) + length (f .general)) = omega (arith, many, d .premised, d .generalised) in z))
+      let sum : n .entries + (1 + premises + general) ≡ n .entries + (length (f .hyps) + countTrees (f .premises) + length (f .general)) =
+          omega (arith, many, d .premised, d .generalised) in
+      recorded-more f c e h v (s .1 ∙ sum)
       (d .bound)
       (s .0 .facts ∙ recorded-row f c e h v (judgment ∷ 1 ∷ n .entries ∷ 1 ∷ premises ∷ general ∷ []) (s .0 .room) row)
       footed

@@ -1,7 +1,7 @@
 -- The cells of variables, abbreviations, goals, facts and footings as rows, all of one width. The rows of goals and facts carry a running place:
 -- where their entries begin. Assumes nothing.
 use mathlib.Core.Path.{_≡_, refl, sym, ap, _∙_}
-use Prim.Native.Nat.{ℕ, zero, suc, _+_, _*_, _<_, _≤_}
+use Prim.Native.Nat.{ℕ, zero, suc, _+_, _*_, _<_}
 use mathlib.Core.Bool.{false}
 use mathlib.Core.List.{List, [], _∷_, _++_, append-assoc, append-nil}
 use native.Mathlib.Omega.{arith}
@@ -16,7 +16,6 @@ use Rattle.rules.specs.State.{Var, Def, Goal, Fact, goalEntries, factEntries, a
 use Rattle.rules.specs.Forms.{takenGoal}
 use Rattle.rules.specs.TheoryTables.{rows, nameCells}
 use Rattle.rules.specs.StateTables.{varCells, defCells, goalCells, factCells, footingCells, bit, bitWord}
-use Rattle.rules.specs.Laws.Row.{rows-snoc, length-rows, row-cell}
 
 -- Rows with a running place ------------------------------------------------------------------------------------------------------
 
@@ -35,7 +34,8 @@ module _ {A : Type 0} (f : ℕ → A → List ℕ) (s : A → ℕ) where
   unfolding running places
   running-snoc at [] y = append-nil (f at y) ∙ ap (λ n. f n y) (let e : at ≡ at + 0 = omega arith in e)
   running-snoc at (x ∷ xs) y =
-      ap (λ l. f at x ++ l) (running-snoc (at + s x) xs y ∙ ap (λ n. running f s (at + s x) xs ++ f n y) (let e : at + s x + places s xs ≡ at + (s x + places s xs) = omega arith in e))
+      let e : at + s x + places s xs ≡ at + (s x + places s xs) = omega arith in
+      ap (λ l. f at x ++ l) (running-snoc (at + s x) xs y ∙ ap (λ n. running f s (at + s x) xs ++ f n y) e)
       ∙ sym (append-assoc (f at x) (running f s (at + s x) xs) (f (at + (s x + places s xs)) y))
 
   module _ (w : ℕ) (h : (at : ℕ) (x : A) → length (f at x) ≡ w) where
@@ -94,7 +94,8 @@ def-rows M (d ∷ ds) = ap (λ l. (nameCells (d .name) ++ (number M (d .term) �
 pub footing-rows : (fs : List Fact) → footingCells fs ≡ rows footingRow fs
 unfolding footingCells footingRow rows
 footing-rows [] = refl
-footing-rows (f ∷ fs) = ap (λ l. (bitWord (f .footing) 0 ∷ bitWord (f .footing) 1 ∷ bitWord (f .footing) 2 ∷ bitWord (f .footing) 3 ∷ []) ++ l) (footing-rows fs)
+footing-rows (f ∷ fs) =
+    ap (λ l. (bitWord (f .footing) 0 ∷ bitWord (f .footing) 1 ∷ bitWord (f .footing) 2 ∷ bitWord (f .footing) 3 ∷ []) ++ l) (footing-rows fs)
 
 pub var-width : (v : Var) → length (varRow v) ≡ 4
 unfolding varRow nameCells
@@ -123,7 +124,8 @@ pub goal-rows : (M : Made) (at : ℕ) (gs : List Goal) → goalCells M at gs ≡
 unfolding goalCells goalRow running
 goal-rows M at [] = refl
 goal-rows M at (g ∷ gs) =
-    ap (λ l. (nameCells (g .name) ++ (number M (g .judgment) ∷ at ∷ countTrees (g .hyps) ∷ bit (g .taken) ∷ [])) ++ l) (goal-rows M (at + countTrees (g .hyps)) gs)
+    ap (λ l. (nameCells (g .name) ++ (number M (g .judgment) ∷ at ∷ countTrees (g .hyps) ∷ bit (g .taken) ∷ [])) ++ l)
+    (goal-rows M (at + countTrees (g .hyps)) gs)
 
 pub fact-rows : (M : Made) (at : ℕ) (fs : List Fact) → factCells M at fs ≡ running (factRow M) factEntries at fs
 unfolding factCells factRow running
@@ -152,7 +154,8 @@ fact-places (f ∷ fs) = ap (λ n. factEntries f + n) (fact-places fs)
 
 -- A goal that is taken: one cell anew ----------------------------------------------------------------------------------------------
 
-pub taken-cells : (M : Made) (at : ℕ) (gs : List Goal) (k : ℕ) → k < length gs → goalCells M at (change gs k takenGoal) ≡ set (goalCells M at gs) (6 * k + 5) 1
+pub taken-cells : (M : Made) (at : ℕ) (gs : List Goal) (k : ℕ) → k < length gs →
+    goalCells M at (change gs k takenGoal) ≡ set (goalCells M at gs) (6 * k + 5) 1
 unfolding goalCells change nameCells bit
 taken-cells M at [] k l = absurd (omega arith)
 taken-cells M at (g ∷ gs) zero l = refl

@@ -5,13 +5,13 @@ use mathlib.Core.Option.{some}
 use mathlib.Core.List.{List, [], _∷_, _++_}
 use native.Mathlib.Omega.{arith}
 use native.Mathlib.Nat.{mul-le-mul-left, mul-suc}
-use lib.ListN.{length, getD, take, drop, set, replicate, length-append, List·getD-eq-default}
+use lib.ListN.{length, getD, take, set, replicate, length-append, List·getD-eq-default}
 use lib.Seq.{sets}
 use Rattle.rules.specs.Find.{entry}
 use Rattle.rules.specs.TheoryTables.{filled}
 use Rattle.rules.specs.Laws.Theory.{All, empty, both}
 use Rattle.rules.specs.Laws.Row.{length-filled}
-use Rattle.state.specs.Filled.{filled-at, filled-more, filled-set, filled-back, filled-less}
+use Rattle.state.specs.Filled.{filled-at, filled-more, filled-set, filled-back}
 
 -- Lists --------------------------------------------------------------------------------------------------------------------------
 

@@ -2,13 +2,13 @@
 use mathlib.Core.Path.{_≡_}
 use Prim.Native.Nat.{ℕ, _+_, _*_, _^_, _<_, _≤_}
 use mathlib.Core.Bool.{Bool, true, false, not, _&&_}
-use mathlib.Core.List.{List, [], _∷_}
-use mathlib.Core.Option.{Option, some, none as nothing}
-use lib.Dec.{eqb, ltb, leb}
+use mathlib.Core.List.{List}
+use mathlib.Core.Option.{some, none as nothing}
+use lib.Dec.{eqb, ltb}
 use lib.ListN.{length, getD}
 use lib.Seq.{sets}
 use Rattle.rules.specs.Limits.{FACTS, ENTRIES}
-use Rattle.rules.specs.Tree.{Tree, var}
+use Rattle.rules.specs.Tree.{var}
 use Rattle.rules.specs.Store.{Made}
 use Rattle.rules.specs.State.{Var, Def, Goal, abbreviated}
 use Rattle.sexp.specs.declared.names.Found.{Found}

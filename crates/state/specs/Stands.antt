@@ -1,10 +1,10 @@
 -- All tables at once stand for a state: the three texts, the theory's tables, and the eight tables that a form changes. Laws: what is used, trees
 -- made behind, the beginning, the proof's text in place of the goals', and what a check leaves. Assumes nothing.
 use mathlib.Core.Path.{_≡_, refl, sym, ap, _∙_, subst}
-use Prim.Native.Nat.{ℕ, _+_, _-_, _*_, _<_, _≤_}
+use Prim.Native.Nat.{ℕ, _*_, _≤_}
 use mathlib.Core.List.{List, [], _∷_, _++_}
 use native.Mathlib.Omega.{arith}
-use lib.ListN.{length, take, drop, replicate}
+use lib.ListN.{length, drop, replicate}
 use Rattle.rules.specs.Limits.{LENGTH, VARIABLES, WORDS, DEFS, GOALS, FACTS, ENTRIES}
 use Rattle.rules.specs.Find.{entry}
 use Rattle.rules.specs.Store.{Made, words}
@@ -24,7 +24,7 @@ use Rattle.sexp.specs.NameRows.{NameIn}
 use Rattle.terms.specs.declared.store.Mark.{Mark}
 use Rattle.terms.specs.Table.{made, Good}
 use Rattle.state.specs.declared.sizes.Sizes.{Sizes}
-use Rattle.state.specs.Held.{textOf, VarsHeld, DefsHeld, names, Spelling, GoalsHeld, records, Recorded, ruleLists, Ruled}
+use Rattle.state.specs.Held.{textOf, names, Spelling, GoalsHeld, records, Recorded, ruleLists, Ruled}
 use Rattle.state.specs.Used.{sizesOf}
 use Rattle.state.specs.Filled.{filled-none}
 use Rattle.state.specs.Growth.{goals-on, spelling-on, recorded-on, spelling-made, recorded-made}
@@ -187,7 +187,8 @@ nothing-made T = record { good = record { distinct = tt; closed = tt; row8 = ome
 pub stands-begin : {theory goals text index words : List ℕ} {T : Theory} {m : Mark} → WellFormed T → LaidHeld theory T → length text ≤ LENGTH →
     Good index words m → made index words m ≡ [] →
     Stands (texts theory goals text) (laidExactly T)
-    (board (replicate (4 * VARIABLES) 0) index words (replicate (3 * DEFS) 0) (replicate (6 * GOALS) 0) (replicate (6 * FACTS) 0) (replicate (4 * FACTS) 0) (replicate ENTRIES 0))
+    (board (replicate (4 * VARIABLES) 0) index words (replicate (3 * DEFS) 0) (replicate (6 * GOALS) 0) (replicate (6 * FACTS) 0)
+    (replicate (4 * FACTS) 0) (replicate ENTRIES 0))
     (sizesOf (begin T)) m (begin T)
 unfolding varCells defCells goalCells factCells footingCells goalList factList entries goalEntries allEntries entry
 stands-begin {T = T} f h l g e =

@@ -1,6 +1,6 @@
 -- All tables stand for the new state behind each kind of form: a variable, an abbreviation, a goal or a fact more, a goal that is taken. A form
 -- first makes its trees (`stands-grown`), then stores. Assumes nothing.
-use mathlib.Core.Path.{_≡_, refl, sym, ap, _∙_, subst}
+use mathlib.Core.Path.{_≡_, sym, ap, _∙_, subst}
 use Prim.Native.Nat.{ℕ, _+_, _*_, _<_, _≤_}
 use mathlib.Core.Bool.{false}
 use mathlib.Core.List.{List, [], _∷_, _++_}
@@ -10,11 +10,11 @@ use lib.Seq.{sets}
 use Rattle.rules.specs.Limits.{VARIABLES, DEFS, GOALS, FACTS, ENTRIES}
 use Rattle.rules.specs.Find.{change, rising}
 use Rattle.rules.specs.Tree.{countTrees}
-use Rattle.rules.specs.Store.{Made, number}
+use Rattle.rules.specs.Store.{number}
 use Rattle.rules.specs.State.{State, Var, Def, Goal, Fact, Counts, goalEntries, allEntries, entries}
 use Rattle.rules.specs.Forms.{withVars, withDefs, withGoals, takenGoal}
 use Rattle.rules.specs.StateTables.{numbers}
-use Rattle.rules.specs.Laws.Theory.{All, all-snoc, all-map}
+use Rattle.rules.specs.Laws.Theory.{all-snoc, all-map}
 use Rattle.rules.specs.Laws.Appends.{Behind, one-new}
 use Rattle.rules.specs.Laws.Entry.{change-all}
 use Rattle.rules.specs.Laws.Made.{In, sound}
@@ -26,18 +26,22 @@ use Rattle.terms.specs.Sets.{holds}
 use Rattle.state.specs.declared.sizes.Sizes.{Sizes}
 use Rattle.state.specs.declared.facts.Put.{Put}
 use Rattle.state.specs.declared.facts.Put.the-variants.{Stored}
-use Rattle.state.specs.Held.{textOf, VarsHeld, DefsHeld, GoalsHeld, Records, records, Recorded}
+use Rattle.state.specs.Held.{textOf, VarsHeld, Records, records, Recorded}
 use Rattle.state.specs.Rows.{PutAs}
 use Rattle.state.specs.Used.{varsNow, defsNow, goalsNow, factsNow}
 use Rattle.state.specs.Numbered.{in-sound}
 use Rattle.state.specs.VarLaws.{vars-more}
 use Rattle.state.specs.DefLaws.{defs-more}
 use Rattle.state.specs.GoalLaws.{goals-more, goals-taken}
-use Rattle.state.specs.Recording.{Valid, withFact, Derives, Assumes, recorded-derived, recorded-hypothesis}
+use Rattle.state.specs.Recording.{Valid, valid-of, withFact, DerivedPut, HypothesisPut, Derives, Assumes, recorded-derived, recorded-hypothesis}
 use Rattle.state.specs.Parts.{spelling-vars, spelling-defs, spelling-goals, spelling-facts, recorded-vars, recorded-defs, recorded-goal, recorded-taken}
 use Rattle.state.specs.Stands.{Texts, Board, board, treesOf, Stands}
 
 module _ {X : Texts} {T : Tables} {B : Board} {n : Sizes} {m : Mark} {S : State} (h : Stands X T B n m S) where
+  -- what the laws of the definition say of the state
+  pub stands-valid : Valid (S .made) S
+  stands-valid = subst (λ M. Valid M S) (h .store) (valid-of (h .recorded))
+
   -- Variables ----------------------------------------------------------------------------------------------------------------------
 
   -- further variables, as `invert` makes them
@@ -59,7 +63,8 @@ module _ {X : Texts} {T : Tables} {B : Board} {n : Sizes} {m : Mark} {S : State}
   pub stands-var : (v : Var) (end : ℕ) → n .vars < VARIABLES → NameIn (textOf (X .goals) (X .text) (v .text)) (v .name) →
       end ≡ v .name .start + length (v .name .bytes) →
       Stands X T
-      (board (sets (B .vars) (4 * n .vars) (v .sort ∷ v .text ∷ v .name .start ∷ end ∷ [])) (B .index) (B .words) (B .defs) (B .goals) (B .facts) (B .footings) (B .lists))
+      (board (sets (B .vars) (4 * n .vars) (v .sort ∷ v .text ∷ v .name .start ∷ end ∷ [])) (B .index) (B .words) (B .defs) (B .goals) (B .facts)
+      (B .footings) (B .lists))
       (varsNow n (n .vars + 1)) m (withVars S (S .vars ++ (v ∷ [])))
   stands-var v end l i e = stands-vars (n .vars + 1) (vars-more v end (h .spelling .vars) l i e) (one-new (S .vars) v)
 
@@ -113,7 +118,9 @@ module _ {X : Texts} {T : Tables} {B : Board} {n : Sizes} {m : Mark} {S : State}
         ruled = record { words = h .ruled .words; held = h .ruled .held };
         spelling = spelling-goals (h .spelling) (n .goals + 1) e all;
         goals = gs;
-        recorded = subst (λ N. Recorded (records (B .facts) (B .footings) (sets (B .lists) (n .entries) (numbers N (g .hyps)))) (goalsNow n (n .goals + 1) e) M (withGoals S (S .goals ++ (g ∷ [])))) (h .store) rec;
+        recorded = subst
+            (λ N. Recorded (records (B .facts) (B .footings) (sets (B .lists) (n .entries) (numbers N (g .hyps)))) (goalsNow n (n .goals + 1) e) M
+            (withGoals S (S .goals ++ (g ∷ [])))) (h .store) rec;
         good = h .good;
         store = h .store;
       }
@@ -158,8 +165,7 @@ module _ {X : Texts} {T : Tables} {B : Board} {n : Sizes} {m : Mark} {S : State}
   -- `addFact` of a derived fact, behind `put_derived`
   pub stands-derived : {Q : Records} {f : Fact} {judgment : ℕ} {hyps footing : List ℕ} (c : Counts) (e : ℕ) → Derives (S .made) S f judgment hyps footing →
       Valid (S .made) (withFact S f c) → (r : Put) →
-      PutAs (records (B .facts) (B .footings) (B .lists)) Q n (judgment ∷ 0 ∷ n .entries ∷ length (rising FACTS (holds hyps)) ∷ 0 ∷ 0 ∷ [])
-      (rising FACTS (holds hyps)) footing (length (rising FACTS (holds hyps))) r → r ≡ Stored e →
+      DerivedPut (records (B .facts) (B .footings) (B .lists)) Q n judgment hyps footing r → r ≡ Stored e →
       Stands X T (board (B .vars) (B .index) (B .words) (B .defs) (B .goals) (Q .facts) (Q .footings) (Q .lists)) (factsNow n (n .facts + 1) e) m
       (withFact S f c)
   stands-derived {f = f} {judgment = judgment} {hyps = hyps} {footing = footing} c e d v r p q =
@@ -168,8 +174,7 @@ module _ {X : Texts} {T : Tables} {B : Board} {n : Sizes} {m : Mark} {S : State}
   -- `addFact` of a hypothesis, behind `put_hypothesis`; L: the lists with its premises and generalised variables
   pub stands-hypothesis : {Q : Records} {f : Fact} {judgment premises general : ℕ} {L : List ℕ} (c : Counts) (e : ℕ) →
       Assumes (S .made) S f n judgment premises general (B .lists) L → Valid (S .made) (withFact S f c) → (r : Put) →
-      PutAs (records (B .facts) (B .footings) L) Q n (judgment ∷ 1 ∷ n .entries ∷ 1 ∷ premises ∷ general ∷ []) (n .facts ∷ []) []
-      (1 + premises + general) r → r ≡ Stored e →
+      HypothesisPut (records (B .facts) (B .footings) L) Q n judgment premises general r → r ≡ Stored e →
       Stands X T (board (B .vars) (B .index) (B .words) (B .defs) (B .goals) (Q .facts) (Q .footings) (Q .lists)) (factsNow n (n .facts + 1) e) m
       (withFact S f c)
   stands-hypothesis {f = f} {judgment = judgment} {premises = premises} {general = general} {L = L} c e d v r p q =

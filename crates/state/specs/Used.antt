@@ -1,5 +1,5 @@
 -- How much of each table is used, with one part anew, and what a state uses. Assumes nothing.
-use Prim.Native.Nat.{ℕ, _+_}
+use Prim.Native.Nat.{ℕ}
 use lib.ListN.{length}
 use Rattle.rules.specs.State.{State, entries}
 use Rattle.state.specs.declared.sizes.Sizes.{Sizes}

@@ -1,6 +1,6 @@
 -- Laws of the table of variables: what its cells say, a variable more, variables less. Assumes nothing.
 use mathlib.Core.Path.{_≡_, refl, sym, ap, _∙_, subst}
-use Prim.Native.Nat.{ℕ, zero, suc, _+_, _-_, _*_, _<_, _≤_}
+use Prim.Native.Nat.{ℕ, _+_, _-_, _*_, _<_, _≤_}
 use mathlib.Core.List.{List, [], _∷_, _++_}
 use native.Mathlib.Omega.{arith}
 use native.Mathlib.Decide.{decLt}
@@ -11,7 +11,7 @@ use Rattle.rules.specs.Theory.{noName}
 use Rattle.rules.specs.State.{Var, noVar, sortOfVar}
 use Rattle.rules.specs.TheoryTables.{filled, rows, nameCells}
 use Rattle.rules.specs.StateTables.{varCells}
-use Rattle.rules.specs.Laws.Theory.{All, empty, both, all-snoc}
+use Rattle.rules.specs.Laws.Theory.{All, all-snoc}
 use Rattle.rules.specs.Laws.Appends.{Behind}
 use Rattle.rules.specs.Laws.Row.{rows-snoc, length-rows, row-cell, append-nil}
 use Rattle.sexp.specs.NameRows.{NameIn}
@@ -108,5 +108,6 @@ module _ {vars : List ℕ} {count : ℕ} {vs us : List Var} (few : ℕ) where
       }
 
   -- so it is the table that there was
-  pub vars-again : {was : List ℕ} → VarCells was few vs → VarCells vars count us → Behind vs us → take (4 * few) vars ++ replicate (4 * VARIABLES - 4 * few) 0 ≡ was
+  pub vars-again : {was : List ℕ} → VarCells was few vs → VarCells vars count us → Behind vs us →
+      take (4 * few) vars ++ replicate (4 * VARIABLES - 4 * few) 0 ≡ was
   vars-again w h b = var-cells-less h b (w .many) .cells ∙ sym (w .cells)

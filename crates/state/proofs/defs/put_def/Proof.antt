@@ -5,8 +5,6 @@ use Rattle.state.proofs.Stores.{stores3}
 use borrow.Author.Needs.{needs}
 use Rattle.state.proofs.defs.put_def.Statement.{statement}
 use Rattle.state.proofs.defs.put_def.Tie as tie
-use Rattle.state.proofs.defs.put_def.Reads as reads
-use Rattle.state.proofs.defs.put_def.Lts as lts
 
 -- src/defs.rt:31:14
 mul-at : tie.Need-mul-at

@@ -3,8 +3,6 @@ use native.Mathlib.Omega.{arith}
 use borrow.Author.Needs.{needs}
 use Rattle.state.proofs.facts.hyps.Statement.{statement}
 use Rattle.state.proofs.facts.hyps.Tie as tie
-use Rattle.state.proofs.facts.hyps.Reads as reads
-use Rattle.state.proofs.facts.hyps.Lts as lts
 
 -- src/facts.rt:68:14
 mul-at : tie.Need-mul-at
@@ -44,7 +42,9 @@ cast-t10 c = omega (arith, (c .shared-slice-known2) .given (6 * (c .before .befo
 
 -- src/facts.rt:72:14
 add-t11 : tie.Need-add-t11
-add-t11 c = omega (arith, (c .before .shared-slice-known) .given (6 * (c .before .before .args) .i + 2), (c .shared-slice-known2) .given (6 * (c .before .before .args) .i + 3))
+add-t11 c =
+    omega (arith, (c .before .shared-slice-known) .given (6 * (c .before .before .args) .i + 2),
+    (c .shared-slice-known2) .given (6 * (c .before .before .args) .i + 3))
 
 -- src/facts.rt:64:1
 returns : tie.Need-returns

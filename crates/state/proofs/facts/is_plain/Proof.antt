@@ -2,8 +2,6 @@ use Rattle.state.proofs.Stores.{plain-not, plain-premised, plain-last}
 use borrow.Author.Needs.{needs}
 use Rattle.state.proofs.facts.is_plain.Statement.{statement}
 use Rattle.state.proofs.facts.is_plain.Tie as tie
-use Rattle.state.proofs.facts.is_plain.Reads as reads
-use Rattle.state.proofs.facts.is_plain.Lts as lts
 
 -- src/facts.rt:53:14
 mul-at : tie.Need-mul-at
@@ -39,7 +37,9 @@ shared-slice-read-if2 c = search needs
 
 -- src/facts.rt:58:9
 returns-2 : tie.Need-returns-2
-returns-2 c = plain-premised ((c .before .before .before .before .args) .facts .now) ((c .before .before .before .before .args) .i) ((c .before .before .if1) .left) ((c .if2) .taken)
+returns-2 c =
+    plain-premised ((c .before .before .before .before .args) .facts .now) ((c .before .before .before .before .args) .i)
+    ((c .before .before .if1) .left) ((c .if2) .taken)
 
 -- src/facts.rt:60:11
 add-result : tie.Need-add-result
@@ -55,7 +55,9 @@ shared-slice-read-result c = search needs
 
 -- src/facts.rt:49:1
 returns-3 : tie.Need-returns-3
-returns-3 c = plain-last ((c .before .before .before .before .before .args) .facts .now) ((c .before .before .before .before .before .args) .i) ((c .before .before .before .if1) .left) ((c .before .if2) .left)
+returns-3 c =
+    plain-last ((c .before .before .before .before .before .args) .facts .now) ((c .before .before .before .before .before .args) .i)
+    ((c .before .before .before .if1) .left) ((c .before .if2) .left)
 
 pub is-plain-spec : {M : Type 1} → statement M
 is-plain-spec =

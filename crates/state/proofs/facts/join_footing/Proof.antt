@@ -1,13 +1,10 @@
-use mathlib.Core.Path.{_≡_, refl, sym, ap, _∙_}
+use mathlib.Core.Path.{ap, _∙_}
 use Rattle.state.proofs.Stores.{row4}
 use Rattle.rules.specs.Find.{union}
 use Rattle.terms.specs.Sets.{holds}
 use borrow.Author.Needs.{needs}
 use Rattle.state.proofs.facts.join_footing.Statement.{statement}
 use Rattle.state.proofs.facts.join_footing.Tie as tie
-use Rattle.state.proofs.facts.join_footing.Reads as reads
-use Rattle.state.proofs.facts.join_footing.Lts as lts
-use Rattle.terms.proofs.sets.union_into.Reads as union-into-reads
 
 -- src/facts.rt:107:16
 mul-from : tie.Need-mul-from
@@ -43,7 +40,10 @@ same-length c = search needs
 
 -- src/facts.rt:103:1
 returns : tie.Need-returns
-returns c = (c .before .before .union-into) .ensures ∙ ap (λ l. union (holds ((c .before .before .before .before .before .before .before .args) .set .now)) (holds l)) (row4 ((c .before .before .before .before .before .before .before .args) .footings .now) ((c .before .before .before .before .before .before .before .args) .i))
+returns c =
+    (c .before .before .union-into) .ensures ∙ ap
+    (λ l. union (holds ((c .before .before .before .before .before .before .before .args) .set .now)) (holds l))
+    (row4 ((c .before .before .before .before .before .before .before .args) .footings .now) ((c .before .before .before .before .before .before .before .args) .i))
 
 pub join-footing-spec : {M : Type 1} → statement M
 join-footing-spec =

@@ -4,8 +4,6 @@ use Rattle.state.proofs.Stores.{first-cell}
 use borrow.Author.Needs.{needs}
 use Rattle.state.proofs.facts.judgment.Statement.{statement}
 use Rattle.state.proofs.facts.judgment.Tie as tie
-use Rattle.state.proofs.facts.judgment.Reads as reads
-use Rattle.state.proofs.facts.judgment.Lts as lts
 
 -- src/facts.rt:37:11
 mul-result : tie.Need-mul-result

@@ -3,8 +3,6 @@ use native.Mathlib.Omega.{arith}
 use borrow.Author.Needs.{needs}
 use Rattle.state.proofs.facts.premises.Statement.{statement}
 use Rattle.state.proofs.facts.premises.Tie as tie
-use Rattle.state.proofs.facts.premises.Reads as reads
-use Rattle.state.proofs.facts.premises.Lts as lts
 
 -- src/facts.rt:81:14
 mul-at : tie.Need-mul-at
@@ -44,7 +42,9 @@ cast-from-2 c = omega (arith, (c .shared-slice-known2) .given (6 * (c .before .b
 
 -- src/facts.rt:82:16
 add-from-3 : tie.Need-add-from-3
-add-from-3 c = omega (arith, (c .before .shared-slice-known) .given (6 * (c .before .before .args) .i + 2), (c .shared-slice-known2) .given (6 * (c .before .before .args) .i + 3))
+add-from-3 c =
+    omega (arith, (c .before .shared-slice-known) .given (6 * (c .before .before .args) .i + 2),
+    (c .shared-slice-known2) .given (6 * (c .before .before .args) .i + 3))
 
 -- src/facts.rt:85:27
 add-t5 : tie.Need-add-t5
@@ -64,7 +64,10 @@ cast-t11 c = omega (arith, (c .shared-slice-known3) .given (6 * (c .before .befo
 
 -- src/facts.rt:85:14
 add-t10 : tie.Need-add-t10
-add-t10 c = omega (arith, (c .before .before .shared-slice-known) .given (6 * (c .before .before .before .args) .i + 2), (c .before .shared-slice-known2) .given (6 * (c .before .before .before .args) .i + 3), (c .shared-slice-known3) .given (6 * (c .before .before .before .args) .i + 4))
+add-t10 c =
+    omega (arith, (c .before .before .shared-slice-known) .given (6 * (c .before .before .before .args) .i + 2),
+    (c .before .shared-slice-known2) .given (6 * (c .before .before .before .args) .i + 3),
+    (c .shared-slice-known3) .given (6 * (c .before .before .before .args) .i + 4))
 
 -- src/facts.rt:77:1
 returns : tie.Need-returns

@@ -8,16 +8,13 @@ use lib.ListN.{length}
 use borrow.Author.Needs.{needs}
 use Rattle.state.proofs.facts.put_derived.Statement.{statement}
 use Rattle.state.proofs.facts.put_derived.Tie as tie
-use Rattle.state.proofs.facts.put_derived.Reads as reads
-use Rattle.state.proofs.facts.put_derived.Lts as lts
-use Rattle.state.proofs.facts.put_footing.Reads as put-footing-reads
-use Rattle.state.proofs.facts.put_row.Reads as put-row-reads
-use Rattle.terms.proofs.sets.count.Reads as count-reads
-use Rattle.terms.proofs.sets.write_out.Reads as write-out-reads
 
 -- src/facts.rt:166:9
 returns : tie.Need-returns
-returns c = full-12 (records ((c .before .before .before .before .before .before .args) .facts .now) ((c .before .before .before .before .before .before .args) .footings .now) ((c .before .before .before .before .before .before .args) .lists .now)) ((c .before .before .before .before .before .before .args) .n) [] [] [] _ ((c .if1) .taken)
+returns c =
+    full-12
+    (records ((c .before .before .before .before .before .before .args) .facts .now) ((c .before .before .before .before .before .before .args) .footings .now) ((c .before .before .before .before .before .before .args) .lists .now))
+    ((c .before .before .before .before .before .before .args) .n) [] [] [] _ ((c .if1) .taken)
 
 -- src/facts.rt:168:9
 count-requires : tie.Need-count-requires
@@ -25,11 +22,19 @@ count-requires c κs = search needs
 
 -- src/facts.rt:169:15
 add-end : tie.Need-add-end
-add-end c = omega (arith, rising-few (64 * length ((c .before .before .before .before .before .before .before .args) .hyps .now)) (holds ((c .before .before .before .before .before .before .before .args) .hyps .now)), (c .count) .ensures, (c .before .before .before .before .before .before .before .pre) .0 .entries, (c .before .before .before .before .before .before .before .pre) .1 .0)
+add-end c =
+    omega (arith,
+    rising-few (64 * length ((c .before .before .before .before .before .before .before .args) .hyps .now)) (holds ((c .before .before .before .before .before .before .before .args) .hyps .now)),
+    (c .count) .ensures, (c .before .before .before .before .before .before .before .pre) .0 .entries,
+    (c .before .before .before .before .before .before .before .pre) .1 .0)
 
 -- src/facts.rt:171:9
 returns-2 : tie.Need-returns-2
-returns-2 c = derived-13 ((c .before .before .before .before .before .before .before .before .args) .hyps .now) ((c .before .before .before .before .before .before .before .before .pre) .0) ((c .before .before .before .before .before .before .before .before .pre) .1 .0) [] [] [] _ ((c .before .before .if1) .left) ((c .before .count) .ensures) ((c .if2) .taken)
+returns-2 c =
+    derived-13 ((c .before .before .before .before .before .before .before .before .args) .hyps .now)
+    ((c .before .before .before .before .before .before .before .before .pre) .0)
+    ((c .before .before .before .before .before .before .before .before .pre) .1 .0) [] [] [] _ ((c .before .before .if1) .left)
+    ((c .before .count) .ensures) ((c .if2) .taken)
 
 -- src/facts.rt:173:5
 put-row-requires : tie.Need-put-row-requires
@@ -73,7 +78,17 @@ same-length-3 c = search needs
 
 -- src/facts.rt:148:1
 returns-3 : tie.Need-returns-3
-returns-3 c = derived-put ((c .before .before .before .before .before .before .before .before .before .before .before .before .before .before .before .before .before .before .before .before .args) .hyps .now) ((c .before .before .before .before .before .before .before .before .before .before .before .before .before .before .before .before .before .before .before .before .pre) .0) ((c .before .before .before .before .before .before .before .before .before .before .before .before .before .before .before .before .before .before .before .before .pre) .1 .0) ((c .before .before .before .before .before .before .before .before .before .before .before .before .before .before .before .before .before .before .before .before .args) .footing .now) _ _ _ _ ((c .before .before .before .before .before .before .before .before .before .before .before .before .before .before .if1) .left) ((c .before .before .before .before .before .before .before .before .before .before .before .before .before .count) .ensures) ((c .before .before .before .before .before .before .before .before .before .before .before .before .if2) .left) ((c .before .before .before .before .before .before .before .before .before .before .put-row) .ensures) ((c .before .before .before .before .before .before .put-footing) .ensures) ((c .before .before .write-out) .ensures .1)
+returns-3 c =
+    derived-put
+    ((c .before .before .before .before .before .before .before .before .before .before .before .before .before .before .before .before .before .before .before .before .args) .hyps .now)
+    ((c .before .before .before .before .before .before .before .before .before .before .before .before .before .before .before .before .before .before .before .before .pre) .0)
+    ((c .before .before .before .before .before .before .before .before .before .before .before .before .before .before .before .before .before .before .before .before .pre) .1 .0)
+    ((c .before .before .before .before .before .before .before .before .before .before .before .before .before .before .before .before .before .before .before .before .args) .footing .now)
+    _ _ _ _ ((c .before .before .before .before .before .before .before .before .before .before .before .before .before .before .if1) .left)
+    ((c .before .before .before .before .before .before .before .before .before .before .before .before .before .count) .ensures)
+    ((c .before .before .before .before .before .before .before .before .before .before .before .before .if2) .left)
+    ((c .before .before .before .before .before .before .before .before .before .before .put-row) .ensures)
+    ((c .before .before .before .before .before .before .put-footing) .ensures) ((c .before .before .write-out) .ensures .1)
 
 pub put-derived-spec : {M : Type 1} → statement M
 put-derived-spec =

@@ -2,13 +2,11 @@ use Prim.Native.Nat.{_*_}
 use native.Mathlib.Omega.{arith}
 use lib.ListN.{length-set}
 use Rattle.state.proofs.Stores.{stores4, words4}
-use mathlib.Core.Path.{_≡_, refl, sym, ap, _∙_}
+use mathlib.Core.Path.{ap, _∙_}
 use lib.Seq.{sets}
 use borrow.Author.Needs.{needs}
 use Rattle.state.proofs.facts.put_footing.Statement.{statement}
 use Rattle.state.proofs.facts.put_footing.Tie as tie
-use Rattle.state.proofs.facts.put_footing.Reads as reads
-use Rattle.state.proofs.facts.put_footing.Lts as lts
 
 -- src/facts.rt:140:14
 mul-at : tie.Need-mul-at
@@ -80,7 +78,10 @@ same-length c = search needs
 
 -- src/facts.rt:136:1
 returns : tie.Need-returns
-returns c = stores4 ((c .before .before .before .before .args) .footings .now) (4 * (c .before .before .before .before .args) .i) _ _ _ _ ∙ ap (sets ((c .before .before .before .before .args) .footings .now) (4 * (c .before .before .before .before .args) .i)) (words4 ((c .before .before .before .before .args) .footing .now) ((c .before .before .before .before .pre) .2))
+returns c =
+    stores4 ((c .before .before .before .before .args) .footings .now) (4 * (c .before .before .before .before .args) .i) _ _ _ _ ∙ ap
+    (sets ((c .before .before .before .before .args) .footings .now) (4 * (c .before .before .before .before .args) .i))
+    (words4 ((c .before .before .before .before .args) .footing .now) ((c .before .before .before .before .pre) .2))
 
 pub put-footing-spec : {M : Type 1} → statement M
 put-footing-spec =

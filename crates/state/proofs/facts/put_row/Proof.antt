@@ -5,8 +5,6 @@ use Rattle.state.proofs.Stores.{stores6}
 use borrow.Author.Needs.{needs}
 use Rattle.state.proofs.facts.put_row.Statement.{statement}
 use Rattle.state.proofs.facts.put_row.Tie as tie
-use Rattle.state.proofs.facts.put_row.Reads as reads
-use Rattle.state.proofs.facts.put_row.Lts as lts
 
 -- src/facts.rt:126:14
 mul-at : tie.Need-mul-at
@@ -110,7 +108,9 @@ same-length c = search needs
 
 -- src/facts.rt:113:1
 returns : tie.Need-returns
-returns c = stores6 ((c .args) .facts .now) (6 * (c .args) .i) ((c .args) .judgment) ((c .args) .assumed) ((c .args) .from) ((c .args) .hyps) ((c .args) .premises) ((c .args) .general)
+returns c =
+    stores6 ((c .args) .facts .now) (6 * (c .args) .i) ((c .args) .judgment) ((c .args) .assumed) ((c .args) .from) ((c .args) .hyps)
+    ((c .args) .premises) ((c .args) .general)
 
 pub put-row-spec : {M : Type 1} → statement M
 put-row-spec =

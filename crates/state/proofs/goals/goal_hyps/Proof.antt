@@ -3,8 +3,6 @@ use native.Mathlib.Omega.{arith}
 use borrow.Author.Needs.{needs}
 use Rattle.state.proofs.goals.goal_hyps.Statement.{statement}
 use Rattle.state.proofs.goals.goal_hyps.Tie as tie
-use Rattle.state.proofs.goals.goal_hyps.Reads as reads
-use Rattle.state.proofs.goals.goal_hyps.Lts as lts
 
 -- src/goals.rt:40:14
 mul-at : tie.Need-mul-at
@@ -44,7 +42,9 @@ cast-t10 c = omega (arith, (c .shared-slice-known2) .given (6 * (c .before .befo
 
 -- src/goals.rt:44:14
 add-t11 : tie.Need-add-t11
-add-t11 c = omega (arith, (c .before .shared-slice-known) .given (6 * (c .before .before .args) .k + 3), (c .shared-slice-known2) .given (6 * (c .before .before .args) .k + 4))
+add-t11 c =
+    omega (arith, (c .before .shared-slice-known) .given (6 * (c .before .before .args) .k + 3),
+    (c .shared-slice-known2) .given (6 * (c .before .before .args) .k + 4))
 
 -- src/goals.rt:36:1
 returns : tie.Need-returns

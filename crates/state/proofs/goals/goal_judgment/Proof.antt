@@ -3,8 +3,6 @@ use native.Mathlib.Omega.{arith}
 use borrow.Author.Needs.{needs}
 use Rattle.state.proofs.goals.goal_judgment.Statement.{statement}
 use Rattle.state.proofs.goals.goal_judgment.Tie as tie
-use Rattle.state.proofs.goals.goal_judgment.Reads as reads
-use Rattle.state.proofs.goals.goal_judgment.Lts as lts
 
 -- src/goals.rt:32:11
 mul-result : tie.Need-mul-result

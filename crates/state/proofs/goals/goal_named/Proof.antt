@@ -1,10 +1,6 @@
 use Rattle.state.proofs.Named.{goal-found, some-goals}
-use borrow.Author.Needs.{needs}
 use Rattle.state.proofs.goals.goal_named.Statement.{statement}
 use Rattle.state.proofs.goals.goal_named.Tie as tie
-use Rattle.state.proofs.goals.goal_named.Reads as reads
-use Rattle.state.proofs.goals.goal_named.Lts as lts
-use Rattle.sexp.proofs.names.named.Reads as named-reads
 
 -- src/goals.rt:24:5
 named-requires : tie.Need-named-requires

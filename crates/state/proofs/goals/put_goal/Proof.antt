@@ -5,8 +5,6 @@ use Rattle.state.proofs.Stores.{stores6}
 use borrow.Author.Needs.{needs}
 use Rattle.state.proofs.goals.put_goal.Statement.{statement}
 use Rattle.state.proofs.goals.put_goal.Tie as tie
-use Rattle.state.proofs.goals.put_goal.Reads as reads
-use Rattle.state.proofs.goals.put_goal.Lts as lts
 
 -- src/goals.rt:77:14
 mul-at : tie.Need-mul-at
@@ -106,7 +104,8 @@ same-length c = search needs
 
 -- src/goals.rt:65:1
 returns : tie.Need-returns
-returns c = stores6 ((c .args) .goals .now) (6 * (c .args) .k) ((c .args) .start) ((c .args) .end) ((c .args) .judgment) ((c .args) .from) ((c .args) .hyps) 0
+returns c =
+    stores6 ((c .args) .goals .now) (6 * (c .args) .k) ((c .args) .start) ((c .args) .end) ((c .args) .judgment) ((c .args) .from) ((c .args) .hyps) 0
 
 pub put-goal-spec : {M : Type 1} → statement M
 put-goal-spec =

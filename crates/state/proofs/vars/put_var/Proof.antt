@@ -5,8 +5,6 @@ use Rattle.state.proofs.Stores.{stores4}
 use borrow.Author.Needs.{needs}
 use Rattle.state.proofs.vars.put_var.Statement.{statement}
 use Rattle.state.proofs.vars.put_var.Tie as tie
-use Rattle.state.proofs.vars.put_var.Reads as reads
-use Rattle.state.proofs.vars.put_var.Lts as lts
 
 -- src/vars.rt:59:14
 mul-at : tie.Need-mul-at

@@ -1,12 +1,8 @@
 use Prim.Native.Nat.{_-_}
 use native.Mathlib.Omega.{arith}
 use Rattle.state.proofs.Named.{Seeking, seeking-begins, seeking-here, seeking-on, seeking-over}
-use borrow.Author.Needs.{needs}
 use Rattle.state.proofs.vars.var_named.Statement.{statement}
 use Rattle.state.proofs.vars.var_named.Tie as tie
-use Rattle.state.proofs.vars.var_named.Reads as reads
-use Rattle.state.proofs.vars.var_named.Lts as lts
-use Rattle.state.proofs.vars.is_var.Reads as is-var-reads
 
 abbrev Inv-loop : tie.InvT-loop
 Inv-loop goals text vars count name i₀ i = Seeking goals text vars name count i
@@ -16,7 +12,10 @@ abbrev μ-loop : tie.MeasureT-loop
 
 -- src/vars.rt:37:5
 loop-holds : tie.Need-loop-holds Inv-loop μ-loop
-loop-holds c = seeking-begins ((c .before .before .before .before .args) .goals .now) ((c .before .before .before .before .args) .text .now) ((c .before .before .before .before .args) .vars .now) ((c .before .before .before .before .args) .name .now) ((c .before .before .before .before .args) .count) (c .before .before .before .before .pre)
+loop-holds c =
+    seeking-begins ((c .before .before .before .before .args) .goals .now) ((c .before .before .before .before .args) .text .now)
+    ((c .before .before .before .before .args) .vars .now) ((c .before .before .before .before .args) .name .now)
+    ((c .before .before .before .before .args) .count) (c .before .before .before .before .pre)
 
 -- src/vars.rt:38:12
 is-var-requires : tie.Need-is-var-requires Inv-loop μ-loop
@@ -24,7 +23,8 @@ is-var-requires c κs = ((c .before .loop) .inv .some, (c .loop-test) .taken)
 
 -- src/vars.rt:39:13
 returns : tie.Need-returns Inv-loop μ-loop
-returns c = seeking-here ((c .before .before .before .loop) .inv) ((c .before .before .loop-test) .taken) ((c .before .is-var) .ensures) ((c .if1) .taken)
+returns c =
+    seeking-here ((c .before .before .before .loop) .inv) ((c .before .before .loop-test) .taken) ((c .before .is-var) .ensures) ((c .if1) .taken)
 
 -- src/vars.rt:41:9
 add-i : tie.Need-add-i Inv-loop μ-loop
@@ -36,7 +36,8 @@ loop-less c = omega arith
 
 -- src/vars.rt:37:5
 loop-again : tie.Need-loop-again Inv-loop μ-loop
-loop-again c = seeking-on ((c .before .before .before .loop) .inv) ((c .before .before .loop-test) .taken) ((c .before .is-var) .ensures) ((c .if1) .left)
+loop-again c =
+    seeking-on ((c .before .before .before .loop) .inv) ((c .before .before .loop-test) .taken) ((c .before .is-var) .ensures) ((c .if1) .left)
 
 -- src/vars.rt:32:1
 returns-2 : tie.Need-returns-2 Inv-loop μ-loop

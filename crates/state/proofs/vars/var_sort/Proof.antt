@@ -4,8 +4,6 @@ use Rattle.state.proofs.Stores.{first-cell}
 use borrow.Author.Needs.{needs}
 use Rattle.state.proofs.vars.var_sort.Statement.{statement}
 use Rattle.state.proofs.vars.var_sort.Tie as tie
-use Rattle.state.proofs.vars.var_sort.Reads as reads
-use Rattle.state.proofs.vars.var_sort.Lts as lts
 
 -- src/vars.rt:51:10
 mul-result : tie.Need-mul-result
