@@ -57,14 +57,17 @@ module _ {R : Records} {n : Sizes} {judgment : ℕ} (hyps : List ℕ) (p : Putti
       (length (rising FACTS (holds hyps))) (Stored (n .entries + many))
   derived-put footing F B tail many l e m f b t =
       let z = ap length all-hyps in
-      let q : many ≡ length (rising FACTS (holds hyps)) = e ∙ z in
-      (record {
-        facts = f ∙ ap (λ k. sets (R .facts) (6 * n .facts) (judgment ∷ 0 ∷ n .entries ∷ k ∷ 0 ∷ 0 ∷ [])) q;
-        lists = tail-sets (R .lists) (n .entries) tail (rising (64 * length hyps) (holds hyps)) (omega (arith, p .lists)) t
-            ∙ ap (λ l. sets (R .lists) (n .entries) l) all-hyps;
-        footings = b;
-        room = l;
-      }, ap (λ k. n .entries + k) q, m)
+      let q : many ≡ length (rising FACTS (holds hyps)) = e ∙ z in (
+        record {
+          facts = f ∙ ap (λ k. sets (R .facts) (6 * n .facts) (judgment ∷ 0 ∷ n .entries ∷ k ∷ 0 ∷ 0 ∷ [])) q;
+          lists = tail-sets (R .lists) (n .entries) tail (rising (64 * length hyps) (holds hyps)) (omega (arith, p .lists)) t
+              ∙ ap (λ l. sets (R .lists) (n .entries) l) all-hyps;
+          footings = b;
+          room = l;
+        },
+        ap (λ k. n .entries + k) q,
+        m,
+      )
 
 -- a hypothesis: its row and its own entry
 pub hypothesis-put : (R : Records) (n : Sizes) (judgment premises general : ℕ) (F : List ℕ) → n .facts < FACTS →

@@ -47,12 +47,14 @@ module _ {R : Records} {n : Sizes} {M : Made} {S : State} (f : Fact) (c : Counts
   -- and the tables are as they were
   pub put-full : {d : ℕ} → r ≡ Full d → (addFact f c S ≡ refuse 60 d S) × (Q ≡ R)
   put-full {d} q =
-      let s = subst (PutAs R Q n row hyps footing k) q p in
-      (elim (decLt (n .facts) FACTS) [
-        | yes l ↦
-            add-fact-13 f c S (omega (arith, h .many)) (let z = s .2 l in omega (arith, h .used))
-            ∙ ap (λ j. refuse 60 j S) (sym (s .1 ∙ ap (λ b. elim b [ true ↦ 13 | false ↦ 12 ]) (lt-ltb (n .facts) FACTS l)))
-        | no l ↦
-            add-fact-12 f c S (omega (arith, h .many))
-            ∙ ap (λ j. refuse 60 j S) (sym (s .1 ∙ ap (λ b. elim b [ true ↦ 13 | false ↦ 12 ]) (le-ltb (n .facts) FACTS (omega arith))))
-      ], s .0)
+      let s = subst (PutAs R Q n row hyps footing k) q p in (
+        elim (decLt (n .facts) FACTS) [
+          | yes l ↦
+              add-fact-13 f c S (omega (arith, h .many)) (let z = s .2 l in omega (arith, h .used))
+              ∙ ap (λ j. refuse 60 j S) (sym (s .1 ∙ ap (λ b. elim b [ true ↦ 13 | false ↦ 12 ]) (lt-ltb (n .facts) FACTS l)))
+          | no l ↦
+              add-fact-12 f c S (omega (arith, h .many))
+              ∙ ap (λ j. refuse 60 j S) (sym (s .1 ∙ ap (λ b. elim b [ true ↦ 13 | false ↦ 12 ]) (le-ltb (n .facts) FACTS (omega arith))))
+        ],
+        s .0,
+      )

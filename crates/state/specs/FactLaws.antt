@@ -192,9 +192,20 @@ module _ {R : Records} {n : Sizes} {M : Made} {S : State} (h : Recorded R n M S)
     unfolding factRow
     all-inside =
         let ps = numbers M (this .premises) in
-        omega (arith, fits, ap length split, before-long, length-append before (this .hyps ++ (ps ++ (this .general ++ behind))),
-        length-append (this .hyps) (ps ++ (this .general ++ behind)), length-append ps (this .general ++ behind), length-append (this .general) behind,
-        length-numbers M (this .premises), fact-at i 3 l (omega arith), fact-at i 4 l (omega arith), fact-at i 5 l (omega arith))
+        omega (
+          arith,
+          fits,
+          ap length split,
+          before-long,
+          length-append before (this .hyps ++ (ps ++ (this .general ++ behind))),
+          length-append (this .hyps) (ps ++ (this .general ++ behind)),
+          length-append ps (this .general ++ behind),
+          length-append (this .general) behind,
+          length-numbers M (this .premises),
+          fact-at i 3 l (omega arith),
+          fact-at i 4 l (omega arith),
+          fact-at i 5 l (omega arith),
+        )
 
     shaped-here : Shaped (length (S .theory .rules)) (S .facts) i this
     shaped-here = h .shaped i this (entry-at (S .facts) i noFact there)

@@ -71,7 +71,7 @@ value-is a k (suc m) x l f =
     let z : k + 0 ≡ k = omega arith in
     let b : bit (a k) ≡ x % 2 = ap bit (ap a (sym z) ∙ f 0 (omega arith) ∙ lowest x) ∙ low-bit (x % 2) (omega arith) in
     let t = value-is a (suc k) m (x / 2) (omega arith)
-        (λ u h. ap a (let z : suc k + u ≡ k + suc u = omega arith in z) ∙ f (suc u) (omega arith) ∙ next x u) in
+    (λ u h. ap a (let z : suc k + u ≡ k + suc u = omega arith in z) ∙ f (suc u) (omega arith) ∙ next x u) in
     omega arith
   where
     low-bit : (r : ℕ) → r < 2 → bit (eqb r 1) ≡ r
@@ -143,13 +143,13 @@ word-of a n i l =
     let before = ap (λ l. bitWord l i) (rising-all (64 * i) a) ∙ word-other 0 (64 * i) a i (λ v h k q. omega arith) in
     let behind = word-other (64 * i + 64) r a i (λ v h k q. omega arith) in
     let here : bitWord (risingFrom (64 * i) 64 a) i ≡ value a (64 * i) 64 =
-        subst (λ k. bitWord (risingFrom k 64 a) i ≡ value a k 64 * 2 ^ 0) z (word-here a i 64 0 (omega arith)) ∙ mul-one (value a (64 * i) 64) in
+    subst (λ k. bitWord (risingFrom k 64 a) i ≡ value a k 64 * 2 ^ 0) z (word-here a i 64 0 (omega arith)) ∙ mul-one (value a (64 * i) 64) in
     ap (λ k. bitWord (rising k a) i) e
     ∙ ap (λ l. bitWord l i) (rising-split (64 * i) (64 + r) a ∙ ap (λ l. rising (64 * i) a ++ l) (rising-from-split (64 * i) 64 r a))
     ∙ word-append (rising (64 * i) a) (risingFrom (64 * i) 64 a ++ risingFrom (64 * i + 64) r a) i
     ∙ ap (λ n. bitWord (rising (64 * i) a) i + n) (word-append (risingFrom (64 * i) 64 a) (risingFrom (64 * i + 64) r a) i)
     ∙ (let s : bitWord (rising (64 * i) a) i + (bitWord (risingFrom (64 * i) 64 a) i + bitWord (risingFrom (64 * i + 64) r a) i)
-        ≡ value a (64 * i) 64 = omega arith in s)
+    ≡ value a (64 * i) 64 = omega arith in s)
 
 -- Rows -----------------------------------------------------------------------------------------------------------------------------
 

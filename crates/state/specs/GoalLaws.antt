@@ -80,7 +80,7 @@ module _ {text rows : List ℕ} {count : ℕ} {M : Made} {gs : List Goal} (h : G
       let q = length-numbers M (g .hyps) in
       let r = length-goal-list M (take k gs) in
       let split = ap (λ l. l ++ rest) (goal-list-split M gs k noGoal m)
-          ∙ regroup (goalList M (take k gs)) (numbers M (g .hyps)) (goalList M (drop (suc k) gs)) rest in
+      ∙ regroup (goalList M (take k gs)) (numbers M (g .hyps)) (goalList M (drop (suc k) gs)) rest in
       record {
         is = entry-at gs k noGoal m;
         judgment = numbered-at (cell 6 rows k 2) (sound-in M (g .judgment) (p .judgment)) (goal-at k 2 l (omega arith));

@@ -165,15 +165,15 @@ module _ {R : Records} {n : Sizes} {M : Made} {S : State} {f : Fact} {judgment :
       let none-many = ap countTrees (w .0) in
       let no-general = ap (length {A = ℕ}) (w .1) in
       let row : judgment ∷ 0 ∷ n .entries ∷ length (rising FACTS (holds hyps)) ∷ 0 ∷ 0 ∷ [] ≡ factRow M (n .entries) f =
-          λ i. d .numbered i ∷ sym (ap bit (d .assumed)) i ∷ n .entries ∷ sym many i ∷ sym none-many i ∷ sym no-general i ∷ [] in
+      λ i. d .numbered i ∷ sym (ap bit (d .assumed)) i ∷ n .entries ∷ sym many i ∷ sym none-many i ∷ sym no-general i ∷ [] in
       let new : rising FACTS (holds hyps) ≡ factPart M f =
-          sym ((λ i. f .hyps ++ numbers M (w .0 i) ++ w .1 i) ∙ append-nil (f .hyps ++ []) ∙ append-nil (f .hyps) ∙ derived-hyps) in
+      sym ((λ i. f .hyps ++ numbers M (w .0 i) ++ w .1 i) ∙ append-nil (f .hyps ++ []) ∙ append-nil (f .hyps) ∙ derived-hyps) in
       let footed : Q .footings ≡ filled (4 * FACTS) (footingCells (S .facts ++ (f ∷ []))) =
-          s .0 .footings ∙ ap (λ l. sets (R .footings) (4 * n .facts) l) derived-words
-          ∙ tabled-more (footings-tabled h) (footingRow f) (footing-width f) (s .0 .room) .is
-          ∙ ap (filled (4 * FACTS)) (sym (footing-cells-snoc (S .facts) f)) in
+      s .0 .footings ∙ ap (λ l. sets (R .footings) (4 * n .facts) l) derived-words
+      ∙ tabled-more (footings-tabled h) (footingRow f) (footing-width f) (s .0 .room) .is
+      ∙ ap (filled (4 * FACTS)) (sym (footing-cells-snoc (S .facts) f)) in
       let sum : n .entries + length (rising FACTS (holds hyps)) ≡ n .entries + (length (f .hyps) + countTrees (f .premises) + length (f .general)) =
-          omega (arith, many, none-many, no-general) in
+      omega (arith, many, none-many, no-general) in
       recorded-more f c e h v (s .1 ∙ sum)
       (subst (All (λ v. v < length (S .vars))) (sym (w .1)) empty)
       (s .0 .facts ∙ recorded-row f c e h v (judgment ∷ 0 ∷ n .entries ∷ length (rising FACTS (holds hyps)) ∷ 0 ∷ 0 ∷ []) (s .0 .room) row)
@@ -202,19 +202,19 @@ module _ {R : Records} {n : Sizes} {M : Made} {S : State} {f : Fact} {judgment p
       let own : f .hyps ≡ n .facts ∷ [] = o .0 ∙ ap (λ k. k ∷ []) (sym (h .many)) in
       let many = ap length own in
       let row : judgment ∷ 1 ∷ n .entries ∷ 1 ∷ premises ∷ general ∷ [] ≡ factRow M (n .entries) f =
-          λ i. d .numbered i ∷ sym (ap bit (d .assumed)) i ∷ n .entries ∷ sym many i ∷ d .premised i ∷ d .generalised i ∷ [] in
+      λ i. d .numbered i ∷ sym (ap bit (d .assumed)) i ∷ n .entries ∷ sym many i ∷ d .premised i ∷ d .generalised i ∷ [] in
       let new : n .facts ∷ (numbers M (f .premises) ++ f .general) ≡ factPart M f =
-          sym (append-assoc (f .hyps) (numbers M (f .premises)) (f .general) ∙ ap (λ l. l ++ (numbers M (f .premises) ++ f .general)) own) in
+      sym (append-assoc (f .hyps) (numbers M (f .premises)) (f .general) ∙ ap (λ l. l ++ (numbers M (f .premises) ++ f .general)) own) in
       let entered : Q .lists ≡ sets (R .lists) (n .entries) (n .facts ∷ (numbers M (f .premises) ++ f .general)) =
-          s .0 .lists ∙ ap (λ l. sets l (n .entries) (n .facts ∷ [])) (d .behind)
-          ∙ sets-first (R .lists) (numbers M (f .premises) ++ f .general) (n .entries) (n .entries + 1) (n .facts) refl in
+      s .0 .lists ∙ ap (λ l. sets l (n .entries) (n .facts ∷ [])) (d .behind)
+      ∙ sets-first (R .lists) (numbers M (f .premises) ++ f .general) (n .entries) (n .entries + 1) (n .facts) refl in
       let footed : Q .footings ≡ filled (4 * FACTS) (footingCells (S .facts ++ (f ∷ []))) =
-          s .0 .footings ∙ footings-tabled h .is
-          ∙ sym (filled-zeros (4 * FACTS) (footingCells (S .facts)) 4 (omega (arith, footings-tabled h .many, s .0 .room)))
-          ∙ ap (filled (4 * FACTS)) (sym (footing-cells-snoc (S .facts) f
-          ∙ ap (λ l. footingCells (S .facts) ++ (bitWord l 0 ∷ bitWord l 1 ∷ bitWord l 2 ∷ bitWord l 3 ∷ [])) (o .1))) in
+      s .0 .footings ∙ footings-tabled h .is
+      ∙ sym (filled-zeros (4 * FACTS) (footingCells (S .facts)) 4 (omega (arith, footings-tabled h .many, s .0 .room)))
+      ∙ ap (filled (4 * FACTS)) (sym (footing-cells-snoc (S .facts) f
+      ∙ ap (λ l. footingCells (S .facts) ++ (bitWord l 0 ∷ bitWord l 1 ∷ bitWord l 2 ∷ bitWord l 3 ∷ [])) (o .1))) in
       let sum : n .entries + (1 + premises + general) ≡ n .entries + (length (f .hyps) + countTrees (f .premises) + length (f .general)) =
-          omega (arith, many, d .premised, d .generalised) in
+      omega (arith, many, d .premised, d .generalised) in
       recorded-more f c e h v (s .1 ∙ sum)
       (d .bound)
       (s .0 .facts ∙ recorded-row f c e h v (judgment ∷ 1 ∷ n .entries ∷ 1 ∷ premises ∷ general ∷ []) (s .0 .room) row)

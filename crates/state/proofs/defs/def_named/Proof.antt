@@ -26,23 +26,29 @@ returns c =
 -- src/defs.rt:23:20
 mul-t7 : tie.Need-mul-t7
 mul-t7 c =
-    omega (arith,
-    def-inside ((c .before .before .before .before .before .before .before .args) .name .now) _ (c .before .before .before .before .before .before .before .pre) ((c .before .before .before .named) .ensures) ((c .before .i) .given .1),
-    (c .before .before .before .before .before .before .before .good))
+    omega (
+      arith,
+      def-inside ((c .before .before .before .before .before .before .before .args) .name .now) _ (c .before .before .before .before .before .before .before .pre) ((c .before .before .before .named) .ensures) ((c .before .i) .given .1),
+      (c .before .before .before .before .before .before .before .good),
+    )
 
 -- src/defs.rt:23:20
 add-t8 : tie.Need-add-t8
 add-t8 c =
-    omega (arith,
-    def-inside ((c .before .before .before .before .before .before .before .args) .name .now) _ (c .before .before .before .before .before .before .before .pre) ((c .before .before .before .named) .ensures) ((c .before .i) .given .1),
-    (c .before .before .before .before .before .before .before .good))
+    omega (
+      arith,
+      def-inside ((c .before .before .before .before .before .before .before .args) .name .now) _ (c .before .before .before .before .before .before .before .pre) ((c .before .before .before .named) .ensures) ((c .before .i) .given .1),
+      (c .before .before .before .before .before .before .before .good),
+    )
 
 -- src/defs.rt:23:15
 mul-t9 : tie.Need-mul-t9
 mul-t9 c =
-    omega (arith,
-    def-inside ((c .before .before .before .before .before .before .before .args) .name .now) _ (c .before .before .before .before .before .before .before .pre) ((c .before .before .before .named) .ensures) ((c .before .i) .given .1),
-    (c .before .before .before .before .before .before .before .good))
+    omega (
+      arith,
+      def-inside ((c .before .before .before .before .before .before .before .args) .name .now) _ (c .before .before .before .before .before .before .before .pre) ((c .before .before .before .named) .ensures) ((c .before .i) .given .1),
+      (c .before .before .before .before .before .before .before .good),
+    )
 
 -- src/defs.rt:23:15
 shared-slice-read-t11 : tie.Need-shared-slice-read-t11

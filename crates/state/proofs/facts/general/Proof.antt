@@ -43,8 +43,11 @@ cast-from-2 c = omega (arith, (c .shared-slice-known2) .given (6 * (c .before .b
 -- src/facts.rt:95:16
 add-from-3 : tie.Need-add-from-3
 add-from-3 c =
-    omega (arith, (c .before .shared-slice-known) .given (6 * (c .before .before .args) .i + 2),
-    (c .shared-slice-known2) .given (6 * (c .before .before .args) .i + 3))
+    omega (
+      arith,
+      (c .before .shared-slice-known) .given (6 * (c .before .before .args) .i + 2),
+      (c .shared-slice-known2) .given (6 * (c .before .before .args) .i + 3),
+    )
 
 -- src/facts.rt:95:72
 add-from-4 : tie.Need-add-from-4
@@ -65,9 +68,12 @@ cast-from-3 c = omega (arith, (c .shared-slice-known3) .given (6 * (c .before .b
 -- src/facts.rt:95:16
 add-from-5 : tie.Need-add-from-5
 add-from-5 c =
-    omega (arith, (c .before .before .shared-slice-known) .given (6 * (c .before .before .before .args) .i + 2),
-    (c .before .shared-slice-known2) .given (6 * (c .before .before .before .args) .i + 3),
-    (c .shared-slice-known3) .given (6 * (c .before .before .before .args) .i + 4))
+    omega (
+      arith,
+      (c .before .before .shared-slice-known) .given (6 * (c .before .before .before .args) .i + 2),
+      (c .before .shared-slice-known2) .given (6 * (c .before .before .before .args) .i + 3),
+      (c .shared-slice-known3) .given (6 * (c .before .before .before .args) .i + 4),
+    )
 
 -- src/facts.rt:98:27
 add-t5 : tie.Need-add-t5
@@ -88,10 +94,13 @@ cast-t17 c = omega (arith, (c .shared-slice-known4) .given (6 * (c .before .befo
 -- src/facts.rt:98:14
 add-t16 : tie.Need-add-t16
 add-t16 c =
-    omega (arith, (c .before .before .before .shared-slice-known) .given (6 * (c .before .before .before .before .args) .i + 2),
-    (c .before .before .shared-slice-known2) .given (6 * (c .before .before .before .before .args) .i + 3),
-    (c .before .shared-slice-known3) .given (6 * (c .before .before .before .before .args) .i + 4),
-    (c .shared-slice-known4) .given (6 * (c .before .before .before .before .args) .i + 5))
+    omega (
+      arith,
+      (c .before .before .before .shared-slice-known) .given (6 * (c .before .before .before .before .args) .i + 2),
+      (c .before .before .shared-slice-known2) .given (6 * (c .before .before .before .before .args) .i + 3),
+      (c .before .shared-slice-known3) .given (6 * (c .before .before .before .before .args) .i + 4),
+      (c .shared-slice-known4) .given (6 * (c .before .before .before .before .args) .i + 5),
+    )
 
 -- src/facts.rt:90:1
 returns : tie.Need-returns

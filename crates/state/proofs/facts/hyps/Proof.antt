@@ -43,8 +43,11 @@ cast-t10 c = omega (arith, (c .shared-slice-known2) .given (6 * (c .before .befo
 -- src/facts.rt:72:14
 add-t11 : tie.Need-add-t11
 add-t11 c =
-    omega (arith, (c .before .shared-slice-known) .given (6 * (c .before .before .args) .i + 2),
-    (c .shared-slice-known2) .given (6 * (c .before .before .args) .i + 3))
+    omega (
+      arith,
+      (c .before .shared-slice-known) .given (6 * (c .before .before .args) .i + 2),
+      (c .shared-slice-known2) .given (6 * (c .before .before .args) .i + 3),
+    )
 
 -- src/facts.rt:64:1
 returns : tie.Need-returns

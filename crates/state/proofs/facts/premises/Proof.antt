@@ -43,8 +43,11 @@ cast-from-2 c = omega (arith, (c .shared-slice-known2) .given (6 * (c .before .b
 -- src/facts.rt:82:16
 add-from-3 : tie.Need-add-from-3
 add-from-3 c =
-    omega (arith, (c .before .shared-slice-known) .given (6 * (c .before .before .args) .i + 2),
-    (c .shared-slice-known2) .given (6 * (c .before .before .args) .i + 3))
+    omega (
+      arith,
+      (c .before .shared-slice-known) .given (6 * (c .before .before .args) .i + 2),
+      (c .shared-slice-known2) .given (6 * (c .before .before .args) .i + 3),
+    )
 
 -- src/facts.rt:85:27
 add-t5 : tie.Need-add-t5
@@ -65,9 +68,12 @@ cast-t11 c = omega (arith, (c .shared-slice-known3) .given (6 * (c .before .befo
 -- src/facts.rt:85:14
 add-t10 : tie.Need-add-t10
 add-t10 c =
-    omega (arith, (c .before .before .shared-slice-known) .given (6 * (c .before .before .before .args) .i + 2),
-    (c .before .shared-slice-known2) .given (6 * (c .before .before .before .args) .i + 3),
-    (c .shared-slice-known3) .given (6 * (c .before .before .before .args) .i + 4))
+    omega (
+      arith,
+      (c .before .before .shared-slice-known) .given (6 * (c .before .before .before .args) .i + 2),
+      (c .before .shared-slice-known2) .given (6 * (c .before .before .before .args) .i + 3),
+      (c .shared-slice-known3) .given (6 * (c .before .before .before .args) .i + 4),
+    )
 
 -- src/facts.rt:77:1
 returns : tie.Need-returns

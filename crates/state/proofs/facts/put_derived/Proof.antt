@@ -23,10 +23,13 @@ count-requires c κs = search needs
 -- src/facts.rt:169:15
 add-end : tie.Need-add-end
 add-end c =
-    omega (arith,
-    rising-few (64 * length ((c .before .before .before .before .before .before .before .args) .hyps .now)) (holds ((c .before .before .before .before .before .before .before .args) .hyps .now)),
-    (c .count) .ensures, (c .before .before .before .before .before .before .before .pre) .0 .entries,
-    (c .before .before .before .before .before .before .before .pre) .1 .0)
+    omega (
+      arith,
+      rising-few (64 * length ((c .before .before .before .before .before .before .before .args) .hyps .now)) (holds ((c .before .before .before .before .before .before .before .args) .hyps .now)),
+      (c .count) .ensures,
+      (c .before .before .before .before .before .before .before .pre) .0 .entries,
+      (c .before .before .before .before .before .before .before .pre) .1 .0,
+    )
 
 -- src/facts.rt:171:9
 returns-2 : tie.Need-returns-2

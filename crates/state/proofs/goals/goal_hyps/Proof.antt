@@ -43,8 +43,11 @@ cast-t10 c = omega (arith, (c .shared-slice-known2) .given (6 * (c .before .befo
 -- src/goals.rt:44:14
 add-t11 : tie.Need-add-t11
 add-t11 c =
-    omega (arith, (c .before .shared-slice-known) .given (6 * (c .before .before .args) .k + 3),
-    (c .shared-slice-known2) .given (6 * (c .before .before .args) .k + 4))
+    omega (
+      arith,
+      (c .before .shared-slice-known) .given (6 * (c .before .before .args) .k + 3),
+      (c .shared-slice-known2) .given (6 * (c .before .before .args) .k + 4),
+    )
 
 -- src/goals.rt:36:1
 returns : tie.Need-returns

@@ -20,8 +20,10 @@ mul-start c = search needs
 -- src/vars.rt:23:17
 shared-slice-read-start : tie.Need-shared-slice-read-start
 shared-slice-read-start c =
-    omega (arith,
-    var-row-in ((c .before .before .before .before .before .pre) .0 .1) ((c .before .before .before .before .before .args) .i) ((c .before .before .before .before .before .pre) .1))
+    omega (
+      arith,
+      var-row-in ((c .before .before .before .before .before .pre) .0 .1) ((c .before .before .before .before .before .args) .i) ((c .before .before .before .before .before .pre) .1),
+    )
 
 -- src/vars.rt:23:17
 cast-start : tie.Need-cast-start
@@ -38,8 +40,10 @@ mul-end c = search needs
 -- src/vars.rt:24:15
 shared-slice-read-end : tie.Need-shared-slice-read-end
 shared-slice-read-end c =
-    omega (arith,
-    var-row-in ((c .before .before .before .before .before .before .pre) .0 .1) ((c .before .before .before .before .before .before .args) .i) ((c .before .before .before .before .before .before .pre) .1))
+    omega (
+      arith,
+      var-row-in ((c .before .before .before .before .before .before .pre) .0 .1) ((c .before .before .before .before .before .before .args) .i) ((c .before .before .before .before .before .before .pre) .1),
+    )
 
 -- src/vars.rt:24:15
 cast-end : tie.Need-cast-end
@@ -56,8 +60,10 @@ mul-if1 c = search needs
 -- src/vars.rt:25:8
 shared-slice-read-if1 : tie.Need-shared-slice-read-if1
 shared-slice-read-if1 c =
-    omega (arith,
-    var-row-in ((c .before .before .before .before .before .before .before .pre) .0 .1) ((c .before .before .before .before .before .before .before .args) .i) ((c .before .before .before .before .before .before .before .pre) .1))
+    omega (
+      arith,
+      var-row-in ((c .before .before .before .before .before .before .before .pre) .0 .1) ((c .before .before .before .before .before .before .before .args) .i) ((c .before .before .before .before .before .before .before .pre) .1),
+    )
 
 -- src/vars.rt:26:21
 sub-same : tie.Need-sub-same
