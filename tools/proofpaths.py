@@ -67,17 +67,20 @@ def goals(home, crate):
         shutil.rmtree(folder, ignore_errors=True)
         run = subprocess.run([os.environ.get("RT", "rt"), "dev", crate, "--generated", str(folder)], cwd=home, capture_output=True, text=True)
         if not any(folder.rglob("Lts*.antt")):
-            raise SystemExit(run.stdout + run.stderr)
+            errors = [line[:300] for line in (run.stdout + run.stderr).splitlines() if "error" in line or line.startswith("rt: ")]
+            raise SystemExit("\n".join(errors[:20]))
         stamp.write_text(now)
     return folder / f"Rattle.{crate}.proofs" / "proofs"
 
 
 class Walk:
-    """The places of one function and its needs, in the order of the code."""
+    """The places of one function and its needs, in the order of the code, and the arguments of its loops' invariants."""
 
     def __init__(self, text):
         self.fields, self.needs, self.loops, self.order = {}, {}, {}, []
-        record = need = loop = None
+        claims = re.findall(r'\(claims· \.(\d+)\)\s+"([\w:]+)"', text)
+        self.callees = [name for _, name in sorted({int(n): name for n, name in claims}.items())]
+        holds, record, need = {}, None, None
         for line in text.split("\n"):
             if m := re.match(r"\s*pub record (\S+) :", line):
                 record = m[1]
@@ -87,20 +90,26 @@ class Walk:
             elif record and (m := re.match(r"\s*pub (\S+) :\s*(\S*)", line)):
                 self.fields[record].append((m[1], m[2]))
             elif not line.strip():
-                record = loop = None
-            elif m := re.match(r"\s*InvT-(\S+) =(.*)", line):
-                loop = m[1]
-                self.loops[loop] = m[2]
-            elif loop:
-                self.loops[loop] += " " + line.strip()
+                record = need = None
             elif m := re.match(r"\s*(\S+·own) = Called", line):
                 self.fields[m[1]] = [(f, "") for f in CALLED]
             elif m := re.match(r"\s*Need-(\S+) =", line):
                 need = m[1]
-            if need and (m := re.search(r"\(c : (\S+)\)", line)):
+            if need and need not in self.needs and (m := re.search(r"\(c : (\S+)\)", line)):
                 self.needs[need] = m[1]
                 self.order.append("Need-" + need)
-                need = None
+            if need and need.endswith("-holds"):
+                holds[need[:-len("-holds")]] = holds.get(need[:-len("-holds")], "") + " " + line.strip()
+        for loop, said in holds.items():
+            self.loops[loop] = self.arguments(loop, [int(n) for n in re.findall(r"\(Row\.get (\d+) ", said)])
+
+    def arguments(self, loop, numbers):
+        """What an invariant is told: each local as it was before the loop, then those that the loop changes as they are now."""
+        params = [f for f, _ in self.fields["Args"]]
+        changed = [f for f in self.own(f"At-{loop}")[loop] if f != "inv"]
+        first, last = numbers[:len(numbers) - len(changed)], numbers[len(numbers) - len(changed):]
+        names = {**{i + 1: f for i, f in enumerate(params)}, **{n: f + "₀" for n, f in zip(last, changed)}}
+        return [names.get(n, f"local{n}") for n in first] + changed
 
     def own(self, place):
         """What a place has besides the place in front, as names with their own fields."""
@@ -117,27 +126,59 @@ class Walk:
     def nearest(self, place, field):
         return next((p for p in self.chain(place) if field in self.own(p)), None)
 
+    def kind(self, name):
+        """What a place or a need is, whatever local or function it is named after."""
+        if not name.startswith("Need-"):
+            return (re.match(r"[A-Z][a-z]+", name)[0], *map(tuple, self.own(name).values()))
+        front = re.match(r"Need-((?:shared-)?(?:slice|array)-[a-z]+|enum-known|[a-z]+)", name)[1]
+        back = re.search(r"-(requires|start|end|holds|less|again)(-\d+)?$", name)
+        return back[1] if back and back[1] != "start" and back[1] != "end" else (front, back and back[1])
+
 
 def numberless(name):
     """A name without the number that tells it from others of its kind."""
     return re.sub(r"-?\d+$", "", name)
 
 
+def runs(old, new):
+    """The stretches of two lists that differ, and the pairs of what stands in both."""
+    match = difflib.SequenceMatcher(None, old, new, autojunk=False)
+    for tag, a, b, c, d in match.get_opcodes():
+        yield tag, range(a, b), range(c, d)
+
+
 class Move:
-    """Where the places and needs of the old code are in the new: each goes to the one that stands there in the order."""
+    """Where the places and needs of the old code are in the new: by their order, then by their kinds in what is left."""
 
     def __init__(self, old, new):
         self.old, self.new, self.to = old, new, {name: name for name in new.order}
         if old is new:
             return
         self.to = {}
-        keys = [[numberless(name) for name in walk.order] for walk in (old, new)]
-        for a, b, n in difflib.SequenceMatcher(None, *keys, autojunk=False).get_matching_blocks():
-            self.to.update(zip(old.order[a:a + n], new.order[b:b + n]))
+        for tag, olds, news in runs([numberless(n) for n in old.order], [numberless(n) for n in new.order]):
+            before, now = [old.order[i] for i in olds], [new.order[i] for i in news]
+            if tag == "equal":
+                self.to.update(zip(before, now))
+                continue
+            for same, a, b in runs([old.kind(n) for n in before], [new.kind(n) for n in now]):
+                if same == "equal":
+                    self.to.update(zip((before[i] for i in a), (now[i] for i in b)))
+        for name in old.order:
+            left = [n for n in new.order if n not in self.to.values() and n.startswith("Need-") and new.kind(n) == old.kind(name)]
+            if name not in self.to and left and name.startswith("Need-"):
+                self.to[name] = left[0]
 
     def need(self, name):
         to = self.to.get("Need-" + name)
         return to and to[len("Need-"):]
+
+    def argument_names(self, loop, names):
+        """The names of an invariant's arguments, with those of locals that are new put in and those of locals that are gone left out."""
+        old, new = self.old.loops[loop], self.new.loops[loop]
+        out = []
+        for tag, a, b in runs([numberless(n) for n in old], [numberless(n) for n in new]):
+            out += [names[i] for i in a] if tag == "equal" else [new[i] for i in b]
+        return out
 
 
 class File:
@@ -266,12 +307,11 @@ def pathed(block, places, said):
 
 def stub(block, old, new):
     """A block like that of another need, with a hole for its answer."""
-    name = re.match(r"(?:--.*\n)*(\S+) :", block)[1]
-    signature = re.sub(r"^--.*\n", "", block[:re.search(rf"\n{re.escape(name)} ", block).start()], flags=re.M)
+    name, signature, args = re.match(r"(?:--.*\n)*(\S+)( :(?:.|\n)*?)\n\1 (.*?)=", block).groups()
     fresh = name[:len(name) - len(old)] + new
-    args = re.search(rf"\n{re.escape(name)} ((?:\S+ )*)=", block)[1].replace("κs ", "")
-    signature = re.sub(rf"\.Need-{re.escape(old)}(?!{WORD})", f".Need-{new}", fresh + signature[len(name):])
-    return f"{signature}\n{fresh} {args}{'κs ' if re.search(r'-requires(-[0-9]+)?$', new) else ''}= ?\n"
+    signature = re.sub(rf"\.Need-{re.escape(old)}(?!{WORD})", f".Need-{new}", signature)
+    lifetimes = "κs " if re.search(r"-requires(-\d+)?$", new) else ""
+    return f"{fresh}{signature}\n{fresh} {args.replace('κs ', '')}{lifetimes}= ?\n"
 
 
 class Mended:
@@ -289,7 +329,8 @@ class Mended:
         for alias, move in self.moves.items():
             if self.spec(alias, file.text):
                 self.fresh(alias, move, blocks)
-                self.loops(move)
+                if move.old.callees != move.new.callees and alias != "tie":
+                    said(f"the claims of {alias} are now those of {', '.join(move.new.callees)}")
         self.text = "\n".join(blocks)
         for alias, move in self.moves.items():
             self.listed(alias, move)
@@ -323,7 +364,23 @@ class Mended:
                 del places[var]
             elif now != place:
                 block = re.sub(rf"\.{re.escape(place)}(?!{WORD})(?=[ )])", f".{now}", block)
+        block = self.reargued(block)
         return pathed(block, places, lambda what: self.said(f"in {answers[1]}: {what}" if answers else what))
+
+    def reargued(self, block):
+        """An invariant or a measure with the arguments that it has now."""
+        for alias, move in self.moves.items():
+            m = re.search(rf"(?<!\S){re.escape(alias)}\.(?:InvT|MeasureT)-({WORD})", block)
+            loop = m and m[1]
+            if loop and move.old.loops.get(loop) != move.new.loops.get(loop):
+                name, args = re.search(r"(?:^|\n)(\S+) ((?:[^\s=:]+ )*)=\s", block).groups()
+                if loop not in move.old.loops or loop not in move.new.loops or len(args.split()) != len(move.old.loops[loop]):
+                    self.said(f"{name} is to be written for other arguments")
+                    continue
+                fresh = " ".join(move.argument_names(loop, args.split())) + " "
+                self.said(f"{name} has the arguments {fresh}now")
+                block = block.replace(f"{name} {args}=", f"{name} {fresh}=")
+        return block
 
     def fresh(self, alias, move, blocks):
         """Puts a hole for each need that nothing answers, behind the answer in front of it."""
@@ -340,14 +397,6 @@ class Mended:
                 blocks.insert(at + 1 if last else at, stub(blocks[at], like, need))
                 self.answers[alias, need] = blocks[at + 1 if last else at].split(" ", 1)[0]
             last = need
-
-    def loops(self, move):
-        """Says which invariants have other arguments than before."""
-        for loop in {**move.old.loops, **move.new.loops}:
-            old, new = (walk.loops.get(loop, "") for walk in (move.old, move.new))
-            if old != new:
-                changed = [f for f in dict(move.new.own(f"At-{loop}")).get(loop, []) if f != "inv"] if new else []
-                self.said(f"Inv-{loop} has {new.count('→')} arguments, had {old.count('→')}; the last {len(changed)} are {' '.join(changed)}")
 
     def listed(self, alias, move):
         """Puts the arguments of `spec` in the order of the needs."""
@@ -407,9 +456,9 @@ def paths(crate, *functions):
             for alias, fields in json.loads(kept.read_text()).items():
                 old[alias] = Walk("")
                 vars(old[alias]).update(fields)
-            kept.unlink()
         if old or re.search(r"@[\w@]", file.text):
             file.path.write_text(Mended(file, old, saying(file)).text)
+            kept.unlink(missing_ok=True)
 
 
 def show(crate, function, *needs):
