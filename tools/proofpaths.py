@@ -228,6 +228,11 @@ class File:
             alias, need = answers
             if need in self.functions[alias].needs:
                 found["c"] = (alias, self.functions[alias].needs[need])
+        for var, of, befores, place in re.findall(rf"(?<!\S)let (\S+) = ({WORD})(?:((?: \.before)*)|@@({WORD})) in(?!\S)", block):
+            if of in found:
+                alias, at = found[of]
+                chain = self.functions[alias].chain(at)
+                found[var] = (alias, place or chain[min(befores.count("before"), len(chain) - 1)])
         return found
 
 

@@ -61,7 +61,11 @@ read-same-length-4 : (t : ℕ) → read-lts.Need-same-length-4 (cs t) (read-at t
 read-same-length-4 t c = (c .before .before .before .before .put-leaf2) .kept .1 .0
 
 read-returns-2 : (t : ℕ) → read-lts.Need-returns-2 (cs t) (read-at t) read.Post
-read-returns-2 t c = sooner ((c .before .before .before .before .before .before .before .before .before .before .before .before .before .before .args) .index .now) ((c .before .before .before .before .before .before .before .before .before .before .before .before .before .before .args) .words .now) ((c .before .before .before .before .put-leaf2) .last .0) ((c .before .before .before .before .put-leaf2) .last .1 .0) ((c .before .before .before .before .before .before .before .before .before .before .before .before .before .before .args) .mark) ((c .before .before .before .before .before .before .before .before .before .before .before .before .before .before .args) .at) ((c .before .before .before .before .put-leaf2) .result) ((c .before .before .before .before .put-leaf2) .ensures)
+read-returns-2 t c =
+    let args = c .before .before .before .before .before .before .before .before .before .before .before .before .before .before .args in
+    let put-leaf2 = c .before .before .before .before .put-leaf2 in
+    sooner (args .index .now) (args .words .now) (put-leaf2 .last .0) (put-leaf2 .last .1 .0) (args .mark) (args .at) (put-leaf2 .result)
+    (put-leaf2 .ensures)
 
 read-add-read : (t : ℕ) → read-lts.Need-add-read (cs t) (read-at t) read.Post
 read-add-read t c = search needs
@@ -73,13 +77,48 @@ read-enum-known-a : (t : ℕ) → read-lts.Need-enum-known-a (cs t) (read-at t) 
 read-enum-known-a t c = search needs
 
 read-read-requires-2 : (t : ℕ) → read-lts.Need-read-requires-2 (cs t) (read-at t) read.Post
-read-read-requires-2 t c κs = (omega (arith, (c .before .before .before .before .before .before .before .before .before .before .before .before .before .before .before .if1) .left, (c .before .before .before .before .before .before .before .before .before .before .before .before .before .before .before .before .before .before .before .pre) .0, (as-term ((c .before .before .before .before .before .before .before .before .before .before .before .before .before .before .before .before .before .before .before .args) .index .now) ((c .before .before .before .before .before .before .before .before .before .before .before .before .before .before .before .before .before .before .before .args) .words .now) ((c .before .before .before .before .before .before .before .before .before .read) .last .1 .1 .0) ((c .before .before .before .before .before .before .before .before .before .read) .last .1 .1 .1 .0) ((c .before .before .before .before .before .before .before .before .before .before .before .before .before .before .before .before .before .before .before .args) .mark) ((c .before .before .before .before .before .before .before .before .before .before .before .before .before .before .before .before .before .before .before .args) .at + 1) ((c .before .before .before .before .before .before .before .before .before .read) .result) ((c .before .before .before .before .before .before .before .before .before .read) .ensures) _ _ _ ((c .before .before .before .a) .given .1)) .1), (as-term ((c .before .before .before .before .before .before .before .before .before .before .before .before .before .before .before .before .before .before .before .args) .index .now) ((c .before .before .before .before .before .before .before .before .before .before .before .before .before .before .before .before .before .before .before .args) .words .now) ((c .before .before .before .before .before .before .before .before .before .read) .last .1 .1 .0) ((c .before .before .before .before .before .before .before .before .before .read) .last .1 .1 .1 .0) ((c .before .before .before .before .before .before .before .before .before .before .before .before .before .before .before .before .before .before .before .args) .mark) ((c .before .before .before .before .before .before .before .before .before .before .before .before .before .before .before .before .before .before .before .args) .at + 1) ((c .before .before .before .before .before .before .before .before .before .read) .result) ((c .before .before .before .before .before .before .before .before .before .read) .ensures) _ _ _ ((c .before .before .before .a) .given .1)) .0 .grown .good)
+read-read-requires-2 t c κs =
+    let if1 = c .before .before .before .before .before .before .before .before .before .before .before .before .before .before .before .if1 in
+    let pre = c .before .before .before .before .before .before .before .before .before .before .before .before .before .before .before .before .before .before .before .pre in
+    let args = c .before .before .before .before .before .before .before .before .before .before .before .before .before .before .before .before .before .before .before .args in
+    let read = c .before .before .before .before .before .before .before .before .before .read in
+    let a = c .before .before .before .a in (
+      omega (
+        arith,
+        if1 .left,
+        pre .0,
+        (as-term (args .index .now) (args .words .now) (read .last .1 .1 .0) (read .last .1 .1 .1 .0) (args .mark) (args .at + 1)
+            (read .result) (read .ensures) _ _ _ (a .given .1)) .1,
+      ),
+      (as-term (args .index .now) (args .words .now) (read .last .1 .1 .0) (read .last .1 .1 .1 .0) (args .mark) (args .at + 1)
+          (read .result) (read .ensures) _ _ _ (a .given .1)) .0 .grown .good,
+    )
 
 read-enum-known-b : (t : ℕ) → read-lts.Need-enum-known-b (cs t) (read-at t) read.Post
 read-enum-known-b t c = search needs
 
 read-put-pair-requires : (t : ℕ) → read-lts.Need-put-pair-requires (cs t) (read-at t) read.Post
-read-put-pair-requires t c κs = ((as-term ((c .before .before .before .before .before .before .before .before .before .before .before .before .before .before .before .before .before .before .before .read) .last .1 .1 .0) ((c .before .before .before .before .before .before .before .before .before .before .before .before .before .before .before .before .before .before .before .read) .last .1 .1 .1 .0) ((c .before .before .before .before .before .before .before .before .before .read2) .last .1 .1 .0) ((c .before .before .before .before .before .before .before .before .before .read2) .last .1 .1 .1 .0) ((c .before .before .before .before .before .before .before .before .before .before .before .before .before .a) .given .0 .1 .1 .0) ((c .before .before .before .before .before .before .before .before .before .before .before .before .before .a) .given .0 .1 .0) ((c .before .before .before .before .before .before .before .before .before .read2) .result) ((c .before .before .before .before .before .before .before .before .before .read2) .ensures) _ _ _ ((c .before .before .before .b) .given .1)) .0 .grown .good, (within-grown _ _ _ _ _ _ _ ((as-term ((c .before .before .before .before .before .before .before .before .before .before .before .before .before .before .before .before .before .before .before .before .before .before .before .before .before .before .before .before .before .args) .index .now) ((c .before .before .before .before .before .before .before .before .before .before .before .before .before .before .before .before .before .before .before .before .before .before .before .before .before .before .before .before .before .args) .words .now) ((c .before .before .before .before .before .before .before .before .before .before .before .before .before .before .before .before .before .before .before .read) .last .1 .1 .0) ((c .before .before .before .before .before .before .before .before .before .before .before .before .before .before .before .before .before .before .before .read) .last .1 .1 .1 .0) ((c .before .before .before .before .before .before .before .before .before .before .before .before .before .before .before .before .before .before .before .before .before .before .before .before .before .before .before .before .before .args) .mark) ((c .before .before .before .before .before .before .before .before .before .before .before .before .before .before .before .before .before .before .before .before .before .before .before .before .before .before .before .before .before .args) .at + 1) ((c .before .before .before .before .before .before .before .before .before .before .before .before .before .before .before .before .before .before .before .read) .result) ((c .before .before .before .before .before .before .before .before .before .before .before .before .before .before .before .before .before .before .before .read) .ensures) _ _ _ ((c .before .before .before .before .before .before .before .before .before .before .before .before .before .a) .given .1)) .0 .grown .good) ((as-term ((c .before .before .before .before .before .before .before .before .before .before .before .before .before .before .before .before .before .before .before .read) .last .1 .1 .0) ((c .before .before .before .before .before .before .before .before .before .before .before .before .before .before .before .before .before .before .before .read) .last .1 .1 .1 .0) ((c .before .before .before .before .before .before .before .before .before .read2) .last .1 .1 .0) ((c .before .before .before .before .before .before .before .before .before .read2) .last .1 .1 .1 .0) ((c .before .before .before .before .before .before .before .before .before .before .before .before .before .a) .given .0 .1 .1 .0) ((c .before .before .before .before .before .before .before .before .before .before .before .before .before .a) .given .0 .1 .0) ((c .before .before .before .before .before .before .before .before .before .read2) .result) ((c .before .before .before .before .before .before .before .before .before .read2) .ensures) _ _ _ ((c .before .before .before .b) .given .1)) .0 .grown) ((as-term ((c .before .before .before .before .before .before .before .before .before .before .before .before .before .before .before .before .before .before .before .before .before .before .before .before .before .before .before .before .before .args) .index .now) ((c .before .before .before .before .before .before .before .before .before .before .before .before .before .before .before .before .before .before .before .before .before .before .before .before .before .before .before .before .before .args) .words .now) ((c .before .before .before .before .before .before .before .before .before .before .before .before .before .before .before .before .before .before .before .read) .last .1 .1 .0) ((c .before .before .before .before .before .before .before .before .before .before .before .before .before .before .before .before .before .before .before .read) .last .1 .1 .1 .0) ((c .before .before .before .before .before .before .before .before .before .before .before .before .before .before .before .before .before .before .before .before .before .before .before .before .before .before .before .before .before .args) .mark) ((c .before .before .before .before .before .before .before .before .before .before .before .before .before .before .before .before .before .before .before .before .before .before .before .before .before .before .before .before .before .args) .at + 1) ((c .before .before .before .before .before .before .before .before .before .before .before .before .before .before .before .before .before .before .before .read) .result) ((c .before .before .before .before .before .before .before .before .before .before .before .before .before .before .before .before .before .before .before .read) .ensures) _ _ _ ((c .before .before .before .before .before .before .before .before .before .before .before .before .before .a) .given .1)) .0 .within), (as-term ((c .before .before .before .before .before .before .before .before .before .before .before .before .before .before .before .before .before .before .before .read) .last .1 .1 .0) ((c .before .before .before .before .before .before .before .before .before .before .before .before .before .before .before .before .before .before .before .read) .last .1 .1 .1 .0) ((c .before .before .before .before .before .before .before .before .before .read2) .last .1 .1 .0) ((c .before .before .before .before .before .before .before .before .before .read2) .last .1 .1 .1 .0) ((c .before .before .before .before .before .before .before .before .before .before .before .before .before .a) .given .0 .1 .1 .0) ((c .before .before .before .before .before .before .before .before .before .before .before .before .before .a) .given .0 .1 .0) ((c .before .before .before .before .before .before .before .before .before .read2) .result) ((c .before .before .before .before .before .before .before .before .before .read2) .ensures) _ _ _ ((c .before .before .before .b) .given .1)) .0 .within))
+read-put-pair-requires t c κs =
+    let read = c .before .before .before .before .before .before .before .before .before .before .before .before .before .before .before .before .before .before .before .read in
+    let read2 = c .before .before .before .before .before .before .before .before .before .read2 in
+    let a = c .before .before .before .before .before .before .before .before .before .before .before .before .before .a in
+    let b = c .before .before .before .b in
+    let mid = c .before .before .before .before .before .before .before .before .before .before .before .before .before .before .before .before .before .before .before .before .before .before .before .before .before in
+    let args = mid .before .before .before .before .args in (
+      (as-term (read .last .1 .1 .0) (read .last .1 .1 .1 .0) (read2 .last .1 .1 .0) (read2 .last .1 .1 .1 .0) (a .given .0 .1 .1 .0)
+          (a .given .0 .1 .0) (read2 .result) (read2 .ensures) _ _ _ (b .given .1)) .0 .grown .good,
+      (
+        within-grown _ _ _ _ _ _ _
+            ((as-term (args .index .now) (args .words .now) (read .last .1 .1 .0) (read .last .1 .1 .1 .0) (args .mark) (args .at + 1)
+            (read .result) (read .ensures) _ _ _ (a .given .1)) .0 .grown .good)
+            ((as-term (read .last .1 .1 .0) (read .last .1 .1 .1 .0) (read2 .last .1 .1 .0) (read2 .last .1 .1 .1 .0)
+            (a .given .0 .1 .1 .0) (a .given .0 .1 .0) (read2 .result) (read2 .ensures) _ _ _ (b .given .1)) .0 .grown)
+            ((as-term (args .index .now) (args .words .now) (read .last .1 .1 .0) (read .last .1 .1 .1 .0) (args .mark) (args .at + 1)
+            (read .result) (read .ensures) _ _ _ (a .given .1)) .0 .within),
+        (as-term (read .last .1 .1 .0) (read .last .1 .1 .1 .0) (read2 .last .1 .1 .0) (read2 .last .1 .1 .1 .0)
+            (a .given .0 .1 .1 .0) (a .given .0 .1 .0) (read2 .result) (read2 .ensures) _ _ _ (b .given .1)) .0 .within,
+      ),
+    )
 
 read-enum-known-k : (t : ℕ) → read-lts.Need-enum-known-k (cs t) (read-at t) read.Post
 read-enum-known-k t c = search needs
@@ -88,13 +127,33 @@ read-enum-known-m : (t : ℕ) → read-lts.Need-enum-known-m (cs t) (read-at t) 
 read-enum-known-m t c = search needs
 
 read-same-length-5 : (t : ℕ) → read-lts.Need-same-length-5 (cs t) (read-at t) read.Post
-read-same-length-5 t c = (c .before .before .before .before .put-pair) .kept .0 ∙ (c .before .before .before .before .before .before .before .before .before .before .before .before .before .before .read2) .kept .1 .1 .0 ∙ (c .before .before .before .before .before .before .before .before .before .before .before .before .before .before .before .before .before .before .before .before .before .before .before .before .read) .kept .1 .1 .0
+read-same-length-5 t c =
+    let put-pair = c .before .before .before .before .put-pair in
+    let read2 = c .before .before .before .before .before .before .before .before .before .before .before .before .before .before .read2 in
+    let read = c .before .before .before .before .before .before .before .before .before .before .before .before .before .before .before .before .before .before .before .before .before .before .before .before .read in
+    put-pair .kept .0 ∙ read2 .kept .1 .1 .0 ∙ read .kept .1 .1 .0
 
 read-same-length-6 : (t : ℕ) → read-lts.Need-same-length-6 (cs t) (read-at t) read.Post
-read-same-length-6 t c = (c .before .before .before .before .put-pair) .kept .1 .0 ∙ (c .before .before .before .before .before .before .before .before .before .before .before .before .before .before .read2) .kept .1 .1 .1 .0 ∙ (c .before .before .before .before .before .before .before .before .before .before .before .before .before .before .before .before .before .before .before .before .before .before .before .before .read) .kept .1 .1 .1 .0
+read-same-length-6 t c =
+    let put-pair = c .before .before .before .before .put-pair in
+    let read2 = c .before .before .before .before .before .before .before .before .before .before .before .before .before .before .read2 in
+    let read = c .before .before .before .before .before .before .before .before .before .before .before .before .before .before .before .before .before .before .before .before .before .before .before .before .read in
+    put-pair .kept .1 .0 ∙ read2 .kept .1 .1 .1 .0 ∙ read .kept .1 .1 .1 .0
 
 read-returns-3 : (t : ℕ) → read-lts.Need-returns-3 (cs t) (read-at t) read.Post
-read-returns-3 t c = both-read _ _ _ _ _ _ ((c .before .before .before .before .put-pair) .last .0) ((c .before .before .before .before .put-pair) .last .1 .0) _ _ _ _ _ _ _ _ ((c .before .before .before .before .put-pair) .result) (as-term ((c .before .before .before .before .before .before .before .before .before .before .before .before .before .before .before .before .before .before .before .before .before .before .before .before .before .before .before .before .before .before .before .before .before .before .args) .index .now) ((c .before .before .before .before .before .before .before .before .before .before .before .before .before .before .before .before .before .before .before .before .before .before .before .before .before .before .before .before .before .before .before .before .before .before .args) .words .now) ((c .before .before .before .before .before .before .before .before .before .before .before .before .before .before .before .before .before .before .before .before .before .before .before .before .read) .last .1 .1 .0) ((c .before .before .before .before .before .before .before .before .before .before .before .before .before .before .before .before .before .before .before .before .before .before .before .before .read) .last .1 .1 .1 .0) ((c .before .before .before .before .before .before .before .before .before .before .before .before .before .before .before .before .before .before .before .before .before .before .before .before .before .before .before .before .before .before .before .before .before .before .args) .mark) ((c .before .before .before .before .before .before .before .before .before .before .before .before .before .before .before .before .before .before .before .before .before .before .before .before .before .before .before .before .before .before .before .before .before .before .args) .at + 1) ((c .before .before .before .before .before .before .before .before .before .before .before .before .before .before .before .before .before .before .before .before .before .before .before .before .read) .result) ((c .before .before .before .before .before .before .before .before .before .before .before .before .before .before .before .before .before .before .before .before .before .before .before .before .read) .ensures) _ _ _ ((c .before .before .before .before .before .before .before .before .before .before .before .before .before .before .before .before .before .before .a) .given .1)) (as-term ((c .before .before .before .before .before .before .before .before .before .before .before .before .before .before .before .before .before .before .before .before .before .before .before .before .read) .last .1 .1 .0) ((c .before .before .before .before .before .before .before .before .before .before .before .before .before .before .before .before .before .before .before .before .before .before .before .before .read) .last .1 .1 .1 .0) ((c .before .before .before .before .before .before .before .before .before .before .before .before .before .before .read2) .last .1 .1 .0) ((c .before .before .before .before .before .before .before .before .before .before .before .before .before .before .read2) .last .1 .1 .1 .0) ((c .before .before .before .before .before .before .before .before .before .before .before .before .before .before .before .before .before .before .a) .given .0 .1 .1 .0) ((c .before .before .before .before .before .before .before .before .before .before .before .before .before .before .before .before .before .before .a) .given .0 .1 .0) ((c .before .before .before .before .before .before .before .before .before .before .before .before .before .before .read2) .result) ((c .before .before .before .before .before .before .before .before .before .before .before .before .before .before .read2) .ensures) _ _ _ ((c .before .before .before .before .before .before .before .before .b) .given .1)) ((c .before .before .before .before .put-pair) .ensures)
+read-returns-3 t c =
+    let put-pair = c .before .before .before .before .put-pair in
+    let mid = c .before .before .before .before .before .before .before .before .before .before .before .before .before .before .before .before .before .before .before .before .before .before .before .before .before in
+    let args = mid .before .before .before .before .before .before .before .before .before .args in
+    let read = c .before .before .before .before .before .before .before .before .before .before .before .before .before .before .before .before .before .before .before .before .before .before .before .before .read in
+    let a = c .before .before .before .before .before .before .before .before .before .before .before .before .before .before .before .before .before .before .a in
+    let read2 = c .before .before .before .before .before .before .before .before .before .before .before .before .before .before .read2 in
+    let b = c .before .before .before .before .before .before .before .before .b in
+    both-read _ _ _ _ _ _ (put-pair .last .0) (put-pair .last .1 .0) _ _ _ _ _ _ _ _ (put-pair .result)
+    (as-term (args .index .now) (args .words .now) (read .last .1 .1 .0) (read .last .1 .1 .1 .0) (args .mark) (args .at + 1)
+    (read .result) (read .ensures) _ _ _ (a .given .1))
+    (as-term (read .last .1 .1 .0) (read .last .1 .1 .1 .0) (read2 .last .1 .1 .0) (read2 .last .1 .1 .1 .0) (a .given .0 .1 .1 .0)
+    (a .given .0 .1 .0) (read2 .result) (read2 .ensures) _ _ _ (b .given .1)) (put-pair .ensures)
 
 read-same-length-7 : (t : ℕ) → read-lts.Need-same-length-7 (cs t) (read-at t) read.Post
 read-same-length-7 t c = (c .before .before .before .before .before .before .before .read2) .kept .1 .1 .0 ∙ (c .before .before .before .before .before .before .before .before .before .before .before .before .before .before .before .before .before .read) .kept .1 .1 .0
@@ -103,7 +162,18 @@ read-same-length-8 : (t : ℕ) → read-lts.Need-same-length-8 (cs t) (read-at t
 read-same-length-8 t c = (c .before .before .before .before .before .before .before .read2) .kept .1 .1 .1 .0 ∙ (c .before .before .before .before .before .before .before .before .before .before .before .before .before .before .before .before .before .read) .kept .1 .1 .1 .0
 
 read-returns-4 : (t : ℕ) → read-lts.Need-returns-4 (cs t) (read-at t) read.Post
-read-returns-4 t c = grown-then _ _ _ _ _ _ _ _ _ ((as-term ((c .before .before .before .before .before .before .before .before .before .before .before .before .before .before .before .before .before .before .before .before .before .before .before .before .before .before .before .args) .index .now) ((c .before .before .before .before .before .before .before .before .before .before .before .before .before .before .before .before .before .before .before .before .before .before .before .before .before .before .before .args) .words .now) ((c .before .before .before .before .before .before .before .before .before .before .before .before .before .before .before .before .before .read) .last .1 .1 .0) ((c .before .before .before .before .before .before .before .before .before .before .before .before .before .before .before .before .before .read) .last .1 .1 .1 .0) ((c .before .before .before .before .before .before .before .before .before .before .before .before .before .before .before .before .before .before .before .before .before .before .before .before .before .before .before .args) .mark) ((c .before .before .before .before .before .before .before .before .before .before .before .before .before .before .before .before .before .before .before .before .before .before .before .before .before .before .before .args) .at + 1) ((c .before .before .before .before .before .before .before .before .before .before .before .before .before .before .before .before .before .read) .result) ((c .before .before .before .before .before .before .before .before .before .before .before .before .before .before .before .before .before .read) .ensures) _ _ _ ((c .before .before .before .before .before .before .before .before .before .before .before .a) .given .1)) .0 .grown) (as-full ((c .before .before .before .before .before .before .before .before .before .before .before .before .before .before .before .before .before .read) .last .1 .1 .0) ((c .before .before .before .before .before .before .before .before .before .before .before .before .before .before .before .before .before .read) .last .1 .1 .1 .0) ((c .before .before .before .before .before .before .before .read2) .last .1 .1 .0) ((c .before .before .before .before .before .before .before .read2) .last .1 .1 .1 .0) ((c .before .before .before .before .before .before .before .before .before .before .before .a) .given .0 .1 .1 .0) ((c .before .before .before .before .before .before .before .before .before .before .before .a) .given .0 .1 .0) ((c .before .before .before .before .before .before .before .read2) .result) ((c .before .before .before .before .before .before .before .read2) .ensures) _ ((c .before .k) .given .1))
+read-returns-4 t c =
+    let mid = c .before .before .before .before .before .before .before .before .before .before .before .before .before .before .before .before .before .before .before .before .before .before .before .before .before in
+    let args = mid .before .before .args in
+    let read = c .before .before .before .before .before .before .before .before .before .before .before .before .before .before .before .before .before .read in
+    let a = c .before .before .before .before .before .before .before .before .before .before .before .a in
+    let read2 = c .before .before .before .before .before .before .before .read2 in
+    let k = c .before .k in
+    grown-then _ _ _ _ _ _ _ _ _
+    ((as-term (args .index .now) (args .words .now) (read .last .1 .1 .0) (read .last .1 .1 .1 .0) (args .mark) (args .at + 1)
+    (read .result) (read .ensures) _ _ _ (a .given .1)) .0 .grown)
+    (as-full (read .last .1 .1 .0) (read .last .1 .1 .1 .0) (read2 .last .1 .1 .0) (read2 .last .1 .1 .1 .0) (a .given .0 .1 .1 .0)
+    (a .given .0 .1 .0) (read2 .result) (read2 .ensures) _ (k .given .1))
 
 read-same-length-9 : (t : ℕ) → read-lts.Need-same-length-9 (cs t) (read-at t) read.Post
 read-same-length-9 t c = (c .before .before .before .before .before .before .before .read) .kept .1 .1 .0
@@ -112,7 +182,12 @@ read-same-length-10 : (t : ℕ) → read-lts.Need-same-length-10 (cs t) (read-at
 read-same-length-10 t c = (c .before .before .before .before .before .before .before .read) .kept .1 .1 .1 .0
 
 read-returns-5 : (t : ℕ) → read-lts.Need-returns-5 (cs t) (read-at t) read.Post
-read-returns-5 t c = as-full ((c .before .before .before .before .before .before .before .before .before .before .before .before .before .before .before .before .before .args) .index .now) ((c .before .before .before .before .before .before .before .before .before .before .before .before .before .before .before .before .before .args) .words .now) ((c .before .before .before .before .before .before .before .read) .last .1 .1 .0) ((c .before .before .before .before .before .before .before .read) .last .1 .1 .1 .0) ((c .before .before .before .before .before .before .before .before .before .before .before .before .before .before .before .before .before .args) .mark) ((c .before .before .before .before .before .before .before .before .before .before .before .before .before .before .before .before .before .args) .at + 1) ((c .before .before .before .before .before .before .before .read) .result) ((c .before .before .before .before .before .before .before .read) .ensures) _ ((c .before .m) .given .1)
+read-returns-5 t c =
+    let args = c .before .before .before .before .before .before .before .before .before .before .before .before .before .before .before .before .before .args in
+    let read = c .before .before .before .before .before .before .before .read in
+    let m = c .before .m in
+    as-full (args .index .now) (args .words .now) (read .last .1 .1 .0) (read .last .1 .1 .1 .0) (args .mark) (args .at + 1) (read .result)
+    (read .ensures) _ (m .given .1)
 
 pub +read-spec : {M : Type 1} → statement M
 +read-spec = close μ-read λ t. read-lts.spec (cs t)

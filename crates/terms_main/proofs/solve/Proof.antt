@@ -16,7 +16,36 @@ enum-known-m : tie.Need-enum-known-m
 enum-known-m c = search needs
 
 show-found-requires : tie.Need-show-found-requires
-show-found-requires c κs = (((as-found ((c .before .before .before .before .before .before .before .before .before .before .before .before .before .before .before .before .before .before .before .before .before .before .before .before .before .before .before .before .before .before .before .before .before .before .before .before .args) .index .now) ((c .before .before .before .before .before .before .before .before .before .before .before .before .before .before .before .before .before .before .before .before .before .before .before .before .before .before .before .before .before .before .before .before .before .before .before .before .args) .words .now) ((c .before .before .before .before .before .before .before .before .before .before .before .before .before .before .before .before .before .before .before .before .before .unify) .last .0) ((c .before .before .before .before .before .before .before .before .before .before .before .before .before .before .before .before .before .before .before .before .before .unify) .last .1 .0) ((c .before .before .before .before .before .before .before .before .before .before .before .before .before .before .before .before .before .before .before .before .before .before .before .before .before .before .before .before .before .before .before .before .before .before .before .before .args) .mark) ((c .before .before .before .before .before .before .before .before .before .before .before .before .before .before .before .before .before .before .before .before .before .unify) .last .1 .1 .1 .1 .1 .1 .0) _ ((c .before .before .before .before .before .before .before .before .before .before .before .before .before .before .before .before .before .before .before .before .before .unify) .result) ((c .before .before .before .before .before .before .before .before .before .before .before .before .before .before .before .before .before .before .before .before .before .unify) .ensures .0) _ ((c .before .before .before .before .before .m) .given .1)) .grown .good, (as-found ((c .before .before .before .before .before .before .before .before .before .before .before .before .before .before .before .before .before .before .before .before .before .before .before .before .before .before .before .before .before .before .before .before .before .before .before .before .args) .index .now) ((c .before .before .before .before .before .before .before .before .before .before .before .before .before .before .before .before .before .before .before .before .before .before .before .before .before .before .before .before .before .before .before .before .before .before .before .before .args) .words .now) ((c .before .before .before .before .before .before .before .before .before .before .before .before .before .before .before .before .before .before .before .before .before .unify) .last .0) ((c .before .before .before .before .before .before .before .before .before .before .before .before .before .before .before .before .before .before .before .before .before .unify) .last .1 .0) ((c .before .before .before .before .before .before .before .before .before .before .before .before .before .before .before .before .before .before .before .before .before .before .before .before .before .before .before .before .before .before .before .before .before .before .before .before .args) .mark) ((c .before .before .before .before .before .before .before .before .before .before .before .before .before .before .before .before .before .before .before .before .before .unify) .last .1 .1 .1 .1 .1 .1 .0) _ ((c .before .before .before .before .before .before .before .before .before .before .before .before .before .before .before .before .before .before .before .before .before .unify) .result) ((c .before .before .before .before .before .before .before .before .before .before .before .before .before .before .before .before .before .before .before .before .before .unify) .ensures .0) _ ((c .before .before .before .before .before .m) .given .1)) .cells, omega (arith, (c .before .before .before .before .before .before .before .before .before .before .before .before .before .before .before .before .before .before .before .before .before .before .before .before .before .before .before .before .before .before .before .before .before .before .before .before .pre) .left .there, (as-found ((c .before .before .before .before .before .before .before .before .before .before .before .before .before .before .before .before .before .before .before .before .before .before .before .before .before .before .before .before .before .before .before .before .before .before .before .before .args) .index .now) ((c .before .before .before .before .before .before .before .before .before .before .before .before .before .before .before .before .before .before .before .before .before .before .before .before .before .before .before .before .before .before .before .before .before .before .before .before .args) .words .now) ((c .before .before .before .before .before .before .before .before .before .before .before .before .before .before .before .before .before .before .before .before .before .unify) .last .0) ((c .before .before .before .before .before .before .before .before .before .before .before .before .before .before .before .before .before .before .before .before .before .unify) .last .1 .0) ((c .before .before .before .before .before .before .before .before .before .before .before .before .before .before .before .before .before .before .before .before .before .before .before .before .before .before .before .before .before .before .before .before .before .before .before .before .args) .mark) ((c .before .before .before .before .before .before .before .before .before .before .before .before .before .before .before .before .before .before .before .before .before .unify) .last .1 .1 .1 .1 .1 .1 .0) _ ((c .before .before .before .before .before .before .before .before .before .before .before .before .before .before .before .before .before .before .before .before .before .unify) .result) ((c .before .before .before .before .before .before .before .before .before .before .before .before .before .before .before .before .before .before .before .before .before .unify) .ensures .0) _ ((c .before .before .before .before .before .m) .given .1)) .grown .more), omega (arith, (c .before .before .before .before .before .before .before .before .before .before .before .before .before .before .before .before .before .before .before .before .before .before .before .before .before .before .before .before .before .before .before .before .before .before .before .before .pre) .right .there, (as-found ((c .before .before .before .before .before .before .before .before .before .before .before .before .before .before .before .before .before .before .before .before .before .before .before .before .before .before .before .before .before .before .before .before .before .before .before .before .args) .index .now) ((c .before .before .before .before .before .before .before .before .before .before .before .before .before .before .before .before .before .before .before .before .before .before .before .before .before .before .before .before .before .before .before .before .before .before .before .before .args) .words .now) ((c .before .before .before .before .before .before .before .before .before .before .before .before .before .before .before .before .before .before .before .before .before .unify) .last .0) ((c .before .before .before .before .before .before .before .before .before .before .before .before .before .before .before .before .before .before .before .before .before .unify) .last .1 .0) ((c .before .before .before .before .before .before .before .before .before .before .before .before .before .before .before .before .before .before .before .before .before .before .before .before .before .before .before .before .before .before .before .before .before .before .before .before .args) .mark) ((c .before .before .before .before .before .before .before .before .before .before .before .before .before .before .before .before .before .before .before .before .before .unify) .last .1 .1 .1 .1 .1 .1 .0) _ ((c .before .before .before .before .before .before .before .before .before .before .before .before .before .before .before .before .before .before .before .before .before .unify) .result) ((c .before .before .before .before .before .before .before .before .before .before .before .before .before .before .before .before .before .before .before .before .before .unify) .ensures .0) _ ((c .before .before .before .before .before .m) .given .1)) .grown .more)), (omega (arith, (c .before .before .before .before .before .before .before .before .before .before .before .before .before .before .before .before .before .before .before .before .before .before .before .before .before .before .before .before .before .before .before .before .before .before .before .before .pre) .scratch .memos, ap length ((c .before .before .before .before .before .before .before .before .before .before .before .before .before .before .before .before .before .before .before .before .before .unify) .ensures .1 .1)), subst Zeros (sym ((c .before .before .before .before .before .before .before .before .before .before .before .before .before .before .before .before .before .before .before .before .before .unify) .ensures .1 .1)) ((c .before .before .before .before .before .before .before .before .before .before .before .before .before .before .before .before .before .before .before .before .before .before .before .before .before .before .before .before .before .before .before .before .before .before .before .before .pre) .scratch .no-memos)))
+show-found-requires c κs =
+    let mid = c .before .before .before .before .before .before .before .before .before .before .before .before .before .before .before .before .before .before .before .before .before .before .before .before .before in
+    let args = mid .before .before .before .before .before .before .before .before .before .before .before .args in
+    let unify = c .before .before .before .before .before .before .before .before .before .before .before .before .before .before .before .before .before .before .before .before .before .unify in
+    let m = c .before .before .before .before .before .m in
+    let pre = mid .before .before .before .before .before .before .before .before .before .before .before .pre in (
+      (
+        (as-found (args .index .now) (args .words .now) (unify .last .0) (unify .last .1 .0) (args .mark) (unify .last .1 .1 .1 .1 .1 .1 .0) _
+            (unify .result) (unify .ensures .0) _ (m .given .1)) .grown .good,
+        (as-found (args .index .now) (args .words .now) (unify .last .0) (unify .last .1 .0) (args .mark)
+            (unify .last .1 .1 .1 .1 .1 .1 .0) _ (unify .result) (unify .ensures .0) _ (m .given .1)) .cells,
+        omega (
+          arith,
+          pre .left .there,
+          (as-found (args .index .now) (args .words .now) (unify .last .0) (unify .last .1 .0) (args .mark)
+              (unify .last .1 .1 .1 .1 .1 .1 .0) _ (unify .result) (unify .ensures .0) _ (m .given .1)) .grown .more,
+        ),
+        omega (
+          arith,
+          pre .right .there,
+          (as-found (args .index .now) (args .words .now) (unify .last .0) (unify .last .1 .0) (args .mark)
+              (unify .last .1 .1 .1 .1 .1 .1 .0) _ (unify .result) (unify .ensures .0) _ (m .given .1)) .grown .more,
+        ),
+      ),
+      (
+        omega (arith, pre .scratch .memos, ap length (unify .ensures .1 .1)),
+        subst Zeros (sym (unify .ensures .1 .1))
+            (pre .scratch .no-memos),
+      ),
+    )
 
 wipe-requires : tie.Need-wipe-requires
 wipe-requires c κs = search needs
@@ -40,28 +69,68 @@ write-all-requires-2 : tie.Need-write-all-requires-2
 write-all-requires-2 c κs = search needs
 
 same-length : tie.Need-same-length
-same-length c = (c .before .before .before .before .before .before .before .before .before .before .show-found) .kept .0 ∙ (c .before .before .before .before .before .before .before .before .before .before .before .before .before .before .before .before .before .before .before .before .before .before .before .before .before .before .before .before .before .before .before .before .unify) .kept .0
+same-length c =
+    let show-found = c .before .before .before .before .before .before .before .before .before .before .show-found in
+    let mid = c .before .before .before .before .before .before .before .before .before .before .before .before .before .before .before .before .before .before .before .before .before .before .before .before .before in
+    let unify = mid .before .before .before .before .before .before .before .unify in
+    show-found .kept .0 ∙ unify .kept .0
 
 same-length-2 : tie.Need-same-length-2
-same-length-2 c = (c .before .before .before .before .before .before .before .before .before .before .show-found) .kept .1 .0 ∙ (c .before .before .before .before .before .before .before .before .before .before .before .before .before .before .before .before .before .before .before .before .before .before .before .before .before .before .before .before .before .before .before .before .unify) .kept .1 .0
+same-length-2 c =
+    let show-found = c .before .before .before .before .before .before .before .before .before .before .show-found in
+    let mid = c .before .before .before .before .before .before .before .before .before .before .before .before .before .before .before .before .before .before .before .before .before .before .before .before .before in
+    let unify = mid .before .before .before .before .before .before .before .unify in
+    show-found .kept .1 .0 ∙ unify .kept .1 .0
 
 same-length-3 : tie.Need-same-length-3
-same-length-3 c = (c .before .before .wipe) .kept .0 ∙ (c .before .before .before .before .before .before .before .before .before .before .before .before .before .before .before .before .before .before .before .before .before .before .before .before .before .before .before .before .before .before .before .before .unify) .kept .1 .1 .1 .1 .1 .1 .0
+same-length-3 c =
+    let wipe = c .before .before .wipe in
+    let mid = c .before .before .before .before .before .before .before .before .before .before .before .before .before .before .before .before .before .before .before .before .before .before .before .before .before in
+    let unify = mid .before .before .before .before .before .before .before .unify in
+    wipe .kept .0 ∙ unify .kept .1 .1 .1 .1 .1 .1 .0
 
 same-length-4 : tie.Need-same-length-4
-same-length-4 c = (c .before .before .before .before .before .before .before .before .before .before .before .before .before .before .before .before .before .before .before .before .before .before .before .before .before .before .before .before .before .before .before .before .unify) .kept .1 .1 .1 .1 .1 .1 .1 .0
+same-length-4 c =
+    let mid = c .before .before .before .before .before .before .before .before .before .before .before .before .before .before .before .before .before .before .before .before .before .before .before .before .before in
+    let unify = mid .before .before .before .before .before .before .before .unify in
+    unify .kept .1 .1 .1 .1 .1 .1 .1 .0
 
 same-length-5 : tie.Need-same-length-5
-same-length-5 c = (c .before .before .before .before .before .before .before .before .before .before .show-found) .kept .1 .1 .1 .1 .0 ∙ (c .before .before .before .before .before .before .before .before .before .before .before .before .before .before .before .before .before .before .before .before .before .before .before .before .before .before .before .before .before .before .before .before .unify) .kept .1 .1 .1 .1 .1 .1 .1 .1 .0
+same-length-5 c =
+    let show-found = c .before .before .before .before .before .before .before .before .before .before .show-found in
+    let mid = c .before .before .before .before .before .before .before .before .before .before .before .before .before .before .before .before .before .before .before .before .before .before .before .before .before in
+    let unify = mid .before .before .before .before .before .before .before .unify in
+    show-found .kept .1 .1 .1 .1 .0 ∙ unify .kept .1 .1 .1 .1 .1 .1 .1 .1 .0
 
 same-length-6 : tie.Need-same-length-6
-same-length-6 c = (c .before .before .before .before .before .before .before .before .before .before .before .before .before .before .before .before .before .before .before .before .before .before .before .before .before .before .before .before .before .before .before .before .unify) .kept .1 .1 .1 .1 .1 .1 .1 .1 .1 .0
+same-length-6 c =
+    let mid = c .before .before .before .before .before .before .before .before .before .before .before .before .before .before .before .before .before .before .before .before .before .before .before .before .before in
+    let unify = mid .before .before .before .before .before .before .before .unify in
+    unify .kept .1 .1 .1 .1 .1 .1 .1 .1 .1 .0
 
 same-length-7 : tie.Need-same-length-7
-same-length-7 c = (c .before .before .before .before .before .before .before .before .before .before .before .before .before .before .before .before .before .before .before .before .before .before .before .before .before .before .before .before .before .before .before .before .unify) .kept .1 .1 .1 .1 .1 .1 .1 .1 .1 .1 .0
+same-length-7 c =
+    let mid = c .before .before .before .before .before .before .before .before .before .before .before .before .before .before .before .before .before .before .before .before .before .before .before .before .before in
+    let unify = mid .before .before .before .before .before .before .before .unify in
+    unify .kept .1 .1 .1 .1 .1 .1 .1 .1 .1 .1 .0
 
 returns : tie.Need-returns
-returns c = record { good = (c .before .before .before .before .before .before .before .before .before .before .show-found) .ensures .0; scratch = scratch-again _ _ _ _ _ _ _ _ _ _ ((c .before .before .before .before .before .before .before .before .before .before .before .before .before .before .before .before .before .before .before .before .before .before .before .before .before .before .before .before .before .before .before .before .before .before .before .before .before .before .before .before .before .before .before .before .before .before .before .pre) .scratch) (wiped ((c .before .before .before .before .before .before .before .before .before .before .before .before .before .before .before .before .before .before .before .before .before .before .before .before .before .before .before .before .before .before .before .before .unify) .last .1 .1 .1 .1 .1 .1 .0) ((c .before .before .wipe) .last .0) VARIABLES ((c .before .before .wipe) .ensures) ((as-found ((c .before .before .before .before .before .before .before .before .before .before .before .before .before .before .before .before .before .before .before .before .before .before .before .before .before .before .before .before .before .before .before .before .before .before .before .before .before .before .before .before .before .before .before .before .before .before .before .args) .index .now) ((c .before .before .before .before .before .before .before .before .before .before .before .before .before .before .before .before .before .before .before .before .before .before .before .before .before .before .before .before .before .before .before .before .before .before .before .before .before .before .before .before .before .before .before .before .before .before .before .args) .words .now) ((c .before .before .before .before .before .before .before .before .before .before .before .before .before .before .before .before .before .before .before .before .before .before .before .before .before .before .before .before .before .before .before .before .unify) .last .0) ((c .before .before .before .before .before .before .before .before .before .before .before .before .before .before .before .before .before .before .before .before .before .before .before .before .before .before .before .before .before .before .before .before .unify) .last .1 .0) ((c .before .before .before .before .before .before .before .before .before .before .before .before .before .before .before .before .before .before .before .before .before .before .before .before .before .before .before .before .before .before .before .before .before .before .before .before .before .before .before .before .before .before .before .before .before .before .before .args) .mark) ((c .before .before .before .before .before .before .before .before .before .before .before .before .before .before .before .before .before .before .before .before .before .before .before .before .before .before .before .before .before .before .before .before .unify) .last .1 .1 .1 .1 .1 .1 .0) _ ((c .before .before .before .before .before .before .before .before .before .before .before .before .before .before .before .before .before .before .before .before .before .before .before .before .before .before .before .before .before .before .before .before .unify) .result) ((c .before .before .before .before .before .before .before .before .before .before .before .before .before .before .before .before .before .before .before .before .before .before .before .before .before .before .before .before .before .before .before .before .unify) .ensures .0) _ ((c .before .before .before .before .before .before .before .before .before .before .before .before .before .before .before .before .m) .given .1)) .cells .long)) ((c .before .before .before .before .before .before .before .before .before .before .before .before .before .before .before .before .before .before .before .before .before .before .before .before .before .before .before .before .before .before .before .before .unify) .ensures .1 .0) ((c .before .before .before .before .before .before .before .before .before .before .show-found) .ensures .1 ∙ (c .before .before .before .before .before .before .before .before .before .before .before .before .before .before .before .before .before .before .before .before .before .before .before .before .before .before .before .before .before .before .before .before .unify) .ensures .1 .1) ((c .before .before .before .before .before .before .before .before .before .before .before .before .before .before .before .before .before .before .before .before .before .before .before .before .before .before .before .before .before .before .before .before .unify) .ensures .1 .2) ((c .before .before .before .before .before .before .before .before .before .before .before .before .before .before .before .before .before .before .before .before .before .before .before .before .before .before .before .before .before .before .before .before .unify) .ensures .1 .3) }
+returns c =
+    let show-found = c .before .before .before .before .before .before .before .before .before .before .show-found in
+    let mid = c .before .before .before .before .before .before .before .before .before .before .before .before .before .before .before .before .before .before .before .before .before .before .before .before .before in
+    let pre = mid .before .before .before .before .before .before .before .before .before .before .before .before .before .before .before .before .before .before .before .before .before .before .pre in
+    let unify = mid .before .before .before .before .before .before .before .unify in
+    let wipe = c .before .before .wipe in
+    let args = mid .before .before .before .before .before .before .before .before .before .before .before .before .before .before .before .before .before .before .before .before .before .before .args in
+    let m = c .before .before .before .before .before .before .before .before .before .before .before .before .before .before .before .before .m in
+    record {
+      good = show-found .ensures .0;
+      scratch = scratch-again _ _ _ _ _ _ _ _ _ _ (pre .scratch)
+          (wiped (unify .last .1 .1 .1 .1 .1 .1 .0) (wipe .last .0) VARIABLES (wipe .ensures)
+          ((as-found (args .index .now) (args .words .now) (unify .last .0) (unify .last .1 .0) (args .mark)
+          (unify .last .1 .1 .1 .1 .1 .1 .0) _ (unify .result) (unify .ensures .0) _ (m .given .1)) .cells .long))
+          (unify .ensures .1 .0) (show-found .ensures .1 ∙ unify .ensures .1 .1) (unify .ensures .1 .2) (unify .ensures .1 .3);
+    }
 
 same-length-8 : tie.Need-same-length-8
 same-length-8 c = (c .before .before .before .before .before .before .before .before .before .before .before .before .before .before .before .before .before .before .before .unify) .kept .0
@@ -85,7 +154,26 @@ same-length-14 : tie.Need-same-length-14
 same-length-14 c = (c .before .before .before .before .before .before .before .before .before .before .before .before .before .before .before .before .before .before .before .unify) .kept .1 .1 .1 .1 .1 .1 .1 .1 .1 .1 .0
 
 returns-2 : tie.Need-returns-2
-returns-2 c = record { good = (as-apart ((c .before .before .before .before .before .before .before .before .before .before .before .before .before .before .before .before .before .before .before .before .before .before .before .before .before .before .before .before .before .before .before .before .before .before .args) .index .now) ((c .before .before .before .before .before .before .before .before .before .before .before .before .before .before .before .before .before .before .before .before .before .before .before .before .before .before .before .before .before .before .before .before .before .before .args) .words .now) ((c .before .before .before .before .before .before .before .before .before .before .before .before .before .before .before .before .before .before .before .unify) .last .0) ((c .before .before .before .before .before .before .before .before .before .before .before .before .before .before .before .before .before .before .before .unify) .last .1 .0) ((c .before .before .before .before .before .before .before .before .before .before .before .before .before .before .before .before .before .before .before .before .before .before .before .before .before .before .before .before .before .before .before .before .before .before .args) .mark) ((c .before .before .before .before .before .before .before .before .before .before .before .before .before .before .before .before .before .before .before .unify) .last .1 .1 .1 .1 .1 .1 .0) _ ((c .before .before .before .before .before .before .before .before .before .before .before .before .before .before .before .before .before .before .before .unify) .result) ((c .before .before .before .before .before .before .before .before .before .before .before .before .before .before .before .before .before .before .before .unify) .ensures .0) _ ((c .before .before .before .m2) .given .1)) .0; scratch = scratch-again _ _ _ _ _ _ _ _ _ _ ((c .before .before .before .before .before .before .before .before .before .before .before .before .before .before .before .before .before .before .before .before .before .before .before .before .before .before .before .before .before .before .before .before .before .before .pre) .scratch) (((as-apart ((c .before .before .before .before .before .before .before .before .before .before .before .before .before .before .before .before .before .before .before .before .before .before .before .before .before .before .before .before .before .before .before .before .before .before .args) .index .now) ((c .before .before .before .before .before .before .before .before .before .before .before .before .before .before .before .before .before .before .before .before .before .before .before .before .before .before .before .before .before .before .before .before .before .before .args) .words .now) ((c .before .before .before .before .before .before .before .before .before .before .before .before .before .before .before .before .before .before .before .unify) .last .0) ((c .before .before .before .before .before .before .before .before .before .before .before .before .before .before .before .before .before .before .before .unify) .last .1 .0) ((c .before .before .before .before .before .before .before .before .before .before .before .before .before .before .before .before .before .before .before .before .before .before .before .before .before .before .before .before .before .before .before .before .before .before .args) .mark) ((c .before .before .before .before .before .before .before .before .before .before .before .before .before .before .before .before .before .before .before .unify) .last .1 .1 .1 .1 .1 .1 .0) _ ((c .before .before .before .before .before .before .before .before .before .before .before .before .before .before .before .before .before .before .before .unify) .result) ((c .before .before .before .before .before .before .before .before .before .before .before .before .before .before .before .before .before .before .before .unify) .ensures .0) _ ((c .before .before .before .m2) .given .1)) .1, (as-apart ((c .before .before .before .before .before .before .before .before .before .before .before .before .before .before .before .before .before .before .before .before .before .before .before .before .before .before .before .before .before .before .before .before .before .before .args) .index .now) ((c .before .before .before .before .before .before .before .before .before .before .before .before .before .before .before .before .before .before .before .before .before .before .before .before .before .before .before .before .before .before .before .before .before .before .args) .words .now) ((c .before .before .before .before .before .before .before .before .before .before .before .before .before .before .before .before .before .before .before .unify) .last .0) ((c .before .before .before .before .before .before .before .before .before .before .before .before .before .before .before .before .before .before .before .unify) .last .1 .0) ((c .before .before .before .before .before .before .before .before .before .before .before .before .before .before .before .before .before .before .before .before .before .before .before .before .before .before .before .before .before .before .before .before .before .before .args) .mark) ((c .before .before .before .before .before .before .before .before .before .before .before .before .before .before .before .before .before .before .before .unify) .last .1 .1 .1 .1 .1 .1 .0) _ ((c .before .before .before .before .before .before .before .before .before .before .before .before .before .before .before .before .before .before .before .unify) .result) ((c .before .before .before .before .before .before .before .before .before .before .before .before .before .before .before .before .before .before .before .unify) .ensures .0) _ ((c .before .before .before .m2) .given .1)) .2)) ((c .before .before .before .before .before .before .before .before .before .before .before .before .before .before .before .before .before .before .before .unify) .ensures .1 .0) ((c .before .before .before .before .before .before .before .before .before .before .before .before .before .before .before .before .before .before .before .unify) .ensures .1 .1) ((c .before .before .before .before .before .before .before .before .before .before .before .before .before .before .before .before .before .before .before .unify) .ensures .1 .2) ((c .before .before .before .before .before .before .before .before .before .before .before .before .before .before .before .before .before .before .before .unify) .ensures .1 .3) }
+returns-2 c =
+    let mid = c .before .before .before .before .before .before .before .before .before .before .before .before .before .before .before .before .before .before .before .before .before .before .before .before .before in
+    let args = mid .before .before .before .before .before .before .before .before .before .args in
+    let unify = c .before .before .before .before .before .before .before .before .before .before .before .before .before .before .before .before .before .before .before .unify in
+    let m2 = c .before .before .before .m2 in
+    let pre = mid .before .before .before .before .before .before .before .before .before .pre in
+    record {
+      good =
+          (as-apart (args .index .now) (args .words .now) (unify .last .0) (unify .last .1 .0) (args .mark)
+          (unify .last .1 .1 .1 .1 .1 .1 .0) _ (unify .result) (unify .ensures .0) _ (m2 .given .1)) .0;
+      scratch = scratch-again _ _
+          _ _ _ _ _ _ _ _ (pre .scratch)
+          ((
+            (as-apart (args .index .now) (args .words .now) (unify .last .0) (unify .last .1 .0) (args .mark)
+                (unify .last .1 .1 .1 .1 .1 .1 .0) _ (unify .result) (unify .ensures .0) _ (m2 .given .1)) .1,
+            (as-apart (args .index .now) (args .words .now) (unify .last .0) (unify .last .1 .0) (args .mark)
+                (unify .last .1 .1 .1 .1 .1 .1 .0) _ (unify .result) (unify .ensures .0) _ (m2 .given .1)) .2,
+          ))
+          (unify .ensures .1 .0) (unify .ensures .1 .1) (unify .ensures .1 .2) (unify .ensures .1 .3);
+    }
 
 same-length-15 : tie.Need-same-length-15
 same-length-15 c = (c .before .before .before .before .before .before .before .before .before .before .before .before .before .before .before .before .before .before .before .unify) .kept .0
@@ -109,7 +197,26 @@ same-length-21 : tie.Need-same-length-21
 same-length-21 c = (c .before .before .before .before .before .before .before .before .before .before .before .before .before .before .before .before .before .before .before .unify) .kept .1 .1 .1 .1 .1 .1 .1 .1 .1 .1 .0
 
 returns-3 : tie.Need-returns-3
-returns-3 c = record { good = (as-full ((c .before .before .before .before .before .before .before .before .before .before .before .before .before .before .before .before .before .before .before .before .before .before .before .before .before .before .before .before .before .before .before .before .before .before .args) .index .now) ((c .before .before .before .before .before .before .before .before .before .before .before .before .before .before .before .before .before .before .before .before .before .before .before .before .before .before .before .before .before .before .before .before .before .before .args) .words .now) ((c .before .before .before .before .before .before .before .before .before .before .before .before .before .before .before .before .before .before .before .unify) .last .0) ((c .before .before .before .before .before .before .before .before .before .before .before .before .before .before .before .before .before .before .before .unify) .last .1 .0) ((c .before .before .before .before .before .before .before .before .before .before .before .before .before .before .before .before .before .before .before .before .before .before .before .before .before .before .before .before .before .before .before .before .before .before .args) .mark) ((c .before .before .before .before .before .before .before .before .before .before .before .before .before .before .before .before .before .before .before .unify) .last .1 .1 .1 .1 .1 .1 .0) _ ((c .before .before .before .before .before .before .before .before .before .before .before .before .before .before .before .before .before .before .before .unify) .result) ((c .before .before .before .before .before .before .before .before .before .before .before .before .before .before .before .before .before .before .before .unify) .ensures .0) _ _ ((c .before .before .before .m3) .given .1)) .0; scratch = scratch-again _ _ _ _ _ _ _ _ _ _ ((c .before .before .before .before .before .before .before .before .before .before .before .before .before .before .before .before .before .before .before .before .before .before .before .before .before .before .before .before .before .before .before .before .before .before .pre) .scratch) (((as-full ((c .before .before .before .before .before .before .before .before .before .before .before .before .before .before .before .before .before .before .before .before .before .before .before .before .before .before .before .before .before .before .before .before .before .before .args) .index .now) ((c .before .before .before .before .before .before .before .before .before .before .before .before .before .before .before .before .before .before .before .before .before .before .before .before .before .before .before .before .before .before .before .before .before .before .args) .words .now) ((c .before .before .before .before .before .before .before .before .before .before .before .before .before .before .before .before .before .before .before .unify) .last .0) ((c .before .before .before .before .before .before .before .before .before .before .before .before .before .before .before .before .before .before .before .unify) .last .1 .0) ((c .before .before .before .before .before .before .before .before .before .before .before .before .before .before .before .before .before .before .before .before .before .before .before .before .before .before .before .before .before .before .before .before .before .before .args) .mark) ((c .before .before .before .before .before .before .before .before .before .before .before .before .before .before .before .before .before .before .before .unify) .last .1 .1 .1 .1 .1 .1 .0) _ ((c .before .before .before .before .before .before .before .before .before .before .before .before .before .before .before .before .before .before .before .unify) .result) ((c .before .before .before .before .before .before .before .before .before .before .before .before .before .before .before .before .before .before .before .unify) .ensures .0) _ _ ((c .before .before .before .m3) .given .1)) .1, (as-full ((c .before .before .before .before .before .before .before .before .before .before .before .before .before .before .before .before .before .before .before .before .before .before .before .before .before .before .before .before .before .before .before .before .before .before .args) .index .now) ((c .before .before .before .before .before .before .before .before .before .before .before .before .before .before .before .before .before .before .before .before .before .before .before .before .before .before .before .before .before .before .before .before .before .before .args) .words .now) ((c .before .before .before .before .before .before .before .before .before .before .before .before .before .before .before .before .before .before .before .unify) .last .0) ((c .before .before .before .before .before .before .before .before .before .before .before .before .before .before .before .before .before .before .before .unify) .last .1 .0) ((c .before .before .before .before .before .before .before .before .before .before .before .before .before .before .before .before .before .before .before .before .before .before .before .before .before .before .before .before .before .before .before .before .before .before .args) .mark) ((c .before .before .before .before .before .before .before .before .before .before .before .before .before .before .before .before .before .before .before .unify) .last .1 .1 .1 .1 .1 .1 .0) _ ((c .before .before .before .before .before .before .before .before .before .before .before .before .before .before .before .before .before .before .before .unify) .result) ((c .before .before .before .before .before .before .before .before .before .before .before .before .before .before .before .before .before .before .before .unify) .ensures .0) _ _ ((c .before .before .before .m3) .given .1)) .2)) ((c .before .before .before .before .before .before .before .before .before .before .before .before .before .before .before .before .before .before .before .unify) .ensures .1 .0) ((c .before .before .before .before .before .before .before .before .before .before .before .before .before .before .before .before .before .before .before .unify) .ensures .1 .1) ((c .before .before .before .before .before .before .before .before .before .before .before .before .before .before .before .before .before .before .before .unify) .ensures .1 .2) ((c .before .before .before .before .before .before .before .before .before .before .before .before .before .before .before .before .before .before .before .unify) .ensures .1 .3) }
+returns-3 c =
+    let mid = c .before .before .before .before .before .before .before .before .before .before .before .before .before .before .before .before .before .before .before .before .before .before .before .before .before in
+    let args = mid .before .before .before .before .before .before .before .before .before .args in
+    let unify = c .before .before .before .before .before .before .before .before .before .before .before .before .before .before .before .before .before .before .before .unify in
+    let m3 = c .before .before .before .m3 in
+    let pre = mid .before .before .before .before .before .before .before .before .before .pre in
+    record {
+      good =
+          (as-full (args .index .now) (args .words .now) (unify .last .0) (unify .last .1 .0) (args .mark)
+          (unify .last .1 .1 .1 .1 .1 .1 .0) _ (unify .result) (unify .ensures .0) _ _ (m3 .given .1)) .0;
+      scratch = scratch-again _
+          _ _ _ _ _ _ _ _ _ (pre .scratch)
+          ((
+            (as-full (args .index .now) (args .words .now) (unify .last .0) (unify .last .1 .0) (args .mark)
+                (unify .last .1 .1 .1 .1 .1 .1 .0) _ (unify .result) (unify .ensures .0) _ _ (m3 .given .1)) .1,
+            (as-full (args .index .now) (args .words .now) (unify .last .0) (unify .last .1 .0) (args .mark)
+                (unify .last .1 .1 .1 .1 .1 .1 .0) _ (unify .result) (unify .ensures .0) _ _ (m3 .given .1)) .2,
+          ))
+          (unify .ensures .1 .0) (unify .ensures .1 .1) (unify .ensures .1 .2) (unify .ensures .1 .3);
+    }
 
 pub solve-spec : {M : Type 1} → statement M
 solve-spec =

@@ -6,13 +6,23 @@ use Rattle.terms_main.proofs.show.show_under.Statement.{statement}
 use Rattle.terms_main.proofs.show.show_under.Tie as tie
 
 substitute-requires : tie.Need-substitute-requires
-substitute-requires c κs = ((c .before .before .before .before .before .before .before .before .pre) .0, (omega (arith, (c .before .before .before .before .before .before .before .before .pre) .1 .0, (c .before .before .before .before .before .before .before .before .pre) .0 .good .room), (c .before .before .before .before .before .before .before .before .pre) .1 .1))
+substitute-requires c κs =
+    let pre = c .before .before .before .before .before .before .before .before .pre in
+    (pre .0, (omega (arith, pre .1 .0, pre .0 .good .room), pre .1 .1))
 
 enum-known-n : tie.Need-enum-known-n
 enum-known-n c = search needs
 
 show-line-requires : tie.Need-show-line-requires
-show-line-requires c κs = (stored ((c .before .before .before .before .before .before .before .before .before .before .before .before .before .before .before .before .before .before .before .before .args) .index .now) ((c .before .before .before .before .before .before .before .before .before .before .before .before .before .before .before .before .before .before .before .before .args) .words .now) ((c .before .before .before .before .before .before .before .before .before .before .before .substitute) .last .0) ((c .before .before .before .before .before .before .before .before .before .before .before .substitute) .last .1 .0) ((c .before .before .before .before .before .before .before .before .before .before .before .before .before .before .before .before .before .before .before .before .args) .mark) _ _ ((c .before .before .before .before .before .before .before .before .before .before .before .substitute) .result) ((c .before .before .before .before .before .before .before .before .before .before .before .substitute) .ensures .0) _ _ ((c .before .before .before .n) .given .1) .grown .good, stored ((c .before .before .before .before .before .before .before .before .before .before .before .before .before .before .before .before .before .before .before .before .args) .index .now) ((c .before .before .before .before .before .before .before .before .before .before .before .before .before .before .before .before .before .before .before .before .args) .words .now) ((c .before .before .before .before .before .before .before .before .before .before .before .substitute) .last .0) ((c .before .before .before .before .before .before .before .before .before .before .before .substitute) .last .1 .0) ((c .before .before .before .before .before .before .before .before .before .before .before .before .before .before .before .before .before .before .before .before .args) .mark) _ _ ((c .before .before .before .before .before .before .before .before .before .before .before .substitute) .result) ((c .before .before .before .before .before .before .before .before .before .before .before .substitute) .ensures .0) _ _ ((c .before .before .before .n) .given .1) .there)
+show-line-requires c κs =
+    let args = c .before .before .before .before .before .before .before .before .before .before .before .before .before .before .before .before .before .before .before .before .args in
+    let substitute = c .before .before .before .before .before .before .before .before .before .before .before .substitute in
+    let n = c .before .before .before .n in (
+      stored (args .index .now) (args .words .now) (substitute .last .0) (substitute .last .1 .0) (args .mark) _ _ (substitute .result)
+          (substitute .ensures .0) _ _ (n .given .1) .grown .good,
+      stored (args .index .now) (args .words .now) (substitute .last .0)
+          (substitute .last .1 .0) (args .mark) _ _ (substitute .result) (substitute .ensures .0) _ _ (n .given .1) .there,
+    )
 
 enum-known-m : tie.Need-enum-known-m
 enum-known-m c = search needs
@@ -33,7 +43,14 @@ same-length-3 : tie.Need-same-length-3
 same-length-3 c = (c .before .before .before .before .before .before .before .before .before .before .before .before .substitute) .kept .1 .1 .1 .1 .0
 
 returns : tie.Need-returns
-returns c = (stored ((c .before .before .before .before .before .before .before .before .before .before .before .before .before .before .before .before .before .before .before .before .before .args) .index .now) ((c .before .before .before .before .before .before .before .before .before .before .before .before .before .before .before .before .before .before .before .before .before .args) .words .now) ((c .before .before .before .before .before .before .before .before .before .before .before .before .substitute) .last .0) ((c .before .before .before .before .before .before .before .before .before .before .before .before .substitute) .last .1 .0) ((c .before .before .before .before .before .before .before .before .before .before .before .before .before .before .before .before .before .before .before .before .before .args) .mark) _ _ ((c .before .before .before .before .before .before .before .before .before .before .before .before .substitute) .result) ((c .before .before .before .before .before .before .before .before .before .before .before .before .substitute) .ensures .0) _ _ ((c .before .before .before .before .n) .given .1) .grown, (c .before .before .before .before .before .before .before .before .before .before .before .before .substitute) .ensures .1)
+returns c =
+    let args = c .before .before .before .before .before .before .before .before .before .before .before .before .before .before .before .before .before .before .before .before .before .args in
+    let substitute = c .before .before .before .before .before .before .before .before .before .before .before .before .substitute in
+    let n = c .before .before .before .before .n in (
+      stored (args .index .now) (args .words .now) (substitute .last .0) (substitute .last .1 .0) (args .mark) _ _ (substitute .result)
+          (substitute .ensures .0) _ _ (n .given .1) .grown,
+      substitute .ensures .1,
+    )
 
 same-length-4 : tie.Need-same-length-4
 same-length-4 c = (c .before .before .before .before .before .before .before .before .before .before .before .substitute) .kept .0
@@ -45,7 +62,14 @@ same-length-6 : tie.Need-same-length-6
 same-length-6 c = (c .before .before .before .before .before .before .before .before .before .before .before .substitute) .kept .1 .1 .1 .1 .0
 
 returns-2 : tie.Need-returns-2
-returns-2 c = (unkept ((c .before .before .before .before .before .before .before .before .before .before .before .before .before .before .before .before .before .before .before .before .args) .index .now) ((c .before .before .before .before .before .before .before .before .before .before .before .before .before .before .before .before .before .before .before .before .args) .words .now) ((c .before .before .before .before .before .before .before .before .before .before .before .substitute) .last .0) ((c .before .before .before .before .before .before .before .before .before .before .before .substitute) .last .1 .0) ((c .before .before .before .before .before .before .before .before .before .before .before .before .before .before .before .before .before .before .before .before .args) .mark) _ _ ((c .before .before .before .before .before .before .before .before .before .before .before .substitute) .result) ((c .before .before .before .before .before .before .before .before .before .before .before .substitute) .ensures .0) _ _ ((c .before .before .before .m) .given .1), (c .before .before .before .before .before .before .before .before .before .before .before .substitute) .ensures .1)
+returns-2 c =
+    let args = c .before .before .before .before .before .before .before .before .before .before .before .before .before .before .before .before .before .before .before .before .args in
+    let substitute = c .before .before .before .before .before .before .before .before .before .before .before .substitute in
+    let m = c .before .before .before .m in (
+      unkept (args .index .now) (args .words .now) (substitute .last .0) (substitute .last .1 .0) (args .mark) _ _ (substitute .result)
+          (substitute .ensures .0) _ _ (m .given .1),
+      substitute .ensures .1,
+    )
 
 pub show-under-spec : {M : Type 1} → statement M
 show-under-spec =
