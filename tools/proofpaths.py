@@ -58,18 +58,23 @@ def sources(home, crate):
     return sums.hexdigest()
 
 
+def printed(home, crate):
+    """Whether the prover printed the places of a crate since its sources changed."""
+    stamp = home / "target/goals" / crate / "sources"
+    return stamp.exists() and stamp.read_text() == sources(home, crate)
+
+
 def goals(home, crate):
     """The folder with what is to be proved of a crate, printed by the prover where a source changed."""
     folder = home / "target/goals" / crate
-    stamp, now = folder / "sources", sources(home, crate)
-    if not stamp.exists() or stamp.read_text() != now:
+    if not printed(home, crate):
         print(f"{crate}: reading the places of the code anew", file=sys.stderr)
         shutil.rmtree(folder, ignore_errors=True)
         run = subprocess.run([os.environ.get("RT", "rt"), "dev", crate, "--generated", str(folder)], cwd=home, capture_output=True, text=True)
         if not any(folder.rglob("Lts*.antt")):
             errors = [line[:300] for line in (run.stdout + run.stderr).splitlines() if "error" in line or line.startswith("rt: ")]
             raise SystemExit("\n".join(errors[:20]))
-        stamp.write_text(now)
+        (folder / "sources").write_text(sources(home, crate))
     return folder / f"Rattle.{crate}.proofs" / "proofs"
 
 
@@ -250,8 +255,12 @@ def lines_of(block, change):
 def named(file, block, said):
     """The block with names for its paths."""
     places = file.places_of(block)
-    if not places:
-        return block
+    change = naming(file, places, said) if places else None
+    return lines_of(block, change) if change else block
+
+
+def naming(file, places, said):
+    """What puts names for the paths of these variables into a line."""
     var = "|".join(re.escape(v) for v in sorted(places, key=len, reverse=True))
     core = rf"(?<![^\s(){{}},;\[|])({var})((?: \.before{END})*)(?: \.({WORD}){END})?(?! :){END}"
 
@@ -274,7 +283,7 @@ def named(file, block, said):
 
     short = core.replace(f"({var})", "(c)")
     both = re.compile(rf"\({short}\)|{core}" if "c" in places else rf"\((?!)()()()\)|{core}")
-    return lines_of(block, lambda code: both.sub(name, code))
+    return lambda code: both.sub(name, code)
 
 
 def pathed(block, places, said):
