@@ -69,10 +69,12 @@ def short(line):
 
 
 def errs(crate, width="600"):
-    errors, goals, into, follow, change = [], [], None, 0, None
+    errors, goals, into, follow, change, others = [], [], None, 0, None, 0
     known = files(root(), crate, []) if printed(root(), crate) else []
     for line in dev(crate, "--allow-holes").splitlines():
-        if m := re.match(r"(\S+):\d+:\d+: (goal \? in|error:) `(\S+)`", line):
+        if re.match(r"\S+: error: .* was not admitted", line):
+            others, into = others + 1, None
+        elif m := re.match(r"(\S+):\d+:\d+: (goal \? in|error:) `(\S+)`", line):
             into, change = (goals if m[2].startswith("goal") else errors), named_at(known, m[1], m[3])
             follow = 10000 if into is goals else 4
         elif re.match(r"\S+: error|note: what antt said", line):
@@ -89,6 +91,7 @@ def errs(crate, width="600"):
             follow -= 1
         if line.startswith(("logic=", "rt: ")) and "unchanged" not in line:
             errors.append(line[:int(width)])
+    errors += [f"{others} more rest on what is not proved above"] if others else []
     print("\n".join(errors + ["------"] + goals if goals else errors))
 
 
