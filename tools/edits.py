@@ -24,7 +24,7 @@ import sys
 import tempfile
 
 from cases import definition
-from proofpaths import root
+from walks import root
 
 HERE = root()
 AGAIN = re.compile("was not admitted|could not be checked")

@@ -11,7 +11,8 @@ import re
 import subprocess
 import sys
 
-from proofpaths import files, naming, printed, root
+from proofpaths import files, naming
+from walks import printed, root
 
 NEEDS = "use borrow.Author.Needs.{needs}"
 
@@ -101,7 +102,7 @@ def named_at(known, path, name):
         if os.path.realpath(file.path) == os.path.realpath(path):
             for block in file.blocks():
                 if re.match(rf"(?:--.*\n)*{re.escape(name)} :", block) and file.places_of(block):
-                    return naming(file, file.places_of(block), lambda what: None)
+                    return naming(file, file.places_of(block), {}, lambda what: None)
     return None
 
 

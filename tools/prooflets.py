@@ -8,11 +8,12 @@ sees through a `let`, so the answer stays what it was; prove the crate again all
 import re
 import sys
 
-from proofpaths import END, WORD, files, root
+from proofpaths import END, FRONT, WORD, files
+from walks import root
 
 LONG, WIDE, STRETCH = 300, 140, 25
 PATH = rf"c(?: \.before{END})+(?: \.{WORD}{END})?"
-EITHER = re.compile(rf"\(({PATH})\)|(?<![^\s(){{}},;\[|])({PATH}){END}")
+EITHER = re.compile(rf"\(({PATH})\)|{FRONT}({PATH}){END}")
 
 
 def words(text):

@@ -12,178 +12,22 @@ place of the code with what is known there, and `.before` is the place in front.
     @f          (c .before .. .f), of the nearest place that has an f
     @f:Place    the same, where a nearer place has an f as well
     @@Place     (c .before ..), the place itself; plain `c` where it is the need's own
-    c@f c@@P    the same without the parentheses; another variable that a signature types by a place goes so as well
+    c@f c@@P    the same without the parentheses; another variable that stands for a place, by its signature or by a `let`, goes so as well
+    .kept#x     of a call `@f`, for `.kept .1 .. .0`: the part of its parameter x; so `.last#x`, and `@good#x` of the function's own
 
 Between `names` and `paths` the names are those of the old code: `paths` finds the old places and needs in the new code by their order, renames
 what the prover numbers anew, brings the list of needs behind `spec` up to date, writes `?` for a new need, turns the answer of a need that is gone
 into a comment, and says all that. A name that it does not find stays, so that the prover stops there; mend it and run `paths` again.
 
 The places are read off what the prover prints (target/goals); that is done anew when a source changed. The variable RT names its command."""
-import difflib
-import hashlib
 import json
-import os
-import pathlib
 import re
-import shutil
-import subprocess
 import sys
 
-CALLED = ["result", "ensures", "last", "kept"]
-WORD = r"[^\s(){},;.:@]+"
-END = r"(?![^\s(){},;\]])"
+from walks import Move, Walk, goals, root
 
-
-def root():
-    """The folder of crates.txt, at or above this one."""
-    here = pathlib.Path.cwd()
-    for folder in [here, *here.parents]:
-        if (folder / "crates.txt").exists():
-            return folder
-    raise SystemExit(f"no crates.txt at or above {here}")
-
-
-def sources(home, crate):
-    """A digest of the sources that decide the places of a crate: its own, and those of the crates that it reaches."""
-    deps = dict(re.findall(r"^(\w+):(.*)$", (home / "crates.txt").read_text(), re.M))
-    todo, seen, sums = [crate], set(), hashlib.sha256()
-    while todo:
-        name = todo.pop()
-        if name in deps and name not in seen:
-            seen.add(name)
-            todo += deps[name].split()
-    for name in sorted(seen):
-        for file in sorted((home / "crates" / name / "src").rglob("*.rt")):
-            sums.update(file.read_bytes())
-    return sums.hexdigest()
-
-
-def printed(home, crate):
-    """Whether the prover printed the places of a crate since its sources changed."""
-    stamp = home / "target/goals" / crate / "sources"
-    return stamp.exists() and stamp.read_text() == sources(home, crate)
-
-
-def goals(home, crate):
-    """The folder with what is to be proved of a crate, printed by the prover where a source changed."""
-    folder = home / "target/goals" / crate
-    if not printed(home, crate):
-        print(f"{crate}: reading the places of the code anew", file=sys.stderr)
-        shutil.rmtree(folder, ignore_errors=True)
-        run = subprocess.run([os.environ.get("RT", "rt"), "dev", crate, "--generated", str(folder)], cwd=home, capture_output=True, text=True)
-        if not any(folder.rglob("Lts*.antt")):
-            errors = [line[:300] for line in (run.stdout + run.stderr).splitlines() if "error" in line or line.startswith("rt: ")]
-            raise SystemExit("\n".join(errors[:20]))
-        (folder / "sources").write_text(sources(home, crate))
-    return folder / f"Rattle.{crate}.proofs" / "proofs"
-
-
-class Walk:
-    """The places of one function and its needs, in the order of the code, and the arguments of its loops' invariants."""
-
-    def __init__(self, text):
-        self.fields, self.needs, self.loops, self.order = {}, {}, {}, []
-        claims = re.findall(r'\(claims· \.(\d+)\)\s+"([\w:]+)"', text)
-        self.callees = [name for _, name in sorted({int(n): name for n, name in claims}.items())]
-        holds, record, need = {}, None, None
-        for line in text.split("\n"):
-            if m := re.match(r"\s*pub record (\S+) :", line):
-                record = m[1]
-                self.fields[record] = []
-                if not record.endswith("·own"):
-                    self.order.append(record)
-            elif record and (m := re.match(r"\s*pub (\S+) :\s*(\S*)", line)):
-                self.fields[record].append((m[1], m[2]))
-            elif not line.strip():
-                record = need = None
-            elif m := re.match(r"\s*(\S+·own) = Called", line):
-                self.fields[m[1]] = [(f, "") for f in CALLED]
-            elif m := re.match(r"\s*Need-(\S+) =", line):
-                need = m[1]
-            if need and need not in self.needs and (m := re.search(r"\(c : (\S+)\)", line)):
-                self.needs[need] = m[1]
-                self.order.append("Need-" + need)
-            if need and need.endswith("-holds"):
-                holds[need[:-len("-holds")]] = holds.get(need[:-len("-holds")], "") + " " + line.strip()
-        for loop, said in holds.items():
-            self.loops[loop] = self.arguments(loop, [int(n) for n in re.findall(r"\(Row\.get (\d+) ", said)])
-
-    def arguments(self, loop, numbers):
-        """What an invariant is told: each local as it was before the loop, then those that the loop changes as they are now."""
-        params = [f for f, _ in self.fields["Args"]]
-        changed = [f for f in self.own(f"At-{loop}")[loop] if f != "inv"]
-        first, last = numbers[:len(numbers) - len(changed)], numbers[len(numbers) - len(changed):]
-        names = {**{i + 1: f for i, f in enumerate(params)}, **{n: f + "₀" for n, f in zip(last, changed)}}
-        return [names.get(n, f"local{n}") for n in first] + changed
-
-    def own(self, place):
-        """What a place has besides the place in front, as names with their own fields."""
-        return {f: [sub for sub, _ in self.fields.get(t, [])] for f, t in self.fields[place] if f != "before"}
-
-    def chain(self, place):
-        """The place and those in front of it."""
-        places = []
-        while place:
-            places.append(place)
-            place = dict(self.fields[place]).get("before")
-        return places
-
-    def nearest(self, place, field):
-        return next((p for p in self.chain(place) if field in self.own(p)), None)
-
-    def kind(self, name):
-        """What a place or a need is, whatever local or function it is named after."""
-        if not name.startswith("Need-"):
-            return (re.match(r"[A-Z][a-z]+", name)[0], *map(tuple, self.own(name).values()))
-        front = re.match(r"Need-((?:shared-)?(?:slice|array)-[a-z]+|enum-known|[a-z]+)", name)[1]
-        back = re.search(r"-(requires|start|end|holds|less|again)(-\d+)?$", name)
-        return back[1] if back and back[1] != "start" and back[1] != "end" else (front, back and back[1])
-
-
-def numberless(name):
-    """A name without the number that tells it from others of its kind."""
-    return re.sub(r"-?\d+$", "", name)
-
-
-def runs(old, new):
-    """The stretches of two lists that differ, and the pairs of what stands in both."""
-    match = difflib.SequenceMatcher(None, old, new, autojunk=False)
-    for tag, a, b, c, d in match.get_opcodes():
-        yield tag, range(a, b), range(c, d)
-
-
-class Move:
-    """Where the places and needs of the old code are in the new: by their order, then by their kinds in what is left."""
-
-    def __init__(self, old, new):
-        self.old, self.new, self.to = old, new, {name: name for name in new.order}
-        if old is new:
-            return
-        self.to = {}
-        for tag, olds, news in runs([numberless(n) for n in old.order], [numberless(n) for n in new.order]):
-            before, now = [old.order[i] for i in olds], [new.order[i] for i in news]
-            if tag == "equal":
-                self.to.update(zip(before, now))
-                continue
-            for same, a, b in runs([old.kind(n) for n in before], [new.kind(n) for n in now]):
-                if same == "equal":
-                    self.to.update(zip((before[i] for i in a), (now[i] for i in b)))
-        for name in old.order:
-            left = [n for n in new.order if n not in self.to.values() and n.startswith("Need-") and new.kind(n) == old.kind(name)]
-            if name not in self.to and left and name.startswith("Need-"):
-                self.to[name] = left[0]
-
-    def need(self, name):
-        to = self.to.get("Need-" + name)
-        return to and to[len("Need-"):]
-
-    def argument_names(self, loop, names):
-        """The names of an invariant's arguments, with those of locals that are new put in and those of locals that are gone left out."""
-        old, new = self.old.loops[loop], self.new.loops[loop]
-        out = []
-        for tag, a, b in runs([numberless(n) for n in old], [numberless(n) for n in new]):
-            out += [names[i] for i in a] if tag == "equal" else [new[i] for i in b]
-        return out
+WORD = r"[^\s(){},;.:@#]+"
+FRONT, END = r"(?<![^\s(){},;\[|])", r"(?![^\s(){},;\]])"
 
 
 class File:
@@ -196,7 +40,7 @@ class File:
         for where, of, alias in re.findall(rf"^use Rattle\.{crate}\.proofs\.(\S+)\.(Tie|Lts\S*) as (\S+)$", self.text, re.M):
             lts = folder / where.replace(".", "/") / (of.replace("Tie", "Lts") + ".antt")
             if lts.exists() and re.search(rf"(?<![^\s(]){re.escape(alias)}\.", self.text):
-                self.functions[alias] = Walk(lts.read_text())
+                self.functions[alias] = Walk(lts.read_text(), home)
 
     def of(self, names):
         """Whether it is the proof of one of these functions."""
@@ -252,17 +96,32 @@ def lines_of(block, change):
     return "\n".join(out)
 
 
+def any_of(words):
+    return "|".join(re.escape(word) for word in sorted(words, key=len, reverse=True)) or "(?!)"
+
+
+def facts_of(block, places):
+    """The variables that a `let` binds to what a place has: name to the variable of the place, how many places it goes back or the place's name, and the field."""
+    found = re.findall(rf"{FRONT}let (\S+) = ({any_of(places)})(?:((?: \.before)*) \.({WORD})|@({WORD})(?::({WORD}))?) in{END}", block)
+    return {v: (of, where or befores.count(".before") if not name else where, field or name) for v, of, befores, field, name, where in found}
+
+
+def token(places, facts):
+    """A name, or a variable that a `let` binds to what it names."""
+    return rf"{FRONT}(?:({any_of(places)})?@({WORD})(?::({WORD}))?|({any_of(facts)}))"
+
+
 def named(file, block, said):
     """The block with names for its paths."""
     places = file.places_of(block)
-    change = naming(file, places, said) if places else None
-    return lines_of(block, change) if change else block
+    return lines_of(block, naming(file, places, facts_of(block, places), said)) if places else block
 
 
-def naming(file, places, said):
+def naming(file, places, facts, said):
     """What puts names for the paths of these variables into a line."""
-    var = "|".join(re.escape(v) for v in sorted(places, key=len, reverse=True))
-    core = rf"(?<![^\s(){{}},;\[|])({var})((?: \.before{END})*)(?: \.({WORD}){END})?(?! :){END}"
+    var = any_of(places)
+    core = rf"{FRONT}({var})((?: \.before{END})*)(?: \.({WORD}){END})?(?! :){END}"
+    short = core.replace(f"({var})", "(c)") if "c" in places else "(?!)()()()"
 
     def name(m):
         bare = m[1] is None
@@ -281,22 +140,28 @@ def naming(file, places, said):
         word = f"@{field}" if walk.nearest(place, field) == chain[count] else f"@{field}:{chain[count]}"
         return v + word if bare else word
 
-    short = core.replace(f"({var})", "(c)")
-    both = re.compile(rf"\({short}\)|{core}" if "c" in places else rf"\((?!)()()()\)|{core}")
-    return lambda code: both.sub(name, code)
+    def part(m):
+        v, field, where, fact, of, ones = m.groups()
+        if fact:
+            v, where, field = facts[fact]
+        alias, place = places[v or "c"]
+        walk = file.functions[alias]
+        at = walk.chain(place)[where] if isinstance(where, int) else where or walk.nearest(place, field)
+        parts, count = walk.parts(at, field), ones.count(".1")
+        fits = count < len(parts) and (field == "good") == (not of)
+        return f"{m[0][:m.start(5) - m.start()]}{of}#{parts[count]}" if fits else m[0]
+
+    paths = re.compile(rf"\({short}\)|{core}")
+    parts = re.compile(rf"{token(places, facts)}( \.kept| \.last|)((?: \.1)*) \.0{END}")
+    return lambda code: parts.sub(part, paths.sub(name, code))
 
 
 def pathed(block, places, said):
     """The block with paths for its names; `places` has, for each variable, where the code moved, its place before and its place now."""
-    if not places:
-        return block
-    var = "|".join(re.escape(v) for v in sorted(places, key=len, reverse=True))
+    facts = facts_of(block, places)
 
-    def path(m):
-        v, at, field, where = m.groups()
-        if (v or "c") not in places:
-            said(f"{m[0]}: `{v or 'c'}` is no place here")
-            return m[0]
+    def place_of(v, at, field, where):
+        """The place that a name means now, and its field there."""
         move, before, now = places[v or "c"]
         chain = move.new.chain(now)
         old = field if at == "@@" else where or move.old.nearest(before, field)
@@ -306,17 +171,38 @@ def pathed(block, places, said):
         if to not in chain:
             to = field if at == "@@" else where or move.new.nearest(now, field)
             if old and to in chain:
-                said(f"{m[0]}: taken by its name")
-        if to not in chain or (at == "@" and field not in move.new.own(to)):
+                said(f"{at}{field}: taken by its name")
+        return (to, field) if to in chain and (at == "@@" or field in move.new.own(to)) else (None, field)
+
+    def path(m):
+        v, at, field, where = m.groups()
+        if (v or "c") not in places:
+            said(f"{m[0]}: `{v or 'c'}` is no place here")
+            return m[0]
+        move, _, now = places[v or "c"]
+        to, field = place_of(v, at, field, where)
+        if not to:
             said(f"{m[0]}: nothing of that name at {now}")
             return m[0]
-        befores = " .before" * chain.index(to)
+        befores = " .before" * move.new.chain(now).index(to)
         if at == "@@":
             return (v or "c") + befores if v or not befores else f"(c{befores})"
         return f"{v}{befores} .{field}" if v else f"(c{befores} .{field})"
 
-    words = re.compile(rf"(?<![^\s(){{}},;\[|])({var})?(@@?)({WORD})(?::({WORD}))?")
-    return lines_of(block, lambda code: words.sub(path, code))
+    def part(m):
+        v, field, where, fact, of, name = m.groups()
+        if fact:
+            v, where, field = facts[fact]
+        to, field = place_of(v, "@", field, where) if (v or "c") in places else (None, field)
+        parts = places[v or "c"][0].new.parts(to, field) if to else []
+        if name not in parts:
+            said(f"{m[0]}: no parameter of that name")
+            return m[0]
+        return f"{m[0][:m.start(5) - m.start()]}{of}{' .1' * parts.index(name)} .0"
+
+    names = re.compile(rf"{FRONT}({any_of(places)})?(@@?)({WORD})(?::({WORD}))?")
+    parts = re.compile(rf"{token(places, facts)}( \.kept| \.last|)#({WORD})")
+    return lines_of(block, lambda code: names.sub(path, parts.sub(part, code))) if places else block
 
 
 def stub(block, old, new):
@@ -485,7 +371,8 @@ def show(crate, function, *needs):
                 for at in walk.chain(place):
                     for field, subs in walk.own(at).items():
                         near = walk.nearest(place, field) == at
-                        print(f"    @{field}{'' if near else ':' + at}" + (" ." + " .".join(subs) if subs else ""))
+                        parts = walk.parts(at, field) if field == "good" or "kept" in subs else []
+                        print(f"    @{field}{'' if near else ':' + at}" + "".join(f" .{sub}" for sub in subs) + (f", parts # {' '.join(parts)}" if parts else ""))
 
 
 def selftest(*crates):
