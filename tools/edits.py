@@ -105,6 +105,16 @@ def tried(home, crate, edit):
     return verb == "refused"
 
 
+def unlisted(crate):
+    """Where docs/EDITS.md and the folders of a crate differ."""
+    section = re.search(rf"^## `{crate}`\n((?:.|\n)*?)(?=^## |\Z)", (HERE / "docs/EDITS.md").read_text(), re.M)
+    if not section:
+        return []
+    listed = set(re.findall(r"\w+\*?", " ".join(re.findall(r"^\| `\S+` \| (.*) \|$", section[1], re.M))))
+    there = {file.stem + ("*" if file.parent.name == "tried" else "") for file in (HERE / "crates" / crate).glob("*/*.edit")}
+    return sorted(listed ^ there)
+
+
 def rows_alone(home):
     """Lays the definition with its rows, and no law, into a repository of its own."""
     names = re.findall(r"^pub mod (\w+)", (HERE / "crates/rules/specs/Lib.antt").read_text(), re.M)
@@ -137,8 +147,9 @@ def main(words):
             if not taken:
                 raise SystemExit(f"{said[-2000:]}\n{crate} is not proved as it stands")
             failed += [f"{crate}/{e.stem}" for e in edits if not tried(home, crate, e)]
+            failed += [f"{crate}/{name}: docs/EDITS.md has it otherwise" for name in unlisted(crate)]
             count += len(edits)
-    print(f"{count - len(failed)} refused, {len(failed)} not" + ("".join("\n    " + name for name in failed)))
+    print(f"{count} tried, {len(failed)} failed" + "".join("\n    " + name for name in failed))
     return 1 if failed else 0
 
 
