@@ -89,10 +89,10 @@ def lines_of(block, change):
     """The block with its code changed: no comment, and no left side of an equation."""
     out = []
     for line in block.split("\n"):
-        code, mark, comment = re.match(r"(.*?)((?:^|(?<=\s))--.*|$)()", line).groups()
+        code, comment = re.match(r"(.*?)((?:^|(?<=\s))--.*|$)", line).groups()
         left = re.match(r"\s*(?:[^\s=(){}:λ]+ )+=(?= |$)", code)
         at = left.end() if left else 0
-        out.append(code[:at] + change(code[at:]) + mark)
+        out.append(code[:at] + change(code[at:]) + comment)
     return "\n".join(out)
 
 
@@ -101,9 +101,13 @@ def any_of(words):
 
 
 def facts_of(block, places):
-    """The variables that a `let` binds to what a place has: name to the variable of the place, how many places it goes back or the place's name, and the field."""
-    found = re.findall(rf"{FRONT}let (\S+) = ({any_of(places)})(?:((?: \.before)*) \.({WORD})|@({WORD})(?::({WORD}))?) in{END}", block)
-    return {v: (of, where or befores.count(".before") if not name else where, field or name) for v, of, befores, field, name, where in found}
+    """The variables that a `let` binds to what a place has: to the variable of a place, the place (how far back, or by name) and the field."""
+    start, facts = rf"{FRONT}let (\S+) = ({any_of(places)})", {}
+    for var, of, befores, field in re.findall(rf"{start}((?: \.before)*) \.({WORD}) in{END}", block):
+        facts[var] = (of, befores.count(".before"), field)
+    for var, of, field, place in re.findall(rf"{start}@({WORD})(?::({WORD}))? in{END}", block):
+        facts[var] = (of, place, field)
+    return facts
 
 
 def token(places, facts):
