@@ -84,10 +84,10 @@ def verdict(said, edited):
     return "NOT TOLD", said[-300:]
 
 
-def tried(home, crate, edit):
+def tried(home, crate, edit, replacements):
     """Whether the edited crate is refused."""
     before, edited, verb, why = {}, set(), None, ""
-    for name, old, new in pairs(edit.read_text()):
+    for name, old, new in replacements:
         file = home / "crates" / crate / name
         text = file.read_text() if file.exists() else ""
         if not old or text.count(old) != 1:
@@ -101,7 +101,7 @@ def tried(home, crate, edit):
         verb, why = ("ACCEPTED", "the crate is proved with it") if taken else verdict(said, edited)
     for file, text in before.items():
         file.write_text(text)
-    print(f"{crate}/{edit.stem}: {verb}: {why[:200]}", flush=True)
+    print(f"{crate}/{edit}: {verb}: {why[:200]}", flush=True)
     return verb == "refused"
 
 
@@ -140,13 +140,14 @@ def main(words):
         else:
             shutil.copytree(HERE, home, ignore=lambda at, _: LEFT_OUT if pathlib.Path(at) in (HERE, HERE / "target") else set())
         for crate in crates:
-            edits = [e for e in sorted((HERE / "crates" / crate / folder).glob("*.edit")) if not names or e.stem in names]
+            found = sorted((HERE / "crates" / crate / folder).glob("*.edit"))
+            edits = {e.stem: pairs(e.read_text()) for e in found if not names or e.stem in names}
             if not edits:
                 raise SystemExit(f"{crate} has no such edit in {folder}")
             taken, said = said_of(home, crate)
             if not taken:
                 raise SystemExit(f"{said[-2000:]}\n{crate} is not proved as it stands")
-            failed += [f"{crate}/{e.stem}" for e in edits if not tried(home, crate, e)]
+            failed += [f"{crate}/{name}" for name, what in edits.items() if not tried(home, crate, name, what)]
             failed += [f"{crate}/{name}: docs/EDITS.md has it otherwise" for name in unlisted(crate)]
             count += len(edits)
     print(f"{count} tried, {len(failed)} failed" + "".join("\n    " + name for name in failed))

@@ -197,12 +197,15 @@ def pathed(block, places, said):
         v, field, where, fact, of, name = m.groups()
         if fact:
             v, where, field = facts[fact]
-        to, field = place_of(v, "@", field, where) if (v or "c") in places else (None, field)
-        parts = places[v or "c"][0].new.parts(to, field) if to else []
-        if name not in parts:
+        move, before, _ = places.get(v or "c", (None, None, None))
+        to, now = place_of(v, "@", field, where) if move else (None, field)
+        parts = move.new.parts(to, now) if to else []
+        old = move.old.parts(where or move.old.nearest(before, field), field) if to else []
+        if name not in parts and (name not in old or len(old) != len(parts)):
             said(f"{m[0]}: no parameter of that name")
             return m[0]
-        return f"{m[0][:m.start(5) - m.start()]}{of}{' .1' * parts.index(name)} .0"
+        count = parts.index(name) if name in parts else old.index(name)
+        return f"{m[0][:m.start(5) - m.start()]}{of}{' .1' * count} .0"
 
     names = re.compile(rf"{FRONT}({any_of(places)})?(@@?)({WORD})(?::({WORD}))?")
     parts = re.compile(rf"{token(places, facts)}( \.kept| \.last|)#({WORD})")
