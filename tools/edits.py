@@ -73,8 +73,9 @@ def verdict(said, edited):
     for file, line, name, what in first:
         if re.search(r"has no `Need-\S+` that can be named", what):
             return "OTHER SHAPE", f"{file}:{line}: {what}"
-    if first and all(name.endswith("-spec") for _, _, name, _ in first):
-        return "OTHER SHAPE", f"{first[0][0]}:{first[0][1]}: {first[0][3]}"
+    for file, line, name, what in first:
+        if name.endswith("-spec"):
+            return "OTHER SHAPE", f"{file}:{line}: {what}"
     if first:
         rows = {name: row[1] for _, _, name, what in first if (row := re.search(r"`(\w+) \.says`", what))}
         names = dict.fromkeys(f"{name}{' at row ' + rows[name] if name in rows else ''} ({file}:{line})" for file, line, name, _ in first)
