@@ -157,9 +157,9 @@ def limited(text, limits):
     return text
 
 
-def definition(rules, top, limits):
-    """The crate `rules` without what `line` does not reach, as its laws."""
-    specs, reached, waiting = os.path.join(rules, "specs"), {}, ["Run", "Text"]
+def definition(rules, top, limits, roots=("Run", "Text")):
+    """The crate `rules` without what these modules do not reach, as its laws."""
+    specs, reached, waiting = os.path.join(rules, "specs"), {}, list(roots)
     while waiting:
         name = waiting.pop()
         if name not in reached:
@@ -212,4 +212,5 @@ def main(argv):
     sys.exit(1 if wrong else 0)
 
 
-main(sys.argv[1:])
+if __name__ == "__main__":
+    main(sys.argv[1:])

@@ -7,6 +7,7 @@ pub mod OpenLists
 pub mod States
 pub mod Tallies
 pub mod Turns
+pub mod Lookings
 pub mod IndexLaws
 pub mod TableLaws
 pub mod TagRows

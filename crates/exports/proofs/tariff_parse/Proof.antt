@@ -39,7 +39,10 @@ same-length-7 : tie.Need-same-length-7
 same-length-7 c = (c .before .before .before .before .before .before .before .before .before .before .before .before .before .before .before .before .before .parse) .kept .1 .1 .1 .1 .1 .1 .1 .0
 
 returns : tie.Need-returns
-returns c = (ap rulesOf (sym ((c .before .counts) .given .1) ∙ (c .before .before .before .before .before .before .before .before .before .before .before .before .before .before .before .before .before .parse) .ensures .0), ((c .before .before .before .before .before .before .before .before .before .before .before .before .before .before .before .before .before .parse) .ensures .1 .0, (c .before .before .before .before .before .before .before .before .before .before .before .before .before .before .before .before .before .parse) .ensures .1 .1 .0))
+returns c =
+    let counts = c .before .counts in
+    let parse = c .before .before .before .before .before .before .before .before .before .before .before .before .before .before .before .before .before .parse in
+    (ap rulesOf (sym (counts .given .1) ∙ parse .ensures .0), (parse .ensures .1 .0, parse .ensures .1 .1 .0))
 
 same-length-8 : tie.Need-same-length-8
 same-length-8 c = (c .before .before .before .before .before .before .before .before .before .before .before .before .before .before .before .before .parse) .kept .1 .0
@@ -63,7 +66,9 @@ same-length-14 : tie.Need-same-length-14
 same-length-14 c = (c .before .before .before .before .before .before .before .before .before .before .before .before .before .before .before .before .parse) .kept .1 .1 .1 .1 .1 .1 .1 .0
 
 returns-2 : tie.Need-returns-2
-returns-2 c = (ap rulesOf (sym ((c .enum-told) .given .1) ∙ (c .before .before .before .before .before .before .before .before .before .before .before .before .before .before .before .before .parse) .ensures .0), ((c .before .before .before .before .before .before .before .before .before .before .before .before .before .before .before .before .parse) .ensures .1 .0, (c .before .before .before .before .before .before .before .before .before .before .before .before .before .before .before .before .parse) .ensures .1 .1 .0))
+returns-2 c =
+    let parse = c .before .before .before .before .before .before .before .before .before .before .before .before .before .before .before .before .parse in
+    (ap rulesOf (sym ((c .enum-told) .given .1) ∙ parse .ensures .0), (parse .ensures .1 .0, parse .ensures .1 .1 .0))
 
 pub tariff-parse-spec : {M : Type 1} → statement M
 tariff-parse-spec =

@@ -47,19 +47,38 @@ bracketed-requires : tie.Need-bracketed-requires Inv-loop μ-loop
 bracketed-requires c κs = turns.cells-there ((c .before .before .before .before .before .before .before .before .loop) .inv) ((c .before .before .before .before .before .before .read-form) .ensures) ((c .before .before .next) .given .1) .0
 
 add-forms : tie.Need-add-forms Inv-loop μ-loop
-add-forms c = omega (arith, (c .before .before .before .before .before .before .before .before .before .before .loop) .inv .few, (c .before .before .before .before .before .before .before .before .before .before .loop) .inv .high, (c .before .before .before .before .before .before .before .before .before .before .loop) .inv .short)
+add-forms c =
+    let loop = c .before .before .before .before .before .before .before .before .before .before .loop in
+    omega (arith, loop .inv .few, loop .inv .high, loop .inv .short)
 
 clear-requires : tie.Need-clear-requires Inv-loop μ-loop
-clear-requires c κs = turns.cells-there ((c .before .before .before .before .before .before .before .before .before .before .before .loop) .inv) ((c .before .before .before .before .before .before .before .before .before .read-form) .ensures) ((c .before .before .before .before .before .next) .given .1) .1
+clear-requires c κs =
+    let loop = c .before .before .before .before .before .before .before .before .before .before .before .loop in
+    let read-form = c .before .before .before .before .before .before .before .before .before .read-form in
+    let next = c .before .before .before .before .before .next in
+    turns.cells-there (loop .inv) (read-form .ensures) (next .given .1) .1
 
 loop-less : tie.Need-loop-less Inv-loop μ-loop
-loop-less c = omega (arith, turns.on ((c .before .before .before .before .before .before .before .before .before .before .before .before .before .before .loop) .inv) ((c .before .before .before .before .before .before .before .before .before .before .before .before .read-form) .ensures) ((c .before .before .before .before .before .before .before .before .next) .given .1))
+loop-less c =
+    let loop = c .before .before .before .before .before .before .before .before .before .before .before .before .before .before .loop in
+    let read-form = c .before .before .before .before .before .before .before .before .before .before .before .before .read-form in
+    let next = c .before .before .before .before .before .before .before .before .next in
+    omega (arith, turns.on (loop .inv) (read-form .ensures) (next .given .1))
 
 loop-again : tie.Need-loop-again Inv-loop μ-loop
-loop-again c = ⊎-elim
-    (λ w. rw (w .1) (turns.past-list ((c .before .before .before .before .before .before .before .before .before .before .before .before .before .before .loop) .inv) ((c .before .before .before .before .before .before .before .before .before .before .before .before .read-form) .ensures) ((c .before .before .before .before .before .before .before .before .next) .given .1) ((c .before .before .clear) .ensures) (sym ((c .before .before .before .before .before .bracketed) .ensures) ∙ w .0 .taken)))
-    (λ w. rw (w .1) (turns.past-atom ((c .before .before .before .before .before .before .before .before .before .before .before .before .before .before .loop) .inv) ((c .before .before .before .before .before .before .before .before .before .before .before .before .read-form) .ensures) ((c .before .before .before .before .before .before .before .before .next) .given .1) ((c .before .before .clear) .ensures) (sym ((c .before .before .before .before .before .bracketed) .ensures) ∙ w .0 .left)))
-    ((c .before .before .before .before .if1) .came)
+loop-again c =
+    let loop = c .before .before .before .before .before .before .before .before .before .before .before .before .before .before .loop in
+    let read-form = c .before .before .before .before .before .before .before .before .before .before .before .before .read-form in
+    let next = c .before .before .before .before .before .before .before .before .next in
+    let clear = c .before .before .clear in
+    let bracketed = c .before .before .before .before .before .bracketed in
+    let if1 = c .before .before .before .before .if1 in
+    ⊎-elim
+    (λ w. rw (w .1)
+    (turns.past-list (loop .inv) (read-form .ensures) (next .given .1) (clear .ensures) (sym (bracketed .ensures) ∙ w .0 .taken)))
+    (λ w. rw (w .1)
+    (turns.past-atom (loop .inv) (read-form .ensures) (next .given .1) (clear .ensures) (sym (bracketed .ensures) ∙ w .0 .left)))
+    (if1 .came)
 
 pub tariff-read-spec : {M : Type 1} → statement M
 tariff-read-spec =

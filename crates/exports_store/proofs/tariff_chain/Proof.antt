@@ -62,7 +62,11 @@ same-length-2 c = search needs
 
 -- src/lib.rt:36:13
 returns : tie.Need-returns Inv-loop μ-loop
-returns c = chaining-full _ _ _ _ _ _ _ _ _ _ _ (c .before .before .before .before .before .before .before .before .before .before .before .loop .inv) _ _ _ (c .before .before .before .before .before .before .keep .ensures) (c .before .before .before .before .before .before .before .before .before .before .loop-test .taken) _ _ (c .enum-told .given .1)
+returns c =
+    let loop = c .before .before .before .before .before .before .before .before .before .before .before .loop in
+    let keep = c .before .before .before .before .before .before .keep in
+    let loop-test = c .before .before .before .before .before .before .before .before .before .before .loop-test in
+    chaining-full _ _ _ _ _ _ _ _ _ _ _ (loop .inv) _ _ _ (keep .ensures) (loop-test .taken) _ _ (c .enum-told .given .1)
 
 -- src/lib.rt:40:9
 add-made : tie.Need-add-made Inv-loop μ-loop
@@ -74,7 +78,12 @@ loop-less c = search needs
 
 -- src/lib.rt:33:5
 loop-again : tie.Need-loop-again Inv-loop μ-loop
-loop-again c = chaining-on _ _ _ _ _ _ _ _ _ _ _ (c .before .before .before .before .before .before .before .before .before .before .before .before .loop .inv) _ _ _ (c .before .before .before .before .before .before .before .keep .ensures) (c .before .before .before .before .before .before .before .before .before .before .before .loop-test .taken) _ _ (c .before .next .given .1)
+loop-again c =
+    let loop = c .before .before .before .before .before .before .before .before .before .before .before .before .loop in
+    let keep = c .before .before .before .before .before .before .before .keep in
+    let loop-test = c .before .before .before .before .before .before .before .before .before .before .before .loop-test in
+    let next = c .before .next in
+    chaining-on _ _ _ _ _ _ _ _ _ _ _ (loop .inv) _ _ _ (keep .ensures) (loop-test .taken) _ _ (next .given .1)
 
 -- src/lib.rt:12:1
 same-length-3 : tie.Need-same-length-3 Inv-loop μ-loop

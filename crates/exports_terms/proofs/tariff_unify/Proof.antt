@@ -31,7 +31,9 @@ same-length-7 : tie.Need-same-length-7
 same-length-7 c = (c .before .before .before .before .before .before .before .before .before .before .before .before .before .before .before .unify) .kept .1 .1 .1 .1 .1 .1 .1 .1 .1 .1 .0
 
 returns : tie.Need-returns
-returns c = (record { answer = (c .before .before .before .before .before .before .before .before .before .before .before .before .before .before .before .unify) .result; after = (c .before .before .before .before .before .before .before .before .before .before .before .before .before .before .before .unify) .ensures .0; number = (c .number-of) .ensures }, (c .before .before .before .before .before .before .before .before .before .before .before .before .before .before .before .unify) .ensures .1)
+returns c =
+    let unify = c .before .before .before .before .before .before .before .before .before .before .before .before .before .before .before .unify in
+    (record { answer = unify .result; after = unify .ensures .0; number = (c .number-of) .ensures }, unify .ensures .1)
 
 pub tariff-unify-spec : {M : Type 1} → statement M
 tariff-unify-spec =

@@ -43,7 +43,14 @@ slice-aggregate-run-8 : tie.Need-slice-aggregate-run-8
 slice-aggregate-run-8 c = search needs
 
 run-requires : tie.Need-run-requires
-run-requires c κs = (legible (take ((c .before .before .before .before .before .before .before .before .before .read-full) .result) ((c .before .before .before .before .before .before .before .before .before .read-full) .last .1 .0)) (part-short ((c .before .before .before .before .before .before .before .before .before .read-full) .result) ((c .before .before .before .before .before .before .before .before .before .read-full) .last .1 .0) (omega (arith, (c .before .before .before .before .before .before .before .before .before .read-full) .ensures, (c .before .before .before .before .before .before .before .before .before .read-full) .kept .1 .0, (c .before .before .before .before .before .before .before .before .before .before .before .buffer) .ensures))), roomy)
+run-requires c κs =
+    let read-full = c .before .before .before .before .before .before .before .before .before .read-full in
+    let buffer = c .before .before .before .before .before .before .before .before .before .before .before .buffer in (
+      legible (take (read-full .result) (read-full .last .1 .0))
+          (part-short (read-full .result) (read-full .last .1 .0)
+          (omega (arith, read-full .ensures, read-full .kept .1 .0, buffer .ensures))),
+      roomy,
+    )
 
 returns : tie.Need-returns
 returns c = search needs

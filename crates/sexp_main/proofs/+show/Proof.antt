@@ -121,7 +121,12 @@ show-sub-write-all : (t : ℕ) → show-lts.Need-sub-write-all (
   show-below t,
   show.Post,
 ) (show-at t) show.Post show-Inv-loop show-μ-loop
-show-sub-write-all t c = shows.atom-span ((c .before .before .before .before .before .before .before .loop) .inv) ((c .before .before .before .before .before .before .loop-test) .taken) ((c .before .before .before .before .item-at) .ensures) ((c .before .before .start) .given .1) ((c .atom-end) .ensures) .low
+show-sub-write-all t c =
+    let loop = c .before .before .before .before .before .before .before .loop in
+    let loop-test = c .before .before .before .before .before .before .loop-test in
+    let item-at = c .before .before .before .before .item-at in
+    let start = c .before .before .start in
+    shows.atom-span (loop .inv) (loop-test .taken) (item-at .ensures) (start .given .1) ((c .atom-end) .ensures) .low
 
 -- src/main.rt:23:34
 show-part-write-all-start : (t : ℕ) → show-lts.Need-part-write-all-start (
@@ -134,7 +139,12 @@ show-part-write-all-start : (t : ℕ) → show-lts.Need-part-write-all-start (
   show-below t,
   show.Post,
 ) (show-at t) show.Post show-Inv-loop show-μ-loop
-show-part-write-all-start t c = shows.atom-span ((c .before .before .before .before .before .before .before .loop) .inv) ((c .before .before .before .before .before .before .loop-test) .taken) ((c .before .before .before .before .item-at) .ensures) ((c .before .before .start) .given .1) ((c .atom-end) .ensures) .low
+show-part-write-all-start t c =
+    let loop = c .before .before .before .before .before .before .before .loop in
+    let loop-test = c .before .before .before .before .before .before .loop-test in
+    let item-at = c .before .before .before .before .item-at in
+    let start = c .before .before .start in
+    shows.atom-span (loop .inv) (loop-test .taken) (item-at .ensures) (start .given .1) ((c .atom-end) .ensures) .low
 
 -- src/main.rt:23:34
 show-part-write-all-end : (t : ℕ) → show-lts.Need-part-write-all-end (
@@ -147,7 +157,12 @@ show-part-write-all-end : (t : ℕ) → show-lts.Need-part-write-all-end (
   show-below t,
   show.Post,
 ) (show-at t) show.Post show-Inv-loop show-μ-loop
-show-part-write-all-end t c = shows.atom-span ((c .before .before .before .before .before .before .before .loop) .inv) ((c .before .before .before .before .before .before .loop-test) .taken) ((c .before .before .before .before .item-at) .ensures) ((c .before .before .start) .given .1) ((c .atom-end) .ensures) .high
+show-part-write-all-end t c =
+    let loop = c .before .before .before .before .before .before .before .loop in
+    let loop-test = c .before .before .before .before .before .before .loop-test in
+    let item-at = c .before .before .before .before .item-at in
+    let start = c .before .before .start in
+    shows.atom-span (loop .inv) (loop-test .taken) (item-at .ensures) (start .given .1) ((c .atom-end) .ensures) .high
 
 -- src/main.rt:23:17
 show-write-all-requires-2 : (t : ℕ) → show-lts.Need-write-all-requires-2 (
@@ -199,7 +214,12 @@ show-loop-again : (t : ℕ) → show-lts.Need-loop-again (
   show-below t,
   show.Post,
 ) (show-at t) show.Post show-Inv-loop show-μ-loop
-show-loop-again t c = shows.after-atom ((c .before .before .before .before .before .before .before .before .before .loop) .inv) ((c .before .before .before .before .before .before .before .before .loop-test) .taken) ((c .before .before .before .before .before .before .item-at) .ensures) ((c .before .before .before .before .start) .given .1)
+show-loop-again t c =
+    let loop = c .before .before .before .before .before .before .before .before .before .loop in
+    let loop-test = c .before .before .before .before .before .before .before .before .loop-test in
+    let item-at = c .before .before .before .before .before .before .item-at in
+    let start = c .before .before .before .before .start in
+    shows.after-atom (loop .inv) (loop-test .taken) (item-at .ensures) (start .given .1)
 
 -- src/main.rt:26:24
 show-enum-known-start-2 : (t : ℕ) → show-lts.Need-enum-known-start-2 (
@@ -251,7 +271,19 @@ show-mul-show : (t : ℕ) → show-lts.Need-mul-show (
   show-below t,
   show.Post,
 ) (show-at t) show.Post show-Inv-loop show-μ-loop
-show-mul-show t c = omega (arith, shows.part-is ((c .before .before .before .before .before .before .before .before .loop) .inv) ((c .before .before .before .before .before .before .before .loop-test) .taken) ((c .before .before .before .before .before .item-at) .ensures) ((c .before .before .before .start2) .given .1) .low, shows.part-is ((c .before .before .before .before .before .before .before .before .loop) .inv) ((c .before .before .before .before .before .before .before .loop-test) .taken) ((c .before .before .before .before .before .item-at) .ensures) ((c .before .before .before .start2) .given .1) .high, (c .before .before .before .before .before .before .before .before .before .before .before .good))
+show-mul-show t c =
+    let loop = c .before .before .before .before .before .before .before .before .loop in
+    let loop-test = c .before .before .before .before .before .before .before .loop-test in
+    let item-at = c .before .before .before .before .before .item-at in
+    let start2 = c .before .before .before .start2 in
+    let good = c .before .before .before .before .before .before .before .before .before .before .before .good in
+    omega (
+      arith,
+      shows.part-is (loop .inv) (loop-test .taken) (item-at .ensures) (start2 .given .1) .low,
+      shows.part-is (loop .inv)
+          (loop-test .taken) (item-at .ensures) (start2 .given .1) .high,
+      good,
+    )
 
 -- src/main.rt:28:28
 show-sub-show : (t : ℕ) → show-lts.Need-sub-show (
@@ -264,7 +296,12 @@ show-sub-show : (t : ℕ) → show-lts.Need-sub-show (
   show-below t,
   show.Post,
 ) (show-at t) show.Post show-Inv-loop show-μ-loop
-show-sub-show t c = shows.part-is ((c .before .before .before .before .before .before .before .before .loop) .inv) ((c .before .before .before .before .before .before .before .loop-test) .taken) ((c .before .before .before .before .before .item-at) .ensures) ((c .before .before .before .start2) .given .1) .low
+show-sub-show t c =
+    let loop = c .before .before .before .before .before .before .before .before .loop in
+    let loop-test = c .before .before .before .before .before .before .before .loop-test in
+    let item-at = c .before .before .before .before .before .item-at in
+    let start2 = c .before .before .before .start2 in
+    shows.part-is (loop .inv) (loop-test .taken) (item-at .ensures) (start2 .given .1) .low
 
 -- src/main.rt:28:28
 show-part-show-start : (t : ℕ) → show-lts.Need-part-show-start (
@@ -277,7 +314,12 @@ show-part-show-start : (t : ℕ) → show-lts.Need-part-show-start (
   show-below t,
   show.Post,
 ) (show-at t) show.Post show-Inv-loop show-μ-loop
-show-part-show-start t c = shows.part-is ((c .before .before .before .before .before .before .before .before .loop) .inv) ((c .before .before .before .before .before .before .before .loop-test) .taken) ((c .before .before .before .before .before .item-at) .ensures) ((c .before .before .before .start2) .given .1) .low
+show-part-show-start t c =
+    let loop = c .before .before .before .before .before .before .before .before .loop in
+    let loop-test = c .before .before .before .before .before .before .before .loop-test in
+    let item-at = c .before .before .before .before .before .item-at in
+    let start2 = c .before .before .before .start2 in
+    shows.part-is (loop .inv) (loop-test .taken) (item-at .ensures) (start2 .given .1) .low
 
 -- src/main.rt:28:28
 show-part-show-end : (t : ℕ) → show-lts.Need-part-show-end (
@@ -290,7 +332,12 @@ show-part-show-end : (t : ℕ) → show-lts.Need-part-show-end (
   show-below t,
   show.Post,
 ) (show-at t) show.Post show-Inv-loop show-μ-loop
-show-part-show-end t c = shows.part-is ((c .before .before .before .before .before .before .before .before .loop) .inv) ((c .before .before .before .before .before .before .before .loop-test) .taken) ((c .before .before .before .before .before .item-at) .ensures) ((c .before .before .before .start2) .given .1) .high
+show-part-show-end t c =
+    let loop = c .before .before .before .before .before .before .before .before .loop in
+    let loop-test = c .before .before .before .before .before .before .before .loop-test in
+    let item-at = c .before .before .before .before .before .item-at in
+    let start2 = c .before .before .before .start2 in
+    shows.part-is (loop .inv) (loop-test .taken) (item-at .ensures) (start2 .given .1) .high
 
 -- src/main.rt:28:17
 show-show-requires : (t : ℕ) → show-lts.Need-show-requires (
@@ -303,7 +350,16 @@ show-show-requires : (t : ℕ) → show-lts.Need-show-requires (
   show-below t,
   show.Post,
 ) (show-at t) show.Post show-Inv-loop show-μ-loop
-show-show-requires t c κs = (omega (arith, shows.shorter ((c .before .before .before .before .before .before .before .before .before .loop) .inv) ((c .before .before .before .before .before .before .before .before .loop-test) .taken) ((c .before .before .before .before .before .before .item-at) .ensures) ((c .before .before .before .before .start2) .given .1), (c .before .before .before .before .before .before .before .before .before .before .before .before .pre) .0), shows.part-held ((c .before .before .before .before .before .before .before .before .before .loop) .inv) ((c .before .before .before .before .before .before .before .before .loop-test) .taken) ((c .before .before .before .before .before .before .item-at) .ensures) ((c .before .before .before .before .start2) .given .1))
+show-show-requires t c κs =
+    let loop = c .before .before .before .before .before .before .before .before .before .loop in
+    let loop-test = c .before .before .before .before .before .before .before .before .loop-test in
+    let item-at = c .before .before .before .before .before .before .item-at in
+    let start2 = c .before .before .before .before .start2 in
+    let pre = c .before .before .before .before .before .before .before .before .before .before .before .before .pre in (
+      omega (arith, shows.shorter (loop .inv) (loop-test .taken) (item-at .ensures) (start2 .given .1), pre .0),
+      shows.part-held (loop .inv)
+          (loop-test .taken) (item-at .ensures) (start2 .given .1),
+    )
 
 -- src/main.rt:29:34
 show-slice-aggregate-write-all-3 : (t : ℕ) → show-lts.Need-slice-aggregate-write-all-3 (
@@ -342,7 +398,12 @@ show-loop-less-2 : (t : ℕ) → show-lts.Need-loop-less-2 (
   show-below t,
   show.Post,
 ) (show-at t) show.Post show-Inv-loop show-μ-loop
-show-loop-less-2 t c = omega (arith, shows.on ((c .before .before .before .before .before .before .before .before .before .before .before .before .loop) .inv) ((c .before .before .before .before .before .before .before .before .before .before .before .loop-test) .taken) ((c .before .before .before .before .before .before .before .before .before .item-at) .ensures) ((c .before .before .before .before .before .before .before .start2) .given .1), (c .before .before .before .before .before .before .before .before .before .before .before .loop-test) .taken)
+show-loop-less-2 t c =
+    let loop = c .before .before .before .before .before .before .before .before .before .before .before .before .loop in
+    let loop-test = c .before .before .before .before .before .before .before .before .before .before .before .loop-test in
+    let item-at = c .before .before .before .before .before .before .before .before .before .item-at in
+    let start2 = c .before .before .before .before .before .before .before .start2 in
+    omega (arith, shows.on (loop .inv) (loop-test .taken) (item-at .ensures) (start2 .given .1), loop-test .taken)
 
 -- src/main.rt:16:5
 show-loop-again-2 : (t : ℕ) → show-lts.Need-loop-again-2 (
@@ -355,7 +416,12 @@ show-loop-again-2 : (t : ℕ) → show-lts.Need-loop-again-2 (
   show-below t,
   show.Post,
 ) (show-at t) show.Post show-Inv-loop show-μ-loop
-show-loop-again-2 t c = shows.after-list ((c .before .before .before .before .before .before .before .before .before .before .before .before .loop) .inv) ((c .before .before .before .before .before .before .before .before .before .before .before .loop-test) .taken) ((c .before .before .before .before .before .before .before .before .before .item-at) .ensures) ((c .before .before .before .before .before .before .before .start2) .given .1)
+show-loop-again-2 t c =
+    let loop = c .before .before .before .before .before .before .before .before .before .before .before .before .loop in
+    let loop-test = c .before .before .before .before .before .before .before .before .before .before .before .loop-test in
+    let item-at = c .before .before .before .before .before .before .before .before .before .item-at in
+    let start2 = c .before .before .before .before .before .before .before .start2 in
+    shows.after-list (loop .inv) (loop-test .taken) (item-at .ensures) (start2 .given .1)
 
 -- src/main.rt:12:1
 show-returns : (t : ℕ) → show-lts.Need-returns (

@@ -61,7 +61,11 @@ slice-reshare-prefix-show : tie.Need-slice-reshare-prefix-show Inv-loop μ-loop
 slice-reshare-prefix-show c = shows.inside ((c .before .before .before .before .before .before .before .loop) .inv) ((c .before .before .before .before .before .read-form) .ensures) ((c .before .next) .given .1) ((c .before .before .before .before .before .read-form) .kept .1 .1 .0)
 
 slice-aggregate-show : tie.Need-slice-aggregate-show Inv-loop μ-loop
-slice-aggregate-show c = shows.prefix ((c .before .before .before .before .before .before .before .before .loop) .inv) ((c .before .before .before .before .before .before .read-form) .ensures) ((c .before .before .next) .given .1) ((c .before .before .before .before .before .before .read-form) .kept .1 .1 .0)
+slice-aggregate-show c =
+    let loop = c .before .before .before .before .before .before .before .before .loop in
+    let read-form = c .before .before .before .before .before .before .read-form in
+    let next = c .before .before .next in
+    shows.prefix (loop .inv) (read-form .ensures) (next .given .1) (read-form .kept .1 .1 .0)
 
 show-requires : tie.Need-show-requires Inv-loop μ-loop
 show-requires c κs = shows.held ((c .before .before .before .before .before .before .before .before .loop) .inv) ((c .before .before .before .before .before .before .read-form) .ensures) ((c .before .before .next) .given .1)
@@ -73,13 +77,31 @@ write-all-requires-3 : tie.Need-write-all-requires-3 Inv-loop μ-loop
 write-all-requires-3 c κs = search needs
 
 clear-requires : tie.Need-clear-requires Inv-loop μ-loop
-clear-requires c κs = shows.inside ((c .before .before .before .before .before .before .before .before .before .before .before .before .loop) .inv) ((c .before .before .before .before .before .before .before .before .before .before .read-form) .ensures) ((c .before .before .before .before .before .before .next) .given .1) ((c .before .before .before .before .before .before .before .before .before .before .read-form) .kept .1 .1 .0)
+clear-requires c κs =
+    let loop = c .before .before .before .before .before .before .before .before .before .before .before .before .loop in
+    let read-form = c .before .before .before .before .before .before .before .before .before .before .read-form in
+    let next = c .before .before .before .before .before .before .next in
+    shows.inside (loop .inv) (read-form .ensures) (next .given .1) (read-form .kept .1 .1 .0)
 
 loop-less : tie.Need-loop-less Inv-loop μ-loop
-loop-less c = omega (arith, shows.form ((c .before .before .before .before .before .before .before .before .before .before .before .before .before .before .before .loop) .inv) ((c .before .before .before .before .before .before .before .before .before .before .before .before .before .read-form) .ensures) ((c .before .before .before .before .before .before .before .before .before .next) .given .1) .on, shows.form ((c .before .before .before .before .before .before .before .before .before .before .before .before .before .before .before .loop) .inv) ((c .before .before .before .before .before .before .before .before .before .before .before .before .before .read-form) .ensures) ((c .before .before .before .before .before .before .before .before .before .next) .given .1) .within)
+loop-less c =
+    let loop = c .before .before .before .before .before .before .before .before .before .before .before .before .before .before .before .loop in
+    let read-form = c .before .before .before .before .before .before .before .before .before .before .before .before .before .read-form in
+    let next = c .before .before .before .before .before .before .before .before .before .next in
+    omega (
+      arith,
+      shows.form (loop .inv) (read-form .ensures) (next .given .1) .on,
+      shows.form (loop .inv) (read-form .ensures)
+          (next .given .1) .within,
+    )
 
 loop-again : tie.Need-loop-again Inv-loop μ-loop
-loop-again c = shows.next ((c .before .before .before .before .before .before .before .before .before .before .before .before .before .before .before .loop) .inv) ((c .before .before .before .before .before .before .before .before .before .before .before .before .before .read-form) .ensures) ((c .before .before .before .before .before .before .before .before .before .next) .given .1) ((c .before .before .clear) .kept .0) ((c .before .before .before .before .before .before .before .before .before .before .before .before .before .read-form) .kept .1 .1 .0) ((c .before .before .clear) .ensures)
+loop-again c =
+    let loop = c .before .before .before .before .before .before .before .before .before .before .before .before .before .before .before .loop in
+    let read-form = c .before .before .before .before .before .before .before .before .before .before .before .before .before .read-form in
+    let next′ = c .before .before .before .before .before .before .before .before .before .next in
+    let clear = c .before .before .clear in
+    shows.next (loop .inv) (read-form .ensures) (next′ .given .1) (clear .kept .0) (read-form .kept .1 .1 .0) (clear .ensures)
 
 pub show-all-spec : {M : Type 1} → statement M
 show-all-spec =

@@ -32,25 +32,67 @@ pair-requires-3 : tie.Need-pair-requires-3
 pair-requires-3 c κs = (c .before .before .before .before .before .before .before .before .before .before .before .before .before .before .before .before .before .before .before .before .before .before .before .pair2) .ensures
 
 same-length : tie.Need-same-length
-same-length c = (c .before .before .before .before .before .before .before .before .before .before .before .before .before .before .pair3) .kept .1 .1 .0 ∙ (c .before .before .before .before .before .before .before .before .before .before .before .before .before .before .before .before .before .before .before .before .before .before .before .before .before .before .before .before .before .before .before .before .before .before .before .before .before .before .pair2) .kept .1 .1 .0 ∙ (c .before .before .before .before .before .before .before .before .before .before .before .before .before .before .before .before .before .before .before .before .before .before .before .before .before .before .before .before .before .before .before .before .before .before .before .before .before .before .before .before .before .before .before .before .before .before .before .before .before .before .before .before .before .before .before .before .before .before .before .before .before .before .pair) .kept .1 .1 .0
+same-length c =
+    let pair3 = c .before .before .before .before .before .before .before .before .before .before .before .before .before .before .pair3 in
+    let mid = c .before .before .before .before .before .before .before .before .before .before .before .before .before .before .before .before .before .before .before .before .before .before .before .before .before in
+    let pair2 = mid .before .before .before .before .before .before .before .before .before .before .before .before .before .pair2 in
+    let far = mid .before .before .before .before .before .before .before .before .before .before .before .before .before .before .before .before .before .before .before .before .before .before .before .before .before in
+    let pair = far .before .before .before .before .before .before .before .before .before .before .before .before .pair in
+    pair3 .kept .1 .1 .0 ∙ pair2 .kept .1 .1 .0 ∙ pair .kept .1 .1 .0
 
 same-length-2 : tie.Need-same-length-2
-same-length-2 c = (c .before .before .before .before .before .before .before .before .before .before .before .before .before .before .pair3) .kept .1 .1 .1 .0 ∙ (c .before .before .before .before .before .before .before .before .before .before .before .before .before .before .before .before .before .before .before .before .before .before .before .before .before .before .before .before .before .before .before .before .before .before .before .before .before .before .pair2) .kept .1 .1 .1 .0 ∙ (c .before .before .before .before .before .before .before .before .before .before .before .before .before .before .before .before .before .before .before .before .before .before .before .before .before .before .before .before .before .before .before .before .before .before .before .before .before .before .before .before .before .before .before .before .before .before .before .before .before .before .before .before .before .before .before .before .before .before .before .before .before .before .pair) .kept .1 .1 .1 .0
+same-length-2 c =
+    let pair3 = c .before .before .before .before .before .before .before .before .before .before .before .before .before .before .pair3 in
+    let mid = c .before .before .before .before .before .before .before .before .before .before .before .before .before .before .before .before .before .before .before .before .before .before .before .before .before in
+    let pair2 = mid .before .before .before .before .before .before .before .before .before .before .before .before .before .pair2 in
+    let far = mid .before .before .before .before .before .before .before .before .before .before .before .before .before .before .before .before .before .before .before .before .before .before .before .before .before in
+    let pair = far .before .before .before .before .before .before .before .before .before .before .before .before .pair in
+    pair3 .kept .1 .1 .1 .0 ∙ pair2 .kept .1 .1 .1 .0 ∙ pair .kept .1 .1 .1 .0
 
 same-length-3 : tie.Need-same-length-3
-same-length-3 c = (c .before .before .before .before .before .before .before .before .before .before .before .before .before .before .pair3) .kept .1 .1 .1 .1 .0 ∙ (c .before .before .before .before .before .before .before .before .before .before .before .before .before .before .before .before .before .before .before .before .before .before .before .before .before .before .before .before .before .before .before .before .before .before .before .before .before .before .pair2) .kept .1 .1 .1 .1 .0 ∙ (c .before .before .before .before .before .before .before .before .before .before .before .before .before .before .before .before .before .before .before .before .before .before .before .before .before .before .before .before .before .before .before .before .before .before .before .before .before .before .before .before .before .before .before .before .before .before .before .before .before .before .before .before .before .before .before .before .before .before .before .before .before .before .pair) .kept .1 .1 .1 .1 .0
+same-length-3 c =
+    let pair3 = c .before .before .before .before .before .before .before .before .before .before .before .before .before .before .pair3 in
+    let mid = c .before .before .before .before .before .before .before .before .before .before .before .before .before .before .before .before .before .before .before .before .before .before .before .before .before in
+    let pair2 = mid .before .before .before .before .before .before .before .before .before .before .before .before .before .pair2 in
+    let far = mid .before .before .before .before .before .before .before .before .before .before .before .before .before .before .before .before .before .before .before .before .before .before .before .before .before in
+    let pair = far .before .before .before .before .before .before .before .before .before .before .before .before .pair in
+    pair3 .kept .1 .1 .1 .1 .0 ∙ pair2 .kept .1 .1 .1 .1 .0 ∙ pair .kept .1 .1 .1 .1 .0
 
 same-length-4 : tie.Need-same-length-4
-same-length-4 c = (c .before .before .before .before .before .before .before .before .before .before .before .before .before .before .pair3) .kept .1 .1 .1 .1 .1 .0 ∙ (c .before .before .before .before .before .before .before .before .before .before .before .before .before .before .before .before .before .before .before .before .before .before .before .before .before .before .before .before .before .before .before .before .before .before .before .before .before .before .pair2) .kept .1 .1 .1 .1 .1 .0 ∙ (c .before .before .before .before .before .before .before .before .before .before .before .before .before .before .before .before .before .before .before .before .before .before .before .before .before .before .before .before .before .before .before .before .before .before .before .before .before .before .before .before .before .before .before .before .before .before .before .before .before .before .before .before .before .before .before .before .before .before .before .before .before .before .pair) .kept .1 .1 .1 .1 .1 .0
+same-length-4 c =
+    let pair3 = c .before .before .before .before .before .before .before .before .before .before .before .before .before .before .pair3 in
+    let mid = c .before .before .before .before .before .before .before .before .before .before .before .before .before .before .before .before .before .before .before .before .before .before .before .before .before in
+    let pair2 = mid .before .before .before .before .before .before .before .before .before .before .before .before .before .pair2 in
+    let far = mid .before .before .before .before .before .before .before .before .before .before .before .before .before .before .before .before .before .before .before .before .before .before .before .before .before in
+    let pair = far .before .before .before .before .before .before .before .before .before .before .before .before .pair in
+    pair3 .kept .1 .1 .1 .1 .1 .0 ∙ pair2 .kept .1 .1 .1 .1 .1 .0 ∙ pair .kept .1 .1 .1 .1 .1 .0
 
 same-length-5 : tie.Need-same-length-5
-same-length-5 c = (c .before .before .before .before .before .before .before .before .before .before .before .before .before .before .pair3) .kept .1 .1 .1 .1 .1 .1 .0 ∙ (c .before .before .before .before .before .before .before .before .before .before .before .before .before .before .before .before .before .before .before .before .before .before .before .before .before .before .before .before .before .before .before .before .before .before .before .before .before .before .pair2) .kept .1 .1 .1 .1 .1 .1 .0 ∙ (c .before .before .before .before .before .before .before .before .before .before .before .before .before .before .before .before .before .before .before .before .before .before .before .before .before .before .before .before .before .before .before .before .before .before .before .before .before .before .before .before .before .before .before .before .before .before .before .before .before .before .before .before .before .before .before .before .before .before .before .before .before .before .pair) .kept .1 .1 .1 .1 .1 .1 .0
+same-length-5 c =
+    let pair3 = c .before .before .before .before .before .before .before .before .before .before .before .before .before .before .pair3 in
+    let mid = c .before .before .before .before .before .before .before .before .before .before .before .before .before .before .before .before .before .before .before .before .before .before .before .before .before in
+    let pair2 = mid .before .before .before .before .before .before .before .before .before .before .before .before .before .pair2 in
+    let far = mid .before .before .before .before .before .before .before .before .before .before .before .before .before .before .before .before .before .before .before .before .before .before .before .before .before in
+    let pair = far .before .before .before .before .before .before .before .before .before .before .before .before .pair in
+    pair3 .kept .1 .1 .1 .1 .1 .1 .0 ∙ pair2 .kept .1 .1 .1 .1 .1 .1 .0 ∙ pair .kept .1 .1 .1 .1 .1 .1 .0
 
 same-length-6 : tie.Need-same-length-6
-same-length-6 c = (c .before .before .before .before .before .before .before .before .before .before .before .before .before .before .pair3) .kept .1 .1 .1 .1 .1 .1 .1 .0 ∙ (c .before .before .before .before .before .before .before .before .before .before .before .before .before .before .before .before .before .before .before .before .before .before .before .before .before .before .before .before .before .before .before .before .before .before .before .before .before .before .pair2) .kept .1 .1 .1 .1 .1 .1 .1 .0 ∙ (c .before .before .before .before .before .before .before .before .before .before .before .before .before .before .before .before .before .before .before .before .before .before .before .before .before .before .before .before .before .before .before .before .before .before .before .before .before .before .before .before .before .before .before .before .before .before .before .before .before .before .before .before .before .before .before .before .before .before .before .before .before .before .pair) .kept .1 .1 .1 .1 .1 .1 .1 .0
+same-length-6 c =
+    let pair3 = c .before .before .before .before .before .before .before .before .before .before .before .before .before .before .pair3 in
+    let mid = c .before .before .before .before .before .before .before .before .before .before .before .before .before .before .before .before .before .before .before .before .before .before .before .before .before in
+    let pair2 = mid .before .before .before .before .before .before .before .before .before .before .before .before .before .pair2 in
+    let far = mid .before .before .before .before .before .before .before .before .before .before .before .before .before .before .before .before .before .before .before .before .before .before .before .before .before in
+    let pair = far .before .before .before .before .before .before .before .before .before .before .before .before .pair in
+    pair3 .kept .1 .1 .1 .1 .1 .1 .1 .0 ∙ pair2 .kept .1 .1 .1 .1 .1 .1 .1 .0 ∙ pair .kept .1 .1 .1 .1 .1 .1 .1 .0
 
 same-length-7 : tie.Need-same-length-7
-same-length-7 c = (c .before .before .before .before .before .before .before .before .before .before .before .before .before .before .pair3) .kept .1 .1 .1 .1 .1 .1 .1 .1 .0 ∙ (c .before .before .before .before .before .before .before .before .before .before .before .before .before .before .before .before .before .before .before .before .before .before .before .before .before .before .before .before .before .before .before .before .before .before .before .before .before .before .pair2) .kept .1 .1 .1 .1 .1 .1 .1 .1 .0 ∙ (c .before .before .before .before .before .before .before .before .before .before .before .before .before .before .before .before .before .before .before .before .before .before .before .before .before .before .before .before .before .before .before .before .before .before .before .before .before .before .before .before .before .before .before .before .before .before .before .before .before .before .before .before .before .before .before .before .before .before .before .before .before .before .pair) .kept .1 .1 .1 .1 .1 .1 .1 .1 .0
+same-length-7 c =
+    let pair3 = c .before .before .before .before .before .before .before .before .before .before .before .before .before .before .pair3 in
+    let mid = c .before .before .before .before .before .before .before .before .before .before .before .before .before .before .before .before .before .before .before .before .before .before .before .before .before in
+    let pair2 = mid .before .before .before .before .before .before .before .before .before .before .before .before .before .pair2 in
+    let far = mid .before .before .before .before .before .before .before .before .before .before .before .before .before .before .before .before .before .before .before .before .before .before .before .before .before in
+    let pair = far .before .before .before .before .before .before .before .before .before .before .before .before .pair in
+    pair3 .kept .1 .1 .1 .1 .1 .1 .1 .1 .0 ∙ pair2 .kept .1 .1 .1 .1 .1 .1 .1 .1 .0 ∙ pair .kept .1 .1 .1 .1 .1 .1 .1 .1 .0
 
 returns : tie.Need-returns
 returns c = search needs

@@ -18,10 +18,16 @@ write-all-requires : tie.Need-write-all-requires
 write-all-requires c κs = search needs
 
 same-length : tie.Need-same-length
-same-length c = (c .before .before .before .before .before .before .forget) .kept .0 ∙ (c .before .before .before .before .before .before .before .before .before .before .before .before .before .before .before .before .before .before .before .before .before .before .before .solve-texts) .kept .1 .1 .0
+same-length c =
+    let forget = c .before .before .before .before .before .before .forget in
+    let solve-texts = c .before .before .before .before .before .before .before .before .before .before .before .before .before .before .before .before .before .before .before .before .before .before .before .solve-texts in
+    forget .kept .0 ∙ solve-texts .kept .1 .1 .0
 
 same-length-2 : tie.Need-same-length-2
-same-length-2 c = (c .before .before .before .before .before .before .forget) .kept .1 .0 ∙ (c .before .before .before .before .before .before .before .before .before .before .before .before .before .before .before .before .before .before .before .before .before .before .before .solve-texts) .kept .1 .1 .1 .0
+same-length-2 c =
+    let forget = c .before .before .before .before .before .before .forget in
+    let solve-texts = c .before .before .before .before .before .before .before .before .before .before .before .before .before .before .before .before .before .before .before .before .before .before .before .solve-texts in
+    forget .kept .1 .0 ∙ solve-texts .kept .1 .1 .1 .0
 
 same-length-3 : tie.Need-same-length-3
 same-length-3 c = (c .before .before .before .before .before .before .before .before .before .before .before .before .before .before .before .before .before .before .before .before .before .before .before .solve-texts) .kept .1 .1 .1 .1 .0
@@ -39,7 +45,10 @@ same-length-7 : tie.Need-same-length-7
 same-length-7 c = (c .before .before .before .before .before .before .before .before .before .before .before .before .before .before .before .before .before .before .before .before .before .before .before .solve-texts) .kept .1 .1 .1 .1 .1 .1 .1 .1 .0
 
 returns : tie.Need-returns
-returns c = record { good = (c .before .before .before .before .before .before .forget) .ensures .good; scratch = (c .before .before .before .before .before .before .before .before .before .before .before .before .before .before .before .before .before .before .before .before .before .before .before .solve-texts) .ensures .scratch }
+returns c =
+    let forget = c .before .before .before .before .before .before .forget in
+    let solve-texts = c .before .before .before .before .before .before .before .before .before .before .before .before .before .before .before .before .before .before .before .before .before .before .before .solve-texts in
+    record { good = forget .ensures .good; scratch = solve-texts .ensures .scratch }
 
 pub pair-spec : {M : Type 1} → statement M
 pair-spec =

@@ -1,7 +1,8 @@
 use mathlib.Core.Path.{_≡_, refl, sym, ap, _∙_}
 use Prim.Native.Nat.{ℕ, _+_, _-_, _*_, _≤_, _<_}
 use native.Mathlib.Omega.{arith}
-use Rattle.sexp.specs.RowLaws.{Looking, looking-start, looking-row, looking-here, looking-on, looking-over, name-order, name-within}
+use Rattle.sexp.specs.RowLaws.{name-order, name-within}
+use Rattle.sexp.proofs.Lookings.{Looking, looking-start, looking-row, looking-here, looking-on, looking-over}
 use borrow.Author.Needs.{needs}
 use Rattle.sexp.proofs.names.named.Statement.{statement}
 use Rattle.sexp.proofs.names.named.Tie as tie

@@ -82,7 +82,12 @@ atom-end-requires : tie.Need-atom-end-requires Inv-loop μ-loop
 atom-end-requires c κs = here (c .before .before .before .before) .high
 
 loop-less-4 : tie.Need-loop-less-4 Inv-loop μ-loop
-loop-less-4 c = omega (arith, turns.longer (here (c .before .before .before .before .before)) ((c .before .before .before .before .if1) .left) (letter-at (c .before)) _ ((c .atom-end) .ensures), (c .before .before .before .before .if1) .left, (c .before .before .before .before .before .skip) .ensures .low)
+loop-less-4 c =
+    let after-skip = c .before .before .before .before .before in
+    let if1 = c .before .before .before .before .if1 in
+    let else5 = c .before in
+    let skip = c .before .before .before .before .before .skip in
+    omega (arith, turns.longer (here after-skip) (if1 .left) (letter-at else5) _ ((c .atom-end) .ensures), if1 .left, skip .ensures .low)
 
 loop-again-4 : tie.Need-loop-again-4 Inv-loop μ-loop
 loop-again-4 c = turns.words (here (c .before .before .before .before .before)) ((c .before .before .before .before .if1) .left) (letter-at (c .before)) _ ((c .atom-end) .ensures)

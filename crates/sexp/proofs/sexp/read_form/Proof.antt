@@ -48,7 +48,17 @@ same-length-2 : tie.Need-same-length-2
 same-length-2 c = search needs
 
 returns-4 : tie.Need-returns-4
-returns-4 c = rw ((c .before .before .before .put) .ensures) (states.word-last (here (c .before .before .before .before .before .before .before .before .before)) ((c .before .before .before .before .before .before .before .before .if1) .left) (letter-here _ ((c .before .before .before .before .before .before .before .before .before .skip) .ensures .noBlank ((c .before .before .before .before .before .before .before .before .if1) .left)) ((c .before .before .before .before .before .before .before .before .before .skip) .ensures .noComment ((c .before .before .before .before .before .before .before .before .if1) .left)) ((c .before .before .before .before .before .before .if2) .left) ((c .before .before .before .before .before .if3) .left)) _ ((c .atom-end) .ensures) refl)
+returns-4 c =
+    let put = c .before .before .before .put in
+    let after-skip = c .before .before .before .before .before .before .before .before .before in
+    let if1 = c .before .before .before .before .before .before .before .before .if1 in
+    let skip = c .before .before .before .before .before .before .before .before .before .skip in
+    let if2 = c .before .before .before .before .before .before .if2 in
+    let if3 = c .before .before .before .before .before .if3 in
+    rw (put .ensures)
+    (states.word-last (here after-skip) (if1 .left)
+    (letter-here _ (skip .ensures .noBlank (if1 .left)) (skip .ensures .noComment (if1 .left)) (if2 .left) (if3 .left)) _
+    ((c .atom-end) .ensures) refl)
 
 pub read-form-spec : {M : Type 1} → statement M
 read-form-spec =

@@ -38,7 +38,13 @@ same-length : tie.Need-same-length Inv-loop μ-loop
 same-length c = (c .before .before .refused) .kept .0 ∙ states.same-length (here (c .before .before .before .before .before))
 
 returns : tie.Need-returns Inv-loop μ-loop
-returns c = rw ((c .before .before .refused) .ensures .0) (states.refused (here (c .before .before .before .before .before)) 4 (states.unclosed (here (c .before .before .before .before .before)) ((c .before .before .before .before .if1) .taken) ((c .before .before .before .before .before .before .loop) .inv .1)) _ ((c .before .before .refused) .ensures .1))
+returns c =
+    let refused′ = c .before .before .refused in
+    let after-skip = c .before .before .before .before .before in
+    let if1 = c .before .before .before .before .if1 in
+    let loop = c .before .before .before .before .before .before .loop in
+    rw (refused′ .ensures .0)
+    (states.refused (here after-skip) 4 (states.unclosed (here after-skip) (if1 .taken) (loop .inv .1)) _ (refused′ .ensures .1))
 
 shared-slice-read-b : tie.Need-shared-slice-read-b Inv-loop μ-loop
 shared-slice-read-b c = (c .before .if1) .left
@@ -50,7 +56,15 @@ same-length-2 : tie.Need-same-length-2 Inv-loop μ-loop
 same-length-2 c = (c .before .before .refused2) .kept .0 ∙ states.same-length (here (c .before .before .before .before .before .before .before .before))
 
 returns-2 : tie.Need-returns-2 Inv-loop μ-loop
-returns-2 c = rw ((c .before .before .refused2) .ensures .0) (states.refused (here (c .before .before .before .before .before .before .before .before)) 5 (states.too-deep (here (c .before .before .before .before .before .before .before .before)) ((c .before .before .before .before .before .before .before .if1) .left) ((c .before .before .before .before .before .if2) .taken) ((c .before .before .before .before .if3) .taken)) _ ((c .before .before .refused2) .ensures .1))
+returns-2 c =
+    let refused2 = c .before .before .refused2 in
+    let after-skip = c .before .before .before .before .before .before .before .before in
+    let if1 = c .before .before .before .before .before .before .before .if1 in
+    let if2 = c .before .before .before .before .before .if2 in
+    let if3 = c .before .before .before .before .if3 in
+    rw (refused2 .ensures .0)
+    (states.refused (here after-skip) 5 (states.too-deep (here after-skip) (if1 .left) (if2 .taken) (if3 .taken)) _
+    (refused2 .ensures .1))
 
 put-requires : tie.Need-put-requires Inv-loop μ-loop
 put-requires c κs = states.room-open (here (c .before .before .before .before .before)) ((c .before .before .before .before .if1) .left)
@@ -68,7 +82,13 @@ loop-less : tie.Need-loop-less Inv-loop μ-loop
 loop-less c = omega (arith, (c .before .before .before .before .before .before .before .if1) .left, (c .before .before .before .before .before .before .before .before .skip) .ensures .low)
 
 loop-again : tie.Need-loop-again Inv-loop μ-loop
-loop-again c = (rw ((c .before .before .put) .ensures) (states.opens-on (here (c .before .before .before .before .before .before .before .before)) ((c .before .before .before .before .before .before .before .if1) .left) ((c .before .before .before .before .before .if2) .taken) ((c .before .before .before .before .if3) .left)), λ e. omega arith)
+loop-again c =
+    let put = c .before .before .put in
+    let after-skip = c .before .before .before .before .before .before .before .before in
+    let if1 = c .before .before .before .before .before .before .before .if1 in
+    let if2 = c .before .before .before .before .before .if2 in
+    let if3 = c .before .before .before .before .if3 in
+    (rw (put .ensures) (states.opens-on (here after-skip) (if1 .left) (if2 .taken) (if3 .left)), λ e. omega arith)
 
 sub-close-list : tie.Need-sub-close-list Inv-loop μ-loop
 sub-close-list c = omega (arith, states.head-used (here (c .before .before .before .before .before)) ((c .before .before .before .before .before .before .loop) .inv .1))
@@ -89,13 +109,28 @@ same-length-3 : tie.Need-same-length-3 Inv-loop μ-loop
 same-length-3 c = (c .before .before .before .close-list) .kept .0 ∙ states.same-length (here (c .before .before .before .before .before .before .before .before .before))
 
 returns-3 : tie.Need-returns-3 Inv-loop μ-loop
-returns-3 c = rw ((c .before .before .before .close-list) .ensures .1) (states.closes-last (here (c .before .before .before .before .before .before .before .before .before)) ((c .before .before .before .before .before .before .before .before .if1) .left) ((c .before .before .before .before .before .if4) .taken) ((c .before .before .before .before .before .before .before .before .before .before .loop) .inv .1) ((c .if5) .taken))
+returns-3 c =
+    let close-list = c .before .before .before .close-list in
+    let after-skip = c .before .before .before .before .before .before .before .before .before in
+    let if1 = c .before .before .before .before .before .before .before .before .if1 in
+    let if4 = c .before .before .before .before .before .if4 in
+    let loop = c .before .before .before .before .before .before .before .before .before .before .loop in
+    rw (close-list .ensures .1) (states.closes-last (here after-skip) (if1 .left) (if4 .taken) (loop .inv .1) ((c .if5) .taken))
 
 loop-less-2 : tie.Need-loop-less-2 Inv-loop μ-loop
 loop-less-2 c = omega (arith, (c .before .before .before .before .before .before .before .before .if1) .left, (c .before .before .before .before .before .before .before .before .before .skip) .ensures .low)
 
 loop-again-2 : tie.Need-loop-again-2 Inv-loop μ-loop
-loop-again-2 c = (rw ((c .before .before .before .close-list) .ensures .0, (c .before .before .before .close-list) .ensures .1) (states.closes-on (here (c .before .before .before .before .before .before .before .before .before)) ((c .before .before .before .before .before .before .before .before .if1) .left) ((c .before .before .before .before .before .if4) .taken) ((c .before .before .before .before .before .before .before .before .before .before .loop) .inv .1) ((c .if5) .left)), (c .if5) .left)
+loop-again-2 c =
+    let close-list = c .before .before .before .close-list in
+    let after-skip = c .before .before .before .before .before .before .before .before .before in
+    let if1 = c .before .before .before .before .before .before .before .before .if1 in
+    let if4 = c .before .before .before .before .before .if4 in
+    let loop = c .before .before .before .before .before .before .before .before .before .before .loop in (
+      rw (close-list .ensures .0, close-list .ensures .1)
+          (states.closes-on (here after-skip) (if1 .left) (if4 .taken) (loop .inv .1) ((c .if5) .left)),
+      (c .if5) .left,
+    )
 
 -- the byte in front is a letter
 letter-at : (c : tie.Else4 Inv-loop μ-loop) → kind (getD ((c .before .before .before .before .before .before .before .before .args) .text .now) ((c .before .before .before .before .skip) .result) 0) ≡ letter
@@ -117,10 +152,24 @@ atom-end-requires : tie.Need-atom-end-requires Inv-loop μ-loop
 atom-end-requires c κs = here (c .before .before .before .before .before .before .before .before) .high
 
 loop-less-3 : tie.Need-loop-less-3 Inv-loop μ-loop
-loop-less-3 c = omega (arith, states.longer (here (c .before .before .before .before .before .before .before .before .before)) ((c .before .before .before .before .before .before .before .before .if1) .left) (letter-at (c .before .before .before .before .before)) _ ((c .atom-end) .ensures), (c .before .before .before .before .before .before .before .before .if1) .left, (c .before .before .before .before .before .before .before .before .before .skip) .ensures .low)
+loop-less-3 c =
+    let after-skip = c .before .before .before .before .before .before .before .before .before in
+    let if1 = c .before .before .before .before .before .before .before .before .if1 in
+    let else4 = c .before .before .before .before .before in
+    let skip = c .before .before .before .before .before .before .before .before .before .skip in
+    omega (arith, states.longer (here after-skip) (if1 .left) (letter-at else4) _ ((c .atom-end) .ensures), if1 .left, skip .ensures .low)
 
 loop-again-3 : tie.Need-loop-again-3 Inv-loop μ-loop
-loop-again-3 c = (rw ((c .before .before .before .put2) .ensures) (states.word-on (here (c .before .before .before .before .before .before .before .before .before)) ((c .before .before .before .before .before .before .before .before .if1) .left) (letter-at (c .before .before .before .before .before)) _ ((c .atom-end) .ensures) ((c .before .before .before .before .before .before .before .before .before .before .loop) .inv .1)), (c .before .before .before .before .before .before .before .before .before .before .loop) .inv .1)
+loop-again-3 c =
+    let put2 = c .before .before .before .put2 in
+    let after-skip = c .before .before .before .before .before .before .before .before .before in
+    let if1 = c .before .before .before .before .before .before .before .before .if1 in
+    let else4 = c .before .before .before .before .before in
+    let loop = c .before .before .before .before .before .before .before .before .before .before .loop in (
+      rw (put2 .ensures) (states.word-on (here after-skip) (if1 .left) (letter-at else4) _ ((c .atom-end) .ensures) (loop .inv .1)),
+      loop
+          .inv .1,
+    )
 
 pub read-list-spec : {M : Type 1} → statement M
 read-list-spec =

@@ -48,7 +48,21 @@ unfolding proofTags tagAt
 returns-10 c = sym (ap (λ (k : ℕ). tagAnswer (tagAt proofTags k)) ((c .match) .keys10))
 
 returns-11 : tie.Need-returns-11
-returns-11 c = proof-none _ (up 9 (up 8 (up 7 (up 6 (up 5 (up 4 (up 3 (up 2 (up 1 (up 0 zero-le ((c .match) .rest .0 .0 .0 .0 .0 .0 .0 .0 .0 .1)) ((c .match) .rest .0 .0 .0 .0 .0 .0 .0 .0 .1)) ((c .match) .rest .0 .0 .0 .0 .0 .0 .0 .1)) ((c .match) .rest .0 .0 .0 .0 .0 .0 .1)) ((c .match) .rest .0 .0 .0 .0 .0 .1)) ((c .match) .rest .0 .0 .0 .0 .1)) ((c .match) .rest .0 .0 .0 .1)) ((c .match) .rest .0 .0 .1)) ((c .match) .rest .0 .1)) ((c .match) .rest .1))
+returns-11 c =
+    proof-none _
+    (up 9
+    (up 8
+    (up 7
+    (up 6
+    (up 5
+    (up 4
+    (up 3
+    (up 2
+    (up 1 (up 0 zero-le ((c .match) .rest .0 .0 .0 .0 .0 .0 .0 .0 .0 .1))
+    ((c .match) .rest .0 .0 .0 .0 .0 .0 .0 .0 .1))
+    ((c .match) .rest .0 .0 .0 .0 .0 .0 .0 .1)) ((c .match) .rest .0 .0 .0 .0 .0 .0 .1))
+    ((c .match) .rest .0 .0 .0 .0 .0 .1)) ((c .match) .rest .0 .0 .0 .0 .1))
+    ((c .match) .rest .0 .0 .0 .1)) ((c .match) .rest .0 .0 .1)) ((c .match) .rest .0 .1)) ((c .match) .rest .1))
 
 pub tag-at-spec : {M : Type 1} → statement M
 tag-at-spec =

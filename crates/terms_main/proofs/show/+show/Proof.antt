@@ -63,7 +63,10 @@ show-returns : (t : ℕ) → show-lts.Need-returns (cs t) (show-at t) show.Post 
 show-returns t c = search needs
 
 show-add-if2 : (t : ℕ) → show-lts.Need-add-if2 (cs t) (show-at t) show.Post show-Inv-loop show-μ-loop
-show-add-if2 t c = omega (arith, start-in _ _ _ ((c .before .before .before .before .before .before .pre) .1 .0) _ ((c .before .before .before .before .before .before .pre) .1 .1) _ ((c .before .before .before .start-of) .ensures), (c .before .before .before .before .before .before .pre) .1 .0 .words)
+show-add-if2 t c =
+    let pre = c .before .before .before .before .before .before .pre in
+    let start-of = c .before .before .before .start-of in
+    omega (arith, start-in _ _ _ (pre .1 .0) _ (pre .1 .1) _ (start-of .ensures), pre .1 .0 .words)
 
 show-name-requires : (t : ℕ) → show-lts.Need-name-requires (cs t) (show-at t) show.Post show-Inv-loop show-μ-loop
 show-name-requires t c κs = search needs
@@ -81,10 +84,17 @@ show-name-requires-2 : (t : ℕ) → show-lts.Need-name-requires-2 (cs t) (show-
 show-name-requires-2 t c κs = search needs
 
 show-add-at : (t : ℕ) → show-lts.Need-add-at (cs t) (show-at t) show.Post show-Inv-loop show-μ-loop
-show-add-at t c = omega (arith, start-in _ _ _ ((c .before .before .before .before .before .before .before .before .before .before .pre) .1 .0) _ ((c .before .before .before .before .before .before .before .before .before .before .pre) .1 .1) _ ((c .before .before .before .before .before .before .before .start-of) .ensures), (c .before .before .before .before .before .before .before .before .before .before .pre) .1 .0 .words)
+show-add-at t c =
+    let pre = c .before .before .before .before .before .before .before .before .before .before .pre in
+    let start-of = c .before .before .before .before .before .before .before .start-of in
+    omega (arith, start-in _ _ _ (pre .1 .0) _ (pre .1 .1) _ (start-of .ensures), pre .1 .0 .words)
 
 show-loop-holds : (t : ℕ) → show-lts.Need-loop-holds (cs t) (show-at t) show.Post show-Inv-loop show-μ-loop
-show-loop-holds t c = walk-start _ _ _ _ _ ((c .before .before .before .before .before .before .before .before .before .before .pre) .1 .0) ((c .before .before .before .before .before .before .before .before .before .before .pre) .1 .1) ((c .before .before .before .before .before .before .before .start-of) .ensures) ((c .before .before .before .before .if1) .left)
+show-loop-holds t c =
+    let pre = c .before .before .before .before .before .before .before .before .before .before .pre in
+    let start-of = c .before .before .before .before .before .before .before .start-of in
+    let if1 = c .before .before .before .before .if1 in
+    walk-start _ _ _ _ _ (pre .1 .0) (pre .1 .1) (start-of .ensures) (if1 .left)
 
 show-slice-aggregate-write-all-2 : (t : ℕ) → show-lts.Need-slice-aggregate-write-all-2 (cs t) (show-at t) show.Post show-Inv-loop show-μ-loop
 show-slice-aggregate-write-all-2 t c = search needs
@@ -102,10 +112,20 @@ show-cast-arg : (t : ℕ) → show-lts.Need-cast-arg (cs t) (show-at t) show.Pos
 show-cast-arg t c = omega (arith, (c .shared-slice-known5) .given ((c .before .before .before .before .loop) .at))
 
 show-show-requires : (t : ℕ) → show-lts.Need-show-requires (cs t) (show-at t) show.Post show-Inv-loop show-μ-loop
-show-show-requires t c κs = (omega (arith, walk-falls _ _ _ _ _ _ _ ((c .before .before .before .before .loop) .inv) ((c .before .before .before .loop-test) .taken), (c .before .before .before .before .before .before .before .before .before .before .before .before .before .before .before .pre) .0), ((c .before .before .before .before .before .before .before .before .before .before .before .before .before .before .before .pre) .1 .0, omega (arith, walk-falls _ _ _ _ _ _ _ ((c .before .before .before .before .loop) .inv) ((c .before .before .before .loop-test) .taken), (c .before .before .before .before .before .before .before .before .before .before .before .before .before .before .before .pre) .1 .1)))
+show-show-requires t c κs =
+    let loop = c .before .before .before .before .loop in
+    let loop-test = c .before .before .before .loop-test in
+    let pre = c .before .before .before .before .before .before .before .before .before .before .before .before .before .before .before .pre in (
+      omega (arith, walk-falls _ _ _ _ _ _ _ (loop .inv) (loop-test .taken), pre .0),
+      (pre .1 .0, omega (arith, walk-falls _ _ _ _ _ _ _ (loop .inv) (loop-test .taken), pre .1 .1)),
+    )
 
 show-add-at-2 : (t : ℕ) → show-lts.Need-add-at-2 (cs t) (show-at t) show.Post show-Inv-loop show-μ-loop
-show-add-at-2 t c = omega (arith, walk-in _ _ _ _ _ _ _ ((c .before .before .before .before .before .loop) .inv) ((c .before .before .before .before .loop-test) .taken), (c .before .before .before .before .before .before .before .before .before .before .before .before .before .before .before .before .pre) .1 .0 .words)
+show-add-at-2 t c =
+    let loop = c .before .before .before .before .before .loop in
+    let loop-test = c .before .before .before .before .loop-test in
+    let pre = c .before .before .before .before .before .before .before .before .before .before .before .before .before .before .before .before .pre in
+    omega (arith, walk-in _ _ _ _ _ _ _ (loop .inv) (loop-test .taken), pre .1 .0 .words)
 
 show-loop-less : (t : ℕ) → show-lts.Need-loop-less (cs t) (show-at t) show.Post show-Inv-loop show-μ-loop
 show-loop-less t c = search needs

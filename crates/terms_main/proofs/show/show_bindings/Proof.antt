@@ -34,7 +34,11 @@ sub-show-line : tie.Need-sub-show-line Inv-loop μ-loop
 sub-show-line c = search needs
 
 show-line-requires : tie.Need-show-line-requires Inv-loop μ-loop
-show-line-requires c κs = ((c .before .before .before .before .before .before .before .before .before .pre) .0, omega (arith, (c .before .before .before .before .before .before .before .before .before .pre) .1 .bound ((c .before .before .before .before .before .loop) .v), (c .before .before .if1) .taken))
+show-line-requires c κs =
+    let pre = c .before .before .before .before .before .before .before .before .before .pre in
+    let loop = c .before .before .before .before .before .loop in
+    let if1 = c .before .before .if1 in
+    (pre .0, omega (arith, pre .1 .bound (loop .v), if1 .taken))
 
 add-v : tie.Need-add-v Inv-loop μ-loop
 add-v c = search needs
