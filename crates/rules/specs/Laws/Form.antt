@@ -108,7 +108,7 @@ derives : {S : State} {f : Fact} {c : Counts} → c .hypotheses ≡ 0 → Derive
 unfolding assumedOne
 derives e d = record { shape = derived d; weighs = rw (d .assumed) e }
 
-next-still : (xs : Sexps) (S : State) → Still S (next xs S)
+pub next-still : (xs : Sexps) (S : State) → Still S (next xs S)
 unfolding next then
 next-still xs S = still-then _ _ (index-still 31 (item xs 1)) λ i. asked (eqb i (length (S .facts)))
   where
@@ -122,7 +122,7 @@ not-true false e = refl
 
 -- Variables, abbreviations, goals -------------------------------------------------------------------------------------------------
 
-add-var-takes : {P : Unit {0} → State → Type 0} (text : ℕ) (xs : Sexps) (S : State) →
+pub add-var-takes : {P : Unit {0} → State → Type 0} (text : ℕ) (xs : Sexps) (S : State) →
     ((v : Var) → length (S .vars) < VARIABLES → P tt (withVars S (S .vars ++ (v ∷ [])))) → Ok P (addVar text xs S)
 unfolding addVar
 add-var-takes text xs S h =
