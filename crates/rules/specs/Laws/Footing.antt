@@ -9,12 +9,12 @@ use mathlib.Core.Logic.{inl, inr}
 use mathlib.Core.Option.{Option, some, none as nothing}
 use mathlib.Core.List.{List, [], _∷_, _++_}
 use native.Mathlib.Omega.{arith}
-use borrow.Author.Tests.{eqb-true, ltb-true}
+use borrow.Author.Tests.{eqb-true}
 use lib.Dec.{eqb, leb, ltb}
 use lib.ListN.{length}
 use Rattle.rules.specs.Text.{same}
 use Rattle.rules.specs.Limits.{DEFS, FACTS, ENTRIES}
-use Rattle.rules.specs.Out.{Out, ok, refuse, then, Act, ask, found}
+use Rattle.rules.specs.Out.{Out, ok, refuse, then, Act, found}
 use Rattle.rules.specs.Sexp.{Sexp, Sexps, atom, list, nil, cons, count, item, Name, name, marked}
 use Rattle.rules.specs.Index.{indexOf}
 use Rattle.rules.specs.Tags.{Tag, aVar, aDef, aStep, aHyp, aRuleHyp, anInduct, anInductWith, anApply, anInvert, aResult, proofTag}
@@ -31,7 +31,7 @@ use Rattle.rules.specs.Step.{references, step}
 use Rattle.rules.specs.Apply.{discharge, apply}
 use Rattle.rules.specs.Induct.{inductOn, induct, inductWith}
 use Rattle.rules.specs.Invert.{invert}
-use Rattle.rules.specs.Forms.{withMade, withVars, making, addDef, addFact, oneHypothesis, oneInduction, oneInversion, someInstances, hypothesis, addHyp, addRuleHyp, addStep, addApply, addInduct, addInductWith, addInvert, listed, result, perform, takeForm}
+use Rattle.rules.specs.Forms.{withMade, withVars, making, addDef, addFact, oneInduction, oneInversion, someInstances, hypothesis, addHyp, addRuleHyp, addStep, addApply, addInduct, addInductWith, addInvert, listed, result, perform, takeForm}
 use Rattle.rules.specs.Laws.Out.{Ok, fine, off, of-ok, weaken, by-then, by-name, by-items, by-ask, by-room, by-found}
 use Rattle.rules.specs.Laws.Set.{rising-agree, rising-from-none}
 use Rattle.rules.specs.Laws.Tally.{tagOf, itemsOf, tag-is}
@@ -234,7 +234,7 @@ module _ (S : State) (P : Fact → Type 0) where
 
   add-fact-records : (g : Fact) (c : Counts) (T : State) → T .facts ≡ S .facts → P g → Ok (λ a U. Recorded S P U) (addFact g c T)
   unfolding addFact
-  add-fact-records g c T e p = 
+  add-fact-records g c T e p =
       go-on _ (by-room 12 (ltb (length (T .facts)) FACTS) T _ λ l. by-room 13 (leb (entries T + factEntries g) ENTRIES) T _ λ d.
       fine (subst (λ fs. Behind (S .facts) P (fs ++ (g ∷ []))) (sym e) (one-fact g p)))
 

@@ -1,6 +1,6 @@
 -- What a form of the proof counts, by its tag and its items alone. Assumes nothing.
 use Prim.Native.Nat.{ℕ, _+_}
-use mathlib.Core.Path.{_≡_, refl, ap, ap₂, subst, sym}
+use mathlib.Core.Path.{_≡_, refl, ap₂, subst, sym}
 use mathlib.Core.Option.{Option, some, none as nothing}
 use native.Mathlib.Omega.{arith}
 use Rattle.rules.specs.Out.{ok}

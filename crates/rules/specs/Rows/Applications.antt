@@ -1,7 +1,6 @@
 -- Rows on `apply`. Assumes nothing.
-use Prim.Native.Nat.{ℕ}
-use mathlib.Core.Path.{_≡_, refl}
-use mathlib.Core.List.{List, [], _∷_, _++_}
+use mathlib.Core.Path.{refl}
+use mathlib.Core.List.{[], _∷_}
 use Rattle.rules.specs.Text.{bytes}
 use Rattle.rules.specs.Run.{running}
 use Rattle.rules.specs.Examples.{Row, AllHold, theory}
@@ -30,6 +29,12 @@ secondNotGeneral = proved "(var y Pass) (hyp 0 () (Child x) (x)) (apply 1 0 ((x 
 abbrev notAllPlain : Row
 notAllPlain = over "(rule b ((Child ?p) (Adult ?p)) (Bad ?p))" "(hyp 0 (Child x)) (hyp 1 () (Adult x) (x)) (step 2 b (0 1)) (apply 3 2 () v)" (stops 40 3)
 
+pub apply-facts :
+    AllHold
+    (indexBeforeBindings ∷ bindingsBeforeFact ∷ bindingsAtom ∷ laterFact ∷ secondNotGeneral ∷ notAllPlain ∷ [])
+unfolding running AllHold
+apply-facts = (refl, (refl, (refl, (refl, (refl, (refl, tt))))))
+
 -- The references --------------------------------------------------------------------------------------------------------------------------
 
 abbrev applyAtom : Row
@@ -56,6 +61,10 @@ assumedRuleOther = proved "(hyp 0 ((Child x)) (Bad x) (x)) (step 1 c0 ()) (apply
 abbrev risingPremises : Row
 risingPremises = over "(rule b ((Child ?p) (Adult ?p)) (Bad ?p))" "(hyp 0 (Adult x)) (hyp 1 (Child x)) (step 2 b (1 0)) (apply 3 2 () (0 1))" (takes 4)
 
+-- the first reference for both premises
+abbrev firstForBoth : Row
+firstForBoth = over "(rule b ((Child ?p) (Adult ?p)) (Bad ?p))" "(hyp 0 (Adult x)) (hyp 1 (Child x)) (step 2 b (1 0)) (apply 3 2 () (0 0))" (stops 38 3)
+
 -- each premise is compared before the next reference is read
 abbrev premiseBeforeNext : Row
 premiseBeforeNext = over "(rule b ((Child ?p) (Adult ?p)) (Bad ?p))" "(hyp 0 (Adult x)) (hyp 1 (Child x)) (step 2 b (1 0)) (apply 3 2 () (1 9))" (stops 38 3)
@@ -68,6 +77,13 @@ discharged = record {
   proof = bytes "(hyp 0 (Child x)) (step 1 c1 (0)) (step 2 c0 ()) (apply 3 1 ((x first)) ((2))) (result g 3)";
   says = 1 ∷ 4 ∷ 1 ∷ 0 ∷ 1 ∷ 0 ∷ 0 ∷ 0 ∷ [];
 }
+
+pub apply-references :
+    AllHold
+    (applyAtom ∷ tooFew ∷ tooMany ∷ numberFirst ∷ assumedRule ∷ assumedRuleOther ∷ risingPremises ∷ firstForBoth ∷ premiseBeforeNext
+    ∷ discharged ∷ [])
+unfolding running AllHold
+apply-references = (refl, (refl, (refl, (refl, (refl, (refl, (refl, (refl, (refl, (refl, tt))))))))))
 
 -- Question 39 -------------------------------------------------------------------------------------------------------------------------------
 
@@ -87,11 +103,8 @@ secondValueOutside = proved "(var y Pass) (hyp 0 () (Child x) (x y)) (apply 1 0 
 abbrev lowestOfBoth : Row
 lowestOfBoth = proved "(var y Pass) (hyp 0 ((Same y (renew y))) (Bad first) (x y)) (step 1 s () (?p y)) (apply 2 0 ((x x)) (1))" (outside 1 3)
 
-pub applications :
+pub apply-scopes :
     AllHold
-    (indexBeforeBindings ∷ bindingsBeforeFact ∷ bindingsAtom ∷ laterFact ∷ secondNotGeneral ∷ notAllPlain ∷ applyAtom ∷ tooFew ∷ tooMany
-    ∷ numberFirst ∷ assumedRule ∷ assumedRuleOther ∷ risingPremises ∷ premiseBeforeNext ∷ discharged ∷ premiseOutside ∷ premiseFree
-    ∷ secondValueOutside ∷ lowestOfBoth ∷ [])
+    (premiseOutside ∷ premiseFree ∷ secondValueOutside ∷ lowestOfBoth ∷ [])
 unfolding running AllHold
-applications =
-    (refl, (refl, (refl, (refl, (refl, (refl, (refl, (refl, (refl, (refl, (refl, (refl, (refl, (refl, (refl, (refl, (refl, (refl, (refl, tt)))))))))))))))))))
+apply-scopes = (refl, (refl, (refl, (refl, tt))))

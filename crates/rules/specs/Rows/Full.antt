@@ -3,19 +3,19 @@
 use Prim.Native.Nat.{ℕ, zero, suc}
 use Prim.Native.String.{String}
 use mathlib.Core.Path.{_≡_, refl}
-use mathlib.Core.Bool.{Bool, true, false}
+use mathlib.Core.Bool.{true, false}
 use mathlib.Core.List.{List, [], _∷_, _++_}
 use lib.ListN.{length, replicate}
 use Rattle.rules.specs.Text.{bytes}
 use Rattle.rules.specs.Out.{Out, ok, refuse, Act}
 use Rattle.rules.specs.Sexp.{Sexp, Name, read}
-use Rattle.rules.specs.Tree.{Tree, Trees, var, app, none, more}
+use Rattle.rules.specs.Tree.{Tree, var, app, none, more}
 use Rattle.rules.specs.Store.{Made, keep}
-use Rattle.rules.specs.Theory.{Theory, Symbol, Rule, noName, noSymbol, noRule}
-use Rattle.rules.specs.State.{State, Var, Def, Goal, Fact, noVar, begin}
+use Rattle.rules.specs.Theory.{Theory, Symbol, noName, noSymbol, noRule}
+use Rattle.rules.specs.State.{State, Def, Goal, Fact, noVar, begin}
 use Rattle.rules.specs.Declare.{declare}
 use Rattle.rules.specs.Invert.{makeVars}
-use Rattle.rules.specs.Forms.{takeGoal, takeForm, withMade, withVars, withDefs, withGoals, withFacts}
+use Rattle.rules.specs.Forms.{takeGoal, takeForm, withVars, withDefs, withGoals, withFacts}
 use Rattle.rules.specs.Loop.{Judged, done, refused, through}
 use Rattle.rules.specs.Run.{running}
 use Rattle.rules.specs.Rows.Row.{one, two, copies}
@@ -191,6 +191,48 @@ pub proofs-full :
     (var512 ∷ var513 ∷ def512 ∷ def513 ∷ def513Twice ∷ fact1024 ∷ fact1025 ∷ entry16384 ∷ entry16385 ∷ entriesFit ∷ entriesFull ∷ facts12and13 ∷ [])
 unfolding running AllPut copies
 proofs-full = (refl, (refl, (refl, (refl, (refl, (refl, (refl, (refl, (refl, (refl, (refl, (refl, tt))))))))))))
+
+-- Terms made in turn: rows 8 and 9 -----------------------------------------------------------------------------------------------------------------
+
+-- sort N, c of it, predicates P, Q, R of one, two and one arguments, a rule from (Q ?a ?a) to (R ?a)
+abbrev small : Theory
+small = record {
+  sorts = named "N" ∷ [];
+  symbols = symbol "c" [] 1 ∷ symbol "P" (1 ∷ []) 0 ∷ symbol "Q" (1 ∷ 1 ∷ []) 0 ∷ symbol "R" (1 ∷ []) 0 ∷ [];
+  rules = record {
+    name = named "r";
+    vars = record { name = named "?a"; sort = 1 } ∷ [];
+    premises = more (two 2 (var 0) (var 0)) none;
+    conclusion = one 3 (var 0);
+  } ∷ [];
+}
+
+-- variables n and m, a plain hypothesis, and terms with room for one more of two words
+abbrev tight : Tree → List Tree → ℕ → ℕ → State
+tight j ts n w = record {
+  theory = small;
+  vars = record { sort = 1; text = 2; name = named "n" } ∷ record { sort = 1; text = 2; name = named "m" } ∷ [];
+  made = ts ++ (wide w ∷ variables 1000 n);
+  defs = [];
+  goals = [];
+  facts = record { judgment = j; hyps = 0 ∷ []; assumed = true; premises = none; general = []; footing = [] } ∷ [];
+  counts = empty .counts;
+}
+
+-- a case of an induction makes its judgment, (P c) of two words, and then there is no place for the premise (Q c c); the other way round (Q c c) is
+-- too long. So it is with a case of an inversion, (P m) and the rule's premise (Q m m)
+abbrev inductInTurn : Put State
+inductInTurn =
+    put (tight (two 2 (var 0) (var 0)) (var 0 ∷ app 0 none ∷ one 1 (var 0) ∷ []) 4091 12287) "(induct 1 n (0) (P n) ((9)))" (full 8)
+
+abbrev invertInTurn : Put State
+invertInTurn =
+    put (tight (one 3 (var 0)) (var 0 ∷ var 1 ∷ one 1 (var 0) ∷ one 3 (var 0) ∷ one 3 (var 1) ∷ []) 4089 12285)
+    "(invert 1 0 () (P n) ((r 9 (m))))" (full 8)
+
+pub terms-in-turn : AllPut takeForm (inductInTurn ∷ invertInTurn ∷ [])
+unfolding running AllPut copies variables
+terms-in-turn = (refl, (refl, tt))
 
 -- Goals: rows 11 and 13 -----------------------------------------------------------------------------------------------------------------------------
 

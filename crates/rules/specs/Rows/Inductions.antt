@@ -1,8 +1,8 @@
 -- Rows on `induct`. Assumes nothing.
 use Prim.Native.Nat.{ℕ}
 use Prim.Native.String.{String}
-use mathlib.Core.Path.{_≡_, refl}
-use mathlib.Core.List.{List, [], _∷_, _++_}
+use mathlib.Core.Path.{refl}
+use mathlib.Core.List.{List, [], _∷_}
 use Rattle.rules.specs.Text.{bytes}
 use Rattle.rules.specs.Run.{running}
 use Rattle.rules.specs.Examples.{Row, AllHold}
@@ -11,11 +11,18 @@ use Rattle.rules.specs.Rows.Row.{proved, over, stops, takes}
 -- The order of the questions --------------------------------------------------------------------------------------------------------------
 
 -- the variable, the hypotheses, the judgment, the cases and their number, and whether the motive holds the variable
+abbrev variableUnknown : Row
+variableUnknown = proved "(induct 0 v v v)" (stops 36 0)
+
 abbrev variableBeforeHypotheses : Row
 variableBeforeHypotheses = proved "(induct 0 v (9) v v)" (stops 36 0)
 
 abbrev hypothesesBeforeJudgment : Row
 hypothesesBeforeJudgment = proved "(induct 0 x (9) v v)" (stops 34 0)
+
+-- only plain hypotheses may be listed
+abbrev listedRule : Row
+listedRule = proved "(hyp 0 () (Adult x) (x)) (induct 1 x (0) (Child x) ())" (stops 40 1)
 
 abbrev judgmentBeforeCases : Row
 judgmentBeforeCases = proved "(induct 0 x v v)" (stops 22 0)
@@ -36,6 +43,13 @@ tooMany = proved "(step 0 c0 ()) (induct 1 x (Child x) ((0) (0 x) (0)))" (stops 
 -- the first case before the second is read
 abbrev firstCaseFirst : Row
 firstCaseFirst = proved "(induct 0 x (Child x) ((9) v))" (stops 34 0)
+
+pub induct-order :
+    AllHold
+    (variableUnknown ∷ variableBeforeHypotheses ∷ hypothesesBeforeJudgment ∷ listedRule ∷ judgmentBeforeCases ∷ casesAtom
+    ∷ numberBeforeMotive ∷ tooFew ∷ tooMany ∷ firstCaseFirst ∷ [])
+unfolding running AllHold
+induct-order = (refl, (refl, (refl, (refl, (refl, (refl, (refl, (refl, (refl, (refl, tt))))))))))
 
 -- The cases -------------------------------------------------------------------------------------------------------------------------------
 
@@ -63,6 +77,12 @@ judgmentBeforeHypotheses = proved "(hyp 0 (Bad x)) (induct 1 x (Child x) ((0) (0
 abbrev variableInPremise : Row
 variableInPremise = proved "(var y Pass) (hyp 0 (Adult y)) (step 1 c0 ()) (induct 2 x (0) (Child x) ((1) (1 y)))" (stops 42 3)
 
+pub induct-cases :
+    AllHold
+    (caseAtom ∷ caseEmpty ∷ caseNoIndex ∷ variablesBeforeFact ∷ caseUnknown ∷ judgmentBeforeHypotheses ∷ variableInPremise ∷ [])
+unfolding running AllHold
+induct-cases = (refl, (refl, (refl, (refl, (refl, (refl, (refl, tt)))))))
+
 -- Constructors of three arguments ---------------------------------------------------------------------------------------------------------
 
 -- k has two arguments of its own sort and one of another
@@ -87,6 +107,12 @@ caseTwice = forked "(step 0 po ()) (hyp 1 (P a)) (step 2 pk (1 1) (P (k a l a)))
 abbrev caseSort : Row
 caseSort = forked "(step 0 po ()) (induct 1 n (P n) ((0) (0 a b l)))" (stops 42 1)
 
+pub induct-arguments :
+    AllHold
+    (bothHypotheses ∷ caseTwice ∷ caseSort ∷ [])
+unfolding running AllHold
+induct-arguments = (refl, (refl, (refl, tt)))
+
 -- What a case may rest on -----------------------------------------------------------------------------------------------------------------
 
 -- where the motive has a premise, the induction hypothesis has it too: the plain judgment is none, nor is one with another premise
@@ -103,6 +129,19 @@ abbrev otherPremise : Row
 otherPremise =
     proved "(var y Pass) (hyp 0 (Adult x)) (step 1 c0 ()) (hyp 2 ((Bad y)) (Child y) ()) (step 3 c1 (2)) (induct 4 x (0) (Child x) ((1) (3 y)))"
     (stops 44 5)
+
+-- two premises, by rising number however they are listed; a hypothesis that has them the other way round is none
+abbrev risingPremises : Row
+risingPremises =
+    proved
+    "(var y Pass) (hyp 0 (Adult x)) (hyp 1 (Bad x)) (step 2 c0 ()) (hyp 3 ((Adult y) (Bad y)) (Child y) ()) (step 4 c1 (3)) (induct 5 x (1 0) (Child x) ((2) (4 y)))"
+    (takes 7)
+
+abbrev turnedPremises : Row
+turnedPremises =
+    proved
+    "(var y Pass) (hyp 0 (Adult x)) (hyp 1 (Bad x)) (step 2 c0 ()) (hyp 3 ((Bad y) (Adult y)) (Child y) ()) (step 4 c1 (3)) (induct 5 x (1 0) (Child x) ((2) (4 y)))"
+    (stops 44 6)
 
 -- the right premise, and another judgment
 abbrev otherJudgment : Row
@@ -132,18 +171,9 @@ abbrev generalisedOther : Row
 generalisedOther =
     proved "(var y Pass) (var u Pass) (step 0 c0 ()) (hyp 1 () (Child y) (u)) (step 2 c1 (1)) (induct 3 x (Child x) ((0) (2 y)))" (stops 44 5)
 
--- Hypotheses that are listed ----------------------------------------------------------------------------------------------------------------
-
--- only plain ones
-abbrev listedRule : Row
-listedRule = proved "(hyp 0 () (Adult x) (x)) (induct 1 x (0) (Child x) ())" (stops 40 1)
-
-pub inductions :
+pub induct-rests :
     AllHold
-    (variableBeforeHypotheses ∷ hypothesesBeforeJudgment ∷ judgmentBeforeCases ∷ casesAtom ∷ numberBeforeMotive ∷ tooFew ∷ tooMany
-    ∷ firstCaseFirst ∷ caseAtom ∷ caseEmpty ∷ caseNoIndex ∷ variablesBeforeFact ∷ caseUnknown ∷ judgmentBeforeHypotheses
-    ∷ variableInPremise ∷ bothHypotheses ∷ caseTwice ∷ caseSort ∷ plainForRule ∷ ruleForRule ∷ otherPremise ∷ otherJudgment
-    ∷ premiseAsItStands ∷ secondHypothesis ∷ generalised ∷ generalisedOther ∷ listedRule ∷ [])
+    (plainForRule ∷ ruleForRule ∷ otherPremise ∷ risingPremises ∷ turnedPremises ∷ otherJudgment ∷ premiseAsItStands ∷ secondHypothesis
+    ∷ generalised ∷ generalisedOther ∷ [])
 unfolding running AllHold
-inductions =
-    (refl, (refl, (refl, (refl, (refl, (refl, (refl, (refl, (refl, (refl, (refl, (refl, (refl, (refl, (refl, (refl, (refl, (refl, (refl, (refl, (refl, (refl, (refl, (refl, (refl, (refl, (refl, tt)))))))))))))))))))))))))))
+induct-rests = (refl, (refl, (refl, (refl, (refl, (refl, (refl, (refl, (refl, (refl, tt))))))))))

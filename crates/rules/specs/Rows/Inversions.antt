@@ -1,9 +1,7 @@
 -- Rows on `invert`. `s` is the one rule of `Same`, (Same ?p (renew ?p)); the unifier of (Same y (renew y)) with it, p the case's variable, puts p
 -- for y. Assumes nothing.
-use Prim.Native.Nat.{ℕ}
-use mathlib.Core.Path.{_≡_, refl}
-use mathlib.Core.List.{List, [], _∷_, _++_}
-use Rattle.rules.specs.Text.{bytes}
+use mathlib.Core.Path.{refl}
+use mathlib.Core.List.{[], _∷_}
 use Rattle.rules.specs.Run.{running}
 use Rattle.rules.specs.Examples.{Row, AllHold}
 use Rattle.rules.specs.Rows.Row.{proved, over, stops, takes}
@@ -11,6 +9,9 @@ use Rattle.rules.specs.Rows.Row.{proved, over, stops, takes}
 -- The order of the questions --------------------------------------------------------------------------------------------------------------
 
 -- the fact, its kind, the context, the judgment, the cases
+abbrev factAtom : Row
+factAtom = proved "(invert 0 v v v v)" (stops 34 0)
+
 abbrev factLater : Row
 factLater = proved "(invert 0 0 v v v)" (stops 34 0)
 
@@ -31,6 +32,12 @@ contextBeforeJudgment = proved "(hyp 0 (Child x)) (invert 1 0 (9) v v)" (stops 3
 
 abbrev judgmentBeforeCases : Row
 judgmentBeforeCases = proved "(hyp 0 (Child x)) (invert 1 0 () v v)" (stops 22 1)
+
+pub invert-order :
+    AllHold
+    (factAtom ∷ factLater ∷ kindBeforeContext ∷ notPlain ∷ contextAtom ∷ contextDerived ∷ contextBeforeJudgment ∷ judgmentBeforeCases ∷ [])
+unfolding running AllHold
+invert-order = (refl, (refl, (refl, (refl, (refl, (refl, (refl, (refl, tt))))))))
 
 -- The cases as given ----------------------------------------------------------------------------------------------------------------------
 
@@ -79,6 +86,13 @@ ignored =
     proved "(var y Pass) (hyp 0 (Child x)) (step 1 s () (?p first)) (invert 2 0 () (Same first (renew first)) ((v 9 (x)) (c1 1 (y)) (a1 9 (x)) (c0 1 ())))"
     (takes 4)
 
+pub invert-cases :
+    AllHold
+    (casesAtom ∷ caseAtom ∷ caseTwo ∷ caseFour ∷ caseNameList ∷ indexBeforeVariables ∷ variablesAtom ∷ variableUnknown ∷ variableTwice
+    ∷ secondCase ∷ secondIgnored ∷ caseBeforeSecond ∷ ignored ∷ [])
+unfolding running AllHold
+invert-cases = (refl, (refl, (refl, (refl, (refl, (refl, (refl, (refl, (refl, (refl, (refl, (refl, (refl, tt)))))))))))))
+
 -- Case variables ----------------------------------------------------------------------------------------------------------------------------
 
 -- fewer than the rule's, more, and of another sort
@@ -113,6 +127,12 @@ apartInRules =
     "(var y Pass) (var u Pass) (hyp 0 (Child x)) (step 1 s () (?p first)) (invert 2 0 () (Same first (renew first)) ((c0 1 ()) (c1 1 (y)) (c2 1 (u))))"
     (takes 5)
 
+pub invert-variables :
+    AllHold
+    (tooFew ∷ tooMany ∷ otherSort ∷ inJudgment ∷ inContext ∷ inContextGeneral ∷ acrossRules ∷ apartInRules ∷ [])
+unfolding running AllHold
+invert-variables = (refl, (refl, (refl, (refl, (refl, (refl, (refl, (refl, tt))))))))
+
 -- Rule by rule ------------------------------------------------------------------------------------------------------------------------------
 
 -- the case that c0 misses before the variable that c1's may not have
@@ -124,11 +144,28 @@ abbrev captureBeforeFact : Row
 captureBeforeFact =
     proved "(var y Pass) (step 0 c0 ()) (hyp 1 (Child x)) (hyp 2 () (Bad x) (y)) (invert 3 1 (2) (Child first) ((c0 0 ()) (c1 9 (y))))" (stops 48 4)
 
+-- captured in the second value, or as the second generalised variable
+abbrev captureInSecond : Row
+captureInSecond =
+    over "(pred R (Pass Pass)) (rule r () (R first (renew ?p)))"
+    "(var y Pass) (var u Pass) (hyp 0 (R x u)) (hyp 1 () (Bad u) (y)) (invert 2 0 (1) (Child first) ((r 9 (y))))" (stops 48 4)
+
+abbrev captureOfSecond : Row
+captureOfSecond =
+    proved "(var y Pass) (var u Pass) (step 0 c0 ()) (hyp 1 (Child x)) (hyp 2 () (Bad x) (u y)) (invert 3 1 (2) (Child first) ((c0 0 ()) (c1 9 (y))))"
+    (stops 48 5)
+
 abbrev caseLater : Row
 caseLater = proved "(hyp 0 (Child x)) (invert 1 0 () (Child first) ((c0 9 ())))" (stops 34 1)
 
 abbrev judgmentBeforeHypotheses : Row
 judgmentBeforeHypotheses = proved "(hyp 0 (Child x)) (hyp 1 (Bad x)) (invert 2 0 () (Child first) ((c0 1 ())))" (stops 43 2)
+
+pub invert-rules :
+    AllHold
+    (firstRuleFirst ∷ captureBeforeFact ∷ captureInSecond ∷ captureOfSecond ∷ caseLater ∷ judgmentBeforeHypotheses ∷ [])
+unfolding running AllHold
+invert-rules = (refl, (refl, (refl, (refl, (refl, (refl, tt))))))
 
 -- What a case may rest on ---------------------------------------------------------------------------------------------------------------------
 
@@ -151,6 +188,13 @@ contextUnified =
 abbrev contextOtherPremise : Row
 contextOtherPremise =
     proved "(var y Pass) (var p Pass) (hyp 0 (Same y (renew y))) (hyp 1 ((Adult y)) (Bad y) ()) (hyp 2 ((Child p)) (Bad p) ()) (invert 3 0 (1) (Bad y) ((s 2 (p))))"
+    (stops 44 5)
+
+-- the same premises in another order
+abbrev contextPremisesTurned : Row
+contextPremisesTurned =
+    proved
+    "(var y Pass) (var p Pass) (hyp 0 (Same y (renew y))) (hyp 1 ((Adult y) (Child y)) (Bad y) ()) (hyp 2 ((Child p) (Adult p)) (Bad p) ()) (invert 3 0 (1) (Bad y) ((s 2 (p))))"
     (stops 44 5)
 
 abbrev contextOtherJudgment : Row
@@ -190,14 +234,16 @@ generalisedLeft =
     proved "(var y Pass) (var p Pass) (hyp 0 (Same y (renew y))) (hyp 1 () (Bad y) (y p)) (apply 2 1 ((y first)) ()) (invert 3 0 (1) (Bad first) ((s 2 (p))))"
     (takes 6)
 
-pub inversions :
+-- and so are both of two
+abbrev bothLeft : Row
+bothLeft =
+    over "(pred R (Pass Pass)) (rule r () (R ?p ?q))"
+    "(var y Pass) (var u Pass) (var p Pass) (var q Pass) (hyp 0 (R y u)) (hyp 1 () (Same y u) (y u)) (apply 2 1 ((y first) (u first)) ()) (invert 3 0 (1) (Same first first) ((r 2 (p q))))"
+    (takes 8)
+
+pub invert-rests :
     AllHold
-    (factLater ∷ kindBeforeContext ∷ notPlain ∷ contextAtom ∷ contextDerived ∷ contextBeforeJudgment ∷ judgmentBeforeCases ∷ casesAtom
-    ∷ caseAtom ∷ caseTwo ∷ caseFour ∷ caseNameList ∷ indexBeforeVariables ∷ variablesAtom ∷ variableUnknown ∷ variableTwice ∷ secondCase
-    ∷ secondIgnored ∷ caseBeforeSecond ∷ ignored ∷ tooFew ∷ tooMany ∷ otherSort ∷ inJudgment ∷ inContext ∷ inContextGeneral ∷ acrossRules
-    ∷ apartInRules ∷ firstRuleFirst ∷ captureBeforeFact ∷ caseLater ∷ judgmentBeforeHypotheses ∷ premiseUnified ∷ bothPremises
-    ∷ contextUnified ∷ contextOtherPremise ∷ contextOtherJudgment ∷ contextSecond ∷ contextOfOne ∷ contextGeneral ∷ contextTurned
-    ∷ contextInOrder ∷ generalisedLeft ∷ [])
+    (premiseUnified ∷ bothPremises ∷ contextUnified ∷ contextOtherPremise ∷ contextPremisesTurned ∷ contextOtherJudgment ∷ contextSecond
+    ∷ contextOfOne ∷ contextGeneral ∷ contextTurned ∷ contextInOrder ∷ generalisedLeft ∷ bothLeft ∷ [])
 unfolding running AllHold
-inversions =
-    (refl, (refl, (refl, (refl, (refl, (refl, (refl, (refl, (refl, (refl, (refl, (refl, (refl, (refl, (refl, (refl, (refl, (refl, (refl, (refl, (refl, (refl, (refl, (refl, (refl, (refl, (refl, (refl, (refl, (refl, (refl, (refl, (refl, (refl, (refl, (refl, (refl, (refl, (refl, (refl, (refl, (refl, (refl, tt)))))))))))))))))))))))))))))))))))))))))))
+invert-rests = (refl, (refl, (refl, (refl, (refl, (refl, (refl, (refl, (refl, (refl, (refl, (refl, (refl, tt)))))))))))))

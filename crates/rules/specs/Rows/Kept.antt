@@ -3,12 +3,11 @@
 use Prim.Native.Nat.{ℕ}
 use Prim.Native.String.{String}
 use mathlib.Core.Path.{_≡_, refl}
-use mathlib.Core.Bool.{Bool, true, false}
-use mathlib.Core.List.{List, [], _∷_, _++_}
+use mathlib.Core.Bool.{true, false}
+use mathlib.Core.List.{List, [], _∷_}
 use Rattle.rules.specs.Text.{bytes}
-use Rattle.rules.specs.Tree.{Tree, Trees, var, app, none, more}
+use Rattle.rules.specs.Tree.{Tree, var, app, none, more}
 use Rattle.rules.specs.Store.{Made}
-use Rattle.rules.specs.State.{State, Fact}
 use Rattle.rules.specs.Check.{Outcome, check}
 use Rattle.rules.specs.Run.{running}
 use Rattle.rules.specs.StateTables.{missingOf}
@@ -61,8 +60,9 @@ stepRests =
 -- an application of a hypothesis: on it, and on what its references rest on; of another fact: on the latter alone
 abbrev applyRests : Sight (List (List ℕ))
 applyRests =
-    seen "" "(hyp 0 (Child x)) (hyp 1 ((Child x)) (Bad x) ()) (apply 2 1 () (0)) (step 3 c1 (0)) (hyp 4 (Child x)) (apply 5 3 () (4))"
-    ((0 ∷ []) ∷ (1 ∷ []) ∷ (0 ∷ 1 ∷ []) ∷ (0 ∷ []) ∷ (4 ∷ []) ∷ (4 ∷ []) ∷ [])
+    seen "(rule b ((Child ?p) (Adult ?p)) (Bad ?p))"
+    "(hyp 0 (Child x)) (hyp 1 ((Child x)) (Bad x) ()) (apply 2 1 () (0)) (hyp 3 (Adult x)) (step 4 b (0 3)) (hyp 5 (Child x)) (hyp 6 (Adult x)) (apply 7 4 () (5 6))"
+    ((0 ∷ []) ∷ (1 ∷ []) ∷ (0 ∷ 1 ∷ []) ∷ (3 ∷ []) ∷ (0 ∷ 3 ∷ []) ∷ (5 ∷ []) ∷ (6 ∷ []) ∷ (5 ∷ 6 ∷ []) ∷ [])
 
 -- an induction: on the listed hypotheses; an inversion: on the inverted one and the context; by rising number, each once, however written
 abbrev listedRests : Sight (List (List ℕ))
@@ -73,6 +73,16 @@ listedRests =
 pub rests-right : AllSeen rests (stepRests ∷ applyRests ∷ listedRests ∷ [])
 unfolding running AllSeen each
 rests-right = (refl, (refl, (refl, tt)))
+
+-- hypotheses of both kinds, then a step, an application, an induction and an inversion: which are assumed
+pub assumed-right :
+    each (λ f. f .assumed)
+    (check theory goals
+    (bytes "(hyp 0 (Same x x)) (hyp 1 () (Child x) (x)) (step 2 c0 ()) (apply 3 2 () ()) (var z Gone) (induct 4 z (Left z) ()) (invert 5 0 () (Bad x) ())")
+    .state .facts)
+    ≡ true ∷ true ∷ false ∷ false ∷ false ∷ false ∷ []
+unfolding running each
+assumed-right = refl
 
 -- a rule hypothesis as a whole, its premises and generalised variables as written
 pub hypothesis-whole :
@@ -138,6 +148,17 @@ ownSortMakes = record {
       var 0 ∷ one 2 (var 0) ∷ app 0 none ∷ one 2 (app 0 none) ∷ var 1 ∷ var 2 ∷ var 3 ∷ k ∷ one 2 k ∷ one 2 (var 1) ∷ one 2 (var 3) ∷ [];
 }
 
+-- a case's variables in the order given, before the constructor over them
+abbrev variablesMake : Sight Made
+variablesMake = record {
+  theory = bytes "(sort N) (sort L) (ctor o () N) (ctor k (N L N) N) (pred P (N)) (pred Q (N)) (rule q () (Q ?a))";
+  goals = bytes "(var n N) (var a N) (var l L) (var b N) (goal g (P n))";
+  proof = bytes "(hyp 0 (P n)) (step 1 q () (?a o)) (induct 2 n (0) (Q o) ((1) (1 b l a)))";
+  sees =
+      let k : Tree = app 1 (more (var 3) (more (var 2) (more (var 1) none))) in
+      var 0 ∷ one 2 (var 0) ∷ app 0 none ∷ one 3 (app 0 none) ∷ one 2 (app 0 none) ∷ var 3 ∷ var 2 ∷ var 1 ∷ k ∷ one 2 k ∷ one 2 (var 3) ∷ one 2 (var 1) ∷ [];
+}
+
 -- an inversion: for each rule its variables, the conclusion, the rule's premises, then each fact of the context, premises before the judgment
 abbrev invertMakes : Sight Made
 invertMakes =
@@ -168,9 +189,9 @@ refusedMakes = makes "" "(hyp 0 (Same (renew first) nobody))" []
 
 pub made-right :
     AllSeen made
-    (defMakes ∷ hypMakes ∷ stepMakes ∷ applyMakes ∷ inductMakes ∷ ownSortMakes ∷ invertMakes ∷ madeMakes ∷ resultMakes ∷ refusedMakes ∷ [])
+    (defMakes ∷ hypMakes ∷ stepMakes ∷ applyMakes ∷ inductMakes ∷ ownSortMakes ∷ variablesMake ∷ invertMakes ∷ madeMakes ∷ resultMakes ∷ refusedMakes ∷ [])
 unfolding running AllSeen
-made-right = (refl, (refl, (refl, (refl, (refl, (refl, (refl, (refl, (refl, (refl, tt))))))))))
+made-right = (refl, (refl, (refl, (refl, (refl, (refl, (refl, (refl, (refl, (refl, (refl, tt)))))))))))
 
 -- Variables -----------------------------------------------------------------------------------------------------------------------------------
 

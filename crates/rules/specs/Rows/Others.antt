@@ -1,12 +1,53 @@
--- Rows on `var`, `def`, `goal`, `hyp`, `result`, and on the index that every fact's form begins with. Assumes nothing.
+-- Rows on `var`, `def`, `goal`, `hyp`, `result`, on tags, and on the index that every fact's form begins with. Assumes nothing.
 use Prim.Native.Nat.{ℕ}
 use Prim.Native.String.{String}
-use mathlib.Core.Path.{_≡_, refl}
+use mathlib.Core.Path.{refl}
 use mathlib.Core.List.{List, [], _∷_, _++_}
 use Rattle.rules.specs.Text.{bytes}
 use Rattle.rules.specs.Run.{running}
 use Rattle.rules.specs.Examples.{Row, AllHold, theory}
 use Rattle.rules.specs.Rows.Row.{proved, stops, takes}
+
+-- Forms -----------------------------------------------------------------------------------------------------------------------------------
+
+-- goals, and no proof
+abbrev asked : String → List ℕ → Row
+asked g l = record { theory = theory; goals = bytes g; proof = []; says = l }
+
+-- an atom, nothing in the brackets, a list for the tag
+abbrev goalAtom : Row
+goalAtom = asked "goal" (0 ∷ 20 ∷ 2 ∷ 0 ∷ 0 ∷ [])
+
+abbrev goalEmpty : Row
+goalEmpty = asked "()" (0 ∷ 20 ∷ 2 ∷ 0 ∷ 0 ∷ [])
+
+abbrev goalTagged : Row
+goalTagged = asked "((goal) g v)" (0 ∷ 20 ∷ 2 ∷ 0 ∷ 0 ∷ [])
+
+abbrev formAtom : Row
+formAtom = proved "hyp" (stops 30 0)
+
+abbrev formEmpty : Row
+formEmpty = proved "()" (stops 30 0)
+
+abbrev formTagged : Row
+formTagged = proved "((hyp) 0 v)" (stops 30 0)
+
+-- the goals are read whole before they are judged, the proof form by form
+abbrev goalsWhole : Row
+goalsWhole = asked "(goal g v) )" (0 ∷ 4 ∷ 2 ∷ 1 ∷ 0 ∷ [])
+
+abbrev proofByForm : Row
+proofByForm = proved "(hyp 0 v) )" (stops 22 0)
+
+abbrev proofBracket : Row
+proofBracket = proved "(hyp 0 (Child x)) )" (stops 4 1)
+
+pub forms :
+    AllHold
+    (goalAtom ∷ goalEmpty ∷ goalTagged ∷ formAtom ∷ formEmpty ∷ formTagged ∷ goalsWhole ∷ proofByForm ∷ proofBracket ∷ [])
+unfolding running AllHold
+forms = (refl, (refl, (refl, (refl, (refl, (refl, (refl, (refl, (refl, tt)))))))))
 
 -- Variables -------------------------------------------------------------------------------------------------------------------------------
 
@@ -29,11 +70,17 @@ varSort = proved "(var y Child)" (stops 21 0)
 abbrev varSortList : Row
 varSortList = proved "(var y (Pass))" (stops 21 0)
 
+pub variables :
+    AllHold
+    (varMarked ∷ varConstructor ∷ varTwice ∷ varList ∷ varSort ∷ varSortList ∷ [])
+unfolding running AllHold
+variables = (refl, (refl, (refl, (refl, (refl, (refl, tt))))))
+
 -- Abbreviations -----------------------------------------------------------------------------------------------------------------------------
 
 -- a name without a mark, of a mark alone, a list: before the term is read
 abbrev defUnmarked : Row
-defUnmarked = proved "(def a nobody)" (stops 33 0)
+defUnmarked = proved "(def name nobody)" (stops 33 0)
 
 abbrev defMarkAlone : Row
 defMarkAlone = proved "(def ? nobody)" (stops 33 0)
@@ -52,10 +99,13 @@ defTwice = proved "(def ?a x) (def ?a x)" (stops 33 1)
 abbrev defUsed : Row
 defUsed = proved "(def ?a (renew first)) (step 0 a1 () (Adult ?a))" (takes 2)
 
--- Goals -------------------------------------------------------------------------------------------------------------------------------------
+pub abbreviations :
+    AllHold
+    (defUnmarked ∷ defMarkAlone ∷ defList ∷ defTermFirst ∷ defTwice ∷ defUsed ∷ [])
+unfolding running AllHold
+abbreviations = (refl, (refl, (refl, (refl, (refl, (refl, tt))))))
 
-abbrev asked : String → List ℕ → Row
-asked g l = record { theory = theory; goals = bytes g; proof = []; says = l }
+-- Goals -------------------------------------------------------------------------------------------------------------------------------------
 
 -- the hypotheses, the judgment, the name
 abbrev goalListAtom : Row
@@ -72,6 +122,12 @@ goalNameList = asked "(goal (g) (Child first))" (0 ∷ 24 ∷ 2 ∷ 0 ∷ 0 ∷ 
 
 abbrev goalTwice : Row
 goalTwice = asked "(goal g (Child first)) (goal g () (Child first))" (0 ∷ 24 ∷ 2 ∷ 1 ∷ 0 ∷ [])
+
+pub goals :
+    AllHold
+    (goalListAtom ∷ goalListFirst ∷ goalJudgmentFirst ∷ goalNameList ∷ goalTwice ∷ [])
+unfolding running AllHold
+goals = (refl, (refl, (refl, (refl, (refl, tt)))))
 
 -- Hypotheses ----------------------------------------------------------------------------------------------------------------------------------
 
@@ -93,6 +149,12 @@ hypVariableUnknown = proved "(hyp 0 () (Child x) (v))" (stops 36 0)
 
 abbrev hypVariableTwice : Row
 hypVariableTwice = proved "(hyp 0 () (Child x) (x x))" (stops 36 0)
+
+pub rule-hypotheses :
+    AllHold
+    (hypPremisesFirst ∷ hypPremisesAtom ∷ hypJudgmentFirst ∷ hypVariablesAtom ∷ hypVariableUnknown ∷ hypVariableTwice ∷ [])
+unfolding running AllHold
+rule-hypotheses = (refl, (refl, (refl, (refl, (refl, (refl, tt))))))
 
 -- The index -----------------------------------------------------------------------------------------------------------------------------------
 
@@ -131,6 +193,13 @@ invertIndex = proved "(invert 1 v v v v)" (stops 32 0)
 abbrev indexAgain : Row
 indexAgain = proved "(step 0 c0 ()) (step 0 c0 ())" (stops 32 1)
 
+pub indices :
+    AllHold
+    (tagFirst ∷ noIndex ∷ listIndex ∷ stepIndex ∷ hypIndex ∷ ruleHypIndex ∷ inductIndex ∷ inductWithIndex ∷ applyIndex ∷ invertIndex
+    ∷ indexAgain ∷ [])
+unfolding running AllHold
+indices = (refl, (refl, (refl, (refl, (refl, (refl, (refl, (refl, (refl, (refl, (refl, tt)))))))))))
+
 -- Results -------------------------------------------------------------------------------------------------------------------------------------
 
 abbrev resultList : Row
@@ -138,6 +207,15 @@ resultList = proved "(result (g) v)" (stops 50 0)
 
 abbrev resultUnknown : Row
 resultUnknown = proved "(result h v)" (stops 50 0)
+
+-- one that has come is refused before the reference is read
+abbrev resultTwice : Row
+resultTwice = record {
+  theory = theory;
+  goals = bytes "(goal g (Child first)) (goal h (Child first))";
+  proof = bytes "(step 0 c0 ()) (result g 0) (result g v)";
+  says = stops 50 2;
+}
 
 abbrev resultLater : Row
 resultLater = proved "(result g 0)" (stops 34 0)
@@ -175,13 +253,9 @@ otherGoalAwaited = record {
   says = 1 ∷ 1 ∷ 2 ∷ 0 ∷ 0 ∷ 0 ∷ 0 ∷ 0 ∷ [];
 }
 
-pub others :
+pub results :
     AllHold
-    (varMarked ∷ varConstructor ∷ varTwice ∷ varList ∷ varSort ∷ varSortList ∷ defUnmarked ∷ defMarkAlone ∷ defList ∷ defTermFirst
-    ∷ defTwice ∷ defUsed ∷ goalListAtom ∷ goalListFirst ∷ goalJudgmentFirst ∷ goalNameList ∷ goalTwice ∷ hypPremisesFirst
-    ∷ hypPremisesAtom ∷ hypJudgmentFirst ∷ hypVariablesAtom ∷ hypVariableUnknown ∷ hypVariableTwice ∷ tagFirst ∷ noIndex ∷ listIndex
-    ∷ stepIndex ∷ hypIndex ∷ ruleHypIndex ∷ inductIndex ∷ inductWithIndex ∷ applyIndex ∷ invertIndex ∷ indexAgain ∷ resultList
-    ∷ resultUnknown ∷ resultLater ∷ hypothesisFirst ∷ listedSecond ∷ listedNotPlain ∷ listedOne ∷ otherGoalAwaited ∷ [])
+    (resultList ∷ resultUnknown ∷ resultTwice ∷ resultLater ∷ hypothesisFirst ∷ listedSecond ∷ listedNotPlain ∷ listedOne
+    ∷ otherGoalAwaited ∷ [])
 unfolding running AllHold
-others =
-    (refl, (refl, (refl, (refl, (refl, (refl, (refl, (refl, (refl, (refl, (refl, (refl, (refl, (refl, (refl, (refl, (refl, (refl, (refl, (refl, (refl, (refl, (refl, (refl, (refl, (refl, (refl, (refl, (refl, (refl, (refl, (refl, (refl, (refl, (refl, (refl, (refl, (refl, (refl, (refl, (refl, (refl, tt))))))))))))))))))))))))))))))))))))))))))
+results = (refl, (refl, (refl, (refl, (refl, (refl, (refl, (refl, (refl, tt)))))))))

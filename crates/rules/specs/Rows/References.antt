@@ -1,7 +1,6 @@
 -- Rows on references: bindings, instances, lists of hypotheses, and question 39. Assumes nothing.
-use Prim.Native.Nat.{ℕ}
-use mathlib.Core.Path.{_≡_, refl}
-use mathlib.Core.List.{List, [], _∷_, _++_}
+use mathlib.Core.Path.{refl}
+use mathlib.Core.List.{[], _∷_, _++_}
 use Rattle.rules.specs.Text.{bytes}
 use Rattle.rules.specs.Run.{running}
 use Rattle.rules.specs.Examples.{Row, AllHold, theory}
@@ -33,6 +32,12 @@ givenTwice = proved "(step 0 c0 ()) (step 1 c1 ((0 (x first) (x first))))" (stop
 abbrev otherSort : Row
 otherSort = proved "(var z Gone) (step 0 c0 ()) (step 1 c1 ((0 (x z))))" (stops 23 2)
 
+pub bindings :
+    AllHold
+    (bindingAtom ∷ bindingOne ∷ bindingThree ∷ variableBeforeTerm ∷ termBeforeTwice ∷ givenTwice ∷ otherSort ∷ [])
+unfolding running AllHold
+bindings = (refl, (refl, (refl, (refl, (refl, (refl, (refl, tt)))))))
+
 -- Instances ---------------------------------------------------------------------------------------------------------------------------
 
 -- no fact: nothing in the brackets, a list, the form's own index
@@ -58,10 +63,28 @@ instanceIsResult = record {
   says = 1 ∷ 1 ∷ 1 ∷ 0 ∷ 0 ∷ 0 ∷ 0 ∷ 0 ∷ [];
 }
 
+-- each variable has its own value
+abbrev instanceOfTwo : Row
+instanceOfTwo = record {
+  theory = theory ++ bytes "(rule t () (Same ?p ?q))";
+  goals = bytes "(var x Pass) (var y Pass) (goal g (Same first (renew first)))";
+  proof = bytes "(step 0 t () (Same x y)) (result g (0 (y (renew first)) (x first)))";
+  says = 1 ∷ 1 ∷ 1 ∷ 0 ∷ 0 ∷ 0 ∷ 0 ∷ 0 ∷ [];
+}
+
+pub instances :
+    AllHold
+    (emptyReference ∷ listReference ∷ ownReference ∷ hypothesesBeforeBindings ∷ instanceIsResult ∷ instanceOfTwo ∷ [])
+unfolding running AllHold
+instances = (refl, (refl, (refl, (refl, (refl, (refl, tt))))))
+
 -- Lists of hypotheses -----------------------------------------------------------------------------------------------------------------
 
 abbrev hypothesesAtom : Row
 hypothesesAtom = proved "(induct 0 x v (Child x) ())" (stops 34 0)
+
+abbrev hypothesisAtom : Row
+hypothesisAtom = proved "(induct 0 x (v) (Child x) ())" (stops 34 0)
 
 -- each is asked both questions before the next is read
 abbrev kindBeforeNext : Row
@@ -69,6 +92,12 @@ kindBeforeNext = proved "(step 0 c0 ()) (induct 1 x (0 9) (Child x) ())" (stops 
 
 abbrev laterHypothesis : Row
 laterHypothesis = proved "(induct 0 x (0) (Child x) ())" (stops 34 0)
+
+pub hypotheses :
+    AllHold
+    (hypothesesAtom ∷ hypothesisAtom ∷ kindBeforeNext ∷ laterHypothesis ∷ [])
+unfolding running AllHold
+hypotheses = (refl, (refl, (refl, (refl, tt))))
 
 -- Question 39 -------------------------------------------------------------------------------------------------------------------------
 
@@ -88,11 +117,8 @@ freeInHypothesis = over "(rule w ((Child ?p)) (Bad first))" "(hyp 0 (Child x)) (
 abbrev notFreeInHypothesis : Row
 notFreeInHypothesis = over "(rule w ((Child ?p)) (Bad first))" "(hyp 0 () (Child x) (x)) (step 1 w (0))" (outside 1 1)
 
-pub references :
+pub scopes :
     AllHold
-    (bindingAtom ∷ bindingOne ∷ bindingThree ∷ variableBeforeTerm ∷ termBeforeTwice ∷ givenTwice ∷ otherSort ∷ emptyReference
-    ∷ listReference ∷ ownReference ∷ hypothesesBeforeBindings ∷ instanceIsResult ∷ hypothesesAtom ∷ kindBeforeNext ∷ laterHypothesis
-    ∷ premiseAlone ∷ lowestNamed ∷ freeInHypothesis ∷ notFreeInHypothesis ∷ [])
+    (premiseAlone ∷ lowestNamed ∷ freeInHypothesis ∷ notFreeInHypothesis ∷ [])
 unfolding running AllHold
-references =
-    (refl, (refl, (refl, (refl, (refl, (refl, (refl, (refl, (refl, (refl, (refl, (refl, (refl, (refl, (refl, (refl, (refl, (refl, (refl, tt)))))))))))))))))))
+scopes = (refl, (refl, (refl, (refl, tt))))

@@ -6,7 +6,7 @@ use Prim.Native.String.{String}
 use mathlib.Core.Path.{_≡_}
 use mathlib.Core.List.{List, [], _∷_, _++_}
 use Rattle.rules.specs.Text.{bytes}
-use Rattle.rules.specs.Tree.{Tree, Trees, var, app, none, more}
+use Rattle.rules.specs.Tree.{Tree, Trees, app, none, more}
 use Rattle.rules.specs.Check.{Outcome, check}
 use Rattle.rules.specs.Examples.{Row, theory}
 

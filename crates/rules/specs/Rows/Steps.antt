@@ -1,7 +1,6 @@
 -- Rows on `step`. Assumes nothing.
-use Prim.Native.Nat.{ℕ}
-use mathlib.Core.Path.{_≡_, refl}
-use mathlib.Core.List.{List, [], _∷_, _++_}
+use mathlib.Core.Path.{refl}
+use mathlib.Core.List.{[], _∷_, _++_}
 use Rattle.rules.specs.Text.{bytes}
 use Rattle.rules.specs.Run.{running}
 use Rattle.rules.specs.Examples.{Row, AllHold, theory}
@@ -48,6 +47,13 @@ threeInstances = record {
   proof = bytes "(step 0 c0 ()) (step 1 c1 ((0))) (step 2 a1 ()) (step 3 b ((1) (2))) (result g 3)";
   says = 1 ∷ 4 ∷ 1 ∷ 0 ∷ 0 ∷ 0 ∷ 0 ∷ 3 ∷ [];
 }
+
+pub step-references :
+    AllHold
+    (ruleUnknown ∷ ruleList ∷ referencesAtom ∷ numberBeforeReferences ∷ referencesBeforeItems ∷ firstReferenceFirst ∷ premisesInOrder
+    ∷ premisesTurned ∷ premisesApart ∷ threeInstances ∷ [])
+unfolding running AllHold
+step-references = (refl, (refl, (refl, (refl, (refl, (refl, (refl, (refl, (refl, (refl, tt))))))))))
 
 -- The items ---------------------------------------------------------------------------------------------------------------------------
 
@@ -96,6 +102,13 @@ secondConclusion = proved "(step 0 c0 () (Child first) (Child first))" (stops 37
 abbrev conclusionBeforeSecond : Row
 conclusionBeforeSecond = proved "(step 0 c0 () (Child first) (Child nobody))" (stops 22 0)
 
+pub step-items :
+    AllHold
+    (itemAtom ∷ itemEmpty ∷ itemHeadList ∷ markedAlone ∷ markedThree ∷ ruleVariableBeforeTerm ∷ itemTermBeforeTwice ∷ itemTwice
+    ∷ itemSort ∷ itemSecondSort ∷ firstItemFirst ∷ secondConclusion ∷ conclusionBeforeSecond ∷ [])
+unfolding running AllHold
+step-items = (refl, (refl, (refl, (refl, (refl, (refl, (refl, (refl, (refl, (refl, (refl, (refl, (refl, tt)))))))))))))
+
 -- Matching ----------------------------------------------------------------------------------------------------------------------------
 
 abbrev otherConclusion : Row
@@ -124,13 +137,9 @@ itemsBeforeMatching = proved "(step 0 a1 ()) (step 1 c1 (0) v)" (stops 22 1)
 abbrev notAssumed : Row
 notAssumed = proved "(step 0 c0 ()) (invert 1 0 () (Child x) ())" (stops 40 1)
 
-pub steps :
+pub step-matches :
     AllHold
-    (ruleUnknown ∷ ruleList ∷ referencesAtom ∷ numberBeforeReferences ∷ referencesBeforeItems ∷ firstReferenceFirst ∷ premisesInOrder
-    ∷ premisesTurned ∷ premisesApart ∷ threeInstances ∷ itemAtom ∷ itemEmpty ∷ itemHeadList ∷ markedAlone ∷ markedThree
-    ∷ ruleVariableBeforeTerm ∷ itemTermBeforeTwice ∷ itemTwice ∷ itemSort ∷ itemSecondSort ∷ firstItemFirst ∷ secondConclusion
-    ∷ conclusionBeforeSecond ∷ otherConclusion ∷ conclusionApart ∷ bindingThenConclusion ∷ conclusionThenBinding ∷ bindingAlone
-    ∷ itemsBeforeMatching ∷ notAssumed ∷ [])
+    (otherConclusion ∷ conclusionApart ∷ bindingThenConclusion ∷ conclusionThenBinding ∷ bindingAlone ∷ itemsBeforeMatching
+    ∷ notAssumed ∷ [])
 unfolding running AllHold
-steps =
-    (refl, (refl, (refl, (refl, (refl, (refl, (refl, (refl, (refl, (refl, (refl, (refl, (refl, (refl, (refl, (refl, (refl, (refl, (refl, (refl, (refl, (refl, (refl, (refl, (refl, (refl, (refl, (refl, (refl, (refl, tt))))))))))))))))))))))))))))))
+step-matches = (refl, (refl, (refl, (refl, (refl, (refl, (refl, tt)))))))

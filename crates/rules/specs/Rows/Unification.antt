@@ -1,10 +1,10 @@
 -- Rows on `unify`, called as it is: what it finds, in which order trees are made, and row 14. Assumes nothing.
-use Prim.Native.Nat.{ℕ, zero, suc}
+use Prim.Native.Nat.{ℕ}
 use mathlib.Core.Path.{_≡_, refl}
 use mathlib.Core.Option.{Option, some, none as nothing}
 use mathlib.Core.List.{List, [], _∷_}
 use Rattle.rules.specs.Out.{Out, ok, refuse}
-use Rattle.rules.specs.Tree.{Tree, Trees, var, app, none, more}
+use Rattle.rules.specs.Tree.{Tree, var, app, none, more}
 use Rattle.rules.specs.Store.{Made}
 use Rattle.rules.specs.Unify.{Binding, unify, unifying}
 use Rattle.rules.specs.Rows.Row.{one, two, copies}
@@ -86,6 +86,10 @@ moreThanOther = pair 0 (app 0 (more a none)) (app 0 none) nothing
 abbrev leftUnder : Pair
 leftUnder = pair 1 (f x x) (f a b) nothing
 
+-- h(y, y, x) with h(a, b, a): and what y is by the pair before, behind it
+abbrev secondUnder : Pair
+secondUnder = pair 2 (h y y x) (h a b a) nothing
+
 -- f(y, x) with f(x, a): the same on the right
 abbrev rightUnder : Pair
 rightUnder = pair 2 (f y x) (f x a) (some (to 0 a ∷ to 1 a ∷ []))
@@ -113,9 +117,10 @@ occursUnder = pair 2 (f x y) (f (g y) x) nothing
 
 pub unifications :
     AllUnify
-    (onLeft ∷ onRight ∷ onBoth ∷ withItself ∷ otherHead ∷ otherNumber ∷ moreThanOther ∷ leftUnder ∷ rightUnder ∷ everyValue ∷ deep ∷ deepBehind ∷ deepValue ∷ occurs ∷ occursUnder ∷ [])
+    (onLeft ∷ onRight ∷ onBoth ∷ withItself ∷ otherHead ∷ otherNumber ∷ moreThanOther ∷ leftUnder ∷ secondUnder ∷ rightUnder
+    ∷ everyValue ∷ deep ∷ deepBehind ∷ deepValue ∷ occurs ∷ occursUnder ∷ [])
 unfolding unifying AllUnify
-unifications = (refl, (refl, (refl, (refl, (refl, (refl, (refl, (refl, (refl, (refl, (refl, (refl, (refl, (refl, (refl, tt)))))))))))))))
+unifications = (refl, (refl, (refl, (refl, (refl, (refl, (refl, (refl, (refl, (refl, (refl, (refl, (refl, (refl, (refl, (refl, tt))))))))))))))))
 
 -- What is made ----------------------------------------------------------------------------------------------------------------------------
 
