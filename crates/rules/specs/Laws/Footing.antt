@@ -2,7 +2,7 @@
 -- reference list. Hypotheses have none." `footing` says this of a form's text and the facts there are, and the laws say that each fact that a taken
 -- form records has it. A step without the footings of its references, an instance or an application with an empty one, an application that took
 -- over the footing of the applied fact, or an induction or inversion with any, would be refused here. Assumes nothing.
-use Prim.Native.Nat.{ℕ, _+_, _≤_, _<_}
+use Prim.Native.Nat.{ℕ, _+_, _<_}
 use mathlib.Core.Path.{_≡_, refl, sym, subst, ap, ap₂, _∙_}
 use mathlib.Core.Bool.{Bool, true, false, _&&_, _||_, not, false≢true}
 use mathlib.Core.Logic.{inl, inr}
@@ -38,20 +38,20 @@ use Rattle.rules.specs.Laws.Tally.{tagOf, itemsOf, tag-is}
 use Rattle.rules.specs.Laws.Shape.{ShapedIn, past}
 use Rattle.rules.specs.Laws.Find.{first-some}
 use Rattle.rules.specs.Laws.Rising.{has-all, or-cases, rising-has}
-use Rattle.rules.specs.Laws.Entry.{entry-below, entry-snoc, fact-entry}
+use Rattle.rules.specs.Laws.Entry.{fact-entry}
 use Rattle.rules.specs.Laws.Still.{vars-list-still}
 use Rattle.rules.specs.Laws.Form.{go-on, from-still, next-still, add-var-takes}
 
 -- The statement -------------------------------------------------------------------------------------------------------------------
 
 -- the number that a reference names: `N`, or `(N (VAR TERM)...)`
-unfoldable pub indexIn : Sexp → Option ℕ
-indexIn (atom p bs) = indexOf bs
-indexIn (list xs) = nothing
+unfoldable pub indexAtom : Sexp → Option ℕ
+indexAtom (atom p bs) = indexOf bs
+indexAtom (list xs) = nothing
 
 unfoldable pub factNamed : Sexp → Option ℕ
 factNamed (atom p bs) = indexOf bs
-factNamed (list xs) = indexIn (item xs 0)
+factNamed (list xs) = indexAtom (item xs 0)
 
 -- the footing of a fact, if there is one
 unfoldable pub footingOf : Option Fact → Set
@@ -97,16 +97,35 @@ footingBy S (some t) xs r = footing S t xs r
 abbrev pub formFooting : State → Sexp → Set
 formFooting S x = footingBy S (tagOf x) (itemsOf x)
 
--- what holds of each fact that stands behind those of S: a taken form records at most one
-abbrev Behind : List Fact → (Fact → Type 0) → List Fact → Type 0
-Behind fs P gs = (k : ℕ) (f : Fact) → length fs ≤ k → entry gs k ≡ some f → P f
+-- the forms that record a fact
+unfoldable pub records : Tag → Bool
+records aVar = false
+records aDef = false
+records aResult = false
+records aStep = true
+records aHyp = true
+records aRuleHyp = true
+records anInduct = true
+records anInductWith = true
+records anApply = true
+records anInvert = true
 
-abbrev pub Recorded : State → (Fact → Type 0) → State → Type 0
-Recorded S P U = Behind (S .facts) P (U .facts)
+unfoldable pub recordsBy : Option Tag → Bool
+recordsBy nothing = false
+recordsBy (some t) = records t
 
--- the footing as it is stored: the numbers of the theory's rules that are in the set, rising
-abbrev pub Stored : State → Set → Fact → Type 0
-Stored S a f = f .footing ≡ rising (length (S .theory .rules)) a
+-- whether a form has recorded a fact, behind the others, and what holds of it
+pub data Recorded (fs : List Fact) (P : Fact → Type 0) : Bool → List Fact → Type 0 where
+  oneMore : (f : Fact) → P f → Recorded fs P true (fs ++ (f ∷ []))
+  noMore : Recorded fs P false fs
+
+-- the footing as it stands in a fact: the numbers of the theory's rules that are in the set, rising
+abbrev pub Footed : State → Set → Fact → Type 0
+Footed S a f = f .footing ≡ rising (length (S .theory .rules)) a
+
+-- from state S to state U a form has recorded a fact with that footing, or none if it is of the other kind
+abbrev pub Gives : State → Bool → Set → State → Type 0
+Gives S b a U = Recorded (S .facts) (Footed S a) b (U .facts)
 
 -- the rising members of the empty set
 rising-empty : (n : ℕ) → rising n empty ≡ []
@@ -115,8 +134,8 @@ rising-empty n = rising-from-none 0 n empty (λ v l k. refl)
 
 -- References ------------------------------------------------------------------------------------------------------------------------
 
-index-is : {S : Type 0} (n : ℕ) (x : Sexp) (s : S) → Ok (λ i u. indexIn x ≡ some i) (index n x s)
-unfolding index name then indexIn
+index-is : {S : Type 0} (n : ℕ) (x : Sexp) (s : S) → Ok (λ i u. indexAtom x ≡ some i) (index n x s)
+unfolding index name then indexAtom
 index-is {S} n (atom p bs) s = go (indexOf bs)
   where
     go : (o : Option ℕ) → Ok (λ i u. o ≡ some i) (found {S = S} n o s)
@@ -130,12 +149,12 @@ footing-at fs o i f e g r = rw (e, g) refl
 
 module _ (S : State) where
   reference-footing : (x : Sexp) (m : Made) → Ok (λ a u. (r : ℕ) → has (a .footing) r ≡ footingAt (S .facts) (factNamed x) r) (reference S x m)
-  unfolding reference instance factNamed indexIn
+  unfolding reference instance factNamed indexAtom
   reference-footing (atom p bs) m =
       by-then _ _ (index-is 34 (atom p bs) m) λ i u e q. past _ _ λ f v k. fine (footing-at (S .facts) (indexOf bs) i f q (fact-entry S i u v f k))
   reference-footing (list xs) m =
       by-then _ _ (index-is 34 (item xs 0) m) λ i u e q. past _ _ λ f v k. past _ _ λ a w e. past _ _ λ bs y e. past _ _ λ t z e.
-      fine (footing-at (S .facts) (indexIn (item xs 0)) i f q (fact-entry S i u v f k))
+      fine (footing-at (S .facts) (indexAtom (item xs 0)) i f q (fact-entry S i u v f k))
 
   references-footing : (xs : Sexps) (m : Made) → Ok (λ a u. (r : ℕ) → a .footing r ≡ footings (S .facts) xs r) (references S xs m)
   unfolding references footings
@@ -168,7 +187,7 @@ module _ (S : State) where
   unfolding itemsOf
   in-list ys x e r = rw e refl
 
-  step-footing : (xs : Sexps) (m : Made) → Ok (λ a u. Stored S (footing S aStep xs) (a .0)) (step S xs m)
+  step-footing : (xs : Sexps) (m : Made) → Ok (λ a u. Footed S (footing S aStep xs) (a .0)) (step S xs m)
   unfolding step footing
   step-footing xs m =
       by-name 33 (item xs 2) m _ λ n e. by-found 33 (ruleNamed (S .theory) (n .bytes)) m _ λ k f. by-items 37 (item xs 3) m _ λ ys q.
@@ -176,7 +195,7 @@ module _ (S : State) where
       past _ _ λ it i y. past _ _ λ b j y. past _ _ λ c l y. past _ _ λ o p y. past _ _ λ w v y.
       fine (rising-agree (length (S .theory .rules)) _ _ λ r v. ap₂ _||_ (rule-is (item xs 2) n k r m e f) (h r ∙ in-list ys (item xs 3) q r))
 
-  apply-footing : (xs : Sexps) (m : Made) → Ok (λ a u. Stored S (footing S anApply xs) a) (apply S xs m)
+  apply-footing : (xs : Sexps) (m : Made) → Ok (λ a u. Footed S (footing S anApply xs) a) (apply S xs m)
   unfolding apply footing
   apply-footing xs m =
       past _ _ λ i a e. past _ _ λ ys b e. past _ _ λ bs c e. past _ _ λ f d e. past _ _ λ p g e.
@@ -185,8 +204,8 @@ module _ (S : State) where
       fine (rising-agree (length (S .theory .rules)) _ _ λ r v. h r ∙ in-list zs (item xs 4) q r)
 
   -- no footing
-  none-stored : (f : Fact) → f .footing ≡ [] → Stored S empty f
-  none-stored f e = e ∙ sym (rising-empty (length (S .theory .rules)))
+  none-footed : (f : Fact) → f .footing ≡ [] → Footed S empty f
+  none-footed f e = e ∙ sym (rising-empty (length (S .theory .rules)))
 
   induct-on-footing : (x : ℕ) (hs : List ℕ) (y z : Sexp) (m : Made) → Ok (λ a u. a .footing ≡ []) (inductOn S x hs y z m)
   unfolding inductOn
@@ -221,86 +240,77 @@ any : {S A : Type 0} (o : Out S A) → Ok (λ a s. Unit {0}) o
 any (ok a s) = fine tt
 any (refuse n d s) = off
 
-module _ (S : State) (P : Fact → Type 0) where
-  -- as many facts as before
-  no-fact : Behind (S .facts) P (S .facts)
-  no-fact k f l q = absurd (let h = entry-below (S .facts) k f q in omega arith)
+add-fact-records : (fs : List Fact) (P : Fact → Type 0) (g : Fact) (c : Counts) (T : State) → T .facts ≡ fs → P g →
+    Ok (λ a U. Recorded fs P true (U .facts)) (addFact g c T)
+unfolding addFact
+add-fact-records fs P g c T e p =
+    go-on _ (by-room 12 (ltb (length (T .facts)) FACTS) T _ λ l. by-room 13 (leb (entries T + factEntries g) ENTRIES) T _ λ d.
+    fine (subst (λ gs. Recorded fs P true (gs ++ (g ∷ []))) (sym e) (oneMore g p)))
 
-  one-fact : (g : Fact) → P g → Behind (S .facts) P (S .facts ++ (g ∷ []))
-  one-fact g p k f l q = elim (entry-snoc (S .facts) g k f q) [
-    | inl h ↦ absurd (let b = entry-below (S .facts) k f h in omega arith)
-    | inr h ↦ subst P (sym (h .1)) p
-  ]
-
-  add-fact-records : (g : Fact) (c : Counts) (T : State) → T .facts ≡ S .facts → P g → Ok (λ a U. Recorded S P U) (addFact g c T)
-  unfolding addFact
-  add-fact-records g c T e p =
-      go-on _ (by-room 12 (ltb (length (T .facts)) FACTS) T _ λ l. by-room 13 (leb (entries T + factEntries g) ENTRIES) T _ λ d.
-      fine (subst (λ fs. Behind (S .facts) P (fs ++ (g ∷ []))) (sym e) (one-fact g p)))
-
-  -- an action, then its fact
-  records-made : {A : Type 0} (act : Act Made A) (fact : A → Fact) (counts : A → Counts) → Ok (λ a u. P (fact a)) (act (S .made)) →
-      Ok (λ a U. Recorded S P U) (then (making act S) (λ a T. addFact (fact a) (counts a) T))
-  records-made act fact counts h = by-made act S _ h λ a u p. add-fact-records (fact a) (counts a) (withMade S u) refl p
+-- an action, then its fact
+records-made : (S : State) (P : Fact → Type 0) {A : Type 0} (act : Act Made A) (fact : A → Fact) (counts : A → Counts) →
+    Ok (λ a u. P (fact a)) (act (S .made)) →
+    Ok (λ a U. Recorded (S .facts) P true (U .facts)) (then (making act S) (λ a T. addFact (fact a) (counts a) T))
+records-made S P act fact counts h = by-made act S _ h λ a u p. add-fact-records (S .facts) P (fact a) (counts a) (withMade S u) refl p
 
 -- The forms on a state ------------------------------------------------------------------------------------------------------------------
 
-def-records : (S : State) (xs : Sexps) (P : Fact → Type 0) → Ok (λ a U. Recorded S P U) (addDef xs S)
+def-records : (S : State) (xs : Sexps) (a : Set) → Ok (λ b U. Gives S false a U) (addDef xs S)
 unfolding addDef
-def-records S xs P =
+def-records S xs a =
     go-on _ (by-name 33 (item xs 1) S _ λ n e. by-ask 33 (marked (n .bytes) && leb 2 (length (n .bytes))) S _ λ e.
     by-made (term S (item xs 2)) S _ (any _) λ t u p. by-ask 33 (isNew (abbreviated (S .defs) (n .bytes))) _ _ λ e.
-    by-room 10 (ltb (length (S .defs)) DEFS) _ _ λ e. go-on _ (fine (no-fact S P)))
+    by-room 10 (ltb (length (S .defs)) DEFS) _ _ λ e. go-on _ (fine noMore))
 
-step-records : (S : State) (xs : Sexps) → Ok (λ a U. Recorded S (Stored S (footing S aStep xs)) U) (addStep xs S)
+step-records : (S : State) (xs : Sexps) → Ok (λ a U. Gives S true (footing S aStep xs) U) (addStep xs S)
 unfolding addStep
 step-records S xs = go-on _ (records-made S _ (step S xs) (λ r. r .0) (λ r. someInstances (r .1)) (step-footing S xs (S .made)))
 
-apply-records : (S : State) (xs : Sexps) → Ok (λ a U. Recorded S (Stored S (footing S anApply xs)) U) (addApply xs S)
+apply-records : (S : State) (xs : Sexps) → Ok (λ a U. Gives S true (footing S anApply xs) U) (addApply xs S)
 unfolding addApply
 apply-records S xs = go-on _ (records-made S _ (apply S xs) (λ f. f) (λ f. noCounts) (apply-footing S xs (S .made)))
 
-hyp-records : (S : State) (xs : Sexps) → Ok (λ a U. Recorded S (Stored S (footing S aHyp xs)) U) (addHyp xs S)
+hyp-records : (S : State) (xs : Sexps) → Ok (λ a U. Gives S true (footing S aHyp xs) U) (addHyp xs S)
 unfolding addHyp footing
 hyp-records S xs =
     go-on _ (by-made (judgment S (item xs 2)) S _ (any _) λ j u p.
-    add-fact-records S _ _ _ (withMade S u) refl (none-stored S (hypothesis (length (S .facts)) j none []) refl))
+    add-fact-records (S .facts) _ _ _ (withMade S u) refl (none-footed S (hypothesis (length (S .facts)) j none []) refl))
 
-rule-hyp-records : (S : State) (xs : Sexps) → Ok (λ a U. Recorded S (Stored S (footing S aRuleHyp xs)) U) (addRuleHyp xs S)
+rule-hyp-records : (S : State) (xs : Sexps) → Ok (λ a U. Gives S true (footing S aRuleHyp xs) U) (addRuleHyp xs S)
 unfolding addRuleHyp footing
 rule-hyp-records S xs =
     go-on _ (by-made (judgments S (item xs 2)) S _ (any _) λ ps u p. by-made (judgment S (item xs 3)) (withMade S u) _ (any _) λ j w q.
     from-still _ _ (vars-list-still 36 S (item xs 4)) λ vs e.
-    add-fact-records S _ _ _ (withMade S w) refl (none-stored S (hypothesis (length (S .facts)) j ps vs) refl))
+    add-fact-records (S .facts) _ _ _ (withMade S w) refl (none-footed S (hypothesis (length (S .facts)) j ps vs) refl))
 
-induct-records : (S : State) (xs : Sexps) → Ok (λ a U. Recorded S (Stored S (footing S anInduct xs)) U) (addInduct xs S)
+induct-records : (S : State) (xs : Sexps) → Ok (λ a U. Gives S true (footing S anInduct xs) U) (addInduct xs S)
 unfolding addInduct footing
 induct-records S xs =
-    go-on _ (records-made S _ (induct S xs) (λ f. f) (λ f. oneInduction) (weaken (induct-footing S xs (S .made)) (λ f u e. none-stored S f e)))
+    go-on _ (records-made S _ (induct S xs) (λ f. f) (λ f. oneInduction) (weaken (induct-footing S xs (S .made)) (λ f u e. none-footed S f e)))
 
-induct-with-records : (S : State) (xs : Sexps) → Ok (λ a U. Recorded S (Stored S (footing S anInductWith xs)) U) (addInductWith xs S)
+induct-with-records : (S : State) (xs : Sexps) → Ok (λ a U. Gives S true (footing S anInductWith xs) U) (addInductWith xs S)
 unfolding addInductWith footing
 induct-with-records S xs =
-    go-on _ (records-made S _ (inductWith S xs) (λ f. f) (λ f. oneInduction) (weaken (induct-with-footing S xs (S .made)) (λ f u e. none-stored S f e)))
+    go-on _ (records-made S _ (inductWith S xs) (λ f. f) (λ f. oneInduction) (weaken (induct-with-footing S xs (S .made)) (λ f u e. none-footed S f e)))
 
-invert-records : (S : State) (xs : Sexps) → Ok (λ a U. Recorded S (Stored S (footing S anInvert xs)) U) (addInvert xs S)
+invert-records : (S : State) (xs : Sexps) → Ok (λ a U. Gives S true (footing S anInvert xs) U) (addInvert xs S)
 unfolding addInvert footing
 invert-records S xs =
     go-on _ (by-made (invert S xs) S _ (invert-footing S xs (S .made)) λ r u e.
-    go-on _ (go-on _ (add-fact-records S _ (r .0) oneInversion (withVars (withMade S u) (r .1)) refl (none-stored S (r .0) e))))
+    go-on _ (go-on _ (add-fact-records (S .facts) _ (r .0) oneInversion (withVars (withMade S u) (r .1)) refl (none-footed S (r .0) e))))
 
-result-records : (S : State) (xs : Sexps) (P : Fact → Type 0) → Ok (λ a U. Recorded S P U) (result xs S)
+result-records : (S : State) (xs : Sexps) (a : Set) → Ok (λ b U. Gives S false a U) (result xs S)
 unfolding result
-result-records S xs P =
+result-records S xs a =
     go-on _ (by-name 50 (item xs 1) S _ λ n e. by-found 50 (goalNamed (S .goals) (n .bytes)) S _ λ k e. by-found 50 (entry (S .goals) k) S _ λ d y.
     by-ask 50 (not (d .taken)) S _ λ z. by-made (reference S (item xs 2)) S _ (any _) λ r u p.
-    by-ask 51 (all (λ h. listed (d .hyps) (entry (S .facts) h)) (r .hyps)) _ _ λ e. by-ask 52 (sameTree (r .judgment) (d .judgment)) _ _ λ e. go-on _ (fine (no-fact S P)))
+    by-ask 51 (all (λ h. listed (d .hyps) (entry (S .facts) h)) (r .hyps)) _ _ λ e. by-ask 52 (sameTree (r .judgment) (d .judgment)) _ _ λ e. go-on _ (fine noMore))
 
 -- Laws ----------------------------------------------------------------------------------------------------------------------------------
 
-pub perform-footing : (t : Tag) (xs : Sexps) (S : State) → Ok (λ a U. Recorded S (Stored S (footing S t xs)) U) (perform t xs S)
-unfolding perform
-perform-footing aVar xs S = add-var-takes 3 xs S (λ v l. no-fact S _)
+pub perform-footing : (t : Tag) (xs : Sexps) (S : State) → Ok (λ a U. Gives S (records t) (footing S t xs) U) (perform t xs S)
+unfolding perform records
+perform-footing aVar xs S = add-var-takes 3 xs S (λ v l. noMore)
 perform-footing aDef xs S = def-records S xs _
 perform-footing aStep xs S = from-still _ _ (next-still xs S) λ a e. step-records S xs
 perform-footing aHyp xs S = from-still _ _ (next-still xs S) λ a e. hyp-records S xs
@@ -311,14 +321,15 @@ perform-footing anApply xs S = from-still _ _ (next-still xs S) λ a e. apply-re
 perform-footing anInvert xs S = from-still _ _ (next-still xs S) λ a e. invert-records S xs
 perform-footing aResult xs S = result-records S xs _
 
-take-form-footing : (x : Sexp) (S : State) → Ok (λ a U. Recorded S (Stored S (formFooting S x)) U) (takeForm x S)
-unfolding takeForm footingBy
+take-form-footing : (x : Sexp) (S : State) → Ok (λ a U. Gives S (recordsBy (tagOf x)) (formFooting S x) U) (takeForm x S)
+unfolding takeForm footingBy recordsBy
 take-form-footing x S =
     by-items 30 x S _ λ xs e. by-name 30 (item xs 0) S _ λ n f. by-found 30 (proofTag (n .bytes) (count xs)) S _ λ t g.
-    subst (λ a. Ok (λ b U. Recorded S (Stored S a) U) (perform t xs S)) (by-tag xs t (tag-is x xs S n t e f g)) (perform-footing t xs S)
+    by-tag xs t (tag-is x xs S n t e f g) (perform-footing t xs S)
   where
-    by-tag : (xs : Sexps) (t : Tag) → (tagOf x ≡ some t) × (itemsOf x ≡ xs) → footing S t xs ≡ formFooting S x
-    by-tag xs t h = rw (h .0, h .1) refl
+    by-tag : (xs : Sexps) (t : Tag) → (tagOf x ≡ some t) × (itemsOf x ≡ xs) → Ok (λ b U. Gives S (records t) (footing S t xs) U) (perform t xs S) →
+        Ok (λ b U. Gives S (recordsBy (tagOf x)) (formFooting S x) U) (perform t xs S)
+    by-tag xs t h p = rw (h .0, h .1) p
 
 -- footings hold rules of the theory
 module _ (S : State) (w : ShapedIn S) where
@@ -367,13 +378,17 @@ module _ (S : State) (w : ShapedIn S) where
   form-rules (some anInvert) xs r e = absurd (false≢true e)
   form-rules (some aResult) xs r e = absurd (false≢true e)
 
--- a taken form, in any state: the fact that it records has the footing that 01 says
-pub form-footing : (x : Sexp) (S U : State) → takeForm x S ≡ ok tt U → Recorded S (Stored S (formFooting S x)) U
+-- a taken form, in any state: it records a fact if it is of that kind, with the footing that 01 says
+pub form-footing : (x : Sexp) (S U : State) → takeForm x S ≡ ok tt U → Gives S (recordsBy (tagOf x)) (formFooting S x) U
 form-footing x S U e = of-ok (take-form-footing x S) e
 
--- in a state as a check reaches it (`facts-right`), where footings hold rules of the theory alone, the stored footing has just these members
+-- in a state as a check reaches it (`facts-right`), where footings hold rules of the theory alone, the fact's footing has just the set's members
 pub form-footing-set : (x : Sexp) (S U : State) → ShapedIn S → takeForm x S ≡ ok tt U →
-    Recorded S (λ f. (r : ℕ) → has (f .footing) r ≡ formFooting S x r) U
-form-footing-set x S U w e k f l q r =
-    ap (λ z. has z r) (form-footing x S U e k f l q)
-    ∙ rising-has (length (S .theory .rules)) (formFooting S x) (form-rules S w (tagOf x) (itemsOf x)) r
+    Recorded (S .facts) (λ f. (r : ℕ) → has (f .footing) r ≡ formFooting S x r) (recordsBy (tagOf x)) (U .facts)
+form-footing-set x S U w e = go (form-footing x S U e)
+  where
+    go : {b : Bool} {gs : List Fact} → Recorded (S .facts) (Footed S (formFooting S x)) b gs →
+        Recorded (S .facts) (λ f. (r : ℕ) → has (f .footing) r ≡ formFooting S x r) b gs
+    go (oneMore f q) = oneMore f (λ r. ap (λ z. has z r) q
+        ∙ rising-has (length (S .theory .rules)) (formFooting S x) (form-rules S w (tagOf x) (itemsOf x)) r)
+    go noMore = noMore
