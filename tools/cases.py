@@ -6,8 +6,8 @@
 A SOURCE is a file of cases (blocks with theory|, goals|, proof|, expect| lines) or a folder whose subfolders hold the files
 theory, goals, proof and expected. A line limits| with words such as TERMS=40 holds a copy of the definition with these limits to the
 case, so that the moment of a limit can be asked for by a short text. A line facts| has the recorded facts as numbers (see FACTS), which
-are compared too. Each case becomes one equation, `line theory goals proof ≡ expected`, which the prover must
-close by computation alone. Of an expected line with a `?` in it only the other numbers are compared. The rows are checked in a
+are compared too; behind a `;` on that line stand their footings, each behind its length, and without one these are not compared. Each
+case becomes one equation, `line theory goals proof ≡ expected`, which the prover must close by computation alone. Of an expected line with a `?` in it only the other numbers are compared. The rows are checked in a
 temporary repository beside the files of the crate `rules` that the definition needs; every case whose equation does not hold is named, with what the prover found
 instead, and the last line counts them. The variable RT names the prover's command, `rt` where it is not set.
 """
@@ -81,7 +81,8 @@ only (false ∷ bs) (n ∷ ns) = only bs ns
 
 
 # the recorded facts as numbers: the judgment (0 and a variable's number, or 1, a symbol's number, the count of its arguments and these),
-# then, each list behind its length, the hypotheses, 1 or 0 for assumed or not, the premises and the generalised variables
+# then, each list behind its length, the hypotheses, 1 or 0 for assumed or not, the premises and the generalised variables; where footings
+# are asked for, behind all facts for each the number of rules in its footing and these, by number from 0
 FACTS = """unfoldable mutual
   code : Tree → List ℕ
   code (var v) = 0 ∷ v ∷ []
@@ -105,6 +106,13 @@ allCoded (f ∷ fs) = coded f ++ allCoded fs
 
 unfoldable withFacts : Outcome → List ℕ
 withFacts o = lineOf (o .answer) ++ allCoded (o .state .facts)
+
+unfoldable allFooted : List Fact → List ℕ
+allFooted [] = []
+allFooted (f ∷ fs) = (length (f .footing) ∷ f .footing) ++ allFooted fs
+
+unfoldable withFootings : Outcome → List ℕ
+withFootings o = withFacts o ++ allFooted (o .state .facts)
 """
 
 USES = """use Prim.Native.Nat.{ℕ}
@@ -125,8 +133,11 @@ def equation(case):
     texts, right = "%s %s %s" % (text(case.theory), text(case.goals), text(case.proof)), numbers(case.expect)
     left, opened = "line " + texts, "running"
     if case.facts is not None:
+        facts, ask, footings = case.facts.partition(b";")
         left, opened = "withFacts (check %s)" % texts, "running code truth coded allCoded withFacts"
-        right += [int(n) for n in case.facts.split()]
+        if ask:
+            left, opened = "withFootings (check %s)" % texts, opened + " allFooted withFootings"
+        right += [int(n) for n in facts.split() + footings.split()]
     if None not in right:
         return left, listed(right), opened
     wanted = listed("false" if n is None else "true" for n in right)
@@ -158,17 +169,18 @@ def limited(text, limits):
 
 
 def definition(rules, top, limits, roots=("Run", "Text")):
-    """The crate `rules` without what these modules do not reach, as its laws."""
+    """The crate `rules` without what these modules do not reach, as its laws. A folder's modules come with the one that names them."""
     specs, reached, waiting = os.path.join(rules, "specs"), {}, list(roots)
     while waiting:
         name = waiting.pop()
         if name not in reached:
-            reached[name] = open(os.path.join(specs, name + ".antt")).read()
-            waiting += re.findall(r"^use Rattle\.rules\.specs\.(\w+)", reached[name], re.M)
+            reached[name] = open(os.path.join(specs, *name.split(".")) + ".antt").read()
+            waiting += re.findall(r"^use Rattle\.rules\.specs\.([\w.]+)\.\{", reached[name], re.M)
+            waiting += [name + "." + part for part in re.findall(r"^pub mod (\w+)", reached[name], re.M)]
     reached["Limits"] = limited(reached["Limits"], limits)
     order = re.findall(r"^pub mod (\w+)", open(os.path.join(specs, "Lib.antt")).read(), re.M)
     for name in reached:
-        write(os.path.join(top, "crates", "rules", "specs", name + ".antt"), reached[name])
+        write(os.path.join(top, "crates", "rules", "specs", *name.split(".")) + ".antt", reached[name])
     write(os.path.join(top, "crates", "rules", "specs", "Lib.antt"), "".join("pub mod %s\n" % n for n in order if n in reached))
     write(os.path.join(top, "crates", "rules", "src", "lib.rt"), open(os.path.join(rules, "src", "lib.rt")).read())
 

@@ -1,20 +1,20 @@
 -- `(apply N M (BINDING...) (REF...))`: fact M as a rule. An assumed M binds its generalised variables and has its premises; of another M the
 -- hypotheses, all plain, are the premises, by rising index. Assumes nothing.
-use Prim.Native.Nat.{ℕ, zero, suc, _+_}
-use mathlib.Core.Bool.{Bool, true, false, _&&_, _||_, not}
-use mathlib.Core.Option.{Option, some, none as nothing}
-use mathlib.Core.List.{List, [], _∷_, _++_}
-use lib.Dec.{eqb, leb, ltb}
+use Prim.Native.Nat.{ℕ}
+use mathlib.Core.Bool.{Bool, true, false, _||_}
+use mathlib.Core.Option.{some, none as nothing}
+use mathlib.Core.List.{List, [], _∷_}
+use lib.Dec.{eqb}
 use lib.ListN.{length}
-use Rattle.rules.specs.Out.{Out, ok, refuse, then, Act, _>>=_, pure, stop, ask, room, found}
-use Rattle.rules.specs.Sexp.{Sexp, Sexps, atom, list, nil, cons, count, item, rest, name, items}
-use Rattle.rules.specs.Find.{Set, empty, entry, all, has, union, rising}
-use Rattle.rules.specs.Tree.{Tree, Trees, var, app, none, more, sameTree, variables, variablesOf, countTrees}
+use Rattle.rules.specs.Out.{Act, _>>=_, pure, ask}
+use Rattle.rules.specs.Sexp.{Sexps, nil, cons, count, item, items}
+use Rattle.rules.specs.Find.{Set, entry, all, has, union, rising}
+use Rattle.rules.specs.Tree.{Tree, Trees, none, more, sameTree, variables, variablesOf, countTrees}
 use Rattle.rules.specs.Store.{Made, substitute}
 use Rattle.rules.specs.Unify.{Binding, along}
 use Rattle.rules.specs.State.{State, Fact, isPlain}
 use Rattle.rules.specs.Read.{index}
-use Rattle.rules.specs.Reference.{Ref, reference, factAt, bindings, judgmentsAt, scoped}
+use Rattle.rules.specs.Reference.{reference, factAt, bindings, judgmentsAt, scoped}
 use Rattle.rules.specs.Step.{Refs, noRefs, withRef, stepping}
 
 -- what M is as a rule; hyps: what its use rests on

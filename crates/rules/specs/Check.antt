@@ -1,18 +1,18 @@
--- The whole check: every question in its order over the three texts, the answer, and what stands when it is given. Assumes nothing.
-use Prim.Native.Nat.{ℕ, zero, suc, _+_}
+-- The whole check of three texts: every question from 2 on in its order, the answer, and what stands when it is given. Question 1 is about the
+-- lent tables; `Checked` of StateTables puts it before these. Assumes nothing.
+use Prim.Native.Nat.{ℕ, zero, suc}
 use mathlib.Core.Bool.{Bool, true, false, not}
-use mathlib.Core.Option.{Option, some, none as nothing}
-use mathlib.Core.List.{List, [], _∷_, _++_}
-use lib.Dec.{eqb, leb}
+use mathlib.Core.List.{List, [], _∷_}
+use lib.Dec.{eqb}
 use lib.ListN.{length}
 use Rattle.rules.specs.Text.{short, plain, texts}
-use Rattle.rules.specs.Sexp.{Text, read, reading}
+use Rattle.rules.specs.Sexp.{read, reading}
 use Rattle.rules.specs.Find.{every}
 use Rattle.rules.specs.Tree.{isOpen}
 use Rattle.rules.specs.Theory.{Theory, noTheory}
 use Rattle.rules.specs.Declare.{declare, declaring}
 use Rattle.rules.specs.Loop.{Judged, done, refused, through, whole, judging}
-use Rattle.rules.specs.State.{State, Goal, Counts, begin}
+use Rattle.rules.specs.State.{State, Goal, begin}
 use Rattle.rules.specs.Forms.{takeGoal, takeForm, taking}
 
 pub record Report : Type 0 where

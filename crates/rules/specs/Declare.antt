@@ -1,17 +1,17 @@
 -- The declarations of a theory: questions 10, 11 and 12, and rows 1 to 6 of question 60 as each thing is stored. Assumes nothing.
-use Prim.Native.Nat.{ℕ, zero, suc, _+_}
+use Prim.Native.Nat.{ℕ, suc}
 use mathlib.Core.Bool.{Bool, true, false, _&&_, not}
 use mathlib.Core.Option.{Option, some, none as nothing}
 use mathlib.Core.List.{List, [], _∷_, _++_}
 use lib.Dec.{eqb, leb, ltb}
 use lib.ListN.{length, getD}
 use Rattle.rules.specs.Limits.{SORTS, SYMBOLS, ARGUMENTS, RULES, RULEVARS, PATTERNS}
-use Rattle.rules.specs.Out.{Out, ok, refuse, then, Act, _>>=_, pure, stop, ask, room, found, get, put, beside}
+use Rattle.rules.specs.Out.{then, Act, _>>=_, pure, stop, ask, room, found, get, put, beside}
 use Rattle.rules.specs.Text.{same}
 use Rattle.rules.specs.Sexp.{Sexp, Sexps, atom, list, nil, cons, count, item, Name, name, items, marked, reading}
 use Rattle.rules.specs.Find.{first}
 use Rattle.rules.specs.Tree.{Tree, Trees, var, app, none, more}
-use Rattle.rules.specs.Theory.{Symbol, RuleVar, Rule, Theory, noName, sortNamed, predicateNamed, constructorNamed, ruleNamed, inputs, output, ruleWords, theories}
+use Rattle.rules.specs.Theory.{Symbol, RuleVar, Theory, noName, sortNamed, predicateNamed, constructorNamed, ruleNamed, inputs, output, ruleWords, theories}
 use Rattle.rules.specs.Tags.{Declaration, aSort, aCtor, aPred, aRule, declaration, tagging}
 
 unfoldable pub isNew : {A : Type 0} → Option A → Bool

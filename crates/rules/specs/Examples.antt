@@ -4,11 +4,9 @@ use Prim.Native.Nat.{ℕ}
 use Prim.Native.String.{String}
 use mathlib.Core.Path.{_≡_, refl}
 use mathlib.Core.List.{List, [], _∷_, _++_}
-use lib.ListN.{length, take, replicate}
+use lib.ListN.{replicate}
 use Rattle.rules.specs.Text.{bytes}
-use Rattle.rules.specs.Tree.{Tree, Trees, var, app, none, more}
-use Rattle.rules.specs.State.{Fact}
-use Rattle.rules.specs.Check.{check, checking}
+use Rattle.rules.specs.Check.{check}
 use Rattle.rules.specs.Run.{line, running}
 use Rattle.rules.specs.StateTables.{varCells, endCells, wordCells, goalCells, factCells, factList, footingCells, laying}
 
@@ -23,11 +21,12 @@ unfoldable pub AllHold : List Row → Type 0
 AllHold [] = Unit {0}
 AllHold (r ∷ rs) = (line (r .theory) (r .goals) (r .proof) ≡ r .says) × AllHold rs
 
--- a row over the examples' theory, whose texts can be quoted
+-- the theory of the examples
 abbrev pub theory : List ℕ
 theory =
     bytes "(sort Pass) (sort Gone) (ctor first () Pass) (ctor renew (Pass) Pass) (pred Child (Pass)) (pred Adult (Pass)) (pred Bad (Pass)) (pred Same (Pass Pass)) (pred Left (Gone)) (rule c0 () (Child first)) (rule c1 ((Child ?p)) (Child (renew ?p))) (rule a1 () (Adult (renew first))) (rule s () (Same ?p (renew ?p)))"
 
+-- goals and proof over it, and the line
 abbrev quoted : String → String → List ℕ → Row
 quoted g f l = record { theory = theory; goals = bytes g; proof = bytes f; says = l }
 
@@ -168,30 +167,18 @@ length2 = record { theory = 200 ∷ []; goals = []; proof = replicate 65537 32; 
 abbrev byte3 : Row
 byte3 = record { theory = []; goals = 40 ∷ 128 ∷ []; proof = 128 ∷ []; says = 0 ∷ 3 ∷ 2 ∷ 0 ∷ 0 ∷ [] }
 
--- an index of thirty digits is none; `+` and zeros are free
+-- thirty digits of a value below 2 ^ 64 are an index, others are none; a `+` is free too
 abbrev digits30 : Row
 digits30 = quoted "(goal g (Child first))" "(step 000000000000000000000000000000 c0 ()) (result g 111111111111111111111111111111)" (0 ∷ 34 ∷ 3 ∷ 1 ∷ 0 ∷ [])
 
 abbrev plus0 : Row
 plus0 = quoted "(goal g (Child first))" "(step +000 c0 ()) (result g +0)" (1 ∷ 1 ∷ 1 ∷ 0 ∷ 0 ∷ 0 ∷ 0 ∷ 0 ∷ [])
 
--- one unifier, a rule renamed with a variable in use, the occurs check, a variable of an empty sort
-abbrev renamedInUse : Row
-renamedInUse = quoted "(var x Pass) (var p Pass) (goal g (Child x))" "(hyp 0 (Same x p)) (hyp 1 (Child x)) (invert 2 0 (1) (Child x) ((s 1 (p))))" (0 ∷ 42 ∷ 3 ∷ 2 ∷ 0 ∷ [])
-
-abbrev emptySort : Row
-emptySort = record {
-  theory = theory ++ bytes "(rule w ((Left ?z)) (Child first))";
-  goals = bytes "(var z Gone) (goal g (Child first))";
-  proof = bytes "(induct 0 z (Left z) ()) (step 1 w (0)) (result g 1)";
-  says = 0 ∷ 39 ∷ 3 ∷ 1 ∷ 1 ∷ [];
-}
-
 pub corners :
     AllHold
-    (depth64 ∷ depth65 ∷ open64 ∷ open65 ∷ white11 ∷ letter28 ∷ comment13 ∷ comment10 ∷ bareAtom ∷ bareBefore4 ∷ first1 ∷ nobody1 ∷ nobodyRule ∷ length2 ∷ byte3 ∷ digits30 ∷ plus0 ∷ renamedInUse ∷ emptySort ∷ [])
+    (depth64 ∷ depth65 ∷ open64 ∷ open65 ∷ white11 ∷ letter28 ∷ comment13 ∷ comment10 ∷ bareAtom ∷ bareBefore4 ∷ first1 ∷ nobody1 ∷ nobodyRule ∷ length2 ∷ byte3 ∷ digits30 ∷ plus0 ∷ [])
 unfolding running AllHold
-corners = (refl, (refl, (refl, (refl, (refl, (refl, (refl, (refl, (refl, (refl, (refl, (refl, (refl, (refl, (refl, (refl, (refl, (refl, (refl, tt)))))))))))))))))))
+corners = (refl, (refl, (refl, (refl, (refl, (refl, (refl, (refl, (refl, (refl, (refl, (refl, (refl, (refl, (refl, (refl, (refl, tt)))))))))))))))))
 
 -- The tables after example A ------------------------------------------------------------------------------------------------------------
 

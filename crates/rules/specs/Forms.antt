@@ -1,19 +1,19 @@
 -- The forms of goals and proof, each as an action on the state: `var`, `def`, `goal`, `hyp` and `result` here, the others by the files before.
 -- A form stores at its end, when every question was put. Assumes nothing.
-use Prim.Native.Nat.{ℕ, zero, suc, _+_}
-use mathlib.Core.Bool.{Bool, true, false, _&&_, _||_, not}
+use Prim.Native.Nat.{ℕ, _+_}
+use mathlib.Core.Bool.{Bool, true, false, _&&_, not}
 use mathlib.Core.Option.{Option, some, none as nothing}
 use mathlib.Core.List.{List, [], _∷_, _++_}
 use lib.Dec.{eqb, leb, ltb}
 use lib.ListN.{length}
 use Rattle.rules.specs.Limits.{VARIABLES, DEFS, GOALS, FACTS, ENTRIES}
-use Rattle.rules.specs.Out.{Out, ok, refuse, then, Act, _>>=_, pure, stop, ask, room, found, get, put}
-use Rattle.rules.specs.Sexp.{Sexp, Sexps, atom, list, nil, cons, count, item, rest, Name, name, items, marked}
+use Rattle.rules.specs.Out.{ok, refuse, Act, _>>=_, ask, room, found, get, put}
+use Rattle.rules.specs.Sexp.{Sexp, Sexps, count, item, name, items, marked}
 use Rattle.rules.specs.Tags.{Tag, aVar, aDef, aStep, aHyp, aRuleHyp, anInduct, anInductWith, anApply, anInvert, aResult, proofTag, GoalForm, aVariable, aGoal, aGoalWith, goalForm, tagging}
 use Rattle.rules.specs.Find.{entry, all, change}
-use Rattle.rules.specs.Tree.{Tree, Trees, var, app, none, more, sameTree, countTrees, among}
+use Rattle.rules.specs.Tree.{Tree, Trees, none, sameTree, countTrees, among}
 use Rattle.rules.specs.Store.{Made}
-use Rattle.rules.specs.Theory.{Theory, sortNamed, constructorNamed, predicateNamed}
+use Rattle.rules.specs.Theory.{sortNamed, constructorNamed, predicateNamed}
 use Rattle.rules.specs.Declare.{isNew}
 use Rattle.rules.specs.State.{State, Var, Def, Goal, Fact, Counts, noCounts, varNamed, abbreviated, goalNamed, isPlain, factEntries, entries}
 use Rattle.rules.specs.Read.{index, term, judgment, judgments, varsList}

@@ -1,17 +1,17 @@
 -- `(induct N X (HYP...) JUDGMENT (CASE...))`, HYPs or none: structural induction on the variable X. One case a constructor of its sort, in
 -- order: `(INDEX VAR...)`, a fact that concludes the judgment at the constructor over the case's variables. Assumes nothing.
-use Prim.Native.Nat.{ℕ, zero, suc, _+_}
+use Prim.Native.Nat.{ℕ, suc}
 use mathlib.Core.Bool.{Bool, true, false, _&&_, _||_, not}
 use mathlib.Core.Option.{Option, some, none as nothing}
 use mathlib.Core.List.{List, [], _∷_, _++_}
-use lib.Dec.{eqb, leb, ltb}
+use lib.Dec.{eqb}
 use lib.ListN.{length}
-use Rattle.rules.specs.Out.{Out, ok, refuse, then, Act, _>>=_, pure, stop, ask, room, found}
-use Rattle.rules.specs.Sexp.{Sexp, Sexps, atom, list, nil, cons, count, item, rest, name, items}
-use Rattle.rules.specs.Find.{Set, empty, entry, any, all, has, union, rising}
-use Rattle.rules.specs.Tree.{Tree, Trees, var, app, none, more, sameTree, sameTrees, single, variables, variablesOf, countTrees, among}
+use Rattle.rules.specs.Out.{Act, _>>=_, pure, ask}
+use Rattle.rules.specs.Sexp.{Sexp, Sexps, nil, cons, count, item, rest, items}
+use Rattle.rules.specs.Find.{Set, entry, any, all, has, union}
+use Rattle.rules.specs.Tree.{Tree, Trees, var, app, none, more, sameTree, sameTrees, single, variables, variablesOf, among}
 use Rattle.rules.specs.Store.{Made, keep, substitute, substitutes}
-use Rattle.rules.specs.Theory.{Theory, inputs, constructors}
+use Rattle.rules.specs.Theory.{inputs, constructors}
 use Rattle.rules.specs.State.{State, Fact, sortOfVar, isNone, isPlain}
 use Rattle.rules.specs.Read.{index, variable, judgment}
 use Rattle.rules.specs.Reference.{factAt, hypList, judgmentsAt, referring}

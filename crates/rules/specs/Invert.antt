@@ -1,21 +1,21 @@
 -- `(invert N K (HYP...) JUDGMENT (CASE...))`: the plain hypothesis K was derived by some rule of its predicate. For each rule whose conclusion
 -- unifies with K there is a case `(RULE INDEX (VAR...))`, a fact that concludes the judgment under the unifier, the rule renamed to the case's
 -- variables. Cases that name no rule of the predicate are read and ignored. Assumes nothing.
-use Prim.Native.Nat.{ℕ, zero, suc, _+_}
+use Prim.Native.Nat.{ℕ, zero, suc}
 use mathlib.Core.Bool.{Bool, true, false, _&&_, _||_, not}
 use mathlib.Core.Option.{Option, some, none as nothing}
 use mathlib.Core.List.{List, [], _∷_, _++_}
-use lib.Dec.{eqb, leb, ltb}
+use lib.Dec.{eqb, ltb}
 use lib.ListN.{length, getD}
 use Rattle.rules.specs.Limits.{VARIABLES}
 use Rattle.rules.specs.Text.{same}
-use Rattle.rules.specs.Out.{Out, ok, refuse, then, Act, _>>=_, pure, stop, ask, room, found}
-use Rattle.rules.specs.Sexp.{Sexp, Sexps, atom, list, nil, cons, count, item, rest, name, items}
-use Rattle.rules.specs.Find.{Set, empty, entry, any, all, has, union, rising}
-use Rattle.rules.specs.Tree.{Tree, Trees, var, app, none, more, sameTree, sameTrees, variables, variablesOf}
+use Rattle.rules.specs.Out.{Act, _>>=_, pure, stop, ask, room}
+use Rattle.rules.specs.Sexp.{Sexp, Sexps, nil, cons, count, item, name, items}
+use Rattle.rules.specs.Find.{Set, entry, any, all, has, union, rising}
+use Rattle.rules.specs.Tree.{Tree, Trees, var, app, none, more, sameTree, sameTrees, variables}
 use Rattle.rules.specs.Store.{Made, substitute, substitutes}
 use Rattle.rules.specs.Unify.{Binding, along, unify}
-use Rattle.rules.specs.Theory.{Theory, Rule, RuleVar, noName, rule, rulesOf}
+use Rattle.rules.specs.Theory.{Rule, RuleVar, noName, rule, rulesOf}
 use Rattle.rules.specs.State.{State, Var, Fact, sortOfVar, isPlain, mentioned}
 use Rattle.rules.specs.Read.{index, varsList, judgment}
 use Rattle.rules.specs.Reference.{factAt, hypList}

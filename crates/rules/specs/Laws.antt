@@ -31,6 +31,7 @@ pub mod Reached
 pub mod Made
 pub mod MadeActions
 pub mod Fact
+pub mod Footing
 pub mod StateRows
 pub mod Count
 pub mod Inside

@@ -28,3 +28,4 @@ pub mod TheoryTables
 pub mod StateTables
 pub mod Examples
 pub mod Slips
+pub mod Rows

@@ -1,5 +1,5 @@
--- The limits: every row of question 60, the length of question 2 and the depth of question 5. src/lib.rt has the same names as
--- constants, and no other file spells one of these numbers. Assumes nothing.
+-- The limits: every row of question 60, the length of question 2 and the depth of question 5. The definition and the layout of the tables
+-- name them; src/lib.rt has the same names as constants, for the code. Examples and rows at a limit spell its number. Assumes nothing.
 use Prim.Native.Nat.{ℕ, _+_, _/_}
 
 -- question 2: the bytes of a text

@@ -2,8 +2,8 @@
 -- the last. Assumes nothing.
 use Prim.Native.Nat.{ℕ, suc}
 use mathlib.Core.Option.{Option, some, none as nothing}
-use Rattle.rules.specs.Out.{Out, ok, refuse, Act}
-use Rattle.rules.specs.Sexp.{Sexp, Sexps, atom, list, Text, ends, fails, more}
+use Rattle.rules.specs.Out.{ok, refuse, Act}
+use Rattle.rules.specs.Sexp.{Sexp, atom, list, Text, ends, fails, more}
 
 -- done: the number of forms, and the state; refused: number, detail, forms before, and the state before the form
 pub data Judged (S : Type 0) : Type 0 where

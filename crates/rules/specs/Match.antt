@@ -1,9 +1,9 @@
 -- Matching a rule's pattern with a tree, and building a tree from a pattern. Assumes nothing.
-use Prim.Native.Nat.{ℕ, zero, suc}
-use mathlib.Core.Bool.{Bool, true, false}
+use Prim.Native.Nat.{ℕ}
+use mathlib.Core.Bool.{true, false}
 use mathlib.Core.Option.{Option, some, none as nothing}
 use lib.Dec.{eqb}
-use Rattle.rules.specs.Out.{Out, ok, refuse, then, Act, _>>=_, pure, found}
+use Rattle.rules.specs.Out.{Act, _>>=_, pure, found}
 use Rattle.rules.specs.Tree.{Tree, Trees, var, app, none, more, sameTree}
 use Rattle.rules.specs.Store.{Made, keep, storing}
 

@@ -1,5 +1,6 @@
 -- An answer or a refusal, and how questions follow each other: what stands behind a refusal is not looked at.
--- An action goes from a state to its answer and the new state; a refusal keeps the state of the moment. Assumes nothing.
+-- An action goes from a state to its answer and the new state. A refusal has the state of the moment too, so that it can be said what was made
+-- until then; what the tables hold after a refused form, the state before it, is `through`'s rule (Loop). Assumes nothing.
 use Prim.Native.Nat.{ℕ}
 use mathlib.Core.Bool.{Bool, true, false}
 use mathlib.Core.Option.{Option, some, none as nothing}

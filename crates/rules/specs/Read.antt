@@ -1,19 +1,18 @@
 -- Reading terms, judgments, variables and indices of goals and proof: questions 22 and 23, and the number of whoever asks. What is read is
 -- made on the way, each argument before the term. Assumes nothing.
-use Prim.Native.Nat.{ℕ, zero, suc, _+_}
-use mathlib.Core.Bool.{Bool, true, false, _&&_, _||_, not}
-use mathlib.Core.Option.{Option, some, none as nothing}
+use Prim.Native.Nat.{ℕ}
+use mathlib.Core.Bool.{true, false, not}
+use mathlib.Core.Option.{some, none as nothing}
 use mathlib.Core.List.{List, [], _∷_, _++_}
-use lib.Dec.{eqb, leb, ltb}
-use lib.ListN.{length}
-use Rattle.rules.specs.Out.{Out, ok, refuse, then, Act, _>>=_, pure, stop, ask, room, found}
-use Rattle.rules.specs.Sexp.{Sexp, Sexps, atom, list, nil, cons, count, item, rest, Name, name, items, marked, reading}
+use lib.Dec.{eqb, leb}
+use Rattle.rules.specs.Out.{then, Act, _>>=_, pure, stop, ask, found}
+use Rattle.rules.specs.Sexp.{Sexp, Sexps, atom, list, nil, cons, count, item, rest, name, items, marked, reading}
 use Rattle.rules.specs.Index.{indexOf, indexing}
 use Rattle.rules.specs.Find.{has}
 use Rattle.rules.specs.Tree.{Tree, Trees, var, app, none, more}
 use Rattle.rules.specs.Store.{Made, keep, storing}
-use Rattle.rules.specs.Theory.{Theory, inputs, constructorNamed, predicateNamed}
-use Rattle.rules.specs.State.{State, Var, sortOf, fit, varNamed, abbreviated, isEmpty, states}
+use Rattle.rules.specs.Theory.{inputs, constructorNamed, predicateNamed}
+use Rattle.rules.specs.State.{State, sortOf, fit, varNamed, abbreviated, isEmpty, states}
 
 -- question n reads an index
 unfoldable pub index : {S : Type 0} → ℕ → Sexp → Act S ℕ

@@ -1,17 +1,17 @@
 -- Naming facts: by index, or as an instance with bindings; lists of hypotheses; and question 39. Assumes nothing.
-use Prim.Native.Nat.{ℕ, zero, suc, _+_}
-use mathlib.Core.Bool.{Bool, true, false, _&&_, _||_, not}
+use Prim.Native.Nat.{ℕ, zero, suc}
+use mathlib.Core.Bool.{Bool, not}
 use mathlib.Core.Option.{Option, some, none as nothing}
-use mathlib.Core.List.{List, [], _∷_, _++_}
-use lib.Dec.{eqb, leb, ltb}
+use mathlib.Core.List.{List, [], _∷_}
+use lib.Dec.{eqb}
 use lib.ListN.{length}
-use Rattle.rules.specs.Out.{Out, ok, refuse, then, Act, _>>=_, pure, stop, ask, room, found}
+use Rattle.rules.specs.Out.{refuse, Act, _>>=_, pure, ask, found}
 use Rattle.rules.specs.Sexp.{Sexp, Sexps, atom, list, nil, cons, count, item, rest, items}
-use Rattle.rules.specs.Find.{Set, empty, entry, any, has, union, minus, rising, least}
-use Rattle.rules.specs.Tree.{Tree, Trees, var, app, none, more, variables}
+use Rattle.rules.specs.Find.{Set, entry, any, has, union, minus, rising, least}
+use Rattle.rules.specs.Tree.{Tree, Trees, var, none, more, variables}
 use Rattle.rules.specs.Store.{Made, substitute}
 use Rattle.rules.specs.Unify.{Binding, along, insert, unifying}
-use Rattle.rules.specs.State.{State, Fact, sortOfVar, isEmpty, isPlain, hypVars}
+use Rattle.rules.specs.State.{State, Fact, sortOfVar, isEmpty, hypVars}
 use Rattle.rules.specs.Read.{index, variable, termOf, termReading}
 
 -- the fact of a number, which must be earlier

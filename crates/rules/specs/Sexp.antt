@@ -5,8 +5,8 @@ use mathlib.Core.Bool.{Bool, true, false}
 use lib.Dec.{leb, eqb}
 use lib.ListN.{length, drop}
 use Rattle.rules.specs.Limits.{DEPTH}
-use Rattle.rules.specs.Lex.{Token, opens, closes, word, Mode, between, tokens, lexing}
-use Rattle.rules.specs.Out.{Out, ok, refuse, Act, pure, stop}
+use Rattle.rules.specs.Lex.{Token, opens, closes, word, between, tokens, lexing}
+use Rattle.rules.specs.Out.{Act, pure, stop}
 
 -- an atom has its place in the text and its bytes: the tables hold places
 mutual

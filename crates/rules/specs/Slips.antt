@@ -1,15 +1,14 @@
--- The slips that a checker of such proofs is prone to, one row each: a proof that a wrong rule would take, or a right one that it would not, with
--- the answer of 01. Each row is what refuses a must-fail edit of the definition. Assumes nothing.
+-- The slips that a checker of such proofs is prone to, those that 01 names among them: for each a proof, or a theory, that the slip would take
+-- and that 01 refuses, and a unification that it would do otherwise. Rows has more, clause by clause. Assumes nothing.
 use Prim.Native.Nat.{ℕ}
 use Prim.Native.String.{String}
 use mathlib.Core.Path.{_≡_, refl}
 use mathlib.Core.Option.{some}
 use mathlib.Core.List.{List, [], _∷_, _++_}
 use Rattle.rules.specs.Text.{bytes}
-use Rattle.rules.specs.Out.{Out, ok, refuse}
-use Rattle.rules.specs.Tree.{Tree, Trees, var, app, none, more}
-use Rattle.rules.specs.Store.{Made}
-use Rattle.rules.specs.Unify.{Binding, unify, unifying}
+use Rattle.rules.specs.Out.{ok}
+use Rattle.rules.specs.Tree.{Tree, var, app, none, more}
+use Rattle.rules.specs.Unify.{unify, unifying}
 use Rattle.rules.specs.Run.{running}
 use Rattle.rules.specs.Examples.{Row, AllHold, theory}
 
@@ -30,6 +29,15 @@ nothingBinds = proved "(step 0 s ())" (0 ∷ 38 ∷ 3 ∷ 0 ∷ 0 ∷ [])
 -- an instance of a fact that rests on a hypothesis
 abbrev instanceOfHyp : Row
 instanceOfHyp = proved "(hyp 0 (Child x)) (step 1 c1 ((0 (x first))))" (0 ∷ 35 ∷ 3 ∷ 1 ∷ 0 ∷ [])
+
+-- a premise keeps a variable of an empty sort, though the conclusion has none and there is no hypothesis
+abbrev emptySort : Row
+emptySort = record {
+  theory = theory ++ bytes "(rule w ((Left ?z)) (Child first))";
+  goals = bytes "(var z Gone) (goal g (Child first))";
+  proof = bytes "(induct 0 z (Left z) ()) (step 1 w (0)) (result g 1)";
+  says = 0 ∷ 39 ∷ 3 ∷ 1 ∷ 1 ∷ [];
+}
 
 -- two premises for a rule with one
 abbrev twoPremises : Row
@@ -63,11 +71,14 @@ generalisedOwn = proved "(var y Pass) (step 0 c0 ()) (hyp 1 () (Child y) (x)) (s
 
 -- Inversions ----------------------------------------------------------------------------------------------------------------------------
 
--- the rule is renamed with a variable in use
+-- the rule is renamed with a variable in use: with the one that the judgment and the hypothesis hold, and with one of the hypothesis alone
 abbrev notApart : Row
 notApart = proved "(hyp 0 (Child x)) (step 1 c0 ()) (hyp 2 (Child x)) (step 3 c1 (2)) (invert 4 0 () (Child x) ((c0 1 ()) (c1 3 (x))))" (0 ∷ 42 ∷ 3 ∷ 4 ∷ 0 ∷ [])
 
--- a case for a rule that cannot conclude the hypothesis
+abbrev renamedInUse : Row
+renamedInUse = proved "(var p Pass) (hyp 0 (Same x p)) (hyp 1 (Child x)) (invert 2 0 (1) (Child x) ((s 1 (p))))" (0 ∷ 42 ∷ 3 ∷ 3 ∷ 0 ∷ [])
+
+-- a case for a rule that cannot conclude the hypothesis: no p is (renew p), which the occurs check finds
 abbrev cannotConclude : Row
 cannotConclude = proved "(hyp 0 (Same x x)) (hyp 1 (Bad x)) (var p Pass) (invert 2 0 () (Bad x) ((s 1 (p))))" (0 ∷ 46 ∷ 3 ∷ 3 ∷ 0 ∷ [])
 
@@ -123,11 +134,11 @@ sameName = record { theory = theory ++ bytes "(pred first ()) (ctor Child () Pas
 
 pub slips :
     AllHold
-    (otherPremise ∷ nothingBinds ∷ instanceOfHyp ∷ twoPremises ∷ notPaired ∷ firstForBoth ∷ ownHypothesis ∷ notInMotive ∷ staleCase ∷ generalisedOwn
-    ∷ notApart ∷ cannotConclude ∷ captured ∷ otherHypothesis ∷ notGeneral ∷ bindingOutside ∷ otherGoal ∷ twice ∷ notAll ∷ twoSorts ∷ sameName ∷ [])
+    (otherPremise ∷ nothingBinds ∷ instanceOfHyp ∷ emptySort ∷ twoPremises ∷ notPaired ∷ firstForBoth ∷ ownHypothesis ∷ notInMotive ∷ staleCase ∷ generalisedOwn
+    ∷ notApart ∷ renamedInUse ∷ cannotConclude ∷ captured ∷ otherHypothesis ∷ notGeneral ∷ bindingOutside ∷ otherGoal ∷ twice ∷ notAll ∷ twoSorts ∷ sameName ∷ [])
 unfolding running AllHold
 slips =
-    (refl, (refl, (refl, (refl, (refl, (refl, (refl, (refl, (refl, (refl, (refl, (refl, (refl, (refl, (refl, (refl, (refl, (refl, (refl, (refl, (refl, tt)))))))))))))))))))))
+    (refl, (refl, (refl, (refl, (refl, (refl, (refl, (refl, (refl, (refl, (refl, (refl, (refl, (refl, (refl, (refl, (refl, (refl, (refl, (refl, (refl, (refl, (refl, tt)))))))))))))))))))))))
 
 -- Unification ---------------------------------------------------------------------------------------------------------------------------
 

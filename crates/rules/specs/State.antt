@@ -1,18 +1,16 @@
 -- What a check has so far: the theory, variables, made trees, abbreviations, goals and facts, and the running counts. Assumes nothing.
-use Prim.Native.Nat.{ℕ, zero, suc, _+_}
-use mathlib.Core.Bool.{Bool, true, false, _&&_, _||_, not}
+use Prim.Native.Nat.{ℕ, _+_}
+use mathlib.Core.Bool.{Bool, true, false, _&&_, _||_}
 use mathlib.Core.Option.{Option, some, none as nothing}
-use mathlib.Core.List.{List, [], _∷_, _++_}
-use lib.Dec.{eqb, ltb, leb}
+use mathlib.Core.List.{List, [], _∷_}
+use lib.Dec.{eqb}
 use lib.ListN.{length, getD}
 use Rattle.rules.specs.Text.{same}
-use Rattle.rules.specs.Limits.{VARIABLES, FACTS, ENTRIES}
-use Rattle.rules.specs.Out.{Out, ok, refuse, then, Act, _>>=_, pure, stop, ask, room, found}
 use Rattle.rules.specs.Sexp.{Name}
-use Rattle.rules.specs.Find.{Set, first, entry, any, has, union, minus, finding}
-use Rattle.rules.specs.Tree.{Tree, Trees, var, app, none, more, variables, variablesOf, countTrees, treeing}
+use Rattle.rules.specs.Find.{Set, first, entry, has, union, minus}
+use Rattle.rules.specs.Tree.{Tree, Trees, var, app, none, more, variables, variablesOf, countTrees}
 use Rattle.rules.specs.Store.{Made}
-use Rattle.rules.specs.Theory.{Theory, noTheory, noName, output, theories}
+use Rattle.rules.specs.Theory.{Theory, noName, output, theories}
 
 -- text: 2 or 3, where its name stands; 0 for a variable made by `invert`, which has no name
 pub record Var : Type 0 where
@@ -126,9 +124,9 @@ unfoldable pub hypVars : List Fact → List ℕ → Set
 hypVars fs [] v = false
 hypVars fs (h ∷ hs) v = freeAt (entry fs h) v || hypVars fs hs v
 
--- Storing -----------------------------------------------------------------------------------------------------------------------
+-- Entries of lists ----------------------------------------------------------------------------------------------------------------
 
--- row 13 counts these
+-- row 13 counts these: the hypotheses that goals list, and the hypotheses, premises and generalised variables of facts
 unfoldable pub goalEntries : List Goal → ℕ
 goalEntries [] = 0
 goalEntries (g ∷ gs) = countTrees (g .hyps) + goalEntries gs

@@ -1,19 +1,18 @@
 -- The tables of a check, cell by cell: what each holds after an answer, zero behind that up to its named length, and past that length what
 -- was there before. TheoryTables has the theory's. A term is its place among the made trees, a fact, a variable, a goal its place in its
--- list. Definitions first, then a worked example. Assumes nothing.
-use Prim.Native.Nat.{ℕ, zero, suc, _+_, _*_, _/_, _%_, _^_, _≤_}
-use mathlib.Core.Path.{_≡_, refl}
+-- list. Question 1 is put here, last, in `Checked`. Examples has the cells after a check (`tables-A`). Assumes nothing.
+use Prim.Native.Nat.{ℕ, _+_, _*_, _/_, _%_, _^_, _≤_}
+use mathlib.Core.Path.{_≡_}
 use mathlib.Core.Bool.{Bool, true, false}
 use mathlib.Core.List.{List, [], _∷_, _++_}
 use lib.Dec.{eqb}
-use lib.ListN.{length, take, drop, replicate}
+use lib.ListN.{length, drop, replicate}
 use Rattle.rules.specs.Limits.{SORTS, SYMBOLS, ARGUMENTS, RULES, RULEVARS, PATTERNS, VARIABLES, TERMS, WORDS, DEFS, GOALS, FACTS, ENTRIES}
-use Rattle.rules.specs.Text.{bytes}
 use Rattle.rules.specs.Find.{has}
 use Rattle.rules.specs.Tree.{Tree, Trees, var, app, none, more, countTrees, node}
 use Rattle.rules.specs.Store.{Made, number}
 use Rattle.rules.specs.State.{State, Var, Def, Goal, Fact, goalEntries, factEntries}
-use Rattle.rules.specs.Check.{Answer, accepts, refuses, Refusal, Outcome, check, checking, missing}
+use Rattle.rules.specs.Check.{Answer, accepts, refuses, Outcome, check, checking, missing}
 use Rattle.rules.specs.TheoryTables.{filled, nameCells, sortTable, symbolTable, inputTable, ruleTable, ruleVarTable, patternTable, tabling}
 
 -- Variables and abbreviations ----------------------------------------------------------------------------------------------------

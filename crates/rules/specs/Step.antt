@@ -1,18 +1,18 @@
 -- `(step N RULE (REF...) ITEM...)`: an instance of a rule, from earlier facts. An item is a binding of a rule variable, or the conclusion.
 -- Assumes nothing.
-use Prim.Native.Nat.{ℕ, zero, suc, _+_}
-use mathlib.Core.Bool.{Bool, true, false, _&&_, _||_, not}
+use Prim.Native.Nat.{ℕ, _+_}
+use mathlib.Core.Bool.{true, false, _&&_}
 use mathlib.Core.Option.{Option, some, none as nothing}
-use mathlib.Core.List.{List, [], _∷_, _++_}
-use lib.Dec.{eqb, leb, ltb}
+use mathlib.Core.List.{List, [], _∷_}
+use lib.Dec.{eqb}
 use lib.ListN.{length, getD}
 use Rattle.rules.specs.Text.{same}
-use Rattle.rules.specs.Out.{Out, ok, refuse, then, Act, _>>=_, pure, stop, ask, room, found}
-use Rattle.rules.specs.Sexp.{Sexp, Sexps, atom, list, nil, cons, count, item, rest, name, items, marked}
+use Rattle.rules.specs.Out.{Act, _>>=_, pure, ask, found}
+use Rattle.rules.specs.Sexp.{Sexp, Sexps, nil, cons, count, item, rest, name, items, marked}
 use Rattle.rules.specs.Find.{Set, empty, first, has, union, rising}
-use Rattle.rules.specs.Tree.{Tree, Trees, var, app, none, more, variablesOf, countTrees}
+use Rattle.rules.specs.Tree.{Tree, Trees, none, more, variablesOf, countTrees}
 use Rattle.rules.specs.Store.{Made}
-use Rattle.rules.specs.Theory.{Theory, Rule, RuleVar, ruleNamed, rule}
+use Rattle.rules.specs.Theory.{Rule, ruleNamed, rule}
 use Rattle.rules.specs.Declare.{noRuleVar, isNew}
 use Rattle.rules.specs.Match.{Bound, unbound, bind, matches, matchAll, build, matching}
 use Rattle.rules.specs.State.{State, Fact}

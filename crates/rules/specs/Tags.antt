@@ -123,9 +123,20 @@ induct-six : proofTag (bytes "induct") 6 ≡ some anInductWith
 unfolding tagging
 induct-six = refl
 
-index-first : indexPlace (bytes "apply") 5 ≡ some 1
+-- the second item, in every form that adds a fact and in no other
+index-places :
+    (indexPlace (bytes "step") 4 ≡ some 1)
+    × (indexPlace (bytes "hyp") 3 ≡ some 1)
+    × (indexPlace (bytes "hyp") 5 ≡ some 1)
+    × (indexPlace (bytes "induct") 5 ≡ some 1)
+    × (indexPlace (bytes "induct") 6 ≡ some 1)
+    × (indexPlace (bytes "apply") 5 ≡ some 1)
+    × (indexPlace (bytes "invert") 6 ≡ some 1)
+    × (indexPlace (bytes "var") 3 ≡ nothing)
+    × (indexPlace (bytes "def") 3 ≡ nothing)
+    × (indexPlace (bytes "result") 3 ≡ nothing)
 unfolding tagging
-index-first = refl
+index-places = (refl, refl, refl, refl, refl, refl, refl, refl, refl, refl)
 
 ctor-four : declaration (bytes "ctor") 4 ≡ some aCtor
 unfolding tagging

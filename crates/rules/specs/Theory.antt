@@ -1,14 +1,14 @@
 -- A theory, and the questions put to it. Sorts are numbered from 1 in order of declaration; 0 stands where a judgment does and a term
 -- of some sort could. Symbols (constructors and predicates together) and rules are numbered from 0. Assumes nothing.
-use Prim.Native.Nat.{ℕ, zero, suc, _+_}
-use mathlib.Core.Bool.{Bool, true, false, _&&_, _||_, not}
-use mathlib.Core.Option.{Option, some, none as nothing}
-use mathlib.Core.List.{List, [], _∷_, _++_}
+use Prim.Native.Nat.{ℕ, _+_}
+use mathlib.Core.Bool.{Bool, false, _&&_, not}
+use mathlib.Core.Option.{Option}
+use mathlib.Core.List.{List, [], _∷_}
 use lib.Dec.{eqb}
-use lib.ListN.{length, getD}
+use lib.ListN.{getD}
 use Rattle.rules.specs.Text.{same}
 use Rattle.rules.specs.Find.{first, every, finding}
-use Rattle.rules.specs.Tree.{Tree, Trees, var, app, none, more, size, sizes, treeing}
+use Rattle.rules.specs.Tree.{Tree, Trees, var, app, none, size, sizes, treeing}
 use Rattle.rules.specs.Sexp.{Name}
 
 -- output: the sort of a constructor's terms; 0 for a predicate

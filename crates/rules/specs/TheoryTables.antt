@@ -1,6 +1,6 @@
 -- The tables of a theory, cell by cell: what each holds, and zero behind. A name is the place of its first byte and the place behind its
 -- last. Definitions first, then a worked example. Assumes nothing.
-use Prim.Native.Nat.{ℕ, zero, suc, _+_, _-_, _*_}
+use Prim.Native.Nat.{ℕ, _+_, _-_, _*_}
 use mathlib.Core.Path.{_≡_, refl}
 use mathlib.Core.List.{List, [], _∷_, _++_}
 use lib.ListN.{length, replicate, take}

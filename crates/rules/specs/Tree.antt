@@ -1,8 +1,7 @@
 -- Terms and judgments as trees: a variable's number, or a symbol's number over arguments. A rule's patterns are trees over the rule's
 -- own variables. Assumes nothing.
-use Prim.Native.Nat.{ℕ, zero, suc, _+_}
-use mathlib.Core.Bool.{Bool, true, false, _&&_, _||_}
-use mathlib.Core.List.{List, [], _∷_, _++_}
+use Prim.Native.Nat.{ℕ, suc, _+_}
+use mathlib.Core.Bool.{Bool, true, false}
 use lib.Dec.{eqb}
 use Rattle.rules.specs.Find.{Set}
 

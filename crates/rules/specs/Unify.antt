@@ -3,13 +3,13 @@
 -- the pairs. Two numbers of steps bound the recursion; that they suffice, so that `nothing` means that no replacement exists, is proved
 -- of the definition. Assumes nothing.
 use Prim.Native.Nat.{ℕ, zero, suc, _+_}
-use mathlib.Core.Bool.{Bool, true, false}
+use mathlib.Core.Bool.{true, false}
 use mathlib.Core.Option.{Option, some, none as nothing}
 use mathlib.Core.List.{List, [], _∷_}
 use lib.Dec.{eqb, leb, ltb}
 use lib.ListN.{length}
 use Rattle.rules.specs.Limits.{PAIRS}
-use Rattle.rules.specs.Out.{Out, ok, refuse, then, Act, _>>=_, pure, room}
+use Rattle.rules.specs.Out.{Act, _>>=_, pure, room}
 use Rattle.rules.specs.Tree.{Tree, Trees, var, app, none, more, sameTree, sub, single, variables, countTrees, size}
 use Rattle.rules.specs.Store.{Made, substitute, storing}
 

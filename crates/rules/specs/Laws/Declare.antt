@@ -1,28 +1,24 @@
 -- Each declaration keeps a theory well-formed. Assumes nothing.
-use Prim.Native.Nat.{ℕ, zero, suc, _+_, _<_, _≤_}
+use Prim.Native.Nat.{ℕ, suc, _+_, _<_, _≤_}
 use mathlib.Core.Path.{_≡_, refl, sym, ap, _∙_, subst}
-use mathlib.Core.Bool.{Bool, true, false, _&&_, not}
-use mathlib.Core.Logic.{_⊎_, inl, inr}
+use mathlib.Core.Bool.{not}
 use mathlib.Core.Option.{Option, some, none as nothing}
 use mathlib.Core.List.{List, [], _∷_, _++_}
 use native.Mathlib.Omega.{arith}
-use native.Mathlib.Decide.{decLt}
-use borrow.Author.Tests.{ltb-true, eqb-true, leb-true, eq-eqb}
-use lib.Dec.{eqb, leb, ltb}
-use lib.ListN.{length, getD, length-append}
-use lib.Seq.{getD-append-seam}
-use Rattle.rules.specs.Limits.{SORTS, SYMBOLS, ARGUMENTS, RULES, RULEVARS, PATTERNS}
+use borrow.Author.Tests.{ltb-true}
+use lib.Dec.{ltb}
+use lib.ListN.{length, length-append}
+use Rattle.rules.specs.Limits.{SORTS, SYMBOLS, ARGUMENTS, RULES}
 use Rattle.rules.specs.Text.{same}
-use Rattle.rules.specs.Out.{Out, ok, refuse, then, Act, ask, room, found}
-use Rattle.rules.specs.Laws.Out.{Ok, fine, off, of-ok, weaken, by-then, by-name, by-items, by-ask, by-room, by-found, by-beside, by-assoc}
-use Rattle.rules.specs.Sexp.{Sexp, Sexps, atom, list, nil, cons, count, item, Name, name, items, marked, Text, ends, fails, more as more-forms, read}
-use Rattle.rules.specs.Find.{first}
-use Rattle.rules.specs.Laws.Find.{First, first-some, getD-front}
-use Rattle.rules.specs.Tree.{Tree, Trees, var, app, none, more, variables, variablesOf, size, sizes}
-use Rattle.rules.specs.Theory.{Symbol, RuleVar, Rule, Theory, noTheory, noName, noSymbol, sortNamed, ruleNamed, isPredicate, predicateNamed, constructorNamed, inputs, output, ruleWords}
-use Rattle.rules.specs.Laws.Theory.{All, empty, both, IsSort, sortIn, Sorted, Sorteds, Judgment, Judgments, SymbolFormed, RuleFormed, WellFormed, all-snoc, all-map, all-at}
-use Rattle.rules.specs.Declare.{isNew, noRuleVar, properName, sort, sorts, Reading, word, metOrNew, variable, head, pattern, compound, patterns, predicated, judgment, judgments, schema, addSort, addSymbol, addCtor, addPred, addRule, declareAs, declare}
-use Rattle.rules.specs.Laws.Pattern.{Reads, schema-reads, ReadRule}
+use Rattle.rules.specs.Out.{Out, ok, refuse, then, ask, room}
+use Rattle.rules.specs.Laws.Out.{Ok, fine, of-ok, by-name, by-items, by-ask, by-room, by-found, by-beside, by-assoc}
+use Rattle.rules.specs.Sexp.{Sexp, Sexps, nil, cons, count, item, Name, name, marked, Text, ends, fails, more as more-forms, read}
+use Rattle.rules.specs.Laws.Find.{first-some, getD-front}
+use Rattle.rules.specs.Tree.{Tree, Trees, var, app, none, more, size, sizes}
+use Rattle.rules.specs.Theory.{Symbol, RuleVar, Rule, Theory, noTheory, noName, noSymbol, sortNamed, ruleNamed, predicateNamed, constructorNamed, inputs, output, ruleWords}
+use Rattle.rules.specs.Laws.Theory.{All, empty, both, IsSort, Sorted, Sorteds, Judgment, Judgments, SymbolFormed, RuleFormed, WellFormed, all-snoc, all-map}
+use Rattle.rules.specs.Declare.{isNew, properName, sort, sorts, schema, addSort, addSymbol, addCtor, addPred, addRule, declareAs, declare}
+use Rattle.rules.specs.Laws.Pattern.{schema-reads}
 use Rattle.rules.specs.Tags.{Declaration, aSort, aCtor, aPred, aRule, declaration}
 use Rattle.rules.specs.Loop.{Judged, done, refused, through, unread, whole}
 

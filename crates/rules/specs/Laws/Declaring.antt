@@ -1,19 +1,19 @@
 -- The questions of a theory's declarations one at a time, as code puts them: what an action answers, from what was found so far.
 -- Assumes nothing.
-use Prim.Native.Nat.{ℕ, zero, suc, _+_, _<_, _≤_}
-use mathlib.Core.Path.{_≡_, refl, sym, ap, _∙_}
+use Prim.Native.Nat.{ℕ, suc, _<_, _≤_}
+use mathlib.Core.Path.{_≡_, refl, ap, _∙_}
 use mathlib.Core.Bool.{Bool, true, false, not}
 use mathlib.Core.Option.{Option, some, none as nothing}
 use mathlib.Core.List.{List, [], _∷_, _++_}
-use lib.Dec.{eqb, leb, ltb}
-use lib.ListN.{length, getD}
+use lib.Dec.{ltb}
+use lib.ListN.{length}
 use borrow.Author.Tests.{lt-ltb, le-ltb}
-use Rattle.rules.specs.Limits.{SORTS, SYMBOLS, ARGUMENTS, RULES, RULEVARS, PATTERNS}
+use Rattle.rules.specs.Limits.{SORTS, SYMBOLS, ARGUMENTS}
 use Rattle.rules.specs.Text.{same}
-use Rattle.rules.specs.Out.{Out, ok, refuse, then, Act, ask, room, found}
-use Rattle.rules.specs.Sexp.{Sexp, Sexps, atom, list, nil, cons, count, item, Name, name, items, marked}
+use Rattle.rules.specs.Out.{Out, ok, refuse, then, ask, found}
+use Rattle.rules.specs.Sexp.{Sexp, Sexps, atom, list, nil, cons, item, Name, name, items, marked}
 use Rattle.rules.specs.Find.{first}
-use Rattle.rules.specs.Theory.{Symbol, RuleVar, Rule, Theory, sortNamed, predicateNamed, constructorNamed, ruleNamed}
+use Rattle.rules.specs.Theory.{Symbol, Theory, sortNamed, predicateNamed, constructorNamed}
 use Rattle.rules.specs.Declare.{isNew, properName, sort, sorts, addSort, addSymbol, addCtor, addPred}
 
 -- Names and sorts ----------------------------------------------------------------------------------------------------------------

@@ -13,7 +13,7 @@ use lib.ListN.{length, length-append}
 use Rattle.rules.specs.Limits.{TERMS, WORDS}
 use Rattle.rules.specs.Find.{entry}
 use Rattle.rules.specs.Sexp.{Sexp}
-use Rattle.rules.specs.Tree.{Tree, Trees, app, sameTree, node}
+use Rattle.rules.specs.Tree.{Tree, Trees, app, sameTree}
 use Rattle.rules.specs.Laws.Tree.{same-tree, same-self}
 use Rattle.rules.specs.Laws.Store.{words-more}
 use Rattle.rules.specs.Store.{Made, stored, number, words}

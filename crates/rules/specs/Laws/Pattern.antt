@@ -1,27 +1,27 @@
 -- What reading a rule's patterns gives: trees of their sorts over the variables met, of as many words as were counted. Assumes nothing.
-use Prim.Native.Nat.{ℕ, zero, suc, _+_, _<_, _≤_}
-use mathlib.Core.Path.{_≡_, refl, sym, ap, _∙_, subst}
+use Prim.Native.Nat.{ℕ, _+_, _<_, _≤_}
+use mathlib.Core.Path.{_≡_, refl, sym, ap, _∙_}
 use mathlib.Core.Bool.{Bool, true, false, _&&_, not}
 use mathlib.Core.Logic.{_⊎_, inl, inr}
 use mathlib.Core.Option.{Option, some, none as nothing}
 use mathlib.Core.List.{List, [], _∷_, _++_}
 use native.Mathlib.Omega.{arith}
 use native.Mathlib.Decide.{decLt}
-use borrow.Author.Tests.{ltb-true, eqb-true, leb-true, eq-eqb}
+use borrow.Author.Tests.{ltb-true, eqb-true, eq-eqb}
 use lib.Dec.{eqb, leb, ltb}
 use lib.ListN.{length, getD, length-append}
 use lib.Seq.{getD-append-seam}
-use Rattle.rules.specs.Limits.{SORTS, SYMBOLS, ARGUMENTS, RULES, RULEVARS, PATTERNS}
+use Rattle.rules.specs.Limits.{RULEVARS, PATTERNS}
 use Rattle.rules.specs.Text.{same}
-use Rattle.rules.specs.Out.{Out, ok, refuse, then, Act, ask, room, found}
-use Rattle.rules.specs.Laws.Out.{Ok, fine, off, of-ok, weaken, by-then, by-name, by-items, by-ask, by-room, by-found, by-beside}
-use Rattle.rules.specs.Sexp.{Sexp, Sexps, atom, list, nil, cons, count, item, Name, name, items, marked}
+use Rattle.rules.specs.Out.{then, Act}
+use Rattle.rules.specs.Laws.Out.{Ok, fine, off, by-then, by-name, by-items, by-ask, by-room, by-found}
+use Rattle.rules.specs.Sexp.{Sexp, Sexps, atom, list, nil, cons, count, item, Name, name, marked}
 use Rattle.rules.specs.Find.{first}
-use Rattle.rules.specs.Laws.Find.{First, first-some, getD-front}
+use Rattle.rules.specs.Laws.Find.{first-some, getD-front}
 use Rattle.rules.specs.Tree.{Tree, Trees, var, app, none, more, variables, variablesOf, size, sizes}
-use Rattle.rules.specs.Theory.{Symbol, RuleVar, Rule, Theory, noTheory, noSymbol, sortNamed, isPredicate, predicateNamed, constructorNamed, inputs, output, ruleWords}
-use Rattle.rules.specs.Laws.Theory.{All, empty, both, IsSort, sortIn, Sorted, Sorteds, Judgment, Judgments, SymbolFormed, all-snoc, all-map, all-at}
-use Rattle.rules.specs.Declare.{noRuleVar, properName, sort, sorts, Reading, word, metOrNew, variable, head, pattern, compound, patterns, predicated, judgment, judgments, schema, addSort, addSymbol, addCtor, addPred, addRule, declareAs, declare}
+use Rattle.rules.specs.Theory.{Symbol, RuleVar, Theory, noSymbol, isPredicate, predicateNamed, constructorNamed, inputs, output}
+use Rattle.rules.specs.Laws.Theory.{All, both, IsSort, sortIn, Sorted, Sorteds, Judgment, Judgments, SymbolFormed, all-snoc, all-at}
+use Rattle.rules.specs.Declare.{noRuleVar, sort, sorts, Reading, word, metOrNew, variable, head, pattern, compound, patterns, predicated, judgment, judgments, schema}
 
 -- further variables
 pub record Extends (vs ws : List RuleVar) : Type 0 where

@@ -1,10 +1,9 @@
 -- The questions of a rule's patterns one at a time, as code puts them. Assumes nothing.
-use Prim.Native.Nat.{ℕ, zero, suc, _+_, _<_, _≤_}
-use mathlib.Core.Path.{_≡_, refl, sym, ap, _∙_}
-use mathlib.Core.Bool.{Bool, true, false, _&&_}
+use Prim.Native.Nat.{ℕ, suc, _<_, _≤_}
+use mathlib.Core.Path.{_≡_, refl, ap, _∙_}
+use mathlib.Core.Bool.{Bool, true, false}
 use mathlib.Core.Option.{Option, some, none as nothing}
 use mathlib.Core.List.{List, [], _∷_, _++_}
-use lib.Dec.{eqb, leb, ltb}
 use lib.ListN.{length, getD}
 use borrow.Author.Tests.{lt-ltb, le-ltb, eq-eqb, ne-eqb, le-leb, lt-leb}
 use Rattle.rules.specs.Limits.{RULEVARS, PATTERNS}

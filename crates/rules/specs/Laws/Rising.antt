@@ -1,11 +1,11 @@
 -- Lists of numbers that rise without repetition, and the members of a set written out, which do. Assumes nothing.
 use Prim.Native.Nat.{ℕ, zero, suc, _+_, _≤_, _<_}
-use mathlib.Core.Path.{_≡_, refl, subst, sym}
+use mathlib.Core.Path.{_≡_, refl, subst, sym, _∙_}
 use mathlib.Core.Bool.{Bool, true, false, _||_, false≢true}
 use mathlib.Core.Logic.{_⊎_, inl, inr}
 use mathlib.Core.List.{List, [], _∷_}
 use native.Mathlib.Omega.{arith}
-use borrow.Author.Tests.{eqb-true}
+use borrow.Author.Tests.{eqb-true, eqb-false}
 use lib.Dec.{eqb}
 use Rattle.rules.specs.Find.{Set, has, risingFrom, rising}
 use Rattle.rules.specs.Laws.Theory.{All, empty, both}
@@ -63,3 +63,28 @@ has-all {P} (x ∷ xs) v (both p h) e = go (eqb v x) refl e (has-all xs v h)
 pub or-cases : (a b : Bool) → a || b ≡ true → (a ≡ true) ⊎ (b ≡ true)
 or-cases true b e = inl refl
 or-cases false b e = inr e
+
+-- the members of a set whose members are all below n, written out, are its members
+rising-from-has : (k n : ℕ) (a : Set) (v : ℕ) → k ≤ v → v < k + n → a v ≡ true → has (risingFrom k n a) v ≡ true
+unfolding risingFrom has
+rising-from-has k zero a v l m e = absurd (omega (arith, l, m))
+rising-from-has k (suc n) a v l m e =
+    go (a k) refl (eqb v k) refl (λ q. rising-from-has (suc k) n a v (let d = eqb-false v k q in omega (arith, l)) (omega arith) e)
+  where
+    go : (b : Bool) → a k ≡ b → (c : Bool) → eqb v k ≡ c → (eqb v k ≡ false → has (risingFrom (suc k) n a) v ≡ true) →
+        has (elim b [ true ↦ k ∷ risingFrom (suc k) n a | false ↦ risingFrom (suc k) n a ]) v ≡ true
+    go true f true q h = rw (q, has) refl
+    go true f false q h = rw (q, has) (h q)
+    go false f true q h = absurd (false≢true (sym f ∙ subst (λ z. a z ≡ true) (eqb-true v k q) e))
+    go false f false q h = h q
+
+both-true : (p q : Bool) → (p ≡ true → q ≡ true) → (q ≡ true → p ≡ true) → p ≡ q
+both-true true q f g = sym (f refl)
+both-true false true f g = g refl
+both-true false false f g = refl
+
+pub rising-has : (n : ℕ) (a : Set) → ((v : ℕ) → a v ≡ true → v < n) → (v : ℕ) → has (rising n a) v ≡ a v
+unfolding rising
+rising-has n a h v =
+    both-true (has (rising n a) v) (a v) (λ e. has-all (rising n a) v (rising-all-of n a (λ w l f. f)) e)
+    (λ e. rising-from-has 0 n a v (omega arith) (let l = h v e in omega arith) e)

@@ -1,15 +1,13 @@
 -- Laws of sets of numbers, of their least members and of their members written out. Callers of the code cite these and never a bit.
 -- Assumes nothing.
-use mathlib.Core.Path.{_≡_, refl, sym, ap, _∙_, subst}
-use mathlib.Core.Bool.{Bool, true, false, _&&_, _||_, not, true≢false, false≢true}
+use mathlib.Core.Path.{_≡_, refl, sym, ap, _∙_}
+use mathlib.Core.Bool.{Bool, true, false, _||_, true≢false, false≢true}
 use mathlib.Core.List.{List, [], _∷_, _++_}
 use Prim.Native.Nat.{ℕ, zero, suc, _+_, _-_, _≤_, _<_}
 use native.Mathlib.Omega.{arith}
 use native.Mathlib.Decide.{decLt}
-use native.Mathlib.Nat.{not-suc-le-zero, add-suc, add-zero}
-use lib.Dec.{eqb}
 use lib.ListN.{length}
-use Rattle.rules.specs.Find.{Set, empty, has, union, minus, risingFrom, rising, leastFrom, least}
+use Rattle.rules.specs.Find.{Set, empty, union, risingFrom, rising, leastFrom, least}
 
 -- Unions ---------------------------------------------------------------------------------------------------------------------
 

@@ -1,6 +1,6 @@
 -- What a form of the proof counts, by its tag and its items alone. Assumes nothing.
 use Prim.Native.Nat.{ℕ, _+_}
-use mathlib.Core.Path.{_≡_, refl, ap, ap₂, subst, sym}
+use mathlib.Core.Path.{_≡_, refl, ap₂, subst, sym}
 use mathlib.Core.Option.{Option, some, none as nothing}
 use native.Mathlib.Omega.{arith}
 use Rattle.rules.specs.Out.{ok}
@@ -62,15 +62,21 @@ countedAs (some t) xs = counted t xs
 unfoldable pub countedForm : Sexp → Counts
 countedForm x = countedAs (tagOf x) (itemsOf x)
 
--- those of a form whose tag was found
-pub counted-form : {S : Type 0} (x : Sexp) (xs : Sexps) (s : S) (n : Name) (t : Tag) → x ≡ list xs → name {S = S} 30 (item xs 0) s ≡ ok n s →
-    proofTag (n .bytes) (count xs) ≡ some t → countedForm x ≡ counted t xs
-unfolding countedForm countedAs tagOf itemsOf headTag name
-counted-form {S} x xs s n t e f g = rw e (ap (λ o. countedAs o xs) (go (item xs 0) f))
+-- tag and items of a form whose tag was found
+pub tag-is : {S : Type 0} (x : Sexp) (xs : Sexps) (s : S) (n : Name) (t : Tag) → x ≡ list xs → name {S = S} 30 (item xs 0) s ≡ ok n s →
+    proofTag (n .bytes) (count xs) ≡ some t → (tagOf x ≡ some t) × (itemsOf x ≡ xs)
+unfolding tagOf itemsOf headTag name
+tag-is {S} x xs s n t e f g = rw e (go (item xs 0) f, refl)
   where
     go : (y : Sexp) → name {S = S} 30 y s ≡ ok n s → headTag y (count xs) ≡ some t
     go (atom p bs) h = let q : n ≡ record { start = p; bytes = bs } = cc in subst (λ a. proofTag (a .bytes) (count xs) ≡ some t) q g
     go (list ys) h = absurd (let z : _≡_ {A = ℕ} 0 1 = cc in omega arith)
+
+-- its counts
+pub counted-form : {S : Type 0} (x : Sexp) (xs : Sexps) (s : S) (n : Name) (t : Tag) → x ≡ list xs → name {S = S} 30 (item xs 0) s ≡ ok n s →
+    proofTag (n .bytes) (count xs) ≡ some t → countedForm x ≡ counted t xs
+unfolding countedForm countedAs
+counted-form x xs s n t e f g = let h = tag-is x xs s n t e f g in rw (h .0, h .1) refl
 
 -- A step's instances are its bracketed references ---------------------------------------------------------------------------------
 

@@ -1,10 +1,10 @@
 -- Laws of trees: equality that is computed is equality; a tree without variables is left by every replacement. Assumes nothing.
 use mathlib.Core.Path.{_≡_, refl, sym, ap, _∙_, subst}
 use mathlib.Core.Bool.{Bool, true, false, _||_, true≢false, false≢true}
-use Prim.Native.Nat.{ℕ, zero, suc, _+_}
+use Prim.Native.Nat.{ℕ}
 use lib.Dec.{eqb}
-use borrow.Author.Tests.{eq-eqb, ne-eqb, eqb-true}
-use Rattle.rules.specs.Find.{Set, empty, union}
+use borrow.Author.Tests.{eq-eqb, eqb-true}
+use Rattle.rules.specs.Find.{empty, union}
 use Rattle.rules.specs.Tree.{Tree, Trees, var, app, none, more, sameTree, sameTrees, sub, subs, variables, variablesOf, isOpen, areOpen}
 
 both : (a b : Bool) → elim a [ true ↦ b | false ↦ false ] ≡ true → (a ≡ true) × (b ≡ true)
