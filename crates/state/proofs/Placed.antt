@@ -1,35 +1,20 @@
 -- A fact that is put behind the others, or has no room. Assumes nothing.
 use mathlib.Core.Path.{_≡_, refl, sym, ap, _∙_}
-use Prim.Native.Nat.{ℕ, zero, suc, _+_, _-_, _*_, _<_, _≤_}
-use mathlib.Core.Bool.{Bool, true, false}
+use Prim.Native.Nat.{ℕ, _+_, _-_, _*_, _<_, _≤_}
+use mathlib.Core.Bool.{true, false}
 use mathlib.Core.List.{List, [], _∷_, _++_}
 use native.Mathlib.Omega.{arith}
 use lib.ListN.{length, take, drop, set}
 use lib.Seq.{sets}
 use borrow.Author.Tests.{lt-ltb, le-ltb}
 use Rattle.rules.specs.Limits.{FACTS, ENTRIES}
-use Rattle.rules.specs.Find.{Set, rising, risingFrom}
+use Rattle.rules.specs.Find.{rising}
 use Rattle.terms.specs.Sets.{holds}
 use Rattle.state.specs.declared.sizes.Sizes.{Sizes}
 use Rattle.state.specs.declared.facts.Put.the-variants.{Stored, Full}
 use Rattle.state.specs.Held.{Records, records}
 use Rattle.state.specs.Rows.{Putting, PutAs}
 use Rattle.state.proofs.Stores.{tail-sets}
-
-rising-from-few : (k n : ℕ) (a : Set) → length (risingFrom k n a) ≤ n
-unfolding risingFrom
-rising-from-few k zero a = omega arith
-rising-from-few k (suc n) a = go (a k) (rising-from-few (suc k) n a)
-  where
-    go : (b : Bool) → length (risingFrom (suc k) n a) ≤ n →
-        length {A = ℕ} (elim b [ true ↦ k ∷ risingFrom (suc k) n a | false ↦ risingFrom (suc k) n a ]) ≤ suc n
-    go true h = omega arith
-    go false h = omega arith
-
--- a set has no more members than there are numbers
-pub rising-few : (n : ℕ) (a : Set) → length (rising n a) ≤ n
-unfolding rising
-rising-few n a = rising-from-few 0 n a
 
 module _ (R : Records) (n : Sizes) (row hyps footing : List ℕ) (k : ℕ) where
   pub full-12 : FACTS ≤ n .facts → PutAs R R n row hyps footing k (Full 12)

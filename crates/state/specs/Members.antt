@@ -6,6 +6,7 @@ use mathlib.Core.List.{List, [], _∷_, _++_, append-nil}
 use native.Mathlib.Omega.{arith}
 use native.Mathlib.Decide.{decLt, ℕ-discrete}
 use lib.Dec.{eqb}
+use lib.ListN.{length}
 use borrow.Author.Tests.{eq-eqb, ne-eqb}
 use Rattle.rules.specs.Find.{Set, has, rising, risingFrom}
 use Rattle.rules.specs.Laws.Theory.{All, both, all-map}
@@ -70,6 +71,21 @@ from-has k (suc n) a v l u =
 pub has-rising : (n : ℕ) (a : Set) → Under n a → has (rising n a) ≡ a
 unfolding rising
 has-rising n a u = λ i v. from-has 0 n a v (omega arith) (λ w p. let z = u w p in omega arith) i
+
+rising-from-few : (k n : ℕ) (a : Set) → length (risingFrom k n a) ≤ n
+unfolding risingFrom
+rising-from-few k zero a = omega arith
+rising-from-few k (suc n) a = go (a k) (rising-from-few (suc k) n a)
+  where
+    go : (b : Bool) → length (risingFrom (suc k) n a) ≤ n →
+        length {A = ℕ} (elim b [ true ↦ k ∷ risingFrom (suc k) n a | false ↦ risingFrom (suc k) n a ]) ≤ suc n
+    go true h = omega arith
+    go false h = omega arith
+
+-- a set has no more members than there are numbers
+pub rising-few : (n : ℕ) (a : Set) → length (rising n a) ≤ n
+unfolding rising
+rising-few n a = rising-from-few 0 n a
 
 pub rising-empty : (n : ℕ) (a : Set) → ((v : ℕ) → a v ≡ false) → rising n a ≡ []
 unfolding rising

@@ -113,7 +113,7 @@ pub record ItemsIn (K : Invariant) (m : Made) (it : Items) : Type 0 where
   pub stated : (t : Tree) → it .stated ≡ some t → K .Has m t
 
 module _ {K : Invariant} where
-  no-items-in : {m : Made} → ItemsIn K m noItems
+  pub no-items-in : {m : Made} → ItemsIn K m noItems
   no-items-in = record {
     bound = λ v t e. absurd (let z : _≡_ {A = ℕ} 0 1 = cc in omega arith);
     stated = λ t e. absurd (let z : _≡_ {A = ℕ} 0 1 = cc in omega arith);
@@ -122,7 +122,7 @@ module _ {K : Invariant} where
   items-on : {m u : Made} {it : Items} → Grows K m u → ItemsIn K m it → ItemsIn K u it
   items-on g h = record { bound = λ v t e. has-on g (h .bound v t e); stated = λ t e. has-on g (h .stated t e) }
 
-  references-keeps : (S : State) (xs : Sexps) (m : Made) → Ready K S m → Keeps K m (λ rs u. Each (K .Has u) (rs .judgments)) (references S xs m)
+  pub references-keeps : (S : State) (xs : Sexps) (m : Made) → Ready K S m → Keeps K m (λ rs u. Each (K .Has u) (rs .judgments)) (references S xs m)
   unfolding references Each
   references-keeps S nil m h = fine (stays (h .good)) tt
   references-keeps S (cons x xs) m h =
@@ -157,20 +157,20 @@ module _ {K : Invariant} where
       (bind-item-keeps S R (n .bytes) (item ys 1) it m h a)
       (state-item-keeps S x it m h a)
 
-  read-items-keeps : (S : State) (R : Rule) (xs : Sexps) (it : Items) (m : Made) → Ready K S m → ItemsIn K m it →
+  pub read-items-keeps : (S : State) (R : Rule) (xs : Sexps) (it : Items) (m : Made) → Ready K S m → ItemsIn K m it →
       Keeps K m (λ u w. ItemsIn K w u) (readItems S R xs it m)
   unfolding readItems
   read-items-keeps S R nil it m h a = fine (stays (h .good)) a
   read-items-keeps S R (cons x xs) it m h a =
       by-then _ _ (read-item-keeps S R x it m h a) λ b u g p. read-items-keeps S R xs b u (ready-on h g) p
 
-  conclude-keeps : (p : Tree) (o : Option Tree) (b : Bound) (m : Made) → K .Good m → ((t : Tree) → o ≡ some t → K .Has m t) → Bounded (K .Has m) b →
+  pub conclude-keeps : (p : Tree) (o : Option Tree) (b : Bound) (m : Made) → K .Good m → ((t : Tree) → o ≡ some t → K .Has m t) → Bounded (K .Has m) b →
       Keeps K m (Known K) (conclude p o b m)
   unfolding conclude
   conclude-keeps p (some j) b m g h k = fine (stays g) (h j refl)
   conclude-keeps p nothing b m g h k = build-keeps p b m g k
 
-  match-bounded : (m : Made) (R : Rule) (js : Trees) (it : Items) (b c : Bound) → K .Good m → ItemsIn K m it → Each (K .Has m) js →
+  pub match-bounded : (m : Made) (R : Rule) (js : Trees) (it : Items) (b c : Bound) → K .Good m → ItemsIn K m it → Each (K .Has m) js →
       matchStated (R .conclusion) (it .stated) (it .bound) ≡ some b → matchAll (R .premises) js b ≡ some c → Bounded (K .Has m) c
   match-bounded m R js it b c g a h e f =
       bounded (K .Has m) (matchAll (R .premises) js b) c (match-all-bounded (K .Has m) args (R .premises) js b

@@ -1,6 +1,7 @@
 use Prim.Native.Nat.{_*_}
 use native.Mathlib.Omega.{arith}
-use Rattle.state.proofs.Placed.{rising-few, full-12, derived-13, derived-put}
+use Rattle.state.specs.Members.{rising-few}
+use Rattle.state.proofs.Placed.{full-12, derived-13, derived-put}
 use Rattle.state.specs.Held.{records}
 use Rattle.terms.specs.Sets.{holds}
 use mathlib.Core.List.{[]}
