@@ -1,0 +1,14 @@
+pub mod Pairs
+pub mod Binds
+pub mod Atoms
+pub mod Leaves
+pub mod Filling
+pub mod Hypotheses
+pub mod Variables
+pub mod Judgments
+pub mod TermTrees
+pub mod TermArguments
+pub mod TermHeads
+pub mod TermBehind
+pub mod TermItems
+pub mod TermSorted
