@@ -1,0 +1,16 @@
+pub mod Applying
+pub mod Derived
+pub mod ItemsOf
+pub mod Laws
+pub mod Recall
+pub mod Referral
+pub mod Stepping
+pub mod Halted
+pub mod Moved
+pub mod Declares
+pub mod Assumed
+pub mod Goals
+pub mod Results
+pub mod Entered
+pub mod Inducing
+pub mod Next
