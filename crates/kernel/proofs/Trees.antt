@@ -1,12 +1,12 @@
 -- A term from its parts: what the readers of terms, arguments and judgments answer. Assumes nothing.
 use mathlib.Core.Path.{_≡_, refl, sym, ap, _∙_, subst}
-use Prim.Native.Nat.{ℕ, suc, _+_, _-_, _<_, _≤_}
+use Prim.Native.Nat.{ℕ, suc, _+_, _-_, _*_, _<_, _≤_}
 use mathlib.Core.List.{List, [], _∷_, _++_}
 use native.Mathlib.Omega.{arith}
 use native.Mathlib.Numerals.{add-one}
 use lib.ListN.{length, getD, take, drop, length-append}
 use lib.Seq.{drop-cons, take-take, take-append-le, take-all, length-take-le}
-use Rattle.rules.specs.Limits.{LENGTH, PATTERNS}
+use Rattle.rules.specs.Limits.{LENGTH, PATTERNS, ARGUMENTS}
 use Rattle.rules.specs.Out.{Out, ok, then}
 use Rattle.rules.specs.Sexp.{Sexp, Sexps, cons, count}
 use Rattle.rules.specs.Tree.{Tree, Trees, app, none, more}
@@ -18,10 +18,11 @@ use Rattle.rules.specs.Laws.PatternSteps.{worded, patterns-none, patterns-more}
 use Rattle.sexp.specs.Items.{Holds}
 use Rattle.sexp.specs.declared.items.Item.{Item}
 use Rattle.kernel.specs.Held.{SymbolsHeld}
-use Rattle.kernel.specs.Reading.{ReadSoFar, Written, Stopped, PatternRead, Opened, OpenedRead, Placed, Arguing}
+use Rattle.kernel.specs.Reading.{ReadSoFar, Written, Stopped, PatternRead, Opened, OpenedRead, Patterning, Placed, Arguing}
+use Rattle.kernel.specs.SignatureRows.{input-place}
 use Rattle.kernel.specs.declared.patterns.Reply.{Reply}
 use Rattle.kernel.specs.declared.patterns.Reply.the-variants.{Ok, No}
-use Rattle.sexp.specs.FirstItem.{ItemFirst, none-left}
+use Rattle.sexp.specs.FirstItem.{ItemFirst, first-item, none-left}
 
 -- some theory with these symbols
 abbrev pub symbolic : List Symbol → Theory
@@ -79,6 +80,16 @@ list-stopped text cells table P Q used T R zs given r {a} {d} k b =
 pub list-opened : (text cells P Q : List ℕ) (used : ℕ) (T : Theory) (R : Reading) (zs : Sexps) (given : Out Reading Tree) (r : Reply) {c next : ℕ} →
     OpenedRead text cells P Q used T R zs given r → r ≡ Ok c next → Opened text cells P Q used T R zs given c next
 list-opened text cells P Q used T R zs given r k b = subst (λ z. OpenedRead text cells P Q used T R zs given z) b k
+
+-- the head that a reader of terms opened, for a theory with the symbols that it is given
+pub head-opened : (given : Theory → Reading → Sexps → Out Reading Tree) (P Q : List ℕ) (r : Reply) {text cells symbols inputs table inner : List ℕ} {known n room used c next : ℕ} {zs : Sexps}
+    (p : Patterning text cells symbols inputs known table n room used) → Holds text inner zs →
+    ((T : Theory) (R : Reading) (ins : List ℕ) (zs : Sexps) → SymbolsHeld text symbols ins known (T .symbols) → R .words ≡ used → Holds text inner zs →
+    OpenedRead text inner P Q used T R zs (given T R zs) r) → r ≡ Ok c next →
+    Opened text inner P Q used (symbolic (p .held .0)) (p .so-far) zs (given (symbolic (p .held .0)) (p .so-far) zs) c next
+head-opened given P Q r {text} {inner = inner} {used = used} {zs = zs} p k e b =
+    let T = symbolic (p .held .0) in
+    list-opened text inner P Q used T (p .so-far) zs (given T (p .so-far) zs) r (e T (p .so-far) _ zs (p .held .1) (p .reads .words) k) b
 
 -- one tree and others behind it
 module _ (text : List ℕ) {given : Out Reading Trees} (this : Out Reading Tree) (others : Reading → Out Reading Trees)
@@ -140,6 +151,11 @@ module _ {ss : List Symbol} {c k : ℕ} {zs : Sexps} (p : Placed ss c k zs) {x :
 
   pub placed-next : Placed ss c (k + 1) ys
   placed-next = record { known = p .known; many = omega (arith, p .many, count-more) }
+
+-- where the sort of the next argument stands
+pub next-place : {text cells symbols inputs table : List ℕ} {known n room used c k : ℕ} → Arguing text cells symbols inputs known table n room used c k → (length cells ≡ 0 → ⊥) →
+    ARGUMENTS * c + k < length inputs
+next-place {c = c} {k = k} a l = input-place (a .given .held .1) c k (a .placed .known) (placed-inside (a .placed) (first-item _ (a .given .holds) l refl .is))
 
 module _ {text cells : List ℕ} {zs : Sexps} {item : Item} {next k c sort : ℕ} (T : Theory) (R : Reading) (f : ItemFirst text cells zs item next) (p : Placed (T .symbols) c k zs)
     (s : sort ≡ getD (getD (T .symbols) c noSymbol .inputs) k 0) where

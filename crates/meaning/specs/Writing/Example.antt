@@ -15,7 +15,8 @@ use Rattle.rules.specs.Loop.{whole}
 use Rattle.rules.specs.Check.{accepts, check, checking}
 use Rattle.rules.specs.Examples.{theory}
 use Rattle.meaning.specs.Signature.{sig, Value, arity, ruleSort}
-use Rattle.meaning.specs.Written.{marks, mark, spelling, Writes, shallow, symbolName, ruleName, applied, termForm, judgmentForm, Step, conclusion, conclusions, Names, NamesAll, Nodes, theGoal, goalForms, atoms, stepForm, resultForm, proofForms, Written, treesOf, once, gather, few, roomy, fits, inside, stepsAlone}
+use Rattle.meaning.specs.Written.{marks, mark, spelling, Writes, shallow, symbolName, ruleName, applied, termForm, judgmentForm, Step, conclusion, conclusions, Names, NamesAll}
+use Rattle.meaning.specs.Written.{Nodes, theGoal, goalForms, atoms, stepForm, resultForm, proofForms, Written, treesOf, once, gather, few, roomy, fits, inside, stepsAlone}
 use Rattle.meaning.specs.Writing.Accepted.{inside-accepted}
 
 unfoldable pub exampleTheory : Theory

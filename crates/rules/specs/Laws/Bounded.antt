@@ -27,7 +27,8 @@ use Rattle.rules.specs.Apply.{apply}
 use Rattle.rules.specs.Induct.{induct, inductWith}
 use Rattle.rules.specs.Invert.{invert}
 use Rattle.rules.specs.Loop.{through, whole}
-use Rattle.rules.specs.Forms.{withMade, withVars, withDefs, withGoals, making, addDef, addGoal, goal, takeGoal, addFact, oneHypothesis, oneInduction, oneInversion, someInstances, addHyp, addRuleHyp, addStep, addApply, addInduct, addInductWith, addInvert, listed, takenGoal, result, perform, takeForm}
+use Rattle.rules.specs.Forms.{withMade, withVars, withDefs, withGoals, making, addDef, addGoal, goal, takeGoal, addFact, oneHypothesis, oneInduction, oneInversion}
+use Rattle.rules.specs.Forms.{someInstances, addHyp, addRuleHyp, addStep, addApply, addInduct, addInductWith, addInvert, listed, takenGoal, result, perform, takeForm}
 use Rattle.rules.specs.Check.{check}
 use Rattle.rules.specs.Laws.Out.{Ok, fine, off, by-name, by-items, by-ask, by-room, by-found}
 use Rattle.rules.specs.Laws.Theory.{empty, both, all-snoc, all-map, WellFormed}

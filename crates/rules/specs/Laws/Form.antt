@@ -24,7 +24,8 @@ use Rattle.rules.specs.Step.{step}
 use Rattle.rules.specs.Apply.{apply}
 use Rattle.rules.specs.Induct.{induct, inductWith}
 use Rattle.rules.specs.Invert.{invert}
-use Rattle.rules.specs.Forms.{withMade, withVars, withDefs, withGoals, withFacts, making, addVar, addDef, addGoal, goal, takeGoal, plus, addFact, hypothesis, oneHypothesis, oneInduction, oneInversion, someInstances, addHyp, addRuleHyp, addStep, addApply, addInduct, addInductWith, addInvert, listed, takenGoal, result, next, perform, takeForm}
+use Rattle.rules.specs.Forms.{withMade, withVars, withDefs, withGoals, withFacts, making, addVar, addDef, addGoal, goal, takeGoal, plus, addFact, hypothesis, oneHypothesis}
+use Rattle.rules.specs.Forms.{oneInduction, oneInversion, someInstances, addHyp, addRuleHyp, addStep, addApply, addInduct, addInductWith, addInvert, listed, takenGoal, result, next, perform, takeForm}
 use Rattle.rules.specs.Laws.Out.{Ok, fine, off, of-ok, by-name, by-items, by-ask, by-room, by-found}
 use Rattle.rules.specs.Laws.Keeping.{Each, Invariant, Grows, each-on, Still, answers, refuses}
 use Rattle.rules.specs.Laws.Keeping as keeping

@@ -61,7 +61,11 @@ read-same-length-4 : (t : ℕ) → read-lts.Need-same-length-4 (cs t) (read-at t
 read-same-length-4 t c = (c .before .before .before .before .put-leaf2) .kept .1 .0
 
 read-returns-2 : (t : ℕ) → read-lts.Need-returns-2 (cs t) (read-at t) read.Post
-read-returns-2 t c = sooner ((c .before .before .before .before .before .before .before .before .before .before .before .before .before .before .args) .index .now) ((c .before .before .before .before .before .before .before .before .before .before .before .before .before .before .args) .words .now) ((c .before .before .before .before .put-leaf2) .last .0) ((c .before .before .before .before .put-leaf2) .last .1 .0) ((c .before .before .before .before .before .before .before .before .before .before .before .before .before .before .args) .mark) ((c .before .before .before .before .before .before .before .before .before .before .before .before .before .before .args) .at) ((c .before .before .before .before .put-leaf2) .result) ((c .before .before .before .before .put-leaf2) .ensures)
+read-returns-2 t c =
+    let args = c .before .before .before .before .before .before .before .before .before .before .before .before .before .before .args in
+    let put-leaf2 = c .before .before .before .before .put-leaf2 in
+    sooner (args .index .now) (args .words .now) (put-leaf2 .last .0) (put-leaf2 .last .1 .0) (args .mark) (args .at) (put-leaf2 .result)
+    (put-leaf2 .ensures)
 
 read-add-read : (t : ℕ) → read-lts.Need-add-read (cs t) (read-at t) read.Post
 read-add-read t c = search needs
@@ -73,13 +77,26 @@ read-enum-known-a : (t : ℕ) → read-lts.Need-enum-known-a (cs t) (read-at t) 
 read-enum-known-a t c = search needs
 
 read-read-requires-2 : (t : ℕ) → read-lts.Need-read-requires-2 (cs t) (read-at t) read.Post
-read-read-requires-2 t c κs = (omega (arith, (c .before .before .before .before .before .before .before .before .before .before .before .before .before .before .before .if1) .left, (c .before .before .before .before .before .before .before .before .before .before .before .before .before .before .before .before .before .before .before .pre) .0, (as-term ((c .before .before .before .before .before .before .before .before .before .read) .ensures) ((c .before .before .before .a) .given .1)) .1), (as-term ((c .before .before .before .before .before .before .before .before .before .read) .ensures) ((c .before .before .before .a) .given .1)) .0 .grown .good)
+read-read-requires-2 t c κs =
+    let if1 = c .before .before .before .before .before .before .before .before .before .before .before .before .before .before .before .if1 in
+    let pre = c .before .before .before .before .before .before .before .before .before .before .before .before .before .before .before .before .before .before .before .pre in
+    let read = c .before .before .before .before .before .before .before .before .before .read in
+    let a = c .before .before .before .a in
+    (omega (arith, if1 .left, pre .0, (as-term (read .ensures) (a .given .1)) .1), (as-term (read .ensures) (a .given .1)) .0 .grown .good)
 
 read-enum-known-b : (t : ℕ) → read-lts.Need-enum-known-b (cs t) (read-at t) read.Post
 read-enum-known-b t c = search needs
 
 read-put-pair-requires : (t : ℕ) → read-lts.Need-put-pair-requires (cs t) (read-at t) read.Post
-read-put-pair-requires t c κs = ((as-term ((c .before .before .before .before .before .before .before .before .before .read2) .ensures) ((c .before .before .before .b) .given .1)) .0 .grown .good, (omega (arith, (as-term ((c .before .before .before .before .before .before .before .before .before .before .before .before .before .before .before .before .before .before .before .read) .ensures) ((c .before .before .before .before .before .before .before .before .before .before .before .before .before .a) .given .1)) .0 .there, (as-term ((c .before .before .before .before .before .before .before .before .before .read2) .ensures) ((c .before .before .before .b) .given .1)) .0 .grown .more), (as-term ((c .before .before .before .before .before .before .before .before .before .read2) .ensures) ((c .before .before .before .b) .given .1)) .0 .there))
+read-put-pair-requires t c κs =
+    let read2 = c .before .before .before .before .before .before .before .before .before .read2 in
+    let b = c .before .before .before .b in
+    let read = c .before .before .before .before .before .before .before .before .before .before .before .before .before .before .before .before .before .before .before .read in
+    let a = c .before .before .before .before .before .before .before .before .before .before .before .before .before .a in
+    let spelt = as-term (read2 .ensures) (b .given .1) in (
+      spelt .0 .grown .good,
+      (omega (arith, (as-term (read .ensures) (a .given .1)) .0 .there, spelt .0 .grown .more), spelt .0 .there),
+    )
 
 read-enum-known-k : (t : ℕ) → read-lts.Need-enum-known-k (cs t) (read-at t) read.Post
 read-enum-known-k t c = search needs
@@ -88,13 +105,28 @@ read-enum-known-m : (t : ℕ) → read-lts.Need-enum-known-m (cs t) (read-at t) 
 read-enum-known-m t c = search needs
 
 read-same-length-5 : (t : ℕ) → read-lts.Need-same-length-5 (cs t) (read-at t) read.Post
-read-same-length-5 t c = (c .before .before .before .before .put-pair) .kept .0 ∙ (c .before .before .before .before .before .before .before .before .before .before .before .before .before .before .read2) .kept .1 .1 .0 ∙ (c .before .before .before .before .before .before .before .before .before .before .before .before .before .before .before .before .before .before .before .before .before .before .before .before .read) .kept .1 .1 .0
+read-same-length-5 t c =
+    let put-pair = c .before .before .before .before .put-pair in
+    let read2 = c .before .before .before .before .before .before .before .before .before .before .before .before .before .before .read2 in
+    let read = c .before .before .before .before .before .before .before .before .before .before .before .before .before .before .before .before .before .before .before .before .before .before .before .before .read in
+    put-pair .kept .0 ∙ read2 .kept .1 .1 .0 ∙ read .kept .1 .1 .0
 
 read-same-length-6 : (t : ℕ) → read-lts.Need-same-length-6 (cs t) (read-at t) read.Post
-read-same-length-6 t c = (c .before .before .before .before .put-pair) .kept .1 .0 ∙ (c .before .before .before .before .before .before .before .before .before .before .before .before .before .before .read2) .kept .1 .1 .1 .0 ∙ (c .before .before .before .before .before .before .before .before .before .before .before .before .before .before .before .before .before .before .before .before .before .before .before .before .read) .kept .1 .1 .1 .0
+read-same-length-6 t c =
+    let put-pair = c .before .before .before .before .put-pair in
+    let read2 = c .before .before .before .before .before .before .before .before .before .before .before .before .before .before .read2 in
+    let read = c .before .before .before .before .before .before .before .before .before .before .before .before .before .before .before .before .before .before .before .before .before .before .before .before .read in
+    put-pair .kept .1 .0 ∙ read2 .kept .1 .1 .1 .0 ∙ read .kept .1 .1 .1 .0
 
 read-returns-3 : (t : ℕ) → read-lts.Need-returns-3 (cs t) (read-at t) read.Post
-read-returns-3 t c = both-read _ _ _ _ _ _ ((c .before .before .before .before .put-pair) .last .0) ((c .before .before .before .before .put-pair) .last .1 .0) _ _ _ _ _ _ _ _ ((c .before .before .before .before .put-pair) .result) (as-term ((c .before .before .before .before .before .before .before .before .before .before .before .before .before .before .before .before .before .before .before .before .before .before .before .before .read) .ensures) ((c .before .before .before .before .before .before .before .before .before .before .before .before .before .before .before .before .before .before .a) .given .1)) (as-term ((c .before .before .before .before .before .before .before .before .before .before .before .before .before .before .read2) .ensures) ((c .before .before .before .before .before .before .before .before .b) .given .1)) ((c .before .before .before .before .put-pair) .ensures)
+read-returns-3 t c =
+    let put-pair = c .before .before .before .before .put-pair in
+    let read = c .before .before .before .before .before .before .before .before .before .before .before .before .before .before .before .before .before .before .before .before .before .before .before .before .read in
+    let a = c .before .before .before .before .before .before .before .before .before .before .before .before .before .before .before .before .before .before .a in
+    let read2 = c .before .before .before .before .before .before .before .before .before .before .before .before .before .before .read2 in
+    let b = c .before .before .before .before .before .before .before .before .b in
+    both-read _ _ _ _ _ _ (put-pair .last .0) (put-pair .last .1 .0) _ _ _ _ _ _ _ _ (put-pair .result)
+    (as-term (read .ensures) (a .given .1)) (as-term (read2 .ensures) (b .given .1)) (put-pair .ensures)
 
 read-same-length-7 : (t : ℕ) → read-lts.Need-same-length-7 (cs t) (read-at t) read.Post
 read-same-length-7 t c = (c .before .before .before .before .before .before .before .read2) .kept .1 .1 .0 ∙ (c .before .before .before .before .before .before .before .before .before .before .before .before .before .before .before .before .before .read) .kept .1 .1 .0
@@ -103,7 +135,12 @@ read-same-length-8 : (t : ℕ) → read-lts.Need-same-length-8 (cs t) (read-at t
 read-same-length-8 t c = (c .before .before .before .before .before .before .before .read2) .kept .1 .1 .1 .0 ∙ (c .before .before .before .before .before .before .before .before .before .before .before .before .before .before .before .before .before .read) .kept .1 .1 .1 .0
 
 read-returns-4 : (t : ℕ) → read-lts.Need-returns-4 (cs t) (read-at t) read.Post
-read-returns-4 t c = record { says = grown-trans ((as-term ((c .before .before .before .before .before .before .before .before .before .before .before .before .before .before .before .before .before .read) .ensures) ((c .before .before .before .before .before .before .before .before .before .before .before .a) .given .1)) .0 .grown) (as-full ((c .before .before .before .before .before .before .before .read2) .ensures) ((c .before .k) .given .1)) }
+read-returns-4 t c =
+    let read = c .before .before .before .before .before .before .before .before .before .before .before .before .before .before .before .before .before .read in
+    let a = c .before .before .before .before .before .before .before .before .before .before .before .a in
+    let read2 = c .before .before .before .before .before .before .before .read2 in
+    let k = c .before .k in
+    record { says = grown-trans ((as-term (read .ensures) (a .given .1)) .0 .grown) (as-full (read2 .ensures) (k .given .1)) }
 
 read-same-length-9 : (t : ℕ) → read-lts.Need-same-length-9 (cs t) (read-at t) read.Post
 read-same-length-9 t c = (c .before .before .before .before .before .before .before .read) .kept .1 .1 .0

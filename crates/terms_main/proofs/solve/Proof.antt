@@ -17,7 +17,23 @@ enum-known-m : tie.Need-enum-known-m
 enum-known-m c = search needs
 
 show-found-requires : tie.Need-show-found-requires
-show-found-requires c κs = (((unified-found ((c .before .before .before .before .before .before .before .before .before .before .before .before .before .before .before .before .before .before .before .before .before .unify) .ensures .0) ((c .before .before .before .before .before .m) .given .1)) .grown .good, (unified-found ((c .before .before .before .before .before .before .before .before .before .before .before .before .before .before .before .before .before .before .before .before .before .unify) .ensures .0) ((c .before .before .before .before .before .m) .given .1)) .cells, omega (arith, (c .before .before .before .before .before .before .before .before .before .before .before .before .before .before .before .before .before .before .before .before .before .before .before .before .before .before .before .before .before .before .before .before .before .before .before .before .pre) .left, (unified-found ((c .before .before .before .before .before .before .before .before .before .before .before .before .before .before .before .before .before .before .before .before .before .unify) .ensures .0) ((c .before .before .before .before .before .m) .given .1)) .grown .more), omega (arith, (c .before .before .before .before .before .before .before .before .before .before .before .before .before .before .before .before .before .before .before .before .before .before .before .before .before .before .before .before .before .before .before .before .before .before .before .before .pre) .right, (unified-found ((c .before .before .before .before .before .before .before .before .before .before .before .before .before .before .before .before .before .before .before .before .before .unify) .ensures .0) ((c .before .before .before .before .before .m) .given .1)) .grown .more)), (omega (arith, (c .before .before .before .before .before .before .before .before .before .before .before .before .before .before .before .before .before .before .before .before .before .before .before .before .before .before .before .before .before .before .before .before .before .before .before .before .pre) .scratch .memos, ap length ((c .before .before .before .before .before .before .before .before .before .before .before .before .before .before .before .before .before .before .before .before .before .unify) .ensures .1 .1)), subst Zeros (sym ((c .before .before .before .before .before .before .before .before .before .before .before .before .before .before .before .before .before .before .before .before .before .unify) .ensures .1 .1)) ((c .before .before .before .before .before .before .before .before .before .before .before .before .before .before .before .before .before .before .before .before .before .before .before .before .before .before .before .before .before .before .before .before .before .before .before .before .pre) .scratch .no-memos)))
+show-found-requires c κs =
+    let unify = c .before .before .before .before .before .before .before .before .before .before .before .before .before .before .before .before .before .before .before .before .before .unify in
+    let m = c .before .before .before .before .before .m in
+    let mid = c .before .before .before .before .before .before .before .before .before .before .before .before .before .before .before .before .before .before .before .before .before .before .before .before .before in
+    let pre = mid .before .before .before .before .before .before .before .before .before .before .before .pre in
+    let found = unified-found (unify .ensures .0) (m .given .1) in (
+      (
+        found .grown .good,
+        found .cells,
+        omega (arith, pre .left, found .grown .more),
+        omega (arith, pre .right, found .grown .more),
+      ),
+      (
+        omega (arith, pre .scratch .memos, ap length (unify .ensures .1 .1)),
+        subst Zeros (sym (unify .ensures .1 .1)) (pre .scratch .no-memos),
+      ),
+    )
 
 clear-requires : tie.Need-clear-requires
 clear-requires c κs = search needs
@@ -41,28 +57,66 @@ write-all-requires-2 : tie.Need-write-all-requires-2
 write-all-requires-2 c κs = search needs
 
 same-length : tie.Need-same-length
-same-length c = (c .before .before .before .before .before .before .before .before .before .before .show-found) .kept .0 ∙ (c .before .before .before .before .before .before .before .before .before .before .before .before .before .before .before .before .before .before .before .before .before .before .before .before .before .before .before .before .before .before .before .before .unify) .kept .0
+same-length c =
+    let show-found = c .before .before .before .before .before .before .before .before .before .before .show-found in
+    let mid = c .before .before .before .before .before .before .before .before .before .before .before .before .before .before .before .before .before .before .before .before .before .before .before .before .before in
+    let unify = mid .before .before .before .before .before .before .before .unify in
+    show-found .kept .0 ∙ unify .kept .0
 
 same-length-2 : tie.Need-same-length-2
-same-length-2 c = (c .before .before .before .before .before .before .before .before .before .before .show-found) .kept .1 .0 ∙ (c .before .before .before .before .before .before .before .before .before .before .before .before .before .before .before .before .before .before .before .before .before .before .before .before .before .before .before .before .before .before .before .before .unify) .kept .1 .0
+same-length-2 c =
+    let show-found = c .before .before .before .before .before .before .before .before .before .before .show-found in
+    let mid = c .before .before .before .before .before .before .before .before .before .before .before .before .before .before .before .before .before .before .before .before .before .before .before .before .before in
+    let unify = mid .before .before .before .before .before .before .before .unify in
+    show-found .kept .1 .0 ∙ unify .kept .1 .0
 
 same-length-3 : tie.Need-same-length-3
-same-length-3 c = (c .before .before .clear) .kept .0 ∙ (c .before .before .before .before .before .before .before .before .before .before .before .before .before .before .before .before .before .before .before .before .before .before .before .before .before .before .before .before .before .before .before .before .unify) .kept .1 .1 .1 .1 .1 .1 .0
+same-length-3 c =
+    let clear = c .before .before .clear in
+    let mid = c .before .before .before .before .before .before .before .before .before .before .before .before .before .before .before .before .before .before .before .before .before .before .before .before .before in
+    let unify = mid .before .before .before .before .before .before .before .unify in
+    clear .kept .0 ∙ unify .kept .1 .1 .1 .1 .1 .1 .0
 
 same-length-4 : tie.Need-same-length-4
-same-length-4 c = (c .before .before .before .before .before .before .before .before .before .before .before .before .before .before .before .before .before .before .before .before .before .before .before .before .before .before .before .before .before .before .before .before .unify) .kept .1 .1 .1 .1 .1 .1 .1 .0
+same-length-4 c =
+    let mid = c .before .before .before .before .before .before .before .before .before .before .before .before .before .before .before .before .before .before .before .before .before .before .before .before .before in
+    let unify = mid .before .before .before .before .before .before .before .unify in
+    unify .kept .1 .1 .1 .1 .1 .1 .1 .0
 
 same-length-5 : tie.Need-same-length-5
-same-length-5 c = (c .before .before .before .before .before .before .before .before .before .before .show-found) .kept .1 .1 .1 .1 .0 ∙ (c .before .before .before .before .before .before .before .before .before .before .before .before .before .before .before .before .before .before .before .before .before .before .before .before .before .before .before .before .before .before .before .before .unify) .kept .1 .1 .1 .1 .1 .1 .1 .1 .0
+same-length-5 c =
+    let show-found = c .before .before .before .before .before .before .before .before .before .before .show-found in
+    let mid = c .before .before .before .before .before .before .before .before .before .before .before .before .before .before .before .before .before .before .before .before .before .before .before .before .before in
+    let unify = mid .before .before .before .before .before .before .before .unify in
+    show-found .kept .1 .1 .1 .1 .0 ∙ unify .kept .1 .1 .1 .1 .1 .1 .1 .1 .0
 
 same-length-6 : tie.Need-same-length-6
-same-length-6 c = (c .before .before .before .before .before .before .before .before .before .before .before .before .before .before .before .before .before .before .before .before .before .before .before .before .before .before .before .before .before .before .before .before .unify) .kept .1 .1 .1 .1 .1 .1 .1 .1 .1 .0
+same-length-6 c =
+    let mid = c .before .before .before .before .before .before .before .before .before .before .before .before .before .before .before .before .before .before .before .before .before .before .before .before .before in
+    let unify = mid .before .before .before .before .before .before .before .unify in
+    unify .kept .1 .1 .1 .1 .1 .1 .1 .1 .1 .0
 
 same-length-7 : tie.Need-same-length-7
-same-length-7 c = (c .before .before .before .before .before .before .before .before .before .before .before .before .before .before .before .before .before .before .before .before .before .before .before .before .before .before .before .before .before .before .before .before .unify) .kept .1 .1 .1 .1 .1 .1 .1 .1 .1 .1 .0
+same-length-7 c =
+    let mid = c .before .before .before .before .before .before .before .before .before .before .before .before .before .before .before .before .before .before .before .before .before .before .before .before .before in
+    let unify = mid .before .before .before .before .before .before .before .unify in
+    unify .kept .1 .1 .1 .1 .1 .1 .1 .1 .1 .1 .0
 
 returns : tie.Need-returns
-returns c = record { good = (c .before .before .before .before .before .before .before .before .before .before .show-found) .ensures .0; scratch = scratch-again _ _ _ _ _ _ _ _ _ _ ((c .before .before .before .before .before .before .before .before .before .before .before .before .before .before .before .before .before .before .before .before .before .before .before .before .before .before .before .before .before .before .before .before .before .before .before .before .before .before .before .before .before .before .before .before .before .before .before .pre) .scratch) (wiped ((c .before .before .before .before .before .before .before .before .before .before .before .before .before .before .before .before .before .before .before .before .before .before .before .before .before .before .before .before .before .before .before .before .unify) .last .1 .1 .1 .1 .1 .1 .0) ((c .before .before .clear) .last .0) VARIABLES ((c .before .before .clear) .ensures) ((unified-found ((c .before .before .before .before .before .before .before .before .before .before .before .before .before .before .before .before .before .before .before .before .before .before .before .before .before .before .before .before .before .before .before .before .unify) .ensures .0) ((c .before .before .before .before .before .before .before .before .before .before .before .before .before .before .before .before .m) .given .1)) .cells .long)) ((c .before .before .before .before .before .before .before .before .before .before .before .before .before .before .before .before .before .before .before .before .before .before .before .before .before .before .before .before .before .before .before .before .unify) .ensures .1 .0) ((c .before .before .before .before .before .before .before .before .before .before .show-found) .ensures .1 ∙ (c .before .before .before .before .before .before .before .before .before .before .before .before .before .before .before .before .before .before .before .before .before .before .before .before .before .before .before .before .before .before .before .before .unify) .ensures .1 .1) ((c .before .before .before .before .before .before .before .before .before .before .before .before .before .before .before .before .before .before .before .before .before .before .before .before .before .before .before .before .before .before .before .before .unify) .ensures .1 .2) ((c .before .before .before .before .before .before .before .before .before .before .before .before .before .before .before .before .before .before .before .before .before .before .before .before .before .before .before .before .before .before .before .before .unify) .ensures .1 .3) }
+returns c =
+    let show-found = c .before .before .before .before .before .before .before .before .before .before .show-found in
+    let mid = c .before .before .before .before .before .before .before .before .before .before .before .before .before .before .before .before .before .before .before .before .before .before .before .before .before in
+    let pre = mid .before .before .before .before .before .before .before .before .before .before .before .before .before .before .before .before .before .before .before .before .before .before .pre in
+    let unify = mid .before .before .before .before .before .before .before .unify in
+    let clear = c .before .before .clear in
+    let m = c .before .before .before .before .before .before .before .before .before .before .before .before .before .before .before .before .m in
+    record {
+      good = show-found .ensures .0;
+      scratch = scratch-again _ _ _ _ _ _ _ _ _ _ (pre .scratch)
+          (wiped (unify .last .1 .1 .1 .1 .1 .1 .0) (clear .last .0) VARIABLES (clear .ensures)
+          ((unified-found (unify .ensures .0) (m .given .1)) .cells .long)) (unify .ensures .1 .0)
+          (show-found .ensures .1 ∙ unify .ensures .1 .1) (unify .ensures .1 .2) (unify .ensures .1 .3);
+    }
 
 same-length-8 : tie.Need-same-length-8
 same-length-8 c = (c .before .before .before .before .before .before .before .before .before .before .before .before .before .before .before .before .before .before .before .unify) .kept .0
@@ -86,7 +140,18 @@ same-length-14 : tie.Need-same-length-14
 same-length-14 c = (c .before .before .before .before .before .before .before .before .before .before .before .before .before .before .before .before .before .before .before .unify) .kept .1 .1 .1 .1 .1 .1 .1 .1 .1 .1 .0
 
 returns-2 : tie.Need-returns-2
-returns-2 c = record { good = (unified-apart ((c .before .before .before .before .before .before .before .before .before .before .before .before .before .before .before .before .before .before .before .unify) .ensures .0) ((c .before .before .before .m2) .given .1)) .0 .grown .good; scratch = scratch-again _ _ _ _ _ _ _ _ _ _ ((c .before .before .before .before .before .before .before .before .before .before .before .before .before .before .before .before .before .before .before .before .before .before .before .before .before .before .before .before .before .before .before .before .before .before .pre) .scratch) (((unified-apart ((c .before .before .before .before .before .before .before .before .before .before .before .before .before .before .before .before .before .before .before .unify) .ensures .0) ((c .before .before .before .m2) .given .1)) .1, (unified-apart ((c .before .before .before .before .before .before .before .before .before .before .before .before .before .before .before .before .before .before .before .unify) .ensures .0) ((c .before .before .before .m2) .given .1)) .2)) ((c .before .before .before .before .before .before .before .before .before .before .before .before .before .before .before .before .before .before .before .unify) .ensures .1 .0) ((c .before .before .before .before .before .before .before .before .before .before .before .before .before .before .before .before .before .before .before .unify) .ensures .1 .1) ((c .before .before .before .before .before .before .before .before .before .before .before .before .before .before .before .before .before .before .before .unify) .ensures .1 .2) ((c .before .before .before .before .before .before .before .before .before .before .before .before .before .before .before .before .before .before .before .unify) .ensures .1 .3) }
+returns-2 c =
+    let unify = c .before .before .before .before .before .before .before .before .before .before .before .before .before .before .before .before .before .before .before .unify in
+    let m2 = c .before .before .before .m2 in
+    let mid = c .before .before .before .before .before .before .before .before .before .before .before .before .before .before .before .before .before .before .before .before .before .before .before .before .before in
+    let pre = mid .before .before .before .before .before .before .before .before .before .pre in
+    let apart = unified-apart (unify .ensures .0) (m2 .given .1) in
+    record {
+      good = apart .0 .grown .good;
+      scratch =
+          scratch-again _ _ _ _ _ _ _ _ _ _ (pre .scratch) ((apart .1, apart .2)) (unify .ensures .1 .0)
+          (unify .ensures .1 .1) (unify .ensures .1 .2) (unify .ensures .1 .3);
+    }
 
 same-length-15 : tie.Need-same-length-15
 same-length-15 c = (c .before .before .before .before .before .before .before .before .before .before .before .before .before .before .before .before .before .before .before .unify) .kept .0
@@ -110,7 +175,18 @@ same-length-21 : tie.Need-same-length-21
 same-length-21 c = (c .before .before .before .before .before .before .before .before .before .before .before .before .before .before .before .before .before .before .before .unify) .kept .1 .1 .1 .1 .1 .1 .1 .1 .1 .1 .0
 
 returns-3 : tie.Need-returns-3
-returns-3 c = record { good = (unified-full ((c .before .before .before .before .before .before .before .before .before .before .before .before .before .before .before .before .before .before .before .unify) .ensures .0) ((c .before .before .before .m3) .given .1)) .0 .grown .good; scratch = scratch-again _ _ _ _ _ _ _ _ _ _ ((c .before .before .before .before .before .before .before .before .before .before .before .before .before .before .before .before .before .before .before .before .before .before .before .before .before .before .before .before .before .before .before .before .before .before .pre) .scratch) (((unified-full ((c .before .before .before .before .before .before .before .before .before .before .before .before .before .before .before .before .before .before .before .unify) .ensures .0) ((c .before .before .before .m3) .given .1)) .1, (unified-full ((c .before .before .before .before .before .before .before .before .before .before .before .before .before .before .before .before .before .before .before .unify) .ensures .0) ((c .before .before .before .m3) .given .1)) .2)) ((c .before .before .before .before .before .before .before .before .before .before .before .before .before .before .before .before .before .before .before .unify) .ensures .1 .0) ((c .before .before .before .before .before .before .before .before .before .before .before .before .before .before .before .before .before .before .before .unify) .ensures .1 .1) ((c .before .before .before .before .before .before .before .before .before .before .before .before .before .before .before .before .before .before .before .unify) .ensures .1 .2) ((c .before .before .before .before .before .before .before .before .before .before .before .before .before .before .before .before .before .before .before .unify) .ensures .1 .3) }
+returns-3 c =
+    let unify = c .before .before .before .before .before .before .before .before .before .before .before .before .before .before .before .before .before .before .before .unify in
+    let m3 = c .before .before .before .m3 in
+    let mid = c .before .before .before .before .before .before .before .before .before .before .before .before .before .before .before .before .before .before .before .before .before .before .before .before .before in
+    let pre = mid .before .before .before .before .before .before .before .before .before .pre in
+    let full = unified-full (unify .ensures .0) (m3 .given .1) in
+    record {
+      good = full .0 .grown .good;
+      scratch =
+          scratch-again _ _ _ _ _ _ _ _ _ _ (pre .scratch) ((full .1, full .2)) (unify .ensures .1 .0)
+          (unify .ensures .1 .1) (unify .ensures .1 .2) (unify .ensures .1 .3);
+    }
 
 pub solve-spec : {M : Type 1} → statement M
 solve-spec =

@@ -12,16 +12,31 @@ enum-known-s : tie.Need-enum-known-s
 enum-known-s c = search needs
 
 solve-with-requires : tie.Need-solve-with-requires
-solve-with-requires c κs = (record { good = (as-term ((c .before .before .before .before .before .before .before .before .before .before .before .before .before .before .read) .ensures) ((c .before .before .before .before .before .before .before .before .s) .given .1)) .0 .grown .good; scratch = (c .before .before .before .before .before .before .before .before .before .before .before .before .before .before .before .before .before .before .before .before .before .before .before .before .before .before .pre) .scratch }, (as-term ((c .before .before .before .before .before .before .before .before .before .before .before .before .before .before .read) .ensures) ((c .before .before .before .before .before .before .before .before .s) .given .1)) .0 .there)
+solve-with-requires c κs =
+    let read = c .before .before .before .before .before .before .before .before .before .before .before .before .before .before .read in
+    let s = c .before .before .before .before .before .before .before .before .s in
+    let mid = c .before .before .before .before .before .before .before .before .before .before .before .before .before .before .before .before .before .before .before .before .before .before .before .before .before in
+    let pre = mid .before .pre in (
+      record { good = (as-term (read .ensures) (s .given .1)) .0 .grown .good; scratch = pre .scratch },
+      (as-term (read .ensures) (s .given .1)) .0 .there,
+    )
 
 enum-known-m : tie.Need-enum-known-m
 enum-known-m c = search needs
 
 same-length : tie.Need-same-length
-same-length c = (c .before .before .before .before .before .before .before .before .before .before .before .before .before .before .solve-with) .kept .1 .0 ∙ (c .before .before .before .before .before .before .before .before .before .before .before .before .before .before .before .before .before .before .before .before .before .before .before .before .before .before .before .before .before .read) .kept .1 .1 .0
+same-length c =
+    let solve-with = c .before .before .before .before .before .before .before .before .before .before .before .before .before .before .solve-with in
+    let mid = c .before .before .before .before .before .before .before .before .before .before .before .before .before .before .before .before .before .before .before .before .before .before .before .before .before in
+    let read = mid .before .before .before .before .read in
+    solve-with .kept .1 .0 ∙ read .kept .1 .1 .0
 
 same-length-2 : tie.Need-same-length-2
-same-length-2 c = (c .before .before .before .before .before .before .before .before .before .before .before .before .before .before .solve-with) .kept .1 .1 .0 ∙ (c .before .before .before .before .before .before .before .before .before .before .before .before .before .before .before .before .before .before .before .before .before .before .before .before .before .before .before .before .before .read) .kept .1 .1 .1 .0
+same-length-2 c =
+    let solve-with = c .before .before .before .before .before .before .before .before .before .before .before .before .before .before .solve-with in
+    let mid = c .before .before .before .before .before .before .before .before .before .before .before .before .before .before .before .before .before .before .before .before .before .before .before .before .before in
+    let read = mid .before .before .before .before .read in
+    solve-with .kept .1 .1 .0 ∙ read .kept .1 .1 .1 .0
 
 same-length-3 : tie.Need-same-length-3
 same-length-3 c = (c .before .before .before .before .before .before .before .before .before .before .before .before .before .before .solve-with) .kept .1 .1 .1 .1 .1 .0
@@ -48,7 +63,11 @@ same-length-9 : tie.Need-same-length-9
 same-length-9 c = (c .before .before .before .before .before .before .before .read) .kept .1 .1 .1 .0
 
 returns-2 : tie.Need-returns-2
-returns-2 c = record { good = as-full ((c .before .before .before .before .before .before .before .read) .ensures) ((c .before .m) .given .1) .good; scratch = (c .before .before .before .before .before .before .before .before .before .before .before .before .before .before .before .before .before .before .before .pre) .scratch }
+returns-2 c =
+    let read = c .before .before .before .before .before .before .before .read in
+    let m = c .before .m in
+    let pre = c .before .before .before .before .before .before .before .before .before .before .before .before .before .before .before .before .before .before .before .pre in
+    record { good = as-full (read .ensures) (m .given .1) .good; scratch = pre .scratch }
 
 pub solve-texts-spec : {M : Type 1} → statement M
 solve-texts-spec =

@@ -20,19 +20,36 @@ returns : tie.Need-returns
 returns c = λ T x h k. (form-atom k ((c .before .before .item-at) .ensures) ((c .enum-told) .given .1) T, h)
 
 mul-declare-items : tie.Need-mul-declare-items
-mul-declare-items c = omega (arith, (form-list ((c .before .before .before .before .before .before .before .before .before .before .before .before .pre) .formed) ((c .before .before .before .item-at) .ensures) ((c .before .a) .given .1)) .low, (form-list ((c .before .before .before .before .before .before .before .before .before .before .before .before .pre) .formed) ((c .before .before .before .item-at) .ensures) ((c .before .a) .given .1)) .high, (c .before .before .before .before .before .before .before .before .before .before .before .before .good) .1 .0)
+mul-declare-items c =
+    let entry = c .before .before .before .before .before .before .before .before .before .before .before .before in
+    let pre = entry .pre in
+    let item-at = c .before .before .before .item-at in
+    let a = c .before .a in
+    let good = entry .good in
+    let list = form-list (pre .formed) (item-at .ensures) (a .given .1) in
+    omega (arith, list .low, list .high, good .1 .0)
 
 sub-declare-items : tie.Need-sub-declare-items
 sub-declare-items c = (form-list ((c .before .before .before .before .before .before .before .before .before .before .before .before .pre) .formed) ((c .before .before .before .item-at) .ensures) ((c .before .a) .given .1)) .low
 
 part-declare-items-start : tie.Need-part-declare-items-start
-part-declare-items-start c = omega (arith, (form-list ((c .before .before .before .before .before .before .before .before .before .before .before .before .pre) .formed) ((c .before .before .before .item-at) .ensures) ((c .before .a) .given .1)) .low, (form-list ((c .before .before .before .before .before .before .before .before .before .before .before .before .pre) .formed) ((c .before .before .before .item-at) .ensures) ((c .before .a) .given .1)) .high)
+part-declare-items-start c =
+    let pre = c .before .before .before .before .before .before .before .before .before .before .before .before .pre in
+    let item-at = c .before .before .before .item-at in
+    let a = c .before .a in
+    let list = form-list (pre .formed) (item-at .ensures) (a .given .1) in
+    omega (arith, list .low, list .high)
 
 part-declare-items-end : tie.Need-part-declare-items-end
 part-declare-items-end c = (form-list ((c .before .before .before .before .before .before .before .before .before .before .before .before .pre) .formed) ((c .before .before .before .item-at) .ensures) ((c .before .a) .given .1)) .high
 
 declare-items-requires : tie.Need-declare-items-requires
-declare-items-requires c κs = record { xs = (form-list ((c .before .before .before .before .before .before .before .before .before .before .before .before .before .before .before .before .before .before .before .pre) .formed) ((c .before .before .before .before .before .before .before .before .before .before .item-at) .ensures) ((c .before .before .before .before .before .before .before .before .a) .given .1)) .items; holds = (form-list ((c .before .before .before .before .before .before .before .before .before .before .before .before .before .before .before .before .before .before .before .pre) .formed) ((c .before .before .before .before .before .before .before .before .before .before .item-at) .ensures) ((c .before .before .before .before .before .before .before .before .a) .given .1)) .holds; T = (c .before .before .before .before .before .before .before .before .before .before .before .before .before .before .before .before .before .before .before .pre) .T; held = (c .before .before .before .before .before .before .before .before .before .before .before .before .before .before .before .before .before .before .before .pre) .held; short = (c .before .before .before .before .before .before .before .before .before .before .before .before .before .before .before .before .before .before .before .pre) .short }
+declare-items-requires c κs =
+    let pre = c .before .before .before .before .before .before .before .before .before .before .before .before .before .before .before .before .before .before .before .pre in
+    let item-at = c .before .before .before .before .before .before .before .before .before .before .item-at in
+    let a = c .before .before .before .before .before .before .before .before .a in
+    let list = form-list (pre .formed) (item-at .ensures) (a .given .1) in
+    record { xs = list .items; holds = list .holds; T = pre .T; held = pre .held; short = pre .short }
 
 same-length : tie.Need-same-length
 same-length c = (c .before .before .before .before .before .before .before .before .before .before .before .before .declare-items) .kept .1 .1 .0
@@ -53,7 +70,21 @@ same-length-6 : tie.Need-same-length-6
 same-length-6 c = (c .before .before .before .before .before .before .before .before .before .before .before .before .declare-items) .kept .1 .1 .1 .1 .1 .1 .1 .0
 
 returns-2 : tie.Need-returns-2
-returns-2 c = λ T x h k. subst (λ z. DeclaredAs ((c .before .before .before .before .before .before .before .before .before .before .before .before .before .before .before .before .before .before .before .before .before .before .before .before .before .before .before .before .before .before .before .before .args) .text .now) (theoryLists ((c .before .before .before .before .before .before .before .before .before .before .before .before .declare-items) .last .1 .1 .0) ((c .before .before .before .before .before .before .before .before .before .before .before .before .declare-items) .last .1 .1 .1 .0) ((c .before .before .before .before .before .before .before .before .before .before .before .before .declare-items) .last .1 .1 .1 .1 .0) ((c .before .before .before .before .before .before .before .before .before .before .before .before .declare-items) .last .1 .1 .1 .1 .1 .0) ((c .before .before .before .before .before .before .before .before .before .before .before .before .declare-items) .last .1 .1 .1 .1 .1 .1 .0) ((c .before .before .before .before .before .before .before .before .before .before .before .before .declare-items) .last .1 .1 .1 .1 .1 .1 .1 .0)) ((c .before .before .before .before .before .before .before .before .before .before .before .before .before .before .before .before .before .before .before .before .before .before .before .before .before .before .before .before .before .before .before .before .args) .held) T z ((c .before .before .before .before .before .before .before .before .before .before .before .before .declare-items) .result)) (sym (form-declares k ((c .before .before .before .before .before .before .before .before .before .before .before .before .before .before .before .before .before .before .before .before .before .before .before .item-at) .ensures) ((c .before .before .before .before .before .before .before .before .before .before .before .before .before .before .before .before .before .before .before .before .before .a) .given .1) T)) ((c .before .before .before .before .before .before .before .before .before .before .before .before .declare-items) .ensures T ((form-list k ((c .before .before .before .before .before .before .before .before .before .before .before .before .before .before .before .before .before .before .before .before .before .before .before .item-at) .ensures) ((c .before .before .before .before .before .before .before .before .before .before .before .before .before .before .before .before .before .before .before .before .before .a) .given .1)) .items) h ((form-list k ((c .before .before .before .before .before .before .before .before .before .before .before .before .before .before .before .before .before .before .before .before .before .before .before .item-at) .ensures) ((c .before .before .before .before .before .before .before .before .before .before .before .before .before .before .before .before .before .before .before .before .before .a) .given .1)) .holds))
+returns-2 c =
+    let mid = c .before .before .before .before .before .before .before .before .before .before .before .before .before .before .before .before .before .before .before .before .before .before .before .before .before in
+    let args = mid .before .before .before .before .before .before .before .args in
+    let declare-items = c .before .before .before .before .before .before .before .before .before .before .before .before .declare-items in
+    let item-at = c .before .before .before .before .before .before .before .before .before .before .before .before .before .before .before .before .before .before .before .before .before .before .before .item-at in
+    let a = c .before .before .before .before .before .before .before .before .before .before .before .before .before .before .before .before .before .before .before .before .before .a in
+    λ T x h k.
+    let list = form-list k (item-at .ensures) (a .given .1) in
+    subst
+    (λ z.
+    DeclaredAs (args .text .now)
+    (theoryLists (declare-items .last .1 .1 .0) (declare-items .last .1 .1 .1 .0) (declare-items .last .1 .1 .1 .1 .0)
+    (declare-items .last .1 .1 .1 .1 .1 .0) (declare-items .last .1 .1 .1 .1 .1 .1 .0)
+    (declare-items .last .1 .1 .1 .1 .1 .1 .1 .0)) (args .held) T z (declare-items .result))
+    (sym (form-declares k (item-at .ensures) (a .given .1) T)) (declare-items .ensures T (list .items) h (list .holds))
 
 pub declare-spec : {M : Type 1} → statement M
 declare-spec =

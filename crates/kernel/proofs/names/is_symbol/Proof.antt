@@ -74,7 +74,11 @@ same-requires c κs = search needs
 
 -- src/names.rt:76:9
 returns : tie.Need-returns
-returns c = λ s a. (c .same) .ensures ∙ symbol-is ((c .before .before .before .before .before .before .before .before .before .before .args) .name .now) ((c .before .before .before .before .before .before .before .before .before .before .args) .predicate) a (sym ((c .before .before .before .before .before .is-kind) .ensures) ∙ (c .before .before .before .before .if1) .taken)
+returns c =
+    let args = c .before .before .before .before .before .before .before .before .before .before .args in
+    let is-kind = c .before .before .before .before .before .is-kind in
+    let if1 = c .before .before .before .before .if1 in
+    λ s a. (c .same) .ensures ∙ symbol-is (args .name .now) (args .predicate) a (sym (is-kind .ensures) ∙ if1 .taken)
 
 -- src/names.rt:67:1
 returns-2 : tie.Need-returns-2

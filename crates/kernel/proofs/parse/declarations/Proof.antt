@@ -21,7 +21,13 @@ none-requires : tie.Need-none-requires Inv-loop μ-loop
 none-requires c κs = search needs
 
 loop-holds : tie.Need-loop-holds Inv-loop μ-loop
-loop-holds c = underway-first ((c .before .before .before .before .before .before .before .before .before .args) .text .now) ((c .before .before .before .before .before .before .before .before .before .args) .cells .now) (theoryLists ((c .before .before .before .before .before .before .before .before .before .args) .sorts .now) ((c .before .before .before .before .before .before .before .before .before .args) .symbols .now) ((c .before .before .before .before .before .before .before .before .before .args) .inputs .now) ((c .before .before .before .before .before .before .before .before .before .args) .rules .now) ((c .before .before .before .before .before .before .before .before .before .args) .vars .now) ((c .before .before .before .before .before .before .before .before .before .args) .patterns .now)) ((c .before .before .before .before .before .before .before .before .before .pre) .1) ((c .none) .result) ((c .none) .ensures) ((c .before .before .before .before .before .before .before .before .before .pre) .0)
+loop-holds c =
+    let entry = c .before .before .before .before .before .before .before .before .before in
+    let args = entry .args in
+    let pre = entry .pre in
+    underway-first (args .text .now) (args .cells .now)
+    (theoryLists (args .sorts .now) (args .symbols .now) (args .inputs .now) (args .rules .now) (args .vars .now) (args .patterns .now))
+    (pre .1) ((c .none) .result) ((c .none) .ensures) (pre .0)
 
 read-form-requires : tie.Need-read-form-requires Inv-loop μ-loop
 read-form-requires c κs = going-asks ((c .before .loop) .inv .going)
@@ -87,13 +93,26 @@ slice-reshare-prefix-declare : tie.Need-slice-reshare-prefix-declare Inv-loop μ
 slice-reshare-prefix-declare c = going-room ((c .before .before .before .before .before .before .before .loop) .inv .going) ((c .before .before .before .before .before .read-form) .ensures) ((c .before .next) .given .1) ((c .before .before .before .before .before .read-form) .kept .1 .1 .0)
 
 slice-aggregate-declare : tie.Need-slice-aggregate-declare Inv-loop μ-loop
-slice-aggregate-declare c = going-cells ((c .before .before .before .before .before .before .before .before .loop) .inv .going) ((c .before .before .before .before .before .before .read-form) .ensures) ((c .before .before .next) .given .1) ((c .before .before .before .before .before .before .read-form) .kept .1 .1 .0)
+slice-aggregate-declare c =
+    let loop = c .before .before .before .before .before .before .before .before .loop in
+    let read-form = c .before .before .before .before .before .before .read-form in
+    let next = c .before .before .next in
+    going-cells (loop .inv .going) (read-form .ensures) (next .given .1) (read-form .kept .1 .1 .0)
 
 declare-requires : tie.Need-declare-requires Inv-loop μ-loop
-declare-requires c κs = declaring ((c .before .before .before .before .before .before .before .before .before .before .before .before .before .before .loop) .inv) ((c .before .before .before .before .before .before .before .before .before .before .before .before .read-form) .ensures) ((c .before .before .before .before .before .before .before .before .next) .given .1)
+declare-requires c κs =
+    let loop = c .before .before .before .before .before .before .before .before .before .before .before .before .before .before .loop in
+    let read-form = c .before .before .before .before .before .before .before .before .before .before .before .before .read-form in
+    let next = c .before .before .before .before .before .before .before .before .next in
+    declaring (loop .inv) (read-form .ensures) (next .given .1)
 
 clear-requires : tie.Need-clear-requires Inv-loop μ-loop
-clear-requires c κs = going-room ((c .before .before .before .before .before .before .before .before .before .before .before .before .before .before .before .before .before .before .before .before .before .before .before .before .before .before .before .before .loop) .inv .going) ((c .before .before .before .before .before .before .before .before .before .before .before .before .before .before .before .before .before .before .before .before .before .before .before .before .before .before .read-form) .ensures) ((c .before .before .before .before .before .before .before .before .before .before .before .before .before .before .before .before .before .before .before .before .before .before .next) .given .1) ((c .before .before .before .before .before .before .before .before .before .before .before .before .before .before .before .before .before .before .before .before .before .before .before .before .before .before .read-form) .kept .1 .1 .0)
+clear-requires c κs =
+    let mid = c .before .before .before .before .before .before .before .before .before .before .before .before .before .before .before .before .before .before .before .before .before .before .before .before .before in
+    let loop = mid .before .before .before .loop in
+    let read-form = mid .before .read-form in
+    let next = c .before .before .before .before .before .before .before .before .before .before .before .before .before .before .before .before .before .before .before .before .before .before .next in
+    going-room (loop .inv .going) (read-form .ensures) (next .given .1) (read-form .kept .1 .1 .0)
 
 enum-known-r : tie.Need-enum-known-r Inv-loop μ-loop
 enum-known-r c = search needs
@@ -102,37 +121,108 @@ enum-known-r-2 : tie.Need-enum-known-r-2 Inv-loop μ-loop
 enum-known-r-2 c = search needs
 
 same-length-15 : tie.Need-same-length-15 Inv-loop μ-loop
-same-length-15 c = (c .before .before .before .before .before .clear) .kept .0 ∙ (c .before .before .before .before .before .before .before .before .before .before .before .before .before .before .before .before .before .before .before .before .before .before .before .before .before .before .before .before .before .before .before .before .read-form) .kept .1 .1 .0 ∙ ap length ((c .before .before .before .before .before .before .before .before .before .before .before .before .before .before .before .before .before .before .before .before .before .before .before .before .before .before .before .before .before .before .before .before .before .before .loop) .inv .going .same)
+same-length-15 c =
+    let clear = c .before .before .before .before .before .clear in
+    let mid = c .before .before .before .before .before .before .before .before .before .before .before .before .before .before .before .before .before .before .before .before .before .before .before .before .before in
+    let read-form = mid .before .before .before .before .before .before .before .read-form in
+    let loop = mid .before .before .before .before .before .before .before .before .before .loop in
+    clear .kept .0 ∙ read-form .kept .1 .1 .0 ∙ ap length (loop .inv .going .same)
 
 same-length-16 : tie.Need-same-length-16 Inv-loop μ-loop
-same-length-16 c = (c .before .before .before .before .before .before .before .before .before .before .before .before .before .before .before .before .before .before .before .declare) .kept .1 .1 .0 ∙ (c .before .before .before .before .before .before .before .before .before .before .before .before .before .before .before .before .before .before .before .before .before .before .before .before .before .before .before .before .before .before .before .before .before .before .loop) .inv .theory .sorts .long ∙ sym ((c .before .before .before .before .before .before .before .before .before .before .before .before .before .before .before .before .before .before .before .before .before .before .before .before .before .before .before .before .before .before .before .before .before .before .before .before .before .before .before .before .before .before .before .before .pre) .1 .sorts)
+same-length-16 c =
+    let declare = c .before .before .before .before .before .before .before .before .before .before .before .before .before .before .before .before .before .before .before .declare in
+    let mid = c .before .before .before .before .before .before .before .before .before .before .before .before .before .before .before .before .before .before .before .before .before .before .before .before .before in
+    let loop = mid .before .before .before .before .before .before .before .before .before .loop in
+    let pre = mid .before .before .before .before .before .before .before .before .before .before .before .before .before .before .before .before .before .before .before .pre in
+    declare .kept .1 .1 .0 ∙ loop .inv .theory .sorts .long ∙ sym (pre .1 .sorts)
 
 same-length-17 : tie.Need-same-length-17 Inv-loop μ-loop
-same-length-17 c = (c .before .before .before .before .before .before .before .before .before .before .before .before .before .before .before .before .before .before .before .declare) .kept .1 .1 .1 .0 ∙ (c .before .before .before .before .before .before .before .before .before .before .before .before .before .before .before .before .before .before .before .before .before .before .before .before .before .before .before .before .before .before .before .before .before .before .loop) .inv .theory .symbols .long ∙ sym ((c .before .before .before .before .before .before .before .before .before .before .before .before .before .before .before .before .before .before .before .before .before .before .before .before .before .before .before .before .before .before .before .before .before .before .before .before .before .before .before .before .before .before .before .before .pre) .1 .symbols)
+same-length-17 c =
+    let declare = c .before .before .before .before .before .before .before .before .before .before .before .before .before .before .before .before .before .before .before .declare in
+    let mid = c .before .before .before .before .before .before .before .before .before .before .before .before .before .before .before .before .before .before .before .before .before .before .before .before .before in
+    let loop = mid .before .before .before .before .before .before .before .before .before .loop in
+    let pre = mid .before .before .before .before .before .before .before .before .before .before .before .before .before .before .before .before .before .before .before .pre in
+    declare .kept .1 .1 .1 .0 ∙ loop .inv .theory .symbols .long ∙ sym (pre .1 .symbols)
 
 same-length-18 : tie.Need-same-length-18 Inv-loop μ-loop
-same-length-18 c = (c .before .before .before .before .before .before .before .before .before .before .before .before .before .before .before .before .before .before .before .declare) .kept .1 .1 .1 .1 .0 ∙ (c .before .before .before .before .before .before .before .before .before .before .before .before .before .before .before .before .before .before .before .before .before .before .before .before .before .before .before .before .before .before .before .before .before .before .loop) .inv .theory .symbols .longs ∙ sym ((c .before .before .before .before .before .before .before .before .before .before .before .before .before .before .before .before .before .before .before .before .before .before .before .before .before .before .before .before .before .before .before .before .before .before .before .before .before .before .before .before .before .before .before .before .pre) .1 .inputs)
+same-length-18 c =
+    let declare = c .before .before .before .before .before .before .before .before .before .before .before .before .before .before .before .before .before .before .before .declare in
+    let mid = c .before .before .before .before .before .before .before .before .before .before .before .before .before .before .before .before .before .before .before .before .before .before .before .before .before in
+    let loop = mid .before .before .before .before .before .before .before .before .before .loop in
+    let pre = mid .before .before .before .before .before .before .before .before .before .before .before .before .before .before .before .before .before .before .before .pre in
+    declare .kept .1 .1 .1 .1 .0 ∙ loop .inv .theory .symbols .longs ∙ sym (pre .1 .inputs)
 
 same-length-19 : tie.Need-same-length-19 Inv-loop μ-loop
-same-length-19 c = (c .before .before .before .before .before .before .before .before .before .before .before .before .before .before .before .before .before .before .before .declare) .kept .1 .1 .1 .1 .1 .0 ∙ (c .before .before .before .before .before .before .before .before .before .before .before .before .before .before .before .before .before .before .before .before .before .before .before .before .before .before .before .before .before .before .before .before .before .before .loop) .inv .theory .rules .long ∙ sym ((c .before .before .before .before .before .before .before .before .before .before .before .before .before .before .before .before .before .before .before .before .before .before .before .before .before .before .before .before .before .before .before .before .before .before .before .before .before .before .before .before .before .before .before .before .pre) .1 .rules)
+same-length-19 c =
+    let declare = c .before .before .before .before .before .before .before .before .before .before .before .before .before .before .before .before .before .before .before .declare in
+    let mid = c .before .before .before .before .before .before .before .before .before .before .before .before .before .before .before .before .before .before .before .before .before .before .before .before .before in
+    let loop = mid .before .before .before .before .before .before .before .before .before .loop in
+    let pre = mid .before .before .before .before .before .before .before .before .before .before .before .before .before .before .before .before .before .before .before .pre in
+    declare .kept .1 .1 .1 .1 .1 .0 ∙ loop .inv .theory .rules .long ∙ sym (pre .1 .rules)
 
 same-length-20 : tie.Need-same-length-20 Inv-loop μ-loop
-same-length-20 c = (c .before .before .before .before .before .before .before .before .before .before .before .before .before .before .before .before .before .before .before .declare) .kept .1 .1 .1 .1 .1 .1 .0 ∙ (c .before .before .before .before .before .before .before .before .before .before .before .before .before .before .before .before .before .before .before .before .before .before .before .before .before .before .before .before .before .before .before .before .before .before .loop) .inv .theory .rules .longs ∙ sym ((c .before .before .before .before .before .before .before .before .before .before .before .before .before .before .before .before .before .before .before .before .before .before .before .before .before .before .before .before .before .before .before .before .before .before .before .before .before .before .before .before .before .before .before .before .pre) .1 .ruleVars)
+same-length-20 c =
+    let declare = c .before .before .before .before .before .before .before .before .before .before .before .before .before .before .before .before .before .before .before .declare in
+    let mid = c .before .before .before .before .before .before .before .before .before .before .before .before .before .before .before .before .before .before .before .before .before .before .before .before .before in
+    let loop = mid .before .before .before .before .before .before .before .before .before .loop in
+    let pre = mid .before .before .before .before .before .before .before .before .before .before .before .before .before .before .before .before .before .before .before .pre in
+    declare .kept .1 .1 .1 .1 .1 .1 .0 ∙ loop .inv .theory .rules .longs ∙ sym (pre .1 .ruleVars)
 
 same-length-21 : tie.Need-same-length-21 Inv-loop μ-loop
-same-length-21 c = (c .before .before .before .before .before .before .before .before .before .before .before .before .before .before .before .before .before .before .before .declare) .kept .1 .1 .1 .1 .1 .1 .1 .0 ∙ (c .before .before .before .before .before .before .before .before .before .before .before .before .before .before .before .before .before .before .before .before .before .before .before .before .before .before .before .before .before .before .before .before .before .before .loop) .inv .theory .rules .room ∙ sym ((c .before .before .before .before .before .before .before .before .before .before .before .before .before .before .before .before .before .before .before .before .before .before .before .before .before .before .before .before .before .before .before .before .before .before .before .before .before .before .before .before .before .before .before .before .pre) .1 .patterns)
+same-length-21 c =
+    let declare = c .before .before .before .before .before .before .before .before .before .before .before .before .before .before .before .before .before .before .before .declare in
+    let mid = c .before .before .before .before .before .before .before .before .before .before .before .before .before .before .before .before .before .before .before .before .before .before .before .before .before in
+    let loop = mid .before .before .before .before .before .before .before .before .before .loop in
+    let pre = mid .before .before .before .before .before .before .before .before .before .before .before .before .before .before .before .before .before .before .before .pre in
+    declare .kept .1 .1 .1 .1 .1 .1 .1 .0 ∙ loop .inv .theory .rules .room ∙ sym (pre .1 .patterns)
 
 returns-3 : tie.Need-returns-3 Inv-loop μ-loop
-returns-3 c = (declared-no ((c .before .before .before .before .before .before .before .before .before .before .before .before .before .before .before .before .before .before .before .before .before .before .before .before .before .before .before .before .before .before .before .before .before .before .loop) .inv) ((c .before .before .before .before .before .before .before .before .before .before .before .before .before .before .before .before .before .before .before .before .before .before .before .before .before .before .before .before .before .before .before .before .read-form) .ensures) ((c .before .before .before .before .before .before .before .before .before .before .before .before .before .before .before .before .before .before .before .before .before .before .before .before .before .before .before .before .next) .given .1) (theoryLists ((c .before .before .before .before .before .before .before .before .before .before .before .before .before .before .before .before .before .before .before .declare) .last .1 .1 .0) ((c .before .before .before .before .before .before .before .before .before .before .before .before .before .before .before .before .before .before .before .declare) .last .1 .1 .1 .0) ((c .before .before .before .before .before .before .before .before .before .before .before .before .before .before .before .before .before .before .before .declare) .last .1 .1 .1 .1 .0) ((c .before .before .before .before .before .before .before .before .before .before .before .before .before .before .before .before .before .before .before .declare) .last .1 .1 .1 .1 .1 .0) ((c .before .before .before .before .before .before .before .before .before .before .before .before .before .before .before .before .before .before .before .declare) .last .1 .1 .1 .1 .1 .1 .0) ((c .before .before .before .before .before .before .before .before .before .before .before .before .before .before .before .before .before .before .before .declare) .last .1 .1 .1 .1 .1 .1 .1 .0)) ((c .before .before .before .before .before .before .before .before .before .before .before .before .before .before .before .before .before .before .before .declare) .ensures ((c .before .before .before .before .before .before .before .before .before .before .before .before .before .before .before .before .before .before .before .before .before .before .before .before .before .before .before .before .before .before .before .before .before .before .loop) .inv .T) (going-form ((c .before .before .before .before .before .before .before .before .before .before .before .before .before .before .before .before .before .before .before .before .before .before .before .before .before .before .before .before .before .before .before .before .before .before .loop) .inv .going) ((c .before .before .before .before .before .before .before .before .before .before .before .before .before .before .before .before .before .before .before .before .before .before .before .before .before .before .before .before .before .before .before .before .read-form) .ensures) ((c .before .before .before .before .before .before .before .before .before .before .before .before .before .before .before .before .before .before .before .before .before .before .before .before .before .before .before .before .next) .given .1) .form) ((c .before .before .before .before .before .before .before .before .before .before .before .before .before .before .before .before .before .before .before .before .before .before .before .before .before .before .before .before .before .before .before .before .before .before .loop) .inv .theory) (formed ((c .before .before .before .before .before .before .before .before .before .before .before .before .before .before .before .before .before .before .before .before .before .before .before .before .before .before .before .before .before .before .before .before .before .before .loop) .inv) ((c .before .before .before .before .before .before .before .before .before .before .before .before .before .before .before .before .before .before .before .before .before .before .before .before .before .before .before .before .before .before .before .before .read-form) .ensures) ((c .before .before .before .before .before .before .before .before .before .before .before .before .before .before .before .before .before .before .before .before .before .before .before .before .before .before .before .before .next) .given .1))) ((c .before .r2) .given .1), going-cleared ((c .before .before .before .before .before .before .before .before .before .before .before .before .before .before .before .before .before .before .before .before .before .before .before .before .before .before .before .before .before .before .before .before .before .before .loop) .inv .going) ((c .before .before .before .before .before .before .before .before .before .before .before .before .before .before .before .before .before .before .before .before .before .before .before .before .before .before .before .before .before .before .before .before .read-form) .ensures) ((c .before .before .before .before .before .before .before .before .before .before .before .before .before .before .before .before .before .before .before .before .before .before .before .before .before .before .before .before .next) .given .1) ((c .before .before .before .before .before .clear) .ensures))
+returns-3 c =
+    let mid = c .before .before .before .before .before .before .before .before .before .before .before .before .before .before .before .before .before .before .before .before .before .before .before .before .before in
+    let loop = mid .before .before .before .before .before .before .before .before .before .loop in
+    let read-form = mid .before .before .before .before .before .before .before .read-form in
+    let next = mid .before .before .before .next in
+    let declare = c .before .before .before .before .before .before .before .before .before .before .before .before .before .before .before .before .before .before .before .declare in
+    let r2 = c .before .r2 in
+    let clear = c .before .before .before .before .before .clear in (
+      declared-no (loop .inv) (read-form .ensures) (next .given .1)
+          (theoryLists (declare .last .1 .1 .0) (declare .last .1 .1 .1 .0) (declare .last .1 .1 .1 .1 .0) (declare .last .1 .1 .1 .1 .1 .0)
+          (declare .last .1 .1 .1 .1 .1 .1 .0) (declare .last .1 .1 .1 .1 .1 .1 .1 .0))
+          (declare .ensures (loop .inv .T) (going-form (loop .inv .going) (read-form .ensures) (next .given .1) .form) (loop .inv .theory)
+          (formed (loop .inv) (read-form .ensures) (next .given .1))) (r2 .given .1),
+      going-cleared (loop .inv .going)
+          (read-form .ensures) (next .given .1) (clear .ensures),
+    )
 
 add-forms : tie.Need-add-forms Inv-loop μ-loop
-add-forms c = omega (arith, (c .before .before .before .before .before .before .before .before .before .before .before .before .before .before .before .before .before .before .before .before .before .before .before .before .before .before .before .before .before .before .before .before .before .before .loop) .inv .going .few, (c .before .before .before .before .before .before .before .before .before .before .before .before .before .before .before .before .before .before .before .before .before .before .before .before .before .before .before .before .before .before .before .before .before .before .loop) .inv .going .high, (c .before .before .before .before .before .before .before .before .before .before .before .before .before .before .before .before .before .before .before .before .before .before .before .before .before .before .before .before .before .before .before .before .before .before .loop) .inv .going .legible .short)
+add-forms c =
+    let mid = c .before .before .before .before .before .before .before .before .before .before .before .before .before .before .before .before .before .before .before .before .before .before .before .before .before in
+    let loop = mid .before .before .before .before .before .before .before .before .before .loop in
+    omega (arith, loop .inv .going .few, loop .inv .going .high, loop .inv .going .legible .short)
 
 loop-less : tie.Need-loop-less Inv-loop μ-loop
-loop-less c = omega (arith, going-form ((c .before .before .before .before .before .before .before .before .before .before .before .before .before .before .before .before .before .before .before .before .before .before .before .before .before .before .before .before .before .before .before .before .before .before .loop) .inv .going) ((c .before .before .before .before .before .before .before .before .before .before .before .before .before .before .before .before .before .before .before .before .before .before .before .before .before .before .before .before .before .before .before .before .read-form) .ensures) ((c .before .before .before .before .before .before .before .before .before .before .before .before .before .before .before .before .before .before .before .before .before .before .before .before .before .before .before .before .next) .given .1) .on, going-form ((c .before .before .before .before .before .before .before .before .before .before .before .before .before .before .before .before .before .before .before .before .before .before .before .before .before .before .before .before .before .before .before .before .before .before .loop) .inv .going) ((c .before .before .before .before .before .before .before .before .before .before .before .before .before .before .before .before .before .before .before .before .before .before .before .before .before .before .before .before .before .before .before .before .read-form) .ensures) ((c .before .before .before .before .before .before .before .before .before .before .before .before .before .before .before .before .before .before .before .before .before .before .before .before .before .before .before .before .next) .given .1) .within)
+loop-less c =
+    let mid = c .before .before .before .before .before .before .before .before .before .before .before .before .before .before .before .before .before .before .before .before .before .before .before .before .before in
+    let loop = mid .before .before .before .before .before .before .before .before .before .loop in
+    let read-form = mid .before .before .before .before .before .before .before .read-form in
+    let next = mid .before .before .before .next in
+    let formed = going-form (loop .inv .going) (read-form .ensures) (next .given .1) in
+    omega (arith, formed .on, formed .within)
 
 loop-again : tie.Need-loop-again Inv-loop μ-loop
-loop-again c = declared-ok ((c .before .before .before .before .before .before .before .before .before .before .before .before .before .before .before .before .before .before .before .before .before .before .before .before .before .before .before .before .before .before .before .before .before .before .loop) .inv) ((c .before .before .before .before .before .before .before .before .before .before .before .before .before .before .before .before .before .before .before .before .before .before .before .before .before .before .before .before .before .before .before .before .read-form) .ensures) ((c .before .before .before .before .before .before .before .before .before .before .before .before .before .before .before .before .before .before .before .before .before .before .before .before .before .before .before .before .next) .given .1) (theoryLists ((c .before .before .before .before .before .before .before .before .before .before .before .before .before .before .before .before .before .before .before .declare) .last .1 .1 .0) ((c .before .before .before .before .before .before .before .before .before .before .before .before .before .before .before .before .before .before .before .declare) .last .1 .1 .1 .0) ((c .before .before .before .before .before .before .before .before .before .before .before .before .before .before .before .before .before .before .before .declare) .last .1 .1 .1 .1 .0) ((c .before .before .before .before .before .before .before .before .before .before .before .before .before .before .before .before .before .before .before .declare) .last .1 .1 .1 .1 .1 .0) ((c .before .before .before .before .before .before .before .before .before .before .before .before .before .before .before .before .before .before .before .declare) .last .1 .1 .1 .1 .1 .1 .0) ((c .before .before .before .before .before .before .before .before .before .before .before .before .before .before .before .before .before .before .before .declare) .last .1 .1 .1 .1 .1 .1 .1 .0)) ((c .before .before .before .before .before .before .before .before .before .before .before .before .before .before .before .before .before .before .before .declare) .ensures ((c .before .before .before .before .before .before .before .before .before .before .before .before .before .before .before .before .before .before .before .before .before .before .before .before .before .before .before .before .before .before .before .before .before .before .loop) .inv .T) (going-form ((c .before .before .before .before .before .before .before .before .before .before .before .before .before .before .before .before .before .before .before .before .before .before .before .before .before .before .before .before .before .before .before .before .before .before .loop) .inv .going) ((c .before .before .before .before .before .before .before .before .before .before .before .before .before .before .before .before .before .before .before .before .before .before .before .before .before .before .before .before .before .before .before .before .read-form) .ensures) ((c .before .before .before .before .before .before .before .before .before .before .before .before .before .before .before .before .before .before .before .before .before .before .before .before .before .before .before .before .next) .given .1) .form) ((c .before .before .before .before .before .before .before .before .before .before .before .before .before .before .before .before .before .before .before .before .before .before .before .before .before .before .before .before .before .before .before .before .before .before .loop) .inv .theory) (formed ((c .before .before .before .before .before .before .before .before .before .before .before .before .before .before .before .before .before .before .before .before .before .before .before .before .before .before .before .before .before .before .before .before .before .before .loop) .inv) ((c .before .before .before .before .before .before .before .before .before .before .before .before .before .before .before .before .before .before .before .before .before .before .before .before .before .before .before .before .before .before .before .before .read-form) .ensures) ((c .before .before .before .before .before .before .before .before .before .before .before .before .before .before .before .before .before .before .before .before .before .before .before .before .before .before .before .before .next) .given .1))) ((c .before .r) .given .1) ((c .before .before .before .before .before .clear) .ensures)
+loop-again c =
+    let mid = c .before .before .before .before .before .before .before .before .before .before .before .before .before .before .before .before .before .before .before .before .before .before .before .before .before in
+    let loop = mid .before .before .before .before .before .before .before .before .before .loop in
+    let read-form = mid .before .before .before .before .before .before .before .read-form in
+    let next = mid .before .before .before .next in
+    let declare = c .before .before .before .before .before .before .before .before .before .before .before .before .before .before .before .before .before .before .before .declare in
+    let r = c .before .r in
+    let clear = c .before .before .before .before .before .clear in
+    declared-ok (loop .inv) (read-form .ensures) (next .given .1)
+    (theoryLists (declare .last .1 .1 .0) (declare .last .1 .1 .1 .0) (declare .last .1 .1 .1 .1 .0) (declare .last .1 .1 .1 .1 .1 .0)
+    (declare .last .1 .1 .1 .1 .1 .1 .0) (declare .last .1 .1 .1 .1 .1 .1 .1 .0))
+    (declare .ensures (loop .inv .T) (going-form (loop .inv .going) (read-form .ensures) (next .given .1) .form) (loop .inv .theory)
+    (formed (loop .inv) (read-form .ensures) (next .given .1))) (r .given .1) (clear .ensures)
 
 pub declarations-spec : {M : Type 1} → statement M
 declarations-spec =

@@ -35,7 +35,11 @@ slice-relend-prefix-parse-exact-3 : tie.Need-slice-relend-prefix-parse-exact-3
 slice-relend-prefix-parse-exact-3 c = (c .before .before .before .before .before .before .before .before .before .before .before .pre) .1 .inputs
 
 slice-aggregate-parse-exact-3 : tie.Need-slice-aggregate-parse-exact-3
-slice-aggregate-parse-exact-3 c = sym (length-take-le (ARGUMENTS * SYMBOLS) ((c .before .before .before .before .before .before .before .before .before .before .before .before .args) .inputs .now) ((c .before .before .before .before .before .before .before .before .before .before .before .before .pre) .1 .inputs))
+slice-aggregate-parse-exact-3 c =
+    let entry = c .before .before .before .before .before .before .before .before .before .before .before .before in
+    let args = entry .args in
+    let pre = entry .pre in
+    sym (length-take-le (ARGUMENTS * SYMBOLS) (args .inputs .now) (pre .1 .inputs))
 
 mul-parse-exact-4 : tie.Need-mul-parse-exact-4
 mul-parse-exact-4 c = search needs
@@ -44,7 +48,11 @@ slice-relend-prefix-parse-exact-4 : tie.Need-slice-relend-prefix-parse-exact-4
 slice-relend-prefix-parse-exact-4 c = (c .before .before .before .before .before .before .before .before .before .before .before .before .pre) .1 .rules
 
 slice-aggregate-parse-exact-4 : tie.Need-slice-aggregate-parse-exact-4
-slice-aggregate-parse-exact-4 c = sym (length-take-le (6 * RULES) ((c .before .before .before .before .before .before .before .before .before .before .before .before .before .args) .rules .now) ((c .before .before .before .before .before .before .before .before .before .before .before .before .before .pre) .1 .rules))
+slice-aggregate-parse-exact-4 c =
+    let entry = c .before .before .before .before .before .before .before .before .before .before .before .before .before in
+    let args = entry .args in
+    let pre = entry .pre in
+    sym (length-take-le (6 * RULES) (args .rules .now) (pre .1 .rules))
 
 mul-parse-exact-5 : tie.Need-mul-parse-exact-5
 mul-parse-exact-5 c = search needs
@@ -56,40 +64,107 @@ slice-relend-prefix-parse-exact-5 : tie.Need-slice-relend-prefix-parse-exact-5
 slice-relend-prefix-parse-exact-5 c = (c .before .before .before .before .before .before .before .before .before .before .before .before .before .pre) .1 .ruleVars
 
 slice-aggregate-parse-exact-5 : tie.Need-slice-aggregate-parse-exact-5
-slice-aggregate-parse-exact-5 c = sym (length-take-le (3 * RULEVARS * RULES) ((c .before .before .before .before .before .before .before .before .before .before .before .before .before .before .args) .vars .now) ((c .before .before .before .before .before .before .before .before .before .before .before .before .before .before .pre) .1 .ruleVars))
+slice-aggregate-parse-exact-5 c =
+    let entry = c .before .before .before .before .before .before .before .before .before .before .before .before .before .before in
+    let args = entry .args in
+    let pre = entry .pre in
+    sym (length-take-le (3 * RULEVARS * RULES) (args .vars .now) (pre .1 .ruleVars))
 
 slice-relend-prefix-parse-exact-6 : tie.Need-slice-relend-prefix-parse-exact-6
 slice-relend-prefix-parse-exact-6 c = (c .before .before .before .before .before .before .before .before .before .before .before .before .before .before .pre) .1 .patterns
 
 slice-aggregate-parse-exact-6 : tie.Need-slice-aggregate-parse-exact-6
-slice-aggregate-parse-exact-6 c = sym (length-take-le PATTERNS ((c .before .before .before .before .before .before .before .before .before .before .before .before .before .before .before .args) .patterns .now) ((c .before .before .before .before .before .before .before .before .before .before .before .before .before .before .before .pre) .1 .patterns))
+slice-aggregate-parse-exact-6 c =
+    let entry = c .before .before .before .before .before .before .before .before .before .before .before .before .before .before .before in
+    let args = entry .args in
+    let pre = entry .pre in
+    sym (length-take-le PATTERNS (args .patterns .now) (pre .1 .patterns))
 
 parse-exact-requires : tie.Need-parse-exact-requires
-parse-exact-requires c κs = ((c .before .before .before .before .before .before .before .before .before .before .before .before .before .before .before .pre) .0, exact-fronts (theoryLists ((c .before .before .before .before .before .before .before .before .before .before .before .before .before .before .before .args) .sorts .now) ((c .before .before .before .before .before .before .before .before .before .before .before .before .before .before .before .args) .symbols .now) ((c .before .before .before .before .before .before .before .before .before .before .before .before .before .before .before .args) .inputs .now) ((c .before .before .before .before .before .before .before .before .before .before .before .before .before .before .before .args) .rules .now) ((c .before .before .before .before .before .before .before .before .before .before .before .before .before .before .before .args) .vars .now) ((c .before .before .before .before .before .before .before .before .before .before .before .before .before .before .before .args) .patterns .now)) ((c .before .before .before .before .before .before .before .before .before .before .before .before .before .before .before .pre) .1))
+parse-exact-requires c κs =
+    let entry = c .before .before .before .before .before .before .before .before .before .before .before .before .before .before .before in
+    let pre = entry .pre in
+    let args = entry .args in (
+      pre .0,
+      exact-fronts
+          (theoryLists (args .sorts .now) (args .symbols .now) (args .inputs .now) (args .rules .now) (args .vars .now)
+          (args .patterns .now)) (pre .1),
+    )
 
 same-length : tie.Need-same-length
 same-length c = (c .before .before .before .before .before .before .before .before .before .before .before .before .before .before .parse-exact) .kept .1 .0
 
 same-length-2 : tie.Need-same-length-2
-same-length-2 c = longer (2 * SORTS) ((c .before .before .before .before .before .before .before .before .before .before .before .before .before .before .parse-exact) .last .1 .1 .0) ((c .before .before .before .before .before .before .before .before .before .before .before .before .before .before .before .before .before .before .before .before .before .before .before .before .before .before .before .before .before .before .args) .sorts .now) ((c .before .before .before .before .before .before .before .before .before .before .before .before .before .before .before .before .before .before .before .before .before .before .before .before .before .before .before .before .before .before .pre) .1 .sorts) ((c .before .before .before .before .before .before .before .before .before .before .before .before .before .before .parse-exact) .kept .1 .1 .0)
+same-length-2 c =
+    let parse-exact = c .before .before .before .before .before .before .before .before .before .before .before .before .before .before .parse-exact in
+    let mid = c .before .before .before .before .before .before .before .before .before .before .before .before .before .before .before .before .before .before .before .before .before .before .before .before .before in
+    let entry = mid .before .before .before .before .before in
+    let args = entry .args in
+    let pre = entry .pre in
+    longer (2 * SORTS) (parse-exact .last .1 .1 .0) (args .sorts .now) (pre .1 .sorts) (parse-exact .kept .1 .1 .0)
 
 same-length-3 : tie.Need-same-length-3
-same-length-3 c = longer (4 * SYMBOLS) ((c .before .before .before .before .before .before .before .before .before .before .before .before .before .before .parse-exact) .last .1 .1 .1 .0) ((c .before .before .before .before .before .before .before .before .before .before .before .before .before .before .before .before .before .before .before .before .before .before .before .before .before .before .before .before .before .before .args) .symbols .now) ((c .before .before .before .before .before .before .before .before .before .before .before .before .before .before .before .before .before .before .before .before .before .before .before .before .before .before .before .before .before .before .pre) .1 .symbols) ((c .before .before .before .before .before .before .before .before .before .before .before .before .before .before .parse-exact) .kept .1 .1 .1 .0)
+same-length-3 c =
+    let parse-exact = c .before .before .before .before .before .before .before .before .before .before .before .before .before .before .parse-exact in
+    let mid = c .before .before .before .before .before .before .before .before .before .before .before .before .before .before .before .before .before .before .before .before .before .before .before .before .before in
+    let entry = mid .before .before .before .before .before in
+    let args = entry .args in
+    let pre = entry .pre in
+    longer (4 * SYMBOLS) (parse-exact .last .1 .1 .1 .0) (args .symbols .now) (pre .1 .symbols) (parse-exact .kept .1 .1 .1 .0)
 
 same-length-4 : tie.Need-same-length-4
-same-length-4 c = longer (ARGUMENTS * SYMBOLS) ((c .before .before .before .before .before .before .before .before .before .before .before .before .before .before .parse-exact) .last .1 .1 .1 .1 .0) ((c .before .before .before .before .before .before .before .before .before .before .before .before .before .before .before .before .before .before .before .before .before .before .before .before .before .before .before .before .before .before .args) .inputs .now) ((c .before .before .before .before .before .before .before .before .before .before .before .before .before .before .before .before .before .before .before .before .before .before .before .before .before .before .before .before .before .before .pre) .1 .inputs) ((c .before .before .before .before .before .before .before .before .before .before .before .before .before .before .parse-exact) .kept .1 .1 .1 .1 .0)
+same-length-4 c =
+    let parse-exact = c .before .before .before .before .before .before .before .before .before .before .before .before .before .before .parse-exact in
+    let mid = c .before .before .before .before .before .before .before .before .before .before .before .before .before .before .before .before .before .before .before .before .before .before .before .before .before in
+    let entry = mid .before .before .before .before .before in
+    let args = entry .args in
+    let pre = entry .pre in
+    longer (ARGUMENTS * SYMBOLS) (parse-exact .last .1 .1 .1 .1 .0) (args .inputs .now) (pre .1 .inputs) (parse-exact .kept .1 .1 .1 .1 .0)
 
 same-length-5 : tie.Need-same-length-5
-same-length-5 c = longer (6 * RULES) ((c .before .before .before .before .before .before .before .before .before .before .before .before .before .before .parse-exact) .last .1 .1 .1 .1 .1 .0) ((c .before .before .before .before .before .before .before .before .before .before .before .before .before .before .before .before .before .before .before .before .before .before .before .before .before .before .before .before .before .before .args) .rules .now) ((c .before .before .before .before .before .before .before .before .before .before .before .before .before .before .before .before .before .before .before .before .before .before .before .before .before .before .before .before .before .before .pre) .1 .rules) ((c .before .before .before .before .before .before .before .before .before .before .before .before .before .before .parse-exact) .kept .1 .1 .1 .1 .1 .0)
+same-length-5 c =
+    let parse-exact = c .before .before .before .before .before .before .before .before .before .before .before .before .before .before .parse-exact in
+    let mid = c .before .before .before .before .before .before .before .before .before .before .before .before .before .before .before .before .before .before .before .before .before .before .before .before .before in
+    let entry = mid .before .before .before .before .before in
+    let args = entry .args in
+    let pre = entry .pre in
+    longer (6 * RULES) (parse-exact .last .1 .1 .1 .1 .1 .0) (args .rules .now) (pre .1 .rules) (parse-exact .kept .1 .1 .1 .1 .1 .0)
 
 same-length-6 : tie.Need-same-length-6
-same-length-6 c = longer (3 * RULEVARS * RULES) ((c .before .before .before .before .before .before .before .before .before .before .before .before .before .before .parse-exact) .last .1 .1 .1 .1 .1 .1 .0) ((c .before .before .before .before .before .before .before .before .before .before .before .before .before .before .before .before .before .before .before .before .before .before .before .before .before .before .before .before .before .before .args) .vars .now) ((c .before .before .before .before .before .before .before .before .before .before .before .before .before .before .before .before .before .before .before .before .before .before .before .before .before .before .before .before .before .before .pre) .1 .ruleVars) ((c .before .before .before .before .before .before .before .before .before .before .before .before .before .before .parse-exact) .kept .1 .1 .1 .1 .1 .1 .0)
+same-length-6 c =
+    let parse-exact = c .before .before .before .before .before .before .before .before .before .before .before .before .before .before .parse-exact in
+    let mid = c .before .before .before .before .before .before .before .before .before .before .before .before .before .before .before .before .before .before .before .before .before .before .before .before .before in
+    let entry = mid .before .before .before .before .before in
+    let args = entry .args in
+    let pre = entry .pre in
+    longer (3 * RULEVARS * RULES) (parse-exact .last .1 .1 .1 .1 .1 .1 .0) (args .vars .now) (pre .1 .ruleVars)
+    (parse-exact .kept .1 .1 .1 .1 .1 .1 .0)
 
 same-length-7 : tie.Need-same-length-7
-same-length-7 c = longer PATTERNS ((c .before .before .before .before .before .before .before .before .before .before .before .before .before .before .parse-exact) .last .1 .1 .1 .1 .1 .1 .1 .0) ((c .before .before .before .before .before .before .before .before .before .before .before .before .before .before .before .before .before .before .before .before .before .before .before .before .before .before .before .before .before .before .args) .patterns .now) ((c .before .before .before .before .before .before .before .before .before .before .before .before .before .before .before .before .before .before .before .before .before .before .before .before .before .before .before .before .before .before .pre) .1 .patterns) ((c .before .before .before .before .before .before .before .before .before .before .before .before .before .before .parse-exact) .kept .1 .1 .1 .1 .1 .1 .1 .0)
+same-length-7 c =
+    let parse-exact = c .before .before .before .before .before .before .before .before .before .before .before .before .before .before .parse-exact in
+    let mid = c .before .before .before .before .before .before .before .before .before .before .before .before .before .before .before .before .before .before .before .before .before .before .before .before .before in
+    let entry = mid .before .before .before .before .before in
+    let args = entry .args in
+    let pre = entry .pre in
+    longer PATTERNS (parse-exact .last .1 .1 .1 .1 .1 .1 .1 .0) (args .patterns .now) (pre .1 .patterns)
+    (parse-exact .kept .1 .1 .1 .1 .1 .1 .1 .0)
 
 returns : tie.Need-returns
-returns c = ((c .before .before .before .before .before .before .before .before .before .before .before .before .before .before .parse-exact) .ensures .0, (laid-longer (theoryLists ((c .before .before .before .before .before .before .before .before .before .before .before .before .before .before .before .before .before .before .before .before .before .before .before .before .before .before .before .before .before .before .args) .sorts .now) ((c .before .before .before .before .before .before .before .before .before .before .before .before .before .before .before .before .before .before .before .before .before .before .before .before .before .before .before .before .before .before .args) .symbols .now) ((c .before .before .before .before .before .before .before .before .before .before .before .before .before .before .before .before .before .before .before .before .before .before .before .before .before .before .before .before .before .before .args) .inputs .now) ((c .before .before .before .before .before .before .before .before .before .before .before .before .before .before .before .before .before .before .before .before .before .before .before .before .before .before .before .before .before .before .args) .rules .now) ((c .before .before .before .before .before .before .before .before .before .before .before .before .before .before .before .before .before .before .before .before .before .before .before .before .before .before .before .before .before .before .args) .vars .now) ((c .before .before .before .before .before .before .before .before .before .before .before .before .before .before .before .before .before .before .before .before .before .before .before .before .before .before .before .before .before .before .args) .patterns .now)) (theoryOf (verdict ((c .before .before .before .before .before .before .before .before .before .before .before .before .before .before .before .before .before .before .before .before .before .before .before .before .before .before .before .before .before .before .args) .text .now))) ((c .before .before .before .before .before .before .before .before .before .before .before .before .before .before .parse-exact) .last .1 .1 .0) ((c .before .before .before .before .before .before .before .before .before .before .before .before .before .before .parse-exact) .last .1 .1 .1 .0) ((c .before .before .before .before .before .before .before .before .before .before .before .before .before .before .parse-exact) .last .1 .1 .1 .1 .0) ((c .before .before .before .before .before .before .before .before .before .before .before .before .before .before .parse-exact) .last .1 .1 .1 .1 .1 .0) ((c .before .before .before .before .before .before .before .before .before .before .before .before .before .before .parse-exact) .last .1 .1 .1 .1 .1 .1 .0) ((c .before .before .before .before .before .before .before .before .before .before .before .before .before .before .parse-exact) .last .1 .1 .1 .1 .1 .1 .1 .0) ((c .before .before .before .before .before .before .before .before .before .before .before .before .before .before .parse-exact) .ensures .1 .0), (c .before .before .before .before .before .before .before .before .before .before .before .before .before .before .parse-exact) .ensures .1 .1))
+returns c =
+    let parse-exact = c .before .before .before .before .before .before .before .before .before .before .before .before .before .before .parse-exact in
+    let mid = c .before .before .before .before .before .before .before .before .before .before .before .before .before .before .before .before .before .before .before .before .before .before .before .before .before in
+    let args = mid .before .before .before .before .before .args in (
+      parse-exact .ensures .0,
+      (
+        laid-longer
+            (theoryLists (args .sorts .now) (args .symbols .now) (args .inputs .now) (args .rules .now) (args .vars .now)
+            (args .patterns .now)) (theoryOf (verdict (args .text .now))) (parse-exact .last .1 .1 .0) (parse-exact .last .1 .1 .1 .0)
+            (parse-exact .last .1 .1 .1 .1 .0) (parse-exact .last .1 .1 .1 .1 .1 .0) (parse-exact .last .1 .1 .1 .1 .1 .1 .0)
+            (parse-exact .last .1 .1 .1 .1 .1 .1 .1 .0) (parse-exact .ensures .1 .0),
+        parse-exact .ensures .1 .1,
+      ),
+    )
 
 pub parse-spec : {M : Type 1} → statement M
 parse-spec =

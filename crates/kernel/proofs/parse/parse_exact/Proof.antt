@@ -14,31 +14,82 @@ counts-in-requires : tie.Need-counts-in-requires
 counts-in-requires c κs = search needs
 
 wipe-behind-requires : tie.Need-wipe-behind-requires
-wipe-behind-requires c κs = run-within (theoryLists ((c .before .before .before .before .before .before .before .before .before .before .before .before .before .before .before .before .before .before .before .before .before .read-and-declare) .last .1 .1 .0) ((c .before .before .before .before .before .before .before .before .before .before .before .before .before .before .before .before .before .before .before .before .before .read-and-declare) .last .1 .1 .1 .0) ((c .before .before .before .before .before .before .before .before .before .before .before .before .before .before .before .before .before .before .before .before .before .read-and-declare) .last .1 .1 .1 .1 .0) ((c .before .before .before .before .before .before .before .before .before .before .before .before .before .before .before .before .before .before .before .before .before .read-and-declare) .last .1 .1 .1 .1 .1 .0) ((c .before .before .before .before .before .before .before .before .before .before .before .before .before .before .before .before .before .before .before .before .before .read-and-declare) .last .1 .1 .1 .1 .1 .1 .0) ((c .before .before .before .before .before .before .before .before .before .before .before .before .before .before .before .before .before .before .before .before .before .read-and-declare) .last .1 .1 .1 .1 .1 .1 .1 .0)) (verdict ((c .before .before .before .before .before .before .before .before .before .before .before .before .before .before .before .before .before .before .before .before .before .before .before .before .before .before .before .before .before .before .before .before .before .before .before .before .before .args) .text .now)) ((c .before .before .before .before .before .before .before .before .before .before .before .before .before .before .before .before .before .before .before .before .before .read-and-declare) .ensures .0) ((c .counts-in) .ensures)
+wipe-behind-requires c κs =
+    let read-and-declare = c .before .before .before .before .before .before .before .before .before .before .before .before .before .before .before .before .before .before .before .before .before .read-and-declare in
+    let mid = c .before .before .before .before .before .before .before .before .before .before .before .before .before .before .before .before .before .before .before .before .before .before .before .before .before in
+    let args = mid .before .before .before .before .before .before .before .before .before .before .before .before .args in
+    run-within
+    (theoryLists (read-and-declare .last .1 .1 .0) (read-and-declare .last .1 .1 .1 .0) (read-and-declare .last .1 .1 .1 .1 .0)
+    (read-and-declare .last .1 .1 .1 .1 .1 .0) (read-and-declare .last .1 .1 .1 .1 .1 .1 .0)
+    (read-and-declare .last .1 .1 .1 .1 .1 .1 .1 .0)) (verdict (args .text .now)) (read-and-declare .ensures .0)
+    ((c .counts-in) .ensures)
 
 same-length : tie.Need-same-length
-same-length c = (c .before .before .before .before .before .before .before .before .before .before .before .before .before .before .before .before .before .before .before .before .before .before .before .before .before .before .before .before .before .before .before .before .before .before .read-and-declare) .kept .1 .0
+same-length c =
+    let mid = c .before .before .before .before .before .before .before .before .before .before .before .before .before .before .before .before .before .before .before .before .before .before .before .before .before in
+    let read-and-declare = mid .before .before .before .before .before .before .before .before .before .read-and-declare in
+    read-and-declare .kept .1 .0
 
 same-length-2 : tie.Need-same-length-2
-same-length-2 c = (c .before .before .before .before .before .before .before .before .before .before .before .before .wipe-behind) .kept .0 ∙ (c .before .before .before .before .before .before .before .before .before .before .before .before .before .before .before .before .before .before .before .before .before .before .before .before .before .before .before .before .before .before .before .before .before .before .read-and-declare) .kept .1 .1 .0
+same-length-2 c =
+    let wipe-behind = c .before .before .before .before .before .before .before .before .before .before .before .before .wipe-behind in
+    let mid = c .before .before .before .before .before .before .before .before .before .before .before .before .before .before .before .before .before .before .before .before .before .before .before .before .before in
+    let read-and-declare = mid .before .before .before .before .before .before .before .before .before .read-and-declare in
+    wipe-behind .kept .0 ∙ read-and-declare .kept .1 .1 .0
 
 same-length-3 : tie.Need-same-length-3
-same-length-3 c = (c .before .before .before .before .before .before .before .before .before .before .before .before .wipe-behind) .kept .1 .0 ∙ (c .before .before .before .before .before .before .before .before .before .before .before .before .before .before .before .before .before .before .before .before .before .before .before .before .before .before .before .before .before .before .before .before .before .before .read-and-declare) .kept .1 .1 .1 .0
+same-length-3 c =
+    let wipe-behind = c .before .before .before .before .before .before .before .before .before .before .before .before .wipe-behind in
+    let mid = c .before .before .before .before .before .before .before .before .before .before .before .before .before .before .before .before .before .before .before .before .before .before .before .before .before in
+    let read-and-declare = mid .before .before .before .before .before .before .before .before .before .read-and-declare in
+    wipe-behind .kept .1 .0 ∙ read-and-declare .kept .1 .1 .1 .0
 
 same-length-4 : tie.Need-same-length-4
-same-length-4 c = (c .before .before .before .before .before .before .before .before .before .before .before .before .wipe-behind) .kept .1 .1 .0 ∙ (c .before .before .before .before .before .before .before .before .before .before .before .before .before .before .before .before .before .before .before .before .before .before .before .before .before .before .before .before .before .before .before .before .before .before .read-and-declare) .kept .1 .1 .1 .1 .0
+same-length-4 c =
+    let wipe-behind = c .before .before .before .before .before .before .before .before .before .before .before .before .wipe-behind in
+    let mid = c .before .before .before .before .before .before .before .before .before .before .before .before .before .before .before .before .before .before .before .before .before .before .before .before .before in
+    let read-and-declare = mid .before .before .before .before .before .before .before .before .before .read-and-declare in
+    wipe-behind .kept .1 .1 .0 ∙ read-and-declare .kept .1 .1 .1 .1 .0
 
 same-length-5 : tie.Need-same-length-5
-same-length-5 c = (c .before .before .before .before .before .before .before .before .before .before .before .before .wipe-behind) .kept .1 .1 .1 .0 ∙ (c .before .before .before .before .before .before .before .before .before .before .before .before .before .before .before .before .before .before .before .before .before .before .before .before .before .before .before .before .before .before .before .before .before .before .read-and-declare) .kept .1 .1 .1 .1 .1 .0
+same-length-5 c =
+    let wipe-behind = c .before .before .before .before .before .before .before .before .before .before .before .before .wipe-behind in
+    let mid = c .before .before .before .before .before .before .before .before .before .before .before .before .before .before .before .before .before .before .before .before .before .before .before .before .before in
+    let read-and-declare = mid .before .before .before .before .before .before .before .before .before .read-and-declare in
+    wipe-behind .kept .1 .1 .1 .0 ∙ read-and-declare .kept .1 .1 .1 .1 .1 .0
 
 same-length-6 : tie.Need-same-length-6
-same-length-6 c = (c .before .before .before .before .before .before .before .before .before .before .before .before .wipe-behind) .kept .1 .1 .1 .1 .0 ∙ (c .before .before .before .before .before .before .before .before .before .before .before .before .before .before .before .before .before .before .before .before .before .before .before .before .before .before .before .before .before .before .before .before .before .before .read-and-declare) .kept .1 .1 .1 .1 .1 .1 .0
+same-length-6 c =
+    let wipe-behind = c .before .before .before .before .before .before .before .before .before .before .before .before .wipe-behind in
+    let mid = c .before .before .before .before .before .before .before .before .before .before .before .before .before .before .before .before .before .before .before .before .before .before .before .before .before in
+    let read-and-declare = mid .before .before .before .before .before .before .before .before .before .read-and-declare in
+    wipe-behind .kept .1 .1 .1 .1 .0 ∙ read-and-declare .kept .1 .1 .1 .1 .1 .1 .0
 
 same-length-7 : tie.Need-same-length-7
-same-length-7 c = (c .before .before .before .before .before .before .before .before .before .before .before .before .wipe-behind) .kept .1 .1 .1 .1 .1 .0 ∙ (c .before .before .before .before .before .before .before .before .before .before .before .before .before .before .before .before .before .before .before .before .before .before .before .before .before .before .before .before .before .before .before .before .before .before .read-and-declare) .kept .1 .1 .1 .1 .1 .1 .1 .0
+same-length-7 c =
+    let wipe-behind = c .before .before .before .before .before .before .before .before .before .before .before .before .wipe-behind in
+    let mid = c .before .before .before .before .before .before .before .before .before .before .before .before .before .before .before .before .before .before .before .before .before .before .before .before .before in
+    let read-and-declare = mid .before .before .before .before .before .before .before .before .before .read-and-declare in
+    wipe-behind .kept .1 .1 .1 .1 .1 .0 ∙ read-and-declare .kept .1 .1 .1 .1 .1 .1 .1 .0
 
 returns : tie.Need-returns
-returns c = ((c .before .before .before .before .before .before .before .before .before .before .before .before .before .before .before .before .before .before .before .before .before .before .before .before .before .before .before .before .before .before .before .before .before .before .read-and-declare) .ensures .0 .answers, (run-laid (theoryLists ((c .before .before .before .before .before .before .before .before .before .before .before .before .before .before .before .before .before .before .before .before .before .before .before .before .before .before .before .before .before .before .before .before .before .before .read-and-declare) .last .1 .1 .0) ((c .before .before .before .before .before .before .before .before .before .before .before .before .before .before .before .before .before .before .before .before .before .before .before .before .before .before .before .before .before .before .before .before .before .before .read-and-declare) .last .1 .1 .1 .0) ((c .before .before .before .before .before .before .before .before .before .before .before .before .before .before .before .before .before .before .before .before .before .before .before .before .before .before .before .before .before .before .before .before .before .before .read-and-declare) .last .1 .1 .1 .1 .0) ((c .before .before .before .before .before .before .before .before .before .before .before .before .before .before .before .before .before .before .before .before .before .before .before .before .before .before .before .before .before .before .before .before .before .before .read-and-declare) .last .1 .1 .1 .1 .1 .0) ((c .before .before .before .before .before .before .before .before .before .before .before .before .before .before .before .before .before .before .before .before .before .before .before .before .before .before .before .before .before .before .before .before .before .before .read-and-declare) .last .1 .1 .1 .1 .1 .1 .0) ((c .before .before .before .before .before .before .before .before .before .before .before .before .before .before .before .before .before .before .before .before .before .before .before .before .before .before .before .before .before .before .before .before .before .before .read-and-declare) .last .1 .1 .1 .1 .1 .1 .1 .0)) (verdict ((c .before .before .before .before .before .before .before .before .before .before .before .before .before .before .before .before .before .before .before .before .before .before .before .before .before .before .before .before .before .before .before .before .before .before .before .before .before .before .before .before .before .before .before .before .before .before .before .before .before .before .args) .text .now)) ((c .before .before .before .before .before .before .before .before .before .before .before .before .before .before .before .before .before .before .before .before .before .before .before .before .before .before .before .before .before .before .before .before .before .before .read-and-declare) .ensures .0) ((c .before .before .before .before .before .before .before .before .before .before .before .before .before .counts-in) .ensures) ((c .before .before .before .before .before .before .before .before .before .before .before .before .wipe-behind) .ensures), ((c .before .before .before .before .before .before .before .before .before .before .before .before .before .before .before .before .before .before .before .before .before .before .before .before .before .before .before .before .before .before .before .before .before .before .read-and-declare) .ensures .1, laid-held _ ((c .before .before .before .before .before .before .before .before .before .before .before .before .before .before .before .before .before .before .before .before .before .before .before .before .before .before .before .before .before .before .before .before .before .before .read-and-declare) .ensures .0 .held))))
+returns c =
+    let mid = c .before .before .before .before .before .before .before .before .before .before .before .before .before .before .before .before .before .before .before .before .before .before .before .before .before in
+    let read-and-declare = mid .before .before .before .before .before .before .before .before .before .read-and-declare in
+    let args = mid .before .before .before .before .before .before .before .before .before .before .before .before .before .before .before .before .before .before .before .before .before .before .before .before .before .args in
+    let counts-in = c .before .before .before .before .before .before .before .before .before .before .before .before .before .counts-in in
+    let wipe-behind = c .before .before .before .before .before .before .before .before .before .before .before .before .wipe-behind in
+    let run = read-and-declare .ensures .0 in (
+      run .answers,
+      (
+        run-laid
+            (theoryLists (read-and-declare .last .1 .1 .0) (read-and-declare .last .1 .1 .1 .0) (read-and-declare .last .1 .1 .1 .1 .0)
+            (read-and-declare .last .1 .1 .1 .1 .1 .0) (read-and-declare .last .1 .1 .1 .1 .1 .1 .0)
+            (read-and-declare .last .1 .1 .1 .1 .1 .1 .1 .0)) (verdict (args .text .now)) run (counts-in .ensures)
+            (wipe-behind .ensures),
+        (read-and-declare .ensures .1, laid-held _ (run .held)),
+      ),
+    )
 
 pub parse-exact-spec : {M : Type 1} → statement M
 parse-exact-spec =

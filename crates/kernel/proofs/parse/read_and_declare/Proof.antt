@@ -22,7 +22,17 @@ declarations-requires : tie.Need-declarations-requires
 declarations-requires c κs = (c .before .before .before .before .before .before .before .before .before .before .before .before .before .before .before .before .before .before .pre)
 
 returns : tie.Need-returns
-returns c = (unread-refused ((c .before .before .before .before .before .before .before .before .before .before .before .before .before .args) .text .now) (theoryLists ((c .before .before .before .before .before .before .before .before .before .before .before .before .before .args) .sorts .now) ((c .before .before .before .before .before .before .before .before .before .before .before .before .before .args) .symbols .now) ((c .before .before .before .before .before .before .before .before .before .before .before .before .before .args) .inputs .now) ((c .before .before .before .before .before .before .before .before .before .before .before .before .before .args) .rules .now) ((c .before .before .before .before .before .before .before .before .before .before .before .before .before .args) .vars .now) ((c .before .before .before .before .before .before .before .before .before .before .before .before .before .args) .patterns .now)) ((c .before .before .before .before .before .before .before .before .before .before .before .before .before .pre) .1) ((c .none) .result) ((c .none) .ensures) _ ((c .before .before .before .before .read-all) .ensures) ((c .before .before .number) .given .1), refl)
+returns c =
+    let entry = c .before .before .before .before .before .before .before .before .before .before .before .before .before in
+    let args = entry .args in
+    let pre = entry .pre in
+    let read-all = c .before .before .before .before .read-all in
+    let number = c .before .before .number in (
+      unread-refused (args .text .now)
+          (theoryLists (args .sorts .now) (args .symbols .now) (args .inputs .now) (args .rules .now) (args .vars .now)
+          (args .patterns .now)) (pre .1) ((c .none) .result) ((c .none) .ensures) _ (read-all .ensures) (number .given .1),
+      refl,
+    )
 
 same-length : tie.Need-same-length
 same-length c = (c .before .before .before .before .before .before .before .before .before .before .before .before .before .before .declarations) .kept .1 .0
@@ -46,7 +56,18 @@ same-length-7 : tie.Need-same-length-7
 same-length-7 c = (c .before .before .before .before .before .before .before .before .before .before .before .before .before .before .declarations) .kept .1 .1 .1 .1 .1 .1 .1 .0
 
 returns-2 : tie.Need-returns-2
-returns-2 c = (read-whole ((c .before .before .before .before .before .before .before .before .before .before .before .before .before .before .before .before .before .before .before .before .before .before .before .before .before .before .before .before .before .before .before .before .before .args) .text .now) (theoryLists ((c .before .before .before .before .before .before .before .before .before .before .before .before .before .before .declarations) .last .1 .1 .0) ((c .before .before .before .before .before .before .before .before .before .before .before .before .before .before .declarations) .last .1 .1 .1 .0) ((c .before .before .before .before .before .before .before .before .before .before .before .before .before .before .declarations) .last .1 .1 .1 .1 .0) ((c .before .before .before .before .before .before .before .before .before .before .before .before .before .before .declarations) .last .1 .1 .1 .1 .1 .0) ((c .before .before .before .before .before .before .before .before .before .before .before .before .before .before .declarations) .last .1 .1 .1 .1 .1 .1 .0) ((c .before .before .before .before .before .before .before .before .before .before .before .before .before .before .declarations) .last .1 .1 .1 .1 .1 .1 .1 .0)) ((c .before .before .before .before .before .before .before .before .before .before .before .before .before .before .declarations) .result) _ ((c .before .before .before .before .before .before .before .before .before .before .before .before .before .before .before .before .before .before .before .before .before .before .before .before .read-all) .ensures) ((c .before .before .before .before .before .before .before .before .before .before .before .before .before .before .before .before .before .before .before .before .before .before .enum-told) .given .1) ((c .before .before .before .before .before .before .before .before .before .before .before .before .before .before .declarations) .ensures .0), (c .before .before .before .before .before .before .before .before .before .before .before .before .before .before .declarations) .ensures .1)
+returns-2 c =
+    let mid = c .before .before .before .before .before .before .before .before .before .before .before .before .before .before .before .before .before .before .before .before .before .before .before .before .before in
+    let args = mid .before .before .before .before .before .before .before .before .args in
+    let declarations = c .before .before .before .before .before .before .before .before .before .before .before .before .before .before .declarations in
+    let read-all = c .before .before .before .before .before .before .before .before .before .before .before .before .before .before .before .before .before .before .before .before .before .before .before .before .read-all in
+    let enum-told = c .before .before .before .before .before .before .before .before .before .before .before .before .before .before .before .before .before .before .before .before .before .before .enum-told in (
+      read-whole (args .text .now)
+          (theoryLists (declarations .last .1 .1 .0) (declarations .last .1 .1 .1 .0) (declarations .last .1 .1 .1 .1 .0)
+          (declarations .last .1 .1 .1 .1 .1 .0) (declarations .last .1 .1 .1 .1 .1 .1 .0) (declarations .last .1 .1 .1 .1 .1 .1 .1 .0))
+          (declarations .result) _ (read-all .ensures) (enum-told .given .1) (declarations .ensures .0),
+      declarations .ensures .1,
+    )
 
 pub read-and-declare-spec : {M : Type 1} → statement M
 read-and-declare-spec =

@@ -18,13 +18,21 @@ wipe-requires-2 : tie.Need-wipe-requires-2
 wipe-requires-2 c κs = (c .before .before .before .before .before .before .before .before .before .before .before .before .before .pre) .symbols
 
 mul-wipe-3 : tie.Need-mul-wipe-3
-mul-wipe-3 c = omega (arith, (c .before .before .before .before .before .before .before .before .before .before .before .before .before .before .before .before .before .before .pre) .inputs, (c .before .before .before .before .before .before .before .before .before .before .before .before .before .before .before .before .before .before .good) .1 .1 .0 .0)
+mul-wipe-3 c =
+    let entry = c .before .before .before .before .before .before .before .before .before .before .before .before .before .before .before .before .before .before in
+    let pre = entry .pre in
+    let good = entry .good in
+    omega (arith, pre .inputs, good .1 .1 .0 .0)
 
 wipe-requires-3 : tie.Need-wipe-requires-3
 wipe-requires-3 c κs = (c .before .before .before .before .before .before .before .before .before .before .before .before .before .before .before .before .before .before .pre) .inputs
 
 mul-wipe-4 : tie.Need-mul-wipe-4
-mul-wipe-4 c = omega (arith, (c .before .before .before .before .before .before .before .before .before .before .before .before .before .before .before .before .before .before .before .before .before .before .before .pre) .rules, (c .before .before .before .before .before .before .before .before .before .before .before .before .before .before .before .before .before .before .before .before .before .before .before .good) .1 .1 .1 .0 .0)
+mul-wipe-4 c =
+    let entry = c .before .before .before .before .before .before .before .before .before .before .before .before .before .before .before .before .before .before .before .before .before .before .before in
+    let pre = entry .pre in
+    let good = entry .good in
+    omega (arith, pre .rules, good .1 .1 .1 .0 .0)
 
 wipe-requires-4 : tie.Need-wipe-requires-4
 wipe-requires-4 c κs = (c .before .before .before .before .before .before .before .before .before .before .before .before .before .before .before .before .before .before .before .before .before .before .before .pre) .rules
@@ -33,7 +41,12 @@ mul-wipe-5 : tie.Need-mul-wipe-5
 mul-wipe-5 c = search needs
 
 mul-wipe-6 : tie.Need-mul-wipe-6
-mul-wipe-6 c = omega (arith, (c .before .before .before .before .before .before .before .before .before .before .before .before .before .before .before .before .before .before .before .before .before .before .before .before .before .before .before .before .pre) .ruleVars, (c .before .before .before .before .before .before .before .before .before .before .before .before .before .before .before .before .before .before .before .before .before .before .before .before .before .before .before .before .good) .1 .1 .1 .1 .0 .0)
+mul-wipe-6 c =
+    let mid = c .before .before .before .before .before .before .before .before .before .before .before .before .before .before .before .before .before .before .before .before .before .before .before .before .before in
+    let entry = mid .before .before .before in
+    let pre = entry .pre in
+    let good = entry .good in
+    omega (arith, pre .ruleVars, good .1 .1 .1 .1 .0 .0)
 
 wipe-requires-5 : tie.Need-wipe-requires-5
 wipe-requires-5 c κs = (c .before .before .before .before .before .before .before .before .before .before .before .before .before .before .before .before .before .before .before .before .before .before .before .before .before .before .before .before .pre) .ruleVars
@@ -60,7 +73,15 @@ same-length-6 : tie.Need-same-length-6
 same-length-6 c = (c .before .before .wipe6) .kept .0
 
 returns : tie.Need-returns
-returns c = λ i. theoryLists ((c .before .before .before .before .before .before .before .before .before .before .before .before .before .before .before .before .before .before .before .before .before .before .before .before .before .before .wipe) .ensures i) ((c .before .before .before .before .before .before .before .before .before .before .before .before .before .before .before .before .before .before .before .before .before .wipe2) .ensures i) ((c .before .before .before .before .before .before .before .before .before .before .before .before .before .before .before .before .wipe3) .ensures i) ((c .before .before .before .before .before .before .before .before .before .before .before .wipe4) .ensures i) ((c .before .before .before .before .before .before .wipe5) .ensures i) ((c .before .before .wipe6) .ensures i)
+returns c =
+    let mid = c .before .before .before .before .before .before .before .before .before .before .before .before .before .before .before .before .before .before .before .before .before .before .before .before .before in
+    let wipe = mid .before .wipe in
+    let wipe2 = c .before .before .before .before .before .before .before .before .before .before .before .before .before .before .before .before .before .before .before .before .before .wipe2 in
+    let wipe3 = c .before .before .before .before .before .before .before .before .before .before .before .before .before .before .before .before .wipe3 in
+    let wipe4 = c .before .before .before .before .before .before .before .before .before .before .before .wipe4 in
+    let wipe5 = c .before .before .before .before .before .before .wipe5 in
+    let wipe6 = c .before .before .wipe6 in
+    λ i. theoryLists (wipe .ensures i) (wipe2 .ensures i) (wipe3 .ensures i) (wipe4 .ensures i) (wipe5 .ensures i) (wipe6 .ensures i)
 
 pub wipe-behind-spec : {M : Type 1} → statement M
 wipe-behind-spec =

@@ -27,7 +27,13 @@ same-length-2 c = search needs
 
 -- src/patterns.rt:126:9
 returns : tie.Need-returns
-returns c = λ T R ins h k. atomic-marked ((c .before .before .before .before .before .before .before .before .before .before .before .before .before .args) .text .now) ((c .before .before .before .before .before .before .before .before .before .before .before .before .before .args) .start) ((c .before .before .before .before .before .before .before .before .before .before .before .before .before .args) .sort) T R _ _ _ _ (sym ((c .before .before .before .before .before .before .before .before .marked) .ensures) ∙ (c .before .before .before .before .before .before .before .if1) .taken) ((c .before .before .before .before .variable) .result) ((c .before .before .before .before .variable) .ensures R k)
+returns c =
+    let args = c .before .before .before .before .before .before .before .before .before .before .before .before .before .args in
+    let marked = c .before .before .before .before .before .before .before .before .marked in
+    let if1 = c .before .before .before .before .before .before .before .if1 in
+    let variable = c .before .before .before .before .variable in
+    λ T R ins h k. atomic-marked (args .text .now) (args .start) (args .sort) T R _ _ _ _ (sym (marked .ensures) ∙ if1 .taken)
+    (variable .result) (variable .ensures R k)
 
 -- src/patterns.rt:128:9
 constructor-requires : tie.Need-constructor-requires
@@ -47,7 +53,13 @@ same-length-3 c = search needs
 
 -- src/patterns.rt:130:9
 returns-2 : tie.Need-returns-2
-returns-2 c = λ T R ins h k. atomic-stopped ((c .before .before .before .before .before .before .before .before .before .before .before .before .args) .text .now) ((c .before .before .before .before .before .before .before .before .before .before .before .before .args) .start) ((c .before .before .before .before .before .before .before .before .before .before .before .before .args) .sort) T R _ _ _ _ (sym ((c .before .before .before .before .before .before .before .marked) .ensures) ∙ (c .before .before .before .before .before .before .if1) .left) ((c .before .before .before .before .constructor) .result) ((c .before .before .before .before .constructor) .ensures T R ins h (k .words)) ((c .enum-told) .given .1)
+returns-2 c =
+    let args = c .before .before .before .before .before .before .before .before .before .before .before .before .args in
+    let marked = c .before .before .before .before .before .before .before .marked in
+    let if1 = c .before .before .before .before .before .before .if1 in
+    let constructor = c .before .before .before .before .constructor in
+    λ T R ins h k. atomic-stopped (args .text .now) (args .start) (args .sort) T R _ _ _ _ (sym (marked .ensures) ∙ if1 .left)
+    (constructor .result) (constructor .ensures T R ins h (k .words)) ((c .enum-told) .given .1)
 
 -- src/patterns.rt:117:1
 same-length-4 : tie.Need-same-length-4
@@ -55,7 +67,14 @@ same-length-4 c = search needs
 
 -- src/patterns.rt:117:1
 returns-3 : tie.Need-returns-3
-returns-3 c = λ T R ins h k. atomic-made ((c .before .before .before .before .before .before .before .before .before .before .before .before .before .args) .text .now) ((c .before .before .before .before .before .before .before .before .before .before .before .before .before .args) .start) ((c .before .before .before .before .before .before .before .before .before .before .before .before .before .args) .sort) T R _ _ _ _ (sym ((c .before .before .before .before .before .before .before .before .marked) .ensures) ∙ (c .before .before .before .before .before .before .before .if1) .left) ((c .before .before .before .before .before .constructor) .result) ((c .before .before .before .before .before .constructor) .ensures T R ins h (k .words)) ((c .before .h) .given .1) k
+returns-3 c =
+    let args = c .before .before .before .before .before .before .before .before .before .before .before .before .before .args in
+    let marked = c .before .before .before .before .before .before .before .before .marked in
+    let if1 = c .before .before .before .before .before .before .before .if1 in
+    let constructor = c .before .before .before .before .before .constructor in
+    let h′ = c .before .h in
+    λ T R ins h k. atomic-made (args .text .now) (args .start) (args .sort) T R _ _ _ _ (sym (marked .ensures) ∙ if1 .left)
+    (constructor .result) (constructor .ensures T R ins h (k .words)) (h′ .given .1) k
 
 pub atomic-spec : {M : Type 1} → statement M
 atomic-spec =

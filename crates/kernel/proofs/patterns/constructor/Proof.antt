@@ -45,15 +45,35 @@ enum-told c = search needs
 
 -- src/patterns.rt:99:9
 returns : tie.Need-returns
-returns c = λ T R ins h w. head-missing ((c .before .before .before .before .before .before .before .before .args) .text .now) ((c .before .before .before .before .before .before .before .before .args) .start) _ ((c .before .before .before .before .before .before .before .before .args) .sort) ((c .before .before .before .before .before .before .before .before .args) .arity) ((c .before .before .before .before .atom-end) .ensures) ((c .before .before .before .before .before .before .before .before .pre) .inside) T R h _ ((c .before .before .symbol-named) .ensures) ((c .enum-told) .given .1)
+returns c =
+    let entry = c .before .before .before .before .before .before .before .before in
+    let args = entry .args in
+    let atom-end = c .before .before .before .before .atom-end in
+    let pre = entry .pre in
+    let symbol-named = c .before .before .symbol-named in
+    λ T R ins h w.
+    head-missing (args .text .now) (args .start) _ (args .sort) (args .arity) (atom-end .ensures) (pre .inside) T R h _
+    (symbol-named .ensures) ((c .enum-told) .given .1)
 
 -- src/patterns.rt:101:14
 mul-at : tie.Need-mul-at
-mul-at c = omega (arith, head-row _ false _ _ ((c .before .before .before .before .before .before .before .before .before .pre) .held .1) ((c .before .before .before .symbol-named) .ensures) ((c .before .c) .given .1) .0, (c .before .before .before .before .before .before .before .before .before .good))
+mul-at c =
+    let entry = c .before .before .before .before .before .before .before .before .before in
+    let pre = entry .pre in
+    let symbol-named = c .before .before .before .symbol-named in
+    let c′ = c .before .c in
+    let good = entry .good in
+    omega (arith, head-row _ false _ _ (pre .held .1) (symbol-named .ensures) (c′ .given .1) .0, good)
 
 -- src/patterns.rt:102:18
 mul-output : tie.Need-mul-output
-mul-output c = omega (arith, head-row _ false _ _ ((c .before .before .before .before .before .before .before .before .before .pre) .held .1) ((c .before .before .before .symbol-named) .ensures) ((c .before .c) .given .1) .0, (c .before .before .before .before .before .before .before .before .before .good))
+mul-output c =
+    let entry = c .before .before .before .before .before .before .before .before .before in
+    let pre = entry .pre in
+    let symbol-named = c .before .before .before .symbol-named in
+    let c′ = c .before .c in
+    let good = entry .good in
+    omega (arith, head-row _ false _ _ (pre .held .1) (symbol-named .ensures) (c′ .given .1) .0, good)
 
 -- src/patterns.rt:102:18
 shared-slice-read-output : tie.Need-shared-slice-read-output
@@ -69,15 +89,31 @@ same-sort-requires c κs = search needs
 
 -- src/patterns.rt:104:28
 add-many : tie.Need-add-many
-add-many c = omega (arith, head-row _ false _ _ ((c .before .before .before .before .before .before .before .before .before .before .before .before .pre) .held .1) ((c .before .before .before .before .before .before .symbol-named) .ensures) ((c .before .before .before .before .c) .given .1) .0, (c .before .before .before .before .before .before .before .before .before .before .before .before .good))
+add-many c =
+    let entry = c .before .before .before .before .before .before .before .before .before .before .before .before in
+    let pre = entry .pre in
+    let symbol-named = c .before .before .before .before .before .before .symbol-named in
+    let c′ = c .before .before .before .before .c in
+    let good = entry .good in
+    omega (arith, head-row _ false _ _ (pre .held .1) (symbol-named .ensures) (c′ .given .1) .0, good)
 
 -- src/patterns.rt:104:20
 mul-many : tie.Need-mul-many
-mul-many c = omega (arith, head-row _ false _ _ ((c .before .before .before .before .before .before .before .before .before .before .before .before .pre) .held .1) ((c .before .before .before .before .before .before .symbol-named) .ensures) ((c .before .before .before .before .c) .given .1) .0, (c .before .before .before .before .before .before .before .before .before .before .before .before .good))
+mul-many c =
+    let entry = c .before .before .before .before .before .before .before .before .before .before .before .before in
+    let pre = entry .pre in
+    let symbol-named = c .before .before .before .before .before .before .symbol-named in
+    let c′ = c .before .before .before .before .c in
+    let good = entry .good in
+    omega (arith, head-row _ false _ _ (pre .held .1) (symbol-named .ensures) (c′ .given .1) .0, good)
 
 -- src/patterns.rt:104:20
 shared-slice-read-many : tie.Need-shared-slice-read-many
-shared-slice-read-many c = omega (arith, head-row _ false _ _ ((c .before .before .before .before .before .before .before .before .before .before .before .before .before .pre) .held .1) ((c .before .before .before .before .before .before .before .symbol-named) .ensures) ((c .before .before .before .before .before .c) .given .1) .0)
+shared-slice-read-many c =
+    let pre = c .before .before .before .before .before .before .before .before .before .before .before .before .before .pre in
+    let symbol-named = c .before .before .before .before .before .before .before .symbol-named in
+    let c′ = c .before .before .before .before .before .c in
+    omega (arith, head-row _ false _ _ (pre .held .1) (symbol-named .ensures) (c′ .given .1) .0)
 
 -- src/patterns.rt:104:20
 cast-many : tie.Need-cast-many
@@ -85,11 +121,26 @@ cast-many c = omega (arith, (c .shared-slice-known4) .given (4 * (c .before .bef
 
 -- src/patterns.rt:106:13
 returns-2 : tie.Need-returns-2
-returns-2 c = λ T R ins h w. head-wrong-count ((c .before .before .before .before .before .before .before .before .before .before .before .before .before .before .args) .text .now) ((c .before .before .before .before .before .before .before .before .before .before .before .before .before .before .args) .start) _ ((c .before .before .before .before .before .before .before .before .before .before .before .before .before .before .args) .sort) ((c .before .before .before .before .before .before .before .before .before .before .before .before .before .before .args) .arity) ((c .before .before .before .before .before .before .before .before .before .before .atom-end) .ensures) ((c .before .before .before .before .before .before .before .before .before .before .before .before .before .before .pre) .inside) T R h _ ((c .before .before .before .before .before .before .before .before .symbol-named) .ensures) _ ((c .before .before .before .before .before .before .c) .given .1) (sym ((c .before .before .before .same-sort) .ensures) ∙ (c .before .before .if1) .taken) ((c .if2) .taken)
+returns-2 c =
+    let entry = c .before .before .before .before .before .before .before .before .before .before .before .before .before .before in
+    let args = entry .args in
+    let atom-end = c .before .before .before .before .before .before .before .before .before .before .atom-end in
+    let pre = entry .pre in
+    let symbol-named = c .before .before .before .before .before .before .before .before .symbol-named in
+    let c′ = c .before .before .before .before .before .before .c in
+    let same-sort = c .before .before .before .same-sort in
+    let if1 = c .before .before .if1 in
+    λ T R ins h w.
+    head-wrong-count (args .text .now) (args .start) _ (args .sort) (args .arity) (atom-end .ensures) (pre .inside) T R h _
+    (symbol-named .ensures) _ (c′ .given .1) (sym (same-sort .ensures) ∙ if1 .taken) ((c .if2) .taken)
 
 -- src/patterns.rt:108:12
 put-word-requires : tie.Need-put-word-requires
-put-word-requires c κs = record { long = (c .before .before .before .before .before .before .before .before .before .before .before .before .before .before .before .pre) .long; small = omega (arith, head-row _ false _ _ ((c .before .before .before .before .before .before .before .before .before .before .before .before .before .before .before .pre) .held .1) ((c .before .before .before .before .before .before .before .before .before .symbol-named) .ensures) ((c .before .before .before .before .before .before .before .c) .given .1) .1) }
+put-word-requires c κs =
+    let pre = c .before .before .before .before .before .before .before .before .before .before .before .before .before .before .before .pre in
+    let symbol-named = c .before .before .before .before .before .before .before .before .before .symbol-named in
+    let c′ = c .before .before .before .before .before .before .before .c in
+    record { long = pre .long; small = omega (arith, head-row _ false _ _ (pre .held .1) (symbol-named .ensures) (c′ .given .1) .1) }
 
 -- src/patterns.rt:109:32
 add-t30 : tie.Need-add-t30
@@ -101,7 +152,21 @@ same-length c = search needs
 
 -- src/patterns.rt:109:13
 returns-3 : tie.Need-returns-3
-returns-3 c = λ T R ins h w. head-written ((c .before .before .before .before .before .before .before .before .before .before .before .before .before .before .before .before .before .before .before .args) .text .now) ((c .before .before .before .before .before .before .before .before .before .before .before .before .before .before .before .before .before .before .before .args) .start) _ ((c .before .before .before .before .before .before .before .before .before .before .before .before .before .before .before .before .before .before .before .args) .sort) ((c .before .before .before .before .before .before .before .before .before .before .before .before .before .before .before .before .before .before .before .args) .arity) ((c .before .before .before .before .before .before .before .before .before .before .before .before .before .before .before .atom-end) .ensures) ((c .before .before .before .before .before .before .before .before .before .before .before .before .before .before .before .before .before .before .before .pre) .inside) T R h _ ((c .before .before .before .before .before .before .before .before .before .before .before .before .before .symbol-named) .ensures) _ ((c .before .before .before .before .before .before .before .before .before .before .before .c) .given .1) (sym ((c .before .before .before .before .before .before .before .before .same-sort) .ensures) ∙ (c .before .before .before .before .before .before .before .if1) .taken) ((c .before .before .before .before .before .if2) .left) _ _ w ((c .before .before .before .before .before .before .before .before .before .before .before .before .before .before .before .before .before .before .before .pre) .long) (put-yes _ _ _ _ ((c .before .before .before .put-word) .result) ((c .before .before .before .put-word) .ensures) ((c .if3) .taken))
+returns-3 c =
+    let entry = c .before .before .before .before .before .before .before .before .before .before .before .before .before .before .before .before .before .before .before in
+    let args = entry .args in
+    let atom-end = c .before .before .before .before .before .before .before .before .before .before .before .before .before .before .before .atom-end in
+    let pre = entry .pre in
+    let symbol-named = c .before .before .before .before .before .before .before .before .before .before .before .before .before .symbol-named in
+    let c′ = c .before .before .before .before .before .before .before .before .before .before .before .c in
+    let same-sort = c .before .before .before .before .before .before .before .before .same-sort in
+    let if1 = c .before .before .before .before .before .before .before .if1 in
+    let if2 = c .before .before .before .before .before .if2 in
+    let put-word = c .before .before .before .put-word in
+    λ T R ins h w.
+    head-written (args .text .now) (args .start) _ (args .sort) (args .arity) (atom-end .ensures) (pre .inside) T R h _
+    (symbol-named .ensures) _ (c′ .given .1) (sym (same-sort .ensures) ∙ if1 .taken) (if2 .left) _ _ w (pre .long)
+    (put-yes _ _ _ _ (put-word .result) (put-word .ensures) ((c .if3) .taken))
 
 -- src/patterns.rt:111:9
 same-length-2 : tie.Need-same-length-2
@@ -109,11 +174,35 @@ same-length-2 c = search needs
 
 -- src/patterns.rt:111:9
 returns-4 : tie.Need-returns-4
-returns-4 c = λ T R ins h w. head-full ((c .before .before .before .before .before .before .before .before .before .before .before .before .before .before .before .before .before .before .before .args) .text .now) ((c .before .before .before .before .before .before .before .before .before .before .before .before .before .before .before .before .before .before .before .args) .start) _ ((c .before .before .before .before .before .before .before .before .before .before .before .before .before .before .before .before .before .before .before .args) .sort) ((c .before .before .before .before .before .before .before .before .before .before .before .before .before .before .before .before .before .before .before .args) .arity) ((c .before .before .before .before .before .before .before .before .before .before .before .before .before .before .before .atom-end) .ensures) ((c .before .before .before .before .before .before .before .before .before .before .before .before .before .before .before .before .before .before .before .pre) .inside) T R h _ ((c .before .before .before .before .before .before .before .before .before .before .before .before .before .symbol-named) .ensures) _ ((c .before .before .before .before .before .before .before .before .before .before .before .c) .given .1) (sym ((c .before .before .before .before .before .before .before .before .same-sort) .ensures) ∙ (c .before .before .before .before .before .before .before .if1) .taken) ((c .before .before .before .before .before .if2) .left) _ _ w (put-no _ _ _ _ ((c .before .before .before .put-word) .result) ((c .before .before .before .put-word) .ensures) ((c .if3) .left))
+returns-4 c =
+    let entry = c .before .before .before .before .before .before .before .before .before .before .before .before .before .before .before .before .before .before .before in
+    let args = entry .args in
+    let atom-end = c .before .before .before .before .before .before .before .before .before .before .before .before .before .before .before .atom-end in
+    let pre = entry .pre in
+    let symbol-named = c .before .before .before .before .before .before .before .before .before .before .before .before .before .symbol-named in
+    let c′ = c .before .before .before .before .before .before .before .before .before .before .before .c in
+    let same-sort = c .before .before .before .before .before .before .before .before .same-sort in
+    let if1 = c .before .before .before .before .before .before .before .if1 in
+    let if2 = c .before .before .before .before .before .if2 in
+    let put-word = c .before .before .before .put-word in
+    λ T R ins h w.
+    head-full (args .text .now) (args .start) _ (args .sort) (args .arity) (atom-end .ensures) (pre .inside) T R h _ (symbol-named .ensures)
+    _ (c′ .given .1) (sym (same-sort .ensures) ∙ if1 .taken) (if2 .left) _ _ w
+    (put-no _ _ _ _ (put-word .result) (put-word .ensures) ((c .if3) .left))
 
 -- src/patterns.rt:92:1
 returns-5 : tie.Need-returns-5
-returns-5 c = λ T R ins h w. head-wrong-sort ((c .before .before .before .before .before .before .before .before .before .before .before .before .args) .text .now) ((c .before .before .before .before .before .before .before .before .before .before .before .before .args) .start) _ ((c .before .before .before .before .before .before .before .before .before .before .before .before .args) .sort) ((c .before .before .before .before .before .before .before .before .before .before .before .before .args) .arity) ((c .before .before .before .before .before .before .before .before .atom-end) .ensures) ((c .before .before .before .before .before .before .before .before .before .before .before .before .pre) .inside) T R h _ ((c .before .before .before .before .before .before .symbol-named) .ensures) _ ((c .before .before .before .before .c) .given .1) (sym ((c .before .same-sort) .ensures) ∙ (c .if1) .left)
+returns-5 c =
+    let entry = c .before .before .before .before .before .before .before .before .before .before .before .before in
+    let args = entry .args in
+    let atom-end = c .before .before .before .before .before .before .before .before .atom-end in
+    let pre = entry .pre in
+    let symbol-named = c .before .before .before .before .before .before .symbol-named in
+    let c′ = c .before .before .before .before .c in
+    let same-sort = c .before .same-sort in
+    λ T R ins h w.
+    head-wrong-sort (args .text .now) (args .start) _ (args .sort) (args .arity) (atom-end .ensures) (pre .inside) T R h _
+    (symbol-named .ensures) _ (c′ .given .1) (sym (same-sort .ensures) ∙ (c .if1) .left)
 
 pub constructor-spec : {M : Type 1} → statement M
 constructor-spec =

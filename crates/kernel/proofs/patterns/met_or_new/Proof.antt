@@ -36,15 +36,31 @@ enum-known-i c = search needs
 
 -- src/patterns.rt:52:28
 mul-had : tie.Need-mul-had
-mul-had c = omega (arith, var-place ((c .before .before .before .before .before .before .before .before .pre) .held) _ (var-inside ((c .before .before .before .before .before .before .before .before .pre) .held) _ _ _ ((c .before .before .before .named) .ensures) ((c .before .i) .given .1)), (c .before .before .before .before .before .before .before .before .good))
+mul-had c =
+    let entry = c .before .before .before .before .before .before .before .before in
+    let pre = entry .pre in
+    let named = c .before .before .before .named in
+    let i = c .before .i in
+    let good = entry .good in
+    omega (arith, var-place (pre .held) _ (var-inside (pre .held) _ _ _ (named .ensures) (i .given .1)), good)
 
 -- src/patterns.rt:52:23
 mul-had-2 : tie.Need-mul-had-2
-mul-had-2 c = omega (arith, var-place ((c .before .before .before .before .before .before .before .before .pre) .held) _ (var-inside ((c .before .before .before .before .before .before .before .before .pre) .held) _ _ _ ((c .before .before .before .named) .ensures) ((c .before .i) .given .1)), (c .before .before .before .before .before .before .before .before .good))
+mul-had-2 c =
+    let entry = c .before .before .before .before .before .before .before .before in
+    let pre = entry .pre in
+    let named = c .before .before .before .named in
+    let i = c .before .i in
+    let good = entry .good in
+    omega (arith, var-place (pre .held) _ (var-inside (pre .held) _ _ _ (named .ensures) (i .given .1)), good)
 
 -- src/patterns.rt:52:23
 slice-read-had : tie.Need-slice-read-had
-slice-read-had c = var-place ((c .before .before .before .before .before .before .before .before .before .pre) .held) _ (var-inside ((c .before .before .before .before .before .before .before .before .before .pre) .held) _ _ _ ((c .before .before .before .before .named) .ensures) ((c .before .before .i) .given .1))
+slice-read-had c =
+    let pre = c .before .before .before .before .before .before .before .before .before .pre in
+    let named = c .before .before .before .before .named in
+    let i = c .before .before .i in
+    var-place (pre .held) _ (var-inside (pre .held) _ _ _ (named .ensures) (i .given .1))
 
 -- src/patterns.rt:52:23
 cast-had : tie.Need-cast-had
@@ -60,7 +76,12 @@ same-length c = search needs
 
 -- src/patterns.rt:54:17
 returns : tie.Need-returns
-returns c = λ R n h k. met-again ((c .before .before .before .before .before .before .before .before .before .before .before .args) .sort) R n h k _ ((c .before .before .before .before .before .before .named) .ensures) _ ((c .before .before .before .before .i) .given .1) (sym ((c .before .same-sort) .ensures) ∙ (c .if1) .taken)
+returns c =
+    let args = c .before .before .before .before .before .before .before .before .before .before .before .args in
+    let named = c .before .before .before .before .before .before .named in
+    let i = c .before .before .before .before .i in
+    let same-sort = c .before .same-sort in
+    λ R n h k. met-again (args .sort) R n h k _ (named .ensures) _ (i .given .1) (sym (same-sort .ensures) ∙ (c .if1) .taken)
 
 -- src/patterns.rt:59:16
 enum-told : tie.Need-enum-told
@@ -108,15 +129,29 @@ same-length-3 c = search needs
 
 -- src/patterns.rt:45:1
 returns-3 : tie.Need-returns-3
-returns-3 c = λ R n h k. met-wrongly ((c .before .before .before .before .before .before .before .before .before .before .before .args) .sort) R n h k _ ((c .before .before .before .before .before .before .named) .ensures) _ ((c .before .before .before .before .i) .given .1) (sym ((c .before .same-sort) .ensures) ∙ (c .if1) .left)
+returns-3 c =
+    let args = c .before .before .before .before .before .before .before .before .before .before .before .args in
+    let named = c .before .before .before .before .before .before .named in
+    let i = c .before .before .before .before .i in
+    let same-sort = c .before .same-sort in
+    λ R n h k. met-wrongly (args .sort) R n h k _ (named .ensures) _ (i .given .1) (sym (same-sort .ensures) ∙ (c .if1) .left)
 
 -- src/patterns.rt:45:1
 same-length-4 : tie.Need-same-length-4
-same-length-4 c = ((c .before .before .put-name) .kept .0) ∙ length-set ((c .before .before .before .before .before .before .before .before .before .before .before .before .args) .vars .now) (3 * (c .before .before .before .before .before .before .before .before .before .before .before .before .args) .count) ((c .before .before .before .before .before .before .before .before .before .before .before .before .args) .sort)
+same-length-4 c =
+    let put-name = c .before .before .put-name in
+    let args = c .before .before .before .before .before .before .before .before .before .before .before .before .args in
+    (put-name .kept .0) ∙ length-set (args .vars .now) (3 * args .count) (args .sort)
 
 -- src/patterns.rt:45:1
 returns-4 : tie.Need-returns-4
-returns-4 c = λ R n h k. rw ((c .before .before .put-name) .ensures) (met-new ((c .before .before .before .before .before .before .before .before .before .before .before .before .args) .sort) R n h k _ ((c .before .before .before .before .before .before .before .named) .ensures) ((c .before .before .before .before .before .enum-told) .given .1) ((c .before .before .before .before .if2) .left))
+returns-4 c =
+    let put-name = c .before .before .put-name in
+    let args = c .before .before .before .before .before .before .before .before .before .before .before .before .args in
+    let named = c .before .before .before .before .before .before .before .named in
+    let enum-told = c .before .before .before .before .before .enum-told in
+    let if2 = c .before .before .before .before .if2 in
+    λ R n h k. rw (put-name .ensures) (met-new (args .sort) R n h k _ (named .ensures) (enum-told .given .1) (if2 .left))
 
 pub met-or-new-spec : {M : Type 1} → statement M
 met-or-new-spec =

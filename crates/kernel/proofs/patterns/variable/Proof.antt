@@ -40,15 +40,56 @@ same-length c = search needs
 
 -- src/patterns.rt:83:9
 returns-2 : tie.Need-returns-2
-returns-2 c = λ R h. variable-unmet ((c .before .before .before .before .before .before .before .before .before .before .before .args) .text .now) ((c .before .before .before .before .before .before .before .before .before .before .before .args) .start) _ ((c .before .before .before .before .before .before .before .before .before .before .before .args) .sort) ((c .before .before .before .before .before .before .before .atom-end) .ensures) R ((c .before .before .before .before .before .before .if1) .left) _ _ _ ((c .before .before .before .before .met-or-new) .result) ((c .before .before .before .before .met-or-new) .ensures R _ (h .held) (atom-spans _ _ _ ((c .before .before .before .before .before .before .before .before .before .before .before .pre) .inside) ((c .before .before .before .before .before .before .before .atom-end) .ensures))) ((c .enum-told) .given .1)
+returns-2 c =
+    let entry = c .before .before .before .before .before .before .before .before .before .before .before in
+    let args = entry .args in
+    let atom-end = c .before .before .before .before .before .before .before .atom-end in
+    let if1 = c .before .before .before .before .before .before .if1 in
+    let met-or-new = c .before .before .before .before .met-or-new in
+    let pre = entry .pre in
+    λ R h.
+    variable-unmet (args .text .now) (args .start) _ (args .sort) (atom-end .ensures) R (if1 .left) _ _ _ (met-or-new .result)
+    (met-or-new .ensures R _ (h .held) (atom-spans _ _ _ (pre .inside) (atom-end .ensures))) ((c .enum-told) .given .1)
 
 -- src/patterns.rt:85:33
 add-put-word : tie.Need-add-put-word
-add-put-word c = omega (arith, (met ((c .before .before .before .before .before .before .before .before .before .before .before .before .before .args) .text .now) ((c .before .before .before .before .before .before .before .before .before .before .before .before .before .args) .start) _ ((c .before .before .before .before .before .before .before .before .before .before .before .before .before .args) .sort) ((c .before .before .before .before .before .before .before .before .before .atom-end) .ensures) (record { vars = (c .before .before .before .before .before .before .before .before .before .before .before .before .before .pre) .vs; words = 0 }) ((c .before .before .before .before .before .before .before .before .if1) .left) _ ((c .before .before .before .before .before .before .met-or-new) .result) ((c .before .before .before .before .before .before .met-or-new) .ensures (record { vars = (c .before .before .before .before .before .before .before .before .before .before .before .before .before .pre) .vs; words = 0 }) _ ((c .before .before .before .before .before .before .before .before .before .before .before .before .before .pre) .held) (atom-spans _ _ _ ((c .before .before .before .before .before .before .before .before .before .before .before .before .before .pre) .inside) ((c .before .before .before .before .before .before .before .before .before .atom-end) .ensures))) ((c .before .before .m) .given .1) .small))
+add-put-word c =
+    let entry = c .before .before .before .before .before .before .before .before .before .before .before .before .before in
+    let args = entry .args in
+    let atom-end = c .before .before .before .before .before .before .before .before .before .atom-end in
+    let pre = entry .pre in
+    let if1 = c .before .before .before .before .before .before .before .before .if1 in
+    let met-or-new = c .before .before .before .before .before .before .met-or-new in
+    let m = c .before .before .m in
+    omega (
+      arith,
+      (met (args .text .now) (args .start) _ (args .sort) (atom-end .ensures) (record { vars = pre .vs; words = 0 }) (if1 .left) _
+          (met-or-new .result)
+          (met-or-new .ensures (record { vars = pre .vs; words = 0 }) _ (pre .held) (atom-spans _ _ _ (pre .inside) (atom-end .ensures)))
+          (m .given .1) .small),
+    )
 
 -- src/patterns.rt:85:8
 put-word-requires : tie.Need-put-word-requires
-put-word-requires c κs = record { long = (c .before .before .before .before .before .before .before .before .before .before .before .before .before .pre) .long; small = omega (arith, (met ((c .before .before .before .before .before .before .before .before .before .before .before .before .before .args) .text .now) ((c .before .before .before .before .before .before .before .before .before .before .before .before .before .args) .start) _ ((c .before .before .before .before .before .before .before .before .before .before .before .before .before .args) .sort) ((c .before .before .before .before .before .before .before .before .before .atom-end) .ensures) (record { vars = (c .before .before .before .before .before .before .before .before .before .before .before .before .before .pre) .vs; words = 0 }) ((c .before .before .before .before .before .before .before .before .if1) .left) _ ((c .before .before .before .before .before .before .met-or-new) .result) ((c .before .before .before .before .before .before .met-or-new) .ensures (record { vars = (c .before .before .before .before .before .before .before .before .before .before .before .before .before .pre) .vs; words = 0 }) _ ((c .before .before .before .before .before .before .before .before .before .before .before .before .before .pre) .held) (atom-spans _ _ _ ((c .before .before .before .before .before .before .before .before .before .before .before .before .before .pre) .inside) ((c .before .before .before .before .before .before .before .before .before .atom-end) .ensures))) ((c .before .before .m) .given .1) .small)) }
+put-word-requires c κs =
+    let entry = c .before .before .before .before .before .before .before .before .before .before .before .before .before in
+    let pre = entry .pre in
+    let args = entry .args in
+    let atom-end = c .before .before .before .before .before .before .before .before .before .atom-end in
+    let if1 = c .before .before .before .before .before .before .before .before .if1 in
+    let met-or-new = c .before .before .before .before .before .before .met-or-new in
+    let m = c .before .before .m in
+    record {
+      long = pre .long;
+      small =
+          omega (
+            arith,
+            (met (args .text .now) (args .start) _ (args .sort) (atom-end .ensures) (record { vars = pre .vs; words = 0 }) (if1 .left) _
+                (met-or-new .result)
+                (met-or-new .ensures (record { vars = pre .vs; words = 0 }) _ (pre .held)
+                (atom-spans _ _ _ (pre .inside) (atom-end .ensures))) (m .given .1) .small),
+          );
+    }
 
 -- src/patterns.rt:86:30
 add-t19 : tie.Need-add-t19
@@ -64,7 +105,19 @@ same-length-3 c = search needs
 
 -- src/patterns.rt:86:9
 returns-3 : tie.Need-returns-3
-returns-3 c = λ R h. variable-written ((c .before .before .before .before .before .before .before .before .before .before .before .before .before .before .before .before .before .args) .text .now) ((c .before .before .before .before .before .before .before .before .before .before .before .before .before .before .before .before .before .args) .start) _ ((c .before .before .before .before .before .before .before .before .before .before .before .before .before .before .before .before .before .args) .sort) ((c .before .before .before .before .before .before .before .before .before .before .before .before .before .atom-end) .ensures) R ((c .before .before .before .before .before .before .before .before .before .before .before .before .if1) .left) _ ((c .before .before .before .before .before .before .before .before .before .before .met-or-new) .result) ((c .before .before .before .before .before .before .before .before .before .before .met-or-new) .ensures R _ (h .held) (atom-spans _ _ _ ((c .before .before .before .before .before .before .before .before .before .before .before .before .before .before .before .before .before .pre) .inside) ((c .before .before .before .before .before .before .before .before .before .before .before .before .before .atom-end) .ensures))) ((c .before .before .before .before .before .before .m) .given .1) _ _ (h .words) ((c .before .before .before .before .before .before .before .before .before .before .before .before .before .before .before .before .before .pre) .long) (put-yes _ _ _ _ ((c .before .before .before .put-word) .result) ((c .before .before .before .put-word) .ensures) ((c .if2) .taken))
+returns-3 c =
+    let entry = c .before .before .before .before .before .before .before .before .before .before .before .before .before .before .before .before .before in
+    let args = entry .args in
+    let atom-end = c .before .before .before .before .before .before .before .before .before .before .before .before .before .atom-end in
+    let if1 = c .before .before .before .before .before .before .before .before .before .before .before .before .if1 in
+    let met-or-new = c .before .before .before .before .before .before .before .before .before .before .met-or-new in
+    let pre = entry .pre in
+    let m = c .before .before .before .before .before .before .m in
+    let put-word = c .before .before .before .put-word in
+    λ R h.
+    variable-written (args .text .now) (args .start) _ (args .sort) (atom-end .ensures) R (if1 .left) _ (met-or-new .result)
+    (met-or-new .ensures R _ (h .held) (atom-spans _ _ _ (pre .inside) (atom-end .ensures))) (m .given .1) _ _ (h .words) (pre .long)
+    (put-yes _ _ _ _ (put-word .result) (put-word .ensures) ((c .if2) .taken))
 
 -- src/patterns.rt:71:1
 same-length-4 : tie.Need-same-length-4
@@ -76,7 +129,19 @@ same-length-5 c = search needs
 
 -- src/patterns.rt:71:1
 returns-4 : tie.Need-returns-4
-returns-4 c = λ R h. variable-full ((c .before .before .before .before .before .before .before .before .before .before .before .before .before .before .before .before .before .args) .text .now) ((c .before .before .before .before .before .before .before .before .before .before .before .before .before .before .before .before .before .args) .start) _ ((c .before .before .before .before .before .before .before .before .before .before .before .before .before .before .before .before .before .args) .sort) ((c .before .before .before .before .before .before .before .before .before .before .before .before .before .atom-end) .ensures) R ((c .before .before .before .before .before .before .before .before .before .before .before .before .if1) .left) _ ((c .before .before .before .before .before .before .before .before .before .before .met-or-new) .result) ((c .before .before .before .before .before .before .before .before .before .before .met-or-new) .ensures R _ (h .held) (atom-spans _ _ _ ((c .before .before .before .before .before .before .before .before .before .before .before .before .before .before .before .before .before .pre) .inside) ((c .before .before .before .before .before .before .before .before .before .before .before .before .before .atom-end) .ensures))) ((c .before .before .before .before .before .before .m) .given .1) _ _ (h .words) (put-no _ _ _ _ ((c .before .before .before .put-word) .result) ((c .before .before .before .put-word) .ensures) ((c .if2) .left))
+returns-4 c =
+    let entry = c .before .before .before .before .before .before .before .before .before .before .before .before .before .before .before .before .before in
+    let args = entry .args in
+    let atom-end = c .before .before .before .before .before .before .before .before .before .before .before .before .before .atom-end in
+    let if1 = c .before .before .before .before .before .before .before .before .before .before .before .before .if1 in
+    let met-or-new = c .before .before .before .before .before .before .before .before .before .before .met-or-new in
+    let pre = entry .pre in
+    let m = c .before .before .before .before .before .before .m in
+    let put-word = c .before .before .before .put-word in
+    λ R h.
+    variable-full (args .text .now) (args .start) _ (args .sort) (atom-end .ensures) R (if1 .left) _ (met-or-new .result)
+    (met-or-new .ensures R _ (h .held) (atom-spans _ _ _ (pre .inside) (atom-end .ensures))) (m .given .1) _ _ (h .words)
+    (put-no _ _ _ _ (put-word .result) (put-word .ensures) ((c .if2) .left))
 
 pub variable-spec : {M : Type 1} → statement M
 variable-spec =

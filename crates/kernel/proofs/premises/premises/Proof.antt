@@ -49,23 +49,56 @@ returns c = λ T R zs h r k. going-atom (((c .before .before .before .before .lo
 
 -- src/premises.rt:42:13
 mul-judgment : tie.Need-mul-judgment Inv-loop μ-loop
-mul-judgment c = omega (arith, (next-here ((c .before .before .before .before .before .loop) .inv) ((c .before .before .before .before .before .before .before .before .before .before .before .before .pre)) ((c .before .before .before .before .loop-test) .taken) ((c .before .before .before .item-at) .ensures) ((c .before .a) .given .1)) .low, (next-here ((c .before .before .before .before .before .loop) .inv) ((c .before .before .before .before .before .before .before .before .before .before .before .before .pre)) ((c .before .before .before .before .loop-test) .taken) ((c .before .before .before .item-at) .ensures) ((c .before .a) .given .1)) .high, (c .before .before .before .before .before .before .before .before .before .before .before .before .good))
+mul-judgment c =
+    let loop = c .before .before .before .before .before .loop in
+    let entry = c .before .before .before .before .before .before .before .before .before .before .before .before in
+    let pre = entry .pre in
+    let loop-test = c .before .before .before .before .loop-test in
+    let item-at = c .before .before .before .item-at in
+    let a = c .before .a in
+    let good = entry .good in
+    let item = next-here (loop .inv) pre (loop-test .taken) (item-at .ensures) (a .given .1) in
+    omega (arith, item .low, item .high, good)
 
 -- src/premises.rt:42:13
 sub-judgment : tie.Need-sub-judgment Inv-loop μ-loop
-sub-judgment c = (next-here ((c .before .before .before .before .before .loop) .inv) ((c .before .before .before .before .before .before .before .before .before .before .before .before .pre)) ((c .before .before .before .before .loop-test) .taken) ((c .before .before .before .item-at) .ensures) ((c .before .a) .given .1)) .low
+sub-judgment c =
+    let loop = c .before .before .before .before .before .loop in
+    let pre = c .before .before .before .before .before .before .before .before .before .before .before .before .pre in
+    let loop-test = c .before .before .before .before .loop-test in
+    let item-at = c .before .before .before .item-at in
+    let a = c .before .a in
+    (next-here (loop .inv) pre (loop-test .taken) (item-at .ensures) (a .given .1)) .low
 
 -- src/premises.rt:42:13
 part-judgment-start : tie.Need-part-judgment-start Inv-loop μ-loop
-part-judgment-start c = (next-here ((c .before .before .before .before .before .loop) .inv) ((c .before .before .before .before .before .before .before .before .before .before .before .before .pre)) ((c .before .before .before .before .loop-test) .taken) ((c .before .before .before .item-at) .ensures) ((c .before .a) .given .1)) .low
+part-judgment-start c =
+    let loop = c .before .before .before .before .before .loop in
+    let pre = c .before .before .before .before .before .before .before .before .before .before .before .before .pre in
+    let loop-test = c .before .before .before .before .loop-test in
+    let item-at = c .before .before .before .item-at in
+    let a = c .before .a in
+    (next-here (loop .inv) pre (loop-test .taken) (item-at .ensures) (a .given .1)) .low
 
 -- src/premises.rt:42:13
 part-judgment-end : tie.Need-part-judgment-end Inv-loop μ-loop
-part-judgment-end c = (next-here ((c .before .before .before .before .before .loop) .inv) ((c .before .before .before .before .before .before .before .before .before .before .before .before .pre)) ((c .before .before .before .before .loop-test) .taken) ((c .before .before .before .item-at) .ensures) ((c .before .a) .given .1)) .high
+part-judgment-end c =
+    let loop = c .before .before .before .before .before .loop in
+    let pre = c .before .before .before .before .before .before .before .before .before .before .before .before .pre in
+    let loop-test = c .before .before .before .before .loop-test in
+    let item-at = c .before .before .before .item-at in
+    let a = c .before .a in
+    (next-here (loop .inv) pre (loop-test .taken) (item-at .ensures) (a .given .1)) .high
 
 -- src/premises.rt:40:13
 judgment-requires : tie.Need-judgment-requires Inv-loop μ-loop
-judgment-requires c κs = judging ((c .before .before .before .before .before .before .before .before .loop) .inv) ((c .before .before .before .before .before .before .before .before .before .before .before .before .before .before .before .pre)) ((c .before .before .before .before .before .before .before .loop-test) .taken) ((c .before .before .before .before .before .before .item-at) .ensures) ((c .before .before .before .before .a) .given .1)
+judgment-requires c κs =
+    let loop = c .before .before .before .before .before .before .before .before .loop in
+    let pre = c .before .before .before .before .before .before .before .before .before .before .before .before .before .before .before .pre in
+    let loop-test = c .before .before .before .before .before .before .before .loop-test in
+    let item-at = c .before .before .before .before .before .before .item-at in
+    let a = c .before .before .before .before .a in
+    judging (loop .inv) pre (loop-test .taken) (item-at .ensures) (a .given .1)
 
 -- src/premises.rt:51:22
 enum-known-r : tie.Need-enum-known-r Inv-loop μ-loop
@@ -77,23 +110,55 @@ enum-told-2 c = search needs
 
 -- src/premises.rt:52:13
 same-length-3 : tie.Need-same-length-3 Inv-loop μ-loop
-same-length-3 c = (c .before .before .before .before .before .before .judgment) .kept .1 .1 .1 .1 .1 .0 ∙ vars-long ((c .before .before .before .before .before .before .before .before .before .before .before .before .before .before .before .loop) .inv) ((c .before .before .before .before .before .before .before .before .before .before .before .before .before .before .before .before .before .before .before .before .before .before .pre))
+same-length-3 c =
+    let judgment = c .before .before .before .before .before .before .judgment in
+    let loop = c .before .before .before .before .before .before .before .before .before .before .before .before .before .before .before .loop in
+    let pre = c .before .before .before .before .before .before .before .before .before .before .before .before .before .before .before .before .before .before .before .before .before .before .pre in
+    judgment .kept .1 .1 .1 .1 .1 .0 ∙ vars-long (loop .inv) pre
 
 -- src/premises.rt:52:13
 same-length-4 : tie.Need-same-length-4 Inv-loop μ-loop
-same-length-4 c = (c .before .before .before .before .before .before .judgment) .kept .1 .1 .1 .1 .1 .1 .1 .0 ∙ here ((c .before .before .before .before .before .before .before .before .before .before .before .before .before .before .before .loop) .inv) ((c .before .before .before .before .before .before .before .before .before .before .before .before .before .before .before .before .before .before .before .before .before .before .pre)) .long
+same-length-4 c =
+    let judgment = c .before .before .before .before .before .before .judgment in
+    let loop = c .before .before .before .before .before .before .before .before .before .before .before .before .before .before .before .loop in
+    let pre = c .before .before .before .before .before .before .before .before .before .before .before .before .before .before .before .before .before .before .before .before .before .before .pre in
+    judgment .kept .1 .1 .1 .1 .1 .1 .1 .0 ∙ here (loop .inv) pre .long
 
 -- src/premises.rt:52:13
 returns-2 : tie.Need-returns-2 Inv-loop μ-loop
-returns-2 c = running-stops ((c .before .before .before .before .before .before .before .before .before .before .before .before .before .before .before .loop) .inv) ((c .before .before .before .before .before .before .before .before .before .before .before .before .before .before .before .before .before .before .before .before .before .before .pre)) ((c .before .before .before .before .before .before .before .before .before .before .before .before .before .before .loop-test) .taken) ((c .before .before .before .before .before .before .before .before .before .before .before .before .before .item-at) .ensures) ((c .before .before .before .before .before .before .before .before .before .before .before .a) .given .1) ((c .before .before .before .before .before .before .judgment) .last .1 .1 .1 .1 .1 .0) ((c .before .before .before .before .before .before .judgment) .last .1 .1 .1 .1 .1 .1 .1 .0) ((c .before .before .before .before .before .before .judgment) .result) ((c .before .before .before .before .before .before .judgment) .ensures) ((c .enum-told2) .given .1)
+returns-2 c =
+    let loop = c .before .before .before .before .before .before .before .before .before .before .before .before .before .before .before .loop in
+    let pre = c .before .before .before .before .before .before .before .before .before .before .before .before .before .before .before .before .before .before .before .before .before .before .pre in
+    let loop-test = c .before .before .before .before .before .before .before .before .before .before .before .before .before .before .loop-test in
+    let item-at = c .before .before .before .before .before .before .before .before .before .before .before .before .before .item-at in
+    let a = c .before .before .before .before .before .before .before .before .before .before .before .a in
+    let judgment = c .before .before .before .before .before .before .judgment in
+    running-stops (loop .inv) pre (loop-test .taken) (item-at .ensures) (a .given .1) (judgment .last .1 .1 .1 .1 .1 .0)
+    (judgment .last .1 .1 .1 .1 .1 .1 .1 .0) (judgment .result) (judgment .ensures) ((c .enum-told2) .given .1)
 
 -- src/premises.rt:36:5
 loop-less : tie.Need-loop-less Inv-loop μ-loop
-loop-less c = omega (arith, (next-here ((c .before .before .before .before .before .before .before .before .before .before .before .before .before .before .before .before .loop) .inv) ((c .before .before .before .before .before .before .before .before .before .before .before .before .before .before .before .before .before .before .before .before .before .before .before .pre)) ((c .before .before .before .before .before .before .before .before .before .before .before .before .before .before .before .loop-test) .taken) ((c .before .before .before .before .before .before .before .before .before .before .before .before .before .before .item-at) .ensures) ((c .before .before .before .before .before .before .before .before .before .before .before .before .a) .given .1)) .on, (next-here ((c .before .before .before .before .before .before .before .before .before .before .before .before .before .before .before .before .loop) .inv) ((c .before .before .before .before .before .before .before .before .before .before .before .before .before .before .before .before .before .before .before .before .before .before .before .pre)) ((c .before .before .before .before .before .before .before .before .before .before .before .before .before .before .before .loop-test) .taken) ((c .before .before .before .before .before .before .before .before .before .before .before .before .before .before .item-at) .ensures) ((c .before .before .before .before .before .before .before .before .before .before .before .before .a) .given .1)) .high)
+loop-less c =
+    let loop = c .before .before .before .before .before .before .before .before .before .before .before .before .before .before .before .before .loop in
+    let pre = c .before .before .before .before .before .before .before .before .before .before .before .before .before .before .before .before .before .before .before .before .before .before .before .pre in
+    let loop-test = c .before .before .before .before .before .before .before .before .before .before .before .before .before .before .before .loop-test in
+    let item-at = c .before .before .before .before .before .before .before .before .before .before .before .before .before .before .item-at in
+    let a = c .before .before .before .before .before .before .before .before .before .before .before .before .a in
+    let item = next-here (loop .inv) pre (loop-test .taken) (item-at .ensures) (a .given .1) in
+    omega (arith, item .on, item .high)
 
 -- src/premises.rt:36:5
 loop-again : tie.Need-loop-again Inv-loop μ-loop
-loop-again c = running-on ((c .before .before .before .before .before .before .before .before .before .before .before .before .before .before .before .before .loop) .inv) ((c .before .before .before .before .before .before .before .before .before .before .before .before .before .before .before .before .before .before .before .before .before .before .before .pre)) ((c .before .before .before .before .before .before .before .before .before .before .before .before .before .before .before .loop-test) .taken) ((c .before .before .before .before .before .before .before .before .before .before .before .before .before .before .item-at) .ensures) ((c .before .before .before .before .before .before .before .before .before .before .before .before .a) .given .1) ((c .before .before .before .before .before .before .before .judgment) .last .1 .1 .1 .1 .1 .0) ((c .before .before .before .before .before .before .before .judgment) .last .1 .1 .1 .1 .1 .1 .1 .0) ((c .before .before .before .before .before .before .before .judgment) .result) ((c .before .before .before .before .before .before .before .judgment) .ensures) ((c .before .r) .given .1)
+loop-again c =
+    let loop = c .before .before .before .before .before .before .before .before .before .before .before .before .before .before .before .before .loop in
+    let pre = c .before .before .before .before .before .before .before .before .before .before .before .before .before .before .before .before .before .before .before .before .before .before .before .pre in
+    let loop-test = c .before .before .before .before .before .before .before .before .before .before .before .before .before .before .before .loop-test in
+    let item-at = c .before .before .before .before .before .before .before .before .before .before .before .before .before .before .item-at in
+    let a = c .before .before .before .before .before .before .before .before .before .before .before .before .a in
+    let judgment = c .before .before .before .before .before .before .before .judgment in
+    let r = c .before .r in
+    running-on (loop .inv) pre (loop-test .taken) (item-at .ensures) (a .given .1) (judgment .last .1 .1 .1 .1 .1 .0)
+    (judgment .last .1 .1 .1 .1 .1 .1 .1 .0) (judgment .result) (judgment .ensures) (r .given .1)
 
 -- src/premises.rt:17:1
 same-length-5 : tie.Need-same-length-5 Inv-loop μ-loop

@@ -27,7 +27,14 @@ returns c = λ text xs ys k n e. no-atom (nth-atom k 2 ((c .before .before .nth)
 
 -- src/rule.rt:83:18
 mul-count : tie.Need-mul-count
-mul-count c = omega (arith, (list-at ((c .before .before .before .before .before .pre) .1) 2 (omega arith) ((c .before .before .before .nth) .ensures) ((c .before .a) .given .1)) .low, (list-at ((c .before .before .before .before .before .pre) .1) 2 (omega arith) ((c .before .before .before .nth) .ensures) ((c .before .a) .given .1)) .high, (c .before .before .before .before .before .good))
+mul-count c =
+    let entry = c .before .before .before .before .before in
+    let pre = entry .pre in
+    let nth = c .before .before .before .nth in
+    let a = c .before .a in
+    let good = entry .good in
+    let list = list-at (pre .1) 2 (omega arith) (nth .ensures) (a .given .1) in
+    omega (arith, list .low, list .high, good)
 
 -- src/rule.rt:83:18
 sub-count : tie.Need-sub-count
@@ -43,7 +50,12 @@ part-count-end c = (list-at ((c .before .before .before .before .before .pre) .1
 
 -- src/rule.rt:83:5
 count-requires : tie.Need-count-requires
-count-requires c κs = ((list-at ((c .before .before .before .before .before .before .pre) .1) 2 (omega arith) ((c .before .before .before .before .nth) .ensures) ((c .before .before .a) .given .1)) .items, (list-at ((c .before .before .before .before .before .before .pre) .1) 2 (omega arith) ((c .before .before .before .before .nth) .ensures) ((c .before .before .a) .given .1)) .holds .cells)
+count-requires c κs =
+    let pre = c .before .before .before .before .before .before .pre in
+    let nth = c .before .before .before .before .nth in
+    let a = c .before .before .a in
+    let list = list-at (pre .1) 2 (omega arith) (nth .ensures) (a .given .1) in
+    (list .items, list .holds .cells)
 
 -- src/rule.rt:76:1
 returns-2 : tie.Need-returns-2

@@ -32,7 +32,14 @@ returns c = λ T R xs h r k n. schema-atom T R xs (nth-atom k 2 ((c .before .bef
 
 -- src/rule.rt:47:9
 mul-premises : tie.Need-mul-premises
-mul-premises c = omega (arith, (list-at ((c .before .before .before .before .before .before .before .before .before .before .pre) .form) 2 (omega arith) ((c .before .before .before .nth) .ensures) ((c .before .a) .given .1)) .low, (list-at ((c .before .before .before .before .before .before .before .before .before .before .pre) .form) 2 (omega arith) ((c .before .before .before .nth) .ensures) ((c .before .a) .given .1)) .high, (c .before .before .before .before .before .before .before .before .before .before .good))
+mul-premises c =
+    let entry = c .before .before .before .before .before .before .before .before .before .before in
+    let pre = entry .pre in
+    let nth = c .before .before .before .nth in
+    let a = c .before .a in
+    let good = entry .good in
+    let list = list-at (pre .form) 2 (omega arith) (nth .ensures) (a .given .1) in
+    omega (arith, list .low, list .high, good)
 
 -- src/rule.rt:47:9
 sub-premises : tie.Need-sub-premises
@@ -48,7 +55,13 @@ part-premises-end c = (list-at ((c .before .before .before .before .before .befo
 
 -- src/rule.rt:45:9
 premises-requires : tie.Need-premises-requires
-premises-requires c κs = premising ((c .before .before .before .before .before .before .before .before .before .before .before .before .before .args) .patterns .now) ((c .before .before .before .before .before .before .before .before .before .before .before .before .before .pre)) (list-at ((c .before .before .before .before .before .before .before .before .before .before .before .before .before .pre) .form) 2 (omega arith) ((c .before .before .before .before .before .before .nth) .ensures) ((c .before .before .before .before .a) .given .1))
+premises-requires c κs =
+    let entry = c .before .before .before .before .before .before .before .before .before .before .before .before .before in
+    let args = entry .args in
+    let pre = entry .pre in
+    let nth = c .before .before .before .before .before .before .nth in
+    let a = c .before .before .before .before .a in
+    premising (args .patterns .now) pre (list-at (pre .form) 2 (omega arith) (nth .ensures) (a .given .1))
 
 -- src/rule.rt:56:18
 enum-known-r : tie.Need-enum-known-r
@@ -68,11 +81,21 @@ same-length-2 c = (c .before .before .before .before .before .before .premises) 
 
 -- src/rule.rt:57:9
 returns-2 : tie.Need-returns-2
-returns-2 c = λ T R xs h r k n. schema-stops T R xs (nth-list k 2 ((c .before .before .before .before .before .before .before .before .before .before .before .before .before .nth) .ensures xs (k .cells)) (omega (arith, n)) ((c .before .before .before .before .before .before .before .before .before .before .before .a) .given .1)) ((c .before .before .before .before .before .before .before .before .before .before .before .before .before .before .before .before .before .before .before .before .args) .used) ((c .before .before .before .before .before .before .before .before .before .before .before .before .before .before .before .before .before .before .before .before .args) .patterns .now) ((c .before .before .before .before .before .before .premises) .last .1 .1 .1 .1 .1 .0) ((c .before .before .before .before .before .before .premises) .last .1 .1 .1 .1 .1 .1 .1 .0) ((c .before .before .before .before .before .before .premises) .result) ((c .before .before .before .before .before .before .premises) .ensures T R _ h r ((nth-list k 2 ((c .before .before .before .before .before .before .before .before .before .before .before .before .before .nth) .ensures xs (k .cells)) (omega (arith, n)) ((c .before .before .before .before .before .before .before .before .before .before .before .a) .given .1)) .holds)) ((c .enum-told2) .given .1)
+returns-2 c =
+    let nth = c .before .before .before .before .before .before .before .before .before .before .before .before .before .nth in
+    let a = c .before .before .before .before .before .before .before .before .before .before .before .a in
+    let args = c .before .before .before .before .before .before .before .before .before .before .before .before .before .before .before .before .before .before .before .before .args in
+    let premises = c .before .before .before .before .before .before .premises in
+    λ T R xs h r k n.
+    let list = nth-list k 2 (nth .ensures xs (k .cells)) (omega (arith, n)) (a .given .1) in
+    schema-stops T R xs list (args .used) (args .patterns .now) (premises .last .1 .1 .1 .1 .1 .0) (premises .last .1 .1 .1 .1 .1 .1 .1 .0)
+    (premises .result) (premises .ensures T R _ h r (list .holds)) ((c .enum-told2) .given .1)
 
 -- src/rule.rt:59:28
 nth-requires-2 : tie.Need-nth-requires-2
-nth-requires-2 c κs = ((c .before .before .before .before .before .before .before .before .before .before .before .before .before .before .before .before .before .before .before .before .before .pre) .form .xs, (c .before .before .before .before .before .before .before .before .before .before .before .before .before .before .before .before .before .before .before .before .before .pre) .form .holds .cells, omega (arith, (c .before .before .before .before .before .before .before .before .before .before .before .before .before .before .before .before .before .before .before .before .before .pre) .form .many))
+nth-requires-2 c κs =
+    let pre = c .before .before .before .before .before .before .before .before .before .before .before .before .before .before .before .before .before .before .before .before .before .pre in
+    (pre .form .xs, pre .form .holds .cells, omega (arith, pre .form .many))
 
 -- src/rule.rt:59:20
 enum-known-a-2 : tie.Need-enum-known-a-2
@@ -92,27 +115,77 @@ same-length-4 c = (c .before .before .before .before .before .before .before .be
 
 -- src/rule.rt:60:9
 returns-3 : tie.Need-returns-3
-returns-3 c = λ T R xs h r k n. schema-open T R xs (nth-list k 2 ((c .before .before .before .before .before .before .before .before .before .before .before .before .before .before .before .before .before .nth) .ensures xs (k .cells)) (omega (arith, n)) ((c .before .before .before .before .before .before .before .before .before .before .before .before .before .before .before .a) .given .1)) ((c .before .before .before .before .before .before .before .before .before .before .before .before .before .before .before .before .before .before .before .before .before .before .before .before .args) .used) ((c .before .before .before .before .before .before .before .before .before .before .before .before .before .before .before .before .before .before .before .before .before .before .before .before .args) .patterns .now) (r .room) ((c .before .before .before .before .before .before .before .before .before .before .before .before .before .before .before .before .before .before .before .before .before .before .before .before .pre) .long) (written-of prefixes ((c .before .before .before .before .before .before .before .before .before .before .before .before .before .before .before .before .before .before .before .before .before .before .before .before .args) .text .now) ((c .before .before .before .before .before .before .before .before .before .before .premises) .last .1 .1 .1 .1 .1 .0) ((c .before .before .before .before .before .before .before .before .before .before .before .before .before .before .before .before .before .before .before .before .before .before .before .before .args) .patterns .now) ((c .before .before .before .before .before .before .before .before .before .before .premises) .last .1 .1 .1 .1 .1 .1 .1 .0) ((c .before .before .before .before .before .before .before .before .before .before .before .before .before .before .before .before .before .before .before .before .before .before .before .before .args) .used) (judgments T ((nth-list k 2 ((c .before .before .before .before .before .before .before .before .before .before .before .before .before .before .before .before .before .nth) .ensures xs (k .cells)) (omega (arith, n)) ((c .before .before .before .before .before .before .before .before .before .before .before .before .before .before .before .a) .given .1)) .items) R) ((c .before .before .before .before .before .before .before .before .before .before .premises) .result) ((c .before .before .before .before .before .before .before .before .before .before .premises) .ensures T R _ h r ((nth-list k 2 ((c .before .before .before .before .before .before .before .before .before .before .before .before .before .before .before .before .before .nth) .ensures xs (k .cells)) (omega (arith, n)) ((c .before .before .before .before .before .before .before .before .before .before .before .before .before .before .before .a) .given .1)) .holds)) ((c .before .before .before .before .r) .given .1)) (nth-atom k 3 ((c .before .before .nth2) .ensures xs (k .cells)) ((c .enum-told3) .given .1))
+returns-3 c =
+    let nth = c .before .before .before .before .before .before .before .before .before .before .before .before .before .before .before .before .before .nth in
+    let a = c .before .before .before .before .before .before .before .before .before .before .before .before .before .before .before .a in
+    let entry = c .before .before .before .before .before .before .before .before .before .before .before .before .before .before .before .before .before .before .before .before .before .before .before .before in
+    let args = entry .args in
+    let pre = entry .pre in
+    let premises = c .before .before .before .before .before .before .before .before .before .before .premises in
+    let r′ = c .before .before .before .before .r in
+    let nth2 = c .before .before .nth2 in
+    λ T R xs h r k n.
+    let list = nth-list k 2 (nth .ensures xs (k .cells)) (omega (arith, n)) (a .given .1) in
+    schema-open T R xs list (args .used) (args .patterns .now) (r .room) (pre .long)
+    (written-of prefixes (args .text .now) (premises .last .1 .1 .1 .1 .1 .0) (args .patterns .now)
+    (premises .last .1 .1 .1 .1 .1 .1 .1 .0) (args .used) (judgments T (list .items) R) (premises .result)
+    (premises .ensures T R _ h r (list .holds)) (r′ .given .1))
+    (nth-atom k 3 (nth2 .ensures xs (k .cells)) ((c .enum-told3) .given .1))
 
 -- src/rule.rt:64:9
 mul-judgment : tie.Need-mul-judgment
-mul-judgment c = omega (arith, (list-at ((c .before .before .before .before .before .before .before .before .before .before .before .before .before .before .before .before .before .before .before .before .before .before .before .before .before .pre) .form) 3 (omega arith) ((c .before .before .before .nth2) .ensures) ((c .before .a2) .given .1)) .low, (list-at ((c .before .before .before .before .before .before .before .before .before .before .before .before .before .before .before .before .before .before .before .before .before .before .before .before .before .pre) .form) 3 (omega arith) ((c .before .before .before .nth2) .ensures) ((c .before .a2) .given .1)) .high, (c .before .before .before .before .before .before .before .before .before .before .before .before .before .before .before .before .before .before .before .before .before .before .before .before .before .good))
+mul-judgment c =
+    let entry = c .before .before .before .before .before .before .before .before .before .before .before .before .before .before .before .before .before .before .before .before .before .before .before .before .before in
+    let pre = entry .pre in
+    let nth2 = c .before .before .before .nth2 in
+    let a2 = c .before .a2 in
+    let good = entry .good in
+    let list = list-at (pre .form) 3 (omega arith) (nth2 .ensures) (a2 .given .1) in
+    omega (arith, list .low, list .high, good)
 
 -- src/rule.rt:64:9
 sub-judgment : tie.Need-sub-judgment
-sub-judgment c = (list-at ((c .before .before .before .before .before .before .before .before .before .before .before .before .before .before .before .before .before .before .before .before .before .before .before .before .before .pre) .form) 3 (omega arith) ((c .before .before .before .nth2) .ensures) ((c .before .a2) .given .1)) .low
+sub-judgment c =
+    let pre = c .before .before .before .before .before .before .before .before .before .before .before .before .before .before .before .before .before .before .before .before .before .before .before .before .before .pre in
+    let nth2 = c .before .before .before .nth2 in
+    let a2 = c .before .a2 in
+    (list-at (pre .form) 3 (omega arith) (nth2 .ensures) (a2 .given .1)) .low
 
 -- src/rule.rt:64:9
 part-judgment-start : tie.Need-part-judgment-start
-part-judgment-start c = (list-at ((c .before .before .before .before .before .before .before .before .before .before .before .before .before .before .before .before .before .before .before .before .before .before .before .before .before .pre) .form) 3 (omega arith) ((c .before .before .before .nth2) .ensures) ((c .before .a2) .given .1)) .low
+part-judgment-start c =
+    let pre = c .before .before .before .before .before .before .before .before .before .before .before .before .before .before .before .before .before .before .before .before .before .before .before .before .before .pre in
+    let nth2 = c .before .before .before .nth2 in
+    let a2 = c .before .a2 in
+    (list-at (pre .form) 3 (omega arith) (nth2 .ensures) (a2 .given .1)) .low
 
 -- src/rule.rt:64:9
 part-judgment-end : tie.Need-part-judgment-end
-part-judgment-end c = (list-at ((c .before .before .before .before .before .before .before .before .before .before .before .before .before .before .before .before .before .before .before .before .before .before .before .before .before .pre) .form) 3 (omega arith) ((c .before .before .before .nth2) .ensures) ((c .before .a2) .given .1)) .high
+part-judgment-end c =
+    let pre = c .before .before .before .before .before .before .before .before .before .before .before .before .before .before .before .before .before .before .before .before .before .before .before .before .before .pre in
+    let nth2 = c .before .before .before .nth2 in
+    let a2 = c .before .a2 in
+    (list-at (pre .form) 3 (omega arith) (nth2 .ensures) (a2 .given .1)) .high
 
 -- src/rule.rt:62:5
 judgment-requires : tie.Need-judgment-requires
-judgment-requires c κs = concluding ((c .before .before .before .before .before .before .before .before .before .before .before .before .before .before .before .before .before .before .before .before .before .before .before .before .before .before .before .before .args) .patterns .now) ((c .before .before .before .before .before .before .before .before .before .before .before .before .before .before .before .before .before .before .before .before .before .before .before .before .before .before .before .before .pre)) (list-at ((c .before .before .before .before .before .before .before .before .before .before .before .before .before .before .before .before .before .before .before .before .before .before .before .before .before .before .before .before .pre) .form) 3 (omega arith) ((c .before .before .before .before .before .before .nth2) .ensures) ((c .before .before .before .before .a2) .given .1)) (written-of prefixes ((c .before .before .before .before .before .before .before .before .before .before .before .before .before .before .before .before .before .before .before .before .before .before .before .before .before .before .before .before .args) .text .now) ((c .before .before .before .before .before .before .before .before .before .before .before .before .before .before .premises) .last .1 .1 .1 .1 .1 .0) ((c .before .before .before .before .before .before .before .before .before .before .before .before .before .before .before .before .before .before .before .before .before .before .before .before .before .before .before .before .args) .patterns .now) ((c .before .before .before .before .before .before .before .before .before .before .before .before .before .before .premises) .last .1 .1 .1 .1 .1 .1 .1 .0) ((c .before .before .before .before .before .before .before .before .before .before .before .before .before .before .before .before .before .before .before .before .before .before .before .before .before .before .before .before .args) .used) (judgments (symbolic ((c .before .before .before .before .before .before .before .before .before .before .before .before .before .before .before .before .before .before .before .before .before .before .before .before .before .before .before .before .pre) .held .0)) ((list-at ((c .before .before .before .before .before .before .before .before .before .before .before .before .before .before .before .before .before .before .before .before .before .before .before .before .before .before .before .before .pre) .form) 2 (omega arith) ((c .before .before .before .before .before .before .before .before .before .before .before .before .before .before .before .before .before .before .before .before .before .nth) .ensures) ((c .before .before .before .before .before .before .before .before .before .before .before .before .before .before .before .before .before .before .before .a) .given .1)) .items) ((c .before .before .before .before .before .before .before .before .before .before .before .before .before .before .before .before .before .before .before .before .before .before .before .before .before .before .before .before .pre) .so-far)) ((c .before .before .before .before .before .before .before .before .before .before .before .before .before .before .premises) .result) ((c .before .before .before .before .before .before .before .before .before .before .before .before .before .before .premises) .ensures (symbolic ((c .before .before .before .before .before .before .before .before .before .before .before .before .before .before .before .before .before .before .before .before .before .before .before .before .before .before .before .before .pre) .held .0)) ((c .before .before .before .before .before .before .before .before .before .before .before .before .before .before .before .before .before .before .before .before .before .before .before .before .before .before .before .before .pre) .so-far) _ ((c .before .before .before .before .before .before .before .before .before .before .before .before .before .before .before .before .before .before .before .before .before .before .before .before .before .before .before .before .pre) .held .1) ((c .before .before .before .before .before .before .before .before .before .before .before .before .before .before .before .before .before .before .before .before .before .before .before .before .before .before .before .before .pre) .reads) ((list-at ((c .before .before .before .before .before .before .before .before .before .before .before .before .before .before .before .before .before .before .before .before .before .before .before .before .before .before .before .before .pre) .form) 2 (omega arith) ((c .before .before .before .before .before .before .before .before .before .before .before .before .before .before .before .before .before .before .before .before .before .nth) .ensures) ((c .before .before .before .before .before .before .before .before .before .before .before .before .before .before .before .before .before .before .before .a) .given .1)) .holds)) ((c .before .before .before .before .before .before .before .before .r) .given .1))
+judgment-requires c κs =
+    let mid = c .before .before .before .before .before .before .before .before .before .before .before .before .before .before .before .before .before .before .before .before .before .before .before .before .before in
+    let entry = mid .before .before .before in
+    let args = entry .args in
+    let pre = entry .pre in
+    let nth2 = c .before .before .before .before .before .before .nth2 in
+    let a2 = c .before .before .before .before .a2 in
+    let premises = c .before .before .before .before .before .before .before .before .before .before .before .before .before .before .premises in
+    let nth = c .before .before .before .before .before .before .before .before .before .before .before .before .before .before .before .before .before .before .before .before .before .nth in
+    let a = c .before .before .before .before .before .before .before .before .before .before .before .before .before .before .before .before .before .before .before .a in
+    let r = c .before .before .before .before .before .before .before .before .r in
+    let list = list-at (pre .form) 2 (omega arith) (nth .ensures) (a .given .1) in
+    concluding (args .patterns .now) pre (list-at (pre .form) 3 (omega arith) (nth2 .ensures) (a2 .given .1))
+    (written-of prefixes (args .text .now) (premises .last .1 .1 .1 .1 .1 .0) (args .patterns .now)
+    (premises .last .1 .1 .1 .1 .1 .1 .1 .0) (args .used) (judgments (symbolic (pre .held .0)) (list .items) (pre .so-far))
+    (premises .result) (premises .ensures (symbolic (pre .held .0)) (pre .so-far) _ (pre .held .1) (pre .reads) (list .holds))
+    (r .given .1))
 
 -- src/rule.rt:27:1
 same-length-5 : tie.Need-same-length-5
@@ -124,7 +197,27 @@ same-length-6 c = (c .before .before .before .before .judgment) .kept .1 .1 .1 .
 
 -- src/rule.rt:27:1
 returns-4 : tie.Need-returns-4
-returns-4 c = λ T R xs h r k n. schema-read T R xs (nth-list k 2 ((c .before .before .before .before .before .before .before .before .before .before .before .before .before .before .before .before .before .before .before .before .before .before .before .before .before .before .nth) .ensures xs (k .cells)) (omega (arith, n)) ((c .before .before .before .before .before .before .before .before .before .before .before .before .before .before .before .before .before .before .before .before .before .before .before .before .a) .given .1)) ((c .before .before .before .before .before .before .before .before .before .before .before .before .before .before .before .before .before .before .before .before .before .before .before .before .before .before .before .before .before .before .before .before .before .args) .used) ((c .before .before .before .before .before .before .before .before .before .before .before .before .before .before .before .before .before .before .before .before .before .before .before .before .before .before .before .before .before .before .before .before .before .args) .patterns .now) (r .room) ((c .before .before .before .before .before .before .before .before .before .before .before .before .before .before .before .before .before .before .before .before .before .before .before .before .before .before .before .before .before .before .before .before .before .pre) .long) (written-of prefixes ((c .before .before .before .before .before .before .before .before .before .before .before .before .before .before .before .before .before .before .before .before .before .before .before .before .before .before .before .before .before .before .before .before .before .args) .text .now) ((c .before .before .before .before .before .before .before .before .before .before .before .before .before .before .before .before .before .before .before .premises) .last .1 .1 .1 .1 .1 .0) ((c .before .before .before .before .before .before .before .before .before .before .before .before .before .before .before .before .before .before .before .before .before .before .before .before .before .before .before .before .before .before .before .before .before .args) .patterns .now) ((c .before .before .before .before .before .before .before .before .before .before .before .before .before .before .before .before .before .before .before .premises) .last .1 .1 .1 .1 .1 .1 .1 .0) ((c .before .before .before .before .before .before .before .before .before .before .before .before .before .before .before .before .before .before .before .before .before .before .before .before .before .before .before .before .before .before .before .before .before .args) .used) (judgments T ((nth-list k 2 ((c .before .before .before .before .before .before .before .before .before .before .before .before .before .before .before .before .before .before .before .before .before .before .before .before .before .before .nth) .ensures xs (k .cells)) (omega (arith, n)) ((c .before .before .before .before .before .before .before .before .before .before .before .before .before .before .before .before .before .before .before .before .before .before .before .before .a) .given .1)) .items) R) ((c .before .before .before .before .before .before .before .before .before .before .before .before .before .before .before .before .before .before .before .premises) .result) ((c .before .before .before .before .before .before .before .before .before .before .before .before .before .before .before .before .before .before .before .premises) .ensures T R _ h r ((nth-list k 2 ((c .before .before .before .before .before .before .before .before .before .before .before .before .before .before .before .before .before .before .before .before .before .before .before .before .before .before .nth) .ensures xs (k .cells)) (omega (arith, n)) ((c .before .before .before .before .before .before .before .before .before .before .before .before .before .before .before .before .before .before .before .before .before .before .before .before .a) .given .1)) .holds)) ((c .before .before .before .before .before .before .before .before .before .before .before .before .before .r) .given .1)) (nth-list k 3 ((c .before .before .before .before .before .before .before .before .before .before .before .nth2) .ensures xs (k .cells)) (omega (arith, n)) ((c .before .before .before .before .before .before .before .before .before .a2) .given .1)) ((c .before .before .before .before .judgment) .last .1 .1 .1 .1 .1 .0) ((c .before .before .before .before .judgment) .last .1 .1 .1 .1 .1 .1 .1 .0) ((c .before .before .before .before .judgment) .result) ((c .before .before .before .before .judgment) .ensures T ((written-of prefixes ((c .before .before .before .before .before .before .before .before .before .before .before .before .before .before .before .before .before .before .before .before .before .before .before .before .before .before .before .before .before .before .before .before .before .args) .text .now) ((c .before .before .before .before .before .before .before .before .before .before .before .before .before .before .before .before .before .before .before .premises) .last .1 .1 .1 .1 .1 .0) ((c .before .before .before .before .before .before .before .before .before .before .before .before .before .before .before .before .before .before .before .before .before .before .before .before .before .before .before .before .before .before .before .before .before .args) .patterns .now) ((c .before .before .before .before .before .before .before .before .before .before .before .before .before .before .before .before .before .before .before .premises) .last .1 .1 .1 .1 .1 .1 .1 .0) ((c .before .before .before .before .before .before .before .before .before .before .before .before .before .before .before .before .before .before .before .before .before .before .before .before .before .before .before .before .before .before .before .before .before .args) .used) (judgments T ((nth-list k 2 ((c .before .before .before .before .before .before .before .before .before .before .before .before .before .before .before .before .before .before .before .before .before .before .before .before .before .before .nth) .ensures xs (k .cells)) (omega (arith, n)) ((c .before .before .before .before .before .before .before .before .before .before .before .before .before .before .before .before .before .before .before .before .before .before .before .before .a) .given .1)) .items) R) ((c .before .before .before .before .before .before .before .before .before .before .before .before .before .before .before .before .before .before .before .premises) .result) ((c .before .before .before .before .before .before .before .before .before .before .before .before .before .before .before .before .before .before .before .premises) .ensures T R _ h r ((nth-list k 2 ((c .before .before .before .before .before .before .before .before .before .before .before .before .before .before .before .before .before .before .before .before .before .before .before .before .before .before .nth) .ensures xs (k .cells)) (omega (arith, n)) ((c .before .before .before .before .before .before .before .before .before .before .before .before .before .before .before .before .before .before .before .before .before .before .before .before .a) .given .1)) .holds)) ((c .before .before .before .before .before .before .before .before .before .before .before .before .before .r) .given .1)) .now) _ h ((written-of prefixes ((c .before .before .before .before .before .before .before .before .before .before .before .before .before .before .before .before .before .before .before .before .before .before .before .before .before .before .before .before .before .before .before .before .before .args) .text .now) ((c .before .before .before .before .before .before .before .before .before .before .before .before .before .before .before .before .before .before .before .premises) .last .1 .1 .1 .1 .1 .0) ((c .before .before .before .before .before .before .before .before .before .before .before .before .before .before .before .before .before .before .before .before .before .before .before .before .before .before .before .before .before .before .before .before .before .args) .patterns .now) ((c .before .before .before .before .before .before .before .before .before .before .before .before .before .before .before .before .before .before .before .premises) .last .1 .1 .1 .1 .1 .1 .1 .0) ((c .before .before .before .before .before .before .before .before .before .before .before .before .before .before .before .before .before .before .before .before .before .before .before .before .before .before .before .before .before .before .before .before .before .args) .used) (judgments T ((nth-list k 2 ((c .before .before .before .before .before .before .before .before .before .before .before .before .before .before .before .before .before .before .before .before .before .before .before .before .before .before .nth) .ensures xs (k .cells)) (omega (arith, n)) ((c .before .before .before .before .before .before .before .before .before .before .before .before .before .before .before .before .before .before .before .before .before .before .before .before .a) .given .1)) .items) R) ((c .before .before .before .before .before .before .before .before .before .before .before .before .before .before .before .before .before .before .before .premises) .result) ((c .before .before .before .before .before .before .before .before .before .before .before .before .before .before .before .before .before .before .before .premises) .ensures T R _ h r ((nth-list k 2 ((c .before .before .before .before .before .before .before .before .before .before .before .before .before .before .before .before .before .before .before .before .before .before .before .before .before .before .nth) .ensures xs (k .cells)) (omega (arith, n)) ((c .before .before .before .before .before .before .before .before .before .before .before .before .before .before .before .before .before .before .before .before .before .before .before .before .a) .given .1)) .holds)) ((c .before .before .before .before .before .before .before .before .before .before .before .before .before .r) .given .1)) .reads) ((nth-list k 3 ((c .before .before .before .before .before .before .before .before .before .before .before .nth2) .ensures xs (k .cells)) (omega (arith, n)) ((c .before .before .before .before .before .before .before .before .before .a2) .given .1)) .holds))
+returns-4 c =
+    let mid = c .before .before .before .before .before .before .before .before .before .before .before .before .before .before .before .before .before .before .before .before .before .before .before .before .before in
+    let nth = mid .before .nth in
+    let a = c .before .before .before .before .before .before .before .before .before .before .before .before .before .before .before .before .before .before .before .before .before .before .before .before .a in
+    let entry = mid .before .before .before .before .before .before .before .before in
+    let args = entry .args in
+    let pre = entry .pre in
+    let premises = c .before .before .before .before .before .before .before .before .before .before .before .before .before .before .before .before .before .before .before .premises in
+    let r′ = c .before .before .before .before .before .before .before .before .before .before .before .before .before .r in
+    let nth2 = c .before .before .before .before .before .before .before .before .before .before .before .nth2 in
+    let a2 = c .before .before .before .before .before .before .before .before .before .a2 in
+    let judgment = c .before .before .before .before .judgment in
+    λ T R xs h r k n.
+    let list = nth-list k 2 (nth .ensures xs (k .cells)) (omega (arith, n)) (a .given .1) in
+    let list′ = nth-list k 3 (nth2 .ensures xs (k .cells)) (omega (arith, n)) (a2 .given .1) in
+    let written =
+    written-of prefixes (args .text .now) (premises .last .1 .1 .1 .1 .1 .0) (args .patterns .now)
+    (premises .last .1 .1 .1 .1 .1 .1 .1 .0) (args .used) (judgments T (list .items) R) (premises .result)
+    (premises .ensures T R _ h r (list .holds)) (r′ .given .1) in
+    schema-read T R xs list (args .used) (args .patterns .now) (r .room) (pre .long) written list′ (judgment .last .1 .1 .1 .1 .1 .0)
+    (judgment .last .1 .1 .1 .1 .1 .1 .1 .0) (judgment .result) (judgment .ensures T (written .now) _ h (written .reads) (list′ .holds))
 
 pub schema-spec : {M : Type 1} → statement M
 schema-spec =

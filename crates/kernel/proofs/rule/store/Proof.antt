@@ -53,7 +53,13 @@ mul-rules-2 c = search needs
 
 -- src/rule.rt:110:5
 slice-write-rules-2 : tie.Need-slice-write-rules-2
-slice-write-rules-2 c = omega (arith, length-set ((c .before .before .put-name) .last .0) (6 * (c .before .before .before .before .before .before .before .before .args) .count + 2) ((c .before .before .before .before .before .before .before .before .args) .variables), (c .before .before .put-name) .kept .0, (c .before .before .before .before .before .before .before .before .pre) .long, (c .before .before .before .before .if1) .left)
+slice-write-rules-2 c =
+    let put-name = c .before .before .put-name in
+    let entry = c .before .before .before .before .before .before .before .before in
+    let args = entry .args in
+    let pre = entry .pre in
+    let if1 = c .before .before .before .before .if1 in
+    omega (arith, length-set (put-name .last .0) (6 * args .count + 2) (args .variables), put-name .kept .0, pre .long, if1 .left)
 
 -- src/rule.rt:111:21
 cast-rules-3 : tie.Need-cast-rules-3
@@ -69,7 +75,20 @@ mul-rules-3 c = search needs
 
 -- src/rule.rt:111:5
 slice-write-rules-3 : tie.Need-slice-write-rules-3
-slice-write-rules-3 c = omega (arith, length-set ((c .before .before .put-name) .last .0) (6 * (c .before .before .before .before .before .before .before .before .args) .count + 2) ((c .before .before .before .before .before .before .before .before .args) .variables), length-set (set ((c .before .before .put-name) .last .0) (6 * (c .before .before .before .before .before .before .before .before .args) .count + 2) ((c .before .before .before .before .before .before .before .before .args) .variables)) (6 * (c .before .before .before .before .before .before .before .before .args) .count + 3) ((c .before .before .before .before .before .before .before .before .args) .premises), (c .before .before .put-name) .kept .0, (c .before .before .before .before .before .before .before .before .pre) .long, (c .before .before .before .before .if1) .left)
+slice-write-rules-3 c =
+    let put-name = c .before .before .put-name in
+    let entry = c .before .before .before .before .before .before .before .before in
+    let args = entry .args in
+    let pre = entry .pre in
+    let if1 = c .before .before .before .before .if1 in
+    omega (
+      arith,
+      length-set (put-name .last .0) (6 * args .count + 2) (args .variables),
+      length-set (set (put-name .last .0) (6 * args .count + 2) (args .variables)) (6 * args .count + 3) (args .premises),
+      put-name .kept .0,
+      pre .long,
+      if1 .left,
+    )
 
 -- src/rule.rt:112:21
 cast-rules-4 : tie.Need-cast-rules-4
@@ -85,7 +104,22 @@ mul-rules-4 c = search needs
 
 -- src/rule.rt:112:5
 slice-write-rules-4 : tie.Need-slice-write-rules-4
-slice-write-rules-4 c = omega (arith, length-set ((c .before .before .put-name) .last .0) (6 * (c .before .before .before .before .before .before .before .before .args) .count + 2) ((c .before .before .before .before .before .before .before .before .args) .variables), length-set (set ((c .before .before .put-name) .last .0) (6 * (c .before .before .before .before .before .before .before .before .args) .count + 2) ((c .before .before .before .before .before .before .before .before .args) .variables)) (6 * (c .before .before .before .before .before .before .before .before .args) .count + 3) ((c .before .before .before .before .before .before .before .before .args) .premises), length-set (set (set ((c .before .before .put-name) .last .0) (6 * (c .before .before .before .before .before .before .before .before .args) .count + 2) ((c .before .before .before .before .before .before .before .before .args) .variables)) (6 * (c .before .before .before .before .before .before .before .before .args) .count + 3) ((c .before .before .before .before .before .before .before .before .args) .premises)) (6 * (c .before .before .before .before .before .before .before .before .args) .count + 4) ((c .before .before .before .before .before .before .before .before .args) .first), (c .before .before .put-name) .kept .0, (c .before .before .before .before .before .before .before .before .pre) .long, (c .before .before .before .before .if1) .left)
+slice-write-rules-4 c =
+    let put-name = c .before .before .put-name in
+    let entry = c .before .before .before .before .before .before .before .before in
+    let args = entry .args in
+    let pre = entry .pre in
+    let if1 = c .before .before .before .before .if1 in
+    let row = set (put-name .last .0) (6 * args .count + 2) (args .variables) in
+    omega (
+      arith,
+      length-set (put-name .last .0) (6 * args .count + 2) (args .variables),
+      length-set row (6 * args .count + 3) (args .premises),
+      length-set (set row (6 * args .count + 3) (args .premises)) (6 * args .count + 4) (args .first),
+      put-name .kept .0,
+      pre .long,
+      if1 .left,
+    )
 
 -- src/rule.rt:113:19
 mul-put-row : tie.Need-mul-put-row
@@ -104,7 +138,16 @@ add-t17 c = search needs
 
 -- src/rule.rt:87:1
 same-length : tie.Need-same-length
-same-length c = length-set (set (set (set ((c .before .before .before .before .before .before .put-name) .last .0) (6 * (c .before .before .before .before .before .before .before .before .before .before .before .before .args) .count + 2) ((c .before .before .before .before .before .before .before .before .before .before .before .before .args) .variables)) (6 * (c .before .before .before .before .before .before .before .before .before .before .before .before .args) .count + 3) ((c .before .before .before .before .before .before .before .before .before .before .before .before .args) .premises)) (6 * (c .before .before .before .before .before .before .before .before .before .before .before .before .args) .count + 4) ((c .before .before .before .before .before .before .before .before .before .before .before .before .args) .first)) (6 * (c .before .before .before .before .before .before .before .before .before .before .before .before .args) .count + 5) ((c .before .before .before .before .before .before .before .before .before .before .before .before .args) .last) ∙ length-set (set (set ((c .before .before .before .before .before .before .put-name) .last .0) (6 * (c .before .before .before .before .before .before .before .before .before .before .before .before .args) .count + 2) ((c .before .before .before .before .before .before .before .before .before .before .before .before .args) .variables)) (6 * (c .before .before .before .before .before .before .before .before .before .before .before .before .args) .count + 3) ((c .before .before .before .before .before .before .before .before .before .before .before .before .args) .premises)) (6 * (c .before .before .before .before .before .before .before .before .before .before .before .before .args) .count + 4) ((c .before .before .before .before .before .before .before .before .before .before .before .before .args) .first) ∙ length-set (set ((c .before .before .before .before .before .before .put-name) .last .0) (6 * (c .before .before .before .before .before .before .before .before .before .before .before .before .args) .count + 2) ((c .before .before .before .before .before .before .before .before .before .before .before .before .args) .variables)) (6 * (c .before .before .before .before .before .before .before .before .before .before .before .before .args) .count + 3) ((c .before .before .before .before .before .before .before .before .before .before .before .before .args) .premises) ∙ length-set ((c .before .before .before .before .before .before .put-name) .last .0) (6 * (c .before .before .before .before .before .before .before .before .before .before .before .before .args) .count + 2) ((c .before .before .before .before .before .before .before .before .before .before .before .before .args) .variables) ∙ (c .before .before .before .before .before .before .put-name) .kept .0
+same-length c =
+    let put-name = c .before .before .before .before .before .before .put-name in
+    let args = c .before .before .before .before .before .before .before .before .before .before .before .before .args in
+    let row = set (put-name .last .0) (6 * args .count + 2) (args .variables) in
+    let row′ = set row (6 * args .count + 3) (args .premises) in
+    length-set (set row′ (6 * args .count + 4) (args .first)) (6 * args .count + 5) (args .last)
+    ∙ length-set row′ (6 * args .count + 4) (args .first)
+    ∙ length-set row (6 * args .count + 3) (args .premises)
+    ∙ length-set (put-name .last .0) (6 * args .count + 2) (args .variables)
+    ∙ put-name .kept .0
 
 -- src/rule.rt:87:1
 same-length-2 : tie.Need-same-length-2
@@ -112,7 +155,11 @@ same-length-2 c = search needs
 
 -- src/rule.rt:87:1
 returns-2 : tie.Need-returns-2
-returns-2 c = λ text patterns rs u h is. ((c .before .before .before .before .before .before .before .before .if1) .left, rw ((c .before .before .before .before .before .before .put-name) .ensures, (c .before .before .put-row) .ensures) (rules-more h is ((c .before .before .before .before .before .before .before .before .if1) .left)))
+returns-2 c =
+    let if1 = c .before .before .before .before .before .before .before .before .if1 in
+    let put-name = c .before .before .before .before .before .before .put-name in
+    let put-row = c .before .before .put-row in
+    λ text patterns rs u h is. (if1 .left, rw (put-name .ensures, put-row .ensures) (rules-more h is (if1 .left)))
 
 pub store-spec : {M : Type 1} → statement M
 store-spec =

@@ -51,7 +51,17 @@ sub-left c = search needs
 
 -- src/rule_readers.rt:96:16
 add-left : tie.Need-add-left Inv-loop μ-loop
-add-left c = omega (arith, passing-next ((c .before .before .before) .loop .inv) ((c .before .before) .loop-test .taken) .few, passing-few ((c .before .before .before) .loop .inv) _ (c .arguments-behind .ensures) ((c .before .before) .loop-test .taken), (c .before .before .before .before .before .before .before .before .before) .good .0)
+add-left c =
+    let at-loop = c .before .before .before in
+    let in-loop = c .before .before in
+    let start = c .before .before .before .before .before .before .before .before .before in
+    omega (
+      arith,
+      passing-next (at-loop .loop .inv) (in-loop .loop-test .taken) .few,
+      passing-few (at-loop .loop .inv) _
+          (c .arguments-behind .ensures) (in-loop .loop-test .taken),
+      start .good .0,
+    )
 
 -- src/rule_readers.rt:97:9
 add-place : tie.Need-add-place Inv-loop μ-loop

@@ -50,7 +50,10 @@ argument-sorts-item-at-requires t c κs = omega (arith, (c .if1) .left)
 
 -- src/signatures.rt:29:24
 argument-sorts-sort-requires : (t : ℕ) → argument-sorts-lts.Need-sort-requires (cs t) (argument-sorts-at t) argument-sorts.Post
-argument-sorts-sort-requires t c κs = (some-first _ ((c .before .before .before .before .before .before .pre) .1 .holds) ((c .before .if1) .left) ((c .item-at) .ensures), ((c .before .before .before .before .before .before .pre) .1 .held .0, sorts-rows ((c .before .before .before .before .before .before .pre) .1 .held .1)))
+argument-sorts-sort-requires t c κs =
+    let pre = c .before .before .before .before .before .before .pre in
+    let if1 = c .before .if1 in
+    (some-first _ (pre .1 .holds) (if1 .left) ((c .item-at) .ensures), (pre .1 .held .0, sorts-rows (pre .1 .held .1)))
 
 -- src/signatures.rt:29:19
 argument-sorts-enum-known-s : (t : ℕ) → argument-sorts-lts.Need-enum-known-s (cs t) (argument-sorts-at t) argument-sorts.Post
@@ -66,11 +69,22 @@ argument-sorts-returns-2 t c = λ T xs h k. arguments-unknown ((c .before .befor
 
 -- src/signatures.rt:33:9
 argument-sorts-returns-3 : (t : ℕ) → argument-sorts-lts.Need-returns-3 (cs t) (argument-sorts-at t) argument-sorts.Post
-argument-sorts-returns-3 t c = λ T xs h k. arguments-full ((c .before .before .before .before .sort) .ensures) (first-item _ k ((c .before .before .before .before .before .before .if1) .left) ((c .before .before .before .before .before .item-at) .ensures)) T _ h _ ((c .before .before .s) .given .1) ((c .if2) .taken)
+argument-sorts-returns-3 t c =
+    let sort = c .before .before .before .before .sort in
+    let if1 = c .before .before .before .before .before .before .if1 in
+    let item-at = c .before .before .before .before .before .item-at in
+    let s = c .before .before .s in
+    λ T xs h k. arguments-full (sort .ensures) (first-item _ k (if1 .left) (item-at .ensures)) T _ h _ (s .given .1) ((c .if2) .taken)
 
 -- src/signatures.rt:35:18
 argument-sorts-cast-row : (t : ℕ) → argument-sorts-lts.Need-cast-row (cs t) (argument-sorts-at t) argument-sorts.Post
-argument-sorts-cast-row t c = omega (arith, first-small ((c .before .before .before .before .sort) .ensures) (first-item _ ((c .before .before .before .before .before .before .before .before .before .before .before .pre) .1 .holds) ((c .before .before .before .before .before .before .if1) .left) ((c .before .before .before .before .before .item-at) .ensures)) _ ((c .before .before .s) .given .1) ((c .before .before .before .before .before .before .before .before .before .before .before .pre) .1 .held))
+argument-sorts-cast-row t c =
+    let sort = c .before .before .before .before .sort in
+    let pre = c .before .before .before .before .before .before .before .before .before .before .before .pre in
+    let if1 = c .before .before .before .before .before .before .if1 in
+    let item-at = c .before .before .before .before .before .item-at in
+    let s = c .before .before .s in
+    omega (arith, first-small (sort .ensures) (first-item _ (pre .1 .holds) (if1 .left) (item-at .ensures)) _ (s .given .1) (pre .1 .held))
 
 -- src/signatures.rt:35:5
 argument-sorts-mul-row : (t : ℕ) → argument-sorts-lts.Need-mul-row (cs t) (argument-sorts-at t) argument-sorts.Post
@@ -86,16 +100,30 @@ argument-sorts-after-requires t c κs = omega (arith, (c .before .before .before
 
 -- src/signatures.rt:37:26
 argument-sorts-mul-argument-sorts : (t : ℕ) → argument-sorts-lts.Need-mul-argument-sorts (cs t) (argument-sorts-at t) argument-sorts.Post
-argument-sorts-mul-argument-sorts t c = omega (arith, first-of _ _ ((c .before .before .before .before .before .before .before .before .before .before .before .before .pre) .1 .holds) ((c .before .before .before .before .before .before .before .if1) .left) ((c .before .before .before .before .before .before .item-at) .ensures) ((c .after) .ensures) .high, (c .before .before .before .before .before .before .before .before .before .before .before .before .good))
+argument-sorts-mul-argument-sorts t c =
+    let entry = c .before .before .before .before .before .before .before .before .before .before .before .before in
+    let pre = entry .pre in
+    let if1 = c .before .before .before .before .before .before .before .if1 in
+    let item-at = c .before .before .before .before .before .before .item-at in
+    let good = entry .good in
+    omega (arith, first-of _ _ (pre .1 .holds) (if1 .left) (item-at .ensures) ((c .after) .ensures) .high, good)
 
 -- src/signatures.rt:37:26
 argument-sorts-sub-argument-sorts : (t : ℕ) → argument-sorts-lts.Need-sub-argument-sorts (cs t) (argument-sorts-at t) argument-sorts.Post
-argument-sorts-sub-argument-sorts t c = first-of _ _ ((c .before .before .before .before .before .before .before .before .before .before .before .before .pre) .1 .holds) ((c .before .before .before .before .before .before .before .if1) .left) ((c .before .before .before .before .before .before .item-at) .ensures) ((c .after) .ensures) .high
+argument-sorts-sub-argument-sorts t c =
+    let pre = c .before .before .before .before .before .before .before .before .before .before .before .before .pre in
+    let if1 = c .before .before .before .before .before .before .before .if1 in
+    let item-at = c .before .before .before .before .before .before .item-at in
+    first-of _ _ (pre .1 .holds) (if1 .left) (item-at .ensures) ((c .after) .ensures) .high
 
 -- src/signatures.rt:37:26
 argument-sorts-part-argument-sorts-start :
     (t : ℕ) → argument-sorts-lts.Need-part-argument-sorts-start (cs t) (argument-sorts-at t) argument-sorts.Post
-argument-sorts-part-argument-sorts-start t c = first-of _ _ ((c .before .before .before .before .before .before .before .before .before .before .before .before .pre) .1 .holds) ((c .before .before .before .before .before .before .before .if1) .left) ((c .before .before .before .before .before .before .item-at) .ensures) ((c .after) .ensures) .high
+argument-sorts-part-argument-sorts-start t c =
+    let pre = c .before .before .before .before .before .before .before .before .before .before .before .before .pre in
+    let if1 = c .before .before .before .before .before .before .before .if1 in
+    let item-at = c .before .before .before .before .before .before .item-at in
+    first-of _ _ (pre .1 .holds) (if1 .left) (item-at .ensures) ((c .after) .ensures) .high
 
 -- src/signatures.rt:37:26
 argument-sorts-part-argument-sorts-end : (t : ℕ) → argument-sorts-lts.Need-part-argument-sorts-end (cs t) (argument-sorts-at t) argument-sorts.Post
@@ -107,15 +135,41 @@ argument-sorts-add-argument-sorts t c = search needs
 
 -- src/signatures.rt:37:5
 argument-sorts-argument-sorts-requires : (t : ℕ) → argument-sorts-lts.Need-argument-sorts-requires (cs t) (argument-sorts-at t) argument-sorts.Post
-argument-sorts-argument-sorts-requires t c κs = (omega (arith, rest-shorter ((c .before .before .before .before .before .before .before .before .before .before .before .before .before .before .args) .cells .now) ((c .before .before .after) .result) (first-of _ _ ((c .before .before .before .before .before .before .before .before .before .before .before .before .before .before .pre) .1 .holds) ((c .before .before .before .before .before .before .before .before .before .if1) .left) ((c .before .before .before .before .before .before .before .before .item-at) .ensures) ((c .before .before .after) .ensures) .on) (first-of _ _ ((c .before .before .before .before .before .before .before .before .before .before .before .before .before .before .pre) .1 .holds) ((c .before .before .before .before .before .before .before .before .before .if1) .left) ((c .before .before .before .before .before .before .before .before .item-at) .ensures) ((c .before .before .after) .ensures) .high), (c .before .before .before .before .before .before .before .before .before .before .before .before .before .before .pre) .0), gathering-next ((c .before .before .before .before .before .before .before .before .before .before .before .before .before .before .args) .row .now) _ (first-of _ _ ((c .before .before .before .before .before .before .before .before .before .before .before .before .before .before .pre) .1 .holds) ((c .before .before .before .before .before .before .before .before .before .if1) .left) ((c .before .before .before .before .before .before .before .before .item-at) .ensures) ((c .before .before .after) .ensures)) ((c .before .before .before .before .before .before .before .before .before .before .before .before .before .before .pre) .1 .held) ((c .before .before .before .before .before .before .before .before .before .before .before .before .before .before .pre) .1 .long) ((c .before .before .before .if2) .left))
+argument-sorts-argument-sorts-requires t c κs =
+    let entry = c .before .before .before .before .before .before .before .before .before .before .before .before .before .before in
+    let args = entry .args in
+    let after = c .before .before .after in
+    let pre = entry .pre in
+    let if1 = c .before .before .before .before .before .before .before .before .before .if1 in
+    let item-at = c .before .before .before .before .before .before .before .before .item-at in
+    let if2 = c .before .before .before .if2 in
+    let first = first-of _ _ (pre .1 .holds) (if1 .left) (item-at .ensures) (after .ensures) in (
+      omega (arith, rest-shorter (args .cells .now) (after .result) (first .on) (first .high), pre .0),
+      gathering-next (args .row .now) _ first (pre .1 .held) (pre .1 .long) (if2 .left),
+    )
 
 -- src/signatures.rt:20:1
 argument-sorts-same-length : (t : ℕ) → argument-sorts-lts.Need-same-length (cs t) (argument-sorts-at t) argument-sorts.Post
-argument-sorts-same-length t c = ((c .before .before .argument-sorts) .kept .1 .1 .1 .1 .0) ∙ length-set ((c .before .before .before .before .before .before .before .before .before .before .before .before .before .before .before .before .before .args) .row .now) ((c .before .before .before .before .before .before .before .before .before .before .before .before .before .before .before .before .before .args) .count) _
+argument-sorts-same-length t c =
+    let argument-sorts = c .before .before .argument-sorts in
+    let args = c .before .before .before .before .before .before .before .before .before .before .before .before .before .before .before .before .before .args in
+    (argument-sorts .kept .1 .1 .1 .1 .0) ∙ length-set (args .row .now) (args .count) _
 
 -- src/signatures.rt:20:1
 argument-sorts-returns-4 : (t : ℕ) → argument-sorts-lts.Need-returns-4 (cs t) (argument-sorts-at t) argument-sorts.Post
-argument-sorts-returns-4 t c = λ T xs h k. arguments-more ((c .before .before .before .before .before .before .before .before .before .before .sort) .ensures) (first-of _ _ k ((c .before .before .before .before .before .before .before .before .before .before .before .before .if1) .left) ((c .before .before .before .before .before .before .before .before .before .before .before .item-at) .ensures) ((c .before .before .before .before .before .after) .ensures)) T _ h _ ((c .before .before .before .before .before .before .before .before .s) .given .1) ((c .before .before .before .before .before .before .before .before .before .before .before .before .before .before .before .before .before .args) .row .now) ((c .before .before .argument-sorts) .last .1 .1 .1 .1 .0) ((c .before .before .argument-sorts) .result) ((c .before .before .before .before .before .before .if2) .left) ((c .before .before .argument-sorts) .ensures T _ h (first-of _ _ k ((c .before .before .before .before .before .before .before .before .before .before .before .before .if1) .left) ((c .before .before .before .before .before .before .before .before .before .before .before .item-at) .ensures) ((c .before .before .before .before .before .after) .ensures) .rest))
+argument-sorts-returns-4 t c =
+    let sort = c .before .before .before .before .before .before .before .before .before .before .sort in
+    let if1 = c .before .before .before .before .before .before .before .before .before .before .before .before .if1 in
+    let item-at = c .before .before .before .before .before .before .before .before .before .before .before .item-at in
+    let after = c .before .before .before .before .before .after in
+    let s = c .before .before .before .before .before .before .before .before .s in
+    let args = c .before .before .before .before .before .before .before .before .before .before .before .before .before .before .before .before .before .args in
+    let argument-sorts = c .before .before .argument-sorts in
+    let if2 = c .before .before .before .before .before .before .if2 in
+    λ T xs h k.
+    let first = first-of _ _ k (if1 .left) (item-at .ensures) (after .ensures) in
+    arguments-more (sort .ensures) first T _ h _ (s .given .1) (args .row .now) (argument-sorts .last .1 .1 .1 .1 .0)
+    (argument-sorts .result) (if2 .left) (argument-sorts .ensures T _ h (first .rest))
 
 pub +argument-sorts-spec : {M : Type 1} → statement M
 +argument-sorts-spec = close μ-argument-sorts λ t. argument-sorts-lts.spec (cs t)

@@ -55,15 +55,27 @@ enum-told-2 c = search needs
 
 -- src/signatures.rt:99:9
 returns-2 : tie.Need-returns-2
-returns-2 c = λ T xs h s k n. ctor-stops T xs (proper-here 1 xs ((c .before .before .before .before .before .before .before .before .proper-at) .ensures) ((c .before .before .before .before .before .before .start) .given .1) k) (refused-of _ ((c .before .before .before .arguments-at) .last .1 .1 .1 .1 .0) _ ((c .before .before .before .arguments-at) .result) ((c .before .before .before .arguments-at) .ensures T xs h k (omega (arith, n))) ((c .enum-told2) .given .1)) _ _ ((c .before .before .before .arguments-at) .result) ((c .enum-told2) .given .1)
+returns-2 c =
+    let proper-at = c .before .before .before .before .before .before .before .before .proper-at in
+    let start = c .before .before .before .before .before .before .start in
+    let arguments-at = c .before .before .before .arguments-at in
+    λ T xs h s k n. ctor-stops T xs (proper-here 1 xs (proper-at .ensures) (start .given .1) k)
+    (refused-of _ (arguments-at .last .1 .1 .1 .1 .0) _ (arguments-at .result) (arguments-at .ensures T xs h k (omega (arith, n)))
+    ((c .enum-told2) .given .1)) _ _ (arguments-at .result) ((c .enum-told2) .given .1)
 
 -- src/signatures.rt:101:9
 nth-requires : tie.Need-nth-requires
-nth-requires c κs = ((c .before .before .before .before .before .before .before .before .before .before .before .before .before .before .before .pre) .0 .xs, (c .before .before .before .before .before .before .before .before .before .before .before .before .before .before .before .pre) .0 .holds .cells, omega (arith, (c .before .before .before .before .before .before .before .before .before .before .before .before .before .before .before .pre) .0 .many))
+nth-requires c κs =
+    let pre = c .before .before .before .before .before .before .before .before .before .before .before .before .before .before .before .pre in
+    (pre .0 .xs, pre .0 .holds .cells, omega (arith, pre .0 .many))
 
 -- src/signatures.rt:102:29
 sort-requires : tie.Need-sort-requires
-sort-requires c κs = ((item ((c .before .before .before .before .before .before .before .before .before .before .before .before .before .before .before .before .pre) .0 .xs) 3, place ((c .before .before .before .before .before .before .before .before .before .before .before .before .before .before .before .before .pre) .0 .xs) 3, (c .nth) .ensures ((c .before .before .before .before .before .before .before .before .before .before .before .before .before .before .before .before .pre) .0 .xs) ((c .before .before .before .before .before .before .before .before .before .before .before .before .before .before .before .before .pre) .0 .holds .cells), spells-item ((c .before .before .before .before .before .before .before .before .before .before .before .before .before .before .before .before .pre) .0 .holds) 3), ((c .before .before .before .before .before .before .before .before .before .before .before .before .before .before .before .before .pre) .1 .0 .0, sorts-rows ((c .before .before .before .before .before .before .before .before .before .before .before .before .before .before .before .before .pre) .1 .0 .1)))
+sort-requires c κs =
+    let pre = c .before .before .before .before .before .before .before .before .before .before .before .before .before .before .before .before .pre in (
+      (item (pre .0 .xs) 3, place (pre .0 .xs) 3, (c .nth) .ensures (pre .0 .xs) (pre .0 .holds .cells), spells-item (pre .0 .holds) 3),
+      (pre .1 .0 .0, sorts-rows (pre .1 .0 .1)),
+    )
 
 -- src/signatures.rt:102:19
 enum-known-output : tie.Need-enum-known-output
@@ -75,23 +87,52 @@ enum-told-3 c = search needs
 
 -- src/signatures.rt:103:9
 returns-3 : tie.Need-returns-3
-returns-3 c = λ T xs h s k n. (ctor-no-sort T xs (proper-here 1 xs ((c .before .before .before .before .before .before .before .before .before .before .before .before .before .proper-at) .ensures) ((c .before .before .before .before .before .before .before .before .before .before .before .start) .given .1) k) (stored-of _ ((c .before .before .before .before .before .before .before .before .arguments-at) .last .1 .1 .1 .1 .0) _ ((c .before .before .before .before .before .before .before .before .arguments-at) .result) ((c .before .before .before .before .before .before .before .before .arguments-at) .ensures T xs h k (omega (arith, n))) ((c .before .before .before .before .before .r) .given .1)) (sort-unknown ((c .before .before .sort) .ensures) T h (item xs 3) (place xs 3) ((c .before .before .before .nth) .ensures xs (k .cells)) (spells-item k 3) ((c .enum-told3) .given .1)), refl, refl)
+returns-3 c =
+    let proper-at = c .before .before .before .before .before .before .before .before .before .before .before .before .before .proper-at in
+    let start = c .before .before .before .before .before .before .before .before .before .before .before .start in
+    let arguments-at = c .before .before .before .before .before .before .before .before .arguments-at in
+    let r = c .before .before .before .before .before .r in
+    let sort = c .before .before .sort in
+    let nth = c .before .before .before .nth in
+    λ T xs h s k n. (
+      ctor-no-sort T xs (proper-here 1 xs (proper-at .ensures) (start .given .1) k)
+          (stored-of _ (arguments-at .last .1 .1 .1 .1 .0) _ (arguments-at .result) (arguments-at .ensures T xs h k (omega (arith, n)))
+          (r .given .1))
+          (sort-unknown (sort .ensures) T h (item xs 3) (place xs 3) (nth .ensures xs (k .cells)) (spells-item k 3)
+          ((c .enum-told3) .given .1)),
+      refl,
+      refl,
+    )
 
 -- src/signatures.rt:105:68
 sub-symbol-named : tie.Need-sub-symbol-named
-sub-symbol-named c = omega (arith, (proper-here 1 ((c .before .before .before .before .before .before .before .before .before .before .before .before .before .before .before .before .before .before .before .before .before .pre) .0 .xs) ((c .before .before .before .before .before .before .before .before .before .before .before .before .before .before .before .proper-at) .ensures) ((c .before .before .before .before .before .before .before .before .before .before .before .before .before .start) .given .1) ((c .before .before .before .before .before .before .before .before .before .before .before .before .before .before .before .before .before .before .before .before .before .pre) .0 .holds)) .end)
+sub-symbol-named c =
+    let pre = c .before .before .before .before .before .before .before .before .before .before .before .before .before .before .before .before .before .before .before .before .before .pre in
+    let proper-at = c .before .before .before .before .before .before .before .before .before .before .before .before .before .before .before .proper-at in
+    let start = c .before .before .before .before .before .before .before .before .before .before .before .before .before .start in
+    omega (arith, (proper-here 1 (pre .0 .xs) (proper-at .ensures) (start .given .1) (pre .0 .holds)) .end)
 
 -- src/signatures.rt:105:68
 part-symbol-named-start : tie.Need-part-symbol-named-start
-part-symbol-named-start c = omega (arith, (proper-here 1 ((c .before .before .before .before .before .before .before .before .before .before .before .before .before .before .before .before .before .before .before .before .before .pre) .0 .xs) ((c .before .before .before .before .before .before .before .before .before .before .before .before .before .before .before .proper-at) .ensures) ((c .before .before .before .before .before .before .before .before .before .before .before .before .before .start) .given .1) ((c .before .before .before .before .before .before .before .before .before .before .before .before .before .before .before .before .before .before .before .before .before .pre) .0 .holds)) .end)
+part-symbol-named-start c =
+    let pre = c .before .before .before .before .before .before .before .before .before .before .before .before .before .before .before .before .before .before .before .before .before .pre in
+    let proper-at = c .before .before .before .before .before .before .before .before .before .before .before .before .before .before .before .proper-at in
+    let start = c .before .before .before .before .before .before .before .before .before .before .before .before .before .start in
+    omega (arith, (proper-here 1 (pre .0 .xs) (proper-at .ensures) (start .given .1) (pre .0 .holds)) .end)
 
 -- src/signatures.rt:105:68
 part-symbol-named-end : tie.Need-part-symbol-named-end
-part-symbol-named-end c = (proper-here 1 ((c .before .before .before .before .before .before .before .before .before .before .before .before .before .before .before .before .before .before .before .before .before .pre) .0 .xs) ((c .before .before .before .before .before .before .before .before .before .before .before .before .before .before .before .proper-at) .ensures) ((c .before .before .before .before .before .before .before .before .before .before .before .before .before .start) .given .1) ((c .before .before .before .before .before .before .before .before .before .before .before .before .before .before .before .before .before .before .before .before .before .pre) .0 .holds)) .high
+part-symbol-named-end c =
+    let pre = c .before .before .before .before .before .before .before .before .before .before .before .before .before .before .before .before .before .before .before .before .before .pre in
+    let proper-at = c .before .before .before .before .before .before .before .before .before .before .before .before .before .before .before .proper-at in
+    let start = c .before .before .before .before .before .before .before .before .before .before .before .before .before .start in
+    (proper-here 1 (pre .0 .xs) (proper-at .ensures) (start .given .1) (pre .0 .holds)) .high
 
 -- src/signatures.rt:105:26
 symbol-named-requires : tie.Need-symbol-named-requires
-symbol-named-requires c κs = ((c .before .before .before .before .before .before .before .before .before .before .before .before .before .before .before .before .before .before .before .before .before .before .pre) .1 .1 .0, symbols-rows ((c .before .before .before .before .before .before .before .before .before .before .before .before .before .before .before .before .before .before .before .before .before .before .pre) .1 .1 .1))
+symbol-named-requires c κs =
+    let pre = c .before .before .before .before .before .before .before .before .before .before .before .before .before .before .before .before .before .before .before .before .before .before .pre in
+    (pre .1 .1 .0, symbols-rows (pre .1 .1 .1))
 
 enum-told-4 : tie.Need-enum-told-4
 enum-told-4 c = search needs
@@ -106,7 +147,24 @@ same-length c = search needs
 
 -- src/signatures.rt:106:9
 returns-4 : tie.Need-returns-4
-returns-4 c = λ T xs h s k n. (ctor-again T xs (proper-here 1 xs ((c .before .before .before .before .before .before .before .before .before .before .before .before .before .before .before .before .before .before .before .proper-at) .ensures) ((c .before .before .before .before .before .before .before .before .before .before .before .before .before .before .before .before .before .start) .given .1) k) (stored-of _ ((c .before .before .before .before .before .before .before .before .before .before .before .before .before .before .arguments-at) .last .1 .1 .1 .1 .0) _ ((c .before .before .before .before .before .before .before .before .before .before .before .before .before .before .arguments-at) .result) ((c .before .before .before .before .before .before .before .before .before .before .before .before .before .before .arguments-at) .ensures T xs h k (omega (arith, n))) ((c .before .before .before .before .before .before .before .before .before .before .before .r) .given .1)) (sort-known ((c .before .before .before .before .before .before .before .before .sort) .ensures) T h (item xs 3) (place xs 3) ((c .before .before .before .before .before .before .before .before .before .nth) .ensures xs (k .cells)) (spells-item k 3) _ ((c .before .before .before .before .before .before .output) .given .1)) ((c .before .before .symbol-named) .ensures (T .symbols) (symbols-rows s)) ((c .enum-told5) .given .1), refl, refl)
+returns-4 c =
+    let proper-at = c .before .before .before .before .before .before .before .before .before .before .before .before .before .before .before .before .before .before .before .proper-at in
+    let start = c .before .before .before .before .before .before .before .before .before .before .before .before .before .before .before .before .before .start in
+    let arguments-at = c .before .before .before .before .before .before .before .before .before .before .before .before .before .before .arguments-at in
+    let r = c .before .before .before .before .before .before .before .before .before .before .before .r in
+    let sort = c .before .before .before .before .before .before .before .before .sort in
+    let nth = c .before .before .before .before .before .before .before .before .before .nth in
+    let output = c .before .before .before .before .before .before .output in
+    let symbol-named = c .before .before .symbol-named in
+    λ T xs h s k n. (
+      ctor-again T xs (proper-here 1 xs (proper-at .ensures) (start .given .1) k)
+          (stored-of _ (arguments-at .last .1 .1 .1 .1 .0) _ (arguments-at .result) (arguments-at .ensures T xs h k (omega (arith, n)))
+          (r .given .1))
+          (sort-known (sort .ensures) T h (item xs 3) (place xs 3) (nth .ensures xs (k .cells)) (spells-item k 3) _ (output .given .1))
+          (symbol-named .ensures (T .symbols) (symbols-rows s)) ((c .enum-told5) .given .1),
+      refl,
+      refl,
+    )
 
 -- src/signatures.rt:108:62
 slice-aggregate-store : tie.Need-slice-aggregate-store
@@ -114,7 +172,22 @@ slice-aggregate-store c = search needs
 
 -- src/signatures.rt:108:5
 store-requires : tie.Need-store-requires
-store-requires c κs = symbol-fits ((c .before .before .before .before .before .before .before .before .before .before .before .before .before .before .before .before .before .before .before .before .before .before .before .before .before .before .before .before .pre) .1 .1 .1) (proper-here 1 ((c .before .before .before .before .before .before .before .before .before .before .before .before .before .before .before .before .before .before .before .before .before .before .before .before .before .before .before .before .pre) .0 .xs) ((c .before .before .before .before .before .before .before .before .before .before .before .before .before .before .before .before .before .before .before .before .before .before .proper-at) .ensures) ((c .before .before .before .before .before .before .before .before .before .before .before .before .before .before .before .before .before .before .before .before .start) .given .1) ((c .before .before .before .before .before .before .before .before .before .before .before .before .before .before .before .before .before .before .before .before .before .before .before .before .before .before .before .before .pre) .0 .holds)) ((c .before .before .before .before .before .before .before .before .before .before .before .before .before .before .before .before .before .before .before .before .before .before .before .before .before .before .before .before .pre) .0 .short) (sort-small ((c .before .before .before .before .before .before .before .before .before .before .before .sort) .ensures) _ ((c .before .before .before .before .before .before .before .before .before .output) .given .1) ((c .before .before .before .before .before .before .before .before .before .before .before .before .before .before .before .before .before .before .before .before .before .before .before .before .before .before .before .before .pre) .1 .0) (item ((c .before .before .before .before .before .before .before .before .before .before .before .before .before .before .before .before .before .before .before .before .before .before .before .before .before .before .before .before .pre) .0 .xs) 3) (place ((c .before .before .before .before .before .before .before .before .before .before .before .before .before .before .before .before .before .before .before .before .before .before .before .before .before .before .before .before .pre) .0 .xs) 3) ((c .before .before .before .before .before .before .before .before .before .before .before .before .nth) .ensures ((c .before .before .before .before .before .before .before .before .before .before .before .before .before .before .before .before .before .before .before .before .before .before .before .before .before .before .before .before .pre) .0 .xs) ((c .before .before .before .before .before .before .before .before .before .before .before .before .before .before .before .before .before .before .before .before .before .before .before .before .before .before .before .before .pre) .0 .holds .cells)) (spells-item ((c .before .before .before .before .before .before .before .before .before .before .before .before .before .before .before .before .before .before .before .before .before .before .before .before .before .before .before .before .pre) .0 .holds) 3)) ((stored-of _ ((c .before .before .before .before .before .before .before .before .before .before .before .before .before .before .before .before .before .arguments-at) .last .1 .1 .1 .1 .0) _ ((c .before .before .before .before .before .before .before .before .before .before .before .before .before .before .before .before .before .arguments-at) .result) ((c .before .before .before .before .before .before .before .before .before .before .before .before .before .before .before .before .before .arguments-at) .ensures (theory-of ((c .before .before .before .before .before .before .before .before .before .before .before .before .before .before .before .before .before .before .before .before .before .before .before .before .before .before .before .before .pre) .1 .0 .0)) ((c .before .before .before .before .before .before .before .before .before .before .before .before .before .before .before .before .before .before .before .before .before .before .before .before .before .before .before .before .pre) .0 .xs) ((c .before .before .before .before .before .before .before .before .before .before .before .before .before .before .before .before .before .before .before .before .before .before .before .before .before .before .before .before .pre) .1 .0 .1) ((c .before .before .before .before .before .before .before .before .before .before .before .before .before .before .before .before .before .before .before .before .before .before .before .before .before .before .before .before .pre) .0 .holds) (omega (arith, (c .before .before .before .before .before .before .before .before .before .before .before .before .before .before .before .before .before .before .before .before .before .before .before .before .before .before .before .before .pre) .0 .many))) ((c .before .before .before .before .before .before .before .before .before .before .before .before .before .before .r) .given .1)) .most) _ ((c .before .before .before .before .before .before .before .before .before .before .before .before .before .before .before .before .before .arguments-at) .kept .1 .1 .1 .1 .0)
+store-requires c κs =
+    let mid = c .before .before .before .before .before .before .before .before .before .before .before .before .before .before .before .before .before .before .before .before .before .before .before .before .before in
+    let pre = mid .before .before .before .pre in
+    let proper-at = c .before .before .before .before .before .before .before .before .before .before .before .before .before .before .before .before .before .before .before .before .before .before .proper-at in
+    let start = c .before .before .before .before .before .before .before .before .before .before .before .before .before .before .before .before .before .before .before .before .start in
+    let sort = c .before .before .before .before .before .before .before .before .before .before .before .sort in
+    let output = c .before .before .before .before .before .before .before .before .before .output in
+    let nth = c .before .before .before .before .before .before .before .before .before .before .before .before .nth in
+    let arguments-at = c .before .before .before .before .before .before .before .before .before .before .before .before .before .before .before .before .before .arguments-at in
+    let r = c .before .before .before .before .before .before .before .before .before .before .before .before .before .before .r in
+    symbol-fits (pre .1 .1 .1) (proper-here 1 (pre .0 .xs) (proper-at .ensures) (start .given .1) (pre .0 .holds)) (pre .0 .short)
+    (sort-small (sort .ensures) _ (output .given .1) (pre .1 .0) (item (pre .0 .xs) 3) (place (pre .0 .xs) 3)
+    (nth .ensures (pre .0 .xs) (pre .0 .holds .cells)) (spells-item (pre .0 .holds) 3))
+    ((stored-of _ (arguments-at .last .1 .1 .1 .1 .0) _ (arguments-at .result)
+    (arguments-at .ensures (theory-of (pre .1 .0 .0)) (pre .0 .xs) (pre .1 .0 .1) (pre .0 .holds) (omega (arith, pre .0 .many)))
+    (r .given .1)) .most) _ (arguments-at .kept .1 .1 .1 .1 .0)
 
 -- src/signatures.rt:85:1
 same-length-2 : tie.Need-same-length-2
@@ -126,7 +199,32 @@ same-length-3 c = search needs
 
 -- src/signatures.rt:85:1
 returns-5 : tie.Need-returns-5
-returns-5 c = λ T xs h s k n. subst (λ z. SymbolAdded ((c .before .before .before .before .before .before .before .before .before .before .before .before .before .before .before .before .before .before .before .before .before .before .before .before .before .before .before .before .before .before .before .before .before .args) .text .now) ((c .before .before .before .before .before .before .before .before .before .before .before .before .before .before .before .before .before .before .before .before .before .before .before .before .before .before .before .before .before .before .before .before .before .args) .symbols .now) ((c .before .before .before .before .before .before .before .before .before .before .before .before .before .before .before .before .before .before .before .before .before .before .before .before .before .before .before .before .before .before .before .before .before .args) .inputs .now) ((c .before .before .before .before .store) .last .0) ((c .before .before .before .before .store) .last .1 .0) T z ((c .before .before .before .before .store) .result)) (sym (ctor-is-new T xs (proper-here 1 xs ((c .before .before .before .before .before .before .before .before .before .before .before .before .before .before .before .before .before .before .before .before .before .before .before .before .before .before .before .proper-at) .ensures) ((c .before .before .before .before .before .before .before .before .before .before .before .before .before .before .before .before .before .before .before .before .before .before .before .before .before .start) .given .1) k) (stored-of _ ((c .before .before .before .before .before .before .before .before .before .before .before .before .before .before .before .before .before .before .before .before .before .before .arguments-at) .last .1 .1 .1 .1 .0) _ ((c .before .before .before .before .before .before .before .before .before .before .before .before .before .before .before .before .before .before .before .before .before .before .arguments-at) .result) ((c .before .before .before .before .before .before .before .before .before .before .before .before .before .before .before .before .before .before .before .before .before .before .arguments-at) .ensures T xs h k (omega (arith, n))) ((c .before .before .before .before .before .before .before .before .before .before .before .before .before .before .before .before .before .before .before .r) .given .1)) (sort-known ((c .before .before .before .before .before .before .before .before .before .before .before .before .before .before .before .before .sort) .ensures) T h (item xs 3) (place xs 3) ((c .before .before .before .before .before .before .before .before .before .before .before .before .before .before .before .before .before .nth) .ensures xs (k .cells)) (spells-item k 3) _ ((c .before .before .before .before .before .before .before .before .before .before .before .before .before .before .output) .given .1)) ((c .before .before .before .before .before .before .before .before .before .before .symbol-named) .ensures (T .symbols) (symbols-rows s)) ((c .before .before .before .before .before .before .before .before .enum-told4) .given .1))) ((c .before .before .before .before .store) .ensures ((c .before .before .before .before .before .before .before .before .before .before .before .before .before .before .before .before .before .before .before .before .before .before .before .before .before .before .before .before .before .before .before .before .before .args) .text .now) T _ s (symbol-cells T xs (proper-here 1 xs ((c .before .before .before .before .before .before .before .before .before .before .before .before .before .before .before .before .before .before .before .before .before .before .before .before .before .before .before .proper-at) .ensures) ((c .before .before .before .before .before .before .before .before .before .before .before .before .before .before .before .before .before .before .before .before .before .before .before .before .before .start) .given .1) k) (stored-of _ ((c .before .before .before .before .before .before .before .before .before .before .before .before .before .before .before .before .before .before .before .before .before .before .arguments-at) .last .1 .1 .1 .1 .0) _ ((c .before .before .before .before .before .before .before .before .before .before .before .before .before .before .before .before .before .before .before .before .before .before .arguments-at) .result) ((c .before .before .before .before .before .before .before .before .before .before .before .before .before .before .before .before .before .before .before .before .before .before .arguments-at) .ensures T xs h k (omega (arith, n))) ((c .before .before .before .before .before .before .before .before .before .before .before .before .before .before .before .before .before .before .before .r) .given .1)) _ refl))
+returns-5 c =
+    let mid = c .before .before .before .before .before .before .before .before .before .before .before .before .before .before .before .before .before .before .before .before .before .before .before .before .before in
+    let args = mid .before .before .before .before .before .before .before .before .args in
+    let store = c .before .before .before .before .store in
+    let proper-at = mid .before .before .proper-at in
+    let start = c .before .before .before .before .before .before .before .before .before .before .before .before .before .before .before .before .before .before .before .before .before .before .before .before .before .start in
+    let arguments-at = c .before .before .before .before .before .before .before .before .before .before .before .before .before .before .before .before .before .before .before .before .before .before .arguments-at in
+    let r = c .before .before .before .before .before .before .before .before .before .before .before .before .before .before .before .before .before .before .before .r in
+    let sort = c .before .before .before .before .before .before .before .before .before .before .before .before .before .before .before .before .sort in
+    let nth = c .before .before .before .before .before .before .before .before .before .before .before .before .before .before .before .before .before .nth in
+    let output = c .before .before .before .before .before .before .before .before .before .before .before .before .before .before .output in
+    let symbol-named = c .before .before .before .before .before .before .before .before .before .before .symbol-named in
+    let enum-told4 = c .before .before .before .before .before .before .before .before .enum-told4 in
+    λ T xs h s k n.
+    let name = proper-here 1 xs (proper-at .ensures) (start .given .1) k in
+    let stored =
+    stored-of _ (arguments-at .last .1 .1 .1 .1 .0) _ (arguments-at .result) (arguments-at .ensures T xs h k (omega (arith, n)))
+    (r .given .1) in
+    subst
+    (λ z.
+    SymbolAdded (args .text .now) (args .symbols .now) (args .inputs .now) (store .last .0) (store .last .1 .0) T z (store .result))
+    (sym
+    (ctor-is-new T xs name stored
+    (sort-known (sort .ensures) T h (item xs 3) (place xs 3) (nth .ensures xs (k .cells)) (spells-item k 3) _
+    (output .given .1)) (symbol-named .ensures (T .symbols) (symbols-rows s)) (enum-told4 .given .1)))
+    (store .ensures (args .text .now) T _ s (symbol-cells T xs name stored _ refl))
 
 pub add-ctor-spec : {M : Type 1} → statement M
 add-ctor-spec =

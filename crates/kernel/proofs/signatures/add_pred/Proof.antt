@@ -49,23 +49,43 @@ enum-told-2 c = search needs
 
 -- src/signatures.rt:126:9
 returns-2 : tie.Need-returns-2
-returns-2 c = λ T xs h s k n. pred-stops T xs (proper-here 1 xs ((c .before .before .before .before .before .before .before .before .proper-at) .ensures) ((c .before .before .before .before .before .before .start) .given .1) k) (refused-of _ ((c .before .before .before .arguments-at) .last .1 .1 .1 .1 .0) _ ((c .before .before .before .arguments-at) .result) ((c .before .before .before .arguments-at) .ensures T xs h k (omega (arith, n))) ((c .enum-told2) .given .1)) _ _ ((c .before .before .before .arguments-at) .result) ((c .enum-told2) .given .1)
+returns-2 c =
+    let proper-at = c .before .before .before .before .before .before .before .before .proper-at in
+    let start = c .before .before .before .before .before .before .start in
+    let arguments-at = c .before .before .before .arguments-at in
+    λ T xs h s k n. pred-stops T xs (proper-here 1 xs (proper-at .ensures) (start .given .1) k)
+    (refused-of _ (arguments-at .last .1 .1 .1 .1 .0) _ (arguments-at .result) (arguments-at .ensures T xs h k (omega (arith, n)))
+    ((c .enum-told2) .given .1)) _ _ (arguments-at .result) ((c .enum-told2) .given .1)
 
 -- src/signatures.rt:128:67
 sub-symbol-named : tie.Need-sub-symbol-named
-sub-symbol-named c = omega (arith, (proper-here 1 ((c .before .before .before .before .before .before .before .before .before .before .before .before .before .before .before .before .pre) .0 .xs) ((c .before .before .before .before .before .before .before .before .before .before .proper-at) .ensures) ((c .before .before .before .before .before .before .before .before .start) .given .1) ((c .before .before .before .before .before .before .before .before .before .before .before .before .before .before .before .before .pre) .0 .holds)) .end)
+sub-symbol-named c =
+    let pre = c .before .before .before .before .before .before .before .before .before .before .before .before .before .before .before .before .pre in
+    let proper-at = c .before .before .before .before .before .before .before .before .before .before .proper-at in
+    let start = c .before .before .before .before .before .before .before .before .start in
+    omega (arith, (proper-here 1 (pre .0 .xs) (proper-at .ensures) (start .given .1) (pre .0 .holds)) .end)
 
 -- src/signatures.rt:128:67
 part-symbol-named-start : tie.Need-part-symbol-named-start
-part-symbol-named-start c = omega (arith, (proper-here 1 ((c .before .before .before .before .before .before .before .before .before .before .before .before .before .before .before .before .pre) .0 .xs) ((c .before .before .before .before .before .before .before .before .before .before .proper-at) .ensures) ((c .before .before .before .before .before .before .before .before .start) .given .1) ((c .before .before .before .before .before .before .before .before .before .before .before .before .before .before .before .before .pre) .0 .holds)) .end)
+part-symbol-named-start c =
+    let pre = c .before .before .before .before .before .before .before .before .before .before .before .before .before .before .before .before .pre in
+    let proper-at = c .before .before .before .before .before .before .before .before .before .before .proper-at in
+    let start = c .before .before .before .before .before .before .before .before .start in
+    omega (arith, (proper-here 1 (pre .0 .xs) (proper-at .ensures) (start .given .1) (pre .0 .holds)) .end)
 
 -- src/signatures.rt:128:67
 part-symbol-named-end : tie.Need-part-symbol-named-end
-part-symbol-named-end c = (proper-here 1 ((c .before .before .before .before .before .before .before .before .before .before .before .before .before .before .before .before .pre) .0 .xs) ((c .before .before .before .before .before .before .before .before .before .before .proper-at) .ensures) ((c .before .before .before .before .before .before .before .before .start) .given .1) ((c .before .before .before .before .before .before .before .before .before .before .before .before .before .before .before .before .pre) .0 .holds)) .high
+part-symbol-named-end c =
+    let pre = c .before .before .before .before .before .before .before .before .before .before .before .before .before .before .before .before .pre in
+    let proper-at = c .before .before .before .before .before .before .before .before .before .before .proper-at in
+    let start = c .before .before .before .before .before .before .before .before .start in
+    (proper-here 1 (pre .0 .xs) (proper-at .ensures) (start .given .1) (pre .0 .holds)) .high
 
 -- src/signatures.rt:128:26
 symbol-named-requires : tie.Need-symbol-named-requires
-symbol-named-requires c κs = ((c .before .before .before .before .before .before .before .before .before .before .before .before .before .before .before .before .before .pre) .1 .1 .0, symbols-rows ((c .before .before .before .before .before .before .before .before .before .before .before .before .before .before .before .before .before .pre) .1 .1 .1))
+symbol-named-requires c κs =
+    let pre = c .before .before .before .before .before .before .before .before .before .before .before .before .before .before .before .before .before .pre in
+    (pre .1 .1 .0, symbols-rows (pre .1 .1 .1))
 
 enum-told-3 : tie.Need-enum-told-3
 enum-told-3 c = search needs
@@ -80,7 +100,19 @@ same-length c = search needs
 
 -- src/signatures.rt:129:9
 returns-3 : tie.Need-returns-3
-returns-3 c = λ T xs h s k n. (pred-again T xs (proper-here 1 xs ((c .before .before .before .before .before .before .before .before .before .before .before .before .before .before .proper-at) .ensures) ((c .before .before .before .before .before .before .before .before .before .before .before .before .start) .given .1) k) (stored-of _ ((c .before .before .before .before .before .before .before .before .before .arguments-at) .last .1 .1 .1 .1 .0) _ ((c .before .before .before .before .before .before .before .before .before .arguments-at) .result) ((c .before .before .before .before .before .before .before .before .before .arguments-at) .ensures T xs h k (omega (arith, n))) ((c .before .before .before .before .before .before .r) .given .1)) ((c .before .before .symbol-named) .ensures (T .symbols) (symbols-rows s)) ((c .enum-told4) .given .1), refl, refl)
+returns-3 c =
+    let proper-at = c .before .before .before .before .before .before .before .before .before .before .before .before .before .before .proper-at in
+    let start = c .before .before .before .before .before .before .before .before .before .before .before .before .start in
+    let arguments-at = c .before .before .before .before .before .before .before .before .before .arguments-at in
+    let r = c .before .before .before .before .before .before .r in
+    let symbol-named = c .before .before .symbol-named in
+    λ T xs h s k n. (
+      pred-again T xs (proper-here 1 xs (proper-at .ensures) (start .given .1) k)
+          (stored-of _ (arguments-at .last .1 .1 .1 .1 .0) _ (arguments-at .result) (arguments-at .ensures T xs h k (omega (arith, n)))
+          (r .given .1)) (symbol-named .ensures (T .symbols) (symbols-rows s)) ((c .enum-told4) .given .1),
+      refl,
+      refl,
+    )
 
 -- src/signatures.rt:131:57
 slice-aggregate-store : tie.Need-slice-aggregate-store
@@ -88,7 +120,17 @@ slice-aggregate-store c = search needs
 
 -- src/signatures.rt:131:5
 store-requires : tie.Need-store-requires
-store-requires c κs = symbol-fits ((c .before .before .before .before .before .before .before .before .before .before .before .before .before .before .before .before .before .before .before .before .before .before .before .pre) .1 .1 .1) (proper-here 1 ((c .before .before .before .before .before .before .before .before .before .before .before .before .before .before .before .before .before .before .before .before .before .before .before .pre) .0 .xs) ((c .before .before .before .before .before .before .before .before .before .before .before .before .before .before .before .before .before .proper-at) .ensures) ((c .before .before .before .before .before .before .before .before .before .before .before .before .before .before .before .start) .given .1) ((c .before .before .before .before .before .before .before .before .before .before .before .before .before .before .before .before .before .before .before .before .before .before .before .pre) .0 .holds)) ((c .before .before .before .before .before .before .before .before .before .before .before .before .before .before .before .before .before .before .before .before .before .before .before .pre) .0 .short) (omega arith) ((stored-of _ ((c .before .before .before .before .before .before .before .before .before .before .before .before .arguments-at) .last .1 .1 .1 .1 .0) _ ((c .before .before .before .before .before .before .before .before .before .before .before .before .arguments-at) .result) ((c .before .before .before .before .before .before .before .before .before .before .before .before .arguments-at) .ensures (theory-of ((c .before .before .before .before .before .before .before .before .before .before .before .before .before .before .before .before .before .before .before .before .before .before .before .pre) .1 .0 .0)) ((c .before .before .before .before .before .before .before .before .before .before .before .before .before .before .before .before .before .before .before .before .before .before .before .pre) .0 .xs) ((c .before .before .before .before .before .before .before .before .before .before .before .before .before .before .before .before .before .before .before .before .before .before .before .pre) .1 .0 .1) ((c .before .before .before .before .before .before .before .before .before .before .before .before .before .before .before .before .before .before .before .before .before .before .before .pre) .0 .holds) (omega (arith, (c .before .before .before .before .before .before .before .before .before .before .before .before .before .before .before .before .before .before .before .before .before .before .before .pre) .0 .many))) ((c .before .before .before .before .before .before .before .before .before .r) .given .1)) .most) _ ((c .before .before .before .before .before .before .before .before .before .before .before .before .arguments-at) .kept .1 .1 .1 .1 .0)
+store-requires c κs =
+    let pre = c .before .before .before .before .before .before .before .before .before .before .before .before .before .before .before .before .before .before .before .before .before .before .before .pre in
+    let proper-at = c .before .before .before .before .before .before .before .before .before .before .before .before .before .before .before .before .before .proper-at in
+    let start = c .before .before .before .before .before .before .before .before .before .before .before .before .before .before .before .start in
+    let arguments-at = c .before .before .before .before .before .before .before .before .before .before .before .before .arguments-at in
+    let r = c .before .before .before .before .before .before .before .before .before .r in
+    symbol-fits (pre .1 .1 .1) (proper-here 1 (pre .0 .xs) (proper-at .ensures) (start .given .1) (pre .0 .holds)) (pre .0 .short)
+    (omega arith)
+    ((stored-of _ (arguments-at .last .1 .1 .1 .1 .0) _ (arguments-at .result)
+    (arguments-at .ensures (theory-of (pre .1 .0 .0)) (pre .0 .xs) (pre .1 .0 .1) (pre .0 .holds) (omega (arith, pre .0 .many)))
+    (r .given .1)) .most) _ (arguments-at .kept .1 .1 .1 .1 .0)
 
 -- src/signatures.rt:112:1
 same-length-2 : tie.Need-same-length-2
@@ -100,7 +142,26 @@ same-length-3 c = search needs
 
 -- src/signatures.rt:112:1
 returns-4 : tie.Need-returns-4
-returns-4 c = λ T xs h s k n. subst (λ z. SymbolAdded ((c .before .before .before .before .before .before .before .before .before .before .before .before .before .before .before .before .before .before .before .before .before .before .before .before .before .before .before .before .args) .text .now) ((c .before .before .before .before .before .before .before .before .before .before .before .before .before .before .before .before .before .before .before .before .before .before .before .before .before .before .before .before .args) .symbols .now) ((c .before .before .before .before .before .before .before .before .before .before .before .before .before .before .before .before .before .before .before .before .before .before .before .before .before .before .before .before .args) .inputs .now) ((c .before .before .before .before .store) .last .0) ((c .before .before .before .before .store) .last .1 .0) T z ((c .before .before .before .before .store) .result)) (sym (pred-is-new T xs (proper-here 1 xs ((c .before .before .before .before .before .before .before .before .before .before .before .before .before .before .before .before .before .before .before .before .before .before .proper-at) .ensures) ((c .before .before .before .before .before .before .before .before .before .before .before .before .before .before .before .before .before .before .before .before .start) .given .1) k) (stored-of _ ((c .before .before .before .before .before .before .before .before .before .before .before .before .before .before .before .before .before .arguments-at) .last .1 .1 .1 .1 .0) _ ((c .before .before .before .before .before .before .before .before .before .before .before .before .before .before .before .before .before .arguments-at) .result) ((c .before .before .before .before .before .before .before .before .before .before .before .before .before .before .before .before .before .arguments-at) .ensures T xs h k (omega (arith, n))) ((c .before .before .before .before .before .before .before .before .before .before .before .before .before .before .r) .given .1)) ((c .before .before .before .before .before .before .before .before .before .before .symbol-named) .ensures (T .symbols) (symbols-rows s)) ((c .before .before .before .before .before .before .before .before .enum-told3) .given .1))) ((c .before .before .before .before .store) .ensures ((c .before .before .before .before .before .before .before .before .before .before .before .before .before .before .before .before .before .before .before .before .before .before .before .before .before .before .before .before .args) .text .now) T _ s (symbol-cells T xs (proper-here 1 xs ((c .before .before .before .before .before .before .before .before .before .before .before .before .before .before .before .before .before .before .before .before .before .before .proper-at) .ensures) ((c .before .before .before .before .before .before .before .before .before .before .before .before .before .before .before .before .before .before .before .before .start) .given .1) k) (stored-of _ ((c .before .before .before .before .before .before .before .before .before .before .before .before .before .before .before .before .before .arguments-at) .last .1 .1 .1 .1 .0) _ ((c .before .before .before .before .before .before .before .before .before .before .before .before .before .before .before .before .before .arguments-at) .result) ((c .before .before .before .before .before .before .before .before .before .before .before .before .before .before .before .before .before .arguments-at) .ensures T xs h k (omega (arith, n))) ((c .before .before .before .before .before .before .before .before .before .before .before .before .before .before .r) .given .1)) _ refl))
+returns-4 c =
+    let mid = c .before .before .before .before .before .before .before .before .before .before .before .before .before .before .before .before .before .before .before .before .before .before .before .before .before in
+    let args = mid .before .before .before .args in
+    let store = c .before .before .before .before .store in
+    let proper-at = c .before .before .before .before .before .before .before .before .before .before .before .before .before .before .before .before .before .before .before .before .before .before .proper-at in
+    let start = c .before .before .before .before .before .before .before .before .before .before .before .before .before .before .before .before .before .before .before .before .start in
+    let arguments-at = c .before .before .before .before .before .before .before .before .before .before .before .before .before .before .before .before .before .arguments-at in
+    let r = c .before .before .before .before .before .before .before .before .before .before .before .before .before .before .r in
+    let symbol-named = c .before .before .before .before .before .before .before .before .before .before .symbol-named in
+    let enum-told3 = c .before .before .before .before .before .before .before .before .enum-told3 in
+    λ T xs h s k n.
+    let name = proper-here 1 xs (proper-at .ensures) (start .given .1) k in
+    let stored =
+    stored-of _ (arguments-at .last .1 .1 .1 .1 .0) _ (arguments-at .result) (arguments-at .ensures T xs h k (omega (arith, n)))
+    (r .given .1) in
+    subst
+    (λ z.
+    SymbolAdded (args .text .now) (args .symbols .now) (args .inputs .now) (store .last .0) (store .last .1 .0) T z (store .result))
+    (sym (pred-is-new T xs name stored (symbol-named .ensures (T .symbols) (symbols-rows s)) (enum-told3 .given .1)))
+    (store .ensures (args .text .now) T _ s (symbol-cells T xs name stored _ refl))
 
 pub add-pred-spec : {M : Type 1} → statement M
 add-pred-spec =

@@ -33,7 +33,10 @@ same-length c = search needs
 
 -- src/signatures.rt:68:1
 returns : tie.Need-returns
-returns c = row-pasted ((c .before .before .before .before .before .before .args) .table .now) ((c .before .before .write) .last .0) ((c .before .before .before .before .before .before .args) .at) ((c .before .before .before .before .before .before .args) .row .now) ((c .before .before .write) .ensures)
+returns c =
+    let args = c .before .before .before .before .before .before .args in
+    let write = c .before .before .write in
+    row-pasted (args .table .now) (write .last .0) (args .at) (args .row .now) (write .ensures)
 
 pub put-row-spec : {M : Type 1} → statement M
 put-row-spec =

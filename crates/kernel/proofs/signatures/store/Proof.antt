@@ -53,7 +53,23 @@ add-put-name c = search needs
 
 -- src/signatures.rt:79:5
 put-name-requires : tie.Need-put-name-requires
-put-name-requires c κs = record { inside = omega (arith, length-set (set ((c .before .before .before .before .before .args) .symbols .now) (4 * (c .before .before .before .before .before .args) .count) ((c .before .before .before .before .before .args) .output)) (4 * (c .before .before .before .before .before .args) .count + 1) ((c .before .before .before .before .before .args) .arity), length-set ((c .before .before .before .before .before .args) .symbols .now) (4 * (c .before .before .before .before .before .args) .count) ((c .before .before .before .before .before .args) .output), (c .before .before .before .before .before .pre) .long, (c .before .if1) .left); first = (c .before .before .before .before .before .pre) .starts; last = (c .before .before .before .before .before .pre) .ends }
+put-name-requires c κs =
+    let entry = c .before .before .before .before .before in
+    let args = entry .args in
+    let pre = entry .pre in
+    let if1 = c .before .if1 in
+    record {
+      inside =
+          omega (
+            arith,
+            length-set (set (args .symbols .now) (4 * args .count) (args .output)) (4 * args .count + 1) (args .arity),
+            length-set (args .symbols .now) (4 * args .count) (args .output),
+            pre .long,
+            if1 .left,
+          );
+      first = pre .starts;
+      last = pre .ends;
+    }
 
 -- src/signatures.rt:80:21
 mul-put-row : tie.Need-mul-put-row
@@ -69,7 +85,11 @@ add-t12 c = search needs
 
 -- src/signatures.rt:67:1
 same-length : tie.Need-same-length
-same-length c = ((c .before .before .before .before .before .before .put-name) .kept .0) ∙ length-set (set ((c .before .before .before .before .before .before .before .before .before .before .before .before .args) .symbols .now) (4 * (c .before .before .before .before .before .before .before .before .before .before .before .before .args) .count) ((c .before .before .before .before .before .before .before .before .before .before .before .before .args) .output)) (4 * (c .before .before .before .before .before .before .before .before .before .before .before .before .args) .count + 1) ((c .before .before .before .before .before .before .before .before .before .before .before .before .args) .arity) ∙ length-set ((c .before .before .before .before .before .before .before .before .before .before .before .before .args) .symbols .now) (4 * (c .before .before .before .before .before .before .before .before .before .before .before .before .args) .count) ((c .before .before .before .before .before .before .before .before .before .before .before .before .args) .output)
+same-length c =
+    let put-name = c .before .before .before .before .before .before .put-name in
+    let args = c .before .before .before .before .before .before .before .before .before .before .before .before .args in
+    (put-name .kept .0) ∙ length-set (set (args .symbols .now) (4 * args .count) (args .output)) (4 * args .count + 1) (args .arity) ∙
+    length-set (args .symbols .now) (4 * args .count) (args .output)
 
 -- src/signatures.rt:67:1
 same-length-2 : tie.Need-same-length-2

@@ -31,15 +31,27 @@ returns c = λ T xs h k. (add-sort-unnamed T xs (proper-nowhere 1 xs ((c .before
 
 -- src/symbols.rt:101:58
 sub-named : tie.Need-sub-named
-sub-named c = omega (arith, proper-here 1 ((c .before .before .before .before .before .before .before .before .pre) .0 .xs) ((c .before .before .before .before .proper-at) .ensures) ((c .before .before .start) .given .1) ((c .before .before .before .before .before .before .before .before .pre) .0 .holds) .end)
+sub-named c =
+    let pre = c .before .before .before .before .before .before .before .before .pre in
+    let proper-at = c .before .before .before .before .proper-at in
+    let start = c .before .before .start in
+    omega (arith, proper-here 1 (pre .0 .xs) (proper-at .ensures) (start .given .1) (pre .0 .holds) .end)
 
 -- src/symbols.rt:101:58
 part-named-start : tie.Need-part-named-start
-part-named-start c = omega (arith, proper-here 1 ((c .before .before .before .before .before .before .before .before .pre) .0 .xs) ((c .before .before .before .before .proper-at) .ensures) ((c .before .before .start) .given .1) ((c .before .before .before .before .before .before .before .before .pre) .0 .holds) .end)
+part-named-start c =
+    let pre = c .before .before .before .before .before .before .before .before .pre in
+    let proper-at = c .before .before .before .before .proper-at in
+    let start = c .before .before .start in
+    omega (arith, proper-here 1 (pre .0 .xs) (proper-at .ensures) (start .given .1) (pre .0 .holds) .end)
 
 -- src/symbols.rt:101:58
 part-named-end : tie.Need-part-named-end
-part-named-end c = proper-here 1 ((c .before .before .before .before .before .before .before .before .pre) .0 .xs) ((c .before .before .before .before .proper-at) .ensures) ((c .before .before .start) .given .1) ((c .before .before .before .before .before .before .before .before .pre) .0 .holds) .high
+part-named-end c =
+    let pre = c .before .before .before .before .before .before .before .before .pre in
+    let proper-at = c .before .before .before .before .proper-at in
+    let start = c .before .before .start in
+    proper-here 1 (pre .0 .xs) (proper-at .ensures) (start .given .1) (pre .0 .holds) .high
 
 -- src/symbols.rt:101:26
 named-requires : tie.Need-named-requires
@@ -58,7 +70,15 @@ same-length c = search needs
 
 -- src/symbols.rt:102:9
 returns-2 : tie.Need-returns-2
-returns-2 c = λ T xs h k. (sort-twice T xs h _ _ (proper-here 1 xs ((c .before .before .before .before .before .before .before .before .proper-at) .ensures) ((c .before .before .before .before .before .before .start) .given .1) k) _ ((c .before .before .named) .ensures (T .sorts) (sorts-rows h)) _ ((c .enum-told3) .given .1), refl)
+returns-2 c =
+    let proper-at = c .before .before .before .before .before .before .before .before .proper-at in
+    let start = c .before .before .before .before .before .before .start in
+    let named = c .before .before .named in
+    λ T xs h k. (
+      sort-twice T xs h _ _ (proper-here 1 xs (proper-at .ensures) (start .given .1) k) _ (named .ensures (T .sorts) (sorts-rows h)) _
+          ((c .enum-told3) .given .1),
+      refl,
+    )
 
 -- src/symbols.rt:105:9
 same-length-2 : tie.Need-same-length-2
@@ -66,7 +86,16 @@ same-length-2 c = search needs
 
 -- src/symbols.rt:105:9
 returns-3 : tie.Need-returns-3
-returns-3 c = λ T xs h k. (sort-full T xs h _ _ (proper-here 1 xs ((c .before .before .before .before .before .before .before .before .before .proper-at) .ensures) ((c .before .before .before .before .before .before .before .start) .given .1) k) _ ((c .before .before .before .named) .ensures (T .sorts) (sorts-rows h)) ((c .before .enum-told2) .given .1) ((c .if1) .taken), refl)
+returns-3 c =
+    let proper-at = c .before .before .before .before .before .before .before .before .before .proper-at in
+    let start = c .before .before .before .before .before .before .before .start in
+    let named = c .before .before .before .named in
+    let enum-told2 = c .before .enum-told2 in
+    λ T xs h k. (
+      sort-full T xs h _ _ (proper-here 1 xs (proper-at .ensures) (start .given .1) k) _ (named .ensures (T .sorts) (sorts-rows h))
+          (enum-told2 .given .1) ((c .if1) .taken),
+      refl,
+    )
 
 -- src/symbols.rt:107:21
 mul-put-name : tie.Need-mul-put-name
@@ -74,7 +103,13 @@ mul-put-name c = search needs
 
 -- src/symbols.rt:107:5
 put-name-requires : tie.Need-put-name-requires
-put-name-requires c κs = sort-fits ((c .before .before .before .before .before .before .before .before .before .before .before .before .before .before .pre) .1 .1) _ _ _ (proper-here 1 ((c .before .before .before .before .before .before .before .before .before .before .before .before .before .before .pre) .0 .xs) ((c .before .before .before .before .before .before .before .before .before .before .proper-at) .ensures) ((c .before .before .before .before .before .before .before .before .start) .given .1) ((c .before .before .before .before .before .before .before .before .before .before .before .before .before .before .pre) .0 .holds)) ((c .before .before .before .before .before .before .before .before .before .before .before .before .before .before .pre) .0 .short) ((c .before .if1) .left)
+put-name-requires c κs =
+    let pre = c .before .before .before .before .before .before .before .before .before .before .before .before .before .before .pre in
+    let proper-at = c .before .before .before .before .before .before .before .before .before .before .proper-at in
+    let start = c .before .before .before .before .before .before .before .before .start in
+    let if1 = c .before .if1 in
+    sort-fits (pre .1 .1) _ _ _ (proper-here 1 (pre .0 .xs) (proper-at .ensures) (start .given .1) (pre .0 .holds)) (pre .0 .short)
+    (if1 .left)
 
 -- src/symbols.rt:108:15
 add-t12 : tie.Need-add-t12
@@ -86,7 +121,16 @@ same-length-3 c = search needs
 
 -- src/symbols.rt:92:1
 returns-4 : tie.Need-returns-4
-returns-4 c = λ T xs h k. rw ((c .before .before .put-name) .ensures) (sort-stored T xs h _ _ (proper-here 1 xs ((c .before .before .before .before .before .before .before .before .before .before .before .before .before .proper-at) .ensures) ((c .before .before .before .before .before .before .before .before .before .before .before .start) .given .1) k) _ ((c .before .before .before .before .before .before .before .named) .ensures (T .sorts) (sorts-rows h)) ((c .before .before .before .before .before .enum-told2) .given .1) ((c .before .before .before .before .if1) .left))
+returns-4 c =
+    let put-name = c .before .before .put-name in
+    let proper-at = c .before .before .before .before .before .before .before .before .before .before .before .before .before .proper-at in
+    let start = c .before .before .before .before .before .before .before .before .before .before .before .start in
+    let named = c .before .before .before .before .before .before .before .named in
+    let enum-told2 = c .before .before .before .before .before .enum-told2 in
+    let if1 = c .before .before .before .before .if1 in
+    λ T xs h k. rw (put-name .ensures)
+    (sort-stored T xs h _ _ (proper-here 1 xs (proper-at .ensures) (start .given .1) k) _ (named .ensures (T .sorts) (sorts-rows h))
+    (enum-told2 .given .1) (if1 .left))
 
 pub add-sort-spec : {M : Type 1} → statement M
 add-sort-spec =

@@ -15,7 +15,15 @@ nth-requires c κs = search needs
 
 -- src/symbols.rt:63:5
 proper-requires : tie.Need-proper-requires
-proper-requires c κs = (item ((c .before .before .before .pre) .xs) ((c .before .before .before .args) .number), place ((c .before .before .before .pre) .xs) ((c .before .before .before .args) .number), (c .nth) .ensures ((c .before .before .before .pre) .xs) ((c .before .before .before .pre) .holds .cells), spells-item ((c .before .before .before .pre) .holds) ((c .before .before .before .args) .number))
+proper-requires c κs =
+    let entry = c .before .before .before in
+    let pre = entry .pre in
+    let args = entry .args in (
+      item (pre .xs) (args .number),
+      place (pre .xs) (args .number),
+      (c .nth) .ensures (pre .xs) (pre .holds .cells),
+      spells-item (pre .holds) (args .number),
+    )
 
 -- src/symbols.rt:58:1
 returns : tie.Need-returns

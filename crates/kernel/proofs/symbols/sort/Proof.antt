@@ -27,15 +27,42 @@ returns c = λ x at e s ns k. sort-unnamed ns x (proper-missing x _ ((c .before 
 
 -- src/symbols.rt:55:56
 sub-named : tie.Need-sub-named
-sub-named c = omega (arith, proper-found ((c .before .before .before .before .before .before .args) .text .now) ((c .before .before .before .before .before .before .pre) .0 .0) _ _ _ ((c .before .before .before .before .before .before .pre) .0 .3) ((c .before .before .before .proper) .ensures ((c .before .before .before .before .before .before .pre) .0 .0) ((c .before .before .before .before .before .before .pre) .0 .1) ((c .before .before .before .before .before .before .pre) .0 .2) ((c .before .before .before .before .before .before .pre) .0 .3)) ((c .before .start) .given .1) .end)
+sub-named c =
+    let entry = c .before .before .before .before .before .before in
+    let args = entry .args in
+    let pre = entry .pre in
+    let proper = c .before .before .before .proper in
+    let start = c .before .start in
+    omega (
+      arith,
+      proper-found (args .text .now) (pre .0 .0) _ _ _ (pre .0 .3) (proper .ensures (pre .0 .0) (pre .0 .1) (pre .0 .2) (pre .0 .3))
+          (start .given .1) .end,
+    )
 
 -- src/symbols.rt:55:56
 part-named-start : tie.Need-part-named-start
-part-named-start c = omega (arith, proper-found ((c .before .before .before .before .before .before .args) .text .now) ((c .before .before .before .before .before .before .pre) .0 .0) _ _ _ ((c .before .before .before .before .before .before .pre) .0 .3) ((c .before .before .before .proper) .ensures ((c .before .before .before .before .before .before .pre) .0 .0) ((c .before .before .before .before .before .before .pre) .0 .1) ((c .before .before .before .before .before .before .pre) .0 .2) ((c .before .before .before .before .before .before .pre) .0 .3)) ((c .before .start) .given .1) .end)
+part-named-start c =
+    let entry = c .before .before .before .before .before .before in
+    let args = entry .args in
+    let pre = entry .pre in
+    let proper = c .before .before .before .proper in
+    let start = c .before .start in
+    omega (
+      arith,
+      proper-found (args .text .now) (pre .0 .0) _ _ _ (pre .0 .3) (proper .ensures (pre .0 .0) (pre .0 .1) (pre .0 .2) (pre .0 .3))
+          (start .given .1) .end,
+    )
 
 -- src/symbols.rt:55:56
 part-named-end : tie.Need-part-named-end
-part-named-end c = proper-found ((c .before .before .before .before .before .before .args) .text .now) ((c .before .before .before .before .before .before .pre) .0 .0) _ _ _ ((c .before .before .before .before .before .before .pre) .0 .3) ((c .before .before .before .proper) .ensures ((c .before .before .before .before .before .before .pre) .0 .0) ((c .before .before .before .before .before .before .pre) .0 .1) ((c .before .before .before .before .before .before .pre) .0 .2) ((c .before .before .before .before .before .before .pre) .0 .3)) ((c .before .start) .given .1) .high
+part-named-end c =
+    let entry = c .before .before .before .before .before .before in
+    let args = entry .args in
+    let pre = entry .pre in
+    let proper = c .before .before .before .proper in
+    let start = c .before .start in
+    proper-found (args .text .now) (pre .0 .0) _ _ _ (pre .0 .3) (proper .ensures (pre .0 .0) (pre .0 .1) (pre .0 .2) (pre .0 .3))
+    (start .given .1) .high
 
 -- src/symbols.rt:55:24
 named-requires : tie.Need-named-requires
@@ -51,15 +78,34 @@ enum-told-2 c = search needs
 
 -- src/symbols.rt:56:9
 returns-2 : tie.Need-returns-2
-returns-2 c = λ x at e s ns k. sort-missing ((c .before .before .before .before .before .before .before .before .before .before .args) .text .now) ns x _ _ (proper-found ((c .before .before .before .before .before .before .before .before .before .before .args) .text .now) x _ _ _ s ((c .before .before .before .before .before .before .before .proper) .ensures x at e s) ((c .before .before .before .before .before .start) .given .1)) _ ((c .before .before .named) .ensures ns k) ((c .enum-told2) .given .1)
+returns-2 c =
+    let args = c .before .before .before .before .before .before .before .before .before .before .args in
+    let proper = c .before .before .before .before .before .before .before .proper in
+    let start = c .before .before .before .before .before .start in
+    let named = c .before .before .named in
+    λ x at e s ns k. sort-missing (args .text .now) ns x _ _
+    (proper-found (args .text .now) x _ _ _ s (proper .ensures x at e s) (start .given .1)) _ (named .ensures ns k)
+    ((c .enum-told2) .given .1)
 
 -- src/symbols.rt:58:15
 add-t11 : tie.Need-add-t11
-add-t11 c = omega (arith, found-inside _ ((c .before .before .before .before .before .before .before .before .before .before .before .pre) .1 .0) _ _ ((c .before .before .before .named) .ensures ((c .before .before .before .before .before .before .before .before .before .before .before .pre) .1 .0) ((c .before .before .before .before .before .before .before .before .before .before .before .pre) .1 .1)) ((c .before .i) .given .1), (c .before .before .before .before .before .before .before .before .before .before .before .pre) .1 .1 .many, (c .before .before .before .before .before .before .before .before .before .before .before .fits) .count)
+add-t11 c =
+    let pre = c .before .before .before .before .before .before .before .before .before .before .before .pre in
+    let named = c .before .before .before .named in
+    let i = c .before .i in
+    let fits = c .before .before .before .before .before .before .before .before .before .before .before .fits in
+    omega (arith, found-inside _ (pre .1 .0) _ _ (named .ensures (pre .1 .0) (pre .1 .1)) (i .given .1), pre .1 .1 .many, fits .count)
 
 -- src/symbols.rt:46:1
 returns-3 : tie.Need-returns-3
-returns-3 c = λ x at e s ns k. sort-found ((c .before .before .before .before .before .before .before .before .before .before .before .args) .text .now) ns x _ _ (proper-found ((c .before .before .before .before .before .before .before .before .before .before .before .args) .text .now) x _ _ _ s ((c .before .before .before .before .before .before .before .before .proper) .ensures x at e s) ((c .before .before .before .before .before .before .start) .given .1)) _ ((c .before .before .before .named) .ensures ns k) _ ((c .before .i) .given .1)
+returns-3 c =
+    let args = c .before .before .before .before .before .before .before .before .before .before .before .args in
+    let proper = c .before .before .before .before .before .before .before .before .proper in
+    let start = c .before .before .before .before .before .before .start in
+    let named = c .before .before .before .named in
+    let i = c .before .i in
+    λ x at e s ns k. sort-found (args .text .now) ns x _ _
+    (proper-found (args .text .now) x _ _ _ s (proper .ensures x at e s) (start .given .1)) _ (named .ensures ns k) _ (i .given .1)
 
 pub sort-spec : {M : Type 1} → statement M
 sort-spec =

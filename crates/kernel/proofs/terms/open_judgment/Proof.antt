@@ -51,7 +51,15 @@ part-symbol-named-start c = search needs
 
 -- src/terms.rt:53:65
 part-symbol-named-end : tie.Need-part-symbol-named-end
-part-symbol-named-end c = atom-span ((c .before .before .before .before .before .before .before .before .before .before .args) .text .now) _ _ (atom-first ((c .before .before .before .before .before .before .before .before .before .before .pre) .holds) ((c .before .before .before .before .before .if1) .left) ((c .before .before .before .before .item-at) .ensures) ((c .before .before .start) .given .1) .inside) ((c .atom-end) .ensures) .high
+part-symbol-named-end c =
+    let entry = c .before .before .before .before .before .before .before .before .before .before in
+    let args = entry .args in
+    let pre = entry .pre in
+    let if1 = c .before .before .before .before .before .if1 in
+    let item-at = c .before .before .before .before .item-at in
+    let start = c .before .before .start in
+    atom-span (args .text .now) _ _ (atom-first (pre .holds) (if1 .left) (item-at .ensures) (start .given .1) .inside)
+    ((c .atom-end) .ensures) .high
 
 -- src/terms.rt:53:24
 symbol-named-requires : tie.Need-symbol-named-requires
@@ -67,23 +75,52 @@ enum-told-2 c = search needs
 
 -- src/terms.rt:54:9
 returns-3 : tie.Need-returns-3
-returns-3 c = λ T R ins zs h w k. judgment-unknown T R _ _ (atom-first k ((c .before .before .before .before .before .before .before .before .before .if1) .left) ((c .before .before .before .before .before .before .before .before .item-at) .ensures) ((c .before .before .before .before .before .before .start) .given .1)) _ ((c .before .before .before .before .atom-end) .ensures) h _ ((c .before .before .symbol-named) .ensures) ((c .enum-told2) .given .1)
+returns-3 c =
+    let if1 = c .before .before .before .before .before .before .before .before .before .if1 in
+    let item-at = c .before .before .before .before .before .before .before .before .item-at in
+    let start = c .before .before .before .before .before .before .start in
+    let atom-end = c .before .before .before .before .atom-end in
+    let symbol-named = c .before .before .symbol-named in
+    λ T R ins zs h w k. judgment-unknown T R _ _ (atom-first k (if1 .left) (item-at .ensures) (start .given .1)) _ (atom-end .ensures) h _
+    (symbol-named .ensures) ((c .enum-told2) .given .1)
 
 -- src/terms.rt:56:25
 mul-arity : tie.Need-mul-arity
-mul-arity c = omega (arith, head-row _ true _ _ ((c .before .before .before .before .before .before .before .before .before .before .before .before .before .before .before .pre) .held .1) ((c .before .before .before .symbol-named) .ensures) ((c .before .p) .given .1) .0, (c .before .before .before .before .before .before .before .before .before .before .before .before .before .before .before .good))
+mul-arity c =
+    let entry = c .before .before .before .before .before .before .before .before .before .before .before .before .before .before .before in
+    let pre = entry .pre in
+    let symbol-named = c .before .before .before .symbol-named in
+    let p = c .before .p in
+    let good = entry .good in
+    omega (arith, head-row _ true _ _ (pre .held .1) (symbol-named .ensures) (p .given .1) .0, good)
 
 -- src/terms.rt:56:25
 add-arity : tie.Need-add-arity
-add-arity c = omega (arith, head-row _ true _ _ ((c .before .before .before .before .before .before .before .before .before .before .before .before .before .before .before .pre) .held .1) ((c .before .before .before .symbol-named) .ensures) ((c .before .p) .given .1) .0, (c .before .before .before .before .before .before .before .before .before .before .before .before .before .before .before .good))
+add-arity c =
+    let entry = c .before .before .before .before .before .before .before .before .before .before .before .before .before .before .before in
+    let pre = entry .pre in
+    let symbol-named = c .before .before .before .symbol-named in
+    let p = c .before .p in
+    let good = entry .good in
+    omega (arith, head-row _ true _ _ (pre .held .1) (symbol-named .ensures) (p .given .1) .0, good)
 
 -- src/terms.rt:56:17
 mul-arity-2 : tie.Need-mul-arity-2
-mul-arity-2 c = omega (arith, head-row _ true _ _ ((c .before .before .before .before .before .before .before .before .before .before .before .before .before .before .before .pre) .held .1) ((c .before .before .before .symbol-named) .ensures) ((c .before .p) .given .1) .0, (c .before .before .before .before .before .before .before .before .before .before .before .before .before .before .before .good))
+mul-arity-2 c =
+    let entry = c .before .before .before .before .before .before .before .before .before .before .before .before .before .before .before in
+    let pre = entry .pre in
+    let symbol-named = c .before .before .before .symbol-named in
+    let p = c .before .p in
+    let good = entry .good in
+    omega (arith, head-row _ true _ _ (pre .held .1) (symbol-named .ensures) (p .given .1) .0, good)
 
 -- src/terms.rt:56:17
 shared-slice-read-arity : tie.Need-shared-slice-read-arity
-shared-slice-read-arity c = omega (arith, head-row _ true _ _ ((c .before .before .before .before .before .before .before .before .before .before .before .before .before .before .before .before .pre) .held .1) ((c .before .before .before .before .symbol-named) .ensures) ((c .before .before .p) .given .1) .0)
+shared-slice-read-arity c =
+    let pre = c .before .before .before .before .before .before .before .before .before .before .before .before .before .before .before .before .pre in
+    let symbol-named = c .before .before .before .before .symbol-named in
+    let p = c .before .before .p in
+    omega (arith, head-row _ true _ _ (pre .held .1) (symbol-named .ensures) (p .given .1) .0)
 
 -- src/terms.rt:56:17
 cast-arity : tie.Need-cast-arity
@@ -99,11 +136,24 @@ add-if2 c = omega (arith, (c .before .shared-slice-known4) .given (4 * (c .befor
 
 -- src/terms.rt:59:9
 returns-4 : tie.Need-returns-4
-returns-4 c = λ T R ins zs h w k. judgment-count T R _ _ (atom-first k ((c .before .before .before .before .before .before .before .before .before .before .before .before .before .if1) .left) ((c .before .before .before .before .before .before .before .before .before .before .before .before .item-at) .ensures) ((c .before .before .before .before .before .before .before .before .before .before .start) .given .1)) _ ((c .before .before .before .before .before .before .before .before .atom-end) .ensures) h _ ((c .before .before .before .before .before .before .symbol-named) .ensures) _ ((c .before .before .before .before .p) .given .1) _ ((c .before .count) .ensures zs (k .cells)) ((c .if2) .taken)
+returns-4 c =
+    let if1 = c .before .before .before .before .before .before .before .before .before .before .before .before .before .if1 in
+    let item-at = c .before .before .before .before .before .before .before .before .before .before .before .before .item-at in
+    let start = c .before .before .before .before .before .before .before .before .before .before .start in
+    let atom-end = c .before .before .before .before .before .before .before .before .atom-end in
+    let symbol-named = c .before .before .before .before .before .before .symbol-named in
+    let p = c .before .before .before .before .p in
+    let count = c .before .count in
+    λ T R ins zs h w k. judgment-count T R _ _ (atom-first k (if1 .left) (item-at .ensures) (start .given .1)) _ (atom-end .ensures) h _
+    (symbol-named .ensures) _ (p .given .1) _ (count .ensures zs (k .cells)) ((c .if2) .taken)
 
 -- src/terms.rt:61:8
 put-word-requires : tie.Need-put-word-requires
-put-word-requires c κs = record { long = (c .before .before .before .before .before .before .before .before .before .before .before .before .before .before .before .before .before .before .before .pre) .long; small = omega (arith, head-row _ true _ _ ((c .before .before .before .before .before .before .before .before .before .before .before .before .before .before .before .before .before .before .before .pre) .held .1) ((c .before .before .before .before .before .before .before .symbol-named) .ensures) ((c .before .before .before .before .before .p) .given .1) .1) }
+put-word-requires c κs =
+    let pre = c .before .before .before .before .before .before .before .before .before .before .before .before .before .before .before .before .before .before .before .pre in
+    let symbol-named = c .before .before .before .before .before .before .before .symbol-named in
+    let p = c .before .before .before .before .before .p in
+    record { long = pre .long; small = omega (arith, head-row _ true _ _ (pre .held .1) (symbol-named .ensures) (p .given .1) .1) }
 
 -- src/terms.rt:62:28
 add-t26 : tie.Need-add-t26
@@ -115,7 +165,20 @@ same-length c = search needs
 
 -- src/terms.rt:62:9
 returns-5 : tie.Need-returns-5
-returns-5 c = λ T R ins zs h w k. judgment-opened T R _ _ (atom-first k ((c .before .before .before .before .before .before .before .before .before .before .before .before .before .before .before .before .before .before .if1) .left) ((c .before .before .before .before .before .before .before .before .before .before .before .before .before .before .before .before .before .item-at) .ensures) ((c .before .before .before .before .before .before .before .before .before .before .before .before .before .before .before .start) .given .1)) _ ((c .before .before .before .before .before .before .before .before .before .before .before .before .before .atom-end) .ensures) h _ ((c .before .before .before .before .before .before .before .before .before .before .before .symbol-named) .ensures) _ ((c .before .before .before .before .before .before .before .before .before .p) .given .1) _ ((c .before .before .before .before .before .before .count) .ensures zs (k .cells)) ((c .before .before .before .before .before .if2) .left) _ w ((c .before .before .before .before .before .before .before .before .before .before .before .before .before .before .before .before .before .before .before .before .before .before .before .pre) .long) (put-yes _ _ _ _ ((c .before .before .before .put-word) .result) ((c .before .before .before .put-word) .ensures) ((c .if3) .taken))
+returns-5 c =
+    let if1 = c .before .before .before .before .before .before .before .before .before .before .before .before .before .before .before .before .before .before .if1 in
+    let item-at = c .before .before .before .before .before .before .before .before .before .before .before .before .before .before .before .before .before .item-at in
+    let start = c .before .before .before .before .before .before .before .before .before .before .before .before .before .before .before .start in
+    let atom-end = c .before .before .before .before .before .before .before .before .before .before .before .before .before .atom-end in
+    let symbol-named = c .before .before .before .before .before .before .before .before .before .before .before .symbol-named in
+    let p = c .before .before .before .before .before .before .before .before .before .p in
+    let count = c .before .before .before .before .before .before .count in
+    let if2 = c .before .before .before .before .before .if2 in
+    let pre = c .before .before .before .before .before .before .before .before .before .before .before .before .before .before .before .before .before .before .before .before .before .before .before .pre in
+    let put-word = c .before .before .before .put-word in
+    λ T R ins zs h w k. judgment-opened T R _ _ (atom-first k (if1 .left) (item-at .ensures) (start .given .1)) _ (atom-end .ensures) h _
+    (symbol-named .ensures) _ (p .given .1) _ (count .ensures zs (k .cells)) (if2 .left) _ w (pre .long)
+    (put-yes _ _ _ _ (put-word .result) (put-word .ensures) ((c .if3) .taken))
 
 -- src/terms.rt:40:1
 same-length-2 : tie.Need-same-length-2
@@ -123,7 +186,19 @@ same-length-2 c = search needs
 
 -- src/terms.rt:40:1
 returns-6 : tie.Need-returns-6
-returns-6 c = λ T R ins zs h w k. judgment-full T R _ _ (atom-first k ((c .before .before .before .before .before .before .before .before .before .before .before .before .before .before .before .before .before .before .if1) .left) ((c .before .before .before .before .before .before .before .before .before .before .before .before .before .before .before .before .before .item-at) .ensures) ((c .before .before .before .before .before .before .before .before .before .before .before .before .before .before .before .start) .given .1)) _ ((c .before .before .before .before .before .before .before .before .before .before .before .before .before .atom-end) .ensures) h _ ((c .before .before .before .before .before .before .before .before .before .before .before .symbol-named) .ensures) _ ((c .before .before .before .before .before .before .before .before .before .p) .given .1) _ ((c .before .before .before .before .before .before .count) .ensures zs (k .cells)) ((c .before .before .before .before .before .if2) .left) _ w (put-no _ _ _ _ ((c .before .before .before .put-word) .result) ((c .before .before .before .put-word) .ensures) ((c .if3) .left))
+returns-6 c =
+    let if1 = c .before .before .before .before .before .before .before .before .before .before .before .before .before .before .before .before .before .before .if1 in
+    let item-at = c .before .before .before .before .before .before .before .before .before .before .before .before .before .before .before .before .before .item-at in
+    let start = c .before .before .before .before .before .before .before .before .before .before .before .before .before .before .before .start in
+    let atom-end = c .before .before .before .before .before .before .before .before .before .before .before .before .before .atom-end in
+    let symbol-named = c .before .before .before .before .before .before .before .before .before .before .before .symbol-named in
+    let p = c .before .before .before .before .before .before .before .before .before .p in
+    let count = c .before .before .before .before .before .before .count in
+    let if2 = c .before .before .before .before .before .if2 in
+    let put-word = c .before .before .before .put-word in
+    λ T R ins zs h w k. judgment-full T R _ _ (atom-first k (if1 .left) (item-at .ensures) (start .given .1)) _ (atom-end .ensures) h _
+    (symbol-named .ensures) _ (p .given .1) _ (count .ensures zs (k .cells)) (if2 .left) _ w
+    (put-no _ _ _ _ (put-word .result) (put-word .ensures) ((c .if3) .left))
 
 pub open-judgment-spec : {M : Type 1} → statement M
 open-judgment-spec =

@@ -35,7 +35,14 @@ count-requires c κs = search needs
 
 -- src/terms.rt:34:9
 returns-3 : tie.Need-returns-3
-returns-3 c = λ T R ins zs h w k. term-lone T R ((c .before .before .before .before .before .before .before .before .before .before .before .args) .sort) _ _ (atom-first k ((c .before .before .before .before .before .before .if1) .left) ((c .before .before .before .before .before .item-at) .ensures) ((c .before .before .before .start) .given .1)) _ ((c .before .count) .ensures zs (k .cells)) ((c .if2) .taken)
+returns-3 c =
+    let args = c .before .before .before .before .before .before .before .before .before .before .before .args in
+    let if1 = c .before .before .before .before .before .before .if1 in
+    let item-at = c .before .before .before .before .before .item-at in
+    let start = c .before .before .before .start in
+    let count = c .before .count in
+    λ T R ins zs h w k. term-lone T R (args .sort) _ _ (atom-first k (if1 .left) (item-at .ensures) (start .given .1)) _
+    (count .ensures zs (k .cells)) ((c .if2) .taken)
 
 -- src/terms.rt:36:36
 sub-constructor : tie.Need-sub-constructor
@@ -43,7 +50,17 @@ sub-constructor c = search needs
 
 -- src/terms.rt:36:5
 constructor-requires : tie.Need-constructor-requires
-constructor-requires c κs = record { inputs = (c .before .before .before .before .before .before .before .before .before .before .before .before .pre) .inputs; held = (c .before .before .before .before .before .before .before .before .before .before .before .before .pre) .held; inside = atom-first ((c .before .before .before .before .before .before .before .before .before .before .before .before .pre) .holds) ((c .before .before .before .before .before .before .before .if1) .left) ((c .before .before .before .before .before .before .item-at) .ensures) ((c .before .before .before .before .start) .given .1) .inside; long = (c .before .before .before .before .before .before .before .before .before .before .before .before .pre) .long }
+constructor-requires c κs =
+    let pre = c .before .before .before .before .before .before .before .before .before .before .before .before .pre in
+    let if1 = c .before .before .before .before .before .before .before .if1 in
+    let item-at = c .before .before .before .before .before .before .item-at in
+    let start = c .before .before .before .before .start in
+    record {
+      inputs = pre .inputs;
+      held = pre .held;
+      inside = atom-first (pre .holds) (if1 .left) (item-at .ensures) (start .given .1) .inside;
+      long = pre .long;
+    }
 
 -- src/terms.rt:20:1
 same-length : tie.Need-same-length
@@ -51,7 +68,17 @@ same-length c = search needs
 
 -- src/terms.rt:20:1
 returns-4 : tie.Need-returns-4
-returns-4 c = λ T R ins zs h w k. term-opened T R ((c .before .before .before .before .before .before .before .before .before .before .before .before .before .before .before .args) .sort) ((c .before .before .before .before .before .before .before .before .before .before .before .before .before .before .before .args) .patterns .now) ((c .before .before .before .before .before .before .before .before .before .before .before .before .before .before .before .args) .used) (atom-first k ((c .before .before .before .before .before .before .before .before .before .before .if1) .left) ((c .before .before .before .before .before .before .before .before .before .item-at) .ensures) ((c .before .before .before .before .before .before .before .start) .given .1)) ((c .before .before .before .before .before .count) .result) ((c .before .before .before .before .before .count) .ensures zs (k .cells)) ((c .before .before .before .before .if2) .left) ((c .before .before .constructor) .last .1 .1 .1 .1 .1 .1 .0) ((c .before .before .constructor) .result) ((c .before .before .constructor) .ensures T R ins h w)
+returns-4 c =
+    let args = c .before .before .before .before .before .before .before .before .before .before .before .before .before .before .before .args in
+    let if1 = c .before .before .before .before .before .before .before .before .before .before .if1 in
+    let item-at = c .before .before .before .before .before .before .before .before .before .item-at in
+    let start = c .before .before .before .before .before .before .before .start in
+    let count = c .before .before .before .before .before .count in
+    let if2 = c .before .before .before .before .if2 in
+    let constructor = c .before .before .constructor in
+    λ T R ins zs h w k. term-opened T R (args .sort) (args .patterns .now) (args .used)
+    (atom-first k (if1 .left) (item-at .ensures) (start .given .1)) (count .result) (count .ensures zs (k .cells)) (if2 .left)
+    (constructor .last .1 .1 .1 .1 .1 .1 .0) (constructor .result) (constructor .ensures T R ins h w)
 
 pub open-term-spec : {M : Type 1} → statement M
 open-term-spec =

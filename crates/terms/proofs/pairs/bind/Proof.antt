@@ -17,7 +17,10 @@ same-length c = search needs
 
 -- src/pairs.rt:30:9
 returns : tie.Need-returns
-returns c = (bind-to _ _ _ _ _ _ ((c .before .before .before .before .before .before .before .before .pre) .0) ((c .before .before .before .before .before .before .before .before .pre) .1) _ ((c .before .before .before .occurs) .ensures .0) (not-true ((c .before .before .before .occurs) .result) ((c .if1) .taken)), (c .before .before .before .occurs) .ensures .1)
+returns c =
+    let pre = c .before .before .before .before .before .before .before .before .pre in
+    let occurs = c .before .before .before .occurs in
+    (bind-to _ _ _ _ _ _ (pre .0) (pre .1) _ (occurs .ensures .0) (not-true (occurs .result) ((c .if1) .taken)), occurs .ensures .1)
 
 -- src/pairs.rt:24:1
 same-length-2 : tie.Need-same-length-2

@@ -20,11 +20,39 @@ loop-holds c = piling-begins _ _ _ _ _ _ (c .pre)
 
 -- src/pairs.rt:71:42
 add-pairs : tie.Need-add-pairs Inv-loop μ-loop
-add-pairs c = omega (arith, (c .before .loop) .inv .left, (c .before .loop) .inv .right, (c .before .loop) .inv .room, (c .before .loop) .inv .long, (c .loop-test) .taken, (c .before .before .good) .0 .0, (c .before .before .good) .0 .1, (c .before .before .good) .1 .1 .1 .1 .0 .0, (c .before .before .good) .1 .1 .1 .1 .0 .1)
+add-pairs c =
+    let loop = c .before .loop in
+    let good = c .before .before .good in
+    omega (
+      arith,
+      loop .inv .left,
+      loop .inv .right,
+      loop .inv .room,
+      loop .inv .long,
+      (c .loop-test) .taken,
+      good .0 .0,
+      good .0 .1,
+      good .1 .1 .1 .1 .0 .0,
+      good .1 .1 .1 .1 .0 .1,
+    )
 
 -- src/pairs.rt:71:36
 mul-pairs : tie.Need-mul-pairs Inv-loop μ-loop
-mul-pairs c = omega (arith, (c .before .loop) .inv .left, (c .before .loop) .inv .right, (c .before .loop) .inv .room, (c .before .loop) .inv .long, (c .loop-test) .taken, (c .before .before .good) .0 .0, (c .before .before .good) .0 .1, (c .before .before .good) .1 .1 .1 .1 .0 .0, (c .before .before .good) .1 .1 .1 .1 .0 .1)
+mul-pairs c =
+    let loop = c .before .loop in
+    let good = c .before .before .good in
+    omega (
+      arith,
+      loop .inv .left,
+      loop .inv .right,
+      loop .inv .room,
+      loop .inv .long,
+      (c .loop-test) .taken,
+      good .0 .0,
+      good .0 .1,
+      good .1 .1 .1 .1 .0 .0,
+      good .1 .1 .1 .1 .0 .1,
+    )
 
 -- src/pairs.rt:71:36
 shared-slice-read-pairs : tie.Need-shared-slice-read-pairs Inv-loop μ-loop
@@ -32,15 +60,60 @@ shared-slice-read-pairs c = omega (arith, (c .before .before .loop) .inv .left, 
 
 -- src/pairs.rt:71:20
 add-pairs-2 : tie.Need-add-pairs-2 Inv-loop μ-loop
-add-pairs-2 c = omega (arith, (c .before .before .loop) .inv .left, (c .before .before .loop) .inv .right, (c .before .before .loop) .inv .room, (c .before .before .loop) .inv .long, (c .before .loop-test) .taken, (c .before .before .before .good) .0 .0, (c .before .before .before .good) .0 .1, (c .before .before .before .good) .1 .1 .1 .1 .0 .0, (c .before .before .before .good) .1 .1 .1 .1 .0 .1)
+add-pairs-2 c =
+    let loop = c .before .before .loop in
+    let loop-test = c .before .loop-test in
+    let good = c .before .before .before .good in
+    omega (
+      arith,
+      loop .inv .left,
+      loop .inv .right,
+      loop .inv .room,
+      loop .inv .long,
+      loop-test .taken,
+      good .0 .0,
+      good .0 .1,
+      good .1 .1 .1 .1 .0 .0,
+      good .1 .1 .1 .1 .0 .1,
+    )
 
 -- src/pairs.rt:71:15
 mul-pairs-2 : tie.Need-mul-pairs-2 Inv-loop μ-loop
-mul-pairs-2 c = omega (arith, (c .before .before .loop) .inv .left, (c .before .before .loop) .inv .right, (c .before .before .loop) .inv .room, (c .before .before .loop) .inv .long, (c .before .loop-test) .taken, (c .before .before .before .good) .0 .0, (c .before .before .before .good) .0 .1, (c .before .before .before .good) .1 .1 .1 .1 .0 .0, (c .before .before .before .good) .1 .1 .1 .1 .0 .1)
+mul-pairs-2 c =
+    let loop = c .before .before .loop in
+    let loop-test = c .before .loop-test in
+    let good = c .before .before .before .good in
+    omega (
+      arith,
+      loop .inv .left,
+      loop .inv .right,
+      loop .inv .room,
+      loop .inv .long,
+      loop-test .taken,
+      good .0 .0,
+      good .0 .1,
+      good .1 .1 .1 .1 .0 .0,
+      good .1 .1 .1 .1 .0 .1,
+    )
 
 -- src/pairs.rt:71:9
 mul-pairs-3 : tie.Need-mul-pairs-3 Inv-loop μ-loop
-mul-pairs-3 c = omega (arith, (c .before .before .loop) .inv .left, (c .before .before .loop) .inv .right, (c .before .before .loop) .inv .room, (c .before .before .loop) .inv .long, (c .before .loop-test) .taken, (c .before .before .before .good) .0 .0, (c .before .before .before .good) .0 .1, (c .before .before .before .good) .1 .1 .1 .1 .0 .0, (c .before .before .before .good) .1 .1 .1 .1 .0 .1)
+mul-pairs-3 c =
+    let loop = c .before .before .loop in
+    let loop-test = c .before .loop-test in
+    let good = c .before .before .before .good in
+    omega (
+      arith,
+      loop .inv .left,
+      loop .inv .right,
+      loop .inv .room,
+      loop .inv .long,
+      loop-test .taken,
+      good .0 .0,
+      good .0 .1,
+      good .1 .1 .1 .1 .0 .0,
+      good .1 .1 .1 .1 .0 .1,
+    )
 
 -- src/pairs.rt:71:9
 slice-write-pairs : tie.Need-slice-write-pairs Inv-loop μ-loop
@@ -48,11 +121,41 @@ slice-write-pairs c = omega (arith, (c .before .before .loop) .inv .left, (c .be
 
 -- src/pairs.rt:72:46
 add-pairs-3 : tie.Need-add-pairs-3 Inv-loop μ-loop
-add-pairs-3 c = omega (arith, (c .before .before .loop) .inv .left, (c .before .before .loop) .inv .right, (c .before .before .loop) .inv .room, (c .before .before .loop) .inv .long, (c .before .loop-test) .taken, (c .before .before .before .good) .0 .0, (c .before .before .before .good) .0 .1, (c .before .before .before .good) .1 .1 .1 .1 .0 .0, (c .before .before .before .good) .1 .1 .1 .1 .0 .1)
+add-pairs-3 c =
+    let loop = c .before .before .loop in
+    let loop-test = c .before .loop-test in
+    let good = c .before .before .before .good in
+    omega (
+      arith,
+      loop .inv .left,
+      loop .inv .right,
+      loop .inv .room,
+      loop .inv .long,
+      loop-test .taken,
+      good .0 .0,
+      good .0 .1,
+      good .1 .1 .1 .1 .0 .0,
+      good .1 .1 .1 .1 .0 .1,
+    )
 
 -- src/pairs.rt:72:40
 mul-pairs-4 : tie.Need-mul-pairs-4 Inv-loop μ-loop
-mul-pairs-4 c = omega (arith, (c .before .before .loop) .inv .left, (c .before .before .loop) .inv .right, (c .before .before .loop) .inv .room, (c .before .before .loop) .inv .long, (c .before .loop-test) .taken, (c .before .before .before .good) .0 .0, (c .before .before .before .good) .0 .1, (c .before .before .before .good) .1 .1 .1 .1 .0 .0, (c .before .before .before .good) .1 .1 .1 .1 .0 .1)
+mul-pairs-4 c =
+    let loop = c .before .before .loop in
+    let loop-test = c .before .loop-test in
+    let good = c .before .before .before .good in
+    omega (
+      arith,
+      loop .inv .left,
+      loop .inv .right,
+      loop .inv .room,
+      loop .inv .long,
+      loop-test .taken,
+      good .0 .0,
+      good .0 .1,
+      good .1 .1 .1 .1 .0 .0,
+      good .1 .1 .1 .1 .0 .1,
+    )
 
 -- src/pairs.rt:72:40
 shared-slice-read-pairs-2 : tie.Need-shared-slice-read-pairs-2 Inv-loop μ-loop
@@ -60,27 +163,113 @@ shared-slice-read-pairs-2 c = omega (arith, (c .before .before .before .loop) .i
 
 -- src/pairs.rt:72:20
 add-pairs-4 : tie.Need-add-pairs-4 Inv-loop μ-loop
-add-pairs-4 c = omega (arith, (c .before .before .before .loop) .inv .left, (c .before .before .before .loop) .inv .right, (c .before .before .before .loop) .inv .room, (c .before .before .before .loop) .inv .long, (c .before .before .loop-test) .taken, (c .before .before .before .before .good) .0 .0, (c .before .before .before .before .good) .0 .1, (c .before .before .before .before .good) .1 .1 .1 .1 .0 .0, (c .before .before .before .before .good) .1 .1 .1 .1 .0 .1)
+add-pairs-4 c =
+    let loop = c .before .before .before .loop in
+    let loop-test = c .before .before .loop-test in
+    let good = c .before .before .before .before .good in
+    omega (
+      arith,
+      loop .inv .left,
+      loop .inv .right,
+      loop .inv .room,
+      loop .inv .long,
+      loop-test .taken,
+      good .0 .0,
+      good .0 .1,
+      good .1 .1 .1 .1 .0 .0,
+      good .1 .1 .1 .1 .0 .1,
+    )
 
 -- src/pairs.rt:72:15
 mul-pairs-5 : tie.Need-mul-pairs-5 Inv-loop μ-loop
-mul-pairs-5 c = omega (arith, (c .before .before .before .loop) .inv .left, (c .before .before .before .loop) .inv .right, (c .before .before .before .loop) .inv .room, (c .before .before .before .loop) .inv .long, (c .before .before .loop-test) .taken, (c .before .before .before .before .good) .0 .0, (c .before .before .before .before .good) .0 .1, (c .before .before .before .before .good) .1 .1 .1 .1 .0 .0, (c .before .before .before .before .good) .1 .1 .1 .1 .0 .1)
+mul-pairs-5 c =
+    let loop = c .before .before .before .loop in
+    let loop-test = c .before .before .loop-test in
+    let good = c .before .before .before .before .good in
+    omega (
+      arith,
+      loop .inv .left,
+      loop .inv .right,
+      loop .inv .room,
+      loop .inv .long,
+      loop-test .taken,
+      good .0 .0,
+      good .0 .1,
+      good .1 .1 .1 .1 .0 .0,
+      good .1 .1 .1 .1 .0 .1,
+    )
 
 -- src/pairs.rt:72:15
 add-pairs-5 : tie.Need-add-pairs-5 Inv-loop μ-loop
-add-pairs-5 c = omega (arith, (c .before .before .before .loop) .inv .left, (c .before .before .before .loop) .inv .right, (c .before .before .before .loop) .inv .room, (c .before .before .before .loop) .inv .long, (c .before .before .loop-test) .taken, (c .before .before .before .before .good) .0 .0, (c .before .before .before .before .good) .0 .1, (c .before .before .before .before .good) .1 .1 .1 .1 .0 .0, (c .before .before .before .before .good) .1 .1 .1 .1 .0 .1)
+add-pairs-5 c =
+    let loop = c .before .before .before .loop in
+    let loop-test = c .before .before .loop-test in
+    let good = c .before .before .before .before .good in
+    omega (
+      arith,
+      loop .inv .left,
+      loop .inv .right,
+      loop .inv .room,
+      loop .inv .long,
+      loop-test .taken,
+      good .0 .0,
+      good .0 .1,
+      good .1 .1 .1 .1 .0 .0,
+      good .1 .1 .1 .1 .0 .1,
+    )
 
 -- src/pairs.rt:72:9
 mul-pairs-6 : tie.Need-mul-pairs-6 Inv-loop μ-loop
-mul-pairs-6 c = omega (arith, (c .before .before .before .loop) .inv .left, (c .before .before .before .loop) .inv .right, (c .before .before .before .loop) .inv .room, (c .before .before .before .loop) .inv .long, (c .before .before .loop-test) .taken, (c .before .before .before .before .good) .0 .0, (c .before .before .before .before .good) .0 .1, (c .before .before .before .before .good) .1 .1 .1 .1 .0 .0, (c .before .before .before .before .good) .1 .1 .1 .1 .0 .1)
+mul-pairs-6 c =
+    let loop = c .before .before .before .loop in
+    let loop-test = c .before .before .loop-test in
+    let good = c .before .before .before .before .good in
+    omega (
+      arith,
+      loop .inv .left,
+      loop .inv .right,
+      loop .inv .room,
+      loop .inv .long,
+      loop-test .taken,
+      good .0 .0,
+      good .0 .1,
+      good .1 .1 .1 .1 .0 .0,
+      good .1 .1 .1 .1 .0 .1,
+    )
 
 -- src/pairs.rt:72:9
 slice-write-pairs-2 : tie.Need-slice-write-pairs-2 Inv-loop μ-loop
-slice-write-pairs-2 c = omega (arith, (c .before .before .before .loop) .inv .room, (c .before .before .before .loop) .inv .long, (c .before .before .loop-test) .taken, length-set ((c .before .before .before .loop) .pairs) (2 * ((c .before .before .before .before .args) .waiting + (c .before .before .before .loop) .k)) (getD ((c .before .before .before .before .args) .words .now) ((c .before .before .before .before .args) .left + (c .before .before .before .loop) .k) 0))
+slice-write-pairs-2 c =
+    let loop = c .before .before .before .loop in
+    let loop-test = c .before .before .loop-test in
+    let args = c .before .before .before .before .args in
+    omega (
+      arith,
+      loop .inv .room,
+      loop .inv .long,
+      loop-test .taken,
+      length-set (loop .pairs) (2 * (args .waiting + loop .k))
+          (getD (args .words .now) (args .left + loop .k) 0),
+    )
 
 -- src/pairs.rt:73:9
 add-k : tie.Need-add-k Inv-loop μ-loop
-add-k c = omega (arith, (c .before .before .before .loop) .inv .left, (c .before .before .before .loop) .inv .right, (c .before .before .before .loop) .inv .room, (c .before .before .before .loop) .inv .long, (c .before .before .loop-test) .taken, (c .before .before .before .before .good) .0 .0, (c .before .before .before .before .good) .0 .1, (c .before .before .before .before .good) .1 .1 .1 .1 .0 .0, (c .before .before .before .before .good) .1 .1 .1 .1 .0 .1)
+add-k c =
+    let loop = c .before .before .before .loop in
+    let loop-test = c .before .before .loop-test in
+    let good = c .before .before .before .before .good in
+    omega (
+      arith,
+      loop .inv .left,
+      loop .inv .right,
+      loop .inv .room,
+      loop .inv .long,
+      loop-test .taken,
+      good .0 .0,
+      good .0 .1,
+      good .1 .1 .1 .1 .0 .0,
+      good .1 .1 .1 .1 .0 .1,
+    )
 
 -- src/pairs.rt:70:5
 loop-less : tie.Need-loop-less Inv-loop μ-loop

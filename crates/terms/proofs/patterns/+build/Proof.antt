@@ -97,7 +97,14 @@ build-loop-holds t c = building-begins _ _ _ _ _ _ _ ((c .before .before .before
 
 -- src/patterns.rt:171:15
 build-build-requires : (t : ℕ) → build-lts.Need-build-requires (cs t) (build-at t) build.Post build-Inv-loop build-μ-loop
-build-build-requires t c κs = (omega (arith, building-falls _ _ _ _ _ _ _ _ _ _ _ _ _ _ _ ((c .before .before .before .loop) .inv) ((c .before .before .loop-test) .taken), (c .before .before .before .before .before .before .before .before .before .before .before .before .pre) .0), building-asks _ _ _ _ _ _ _ _ _ _ _ _ _ _ _ ((c .before .before .before .loop) .inv) ((c .before .before .loop-test) .taken))
+build-build-requires t c κs =
+    let loop = c .before .before .before .loop in
+    let loop-test = c .before .before .loop-test in
+    let pre = c .before .before .before .before .before .before .before .before .before .before .before .before .pre in (
+      omega (arith, building-falls _ _ _ _ _ _ _ _ _ _ _ _ _ _ _ (loop .inv) (loop-test .taken), pre .0),
+      building-asks _ _ _ _ _ _ _ _ _ _ _
+          _ _ _ _ (loop .inv) (loop-test .taken),
+    )
 
 -- src/patterns.rt:172:25
 build-enum-known-n : (t : ℕ) → build-lts.Need-enum-known-n (cs t) (build-at t) build.Post build-Inv-loop build-μ-loop
@@ -105,7 +112,16 @@ build-enum-known-n t c = search needs
 
 -- src/patterns.rt:173:31
 build-cast-node-2 : (t : ℕ) → build-lts.Need-cast-node-2 (cs t) (build-at t) build.Post build-Inv-loop build-μ-loop
-build-cast-node-2 t c = omega (arith, built-there _ _ _ _ _ _ _ _ _ _ _ _ _ _ _ ((c .before .before .before .before .before .before .before .before .before .before .before .loop) .inv) ((c .before .before .before .before .before .before .before .before .before .before .loop-test) .taken) _ _ _ ((c .before .before .before .before .before .before .before .build) .ensures) _ _ _ ((c .before .n) .given .1), built-room _ _ _ _ _ _ _ _ _ _ _ _ _ _ _ ((c .before .before .before .before .before .before .before .before .before .before .before .loop) .inv) ((c .before .before .before .before .before .before .before .before .before .before .loop-test) .taken) _ _ _ ((c .before .before .before .before .before .before .before .build) .ensures) _ _ _ ((c .before .n) .given .1))
+build-cast-node-2 t c =
+    let loop = c .before .before .before .before .before .before .before .before .before .before .before .loop in
+    let loop-test = c .before .before .before .before .before .before .before .before .before .before .loop-test in
+    let build = c .before .before .before .before .before .before .before .build in
+    let n = c .before .n in
+    omega (
+      arith,
+      built-there _ _ _ _ _ _ _ _ _ _ _ _ _ _ _ (loop .inv) (loop-test .taken) _ _ _ (build .ensures) _ _ _ (n .given .1),
+      built-room _ _ _ _ _ _ _ _ _ _ _ _ _ _ _ (loop .inv) (loop-test .taken) _ _ _ (build .ensures) _ _ _ (n .given .1),
+    )
 
 -- src/patterns.rt:173:22
 build-add-node : (t : ℕ) → build-lts.Need-add-node (cs t) (build-at t) build.Post build-Inv-loop build-μ-loop
@@ -117,7 +133,10 @@ build-mul-node t c = omega (arith, (c .before .before .before .before .before .b
 
 -- src/patterns.rt:173:17
 build-array-write-node-2 : (t : ℕ) → build-lts.Need-array-write-node-2 (cs t) (build-at t) build.Post build-Inv-loop build-μ-loop
-build-array-write-node-2 t c = omega (arith, (c .before .before .before .before .before .before .before .before .before .before .before .loop) .inv .few, (c .before .before .before .before .before .before .before .before .before .before .loop-test) .taken, (c .before .before .before .before .before .before .before .before .before .before .before .loop) .inv .long)
+build-array-write-node-2 t c =
+    let loop = c .before .before .before .before .before .before .before .before .before .before .before .loop in
+    let loop-test = c .before .before .before .before .before .before .before .before .before .before .loop-test in
+    omega (arith, loop .inv .few, loop-test .taken, loop .inv .long)
 
 -- src/patterns.rt:177:23
 build-enum-known-q : (t : ℕ) → build-lts.Need-enum-known-q (cs t) (build-at t) build.Post build-Inv-loop build-μ-loop
@@ -133,7 +152,12 @@ build-same-length-2 t c = search needs
 
 -- src/patterns.rt:178:17
 build-returns-3 : (t : ℕ) → build-lts.Need-returns-3 (cs t) (build-at t) build.Post build-Inv-loop build-μ-loop
-build-returns-3 t c = building-stops _ _ _ _ _ _ _ _ _ _ _ _ _ _ _ ((c .before .before .before .before .before .before .before .before .before .before .before .loop) .inv) ((c .before .before .before .before .before .before .before .before .before .before .loop-test) .taken) _ _ _ ((c .before .before .before .before .before .before .before .build) .ensures) _ _ _ ((c .before .q) .given .1)
+build-returns-3 t c =
+    let loop = c .before .before .before .before .before .before .before .before .before .before .before .loop in
+    let loop-test = c .before .before .before .before .before .before .before .before .before .before .loop-test in
+    let build = c .before .before .before .before .before .before .before .build in
+    let q = c .before .q in
+    building-stops _ _ _ _ _ _ _ _ _ _ _ _ _ _ _ (loop .inv) (loop-test .taken) _ _ _ (build .ensures) _ _ _ (q .given .1)
 
 -- src/patterns.rt:181:9
 build-add-k : (t : ℕ) → build-lts.Need-add-k (cs t) (build-at t) build.Post build-Inv-loop build-μ-loop
@@ -145,7 +169,12 @@ build-loop-less t c = search needs
 
 -- src/patterns.rt:170:5
 build-loop-again : (t : ℕ) → build-lts.Need-loop-again (cs t) (build-at t) build.Post build-Inv-loop build-μ-loop
-build-loop-again t c = building-on _ _ _ _ _ _ _ _ _ _ _ _ _ _ _ ((c .before .before .before .before .before .before .before .before .before .before .before .loop) .inv) ((c .before .before .before .before .before .before .before .before .before .before .loop-test) .taken) _ _ _ ((c .before .before .before .before .before .before .before .build) .ensures) _ _ _ ((c .before .n) .given .1)
+build-loop-again t c =
+    let loop = c .before .before .before .before .before .before .before .before .before .before .before .loop in
+    let loop-test = c .before .before .before .before .before .before .before .before .before .before .loop-test in
+    let build = c .before .before .before .before .before .before .before .build in
+    let n = c .before .n in
+    building-on _ _ _ _ _ _ _ _ _ _ _ _ _ _ _ (loop .inv) (loop-test .taken) _ _ _ (build .ensures) _ _ _ (n .given .1)
 
 -- src/patterns.rt:183:15
 build-add-len : (t : ℕ) → build-lts.Need-add-len (cs t) (build-at t) build.Post build-Inv-loop build-μ-loop
@@ -181,7 +210,12 @@ build-same-length-4 t c = search needs
 
 -- src/patterns.rt:152:1
 build-returns-4 : (t : ℕ) → build-lts.Need-returns-4 (cs t) (build-at t) build.Post build-Inv-loop build-μ-loop
-build-returns-4 t c = building-done _ _ _ _ _ _ _ _ _ _ _ _ _ _ _ ((c .before .before .before .before .before .before .before .before .before .before .before .before .loop) .inv) ((c .before .before .before .before .before .before .before .before .before .before .before .loop-test) .left) _ _ _ ((c .before .before .before .before .before .before .before .keep) .ensures) _ _ ((c .before .n2) .given .1)
+build-returns-4 t c =
+    let loop = c .before .before .before .before .before .before .before .before .before .before .before .before .loop in
+    let loop-test = c .before .before .before .before .before .before .before .before .before .before .before .loop-test in
+    let keep = c .before .before .before .before .before .before .before .keep in
+    let n2 = c .before .n2 in
+    building-done _ _ _ _ _ _ _ _ _ _ _ _ _ _ _ (loop .inv) (loop-test .left) _ _ _ (keep .ensures) _ _ (n2 .given .1)
 
 -- src/patterns.rt:152:1
 build-same-length-5 : (t : ℕ) → build-lts.Need-same-length-5 (cs t) (build-at t) build.Post build-Inv-loop build-μ-loop
@@ -193,7 +227,12 @@ build-same-length-6 t c = search needs
 
 -- src/patterns.rt:152:1
 build-returns-5 : (t : ℕ) → build-lts.Need-returns-5 (cs t) (build-at t) build.Post build-Inv-loop build-μ-loop
-build-returns-5 t c = building-full _ _ _ _ _ _ _ _ _ _ _ _ _ _ _ ((c .before .before .before .before .before .before .before .before .before .before .before .before .loop) .inv) ((c .before .before .before .before .before .before .before .before .before .before .before .loop-test) .left) _ _ _ ((c .before .before .before .before .before .before .before .keep) .ensures) _ _ ((c .before .row) .given .1)
+build-returns-5 t c =
+    let loop = c .before .before .before .before .before .before .before .before .before .before .before .before .loop in
+    let loop-test = c .before .before .before .before .before .before .before .before .before .before .before .loop-test in
+    let keep = c .before .before .before .before .before .before .before .keep in
+    let row = c .before .row in
+    building-full _ _ _ _ _ _ _ _ _ _ _ _ _ _ _ (loop .inv) (loop-test .left) _ _ _ (keep .ensures) _ _ (row .given .1)
 
 pub +build-spec : {M : Type 1} → statement M
 +build-spec = close μ-build λ t. build-lts.spec (cs t)

@@ -110,11 +110,15 @@ match-term-start-of-requires t c κs = omega (arith, (c .before .before .before 
 
 -- src/patterns.rt:73:15
 match-term-mul-end : (t : ℕ) → match-term-lts.Need-mul-end (cs t) (match-term-at t) match-term.Post match-term-Inv-loop match-term-μ-loop
-match-term-mul-end t c = omega (arith, (c .before .before .before .before .before .before .before .before .pre) .1 .there, (c .before .before .before .before .before .before .before .before .pre) .1 .good .room, (c .before .before .before .before .before .before .before .before .pre) .1 .good .index)
+match-term-mul-end t c =
+    let pre = c .before .before .before .before .before .before .before .before .pre in
+    omega (arith, pre .1 .there, pre .1 .good .room, pre .1 .good .index)
 
 -- src/patterns.rt:73:15
 match-term-shared-slice-read-end : (t : ℕ) → match-term-lts.Need-shared-slice-read-end (cs t) (match-term-at t) match-term.Post match-term-Inv-loop match-term-μ-loop
-match-term-shared-slice-read-end t c = omega (arith, (c .before .before .before .before .before .before .before .before .before .pre) .1 .there, (c .before .before .before .before .before .before .before .before .before .pre) .1 .good .room, (c .before .before .before .before .before .before .before .before .before .pre) .1 .good .index)
+match-term-shared-slice-read-end t c =
+    let pre = c .before .before .before .before .before .before .before .before .before .pre in
+    omega (arith, pre .1 .there, pre .1 .good .room, pre .1 .good .index)
 
 -- src/patterns.rt:73:15
 match-term-cast-end : (t : ℕ) → match-term-lts.Need-cast-end (cs t) (match-term-at t) match-term.Post match-term-Inv-loop match-term-μ-loop
@@ -122,11 +126,19 @@ match-term-cast-end t c = omega (arith, (c .shared-slice-known6) .given ((c .bef
 
 -- src/patterns.rt:74:8
 match-term-mul-if4 : (t : ℕ) → match-term-lts.Need-mul-if4 (cs t) (match-term-at t) match-term.Post match-term-Inv-loop match-term-μ-loop
-match-term-mul-if4 t c = omega (arith, node-fits _ _ _ _ _ ((c .before .before .before .before .before .before .before .before .before .pre) .1 .good) ((c .before .before .before .before .before .before .before .before .before .pre) .1 .there) ((c .before .start-of) .ensures), (c .before .before .before .before .before .before .before .before .before .good) .1 .1 .1 .0)
+match-term-mul-if4 t c =
+    let entry = c .before .before .before .before .before .before .before .before .before in
+    let pre = entry .pre in
+    let start-of = c .before .start-of in
+    let good′ = entry .good in
+    omega (arith, node-fits _ _ _ _ _ (pre .1 .good) (pre .1 .there) (start-of .ensures), good′ .1 .1 .1 .0)
 
 -- src/patterns.rt:74:8
 match-term-shared-slice-read-if4 : (t : ℕ) → match-term-lts.Need-shared-slice-read-if4 (cs t) (match-term-at t) match-term.Post match-term-Inv-loop match-term-μ-loop
-match-term-shared-slice-read-if4 t c = omega (arith, node-fits _ _ _ _ _ ((c .before .before .before .before .before .before .before .before .before .before .pre) .1 .good) ((c .before .before .before .before .before .before .before .before .before .before .pre) .1 .there) ((c .before .before .start-of) .ensures))
+match-term-shared-slice-read-if4 t c =
+    let pre = c .before .before .before .before .before .before .before .before .before .before .pre in
+    let start-of = c .before .before .start-of in
+    omega (arith, node-fits _ _ _ _ _ (pre .1 .good) (pre .1 .there) (start-of .ensures))
 
 -- src/patterns.rt:74:8
 match-term-cast-if4 : (t : ℕ) → match-term-lts.Need-cast-if4 (cs t) (match-term-at t) match-term.Post match-term-Inv-loop match-term-μ-loop
@@ -138,11 +150,17 @@ match-term-returns-4 t c = term-head _ _ _ _ _ _ _ _ ((c .before .before .before
 
 -- src/patterns.rt:77:8
 match-term-sub-if5 : (t : ℕ) → match-term-lts.Need-sub-if5 (cs t) (match-term-at t) match-term.Post match-term-Inv-loop match-term-μ-loop
-match-term-sub-if5 t c = omega (arith, node-fits _ _ _ _ _ ((c .before .before .before .before .before .before .before .before .before .before .before .pre) .1 .good) ((c .before .before .before .before .before .before .before .before .before .before .before .pre) .1 .there) ((c .before .before .before .start-of) .ensures))
+match-term-sub-if5 t c =
+    let pre = c .before .before .before .before .before .before .before .before .before .before .before .pre in
+    let start-of = c .before .before .before .start-of in
+    omega (arith, node-fits _ _ _ _ _ (pre .1 .good) (pre .1 .there) (start-of .ensures))
 
 -- src/patterns.rt:77:8
 match-term-sub-if5-2 : (t : ℕ) → match-term-lts.Need-sub-if5-2 (cs t) (match-term-at t) match-term.Post match-term-Inv-loop match-term-μ-loop
-match-term-sub-if5-2 t c = omega (arith, node-fits _ _ _ _ _ ((c .before .before .before .before .before .before .before .before .before .before .before .pre) .1 .good) ((c .before .before .before .before .before .before .before .before .before .before .before .pre) .1 .there) ((c .before .before .before .start-of) .ensures))
+match-term-sub-if5-2 t c =
+    let pre = c .before .before .before .before .before .before .before .before .before .before .before .pre in
+    let start-of = c .before .before .before .start-of in
+    omega (arith, node-fits _ _ _ _ _ (pre .1 .good) (pre .1 .there) (start-of .ensures))
 
 -- src/patterns.rt:77:27
 match-term-arity-of-requires : (t : ℕ) → match-term-lts.Need-arity-of-requires (cs t) (match-term-at t) match-term.Post match-term-Inv-loop match-term-μ-loop
@@ -150,19 +168,40 @@ match-term-arity-of-requires t c κs = ((c .before .before .before .before .befo
 
 -- src/patterns.rt:78:9
 match-term-returns-5 : (t : ℕ) → match-term-lts.Need-returns-5 (cs t) (match-term-at t) match-term.Post match-term-Inv-loop match-term-μ-loop
-match-term-returns-5 t c = term-count _ _ _ _ _ _ _ _ ((c .before .before .before .before .before .before .before .before .before .before .before .before .before .pre) .1) _ ((c .before .before .before .before .before .start-of) .ensures) ((c .before .before .before .before .before .before .if1) .left) ((c .before .before .if4) .left) _ ((c .before .arity-of) .ensures) ((c .if5) .taken)
+match-term-returns-5 t c =
+    let pre = c .before .before .before .before .before .before .before .before .before .before .before .before .before .pre in
+    let start-of = c .before .before .before .before .before .start-of in
+    let if1 = c .before .before .before .before .before .before .if1 in
+    let if4 = c .before .before .if4 in
+    let arity-of = c .before .arity-of in
+    term-count _ _ _ _ _ _ _ _ (pre .1) _ (start-of .ensures) (if1 .left) (if4 .left) _ (arity-of .ensures) ((c .if5) .taken)
 
 -- src/patterns.rt:80:21
 match-term-add-place : (t : ℕ) → match-term-lts.Need-add-place (cs t) (match-term-at t) match-term.Post match-term-Inv-loop match-term-μ-loop
-match-term-add-place t c = omega (arith, reads-in _ _ _ ((c .before .before .before .before .before .before .before .before .before .before .before .before .before .pre) .1 .reads), (c .before .before .before .before .before .before .before .before .before .before .before .before .before .good) .1 .0)
+match-term-add-place t c =
+    let entry = c .before .before .before .before .before .before .before .before .before .before .before .before .before in
+    let pre = entry .pre in
+    let good = entry .good in
+    omega (arith, reads-in _ _ _ (pre .1 .reads), good .1 .0)
 
 -- src/patterns.rt:81:17
 match-term-add-k : (t : ℕ) → match-term-lts.Need-add-k (cs t) (match-term-at t) match-term.Post match-term-Inv-loop match-term-μ-loop
-match-term-add-k t c = omega (arith, node-fits _ _ _ _ _ ((c .before .before .before .before .before .before .before .before .before .before .before .before .before .pre) .1 .good) ((c .before .before .before .before .before .before .before .before .before .before .before .before .before .pre) .1 .there) ((c .before .before .before .before .before .start-of) .ensures), (c .before .before .before .before .before .before .before .before .before .before .before .before .before .good) .1 .1 .1 .0)
+match-term-add-k t c =
+    let entry = c .before .before .before .before .before .before .before .before .before .before .before .before .before in
+    let pre = entry .pre in
+    let start-of = c .before .before .before .before .before .start-of in
+    let good′ = entry .good in
+    omega (arith, node-fits _ _ _ _ _ (pre .1 .good) (pre .1 .there) (start-of .ensures), good′ .1 .1 .1 .0)
 
 -- src/patterns.rt:82:5
 match-term-loop-holds : (t : ℕ) → match-term-lts.Need-loop-holds (cs t) (match-term-at t) match-term.Post match-term-Inv-loop match-term-μ-loop
-match-term-loop-holds t c = looping-begins _ _ _ _ _ _ _ _ _ ((c .before .before .before .before .before .before .before .before .before .before .before .before .before .pre) .1) ((c .before .before .before .before .before .before .if1) .left) ((c .before .before .before .before .before .start-of) .ensures) ((c .before .before .if4) .left) _ ((c .before .arity-of) .ensures) ((c .if5) .left)
+match-term-loop-holds t c =
+    let pre = c .before .before .before .before .before .before .before .before .before .before .before .before .before .pre in
+    let if1 = c .before .before .before .before .before .before .if1 in
+    let start-of = c .before .before .before .before .before .start-of in
+    let if4 = c .before .before .if4 in
+    let arity-of = c .before .arity-of in
+    looping-begins _ _ _ _ _ _ _ _ _ (pre .1) (if1 .left) (start-of .ensures) (if4 .left) _ (arity-of .ensures) ((c .if5) .left)
 
 -- src/patterns.rt:83:81
 match-term-mul-match-term : (t : ℕ) → match-term-lts.Need-mul-match-term (cs t) (match-term-at t) match-term.Post match-term-Inv-loop match-term-μ-loop
@@ -178,7 +217,14 @@ match-term-cast-match-term t c = omega (arith, (c .shared-slice-known8) .given (
 
 -- src/patterns.rt:83:9
 match-term-match-term-requires : (t : ℕ) → match-term-lts.Need-match-term-requires (cs t) (match-term-at t) match-term.Post match-term-Inv-loop match-term-μ-loop
-match-term-match-term-requires t c κs = (omega (arith, looping-falls _ _ _ _ _ _ _ _ _ _ _ _ _ ((c .before .before .before .loop) .inv) ((c .before .before .loop-test) .taken), (c .before .before .before .before .before .before .before .before .before .before .before .before .before .before .before .before .before .pre) .0), looping-asks _ _ _ _ _ _ _ _ _ _ _ _ _ ((c .before .before .before .loop) .inv) ((c .before .before .loop-test) .taken))
+match-term-match-term-requires t c κs =
+    let loop = c .before .before .before .loop in
+    let loop-test = c .before .before .loop-test in
+    let pre = c .before .before .before .before .before .before .before .before .before .before .before .before .before .before .before .before .before .pre in (
+      omega (arith, looping-falls _ _ _ _ _ _ _ _ _ _ _ _ _ (loop .inv) (loop-test .taken), pre .0),
+      looping-asks _ _ _ _ _ _ _ _ _ _ _ _ _
+          (loop .inv) (loop-test .taken),
+    )
 
 -- src/patterns.rt:85:13
 match-term-same-length-2 : (t : ℕ) → match-term-lts.Need-same-length-2 (cs t) (match-term-at t) match-term.Post match-term-Inv-loop match-term-μ-loop
@@ -190,7 +236,11 @@ match-term-returns-6 t c = looping-miss _ _ _ _ _ _ _ _ _ _ _ _ _ ((c .before .b
 
 -- src/patterns.rt:87:9
 match-term-add-k-2 : (t : ℕ) → match-term-lts.Need-add-k-2 (cs t) (match-term-at t) match-term.Post match-term-Inv-loop match-term-μ-loop
-match-term-add-k-2 t c = omega (arith, (c .before .before .before .before .before .before .before .loop) .inv .fits, (c .before .before .before .before .before .before .loop-test) .taken, (c .before .before .before .before .before .before .before .before .before .before .before .before .before .before .before .before .before .before .before .before .before .good) .1 .1 .1 .0)
+match-term-add-k-2 t c =
+    let loop = c .before .before .before .before .before .before .before .loop in
+    let loop-test = c .before .before .before .before .before .before .loop-test in
+    let good = c .before .before .before .before .before .before .before .before .before .before .before .before .before .before .before .before .before .before .before .before .before .good in
+    omega (arith, loop .inv .fits, loop-test .taken, good .1 .1 .1 .0)
 
 -- src/patterns.rt:82:5
 match-term-loop-less : (t : ℕ) → match-term-lts.Need-loop-less (cs t) (match-term-at t) match-term.Post match-term-Inv-loop match-term-μ-loop
@@ -198,7 +248,12 @@ match-term-loop-less t c = search needs
 
 -- src/patterns.rt:82:5
 match-term-loop-again : (t : ℕ) → match-term-lts.Need-loop-again (cs t) (match-term-at t) match-term.Post match-term-Inv-loop match-term-μ-loop
-match-term-loop-again t c = looping-on _ _ _ _ _ _ _ _ _ _ _ _ _ ((c .before .before .before .before .before .before .before .loop) .inv) ((c .before .before .before .before .before .before .loop-test) .taken) _ _ ((c .before .before .before .match-term) .ensures) ((c .if6) .left) ((c .before .before .before .match-term) .kept .1 .1 .1 .1 .1 .0)
+match-term-loop-again t c =
+    let loop = c .before .before .before .before .before .before .before .loop in
+    let loop-test = c .before .before .before .before .before .before .loop-test in
+    let match-term = c .before .before .before .match-term in
+    looping-on _ _ _ _ _ _ _ _ _ _ _ _ _ (loop .inv) (loop-test .taken) _ _ (match-term .ensures) ((c .if6) .left)
+    (match-term .kept .1 .1 .1 .1 .1 .0)
 
 -- src/patterns.rt:55:1
 match-term-same-length-3 : (t : ℕ) → match-term-lts.Need-same-length-3 (cs t) (match-term-at t) match-term.Post match-term-Inv-loop match-term-μ-loop

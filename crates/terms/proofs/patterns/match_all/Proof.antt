@@ -45,7 +45,18 @@ same-length-2 c = search needs
 
 -- src/patterns.rt:102:1
 returns-2 : tie.Need-returns-2
-returns-2 c = all-stays _ _ _ _ ((c .before .before .before .before .before .before .before .before .before .before .before .before .before .before .before .before .before .before .before .before .args) .mark) _ _ _ _ _ ((c .before .before .before .before .before .before .before .before .match-terms) .ensures) ((c .before .before .before .before .before .if1) .left) _ (rewritten _ _ ((c .before .before .before .before .before .before .before .before .before .before .before .write) .last .0) ((c .before .before .before .before .before .before .before .before .match-terms) .last .1 .1 .1 .1 .1 .0) _ (omega (arith, (c .before .before .before .before .before .before .before .before .before .before .before .before .before .before .before .before .before .before .before .before .pre) .cells .long, length-replicate {A = ℕ} RULEVARS 0)) ((c .before .before .before .before .before .before .before .before .match-terms) .kept .1 .1 .1 .1 .1 .0) ((c .before .before .before .before .before .before .before .before .before .before .before .write) .ensures) ((c .before .before .write2) .ensures))
+returns-2 c =
+    let entry = c .before .before .before .before .before .before .before .before .before .before .before .before .before .before .before .before .before .before .before .before in
+    let args = entry .args in
+    let match-terms = c .before .before .before .before .before .before .before .before .match-terms in
+    let if1 = c .before .before .before .before .before .if1 in
+    let write = c .before .before .before .before .before .before .before .before .before .before .before .write in
+    let pre = entry .pre in
+    let write2 = c .before .before .write2 in
+    all-stays _ _ _ _ (args .mark) _ _ _ _ _ (match-terms .ensures) (if1 .left) _
+    (rewritten _ _ (write .last .0) (match-terms .last .1 .1 .1 .1 .1 .0) _
+    (omega (arith, pre .cells .long, length-replicate {A = ℕ} RULEVARS 0)) (match-terms .kept .1 .1 .1 .1 .1 .0) (write .ensures)
+    (write2 .ensures))
 
 pub match-all-spec : {M : Type 1} → statement M
 match-all-spec =

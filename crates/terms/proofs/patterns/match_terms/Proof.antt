@@ -53,7 +53,12 @@ loop-less c = search needs
 
 -- src/patterns.rt:64:5
 loop-again : tie.Need-loop-again Inv-loop μ-loop
-loop-again c = listing-on _ _ _ _ _ _ _ _ _ _ _ ((c .before .before .before .before .before .before .before .loop) .inv) ((c .before .before .before .before .before .before .loop-test) .taken) _ _ ((c .before .before .before .match-term) .ensures) ((c .if1) .left) ((c .before .before .before .match-term) .kept .1 .1 .1 .1 .1 .0)
+loop-again c =
+    let loop = c .before .before .before .before .before .before .before .loop in
+    let loop-test = c .before .before .before .before .before .before .loop-test in
+    let match-term = c .before .before .before .match-term in
+    listing-on _ _ _ _ _ _ _ _ _ _ _ (loop .inv) (loop-test .taken) _ _ (match-term .ensures) ((c .if1) .left)
+    (match-term .kept .1 .1 .1 .1 .1 .0)
 
 -- src/patterns.rt:58:1
 same-length-2 : tie.Need-same-length-2 Inv-loop μ-loop

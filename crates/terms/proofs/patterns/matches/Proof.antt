@@ -37,7 +37,18 @@ same-length c = search needs
 
 -- src/patterns.rt:96:9
 returns : tie.Need-returns
-returns c = match-stays _ _ _ _ ((c .before .before .before .before .before .before .before .before .before .before .before .before .before .before .before .before .before .before .before .args) .mark) _ _ _ _ _ ((c .before .before .before .before .before .before .before .before .match-term) .ensures) ((c .before .before .before .before .before .if1) .taken) _ (rewritten _ _ ((c .before .before .before .before .before .before .before .before .before .before .before .write) .last .0) ((c .before .before .before .before .before .before .before .before .match-term) .last .1 .1 .1 .1 .1 .0) _ (omega (arith, (c .before .before .before .before .before .before .before .before .before .before .before .before .before .before .before .before .before .before .before .pre) .cells .long, length-replicate {A = ℕ} RULEVARS 0)) ((c .before .before .before .before .before .before .before .before .match-term) .kept .1 .1 .1 .1 .1 .0) ((c .before .before .before .before .before .before .before .before .before .before .before .write) .ensures) ((c .before .before .write2) .ensures))
+returns c =
+    let entry = c .before .before .before .before .before .before .before .before .before .before .before .before .before .before .before .before .before .before .before in
+    let args = entry .args in
+    let match-term = c .before .before .before .before .before .before .before .before .match-term in
+    let if1 = c .before .before .before .before .before .if1 in
+    let write = c .before .before .before .before .before .before .before .before .before .before .before .write in
+    let pre = entry .pre in
+    let write2 = c .before .before .write2 in
+    match-stays _ _ _ _ (args .mark) _ _ _ _ _ (match-term .ensures) (if1 .taken) _
+    (rewritten _ _ (write .last .0) (match-term .last .1 .1 .1 .1 .1 .0) _
+    (omega (arith, pre .cells .long, length-replicate {A = ℕ} RULEVARS 0)) (match-term .kept .1 .1 .1 .1 .1 .0) (write .ensures)
+    (write2 .ensures))
 
 -- src/patterns.rt:87:1
 same-length-2 : tie.Need-same-length-2

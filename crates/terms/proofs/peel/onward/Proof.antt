@@ -30,7 +30,11 @@ enum-known-left c = search needs
 
 -- src/peel.rt:88:24
 add-if1 : tie.Need-add-if1
-add-if1 c = omega (arith, sum-small _ _ _ _ _ _ _ _ (c .before .before .before .before .before .before .before .before .before .before .before .pre) _ ((c .before .before .before .before .before .compare) .result) ((c .before .before .before .before .before .compare) .ensures .0) _ _ _ ((c .before .left) .given .1))
+add-if1 c =
+    let pre = c .before .before .before .before .before .before .before .before .before .before .before .pre in
+    let compare = c .before .before .before .before .before .compare in
+    let left = c .before .left in
+    omega (arith, sum-small _ _ _ _ _ _ _ _ pre _ (compare .result) (compare .ensures .0) _ _ _ (left .given .1))
 
 -- src/peel.rt:89:17
 same-length : tie.Need-same-length
@@ -38,11 +42,20 @@ same-length c = search needs
 
 -- src/peel.rt:89:17
 returns : tie.Need-returns
-returns c = (look-crowd _ _ _ _ _ _ _ _ (c .before .before .before .before .before .before .before .before .before .before .before .before .pre) _ ((c .before .before .before .before .before .before .compare) .result) ((c .before .before .before .before .before .before .compare) .ensures .0) _ _ _ ((c .before .before .left) .given .1) ((c .if1) .taken), (c .before .before .before .before .before .before .compare) .ensures .1)
+returns c =
+    let pre = c .before .before .before .before .before .before .before .before .before .before .before .before .pre in
+    let compare = c .before .before .before .before .before .before .compare in
+    let left = c .before .before .left in
+    (look-crowd _ _ _ _ _ _ _ _ pre _ (compare .result) (compare .ensures .0) _ _ _ (left .given .1) ((c .if1) .taken), compare .ensures .1)
 
 -- src/peel.rt:91:13
 push-requires : tie.Need-push-requires
-push-requires c κs = push-asks _ _ _ _ _ _ _ _ (c .before .before .before .before .before .before .before .before .before .before .before .before .before .pre) _ ((c .before .before .before .before .before .before .before .compare) .result) ((c .before .before .before .before .before .before .before .compare) .ensures .0) _ _ _ ((c .before .before .before .left) .given .1) ((c .before .if1) .left)
+push-requires c κs =
+    let pre = c .before .before .before .before .before .before .before .before .before .before .before .before .before .pre in
+    let compare = c .before .before .before .before .before .before .before .compare in
+    let left′ = c .before .before .before .left in
+    let if1 = c .before .if1 in
+    push-asks _ _ _ _ _ _ _ _ pre _ (compare .result) (compare .ensures .0) _ _ _ (left′ .given .1) (if1 .left)
 
 -- src/peel.rt:92:24
 add-t18 : tie.Need-add-t18
@@ -54,7 +67,10 @@ same-length-2 c = search needs
 
 -- src/peel.rt:69:1
 returns-2 : tie.Need-returns-2
-returns-2 c = (look-nothing _ _ _ _ _ _ _ _ (c .before .before .before .before .before .before .before .before .before .before .pre) _ ((c .before .before .before .before .compare) .result) ((c .before .before .before .before .compare) .ensures .0) ((c .enum-told) .given .1), (c .before .before .before .before .compare) .ensures .1)
+returns-2 c =
+    let pre = c .before .before .before .before .before .before .before .before .before .before .pre in
+    let compare = c .before .before .before .before .compare in
+    (look-nothing _ _ _ _ _ _ _ _ pre _ (compare .result) (compare .ensures .0) ((c .enum-told) .given .1), compare .ensures .1)
 
 -- src/peel.rt:69:1
 same-length-3 : tie.Need-same-length-3
@@ -62,7 +78,10 @@ same-length-3 c = search needs
 
 -- src/peel.rt:69:1
 returns-3 : tie.Need-returns-3
-returns-3 c = (look-clash _ _ _ _ _ _ _ _ (c .before .before .before .before .before .before .before .before .before .before .pre) _ ((c .before .before .before .before .compare) .result) ((c .before .before .before .before .compare) .ensures .0) ((c .enum-told2) .given .1), (c .before .before .before .before .compare) .ensures .1)
+returns-3 c =
+    let pre = c .before .before .before .before .before .before .before .before .before .before .pre in
+    let compare = c .before .before .before .before .compare in
+    (look-clash _ _ _ _ _ _ _ _ pre _ (compare .result) (compare .ensures .0) ((c .enum-told2) .given .1), compare .ensures .1)
 
 -- src/peel.rt:69:1
 same-length-4 : tie.Need-same-length-4
@@ -70,7 +89,11 @@ same-length-4 c = search needs
 
 -- src/peel.rt:69:1
 returns-4 : tie.Need-returns-4
-returns-4 c = (look-binds _ _ _ _ _ _ _ _ (c .before .before .before .before .before .before .before .before .before .before .before .pre) _ ((c .before .before .before .before .before .compare) .result) ((c .before .before .before .before .before .compare) .ensures .0) _ _ ((c .before .x) .given .1), (c .before .before .before .before .before .compare) .ensures .1)
+returns-4 c =
+    let pre = c .before .before .before .before .before .before .before .before .before .before .before .pre in
+    let compare = c .before .before .before .before .before .compare in
+    let x = c .before .x in
+    (look-binds _ _ _ _ _ _ _ _ pre _ (compare .result) (compare .ensures .0) _ _ (x .given .1), compare .ensures .1)
 
 -- src/peel.rt:69:1
 same-length-5 : tie.Need-same-length-5
@@ -82,7 +105,15 @@ same-length-6 c = search needs
 
 -- src/peel.rt:69:1
 returns-5 : tie.Need-returns-5
-returns-5 c = (look-more _ _ _ _ _ _ _ _ (c .before .before .before .before .before .before .before .before .before .before .before .before .before .before .before .before .pre) _ ((c .before .before .before .before .before .before .before .before .before .before .compare) .result) ((c .before .before .before .before .before .before .before .before .before .before .compare) .ensures .0) _ _ _ ((c .before .before .before .before .before .before .left) .given .1) ((c .before .before .before .before .if1) .left) _ ((c .before .before .push) .ensures), (c .before .before .before .before .before .before .before .before .before .before .compare) .ensures .1)
+returns-5 c =
+    let pre = c .before .before .before .before .before .before .before .before .before .before .before .before .before .before .before .before .pre in
+    let compare = c .before .before .before .before .before .before .before .before .before .before .compare in
+    let left′ = c .before .before .before .before .before .before .left in
+    let if1 = c .before .before .before .before .if1 in
+    let push = c .before .before .push in (
+      look-more _ _ _ _ _ _ _ _ pre _ (compare .result) (compare .ensures .0) _ _ _ (left′ .given .1) (if1 .left) _ (push .ensures),
+      compare .ensures .1,
+    )
 
 pub onward-spec : {M : Type 1} → statement M
 onward-spec =

@@ -29,11 +29,21 @@ enum-known-more c = search needs
 
 -- src/peel.rt:144:5
 loop-less : tie.Need-loop-less Inv-loop μ-loop
-loop-less c = peeling-less _ _ _ _ _ _ _ _ _ _ _ _ _ _ _ ((c .before .before .before .before .before .before .before .before .before .before .before .before .before .before .before .before .before .before .before .before .loop) .inv) _ _ ((c .before .before .before .before .before .before .before .before .before .before .before .before .before .take-pair) .last .1 .1 .1 .1 .0) _ ((c .before .before .before .before .before .before .before .before .before .before .before .before .before .take-pair) .result) ((c .before .before .before .before .before .before .before .before .before .before .before .before .before .take-pair) .ensures .0) _ _ ((c .before .more) .given .1)
+loop-less c =
+    let loop = c .before .before .before .before .before .before .before .before .before .before .before .before .before .before .before .before .before .before .before .before .loop in
+    let take-pair = c .before .before .before .before .before .before .before .before .before .before .before .before .before .take-pair in
+    let more = c .before .more in
+    peeling-less _ _ _ _ _ _ _ _ _ _ _ _ _ _ _ (loop .inv) _ _ (take-pair .last .1 .1 .1 .1 .0) _ (take-pair .result)
+    (take-pair .ensures .0) _ _ (more .given .1)
 
 -- src/peel.rt:144:5
 loop-again : tie.Need-loop-again Inv-loop μ-loop
-loop-again c = peeling-on _ _ _ _ _ _ _ _ _ _ _ _ _ _ _ ((c .before .before .before .before .before .before .before .before .before .before .before .before .before .before .before .before .before .before .before .before .loop) .inv) _ _ ((c .before .before .before .before .before .before .before .before .before .before .before .before .before .take-pair) .last .1 .1 .1 .1 .0) _ ((c .before .before .before .before .before .before .before .before .before .before .before .before .before .take-pair) .result) ((c .before .before .before .before .before .before .before .before .before .before .before .before .before .take-pair) .ensures .0) _ _ ((c .before .more) .given .1) _ ((c .before .before .before .before .before .before .before .before .before .before .before .before .before .take-pair) .ensures .1) ((c .before .before .before .before .before .before .before .before .before .before .before .before .before .take-pair) .kept .1 .1 .1 .1 .0) ((c .before .before .before .before .before .before .before .before .before .before .before .before .before .take-pair) .kept .1 .1 .1 .1 .1 .0)
+loop-again c =
+    let loop = c .before .before .before .before .before .before .before .before .before .before .before .before .before .before .before .before .before .before .before .before .loop in
+    let take-pair = c .before .before .before .before .before .before .before .before .before .before .before .before .before .take-pair in
+    let more = c .before .more in
+    peeling-on _ _ _ _ _ _ _ _ _ _ _ _ _ _ _ (loop .inv) _ _ (take-pair .last .1 .1 .1 .1 .0) _ (take-pair .result) (take-pair .ensures .0)
+    _ _ (more .given .1) _ (take-pair .ensures .1) (take-pair .kept .1 .1 .1 .1 .0) (take-pair .kept .1 .1 .1 .1 .1 .0)
 
 -- src/peel.rt:150:25
 enum-known-last : tie.Need-enum-known-last Inv-loop μ-loop
@@ -41,27 +51,49 @@ enum-known-last c = search needs
 
 -- src/peel.rt:151:17
 same-length : tie.Need-same-length Inv-loop μ-loop
-same-length c = (c .before .before .before .before .before .before .before .before .before .before .before .before .before .take-pair) .kept .0 ∙ (c .before .before .before .before .before .before .before .before .before .before .before .before .before .before .before .before .before .before .before .before .loop) .inv .grown .same .long-index
+same-length c =
+    let take-pair = c .before .before .before .before .before .before .before .before .before .before .before .before .before .take-pair in
+    let loop = c .before .before .before .before .before .before .before .before .before .before .before .before .before .before .before .before .before .before .before .before .loop in
+    take-pair .kept .0 ∙ loop .inv .grown .same .long-index
 
 -- src/peel.rt:151:17
 same-length-2 : tie.Need-same-length-2 Inv-loop μ-loop
-same-length-2 c = (c .before .before .before .before .before .before .before .before .before .before .before .before .before .take-pair) .kept .1 .0 ∙ (c .before .before .before .before .before .before .before .before .before .before .before .before .before .before .before .before .before .before .before .before .loop) .inv .grown .same .long-words
+same-length-2 c =
+    let take-pair = c .before .before .before .before .before .before .before .before .before .before .before .before .before .take-pair in
+    let loop = c .before .before .before .before .before .before .before .before .before .before .before .before .before .before .before .before .before .before .before .before .loop in
+    take-pair .kept .1 .0 ∙ loop .inv .grown .same .long-words
 
 -- src/peel.rt:151:17
 same-length-3 : tie.Need-same-length-3 Inv-loop μ-loop
-same-length-3 c = (c .before .before .before .before .before .before .before .before .before .before .before .before .before .take-pair) .kept .1 .1 .1 .1 .0 ∙ (c .before .before .before .before .before .before .before .before .before .before .before .before .before .before .before .before .before .before .before .before .loop) .inv .long-memo
+same-length-3 c =
+    let take-pair = c .before .before .before .before .before .before .before .before .before .before .before .before .before .take-pair in
+    let loop = c .before .before .before .before .before .before .before .before .before .before .before .before .before .before .before .before .before .before .before .before .loop in
+    take-pair .kept .1 .1 .1 .1 .0 ∙ loop .inv .long-memo
 
 -- src/peel.rt:151:17
 same-length-4 : tie.Need-same-length-4 Inv-loop μ-loop
-same-length-4 c = (c .before .before .before .before .before .before .before .before .before .before .before .before .before .take-pair) .kept .1 .1 .1 .1 .1 .0 ∙ (c .before .before .before .before .before .before .before .before .before .before .before .before .before .before .before .before .before .before .before .before .loop) .inv .long-pairs
+same-length-4 c =
+    let take-pair = c .before .before .before .before .before .before .before .before .before .before .before .before .before .take-pair in
+    let loop = c .before .before .before .before .before .before .before .before .before .before .before .before .before .before .before .before .before .before .before .before .loop in
+    take-pair .kept .1 .1 .1 .1 .1 .0 ∙ loop .inv .long-pairs
 
 -- src/peel.rt:151:17
 same-length-5 : tie.Need-same-length-5 Inv-loop μ-loop
-same-length-5 c = (c .before .before .before .before .before .before .before .before .before .before .before .before .before .take-pair) .kept .1 .1 .1 .1 .1 .1 .0 ∙ ap length ((c .before .before .before .before .before .before .before .before .before .before .before .before .before .before .before .before .before .before .before .before .loop) .inv .same-seen)
+same-length-5 c =
+    let take-pair = c .before .before .before .before .before .before .before .before .before .before .before .before .before .take-pair in
+    let loop = c .before .before .before .before .before .before .before .before .before .before .before .before .before .before .before .before .before .before .before .before .loop in
+    take-pair .kept .1 .1 .1 .1 .1 .1 .0 ∙ ap length (loop .inv .same-seen)
 
 -- src/peel.rt:151:17
 returns : tie.Need-returns Inv-loop μ-loop
-returns c = (peeling-clash _ _ _ _ _ _ _ _ _ _ _ _ _ _ _ ((c .before .before .before .before .before .before .before .before .before .before .before .before .before .before .before .before .before .before .before .before .loop) .inv) _ _ ((c .before .before .before .before .before .before .before .before .before .before .before .before .before .take-pair) .last .1 .1 .1 .1 .0) ((c .before .before .before .before .before .before .before .before .before .before .before .before .before .take-pair) .last .1 .1 .1 .1 .1 .0) ((c .before .before .before .before .before .before .before .before .before .before .before .before .before .take-pair) .result) ((c .before .before .before .before .before .before .before .before .before .before .before .before .before .take-pair) .ensures .0) _ ((c .before .last) .given .1), (c .before .before .before .before .before .before .before .before .before .before .before .before .before .take-pair) .ensures .1 ∙ (c .before .before .before .before .before .before .before .before .before .before .before .before .before .before .before .before .before .before .before .before .loop) .inv .same-seen)
+returns c =
+    let loop = c .before .before .before .before .before .before .before .before .before .before .before .before .before .before .before .before .before .before .before .before .loop in
+    let take-pair = c .before .before .before .before .before .before .before .before .before .before .before .before .before .take-pair in
+    let last′ = c .before .last in (
+      peeling-clash _ _ _ _ _ _ _ _ _ _ _ _ _ _ _ (loop .inv) _ _ (take-pair .last .1 .1 .1 .1 .0) (take-pair .last .1 .1 .1 .1 .1 .0)
+          (take-pair .result) (take-pair .ensures .0) _ (last′ .given .1),
+      take-pair .ensures .1 ∙ loop .inv .same-seen,
+    )
 
 -- src/peel.rt:153:25
 enum-known-x : tie.Need-enum-known-x Inv-loop μ-loop
@@ -69,27 +101,49 @@ enum-known-x c = search needs
 
 -- src/peel.rt:154:17
 same-length-6 : tie.Need-same-length-6 Inv-loop μ-loop
-same-length-6 c = (c .before .before .before .before .before .before .before .before .before .before .before .before .before .take-pair) .kept .0 ∙ (c .before .before .before .before .before .before .before .before .before .before .before .before .before .before .before .before .before .before .before .before .loop) .inv .grown .same .long-index
+same-length-6 c =
+    let take-pair = c .before .before .before .before .before .before .before .before .before .before .before .before .before .take-pair in
+    let loop = c .before .before .before .before .before .before .before .before .before .before .before .before .before .before .before .before .before .before .before .before .loop in
+    take-pair .kept .0 ∙ loop .inv .grown .same .long-index
 
 -- src/peel.rt:154:17
 same-length-7 : tie.Need-same-length-7 Inv-loop μ-loop
-same-length-7 c = (c .before .before .before .before .before .before .before .before .before .before .before .before .before .take-pair) .kept .1 .0 ∙ (c .before .before .before .before .before .before .before .before .before .before .before .before .before .before .before .before .before .before .before .before .loop) .inv .grown .same .long-words
+same-length-7 c =
+    let take-pair = c .before .before .before .before .before .before .before .before .before .before .before .before .before .take-pair in
+    let loop = c .before .before .before .before .before .before .before .before .before .before .before .before .before .before .before .before .before .before .before .before .loop in
+    take-pair .kept .1 .0 ∙ loop .inv .grown .same .long-words
 
 -- src/peel.rt:154:17
 same-length-8 : tie.Need-same-length-8 Inv-loop μ-loop
-same-length-8 c = (c .before .before .before .before .before .before .before .before .before .before .before .before .before .take-pair) .kept .1 .1 .1 .1 .0 ∙ (c .before .before .before .before .before .before .before .before .before .before .before .before .before .before .before .before .before .before .before .before .loop) .inv .long-memo
+same-length-8 c =
+    let take-pair = c .before .before .before .before .before .before .before .before .before .before .before .before .before .take-pair in
+    let loop = c .before .before .before .before .before .before .before .before .before .before .before .before .before .before .before .before .before .before .before .before .loop in
+    take-pair .kept .1 .1 .1 .1 .0 ∙ loop .inv .long-memo
 
 -- src/peel.rt:154:17
 same-length-9 : tie.Need-same-length-9 Inv-loop μ-loop
-same-length-9 c = (c .before .before .before .before .before .before .before .before .before .before .before .before .before .take-pair) .kept .1 .1 .1 .1 .1 .0 ∙ (c .before .before .before .before .before .before .before .before .before .before .before .before .before .before .before .before .before .before .before .before .loop) .inv .long-pairs
+same-length-9 c =
+    let take-pair = c .before .before .before .before .before .before .before .before .before .before .before .before .before .take-pair in
+    let loop = c .before .before .before .before .before .before .before .before .before .before .before .before .before .before .before .before .before .before .before .before .loop in
+    take-pair .kept .1 .1 .1 .1 .1 .0 ∙ loop .inv .long-pairs
 
 -- src/peel.rt:154:17
 same-length-10 : tie.Need-same-length-10 Inv-loop μ-loop
-same-length-10 c = (c .before .before .before .before .before .before .before .before .before .before .before .before .before .take-pair) .kept .1 .1 .1 .1 .1 .1 .0 ∙ ap length ((c .before .before .before .before .before .before .before .before .before .before .before .before .before .before .before .before .before .before .before .before .loop) .inv .same-seen)
+same-length-10 c =
+    let take-pair = c .before .before .before .before .before .before .before .before .before .before .before .before .before .take-pair in
+    let loop = c .before .before .before .before .before .before .before .before .before .before .before .before .before .before .before .before .before .before .before .before .loop in
+    take-pair .kept .1 .1 .1 .1 .1 .1 .0 ∙ ap length (loop .inv .same-seen)
 
 -- src/peel.rt:154:17
 returns-2 : tie.Need-returns-2 Inv-loop μ-loop
-returns-2 c = (peeling-binds _ _ _ _ _ _ _ _ _ _ _ _ _ _ _ ((c .before .before .before .before .before .before .before .before .before .before .before .before .before .before .before .before .before .before .before .before .loop) .inv) _ _ ((c .before .before .before .before .before .before .before .before .before .before .before .before .before .take-pair) .last .1 .1 .1 .1 .0) ((c .before .before .before .before .before .before .before .before .before .before .before .before .before .take-pair) .last .1 .1 .1 .1 .1 .0) ((c .before .before .before .before .before .before .before .before .before .before .before .before .before .take-pair) .result) ((c .before .before .before .before .before .before .before .before .before .before .before .before .before .take-pair) .ensures .0) _ _ _ _ ((c .before .x) .given .1), (c .before .before .before .before .before .before .before .before .before .before .before .before .before .take-pair) .ensures .1 ∙ (c .before .before .before .before .before .before .before .before .before .before .before .before .before .before .before .before .before .before .before .before .loop) .inv .same-seen)
+returns-2 c =
+    let loop = c .before .before .before .before .before .before .before .before .before .before .before .before .before .before .before .before .before .before .before .before .loop in
+    let take-pair = c .before .before .before .before .before .before .before .before .before .before .before .before .before .take-pair in
+    let x = c .before .x in (
+      peeling-binds _ _ _ _ _ _ _ _ _ _ _ _ _ _ _ (loop .inv) _ _ (take-pair .last .1 .1 .1 .1 .0) (take-pair .last .1 .1 .1 .1 .1 .0)
+          (take-pair .result) (take-pair .ensures .0) _ _ _ _ (x .given .1),
+      take-pair .ensures .1 ∙ loop .inv .same-seen,
+    )
 
 -- src/peel.rt:156:24
 enum-known-row : tie.Need-enum-known-row Inv-loop μ-loop
@@ -97,27 +151,49 @@ enum-known-row c = search needs
 
 -- src/peel.rt:157:17
 same-length-11 : tie.Need-same-length-11 Inv-loop μ-loop
-same-length-11 c = (c .before .before .before .before .before .before .before .before .before .before .before .before .before .take-pair) .kept .0 ∙ (c .before .before .before .before .before .before .before .before .before .before .before .before .before .before .before .before .before .before .before .before .loop) .inv .grown .same .long-index
+same-length-11 c =
+    let take-pair = c .before .before .before .before .before .before .before .before .before .before .before .before .before .take-pair in
+    let loop = c .before .before .before .before .before .before .before .before .before .before .before .before .before .before .before .before .before .before .before .before .loop in
+    take-pair .kept .0 ∙ loop .inv .grown .same .long-index
 
 -- src/peel.rt:157:17
 same-length-12 : tie.Need-same-length-12 Inv-loop μ-loop
-same-length-12 c = (c .before .before .before .before .before .before .before .before .before .before .before .before .before .take-pair) .kept .1 .0 ∙ (c .before .before .before .before .before .before .before .before .before .before .before .before .before .before .before .before .before .before .before .before .loop) .inv .grown .same .long-words
+same-length-12 c =
+    let take-pair = c .before .before .before .before .before .before .before .before .before .before .before .before .before .take-pair in
+    let loop = c .before .before .before .before .before .before .before .before .before .before .before .before .before .before .before .before .before .before .before .before .loop in
+    take-pair .kept .1 .0 ∙ loop .inv .grown .same .long-words
 
 -- src/peel.rt:157:17
 same-length-13 : tie.Need-same-length-13 Inv-loop μ-loop
-same-length-13 c = (c .before .before .before .before .before .before .before .before .before .before .before .before .before .take-pair) .kept .1 .1 .1 .1 .0 ∙ (c .before .before .before .before .before .before .before .before .before .before .before .before .before .before .before .before .before .before .before .before .loop) .inv .long-memo
+same-length-13 c =
+    let take-pair = c .before .before .before .before .before .before .before .before .before .before .before .before .before .take-pair in
+    let loop = c .before .before .before .before .before .before .before .before .before .before .before .before .before .before .before .before .before .before .before .before .loop in
+    take-pair .kept .1 .1 .1 .1 .0 ∙ loop .inv .long-memo
 
 -- src/peel.rt:157:17
 same-length-14 : tie.Need-same-length-14 Inv-loop μ-loop
-same-length-14 c = (c .before .before .before .before .before .before .before .before .before .before .before .before .before .take-pair) .kept .1 .1 .1 .1 .1 .0 ∙ (c .before .before .before .before .before .before .before .before .before .before .before .before .before .before .before .before .before .before .before .before .loop) .inv .long-pairs
+same-length-14 c =
+    let take-pair = c .before .before .before .before .before .before .before .before .before .before .before .before .before .take-pair in
+    let loop = c .before .before .before .before .before .before .before .before .before .before .before .before .before .before .before .before .before .before .before .before .loop in
+    take-pair .kept .1 .1 .1 .1 .1 .0 ∙ loop .inv .long-pairs
 
 -- src/peel.rt:157:17
 same-length-15 : tie.Need-same-length-15 Inv-loop μ-loop
-same-length-15 c = (c .before .before .before .before .before .before .before .before .before .before .before .before .before .take-pair) .kept .1 .1 .1 .1 .1 .1 .0 ∙ ap length ((c .before .before .before .before .before .before .before .before .before .before .before .before .before .before .before .before .before .before .before .before .loop) .inv .same-seen)
+same-length-15 c =
+    let take-pair = c .before .before .before .before .before .before .before .before .before .before .before .before .before .take-pair in
+    let loop = c .before .before .before .before .before .before .before .before .before .before .before .before .before .before .before .before .before .before .before .before .loop in
+    take-pair .kept .1 .1 .1 .1 .1 .1 .0 ∙ ap length (loop .inv .same-seen)
 
 -- src/peel.rt:157:17
 returns-3 : tie.Need-returns-3 Inv-loop μ-loop
-returns-3 c = (peeling-full _ _ _ _ _ _ _ _ _ _ _ _ _ _ _ ((c .before .before .before .before .before .before .before .before .before .before .before .before .before .before .before .before .before .before .before .before .loop) .inv) _ _ ((c .before .before .before .before .before .before .before .before .before .before .before .before .before .take-pair) .last .1 .1 .1 .1 .0) ((c .before .before .before .before .before .before .before .before .before .before .before .before .before .take-pair) .last .1 .1 .1 .1 .1 .0) ((c .before .before .before .before .before .before .before .before .before .before .before .before .before .take-pair) .result) ((c .before .before .before .before .before .before .before .before .before .before .before .before .before .take-pair) .ensures .0) _ _ ((c .before .row) .given .1), (c .before .before .before .before .before .before .before .before .before .before .before .before .before .take-pair) .ensures .1 ∙ (c .before .before .before .before .before .before .before .before .before .before .before .before .before .before .before .before .before .before .before .before .loop) .inv .same-seen)
+returns-3 c =
+    let loop = c .before .before .before .before .before .before .before .before .before .before .before .before .before .before .before .before .before .before .before .before .loop in
+    let take-pair = c .before .before .before .before .before .before .before .before .before .before .before .before .before .take-pair in
+    let row = c .before .row in (
+      peeling-full _ _ _ _ _ _ _ _ _ _ _ _ _ _ _ (loop .inv) _ _ (take-pair .last .1 .1 .1 .1 .0) (take-pair .last .1 .1 .1 .1 .1 .0)
+          (take-pair .result) (take-pair .ensures .0) _ _ (row .given .1),
+      take-pair .ensures .1 ∙ loop .inv .same-seen,
+    )
 
 -- src/peel.rt:127:1
 same-length-16 : tie.Need-same-length-16 Inv-loop μ-loop

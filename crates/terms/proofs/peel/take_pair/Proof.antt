@@ -60,7 +60,11 @@ enum-known-a c = search needs
 
 -- src/peel.rt:118:41
 onward-requires : tie.Need-onward-requires
-onward-requires c κs = pair-lookable _ _ _ _ _ _ _ _ (c .before .before .before .before .before .before .before .before .before .before .before .before .before .before .before .before .before .before .before .before .before .before .before .before .before .pre) _ _ ((c .before .before .before .before .before .before .before .before .before .before .before .before .before .both-under) .last .1 .1 .1 .1 .0) ((c .before .before .before .before .before .before .before .before .before .before .before .before .before .both-under) .result) ((c .before .before .before .before .before .before .before .before .before .before .before .before .before .both-under) .ensures) _ _ _ ((c .before .before .before .before .before .a) .given .1)
+onward-requires c κs =
+    let pre = c .before .before .before .before .before .before .before .before .before .before .before .before .before .before .before .before .before .before .before .before .before .before .before .before .before .pre in
+    let both-under = c .before .before .before .before .before .before .before .before .before .before .before .before .before .both-under in
+    let a = c .before .before .before .before .before .a in
+    pair-lookable _ _ _ _ _ _ _ _ pre _ _ (both-under .last .1 .1 .1 .1 .0) (both-under .result) (both-under .ensures) _ _ _ (a .given .1)
 
 -- src/peel.rt:119:24
 enum-known-more : tie.Need-enum-known-more
@@ -92,7 +96,16 @@ same-length-3 c = (c .before .before .before .before .before .before .before .be
 
 -- src/peel.rt:98:1
 returns : tie.Need-returns
-returns c = (pair-full _ _ _ _ _ _ ((c .before .before .before .before .before .before .before .before .before .before .before .before .before .before .before .before .before .before .before .before .before .args) .seen .now) _ (c .before .before .before .before .before .before .before .before .before .before .before .before .before .before .before .before .before .before .before .before .before .pre) _ _ ((c .before .before .before .before .before .before .before .before .before .both-under) .last .1 .1 .1 .1 .0) ((c .before .before .before .before .before .before .before .before .before .both-under) .result) ((c .before .before .before .before .before .before .before .before .before .both-under) .ensures) _ _ ((c .before .row) .given .1), refl)
+returns c =
+    let entry = c .before .before .before .before .before .before .before .before .before .before .before .before .before .before .before .before .before .before .before .before .before in
+    let args = entry .args in
+    let pre = entry .pre in
+    let both-under = c .before .before .before .before .before .before .before .before .before .both-under in
+    let row = c .before .row in (
+      pair-full _ _ _ _ _ _ (args .seen .now) _ pre _ _ (both-under .last .1 .1 .1 .1 .0) (both-under .result) (both-under .ensures) _ _
+          (row .given .1),
+      refl,
+    )
 
 -- src/peel.rt:98:1
 same-length-4 : tie.Need-same-length-4
@@ -116,7 +129,18 @@ same-length-8 c = (c .before .before .before .before .before .before .before .on
 
 -- src/peel.rt:98:1
 returns-2 : tie.Need-returns-2
-returns-2 c = (pair-more _ _ _ _ _ _ _ _ (c .before .before .before .before .before .before .before .before .before .before .before .before .before .before .before .before .before .before .before .before .before .before .before .before .before .before .before .before .before .before .before .before .before .pre) _ _ ((c .before .before .before .before .before .before .before .before .before .before .before .before .before .before .before .before .before .before .before .before .before .both-under) .last .1 .1 .1 .1 .0) ((c .before .before .before .before .before .before .before .before .before .before .before .before .before .before .before .before .before .before .before .before .before .both-under) .result) ((c .before .before .before .before .before .before .before .before .before .before .before .before .before .before .before .before .before .before .before .before .before .both-under) .ensures) _ _ _ ((c .before .before .before .before .before .before .before .before .before .before .before .before .before .a) .given .1) ((c .before .before .before .before .before .before .before .onward) .last .1 .1 .1 .1 .1 .0) ((c .before .before .before .before .before .before .before .onward) .result) ((c .before .before .before .before .before .before .before .onward) .ensures .0) _ ((c .before .more) .given .1) ((c .before .before .before .before .before .before .before .onward) .kept .1 .1 .1 .1 .1 .0) ((c .before .before .before .before .before .before .before .before .before .before .before .before .before .before .before .before .before .before .before .before .before .both-under) .kept .1 .1 .1 .1 .0), (c .before .before .before .before .before .before .before .onward) .ensures .1)
+returns-2 c =
+    let mid = c .before .before .before .before .before .before .before .before .before .before .before .before .before .before .before .before .before .before .before .before .before .before .before .before .before in
+    let pre = mid .before .before .before .before .before .before .before .before .pre in
+    let both-under = c .before .before .before .before .before .before .before .before .before .before .before .before .before .before .before .before .before .before .before .before .before .both-under in
+    let a = c .before .before .before .before .before .before .before .before .before .before .before .before .before .a in
+    let onward = c .before .before .before .before .before .before .before .onward in
+    let more = c .before .more in (
+      pair-more _ _ _ _ _ _ _ _ pre _ _ (both-under .last .1 .1 .1 .1 .0) (both-under .result) (both-under .ensures) _ _ _ (a .given .1)
+          (onward .last .1 .1 .1 .1 .1 .0) (onward .result) (onward .ensures .0) _ (more .given .1) (onward .kept .1 .1 .1 .1 .1 .0)
+          (both-under .kept .1 .1 .1 .1 .0),
+      onward .ensures .1,
+    )
 
 -- src/peel.rt:98:1
 same-length-9 : tie.Need-same-length-9
@@ -140,7 +164,19 @@ same-length-13 c = (c .before .before .before .before .before .before .onward) .
 
 -- src/peel.rt:98:1
 returns-3 : tie.Need-returns-3
-returns-3 c = (pair-clash _ _ _ _ _ _ ((c .before .before .before .before .before .before .before .before .before .before .before .before .before .before .before .before .before .before .before .before .before .before .before .before .before .before .before .before .before .before .before .before .args) .seen .now) _ (c .before .before .before .before .before .before .before .before .before .before .before .before .before .before .before .before .before .before .before .before .before .before .before .before .before .before .before .before .before .before .before .before .pre) _ _ ((c .before .before .before .before .before .before .before .before .before .before .before .before .before .before .before .before .before .before .before .before .both-under) .last .1 .1 .1 .1 .0) ((c .before .before .before .before .before .before .before .before .before .before .before .before .before .before .before .before .before .before .before .before .both-under) .result) ((c .before .before .before .before .before .before .before .before .before .before .before .before .before .before .before .before .before .before .before .before .both-under) .ensures) _ _ _ ((c .before .before .before .before .before .before .before .before .before .before .before .before .a) .given .1) ((c .before .before .before .before .before .before .onward) .last .1 .1 .1 .1 .1 .0) ((c .before .before .before .before .before .before .onward) .result) ((c .before .before .before .before .before .before .onward) .ensures .0) ((c .before .before .before .before .before .before .before .before .before .before .before .before .before .before .before .before .before .before .before .before .both-under) .kept .1 .1 .1 .1 .0) ((c .enum-told) .given .1), (c .before .before .before .before .before .before .onward) .ensures .1)
+returns-3 c =
+    let mid = c .before .before .before .before .before .before .before .before .before .before .before .before .before .before .before .before .before .before .before .before .before .before .before .before .before in
+    let entry = mid .before .before .before .before .before .before .before in
+    let args = entry .args in
+    let pre = entry .pre in
+    let both-under = c .before .before .before .before .before .before .before .before .before .before .before .before .before .before .before .before .before .before .before .before .both-under in
+    let a = c .before .before .before .before .before .before .before .before .before .before .before .before .a in
+    let onward = c .before .before .before .before .before .before .onward in (
+      pair-clash _ _ _ _ _ _ (args .seen .now) _ pre _ _ (both-under .last .1 .1 .1 .1 .0) (both-under .result) (both-under .ensures) _ _ _
+          (a .given .1) (onward .last .1 .1 .1 .1 .1 .0) (onward .result) (onward .ensures .0) (both-under .kept .1 .1 .1 .1 .0)
+          ((c .enum-told) .given .1),
+      onward .ensures .1,
+    )
 
 -- src/peel.rt:98:1
 same-length-14 : tie.Need-same-length-14
@@ -164,7 +200,20 @@ same-length-18 c = (c .before .before .before .before .before .before .before .o
 
 -- src/peel.rt:98:1
 returns-4 : tie.Need-returns-4
-returns-4 c = (pair-binds _ _ _ _ _ _ ((c .before .before .before .before .before .before .before .before .before .before .before .before .before .before .before .before .before .before .before .before .before .before .before .before .before .before .before .before .before .before .before .before .before .args) .seen .now) _ (c .before .before .before .before .before .before .before .before .before .before .before .before .before .before .before .before .before .before .before .before .before .before .before .before .before .before .before .before .before .before .before .before .before .pre) _ _ ((c .before .before .before .before .before .before .before .before .before .before .before .before .before .before .before .before .before .before .before .before .before .both-under) .last .1 .1 .1 .1 .0) ((c .before .before .before .before .before .before .before .before .before .before .before .before .before .before .before .before .before .before .before .before .before .both-under) .result) ((c .before .before .before .before .before .before .before .before .before .before .before .before .before .before .before .before .before .before .before .before .before .both-under) .ensures) _ _ _ ((c .before .before .before .before .before .before .before .before .before .before .before .before .before .a) .given .1) ((c .before .before .before .before .before .before .before .onward) .last .1 .1 .1 .1 .1 .0) ((c .before .before .before .before .before .before .before .onward) .result) ((c .before .before .before .before .before .before .before .onward) .ensures .0) ((c .before .before .before .before .before .before .before .before .before .before .before .before .before .before .before .before .before .before .before .before .before .both-under) .kept .1 .1 .1 .1 .0) _ _ ((c .before .x) .given .1), (c .before .before .before .before .before .before .before .onward) .ensures .1)
+returns-4 c =
+    let mid = c .before .before .before .before .before .before .before .before .before .before .before .before .before .before .before .before .before .before .before .before .before .before .before .before .before in
+    let entry = mid .before .before .before .before .before .before .before .before in
+    let args = entry .args in
+    let pre = entry .pre in
+    let both-under = c .before .before .before .before .before .before .before .before .before .before .before .before .before .before .before .before .before .before .before .before .before .both-under in
+    let a = c .before .before .before .before .before .before .before .before .before .before .before .before .before .a in
+    let onward = c .before .before .before .before .before .before .before .onward in
+    let x = c .before .x in (
+      pair-binds _ _ _ _ _ _ (args .seen .now) _ pre _ _ (both-under .last .1 .1 .1 .1 .0) (both-under .result) (both-under .ensures) _ _ _
+          (a .given .1) (onward .last .1 .1 .1 .1 .1 .0) (onward .result) (onward .ensures .0) (both-under .kept .1 .1 .1 .1 .0) _ _
+          (x .given .1),
+      onward .ensures .1,
+    )
 
 -- src/peel.rt:98:1
 same-length-19 : tie.Need-same-length-19
@@ -188,7 +237,18 @@ same-length-23 c = (c .before .before .before .before .before .before .onward) .
 
 -- src/peel.rt:98:1
 returns-5 : tie.Need-returns-5
-returns-5 c = (pair-crowd _ _ _ _ _ _ ((c .before .before .before .before .before .before .before .before .before .before .before .before .before .before .before .before .before .before .before .before .before .before .before .before .before .before .before .before .before .before .before .before .args) .seen .now) _ (c .before .before .before .before .before .before .before .before .before .before .before .before .before .before .before .before .before .before .before .before .before .before .before .before .before .before .before .before .before .before .before .before .pre) _ _ ((c .before .before .before .before .before .before .before .before .before .before .before .before .before .before .before .before .before .before .before .before .both-under) .last .1 .1 .1 .1 .0) ((c .before .before .before .before .before .before .before .before .before .before .before .before .before .before .before .before .before .before .before .before .both-under) .result) ((c .before .before .before .before .before .before .before .before .before .before .before .before .before .before .before .before .before .before .before .before .both-under) .ensures) _ _ _ ((c .before .before .before .before .before .before .before .before .before .before .before .before .a) .given .1) ((c .before .before .before .before .before .before .onward) .last .1 .1 .1 .1 .1 .0) ((c .before .before .before .before .before .before .onward) .result) ((c .before .before .before .before .before .before .onward) .ensures .0) ((c .enum-told2) .given .1), (c .before .before .before .before .before .before .onward) .ensures .1)
+returns-5 c =
+    let mid = c .before .before .before .before .before .before .before .before .before .before .before .before .before .before .before .before .before .before .before .before .before .before .before .before .before in
+    let entry = mid .before .before .before .before .before .before .before in
+    let args = entry .args in
+    let pre = entry .pre in
+    let both-under = c .before .before .before .before .before .before .before .before .before .before .before .before .before .before .before .before .before .before .before .before .both-under in
+    let a = c .before .before .before .before .before .before .before .before .before .before .before .before .a in
+    let onward = c .before .before .before .before .before .before .onward in (
+      pair-crowd _ _ _ _ _ _ (args .seen .now) _ pre _ _ (both-under .last .1 .1 .1 .1 .0) (both-under .result) (both-under .ensures) _ _ _
+          (a .given .1) (onward .last .1 .1 .1 .1 .1 .0) (onward .result) (onward .ensures .0) ((c .enum-told2) .given .1),
+      onward .ensures .1,
+    )
 
 pub take-pair-spec : {M : Type 1} → statement M
 take-pair-spec =

@@ -100,7 +100,9 @@ replace-start-of-requires t c κs = omega (arith, end-in _ _ _ ((c .before .befo
 
 -- src/replace.rt:83:15
 replace-mul-end : (t : ℕ) → replace-lts.Need-mul-end (cs t) (replace-at t) replace.Post replace-Inv-loop replace-μ-loop
-replace-mul-end t c = omega (arith, end-in _ _ _ ((c .before .before .before .before .before .before .before .before .before .before .pre) .1 .good) _ ((c .before .before .before .before .before .before .before .before .before .before .pre) .1 .there), (c .before .before .before .before .before .before .before .before .before .before .pre) .1 .good .index)
+replace-mul-end t c =
+    let pre = c .before .before .before .before .before .before .before .before .before .before .pre in
+    omega (arith, end-in _ _ _ (pre .1 .good) _ (pre .1 .there), pre .1 .good .index)
 
 -- src/replace.rt:83:15
 replace-slice-read-end : (t : ℕ) → replace-lts.Need-slice-read-end (cs t) (replace-at t) replace.Post replace-Inv-loop replace-μ-loop
@@ -112,11 +114,17 @@ replace-cast-end t c = omega (arith, (c .slice-known6) .given ((c .before .befor
 
 -- src/replace.rt:84:16
 replace-mul-head : (t : ℕ) → replace-lts.Need-mul-head (cs t) (replace-at t) replace.Post replace-Inv-loop replace-μ-loop
-replace-mul-head t c = omega (arith, start-in _ _ _ ((c .before .before .before .before .before .before .before .before .before .before .before .pre) .1 .good) _ ((c .before .before .before .before .before .before .before .before .before .before .before .pre) .1 .there) _ ((c .before .start-of) .ensures), (c .before .before .before .before .before .before .before .before .before .before .before .pre) .1 .good .words)
+replace-mul-head t c =
+    let pre = c .before .before .before .before .before .before .before .before .before .before .before .pre in
+    let start-of = c .before .start-of in
+    omega (arith, start-in _ _ _ (pre .1 .good) _ (pre .1 .there) _ (start-of .ensures), pre .1 .good .words)
 
 -- src/replace.rt:84:16
 replace-slice-read-head : (t : ℕ) → replace-lts.Need-slice-read-head (cs t) (replace-at t) replace.Post replace-Inv-loop replace-μ-loop
-replace-slice-read-head t c = start-in _ _ _ ((c .before .before .before .before .before .before .before .before .before .before .before .before .pre) .1 .good) _ ((c .before .before .before .before .before .before .before .before .before .before .before .before .pre) .1 .there) _ ((c .before .before .start-of) .ensures)
+replace-slice-read-head t c =
+    let pre = c .before .before .before .before .before .before .before .before .before .before .before .before .pre in
+    let start-of = c .before .before .start-of in
+    start-in _ _ _ (pre .1 .good) _ (pre .1 .there) _ (start-of .ensures)
 
 -- src/replace.rt:84:16
 replace-cast-head : (t : ℕ) → replace-lts.Need-cast-head (cs t) (replace-at t) replace.Post replace-Inv-loop replace-μ-loop
@@ -128,11 +136,27 @@ replace-image-of-requires t c κs = search needs
 
 -- src/replace.rt:87:21
 replace-add-memo-2 : (t : ℕ) → replace-lts.Need-add-memo-2 (cs t) (replace-at t) replace.Post replace-Inv-loop replace-μ-loop
-replace-add-memo-2 t c = omega (arith, sub-var _ _ _ _ _ _ ((c .before .before .before .before .before .before .before .before .before .before .before .before .before .before .pre) .1) _ _ ((c .before .before .before .before .start-of) .ensures) ((c .before .if3) .taken) ((c .image-of) .ensures) .stored .there, (c .before .before .before .before .before .before .before .before .before .before .before .before .before .before .pre) .1 .good .room)
+replace-add-memo-2 t c =
+    let pre = c .before .before .before .before .before .before .before .before .before .before .before .before .before .before .pre in
+    let start-of = c .before .before .before .before .start-of in
+    let if3 = c .before .if3 in
+    omega (
+      arith,
+      sub-var _ _ _ _ _ _ (pre .1) _ _ (start-of .ensures) (if3 .taken) ((c .image-of) .ensures) .stored .there,
+      pre .1 .good .room,
+    )
 
 -- src/replace.rt:87:20
 replace-cast-memo-2 : (t : ℕ) → replace-lts.Need-cast-memo-2 (cs t) (replace-at t) replace.Post replace-Inv-loop replace-μ-loop
-replace-cast-memo-2 t c = omega (arith, sub-var _ _ _ _ _ _ ((c .before .before .before .before .before .before .before .before .before .before .before .before .before .before .pre) .1) _ _ ((c .before .before .before .before .start-of) .ensures) ((c .before .if3) .taken) ((c .image-of) .ensures) .stored .there, (c .before .before .before .before .before .before .before .before .before .before .before .before .before .before .pre) .1 .good .room)
+replace-cast-memo-2 t c =
+    let pre = c .before .before .before .before .before .before .before .before .before .before .before .before .before .before .pre in
+    let start-of = c .before .before .before .before .start-of in
+    let if3 = c .before .if3 in
+    omega (
+      arith,
+      sub-var _ _ _ _ _ _ (pre .1) _ _ (start-of .ensures) (if3 .taken) ((c .image-of) .ensures) .stored .there,
+      pre .1 .good .room,
+    )
 
 -- src/replace.rt:87:9
 replace-mul-memo-2 : (t : ℕ) → replace-lts.Need-mul-memo-2 (cs t) (replace-at t) replace.Post replace-Inv-loop replace-μ-loop
@@ -156,7 +180,10 @@ replace-returns-3 t c = sub-var _ _ _ _ _ _ ((c .before .before .before .before 
 
 -- src/replace.rt:91:18
 replace-add-at : (t : ℕ) → replace-lts.Need-add-at (cs t) (replace-at t) replace.Post replace-Inv-loop replace-μ-loop
-replace-add-at t c = omega (arith, start-in _ _ _ ((c .before .before .before .before .before .before .before .before .before .before .before .before .before .pre) .1 .good) _ ((c .before .before .before .before .before .before .before .before .before .before .before .before .before .pre) .1 .there) _ ((c .before .before .before .start-of) .ensures), (c .before .before .before .before .before .before .before .before .before .before .before .before .before .pre) .1 .good .words)
+replace-add-at t c =
+    let pre = c .before .before .before .before .before .before .before .before .before .before .before .before .before .pre in
+    let start-of = c .before .before .before .start-of in
+    omega (arith, start-in _ _ _ (pre .1 .good) _ (pre .1 .there) _ (start-of .ensures), pre .1 .good .words)
 
 -- src/replace.rt:92:5
 replace-loop-holds : (t : ℕ) → replace-lts.Need-loop-holds (cs t) (replace-at t) replace.Post replace-Inv-loop replace-μ-loop
@@ -176,7 +203,14 @@ replace-cast-arg t c = omega (arith, (c .slice-known8) .given ((c .before .befor
 
 -- src/replace.rt:94:15
 replace-replace-requires : (t : ℕ) → replace-lts.Need-replace-requires (cs t) (replace-at t) replace.Post replace-Inv-loop replace-μ-loop
-replace-replace-requires t c κs = (omega (arith, arg-falls _ _ _ _ _ _ _ _ _ _ _ _ _ ((c .before .before .before .before .before .loop) .inv) ((c .before .before .before .before .loop-test) .taken), (c .before .before .before .before .before .before .before .before .before .before .before .before .before .before .before .before .before .before .before .pre) .0), arg-ready _ _ _ _ _ _ _ _ _ _ _ _ _ ((c .before .before .before .before .before .loop) .inv) ((c .before .before .before .before .loop-test) .taken))
+replace-replace-requires t c κs =
+    let loop = c .before .before .before .before .before .loop in
+    let loop-test = c .before .before .before .before .loop-test in
+    let pre = c .before .before .before .before .before .before .before .before .before .before .before .before .before .before .before .before .before .before .before .pre in (
+      omega (arith, arg-falls _ _ _ _ _ _ _ _ _ _ _ _ _ (loop .inv) (loop-test .taken), pre .0),
+      arg-ready _ _ _ _ _ _ _ _ _ _ _ _ _
+          (loop .inv) (loop-test .taken),
+    )
 
 -- src/replace.rt:95:27
 replace-enum-known-next : (t : ℕ) → replace-lts.Need-enum-known-next (cs t) (replace-at t) replace.Post replace-Inv-loop replace-μ-loop
@@ -200,11 +234,20 @@ replace-same-length-6 t c = search needs
 
 -- src/replace.rt:99:17
 replace-returns-4 : (t : ℕ) → replace-lts.Need-returns-4 (cs t) (replace-at t) replace.Post replace-Inv-loop replace-μ-loop
-replace-returns-4 t c = arm-full _ _ _ _ _ _ _ _ _ _ _ _ _ ((c .before .before .before .before .before .before .before .before .before .before .before .before .before .before .before .loop) .inv) ((c .before .before .before .before .before .before .before .before .before .before .before .before .before .before .loop-test) .taken) _ _ ((c .before .before .before .before .before .before .before .before .before .replace) .last .1 .1 .1 .1 .0) ((c .before .before .before .before .before .before .before .before .before .replace) .result) ((c .before .before .before .before .before .before .before .before .before .replace) .ensures) _ _ ((c .before .row) .given .1)
+replace-returns-4 t c =
+    let loop = c .before .before .before .before .before .before .before .before .before .before .before .before .before .before .before .loop in
+    let loop-test = c .before .before .before .before .before .before .before .before .before .before .before .before .before .before .loop-test in
+    let replace = c .before .before .before .before .before .before .before .before .before .replace in
+    let row = c .before .row in
+    arm-full _ _ _ _ _ _ _ _ _ _ _ _ _ (loop .inv) (loop-test .taken) _ _ (replace .last .1 .1 .1 .1 .0) (replace .result)
+    (replace .ensures) _ _ (row .given .1)
 
 -- src/replace.rt:102:9
 replace-add-at-2 : (t : ℕ) → replace-lts.Need-add-at-2 (cs t) (replace-at t) replace.Post replace-Inv-loop replace-μ-loop
-replace-add-at-2 t c = omega (arith, arg-in _ _ _ _ _ _ _ _ _ _ _ _ _ ((c .before .before .before .before .before .before .before .before .before .before .before .before .before .before .before .loop) .inv) ((c .before .before .before .before .before .before .before .before .before .before .before .before .before .before .loop-test) .taken), (c .before .before .before .before .before .before .before .before .before .before .before .before .before .before .before .loop) .inv .grown .good .words)
+replace-add-at-2 t c =
+    let loop = c .before .before .before .before .before .before .before .before .before .before .before .before .before .before .before .loop in
+    let loop-test = c .before .before .before .before .before .before .before .before .before .before .before .before .before .before .loop-test in
+    omega (arith, arg-in _ _ _ _ _ _ _ _ _ _ _ _ _ (loop .inv) (loop-test .taken), loop .inv .grown .good .words)
 
 -- src/replace.rt:92:5
 replace-loop-less : (t : ℕ) → replace-lts.Need-loop-less (cs t) (replace-at t) replace.Post replace-Inv-loop replace-μ-loop
@@ -212,11 +255,26 @@ replace-loop-less t c = search needs
 
 -- src/replace.rt:92:5
 replace-loop-again : (t : ℕ) → replace-lts.Need-loop-again (cs t) (replace-at t) replace.Post replace-Inv-loop replace-μ-loop
-replace-loop-again t c = arm-term _ _ _ _ _ _ _ _ _ _ _ _ _ ((c .before .before .before .before .before .before .before .before .before .before .before .before .before .before .before .loop) .inv) ((c .before .before .before .before .before .before .before .before .before .before .before .before .before .before .loop-test) .taken) _ _ _ ((c .before .before .before .before .before .before .before .before .before .replace) .result) ((c .before .before .before .before .before .before .before .before .before .replace) .ensures) ((c .before .before .before .before .before .before .before .before .before .replace) .kept .1 .1 .1 .1 .0) _ _ ((c .before .next) .given .1)
+replace-loop-again t c =
+    let loop = c .before .before .before .before .before .before .before .before .before .before .before .before .before .before .before .loop in
+    let loop-test = c .before .before .before .before .before .before .before .before .before .before .before .before .before .before .loop-test in
+    let replace = c .before .before .before .before .before .before .before .before .before .replace in
+    let next = c .before .next in
+    arm-term _ _ _ _ _ _ _ _ _ _ _ _ _ (loop .inv) (loop-test .taken) _ _ _ (replace .result) (replace .ensures)
+    (replace .kept .1 .1 .1 .1 .0) _ _ (next .given .1)
 
 -- src/replace.rt:104:11
 replace-rebuild-requires : (t : ℕ) → replace-lts.Need-rebuild-requires (cs t) (replace-at t) replace.Post replace-Inv-loop replace-μ-loop
-replace-rebuild-requires t c κs = ((c .before .before .before .before .loop) .inv .grown .good, (rebuildable _ _ _ _ _ _ _ _ _ _ _ _ _ ((c .before .before .before .before .loop) .inv) ((c .before .before .before .loop-test) .left), rebuilt-shaped _ _ _ _ _ _ _ _ _ _ _ _ _ ((c .before .before .before .before .loop) .inv) ((c .before .before .before .loop-test) .left)))
+replace-rebuild-requires t c κs =
+    let loop = c .before .before .before .before .loop in
+    let loop-test = c .before .before .before .loop-test in (
+      loop .inv .grown .good,
+      (
+        rebuildable _ _ _ _ _ _ _ _ _ _ _ _ _ (loop .inv) (loop-test .left),
+        rebuilt-shaped _ _ _ _ _ _ _ _ _ _ _ _ _ (loop .inv)
+            (loop-test .left),
+      ),
+    )
 
 -- src/replace.rt:105:20
 replace-enum-known-n : (t : ℕ) → replace-lts.Need-enum-known-n (cs t) (replace-at t) replace.Post replace-Inv-loop replace-μ-loop
@@ -224,15 +282,30 @@ replace-enum-known-n t c = search needs
 
 -- src/replace.rt:106:25
 replace-add-memo-3 : (t : ℕ) → replace-lts.Need-add-memo-3 (cs t) (replace-at t) replace.Post replace-Inv-loop replace-μ-loop
-replace-add-memo-3 t c = let d = end-term _ _ _ _ _ _ _ _ _ _ _ _ _ ((c .before .before .before .before .before .before .before .before .before .before .before .before .loop) .inv) ((c .before .before .before .before .before .before .before .before .before .before .before .loop-test) .left) _ _ ((c .before .before .before .before .before .before .before .rebuild) .result) ((c .before .before .before .before .before .before .before .rebuild) .ensures) _ _ ((c .before .n) .given .1) in omega (arith, d .stored .there, d .stored .grown .good .room)
+replace-add-memo-3 t c =
+    let loop = c .before .before .before .before .before .before .before .before .before .before .before .before .loop in
+    let loop-test = c .before .before .before .before .before .before .before .before .before .before .before .loop-test in
+    let rebuild = c .before .before .before .before .before .before .before .rebuild in
+    let n = c .before .n in
+    let d = end-term _ _ _ _ _ _ _ _ _ _ _ _ _ (loop .inv) (loop-test .left) _ _ (rebuild .result) (rebuild .ensures) _ _ (n .given .1) in
+    omega (arith, d .stored .there, d .stored .grown .good .room)
 
 -- src/replace.rt:106:24
 replace-cast-memo-3 : (t : ℕ) → replace-lts.Need-cast-memo-3 (cs t) (replace-at t) replace.Post replace-Inv-loop replace-μ-loop
-replace-cast-memo-3 t c = let d = end-term _ _ _ _ _ _ _ _ _ _ _ _ _ ((c .before .before .before .before .before .before .before .before .before .before .before .before .loop) .inv) ((c .before .before .before .before .before .before .before .before .before .before .before .loop-test) .left) _ _ ((c .before .before .before .before .before .before .before .rebuild) .result) ((c .before .before .before .before .before .before .before .rebuild) .ensures) _ _ ((c .before .n) .given .1) in omega (arith, d .stored .there, d .stored .grown .good .room)
+replace-cast-memo-3 t c =
+    let loop = c .before .before .before .before .before .before .before .before .before .before .before .before .loop in
+    let loop-test = c .before .before .before .before .before .before .before .before .before .before .before .loop-test in
+    let rebuild = c .before .before .before .before .before .before .before .rebuild in
+    let n = c .before .n in
+    let d = end-term _ _ _ _ _ _ _ _ _ _ _ _ _ (loop .inv) (loop-test .left) _ _ (rebuild .result) (rebuild .ensures) _ _ (n .given .1) in
+    omega (arith, d .stored .there, d .stored .grown .good .room)
 
 -- src/replace.rt:106:13
 replace-mul-memo-3 : (t : ℕ) → replace-lts.Need-mul-memo-3 (cs t) (replace-at t) replace.Post replace-Inv-loop replace-μ-loop
-replace-mul-memo-3 t c = omega (arith, (c .before .before .before .before .before .before .before .before .before .before .before .before .before .before .before .before .before .before .before .before .before .before .before .before .before .before .pre) .1 .there, (c .before .before .before .before .before .before .before .before .before .before .before .before .before .before .before .before .before .before .before .before .before .before .before .before .before .before .pre) .1 .good .room)
+replace-mul-memo-3 t c =
+    let mid = c .before .before .before .before .before .before .before .before .before .before .before .before .before .before .before .before .before .before .before .before .before .before .before .before .before in
+    let pre = mid .before .pre in
+    omega (arith, pre .1 .there, pre .1 .good .room)
 
 -- src/replace.rt:106:13
 replace-slice-write-memo-3 : (t : ℕ) → replace-lts.Need-slice-write-memo-3 (cs t) (replace-at t) replace.Post replace-Inv-loop replace-μ-loop
@@ -256,7 +329,12 @@ replace-same-length-9 t c = search needs
 
 -- src/replace.rt:63:1
 replace-returns-5 : (t : ℕ) → replace-lts.Need-returns-5 (cs t) (replace-at t) replace.Post replace-Inv-loop replace-μ-loop
-replace-returns-5 t c = end-term _ _ _ _ _ _ _ _ _ _ _ _ _ ((c .before .before .before .before .before .before .before .before .before .before .before .before .loop) .inv) ((c .before .before .before .before .before .before .before .before .before .before .before .loop-test) .left) _ _ ((c .before .before .before .before .before .before .before .rebuild) .result) ((c .before .before .before .before .before .before .before .rebuild) .ensures) _ _ ((c .before .n) .given .1)
+replace-returns-5 t c =
+    let loop = c .before .before .before .before .before .before .before .before .before .before .before .before .loop in
+    let loop-test = c .before .before .before .before .before .before .before .before .before .before .before .loop-test in
+    let rebuild = c .before .before .before .before .before .before .before .rebuild in
+    let n = c .before .n in
+    end-term _ _ _ _ _ _ _ _ _ _ _ _ _ (loop .inv) (loop-test .left) _ _ (rebuild .result) (rebuild .ensures) _ _ (n .given .1)
 
 -- src/replace.rt:63:1
 replace-same-length-10 : (t : ℕ) → replace-lts.Need-same-length-10 (cs t) (replace-at t) replace.Post replace-Inv-loop replace-μ-loop
@@ -272,7 +350,12 @@ replace-same-length-12 t c = search needs
 
 -- src/replace.rt:63:1
 replace-returns-6 : (t : ℕ) → replace-lts.Need-returns-6 (cs t) (replace-at t) replace.Post replace-Inv-loop replace-μ-loop
-replace-returns-6 t c = end-full _ _ _ _ _ _ _ _ _ _ _ _ _ ((c .before .before .before .before .before .before .before .before .before .before .before .before .loop) .inv) ((c .before .before .before .before .before .before .before .before .before .before .before .loop-test) .left) _ _ ((c .before .before .before .before .before .before .before .rebuild) .result) ((c .before .before .before .before .before .before .before .rebuild) .ensures) _ _ ((c .before .row2) .given .1)
+replace-returns-6 t c =
+    let loop = c .before .before .before .before .before .before .before .before .before .before .before .before .loop in
+    let loop-test = c .before .before .before .before .before .before .before .before .before .before .before .loop-test in
+    let rebuild = c .before .before .before .before .before .before .before .rebuild in
+    let row2 = c .before .row2 in
+    end-full _ _ _ _ _ _ _ _ _ _ _ _ _ (loop .inv) (loop-test .left) _ _ (rebuild .result) (rebuild .ensures) _ _ (row2 .given .1)
 
 pub +replace-spec : {M : Type 1} → statement M
 +replace-spec = close μ-replace λ t. replace-lts.spec (cs t)

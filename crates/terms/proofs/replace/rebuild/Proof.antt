@@ -29,7 +29,10 @@ slice-aggregate-keep c = gathered-long _ _ _ _ ((c .before .before .before .befo
 
 -- src/replace.rt:59:5
 keep-requires : tie.Need-keep-requires
-keep-requires c κs = ((c .before .before .before .before .before .before .before .before .before .before .pre) .0, gathered-node _ _ _ _ ((c .before .before .before .before .before .before .before .before .before .before .pre) .1 .0) _ _ ((c .before .before .before .before .gather) .ensures) _ ((c .before .before .before .before .before .before .before .before .before .before .pre) .1 .1))
+keep-requires c κs =
+    let pre = c .before .before .before .before .before .before .before .before .before .before .pre in
+    let gather = c .before .before .before .before .gather in
+    (pre .0, gathered-node _ _ _ _ (pre .1 .0) _ _ (gather .ensures) _ (pre .1 .1))
 
 -- src/replace.rt:43:1
 same-length : tie.Need-same-length
@@ -41,7 +44,11 @@ same-length-2 c = search needs
 
 -- src/replace.rt:43:1
 returns : tie.Need-returns
-returns c = rebuild-done _ _ _ _ ((c .before .before .before .before .before .before .before .before .before .before .before .before .before .before .before .pre) .1 .0) _ _ ((c .before .before .before .before .before .before .before .before .before .gather) .ensures) _ _ ((c .before .before .before .before .keep) .last .0) ((c .before .before .before .before .keep) .last .1 .0) _ ((c .before .before .before .before .keep) .result) ((c .before .before .before .before .keep) .ensures)
+returns c =
+    let pre = c .before .before .before .before .before .before .before .before .before .before .before .before .before .before .before .pre in
+    let gather = c .before .before .before .before .before .before .before .before .before .gather in
+    let keep = c .before .before .before .before .keep in
+    rebuild-done _ _ _ _ (pre .1 .0) _ _ (gather .ensures) _ _ (keep .last .0) (keep .last .1 .0) _ (keep .result) (keep .ensures)
 
 pub rebuild-spec : {M : Type 1} → statement M
 rebuild-spec =

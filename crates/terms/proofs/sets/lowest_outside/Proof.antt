@@ -42,19 +42,37 @@ mul-result c = search needs
 
 -- src/sets.rt:50:29
 cast-result : tie.Need-cast-result Inv-loop μ-loop
-cast-result c = omega (arith, trailing-le 64 (outside ((c .before .before .before .before .before .args) .a .now) ((c .before .before .before .before .before .args) .b .now) ((c .before .before .before .before .loop) .i) ((c .before .shared-slice-known2) .given ((c .before .before .before .before .loop) .i) .fits)))
+cast-result c =
+    let args = c .before .before .before .before .before .args in
+    let loop = c .before .before .before .before .loop in
+    let shared-slice-known2 = c .before .shared-slice-known2 in
+    omega (arith, trailing-le 64 (outside (args .a .now) (args .b .now) (loop .i) (shared-slice-known2 .given (loop .i) .fits)))
 
 -- src/sets.rt:50:20
 add-result : tie.Need-add-result Inv-loop μ-loop
-add-result c = omega (arith, trailing-le 64 (outside ((c .before .before .before .before .before .args) .a .now) ((c .before .before .before .before .before .args) .b .now) ((c .before .before .before .before .loop) .i) ((c .before .shared-slice-known2) .given ((c .before .before .before .before .loop) .i) .fits)))
+add-result c =
+    let args = c .before .before .before .before .before .args in
+    let loop = c .before .before .before .before .loop in
+    let shared-slice-known2 = c .before .shared-slice-known2 in
+    omega (arith, trailing-le 64 (outside (args .a .now) (args .b .now) (loop .i) (shared-slice-known2 .given (loop .i) .fits)))
 
 -- src/sets.rt:50:20
 add-result-2 : tie.Need-add-result-2 Inv-loop μ-loop
-add-result-2 c = omega (arith, trailing-le 64 (outside ((c .before .before .before .before .before .args) .a .now) ((c .before .before .before .before .before .args) .b .now) ((c .before .before .before .before .loop) .i) ((c .before .shared-slice-known2) .given ((c .before .before .before .before .loop) .i) .fits)))
+add-result-2 c =
+    let args = c .before .before .before .before .before .args in
+    let loop = c .before .before .before .before .loop in
+    let shared-slice-known2 = c .before .shared-slice-known2 in
+    omega (arith, trailing-le 64 (outside (args .a .now) (args .b .now) (loop .i) (shared-slice-known2 .given (loop .i) .fits)))
 
 -- src/sets.rt:50:13
 returns : tie.Need-returns Inv-loop μ-loop
-returns c = lowest-at _ _ _ ((c .before .before .shared-slice-known) .given ((c .before .before .before .before .loop) .i) .fits) ((c .before .shared-slice-known2) .given ((c .before .before .before .before .loop) .i) .fits) ((c .before .before .before .loop-test) .taken) ((c .before .before .before .before .loop) .inv .1) ((c .if1) .taken)
+returns c =
+    let shared-slice-known = c .before .before .shared-slice-known in
+    let loop = c .before .before .before .before .loop in
+    let shared-slice-known2 = c .before .shared-slice-known2 in
+    let loop-test = c .before .before .before .loop-test in
+    lowest-at _ _ _ (shared-slice-known .given (loop .i) .fits) (shared-slice-known2 .given (loop .i) .fits) (loop-test .taken)
+    (loop .inv .1) ((c .if1) .taken)
 
 -- src/sets.rt:52:9
 add-i : tie.Need-add-i Inv-loop μ-loop

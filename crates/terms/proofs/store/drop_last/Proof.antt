@@ -57,7 +57,12 @@ unlink-requires c κs = last-unlinks _ _ _ ((c .before .before .before .before .
 
 -- src/store.rt:196:10
 mul-clear : tie.Need-mul-clear
-mul-clear c = omega (arith, last-fits _ _ _ ((c .before .before .before .before .before .before .before .before .before .before .before .before .before .pre)) _ ((c .before .before .before .before .before .before .before .before .start-of) .ensures), (c .before .before .before .before .before .before .before .before .before .before .before .before .before .good) .1 .0)
+mul-clear c =
+    let entry = c .before .before .before .before .before .before .before .before .before .before .before .before .before in
+    let pre = entry .pre in
+    let start-of = c .before .before .before .before .before .before .before .before .start-of in
+    let good = entry .good in
+    omega (arith, last-fits _ _ _ pre _ (start-of .ensures), good .1 .0)
 
 -- src/store.rt:196:10
 sub-clear : tie.Need-sub-clear
@@ -85,7 +90,13 @@ same-length-2 c = search needs
 
 -- src/store.rt:187:1
 returns : tie.Need-returns
-returns c = last-gone _ _ _ ((c .before .before .before .before .before .before .before .before .before .before .before .before .before .before .before .before .before .pre)) _ ((c .before .before .before .before .before .before .before .before .before .before .before .before .start-of) .ensures) _ ((c .before .before .before .before .before .before .before .before .bucket-of) .ensures) _ ((c .before .before .before .before .before .before .unlink) .ensures) _ ((c .before .before .clear) .ensures)
+returns c =
+    let pre = c .before .before .before .before .before .before .before .before .before .before .before .before .before .before .before .before .before .pre in
+    let start-of = c .before .before .before .before .before .before .before .before .before .before .before .before .start-of in
+    let bucket-of = c .before .before .before .before .before .before .before .before .bucket-of in
+    let unlink = c .before .before .before .before .before .before .unlink in
+    let clear = c .before .before .clear in
+    last-gone _ _ _ pre _ (start-of .ensures) _ (bucket-of .ensures) _ (unlink .ensures) _ (clear .ensures)
 
 pub drop-last-spec : {M : Type 1} → statement M
 drop-last-spec =

@@ -44,15 +44,26 @@ sub-i c = search needs
 
 -- src/store.rt:81:13
 start-of-requires : tie.Need-start-of-requires Inv-loop μ-loop
-start-of-requires c κs = let i = seeking-in _ _ _ _ _ ((c .before .loop) .inv _ ((c .before .before .before .before .before .before .pre) .0) ((c .before .before .before .before .before .before .pre) .1 .0)) ((c .loop-test) .taken) in omega (arith, i, (c .before .before .before .before .before .before .pre) .0 .room, (c .before .before .before .before .before .before .pre) .0 .index)
+start-of-requires c κs =
+    let loop = c .before .loop in
+    let pre = c .before .before .before .before .before .before .pre in
+    let i = seeking-in _ _ _ _ _ (loop .inv _ (pre .0) (pre .1 .0)) ((c .loop-test) .taken) in omega (arith, i, pre .0 .room, pre .0 .index)
 
 -- src/store.rt:82:34
 mul-is-node : tie.Need-mul-is-node Inv-loop μ-loop
-mul-is-node c = let i = seeking-in _ _ _ _ _ ((c .before .before .loop) .inv _ ((c .before .before .before .before .before .before .before .pre) .0) ((c .before .before .before .before .before .before .before .pre) .1 .0)) ((c .before .loop-test) .taken) in omega (arith, i, (c .before .before .before .before .before .before .before .pre) .0 .room, (c .before .before .before .before .before .before .before .pre) .0 .index)
+mul-is-node c =
+    let loop = c .before .before .loop in
+    let pre = c .before .before .before .before .before .before .before .pre in
+    let loop-test = c .before .loop-test in
+    let i = seeking-in _ _ _ _ _ (loop .inv _ (pre .0) (pre .1 .0)) (loop-test .taken) in omega (arith, i, pre .0 .room, pre .0 .index)
 
 -- src/store.rt:82:34
 shared-slice-read-is-node : tie.Need-shared-slice-read-is-node Inv-loop μ-loop
-shared-slice-read-is-node c = let i = seeking-in _ _ _ _ _ ((c .before .before .before .loop) .inv _ ((c .before .before .before .before .before .before .before .before .pre) .0) ((c .before .before .before .before .before .before .before .before .pre) .1 .0)) ((c .before .before .loop-test) .taken) in omega (arith, i, (c .before .before .before .before .before .before .before .before .pre) .0 .room, (c .before .before .before .before .before .before .before .before .pre) .0 .index)
+shared-slice-read-is-node c =
+    let loop = c .before .before .before .loop in
+    let pre = c .before .before .before .before .before .before .before .before .pre in
+    let loop-test = c .before .before .loop-test in
+    let i = seeking-in _ _ _ _ _ (loop .inv _ (pre .0) (pre .1 .0)) (loop-test .taken) in omega (arith, i, pre .0 .room, pre .0 .index)
 
 -- src/store.rt:82:34
 cast-is-node : tie.Need-cast-is-node Inv-loop μ-loop
@@ -60,23 +71,46 @@ cast-is-node c = omega (arith, (c .shared-slice-known5) .given ((c .before .befo
 
 -- src/store.rt:82:12
 is-node-requires : tie.Need-is-node-requires Inv-loop μ-loop
-is-node-requires c κs = seeking-asks _ _ _ _ _ ((c .before .before .before .loop) .inv _ ((c .before .before .before .before .before .before .before .before .pre) .0) ((c .before .before .before .before .before .before .before .before .pre) .1 .0)) ((c .before .before .loop-test) .taken) _ ((c .before .start-of) .ensures)
+is-node-requires c κs =
+    let loop = c .before .before .before .loop in
+    let pre = c .before .before .before .before .before .before .before .before .pre in
+    let loop-test = c .before .before .loop-test in
+    let start-of = c .before .start-of in
+    seeking-asks _ _ _ _ _ (loop .inv _ (pre .0) (pre .1 .0)) (loop-test .taken) _ (start-of .ensures)
 
 -- src/store.rt:83:13
 returns : tie.Need-returns Inv-loop μ-loop
-returns c = seeking-hit _ _ _ _ _ ((c .before .before .before .before .before .loop) .inv _ ((c .before .before .before .before .before .before .before .before .before .before .pre) .0) ((c .before .before .before .before .before .before .before .before .before .before .pre) .1 .0)) ((c .before .before .before .before .loop-test) .taken) _ ((c .before .before .before .start-of) .ensures) _ ((c .before .is-node) .ensures) ((c .if1) .taken)
+returns c =
+    let loop = c .before .before .before .before .before .loop in
+    let pre = c .before .before .before .before .before .before .before .before .before .before .pre in
+    let loop-test = c .before .before .before .before .loop-test in
+    let start-of = c .before .before .before .start-of in
+    let is-node = c .before .is-node in
+    seeking-hit _ _ _ _ _ (loop .inv _ (pre .0) (pre .1 .0)) (loop-test .taken) _ (start-of .ensures) _ (is-node .ensures) ((c .if1) .taken)
 
 -- src/store.rt:85:20
 add-at-2 : tie.Need-add-at-2 Inv-loop μ-loop
-add-at-2 c = omega (arith, seeking-chain _ _ _ _ _ ((c .before .before .before .before .before .loop) .inv _ ((c .before .before .before .before .before .before .before .before .before .before .pre) .0) ((c .before .before .before .before .before .before .before .before .before .before .pre) .1 .0)) ((c .before .before .before .before .loop-test) .taken), (c .before .before .before .before .before .before .before .before .before .before .pre) .0 .index)
+add-at-2 c =
+    let loop = c .before .before .before .before .before .loop in
+    let pre = c .before .before .before .before .before .before .before .before .before .before .pre in
+    let loop-test = c .before .before .before .before .loop-test in
+    omega (arith, seeking-chain _ _ _ _ _ (loop .inv _ (pre .0) (pre .1 .0)) (loop-test .taken), pre .0 .index)
 
 -- src/store.rt:85:14
 mul-at-2 : tie.Need-mul-at-2 Inv-loop μ-loop
-mul-at-2 c = omega (arith, seeking-chain _ _ _ _ _ ((c .before .before .before .before .before .loop) .inv _ ((c .before .before .before .before .before .before .before .before .before .before .pre) .0) ((c .before .before .before .before .before .before .before .before .before .before .pre) .1 .0)) ((c .before .before .before .before .loop-test) .taken), (c .before .before .before .before .before .before .before .before .before .before .pre) .0 .index)
+mul-at-2 c =
+    let loop = c .before .before .before .before .before .loop in
+    let pre = c .before .before .before .before .before .before .before .before .before .before .pre in
+    let loop-test = c .before .before .before .before .loop-test in
+    omega (arith, seeking-chain _ _ _ _ _ (loop .inv _ (pre .0) (pre .1 .0)) (loop-test .taken), pre .0 .index)
 
 -- src/store.rt:85:14
 shared-slice-read-at-2 : tie.Need-shared-slice-read-at-2 Inv-loop μ-loop
-shared-slice-read-at-2 c = seeking-chain _ _ _ _ _ ((c .before .before .before .before .before .before .loop) .inv _ ((c .before .before .before .before .before .before .before .before .before .before .before .pre) .0) ((c .before .before .before .before .before .before .before .before .before .before .before .pre) .1 .0)) ((c .before .before .before .before .before .loop-test) .taken)
+shared-slice-read-at-2 c =
+    let loop = c .before .before .before .before .before .before .loop in
+    let pre = c .before .before .before .before .before .before .before .before .before .before .before .pre in
+    let loop-test = c .before .before .before .before .before .loop-test in
+    seeking-chain _ _ _ _ _ (loop .inv _ (pre .0) (pre .1 .0)) (loop-test .taken)
 
 -- src/store.rt:85:14
 cast-at-2 : tie.Need-cast-at-2 Inv-loop μ-loop
@@ -84,11 +118,21 @@ cast-at-2 c = omega (arith, (c .shared-slice-known6) .given (CHAINS + ((c .befor
 
 -- src/store.rt:79:5
 loop-less : tie.Need-loop-less Inv-loop μ-loop
-loop-less c = seeking-falls _ _ _ _ _ ((c .before .before .before .before .before .before .loop) .inv _ ((c .before .before .before .before .before .before .before .before .before .before .before .pre) .0) ((c .before .before .before .before .before .before .before .before .before .before .before .pre) .1 .0)) ((c .before .before .before .before .before .loop-test) .taken)
+loop-less c =
+    let loop = c .before .before .before .before .before .before .loop in
+    let pre = c .before .before .before .before .before .before .before .before .before .before .before .pre in
+    let loop-test = c .before .before .before .before .before .loop-test in
+    seeking-falls _ _ _ _ _ (loop .inv _ (pre .0) (pre .1 .0)) (loop-test .taken)
 
 -- src/store.rt:79:5
 loop-again : tie.Need-loop-again Inv-loop μ-loop
-loop-again c = λ m g s. seeking-on _ _ m _ _ ((c .before .before .before .before .before .before .loop) .inv m g s) ((c .before .before .before .before .before .loop-test) .taken) _ ((c .before .before .before .before .start-of) .ensures) _ ((c .before .before .is-node) .ensures) ((c .before .if1) .left)
+loop-again c =
+    let loop = c .before .before .before .before .before .before .loop in
+    let loop-test = c .before .before .before .before .before .loop-test in
+    let start-of = c .before .before .before .before .start-of in
+    let is-node = c .before .before .is-node in
+    let if1 = c .before .if1 in
+    λ m g s. seeking-on _ _ m _ _ (loop .inv m g s) (loop-test .taken) _ (start-of .ensures) _ (is-node .ensures) (if1 .left)
 
 -- src/store.rt:72:1
 returns-2 : tie.Need-returns-2 Inv-loop μ-loop

@@ -44,7 +44,11 @@ same-length-4 c = search needs
 
 -- src/store.rt:146:9
 returns-2 : tie.Need-returns-2
-returns-2 c = record { says = keep-row-8 _ _ _ _ ((c .before .before .before .before .before .before .before .before .before .pre) .0) ((c .before .before .before .before .before .before .before .before .before .pre) .1) _ ((c .before .before .find) .ensures) ((c .before .if1) .left) ((c .if2) .taken) }
+returns-2 c =
+    let pre = c .before .before .before .before .before .before .before .before .before .pre in
+    let find = c .before .before .find in
+    let if1 = c .before .if1 in
+    record { says = keep-row-8 _ _ _ _ (pre .0) (pre .1) _ (find .ensures) (if1 .left) ((c .if2) .taken) }
 
 -- src/store.rt:148:15
 add-end : tie.Need-add-end
@@ -60,7 +64,12 @@ same-length-6 c = search needs
 
 -- src/store.rt:150:9
 returns-3 : tie.Need-returns-3
-returns-3 c = record { says = keep-row-9 _ _ _ _ ((c .before .before .before .before .before .before .before .before .before .before .pre) .0) ((c .before .before .before .before .before .before .before .before .before .before .pre) .1) _ ((c .before .before .before .find) .ensures) ((c .before .before .if1) .left) ((c .before .if2) .left) ((c .if3) .taken) }
+returns-3 c =
+    let pre = c .before .before .before .before .before .before .before .before .before .before .pre in
+    let find = c .before .before .before .find in
+    let if1 = c .before .before .if1 in
+    let if2 = c .before .if2 in
+    record { says = keep-row-9 _ _ _ _ (pre .0) (pre .1) _ (find .ensures) (if1 .left) (if2 .left) ((c .if3) .taken) }
 
 -- src/store.rt:152:9
 flag-of-requires : tie.Need-flag-of-requires
@@ -68,7 +77,13 @@ flag-of-requires c κs = search needs
 
 -- src/store.rt:153:5
 link-requires : tie.Need-link-requires
-link-requires c κs = keep-links _ _ _ _ ((c .before .before .before .before .before .before .before .before .before .before .before .before .before .before .pre) .0) _ ((c .before .before .before .before .before .before .before .before .before .before .bucket-of) .ensures) ((c .before .before .before .before .before .if2) .left) ((c .before .before .before .before .if3) .left) _ _ ((c .before .flag-of) .ensures)
+link-requires c κs =
+    let pre = c .before .before .before .before .before .before .before .before .before .before .before .before .before .before .pre in
+    let bucket-of = c .before .before .before .before .before .before .before .before .before .before .bucket-of in
+    let if2 = c .before .before .before .before .before .if2 in
+    let if3 = c .before .before .before .before .if3 in
+    let flag-of = c .before .flag-of in
+    keep-links _ _ _ _ (pre .0) _ (bucket-of .ensures) (if2 .left) (if3 .left) _ _ (flag-of .ensures)
 
 -- src/store.rt:154:16
 mul-write : tie.Need-mul-write
@@ -104,7 +119,20 @@ same-length-8 c = search needs
 
 -- src/store.rt:133:1
 returns-4 : tie.Need-returns-4
-returns-4 c = record { says = keep-made _ _ _ _ ((c .before .before .before .before .before .before .before .before .before .before .before .before .before .before .before .before .before .before .before .before .before .pre) .0) ((c .before .before .before .before .before .before .before .before .before .before .before .before .before .before .before .before .before .before .before .before .before .pre) .1) _ ((c .before .before .before .before .before .before .before .before .before .before .before .before .before .before .before .before .before .bucket-of) .ensures) _ ((c .before .before .before .before .before .before .before .before .before .before .before .before .before .before .find) .ensures) ((c .before .before .before .before .before .before .before .before .before .before .before .before .before .if1) .left) ((c .before .before .before .before .before .before .before .before .before .before .before .before .if2) .left) ((c .before .before .before .before .before .before .before .before .before .before .before .if3) .left) _ ((c .before .before .before .before .before .before .before .before .flag-of) .ensures) _ ((c .before .before .before .before .before .before .link) .ensures) _ ((c .before .before .write) .ensures) }
+returns-4 c =
+    let pre = c .before .before .before .before .before .before .before .before .before .before .before .before .before .before .before .before .before .before .before .before .before .pre in
+    let bucket-of = c .before .before .before .before .before .before .before .before .before .before .before .before .before .before .before .before .before .bucket-of in
+    let find = c .before .before .before .before .before .before .before .before .before .before .before .before .before .before .find in
+    let if1 = c .before .before .before .before .before .before .before .before .before .before .before .before .before .if1 in
+    let if2 = c .before .before .before .before .before .before .before .before .before .before .before .before .if2 in
+    let if3 = c .before .before .before .before .before .before .before .before .before .before .before .if3 in
+    let flag-of = c .before .before .before .before .before .before .before .before .flag-of in
+    let link = c .before .before .before .before .before .before .link in
+    let write = c .before .before .write in
+    record {
+      says = keep-made _ _ _ _ (pre .0) (pre .1) _ (bucket-of .ensures) _ (find .ensures) (if1 .left) (if2 .left) (if3 .left) _
+          (flag-of .ensures) _ (link .ensures) _ (write .ensures);
+    }
 
 pub keep-spec : {M : Type 1} → statement M
 keep-spec =

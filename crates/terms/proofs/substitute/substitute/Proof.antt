@@ -29,7 +29,12 @@ slice-relend-prefix-clear c = search needs
 
 -- src/substitute.rt:30:10
 slice-aggregate-clear : tie.Need-slice-aggregate-clear
-slice-aggregate-clear c = part-again ((c .before .before .before .before .before .before .before .before .before .before .before .before .before .before .before .args) .memo .now) _ (next-fits _ _ ((c .before .before .before .before .before .before .before .before .before .before .before .before .before .before .before .pre) .1 .0)) ((c .before .before .before .before .before .before .before .before .before .before .before .before .before .before .before .pre) .1 .1) ((c .before .before .before .before .before .before .before .replace) .last .1 .1 .1 .1 .0) ((c .before .before .before .before .before .before .before .replace) .kept .1 .1 .1 .1 .0)
+slice-aggregate-clear c =
+    let entry = c .before .before .before .before .before .before .before .before .before .before .before .before .before .before .before in
+    let args = entry .args in
+    let pre = entry .pre in
+    let replace = c .before .before .before .before .before .before .before .replace in
+    part-again (args .memo .now) _ (next-fits _ _ (pre .1 .0)) (pre .1 .1) (replace .last .1 .1 .1 .1 .0) (replace .kept .1 .1 .1 .1 .0)
 
 -- src/substitute.rt:30:5
 clear-requires : tie.Need-clear-requires
@@ -49,7 +54,16 @@ same-length-3 c = search needs
 
 -- src/substitute.rt:15:1
 returns : tie.Need-returns
-returns c = (fresh-done _ _ _ _ _ _ _ ((c .before .before .before .before .before .before .before .before .before .before .replace) .last .1 .1 .1 .1 .0) _ ((c .before .before .before .before .before .before .before .before .before .before .replace) .result) ((c .before .before .before .before .before .before .before .before .before .before .replace) .ensures), part-wiped ((c .before .before .before .before .before .before .before .before .before .before .before .before .before .before .before .before .before .before .args) .memo .now) _ (next-fits _ _ ((c .before .before .before .before .before .before .before .before .before .before .before .before .before .before .before .before .before .before .pre) .1 .0)) ((c .before .before .before .before .before .before .before .before .before .before .before .before .before .before .before .before .before .before .pre) .1 .1) ((c .before .before .before .before .before .before .before .before .before .before .replace) .last .1 .1 .1 .1 .0) _ ((c .before .before .before .before .before .before .before .before .before .before .replace) .kept .1 .1 .1 .1 .0) ((c .before .before .clear) .ensures))
+returns c =
+    let replace = c .before .before .before .before .before .before .before .before .before .before .replace in
+    let entry = c .before .before .before .before .before .before .before .before .before .before .before .before .before .before .before .before .before .before in
+    let args = entry .args in
+    let pre = entry .pre in
+    let clear = c .before .before .clear in (
+      fresh-done _ _ _ _ _ _ _ (replace .last .1 .1 .1 .1 .0) _ (replace .result) (replace .ensures),
+      part-wiped (args .memo .now) _ (next-fits _ _ (pre .1 .0)) (pre .1 .1) (replace .last .1 .1 .1 .1 .0) _ (replace .kept .1 .1 .1 .1 .0)
+          (clear .ensures),
+    )
 
 pub substitute-spec : {M : Type 1} → statement M
 substitute-spec =

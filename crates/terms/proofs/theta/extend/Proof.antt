@@ -30,7 +30,11 @@ slice-relend-prefix-replace-values c = search needs
 
 -- src/theta.rt:74:60
 slice-aggregate-replace-values : tie.Need-slice-aggregate-replace-values
-slice-aggregate-replace-values c = part-long ((c .before .before .before .before .before .before .before .before .before .before .args) .memo .now) _ (memo-long _ _ _ _ _ _ _ _ (c .before .before .before .before .before .before .before .before .before .before .pre)) ((c .before .before .before .before .before .before .before .before .before .before .pre) .empty)
+slice-aggregate-replace-values c =
+    let entry = c .before .before .before .before .before .before .before .before .before .before in
+    let args = entry .args in
+    let pre = entry .pre in
+    part-long (args .memo .now) _ (memo-long _ _ _ _ _ _ _ _ pre) (pre .empty)
 
 -- src/theta.rt:74:9
 replace-values-requires : tie.Need-replace-values-requires
@@ -50,7 +54,13 @@ slice-relend-prefix-clear c = search needs
 
 -- src/theta.rt:76:10
 slice-aggregate-clear : tie.Need-slice-aggregate-clear
-slice-aggregate-clear c = part-again ((c .before .before .before .before .before .before .before .before .before .before .before .before .before .before .before .before .before .before .before .before .args) .memo .now) _ (memo-long _ _ _ _ _ _ _ _ (c .before .before .before .before .before .before .before .before .before .before .before .before .before .before .before .before .before .before .before .before .pre)) ((c .before .before .before .before .before .before .before .before .before .before .before .before .before .before .before .before .before .before .before .before .pre) .empty) ((c .before .before .before .before .before .before .before .before .before .replace-values) .last .1 .1 .1 .1 .1 .0) ((c .before .before .before .before .before .before .before .before .before .replace-values) .kept .1 .1 .1 .1 .1 .0)
+slice-aggregate-clear c =
+    let entry = c .before .before .before .before .before .before .before .before .before .before .before .before .before .before .before .before .before .before .before .before in
+    let args = entry .args in
+    let pre = entry .pre in
+    let replace-values = c .before .before .before .before .before .before .before .before .before .replace-values in
+    part-again (args .memo .now) _ (memo-long _ _ _ _ _ _ _ _ pre) (pre .empty) (replace-values .last .1 .1 .1 .1 .1 .0)
+    (replace-values .kept .1 .1 .1 .1 .1 .0)
 
 -- src/theta.rt:76:5
 clear-requires : tie.Need-clear-requires
@@ -102,7 +112,21 @@ same-length-5 c = search needs
 
 -- src/theta.rt:57:1
 returns : tie.Need-returns
-returns c = (extended-ok _ _ _ _ _ _ _ _ (c .before .before .before .before .before .before .before .before .before .before .before .before .before .before .before .before .before .before .before .before .before .before .before .before .before .before .pre) _ _ ((c .before .before .before .before .before .before .before .before .before .before .before .before .before .before .before .replace-values) .last .1 .1 .1 .0) ((c .before .before .before .before .before .before .before .before .before .before .before .before .before .before .before .replace-values) .result) ((c .before .before .before .before .before .before .before .before .before .before .before .before .before .before .before .replace-values) .ensures) _ ((c .before .r) .given .1), (map-back _ _ _ _ _ _ _ _ (c .before .before .before .before .before .before .before .before .before .before .before .before .before .before .before .before .before .before .before .before .before .before .before .before .before .before .pre), part-wiped ((c .before .before .before .before .before .before .before .before .before .before .before .before .before .before .before .before .before .before .before .before .before .before .before .before .before .before .args) .memo .now) _ (memo-long _ _ _ _ _ _ _ _ (c .before .before .before .before .before .before .before .before .before .before .before .before .before .before .before .before .before .before .before .before .before .before .before .before .before .before .pre)) ((c .before .before .before .before .before .before .before .before .before .before .before .before .before .before .before .before .before .before .before .before .before .before .before .before .before .before .pre) .empty) ((c .before .before .before .before .before .before .before .before .before .before .before .before .before .before .before .replace-values) .last .1 .1 .1 .1 .1 .0) _ ((c .before .before .before .before .before .before .before .before .before .before .before .before .before .before .before .replace-values) .kept .1 .1 .1 .1 .1 .0) ((c .before .before .before .before .before .clear) .ensures)))
+returns c =
+    let mid = c .before .before .before .before .before .before .before .before .before .before .before .before .before .before .before .before .before .before .before .before .before .before .before .before .before in
+    let pre = mid .before .pre in
+    let replace-values = c .before .before .before .before .before .before .before .before .before .before .before .before .before .before .before .replace-values in
+    let r = c .before .r in
+    let args = mid .before .args in
+    let clear = c .before .before .before .before .before .clear in (
+      extended-ok _ _ _ _ _ _ _ _ pre _ _ (replace-values .last .1 .1 .1 .0) (replace-values .result) (replace-values .ensures) _
+          (r .given .1),
+      (
+        map-back _ _ _ _ _ _ _ _ pre,
+        part-wiped (args .memo .now) _ (memo-long _ _ _ _ _ _ _ _ pre) (pre .empty)
+            (replace-values .last .1 .1 .1 .1 .1 .0) _ (replace-values .kept .1 .1 .1 .1 .1 .0) (clear .ensures),
+      ),
+    )
 
 -- src/theta.rt:57:1
 same-length-6 : tie.Need-same-length-6
@@ -126,7 +150,21 @@ same-length-10 c = search needs
 
 -- src/theta.rt:57:1
 returns-2 : tie.Need-returns-2
-returns-2 c = (extended-full _ _ _ _ _ _ _ _ (c .before .before .before .before .before .before .before .before .before .before .before .before .before .before .before .before .before .before .before .before .before .before .before .before .before .before .pre) _ _ ((c .before .before .before .before .before .before .before .before .before .before .before .before .before .before .before .replace-values) .last .1 .1 .1 .0) ((c .before .before .before .before .before .before .before .before .before .before .before .before .before .before .before .replace-values) .result) ((c .before .before .before .before .before .before .before .before .before .before .before .before .before .before .before .replace-values) .ensures) _ _ ((c .before .r2) .given .1) ((c .before .before .before .before .before .before .before .before .before .before .before .before .before .before .before .replace-values) .kept .1 .1 .1 .0), (map-back _ _ _ _ _ _ _ _ (c .before .before .before .before .before .before .before .before .before .before .before .before .before .before .before .before .before .before .before .before .before .before .before .before .before .before .pre), part-wiped ((c .before .before .before .before .before .before .before .before .before .before .before .before .before .before .before .before .before .before .before .before .before .before .before .before .before .before .args) .memo .now) _ (memo-long _ _ _ _ _ _ _ _ (c .before .before .before .before .before .before .before .before .before .before .before .before .before .before .before .before .before .before .before .before .before .before .before .before .before .before .pre)) ((c .before .before .before .before .before .before .before .before .before .before .before .before .before .before .before .before .before .before .before .before .before .before .before .before .before .before .pre) .empty) ((c .before .before .before .before .before .before .before .before .before .before .before .before .before .before .before .replace-values) .last .1 .1 .1 .1 .1 .0) _ ((c .before .before .before .before .before .before .before .before .before .before .before .before .before .before .before .replace-values) .kept .1 .1 .1 .1 .1 .0) ((c .before .before .before .before .before .clear) .ensures)))
+returns-2 c =
+    let mid = c .before .before .before .before .before .before .before .before .before .before .before .before .before .before .before .before .before .before .before .before .before .before .before .before .before in
+    let pre = mid .before .pre in
+    let replace-values = c .before .before .before .before .before .before .before .before .before .before .before .before .before .before .before .replace-values in
+    let r2 = c .before .r2 in
+    let args = mid .before .args in
+    let clear = c .before .before .before .before .before .clear in (
+      extended-full _ _ _ _ _ _ _ _ pre _ _ (replace-values .last .1 .1 .1 .0) (replace-values .result) (replace-values .ensures) _ _
+          (r2 .given .1) (replace-values .kept .1 .1 .1 .0),
+      (
+        map-back _ _ _ _ _ _ _ _ pre,
+        part-wiped (args .memo .now) _ (memo-long _ _ _ _ _ _ _ _ pre) (pre .empty)
+            (replace-values .last .1 .1 .1 .1 .1 .0) _ (replace-values .kept .1 .1 .1 .1 .1 .0) (clear .ensures),
+      ),
+    )
 
 pub extend-spec : {M : Type 1} → statement M
 extend-spec =

@@ -57,11 +57,31 @@ enum-known-n c = search needs
 
 -- src/theta.rt:43:29
 add-theta : tie.Need-add-theta Inv-loop μ-loop
-add-theta c = omega (arith, term-there _ _ _ _ _ _ _ _ _ _ _ _ ((c .before .before .before .before .before .before .before .before .before .before .before .before .before .before .before .before .loop) .inv) ((c .before .before .before .before .before .before .before .before .before .before .before .before .before .before .before .loop-test) .taken) ((c .before .before .before .before .before .before .before .before .before .before .before .before .before .if1) .left) _ _ ((c .before .before .before .before .before .before .before .before .before .replace) .last .1 .1 .1 .1 .0) ((c .before .before .before .before .before .before .before .before .before .replace) .result) ((c .before .before .before .before .before .before .before .before .before .replace) .ensures) _ _ ((c .before .n) .given .1))
+add-theta c =
+    let loop = c .before .before .before .before .before .before .before .before .before .before .before .before .before .before .before .before .loop in
+    let loop-test = c .before .before .before .before .before .before .before .before .before .before .before .before .before .before .before .loop-test in
+    let if1 = c .before .before .before .before .before .before .before .before .before .before .before .before .before .if1 in
+    let replace = c .before .before .before .before .before .before .before .before .before .replace in
+    let n = c .before .n in
+    omega (
+      arith,
+      term-there _ _ _ _ _ _ _ _ _ _ _ _ (loop .inv) (loop-test .taken) (if1 .left) _ _ (replace .last .1 .1 .1 .1 .0)
+          (replace .result) (replace .ensures) _ _ (n .given .1),
+    )
 
 -- src/theta.rt:43:28
 cast-theta : tie.Need-cast-theta Inv-loop μ-loop
-cast-theta c = omega (arith, term-there _ _ _ _ _ _ _ _ _ _ _ _ ((c .before .before .before .before .before .before .before .before .before .before .before .before .before .before .before .before .loop) .inv) ((c .before .before .before .before .before .before .before .before .before .before .before .before .before .before .before .loop-test) .taken) ((c .before .before .before .before .before .before .before .before .before .before .before .before .before .if1) .left) _ _ ((c .before .before .before .before .before .before .before .before .before .replace) .last .1 .1 .1 .1 .0) ((c .before .before .before .before .before .before .before .before .before .replace) .result) ((c .before .before .before .before .before .before .before .before .before .replace) .ensures) _ _ ((c .before .n) .given .1))
+cast-theta c =
+    let loop = c .before .before .before .before .before .before .before .before .before .before .before .before .before .before .before .before .loop in
+    let loop-test = c .before .before .before .before .before .before .before .before .before .before .before .before .before .before .before .loop-test in
+    let if1 = c .before .before .before .before .before .before .before .before .before .before .before .before .before .if1 in
+    let replace = c .before .before .before .before .before .before .before .before .before .replace in
+    let n = c .before .n in
+    omega (
+      arith,
+      term-there _ _ _ _ _ _ _ _ _ _ _ _ (loop .inv) (loop-test .taken) (if1 .left) _ _ (replace .last .1 .1 .1 .1 .0)
+          (replace .result) (replace .ensures) _ _ (n .given .1),
+    )
 
 -- src/theta.rt:43:17
 mul-theta : tie.Need-mul-theta Inv-loop μ-loop
@@ -93,7 +113,14 @@ same-length-4 c = search needs
 
 -- src/theta.rt:47:17
 returns : tie.Need-returns Inv-loop μ-loop
-returns c = value-full _ _ _ _ _ _ _ _ _ _ _ _ ((c .before .before .before .before .before .before .before .before .before .before .before .before .before .before .before .before .loop) .inv) ((c .before .before .before .before .before .before .before .before .before .before .before .before .before .before .before .loop-test) .taken) ((c .before .before .before .before .before .before .before .before .before .before .before .before .before .if1) .left) _ _ ((c .before .before .before .before .before .before .before .before .before .replace) .last .1 .1 .1 .1 .0) ((c .before .before .before .before .before .before .before .before .before .replace) .result) ((c .before .before .before .before .before .before .before .before .before .replace) .ensures) _ _ ((c .before .row) .given .1)
+returns c =
+    let loop = c .before .before .before .before .before .before .before .before .before .before .before .before .before .before .before .before .loop in
+    let loop-test = c .before .before .before .before .before .before .before .before .before .before .before .before .before .before .before .loop-test in
+    let if1 = c .before .before .before .before .before .before .before .before .before .before .before .before .before .if1 in
+    let replace = c .before .before .before .before .before .before .before .before .before .replace in
+    let row = c .before .row in
+    value-full _ _ _ _ _ _ _ _ _ _ _ _ (loop .inv) (loop-test .taken) (if1 .left) _ _ (replace .last .1 .1 .1 .1 .0) (replace .result)
+    (replace .ensures) _ _ (row .given .1)
 
 -- src/theta.rt:50:9
 add-v-2 : tie.Need-add-v-2 Inv-loop μ-loop
@@ -105,7 +132,14 @@ loop-less-2 c = search needs
 
 -- src/theta.rt:35:5
 loop-again-2 : tie.Need-loop-again-2 Inv-loop μ-loop
-loop-again-2 c = value-term _ _ _ _ _ _ _ _ _ _ _ _ ((c .before .before .before .before .before .before .before .before .before .before .before .before .before .before .before .before .loop) .inv) ((c .before .before .before .before .before .before .before .before .before .before .before .before .before .before .before .loop-test) .taken) ((c .before .before .before .before .before .before .before .before .before .before .before .before .before .if1) .left) _ _ ((c .before .before .before .before .before .before .before .before .before .replace) .last .1 .1 .1 .1 .0) ((c .before .before .before .before .before .before .before .before .before .replace) .result) ((c .before .before .before .before .before .before .before .before .before .replace) .ensures) ((c .before .before .before .before .before .before .before .before .before .replace) .kept .1 .1 .1 .1 .0) _ _ ((c .before .n) .given .1)
+loop-again-2 c =
+    let loop = c .before .before .before .before .before .before .before .before .before .before .before .before .before .before .before .before .loop in
+    let loop-test = c .before .before .before .before .before .before .before .before .before .before .before .before .before .before .before .loop-test in
+    let if1 = c .before .before .before .before .before .before .before .before .before .before .before .before .before .if1 in
+    let replace = c .before .before .before .before .before .before .before .before .before .replace in
+    let n = c .before .n in
+    value-term _ _ _ _ _ _ _ _ _ _ _ _ (loop .inv) (loop-test .taken) (if1 .left) _ _ (replace .last .1 .1 .1 .1 .0) (replace .result)
+    (replace .ensures) (replace .kept .1 .1 .1 .1 .0) _ _ (n .given .1)
 
 -- src/theta.rt:21:1
 same-length-5 : tie.Need-same-length-5 Inv-loop μ-loop

@@ -20,7 +20,13 @@ enum-known-last c = search needs
 
 -- src/unify.rt:59:13
 clear-memo-requires : tie.Need-clear-memo-requires
-clear-memo-requires c κs = finished-results _ _ _ _ _ _ _ _ _ (c .before .before .before .before .before .before .before .before .before .before .before .before .before .before .before .before .before .before .before .before .before .before .before .before .before .before .before .before .pre) _ _ ((c .before .before .before .before .before .before .before .before .before .before .before .before .before .before .peel) .last .1 .1 .1 .1 .0) ((c .before .before .before .before .before .before .before .before .before .before .before .before .before .before .peel) .last .1 .1 .1 .1 .1 .0) ((c .before .before .before .before .before .before .before .before .before .before .before .before .before .before .peel) .result) ((c .before .before .before .before .before .before .before .before .before .before .before .before .before .before .peel) .ensures .0) _ ((c .before .before .last) .given .1)
+clear-memo-requires c κs =
+    let mid = c .before .before .before .before .before .before .before .before .before .before .before .before .before .before .before .before .before .before .before .before .before .before .before .before .before in
+    let pre = mid .before .before .before .pre in
+    let peel = c .before .before .before .before .before .before .before .before .before .before .before .before .before .before .peel in
+    let last′ = c .before .before .last in
+    finished-results _ _ _ _ _ _ _ _ _ pre _ _ (peel .last .1 .1 .1 .1 .0) (peel .last .1 .1 .1 .1 .1 .0) (peel .result) (peel .ensures .0)
+    _ (last′ .given .1)
 
 -- src/unify.rt:62:23
 enum-known-last-2 : tie.Need-enum-known-last-2
@@ -28,7 +34,13 @@ enum-known-last-2 c = search needs
 
 -- src/unify.rt:63:13
 clear-memo-requires-2 : tie.Need-clear-memo-requires-2
-clear-memo-requires-2 c κs = clash-results _ _ _ _ _ _ _ _ _ (c .before .before .before .before .before .before .before .before .before .before .before .before .before .before .before .before .before .before .before .before .before .before .before .before .before .before .before .before .pre) _ _ ((c .before .before .before .before .before .before .before .before .before .before .before .before .before .before .peel) .last .1 .1 .1 .1 .0) ((c .before .before .before .before .before .before .before .before .before .before .before .before .before .before .peel) .last .1 .1 .1 .1 .1 .0) ((c .before .before .before .before .before .before .before .before .before .before .before .before .before .before .peel) .result) ((c .before .before .before .before .before .before .before .before .before .before .before .before .before .before .peel) .ensures .0) _ ((c .before .before .last2) .given .1)
+clear-memo-requires-2 c κs =
+    let mid = c .before .before .before .before .before .before .before .before .before .before .before .before .before .before .before .before .before .before .before .before .before .before .before .before .before in
+    let pre = mid .before .before .before .pre in
+    let peel = c .before .before .before .before .before .before .before .before .before .before .before .before .before .before .peel in
+    let last2 = c .before .before .last2 in
+    clash-results _ _ _ _ _ _ _ _ _ pre _ _ (peel .last .1 .1 .1 .1 .0) (peel .last .1 .1 .1 .1 .1 .0) (peel .result) (peel .ensures .0) _
+    (last2 .given .1)
 
 -- src/unify.rt:66:22
 enum-known-row : tie.Need-enum-known-row
@@ -44,11 +56,25 @@ enum-known-x c = search needs
 
 -- src/unify.rt:71:13
 clear-memo-requires-3 : tie.Need-clear-memo-requires-3
-clear-memo-requires-3 c κs = one-results _ _ _ _ _ _ _ _ _ (c .before .before .before .before .before .before .before .before .before .before .before .before .before .before .before .before .before .before .before .before .before .before .before .before .before .before .before .before .pre) _ _ ((c .before .before .before .before .before .before .before .before .before .before .before .before .before .before .peel) .last .1 .1 .1 .1 .0) ((c .before .before .before .before .before .before .before .before .before .before .before .before .before .before .peel) .last .1 .1 .1 .1 .1 .0) ((c .before .before .before .before .before .before .before .before .before .before .before .before .before .before .peel) .result) ((c .before .before .before .before .before .before .before .before .before .before .before .before .before .before .peel) .ensures .0) _ _ _ _ ((c .before .before .x) .given .1)
+clear-memo-requires-3 c κs =
+    let mid = c .before .before .before .before .before .before .before .before .before .before .before .before .before .before .before .before .before .before .before .before .before .before .before .before .before in
+    let pre = mid .before .before .before .pre in
+    let peel = c .before .before .before .before .before .before .before .before .before .before .before .before .before .before .peel in
+    let x = c .before .before .x in
+    one-results _ _ _ _ _ _ _ _ _ pre _ _ (peel .last .1 .1 .1 .1 .0) (peel .last .1 .1 .1 .1 .1 .0) (peel .result) (peel .ensures .0) _ _ _
+    _ (x .given .1)
 
 -- src/unify.rt:72:19
 extend-requires : tie.Need-extend-requires
-extend-requires c κs = round-extends _ _ _ _ _ _ _ _ _ (c .before .before .before .before .before .before .before .before .before .before .before .before .before .before .before .before .before .before .before .before .before .before .before .before .before .before .before .before .before .before .before .before .before .before .before .before .pre) _ _ ((c .before .before .before .before .before .before .before .before .before .before .before .before .before .before .before .before .before .before .before .before .before .before .peel) .last .1 .1 .1 .1 .0) ((c .before .before .before .before .before .before .before .before .before .before .before .before .before .before .before .before .before .before .before .before .before .before .peel) .last .1 .1 .1 .1 .1 .0) ((c .before .before .before .before .before .before .before .before .before .before .before .before .before .before .before .before .before .before .before .before .before .before .peel) .result) ((c .before .before .before .before .before .before .before .before .before .before .before .before .before .before .before .before .before .before .before .before .before .before .peel) .ensures .0) _ _ _ _ ((c .before .before .before .before .before .before .before .before .before .before .x) .given .1) _ (wiped-back _ _ _ _ _ _ _ _ _ (c .before .before .before .before .before .before .before .before .before .before .before .before .before .before .before .before .before .before .before .before .before .before .before .before .before .before .before .before .before .before .before .before .before .before .before .before .pre) ((c .before .before .before .before .before .before .before .before .before .before .before .before .before .before .before .before .before .before .before .before .before .before .peel) .last .1 .1 .1 .1 .0) _ ((c .before .before .before .before .before .before .before .before .before .before .before .before .before .before .before .before .before .before .before .before .before .before .peel) .kept .1 .1 .1 .1 .0) ((c .before .before .before .before .before .before .before .clear-memo3) .ensures))
+extend-requires c κs =
+    let mid = c .before .before .before .before .before .before .before .before .before .before .before .before .before .before .before .before .before .before .before .before .before .before .before .before .before in
+    let pre = mid .before .before .before .before .before .before .before .before .before .before .before .pre in
+    let peel = c .before .before .before .before .before .before .before .before .before .before .before .before .before .before .before .before .before .before .before .before .before .before .peel in
+    let x = c .before .before .before .before .before .before .before .before .before .before .x in
+    let clear-memo3 = c .before .before .before .before .before .before .before .clear-memo3 in
+    round-extends _ _ _ _ _ _ _ _ _ pre _ _ (peel .last .1 .1 .1 .1 .0) (peel .last .1 .1 .1 .1 .1 .0) (peel .result) (peel .ensures .0) _ _
+    _ _ (x .given .1) _
+    (wiped-back _ _ _ _ _ _ _ _ _ pre (peel .last .1 .1 .1 .1 .0) _ (peel .kept .1 .1 .1 .1 .0) (clear-memo3 .ensures))
 
 -- src/unify.rt:73:26
 enum-known-new : tie.Need-enum-known-new
@@ -84,7 +110,20 @@ same-length-6 c = (c .before .before .before .before .before .before .before .be
 
 -- src/unify.rt:42:1
 returns : tie.Need-returns
-returns c = (round-found _ _ _ _ _ _ _ _ _ (c .before .before .before .before .before .before .before .before .before .before .before .before .before .before .before .before .before .before .before .before .before .before .before .before .before .before .before .before .before .before .before .pre) _ _ ((c .before .before .before .before .before .before .before .before .before .before .before .before .before .before .before .before .before .peel) .last .1 .1 .1 .1 .0) ((c .before .before .before .before .before .before .before .before .before .before .before .before .before .before .before .before .before .peel) .last .1 .1 .1 .1 .1 .0) ((c .before .before .before .before .before .before .before .before .before .before .before .before .before .before .before .before .before .peel) .result) ((c .before .before .before .before .before .before .before .before .before .before .before .before .before .before .before .before .before .peel) .ensures .0) _ ((c .before .before .before .before .before .last) .given .1), (refl, wiped-back _ _ _ _ _ _ _ _ _ (c .before .before .before .before .before .before .before .before .before .before .before .before .before .before .before .before .before .before .before .before .before .before .before .before .before .before .before .before .before .before .before .pre) ((c .before .before .before .before .before .before .before .before .before .before .before .before .before .before .before .before .before .peel) .last .1 .1 .1 .1 .0) _ ((c .before .before .before .before .before .before .before .before .before .before .before .before .before .before .before .before .before .peel) .kept .1 .1 .1 .1 .0) ((c .before .before .clear-memo) .ensures), (c .before .before .before .before .before .before .before .before .before .before .before .before .before .before .before .before .before .peel) .ensures .1))
+returns c =
+    let mid = c .before .before .before .before .before .before .before .before .before .before .before .before .before .before .before .before .before .before .before .before .before .before .before .before .before in
+    let pre = mid .before .before .before .before .before .before .pre in
+    let peel = c .before .before .before .before .before .before .before .before .before .before .before .before .before .before .before .before .before .peel in
+    let last′ = c .before .before .before .before .before .last in
+    let clear-memo = c .before .before .clear-memo in (
+      round-found _ _ _ _ _ _ _ _ _ pre _ _ (peel .last .1 .1 .1 .1 .0) (peel .last .1 .1 .1 .1 .1 .0) (peel .result) (peel .ensures .0) _
+          (last′ .given .1),
+      (
+        refl,
+        wiped-back _ _ _ _ _ _ _ _ _ pre (peel .last .1 .1 .1 .1 .0) _ (peel .kept .1 .1 .1 .1 .0) (clear-memo .ensures),
+        peel .ensures .1,
+      ),
+    )
 
 -- src/unify.rt:42:1
 same-length-7 : tie.Need-same-length-7
@@ -112,7 +151,20 @@ same-length-12 c = (c .before .before .before .before .before .before .before .b
 
 -- src/unify.rt:42:1
 returns-2 : tie.Need-returns-2
-returns-2 c = (round-apart _ _ _ _ _ _ _ _ _ (c .before .before .before .before .before .before .before .before .before .before .before .before .before .before .before .before .before .before .before .before .before .before .before .before .before .before .before .before .before .before .before .pre) _ _ ((c .before .before .before .before .before .before .before .before .before .before .before .before .before .before .before .before .before .peel) .last .1 .1 .1 .1 .0) ((c .before .before .before .before .before .before .before .before .before .before .before .before .before .before .before .before .before .peel) .last .1 .1 .1 .1 .1 .0) ((c .before .before .before .before .before .before .before .before .before .before .before .before .before .before .before .before .before .peel) .result) ((c .before .before .before .before .before .before .before .before .before .before .before .before .before .before .before .before .before .peel) .ensures .0) _ ((c .before .before .before .before .before .last2) .given .1), (refl, wiped-back _ _ _ _ _ _ _ _ _ (c .before .before .before .before .before .before .before .before .before .before .before .before .before .before .before .before .before .before .before .before .before .before .before .before .before .before .before .before .before .before .before .pre) ((c .before .before .before .before .before .before .before .before .before .before .before .before .before .before .before .before .before .peel) .last .1 .1 .1 .1 .0) _ ((c .before .before .before .before .before .before .before .before .before .before .before .before .before .before .before .before .before .peel) .kept .1 .1 .1 .1 .0) ((c .before .before .clear-memo2) .ensures), (c .before .before .before .before .before .before .before .before .before .before .before .before .before .before .before .before .before .peel) .ensures .1))
+returns-2 c =
+    let mid = c .before .before .before .before .before .before .before .before .before .before .before .before .before .before .before .before .before .before .before .before .before .before .before .before .before in
+    let pre = mid .before .before .before .before .before .before .pre in
+    let peel = c .before .before .before .before .before .before .before .before .before .before .before .before .before .before .before .before .before .peel in
+    let last2 = c .before .before .before .before .before .last2 in
+    let clear-memo2 = c .before .before .clear-memo2 in (
+      round-apart _ _ _ _ _ _ _ _ _ pre _ _ (peel .last .1 .1 .1 .1 .0) (peel .last .1 .1 .1 .1 .1 .0) (peel .result) (peel .ensures .0) _
+          (last2 .given .1),
+      (
+        refl,
+        wiped-back _ _ _ _ _ _ _ _ _ pre (peel .last .1 .1 .1 .1 .0) _ (peel .kept .1 .1 .1 .1 .0) (clear-memo2 .ensures),
+        peel .ensures .1,
+      ),
+    )
 
 -- src/unify.rt:42:1
 same-length-13 : tie.Need-same-length-13
@@ -140,15 +192,32 @@ same-length-18 c = (c .before .before .before .before .before .before .before .b
 
 -- src/unify.rt:42:1
 returns-3 : tie.Need-returns-3
-returns-3 c = (round-full _ _ _ _ _ _ _ _ _ (c .before .before .before .before .before .before .before .before .before .before .before .before .before .before .before .before .before .before .before .before .before .before .before .before .before .before .before .before .before .before .before .pre) _ _ ((c .before .before .before .before .before .before .before .before .before .before .before .before .before .before .before .before .before .peel) .last .1 .1 .1 .1 .0) ((c .before .before .before .before .before .before .before .before .before .before .before .before .before .before .before .before .before .peel) .last .1 .1 .1 .1 .1 .0) ((c .before .before .before .before .before .before .before .before .before .before .before .before .before .before .before .before .before .peel) .result) ((c .before .before .before .before .before .before .before .before .before .before .before .before .before .before .before .before .before .peel) .ensures .0) _ _ ((c .before .before .before .before .before .row) .given .1), (refl, wiped-back _ _ _ _ _ _ _ _ _ (c .before .before .before .before .before .before .before .before .before .before .before .before .before .before .before .before .before .before .before .before .before .before .before .before .before .before .before .before .before .before .before .pre) ((c .before .before .before .before .before .before .before .before .before .before .before .before .before .before .before .before .before .peel) .last .1 .1 .1 .1 .0) _ ((c .before .before .before .before .before .before .before .before .before .before .before .before .before .before .before .before .before .peel) .kept .1 .1 .1 .1 .0) ((c .before .before .clear) .ensures), (c .before .before .before .before .before .before .before .before .before .before .before .before .before .before .before .before .before .peel) .ensures .1))
+returns-3 c =
+    let mid = c .before .before .before .before .before .before .before .before .before .before .before .before .before .before .before .before .before .before .before .before .before .before .before .before .before in
+    let pre = mid .before .before .before .before .before .before .pre in
+    let peel = c .before .before .before .before .before .before .before .before .before .before .before .before .before .before .before .before .before .peel in
+    let row = c .before .before .before .before .before .row in
+    let clear = c .before .before .clear in (
+      round-full _ _ _ _ _ _ _ _ _ pre _ _ (peel .last .1 .1 .1 .1 .0) (peel .last .1 .1 .1 .1 .1 .0) (peel .result) (peel .ensures .0) _ _
+          (row .given .1),
+      (refl, wiped-back _ _ _ _ _ _ _ _ _ pre (peel .last .1 .1 .1 .1 .0) _ (peel .kept .1 .1 .1 .1 .0) (clear .ensures), peel .ensures .1),
+    )
 
 -- src/unify.rt:42:1
 same-length-19 : tie.Need-same-length-19
-same-length-19 c = (c .before .before .before .before .before .before .before .before .before .before .before .before .before .extend) .kept .0 ∙ (c .before .before .before .before .before .before .before .before .before .before .before .before .before .before .before .before .before .before .before .before .before .before .before .before .before .before .before .before .before .before .before .before .before .before .before .before .peel) .kept .0
+same-length-19 c =
+    let extend = c .before .before .before .before .before .before .before .before .before .before .before .before .before .extend in
+    let mid = c .before .before .before .before .before .before .before .before .before .before .before .before .before .before .before .before .before .before .before .before .before .before .before .before .before in
+    let peel = mid .before .before .before .before .before .before .before .before .before .before .before .peel in
+    extend .kept .0 ∙ peel .kept .0
 
 -- src/unify.rt:42:1
 same-length-20 : tie.Need-same-length-20
-same-length-20 c = (c .before .before .before .before .before .before .before .before .before .before .before .before .before .extend) .kept .1 .0 ∙ (c .before .before .before .before .before .before .before .before .before .before .before .before .before .before .before .before .before .before .before .before .before .before .before .before .before .before .before .before .before .before .before .before .before .before .before .before .peel) .kept .1 .0
+same-length-20 c =
+    let extend = c .before .before .before .before .before .before .before .before .before .before .before .before .before .extend in
+    let mid = c .before .before .before .before .before .before .before .before .before .before .before .before .before .before .before .before .before .before .before .before .before .before .before .before .before in
+    let peel = mid .before .before .before .before .before .before .before .before .before .before .before .peel in
+    extend .kept .1 .0 ∙ peel .kept .1 .0
 
 -- src/unify.rt:42:1
 same-length-21 : tie.Need-same-length-21
@@ -160,27 +229,63 @@ same-length-22 c = (c .before .before .before .before .before .before .before .b
 
 -- src/unify.rt:42:1
 same-length-23 : tie.Need-same-length-23
-same-length-23 c = (c .before .before .before .before .before .before .before .before .before .before .before .before .before .extend) .kept .1 .1 .1 .1 .1 .0 ∙ (c .before .before .before .before .before .before .before .before .before .before .before .before .before .before .before .before .before .before .before .before .before .clear-memo3) .kept .0 ∙ (c .before .before .before .before .before .before .before .before .before .before .before .before .before .before .before .before .before .before .before .before .before .before .before .before .before .before .before .before .before .before .before .before .before .before .before .before .peel) .kept .1 .1 .1 .1 .0
+same-length-23 c =
+    let extend = c .before .before .before .before .before .before .before .before .before .before .before .before .before .extend in
+    let clear-memo3 = c .before .before .before .before .before .before .before .before .before .before .before .before .before .before .before .before .before .before .before .before .before .clear-memo3 in
+    let mid = c .before .before .before .before .before .before .before .before .before .before .before .before .before .before .before .before .before .before .before .before .before .before .before .before .before in
+    let peel = mid .before .before .before .before .before .before .before .before .before .before .before .peel in
+    extend .kept .1 .1 .1 .1 .1 .0 ∙ clear-memo3 .kept .0 ∙ peel .kept .1 .1 .1 .1 .0
 
 -- src/unify.rt:42:1
 same-length-24 : tie.Need-same-length-24
-same-length-24 c = (c .before .before .before .before .before .before .before .before .before .before .before .before .before .before .before .before .before .before .before .before .before .before .before .before .before .before .before .before .before .before .before .before .before .before .before .before .peel) .kept .1 .1 .1 .1 .1 .0
+same-length-24 c =
+    let mid = c .before .before .before .before .before .before .before .before .before .before .before .before .before .before .before .before .before .before .before .before .before .before .before .before .before in
+    let peel = mid .before .before .before .before .before .before .before .before .before .before .before .peel in
+    peel .kept .1 .1 .1 .1 .1 .0
 
 -- src/unify.rt:42:1
 same-length-25 : tie.Need-same-length-25
-same-length-25 c = (c .before .before .before .before .before .before .before .before .before .before .before .before .before .before .before .before .before .before .before .before .before .before .before .before .before .before .before .before .before .before .before .before .before .before .before .before .peel) .kept .1 .1 .1 .1 .1 .1 .0
+same-length-25 c =
+    let mid = c .before .before .before .before .before .before .before .before .before .before .before .before .before .before .before .before .before .before .before .before .before .before .before .before .before in
+    let peel = mid .before .before .before .before .before .before .before .before .before .before .before .peel in
+    peel .kept .1 .1 .1 .1 .1 .1 .0
 
 -- src/unify.rt:42:1
 returns-4 : tie.Need-returns-4
-returns-4 c = (bind-more _ _ _ _ _ _ _ _ _ (c .before .before .before .before .before .before .before .before .before .before .before .before .before .before .before .before .before .before .before .before .before .before .before .before .before .before .before .before .before .before .before .before .before .before .before .before .before .before .before .before .before .before .before .before .before .before .before .before .before .before .pre) _ _ ((c .before .before .before .before .before .before .before .before .before .before .before .before .before .before .before .before .before .before .before .before .before .before .before .before .before .before .before .before .before .before .before .before .before .before .before .before .peel) .last .1 .1 .1 .1 .0) ((c .before .before .before .before .before .before .before .before .before .before .before .before .before .before .before .before .before .before .before .before .before .before .before .before .before .before .before .before .before .before .before .before .before .before .before .before .peel) .last .1 .1 .1 .1 .1 .0) ((c .before .before .before .before .before .before .before .before .before .before .before .before .before .before .before .before .before .before .before .before .before .before .before .before .before .before .before .before .before .before .before .before .before .before .before .before .peel) .result) ((c .before .before .before .before .before .before .before .before .before .before .before .before .before .before .before .before .before .before .before .before .before .before .before .before .before .before .before .before .before .before .before .before .before .before .before .before .peel) .ensures .0) _ _ _ _ ((c .before .before .before .before .before .before .before .before .before .before .before .before .before .before .before .before .before .before .before .before .before .before .before .before .x) .given .1) _ _ ((c .before .before .before .before .before .before .before .before .before .before .before .before .before .extend) .last .1 .1 .1 .0) ((c .before .before .before .before .before .before .before .before .before .before .before .before .before .extend) .result) ((c .before .before .before .before .before .before .before .before .before .before .before .before .before .extend) .ensures .0) _ ((c .before .new) .given .1) ((c .before .before .before .before .before .before .before .before .before .before .before .before .before .before .before .before .before .before .before .before .before .before .before .before .before .before .before .before .before .before .before .before .before .before .before .before .peel) .kept .1 .1 .1 .1 .1 .0), ((c .before .before .before .before .before .before .before .before .before .before .before .before .before .extend) .ensures .1 .0, (c .before .before .before .before .before .before .before .before .before .before .before .before .before .extend) .ensures .1 .1 ∙ wiped-back _ _ _ _ _ _ _ _ _ (c .before .before .before .before .before .before .before .before .before .before .before .before .before .before .before .before .before .before .before .before .before .before .before .before .before .before .before .before .before .before .before .before .before .before .before .before .before .before .before .before .before .before .before .before .before .before .before .before .before .before .pre) ((c .before .before .before .before .before .before .before .before .before .before .before .before .before .before .before .before .before .before .before .before .before .before .before .before .before .before .before .before .before .before .before .before .before .before .before .before .peel) .last .1 .1 .1 .1 .0) _ ((c .before .before .before .before .before .before .before .before .before .before .before .before .before .before .before .before .before .before .before .before .before .before .before .before .before .before .before .before .before .before .before .before .before .before .before .before .peel) .kept .1 .1 .1 .1 .0) ((c .before .before .before .before .before .before .before .before .before .before .before .before .before .before .before .before .before .before .before .before .before .clear-memo3) .ensures), (c .before .before .before .before .before .before .before .before .before .before .before .before .before .before .before .before .before .before .before .before .before .before .before .before .before .before .before .before .before .before .before .before .before .before .before .before .peel) .ensures .1))
+returns-4 c =
+    let mid = c .before .before .before .before .before .before .before .before .before .before .before .before .before .before .before .before .before .before .before .before .before .before .before .before .before in
+    let pre = mid .before .before .before .before .before .before .before .before .before .before .before .before .before .before .before .before .before .before .before .before .before .before .before .before .before .pre in
+    let peel = mid .before .before .before .before .before .before .before .before .before .before .before .peel in
+    let x = c .before .before .before .before .before .before .before .before .before .before .before .before .before .before .before .before .before .before .before .before .before .before .before .before .x in
+    let extend = c .before .before .before .before .before .before .before .before .before .before .before .before .before .extend in
+    let new = c .before .new in
+    let clear-memo3 = c .before .before .before .before .before .before .before .before .before .before .before .before .before .before .before .before .before .before .before .before .before .clear-memo3 in (
+      bind-more _ _ _ _ _ _ _ _ _ pre _ _ (peel .last .1 .1 .1 .1 .0) (peel .last .1 .1 .1 .1 .1 .0) (peel .result) (peel .ensures .0) _ _ _
+          _ (x .given .1) _ _ (extend .last .1 .1 .1 .0) (extend .result) (extend .ensures .0) _ (new .given .1)
+          (peel .kept .1 .1 .1 .1 .1 .0),
+      (
+        extend .ensures .1 .0,
+        extend .ensures .1 .1 ∙ wiped-back _ _ _ _ _ _ _ _ _ pre (peel .last .1 .1 .1 .1 .0) _
+            (peel .kept .1 .1 .1 .1 .0) (clear-memo3 .ensures),
+        peel .ensures .1,
+      ),
+    )
 
 -- src/unify.rt:42:1
 same-length-26 : tie.Need-same-length-26
-same-length-26 c = (c .before .before .before .before .before .before .before .before .before .before .before .before .before .extend) .kept .0 ∙ (c .before .before .before .before .before .before .before .before .before .before .before .before .before .before .before .before .before .before .before .before .before .before .before .before .before .before .before .before .before .before .before .before .before .before .before .before .peel) .kept .0
+same-length-26 c =
+    let extend = c .before .before .before .before .before .before .before .before .before .before .before .before .before .extend in
+    let mid = c .before .before .before .before .before .before .before .before .before .before .before .before .before .before .before .before .before .before .before .before .before .before .before .before .before in
+    let peel = mid .before .before .before .before .before .before .before .before .before .before .before .peel in
+    extend .kept .0 ∙ peel .kept .0
 
 -- src/unify.rt:42:1
 same-length-27 : tie.Need-same-length-27
-same-length-27 c = (c .before .before .before .before .before .before .before .before .before .before .before .before .before .extend) .kept .1 .0 ∙ (c .before .before .before .before .before .before .before .before .before .before .before .before .before .before .before .before .before .before .before .before .before .before .before .before .before .before .before .before .before .before .before .before .before .before .before .before .peel) .kept .1 .0
+same-length-27 c =
+    let extend = c .before .before .before .before .before .before .before .before .before .before .before .before .before .extend in
+    let mid = c .before .before .before .before .before .before .before .before .before .before .before .before .before .before .before .before .before .before .before .before .before .before .before .before .before in
+    let peel = mid .before .before .before .before .before .before .before .before .before .before .before .peel in
+    extend .kept .1 .0 ∙ peel .kept .1 .0
 
 -- src/unify.rt:42:1
 same-length-28 : tie.Need-same-length-28
@@ -192,19 +297,46 @@ same-length-29 c = (c .before .before .before .before .before .before .before .b
 
 -- src/unify.rt:42:1
 same-length-30 : tie.Need-same-length-30
-same-length-30 c = (c .before .before .before .before .before .before .before .before .before .before .before .before .before .extend) .kept .1 .1 .1 .1 .1 .0 ∙ (c .before .before .before .before .before .before .before .before .before .before .before .before .before .before .before .before .before .before .before .before .before .clear-memo3) .kept .0 ∙ (c .before .before .before .before .before .before .before .before .before .before .before .before .before .before .before .before .before .before .before .before .before .before .before .before .before .before .before .before .before .before .before .before .before .before .before .before .peel) .kept .1 .1 .1 .1 .0
+same-length-30 c =
+    let extend = c .before .before .before .before .before .before .before .before .before .before .before .before .before .extend in
+    let clear-memo3 = c .before .before .before .before .before .before .before .before .before .before .before .before .before .before .before .before .before .before .before .before .before .clear-memo3 in
+    let mid = c .before .before .before .before .before .before .before .before .before .before .before .before .before .before .before .before .before .before .before .before .before .before .before .before .before in
+    let peel = mid .before .before .before .before .before .before .before .before .before .before .before .peel in
+    extend .kept .1 .1 .1 .1 .1 .0 ∙ clear-memo3 .kept .0 ∙ peel .kept .1 .1 .1 .1 .0
 
 -- src/unify.rt:42:1
 same-length-31 : tie.Need-same-length-31
-same-length-31 c = (c .before .before .before .before .before .before .before .before .before .before .before .before .before .before .before .before .before .before .before .before .before .before .before .before .before .before .before .before .before .before .before .before .before .before .before .before .peel) .kept .1 .1 .1 .1 .1 .0
+same-length-31 c =
+    let mid = c .before .before .before .before .before .before .before .before .before .before .before .before .before .before .before .before .before .before .before .before .before .before .before .before .before in
+    let peel = mid .before .before .before .before .before .before .before .before .before .before .before .peel in
+    peel .kept .1 .1 .1 .1 .1 .0
 
 -- src/unify.rt:42:1
 same-length-32 : tie.Need-same-length-32
-same-length-32 c = (c .before .before .before .before .before .before .before .before .before .before .before .before .before .before .before .before .before .before .before .before .before .before .before .before .before .before .before .before .before .before .before .before .before .before .before .before .peel) .kept .1 .1 .1 .1 .1 .1 .0
+same-length-32 c =
+    let mid = c .before .before .before .before .before .before .before .before .before .before .before .before .before .before .before .before .before .before .before .before .before .before .before .before .before in
+    let peel = mid .before .before .before .before .before .before .before .before .before .before .before .peel in
+    peel .kept .1 .1 .1 .1 .1 .1 .0
 
 -- src/unify.rt:42:1
 returns-5 : tie.Need-returns-5
-returns-5 c = (bind-full _ _ _ _ _ _ _ _ _ (c .before .before .before .before .before .before .before .before .before .before .before .before .before .before .before .before .before .before .before .before .before .before .before .before .before .before .before .before .before .before .before .before .before .before .before .before .before .before .before .before .before .before .before .before .before .before .before .before .before .before .pre) _ _ ((c .before .before .before .before .before .before .before .before .before .before .before .before .before .before .before .before .before .before .before .before .before .before .before .before .before .before .before .before .before .before .before .before .before .before .before .before .peel) .last .1 .1 .1 .1 .0) ((c .before .before .before .before .before .before .before .before .before .before .before .before .before .before .before .before .before .before .before .before .before .before .before .before .before .before .before .before .before .before .before .before .before .before .before .before .peel) .last .1 .1 .1 .1 .1 .0) ((c .before .before .before .before .before .before .before .before .before .before .before .before .before .before .before .before .before .before .before .before .before .before .before .before .before .before .before .before .before .before .before .before .before .before .before .before .peel) .result) ((c .before .before .before .before .before .before .before .before .before .before .before .before .before .before .before .before .before .before .before .before .before .before .before .before .before .before .before .before .before .before .before .before .before .before .before .before .peel) .ensures .0) _ _ _ _ ((c .before .before .before .before .before .before .before .before .before .before .before .before .before .before .before .before .before .before .before .before .before .before .before .before .x) .given .1) _ _ ((c .before .before .before .before .before .before .before .before .before .before .before .before .before .extend) .last .1 .1 .1 .0) ((c .before .before .before .before .before .before .before .before .before .before .before .before .before .extend) .result) ((c .before .before .before .before .before .before .before .before .before .before .before .before .before .extend) .ensures .0) _ _ ((c .before .row2) .given .1), ((c .before .before .before .before .before .before .before .before .before .before .before .before .before .extend) .ensures .1 .0, (c .before .before .before .before .before .before .before .before .before .before .before .before .before .extend) .ensures .1 .1 ∙ wiped-back _ _ _ _ _ _ _ _ _ (c .before .before .before .before .before .before .before .before .before .before .before .before .before .before .before .before .before .before .before .before .before .before .before .before .before .before .before .before .before .before .before .before .before .before .before .before .before .before .before .before .before .before .before .before .before .before .before .before .before .before .pre) ((c .before .before .before .before .before .before .before .before .before .before .before .before .before .before .before .before .before .before .before .before .before .before .before .before .before .before .before .before .before .before .before .before .before .before .before .before .peel) .last .1 .1 .1 .1 .0) _ ((c .before .before .before .before .before .before .before .before .before .before .before .before .before .before .before .before .before .before .before .before .before .before .before .before .before .before .before .before .before .before .before .before .before .before .before .before .peel) .kept .1 .1 .1 .1 .0) ((c .before .before .before .before .before .before .before .before .before .before .before .before .before .before .before .before .before .before .before .before .before .clear-memo3) .ensures), (c .before .before .before .before .before .before .before .before .before .before .before .before .before .before .before .before .before .before .before .before .before .before .before .before .before .before .before .before .before .before .before .before .before .before .before .before .peel) .ensures .1))
+returns-5 c =
+    let mid = c .before .before .before .before .before .before .before .before .before .before .before .before .before .before .before .before .before .before .before .before .before .before .before .before .before in
+    let pre = mid .before .before .before .before .before .before .before .before .before .before .before .before .before .before .before .before .before .before .before .before .before .before .before .before .before .pre in
+    let peel = mid .before .before .before .before .before .before .before .before .before .before .before .peel in
+    let x = c .before .before .before .before .before .before .before .before .before .before .before .before .before .before .before .before .before .before .before .before .before .before .before .before .x in
+    let extend = c .before .before .before .before .before .before .before .before .before .before .before .before .before .extend in
+    let row2 = c .before .row2 in
+    let clear-memo3 = c .before .before .before .before .before .before .before .before .before .before .before .before .before .before .before .before .before .before .before .before .before .clear-memo3 in (
+      bind-full _ _ _ _ _ _ _ _ _ pre _ _ (peel .last .1 .1 .1 .1 .0) (peel .last .1 .1 .1 .1 .1 .0) (peel .result) (peel .ensures .0) _ _ _
+          _ (x .given .1) _ _ (extend .last .1 .1 .1 .0) (extend .result) (extend .ensures .0) _ _ (row2 .given .1),
+      (
+        extend .ensures .1 .0,
+        extend .ensures .1 .1 ∙ wiped-back _ _ _ _ _ _ _ _ _ pre (peel .last .1 .1 .1 .1 .0) _
+            (peel .kept .1 .1 .1 .1 .0) (clear-memo3 .ensures),
+        peel .ensures .1,
+      ),
+    )
 
 pub bind-next-spec : {M : Type 1} → statement M
 bind-next-spec =

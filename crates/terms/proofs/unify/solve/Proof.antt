@@ -30,35 +30,67 @@ enum-known-last c = search needs
 
 -- src/unify.rt:85:17
 same-length : tie.Need-same-length Inv-loop μ-loop
-same-length c = (c .before .before .before .before .before .before .before .before .before .before .before .before .before .before .before .before .before .bind-next) .kept .0 ∙ (c .before .before .before .before .before .before .before .before .before .before .before .before .before .before .before .before .before .before .before .before .before .before .before .before .before .loop) .inv .grown .same .long-index
+same-length c =
+    let bind-next = c .before .before .before .before .before .before .before .before .before .before .before .before .before .before .before .before .before .bind-next in
+    let loop = c .before .before .before .before .before .before .before .before .before .before .before .before .before .before .before .before .before .before .before .before .before .before .before .before .before .loop in
+    bind-next .kept .0 ∙ loop .inv .grown .same .long-index
 
 -- src/unify.rt:85:17
 same-length-2 : tie.Need-same-length-2 Inv-loop μ-loop
-same-length-2 c = (c .before .before .before .before .before .before .before .before .before .before .before .before .before .before .before .before .before .bind-next) .kept .1 .0 ∙ (c .before .before .before .before .before .before .before .before .before .before .before .before .before .before .before .before .before .before .before .before .before .before .before .before .before .loop) .inv .grown .same .long-words
+same-length-2 c =
+    let bind-next = c .before .before .before .before .before .before .before .before .before .before .before .before .before .before .before .before .before .bind-next in
+    let loop = c .before .before .before .before .before .before .before .before .before .before .before .before .before .before .before .before .before .before .before .before .before .before .before .before .before .loop in
+    bind-next .kept .1 .0 ∙ loop .inv .grown .same .long-words
 
 -- src/unify.rt:85:17
 same-length-3 : tie.Need-same-length-3 Inv-loop μ-loop
-same-length-3 c = (c .before .before .before .before .before .before .before .before .before .before .before .before .before .before .before .before .before .bind-next) .kept .1 .1 .1 .0 ∙ (c .before .before .before .before .before .before .before .before .before .before .before .before .before .before .before .before .before .before .before .before .before .before .before .before .before .loop) .inv .long-theta
+same-length-3 c =
+    let bind-next = c .before .before .before .before .before .before .before .before .before .before .before .before .before .before .before .before .before .bind-next in
+    let loop = c .before .before .before .before .before .before .before .before .before .before .before .before .before .before .before .before .before .before .before .before .before .before .before .before .before .loop in
+    bind-next .kept .1 .1 .1 .0 ∙ loop .inv .long-theta
 
 -- src/unify.rt:85:17
 same-length-4 : tie.Need-same-length-4 Inv-loop μ-loop
-same-length-4 c = (c .before .before .before .before .before .before .before .before .before .before .before .before .before .before .before .before .before .bind-next) .kept .1 .1 .1 .1 .0 ∙ ap length ((c .before .before .before .before .before .before .before .before .before .before .before .before .before .before .before .before .before .before .before .before .before .before .before .before .before .loop) .inv .same-map)
+same-length-4 c =
+    let bind-next = c .before .before .before .before .before .before .before .before .before .before .before .before .before .before .before .before .before .bind-next in
+    let loop = c .before .before .before .before .before .before .before .before .before .before .before .before .before .before .before .before .before .before .before .before .before .before .before .before .before .loop in
+    bind-next .kept .1 .1 .1 .1 .0 ∙ ap length (loop .inv .same-map)
 
 -- src/unify.rt:85:17
 same-length-5 : tie.Need-same-length-5 Inv-loop μ-loop
-same-length-5 c = (c .before .before .before .before .before .before .before .before .before .before .before .before .before .before .before .before .before .bind-next) .kept .1 .1 .1 .1 .1 .0 ∙ ap length ((c .before .before .before .before .before .before .before .before .before .before .before .before .before .before .before .before .before .before .before .before .before .before .before .before .before .loop) .inv .same-memo)
+same-length-5 c =
+    let bind-next = c .before .before .before .before .before .before .before .before .before .before .before .before .before .before .before .before .before .bind-next in
+    let loop = c .before .before .before .before .before .before .before .before .before .before .before .before .before .before .before .before .before .before .before .before .before .before .before .before .before .loop in
+    bind-next .kept .1 .1 .1 .1 .1 .0 ∙ ap length (loop .inv .same-memo)
 
 -- src/unify.rt:85:17
 same-length-6 : tie.Need-same-length-6 Inv-loop μ-loop
-same-length-6 c = (c .before .before .before .before .before .before .before .before .before .before .before .before .before .before .before .before .before .bind-next) .kept .1 .1 .1 .1 .1 .1 .0 ∙ (c .before .before .before .before .before .before .before .before .before .before .before .before .before .before .before .before .before .before .before .before .before .before .before .before .before .loop) .inv .long-pairs
+same-length-6 c =
+    let bind-next = c .before .before .before .before .before .before .before .before .before .before .before .before .before .before .before .before .before .bind-next in
+    let loop = c .before .before .before .before .before .before .before .before .before .before .before .before .before .before .before .before .before .before .before .before .before .before .before .before .before .loop in
+    bind-next .kept .1 .1 .1 .1 .1 .1 .0 ∙ loop .inv .long-pairs
 
 -- src/unify.rt:85:17
 same-length-7 : tie.Need-same-length-7 Inv-loop μ-loop
-same-length-7 c = (c .before .before .before .before .before .before .before .before .before .before .before .before .before .before .before .before .before .bind-next) .kept .1 .1 .1 .1 .1 .1 .1 .0 ∙ ap length ((c .before .before .before .before .before .before .before .before .before .before .before .before .before .before .before .before .before .before .before .before .before .before .before .before .before .loop) .inv .same-seen)
+same-length-7 c =
+    let bind-next = c .before .before .before .before .before .before .before .before .before .before .before .before .before .before .before .before .before .bind-next in
+    let loop = c .before .before .before .before .before .before .before .before .before .before .before .before .before .before .before .before .before .before .before .before .before .before .before .before .before .loop in
+    bind-next .kept .1 .1 .1 .1 .1 .1 .1 .0 ∙ ap length (loop .inv .same-seen)
 
 -- src/unify.rt:85:17
 returns : tie.Need-returns Inv-loop μ-loop
-returns c = (solving-found _ _ _ _ _ _ _ _ _ _ _ _ _ _ _ _ _ _ _ _ ((c .before .before .before .before .before .before .before .before .before .before .before .before .before .before .before .before .before .before .before .before .before .before .before .before .before .loop) .inv) _ _ ((c .before .before .before .before .before .before .before .before .before .before .before .before .before .before .before .before .before .bind-next) .last .1 .1 .1 .0) ((c .before .before .before .before .before .before .before .before .before .before .before .before .before .before .before .before .before .bind-next) .last .1 .1 .1 .1 .1 .1 .0) ((c .before .before .before .before .before .before .before .before .before .before .before .before .before .before .before .before .before .bind-next) .result) ((c .before .before .before .before .before .before .before .before .before .before .before .before .before .before .before .before .before .bind-next) .ensures .0) _ ((c .before .last) .given .1), ((c .before .before .before .before .before .before .before .before .before .before .before .before .before .before .before .before .before .bind-next) .ensures .1 .0 ∙ (c .before .before .before .before .before .before .before .before .before .before .before .before .before .before .before .before .before .before .before .before .before .before .before .before .before .loop) .inv .same-map, (c .before .before .before .before .before .before .before .before .before .before .before .before .before .before .before .before .before .bind-next) .ensures .1 .1 ∙ (c .before .before .before .before .before .before .before .before .before .before .before .before .before .before .before .before .before .before .before .before .before .before .before .before .before .loop) .inv .same-memo, (c .before .before .before .before .before .before .before .before .before .before .before .before .before .before .before .before .before .bind-next) .ensures .1 .2 ∙ (c .before .before .before .before .before .before .before .before .before .before .before .before .before .before .before .before .before .before .before .before .before .before .before .before .before .loop) .inv .same-seen))
+returns c =
+    let loop = c .before .before .before .before .before .before .before .before .before .before .before .before .before .before .before .before .before .before .before .before .before .before .before .before .before .loop in
+    let bind-next = c .before .before .before .before .before .before .before .before .before .before .before .before .before .before .before .before .before .bind-next in
+    let last′ = c .before .last in (
+      solving-found _ _ _ _ _ _ _ _ _ _ _ _ _ _ _ _ _ _ _ _ (loop .inv) _ _ (bind-next .last .1 .1 .1 .0)
+          (bind-next .last .1 .1 .1 .1 .1 .1 .0) (bind-next .result) (bind-next .ensures .0) _ (last′ .given .1),
+      (
+        bind-next .ensures .1 .0 ∙ loop .inv .same-map,
+        bind-next .ensures .1 .1 ∙ loop .inv .same-memo,
+        bind-next .ensures .1 .2 ∙ loop .inv .same-seen,
+      ),
+    )
 
 -- src/unify.rt:87:26
 enum-known-last-2 : tie.Need-enum-known-last-2 Inv-loop μ-loop
@@ -66,35 +98,67 @@ enum-known-last-2 c = search needs
 
 -- src/unify.rt:88:17
 same-length-8 : tie.Need-same-length-8 Inv-loop μ-loop
-same-length-8 c = (c .before .before .before .before .before .before .before .before .before .before .before .before .before .before .before .before .before .bind-next) .kept .0 ∙ (c .before .before .before .before .before .before .before .before .before .before .before .before .before .before .before .before .before .before .before .before .before .before .before .before .before .loop) .inv .grown .same .long-index
+same-length-8 c =
+    let bind-next = c .before .before .before .before .before .before .before .before .before .before .before .before .before .before .before .before .before .bind-next in
+    let loop = c .before .before .before .before .before .before .before .before .before .before .before .before .before .before .before .before .before .before .before .before .before .before .before .before .before .loop in
+    bind-next .kept .0 ∙ loop .inv .grown .same .long-index
 
 -- src/unify.rt:88:17
 same-length-9 : tie.Need-same-length-9 Inv-loop μ-loop
-same-length-9 c = (c .before .before .before .before .before .before .before .before .before .before .before .before .before .before .before .before .before .bind-next) .kept .1 .0 ∙ (c .before .before .before .before .before .before .before .before .before .before .before .before .before .before .before .before .before .before .before .before .before .before .before .before .before .loop) .inv .grown .same .long-words
+same-length-9 c =
+    let bind-next = c .before .before .before .before .before .before .before .before .before .before .before .before .before .before .before .before .before .bind-next in
+    let loop = c .before .before .before .before .before .before .before .before .before .before .before .before .before .before .before .before .before .before .before .before .before .before .before .before .before .loop in
+    bind-next .kept .1 .0 ∙ loop .inv .grown .same .long-words
 
 -- src/unify.rt:88:17
 same-length-10 : tie.Need-same-length-10 Inv-loop μ-loop
-same-length-10 c = (c .before .before .before .before .before .before .before .before .before .before .before .before .before .before .before .before .before .bind-next) .kept .1 .1 .1 .0 ∙ (c .before .before .before .before .before .before .before .before .before .before .before .before .before .before .before .before .before .before .before .before .before .before .before .before .before .loop) .inv .long-theta
+same-length-10 c =
+    let bind-next = c .before .before .before .before .before .before .before .before .before .before .before .before .before .before .before .before .before .bind-next in
+    let loop = c .before .before .before .before .before .before .before .before .before .before .before .before .before .before .before .before .before .before .before .before .before .before .before .before .before .loop in
+    bind-next .kept .1 .1 .1 .0 ∙ loop .inv .long-theta
 
 -- src/unify.rt:88:17
 same-length-11 : tie.Need-same-length-11 Inv-loop μ-loop
-same-length-11 c = (c .before .before .before .before .before .before .before .before .before .before .before .before .before .before .before .before .before .bind-next) .kept .1 .1 .1 .1 .0 ∙ ap length ((c .before .before .before .before .before .before .before .before .before .before .before .before .before .before .before .before .before .before .before .before .before .before .before .before .before .loop) .inv .same-map)
+same-length-11 c =
+    let bind-next = c .before .before .before .before .before .before .before .before .before .before .before .before .before .before .before .before .before .bind-next in
+    let loop = c .before .before .before .before .before .before .before .before .before .before .before .before .before .before .before .before .before .before .before .before .before .before .before .before .before .loop in
+    bind-next .kept .1 .1 .1 .1 .0 ∙ ap length (loop .inv .same-map)
 
 -- src/unify.rt:88:17
 same-length-12 : tie.Need-same-length-12 Inv-loop μ-loop
-same-length-12 c = (c .before .before .before .before .before .before .before .before .before .before .before .before .before .before .before .before .before .bind-next) .kept .1 .1 .1 .1 .1 .0 ∙ ap length ((c .before .before .before .before .before .before .before .before .before .before .before .before .before .before .before .before .before .before .before .before .before .before .before .before .before .loop) .inv .same-memo)
+same-length-12 c =
+    let bind-next = c .before .before .before .before .before .before .before .before .before .before .before .before .before .before .before .before .before .bind-next in
+    let loop = c .before .before .before .before .before .before .before .before .before .before .before .before .before .before .before .before .before .before .before .before .before .before .before .before .before .loop in
+    bind-next .kept .1 .1 .1 .1 .1 .0 ∙ ap length (loop .inv .same-memo)
 
 -- src/unify.rt:88:17
 same-length-13 : tie.Need-same-length-13 Inv-loop μ-loop
-same-length-13 c = (c .before .before .before .before .before .before .before .before .before .before .before .before .before .before .before .before .before .bind-next) .kept .1 .1 .1 .1 .1 .1 .0 ∙ (c .before .before .before .before .before .before .before .before .before .before .before .before .before .before .before .before .before .before .before .before .before .before .before .before .before .loop) .inv .long-pairs
+same-length-13 c =
+    let bind-next = c .before .before .before .before .before .before .before .before .before .before .before .before .before .before .before .before .before .bind-next in
+    let loop = c .before .before .before .before .before .before .before .before .before .before .before .before .before .before .before .before .before .before .before .before .before .before .before .before .before .loop in
+    bind-next .kept .1 .1 .1 .1 .1 .1 .0 ∙ loop .inv .long-pairs
 
 -- src/unify.rt:88:17
 same-length-14 : tie.Need-same-length-14 Inv-loop μ-loop
-same-length-14 c = (c .before .before .before .before .before .before .before .before .before .before .before .before .before .before .before .before .before .bind-next) .kept .1 .1 .1 .1 .1 .1 .1 .0 ∙ ap length ((c .before .before .before .before .before .before .before .before .before .before .before .before .before .before .before .before .before .before .before .before .before .before .before .before .before .loop) .inv .same-seen)
+same-length-14 c =
+    let bind-next = c .before .before .before .before .before .before .before .before .before .before .before .before .before .before .before .before .before .bind-next in
+    let loop = c .before .before .before .before .before .before .before .before .before .before .before .before .before .before .before .before .before .before .before .before .before .before .before .before .before .loop in
+    bind-next .kept .1 .1 .1 .1 .1 .1 .1 .0 ∙ ap length (loop .inv .same-seen)
 
 -- src/unify.rt:88:17
 returns-2 : tie.Need-returns-2 Inv-loop μ-loop
-returns-2 c = (solving-apart _ _ _ _ _ _ _ _ _ _ _ _ _ _ _ _ _ _ _ _ ((c .before .before .before .before .before .before .before .before .before .before .before .before .before .before .before .before .before .before .before .before .before .before .before .before .before .loop) .inv) _ _ ((c .before .before .before .before .before .before .before .before .before .before .before .before .before .before .before .before .before .bind-next) .last .1 .1 .1 .0) ((c .before .before .before .before .before .before .before .before .before .before .before .before .before .before .before .before .before .bind-next) .last .1 .1 .1 .1 .1 .1 .0) ((c .before .before .before .before .before .before .before .before .before .before .before .before .before .before .before .before .before .bind-next) .result) ((c .before .before .before .before .before .before .before .before .before .before .before .before .before .before .before .before .before .bind-next) .ensures .0) _ ((c .before .last2) .given .1), ((c .before .before .before .before .before .before .before .before .before .before .before .before .before .before .before .before .before .bind-next) .ensures .1 .0 ∙ (c .before .before .before .before .before .before .before .before .before .before .before .before .before .before .before .before .before .before .before .before .before .before .before .before .before .loop) .inv .same-map, (c .before .before .before .before .before .before .before .before .before .before .before .before .before .before .before .before .before .bind-next) .ensures .1 .1 ∙ (c .before .before .before .before .before .before .before .before .before .before .before .before .before .before .before .before .before .before .before .before .before .before .before .before .before .loop) .inv .same-memo, (c .before .before .before .before .before .before .before .before .before .before .before .before .before .before .before .before .before .bind-next) .ensures .1 .2 ∙ (c .before .before .before .before .before .before .before .before .before .before .before .before .before .before .before .before .before .before .before .before .before .before .before .before .before .loop) .inv .same-seen))
+returns-2 c =
+    let loop = c .before .before .before .before .before .before .before .before .before .before .before .before .before .before .before .before .before .before .before .before .before .before .before .before .before .loop in
+    let bind-next = c .before .before .before .before .before .before .before .before .before .before .before .before .before .before .before .before .before .bind-next in
+    let last2 = c .before .last2 in (
+      solving-apart _ _ _ _ _ _ _ _ _ _ _ _ _ _ _ _ _ _ _ _ (loop .inv) _ _ (bind-next .last .1 .1 .1 .0)
+          (bind-next .last .1 .1 .1 .1 .1 .1 .0) (bind-next .result) (bind-next .ensures .0) _ (last2 .given .1),
+      (
+        bind-next .ensures .1 .0 ∙ loop .inv .same-map,
+        bind-next .ensures .1 .1 ∙ loop .inv .same-memo,
+        bind-next .ensures .1 .2 ∙ loop .inv .same-seen,
+      ),
+    )
 
 -- src/unify.rt:90:25
 enum-known-row : tie.Need-enum-known-row Inv-loop μ-loop
@@ -102,35 +166,67 @@ enum-known-row c = search needs
 
 -- src/unify.rt:91:17
 same-length-15 : tie.Need-same-length-15 Inv-loop μ-loop
-same-length-15 c = (c .before .before .before .before .before .before .before .before .before .before .before .before .before .before .before .before .before .bind-next) .kept .0 ∙ (c .before .before .before .before .before .before .before .before .before .before .before .before .before .before .before .before .before .before .before .before .before .before .before .before .before .loop) .inv .grown .same .long-index
+same-length-15 c =
+    let bind-next = c .before .before .before .before .before .before .before .before .before .before .before .before .before .before .before .before .before .bind-next in
+    let loop = c .before .before .before .before .before .before .before .before .before .before .before .before .before .before .before .before .before .before .before .before .before .before .before .before .before .loop in
+    bind-next .kept .0 ∙ loop .inv .grown .same .long-index
 
 -- src/unify.rt:91:17
 same-length-16 : tie.Need-same-length-16 Inv-loop μ-loop
-same-length-16 c = (c .before .before .before .before .before .before .before .before .before .before .before .before .before .before .before .before .before .bind-next) .kept .1 .0 ∙ (c .before .before .before .before .before .before .before .before .before .before .before .before .before .before .before .before .before .before .before .before .before .before .before .before .before .loop) .inv .grown .same .long-words
+same-length-16 c =
+    let bind-next = c .before .before .before .before .before .before .before .before .before .before .before .before .before .before .before .before .before .bind-next in
+    let loop = c .before .before .before .before .before .before .before .before .before .before .before .before .before .before .before .before .before .before .before .before .before .before .before .before .before .loop in
+    bind-next .kept .1 .0 ∙ loop .inv .grown .same .long-words
 
 -- src/unify.rt:91:17
 same-length-17 : tie.Need-same-length-17 Inv-loop μ-loop
-same-length-17 c = (c .before .before .before .before .before .before .before .before .before .before .before .before .before .before .before .before .before .bind-next) .kept .1 .1 .1 .0 ∙ (c .before .before .before .before .before .before .before .before .before .before .before .before .before .before .before .before .before .before .before .before .before .before .before .before .before .loop) .inv .long-theta
+same-length-17 c =
+    let bind-next = c .before .before .before .before .before .before .before .before .before .before .before .before .before .before .before .before .before .bind-next in
+    let loop = c .before .before .before .before .before .before .before .before .before .before .before .before .before .before .before .before .before .before .before .before .before .before .before .before .before .loop in
+    bind-next .kept .1 .1 .1 .0 ∙ loop .inv .long-theta
 
 -- src/unify.rt:91:17
 same-length-18 : tie.Need-same-length-18 Inv-loop μ-loop
-same-length-18 c = (c .before .before .before .before .before .before .before .before .before .before .before .before .before .before .before .before .before .bind-next) .kept .1 .1 .1 .1 .0 ∙ ap length ((c .before .before .before .before .before .before .before .before .before .before .before .before .before .before .before .before .before .before .before .before .before .before .before .before .before .loop) .inv .same-map)
+same-length-18 c =
+    let bind-next = c .before .before .before .before .before .before .before .before .before .before .before .before .before .before .before .before .before .bind-next in
+    let loop = c .before .before .before .before .before .before .before .before .before .before .before .before .before .before .before .before .before .before .before .before .before .before .before .before .before .loop in
+    bind-next .kept .1 .1 .1 .1 .0 ∙ ap length (loop .inv .same-map)
 
 -- src/unify.rt:91:17
 same-length-19 : tie.Need-same-length-19 Inv-loop μ-loop
-same-length-19 c = (c .before .before .before .before .before .before .before .before .before .before .before .before .before .before .before .before .before .bind-next) .kept .1 .1 .1 .1 .1 .0 ∙ ap length ((c .before .before .before .before .before .before .before .before .before .before .before .before .before .before .before .before .before .before .before .before .before .before .before .before .before .loop) .inv .same-memo)
+same-length-19 c =
+    let bind-next = c .before .before .before .before .before .before .before .before .before .before .before .before .before .before .before .before .before .bind-next in
+    let loop = c .before .before .before .before .before .before .before .before .before .before .before .before .before .before .before .before .before .before .before .before .before .before .before .before .before .loop in
+    bind-next .kept .1 .1 .1 .1 .1 .0 ∙ ap length (loop .inv .same-memo)
 
 -- src/unify.rt:91:17
 same-length-20 : tie.Need-same-length-20 Inv-loop μ-loop
-same-length-20 c = (c .before .before .before .before .before .before .before .before .before .before .before .before .before .before .before .before .before .bind-next) .kept .1 .1 .1 .1 .1 .1 .0 ∙ (c .before .before .before .before .before .before .before .before .before .before .before .before .before .before .before .before .before .before .before .before .before .before .before .before .before .loop) .inv .long-pairs
+same-length-20 c =
+    let bind-next = c .before .before .before .before .before .before .before .before .before .before .before .before .before .before .before .before .before .bind-next in
+    let loop = c .before .before .before .before .before .before .before .before .before .before .before .before .before .before .before .before .before .before .before .before .before .before .before .before .before .loop in
+    bind-next .kept .1 .1 .1 .1 .1 .1 .0 ∙ loop .inv .long-pairs
 
 -- src/unify.rt:91:17
 same-length-21 : tie.Need-same-length-21 Inv-loop μ-loop
-same-length-21 c = (c .before .before .before .before .before .before .before .before .before .before .before .before .before .before .before .before .before .bind-next) .kept .1 .1 .1 .1 .1 .1 .1 .0 ∙ ap length ((c .before .before .before .before .before .before .before .before .before .before .before .before .before .before .before .before .before .before .before .before .before .before .before .before .before .loop) .inv .same-seen)
+same-length-21 c =
+    let bind-next = c .before .before .before .before .before .before .before .before .before .before .before .before .before .before .before .before .before .bind-next in
+    let loop = c .before .before .before .before .before .before .before .before .before .before .before .before .before .before .before .before .before .before .before .before .before .before .before .before .before .loop in
+    bind-next .kept .1 .1 .1 .1 .1 .1 .1 .0 ∙ ap length (loop .inv .same-seen)
 
 -- src/unify.rt:91:17
 returns-3 : tie.Need-returns-3 Inv-loop μ-loop
-returns-3 c = (solving-full _ _ _ _ _ _ _ _ _ _ _ _ _ _ _ _ _ _ _ _ ((c .before .before .before .before .before .before .before .before .before .before .before .before .before .before .before .before .before .before .before .before .before .before .before .before .before .loop) .inv) _ _ ((c .before .before .before .before .before .before .before .before .before .before .before .before .before .before .before .before .before .bind-next) .last .1 .1 .1 .0) ((c .before .before .before .before .before .before .before .before .before .before .before .before .before .before .before .before .before .bind-next) .last .1 .1 .1 .1 .1 .1 .0) ((c .before .before .before .before .before .before .before .before .before .before .before .before .before .before .before .before .before .bind-next) .result) ((c .before .before .before .before .before .before .before .before .before .before .before .before .before .before .before .before .before .bind-next) .ensures .0) _ _ ((c .before .row) .given .1), ((c .before .before .before .before .before .before .before .before .before .before .before .before .before .before .before .before .before .bind-next) .ensures .1 .0 ∙ (c .before .before .before .before .before .before .before .before .before .before .before .before .before .before .before .before .before .before .before .before .before .before .before .before .before .loop) .inv .same-map, (c .before .before .before .before .before .before .before .before .before .before .before .before .before .before .before .before .before .bind-next) .ensures .1 .1 ∙ (c .before .before .before .before .before .before .before .before .before .before .before .before .before .before .before .before .before .before .before .before .before .before .before .before .before .loop) .inv .same-memo, (c .before .before .before .before .before .before .before .before .before .before .before .before .before .before .before .before .before .bind-next) .ensures .1 .2 ∙ (c .before .before .before .before .before .before .before .before .before .before .before .before .before .before .before .before .before .before .before .before .before .before .before .before .before .loop) .inv .same-seen))
+returns-3 c =
+    let loop = c .before .before .before .before .before .before .before .before .before .before .before .before .before .before .before .before .before .before .before .before .before .before .before .before .before .loop in
+    let bind-next = c .before .before .before .before .before .before .before .before .before .before .before .before .before .before .before .before .before .bind-next in
+    let row = c .before .row in (
+      solving-full _ _ _ _ _ _ _ _ _ _ _ _ _ _ _ _ _ _ _ _ (loop .inv) _ _ (bind-next .last .1 .1 .1 .0)
+          (bind-next .last .1 .1 .1 .1 .1 .1 .0) (bind-next .result) (bind-next .ensures .0) _ _ (row .given .1),
+      (
+        bind-next .ensures .1 .0 ∙ loop .inv .same-map,
+        bind-next .ensures .1 .1 ∙ loop .inv .same-memo,
+        bind-next .ensures .1 .2 ∙ loop .inv .same-seen,
+      ),
+    )
 
 -- src/unify.rt:93:25
 enum-known-more : tie.Need-enum-known-more Inv-loop μ-loop
@@ -138,35 +234,75 @@ enum-known-more c = search needs
 
 -- src/unify.rt:99:13
 same-length-22 : tie.Need-same-length-22 Inv-loop μ-loop
-same-length-22 c = (c .before .before .before .before .before .before .before .before .before .before .before .before .before .before .before .before .before .before .bind-next) .kept .0 ∙ (c .before .before .before .before .before .before .before .before .before .before .before .before .before .before .before .before .before .before .before .before .before .before .before .before .before .before .loop) .inv .grown .same .long-index
+same-length-22 c =
+    let bind-next = c .before .before .before .before .before .before .before .before .before .before .before .before .before .before .before .before .before .before .bind-next in
+    let mid = c .before .before .before .before .before .before .before .before .before .before .before .before .before .before .before .before .before .before .before .before .before .before .before .before .before in
+    let loop = mid .before .loop in
+    bind-next .kept .0 ∙ loop .inv .grown .same .long-index
 
 -- src/unify.rt:99:13
 same-length-23 : tie.Need-same-length-23 Inv-loop μ-loop
-same-length-23 c = (c .before .before .before .before .before .before .before .before .before .before .before .before .before .before .before .before .before .before .bind-next) .kept .1 .0 ∙ (c .before .before .before .before .before .before .before .before .before .before .before .before .before .before .before .before .before .before .before .before .before .before .before .before .before .before .loop) .inv .grown .same .long-words
+same-length-23 c =
+    let bind-next = c .before .before .before .before .before .before .before .before .before .before .before .before .before .before .before .before .before .before .bind-next in
+    let mid = c .before .before .before .before .before .before .before .before .before .before .before .before .before .before .before .before .before .before .before .before .before .before .before .before .before in
+    let loop = mid .before .loop in
+    bind-next .kept .1 .0 ∙ loop .inv .grown .same .long-words
 
 -- src/unify.rt:99:13
 same-length-24 : tie.Need-same-length-24 Inv-loop μ-loop
-same-length-24 c = (c .before .before .before .before .before .before .before .before .before .before .before .before .before .before .before .before .before .before .bind-next) .kept .1 .1 .1 .0 ∙ (c .before .before .before .before .before .before .before .before .before .before .before .before .before .before .before .before .before .before .before .before .before .before .before .before .before .before .loop) .inv .long-theta
+same-length-24 c =
+    let bind-next = c .before .before .before .before .before .before .before .before .before .before .before .before .before .before .before .before .before .before .bind-next in
+    let mid = c .before .before .before .before .before .before .before .before .before .before .before .before .before .before .before .before .before .before .before .before .before .before .before .before .before in
+    let loop = mid .before .loop in
+    bind-next .kept .1 .1 .1 .0 ∙ loop .inv .long-theta
 
 -- src/unify.rt:99:13
 same-length-25 : tie.Need-same-length-25 Inv-loop μ-loop
-same-length-25 c = (c .before .before .before .before .before .before .before .before .before .before .before .before .before .before .before .before .before .before .bind-next) .kept .1 .1 .1 .1 .0 ∙ ap length ((c .before .before .before .before .before .before .before .before .before .before .before .before .before .before .before .before .before .before .before .before .before .before .before .before .before .before .loop) .inv .same-map)
+same-length-25 c =
+    let bind-next = c .before .before .before .before .before .before .before .before .before .before .before .before .before .before .before .before .before .before .bind-next in
+    let mid = c .before .before .before .before .before .before .before .before .before .before .before .before .before .before .before .before .before .before .before .before .before .before .before .before .before in
+    let loop = mid .before .loop in
+    bind-next .kept .1 .1 .1 .1 .0 ∙ ap length (loop .inv .same-map)
 
 -- src/unify.rt:99:13
 same-length-26 : tie.Need-same-length-26 Inv-loop μ-loop
-same-length-26 c = (c .before .before .before .before .before .before .before .before .before .before .before .before .before .before .before .before .before .before .bind-next) .kept .1 .1 .1 .1 .1 .0 ∙ ap length ((c .before .before .before .before .before .before .before .before .before .before .before .before .before .before .before .before .before .before .before .before .before .before .before .before .before .before .loop) .inv .same-memo)
+same-length-26 c =
+    let bind-next = c .before .before .before .before .before .before .before .before .before .before .before .before .before .before .before .before .before .before .bind-next in
+    let mid = c .before .before .before .before .before .before .before .before .before .before .before .before .before .before .before .before .before .before .before .before .before .before .before .before .before in
+    let loop = mid .before .loop in
+    bind-next .kept .1 .1 .1 .1 .1 .0 ∙ ap length (loop .inv .same-memo)
 
 -- src/unify.rt:99:13
 same-length-27 : tie.Need-same-length-27 Inv-loop μ-loop
-same-length-27 c = (c .before .before .before .before .before .before .before .before .before .before .before .before .before .before .before .before .before .before .bind-next) .kept .1 .1 .1 .1 .1 .1 .0 ∙ (c .before .before .before .before .before .before .before .before .before .before .before .before .before .before .before .before .before .before .before .before .before .before .before .before .before .before .loop) .inv .long-pairs
+same-length-27 c =
+    let bind-next = c .before .before .before .before .before .before .before .before .before .before .before .before .before .before .before .before .before .before .bind-next in
+    let mid = c .before .before .before .before .before .before .before .before .before .before .before .before .before .before .before .before .before .before .before .before .before .before .before .before .before in
+    let loop = mid .before .loop in
+    bind-next .kept .1 .1 .1 .1 .1 .1 .0 ∙ loop .inv .long-pairs
 
 -- src/unify.rt:99:13
 same-length-28 : tie.Need-same-length-28 Inv-loop μ-loop
-same-length-28 c = (c .before .before .before .before .before .before .before .before .before .before .before .before .before .before .before .before .before .before .bind-next) .kept .1 .1 .1 .1 .1 .1 .1 .0 ∙ ap length ((c .before .before .before .before .before .before .before .before .before .before .before .before .before .before .before .before .before .before .before .before .before .before .before .before .before .before .loop) .inv .same-seen)
+same-length-28 c =
+    let bind-next = c .before .before .before .before .before .before .before .before .before .before .before .before .before .before .before .before .before .before .bind-next in
+    let mid = c .before .before .before .before .before .before .before .before .before .before .before .before .before .before .before .before .before .before .before .before .before .before .before .before .before in
+    let loop = mid .before .loop in
+    bind-next .kept .1 .1 .1 .1 .1 .1 .1 .0 ∙ ap length (loop .inv .same-seen)
 
 -- src/unify.rt:99:13
 returns-4 : tie.Need-returns-4 Inv-loop μ-loop
-returns-4 c = (solving-ends _ _ _ _ _ _ _ _ _ _ _ _ _ _ _ _ _ _ _ _ ((c .before .before .before .before .before .before .before .before .before .before .before .before .before .before .before .before .before .before .before .before .before .before .before .before .before .before .loop) .inv) _ _ ((c .before .before .before .before .before .before .before .before .before .before .before .before .before .before .before .before .before .before .bind-next) .last .1 .1 .1 .0) ((c .before .before .before .before .before .before .before .before .before .before .before .before .before .before .before .before .before .before .bind-next) .last .1 .1 .1 .1 .1 .1 .0) ((c .before .before .before .before .before .before .before .before .before .before .before .before .before .before .before .before .before .before .bind-next) .result) ((c .before .before .before .before .before .before .before .before .before .before .before .before .before .before .before .before .before .before .bind-next) .ensures .0) _ _ ((c .before .before .more) .given .1) ((c .if1) .taken), ((c .before .before .before .before .before .before .before .before .before .before .before .before .before .before .before .before .before .before .bind-next) .ensures .1 .0 ∙ (c .before .before .before .before .before .before .before .before .before .before .before .before .before .before .before .before .before .before .before .before .before .before .before .before .before .before .loop) .inv .same-map, (c .before .before .before .before .before .before .before .before .before .before .before .before .before .before .before .before .before .before .bind-next) .ensures .1 .1 ∙ (c .before .before .before .before .before .before .before .before .before .before .before .before .before .before .before .before .before .before .before .before .before .before .before .before .before .before .loop) .inv .same-memo, (c .before .before .before .before .before .before .before .before .before .before .before .before .before .before .before .before .before .before .bind-next) .ensures .1 .2 ∙ (c .before .before .before .before .before .before .before .before .before .before .before .before .before .before .before .before .before .before .before .before .before .before .before .before .before .before .loop) .inv .same-seen))
+returns-4 c =
+    let mid = c .before .before .before .before .before .before .before .before .before .before .before .before .before .before .before .before .before .before .before .before .before .before .before .before .before in
+    let loop = mid .before .loop in
+    let bind-next = c .before .before .before .before .before .before .before .before .before .before .before .before .before .before .before .before .before .before .bind-next in
+    let more = c .before .before .more in (
+      solving-ends _ _ _ _ _ _ _ _ _ _ _ _ _ _ _ _ _ _ _ _ (loop .inv) _ _ (bind-next .last .1 .1 .1 .0)
+          (bind-next .last .1 .1 .1 .1 .1 .1 .0) (bind-next .result) (bind-next .ensures .0) _ _ (more .given .1) ((c .if1) .taken),
+      (
+        bind-next .ensures .1 .0 ∙ loop .inv .same-map,
+        bind-next .ensures .1 .1 ∙ loop .inv .same-memo,
+        bind-next .ensures .1 .2 ∙ loop .inv .same-seen,
+      ),
+    )
 
 -- src/unify.rt:101:9
 sub-rounds : tie.Need-sub-rounds Inv-loop μ-loop
@@ -178,7 +314,14 @@ loop-less c = search needs
 
 -- src/unify.rt:82:5
 loop-again : tie.Need-loop-again Inv-loop μ-loop
-loop-again c = solving-on _ _ _ _ _ _ _ _ _ _ _ _ _ _ _ _ _ _ _ _ ((c .before .before .before .before .before .before .before .before .before .before .before .before .before .before .before .before .before .before .before .before .before .before .before .before .before .before .loop) .inv) _ _ ((c .before .before .before .before .before .before .before .before .before .before .before .before .before .before .before .before .before .before .bind-next) .last .1 .1 .1 .0) ((c .before .before .before .before .before .before .before .before .before .before .before .before .before .before .before .before .before .before .bind-next) .last .1 .1 .1 .1 .1 .1 .0) ((c .before .before .before .before .before .before .before .before .before .before .before .before .before .before .before .before .before .before .bind-next) .result) ((c .before .before .before .before .before .before .before .before .before .before .before .before .before .before .before .before .before .before .bind-next) .ensures .0) _ _ ((c .before .before .more) .given .1) ((c .if1) .left) _ _ _ ((c .before .before .before .before .before .before .before .before .before .before .before .before .before .before .before .before .before .before .bind-next) .ensures .1) ((c .before .before .before .before .before .before .before .before .before .before .before .before .before .before .before .before .before .before .bind-next) .kept .1 .1 .1 .0) ((c .before .before .before .before .before .before .before .before .before .before .before .before .before .before .before .before .before .before .bind-next) .kept .1 .1 .1 .1 .1 .1 .0)
+loop-again c =
+    let mid = c .before .before .before .before .before .before .before .before .before .before .before .before .before .before .before .before .before .before .before .before .before .before .before .before .before in
+    let loop = mid .before .loop in
+    let bind-next = c .before .before .before .before .before .before .before .before .before .before .before .before .before .before .before .before .before .before .bind-next in
+    let more = c .before .before .more in
+    solving-on _ _ _ _ _ _ _ _ _ _ _ _ _ _ _ _ _ _ _ _ (loop .inv) _ _ (bind-next .last .1 .1 .1 .0) (bind-next .last .1 .1 .1 .1 .1 .1 .0)
+    (bind-next .result) (bind-next .ensures .0) _ _ (more .given .1) ((c .if1) .left) _ _ _ (bind-next .ensures .1)
+    (bind-next .kept .1 .1 .1 .0) (bind-next .kept .1 .1 .1 .1 .1 .1 .0)
 
 pub solve-spec : {M : Type 1} → statement M
 solve-spec =

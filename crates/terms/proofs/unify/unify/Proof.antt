@@ -75,7 +75,14 @@ same-length-5 c = (c .before .before .before .before .before .before .before .be
 
 -- src/unify.rt:107:1
 same-length-6 : tie.Need-same-length-6
-same-length-6 c = ap length (pairs-back _ _ _ _ _ _ _ _ _ _ _ (c .before .before .before .before .before .before .before .before .before .before .before .before .before .before .before .before .before .before .before .before .before .before .before .before .before .before .before .before .before .before .before .before .before .before .before .before .pre) ((c .before .before .before .before .before .before .before .before .before .before .before .before .before .before .before .before .before .before .before .before .before .solve) .last .1 .1 .1 .1 .1 .1 .1 .0) _ ((c .before .before .before .before .before .before .before .before .before .before .before .before .before .before .before .before .before .before .before .before .before .solve) .kept .1 .1 .1 .1 .1 .1 .1 .0) ((c .before .before .before .before .before .clear) .ensures))
+same-length-6 c =
+    let mid = c .before .before .before .before .before .before .before .before .before .before .before .before .before .before .before .before .before .before .before .before .before .before .before .before .before in
+    let pre = mid .before .before .before .before .before .before .before .before .before .before .before .pre in
+    let solve = c .before .before .before .before .before .before .before .before .before .before .before .before .before .before .before .before .before .before .before .before .before .solve in
+    let clear = c .before .before .before .before .before .clear in
+    ap length
+    (pairs-back _ _ _ _ _ _ _ _ _ _ _ pre (solve .last .1 .1 .1 .1 .1 .1 .1 .0) _ (solve .kept .1 .1 .1 .1 .1 .1 .1 .0)
+    (clear .ensures))
 
 -- src/unify.rt:107:1
 same-length-7 : tie.Need-same-length-7
@@ -83,7 +90,23 @@ same-length-7 c = (c .before .before .before .before .before .before .before .be
 
 -- src/unify.rt:107:1
 returns : tie.Need-returns
-returns c = (record { says = unify-found _ _ _ _ _ _ _ _ _ _ _ (c .before .before .before .before .before .before .before .before .before .before .before .before .before .before .before .before .before .before .before .before .before .before .before .before .before .before .before .before .before .before .before .before .before .before .before .before .pre) _ _ ((c .before .before .before .before .before .before .before .before .before .before .before .before .before .before .before .before .before .before .before .before .before .solve) .last .1 .1 .1 .1 .0) ((c .before .before .before .before .before .before .before .before .before .before .before .before .before .before .before .before .before .before .before .before .before .solve) .result) ((c .before .before .before .before .before .before .before .before .before .before .before .before .before .before .before .before .before .before .before .before .before .solve) .ensures .0) _ ((c .before .r) .given .1) }, ((c .before .before .before .before .before .before .before .before .before .before .before .before .before .before .before .before .before .before .before .before .before .solve) .ensures .1 .0, (c .before .before .before .before .before .before .before .before .before .before .before .before .before .before .before .before .before .before .before .before .before .solve) .ensures .1 .1, pairs-back _ _ _ _ _ _ _ _ _ _ _ (c .before .before .before .before .before .before .before .before .before .before .before .before .before .before .before .before .before .before .before .before .before .before .before .before .before .before .before .before .before .before .before .before .before .before .before .before .pre) ((c .before .before .before .before .before .before .before .before .before .before .before .before .before .before .before .before .before .before .before .before .before .solve) .last .1 .1 .1 .1 .1 .1 .1 .0) _ ((c .before .before .before .before .before .before .before .before .before .before .before .before .before .before .before .before .before .before .before .before .before .solve) .kept .1 .1 .1 .1 .1 .1 .1 .0) ((c .before .before .before .before .before .clear) .ensures), (c .before .before .before .before .before .before .before .before .before .before .before .before .before .before .before .before .before .before .before .before .before .solve) .ensures .1 .2))
+returns c =
+    let mid = c .before .before .before .before .before .before .before .before .before .before .before .before .before .before .before .before .before .before .before .before .before .before .before .before .before in
+    let pre = mid .before .before .before .before .before .before .before .before .before .before .before .pre in
+    let solve = c .before .before .before .before .before .before .before .before .before .before .before .before .before .before .before .before .before .before .before .before .before .solve in
+    let r = c .before .r in
+    let clear = c .before .before .before .before .before .clear in (
+      record {
+        says = unify-found _ _ _ _ _ _ _ _ _ _ _ pre _ _ (solve .last .1 .1 .1 .1 .0) (solve .result) (solve .ensures .0) _ (r .given .1);
+      },
+      (
+        solve .ensures .1 .0,
+        solve .ensures .1 .1,
+        pairs-back _ _ _ _ _ _ _ _ _ _ _ pre (solve .last .1 .1 .1 .1 .1 .1 .1 .0) _
+            (solve .kept .1 .1 .1 .1 .1 .1 .1 .0) (clear .ensures),
+        solve .ensures .1 .2,
+      ),
+    )
 
 -- src/unify.rt:107:1
 same-length-8 : tie.Need-same-length-8
@@ -107,7 +130,14 @@ same-length-12 c = (c .before .before .before .before .before .before .before .b
 
 -- src/unify.rt:107:1
 same-length-13 : tie.Need-same-length-13
-same-length-13 c = ap length (pairs-back _ _ _ _ _ _ _ _ _ _ _ (c .before .before .before .before .before .before .before .before .before .before .before .before .before .before .before .before .before .before .before .before .before .before .before .before .before .before .before .before .before .before .before .before .before .before .before .before .before .before .before .before .pre) ((c .before .before .before .before .before .before .before .before .before .before .before .before .before .before .before .before .before .before .before .before .before .before .before .before .before .solve) .last .1 .1 .1 .1 .1 .1 .1 .0) _ ((c .before .before .before .before .before .before .before .before .before .before .before .before .before .before .before .before .before .before .before .before .before .before .before .before .before .solve) .kept .1 .1 .1 .1 .1 .1 .1 .0) ((c .before .before .before .before .before .before .before .before .before .clear) .ensures))
+same-length-13 c =
+    let mid = c .before .before .before .before .before .before .before .before .before .before .before .before .before .before .before .before .before .before .before .before .before .before .before .before .before in
+    let pre = mid .before .before .before .before .before .before .before .before .before .before .before .before .before .before .before .pre in
+    let solve = c .before .before .before .before .before .before .before .before .before .before .before .before .before .before .before .before .before .before .before .before .before .before .before .before .before .solve in
+    let clear = c .before .before .before .before .before .before .before .before .before .clear in
+    ap length
+    (pairs-back _ _ _ _ _ _ _ _ _ _ _ pre (solve .last .1 .1 .1 .1 .1 .1 .1 .0) _ (solve .kept .1 .1 .1 .1 .1 .1 .1 .0)
+    (clear .ensures))
 
 -- src/unify.rt:107:1
 same-length-14 : tie.Need-same-length-14
@@ -115,7 +145,25 @@ same-length-14 c = (c .before .before .before .before .before .before .before .b
 
 -- src/unify.rt:107:1
 returns-2 : tie.Need-returns-2
-returns-2 c = (record { says = unify-apart _ _ _ _ _ _ _ _ _ _ _ (c .before .before .before .before .before .before .before .before .before .before .before .before .before .before .before .before .before .before .before .before .before .before .before .before .before .before .before .before .before .before .before .before .before .before .before .before .before .before .before .before .pre) _ _ ((c .before .before .before .before .before .before .before .before .before .before .before .before .before .before .before .before .before .before .before .before .before .before .before .before .before .solve) .last .1 .1 .1 .1 .0) ((c .before .before .before .before .before .before .before .before .before .before .before .before .before .before .before .before .before .before .before .before .before .before .before .before .before .solve) .result) ((c .before .before .before .before .before .before .before .before .before .before .before .before .before .before .before .before .before .before .before .before .before .before .before .before .before .solve) .ensures .0) _ ((c .before .before .before .before .before .before .before .before .before .before .before .before .before .before .before .before .before .before .before .before .before .before .before .before .before .solve) .kept .1 .1 .1 .1 .0) ((c .before .before .clear2) .ensures) _ ((c .before .before .before .before .before .r2) .given .1) }, ((c .before .before .before .before .before .before .before .before .before .before .before .before .before .before .before .before .before .before .before .before .before .before .before .before .before .solve) .ensures .1 .0, (c .before .before .before .before .before .before .before .before .before .before .before .before .before .before .before .before .before .before .before .before .before .before .before .before .before .solve) .ensures .1 .1, pairs-back _ _ _ _ _ _ _ _ _ _ _ (c .before .before .before .before .before .before .before .before .before .before .before .before .before .before .before .before .before .before .before .before .before .before .before .before .before .before .before .before .before .before .before .before .before .before .before .before .before .before .before .before .pre) ((c .before .before .before .before .before .before .before .before .before .before .before .before .before .before .before .before .before .before .before .before .before .before .before .before .before .solve) .last .1 .1 .1 .1 .1 .1 .1 .0) _ ((c .before .before .before .before .before .before .before .before .before .before .before .before .before .before .before .before .before .before .before .before .before .before .before .before .before .solve) .kept .1 .1 .1 .1 .1 .1 .1 .0) ((c .before .before .before .before .before .before .before .before .before .clear) .ensures), (c .before .before .before .before .before .before .before .before .before .before .before .before .before .before .before .before .before .before .before .before .before .before .before .before .before .solve) .ensures .1 .2))
+returns-2 c =
+    let mid = c .before .before .before .before .before .before .before .before .before .before .before .before .before .before .before .before .before .before .before .before .before .before .before .before .before in
+    let pre = mid .before .before .before .before .before .before .before .before .before .before .before .before .before .before .before .pre in
+    let solve = c .before .before .before .before .before .before .before .before .before .before .before .before .before .before .before .before .before .before .before .before .before .before .before .before .before .solve in
+    let clear2 = c .before .before .clear2 in
+    let r2 = c .before .before .before .before .before .r2 in
+    let clear = c .before .before .before .before .before .before .before .before .before .clear in (
+      record {
+        says = unify-apart _ _ _ _ _ _ _ _ _ _ _ pre _ _ (solve .last .1 .1 .1 .1 .0) (solve .result) (solve .ensures .0) _
+            (solve .kept .1 .1 .1 .1 .0) (clear2 .ensures) _ (r2 .given .1);
+      },
+      (
+        solve .ensures .1 .0,
+        solve .ensures .1 .1,
+        pairs-back _ _ _ _ _ _ _ _ _ _ _ pre (solve .last .1 .1 .1 .1 .1 .1 .1 .0) _
+            (solve .kept .1 .1 .1 .1 .1 .1 .1 .0) (clear .ensures),
+        solve .ensures .1 .2,
+      ),
+    )
 
 -- src/unify.rt:107:1
 same-length-15 : tie.Need-same-length-15
@@ -139,7 +187,14 @@ same-length-19 c = (c .before .before .before .before .before .before .before .b
 
 -- src/unify.rt:107:1
 same-length-20 : tie.Need-same-length-20
-same-length-20 c = ap length (pairs-back _ _ _ _ _ _ _ _ _ _ _ (c .before .before .before .before .before .before .before .before .before .before .before .before .before .before .before .before .before .before .before .before .before .before .before .before .before .before .before .before .before .before .before .before .before .before .before .before .before .before .before .before .pre) ((c .before .before .before .before .before .before .before .before .before .before .before .before .before .before .before .before .before .before .before .before .before .before .before .before .before .solve) .last .1 .1 .1 .1 .1 .1 .1 .0) _ ((c .before .before .before .before .before .before .before .before .before .before .before .before .before .before .before .before .before .before .before .before .before .before .before .before .before .solve) .kept .1 .1 .1 .1 .1 .1 .1 .0) ((c .before .before .before .before .before .before .before .before .before .clear) .ensures))
+same-length-20 c =
+    let mid = c .before .before .before .before .before .before .before .before .before .before .before .before .before .before .before .before .before .before .before .before .before .before .before .before .before in
+    let pre = mid .before .before .before .before .before .before .before .before .before .before .before .before .before .before .before .pre in
+    let solve = c .before .before .before .before .before .before .before .before .before .before .before .before .before .before .before .before .before .before .before .before .before .before .before .before .before .solve in
+    let clear = c .before .before .before .before .before .before .before .before .before .clear in
+    ap length
+    (pairs-back _ _ _ _ _ _ _ _ _ _ _ pre (solve .last .1 .1 .1 .1 .1 .1 .1 .0) _ (solve .kept .1 .1 .1 .1 .1 .1 .1 .0)
+    (clear .ensures))
 
 -- src/unify.rt:107:1
 same-length-21 : tie.Need-same-length-21
@@ -147,7 +202,25 @@ same-length-21 c = (c .before .before .before .before .before .before .before .b
 
 -- src/unify.rt:107:1
 returns-3 : tie.Need-returns-3
-returns-3 c = (record { says = unify-full _ _ _ _ _ _ _ _ _ _ _ (c .before .before .before .before .before .before .before .before .before .before .before .before .before .before .before .before .before .before .before .before .before .before .before .before .before .before .before .before .before .before .before .before .before .before .before .before .before .before .before .before .pre) _ _ ((c .before .before .before .before .before .before .before .before .before .before .before .before .before .before .before .before .before .before .before .before .before .before .before .before .before .solve) .last .1 .1 .1 .1 .0) ((c .before .before .before .before .before .before .before .before .before .before .before .before .before .before .before .before .before .before .before .before .before .before .before .before .before .solve) .result) ((c .before .before .before .before .before .before .before .before .before .before .before .before .before .before .before .before .before .before .before .before .before .before .before .before .before .solve) .ensures .0) _ ((c .before .before .before .before .before .before .before .before .before .before .before .before .before .before .before .before .before .before .before .before .before .before .before .before .before .solve) .kept .1 .1 .1 .1 .0) ((c .before .before .clear3) .ensures) _ _ ((c .before .before .before .before .before .r3) .given .1) }, ((c .before .before .before .before .before .before .before .before .before .before .before .before .before .before .before .before .before .before .before .before .before .before .before .before .before .solve) .ensures .1 .0, (c .before .before .before .before .before .before .before .before .before .before .before .before .before .before .before .before .before .before .before .before .before .before .before .before .before .solve) .ensures .1 .1, pairs-back _ _ _ _ _ _ _ _ _ _ _ (c .before .before .before .before .before .before .before .before .before .before .before .before .before .before .before .before .before .before .before .before .before .before .before .before .before .before .before .before .before .before .before .before .before .before .before .before .before .before .before .before .pre) ((c .before .before .before .before .before .before .before .before .before .before .before .before .before .before .before .before .before .before .before .before .before .before .before .before .before .solve) .last .1 .1 .1 .1 .1 .1 .1 .0) _ ((c .before .before .before .before .before .before .before .before .before .before .before .before .before .before .before .before .before .before .before .before .before .before .before .before .before .solve) .kept .1 .1 .1 .1 .1 .1 .1 .0) ((c .before .before .before .before .before .before .before .before .before .clear) .ensures), (c .before .before .before .before .before .before .before .before .before .before .before .before .before .before .before .before .before .before .before .before .before .before .before .before .before .solve) .ensures .1 .2))
+returns-3 c =
+    let mid = c .before .before .before .before .before .before .before .before .before .before .before .before .before .before .before .before .before .before .before .before .before .before .before .before .before in
+    let pre = mid .before .before .before .before .before .before .before .before .before .before .before .before .before .before .before .pre in
+    let solve = c .before .before .before .before .before .before .before .before .before .before .before .before .before .before .before .before .before .before .before .before .before .before .before .before .before .solve in
+    let clear3 = c .before .before .clear3 in
+    let r3 = c .before .before .before .before .before .r3 in
+    let clear = c .before .before .before .before .before .before .before .before .before .clear in (
+      record {
+        says = unify-full _ _ _ _ _ _ _ _ _ _ _ pre _ _ (solve .last .1 .1 .1 .1 .0) (solve .result) (solve .ensures .0) _
+            (solve .kept .1 .1 .1 .1 .0) (clear3 .ensures) _ _ (r3 .given .1);
+      },
+      (
+        solve .ensures .1 .0,
+        solve .ensures .1 .1,
+        pairs-back _ _ _ _ _ _ _ _ _ _ _ pre (solve .last .1 .1 .1 .1 .1 .1 .1 .0) _
+            (solve .kept .1 .1 .1 .1 .1 .1 .1 .0) (clear .ensures),
+        solve .ensures .1 .2,
+      ),
+    )
 
 pub unify-spec : {M : Type 1} → statement M
 unify-spec =

@@ -70,7 +70,9 @@ visit-start-of-requires t c κs = omega (arith, end-in _ _ _ ((c .before .before
 
 -- src/variables.rt:32:15
 visit-mul-end : (t : ℕ) → visit-lts.Need-mul-end (cs t) (visit-at t) visit.Post visit-Inv-loop visit-μ-loop
-visit-mul-end t c = omega (arith, end-in _ _ _ ((c .before .before .before .before .before .before .before .before .before .before .pre) .1 .0 .good) _ ((c .before .before .before .before .before .before .before .before .before .before .pre) .1 .0 .there), (c .before .before .before .before .before .before .before .before .before .before .pre) .1 .0 .good .index)
+visit-mul-end t c =
+    let pre = c .before .before .before .before .before .before .before .before .before .before .pre in
+    omega (arith, end-in _ _ _ (pre .1 .0 .good) _ (pre .1 .0 .there), pre .1 .0 .good .index)
 
 -- src/variables.rt:32:15
 visit-shared-slice-read-end : (t : ℕ) → visit-lts.Need-shared-slice-read-end (cs t) (visit-at t) visit.Post visit-Inv-loop visit-μ-loop
@@ -82,11 +84,17 @@ visit-cast-end t c = omega (arith, (c .shared-slice-known4) .given ((c .before .
 
 -- src/variables.rt:33:16
 visit-mul-head : (t : ℕ) → visit-lts.Need-mul-head (cs t) (visit-at t) visit.Post visit-Inv-loop visit-μ-loop
-visit-mul-head t c = omega (arith, start-in _ _ _ ((c .before .before .before .before .before .before .before .before .before .before .before .pre) .1 .0 .good) _ ((c .before .before .before .before .before .before .before .before .before .before .before .pre) .1 .0 .there) _ ((c .before .start-of) .ensures), (c .before .before .before .before .before .before .before .before .before .before .before .pre) .1 .0 .good .words)
+visit-mul-head t c =
+    let pre = c .before .before .before .before .before .before .before .before .before .before .before .pre in
+    let start-of = c .before .start-of in
+    omega (arith, start-in _ _ _ (pre .1 .0 .good) _ (pre .1 .0 .there) _ (start-of .ensures), pre .1 .0 .good .words)
 
 -- src/variables.rt:33:16
 visit-shared-slice-read-head : (t : ℕ) → visit-lts.Need-shared-slice-read-head (cs t) (visit-at t) visit.Post visit-Inv-loop visit-μ-loop
-visit-shared-slice-read-head t c = start-in _ _ _ ((c .before .before .before .before .before .before .before .before .before .before .before .before .pre) .1 .0 .good) _ ((c .before .before .before .before .before .before .before .before .before .before .before .before .pre) .1 .0 .there) _ ((c .before .before .start-of) .ensures)
+visit-shared-slice-read-head t c =
+    let pre = c .before .before .before .before .before .before .before .before .before .before .before .before .pre in
+    let start-of = c .before .before .start-of in
+    start-in _ _ _ (pre .1 .0 .good) _ (pre .1 .0 .there) _ (start-of .ensures)
 
 -- src/variables.rt:33:16
 visit-cast-head : (t : ℕ) → visit-lts.Need-cast-head (cs t) (visit-at t) visit.Post visit-Inv-loop visit-μ-loop
@@ -106,15 +114,27 @@ visit-same-length-3 t c = search needs
 
 -- src/variables.rt:36:9
 visit-returns-3 : (t : ℕ) → visit-lts.Need-returns-3 (cs t) (visit-at t) visit.Post visit-Inv-loop visit-μ-loop
-visit-returns-3 t c = var-done _ _ _ _ ((c .before .before .before .before .before .before .before .before .before .before .before .before .before .before .before .before .before .pre) .1 .0 .good) ((c .before .before .before .before .before .before .before .before .before .before .before .before .before .before .before .before .before .pre) .1 .0 .there) _ ((c .before .before .before .before .before .before .before .start-of) .ensures) _ _ _ ((c .before .before .before .before .before .before .before .before .before .before .before .before .before .before .before .before .before .pre) .1 .1) ((c .before .before .before .before .if3) .taken) ((c .before .before .insert) .ensures)
+visit-returns-3 t c =
+    let pre = c .before .before .before .before .before .before .before .before .before .before .before .before .before .before .before .before .before .pre in
+    let start-of = c .before .before .before .before .before .before .before .start-of in
+    let if3 = c .before .before .before .before .if3 in
+    let insert = c .before .before .insert in
+    var-done _ _ _ _ (pre .1 .0 .good) (pre .1 .0 .there) _ (start-of .ensures) _ _ _ (pre .1 .1) (if3 .taken) (insert .ensures)
 
 -- src/variables.rt:38:18
 visit-add-at : (t : ℕ) → visit-lts.Need-add-at (cs t) (visit-at t) visit.Post visit-Inv-loop visit-μ-loop
-visit-add-at t c = omega (arith, start-in _ _ _ ((c .before .before .before .before .before .before .before .before .before .before .before .before .before .pre) .1 .0 .good) _ ((c .before .before .before .before .before .before .before .before .before .before .before .before .before .pre) .1 .0 .there) _ ((c .before .before .before .start-of) .ensures), (c .before .before .before .before .before .before .before .before .before .before .before .before .before .pre) .1 .0 .good .words)
+visit-add-at t c =
+    let pre = c .before .before .before .before .before .before .before .before .before .before .before .before .before .pre in
+    let start-of = c .before .before .before .start-of in
+    omega (arith, start-in _ _ _ (pre .1 .0 .good) _ (pre .1 .0 .there) _ (start-of .ensures), pre .1 .0 .good .words)
 
 -- src/variables.rt:39:5
 visit-loop-holds : (t : ℕ) → visit-lts.Need-loop-holds (cs t) (visit-at t) visit.Post visit-Inv-loop visit-μ-loop
-visit-loop-holds t c = looping-begins _ _ _ _ _ _ _ ((c .before .before .before .before .before .before .before .before .before .before .before .before .before .pre) .1 .0) ((c .before .before .before .before .before .before .before .before .before .before .before .before .before .pre) .1 .1) ((c .before .before .before .before .before .before .before .if1) .left) ((c .before .before .before .start-of) .ensures) ((c .if3) .left)
+visit-loop-holds t c =
+    let pre = c .before .before .before .before .before .before .before .before .before .before .before .before .before .pre in
+    let if1 = c .before .before .before .before .before .before .before .if1 in
+    let start-of = c .before .before .before .start-of in
+    looping-begins _ _ _ _ _ _ _ (pre .1 .0) (pre .1 .1) (if1 .left) (start-of .ensures) ((c .if3) .left)
 
 -- src/variables.rt:40:19
 visit-mul-arg : (t : ℕ) → visit-lts.Need-mul-arg (cs t) (visit-at t) visit.Post visit-Inv-loop visit-μ-loop
@@ -130,11 +150,21 @@ visit-cast-arg t c = omega (arith, (c .shared-slice-known6) .given ((c .before .
 
 -- src/variables.rt:41:9
 visit-visit-requires : (t : ℕ) → visit-lts.Need-visit-requires (cs t) (visit-at t) visit.Post visit-Inv-loop visit-μ-loop
-visit-visit-requires t c κs = (omega (arith, arg-falls _ _ _ _ _ _ _ _ _ _ _ ((c .before .before .before .before .loop) .inv) ((c .before .before .before .loop-test) .taken), (c .before .before .before .before .before .before .before .before .before .before .before .before .before .before .before .before .before .before .pre) .0), (arg-ready _ _ _ _ _ _ _ _ _ _ _ ((c .before .before .before .before .loop) .inv) ((c .before .before .before .loop-test) .taken), (c .before .before .before .before .loop) .inv .visits))
+visit-visit-requires t c κs =
+    let loop = c .before .before .before .before .loop in
+    let loop-test = c .before .before .before .loop-test in
+    let pre = c .before .before .before .before .before .before .before .before .before .before .before .before .before .before .before .before .before .before .pre in (
+      omega (arith, arg-falls _ _ _ _ _ _ _ _ _ _ _ (loop .inv) (loop-test .taken), pre .0),
+      (arg-ready _ _ _ _ _ _ _ _ _ _ _ (loop .inv) (loop-test .taken), loop .inv .visits),
+    )
 
 -- src/variables.rt:42:9
 visit-add-at-2 : (t : ℕ) → visit-lts.Need-add-at-2 (cs t) (visit-at t) visit.Post visit-Inv-loop visit-μ-loop
-visit-add-at-2 t c = omega (arith, arg-in _ _ _ _ _ _ _ _ _ _ _ ((c .before .before .before .before .before .before .before .before .before .loop) .inv) ((c .before .before .before .before .before .before .before .before .loop-test) .taken), (c .before .before .before .before .before .before .before .before .before .before .before .before .before .before .before .before .before .before .before .before .before .before .before .pre) .1 .0 .good .words)
+visit-add-at-2 t c =
+    let loop = c .before .before .before .before .before .before .before .before .before .loop in
+    let loop-test = c .before .before .before .before .before .before .before .before .loop-test in
+    let pre = c .before .before .before .before .before .before .before .before .before .before .before .before .before .before .before .before .before .before .before .before .before .before .before .pre in
+    omega (arith, arg-in _ _ _ _ _ _ _ _ _ _ _ (loop .inv) (loop-test .taken), pre .1 .0 .good .words)
 
 -- src/variables.rt:39:5
 visit-loop-less : (t : ℕ) → visit-lts.Need-loop-less (cs t) (visit-at t) visit.Post visit-Inv-loop visit-μ-loop
@@ -142,7 +172,12 @@ visit-loop-less t c = search needs
 
 -- src/variables.rt:39:5
 visit-loop-again : (t : ℕ) → visit-lts.Need-loop-again (cs t) (visit-at t) visit.Post visit-Inv-loop visit-μ-loop
-visit-loop-again t c = looping-on _ _ _ _ _ _ _ _ _ _ _ ((c .before .before .before .before .before .before .before .before .before .loop) .inv) ((c .before .before .before .before .before .before .before .before .loop-test) .taken) _ _ ((c .before .before .before .before .visit) .kept .1 .1 .1 .1 .1 .0) ((c .before .before .before .before .visit) .kept .1 .1 .1 .1 .0) ((c .before .before .before .before .visit) .ensures)
+visit-loop-again t c =
+    let loop = c .before .before .before .before .before .before .before .before .before .loop in
+    let loop-test = c .before .before .before .before .before .before .before .before .loop-test in
+    let visit = c .before .before .before .before .visit in
+    looping-on _ _ _ _ _ _ _ _ _ _ _ (loop .inv) (loop-test .taken) _ _ (visit .kept .1 .1 .1 .1 .1 .0) (visit .kept .1 .1 .1 .1 .0)
+    (visit .ensures)
 
 -- src/variables.rt:44:5
 visit-insert-requires-2 : (t : ℕ) → visit-lts.Need-insert-requires-2 (cs t) (visit-at t) visit.Post visit-Inv-loop visit-μ-loop

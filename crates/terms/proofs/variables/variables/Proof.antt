@@ -27,7 +27,11 @@ same-length-2 c = search needs
 
 -- src/variables.rt:48:1
 returns : tie.Need-returns
-returns c = ((c .before .before .before .before .before .before .before .before .visit) .ensures .set, cleared _ ((c .before .before .before .before .before .before .before .before .visit) .last .1 .1 .1 .1 .0) _ ((c .before .before .before .before .before .before .before .before .before .before .before .before .before .before .before .pre) .1) ((c .before .before .before .before .before .before .before .before .visit) .kept .1 .1 .1 .1 .0) ((c .before .before .clear-words) .ensures))
+returns c =
+    let visit = c .before .before .before .before .before .before .before .before .visit in
+    let pre = c .before .before .before .before .before .before .before .before .before .before .before .before .before .before .before .pre in
+    let clear-words = c .before .before .clear-words in
+    (visit .ensures .set, cleared _ (visit .last .1 .1 .1 .1 .0) _ (pre .1) (visit .kept .1 .1 .1 .1 .0) (clear-words .ensures))
 
 pub variables-spec : {M : Type 1} → statement M
 variables-spec =

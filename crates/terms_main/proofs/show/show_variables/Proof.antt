@@ -8,7 +8,9 @@ slice-aggregate-variables : tie.Need-slice-aggregate-variables
 slice-aggregate-variables c = search needs
 
 variables-requires : tie.Need-variables-requires
-variables-requires c κs = (record { good = (c .before .before .before .before .before .pre) .0 .0; there = (c .before .before .before .before .before .pre) .0 .1; wide = (c .before .before .before .before .before .pre) .1 .0; broad = omega arith }, (c .before .before .before .before .before .pre) .1 .1)
+variables-requires c κs =
+    let pre = c .before .before .before .before .before .pre in
+    (record { good = pre .0 .0; there = pre .0 .1; wide = pre .1 .0; broad = omega arith }, pre .1 .1)
 
 slice-aggregate-write-all : tie.Need-slice-aggregate-write-all
 slice-aggregate-write-all c = search needs
