@@ -16,6 +16,7 @@ use sexp::items;
 use sexp::items::Item;
 use sexp::names::Found;
 use state::facts::is_assumed;
+use state::facts::is_fact;
 use state::facts::is_plain;
 use state::sizes::Sizes;
 use terms::sets::insert;
@@ -56,7 +57,7 @@ fn hyp_each(
             clear_words(set);
             return Listed::No(34);
         };
-        if n.facts <= i {
+        if !is_fact(n, i) {
             clear_words(set);
             return Listed::No(34);
         }

@@ -4,7 +4,7 @@ ghost use mathlib.Core.Path.{_≡_};
 ghost use mathlib.Core.Bool.{not};
 ghost use mathlib.Core.List.{List, [], _∷_};
 ghost use Prim.Native.Nat.{ℕ, _+_, _*_, _<_, _≤_, _^_};
-ghost use lib.Dec.{eqb};
+ghost use lib.Dec.{eqb, ltb};
 ghost use lib.ListN.{length, take, drop};
 ghost use lib.Seq.{sets};
 ghost use Rattle.rules.specs.Limits.{FACTS, ENTRIES};
@@ -27,6 +27,13 @@ pub struct Span {
 pub enum Put {
     Stored(usize),
     Full(usize),
+}
+
+// Whether fact i is there: every look-up of a named fact asks this.
+pub fn is_fact(n: Sizes, i: usize) -> bool
+    ensures { λ r. ⌜ r ≡ ltb i (n .facts) ⌝ }
+{
+    i < n.facts
 }
 
 // The judgment of fact i.

@@ -6,6 +6,7 @@ use lib.ListN.{length}
 use Rattle.rules.specs.Limits.{FACTWORDS}
 use Rattle.reading.specs.Given.{FactsItems}
 use Rattle.reading.specs.Answers.{tests}
+use Rattle.state.specs.Looking.{is-late, not-late}
 use Rattle.reading.proofs.Hypotheses.{Hyping, hyping-start, hyping-here, hyping-first, hyping-none, hyping-late, hyping-fails, hyping-more, hyping-over, facts-long, facts-few, facts-many, passing}
 use Rattle.reading.proofs.Filling.{as-long, cleared, zeros-long}
 use Rattle.reading.specs.Laws.Walks.{go-on}
@@ -81,6 +82,9 @@ returns c =
           (loop .inv .0) (clear-words .ensures),
     )
 
+is-fact-requires : tie.Need-is-fact-requires Inv-loop μ-loop
+is-fact-requires c κs = tt
+
 -- src/hyps.rt:53:13
 clear-words-requires-2 : tie.Need-clear-words-requires-2 Inv-loop μ-loop
 clear-words-requires-2 c κs = search needs
@@ -96,15 +100,25 @@ same-length-2 c =
 -- src/hyps.rt:54:13
 returns-2 : tie.Need-returns-2 Inv-loop μ-loop
 returns-2 c =
-    let loop = c .before .before .before .before .before .before .before .before .before .before .before .before .loop in
-    let loop-test = c .before .before .before .before .before .before .before .before .before .before .before .loop-test in
-    let index = c .before .before .before .before .before .before .before .before .before .index in
-    let i = c .before .before .before .before .before .before .before .i in
-    let if1 = c .before .before .before .before .if1 in
-    let pre = c .before .before .before .before .before .before .before .before .before .before .before .before .before .before .before .before .before .pre in
-    let clear-words2 = c .before .before .clear-words2 in
+    let loop′ = c .before .before .before .before .before .before .before .before .before .before .before .before .loop in
+    let loop-test′ = c .before .before .before .before .before .before .before .before .before .before .before .loop-test in
+    let index′ = c .before .before .before .before .before .before .before .before .before .index in
+    let i′ = c .before .before .before .before .before .before .before .i in
+    let if1′ = c .before .before .before .before .if1 in
+    let pre′ = c .before .before .before .before .before .before .before .before .before .before .before .before .before .before .before .before .before .pre in
+    let clear-words2′ = c .before .before .clear-words2 in
+    let args = c .before .before .before .before .before .before .before .before .before .before .before .before .before .before .before .before .before .args in
+    let is-fact = c .before .before .before .before .before .is-fact in
+    let loop = loop′ in
+    let loop-test = loop-test′ in
+    let index = index′ in
+    let i = i′ in
+    let if1 = if1′ in
+    let pre = pre′ in
+    let clear-words2 = clear-words2′ in
     λ g. (
-      hyping-late ((loop .inv .1) g) (loop-test .taken) (index .ensures) (i .given .1) (omega (arith, facts-many g, if1 .taken)),
+      hyping-late ((loop .inv .1) g) (loop-test .taken) (index .ensures) (i .given .1)
+          (omega (arith, facts-many g, is-late (i .given .0 .0) (args .n .facts) (is-fact .result) (is-fact .ensures) (if1 .taken))),
       cleared
           (loop .set) (pre .1) (loop .inv .0) (clear-words2 .ensures),
     )
@@ -112,8 +126,15 @@ returns-2 c =
 -- src/hyps.rt:56:13
 passes-requires : tie.Need-passes-requires Inv-loop μ-loop
 passes-requires c κs =
-    let pre = c .before .before .before .before .before .before .before .before .before .before .before .before .before .pre in
-    (facts-long (pre .0), omega (arith, facts-few (pre .0), (c .if1) .left))
+    let pre′ = c .before .before .before .before .before .before .before .before .before .before .before .before .before .pre in
+    let i = c .before .before .before .i in
+    let args = c .before .before .before .before .before .before .before .before .before .before .before .before .before .args in
+    let is-fact = c .before .is-fact in
+    let pre = pre′ in (
+      facts-long (pre .0),
+      omega
+          (arith, facts-few (pre .0), not-late (i .given .0 .0) (args .n .facts) (is-fact .result) (is-fact .ensures) ((c .if1) .left)),
+    )
 
 -- src/hyps.rt:57:13
 clear-words-requires-3 : tie.Need-clear-words-requires-3 Inv-loop μ-loop
@@ -140,7 +161,7 @@ returns-3 c =
     let if2 = c .before .before .before .before .if2 in
     let pre = c .before .before .before .before .before .before .before .before .before .before .before .before .before .before .before .before .before .before .before .pre in
     let clear-words3 = c .before .before .clear-words3 in
-    λ g. let p = passing g (args .plain) (i .given .0 .0) (omega (arith, if1 .left)) in (
+    λ g. let p = passing g (args .plain) (i .given .0 .0) (not-late _ _ _ ((c .before .before .before .before .before .before .before .is-fact) .ensures) (if1 .left)) in (
       hyping-fails ((loop .inv .1) g) (loop-test .taken) (index .ensures) (i .given .1) (p .is)
           (sym (p .test) ∙ sym (passes .ensures) ∙ not-true (passes .result) (if2 .taken)),
       cleared (loop .set) (pre .1) (loop .inv .0)
@@ -149,7 +170,15 @@ returns-3 c =
 
 -- src/hyps.rt:60:9
 insert-requires : tie.Need-insert-requires Inv-loop μ-loop
-insert-requires c κs = search needs
+insert-requires c κs =
+    let i = c .before .before .before .before .before .before .i in
+    let args = c .before .before .before .before .before .before .before .before .before .before .before .before .before .before .before .before .args in
+    let is-fact = c .before .before .before .before .is-fact in
+    let if1 = c .before .before .before .if1 in
+    let pre = c .before .before .before .before .before .before .before .before .before .before .before .before .before .before .before .before .pre in
+    let loop = c .before .before .before .before .before .before .before .before .before .before .before .loop in
+    let early = not-late (i .given .0 .0) (args .n .facts) (is-fact .result) (is-fact .ensures) (if1 .left) in omega
+    (arith, early, facts-few (pre .0), loop .inv .0)
 
 -- src/hyps.rt:61:9
 after-requires : tie.Need-after-requires Inv-loop μ-loop
@@ -176,7 +205,7 @@ loop-again c =
     let passes = c .before .before .before .before .before .before .passes in
     let if2 = c .before .before .before .before .before .if2 in (
       insert .kept .0 ∙ loop .inv .0,
-      λ g. let p = passing g (args .plain) (i .given .0 .0) (omega (arith, if1 .left)) in hyping-more
+      λ g. let p = passing g (args .plain) (i .given .0 .0) (not-late _ _ _ ((c .before .before .before .before .before .before .before .before .is-fact) .ensures) (if1 .left)) in hyping-more
           ((loop .inv .1) g) (loop-test .taken) (index .ensures) (i .given .1) (p .is)
           (sym (p .test) ∙ sym (passes .ensures) ∙ not-false (passes .result) (if2 .left)) (insert .ensures) ((c .after) .ensures),
     )
@@ -206,6 +235,7 @@ hyp-each-spec =
     clear-words-requires
     same-length
     returns
+    is-fact-requires
     clear-words-requires-2
     same-length-2
     returns-2

@@ -68,10 +68,34 @@ abbrev term-below : ℕ → In 10 term-kinds.ps
 term-below t = and 10 term-kinds.ps (falls 10 term-kinds.ps _<_ μ-term t) term.Pre
 
 abbrev cs-arguments : ℕ → arguments-lts.Claims
-cs-arguments t = (arity-reads.Asked, arity-reads.Learnt, put-head-reads.Asked, put-head-reads.Learnt, input-or-none-reads.Asked, input-or-none-reads.Learnt, term-below t, term.Post, put-argument-reads.Asked, put-argument-reads.Learnt, both-reads.Asked, both-reads.Learnt, after-reads.Asked, after-reads.Learnt)
+cs-arguments t = (
+  arity-reads.Asked,
+  arity-reads.Learnt,
+  put-head-reads.Asked,
+  put-head-reads.Learnt,
+  input-or-none-reads.Asked,
+  input-or-none-reads.Learnt,
+  term-below t,
+  term.Post,
+  put-argument-reads.Asked,
+  put-argument-reads.Learnt,
+  both-reads.Asked,
+  both-reads.Learnt,
+  after-reads.Asked,
+  after-reads.Learnt,
+)
 
 abbrev cs-compound : ℕ → compound-lts.Claims
-cs-compound t = (constructor-first-reads.Asked, constructor-first-reads.Learnt, arguments-below t, arguments.Post, output-reads.Asked, output-reads.Learnt, keep-typed-reads.Asked, keep-typed-reads.Learnt)
+cs-compound t = (
+  constructor-first-reads.Asked,
+  constructor-first-reads.Learnt,
+  arguments-below t,
+  arguments.Post,
+  output-reads.Asked,
+  output-reads.Learnt,
+  keep-typed-reads.Asked,
+  keep-typed-reads.Learnt,
+)
 
 abbrev cs-term : ℕ → term-lts.Claims
 cs-term t = (item-at-reads.Asked, item-at-reads.Learnt, atomic-reads.Asked, atomic-reads.Learnt, compound-below t, compound.Post)
