@@ -33,11 +33,11 @@ use Rattle.state.specs.RowCells.{noFact, noGoal}
 use Rattle.state.specs.Numbered.{in-numbered, sound-in}
 use Rattle.state.specs.GoalLaws.{GoalRow, goals-long}
 use Rattle.state.specs.FactLaws.{FactRow, fact-row, goal-row-of, lists-long}
-use Rattle.forms.specs.Recall.{factOf}
-use Rattle.forms.specs.Referral.{restsOn}
+use Rattle.referring.specs.Recall.{factOf}
+use Rattle.referring.specs.Referral.{restsOn}
 use Rattle.forms.specs.Results.{goalOf, ListsHyps, Covers}
-use Rattle.forms.specs.Laws.Refers.{fact-asks}
-use Rattle.forms.proofs.ScopeFree.{from-zeros}
+use Rattle.referring.specs.Laws.Refers.{fact-asks}
+use Rattle.referring.specs.Laws.ScopeFree.{from-zeros}
 
 -- Two tests ---------------------------------------------------------------------------------------------------------------------------
 

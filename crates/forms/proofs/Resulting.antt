@@ -41,13 +41,13 @@ use Rattle.state.specs.Rows.{cell}
 use Rattle.state.specs.RowCells.{noGoal}
 use Rattle.state.specs.GoalLaws.{GoalRow, goals-long}
 use Rattle.state.specs.FactLaws.{goal-row-of}
-use Rattle.forms.specs.declared.references.Referred.{Referred}
-use Rattle.forms.specs.declared.references.Referred.the-variants as referred
-use Rattle.forms.specs.Recall.{RefersItem}
-use Rattle.forms.specs.Referral.{restsOn, refOf, RefRead, ReferredAs}
+use Rattle.referring.specs.declared.references.Referred.{Referred}
+use Rattle.referring.specs.declared.references.Referred.the-variants as referred
+use Rattle.referring.specs.Recall.{RefersItem}
+use Rattle.referring.specs.Referral.{restsOn, refOf, RefRead, ReferredAs}
 use Rattle.forms.specs.Halted.{Halts}
 use Rattle.forms.specs.Results.{goalOf, Covers, TakesResult, ResultTaken}
-use Rattle.forms.specs.Laws.Refers.{refers-ready, refers-item}
+use Rattle.referring.specs.Laws.Refers.{refers-ready, refers-item}
 use Rattle.forms.specs.Laws.Making.{Reached, reached-start, reached-halts, reached-went, reached-stopped, halts-first, item-holds}
 
 -- The definition --------------------------------------------------------------------------------------------------------------------

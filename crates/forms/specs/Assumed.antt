@@ -29,7 +29,7 @@ use Rattle.forms.specs.declared.hypotheses.Assumed.{Assumed}
 use Rattle.forms.specs.declared.hypotheses.Assumed.the-variants as assumed-as
 use Rattle.forms.specs.declared.hypotheses.Stated.{Stated}
 use Rattle.forms.specs.declared.hypotheses.Stated.the-variants as stated-as
-use Rattle.forms.specs.Recall.{Refers}
+use Rattle.referring.specs.Recall.{Refers}
 use Rattle.forms.specs.Halted.{Makes, Halts}
 
 -- Given ----------------------------------------------------------------------------------------------------------------------------

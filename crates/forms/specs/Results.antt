@@ -19,7 +19,7 @@ use Rattle.state.specs.Held.{Names, GoalsHeld, records, Recorded}
 use Rattle.state.specs.RowCells.{noGoal}
 use Rattle.forms.specs.declared.results.Resulted.{Resulted}
 use Rattle.forms.specs.declared.results.Resulted.the-variants as resulted-as
-use Rattle.forms.specs.Recall.{Refers}
+use Rattle.referring.specs.Recall.{Refers}
 use Rattle.forms.specs.Halted.{Makes, Halts}
 
 -- goal k

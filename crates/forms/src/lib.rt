@@ -1,17 +1,7 @@
-// The forms of goals and proof: references, and one module a form. Each function is proved equal to the definition's of the same name in the crate
-// `rules`: answer, question, detail, and the terms made until then, on refusals too.
-mod apply;
-mod cases;
-mod declare;
-mod derive;
-mod goals;
-mod hypotheses;
-mod induct;
-mod induct_cases;
-mod items;
-mod next;
-mod references;
-mod resting;
-mod results;
-mod scope;
-mod step;
+// What forms store that derive nothing: variables, abbreviations, goals, hypotheses, results, and the index that a form gives its fact. Each function is
+// proved equal to the definition's in the crate `rules`, every lent cell included.
+pub mod declare;
+pub mod goals;
+pub mod hypotheses;
+pub mod next;
+pub mod results;

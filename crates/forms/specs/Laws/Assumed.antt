@@ -19,10 +19,10 @@ use Rattle.state.specs.Stands.{Texts, Board, board, Stands}
 use Rattle.state.specs.Updates.{stands-hypothesis}
 use Rattle.forms.specs.declared.hypotheses.Assumed.{Assumed}
 use Rattle.forms.specs.declared.hypotheses.Assumed.the-variants as assumed-as
-use Rattle.forms.specs.Halted.{Makes, Halts}
+use Rattle.forms.specs.Halted.{Halts}
 use Rattle.forms.specs.Assumed.{AddsFact, HypAdded, AssumedAs}
-use Rattle.forms.specs.Moved.{Moves, Rests}
-use Rattle.forms.specs.Laws.Declared.{stands-makes, stands-halts}
+use Rattle.forms.specs.Moved.{Moves, Left}
+use Rattle.forms.specs.Laws.Leaving.{stands-makes}
 
 module _ {X : Texts} {T : TheoryLists} {B : Board} {n : Sizes} {m : Mark} {S : State} (h : Stands X T B n m S) where
   -- what the forms are given
@@ -56,8 +56,7 @@ module _ {X : Texts} {T : TheoryLists} {B : Board} {n : Sizes} {m : Mark} {S : S
         }
 
     pub assumed-left : {q d : ℕ} {now : Mark} → r ≡ assumed-as.No q d now →
-        Rests X T (board (B .vars) J Y (B .defs) (B .goals) (B .facts) (B .footings) (B .lists)) n now K q d
-        × Makes (B .index) (B .words) J Y m now × (facts ≡ B .facts) × (lists ≡ B .lists)
+        Left B (board (B .vars) J Y (B .defs) (B .goals) facts (B .footings) lists) m K q d now
     assumed-left {q} {d} {now} c =
         let z : Halts (B .index) (B .words) J Y m S K q d now × (records facts (B .footings) lists ≡ records (B .facts) (B .footings) (B .lists)) = subst Said c a in
-        (stands-halts h (z .0), z .0 .makes, ap (λ (x : Records). x .facts) (z .1), ap (λ (x : Records). x .lists) (z .1))
+        record { until = _; is = z .0 .is; makes = z .0 .makes; rests = ap (λ (x : Records). board (B .vars) J Y (B .defs) (B .goals) (x .facts) (B .footings) (x .lists)) (z .1) }

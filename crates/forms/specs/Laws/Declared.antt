@@ -6,9 +6,7 @@ use Prim.Native.Nat.{ℕ, _+_, _^_, _<_, _≤_}
 use Rattle.rules.specs.Out.{Out, refuse}
 use Rattle.rules.specs.Sexp.{Sexps, count}
 use Rattle.rules.specs.State.{State}
-use Rattle.rules.specs.Forms.{withMade, withVars, withDefs, addVar, addDef}
-use Rattle.rules.specs.Laws.Keeping.{Grows}
-use Rattle.rules.specs.Laws.Made.{sound}
+use Rattle.rules.specs.Forms.{withMade, withVars, withDefs}
 use Rattle.sexp.specs.Items.{Holds}
 use Rattle.sexp.specs.NameRows.{NameIn}
 use Rattle.kernel.specs.Parsed.{TheoryLists}
@@ -17,29 +15,19 @@ use Rattle.terms.specs.Table.{made}
 use Rattle.state.specs.declared.sizes.Sizes.{Sizes}
 use Rattle.state.specs.Held.{textOf, names}
 use Rattle.state.specs.Used.{varsNow, defsNow}
-use Rattle.state.specs.Stands.{Texts, Board, board, Stands, stands-grown}
+use Rattle.state.specs.Stands.{Texts, Board, board, Stands}
 use Rattle.state.specs.Updates.{stands-var, stands-def}
 use Rattle.forms.specs.declared.declare.Declared.{Declared}
 use Rattle.forms.specs.declared.declare.Declared.the-variants as declared-as
 use Rattle.forms.specs.declared.declare.Defined.{Defined}
 use Rattle.forms.specs.declared.declare.Defined.the-variants as defined-as
-use Rattle.forms.specs.Halted.{ReadsForm, Makes, Halts}
+use Rattle.forms.specs.Halted.{ReadsForm, Halts}
 use Rattle.forms.specs.Declares.{AddsVar, VarAdded, VarAs, DefAdded, DefAs}
-use Rattle.forms.specs.Moved.{Moves, Rests}
+use Rattle.forms.specs.Moved.{Moves, Left}
+use Rattle.forms.specs.Laws.Making.{makes-none}
+use Rattle.forms.specs.Laws.Leaving.{stands-makes}
 
 module _ {X : Texts} {T : TheoryLists} {B : Board} {n : Sizes} {m : Mark} {S : State} (h : Stands X T B n m S) where
-  -- What was made ------------------------------------------------------------------------------------------------------------------
-
-  -- trees more, whatever came then
-  pub stands-makes : {J Y : List ℕ} {now : Mark} → Makes (B .index) (B .words) J Y m now →
-      Stands X T (board (B .vars) J Y (B .defs) (B .goals) (B .facts) (B .footings) (B .lists)) n now (withMade S (made J Y now))
-  stands-makes {J} {Y} {now} g = stands-grown h (g .grown .good) (subst (λ M. Grows sound M (made J Y now)) (h .store) (g .grows))
-
-  -- a question is left
-  pub stands-halts : {J Y : List ℕ} {K : Out State (Unit {0})} {q d : ℕ} {now : Mark} → Halts (B .index) (B .words) J Y m S K q d now →
-      Rests X T (board (B .vars) J Y (B .defs) (B .goals) (B .facts) (B .footings) (B .lists)) n now K q d
-  stands-halts {J} {Y} {now = now} g = record { after = withMade S (made J Y now); is = g .is; stands = stands-makes (g .makes) }
-
   -- what a form that reads terms is given
   abbrev pub gives-form : {cells : List ℕ} {xs : Sexps} {least : ℕ} → Holds (X .text) cells xs → least ≤ count xs →
       ReadsForm (names (X .theory) (X .goals) (X .text) (T .symbols) (T .inputs) (B .vars) (B .defs)) n (B .index) (B .words) m cells least
@@ -63,12 +51,13 @@ module _ {X : Texts} {T : TheoryLists} {B : Board} {n : Sizes} {m : Mark} {S : S
         small = w;
       }
 
-  module _ (which : ℕ) (xs : Sexps) (vars : List ℕ) (r : Declared) (a : VarAs (X .text) (B .vars) vars n which S (addVar which xs S) r) where
+  -- K: what the definition answers
+  module _ (K : Out State (Unit {0})) (which : ℕ) (vars : List ℕ) (r : Declared) (a : VarAs (X .text) (B .vars) vars n which S K r) where
     -- the variable's text is the one that is read
     pub var-taken : textOf (X .goals) (X .text) which ≡ X .text → r ≡ declared-as.Ok →
-        Moves X T (board vars (B .index) (B .words) (B .defs) (B .goals) (B .facts) (B .footings) (B .lists)) (varsNow n (n .vars + 1)) m (addVar which xs S) (S .counts)
+        Moves X T (board vars (B .index) (B .words) (B .defs) (B .goals) (B .facts) (B .footings) (B .lists)) (varsNow n (n .vars + 1)) m K (S .counts)
     var-taken t e =
-        let z : VarAdded (X .text) (B .vars) vars n which S (addVar which xs S) = subst (VarAs (X .text) (B .vars) vars n which S (addVar which xs S)) e a in
+        let z : VarAdded (X .text) (B .vars) vars n which S K = subst (VarAs (X .text) (B .vars) vars n which S K) e a in
         record {
           after = withVars S (S .vars ++ (z .new ∷ []));
           is = z .is;
@@ -80,31 +69,38 @@ module _ {X : Texts} {T : TheoryLists} {B : Board} {n : Sizes} {m : Mark} {S : S
           counted = refl;
         }
 
-    pub var-left : {q d : ℕ} → r ≡ declared-as.No q d → (addVar which xs S ≡ refuse q d S) × (vars ≡ B .vars)
-    var-left {q} {d} e = subst (VarAs (X .text) (B .vars) vars n which S (addVar which xs S)) e a
+    pub var-left : {q d : ℕ} → r ≡ declared-as.No q d →
+        Left B (board vars (B .index) (B .words) (B .defs) (B .goals) (B .facts) (B .footings) (B .lists)) m K q d m
+    var-left {q} {d} e =
+        let z : (K ≡ refuse q d S) × (vars ≡ B .vars) = subst (VarAs (X .text) (B .vars) vars n which S K) e a in
+        record {
+          until = S;
+          is = z .0;
+          makes = makes-none S (h .good) (h .spelling .trees);
+          rests = ap (λ l. board l (B .index) (B .words) (B .defs) (B .goals) (B .facts) (B .footings) (B .lists)) (z .1);
+        }
 
   -- Abbreviations ------------------------------------------------------------------------------------------------------------------
 
-  module _ (xs : Sexps) (defs J Y : List ℕ) (r : Defined) (a : DefAs (X .text) (B .defs) defs n (B .index) (B .words) J Y m S (addDef xs S) r) where
+  module _ (K : Out State (Unit {0})) (defs J Y : List ℕ) (r : Defined) (a : DefAs (X .text) (B .defs) defs n (B .index) (B .words) J Y m S K r) where
     pub def-taken : {now : Mark} → r ≡ defined-as.Ok now →
-        Moves X T (board (B .vars) J Y defs (B .goals) (B .facts) (B .footings) (B .lists)) (defsNow n (n .defs + 1)) now (addDef xs S) (S .counts)
+        Moves X T (board (B .vars) J Y defs (B .goals) (B .facts) (B .footings) (B .lists)) (defsNow n (n .defs + 1)) now K (S .counts)
     def-taken {now} e =
-        let z : DefAdded (X .text) (B .defs) defs n (B .index) (B .words) J Y m S (addDef xs S) now =
-        subst (DefAs (X .text) (B .defs) defs n (B .index) (B .words) J Y m S (addDef xs S)) e a in
+        let z : DefAdded (X .text) (B .defs) defs n (B .index) (B .words) J Y m S K now =
+        subst (DefAs (X .text) (B .defs) defs n (B .index) (B .words) J Y m S K) e a in
         record {
           after = withDefs (withMade S (made J Y now)) (S .defs ++ (z .new ∷ []));
           is = z .is;
           stands = subst
               (λ l. Stands X T (board (B .vars) J Y l (B .goals) (B .facts) (B .footings) (B .lists)) (defsNow n (n .defs + 1)) now
               (withDefs (withMade S (made J Y now)) (S .defs ++ (z .new ∷ [])))) (sym (z .cells))
-              (stands-def (stands-makes (z .makes)) (z .new) (z .end) (z .term) (z .room) (z .named) (z .there) (z .ends) (z .numbered));
+              (stands-def (stands-makes h (z .makes)) (z .new) (z .end) (z .term) (z .room) (z .named) (z .there) (z .ends) (z .numbered));
           counted = refl;
         }
 
     pub def-left : {q d : ℕ} {now : Mark} → r ≡ defined-as.No q d now →
-        Rests X T (board (B .vars) J Y (B .defs) (B .goals) (B .facts) (B .footings) (B .lists)) n now (addDef xs S) q d
-        × Makes (B .index) (B .words) J Y m now × (defs ≡ B .defs)
+        Left B (board (B .vars) J Y defs (B .goals) (B .facts) (B .footings) (B .lists)) m K q d now
     def-left {q} {d} {now} e =
-        let z : Halts (B .index) (B .words) J Y m S (addDef xs S) q d now × (defs ≡ B .defs) =
-        subst (DefAs (X .text) (B .defs) defs n (B .index) (B .words) J Y m S (addDef xs S)) e a in
-        (stands-halts (z .0), z .0 .makes, z .1)
+        let z : Halts (B .index) (B .words) J Y m S K q d now × (defs ≡ B .defs) =
+        subst (DefAs (X .text) (B .defs) defs n (B .index) (B .words) J Y m S K) e a in
+        record { until = _; is = z .0 .is; makes = z .0 .makes; rests = ap (λ l. board (B .vars) J Y l (B .goals) (B .facts) (B .footings) (B .lists)) (z .1) }

@@ -1,12 +1,12 @@
 -- A result that has come, from all tables to all tables: what `result` answers, where the tables stand for a state. Assumes nothing.
-use mathlib.Core.Path.{_≡_, sym, subst}
+use mathlib.Core.Path.{_≡_, refl, sym, ap, subst}
 use mathlib.Core.List.{List}
-use Prim.Native.Nat.{ℕ, _<_, _≤_}
-use Rattle.rules.specs.Out.{Out, ok}
+use Prim.Native.Nat.{ℕ, _≤_}
+use Rattle.rules.specs.Out.{Out}
 use Rattle.rules.specs.Find.{change}
 use Rattle.rules.specs.Sexp.{Sexps, count}
 use Rattle.rules.specs.State.{State}
-use Rattle.rules.specs.Forms.{withMade, withGoals, takenGoal, result}
+use Rattle.rules.specs.Forms.{withMade, withGoals, takenGoal}
 use Rattle.kernel.specs.Parsed.{TheoryLists}
 use Rattle.sexp.specs.Items.{Holds}
 use Rattle.terms.specs.declared.store.Mark.{Mark}
@@ -18,15 +18,9 @@ use Rattle.state.specs.Updates.{stands-taken}
 use Rattle.forms.specs.declared.results.Resulted.{Resulted}
 use Rattle.forms.specs.declared.results.Resulted.the-variants as resulted-as
 use Rattle.forms.specs.Results.{TakesResult, ResultTaken, ResultedAs}
-use Rattle.forms.specs.Laws.Leaving.{Left, stands-makes, halts-left}
-
--- K answers, and all tables stand for the state where goal k's result has come
-pub record OneResult (X : Texts) (T : TheoryLists) (B : Board) (n : Sizes) (S : State) (J Y rows : List ℕ) (K : Out State (Unit {0})) (new : Mark) : Type 0 where
-  pub k : ℕ
-  pub there : k < n .goals
-  pub is : K ≡ ok tt (withGoals (withMade S (made J Y new)) (change (S .goals) k takenGoal))
-  pub stands : Stands X T (board (B .vars) J Y (B .defs) rows (B .facts) (B .footings) (B .lists)) n new
-      (withGoals (withMade S (made J Y new)) (change (S .goals) k takenGoal))
+use Rattle.forms.specs.Halted.{Halts}
+use Rattle.forms.specs.Moved.{Moves, Left}
+use Rattle.forms.specs.Laws.Leaving.{stands-makes}
 
 module _ {X : Texts} {T : TheoryLists} {B : Board} {n : Sizes} {m : Mark} {S : State} (h : Stands X T B n m S) where
   -- what the form is given
@@ -44,23 +38,25 @@ module _ {X : Texts} {T : TheoryLists} {B : Board} {n : Sizes} {m : Mark} {S : S
         many = l;
       }
 
-  -- what `result` ensures; J, Y, rows: the store's tables and that of goals afterwards
-  module _ {cells : List ℕ} {xs : Sexps} (k : Holds (X .text) cells xs) (l : 3 ≤ count xs) (J Y rows : List ℕ) (r : Resulted)
-      (a : (g : TakesResult (names (X .theory) (X .goals) (X .text) (T .symbols) (T .inputs) (B .vars) (B .defs)) (B .goals) (B .facts) (B .lists) n (B .index) (B .words) m cells) →
-      ResultedAs (B .goals) rows n (B .index) (B .words) J Y m (g .S) (result (g .xs) (g .S)) r) where
-    pub result-stands : {new : Mark} → r ≡ resulted-as.Ok new → OneResult X T B n S J Y rows (result xs S) new
-    result-stands {new} e =
-        let s : ResultTaken (B .goals) rows n (B .index) (B .words) J Y m S (result xs S) new
-        = subst (ResultedAs (B .goals) rows n (B .index) (B .words) J Y m S (result xs S)) e (a (stands-result k l)) in
+  -- K: what the definition answers, with the store's tables and that of goals afterwards
+  module _ (K : Out State (Unit {0})) (J Y rows : List ℕ) (r : Resulted) (a : ResultedAs (B .goals) rows n (B .index) (B .words) J Y m S K r) where
+    abbrev Said : Resulted → Type 0
+    Said z = ResultedAs (B .goals) rows n (B .index) (B .words) J Y m S K z
+
+    pub result-taken : {new : Mark} → r ≡ resulted-as.Ok new →
+        Moves X T (board (B .vars) J Y (B .defs) rows (B .facts) (B .footings) (B .lists)) n new K (S .counts)
+    result-taken {new} e =
+        let s : ResultTaken (B .goals) rows n (B .index) (B .words) J Y m S K new = subst Said e a in
         record {
-          k = s .k;
-          there = s .goal;
+          after = withGoals (withMade S (made J Y new)) (change (S .goals) (s .k) takenGoal);
           is = s .is;
           stands = subst (λ (z : List ℕ). Stands X T (board (B .vars) J Y (B .defs) z (B .facts) (B .footings) (B .lists)) n new
               (withGoals (withMade S (made J Y new)) (change (S .goals) (s .k) takenGoal))) (sym (s .rows-are)) (stands-taken (stands-makes h (s .makes)) (s .k) (s .goal));
+          counted = refl;
         }
 
-    pub result-left : {q d : ℕ} {new : Mark} → r ≡ resulted-as.No q d new → Left X T B n m S J Y (result xs S) q d new × (rows ≡ B .goals)
-    result-left e =
-        let s = subst (ResultedAs (B .goals) rows n (B .index) (B .words) J Y m S (result xs S)) e (a (stands-result k l)) in
-        (halts-left h (s .0), s .1)
+    pub result-left : {q d : ℕ} {new : Mark} → r ≡ resulted-as.No q d new →
+        Left B (board (B .vars) J Y (B .defs) rows (B .facts) (B .footings) (B .lists)) m K q d new
+    result-left {q} {d} {new} e =
+        let z : Halts (B .index) (B .words) J Y m S K q d new × (rows ≡ B .goals) = subst Said e a in
+        record { until = _; is = z .0 .is; makes = z .0 .makes; rests = ap (λ l. board (B .vars) J Y (B .defs) l (B .facts) (B .footings) (B .lists)) (z .1) }

@@ -9,7 +9,7 @@ use Rattle.forms.proofs.results.covers.Statement.{statement}
 use Rattle.forms.proofs.results.covers.Tie as tie
 use Rattle.forms.proofs.results.covers.Reads as reads
 use Rattle.forms.proofs.results.covers.Lts as lts
-use Rattle.forms.proofs.references.insert_all.Reads as insert-all-reads
+use Rattle.referring.proofs.references.insert_all.Reads as insert-all-reads
 use Rattle.forms.proofs.results.all_listed.Reads as all-listed-reads
 use Rattle.state.proofs.facts.hyps.Reads as hyps-reads
 use Rattle.state.proofs.goals.goal_hyps.Reads as goal-hyps-reads

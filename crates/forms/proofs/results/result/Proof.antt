@@ -8,7 +8,7 @@ use Rattle.forms.proofs.results.result.Statement.{statement}
 use Rattle.forms.proofs.results.result.Tie as tie
 use Rattle.forms.proofs.results.result.Reads as reads
 use Rattle.forms.proofs.results.result.Lts as lts
-use Rattle.forms.proofs.references.reference.Reads as reference-reads
+use Rattle.referring.proofs.references.reference.Reads as reference-reads
 use Rattle.forms.proofs.results.covers.Reads as covers-reads
 use Rattle.sexp.proofs.items.nth.Reads as nth-reads
 use Rattle.sexp.proofs.items.place.Reads as place-reads

@@ -1,0 +1,17 @@
+pub mod AllItems
+pub mod Applies
+pub mod Concluding
+pub mod Discharging
+pub mod Meeting
+pub mod OneItem
+pub mod PremiseTurn
+pub mod RuleFacts
+pub mod RulePremises
+pub mod StepForm
+pub mod StepIs
+pub mod StepItems
+pub mod StepJoins
+pub mod StepMatches
+pub mod StepRefs
+pub mod StepRule
+pub mod StepScope

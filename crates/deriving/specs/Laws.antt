@@ -1,0 +1,2 @@
+-- Laws for whoever calls the functions of this crate: the items of a step.
+pub mod ItemsOf

@@ -1,0 +1,12 @@
+pub mod Allowed
+pub mod CaseEnds
+pub mod CaseLoop
+pub mod CaseNames
+pub mod CaseReads
+pub mod Casings
+pub mod InductForms
+pub mod InductSpelled
+pub mod Inducts
+pub mod Moves
+pub mod Rests
+pub mod Supposes

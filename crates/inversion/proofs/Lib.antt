@@ -1,0 +1,14 @@
+pub mod InvertCaseVars
+pub mod InvertForms
+pub mod InvertJudges
+pub mod InvertKeeps
+pub mod InvertLacks
+pub mod InvertMeets
+pub mod InvertNames
+pub mod InvertOn
+pub mod InvertRests
+pub mod InvertRounds
+pub mod InvertRuleTurn
+pub mod InvertTaken
+pub mod InvertTurns
+pub mod InvertVerdicts

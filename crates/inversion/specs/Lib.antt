@@ -1,0 +1,2 @@
+pub mod InvertRules
+pub mod Inversions

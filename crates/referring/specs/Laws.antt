@@ -1,0 +1,7 @@
+-- Laws for whoever calls the functions of this crate: what stays readable, question 39, free variables, growing stores.
+pub mod Refers
+pub mod ScopeFacts
+pub mod ScopeFree
+pub mod Scoped
+pub mod Sounds
+pub mod Variable

@@ -1,0 +1,4 @@
+pub mod Derived
+pub mod Laws
+pub mod Recall
+pub mod Referral
