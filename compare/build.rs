@@ -1,4 +1,5 @@
-//! Copies the sources of the original unchanged into the build folder, and writes the file that names them as modules.
+//! Copies the sources of the original unchanged into the build folder, and writes the file that names them as modules. Behind the last line
+//! of `schematic` stands left.rs, which sees what a run leaves.
 //! They stand in ../../shared/docs/src/src beside the repository, or where the variable ORIGINAL says.
 use std::path::{Path, PathBuf};
 use std::{env, fs};
@@ -23,7 +24,7 @@ fn main() {
 fn link(here: &Path) {
     println!("cargo:rerun-if-env-changed=STATICLIB");
     let folder = env::var("STATICLIB").map_or(here.join("../target/staticlib"), PathBuf::from);
-    for (part, library) in [("READER", "exports"), ("TERMS", "exports_terms"), ("TERMS", "exports_store")] {
+    for (part, library) in [("READER", "exports"), ("TERMS", "exports_terms"), ("TERMS", "exports_store"), ("WHOLE", "exports_check")] {
         if env::var(format!("CARGO_FEATURE_{part}")).is_ok() {
             println!("cargo:rerun-if-changed={}", folder.join(format!("lib{library}.a")).display());
             println!("cargo:rustc-link-search=native={}", folder.display());
@@ -35,7 +36,11 @@ fn link(here: &Path) {
 fn copy(from: &Path, out: &Path, module: &str) {
     let file = from.join(module).with_extension("rs");
     println!("cargo:rerun-if-changed={}", file.display());
-    let text =
+    let mut text =
         fs::read(&file).unwrap_or_else(|e| panic!("{}: {e}; the variable ORIGINAL names the folder of the original", file.display()));
+    if module == "schematic" {
+        println!("cargo:rerun-if-changed=left.rs");
+        text.extend(fs::read("left.rs").expect("left.rs stands beside this file"));
+    }
     fs::write(out.join(module).with_extension("rs"), text).expect("the build folder can be written");
 }

@@ -5,4 +5,4 @@ cd "$(dirname "$0")/.." || exit 2
 for crate in exports exports_terms exports_store; do
     "${RT:-rt}" staticlib "$crate" || exit 1
 done
-cd compare && exec cargo run --release --offline --features reader,terms -- speed
+cd compare && cargo run --release --offline --features reader,terms -- speed && exec cargo run --release --offline --features reader,terms -- whole

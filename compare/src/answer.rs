@@ -47,9 +47,23 @@ pub fn complaint(theory: &str, goals: &str, proof: &str) -> Option<String> {
     schematic::check(theory, goals, proof.as_bytes()).err().filter(|why| !why.starts_with("missing results"))
 }
 
-/// The number of the first form with which the text is refused.
+/// The number of the first form with which the text is refused. What is refused stays so whatever follows, so that halving finds it.
 fn first_refused(forms: &[Sexp], refused: impl Fn(&str) -> Option<String>) -> Option<(usize, String)> {
-    (0..forms.len()).find_map(|k| refused(&show(&forms[..=k])).map(|why| (k, why)))
+    let mut found = refused(&show(forms))?;
+    let (mut low, mut high) = (0, forms.len());
+    while low + 1 < high {
+        let middle = (low + high) / 2;
+        match refused(&show(&forms[..middle])) {
+            Some(why) => (high, found) = (middle, why),
+            None => low = middle,
+        }
+    }
+    Some((high - 1, found))
+}
+
+/// The form that a line of a refusal names.
+pub fn form_of(line: &str) -> usize {
+    line.split(' ').nth(3).and_then(|w| w.parse().ok()).expect("a refusal's line")
 }
 
 fn refusal(number: Option<u32>, text: u32, form: usize, detail: Option<usize>, sentence: &str) -> Answer {
@@ -64,7 +78,7 @@ fn unread(text: u32, it: &Items) -> Option<Answer> {
     it.stopped.as_ref().map(|why| refusal(Some(4), text, lists, Some(0), why))
 }
 
-fn theory_refused(theory: &str) -> Option<Answer> {
+pub fn theory_refused(theory: &str) -> Option<Answer> {
     let it = items(theory);
     unread(1, &it).or_else(|| {
         let (k, why) = first_refused(&it.forms, |t| kernel::Theory::parse(t).err())?;
@@ -72,7 +86,7 @@ fn theory_refused(theory: &str) -> Option<Answer> {
     })
 }
 
-fn goals_refused(theory: &str, goals: &str) -> Option<Answer> {
+pub fn goals_refused(theory: &str, goals: &str) -> Option<Answer> {
     let it = items(goals);
     unread(2, &it).or_else(|| {
         let none = |why: &String| why != "no expected goals";

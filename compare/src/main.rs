@@ -1,8 +1,15 @@
-//! The comparison with the original. See docs/PERFORMANCE.md for the speed, and the header of each file for its room.
+//! The comparison with the original. See docs/COMPARISON.md, docs/PERFORMANCE.md for the speed, and the header of each file for its room.
 //!
 //!     compare line THEORY GOALS PROOF      the answer of the original for three files, as a line
 //!     compare cases N SEED [SOURCE...]     N generated cases; a SOURCE, a file of cases, is damaged too
-//!     compare speed                        times of the original and of this product, in one run
+//!     compare store N SEED [SOURCE...]     cases with their answers, for `replay`: those of each SOURCE, a file of cases or a folder of
+//!                                          folders; all limits; N generated ones
+//!     compare limits                       the cases at the limits of which the original has no say, as blocks for tools/cases.py
+//!     compare check N SEED                 N cases, all limits among them, through the whole check, beside the original
+//!     compare speed                        times of parts of the original and of this product, in one run
+//!     compare draw N SEED                  the cases of `check`, counted by what is expected of them; ours is not called
+//!     compare stack KB                     the deepest calls, on a stack of so many kilobytes
+//!     compare whole                        times of whole checks
 use std::process::exit;
 
 include!(concat!(env!("OUT_DIR"), "/original.rs"));
@@ -12,14 +19,35 @@ mod answer;
 mod blocks;
 mod builder;
 mod cases;
+mod check;
+mod crowd;
 mod damage;
+mod expected;
+mod facts;
+mod layout;
+mod lending;
+mod limits;
+mod limits_proof;
 mod moves;
 mod ours;
 mod pairing;
 mod random;
+mod read_tables;
+mod rows;
+mod rows_declared;
+mod scan;
+mod seam;
+mod soups;
+mod spans;
 mod speed;
+mod speed_whole;
+mod stack;
+mod store;
+#[cfg(test)]
+mod tests;
 mod theories;
 mod trees;
+mod whole_texts;
 mod world;
 
 fn main() {
@@ -28,8 +56,14 @@ fn main() {
     let done = match words[..] {
         ["line", theory, goals, proof] => line(theory, goals, proof),
         ["cases", n, seed, ref sources @ ..] => cases::print(n, seed, sources),
+        ["store", n, seed, ref sources @ ..] => store::write(n, seed, sources),
+        ["limits"] => store::print_limits(),
+        ["check", n, seed] => check::run(n, seed),
+        ["draw", n, seed] => check::draw(n, seed),
+        ["stack", kilobytes] => stack::run(kilobytes),
+        ["whole"] => speed_whole::run(),
         ["speed"] => speed::run(),
-        _ => Err("usage: compare line THEORY GOALS PROOF | cases N SEED [SOURCE...] | speed".into()),
+        _ => Err("usage: compare line THEORY GOALS PROOF | cases N SEED [SOURCE...] | store N SEED [SOURCE...] | limits | check N SEED | draw N SEED | stack KB | speed | whole".into()),
     };
     if let Err(why) = done {
         eprintln!("{why}");

@@ -19,7 +19,7 @@ pub struct Row<'a> {
 }
 
 /// The time of one call, by calling for at least 5 milliseconds.
-fn once(f: &mut dyn FnMut()) -> Duration {
+pub fn once(f: &mut dyn FnMut()) -> Duration {
     let mut n = 1;
     loop {
         let start = Instant::now();

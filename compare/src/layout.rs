@@ -1,0 +1,235 @@
+//! What the tables hold after an answer, cell by cell, as docs/TABLES.md has it: the theory's tables from its forms, the others from what
+//! the original left, whose terms and variables are made in the same order. Zero behind, up to the named lengths.
+use crate::expected::{Bytes, Expected};
+use crate::facts::footed;
+use crate::schematic::Left;
+use crate::seam::{FOOTINGS, SHAPES};
+use crate::spans::{Span, spans};
+use crate::{answer, scan};
+use std::collections::HashMap;
+
+/// The cells of each table in the order of `SHAPES`, and the footings. Of the last table, 53's list, the order is free.
+pub struct Layout {
+    pub cells: Vec<Vec<u32>>,
+    pub footings: Vec<u64>,
+}
+
+const VARIABLE: u32 = 256;
+
+/// The first forms of a text.
+struct Taken<'a> {
+    text: &'a str,
+    forms: Vec<Span>,
+}
+
+fn taken(text: &str, n: usize) -> Taken<'_> {
+    let it = scan::scan(text.as_bytes());
+    let text = scan::first(text, &it, n.min(it.ends.len()));
+    Taken { text, forms: spans(text) }
+}
+
+/// The theory's tables as they grow.
+#[derive(Default)]
+struct Theory {
+    sorts: Vec<u32>,
+    symbols: Vec<u32>,
+    inputs: Vec<u32>,
+    rules: Vec<u32>,
+    rule_vars: Vec<u32>,
+    patterns: Vec<u32>,
+    sort_numbers: HashMap<String, u32>,
+    /// By name, and whether it is a predicate.
+    numbers: HashMap<(String, bool), u32>,
+    inputs_of: Vec<Vec<u32>>,
+    rule_names: Vec<String>,
+}
+
+/// The variables of a rule: name, sort, place.
+type RuleVars = Vec<(String, u32, [u32; 2])>;
+
+impl Theory {
+    fn pattern(&mut self, text: &str, x: &Span, sort: u32, vars: &mut RuleVars) {
+        let (head, args) = match x {
+            Span::Atom(..) if x.word(text).starts_with('?') => {
+                let name = x.word(text);
+                let known = vars.iter().position(|v| v.0 == name);
+                let i = known.unwrap_or_else(|| {
+                    vars.push((name.into(), sort, x.place()));
+                    vars.len() - 1
+                });
+                return self.patterns.push(VARIABLE + i as u32);
+            }
+            Span::Atom(..) => (x.word(text), &[][..]),
+            Span::List(xs) => (xs[0].word(text), &xs[1..]),
+        };
+        let c = self.numbers[&(head.to_string(), sort == 0)];
+        self.patterns.push(c);
+        for (a, s) in args.iter().zip(self.inputs_of[c as usize].clone()) {
+            self.pattern(text, a, s, vars);
+        }
+    }
+
+    fn rule(&mut self, text: &str, xs: &[Span]) {
+        let (mut vars, first) = (RuleVars::new(), self.patterns.len());
+        for j in xs[2].list().iter().chain([&xs[3]]) {
+            self.pattern(text, j, 0, &mut vars);
+        }
+        let numbers = [vars.len(), xs[2].list().len(), first, self.patterns.len()].map(|n| n as u32);
+        self.rules.extend(xs[1].place().into_iter().chain(numbers));
+        let mut cells: Vec<u32> = vars.iter().flat_map(|(_, s, p)| [*s, p[0], p[1]]).collect();
+        cells.resize(48, 0);
+        self.rule_vars.extend(cells);
+        self.rule_names.push(xs[1].word(text).to_string());
+    }
+
+    fn declare(&mut self, text: &str, xs: &[Span]) {
+        let name = xs[1].word(text).to_string();
+        match xs[0].word(text) {
+            "sort" => {
+                self.sorts.extend(xs[1].place());
+                self.sort_numbers.insert(name, self.sorts.len() as u32 / 2);
+            }
+            "rule" => self.rule(text, xs),
+            _ => {
+                let sort = |s: &Span| self.sort_numbers[s.word(text)];
+                let mut inputs: Vec<u32> = xs[2].list().iter().map(sort).collect();
+                let output = xs.get(3).map_or(0, sort);
+                self.symbols.extend([output, inputs.len() as u32].into_iter().chain(xs[1].place()));
+                self.numbers.insert((name, output == 0), self.inputs_of.len() as u32);
+                self.inputs_of.push(inputs.clone());
+                inputs.resize(16, 0);
+                self.inputs.extend(inputs);
+            }
+        }
+    }
+}
+
+/// Terms by their nodes, as they are spelled in the goals, where no abbreviation stands.
+struct Spelled<'a> {
+    theory: &'a Theory,
+    left: &'a Left,
+    ids: HashMap<&'a [u32], u32>,
+}
+
+impl Spelled<'_> {
+    fn find(&self, text: &str, x: &Span, judgment: bool) -> u32 {
+        let (name, args) = match x {
+            Span::Atom(..) => (x.word(text), &[][..]),
+            Span::List(xs) => (xs[0].word(text), &xs[1..]),
+        };
+        let var = self.left.vars.iter().position(|v| v.as_deref() == Some(name)).filter(|_| !judgment);
+        let head = var.map_or_else(|| self.theory.numbers[&(name.to_string(), judgment)], |v| (self.left.symbols.len() + v) as u32);
+        let node: Vec<u32> = std::iter::once(head).chain(args.iter().map(|a| self.find(text, a, false))).collect();
+        self.ids[&node[..]]
+    }
+}
+
+/// The cells from variables on.
+#[derive(Default)]
+struct State {
+    vars: Vec<u32>,
+    defs: Vec<u32>,
+    goals: Vec<u32>,
+    facts: Vec<u32>,
+    lists: Vec<u32>,
+}
+
+impl State {
+    /// Variables by number; a made one has no name and no text.
+    fn variables(&mut self, left: &Left, texts: [(&Taken, u32); 2]) {
+        let mut places = HashMap::new();
+        for (t, number) in texts {
+            for xs in t.forms.iter().map(Span::list).filter(|xs| xs[0].word(t.text) == "var") {
+                places.insert(xs[1].word(t.text).to_string(), (number, xs[1].place()));
+            }
+        }
+        for (v, name) in left.vars.iter().enumerate() {
+            let sort = left.outputs[left.symbols.len() + v] + 1;
+            let (text, place) = name.as_ref().map_or((0, [0, 0]), |n| places[n]);
+            self.vars.extend([sort, text, place[0], place[1]]);
+        }
+    }
+
+    fn abbreviations(&mut self, left: &Left, proof: &Taken) {
+        for xs in proof.forms.iter().map(Span::list).filter(|xs| xs[0].word(proof.text) == "def") {
+            self.defs.extend(xs[1].place().into_iter().chain([left.defs[xs[1].word(proof.text)]]));
+        }
+    }
+
+    fn goals(&mut self, spelled: &Spelled, goals: &Taken, proof: &Taken) {
+        let results = proof.forms.iter().map(Span::list).filter(|xs| xs[0].word(proof.text) == "result");
+        let come: Vec<&str> = results.map(|xs| xs[1].word(proof.text)).collect();
+        for xs in goals.forms.iter().map(Span::list).filter(|xs| xs[0].word(goals.text) == "goal") {
+            let listed = if xs.len() == 4 { xs[2].list() } else { &[] };
+            let judgment = spelled.find(goals.text, &xs[xs.len() - 1], true);
+            let done = u32::from(come.contains(&xs[1].word(goals.text)));
+            let cells = [judgment, self.lists.len() as u32, listed.len() as u32, done];
+            self.goals.extend(xs[1].place().into_iter().chain(cells));
+            self.lists.extend(listed.iter().map(|h| spelled.find(goals.text, h, true)));
+        }
+    }
+
+    fn facts(&mut self, left: &Left) {
+        for f in &left.facts {
+            let lengths = [f.hyps.len(), f.premises.len(), f.general.len()].map(|n| n as u32);
+            self.facts.extend([f.judgment, u32::from(f.assumed), self.lists.len() as u32].into_iter().chain(lengths));
+            let general = f.general.iter().map(|v| v - left.symbols.len() as u32);
+            self.lists.extend(f.hyps.iter().chain(&f.premises).copied().chain(general));
+        }
+    }
+
+    /// The goals without a result, from 1.
+    fn missing(&self) -> Vec<u32> {
+        (1..).zip(self.goals.chunks(6)).filter(|(_, g)| g[5] == 0).map(|(k, _)| k).collect()
+    }
+}
+
+/// Where each term's words end, and the words.
+fn terms(left: &Left) -> (Vec<u32>, Vec<u32>) {
+    let (mut index, mut words) = (Vec::new(), Vec::new());
+    let symbols = left.symbols.len() as u32;
+    for node in &left.nodes {
+        words.push(if node[0] < symbols { node[0] } else { VARIABLE + node[0] - symbols });
+        words.extend(&node[1..]);
+        index.push(words.len() as u32);
+    }
+    (index, words)
+}
+
+fn bits(rules: &[String], proof: &str) -> Vec<u64> {
+    let mut words = Vec::new();
+    for set in footed(rules, &answer::items(proof).forms) {
+        let mut four = [0u64; 4];
+        set.iter().for_each(|r| four[r / 64] |= 1 << (r % 64));
+        words.extend(four);
+    }
+    words
+}
+
+/// What an answer other than 1 leaves.
+pub fn layout(texts: &Bytes, it: &Expected) -> Layout {
+    let plain = texts.each_ref().map(|t| String::from_utf8_lossy(t).into_owned());
+    let [theory, goals, proof] = [0, 1, 2].map(|k| taken(&plain[k], it.taken[k]));
+    let mut t = Theory::default();
+    theory.forms.iter().for_each(|f| t.declare(theory.text, f.list()));
+    let (mut state, mut index, mut words, mut footings) = (State::default(), Vec::new(), Vec::new(), Vec::new());
+    if let Some(left) = &it.left {
+        state.variables(left, [(&goals, 2), (&proof, 3)]);
+        state.abbreviations(left, &proof);
+        let ids = left.nodes.iter().enumerate().map(|(k, n)| (&n[..], k as u32)).collect();
+        state.goals(&Spelled { theory: &t, left, ids }, &goals, &proof);
+        state.facts(left);
+        (index, words) = terms(left);
+        footings = bits(&t.rule_names, proof.text);
+    }
+    let missing = if it.line.starts_with("(refused 53 ") { state.missing() } else { Vec::new() };
+    let State { vars, defs, goals, facts, lists } = state;
+    let mut cells =
+        vec![t.sorts, t.symbols, t.inputs, t.rules, t.rule_vars, t.patterns, vars, index, words, defs, goals, facts, lists, missing];
+    for (table, shape) in cells.iter_mut().zip(&SHAPES) {
+        assert!(table.len() <= shape.cells, "what stands fits");
+        table.resize(shape.cells, 0);
+    }
+    footings.resize(FOOTINGS.cells, 0);
+    Layout { cells, footings }
+}
