@@ -1,3 +1,5 @@
+pub mod Between
 pub mod Course
 pub mod Finished
+pub mod Lent
 pub mod Run
