@@ -1,5 +1,7 @@
 pub mod Between
+pub mod Checking
 pub mod Course
 pub mod Finished
 pub mod Lent
+pub mod RecordLaws
 pub mod Run

@@ -1,0 +1,1 @@
+-- `running::finish::end` meets its contract. Assumes nothing.
