@@ -1,11 +1,12 @@
--- A whole check over lent tables is what the definition says (`Checked` of rules/specs/StateTables): from what stands when no form is left, what `end`
--- leaves, and the records of facts made blank behind; or from a table that is too short. No word of code. Assumes nothing.
+-- A whole check over lent tables is what the definition says, and its tables can be read back (`Call` of ReadBack): from what stands when no form is left, what
+-- `end` leaves, and the records of facts made blank behind; or from a table that is too short. No word of code. Assumes nothing.
 use mathlib.Core.Path.{_≡_, refl, sym, ap, _∙_, subst}
 use Prim.Native.Nat.{ℕ, zero, suc, _+_, _-_, _*_, _≤_}
 use mathlib.Core.Bool.{true, false, true≢false}
 use mathlib.Core.List.{List, [], _∷_, _++_}
 use native.Mathlib.Omega.{arith}
 use lib.ListN.{length, take, drop, replicate, take-append-drop}
+use lib.Seq.{take-at}
 use Rattle.rules.specs.Limits.{SORTS, SYMBOLS, ARGUMENTS, RULES, RULEVARS, PATTERNS, VARIABLES, TERMS, WORDS, DEFS, GOALS, FACTS, ENTRIES}
 use Rattle.rules.specs.State.{State, goalEntries}
 use Rattle.rules.specs.Check.{Outcome, refusedIn, missing, ended, check}
@@ -18,7 +19,7 @@ use Rattle.terms.specs.Table.{settled}
 use Rattle.terms.specs.Laws.Cells.{words-are, settled-is}
 use Rattle.state.specs.Filled.{filled-front}
 use Rattle.state.specs.FactLaws.{length-fact-cells, length-footing-cells}
-use Rattle.state.specs.Stands.{Board, Leaves, stands-leaves}
+use Rattle.state.specs.Stands.{Board, treesOf, Leaves, stands-leaves}
 use Rattle.facts.specs.declared.Fact.{Fact}
 use Rattle.facts.specs.Table.{zeroed}
 use Rattle.counts.specs.declared.Counts.{Counts}
@@ -29,6 +30,7 @@ use Rattle.running.specs.Run.{unfitRun, roomOf}
 use Rattle.running.specs.Course.{outcomeBy, Over, Course, on, off}
 use Rattle.running.specs.Finished.{Finishes, answerOf, refusalOf}
 use Rattle.running.specs.Lent.{Working, working, theoryFront, boardFront, TheoryBehind, WorkingBehind, factRow, factFoot, factRows, factFeet, Mirrored}
+use Rattle.running.specs.ReadBack.{Read, Call, stands-read}
 use Rattle.running.specs.Between.{Held, AllLong, Ending}
 use Rattle.running.specs.RecordLaws.{zeroed-rows, zeroed-feet}
 
@@ -95,12 +97,16 @@ module _ {T : TheoryLists} {W : Working} {M : List ℕ} {fs : List Fact} where
       }
 
 -- a table is too short: all of them are as they were
-pub checked-unfit : (theory goals proof : List ℕ) {T U : TheoryLists} {W V : Working} {M N : List ℕ} {fs gs : List Fact} {s : Run} {r : Answered} →
-    ¬ (AllLong (length fs) T W M) → U ≡ T → V ≡ W → N ≡ M → gs ≡ fs → s ≡ unfitRun → r ≡ refusalOf s →
-    Checked theory goals proof (tablesOf T W M fs) (tablesOf U V N gs) (answerOf r)
-checked-unfit theory goals proof {T} {U} {W} {V} {M} {N} {fs} {gs} {s} {r} n u v m f e a =
-    subst (λ (x : Answered). Checked theory goals proof (tablesOf T W M fs) (tablesOf U V N gs) (answerOf x)) (sym (a ∙ ap refusalOf e))
-    (tooShort (λ l. n (long-all l)) (λ i. tablesOf (u i) (v i) (m i) (f i)))
+pub call-unfit : (theory goals proof : List ℕ) {T U : TheoryLists} {W Z : Working} {M N : List ℕ} {fs gs : List Fact} {s : Run} {r : Answered} →
+    ¬ (AllLong (length fs) T W M) → U ≡ T → Z ≡ W → N ≡ M → gs ≡ fs → s ≡ unfitRun → r ≡ refusalOf s →
+    Call theory goals proof (tablesOf T W M fs) (tablesOf U Z N gs) (answerOf r)
+call-unfit theory goals proof {T} {U} {W} {Z} {M} {N} {fs} {gs} {s} {r} n u v m f e a =
+    record {
+      checked =
+          subst (λ (x : Answered). Checked theory goals proof (tablesOf T W M fs) (tablesOf U Z N gs) (answerOf x)) (sym (a ∙ ap refusalOf e))
+          (tooShort (λ l. n (long-all l)) (λ i. tablesOf (u i) (v i) (m i) (f i)));
+      read = λ l. absurd (n (long-all l));
+    }
 
 -- What stands at the end -----------------------------------------------------------------------------------------------------------
 
@@ -140,33 +146,64 @@ filled-part n cells before after t d = laid-part n (filled n cells) before after
 front-cells : (N k : ℕ) (cells table : List ℕ) → table ≡ filled N cells → length cells ≡ k → k ≤ N → take k table ≡ cells
 front-cells N k cells table e l m = (λ i. take (sym l i) (e i)) ∙ filled-front N cells (omega (arith, l, m))
 
-module _ {theory goals proof : List ℕ} {U : TheoryLists} {V : Working} {rows feet : List ℕ} {s : Run} {S : State}
-    (o : Over theory goals proof (theoryFront U) (boardFront V rows feet) s S) where
+-- what stands in the named part then
+laid-front-is : {table : List ℕ} (N : ℕ) (cells before : List ℕ) → table ≡ laid (filled N cells) before → take N table ≡ filled N cells
+unfolding laid
+laid-front-is N cells before e =
+    ap (take N) e ∙ take-at (filled N cells) (drop (length (filled N cells)) before) N (length-filled N cells)
+
+module _ {theory goals proof : List ℕ} {U : TheoryLists} {Z : Working} {rows feet : List ℕ} {s : Run} {S : State}
+    (o : Over theory goals proof (theoryFront U) (boardFront Z rows feet) s S) where
   state-is : S ≡ check theory goals proof .state
   state-is = sym (outcome-state (s .number) s S) ∙ ap (λ O. O .state) (o .is)
 
-  leaves : Leaves (boardFront V rows feet) S
+  leaves : Leaves (boardFront Z rows feet) S
   leaves = stands-leaves (o .stands) (words-are (o .stands .good))
 
-  -- the number of facts
-  facts-few : s .sizes .facts ≤ FACTS
-  facts-few = omega (arith, o .stands .recorded .many, o .stands .recorded .rows .row12)
+  -- Facts: ys when no form is left, gs afterwards, fs before
+  module _ {fs ys gs : List Fact} (m : Mirrored (s .sizes .facts) ys rows feet) (d : drop FACTS ys ≡ drop FACTS fs)
+      (z : gs ≡ zeroed ys (s .sizes .facts) FACTS) where
+    rows-laid : factRows gs ≡ laid (filled (6 * FACTS) (factCells (S .made) (goalEntries (S .goals)) (S .facts))) (factRows fs)
+    rows-laid =
+        let cells = factCells (S .made) (goalEntries (S .goals)) (S .facts) in
+        let l : length cells ≡ 6 * s .sizes .facts =
+        omega (arith, length-fact-cells (S .made) (goalEntries (S .goals)) (S .facts), o .stands .recorded .many) in
+        let k = o .stands .recorded .rows .row12 in
+        let n = o .stands .recorded .many in
+        zeroed-rows fs ys gs (s .sizes .facts) FACTS z d cells
+        (m .same-rows ∙ front-cells (6 * FACTS) (6 * s .sizes .facts) cells rows (leaves .facts) l (omega arith)) (omega arith)
 
-  abbrev outcome : Outcome
-  outcome = record { answer = check theory goals proof .answer; state = S }
+    feet-laid : factFeet gs ≡ laid (filled (4 * FACTS) (footingCells (S .facts))) (factFeet fs)
+    feet-laid =
+        let cells = footingCells (S .facts) in
+        let l : length cells ≡ 4 * s .sizes .facts = omega (arith, length-footing-cells (S .facts), o .stands .recorded .many) in
+        let k = o .stands .recorded .rows .row12 in
+        let n = o .stands .recorded .many in
+        zeroed-feet fs ys gs (s .sizes .facts) FACTS z d cells
+        (m .same-feet ∙ front-cells (4 * FACTS) (4 * s .sizes .facts) cells feet (leaves .footings) l (omega arith)) (omega arith)
 
-  module _ {T : TheoryLists} {W : Working} (b : TheoryBehind T U) (w : WorkingBehind W V) where
-    pub laid-all : {index M N : List ℕ} {fs ys gs : List Fact} {r : Answered} →
-        index ≡ settled (take (4 * TERMS) (V .index)) ++ drop (4 * TERMS) (V .index) → Mirrored (s .sizes .facts) ys rows feet → drop FACTS ys ≡ drop FACTS fs →
-        gs ≡ zeroed ys (s .sizes .facts) FACTS → Finishes theory goals proof r (take GOALS N) → drop GOALS N ≡ drop GOALS M →
-        Laid outcome (tablesOf T W M fs) (tablesOf U (withIndex V index) N gs)
-    unfolding sortTable symbolTable inputTable ruleTable ruleVarTable patternTable
-    laid-all {index} {M} {N} {fs} {ys} {gs} {r} i m d z f k =
+  -- the index is settled
+  module _ {index : List ℕ} (i : index ≡ settled (take (4 * TERMS) (Z .index)) ++ drop (4 * TERMS) (Z .index)) where
+    index-laid : {before : List ℕ} → drop (4 * TERMS) (Z .index) ≡ drop (4 * TERMS) before → index ≡ laid (filled (4 * TERMS) (endCells 0 (S .made))) before
+    index-laid {before} e =
+        i ∙ (λ j. (settled-is (o .stands .good) ∙ ap (λ m. filled (4 * TERMS) (endCells 0 m)) (o .stands .store)) j ++ e j)
+        ∙ laid-front (4 * TERMS) (filled (4 * TERMS) (endCells 0 (S .made))) before (length-filled (4 * TERMS) (endCells 0 (S .made)))
+
+    index-front : take (4 * TERMS) index ≡ settled (take (4 * TERMS) (Z .index))
+    index-front =
+        ap (take (4 * TERMS)) i
+        ∙ take-at (settled (take (4 * TERMS) (Z .index))) (drop (4 * TERMS) (Z .index)) (4 * TERMS)
+        (ap length (settled-is (o .stands .good)) ∙ length-filled (4 * TERMS) (endCells 0 (treesOf (boardFront Z rows feet) (s .mark))))
+
+  -- T, W, M, fs: the tables before
+  module _ {T : TheoryLists} {W : Working} {index M N : List ℕ} {fs ys gs : List Fact} {r : Answered} (b : TheoryBehind T U) (w : WorkingBehind W Z)
+      (m : Mirrored (s .sizes .facts) ys rows feet) (d : drop FACTS ys ≡ drop FACTS fs)
+      (i : index ≡ settled (take (4 * TERMS) (Z .index)) ++ drop (4 * TERMS) (Z .index)) (f : Finishes theory goals proof r (take GOALS N))
+      (k : drop GOALS N ≡ drop GOALS M) (z : gs ≡ zeroed ys (s .sizes .facts) FACTS) where
+    laid-all : Laid (record { answer = check theory goals proof .answer; state = S }) (tablesOf T W M fs) (tablesOf U (withIndex Z index) N gs)
+    laid-all =
         let x = tables-exact (S .theory) in
         let p = o .stands .laid in
-        let fc = length-fact-cells (S .made) (goalEntries (S .goals)) (S .facts) in
-        let tc = length-footing-cells (S .facts) in
-        let many = o .stands .recorded .many in
         record {
           sorts = laid-part (2 * SORTS) (sortTable (S .theory)) (T .sorts) (U .sorts) (x .sorts) (ap (λ (t : TheoryLists). t .sorts) p) (b .sorts);
           symbols = laid-part (4 * SYMBOLS) (symbolTable (S .theory)) (T .symbols) (U .symbols) (x .symbols) (ap (λ (t : TheoryLists). t .symbols) p) (b .symbols);
@@ -176,23 +213,14 @@ module _ {theory goals proof : List ℕ} {U : TheoryLists} {V : Working} {rows f
               laid-part (3 * RULEVARS * RULES) (ruleVarTable (S .theory)) (T .ruleVars) (U .ruleVars) (x .ruleVars) (ap (λ (t : TheoryLists). t .ruleVars) p)
               (b .ruleVars);
           patterns = laid-part PATTERNS (patternTable (S .theory)) (T .patterns) (U .patterns) (x .patterns) (ap (λ (t : TheoryLists). t .patterns) p) (b .patterns);
-          vars = filled-part (4 * VARIABLES) (varCells (S .vars)) (W .vars) (V .vars) (leaves .vars) (w .vars);
-          index = i ∙ (λ j. (settled-is (o .stands .good) ∙ ap (λ m. filled (4 * TERMS) (endCells 0 m)) (o .stands .store)) j ++ w .index j)
-              ∙ laid-front (4 * TERMS) (filled (4 * TERMS) (endCells 0 (S .made))) (W .index) (length-filled (4 * TERMS) (endCells 0 (S .made)));
-          words = filled-part WORDS (wordCells (S .made) (S .made)) (W .words) (V .words) (leaves .words) (w .words);
-          defs = filled-part (3 * DEFS) (defCells (S .made) (S .defs)) (W .defs) (V .defs) (leaves .defs) (w .defs);
-          goals = filled-part (6 * GOALS) (goalCells (S .made) 0 (S .goals)) (W .goals) (V .goals) (leaves .goals) (w .goals);
-          facts =
-              zeroed-rows fs ys gs (s .sizes .facts) FACTS z d (factCells (S .made) (goalEntries (S .goals)) (S .facts))
-              (m .rows ∙ front-cells (6 * FACTS) (6 * s .sizes .facts) (factCells (S .made) (goalEntries (S .goals)) (S .facts)) rows (leaves .facts)
-              (omega (arith, fc, many)) (omega (arith, facts-few)))
-              (omega (arith, fc, many, facts-few));
-          footings =
-              zeroed-feet fs ys gs (s .sizes .facts) FACTS z d (footingCells (S .facts))
-              (m .feet ∙ front-cells (4 * FACTS) (4 * s .sizes .facts) (footingCells (S .facts)) feet (leaves .footings)
-              (omega (arith, tc, many)) (omega (arith, facts-few)))
-              (omega (arith, tc, many, facts-few));
-          lists = filled-part ENTRIES (goalList (S .made) (S .goals) ++ factList (S .made) (S .facts)) (W .lists) (V .lists) (leaves .lists) (w .lists);
+          vars = filled-part (4 * VARIABLES) (varCells (S .vars)) (W .vars) (Z .vars) (leaves .vars) (w .vars);
+          index = index-laid i (w .index);
+          words = filled-part WORDS (wordCells (S .made) (S .made)) (W .words) (Z .words) (leaves .words) (w .words);
+          defs = filled-part (3 * DEFS) (defCells (S .made) (S .defs)) (W .defs) (Z .defs) (leaves .defs) (w .defs);
+          goals = filled-part (6 * GOALS) (goalCells (S .made) 0 (S .goals)) (W .goals) (Z .goals) (leaves .goals) (w .goals);
+          facts = rows-laid m d z;
+          footings = feet-laid m d z;
+          lists = filled-part ENTRIES (goalList (S .made) (S .goals) ++ factList (S .made) (S .facts)) (W .lists) (Z .lists) (leaves .lists) (w .lists);
           missing = record {
             named = missingOf (check theory goals proof .answer) S;
             once = record { many = refl; same = λ v. refl };
@@ -201,19 +229,30 @@ module _ {theory goals proof : List ℕ} {U : TheoryLists} {V : Working} {rows f
           };
         }
 
--- T, W, M, fs: the tables before; U, V, ys when no form is left; V with index, N, gs afterwards
-pub checked-fit : {theory goals proof : List ℕ} {T U : TheoryLists} {W V : Working} {rows feet index M N : List ℕ} {fs ys gs : List Fact} {s : Run} {r : Answered} →
-    AllLong (length fs) T W M → TheoryBehind T U → WorkingBehind W V → Held theory goals proof U V rows feet s → s .going ≡ false →
-    Mirrored (s .sizes .facts) ys rows feet → drop FACTS ys ≡ drop FACTS fs → index ≡ settled (take (4 * TERMS) (V .index)) ++ drop (4 * TERMS) (V .index) →
+    pub call-over : AllLong (length fs) T W M → Call theory goals proof (tablesOf T W M fs) (tablesOf U (withIndex Z index) N gs) (answerOf r)
+    call-over a =
+        record {
+          checked =
+              subst (Checked theory goals proof (tablesOf T W M fs) (tablesOf U (withIndex Z index) N gs)) (sym (f .is))
+              (answered (all-long a)
+              (subst
+              (λ (X : State). Laid (record { answer = check theory goals proof .answer; state = X }) (tablesOf T W M fs) (tablesOf U (withIndex Z index) N gs))
+              state-is laid-all));
+          read = λ l.
+              subst (Read (tablesOf U (withIndex Z index) N gs)) state-is
+              (stands-read (tablesOf U (withIndex Z index) N gs) (o .stands) (index-front i) refl refl
+              (laid-front-is (6 * FACTS) (factCells (S .made) (goalEntries (S .goals)) (S .facts)) (factRows fs) (rows-laid m d z) ∙ sym (leaves .facts))
+              (laid-front-is (4 * FACTS) (footingCells (S .facts)) (factFeet fs) (feet-laid m d z) ∙ sym (leaves .footings))
+              refl);
+        }
+
+-- T, W, M, fs: the tables before; U, Z, ys when no form is left; Z with index, N, gs afterwards
+pub call-fit : {theory goals proof : List ℕ} {T U : TheoryLists} {W Z : Working} {rows feet index M N : List ℕ} {fs ys gs : List Fact} {s : Run} {r : Answered} →
+    AllLong (length fs) T W M → TheoryBehind T U → WorkingBehind W Z → Held theory goals proof U Z rows feet s → s .going ≡ false →
+    Mirrored (s .sizes .facts) ys rows feet → drop FACTS ys ≡ drop FACTS fs → index ≡ settled (take (4 * TERMS) (Z .index)) ++ drop (4 * TERMS) (Z .index) →
     Finishes theory goals proof r (take GOALS N) → drop GOALS N ≡ drop GOALS M → gs ≡ zeroed ys (s .sizes .facts) FACTS →
-    Checked theory goals proof (tablesOf T W M fs) (tablesOf U (withIndex V index) N gs) (answerOf r)
-checked-fit {theory} {goals} {proof} {T} {U} {W} {V} {rows} {feet} {index} {M} {N} {fs} {ys} {gs} {s} {r} a b w h e m d i f k z =
-    let o = over-of (h .course) e in
-    subst (Checked theory goals proof (tablesOf T W M fs) (tablesOf U (withIndex V index) N gs)) (sym (f .is))
-    (answered (all-long a)
-    (subst
-    (λ (X : State). Laid (record { answer = check theory goals proof .answer; state = X }) (tablesOf T W M fs) (tablesOf U (withIndex V index) N gs))
-    (state-is o) (laid-all o b w i m d z f k)))
+    Call theory goals proof (tablesOf T W M fs) (tablesOf U (withIndex Z index) N gs) (answerOf r)
+call-fit a b w h e m d i f k z = call-over (over-of (h .course) e) b w m d i f k z a
 
 -- What the parts ask at the end ----------------------------------------------------------------------------------------------------
 

@@ -97,10 +97,10 @@ pub mirrored-next : {n k : ℕ} {fs : List Fact} {table feet table′ feet′ : 
     Mirrored k (appended stored fs n f) table′ feet′
 mirrored-next {n} {k} {fs} {table} {feet} {table′} {feet′} true f m r t s l =
     subst (λ j. Mirrored j (appended true fs n f) table′ feet′) (sym (s .0)) (record {
-      rows = ap factRows (take-appended fs n f (l refl)) ∙ one-behind factRow 6 n f (take n fs) table table′ (m .rows) r (s .1 .0)
+      same-rows = ap factRows (take-appended fs n f (l refl)) ∙ one-behind factRow 6 n f (take n fs) table table′ (m .same-rows) r (s .1 .0)
           ∙ ap (λ j. take j table′) (let z : 6 * suc n ≡ 6 * (n + 1) = omega arith in z);
-      feet = ap factFeet (take-appended fs n f (l refl)) ∙ one-behind factFoot 4 n f (take n fs) feet feet′ (m .feet) t (s .1 .1)
+      same-feet = ap factFeet (take-appended fs n f (l refl)) ∙ one-behind factFoot 4 n f (take n fs) feet feet′ (m .same-feet) t (s .1 .1)
           ∙ ap (λ j. take j feet′) (let z : 4 * suc n ≡ 4 * (n + 1) = omega arith in z);
     })
 mirrored-next {n} {k} {fs} {table} {feet} {table′} {feet′} false f m r t s l =
-    subst (λ j. Mirrored j fs table′ feet′) (sym s) (record { rows = m .rows ∙ sym r; feet = m .feet ∙ sym t })
+    subst (λ j. Mirrored j fs table′ feet′) (sym s) (record { same-rows = m .same-rows ∙ sym r; same-feet = m .same-feet ∙ sym t })
