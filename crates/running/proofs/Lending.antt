@@ -1,7 +1,7 @@
 -- The end over tables as they are lent: their named parts go to `finish_exact`, and what lies behind them stays. Assumes nothing.
 use mathlib.Core.Path.{_≡_, refl, sym, ap, _∙_, subst}
 use Prim.Native.Nat.{ℕ, _*_}
-use mathlib.Core.Bool.{true, false, true≢false}
+use mathlib.Core.Bool.{Bool, true, false, true≢false}
 use mathlib.Core.List.{List, _++_}
 use lib.ListN.{length, take, drop}
 use lib.Seq.{length-take-le, take-at, drop-at}
@@ -46,5 +46,5 @@ module _ {s : Run} {c : Counts} {index words rows M : List ℕ} (g : Ending s c 
       (ap (λ x. x ++ drop (4 * TERMS) index) i) (drop-at list (drop GOALS M) GOALS z)
 
 -- a table is long enough or not
-pub fits-not : {s : Run} {X : Type 0} → s .fit ≡ true → s .fit ≡ false → X
+pub fits-not : {b : Bool} {X : Type 0} → b ≡ true → b ≡ false → X
 fits-not t f = absurd (true≢false (sym t ∙ f))

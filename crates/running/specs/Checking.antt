@@ -60,13 +60,7 @@ withIndex W i = working (W .vars) i (W .words) (W .defs) (W .goals) (W .lists)
 
 -- Question 1 -----------------------------------------------------------------------------------------------------------------------
 
-module _ {T : TheoryLists} {W : Working} {M : List ℕ} {fs : List Fact} where
-  many-rows : length (factRows fs) ≡ 6 * length fs
-  many-rows = length-rows factRow 6 (λ f. refl) fs
-
-  many-feet : length (factFeet fs) ≡ 4 * length fs
-  many-feet = length-rows factFoot 4 (λ f. refl) fs
-
+module _ {T : TheoryLists} {W : Working} {M : List ℕ} (fs : List Fact) where
   pub all-long : AllLong (length fs) T W M → Long (tablesOf T W M fs)
   all-long h =
       record {
@@ -81,8 +75,8 @@ module _ {T : TheoryLists} {W : Working} {M : List ℕ} {fs : List Fact} where
         words = h .working .words;
         defs = h .working .defs;
         goals = h .working .goals;
-        facts = omega (arith, many-rows, h .facts);
-        footings = omega (arith, many-feet, h .facts);
+        facts = omega (arith, length-rows factRow 6 (λ f. refl) fs, h .facts);
+        footings = omega (arith, length-rows factFoot 4 (λ f. refl) fs, h .facts);
         lists = h .working .lists;
         missing = h .missing;
       }
@@ -93,19 +87,19 @@ module _ {T : TheoryLists} {W : Working} {M : List ℕ} {fs : List Fact} where
         theory = record { sorts = h .sorts; symbols = h .symbols; inputs = h .inputs; rules = h .rules; ruleVars = h .ruleVars; patterns = h .patterns };
         working = record { vars = h .vars; index = h .index; words = h .words; defs = h .defs; goals = h .goals; lists = h .lists };
         missing = h .missing;
-        facts = omega (arith, many-rows, h .facts);
+        facts = omega (arith, length-rows factRow 6 (λ f. refl) fs, h .facts);
       }
 
 -- a table is too short: all of them are as they were
-pub call-unfit : (theory goals proof : List ℕ) {T U : TheoryLists} {W Z : Working} {M N : List ℕ} {fs gs : List Fact} {s : Run} {r : Answered} →
+pub call-unfit : (theory goals proof : List ℕ) {T U : TheoryLists} {W Z : Working} {M N : List ℕ} (fs : List Fact) {gs : List Fact} {s : Run} {r : Answered} →
     ¬ (AllLong (length fs) T W M) → U ≡ T → Z ≡ W → N ≡ M → gs ≡ fs → s ≡ unfitRun → r ≡ refusalOf s →
     Call theory goals proof (tablesOf T W M fs) (tablesOf U Z N gs) (answerOf r)
-call-unfit theory goals proof {T} {U} {W} {Z} {M} {N} {fs} {gs} {s} {r} n u v m f e a =
+call-unfit theory goals proof {T} {U} {W} {Z} {M} {N} fs {gs} {s} {r} n u v m f e a =
     record {
       checked =
           subst (λ (x : Answered). Checked theory goals proof (tablesOf T W M fs) (tablesOf U Z N gs) (answerOf x)) (sym (a ∙ ap refusalOf e))
-          (tooShort (λ l. n (long-all l)) (λ i. tablesOf (u i) (v i) (m i) (f i)));
-      read = λ l. absurd (n (long-all l));
+          (tooShort (λ l. n (long-all fs l)) (λ i. tablesOf (u i) (v i) (m i) (f i)));
+      read = λ l. absurd (n (long-all fs l));
     }
 
 -- What stands at the end -----------------------------------------------------------------------------------------------------------
@@ -152,7 +146,7 @@ unfolding laid
 laid-front-is N cells before e =
     ap (take N) e ∙ take-at (filled N cells) (drop (length (filled N cells)) before) N (length-filled N cells)
 
-module _ {theory goals proof : List ℕ} {U : TheoryLists} {Z : Working} {rows feet : List ℕ} {s : Run} {S : State}
+module _ {theory goals proof : List ℕ} (U : TheoryLists) (Z : Working) {rows feet : List ℕ} {s : Run} {S : State}
     (o : Over theory goals proof (theoryFront U) (boardFront Z rows feet) s S) where
   state-is : S ≡ check theory goals proof .state
   state-is = sym (outcome-state (s .number) s S) ∙ ap (λ O. O .state) (o .is)
@@ -161,7 +155,7 @@ module _ {theory goals proof : List ℕ} {U : TheoryLists} {Z : Working} {rows f
   leaves = stands-leaves (o .stands) (words-are (o .stands .good))
 
   -- Facts: ys when no form is left, gs afterwards, fs before
-  module _ {fs ys gs : List Fact} (m : Mirrored (s .sizes .facts) ys rows feet) (d : drop FACTS ys ≡ drop FACTS fs)
+  module _ (fs : List Fact) {ys gs : List Fact} (m : Mirrored (s .sizes .facts) ys rows feet) (d : drop FACTS ys ≡ drop FACTS fs)
       (z : gs ≡ zeroed ys (s .sizes .facts) FACTS) where
     rows-laid : factRows gs ≡ laid (filled (6 * FACTS) (factCells (S .made) (goalEntries (S .goals)) (S .facts))) (factRows fs)
     rows-laid =
@@ -184,8 +178,8 @@ module _ {theory goals proof : List ℕ} {U : TheoryLists} {Z : Working} {rows f
 
   -- the index is settled
   module _ {index : List ℕ} (i : index ≡ settled (take (4 * TERMS) (Z .index)) ++ drop (4 * TERMS) (Z .index)) where
-    index-laid : {before : List ℕ} → drop (4 * TERMS) (Z .index) ≡ drop (4 * TERMS) before → index ≡ laid (filled (4 * TERMS) (endCells 0 (S .made))) before
-    index-laid {before} e =
+    index-laid : (before : List ℕ) → drop (4 * TERMS) (Z .index) ≡ drop (4 * TERMS) before → index ≡ laid (filled (4 * TERMS) (endCells 0 (S .made))) before
+    index-laid before e =
         i ∙ (λ j. (settled-is (o .stands .good) ∙ ap (λ m. filled (4 * TERMS) (endCells 0 m)) (o .stands .store)) j ++ e j)
         ∙ laid-front (4 * TERMS) (filled (4 * TERMS) (endCells 0 (S .made))) before (length-filled (4 * TERMS) (endCells 0 (S .made)))
 
@@ -196,7 +190,7 @@ module _ {theory goals proof : List ℕ} {U : TheoryLists} {Z : Working} {rows f
         (ap length (settled-is (o .stands .good)) ∙ length-filled (4 * TERMS) (endCells 0 (treesOf (boardFront Z rows feet) (s .mark))))
 
   -- T, W, M, fs: the tables before
-  module _ {T : TheoryLists} {W : Working} {index M N : List ℕ} {fs ys gs : List Fact} {r : Answered} (b : TheoryBehind T U) (w : WorkingBehind W Z)
+  module _ {T : TheoryLists} {W : Working} {index M N : List ℕ} (fs : List Fact) {ys gs : List Fact} {r : Answered} (b : TheoryBehind T U) (w : WorkingBehind W Z)
       (m : Mirrored (s .sizes .facts) ys rows feet) (d : drop FACTS ys ≡ drop FACTS fs)
       (i : index ≡ settled (take (4 * TERMS) (Z .index)) ++ drop (4 * TERMS) (Z .index)) (f : Finishes theory goals proof r (take GOALS N))
       (k : drop GOALS N ≡ drop GOALS M) (z : gs ≡ zeroed ys (s .sizes .facts) FACTS) where
@@ -214,12 +208,12 @@ module _ {theory goals proof : List ℕ} {U : TheoryLists} {Z : Working} {rows f
               (b .ruleVars);
           patterns = laid-part PATTERNS (patternTable (S .theory)) (T .patterns) (U .patterns) (x .patterns) (ap (λ (t : TheoryLists). t .patterns) p) (b .patterns);
           vars = filled-part (4 * VARIABLES) (varCells (S .vars)) (W .vars) (Z .vars) (leaves .vars) (w .vars);
-          index = index-laid i (w .index);
+          index = index-laid i (W .index) (w .index);
           words = filled-part WORDS (wordCells (S .made) (S .made)) (W .words) (Z .words) (leaves .words) (w .words);
           defs = filled-part (3 * DEFS) (defCells (S .made) (S .defs)) (W .defs) (Z .defs) (leaves .defs) (w .defs);
           goals = filled-part (6 * GOALS) (goalCells (S .made) 0 (S .goals)) (W .goals) (Z .goals) (leaves .goals) (w .goals);
-          facts = rows-laid m d z;
-          footings = feet-laid m d z;
+          facts = rows-laid fs m d z;
+          footings = feet-laid fs m d z;
           lists = filled-part ENTRIES (goalList (S .made) (S .goals) ++ factList (S .made) (S .facts)) (W .lists) (Z .lists) (leaves .lists) (w .lists);
           missing = record {
             named = missingOf (check theory goals proof .answer) S;
@@ -234,25 +228,25 @@ module _ {theory goals proof : List ℕ} {U : TheoryLists} {Z : Working} {rows f
         record {
           checked =
               subst (Checked theory goals proof (tablesOf T W M fs) (tablesOf U (withIndex Z index) N gs)) (sym (f .is))
-              (answered (all-long a)
+              (answered (all-long fs a)
               (subst
               (λ (X : State). Laid (record { answer = check theory goals proof .answer; state = X }) (tablesOf T W M fs) (tablesOf U (withIndex Z index) N gs))
               state-is laid-all));
           read = λ l.
               subst (Read (tablesOf U (withIndex Z index) N gs)) state-is
               (stands-read (tablesOf U (withIndex Z index) N gs) (o .stands) (index-front i) refl refl
-              (laid-front-is (6 * FACTS) (factCells (S .made) (goalEntries (S .goals)) (S .facts)) (factRows fs) (rows-laid m d z) ∙ sym (leaves .facts))
-              (laid-front-is (4 * FACTS) (footingCells (S .facts)) (factFeet fs) (feet-laid m d z) ∙ sym (leaves .footings))
+              (laid-front-is (6 * FACTS) (factCells (S .made) (goalEntries (S .goals)) (S .facts)) (factRows fs) (rows-laid fs m d z) ∙ sym (leaves .facts))
+              (laid-front-is (4 * FACTS) (footingCells (S .facts)) (factFeet fs) (feet-laid fs m d z) ∙ sym (leaves .footings))
               refl);
         }
 
 -- T, W, M, fs: the tables before; U, Z, ys when no form is left; Z with index, N, gs afterwards
-pub call-fit : {theory goals proof : List ℕ} {T U : TheoryLists} {W Z : Working} {rows feet index M N : List ℕ} {fs ys gs : List Fact} {s : Run} {r : Answered} →
-    AllLong (length fs) T W M → TheoryBehind T U → WorkingBehind W Z → Held theory goals proof U Z rows feet s → s .going ≡ false →
+pub call-fit : {theory goals proof : List ℕ} {T U : TheoryLists} {W Z : Working} {rows feet index M N : List ℕ} (fs : List Fact) {ys gs : List Fact} {s : Run}
+    {r : Answered} → AllLong (length fs) T W M → TheoryBehind T U → WorkingBehind W Z → Held theory goals proof U Z rows feet s → s .going ≡ false →
     Mirrored (s .sizes .facts) ys rows feet → drop FACTS ys ≡ drop FACTS fs → index ≡ settled (take (4 * TERMS) (Z .index)) ++ drop (4 * TERMS) (Z .index) →
     Finishes theory goals proof r (take GOALS N) → drop GOALS N ≡ drop GOALS M → gs ≡ zeroed ys (s .sizes .facts) FACTS →
     Call theory goals proof (tablesOf T W M fs) (tablesOf U (withIndex Z index) N gs) (answerOf r)
-call-fit a b w h e m d i f k z = call-over (over-of (h .course) e) b w m d i f k z a
+call-fit {U = U} {Z = Z} fs a b w h e m d i f k z = call-over U Z (over-of (h .course) e) fs b w m d i f k z a
 
 -- What the parts ask at the end ----------------------------------------------------------------------------------------------------
 

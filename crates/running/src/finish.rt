@@ -139,7 +139,14 @@ pub fn finish_exact(
 }
 
 // The same in tables as they are lent. Where one is too short, the answer is the refusal that is carried on.
-pub fn end(s: Run, c: Counts, index: &mut [u32], words: &[u32], rows: &[u32], missing: &mut [u32]) -> Answer
+pub fn end(
+    s: Run,
+    c: Counts,
+    index: &mut [u32],
+    words: &[u32],
+    rows: &[u32],
+    missing: &mut [u32],
+) -> Answer
     requires { ⌜ (s .fit ≡ true → Ending s c (now index) (now words) (now rows) (now missing)) ⌝ }
     ensures { λ r. ⌜ ((g : Ending s c (now (index .entry)) (now (words .entry)) (now (rows .entry)) (now (missing .entry))) →
         Ended (g .theory) (g .goals) (g .proof) s (now (index .entry)) (now (index .exit)) (now (missing .entry)) (now (missing .exit)) r) ⌝ }
