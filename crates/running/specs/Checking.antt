@@ -190,7 +190,8 @@ module _ {theory goals proof : List ℕ} (U : TheoryLists) (Z : Working) {rows f
         (ap length (settled-is (o .stands .good)) ∙ length-filled (4 * TERMS) (endCells 0 (treesOf (boardFront Z rows feet) (s .mark))))
 
   -- T, W, M, fs: the tables before
-  module _ {T : TheoryLists} {W : Working} {index M N : List ℕ} (fs : List Fact) {ys gs : List Fact} {r : Answered} (b : TheoryBehind T U) (w : WorkingBehind W Z)
+  module _ {T : TheoryLists} {W : Working} {index M N : List ℕ} (fs : List Fact) {ys gs : List Fact} {r : Answered}
+      (b : TheoryBehind T U) (w : WorkingBehind W Z)
       (m : Mirrored (s .sizes .facts) ys rows feet) (d : drop FACTS ys ≡ drop FACTS fs)
       (i : index ≡ settled (take (4 * TERMS) (Z .index)) ++ drop (4 * TERMS) (Z .index)) (f : Finishes theory goals proof r (take GOALS N))
       (k : drop GOALS N ≡ drop GOALS M) (z : gs ≡ zeroed ys (s .sizes .facts) FACTS) where
@@ -199,14 +200,14 @@ module _ {theory goals proof : List ℕ} (U : TheoryLists) (Z : Working) {rows f
         let x = tables-exact (S .theory) in
         let p = o .stands .laid in
         record {
-          sorts = laid-part (2 * SORTS) (sortTable (S .theory)) (T .sorts) (U .sorts) (x .sorts) (ap (λ (t : TheoryLists). t .sorts) p) (b .sorts);
-          symbols = laid-part (4 * SYMBOLS) (symbolTable (S .theory)) (T .symbols) (U .symbols) (x .symbols) (ap (λ (t : TheoryLists). t .symbols) p) (b .symbols);
-          inputs = laid-part (ARGUMENTS * SYMBOLS) (inputTable (S .theory)) (T .inputs) (U .inputs) (x .inputs) (ap (λ (t : TheoryLists). t .inputs) p) (b .inputs);
-          rules = laid-part (6 * RULES) (ruleTable (S .theory)) (T .rules) (U .rules) (x .rules) (ap (λ (t : TheoryLists). t .rules) p) (b .rules);
+          sorts = laid-part (2 * SORTS) (sortTable (S .theory)) (T .sorts) (U .sorts) (x .sorts) (λ j. p j .sorts) (b .sorts);
+          symbols = laid-part (4 * SYMBOLS) (symbolTable (S .theory)) (T .symbols) (U .symbols) (x .symbols) (λ j. p j .symbols) (b .symbols);
+          inputs = laid-part (ARGUMENTS * SYMBOLS) (inputTable (S .theory)) (T .inputs) (U .inputs) (x .inputs) (λ j. p j .inputs) (b .inputs);
+          rules = laid-part (6 * RULES) (ruleTable (S .theory)) (T .rules) (U .rules) (x .rules) (λ j. p j .rules) (b .rules);
           ruleVars =
-              laid-part (3 * RULEVARS * RULES) (ruleVarTable (S .theory)) (T .ruleVars) (U .ruleVars) (x .ruleVars) (ap (λ (t : TheoryLists). t .ruleVars) p)
+              laid-part (3 * RULEVARS * RULES) (ruleVarTable (S .theory)) (T .ruleVars) (U .ruleVars) (x .ruleVars) (λ j. p j .ruleVars)
               (b .ruleVars);
-          patterns = laid-part PATTERNS (patternTable (S .theory)) (T .patterns) (U .patterns) (x .patterns) (ap (λ (t : TheoryLists). t .patterns) p) (b .patterns);
+          patterns = laid-part PATTERNS (patternTable (S .theory)) (T .patterns) (U .patterns) (x .patterns) (λ j. p j .patterns) (b .patterns);
           vars = filled-part (4 * VARIABLES) (varCells (S .vars)) (W .vars) (Z .vars) (leaves .vars) (w .vars);
           index = index-laid i (W .index) (w .index);
           words = filled-part WORDS (wordCells (S .made) (S .made)) (W .words) (Z .words) (leaves .words) (w .words);

@@ -39,7 +39,11 @@ slice-relend-prefix-finish-exact-2 c = (c .before .before .before .before .befor
 
 -- src/finish.rt:156:13
 slice-aggregate-finish-exact-4 : tie.Need-slice-aggregate-finish-exact-4
-slice-aggregate-finish-exact-4 c = sym (length-take-le GOALS ((c .before .before .before .before .before .before .before .before .before .args) .missing .now) ((c .before .before .before .before .before .before .before .before .before .pre) ((c .before .before .before .before .if1) .taken) .missing-long))
+slice-aggregate-finish-exact-4 c =
+    let args = c .before .before .before .before .before .before .before .before .before .args in
+    let pre = c .before .before .before .before .before .before .before .before .before .pre in
+    let if1 = c .before .before .before .before .if1 in
+    sym (length-take-le GOALS (args .missing .now) (pre (if1 .taken) .missing-long))
 
 -- src/finish.rt:150:9
 finish-exact-requires : tie.Need-finish-exact-requires
@@ -55,7 +59,12 @@ same-length-2 c = search needs
 
 -- src/finish.rt:150:9
 returns : tie.Need-returns
-returns c = (λ g. ended-exact g ((c .before .before .before .before .finish-exact) .kept .1 .1 .1 .1 .1 .0) ((c .before .before .before .before .finish-exact) .ensures .0) ((c .before .before .before .before .finish-exact) .ensures .1), λ e. fits-not ((c .before .before .before .before .before .before .before .before .before .if1) .taken) e)
+returns c =
+    let finish-exact = c .before .before .before .before .finish-exact in
+    let if1 = c .before .before .before .before .before .before .before .before .before .if1 in (
+      λ g. ended-exact g (finish-exact .kept .1 .1 .1 .1 .1 .0) (finish-exact .ensures .0) (finish-exact .ensures .1),
+      λ e. fits-not (if1 .taken) e,
+    )
 
 -- src/finish.rt:159:5
 carried-requires : tie.Need-carried-requires
