@@ -13,7 +13,7 @@ A description has a function describe() that gives a dict:
     lent            the module of the laws of a slice that is lent again; localrecord: that of a local record's; localarray: that of a local array's;
                     big: that of large constants
     owns            the names of the locals that are lent, records and arrays, in the order in which they are lent first
-    types           the records by name: struct(name, proofs, specs), enum(..)
+    types           the records by name: struct(name, proofs, specs, the modules inside), enum(..)
     params          (name, kind, type) each; the kind is shr (&[T]), mut (&mut [T]), ref (&mut S) or val
     requires        the function's, over its parameters
     uses            lines that bring in what the texts name
@@ -101,12 +101,12 @@ def number(row, width):
 
 def declared(laws, more):
     """A struct or an enum, by its laws."""
-    def of(name, proofs, specs):
-        a, b = f"{name}T", f"{name}L"
+    def of(name, proofs, specs, inside=""):
+        a, b, path = f"{name}T", f"{name}L", inside + name
         both = f"{a}.the-type {b}.the-laws"
         return Type(f"{a}.the-row", name, f"({laws}.vals {both})", f"({laws}.tells {both})", f"({laws}.makes {a}.the-type {b}.the-plain 𝓤 H A)",
                     f"{laws}.lawful {both} 𝓤 H A W{more}", f"({laws}.copy {a}.the-type {b}.the-copy 𝓤 H A W)", lambda x: f"({laws}.val {both} {x})",
-                    [f"use {specs}.declared.{name}.{{{name}}}", f"use {proofs}.{name} as {a}", f"use {proofs}.{name}.Laws as {b}"])
+                    [f"use {specs}.declared.{path}.{{{name}}}", f"use {proofs}.{path} as {a}", f"use {proofs}.{path}.Laws as {b}"])
     return of
 
 
