@@ -1,5 +1,5 @@
 -- The first text that fails a test, and what the definition answers by questions 2 and 3. Assumes nothing.
-use mathlib.Core.Path.{_≡_, refl, sym, ap, _∙_}
+use mathlib.Core.Path.{_≡_, refl, sym, ap, _∙_, subst}
 use mathlib.Core.Bool.{Bool, true, false}
 use mathlib.Core.List.{List}
 use Prim.Native.Nat.{ℕ, zero, suc, _≤_}
@@ -10,7 +10,9 @@ use Rattle.rules.specs.Limits.{LENGTH}
 use Rattle.rules.specs.Text.{short, plain}
 use Rattle.rules.specs.Check.{firstFailing, readable, fitting, check}
 use Rattle.kernel.specs.Parsed.{verdict}
-use Rattle.beginning.specs.Asking.{Plain, LeftIn}
+use Rattle.beginning.specs.Asking.{Plain, LeftIn, AskedAs}
+use Rattle.beginning.specs.declared.texts.Asked.{Asked}
+use Rattle.beginning.specs.declared.texts.Asked.the-variants as asked
 
 -- The first that fails ---------------------------------------------------------------------------------------------------------------
 
@@ -72,3 +74,12 @@ module _ {t g f : List ℕ} where
           short-proof = short-text f (s .2);
           is = ap (readable t g f) (sym y ∙ a) ∙ ap (fitting t g f) (sym z ∙ e);
         }
+
+-- The answer ---------------------------------------------------------------------------------------------------------------------------
+
+module _ {t g f : List ℕ} {r : Asked} (a : AskedAs t g f r) where
+  pub asked-left : {q k : ℕ} → r ≡ asked.Left q k → LeftIn t g f q k
+  asked-left e = subst (AskedAs t g f) e a
+
+  pub asked-nothing : r ≡ asked.Nothing → Plain t g f
+  asked-nothing e = subst (AskedAs t g f) e a

@@ -90,9 +90,9 @@ working-cleared W x a b c d e f p q r s u v =
 pub missing-cleared : {M y : List ℕ} → length M ≡ GOALS → y ≡ replicate (length M) 0 → y ≡ replicate GOALS 0
 missing-cleared l e = zeros-of GOALS e l
 
-pub opening : {T : TheoryLists} {W : Working} {M facts footings cells : List ℕ} (h : Lending T W M facts footings cells) (V : Working) → V ≡ noWorking →
-    Opening T (board (V .vars) (V .index) (V .words) (V .defs) (V .goals) facts footings (V .lists)) cells
-opening h V w =
+pub opening : {T : TheoryLists} {W : Working} {M facts footings cells : List ℕ} (h : Lending T W M facts footings cells) (U : Working) → U ≡ noWorking →
+    Opening T (board (U .vars) (U .index) (U .words) (U .defs) (U .goals) facts footings (U .lists)) cells
+opening h U w =
     record {
       theory = h .theory;
       none = λ i. board (w i .vars) (w i .index) (w i .words) (w i .defs) (w i .goals) (h .facts-zero i) (h .footings-zero i) (w i .lists);

@@ -1,10 +1,12 @@
 -- Lengths tested one after the other. Assumes nothing.
-use mathlib.Core.Path.{_≡_, subst}
+use mathlib.Core.Path.{_≡_}
 use mathlib.Core.Bool.{Bool, true, false}
 use mathlib.Core.List.{List}
 use Prim.Native.Nat.{ℕ, _<_, _≤_}
 use native.Mathlib.Omega.{arith}
 use lib.ListN.{length}
+use Rattle.rules.specs.Limits.{GOALS, FACTS}
+use Rattle.sexp.specs.Never.{never}
 use Rattle.kernel.specs.Parsed.{TheoryLists}
 use Rattle.running.specs.Lent.{Working}
 use Rattle.running.specs.Between.{AllLong}
@@ -13,21 +15,17 @@ use Rattle.beginning.specs.Lengths.{Decides, TheoryFits, WorkingFits, Fi
 pub short-of : {n k : ℕ} → n < k → k ≤ n → ⊥
 short-of h l = omega arith
 
-pub long-of : {n k : ℕ} → (n < k → ⊥) → k ≤ n
-long-of h = omega arith
+pub says-no : {A : Type 0} → (A → ⊥) → Decides false A
+says-no n = record { yes = λ e. never cc; no = λ e. n }
 
-module _ {A : Type 0} {b : Bool} (d : Decides b A) where
-  pub decided : b ≡ true → A
-  decided e = subst (λ z. Decides z A) e d
-
-  pub denied : b ≡ false → A → ⊥
-  denied e = subst (λ z. Decides z A) e d
+pub says-yes : {A : Type 0} → A → Decides true A
+says-yes a = record { yes = λ e. a; no = λ e. never cc }
 
 -- the tests that are left decide
-pub fits-rest : {a b c d e f g h i j k l m n : ℕ} {r : Bool} → TheoryFits a b c d e f → (m < 128 → ⊥) → (n < 1024 → ⊥) → Decides r (WorkingFits g h i j k l) →
+pub fits-rest : {a b c d e f g h i j k l m n : ℕ} {r : Bool} → GOALS ≤ m → FACTS ≤ n → TheoryFits a b c d e f → Decides r (WorkingFits g h i j k l) →
     Decides r (Fits a b c d e f g h i j k l m n)
-fits-rest {r = true} t m n w = record { theory = t; working = w; missing = long-of m; facts = long-of n }
-fits-rest {r = false} t m n w = λ z. w (z .working)
+fits-rest m n t w =
+    record { yes = λ q. record { theory = t; working = w .yes q; missing = m; facts = n }; no = λ q z. w .no q (z .working) }
 
 -- Question 1, by the lengths of the tables -----------------------------------------------------------------------------------------
 

@@ -15,7 +15,7 @@ use Rattle.rules.specs.Forms.{takeGoal, takeForm}
 use Rattle.rules.specs.Check.{Outcome, refusedIn, afterProof, afterGoals, afterTheory, check}
 use Rattle.sexp.specs.ReadLaws.{read-first}
 use Rattle.sexp.specs.Through.{Legible}
-use Rattle.kernel.specs.Parsed.{TheoryLists, judgedOf, theoryOf, verdict, theoryTables, LaidHeld}
+use Rattle.kernel.specs.Parsed.{TheoryLists, Exact, countsOf, judgedOf, theoryOf, verdict, theoryTables, LaidHeld}
 use Rattle.kernel.specs.Layout.{verdict-formed, judged-done, judged-refused}
 use Rattle.kernel.specs.declared.parse.Counts.{Counts}
 use Rattle.kernel.specs.declared.parse.Judged.{Judged as Answer}
@@ -31,6 +31,16 @@ use Rattle.beginning.specs.Lengths.{theorySizes}
 use Rattle.beginning.specs.Posed.{theoryIn, Posing, Fresh, behindGoals, Posed}
 use Rattle.beginning.specs.Opened.{noBoard, Opening, Opened}
 use Rattle.beginning.proofs.Blank.{theory-stands, nothing-stands}
+
+-- What the theory is given -------------------------------------------------------------------------------------------------------------
+
+legible : {text cells : List ℕ} → length text ≤ LENGTH → cells ≡ replicate LENGTH 0 → Legible text cells
+legible h z =
+    let l = ap length z ∙ length-replicate {A = ℕ} LENGTH 0 in
+    record { short = h; fits = omega (arith, l, h); clear = z ∙ ap (λ n. replicate n 0) (sym l) }
+
+pub theory-given : {theory goals proof cells : List ℕ} {T : TheoryLists} {B : Board} → Opening T B cells → Plain theory goals proof → Legible theory cells × Exact T
+theory-given o p = (legible (p .short-theory) (o .cells-zero), o .theory)
 
 -- A question is left -----------------------------------------------------------------------------------------------------------------
 
@@ -57,7 +67,7 @@ module _ {theory goals proof : List ℕ} {T : TheoryLists} {B : Board} where
   -- those put to the theory
   module _ {cells : List ℕ} {T₀ : TheoryLists} (o : Opening T₀ B cells) (p : Plain theory goals proof) (a : Answer) (j : a ≡ judgedOf (verdict theory))
       (t : T ≡ theoryTables (theoryIn theory)) (h : LaidHeld theory (theoryIn theory)) where
-    stands : {n : Sizes} {c : Counts} → n ≡ theorySizes c → c ≡ _ → Stands (texts theory goals goals) T B n noMark (begin (theoryIn theory))
+    stands : {n : Sizes} {c : Counts} → n ≡ theorySizes c → c ≡ countsOf (theoryIn theory) → Stands (texts theory goals goals) T B n noMark (begin (theoryIn theory))
     stands = theory-stands (verdict-formed theory) h (p .short-goals) t (o .none)
 
     pub theory-left : {q d k : ℕ} {c : Counts} → a ≡ Refused q d k c → {n : Sizes} → n ≡ theorySizes c → {r : Run} → r ≡ stoppedRun n noMark q 1 k d →
@@ -68,17 +78,8 @@ module _ {theory goals proof : List ℕ} {T : TheoryLists} {B : Board} where
         stops (stands s (v .1)) refl refl 1 (λ z. omega arith) (ap (afterTheory goals proof) (sym (v .0)) ∙ p .is) b
 
     pub goals-given : {k : ℕ} {c : Counts} → a ≡ Done k c → {n : Sizes} → n ≡ theorySizes c → {w : List ℕ} → w ≡ cells → Posing theory goals T B n w
-    goals-given f s {w} e =
-        let z = e ∙ o .cells-zero in
-        let l = ap length z ∙ length-replicate {A = ℕ} LENGTH 0 in
-        record {
-          stands = stands s (judged-done a (verdict theory) j f .1);
-          legible = record {
-            short = p .short-goals;
-            fits = omega (arith, l, p .short-goals);
-            clear = z ∙ ap (λ n. replicate n 0) (sym l);
-          };
-        }
+    goals-given f s e =
+        record { stands = stands s (judged-done a (verdict theory) j f .1); legible = legible (p .short-goals) (e ∙ o .cells-zero) }
 
     -- what the definition says of the goals decides
     pub goals-next : {k : ℕ} {c : Counts} → a ≡ Done k c → afterGoals proof (whole takeGoal (read goals) (begin (theoryIn theory))) ≡ check theory goals proof

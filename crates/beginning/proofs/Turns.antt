@@ -1,7 +1,9 @@
 -- What is held while the loop of `take_goals` goes through the goals (sexp/specs/Through), and what `read_all` says before. Assumes nothing.
 use mathlib.Core.Path.{_≡_, refl, sym, ap, _∙_, subst}
 use mathlib.Core.List.{List, _++_, append-nil}
+use mathlib.Core.Bool.{Bool, true, false}
 use Prim.Native.Nat.{ℕ, _+_, _*_}
+use borrow.Author.Tests.{eq-eqb, ne-eqb}
 use lib.ListN.{length, take, drop, replicate}
 use Rattle.rules.specs.Limits.{VARIABLES, DEFS, GOALS, ENTRIES}
 use Rattle.rules.specs.Sexp.{read}
@@ -33,7 +35,7 @@ use Rattle.taking.specs.declared.take.Taken.{Taken}
 use Rattle.taking.specs.declared.take.Taken.the-variants as taken-as
 use Rattle.taking.specs.Taking.{TakesGoal, Refuses, TakenAs}
 use Rattle.running.specs.declared.run.Run.{Run}
-use Rattle.running.specs.Run.{noMark, stoppedRun}
+use Rattle.running.specs.Run.{noMark, stoppedRun, startedRun}
 use Rattle.running.specs.Lent.{Working, working}
 use Rattle.beginning.specs.Lengths.{ExactWorking}
 use Rattle.beginning.specs.Posed.{theoryIn, Posing, Fresh, behindGoals, posedRun, stateIn, Posed}
@@ -64,6 +66,17 @@ module _ {theory goals : List ℕ} {T : TheoryLists} {B : Board} {n : Sizes} {m 
 
   posed-refused : {q d k : ℕ} → J ≡ refused q d k S → r ≡ stoppedRun n m q 2 k d → Posed theory goals T B J r
   posed-refused e q = subst (λ I. Posed theory goals T B I r) (sym e) (record { n = n; m = m; is = q; stands = h; fresh = f })
+
+-- question 25
+module _ {n : Sizes} {m : Mark} {k : ℕ} {r : Run} where
+  abbrev run : Bool → Run
+  run b = elim b [ true ↦ stoppedRun n m 25 2 k 0 | false ↦ startedRun n m ]
+
+  pub no-goals : n .goals ≡ 0 → r ≡ stoppedRun n m 25 2 k 0 → r ≡ behindGoals n m k
+  no-goals z e = e ∙ sym (ap run (eq-eqb (n .goals) 0 z))
+
+  pub some-goals : (n .goals ≡ 0 → ⊥) → r ≡ startedRun n m → r ≡ behindGoals n m k
+  some-goals z e = e ∙ sym (ap run (ne-eqb (n .goals) 0 z))
 
 -- The loop -----------------------------------------------------------------------------------------------------------------------------
 

@@ -11,9 +11,9 @@ use Rattle.running.specs.Lent.{Working, working}
 -- Question 1 -----------------------------------------------------------------------------------------------------------------------
 
 -- a test says whether A
-abbrev pub Decides : Bool → Type 0 → Type 0
-Decides true A = A
-Decides false A = A → ⊥
+pub record Decides (b : Bool) (A : Type 0) : Type 0 where
+  pub yes : (b ≡ true → A)
+  pub no : (b ≡ false → A → ⊥)
 
 -- the lengths of the tables of a theory
 pub record TheoryFits (a b c d e f : ℕ) : Type 0 where

@@ -51,7 +51,16 @@ fn judge(
     ensures { λ r. ⌜ Opened (now (theory .entry)) (now (goals .entry)) (now (proof .entry)) (theoryLists (now (sorts .exit)) (now (symbols .exit)) (now (inputs .exit)) (now (rules .exit)) (now (rulevars .exit)) (now (patterns .exit))) (board (now (vars .exit)) (now (index .exit)) (now (words .exit)) (now (defs .exit)) (now (rows .exit)) (now (facts .entry)) (now (footings .entry)) (now (lists .exit))) r ⌝ }
     ensures { λ _. ⌜ now (cells .exit) ≡ now (cells .entry) ⌝ }
 {
-    match parse_exact(theory, cells, sorts, symbols, inputs, rules, rulevars, patterns) {
+    match parse_exact(
+        theory,
+        cells,
+        sorts,
+        symbols,
+        inputs,
+        rules,
+        rulevars,
+        patterns,
+    ) {
         Judged::Refused(number, detail, form, held) => stopped(
             theory_sizes(held),
             Mark { terms: 0, words: 0 },
@@ -61,7 +70,24 @@ fn judge(
             detail,
         ),
         Judged::Done(_, held) => pose(
-            theory, goals, sorts, symbols, inputs, rules, rulevars, patterns, vars, index, words, defs, rows, lists, facts, footings, cells, theory_sizes(held),
+            theory,
+            goals,
+            sorts,
+            symbols,
+            inputs,
+            rules,
+            rulevars,
+            patterns,
+            vars,
+            index,
+            words,
+            defs,
+            rows,
+            lists,
+            facts,
+            footings,
+            cells,
+            theory_sizes(held),
         ),
     }
 }
@@ -97,7 +123,24 @@ fn ask_and_judge(
             stopped(no_sizes(), Mark { terms: 0, words: 0 }, number, text, 0, 0)
         }
         Asked::Nothing => judge(
-            theory, goals, proof, sorts, symbols, inputs, rules, rulevars, patterns, vars, index, words, defs, rows, lists, facts, footings, cells,
+            theory,
+            goals,
+            proof,
+            sorts,
+            symbols,
+            inputs,
+            rules,
+            rulevars,
+            patterns,
+            vars,
+            index,
+            words,
+            defs,
+            rows,
+            lists,
+            facts,
+            footings,
+            cells,
         ),
     }
 }
@@ -131,7 +174,24 @@ fn begin_exact(
 {
     clear_working(vars, index, words, defs, rows, lists, missing);
     ask_and_judge(
-        theory, goals, proof, sorts, symbols, inputs, rules, rulevars, patterns, vars, index, words, defs, rows, lists, facts, footings, cells,
+        theory,
+        goals,
+        proof,
+        sorts,
+        symbols,
+        inputs,
+        rules,
+        rulevars,
+        patterns,
+        vars,
+        index,
+        words,
+        defs,
+        rows,
+        lists,
+        facts,
+        footings,
+        cells,
     )
 }
 
@@ -164,10 +224,25 @@ pub fn begin(
     ensures { λ _. ⌜ now (cells .exit) ≡ now (cells .entry) ⌝ }
 {
     if fits(
-        sorts.len(), symbols.len(), inputs.len(), rules.len(), rulevars.len(), patterns.len(), vars.len(), index.len(), words.len(), defs.len(), rows.len(), lists.len(), missing.len(), room,
+        sorts.len(),
+        symbols.len(),
+        inputs.len(),
+        rules.len(),
+        rulevars.len(),
+        patterns.len(),
+        vars.len(),
+        index.len(),
+        words.len(),
+        defs.len(),
+        rows.len(),
+        lists.len(),
+        missing.len(),
+        room,
     ) {
         return begin_exact(
-            theory, goals, proof,
+            theory,
+            goals,
+            proof,
             &mut sorts[..2 * rules::SORTS],
             &mut symbols[..4 * rules::SYMBOLS],
             &mut inputs[..rules::ARGUMENTS * rules::SYMBOLS],
@@ -181,7 +256,9 @@ pub fn begin(
             &mut rows[..6 * rules::GOALS],
             &mut lists[..rules::ENTRIES],
             &mut missing[..rules::GOALS],
-            facts, footings, cells,
+            facts,
+            footings,
+            cells,
         );
     }
     unfit()

@@ -137,8 +137,24 @@ pub fn pose(
             stopped(first, Mark { terms: 0, words: 0 }, number, 2, forms, 0)
         }
         Whole::Forms(_) => take_goals(
-            theory, goals, sorts, symbols, inputs, rules, rulevars, patterns, vars, index, words,
-            defs, rows, lists, facts, footings, cells, first,
+            theory,
+            goals,
+            sorts,
+            symbols,
+            inputs,
+            rules,
+            rulevars,
+            patterns,
+            vars,
+            index,
+            words,
+            defs,
+            rows,
+            lists,
+            facts,
+            footings,
+            cells,
+            first,
         ),
     }
 }

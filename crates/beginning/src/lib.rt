@@ -1,6 +1,6 @@
 // The beginning of a check, up to the first form of the proof: are the tables long enough, may the texts be read, what does the theory declare, what do
 // the goals say.
 pub mod begin;
-pub mod goals;
-pub mod tables;
-pub mod texts;
+mod goals;
+mod tables;
+mod texts;
