@@ -119,7 +119,7 @@ pub fn finish_exact(
         list_missing(rows, n.goals, missing);
         return carried(s);
     }
-    if s.text != 0 {
+    if s.number != 0 {
         return carried(s);
     }
     let many = list_missing(rows, n.goals, missing);

@@ -16,7 +16,7 @@ pub struct Run {
     // what is used of the tables and of the store
     pub sizes: Sizes,
     pub mark: Mark,
-    // the refusal: its number, its text, 0 for none, the forms before it in that text, its detail
+    // the refusal: its number, 0 for none, its text, the forms before it in that text, its detail
     pub number: usize,
     pub text: usize,
     pub form: usize,
