@@ -54,7 +54,7 @@ module _ {theory goals proof : List ℕ} {T : TheoryLists} {B : Board} where
       (record {
         S = S;
         fit = refl;
-        course = off (record { over = refl; X = X; stands = h; is = e; none = λ y. absurd (z y); few = omega arith });
+        course = off (record { over = refl; X = X; stands = h; is = e; few = omega arith });
         counts = c;
         facts = h .recorded .many ∙ ap length f;
       })
