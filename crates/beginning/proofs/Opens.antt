@@ -31,6 +31,11 @@ use Rattle.beginning.specs.Lengths.{theorySizes}
 use Rattle.beginning.specs.Posed.{theoryIn, Posing, Fresh, behindGoals, Posed}
 use Rattle.beginning.specs.Opened.{noBoard, Opening, Opened}
 use Rattle.beginning.proofs.Blank.{theory-stands, nothing-stands}
+use Rattle.beginning.proofs.Turns.{runOf}
+
+-- what follows question 25
+abbrev outcomeOf : List ℕ → ℕ → State → Bool → Outcome
+outcomeOf proof k S b = elim b [ true ↦ refusedIn 2 25 0 k S | false ↦ afterProof (through takeForm (read proof) 0 S) ]
 
 -- What the theory is given -------------------------------------------------------------------------------------------------------------
 
@@ -107,22 +112,18 @@ module _ {theory goals proof : List ℕ} {T : TheoryLists} {B : Board} where
         facts = h .recorded .many ∙ ap length (f .facts);
       })
 
+  -- question 25 decides
   pub goals-opened : (J : Judged State) {r : Run} → Posed theory goals T B J r → afterGoals proof J ≡ check theory goals proof → length proof ≤ LENGTH →
       Opened theory goals proof T B r
   unfolding afterGoals
   goals-opened (refused q d k S) p e l = stops (p .stands) (p .fresh .counts) (p .fresh .facts) 2 (λ z. omega arith) e (p .is)
   goals-opened (done k S) {r} p e l = go (eqb (length (S .goals)) 0) refl
     where
-      many : eqb (length (S .goals)) 0 ≡ eqb (p .n .goals) 0
-      many = ap (λ n. eqb n 0) (p .stands .goals .many)
-
-      after : Bool → Outcome
-      after b = elim b [ true ↦ refusedIn 2 25 0 k S | false ↦ afterProof (through takeForm (read proof) 0 S) ]
-
-      run : Bool → Run
-      run b = elim b [ true ↦ stoppedRun (p .n) (p .m) 25 2 k 0 | false ↦ startedRun (p .n) (p .m) ]
+      many : eqb (p .n .goals) 0 ≡ eqb (length (S .goals)) 0
+      many = ap (λ n. eqb n 0) (sym (p .stands .goals .many))
 
       go : (b : Bool) → eqb (length (S .goals)) 0 ≡ b → Opened theory goals proof T B r
       go true h =
-          stops (p .stands) (p .fresh .counts) (p .fresh .facts) 2 (λ z. omega arith) (sym (ap after h) ∙ e) (p .is ∙ ap run (sym many ∙ h))
-      go false h = starts (p .stands) (p .fresh) l (sym (ap after h) ∙ e) (p .is ∙ ap run (sym many ∙ h))
+          stops (p .stands) (p .fresh .counts) (p .fresh .facts) 2 (λ z. omega arith) (sym (ap (outcomeOf proof k S) h) ∙ e)
+          (p .is ∙ ap (runOf (p .n) (p .m) k) (many ∙ h))
+      go false h = starts (p .stands) (p .fresh) l (sym (ap (outcomeOf proof k S) h) ∙ e) (p .is ∙ ap (runOf (p .n) (p .m) k) (many ∙ h))

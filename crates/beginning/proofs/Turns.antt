@@ -68,15 +68,15 @@ module _ {theory goals : List ℕ} {T : TheoryLists} {B : Board} {n : Sizes} {m 
   posed-refused e q = subst (λ I. Posed theory goals T B I r) (sym e) (record { n = n; m = m; is = q; stands = h; fresh = f })
 
 -- question 25
-module _ {n : Sizes} {m : Mark} {k : ℕ} {r : Run} where
-  abbrev run : Bool → Run
-  run b = elim b [ true ↦ stoppedRun n m 25 2 k 0 | false ↦ startedRun n m ]
+abbrev pub runOf : Sizes → Mark → ℕ → Bool → Run
+runOf n m k b = elim b [ true ↦ stoppedRun n m 25 2 k 0 | false ↦ startedRun n m ]
 
+module _ {n : Sizes} {m : Mark} {k : ℕ} {r : Run} where
   pub no-goals : n .goals ≡ 0 → r ≡ stoppedRun n m 25 2 k 0 → r ≡ behindGoals n m k
-  no-goals z e = e ∙ sym (ap run (eq-eqb (n .goals) 0 z))
+  no-goals z e = e ∙ sym (ap (runOf n m k) (eq-eqb (n .goals) 0 z))
 
   pub some-goals : (n .goals ≡ 0 → ⊥) → r ≡ startedRun n m → r ≡ behindGoals n m k
-  some-goals z e = e ∙ sym (ap run (ne-eqb (n .goals) 0 z))
+  some-goals z e = e ∙ sym (ap (runOf n m k) (ne-eqb (n .goals) 0 z))
 
 -- The loop -----------------------------------------------------------------------------------------------------------------------------
 

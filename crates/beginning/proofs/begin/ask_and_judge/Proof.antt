@@ -1,0 +1,1 @@
+-- `beginning::begin::ask_and_judge`

@@ -1,0 +1,1 @@
+-- `beginning::goals::behind_goals`

@@ -1,0 +1,1 @@
+-- `beginning::goals::take_goals`

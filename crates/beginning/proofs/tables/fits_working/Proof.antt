@@ -1,0 +1,1 @@
+-- `beginning::tables::fits_working`

@@ -1,0 +1,1 @@
+-- `beginning::texts::first_odd`
