@@ -25,7 +25,7 @@ all-true true true false e = absurd (omega arith)
 all-true true false z e = absurd (omega arith)
 all-true false y z e = absurd (omega arith)
 
-module _ {p : List ℕ → Bool} {t g f : List ℕ} where
+module _ (p : List ℕ → Bool) (t g f : List ℕ) where
   pub fails-1 : p t ≡ false → 1 ≡ firstFailing p t g f
   unfolding firstFailing
   fails-1 a = sym (ap (λ x. firstOf x (p g) (p f)) a)
@@ -67,7 +67,7 @@ module _ {t g f : List ℕ} where
     pub none-left : {k : ℕ} → k ≡ firstFailing plain t g f → k ≡ 0 → Plain t g f
     unfolding check fitting readable verdict
     none-left a y =
-        let s = none-fails (sym e ∙ z) in
+        let s = none-fails short t g f (sym e ∙ z) in
         record {
           short-theory = short-text t (s .0);
           short-goals = short-text g (s .1);

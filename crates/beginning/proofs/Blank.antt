@@ -87,8 +87,8 @@ working-cleared W x a b c d e f p q r s u v =
     λ i. working (zeros-of (4 * VARIABLES) p (x .vars) i) (zeros-of (4 * TERMS) q (x .index) i) (zeros-of WORDS r (x .words) i)
     (zeros-of (3 * DEFS) s (x .defs) i) (zeros-of (6 * GOALS) u (x .goals) i) (zeros-of ENTRIES v (x .lists) i)
 
-pub missing-cleared : {M y : List ℕ} → length M ≡ GOALS → y ≡ replicate (length M) 0 → y ≡ replicate GOALS 0
-missing-cleared l e = zeros-of GOALS e l
+pub missing-cleared : (M : List ℕ) {y : List ℕ} → length M ≡ GOALS → y ≡ replicate (length M) 0 → y ≡ replicate GOALS 0
+missing-cleared M l e = zeros-of GOALS e l
 
 pub opening : {T : TheoryLists} {W : Working} {M facts footings cells : List ℕ} (h : Lending T W M facts footings cells) (U : Working) → U ≡ noWorking →
     Opening T (board (U .vars) (U .index) (U .words) (U .defs) (U .goals) facts footings (U .lists)) cells

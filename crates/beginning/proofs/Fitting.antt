@@ -29,7 +29,7 @@ fits-rest m n t w =
 
 -- Question 1, by the lengths of the tables -----------------------------------------------------------------------------------------
 
-module _ {room : ℕ} (T : TheoryLists) (W : Working) (M : List ℕ) where
+module _ (room : ℕ) (T : TheoryLists) (W : Working) (M : List ℕ) where
   abbrev pub LengthsFit : Type 0
   LengthsFit =
       Fits (length (T .sorts)) (length (T .symbols)) (length (T .inputs)) (length (T .rules)) (length (T .ruleVars)) (length (T .patterns)) (length (W .vars))

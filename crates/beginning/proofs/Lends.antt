@@ -27,9 +27,9 @@ part-long n l h = sym (length-take-le n l h)
 pub still-long : (n : ℕ) (y l : List ℕ) → n ≤ length l → length y ≡ length (take n l) → length (y ++ drop n l) ≡ length l
 still-long n y l h e = omega (arith, length-append y (drop n l), e, length-take-le n l h, length-drop n l)
 
-module _ {n : ℕ} {y : List ℕ} (l : List ℕ) (e : length y ≡ n) where
-  front-is : take n (y ++ drop n l) ≡ y
-  front-is = take-at y (drop n l) n e
+module _ {n : ℕ} (y l : List ℕ) (e : length y ≡ n) where
+  front-is : y ≡ take n (y ++ drop n l)
+  front-is = sym (take-at y (drop n l) n e)
 
   behind-is : drop n (y ++ drop n l) ≡ drop n l
   behind-is = drop-at y (drop n l) n e
@@ -97,57 +97,57 @@ workingNow D W =
 module _ {Y : TheoryLists} (T : TheoryLists) (x : Exact Y) where
   theory-front : Y ≡ theoryFront (theoryNow Y T)
   theory-front =
-      λ i. theoryLists (sym (front-is (T .sorts) (x .sorts)) i) (sym (front-is (T .symbols) (x .symbols)) i) (sym (front-is (T .inputs) (x .inputs)) i)
-      (sym (front-is (T .rules) (x .rules)) i) (sym (front-is (T .ruleVars) (x .ruleVars)) i) (sym (front-is (T .patterns) (x .patterns)) i)
+      λ i. theoryLists (front-is (Y .sorts) (T .sorts) (x .sorts) i) (front-is (Y .symbols) (T .symbols) (x .symbols) i) (front-is (Y .inputs) (T .inputs) (x .inputs) i)
+      (front-is (Y .rules) (T .rules) (x .rules) i) (front-is (Y .ruleVars) (T .ruleVars) (x .ruleVars) i) (front-is (Y .patterns) (T .patterns) (x .patterns) i)
 
   theory-roomy : Roomy (theoryNow Y T)
   theory-roomy =
       record {
-        sorts = front-long (T .sorts) (x .sorts);
-        symbols = front-long (T .symbols) (x .symbols);
-        inputs = front-long (T .inputs) (x .inputs);
-        rules = front-long (T .rules) (x .rules);
-        ruleVars = front-long (T .ruleVars) (x .ruleVars);
-        patterns = front-long (T .patterns) (x .patterns);
+        sorts = front-long (Y .sorts) (T .sorts) (x .sorts);
+        symbols = front-long (Y .symbols) (T .symbols) (x .symbols);
+        inputs = front-long (Y .inputs) (T .inputs) (x .inputs);
+        rules = front-long (Y .rules) (T .rules) (x .rules);
+        ruleVars = front-long (Y .ruleVars) (T .ruleVars) (x .ruleVars);
+        patterns = front-long (Y .patterns) (T .patterns) (x .patterns);
       }
 
   theory-behind : TheoryBehind T (theoryNow Y T)
   theory-behind =
       record {
-        sorts = behind-is (T .sorts) (x .sorts);
-        symbols = behind-is (T .symbols) (x .symbols);
-        inputs = behind-is (T .inputs) (x .inputs);
-        rules = behind-is (T .rules) (x .rules);
-        ruleVars = behind-is (T .ruleVars) (x .ruleVars);
-        patterns = behind-is (T .patterns) (x .patterns);
+        sorts = behind-is (Y .sorts) (T .sorts) (x .sorts);
+        symbols = behind-is (Y .symbols) (T .symbols) (x .symbols);
+        inputs = behind-is (Y .inputs) (T .inputs) (x .inputs);
+        rules = behind-is (Y .rules) (T .rules) (x .rules);
+        ruleVars = behind-is (Y .ruleVars) (T .ruleVars) (x .ruleVars);
+        patterns = behind-is (Y .patterns) (T .patterns) (x .patterns);
       }
 
 module _ {D : Working} (W : Working) (x : ExactWorking D) where
   board-front : (rows feet : List ℕ) → board (D .vars) (D .index) (D .words) (D .defs) (D .goals) rows feet (D .lists) ≡ boardFront (workingNow D W) rows feet
   board-front rows feet =
-      λ i. board (sym (front-is (W .vars) (x .vars)) i) (sym (front-is (W .index) (x .index)) i) (sym (front-is (W .words) (x .words)) i)
-      (sym (front-is (W .defs) (x .defs)) i) (sym (front-is (W .goals) (x .goals)) i) rows feet (sym (front-is (W .lists) (x .lists)) i)
+      λ i. board (front-is (D .vars) (W .vars) (x .vars) i) (front-is (D .index) (W .index) (x .index) i) (front-is (D .words) (W .words) (x .words) i)
+      (front-is (D .defs) (W .defs) (x .defs) i) (front-is (D .goals) (W .goals) (x .goals) i) rows feet (front-is (D .lists) (W .lists) (x .lists) i)
 
   working-long : LongWorking (workingNow D W)
   working-long =
       record {
-        vars = front-long (W .vars) (x .vars);
-        index = front-long (W .index) (x .index);
-        words = front-long (W .words) (x .words);
-        defs = front-long (W .defs) (x .defs);
-        goals = front-long (W .goals) (x .goals);
-        lists = front-long (W .lists) (x .lists);
+        vars = front-long (D .vars) (W .vars) (x .vars);
+        index = front-long (D .index) (W .index) (x .index);
+        words = front-long (D .words) (W .words) (x .words);
+        defs = front-long (D .defs) (W .defs) (x .defs);
+        goals = front-long (D .goals) (W .goals) (x .goals);
+        lists = front-long (D .lists) (W .lists) (x .lists);
       }
 
   working-behind : WorkingBehind W (workingNow D W)
   working-behind =
       record {
-        vars = behind-is (W .vars) (x .vars);
-        index = behind-is (W .index) (x .index);
-        words = behind-is (W .words) (x .words);
-        defs = behind-is (W .defs) (x .defs);
-        goals = behind-is (W .goals) (x .goals);
-        lists = behind-is (W .lists) (x .lists);
+        vars = behind-is (D .vars) (W .vars) (x .vars);
+        index = behind-is (D .index) (W .index) (x .index);
+        words = behind-is (D .words) (W .words) (x .words);
+        defs = behind-is (D .defs) (W .defs) (x .defs);
+        goals = behind-is (D .goals) (W .goals) (x .goals);
+        lists = behind-is (D .lists) (W .lists) (x .lists);
       }
 
 -- the whole, where the parts are as they should

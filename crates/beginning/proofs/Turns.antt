@@ -71,12 +71,11 @@ module _ {theory goals : List ℕ} {T : TheoryLists} {B : Board} {n : Sizes} {m 
 abbrev pub runOf : Sizes → Mark → ℕ → Bool → Run
 runOf n m k b = elim b [ true ↦ stoppedRun n m 25 2 k 0 | false ↦ startedRun n m ]
 
-module _ {n : Sizes} {m : Mark} {k : ℕ} {r : Run} where
-  pub no-goals : n .goals ≡ 0 → r ≡ stoppedRun n m 25 2 k 0 → r ≡ behindGoals n m k
-  no-goals z e = e ∙ sym (ap (runOf n m k) (eq-eqb (n .goals) 0 z))
+pub no-goals : {n : Sizes} {m : Mark} {k : ℕ} {r : Run} → n .goals ≡ 0 → r ≡ stoppedRun n m 25 2 k 0 → r ≡ behindGoals n m k
+no-goals {n} {m} {k} z e = e ∙ sym (ap (runOf n m k) (eq-eqb (n .goals) 0 z))
 
-  pub some-goals : (n .goals ≡ 0 → ⊥) → r ≡ startedRun n m → r ≡ behindGoals n m k
-  some-goals z e = e ∙ sym (ap (runOf n m k) (ne-eqb (n .goals) 0 z))
+pub some-goals : {n : Sizes} {m : Mark} (k : ℕ) {r : Run} → (n .goals ≡ 0 → ⊥) → r ≡ startedRun n m → r ≡ behindGoals n m k
+some-goals {n} {m} k z e = e ∙ sym (ap (runOf n m k) (ne-eqb (n .goals) 0 z))
 
 -- The loop -----------------------------------------------------------------------------------------------------------------------------
 
@@ -146,8 +145,8 @@ module _ {theory goals w₀ w : List ℕ} {T : TheoryLists} {B : Board} {n : Siz
 
 -- A text that is read whole --------------------------------------------------------------------------------------------------------------
 
-module _ {theory goals w : List ℕ} {T : TheoryLists} {B : Board} {n : Sizes} (r : Whole) (e : r ≡ wholeOf (read goals) 0) where
-  pub goals-unread : Posing theory goals T B n w → {j k : ℕ} → r ≡ Unreadable j k → {z : Run} → z ≡ stoppedRun n noMark j 2 k 0 →
+module _ {theory goals : List ℕ} {T : TheoryLists} {B : Board} (r : Whole) (e : r ≡ wholeOf (read goals) 0) where
+  pub goals-unread : {w : List ℕ} {n : Sizes} → Posing theory goals T B n w → {j k : ℕ} → r ≡ Unreadable j k → {z : Run} → z ≡ stoppedRun n noMark j 2 k 0 →
       Posed theory goals T B (whole takeGoal (read goals) (begin (theoryIn theory))) z
   goals-unread p b q =
       posed-refused (p .stands) (fresh-first theory) (whole-refused takeGoal (begin (theoryIn theory)) (read goals) r e b) q
