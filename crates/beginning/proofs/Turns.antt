@@ -115,7 +115,7 @@ module _ {theory goals w₀ w : List ℕ} {T : TheoryLists} {B : Board} {n : Siz
     formed = record { encoded = form .holds .cells ∙ append-nil (encode (form .form)); spelt = form .holds .spelt .0 }
 
     -- what `take_goal` asks
-    pub turn-takes : TakesGoal (texts theory goals goals) T B n m (take many v)
+    abbrev pub turn-takes : TakesGoal (texts theory goals goals) T B n m (take many v)
     turn-takes =
         record {
           form = record { S = g .S; x = form .form; stands = g .stands; bounded = g .fresh .checked .bounded; formed = formed };
