@@ -110,7 +110,7 @@ module _ {theory goals w₀ w : List ℕ} {T : TheoryLists} {B : Board} {n : Siz
     abbrev form : FormIs goals at w v p many
     form = going-form (g .going) k e
 
-    formed : Formed goals (take many v) (form .form)
+    pub formed : Formed goals (take many v) (form .form)
     unfolding encode
     formed = record { encoded = form .holds .cells ∙ append-nil (encode (form .form)); spelt = form .holds .spelt .0 }
 

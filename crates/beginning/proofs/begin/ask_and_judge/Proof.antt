@@ -25,7 +25,12 @@ enum-told : tie.Need-enum-told
 enum-told c = search needs
 
 judge-requires : tie.Need-judge-requires
-judge-requires c κs = ((c .before .before .before .before .before .before .before .before .before .before .before .before .before .before .before .before .before .before .before .before .before .before .before .before .before .before .before .before .before .before .before .before .before .before .pre), asked-nothing {r = (c .before .before .before .before .before .before .before .before .before .before .before .before .before .before .before .ask) .result} ((c .before .before .before .before .before .before .before .before .before .before .before .before .before .before .before .ask) .ensures) ((c .before .before .before .before .before .before .before .before .before .before .before .before .before .enum-told) .given .1))
+judge-requires c κs =
+    let mid = c .before .before .before .before .before .before .before .before .before .before .before .before .before .before .before .before .before .before .before .before .before .before .before .before .before in
+    let pre = mid .before .before .before .before .before .before .before .before .before .pre in
+    let ask = c .before .before .before .before .before .before .before .before .before .before .before .before .before .before .before .ask in
+    let enum-told = c .before .before .before .before .before .before .before .before .before .before .before .before .before .enum-told in
+    (pre, asked-nothing {r = ask .result} (ask .ensures) (enum-told .given .1))
 
 same-length : tie.Need-same-length
 same-length c = (c .before .before .before .before .before .before .before .before .before .before .before .before .before .before .clear-theory) .kept .0
@@ -46,7 +51,17 @@ same-length-6 : tie.Need-same-length-6
 same-length-6 c = (c .before .before .before .before .before .before .before .before .before .before .before .before .before .before .clear-theory) .kept .1 .1 .1 .1 .1 .0
 
 returns : tie.Need-returns
-returns c = (texts-left ((c .before .before .before .before .before .before .before .before .before .before .before .before .before .before .before .before .before .before .before .before .before .before .before .before .before .before .before .before .before .before .before .before .before .before .before .before .before .before .before .before .before .before .before .pre)) (asked-left {r = (c .before .before .before .before .before .before .before .before .before .before .before .before .before .before .before .before .before .before .before .before .before .before .before .before .ask) .result} ((c .before .before .before .before .before .before .before .before .before .before .before .before .before .before .before .before .before .before .before .before .before .before .before .before .ask) .ensures) ((c .before .before .before .before .before .before .before .before .before .before .before .before .before .before .before .before .before .before .before .before .before .before .number) .given .1)) ((c .before .before .before .before .before .before .before .before .before .before .before .before .before .before .clear-theory) .ensures) ((c .before .no-sizes) .ensures) ((c .stopped) .ensures), refl)
+returns c =
+    let mid = c .before .before .before .before .before .before .before .before .before .before .before .before .before .before .before .before .before .before .before .before .before .before .before .before .before in
+    let pre = mid .before .before .before .before .before .before .before .before .before .before .before .before .before .before .before .before .before .before .pre in
+    let ask = c .before .before .before .before .before .before .before .before .before .before .before .before .before .before .before .before .before .before .before .before .before .before .before .before .ask in
+    let number = c .before .before .before .before .before .before .before .before .before .before .before .before .before .before .before .before .before .before .before .before .before .before .number in
+    let clear-theory = c .before .before .before .before .before .before .before .before .before .before .before .before .before .before .clear-theory in
+    let no-sizes = c .before .no-sizes in (
+      texts-left pre (asked-left {r = ask .result} (ask .ensures) (number .given .1)) (clear-theory .ensures) (no-sizes .ensures)
+          ((c .stopped) .ensures),
+      refl,
+    )
 
 same-length-7 : tie.Need-same-length-7
 same-length-7 c = (c .before .before .before .before .before .before .before .before .before .before .before .before .before .before .before .before .before .before .before .before .before .before .before .before .before .before .judge) .kept .1 .1 .1 .0

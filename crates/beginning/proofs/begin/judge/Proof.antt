@@ -6,7 +6,9 @@ use Rattle.beginning.proofs.begin.judge.Statement.{statement}
 use Rattle.beginning.proofs.begin.judge.Tie as tie
 
 parse-exact-requires : tie.Need-parse-exact-requires
-parse-exact-requires c κs = theory-given ((c .before .before .before .before .before .before .before .before .before .before .before .before .before .before .before .before .before .before .before .before .before .before .before .before .before .pre) .0) ((c .before .before .before .before .before .before .before .before .before .before .before .before .before .before .before .before .before .before .before .before .before .before .before .before .before .pre) .1)
+parse-exact-requires c κs =
+    let pre = c .before .before .before .before .before .before .before .before .before .before .before .before .before .before .before .before .before .before .before .before .before .before .before .before .before .pre in
+    theory-given (pre .0) (pre .1)
 
 enum-known-number : tie.Need-enum-known-number
 enum-known-number c = search needs
@@ -24,7 +26,14 @@ theory-sizes-requires-2 : tie.Need-theory-sizes-requires-2
 theory-sizes-requires-2 c κs = search needs
 
 pose-requires : tie.Need-pose-requires
-pose-requires c κs = goals-given ((c .before .before .before .before .before .before .before .before .before .before .before .before .before .before .before .before .before .before .before .before .before .before .before .before .before .before .before .before .before .before .before .before .before .before .before .before .before .before .before .before .before .before .before .before .before .before .before .before .before .before .before .before .before .before .before .before .before .pre) .0) ((c .before .before .before .before .before .before .before .before .before .before .before .before .before .before .before .before .before .before .before .before .before .before .before .before .before .before .before .before .before .before .before .before .before .before .before .before .before .before .before .before .before .before .before .before .before .before .before .before .before .before .before .before .before .before .before .before .before .pre) .1) _ ((c .before .before .before .before .before .before .before .before .before .before .before .before .before .before .before .before .before .before .before .before .before .before .before .before .before .before .before .before .before .before .before .parse-exact) .ensures .0) ((c .before .before .before .before .before .before .before .before .before .before .before .before .before .before .before .before .before .before .before .before .before .before .before .before .before .before .before .before .before .before .before .parse-exact) .ensures .1 .0) ((c .before .before .before .before .before .before .before .before .before .before .before .before .before .before .before .before .before .before .before .before .before .before .before .before .before .before .before .before .before .before .before .parse-exact) .ensures .1 .1 .1) ((c .before .before .before .before .before .before .before .before .before .before .before .before .before .before .before .held) .given .1) ((c .theory-sizes2) .ensures) ((c .before .before .before .before .before .before .before .before .before .before .before .before .before .before .before .before .before .before .before .before .before .before .before .before .before .before .before .before .before .before .before .parse-exact) .ensures .1 .1 .0)
+pose-requires c κs =
+    let mid = c .before .before .before .before .before .before .before .before .before .before .before .before .before .before .before .before .before .before .before .before .before .before .before .before .before in
+    let far = mid .before .before .before .before .before .before .before .before .before .before .before .before .before .before .before .before .before .before .before .before .before .before .before .before .before in
+    let pre = far .before .before .before .before .before .before .before .pre in
+    let parse-exact = mid .before .before .before .before .before .before .parse-exact in
+    let held = c .before .before .before .before .before .before .before .before .before .before .before .before .before .before .before .held in
+    goals-given (pre .0) (pre .1) _ (parse-exact .ensures .0) (parse-exact .ensures .1 .0) (parse-exact .ensures .1 .1 .1) (held .given .1)
+    ((c .theory-sizes2) .ensures) (parse-exact .ensures .1 .1 .0)
 
 same-length : tie.Need-same-length
 same-length c = (c .before .before .before .before .before .before .before .before .before .before .before .before .before .before .before .before .before .before .before .parse-exact) .kept .1 .1 .0
@@ -48,25 +57,52 @@ same-length-7 : tie.Need-same-length-7
 same-length-7 c = (c .before .before .before .before .before .before .before .before .before .before .before .before .before .before .before .before .before .before .before .parse-exact) .kept .1 .0
 
 returns : tie.Need-returns
-returns c = (theory-left ((c .before .before .before .before .before .before .before .before .before .before .before .before .before .before .before .before .before .before .before .before .before .before .before .before .before .before .before .before .before .before .before .before .before .before .before .before .before .before .before .before .before .before .before .before .before .pre) .0) ((c .before .before .before .before .before .before .before .before .before .before .before .before .before .before .before .before .before .before .before .before .before .before .before .before .before .before .before .before .before .before .before .before .before .before .before .before .before .before .before .before .before .before .before .before .before .pre) .1) _ ((c .before .before .before .before .before .before .before .before .before .before .before .before .before .before .before .before .before .before .before .parse-exact) .ensures .0) ((c .before .before .before .before .before .before .before .before .before .before .before .before .before .before .before .before .before .before .before .parse-exact) .ensures .1 .0) ((c .before .before .before .before .before .before .before .before .before .before .before .before .before .before .before .before .before .before .before .parse-exact) .ensures .1 .1 .1) ((c .before .before .before .number) .given .1) ((c .before .theory-sizes) .ensures) ((c .stopped) .ensures), (c .before .before .before .before .before .before .before .before .before .before .before .before .before .before .before .before .before .before .before .parse-exact) .ensures .1 .1 .0)
+returns c =
+    let mid = c .before .before .before .before .before .before .before .before .before .before .before .before .before .before .before .before .before .before .before .before .before .before .before .before .before in
+    let pre = mid .before .before .before .before .before .before .before .before .before .before .before .before .before .before .before .before .before .before .before .before .pre in
+    let parse-exact = c .before .before .before .before .before .before .before .before .before .before .before .before .before .before .before .before .before .before .before .parse-exact in
+    let number = c .before .before .before .number in
+    let theory-sizes = c .before .theory-sizes in (
+      theory-left (pre .0) (pre .1) _ (parse-exact .ensures .0) (parse-exact .ensures .1 .0) (parse-exact .ensures .1 .1 .1)
+          (number .given .1) (theory-sizes .ensures) ((c .stopped) .ensures),
+      parse-exact .ensures .1 .1 .0,
+    )
 
 same-length-8 : tie.Need-same-length-8
-same-length-8 c = (c .before .before .before .before .before .before .before .before .before .before .before .before .before .before .before .before .before .before .before .before .before .before .before .before .before .before .before .before .before .before .before .before .before .before .before .before .before .before .before .before .before .before .before .before .parse-exact) .kept .1 .1 .0
+same-length-8 c =
+    let mid = c .before .before .before .before .before .before .before .before .before .before .before .before .before .before .before .before .before .before .before .before .before .before .before .before .before in
+    let parse-exact = mid .before .before .before .before .before .before .before .before .before .before .before .before .before .before .before .before .before .before .before .parse-exact in
+    parse-exact .kept .1 .1 .0
 
 same-length-9 : tie.Need-same-length-9
-same-length-9 c = (c .before .before .before .before .before .before .before .before .before .before .before .before .before .before .before .before .before .before .before .before .before .before .before .before .before .before .before .before .before .before .before .before .before .before .before .before .before .before .before .before .before .before .before .before .parse-exact) .kept .1 .1 .1 .0
+same-length-9 c =
+    let mid = c .before .before .before .before .before .before .before .before .before .before .before .before .before .before .before .before .before .before .before .before .before .before .before .before .before in
+    let parse-exact = mid .before .before .before .before .before .before .before .before .before .before .before .before .before .before .before .before .before .before .before .parse-exact in
+    parse-exact .kept .1 .1 .1 .0
 
 same-length-10 : tie.Need-same-length-10
-same-length-10 c = (c .before .before .before .before .before .before .before .before .before .before .before .before .before .before .before .before .before .before .before .before .before .before .before .before .before .before .before .before .before .before .before .before .before .before .before .before .before .before .before .before .before .before .before .before .parse-exact) .kept .1 .1 .1 .1 .0
+same-length-10 c =
+    let mid = c .before .before .before .before .before .before .before .before .before .before .before .before .before .before .before .before .before .before .before .before .before .before .before .before .before in
+    let parse-exact = mid .before .before .before .before .before .before .before .before .before .before .before .before .before .before .before .before .before .before .before .parse-exact in
+    parse-exact .kept .1 .1 .1 .1 .0
 
 same-length-11 : tie.Need-same-length-11
-same-length-11 c = (c .before .before .before .before .before .before .before .before .before .before .before .before .before .before .before .before .before .before .before .before .before .before .before .before .before .before .before .before .before .before .before .before .before .before .before .before .before .before .before .before .before .before .before .before .parse-exact) .kept .1 .1 .1 .1 .1 .0
+same-length-11 c =
+    let mid = c .before .before .before .before .before .before .before .before .before .before .before .before .before .before .before .before .before .before .before .before .before .before .before .before .before in
+    let parse-exact = mid .before .before .before .before .before .before .before .before .before .before .before .before .before .before .before .before .before .before .before .parse-exact in
+    parse-exact .kept .1 .1 .1 .1 .1 .0
 
 same-length-12 : tie.Need-same-length-12
-same-length-12 c = (c .before .before .before .before .before .before .before .before .before .before .before .before .before .before .before .before .before .before .before .before .before .before .before .before .before .before .before .before .before .before .before .before .before .before .before .before .before .before .before .before .before .before .before .before .parse-exact) .kept .1 .1 .1 .1 .1 .1 .0
+same-length-12 c =
+    let mid = c .before .before .before .before .before .before .before .before .before .before .before .before .before .before .before .before .before .before .before .before .before .before .before .before .before in
+    let parse-exact = mid .before .before .before .before .before .before .before .before .before .before .before .before .before .before .before .before .before .before .before .parse-exact in
+    parse-exact .kept .1 .1 .1 .1 .1 .1 .0
 
 same-length-13 : tie.Need-same-length-13
-same-length-13 c = (c .before .before .before .before .before .before .before .before .before .before .before .before .before .before .before .before .before .before .before .before .before .before .before .before .before .before .before .before .before .before .before .before .before .before .before .before .before .before .before .before .before .before .before .before .parse-exact) .kept .1 .1 .1 .1 .1 .1 .1 .0
+same-length-13 c =
+    let mid = c .before .before .before .before .before .before .before .before .before .before .before .before .before .before .before .before .before .before .before .before .before .before .before .before .before in
+    let parse-exact = mid .before .before .before .before .before .before .before .before .before .before .before .before .before .before .before .before .before .before .before .parse-exact in
+    parse-exact .kept .1 .1 .1 .1 .1 .1 .1 .0
 
 same-length-14 : tie.Need-same-length-14
 same-length-14 c = (c .before .before .before .before .before .before .before .before .before .before .before .before .pose) .kept .1 .1 .1 .1 .1 .1 .1 .1 .0
@@ -87,10 +123,25 @@ same-length-19 : tie.Need-same-length-19
 same-length-19 c = (c .before .before .before .before .before .before .before .before .before .before .before .before .pose) .kept .1 .1 .1 .1 .1 .1 .1 .1 .1 .1 .1 .1 .1 .0
 
 same-length-20 : tie.Need-same-length-20
-same-length-20 c = (c .before .before .before .before .before .before .before .before .before .before .before .before .pose) .kept .1 .1 .1 .1 .1 .1 .1 .1 .1 .1 .1 .1 .1 .1 .1 .1 .0 ∙ (c .before .before .before .before .before .before .before .before .before .before .before .before .before .before .before .before .before .before .before .before .before .before .before .before .before .before .before .before .before .before .before .before .before .before .before .before .before .before .before .before .before .before .before .before .parse-exact) .kept .1 .0
+same-length-20 c =
+    let pose = c .before .before .before .before .before .before .before .before .before .before .before .before .pose in
+    let mid = c .before .before .before .before .before .before .before .before .before .before .before .before .before .before .before .before .before .before .before .before .before .before .before .before .before in
+    let parse-exact = mid .before .before .before .before .before .before .before .before .before .before .before .before .before .before .before .before .before .before .before .parse-exact in
+    pose .kept .1 .1 .1 .1 .1 .1 .1 .1 .1 .1 .1 .1 .1 .1 .1 .1 .0 ∙ parse-exact .kept .1 .0
 
 returns-2 : tie.Need-returns-2
-returns-2 c = (goals-opened _ ((c .before .before .before .before .before .before .before .before .before .before .before .before .pose) .ensures .0) (goals-next ((c .before .before .before .before .before .before .before .before .before .before .before .before .before .before .before .before .before .before .before .before .before .before .before .before .before .before .before .before .before .before .before .before .before .before .before .before .before .before .before .before .before .before .before .before .before .before .before .before .before .before .before .before .before .before .before .before .before .before .before .before .before .before .before .before .before .before .before .before .before .before .pre) .0) ((c .before .before .before .before .before .before .before .before .before .before .before .before .before .before .before .before .before .before .before .before .before .before .before .before .before .before .before .before .before .before .before .before .before .before .before .before .before .before .before .before .before .before .before .before .before .before .before .before .before .before .before .before .before .before .before .before .before .before .before .before .before .before .before .before .before .before .before .before .before .before .pre) .1) _ ((c .before .before .before .before .before .before .before .before .before .before .before .before .before .before .before .before .before .before .before .before .before .before .before .before .before .before .before .before .before .before .before .before .before .before .before .before .before .before .before .before .before .before .before .before .parse-exact) .ensures .0) ((c .before .before .before .before .before .before .before .before .before .before .before .before .before .before .before .before .before .before .before .before .before .before .before .before .before .before .before .before .before .before .before .before .before .before .before .before .before .before .before .before .before .before .before .before .parse-exact) .ensures .1 .0) ((c .before .before .before .before .before .before .before .before .before .before .before .before .before .before .before .before .before .before .before .before .before .before .before .before .before .before .before .before .before .before .before .before .before .before .before .before .before .before .before .before .before .before .before .before .parse-exact) .ensures .1 .1 .1) ((c .before .before .before .before .before .before .before .before .before .before .before .before .before .before .before .before .before .before .before .before .before .before .before .before .before .before .before .before .held) .given .1)) ((c .before .before .before .before .before .before .before .before .before .before .before .before .before .before .before .before .before .before .before .before .before .before .before .before .before .before .before .before .before .before .before .before .before .before .before .before .before .before .before .before .before .before .before .before .before .before .before .before .before .before .before .before .before .before .before .before .before .before .before .before .before .before .before .before .before .before .before .before .before .before .pre) .1 .short-proof), (c .before .before .before .before .before .before .before .before .before .before .before .before .pose) .ensures .1 ∙ (c .before .before .before .before .before .before .before .before .before .before .before .before .before .before .before .before .before .before .before .before .before .before .before .before .before .before .before .before .before .before .before .before .before .before .before .before .before .before .before .before .before .before .before .before .parse-exact) .ensures .1 .1 .0)
+returns-2 c =
+    let pose = c .before .before .before .before .before .before .before .before .before .before .before .before .pose in
+    let mid = c .before .before .before .before .before .before .before .before .before .before .before .before .before .before .before .before .before .before .before .before .before .before .before .before .before in
+    let far = mid .before .before .before .before .before .before .before .before .before .before .before .before .before .before .before .before .before .before .before .before .before .before .before .before .before in
+    let pre = far .before .before .before .before .before .before .before .before .before .before .before .before .before .before .before .before .before .before .before .before .pre in
+    let parse-exact = mid .before .before .before .before .before .before .before .before .before .before .before .before .before .before .before .before .before .before .before .parse-exact in
+    let held = mid .before .before .before .held in (
+      goals-opened _ (pose .ensures .0)
+          (goals-next (pre .0) (pre .1) _ (parse-exact .ensures .0) (parse-exact .ensures .1 .0) (parse-exact .ensures .1 .1 .1)
+          (held .given .1)) (pre .1 .short-proof),
+      pose .ensures .1 ∙ parse-exact .ensures .1 .1 .0,
+    )
 
 pub judge-spec : {M : Type 1} → statement M
 judge-spec =

@@ -21,7 +21,11 @@ take-goals-requires : tie.Need-take-goals-requires
 take-goals-requires c κs = (c .before .before .before .before .before .before .before .before .before .before .before .before .before .before .before .before .before .before .before .before .before .before .before .before .before .before .pre)
 
 returns : tie.Need-returns
-returns c = (goals-unread _ ((c .before .before .before .before .read-all) .ensures) ((c .before .before .before .before .before .before .before .before .before .before .before .before .before .before .before .before .before .before .before .before .before .before .pre)) ((c .before .before .number) .given .1) ((c .stopped) .ensures), refl)
+returns c =
+    let read-all = c .before .before .before .before .read-all in
+    let pre = c .before .before .before .before .before .before .before .before .before .before .before .before .before .before .before .before .before .before .before .before .before .before .pre in
+    let number = c .before .before .number in
+    (goals-unread _ (read-all .ensures) pre (number .given .1) ((c .stopped) .ensures), refl)
 
 same-length : tie.Need-same-length
 same-length c = (c .before .before .before .before .before .before .before .before .before .before .before .before .take-goals) .kept .1 .1 .1 .1 .1 .1 .1 .1 .0
@@ -42,7 +46,11 @@ same-length-6 : tie.Need-same-length-6
 same-length-6 c = (c .before .before .before .before .before .before .before .before .before .before .before .before .take-goals) .kept .1 .1 .1 .1 .1 .1 .1 .1 .1 .1 .1 .1 .1 .1 .1 .1 .0
 
 returns-2 : tie.Need-returns-2
-returns-2 c = (goals-read _ ((c .before .before .before .before .before .before .before .before .before .before .before .before .before .before .before .before .before .before .before .before .before .read-all) .ensures) ((c .before .before .before .before .before .before .before .before .before .before .before .before .before .before .before .before .before .before .before .enum-told) .given .1) ((c .before .before .before .before .before .before .before .before .before .before .before .before .take-goals) .ensures .0), (c .before .before .before .before .before .before .before .before .before .before .before .before .take-goals) .ensures .1)
+returns-2 c =
+    let read-all = c .before .before .before .before .before .before .before .before .before .before .before .before .before .before .before .before .before .before .before .before .before .read-all in
+    let enum-told = c .before .before .before .before .before .before .before .before .before .before .before .before .before .before .before .before .before .before .before .enum-told in
+    let take-goals = c .before .before .before .before .before .before .before .before .before .before .before .before .take-goals in
+    (goals-read _ (read-all .ensures) (enum-told .given .1) (take-goals .ensures .0), take-goals .ensures .1)
 
 pub pose-spec : {M : Type 1} → statement M
 pose-spec =

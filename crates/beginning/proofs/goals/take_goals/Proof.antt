@@ -31,19 +31,34 @@ behind-goals-requires : tie.Need-behind-goals-requires Inv-loop μ-loop
 behind-goals-requires c κs = search needs
 
 same-length : tie.Need-same-length Inv-loop μ-loop
-same-length c = stands-long ((c .before .before .before .before .before .before .before .loop) .inv .stands) .vars ∙ sym (stands-long ((c .before .before .before .before .before .before .before .before .before .before .before .before .before .before .before .before .before .before .before .before .before .before .before .before .before .pre) .stands) .vars)
+same-length c =
+    let loop = c .before .before .before .before .before .before .before .loop in
+    let pre = c .before .before .before .before .before .before .before .before .before .before .before .before .before .before .before .before .before .before .before .before .before .before .before .before .before .pre in
+    stands-long (loop .inv .stands) .vars ∙ sym (stands-long (pre .stands) .vars)
 
 same-length-2 : tie.Need-same-length-2 Inv-loop μ-loop
-same-length-2 c = stands-long ((c .before .before .before .before .before .before .before .loop) .inv .stands) .index ∙ sym (stands-long ((c .before .before .before .before .before .before .before .before .before .before .before .before .before .before .before .before .before .before .before .before .before .before .before .before .before .pre) .stands) .index)
+same-length-2 c =
+    let loop = c .before .before .before .before .before .before .before .loop in
+    let pre = c .before .before .before .before .before .before .before .before .before .before .before .before .before .before .before .before .before .before .before .before .before .before .before .before .before .pre in
+    stands-long (loop .inv .stands) .index ∙ sym (stands-long (pre .stands) .index)
 
 same-length-3 : tie.Need-same-length-3 Inv-loop μ-loop
-same-length-3 c = stands-long ((c .before .before .before .before .before .before .before .loop) .inv .stands) .words ∙ sym (stands-long ((c .before .before .before .before .before .before .before .before .before .before .before .before .before .before .before .before .before .before .before .before .before .before .before .before .before .pre) .stands) .words)
+same-length-3 c =
+    let loop = c .before .before .before .before .before .before .before .loop in
+    let pre = c .before .before .before .before .before .before .before .before .before .before .before .before .before .before .before .before .before .before .before .before .before .before .before .before .before .pre in
+    stands-long (loop .inv .stands) .words ∙ sym (stands-long (pre .stands) .words)
 
 same-length-4 : tie.Need-same-length-4 Inv-loop μ-loop
-same-length-4 c = stands-long ((c .before .before .before .before .before .before .before .loop) .inv .stands) .goals ∙ sym (stands-long ((c .before .before .before .before .before .before .before .before .before .before .before .before .before .before .before .before .before .before .before .before .before .before .before .before .before .pre) .stands) .goals)
+same-length-4 c =
+    let loop = c .before .before .before .before .before .before .before .loop in
+    let pre = c .before .before .before .before .before .before .before .before .before .before .before .before .before .before .before .before .before .before .before .before .before .before .before .before .before .pre in
+    stands-long (loop .inv .stands) .goals ∙ sym (stands-long (pre .stands) .goals)
 
 same-length-5 : tie.Need-same-length-5 Inv-loop μ-loop
-same-length-5 c = stands-long ((c .before .before .before .before .before .before .before .loop) .inv .stands) .lists ∙ sym (stands-long ((c .before .before .before .before .before .before .before .before .before .before .before .before .before .before .before .before .before .before .before .before .before .before .before .before .before .pre) .stands) .lists)
+same-length-5 c =
+    let loop = c .before .before .before .before .before .before .before .loop in
+    let pre = c .before .before .before .before .before .before .before .before .before .before .before .before .before .before .before .before .before .before .before .before .before .before .before .before .before .pre in
+    stands-long (loop .inv .stands) .lists ∙ sym (stands-long (pre .stands) .lists)
 
 same-length-6 : tie.Need-same-length-6 Inv-loop μ-loop
 same-length-6 c = (c .before .before .before .before .before .read-form) .kept .1 .1 .0 ∙ ap length ((c .before .before .before .before .before .before .before .loop) .inv .going .same)
@@ -58,19 +73,39 @@ stopped-requires : tie.Need-stopped-requires Inv-loop μ-loop
 stopped-requires c κs = search needs
 
 same-length-7 : tie.Need-same-length-7 Inv-loop μ-loop
-same-length-7 c = stands-long ((c .before .before .before .before .before .before .before .before .loop) .inv .stands) .vars ∙ sym (stands-long ((c .before .before .before .before .before .before .before .before .before .before .before .before .before .before .before .before .before .before .before .before .before .before .before .before .before .before .pre) .stands) .vars)
+same-length-7 c =
+    let loop = c .before .before .before .before .before .before .before .before .loop in
+    let mid = c .before .before .before .before .before .before .before .before .before .before .before .before .before .before .before .before .before .before .before .before .before .before .before .before .before in
+    let pre = mid .before .pre in
+    stands-long (loop .inv .stands) .vars ∙ sym (stands-long (pre .stands) .vars)
 
 same-length-8 : tie.Need-same-length-8 Inv-loop μ-loop
-same-length-8 c = stands-long ((c .before .before .before .before .before .before .before .before .loop) .inv .stands) .index ∙ sym (stands-long ((c .before .before .before .before .before .before .before .before .before .before .before .before .before .before .before .before .before .before .before .before .before .before .before .before .before .before .pre) .stands) .index)
+same-length-8 c =
+    let loop = c .before .before .before .before .before .before .before .before .loop in
+    let mid = c .before .before .before .before .before .before .before .before .before .before .before .before .before .before .before .before .before .before .before .before .before .before .before .before .before in
+    let pre = mid .before .pre in
+    stands-long (loop .inv .stands) .index ∙ sym (stands-long (pre .stands) .index)
 
 same-length-9 : tie.Need-same-length-9 Inv-loop μ-loop
-same-length-9 c = stands-long ((c .before .before .before .before .before .before .before .before .loop) .inv .stands) .words ∙ sym (stands-long ((c .before .before .before .before .before .before .before .before .before .before .before .before .before .before .before .before .before .before .before .before .before .before .before .before .before .before .pre) .stands) .words)
+same-length-9 c =
+    let loop = c .before .before .before .before .before .before .before .before .loop in
+    let mid = c .before .before .before .before .before .before .before .before .before .before .before .before .before .before .before .before .before .before .before .before .before .before .before .before .before in
+    let pre = mid .before .pre in
+    stands-long (loop .inv .stands) .words ∙ sym (stands-long (pre .stands) .words)
 
 same-length-10 : tie.Need-same-length-10 Inv-loop μ-loop
-same-length-10 c = stands-long ((c .before .before .before .before .before .before .before .before .loop) .inv .stands) .goals ∙ sym (stands-long ((c .before .before .before .before .before .before .before .before .before .before .before .before .before .before .before .before .before .before .before .before .before .before .before .before .before .before .pre) .stands) .goals)
+same-length-10 c =
+    let loop = c .before .before .before .before .before .before .before .before .loop in
+    let mid = c .before .before .before .before .before .before .before .before .before .before .before .before .before .before .before .before .before .before .before .before .before .before .before .before .before in
+    let pre = mid .before .pre in
+    stands-long (loop .inv .stands) .goals ∙ sym (stands-long (pre .stands) .goals)
 
 same-length-11 : tie.Need-same-length-11 Inv-loop μ-loop
-same-length-11 c = stands-long ((c .before .before .before .before .before .before .before .before .loop) .inv .stands) .lists ∙ sym (stands-long ((c .before .before .before .before .before .before .before .before .before .before .before .before .before .before .before .before .before .before .before .before .before .before .before .before .before .before .pre) .stands) .lists)
+same-length-11 c =
+    let loop = c .before .before .before .before .before .before .before .before .loop in
+    let mid = c .before .before .before .before .before .before .before .before .before .before .before .before .before .before .before .before .before .before .before .before .before .before .before .before .before in
+    let pre = mid .before .pre in
+    stands-long (loop .inv .stands) .lists ∙ sym (stands-long (pre .stands) .lists)
 
 same-length-12 : tie.Need-same-length-12 Inv-loop μ-loop
 same-length-12 c = (c .before .before .before .before .before .before .read-form) .kept .1 .1 .0 ∙ ap length ((c .before .before .before .before .before .before .before .before .loop) .inv .going .same)
@@ -82,16 +117,32 @@ enum-known-next : tie.Need-enum-known-next Inv-loop μ-loop
 enum-known-next c = search needs
 
 slice-reshare-prefix-take-goal : tie.Need-slice-reshare-prefix-take-goal Inv-loop μ-loop
-slice-reshare-prefix-take-goal c = going-room ((c .before .before .before .before .before .before .before .before .before .before .before .before .loop) .inv .going) ((c .before .before .before .before .before .before .before .before .before .before .read-form) .ensures) ((c .before .before .before .before .before .before .next) .given .1) ((c .before .before .before .before .before .before .before .before .before .before .read-form) .kept .1 .1 .0)
+slice-reshare-prefix-take-goal c =
+    let loop = c .before .before .before .before .before .before .before .before .before .before .before .before .loop in
+    let read-form = c .before .before .before .before .before .before .before .before .before .before .read-form in
+    let next = c .before .before .before .before .before .before .next in
+    going-room (loop .inv .going) (read-form .ensures) (next .given .1) (read-form .kept .1 .1 .0)
 
 slice-aggregate-take-goal : tie.Need-slice-aggregate-take-goal Inv-loop μ-loop
-slice-aggregate-take-goal c = going-cells ((c .before .before .before .before .before .before .before .before .before .before .before .before .before .loop) .inv .going) ((c .before .before .before .before .before .before .before .before .before .before .before .read-form) .ensures) ((c .before .before .before .before .before .before .before .next) .given .1) ((c .before .before .before .before .before .before .before .before .before .before .before .read-form) .kept .1 .1 .0)
+slice-aggregate-take-goal c =
+    let loop = c .before .before .before .before .before .before .before .before .before .before .before .before .before .loop in
+    let read-form = c .before .before .before .before .before .before .before .before .before .before .before .read-form in
+    let next = c .before .before .before .before .before .before .before .next in
+    going-cells (loop .inv .going) (read-form .ensures) (next .given .1) (read-form .kept .1 .1 .0)
 
 take-goal-requires : tie.Need-take-goal-requires Inv-loop μ-loop
-take-goal-requires c κs = turn-takes ((c .before .before .before .before .before .before .before .before .before .before .before .before .before .loop) .inv) ((c .before .before .before .before .before .before .before .before .before .before .before .read-form) .ensures) ((c .before .before .before .before .before .before .before .next) .given .1)
+take-goal-requires c κs =
+    let loop = c .before .before .before .before .before .before .before .before .before .before .before .before .before .loop in
+    let read-form = c .before .before .before .before .before .before .before .before .before .before .before .read-form in
+    let next = c .before .before .before .before .before .before .before .next in
+    turn-takes (loop .inv) (read-form .ensures) (next .given .1)
 
 clear-requires : tie.Need-clear-requires Inv-loop μ-loop
-clear-requires c κs = going-room ((c .before .before .before .before .before .before .before .before .before .before .before .before .before .before .before .before .before .before .before .before .before .before .before .before .before .loop) .inv .going) ((c .before .before .before .before .before .before .before .before .before .before .before .before .before .before .before .before .before .before .before .before .before .before .before .read-form) .ensures) ((c .before .before .before .before .before .before .before .before .before .before .before .before .before .before .before .before .before .before .before .next) .given .1) ((c .before .before .before .before .before .before .before .before .before .before .before .before .before .before .before .before .before .before .before .before .before .before .before .read-form) .kept .1 .1 .0)
+clear-requires c κs =
+    let loop = c .before .before .before .before .before .before .before .before .before .before .before .before .before .before .before .before .before .before .before .before .before .before .before .before .before .loop in
+    let read-form = c .before .before .before .before .before .before .before .before .before .before .before .before .before .before .before .before .before .before .before .before .before .before .before .read-form in
+    let next = c .before .before .before .before .before .before .before .before .before .before .before .before .before .before .before .before .before .before .before .next in
+    going-room (loop .inv .going) (read-form .ensures) (next .given .1) (read-form .kept .1 .1 .0)
 
 enum-known-r : tie.Need-enum-known-r Inv-loop μ-loop
 enum-known-r c = search needs
@@ -103,34 +154,106 @@ stopped-requires-2 : tie.Need-stopped-requires-2 Inv-loop μ-loop
 stopped-requires-2 c κs = search needs
 
 same-length-13 : tie.Need-same-length-13 Inv-loop μ-loop
-same-length-13 c = (c .before .before .before .before .before .before .before .before .before .before .before .before .before .before .before .before .before .before .take-goal) .kept .1 .1 .1 .1 .1 .1 .1 .1 .0 ∙ stands-long ((c .before .before .before .before .before .before .before .before .before .before .before .before .before .before .before .before .before .before .before .before .before .before .before .before .before .before .before .before .before .before .before .before .loop) .inv .stands) .vars ∙ sym (stands-long ((c .before .before .before .before .before .before .before .before .before .before .before .before .before .before .before .before .before .before .before .before .before .before .before .before .before .before .before .before .before .before .before .before .before .before .before .before .before .before .before .before .before .before .before .before .before .before .before .before .before .before .pre) .stands) .vars)
+same-length-13 c =
+    let take-goal = c .before .before .before .before .before .before .before .before .before .before .before .before .before .before .before .before .before .before .take-goal in
+    let mid = c .before .before .before .before .before .before .before .before .before .before .before .before .before .before .before .before .before .before .before .before .before .before .before .before .before in
+    let loop = mid .before .before .before .before .before .before .before .loop in
+    let pre = mid .before .before .before .before .before .before .before .before .before .before .before .before .before .before .before .before .before .before .before .before .before .before .before .before .before .pre in
+    take-goal .kept .1 .1 .1 .1 .1 .1 .1 .1 .0 ∙ stands-long (loop .inv .stands) .vars ∙ sym (stands-long (pre .stands) .vars)
 
 same-length-14 : tie.Need-same-length-14 Inv-loop μ-loop
-same-length-14 c = (c .before .before .before .before .before .before .before .before .before .before .before .before .before .before .before .before .before .before .take-goal) .kept .1 .1 .1 .1 .1 .1 .1 .1 .1 .0 ∙ stands-long ((c .before .before .before .before .before .before .before .before .before .before .before .before .before .before .before .before .before .before .before .before .before .before .before .before .before .before .before .before .before .before .before .before .loop) .inv .stands) .index ∙ sym (stands-long ((c .before .before .before .before .before .before .before .before .before .before .before .before .before .before .before .before .before .before .before .before .before .before .before .before .before .before .before .before .before .before .before .before .before .before .before .before .before .before .before .before .before .before .before .before .before .before .before .before .before .before .pre) .stands) .index)
+same-length-14 c =
+    let take-goal = c .before .before .before .before .before .before .before .before .before .before .before .before .before .before .before .before .before .before .take-goal in
+    let mid = c .before .before .before .before .before .before .before .before .before .before .before .before .before .before .before .before .before .before .before .before .before .before .before .before .before in
+    let loop = mid .before .before .before .before .before .before .before .loop in
+    let pre = mid .before .before .before .before .before .before .before .before .before .before .before .before .before .before .before .before .before .before .before .before .before .before .before .before .before .pre in
+    take-goal .kept .1 .1 .1 .1 .1 .1 .1 .1 .1 .0 ∙ stands-long (loop .inv .stands) .index ∙ sym (stands-long (pre .stands) .index)
 
 same-length-15 : tie.Need-same-length-15 Inv-loop μ-loop
-same-length-15 c = (c .before .before .before .before .before .before .before .before .before .before .before .before .before .before .before .before .before .before .take-goal) .kept .1 .1 .1 .1 .1 .1 .1 .1 .1 .1 .0 ∙ stands-long ((c .before .before .before .before .before .before .before .before .before .before .before .before .before .before .before .before .before .before .before .before .before .before .before .before .before .before .before .before .before .before .before .before .loop) .inv .stands) .words ∙ sym (stands-long ((c .before .before .before .before .before .before .before .before .before .before .before .before .before .before .before .before .before .before .before .before .before .before .before .before .before .before .before .before .before .before .before .before .before .before .before .before .before .before .before .before .before .before .before .before .before .before .before .before .before .before .pre) .stands) .words)
+same-length-15 c =
+    let take-goal = c .before .before .before .before .before .before .before .before .before .before .before .before .before .before .before .before .before .before .take-goal in
+    let mid = c .before .before .before .before .before .before .before .before .before .before .before .before .before .before .before .before .before .before .before .before .before .before .before .before .before in
+    let loop = mid .before .before .before .before .before .before .before .loop in
+    let pre = mid .before .before .before .before .before .before .before .before .before .before .before .before .before .before .before .before .before .before .before .before .before .before .before .before .before .pre in
+    take-goal .kept .1 .1 .1 .1 .1 .1 .1 .1 .1 .1 .0 ∙ stands-long (loop .inv .stands) .words ∙ sym (stands-long (pre .stands) .words)
 
 same-length-16 : tie.Need-same-length-16 Inv-loop μ-loop
-same-length-16 c = (c .before .before .before .before .before .before .before .before .before .before .before .before .before .before .before .before .before .before .take-goal) .kept .1 .1 .1 .1 .1 .1 .1 .1 .1 .1 .1 .1 .0 ∙ stands-long ((c .before .before .before .before .before .before .before .before .before .before .before .before .before .before .before .before .before .before .before .before .before .before .before .before .before .before .before .before .before .before .before .before .loop) .inv .stands) .goals ∙ sym (stands-long ((c .before .before .before .before .before .before .before .before .before .before .before .before .before .before .before .before .before .before .before .before .before .before .before .before .before .before .before .before .before .before .before .before .before .before .before .before .before .before .before .before .before .before .before .before .before .before .before .before .before .before .pre) .stands) .goals)
+same-length-16 c =
+    let take-goal = c .before .before .before .before .before .before .before .before .before .before .before .before .before .before .before .before .before .before .take-goal in
+    let mid = c .before .before .before .before .before .before .before .before .before .before .before .before .before .before .before .before .before .before .before .before .before .before .before .before .before in
+    let loop = mid .before .before .before .before .before .before .before .loop in
+    let pre = mid .before .before .before .before .before .before .before .before .before .before .before .before .before .before .before .before .before .before .before .before .before .before .before .before .before .pre in
+    take-goal .kept .1 .1 .1 .1 .1 .1 .1 .1 .1 .1 .1 .1 .0 ∙ stands-long (loop .inv .stands) .goals ∙ sym (stands-long (pre .stands) .goals)
 
 same-length-17 : tie.Need-same-length-17 Inv-loop μ-loop
-same-length-17 c = (c .before .before .before .before .before .before .before .before .before .before .before .before .before .before .before .before .before .before .take-goal) .kept .1 .1 .1 .1 .1 .1 .1 .1 .1 .1 .1 .1 .1 .1 .1 .0 ∙ stands-long ((c .before .before .before .before .before .before .before .before .before .before .before .before .before .before .before .before .before .before .before .before .before .before .before .before .before .before .before .before .before .before .before .before .loop) .inv .stands) .lists ∙ sym (stands-long ((c .before .before .before .before .before .before .before .before .before .before .before .before .before .before .before .before .before .before .before .before .before .before .before .before .before .before .before .before .before .before .before .before .before .before .before .before .before .before .before .before .before .before .before .before .before .before .before .before .before .before .pre) .stands) .lists)
+same-length-17 c =
+    let take-goal = c .before .before .before .before .before .before .before .before .before .before .before .before .before .before .before .before .before .before .take-goal in
+    let mid = c .before .before .before .before .before .before .before .before .before .before .before .before .before .before .before .before .before .before .before .before .before .before .before .before .before in
+    let loop = mid .before .before .before .before .before .before .before .loop in
+    let pre = mid .before .before .before .before .before .before .before .before .before .before .before .before .before .before .before .before .before .before .before .before .before .before .before .before .before .pre in
+    take-goal .kept .1 .1 .1 .1 .1 .1 .1 .1 .1 .1 .1 .1 .1 .1 .1 .0 ∙ stands-long (loop .inv .stands) .lists ∙ sym
+    (stands-long (pre .stands) .lists)
 
 same-length-18 : tie.Need-same-length-18 Inv-loop μ-loop
-same-length-18 c = (c .before .before .before .before .before .before .clear) .kept .0 ∙ (c .before .before .before .before .before .before .before .before .before .before .before .before .before .before .before .before .before .before .before .before .before .before .before .before .before .before .before .before .before .before .read-form) .kept .1 .1 .0 ∙ ap length ((c .before .before .before .before .before .before .before .before .before .before .before .before .before .before .before .before .before .before .before .before .before .before .before .before .before .before .before .before .before .before .before .before .loop) .inv .going .same)
+same-length-18 c =
+    let clear = c .before .before .before .before .before .before .clear in
+    let mid = c .before .before .before .before .before .before .before .before .before .before .before .before .before .before .before .before .before .before .before .before .before .before .before .before .before in
+    let read-form = mid .before .before .before .before .before .read-form in
+    let loop = mid .before .before .before .before .before .before .before .loop in
+    clear .kept .0 ∙ read-form .kept .1 .1 .0 ∙ ap length (loop .inv .going .same)
 
 returns-3 : tie.Need-returns-3 Inv-loop μ-loop
-returns-3 c = (turn-refused ((c .before .before .before .before .before .before .before .before .before .before .before .before .before .before .before .before .before .before .before .before .before .before .before .before .before .before .before .before .before .before .before .before .loop) .inv) ((c .before .before .before .before .before .before .before .before .before .before .before .before .before .before .before .before .before .before .before .before .before .before .before .before .before .before .before .before .before .before .read-form) .ensures) ((c .before .before .before .before .before .before .before .before .before .before .before .before .before .before .before .before .before .before .before .before .before .before .before .before .before .before .next) .given .1) (board ((c .before .before .before .before .before .before .before .before .before .before .before .before .before .before .before .before .before .before .take-goal) .last .1 .1 .1 .1 .1 .1 .1 .1 .0) ((c .before .before .before .before .before .before .before .before .before .before .before .before .before .before .before .before .before .before .take-goal) .last .1 .1 .1 .1 .1 .1 .1 .1 .1 .0) ((c .before .before .before .before .before .before .before .before .before .before .before .before .before .before .before .before .before .before .take-goal) .last .1 .1 .1 .1 .1 .1 .1 .1 .1 .1 .0) ((c .before .before .before .before .before .before .before .before .before .before .before .before .before .before .before .before .before .before .before .before .before .before .before .before .before .before .before .before .before .before .before .before .before .before .before .before .before .before .before .before .before .before .before .before .before .before .before .before .before .before .args) .defs .now) ((c .before .before .before .before .before .before .before .before .before .before .before .before .before .before .before .before .before .before .take-goal) .last .1 .1 .1 .1 .1 .1 .1 .1 .1 .1 .1 .1 .0) ((c .before .before .before .before .before .before .before .before .before .before .before .before .before .before .before .before .before .before .before .before .before .before .before .before .before .before .before .before .before .before .before .before .before .before .before .before .before .before .before .before .before .before .before .before .before .before .before .before .before .before .args) .facts .now) ((c .before .before .before .before .before .before .before .before .before .before .before .before .before .before .before .before .before .before .before .before .before .before .before .before .before .before .before .before .before .before .before .before .before .before .before .before .before .before .before .before .before .before .before .before .before .before .before .before .before .before .args) .footings .now) ((c .before .before .before .before .before .before .before .before .before .before .before .before .before .before .before .before .before .before .take-goal) .last .1 .1 .1 .1 .1 .1 .1 .1 .1 .1 .1 .1 .1 .1 .1 .0)) ((c .before .before .before .before .before .before .before .before .before .before .before .before .before .before .before .before .before .before .take-goal) .ensures (turn-takes ((c .before .before .before .before .before .before .before .before .before .before .before .before .before .before .before .before .before .before .before .before .before .before .before .before .before .before .before .before .before .before .before .before .loop) .inv) ((c .before .before .before .before .before .before .before .before .before .before .before .before .before .before .before .before .before .before .before .before .before .before .before .before .before .before .before .before .before .before .read-form) .ensures) ((c .before .before .before .before .before .before .before .before .before .before .before .before .before .before .before .before .before .before .before .before .before .before .before .before .before .before .next) .given .1))) ((c .before .before .r2) .given .1) ((c .stopped2) .ensures), going-cleared ((c .before .before .before .before .before .before .before .before .before .before .before .before .before .before .before .before .before .before .before .before .before .before .before .before .before .before .before .before .before .before .before .before .loop) .inv .going) ((c .before .before .before .before .before .before .before .before .before .before .before .before .before .before .before .before .before .before .before .before .before .before .before .before .before .before .before .before .before .before .read-form) .ensures) ((c .before .before .before .before .before .before .before .before .before .before .before .before .before .before .before .before .before .before .before .before .before .before .before .before .before .before .next) .given .1) ((c .before .before .before .before .before .before .clear) .ensures))
+returns-3 c =
+    let mid = c .before .before .before .before .before .before .before .before .before .before .before .before .before .before .before .before .before .before .before .before .before .before .before .before .before in
+    let loop = mid .before .before .before .before .before .before .before .loop in
+    let read-form = mid .before .before .before .before .before .read-form in
+    let next = mid .before .next in
+    let take-goal = c .before .before .before .before .before .before .before .before .before .before .before .before .before .before .before .before .before .before .take-goal in
+    let args = mid .before .before .before .before .before .before .before .before .before .before .before .before .before .before .before .before .before .before .before .before .before .before .before .before .before .args in
+    let r2 = c .before .before .r2 in
+    let clear = c .before .before .before .before .before .before .clear in (
+      turn-refused (loop .inv) (read-form .ensures) (next .given .1)
+          (board (take-goal .last .1 .1 .1 .1 .1 .1 .1 .1 .0) (take-goal .last .1 .1 .1 .1 .1 .1 .1 .1 .1 .0)
+          (take-goal .last .1 .1 .1 .1 .1 .1 .1 .1 .1 .1 .0) (args .defs .now) (take-goal .last .1 .1 .1 .1 .1 .1 .1 .1 .1 .1 .1 .1 .0)
+          (args .facts .now) (args .footings .now) (take-goal .last .1 .1 .1 .1 .1 .1 .1 .1 .1 .1 .1 .1 .1 .1 .1 .0))
+          (take-goal .ensures (turn-takes (loop .inv) (read-form .ensures) (next .given .1))) (r2 .given .1) ((c .stopped2) .ensures),
+      going-cleared (loop .inv .going) (read-form .ensures) (next .given .1) (clear .ensures),
+    )
 
 add-forms : tie.Need-add-forms Inv-loop μ-loop
-add-forms c = omega (arith, (c .before .before .before .before .before .before .before .before .before .before .before .before .before .before .before .before .before .before .before .before .before .before .before .before .before .before .before .before .before .before .before .loop) .inv .going .few, (c .before .before .before .before .before .before .before .before .before .before .before .before .before .before .before .before .before .before .before .before .before .before .before .before .before .before .before .before .before .before .before .loop) .inv .going .high, (c .before .before .before .before .before .before .before .before .before .before .before .before .before .before .before .before .before .before .before .before .before .before .before .before .before .before .before .before .before .before .before .loop) .inv .going .legible .short)
+add-forms c =
+    let mid = c .before .before .before .before .before .before .before .before .before .before .before .before .before .before .before .before .before .before .before .before .before .before .before .before .before in
+    let loop = mid .before .before .before .before .before .before .loop in
+    omega (arith, loop .inv .going .few, loop .inv .going .high, loop .inv .going .legible .short)
 
 loop-less : tie.Need-loop-less Inv-loop μ-loop
-loop-less c = omega (arith, going-form ((c .before .before .before .before .before .before .before .before .before .before .before .before .before .before .before .before .before .before .before .before .before .before .before .before .before .before .before .before .before .before .before .loop) .inv .going) ((c .before .before .before .before .before .before .before .before .before .before .before .before .before .before .before .before .before .before .before .before .before .before .before .before .before .before .before .before .before .read-form) .ensures) ((c .before .before .before .before .before .before .before .before .before .before .before .before .before .before .before .before .before .before .before .before .before .before .before .before .before .next) .given .1) .on, going-form ((c .before .before .before .before .before .before .before .before .before .before .before .before .before .before .before .before .before .before .before .before .before .before .before .before .before .before .before .before .before .before .before .loop) .inv .going) ((c .before .before .before .before .before .before .before .before .before .before .before .before .before .before .before .before .before .before .before .before .before .before .before .before .before .before .before .before .before .read-form) .ensures) ((c .before .before .before .before .before .before .before .before .before .before .before .before .before .before .before .before .before .before .before .before .before .before .before .before .before .next) .given .1) .within)
+loop-less c =
+    let mid = c .before .before .before .before .before .before .before .before .before .before .before .before .before .before .before .before .before .before .before .before .before .before .before .before .before in
+    let loop = mid .before .before .before .before .before .before .loop in
+    let read-form = mid .before .before .before .before .read-form in
+    let next = c .before .before .before .before .before .before .before .before .before .before .before .before .before .before .before .before .before .before .before .before .before .before .before .before .before .next in
+    omega (
+      arith,
+      going-form (loop .inv .going) (read-form .ensures) (next .given .1) .on,
+      going-form (loop .inv .going) (read-form .ensures)
+          (next .given .1) .within,
+    )
 
 loop-again : tie.Need-loop-again Inv-loop μ-loop
-loop-again c = turn-on ((c .before .before .before .before .before .before .before .before .before .before .before .before .before .before .before .before .before .before .before .before .before .before .before .before .before .before .before .before .before .before .before .loop) .inv) ((c .before .before .before .before .before .before .before .before .before .before .before .before .before .before .before .before .before .before .before .before .before .before .before .before .before .before .before .before .before .read-form) .ensures) ((c .before .before .before .before .before .before .before .before .before .before .before .before .before .before .before .before .before .before .before .before .before .before .before .before .before .next) .given .1) (board ((c .before .before .before .before .before .before .before .before .before .before .before .before .before .before .before .before .before .take-goal) .last .1 .1 .1 .1 .1 .1 .1 .1 .0) ((c .before .before .before .before .before .before .before .before .before .before .before .before .before .before .before .before .before .take-goal) .last .1 .1 .1 .1 .1 .1 .1 .1 .1 .0) ((c .before .before .before .before .before .before .before .before .before .before .before .before .before .before .before .before .before .take-goal) .last .1 .1 .1 .1 .1 .1 .1 .1 .1 .1 .0) ((c .before .before .before .before .before .before .before .before .before .before .before .before .before .before .before .before .before .before .before .before .before .before .before .before .before .before .before .before .before .before .before .before .before .before .before .before .before .before .before .before .before .before .before .before .before .before .before .before .before .args) .defs .now) ((c .before .before .before .before .before .before .before .before .before .before .before .before .before .before .before .before .before .take-goal) .last .1 .1 .1 .1 .1 .1 .1 .1 .1 .1 .1 .1 .0) ((c .before .before .before .before .before .before .before .before .before .before .before .before .before .before .before .before .before .before .before .before .before .before .before .before .before .before .before .before .before .before .before .before .before .before .before .before .before .before .before .before .before .before .before .before .before .before .before .before .before .args) .facts .now) ((c .before .before .before .before .before .before .before .before .before .before .before .before .before .before .before .before .before .before .before .before .before .before .before .before .before .before .before .before .before .before .before .before .before .before .before .before .before .before .before .before .before .before .before .before .before .before .before .before .before .args) .footings .now) ((c .before .before .before .before .before .before .before .before .before .before .before .before .before .before .before .before .before .take-goal) .last .1 .1 .1 .1 .1 .1 .1 .1 .1 .1 .1 .1 .1 .1 .1 .0)) ((c .before .before .before .before .before .before .before .before .before .before .before .before .before .before .before .before .before .take-goal) .ensures (turn-takes ((c .before .before .before .before .before .before .before .before .before .before .before .before .before .before .before .before .before .before .before .before .before .before .before .before .before .before .before .before .before .before .before .loop) .inv) ((c .before .before .before .before .before .before .before .before .before .before .before .before .before .before .before .before .before .before .before .before .before .before .before .before .before .before .before .before .before .read-form) .ensures) ((c .before .before .before .before .before .before .before .before .before .before .before .before .before .before .before .before .before .before .before .before .before .before .before .before .before .next) .given .1))) ((c .before .r) .given .1) ((c .before .before .before .before .before .clear) .ensures)
+loop-again c =
+    let mid = c .before .before .before .before .before .before .before .before .before .before .before .before .before .before .before .before .before .before .before .before .before .before .before .before .before in
+    let loop = mid .before .before .before .before .before .before .loop in
+    let read-form = mid .before .before .before .before .read-form in
+    let next = c .before .before .before .before .before .before .before .before .before .before .before .before .before .before .before .before .before .before .before .before .before .before .before .before .before .next in
+    let take-goal = c .before .before .before .before .before .before .before .before .before .before .before .before .before .before .before .before .before .take-goal in
+    let args = mid .before .before .before .before .before .before .before .before .before .before .before .before .before .before .before .before .before .before .before .before .before .before .before .before .args in
+    let r = c .before .r in
+    let clear = c .before .before .before .before .before .clear in
+    turn-on (loop .inv) (read-form .ensures) (next .given .1)
+    (board (take-goal .last .1 .1 .1 .1 .1 .1 .1 .1 .0) (take-goal .last .1 .1 .1 .1 .1 .1 .1 .1 .1 .0)
+    (take-goal .last .1 .1 .1 .1 .1 .1 .1 .1 .1 .1 .0) (args .defs .now) (take-goal .last .1 .1 .1 .1 .1 .1 .1 .1 .1 .1 .1 .1 .0)
+    (args .facts .now) (args .footings .now) (take-goal .last .1 .1 .1 .1 .1 .1 .1 .1 .1 .1 .1 .1 .1 .1 .1 .0))
+    (take-goal .ensures (turn-takes (loop .inv) (read-form .ensures) (next .given .1))) (r .given .1) (clear .ensures)
 
 pub take-goals-spec : {M : Type 1} → statement M
 take-goals-spec =

@@ -42,7 +42,20 @@ same-length-6 : tie.Need-same-length-6
 same-length-6 c = (c .before .before .clear6) .kept .0
 
 returns : tie.Need-returns
-returns c = theory-cleared (theoryLists ((c .before .before .before .before .before .before .before .before .before .before .before .before .before .before .before .before .before .before .before .before .before .before .before .before .before .before .before .before .before .before .args) .sorts .now) ((c .before .before .before .before .before .before .before .before .before .before .before .before .before .before .before .before .before .before .before .before .before .before .before .before .before .before .before .before .before .before .args) .symbols .now) ((c .before .before .before .before .before .before .before .before .before .before .before .before .before .before .before .before .before .before .before .before .before .before .before .before .before .before .before .before .before .before .args) .inputs .now) ((c .before .before .before .before .before .before .before .before .before .before .before .before .before .before .before .before .before .before .before .before .before .before .before .before .before .before .before .before .before .before .args) .rules .now) ((c .before .before .before .before .before .before .before .before .before .before .before .before .before .before .before .before .before .before .before .before .before .before .before .before .before .before .before .before .before .before .args) .rulevars .now) ((c .before .before .before .before .before .before .before .before .before .before .before .before .before .before .before .before .before .before .before .before .before .before .before .before .before .before .before .before .before .before .args) .patterns .now)) ((c .before .before .before .before .before .before .before .before .before .before .before .before .before .before .before .before .before .before .before .before .before .before .before .before .before .before .before .before .before .before .pre)) _ _ _ _ _ _ ((c .before .before .before .before .before .before .before .before .before .before .before .before .before .before .before .before .before .before .before .before .before .before .clear) .ensures) ((c .before .before .before .before .before .before .before .before .before .before .before .before .before .before .before .before .before .before .clear2) .ensures) ((c .before .before .before .before .before .before .before .before .before .before .before .before .before .before .clear3) .ensures) ((c .before .before .before .before .before .before .before .before .before .before .clear4) .ensures) ((c .before .before .before .before .before .before .clear5) .ensures) ((c .before .before .clear6) .ensures)
+returns c =
+    let mid = c .before .before .before .before .before .before .before .before .before .before .before .before .before .before .before .before .before .before .before .before .before .before .before .before .before in
+    let args = mid .before .before .before .before .before .args in
+    let pre = mid .before .before .before .before .before .pre in
+    let clear = c .before .before .before .before .before .before .before .before .before .before .before .before .before .before .before .before .before .before .before .before .before .before .clear in
+    let clear2 = c .before .before .before .before .before .before .before .before .before .before .before .before .before .before .before .before .before .before .clear2 in
+    let clear3 = c .before .before .before .before .before .before .before .before .before .before .before .before .before .before .clear3 in
+    let clear4 = c .before .before .before .before .before .before .before .before .before .before .clear4 in
+    let clear5 = c .before .before .before .before .before .before .clear5 in
+    let clear6 = c .before .before .clear6 in
+    theory-cleared
+    (theoryLists (args .sorts .now) (args .symbols .now) (args .inputs .now) (args .rules .now) (args .rulevars .now)
+    (args .patterns .now)) pre _ _ _ _ _ _ (clear .ensures) (clear2 .ensures) (clear3 .ensures) (clear4 .ensures) (clear5 .ensures)
+    (clear6 .ensures)
 
 pub clear-theory-spec : {M : Type 1} → statement M
 clear-theory-spec =

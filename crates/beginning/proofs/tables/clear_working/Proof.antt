@@ -48,7 +48,22 @@ same-length-7 : tie.Need-same-length-7
 same-length-7 c = (c .before .before .clear7) .kept .0
 
 returns : tie.Need-returns
-returns c = (working-cleared (working ((c .before .before .before .before .before .before .before .before .before .before .before .before .before .before .before .before .before .before .before .before .before .before .before .before .before .before .before .before .before .before .before .before .before .before .before .args) .vars .now) ((c .before .before .before .before .before .before .before .before .before .before .before .before .before .before .before .before .before .before .before .before .before .before .before .before .before .before .before .before .before .before .before .before .before .before .before .args) .index .now) ((c .before .before .before .before .before .before .before .before .before .before .before .before .before .before .before .before .before .before .before .before .before .before .before .before .before .before .before .before .before .before .before .before .before .before .before .args) .words .now) ((c .before .before .before .before .before .before .before .before .before .before .before .before .before .before .before .before .before .before .before .before .before .before .before .before .before .before .before .before .before .before .before .before .before .before .before .args) .defs .now) ((c .before .before .before .before .before .before .before .before .before .before .before .before .before .before .before .before .before .before .before .before .before .before .before .before .before .before .before .before .before .before .before .before .before .before .before .args) .rows .now) ((c .before .before .before .before .before .before .before .before .before .before .before .before .before .before .before .before .before .before .before .before .before .before .before .before .before .before .before .before .before .before .before .before .before .before .before .args) .lists .now)) ((c .before .before .before .before .before .before .before .before .before .before .before .before .before .before .before .before .before .before .before .before .before .before .before .before .before .before .before .before .before .before .before .before .before .before .before .pre) .0) _ _ _ _ _ _ ((c .before .before .before .before .before .before .before .before .before .before .before .before .before .before .before .before .before .before .before .before .before .before .before .before .before .before .clear) .ensures) ((c .before .before .before .before .before .before .before .before .before .before .before .before .before .before .before .before .before .before .before .before .before .before .clear2) .ensures) ((c .before .before .before .before .before .before .before .before .before .before .before .before .before .before .before .before .before .before .clear3) .ensures) ((c .before .before .before .before .before .before .before .before .before .before .before .before .before .before .clear4) .ensures) ((c .before .before .before .before .before .before .before .before .before .before .clear5) .ensures) ((c .before .before .before .before .before .before .clear6) .ensures), missing-cleared ((c .before .before .before .before .before .before .before .before .before .before .before .before .before .before .before .before .before .before .before .before .before .before .before .before .before .before .before .before .before .before .before .before .before .before .before .args) .missing .now) ((c .before .before .before .before .before .before .before .before .before .before .before .before .before .before .before .before .before .before .before .before .before .before .before .before .before .before .before .before .before .before .before .before .before .before .before .pre) .1) ((c .before .before .clear7) .ensures))
+returns c =
+    let mid = c .before .before .before .before .before .before .before .before .before .before .before .before .before .before .before .before .before .before .before .before .before .before .before .before .before in
+    let args = mid .before .before .before .before .before .before .before .before .before .before .args in
+    let pre = mid .before .before .before .before .before .before .before .before .before .before .pre in
+    let clear = mid .before .clear in
+    let clear2 = c .before .before .before .before .before .before .before .before .before .before .before .before .before .before .before .before .before .before .before .before .before .before .clear2 in
+    let clear3 = c .before .before .before .before .before .before .before .before .before .before .before .before .before .before .before .before .before .before .clear3 in
+    let clear4 = c .before .before .before .before .before .before .before .before .before .before .before .before .before .before .clear4 in
+    let clear5 = c .before .before .before .before .before .before .before .before .before .before .clear5 in
+    let clear6 = c .before .before .before .before .before .before .clear6 in
+    let clear7 = c .before .before .clear7 in (
+      working-cleared
+          (working (args .vars .now) (args .index .now) (args .words .now) (args .defs .now) (args .rows .now) (args .lists .now)) (pre .0) _
+          _ _ _ _ _ (clear .ensures) (clear2 .ensures) (clear3 .ensures) (clear4 .ensures) (clear5 .ensures) (clear6 .ensures),
+      missing-cleared (args .missing .now) (pre .1) (clear7 .ensures),
+    )
 
 pub clear-working-spec : {M : Type 1} → statement M
 clear-working-spec =

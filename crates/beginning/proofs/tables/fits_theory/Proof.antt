@@ -41,7 +41,21 @@ returns-6 : tie.Need-returns-6
 returns-6 c = says-no (λ f. short-of ((c .if6) .taken) (f .patterns))
 
 returns-7 : tie.Need-returns-7
-returns-7 c = says-yes (record { sorts = (c .before .before .before .before .before .if1) .left; symbols = (c .before .before .before .before .if2) .left; inputs = (c .before .before .before .if3) .left; rules = (c .before .before .if4) .left; ruleVars = (c .before .if5) .left; patterns = (c .if6) .left })
+returns-7 c =
+    let if1 = c .before .before .before .before .before .if1 in
+    let if2 = c .before .before .before .before .if2 in
+    let if3 = c .before .before .before .if3 in
+    let if4 = c .before .before .if4 in
+    let if5 = c .before .if5 in
+    says-yes
+    (record {
+      sorts = if1 .left;
+      symbols = if2 .left;
+      inputs = if3 .left;
+      rules = if4 .left;
+      ruleVars = if5 .left;
+      patterns = (c .if6) .left;
+    })
 
 pub fits-theory-spec : {M : Type 1} → statement M
 fits-theory-spec =
