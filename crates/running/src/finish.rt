@@ -115,11 +115,11 @@ pub fn finish_exact(
     let n = s.sizes;
     let open_goals = count_open(rows, index, n.goals);
     settle(index);
-    if s.number == 53 {
-        list_missing(rows, n.goals, missing);
-        return carried(s);
-    }
-    if s.number != 0 {
+    if s.text != 0 {
+        if s.number == 53 {
+            list_missing(rows, n.goals, missing);
+            return carried(s);
+        }
         return carried(s);
     }
     let many = list_missing(rows, n.goals, missing);

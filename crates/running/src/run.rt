@@ -1,7 +1,9 @@
 // Where a check stands between two forms of the proof, by value. A refusal is carried on in it, so that whoever calls one part after the other needs no
 // branch.
 ghost use mathlib.Core.Path.{_≡_};
-ghost use Rattle.running.specs.Run.{noSizes, unfitRun, stoppedRun, startedRun, endedRun, refusedRun};
+ghost use Prim.Native.Nat.{_<_};
+ghost use Rattle.rules.specs.Limits.{LENGTH};
+ghost use Rattle.running.specs.Run.{noSizes, unfitRun, stoppedRun, startedRun, movedRun, endedRun, refusedRun};
 use state::sizes::Sizes;
 use terms::store::Mark;
 
@@ -16,7 +18,7 @@ pub struct Run {
     // what is used of the tables and of the store
     pub sizes: Sizes,
     pub mark: Mark,
-    // the refusal: its number, 0 for none, its text, the forms before it in that text, its detail
+    // the refusal: its number, its text, 0 for none, the forms before it in that text, its detail
     pub number: usize,
     pub text: usize,
     pub form: usize,
@@ -84,6 +86,25 @@ pub fn started(n: Sizes, mark: Mark) -> Run
         going: true,
         at: 0,
         forms: 0,
+        sizes: n,
+        mark: mark,
+        number: 0,
+        text: 0,
+        form: 0,
+        detail: 0,
+    }
+}
+
+// A form of the proof is taken, and the next one begins at a place.
+pub fn moved(s: Run, at: usize, n: Sizes, mark: Mark) -> Run
+    requires { ⌜ s .forms < LENGTH ⌝ }
+    ensures { λ r. ⌜ r ≡ movedRun s at n mark ⌝ }
+{
+    Run {
+        fit: s.fit,
+        going: true,
+        at: at,
+        forms: s.forms + 1,
         sizes: n,
         mark: mark,
         number: 0,

@@ -1,0 +1,5 @@
+pub mod Counting
+pub mod Courses
+pub mod Fronts
+pub mod Growing
+pub mod Steps

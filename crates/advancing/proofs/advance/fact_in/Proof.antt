@@ -1,0 +1,1 @@
+-- `advancing::advance::fact_in` meets its contract. Assumes nothing.

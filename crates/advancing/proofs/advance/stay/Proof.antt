@@ -1,0 +1,1 @@
+-- `advancing::advance::stay` meets its contract. Assumes nothing.

@@ -1,0 +1,1 @@
+-- `advancing::advance::taken` meets its contract. Assumes nothing.

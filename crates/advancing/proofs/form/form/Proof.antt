@@ -1,0 +1,1 @@
+-- `advancing::form::form` meets its contract. Assumes nothing.

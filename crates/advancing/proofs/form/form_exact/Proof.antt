@@ -1,0 +1,1 @@
+-- `advancing::form::form_exact` meets its contract. Assumes nothing.

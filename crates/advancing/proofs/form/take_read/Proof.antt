@@ -1,0 +1,1 @@
+-- `advancing::form::take_read` meets its contract. Assumes nothing.
