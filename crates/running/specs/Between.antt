@@ -63,11 +63,11 @@ pub record AllLong (room : ℕ) (T : TheoryLists) (W : Working) (M : List ℕ) :
   pub missing : GOALS ≤ length M
   pub facts : FACTS ≤ room
 
--- T, W, M before, U, V, N afterwards
-pub data Begun (theory goals proof : List ℕ) (room : ℕ) (T U : TheoryLists) (W V : Working) (M N rows feet : List ℕ) (r : Run) : Type 0 where
-  unfit : ¬ (AllLong room T W M) → U ≡ T → V ≡ W → N ≡ M → r ≡ unfitRun → Begun theory goals proof room T U W V M N rows feet r
-  begun : AllLong room T W M → (h : Held theory goals proof U V rows feet r) → h .S .counts ≡ noCounts → r .sizes .facts ≡ 0 → TheoryBehind T U → WorkingBehind W V →
-      N ≡ replicate GOALS 0 ++ drop GOALS M → Begun theory goals proof room T U W V M N rows feet r
+-- T, W, M before, U, Z, N afterwards
+pub data Begun (theory goals proof : List ℕ) (room : ℕ) (T U : TheoryLists) (W Z : Working) (M N rows feet : List ℕ) (r : Run) : Type 0 where
+  unfit : ¬ (AllLong room T W M) → U ≡ T → Z ≡ W → N ≡ M → r ≡ unfitRun → Begun theory goals proof room T U W Z M N rows feet r
+  begun : AllLong room T W M → (h : Held theory goals proof U Z rows feet r) → h .S .counts ≡ noCounts → r .sizes .facts ≡ 0 → TheoryBehind T U → WorkingBehind W Z →
+      N ≡ replicate GOALS 0 ++ drop GOALS M → Begun theory goals proof room T U W Z M N rows feet r
 
 -- One form -------------------------------------------------------------------------------------------------------------------------
 
@@ -82,14 +82,14 @@ abbrev pub StoredAs : Bool → ℕ → ℕ → (rows feet : List ℕ) → Fact �
 StoredAs true n k rows feet f = (k ≡ n + 1) × ((factRow f ≡ take 6 (drop (6 * n) rows)) × (factFoot f ≡ take 4 (drop (4 * n) feet)))
 StoredAs false n k rows feet f = k ≡ n
 
--- S: the state before; W, rows, feet the tables before, V, rows′, feet′ afterwards; r: where the check stands then; stored, f: the fact; more: what is counted
-pub record Advanced (theory goals proof : List ℕ) (T : TheoryLists) (W V : Working) (rows feet rows′ feet′ cells ids : List ℕ) (s : Run) (S : State) (r : Run)
+-- S: the state before; W, rows, feet the tables before, Z, rows′, feet′ afterwards; r: where the check stands then; stored, f: the fact; more: what is counted
+pub record Advanced (theory goals proof : List ℕ) (T : TheoryLists) (W Z : Working) (rows feet rows′ feet′ cells ids : List ℕ) (s : Run) (S : State) (r : Run)
     (stored : Bool) (f : Fact) (more : Counts) : Type 0 where
-  pub held : Held theory goals proof T V rows′ feet′ r
+  pub held : Held theory goals proof T Z rows′ feet′ r
   pub counted : held .S .counts ≡ plus (S .counts) (countsOf more)
   pub small : Few more 1
   pub few : (c : Counts) → Few c (s .forms) → Few (sum c more) (r .forms)
-  pub behind : WorkingBehind W V
+  pub behind : WorkingBehind W Z
   pub idle : Idle cells ids
   pub rows : take (6 * s .sizes .facts) rows′ ≡ take (6 * s .sizes .facts) rows
   pub feet : take (4 * s .sizes .facts) feet′ ≡ take (4 * s .sizes .facts) feet

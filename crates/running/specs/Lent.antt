@@ -47,7 +47,7 @@ boardFront W rows feet =
 
 -- Behind them ----------------------------------------------------------------------------------------------------------------------
 
--- T, W before, U, V afterwards: nothing there has changed
+-- T, W before, U, Z afterwards: nothing there has changed
 pub record TheoryBehind (T U : TheoryLists) : Type 0 where
   pub sorts : drop (2 * SORTS) (U .sorts) ≡ drop (2 * SORTS) (T .sorts)
   pub symbols : drop (4 * SYMBOLS) (U .symbols) ≡ drop (4 * SYMBOLS) (T .symbols)
@@ -56,13 +56,13 @@ pub record TheoryBehind (T U : TheoryLists) : Type 0 where
   pub ruleVars : drop (3 * RULEVARS * RULES) (U .ruleVars) ≡ drop (3 * RULEVARS * RULES) (T .ruleVars)
   pub patterns : drop PATTERNS (U .patterns) ≡ drop PATTERNS (T .patterns)
 
-pub record WorkingBehind (W V : Working) : Type 0 where
-  pub vars : drop (4 * VARIABLES) (V .vars) ≡ drop (4 * VARIABLES) (W .vars)
-  pub index : drop (4 * TERMS) (V .index) ≡ drop (4 * TERMS) (W .index)
-  pub words : drop WORDS (V .words) ≡ drop WORDS (W .words)
-  pub defs : drop (3 * DEFS) (V .defs) ≡ drop (3 * DEFS) (W .defs)
-  pub goals : drop (6 * GOALS) (V .goals) ≡ drop (6 * GOALS) (W .goals)
-  pub lists : drop ENTRIES (V .lists) ≡ drop ENTRIES (W .lists)
+pub record WorkingBehind (W Z : Working) : Type 0 where
+  pub vars : drop (4 * VARIABLES) (Z .vars) ≡ drop (4 * VARIABLES) (W .vars)
+  pub index : drop (4 * TERMS) (Z .index) ≡ drop (4 * TERMS) (W .index)
+  pub words : drop WORDS (Z .words) ≡ drop WORDS (W .words)
+  pub defs : drop (3 * DEFS) (Z .defs) ≡ drop (3 * DEFS) (W .defs)
+  pub goals : drop (6 * GOALS) (Z .goals) ≡ drop (6 * GOALS) (W .goals)
+  pub lists : drop ENTRIES (Z .lists) ≡ drop ENTRIES (W .lists)
 
 -- The records of facts -------------------------------------------------------------------------------------------------------------
 
