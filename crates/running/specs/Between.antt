@@ -91,8 +91,8 @@ pub record Advanced (theory goals proof : List ℕ) (T : TheoryLists) (W Z : Wor
   pub few : (c : Counts) → Few c (s .forms) → Few (sum c more) (r .forms)
   pub behind : WorkingBehind W Z
   pub idle : Idle cells ids
-  pub rows : take (6 * s .sizes .facts) rows′ ≡ take (6 * s .sizes .facts) rows
-  pub feet : take (4 * s .sizes .facts) feet′ ≡ take (4 * s .sizes .facts) feet
+  pub same-rows : take (6 * s .sizes .facts) rows′ ≡ take (6 * s .sizes .facts) rows
+  pub same-feet : take (4 * s .sizes .facts) feet′ ≡ take (4 * s .sizes .facts) feet
   pub stored-as : StoredAs stored (s .sizes .facts) (r .sizes .facts) rows′ feet′ f
   pub room : r .sizes .facts ≤ FACTS
   pub sooner : (r .going ≡ true → s .at < r .at)

@@ -83,5 +83,5 @@ factFeet (f ∷ fs) = factFoot f ++ factFeet fs
 
 -- the first n records are the first n rows
 pub record Mirrored (n : ℕ) (fs : List Fact) (rows feet : List ℕ) : Type 0 where
-  pub rows : factRows (take n fs) ≡ take (6 * n) rows
-  pub feet : factFeet (take n fs) ≡ take (4 * n) feet
+  pub same-rows : factRows (take n fs) ≡ take (6 * n) rows
+  pub same-feet : factFeet (take n fs) ≡ take (4 * n) feet
