@@ -87,7 +87,7 @@ module _ {W Y : Working} (l : LongWorking W) (p : Parts W Y) where
 
 -- One form -----------------------------------------------------------------------------------------------------------------------------
 
-is-underway : {theory goals proof : List ℕ} {T : TheoryLists} {B : Board} {s : Run} {S : State} → Course theory goals proof T B s S → s .going ≡ true →
+pub is-underway : {theory goals proof : List ℕ} {T : TheoryLists} {B : Board} {s : Run} {S : State} → Course theory goals proof T B s S → s .going ≡ true →
     Underway theory goals proof T B s S
 is-underway (on u) e = u
 is-underway (off o) e = absurd (true≢false (sym e ∙ o .over))
@@ -116,8 +116,8 @@ module _ {theory goals proof : List ℕ} {T : TheoryLists} {W : Working} {rows f
         few = e .few;
         behind = behind-parts (g .held .long) p;
         idle = e .idle;
-        rows = e .rows;
-        feet = e .feet;
+        same-rows = e .same-rows;
+        same-feet = e .same-feet;
         stored-as = e .stored-as;
         room = e .room;
         sooner = e .sooner;

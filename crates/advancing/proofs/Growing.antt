@@ -54,11 +54,11 @@ how-many noMore e f = same (f ∙ sym e)
 how-many {xs = xs} (oneMore x) e f = came (f ∙ length-one-more xs x ∙ ap (λ n. n + 1) (sym e))
 
 marked-entries : {gs hs : List Goal} → Marks gs hs → goalEntries hs ≡ goalEntries gs
+unfolding goalEntries
 marked-entries unmarked = refl
 marked-entries (marks gs g hs t) = behind gs
   where
     behind : (gs : List Goal) → goalEntries (gs ++ (takenGoal g ∷ hs)) ≡ goalEntries (gs ++ (g ∷ hs))
-    unfolding goalEntries
     behind [] = refl
     behind (f ∷ fs) = ap (λ n. countTrees (f .hyps) + n) (behind fs)
 
@@ -80,8 +80,8 @@ grows-sound h (gotResult m k d g e t) = g
 
 -- the rows that there were stay; n, k: how many there were and are
 pub record RowsStay (rows feet rows′ feet′ : List ℕ) (n k : ℕ) : Type 0 where
-  pub rows : take (6 * n) rows′ ≡ take (6 * n) rows
-  pub feet : take (4 * n) feet′ ≡ take (4 * n) feet
+  pub same-rows : take (6 * n) rows′ ≡ take (6 * n) rows
+  pub same-feet : take (4 * n) feet′ ≡ take (4 * n) feet
   pub many : OneMore n k
 
 module _ {X : Texts} {T : TheoryLists} {B D : Board} {n k : Sizes} {m new : Mark} {S U : State} (h : Stands X T B n m S) (j : Stands X T D k new U) where
@@ -97,17 +97,17 @@ module _ {X : Texts} {T : TheoryLists} {B D : Board} {n k : Sizes} {m new : Mark
       let l = tabled-fits (facts-tabled (j .recorded)) in
       let i = ap (λ i. length (factCells (treesOf D new) i (U .facts))) (marked-entries (a .goals)) in
       record {
-        rows = front-stays (6 * FACTS) (6 * n .facts) (r .facts) (j .recorded .facts ∙ c)
+        same-rows = front-stays (6 * FACTS) (6 * n .facts) (r .facts) (j .recorded .facts ∙ c)
             (facts-further (treesOf D new) (goalEntries (S .goals)) (a .facts)) (facts-tabled r .many) (omega (arith, l, i));
-        feet = front-stays (4 * FACTS) (4 * n .facts) (h .recorded .footings) (j .recorded .footings) (feet-further (a .facts))
+        same-feet = front-stays (4 * FACTS) (4 * n .facts) (h .recorded .footings) (j .recorded .footings) (feet-further (a .facts))
             (footings-tabled (h .recorded) .many) (tabled-fits (footings-tabled (j .recorded)));
         many = how-many (a .facts) (h .recorded .many) (j .recorded .many);
       }
 
 -- tables that stand for the same state
-pub same-rows : {X : Texts} {T : TheoryLists} {B D : Board} {n : Sizes} {m : Mark} {S : State} → Stands X T B n m S → Stands X T D n m S →
+pub unmoved-rows : {X : Texts} {T : TheoryLists} {B D : Board} {n : Sizes} {m : Mark} {S : State} → Stands X T B n m S → Stands X T D n m S →
     RowsStay (B .facts) (B .footings) (D .facts) (D .footings) (n .facts) (n .facts)
-same-rows {B = B} {D} {n} {m} {S} h j =
+unmoved-rows {B = B} {D} {n} {m} {S} h j =
     let e = j .recorded .facts ∙ ap (λ M. filled (6 * FACTS) (factCells M (goalEntries (S .goals)) (S .facts))) (j .store ∙ sym (h .store)) ∙ sym (h .recorded .facts) in
     let f = j .recorded .footings ∙ sym (h .recorded .footings) in
-    record { rows = ap (take (6 * n .facts)) e; feet = ap (take (4 * n .facts)) f; many = same refl }
+    record { same-rows = ap (take (6 * n .facts)) e; same-feet = ap (take (4 * n .facts)) f; many = same refl }

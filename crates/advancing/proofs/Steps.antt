@@ -43,7 +43,7 @@ use Rattle.advancing.specs.declared.advance.Advance.{Advance}
 use Rattle.advancing.specs.Handed.{recordAt, newAt, stays, movesOn, takenOn, Fitting}
 use Rattle.advancing.specs.Stepped.{Ready, AtForm, Stepped}
 use Rattle.advancing.proofs.Counting.{OneAtMost, taken-few}
-use Rattle.advancing.proofs.Growing.{OneMore, came, same, RowsStay, taken-rows, same-rows}
+use Rattle.advancing.proofs.Growing.{OneMore, came, same, RowsStay, taken-rows, unmoved-rows}
 use Rattle.advancing.proofs.Courses.{over-ended, over-unread, over-form, underway-on}
 
 -- A row as a record ------------------------------------------------------------------------------------------------------------------
@@ -52,25 +52,25 @@ next-cell : (l : List ℕ) (i : ℕ) → i < length l → drop i l ≡ getD l i 
 next-cell l i h = drop-cons l i 0 h ∙ ap (λ j. getD l i 0 ∷ drop j l) (sym (add-one i))
 
 four-cells : (l : List ℕ) (i : ℕ) → i + 4 ≤ length l →
-    drop i l ≡ getD l (i + 0) 0 ∷ getD l (i + 1) 0 ∷ getD l (i + 2) 0 ∷ getD l (i + 3) 0 ∷ drop (i + 4) l
+    drop i l ≡ getD l i 0 ∷ getD l (i + 1) 0 ∷ getD l (i + 2) 0 ∷ getD l (i + 3) 0 ∷ drop (i + 4) l
 four-cells l i h =
-    let a : i + 0 ≡ i = omega arith in
     let b : i + 1 + 1 ≡ i + 2 = omega arith in
     let c : i + 2 + 1 ≡ i + 3 = omega arith in
     let d : i + 3 + 1 ≡ i + 4 = omega arith in
     next-cell l i (omega arith)
-    ∙ (λ k. getD l (sym a k) 0 ∷ (next-cell l (i + 1) (omega arith) ∙ ap (λ j. getD l (i + 1) 0 ∷ drop j l) b) k)
-    ∙ ap (λ t. getD l (i + 0) 0 ∷ getD l (i + 1) 0 ∷ t) (next-cell l (i + 2) (omega arith) ∙ ap (λ j. getD l (i + 2) 0 ∷ drop j l) c)
-    ∙ ap (λ t. getD l (i + 0) 0 ∷ getD l (i + 1) 0 ∷ getD l (i + 2) 0 ∷ t) (next-cell l (i + 3) (omega arith) ∙ ap (λ j. getD l (i + 3) 0 ∷ drop j l) d)
+    ∙ ap (λ t. getD l i 0 ∷ t) (next-cell l (i + 1) (omega arith) ∙ ap (λ j. getD l (i + 1) 0 ∷ drop j l) b)
+    ∙ ap (λ t. getD l i 0 ∷ getD l (i + 1) 0 ∷ t) (next-cell l (i + 2) (omega arith) ∙ ap (λ j. getD l (i + 2) 0 ∷ drop j l) c)
+    ∙ ap (λ t. getD l i 0 ∷ getD l (i + 1) 0 ∷ getD l (i + 2) 0 ∷ t) (next-cell l (i + 3) (omega arith) ∙ ap (λ j. getD l (i + 3) 0 ∷ drop j l) d)
 
 six-cells : (l : List ℕ) (i : ℕ) → i + 6 ≤ length l →
-    drop i l ≡ getD l (i + 0) 0 ∷ getD l (i + 1) 0 ∷ getD l (i + 2) 0 ∷ getD l (i + 3) 0 ∷ getD l (i + 4) 0 ∷ getD l (i + 5) 0 ∷ drop (i + 6) l
+    drop i l ≡ getD l i 0 ∷ getD l (i + 1) 0 ∷ getD l (i + 2) 0 ∷ getD l (i + 3) 0 ∷ getD l (i + 4) 0 ∷ getD l (i + 5) 0 ∷ drop (i + 6) l
 six-cells l i h =
     let e : i + 4 + 1 ≡ i + 5 = omega arith in
     let f : i + 5 + 1 ≡ i + 6 = omega arith in
     four-cells l i (omega arith)
-    ∙ ap (λ t. getD l (i + 0) 0 ∷ getD l (i + 1) 0 ∷ getD l (i + 2) 0 ∷ getD l (i + 3) 0 ∷ t) (next-cell l (i + 4) (omega arith) ∙ ap (λ j. getD l (i + 4) 0 ∷ drop j l) e)
-    ∙ ap (λ t. getD l (i + 0) 0 ∷ getD l (i + 1) 0 ∷ getD l (i + 2) 0 ∷ getD l (i + 3) 0 ∷ getD l (i + 4) 0 ∷ t)
+    ∙ ap (λ t. getD l i 0 ∷ getD l (i + 1) 0 ∷ getD l (i + 2) 0 ∷ getD l (i + 3) 0 ∷ t)
+    (next-cell l (i + 4) (omega arith) ∙ ap (λ j. getD l (i + 4) 0 ∷ drop j l) e)
+    ∙ ap (λ t. getD l i 0 ∷ getD l (i + 1) 0 ∷ getD l (i + 2) 0 ∷ getD l (i + 3) 0 ∷ getD l (i + 4) 0 ∷ t)
     (next-cell l (i + 5) (omega arith) ∙ ap (λ j. getD l (i + 5) 0 ∷ drop j l) f)
 
 module _ (rows feet : List ℕ) (i : ℕ) where
@@ -85,7 +85,7 @@ stored-is : (rows feet : List ℕ) (n k : ℕ) → length rows ≡ 6 * FACTS →
     StoredAs (ltb n k) n k rows feet (newAt (ltb n k) rows feet n)
 stored-is rows feet n k a b l (came e) =
     subst (λ t. StoredAs t n k rows feet (newAt t rows feet n)) (sym (lt-ltb n k (omega arith)))
-    (e, row-is rows feet n (omega arith), foot-is rows feet n (omega arith))
+    (e, (row-is rows feet n (omega arith), foot-is rows feet n (omega arith)))
 stored-is rows feet n k a b l (same e) = subst (λ t. StoredAs t n k rows feet (newAt t rows feet n)) (sym (le-ltb n k (omega arith))) e
 
 -- Counts -----------------------------------------------------------------------------------------------------------------------------
@@ -143,8 +143,8 @@ module _ {theory goals proof : List ℕ} {T : TheoryLists} {B D : Board} {s : Ru
         small = few-none;
         few = λ d h. subst (Few (sum d none)) (sym b) (few-same (s .forms) d h);
         idle = i;
-        rows = w .rows;
-        feet = w .feet;
+        same-rows = w .same-rows;
+        same-feet = w .same-feet;
         stored-as = ap (λ (n : Sizes). n .facts) c;
         room = subst (λ (n : Sizes). n .facts ≤ FACTS) (sym c) (facts-few (u .stands));
         sooner = λ g. absurd (true≢false (sym g ∙ o .over));
@@ -168,7 +168,7 @@ module _ {theory goals proof : List ℕ} {T : TheoryLists} {B : Board} {cells id
   zeros-again e = record { cells-zero = e ∙ ap (λ n. replicate n 0) cells-long; ids-long = g .idle .ids-long }
 
   unmoved : RowsStay (B .facts) (B .footings) (B .facts) (B .footings) (s .sizes .facts) (s .sizes .facts)
-  unmoved = same-rows (g .underway .stands) (g .underway .stands)
+  unmoved = unmoved-rows (g .underway .stands) (g .underway .stands)
 
   module _ {v : List ℕ} {r : Read} (k : ReadRight proof (s .at) cells v r) where
     pub at-the-end : {o : Advance} {t : Run} → r ≡ read-as.End → t ≡ endedRun s → o ≡ stays t → Stepped theory goals proof T B B v ids s (g .S) o
@@ -217,7 +217,11 @@ module _ {theory goals proof : List ℕ} {T : TheoryLists} {B : Board} {cells id
   forms-few : s .forms < LENGTH
   forms-few = omega (arith, g .underway .few, g .form .on, g .form .within, g .underway .stands .spelling .short)
 
-  module _ {D : Board} where
+  cleared : {cells′ ids′ : List ℕ} → cells′ ≡ replicate used 0 ++ drop used cells → length ids′ ≡ IDS → Idle cells′ ids′
+  cleared {cells′} e l = record { cells-zero = form-cleared (g .form) cells′ e ∙ ap (λ n. replicate n 0) zeros-long; ids-long = l }
+
+  -- D: the tables afterwards
+  module _ (D : Board) where
     abbrev Answers : Taken → Type 0
     Answers r = TakenAs (texts theory goals proof) T D (s .sizes) (s .mark) (g .S) (takeForm (g .form .form) (g .S)) r
 
@@ -231,15 +235,15 @@ module _ {theory goals proof : List ℕ} {T : TheoryLists} {B : Board} {cells id
     fitting (taken-as.Ok k m c) h = (facts-few (h .stands), forms-few)
     fitting (taken-as.No q d) h = tt
 
-    module _ {cells′ ids′ : List ℕ} (e : cells′ ≡ replicate used 0 ++ drop used cells) (l : length ids′ ≡ IDS) where
-      cleared : Idle cells′ ids′
-      cleared = record { cells-zero = form-cleared (g .form) cells′ e ∙ ap (λ n. replicate n 0) zeros-long; ids-long = l }
-
-      moved-on : (k : Sizes) (m : Mark) (c : Counted) → Moves (texts theory goals proof) T D k m (takeForm (g .form .form) (g .S)) (plus (g .S .counts) (countsOf c)) →
+    module _ {cells′ ids′ : List ℕ} (i : Idle cells′ ids′) where
+      moved-on : (k : Sizes) (m : Mark) (c : Counted) →
+          Moves (texts theory goals proof) T D k m (takeForm (g .form .form) (g .S)) (plus (g .S .counts) (countsOf c)) →
           Stepped theory goals proof T B D cells′ ids′ s (g .S) (movesOn s p (D .facts) (D .footings) k m c)
       moved-on k m c h =
           let w = taken-rows (g .underway .stands) (h .stands) (g .form .form) (h .is) in
-          let o = few-one c (length (encode (g .form .form))) (taken-few (g .form .form) (g .S) (h .after) (countsOf c) (h .is) (h .counted)) (omega (arith, g .form .size, used-few)) in
+          let n = taken-few (g .form .form) (g .S) (h .after) (countsOf c) (h .is) (h .counted) in
+          let o = few-one c (length (encode (g .form .form))) n (omega (arith, g .form .size, used-few)) in
+          let l = rows-long (taken-as.Ok k m c) h in
           record {
             after = h .after;
             course = on (underway-on (g .underway) (g .form) (h .is) (h .stands));
@@ -247,10 +251,10 @@ module _ {theory goals proof : List ℕ} {T : TheoryLists} {B : Board} {cells id
             counted = h .counted;
             small = o;
             few = few-more c (s .forms) o;
-            idle = cleared;
-            rows = w .rows;
-            feet = w .feet;
-            stored-as = stored-is (D .facts) (D .footings) (s .sizes .facts) (k .facts) (rows-long (taken-as.Ok k m c) h .0) (rows-long (taken-as.Ok k m c) h .1) (facts-few (h .stands)) (w .many);
+            idle = i;
+            same-rows = w .same-rows;
+            same-feet = w .same-feet;
+            stored-as = stored-is (D .facts) (D .footings) (s .sizes .facts) (k .facts) (l .0) (l .1) (facts-few (h .stands)) (w .many);
             room = facts-few (h .stands);
             sooner = λ z. g .form .on;
           }
@@ -259,8 +263,10 @@ module _ {theory goals proof : List ℕ} {T : TheoryLists} {B : Board} {cells id
       answered (taken-as.Ok k m c) h = moved-on k m c h
       answered (taken-as.No q d) h =
           stepped-off (g .underway) (refusedRun s q d) refl refl refl (over-form (g .underway) (g .form) q d (h .0 .until) (h .1) (h .0 .is))
-          (same-rows (g .underway .stands) (h .1)) cleared
+          (unmoved-rows (g .underway .stands) (h .1)) i
 
-      -- what `take_read` leaves
-      pub form-answered : (r : Taken) {o : Advance} → Answers r → o ≡ takenOn s p (D .facts) (D .footings) r → Stepped theory goals proof T B D cells′ ids′ s (g .S) o
-      form-answered r h q = subst (λ o. Stepped theory goals proof T B D cells′ ids′ s (g .S) o) (sym q) (answered r h)
+    -- what `take_read` leaves
+    pub form-answered : {cells′ ids′ : List ℕ} (r : Taken) {o : Advance} → Answers r → cells′ ≡ replicate used 0 ++ drop used cells → length ids′ ≡ IDS →
+        o ≡ takenOn s p (D .facts) (D .footings) r → Stepped theory goals proof T B D cells′ ids′ s (g .S) o
+    form-answered {cells′} {ids′} r h e l q =
+        subst (λ o. Stepped theory goals proof T B D cells′ ids′ s (g .S) o) (sym q) (answered (cleared e l) r h)

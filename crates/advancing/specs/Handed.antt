@@ -1,8 +1,9 @@
 -- What one form hands on, as the functions make it. Assumes nothing.
 use mathlib.Core.Bool.{Bool, true, false}
 use mathlib.Core.List.{List, [], _∷_}
-use Prim.Native.Nat.{ℕ, _≤_, _<_}
+use Prim.Native.Nat.{ℕ, _*_, _≤_, _<_}
 use lib.Dec.{ltb}
+use lib.ListN.{getD}
 use Rattle.rules.specs.Limits.{LENGTH, FACTS}
 use Rattle.terms.specs.declared.store.Mark.{Mark}
 use Rattle.state.specs.declared.sizes.Sizes.{Sizes}
@@ -21,13 +22,13 @@ use Rattle.advancing.specs.declared.advance.Advance.{Advance}
 abbrev pub recordAt : List ℕ → List ℕ → ℕ → Fact
 recordAt rows feet i =
     record {
-      judgment = cell 6 rows i 0;
+      judgment = getD rows (6 * i) 0;
       assumed = cell 6 rows i 1;
       first = cell 6 rows i 2;
       hyps = cell 6 rows i 3;
       premises = cell 6 rows i 4;
       general = cell 6 rows i 5;
-      footing = cell 4 feet i 0 ∷ cell 4 feet i 1 ∷ cell 4 feet i 2 ∷ cell 4 feet i 3 ∷ [];
+      footing = getD feet (4 * i) 0 ∷ cell 4 feet i 1 ∷ cell 4 feet i 2 ∷ cell 4 feet i 3 ∷ [];
     }
 
 -- nothing is stored, nothing is counted

@@ -47,8 +47,8 @@ pub record Stepped (theory goals proof : List ℕ) (T : TheoryLists) (B D : Boar
   pub small : Few (o .more) 1
   pub few : (c : Counts) → Few c (s .forms) → Few (sum c (o .more)) (o .next .forms)
   pub idle : Idle cells ids
-  pub rows : take (6 * s .sizes .facts) (D .facts) ≡ take (6 * s .sizes .facts) (B .facts)
-  pub feet : take (4 * s .sizes .facts) (D .footings) ≡ take (4 * s .sizes .facts) (B .footings)
+  pub same-rows : take (6 * s .sizes .facts) (D .facts) ≡ take (6 * s .sizes .facts) (B .facts)
+  pub same-feet : take (4 * s .sizes .facts) (D .footings) ≡ take (4 * s .sizes .facts) (B .footings)
   pub stored-as : StoredAs (o .stored) (s .sizes .facts) (o .next .sizes .facts) (D .facts) (D .footings) (o .fact)
   pub room : o .next .sizes .facts ≤ FACTS
   pub sooner : (o .next .going ≡ true → s .at < o .next .at)

@@ -1,1 +1,0 @@
--- `advancing::advance::fact_in` meets its contract. Assumes nothing.
