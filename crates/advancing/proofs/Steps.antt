@@ -2,13 +2,13 @@
 use mathlib.Core.Path.{_≡_, refl, sym, ap, _∙_, subst}
 use mathlib.Core.Bool.{Bool, true, false, true≢false}
 use mathlib.Core.List.{List, [], _∷_, _++_, append-nil}
-use Prim.Native.Nat.{ℕ, suc, _+_, _*_, _<_, _≤_}
+use Prim.Native.Nat.{ℕ, suc, _+_, _-_, _*_, _<_, _≤_}
 use native.Mathlib.Omega.{arith}
 use native.Mathlib.Nat.{add-zero}
 use native.Mathlib.Numerals.{add-one}
 use borrow.Author.Tests.{lt-ltb, le-ltb}
 use lib.Dec.{ltb}
-use lib.ListN.{length, getD, take, drop, replicate, length-replicate}
+use lib.ListN.{length, getD, take, drop, replicate, length-append, length-replicate}
 use lib.Seq.{drop-cons, length-take-le}
 use Rattle.rules.specs.Limits.{LENGTH, FACTS}
 use Rattle.rules.specs.Sexp.{Sexp}
@@ -185,7 +185,7 @@ module _ {theory goals proof : List ℕ} {T : TheoryLists} {B : Board} {cells id
         (stepped-off (g .underway) (refusedRun s n 0) refl refl refl (over-unread (g .underway) n (a .0)) unmoved (zeros-again (a .1)))
 
     -- what `take_read` asks
-    pub at-a-form : {p n : ℕ} → r ≡ read-as.Form p n → AtForm theory goals proof T B v ids s p n
+    abbrev pub at-a-form : {p n : ℕ} → r ≡ read-as.Form p n → AtForm theory goals proof T B v ids s p n
     at-a-form e =
         record {
           S = g .S;
@@ -205,6 +205,11 @@ module _ {theory goals proof : List ℕ} {T : TheoryLists} {B : Board} {cells id
 
   pub used-few : used ≤ LENGTH
   used-few = omega (arith, g .form .room, zeros-long)
+
+  pub used-inside : used ≤ length cells
+  used-inside =
+      let w : List ℕ = replicate (length (g .zeros) - used) 0 in
+      omega (arith, ap length (g .form .cells), length-append (encode (g .form .form)) w, g .form .size)
 
   pub formed : Formed proof (take used cells) (g .form .form)
   unfolding encode
@@ -226,14 +231,17 @@ module _ {theory goals proof : List ℕ} {T : TheoryLists} {B : Board} {cells id
     Answers r = TakenAs (texts theory goals proof) T D (s .sizes) (s .mark) (g .S) (takeForm (g .form .form) (g .S)) r
 
     -- the tables of facts, whatever was answered
-    pub rows-long : (r : Taken) → Answers r → (length (D .facts) ≡ 6 * FACTS) × (length (D .footings) ≡ 4 * FACTS)
+    rows-long : (r : Taken) → Answers r → (length (D .facts) ≡ 6 * FACTS) × (length (D .footings) ≡ 4 * FACTS)
     rows-long (taken-as.Ok k m c) h = (tabled-long (facts-tabled (h .stands .recorded)), tabled-long (footings-tabled (h .stands .recorded)))
     rows-long (taken-as.No q d) h = (tabled-long (facts-tabled (h .1 .recorded)), tabled-long (footings-tabled (h .1 .recorded)))
 
-    -- what `taken` asks
-    pub fitting : (r : Taken) → Answers r → Fitting s r
+    fitting : (r : Taken) → Answers r → Fitting s r
     fitting (taken-as.Ok k m c) h = (facts-few (h .stands), forms-few)
     fitting (taken-as.No q d) h = tt
+
+    -- what `taken` asks
+    pub taken-asks : (r : Taken) → Answers r → (length (D .facts) ≡ 6 * FACTS) × (length (D .footings) ≡ 4 * FACTS) × Fitting s r
+    taken-asks r h = (rows-long r h .0, rows-long r h .1, fitting r h)
 
     module _ {cells′ ids′ : List ℕ} (i : Idle cells′ ids′) where
       moved-on : (k : Sizes) (m : Mark) (c : Counted) →

@@ -1,20 +1,90 @@
-// One form of the proof: its next form is read into cells, taken, and the cells are cleared again. The end of the text and a refusal are carried on in `Run`.
+// One form of the proof: the next one is read into cells, taken, and the cells are cleared again. The end of the text and a refusal are carried on in `Run`.
 ghost use mathlib.Core.Path.{_≡_};
+ghost use Prim.Native.Nat.{_*_, _<_};
+ghost use lib.ListN.{length};
+ghost use Rattle.rules.specs.Limits.{FACTS};
 ghost use Rattle.kernel.specs.Parsed.{theoryLists};
 ghost use Rattle.state.specs.Stands.{board};
 ghost use Rattle.running.specs.Lent.{working};
 ghost use Rattle.running.specs.Between.{Going, Advanced};
+ghost use Rattle.advancing.specs.Handed.{recordAt, stays, takenOn, Fitting};
 ghost use Rattle.advancing.specs.Stepped.{Ready, AtForm, Stepped};
 use crate::advance::Advance;
-use crate::advance::stay;
-use crate::advance::taken;
+use counts::no_counts;
+use facts::Fact;
+use facts::blank_fact;
 use running::run::Run;
 use running::run::ended;
+use running::run::moved;
 use running::run::refused;
 use sexp::sexp::Read;
 use sexp::sexp::clear;
 use sexp::sexp::read_form;
+use taking::take::Taken;
 use taking::take::take_form;
+
+// Nothing is stored and nothing counted.
+fn stay(next: Run) -> Advance
+    ensures { λ r. ⌜ r ≡ stays next ⌝ }
+{
+    Advance {
+        next: next,
+        stored: false,
+        fact: blank_fact(),
+        more: no_counts(),
+    }
+}
+
+// Row i of the facts, with the words of its footing, as a record.
+fn fact_in(facts: &[u32], footings: &[u64], i: usize) -> Fact
+    requires { ⌜ (length (now facts) ≡ 6 * FACTS) × (length (now footings) ≡ 4 * FACTS) × (i < FACTS) ⌝ }
+    ensures { λ r. ⌜ r ≡ recordAt (now (facts .entry)) (now (footings .entry)) i ⌝ }
+{
+    let at = 6 * i;
+    let word = 4 * i;
+    let footing: [u64; 4] = [
+        footings[word],
+        footings[word + 1],
+        footings[word + 2],
+        footings[word + 3],
+    ];
+    Fact {
+        judgment: facts[at],
+        assumed: facts[at + 1],
+        first: facts[at + 2],
+        hyps: facts[at + 3],
+        premises: facts[at + 4],
+        general: facts[at + 5],
+        footing: footing,
+    }
+}
+
+// What a form came to that was read up to `at`. The tables are those behind it: a fact that was stored is in the first row that was free before.
+fn taken(s: Run, at: usize, r: Taken, facts: &[u32], footings: &[u64]) -> Advance
+    requires { ⌜ (length (now facts) ≡ 6 * FACTS) × (length (now footings) ≡ 4 * FACTS) × Fitting s r ⌝ }
+    ensures { λ o. ⌜ o ≡ takenOn s at (now (facts .entry)) (now (footings .entry)) r ⌝ }
+{
+    match r {
+        Taken::No(q, d) => stay(refused(s, q, d)),
+        Taken::Ok(k, mark, c) => {
+            let n = s.sizes;
+            if n.facts < k.facts {
+                return Advance {
+                    next: moved(s, at, k, mark),
+                    stored: true,
+                    fact: fact_in(facts, footings, n.facts),
+                    more: c,
+                };
+            }
+            Advance {
+                next: moved(s, at, k, mark),
+                stored: false,
+                fact: blank_fact(),
+                more: c,
+            }
+        }
+    }
+}
 
 // The form that was read into the first `used` cells, and that ends before `at`.
 fn take_read(
