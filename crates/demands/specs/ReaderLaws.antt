@@ -13,6 +13,7 @@ use Rattle.rules.specs.Store.{Made}
 use Rattle.rules.specs.State.{State, Fact, Goal}
 use Rattle.rules.specs.StateTables.{Tables, numbers}
 use Rattle.rules.specs.Laws.Theory.{All, empty, both}
+use Rattle.rules.specs.Laws.Made.{sound}
 use Rattle.terms.specs.Table.{argsOf, trees}
 use Rattle.terms.specs.Laws.Tables.{length-trees, getD-trees}
 use Rattle.terms.specs.Sets.{holds}
@@ -34,6 +35,7 @@ module _ {T : Tables} {S : State} (h : Read T S) where
   W = take WORDS (T .words)
 
   few : length (S .made) ≤ TERMS
+  unfolding sound
   few = h .facts .trees .good .row8
 
   -- term i of all, where there is one
