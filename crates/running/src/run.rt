@@ -3,7 +3,7 @@
 ghost use mathlib.Core.Path.{_≡_};
 ghost use Prim.Native.Nat.{_<_};
 ghost use Rattle.rules.specs.Limits.{LENGTH};
-ghost use Rattle.running.specs.Run.{noSizes, unfitRun, stoppedRun, startedRun, movedRun, endedRun, refusedRun};
+ghost use Rattle.running.specs.Run.{noSizes, unfitRun, stoppedRun, startedRun, movedRun, endedRun, refusedRun, roomOf};
 use state::sizes::Sizes;
 use terms::store::Mark;
 
@@ -152,4 +152,29 @@ pub fn refused(s: Run, number: usize, detail: usize) -> Run
         form: s.forms,
         detail: detail,
     }
+}
+
+// Whether a form of the proof may be left.
+pub fn is_going(s: Run) -> bool
+    ensures { λ r. ⌜ r ≡ s .going ⌝ }
+{
+    s.going
+}
+
+// The number of the facts so far, which is that of the next one.
+pub fn index_of(s: Run) -> usize
+    ensures { λ r. ⌜ r ≡ s .sizes .facts ⌝ }
+{
+    let n = s.sizes;
+    n.facts
+}
+
+// How many records are the check's own: none where a table is too short.
+pub fn room_of(s: Run) -> usize
+    ensures { λ r. ⌜ r ≡ roomOf s ⌝ }
+{
+    if s.fit {
+        return rules::FACTS;
+    }
+    0
 }
