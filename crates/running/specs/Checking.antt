@@ -149,7 +149,7 @@ laid-front-is N cells before e =
 module _ {theory goals proof : List ℕ} (U : TheoryLists) (Z : Working) {rows feet : List ℕ} {s : Run} {S : State}
     (o : Over theory goals proof (theoryFront U) (boardFront Z rows feet) s S) where
   state-is : S ≡ check theory goals proof .state
-  state-is = sym (outcome-state (s .number) s S) ∙ ap (λ O. O .state) (o .is)
+  state-is = sym (outcome-state (s .text) s S) ∙ ap (λ O. O .state) (o .is)
 
   leaves : Leaves (boardFront Z rows feet) S
   leaves = stands-leaves (o .stands) (words-are (o .stands .good))
