@@ -15,9 +15,9 @@ def describe():
         limit=LIMIT,
         uses=["use lib.ListN.{drop as behind}", "use Rattle.rules.specs.Limits.{FACTS}", "use Rattle.kernel.specs.Parsed.{theoryLists}",
               "use Rattle.running.specs.Finished.{answerOf}", "use Rattle.running.specs.Lent.{working}", "use Rattle.running.specs.ReadBack.{Call}",
-              "use Rattle.running.specs.Checking.{tablesOf}", f"use {PROOFS}.Whole.{{blank-many}}"],
+              "use Rattle.running.specs.Checking.{tablesOf as tablesIn}", f"use {PROOFS}.Whole.{{blank-many}}"],
         calls=[call("schematic::check_with", "Answer",
-                    f"Call {spaced(TEXTS)} (tablesOf {theory_lists()} {working()} missing facts) "
-                    f"(tablesOf {theory_lists('z1·{}')} {working('z1·{}')} z1·missing z1·facts) (answerOf r1) × (behind FACTS z1·facts ≡ behind FACTS facts)",
+                    f"Call {spaced(TEXTS)} (tablesIn {theory_lists()} {working()} missing facts) "
+                    f"(tablesIn {theory_lists('z1·{}')} {working('z1·{}')} z1·missing z1·facts) (answerOf r1) × (behind FACTS z1·facts ≡ behind FACTS facts)",
                     "blank-many 6144 4096 65536 40960 refl refl refl refl")],
         final="e1")

@@ -5,7 +5,7 @@ THEORY = ["sorts", "symbols", "inputs", "rules", "rulevars", "patterns"]
 WORKING = ["vars", "index", "words", "defs", "rows", "lists"]
 SCRATCH = ["kept", "feet", "cells", "ids"]
 INNER = TEXTS + ["s"] + THEORY + WORKING + SCRATCH + ["facts", "counts"]
-LIMIT = 8000
+LIMIT = 20000
 
 
 def params(names, theory):

@@ -113,10 +113,31 @@ module _ (theory goals proof : List ℕ) (T : TheoryLists) (W : Working) (rows f
   abbrev pub begin : {c : Counts} → Known s → Kept theory goals proof T W rows feet cells ids s fs c → At
   begin {c} i k =
       record {
-        Z = W; rows-now = rows; feet-now = feet; cells-now = cells; ids-now = ids; st = s; fs-now = fs; counts-now = c; is = i; kept = k; same-fit = refl;
-        behind = behind-none W; facts-behind = refl; untouched = λ _. record { tables = refl; run = refl; facts = refl };
-        vars-long = refl; index-long = refl; words-long = refl; defs-long = refl; goals-long = refl; lists-long = refl; rows-long = refl; feet-long = refl;
-        cells-long = refl; ids-long = refl; facts-long = refl;
+        Z = W;
+        rows-now = rows;
+        feet-now = feet;
+        cells-now = cells;
+        ids-now = ids;
+        st = s;
+        fs-now = fs;
+        counts-now = c;
+        is = i;
+        kept = k;
+        same-fit = refl;
+        behind = behind-none W;
+        facts-behind = refl;
+        untouched = λ _. record { tables = refl; run = refl; facts = refl };
+        vars-long = refl;
+        index-long = refl;
+        words-long = refl;
+        defs-long = refl;
+        goals-long = refl;
+        lists-long = refl;
+        rows-long = refl;
+        feet-long = refl;
+        cells-long = refl;
+        ids-long = refl;
+        facts-long = refl;
       }
 
   module _ (x : At) where
@@ -147,12 +168,31 @@ module _ (theory goals proof : List ℕ) (T : TheoryLists) (W : Working) (rows f
           length feet′ ≡ length (x .feet-now) → length cells′ ≡ length (x .cells-now) → length ids′ ≡ length (x .ids-now) → length gs ≡ length (x .fs-now) → At
       next e v i lv li lw ld lg ll lr lf lc lids lfs =
           record {
-            Z = Z; rows-now = rows′; feet-now = feet′; cells-now = cells′; ids-now = ids′; st = r; fs-now = gs; counts-now = d; is = known r v i;
+            Z = Z;
+            rows-now = rows′;
+            feet-now = feet′;
+            cells-now = cells′;
+            ids-now = ids′;
+            st = r;
+            fs-now = gs;
+            counts-now = d;
+            is = known r v i;
             kept = record { fit = λ _. u .between; unfit = fit-next };
-            same-fit = same-next e; behind = behind-both (x .behind) (u .behind); facts-behind = u .facts-behind ∙ x .facts-behind; untouched = untouched-next e;
-            vars-long = lv ∙ x .vars-long; index-long = li ∙ x .index-long; words-long = lw ∙ x .words-long; defs-long = ld ∙ x .defs-long;
-            goals-long = lg ∙ x .goals-long; lists-long = ll ∙ x .lists-long; rows-long = lr ∙ x .rows-long; feet-long = lf ∙ x .feet-long;
-            cells-long = lc ∙ x .cells-long; ids-long = lids ∙ x .ids-long; facts-long = lfs ∙ x .facts-long;
+            same-fit = same-next e;
+            behind = behind-both (x .behind) (u .behind);
+            facts-behind = u .facts-behind ∙ x .facts-behind;
+            untouched = untouched-next e;
+            vars-long = lv ∙ x .vars-long;
+            index-long = li ∙ x .index-long;
+            words-long = lw ∙ x .words-long;
+            defs-long = ld ∙ x .defs-long;
+            goals-long = lg ∙ x .goals-long;
+            lists-long = ll ∙ x .lists-long;
+            rows-long = lr ∙ x .rows-long;
+            feet-long = lf ∙ x .feet-long;
+            cells-long = lc ∙ x .cells-long;
+            ids-long = lids ∙ x .ids-long;
+            facts-long = lfs ∙ x .facts-long;
           }
 
       pub less : x .st .going ≡ true → measure (r .going) (length proof) (r .at) < measure (x .st .going) (length proof) (x .st .at)

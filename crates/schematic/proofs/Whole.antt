@@ -32,9 +32,10 @@ use Rattle.schematic.proofs.Looping.{behind-both}
 
 -- the scratch as it is made
 pub blank-many : (a b c d : ℕ) → a ≡ 6 * FACTS → b ≡ 4 * FACTS → c ≡ LENGTH → d ≡ IDS → Blank (many ℕ a 0) (many ℕ b 0) (many ℕ c 0) (many ℕ d 0)
-blank-many a b c d ea eb ec ed =
-    (many-is ℕ a 0 ∙ ap (λ (n : ℕ). replicate n 0) ea,
-    (many-is ℕ b 0 ∙ ap (λ (n : ℕ). replicate n 0) eb, (many-is ℕ c 0 ∙ ap (λ (n : ℕ). replicate n 0) ec, many-is ℕ d 0 ∙ ap (λ (n : ℕ). replicate n 0) ed)))
+blank-many a b c d ea eb ec ed = (
+  many-is ℕ a 0 ∙ ap (λ (n : ℕ). replicate n 0) ea,
+  (many-is ℕ b 0 ∙ ap (λ (n : ℕ). replicate n 0) eb, (many-is ℕ c 0 ∙ ap (λ (n : ℕ). replicate n 0) ec, many-is ℕ d 0 ∙ ap (λ (n : ℕ). replicate n 0) ed)),
+)
 
 few-none : (forms : ℕ) → Few none forms
 few-none forms = record { hypotheses = omega arith; inductions = omega arith; inversions = omega arith; instances = omega arith }
@@ -148,9 +149,11 @@ module _ (theory goals proof : List ℕ) (T U : TheoryLists) (W Y Z : Working) (
         let o = opening f in
         let k = u .kept .fit f in
         let l = facts-room (k .held) in
-        let y : gs ≡ zeroed ys (e .sizes .facts) FACTS = z ∙ (λ h. zeroed ys (p h) ((q ∙ room-fit e f) h)) in
-        (call-fit {U = U} {Z = Z} fs (o .long) (o .theory-behind) (behind-both (o .behind) (u .behind)) (k .held) (u .over) (k .mirrored) (u .facts-behind) x n
-        (d ∙ back-same (o .empty)) y, ap (drop FACTS) y ∙ drop-zeroed ys (e .sizes .facts) FACTS l (k .room) ∙ u .facts-behind)
+        let y : gs ≡ zeroed ys (e .sizes .facts) FACTS = z ∙ (λ h. zeroed ys (p h) ((q ∙ room-fit e f) h)) in (
+          call-fit {U = U} {Z = Z} fs (o .long) (o .theory-behind) (behind-both (o .behind) (u .behind)) (k .held) (u .over) (k .mirrored) (u .facts-behind) x n
+              (d ∙ back-same (o .empty)) y,
+          ap (drop FACTS) y ∙ drop-zeroed ys (e .sizes .facts) FACTS l (k .room) ∙ u .facts-behind,
+        )
 
     unfit-said : e .fit ≡ false → Ended theory goals proof e (Z .index) index N N′ r → Said
     unfit-said f (ended h _ _ _) = absurd (true≢false (sym h ∙ f))

@@ -14,15 +14,16 @@ use Rattle.running.specs.Lent.{Working, WorkingBehind}
 use Rattle.running.specs.Between.{Between}
 
 -- W, s, fs before; Z, rows, feet, cells, ids, r, gs, c afterwards
-pub record Turned (theory goals proof : List ℕ) (T : TheoryLists) (W Z : Working) (rows feet cells ids : List ℕ) (s r : Run) (fs gs : List Fact) (c : Counts) : Type 0
-    where
+pub record Turned (theory goals proof : List ℕ) (T : TheoryLists) (W Z : Working) (rows feet cells ids : List ℕ) (s r : Run)
+    (fs gs : List Fact) (c : Counts) : Type 0 where
   pub between : Between theory goals proof T Z rows feet cells ids r gs c
   pub behind : WorkingBehind W Z
   pub facts-behind : drop FACTS gs ≡ drop FACTS fs
   pub sooner : (r .going ≡ true → s .at < r .at)
 
 -- the tables are long enough and all stands, or one is too short and no form is taken
-pub record Kept (theory goals proof : List ℕ) (T : TheoryLists) (W : Working) (rows feet cells ids : List ℕ) (s : Run) (fs : List Fact) (c : Counts) : Type 0 where
+pub record Kept (theory goals proof : List ℕ) (T : TheoryLists) (W : Working) (rows feet cells ids : List ℕ) (s : Run) (fs : List Fact)
+    (c : Counts) : Type 0 where
   pub fit : (s .fit ≡ true → Between theory goals proof T W rows feet cells ids s fs c)
   pub unfit : (s .fit ≡ false → s .going ≡ false)
 
@@ -33,8 +34,8 @@ pub record Untouched (W Z : Working) (s r : Run) (fs gs : List Fact) : Type 0 wh
   pub facts : gs ≡ fs
 
 -- no form is left
-pub record Ran (theory goals proof : List ℕ) (T : TheoryLists) (W Z : Working) (rows feet cells ids : List ℕ) (s r : Run) (fs gs : List Fact) (c : Counts) : Type 0
-    where
+pub record Ran (theory goals proof : List ℕ) (T : TheoryLists) (W Z : Working) (rows feet cells ids : List ℕ) (s r : Run)
+    (fs gs : List Fact) (c : Counts) : Type 0 where
   pub kept : Kept theory goals proof T Z rows feet cells ids r gs c
   pub over : r .going ≡ false
   pub same-fit : r .fit ≡ s .fit

@@ -52,9 +52,33 @@ fn turn(
         (now (kept .exit)) (now (feet .exit)) (now (cells .exit)) (now (ids .exit)) s r (now (facts .entry)) (now (facts .exit)) (now (counts .exit)) ⌝ }
 {
     let o = advancing::form::form(
-        theory, goals, proof, s, sorts, symbols, inputs, rules, rulevars, patterns, vars, index, words, defs, rows, lists, kept, feet, cells, ids,
+        theory,
+        goals,
+        proof,
+        s,
+        sorts,
+        symbols,
+        inputs,
+        rules,
+        rulevars,
+        patterns,
+        vars,
+        index,
+        words,
+        defs,
+        rows,
+        lists,
+        kept,
+        feet,
+        cells,
+        ids,
     );
-    facts::append_if(facts, advancing::advance::stored_of(o), running::run::index_of(s), advancing::advance::fact_of(o));
+    facts::append_if(
+        facts,
+        advancing::advance::stored_of(o),
+        running::run::index_of(s),
+        advancing::advance::fact_of(o),
+    );
     counts::add(counts, advancing::advance::more_of(o));
     advancing::advance::next_of(o)
 }
@@ -97,8 +121,28 @@ fn run(
     let mut st = s;
     while running::run::is_going(st) {
         let next = turn(
-            theory, goals, proof, st, sorts, symbols, inputs, rules, rulevars, patterns, vars, index, words, defs, rows, lists, kept, feet, cells, ids,
-            facts, counts,
+            theory,
+            goals,
+            proof,
+            st,
+            sorts,
+            symbols,
+            inputs,
+            rules,
+            rulevars,
+            patterns,
+            vars,
+            index,
+            words,
+            defs,
+            rows,
+            lists,
+            kept,
+            feet,
+            cells,
+            ids,
+            facts,
+            counts,
         );
         st = next;
     }
@@ -131,19 +175,61 @@ fn check_with(
 ) -> Answer
     requires { ⌜ Blank (now kept) (now feet) (now cells) (now ids) ⌝ }
     ensures { λ r. ⌜ Call (now (theory .entry)) (now (goals .entry)) (now (proof .entry))
-        (tablesOf (theoryLists (now (sorts .entry)) (now (symbols .entry)) (now (inputs .entry)) (now (rules .entry)) (now (rulevars .entry)) (now (patterns .entry)))
-        (working (now (vars .entry)) (now (index .entry)) (now (words .entry)) (now (defs .entry)) (now (rows .entry)) (now (lists .entry))) (now (missing .entry)) (now (facts .entry)))
+        (tablesOf
+        (theoryLists (now (sorts .entry)) (now (symbols .entry)) (now (inputs .entry)) (now (rules .entry)) (now (rulevars .entry)) (now (patterns .entry)))
+        (working (now (vars .entry)) (now (index .entry)) (now (words .entry)) (now (defs .entry)) (now (rows .entry)) (now (lists .entry)))
+        (now (missing .entry)) (now (facts .entry)))
         (tablesOf (theoryLists (now (sorts .exit)) (now (symbols .exit)) (now (inputs .exit)) (now (rules .exit)) (now (rulevars .exit)) (now (patterns .exit)))
-        (working (now (vars .exit)) (now (index .exit)) (now (words .exit)) (now (defs .exit)) (now (rows .exit)) (now (lists .exit))) (now (missing .exit)) (now (facts .exit)))
+        (working (now (vars .exit)) (now (index .exit)) (now (words .exit)) (now (defs .exit)) (now (rows .exit)) (now (lists .exit)))
+        (now (missing .exit)) (now (facts .exit)))
         (answerOf r) × (drop FACTS (now (facts .exit)) ≡ drop FACTS (now (facts .entry))) ⌝ }
 {
     let k = facts.len();
     let s = beginning::begin::begin(
-        theory, goals, proof, sorts, symbols, inputs, rules, rulevars, patterns, vars, index, words, defs, rows, lists, missing, kept, feet, cells, k,
+        theory,
+        goals,
+        proof,
+        sorts,
+        symbols,
+        inputs,
+        rules,
+        rulevars,
+        patterns,
+        vars,
+        index,
+        words,
+        defs,
+        rows,
+        lists,
+        missing,
+        kept,
+        feet,
+        cells,
+        k,
     );
     let mut counts = counts::no_counts();
     let e = run(
-        theory, goals, proof, s, sorts, symbols, inputs, rules, rulevars, patterns, vars, index, words, defs, rows, lists, kept, feet, cells, ids, facts,
+        theory,
+        goals,
+        proof,
+        s,
+        sorts,
+        symbols,
+        inputs,
+        rules,
+        rulevars,
+        patterns,
+        vars,
+        index,
+        words,
+        defs,
+        rows,
+        lists,
+        kept,
+        feet,
+        cells,
+        ids,
+        facts,
         &mut counts,
     );
     let r = running::finish::end(e, counts, index, words, rows, missing);
@@ -172,19 +258,40 @@ pub fn check(
     lists: &mut [u32],
     missing: &mut [u32],
 ) -> Answer
-    ensures { λ r. ⌜ Call (now (theory .entry)) (now (goals .entry)) (now (proof .entry))
-        (tablesOf (theoryLists (now (sorts .entry)) (now (symbols .entry)) (now (inputs .entry)) (now (rules .entry)) (now (rulevars .entry)) (now (patterns .entry)))
-        (working (now (vars .entry)) (now (index .entry)) (now (words .entry)) (now (defs .entry)) (now (rows .entry)) (now (lists .entry))) (now (missing .entry)) (now (facts .entry)))
+    ensures { λ a. ⌜ Call (now (theory .entry)) (now (goals .entry)) (now (proof .entry))
+        (tablesOf
+        (theoryLists (now (sorts .entry)) (now (symbols .entry)) (now (inputs .entry)) (now (rules .entry)) (now (rulevars .entry)) (now (patterns .entry)))
+        (working (now (vars .entry)) (now (index .entry)) (now (words .entry)) (now (defs .entry)) (now (rows .entry)) (now (lists .entry)))
+        (now (missing .entry)) (now (facts .entry)))
         (tablesOf (theoryLists (now (sorts .exit)) (now (symbols .exit)) (now (inputs .exit)) (now (rules .exit)) (now (rulevars .exit)) (now (patterns .exit)))
-        (working (now (vars .exit)) (now (index .exit)) (now (words .exit)) (now (defs .exit)) (now (rows .exit)) (now (lists .exit))) (now (missing .exit)) (now (facts .exit)))
-        (answerOf r) × (drop FACTS (now (facts .exit)) ≡ drop FACTS (now (facts .entry))) ⌝ }
+        (working (now (vars .exit)) (now (index .exit)) (now (words .exit)) (now (defs .exit)) (now (rows .exit)) (now (lists .exit)))
+        (now (missing .exit)) (now (facts .exit))) (answerOf a) × (drop FACTS (now (facts .exit)) ≡ drop FACTS (now (facts .entry))) ⌝ }
 {
     let mut kept = [0u32; 6 * rules::FACTS];
     let mut feet = [0u64; 4 * rules::FACTS];
     let mut cells = [0u32; rules::LENGTH];
     let mut ids = [0u32; induction::induct::IDS];
     check_with(
-        theory, goals, proof, sorts, symbols, inputs, rules, rulevars, patterns, vars, index, words, defs, rows, lists, missing, facts, &mut kept, &mut feet,
-        &mut cells, &mut ids,
+        theory,
+        goals,
+        proof,
+        sorts,
+        symbols,
+        inputs,
+        rules,
+        rulevars,
+        patterns,
+        vars,
+        index,
+        words,
+        defs,
+        rows,
+        lists,
+        missing,
+        facts,
+        &mut kept,
+        &mut feet,
+        &mut cells,
+        &mut ids,
     )
 }
