@@ -3,7 +3,7 @@
 ghost use mathlib.Core.Path.{_≡_};
 ghost use Prim.Native.Nat.{_<_};
 ghost use Rattle.rules.specs.Limits.{LENGTH};
-ghost use Rattle.running.specs.Run.{noSizes, unfitRun, stoppedRun, startedRun, endedRun, refusedRun, roomOf, movedRun};
+ghost use Rattle.running.specs.Run.{noSizes, unfitRun, stoppedRun, startedRun, movedRun, endedRun, refusedRun, roomOf};
 use state::sizes::Sizes;
 use terms::store::Mark;
 
