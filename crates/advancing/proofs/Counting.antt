@@ -2,10 +2,8 @@
 use mathlib.Core.Path.{_≡_, sym, ap, _∙_}
 use Prim.Native.Nat.{ℕ, zero, suc, _+_, _≤_}
 use mathlib.Core.Option.{Option, some, none as nothing}
-use mathlib.Core.List.{_++_}
 use native.Mathlib.Omega.{arith}
 use lib.ListN.{length, length-append}
-use Rattle.rules.specs.Limits.{LENGTH}
 use Rattle.rules.specs.Out.{ok}
 use Rattle.rules.specs.Sexp.{Sexp, Sexps, atom, list, nil, cons, count, item}
 use Rattle.rules.specs.Tags.{Tag, aVar, aDef, aStep, aHyp, aRuleHyp, anInduct, anInductWith, anApply, anInvert, aResult}
@@ -14,7 +12,7 @@ use Rattle.rules.specs.Forms.{plus, takeForm}
 use Rattle.rules.specs.Laws.Out.{of-ok}
 use Rattle.rules.specs.Laws.Tally.{bracket, brackets, bracketsIn, counted, headTag, tagOf, itemsOf, countedAs, countedForm}
 use Rattle.rules.specs.Laws.Form.{take-form-takes}
-use Rattle.rules.specs.Laws.Appends.{anything, ready-any}
+use Rattle.rules.specs.Laws.Appends.{ready-any}
 use Rattle.rules.specs.Laws.Count.{taken-counts}
 use Rattle.sexp.specs.Encode.{encode, encodes}
 

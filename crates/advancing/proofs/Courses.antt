@@ -4,8 +4,8 @@ use mathlib.Core.List.{List}
 use Prim.Native.Nat.{ℕ}
 use native.Mathlib.Omega.{arith}
 use Rattle.rules.specs.Out.{ok, refuse}
-use Rattle.rules.specs.Sexp.{Sexp, ends, fails, more, readFrom}
-use Rattle.rules.specs.Loop.{Judged, done, refused, through}
+use Rattle.rules.specs.Sexp.{ends, fails, readFrom}
+use Rattle.rules.specs.Loop.{Judged, refused, through}
 use Rattle.rules.specs.State.{State}
 use Rattle.rules.specs.Forms.{takeForm}
 use Rattle.rules.specs.Check.{afterProof, check}

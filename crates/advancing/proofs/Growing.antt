@@ -1,7 +1,6 @@
 -- The rows of facts before and behind a form: those that there were stay, and at most one has come. Assumes nothing.
 use mathlib.Core.Path.{_≡_, refl, sym, ap, _∙_, subst}
-use Prim.Native.Nat.{ℕ, suc, _+_, _*_, _<_, _≤_}
-use mathlib.Core.Bool.{Bool, true, false}
+use Prim.Native.Nat.{ℕ, _+_, _*_, _≤_}
 use mathlib.Core.List.{List, [], _∷_, _++_, append-nil}
 use native.Mathlib.Omega.{arith}
 use lib.ListN.{length, take, length-append}
@@ -24,7 +23,7 @@ use Rattle.terms.specs.declared.store.Mark.{Mark}
 use Rattle.state.specs.declared.sizes.Sizes.{Sizes}
 use Rattle.state.specs.RowCells.{factRow, footingRow}
 use Rattle.state.specs.Filled.{filled-front, filled-take}
-use Rattle.state.specs.RowTables.{Tabled, tabled-fits, length-one-more}
+use Rattle.state.specs.RowTables.{tabled-fits, length-one-more}
 use Rattle.state.specs.Growth.{recorded-on}
 use Rattle.state.specs.FactLaws.{fact-cells-snoc, footing-cells-snoc, facts-tabled, footings-tabled}
 use Rattle.state.specs.Stands.{Texts, Board, treesOf, Stands, stands-ready}

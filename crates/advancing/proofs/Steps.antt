@@ -1,29 +1,27 @@
 -- What one form leaves, from what the reader and the form answered. Assumes nothing.
 use mathlib.Core.Path.{_≡_, refl, sym, ap, _∙_, subst}
-use mathlib.Core.Bool.{Bool, true, false, true≢false}
-use mathlib.Core.List.{List, [], _∷_, _++_, append-nil}
-use Prim.Native.Nat.{ℕ, suc, _+_, _-_, _*_, _<_, _≤_}
+use mathlib.Core.Bool.{true≢false}
+use mathlib.Core.List.{List, _∷_, _++_, append-nil}
+use Prim.Native.Nat.{ℕ, _+_, _-_, _*_, _<_, _≤_}
 use native.Mathlib.Omega.{arith}
 use native.Mathlib.Nat.{add-zero}
 use native.Mathlib.Numerals.{add-one}
 use borrow.Author.Tests.{lt-ltb, le-ltb}
 use lib.Dec.{ltb}
 use lib.ListN.{length, getD, take, drop, replicate, length-append, length-replicate}
-use lib.Seq.{drop-cons, length-take-le}
+use lib.Seq.{drop-cons}
 use Rattle.rules.specs.Limits.{LENGTH, FACTS}
-use Rattle.rules.specs.Sexp.{Sexp}
-use Rattle.rules.specs.State.{State, Counts, noCounts}
+use Rattle.rules.specs.State.{State, Counts}
 use Rattle.rules.specs.Forms.{plus, takeForm}
 use Rattle.sexp.specs.Encode.{encode}
 use Rattle.sexp.specs.Reads.{Clear, ReadRight}
-use Rattle.sexp.specs.ReadLaws.{FormIs, at-end, at-refused, at-form, form-cleared}
+use Rattle.sexp.specs.ReadLaws.{at-end, at-refused, at-form, form-cleared}
 use Rattle.sexp.specs.declared.sexp.Read.{Read}
 use Rattle.sexp.specs.declared.sexp.Read.the-variants as read-as
 use Rattle.kernel.specs.Parsed.{TheoryLists, Formed}
 use Rattle.terms.specs.declared.store.Mark.{Mark}
 use Rattle.state.specs.declared.sizes.Sizes.{Sizes}
-use Rattle.state.specs.Rows.{cell}
-use Rattle.state.specs.RowTables.{Tabled, tabled-long}
+use Rattle.state.specs.RowTables.{tabled-long}
 use Rattle.state.specs.FactLaws.{facts-tabled, footings-tabled}
 use Rattle.state.specs.Stands.{texts, Board, Stands}
 use Rattle.counts.specs.declared.Counts.{Counts as Counted}
@@ -35,8 +33,8 @@ use Rattle.taking.specs.declared.take.Taken.{Taken}
 use Rattle.taking.specs.declared.take.Taken.the-variants as taken-as
 use Rattle.forms.specs.Moved.{Moves}
 use Rattle.running.specs.declared.run.Run.{Run}
-use Rattle.running.specs.Run.{movedRun, endedRun, refusedRun}
-use Rattle.running.specs.Course.{Underway, Over, Course, on, off}
+use Rattle.running.specs.Run.{endedRun, refusedRun}
+use Rattle.running.specs.Course.{Underway, Over, on, off}
 use Rattle.running.specs.Lent.{factRow, factFoot}
 use Rattle.running.specs.Between.{Idle, Few, StoredAs}
 use Rattle.advancing.specs.declared.advance.Advance.{Advance}

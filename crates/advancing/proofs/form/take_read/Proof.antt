@@ -3,7 +3,6 @@ use mathlib.Core.Path.{sym, _∙_}
 use lib.Seq.{length-take-le}
 use Rattle.state.specs.Stands.{board}
 use Rattle.advancing.proofs.Steps.{used-inside, form-asks, taken-asks, form-answered}
-use borrow.Author.Needs.{needs}
 use Rattle.advancing.proofs.form.take_read.Statement.{statement}
 use Rattle.advancing.proofs.form.take_read.Tie as tie
 
