@@ -87,8 +87,7 @@ pub extern "C" fn tariff_check(
         (tablesOf (theoryLists (now (sorts .exit)) (now (symbols .exit)) (now (inputs .exit)) (now (rules .exit)) (now (rulevars .exit)) (now (patterns .exit)))
         (working (now (vars .exit)) (now (index .exit)) (now (words .exit)) (now (defs .exit)) (now (rows .exit)) (now (lists .exit)))
         (now (missing .exit)) (now (facts .exit)))
-        (now (answer .entry)) (now (answer .exit)) ⌝ }
-    ensures { λ _. ⌜ drop FACTS (now (facts .exit)) ≡ drop FACTS (now (facts .entry)) ⌝ }
+        (now (answer .entry)) (now (answer .exit)) × (drop FACTS (now (facts .exit)) ≡ drop FACTS (now (facts .entry))) ⌝ }
 {
     let r = schematic::check(
         theory,
