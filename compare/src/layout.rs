@@ -3,15 +3,15 @@
 use crate::expected::{Bytes, Expected};
 use crate::facts::footed;
 use crate::schematic::Left;
-use crate::seam::{FOOTINGS, SHAPES};
 use crate::spans::{Span, spans};
 use crate::{answer, scan};
 use std::collections::HashMap;
+use tariff::tables::{FACTS, Record, Table};
 
-/// The cells of each table in the order of `SHAPES`, and the footings. Of the last table, 53's list, the order is free.
+/// The cells of each table in the order of `Table::ALL`, and the records. Of the last table, 53's list, the order is free.
 pub struct Layout {
     pub cells: Vec<Vec<u32>>,
-    pub footings: Vec<u64>,
+    pub facts: Vec<Record>,
 }
 
 const VARIABLE: u32 = 256;
@@ -130,7 +130,7 @@ struct State {
     vars: Vec<u32>,
     defs: Vec<u32>,
     goals: Vec<u32>,
-    facts: Vec<u32>,
+    facts: Vec<Record>,
     lists: Vec<u32>,
 }
 
@@ -171,8 +171,9 @@ impl State {
 
     fn facts(&mut self, left: &Left) {
         for f in &left.facts {
-            let lengths = [f.hyps.len(), f.premises.len(), f.general.len()].map(|n| n as u32);
-            self.facts.extend([f.judgment, u32::from(f.assumed), self.lists.len() as u32].into_iter().chain(lengths));
+            let [first, hyps, premises, general] = [self.lists.len(), f.hyps.len(), f.premises.len(), f.general.len()].map(|n| n as u32);
+            let assumed = u32::from(f.assumed);
+            self.facts.push(Record { judgment: f.judgment, assumed, first, hyps, premises, general, footing: [0; 4] });
             let general = f.general.iter().map(|v| v - left.symbols.len() as u32);
             self.lists.extend(f.hyps.iter().chain(&f.premises).copied().chain(general));
         }
@@ -196,14 +197,11 @@ fn terms(left: &Left) -> (Vec<u32>, Vec<u32>) {
     (index, words)
 }
 
-fn bits(rules: &[String], proof: &str) -> Vec<u64> {
-    let mut words = Vec::new();
-    for set in footed(rules, &answer::items(proof).forms) {
-        let mut four = [0u64; 4];
-        set.iter().for_each(|r| four[r / 64] |= 1 << (r % 64));
-        words.extend(four);
+/// The footings of the facts, a bit a rule.
+fn foot(facts: &mut [Record], rules: &[String], proof: &str) {
+    for (fact, set) in facts.iter_mut().zip(footed(rules, &answer::items(proof).forms)) {
+        set.iter().for_each(|r| fact.footing[r / 64] |= 1 << (r % 64));
     }
-    words
 }
 
 /// What an answer other than 1 leaves.
@@ -212,7 +210,7 @@ pub fn layout(texts: &Bytes, it: &Expected) -> Layout {
     let [theory, goals, proof] = [0, 1, 2].map(|k| taken(&plain[k], it.taken[k]));
     let mut t = Theory::default();
     theory.forms.iter().for_each(|f| t.declare(theory.text, f.list()));
-    let (mut state, mut index, mut words, mut footings) = (State::default(), Vec::new(), Vec::new(), Vec::new());
+    let (mut state, mut index, mut words) = (State::default(), Vec::new(), Vec::new());
     if let Some(left) = &it.left {
         state.variables(left, [(&goals, 2), (&proof, 3)]);
         state.abbreviations(left, &proof);
@@ -220,16 +218,16 @@ pub fn layout(texts: &Bytes, it: &Expected) -> Layout {
         state.goals(&Spelled { theory: &t, left, ids }, &goals, &proof);
         state.facts(left);
         (index, words) = terms(left);
-        footings = bits(&t.rule_names, proof.text);
+        foot(&mut state.facts, &t.rule_names, proof.text);
     }
     let missing = if it.line.starts_with("(refused 53 ") { state.missing() } else { Vec::new() };
-    let State { vars, defs, goals, facts, lists } = state;
+    let State { vars, defs, goals, mut facts, lists } = state;
     let mut cells =
-        vec![t.sorts, t.symbols, t.inputs, t.rules, t.rule_vars, t.patterns, vars, index, words, defs, goals, facts, lists, missing];
-    for (table, shape) in cells.iter_mut().zip(&SHAPES) {
-        assert!(table.len() <= shape.cells, "what stands fits");
-        table.resize(shape.cells, 0);
+        vec![t.sorts, t.symbols, t.inputs, t.rules, t.rule_vars, t.patterns, vars, index, words, defs, goals, lists, missing];
+    for (cells, table) in cells.iter_mut().zip(&Table::ALL) {
+        assert!(cells.len() <= table.cells(), "what stands fits");
+        cells.resize(table.cells(), 0);
     }
-    footings.resize(FOOTINGS.cells, 0);
-    Layout { cells, footings }
+    facts.resize(FACTS, Record::default());
+    Layout { cells, facts }
 }

@@ -39,7 +39,7 @@ fn hold(row: &Row) {
     if seam::LINKED {
         let mut tables = seam::Tables::new();
         let ours = seam::check(&bytes(&row.texts), &mut tables);
-        assert_eq!(ours.line(), row.line, "ours on {}", row.name);
+        assert_eq!(seam::line(ours), row.line, "ours on {}", row.name);
     }
 }
 

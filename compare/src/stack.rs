@@ -60,7 +60,7 @@ pub fn run(kilobytes: &str) -> Result<(), String> {
         let texts = bytes(&texts);
         let call = move || {
             let mut tables = Box::new(Tables::new());
-            seam::check(&texts, &mut tables).line()
+            seam::line(seam::check(&texts, &mut tables))
         };
         let thread = std::thread::Builder::new().stack_size(size * 1024).spawn(call).map_err(|e| e.to_string())?;
         let line = thread.join().map_err(|_| format!("{name}: no answer"))?;
