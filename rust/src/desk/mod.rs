@@ -1,0 +1,10 @@
+//! The parts of the desk's program.
+pub mod args;
+pub mod bar;
+pub mod check;
+pub mod excerpt;
+pub mod explain;
+pub mod facts;
+pub mod json;
+pub mod paint;
+pub mod question;
