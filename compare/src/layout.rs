@@ -222,8 +222,7 @@ pub fn layout(texts: &Bytes, it: &Expected) -> Layout {
     }
     let missing = if it.line.starts_with("(refused 53 ") { state.missing() } else { Vec::new() };
     let State { vars, defs, goals, mut facts, lists } = state;
-    let mut cells =
-        vec![t.sorts, t.symbols, t.inputs, t.rules, t.rule_vars, t.patterns, vars, index, words, defs, goals, lists, missing];
+    let mut cells = vec![t.sorts, t.symbols, t.inputs, t.rules, t.rule_vars, t.patterns, vars, index, words, defs, goals, lists, missing];
     for (cells, table) in cells.iter_mut().zip(&Table::ALL) {
         assert!(cells.len() <= table.cells(), "what stands fits");
         cells.resize(table.cells(), 0);

@@ -8,7 +8,7 @@
 //!     compare check N SEED                 N cases, all limits among them, through the whole check, beside the original
 //!     compare speed                        times of parts of the original and of this product, in one run
 //!     compare draw N SEED                  the cases of `check`, counted by what is expected of them; ours is not called
-//!     compare stack KB                     the deepest calls, on a stack of so many kilobytes
+//!     compare stack [KB [NAME]]            the deepest calls on a stack of so many kilobytes; without KB, the least that each needs
 //!     compare whole                        times of whole checks
 use std::process::exit;
 
@@ -60,10 +60,12 @@ fn main() {
         ["limits"] => store::print_limits(),
         ["check", n, seed] => check::run(n, seed),
         ["draw", n, seed] => check::draw(n, seed),
-        ["stack", kilobytes] => stack::run(kilobytes),
+        ["stack"] => stack::measure(),
+        ["stack", kilobytes] => stack::run(kilobytes, None),
+        ["stack", kilobytes, name] => stack::run(kilobytes, Some(name)),
         ["whole"] => speed_whole::run(),
         ["speed"] => speed::run(),
-        _ => Err("usage: compare line THEORY GOALS PROOF | cases N SEED [SOURCE...] | store N SEED [SOURCE...] | limits | check N SEED | draw N SEED | stack KB | speed | whole".into()),
+        _ => Err("usage: compare line THEORY GOALS PROOF | cases N SEED [SOURCE...] | store N SEED [SOURCE...] | limits | check N SEED | draw N SEED | stack [KB [NAME]] | speed | whole".into()),
     };
     if let Err(why) = done {
         eprintln!("{why}");

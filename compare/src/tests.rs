@@ -121,7 +121,8 @@ fn the_layout_of_example_a() {
     begins(7, &[1, 3, 4, 6, 7, 9, 11, 13]);
     begins(10, &[19, 20, 1, 0, 0, 1]);
     begins(11, &[1, 1]);
-    let fact = |judgment, assumed, first, hyps, rules| Record { judgment, assumed, first, hyps, footing: [rules, 0, 0, 0], ..Default::default() };
+    let fact =
+        |judgment, assumed, first, hyps, rules| Record { judgment, assumed, first, hyps, footing: [rules, 0, 0, 0], ..Default::default() };
     let want = [fact(3, 0, 0, 0, 1), fact(5, 1, 0, 1, 0), fact(7, 0, 1, 1, 2), fact(1, 0, 2, 0, 0), Record::default()];
     assert_eq!(l.facts[..5], want);
 }
