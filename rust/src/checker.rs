@@ -1,7 +1,7 @@
 //! A checker with tables of its own, and what it has recorded.
 use crate::answer::Verdict;
 use crate::bindings::check_lent;
-use crate::facts::{Fact, Goal, State, Term, Variable};
+use crate::facts::{Fact, Goal, Rule, State, Term, Variable};
 use crate::places::{scan, tag};
 use crate::refusal::{Refusal, Text};
 use crate::tables::{LENGTH, STACK, Table, Tables};
@@ -92,6 +92,11 @@ impl Checker {
         let state = self.state();
         let records = self.tables.facts()[..self.recorded()].iter().enumerate();
         records.map(move |(index, record)| Fact { state, index, record })
+    }
+
+    /// The rules that the last check stored; after a refusal in the theory those before the refused form.
+    pub fn rules(&self) -> impl Iterator<Item = Rule<'_>> {
+        self.state().rules()
     }
 
     /// The goals that the last check stored; after a refusal in the goals those before the refused form.

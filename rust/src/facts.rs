@@ -26,9 +26,14 @@ impl<'a> State<'a> {
         Variable { state: self, number }
     }
 
-    fn rule(&self, number: usize) -> &'a str {
-        let [from, to, ..] = self.tables.entry::<6>(Table::Rules, number);
-        self.name(Text::Theory, range(from, to))
+    fn rule(self, number: usize) -> Rule<'a> {
+        Rule { state: self, number }
+    }
+
+    /// The rules that were stored; their names are not empty, so that a row of zeros is none.
+    pub fn rules(self) -> impl Iterator<Item = Rule<'a>> {
+        let rows = self.tables.cells(Table::Rules).chunks(6);
+        rows.take_while(|row| row[1] != 0).enumerate().map(move |(k, _)| self.rule(k))
     }
 
     fn lists(&self, first: u32, entries: u32) -> &'a [u32] {
@@ -103,7 +108,27 @@ impl<'a> Fact<'a> {
     /// The names of the rules that it rests on, in the order of the theory.
     pub fn footing(&self) -> impl Iterator<Item = &'a str> + use<'a> {
         let (state, words) = (self.state, self.record.footing);
-        (0..64 * words.len()).filter(move |r| words[r / 64] >> (r % 64) & 1 == 1).map(move |r| state.rule(r))
+        (0..64 * words.len()).filter(move |r| words[r / 64] >> (r % 64) & 1 == 1).map(move |r| state.rule(r).name())
+    }
+}
+
+/// A rule of the theory.
+#[derive(Clone, Copy, Debug)]
+pub struct Rule<'a> {
+    state: State<'a>,
+    number: usize,
+}
+
+impl<'a> Rule<'a> {
+    /// The place of its name in the theory's text.
+    pub fn declared(&self) -> Range<usize> {
+        let [from, to, ..] = self.state.tables.entry::<6>(Table::Rules, self.number);
+        range(from, to)
+    }
+
+    /// Its name.
+    pub fn name(&self) -> &'a str {
+        self.state.name(Text::Theory, self.declared())
     }
 }
 

@@ -50,5 +50,5 @@ pub use bindings::check_lent;
 #[cfg(feature = "library")]
 pub use checker::{Checker, with_stack};
 #[cfg(feature = "library")]
-pub use facts::{Fact, Goal, Head, Term, Variable};
+pub use facts::{Fact, Goal, Head, Rule, Term, Variable};
 pub use refusal::{Refusal, Text};

@@ -40,43 +40,65 @@ fn space(b: u8) -> bool {
     matches!(b, 9..=13 | 32)
 }
 
-/// Behind the comment, blank or atom that begins here.
-fn behind(text: &[u8], at: usize) -> usize {
-    let rest = &text[at..];
-    let length = match rest[0] {
-        b';' => rest.iter().position(|&b| b == b'\n'),
-        b if space(b) => Some(1),
-        _ => rest.iter().position(|&b| space(b) || matches!(b, b'(' | b')' | b';')),
-    };
-    at + length.unwrap_or(rest.len())
+/// A bracket or an atom.
+#[derive(Clone, Copy, Debug, PartialEq, Eq)]
+pub enum Token {
+    /// `(`
+    Open,
+    /// `)`
+    Close,
+    /// Anything else but white space and comments.
+    Atom,
+}
+
+/// What begins here, and how many bytes it has; white space and comments are no tokens.
+fn token(rest: &[u8]) -> (Option<Token>, usize) {
+    let until = |ends: fn(u8) -> bool| rest.iter().position(|&b| ends(b)).unwrap_or(rest.len());
+    match rest[0] {
+        b'(' => (Some(Token::Open), 1),
+        b')' => (Some(Token::Close), 1),
+        b';' => (None, until(|b| b == b'\n')),
+        b if space(b) => (None, 1),
+        _ => (Some(Token::Atom), until(|b| space(b) || matches!(b, b'(' | b')' | b';'))),
+    }
+}
+
+/// The tokens of a part of a text, each with its place.
+pub fn tokens(text: &[u8], part: Range<usize>) -> impl Iterator<Item = (Token, Range<usize>)> {
+    let mut at = part.start;
+    std::iter::from_fn(move || {
+        while at < part.end {
+            let from = at;
+            let (found, length) = token(&text[from..part.end]);
+            at += length;
+            if let Some(found) = found {
+                return Some((found, from..at));
+            }
+        }
+        None
+    })
 }
 
 /// The items of a text.
 pub fn scan(text: &[u8]) -> Scan {
     let mut it = Scan::default();
-    let (mut at, mut depth, mut start) = (0, 0, 0);
-    while at < text.len() {
-        let from = at;
-        at += 1;
-        match text[from] {
-            b'(' if depth == DEPTH => return Scan { stop: Some(Stop::Deep(from)), ..it },
-            b')' if depth == 0 => return Scan { stop: Some(Stop::Stray(from)), ..it },
-            b'(' => {
-                start = if depth == 0 { from } else { start };
+    let (mut depth, mut start) = (0, 0);
+    for (token, range) in tokens(text, 0..text.len()) {
+        match token {
+            Token::Open if depth == DEPTH => return Scan { stop: Some(Stop::Deep(range.start)), ..it },
+            Token::Close if depth == 0 => return Scan { stop: Some(Stop::Stray(range.start)), ..it },
+            Token::Open => {
+                start = if depth == 0 { range.start } else { start };
                 depth += 1;
             }
-            b')' => {
+            Token::Close => {
                 depth -= 1;
                 if depth == 0 {
-                    it.items.push(Item { range: start..at, form: true });
+                    it.items.push(Item { range: start..range.end, form: true });
                 }
             }
-            b => {
-                at = behind(text, from);
-                if depth == 0 && b != b';' && !space(b) {
-                    it.items.push(Item { range: from..at, form: false });
-                }
-            }
+            Token::Atom if depth == 0 => it.items.push(Item { range, form: false }),
+            Token::Atom => (),
         }
     }
     it.stop = (depth > 0).then_some(Stop::Unclosed(start));
@@ -85,17 +107,11 @@ pub fn scan(text: &[u8]) -> Scan {
 
 /// The first word of a form, such as `step`; empty where it begins with a bracket.
 pub fn tag<'a>(text: &'a [u8], item: &Item) -> &'a [u8] {
-    let mut at = item.range.start + usize::from(item.form);
-    while at < item.range.end {
-        let end = behind(text, at);
-        match text[at] {
-            b'(' | b')' => break,
-            b';' => at = end,
-            b if space(b) => at = end,
-            _ => return &text[at..end],
-        }
+    let inside = item.range.start + usize::from(item.form)..item.range.end;
+    match tokens(text, inside).next() {
+        Some((Token::Atom, range)) => &text[range],
+        _ => &[],
     }
-    &[]
 }
 
 /// A line and a column, both from 1; columns count bytes.
@@ -128,5 +144,50 @@ pub fn refused(text: &[u8], refusal: &Refusal) -> Range<usize> {
         25 | 53 => end..end,
         // a bare atom is refused where it stands, so that all items before the refused one are forms
         _ => scan(text).items.into_iter().nth(refusal.form).map_or(end..end, |item| item.range),
+    }
+}
+
+#[cfg(test)]
+mod tests {
+    use super::*;
+    use crate::refusal::Text;
+
+    fn part(text: &[u8], number: u32, form: usize) -> Range<usize> {
+        refused(text, &Refusal { number, text: Some(Text::Proof), form, detail: 0 })
+    }
+
+    #[test]
+    fn items_and_their_tags() {
+        let text = b" (a b) ; (no)\n x\x0b(\tc ;)\n (d))((e))";
+        let it = scan(text);
+        let found: Vec<_> = it.items.iter().map(|i| (&text[i.range.clone()], i.form, tag(text, i))).collect();
+        let want: [(&[u8], bool, &[u8]); 4] =
+            [(b"(a b)", true, b"a"), (b"x", false, b"x"), (b"(\tc ;)\n (d))", true, b"c"), (b"((e))", true, b"")];
+        assert_eq!((&found[..], it.stop), (&want[..], None));
+    }
+
+    #[test]
+    fn what_cannot_be_read() {
+        assert_eq!(scan(b"(a) (b").stop, Some(Stop::Unclosed(4)));
+        assert_eq!(scan(b"(a)) (b").stop, Some(Stop::Stray(3)));
+        assert_eq!(scan("(".repeat(64).as_bytes()).stop, Some(Stop::Unclosed(0)));
+        assert_eq!(scan(format!("(a) {}", "(".repeat(70)).as_bytes()).stop, Some(Stop::Deep(68)));
+    }
+
+    #[test]
+    fn the_refused_part() {
+        let text = b"(a)\n(b c)\n";
+        assert_eq!((part(text, 34, 1), part(text, 53, 2), part(text, 2, 0)), (4..9, 10..10, 0..0));
+        assert_eq!((part(b"(a) \xc3\xa9", 3, 0), part(b"(a) )", 4, 1), part(b"(a) (b", 4, 1)), (4..5, 4..5, 4..5));
+        assert_eq!(part(b"(a) b (c)", 30, 1), 4..5);
+        // a form that is not there: no panic, the end
+        assert_eq!(part(b"(a)", 30, 7), 3..3);
+    }
+
+    #[test]
+    fn lines_and_columns() {
+        let at = |n| place(b"ab\n\ncd", n);
+        let want = [(0, 1, 1), (2, 1, 3), (3, 2, 1), (4, 3, 1), (6, 3, 3), (99, 3, 3)];
+        assert!(want.iter().all(|&(n, line, column)| at(n) == Place { line, column }));
     }
 }

@@ -1,6 +1,7 @@
 //! A refusal in the manner of a compiler: what is wrong, where, what its detail means, what is to be done, what the original program says.
 use crate::desk::check::Read;
 use crate::desk::excerpt::{at, excerpt, gutter};
+use crate::desk::named::{Note, named};
 use crate::desk::paint::Paint;
 use std::fmt::Write;
 use tariff::places::{Stop, refused, scan};
@@ -12,8 +13,10 @@ const GOALS: usize = 10;
 /// Where notes are broken.
 const WIDTH: usize = 100;
 
-/// Words put on lines, those behind the first under its beginning.
+/// Words put on lines, those behind the first under its beginning. A name can have any byte below 128: control characters do not reach a
+/// terminal.
 fn wrapped(first: &str, words: &str) -> String {
+    let words = words.replace(char::is_control, "\u{fffd}");
     let indent = " ".repeat(first.chars().count());
     let (mut out, mut column) = (first.to_string(), first.chars().count());
     for (k, word) in words.split(' ').enumerate() {
@@ -48,7 +51,7 @@ fn names(goals: &[Goal<'_>]) -> String {
 }
 
 /// What the detail means, or what else the tables tell of this question.
-pub fn detail(read: &Read, refusal: &Refusal, checker: &Checker) -> Option<String> {
+fn detail(read: &Read, refusal: &Refusal, checker: &Checker) -> Option<String> {
     match refusal.number {
         32 => Some(format!("the next index is {}", checker.facts().len())),
         39 => {
@@ -73,15 +76,15 @@ pub fn detail(read: &Read, refusal: &Refusal, checker: &Checker) -> Option<Strin
     }
 }
 
-/// The notes under the excerpt.
-fn notes(question: &Question, detail: Option<String>, pad: &str, paint: Paint) -> String {
+/// The notes under the excerpt: first those about this refusal, each with its label, then those about its question.
+fn notes(question: &Question, about: Vec<Note>, pad: &str, paint: Paint) -> String {
     let mut out = String::new();
     let note = |label: &str, words: &str| {
         let plain = wrapped(&format!("{pad} = {label}: "), words);
         plain.replacen(&format!("= {label}"), &format!("{} {}", paint.edge("="), paint.strong(label)), 1)
     };
-    if let Some(detail) = detail {
-        out += &note("detail", &detail);
+    for (label, words) in about {
+        out += &note(&label, &words);
     }
     out += &note("question", question.asks);
     out += &note("help", question.help);
@@ -114,7 +117,7 @@ pub fn explain(read: &Read, refusal: &Refusal, checker: &Checker, paint: Paint) 
     let Some(question) = refusal.question() else { return format!("{}\n", refusal.line()) };
     let mark = paint.error(&format!("error[{}]", refusal.number));
     let mut out = format!("{mark}{}\n", paint.strong(&format!(": {}", question.sentence)));
-    let Some(text) = refusal.text else { return out + &notes(question, None, " ", paint) };
+    let Some(text) = refusal.text else { return out + &notes(question, Vec::new(), " ", paint) };
     let (file, bytes) = (&read.files[text as usize], &read.texts[text as usize]);
     let part = refused(bytes, refusal);
     let gutter = gutter(bytes, &part);
@@ -124,7 +127,9 @@ pub fn explain(read: &Read, refusal: &Refusal, checker: &Checker, paint: Paint) 
         out += &open_goals(read, checker, gutter, paint);
     }
     out += &format!("{pad} {}\n", paint.edge("|"));
-    out + &notes(question, detail(read, refusal, checker), &pad, paint)
+    let mut about = named(read, refusal, checker);
+    about.extend(detail(read, refusal, checker).map(|words| ("detail".to_string(), words)));
+    out + &notes(question, about, &pad, paint)
 }
 
 #[cfg(test)]
@@ -136,6 +141,6 @@ mod tests {
         let lines = wrapped("  = help: ", &"word ".repeat(40));
         assert!(lines.lines().all(|l| l.len() <= 100), "{lines}");
         assert_eq!(lines.lines().nth(1).map(|l| &l[..14]), Some("          word"));
-        assert_eq!(wrapped("= a: ", "b c"), "= a: b c\n");
+        assert_eq!(wrapped("= a: ", "b c\x1b[2J"), "= a: b c\u{fffd}[2J\n");
     }
 }

@@ -5,6 +5,8 @@ pub mod check;
 pub mod excerpt;
 pub mod explain;
 pub mod facts;
+pub mod form;
 pub mod json;
+pub mod named;
 pub mod paint;
 pub mod question;
