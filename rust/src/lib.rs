@@ -52,3 +52,8 @@ pub use checker::{Checker, with_stack};
 #[cfg(feature = "library")]
 pub use facts::{Fact, Goal, Head, Rule, Term, Variable};
 pub use refusal::{Refusal, Text};
+
+/// The examples of docs/USING.md run as tests.
+#[cfg(all(doctest, feature = "library"))]
+#[doc = include_str!("../../docs/USING.md")]
+struct Using;

@@ -46,6 +46,12 @@ fn a_record_is_laid_out_as_in_the_header() {
     assert_eq!((size_of::<Record>(), align_of::<Record>(), std::mem::offset_of!(Record, footing)), (56, 8, 24));
 }
 
+#[test]
+fn the_line_that_compiles_the_sample_is_said_alike() {
+    let line = "cc -Iinclude samples/check.c target/staticlib/libtariff.a -o check\n";
+    assert!(page("samples/check.c").contains(line) && page("docs/USING.md").contains(line));
+}
+
 /// The rows of a page's tables, cell by cell.
 fn rows(page: &str) -> Vec<Vec<String>> {
     let rows = page.lines().filter_map(|l| l.strip_prefix("| ")?.strip_suffix(" |"));

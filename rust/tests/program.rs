@@ -108,6 +108,7 @@ error[53]: goals are left without a result
 #[test]
 fn an_explanation_whole() {
     assert_eq!(stdout(&tariff(&["check", "samples/open", "--explain"])), OPEN);
+    assert!(common::page("docs/USING.md").contains(OPEN), "the page shows the same");
     assert_eq!(stdout(&tariff(&["check", "samples/missing", "--explain"])), MISSING);
     let accepted = "(accepted 4 1 1 1 1 0 0)\naccepted: 4 facts, 1 goal (1 open), 1 hypothesis, 1 induction, 0 inversions, 0 instances\n";
     assert_eq!(stdout(&tariff(&["check", "samples/child", "--explain"])), accepted);

@@ -2,6 +2,8 @@
 use std::io::{IsTerminal, Write, stderr};
 
 const WIDTH: usize = 30;
+/// The most of a name: a bar that is wider than the terminal could not be taken back.
+const NAME: usize = 32;
 
 pub struct Bar {
     total: usize,
@@ -31,7 +33,10 @@ impl Bar {
 
 fn line(done: usize, total: usize, name: &str) -> String {
     let full = WIDTH * done / total.max(1);
-    format!("[{}{}] {done}/{total} {name}", "#".repeat(full), "-".repeat(WIDTH - full))
+    let long = name.chars().count().saturating_sub(NAME);
+    let name: String = name.chars().skip(long).collect();
+    let cut = if long > 0 { "…" } else { "" };
+    format!("[{}{}] {done}/{total} {cut}{name}", "#".repeat(full), "-".repeat(WIDTH - full))
 }
 
 #[cfg(test)]
@@ -43,5 +48,6 @@ mod tests {
         assert_eq!(line(0, 4, "a"), format!("[{}] 0/4 a", "-".repeat(30)));
         assert_eq!(line(2, 4, "b"), format!("[{}{}] 2/4 b", "#".repeat(15), "-".repeat(15)));
         assert_eq!(line(4, 4, ""), format!("[{}] 4/4 ", "#".repeat(30)));
+        assert!(line(1, 4, &"é/".repeat(50)).ends_with(&format!(" …{}", "é/".repeat(16))));
     }
 }
