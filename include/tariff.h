@@ -47,6 +47,10 @@ typedef struct tariff_fact {
     uint64_t footing[4]; /* the rules it rests on: bit r % 64 of word r / 64 */
 } tariff_fact;
 
+#if defined(__STDC_VERSION__) && __STDC_VERSION__ >= 201112L
+_Static_assert(sizeof(tariff_fact) == 56, "a record has 56 bytes");
+#endif
+
 /* Checks a proof. Every text and table is a pointer and a length: of texts the bytes, of facts the records, of other tables the cells.
  *
  * The texts may have any bytes and any length, the tables any content and any length. The answer is written to answer[0..8], if it has room:

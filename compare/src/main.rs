@@ -50,10 +50,27 @@ mod trees;
 mod whole_texts;
 mod world;
 
+/// Neither side bounds its recursion by the stack that a thread happens to have.
+const STACK: usize = 256 << 20;
+
+fn with_room<T: Send>(f: impl FnOnce() -> T + Send) -> T {
+    std::thread::scope(|scope| {
+        let thread = std::thread::Builder::new().stack_size(STACK).spawn_scoped(scope, f).expect("a thread");
+        thread.join().unwrap_or_else(|panicked| std::panic::resume_unwind(panicked))
+    })
+}
+
 fn main() {
     let args: Vec<String> = std::env::args().skip(1).collect();
     let words: Vec<&str> = args.iter().map(String::as_str).collect();
-    let done = match words[..] {
+    if let Err(why) = with_room(|| run(&words)) {
+        eprintln!("{why}");
+        exit(2);
+    }
+}
+
+fn run(words: &[&str]) -> Result<(), String> {
+    match *words {
         ["line", theory, goals, proof] => line(theory, goals, proof),
         ["cases", n, seed, ref sources @ ..] => cases::print(n, seed, sources),
         ["store", n, seed, ref sources @ ..] => store::write(n, seed, sources),
@@ -66,10 +83,6 @@ fn main() {
         ["whole"] => speed_whole::run(),
         ["speed"] => speed::run(),
         _ => Err("usage: compare line THEORY GOALS PROOF | cases N SEED [SOURCE...] | store N SEED [SOURCE...] | limits | check N SEED | draw N SEED | stack [KB [NAME]] | speed | whole".into()),
-    };
-    if let Err(why) = done {
-        eprintln!("{why}");
-        exit(2);
     }
 }
 
