@@ -37,6 +37,8 @@ mod rows;
 mod rows_declared;
 mod scan;
 mod seam;
+#[cfg(test)]
+mod sentences;
 mod soups;
 mod spans;
 mod speed;

@@ -192,26 +192,36 @@ fn numbers(file: &[u8], at: usize) -> (Vec<usize>, usize) {
     (line.split(' ').map(|w| w.parse().expect("a number")).collect(), end + 1)
 }
 
-/// The stored cases can be read by their lengths alone, and their lines are those that are expected.
-#[test]
-fn stored_cases() {
+/// The stored cases, read by their lengths alone: name, theory, goals, proof, answer, facts, footings.
+pub fn stored() -> Vec<Vec<Vec<u8>>> {
     let file = std::fs::read("cases/stored.txt").expect("the file stands");
     let (header, start) = numbers(&file, 0);
-    let (mut at, mut cases, mut with_facts, mut open) = (start + header[0], 0, 0, 0);
+    let (mut at, mut cases) = (start + header[0], Vec::new());
     while at < file.len() {
         let (lengths, mut from) = numbers(&file, at);
         let mut parts = Vec::new();
         for n in lengths {
-            parts.push(&file[from..from + n]);
+            parts.push(file[from..from + n].to_vec());
             from += n;
         }
         assert_eq!(file[from], b'\n');
-        let texts = [parts[1].to_vec(), parts[2].to_vec(), parts[3].to_vec()];
+        cases.push(parts);
+        at = from + 1;
+    }
+    cases
+}
+
+/// Their lines are those that are expected.
+#[test]
+fn stored_cases() {
+    let (mut cases, mut with_facts, mut open) = (0, 0, 0);
+    for parts in stored() {
+        let texts = [parts[1].clone(), parts[2].clone(), parts[3].clone()];
         match expected(&texts) {
-            Ok(it) => assert_eq!(it.line.as_bytes(), parts[4], "{}", String::from_utf8_lossy(parts[0])),
+            Ok(it) => assert_eq!(it.line.as_bytes(), parts[4], "{}", String::from_utf8_lossy(&parts[0])),
             Err(_) => open += 1,
         }
-        (cases, with_facts, at) = (cases + 1, with_facts + usize::from(parts[5] != b"-"), from + 1);
+        (cases, with_facts) = (cases + 1, with_facts + usize::from(parts[5] != b"-"));
     }
     assert!(cases >= 600 && 3 * with_facts >= cases && 20 * open < cases, "{cases} cases, {with_facts} with facts, {open} left open");
 }

@@ -36,6 +36,7 @@ mod bindings;
 mod checker;
 #[cfg(feature = "library")]
 mod facts;
+mod originals;
 pub mod places;
 #[cfg(feature = "library")]
 mod printing;

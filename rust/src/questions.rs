@@ -29,11 +29,6 @@ impl Question {
             _ => "whoever writes the proof",
         }
     }
-
-    /// The original program's sentences, one by one.
-    pub fn originals(&self) -> impl Iterator<Item = &'static str> {
-        self.original.split("; ").filter(|s| !s.is_empty())
-    }
 }
 
 /// The question of this number.

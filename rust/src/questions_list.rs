@@ -80,8 +80,8 @@ pub static QUESTIONS: [Question; 38] = [
         "Is each judgment or term spelled from known names?",
         "a judgment or term is not spelled from known names",
         "Look for a misspelled predicate, constructor, variable or abbreviation; variables and abbreviations are declared before.",
-        "expected list …; empty judgment; expected atom …; unknown predicate …; undefined abbreviation …; unknown constructor …; \
-         empty term",
+        "expected list …; empty judgment; empty item; expected atom …; unknown predicate …; undefined abbreviation …; unknown \
+         constructor …; empty term",
     ),
     ask(
         23,

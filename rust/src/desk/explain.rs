@@ -1,6 +1,7 @@
 //! A refusal in the manner of a compiler: what is wrong, where, what its detail means, what is to be done, what the original program says.
 use crate::desk::check::Read;
 use crate::desk::excerpt::{at, excerpt, gutter};
+use crate::desk::form::items;
 use crate::desk::named::{Note, named};
 use crate::desk::paint::Paint;
 use std::fmt::Write;
@@ -77,7 +78,7 @@ fn detail(read: &Read, refusal: &Refusal, checker: &Checker) -> Option<String> {
 }
 
 /// The notes under the excerpt: first those about this refusal, each with its label, then those about its question.
-fn notes(question: &Question, about: Vec<Note>, pad: &str, paint: Paint) -> String {
+fn notes(question: &Question, about: Vec<Note>, tag: &str, pad: &str, paint: Paint) -> String {
     let mut out = String::new();
     let note = |label: &str, words: &str| {
         let plain = wrapped(&format!("{pad} = {label}: "), words);
@@ -89,7 +90,7 @@ fn notes(question: &Question, about: Vec<Note>, pad: &str, paint: Paint) -> Stri
     out += &note("question", question.asks);
     out += &note("help", question.help);
     out += &note("to mend", question.whom());
-    let originals: Vec<&str> = question.originals().collect();
+    let originals: Vec<&str> = question.originals_of(tag).collect();
     match originals[..] {
         [] => out += &note("original", "has no such question"),
         [one] => out += &note("original", &format!("\"{one}\"")),
@@ -117,10 +118,11 @@ pub fn explain(read: &Read, refusal: &Refusal, checker: &Checker, paint: Paint) 
     let Some(question) = refusal.question() else { return format!("{}\n", refusal.line()) };
     let mark = paint.error(&format!("error[{}]", refusal.number));
     let mut out = format!("{mark}{}\n", paint.strong(&format!(": {}", question.sentence)));
-    let Some(text) = refusal.text else { return out + &notes(question, Vec::new(), " ", paint) };
+    let Some(text) = refusal.text else { return out + &notes(question, Vec::new(), "", " ", paint) };
     let (file, bytes) = (&read.files[text as usize], &read.texts[text as usize]);
     let part = refused(bytes, refusal);
     let gutter = gutter(bytes, &part);
+    let tag = items(bytes, part.clone()).first().map_or("", |f| f.word(bytes)).to_string();
     let pad = " ".repeat(gutter);
     out += &excerpt(file, bytes, part, &said(refusal, bytes), gutter, paint);
     if refusal.number == 53 {
@@ -129,7 +131,7 @@ pub fn explain(read: &Read, refusal: &Refusal, checker: &Checker, paint: Paint) 
     out += &format!("{pad} {}\n", paint.edge("|"));
     let mut about = named(read, refusal, checker);
     about.extend(detail(read, refusal, checker).map(|words| ("detail".to_string(), words)));
-    out + &notes(question, about, &pad, paint)
+    out + &notes(question, about, &tag, &pad, paint)
 }
 
 #[cfg(test)]
