@@ -1,5 +1,6 @@
-//! `compare stack [KB]`: the deepest calls that texts can ask for, each on a stack of that size, or the least that each needs. Recursion goes down by term numbers, so that
-//! a chain of terms is as deep as it is long. A stack that is too small ends the program; the smallest that does not is what a caller needs.
+//! `compare stack [KB]`: the deepest calls that texts can ask for, each on a stack of that size, or the least that each needs. Recursion goes
+//! down by term numbers, so that a chain of terms is as deep as it is long. A stack that is too small ends the program; the smallest that does
+//! not is what a caller needs.
 use crate::answer::{Texts, answer};
 use crate::expected::bytes;
 use crate::seam::{self, Tables};

@@ -1,7 +1,7 @@
 //! The desk's program as it is run: what it prints, and how it ends.
 mod common;
-use common::{path, stdout, stored, tariff};
-use std::path::PathBuf;
+use common::{path, stdout, stored, tariff, tariff_in};
+use std::path::{Path, PathBuf};
 use std::process::Output;
 
 const SAMPLES: [&str; 5] = ["samples/child", "samples/missing", "samples/open", "samples/renewals", "samples/unpaired"];
@@ -24,12 +24,12 @@ fn folder(name: &str, texts: [&[u8]; 3]) -> String {
     folder.display().to_string()
 }
 
-/// What is explained of these texts, with the folder's name taken out.
+/// What is explained of these texts, with the folder's name taken out. It is run beside the folder, since a long name would break lines.
 fn explained(name: &str, texts: [&[u8]; 3]) -> String {
-    let folder = folder(name, texts);
-    let output = tariff(&["check", &folder, "--explain"]);
+    folder(name, texts);
+    let output = tariff_in(Path::new(env!("CARGO_TARGET_TMPDIR")), &["check", name, "--explain"]);
     assert!(output.stderr.is_empty() && status(&output) == 1);
-    stdout(&output).replace(&format!("{folder}/"), "")
+    stdout(&output).replace(&format!("{name}/"), "")
 }
 
 #[test]
@@ -131,6 +131,18 @@ fn a_variable_by_its_name_and_a_rule_by_its_place() {
 }
 
 #[test]
+fn what_the_form_goes_through_and_names_that_are_not_known() {
+    let out = stdout(&tariff(&["check", "samples/unpaired", "--explain"]));
+    assert!(out.contains("  = constructors of Pass: first, (renew Pass)\n  = fact 0: (Child first)\n"), "{out}");
+    assert!(out.contains("\"step …: expected … cases\"") && !out.contains("two cases for rule"), "{out}");
+    let out = explained("unknown", [common::THEORY, b"(goal g (Chlid first))", b""]);
+    assert!(out.contains("= name: Chlid is not declared before this form; did you mean Child, declared at theory:1:65?\n"), "{out}");
+    let out = explained("rules", [common::THEORY, GOALS, b"(hyp 0 (Child x)) (invert 1 0 () (Any) ())"]);
+    assert!(out.contains("= rules for Child: c0 (Child first), c1 (Child (renew ?p)), all (Child ?p)\n"), "{out}");
+    assert!(out.contains("= fact 0: (Child x), a hypothesis\n"), "{out}");
+}
+
+#[test]
 fn a_row_with_its_limit() {
     let theory: String = (0..65).map(|k| format!("(sort S{k})\n")).collect();
     let out = explained("sorts", [theory.as_bytes(), b"", b""]);
@@ -173,6 +185,7 @@ fn one_object_a_line() {
         "{\"folder\":\"samples/missing\",",
         "\"accepted\":false,\"answer\":\"(refused 53 3 2 1)\",\"number\":53,\"text\":\"proof\",\"form\":2,\"detail\":1,\"missing\":[\"everybody\"],",
         "\"place\":{\"file\":\"samples/missing/proof\",\"line\":3,\"column\":1,\"end_line\":3,\"end_column\":1}",
+        "\"notes\":[\"detail: 1 of 2 goals without a result: everybody\"]",
         "\"facts\":[{\"index\":0,\"judgment\":\"(Child first)\",\"assumed\":false,\"hypotheses\":[],",
     ] {
         assert!(lines[0].contains(part), "{part}\n{}", lines[0]);

@@ -3,6 +3,7 @@ use crate::desk::check::Read;
 use crate::desk::excerpt::{at, excerpt, gutter};
 use crate::desk::form::items;
 use crate::desk::named::{Note, named};
+use crate::desk::names::names;
 use crate::desk::paint::Paint;
 use std::fmt::Write;
 use tariff::places::{Stop, refused, scan};
@@ -47,10 +48,6 @@ fn said(refusal: &Refusal, text: &[u8]) -> String {
     }
 }
 
-fn names(goals: &[Goal<'_>]) -> String {
-    goals.iter().map(Goal::name).collect::<Vec<_>>().join(", ")
-}
-
 /// What the detail means, or what else the tables tell of this question.
 fn detail(read: &Read, refusal: &Refusal, checker: &Checker) -> Option<String> {
     match refusal.number {
@@ -67,7 +64,11 @@ fn detail(read: &Read, refusal: &Refusal, checker: &Checker) -> Option<String> {
         }
         53 => {
             let (missing, all) = (checker.missing(), checker.goals().count());
-            Some(format!("{} of {all} goals without a result: {}", missing.len(), names(&missing)))
+            Some(format!(
+                "{} of {all} goals without a result: {}",
+                missing.len(),
+                missing.iter().map(Goal::name).collect::<Vec<_>>().join(", ")
+            ))
         }
         60 => {
             let row = ROWS.get((refusal.detail as usize).checked_sub(1)?)?;
@@ -75,6 +76,12 @@ fn detail(read: &Read, refusal: &Refusal, checker: &Checker) -> Option<String> {
         }
         _ => None,
     }
+}
+
+/// What is said of this refusal: its names, what it names, its detail.
+pub fn about(read: &Read, refusal: &Refusal, checker: &Checker) -> Vec<Note> {
+    let detail = detail(read, refusal, checker).map(|words| ("detail".to_string(), words));
+    names(read, refusal).into_iter().chain(named(read, refusal, checker)).chain(detail).collect()
 }
 
 /// The notes under the excerpt: first those about this refusal, each with its label, then those about its question.
@@ -129,9 +136,7 @@ pub fn explain(read: &Read, refusal: &Refusal, checker: &Checker, paint: Paint) 
         out += &open_goals(read, checker, gutter, paint);
     }
     out += &format!("{pad} {}\n", paint.edge("|"));
-    let mut about = named(read, refusal, checker);
-    about.extend(detail(read, refusal, checker).map(|words| ("detail".to_string(), words)));
-    out + &notes(question, about, &tag, &pad, paint)
+    out + &notes(question, about(read, refusal, checker), &tag, &pad, paint)
 }
 
 #[cfg(test)]

@@ -1,6 +1,7 @@
 //! An answer as one JSON object on a line, with all that `--explain` and `--facts` would say.
 use crate::desk::args::Options;
 use crate::desk::check::Read;
+use crate::desk::explain::about;
 use crate::desk::facts::LONGEST;
 use std::fmt::Write;
 use std::ops::Range;
@@ -105,6 +106,7 @@ fn refusal(out: &mut Object, it: &Refusal, read: &Read, checker: &Checker) {
     if let Some(text) = it.text {
         let bytes = &read.texts[text as usize];
         out.put("place", part(&read.files[text as usize], bytes, refused(bytes, it)));
+        out.put("notes", array(about(read, it, checker).iter().map(|(label, words)| string(&format!("{label}: {words}")))));
     }
 }
 

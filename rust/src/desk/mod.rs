@@ -8,5 +8,7 @@ pub mod facts;
 pub mod form;
 pub mod json;
 pub mod named;
+pub mod names;
 pub mod paint;
 pub mod question;
+pub mod theory;

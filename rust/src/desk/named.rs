@@ -3,8 +3,9 @@
 use crate::desk::check::Read;
 use crate::desk::excerpt::at;
 use crate::desk::form::{Form, items};
+use crate::desk::theory;
 use tariff::places::{refused, scan};
-use tariff::{Checker, Fact, Refusal, Text};
+use tariff::{Checker, Fact, Head, Refusal, Text};
 
 /// A label, and what it says.
 pub type Note = (String, String);
@@ -36,10 +37,19 @@ fn references<'a>(tag: &str, form: &'a [Form]) -> Vec<&'a Form> {
     }
 }
 
+/// A rule hypothesis with its premises and the variables that it generalises.
+fn hypothesis(fact: &Fact<'_>) -> String {
+    let premises: Vec<String> = fact.premises().map(|t| t.clipped(SPELLED)).collect();
+    let general: Vec<String> = fact.generalised().map(|v| v.to_string()).collect();
+    let from = if premises.is_empty() { String::new() } else { format!(" from {}", premises.join(", ")) };
+    let every = if general.is_empty() { String::new() } else { format!(" for every {}", general.join(", ")) };
+    format!(", a hypothesis{from}{every}")
+}
+
 fn rests_on(fact: &Fact<'_>, all: &[Fact<'_>]) -> String {
     let hyps: Vec<String> = fact.hypotheses().filter_map(|h| Some(format!("{h} {}", all.get(h)?.judgment().clipped(SPELLED)))).collect();
     match hyps.len() {
-        _ if fact.assumed() => ", a hypothesis".into(),
+        _ if fact.assumed() => hypothesis(fact),
         0 => String::new(),
         1..=3 => format!(", resting on {}", hyps.join(", ")),
         n => format!(", resting on {n} hypotheses: {}, ..", hyps[..3].join(", ")),
@@ -78,6 +88,23 @@ fn goal(name: &str, checker: &Checker) -> Option<Note> {
     Some((format!("goal {name}"), format!("{}{listed}", goal.judgment().clipped(SPELLED))))
 }
 
+/// What a form goes through case by case: the constructors of the variable's sort, or the rules of the hypothesis's predicate.
+fn cases(tag: &str, word: &str, read: &Read, checker: &Checker) -> Option<Note> {
+    let (what, all) = match tag {
+        "induct" => {
+            let sort = theory::sort_of(read, word)?;
+            let all = theory::constructors(read, &sort);
+            (format!("constructors of {sort}"), all)
+        }
+        "invert" => {
+            let Head::Predicate(predicate) = checker.facts().nth(word.parse().ok()?)?.judgment().head() else { return None };
+            (format!("rules for {predicate}"), theory::rules(read, predicate))
+        }
+        _ => return None,
+    };
+    Some((what, if all.is_empty() { "none".into() } else { all.join(", ") }))
+}
+
 /// Notes on what the refused form names; none for another text.
 pub fn named(read: &Read, refusal: &Refusal, checker: &Checker) -> Vec<Note> {
     if refusal.text != Some(Text::Proof) || matches!(refusal.number, 0..=5 | 53) {
@@ -91,5 +118,6 @@ pub fn named(read: &Read, refusal: &Refusal, checker: &Checker) -> Vec<Note> {
         "result" => goal(word(1), checker),
         _ => None,
     };
-    first.into_iter().chain(facts(word(0), &form, text, checker)).collect()
+    let cases = cases(word(0), word(2), read, checker).filter(|_| matches!(refusal.number, 41..=47));
+    first.into_iter().chain(cases).chain(facts(word(0), &form, text, checker)).collect()
 }

@@ -1,6 +1,6 @@
 //! What several tests share.
 #![allow(dead_code)]
-use std::path::PathBuf;
+use std::path::{Path, PathBuf};
 use std::process::{Command, Output};
 
 /// A path of the repository.
@@ -12,10 +12,14 @@ pub fn page(of: &str) -> String {
     std::fs::read_to_string(path(of)).unwrap_or_else(|e| panic!("{of}: {e}"))
 }
 
+/// The program, run in this folder.
+pub fn tariff_in(folder: &Path, words: &[&str]) -> Output {
+    Command::new(env!("CARGO_BIN_EXE_tariff")).args(words).current_dir(folder).output().expect("the program runs")
+}
+
 /// The program, run in the repository's folder.
 pub fn tariff(words: &[&str]) -> Output {
-    let program = Command::new(env!("CARGO_BIN_EXE_tariff")).args(words).current_dir(path("")).output();
-    program.expect("the program runs")
+    tariff_in(&path(""), words)
 }
 
 pub fn stdout(output: &Output) -> String {
