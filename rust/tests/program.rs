@@ -135,7 +135,7 @@ fn what_the_form_goes_through_and_names_that_are_not_known() {
     let out = stdout(&tariff(&["check", "samples/unpaired", "--explain"]));
     assert!(out.contains("  = constructors of Pass: first, (renew Pass)\n  = fact 0: (Child first)\n"), "{out}");
     assert!(out.contains("\"step …: expected … cases\"") && !out.contains("two cases for rule"), "{out}");
-    let out = explained("unknown", [common::THEORY, b"(goal g (Chlid first))", b""]);
+    let out = explained("u", [common::THEORY, b"(goal g (Chlid first))", b""]);
     assert!(out.contains("= name: Chlid is not declared before this form; did you mean Child, declared at theory:1:65?\n"), "{out}");
     let out = explained("rules", [common::THEORY, GOALS, b"(hyp 0 (Child x)) (invert 1 0 () (Any) ())"]);
     assert!(out.contains("= rules for Child: c0 (Child first), c1 (Child (renew ?p)), all (Child ?p)\n"), "{out}");
