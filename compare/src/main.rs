@@ -40,7 +40,7 @@ mod seam;
 #[cfg(test)]
 mod sentences;
 mod soups;
-mod spans;
+
 mod speed;
 mod speed_whole;
 mod stack;

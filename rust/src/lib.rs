@@ -36,6 +36,7 @@ mod bindings;
 mod checker;
 #[cfg(feature = "library")]
 mod facts;
+pub mod forms;
 mod originals;
 pub mod places;
 #[cfg(feature = "library")]

@@ -1,11 +1,11 @@
 //! A refusal in the manner of a compiler: what is wrong, where, what its detail means, what is to be done, what the original program says.
 use crate::desk::check::Read;
 use crate::desk::excerpt::{at, excerpt, gutter};
-use crate::desk::form::items;
 use crate::desk::named::{Note, named};
 use crate::desk::names::names;
 use crate::desk::paint::Paint;
 use std::fmt::Write;
+use tariff::forms::items;
 use tariff::places::{Stop, refused, scan};
 use tariff::questions::{Question, ROWS, grouped};
 use tariff::{Checker, Goal, Refusal, Text};

@@ -5,7 +5,6 @@ pub mod check;
 pub mod excerpt;
 pub mod explain;
 pub mod facts;
-pub mod form;
 pub mod json;
 pub mod named;
 pub mod names;

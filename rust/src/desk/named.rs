@@ -2,8 +2,8 @@
 //! of them was wrong; somebody who sees them side by side mostly does.
 use crate::desk::check::Read;
 use crate::desk::excerpt::at;
-use crate::desk::form::{Form, items};
 use crate::desk::theory;
+use tariff::forms::{Form, items};
 use tariff::places::{refused, scan};
 use tariff::{Checker, Fact, Head, Refusal, Text};
 

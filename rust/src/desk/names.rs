@@ -1,8 +1,8 @@
 //! Names of a refused form that nothing before it declares, with the name that is spelled most alike; and names that are declared twice.
 use crate::desk::check::Read;
 use crate::desk::excerpt::at;
-use crate::desk::form::{Form, items};
 use crate::desk::named::Note;
+use tariff::forms::{Form, items};
 use tariff::places::{refused, scan};
 use tariff::{Refusal, Text};
 

@@ -1,7 +1,7 @@
 //! What the texts declare about the cases of a form: the constructors of a sort, the rules of a predicate, the sort of a variable.
 use crate::desk::check::Read;
-use crate::desk::form::{Form, items};
 use tariff::Text;
+use tariff::forms::{Form, items};
 use tariff::places::scan;
 
 /// The forms of a text that can be read, by their items.
