@@ -40,7 +40,6 @@ mod seam;
 #[cfg(test)]
 mod sentences;
 mod soups;
-
 mod speed;
 mod speed_whole;
 mod stack;
