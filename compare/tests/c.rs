@@ -89,7 +89,7 @@ fn long_texts() {
 }
 
 #[test]
-fn threads_and_answers_without_room() {
+fn threads_and_answers_of_other_lengths() {
     let program = build("compare/tests/calls.c", "calls", &SANITIZERS);
     assert_eq!(quiet(run(&program, &[])), (Some(0), "ok\n".into()));
 }

@@ -92,16 +92,19 @@ static int threads(void)
     return any;
 }
 
-/* An answer without room is not written. */
-static int short_answer(void)
+/* An answer without room is not written, and of a longer one the first eight numbers alone. */
+static int answers_of_other_lengths(void)
 {
     tables t = take();
-    uint64_t answer[7], before[7];
-    memset(answer, 0xa5, sizeof answer);
-    memcpy(before, answer, sizeof answer);
+    uint64_t answer[9], before[9];
+    memset(before, 0xa5, sizeof before);
+    memcpy(answer, before, sizeof answer);
     call(t, GOOD, answer, 7);
+    int wrong = memcmp(answer, before, sizeof answer) != 0;
+    call(t, GOOD, answer, 9);
+    wrong |= memcmp(answer, ACCEPTED, sizeof ACCEPTED) != 0 || answer[8] != before[8];
     give_back(t);
-    return memcmp(answer, before, sizeof answer) != 0;
+    return wrong;
 }
 
 int main(void)
@@ -110,8 +113,8 @@ int main(void)
         puts("a thread had another answer");
         return 1;
     }
-    if (short_answer()) {
-        puts("an answer without room was written");
+    if (answers_of_other_lengths()) {
+        puts("an answer was written that has no room, or past its eight numbers");
         return 1;
     }
     puts("ok");
