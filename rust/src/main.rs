@@ -11,13 +11,14 @@ mod desk;
 
 use desk::args::{self, Command};
 use desk::{check, question};
+use std::ffi::OsString;
 use std::io::{self, ErrorKind};
 use std::process::ExitCode;
 
 const CANNOT: u8 = 2;
 
 fn main() -> ExitCode {
-    let words: Vec<String> = std::env::args_os().skip(1).map(|w| w.to_string_lossy().into_owned()).collect();
+    let words: Vec<OsString> = std::env::args_os().skip(1).collect();
     // a check needs more stack than a system may give to the main thread
     let status = match tariff::with_stack(|| run(&words)) {
         Ok(done) => done,
@@ -29,7 +30,7 @@ fn main() -> ExitCode {
     }))
 }
 
-fn run(words: &[String]) -> Result<u8, String> {
+fn run(words: &[OsString]) -> Result<u8, String> {
     let out = &mut io::stdout().lock();
     let done = match args::command(words)? {
         Command::Check(cases, options) => check::run(&cases, options, out),

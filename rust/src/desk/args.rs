@@ -1,4 +1,5 @@
 //! The words of the command line, and what they ask for.
+use std::ffi::{OsStr, OsString};
 use std::path::{Path, PathBuf};
 use tariff::Text;
 use tariff::questions::question;
@@ -26,8 +27,8 @@ pub struct Case {
 }
 
 impl Case {
-    fn of_folder(folder: &str) -> Self {
-        Case { folder: Some(folder.to_string()), files: Text::ALL.map(|t| Path::new(folder).join(t.name())) }
+    fn of_folder(folder: &OsStr) -> Self {
+        Case { folder: Some(shown(folder)), files: Text::ALL.map(|t| Path::new(folder).join(t.name())) }
     }
 
     /// What it is called in a list.
@@ -43,7 +44,12 @@ pub enum Command {
     Help,
 }
 
-pub fn command(words: &[String]) -> Result<Command, String> {
+/// A word as it is printed; a path need not be text.
+fn shown(word: &OsStr) -> String {
+    word.to_string_lossy().into_owned()
+}
+
+pub fn command(words: &[OsString]) -> Result<Command, String> {
     let (options, plain) = options(words)?;
     match (&plain[..], options) {
         (_, None) | ([], _) => Ok(Command::Help),
@@ -56,31 +62,31 @@ pub fn command(words: &[String]) -> Result<Command, String> {
 }
 
 /// The options, wherever they stand, and the other words; no options where help is asked for.
-fn options(words: &[String]) -> Result<(Option<Options>, Vec<String>), String> {
+fn options(words: &[OsString]) -> Result<(Option<Options>, Vec<OsString>), String> {
     let (mut options, mut plain) = (Options::default(), Vec::new());
     let mut words = words.iter();
     while let Some(word) = words.next() {
-        match word.as_str() {
-            "--facts" => options.facts = true,
-            "--explain" => options.explain = true,
-            "--json" => options.json = true,
-            "--help" | "-h" => return Ok((None, plain)),
-            "--" => plain.extend(words.by_ref().cloned()),
-            w if w.starts_with('-') && w.len() > 1 => return Err(format!("there is no option {w}\n{USAGE}")),
+        match word.to_str() {
+            Some("--facts") => options.facts = true,
+            Some("--explain") => options.explain = true,
+            Some("--json") => options.json = true,
+            Some("--help" | "-h") => return Ok((None, plain)),
+            Some("--") => plain.extend(words.by_ref().cloned()),
+            Some(w) if w.starts_with('-') && w.len() > 1 => return Err(format!("there is no option {w}\n{USAGE}")),
             _ => plain.push(word.clone()),
         }
     }
     Ok((Some(options), plain))
 }
 
-fn number(word: &str) -> Result<u32, String> {
-    let known = word.parse().ok().filter(|&n| question(n).is_some());
-    known.ok_or(format!("there is no question {word}: `tariff explain` lists all of them"))
+fn number(word: &OsStr) -> Result<u32, String> {
+    let known = word.to_str().and_then(|w| w.parse().ok()).filter(|&n| question(n).is_some());
+    known.ok_or_else(|| format!("there is no question {}: `tariff explain` lists all of them", shown(word)))
 }
 
 /// Three files, or folders with files of the usual names.
-fn cases(paths: &[String]) -> Result<Vec<Case>, String> {
-    let folder = |p: &String| Path::new(p).is_dir();
+fn cases(paths: &[OsString]) -> Result<Vec<Case>, String> {
+    let folder = |p: &OsString| Path::new(p).is_dir();
     match paths {
         [] => Err(format!("what is to be checked?\n{USAGE}")),
         _ if paths.iter().all(folder) => Ok(paths.iter().map(|p| Case::of_folder(p)).collect()),
@@ -89,7 +95,7 @@ fn cases(paths: &[String]) -> Result<Vec<Case>, String> {
         }
         _ => {
             let odd = paths.iter().find(|p| !folder(p)).expect("not all are folders");
-            Err(format!("{odd}: no such folder; three files, or folders, are checked\n{USAGE}"))
+            Err(format!("{}: no such folder; three files, or folders, are checked\n{USAGE}", shown(odd)))
         }
     }
 }
@@ -99,7 +105,7 @@ mod tests {
     use super::*;
 
     fn of(words: &str) -> Result<Command, String> {
-        command(&words.split_whitespace().map(String::from).collect::<Vec<_>>())
+        command(&words.split_whitespace().map(OsString::from).collect::<Vec<_>>())
     }
 
     #[test]
