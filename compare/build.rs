@@ -24,7 +24,7 @@ fn main() {
 fn link(here: &Path) {
     println!("cargo:rerun-if-env-changed=STATICLIB");
     let folder = env::var("STATICLIB").map_or(here.join("../target/staticlib"), PathBuf::from);
-    for (part, library) in [("READER", "exports"), ("TERMS", "exports_terms"), ("TERMS", "exports_store"), ("WHOLE", "exports_check")] {
+    for (part, library) in [("READER", "exports"), ("TERMS", "exports_terms"), ("TERMS", "exports_store")] {
         if env::var(format!("CARGO_FEATURE_{part}")).is_ok() {
             println!("cargo:rerun-if-changed={}", folder.join(format!("lib{library}.a")).display());
             println!("cargo:rustc-link-search=native={}", folder.display());

@@ -46,6 +46,8 @@ def from_blocks(path):
 def from_folders(path):
     cases = []
     for name in sorted(os.listdir(path)):
+        if not os.path.isdir(os.path.join(path, name)):
+            continue
         case = Case(name)
         for part in ("theory", "goals", "proof"):
             setattr(case, part, open(os.path.join(path, name, part), "rb").read())

@@ -7,9 +7,10 @@ use crate::expected::{Bytes, Expected, bytes, expected};
 use crate::layout::layout;
 use crate::lending::{self, Way};
 use crate::random::Random;
-use crate::seam::{self, Answer, FOOTINGS, SHAPES, Tables};
+use crate::seam::{self, Answer, Tables, line};
 use crate::{limits, read_tables, soups};
 use std::collections::BTreeMap;
+use tariff::tables::{FACTS, Table};
 
 /// One case in so many is put with each table in turn too short.
 const SHORT: usize = 1_000;
@@ -36,25 +37,27 @@ pub struct Tally {
 /// The cells of 53's list may come in any order.
 fn cells_differ(tables: &Tables, texts: &Bytes, it: &Expected) -> Option<String> {
     let want = layout(texts, it);
-    let last = SHAPES.len() - 1;
-    for (k, shape) in SHAPES.iter().enumerate() {
-        let mut have = tables.cells[k].cells()[..shape.cells].to_vec();
-        if k == last {
-            let used = want.cells[k].iter().take_while(|&&n| n != 0).count();
+    for (table, want) in Table::ALL.iter().zip(&want.cells) {
+        let mut have = tables.table(*table)[..table.cells()].to_vec();
+        if *table == Table::Missing {
+            let used = want.iter().take_while(|&&n| n != 0).count();
             have[..used].sort_unstable();
         }
-        if let Some(at) = (0..shape.cells).find(|&i| have[i] != want.cells[k][i]) {
-            return Some(format!("{}, cell {at}: {} for {}", shape.name, have[at], want.cells[k][at]));
+        if let Some(at) = (0..table.cells()).find(|&i| have[i] != want[i]) {
+            return Some(format!("{}, cell {at}: {} for {}", table.name(), have[at], want[at]));
         }
     }
-    let have = &tables.footings.cells()[..FOOTINGS.cells];
-    (0..FOOTINGS.cells).find(|&i| have[i] != want.footings[i]).map(|at| format!("footings, word {at}"))
+    let have = tables.facts.cells();
+    (0..FACTS).find(|&i| have[i] != want.facts[i]).map(|at| format!("fact {at}: {:?} for {:?}", have[at], want.facts[at]))
 }
 
 /// What is wrong with an answer and the tables that it left.
 fn wrong(case: &Case, it: &Expected, answer: Answer, tables: &Tables) -> Option<String> {
-    if answer.line() != it.line {
-        return Some(format!("{} for {}", answer.line(), it.line));
+    if line(answer) != it.line {
+        return Some(format!("{} for {}", line(answer), it.line));
+    }
+    if answer.0[0] > 1 || answer.0[0] == 0 && answer.0[5..] != [0; 3] {
+        return Some(format!("{answer:?}: a refusal's last three numbers are zero"));
     }
     if let Some(left) = &it.left {
         let ours = read_tables::of_tables(tables, left.facts.len());
@@ -85,7 +88,7 @@ pub fn compare(case: &Case, way: Way, ours: Ours, tally: &mut Tally) {
     let found = match &known {
         Ok(it) => wrong(case, it, answer, &tables),
         Err(why) => match &case.line {
-            Some(line) => (answer.line() != *line).then(|| format!("{} for {line}", answer.line())),
+            Some(given) => (line(answer) != *given).then(|| format!("{} for {given}", line(answer))),
             None => {
                 *tally.kinds.entry(format!("{} left out: {why}", case.kind)).or_default() += 1;
                 tally.undecided += 1;
@@ -94,18 +97,18 @@ pub fn compare(case: &Case, way: Way, ours: Ours, tally: &mut Tally) {
         },
     };
     tally.compared += 1;
-    *tally.kinds.entry(format!("{} {}", case.kind, short_of(&answer.line()))).or_default() += 1;
+    *tally.kinds.entry(format!("{} {}", case.kind, short_of(&line(answer)))).or_default() += 1;
     report(case, found.or_else(|| lending::outside(&before, &tables)), tally);
 }
 
 /// Each table in turn one cell short: refusal 1, and nothing is written.
 pub fn shortened(case: &Case, ours: Ours, tally: &mut Tally) {
-    for table in 0..=SHAPES.len() {
+    for table in 0..=Table::ALL.len() {
         let mut tables = lending::short(table);
         let before = tables.clone();
         let answer = ours(&case.texts, &mut tables);
-        let found = if answer.line() != "(refused 1 0 0 0)" {
-            Some(format!("{} with a table too short", answer.line()))
+        let found = if line(answer) != "(refused 1 0 0 0)" {
+            Some(format!("{} with a table too short", line(answer)))
         } else {
             (before != tables).then(|| "a table was written after 1".to_string())
         };

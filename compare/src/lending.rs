@@ -1,5 +1,6 @@
 //! Ways to lend the tables: as long as named or longer, zero or full of something, with cells before and behind that must stay.
-use crate::seam::{FOOTINGS, Lent, RECORDS, SHAPES, Tables};
+use crate::seam::{Lent, Tables};
+use tariff::tables::{FACTS, Record, Table};
 
 #[derive(Clone, Copy, Debug)]
 pub enum Way {
@@ -21,38 +22,42 @@ impl Way {
 
 /// Not lent, before and behind.
 const EDGE: usize = 8;
+/// Lent beyond the named length.
+const MORE: usize = 5;
 
-fn block(named: usize, way: Way, unit: usize) -> Lent<u32> {
+fn block(named: usize, way: Way) -> Lent<u32> {
     let pattern = |i: usize| (i as u32).wrapping_mul(0x9e37_79b9) ^ 0xa5a5_a5a5;
     match way {
         Way::Exact => Lent { block: vec![0; named], from: 0, length: named },
         Way::Used => Lent { block: (0..named).map(|i| 1 + i as u32 % 7).collect(), from: 0, length: named },
         Way::Garbage => Lent { block: (0..named + 2 * EDGE).map(pattern).collect(), from: EDGE, length: named },
-        Way::Longer => Lent { block: (0..named + 2 * EDGE + 5 * unit).map(pattern).collect(), from: EDGE, length: named + 5 * unit },
+        Way::Longer => Lent { block: (0..named + 2 * EDGE + MORE).map(pattern).collect(), from: EDGE, length: named + MORE },
     }
 }
 
-/// The footings' words, by the same ways.
-fn words(way: Way) -> Lent<u64> {
-    let cells = block(FOOTINGS.cells, way, 4);
-    Lent { block: cells.block.iter().map(|&c| u64::from(c) << 32 | u64::from(c)).collect(), from: cells.from, length: cells.length }
+/// A record whose every field is told apart from those beside it, where `cell` is not zero.
+fn record(cell: u32) -> Record {
+    let [judgment, assumed, first, hyps, premises, general] = [0, 1, 2, 3, 4, 5].map(|k| cell.wrapping_mul(2 * k + 1));
+    let footing = [7, 9, 11, 13].map(|k| u64::from(cell).wrapping_mul(k << 32 | k));
+    Record { judgment, assumed, first, hyps, premises, general, footing }
+}
+
+/// The records, by the same ways.
+fn records(way: Way) -> Lent<Record> {
+    let cells = block(FACTS, way);
+    Lent { block: cells.block.into_iter().map(record).collect(), from: cells.from, length: cells.length }
 }
 
 pub fn lend(way: Way) -> Tables {
-    let mut k = 0;
-    let cells = SHAPES.each_ref().map(|s| {
-        k += 1;
-        block(s.cells, way, if k - 1 == RECORDS { 6 } else { 1 })
-    });
-    Tables { cells, footings: words(way) }
+    Tables { cells: Table::ALL.map(|t| block(t.cells(), way)), facts: records(way) }
 }
 
-/// Garbage in all tables, and one of them a cell short, the facts a record; the last number is the footings'.
+/// Garbage in all tables, and one of them a cell short; the last number is that of the facts, a record short.
 pub fn short(table: usize) -> Tables {
     let mut tables = lend(Way::Garbage);
     match tables.cells.get_mut(table) {
-        Some(t) => t.length -= if table == RECORDS { 6 } else { 1 },
-        None => tables.footings.length -= 1,
+        Some(t) => t.length -= 1,
+        None => tables.facts.length -= 1,
     }
     tables
 }
@@ -64,10 +69,10 @@ fn changed<T: PartialEq>(before: &Lent<T>, after: &Lent<T>, named: usize) -> boo
 
 /// The first table that was written before its first or behind its last named cell.
 pub fn outside(before: &Tables, after: &Tables) -> Option<String> {
-    for (k, shape) in SHAPES.iter().enumerate() {
-        if changed(&before.cells[k], &after.cells[k], shape.cells) {
-            return Some(format!("{} was written outside of its named cells", shape.name));
+    for (k, table) in Table::ALL.iter().enumerate() {
+        if changed(&before.cells[k], &after.cells[k], table.cells()) {
+            return Some(format!("{} was written outside of its named cells", table.name()));
         }
     }
-    changed(&before.footings, &after.footings, FOOTINGS.cells).then(|| "footings were written outside of their named words".to_string())
+    changed(&before.facts, &after.facts, FACTS).then(|| "facts were written outside of their named records".to_string())
 }

@@ -8,7 +8,7 @@
 //!     compare check N SEED                 N cases, all limits among them, through the whole check, beside the original
 //!     compare speed                        times of parts of the original and of this product, in one run
 //!     compare draw N SEED                  the cases of `check`, counted by what is expected of them; ours is not called
-//!     compare stack KB                     the deepest calls, on a stack of so many kilobytes
+//!     compare stack [KB [NAME]]            the deepest calls on a stack of so many kilobytes; without KB, the least that each needs
 //!     compare whole                        times of whole checks
 use std::process::exit;
 
@@ -37,8 +37,9 @@ mod rows;
 mod rows_declared;
 mod scan;
 mod seam;
+#[cfg(test)]
+mod sentences;
 mod soups;
-mod spans;
 mod speed;
 mod speed_whole;
 mod stack;
@@ -50,24 +51,39 @@ mod trees;
 mod whole_texts;
 mod world;
 
+/// Neither side bounds its recursion by the stack that a thread happens to have.
+const STACK: usize = 256 << 20;
+
+fn with_room<T: Send>(f: impl FnOnce() -> T + Send) -> T {
+    std::thread::scope(|scope| {
+        let thread = std::thread::Builder::new().stack_size(STACK).spawn_scoped(scope, f).expect("a thread");
+        thread.join().unwrap_or_else(|panicked| std::panic::resume_unwind(panicked))
+    })
+}
+
 fn main() {
     let args: Vec<String> = std::env::args().skip(1).collect();
     let words: Vec<&str> = args.iter().map(String::as_str).collect();
-    let done = match words[..] {
+    if let Err(why) = with_room(|| run(&words)) {
+        eprintln!("{why}");
+        exit(2);
+    }
+}
+
+fn run(words: &[&str]) -> Result<(), String> {
+    match *words {
         ["line", theory, goals, proof] => line(theory, goals, proof),
         ["cases", n, seed, ref sources @ ..] => cases::print(n, seed, sources),
         ["store", n, seed, ref sources @ ..] => store::write(n, seed, sources),
         ["limits"] => store::print_limits(),
         ["check", n, seed] => check::run(n, seed),
         ["draw", n, seed] => check::draw(n, seed),
-        ["stack", kilobytes] => stack::run(kilobytes),
+        ["stack"] => stack::measure(),
+        ["stack", kilobytes] => stack::run(kilobytes, None),
+        ["stack", kilobytes, name] => stack::run(kilobytes, Some(name)),
         ["whole"] => speed_whole::run(),
         ["speed"] => speed::run(),
-        _ => Err("usage: compare line THEORY GOALS PROOF | cases N SEED [SOURCE...] | store N SEED [SOURCE...] | limits | check N SEED | draw N SEED | stack KB | speed | whole".into()),
-    };
-    if let Err(why) = done {
-        eprintln!("{why}");
-        exit(2);
+        _ => Err("usage: compare line THEORY GOALS PROOF | cases N SEED [SOURCE...] | store N SEED [SOURCE...] | limits | check N SEED | draw N SEED | stack [KB [NAME]] | speed | whole".into()),
     }
 }
 

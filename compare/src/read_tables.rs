@@ -2,11 +2,8 @@
 use crate::schematic::{Left, LeftFact};
 use crate::seam::Tables;
 use std::collections::HashMap;
+use tariff::tables::Table;
 
-const FACTS: usize = 11;
-const LISTS: usize = 12;
-const INDEX: usize = 7;
-const WORDS: usize = 8;
 const VARIABLE: u32 = 256;
 
 /// Terms and facts, by numbers of one side.
@@ -26,7 +23,7 @@ pub fn of_original(left: &Left) -> Side {
 
 /// The first `facts` records, and the terms; an error where a cell points nowhere.
 pub fn of_tables(tables: &Tables, facts: usize) -> Result<Side, String> {
-    let [index, words, records, lists] = [INDEX, WORDS, FACTS, LISTS].map(|t| tables.cells[t].cells());
+    let [index, words, lists] = [Table::Index, Table::Words, Table::Lists].map(|t| tables.table(t));
     let (mut nodes, mut at) = (Vec::new(), 0);
     for &end in index[..4096].iter().take_while(|&&end| end != 0) {
         let node = words.get(at..end as usize).filter(|n| !n.is_empty()).ok_or("a term's words do not stand")?;
@@ -34,13 +31,13 @@ pub fn of_tables(tables: &Tables, facts: usize) -> Result<Side, String> {
         at = end as usize;
     }
     let mut out = Vec::new();
-    for record in records.chunks(6).take(facts) {
-        let [judgment, assumed, first, a, b, c] = *record else { return Err("a record is cut".into()) };
-        let entries = lists.get(first as usize..(first + a + b + c) as usize).ok_or("a fact's entries do not stand")?;
-        let (hyps, rest) = entries.split_at(a as usize);
-        let (premises, general) = rest.split_at(b as usize);
+    for r in tables.facts.cells().iter().take(facts) {
+        let [first, a, b, c] = [r.first, r.hyps, r.premises, r.general].map(|n| n as usize);
+        let entries = lists.get(first..first + a + b + c).ok_or("a fact's entries do not stand")?;
+        let (hyps, rest) = entries.split_at(a);
+        let (premises, general) = rest.split_at(b);
         let [hyps, premises, general] = [hyps, premises, general].map(<[u32]>::to_vec);
-        out.push(LeftFact { judgment, hyps, assumed: assumed == 1, premises, general });
+        out.push(LeftFact { judgment: r.judgment, hyps, assumed: r.assumed == 1, premises, general });
     }
     Ok(Side { nodes, facts: out })
 }

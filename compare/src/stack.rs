@@ -1,8 +1,10 @@
-//! `compare stack KB`: the deepest calls that texts can ask for, each on a stack of that size. Recursion goes down by term numbers, so that
-//! a chain of terms is as deep as it is long. A stack that is too small ends the program; the smallest that does not is what a caller needs.
+//! `compare stack [KB]`: the deepest calls that texts can ask for, each on a stack of that size, or the least that each needs. Recursion goes
+//! down by term numbers, so that a chain of terms is as deep as it is long. A stack that is too small ends the program; the smallest that does
+//! not is what a caller needs.
 use crate::answer::{Texts, answer};
 use crate::expected::bytes;
 use crate::seam::{self, Tables};
+use std::process::{Command, Stdio};
 
 const THEORY: &str = "(sort S) (ctor c () S) (ctor f (S) S) (pred V (S)) (pred E (S S)) (rule v () (V ?a)) (rule w ((V ?a)) (V ?a)) \
     (rule e () (E ?a ?a))";
@@ -52,22 +54,49 @@ fn whole(proof: String) -> Texts {
     Texts { theory: THEORY.into(), goals: GOALS.into(), proof }
 }
 
-pub fn run(kilobytes: &str) -> Result<(), String> {
+/// One of them on a stack of so many kilobytes.
+fn put(name: &str, proof: String, kilobytes: usize) -> Result<String, String> {
+    let texts = whole(proof);
+    let want = answer(&texts).line;
+    let texts = bytes(&texts);
+    let call = move || {
+        let mut tables = Box::new(Tables::new());
+        seam::line(seam::check(&texts, &mut tables))
+    };
+    let thread = std::thread::Builder::new().stack_size(kilobytes * 1024).spawn(call).map_err(|e| e.to_string())?;
+    let line = thread.join().map_err(|_| format!("{name}: no answer"))?;
+    if line == want { Ok(line) } else { Err(format!("{name}: {line} for {want}")) }
+}
+
+/// All of them, or those whose name is given.
+pub fn run(kilobytes: &str, only: Option<&str>) -> Result<(), String> {
     let size: usize = kilobytes.parse().map_err(|_| "KB is the size of the stack in kilobytes")?;
-    for (name, proof) in texts() {
-        let texts = whole(proof);
-        let want = answer(&texts).line;
-        let texts = bytes(&texts);
-        let call = move || {
-            let mut tables = Box::new(Tables::new());
-            seam::check(&texts, &mut tables).line()
-        };
-        let thread = std::thread::Builder::new().stack_size(size * 1024).spawn(call).map_err(|e| e.to_string())?;
-        let line = thread.join().map_err(|_| format!("{name}: no answer"))?;
-        println!("{name:32} {line}");
-        if line != want {
-            return Err(format!("{name}: {want} is expected"));
+    for (name, proof) in texts().into_iter().filter(|t| only.is_none_or(|o| o == t.0)) {
+        println!("{name:32} {}", put(name, proof, size)?);
+    }
+    Ok(())
+}
+
+/// The most that is tried.
+const MOST: usize = 64 << 10;
+
+/// `compare stack`: the least size that will do for each, to 16 KB. Every try is a process of its own, since an overflow ends it.
+pub fn measure() -> Result<(), String> {
+    let program = std::env::current_exe().map_err(|e| e.to_string())?;
+    let does = |name: &str, size: usize| {
+        let done = Command::new(&program).args(["stack", &size.to_string(), name]).stdout(Stdio::null()).stderr(Stdio::null()).status();
+        done.is_ok_and(|d| d.success())
+    };
+    for (name, _) in texts() {
+        if !does(name, MOST) {
+            return Err(format!("{name}: no answer with {MOST} KB"));
         }
+        let (mut low, mut high) = (0, MOST);
+        while low + 16 < high {
+            let middle = (low + high) / 2;
+            if does(name, middle) { high = middle } else { low = middle }
+        }
+        println!("{name:32} {high:6} KB");
     }
     Ok(())
 }
@@ -77,6 +106,13 @@ mod tests {
     use super::*;
     use crate::rows;
     use crate::schematic::check_left;
+
+    /// A stack that is too small ends the tests.
+    #[cfg(feature = "whole")]
+    #[test]
+    fn the_stated_stack_is_enough() {
+        run(&(tariff::tables::STACK / 1024).to_string(), None).expect("the answers are as expected");
+    }
 
     #[test]
     fn the_deepest_texts_are_inside_the_limits() {

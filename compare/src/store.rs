@@ -80,7 +80,7 @@ fn handed(sources: &[&str]) -> Result<Vec<Case>, String> {
 /// Folders of theory, goals, proof and expected, by name.
 fn folders(path: &str, cases: &mut Vec<Case>) -> Result<(), String> {
     let entries = std::fs::read_dir(path).map_err(|e| format!("{path}: {e}"))?;
-    let mut names: Vec<_> = entries.flatten().map(|e| e.path()).collect();
+    let mut names: Vec<_> = entries.flatten().map(|e| e.path()).filter(|p| p.is_dir()).collect();
     names.sort();
     for folder in names {
         let read = |part: &str| std::fs::read(folder.join(part)).map_err(|e| format!("{}: {e}", folder.display()));

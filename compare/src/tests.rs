@@ -7,8 +7,9 @@ use crate::layout::layout;
 use crate::lending::Way;
 use crate::limits;
 use crate::rows::{LIMITS, under};
-use crate::seam::{Answer, SHAPES, Tables};
+use crate::seam::{Answer, Tables};
 use std::collections::HashMap;
+use tariff::tables::{FACTS, Record, Table};
 
 fn answer_of(line: &str) -> Answer {
     let mut out = [0; 8];
@@ -26,8 +27,8 @@ fn given() -> HashMap<Bytes, String> {
 
 /// The original in our place: question 1, then its answer, and the tables as they are named.
 fn posed(given: &HashMap<Bytes, String>, texts: &Bytes, tables: &mut Tables) -> Answer {
-    let short = SHAPES.iter().zip(&tables.cells).any(|(s, t)| t.length < s.cells);
-    if short || tables.footings.length < 4096 {
+    let short = Table::ALL.iter().zip(&tables.cells).any(|(t, lent)| lent.length < t.cells());
+    if short || tables.facts.length < FACTS {
         return answer_of("(refused 1 0 0 0)");
     }
     let Ok(it) = expected(texts) else { return answer_of(given.get(texts).map_or("(refused 0 0 0 0)", |l| l)) };
@@ -35,7 +36,7 @@ fn posed(given: &HashMap<Bytes, String>, texts: &Bytes, tables: &mut Tables) -> 
     for (k, cells) in want.cells.iter().enumerate() {
         tables.cells[k].cells_mut()[..cells.len()].copy_from_slice(cells);
     }
-    tables.footings.cells_mut()[..4096].copy_from_slice(&want.footings);
+    tables.facts.cells_mut()[..FACTS].copy_from_slice(&want.facts);
     answer_of(&it.line)
 }
 
@@ -77,18 +78,20 @@ fn a_wrong_count_is_noticed() {
 #[test]
 fn a_wrong_detail_is_noticed() {
     noticed(|answer, _| answer.0[4] += u64::from(answer.0[0] == 0 && answer.0[1] == 39));
+    noticed(|answer, _| answer.0[7] += u64::from(answer.0[0] == 0));
 }
 
 #[test]
 fn every_table_is_looked_at() {
-    for (k, shape) in SHAPES.iter().enumerate() {
+    for (k, table) in Table::ALL.iter().enumerate() {
         noticed(|_, tables| {
-            if let Some(c) = tables.cells[k].cells_mut().get_mut(shape.cells - 1) {
+            if let Some(c) = tables.cells[k].cells_mut().get_mut(table.cells() - 1) {
                 *c ^= 1;
             }
         });
     }
-    noticed(|_, tables| tables.footings.cells_mut()[4095] ^= 1);
+    noticed(|_, tables| tables.facts.cells_mut()[FACTS - 1].general ^= 1);
+    noticed(|_, tables| tables.facts.cells_mut()[0].footing[3] ^= 1);
 }
 
 #[test]
@@ -112,14 +115,16 @@ fn the_layout_of_example_a() {
     let texts = bytes(&example());
     let it = expected(&texts).expect("no limit is near");
     let l = layout(&texts, &it);
-    let begins = |k: usize, cells: &[u32]| assert_eq!(l.cells[k][..cells.len() + 1], *[cells, &[0]].concat(), "{}", SHAPES[k].name);
+    let begins = |k: usize, cells: &[u32]| assert_eq!(l.cells[k][..cells.len() + 1], *[cells, &[0]].concat(), "{}", Table::ALL[k].name());
     begins(6, &[1, 2, 5, 6, 1, 3, 5, 6]);
     begins(8, &[256, 2, 0, 0, 2, 2, 257, 2, 4, 1, 4, 2, 6]);
     begins(7, &[1, 3, 4, 6, 7, 9, 11, 13]);
     begins(10, &[19, 20, 1, 0, 0, 1]);
-    begins(11, &[3, 0, 0, 0, 0, 0, 5, 1, 0, 1, 0, 0, 7, 0, 1, 1, 0, 0, 1, 0, 2, 0, 0, 0]);
-    begins(12, &[1, 1]);
-    assert_eq!(l.footings[..16], [1, 0, 0, 0, 0, 0, 0, 0, 2, 0, 0, 0, 0, 0, 0, 0]);
+    begins(11, &[1, 1]);
+    let fact =
+        |judgment, assumed, first, hyps, rules| Record { judgment, assumed, first, hyps, footing: [rules, 0, 0, 0], ..Default::default() };
+    let want = [fact(3, 0, 0, 0, 1), fact(5, 1, 0, 1, 0), fact(7, 0, 1, 1, 2), fact(1, 0, 2, 0, 0), Record::default()];
+    assert_eq!(l.facts[..5], want);
 }
 
 /// The cells of the rows `small-..` of the definition of the theory's tables.
@@ -187,26 +192,36 @@ fn numbers(file: &[u8], at: usize) -> (Vec<usize>, usize) {
     (line.split(' ').map(|w| w.parse().expect("a number")).collect(), end + 1)
 }
 
-/// The stored cases can be read by their lengths alone, and their lines are those that are expected.
-#[test]
-fn stored_cases() {
+/// The stored cases, read by their lengths alone: name, theory, goals, proof, answer, facts, footings.
+pub fn stored() -> Vec<Vec<Vec<u8>>> {
     let file = std::fs::read("cases/stored.txt").expect("the file stands");
     let (header, start) = numbers(&file, 0);
-    let (mut at, mut cases, mut with_facts, mut open) = (start + header[0], 0, 0, 0);
+    let (mut at, mut cases) = (start + header[0], Vec::new());
     while at < file.len() {
         let (lengths, mut from) = numbers(&file, at);
         let mut parts = Vec::new();
         for n in lengths {
-            parts.push(&file[from..from + n]);
+            parts.push(file[from..from + n].to_vec());
             from += n;
         }
         assert_eq!(file[from], b'\n');
-        let texts = [parts[1].to_vec(), parts[2].to_vec(), parts[3].to_vec()];
+        cases.push(parts);
+        at = from + 1;
+    }
+    cases
+}
+
+/// Their lines are those that are expected.
+#[test]
+fn stored_cases() {
+    let (mut cases, mut with_facts, mut open) = (0, 0, 0);
+    for parts in stored() {
+        let texts = [parts[1].clone(), parts[2].clone(), parts[3].clone()];
         match expected(&texts) {
-            Ok(it) => assert_eq!(it.line.as_bytes(), parts[4], "{}", String::from_utf8_lossy(parts[0])),
+            Ok(it) => assert_eq!(it.line.as_bytes(), parts[4], "{}", String::from_utf8_lossy(&parts[0])),
             Err(_) => open += 1,
         }
-        (cases, with_facts, at) = (cases + 1, with_facts + usize::from(parts[5] != b"-"), from + 1);
+        (cases, with_facts) = (cases + 1, with_facts + usize::from(parts[5] != b"-"));
     }
     assert!(cases >= 600 && 3 * with_facts >= cases && 20 * open < cases, "{cases} cases, {with_facts} with facts, {open} left open");
 }
