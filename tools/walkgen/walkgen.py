@@ -645,14 +645,14 @@ class Walk:
         for p in sorted(last, key=len, reverse=True):
             ensures = [text.replace(f"z{c}·{p}", last[p]) for text in ensures]
         facts = " ⊛ ".join(f"raw (fact 𝓤 ({text}))" for text in ensures)
-        w.say(f"use1 W (some (λ (ws{c} : {lists}). ‵ (lasts G{m}.ended {lifetimes} {denots} ws{c}) ⊛ {f'({facts})' if several else facts})) (id⊢ 𝓤 _) $ "
-              f"pick ! (λ ws{c}. split ! $ move ! (1 ∷ []) $")
-        w.bind(f"r{c}", denot)
-        w.bind(f"ws{c}", lists)
-        for k, text in enumerate(ensures):
-            name = f"e{c}·{k}" if several else f"e{c}"
-            w.say(f"{'split ! $ ' if k + 1 < len(ensures) else ''}heard ! ({text}) (λ {name}.")
-            w.bind(name, text)
+        names = [f"e{c}·{k}" for k in range(len(ensures))] if several else [f"e{c}"]
+        told = [f"{'split ! $ ' if name != names[-1] else ''}heard ! ({text}) (λ {name}." for name, text in zip(names, ensures)]
+        told.insert(0, f"use1 W (some (λ (ws{c} : {lists}). ‵ (lasts G{m}.ended {lifetimes} {denots} ws{c}) ⊛ {f'({facts})' if several else facts})) (id⊢ 𝓤 _) $ "
+                    f"pick ! (λ ws{c}. split ! $ move ! (1 ∷ []) $")
+        for line in told if "limit" in self.said else [" ".join(told)]:
+            w.say(line)
+        for name, type_ in [(f"r{c}", denot), (f"ws{c}", lists), *zip(names, ensures)]:
+            w.bind(name, type_)
         w.push("LASTS", "RESULT")
         for j, a in enumerate(arguments):
             if not any(b.how in LENT for b in arguments[j:]):
