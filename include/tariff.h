@@ -34,7 +34,7 @@ extern "C" {
 #define TARIFF_ANSWER 8
 
 /* A call takes less than so many bytes of stack. A thread that has less may end the program in the middle of a call. */
-#define TARIFF_STACK 16777216
+#define TARIFF_STACK 4194304
 
 /* A recorded fact: 56 bytes, aligned to 8. */
 typedef struct tariff_fact {

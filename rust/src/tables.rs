@@ -10,7 +10,7 @@ pub const LENGTH: usize = 65_536;
 pub const FACTS: usize = 1_024;
 
 /// How many bytes of stack are free at least when a check is called, as in include/tariff.h.
-pub const STACK: usize = 16 << 20;
+pub const STACK: usize = 4 << 20;
 
 /// From here on a head is a variable's, below a symbol's.
 #[cfg(feature = "library")]

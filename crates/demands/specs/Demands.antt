@@ -69,7 +69,7 @@ module _ {theory goals proof : List ℕ} {before after : Tables} {answer : Answe
         let e = entry-at (S .facts) i noFact l in
         let q : factIn after i ≡ f = fact-read (call .read long) i f e in
         let t : True (S .theory) (sortsOf S) (RuleOf (S .theory)) (S .facts) f =
-          check-right theory goals proof calm .facts i f (is-at (S .facts) i f e) (λ r. n (subst RuleHyp (sym q) r)) in
+        check-right theory goals proof calm .facts i f (is-at (S .facts) i f e) (λ r. n (subst RuleHyp (sym q) r)) in
         subst (λ fs. True (S .theory) (sortsOf S) (RuleOf (S .theory)) fs (factIn after i)) (sym (facts-recorded long))
         (subst (True (S .theory) (sortsOf S) (RuleOf (S .theory)) (S .facts)) (sym q) t)
 

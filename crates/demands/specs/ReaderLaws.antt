@@ -60,7 +60,7 @@ module _ {T : Tables} {S : State} (h : Read T S) where
   fact-read i f e =
       let r : FactRow _ _ (S .made) S i f = fact-row-of i (h .facts) e in
       let b : rising RULES (holds (take 4 (drop (4 * i) (take (4 * FACTS) (T .footings))))) ≡ f .footing =
-        ap (rising RULES) (r .footing) ∙ rises-rising RULES (f .footing) (r .shaped .footing .rises) (r .footing-below) in
+      ap (rising RULES) (r .footing) ∙ rises-rising RULES (f .footing) (r .shaped .footing .rises) (r .footing-below) in
       λ j. record {
         judgment = numbered-read _ (r .judgment) j;
         hyps = r .hyps j;
@@ -79,7 +79,7 @@ module _ {T : Tables} {S : State} (h : Read T S) where
       let l = entry-below (S .goals) k g e in
       let q : getD (S .goals) k noGoal ≡ g = same-goal (sym (entry-at (S .goals) k noGoal l) ∙ e) in
       let r : GoalRow (goalRows T) (entriesIn T) (S .made) (S .goals) k g =
-        subst (GoalRow (goalRows T) (entriesIn T) (S .made) (S .goals) k) q (goal-row-of k (h .facts) (h .goals) l) in
+      subst (GoalRow (goalRows T) (entriesIn T) (S .made) (S .goals) k) q (goal-row-of k (h .facts) (h .goals) l) in
       λ j. record { name = g .name; judgment = numbered-read _ (r .judgment) j; hyps = all-read _ (r .hyps) (r .numbered) j; taken = r .taken j }
 
   -- all facts
