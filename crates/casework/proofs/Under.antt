@@ -106,9 +106,6 @@ module _ {facts lists : List ℕ} {n : Sizes} {I W : List ℕ} {m : Mark} {map m
   pub part-width : s .end - s .from ≡ widthOf facts h
   part-width = ap (λ (p : Span). p .end - p .from) e
 
-  pub part-fits : {ids : List ℕ} → widthOf facts h ≤ length ids → s .end - s .from ≤ length ids
-  part-fits w = omega (arith, part-width, w)
-
   pub under-asks : {ids : List ℕ} → widthOf facts h ≤ length ids → Replaceables I W m map memo (part lists s) ids
   under-asks w =
       record {
@@ -116,7 +113,7 @@ module _ {facts lists : List ℕ} {n : Sizes} {I W : List ℕ} {m : Mark} {map m
         within = c .cells .bound;
         there = subst (λ (p : Span). There (m .terms) (part lists p)) (sym e) (premises-there (c .recalls) l);
         empty = c .empty;
-        fits = omega (arith, part-long, part-fits w);
+        fits = omega (arith, part-long, part-width, w);
       }
 
   pub judgment-small : {id : ℕ} → id ≡ cell 6 facts h 0 → id < m .terms

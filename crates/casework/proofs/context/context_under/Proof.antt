@@ -16,27 +16,27 @@ premises-requires c κs = facts-asked ((c .before .before .before .before .befor
 
 -- src/context.rt
 sub-many : tie.Need-sub-many
-sub-many c = premises-low ((c .before .before .before .before .before .before .before .before .before .before .before .pre) .0 .recalls) ((c .before .before .before .before .before .before .before .before .before .before .before .pre) .1) ((c .premises) .ensures)
+sub-many c = premises-low ((c .before .before .before .before .before .before .before .before .before .before .before .before .pre) .0 .recalls) ((c .before .before .before .before .before .before .before .before .before .before .before .before .pre) .1) ((c .before .premises) .ensures)
 
 -- src/context.rt
 slice-relend-prefix-fact-under : tie.Need-slice-relend-prefix-fact-under
 slice-relend-prefix-fact-under c =
-    let pre = c .before .before .before .before .before .before .before .before .before .before .before .before .before .before .pre in
-    let premises = c .before .before .before .premises in
+    let pre = c .before .before .before .before .before .before .before .before .before .before .before .before .before .before .before .pre in
+    let premises = c .before .before .before .before .premises in
     front-room 40960 (pre .2) (premises .result .end - premises .result .from) (omega (arith, part-few (pre .0) (pre .1) (premises .ensures)))
 
 -- src/context.rt
 slice-aggregate-fact-under : tie.Need-slice-aggregate-fact-under
 slice-aggregate-fact-under c =
-    let pre = c .before .before .before .before .before .before .before .before .before .before .before .before .before .before .before .pre in
-    let premises = c .before .before .before .before .premises in
+    let pre = c .before .before .before .before .before .before .before .before .before .before .before .before .before .before .before .before .pre in
+    let premises = c .before .before .before .before .before .premises in
     front-count 40960 (pre .2) (premises .result .end - premises .result .from) (omega (arith, part-few (pre .0) (pre .1) (premises .ensures)))
 
 -- src/context.rt
 fact-under-requires : tie.Need-fact-under-requires
 fact-under-requires c κs =
-    let pre = c .before .before .before .before .before .before .before .before .before .before .before .before .before .before .before .before .before .pre in
-    let premises = c .before .before .before .before .before .before .premises in (
+    let pre = c .before .before .before .before .before .before .before .before .before .before .before .before .before .before .before .before .before .before .pre in
+    let premises = c .before .before .before .before .before .before .before .premises in (
       pre .0,
       pre .1,
       omega (
@@ -50,8 +50,8 @@ fact-under-requires c κs =
 slice-relend-prefix-clear : tie.Need-slice-relend-prefix-clear
 slice-relend-prefix-clear c =
     let mid = c .before .before .before .before .before .before .before .before .before .before .before .before .before .before .before .before .before .before .before .before .before .before .before .before .before in
-    let pre = mid .before .before .before .before .before .pre in
-    let premises = c .before .before .before .before .before .before .before .before .before .before .before .before .before .before .before .before .before .before .before .premises in
+    let pre = mid .before .before .before .before .before .before .pre in
+    let premises = c .before .before .before .before .before .before .before .before .before .before .before .before .before .before .before .before .before .before .before .before .premises in
     let fact-under = c .before .before .before .before .before .before .before .before .before .before .before .before .fact-under in
     back-room 40960 (pre .2) (premises .result .end - premises .result .from) (omega (arith, part-few (pre .0) (pre .1) (premises .ensures)))
     (fact-under .last .1 .1 .1 .1 .1 .1 .1 .1 .1 .1 .0) (fact-under .kept .1 .1 .1 .1 .1 .1 .1 .1 .1 .1 .0)
@@ -60,8 +60,8 @@ slice-relend-prefix-clear c =
 slice-aggregate-clear : tie.Need-slice-aggregate-clear
 slice-aggregate-clear c =
     let mid = c .before .before .before .before .before .before .before .before .before .before .before .before .before .before .before .before .before .before .before .before .before .before .before .before .before in
-    let pre = mid .before .before .before .before .before .before .pre in
-    let premises = c .before .before .before .before .before .before .before .before .before .before .before .before .before .before .before .before .before .before .before .before .premises in
+    let pre = mid .before .before .before .before .before .before .before .pre in
+    let premises = c .before .before .before .before .before .before .before .before .before .before .before .before .before .before .before .before .before .before .before .before .before .premises in
     let fact-under = c .before .before .before .before .before .before .before .before .before .before .before .before .before .fact-under in
     back-count 40960 (pre .2) (premises .result .end - premises .result .from) (omega (arith, part-few (pre .0) (pre .1) (premises .ensures)))
     (fact-under .last .1 .1 .1 .1 .1 .1 .1 .1 .1 .1 .0) (fact-under .kept .1 .1 .1 .1 .1 .1 .1 .1 .1 .1 .0)
@@ -86,8 +86,8 @@ same-length-3 c = (c .before .before .before .before .before .before .before .be
 same-length-4 : tie.Need-same-length-4
 same-length-4 c =
     let mid = c .before .before .before .before .before .before .before .before .before .before .before .before .before .before .before .before .before .before .before .before .before .before .before .before .before in
-    let pre = mid .before .before .before .before .before .before .before .before .before .pre in
-    let premises = c .before .before .before .before .before .before .before .before .before .before .before .before .before .before .before .before .before .before .before .before .before .before .before .premises in
+    let pre = mid .before .before .before .before .before .before .before .before .before .before .pre in
+    let premises = c .before .before .before .before .before .before .before .before .before .before .before .before .before .before .before .before .before .before .before .before .before .before .before .before .premises in
     let fact-under = c .before .before .before .before .before .before .before .before .before .before .before .before .before .before .before .before .fact-under in
     let clear = c .before .before .clear in
     ap length
@@ -106,8 +106,8 @@ same-length-6 c = (c .before .before .before .before .before .before .before .be
 returns : tie.Need-returns
 returns c =
     let mid = c .before .before .before .before .before .before .before .before .before .before .before .before .before .before .before .before .before .before .before .before .before .before .before .before .before in
-    let pre = mid .before .before .before .before .before .before .before .before .before .pre in
-    let premises = c .before .before .before .before .before .before .before .before .before .before .before .before .before .before .before .before .before .before .before .before .before .before .before .premises in
+    let pre = mid .before .before .before .before .before .before .before .before .before .before .pre in
+    let premises = c .before .before .before .before .before .before .before .before .before .before .before .before .before .before .before .before .before .before .before .before .before .before .before .before .premises in
     let fact-under = c .before .before .before .before .before .before .before .before .before .before .before .before .before .before .before .before .fact-under in
     let clear = c .before .before .clear in (
       fact-under .ensures .0,

@@ -8,7 +8,7 @@ use Rattle.terms.specs.Subst.{replacement}
 use Rattle.state.specs.Entries.{part}
 use Rattle.casework.specs.Laws.Rows.{facts-asked, lists-are, premises-low, premises-high}
 use Rattle.casework.specs.Laws.Substitutes.{replaceable-now, memo-asked, under-went, under-there, under-stopped}
-use Rattle.casework.proofs.Under.{under-asks, part-fits, judgment-small, under-ids, replaced-ok, replaced-no, recalls-new, part-long, under-no, under-read-at, premises-stop}
+use Rattle.casework.proofs.Under.{under-asks, part-width, judgment-small, under-ids, replaced-ok, replaced-no, recalls-new, part-long, under-no, under-read-at, premises-stop}
 use borrow.Author.Needs.{needs}
 use Rattle.casework.proofs.context.fact_under.Statement.{statement}
 use Rattle.casework.proofs.context.fact_under.Tie as tie
@@ -105,7 +105,7 @@ slice-reshare-prefix-allow c =
     let pre = mid .before .before .before .before .before .before .before .before .before .before .before .before .before .before .before .before .before .before .before .pre in
     let premises = mid .before .before .before .before .before .before .before .before .premises in
     let substitute-all = mid .before .before .substitute-all in
-    omega (arith, part-fits (pre .0) (pre .1) (premises .ensures) (pre .2), substitute-all .kept .1 .1 .1 .1 .1 .1 .0)
+    omega (arith, part-width (pre .0) (pre .1) (premises .ensures), pre .2, substitute-all .kept .1 .1 .1 .1 .1 .1 .0)
 
 -- src/context.rt:272:21
 slice-aggregate-allow : tie.Need-slice-aggregate-allow
@@ -116,7 +116,7 @@ slice-aggregate-allow c =
     let pre = mid .before .before .before .before .before .before .before .before .before .before .before .before .before .before .before .before .before .before .before .before .pre in
     sym
     (length-take-le (premises .result .end - premises .result .from) (substitute-all .last .1 .1 .1 .1 .1 .1 .0)
-    (omega (arith, part-fits (pre .0) (pre .1) (premises .ensures) (pre .2), substitute-all .kept .1 .1 .1 .1 .1 .1 .0)))
+    (omega (arith, part-width (pre .0) (pre .1) (premises .ensures), pre .2, substitute-all .kept .1 .1 .1 .1 .1 .1 .0)))
 
 -- src/context.rt:262:17
 allow-requires : tie.Need-allow-requires
