@@ -1,14 +1,12 @@
 -- The loops over the cases of `invert`: the case of a name, and all of them, one a name. Assumes nothing.
 use mathlib.Core.Path.{_≡_, refl, sym, ap, _∙_, subst}
-use mathlib.Core.Bool.{Bool, true, false, not, _||_, true≢false, false≢true}
+use mathlib.Core.Bool.{Bool, true, false, not, _&&_}
 use mathlib.Core.Option.{Option, some, none as nothing}
 use mathlib.Core.List.{List, [], _∷_, _++_}
-use Prim.Native.Nat.{ℕ, zero, suc, _+_, _-_, _*_, _%_, _<_, _≤_}
+use Prim.Native.Nat.{ℕ, zero, suc, _+_, _-_, _<_, _≤_}
 use native.Mathlib.Omega.{arith}
 use native.Mathlib.Numerals.{add-one}
 use native.Mathlib.Decide.{decLt}
-use lib.Dec.{eqb}
-use borrow.Author.Tests.{eq-eqb}
 use lib.ListN.{length, getD, take, drop, drop-of-length-le, length-append, List·getD-append}
 use lib.Seq.{drop-cons, getD-append-add}
 use Rattle.rules.specs.Text.{same}
@@ -18,32 +16,17 @@ use Rattle.rules.specs.Find.{any}
 use Rattle.rules.specs.Store.{Made}
 use Rattle.rules.specs.State.{State}
 use Rattle.rules.specs.Invert.{Case, caseNamed, readCase, readCases}
-use Rattle.rules.specs.Laws.Theory.{All, empty, both, all-snoc, all-map}
 use Rattle.rules.specs.Laws.Store.{then-ok, then-refuse}
 use Rattle.rules.specs.Laws.Sexp.{rest-item}
-use Rattle.rules.specs.Laws.Text.{same-equal}
-use Rattle.rules.specs.Laws.Set.{or-left, or-right}
-use Rattle.sexp.specs.Encode.{encode}
 use Rattle.sexp.specs.Items.{Holds, itemAt, behind}
 use Rattle.sexp.specs.ItemLaws.{at-room, some-cells}
 use Rattle.sexp.specs.Never.{never}
 use Rattle.sexp.specs.WalkLaws.{Walk, walk-start, walk-over, walk-rest}
 use Rattle.sexp.specs.declared.names.Found.{Found}
 use Rattle.sexp.specs.declared.names.Found.the-variants.{At, Missing}
-use Rattle.terms.specs.Sets.{holds, plus}
 use Rattle.reading.specs.Laws.Walks.{Here, here, go-on}
-use Rattle.casework.specs.Cases.{noCase, CaseItem, CaseFirst, CasesFirst, CaseHere, CaseFound, hashOf, CasesAre}
-
--- A number for a name ------------------------------------------------------------------------------------------------------------------------
-
-pub hash-more : (name : List ℕ) (h at : ℕ) → at < length name → hashOf ((h * 31 + getD name at 0) % 65536) (drop (at + 1) name) ≡ hashOf h (drop at name)
-unfolding hashOf
-hash-more name h at l =
-    sym (ap (hashOf h) (drop-cons name at 0 l ∙ ap (λ (k : ℕ). getD name at 0 ∷ drop k name) (sym (add-one at))))
-
-pub hash-over : (name : List ℕ) (h at : ℕ) → length name ≤ at → h ≡ hashOf h (drop at name)
-unfolding hashOf
-hash-over name h at l = sym (ap (hashOf h) (drop-of-length-le name l))
+use Rattle.casework.specs.Cases.{noCase, CaseItem, CaseFirst, CasesFirst, CaseHere, CaseFound, apart, CasesAre}
+use Rattle.casework.proofs.Apart.{apart-last}
 
 -- The case of a name -------------------------------------------------------------------------------------------------------------------------
 
@@ -64,42 +47,62 @@ named-over : (cs : List Case) (name : List ℕ) (k : ℕ) → length cs ≤ k �
 unfolding caseNamed
 named-over cs name k l = ap (λ (ds : List Case). caseNamed ds name) (drop-of-length-le cs l)
 
--- the loop: what is left decides
+-- in a loop what is left decides
 pub record Seeking {text cells : List ℕ} {many : ℕ} (g : CasesFirst text cells many) (name : List ℕ) (at k : ℕ) : Type 0 where
   pub walk : Walk text cells at (rest (g .xs) k)
   pub whole : caseNamed (g .cs) name ≡ caseNamed (drop k (g .cs)) name
 
-rest-zero : (xs : Sexps) → xs ≡ rest xs 0
+-- Where a loop over the first cases stands -------------------------------------------------------------------------------------------------------
+
+pub rest-zero : (xs : Sexps) → xs ≡ rest xs 0
 unfolding rest
 rest-zero nil = refl
 rest-zero (cons x xs) = refl
 
+module _ {text cells : List ℕ} {many : ℕ} (g : CasesFirst text cells many) where
+  pub stand-start : Walk text cells 0 (rest (g .xs) 0)
+  stand-start = subst (λ (z : Sexps). Walk text cells 0 z) (rest-zero (g .xs)) (walk-start (g .holds))
+
+  module _ {at k : ℕ} (w : Walk text cells at (rest (g .xs) k)) (l : k < many) where
+    item-walk : Walk text cells at (cons (item (g .xs) k) (rest (g .xs) (suc k)))
+    item-walk = subst (λ (z : Sexps). Walk text cells at z) (rest-item (g .xs) k (omega (arith, l, g .few))) w
+
+    pub stand-inside : at < length cells
+    stand-inside = omega (arith, at-room (item-walk .here), some-cells (item (g .xs) k))
+
+    abbrev pub stand-first : CaseFirst text (take (length cells - at) (drop at cells))
+    stand-first =
+        record { vs = g .vs; x = item (g .xs) k; ys = rest (g .xs) (suc k); c = getD (g .cs) k noCase; holds = walk-rest item-walk; case = g .cases k l }
+
+    abbrev here-now : Here text cells at (rest (g .xs) k)
+    here-now =
+        record { x = item (g .xs) k; ys = rest (g .xs) (suc k); is = rest-item (g .xs) k (omega (arith, l, g .few)); walk = item-walk; holds = walk-rest item-walk }
+
+    pub stand-next : {next : ℕ} → next ≡ behind at (itemAt cells at) → Walk text cells next (rest (g .xs) (k + 1))
+    stand-next {next} n = subst (λ (j : ℕ). Walk text cells next (rest (g .xs) j)) (sym (add-one k)) (go-on here-now n .walk)
+
+    pub stand-on : {next : ℕ} → next ≡ behind at (itemAt cells at) → at < next
+    stand-on n = go-on here-now n .on
+
+-- the loop: what is left decides
 module _ {text cells : List ℕ} {many : ℕ} (g : CasesFirst text cells many) (name : List ℕ) where
   pub seeking-start : Seeking g name 0 0
-  seeking-start = record { walk = subst (λ (z : Sexps). Walk text cells 0 z) (rest-zero (g .xs)) (walk-start (g .holds)); whole = refl }
+  seeking-start = record { walk = stand-start g; whole = refl }
 
   module _ {at k : ℕ} (s : Seeking g name at k) where
     pub seeking-over : many ≤ k → caseNamed (g .cs) name ≡ nothing
     seeking-over l = s .whole ∙ named-over (g .cs) name k (omega (arith, g .length-is, l))
 
     module _ (l : k < many) where
-      item-walk : Walk text cells at (cons (item (g .xs) k) (rest (g .xs) (suc k)))
-      item-walk = subst (λ (z : Sexps). Walk text cells at z) (rest-item (g .xs) k (omega (arith, l, g .few))) (s .walk)
-
       pub seeking-inside : at < length cells
-      seeking-inside = omega (arith, at-room (item-walk .here), some-cells (item (g .xs) k))
+      seeking-inside = stand-inside g (s .walk) l
 
-      pub seeking-first : CaseFirst text (take (length cells - at) (drop at cells))
-      seeking-first =
-          record { vs = g .vs; x = item (g .xs) k; ys = rest (g .xs) (suc k); c = getD (g .cs) k noCase; holds = walk-rest item-walk; case = g .cases k l }
-
-      here-now : Here text cells at (rest (g .xs) k)
-      here-now =
-          record { x = item (g .xs) k; ys = rest (g .xs) (suc k); is = rest-item (g .xs) k (omega (arith, l, g .few)); walk = item-walk; holds = walk-rest item-walk }
+      abbrev pub seeking-first : CaseFirst text (take (length cells - at) (drop at cells))
+      seeking-first = stand-first g (s .walk) l
 
       module _ (b : Bool) (is : (f : CaseFirst text (take (length cells - at) (drop at cells))) → b ≡ same (f .c .name) name) where
         same-is : b ≡ same (getD (g .cs) k noCase .name) name
-        same-is = is (record { vs = g .vs; x = item (g .xs) k; ys = rest (g .xs) (suc k); c = getD (g .cs) k noCase; holds = walk-rest item-walk; case = g .cases k l })
+        same-is = is (stand-first g (s .walk) l)
 
         pub seeking-found : b ≡ true → CaseHere (g .vs) text cells (g .cs) name at
         seeking-found e =
@@ -108,18 +111,14 @@ module _ {text cells : List ℕ} {many : ℕ} (g : CasesFirst text cells many) (
               is = s .whole ∙ named-yes (g .cs) name k (omega (arith, g .length-is, l)) (sym same-is ∙ e);
               x = item (g .xs) k;
               ys = rest (g .xs) (suc k);
-              walk = item-walk;
+              walk = item-walk g (s .walk) l;
               there = seeking-inside;
               case = g .cases k l;
             }
 
         pub seeking-on : {next : ℕ} → b ≡ false → next ≡ behind at (itemAt cells at) → Seeking g name next (k + 1)
-        unfolding here-now
         seeking-on {next} e n =
-            record {
-              walk = subst (λ (j : ℕ). Walk text cells next (rest (g .xs) j)) (sym (add-one k)) (go-on here-now n .walk);
-              whole = s .whole ∙ named-no (g .cs) name k (omega (arith, g .length-is, l)) (sym same-is ∙ e);
-            }
+            record { walk = stand-next g (s .walk) l n; whole = s .whole ∙ named-no (g .cs) name k (omega (arith, g .length-is, l)) (sym same-is ∙ e) }
 
 -- One case a name ------------------------------------------------------------------------------------------------------------------------------
 
@@ -145,17 +144,6 @@ pub any-nowhere : (cs : List Case) (name : List ℕ) → caseNamed cs name ≡ n
 unfolding isSome
 any-nowhere cs name e = sym (any-named cs name ∙ ap isSome e)
 
--- a name whose number was not met is no case's
-pub any-unmet : (set : ℕ → Bool) (cs : List Case) (name : List ℕ) → All (λ (c : Case). set (hashOf 0 (c .name)) ≡ true) cs → set (hashOf 0 name) ≡ false →
-    false ≡ any (λ (d : Case). same (d .name) name) cs
-unfolding any
-any-unmet set [] name empty e = refl
-any-unmet set (c ∷ cs) name (both p a) e = go (same (c .name) name) refl (any-unmet set cs name a e)
-  where
-    go : (b : Bool) → same (c .name) name ≡ b → false ≡ any (λ (d : Case). same (d .name) name) cs → false ≡ elim b [ true ↦ true | false ↦ any (λ (d : Case). same (d .name) name) cs ]
-    go true q h = absurd (true≢false (sym p ∙ ap (λ (n : List ℕ). set (hashOf 0 n)) (same-equal (c .name) name q) ∙ e))
-    go false q h = h
-
 -- All cases --------------------------------------------------------------------------------------------------------------------------------------
 
 module _ (S : State) (x : Sexp) (ys : Sexps) (cs : List Case) (M : Made) where
@@ -172,17 +160,22 @@ module _ (S : State) (x : Sexp) (ys : Sexps) (cs : List Case) (M : Made) where
     unfolding readCases
     read-more a = then-ok (readCase S x M) c M _ e ∙ then-ok _ tt M _ (ap (λ (b : Bool). ask 41 (not b) M) a)
 
+-- what comes of the rest, unless two names are one
+abbrev lastly : Bool → Out Made (List Case) → Made → Out Made (List Case)
+lastly true o M = o
+lastly false o M = refuse 41 0 M
+
 -- these are read; the rest is left
-pub record Casing (S : State) (xs : Sexps) (text cells names : List ℕ) (at k : ℕ) : Type 0 where
+pub record Casing (S : State) (xs : Sexps) (text cells : List ℕ) (at k : ℕ) : Type 0 where
   pub cs : List Case
   pub walk : Walk text cells at (rest xs k)
-  pub whole : (M : Made) → readCases S xs [] M ≡ readCases S (rest xs k) cs M
+  pub whole : (M : Made) → readCases S xs [] M ≡ lastly (apart [] cs) (readCases S (rest xs k) cs M) M
   pub many : length cs ≡ k
   pub few : k ≤ count xs
   pub cases : (i : ℕ) → i < k → CaseItem (S .vars) (item xs i) (getD cs i noCase)
-  pub met : All (λ (c : Case). holds names (hashOf 0 (c .name)) ≡ true) cs
 
-pub casing-start : (S : State) (xs : Sexps) {text cells names : List ℕ} → Holds text cells xs → Casing S xs text cells names 0 0
+pub casing-start : (S : State) (xs : Sexps) {text cells : List ℕ} → Holds text cells xs → Casing S xs text cells 0 0
+unfolding apart
 casing-start S xs {text} {cells} h =
     record {
       cs = [];
@@ -191,7 +184,6 @@ casing-start S xs {text} {cells} h =
       many = refl;
       few = omega arith;
       cases = λ i l. absurd (omega (arith, l));
-      met = empty;
     }
 
 count-rest : (xs : Sexps) (k : ℕ) → k ≤ count xs → rest xs k ≡ nil → count xs ≤ k
@@ -206,23 +198,30 @@ cons-more nil k x ys e = never cc
 cons-more (cons z zs) zero x ys e = omega arith
 cons-more (cons z zs) (suc k) x ys e = let l = cons-more zs k x ys e in omega arith
 
-module _ {S : State} {xs : Sexps} {text cells names : List ℕ} {at k : ℕ} (h : Casing S xs text cells names at k) where
-  pub casing-over : length cells ≤ at → CasesAre S xs
-  unfolding readCases
-  casing-over l =
-      let e = walk-over (h .walk) l in
-      let n = count-rest xs k (h .few) e in
-      let f = h .few in
-      record {
-        cs = h .cs;
-        read = λ M. h .whole M ∙ ap (λ (z : Sexps). readCases S z (h .cs) M) e;
-        many = omega (arith, h .many, n, f);
-        cases = λ i j. h .cases i (omega (arith, j, n, f));
-      }
-
-  -- what `is_taken` asks
+module _ {S : State} {xs : Sexps} {text cells : List ℕ} {at k : ℕ} (h : Casing S xs text cells at k) where
+  -- what `apart` asks
   abbrev pub casing-first : Holds text cells xs → CasesFirst text cells k
   casing-first w = record { vs = S .vars; xs = xs; cs = h .cs; holds = w; length-is = h .many; few = h .few; cases = h .cases }
+
+  pub casing-twice : {b : Bool} → b ≡ apart [] (h .cs) → b ≡ false → (M : Made) → readCases S xs [] M ≡ refuse 41 0 M
+  casing-twice a t M = h .whole M ∙ ap (λ (z : Bool). lastly z (readCases S (rest xs k) (h .cs) M) M) (sym a ∙ t)
+
+  module _ {b : Bool} (a : b ≡ apart [] (h .cs)) (t : b ≡ true) where
+    casing-rest : (M : Made) → readCases S xs [] M ≡ readCases S (rest xs k) (h .cs) M
+    casing-rest M = h .whole M ∙ ap (λ (z : Bool). lastly z (readCases S (rest xs k) (h .cs) M) M) (sym a ∙ t)
+
+    pub casing-over : length cells ≤ at → CasesAre S xs
+    unfolding readCases
+    casing-over l =
+        let e = walk-over (h .walk) l in
+        let n = count-rest xs k (h .few) e in
+        let f = h .few in
+        record {
+          cs = h .cs;
+          read = λ M. casing-rest M ∙ ap (λ (z : Sexps). readCases S z (h .cs) M) e;
+          many = omega (arith, h .many, n, f);
+          cases = λ i j. h .cases i (omega (arith, j, n, f));
+        }
 
   module _ (l : at < length cells) where
     pub casing-here : Here text cells at (rest xs k)
@@ -240,42 +239,44 @@ module _ {S : State} {xs : Sexps} {text cells names : List ℕ} {at k : ℕ} (h 
     same-rest : casing-here .ys ≡ rest xs (suc k)
     same-rest = let z : cons (casing-here .x) (casing-here .ys) ≡ cons (item xs k) (rest xs (suc k)) = sym (casing-here .is) ∙ step-rest in cc
 
-    opened : (M : Made) → readCases S xs [] M ≡ readCases S (cons (casing-here .x) (casing-here .ys)) (h .cs) M
-    opened M = h .whole M ∙ ap (λ (z : Sexps). readCases S z (h .cs) M) (casing-here .is)
+    opened : (M : Made) → readCases S (rest xs k) (h .cs) M ≡ readCases S (cons (casing-here .x) (casing-here .ys)) (h .cs) M
+    opened M = ap (λ (z : Sexps). readCases S z (h .cs) M) (casing-here .is)
 
-    pub casing-no : (q : ℕ) → ((M : Made) → readCase S (casing-here .x) M ≡ refuse q 0 M) → (M : Made) → readCases S xs [] M ≡ refuse q 0 M
-    casing-no q e M = opened M ∙ read-no S (casing-here .x) (casing-here .ys) (h .cs) M q (e M)
+    pub casing-no : {b : Bool} → b ≡ apart [] (h .cs) → b ≡ true → (q : ℕ) → ((M : Made) → readCase S (casing-here .x) M ≡ refuse q 0 M) →
+        (M : Made) → readCases S xs [] M ≡ refuse q 0 M
+    casing-no a t q e M = casing-rest a t M ∙ opened M ∙ read-no S (casing-here .x) (casing-here .ys) (h .cs) M q (e M)
 
     module _ (c : Case) (e : (M : Made) → readCase S (casing-here .x) M ≡ ok c M) where
-      pub casing-twice : (b : Bool) → b ≡ any (λ (d : Case). same (d .name) (c .name)) (h .cs) → b ≡ true → (M : Made) → readCases S xs [] M ≡ refuse 41 0 M
-      casing-twice b a t M = opened M ∙ read-twice S (casing-here .x) (casing-here .ys) (h .cs) M c (e M) (sym a ∙ t)
+      casing-whole : (M : Made) → lastly (apart [] (h .cs)) (readCases S (rest xs k) (h .cs) M) M
+          ≡ lastly (apart [] (h .cs ++ (c ∷ []))) (readCases S (casing-here .ys) (h .cs ++ (c ∷ [])) M) M
+      casing-whole M =
+          go (apart [] (h .cs)) (any (λ (d : Case). same (d .name) (c .name)) (h .cs)) refl
+          ∙ ap (λ (z : Bool). lastly z (readCases S (casing-here .ys) (h .cs ++ (c ∷ [])) M) M) (sym (apart-last [] (h .cs) c))
+        where
+          go : (a b : Bool) → any (λ (d : Case). same (d .name) (c .name)) (h .cs) ≡ b → lastly a (readCases S (rest xs k) (h .cs) M) M
+              ≡ lastly (a && not b) (readCases S (casing-here .ys) (h .cs ++ (c ∷ [])) M) M
+          go false b f = refl
+          go true true f = opened M ∙ read-twice S (casing-here .x) (casing-here .ys) (h .cs) M c (e M) f
+          go true false f = opened M ∙ read-more S (casing-here .x) (casing-here .ys) (h .cs) M c (e M) f
 
-      pub casing-more : (b : Bool) → b ≡ any (λ (d : Case). same (d .name) (c .name)) (h .cs) → b ≡ false → CaseItem (S .vars) (casing-here .x) c →
-          {next : ℕ} {names′ : List ℕ} (v : ℕ) → v ≡ hashOf 0 (c .name) → holds names′ ≡ plus v (holds names) → next ≡ behind at (itemAt cells at) →
-          Casing S xs text cells names′ next (k + 1)
-      casing-more b a t i {next} {names′} v u s n =
+      pub casing-more : CaseItem (S .vars) (casing-here .x) c → {next : ℕ} → next ≡ behind at (itemAt cells at) → Casing S xs text cells next (k + 1)
+      casing-more i {next} n =
           let j : k + 1 ≡ suc k = add-one k in
           let lk = left in
           let len : length (h .cs ++ (c ∷ [])) ≡ k + 1 = length-append (h .cs) (c ∷ []) ∙ ap (λ (z : ℕ). z + 1) (h .many) in
-          let was : (w : ℕ) → holds names w ≡ true → holds names′ w ≡ true = λ w p. ap (λ (f : ℕ → Bool). f w) s ∙ or-left (holds names w) (eqb w v) p in
           record {
             cs = h .cs ++ (c ∷ []);
             walk = subst (λ (z : Sexps). Walk text cells next z) (same-rest ∙ ap (rest xs) (sym j)) (go-on casing-here n .walk);
-            whole = λ M. opened M ∙ read-more S (casing-here .x) (casing-here .ys) (h .cs) M c (e M) (sym a ∙ t)
-                ∙ ap (λ (z : Sexps). readCases S z (h .cs ++ (c ∷ [])) M) (same-rest ∙ ap (rest xs) (sym j));
+            whole = λ M. h .whole M ∙ casing-whole M
+                ∙ ap (λ (z : Sexps). lastly (apart [] (h .cs ++ (c ∷ []))) (readCases S z (h .cs ++ (c ∷ [])) M) M) (same-rest ∙ ap (rest xs) (sym j));
             many = len;
             few = omega (arith, lk);
             cases = λ y q. elim (decLt y k) [
               | yes p ↦ subst (λ (d : Case). CaseItem (S .vars) (item xs y) d) (sym (List·getD-append (h .cs) (c ∷ []) noCase y (omega (arith, p, h .many)))) (h .cases y p)
               | no p ↦ last y (omega (arith, p, q)) i
             ];
-            met = all-snoc (all-map (λ d p. was (hashOf 0 (d .name)) p) (h .met))
-                (ap (λ (f : ℕ → Bool). f (hashOf 0 (c .name))) s ∙ or-right (holds names (hashOf 0 (c .name))) (eqb (hashOf 0 (c .name)) v) (self (hashOf 0 (c .name)) v u));
           }
         where
-          self : (w v : ℕ) → v ≡ w → eqb w v ≡ true
-          self w v e = eq-eqb w v (sym e)
-
           last : (y : ℕ) → y ≡ k → CaseItem (S .vars) (casing-here .x) c → CaseItem (S .vars) (item xs y) (getD (h .cs ++ (c ∷ [])) y noCase)
           last y e i =
               let z : y ≡ length (h .cs) + 0 = omega (arith, e, h .many) in
@@ -284,10 +285,7 @@ module _ {S : State} {xs : Sexps} {text cells names : List ℕ} {at k : ℕ} (h 
               subst (λ (b : Case). CaseItem (S .vars) (item xs y) b) (sym d)
               (subst (λ (b : Sexp). CaseItem (S .vars) b c) (same-item ∙ ap (item xs) (sym e)) i)
 
--- What `is_taken` learns -------------------------------------------------------------------------------------------------------------------------
-
-pub met-no : (set : ℕ → Bool) {number : ℕ} (name : List ℕ) {b : Bool} → number ≡ hashOf 0 name → b ≡ set number → b ≡ false → set (hashOf 0 name) ≡ false
-met-no set name n e f = ap set (sym n) ∙ sym e ∙ f
+-- What a search by name learns -------------------------------------------------------------------------------------------------------------------
 
 module _ {text cells : List ℕ} {many : ℕ} (g : CasesFirst text cells many) (name : List ℕ) (r : Found) (f : CaseFound (g .vs) text cells (g .cs) name r) where
   pub found-there : {p : ℕ} → r ≡ At p → true ≡ any (λ (d : Case). same (d .name) name) (g .cs)

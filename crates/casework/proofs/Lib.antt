@@ -1,6 +1,12 @@
 pub mod Allow
+pub mod Apart
 pub mod Clear
 pub mod Finding
+pub mod Following
+pub mod Naming
+pub mod Places
 pub mod Premises
 pub mod Reading
+pub mod Signs
+pub mod Stretch
 pub mod Under

@@ -1,12 +1,15 @@
 -- The cases of `invert` as items of a form: which item is which case, and what their readers answer. Assumes nothing.
 use mathlib.Core.Path.{_≡_}
+use mathlib.Core.Bool.{Bool, true, false}
 use mathlib.Core.Option.{some, none as nothing}
-use mathlib.Core.List.{List, [], _∷_}
-use Prim.Native.Nat.{ℕ, _+_, _*_, _%_, _<_, _≤_}
+use mathlib.Core.List.{List, [], _∷_, _++_}
+use Prim.Native.Nat.{ℕ, _<_, _≤_}
 use lib.ListN.{length, getD, drop}
 use Rattle.rules.specs.Limits.{VARIABLES}
 use Rattle.rules.specs.Out.{ok, refuse}
 use Rattle.rules.specs.Lex.{letters}
+use Rattle.rules.specs.Text.{same}
+use Rattle.rules.specs.Find.{any}
 use Rattle.rules.specs.Sexp.{Sexp, Sexps, atom, list, cons, count, item}
 use Rattle.rules.specs.Store.{Made}
 use Rattle.rules.specs.State.{State, Var}
@@ -22,6 +25,8 @@ use Rattle.reading.specs.declared.hyps.Listed.{Listed}
 use Rattle.reading.specs.declared.hyps.Listed.the-variants as listed
 use Rattle.casework.specs.declared.cases.CaseRead.{CaseRead}
 use Rattle.casework.specs.declared.cases.CaseRead.the-variants as cases
+use Rattle.casework.specs.declared.cases.Told.{Told}
+use Rattle.casework.specs.declared.cases.Told.the-variants as told
 
 -- where there is no case
 abbrev pub noCase : Case
@@ -73,6 +78,11 @@ abbrev pub CaseAs : State → List ℕ → Sexp → List ℕ → List ℕ → Ca
 CaseAs S text x before cells (cases.Ok start fact many) = CaseIs S text x cells start fact many
 CaseAs S text x before cells (cases.No q) = ((M : Made) → readCase S x M ≡ refuse q 0 M) × (cells ≡ before)
 
+-- Its name begins at a place of the text
+pub record NamedAt (text name : List ℕ) (start : ℕ) : Type 0 where
+  pub inside : start < length text
+  pub bytes : letters (drop start text) ≡ name
+
 -- The case of a name ---------------------------------------------------------------------------------------------------------------
 
 -- it is the item at a place
@@ -91,10 +101,20 @@ CaseFound vs text cells cs name Missing = caseNamed cs name ≡ nothing
 
 -- All cases ------------------------------------------------------------------------------------------------------------------------
 
--- a number below 65536 for a name
-unfoldable pub hashOf : ℕ → List ℕ → ℕ
-hashOf h [] = h
-hashOf h (b ∷ bs) = hashOf ((h * 31 + b) % 65536) bs
+-- none of these has the name of one before it, or of one that was there already
+unfoldable pub apart : List Case → List Case → Bool
+apart seen [] = true
+apart seen (c ∷ cs) = elim (any (λ (d : Case). same (d .name) (c .name)) seen) [ true ↦ false | false ↦ apart (seen ++ (c ∷ [])) cs ]
+
+-- a cell for each place of a text, and one behind it
+abbrev pub PLACES : ℕ
+PLACES = 65537
+
+-- by a tree of the names
+abbrev pub ApartAs : List Case → Told → Type 0
+ApartAs cs told.Apart = apart [] cs ≡ true
+ApartAs cs told.Twice = apart [] cs ≡ false
+ApartAs cs told.Unknown = Unit {0}
 
 -- all items are cases, one a name
 pub record CasesAre (S : State) (xs : Sexps) : Type 0 where
