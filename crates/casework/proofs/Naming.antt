@@ -61,10 +61,10 @@ module _ {text cells : List ℕ} {many : ℕ} (g : CasesFirst text cells many) w
 -- the name as the text has it
 pub name-part : {text name : List ℕ} {start end : ℕ} → NamedAt text name start → end ≡ start + length (letters (drop start text)) →
     take (end - start) (drop start text) ≡ name
-name-part {text} {start = start} {end} n e = atom-part text start end (n .inside) e ∙ n .bytes
+name-part {text = text} {start = start} {end = end} n e = atom-part text start end (n .inside) e ∙ n .bytes
 
 pub name-high : {text name : List ℕ} {start end : ℕ} → NamedAt text name start → end ≡ start + length (letters (drop start text)) → end ≤ length text
-name-high {text} {start = start} {end} n e = atom-high text start end (n .inside) e
+name-high {text = text} {start = start} {end = end} n e = atom-high text start end (n .inside) e
 
 -- Where a loop stands ---------------------------------------------------------------------------------------------------------------------------
 
@@ -155,14 +155,14 @@ module _ {text cells : List ℕ} {many : ℕ} (g : CasesFirst text cells many) w
             (λ w k. ⊎-elim (λ q. absurd (false≢true q)) (λ q. q) (P .only w k));
       }
 
-  module _ {next next′ : List ℕ} {root high at k start end : ℕ} (s : Rooted g next root high at k) (l : k < many)
+  module _ {next next′ : List ℕ} {root high at k start : ℕ} (s : Rooted g next root high at k) (l : k < many)
       (n : NamedAt text (getD (g .cs) k noCase .name) start) {r : Bool} (f : EnteredAs text next next′ root start r) where
     pub rooted-twice : r ≡ true → apart [] (g .cs) ≡ false
     rooted-twice h =
         let m : Met text next next′ root start = subst (EnteredAs text next next′ root start) h f in
         parting-twice g (s .parting) l (ap (known (g .cs) k) (sym (n .bytes)) ∙ known-yes (s .tree) m)
 
-    pub rooted-more : r ≡ false → high ≤ start → end ≡ start + length (letters (drop start text)) → {after : ℕ} → after ≡ behind at (itemAt cells at) →
+    pub rooted-more : {end : ℕ} → r ≡ false → high ≤ start → end ≡ start + length (letters (drop start text)) → {after : ℕ} → after ≡ behind at (itemAt cells at) →
         Rooted g next′ root (end + 1) after (k + 1)
     rooted-more h low e a =
         let m : Put text next next′ root start = subst (EnteredAs text next next′ root start) h f in

@@ -53,7 +53,7 @@ module _ {text next : List ℕ} where
   meets-back k (aside {q = q} {p = p} w d h) n a m =
       let l = k .rise q h in
       let z = a q l in
-      meets-back k w n (λ i j. a i (omega (arith, j, l))) (turn d (omega (arith, h, z)) (subst (λ (v : ℕ). Meets text n v p) (sym z) m))
+      meets-back k w n (λ i j. a i (omega (arith, j, l))) (turn {q = q} d (omega (arith, h, z)) (subst (λ (v : ℕ). Meets text n v p) (sym z) m))
 
   -- another place with the same name
   meets-same : {q p : ℕ} → Meets text next q p → (s : ℕ) → letters (drop p text) ≡ letters (drop s text) → Meets text next q s
@@ -72,7 +72,7 @@ module _ {text next : List ℕ} where
   meets-more i v z (along h e m) = along h e (meets-more i v z m)
   meets-more i v z (turn {q = q} {p = p} d h m) =
       let s = getD-set-other next i q v 0 (λ e. omega (arith, h, z, ap (λ (j : ℕ). getD next j 0) e)) in
-      turn d (omega (arith, h, s)) (subst (λ (j : ℕ). Meets text (set next i v) j p) (sym s) (meets-more i v z m))
+      turn {q = q} d (omega (arith, h, s)) (subst (λ (j : ℕ). Meets text (set next i v) j p) (sym s) (meets-more i v z m))
 
 -- a place meets itself
 meets-self : (text next : List ℕ) (p : ℕ) → Meets text next p p
@@ -84,7 +84,7 @@ meets-self text next p = go (letters (drop p text)) p refl
         let z = ap front e ∙ front-of b l in
         let a = letter-at text p (omega (arith, z)) in
         let t : getD text p 0 ∷ letters (drop (p + 1) text) ≡ b ∷ l = sym (a .rest) ∙ e in
-        along (omega (arith, z)) refl (go l (p + 1) (let y : letters (drop (p + 1) text) ≡ l = cc in y))
+        along {q = p} (omega (arith, z)) refl (go l (p + 1) (let y : letters (drop (p + 1) text) ≡ l = cc in y))
 
 -- The tree ------------------------------------------------------------------------------------------------------------------------------------
 
@@ -225,7 +225,7 @@ module _ {text next next′ : List ℕ} {root high start end : ℕ} {known known
           let fa = r .far in
           let c = cell-same in
           meets-back (T .links) (f .way) (set next (f .q) (f .p)) (λ j b. cell-other j (λ z. omega (arith, b, z)))
-          (turn (f .differ) (omega (arith, c, lo, l, fa)) (subst (λ (v : ℕ). Meets text (set next (f .q) (f .p)) v (f .p)) (sym c) (meets-self text _ (f .p))))
+          (turn {q = f .q} (f .differ) (omega (arith, c, lo, l, fa)) (subst (λ (v : ℕ). Meets text (set next (f .q) (f .p)) v (f .p)) (sym c) (meets-self text _ (f .p))))
 
   low-path : (q : ℕ) (u : List ℕ) → T .path q ≡ some u → q < start
   low-path q u h = let y = T .below q u h in omega (arith, y, l)
@@ -244,12 +244,12 @@ module _ {text next next′ : List ℕ} {root high start end : ℕ} {known known
   })
 
 -- the first name alone
+abbrev nowhere : ℕ → Option (List ℕ)
+nowhere q = nothing
+
 module _ {text next : List ℕ} {start end : ℕ} {known : List ℕ → Bool} (long : length text < length next) (zeros : (i : ℕ) → getD next i 0 ≡ 0)
     (e : end ≡ start + length (letters (drop start text))) (self : known (letters (drop start text)) ≡ true)
     (only : (w : List ℕ) → known w ≡ true → letters (drop start text) ≡ w) where
-  abbrev nowhere : ℕ → Option (List ℕ)
-  nowhere q = nothing
-
   pub tree-one : Tree text next start (end + 1) known
   tree-one = record {
     links = record { long = long; rise = λ q h. absurd (let z = zeros q in omega (arith, z, h)); within = λ q. let z = zeros q in omega (arith, z) };

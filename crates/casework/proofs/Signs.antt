@@ -89,6 +89,9 @@ not-end text p end e f = go (letters (drop p text)) e
     go [] z = absurd (f (omega (arith, z)))
     go (b ∷ l) z = let s = front-of b l in omega (arith, s)
 
+pub letter-before : (text : List ℕ) (p end : ℕ) → end ≡ p + length (letters (drop p text)) → (p ≡ end → ⊥) → Letter text p
+letter-before text p end e f = letter-at text p (not-end text p end e f)
+
 pub end-on : (text : List ℕ) (p end : ℕ) → end ≡ p + length (letters (drop p text)) → Letter text p → end ≡ p + 1 + length (letters (drop (p + 1) text))
 end-on text p end e l = let z = ap length (l .rest) in omega (arith, e, z)
 
@@ -124,24 +127,24 @@ module _ (text : List ℕ) (q p end : ℕ) (e : end ≡ p + length (letters (dro
   agree-end f g = g ∙ ap (eqb (sign text q)) (sym (at-end text p end e f))
 
   module _ (f : p ≡ end → ⊥) where
-    pub letter-here : Letter text p
-    letter-here = letter-at text p (not-end text p end e f)
+    letter-here : Letter text p
+    letter-here = letter-before text p end e f
 
     pub agree-over : q ≡ length text → false ≡ eqb (sign text q) (sign text p)
     agree-over g =
         let z = ap front (letters-end text q (omega (arith, g))) ∙ front-nil in
         let y = letter-here .is in
-        sym (ne-eqb _ _ (λ w. omega (arith, w, z, y)))
+        sym (ne-eqb (sign text q) (sign text p) (λ w. omega (arith, w, z, y)))
 
     pub agree-letters : q < length text → eqb (getD text q 0) (getD text p 0) ≡ eqb (sign text q) (sign text p)
     agree-letters l = go (eqb (getD text q 0) (getD text p 0)) refl
       where
         go : (b : Bool) → eqb (getD text q 0) (getD text p 0) ≡ b → b ≡ eqb (sign text q) (sign text p)
         go true t =
-            let s = eqb-true _ _ t in
+            let s = eqb-true (getD text q 0) (getD text p 0) t in
             let z = ap front (ap letters (drop-at text q l) ∙ letters-more _ _ (ap kind s ∙ letter-here .kindly)) ∙ front-of _ _ in
             let y = letter-here .is in
-            sym (eq-eqb _ _ (omega (arith, s, z, y)))
+            sym (eq-eqb (sign text q) (sign text p) (omega (arith, s, z, y)))
         go false t =
             let y = letter-here .is in
-            sym (ne-eqb _ _ (λ w. eqb-false _ _ t (same-letter text q p (letter-at text q (omega (arith, w, y))) letter-here w)))
+            sym (ne-eqb (sign text q) (sign text p) (λ w. eqb-false (getD text q 0) (getD text p 0) t (same-letter text q p (letter-at text q (omega (arith, w, y))) letter-here w)))

@@ -52,12 +52,14 @@ module _ (text : List ℕ) (start : ℕ) where
 
 -- The letters in front -----------------------------------------------------------------------------------------------------------------------------
 
+abbrev chosen : Bool → Bool → Option (List ℕ) → List ℕ → Option (List ℕ)
+chosen true b o u = o
+chosen false true o u = some u
+chosen false false o u = nothing
+
 unfoldable pub stretched : List ℕ → (ℕ → Option (List ℕ)) → ℕ → ℕ → Option (List ℕ)
 stretched text path start j =
-    elim (ltb j start) [
-      | true ↦ path j
-      | false ↦ elim (leb j (start + length (letters (drop start text)))) [ true ↦ some (take (j - start) (letters (drop start text))) | false ↦ nothing ]
-    ]
+    chosen (ltb j start) (leb j (start + length (letters (drop start text)))) (path j) (take (j - start) (letters (drop start text)))
 
 -- a place that has some: in front of the name, or in it
 pub data Came (text : List ℕ) (path : ℕ → Option (List ℕ)) (start end j : ℕ) (u : List ℕ) : Type 0 where
@@ -70,21 +72,23 @@ module _ (text : List ℕ) (path : ℕ → Option (List ℕ)) (start end : ℕ) 
   came j u = go (ltb j start) (leb j (start + length (letters (drop start text)))) refl refl
     where
       go : (a b : Bool) → ltb j start ≡ a → leb j (start + length (letters (drop start text))) ≡ b →
-          elim a [ true ↦ path j | false ↦ elim b [ true ↦ some (take (j - start) (letters (drop start text))) | false ↦ nothing ] ] ≡ some u →
-          Came text path start end j u
-      go true b f g h = before (ltb-true _ _ f) h
+          chosen a b (path j) (take (j - start) (letters (drop start text))) ≡ some u → Came text path start end j u
+      go true b f g h = before (ltb-true j start f) h
       go false true f g h =
-          let y = leb-true _ _ g in
-          inside (ltb-false _ _ f) (omega (arith, y, e)) (let z : u ≡ take (j - start) (letters (drop start text)) = cc in z)
+          let y = leb-true j (start + length (letters (drop start text))) g in
+          inside (ltb-false j start f) (omega (arith, y, e)) (let z : u ≡ take (j - start) (letters (drop start text)) = cc in z)
       go false false f g h = never cc
 
   pub stretch-old : (j : ℕ) → j < start → stretched text path start j ≡ path j
   unfolding stretched
-  stretch-old j h = rw (lt-ltb j start h)
+  stretch-old j h =
+      ap (λ (a : Bool). chosen a (leb j (start + length (letters (drop start text)))) (path j) (take (j - start) (letters (drop start text)))) (lt-ltb j start h)
 
   pub stretch-new : (j : ℕ) → start ≤ j → j ≤ end → stretched text path start j ≡ some (take (j - start) (letters (drop start text)))
   unfolding stretched
-  stretch-new j h k = rw (le-ltb j start h, le-leb j (start + length (letters (drop start text))) (omega (arith, k, e)))
+  stretch-new j h k =
+      ap (λ (a : Bool). chosen a (leb j (start + length (letters (drop start text)))) (path j) (take (j - start) (letters (drop start text)))) (le-ltb j start h)
+      ∙ ap (λ (b : Bool). chosen false b (path j) (take (j - start) (letters (drop start text)))) (le-leb j (start + length (letters (drop start text))) (omega (arith, k, e)))
 
   module _ (low : (q : ℕ) (u : List ℕ) → path q ≡ some u → q < start) where
     pub stretch-more : ((q : ℕ) (u : List ℕ) → path q ≡ some u → 0 < sign text q → path (q + 1) ≡ some (u ++ (getD text q 0 ∷ []))) →
