@@ -190,7 +190,7 @@ fn numbers(file: &[u8], at: usize) -> (Vec<usize>, usize) {
 /// The stored cases can be read by their lengths alone, and their lines are those that are expected.
 #[test]
 fn stored_cases() {
-    let file = std::fs::read("cases/stored.txt").expect("the file stands");
+    let file = std::fs::read("../crates/replay/stdin").expect("the file stands");
     let (header, start) = numbers(&file, 0);
     let (mut at, mut cases, mut with_facts, mut open) = (start + header[0], 0, 0, 0);
     while at < file.len() {
