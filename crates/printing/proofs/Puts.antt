@@ -1,0 +1,62 @@
+-- Bytes put one behind the other: a copy, a number, a space and a number, a line. Assumes nothing.
+use Prim.Native.Nat.{ℕ, zero, _+_, _-_, _<_, _≤_}
+use mathlib.Core.Path.{_≡_, refl, sym, ap, _∙_}
+use mathlib.Core.List.{List, [], _∷_, _++_}
+use native.Mathlib.Omega.{arith}
+use native.Mathlib.Nat.{le-refl}
+use native.Mathlib.Numerals.{add-one}
+use lib.ListN.{length, take, getD, set}
+use lib.Seq.{paste, paste-suc, take-paste, take-length, append-snoc, length-take-le}
+use Rattle.io.specs.Digits.{digits, Fewest}
+use Rattle.printing.specs.Written.{Put, Decimal, PutNumber, PutField}
+use Rattle.printing.specs.Lines.{closing}
+
+-- one byte more of a copy
+pub pasted-more : (d : List ℕ) (at : ℕ) (s : List ℕ) (i : ℕ) (e : List ℕ) → e ≡ paste d at s i → at + i < length d → i < length s
+    → set e (at + i) (getD s i 0) ≡ paste d at s (i + 1)
+pasted-more d at s i e p h l =
+    ap (λ (x : List ℕ). set x (at + i) (getD s i 0)) p ∙ paste-suc d at s i 0 h l ∙ ap (paste d at s) (sym (add-one i))
+
+pub put-pasted : (d : List ℕ) (at : ℕ) (s : List ℕ) (i : ℕ) (e : List ℕ) → e ≡ paste d at s i → i ≡ length s → at + length s ≤ length d
+    → Put d at e (at + length s) s
+put-pasted d at s i e p q h = record {
+  place = refl;
+  front =
+      ap (take (at + length s)) (p ∙ ap (paste d at s) q)
+      ∙ take-paste d at s (length s) (omega (arith, h)) (le-refl (length s))
+      ∙ ap (λ (t : List ℕ). take at d ++ t) (take-length s);
+}
+
+pub put-number : (d : List ℕ) (at : ℕ) (e : List ℕ) (r n k : ℕ) (ds : List ℕ) → Fewest 10 1 n k → take k ds ≡ digits 10 k n → k ≤ length ds → length ds ≡ 20
+    → Put d at e r (take k ds) → PutNumber d at e r n
+put-number d at e r n k ds few is inside twenty p = record {
+  bytes = take k ds;
+  number = record { many = k; fewest = few; spelled = is };
+  short = omega (arith, length-take-le k ds inside, inside, twenty);
+  put = p;
+}
+
+pub put-field : (a : List ℕ) (i : ℕ) (b : List ℕ) (j : ℕ) (c : List ℕ) (k n : ℕ) → Put a i b j (32 ∷ []) → PutNumber b j c k n → PutField a i c k n
+put-field a i b j c k n p q = record {
+  bytes = q .bytes;
+  number = q .number;
+  short = q .short;
+  put = record {
+    place = omega (arith, q .put .place, p .place);
+    front = q .put .front ∙ ap (λ (t : List ℕ). t ++ (q .bytes)) (p .front) ∙ append-snoc (take i a) 32 (q .bytes);
+  };
+}
+
+-- a line grows
+pub begun : (a : List ℕ) (b : List ℕ) (j : ℕ) (word : List ℕ) → Put a 0 b j word → take j b ≡ word
+begun a b j word p = p .front
+
+pub longer : (a : List ℕ) (i : ℕ) (b : List ℕ) (j n : ℕ) (front : List ℕ) → take i a ≡ front → (f : PutField a i b j n) → take j b ≡ front ++ (32 ∷ f .bytes)
+longer a i b j n front h f = f .put .front ∙ ap (λ (t : List ℕ). t ++ (32 ∷ f .bytes)) h
+
+pub closed : (a : List ℕ) (i : ℕ) (b : List ℕ) (j : ℕ) (text : List ℕ) → take i a ≡ text → Put a i b j closing → take j b ≡ text ++ closing
+closed a i b j text h p = p .front ∙ ap (λ (t : List ℕ). t ++ closing) h
+
+-- a field takes at most 21 bytes
+pub field-room : (a : List ℕ) (i : ℕ) (b : List ℕ) (j n : ℕ) → PutField a i b j n → j ≤ i + 21
+field-room a i b j n f = omega (arith, f .put .place, f .short)

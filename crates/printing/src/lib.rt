@@ -1,0 +1,10 @@
+// What the programs write: bytes, numbers, names and terms, put into a buffer. `text` and `line` put them where there is room and say which they are;
+// `pen` writes the buffer out when it is full, and all above it asks nothing of the tables that it reads.
+pub mod facts;
+pub mod footings;
+pub mod line;
+pub mod names;
+pub mod pen;
+pub mod recorded;
+pub mod terms;
+pub mod text;
