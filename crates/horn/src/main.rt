@@ -1,5 +1,5 @@
 // `horn THEORY GOALS PROOF` checks the proof in three files and writes the answer's line. Without arguments the files are called theory, goals, proof.
-use loading::load_text;
+use printing::load::load_text;
 use running::finish::Answer;
 
 // A text, and one byte more: enough to be refused.

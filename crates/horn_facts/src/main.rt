@@ -1,6 +1,6 @@
 // `horn_facts THEORY GOALS PROOF` writes the answer's line and then what is recorded, read off the lent tables: each fact, each fact's footing, and the
 // goals without a result that 53 lists.
-use loading::load_text;
+use printing::load::load_text;
 use printing::facts::say_facts;
 use printing::footings::say_footings;
 use printing::footings::say_missing;
