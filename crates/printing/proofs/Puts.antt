@@ -9,7 +9,9 @@ use lib.ListN.{length, take, getD, set}
 use lib.Seq.{paste, paste-suc, take-paste, take-length, append-snoc, length-take-le}
 use Rattle.io.specs.Digits.{digits, Fewest}
 use Rattle.printing.specs.Written.{Put, Decimal, PutNumber, PutField}
-use Rattle.printing.specs.Lines.{closing}
+use Rattle.running.specs.declared.finish.Report.{Report}
+use Rattle.running.specs.declared.finish.Refusal.{Refusal}
+use Rattle.printing.specs.Lines.{accepted, refused, closing, Accepts, Refuses}
 
 -- one byte more of a copy
 pub pasted-more : (d : List ℕ) (at : ℕ) (s : List ℕ) (i : ℕ) (e : List ℕ) → e ≡ paste d at s i → at + i < length d → i < length s
@@ -60,3 +62,28 @@ closed a i b j text h p = p .front ∙ ap (λ (t : List ℕ). t ++ closing) h
 -- a field takes at most 21 bytes
 pub field-room : (a : List ℕ) (i : ℕ) (b : List ℕ) (j n : ℕ) → PutField a i b j n → j ≤ i + 21
 field-room a i b j n f = omega (arith, f .put .place, f .short)
+
+-- The lines ------------------------------------------------------------------------------------------------------------------------
+
+pub accepts : (r : Report) {a b c d e f g h i j : List ℕ} {k l m n o p q s t : ℕ} → Put a 0 b k accepted → PutField b k c l (r .steps) → PutField c l d m (r .goals) →
+    PutField d m e n (r .open_goals) → PutField e n f o (r .hypotheses) → PutField f o g p (r .inductions) → PutField g p h q (r .inversions) →
+    PutField h q i s (r .instances) → Put i s j t closing → t ≤ length j → Accepts r j t
+accepts r w f1 f2 f3 f4 f5 f6 f7 z room = record {
+  text = _;
+  fields =
+      (f1 .bytes, f1 .number, (f2 .bytes, f2 .number, (f3 .bytes, f3 .number, (f4 .bytes, f4 .number, (f5 .bytes, f5 .number, (f6 .bytes, f6 .number, (f7 .bytes, f7 .number, refl)))))));
+  line =
+      closed _ _ _ _ _
+      (longer _ _ _ _ _ _ (longer _ _ _ _ _ _ (longer _ _ _ _ _ _ (longer _ _ _ _ _ _ (longer _ _ _ _ _ _ (longer _ _ _ _ _ _ (longer _ _ _ _ _ _ (begun _ _ _ _ w) f1) f2) f3) f4) f5) f6) f7)
+      z;
+  room = room;
+}
+
+pub refuses : (r : Refusal) {a b c d e f g : List ℕ} {k l m n o p : ℕ} → Put a 0 b k refused → PutField b k c l (r .number) → PutField c l d m (r .text) →
+    PutField d m e n (r .form) → PutField e n f o (r .detail) → Put f o g p closing → p ≤ length g → Refuses r g p
+refuses r w f1 f2 f3 f4 z room = record {
+  text = _;
+  fields = (f1 .bytes, f1 .number, (f2 .bytes, f2 .number, (f3 .bytes, f3 .number, (f4 .bytes, f4 .number, refl))));
+  line = closed _ _ _ _ _ (longer _ _ _ _ _ _ (longer _ _ _ _ _ _ (longer _ _ _ _ _ _ (longer _ _ _ _ _ _ (begun _ _ _ _ w) f1) f2) f3) f4) z;
+  room = room;
+}

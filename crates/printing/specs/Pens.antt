@@ -1,5 +1,5 @@
 -- What a pen and a trace keep: a place inside of the buffer, and a count of bytes that falls. Assumes nothing.
-use Prim.Native.Nat.{ℕ, _+_, _*_, _-_, _<_, _≤_}
+use Prim.Native.Nat.{ℕ, _*_, _-_, _≤_}
 use mathlib.Core.Path.{_≡_}
 use mathlib.Core.List.{List}
 use lib.ListN.{length}
@@ -7,25 +7,17 @@ use Rattle.printing.specs.declared.pen.Pen.{Pen}
 use Rattle.printing.specs.declared.terms.Trace.{Trace}
 
 -- so many bytes were said
-pub record Said (out : List ℕ) (p : Pen) (bytes : ℕ) (r : Pen) : Type 0 where
-  pub within : r .at ≤ length out
-  pub left : r .left ≡ p .left - bytes
+abbrev pub Said : List ℕ → Pen → ℕ → Pen → Type 0
+Said out p bytes r = (r .at ≤ length out) × (r .left ≡ p .left - bytes)
 
 -- some bytes were said, at least one
-pub record SaidSome (out : List ℕ) (p r : Pen) : Type 0 where
-  pub within : r .at ≤ length out
-  pub less : r .left ≤ p .left
-  pub falls : 0 < p .left → r .left < p .left
+abbrev pub SaidSome : List ℕ → Pen → Pen → Type 0
+SaidSome out p r = (r .at ≤ length out) × (r .left ≤ p .left - 1)
 
 -- the terms that are begun have their places on the stack
-pub record Traced (out stack : List ℕ) (w : Trace) : Type 0 where
-  pub within : w .at ≤ length out
-  pub deep : 2 * w .depth ≤ length stack
+abbrev pub Traced : List ℕ → List ℕ → Trace → Type 0
+Traced out stack w = (w .at ≤ length out) × (2 * w .depth ≤ length stack)
 
-pub record Opened (out stack : List ℕ) (w r : Trace) : Type 0 where
-  pub traced : Traced out stack r
-  pub less : r .left ≤ w .left
-
-pub record Advanced (out stack : List ℕ) (w r : Trace) : Type 0 where
-  pub traced : Traced out stack r
-  pub falls : 0 < w .left → r .left < w .left
+-- and something more was said
+abbrev pub Advanced : List ℕ → List ℕ → Trace → Trace → Type 0
+Advanced out stack w r = (r .at ≤ length out) × (2 * r .depth ≤ length stack) × (r .left ≤ w .left - 1)

@@ -6,6 +6,7 @@ use crate::names::cell_of;
 use crate::names::say_variable;
 use crate::pen::Pen;
 use crate::pen::say;
+use crate::pen::say_gap;
 use crate::pen::say_number;
 use crate::terms::say_term;
 
@@ -78,9 +79,7 @@ fn say_entries(
     let mut q = say(out, fd, p, b"(");
     let mut i = from;
     while i < end {
-        if from < i {
-            q = say(out, fd, q, b" ");
-        }
+        q = say_gap(out, fd, q, from, i);
         q = say_entry(out, fd, q, theory, goals, proof, symbols, vars, index, words, stack, kind, cell(lists, i));
         i += 1;
     }

@@ -5,6 +5,7 @@ use crate::names::cell;
 use crate::names::say_named;
 use crate::pen::Pen;
 use crate::pen::say;
+use crate::pen::say_gap;
 use crate::pen::say_number;
 use rules::RULES;
 use rules::RULEWORDS;
@@ -20,6 +21,19 @@ fn rests_on(footings: &[u64], k: usize, r: usize) -> bool
     (footings[i] >> (r % 64)) & 1 == 1
 }
 
+// Rule r, if fact k rests on it.
+fn say_rule(out: &mut [u8], fd: i32, p: Pen, theory: &[u8], rules: &[u32], footings: &[u64], k: usize, r: usize) -> Pen
+    requires { ⌜ p .at ≤ length (now out) ⌝ }
+    requires { ⌜ (k < 65536) × (r < 65536) ⌝ }
+    ensures { λ q. ⌜ q .at ≤ length (now (out .entry)) ⌝ }
+{
+    if !rests_on(footings, k, r) {
+        return p;
+    }
+    let q = say(out, fd, p, b" ");
+    say_named(out, fd, q, theory, rules, 6, r, 0)
+}
+
 // The footing of fact k.
 fn say_footing(out: &mut [u8], fd: i32, p: Pen, theory: &[u8], rules: &[u32], footings: &[u64], k: usize) -> Pen
     requires { ⌜ p .at ≤ length (now out) ⌝ }
@@ -30,10 +44,7 @@ fn say_footing(out: &mut [u8], fd: i32, p: Pen, theory: &[u8], rules: &[u32], fo
     q = say_number(out, fd, q, k);
     let mut r = 0;
     while r < RULES {
-        if rests_on(footings, k, r) {
-            let s = say(out, fd, q, b" ");
-            q = say_named(out, fd, s, theory, rules, 6, r, 0);
-        }
+        q = say_rule(out, fd, q, theory, rules, footings, k, r);
         r += 1;
     }
     say(out, fd, q, b")\n")
@@ -66,9 +77,7 @@ pub fn say_missing(out: &mut [u8], fd: i32, p: Pen, missing: &[u32]) -> Pen
         if goal == 0 {
             return say(out, fd, q, b"])\n");
         }
-        if 0 < i {
-            q = say(out, fd, q, b" ");
-        }
+        q = say_gap(out, fd, q, 0, i);
         q = say_number(out, fd, q, goal);
         i += 1;
     }

@@ -1,4 +1,5 @@
 // A file read into a buffer, or a message on standard error that says why not.
+ghost use mathlib.Core.Path.{_≡_};
 ghost use Prim.Native.Nat.{_≤_};
 ghost use lib.ListN.{length};
 
@@ -8,7 +9,9 @@ pub struct Loaded {
     pub size: usize,
 }
 
-fn failed() -> Loaded {
+fn failed() -> Loaded
+    ensures { λ r. ⌜ r .size ≡ 0 ⌝ }
+{
     Loaded {
         done: false,
         size: 0,

@@ -32,16 +32,24 @@ fn emptied(out: &[u8], fd: i32, at: usize) -> usize
     0
 }
 
+// Where so many bytes find room: behind what stands in the buffer, or at its beginning.
+fn room_for(out: &[u8], fd: i32, at: usize, many: usize) -> usize
+    requires { ⌜ at ≤ length (now out) ⌝ }
+    ensures { λ r. ⌜ r ≤ at ⌝ }
+{
+    if many <= out.len() - at {
+        return at;
+    }
+    emptied(out, fd, at)
+}
+
 // The bytes, behind what was said.
 pub fn say(out: &mut [u8], fd: i32, p: Pen, bytes: &[u8]) -> Pen
     requires { ⌜ p .at ≤ length (now out) ⌝ }
     ensures { λ r. ⌜ Said (now (out .entry)) p (length (now (bytes .entry))) r ⌝ }
 {
     let left = less(p.left, bytes.len());
-    let mut at = p.at;
-    if out.len() - at < bytes.len() {
-        at = emptied(out, fd, at);
-    }
+    let at = room_for(out, fd, p.at, bytes.len());
     if out.len() - at < bytes.len() {
         if fd < 0 {
             return Pen { at: at, left: left };
@@ -51,6 +59,17 @@ pub fn say(out: &mut [u8], fd: i32, p: Pen, bytes: &[u8]) -> Pen
     }
     let next = put_bytes(out, at, bytes);
     Pen { at: next, left: left }
+}
+
+// A space behind the first of several.
+pub fn say_gap(out: &mut [u8], fd: i32, p: Pen, first: usize, i: usize) -> Pen
+    requires { ⌜ p .at ≤ length (now out) ⌝ }
+    ensures { λ r. ⌜ r .at ≤ length (now (out .entry)) ⌝ }
+{
+    if first < i {
+        return say(out, fd, p, b" ");
+    }
+    p
 }
 
 // A number, in decimal.

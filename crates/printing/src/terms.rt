@@ -1,8 +1,9 @@
 // Terms, spelled by name: a constant or a variable as such, an application in brackets. The places that wait stand on a stack, two numbers each: the next
 // argument's word and the end of the term's words. Terms are shared, so that one may be longer than anything else: it stops at BYTES, with `...`.
-ghost use Prim.Native.Nat.{_≤_, _<_, _*_};
+ghost use mathlib.Core.Path.{_≡_};
+ghost use Prim.Native.Nat.{_≤_, _<_};
 ghost use lib.ListN.{length};
-ghost use Rattle.printing.specs.Pens.{Traced, Opened, Advanced};
+ghost use Rattle.printing.specs.Pens.{Traced, Advanced};
 use crate::names::cell;
 use crate::names::cell_of;
 use crate::names::say_head;
@@ -20,7 +21,9 @@ pub struct Trace {
     pub depth: usize,
 }
 
-fn pen_of(w: Trace) -> Pen {
+fn pen_of(w: Trace) -> Pen
+    ensures { λ r. ⌜ (r .at ≡ w .at) × (r .left ≡ w .left) ⌝ }
+{
     Pen { at: w.at, left: w.left }
 }
 
@@ -59,7 +62,7 @@ fn open_term(
     t: usize,
 ) -> Trace
     requires { ⌜ Traced (now out) (now stack) w ⌝ }
-    ensures { λ r. ⌜ Opened (now (out .entry)) (now (stack .entry)) w r ⌝ }
+    ensures { λ r. ⌜ Advanced (now (out .entry)) (now (stack .entry)) w r ⌝ }
 {
     let p = pen_of(w);
     let depth = w.depth;
