@@ -1,4 +1,5 @@
 """The code of a function, as the prover prints it."""
+import functools
 import os
 import subprocess
 
@@ -45,19 +46,26 @@ def last_name(printed):
     return printed.strip('"').split("::")[-1]
 
 
+@functools.cache
+def printed(root, crate):
+    """What the prover prints of a crate, and what it says."""
+    run = subprocess.run([os.environ.get("RT", "rt"), "mir", crate], capture_output=True, text=True, cwd=root)
+    return run.stdout, run.stderr
+
+
 class Code:
     """A function's code: how many lifetimes and parameters it has, the types of its locals, its statements."""
 
     def __init__(self, root, crate, function):
-        run = subprocess.run([os.environ.get("RT", "rt"), "mir", crate], capture_output=True, text=True, cwd=root)
-        start = run.stdout.find(f'(fn-def "{crate}::{function}" ')
+        out, said = printed(root, crate)
+        start = out.find(f'(fn-def "{crate}::{function}" ')
         if start < 0:
-            raise SystemExit(f"{crate}::{function} is not there: {run.stderr[-500:]}")
+            raise SystemExit(f"{crate}::{function} is not there: {said[-500:]}")
         depth, end = 0, start
         while end == start or depth:
-            depth += {"(": 1, ")": -1}.get(run.stdout[end], 0)
+            depth += {"(": 1, ")": -1}.get(out[end], 0)
             end += 1
-        item = parsed(run.stdout[start:end])[2]
+        item = parsed(out[start:end])[2]
         self.lifetimes, self.params = int(item[1]), int(item[3])
         self.locals = [local[1] for local in items(item[4])]
         self.statements = sequence(item[5])

@@ -5,28 +5,33 @@ as a list, the context. Such a proof is long and all of one shape where the code
 one `while` over such calls whose test is a call, and at the end a local, or nothing, is returned. This writes it, and keeps count of the places.
 
 An argument may be a slice parameter that is `&` (a copy of it is passed), one that is `&mut` (lent again for the call where it is used later, else
-given for good), a `&mut` slice passed as `&`, a `&mut` to a record, a local record lent by `&mut`, and a plain value.
+given for good), a `&mut` slice passed as `&`, a `&mut` to a record, a local record or a local array `[x; n]` lent by `&mut`, and a plain value.
 
 A description has a function describe() that gives a dict:
 
     crate, fn       the function
-    lent            the module of the laws of a slice that is lent again; localrecord: that of a local record's
-    types           the records by name: struct(name, proofs, specs), enum(..)
+    lent            the module of the laws of a slice that is lent again; localrecord: that of a local record's; localarray: that of a local array's;
+                    big: that of large constants
+    owns            the names of the locals that are lent, records and arrays, in the order in which they are lent first
+    types           the records by name: struct(name, proofs, specs, the modules inside), enum(..)
     params          (name, kind, type) each; the kind is shr (&[T]), mut (&mut [T]), ref (&mut S) or val
     requires        the function's, over its parameters
     uses            lines that bring in what the texts name
-    calls           in the order of the code: fn, module, key, result, ensures, and requires, the proof of what the callee asks
+    calls           in the order of the code: fn, module, key, result, ensures (a list where there are several), and requires, the proof of what
+                    the callee asks
     loop            of a function with a loop: X, the type of what its turns go through, order, wf, start; lists and lens, each lent list and its length
-                    at x : X; carried, the locals that a turn changes; back, that what a turn leaves is what x says; next and less
+                    at x : X; carried, the locals that a turn changes; back, that what a turn leaves is what the next x says, where
+                    this is not so as it stands; next and less
     final           the proof of the function's ensures
     limit           how heavy a law may get before the walk is cut; the prover's steps for one law are bounded
 
 Names that its texts may use (p a parameter, i the number of a call, from 1):
 
     p               the list of a slice, or the value, at entry; room·p : Room R (length p); is·p : Is row p (..) of a value
-    ri, ei          the result of call i, and the proof of its ensures
+    ri, ei          the result of call i, and the proof of its ensures (ei·0, ei·1, .. of several); isi : Is row ri (vi ∷ [])
     zi·p            in an ensures, the last list of p, where call i had it as `&mut`; elsewhere (ws1 .1 .1 .0), with a .1 for each argument before it
     len·i·p         it is as long as before the call
+    many ℕ n x      a local array of numbers, or many T n x of a record T, as it is made, n times x; many-is ℕ n x : it is replicate n x. After a call it is zi·p
     req             the proof of the function's requires
     held, over      in a loop: its test holds, or does not
 """
@@ -37,7 +42,7 @@ from dataclasses import dataclass, field
 from mir import Code, items, last_name, place, sequence
 
 OWNED = {"mut": "MutSlice", "shr": "ShrSlice", "ref": "MutRef"}
-LENT = ("lend", "give", "lend local")
+LENT = ("lend", "give", "lend local", "lend array")
 STOP = "(from ! (stop !))"
 
 
@@ -80,24 +85,28 @@ class Type:
     vals: str
     tells: str
     makes: str
-    typed: object
+    lawful: str
+    copy: str
     value: object
     uses: list = field(default_factory=list)
+
+    def typed(self, x, known):
+        return f"({self.lawful} .typed {x} _ {known} .0)"
 
 
 def number(row, width):
     return Type(row, "ℕ", f"(uint-vals {width})", f"(uint-tells {width})", f"(uint-makes 𝓤 H A W {width})",
-                lambda x, known: f"(uint-lawful 𝓤 H A W {width} .typed {x} _ {known} .0)", lambda x: f"(vint {width} {x})")
+                f"uint-lawful 𝓤 H A W {width}", f"(uint-copy 𝓤 H A W {width})", lambda x: f"(vint {width} {x})")
 
 
 def declared(laws, more):
     """A struct or an enum, by its laws."""
-    def of(name, proofs, specs):
-        a, b = f"{name}T", f"{name}L"
+    def of(name, proofs, specs, inside=""):
+        a, b, path = f"{name}T", f"{name}L", inside + name
         both = f"{a}.the-type {b}.the-laws"
         return Type(f"{a}.the-row", name, f"({laws}.vals {both})", f"({laws}.tells {both})", f"({laws}.makes {a}.the-type {b}.the-plain 𝓤 H A)",
-                    lambda x, known: f"({laws}.lawful {both} 𝓤 H A W{more} .typed {x} _ {known} .0)", lambda x: f"({laws}.val {both} {x})",
-                    [f"use {specs}.declared.{name}.{{{name}}}", f"use {proofs}.{name} as {a}", f"use {proofs}.{name}.Laws as {b}"])
+                    f"{laws}.lawful {both} 𝓤 H A W{more}", f"({laws}.copy {a}.the-type {b}.the-copy 𝓤 H A W)", lambda x: f"({laws}.val {both} {x})",
+                    [f"use {specs}.declared.{path}.{{{name}}}", f"use {proofs}.{path} as {a}", f"use {proofs}.{path}.Laws as {b}"])
     return of
 
 
@@ -105,7 +114,7 @@ struct, enum = declared("LL", ""), declared("EL", " tt")
 TYPES = {
     "usize": number("usize", "w64"), "u64": number("u64", "w64"), "u32": number("u32", "w32"), "u8": number("u8", "w8"),
     "bool": Type("bool", "Bool", "bool-vals", "bool-tells", "(bool-makes 𝓤 H A W)",
-                 lambda x, known: f"(bool-lawful 𝓤 H A W .typed {x} _ {known} .0)", lambda x: f"(vbool {x})"),
+                 "bool-lawful 𝓤 H A W", "(bool-copy 𝓤 H A W)", lambda x: f"(vbool {x})"),
 }
 
 
@@ -120,6 +129,8 @@ def local_type(printed, behind=False):
         return f"(tyRef {lifetime} {printed[2]} {local_type(printed[3], True)})"
     if printed[0] == "tyStruct" and printed[1] == '"&[]"':
         return f"(sliceTy {local_type(items(printed[2])[0])})"
+    if printed[0] == "tyArray":
+        return f"(tyArray {local_type(printed[1], behind)} {printed[2][1]})"
     if printed[0] == "tyNamed":
         name = last_name(printed[1][1])
         return f"(pointee ({name}T.the-row .written))" if behind else f"{name}L.mir"
@@ -182,6 +193,16 @@ class Value:
 
 
 @dataclass
+class Array:
+    """A local array: the type of its elements, how many they are, the list that it holds, the machine's value of it, the name of the definition."""
+    type: Type
+    count: int
+    denot: str
+    machine: str
+    name: str
+
+
+@dataclass
 class Argument:
     how: str
     local: int
@@ -219,10 +240,11 @@ class Walk:
         self.holds = {k + 1: ("param", name) for k, name in enumerate(self.names)}
         self.now = {name: name for name in self.lent}
         self.length = {name: "tt" if self.kind[name] == "ref" else "refl" for name in self.lent}
-        self.values, self.full, self.given = {}, {}, set()
+        self.values, self.full, self.given, self.arrays = {}, {}, set(), {}
         self.calls, self.modules, self.contracts, self.uses, self.result = 0, {}, [], [], None
         self.looping, self.loop_parts, self.goal = False, None, self.runs
         self.last = self.last_uses()
+        self.owned_names = self.local_names()
         self.steps = Steps(said.get("limit", 10**9))
 
     # texts of this function
@@ -261,7 +283,8 @@ class Walk:
                 made_from[place(s[1])[0]] = source
                 last[source] = i
             elif s[0] == "assign" and s[2][0] == "aggregate":
-                source = place(items(s[2][1])[1][1])[0]
+                pointer, count = items(s[2][1])
+                source = made_from[place(pointer[1])[0]] if count[0] == "int" else place(count[1])[0]
                 made_from[place(s[1])[0]] = source
                 last[source] = i
             elif s[0] == "call":
@@ -269,6 +292,11 @@ class Walk:
                     k = place(operand[1])[0]
                     last[made_from.get(k, k)] = i
         return last
+
+    def local_names(self):
+        """The names of the locals that are lent."""
+        lent = [place(s[2][1]) for s in self.code.statements if s[0] == "assign" and s[2][0] == "addrOf"]
+        return dict(zip(dict.fromkeys(local for local, steps in lent if not steps), self.said.get("owns", [])))
 
     # the walk
 
@@ -314,8 +342,9 @@ class Walk:
         """One statement; `tail` where it is the last of a turn."""
         if s[0] == "call":
             self.call(i, s, tail)
-        elif s[0] == "assign" and s[2][0] in ("addrOf", "aggregate", "rvOpd"):
-            {"addrOf": self.address, "aggregate": self.slice, "rvOpd": self.copy}[s[2][0]](place(s[1])[0], s[2][1], tail)
+        elif s[0] == "assign" and s[2][0] in ("addrOf", "aggregate", "rvOpd", "repeat"):
+            d, to = place(s[1])[0], {"addrOf": self.address, "aggregate": self.slice, "rvOpd": self.copy, "repeat": self.array}
+            to[s[2][0]](d, s[2] if s[2][0] == "repeat" else s[2][1], tail)
             if not tail:
                 self.steps.cut(self.goal(i + 1))
         else:
@@ -326,7 +355,7 @@ class Walk:
         source, steps = place(printed)
         at = self.steps.at(f"L{source}")
         if not steps:
-            via, value, self.holds[d] = "(stop !)", f"(vptr l{source} 0)", ("local", source)
+            via, value, self.holds[d] = "(stop !)", f"(vptr l{source} 0)", ("pointer" if source in self.arrays else "local", source)
         elif len(steps) == 1:
             p = self.holds[source][1]
             via, value, self.holds[d] = f"(hop ! (look ! {at} refl) (stop !))", f"s·{p}", ("again", p, "imm" in str(self.code.locals[d]))
@@ -339,12 +368,46 @@ class Walk:
     def slice(self, d, printed, tail):
         """A slice of its two parts, pointer and count."""
         pointer, count = items(printed)
+        if count[0] == "int":
+            n, source = int(count[2]), self.holds[place(pointer[1])[0]][1]
+            self.steps.say(f"assigns ! (agg ! (and-then ! {self.load(place(pointer[1])[0])} (and-then ! {self.literal(n)} (no-more !)))) {STOP} "
+                           f"(init ! {self.steps.at(f'L{d}')} refl (tt, (tt, (record {{ fits = lit< tt }}, tt)))) $")
+            self.holds[d] = ("array", source)
+            self.fill(d, f"(sliceVal (l{source}, 0) {n})")
+            return
         source = place(count[1])[0]
         p = self.holds[source][1]
         self.steps.say(f"assigns ! (agg ! (and-then ! {self.load(place(pointer[1])[0])} (and-then ! {self.load_count(source)} (no-more !)))) {STOP} "
                        f"(init ! {self.steps.at(f'L{d}')} refl (tt, (tt, (record {{ fits = room·{p} .0 }}, tt)))) $")
         self.holds[d] = ("again", p, "imm" in str(self.code.locals[d]))
         self.fill(d, f"s·{p}")
+
+    def literal(self, n):
+        return "(lit ! tt)" if n < 1024 else "(big ! (record { fits = lit< tt }))"
+
+    def array(self, d, printed, tail):
+        """An array of n times a number, or of what a local holds. It is owned beside its local."""
+        w, (_, source, n), p = self.steps, printed, self.owned_names[d]
+        if source[0] in ("copy", "move"):
+            of = self.values[place(source[1])[0]]
+            t, x, value, known = of.type, of.denot, of.machine, of.known
+        else:
+            t, x = self.types[f"u{source[1]}"], source[2]
+            value, known = t.value(x), "(refl, lit< tt)"
+        row, many, machine = f"Array {t.row} {n}", f"(many {t.denot} {n} {x})", f"(manyVal {n} {value})"
+        own = f"{row} .own {many} ({machine} ∷ [])"
+        self.arrays[d] = Array(t, int(n), many, machine, p)
+        self.type[p], self.kind[p], self.now[p] = t, "mut", many
+        w.say(f"owned ! {t.row} (Is {t.row}) {t.makes} {x} ({value} ∷ []) {known} $ "
+              f"use1 W (‵ ({own})) (made 𝓤 H A W {t.row} {t.copy} {n} {x} {value}) $ "
+              f"peeks ! ({row}) (Is ({row})) (shows 𝓤 H A ({row})) {many} ({machine} ∷ []) (λ is·{p}.")
+        w.push(f"arr·{p}")
+        w.held[f"arr·{p}"] = f"‵ ({own})"
+        w.bind(f"is·{p}", f"Is ({row}) {many} ({machine} ∷ [])")
+        read = self.load(place(source[1])[0]) if source[0] in ("copy", "move") else self.literal(int(x))
+        w.say(f"assigns ! (repeats ! {n} {read}) {STOP} (init ! {w.at(f'L{d}')} refl "
+              f"(array-lawful 𝓤 H A W {t.row} ({t.lawful}) {n} .typed {many} _ is·{p} .0)) $")
+        self.fill(d, machine)
 
     def load_count(self, k):
         return f"(load ! (from ! (fld ! refl (stop !))) (look-in ! {self.steps.at(f'L{k}')} (sub ! 1 refl (whole !))))"
@@ -429,6 +492,8 @@ class Walk:
                             slot=slot, number=j, row=f"{OWNED[self.kind[p]]} (named {slot}) κ·{p} {self.row(p)}")
         if holds[0] == "local":
             return self.lent_local(i, c, j, k, holds[1], slot)
+        if holds[0] == "array":
+            return self.lent_array(i, c, j, k, holds[1], slot)
         value = self.values[k]
         return Argument("value", k, value.denot, value.machine, value=value)
 
@@ -478,7 +543,7 @@ class Walk:
 
     def lent_local(self, i, c, j, k, d, slot):
         """A local record, lent for the call."""
-        w, value, p = self.steps, self.values[d], f"local{d}"
+        w, value, p = self.steps, self.values[d], self.owned_names[d]
         row, name = value.type.row, value.type.denot
         self.type[p], self.kind[p], self.now[p] = value.type, "ref", value.denot
         ν, δ = self.new_lifetime(c, j)
@@ -505,6 +570,32 @@ class Walk:
         w.cut(self.goal(i))
         return Argument("lend local", k, ref(δ), f"(vptr l{d} 0)", name=p, lifetime=ν, share="fullShare", token=f"ν·{c}·{j}", own=f"lo·{p}",
                         slot=slot, number=j, row=f"MutRef (named {slot}) {ν} {row}", record=d, law=law)
+
+    def lent_array(self, i, c, j, k, d, slot):
+        """A local array, lent for the call."""
+        w, array = self.steps, self.arrays[d]
+        p, row, n = array.name, array.type.row, array.count
+        ν, δ = self.new_lifetime(c, j)
+        w.move(f"L{d}", f"arr·{p}")
+
+        def ref(at):
+            return f"(record {{ ptr = (l{d}, 0); name = {at}; now = {array.denot} }})"
+
+        def own(at):
+            return f"‵ (MutSlice (named {slot}) {ν} {row} .own {ref(at)} (sliceVal (l{d}, 0) {n} ∷ []))"
+
+        def part(at):
+            return f"‵ (flent {ν} (Held {row} {n} l{d} 0 {at}))"
+
+        law = f"{row} tt {n} (lit< tt, lit< tt) {ν} l{d} 𝓤 H A W (named {slot})"
+        w.say(f"use2 W (later (some (λ (δ : GName). {own('δ')} ⊛ {part('δ')}))) (array-lent {law} {array.denot} {array.machine}) $ "
+              f"await ! tt $ pick ! (λ {δ}. split ! $")
+        w.took(2, f"lo·{p}", f"lp·{p}")
+        w.bind(δ, "GName")
+        w.held[f"lo·{p}"], w.held[f"lp·{p}"] = own(δ), part(δ)
+        w.cut(self.goal(i))
+        return Argument("lend array", k, ref(δ), f"(sliceVal (l{d}, 0) {n})", name=p, lifetime=ν, share="fullShare", token=f"ν·{c}·{j}", own=f"lo·{p}",
+                        slot=slot, number=j, row=f"MutSlice (named {slot}) {ν} {row}", record=d, law=law)
 
     def asked(self, requires, arguments, refs):
         """The proof of what a callee asks, from the tokens and what is owned."""
@@ -554,14 +645,19 @@ class Walk:
               f"await ! tt $ pick ! (λ r{c}. split ! $ move ! (1 ∷ []) $")
         lists = product([self.denot(a.name) if a.how in LENT else "Unit {0}" for a in arguments])
         last = {a.name: f"(ws{c}{path(j)})" for j, a in enumerate(arguments) if a.how in LENT}
-        ensures = said["ensures"]
+        several = isinstance(said["ensures"], list)
+        ensures = list(said["ensures"]) if several else [said["ensures"]]
         for p in sorted(last, key=len, reverse=True):
-            ensures = ensures.replace(f"z{c}·{p}", last[p])
-        w.say(f"use1 W (some (λ (ws{c} : {lists}). ‵ (lasts G{m}.ended {lifetimes} {denots} ws{c}) ⊛ raw (fact 𝓤 ({ensures})))) (id⊢ 𝓤 _) $ "
-              f"pick ! (λ ws{c}. split ! $ move ! (1 ∷ []) $ heard ! ({ensures}) (λ e{c}.")
+            ensures = [text.replace(f"z{c}·{p}", last[p]) for text in ensures]
+        facts = " ⊛ ".join(f"raw (fact 𝓤 ({text}))" for text in ensures)
+        w.say(f"use1 W (some (λ (ws{c} : {lists}). ‵ (lasts G{m}.ended {lifetimes} {denots} ws{c}) ⊛ {f'({facts})' if several else facts})) (id⊢ 𝓤 _) $ "
+              f"pick ! (λ ws{c}. split ! $ move ! (1 ∷ []) $")
         w.bind(f"r{c}", denot)
         w.bind(f"ws{c}", lists)
-        w.bind(f"e{c}", ensures)
+        for k, text in enumerate(ensures):
+            name = f"e{c}·{k}" if several else f"e{c}"
+            w.say(f"{'split ! $ ' if k + 1 < len(ensures) else ''}heard ! ({text}) (λ {name}.")
+            w.bind(name, text)
         w.push("LASTS", "RESULT")
         for j, a in enumerate(arguments):
             if not any(b.how in LENT for b in arguments[j:]):
@@ -652,6 +748,19 @@ class Walk:
             self.fill(d, f"va·{c}·{d}")
             self.values[d] = Value(z, f"va·{c}·{d}", f"isa·{c}·{d}", self.type[p])
             return
+        if a.how == "lend array":
+            d, z, array = a.record, last[p], self.arrays[a.record]
+            own = f"Array {row} {array.count} .own {z}"
+            w.move(a.token, f"lp·{p}", f"fin·{p}")
+            w.say(f"use3 W (later (some (λ (va : Val). ‵ (fat fullShare {self.locals[d]} l{d} 0 va) ⊛ ‵ ({own} (va ∷ []))))) "
+                  f"(array-back {a.law} {δ} {z}) $ await ! tt $ pick ! (λ va·{c}·{d}. split ! $")
+            w.took(3, f"L{d}", f"arr·{p}")
+            w.bind(f"va·{c}·{d}", "Val")
+            self.fill(d, f"va·{c}·{d}")
+            w.held[f"arr·{p}"] = f"‵ ({own} (va·{c}·{d} ∷ []))"
+            array.denot, array.machine = z, f"va·{c}·{d}"
+            self.now[p] = z
+            return
         now = last.get(p, self.now[p])
         names = f"κ·{p} {a.lifetime} q·{p} γ·{p} b·{p} o·{p}"
         lifetimes = f"(named {self.lifetime[p]}) (named {a.slot}) (length {p}) {self.now[p]} room·{p} ({self.length[p]})"
@@ -704,12 +813,12 @@ class Walk:
                 head, other = self.test(t, rest(j + 1))
             else:
                 self.statement(j, t, tail=j == len(statements) - 1)
-        for p in mutable:
+        for p in [p for p in mutable if p in said.get("back", {})]:
             turn.say(f"rewrite ! {turn.at(f'own·{p}')} (λ (t : {self.denot(p)}). ‵ ({self.owned(p, 't')})) ({said['back'][p]}) refl $")
         for k, carried in said["carried"].items():
             v = self.values[k]
-            self.rewritten(f"L{k}", k, f"ap only ({v.type.tells} {v.denot} ({v.machine} ∷ []) {v.known}) "
-                           f"∙ ap (λ (y : {v.type.denot}). {v.type.value('y')}) ({carried['back']})")
+            back = f" ∙ ap (λ (y : {v.type.denot}). {v.type.value('y')}) ({carried['back']})" if "back" in carried else ""
+            self.rewritten(f"L{k}", k, f"ap only ({v.type.tells} {v.denot} ({v.machine} ∷ []) {v.known}){back}")
         for k in range(self.count):
             if self.full.get(k) and not full.get(k):
                 turn.say(f"forget ! {turn.at(f'L{k}')} refl $")
@@ -899,6 +1008,9 @@ class Walk:
         lines.append(f"use {said['lent']}.{{LentAgain, LentShared, lends-again, again-back, lends-shared, shared-back}}")
         if said.get("localrecord"):
             lines += [f"use {said['localrecord']}.{{record-lent, record-back}}", "use types.SemTy.{Body as Body·T}", "use denote.Memory.{mem as mem·T}"]
+        if said.get("localarray"):
+            lines += [f"use {said['localarray']}.{{many, manyVal, many-is, made, repeats, array-lent, array-back}}", f"use {said['big']}.{{big}}",
+                      "use types.Run.{lit}", "use denote.Array.{Array, array-lawful}", "use denote.Lend.{Held}", "use denote.Plain.{uint-copy}", "use lib.Dec.{lit<}"]
         lines += said.get("uses", []) + self.uses
         lines += [f"use {me}.Key.{{name as #{said['crate']}·{said['fn'].replace('_', '-')}}}", f"use {me} as self·fn",
                   f"use {me}.Statement as stated", f"use {me}.Code as code"]

@@ -50,15 +50,23 @@ def pruned(text):
 
 def depths(line):
     """At each character how many brackets are open, and whether one of them is a pair's or a record's."""
-    opened, out = [], []
+    opened, paired, out = [], set(), []
     for i, char in enumerate(line):
         if char in "([{":
             opened.append(i)
         elif char in ")]}" and opened:
             opened.pop()
-        out.append(list(opened))
-    paired = {out[i][-1] for i, char in enumerate(line) if out[i] and (char == "," or line[out[i][-1]] == "{")}
-    return [(len(at), any(bracket in paired for bracket in at)) for at in out]
+        if opened and (char == "," or line[opened[-1]] == "{"):
+            paired.add(opened[-1])
+    opened, pairs = [], 0
+    for i, char in enumerate(line):
+        if char in "([{":
+            opened.append(i)
+            pairs += i in paired
+        elif char in ")]}" and opened:
+            pairs -= opened.pop() in paired
+        out.append((len(opened), pairs > 0))
+    return out
 
 
 def begins(line, inside):
@@ -73,7 +81,7 @@ def wrap(line):
         return [line]
     indent, inside = len(line) - len(line.lstrip()), depths(line)
     spots = [i for i, char in enumerate(line) if char == " " and i > indent + 40
-             and not re.match(r" (!|\$|∵)", line[i:]) and not re.search(r"[!λ:∷→⊛‵]$", line[:i])]
+             and line[i + 1:i + 2] not in ("!", "$", "∵") and line[i - 1] not in "!λ:∷→⊛‵"]
     outside = [i for i in spots if not inside[i][1]]
     spots = [i for i in outside if i <= WIDTH] or [i for i in outside if i <= MOST][:1] or [i for i in spots if i <= WIDTH] or spots[:1]
     if not spots or len(line) <= MOST and inside[spots[0]][1]:

@@ -23,10 +23,10 @@ use Rattle.running.specs.declared.finish.Answer.the-variants as answered
 use Rattle.running.specs.Course.{outcomeBy}
 use Rattle.running.specs.Finished.{unproved, GoalRows, OpenRows, FinishGiven, Finishes, answerOf, refusalOf, reportOf}
 
-carries : (n : ℕ) (s : Run) (S : State) → (n ≡ 0 → ⊥) → outcomeBy n s S ≡ refusedIn (s .text) n (s .detail) (s .form) S
+carries : (t : ℕ) (s : Run) (S : State) → (t ≡ 0 → ⊥) → outcomeBy t s S ≡ refusedIn t (s .number) (s .detail) (s .form) S
 unfolding outcomeBy
 carries zero s S q = absurd (q refl)
-carries (suc n) s S q = refl
+carries (suc t) s S q = refl
 
 module _ {s : Run} {c : Counts} {index words rows list : List ℕ} (g : FinishGiven s c index words rows list) where
   abbrev pub goal-rows-given : GoalRows rows (s .sizes .goals)
@@ -53,10 +53,10 @@ module _ {s : Run} {c : Counts} {index words rows list : List ℕ} (g : FinishGi
   Lists many after = (h : GoalRows rows (s .sizes .goals)) → (many ≡ length (unproved (h .gs))) × (after ≡ filled GOALS (unproved (h .gs)))
 
   -- a refusal is carried on
-  refused : (s .number ≡ 0 → ⊥) → refusedIn (s .text) (s .number) (s .detail) (s .form) (g .S) ≡ check (g .theory) (g .goals) (g .proof)
-  refused q = sym (carries (s .number) s (g .S) q) ∙ g .over .is
+  refused : (s .text ≡ 0 → ⊥) → refusedIn (s .text) (s .number) (s .detail) (s .form) (g .S) ≡ check (g .theory) (g .goals) (g .proof)
+  refused q = sym (carries (s .text) s (g .S) q) ∙ g .over .is
 
-  pub carried-other : {r : Answered} → r ≡ refusalOf s → (s .number ≡ 0 → ⊥) → (s .number ≡ 53 → ⊥) → Finishes (g .theory) (g .goals) (g .proof) r list
+  pub carried-other : {r : Answered} → r ≡ refusalOf s → (s .text ≡ 0 → ⊥) → (s .number ≡ 53 → ⊥) → Finishes (g .theory) (g .goals) (g .proof) r list
   unfolding refusedIn missingOf
   carried-other w q o =
       record {
@@ -66,11 +66,10 @@ module _ {s : Run} {c : Counts} {index words rows list : List ℕ} (g : FinishGi
             ∙ ap (λ O. filled GOALS (missingOf (O .answer) (O .state))) (refused q);
       }
 
-  pub carried-53 : {r : Answered} {many : ℕ} {after : List ℕ} → r ≡ refusalOf s → s .number ≡ 53 → Lists many after →
+  pub carried-53 : {r : Answered} {many : ℕ} {after : List ℕ} → r ≡ refusalOf s → (s .text ≡ 0 → ⊥) → s .number ≡ 53 → Lists many after →
       Finishes (g .theory) (g .goals) (g .proof) r after
   unfolding refusedIn missingOf missing
-  carried-53 w e f =
-      let q : s .number ≡ 0 → ⊥ = λ z. omega arith in
+  carried-53 w q e f =
       record {
         is = ap answerOf w ∙ ap (λ O. O .answer) (refused q);
         named = f goal-rows-given .1 ∙ ap (filled GOALS) (sym (ap {B = List ℕ} (λ n. elim (eqb n 53) [ true ↦ missing (g .S) | false ↦ [] ]) e))
@@ -78,11 +77,11 @@ module _ {s : Run} {c : Counts} {index words rows list : List ℕ} (g : FinishGi
       }
 
   -- no refusal is left
-  over : s .number ≡ 0 → ended (s .forms) (g .S) (missing (g .S)) ≡ check (g .theory) (g .goals) (g .proof)
+  over : s .text ≡ 0 → ended (s .forms) (g .S) (missing (g .S)) ≡ check (g .theory) (g .goals) (g .proof)
   unfolding outcomeBy
   over e = sym (ap (λ n. outcomeBy n s (g .S)) e) ∙ g .over .is
 
-  pub question-53 : {after : List ℕ} {many : ℕ} → s .number ≡ 0 → Lists many after → (many ≡ 0 → ⊥) →
+  pub question-53 : {after : List ℕ} {many : ℕ} → s .text ≡ 0 → Lists many after → (many ≡ 0 → ⊥) →
       Finishes (g .theory) (g .goals) (g .proof) (answered.Refused (record { number = 53; text = 3; form = s .forms; detail = many })) after
   unfolding missing ended refusedIn missingOf
   question-53 {after} {many} e f q = go (missing (g .S)) refl
@@ -98,7 +97,7 @@ module _ {s : Run} {c : Counts} {index words rows list : List ℕ} (g : FinishGi
             named = f goal-rows-given .1 ∙ ap (λ O. filled GOALS (missingOf (O .answer) (O .state))) k;
           }
 
-  pub accepted : {r : Answered} {after : List ℕ} {many opens : ℕ} → r ≡ reportOf s c opens → s .number ≡ 0 → Lists many after → many ≡ 0 →
+  pub accepted : {r : Answered} {after : List ℕ} {many opens : ℕ} → r ≡ reportOf s c opens → s .text ≡ 0 → Lists many after → many ≡ 0 →
       ((h : OpenRows rows index (s .sizes .goals)) → opens ≡ countOpen (h .gs)) → Finishes (g .theory) (g .goals) (g .proof) r after
   unfolding missing ended report missingOf
   accepted {r} {after} {many} {opens} w e f q o = go (missing (g .S)) refl

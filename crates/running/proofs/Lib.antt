@@ -1,3 +1,4 @@
 pub mod Missing
 pub mod Opened
 pub mod Ends
+pub mod Lending

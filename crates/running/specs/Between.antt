@@ -46,13 +46,13 @@ pub record Few (c : Counts) (forms : ℕ) : Type 0 where
 
 -- with the records of facts and the counts
 pub record Between (theory goals proof : List ℕ) (T : TheoryLists) (W : Working) (rows feet cells ids : List ℕ) (s : Run) (fs : List Fact) (c : Counts) : Type 0
-    where
-  pub held : Held theory goals proof T W rows feet s
-  pub idle : Idle cells ids
-  pub counted : held .S .counts ≡ countsOf c
-  pub few : Few c (s .forms)
-  pub room : FACTS ≤ length fs
-  pub mirrored : Mirrored (s .sizes .facts) fs rows feet
+  where
+    pub held : Held theory goals proof T W rows feet s
+    pub idle : Idle cells ids
+    pub counted : held .S .counts ≡ countsOf c
+    pub few : Few c (s .forms)
+    pub room : FACTS ≤ length fs
+    pub mirrored : Mirrored (s .sizes .facts) fs rows feet
 
 -- The beginning --------------------------------------------------------------------------------------------------------------------
 

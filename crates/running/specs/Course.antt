@@ -24,17 +24,17 @@ pub record Underway (theory goals proof : List ℕ) (T : TheoryLists) (B : Board
   pub high : s .at ≤ length proof
   pub few : s .forms ≤ s .at
 
--- what is answered then: by the question that is left, or by question 53
+-- what is answered then: by the question that is left in one of the texts, or by question 53
 unfoldable pub outcomeBy : ℕ → Run → State → Outcome
 outcomeBy zero s S = ended (s .forms) S (missing S)
-outcomeBy (suc q) s S = refusedIn (s .text) (suc q) (s .detail) (s .form) S
+outcomeBy (suc t) s S = refusedIn (suc t) (s .number) (s .detail) (s .form) S
 
 -- no form is left. X: the texts in which names stand
 pub record Over (theory goals proof : List ℕ) (T : TheoryLists) (B : Board) (s : Run) (S : State) : Type 0 where
   pub over : s .going ≡ false
   pub X : Texts
   pub stands : Stands X T B (s .sizes) (s .mark) S
-  pub is : outcomeBy (s .number) s S ≡ check theory goals proof
+  pub is : outcomeBy (s .text) s S ≡ check theory goals proof
   pub few : s .forms ≤ length proof
 
 pub data Course (theory goals proof : List ℕ) (T : TheoryLists) (B : Board) (s : Run) (S : State) : Type 0 where

@@ -2,9 +2,10 @@
 -- of facts beside the rows in which the forms read them. Assumes nothing.
 use mathlib.Core.Path.{_≡_}
 use Prim.Native.Nat.{ℕ, _*_, _≤_}
-use mathlib.Core.List.{List, [], _∷_, _++_}
+use mathlib.Core.List.{List, [], _∷_}
 use lib.ListN.{length, take, drop, getD}
 use Rattle.rules.specs.Limits.{SORTS, SYMBOLS, ARGUMENTS, RULES, RULEVARS, PATTERNS, VARIABLES, TERMS, WORDS, DEFS, GOALS, ENTRIES}
+use Rattle.rules.specs.TheoryTables.{rows as rowsOf}
 use Rattle.kernel.specs.Parsed.{TheoryLists, theoryLists}
 use Rattle.state.specs.Stands.{Board, board}
 use Rattle.facts.specs.declared.Fact.{Fact}
@@ -73,13 +74,12 @@ factRow f = f .judgment ∷ f .assumed ∷ f .first ∷ f .hyps ∷ f .premises 
 abbrev pub factFoot : Fact → List ℕ
 factFoot f = getD (f .footing) 0 0 ∷ getD (f .footing) 1 0 ∷ getD (f .footing) 2 0 ∷ getD (f .footing) 3 0 ∷ []
 
-unfoldable pub factRows : List Fact → List ℕ
-factRows [] = []
-factRows (f ∷ fs) = factRow f ++ factRows fs
+-- all of them, one behind the other
+abbrev pub factRows : List Fact → List ℕ
+factRows fs = rowsOf factRow fs
 
-unfoldable pub factFeet : List Fact → List ℕ
-factFeet [] = []
-factFeet (f ∷ fs) = factFoot f ++ factFeet fs
+abbrev pub factFeet : List Fact → List ℕ
+factFeet fs = rowsOf factFoot fs
 
 -- the first n records are the first n rows
 pub record Mirrored (n : ℕ) (fs : List Fact) (rows feet : List ℕ) : Type 0 where

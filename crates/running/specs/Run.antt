@@ -1,6 +1,7 @@
 -- The value that is carried from form to form, as the functions make it. Assumes nothing.
 use mathlib.Core.Bool.{true, false}
 use Prim.Native.Nat.{ℕ, _+_}
+use Rattle.rules.specs.Limits.{FACTS}
 use Rattle.terms.specs.declared.store.Mark.{Mark}
 use Rattle.state.specs.declared.sizes.Sizes.{Sizes}
 use Rattle.running.specs.declared.run.Run.{Run}
@@ -37,3 +38,7 @@ endedRun s =
 abbrev pub refusedRun : Run → ℕ → ℕ → Run
 refusedRun s q d =
     record { fit = s .fit; going = false; at = s .at; forms = s .forms; sizes = s .sizes; mark = s .mark; number = q; text = 3; form = s .forms; detail = d }
+
+-- so many records are the check's own: none where a table is too short
+abbrev pub roomOf : Run → ℕ
+roomOf s = elim (s .fit) [ true ↦ FACTS | false ↦ 0 ]

@@ -1,10 +1,14 @@
 // The end of a check: question 53 with its list, or the report. The store's look-up is settled, so that its table holds nothing but places.
 ghost use mathlib.Core.Path.{_≡_};
+ghost use mathlib.Core.Bool.{true, false};
+ghost use mathlib.Core.List.{List};
+ghost use Prim.Native.Nat.{ℕ};
 ghost use lib.ListN.{length, replicate};
 ghost use Rattle.rules.specs.Limits.{GOALS};
 ghost use Rattle.rules.specs.Check.{countOpen};
 ghost use Rattle.rules.specs.TheoryTables.{filled};
 ghost use Rattle.terms.specs.Table.{settled};
+ghost use Rattle.running.specs.Between.{Ending, Ended};
 ghost use Rattle.running.specs.Finished.{unproved, GoalRows, OpenRows, FinishGiven, Finishes, refusalOf, reportOf};
 use crate::run::Run;
 use counts::Counts;
@@ -115,11 +119,11 @@ pub fn finish_exact(
     let n = s.sizes;
     let open_goals = count_open(rows, index, n.goals);
     settle(index);
-    if s.number == 53 {
-        list_missing(rows, n.goals, missing);
-        return carried(s);
-    }
-    if s.number != 0 {
+    if s.text != 0 {
+        if s.number == 53 {
+            list_missing(rows, n.goals, missing);
+            return carried(s);
+        }
         return carried(s);
     }
     let many = list_missing(rows, n.goals, missing);
@@ -132,4 +136,32 @@ pub fn finish_exact(
         });
     }
     counted(s, c, open_goals)
+}
+
+// The same in tables as they are lent. Where one is too short, the answer is the refusal that is carried on.
+pub fn end(
+    s: Run,
+    c: Counts,
+    index: &mut [u32],
+    words: &[u32],
+    rows: &[u32],
+    missing: &mut [u32],
+) -> Answer
+    requires { ⌜ (s .fit ≡ true → Ending s c (now index) (now words) (now rows) (now missing)) ⌝ }
+    ensures { λ r. ⌜ ((g : Ending s c (now (index .entry)) (now (words .entry)) (now (rows .entry)) (now (missing .entry))) →
+        Ended (g .theory) (g .goals) (g .proof) s (now (index .entry)) (now (index .exit)) (now (missing .entry)) (now (missing .exit)) r) ⌝ }
+    ensures { λ r. ⌜ (s .fit ≡ false → (theory goals proof : List ℕ) →
+        Ended theory goals proof s (now (index .entry)) (now (index .exit)) (now (missing .entry)) (now (missing .exit)) r) ⌝ }
+{
+    if s.fit {
+        return finish_exact(
+            s,
+            c,
+            &mut index[..4 * rules::TERMS],
+            &words[..rules::WORDS],
+            &rows[..6 * rules::GOALS],
+            &mut missing[..rules::GOALS],
+        );
+    }
+    carried(s)
 }

@@ -1,7 +1,9 @@
 // Where a check stands between two forms of the proof, by value. A refusal is carried on in it, so that whoever calls one part after the other needs no
 // branch.
 ghost use mathlib.Core.Path.{_≡_};
-ghost use Rattle.running.specs.Run.{noSizes, unfitRun, stoppedRun, startedRun, endedRun, refusedRun};
+ghost use Prim.Native.Nat.{_<_};
+ghost use Rattle.rules.specs.Limits.{LENGTH};
+ghost use Rattle.running.specs.Run.{noSizes, unfitRun, stoppedRun, startedRun, movedRun, endedRun, refusedRun, roomOf};
 use state::sizes::Sizes;
 use terms::store::Mark;
 
@@ -16,7 +18,7 @@ pub struct Run {
     // what is used of the tables and of the store
     pub sizes: Sizes,
     pub mark: Mark,
-    // the refusal: its number, 0 for none, its text, the forms before it in that text, its detail
+    // the refusal: its number, its text, 0 for none, the forms before it in that text, its detail
     pub number: usize,
     pub text: usize,
     pub form: usize,
@@ -93,6 +95,25 @@ pub fn started(n: Sizes, mark: Mark) -> Run
     }
 }
 
+// A form of the proof is taken, and the next one begins at a place.
+pub fn moved(s: Run, at: usize, n: Sizes, mark: Mark) -> Run
+    requires { ⌜ s .forms < LENGTH ⌝ }
+    ensures { λ r. ⌜ r ≡ movedRun s at n mark ⌝ }
+{
+    Run {
+        fit: s.fit,
+        going: true,
+        at: at,
+        forms: s.forms + 1,
+        sizes: n,
+        mark: mark,
+        number: 0,
+        text: 0,
+        form: 0,
+        detail: 0,
+    }
+}
+
 // The proof has no further form.
 pub fn ended(s: Run) -> Run
     ensures { λ r. ⌜ r ≡ endedRun s ⌝ }
@@ -131,4 +152,29 @@ pub fn refused(s: Run, number: usize, detail: usize) -> Run
         form: s.forms,
         detail: detail,
     }
+}
+
+// Whether a form of the proof may be left.
+pub fn is_going(s: Run) -> bool
+    ensures { λ r. ⌜ r ≡ s .going ⌝ }
+{
+    s.going
+}
+
+// The number of the facts so far, which is that of the next one.
+pub fn index_of(s: Run) -> usize
+    ensures { λ r. ⌜ r ≡ s .sizes .facts ⌝ }
+{
+    let n = s.sizes;
+    n.facts
+}
+
+// How many records are the check's own: none where a table is too short.
+pub fn room_of(s: Run) -> usize
+    ensures { λ r. ⌜ r ≡ roomOf s ⌝ }
+{
+    if s.fit {
+        return rules::FACTS;
+    }
+    0
 }

@@ -16,7 +16,9 @@ use Rattle.facts.specs.declared.Fact.{Fact}
 use Rattle.facts.specs.Table.{blank}
 use Rattle.running.specs.declared.finish.Answer.{Answer}
 use Rattle.running.specs.Lent.{Working, factRow, factFoot, factRows, factFeet}
-use Rattle.running.specs.Checking.{tablesOf, Call, answerOf}
+use Rattle.running.specs.Finished.{answerOf}
+use Rattle.running.specs.ReadBack.{Call}
+use Rattle.running.specs.Checking.{tablesOf}
 use Rattle.tabled.specs.Tabled.{Tabled}
 use Rattle.tabled.proofs.LocalArray.{many, many-is}
 use Rattle.tabled.proofs.Rowing.{none-yet, row-more}

@@ -9,7 +9,9 @@ use Rattle.facts.specs.declared.Fact.{Fact}
 use Rattle.facts.specs.Table.{blank}
 use Rattle.running.specs.declared.finish.Answer.{Answer}
 use Rattle.running.specs.Lent.{Working, factRows, factFeet}
-use Rattle.running.specs.Checking.{tablesOf, Call, answerOf}
+use Rattle.running.specs.Finished.{answerOf}
+use Rattle.running.specs.ReadBack.{Call}
+use Rattle.running.specs.Checking.{tablesOf}
 
 -- T, W, missing, facts, feet before; U, V and those with a dash afterwards. The check had blank records, and left these
 pub record Tabled (theory goals proof : List ℕ) (T U : TheoryLists) (W V : Working) (missing missing′ facts facts′ feet feet′ : List ℕ) (r : Answer) : Type 0 where

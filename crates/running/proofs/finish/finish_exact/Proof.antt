@@ -15,7 +15,7 @@ settle-requires c κs = index-long (c .before .before .before .before .before .b
 -- src/finish.rt:112:9
 list-missing-requires : tie.Need-list-missing-requires
 list-missing-requires c κs =
-    let pre = c .before .before .before .before .before .before .before .before .before .before .before .before .before .before .pre in
+    let pre = c .before .before .before .before .before .before .before .before .before .before .before .before .before .before .before .before .pre in
     (goal-rows-given pre, pre .missing-zero)
 
 -- src/finish.rt:113:9
@@ -32,7 +32,7 @@ same-length-2 c = search needs
 
 -- src/finish.rt:113:9
 returns : tie.Need-returns
-returns c = (λ g. carried-53 g ((c .carried) .ensures) ((c .before .before .before .before .before .if1) .taken) ((c .before .before .before .list-missing) .ensures), (c .before .before .before .before .before .before .before .before .before .settle) .ensures)
+returns c = (λ g. carried-53 g ((c .carried) .ensures) ((c .before .before .before .before .before .before .before .if1) .taken) ((c .before .before .before .before .before .if2) .taken) ((c .before .before .before .list-missing) .ensures), (c .before .before .before .before .before .before .before .before .before .before .before .settle) .ensures)
 
 -- src/finish.rt:116:9
 carried-requires-2 : tie.Need-carried-requires-2
@@ -44,12 +44,12 @@ same-length-3 c = search needs
 
 -- src/finish.rt:116:9
 returns-2 : tie.Need-returns-2
-returns-2 c = (λ g. carried-other g ((c .carried2) .ensures) ((c .before .if2) .taken) ((c .before .before .before .if1) .left), (c .before .before .before .before .before .before .before .settle) .ensures)
+returns-2 c = (λ g. carried-other g ((c .carried2) .ensures) ((c .before .before .before .if1) .taken) ((c .before .if2) .left), (c .before .before .before .before .before .before .before .settle) .ensures)
 
 -- src/finish.rt:118:9
 list-missing-requires-2 : tie.Need-list-missing-requires-2
 list-missing-requires-2 c κs =
-    let pre = c .before .before .before .before .before .before .before .before .before .before .before .before .before .before .before .before .pre in
+    let pre = c .before .before .before .before .before .before .before .before .before .before .before .before .before .before .pre in
     (goal-rows-given pre, pre .missing-zero)
 
 -- src/finish.rt:120:9
@@ -62,7 +62,7 @@ same-length-5 c = search needs
 
 -- src/finish.rt:120:9
 returns-3 : tie.Need-returns-3
-returns-3 c = (λ g. question-53 g ((c .before .before .before .before .before .if2) .left) ((c .before .before .before .list-missing2) .ensures) ((c .if3) .taken), (c .before .before .before .before .before .before .before .before .before .before .before .settle) .ensures)
+returns-3 c = (λ g. question-53 g ((c .before .before .before .before .before .if1) .left) ((c .before .before .before .list-missing2) .ensures) ((c .if3) .taken), (c .before .before .before .before .before .before .before .before .before .settle) .ensures)
 
 -- src/finish.rt:127:5
 counted-requires : tie.Need-counted-requires
@@ -79,12 +79,12 @@ same-length-7 c = search needs
 -- src/finish.rt:102:1
 returns-4 : tie.Need-returns-4
 returns-4 c =
-    let if2 = c .before .before .before .before .before .before .if2 in
+    let if1 = c .before .before .before .before .before .before .if1 in
     let list-missing2 = c .before .before .before .before .list-missing2 in
     let if3 = c .before .if3 in
-    let count-open = c .before .before .before .before .before .before .before .before .before .before .before .before .before .before .count-open in
-    let settle = c .before .before .before .before .before .before .before .before .before .before .before .before .settle in
-    (λ g. accepted g ((c .counted) .ensures) (if2 .left) (list-missing2 .ensures) (if3 .left) (count-open .ensures), settle .ensures)
+    let count-open = c .before .before .before .before .before .before .before .before .before .before .before .before .count-open in
+    let settle = c .before .before .before .before .before .before .before .before .before .before .settle in
+    (λ g. accepted g ((c .counted) .ensures) (if1 .left) (list-missing2 .ensures) (if3 .left) (count-open .ensures), settle .ensures)
 
 pub finish-exact-spec : {M : Type 1} → statement M
 finish-exact-spec =

@@ -1,0 +1,4 @@
+pub mod Asking
+pub mod Lengths
+pub mod Opened
+pub mod Posed

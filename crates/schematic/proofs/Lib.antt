@@ -1,0 +1,7 @@
+pub mod Lent
+pub mod LocalRecord
+pub mod LocalArray
+pub mod Big
+pub mod Turning
+pub mod Looping
+pub mod Whole
