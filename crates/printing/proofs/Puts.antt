@@ -1,11 +1,12 @@
 -- Bytes put one behind the other: a copy, a number, a space and a number, a line. Assumes nothing.
-use Prim.Native.Nat.{ℕ, zero, _+_, _-_, _<_, _≤_}
+use Prim.Native.Nat.{ℕ, _+_, _-_, _<_, _≤_, _^_}
 use mathlib.Core.Path.{_≡_, refl, sym, ap, _∙_}
 use mathlib.Core.List.{List, [], _∷_, _++_}
 use native.Mathlib.Omega.{arith}
-use native.Mathlib.Nat.{le-refl}
+use native.Mathlib.Nat.{le-refl, pow-le-pow-right}
+use lib.Dec.{lit<}
 use native.Mathlib.Numerals.{add-one}
-use lib.ListN.{length, take, getD, set}
+use lib.ListN.{length, take, drop, getD, set, length-drop}
 use lib.Seq.{paste, paste-suc, take-paste, take-length, append-snoc, length-take-le}
 use Rattle.io.specs.Digits.{digits, Fewest}
 use Rattle.printing.specs.Written.{Put, Decimal, PutNumber, PutField}
@@ -29,12 +30,22 @@ put-pasted d at s i e p q h = record {
       ∙ ap (λ (t : List ℕ). take at d ++ t) (take-length s);
 }
 
-pub put-number : (d : List ℕ) (at : ℕ) (e : List ℕ) (r n k : ℕ) (ds : List ℕ) → Fewest 10 1 n k → take k ds ≡ digits 10 k n → k ≤ length ds → length ds ≡ 20
+-- a number of 64 bits has at most twenty digits
+pub digits-few : (n k : ℕ) → n < 2 ^ 64 → Fewest 10 1 n k → k ≤ 20
+digits-few n k h few = let no : ¬ (20 < k) = too-many in omega (arith, no)
+  where
+    power : 20 < k → 10 ^ 20 ≤ 10 ^ (k - 1)
+    power l = pow-le-pow-right {n = 10} (lit< tt) (omega (arith, l))
+
+    too-many : 20 < k → ⊥
+    too-many l = let p = power l in let q = few .2 (omega (arith, l)) in omega (arith, h, p, q)
+
+pub put-number : (d : List ℕ) (at : ℕ) (e : List ℕ) (r n k : ℕ) (ds : List ℕ) → Fewest 10 1 n k → take k ds ≡ digits 10 k n → k ≡ length (take k ds) → k ≤ 20
     → Put d at e r (take k ds) → PutNumber d at e r n
 put-number d at e r n k ds few is inside twenty p = record {
   bytes = take k ds;
   number = record { many = k; fewest = few; spelled = is };
-  short = omega (arith, length-take-le k ds inside, inside, twenty);
+  short = omega (arith, inside, twenty);
   put = p;
 }
 
@@ -87,3 +98,7 @@ refuses r w f1 f2 f3 f4 z room = record {
   line = closed _ _ _ _ _ (longer _ _ _ _ _ _ (longer _ _ _ _ _ _ (longer _ _ _ _ _ _ (longer _ _ _ _ _ _ (begun _ _ _ _ w) f1) f2) f3) f4) z;
   room = room;
 }
+
+-- the bytes of a part of a text
+pub part-length : (text : List ℕ) (from to : ℕ) → from ≤ to → to ≤ length text → length (take (to - from) (drop from text)) ≡ to - from
+part-length text from to h l = length-take-le (to - from) (drop from text) (omega (arith, length-drop from text, h, l))

@@ -10,10 +10,14 @@ use rules::SYMBOLS;
 // Rows that any table has at most.
 const ROWS: usize = 65536;
 
+fn wide(x: u32) -> usize {
+    x as usize
+}
+
 // Cell i of a table.
 pub fn cell(table: &[u32], i: usize) -> usize {
     if i < table.len() {
-        return table[i] as usize;
+        return wide(table[i]);
     }
     0
 }

@@ -1,5 +1,5 @@
 -- `printing::facts::say_entries` meets its contract. Assumes nothing.
-use Prim.Native.Nat.{_-_, _≤_}
+use Prim.Native.Nat.{_-_, _<_, _≤_, _^_}
 use mathlib.Core.Path.{_≡_}
 use lib.ListN.{length}
 use borrow.Author.Needs.{needs}
@@ -7,7 +7,7 @@ use Rattle.printing.proofs.facts.say_entries.Statement.{statement}
 use Rattle.printing.proofs.facts.say_entries.Tie as tie
 
 abbrev Inv-loop : tie.InvT-loop
-Inv-loop out₀ fd theory goals proof symbols vars index words stack₀ lists kind from end q₀ i₀ t out stack q i = (q .at ≤ length out) × (length out ≡ length out₀) × (length stack ≡ length stack₀)
+Inv-loop out₀ fd theory goals proof symbols vars index words stack₀ lists kind from end q₀ i₀ t out stack q i = (q .at ≤ length out) × (length out ≡ length out₀) × (length stack ≡ length stack₀) × (end < 2 ^ 64)
 
 abbrev μ-loop : tie.MeasureT-loop
 μ-loop out₀ fd theory goals proof symbols vars index words stack₀ lists kind from end q₀ i₀ t out stack q i = end - i

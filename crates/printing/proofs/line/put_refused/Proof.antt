@@ -33,7 +33,7 @@ same-length : tie.Need-same-length
 same-length c = search needs
 
 returns : tie.Need-returns
-returns c = refuses _ (c .before .before .before .before .before .before .before .before .before .before .before .before .before .before .before .before .before .before .before .before .before .before .before .put-bytes .ensures) (c .before .before .before .before .before .before .before .before .before .before .before .before .before .before .before .before .before .before .before .put-field .ensures) (c .before .before .before .before .before .before .before .before .before .before .before .before .before .before .before .put-field2 .ensures) (c .before .before .before .before .before .before .before .before .before .before .before .put-field3 .ensures) (c .before .before .before .before .before .before .before .put-field4 .ensures) (c .before .before .put-bytes2 .ensures) (omega (arith, c .before .before .put-bytes2 .ensures .place, c .before .before .before .before .before .before .before .before .before .before .before .before .before .before .before .before .before .before .before .before .before .before .before .put-bytes .ensures .place, field-room _ _ _ _ _ (c .before .before .before .before .before .before .before .before .before .before .before .before .before .before .before .before .before .before .before .put-field .ensures), field-room _ _ _ _ _ (c .before .before .before .before .before .before .before .before .before .before .before .before .before .before .before .put-field2 .ensures), field-room _ _ _ _ _ (c .before .before .before .before .before .before .before .before .before .before .before .put-field3 .ensures), field-room _ _ _ _ _ (c .before .before .before .before .before .before .before .put-field4 .ensures)))
+returns c = refuses (c .before .before .before .before .before .before .before .before .before .before .before .before .before .before .before .before .before .before .before .before .before .before .before .before .before .before .before .args .r) (c .before .before .before .before .before .before .before .before .before .before .before .before .before .before .before .before .before .before .before .before .before .before .before .put-bytes .ensures) (c .before .before .before .before .before .before .before .before .before .before .before .before .before .before .before .before .before .before .before .put-field .ensures) (c .before .before .before .before .before .before .before .before .before .before .before .before .before .before .before .put-field2 .ensures) (c .before .before .before .before .before .before .before .before .before .before .before .put-field3 .ensures) (c .before .before .before .before .before .before .before .put-field4 .ensures) (c .before .before .put-bytes2 .ensures) (omega (arith, c .before .before .put-bytes2 .ensures .place, c .before .before .before .before .before .before .before .before .before .before .before .before .before .before .before .before .before .before .before .before .before .before .before .put-bytes .ensures .place, field-room _ _ _ _ _ (c .before .before .before .before .before .before .before .before .before .before .before .before .before .before .before .before .before .before .before .put-field .ensures), field-room _ _ _ _ _ (c .before .before .before .before .before .before .before .before .before .before .before .before .before .before .before .put-field2 .ensures), field-room _ _ _ _ _ (c .before .before .before .before .before .before .before .before .before .before .before .put-field3 .ensures), field-room _ _ _ _ _ (c .before .before .before .before .before .before .before .put-field4 .ensures)))
 
 pub put-refused-spec : {M : Type 1} → statement M
 put-refused-spec =

@@ -1,8 +1,8 @@
 -- `printing::text::put_bytes` meets its contract. Assumes nothing.
-use Prim.Native.Nat.{_-_, _≤_}
+use Prim.Native.Nat.{ℕ, _+_, _-_, _≤_}
 use mathlib.Core.Path.{_≡_, refl, _∙_}
 use native.Mathlib.Omega.{arith}
-use lib.ListN.{length, length-set}
+use lib.ListN.{length, getD, length-set}
 use lib.Seq.{paste, paste-zero}
 use Rattle.printing.proofs.Puts.{pasted-more, put-pasted}
 use borrow.Author.Needs.{needs}
@@ -16,7 +16,7 @@ abbrev μ-loop : tie.MeasureT-loop
 μ-loop out₀ at bytes i₀ out i = length bytes - i
 
 loop-holds : tie.Need-loop-holds Inv-loop μ-loop
-loop-holds c = (omega arith, paste-zero _ _ _, refl)
+loop-holds c = (omega arith, paste-zero (c .args .out .now) (c .args .at) (c .args .bytes .now), refl)
 
 shared-slice-read-out : tie.Need-shared-slice-read-out Inv-loop μ-loop
 shared-slice-read-out c = search needs
@@ -34,7 +34,7 @@ loop-less : tie.Need-loop-less Inv-loop μ-loop
 loop-less c = search needs
 
 loop-again : tie.Need-loop-again Inv-loop μ-loop
-loop-again c = (omega arith, pasted-more (c .before .before .before .args .out .now) (c .before .before .before .args .at) (c .before .before .before .args .bytes .now) (c .before .before .loop .i) (c .before .before .loop .out) (c .before .before .loop .inv .1) (omega (arith, c .before .loop-test .taken, c .before .before .before .pre)) (c .before .loop-test .taken), length-set _ _ _ ∙ c .before .before .loop .inv .2)
+loop-again c = (omega arith, pasted-more (c .before .before .before .args .out .now) (c .before .before .before .args .at) (c .before .before .before .args .bytes .now) (c .before .before .loop .i) (c .before .before .loop .out) (c .before .before .loop .inv .1) (omega (arith, c .before .loop-test .taken, c .before .before .before .pre)) (c .before .loop-test .taken), length-set {A = ℕ} (c .before .before .loop .out) ((c .before .before .before .args .at) + (c .before .before .loop .i)) (getD (c .before .before .before .args .bytes .now) (c .before .before .loop .i) 0) ∙ c .before .before .loop .inv .2)
 
 add-result : tie.Need-add-result Inv-loop μ-loop
 add-result c = search needs
