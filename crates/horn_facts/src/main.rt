@@ -1,9 +1,9 @@
 // `horn_facts THEORY GOALS PROOF` writes the answer's line and then what is recorded, read off the lent tables: each fact, each fact's footing, and the
 // goals without a result that 53 lists.
-use printing::load::load_text;
 use printing::facts::say_facts;
 use printing::footings::say_footings;
 use printing::footings::say_missing;
+use printing::load::load_text;
 use printing::pen::Pen;
 use printing::recorded::recorded;
 use running::finish::Answer;
@@ -39,7 +39,22 @@ fn write_facts(
     let mut waiting = [0usize; 2 * rules::TERMS];
     let stack: &mut [usize] = &mut waiting;
     let p = Pen { at: 0, left: 0 };
-    let q = say_facts(out, 1, p, theory, goals, proof, symbols, vars, index, words, stack, facts, lists, many);
+    let q = say_facts(
+        out,
+        1,
+        p,
+        theory,
+        goals,
+        proof,
+        symbols,
+        vars,
+        index,
+        words,
+        stack,
+        facts,
+        lists,
+        many,
+    );
     let r = say_footings(out, 1, q, theory, rules, footings, many);
     let s = say_missing(out, 1, r, missing);
     printing::pen::finish(out, 1, s);
@@ -84,7 +99,21 @@ fn write_all(theory: &[u8], goals: &[u8], proof: &[u8]) {
     );
     write_line(a);
     let many = recorded(a, &vars, &defs, &rows);
-    write_facts(theory, goals, proof, &symbols, &rules, &vars, &index, &words, &lists, &missing, &facts, &footings, many);
+    write_facts(
+        theory,
+        goals,
+        proof,
+        &symbols,
+        &rules,
+        &vars,
+        &index,
+        &words,
+        &lists,
+        &missing,
+        &facts,
+        &footings,
+        many,
+    );
 }
 
 fn main() {

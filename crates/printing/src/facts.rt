@@ -12,7 +12,9 @@ use crate::terms::say_term;
 
 // What the entries of a list are: facts, terms, variables.
 const FACTS: u8 = 0;
+
 const TERMS: u8 = 1;
+
 const VARIABLES: u8 = 2;
 
 fn say_entry(
@@ -37,7 +39,20 @@ fn say_entry(
         return say_number(out, fd, p, entry);
     }
     if kind == TERMS {
-        return say_term(out, fd, p, theory, goals, proof, symbols, vars, index, words, stack, entry);
+        return say_term(
+            out,
+            fd,
+            p,
+            theory,
+            goals,
+            proof,
+            symbols,
+            vars,
+            index,
+            words,
+            stack,
+            entry,
+        );
     }
     say_variable(out, fd, p, goals, proof, vars, entry)
 }
@@ -80,7 +95,21 @@ fn say_entries(
     let mut i = from;
     while i < end {
         q = say_gap(out, fd, q, from, i);
-        q = say_entry(out, fd, q, theory, goals, proof, symbols, vars, index, words, stack, kind, cell(lists, i));
+        q = say_entry(
+            out,
+            fd,
+            q,
+            theory,
+            goals,
+            proof,
+            symbols,
+            vars,
+            index,
+            words,
+            stack,
+            kind,
+            cell(lists, i),
+        );
         i += 1;
     }
     say(out, fd, q, b")")
@@ -113,15 +142,76 @@ fn say_fact(
     let mut q = say(out, fd, p, b"(fact ");
     q = say_number(out, fd, q, k);
     q = say(out, fd, q, b" ");
-    q = say_term(out, fd, q, theory, goals, proof, symbols, vars, index, words, stack, cell_of(facts, 6, k, 0));
+    q = say_term(
+        out,
+        fd,
+        q,
+        theory,
+        goals,
+        proof,
+        symbols,
+        vars,
+        index,
+        words,
+        stack,
+        cell_of(facts, 6, k, 0),
+    );
     q = say(out, fd, q, b" ");
-    q = say_entries(out, fd, q, theory, goals, proof, symbols, vars, index, words, stack, lists, FACTS, hyps, premises);
+    q = say_entries(
+        out,
+        fd,
+        q,
+        theory,
+        goals,
+        proof,
+        symbols,
+        vars,
+        index,
+        words,
+        stack,
+        lists,
+        FACTS,
+        hyps,
+        premises,
+    );
     q = say(out, fd, q, b" ");
     q = say_number(out, fd, q, cell_of(facts, 6, k, 1));
     q = say(out, fd, q, b" ");
-    q = say_entries(out, fd, q, theory, goals, proof, symbols, vars, index, words, stack, lists, TERMS, premises, general);
+    q = say_entries(
+        out,
+        fd,
+        q,
+        theory,
+        goals,
+        proof,
+        symbols,
+        vars,
+        index,
+        words,
+        stack,
+        lists,
+        TERMS,
+        premises,
+        general,
+    );
     q = say(out, fd, q, b" ");
-    q = say_entries(out, fd, q, theory, goals, proof, symbols, vars, index, words, stack, lists, VARIABLES, general, end);
+    q = say_entries(
+        out,
+        fd,
+        q,
+        theory,
+        goals,
+        proof,
+        symbols,
+        vars,
+        index,
+        words,
+        stack,
+        lists,
+        VARIABLES,
+        general,
+        end,
+    );
     say(out, fd, q, b")\n")
 }
 
@@ -148,7 +238,22 @@ pub fn say_facts(
     let mut q = p;
     let mut k = 0;
     while k < many {
-        q = say_fact(out, fd, q, theory, goals, proof, symbols, vars, index, words, stack, facts, lists, k);
+        q = say_fact(
+            out,
+            fd,
+            q,
+            theory,
+            goals,
+            proof,
+            symbols,
+            vars,
+            index,
+            words,
+            stack,
+            facts,
+            lists,
+            k,
+        );
         k += 1;
     }
     q

@@ -22,7 +22,16 @@ fn rests_on(footings: &[u64], k: usize, r: usize) -> bool
 }
 
 // Rule r, if fact k rests on it.
-fn say_rule(out: &mut [u8], fd: i32, p: Pen, theory: &[u8], rules: &[u32], footings: &[u64], k: usize, r: usize) -> Pen
+fn say_rule(
+    out: &mut [u8],
+    fd: i32,
+    p: Pen,
+    theory: &[u8],
+    rules: &[u32],
+    footings: &[u64],
+    k: usize,
+    r: usize,
+) -> Pen
     requires { ⌜ p .at ≤ length (now out) ⌝ }
     requires { ⌜ (k < 65536) × (r < 65536) ⌝ }
     ensures { λ q. ⌜ q .at ≤ length (now (out .entry)) ⌝ }
@@ -35,7 +44,15 @@ fn say_rule(out: &mut [u8], fd: i32, p: Pen, theory: &[u8], rules: &[u32], footi
 }
 
 // The footing of fact k.
-fn say_footing(out: &mut [u8], fd: i32, p: Pen, theory: &[u8], rules: &[u32], footings: &[u64], k: usize) -> Pen
+fn say_footing(
+    out: &mut [u8],
+    fd: i32,
+    p: Pen,
+    theory: &[u8],
+    rules: &[u32],
+    footings: &[u64],
+    k: usize,
+) -> Pen
     requires { ⌜ p .at ≤ length (now out) ⌝ }
     requires { ⌜ k < 65536 ⌝ }
     ensures { λ r. ⌜ r .at ≤ length (now (out .entry)) ⌝ }
@@ -51,7 +68,15 @@ fn say_footing(out: &mut [u8], fd: i32, p: Pen, theory: &[u8], rules: &[u32], fo
 }
 
 // Those of the first facts, each on its line.
-pub fn say_footings(out: &mut [u8], fd: i32, p: Pen, theory: &[u8], rules: &[u32], footings: &[u64], many: usize) -> Pen
+pub fn say_footings(
+    out: &mut [u8],
+    fd: i32,
+    p: Pen,
+    theory: &[u8],
+    rules: &[u32],
+    footings: &[u64],
+    many: usize,
+) -> Pen
     requires { ⌜ p .at ≤ length (now out) ⌝ }
     requires { ⌜ many ≤ 65536 ⌝ }
     ensures { λ r. ⌜ r .at ≤ length (now (out .entry)) ⌝ }

@@ -32,11 +32,17 @@ fn fill(fd: i32, path: &[u8], buffer: &mut [u8]) -> Loaded
         }
         let more = io::count(got, rest);
         if more == 0 {
-            return Loaded { done: true, size: size };
+            return Loaded {
+                done: true,
+                size: size,
+            };
         }
         size += more;
     }
-    Loaded { done: true, size: size }
+    Loaded {
+        done: true,
+        size: size,
+    }
 }
 
 // The file of this name.

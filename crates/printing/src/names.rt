@@ -1,4 +1,4 @@
-// Names of symbols, rules and variables, read off the tables and the texts. A cell that is not there counts as 0, and a name that is no part of its text is `?`.
+// Names of symbols, rules and variables, off the tables and the texts. A cell that is not there counts as 0, and a name that is no part of its text is `?`.
 ghost use Prim.Native.Nat.{_≤_};
 ghost use lib.ListN.{length};
 ghost use Rattle.printing.specs.Pens.{SaidSome};
@@ -47,7 +47,16 @@ pub fn say_name(out: &mut [u8], fd: i32, p: Pen, text: &[u8], from: usize, to: u
 }
 
 // The name of a row, whose last two cells say where it stands in the text.
-pub fn say_named(out: &mut [u8], fd: i32, p: Pen, text: &[u8], table: &[u32], width: usize, row: usize, column: usize) -> Pen
+pub fn say_named(
+    out: &mut [u8],
+    fd: i32,
+    p: Pen,
+    text: &[u8],
+    table: &[u32],
+    width: usize,
+    row: usize,
+    column: usize,
+) -> Pen
     requires { ⌜ p .at ≤ length (now out) ⌝ }
     requires { ⌜ (width ≤ 64) × (column ≤ 63) ⌝ }
     ensures { λ r. ⌜ SaidSome (now (out .entry)) p r ⌝ }
@@ -58,7 +67,15 @@ pub fn say_named(out: &mut [u8], fd: i32, p: Pen, text: &[u8], table: &[u32], wi
 }
 
 // A variable: its name in the goals or in the proof, or its number if it was made.
-pub fn say_variable(out: &mut [u8], fd: i32, p: Pen, goals: &[u8], proof: &[u8], vars: &[u32], v: usize) -> Pen
+pub fn say_variable(
+    out: &mut [u8],
+    fd: i32,
+    p: Pen,
+    goals: &[u8],
+    proof: &[u8],
+    vars: &[u32],
+    v: usize,
+) -> Pen
     requires { ⌜ p .at ≤ length (now out) ⌝ }
     ensures { λ r. ⌜ SaidSome (now (out .entry)) p r ⌝ }
 {

@@ -58,7 +58,10 @@ pub fn say(out: &mut [u8], fd: i32, p: Pen, bytes: &[u8]) -> Pen
         return Pen { at: at, left: left };
     }
     let next = put_bytes(out, at, bytes);
-    Pen { at: next, left: left }
+    Pen {
+        at: next,
+        left: left,
+    }
 }
 
 // A space behind the first of several.

@@ -1,10 +1,10 @@
 // How many facts are recorded. Each form of the proof that was taken stored a fact, a variable, an abbreviation or a goal's result, and no two of them.
 ghost use Prim.Native.Nat.{_≤_};
 use crate::names::cell_of;
-use running::finish::Answer;
 use rules::DEFS;
 use rules::GOALS;
 use rules::VARIABLES;
+use running::finish::Answer;
 
 // How many rows have a value in a column.
 fn rows_with(table: &[u32], width: usize, column: usize, rows: usize, value: usize) -> usize
@@ -44,4 +44,3 @@ pub fn recorded(a: Answer, vars: &[u32], defs: &[u32], goals: &[u32]) -> usize {
         }
     }
 }
-

@@ -24,7 +24,10 @@ pub struct Trace {
 fn pen_of(w: Trace) -> Pen
     ensures { λ r. ⌜ (r .at ≡ w .at) × (r .left ≡ w .left) ⌝ }
 {
-    Pen { at: w.at, left: w.left }
+    Pen {
+        at: w.at,
+        left: w.left,
+    }
 }
 
 // A head that stands without brackets: a variable, or a constant, but no judgment.
@@ -70,23 +73,39 @@ fn open_term(
     let end = cell(index, t);
     if end <= from {
         let q = say(out, fd, p, b"?");
-        return Trace { at: q.at, left: q.left, depth: depth };
+        return Trace {
+            at: q.at,
+            left: q.left,
+            depth: depth,
+        };
     }
     let head = cell(words, from);
     if is_bare(symbols, head, end - from) {
         let q = say_head(out, fd, p, theory, goals, proof, symbols, vars, head);
-        return Trace { at: q.at, left: q.left, depth: depth };
+        return Trace {
+            at: q.at,
+            left: q.left,
+            depth: depth,
+        };
     }
     let top = 2 * depth;
     if stack.len() - top < 2 {
         let q = say(out, fd, p, b"?");
-        return Trace { at: q.at, left: q.left, depth: depth };
+        return Trace {
+            at: q.at,
+            left: q.left,
+            depth: depth,
+        };
     }
     stack[top] = from + 1;
     stack[top + 1] = end;
     let q = say(out, fd, p, b"(");
     let r = say_head(out, fd, q, theory, goals, proof, symbols, vars, head);
-    Trace { at: r.at, left: r.left, depth: depth + 1 }
+    Trace {
+        at: r.at,
+        left: r.left,
+        depth: depth + 1,
+    }
 }
 
 // The next argument of the last term that is begun, or its end.
@@ -114,12 +133,33 @@ fn turn(
     let end = stack[top + 1];
     if end <= next {
         let q = say(out, fd, p, b")");
-        return Trace { at: q.at, left: q.left, depth: depth - 1 };
+        return Trace {
+            at: q.at,
+            left: q.left,
+            depth: depth - 1,
+        };
     }
     stack[top] = next + 1;
     let q = say(out, fd, p, b" ");
-    let v = Trace { at: q.at, left: q.left, depth: depth };
-    open_term(out, fd, v, theory, goals, proof, symbols, vars, index, words, stack, cell(words, next))
+    let v = Trace {
+        at: q.at,
+        left: q.left,
+        depth: depth,
+    };
+    open_term(
+        out,
+        fd,
+        v,
+        theory,
+        goals,
+        proof,
+        symbols,
+        vars,
+        index,
+        words,
+        stack,
+        cell(words, next),
+    )
 }
 
 // The brackets of the terms that are begun.
@@ -154,14 +194,43 @@ pub fn say_term(
     requires { ⌜ p .at ≤ length (now out) ⌝ }
     ensures { λ r. ⌜ r .at ≤ length (now (out .entry)) ⌝ }
 {
-    let first = Trace { at: p.at, left: BYTES, depth: 0 };
-    let mut w = open_term(out, fd, first, theory, goals, proof, symbols, vars, index, words, stack, t);
+    let first = Trace {
+        at: p.at,
+        left: BYTES,
+        depth: 0,
+    };
+    let mut w = open_term(
+        out,
+        fd,
+        first,
+        theory,
+        goals,
+        proof,
+        symbols,
+        vars,
+        index,
+        words,
+        stack,
+        t,
+    );
     while 0 < w.depth {
         if w.left == 0 {
             let q = say(out, fd, pen_of(w), b" ...");
             return close_all(out, fd, q, w.depth);
         }
-        w = turn(out, fd, w, theory, goals, proof, symbols, vars, index, words, stack);
+        w = turn(
+            out,
+            fd,
+            w,
+            theory,
+            goals,
+            proof,
+            symbols,
+            vars,
+            index,
+            words,
+            stack,
+        );
     }
     pen_of(w)
 }

@@ -39,13 +39,27 @@ fn same_facts(
     stack: &mut [usize],
     wanted: &[u8],
     wanted_footings: &[u8],
-) -> bool
-{
+) -> bool {
     if same(wanted, b"-") {
         return true;
     }
     let p = Pen { at: 0, left: 0 };
-    let q = say_facts(out, -1, p, theory, goals, proof, symbols, vars, index, words, stack, facts, lists, many);
+    let q = say_facts(
+        out,
+        -1,
+        p,
+        theory,
+        goals,
+        proof,
+        symbols,
+        vars,
+        index,
+        words,
+        stack,
+        facts,
+        lists,
+        many,
+    );
     let end = q.at;
     if !same(&out[..end], wanted) {
         return false;
@@ -84,13 +98,45 @@ pub fn same_case(
     requires { ⌜ 256 ≤ length (now out) ⌝ }
 {
     let a = tabled::check_rows(
-        theory, goals, proof, sorts, symbols, inputs, rules, rulevars, patterns, vars, index, words, defs, rows, lists, missing, facts, footings,
+        theory,
+        goals,
+        proof,
+        sorts,
+        symbols,
+        inputs,
+        rules,
+        rulevars,
+        patterns,
+        vars,
+        index,
+        words,
+        defs,
+        rows,
+        lists,
+        missing,
+        facts,
+        footings,
     );
     if !same_line(out, a, answer) {
         return false;
     }
     let many = recorded(a, vars, defs, rows);
     same_facts(
-        theory, goals, proof, symbols, rules, vars, index, words, lists, facts, footings, many, out, stack, wanted, wanted_footings,
+        theory,
+        goals,
+        proof,
+        symbols,
+        rules,
+        vars,
+        index,
+        words,
+        lists,
+        facts,
+        footings,
+        many,
+        out,
+        stack,
+        wanted,
+        wanted_footings,
     )
 }

@@ -2,6 +2,7 @@
 // compared with what is expected. Names the cases that differ; the last line says how many were replayed. The tables are lent from case to case as they are.
 ghost use Prim.Native.Nat.{_≤_};
 ghost use lib.ListN.{length};
+
 mod compare;
 mod source;
 
@@ -12,6 +13,7 @@ use crate::source::slide;
 
 // Bytes of a window, and those that a case has at most.
 const WINDOW: usize = 1048576;
+
 const CASE: usize = 262144;
 // Cases that are read at most.
 const CASES: usize = 100000;
@@ -140,8 +142,26 @@ fn replay_all(
             return many;
         }
         at = replay_case(
-            window, at, end, sorts, symbols, inputs, rules, rulevars, patterns, vars, index, words, defs, rows, lists, missing, facts, footings,
-            out, stack,
+            window,
+            at,
+            end,
+            sorts,
+            symbols,
+            inputs,
+            rules,
+            rulevars,
+            patterns,
+            vars,
+            index,
+            words,
+            defs,
+            rows,
+            lists,
+            missing,
+            facts,
+            footings,
+            out,
+            stack,
         );
         many += 1;
     }

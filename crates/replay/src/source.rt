@@ -45,13 +45,19 @@ pub fn number_at(window: &[u8], at: usize, end: usize) -> Number
         let b = window[i];
         i += 1;
         if !is_digit(b) {
-            return Number { value: value, next: i };
+            return Number {
+                value: value,
+                next: i,
+            };
         }
         if value < 100000000 {
             value = 10 * value + (b - 48) as usize;
         }
     }
-    Number { value: value, next: i }
+    Number {
+        value: value,
+        next: i,
+    }
 }
 
 // The end of a part of so many bytes.

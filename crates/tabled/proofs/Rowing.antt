@@ -12,12 +12,12 @@ use Rattle.rules.specs.Laws.Row.{rows-snoc, length-rows}
 use Rattle.facts.specs.declared.Fact.{Fact}
 use Rattle.facts.specs.Table.{blank}
 
+at-zero : (f : Fact → List ℕ) (w : ℕ) (fs : List Fact) (cells : List ℕ) → cells ≡ rows f (take 0 fs) ++ drop (w * 0) cells
+unfolding rows
+at-zero f w fs cells = ap (λ k. drop k cells) (sym (mul-zero w))
+
 pub none-yet : (f : Fact → List ℕ) (w : ℕ) (fs : List Fact) (cells : List ℕ) (n : ℕ) → n ≡ 0 → cells ≡ rows f (take n fs) ++ drop (w * n) cells
-none-yet f w fs cells n e = at-zero ∙ ap (λ k. rows f (take k fs) ++ drop (w * k) cells) (sym e)
-  where
-    at-zero : cells ≡ rows f (take 0 fs) ++ drop (w * 0) cells
-    unfolding rows
-    at-zero = ap (λ k. drop k cells) (sym (mul-zero w))
+none-yet f w fs cells n e = at-zero f w fs cells ∙ ap (λ k. rows f (take k fs) ++ drop (w * k) cells) (sym e)
 
 module _ (f : Fact → List ℕ) (w : ℕ) (h : (x : Fact) → length (f x) ≡ w) (fs : List Fact) (i : ℕ) (cells : List ℕ) (l : i < length fs)
     (room : w * i + w ≤ length cells) where

@@ -121,14 +121,14 @@ pub stores-given : (fs : List Fact) (from to : ℕ) (rows feet : List ℕ) → l
     (6 * FACTS ≤ length rows) × (4 * FACTS ≤ length feet) → Given fs from to rows feet
 stores-given fs from to rows feet l e t r = (e, omega (arith, l, t), omega (arith, t, r .0), omega (arith, t, r .1))
 
-pub tabled : {theory goals proof : List ℕ} {T U : TheoryLists} {W V : Working} {M N : List ℕ} (f : Fact) (fs : List Fact) (rows rows′ feet feet′ : List ℕ) (to : ℕ)
-    {r : Answer} → f ≡ blank → length fs ≡ FACTS → to ≡ FACTS → Call theory goals proof (tablesOf T W M (many Fact 1024 f)) (tablesOf U V N fs) (answerOf r) →
+pub tabled : {theory goals proof : List ℕ} {T U : TheoryLists} {W Z : Working} {M N : List ℕ} (f : Fact) (fs : List Fact) (rows rows′ feet feet′ : List ℕ) (to : ℕ)
+    {r : Answer} → f ≡ blank → length fs ≡ FACTS → to ≡ FACTS → Call theory goals proof (tablesOf T W M (many Fact 1024 f)) (tablesOf U Z N fs) (answerOf r) →
     (rows′ ≡ factRows (take to fs) ++ drop (6 * to) rows) × (feet′ ≡ factFeet (take to fs) ++ drop (4 * to) feet) →
-    Tabled theory goals proof T U W V M N rows rows′ feet feet′ r
-tabled {theory} {goals} {proof} {T} {U} {W} {V} {M} {N} f fs rows rows′ feet feet′ to {r} b l t c e =
+    Tabled theory goals proof T U W Z M N rows rows′ feet feet′ r
+tabled {theory} {goals} {proof} {T} {U} {W} {Z} {M} {N} f fs rows rows′ feet feet′ to {r} b l t c e =
     record {
       records = fs;
-      called = subst (λ (ys : List Fact). Call theory goals proof (tablesOf T W M ys) (tablesOf U V N fs) (answerOf r)) (made-is f b) c;
+      called = subst (λ (ys : List Fact). Call theory goals proof (tablesOf T W M ys) (tablesOf U Z N fs) (answerOf r)) (made-is f b) c;
       rows = e .0 ∙ (λ j. factRows (all j) ++ drop (6 * t j) rows);
       words = e .1 ∙ (λ j. factFeet (all j) ++ drop (4 * t j) feet);
     }

@@ -13,9 +13,10 @@ use Rattle.running.specs.Finished.{answerOf}
 use Rattle.running.specs.ReadBack.{Call}
 use Rattle.running.specs.Checking.{tablesOf}
 
--- T, W, missing, facts, feet before; U, V and those with a dash afterwards. The check had blank records, and left these
-pub record Tabled (theory goals proof : List ℕ) (T U : TheoryLists) (W V : Working) (missing missing′ facts facts′ feet feet′ : List ℕ) (r : Answer) : Type 0 where
+-- T, W, missing, facts, feet before; U, Z and those with a dash afterwards. The check had blank records, and left these
+pub record Tabled (theory goals proof : List ℕ) (T U : TheoryLists) (W Z : Working) (missing missing′ facts facts′ feet feet′ : List ℕ) (r : Answer) :
+    Type 0 where
   pub records : List Fact
-  pub called : Call theory goals proof (tablesOf T W missing (replicate FACTS blank)) (tablesOf U V missing′ records) (answerOf r)
+  pub called : Call theory goals proof (tablesOf T W missing (replicate FACTS blank)) (tablesOf U Z missing′ records) (answerOf r)
   pub rows : facts′ ≡ factRows records ++ drop (6 * FACTS) facts
   pub words : feet′ ≡ factFeet records ++ drop (4 * FACTS) feet
