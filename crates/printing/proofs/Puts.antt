@@ -35,7 +35,7 @@ pub digits-few : (n k : ℕ) → n < 2 ^ 64 → Fewest 10 1 n k → k ≤ 20
 digits-few n k h few = let no : ¬ (20 < k) = too-many in omega (arith, no)
   where
     power : 20 < k → 10 ^ 20 ≤ 10 ^ (k - 1)
-    power l = pow-le-pow-right {n = 10} (lit< tt) (omega (arith, l))
+    power l = pow-le-pow-right {n = 10} (lit< tt) {i = 20} {j = k - 1} (omega (arith, l))
 
     too-many : 20 < k → ⊥
     too-many l = let p = power l in let q = few .2 (omega (arith, l)) in omega (arith, h, p, q)
