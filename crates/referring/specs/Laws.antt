@@ -1,4 +1,5 @@
--- Laws for whoever calls the functions of this crate: what stays readable, question 39, free variables, growing stores.
+-- Laws for whoever calls the functions of this crate: what stays readable, question 39, free variables, growing stores, scratch.
+pub mod Fronts
 pub mod Refers
 pub mod ScopeFacts
 pub mod ScopeFree
