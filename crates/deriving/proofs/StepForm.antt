@@ -5,6 +5,7 @@ use mathlib.Core.List.{List}
 use Prim.Native.Nat.{ℕ, _+_, _-_, _<_, _≤_}
 use native.Mathlib.Omega.{arith}
 use lib.ListN.{length, take, drop}
+use Rattle.rules.specs.Limits.{PATTERNS}
 use Rattle.rules.specs.Lex.{letters}
 use Rattle.rules.specs.Out.{Out, then, found}
 use Rattle.rules.specs.Sexp.{Sexp, Sexps, Name, item, name}
@@ -34,8 +35,9 @@ use Rattle.state.specs.Held.{Names, ruleLists}
 use Rattle.referring.specs.declared.derived.Derived.{Derived}
 use Rattle.referring.specs.declared.derived.Derived.the-variants as derived
 use Rattle.referring.specs.Derived.{RuleForm, DerivedAs, withInstances}
-use Rattle.deriving.specs.Stepping.{byRule}
+use Rattle.deriving.specs.Stepping.{PremisesOf, byRule}
 use Rattle.deriving.proofs.StepIs.{step-is}
+use Rattle.deriving.proofs.StepRule.{by-most}
 
 -- a rule that is found is one of them
 rule-inside : (T : Theory) (bs : List ℕ) (r : ℕ) → ruleNamed T bs ≡ some r → r < length (T .rules)
@@ -98,6 +100,9 @@ module _ {K : Names} {rules rulevars patterns facts footings lists : List ℕ} {
 
             pub step-known : i < n .rules
             step-known = omega (arith, rule-inside (g .S .theory) (letters (drop p (K .text))) i is-found, g .ruled .held .many)
+
+            pub step-most : {k : ℕ} → PremisesOf rules i k → k ≤ PATTERNS
+            step-most p = by-most g step-known p
 
             on-third : On I W m whole I W m (byRule (g .S) i (g .xs) (made I W m))
             on-third = on-found-some third 33 on-second is-found

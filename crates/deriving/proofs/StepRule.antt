@@ -15,7 +15,7 @@ use Rattle.rules.specs.Find.{Set, has, union, rising}
 use Rattle.rules.specs.Sexp.{Sexp, Sexps, count, item, rest, items}
 use Rattle.rules.specs.Tree.{Tree, none, countTrees}
 use Rattle.rules.specs.Store.{Made}
-use Rattle.rules.specs.Theory.{Theory, rule}
+use Rattle.rules.specs.Theory.{rule}
 use Rattle.rules.specs.TheoryTables.{patternRow, prefix, prefixes}
 use Rattle.rules.specs.State.{Fact}
 use Rattle.rules.specs.Step.{Refs, references}
@@ -28,7 +28,6 @@ use Rattle.sexp.specs.WalkLaws.{ListIs}
 use Rattle.sexp.specs.NthItem.{nth-text, nth-part}
 use Rattle.sexp.specs.declared.items.Item.{Item}
 use Rattle.sexp.specs.declared.items.Item.the-variants.{Atom, List as Part}
-use Rattle.kernel.specs.HeldRules.{RulesHeld}
 use Rattle.kernel.specs.Readers.{KnownRule}
 use Rattle.kernel.specs.RuleRows.{words-inside, rules-few}
 use Rattle.terms.specs.declared.store.Mark.{Mark}
@@ -45,7 +44,7 @@ use Rattle.referring.specs.declared.derived.Derived.{Derived}
 use Rattle.referring.specs.declared.derived.Derived.the-variants as derived
 use Rattle.referring.specs.Recall.{Refers}
 use Rattle.referring.specs.Derived.{RuleForm, FactForm, FewItems, RefsRead, RefsAs, DerivedAs, derivedFact, withInstances}
-use Rattle.deriving.specs.Stepping.{Scopes, ScopedAs, inScope, byRule}
+use Rattle.deriving.specs.Stepping.{Scopes, ScopedAs, PremisesOf, inScope, byRule}
 use Rattle.referring.specs.Laws.Refers.{refers-went}
 
 -- one member more, in front
@@ -58,6 +57,10 @@ plus-is r a = λ i v. go (a v) (eqb v r) i
     go true false = refl
     go false true = refl
     go false false = refl
+
+-- cells for the premises, as many as there are
+pub premises-cells : {rules : List ℕ} {r k : ℕ} → PremisesOf rules r k → {room : ℕ} → k ≡ room → PremisesOf rules r room
+premises-cells p e T text vars patterns count words h l = sym e ∙ p T text vars patterns count words h l
 
 module _ {K : Names} {rules rulevars patterns facts footings lists : List ℕ} {n : Sizes} {I W : List ℕ} {m : Mark} {cells : List ℕ}
     (g : RuleForm K (ruleLists (K .theory) rules rulevars patterns) facts footings lists n I W m cells 4) {r : ℕ} (known : r < n .rules) where
@@ -122,6 +125,12 @@ module _ {K : Names} {rules rulevars patterns facts footings lists : List ℕ} {
         g .ruled .held .room,
       )
 
+  by-premises : {k : ℕ} → PremisesOf rules r k → k ≡ countTrees (rule (g .S .theory) r .premises)
+  by-premises p = p (g .S .theory) (K .theory) rulevars patterns (n .rules) (g .ruled .words) (g .ruled .held) known
+
+  pub by-most : {k : ℕ} → PremisesOf rules r k → k ≤ PATTERNS
+  by-most {k} p = omega (arith, by-premises {k = k} p, by-few)
+
   -- The references -----------------------------------------------------------------------------------------------------------------------
 
   module _ {thing : Item} (a : (ys : Sexps) → cells ≡ encodes ys → thing ≡ itemOf (place ys 3) (item ys 3)) where
@@ -137,14 +146,12 @@ module _ {K : Names} {rules rulevars patterns facts footings lists : List ℕ} {
       unfolding items
       on-second = on-pure second on-first (ap (λ (x : Sexp). items 37 x (made I W m)) (by-part .is))
 
-      module _ {k v : ℕ} (c : (ys : Sexps) → take (end - start) (drop start cells) ≡ encodes ys → k ≡ count ys)
-          (p : (T : Theory) (text vars patterns : List ℕ) (count words : ℕ) → RulesHeld text rules vars patterns count words (T .rules) → r < count →
-          v ≡ countTrees (rule T r .premises)) where
+      module _ {k v : ℕ} (c : (ys : Sexps) → take (end - start) (drop start cells) ≡ encodes ys → k ≡ count ys) (p : PremisesOf rules r v) where
         counted : k ≡ count (by-part .items)
         counted = c (by-part .items) (by-part .holds .cells)
 
         pub wanted : v ≡ countTrees (rule (g .S .theory) r .premises)
-        wanted = p (g .S .theory) (K .theory) rulevars patterns (n .rules) (g .ruled .words) (g .ruled .held) known
+        wanted = by-premises p
 
         pub by-count : (k ≡ v → ⊥) → Stopped I W I W m whole 37 0 m
         by-count q = on-ask-no _ 37 on-second (ne-eqb _ _ (λ z. q (counted ∙ z ∙ sym wanted)))
@@ -156,11 +163,12 @@ module _ {K : Names} {rules rulevars patterns facts footings lists : List ℕ} {
           abbrev pub by-given : FactForm K facts footings lists n I W m (take (end - start) (drop start cells)) 0
           by-given = record { S = g .S; xs = by-part .items; refers = g .refers; holds = by-part .holds; many = omega arith }
 
-          pub by-room : {most : ℕ} → most ≡ PATTERNS → k ≤ most
-          by-room h = omega (arith, e, wanted, by-few, h)
+          -- a cell for each premise is one for each reference
+          pub by-room : {most : ℕ} → PremisesOf rules r most → {room : ℕ} → room ≡ most → k ≤ room
+          by-room {most} w h = omega (arith, e, wanted, by-premises {k = most} w, h)
 
-          pub by-few-items : {most : ℕ} → most ≡ PATTERNS → FewItems (take (end - start) (drop start cells)) most
-          by-few-items h ys q = omega (arith, c ys q, by-room h)
+          pub by-few-items : {most : ℕ} → PremisesOf rules r most → FewItems (take (end - start) (drop start cells)) most
+          by-few-items {most} w ys q = omega (arith, c ys q, e, wanted, by-premises {k = most} w)
 
           module _ (J X ids hyps footing : List ℕ) (o : Answer)
               (q : (h : FactForm K facts footings lists n I W m (take (end - start) (drop start cells)) 0) →

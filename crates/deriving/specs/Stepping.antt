@@ -12,12 +12,13 @@ use Rattle.rules.specs.Find.{Set, has, union, rising}
 use Rattle.rules.specs.Sexp.{Sexps, count, item, rest, items}
 use Rattle.rules.specs.Tree.{Tree, Trees, none, variablesOf, countTrees}
 use Rattle.rules.specs.Store.{Made}
-use Rattle.rules.specs.Theory.{Rule, rule}
+use Rattle.rules.specs.Theory.{Theory, Rule, rule}
 use Rattle.rules.specs.Match.{Bound, matchAll}
 use Rattle.rules.specs.State.{State, Fact}
 use Rattle.rules.specs.Reference.{scoped}
 use Rattle.rules.specs.Step.{references, noItems, readItems, matchStated, conclude}
 use Rattle.sexp.specs.Items.{Holds}
+use Rattle.kernel.specs.HeldRules.{RulesHeld}
 use Rattle.terms.specs.declared.store.Mark.{Mark}
 use Rattle.terms.specs.Table.{tree, Good}
 use Rattle.terms.specs.Sets.{holds}
@@ -111,6 +112,12 @@ pub record Scopes (K : Names) (P : RuleLists) (facts lists : List ℕ) (n : Size
   pub there : (k : ℕ) → k < length ids → getD ids k 0 < m .terms
   pub earlier : Under (length (S .facts)) (holds hyps)
   pub long : length hyps ≡ FACTWORDS
+
+-- rule r has k premises, in whatever theory the rows of rules hold
+abbrev pub PremisesOf : List ℕ → ℕ → ℕ → Type 0
+PremisesOf rules r k =
+    (T : Theory) (text vars patterns : List ℕ) (count words : ℕ) → RulesHeld text rules vars patterns count words (T .rules) → r < count →
+    k ≡ countTrees (rule T r .premises)
 
 -- Answers ----------------------------------------------------------------------------------------------------------------------------
 

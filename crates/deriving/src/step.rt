@@ -17,8 +17,9 @@ ghost use Rattle.state.specs.Held.{names, ruleLists};
 ghost use Rattle.reading.specs.Answers.{ReadAs};
 ghost use Rattle.referring.specs.Referral.{instancesOf, Gathered};
 ghost use Rattle.referring.specs.Derived.{FactForm, RuleForm, ReadableCells, FewItems, Blank, RefsAs, DerivedAs, cellVars, withInstances};
-ghost use Rattle.deriving.specs.Stepping.{Concludable, Concludes, Scopes, UsedAs, ScopedAs, concluded, fromItems, inScope, byRule};
+ghost use Rattle.deriving.specs.Stepping.{Concludable, Concludes, Scopes, PremisesOf, UsedAs, ScopedAs, concluded, fromItems, inScope, byRule};
 use crate::items::read_items;
+use cells::clear;
 use kernel::rule_readers::conclusion;
 use kernel::rule_readers::premises;
 use kernel::rule_readers::rule_named;
@@ -59,7 +60,7 @@ fn instances(bare: bool) -> usize
 
 // All references: their judgments' numbers come into the first cells of `ids`, what they bring into the sets. What is answered is how many of them are
 // instances. `map` and `memo` are scratch: zero before and after.
-pub fn references(
+fn references(
     theory: &[u8],
     goals: &[u8],
     text: &[u8],
@@ -241,8 +242,8 @@ fn matched(
     }
 }
 
-// The form, whose items the cells hold. `map` and `memo` are scratch: zero before and after; so is `ids`, of whatever content. The sets are empty before;
-// afterwards they are the fact's, where one is answered.
+// The form, whose items the cells hold. `map`, `memo` and `ids` are scratch: zero before and after; of `ids` as many cells are used, and cleared, as the rule
+// has premises. The sets are empty before; afterwards they are the fact's, where one is answered.
 pub fn step(
     theory: &[u8],
     goals: &[u8],
@@ -269,10 +270,10 @@ pub fn step(
     footing: &mut [u64],
 ) -> Derived
     requires { ⌜ RuleForm (names (now theory) (now goals) (now text) (now symbols) (now inputs) (now vars) (now defs)) (ruleLists (now theory) (now rules) (now rulevars) (now patterns)) (now facts) (now footings) (now lists) n (now index) (now words) mark (now cells) 4 ⌝ }
-    requires { ⌜ Blank (now map) (now memo) (now hyps) (now footing) × (length (now ids) ≡ PATTERNS) ⌝ }
+    requires { ⌜ Blank (now map) (now memo) (now hyps) (now footing) × (now ids ≡ replicate PATTERNS 0) ⌝ }
     ensures { λ r. ⌜ ((g : RuleForm (names (now (theory .entry)) (now (goals .entry)) (now (text .entry)) (now (symbols .entry)) (now (inputs .entry)) (now (vars .entry)) (now (defs .entry))) (ruleLists (now (theory .entry)) (now (rules .entry)) (now (rulevars .entry)) (now (patterns .entry))) (now (facts .entry)) (now (footings .entry)) (now (lists .entry)) n (now (index .entry)) (now (words .entry)) mark (now (cells .entry)) 4) →
         DerivedAs (Fact × ℕ) (now (index .entry)) (now (words .entry)) (now (index .exit)) (now (words .exit)) mark (g .S) (step (g .S) (g .xs) (made (now (index .entry)) (now (words .entry)) mark)) withInstances (now (hyps .exit)) (now (footing .exit)) r) ⌝ }
-    ensures { λ _. ⌜ (now (map .exit) ≡ now (map .entry)) × (now (memo .exit) ≡ now (memo .entry)) ⌝ }
+    ensures { λ _. ⌜ (now (map .exit) ≡ now (map .entry)) × (now (memo .exit) ≡ now (memo .entry)) × (now (ids .exit) ≡ now (ids .entry)) ⌝ }
 {
     let Item::Atom(start) = items::nth(cells, 2) else {
         return Derived::No(33, 0, mark);
@@ -281,7 +282,8 @@ pub fn step(
     let Found::At(r) = rule_named(theory, rules, n.rules, &text[start..end]) else {
         return Derived::No(33, 0, mark);
     };
-    step_by(
+    let few = premises(rules, r);
+    let answer = step_by(
         theory,
         goals,
         text,
@@ -303,13 +305,15 @@ pub fn step(
         cells,
         map,
         memo,
-        ids,
+        &mut ids[..few],
         hyps,
         footing,
-    )
+    );
+    clear(&mut ids[..few]);
+    answer
 }
 
-// The rest of the form behind the name of its rule, r.
+// The rest of the form behind the name of its rule, r. `ids` has a cell for each premise of the rule, of whatever content before and after.
 fn step_by(
     theory: &[u8],
     goals: &[u8],
@@ -337,7 +341,7 @@ fn step_by(
     footing: &mut [u64],
 ) -> Derived
     requires { ⌜ RuleForm (names (now theory) (now goals) (now text) (now symbols) (now inputs) (now vars) (now defs)) (ruleLists (now theory) (now rules) (now rulevars) (now patterns)) (now facts) (now footings) (now lists) n (now index) (now words) mark (now cells) 4 ⌝ }
-    requires { ⌜ (r < n .rules) × Blank (now map) (now memo) (now hyps) (now footing) × (length (now ids) ≡ PATTERNS) ⌝ }
+    requires { ⌜ (r < n .rules) × Blank (now map) (now memo) (now hyps) (now footing) × PremisesOf (now rules) r (length (now ids)) ⌝ }
     ensures { λ a. ⌜ ((g : RuleForm (names (now (theory .entry)) (now (goals .entry)) (now (text .entry)) (now (symbols .entry)) (now (inputs .entry)) (now (vars .entry)) (now (defs .entry))) (ruleLists (now (theory .entry)) (now (rules .entry)) (now (rulevars .entry)) (now (patterns .entry))) (now (facts .entry)) (now (footings .entry)) (now (lists .entry)) n (now (index .entry)) (now (words .entry)) mark (now (cells .entry)) 4) →
         DerivedAs (Fact × ℕ) (now (index .entry)) (now (words .entry)) (now (index .exit)) (now (words .exit)) mark (g .S) (byRule (g .S) r (g .xs) (made (now (index .entry)) (now (words .entry)) mark)) withInstances (now (hyps .exit)) (now (footing .exit)) a) ⌝ }
     ensures { λ _. ⌜ (now (map .exit) ≡ now (map .entry)) × (now (memo .exit) ≡ now (memo .entry)) ⌝ }

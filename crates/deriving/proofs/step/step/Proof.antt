@@ -1,7 +1,11 @@
 -- `deriving::step::step` meets its contract. Assumes nothing.
-use Rattle.deriving.proofs.StepForm.{step-reaches, step-named, step-list, step-start, step-high, step-unnamed, step-known, step-answer}
+use Rattle.deriving.proofs.StepForm.{step-reaches, step-named, step-list, step-start, step-high, step-unnamed, step-known, step-most, step-answer}
 use native.Mathlib.Omega.{arith}
-use mathlib.Core.Path.{refl}
+use mathlib.Core.Path.{refl, ap}
+use lib.ListN.{length}
+use Rattle.rules.specs.Limits.{PATTERNS}
+use Rattle.referring.specs.Laws.Fronts.{front-room, front-count, back-room, back-count, front-cleared}
+use Rattle.deriving.proofs.StepRule.{by-there, premises-cells}
 use borrow.Author.Needs.{needs}
 use Rattle.deriving.proofs.step.step.Statement.{statement}
 use Rattle.deriving.proofs.step.step.Tie as tie
@@ -24,7 +28,7 @@ enum-told c =
 -- src/step.rt:321:9
 returns : tie.Need-returns
 returns c =
-    (λ g. step-list g ((c .before .before .nth) .ensures) ((c .enum-told) .given .1), (refl, refl))
+    (λ g. step-list g ((c .before .before .nth) .ensures) ((c .enum-told) .given .1), (refl, refl, refl))
 
 -- src/step.rt:323:9
 atom-end-requires : tie.Need-atom-end-requires
@@ -56,7 +60,8 @@ part-rule-named-end c =
 -- src/step.rt:324:24
 rule-named-requires : tie.Need-rule-named-requires
 rule-named-requires c κs =
-    step-named ((c .before .before .before .before .before .before .before .before .before .before .before .before .before .before .before .before .before .before .before .before .before .before .before .before .before .before .before .pre) .0)
+    let mid = c .before .before .before .before .before .before .before .before .before .before .before .before .before .before .before .before .before .before .before .before .before .before .before .before .before in
+    step-named ((mid .before .before .pre) .0)
 
 -- src/step.rt:324:19
 enum-known-r : tie.Need-enum-known-r
@@ -76,79 +81,175 @@ returns-2 c =
     let atom-end = c .before .before .before .before .atom-end in
     let rule-named = c .before .before .rule-named in (
       λ g. step-unnamed g (nth .ensures) (start .given .1) (atom-end .ensures) (rule-named .ensures) ((c .enum-told2) .given .1),
-      (refl, refl),
+      (refl, refl, refl),
     )
 
--- src/step.rt:327:5
+-- src/step.rt
+premises-requires : tie.Need-premises-requires
+premises-requires c κs =
+    let mid = c .before .before .before .before .before .before .before .before .before .before .before .before .before .before .before .before .before .before .before .before .before .before .before .before .before in
+    let pre = mid .before .before .before .before .before .before .pre in
+    let nth = c .before .before .before .before .before .before .before .before .before .nth in
+    let start = c .before .before .before .before .before .before .before .start in
+    let atom-end = c .before .before .before .before .before .atom-end in
+    let rule-named = c .before .before .before .rule-named in
+    let r = c .before .r in
+    by-there (pre .0) (step-known (pre .0) (nth .ensures) (start .given .1) (atom-end .ensures) (rule-named .ensures) (r .given .1))
+
+-- src/step.rt
+slice-relend-prefix-step-by : tie.Need-slice-relend-prefix-step-by
+slice-relend-prefix-step-by c =
+    let mid = c .before .before .before .before .before .before .before .before .before .before .before .before .before .before .before .before .before .before .before .before .before .before .before .before .before in
+    let pre = mid .before .before .before .before .before .before .before .before .before .before .before .pre in
+    let nth = c .before .before .before .before .before .before .before .before .before .before .before .before .before .before .nth in
+    let start = c .before .before .before .before .before .before .before .before .before .before .before .before .start in
+    let atom-end = c .before .before .before .before .before .before .before .before .before .before .atom-end in
+    let rule-named = c .before .before .before .before .before .before .before .before .rule-named in
+    let r = c .before .before .before .before .before .before .r in
+    let premises = c .before .before .before .before .premises in
+    front-room PATTERNS (pre .1 .1) (premises .result) (step-most (pre .0) (nth .ensures) (start .given .1) (atom-end .ensures) (rule-named .ensures) (r .given .1) (premises .ensures))
+
+-- src/step.rt
+slice-aggregate-step-by : tie.Need-slice-aggregate-step-by
+slice-aggregate-step-by c =
+    let mid = c .before .before .before .before .before .before .before .before .before .before .before .before .before .before .before .before .before .before .before .before .before .before .before .before .before in
+    let pre = mid .before .before .before .before .before .before .before .before .before .before .before .before .pre in
+    let nth = c .before .before .before .before .before .before .before .before .before .before .before .before .before .before .before .nth in
+    let start = c .before .before .before .before .before .before .before .before .before .before .before .before .before .start in
+    let atom-end = c .before .before .before .before .before .before .before .before .before .before .before .atom-end in
+    let rule-named = c .before .before .before .before .before .before .before .before .before .rule-named in
+    let r = c .before .before .before .before .before .before .before .r in
+    let premises = c .before .before .before .before .before .premises in
+    front-count PATTERNS (pre .1 .1) (premises .result) (step-most (pre .0) (nth .ensures) (start .given .1) (atom-end .ensures) (rule-named .ensures) (r .given .1) (premises .ensures))
+
+-- src/step.rt
 step-by-requires : tie.Need-step-by-requires
 step-by-requires c κs =
     let mid = c .before .before .before .before .before .before .before .before .before .before .before .before .before .before .before .before .before .before .before .before .before .before .before .before .before in
-    let pre = mid .before .before .before .before .before .before .before .before .before .before .before .before .before .pre in
-    let nth = c .before .before .before .before .before .before .before .before .before .before .before .before .before .before .before .before .nth in
-    let start = c .before .before .before .before .before .before .before .before .before .before .before .before .before .before .start in
-    let atom-end = c .before .before .before .before .before .before .before .before .before .before .before .before .atom-end in
-    let rule-named = c .before .before .before .before .before .before .before .before .before .before .rule-named in
-    let r = c .before .before .before .before .before .before .before .before .r in (
+    let pre = mid .before .before .before .before .before .before .before .before .before .before .before .before .before .before .pre in
+    let nth = c .before .before .before .before .before .before .before .before .before .before .before .before .before .before .before .before .before .nth in
+    let start = c .before .before .before .before .before .before .before .before .before .before .before .before .before .before .before .start in
+    let atom-end = c .before .before .before .before .before .before .before .before .before .before .before .before .before .atom-end in
+    let rule-named = c .before .before .before .before .before .before .before .before .before .before .before .rule-named in
+    let r = c .before .before .before .before .before .before .before .before .before .r in
+    let premises = c .before .before .before .before .before .before .before .premises in (
       pre .0,
       (
         step-known (pre .0) (nth .ensures) (start .given .1) (atom-end .ensures) (rule-named .ensures) (r .given .1),
         pre .1 .0,
-        pre
-            .1 .1,
+        premises-cells (premises .ensures)
+            (front-count PATTERNS (pre .1 .1) (premises .result) (step-most (pre .0) (nth .ensures) (start .given .1) (atom-end .ensures) (rule-named .ensures) (r .given .1) (premises .ensures))),
       ),
     )
+
+-- src/step.rt
+slice-relend-prefix-clear : tie.Need-slice-relend-prefix-clear
+slice-relend-prefix-clear c =
+    let mid = c .before .before .before .before .before .before .before .before .before .before .before .before .before .before .before .before .before .before .before .before .before .before .before .before .before in
+    let far = mid .before .before .before .before .before .before .before .before .before .before .before .before .before .before .before .before .before .before .before .before .before .before .before .before .before in
+    let pre = far .before .before .before .before .pre in
+    let nth = mid .before .before .before .before .before .before .before .nth in
+    let start = mid .before .before .before .before .before .start in
+    let atom-end = mid .before .before .before .atom-end in
+    let rule-named = mid .before .rule-named in
+    let r = c .before .before .before .before .before .before .before .before .before .before .before .before .before .before .before .before .before .before .before .before .before .before .before .before .r in
+    let premises = c .before .before .before .before .before .before .before .before .before .before .before .before .before .before .before .before .before .before .before .before .before .before .premises in
+    let step-by = c .before .before .before .before .before .before .before .before .before .before .before .before .before .before .step-by in
+    back-room PATTERNS (pre .1 .1) (premises .result) (step-most (pre .0) (nth .ensures) (start .given .1) (atom-end .ensures) (rule-named .ensures) (r .given .1) (premises .ensures))
+    (step-by .last .1 .1 .1 .1 .1 .1 .1 .1 .1 .1 .1 .1 .1 .1 .1 .1 .1 .1 .1 .1 .1 .0) (step-by .kept .1 .1 .1 .1 .1 .1 .1 .1 .1 .1 .1 .1 .1 .1 .1 .1 .1 .1 .1 .1 .1 .0)
+
+-- src/step.rt
+slice-aggregate-clear : tie.Need-slice-aggregate-clear
+slice-aggregate-clear c =
+    let mid = c .before .before .before .before .before .before .before .before .before .before .before .before .before .before .before .before .before .before .before .before .before .before .before .before .before in
+    let far = mid .before .before .before .before .before .before .before .before .before .before .before .before .before .before .before .before .before .before .before .before .before .before .before .before .before in
+    let pre = far .before .before .before .before .before .pre in
+    let nth = mid .before .before .before .before .before .before .before .before .nth in
+    let start = mid .before .before .before .before .before .before .start in
+    let atom-end = mid .before .before .before .before .atom-end in
+    let rule-named = mid .before .before .rule-named in
+    let r = c .before .before .before .before .before .before .before .before .before .before .before .before .before .before .before .before .before .before .before .before .before .before .before .before .before .r in
+    let premises = c .before .before .before .before .before .before .before .before .before .before .before .before .before .before .before .before .before .before .before .before .before .before .before .premises in
+    let step-by = c .before .before .before .before .before .before .before .before .before .before .before .before .before .before .before .step-by in
+    back-count PATTERNS (pre .1 .1) (premises .result) (step-most (pre .0) (nth .ensures) (start .given .1) (atom-end .ensures) (rule-named .ensures) (r .given .1) (premises .ensures))
+    (step-by .last .1 .1 .1 .1 .1 .1 .1 .1 .1 .1 .1 .1 .1 .1 .1 .1 .1 .1 .1 .1 .1 .0) (step-by .kept .1 .1 .1 .1 .1 .1 .1 .1 .1 .1 .1 .1 .1 .1 .1 .1 .1 .1 .1 .1 .1 .0)
+
+-- src/step.rt
+clear-requires : tie.Need-clear-requires
+clear-requires c κs =
+    search needs
 
 -- src/step.rt:289:1
 same-length : tie.Need-same-length
 same-length c =
-    (c .before .before .before .before .before .before .before .before .before .before .before .before .before .before .step-by) .kept .1 .1 .1 .1 .1 .1 .1 .1 .1 .1 .1 .1 .1 .1 .0
+    (c .before .before .before .before .before .before .before .before .before .before .before .before .before .before .before .before .before .before .step-by) .kept .1 .1 .1 .1 .1 .1 .1 .1 .1 .1 .1 .1 .1 .1 .0
 
 -- src/step.rt:289:1
 same-length-2 : tie.Need-same-length-2
 same-length-2 c =
-    (c .before .before .before .before .before .before .before .before .before .before .before .before .before .before .step-by) .kept .1 .1 .1 .1 .1 .1 .1 .1 .1 .1 .1 .1 .1 .1 .1 .0
+    (c .before .before .before .before .before .before .before .before .before .before .before .before .before .before .before .before .before .before .step-by) .kept .1 .1 .1 .1 .1 .1 .1 .1 .1 .1 .1 .1 .1 .1 .1 .0
 
 -- src/step.rt:289:1
 same-length-3 : tie.Need-same-length-3
 same-length-3 c =
-    (c .before .before .before .before .before .before .before .before .before .before .before .before .before .before .step-by) .kept .1 .1 .1 .1 .1 .1 .1 .1 .1 .1 .1 .1 .1 .1 .1 .1 .1 .1 .1 .0
+    (c .before .before .before .before .before .before .before .before .before .before .before .before .before .before .before .before .before .before .step-by) .kept .1 .1 .1 .1 .1 .1 .1 .1 .1 .1 .1 .1 .1 .1 .1 .1 .1 .1 .1 .0
 
 -- src/step.rt:289:1
 same-length-4 : tie.Need-same-length-4
 same-length-4 c =
-    (c .before .before .before .before .before .before .before .before .before .before .before .before .before .before .step-by) .kept .1 .1 .1 .1 .1 .1 .1 .1 .1 .1 .1 .1 .1 .1 .1 .1 .1 .1 .1 .1 .0
+    (c .before .before .before .before .before .before .before .before .before .before .before .before .before .before .before .before .before .before .step-by) .kept .1 .1 .1 .1 .1 .1 .1 .1 .1 .1 .1 .1 .1 .1 .1 .1 .1 .1 .1 .1 .0
 
 -- src/step.rt:289:1
 same-length-5 : tie.Need-same-length-5
 same-length-5 c =
-    (c .before .before .before .before .before .before .before .before .before .before .before .before .before .before .step-by) .kept .1 .1 .1 .1 .1 .1 .1 .1 .1 .1 .1 .1 .1 .1 .1 .1 .1 .1 .1 .1 .1 .0
+    let mid = c .before .before .before .before .before .before .before .before .before .before .before .before .before .before .before .before .before .before .before .before .before .before .before .before .before in
+    let far = mid .before .before .before .before .before .before .before .before .before .before .before .before .before .before .before .before .before .before .before .before .before .before .before .before .before in
+    let pre = far .before .before .before .before .before .before .before .before .pre in
+    let nth = mid .before .before .before .before .before .before .before .before .before .before .before .nth in
+    let start = mid .before .before .before .before .before .before .before .before .before .start in
+    let atom-end = mid .before .before .before .before .before .before .before .atom-end in
+    let rule-named = mid .before .before .before .before .before .rule-named in
+    let r = mid .before .before .before .r in
+    let premises = mid .before .premises in
+    let step-by = c .before .before .before .before .before .before .before .before .before .before .before .before .before .before .before .before .before .before .step-by in
+    ap length (front-cleared PATTERNS (pre .1 .1) (premises .result) (step-most (pre .0) (nth .ensures) (start .given .1) (atom-end .ensures) (rule-named .ensures) (r .given .1) (premises .ensures))
+    (step-by .last .1 .1 .1 .1 .1 .1 .1 .1 .1 .1 .1 .1 .1 .1 .1 .1 .1 .1 .1 .1 .1 .0) (step-by .kept .1 .1 .1 .1 .1 .1 .1 .1 .1 .1 .1 .1 .1 .1 .1 .1 .1 .1 .1 .1 .1 .0) ((c .before .before .clear) .last .0) ((c .before .before .clear) .ensures))
 
 -- src/step.rt:289:1
 same-length-6 : tie.Need-same-length-6
 same-length-6 c =
-    (c .before .before .before .before .before .before .before .before .before .before .before .before .before .before .step-by) .kept .1 .1 .1 .1 .1 .1 .1 .1 .1 .1 .1 .1 .1 .1 .1 .1 .1 .1 .1 .1 .1 .1 .0
+    (c .before .before .before .before .before .before .before .before .before .before .before .before .before .before .before .before .before .before .step-by) .kept .1 .1 .1 .1 .1 .1 .1 .1 .1 .1 .1 .1 .1 .1 .1 .1 .1 .1 .1 .1 .1 .1 .0
 
 -- src/step.rt:289:1
 same-length-7 : tie.Need-same-length-7
 same-length-7 c =
-    (c .before .before .before .before .before .before .before .before .before .before .before .before .before .before .step-by) .kept .1 .1 .1 .1 .1 .1 .1 .1 .1 .1 .1 .1 .1 .1 .1 .1 .1 .1 .1 .1 .1 .1 .1 .0
+    (c .before .before .before .before .before .before .before .before .before .before .before .before .before .before .before .before .before .before .step-by) .kept .1 .1 .1 .1 .1 .1 .1 .1 .1 .1 .1 .1 .1 .1 .1 .1 .1 .1 .1 .1 .1 .1 .1 .0
 
 -- src/step.rt:289:1
 returns-3 : tie.Need-returns-3
 returns-3 c =
     let mid = c .before .before .before .before .before .before .before .before .before .before .before .before .before .before .before .before .before .before .before .before .before .before .before .before .before in
-    let nth = mid .before .before .before .before .before .before .nth in
-    let start = mid .before .before .before .before .start in
-    let atom-end = mid .before .before .atom-end in
-    let rule-named = c .before .before .before .before .before .before .before .before .before .before .before .before .before .before .before .before .before .before .before .before .before .before .before .before .before .rule-named in
-    let r = c .before .before .before .before .before .before .before .before .before .before .before .before .before .before .before .before .before .before .before .before .before .before .before .r in
-    let step-by = c .before .before .before .before .before .before .before .before .before .before .before .before .before .before .step-by in (
+    let far = mid .before .before .before .before .before .before .before .before .before .before .before .before .before .before .before .before .before .before .before .before .before .before .before .before .before in
+    let pre = far .before .before .before .before .before .before .before .before .pre in
+    let nth = mid .before .before .before .before .before .before .before .before .before .before .before .nth in
+    let start = mid .before .before .before .before .before .before .before .before .before .start in
+    let atom-end = mid .before .before .before .before .before .before .before .atom-end in
+    let rule-named = mid .before .before .before .before .before .rule-named in
+    let r = mid .before .before .before .r in
+    let premises = mid .before .premises in
+    let step-by = c .before .before .before .before .before .before .before .before .before .before .before .before .before .before .before .before .before .before .step-by in (
       λ g. step-answer g (nth .ensures) (start .given .1) (atom-end .ensures) (rule-named .ensures) (r .given .1)
           (step-by .last .1 .1 .1 .1 .1 .1 .1 .1 .1 .1 .1 .1 .1 .1 .0) (step-by .last .1 .1 .1 .1 .1 .1 .1 .1 .1 .1 .1 .1 .1 .1 .1 .0)
           (step-by .last .1 .1 .1 .1 .1 .1 .1 .1 .1 .1 .1 .1 .1 .1 .1 .1 .1 .1 .1 .1 .1 .1 .0)
           (step-by .last .1 .1 .1 .1 .1 .1 .1 .1 .1 .1 .1 .1 .1 .1 .1 .1 .1 .1 .1 .1 .1 .1 .1 .0) (step-by .result)
           (step-by .ensures .0 g),
-      step-by .ensures .1,
+      (
+        step-by .ensures .1 .0,
+        step-by .ensures .1 .1,
+        front-cleared PATTERNS (pre .1 .1) (premises .result)
+            (step-most (pre .0) (nth .ensures) (start .given .1) (atom-end .ensures) (rule-named .ensures) (r .given .1) (premises .ensures))
+            (step-by .last .1 .1 .1 .1 .1 .1 .1 .1 .1 .1 .1 .1 .1 .1 .1 .1 .1 .1 .1 .1 .1 .0) (step-by .kept .1 .1 .1 .1 .1 .1 .1 .1 .1 .1 .1 .1 .1 .1 .1 .1 .1 .1 .1 .1 .1 .0) ((c .before .before .clear) .last .0) ((c .before .before .clear) .ensures),
+      ),
     )
 
 pub step-spec : {M : Type 1} → statement M
@@ -167,7 +268,13 @@ step-spec =
     enum-known-r
     enum-told-2
     returns-2
+    premises-requires
+    slice-relend-prefix-step-by
+    slice-aggregate-step-by
     step-by-requires
+    slice-relend-prefix-clear
+    slice-aggregate-clear
+    clear-requires
     same-length
     same-length-2
     same-length-3

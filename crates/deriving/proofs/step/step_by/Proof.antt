@@ -140,7 +140,7 @@ slice-reshare-prefix-step-on c =
     let if1 = mid .before .before .before .before .before .before .if1 in
     let references = c .before .before .before .before .before .before .before .before .before .before .before .before .before .before .before .before .before .before .before .before .before .before .before .references in
     by-room (pre .0) (pre .1 .0) (nth .ensures) (a .given .1) (count .ensures) (premises .ensures) (if1 .left)
-    (references .kept .1 .1 .1 .1 .1 .1 .1 .1 .1 .1 .1 .1 .1 .1 .1 .1 .1 .0 ∙ pre .1 .2)
+    (pre .1 .2) (references .kept .1 .1 .1 .1 .1 .1 .1 .1 .1 .1 .1 .1 .1 .1 .1 .1 .1 .0)
 
 -- src/step.rt:439:17
 slice-aggregate-step-on : tie.Need-slice-aggregate-step-on
@@ -157,7 +157,7 @@ slice-aggregate-step-on c =
     sym
     (length-take-le (count .result) (references .last .1 .1 .1 .1 .1 .1 .1 .1 .1 .1 .1 .1 .1 .1 .1 .1 .1 .0)
     (by-room (pre .0) (pre .1 .0) (nth .ensures) (a .given .1) (count .ensures) (premises .ensures) (if1 .left)
-    (references .kept .1 .1 .1 .1 .1 .1 .1 .1 .1 .1 .1 .1 .1 .1 .1 .1 .1 .0 ∙ pre .1 .2)))
+    (pre .1 .2) (references .kept .1 .1 .1 .1 .1 .1 .1 .1 .1 .1 .1 .1 .1 .1 .1 .1 .1 .0)))
 
 -- src/step.rt:420:13
 step-on-requires : tie.Need-step-on-requires
@@ -179,7 +179,7 @@ step-on-requires c κs =
     (references .last .1 .1 .1 .1 .1 .1 .1 .1 .1 .1 .1 .1 .1 .1 .1 .1 .1 .1 .1 .0) (references .result) (references .ensures .0)
     (k .given .1)
     (by-room (pre .0) (pre .1 .0) (nth .ensures) (a .given .1) (count .ensures) (premises .ensures) (if1 .left)
-    (references .kept .1 .1 .1 .1 .1 .1 .1 .1 .1 .1 .1 .1 .1 .1 .1 .1 .1 .0 ∙ pre .1 .2))
+    (pre .1 .2) (references .kept .1 .1 .1 .1 .1 .1 .1 .1 .1 .1 .1 .1 .1 .1 .1 .1 .1 .0))
     (references .kept .1 .1 .1 .1 .1 .1 .1 .1 .1 .1 .1 .1 .1 .1 .1 .1 .1 .1 .0 ∙ blank-hyps (pre .1 .1))
 
 -- src/step.rt:444:17
@@ -261,7 +261,7 @@ returns-3 c =
           (references .last .1 .1 .1 .1 .1 .1 .1 .1 .1 .1 .1 .1 .1 .1 .1 .1 .1 .1 .1 .0) (references .result) (references .ensures .0)
           (k .given .1) (insert .last .0) (insert .ensures)
           (by-room g (pre .1 .0) (nth .ensures) (a .given .1) (count .ensures) (premises .ensures) (if1 .left)
-          (references .kept .1 .1 .1 .1 .1 .1 .1 .1 .1 .1 .1 .1 .1 .1 .1 .1 .1 .0 ∙ pre .1 .2))
+          (pre .1 .2) (references .kept .1 .1 .1 .1 .1 .1 .1 .1 .1 .1 .1 .1 .1 .1 .1 .1 .1 .0))
           (references .kept .1 .1 .1 .1 .1 .1 .1 .1 .1 .1 .1 .1 .1 .1 .1 .1 .1 .1 .0 ∙ blank-hyps (pre .1 .1))
           (step-on .last .1 .1 .1 .1 .1 .1 .1 .1 .1 .1 .1 .1 .1 .0) (step-on .last .1 .1 .1 .1 .1 .1 .1 .1 .1 .1 .1 .1 .1 .1 .0)
           (step-on .result) (step-on .ensures),
