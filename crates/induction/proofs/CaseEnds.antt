@@ -25,7 +25,7 @@ use Rattle.state.specs.declared.sizes.Sizes.{Sizes}
 use Rattle.state.specs.Growth.{recorded-on}
 use Rattle.reading.specs.declared.term.Out.{Out as Answer}
 use Rattle.reading.specs.declared.term.Out.the-variants.{Ok, No}
-use Rattle.induction.specs.Inducing.{IDS, Below, motiveIn, Motived, Moved, MovedAs, Casing, atConstructor, Scratch, hypsIn, HypsMade, HypsMadeAs, BeforeRest, caseFact, question, caseTerms, InCase}
+use Rattle.induction.specs.Inducing.{Roomy, Below, motiveIn, Motived, Moved, MovedAs, Casing, atConstructor, Scratch, hypsIn, HypsMade, HypsMadeAs, BeforeRest, caseFact, question, caseTerms, InCase}
 use Rattle.induction.proofs.Moves.{below-grown}
 use Rattle.induction.proofs.Inducts.{among-has}
 use Rattle.referring.specs.Laws.Sounds.{grown-grows}
@@ -51,7 +51,7 @@ unfolding question
 question-none q U e = ap (λ (k : ℕ). question k U) e
 
 module _ {facts lists : List ℕ} {n : Sizes} {I W : List ℕ} {m : Mark} {x sort j : ℕ} {premises used : List ℕ} {c : ℕ} {own map memo : List ℕ} (sorts ids : List ℕ)
-    (g : InCase facts lists n I W m x sort j premises used × Casing I W m c own × (length sorts ≡ length own)) (s : Scratch map memo × (length ids ≡ IDS)) where
+    (g : InCase facts lists n I W m x sort j premises used × Casing I W m c own × (length sorts ≡ length own)) (s : Scratch map memo × Roomy (length premises) ids) where
   pub end-width : (length premises) ≤ length ids
   end-width = omega (arith, g .0 .motived .few, s .1)
 

@@ -39,7 +39,7 @@ use Rattle.state.specs.VarLaws.{vars-long, var-sort-is}
 use Rattle.reading.specs.declared.term.Out.{Out as Answer}
 use Rattle.reading.specs.declared.term.Out.the-variants.{Ok, No}
 use Rattle.referring.specs.Laws.Refers.{refers-on}
-use Rattle.induction.specs.Inducing.{IDS, PassedAs, motiveIn, Motived, Scratch, CaseItem, CaseItems, onMotive, MotiveItems}
+use Rattle.induction.specs.Inducing.{Roomy, PassedAs, motiveIn, Motived, Scratch, CaseItem, CaseItems, onMotive, MotiveItems}
 use Rattle.induction.proofs.Moves.{below-grown}
 use Rattle.induction.proofs.CaseNames.{walk-behind, walk-further}
 use Rattle.induction.proofs.CaseReads.{passed-on}
@@ -168,9 +168,9 @@ module _ {goals text symbols ins vars facts lists : List ℕ} {n : Sizes} {I W :
               items = walk-rest here;
             }
 
-        pub cases-scratch : Scratch map₀ memo₀ × (length ids₀ ≡ IDS) → Scratch map memo × (length ids ≡ IDS)
+        pub cases-scratch : Scratch map₀ memo₀ × Roomy (length premises) ids₀ → Scratch map memo × Roomy (length premises) ids
         cases-scratch s =
-            (record { map-zero = h .map-same ∙ s .0 .map-zero; memo-zero = h .memo-same ∙ s .0 .memo-zero }, h .long ∙ s .1)
+            (record { map-zero = h .map-same ∙ s .0 .map-zero; memo-zero = h .memo-same ∙ s .0 .memo-zero }, omega (arith, h .long, s .1))
 
         split : On I W old (inductCases (g .S) (motiveIn (made I W old) x sort j premises) (g .xs) (constructors (g .S .theory) sort) (made I W old)) J X now
             (then (inductCase (g .S) (motiveIn (made J X now) x sort j premises) (one .first) c (made J X now))

@@ -46,7 +46,7 @@ use Rattle.induction.specs.Inducing.{IDS, Scratch, InductForm}
 use Rattle.induction.proofs.CaseNames.{walk-behind, variable-below}
 use Rattle.induction.proofs.InductForms.{derived-on}
 
-pub blank-scratch : {map memo hyps footing : List ℕ} (ids : List ℕ) → Blank map memo hyps footing × (length ids ≡ IDS) → Scratch map memo × (length ids ≡ IDS)
+pub blank-scratch : {map memo hyps footing : List ℕ} (ids : List ℕ) → Blank map memo hyps footing × (ids ≡ replicate IDS 0) → Scratch map memo × (ids ≡ replicate IDS 0)
 blank-scratch ids b = (record { map-zero = b .0 .map-zero; memo-zero = b .0 .memo-zero }, b .1)
 
 -- a list of hypotheses rises

@@ -32,6 +32,10 @@ use Rattle.referring.specs.Recall.{Refers}
 abbrev pub IDS : ℕ
 IDS = 40960
 
+-- enough of them for a case: at most ARGUMENTS induction hypotheses, of so many premises and a judgment each
+abbrev pub Roomy : ℕ → List ℕ → Type 0
+Roomy width ids = ARGUMENTS * suc width ≤ length ids
+
 -- numbers that are all below n
 abbrev pub Below : ℕ → List ℕ → Type 0
 Below n xs = (k : ℕ) → k < length xs → getD xs k 0 < n

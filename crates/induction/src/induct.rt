@@ -11,8 +11,9 @@ ghost use Rattle.terms.specs.Table.{made};
 ghost use Rattle.terms.specs.Sets.{holds};
 ghost use Rattle.state.specs.Held.{names};
 ghost use Rattle.referring.specs.Derived.{FactForm, Blank, DerivedAs, alone};
-ghost use Rattle.induction.specs.Inducing.{IDS, PassedAs, motiveIn, Motived, judgmentCells, Scratch, onMotive, MotiveItems, InductForm};
+ghost use Rattle.induction.specs.Inducing.{IDS, Roomy, PassedAs, motiveIn, Motived, judgmentCells, Scratch, onMotive, MotiveItems, InductForm};
 use crate::induct_cases::induct_cases;
+use cells::clear;
 use kernel::readers::constructors;
 use reading::hyps::Listed;
 use reading::hyps::plain_hyps;
@@ -21,6 +22,7 @@ use reading::term::Out;
 use reading::term::judgment;
 use referring::derived::Derived;
 use referring::scope::visit_all;
+use rules::ARGUMENTS;
 use rules::FACTS;
 use rules::TERMWORDS;
 use rules::VARIABLEWORDS;
@@ -70,8 +72,8 @@ fn motive_vars(
     visit_all(index, words, mark, premises, &mut seen, set);
 }
 
-// The cases of the motive: questions 41 and 45, then each case.
-fn on_motive(
+// The cases of the motive: questions 41 and 45, then each case. `ids` is scratch, of whatever content.
+fn motive_cases(
     goals: &[u8],
     text: &[u8],
     symbols: &[u32],
@@ -92,7 +94,7 @@ fn on_motive(
     ids: &mut [u32],
 ) -> Out
     requires { ⌜ MotiveItems (now goals) (now text) (now symbols) (now inputs) (now vars) (now facts) (now lists) n (now index) (now words) mark x judgment (now premises) (now cells) ⌝ }
-    requires { ⌜ Scratch (now map) (now memo) × (length (now ids) ≡ IDS) ⌝ }
+    requires { ⌜ Scratch (now map) (now memo) × Roomy (length (now premises)) (now ids) ⌝ }
     ensures { λ r. ⌜ ((g : MotiveItems (now (goals .entry)) (now (text .entry)) (now (symbols .entry)) (now (inputs .entry)) (now (vars .entry)) (now (facts .entry)) (now (lists .entry)) n (now (index .entry)) (now (words .entry)) mark x judgment (now (premises .entry)) (now (cells .entry))) →
         PassedAs (now (index .entry)) (now (words .entry)) (now (index .exit)) (now (words .exit)) mark (onMotive (g .S) (motiveIn (made (now (index .entry)) (now (words .entry)) mark) x (sortOfVar (g .S .vars) x) judgment (now (premises .entry))) (g .xs) (made (now (index .entry)) (now (words .entry)) mark)) r) ⌝ }
     ensures { λ _. ⌜ (now (map .exit) ≡ now (map .entry)) × (now (memo .exit) ≡ now (memo .entry)) ⌝ }
@@ -130,6 +132,59 @@ fn on_motive(
     )
 }
 
+// The same, with as many cells of `ids` as a case of the motive can need, which are cleared behind the cases: zero before and after.
+fn on_motive(
+    goals: &[u8],
+    text: &[u8],
+    symbols: &[u32],
+    inputs: &[u32],
+    vars: &[u32],
+    facts: &[u32],
+    lists: &[u32],
+    n: Sizes,
+    index: &mut [u32],
+    words: &mut [u32],
+    mark: Mark,
+    cells: &[u32],
+    x: usize,
+    judgment: usize,
+    premises: &[u32],
+    map: &mut [u32],
+    memo: &mut [u32],
+    ids: &mut [u32],
+) -> Out
+    requires { ⌜ MotiveItems (now goals) (now text) (now symbols) (now inputs) (now vars) (now facts) (now lists) n (now index) (now words) mark x judgment (now premises) (now cells) ⌝ }
+    requires { ⌜ Scratch (now map) (now memo) × (now ids ≡ replicate IDS 0) ⌝ }
+    ensures { λ r. ⌜ ((g : MotiveItems (now (goals .entry)) (now (text .entry)) (now (symbols .entry)) (now (inputs .entry)) (now (vars .entry)) (now (facts .entry)) (now (lists .entry)) n (now (index .entry)) (now (words .entry)) mark x judgment (now (premises .entry)) (now (cells .entry))) →
+        PassedAs (now (index .entry)) (now (words .entry)) (now (index .exit)) (now (words .exit)) mark (onMotive (g .S) (motiveIn (made (now (index .entry)) (now (words .entry)) mark) x (sortOfVar (g .S .vars) x) judgment (now (premises .entry))) (g .xs) (made (now (index .entry)) (now (words .entry)) mark)) r) ⌝ }
+    ensures { λ _. ⌜ (now (map .exit) ≡ now (map .entry)) × (now (memo .exit) ≡ now (memo .entry)) × (now (ids .exit) ≡ now (ids .entry)) ⌝ }
+{
+    let width = premises.len();
+    let room = ARGUMENTS * (width + 1);
+    let answer = motive_cases(
+        goals,
+        text,
+        symbols,
+        inputs,
+        vars,
+        facts,
+        lists,
+        n,
+        index,
+        words,
+        mark,
+        cells,
+        x,
+        judgment,
+        premises,
+        map,
+        memo,
+        &mut ids[..room],
+    );
+    clear(&mut ids[..room]);
+    answer
+}
+
 // The rest of the form, from its judgment on, behind its variable and its hypotheses, which are a set of facts.
 fn induct_on(
     theory: &[u8],
@@ -153,10 +208,10 @@ fn induct_on(
     ids: &mut [u32],
 ) -> Derived
     requires { ⌜ InductForm (now theory) (now goals) (now text) (now symbols) (now inputs) (now vars) (now defs) (now facts) (now lists) n (now index) (now words) mark x (now hyps) (now cells) ⌝ }
-    requires { ⌜ Scratch (now map) (now memo) × (length (now ids) ≡ IDS) ⌝ }
+    requires { ⌜ Scratch (now map) (now memo) × (now ids ≡ replicate IDS 0) ⌝ }
     ensures { λ r. ⌜ ((g : InductForm (now (theory .entry)) (now (goals .entry)) (now (text .entry)) (now (symbols .entry)) (now (inputs .entry)) (now (vars .entry)) (now (defs .entry)) (now (facts .entry)) (now (lists .entry)) n (now (index .entry)) (now (words .entry)) mark x (now (hyps .entry)) (now (cells .entry))) →
         DerivedAs Fact (now (index .entry)) (now (words .entry)) (now (index .exit)) (now (words .exit)) mark (g .S) (inductOn (g .S) x (rising (length (g .S .facts)) (holds (now (hyps .entry)))) (g .y) (g .z) (made (now (index .entry)) (now (words .entry)) mark)) alone (now (hyps .entry)) (replicate RULEWORDS 0) r) ⌝ }
-    ensures { λ _. ⌜ (now (map .exit) ≡ now (map .entry)) × (now (memo .exit) ≡ now (memo .entry)) ⌝ }
+    ensures { λ _. ⌜ (now (map .exit) ≡ now (map .entry)) × (now (memo .exit) ≡ now (memo .entry)) × (now (ids .exit) ≡ now (ids .entry)) ⌝ }
 {
     match judgment(
         theory,
@@ -207,8 +262,8 @@ fn induct_on(
     }
 }
 
-// The form without hypotheses, whose items the cells hold. `map` and `memo` are scratch: zero before and after; so is `ids`, of whatever content. The
-// sets are empty before; afterwards they are the fact's, where one is answered.
+// The form without hypotheses, whose items the cells hold. `map`, `memo` and `ids` are scratch: zero before and after. The sets are empty before; afterwards
+// they are the fact's, where one is answered.
 pub fn induct(
     theory: &[u8],
     goals: &[u8],
@@ -232,10 +287,10 @@ pub fn induct(
     footing: &mut [u64],
 ) -> Derived
     requires { ⌜ FactForm (names (now theory) (now goals) (now text) (now symbols) (now inputs) (now vars) (now defs)) (now facts) (now footings) (now lists) n (now index) (now words) mark (now cells) 5 ⌝ }
-    requires { ⌜ Blank (now map) (now memo) (now hyps) (now footing) × (length (now ids) ≡ IDS) ⌝ }
+    requires { ⌜ Blank (now map) (now memo) (now hyps) (now footing) × (now ids ≡ replicate IDS 0) ⌝ }
     ensures { λ r. ⌜ ((g : FactForm (names (now (theory .entry)) (now (goals .entry)) (now (text .entry)) (now (symbols .entry)) (now (inputs .entry)) (now (vars .entry)) (now (defs .entry))) (now (facts .entry)) (now (footings .entry)) (now (lists .entry)) n (now (index .entry)) (now (words .entry)) mark (now (cells .entry)) 5) →
         DerivedAs Fact (now (index .entry)) (now (words .entry)) (now (index .exit)) (now (words .exit)) mark (g .S) (induct (g .S) (g .xs) (made (now (index .entry)) (now (words .entry)) mark)) alone (now (hyps .exit)) (now (footing .exit)) r) ⌝ }
-    ensures { λ _. ⌜ (now (map .exit) ≡ now (map .entry)) × (now (memo .exit) ≡ now (memo .entry)) ⌝ }
+    ensures { λ _. ⌜ (now (map .exit) ≡ now (map .entry)) × (now (memo .exit) ≡ now (memo .entry)) × (now (ids .exit) ≡ now (ids .entry)) ⌝ }
 {
     let at = items::place(cells, 2);
     let Found::At(x) = variable(goals, text, vars, n.vars, &cells[at..]) else {
@@ -289,10 +344,10 @@ pub fn induct_with(
     footing: &mut [u64],
 ) -> Derived
     requires { ⌜ FactForm (names (now theory) (now goals) (now text) (now symbols) (now inputs) (now vars) (now defs)) (now facts) (now footings) (now lists) n (now index) (now words) mark (now cells) 6 ⌝ }
-    requires { ⌜ Blank (now map) (now memo) (now hyps) (now footing) × (length (now ids) ≡ IDS) ⌝ }
+    requires { ⌜ Blank (now map) (now memo) (now hyps) (now footing) × (now ids ≡ replicate IDS 0) ⌝ }
     ensures { λ r. ⌜ ((g : FactForm (names (now (theory .entry)) (now (goals .entry)) (now (text .entry)) (now (symbols .entry)) (now (inputs .entry)) (now (vars .entry)) (now (defs .entry))) (now (facts .entry)) (now (footings .entry)) (now (lists .entry)) n (now (index .entry)) (now (words .entry)) mark (now (cells .entry)) 6) →
         DerivedAs Fact (now (index .entry)) (now (words .entry)) (now (index .exit)) (now (words .exit)) mark (g .S) (inductWith (g .S) (g .xs) (made (now (index .entry)) (now (words .entry)) mark)) alone (now (hyps .exit)) (now (footing .exit)) r) ⌝ }
-    ensures { λ _. ⌜ (now (map .exit) ≡ now (map .entry)) × (now (memo .exit) ≡ now (memo .entry)) ⌝ }
+    ensures { λ _. ⌜ (now (map .exit) ≡ now (map .entry)) × (now (memo .exit) ≡ now (memo .entry)) × (now (ids .exit) ≡ now (ids .entry)) ⌝ }
 {
     let at = items::place(cells, 2);
     let Found::At(x) = variable(goals, text, vars, n.vars, &cells[at..]) else {

@@ -10,7 +10,7 @@ ghost use Rattle.rules.specs.Theory.{constructors};
 ghost use Rattle.rules.specs.Induct.{Motive, motiveVars, caseVars, inductCase, inductCases};
 ghost use Rattle.terms.specs.Table.{made, tree};
 ghost use Rattle.terms.specs.Sets.{holds};
-ghost use Rattle.induction.specs.Inducing.{IDS, Below, PassedAs, motiveIn, Casing, Scratch, caseTerms, caseFact, question, hypsIn, BeforeRest, InCase, CaseNames, caseNamed, CaseItem, CaseItems};
+ghost use Rattle.induction.specs.Inducing.{Roomy, Below, PassedAs, motiveIn, Casing, Scratch, caseTerms, caseFact, question, hypsIn, BeforeRest, InCase, CaseNames, caseNamed, CaseItem, CaseItems};
 use crate::cases::at_constructor;
 use crate::cases::hypotheses;
 use crate::resting::case_fact;
@@ -75,7 +75,7 @@ fn case_vars(
 }
 
 // The case of constructor c over its variables, of these sorts, by fact i. `map` and `memo` are scratch: zero before and after; so is `ids`, of whatever
-// content.
+// content: who lends it clears it.
 fn case_terms(
     facts: &[u32],
     lists: &[u32],
@@ -97,7 +97,7 @@ fn case_terms(
     ids: &mut [u32],
 ) -> Out
     requires { ⌜ InCase (now facts) (now lists) n (now index) (now words) mark x sort judgment (now premises) (now used) × Casing (now index) (now words) mark c (now own) × (length (now sorts) ≡ length (now own)) ⌝ }
-    requires { ⌜ Scratch (now map) (now memo) × (length (now ids) ≡ IDS) ⌝ }
+    requires { ⌜ Scratch (now map) (now memo) × Roomy (length (now premises)) (now ids) ⌝ }
     ensures { λ r. ⌜ ((g : InCase (now (facts .entry)) (now (lists .entry)) n (now (index .entry)) (now (words .entry)) mark x sort judgment (now (premises .entry)) (now (used .entry))) →
         PassedAs (now (index .entry)) (now (words .entry)) (now (index .exit)) (now (words .exit)) mark (caseTerms (g .S) (motiveIn (made (now (index .entry)) (now (words .entry)) mark) x sort judgment (now (premises .entry))) i c (now (own .entry)) (now (sorts .entry)) (made (now (index .entry)) (now (words .entry)) mark)) r) ⌝ }
     ensures { λ _. ⌜ (now (map .exit) ≡ now (map .entry)) × (now (memo .exit) ≡ now (memo .entry)) ⌝ }
@@ -233,7 +233,7 @@ fn induct_case(
     ids: &mut [u32],
 ) -> Out
     requires { ⌜ CaseItem (now goals) (now text) (now symbols) (now inputs) (now vars) (now facts) (now lists) n (now index) (now words) mark x sort judgment (now premises) (now used) (now cells) × (c < n .symbols) ⌝ }
-    requires { ⌜ Scratch (now map) (now memo) × (length (now ids) ≡ IDS) ⌝ }
+    requires { ⌜ Scratch (now map) (now memo) × Roomy (length (now premises)) (now ids) ⌝ }
     ensures { λ r. ⌜ ((g : CaseItem (now (goals .entry)) (now (text .entry)) (now (symbols .entry)) (now (inputs .entry)) (now (vars .entry)) (now (facts .entry)) (now (lists .entry)) n (now (index .entry)) (now (words .entry)) mark x sort judgment (now (premises .entry)) (now (used .entry)) (now (cells .entry))) →
         PassedAs (now (index .entry)) (now (words .entry)) (now (index .exit)) (now (words .exit)) mark (inductCase (g .S) (motiveIn (made (now (index .entry)) (now (words .entry)) mark) x sort judgment (now (premises .entry))) (g .y) c (made (now (index .entry)) (now (words .entry)) mark)) r) ⌝ }
     ensures { λ _. ⌜ (now (map .exit) ≡ now (map .entry)) × (now (memo .exit) ≡ now (memo .entry)) ⌝ }
@@ -315,7 +315,7 @@ pub fn induct_cases(
     ids: &mut [u32],
 ) -> Out
     requires { ⌜ CaseItems (now goals) (now text) (now symbols) (now inputs) (now vars) (now facts) (now lists) n (now index) (now words) mark x sort judgment (now premises) (now used) (now cells) ⌝ }
-    requires { ⌜ Scratch (now map) (now memo) × (length (now ids) ≡ IDS) ⌝ }
+    requires { ⌜ Scratch (now map) (now memo) × Roomy (length (now premises)) (now ids) ⌝ }
     ensures { λ r. ⌜ ((g : CaseItems (now (goals .entry)) (now (text .entry)) (now (symbols .entry)) (now (inputs .entry)) (now (vars .entry)) (now (facts .entry)) (now (lists .entry)) n (now (index .entry)) (now (words .entry)) mark x sort judgment (now (premises .entry)) (now (used .entry)) (now (cells .entry))) →
         PassedAs (now (index .entry)) (now (words .entry)) (now (index .exit)) (now (words .exit)) mark (inductCases (g .S) (motiveIn (made (now (index .entry)) (now (words .entry)) mark) x sort judgment (now (premises .entry))) (g .xs) (constructors (g .S .theory) sort) (made (now (index .entry)) (now (words .entry)) mark)) r) ⌝ }
     ensures { λ _. ⌜ (now (map .exit) ≡ now (map .entry)) × (now (memo .exit) ≡ now (memo .entry)) ⌝ }

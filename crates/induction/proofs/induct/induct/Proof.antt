@@ -49,7 +49,7 @@ enum-told c = search needs
 
 -- src/induct.rt:538:9
 returns : tie.Need-returns
-returns c = (λ g. spelled-unknown g (omega arith) ((c .before .before .before .before .place) .ensures) ((c .before .before .variable) .ensures) ((c .enum-told) .given .1), (refl, refl))
+returns c = (λ g. spelled-unknown g (omega arith) ((c .before .before .before .before .place) .ensures) ((c .before .before .variable) .ensures) ((c .enum-told) .given .1), (refl, refl, refl))
 
 -- src/induct.rt:540:9
 after-requires : tie.Need-after-requires

@@ -64,7 +64,7 @@ returns c =
     let item-at = c .before .before .item-at in (
       λ g. form-atom g (judgment .last .1 .1 .1 .1 .1 .1 .1 .1 .0) (judgment .last .1 .1 .1 .1 .1 .1 .1 .1 .1 .0) (judgment .result)
           (judgment .ensures) (j .given .1) (after .ensures) (item-at .ensures) ((c .enum-told) .given .1),
-      (refl, refl),
+      (refl, refl, refl),
     )
 
 -- src/induct.rt:477:51
@@ -295,7 +295,7 @@ returns-4 c =
     let q2 = c .before .q2 in (
       λ g. form-stopped g (judgment .last .1 .1 .1 .1 .1 .1 .1 .1 .0) (judgment .last .1 .1 .1 .1 .1 .1 .1 .1 .1 .0) (judgment .result)
           (judgment .ensures) (q2 .given .1),
-      (refl, refl),
+      (refl, refl, refl),
     )
 
 pub induct-on-spec : {M : Type 1} → statement M

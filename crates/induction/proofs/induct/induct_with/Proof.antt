@@ -53,7 +53,7 @@ enum-told c = search needs
 
 -- src/induct.rt:595:9
 returns : tie.Need-returns
-returns c = (λ g. spelled-unknown-with g (omega arith) ((c .before .before .before .before .place) .ensures) ((c .before .before .variable) .ensures) ((c .enum-told) .given .1), (refl, refl))
+returns c = (λ g. spelled-unknown-with g (omega arith) ((c .before .before .before .before .place) .ensures) ((c .before .before .variable) .ensures) ((c .enum-told) .given .1), (refl, refl, refl))
 
 -- src/induct.rt:597:9
 after-requires : tie.Need-after-requires
@@ -276,7 +276,7 @@ returns-3 c =
     let q = c .before .q in (
       λ g. hyps-refused g (omega arith) (place .ensures) (variable .ensures) (x .given .1) (after .ensures) (args .hyps .now)
           (plain-hyps .last .1 .1 .1 .1 .0) (plain-hyps .result) (plain-hyps .ensures) (q .given .1),
-      (refl, refl),
+      (refl, refl, refl),
     )
 
 pub induct-with-spec : {M : Type 1} → statement M
