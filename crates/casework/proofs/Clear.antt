@@ -228,9 +228,9 @@ module _ {facts lists : List ℕ} {n : Sizes} {I W : List ℕ} {m : Mark} (g : R
         pure-stopped (g .good) (fact-no (bindings (made I W m) theta 0) (factOf (g .S) h) (made I W m) (sym clear-now ∙ not-true b z))
 
 -- the same with other cells
-pub given-cells : {facts lists : List ℕ} {n : Sizes} {I W : List ℕ} {m : Mark} {map map′ memo own ids plain fine : List ℕ} →
-    ContextGiven facts lists n I W m map memo own ids plain fine → Theta m map′ → ContextGiven facts lists n I W m map′ memo own ids plain fine
-given-cells c t = record { recalls = c .recalls; cells = t; empty = c .empty; known = c .known; room = c .room; wide = c .wide; broad = c .broad }
+pub given-cells : {facts lists : List ℕ} {n : Sizes} {I W : List ℕ} {m : Mark} {map map′ memo own plain fine : List ℕ} →
+    ContextGiven facts lists n I W m map memo own plain fine → Theta m map′ → ContextGiven facts lists n I W m map′ memo own plain fine
+given-cells c t = record { recalls = c .recalls; cells = t; empty = c .empty; known = c .known; wide = c .wide; broad = c .broad }
 
 -- a copy of the unifier without the cells of the fact's variables
 module _ {to : List ℕ} (from : List ℕ) {first : List ℕ} (l : length from ≡ VARIABLES) (z : first ≡ replicate VARIABLES 0) (e : to ≡ from ++ drop (length from) first) where

@@ -5,7 +5,7 @@ use Prim.Native.Nat.{ℕ, zero, suc, _+_, _-_, _<_, _≤_}
 use native.Mathlib.Omega.{arith}
 use lib.ListN.{length, getD, take, drop, length-drop}
 use lib.Seq.{length-take-le}
-use Rattle.rules.specs.Limits.{TERMS}
+use Rattle.rules.specs.Limits.{TERMS, ENTRIES}
 use Rattle.rules.specs.Out.{Out, ok, then}
 use Rattle.rules.specs.Tree.{Tree, Trees, var}
 use Rattle.rules.specs.Store.{Made, substitute, substitutes, number}
@@ -26,7 +26,7 @@ use Rattle.rules.specs.Laws.MakingWalk.{substitute-keeps, substitutes-keeps}
 use Rattle.reading.specs.declared.bindings.Bound.{Bound}
 use Rattle.reading.specs.declared.bindings.Bound.the-variants as bound
 use Rattle.referring.specs.Recall.{factOf, Recalls, Refers}
-use Rattle.casework.specs.Context.{There, Replaceables, Replaced, ReplacedAs, allowedOf, Adds, ContextRead, one, under, ContextGiven}
+use Rattle.casework.specs.Context.{There, Replaceables, Replaced, ReplacedAs, allowedOf, Adds, ContextRead, one, under, widthOf, ContextGiven}
 use Rattle.casework.specs.Laws.Rows.{premises-are, judgment-is, judgment-there, premises-there, premises-low, premises-high, lists-are}
 
 -- A fact under a substitution --------------------------------------------------------------------------------------------------------------------
@@ -92,7 +92,7 @@ premises-stop {facts} {lists} {I = I} {W} {old = old} g {h} l {s} e map w =
 
 -- What the calls ask ---------------------------------------------------------------------------------------------------------------------------
 
-module _ {facts lists : List ℕ} {n : Sizes} {I W : List ℕ} {m : Mark} {map memo own ids plain fine : List ℕ} (c : ContextGiven facts lists n I W m map memo own ids plain fine)
+module _ {facts lists : List ℕ} {n : Sizes} {I W : List ℕ} {m : Mark} {map memo own plain fine : List ℕ} (c : ContextGiven facts lists n I W m map memo own plain fine)
     {h : ℕ} (l : h < n .facts) {s : Span} (e : s ≡ premisesSpan facts h) where
   pub part-long : length (part lists s) ≡ s .end - s .from
   part-long =
@@ -100,17 +100,20 @@ module _ {facts lists : List ℕ} {n : Sizes} {I W : List ℕ} {m : Mark} {map m
       let b = premises-high (c .recalls) l e in
       length-take-le (s .end - s .from) (drop (s .from) lists) (omega (arith, a, b, length-drop (s .from) lists))
 
-  pub part-fits : s .end - s .from ≤ length ids
-  part-fits = omega (arith, premises-high (c .recalls) l e, lists-are (c .recalls), c .room)
+  pub part-few : s .end - s .from ≤ ENTRIES
+  part-few = omega (arith, premises-high (c .recalls) l e, lists-are (c .recalls))
 
-  pub under-asks : Replaceables I W m map memo (part lists s) ids
-  under-asks =
+  pub part-width : s .end - s .from ≡ widthOf facts h
+  part-width = ap (λ (p : Span). p .end - p .from) e
+
+  pub under-asks : {ids : List ℕ} → widthOf facts h ≤ length ids → Replaceables I W m map memo (part lists s) ids
+  under-asks w =
       record {
         good = c .recalls .good;
         within = c .cells .bound;
         there = subst (λ (p : Span). There (m .terms) (part lists p)) (sym e) (premises-there (c .recalls) l);
         empty = c .empty;
-        fits = omega (arith, part-long, part-fits);
+        fits = omega (arith, part-long, part-width, w);
       }
 
   pub judgment-small : {id : ℕ} → id ≡ cell 6 facts h 0 → id < m .terms

@@ -4,7 +4,7 @@ use mathlib.Core.Path.{_≡_}
 use mathlib.Core.Bool.{Bool, true, false, _&&_}
 use mathlib.Core.Option.{some}
 use mathlib.Core.List.{List, [], _∷_}
-use Prim.Native.Nat.{ℕ, _<_, _≤_}
+use Prim.Native.Nat.{ℕ, _-_, _<_, _≤_}
 use lib.ListN.{length, getD, take, replicate}
 use Rattle.rules.specs.Limits.{VARIABLES, TERMS}
 use Rattle.rules.specs.Out.{Out, Act, _>>=_, pure}
@@ -26,6 +26,7 @@ use Rattle.terms.specs.On.{Went, Stopped}
 use Rattle.kernel.specs.Readers.{FormedRules}
 use Rattle.state.specs.declared.sizes.Sizes.{Sizes}
 use Rattle.state.specs.Held.{records, Recorded}
+use Rattle.state.specs.Rows.{premisesSpan}
 use Rattle.reading.specs.declared.bindings.Bound.{Bound}
 use Rattle.reading.specs.declared.bindings.Bound.the-variants as bound
 use Rattle.referring.specs.Recall.{factOf, Recalls}
@@ -115,13 +116,16 @@ under σ f = do
   j ← substitute σ (f .judgment)
   pure (record { premises = ps; judgment = j; general = f .general })
 
+-- how many premises fact h has
+abbrev pub widthOf : List ℕ → ℕ → ℕ
+widthOf facts h = premisesSpan facts h .end - premisesSpan facts h .from
+
 -- what a fact of the context is put under, and the cells and sets beside
-pub record ContextGiven (facts lists : List ℕ) (n : Sizes) (I W : List ℕ) (m : Mark) (map memo own ids plain fine : List ℕ) : Type 0 where
+pub record ContextGiven (facts lists : List ℕ) (n : Sizes) (I W : List ℕ) (m : Mark) (map memo own plain fine : List ℕ) : Type 0 where
   pub recalls : Recalls facts lists n I W m
   pub cells : Theta m map
   pub empty : memo ≡ replicate TERMS 0
   pub known : There (n .facts) own
-  pub room : 16384 ≤ length ids
   pub wide : length plain ≡ 64
   pub broad : length fine ≡ 16
 

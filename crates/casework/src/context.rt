@@ -3,7 +3,7 @@
 ghost use mathlib.Core.Path.{_≡_};
 ghost use mathlib.Core.Bool.{_&&_};
 ghost use mathlib.Core.List.{List};
-ghost use Prim.Native.Nat.{_<_};
+ghost use Prim.Native.Nat.{_<_, _≤_};
 ghost use lib.Dec.{eqb};
 ghost use lib.ListN.{length, replicate};
 ghost use Rattle.rules.specs.Limits.{VARIABLES, TERMS, VARIABLEWORDS, TERMWORDS, FACTWORDS};
@@ -17,7 +17,8 @@ ghost use Rattle.terms.specs.Sets.{holds};
 ghost use Rattle.terms.specs.Subst.{replacement};
 ghost use Rattle.terms.specs.Theta.{bindings, Theta};
 ghost use Rattle.referring.specs.Recall.{factOf, Recalls};
-ghost use Rattle.casework.specs.Context.{There, Replaceables, ReplacedAs, allowedOf, Adds, ContextAs, one, all-of, under, ContextGiven, MarkedAs, OneMarked, UnboundAs, RestsGiven, restsBy, RenamedRule, PremisesAs};
+ghost use Rattle.casework.specs.Context.{There, Replaceables, ReplacedAs, allowedOf, Adds, ContextAs, one, all-of, under, widthOf, ContextGiven, MarkedAs, OneMarked, UnboundAs, RestsGiven, restsBy, RenamedRule, PremisesAs};
+use cells::clear;
 use cells::write;
 use kernel::rule_readers::premises as premises_of;
 use kernel::rule_readers::words as rule_words;
@@ -234,8 +235,9 @@ fn allow(
     );
 }
 
-// Fact h of the context under the substitution `map`, and what it allows. `memo` is scratch: zero before and after.
-fn context_under(
+// Fact h of the context under the substitution `map`, and what it allows. `memo` is scratch: zero before and after; `ids` has a cell for each premise of the
+// fact, of whatever content before and after.
+fn fact_under(
     facts: &[u32],
     lists: &[u32],
     n: Sizes,
@@ -250,7 +252,7 @@ fn context_under(
     plain: &mut [u64],
     fine: &mut [u64],
 ) -> Bound
-    requires { ⌜ ContextGiven (now facts) (now lists) n (now index) (now words) mark (now map) (now memo) (now own) (now ids) (now plain) (now fine) × (h < n .facts) ⌝ }
+    requires { ⌜ ContextGiven (now facts) (now lists) n (now index) (now words) mark (now map) (now memo) (now own) (now plain) (now fine) × (h < n .facts) × (widthOf (now facts) h ≤ length (now ids)) ⌝ }
     ensures { λ r. ⌜ ((g : Recalls (now (facts .entry)) (now (lists .entry)) n (now (index .entry)) (now (words .entry)) mark) →
         ContextAs Allowed (now (index .entry)) (now (words .entry)) (now (index .exit)) (now (words .exit)) mark (g .S)
         (under (replacement (made (now (index .entry)) (now (words .entry)) mark) (now (map .entry))) (factOf (g .S) h) (made (now (index .entry)) (now (words .entry)) mark)) one
@@ -284,6 +286,50 @@ fn context_under(
         },
         Bound::No(q, d, mid) => Bound::No(q, d, mid),
     }
+}
+
+// The same, with as many cells of `ids` as the fact has premises, which are cleared behind it: zero before and after.
+fn context_under(
+    facts: &[u32],
+    lists: &[u32],
+    n: Sizes,
+    index: &mut [u32],
+    words: &mut [u32],
+    mark: Mark,
+    map: &[u32],
+    memo: &mut [u32],
+    h: usize,
+    own: &[u32],
+    ids: &mut [u32],
+    plain: &mut [u64],
+    fine: &mut [u64],
+) -> Bound
+    requires { ⌜ ContextGiven (now facts) (now lists) n (now index) (now words) mark (now map) (now memo) (now own) (now plain) (now fine) × (h < n .facts) × (now ids ≡ replicate 40960 0) ⌝ }
+    ensures { λ r. ⌜ ((g : Recalls (now (facts .entry)) (now (lists .entry)) n (now (index .entry)) (now (words .entry)) mark) →
+        ContextAs Allowed (now (index .entry)) (now (words .entry)) (now (index .exit)) (now (words .exit)) mark (g .S)
+        (under (replacement (made (now (index .entry)) (now (words .entry)) mark) (now (map .entry))) (factOf (g .S) h) (made (now (index .entry)) (now (words .entry)) mark)) one
+        (now (own .entry)) (now (plain .entry)) (now (plain .exit)) (now (fine .entry)) (now (fine .exit)) r) ⌝ }
+    ensures { λ _. ⌜ (now (memo .exit) ≡ now (memo .entry)) × (now (ids .exit) ≡ now (ids .entry)) ⌝ }
+{
+    let span = premises(facts, h);
+    let many = span.end - span.from;
+    let answer = fact_under(
+        facts,
+        lists,
+        n,
+        index,
+        words,
+        mark,
+        map,
+        memo,
+        h,
+        own,
+        &mut ids[..many],
+        plain,
+        fine,
+    );
+    clear(&mut ids[..many]);
+    answer
 }
 
 // The cells of these variables become zero.
@@ -333,12 +379,12 @@ fn context_fact(
     plain: &mut [u64],
     fine: &mut [u64],
 ) -> Bound
-    requires { ⌜ ContextGiven (now facts) (now lists) n (now index) (now words) mark (now theta) (now memo) (now own) (now ids) (now plain) (now fine) × (h < n .facts) ⌝ }
+    requires { ⌜ ContextGiven (now facts) (now lists) n (now index) (now words) mark (now theta) (now memo) (now own) (now plain) (now fine) × (h < n .facts) × (now ids ≡ replicate 40960 0) ⌝ }
     ensures { λ r. ⌜ ((g : Recalls (now (facts .entry)) (now (lists .entry)) n (now (index .entry)) (now (words .entry)) mark) →
         ContextAs Allowed (now (index .entry)) (now (words .entry)) (now (index .exit)) (now (words .exit)) mark (g .S)
         (contextFact (bindings (made (now (index .entry)) (now (words .entry)) mark) (now (theta .entry)) 0) (factOf (g .S) h) (made (now (index .entry)) (now (words .entry)) mark)) one
         (now (own .entry)) (now (plain .entry)) (now (plain .exit)) (now (fine .entry)) (now (fine .exit)) r) ⌝ }
-    ensures { λ _. ⌜ now (memo .exit) ≡ now (memo .entry) ⌝ }
+    ensures { λ _. ⌜ (now (memo .exit) ≡ now (memo .entry)) × (now (ids .exit) ≡ now (ids .entry)) ⌝ }
 {
     let bound = general(facts, h);
     let from = bound.from;
@@ -383,7 +429,7 @@ fn context_fact(
     )
 }
 
-// All facts of the context in turn.
+// All facts of the context in turn. `memo` and `ids` are scratch: zero before and after.
 pub fn context_facts(
     facts: &[u32],
     lists: &[u32],
@@ -399,12 +445,12 @@ pub fn context_facts(
     plain: &mut [u64],
     fine: &mut [u64],
 ) -> Bound
-    requires { ⌜ ContextGiven (now facts) (now lists) n (now index) (now words) mark (now theta) (now memo) (now own) (now ids) (now plain) (now fine) × There (n .facts) (now context) ⌝ }
+    requires { ⌜ ContextGiven (now facts) (now lists) n (now index) (now words) mark (now theta) (now memo) (now own) (now plain) (now fine) × There (n .facts) (now context) × (now ids ≡ replicate 40960 0) ⌝ }
     ensures { λ r. ⌜ ((g : Recalls (now (facts .entry)) (now (lists .entry)) n (now (index .entry)) (now (words .entry)) mark) →
         ContextAs (List Allowed) (now (index .entry)) (now (words .entry)) (now (index .exit)) (now (words .exit)) mark (g .S)
         (contextFacts (g .S) (bindings (made (now (index .entry)) (now (words .entry)) mark) (now (theta .entry)) 0) (now (context .entry)) (made (now (index .entry)) (now (words .entry)) mark)) all-of
         (now (own .entry)) (now (plain .entry)) (now (plain .exit)) (now (fine .entry)) (now (fine .exit)) r) ⌝ }
-    ensures { λ _. ⌜ now (memo .exit) ≡ now (memo .entry) ⌝ }
+    ensures { λ _. ⌜ (now (memo .exit) ≡ now (memo .entry)) × (now (ids .exit) ≡ now (ids .entry)) ⌝ }
 {
     let mut m = mark;
     let mut k = 0;

@@ -157,16 +157,15 @@ contexting-start {I} {W} {m} g S theta context own plain fine =
 abbrev pub recalls-grown : {facts lists : List ℕ} {n : Sizes} {I W J X : List ℕ} {old new : Mark} → Grown I W J X old new → Recalls facts lists n I W old → Recalls facts lists n J X new
 recalls-grown w g = record { S = g .S; footings = g .footings; many = g .many; recorded = recorded-on (grown-grows w) (g .recorded); good = w .good }
 
-pub given-grown : {facts lists : List ℕ} {n : Sizes} {I W J X : List ℕ} {m now : Mark} {theta memo memo′ own ids ids′ plain plain′ fine fine′ : List ℕ} →
-    ContextGiven facts lists n I W m theta memo own ids plain fine → Grown I W J X m now → memo′ ≡ memo → length ids′ ≡ length ids → length plain′ ≡ length plain → length fine′ ≡ length fine →
-    ContextGiven facts lists n J X now theta memo′ own ids′ plain′ fine′
-given-grown c w e i p f =
+pub given-grown : {facts lists : List ℕ} {n : Sizes} {I W J X : List ℕ} {m now : Mark} {theta memo memo′ own plain plain′ fine fine′ : List ℕ} →
+    ContextGiven facts lists n I W m theta memo own plain fine → Grown I W J X m now → memo′ ≡ memo → length plain′ ≡ length plain → length fine′ ≡ length fine →
+    ContextGiven facts lists n J X now theta memo′ own plain′ fine′
+given-grown c w e p f =
     record {
       recalls = recalls-grown w (c .recalls);
       cells = theta-grown w (c .cells);
       empty = e ∙ c .empty;
       known = c .known;
-      room = omega (arith, c .room, i);
       wide = p ∙ c .wide;
       broad = f ∙ c .broad;
     }

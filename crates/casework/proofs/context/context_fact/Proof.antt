@@ -19,7 +19,7 @@ general-requires c κs = facts-asked ((c .before .before .before .before .before
 context-under-requires : tie.Need-context-under-requires
 context-under-requires c κs =
     let pre = c .before .before .before .before .before .before .before .before .before .before .before .before .before .before .before .before .before .before .pre in
-    (pre .0, pre .1)
+    (pre .0, pre .1, pre .2)
 
 -- src/context.rt:348:9
 same-length : tie.Need-same-length
@@ -186,7 +186,7 @@ returns-2 c =
       λ g. context-stop g (pre .1) (general .ensures)
           (copy-unbound (args .theta .now) (pre .0 .cells .long) refl (write .ensures) (unbind .ensures)) (is-clear .ensures)
           ((c .if2) .taken),
-      refl,
+      (refl, refl),
     )
 
 -- src/context.rt:359:46
@@ -204,6 +204,7 @@ context-under-requires-2 c κs =
       given-cells (pre .0)
           (unbound-theta (copy-unbound (args .theta .now) (pre .0 .cells .long) refl (write .ensures) (unbind .ensures)) (pre .0 .cells)),
       pre .1,
+      pre .2,
     )
 
 -- src/context.rt:322:1

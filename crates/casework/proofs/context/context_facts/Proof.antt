@@ -14,7 +14,7 @@ use Rattle.casework.proofs.context.context_facts.Tie as tie
 
 abbrev Inv-loop : tie.InvT-loop
 Inv-loop facts lists n index₀ words₀ theta memo₀ context own ids₀ plain₀ fine₀ m₀ k₀ index words memo ids plain fine m k =
-    (k ≤ length context) × (length index ≡ length index₀) × (length words ≡ length words₀) × (memo ≡ memo₀) × (length ids ≡ length ids₀) × (length plain ≡ length plain₀) × (length fine ≡ length fine₀) ×
+    (k ≤ length context) × (length index ≡ length index₀) × (length words ≡ length words₀) × (memo ≡ memo₀) × (ids ≡ ids₀) × (length plain ≡ length plain₀) × (length fine ≡ length fine₀) ×
     ((g : Recalls facts lists n index₀ words₀ m₀) → Contexting index₀ words₀ m₀ (g .S) theta context own plain₀ fine₀ index words plain fine m k)
 
 abbrev μ-loop : tie.MeasureT-loop
@@ -47,9 +47,9 @@ context-fact-requires c κs =
     let pre = c .before .before .before .before .before .before .before .before .before .before .before .before .before .before .before .before .before .before .before .before .pre in
     let loop = c .before .before .before .before .before .before .before .before .loop in
     let loop-test = c .before .before .before .before .before .before .before .loop-test in (
-      given-grown (pre .0) (loop .inv .7 (pre .0 .recalls) .on .grown) (loop .inv .3) (loop .inv .4) (loop .inv .5) (loop .inv .6),
-      pre .1
-          (loop .k) (loop-test .taken),
+      given-grown (pre .0) (loop .inv .7 (pre .0 .recalls) .on .grown) (loop .inv .3) (loop .inv .5) (loop .inv .6),
+      pre .1 (loop .k) (loop-test .taken),
+      loop .inv .4 ∙ pre .2,
     )
 
 -- src/context.rt:404:23
@@ -86,7 +86,7 @@ same-length-4 : tie.Need-same-length-4 Inv-loop μ-loop
 same-length-4 c =
     let context-fact = c .before .before .before .before .before .before .before .before .before .before .before .before .before .before .before .context-fact in
     let loop = c .before .before .before .before .before .before .before .before .before .before .before .before .before .before .before .before .before .before .before .before .before .before .before .before .loop in
-    context-fact .kept .1 .1 .1 .1 .1 .1 .1 .1 .1 .1 .0 ∙ loop .inv .4
+    context-fact .kept .1 .1 .1 .1 .1 .1 .1 .1 .1 .1 .0 ∙ ap length (loop .inv .4)
 
 -- src/context.rt:408:17
 same-length-5 : tie.Need-same-length-5 Inv-loop μ-loop
@@ -117,8 +117,7 @@ returns c =
           (g .S) _ one (args .own .now) (loop .plain) (context-fact .last .1 .1 .1 .1 .1 .1 .1 .1 .1 .1 .1 .0) (loop .fine)
           (context-fact .last .1 .1 .1 .1 .1 .1 .1 .1 .1 .1 .1 .1 .0) (context-fact .result)
           (context-fact .ensures .0 (recalls-grown (loop .inv .7 g .on .grown) g)) (q .given .1)),
-      context-fact .ensures .1 ∙ loop .inv
-          .3,
+      (context-fact .ensures .1 .0 ∙ loop .inv .3, context-fact .ensures .1 .1 ∙ loop .inv .4),
     )
 
 -- src/context.rt:411:9
@@ -146,9 +145,8 @@ loop-again c =
       omega arith,
       context-fact .kept .1 .1 .1 .0 ∙ loop .inv .1,
       context-fact .kept .1 .1 .1 .1 .0 ∙ loop .inv .2,
-      context-fact .ensures .1
-          ∙ loop .inv .3,
-      context-fact .kept .1 .1 .1 .1 .1 .1 .1 .1 .1 .1 .0 ∙ loop .inv .4,
+      context-fact .ensures .1 .0 ∙ loop .inv .3,
+      context-fact .ensures .1 .1 ∙ loop .inv .4,
       context-fact .kept .1 .1 .1 .1 .1 .1 .1 .1 .1
           .1 .1 .0 ∙ loop .inv .5,
       context-fact .kept .1 .1 .1 .1 .1 .1 .1 .1 .1 .1 .1 .1 .0 ∙ loop .inv .6,
@@ -174,7 +172,7 @@ same-length-9 c = ap length ((c .before .loop) .inv .3)
 
 -- src/context.rt:364:1
 same-length-10 : tie.Need-same-length-10 Inv-loop μ-loop
-same-length-10 c = (c .before .loop) .inv .4
+same-length-10 c = ap length ((c .before .loop) .inv .4)
 
 -- src/context.rt:364:1
 same-length-11 : tie.Need-same-length-11 Inv-loop μ-loop
@@ -186,7 +184,7 @@ same-length-12 c = (c .before .loop) .inv .6
 
 -- src/context.rt:364:1
 returns-2 : tie.Need-returns-2 Inv-loop μ-loop
-returns-2 c = (λ g. contexting-over ((c .before .loop) .inv .7 g) ((c .loop-test) .left), (c .before .loop) .inv .3)
+returns-2 c = (λ g. contexting-over ((c .before .loop) .inv .7 g) ((c .loop-test) .left), ((c .before .loop) .inv .3, (c .before .loop) .inv .4))
 
 pub context-facts-spec : {M : Type 1} → statement M
 context-facts-spec =
