@@ -375,10 +375,11 @@ module _ {theory goals text symbols ins vars defs rules rulevars patterns facts 
 -- The scratch --------------------------------------------------------------------------------------------------------------------------------
 
 module _ {map memo theta pairs hyps footing : List ℕ} (ids : List ℕ)
-    (b : Blank map memo hyps footing × (theta ≡ replicate VARIABLES 0) × (pairs ≡ replicate (2 * PAIRS) 0) × (length ids ≡ 40960)) where
-  pub blank-empty : Empty theta map memo pairs × (16384 ≤ length ids)
-  blank-empty = (record { thetas = b .1; maps = b .0 .map-zero; memos = b .0 .memo-zero; many = b .2 }, omega (arith, b .3))
+    (b : Blank map memo hyps footing × (theta ≡ replicate VARIABLES 0) × (pairs ≡ replicate (2 * PAIRS) 0) × (ids ≡ replicate 40960 0)) where
+  pub blank-empty : Empty theta map memo pairs × (ids ≡ replicate 40960 0)
+  blank-empty = (record { thetas = b .1; maps = b .0 .map-zero; memos = b .0 .memo-zero; many = b .2 }, b .3)
 
-  pub blank-again : (map′ memo′ theta′ pairs′ : List ℕ) → Empty theta′ map′ memo′ pairs′ → (map′ ≡ map) × (memo′ ≡ memo) × (theta′ ≡ theta) × (pairs′ ≡ pairs)
+  pub blank-again : (map′ memo′ theta′ pairs′ : List ℕ) {ids′ : List ℕ} → Empty theta′ map′ memo′ pairs′ × (ids′ ≡ ids) →
+      (map′ ≡ map) × (memo′ ≡ memo) × (theta′ ≡ theta) × (pairs′ ≡ pairs) × (ids′ ≡ ids)
   blank-again map′ memo′ theta′ pairs′ e =
-      (e .maps ∙ sym (b .0 .map-zero), e .memos ∙ sym (b .0 .memo-zero), e .thetas ∙ sym (b .1), e .many ∙ sym (b .2))
+      (e .0 .maps ∙ sym (b .0 .map-zero), e .0 .memos ∙ sym (b .0 .memo-zero), e .0 .thetas ∙ sym (b .1), e .0 .many ∙ sym (b .2), e .1)

@@ -117,13 +117,12 @@ module _ {symbols rules patterns facts lists : List ℕ} {n : Sizes} {I W : List
   module _ (i : ℕ) {s : Span} (e : s ≡ ownSpan facts n i) {J X plain plain′ : List ℕ} {mid : Mark} (p : PremisesRead I W J X m premised plain plain′ mid) where
     -- what `context_facts` asks
     pub judge-given : {memo′ fine : List ℕ} → memo′ ≡ memo → length plain′ ≡ 64 → length fine ≡ 16 →
-        ContextGiven facts lists n J X mid theta memo′ (part lists s) ids plain′ fine
+        ContextGiven facts lists n J X mid theta memo′ (part lists s) plain′ fine
     judge-given f a b = record {
       recalls = recalls-grown (p .went .grown) (g .recalls);
       cells = theta-grown (p .went .grown) (g .theta-is);
       empty = f ∙ g .empty;
       known = own-there (g .recalls) i e;
-      room = g .room;
       wide = a;
       broad = b;
     }
@@ -210,7 +209,7 @@ module _ {symbols rules patterns facts lists : List ℕ} {n : Sizes} {I W : List
     empty = e ∙ g .empty;
     there = l;
     known = g .known;
-    room = g .room;
+    zero = g .zero;
   }
 
   abbrev all-of-it : ℕ → Out Made (Unit {0})
@@ -275,7 +274,7 @@ module _ {symbols rules patterns facts lists : List ℕ} {n : Sizes} {I W : List
       empty = e;
       there = grown-there (w .went .grown) j (g .there);
       known = g .known;
-      room = g .room;
+      zero = g .zero;
     }
 
     pub having-judged : (i : ℕ) (Y Z : List ℕ) (a : Bound) →

@@ -5,7 +5,7 @@ use mathlib.Core.Option.{none as nothing}
 use mathlib.Core.List.{List, _++_}
 use Prim.Native.Nat.{ℕ, _-_, _<_, _≤_}
 use native.Mathlib.Omega.{arith}
-use lib.ListN.{length, getD, take, drop}
+use lib.ListN.{length, getD, take, drop, replicate}
 use Rattle.rules.specs.Limits.{RULEVARS}
 use Rattle.rules.specs.Out.{ok, refuse, then}
 use Rattle.rules.specs.Find.{all, has}
@@ -238,8 +238,8 @@ module _ {theory goals text symbols ins vars defs rules rulevars patterns facts 
                   (omega (arith, all-at (c .vars) k 0 low (subst (λ (xs : List ℕ). k < length xs) list-is t), g .more))
 
               -- what `with_case` asks
-              abbrev pub turn-having : {ids : List ℕ} → 16384 ≤ length ids → Having symbols rules patterns facts lists n I W m r s j (take need list) context count ids
-              turn-having room =
+              abbrev pub turn-having : {ids : List ℕ} → ids ≡ replicate 40960 0 → Having symbols rules patterns facts lists n I W m r s j (take need list) context count ids
+              turn-having zero =
                   record {
                     recalls = refers-recalls (g .refers);
                     meeting =
@@ -258,7 +258,7 @@ module _ {theory goals text symbols ins vars defs rules rulevars patterns facts 
                     theory = refl;
                     there = g .judgment-there;
                     known = g .context-there;
-                    room = room;
+                    zero = zero;
                   }
 
               having : On I W m (invertRule (g .S) (g .inversion) R (g .names) (made I W m)) I W m

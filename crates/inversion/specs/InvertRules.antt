@@ -171,7 +171,7 @@ pub record Judging (symbols rules patterns facts lists : List ℕ) (n : Sizes) (
   pub empty : memo ≡ replicate TERMS 0
   pub there : j < m .terms
   pub known : There (n .facts) context
-  pub room : 16384 ≤ length ids
+  pub zero : ids ≡ replicate 40960 0
 
 -- the rest of a case behind its judgment t, which is under the unifier; context, i: the facts of the context, and the case's
 abbrev pub judged : State → Rule → (ℕ → Tree) → List Binding → List ℕ → ℕ → Tree → Act Made (Unit {0})
@@ -250,7 +250,7 @@ pub record Having (symbols rules patterns facts lists : List ℕ) (n : Sizes) (I
   pub theory : meeting .T ≡ recalls .S .theory
   pub there : j < m .terms
   pub known : There (n .facts) context
-  pub room : 16384 ≤ length ids
+  pub zero : ids ≡ replicate 40960 0
 
 -- there must be a unifier, and the case is judged under it
 abbrev pub has-case : State → List ℕ → ℕ → Tree → Rule → List ℕ → ℕ → Tree → Act Made (Unit {0})

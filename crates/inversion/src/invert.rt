@@ -113,7 +113,7 @@ fn predicate_of(index: &[u32], words: &[u32], mark: Mark, s: usize) -> usize
     0
 }
 
-// All rules of the predicate in turn. `map`, `memo`, `theta` and `pairs` are scratch: zero before and after.
+// All rules of the predicate in turn. `map`, `memo`, `theta`, `pairs` and `ids` are scratch: zero before and after.
 fn invert_rules(
     theory: &[u8],
     goals: &[u8],
@@ -145,11 +145,11 @@ fn invert_rules(
     ids: &mut [u32],
 ) -> Out
     requires { ⌜ Turning (names (now theory) (now goals) (now text) (now symbols) (now inputs) (now vars) (now defs)) (ruleLists (now theory) (now rules) (now rulevars) (now patterns)) (now facts) (now lists) n (now index) (now words) mark (now cells) many s j (now context) (now taken) (now sorts) (n .vars) ⌝ }
-    requires { ⌜ Empty (now theta) (now map) (now memo) (now pairs) × (16384 ≤ length (now ids)) ⌝ }
+    requires { ⌜ Empty (now theta) (now map) (now memo) (now pairs) × (now ids ≡ replicate 40960 0) ⌝ }
     ensures { λ a. ⌜ ((g : Turning (names (now (theory .entry)) (now (goals .entry)) (now (text .entry)) (now (symbols .entry)) (now (inputs .entry)) (now (vars .entry)) (now (defs .entry))) (ruleLists (now (theory .entry)) (now (rules .entry)) (now (rulevars .entry)) (now (patterns .entry))) (now (facts .entry)) (now (lists .entry)) n (now (index .entry)) (now (words .entry)) mark (now (cells .entry)) many s j (now (context .entry)) (now (taken .entry)) (now (sorts .entry)) (n .vars)) →
         TurnedAs (now (index .entry)) (now (words .entry)) (now (index .exit)) (now (words .exit)) mark (g .S) (g .inversion)
         (invertRules (g .S) (g .inversion) (rulesOf (g .S .theory) (predicateOf (g .inversion .hypothesis))) (g .names) (made (now (index .entry)) (now (words .entry)) mark)) (now (taken .exit)) (now (sorts .exit)) (n .vars) a) ⌝ }
-    ensures { λ _. ⌜ Empty (now (theta .exit)) (now (map .exit)) (now (memo .exit)) (now (pairs .exit)) ⌝ }
+    ensures { λ _. ⌜ Empty (now (theta .exit)) (now (map .exit)) (now (memo .exit)) (now (pairs .exit)) × (now (ids .exit) ≡ now (ids .entry)) ⌝ }
 {
     let predicate = predicate_of(index, words, mark, s);
     let mut m = mark;
@@ -232,11 +232,11 @@ fn invert_on(
     ids: &mut [u32],
 ) -> Out
     requires { ⌜ InvertingOn (names (now theory) (now goals) (now text) (now symbols) (now inputs) (now vars) (now defs)) (ruleLists (now theory) (now rules) (now rulevars) (now patterns)) (now facts) (now lists) n (now index) (now words) mark (now cells) s j (now hyps) ⌝ }
-    requires { ⌜ Empty (now theta) (now map) (now memo) (now pairs) × (16384 ≤ length (now ids)) ⌝ }
+    requires { ⌜ Empty (now theta) (now map) (now memo) (now pairs) × (now ids ≡ replicate 40960 0) ⌝ }
     ensures { λ a. ⌜ ((g : InvertingOn (names (now (theory .entry)) (now (goals .entry)) (now (text .entry)) (now (symbols .entry)) (now (inputs .entry)) (now (vars .entry)) (now (defs .entry))) (ruleLists (now (theory .entry)) (now (rules .entry)) (now (rulevars .entry)) (now (patterns .entry))) (now (facts .entry)) (now (lists .entry)) n (now (index .entry)) (now (words .entry)) mark (now (cells .entry)) s j (now (hyps .entry))) →
         InvertedOnAs (now (goals .entry)) (now (text .entry)) (now (index .entry)) (now (words .entry)) (now (index .exit)) (now (words .exit)) mark (g .form .S)
         (invertOn (g .form .S) (g .form .xs) (tree (now (index .entry)) (now (words .entry)) mark s) (tree (now (index .entry)) (now (words .entry)) mark j) (rising (n .facts) (holds (now (hyps .entry)))) (made (now (index .entry)) (now (words .entry)) mark)) (now (vars .entry)) (now (vars .exit)) a) ⌝ }
-    ensures { λ _. ⌜ Empty (now (theta .exit)) (now (map .exit)) (now (memo .exit)) (now (pairs .exit)) ⌝ }
+    ensures { λ _. ⌜ Empty (now (theta .exit)) (now (map .exit)) (now (memo .exit)) (now (pairs .exit)) × (now (ids .exit) ≡ now (ids .entry)) ⌝ }
 {
     let Item::List(a, b) = items::nth(cells, 5) else {
         return Out::No(41, 0, mark);
@@ -303,8 +303,8 @@ fn invert_on(
     }
 }
 
-// The form, whose items the cells hold. `map`, `memo`, `theta` and `pairs` are scratch: zero before and after; `ids` is scratch of whatever content. The
-// sets are empty before; afterwards they are the fact's, where one is answered. The rows of made variables are in the table then.
+// The form, whose items the cells hold. `map`, `memo`, `theta`, `pairs` and `ids` are scratch: zero before and after. The sets are empty before; afterwards
+// they are the fact's, where one is answered. The rows of made variables are in the table then.
 pub fn invert(
     theory: &[u8],
     goals: &[u8],
@@ -333,10 +333,10 @@ pub fn invert(
     footing: &mut [u64],
 ) -> Inverted
     requires { ⌜ InvertForm (names (now theory) (now goals) (now text) (now symbols) (now inputs) (now vars) (now defs)) (ruleLists (now theory) (now rules) (now rulevars) (now patterns)) (now facts) (now footings) (now lists) n (now index) (now words) mark (now cells) ⌝ }
-    requires { ⌜ Blank (now map) (now memo) (now hyps) (now footing) × (now theta ≡ replicate VARIABLES 0) × (now pairs ≡ replicate (2 * PAIRS) 0) × (length (now ids) ≡ 40960) ⌝ }
+    requires { ⌜ Blank (now map) (now memo) (now hyps) (now footing) × (now theta ≡ replicate VARIABLES 0) × (now pairs ≡ replicate (2 * PAIRS) 0) × (now ids ≡ replicate 40960 0) ⌝ }
     ensures { λ r. ⌜ ((g : InvertForm (names (now (theory .entry)) (now (goals .entry)) (now (text .entry)) (now (symbols .entry)) (now (inputs .entry)) (now (vars .entry)) (now (defs .entry))) (ruleLists (now (theory .entry)) (now (rules .entry)) (now (rulevars .entry)) (now (patterns .entry))) (now (facts .entry)) (now (footings .entry)) (now (lists .entry)) n (now (index .entry)) (now (words .entry)) mark (now (cells .entry))) →
         InvertedAs (now (goals .entry)) (now (text .entry)) (now (index .entry)) (now (words .entry)) (now (index .exit)) (now (words .exit)) mark (g .S) (invert (g .S) (g .xs) (made (now (index .entry)) (now (words .entry)) mark)) (now (hyps .exit)) (now (footing .exit)) (now (vars .entry)) (now (vars .exit)) r) ⌝ }
-    ensures { λ _. ⌜ (now (map .exit) ≡ now (map .entry)) × (now (memo .exit) ≡ now (memo .entry)) × (now (theta .exit) ≡ now (theta .entry)) × (now (pairs .exit) ≡ now (pairs .entry)) ⌝ }
+    ensures { λ _. ⌜ (now (map .exit) ≡ now (map .entry)) × (now (memo .exit) ≡ now (memo .entry)) × (now (theta .exit) ≡ now (theta .entry)) × (now (pairs .exit) ≡ now (pairs .entry)) × (now (ids .exit) ≡ now (ids .entry)) ⌝ }
 {
     let at = items::place(cells, 2);
     let Found::At(i) = index_in(text, &cells[at..]) else {

@@ -4,7 +4,7 @@ ghost use mathlib.Core.Path.{_≡_};
 ghost use mathlib.Core.Bool.{not};
 ghost use mathlib.Core.List.{List};
 ghost use Prim.Native.Nat.{ℕ, _*_, _<_, _≤_};
-ghost use lib.ListN.{length, getD};
+ghost use lib.ListN.{length, getD, replicate};
 ghost use Rattle.rules.specs.Limits.{VARIABLES, RULEVARS, VARIABLEWORDS, TERMWORDS, FACTWORDS, FACTS};
 ghost use Rattle.rules.specs.Tree.{var};
 ghost use Rattle.rules.specs.Find.{all};
@@ -302,7 +302,7 @@ fn judge_on(
     ensures { λ a. ⌜ ((g : Judging (now (symbols .entry)) (now (rules .entry)) (now (patterns .entry)) (now (facts .entry)) (now (lists .entry)) n (now (index .entry)) (now (words .entry)) mark r t (now (bound .entry)) (now (theta .entry)) (now (memo .entry)) (now (context .entry)) (now (ids .entry))) →
         JudgedAs (now (index .entry)) (now (words .entry)) (now (index .exit)) (now (words .exit)) mark
         (judged (g .recalls .S) (rule (g .renamed .T) r) (renaming (g .renamed .xs)) (bindings (made (now (index .entry)) (now (words .entry)) mark) (now (theta .entry)) 0) (now (context .entry)) i (tree (now (index .entry)) (now (words .entry)) mark t) (made (now (index .entry)) (now (words .entry)) mark)) a) ⌝ }
-    ensures { λ _. ⌜ now (memo .exit) ≡ now (memo .entry) ⌝ }
+    ensures { λ _. ⌜ (now (memo .exit) ≡ now (memo .entry)) × (now (ids .exit) ≡ now (ids .entry)) ⌝ }
 {
     let mut plain = [0u64; TERMWORDS];
     let mut fine = [0u64; FACTWORDS];
@@ -375,7 +375,7 @@ fn judge(
     ensures { λ a. ⌜ ((g : Judging (now (symbols .entry)) (now (rules .entry)) (now (patterns .entry)) (now (facts .entry)) (now (lists .entry)) n (now (index .entry)) (now (words .entry)) mark r j (now (bound .entry)) (now (theta .entry)) (now (memo .entry)) (now (context .entry)) (now (ids .entry))) →
         JudgedAs (now (index .entry)) (now (words .entry)) (now (index .exit)) (now (words .exit)) mark
         (judges (g .recalls .S) (rule (g .renamed .T) r) (renaming (g .renamed .xs)) (bindings (made (now (index .entry)) (now (words .entry)) mark) (now (theta .entry)) 0) (now (context .entry)) i (tree (now (index .entry)) (now (words .entry)) mark j) (made (now (index .entry)) (now (words .entry)) mark)) a) ⌝ }
-    ensures { λ _. ⌜ now (memo .exit) ≡ now (memo .entry) ⌝ }
+    ensures { λ _. ⌜ (now (memo .exit) ≡ now (memo .entry)) × (now (ids .exit) ≡ now (ids .entry)) ⌝ }
 {
     match substitute(index, words, mark, theta, memo, j) {
         Kept::Term(t, m) => judge_on(
@@ -487,7 +487,7 @@ fn with_case(
     ensures { λ a. ⌜ ((g : Having (now (symbols .entry)) (now (rules .entry)) (now (patterns .entry)) (now (facts .entry)) (now (lists .entry)) n (now (index .entry)) (now (words .entry)) mark r s j (now (list .entry)) (now (context .entry)) count (now (ids .entry))) →
         JudgedAs (now (index .entry)) (now (words .entry)) (now (index .exit)) (now (words .exit)) mark
         (has-case (g .recalls .S) (now (list .entry)) count (tree (now (index .entry)) (now (words .entry)) mark s) (rule (g .recalls .S .theory) r) (now (context .entry)) i (tree (now (index .entry)) (now (words .entry)) mark j) (made (now (index .entry)) (now (words .entry)) mark)) a) ⌝ }
-    ensures { λ _. ⌜ Empty (now (theta .exit)) (now (map .exit)) (now (memo .exit)) (now (pairs .exit)) ⌝ }
+    ensures { λ _. ⌜ Empty (now (theta .exit)) (now (map .exit)) (now (memo .exit)) (now (pairs .exit)) × (now (ids .exit) ≡ now (ids .entry)) ⌝ }
 {
     let mut bound = [0u32; RULEVARS];
     match meet(
@@ -536,7 +536,7 @@ fn with_case(
     }
 }
 
-// Rule r: the number of variables then, or a question and its detail. `map`, `memo`, `theta` and `pairs` are scratch: zero before and after.
+// Rule r: the number of variables then, or a question and its detail. `map`, `memo`, `theta`, `pairs` and `ids` are scratch: zero before and after.
 pub fn invert_rule(
     theory: &[u8],
     goals: &[u8],
@@ -570,11 +570,11 @@ pub fn invert_rule(
     ids: &mut [u32],
 ) -> Out
     requires { ⌜ Turning (names (now theory) (now goals) (now text) (now symbols) (now inputs) (now vars) (now defs)) (ruleLists (now theory) (now rules) (now rulevars) (now patterns)) (now facts) (now lists) n (now index) (now words) mark (now cells) many s j (now context) (now taken) (now sorts) count ⌝ }
-    requires { ⌜ (r < n .rules) × Empty (now theta) (now map) (now memo) (now pairs) × (16384 ≤ length (now ids)) ⌝ }
+    requires { ⌜ (r < n .rules) × Empty (now theta) (now map) (now memo) (now pairs) × (now ids ≡ replicate 40960 0) ⌝ }
     ensures { λ a. ⌜ ((g : Turning (names (now (theory .entry)) (now (goals .entry)) (now (text .entry)) (now (symbols .entry)) (now (inputs .entry)) (now (vars .entry)) (now (defs .entry))) (ruleLists (now (theory .entry)) (now (rules .entry)) (now (rulevars .entry)) (now (patterns .entry))) (now (facts .entry)) (now (lists .entry)) n (now (index .entry)) (now (words .entry)) mark (now (cells .entry)) many s j (now (context .entry)) (now (taken .entry)) (now (sorts .entry)) count) →
         TurnedAs (now (index .entry)) (now (words .entry)) (now (index .exit)) (now (words .exit)) mark (g .S) (g .inversion)
         (invertRule (g .S) (g .inversion) (rule (g .S .theory) r) (g .names) (made (now (index .entry)) (now (words .entry)) mark)) (now (taken .exit)) (now (sorts .exit)) count a) ⌝ }
-    ensures { λ _. ⌜ Empty (now (theta .exit)) (now (map .exit)) (now (memo .exit)) (now (pairs .exit)) ⌝ }
+    ensures { λ _. ⌜ Empty (now (theta .exit)) (now (map .exit)) (now (memo .exit)) (now (pairs .exit)) × (now (ids .exit) ≡ now (ids .entry)) ⌝ }
 {
     let span = rule_name(rules, r);
     let from = span.from;

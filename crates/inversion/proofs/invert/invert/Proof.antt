@@ -37,7 +37,7 @@ enum-told : tie.Need-enum-told
 enum-told c = search needs
 
 returns : tie.Need-returns
-returns c = (λ g. (form-no-index g ((c .before .before .before .before .place) .ensures) ((c .before .before .index) .ensures) ((c .enum-told) .given .1), refl), (refl, refl, refl, refl))
+returns c = (λ g. (form-no-index g ((c .before .before .before .before .place) .ensures) ((c .before .before .index) .ensures) ((c .enum-told) .given .1), refl), (refl, refl, refl, refl, refl))
 
 is-fact-requires : tie.Need-is-fact-requires
 is-fact-requires c κs = search needs
@@ -49,7 +49,7 @@ returns-2 c =
     let i = c .before .before .before .i in
     let is-fact = c .before .is-fact in (
       λ g. (form-no-fact g (place .ensures) (index .ensures) (i .given .1) (is-fact .ensures) ((c .if1) .taken), refl),
-      (refl, refl, refl, refl),
+      (refl, refl, refl, refl, refl),
     )
 
 is-plain-requires : tie.Need-is-plain-requires
@@ -75,7 +75,7 @@ returns-3 c =
             ((c .if2) .taken),
         refl,
       ),
-      (refl, refl, refl, refl),
+      (refl, refl, refl, refl, refl),
     )
 
 place-requires-2 : tie.Need-place-requires-2
@@ -151,7 +151,7 @@ returns-4 c =
             (place2 .ensures) (args .hyps .now) (any-hyps .last .1 .1 .1 .1 .0) (any-hyps .result) (any-hyps .ensures) (q .given .1),
         refl,
       ),
-      (refl, refl, refl, refl),
+      (refl, refl, refl, refl, refl),
     )
 
 place-requires-3 : tie.Need-place-requires-3
@@ -467,7 +467,7 @@ returns-7 c =
             (judgment .last .1 .1 .1 .1 .1 .1 .1 .1 .1 .0) (judgment .result) (judgment .ensures) (q3 .given .1),
         refl,
       ),
-      (refl, refl, refl, refl),
+      (refl, refl, refl, refl, refl),
     )
 
 pub invert-spec : {M : Type 1} → statement M

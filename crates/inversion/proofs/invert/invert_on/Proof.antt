@@ -23,7 +23,7 @@ returns : tie.Need-returns
 returns c =
     let nth = c .before .before .nth in
     let pre = c .before .before .before .before .before .before .before .before .before .before .before .before .before .before .before .before .before .before .before .before .before .before .before .before .pre in
-    (λ g. (on-atom g (nth .ensures) ((c .enum-told) .given .1), refl), pre .1 .0)
+    (λ g. (on-atom g (nth .ensures) ((c .enum-told) .given .1), refl), (pre .1 .0, refl))
 
 mul-inner : tie.Need-mul-inner
 mul-inner c =
@@ -85,7 +85,7 @@ returns-2 c =
     let q = c .before .q in
     let mid = c .before .before .before .before .before .before .before .before .before .before .before .before .before .before .before .before .before .before .before .before .before .before .before .before .before in
     let pre = mid .before .before .before .before .before .before .pre in
-    (λ g. (on-refused g (nth .ensures) (a .given .1) (read-cases .result) (read-cases .ensures) (q .given .1), refl), pre .1 .0)
+    (λ g. (on-refused g (nth .ensures) (a .given .1) (read-cases .result) (read-cases .ensures) (q .given .1), refl), (pre .1 .0, refl))
 
 count-requires : tie.Need-count-requires
 count-requires c κs =

@@ -20,7 +20,7 @@ Inv-loop theory goals text symbols inputs rules rulevars patterns vars defs fact
     × (length words ≡ length words₀)
     × (length taken ≡ length taken₀)
     × (length sorts ≡ length sorts₀)
-    × (length ids ≡ length ids₀)
+    × (ids ≡ ids₀)
 
 abbrev μ-loop : tie.MeasureT-loop
 μ-loop theory goals text symbols inputs rules rulevars patterns vars defs facts lists n index₀ words₀ cells many s j context taken₀ sorts₀ map₀ memo₀ theta₀ pairs₀ ids₀ predicate m₀ count₀ from₀ index words taken sorts map memo theta pairs ids m count from = n .rules - from
@@ -84,10 +84,10 @@ same-length-8 c =
     ap length (loop .inv .1 .many ∙ sym (pre .1 .0 .many))
 
 same-length-9 : tie.Need-same-length-9 Inv-loop μ-loop
-same-length-9 c = (c .before .before .before .loop) .inv .6
+same-length-9 c = ap length ((c .before .before .before .loop) .inv .6)
 
 returns : tie.Need-returns Inv-loop μ-loop
-returns c = (λ g. rounds-over g ((c .before .before .before .loop) .inv .0 g) ((c .before .before .next-rule) .ensures) ((c .enum-told) .given .1), (c .before .before .before .loop) .inv .1)
+returns c = (λ g. rounds-over g ((c .before .before .before .loop) .inv .0 g) ((c .before .before .next-rule) .ensures) ((c .enum-told) .given .1), ((c .before .before .before .loop) .inv .1, (c .before .before .before .loop) .inv .6))
 
 invert-rule-requires : tie.Need-invert-rule-requires Inv-loop μ-loop
 invert-rule-requires c κs =
@@ -101,8 +101,7 @@ invert-rule-requires c κs =
       (
         rounds-known (pre .0) (loop .inv .0 (pre .0)) (next-rule .ensures) (r .given .1),
         loop .inv .1,
-        omega
-            (arith, loop .inv .6, pre .1 .1),
+        loop .inv .6 ∙ pre .1 .1,
       ),
     )
 
@@ -185,7 +184,7 @@ same-length-18 c =
     let invert-rule = c .before .before .before .before .before .before .before .before .before .before .before .before .before .before .before .before .before .before .before .before .before .invert-rule in
     let mid = c .before .before .before .before .before .before .before .before .before .before .before .before .before .before .before .before .before .before .before .before .before .before .before .before .before in
     let loop = mid .before .before .before .before .before .before .before .before .before .before .loop in
-    invert-rule .kept .1 .1 .1 .1 .1 .1 .1 .1 .1 .1 .1 .1 .1 .1 .1 .1 .1 .1 .1 .1 .1 .1 .1 .1 .1 .1 .1 .1 .1 .0 ∙ loop .inv .6
+    invert-rule .kept .1 .1 .1 .1 .1 .1 .1 .1 .1 .1 .1 .1 .1 .1 .1 .1 .1 .1 .1 .1 .1 .1 .1 .1 .1 .1 .1 .1 .1 .0 ∙ ap length (loop .inv .6)
 
 returns-2 : tie.Need-returns-2 Inv-loop μ-loop
 returns-2 c =
@@ -203,7 +202,7 @@ returns-2 c =
           (invert-rule .last .1 .1 .1 .1 .1 .1 .1 .1 .1 .1 .1 .1 .1 .1 .1 .1 .1 .1 .1 .1 .1 .1 .0)
           (invert-rule .last .1 .1 .1 .1 .1 .1 .1 .1 .1 .1 .1 .1 .1 .1 .1 .1 .1 .1 .1 .1 .1 .1 .1 .0) (invert-rule .result)
           (invert-rule .ensures .0) (q .given .1),
-      invert-rule .ensures .1,
+      (invert-rule .ensures .1 .0, invert-rule .ensures .1 .1 ∙ loop .inv .6),
     )
 
 add-from : tie.Need-add-from Inv-loop μ-loop
@@ -253,7 +252,7 @@ loop-again c =
           (invert-rule .last .1 .1 .1 .1 .1 .1 .1 .1 .1 .1 .1 .1 .1 .1 .1 .1 .1 .1 .1 .1 .1 .1 .0)
           (invert-rule .last .1 .1 .1 .1 .1 .1 .1 .1 .1 .1 .1 .1 .1 .1 .1 .1 .1 .1 .1 .1 .1 .1 .1 .0) (invert-rule .result)
           (invert-rule .ensures .0) (k .given .1),
-      invert-rule .ensures .1,
+      invert-rule .ensures .1 .0,
       invert-rule .kept .1 .1 .1 .1 .1 .1 .1 .1 .1 .1 .1 .1 .1 .0 ∙
           loop .inv .2,
       invert-rule .kept .1 .1 .1 .1 .1 .1 .1 .1 .1 .1 .1 .1 .1 .1 .0 ∙ loop .inv .3,
@@ -261,8 +260,7 @@ loop-again c =
           .1 .1 .1 .1 .1 .1 .1 .1 .1 .1 .1 .1 .1 .1 .1 .0 ∙ loop .inv .4,
       invert-rule .kept .1 .1 .1 .1 .1 .1 .1 .1 .1 .1 .1 .1 .1 .1 .1 .1
           .1 .1 .1 .1 .1 .1 .1 .0 ∙ loop .inv .5,
-      invert-rule .kept .1 .1 .1 .1 .1 .1 .1 .1 .1 .1 .1 .1 .1 .1 .1 .1 .1 .1 .1 .1 .1 .1 .1 .1
-          .1 .1 .1 .1 .1 .0 ∙ loop .inv .6,
+      invert-rule .ensures .1 .1 ∙ loop .inv .6,
     )
 
 pub invert-rules-spec : {M : Type 1} → statement M

@@ -77,7 +77,7 @@ returns c =
           (without-case .last .1 .1 .1 .1 .1 .0) (without-case .last .1 .1 .1 .1 .1 .1 .0)
           (without-case .last .1 .1 .1 .1 .1 .1 .1 .1 .1 .1 .0) (without-case .result)
           (without-case .ensures .0 (turn-lacking g (pre .1 .0))),
-      without-case .ensures .1,
+      (without-case .ensures .1, refl),
     )
 
 variables-requires : tie.Need-variables-requires
@@ -124,7 +124,7 @@ returns-2 c =
       λ g. turn-missing g (pre .1 .0) (rule-name .result) (rule-name .ensures) (find-case .result) (find-case .ensures) (p .given .1)
           (variables .ensures) (case-vars .last .1 .1 .1 .1 .1 .1 .1 .1 .1 .0) (case-vars .last .1 .1 .1 .1 .1 .1 .1 .1 .1 .1 .0)
           (case-vars .result) (case-vars .ensures) ((c .enum-told2) .given .1),
-      pre .1 .1,
+      (pre .1 .1, refl),
     )
 
 array-share-prefix-list : tie.Need-array-share-prefix-list

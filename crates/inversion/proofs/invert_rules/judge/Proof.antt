@@ -72,7 +72,7 @@ returns c =
           (t .given .1)) .grown)
           (under-there (grown-refl (g .recalls .good)) (args .theta .now) (g .theta-is .bound) (g .there) (substitute .ensures .0)
           (t .given .1)) (substitute .ensures .1))),
-      judge-on .ensures .1 ∙ substitute .ensures .1,
+      (judge-on .ensures .1 .0 ∙ substitute .ensures .1, judge-on .ensures .1 .1),
     )
 
 -- src/invert_rules.rt:331:1
@@ -96,7 +96,7 @@ returns-2 c =
       λ g. judge-stop g (args .i)
           (under-stopped (grown-refl (g .recalls .good)) (args .theta .now) (g .theta-is .bound) (g .there) (substitute .ensures .0)
           (row .given .1)),
-      substitute .ensures .1,
+      (substitute .ensures .1, refl),
     )
 
 pub judge-spec : {M : Type 1} → statement M

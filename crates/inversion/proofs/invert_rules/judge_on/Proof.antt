@@ -97,6 +97,7 @@ context-facts-requires c κs =
           (rule-premises .kept .1 .1 .1 .1 .1 .1 .1 .1 .1 .1 .1 .0 ∙ length-replicate {A = ℕ} TERMWORDS 0)
           (length-replicate {A = ℕ} FACTWORDS 0),
       pre .known,
+      pre .zero,
     )
 
 -- src/invert_rules.rt:317:23
@@ -230,7 +231,7 @@ returns c =
           (context-facts .last .1 .1 .1 .1 .1 .1 .1 .1 .1 .1 .1 .1 .0) (context-facts .result)
           (context-facts .ensures .0 (recalls-grown (p .went .grown) (g .recalls))) (new .given .1) in judge-refused g (args .i)
           (own-hyps .ensures) p k (verdict .ensures (judge-verdict g (args .i) (own-hyps .ensures) p k)) refl refl ((c .if1) .taken),
-      context-facts .ensures .1 ∙ rule-premises .ensures .1,
+      (context-facts .ensures .1 .0 ∙ rule-premises .ensures .1, context-facts .ensures .1 .1),
     )
 
 -- src/invert_rules.rt:324:23
@@ -291,7 +292,7 @@ returns-2 c =
           (context-facts .last .1 .1 .1 .1 .1 .1 .1 .1 .1 .1 .1 .1 .0) (context-facts .result)
           (context-facts .ensures .0 (recalls-grown (p .went .grown) (g .recalls))) (new .given .1) in judge-done g (args .i)
           (own-hyps .ensures) p k (verdict .ensures (judge-verdict g (args .i) (own-hyps .ensures) p k)) refl refl ((c .if1) .left),
-      context-facts .ensures .1 ∙ rule-premises .ensures .1,
+      (context-facts .ensures .1 .0 ∙ rule-premises .ensures .1, context-facts .ensures .1 .1),
     )
 
 -- src/invert_rules.rt:269:1
@@ -338,8 +339,7 @@ returns-3 c =
           (context-facts .last .1 .1 .1 .1 .1 .1 .1 .1 .1 .1 .1 .0) (replicate FACTWORDS 0)
           (context-facts .last .1 .1 .1 .1 .1 .1 .1 .1 .1 .1 .1 .1 .0) (context-facts .result)
           (context-facts .ensures .0 (recalls-grown (p .went .grown) (g .recalls))) (q .given .1)),
-      context-facts .ensures .1 ∙
-          rule-premises .ensures .1,
+      (context-facts .ensures .1 .0 ∙ rule-premises .ensures .1, context-facts .ensures .1 .1),
     )
 
 -- src/invert_rules.rt:269:1
@@ -365,7 +365,7 @@ returns-4 c =
           (premises-no (args .index .now) (args .words .now) (rule-premises .last .1 .1 .1 .1 .0) (rule-premises .last .1 .1 .1 .1 .1 .0)
           (args .mark) _ (replicate TERMWORDS 0) (rule-premises .last .1 .1 .1 .1 .1 .1 .1 .1 .1 .1 .1 .0) (rule-premises .result)
           (rule-premises .ensures .0 (g .renamed)) (q2 .given .1)),
-      rule-premises .ensures .1,
+      (rule-premises .ensures .1, refl),
     )
 
 pub judge-on-spec : {M : Type 1} → statement M

@@ -1,5 +1,5 @@
 -- `inversion::invert_rules::with_case` meets its contract. Assumes nothing.
-use mathlib.Core.Path.{ap, _∙_}
+use mathlib.Core.Path.{refl, ap, _∙_}
 use Prim.Native.Nat.{ℕ}
 use lib.ListN.{length, replicate, length-replicate}
 use Rattle.rules.specs.Limits.{VARIABLES}
@@ -101,15 +101,18 @@ returns c =
           (meet .result) (meet .ensures .0 (g .meeting)) (m .given .1) in having-judged g w (args .i) (judge .last .1 .1 .1 .1 .1 .1 .0)
           (judge .last .1 .1 .1 .1 .1 .1 .1 .0) (judge .result)
           (judge .ensures .0 (having-judging g w (meet .ensures .1 .1 ∙ pre .1 .memos))),
-      record {
-        thetas = clear .ensures ∙ ap (λ (k : ℕ). replicate k 0)
-            (meet .kept .1 .1 .1 .1 .1 .1 .1 .1 .1 .1 .1 .1 .0 ∙ ap length (pre .1 .thetas) ∙ length-replicate {A = ℕ} VARIABLES 0);
-        maps
-            = meet .ensures .1 .0 ∙ pre .1 .maps;
-        memos = judge .ensures .1 ∙ meet .ensures .1 .1 ∙ pre .1 .memos;
-        many = meet .ensures .1
-            .2 ∙ pre .1 .many;
-      },
+      (
+        record {
+          thetas = clear .ensures ∙ ap (λ (k : ℕ). replicate k 0)
+              (meet .kept .1 .1 .1 .1 .1 .1 .1 .1 .1 .1 .1 .1 .0 ∙ ap length (pre .1 .thetas) ∙ length-replicate {A = ℕ} VARIABLES 0);
+          maps
+              = meet .ensures .1 .0 ∙ pre .1 .maps;
+          memos = judge .ensures .1 .0 ∙ meet .ensures .1 .1 ∙ pre .1 .memos;
+          many = meet .ensures .1
+              .2 ∙ pre .1 .many;
+        },
+        judge .ensures .1 .1,
+      ),
     )
 
 -- src/invert_rules.rt:424:1
@@ -148,16 +151,19 @@ returns-2 c =
           ((met-apart (args .index .now) (args .words .now) (meet .last .1 .1 .1 .1 .0) (meet .last .1 .1 .1 .1 .1 .0) (args .mark) _
           (args .list .now) (meet .last .1 .1 .1 .1 .1 .1 .1 .1 .1 .1 .1 .0) (meet .last .1 .1 .1 .1 .1 .1 .1 .1 .1 .1 .1 .1 .0)
           (meet .result) (meet .ensures .0 (g .meeting)) (m2 .given .1)) .0),
-      record {
-        thetas =
-            (met-apart (args .index .now) (args .words .now) (meet .last .1 .1 .1 .1 .0) (meet .last .1 .1 .1 .1 .1 .0) (args .mark) _
-            (args .list .now) (meet .last .1 .1 .1 .1 .1 .1 .1 .1 .1 .1 .1 .0) (meet .last .1 .1 .1 .1 .1 .1 .1 .1 .1 .1 .1 .1 .0)
-            (meet .result) (meet .ensures .0 (pre .0 .meeting)) (m2 .given .1)) .1;
-        maps = meet .ensures .1 .0 ∙ pre .1 .maps;
-        memos
-            = (meet .ensures .1 .1 ∙ pre .1 .memos);
-        many = meet .ensures .1 .2 ∙ pre .1 .many;
-      },
+      (
+        record {
+          thetas =
+              (met-apart (args .index .now) (args .words .now) (meet .last .1 .1 .1 .1 .0) (meet .last .1 .1 .1 .1 .1 .0) (args .mark) _
+              (args .list .now) (meet .last .1 .1 .1 .1 .1 .1 .1 .1 .1 .1 .1 .0) (meet .last .1 .1 .1 .1 .1 .1 .1 .1 .1 .1 .1 .1 .0)
+              (meet .result) (meet .ensures .0 (pre .0 .meeting)) (m2 .given .1)) .1;
+          maps = meet .ensures .1 .0 ∙ pre .1 .maps;
+          memos
+              = (meet .ensures .1 .1 ∙ pre .1 .memos);
+          many = meet .ensures .1 .2 ∙ pre .1 .many;
+        },
+        refl,
+      ),
     )
 
 -- src/invert_rules.rt:424:1
@@ -196,16 +202,19 @@ returns-3 c =
           ((met-full (args .index .now) (args .words .now) (meet .last .1 .1 .1 .1 .0) (meet .last .1 .1 .1 .1 .1 .0) (args .mark) _
           (args .list .now) (meet .last .1 .1 .1 .1 .1 .1 .1 .1 .1 .1 .1 .0) (meet .last .1 .1 .1 .1 .1 .1 .1 .1 .1 .1 .1 .1 .0)
           (meet .result) (meet .ensures .0 (g .meeting)) (row .given .1)) .0),
-      record {
-        thetas =
-            (met-full (args .index .now) (args .words .now) (meet .last .1 .1 .1 .1 .0) (meet .last .1 .1 .1 .1 .1 .0) (args .mark) _
-            (args .list .now) (meet .last .1 .1 .1 .1 .1 .1 .1 .1 .1 .1 .1 .0) (meet .last .1 .1 .1 .1 .1 .1 .1 .1 .1 .1 .1 .1 .0)
-            (meet .result) (meet .ensures .0 (pre .0 .meeting)) (row .given .1)) .1;
-        maps = meet .ensures .1 .0 ∙ pre .1 .maps;
-        memos
-            = (meet .ensures .1 .1 ∙ pre .1 .memos);
-        many = meet .ensures .1 .2 ∙ pre .1 .many;
-      },
+      (
+        record {
+          thetas =
+              (met-full (args .index .now) (args .words .now) (meet .last .1 .1 .1 .1 .0) (meet .last .1 .1 .1 .1 .1 .0) (args .mark) _
+              (args .list .now) (meet .last .1 .1 .1 .1 .1 .1 .1 .1 .1 .1 .1 .0) (meet .last .1 .1 .1 .1 .1 .1 .1 .1 .1 .1 .1 .1 .0)
+              (meet .result) (meet .ensures .0 (pre .0 .meeting)) (row .given .1)) .1;
+          maps = meet .ensures .1 .0 ∙ pre .1 .maps;
+          memos
+              = (meet .ensures .1 .1 ∙ pre .1 .memos);
+          many = meet .ensures .1 .2 ∙ pre .1 .many;
+        },
+        refl,
+      ),
     )
 
 pub with-case-spec : {M : Type 1} → statement M
