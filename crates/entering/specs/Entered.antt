@@ -15,6 +15,7 @@ use Rattle.state.specs.Held.{Names, RuleLists, Records}
 use Rattle.state.specs.Recording.{Valid, Derives, DerivedPut, withFact}
 use Rattle.entering.specs.declared.derive.Entered.{Entered}
 use Rattle.entering.specs.declared.derive.Entered.the-variants as entered-as
+use Rattle.induction.specs.Inducing.{IDS}
 use Rattle.referring.specs.Derived.{FactForm, RuleForm}
 use Rattle.forms.specs.Halted.{Makes, Halts}
 
@@ -33,6 +34,11 @@ pub record AddsInstance (K : Names) (P : RuleLists) (facts footings lists : List
 -- the scratch: zero before and after
 pub record Scratch (map memo : List ℕ) : Type 0 where
   pub map-zero : map ≡ replicate VARIABLES 0
+  pub memo-zero : memo ≡ replicate TERMS 0
+
+-- what the forms share of it: zero before and after
+pub record Spare (ids memo : List ℕ) : Type 0 where
+  pub ids-zero : ids ≡ replicate IDS 0
   pub memo-zero : memo ≡ replicate TERMS 0
 
 -- Answers --------------------------------------------------------------------------------------------------------------------------
