@@ -33,9 +33,10 @@ pub record Held (theory goals proof : List ℕ) (T : TheoryLists) (W : Working) 
   pub course : Course theory goals proof (theoryFront T) (boardFront W rows feet) s S
 
 -- the scratch of the forms, between two of them
-pub record Idle (cells ids : List ℕ) : Type 0 where
+pub record Idle (cells ids memo : List ℕ) : Type 0 where
   pub cells-zero : cells ≡ replicate LENGTH 0
-  pub ids-long : length ids ≡ IDS
+  pub ids-zero : ids ≡ replicate IDS 0
+  pub memo-zero : memo ≡ replicate TERMS 0
 
 -- no count passes the number of forms; a form has fewer instances than a text bytes
 pub record Few (c : Counts) (forms : ℕ) : Type 0 where
@@ -45,10 +46,10 @@ pub record Few (c : Counts) (forms : ℕ) : Type 0 where
   pub instances : c .instances ≤ LENGTH * forms
 
 -- with the records of facts and the counts
-pub record Between (theory goals proof : List ℕ) (T : TheoryLists) (W : Working) (rows feet cells ids : List ℕ) (s : Run) (fs : List Fact) (c : Counts) : Type 0
+pub record Between (theory goals proof : List ℕ) (T : TheoryLists) (W : Working) (rows feet cells ids memo : List ℕ) (s : Run) (fs : List Fact) (c : Counts) : Type 0
   where
     pub held : Held theory goals proof T W rows feet s
-    pub idle : Idle cells ids
+    pub idle : Idle cells ids memo
     pub counted : held .S .counts ≡ countsOf c
     pub few : Few c (s .forms)
     pub room : FACTS ≤ length fs
@@ -72,10 +73,10 @@ pub data Begun (theory goals proof : List ℕ) (room : ℕ) (T U : TheoryLists) 
 -- One form -------------------------------------------------------------------------------------------------------------------------
 
 -- a form may be left
-pub record Going (theory goals proof : List ℕ) (T : TheoryLists) (W : Working) (rows feet cells ids : List ℕ) (s : Run) : Type 0 where
+pub record Going (theory goals proof : List ℕ) (T : TheoryLists) (W : Working) (rows feet cells ids memo : List ℕ) (s : Run) : Type 0 where
   pub held : Held theory goals proof T W rows feet s
   pub going : s .going ≡ true
-  pub idle : Idle cells ids
+  pub idle : Idle cells ids memo
 
 -- whether a fact was stored in row n, and that it is the record f then
 abbrev pub StoredAs : Bool → ℕ → ℕ → (rows feet : List ℕ) → Fact → Type 0
@@ -83,14 +84,14 @@ StoredAs true n k rows feet f = (k ≡ n + 1) × ((factRow f ≡ take 6 (drop (6
 StoredAs false n k rows feet f = k ≡ n
 
 -- S: the state before; W, rows, feet the tables before, Z, rows′, feet′ afterwards; r: where the check stands then; stored, f: the fact; more: what is counted
-pub record Advanced (theory goals proof : List ℕ) (T : TheoryLists) (W Z : Working) (rows feet rows′ feet′ cells ids : List ℕ) (s : Run) (S : State) (r : Run)
+pub record Advanced (theory goals proof : List ℕ) (T : TheoryLists) (W Z : Working) (rows feet rows′ feet′ cells ids memo : List ℕ) (s : Run) (S : State) (r : Run)
     (stored : Bool) (f : Fact) (more : Counts) : Type 0 where
   pub held : Held theory goals proof T Z rows′ feet′ r
   pub counted : held .S .counts ≡ plus (S .counts) (countsOf more)
   pub small : Few more 1
   pub few : (c : Counts) → Few c (s .forms) → Few (sum c more) (r .forms)
   pub behind : WorkingBehind W Z
-  pub idle : Idle cells ids
+  pub idle : Idle cells ids memo
   pub same-rows : take (6 * s .sizes .facts) rows′ ≡ take (6 * s .sizes .facts) rows
   pub same-feet : take (4 * s .sizes .facts) feet′ ≡ take (4 * s .sizes .facts) feet
   pub stored-as : StoredAs stored (s .sizes .facts) (r .sizes .facts) rows′ feet′ f
