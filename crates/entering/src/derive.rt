@@ -57,7 +57,7 @@ fn enter(
     }
 }
 
-// `(step N RULE (REF...) ITEM...)`, by the items of the form. `map` and `memo` are scratch: zero before and after; so is `ids`, of whatever content.
+// `(step N RULE (REF...) ITEM...)`, by the items of the form. `map`, `memo` and `ids` are scratch: zero before and after.
 pub fn add_step(
     theory: &[u8],
     goals: &[u8],
@@ -82,10 +82,10 @@ pub fn add_step(
     ids: &mut [u32],
 ) -> Entered
     requires { ⌜ AddsInstance (names (now theory) (now goals) (now text) (now symbols) (now inputs) (now vars) (now defs)) (ruleLists (now theory) (now rules) (now rulevars) (now patterns)) (now facts) (now footings) (now lists) n (now index) (now words) mark (now cells) 4 ⌝ }
-    requires { ⌜ Scratch (now map) (now memo) × (length (now ids) ≡ PATTERNS) ⌝ }
+    requires { ⌜ Scratch (now map) (now memo) × (now ids ≡ replicate PATTERNS 0) ⌝ }
     ensures { λ r. ⌜ ((g : AddsInstance (names (now (theory .entry)) (now (goals .entry)) (now (text .entry)) (now (symbols .entry)) (now (inputs .entry)) (now (vars .entry)) (now (defs .entry))) (ruleLists (now (theory .entry)) (now (rules .entry)) (now (rulevars .entry)) (now (patterns .entry))) (now (facts .entry)) (now (footings .entry)) (now (lists .entry)) n (now (index .entry)) (now (words .entry)) mark (now (cells .entry)) 4) →
         EnteredAs (records (now (facts .entry)) (now (footings .entry)) (now (lists .entry))) (records (now (facts .exit)) (now (footings .exit)) (now (lists .exit))) n (now (index .entry)) (now (words .entry)) (now (index .exit)) (now (words .exit)) mark (g .form .S) (addStep (g .form .xs) (g .form .S)) someInstances r) ⌝ }
-    ensures { λ _. ⌜ (now (map .exit) ≡ now (map .entry)) × (now (memo .exit) ≡ now (memo .entry)) ⌝ }
+    ensures { λ _. ⌜ (now (map .exit) ≡ now (map .entry)) × (now (memo .exit) ≡ now (memo .entry)) × (now (ids .exit) ≡ now (ids .entry)) ⌝ }
 {
     let mut hyps = [0u64; FACTWORDS];
     let mut footing = [0u64; RULEWORDS];
@@ -175,7 +175,7 @@ pub fn add_apply(
     }
 }
 
-// `(induct N X JUDGMENT (CASE...))`, by the items of the form. `map` and `memo` are scratch: zero before and after; so is `ids`, of whatever content.
+// `(induct N X JUDGMENT (CASE...))`, by the items of the form. `map`, `memo` and `ids` are scratch: zero before and after.
 pub fn add_induct(
     theory: &[u8],
     goals: &[u8],
@@ -197,10 +197,10 @@ pub fn add_induct(
     ids: &mut [u32],
 ) -> Entered
     requires { ⌜ AddsDerived (names (now theory) (now goals) (now text) (now symbols) (now inputs) (now vars) (now defs)) (now facts) (now footings) (now lists) n (now index) (now words) mark (now cells) 5 ⌝ }
-    requires { ⌜ Scratch (now map) (now memo) × (length (now ids) ≡ IDS) ⌝ }
+    requires { ⌜ Scratch (now map) (now memo) × (now ids ≡ replicate IDS 0) ⌝ }
     ensures { λ r. ⌜ ((g : AddsDerived (names (now (theory .entry)) (now (goals .entry)) (now (text .entry)) (now (symbols .entry)) (now (inputs .entry)) (now (vars .entry)) (now (defs .entry))) (now (facts .entry)) (now (footings .entry)) (now (lists .entry)) n (now (index .entry)) (now (words .entry)) mark (now (cells .entry)) 5) →
         EnteredAs (records (now (facts .entry)) (now (footings .entry)) (now (lists .entry))) (records (now (facts .exit)) (now (footings .exit)) (now (lists .exit))) n (now (index .entry)) (now (words .entry)) (now (index .exit)) (now (words .exit)) mark (g .form .S) (addInduct (g .form .xs) (g .form .S)) anInduction r) ⌝ }
-    ensures { λ _. ⌜ (now (map .exit) ≡ now (map .entry)) × (now (memo .exit) ≡ now (memo .entry)) ⌝ }
+    ensures { λ _. ⌜ (now (map .exit) ≡ now (map .entry)) × (now (memo .exit) ≡ now (memo .entry)) × (now (ids .exit) ≡ now (ids .entry)) ⌝ }
 {
     let mut hyps = [0u64; FACTWORDS];
     let mut footing = [0u64; RULEWORDS];
@@ -231,7 +231,7 @@ pub fn add_induct(
     }
 }
 
-// `(induct N X (HYP...) JUDGMENT (CASE...))`, by the items of the form. `map` and `memo` are scratch: zero before and after; so is `ids`, of whatever content.
+// `(induct N X (HYP...) JUDGMENT (CASE...))`, by the items of the form. `map`, `memo` and `ids` are scratch: zero before and after.
 pub fn add_induct_with(
     theory: &[u8],
     goals: &[u8],
@@ -253,10 +253,10 @@ pub fn add_induct_with(
     ids: &mut [u32],
 ) -> Entered
     requires { ⌜ AddsDerived (names (now theory) (now goals) (now text) (now symbols) (now inputs) (now vars) (now defs)) (now facts) (now footings) (now lists) n (now index) (now words) mark (now cells) 6 ⌝ }
-    requires { ⌜ Scratch (now map) (now memo) × (length (now ids) ≡ IDS) ⌝ }
+    requires { ⌜ Scratch (now map) (now memo) × (now ids ≡ replicate IDS 0) ⌝ }
     ensures { λ r. ⌜ ((g : AddsDerived (names (now (theory .entry)) (now (goals .entry)) (now (text .entry)) (now (symbols .entry)) (now (inputs .entry)) (now (vars .entry)) (now (defs .entry))) (now (facts .entry)) (now (footings .entry)) (now (lists .entry)) n (now (index .entry)) (now (words .entry)) mark (now (cells .entry)) 6) →
         EnteredAs (records (now (facts .entry)) (now (footings .entry)) (now (lists .entry))) (records (now (facts .exit)) (now (footings .exit)) (now (lists .exit))) n (now (index .entry)) (now (words .entry)) (now (index .exit)) (now (words .exit)) mark (g .form .S) (addInductWith (g .form .xs) (g .form .S)) anInduction r) ⌝ }
-    ensures { λ _. ⌜ (now (map .exit) ≡ now (map .entry)) × (now (memo .exit) ≡ now (memo .entry)) ⌝ }
+    ensures { λ _. ⌜ (now (map .exit) ≡ now (map .entry)) × (now (memo .exit) ≡ now (memo .entry)) × (now (ids .exit) ≡ now (ids .entry)) ⌝ }
 {
     let mut hyps = [0u64; FACTWORDS];
     let mut footing = [0u64; RULEWORDS];
@@ -288,7 +288,7 @@ pub fn add_induct_with(
 }
 
 // `(invert N K (HYP...) JUDGMENT (CASE...))`, by the items of the form; where it is taken, the answer's second number is how many variables there are then.
-// `ids` is scratch, of whatever content.
+// `ids` is scratch: zero before and after.
 pub fn add_invert(
     theory: &[u8],
     goals: &[u8],
@@ -311,9 +311,10 @@ pub fn add_invert(
     ids: &mut [u32],
 ) -> Entered
     requires { ⌜ AddsInversion (names (now theory) (now goals) (now text) (now symbols) (now inputs) (now vars) (now defs)) (ruleLists (now theory) (now rules) (now rulevars) (now patterns)) (now facts) (now footings) (now lists) n (now index) (now words) mark (now cells) ⌝ }
-    requires { ⌜ length (now ids) ≡ IDS ⌝ }
+    requires { ⌜ now ids ≡ replicate IDS 0 ⌝ }
     ensures { λ r. ⌜ ((g : AddsInversion (names (now (theory .entry)) (now (goals .entry)) (now (text .entry)) (now (symbols .entry)) (now (inputs .entry)) (now (vars .entry)) (now (defs .entry))) (ruleLists (now (theory .entry)) (now (rules .entry)) (now (rulevars .entry)) (now (patterns .entry))) (now (facts .entry)) (now (footings .entry)) (now (lists .entry)) n (now (index .entry)) (now (words .entry)) mark (now (cells .entry))) →
         InversionAs (now (goals .entry)) (now (text .entry)) (records (now (facts .entry)) (now (footings .entry)) (now (lists .entry))) (records (now (facts .exit)) (now (footings .exit)) (now (lists .exit))) n (now (index .entry)) (now (words .entry)) (now (index .exit)) (now (words .exit)) mark (g .form .S) (addInvert (g .form .xs) (g .form .S)) (now (vars .entry)) (now (vars .exit)) r) ⌝ }
+    ensures { λ _. ⌜ now (ids .exit) ≡ now (ids .entry) ⌝ }
 {
     let mut map = [0u32; VARIABLES];
     let mut memo = [0u32; TERMS];

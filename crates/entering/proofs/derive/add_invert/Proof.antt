@@ -185,14 +185,16 @@ returns c =
     let invert = mid .before .before .before .before .before .before .before .invert in
     let j = c .before .before .before .before .before .before .before .before .before .before .before .before .before .before .before .before .j in
     let enter = c .before .before .before .before .before .before .before .before .before .enter in
-    let e = c .before .e in
-    λ g. invert-entered g (invert .last .1 .1 .1 .1 .1 .1 .1 .1 .1 .1 .1 .1 .1 .1 .0)
-    (invert .last .1 .1 .1 .1 .1 .1 .1 .1 .1 .1 .1 .1 .1 .1 .1 .0)
-    (invert .last .1 .1 .1 .1 .1 .1 .1 .1 .1 .1 .1 .1 .1 .1 .1 .1 .1 .1 .1 .1 .1 .1 .1 .0)
-    (invert .last .1 .1 .1 .1 .1 .1 .1 .1 .1 .1 .1 .1 .1 .1 .1 .1 .1 .1 .1 .1 .1 .1 .1 .1 .0) (invert .last .1 .1 .1 .1 .1 .1 .1 .1 .0)
-    (invert .result) (invert .ensures .0 (g .form)) (j .given .1)
-    (omega (arith, invert .kept .1 .1 .1 .1 .1 .1 .1 .1 .1 .1 .1 .1 .1 .1 .1 .1 .1 .1 .1 .1 .1 .1 .1 .1 .0)) (enter .ensures .1)
-    (records (enter .last .0) (enter .last .1 .0) (enter .last .1 .1 .0)) (enter .result) (enter .ensures .0) (e .given .1)
+    let e = c .before .e in (
+      λ g. invert-entered g (invert .last .1 .1 .1 .1 .1 .1 .1 .1 .1 .1 .1 .1 .1 .1 .0)
+          (invert .last .1 .1 .1 .1 .1 .1 .1 .1 .1 .1 .1 .1 .1 .1 .1 .0)
+          (invert .last .1 .1 .1 .1 .1 .1 .1 .1 .1 .1 .1 .1 .1 .1 .1 .1 .1 .1 .1 .1 .1 .1 .1 .0)
+          (invert .last .1 .1 .1 .1 .1 .1 .1 .1 .1 .1 .1 .1 .1 .1 .1 .1 .1 .1 .1 .1 .1 .1 .1 .1 .0) (invert .last .1 .1 .1 .1 .1 .1 .1 .1 .0)
+          (invert .result) (invert .ensures .0 (g .form)) (j .given .1)
+          (omega (arith, invert .kept .1 .1 .1 .1 .1 .1 .1 .1 .1 .1 .1 .1 .1 .1 .1 .1 .1 .1 .1 .1 .1 .1 .1 .1 .0)) (enter .ensures .1)
+          (records (enter .last .0) (enter .last .1 .0) (enter .last .1 .1 .0)) (enter .result) (enter .ensures .0) (e .given .1),
+      invert .ensures .1 .4,
+    )
 
 -- src/derive.rt:292:1
 same-length-8 : tie.Need-same-length-8
@@ -246,15 +248,17 @@ returns-2 c =
     let j = c .before .before .before .before .before .before .before .before .before .before .before .before .before .before .before .before .before .before .before .before .before .j in
     let enter = c .before .before .before .before .before .before .before .before .before .before .before .before .before .before .enter in
     let q = c .before .before .before .before .before .before .q in
-    let clear = c .before .before .clear in
-    λ g. invert-full g (invert .last .1 .1 .1 .1 .1 .1 .1 .1 .1 .1 .1 .1 .1 .1 .0)
-    (invert .last .1 .1 .1 .1 .1 .1 .1 .1 .1 .1 .1 .1 .1 .1 .1 .0)
-    (invert .last .1 .1 .1 .1 .1 .1 .1 .1 .1 .1 .1 .1 .1 .1 .1 .1 .1 .1 .1 .1 .1 .1 .1 .0)
-    (invert .last .1 .1 .1 .1 .1 .1 .1 .1 .1 .1 .1 .1 .1 .1 .1 .1 .1 .1 .1 .1 .1 .1 .1 .1 .0) (invert .last .1 .1 .1 .1 .1 .1 .1 .1 .0)
-    (invert .result) (invert .ensures .0 (g .form)) (j .given .1)
-    (omega (arith, invert .kept .1 .1 .1 .1 .1 .1 .1 .1 .1 .1 .1 .1 .1 .1 .1 .1 .1 .1 .1 .1 .1 .1 .1 .1 .0)) (enter .ensures .1)
-    (records (enter .last .0) (enter .last .1 .0) (enter .last .1 .1 .0)) (enter .result) (enter .ensures .0) (q .given .1)
-    (clear .ensures)
+    let clear = c .before .before .clear in (
+      λ g. invert-full g (invert .last .1 .1 .1 .1 .1 .1 .1 .1 .1 .1 .1 .1 .1 .1 .0)
+          (invert .last .1 .1 .1 .1 .1 .1 .1 .1 .1 .1 .1 .1 .1 .1 .1 .0)
+          (invert .last .1 .1 .1 .1 .1 .1 .1 .1 .1 .1 .1 .1 .1 .1 .1 .1 .1 .1 .1 .1 .1 .1 .1 .0)
+          (invert .last .1 .1 .1 .1 .1 .1 .1 .1 .1 .1 .1 .1 .1 .1 .1 .1 .1 .1 .1 .1 .1 .1 .1 .1 .0) (invert .last .1 .1 .1 .1 .1 .1 .1 .1 .0)
+          (invert .result) (invert .ensures .0 (g .form)) (j .given .1)
+          (omega (arith, invert .kept .1 .1 .1 .1 .1 .1 .1 .1 .1 .1 .1 .1 .1 .1 .1 .1 .1 .1 .1 .1 .1 .1 .1 .1 .0)) (enter .ensures .1)
+          (records (enter .last .0) (enter .last .1 .0) (enter .last .1 .1 .0)) (enter .result) (enter .ensures .0) (q .given .1)
+          (clear .ensures),
+      invert .ensures .1 .4,
+    )
 
 -- src/derive.rt:292:1
 same-length-15 : tie.Need-same-length-15
@@ -288,12 +292,14 @@ same-length-21 c = search needs
 returns-3 : tie.Need-returns-3
 returns-3 c =
     let invert = c .before .before .before .before .before .before .before .before .before .before .before .before .before .before .before .before .before .invert in
-    let q2 = c .before .q2 in
-    λ g. invert-halted g (invert .last .1 .1 .1 .1 .1 .1 .1 .1 .1 .1 .1 .1 .1 .1 .0)
-    (invert .last .1 .1 .1 .1 .1 .1 .1 .1 .1 .1 .1 .1 .1 .1 .1 .0)
-    (invert .last .1 .1 .1 .1 .1 .1 .1 .1 .1 .1 .1 .1 .1 .1 .1 .1 .1 .1 .1 .1 .1 .1 .1 .0)
-    (invert .last .1 .1 .1 .1 .1 .1 .1 .1 .1 .1 .1 .1 .1 .1 .1 .1 .1 .1 .1 .1 .1 .1 .1 .1 .0) (invert .last .1 .1 .1 .1 .1 .1 .1 .1 .0)
-    (invert .result) (invert .ensures .0 (g .form)) (q2 .given .1)
+    let q2 = c .before .q2 in (
+      λ g. invert-halted g (invert .last .1 .1 .1 .1 .1 .1 .1 .1 .1 .1 .1 .1 .1 .1 .0)
+          (invert .last .1 .1 .1 .1 .1 .1 .1 .1 .1 .1 .1 .1 .1 .1 .1 .0)
+          (invert .last .1 .1 .1 .1 .1 .1 .1 .1 .1 .1 .1 .1 .1 .1 .1 .1 .1 .1 .1 .1 .1 .1 .1 .0)
+          (invert .last .1 .1 .1 .1 .1 .1 .1 .1 .1 .1 .1 .1 .1 .1 .1 .1 .1 .1 .1 .1 .1 .1 .1 .1 .0) (invert .last .1 .1 .1 .1 .1 .1 .1 .1 .0)
+          (invert .result) (invert .ensures .0 (g .form)) (q2 .given .1),
+      invert .ensures .1 .4,
+    )
 
 pub add-invert-spec : {M : Type 1} → statement M
 add-invert-spec =
