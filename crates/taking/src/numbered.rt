@@ -1,6 +1,6 @@
 // Forms that add a fact, each behind the index that it gives to it: questions 31 and 32. And results. The scratch of all these is local.
 ghost use mathlib.Core.Path.{_≡_};
-ghost use lib.ListN.{length};
+ghost use lib.ListN.{replicate};
 ghost use Rattle.rules.specs.Tags.{aStep, aHyp, aRuleHyp, anInduct, anInductWith, anApply};
 ghost use Rattle.rules.specs.Forms.{perform, result, someInstances};
 ghost use Rattle.state.specs.Held.{names, ruleLists, records};
@@ -110,7 +110,7 @@ pub fn rule_hyp_next(
     }
 }
 
-// `(step N RULE (REF...) ITEM...)`, by the items of the form. `ids` is scratch, of whatever content.
+// `(step N RULE (REF...) ITEM...)`, by the items of the form. `ids` is scratch: zero before and after.
 pub fn step_next(
     theory: &[u8],
     goals: &[u8],
@@ -133,9 +133,10 @@ pub fn step_next(
     ids: &mut [u32],
 ) -> Entered
     requires { ⌜ AddsInstance (names (now theory) (now goals) (now text) (now symbols) (now inputs) (now vars) (now defs)) (ruleLists (now theory) (now rules) (now rulevars) (now patterns)) (now facts) (now footings) (now lists) n (now index) (now words) mark (now cells) 4 ⌝ }
-    requires { ⌜ length (now ids) ≡ IDS ⌝ }
+    requires { ⌜ now ids ≡ replicate IDS 0 ⌝ }
     ensures { λ r. ⌜ ((g : AddsInstance (names (now (theory .entry)) (now (goals .entry)) (now (text .entry)) (now (symbols .entry)) (now (inputs .entry)) (now (vars .entry)) (now (defs .entry))) (ruleLists (now (theory .entry)) (now (rules .entry)) (now (rulevars .entry)) (now (patterns .entry))) (now (facts .entry)) (now (footings .entry)) (now (lists .entry)) n (now (index .entry)) (now (words .entry)) mark (now (cells .entry)) 4) →
         EnteredAs (records (now (facts .entry)) (now (footings .entry)) (now (lists .entry))) (records (now (facts .exit)) (now (footings .exit)) (now (lists .exit))) n (now (index .entry)) (now (words .entry)) (now (index .exit)) (now (words .exit)) mark (g .form .S) (perform aStep (g .form .xs) (g .form .S)) someInstances r) ⌝ }
+    ensures { λ _. ⌜ now (ids .exit) ≡ now (ids .entry) ⌝ }
 {
     let mut map = [0u32; VARIABLES];
     let mut memo = [0u32; TERMS];
@@ -218,7 +219,7 @@ pub fn apply_next(
     }
 }
 
-// `(induct N X JUDGMENT (CASE...))`, by the items of the form. `ids` is scratch, of whatever content.
+// `(induct N X JUDGMENT (CASE...))`, by the items of the form. `ids` is scratch: zero before and after.
 pub fn induct_next(
     theory: &[u8],
     goals: &[u8],
@@ -238,9 +239,10 @@ pub fn induct_next(
     ids: &mut [u32],
 ) -> Entered
     requires { ⌜ AddsDerived (names (now theory) (now goals) (now text) (now symbols) (now inputs) (now vars) (now defs)) (now facts) (now footings) (now lists) n (now index) (now words) mark (now cells) 5 ⌝ }
-    requires { ⌜ length (now ids) ≡ IDS ⌝ }
+    requires { ⌜ now ids ≡ replicate IDS 0 ⌝ }
     ensures { λ r. ⌜ ((g : AddsDerived (names (now (theory .entry)) (now (goals .entry)) (now (text .entry)) (now (symbols .entry)) (now (inputs .entry)) (now (vars .entry)) (now (defs .entry))) (now (facts .entry)) (now (footings .entry)) (now (lists .entry)) n (now (index .entry)) (now (words .entry)) mark (now (cells .entry)) 5) →
         EnteredAs (records (now (facts .entry)) (now (footings .entry)) (now (lists .entry))) (records (now (facts .exit)) (now (footings .exit)) (now (lists .exit))) n (now (index .entry)) (now (words .entry)) (now (index .exit)) (now (words .exit)) mark (g .form .S) (perform anInduct (g .form .xs) (g .form .S)) anInduction r) ⌝ }
+    ensures { λ _. ⌜ now (ids .exit) ≡ now (ids .entry) ⌝ }
 {
     let mut map = [0u32; VARIABLES];
     let mut memo = [0u32; TERMS];
@@ -269,7 +271,7 @@ pub fn induct_next(
     }
 }
 
-// `(induct N X (HYP...) JUDGMENT (CASE...))`, by the items of the form. `ids` is scratch, of whatever content.
+// `(induct N X (HYP...) JUDGMENT (CASE...))`, by the items of the form. `ids` is scratch: zero before and after.
 pub fn induct_with_next(
     theory: &[u8],
     goals: &[u8],
@@ -289,9 +291,10 @@ pub fn induct_with_next(
     ids: &mut [u32],
 ) -> Entered
     requires { ⌜ AddsDerived (names (now theory) (now goals) (now text) (now symbols) (now inputs) (now vars) (now defs)) (now facts) (now footings) (now lists) n (now index) (now words) mark (now cells) 6 ⌝ }
-    requires { ⌜ length (now ids) ≡ IDS ⌝ }
+    requires { ⌜ now ids ≡ replicate IDS 0 ⌝ }
     ensures { λ r. ⌜ ((g : AddsDerived (names (now (theory .entry)) (now (goals .entry)) (now (text .entry)) (now (symbols .entry)) (now (inputs .entry)) (now (vars .entry)) (now (defs .entry))) (now (facts .entry)) (now (footings .entry)) (now (lists .entry)) n (now (index .entry)) (now (words .entry)) mark (now (cells .entry)) 6) →
         EnteredAs (records (now (facts .entry)) (now (footings .entry)) (now (lists .entry))) (records (now (facts .exit)) (now (footings .exit)) (now (lists .exit))) n (now (index .entry)) (now (words .entry)) (now (index .exit)) (now (words .exit)) mark (g .form .S) (perform anInductWith (g .form .xs) (g .form .S)) anInduction r) ⌝ }
+    ensures { λ _. ⌜ now (ids .exit) ≡ now (ids .entry) ⌝ }
 {
     let mut map = [0u32; VARIABLES];
     let mut memo = [0u32; TERMS];

@@ -3,7 +3,7 @@
 ghost use mathlib.Core.Path.{_≡_};
 ghost use mathlib.Core.List.{List};
 ghost use Prim.Native.Nat.{ℕ, _≤_};
-ghost use lib.ListN.{length};
+ghost use lib.ListN.{replicate};
 ghost use Rattle.rules.specs.Sexp.{count};
 ghost use Rattle.rules.specs.Tags.{goalForm, proofTag, anInvert};
 ghost use Rattle.rules.specs.Forms.{goal, takeGoal, perform, takeForm};
@@ -180,8 +180,8 @@ pub fn take_goal(
     }
 }
 
-// `(invert N K (HYP...) JUDGMENT (CASE...))`, by the items of the form. Where it is refused, the terms that it made are still there. `ids` is scratch, of
-// whatever content.
+// `(invert N K (HYP...) JUDGMENT (CASE...))`, by the items of the form. Where it is refused, the terms that it made are still there. `ids` is scratch: zero
+// before and after.
 fn invert_items(
     theory: &[u8],
     goals: &[u8],
@@ -204,9 +204,10 @@ fn invert_items(
     ids: &mut [u32],
 ) -> Tried
     requires { ⌜ ((sorts : List ℕ) × (rows : List ℕ) × (g : Items (texts (now theory) (now goals) (now text)) (theoryLists sorts (now symbols) (now inputs) (now rules) (now rulevars) (now patterns)) (board (now vars) (now index) (now words) (now defs) rows (now facts) (now footings) (now lists)) n mark (now cells)) × (6 ≤ count (g .xs))) ⌝ }
-    requires { ⌜ length (now ids) ≡ IDS ⌝ }
+    requires { ⌜ now ids ≡ replicate IDS 0 ⌝ }
     ensures { λ r. ⌜ ((sorts rows : List ℕ) (g : Items (texts (now (theory .entry)) (now (goals .entry)) (now (text .entry))) (theoryLists sorts (now (symbols .entry)) (now (inputs .entry)) (now (rules .entry)) (now (rulevars .entry)) (now (patterns .entry))) (board (now (vars .entry)) (now (index .entry)) (now (words .entry)) (now (defs .entry)) rows (now (facts .entry)) (now (footings .entry)) (now (lists .entry))) n mark (now (cells .entry))) → 6 ≤ count (g .xs) →
         TriedAs (texts (now (theory .entry)) (now (goals .entry)) (now (text .entry))) (theoryLists sorts (now (symbols .entry)) (now (inputs .entry)) (now (rules .entry)) (now (rulevars .entry)) (now (patterns .entry))) (board (now (vars .entry)) (now (index .entry)) (now (words .entry)) (now (defs .entry)) rows (now (facts .entry)) (now (footings .entry)) (now (lists .entry))) (board (now (vars .exit)) (now (index .exit)) (now (words .exit)) (now (defs .entry)) rows (now (facts .exit)) (now (footings .exit)) (now (lists .exit))) mark (g .S) (perform anInvert (g .xs) (g .S)) r) ⌝ }
+    ensures { λ _. ⌜ now (ids .exit) ≡ now (ids .entry) ⌝ }
 {
     match is_next(text, cells, n) {
         Numbered::Next => {
@@ -237,7 +238,7 @@ fn invert_items(
     }
 }
 
-// The form of the proof that has these items. Where it is refused, the terms that it made are still there. `ids` is scratch, of whatever content.
+// The form of the proof that has these items. Where it is refused, the terms that it made are still there. `ids` is scratch: zero before and after.
 fn form_items(
     theory: &[u8],
     goals: &[u8],
@@ -261,9 +262,10 @@ fn form_items(
     cells: &[u32],
     ids: &mut [u32],
 ) -> Tried
-    requires { ⌜ Items (texts (now theory) (now goals) (now text)) (theoryLists (now sorts) (now symbols) (now inputs) (now rules) (now rulevars) (now patterns)) (board (now vars) (now index) (now words) (now defs) (now rows) (now facts) (now footings) (now lists)) n mark (now cells) × (length (now ids) ≡ IDS) ⌝ }
+    requires { ⌜ Items (texts (now theory) (now goals) (now text)) (theoryLists (now sorts) (now symbols) (now inputs) (now rules) (now rulevars) (now patterns)) (board (now vars) (now index) (now words) (now defs) (now rows) (now facts) (now footings) (now lists)) n mark (now cells) × (now ids ≡ replicate IDS 0) ⌝ }
     ensures { λ r. ⌜ ((g : Items (texts (now (theory .entry)) (now (goals .entry)) (now (text .entry))) (theoryLists (now (sorts .entry)) (now (symbols .entry)) (now (inputs .entry)) (now (rules .entry)) (now (rulevars .entry)) (now (patterns .entry))) (board (now (vars .entry)) (now (index .entry)) (now (words .entry)) (now (defs .entry)) (now (rows .entry)) (now (facts .entry)) (now (footings .entry)) (now (lists .entry))) n mark (now (cells .entry))) →
         TriedAs (texts (now (theory .entry)) (now (goals .entry)) (now (text .entry))) (theoryLists (now (sorts .entry)) (now (symbols .entry)) (now (inputs .entry)) (now (rules .entry)) (now (rulevars .entry)) (now (patterns .entry))) (board (now (vars .entry)) (now (index .entry)) (now (words .entry)) (now (defs .entry)) (now (rows .entry)) (now (facts .entry)) (now (footings .entry)) (now (lists .entry))) (board (now (vars .exit)) (now (index .exit)) (now (words .exit)) (now (defs .exit)) (now (rows .exit)) (now (facts .exit)) (now (footings .exit)) (now (lists .exit))) mark (g .S) (chosen 30 perform (tagged proofTag (g .xs)) (g .xs) (g .S)) r) ⌝ }
+    ensures { λ _. ⌜ now (ids .exit) ≡ now (ids .entry) ⌝ }
 {
     match tag_of(text, cells) {
         Tag::Var => {
@@ -456,7 +458,7 @@ fn form_items(
     }
 }
 
-// A form of the proof, by its cells. `ids` is scratch, of whatever content.
+// A form of the proof, by its cells. `ids` is scratch: zero before and after.
 pub fn take_form(
     theory: &[u8],
     goals: &[u8],
@@ -480,9 +482,10 @@ pub fn take_form(
     cells: &[u32],
     ids: &mut [u32],
 ) -> Taken
-    requires { ⌜ TakesForm (texts (now theory) (now goals) (now text)) (theoryLists (now sorts) (now symbols) (now inputs) (now rules) (now rulevars) (now patterns)) (board (now vars) (now index) (now words) (now defs) (now rows) (now facts) (now footings) (now lists)) n mark (now cells) × (length (now ids) ≡ IDS) ⌝ }
+    requires { ⌜ TakesForm (texts (now theory) (now goals) (now text)) (theoryLists (now sorts) (now symbols) (now inputs) (now rules) (now rulevars) (now patterns)) (board (now vars) (now index) (now words) (now defs) (now rows) (now facts) (now footings) (now lists)) n mark (now cells) × (now ids ≡ replicate IDS 0) ⌝ }
     ensures { λ r. ⌜ ((g : TakesForm (texts (now (theory .entry)) (now (goals .entry)) (now (text .entry))) (theoryLists (now (sorts .entry)) (now (symbols .entry)) (now (inputs .entry)) (now (rules .entry)) (now (rulevars .entry)) (now (patterns .entry))) (board (now (vars .entry)) (now (index .entry)) (now (words .entry)) (now (defs .entry)) (now (rows .entry)) (now (facts .entry)) (now (footings .entry)) (now (lists .entry))) n mark (now (cells .entry))) →
         TakenAs (texts (now (theory .entry)) (now (goals .entry)) (now (text .entry))) (theoryLists (now (sorts .entry)) (now (symbols .entry)) (now (inputs .entry)) (now (rules .entry)) (now (rulevars .entry)) (now (patterns .entry))) (board (now (vars .exit)) (now (index .exit)) (now (words .exit)) (now (defs .exit)) (now (rows .exit)) (now (facts .exit)) (now (footings .exit)) (now (lists .exit))) n mark (g .S) (takeForm (g .x) (g .S)) r) ⌝ }
+    ensures { λ _. ⌜ now (ids .exit) ≡ now (ids .entry) ⌝ }
 {
     let Item::List(a, b) = items::item_at(cells, 0) else {
         return Taken::No(30, 0);

@@ -63,15 +63,17 @@ returns : tie.Need-returns
 returns c =
     let add-induct = c .before .before .before .before .before .before .before .before .before .before .before .before .before .before .add-induct in
     let is-next = c .before .before .before .before .before .before .before .before .before .before .before .before .before .before .before .before .before .before .before .before .before .before .before .before .before .is-next in
-    let enum-told = c .before .before .before .before .before .before .before .before .before .before .before .before .before .before .before .before .before .before .before .before .before .before .before .enum-told in
-    λ g. derived-next inducts g (add-induct .last .1 .1 .1 .1 .1 .1 .1 .0) (add-induct .last .1 .1 .1 .1 .1 .1 .1 .1 .0)
-    (add-induct .last .1 .1 .1 .1 .1 .1 .1 .1 .1 .0) (add-induct .last .1 .1 .1 .1 .1 .1 .1 .1 .1 .1 .1 .0)
-    (add-induct .last .1 .1 .1 .1 .1 .1 .1 .1 .1 .1 .1 .1 .0) (add-induct .result) (is-next .ensures (derived-own g (omega arith)))
-    (enum-told .given .1) anInduction (add-induct .ensures .0)
+    let enum-told = c .before .before .before .before .before .before .before .before .before .before .before .before .before .before .before .before .before .before .before .before .before .before .before .enum-told in (
+      λ g. derived-next inducts g (add-induct .last .1 .1 .1 .1 .1 .1 .1 .0) (add-induct .last .1 .1 .1 .1 .1 .1 .1 .1 .0)
+          (add-induct .last .1 .1 .1 .1 .1 .1 .1 .1 .1 .0) (add-induct .last .1 .1 .1 .1 .1 .1 .1 .1 .1 .1 .1 .0)
+          (add-induct .last .1 .1 .1 .1 .1 .1 .1 .1 .1 .1 .1 .1 .0) (add-induct .result) (is-next .ensures (derived-own g (omega arith)))
+          (enum-told .given .1) anInduction (add-induct .ensures .0),
+      add-induct .ensures .1 .2,
+    )
 
 -- src/numbered.rt:222:1
 returns-2 : tie.Need-returns-2
-returns-2 c = λ g. derived-not inducts g ((c .before .before .before .is-next) .ensures (derived-own g (omega arith))) ((c .before .q) .given .1)
+returns-2 c = (λ g. derived-not inducts g ((c .before .before .before .is-next) .ensures (derived-own g (omega arith))) ((c .before .q) .given .1), refl)
 
 pub induct-next-spec : {M : Type 1} → statement M
 induct-next-spec =

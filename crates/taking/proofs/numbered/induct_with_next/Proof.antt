@@ -63,15 +63,17 @@ returns : tie.Need-returns
 returns c =
     let add-induct-with = c .before .before .before .before .before .before .before .before .before .before .before .before .before .before .add-induct-with in
     let is-next = c .before .before .before .before .before .before .before .before .before .before .before .before .before .before .before .before .before .before .before .before .before .before .before .before .before .is-next in
-    let enum-told = c .before .before .before .before .before .before .before .before .before .before .before .before .before .before .before .before .before .before .before .before .before .before .before .enum-told in
-    λ g. derived-next inducts-with g (add-induct-with .last .1 .1 .1 .1 .1 .1 .1 .0) (add-induct-with .last .1 .1 .1 .1 .1 .1 .1 .1 .0)
-    (add-induct-with .last .1 .1 .1 .1 .1 .1 .1 .1 .1 .0) (add-induct-with .last .1 .1 .1 .1 .1 .1 .1 .1 .1 .1 .1 .0)
-    (add-induct-with .last .1 .1 .1 .1 .1 .1 .1 .1 .1 .1 .1 .1 .0) (add-induct-with .result)
-    (is-next .ensures (derived-own g (omega arith))) (enum-told .given .1) anInduction (add-induct-with .ensures .0)
+    let enum-told = c .before .before .before .before .before .before .before .before .before .before .before .before .before .before .before .before .before .before .before .before .before .before .before .enum-told in (
+      λ g. derived-next inducts-with g (add-induct-with .last .1 .1 .1 .1 .1 .1 .1 .0) (add-induct-with .last .1 .1 .1 .1 .1 .1 .1 .1 .0)
+          (add-induct-with .last .1 .1 .1 .1 .1 .1 .1 .1 .1 .0) (add-induct-with .last .1 .1 .1 .1 .1 .1 .1 .1 .1 .1 .1 .0)
+          (add-induct-with .last .1 .1 .1 .1 .1 .1 .1 .1 .1 .1 .1 .1 .0) (add-induct-with .result)
+          (is-next .ensures (derived-own g (omega arith))) (enum-told .given .1) anInduction (add-induct-with .ensures .0),
+      add-induct-with .ensures .1 .2,
+    )
 
 -- src/numbered.rt:273:1
 returns-2 : tie.Need-returns-2
-returns-2 c = λ g. derived-not inducts-with g ((c .before .before .before .is-next) .ensures (derived-own g (omega arith))) ((c .before .q) .given .1)
+returns-2 c = (λ g. derived-not inducts-with g ((c .before .before .before .is-next) .ensures (derived-own g (omega arith))) ((c .before .q) .given .1), refl)
 
 pub induct-with-next-spec : {M : Type 1} → statement M
 induct-with-next-spec =

@@ -1,9 +1,12 @@
 -- `taking::numbered::step_next` meets its contract. Assumes nothing.
-use mathlib.Core.Path.{refl, sym}
+use mathlib.Core.Path.{refl}
 use native.Mathlib.Omega.{arith}
 use Rattle.rules.specs.Forms.{someInstances}
+use Rattle.rules.specs.Limits.{PATTERNS}
+use Rattle.induction.specs.Inducing.{IDS}
+use Rattle.referring.specs.Laws.Fronts.{front-room, front-count, front-zero, front-same}
 use Rattle.forms.specs.Laws.Nexts.{steps}
-use Rattle.taking.proofs.Numbering.{instance-own, instance-next, instance-not, ids-few}
+use Rattle.taking.proofs.Numbering.{instance-own, instance-next, instance-not}
 use borrow.Author.Needs.{needs}
 use Rattle.taking.proofs.numbered.step_next.Statement.{statement}
 use Rattle.taking.proofs.numbered.step_next.Tie as tie
@@ -26,23 +29,21 @@ slice-aggregate-add-step-2 c = search needs
 
 -- src/numbered.rt:165:13
 slice-relend-prefix-add-step : tie.Need-slice-relend-prefix-add-step
-slice-relend-prefix-add-step c = search needs
+slice-relend-prefix-add-step c = front-room IDS ((c .before .before .before .before .before .before .before .before .before .before .before .before .before .before .before .before .before .before .before .before .before .before .before .before .before .before .before .pre) .1) PATTERNS (omega arith)
 
 -- src/numbered.rt:165:13
 slice-aggregate-add-step-3 : tie.Need-slice-aggregate-add-step-3
 slice-aggregate-add-step-3 c =
     let mid = c .before .before .before .before .before .before .before .before .before .before .before .before .before .before .before .before .before .before .before .before .before .before .before .before .before in
-    let args = mid .before .before .before .args in
     let pre = mid .before .before .before .pre in
-    sym (ids-few (args .ids .now) (pre .1))
+    front-count IDS (pre .1) PATTERNS (omega arith)
 
 -- src/numbered.rt:144:27
 add-step-requires : tie.Need-add-step-requires
 add-step-requires c κs =
     let mid = c .before .before .before .before .before .before .before .before .before .before .before .before .before .before .before .before .before .before .before .before .before .before .before .before .before in
     let pre = mid .before .before .before .pre in
-    let args = mid .before .before .before .args in
-    (pre .0, (record { map-zero = refl; memo-zero = refl }, ids-few (args .ids .now) (pre .1)))
+    (pre .0, (record { map-zero = refl; memo-zero = refl }, front-zero IDS (pre .1) PATTERNS (omega arith)))
 
 -- src/numbered.rt:167:22
 enum-known-q : tie.Need-enum-known-q
@@ -75,17 +76,21 @@ same-length-6 c = search needs
 -- src/numbered.rt:114:1
 returns : tie.Need-returns
 returns c =
+    let mid = c .before .before .before .before .before .before .before .before .before .before .before .before .before .before .before .before .before .before .before .before .before .before .before .before .before in
+    let pre = mid .before .before .before .before .before .before .before .before .before .before .before .before .before .before .before .before .before .before .pre in
     let add-step = c .before .before .before .before .before .before .before .before .before .before .before .before .before .before .add-step in
     let is-next = c .before .before .before .before .before .before .before .before .before .before .before .before .before .before .before .before .before .before .before .before .before .before .before .before .before .is-next in
-    let enum-told = c .before .before .before .before .before .before .before .before .before .before .before .before .before .before .before .before .before .before .before .before .before .before .before .enum-told in
-    λ g. instance-next steps g (add-step .last .1 .1 .1 .1 .1 .1 .1 .1 .1 .1 .0) (add-step .last .1 .1 .1 .1 .1 .1 .1 .1 .1 .1 .1 .0)
-    (add-step .last .1 .1 .1 .1 .1 .1 .1 .1 .1 .1 .1 .1 .0) (add-step .last .1 .1 .1 .1 .1 .1 .1 .1 .1 .1 .1 .1 .1 .1 .0)
-    (add-step .last .1 .1 .1 .1 .1 .1 .1 .1 .1 .1 .1 .1 .1 .1 .1 .0) (add-step .result)
-    (is-next .ensures (instance-own g (omega arith))) (enum-told .given .1) someInstances (add-step .ensures .0)
+    let enum-told = c .before .before .before .before .before .before .before .before .before .before .before .before .before .before .before .before .before .before .before .before .before .before .before .enum-told in (
+      λ g. instance-next steps g (add-step .last .1 .1 .1 .1 .1 .1 .1 .1 .1 .1 .0) (add-step .last .1 .1 .1 .1 .1 .1 .1 .1 .1 .1 .1 .0)
+          (add-step .last .1 .1 .1 .1 .1 .1 .1 .1 .1 .1 .1 .1 .0) (add-step .last .1 .1 .1 .1 .1 .1 .1 .1 .1 .1 .1 .1 .1 .1 .0)
+          (add-step .last .1 .1 .1 .1 .1 .1 .1 .1 .1 .1 .1 .1 .1 .1 .1 .0) (add-step .result)
+          (is-next .ensures (instance-own g (omega arith))) (enum-told .given .1) someInstances (add-step .ensures .0),
+      front-same IDS (pre .1) PATTERNS (omega arith) (add-step .ensures .1 .2),
+    )
 
 -- src/numbered.rt:114:1
 returns-2 : tie.Need-returns-2
-returns-2 c = λ g. instance-not steps g ((c .before .before .before .is-next) .ensures (instance-own g (omega arith))) ((c .before .q) .given .1)
+returns-2 c = (λ g. instance-not steps g ((c .before .before .before .is-next) .ensures (instance-own g (omega arith))) ((c .before .q) .given .1), refl)
 
 pub step-next-spec : {M : Type 1} → statement M
 step-next-spec =

@@ -1,4 +1,5 @@
 -- `taking::take::form_items` meets its contract. Assumes nothing.
+use mathlib.Core.Path.{refl}
 use native.Mathlib.Omega.{arith}
 use Rattle.rules.specs.Tags.{aVar, aDef, aStep, aHyp, aRuleHyp, anInduct, anInductWith, anApply, anInvert, aResult, proofTag}
 use Rattle.taking.specs.Tagged.{tagged}
@@ -243,9 +244,11 @@ returns : tie.Need-returns
 returns c =
     let add-var = c .before .before .before .add-var in
     let tag-of = c .before .before .before .before .before .before .before .tag-of in
-    let enum-told = c .before .before .before .before .before .enum-told in
-    λ g. var-arm g ((c .declared) .result) (add-var .last .1 .1 .1 .1 .1 .0) (add-var .result)
-    (told Var (tag-of .ensures (g .xs) (g .holds)) (enum-told .given .1)) (add-var .ensures) ((c .declared) .ensures)
+    let enum-told = c .before .before .before .before .before .enum-told in (
+      λ g. var-arm g ((c .declared) .result) (add-var .last .1 .1 .1 .1 .1 .0) (add-var .result)
+          (told Var (tag-of .ensures (g .xs) (g .holds)) (enum-told .given .1)) (add-var .ensures) ((c .declared) .ensures),
+      refl,
+    )
 
 -- src/take.rt:221:1
 same-length-2 : tie.Need-same-length-2
@@ -268,10 +271,12 @@ returns-2 : tie.Need-returns-2
 returns-2 c =
     let add-def = c .before .before .before .before .before .before .before .add-def in
     let tag-of = c .before .before .before .before .before .before .before .before .before .before .before .before .before .before .tag-of in
-    let enum-told2 = c .before .before .before .before .before .before .before .before .before .before .before .before .enum-told2 in
-    λ g. def-arm g ((c .defined) .result) (add-def .last .1 .1 .1 .1 .1 .1 .0) (add-def .last .1 .1 .1 .1 .1 .1 .1 .1 .0)
-    (add-def .last .1 .1 .1 .1 .1 .1 .1 .1 .1 .0) (add-def .result)
-    (told Def (tag-of .ensures (g .xs) (g .holds)) (enum-told2 .given .1)) (add-def .ensures) ((c .defined) .ensures)
+    let enum-told2 = c .before .before .before .before .before .before .before .before .before .before .before .before .enum-told2 in (
+      λ g. def-arm g ((c .defined) .result) (add-def .last .1 .1 .1 .1 .1 .1 .0) (add-def .last .1 .1 .1 .1 .1 .1 .1 .1 .0)
+          (add-def .last .1 .1 .1 .1 .1 .1 .1 .1 .1 .0) (add-def .result)
+          (told Def (tag-of .ensures (g .xs) (g .holds)) (enum-told2 .given .1)) (add-def .ensures) ((c .defined) .ensures),
+      refl,
+    )
 
 -- src/take.rt:221:1
 same-length-6 : tie.Need-same-length-6
@@ -310,11 +315,13 @@ returns-3 : tie.Need-returns-3
 returns-3 c =
     let tag-of = c .before .before .before .before .before .before .before .before .before .before .before .before .before .before .before .before .before .before .before .before .before .before .before .before .tag-of in
     let enum-told3 = c .before .before .before .before .before .before .before .before .before .before .before .before .before .before .before .before .before .before .before .before .before .before .enum-told3 in
-    let step-next = c .before .before .before .before .before .before .before .before .before .before .before .before .before .step-next in
-    λ g. step-arm g ((c .entered) .result) aStep (told Step (tag-of .ensures (g .xs) (g .holds)) (enum-told3 .given .1))
-    (step-next .last .1 .1 .1 .1 .1 .1 .1 .1 .1 .1 .0) (step-next .last .1 .1 .1 .1 .1 .1 .1 .1 .1 .1 .1 .0)
-    (step-next .last .1 .1 .1 .1 .1 .1 .1 .1 .1 .1 .1 .1 .0) (step-next .last .1 .1 .1 .1 .1 .1 .1 .1 .1 .1 .1 .1 .1 .1 .0)
-    (step-next .last .1 .1 .1 .1 .1 .1 .1 .1 .1 .1 .1 .1 .1 .1 .1 .0) (step-next .result) (step-next .ensures) ((c .entered) .ensures)
+    let step-next = c .before .before .before .before .before .before .before .before .before .before .before .before .before .step-next in (
+      λ g. step-arm g ((c .entered) .result) aStep (told Step (tag-of .ensures (g .xs) (g .holds)) (enum-told3 .given .1))
+          (step-next .last .1 .1 .1 .1 .1 .1 .1 .1 .1 .1 .0) (step-next .last .1 .1 .1 .1 .1 .1 .1 .1 .1 .1 .1 .0)
+          (step-next .last .1 .1 .1 .1 .1 .1 .1 .1 .1 .1 .1 .1 .0) (step-next .last .1 .1 .1 .1 .1 .1 .1 .1 .1 .1 .1 .1 .1 .1 .0)
+          (step-next .last .1 .1 .1 .1 .1 .1 .1 .1 .1 .1 .1 .1 .1 .1 .1 .0) (step-next .result) (step-next .ensures .0) ((c .entered) .ensures),
+      step-next .ensures .1,
+    )
 
 -- src/take.rt:221:1
 same-length-14 : tie.Need-same-length-14
@@ -345,11 +352,13 @@ returns-4 : tie.Need-returns-4
 returns-4 c =
     let tag-of = c .before .before .before .before .before .before .before .before .before .before .before .before .before .before .before .before .before .before .tag-of in
     let enum-told4 = c .before .before .before .before .before .before .before .before .before .before .before .before .before .before .before .before .enum-told4 in
-    let hyp-next = c .before .before .before .before .before .before .before .before .before .hyp-next in
-    λ g. hyp-arm g ((c .assumed) .result) aHyp (told Hyp (tag-of .ensures (g .xs) (g .holds)) (enum-told4 .given .1))
-    (hyp-next .last .1 .1 .1 .1 .1 .1 .1 .0) (hyp-next .last .1 .1 .1 .1 .1 .1 .1 .1 .0)
-    (hyp-next .last .1 .1 .1 .1 .1 .1 .1 .1 .1 .1 .0) (hyp-next .last .1 .1 .1 .1 .1 .1 .1 .1 .1 .1 .1 .0) (hyp-next .result)
-    (hyp-next .ensures) ((c .assumed) .ensures)
+    let hyp-next = c .before .before .before .before .before .before .before .before .before .hyp-next in (
+      λ g. hyp-arm g ((c .assumed) .result) aHyp (told Hyp (tag-of .ensures (g .xs) (g .holds)) (enum-told4 .given .1))
+          (hyp-next .last .1 .1 .1 .1 .1 .1 .1 .0) (hyp-next .last .1 .1 .1 .1 .1 .1 .1 .1 .0)
+          (hyp-next .last .1 .1 .1 .1 .1 .1 .1 .1 .1 .1 .0) (hyp-next .last .1 .1 .1 .1 .1 .1 .1 .1 .1 .1 .1 .0) (hyp-next .result)
+          (hyp-next .ensures) ((c .assumed) .ensures),
+      refl,
+    )
 
 -- src/take.rt:221:1
 same-length-20 : tie.Need-same-length-20
@@ -380,11 +389,13 @@ returns-5 : tie.Need-returns-5
 returns-5 c =
     let tag-of = c .before .before .before .before .before .before .before .before .before .before .before .before .before .before .before .before .before .before .tag-of in
     let enum-told5 = c .before .before .before .before .before .before .before .before .before .before .before .before .before .before .before .before .enum-told5 in
-    let rule-hyp-next = c .before .before .before .before .before .before .before .before .before .rule-hyp-next in
-    λ g. hyp-arm g ((c .assumed2) .result) aRuleHyp (told RuleHyp (tag-of .ensures (g .xs) (g .holds)) (enum-told5 .given .1))
-    (rule-hyp-next .last .1 .1 .1 .1 .1 .1 .1 .0) (rule-hyp-next .last .1 .1 .1 .1 .1 .1 .1 .1 .0)
-    (rule-hyp-next .last .1 .1 .1 .1 .1 .1 .1 .1 .1 .1 .0) (rule-hyp-next .last .1 .1 .1 .1 .1 .1 .1 .1 .1 .1 .1 .0)
-    (rule-hyp-next .result) (rule-hyp-next .ensures) ((c .assumed2) .ensures)
+    let rule-hyp-next = c .before .before .before .before .before .before .before .before .before .rule-hyp-next in (
+      λ g. hyp-arm g ((c .assumed2) .result) aRuleHyp (told RuleHyp (tag-of .ensures (g .xs) (g .holds)) (enum-told5 .given .1))
+          (rule-hyp-next .last .1 .1 .1 .1 .1 .1 .1 .0) (rule-hyp-next .last .1 .1 .1 .1 .1 .1 .1 .1 .0)
+          (rule-hyp-next .last .1 .1 .1 .1 .1 .1 .1 .1 .1 .1 .0) (rule-hyp-next .last .1 .1 .1 .1 .1 .1 .1 .1 .1 .1 .1 .0)
+          (rule-hyp-next .result) (rule-hyp-next .ensures) ((c .assumed2) .ensures),
+      refl,
+    )
 
 -- src/take.rt:221:1
 same-length-26 : tie.Need-same-length-26
@@ -423,11 +434,13 @@ returns-6 : tie.Need-returns-6
 returns-6 c =
     let tag-of = c .before .before .before .before .before .before .before .before .before .before .before .before .before .before .before .before .before .before .before .before .before .before .before .before .tag-of in
     let enum-told6 = c .before .before .before .before .before .before .before .before .before .before .before .before .before .before .before .before .before .before .before .before .before .before .enum-told6 in
-    let induct-next = c .before .before .before .before .before .before .before .before .before .before .before .before .before .induct-next in
-    λ g. induct-arm g ((c .entered2) .result) anInduct (told Induct (tag-of .ensures (g .xs) (g .holds)) (enum-told6 .given .1))
-    (induct-next .last .1 .1 .1 .1 .1 .1 .1 .0) (induct-next .last .1 .1 .1 .1 .1 .1 .1 .1 .0)
-    (induct-next .last .1 .1 .1 .1 .1 .1 .1 .1 .1 .0) (induct-next .last .1 .1 .1 .1 .1 .1 .1 .1 .1 .1 .1 .0)
-    (induct-next .last .1 .1 .1 .1 .1 .1 .1 .1 .1 .1 .1 .1 .0) (induct-next .result) (induct-next .ensures) ((c .entered2) .ensures)
+    let induct-next = c .before .before .before .before .before .before .before .before .before .before .before .before .before .induct-next in (
+      λ g. induct-arm g ((c .entered2) .result) anInduct (told Induct (tag-of .ensures (g .xs) (g .holds)) (enum-told6 .given .1))
+          (induct-next .last .1 .1 .1 .1 .1 .1 .1 .0) (induct-next .last .1 .1 .1 .1 .1 .1 .1 .1 .0)
+          (induct-next .last .1 .1 .1 .1 .1 .1 .1 .1 .1 .0) (induct-next .last .1 .1 .1 .1 .1 .1 .1 .1 .1 .1 .1 .0)
+          (induct-next .last .1 .1 .1 .1 .1 .1 .1 .1 .1 .1 .1 .1 .0) (induct-next .result) (induct-next .ensures .0) ((c .entered2) .ensures),
+      induct-next .ensures .1,
+    )
 
 -- src/take.rt:221:1
 same-length-34 : tie.Need-same-length-34
@@ -466,12 +479,14 @@ returns-7 : tie.Need-returns-7
 returns-7 c =
     let tag-of = c .before .before .before .before .before .before .before .before .before .before .before .before .before .before .before .before .before .before .before .before .before .before .before .before .tag-of in
     let enum-told7 = c .before .before .before .before .before .before .before .before .before .before .before .before .before .before .before .before .before .before .before .before .before .before .enum-told7 in
-    let induct-with-next = c .before .before .before .before .before .before .before .before .before .before .before .before .before .induct-with-next in
-    λ g. induct-arm g ((c .entered3) .result) anInductWith (told InductWith (tag-of .ensures (g .xs) (g .holds)) (enum-told7 .given .1))
-    (induct-with-next .last .1 .1 .1 .1 .1 .1 .1 .0) (induct-with-next .last .1 .1 .1 .1 .1 .1 .1 .1 .0)
-    (induct-with-next .last .1 .1 .1 .1 .1 .1 .1 .1 .1 .0) (induct-with-next .last .1 .1 .1 .1 .1 .1 .1 .1 .1 .1 .1 .0)
-    (induct-with-next .last .1 .1 .1 .1 .1 .1 .1 .1 .1 .1 .1 .1 .0) (induct-with-next .result) (induct-with-next .ensures)
-    ((c .entered3) .ensures)
+    let induct-with-next = c .before .before .before .before .before .before .before .before .before .before .before .before .before .induct-with-next in (
+      λ g. induct-arm g ((c .entered3) .result) anInductWith (told InductWith (tag-of .ensures (g .xs) (g .holds)) (enum-told7 .given .1))
+          (induct-with-next .last .1 .1 .1 .1 .1 .1 .1 .0) (induct-with-next .last .1 .1 .1 .1 .1 .1 .1 .1 .0)
+          (induct-with-next .last .1 .1 .1 .1 .1 .1 .1 .1 .1 .0) (induct-with-next .last .1 .1 .1 .1 .1 .1 .1 .1 .1 .1 .1 .0)
+          (induct-with-next .last .1 .1 .1 .1 .1 .1 .1 .1 .1 .1 .1 .1 .0) (induct-with-next .result) (induct-with-next .ensures .0)
+          ((c .entered3) .ensures),
+      induct-with-next .ensures .1,
+    )
 
 -- src/take.rt:221:1
 same-length-42 : tie.Need-same-length-42
@@ -506,11 +521,13 @@ returns-8 : tie.Need-returns-8
 returns-8 c =
     let tag-of = c .before .before .before .before .before .before .before .before .before .before .before .before .before .before .before .before .before .before .before .before .before .tag-of in
     let enum-told8 = c .before .before .before .before .before .before .before .before .before .before .before .before .before .before .before .before .before .before .before .enum-told8 in
-    let apply-next = c .before .before .before .before .before .before .before .before .before .before .before .apply-next in
-    λ g. apply-arm g ((c .entered4) .result) anApply (told Apply (tag-of .ensures (g .xs) (g .holds)) (enum-told8 .given .1))
-    (apply-next .last .1 .1 .1 .1 .1 .1 .1 .0) (apply-next .last .1 .1 .1 .1 .1 .1 .1 .1 .0)
-    (apply-next .last .1 .1 .1 .1 .1 .1 .1 .1 .1 .0) (apply-next .last .1 .1 .1 .1 .1 .1 .1 .1 .1 .1 .1 .0)
-    (apply-next .last .1 .1 .1 .1 .1 .1 .1 .1 .1 .1 .1 .1 .0) (apply-next .result) (apply-next .ensures) ((c .entered4) .ensures)
+    let apply-next = c .before .before .before .before .before .before .before .before .before .before .before .apply-next in (
+      λ g. apply-arm g ((c .entered4) .result) anApply (told Apply (tag-of .ensures (g .xs) (g .holds)) (enum-told8 .given .1))
+          (apply-next .last .1 .1 .1 .1 .1 .1 .1 .0) (apply-next .last .1 .1 .1 .1 .1 .1 .1 .1 .0)
+          (apply-next .last .1 .1 .1 .1 .1 .1 .1 .1 .1 .0) (apply-next .last .1 .1 .1 .1 .1 .1 .1 .1 .1 .1 .1 .0)
+          (apply-next .last .1 .1 .1 .1 .1 .1 .1 .1 .1 .1 .1 .1 .0) (apply-next .result) (apply-next .ensures) ((c .entered4) .ensures),
+      refl,
+    )
 
 -- src/take.rt:221:1
 same-length-49 : tie.Need-same-length-49
@@ -551,14 +568,16 @@ returns-9 c =
     let mid = c .before .before .before .before .before .before .before .before .before .before .before .before .before .before .before .before .before .before .before .before .before .before .before .before .before in
     let args = mid .before .before .before .before .before .before .before .before .before .before .before .before .before .before .before .before .before .before .before .before .args in
     let tag-of = c .before .before .before .before .before .before .before .before .before .before .before .before .before .before .before .before .before .before .before .before .before .before .before .before .before .tag-of in
-    let enum-told9 = c .before .before .before .before .before .before .before .before .before .before .before .before .before .before .before .before .before .before .before .before .before .before .before .enum-told9 in
-    λ g. invert-arm g (invert-items .result)
-    (board (invert-items .last .1 .1 .1 .1 .1 .1 .1 .1 .0) (invert-items .last .1 .1 .1 .1 .1 .1 .1 .1 .1 .0)
-    (invert-items .last .1 .1 .1 .1 .1 .1 .1 .1 .1 .1 .0) (args .defs .now) (args .rows .now)
-    (invert-items .last .1 .1 .1 .1 .1 .1 .1 .1 .1 .1 .1 .1 .0) (invert-items .last .1 .1 .1 .1 .1 .1 .1 .1 .1 .1 .1 .1 .1 .0)
-    (invert-items .last .1 .1 .1 .1 .1 .1 .1 .1 .1 .1 .1 .1 .1 .1 .0))
-    (told Invert (tag-of .ensures (g .xs) (g .holds)) (enum-told9 .given .1))
-    (invert-items .ensures (args .sorts .now) (args .rows .now) g)
+    let enum-told9 = c .before .before .before .before .before .before .before .before .before .before .before .before .before .before .before .before .before .before .before .before .before .before .before .enum-told9 in (
+      λ g. invert-arm g (invert-items .result)
+          (board (invert-items .last .1 .1 .1 .1 .1 .1 .1 .1 .0) (invert-items .last .1 .1 .1 .1 .1 .1 .1 .1 .1 .0)
+          (invert-items .last .1 .1 .1 .1 .1 .1 .1 .1 .1 .1 .0) (args .defs .now) (args .rows .now)
+          (invert-items .last .1 .1 .1 .1 .1 .1 .1 .1 .1 .1 .1 .1 .0) (invert-items .last .1 .1 .1 .1 .1 .1 .1 .1 .1 .1 .1 .1 .1 .0)
+          (invert-items .last .1 .1 .1 .1 .1 .1 .1 .1 .1 .1 .1 .1 .1 .1 .0))
+          (told Invert (tag-of .ensures (g .xs) (g .holds)) (enum-told9 .given .1))
+          (invert-items .ensures .0 (args .sorts .now) (args .rows .now) g),
+      invert-items .ensures .1,
+    )
 
 -- src/take.rt:221:1
 same-length-57 : tie.Need-same-length-57
@@ -593,14 +612,16 @@ returns-10 : tie.Need-returns-10
 returns-10 c =
     let outcome = c .before .before .before .before .before .before .before .outcome in
     let tag-of = c .before .before .before .before .before .before .before .before .before .before .before .before .before .before .before .before .before .tag-of in
-    let enum-told10 = c .before .before .before .before .before .before .before .before .before .before .before .before .before .before .before .enum-told10 in
-    λ g. result-arm g ((c .resulted) .result) (outcome .last .1 .1 .1 .1 .1 .1 .1 .1 .1 .1 .1 .0)
-    (outcome .last .1 .1 .1 .1 .1 .1 .1 .1 .1 .1 .1 .1 .0) (outcome .last .1 .1 .1 .1 .1 .1 .1 .0) (outcome .result)
-    (told Outcome (tag-of .ensures (g .xs) (g .holds)) (enum-told10 .given .1)) (outcome .ensures) ((c .resulted) .ensures)
+    let enum-told10 = c .before .before .before .before .before .before .before .before .before .before .before .before .before .before .before .enum-told10 in (
+      λ g. result-arm g ((c .resulted) .result) (outcome .last .1 .1 .1 .1 .1 .1 .1 .1 .1 .1 .1 .0)
+          (outcome .last .1 .1 .1 .1 .1 .1 .1 .1 .1 .1 .1 .1 .0) (outcome .last .1 .1 .1 .1 .1 .1 .1 .0) (outcome .result)
+          (told Outcome (tag-of .ensures (g .xs) (g .holds)) (enum-told10 .given .1)) (outcome .ensures) ((c .resulted) .ensures),
+      refl,
+    )
 
 -- src/take.rt:221:1
 returns-11 : tie.Need-returns-11
-returns-11 c = λ g. none-tried (g .stands) 30 perform (tagged proofTag (g .xs)) (g .xs) (told Unknown ((c .before .before .tag-of) .ensures (g .xs) (g .holds)) ((c .enum-told11) .given .1))
+returns-11 c = (λ g. none-tried (g .stands) 30 perform (tagged proofTag (g .xs)) (g .xs) (told Unknown ((c .before .before .tag-of) .ensures (g .xs) (g .holds)) ((c .enum-told11) .given .1)), refl)
 
 pub form-items-spec : {M : Type 1} → statement M
 form-items-spec =

@@ -1,4 +1,5 @@
 -- `taking::take::invert_items` meets its contract. Assumes nothing.
+use mathlib.Core.Path.{refl}
 use Rattle.taking.proofs.Inverts.{inverts-own, inverts-given, inverts-few, inverts-tried, inverts-not}
 use borrow.Author.Needs.{needs}
 use Rattle.taking.proofs.take.invert_items.Statement.{statement}
@@ -65,16 +66,18 @@ returns : tie.Need-returns
 returns c =
     let is-next = c .before .before .before .before .before .before .before .before .before .before .before .before .before .before .before .before .before .before .before .before .before .before .before .before .before .is-next in
     let enum-told = c .before .before .before .before .before .before .before .before .before .before .before .before .before .before .before .before .before .before .before .before .before .before .before .enum-told in
-    let add-invert = c .before .before .before .before .before .before .before .before .before .before .before .before .before .before .before .add-invert in
-    λ sorts rows g l. inverts-tried g l (is-next .result) (is-next .ensures (inverts-own g l)) (enum-told .given .1)
-    (add-invert .last .1 .1 .1 .1 .1 .1 .1 .1 .0) (add-invert .last .1 .1 .1 .1 .1 .1 .1 .1 .1 .1 .1 .1 .1 .1 .0)
-    (add-invert .last .1 .1 .1 .1 .1 .1 .1 .1 .1 .1 .1 .1 .1 .1 .1 .0) (add-invert .last .1 .1 .1 .1 .1 .1 .1 .1 .1 .1 .0)
-    (add-invert .last .1 .1 .1 .1 .1 .1 .1 .1 .1 .1 .1 .0) (add-invert .last .1 .1 .1 .1 .1 .1 .1 .1 .1 .1 .1 .1 .0)
-    (add-invert .result) (add-invert .ensures (inverts-given g l)) ((c .inverted) .result) ((c .inverted) .ensures)
+    let add-invert = c .before .before .before .before .before .before .before .before .before .before .before .before .before .before .before .add-invert in (
+      λ sorts rows g l. inverts-tried g l (is-next .result) (is-next .ensures (inverts-own g l)) (enum-told .given .1)
+          (add-invert .last .1 .1 .1 .1 .1 .1 .1 .1 .0) (add-invert .last .1 .1 .1 .1 .1 .1 .1 .1 .1 .1 .1 .1 .1 .1 .0)
+          (add-invert .last .1 .1 .1 .1 .1 .1 .1 .1 .1 .1 .1 .1 .1 .1 .1 .0) (add-invert .last .1 .1 .1 .1 .1 .1 .1 .1 .1 .1 .0)
+          (add-invert .last .1 .1 .1 .1 .1 .1 .1 .1 .1 .1 .1 .0) (add-invert .last .1 .1 .1 .1 .1 .1 .1 .1 .1 .1 .1 .1 .0)
+          (add-invert .result) (add-invert .ensures .0 (inverts-given g l)) ((c .inverted) .result) ((c .inverted) .ensures),
+      add-invert .ensures .1,
+    )
 
 -- src/take.rt:185:1
 returns-2 : tie.Need-returns-2
-returns-2 c = λ sorts rows g l. inverts-not g l ((c .before .before .before .is-next) .result) ((c .before .before .before .is-next) .ensures (inverts-own g l)) ((c .before .q) .given .1)
+returns-2 c = (λ sorts rows g l. inverts-not g l ((c .before .before .before .is-next) .result) ((c .before .before .before .is-next) .ensures (inverts-own g l)) ((c .before .q) .given .1), refl)
 
 pub invert-items-spec : {M : Type 1} → statement M
 invert-items-spec =

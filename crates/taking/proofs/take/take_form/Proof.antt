@@ -1,4 +1,5 @@
 -- `taking::take::take_form` meets its contract. Assumes nothing.
+use mathlib.Core.Path.{refl}
 use native.Mathlib.Omega.{arith}
 use Rattle.rules.specs.Tags.{proofTag}
 use Rattle.rules.specs.Forms.{perform}
@@ -24,7 +25,7 @@ enum-told c = search needs
 
 -- src/take.rt:478:9
 returns : tie.Need-returns
-returns c = λ g. never-tried (g .stands) (form-atom (g .formed) ((c .before .before .item-at) .ensures) ((c .enum-told) .given .1) (g .S))
+returns c = (λ g. never-tried (g .stands) (form-atom (g .formed) ((c .before .before .item-at) .ensures) ((c .enum-told) .given .1) (g .S)), refl)
 
 -- src/take.rt:500:9
 mul-form-items : tie.Need-mul-form-items
@@ -120,7 +121,7 @@ forget-requires c κs =
     (form-items .last .1 .1 .1 .1 .1 .1 .1 .1 .1 .1 .1 .1 .1 .1 .1 .1 .0)) (pre .0 .stands)
     (chosen 30 perform (tagged proofTag ((form-list (pre .0 .formed) (item-at .ensures) (a .given .1)) .items))
     ((form-list (pre .0 .formed) (item-at .ensures) (a .given .1)) .items) (pre .0 .S)) (form-items .result)
-    (form-items .ensures
+    (form-items .ensures .0
     (record {
       S = (pre .0) .S;
       xs = (form-list (pre .0 .formed) (item-at .ensures) (a .given .1)) .items;
@@ -175,27 +176,29 @@ returns-2 c =
     let form-items = c .before .before .before .before .before .before .before .before .before .before .before .before .before .before .before .before .before .before .before .before .before .form-items in
     let item-at = mid .before .before .before .before .before .before .before .before .before .before .item-at in
     let a = mid .before .before .before .before .before .before .before .before .a in
-    let k = c .before .k in
-    λ g. taken-tried
-    (board (args .vars .now) (args .index .now) (args .words .now) (args .defs .now) (args .rows .now) (args .facts .now)
-    (args .footings .now) (args .lists .now))
-    (board (form-items .last .1 .1 .1 .1 .1 .1 .1 .1 .1 .0) (form-items .last .1 .1 .1 .1 .1 .1 .1 .1 .1 .1 .0)
-    (form-items .last .1 .1 .1 .1 .1 .1 .1 .1 .1 .1 .1 .0) (form-items .last .1 .1 .1 .1 .1 .1 .1 .1 .1 .1 .1 .1 .0)
-    (form-items .last .1 .1 .1 .1 .1 .1 .1 .1 .1 .1 .1 .1 .1 .0) (form-items .last .1 .1 .1 .1 .1 .1 .1 .1 .1 .1 .1 .1 .1 .1 .0)
-    (form-items .last .1 .1 .1 .1 .1 .1 .1 .1 .1 .1 .1 .1 .1 .1 .1 .0)
-    (form-items .last .1 .1 .1 .1 .1 .1 .1 .1 .1 .1 .1 .1 .1 .1 .1 .1 .0)) (g .stands)
-    (chosen 30 perform (tagged proofTag ((form-list (g .formed) (item-at .ensures) (a .given .1)) .items))
-    ((form-list (g .formed) (item-at .ensures) (a .given .1)) .items) (g .S)) (form-items .result)
-    (form-items .ensures
-    (record {
-      S = (g) .S;
-      xs = (form-list (g .formed) (item-at .ensures) (a .given .1)) .items;
-      stands = (g) .stands;
-      bounded = (g)
-          .bounded;
-      holds = (form-list (g .formed) (item-at .ensures) (a .given .1)) .holds;
-    })) (k .given .1)
-    (form-takes (g .formed) (item-at .ensures) (a .given .1) (g .S))
+    let k = c .before .k in (
+      λ g. taken-tried
+          (board (args .vars .now) (args .index .now) (args .words .now) (args .defs .now) (args .rows .now) (args .facts .now)
+          (args .footings .now) (args .lists .now))
+          (board (form-items .last .1 .1 .1 .1 .1 .1 .1 .1 .1 .0) (form-items .last .1 .1 .1 .1 .1 .1 .1 .1 .1 .1 .0)
+          (form-items .last .1 .1 .1 .1 .1 .1 .1 .1 .1 .1 .1 .0) (form-items .last .1 .1 .1 .1 .1 .1 .1 .1 .1 .1 .1 .1 .0)
+          (form-items .last .1 .1 .1 .1 .1 .1 .1 .1 .1 .1 .1 .1 .1 .0) (form-items .last .1 .1 .1 .1 .1 .1 .1 .1 .1 .1 .1 .1 .1 .1 .0)
+          (form-items .last .1 .1 .1 .1 .1 .1 .1 .1 .1 .1 .1 .1 .1 .1 .1 .0)
+          (form-items .last .1 .1 .1 .1 .1 .1 .1 .1 .1 .1 .1 .1 .1 .1 .1 .1 .0)) (g .stands)
+          (chosen 30 perform (tagged proofTag ((form-list (g .formed) (item-at .ensures) (a .given .1)) .items))
+          ((form-list (g .formed) (item-at .ensures) (a .given .1)) .items) (g .S)) (form-items .result)
+          (form-items .ensures .0
+          (record {
+            S = (g) .S;
+            xs = (form-list (g .formed) (item-at .ensures) (a .given .1)) .items;
+            stands = (g) .stands;
+            bounded = (g)
+                .bounded;
+            holds = (form-list (g .formed) (item-at .ensures) (a .given .1)) .holds;
+          })) (k .given .1)
+          (form-takes (g .formed) (item-at .ensures) (a .given .1) (g .S)),
+      form-items .ensures .1,
+    )
 
 -- src/take.rt:450:1
 same-length-10 : tie.Need-same-length-10
@@ -243,27 +246,29 @@ returns-3 c =
     let item-at = mid .before .before .before .before .before .before .before .before .before .before .before .before .before .before .before .before .before .item-at in
     let a = mid .before .before .before .before .before .before .before .before .before .before .before .before .before .before .before .a in
     let q = c .before .before .before .before .before .before .before .before .q in
-    let forget = c .before .before .before .before .forget in
-    λ g. left-back
-    (board (args .vars .now) (args .index .now) (args .words .now) (args .defs .now) (args .rows .now) (args .facts .now)
-    (args .footings .now) (args .lists .now))
-    (board (form-items .last .1 .1 .1 .1 .1 .1 .1 .1 .1 .0) (form-items .last .1 .1 .1 .1 .1 .1 .1 .1 .1 .1 .0)
-    (form-items .last .1 .1 .1 .1 .1 .1 .1 .1 .1 .1 .1 .0) (form-items .last .1 .1 .1 .1 .1 .1 .1 .1 .1 .1 .1 .1 .0)
-    (form-items .last .1 .1 .1 .1 .1 .1 .1 .1 .1 .1 .1 .1 .1 .0) (form-items .last .1 .1 .1 .1 .1 .1 .1 .1 .1 .1 .1 .1 .1 .1 .0)
-    (form-items .last .1 .1 .1 .1 .1 .1 .1 .1 .1 .1 .1 .1 .1 .1 .1 .0)
-    (form-items .last .1 .1 .1 .1 .1 .1 .1 .1 .1 .1 .1 .1 .1 .1 .1 .1 .0)) (g .stands)
-    (chosen 30 perform (tagged proofTag ((form-list (g .formed) (item-at .ensures) (a .given .1)) .items))
-    ((form-list (g .formed) (item-at .ensures) (a .given .1)) .items) (g .S)) (form-items .result)
-    (form-items .ensures
-    (record {
-      S = (g) .S;
-      xs = (form-list (g .formed) (item-at .ensures) (a .given .1)) .items;
-      stands = (g) .stands;
-      bounded = (g)
-          .bounded;
-      holds = (form-list (g .formed) (item-at .ensures) (a .given .1)) .holds;
-    })) (q .given .1) (forget .ensures)
-    (form-takes (g .formed) (item-at .ensures) (a .given .1) (g .S))
+    let forget = c .before .before .before .before .forget in (
+      λ g. left-back
+          (board (args .vars .now) (args .index .now) (args .words .now) (args .defs .now) (args .rows .now) (args .facts .now)
+          (args .footings .now) (args .lists .now))
+          (board (form-items .last .1 .1 .1 .1 .1 .1 .1 .1 .1 .0) (form-items .last .1 .1 .1 .1 .1 .1 .1 .1 .1 .1 .0)
+          (form-items .last .1 .1 .1 .1 .1 .1 .1 .1 .1 .1 .1 .0) (form-items .last .1 .1 .1 .1 .1 .1 .1 .1 .1 .1 .1 .1 .0)
+          (form-items .last .1 .1 .1 .1 .1 .1 .1 .1 .1 .1 .1 .1 .1 .0) (form-items .last .1 .1 .1 .1 .1 .1 .1 .1 .1 .1 .1 .1 .1 .1 .0)
+          (form-items .last .1 .1 .1 .1 .1 .1 .1 .1 .1 .1 .1 .1 .1 .1 .1 .0)
+          (form-items .last .1 .1 .1 .1 .1 .1 .1 .1 .1 .1 .1 .1 .1 .1 .1 .1 .0)) (g .stands)
+          (chosen 30 perform (tagged proofTag ((form-list (g .formed) (item-at .ensures) (a .given .1)) .items))
+          ((form-list (g .formed) (item-at .ensures) (a .given .1)) .items) (g .S)) (form-items .result)
+          (form-items .ensures .0
+          (record {
+            S = (g) .S;
+            xs = (form-list (g .formed) (item-at .ensures) (a .given .1)) .items;
+            stands = (g) .stands;
+            bounded = (g)
+                .bounded;
+            holds = (form-list (g .formed) (item-at .ensures) (a .given .1)) .holds;
+          })) (q .given .1) (forget .ensures)
+          (form-takes (g .formed) (item-at .ensures) (a .given .1) (g .S)),
+      form-items .ensures .1,
+    )
 
 pub take-form-spec : {M : Type 1} → statement M
 take-form-spec =
