@@ -3,9 +3,6 @@ use mathlib.Core.Path.{_≡_, refl, sym, subst}
 use mathlib.Core.List.{List}
 use Prim.Native.Nat.{ℕ, _≤_}
 use native.Mathlib.Omega.{arith}
-use lib.ListN.{length, take}
-use lib.Seq.{length-take-le}
-use Rattle.rules.specs.Limits.{PATTERNS}
 use Rattle.rules.specs.Out.{refuse, Act}
 use Rattle.rules.specs.Sexp.{Sexps}
 use Rattle.rules.specs.State.{State, Counts}
@@ -14,7 +11,6 @@ use Rattle.rules.specs.Forms.{next, perform}
 use Rattle.terms.specs.declared.store.Mark.{Mark}
 use Rattle.state.specs.declared.sizes.Sizes.{Sizes}
 use Rattle.state.specs.Held.{Names, RuleLists, records}
-use Rattle.induction.specs.Inducing.{IDS}
 use Rattle.forms.specs.declared.next.Numbered.{Numbered}
 use Rattle.forms.specs.declared.next.Numbered.the-variants as numbered-as
 use Rattle.forms.specs.declared.hypotheses.Assumed.{Assumed}
@@ -90,8 +86,3 @@ module _ {K : Names} {facts footings lists : List ℕ} {n : Sizes} {I W : List �
         Halts I W I W m (g .form .S) (perform t (g .form .xs) (g .form .S)) q 0 m × (records facts footings lists ≡ records facts footings lists)
     derived-not {i} a e =
         (halts-first (g .form .refers .reads .good) (g .form .refers .reads .spelling .trees) (g .store) (not-next k (g .form .xs) (g .form .S) i a e), refl)
-
--- The scratch of a step --------------------------------------------------------------------------------------------------------------
-
-pub ids-few : (ids : List ℕ) → length ids ≡ IDS → length (take PATTERNS ids) ≡ PATTERNS
-ids-few ids e = length-take-le PATTERNS ids (omega (arith, e))

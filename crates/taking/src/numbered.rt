@@ -1,12 +1,13 @@
-// Forms that add a fact, each behind the index that it gives to it: questions 31 and 32. And results. The scratch of all these is local.
+// Forms that add a fact, each behind the index that it gives to it: questions 31 and 32. And results. Of the scratch of these `ids` and `memo` are lent, zero
+// before and after; the rest is local.
 ghost use mathlib.Core.Path.{_≡_};
-ghost use lib.ListN.{length};
+ghost use lib.ListN.{replicate};
+ghost use Rattle.rules.specs.Limits.{TERMS};
 ghost use Rattle.rules.specs.Tags.{aStep, aHyp, aRuleHyp, anInduct, anInductWith, anApply};
 ghost use Rattle.rules.specs.Forms.{perform, result, someInstances};
 ghost use Rattle.state.specs.Held.{names, ruleLists, records};
-ghost use Rattle.induction.specs.Inducing.{IDS};
 ghost use Rattle.forms.specs.Assumed.{AddsFact, AssumedAs};
-ghost use Rattle.entering.specs.Entered.{AddsInstance, AddsDerived, EnteredAs, anInduction};
+ghost use Rattle.entering.specs.Entered.{AddsInstance, AddsDerived, Spare, EnteredAs, anInduction};
 ghost use Rattle.forms.specs.Results.{TakesResult, ResultedAs};
 use entering::derive::Entered;
 use entering::derive::add_apply;
@@ -21,7 +22,6 @@ use forms::next::is_next;
 use forms::results::Resulted;
 use forms::results::result;
 use rules::PATTERNS;
-use rules::TERMS;
 use rules::VARIABLES;
 use state::sizes::Sizes;
 use terms::store::Mark;
@@ -110,7 +110,7 @@ pub fn rule_hyp_next(
     }
 }
 
-// `(step N RULE (REF...) ITEM...)`, by the items of the form. `ids` is scratch, of whatever content.
+// `(step N RULE (REF...) ITEM...)`, by the items of the form.
 pub fn step_next(
     theory: &[u8],
     goals: &[u8],
@@ -131,14 +131,15 @@ pub fn step_next(
     mark: Mark,
     cells: &[u32],
     ids: &mut [u32],
+    memo: &mut [u32],
 ) -> Entered
     requires { ⌜ AddsInstance (names (now theory) (now goals) (now text) (now symbols) (now inputs) (now vars) (now defs)) (ruleLists (now theory) (now rules) (now rulevars) (now patterns)) (now facts) (now footings) (now lists) n (now index) (now words) mark (now cells) 4 ⌝ }
-    requires { ⌜ length (now ids) ≡ IDS ⌝ }
+    requires { ⌜ Spare (now ids) (now memo) ⌝ }
     ensures { λ r. ⌜ ((g : AddsInstance (names (now (theory .entry)) (now (goals .entry)) (now (text .entry)) (now (symbols .entry)) (now (inputs .entry)) (now (vars .entry)) (now (defs .entry))) (ruleLists (now (theory .entry)) (now (rules .entry)) (now (rulevars .entry)) (now (patterns .entry))) (now (facts .entry)) (now (footings .entry)) (now (lists .entry)) n (now (index .entry)) (now (words .entry)) mark (now (cells .entry)) 4) →
         EnteredAs (records (now (facts .entry)) (now (footings .entry)) (now (lists .entry))) (records (now (facts .exit)) (now (footings .exit)) (now (lists .exit))) n (now (index .entry)) (now (words .entry)) (now (index .exit)) (now (words .exit)) mark (g .form .S) (perform aStep (g .form .xs) (g .form .S)) someInstances r) ⌝ }
+    ensures { λ _. ⌜ (now (ids .exit) ≡ now (ids .entry)) × (now (memo .exit) ≡ now (memo .entry)) ⌝ }
 {
     let mut map = [0u32; VARIABLES];
-    let mut memo = [0u32; TERMS];
     let few = PATTERNS;
     match is_next(text, cells, n) {
         Numbered::Next => add_step(
@@ -161,7 +162,7 @@ pub fn step_next(
             mark,
             cells,
             &mut map,
-            &mut memo,
+            memo,
             &mut ids[..few],
         ),
         Numbered::No(q) => Entered::No(q, 0, mark),
@@ -185,14 +186,16 @@ pub fn apply_next(
     words: &mut [u32],
     mark: Mark,
     cells: &[u32],
+    memo: &mut [u32],
 ) -> Entered
     requires { ⌜ AddsDerived (names (now theory) (now goals) (now text) (now symbols) (now inputs) (now vars) (now defs)) (now facts) (now footings) (now lists) n (now index) (now words) mark (now cells) 5 ⌝ }
+    requires { ⌜ now memo ≡ replicate TERMS 0 ⌝ }
     ensures { λ r. ⌜ ((g : AddsDerived (names (now (theory .entry)) (now (goals .entry)) (now (text .entry)) (now (symbols .entry)) (now (inputs .entry)) (now (vars .entry)) (now (defs .entry))) (now (facts .entry)) (now (footings .entry)) (now (lists .entry)) n (now (index .entry)) (now (words .entry)) mark (now (cells .entry)) 5) →
         EnteredAs (records (now (facts .entry)) (now (footings .entry)) (now (lists .entry))) (records (now (facts .exit)) (now (footings .exit)) (now (lists .exit))) n (now (index .entry)) (now (words .entry)) (now (index .exit)) (now (words .exit)) mark (g .form .S) (perform anApply (g .form .xs) (g .form .S)) someInstances r) ⌝ }
+    ensures { λ _. ⌜ now (memo .exit) ≡ now (memo .entry) ⌝ }
 {
     let mut bound = [0u32; VARIABLES];
     let mut map = [0u32; VARIABLES];
-    let mut memo = [0u32; TERMS];
     match is_next(text, cells, n) {
         Numbered::Next => add_apply(
             theory,
@@ -212,13 +215,13 @@ pub fn apply_next(
             cells,
             &mut bound,
             &mut map,
-            &mut memo,
+            memo,
         ),
         Numbered::No(q) => Entered::No(q, 0, mark),
     }
 }
 
-// `(induct N X JUDGMENT (CASE...))`, by the items of the form. `ids` is scratch, of whatever content.
+// `(induct N X JUDGMENT (CASE...))`, by the items of the form.
 pub fn induct_next(
     theory: &[u8],
     goals: &[u8],
@@ -236,14 +239,15 @@ pub fn induct_next(
     mark: Mark,
     cells: &[u32],
     ids: &mut [u32],
+    memo: &mut [u32],
 ) -> Entered
     requires { ⌜ AddsDerived (names (now theory) (now goals) (now text) (now symbols) (now inputs) (now vars) (now defs)) (now facts) (now footings) (now lists) n (now index) (now words) mark (now cells) 5 ⌝ }
-    requires { ⌜ length (now ids) ≡ IDS ⌝ }
+    requires { ⌜ Spare (now ids) (now memo) ⌝ }
     ensures { λ r. ⌜ ((g : AddsDerived (names (now (theory .entry)) (now (goals .entry)) (now (text .entry)) (now (symbols .entry)) (now (inputs .entry)) (now (vars .entry)) (now (defs .entry))) (now (facts .entry)) (now (footings .entry)) (now (lists .entry)) n (now (index .entry)) (now (words .entry)) mark (now (cells .entry)) 5) →
         EnteredAs (records (now (facts .entry)) (now (footings .entry)) (now (lists .entry))) (records (now (facts .exit)) (now (footings .exit)) (now (lists .exit))) n (now (index .entry)) (now (words .entry)) (now (index .exit)) (now (words .exit)) mark (g .form .S) (perform anInduct (g .form .xs) (g .form .S)) anInduction r) ⌝ }
+    ensures { λ _. ⌜ (now (ids .exit) ≡ now (ids .entry)) × (now (memo .exit) ≡ now (memo .entry)) ⌝ }
 {
     let mut map = [0u32; VARIABLES];
-    let mut memo = [0u32; TERMS];
     match is_next(text, cells, n) {
         Numbered::Next => add_induct(
             theory,
@@ -262,14 +266,14 @@ pub fn induct_next(
             mark,
             cells,
             &mut map,
-            &mut memo,
+            memo,
             ids,
         ),
         Numbered::No(q) => Entered::No(q, 0, mark),
     }
 }
 
-// `(induct N X (HYP...) JUDGMENT (CASE...))`, by the items of the form. `ids` is scratch, of whatever content.
+// `(induct N X (HYP...) JUDGMENT (CASE...))`, by the items of the form.
 pub fn induct_with_next(
     theory: &[u8],
     goals: &[u8],
@@ -287,14 +291,15 @@ pub fn induct_with_next(
     mark: Mark,
     cells: &[u32],
     ids: &mut [u32],
+    memo: &mut [u32],
 ) -> Entered
     requires { ⌜ AddsDerived (names (now theory) (now goals) (now text) (now symbols) (now inputs) (now vars) (now defs)) (now facts) (now footings) (now lists) n (now index) (now words) mark (now cells) 6 ⌝ }
-    requires { ⌜ length (now ids) ≡ IDS ⌝ }
+    requires { ⌜ Spare (now ids) (now memo) ⌝ }
     ensures { λ r. ⌜ ((g : AddsDerived (names (now (theory .entry)) (now (goals .entry)) (now (text .entry)) (now (symbols .entry)) (now (inputs .entry)) (now (vars .entry)) (now (defs .entry))) (now (facts .entry)) (now (footings .entry)) (now (lists .entry)) n (now (index .entry)) (now (words .entry)) mark (now (cells .entry)) 6) →
         EnteredAs (records (now (facts .entry)) (now (footings .entry)) (now (lists .entry))) (records (now (facts .exit)) (now (footings .exit)) (now (lists .exit))) n (now (index .entry)) (now (words .entry)) (now (index .exit)) (now (words .exit)) mark (g .form .S) (perform anInductWith (g .form .xs) (g .form .S)) anInduction r) ⌝ }
+    ensures { λ _. ⌜ (now (ids .exit) ≡ now (ids .entry)) × (now (memo .exit) ≡ now (memo .entry)) ⌝ }
 {
     let mut map = [0u32; VARIABLES];
-    let mut memo = [0u32; TERMS];
     match is_next(text, cells, n) {
         Numbered::Next => add_induct_with(
             theory,
@@ -313,7 +318,7 @@ pub fn induct_with_next(
             mark,
             cells,
             &mut map,
-            &mut memo,
+            memo,
             ids,
         ),
         Numbered::No(q) => Entered::No(q, 0, mark),
@@ -337,13 +342,15 @@ pub fn outcome(
     words: &mut [u32],
     mark: Mark,
     cells: &[u32],
+    memo: &mut [u32],
 ) -> Resulted
     requires { ⌜ TakesResult (names (now theory) (now goals) (now text) (now symbols) (now inputs) (now vars) (now defs)) (now rows) (now facts) (now lists) n (now index) (now words) mark (now cells) ⌝ }
+    requires { ⌜ now memo ≡ replicate TERMS 0 ⌝ }
     ensures { λ r. ⌜ ((g : TakesResult (names (now (theory .entry)) (now (goals .entry)) (now (text .entry)) (now (symbols .entry)) (now (inputs .entry)) (now (vars .entry)) (now (defs .entry))) (now (rows .entry)) (now (facts .entry)) (now (lists .entry)) n (now (index .entry)) (now (words .entry)) mark (now (cells .entry))) →
         ResultedAs (now (rows .entry)) (now (rows .exit)) n (now (index .entry)) (now (words .entry)) (now (index .exit)) (now (words .exit)) mark (g .S) (result (g .xs) (g .S)) r) ⌝ }
+    ensures { λ _. ⌜ now (memo .exit) ≡ now (memo .entry) ⌝ }
 {
     let mut map = [0u32; VARIABLES];
-    let mut memo = [0u32; TERMS];
     result(
         theory,
         goals,
@@ -361,6 +368,6 @@ pub fn outcome(
         mark,
         cells,
         &mut map,
-        &mut memo,
+        memo,
     )
 }

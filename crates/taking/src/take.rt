@@ -3,13 +3,12 @@
 ghost use mathlib.Core.Path.{_≡_};
 ghost use mathlib.Core.List.{List};
 ghost use Prim.Native.Nat.{ℕ, _≤_};
-ghost use lib.ListN.{length};
 ghost use Rattle.rules.specs.Sexp.{count};
 ghost use Rattle.rules.specs.Tags.{goalForm, proofTag, anInvert};
 ghost use Rattle.rules.specs.Forms.{goal, takeGoal, perform, takeForm};
 ghost use Rattle.kernel.specs.Parsed.{theoryLists};
 ghost use Rattle.state.specs.Stands.{texts, board};
-ghost use Rattle.induction.specs.Inducing.{IDS};
+ghost use Rattle.entering.specs.Entered.{Spare};
 ghost use Rattle.taking.specs.Tagged.{tagged, chosen};
 ghost use Rattle.taking.specs.Taking.{TakesForm, TakesGoal, TakenAs};
 ghost use Rattle.taking.specs.Tried.{Items, GoalItems, TriedAs};
@@ -180,8 +179,8 @@ pub fn take_goal(
     }
 }
 
-// `(invert N K (HYP...) JUDGMENT (CASE...))`, by the items of the form. Where it is refused, the terms that it made are still there. `ids` is scratch, of
-// whatever content.
+// `(invert N K (HYP...) JUDGMENT (CASE...))`, by the items of the form. Where it is refused, the terms that it made are still there. `ids` and
+// `memo` are scratch.
 fn invert_items(
     theory: &[u8],
     goals: &[u8],
@@ -202,11 +201,13 @@ fn invert_items(
     mark: Mark,
     cells: &[u32],
     ids: &mut [u32],
+    memo: &mut [u32],
 ) -> Tried
     requires { ⌜ ((sorts : List ℕ) × (rows : List ℕ) × (g : Items (texts (now theory) (now goals) (now text)) (theoryLists sorts (now symbols) (now inputs) (now rules) (now rulevars) (now patterns)) (board (now vars) (now index) (now words) (now defs) rows (now facts) (now footings) (now lists)) n mark (now cells)) × (6 ≤ count (g .xs))) ⌝ }
-    requires { ⌜ length (now ids) ≡ IDS ⌝ }
+    requires { ⌜ Spare (now ids) (now memo) ⌝ }
     ensures { λ r. ⌜ ((sorts rows : List ℕ) (g : Items (texts (now (theory .entry)) (now (goals .entry)) (now (text .entry))) (theoryLists sorts (now (symbols .entry)) (now (inputs .entry)) (now (rules .entry)) (now (rulevars .entry)) (now (patterns .entry))) (board (now (vars .entry)) (now (index .entry)) (now (words .entry)) (now (defs .entry)) rows (now (facts .entry)) (now (footings .entry)) (now (lists .entry))) n mark (now (cells .entry))) → 6 ≤ count (g .xs) →
         TriedAs (texts (now (theory .entry)) (now (goals .entry)) (now (text .entry))) (theoryLists sorts (now (symbols .entry)) (now (inputs .entry)) (now (rules .entry)) (now (rulevars .entry)) (now (patterns .entry))) (board (now (vars .entry)) (now (index .entry)) (now (words .entry)) (now (defs .entry)) rows (now (facts .entry)) (now (footings .entry)) (now (lists .entry))) (board (now (vars .exit)) (now (index .exit)) (now (words .exit)) (now (defs .entry)) rows (now (facts .exit)) (now (footings .exit)) (now (lists .exit))) mark (g .S) (perform anInvert (g .xs) (g .S)) r) ⌝ }
+    ensures { λ _. ⌜ (now (ids .exit) ≡ now (ids .entry)) × (now (memo .exit) ≡ now (memo .entry)) ⌝ }
 {
     match is_next(text, cells, n) {
         Numbered::Next => {
@@ -230,6 +231,7 @@ fn invert_items(
                 mark,
                 cells,
                 ids,
+                memo,
             );
             inverted(n, r)
         }
@@ -237,7 +239,7 @@ fn invert_items(
     }
 }
 
-// The form of the proof that has these items. Where it is refused, the terms that it made are still there. `ids` is scratch, of whatever content.
+// The form of the proof that has these items. Where it is refused, the terms that it made are still there. `ids` and `memo` are scratch.
 fn form_items(
     theory: &[u8],
     goals: &[u8],
@@ -260,10 +262,12 @@ fn form_items(
     mark: Mark,
     cells: &[u32],
     ids: &mut [u32],
+    memo: &mut [u32],
 ) -> Tried
-    requires { ⌜ Items (texts (now theory) (now goals) (now text)) (theoryLists (now sorts) (now symbols) (now inputs) (now rules) (now rulevars) (now patterns)) (board (now vars) (now index) (now words) (now defs) (now rows) (now facts) (now footings) (now lists)) n mark (now cells) × (length (now ids) ≡ IDS) ⌝ }
+    requires { ⌜ Items (texts (now theory) (now goals) (now text)) (theoryLists (now sorts) (now symbols) (now inputs) (now rules) (now rulevars) (now patterns)) (board (now vars) (now index) (now words) (now defs) (now rows) (now facts) (now footings) (now lists)) n mark (now cells) × Spare (now ids) (now memo) ⌝ }
     ensures { λ r. ⌜ ((g : Items (texts (now (theory .entry)) (now (goals .entry)) (now (text .entry))) (theoryLists (now (sorts .entry)) (now (symbols .entry)) (now (inputs .entry)) (now (rules .entry)) (now (rulevars .entry)) (now (patterns .entry))) (board (now (vars .entry)) (now (index .entry)) (now (words .entry)) (now (defs .entry)) (now (rows .entry)) (now (facts .entry)) (now (footings .entry)) (now (lists .entry))) n mark (now (cells .entry))) →
         TriedAs (texts (now (theory .entry)) (now (goals .entry)) (now (text .entry))) (theoryLists (now (sorts .entry)) (now (symbols .entry)) (now (inputs .entry)) (now (rules .entry)) (now (rulevars .entry)) (now (patterns .entry))) (board (now (vars .entry)) (now (index .entry)) (now (words .entry)) (now (defs .entry)) (now (rows .entry)) (now (facts .entry)) (now (footings .entry)) (now (lists .entry))) (board (now (vars .exit)) (now (index .exit)) (now (words .exit)) (now (defs .exit)) (now (rows .exit)) (now (facts .exit)) (now (footings .exit)) (now (lists .exit))) mark (g .S) (chosen 30 perform (tagged proofTag (g .xs)) (g .xs) (g .S)) r) ⌝ }
+    ensures { λ _. ⌜ (now (ids .exit) ≡ now (ids .entry)) × (now (memo .exit) ≡ now (memo .entry)) ⌝ }
 {
     match tag_of(text, cells) {
         Tag::Var => {
@@ -308,6 +312,7 @@ fn form_items(
                 mark,
                 cells,
                 ids,
+                memo,
             );
             entered(n, 0, r)
         }
@@ -367,6 +372,7 @@ fn form_items(
                 mark,
                 cells,
                 ids,
+                memo,
             );
             entered(n, 1, r)
         }
@@ -388,6 +394,7 @@ fn form_items(
                 mark,
                 cells,
                 ids,
+                memo,
             );
             entered(n, 1, r)
         }
@@ -408,6 +415,7 @@ fn form_items(
                 words,
                 mark,
                 cells,
+                memo,
             );
             entered(n, 0, r)
         }
@@ -431,6 +439,7 @@ fn form_items(
             mark,
             cells,
             ids,
+            memo,
         ),
         Tag::Outcome => {
             let r = outcome(
@@ -449,6 +458,7 @@ fn form_items(
                 words,
                 mark,
                 cells,
+                memo,
             );
             resulted(n, r)
         }
@@ -456,7 +466,7 @@ fn form_items(
     }
 }
 
-// A form of the proof, by its cells. `ids` is scratch, of whatever content.
+// A form of the proof, by its cells. `ids` and `memo` are scratch: zero before and after.
 pub fn take_form(
     theory: &[u8],
     goals: &[u8],
@@ -479,10 +489,12 @@ pub fn take_form(
     mark: Mark,
     cells: &[u32],
     ids: &mut [u32],
+    memo: &mut [u32],
 ) -> Taken
-    requires { ⌜ TakesForm (texts (now theory) (now goals) (now text)) (theoryLists (now sorts) (now symbols) (now inputs) (now rules) (now rulevars) (now patterns)) (board (now vars) (now index) (now words) (now defs) (now rows) (now facts) (now footings) (now lists)) n mark (now cells) × (length (now ids) ≡ IDS) ⌝ }
+    requires { ⌜ TakesForm (texts (now theory) (now goals) (now text)) (theoryLists (now sorts) (now symbols) (now inputs) (now rules) (now rulevars) (now patterns)) (board (now vars) (now index) (now words) (now defs) (now rows) (now facts) (now footings) (now lists)) n mark (now cells) × Spare (now ids) (now memo) ⌝ }
     ensures { λ r. ⌜ ((g : TakesForm (texts (now (theory .entry)) (now (goals .entry)) (now (text .entry))) (theoryLists (now (sorts .entry)) (now (symbols .entry)) (now (inputs .entry)) (now (rules .entry)) (now (rulevars .entry)) (now (patterns .entry))) (board (now (vars .entry)) (now (index .entry)) (now (words .entry)) (now (defs .entry)) (now (rows .entry)) (now (facts .entry)) (now (footings .entry)) (now (lists .entry))) n mark (now (cells .entry))) →
         TakenAs (texts (now (theory .entry)) (now (goals .entry)) (now (text .entry))) (theoryLists (now (sorts .entry)) (now (symbols .entry)) (now (inputs .entry)) (now (rules .entry)) (now (rulevars .entry)) (now (patterns .entry))) (board (now (vars .exit)) (now (index .exit)) (now (words .exit)) (now (defs .exit)) (now (rows .exit)) (now (facts .exit)) (now (footings .exit)) (now (lists .exit))) n mark (g .S) (takeForm (g .x) (g .S)) r) ⌝ }
+    ensures { λ _. ⌜ (now (ids .exit) ≡ now (ids .entry)) × (now (memo .exit) ≡ now (memo .entry)) ⌝ }
 {
     let Item::List(a, b) = items::item_at(cells, 0) else {
         return Taken::No(30, 0);
@@ -509,6 +521,7 @@ pub fn take_form(
         mark,
         &cells[a..b],
         ids,
+        memo,
     ) {
         Tried::Ok(k, new, c) => Taken::Ok(k, new, c),
         Tried::No(q, d, new) => {

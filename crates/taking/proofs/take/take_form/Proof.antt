@@ -1,4 +1,5 @@
 -- `taking::take::take_form` meets its contract. Assumes nothing.
+use mathlib.Core.Path.{refl, _∙_}
 use native.Mathlib.Omega.{arith}
 use Rattle.rules.specs.Tags.{proofTag}
 use Rattle.rules.specs.Forms.{perform}
@@ -10,30 +11,24 @@ use borrow.Author.Needs.{needs}
 use Rattle.taking.proofs.take.take_form.Statement.{statement}
 use Rattle.taking.proofs.take.take_form.Tie as tie
 
--- src/take.rt:477:28
 item-at-requires : tie.Need-item-at-requires
-item-at-requires c κs = form-some ((c .before .before .before .before .before .before .before .before .before .before .before .before .before .before .before .before .before .before .before .pre) .0 .formed)
+item-at-requires c κs = form-some ((c .before .before .before .before .before .before .before .before .before .before .before .before .before .before .before .before .before .before .before .before .pre) .0 .formed)
 
--- src/take.rt:477:20
 enum-known-a : tie.Need-enum-known-a
 enum-known-a c = search needs
 
--- src/take.rt:478:9
 enum-told : tie.Need-enum-told
 enum-told c = search needs
 
--- src/take.rt:478:9
 returns : tie.Need-returns
-returns c = λ g. never-tried (g .stands) (form-atom (g .formed) ((c .before .before .item-at) .ensures) ((c .enum-told) .given .1) (g .S))
+returns c = (λ g. never-tried (g .stands) (form-atom (g .formed) ((c .before .before .item-at) .ensures) ((c .enum-told) .given .1) (g .S)), (refl, refl))
 
--- src/take.rt:500:9
 mul-form-items : tie.Need-mul-form-items
 mul-form-items c =
-    let mid = c .before .before .before .before .before .before .before .before .before .before .before .before .before .before .before .before .before .before .before .before .before .before .before .before .before in
-    let pre = mid .before .before .before .before .before .before .pre in
+    let pre = c .before .before .before .before .before .before .before .before .before .before .before .before .before .before .before .before .before .before .before .before .before .before .before .before .before .before .before .before .before .before .before .before .pre in
     let item-at = c .before .before .before .before .before .before .before .before .before .before .before .item-at in
     let a = c .before .before .before .before .before .before .before .before .before .a in
-    let good = mid .before .before .before .before .before .before .good in
+    let good = c .before .before .before .before .before .before .before .before .before .before .before .before .before .before .before .before .before .before .before .before .before .before .before .before .before .before .before .before .before .before .before .before .good in
     omega (
       arith,
       (form-list (pre .0 .formed) (item-at .ensures) (a .given .1)) .low,
@@ -42,20 +37,16 @@ mul-form-items c =
           .1 .0,
     )
 
--- src/take.rt:500:9
 sub-form-items : tie.Need-sub-form-items
 sub-form-items c =
-    let mid = c .before .before .before .before .before .before .before .before .before .before .before .before .before .before .before .before .before .before .before .before .before .before .before .before .before in
-    let pre = mid .before .before .before .before .before .before .pre in
+    let pre = c .before .before .before .before .before .before .before .before .before .before .before .before .before .before .before .before .before .before .before .before .before .before .before .before .before .before .before .before .before .before .before .before .pre in
     let item-at = c .before .before .before .before .before .before .before .before .before .before .before .item-at in
     let a = c .before .before .before .before .before .before .before .before .before .a in
     (form-list (pre .0 .formed) (item-at .ensures) (a .given .1)) .low
 
--- src/take.rt:500:9
 part-form-items-start : tie.Need-part-form-items-start
 part-form-items-start c =
-    let mid = c .before .before .before .before .before .before .before .before .before .before .before .before .before .before .before .before .before .before .before .before .before .before .before .before .before in
-    let pre = mid .before .before .before .before .before .before .pre in
+    let pre = c .before .before .before .before .before .before .before .before .before .before .before .before .before .before .before .before .before .before .before .before .before .before .before .before .before .before .before .before .before .before .before .before .pre in
     let item-at = c .before .before .before .before .before .before .before .before .before .before .before .item-at in
     let a = c .before .before .before .before .before .before .before .before .before .a in
     omega (
@@ -64,22 +55,19 @@ part-form-items-start c =
       (form-list (pre .0 .formed) (item-at .ensures) (a .given .1)) .high,
     )
 
--- src/take.rt:500:9
 part-form-items-end : tie.Need-part-form-items-end
 part-form-items-end c =
-    let mid = c .before .before .before .before .before .before .before .before .before .before .before .before .before .before .before .before .before .before .before .before .before .before .before .before .before in
-    let pre = mid .before .before .before .before .before .before .pre in
+    let pre = c .before .before .before .before .before .before .before .before .before .before .before .before .before .before .before .before .before .before .before .before .before .before .before .before .before .before .before .before .before .before .before .before .pre in
     let item-at = c .before .before .before .before .before .before .before .before .before .before .before .item-at in
     let a = c .before .before .before .before .before .before .before .before .before .a in
     (form-list (pre .0 .formed) (item-at .ensures) (a .given .1)) .high
 
--- src/take.rt:480:11
 form-items-requires : tie.Need-form-items-requires
 form-items-requires c κs =
     let mid = c .before .before .before .before .before .before .before .before .before .before .before .before .before .before .before .before .before .before .before .before .before .before .before .before .before in
-    let pre = mid .before .before .before .before .before .before .before .before .pre in
-    let item-at = c .before .before .before .before .before .before .before .before .before .before .before .before .before .item-at in
-    let a = c .before .before .before .before .before .before .before .before .before .before .before .a in (
+    let pre = mid .before .before .before .before .before .before .before .before .before .before .pre in
+    let item-at = c .before .before .before .before .before .before .before .before .before .before .before .before .before .before .item-at in
+    let a = c .before .before .before .before .before .before .before .before .before .before .before .before .a in (
       record {
         S = (pre .0) .S;
         xs = (form-list (pre .0 .formed) (item-at .ensures) (a .given .1)) .items;
@@ -91,24 +79,21 @@ form-items-requires c κs =
       pre .1,
     )
 
--- src/take.rt:503:19
 enum-known-k : tie.Need-enum-known-k
 enum-known-k c = search needs
 
--- src/take.rt:504:19
 enum-known-q : tie.Need-enum-known-q
 enum-known-q c = search needs
 
--- src/take.rt:505:13
 forget-requires : tie.Need-forget-requires
 forget-requires c κs =
     let mid = c .before .before .before .before .before .before .before .before .before .before .before .before .before .before .before .before .before .before .before .before .before .before .before .before .before in
     let far = mid .before .before .before .before .before .before .before .before .before .before .before .before .before .before .before .before .before .before .before .before .before .before .before .before .before in
-    let args = far .before .before .before .before .before .before .before .args in
-    let form-items = c .before .before .before .before .before .before .before .before .before .before .before .before .before .before .before .before .before .before .before .before .before .before .before .form-items in
-    let pre = far .before .before .before .before .before .before .before .pre in
-    let item-at = mid .before .before .before .before .before .before .before .before .before .before .before .before .item-at in
-    let a = mid .before .before .before .before .before .before .before .before .before .before .a in
+    let args = far .before .before .before .before .before .before .before .before .before .before .before .args in
+    let form-items = c .before .before .before .before .before .before .before .before .before .before .before .before .before .before .before .before .before .before .before .before .before .before .before .before .before .form-items in
+    let pre = far .before .before .before .before .before .before .before .before .before .before .before .pre in
+    let item-at = mid .before .before .before .before .before .before .before .before .before .before .before .before .before .before .before .item-at in
+    let a = mid .before .before .before .before .before .before .before .before .before .before .before .before .before .a in
     let q = c .before .before .before .q in
     left-part
     (board (args .vars .now) (args .index .now) (args .words .now) (args .defs .now) (args .rows .now) (args .facts .now)
@@ -120,7 +105,7 @@ forget-requires c κs =
     (form-items .last .1 .1 .1 .1 .1 .1 .1 .1 .1 .1 .1 .1 .1 .1 .1 .1 .0)) (pre .0 .stands)
     (chosen 30 perform (tagged proofTag ((form-list (pre .0 .formed) (item-at .ensures) (a .given .1)) .items))
     ((form-list (pre .0 .formed) (item-at .ensures) (a .given .1)) .items) (pre .0 .S)) (form-items .result)
-    (form-items .ensures
+    (form-items .ensures .0
     (record {
       S = (pre .0) .S;
       xs = (form-list (pre .0 .formed) (item-at .ensures) (a .given .1)) .items;
@@ -130,140 +115,162 @@ forget-requires c κs =
     }))
     (q .given .1)
 
--- src/take.rt:450:1
 same-length : tie.Need-same-length
-same-length c = search needs
+same-length c = (c .before .before .before .before .before .before .before .before .before .before .before .before .before .before .before .before .before .before .before .before .before .before .before .form-items) .kept .1 .1 .1 .1 .1 .1 .1 .1 .1 .0
 
--- src/take.rt:450:1
 same-length-2 : tie.Need-same-length-2
-same-length-2 c = search needs
+same-length-2 c = (c .before .before .before .before .before .before .before .before .before .before .before .before .before .before .before .before .before .before .before .before .before .before .before .form-items) .kept .1 .1 .1 .1 .1 .1 .1 .1 .1 .1 .0
 
--- src/take.rt:450:1
 same-length-3 : tie.Need-same-length-3
-same-length-3 c = search needs
+same-length-3 c = (c .before .before .before .before .before .before .before .before .before .before .before .before .before .before .before .before .before .before .before .before .before .before .before .form-items) .kept .1 .1 .1 .1 .1 .1 .1 .1 .1 .1 .1 .0
 
--- src/take.rt:450:1
 same-length-4 : tie.Need-same-length-4
-same-length-4 c = search needs
+same-length-4 c = (c .before .before .before .before .before .before .before .before .before .before .before .before .before .before .before .before .before .before .before .before .before .before .before .form-items) .kept .1 .1 .1 .1 .1 .1 .1 .1 .1 .1 .1 .1 .0
 
--- src/take.rt:450:1
 same-length-5 : tie.Need-same-length-5
-same-length-5 c = search needs
+same-length-5 c = (c .before .before .before .before .before .before .before .before .before .before .before .before .before .before .before .before .before .before .before .before .before .before .before .form-items) .kept .1 .1 .1 .1 .1 .1 .1 .1 .1 .1 .1 .1 .1 .0
 
--- src/take.rt:450:1
 same-length-6 : tie.Need-same-length-6
-same-length-6 c = search needs
+same-length-6 c = (c .before .before .before .before .before .before .before .before .before .before .before .before .before .before .before .before .before .before .before .before .before .before .before .form-items) .kept .1 .1 .1 .1 .1 .1 .1 .1 .1 .1 .1 .1 .1 .1 .0
 
--- src/take.rt:450:1
 same-length-7 : tie.Need-same-length-7
-same-length-7 c = search needs
+same-length-7 c = (c .before .before .before .before .before .before .before .before .before .before .before .before .before .before .before .before .before .before .before .before .before .before .before .form-items) .kept .1 .1 .1 .1 .1 .1 .1 .1 .1 .1 .1 .1 .1 .1 .1 .0
 
--- src/take.rt:450:1
 same-length-8 : tie.Need-same-length-8
-same-length-8 c = search needs
+same-length-8 c = (c .before .before .before .before .before .before .before .before .before .before .before .before .before .before .before .before .before .before .before .before .before .before .before .form-items) .kept .1 .1 .1 .1 .1 .1 .1 .1 .1 .1 .1 .1 .1 .1 .1 .1 .0
 
--- src/take.rt:450:1
 same-length-9 : tie.Need-same-length-9
-same-length-9 c = search needs
+same-length-9 c = (c .before .before .before .before .before .before .before .before .before .before .before .before .before .before .before .before .before .before .before .before .before .before .before .form-items) .kept .1 .1 .1 .1 .1 .1 .1 .1 .1 .1 .1 .1 .1 .1 .1 .1 .1 .1 .1 .1 .0
 
--- src/take.rt:450:1
+same-length-10 : tie.Need-same-length-10
+same-length-10 c = (c .before .before .before .before .before .before .before .before .before .before .before .before .before .before .before .before .before .before .before .before .before .before .before .form-items) .kept .1 .1 .1 .1 .1 .1 .1 .1 .1 .1 .1 .1 .1 .1 .1 .1 .1 .1 .1 .1 .1 .0
+
 returns-2 : tie.Need-returns-2
 returns-2 c =
     let mid = c .before .before .before .before .before .before .before .before .before .before .before .before .before .before .before .before .before .before .before .before .before .before .before .before .before in
     let far = mid .before .before .before .before .before .before .before .before .before .before .before .before .before .before .before .before .before .before .before .before .before .before .before .before .before in
-    let args = far .before .before .before .before .before .args in
-    let form-items = c .before .before .before .before .before .before .before .before .before .before .before .before .before .before .before .before .before .before .before .before .before .form-items in
-    let item-at = mid .before .before .before .before .before .before .before .before .before .before .item-at in
-    let a = mid .before .before .before .before .before .before .before .before .a in
-    let k = c .before .k in
-    λ g. taken-tried
-    (board (args .vars .now) (args .index .now) (args .words .now) (args .defs .now) (args .rows .now) (args .facts .now)
-    (args .footings .now) (args .lists .now))
-    (board (form-items .last .1 .1 .1 .1 .1 .1 .1 .1 .1 .0) (form-items .last .1 .1 .1 .1 .1 .1 .1 .1 .1 .1 .0)
-    (form-items .last .1 .1 .1 .1 .1 .1 .1 .1 .1 .1 .1 .0) (form-items .last .1 .1 .1 .1 .1 .1 .1 .1 .1 .1 .1 .1 .0)
-    (form-items .last .1 .1 .1 .1 .1 .1 .1 .1 .1 .1 .1 .1 .1 .0) (form-items .last .1 .1 .1 .1 .1 .1 .1 .1 .1 .1 .1 .1 .1 .1 .0)
-    (form-items .last .1 .1 .1 .1 .1 .1 .1 .1 .1 .1 .1 .1 .1 .1 .1 .0)
-    (form-items .last .1 .1 .1 .1 .1 .1 .1 .1 .1 .1 .1 .1 .1 .1 .1 .1 .0)) (g .stands)
-    (chosen 30 perform (tagged proofTag ((form-list (g .formed) (item-at .ensures) (a .given .1)) .items))
-    ((form-list (g .formed) (item-at .ensures) (a .given .1)) .items) (g .S)) (form-items .result)
-    (form-items .ensures
-    (record {
-      S = (g) .S;
-      xs = (form-list (g .formed) (item-at .ensures) (a .given .1)) .items;
-      stands = (g) .stands;
-      bounded = (g)
-          .bounded;
-      holds = (form-list (g .formed) (item-at .ensures) (a .given .1)) .holds;
-    })) (k .given .1)
-    (form-takes (g .formed) (item-at .ensures) (a .given .1) (g .S))
+    let args = far .before .before .before .before .before .before .before .before .before .args in
+    let form-items = c .before .before .before .before .before .before .before .before .before .before .before .before .before .before .before .before .before .before .before .before .before .before .before .form-items in
+    let item-at = mid .before .before .before .before .before .before .before .before .before .before .before .before .before .item-at in
+    let a = mid .before .before .before .before .before .before .before .before .before .before .before .a in
+    let k = c .before .k in (
+      λ g. taken-tried
+          (board (args .vars .now) (args .index .now) (args .words .now) (args .defs .now) (args .rows .now) (args .facts .now)
+          (args .footings .now) (args .lists .now))
+          (board (form-items .last .1 .1 .1 .1 .1 .1 .1 .1 .1 .0) (form-items .last .1 .1 .1 .1 .1 .1 .1 .1 .1 .1 .0)
+          (form-items .last .1 .1 .1 .1 .1 .1 .1 .1 .1 .1 .1 .0) (form-items .last .1 .1 .1 .1 .1 .1 .1 .1 .1 .1 .1 .1 .0)
+          (form-items .last .1 .1 .1 .1 .1 .1 .1 .1 .1 .1 .1 .1 .1 .0) (form-items .last .1 .1 .1 .1 .1 .1 .1 .1 .1 .1 .1 .1 .1 .1 .0)
+          (form-items .last .1 .1 .1 .1 .1 .1 .1 .1 .1 .1 .1 .1 .1 .1 .1 .0)
+          (form-items .last .1 .1 .1 .1 .1 .1 .1 .1 .1 .1 .1 .1 .1 .1 .1 .1 .0)) (g .stands)
+          (chosen 30 perform (tagged proofTag ((form-list (g .formed) (item-at .ensures) (a .given .1)) .items))
+          ((form-list (g .formed) (item-at .ensures) (a .given .1)) .items) (g .S)) (form-items .result)
+          (form-items .ensures .0
+          (record {
+            S = (g) .S;
+            xs = (form-list (g .formed) (item-at .ensures) (a .given .1)) .items;
+            stands = (g) .stands;
+            bounded = (g)
+                .bounded;
+            holds = (form-list (g .formed) (item-at .ensures) (a .given .1)) .holds;
+          })) (k .given .1)
+          (form-takes (g .formed) (item-at .ensures) (a .given .1) (g .S)),
+      form-items .ensures .1,
+    )
 
--- src/take.rt:450:1
-same-length-10 : tie.Need-same-length-10
-same-length-10 c = search needs
-
--- src/take.rt:450:1
 same-length-11 : tie.Need-same-length-11
-same-length-11 c = search needs
+same-length-11 c =
+    let mid = c .before .before .before .before .before .before .before .before .before .before .before .before .before .before .before .before .before .before .before .before .before .before .before .before .before in
+    let form-items = mid .before .before .before .before .before .form-items in
+    form-items .kept .1 .1 .1 .1 .1 .1 .1 .1 .1 .0
 
--- src/take.rt:450:1
 same-length-12 : tie.Need-same-length-12
-same-length-12 c = search needs
+same-length-12 c =
+    let forget = c .before .before .before .before .forget in
+    let mid = c .before .before .before .before .before .before .before .before .before .before .before .before .before .before .before .before .before .before .before .before .before .before .before .before .before in
+    let form-items = mid .before .before .before .before .before .form-items in
+    forget .kept .0 ∙ form-items .kept .1 .1 .1 .1 .1 .1 .1 .1 .1 .1 .0
 
--- src/take.rt:450:1
 same-length-13 : tie.Need-same-length-13
-same-length-13 c = search needs
+same-length-13 c =
+    let forget = c .before .before .before .before .forget in
+    let mid = c .before .before .before .before .before .before .before .before .before .before .before .before .before .before .before .before .before .before .before .before .before .before .before .before .before in
+    let form-items = mid .before .before .before .before .before .form-items in
+    forget .kept .1 .0 ∙ form-items .kept .1 .1 .1 .1 .1 .1 .1 .1 .1 .1 .1 .0
 
--- src/take.rt:450:1
 same-length-14 : tie.Need-same-length-14
-same-length-14 c = search needs
+same-length-14 c =
+    let mid = c .before .before .before .before .before .before .before .before .before .before .before .before .before .before .before .before .before .before .before .before .before .before .before .before .before in
+    let form-items = mid .before .before .before .before .before .form-items in
+    form-items .kept .1 .1 .1 .1 .1 .1 .1 .1 .1 .1 .1 .1 .0
 
--- src/take.rt:450:1
 same-length-15 : tie.Need-same-length-15
-same-length-15 c = search needs
+same-length-15 c =
+    let mid = c .before .before .before .before .before .before .before .before .before .before .before .before .before .before .before .before .before .before .before .before .before .before .before .before .before in
+    let form-items = mid .before .before .before .before .before .form-items in
+    form-items .kept .1 .1 .1 .1 .1 .1 .1 .1 .1 .1 .1 .1 .1 .0
 
--- src/take.rt:450:1
 same-length-16 : tie.Need-same-length-16
-same-length-16 c = search needs
+same-length-16 c =
+    let mid = c .before .before .before .before .before .before .before .before .before .before .before .before .before .before .before .before .before .before .before .before .before .before .before .before .before in
+    let form-items = mid .before .before .before .before .before .form-items in
+    form-items .kept .1 .1 .1 .1 .1 .1 .1 .1 .1 .1 .1 .1 .1 .1 .0
 
--- src/take.rt:450:1
 same-length-17 : tie.Need-same-length-17
-same-length-17 c = search needs
+same-length-17 c =
+    let mid = c .before .before .before .before .before .before .before .before .before .before .before .before .before .before .before .before .before .before .before .before .before .before .before .before .before in
+    let form-items = mid .before .before .before .before .before .form-items in
+    form-items .kept .1 .1 .1 .1 .1 .1 .1 .1 .1 .1 .1 .1 .1 .1 .1 .0
 
--- src/take.rt:450:1
 same-length-18 : tie.Need-same-length-18
-same-length-18 c = search needs
+same-length-18 c =
+    let mid = c .before .before .before .before .before .before .before .before .before .before .before .before .before .before .before .before .before .before .before .before .before .before .before .before .before in
+    let form-items = mid .before .before .before .before .before .form-items in
+    form-items .kept .1 .1 .1 .1 .1 .1 .1 .1 .1 .1 .1 .1 .1 .1 .1 .1 .0
 
--- src/take.rt:450:1
+same-length-19 : tie.Need-same-length-19
+same-length-19 c =
+    let mid = c .before .before .before .before .before .before .before .before .before .before .before .before .before .before .before .before .before .before .before .before .before .before .before .before .before in
+    let form-items = mid .before .before .before .before .before .form-items in
+    form-items .kept .1 .1 .1 .1 .1 .1 .1 .1 .1 .1 .1 .1 .1 .1 .1 .1 .1 .1 .1 .1 .0
+
+same-length-20 : tie.Need-same-length-20
+same-length-20 c =
+    let mid = c .before .before .before .before .before .before .before .before .before .before .before .before .before .before .before .before .before .before .before .before .before .before .before .before .before in
+    let form-items = mid .before .before .before .before .before .form-items in
+    form-items .kept .1 .1 .1 .1 .1 .1 .1 .1 .1 .1 .1 .1 .1 .1 .1 .1 .1 .1 .1 .1 .1 .0
+
 returns-3 : tie.Need-returns-3
 returns-3 c =
     let mid = c .before .before .before .before .before .before .before .before .before .before .before .before .before .before .before .before .before .before .before .before .before .before .before .before .before in
     let far = mid .before .before .before .before .before .before .before .before .before .before .before .before .before .before .before .before .before .before .before .before .before .before .before .before .before in
-    let args = far .before .before .before .before .before .before .before .before .before .before .before .before .args in
-    let form-items = mid .before .before .before .form-items in
-    let item-at = mid .before .before .before .before .before .before .before .before .before .before .before .before .before .before .before .before .before .item-at in
-    let a = mid .before .before .before .before .before .before .before .before .before .before .before .before .before .before .before .a in
+    let args = far .before .before .before .before .before .before .before .before .before .before .before .before .before .before .before .before .args in
+    let form-items = mid .before .before .before .before .before .form-items in
+    let item-at = mid .before .before .before .before .before .before .before .before .before .before .before .before .before .before .before .before .before .before .before .before .item-at in
+    let a = mid .before .before .before .before .before .before .before .before .before .before .before .before .before .before .before .before .before .before .a in
     let q = c .before .before .before .before .before .before .before .before .q in
-    let forget = c .before .before .before .before .forget in
-    λ g. left-back
-    (board (args .vars .now) (args .index .now) (args .words .now) (args .defs .now) (args .rows .now) (args .facts .now)
-    (args .footings .now) (args .lists .now))
-    (board (form-items .last .1 .1 .1 .1 .1 .1 .1 .1 .1 .0) (form-items .last .1 .1 .1 .1 .1 .1 .1 .1 .1 .1 .0)
-    (form-items .last .1 .1 .1 .1 .1 .1 .1 .1 .1 .1 .1 .0) (form-items .last .1 .1 .1 .1 .1 .1 .1 .1 .1 .1 .1 .1 .0)
-    (form-items .last .1 .1 .1 .1 .1 .1 .1 .1 .1 .1 .1 .1 .1 .0) (form-items .last .1 .1 .1 .1 .1 .1 .1 .1 .1 .1 .1 .1 .1 .1 .0)
-    (form-items .last .1 .1 .1 .1 .1 .1 .1 .1 .1 .1 .1 .1 .1 .1 .1 .0)
-    (form-items .last .1 .1 .1 .1 .1 .1 .1 .1 .1 .1 .1 .1 .1 .1 .1 .1 .0)) (g .stands)
-    (chosen 30 perform (tagged proofTag ((form-list (g .formed) (item-at .ensures) (a .given .1)) .items))
-    ((form-list (g .formed) (item-at .ensures) (a .given .1)) .items) (g .S)) (form-items .result)
-    (form-items .ensures
-    (record {
-      S = (g) .S;
-      xs = (form-list (g .formed) (item-at .ensures) (a .given .1)) .items;
-      stands = (g) .stands;
-      bounded = (g)
-          .bounded;
-      holds = (form-list (g .formed) (item-at .ensures) (a .given .1)) .holds;
-    })) (q .given .1) (forget .ensures)
-    (form-takes (g .formed) (item-at .ensures) (a .given .1) (g .S))
+    let forget = c .before .before .before .before .forget in (
+      λ g. left-back
+          (board (args .vars .now) (args .index .now) (args .words .now) (args .defs .now) (args .rows .now) (args .facts .now)
+          (args .footings .now) (args .lists .now))
+          (board (form-items .last .1 .1 .1 .1 .1 .1 .1 .1 .1 .0) (form-items .last .1 .1 .1 .1 .1 .1 .1 .1 .1 .1 .0)
+          (form-items .last .1 .1 .1 .1 .1 .1 .1 .1 .1 .1 .1 .0) (form-items .last .1 .1 .1 .1 .1 .1 .1 .1 .1 .1 .1 .1 .0)
+          (form-items .last .1 .1 .1 .1 .1 .1 .1 .1 .1 .1 .1 .1 .1 .0) (form-items .last .1 .1 .1 .1 .1 .1 .1 .1 .1 .1 .1 .1 .1 .1 .0)
+          (form-items .last .1 .1 .1 .1 .1 .1 .1 .1 .1 .1 .1 .1 .1 .1 .1 .0)
+          (form-items .last .1 .1 .1 .1 .1 .1 .1 .1 .1 .1 .1 .1 .1 .1 .1 .1 .0)) (g .stands)
+          (chosen 30 perform (tagged proofTag ((form-list (g .formed) (item-at .ensures) (a .given .1)) .items))
+          ((form-list (g .formed) (item-at .ensures) (a .given .1)) .items) (g .S)) (form-items .result)
+          (form-items .ensures .0
+          (record {
+            S = (g) .S;
+            xs = (form-list (g .formed) (item-at .ensures) (a .given .1)) .items;
+            stands = (g) .stands;
+            bounded = (g)
+                .bounded;
+            holds = (form-list (g .formed) (item-at .ensures) (a .given .1)) .holds;
+          })) (q .given .1) (forget .ensures)
+          (form-takes (g .formed) (item-at .ensures) (a .given .1) (g .S)),
+      form-items .ensures .1,
+    )
 
 pub take-form-spec : {M : Type 1} → statement M
 take-form-spec =
@@ -290,8 +297,8 @@ take-form-spec =
     same-length-7
     same-length-8
     same-length-9
-    returns-2
     same-length-10
+    returns-2
     same-length-11
     same-length-12
     same-length-13
@@ -300,4 +307,6 @@ take-form-spec =
     same-length-16
     same-length-17
     same-length-18
+    same-length-19
+    same-length-20
     returns-3)
