@@ -92,16 +92,16 @@ pub is-underway : {theory goals proof : List ℕ} {T : TheoryLists} {B : Board} 
 is-underway (on u) e = u
 is-underway (off o) e = absurd (true≢false (sym e ∙ o .over))
 
-module _ {theory goals proof : List ℕ} {T : TheoryLists} {W : Working} {rows feet cells ids : List ℕ} {s : Run}
-    (g : Going theory goals proof T W rows feet cells ids s) where
+module _ {theory goals proof : List ℕ} {T : TheoryLists} {W : Working} {rows feet cells ids memo : List ℕ} {s : Run}
+    (g : Going theory goals proof T W rows feet cells ids memo s) where
   -- what `form_exact` asks
-  abbrev pub exact-asks : Ready theory goals proof (theoryFront T) (boardFront W rows feet) cells ids s
+  abbrev pub exact-asks : Ready theory goals proof (theoryFront T) (boardFront W rows feet) cells ids memo s
   exact-asks = record { S = g .held .S; underway = is-underway (g .held .course) (g .going); idle = g .idle }
 
   -- what `form` leaves
-  pub advanced : (Y : Working) {rows′ feet′ cells′ ids′ : List ℕ} {o : Advance} → Parts W Y →
-      Stepped theory goals proof (theoryFront T) (boardFront W rows feet) (partBoard Y rows′ feet′) cells′ ids′ s (g .held .S) o →
-      Advanced theory goals proof T W (partsIn W Y) rows feet rows′ feet′ cells′ ids′ s (g .held .S) (o .next) (o .stored) (o .fact) (o .more)
+  pub advanced : (Y : Working) {rows′ feet′ cells′ ids′ memo′ : List ℕ} {o : Advance} → Parts W Y →
+      Stepped theory goals proof (theoryFront T) (boardFront W rows feet) (partBoard Y rows′ feet′) cells′ ids′ memo′ s (g .held .S) o →
+      Advanced theory goals proof T W (partsIn W Y) rows feet rows′ feet′ cells′ ids′ memo′ s (g .held .S) (o .next) (o .stored) (o .fact) (o .more)
   advanced Y {rows′} {feet′} {o = o} p e =
       record {
         held = record {

@@ -27,7 +27,6 @@ use Rattle.state.specs.Stands.{texts, Board, Stands}
 use Rattle.counts.specs.declared.Counts.{Counts as Counted}
 use Rattle.counts.specs.Counted.{countsOf}
 use Rattle.counts.specs.Sum.{none, sum}
-use Rattle.induction.specs.Inducing.{IDS}
 use Rattle.taking.specs.Taking.{TakesForm, TakenAs}
 use Rattle.taking.specs.declared.take.Taken.{Taken}
 use Rattle.taking.specs.declared.take.Taken.the-variants as taken-as
@@ -129,9 +128,9 @@ facts-few h = omega (arith, h .recorded .many, h .recorded .rows .row12)
 
 -- no form is left: r is where the check stands then
 module _ {theory goals proof : List ℕ} {T : TheoryLists} {B D : Board} {s : Run} {S : State} (u : Underway theory goals proof T B s S) where
-  stepped-off : {cells ids : List ℕ} (r : Run) → r .fit ≡ s .fit → r .forms ≡ s .forms → r .sizes ≡ s .sizes → Over theory goals proof T D r S →
-      RowsStay (B .facts) (B .footings) (D .facts) (D .footings) (s .sizes .facts) (s .sizes .facts) → Idle cells ids →
-      Stepped theory goals proof T B D cells ids s S (stays r)
+  stepped-off : {cells ids memo : List ℕ} (r : Run) → r .fit ≡ s .fit → r .forms ≡ s .forms → r .sizes ≡ s .sizes → Over theory goals proof T D r S →
+      RowsStay (B .facts) (B .footings) (D .facts) (D .footings) (s .sizes .facts) (s .sizes .facts) → Idle cells ids memo →
+      Stepped theory goals proof T B D cells ids memo s S (stays r)
   stepped-off r a b c o w i =
       record {
         after = S;
@@ -148,7 +147,7 @@ module _ {theory goals proof : List ℕ} {T : TheoryLists} {B D : Board} {s : Ru
         sooner = λ g. absurd (true≢false (sym g ∙ o .over));
       }
 
-module _ {theory goals proof : List ℕ} {T : TheoryLists} {B : Board} {cells ids : List ℕ} {s : Run} (g : Ready theory goals proof T B cells ids s) where
+module _ {theory goals proof : List ℕ} {T : TheoryLists} {B : Board} {cells ids memo : List ℕ} {s : Run} (g : Ready theory goals proof T B cells ids memo s) where
   cells-long : length cells ≡ LENGTH
   cells-long = ap length (g .idle .cells-zero) ∙ length-replicate {A = ℕ} LENGTH 0
 
@@ -162,28 +161,28 @@ module _ {theory goals proof : List ℕ} {T : TheoryLists} {B : Board} {cells id
   pub read-asks : ((s .at ≤ length proof) × (length proof ≤ LENGTH) × (length proof ≤ length cells)) × Clear cells
   read-asks = ((g .underway .high, short, omega (arith, short, cells-long)), clean)
 
-  zeros-again : {v : List ℕ} → v ≡ replicate (length cells) 0 → Idle v ids
-  zeros-again e = record { cells-zero = e ∙ ap (λ n. replicate n 0) cells-long; ids-long = g .idle .ids-long }
+  zeros-again : {v : List ℕ} → v ≡ replicate (length cells) 0 → Idle v ids memo
+  zeros-again e = record { cells-zero = e ∙ ap (λ n. replicate n 0) cells-long; ids-zero = g .idle .ids-zero; memo-zero = g .idle .memo-zero }
 
   unmoved : RowsStay (B .facts) (B .footings) (B .facts) (B .footings) (s .sizes .facts) (s .sizes .facts)
   unmoved = unmoved-rows (g .underway .stands) (g .underway .stands)
 
   module _ {v : List ℕ} {r : Read} (k : ReadRight proof (s .at) cells v r) where
-    pub at-the-end : {o : Advance} {t : Run} → r ≡ read-as.End → t ≡ endedRun s → o ≡ stays t → Stepped theory goals proof T B B v ids s (g .S) o
+    pub at-the-end : {o : Advance} {t : Run} → r ≡ read-as.End → t ≡ endedRun s → o ≡ stays t → Stepped theory goals proof T B B v ids memo s (g .S) o
     at-the-end e p q =
         let a = at-end k e in
-        subst (λ o. Stepped theory goals proof T B B v ids s (g .S) o) (sym (q ∙ ap stays p))
+        subst (λ o. Stepped theory goals proof T B B v ids memo s (g .S) o) (sym (q ∙ ap stays p))
         (stepped-off (g .underway) (endedRun s) refl refl refl (over-ended (g .underway) (a .0)) unmoved (zeros-again (a .1)))
 
     pub at-unread : {o : Advance} {t : Run} {n : ℕ} → r ≡ read-as.Refused n → t ≡ refusedRun s n 0 → o ≡ stays t →
-        Stepped theory goals proof T B B v ids s (g .S) o
+        Stepped theory goals proof T B B v ids memo s (g .S) o
     at-unread {n = n} e p q =
         let a = at-refused k e in
-        subst (λ o. Stepped theory goals proof T B B v ids s (g .S) o) (sym (q ∙ ap stays p))
+        subst (λ o. Stepped theory goals proof T B B v ids memo s (g .S) o) (sym (q ∙ ap stays p))
         (stepped-off (g .underway) (refusedRun s n 0) refl refl refl (over-unread (g .underway) n (a .0)) unmoved (zeros-again (a .1)))
 
     -- what `take_read` asks
-    abbrev pub at-a-form : {p n : ℕ} → r ≡ read-as.Form p n → AtForm theory goals proof T B v ids s p n
+    abbrev pub at-a-form : {p n : ℕ} → r ≡ read-as.Form p n → AtForm theory goals proof T B v ids memo s p n
     at-a-form e =
         record {
           S = g .S;
@@ -191,13 +190,13 @@ module _ {theory goals proof : List ℕ} {T : TheoryLists} {B : Board} {cells id
           zeros = cells;
           zero = g .idle .cells-zero;
           form = at-form k (read-asks .0 .2) e;
-          ids-long = g .idle .ids-long;
+          spare = record { ids-zero = g .idle .ids-zero; memo-zero = g .idle .memo-zero };
         }
 
 -- A form in its cells ------------------------------------------------------------------------------------------------------------------
 
-module _ {theory goals proof : List ℕ} {T : TheoryLists} {B : Board} {cells ids : List ℕ} {s : Run} {p used : ℕ}
-    (g : AtForm theory goals proof T B cells ids s p used) where
+module _ {theory goals proof : List ℕ} {T : TheoryLists} {B : Board} {cells ids memo : List ℕ} {s : Run} {p used : ℕ}
+    (g : AtForm theory goals proof T B cells ids memo s p used) where
   zeros-long : length (g .zeros) ≡ LENGTH
   zeros-long = ap length (g .zero) ∙ length-replicate {A = ℕ} LENGTH 0
 
@@ -220,8 +219,13 @@ module _ {theory goals proof : List ℕ} {T : TheoryLists} {B : Board} {cells id
   forms-few : s .forms < LENGTH
   forms-few = omega (arith, g .underway .few, g .form .on, g .form .within, g .underway .stands .spelling .short)
 
-  cleared : {cells′ ids′ : List ℕ} → cells′ ≡ replicate used 0 ++ drop used cells → length ids′ ≡ IDS → Idle cells′ ids′
-  cleared {cells′} e l = record { cells-zero = form-cleared (g .form) cells′ e ∙ ap (λ n. replicate n 0) zeros-long; ids-long = l }
+  cleared : {cells′ ids′ memo′ : List ℕ} → cells′ ≡ replicate used 0 ++ drop used cells → ids′ ≡ ids → memo′ ≡ memo → Idle cells′ ids′ memo′
+  cleared {cells′} e l m =
+      record {
+        cells-zero = form-cleared (g .form) cells′ e ∙ ap (λ n. replicate n 0) zeros-long;
+        ids-zero = l ∙ g .spare .ids-zero;
+        memo-zero = m ∙ g .spare .memo-zero;
+      }
 
   -- D: the tables afterwards
   module _ (D : Board) where
@@ -241,10 +245,10 @@ module _ {theory goals proof : List ℕ} {T : TheoryLists} {B : Board} {cells id
     pub taken-asks : (r : Taken) → Answers r → (length (D .facts) ≡ 6 * FACTS) × (length (D .footings) ≡ 4 * FACTS) × Fitting s r
     taken-asks r h = (rows-long r h .0, rows-long r h .1, fitting r h)
 
-    module _ {cells′ ids′ : List ℕ} (i : Idle cells′ ids′) where
+    module _ {cells′ ids′ memo′ : List ℕ} (i : Idle cells′ ids′ memo′) where
       moved-on : (k : Sizes) (m : Mark) (c : Counted) →
           Moves (texts theory goals proof) T D k m (takeForm (g .form .form) (g .S)) (plus (g .S .counts) (countsOf c)) →
-          Stepped theory goals proof T B D cells′ ids′ s (g .S) (movesOn s p (D .facts) (D .footings) k m c)
+          Stepped theory goals proof T B D cells′ ids′ memo′ s (g .S) (movesOn s p (D .facts) (D .footings) k m c)
       moved-on k m c h =
           let w = taken-rows (g .underway .stands) (h .stands) (g .form .form) (h .is) in
           let n = taken-few (g .form .form) (g .S) (h .after) (countsOf c) (h .is) (h .counted) in
@@ -265,14 +269,14 @@ module _ {theory goals proof : List ℕ} {T : TheoryLists} {B : Board} {cells id
             sooner = λ z. g .form .on;
           }
 
-      answered : (r : Taken) → Answers r → Stepped theory goals proof T B D cells′ ids′ s (g .S) (takenOn s p (D .facts) (D .footings) r)
+      answered : (r : Taken) → Answers r → Stepped theory goals proof T B D cells′ ids′ memo′ s (g .S) (takenOn s p (D .facts) (D .footings) r)
       answered (taken-as.Ok k m c) h = moved-on k m c h
       answered (taken-as.No q d) h =
           stepped-off (g .underway) (refusedRun s q d) refl refl refl (over-form (g .underway) (g .form) q d (h .0 .until) (h .1) (h .0 .is))
           (unmoved-rows (g .underway .stands) (h .1)) i
 
     -- what `take_read` leaves
-    pub form-answered : {cells′ ids′ : List ℕ} (r : Taken) {o : Advance} → Answers r → cells′ ≡ replicate used 0 ++ drop used cells → length ids′ ≡ IDS →
-        o ≡ takenOn s p (D .facts) (D .footings) r → Stepped theory goals proof T B D cells′ ids′ s (g .S) o
-    form-answered {cells′} {ids′} r h e l q =
-        subst (λ o. Stepped theory goals proof T B D cells′ ids′ s (g .S) o) (sym q) (answered (cleared e l) r h)
+    pub form-answered : {cells′ ids′ memo′ : List ℕ} (r : Taken) {o : Advance} → Answers r → cells′ ≡ replicate used 0 ++ drop used cells →
+        ids′ ≡ ids → memo′ ≡ memo → o ≡ takenOn s p (D .facts) (D .footings) r → Stepped theory goals proof T B D cells′ ids′ memo′ s (g .S) o
+    form-answered {cells′} {ids′} {memo′} r h e l m q =
+        subst (λ o. Stepped theory goals proof T B D cells′ ids′ memo′ s (g .S) o) (sym q) (answered (cleared e l m) r h)

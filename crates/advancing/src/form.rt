@@ -110,10 +110,11 @@ fn take_read(
     footings: &mut [u64],
     cells: &mut [u32],
     ids: &mut [u32],
+    memo: &mut [u32],
 ) -> Advance
-    requires { ⌜ AtForm (now theory) (now goals) (now proof) (theoryLists (now sorts) (now symbols) (now inputs) (now rules) (now rulevars) (now patterns)) (board (now vars) (now index) (now words) (now defs) (now rows) (now facts) (now footings) (now lists)) (now cells) (now ids) s at used ⌝ }
-    ensures { λ o. ⌜ ((g : AtForm (now (theory .entry)) (now (goals .entry)) (now (proof .entry)) (theoryLists (now (sorts .entry)) (now (symbols .entry)) (now (inputs .entry)) (now (rules .entry)) (now (rulevars .entry)) (now (patterns .entry))) (board (now (vars .entry)) (now (index .entry)) (now (words .entry)) (now (defs .entry)) (now (rows .entry)) (now (facts .entry)) (now (footings .entry)) (now (lists .entry))) (now (cells .entry)) (now (ids .entry)) s at used) →
-        Stepped (now (theory .entry)) (now (goals .entry)) (now (proof .entry)) (theoryLists (now (sorts .entry)) (now (symbols .entry)) (now (inputs .entry)) (now (rules .entry)) (now (rulevars .entry)) (now (patterns .entry))) (board (now (vars .entry)) (now (index .entry)) (now (words .entry)) (now (defs .entry)) (now (rows .entry)) (now (facts .entry)) (now (footings .entry)) (now (lists .entry))) (board (now (vars .exit)) (now (index .exit)) (now (words .exit)) (now (defs .exit)) (now (rows .exit)) (now (facts .exit)) (now (footings .exit)) (now (lists .exit))) (now (cells .exit)) (now (ids .exit)) s (g .S) o) ⌝ }
+    requires { ⌜ AtForm (now theory) (now goals) (now proof) (theoryLists (now sorts) (now symbols) (now inputs) (now rules) (now rulevars) (now patterns)) (board (now vars) (now index) (now words) (now defs) (now rows) (now facts) (now footings) (now lists)) (now cells) (now ids) (now memo) s at used ⌝ }
+    ensures { λ o. ⌜ ((g : AtForm (now (theory .entry)) (now (goals .entry)) (now (proof .entry)) (theoryLists (now (sorts .entry)) (now (symbols .entry)) (now (inputs .entry)) (now (rules .entry)) (now (rulevars .entry)) (now (patterns .entry))) (board (now (vars .entry)) (now (index .entry)) (now (words .entry)) (now (defs .entry)) (now (rows .entry)) (now (facts .entry)) (now (footings .entry)) (now (lists .entry))) (now (cells .entry)) (now (ids .entry)) (now (memo .entry)) s at used) →
+        Stepped (now (theory .entry)) (now (goals .entry)) (now (proof .entry)) (theoryLists (now (sorts .entry)) (now (symbols .entry)) (now (inputs .entry)) (now (rules .entry)) (now (rulevars .entry)) (now (patterns .entry))) (board (now (vars .entry)) (now (index .entry)) (now (words .entry)) (now (defs .entry)) (now (rows .entry)) (now (facts .entry)) (now (footings .entry)) (now (lists .entry))) (board (now (vars .exit)) (now (index .exit)) (now (words .exit)) (now (defs .exit)) (now (rows .exit)) (now (facts .exit)) (now (footings .exit)) (now (lists .exit))) (now (cells .exit)) (now (ids .exit)) (now (memo .exit)) s (g .S) o) ⌝ }
 {
     let n = s.sizes;
     let mark = s.mark;
@@ -139,6 +140,7 @@ fn take_read(
         mark,
         &cells[..used],
         ids,
+        memo,
     );
     clear(cells, used);
     taken(s, at, r, facts, footings)
@@ -166,10 +168,11 @@ fn form_exact(
     footings: &mut [u64],
     cells: &mut [u32],
     ids: &mut [u32],
+    memo: &mut [u32],
 ) -> Advance
-    requires { ⌜ Ready (now theory) (now goals) (now proof) (theoryLists (now sorts) (now symbols) (now inputs) (now rules) (now rulevars) (now patterns)) (board (now vars) (now index) (now words) (now defs) (now rows) (now facts) (now footings) (now lists)) (now cells) (now ids) s ⌝ }
-    ensures { λ o. ⌜ ((g : Ready (now (theory .entry)) (now (goals .entry)) (now (proof .entry)) (theoryLists (now (sorts .entry)) (now (symbols .entry)) (now (inputs .entry)) (now (rules .entry)) (now (rulevars .entry)) (now (patterns .entry))) (board (now (vars .entry)) (now (index .entry)) (now (words .entry)) (now (defs .entry)) (now (rows .entry)) (now (facts .entry)) (now (footings .entry)) (now (lists .entry))) (now (cells .entry)) (now (ids .entry)) s) →
-        Stepped (now (theory .entry)) (now (goals .entry)) (now (proof .entry)) (theoryLists (now (sorts .entry)) (now (symbols .entry)) (now (inputs .entry)) (now (rules .entry)) (now (rulevars .entry)) (now (patterns .entry))) (board (now (vars .entry)) (now (index .entry)) (now (words .entry)) (now (defs .entry)) (now (rows .entry)) (now (facts .entry)) (now (footings .entry)) (now (lists .entry))) (board (now (vars .exit)) (now (index .exit)) (now (words .exit)) (now (defs .exit)) (now (rows .exit)) (now (facts .exit)) (now (footings .exit)) (now (lists .exit))) (now (cells .exit)) (now (ids .exit)) s (g .S) o) ⌝ }
+    requires { ⌜ Ready (now theory) (now goals) (now proof) (theoryLists (now sorts) (now symbols) (now inputs) (now rules) (now rulevars) (now patterns)) (board (now vars) (now index) (now words) (now defs) (now rows) (now facts) (now footings) (now lists)) (now cells) (now ids) (now memo) s ⌝ }
+    ensures { λ o. ⌜ ((g : Ready (now (theory .entry)) (now (goals .entry)) (now (proof .entry)) (theoryLists (now (sorts .entry)) (now (symbols .entry)) (now (inputs .entry)) (now (rules .entry)) (now (rulevars .entry)) (now (patterns .entry))) (board (now (vars .entry)) (now (index .entry)) (now (words .entry)) (now (defs .entry)) (now (rows .entry)) (now (facts .entry)) (now (footings .entry)) (now (lists .entry))) (now (cells .entry)) (now (ids .entry)) (now (memo .entry)) s) →
+        Stepped (now (theory .entry)) (now (goals .entry)) (now (proof .entry)) (theoryLists (now (sorts .entry)) (now (symbols .entry)) (now (inputs .entry)) (now (rules .entry)) (now (rulevars .entry)) (now (patterns .entry))) (board (now (vars .entry)) (now (index .entry)) (now (words .entry)) (now (defs .entry)) (now (rows .entry)) (now (facts .entry)) (now (footings .entry)) (now (lists .entry))) (board (now (vars .exit)) (now (index .exit)) (now (words .exit)) (now (defs .exit)) (now (rows .exit)) (now (facts .exit)) (now (footings .exit)) (now (lists .exit))) (now (cells .exit)) (now (ids .exit)) (now (memo .exit)) s (g .S) o) ⌝ }
 {
     match read_form(proof, s.at, cells) {
         Read::End => stay(ended(s)),
@@ -197,11 +200,12 @@ fn form_exact(
             footings,
             cells,
             ids,
+            memo,
         ),
     }
 }
 
-// One form, in tables that may be longer than named. `cells` and `ids` are scratch.
+// One form, in tables that may be longer than named. `cells`, `ids` and `memo` are scratch.
 pub fn form(
     theory: &[u8],
     goals: &[u8],
@@ -223,10 +227,11 @@ pub fn form(
     footings: &mut [u64],
     cells: &mut [u32],
     ids: &mut [u32],
+    memo: &mut [u32],
 ) -> Advance
-    requires { ⌜ Going (now theory) (now goals) (now proof) (theoryLists (now sorts) (now symbols) (now inputs) (now rules) (now rulevars) (now patterns)) (working (now vars) (now index) (now words) (now defs) (now rows) (now lists)) (now facts) (now footings) (now cells) (now ids) s ⌝ }
-    ensures { λ o. ⌜ ((g : Going (now (theory .entry)) (now (goals .entry)) (now (proof .entry)) (theoryLists (now (sorts .entry)) (now (symbols .entry)) (now (inputs .entry)) (now (rules .entry)) (now (rulevars .entry)) (now (patterns .entry))) (working (now (vars .entry)) (now (index .entry)) (now (words .entry)) (now (defs .entry)) (now (rows .entry)) (now (lists .entry))) (now (facts .entry)) (now (footings .entry)) (now (cells .entry)) (now (ids .entry)) s) →
-        Advanced (now (theory .entry)) (now (goals .entry)) (now (proof .entry)) (theoryLists (now (sorts .entry)) (now (symbols .entry)) (now (inputs .entry)) (now (rules .entry)) (now (rulevars .entry)) (now (patterns .entry))) (working (now (vars .entry)) (now (index .entry)) (now (words .entry)) (now (defs .entry)) (now (rows .entry)) (now (lists .entry))) (working (now (vars .exit)) (now (index .exit)) (now (words .exit)) (now (defs .exit)) (now (rows .exit)) (now (lists .exit))) (now (facts .entry)) (now (footings .entry)) (now (facts .exit)) (now (footings .exit)) (now (cells .exit)) (now (ids .exit)) s (g .held .S)
+    requires { ⌜ Going (now theory) (now goals) (now proof) (theoryLists (now sorts) (now symbols) (now inputs) (now rules) (now rulevars) (now patterns)) (working (now vars) (now index) (now words) (now defs) (now rows) (now lists)) (now facts) (now footings) (now cells) (now ids) (now memo) s ⌝ }
+    ensures { λ o. ⌜ ((g : Going (now (theory .entry)) (now (goals .entry)) (now (proof .entry)) (theoryLists (now (sorts .entry)) (now (symbols .entry)) (now (inputs .entry)) (now (rules .entry)) (now (rulevars .entry)) (now (patterns .entry))) (working (now (vars .entry)) (now (index .entry)) (now (words .entry)) (now (defs .entry)) (now (rows .entry)) (now (lists .entry))) (now (facts .entry)) (now (footings .entry)) (now (cells .entry)) (now (ids .entry)) (now (memo .entry)) s) →
+        Advanced (now (theory .entry)) (now (goals .entry)) (now (proof .entry)) (theoryLists (now (sorts .entry)) (now (symbols .entry)) (now (inputs .entry)) (now (rules .entry)) (now (rulevars .entry)) (now (patterns .entry))) (working (now (vars .entry)) (now (index .entry)) (now (words .entry)) (now (defs .entry)) (now (rows .entry)) (now (lists .entry))) (working (now (vars .exit)) (now (index .exit)) (now (words .exit)) (now (defs .exit)) (now (rows .exit)) (now (lists .exit))) (now (facts .entry)) (now (footings .entry)) (now (facts .exit)) (now (footings .exit)) (now (cells .exit)) (now (ids .exit)) (now (memo .exit)) s (g .held .S)
         (o .next) (o .stored) (o .fact) (o .more)) ⌝ }
 {
     form_exact(
@@ -250,5 +255,6 @@ pub fn form(
         footings,
         cells,
         ids,
+        memo,
     )
 }
