@@ -1,5 +1,5 @@
 """`schematic::check_with`: beginning, all forms, end. What is said of them stands in schematic/proofs/Whole."""
-from schematic import INNER, LIMIT, PROOFS, SCRATCH, SPECS, TEXTS, THEORY, WORKING, call, left, of, params, records, spaced, theory_lists, working
+from schematic import INNER, PROOFS, SCRATCH, SPECS, TEXTS, THEORY, WORKING, call, head, left, of, spaced, theory_lists, working
 
 ARGUMENTS = TEXTS + THEORY + WORKING + ["missing", "facts"] + SCRATCH
 BEGUN = left(1, TEXTS + THEORY + WORKING + ["missing", "kept", "feet", "cells"])
@@ -7,20 +7,14 @@ RAN = left(3, INNER)
 T, W = theory_lists(), working()
 U, Y, Z = f"(theoryLists {of(BEGUN, THEORY)})", f"(working {of(BEGUN, WORKING)})", f"(working {of(RAN, WORKING)})"
 ENDS = f"{RAN['index']} z4·index {BEGUN['missing']} z4·missing r4"
-PARTS = (f"{spaced(TEXTS)} {T} {U} {W} {Y} {Z} missing {BEGUN['missing']} kept feet {RAN['kept']} {RAN['feet']} {RAN['cells']} {RAN['ids']} r1 r3 facts {RAN['facts']} "
-         f"{RAN['counts']} e1·0 e3")
+PARTS = (f"{spaced(TEXTS)} {T} {U} {W} {Y} {Z} missing {BEGUN['missing']} kept feet {of(RAN, SCRATCH)} r1 r3 facts {RAN['facts']} {RAN['counts']} e1·0 e3")
 
 
 def describe():
     return dict(
-        crate="schematic",
-        fn="check_with",
-        lent=f"{PROOFS}.Lent",
+        head("schematic::check_with", ARGUMENTS, "mut"),
         localrecord=f"{PROOFS}.LocalRecord",
         owns=["counts"],
-        types=records(struct, enum),
-        params=params(ARGUMENTS, "mut"),
-        limit=LIMIT,
         requires=f"Blank {spaced(SCRATCH)}",
         uses=["use mathlib.Core.Bool.{true, false}", "use Rattle.kernel.specs.Parsed.{theoryLists}", "use Rattle.running.specs.Lent.{working}",
               "use Rattle.running.specs.Between.{Begun, Ending, Ended}", "use Rattle.running.specs.Run.{roomOf}", "use Rattle.facts.specs.Table.{zeroed}",

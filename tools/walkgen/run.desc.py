@@ -1,24 +1,19 @@
 """`schematic::run`: all forms, one turn each. What is said of them stands in schematic/proofs/Looping."""
-from schematic import INNER, LIMIT, PROOFS, SCRATCH, SPECS, TEXTS, WORKING, call, params, records, spaced, theory_lists, working
+from schematic import INNER, PROOFS, SCRATCH, SPECS, TEXTS, WORKING, call, head, spaced, theory_lists, working
 
 BEFORE = f"{spaced(TEXTS)} {theory_lists()}"
 ARGUMENTS = f"{BEFORE} {working()} {spaced(SCRATCH)} s facts"
 GOES_ON = "(is-going r1 e1 held)"
 FIELDS = {"rows": "goals"}
 NOW = {**{name: f"x .Z .{FIELDS.get(name, name)}" for name in WORKING}, "kept": "x .rows-now", "feet": "x .feet-now", "cells": "x .cells-now",
-       "ids": "x .ids-now", "facts": "x .fs-now", "counts": "x .counts-now"}
+       "ids": "x .ids-now", "memo": "x .memo-now", "facts": "x .fs-now", "counts": "x .counts-now"}
 LONG = {**{name: f"x .{FIELDS.get(name, name)}-long" for name in WORKING}, "kept": "x .rows-long", "feet": "x .feet-long", "cells": "x .cells-long",
-        "ids": "x .ids-long", "facts": "x .facts-long"}
+        "ids": "x .ids-long", "memo": "x .memo-long", "facts": "x .facts-long"}
 
 
 def describe():
     return dict(
-        crate="schematic",
-        fn="run",
-        lent=f"{PROOFS}.Lent",
-        types=records(struct, enum),
-        params=params(INNER, "shr"),
-        limit=LIMIT,
+        head("schematic::run", INNER, "shr"),
         requires=f"Kept {BEFORE} {working()} {spaced(SCRATCH)} s facts counts",
         uses=["use Rattle.kernel.specs.Parsed.{theoryLists}", "use Rattle.running.specs.Lent.{working}", f"use {SPECS}.Taken.{{Turned as OneTaken, Kept}}",
               f"use {PROOFS}.Looping.{{Looping, Fewer, Fewer-wf, begin, is-going, is-over, asked, next, less, ran}}"],

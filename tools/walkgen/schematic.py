@@ -1,9 +1,11 @@
-"""What the descriptions of the walks of `schematic` share: the tables by name, the records, texts of lists."""
+"""What the descriptions of the walks of `schematic` share: their heads, the tables by name, the records, texts of lists."""
+from walkgen import enum, struct
+
 PROOFS, SPECS = "Rattle.schematic.proofs", "Rattle.schematic.specs"
 TEXTS = ["theory", "goals", "proof"]
 THEORY = ["sorts", "symbols", "inputs", "rules", "rulevars", "patterns"]
 WORKING = ["vars", "index", "words", "defs", "rows", "lists"]
-SCRATCH = ["kept", "feet", "cells", "ids"]
+SCRATCH = ["kept", "feet", "cells", "ids", "memo"]
 INNER = TEXTS + ["s"] + THEORY + WORKING + SCRATCH + ["facts", "counts"]
 LIMIT = 20000
 
@@ -15,13 +17,19 @@ def params(names, theory):
     return [(name, kinds.get(name, "mut"), "u8" if name in TEXTS else types.get(name, "u32")) for name in names]
 
 
-def records(struct, enum):
+def records():
     """The records and enums that the walks know."""
     def of(kind, name, crate, inside=""):
         return kind(name, f"Rattle.{crate}.proofs", f"Rattle.{crate}.specs", inside)
 
     return {"Fact": of(struct, "Fact", "facts"), "Counts": of(struct, "Counts", "counts"), "Run": of(struct, "Run", "running", "run."),
             "Answer": of(enum, "Answer", "running", "finish."), "Advance": of(struct, "Advance", "advancing", "advance.")}
+
+
+def head(function, names, theory, more=()):
+    """The function, by its path, and its parameters, those by name and more: what a description begins with."""
+    crate, fn = function.split("::")
+    return dict(crate=crate, fn=fn, lent="Rattle.facts.proofs.Lent", types=records(), params=[*params(names, theory), *more], limit=LIMIT)
 
 
 def call(function, result, ensures, requires=None):

@@ -1,5 +1,5 @@
 """`tariff::tariff_check`: the check, and its answer as eight numbers."""
-from schematic import LIMIT, TEXTS, THEORY, call, params, records, spaced, theory_lists, working
+from schematic import TEXTS, THEORY, call, head, spaced, theory_lists, working
 
 PROOFS, SPECS = "Rattle.tariff.proofs", "Rattle.tariff.specs"
 
@@ -10,12 +10,7 @@ def describe():
                  f"Call {spaced(TEXTS)} (tablesIn {theory_lists()} {working()} missing facts) "
                  f"(tablesIn {theory_lists('z1·{}')} {working('z1·{}')} z1·missing z1·facts) (answerOf r1) × (behind FACTS z1·facts ≡ behind FACTS facts)")
     return dict(
-        crate="tariff",
-        fn="tariff_check",
-        lent="Rattle.facts.proofs.Lent",
-        types=records(struct, enum),
-        params=params(TEXTS + THEORY + tables, "mut") + [("answer", "mut", "u64")],
-        limit=LIMIT,
+        head("tariff::tariff_check", TEXTS + THEORY + tables, "mut", [("answer", "mut", "u64")]),
         uses=["use lib.ListN.{drop as behind}", "use Rattle.rules.specs.Limits.{FACTS}", "use Rattle.kernel.specs.Parsed.{theoryLists}",
               "use Rattle.running.specs.Finished.{answerOf}", "use Rattle.running.specs.Lent.{working}", "use Rattle.running.specs.ReadBack.{Call}",
               "use Rattle.running.specs.Checking.{tablesOf as tablesIn}", f"use {SPECS}.Eight.{{answered}}"],

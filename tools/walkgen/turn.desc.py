@@ -1,5 +1,5 @@
 """`schematic::turn`: one form, its record, its counts. What is said of them stands in schematic/proofs/Turning."""
-from schematic import INNER, LIMIT, PROOFS, SCRATCH, SPECS, TEXTS, call, params, records, spaced, theory_lists, working
+from schematic import INNER, PROOFS, SCRATCH, TEXTS, call, head, spaced, theory_lists, working
 
 BEFORE = f"{spaced(TEXTS)} {theory_lists()} {working()}"
 GONE = "(e1 (going-of req))"
@@ -7,12 +7,7 @@ GONE = "(e1 (going-of req))"
 
 def describe():
     return dict(
-        crate="schematic",
-        fn="turn",
-        lent=f"{PROOFS}.Lent",
-        types=records(struct, enum),
-        params=params(INNER, "shr"),
-        limit=LIMIT,
+        head("schematic::turn", INNER, "shr"),
         requires=f"Between {BEFORE} {spaced(SCRATCH)} s facts counts × (s .going ≡ true)",
         uses=["use mathlib.Core.Bool.{true}", "use Rattle.kernel.specs.Parsed.{theoryLists}", "use Rattle.running.specs.Lent.{working}",
               "use Rattle.running.specs.Between.{Between, Going, Advanced}", "use Rattle.facts.specs.Table.{appended}", "use Rattle.counts.specs.Sum.{sum}",
