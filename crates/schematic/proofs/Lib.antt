@@ -1,4 +1,3 @@
-pub mod Lent
 pub mod LocalRecord
 pub mod LocalArray
 pub mod Big

@@ -70,17 +70,18 @@ either true f g = f refl
 either false f g = g refl
 
 -- W, s, fs: what stands before the loop
-pub record Looping (theory goals proof : List ℕ) (T : TheoryLists) (W : Working) (rows feet cells ids : List ℕ) (s : Run) (fs : List Fact) : Type 0 where
+pub record Looping (theory goals proof : List ℕ) (T : TheoryLists) (W : Working) (rows feet cells ids memo : List ℕ) (s : Run) (fs : List Fact) : Type 0 where
   pub Z : Working
   pub rows-now : List ℕ
   pub feet-now : List ℕ
   pub cells-now : List ℕ
   pub ids-now : List ℕ
+  pub memo-now : List ℕ
   pub st : Run
   pub fs-now : List Fact
   pub counts-now : Counts
   pub is : Known st
-  pub kept : Kept theory goals proof T Z rows-now feet-now cells-now ids-now st fs-now counts-now
+  pub kept : Kept theory goals proof T Z rows-now feet-now cells-now ids-now memo-now st fs-now counts-now
   pub same-fit : st .fit ≡ s .fit
   pub behind : WorkingBehind W Z
   pub facts-behind : drop FACTS fs-now ≡ drop FACTS fs
@@ -95,11 +96,12 @@ pub record Looping (theory goals proof : List ℕ) (T : TheoryLists) (W : Workin
   pub feet-long : length feet-now ≡ length feet
   pub cells-long : length cells-now ≡ length cells
   pub ids-long : length ids-now ≡ length ids
+  pub memo-long : length memo-now ≡ length memo
   pub facts-long : length fs-now ≡ length fs
 
-module _ (theory goals proof : List ℕ) (T : TheoryLists) (W : Working) (rows feet cells ids : List ℕ) (s : Run) (fs : List Fact) where
+module _ (theory goals proof : List ℕ) (T : TheoryLists) (W : Working) (rows feet cells ids memo : List ℕ) (s : Run) (fs : List Fact) where
   abbrev pub At : Type 0
-  At = Looping theory goals proof T W rows feet cells ids s fs
+  At = Looping theory goals proof T W rows feet cells ids memo s fs
 
   abbrev left : At → ℕ
   left x = measure (x .st .going) (length proof) (x .st .at)
@@ -110,7 +112,7 @@ module _ (theory goals proof : List ℕ) (T : TheoryLists) (W : Working) (rows f
   pub Fewer-wf : WellFounded Fewer
   Fewer-wf = InvImage·wf left (Nat·lt-wfRel .wf)
 
-  abbrev pub begin : {c : Counts} → Known s → Kept theory goals proof T W rows feet cells ids s fs c → At
+  abbrev pub begin : {c : Counts} → Known s → Kept theory goals proof T W rows feet cells ids memo s fs c → At
   begin {c} i k =
       record {
         Z = W;
@@ -118,6 +120,7 @@ module _ (theory goals proof : List ℕ) (T : TheoryLists) (W : Working) (rows f
         feet-now = feet;
         cells-now = cells;
         ids-now = ids;
+        memo-now = memo;
         st = s;
         fs-now = fs;
         counts-now = c;
@@ -137,6 +140,7 @@ module _ (theory goals proof : List ℕ) (T : TheoryLists) (W : Working) (rows f
         feet-long = refl;
         cells-long = refl;
         ids-long = refl;
+        memo-long = refl;
         facts-long = refl;
       }
 
@@ -147,12 +151,12 @@ module _ (theory goals proof : List ℕ) (T : TheoryLists) (W : Working) (rows f
 
     -- what `turn` asks
     pub asked : x .st .going ≡ true →
-        Between theory goals proof T (x .Z) (x .rows-now) (x .feet-now) (x .cells-now) (x .ids-now) (x .st) (x .fs-now) (x .counts-now) × (x .st .going ≡ true)
+        Between theory goals proof T (x .Z) (x .rows-now) (x .feet-now) (x .cells-now) (x .ids-now) (x .memo-now) (x .st) (x .fs-now) (x .counts-now) × (x .st .going ≡ true)
     asked e = (x .kept .fit (fit-now e), e)
 
     -- what it leaves, as long as before
-    module _ {Z : Working} {rows′ feet′ cells′ ids′ : List ℕ} {r : Run} {gs : List Fact} {d : Counts}
-        (u : Turned theory goals proof T (x .Z) Z rows′ feet′ cells′ ids′ (x .st) r (x .fs-now) gs d) where
+    module _ {Z : Working} {rows′ feet′ cells′ ids′ memo′ : List ℕ} {r : Run} {gs : List Fact} {d : Counts}
+        (u : Turned theory goals proof T (x .Z) Z rows′ feet′ cells′ ids′ memo′ (x .st) r (x .fs-now) gs d) where
       pub fit-next : (r .fit ≡ false → r .going ≡ false)
       fit-next h = absurd (true≢false (sym (u .between .held .fit) ∙ h))
 
@@ -165,14 +169,16 @@ module _ (theory goals proof : List ℕ) (T : TheoryLists) (W : Working) (rows f
       abbrev pub next : x .st .going ≡ true → (v : Val) → Is RunT.the-row r (v ∷ []) → length (Z .vars) ≡ length (x .Z .vars) →
           length (Z .index) ≡ length (x .Z .index) → length (Z .words) ≡ length (x .Z .words) → length (Z .defs) ≡ length (x .Z .defs) →
           length (Z .goals) ≡ length (x .Z .goals) → length (Z .lists) ≡ length (x .Z .lists) → length rows′ ≡ length (x .rows-now) →
-          length feet′ ≡ length (x .feet-now) → length cells′ ≡ length (x .cells-now) → length ids′ ≡ length (x .ids-now) → length gs ≡ length (x .fs-now) → At
-      next e v i lv li lw ld lg ll lr lf lc lids lfs =
+          length feet′ ≡ length (x .feet-now) → length cells′ ≡ length (x .cells-now) → length ids′ ≡ length (x .ids-now) →
+          length memo′ ≡ length (x .memo-now) → length gs ≡ length (x .fs-now) → At
+      next e v i lv li lw ld lg ll lr lf lc lids lm lfs =
           record {
             Z = Z;
             rows-now = rows′;
             feet-now = feet′;
             cells-now = cells′;
             ids-now = ids′;
+            memo-now = memo′;
             st = r;
             fs-now = gs;
             counts-now = d;
@@ -192,6 +198,7 @@ module _ (theory goals proof : List ℕ) (T : TheoryLists) (W : Working) (rows f
             feet-long = lf ∙ x .feet-long;
             cells-long = lc ∙ x .cells-long;
             ids-long = lids ∙ x .ids-long;
+            memo-long = lm ∙ x .memo-long;
             facts-long = lfs ∙ x .facts-long;
           }
 
@@ -200,5 +207,5 @@ module _ (theory goals proof : List ℕ) (T : TheoryLists) (W : Working) (rows f
 
     -- no form is left
     pub ran : x .st .going ≡ false →
-        Ran theory goals proof T W (x .Z) (x .rows-now) (x .feet-now) (x .cells-now) (x .ids-now) s (x .st) fs (x .fs-now) (x .counts-now)
+        Ran theory goals proof T W (x .Z) (x .rows-now) (x .feet-now) (x .cells-now) (x .ids-now) (x .memo-now) s (x .st) fs (x .fs-now) (x .counts-now)
     ran e = record { kept = x .kept; over = e; same-fit = x .same-fit; behind = x .behind; facts-behind = x .facts-behind; untouched = x .untouched }

@@ -44,17 +44,17 @@ few-fit : (c m : Counts) (forms : ℕ) → Few c forms → Few m 1 → forms ≤
 few-fit c m forms f g l =
     (omega (arith, f .hypotheses, g .hypotheses, l), (omega (arith, f .inductions, g .inductions, l), (omega (arith, f .inversions, g .inversions, l), omega (arith, f .instances, g .instances, l))))
 
-module _ {theory goals proof : List ℕ} {T : TheoryLists} {W : Working} {rows feet cells ids : List ℕ} {s : Run} {fs : List Fact} {c : Counts}
-    (b : Between theory goals proof T W rows feet cells ids s fs c × (s .going ≡ true)) where
+module _ {theory goals proof : List ℕ} {T : TheoryLists} {W : Working} {rows feet cells ids memo : List ℕ} {s : Run} {fs : List Fact} {c : Counts}
+    (b : Between theory goals proof T W rows feet cells ids memo s fs c × (s .going ≡ true)) where
   -- what `form` asks
-  abbrev pub going-of : Going theory goals proof T W rows feet cells ids s
+  abbrev pub going-of : Going theory goals proof T W rows feet cells ids memo s
   going-of = record { held = b .0 .held; going = b .1; idle = b .0 .idle }
 
   forms-few : s .forms ≤ LENGTH
   forms-few = let u = underway-of (b .0 .held .course) (b .1) in omega (arith, u .few, u .high, u .stands .spelling .short)
 
-  module _ {Z : Working} {rows′ feet′ cells′ ids′ : List ℕ} {next : Run} {stored : Bool} {fact : Fact} {more : Counts}
-      (a : Advanced theory goals proof T W Z rows feet rows′ feet′ cells′ ids′ s (b .0 .held .S) next stored fact more) where
+  module _ {Z : Working} {rows′ feet′ cells′ ids′ memo′ : List ℕ} {next : Run} {stored : Bool} {fact : Fact} {more : Counts}
+      (a : Advanced theory goals proof T W Z rows feet rows′ feet′ cells′ ids′ memo′ s (b .0 .held .S) next stored fact more) where
     place : (stored ≡ true → s .sizes .facts < length fs)
     place = room-at stored (s .sizes .facts) (next .sizes .facts) FACTS (length fs) rows′ feet′ fact (a .stored-as) (a .room) (b .0 .room)
 
@@ -66,7 +66,7 @@ module _ {theory goals proof : List ℕ} {T : TheoryLists} {W : Working} {rows f
     pub fitting : (m : Counts) → m ≡ more → Fits c m
     fitting m e = subst (Fits c) (sym e) (few-fit c more (s .forms) (b .0 .few) (a .small) forms-few)
 
-    after : Turned theory goals proof T W Z rows′ feet′ cells′ ids′ s next fs (appended stored fs (s .sizes .facts) fact) (sum c more)
+    after : Turned theory goals proof T W Z rows′ feet′ cells′ ids′ memo′ s next fs (appended stored fs (s .sizes .facts) fact) (sum c more)
     after = record {
       between = record {
         held = a .held;
@@ -83,9 +83,9 @@ module _ {theory goals proof : List ℕ} {T : TheoryLists} {W : Working} {rows f
 
     -- all that was stored and counted
     pub turned : {is : Bool} {i : ℕ} {f : Fact} {gs : List Fact} {m d : Counts} {r : Run} → is ≡ stored → i ≡ s .sizes .facts → f ≡ fact → gs ≡ appended is fs i f →
-        m ≡ more → d ≡ sum c m → r ≡ next → Turned theory goals proof T W Z rows′ feet′ cells′ ids′ s r fs gs d
+        m ≡ more → d ≡ sum c m → r ≡ next → Turned theory goals proof T W Z rows′ feet′ cells′ ids′ memo′ s r fs gs d
     turned {is} {i} {f} {gs} {m} {d} {r} ei en ef eg em ed er =
-        subst (λ (x : Run). Turned theory goals proof T W Z rows′ feet′ cells′ ids′ s x fs gs d) (sym er)
-        (subst (λ (x : Counts). Turned theory goals proof T W Z rows′ feet′ cells′ ids′ s next fs gs x) (sym (ed ∙ ap (sum c) em))
-        (subst (λ (x : List Fact). Turned theory goals proof T W Z rows′ feet′ cells′ ids′ s next fs x (sum c more))
+        subst (λ (x : Run). Turned theory goals proof T W Z rows′ feet′ cells′ ids′ memo′ s x fs gs d) (sym er)
+        (subst (λ (x : Counts). Turned theory goals proof T W Z rows′ feet′ cells′ ids′ memo′ s next fs gs x) (sym (ed ∙ ap (sum c) em))
+        (subst (λ (x : List Fact). Turned theory goals proof T W Z rows′ feet′ cells′ ids′ memo′ s next fs x (sum c more))
         (sym (eg ∙ (λ j. appended (ei j) fs (en j) (ef j)))) after))

@@ -6,7 +6,7 @@ use mathlib.Core.Bool.{Bool, true, false, true≢false}
 use mathlib.Core.List.{List, _++_}
 use lib.ListN.{length, take, drop, replicate, length-append, length-replicate}
 use lib.Seq.{take-at, drop-at}
-use Rattle.rules.specs.Limits.{GOALS, FACTS, LENGTH}
+use Rattle.rules.specs.Limits.{GOALS, FACTS, LENGTH, TERMS}
 use Rattle.rules.specs.TheoryTables.{rows as rowsOf}
 use Rattle.kernel.specs.Parsed.{TheoryLists}
 use Rattle.facts.specs.declared.Fact.{Fact}
@@ -31,11 +31,13 @@ use Rattle.schematic.proofs.Looping.{behind-both}
 -- The beginning --------------------------------------------------------------------------------------------------------------------
 
 -- the scratch as it is made
-pub blank-many : (a b c d : ℕ) → a ≡ 6 * FACTS → b ≡ 4 * FACTS → c ≡ LENGTH → d ≡ IDS → Blank (many ℕ a 0) (many ℕ b 0) (many ℕ c 0) (many ℕ d 0)
-blank-many a b c d ea eb ec ed = (
-  many-is ℕ a 0 ∙ ap (λ (n : ℕ). replicate n 0) ea,
-  (many-is ℕ b 0 ∙ ap (λ (n : ℕ). replicate n 0) eb, (many-is ℕ c 0 ∙ ap (λ (n : ℕ). replicate n 0) ec, many-is ℕ d 0 ∙ ap (λ (n : ℕ). replicate n 0) ed)),
-)
+pub zeros-many : (a n : ℕ) → a ≡ n → many ℕ a 0 ≡ replicate n 0
+zeros-many a n e = many-is ℕ a 0 ∙ ap (λ (k : ℕ). replicate k 0) e
+
+pub blank-many : (a b c d e : ℕ) → a ≡ 6 * FACTS → b ≡ 4 * FACTS → c ≡ LENGTH → d ≡ IDS → e ≡ TERMS →
+    Blank (many ℕ a 0) (many ℕ b 0) (many ℕ c 0) (many ℕ d 0) (many ℕ e 0)
+blank-many a b c d e ea eb ec ed ee =
+    (zeros-many a (6 * FACTS) ea, (zeros-many b (4 * FACTS) eb, (zeros-many c LENGTH ec, (zeros-many d IDS ed, zeros-many e TERMS ee))))
 
 few-none : (forms : ℕ) → Few none forms
 few-none forms = record { hypotheses = omega arith; inductions = omega arith; inversions = omega arith; instances = omega arith }
@@ -47,20 +49,20 @@ mirrored-none n fs rows feet e = subst (λ (k : ℕ). Mirrored k fs rows feet) (
 unfit-is : {s : Run} → s ≡ unfitRun → s .fit ≡ false
 unfit-is e = ap (λ (x : Run). x .fit) e
 
-module _ {theory goals proof : List ℕ} {T U : TheoryLists} {W Y : Working} {M N rows feet cells ids cells′ : List ℕ} {s : Run} {fs : List Fact}
+module _ {theory goals proof : List ℕ} {T U : TheoryLists} {W Y : Working} {M N rows feet cells ids memo cells′ : List ℕ} {s : Run} {fs : List Fact}
     (b : Begun theory goals proof (length fs) T U W Y M N rows feet s) where
   -- what `run` asks
-  pub opened : {c : Counts} → c ≡ none → Blank rows feet cells ids → cells′ ≡ cells → Kept theory goals proof U Y rows feet cells′ ids s fs c
+  pub opened : {c : Counts} → c ≡ none → Blank rows feet cells ids memo → cells′ ≡ cells → Kept theory goals proof U Y rows feet cells′ ids memo s fs c
   opened {c} e z k = go b
     where
-      go : Begun theory goals proof (length fs) T U W Y M N rows feet s → Kept theory goals proof U Y rows feet cells′ ids s fs c
+      go : Begun theory goals proof (length fs) T U W Y M N rows feet s → Kept theory goals proof U Y rows feet cells′ ids memo s fs c
       go (unfit _ _ _ _ r) =
           record { fit = λ h. absurd (true≢false (sym h ∙ unfit-is r)); unfit = λ _. ap (λ (x : Run). x .going) r }
       go (begun a h p q _ _ _) =
           record {
             fit = λ _. record {
               held = h;
-              idle = record { cells-zero = k ∙ z .1 .1 .0; ids-long = ap length (z .1 .1 .1) ∙ length-replicate {A = ℕ} IDS 0 };
+              idle = record { cells-zero = k ∙ z .1 .1 .0; ids-zero = z .1 .1 .1 .0; memo-zero = z .1 .1 .1 .1 };
               counted = p ∙ sym (ap countsOf e ∙ counts-none);
               few = subst (λ (x : Counts). Few x (s .forms)) (sym e) (few-none (s .forms));
               room = a .facts;
@@ -91,8 +93,8 @@ either : {A : Type 0} (b : Bool) → (b ≡ true → A) → (b ≡ false → A) 
 either true f g = f refl
 either false f g = g refl
 
-module _ (theory goals proof : List ℕ) (T U : TheoryLists) (W Y Z : Working) (M N rows feet rows′ feet′ cells ids : List ℕ) (s e : Run) (fs ys : List Fact) (c : Counts)
-    (b : Begun theory goals proof (length fs) T U W Y M N rows feet s) (u : Ran theory goals proof U Y Z rows′ feet′ cells ids s e fs ys c) where
+module _ (theory goals proof : List ℕ) (T U : TheoryLists) (W Y Z : Working) (M N rows feet rows′ feet′ cells ids memo : List ℕ) (s e : Run) (fs ys : List Fact) (c : Counts)
+    (b : Begun theory goals proof (length fs) T U W Y M N rows feet s) (u : Ran theory goals proof U Y Z rows′ feet′ cells ids memo s e fs ys c) where
   opening : e .fit ≡ true → Opening theory goals proof T U W Y M N fs
   opening f = go b
     where

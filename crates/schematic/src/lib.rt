@@ -38,18 +38,19 @@ fn turn(
     feet: &mut [u64],
     cells: &mut [u32],
     ids: &mut [u32],
+    memo: &mut [u32],
     facts: &mut [Fact],
     counts: &mut Counts,
 ) -> Run
     requires { ⌜ Between (now theory) (now goals) (now proof)
         (theoryLists (now sorts) (now symbols) (now inputs) (now rules) (now rulevars) (now patterns))
         (working (now vars) (now index) (now words) (now defs) (now rows) (now lists))
-        (now kept) (now feet) (now cells) (now ids) s (now facts) (now counts) × (s .going ≡ true) ⌝ }
+        (now kept) (now feet) (now cells) (now ids) (now memo) s (now facts) (now counts) × (s .going ≡ true) ⌝ }
     ensures { λ r. ⌜ Turned (now (theory .entry)) (now (goals .entry)) (now (proof .entry))
         (theoryLists (now (sorts .entry)) (now (symbols .entry)) (now (inputs .entry)) (now (rules .entry)) (now (rulevars .entry)) (now (patterns .entry)))
         (working (now (vars .entry)) (now (index .entry)) (now (words .entry)) (now (defs .entry)) (now (rows .entry)) (now (lists .entry)))
         (working (now (vars .exit)) (now (index .exit)) (now (words .exit)) (now (defs .exit)) (now (rows .exit)) (now (lists .exit)))
-        (now (kept .exit)) (now (feet .exit)) (now (cells .exit)) (now (ids .exit)) s r (now (facts .entry)) (now (facts .exit)) (now (counts .exit)) ⌝ }
+        (now (kept .exit)) (now (feet .exit)) (now (cells .exit)) (now (ids .exit)) (now (memo .exit)) s r (now (facts .entry)) (now (facts .exit)) (now (counts .exit)) ⌝ }
 {
     let o = advancing::form::form(
         theory,
@@ -72,6 +73,7 @@ fn turn(
         feet,
         cells,
         ids,
+        memo,
     );
     facts::append_if(
         facts,
@@ -105,18 +107,19 @@ fn run(
     feet: &mut [u64],
     cells: &mut [u32],
     ids: &mut [u32],
+    memo: &mut [u32],
     facts: &mut [Fact],
     counts: &mut Counts,
 ) -> Run
     requires { ⌜ Kept (now theory) (now goals) (now proof)
         (theoryLists (now sorts) (now symbols) (now inputs) (now rules) (now rulevars) (now patterns))
         (working (now vars) (now index) (now words) (now defs) (now rows) (now lists))
-        (now kept) (now feet) (now cells) (now ids) s (now facts) (now counts) ⌝ }
+        (now kept) (now feet) (now cells) (now ids) (now memo) s (now facts) (now counts) ⌝ }
     ensures { λ r. ⌜ Ran (now (theory .entry)) (now (goals .entry)) (now (proof .entry))
         (theoryLists (now (sorts .entry)) (now (symbols .entry)) (now (inputs .entry)) (now (rules .entry)) (now (rulevars .entry)) (now (patterns .entry)))
         (working (now (vars .entry)) (now (index .entry)) (now (words .entry)) (now (defs .entry)) (now (rows .entry)) (now (lists .entry)))
         (working (now (vars .exit)) (now (index .exit)) (now (words .exit)) (now (defs .exit)) (now (rows .exit)) (now (lists .exit)))
-        (now (kept .exit)) (now (feet .exit)) (now (cells .exit)) (now (ids .exit)) s r (now (facts .entry)) (now (facts .exit)) (now (counts .exit)) ⌝ }
+        (now (kept .exit)) (now (feet .exit)) (now (cells .exit)) (now (ids .exit)) (now (memo .exit)) s r (now (facts .entry)) (now (facts .exit)) (now (counts .exit)) ⌝ }
 {
     let mut st = s;
     while running::run::is_going(st) {
@@ -141,6 +144,7 @@ fn run(
             feet,
             cells,
             ids,
+            memo,
             facts,
             counts,
         );
@@ -172,8 +176,9 @@ fn check_with(
     feet: &mut [u64],
     cells: &mut [u32],
     ids: &mut [u32],
+    memo: &mut [u32],
 ) -> Answer
-    requires { ⌜ Blank (now kept) (now feet) (now cells) (now ids) ⌝ }
+    requires { ⌜ Blank (now kept) (now feet) (now cells) (now ids) (now memo) ⌝ }
     ensures { λ r. ⌜ Call (now (theory .entry)) (now (goals .entry)) (now (proof .entry))
         (tablesOf
         (theoryLists (now (sorts .entry)) (now (symbols .entry)) (now (inputs .entry)) (now (rules .entry)) (now (rulevars .entry)) (now (patterns .entry)))
@@ -229,6 +234,7 @@ fn check_with(
         feet,
         cells,
         ids,
+        memo,
         facts,
         &mut counts,
     );
@@ -271,6 +277,7 @@ pub fn check(
     let mut feet = [0u64; 4 * rules::FACTS];
     let mut cells = [0u32; rules::LENGTH];
     let mut ids = [0u32; induction::induct::IDS];
+    let mut memo = [0u32; rules::TERMS];
     check_with(
         theory,
         goals,
@@ -293,5 +300,6 @@ pub fn check(
         &mut feet,
         &mut cells,
         &mut ids,
+        &mut memo,
     )
 }

@@ -559,9 +559,9 @@ module _ {M : Type 1} (𝓤 : URA M) (H : Heap 𝓤) (A : Atoms 𝓤) (W : Given
       (room·lists : Room u32 (length lists)) (room·missing : Room u32 (length missing)) (C : Calls 𝓤 H) (Λ : Loops 𝓤 H) (fm : FmC 𝓤 H (W .laws) C)
       (known·1 : Triple 𝓤 (C #schematic·check-with) (G1·C 𝓤 H A at-mem run)) where
     abbrev En : ℕ → ℕ → ℕ → ℕ → ℕ → ℕ → ℕ → ℕ → ℕ → ℕ → ℕ → ℕ → ℕ → ℕ → ℕ → ℕ → ℕ → ℕ → ℕ → ℕ → ℕ → ℕ → ℕ → ℕ → ℕ → ℕ → ℕ → ℕ → ℕ → ℕ → ℕ → ℕ → ℕ → ℕ
-        → ℕ → ℕ → ℕ → ℕ → ℕ → ℕ → ℕ → ℕ → ℕ → ℕ → ℕ → ℕ → ℕ → ℕ → ℕ → ℕ → ℕ → ℕ → ℕ → ℕ → ℕ → ℕ → ℕ → ℕ → Env 𝓤 H
+        → ℕ → ℕ → ℕ → ℕ → ℕ → ℕ → ℕ → ℕ → ℕ → ℕ → ℕ → ℕ → ℕ → ℕ → ℕ → ℕ → ℕ → ℕ → ℕ → ℕ → ℕ → ℕ → ℕ → ℕ → ℕ → ℕ → ℕ → Env 𝓤 H
     En l0 l1 l2 l3 l4 l5 l6 l7 l8 l9 l10 l11 l12 l13 l14 l15 l16 l17 l18 l19 l20 l21 l22 l23 l24 l25 l26 l27 l28 l29 l30 l31 l32 l33 l34 l35 l36 l37
-        l38 l39 l40 l41 l42 l43 l44 l45 l46 l47 l48 l49 l50 l51 l52 l53 l54 l55 l56 l57 = (AnswerL.mir, l0)
+        l38 l39 l40 l41 l42 l43 l44 l45 l46 l47 l48 l49 l50 l51 l52 l53 l54 l55 l56 l57 l58 l59 l60 = (AnswerL.mir, l0)
         ∷ ((sliceTy (tyRef (named 0) imm (tyInt w8))), l1) ∷ ((sliceTy (tyRef (named 1) imm (tyInt w8))), l2)
         ∷ ((sliceTy (tyRef (named 2) imm (tyInt w8))), l3) ∷ ((sliceTy (tyRef (named 3) mut (tyInt w32))), l4)
         ∷ ((sliceTy (tyRef (named 4) mut (tyInt w32))), l5) ∷ ((sliceTy (tyRef (named 5) mut (tyInt w32))), l6)
@@ -571,38 +571,41 @@ module _ {M : Type 1} (𝓤 : URA M) (H : Heap 𝓤) (A : Atoms 𝓤) (W : Given
         ∷ ((sliceTy (tyRef (named 12) mut (tyInt w32))), l13) ∷ ((sliceTy (tyRef (named 13) mut (tyInt w32))), l14)
         ∷ ((sliceTy (tyRef (named 14) mut (pointee (FactT.the-row .written)))), l15) ∷ ((sliceTy (tyRef (named 15) mut (tyInt w32))), l16)
         ∷ ((sliceTy (tyRef (named 16) mut (tyInt w32))), l17) ∷ ((tyArray (tyInt w32) 6144), l18) ∷ ((tyArray (tyInt w64) 4096), l19)
-        ∷ ((tyArray (tyInt w32) 65536), l20) ∷ ((tyArray (tyInt w32) 40960), l21) ∷ ((tyRef erased mut (tyInt w32)), l22)
-        ∷ ((sliceTy (tyRef erased mut (tyInt w32))), l23) ∷ ((tyRef erased mut (tyInt w32)), l24)
-        ∷ ((sliceTy (tyRef erased mut (tyInt w32))), l25) ∷ ((tyRef erased mut (tyInt w32)), l26)
-        ∷ ((sliceTy (tyRef erased mut (tyInt w32))), l27) ∷ ((tyRef erased mut (tyInt w32)), l28)
-        ∷ ((sliceTy (tyRef erased mut (tyInt w32))), l29) ∷ ((tyRef erased mut (tyInt w32)), l30)
-        ∷ ((sliceTy (tyRef erased mut (tyInt w32))), l31) ∷ ((tyRef erased mut (tyInt w32)), l32)
-        ∷ ((sliceTy (tyRef erased mut (tyInt w32))), l33) ∷ ((tyRef erased mut (tyInt w32)), l34)
-        ∷ ((sliceTy (tyRef erased mut (tyInt w32))), l35) ∷ ((tyRef erased mut (tyInt w32)), l36)
-        ∷ ((sliceTy (tyRef erased mut (tyInt w32))), l37) ∷ ((tyRef erased mut (tyInt w32)), l38)
-        ∷ ((sliceTy (tyRef erased mut (tyInt w32))), l39) ∷ ((tyRef erased mut (tyInt w32)), l40)
-        ∷ ((sliceTy (tyRef erased mut (tyInt w32))), l41) ∷ ((tyRef erased mut (tyInt w32)), l42)
-        ∷ ((sliceTy (tyRef erased mut (tyInt w32))), l43) ∷ ((tyRef erased mut (tyInt w32)), l44)
-        ∷ ((sliceTy (tyRef erased mut (tyInt w32))), l45) ∷ ((tyRef erased mut (tyInt w32)), l46)
-        ∷ ((sliceTy (tyRef erased mut (tyInt w32))), l47) ∷ ((tyRef erased mut (pointee (FactT.the-row .written))), l48)
-        ∷ ((sliceTy (tyRef erased mut (pointee (FactT.the-row .written)))), l49) ∷ ((tyRef erased mut (tyArray (tyInt w32) 6144)), l50)
-        ∷ ((sliceTy (tyRef erased mut (tyInt w32))), l51) ∷ ((tyRef erased mut (tyArray (tyInt w64) 4096)), l52)
-        ∷ ((sliceTy (tyRef erased mut (tyInt w64))), l53) ∷ ((tyRef erased mut (tyArray (tyInt w32) 65536)), l54)
-        ∷ ((sliceTy (tyRef erased mut (tyInt w32))), l55) ∷ ((tyRef erased mut (tyArray (tyInt w32) 40960)), l56)
-        ∷ ((sliceTy (tyRef erased mut (tyInt w32))), l57) ∷ []
+        ∷ ((tyArray (tyInt w32) 65536), l20) ∷ ((tyArray (tyInt w32) 40960), l21) ∷ ((tyArray (tyInt w32) 4096), l22)
+        ∷ ((tyRef erased mut (tyInt w32)), l23) ∷ ((sliceTy (tyRef erased mut (tyInt w32))), l24) ∷ ((tyRef erased mut (tyInt w32)), l25)
+        ∷ ((sliceTy (tyRef erased mut (tyInt w32))), l26) ∷ ((tyRef erased mut (tyInt w32)), l27)
+        ∷ ((sliceTy (tyRef erased mut (tyInt w32))), l28) ∷ ((tyRef erased mut (tyInt w32)), l29)
+        ∷ ((sliceTy (tyRef erased mut (tyInt w32))), l30) ∷ ((tyRef erased mut (tyInt w32)), l31)
+        ∷ ((sliceTy (tyRef erased mut (tyInt w32))), l32) ∷ ((tyRef erased mut (tyInt w32)), l33)
+        ∷ ((sliceTy (tyRef erased mut (tyInt w32))), l34) ∷ ((tyRef erased mut (tyInt w32)), l35)
+        ∷ ((sliceTy (tyRef erased mut (tyInt w32))), l36) ∷ ((tyRef erased mut (tyInt w32)), l37)
+        ∷ ((sliceTy (tyRef erased mut (tyInt w32))), l38) ∷ ((tyRef erased mut (tyInt w32)), l39)
+        ∷ ((sliceTy (tyRef erased mut (tyInt w32))), l40) ∷ ((tyRef erased mut (tyInt w32)), l41)
+        ∷ ((sliceTy (tyRef erased mut (tyInt w32))), l42) ∷ ((tyRef erased mut (tyInt w32)), l43)
+        ∷ ((sliceTy (tyRef erased mut (tyInt w32))), l44) ∷ ((tyRef erased mut (tyInt w32)), l45)
+        ∷ ((sliceTy (tyRef erased mut (tyInt w32))), l46) ∷ ((tyRef erased mut (tyInt w32)), l47)
+        ∷ ((sliceTy (tyRef erased mut (tyInt w32))), l48) ∷ ((tyRef erased mut (pointee (FactT.the-row .written))), l49)
+        ∷ ((sliceTy (tyRef erased mut (pointee (FactT.the-row .written)))), l50) ∷ ((tyRef erased mut (tyArray (tyInt w32) 6144)), l51)
+        ∷ ((sliceTy (tyRef erased mut (tyInt w32))), l52) ∷ ((tyRef erased mut (tyArray (tyInt w64) 4096)), l53)
+        ∷ ((sliceTy (tyRef erased mut (tyInt w64))), l54) ∷ ((tyRef erased mut (tyArray (tyInt w32) 65536)), l55)
+        ∷ ((sliceTy (tyRef erased mut (tyInt w32))), l56) ∷ ((tyRef erased mut (tyArray (tyInt w32) 40960)), l57)
+        ∷ ((sliceTy (tyRef erased mut (tyInt w32))), l58) ∷ ((tyRef erased mut (tyArray (tyInt w32) 4096)), l59)
+        ∷ ((sliceTy (tyRef erased mut (tyInt w32))), l60) ∷ []
 
-    seg·4 : (l0 : ℕ) (l1 : ℕ) (l2 : ℕ) (l3 : ℕ) (l4 : ℕ) (l5 : ℕ) (l6 : ℕ) (l7 : ℕ) (l8 : ℕ) (l9 : ℕ) (l10 : ℕ) (l11 : ℕ) (l12 : ℕ) (l13 : ℕ)
+    seg·5 : (l0 : ℕ) (l1 : ℕ) (l2 : ℕ) (l3 : ℕ) (l4 : ℕ) (l5 : ℕ) (l6 : ℕ) (l7 : ℕ) (l8 : ℕ) (l9 : ℕ) (l10 : ℕ) (l11 : ℕ) (l12 : ℕ) (l13 : ℕ)
         (l14 : ℕ) (l15 : ℕ) (l16 : ℕ) (l17 : ℕ) (l18 : ℕ) (l19 : ℕ) (l20 : ℕ) (l21 : ℕ) (l22 : ℕ) (l23 : ℕ) (l24 : ℕ) (l25 : ℕ) (l26 : ℕ) (l27 : ℕ)
         (l28 : ℕ) (l29 : ℕ) (l30 : ℕ) (l31 : ℕ) (l32 : ℕ) (l33 : ℕ) (l34 : ℕ) (l35 : ℕ) (l36 : ℕ) (l37 : ℕ) (l38 : ℕ) (l39 : ℕ) (l40 : ℕ) (l41 : ℕ)
         (l42 : ℕ) (l43 : ℕ) (l44 : ℕ) (l45 : ℕ) (l46 : ℕ) (l47 : ℕ) (l48 : ℕ) (l49 : ℕ) (l50 : ℕ) (l51 : ℕ) (l52 : ℕ) (l53 : ℕ) (l54 : ℕ) (l55 : ℕ)
-        (l56 : ℕ) (l57 : ℕ) (is·kept : Is (Array u32 6144) (many ℕ 6144 0) ((manyVal 6144 (vint w32 0)) ∷ []))
+        (l56 : ℕ) (l57 : ℕ) (l58 : ℕ) (l59 : ℕ) (l60 : ℕ) (is·kept : Is (Array u32 6144) (many ℕ 6144 0) ((manyVal 6144 (vint w32 0)) ∷ []))
         (is·feet : Is (Array u64 4096) (many ℕ 4096 0) ((manyVal 4096 (vint w64 0)) ∷ []))
         (is·cells : Is (Array u32 65536) (many ℕ 65536 0) ((manyVal 65536 (vint w32 0)) ∷ []))
-        (is·ids : Is (Array u32 40960) (many ℕ 40960 0) ((manyVal 40960 (vint w32 0)) ∷ [])) (ν·1·17 : ℕ) (δ·1·17 : GName) (ν·1·18 : ℕ)
-        (δ·1·18 : GName) (ν·1·19 : ℕ) (δ·1·19 : GName) (ν·1·20 : ℕ) (δ·1·20 : GName) (v1 : Val) (r1 : Answer)
+        (is·ids : Is (Array u32 40960) (many ℕ 40960 0) ((manyVal 40960 (vint w32 0)) ∷ []))
+        (is·memo : Is (Array u32 4096) (many ℕ 4096 0) ((manyVal 4096 (vint w32 0)) ∷ [])) (ν·1·17 : ℕ) (δ·1·17 : GName) (ν·1·18 : ℕ) (δ·1·18 : GName)
+        (ν·1·19 : ℕ) (δ·1·19 : GName) (ν·1·20 : ℕ) (δ·1·20 : GName) (ν·1·21 : ℕ) (δ·1·21 : GName) (v1 : Val) (r1 : Answer)
         (ws1 : (Unit {0} × (Unit {0} × (Unit {0} × ((List ℕ) × ((List ℕ) × ((List ℕ) ×
         ((List ℕ) × ((List ℕ) × ((List ℕ) × ((List ℕ) × ((List ℕ) × ((List ℕ) ×
-        ((List ℕ) × ((List ℕ) × ((List ℕ) × ((List ℕ) × ((List Fact) × ((List ℕ) × ((List ℕ) × ((List ℕ) × ((List ℕ) × Unit {0}))))))))))))))))))))))
+        ((List ℕ) × ((List ℕ) × ((List ℕ) × ((List ℕ) × ((List Fact) × ((List ℕ) ×
+        ((List ℕ) × ((List ℕ) × ((List ℕ) × ((List ℕ) × Unit {0})))))))))))))))))))))))
         (e1 : Call theory goals proof (tablesIn (theoryLists sorts symbols inputs rules rulevars patterns) (working vars index words defs rows lists)
         missing facts) (tablesIn (theoryLists (ws1 .1 .1 .1 .0) (ws1 .1 .1 .1 .1 .0) (ws1 .1 .1 .1 .1 .1 .0) (ws1 .1 .1 .1 .1 .1 .1 .0)
         (ws1 .1 .1 .1 .1 .1 .1 .1 .0) (ws1 .1 .1 .1 .1 .1 .1 .1 .1 .0)) (working (ws1 .1 .1 .1 .1 .1 .1 .1 .1 .1 .0)
@@ -626,14 +629,12 @@ module _ {M : Type 1} (𝓤 : URA M) (H : Heap 𝓤) (A : Atoms 𝓤) (W : Given
         (len·1·feet : length (ws1 .1 .1 .1 .1 .1 .1 .1 .1 .1 .1 .1 .1 .1 .1 .1 .1 .1 .1 .0) ≡ length (many ℕ 4096 0))
         (len·1·cells : length (ws1 .1 .1 .1 .1 .1 .1 .1 .1 .1 .1 .1 .1 .1 .1 .1 .1 .1 .1 .1 .0) ≡ length (many ℕ 65536 0))
         (len·1·ids : length (ws1 .1 .1 .1 .1 .1 .1 .1 .1 .1 .1 .1 .1 .1 .1 .1 .1 .1 .1 .1 .1 .0) ≡ length (many ℕ 40960 0))
-        (is1 : Is AnswerT.the-row r1 (v1 ∷ [])) (va·1·18 : Val) (va·1·19 : Val) (va·1·20 : Val) (va·1·21 : Val) →
-        Sq W (‵ (fat fullShare (tyArray (tyInt w32) 40960) l21 0 va·1·21)
+        (len·1·memo : length (ws1 .1 .1 .1 .1 .1 .1 .1 .1 .1 .1 .1 .1 .1 .1 .1 .1 .1 .1 .1 .1 .1 .0) ≡ length (many ℕ 4096 0))
+        (is1 : Is AnswerT.the-row r1 (v1 ∷ [])) (va·1·18 : Val) (va·1·19 : Val) (va·1·20 : Val) (va·1·21 : Val) (va·1·22 : Val) →
+        Sq W (‵ (Array u32 4096 .own (ws1 .1 .1 .1 .1 .1 .1 .1 .1 .1 .1 .1 .1 .1 .1 .1 .1 .1 .1 .1 .1 .1 .0) (va·1·22 ∷ []))
         ∷ ‵ (Array u32 40960 .own (ws1 .1 .1 .1 .1 .1 .1 .1 .1 .1 .1 .1 .1 .1 .1 .1 .1 .1 .1 .1 .1 .0) (va·1·21 ∷ []))
-        ∷ ‵ (fat fullShare (tyArray (tyInt w32) 65536) l20 0 va·1·20)
         ∷ ‵ (Array u32 65536 .own (ws1 .1 .1 .1 .1 .1 .1 .1 .1 .1 .1 .1 .1 .1 .1 .1 .1 .1 .1 .1 .0) (va·1·20 ∷ []))
-        ∷ ‵ (fat fullShare (tyArray (tyInt w64) 4096) l19 0 va·1·19)
         ∷ ‵ (Array u64 4096 .own (ws1 .1 .1 .1 .1 .1 .1 .1 .1 .1 .1 .1 .1 .1 .1 .1 .1 .1 .1 .0) (va·1·19 ∷ []))
-        ∷ ‵ (fat fullShare (tyArray (tyInt w32) 6144) l18 0 va·1·18)
         ∷ ‵ (Array u32 6144 .own (ws1 .1 .1 .1 .1 .1 .1 .1 .1 .1 .1 .1 .1 .1 .1 .1 .1 .1 .0) (va·1·18 ∷ []))
         ∷ ‵ (flft κ·facts q·facts)
         ∷ ‵ (flft κ·missing q·missing)
@@ -669,231 +670,97 @@ module _ {M : Type 1} (𝓤 : URA M) (H : Heap 𝓤) (A : Atoms 𝓤) (W : Given
         ∷ ‵ (ShrSlice (named 2) κ·proof u8 .own (ref·proof γ·proof proof) (s·proof ∷ []))
         ∷ ‵ (ShrSlice (named 1) κ·goals u8 .own (ref·goals γ·goals goals) (s·goals ∷ []))
         ∷ ‵ (ShrSlice (named 0) κ·theory u8 .own (ref·theory γ·theory theory) (s·theory ∷ []))
-        ∷ ‵ (fat fullShare (sliceTy (tyRef erased mut (tyInt w32))) l57 0 (sliceVal (l21, 0) 40960))
-        ∷ ‵ (fdies (sliceTy (tyRef erased mut (tyInt w32))) l57)
-        ∷ ‵ (fat fullShare (tyRef erased mut (tyArray (tyInt w32) 40960)) l56 0 (vptr l21 0))
-        ∷ ‵ (fdies (tyRef erased mut (tyArray (tyInt w32) 40960)) l56)
-        ∷ ‵ (fat fullShare (sliceTy (tyRef erased mut (tyInt w32))) l55 0 (sliceVal (l20, 0) 65536))
-        ∷ ‵ (fdies (sliceTy (tyRef erased mut (tyInt w32))) l55)
-        ∷ ‵ (fat fullShare (tyRef erased mut (tyArray (tyInt w32) 65536)) l54 0 (vptr l20 0))
-        ∷ ‵ (fdies (tyRef erased mut (tyArray (tyInt w32) 65536)) l54)
-        ∷ ‵ (fat fullShare (sliceTy (tyRef erased mut (tyInt w64))) l53 0 (sliceVal (l19, 0) 4096))
-        ∷ ‵ (fdies (sliceTy (tyRef erased mut (tyInt w64))) l53)
-        ∷ ‵ (fat fullShare (tyRef erased mut (tyArray (tyInt w64) 4096)) l52 0 (vptr l19 0))
-        ∷ ‵ (fdies (tyRef erased mut (tyArray (tyInt w64) 4096)) l52)
-        ∷ ‵ (fat fullShare (sliceTy (tyRef erased mut (tyInt w32))) l51 0 (sliceVal (l18, 0) 6144))
-        ∷ ‵ (fdies (sliceTy (tyRef erased mut (tyInt w32))) l51)
-        ∷ ‵ (fat fullShare (tyRef erased mut (tyArray (tyInt w32) 6144)) l50 0 (vptr l18 0))
-        ∷ ‵ (fdies (tyRef erased mut (tyArray (tyInt w32) 6144)) l50)
-        ∷ ‵ (fat fullShare (sliceTy (tyRef erased mut (pointee (FactT.the-row .written)))) l49 0 s·facts)
-        ∷ ‵ (fdies (sliceTy (tyRef erased mut (pointee (FactT.the-row .written)))) l49)
-        ∷ ‵ (fat fullShare (tyRef erased mut (pointee (FactT.the-row .written))) l48 0 (vptr b·facts o·facts))
-        ∷ ‵ (fdies (tyRef erased mut (pointee (FactT.the-row .written))) l48)
-        ∷ ‵ (fat fullShare (sliceTy (tyRef erased mut (tyInt w32))) l47 0 s·missing)
-        ∷ ‵ (fdies (sliceTy (tyRef erased mut (tyInt w32))) l47)
-        ∷ ‵ (fat fullShare (tyRef erased mut (tyInt w32)) l46 0 (vptr b·missing o·missing))
-        ∷ ‵ (fdies (tyRef erased mut (tyInt w32)) l46)
-        ∷ ‵ (fat fullShare (sliceTy (tyRef erased mut (tyInt w32))) l45 0 s·lists)
-        ∷ ‵ (fdies (sliceTy (tyRef erased mut (tyInt w32))) l45)
-        ∷ ‵ (fat fullShare (tyRef erased mut (tyInt w32)) l44 0 (vptr b·lists o·lists))
-        ∷ ‵ (fdies (tyRef erased mut (tyInt w32)) l44)
-        ∷ ‵ (fat fullShare (sliceTy (tyRef erased mut (tyInt w32))) l43 0 s·rows)
-        ∷ ‵ (fdies (sliceTy (tyRef erased mut (tyInt w32))) l43)
-        ∷ ‵ (fat fullShare (tyRef erased mut (tyInt w32)) l42 0 (vptr b·rows o·rows))
-        ∷ ‵ (fdies (tyRef erased mut (tyInt w32)) l42)
-        ∷ ‵ (fat fullShare (sliceTy (tyRef erased mut (tyInt w32))) l41 0 s·defs)
-        ∷ ‵ (fdies (sliceTy (tyRef erased mut (tyInt w32))) l41)
-        ∷ ‵ (fat fullShare (tyRef erased mut (tyInt w32)) l40 0 (vptr b·defs o·defs))
-        ∷ ‵ (fdies (tyRef erased mut (tyInt w32)) l40)
-        ∷ ‵ (fat fullShare (sliceTy (tyRef erased mut (tyInt w32))) l39 0 s·words)
-        ∷ ‵ (fdies (sliceTy (tyRef erased mut (tyInt w32))) l39)
-        ∷ ‵ (fat fullShare (tyRef erased mut (tyInt w32)) l38 0 (vptr b·words o·words))
-        ∷ ‵ (fdies (tyRef erased mut (tyInt w32)) l38)
-        ∷ ‵ (fat fullShare (sliceTy (tyRef erased mut (tyInt w32))) l37 0 s·index)
-        ∷ ‵ (fdies (sliceTy (tyRef erased mut (tyInt w32))) l37)
-        ∷ ‵ (fat fullShare (tyRef erased mut (tyInt w32)) l36 0 (vptr b·index o·index))
-        ∷ ‵ (fdies (tyRef erased mut (tyInt w32)) l36)
-        ∷ ‵ (fat fullShare (sliceTy (tyRef erased mut (tyInt w32))) l35 0 s·vars)
-        ∷ ‵ (fdies (sliceTy (tyRef erased mut (tyInt w32))) l35)
-        ∷ ‵ (fat fullShare (tyRef erased mut (tyInt w32)) l34 0 (vptr b·vars o·vars))
-        ∷ ‵ (fdies (tyRef erased mut (tyInt w32)) l34)
-        ∷ ‵ (fat fullShare (sliceTy (tyRef erased mut (tyInt w32))) l33 0 s·patterns)
-        ∷ ‵ (fdies (sliceTy (tyRef erased mut (tyInt w32))) l33)
-        ∷ ‵ (fat fullShare (tyRef erased mut (tyInt w32)) l32 0 (vptr b·patterns o·patterns))
-        ∷ ‵ (fdies (tyRef erased mut (tyInt w32)) l32)
-        ∷ ‵ (fat fullShare (sliceTy (tyRef erased mut (tyInt w32))) l31 0 s·rulevars)
-        ∷ ‵ (fdies (sliceTy (tyRef erased mut (tyInt w32))) l31)
-        ∷ ‵ (fat fullShare (tyRef erased mut (tyInt w32)) l30 0 (vptr b·rulevars o·rulevars))
-        ∷ ‵ (fdies (tyRef erased mut (tyInt w32)) l30)
-        ∷ ‵ (fat fullShare (sliceTy (tyRef erased mut (tyInt w32))) l29 0 s·rules)
-        ∷ ‵ (fdies (sliceTy (tyRef erased mut (tyInt w32))) l29)
-        ∷ ‵ (fat fullShare (tyRef erased mut (tyInt w32)) l28 0 (vptr b·rules o·rules))
-        ∷ ‵ (fdies (tyRef erased mut (tyInt w32)) l28)
-        ∷ ‵ (fat fullShare (sliceTy (tyRef erased mut (tyInt w32))) l27 0 s·inputs)
-        ∷ ‵ (fdies (sliceTy (tyRef erased mut (tyInt w32))) l27)
-        ∷ ‵ (fat fullShare (tyRef erased mut (tyInt w32)) l26 0 (vptr b·inputs o·inputs))
-        ∷ ‵ (fdies (tyRef erased mut (tyInt w32)) l26)
-        ∷ ‵ (fat fullShare (sliceTy (tyRef erased mut (tyInt w32))) l25 0 s·symbols)
-        ∷ ‵ (fdies (sliceTy (tyRef erased mut (tyInt w32))) l25)
-        ∷ ‵ (fat fullShare (tyRef erased mut (tyInt w32)) l24 0 (vptr b·symbols o·symbols))
-        ∷ ‵ (fdies (tyRef erased mut (tyInt w32)) l24)
-        ∷ ‵ (fat fullShare (sliceTy (tyRef erased mut (tyInt w32))) l23 0 s·sorts)
-        ∷ ‵ (fdies (sliceTy (tyRef erased mut (tyInt w32))) l23)
-        ∷ ‵ (fat fullShare (tyRef erased mut (tyInt w32)) l22 0 (vptr b·sorts o·sorts))
-        ∷ ‵ (fdies (tyRef erased mut (tyInt w32)) l22)
-        ∷ ‵ (fdies (tyArray (tyInt w32) 40960) l21)
-        ∷ ‵ (fdies (tyArray (tyInt w32) 65536) l20)
-        ∷ ‵ (fdies (tyArray (tyInt w64) 4096) l19)
-        ∷ ‵ (fdies (tyArray (tyInt w32) 6144) l18)
-        ∷ ‵ (fat fullShare (sliceTy (tyRef (named 16) mut (tyInt w32))) l17 0 s·missing)
-        ∷ ‵ (fdies (sliceTy (tyRef (named 16) mut (tyInt w32))) l17) ∷ [])
-        (frees (((sliceTy (tyRef (named 16) mut (tyInt w32))), l17) ∷ ((tyArray (tyInt w32) 6144), l18) ∷ ((tyArray (tyInt w64) 4096), l19)
-        ∷ ((tyArray (tyInt w32) 65536), l20) ∷ ((tyArray (tyInt w32) 40960), l21) ∷ ((tyRef erased mut (tyInt w32)), l22)
-        ∷ ((sliceTy (tyRef erased mut (tyInt w32))), l23) ∷ ((tyRef erased mut (tyInt w32)), l24) ∷ ((sliceTy (tyRef erased mut (tyInt w32))), l25)
-        ∷ ((tyRef erased mut (tyInt w32)), l26) ∷ ((sliceTy (tyRef erased mut (tyInt w32))), l27) ∷ ((tyRef erased mut (tyInt w32)), l28)
-        ∷ ((sliceTy (tyRef erased mut (tyInt w32))), l29) ∷ ((tyRef erased mut (tyInt w32)), l30) ∷ ((sliceTy (tyRef erased mut (tyInt w32))), l31)
-        ∷ ((tyRef erased mut (tyInt w32)), l32) ∷ ((sliceTy (tyRef erased mut (tyInt w32))), l33) ∷ ((tyRef erased mut (tyInt w32)), l34)
-        ∷ ((sliceTy (tyRef erased mut (tyInt w32))), l35) ∷ ((tyRef erased mut (tyInt w32)), l36) ∷ ((sliceTy (tyRef erased mut (tyInt w32))), l37)
-        ∷ ((tyRef erased mut (tyInt w32)), l38) ∷ ((sliceTy (tyRef erased mut (tyInt w32))), l39) ∷ ((tyRef erased mut (tyInt w32)), l40)
-        ∷ ((sliceTy (tyRef erased mut (tyInt w32))), l41) ∷ ((tyRef erased mut (tyInt w32)), l42) ∷ ((sliceTy (tyRef erased mut (tyInt w32))), l43)
-        ∷ ((tyRef erased mut (tyInt w32)), l44) ∷ ((sliceTy (tyRef erased mut (tyInt w32))), l45) ∷ ((tyRef erased mut (tyInt w32)), l46)
-        ∷ ((sliceTy (tyRef erased mut (tyInt w32))), l47) ∷ ((tyRef erased mut (pointee (FactT.the-row .written))), l48)
-        ∷ ((sliceTy (tyRef erased mut (pointee (FactT.the-row .written)))), l49) ∷ ((tyRef erased mut (tyArray (tyInt w32) 6144)), l50)
-        ∷ ((sliceTy (tyRef erased mut (tyInt w32))), l51) ∷ ((tyRef erased mut (tyArray (tyInt w64) 4096)), l52)
-        ∷ ((sliceTy (tyRef erased mut (tyInt w64))), l53) ∷ ((tyRef erased mut (tyArray (tyInt w32) 65536)), l54)
-        ∷ ((sliceTy (tyRef erased mut (tyInt w32))), l55) ∷ ((tyRef erased mut (tyArray (tyInt w32) 40960)), l56)
-        ∷ ((sliceTy (tyRef erased mut (tyInt w32))), l57) ∷ []) (prop (Post v1)))
-    seg·4 l0 l1 l2 l3 l4 l5 l6 l7 l8 l9 l10 l11 l12 l13 l14 l15 l16 l17 l18 l19 l20 l21 l22 l23 l24 l25 l26 l27 l28 l29 l30 l31 l32 l33 l34 l35 l36
-        l37 l38 l39 l40 l41 l42 l43 l44 l45 l46 l47 l48 l49 l50 l51 l52 l53 l54 l55 l56 l57 is·kept is·feet is·cells is·ids ν·1·17 δ·1·17 ν·1·18
-        δ·1·18 ν·1·19 δ·1·19 ν·1·20 δ·1·20 v1 r1 ws1 e1 len·1·sorts len·1·symbols len·1·inputs len·1·rules len·1·rulevars len·1·patterns
-        len·1·vars len·1·index len·1·words len·1·defs len·1·rows len·1·lists len·1·missing len·1·facts len·1·kept len·1·feet len·1·cells
-        len·1·ids is1 va·1·18 va·1·19 va·1·20 va·1·21 =
-        forget ! 118 refl $
-        move ! (118 ∷ 119 ∷ []) $
+        ∷ ‵ (fat fullShare (sliceTy (tyRef erased mut (tyInt w32))) l60 0 (sliceVal (l22, 0) 4096))
+        ∷ ‵ (fdies (sliceTy (tyRef erased mut (tyInt w32))) l60)
+        ∷ ‵ (fat fullShare (tyRef erased mut (tyArray (tyInt w32) 4096)) l59 0 (vptr l22 0))
+        ∷ ‵ (fdies (tyRef erased mut (tyArray (tyInt w32) 4096)) l59)
+        ∷ ‵ (fat fullShare (sliceTy (tyRef erased mut (tyInt w32))) l58 0 (sliceVal (l21, 0) 40960))
+        ∷ ‵ (fdies (sliceTy (tyRef erased mut (tyInt w32))) l58)
+        ∷ ‵ (fat fullShare (tyRef erased mut (tyArray (tyInt w32) 40960)) l57 0 (vptr l21 0))
+        ∷ ‵ (fdies (tyRef erased mut (tyArray (tyInt w32) 40960)) l57)
+        ∷ ‵ (fat fullShare (sliceTy (tyRef erased mut (tyInt w32))) l56 0 (sliceVal (l20, 0) 65536))
+        ∷ ‵ (fdies (sliceTy (tyRef erased mut (tyInt w32))) l56)
+        ∷ ‵ (fat fullShare (tyRef erased mut (tyArray (tyInt w32) 65536)) l55 0 (vptr l20 0))
+        ∷ ‵ (fdies (tyRef erased mut (tyArray (tyInt w32) 65536)) l55)
+        ∷ ‵ (fat fullShare (sliceTy (tyRef erased mut (tyInt w64))) l54 0 (sliceVal (l19, 0) 4096))
+        ∷ ‵ (fdies (sliceTy (tyRef erased mut (tyInt w64))) l54)
+        ∷ ‵ (fat fullShare (tyRef erased mut (tyArray (tyInt w64) 4096)) l53 0 (vptr l19 0))
+        ∷ ‵ (fdies (tyRef erased mut (tyArray (tyInt w64) 4096)) l53)
+        ∷ ‵ (fat fullShare (sliceTy (tyRef erased mut (tyInt w32))) l52 0 (sliceVal (l18, 0) 6144))
+        ∷ ‵ (fdies (sliceTy (tyRef erased mut (tyInt w32))) l52)
+        ∷ ‵ (fat fullShare (tyRef erased mut (tyArray (tyInt w32) 6144)) l51 0 (vptr l18 0))
+        ∷ ‵ (fdies (tyRef erased mut (tyArray (tyInt w32) 6144)) l51)
+        ∷ ‵ (fat fullShare (sliceTy (tyRef erased mut (pointee (FactT.the-row .written)))) l50 0 s·facts)
+        ∷ ‵ (fdies (sliceTy (tyRef erased mut (pointee (FactT.the-row .written)))) l50)
+        ∷ ‵ (fat fullShare (tyRef erased mut (pointee (FactT.the-row .written))) l49 0 (vptr b·facts o·facts))
+        ∷ ‵ (fdies (tyRef erased mut (pointee (FactT.the-row .written))) l49)
+        ∷ ‵ (fat fullShare (sliceTy (tyRef erased mut (tyInt w32))) l48 0 s·missing)
+        ∷ ‵ (fdies (sliceTy (tyRef erased mut (tyInt w32))) l48)
+        ∷ ‵ (fat fullShare (tyRef erased mut (tyInt w32)) l47 0 (vptr b·missing o·missing))
+        ∷ ‵ (fdies (tyRef erased mut (tyInt w32)) l47)
+        ∷ ‵ (fat fullShare (sliceTy (tyRef erased mut (tyInt w32))) l46 0 s·lists)
+        ∷ ‵ (fdies (sliceTy (tyRef erased mut (tyInt w32))) l46) ∷ [])
+        (frees (((sliceTy (tyRef erased mut (tyInt w32))), l46) ∷ ((tyRef erased mut (tyInt w32)), l47)
+        ∷ ((sliceTy (tyRef erased mut (tyInt w32))), l48) ∷ ((tyRef erased mut (pointee (FactT.the-row .written))), l49)
+        ∷ ((sliceTy (tyRef erased mut (pointee (FactT.the-row .written)))), l50) ∷ ((tyRef erased mut (tyArray (tyInt w32) 6144)), l51)
+        ∷ ((sliceTy (tyRef erased mut (tyInt w32))), l52) ∷ ((tyRef erased mut (tyArray (tyInt w64) 4096)), l53)
+        ∷ ((sliceTy (tyRef erased mut (tyInt w64))), l54) ∷ ((tyRef erased mut (tyArray (tyInt w32) 65536)), l55)
+        ∷ ((sliceTy (tyRef erased mut (tyInt w32))), l56) ∷ ((tyRef erased mut (tyArray (tyInt w32) 40960)), l57)
+        ∷ ((sliceTy (tyRef erased mut (tyInt w32))), l58) ∷ ((tyRef erased mut (tyArray (tyInt w32) 4096)), l59)
+        ∷ ((sliceTy (tyRef erased mut (tyInt w32))), l60) ∷ []) (prop (Post v1)))
+    seg·5 l0 l1 l2 l3 l4 l5 l6 l7 l8 l9 l10 l11 l12 l13 l14 l15 l16 l17 l18 l19 l20 l21 l22 l23 l24 l25 l26 l27 l28 l29 l30 l31 l32 l33 l34 l35 l36
+        l37 l38 l39 l40 l41 l42 l43 l44 l45 l46 l47 l48 l49 l50 l51 l52 l53 l54 l55 l56 l57 l58 l59 l60 is·kept is·feet is·cells is·ids is·memo ν·1·17
+        δ·1·17 ν·1·18 δ·1·18 ν·1·19 δ·1·19 ν·1·20 δ·1·20 ν·1·21 δ·1·21 v1 r1 ws1 e1 len·1·sorts len·1·symbols len·1·inputs len·1·rules
+        len·1·rulevars len·1·patterns len·1·vars len·1·index len·1·words len·1·defs len·1·rows len·1·lists len·1·missing len·1·facts
+        len·1·kept len·1·feet len·1·cells len·1·ids len·1·memo is1 va·1·18 va·1·19 va·1·20 va·1·21 va·1·22 =
+        forget ! 67 refl $
+        move ! (67 ∷ 68 ∷ []) $
         free1 ! $
-        forget ! 6 refl $
-        move ! (6 ∷ 117 ∷ []) $
+        forget ! 65 refl $
+        move ! (65 ∷ 66 ∷ []) $
         free1 ! $
-        forget ! 4 refl $
-        move ! (4 ∷ 115 ∷ []) $
+        forget ! 63 refl $
+        move ! (63 ∷ 64 ∷ []) $
         free1 ! $
-        forget ! 2 refl $
-        move ! (2 ∷ 113 ∷ []) $
+        forget ! 61 refl $
+        move ! (61 ∷ 62 ∷ []) $
         free1 ! $
-        forget ! 0 refl $
-        move ! (0 ∷ 111 ∷ []) $
+        forget ! 59 refl $
+        move ! (59 ∷ 60 ∷ []) $
         free1 ! $
-        forget ! 108 refl $
-        move ! (108 ∷ 109 ∷ []) $
+        forget ! 57 refl $
+        move ! (57 ∷ 58 ∷ []) $
         free1 ! $
-        forget ! 106 refl $
-        move ! (106 ∷ 107 ∷ []) $
+        forget ! 55 refl $
+        move ! (55 ∷ 56 ∷ []) $
         free1 ! $
-        forget ! 104 refl $
-        move ! (104 ∷ 105 ∷ []) $
+        forget ! 53 refl $
+        move ! (53 ∷ 54 ∷ []) $
         free1 ! $
-        forget ! 102 refl $
-        move ! (102 ∷ 103 ∷ []) $
+        forget ! 51 refl $
+        move ! (51 ∷ 52 ∷ []) $
         free1 ! $
-        forget ! 100 refl $
-        move ! (100 ∷ 101 ∷ []) $
+        forget ! 49 refl $
+        move ! (49 ∷ 50 ∷ []) $
         free1 ! $
-        forget ! 98 refl $
-        move ! (98 ∷ 99 ∷ []) $
+        forget ! 47 refl $
+        move ! (47 ∷ 48 ∷ []) $
         free1 ! $
-        forget ! 96 refl $
-        move ! (96 ∷ 97 ∷ []) $
+        forget ! 45 refl $
+        move ! (45 ∷ 46 ∷ []) $
         free1 ! $
-        forget ! 94 refl $
-        move ! (94 ∷ 95 ∷ []) $
+        forget ! 43 refl $
+        move ! (43 ∷ 44 ∷ []) $
         free1 ! $
-        forget ! 92 refl $
-        move ! (92 ∷ 93 ∷ []) $
+        forget ! 41 refl $
+        move ! (41 ∷ 42 ∷ []) $
         free1 ! $
-        forget ! 90 refl $
-        move ! (90 ∷ 91 ∷ []) $
-        free1 ! $
-        forget ! 88 refl $
-        move ! (88 ∷ 89 ∷ []) $
-        free1 ! $
-        forget ! 86 refl $
-        move ! (86 ∷ 87 ∷ []) $
-        free1 ! $
-        forget ! 84 refl $
-        move ! (84 ∷ 85 ∷ []) $
-        free1 ! $
-        forget ! 82 refl $
-        move ! (82 ∷ 83 ∷ []) $
-        free1 ! $
-        forget ! 80 refl $
-        move ! (80 ∷ 81 ∷ []) $
-        free1 ! $
-        forget ! 78 refl $
-        move ! (78 ∷ 79 ∷ []) $
-        free1 ! $
-        forget ! 76 refl $
-        move ! (76 ∷ 77 ∷ []) $
-        free1 ! $
-        forget ! 74 refl $
-        move ! (74 ∷ 75 ∷ []) $
-        free1 ! $
-        forget ! 72 refl $
-        move ! (72 ∷ 73 ∷ []) $
-        free1 ! $
-        forget ! 70 refl $
-        move ! (70 ∷ 71 ∷ []) $
-        free1 ! $
-        forget ! 68 refl $
-        move ! (68 ∷ 69 ∷ []) $
-        free1 ! $
-        forget ! 66 refl $
-        move ! (66 ∷ 67 ∷ []) $
-        free1 ! $
-        forget ! 64 refl $
-        move ! (64 ∷ 65 ∷ []) $
-        free1 ! $
-        forget ! 62 refl $
-        move ! (62 ∷ 63 ∷ []) $
-        free1 ! $
-        forget ! 60 refl $
-        move ! (60 ∷ 61 ∷ []) $
-        free1 ! $
-        forget ! 58 refl $
-        move ! (58 ∷ 59 ∷ []) $
-        free1 ! $
-        forget ! 56 refl $
-        move ! (56 ∷ 57 ∷ []) $
-        free1 ! $
-        forget ! 54 refl $
-        move ! (54 ∷ 55 ∷ []) $
-        free1 ! $
-        forget ! 52 refl $
-        move ! (52 ∷ 53 ∷ []) $
-        free1 ! $
-        forget ! 50 refl $
-        move ! (50 ∷ 51 ∷ []) $
-        free1 ! $
-        forget ! 48 refl $
-        move ! (48 ∷ 49 ∷ []) $
-        free1 ! $
-        forget ! 46 refl $
-        move ! (46 ∷ 47 ∷ []) $
-        free1 ! $
-        forget ! 44 refl $
-        move ! (44 ∷ 45 ∷ []) $
-        free1 ! $
-        forget ! 42 refl $
-        move ! (42 ∷ 43 ∷ []) $
-        free1 ! $
-        forget ! 40 refl $
-        move ! (40 ∷ 41 ∷ []) $
-        free1 ! $
-        forget ! 38 refl $
-        move ! (38 ∷ 39 ∷ []) $
+        forget ! 39 refl $
+        move ! (39 ∷ 40 ∷ []) $
         free1 ! $
         free0 ! $
-        keep ! (20 ∷ 19 ∷ 18 ∷ 17 ∷ 16 ∷ 15 ∷ 14 ∷ 13 ∷ 12 ∷ 11 ∷ 10 ∷ 9 ∷ 8 ∷ 7 ∷ 4 ∷ 6 ∷ 5 ∷ 37 ∷ 36 ∷ 35 ∷ 34 ∷ 33 ∷ 32 ∷ 31 ∷ 30 ∷ 29 ∷ 28 ∷ 27
-        ∷ 26 ∷ 25 ∷ 24 ∷ 21 ∷ 23 ∷ 22 ∷ []) $
+        keep ! (21 ∷ 20 ∷ 19 ∷ 18 ∷ 17 ∷ 16 ∷ 15 ∷ 14 ∷ 13 ∷ 12 ∷ 11 ∷ 10 ∷ 9 ∷ 8 ∷ 5 ∷ 7 ∷ 6 ∷ 38 ∷ 37 ∷ 36 ∷ 35 ∷ 34 ∷ 33 ∷ 32 ∷ 31 ∷ 30 ∷ 29 ∷ 28
+        ∷ 27 ∷ 26 ∷ 25 ∷ 22 ∷ 24 ∷ 23 ∷ []) $
         suffices ! _ (ends-at 𝓤 H A self·fn.ended stayed (self·fn.clauses 𝓤 H A at-mem run) W ((κs, qs, tt, a, at), tt) v1 r1 (
           tt,
           (
@@ -1035,18 +902,20 @@ module _ {M : Type 1} (𝓤 : URA M) (H : Heap 𝓤) (A : Atoms 𝓤) (W : Given
         fjoin ! $
         owned ! AnswerT.the-row (Is AnswerT.the-row) (EL.makes AnswerT.the-type AnswerL.the-plain 𝓤 H A) r1 _ is1 $ move ! (1 ∷ 0 ∷ []) $ done !
 
-    seg·3 : (l0 : ℕ) (l1 : ℕ) (l2 : ℕ) (l3 : ℕ) (l4 : ℕ) (l5 : ℕ) (l6 : ℕ) (l7 : ℕ) (l8 : ℕ) (l9 : ℕ) (l10 : ℕ) (l11 : ℕ) (l12 : ℕ) (l13 : ℕ)
+    seg·4 : (l0 : ℕ) (l1 : ℕ) (l2 : ℕ) (l3 : ℕ) (l4 : ℕ) (l5 : ℕ) (l6 : ℕ) (l7 : ℕ) (l8 : ℕ) (l9 : ℕ) (l10 : ℕ) (l11 : ℕ) (l12 : ℕ) (l13 : ℕ)
         (l14 : ℕ) (l15 : ℕ) (l16 : ℕ) (l17 : ℕ) (l18 : ℕ) (l19 : ℕ) (l20 : ℕ) (l21 : ℕ) (l22 : ℕ) (l23 : ℕ) (l24 : ℕ) (l25 : ℕ) (l26 : ℕ) (l27 : ℕ)
         (l28 : ℕ) (l29 : ℕ) (l30 : ℕ) (l31 : ℕ) (l32 : ℕ) (l33 : ℕ) (l34 : ℕ) (l35 : ℕ) (l36 : ℕ) (l37 : ℕ) (l38 : ℕ) (l39 : ℕ) (l40 : ℕ) (l41 : ℕ)
         (l42 : ℕ) (l43 : ℕ) (l44 : ℕ) (l45 : ℕ) (l46 : ℕ) (l47 : ℕ) (l48 : ℕ) (l49 : ℕ) (l50 : ℕ) (l51 : ℕ) (l52 : ℕ) (l53 : ℕ) (l54 : ℕ) (l55 : ℕ)
-        (l56 : ℕ) (l57 : ℕ) (is·kept : Is (Array u32 6144) (many ℕ 6144 0) ((manyVal 6144 (vint w32 0)) ∷ []))
+        (l56 : ℕ) (l57 : ℕ) (l58 : ℕ) (l59 : ℕ) (l60 : ℕ) (is·kept : Is (Array u32 6144) (many ℕ 6144 0) ((manyVal 6144 (vint w32 0)) ∷ []))
         (is·feet : Is (Array u64 4096) (many ℕ 4096 0) ((manyVal 4096 (vint w64 0)) ∷ []))
         (is·cells : Is (Array u32 65536) (many ℕ 65536 0) ((manyVal 65536 (vint w32 0)) ∷ []))
-        (is·ids : Is (Array u32 40960) (many ℕ 40960 0) ((manyVal 40960 (vint w32 0)) ∷ [])) (ν·1·17 : ℕ) (δ·1·17 : GName) (ν·1·18 : ℕ)
-        (δ·1·18 : GName) (ν·1·19 : ℕ) (δ·1·19 : GName) (ν·1·20 : ℕ) (δ·1·20 : GName) (v1 : Val) (r1 : Answer)
+        (is·ids : Is (Array u32 40960) (many ℕ 40960 0) ((manyVal 40960 (vint w32 0)) ∷ []))
+        (is·memo : Is (Array u32 4096) (many ℕ 4096 0) ((manyVal 4096 (vint w32 0)) ∷ [])) (ν·1·17 : ℕ) (δ·1·17 : GName) (ν·1·18 : ℕ) (δ·1·18 : GName)
+        (ν·1·19 : ℕ) (δ·1·19 : GName) (ν·1·20 : ℕ) (δ·1·20 : GName) (ν·1·21 : ℕ) (δ·1·21 : GName) (v1 : Val) (r1 : Answer)
         (ws1 : (Unit {0} × (Unit {0} × (Unit {0} × ((List ℕ) × ((List ℕ) × ((List ℕ) ×
         ((List ℕ) × ((List ℕ) × ((List ℕ) × ((List ℕ) × ((List ℕ) × ((List ℕ) ×
-        ((List ℕ) × ((List ℕ) × ((List ℕ) × ((List ℕ) × ((List Fact) × ((List ℕ) × ((List ℕ) × ((List ℕ) × ((List ℕ) × Unit {0}))))))))))))))))))))))
+        ((List ℕ) × ((List ℕ) × ((List ℕ) × ((List ℕ) × ((List Fact) × ((List ℕ) ×
+        ((List ℕ) × ((List ℕ) × ((List ℕ) × ((List ℕ) × Unit {0})))))))))))))))))))))))
         (e1 : Call theory goals proof (tablesIn (theoryLists sorts symbols inputs rules rulevars patterns) (working vars index words defs rows lists)
         missing facts) (tablesIn (theoryLists (ws1 .1 .1 .1 .0) (ws1 .1 .1 .1 .1 .0) (ws1 .1 .1 .1 .1 .1 .0) (ws1 .1 .1 .1 .1 .1 .1 .0)
         (ws1 .1 .1 .1 .1 .1 .1 .1 .0) (ws1 .1 .1 .1 .1 .1 .1 .1 .1 .0)) (working (ws1 .1 .1 .1 .1 .1 .1 .1 .1 .1 .0)
@@ -1070,8 +939,313 @@ module _ {M : Type 1} (𝓤 : URA M) (H : Heap 𝓤) (A : Atoms 𝓤) (W : Given
         (len·1·feet : length (ws1 .1 .1 .1 .1 .1 .1 .1 .1 .1 .1 .1 .1 .1 .1 .1 .1 .1 .1 .0) ≡ length (many ℕ 4096 0))
         (len·1·cells : length (ws1 .1 .1 .1 .1 .1 .1 .1 .1 .1 .1 .1 .1 .1 .1 .1 .1 .1 .1 .1 .0) ≡ length (many ℕ 65536 0))
         (len·1·ids : length (ws1 .1 .1 .1 .1 .1 .1 .1 .1 .1 .1 .1 .1 .1 .1 .1 .1 .1 .1 .1 .1 .0) ≡ length (many ℕ 40960 0))
+        (len·1·memo : length (ws1 .1 .1 .1 .1 .1 .1 .1 .1 .1 .1 .1 .1 .1 .1 .1 .1 .1 .1 .1 .1 .1 .0) ≡ length (many ℕ 4096 0))
+        (is1 : Is AnswerT.the-row r1 (v1 ∷ [])) (va·1·18 : Val) (va·1·19 : Val) (va·1·20 : Val) (va·1·21 : Val) (va·1·22 : Val) →
+        Sq W (‵ (fat fullShare (tyArray (tyInt w32) 4096) l22 0 va·1·22)
+        ∷ ‵ (Array u32 4096 .own (ws1 .1 .1 .1 .1 .1 .1 .1 .1 .1 .1 .1 .1 .1 .1 .1 .1 .1 .1 .1 .1 .1 .0) (va·1·22 ∷ []))
+        ∷ ‵ (fat fullShare (tyArray (tyInt w32) 40960) l21 0 va·1·21)
+        ∷ ‵ (Array u32 40960 .own (ws1 .1 .1 .1 .1 .1 .1 .1 .1 .1 .1 .1 .1 .1 .1 .1 .1 .1 .1 .1 .1 .0) (va·1·21 ∷ []))
+        ∷ ‵ (fat fullShare (tyArray (tyInt w32) 65536) l20 0 va·1·20)
+        ∷ ‵ (Array u32 65536 .own (ws1 .1 .1 .1 .1 .1 .1 .1 .1 .1 .1 .1 .1 .1 .1 .1 .1 .1 .1 .1 .0) (va·1·20 ∷ []))
+        ∷ ‵ (fat fullShare (tyArray (tyInt w64) 4096) l19 0 va·1·19)
+        ∷ ‵ (Array u64 4096 .own (ws1 .1 .1 .1 .1 .1 .1 .1 .1 .1 .1 .1 .1 .1 .1 .1 .1 .1 .1 .0) (va·1·19 ∷ []))
+        ∷ ‵ (fat fullShare (tyArray (tyInt w32) 6144) l18 0 va·1·18)
+        ∷ ‵ (Array u32 6144 .own (ws1 .1 .1 .1 .1 .1 .1 .1 .1 .1 .1 .1 .1 .1 .1 .1 .1 .1 .0) (va·1·18 ∷ []))
+        ∷ ‵ (flft κ·facts q·facts)
+        ∷ ‵ (flft κ·missing q·missing)
+        ∷ ‵ (flft κ·lists q·lists)
+        ∷ ‵ (flft κ·rows q·rows)
+        ∷ ‵ (flft κ·defs q·defs)
+        ∷ ‵ (flft κ·words q·words)
+        ∷ ‵ (flft κ·index q·index)
+        ∷ ‵ (flft κ·vars q·vars)
+        ∷ ‵ (flft κ·patterns q·patterns)
+        ∷ ‵ (flft κ·rulevars q·rulevars)
+        ∷ ‵ (flft κ·rules q·rules)
+        ∷ ‵ (flft κ·inputs q·inputs)
+        ∷ ‵ (flft κ·symbols q·symbols)
+        ∷ ‵ (flft κ·sorts q·sorts)
+        ∷ ‵ (flft κ·proof q·proof)
+        ∷ ‵ (flft κ·goals q·goals)
+        ∷ ‵ (flft κ·theory q·theory)
+        ∷ ‵ (finally FactT.the-row γ·facts (ws1 .1 .1 .1 .1 .1 .1 .1 .1 .1 .1 .1 .1 .1 .1 .1 .1 .0))
+        ∷ ‵ (finally u32 γ·missing (ws1 .1 .1 .1 .1 .1 .1 .1 .1 .1 .1 .1 .1 .1 .1 .1 .0))
+        ∷ ‵ (finally u32 γ·lists (ws1 .1 .1 .1 .1 .1 .1 .1 .1 .1 .1 .1 .1 .1 .1 .0))
+        ∷ ‵ (finally u32 γ·rows (ws1 .1 .1 .1 .1 .1 .1 .1 .1 .1 .1 .1 .1 .1 .0))
+        ∷ ‵ (finally u32 γ·defs (ws1 .1 .1 .1 .1 .1 .1 .1 .1 .1 .1 .1 .1 .0))
+        ∷ ‵ (finally u32 γ·words (ws1 .1 .1 .1 .1 .1 .1 .1 .1 .1 .1 .1 .0))
+        ∷ ‵ (finally u32 γ·index (ws1 .1 .1 .1 .1 .1 .1 .1 .1 .1 .1 .0))
+        ∷ ‵ (finally u32 γ·vars (ws1 .1 .1 .1 .1 .1 .1 .1 .1 .1 .0))
+        ∷ ‵ (finally u32 γ·patterns (ws1 .1 .1 .1 .1 .1 .1 .1 .1 .0))
+        ∷ ‵ (finally u32 γ·rulevars (ws1 .1 .1 .1 .1 .1 .1 .1 .0))
+        ∷ ‵ (finally u32 γ·rules (ws1 .1 .1 .1 .1 .1 .1 .0))
+        ∷ ‵ (finally u32 γ·inputs (ws1 .1 .1 .1 .1 .1 .0))
+        ∷ ‵ (finally u32 γ·symbols (ws1 .1 .1 .1 .1 .0))
+        ∷ ‵ (finally u32 γ·sorts (ws1 .1 .1 .1 .0))
+        ∷ ‵ (ShrSlice (named 2) κ·proof u8 .own (ref·proof γ·proof proof) (s·proof ∷ []))
+        ∷ ‵ (ShrSlice (named 1) κ·goals u8 .own (ref·goals γ·goals goals) (s·goals ∷ []))
+        ∷ ‵ (ShrSlice (named 0) κ·theory u8 .own (ref·theory γ·theory theory) (s·theory ∷ []))
+        ∷ ‵ (fat fullShare (sliceTy (tyRef erased mut (tyInt w32))) l60 0 (sliceVal (l22, 0) 4096))
+        ∷ ‵ (fdies (sliceTy (tyRef erased mut (tyInt w32))) l60)
+        ∷ ‵ (fat fullShare (tyRef erased mut (tyArray (tyInt w32) 4096)) l59 0 (vptr l22 0))
+        ∷ ‵ (fdies (tyRef erased mut (tyArray (tyInt w32) 4096)) l59)
+        ∷ ‵ (fat fullShare (sliceTy (tyRef erased mut (tyInt w32))) l58 0 (sliceVal (l21, 0) 40960))
+        ∷ ‵ (fdies (sliceTy (tyRef erased mut (tyInt w32))) l58)
+        ∷ ‵ (fat fullShare (tyRef erased mut (tyArray (tyInt w32) 40960)) l57 0 (vptr l21 0))
+        ∷ ‵ (fdies (tyRef erased mut (tyArray (tyInt w32) 40960)) l57)
+        ∷ ‵ (fat fullShare (sliceTy (tyRef erased mut (tyInt w32))) l56 0 (sliceVal (l20, 0) 65536))
+        ∷ ‵ (fdies (sliceTy (tyRef erased mut (tyInt w32))) l56)
+        ∷ ‵ (fat fullShare (tyRef erased mut (tyArray (tyInt w32) 65536)) l55 0 (vptr l20 0))
+        ∷ ‵ (fdies (tyRef erased mut (tyArray (tyInt w32) 65536)) l55)
+        ∷ ‵ (fat fullShare (sliceTy (tyRef erased mut (tyInt w64))) l54 0 (sliceVal (l19, 0) 4096))
+        ∷ ‵ (fdies (sliceTy (tyRef erased mut (tyInt w64))) l54)
+        ∷ ‵ (fat fullShare (tyRef erased mut (tyArray (tyInt w64) 4096)) l53 0 (vptr l19 0))
+        ∷ ‵ (fdies (tyRef erased mut (tyArray (tyInt w64) 4096)) l53)
+        ∷ ‵ (fat fullShare (sliceTy (tyRef erased mut (tyInt w32))) l52 0 (sliceVal (l18, 0) 6144))
+        ∷ ‵ (fdies (sliceTy (tyRef erased mut (tyInt w32))) l52)
+        ∷ ‵ (fat fullShare (tyRef erased mut (tyArray (tyInt w32) 6144)) l51 0 (vptr l18 0))
+        ∷ ‵ (fdies (tyRef erased mut (tyArray (tyInt w32) 6144)) l51)
+        ∷ ‵ (fat fullShare (sliceTy (tyRef erased mut (pointee (FactT.the-row .written)))) l50 0 s·facts)
+        ∷ ‵ (fdies (sliceTy (tyRef erased mut (pointee (FactT.the-row .written)))) l50)
+        ∷ ‵ (fat fullShare (tyRef erased mut (pointee (FactT.the-row .written))) l49 0 (vptr b·facts o·facts))
+        ∷ ‵ (fdies (tyRef erased mut (pointee (FactT.the-row .written))) l49)
+        ∷ ‵ (fat fullShare (sliceTy (tyRef erased mut (tyInt w32))) l48 0 s·missing)
+        ∷ ‵ (fdies (sliceTy (tyRef erased mut (tyInt w32))) l48)
+        ∷ ‵ (fat fullShare (tyRef erased mut (tyInt w32)) l47 0 (vptr b·missing o·missing))
+        ∷ ‵ (fdies (tyRef erased mut (tyInt w32)) l47)
+        ∷ ‵ (fat fullShare (sliceTy (tyRef erased mut (tyInt w32))) l46 0 s·lists)
+        ∷ ‵ (fdies (sliceTy (tyRef erased mut (tyInt w32))) l46)
+        ∷ ‵ (fat fullShare (tyRef erased mut (tyInt w32)) l45 0 (vptr b·lists o·lists))
+        ∷ ‵ (fdies (tyRef erased mut (tyInt w32)) l45)
+        ∷ ‵ (fat fullShare (sliceTy (tyRef erased mut (tyInt w32))) l44 0 s·rows)
+        ∷ ‵ (fdies (sliceTy (tyRef erased mut (tyInt w32))) l44)
+        ∷ ‵ (fat fullShare (tyRef erased mut (tyInt w32)) l43 0 (vptr b·rows o·rows))
+        ∷ ‵ (fdies (tyRef erased mut (tyInt w32)) l43)
+        ∷ ‵ (fat fullShare (sliceTy (tyRef erased mut (tyInt w32))) l42 0 s·defs)
+        ∷ ‵ (fdies (sliceTy (tyRef erased mut (tyInt w32))) l42)
+        ∷ ‵ (fat fullShare (tyRef erased mut (tyInt w32)) l41 0 (vptr b·defs o·defs))
+        ∷ ‵ (fdies (tyRef erased mut (tyInt w32)) l41)
+        ∷ ‵ (fat fullShare (sliceTy (tyRef erased mut (tyInt w32))) l40 0 s·words)
+        ∷ ‵ (fdies (sliceTy (tyRef erased mut (tyInt w32))) l40)
+        ∷ ‵ (fat fullShare (tyRef erased mut (tyInt w32)) l39 0 (vptr b·words o·words))
+        ∷ ‵ (fdies (tyRef erased mut (tyInt w32)) l39)
+        ∷ ‵ (fat fullShare (sliceTy (tyRef erased mut (tyInt w32))) l38 0 s·index)
+        ∷ ‵ (fdies (sliceTy (tyRef erased mut (tyInt w32))) l38)
+        ∷ ‵ (fat fullShare (tyRef erased mut (tyInt w32)) l37 0 (vptr b·index o·index))
+        ∷ ‵ (fdies (tyRef erased mut (tyInt w32)) l37)
+        ∷ ‵ (fat fullShare (sliceTy (tyRef erased mut (tyInt w32))) l36 0 s·vars)
+        ∷ ‵ (fdies (sliceTy (tyRef erased mut (tyInt w32))) l36)
+        ∷ ‵ (fat fullShare (tyRef erased mut (tyInt w32)) l35 0 (vptr b·vars o·vars))
+        ∷ ‵ (fdies (tyRef erased mut (tyInt w32)) l35)
+        ∷ ‵ (fat fullShare (sliceTy (tyRef erased mut (tyInt w32))) l34 0 s·patterns)
+        ∷ ‵ (fdies (sliceTy (tyRef erased mut (tyInt w32))) l34)
+        ∷ ‵ (fat fullShare (tyRef erased mut (tyInt w32)) l33 0 (vptr b·patterns o·patterns))
+        ∷ ‵ (fdies (tyRef erased mut (tyInt w32)) l33)
+        ∷ ‵ (fat fullShare (sliceTy (tyRef erased mut (tyInt w32))) l32 0 s·rulevars)
+        ∷ ‵ (fdies (sliceTy (tyRef erased mut (tyInt w32))) l32)
+        ∷ ‵ (fat fullShare (tyRef erased mut (tyInt w32)) l31 0 (vptr b·rulevars o·rulevars))
+        ∷ ‵ (fdies (tyRef erased mut (tyInt w32)) l31)
+        ∷ ‵ (fat fullShare (sliceTy (tyRef erased mut (tyInt w32))) l30 0 s·rules)
+        ∷ ‵ (fdies (sliceTy (tyRef erased mut (tyInt w32))) l30)
+        ∷ ‵ (fat fullShare (tyRef erased mut (tyInt w32)) l29 0 (vptr b·rules o·rules))
+        ∷ ‵ (fdies (tyRef erased mut (tyInt w32)) l29)
+        ∷ ‵ (fat fullShare (sliceTy (tyRef erased mut (tyInt w32))) l28 0 s·inputs)
+        ∷ ‵ (fdies (sliceTy (tyRef erased mut (tyInt w32))) l28)
+        ∷ ‵ (fat fullShare (tyRef erased mut (tyInt w32)) l27 0 (vptr b·inputs o·inputs))
+        ∷ ‵ (fdies (tyRef erased mut (tyInt w32)) l27)
+        ∷ ‵ (fat fullShare (sliceTy (tyRef erased mut (tyInt w32))) l26 0 s·symbols)
+        ∷ ‵ (fdies (sliceTy (tyRef erased mut (tyInt w32))) l26)
+        ∷ ‵ (fat fullShare (tyRef erased mut (tyInt w32)) l25 0 (vptr b·symbols o·symbols))
+        ∷ ‵ (fdies (tyRef erased mut (tyInt w32)) l25)
+        ∷ ‵ (fat fullShare (sliceTy (tyRef erased mut (tyInt w32))) l24 0 s·sorts)
+        ∷ ‵ (fdies (sliceTy (tyRef erased mut (tyInt w32))) l24)
+        ∷ ‵ (fat fullShare (tyRef erased mut (tyInt w32)) l23 0 (vptr b·sorts o·sorts))
+        ∷ ‵ (fdies (tyRef erased mut (tyInt w32)) l23)
+        ∷ ‵ (fdies (tyArray (tyInt w32) 4096) l22)
+        ∷ ‵ (fdies (tyArray (tyInt w32) 40960) l21)
+        ∷ ‵ (fdies (tyArray (tyInt w32) 65536) l20)
+        ∷ ‵ (fdies (tyArray (tyInt w64) 4096) l19)
+        ∷ ‵ (fdies (tyArray (tyInt w32) 6144) l18)
+        ∷ ‵ (fat fullShare (sliceTy (tyRef (named 16) mut (tyInt w32))) l17 0 s·missing)
+        ∷ ‵ (fdies (sliceTy (tyRef (named 16) mut (tyInt w32))) l17)
+        ∷ ‵ (fat fullShare (sliceTy (tyRef (named 15) mut (tyInt w32))) l16 0 s·lists)
+        ∷ ‵ (fdies (sliceTy (tyRef (named 15) mut (tyInt w32))) l16)
+        ∷ ‵ (fat fullShare (sliceTy (tyRef (named 14) mut (pointee (FactT.the-row .written)))) l15 0 s·facts)
+        ∷ ‵ (fdies (sliceTy (tyRef (named 14) mut (pointee (FactT.the-row .written)))) l15)
+        ∷ ‵ (fat fullShare (sliceTy (tyRef (named 13) mut (tyInt w32))) l14 0 s·rows)
+        ∷ ‵ (fdies (sliceTy (tyRef (named 13) mut (tyInt w32))) l14)
+        ∷ ‵ (fat fullShare (sliceTy (tyRef (named 12) mut (tyInt w32))) l13 0 s·defs)
+        ∷ ‵ (fdies (sliceTy (tyRef (named 12) mut (tyInt w32))) l13) ∷ [])
+        (frees (((sliceTy (tyRef (named 12) mut (tyInt w32))), l13) ∷ ((sliceTy (tyRef (named 13) mut (tyInt w32))), l14)
+        ∷ ((sliceTy (tyRef (named 14) mut (pointee (FactT.the-row .written)))), l15) ∷ ((sliceTy (tyRef (named 15) mut (tyInt w32))), l16)
+        ∷ ((sliceTy (tyRef (named 16) mut (tyInt w32))), l17) ∷ ((tyArray (tyInt w32) 6144), l18) ∷ ((tyArray (tyInt w64) 4096), l19)
+        ∷ ((tyArray (tyInt w32) 65536), l20) ∷ ((tyArray (tyInt w32) 40960), l21) ∷ ((tyArray (tyInt w32) 4096), l22)
+        ∷ ((tyRef erased mut (tyInt w32)), l23) ∷ ((sliceTy (tyRef erased mut (tyInt w32))), l24) ∷ ((tyRef erased mut (tyInt w32)), l25)
+        ∷ ((sliceTy (tyRef erased mut (tyInt w32))), l26) ∷ ((tyRef erased mut (tyInt w32)), l27) ∷ ((sliceTy (tyRef erased mut (tyInt w32))), l28)
+        ∷ ((tyRef erased mut (tyInt w32)), l29) ∷ ((sliceTy (tyRef erased mut (tyInt w32))), l30) ∷ ((tyRef erased mut (tyInt w32)), l31)
+        ∷ ((sliceTy (tyRef erased mut (tyInt w32))), l32) ∷ ((tyRef erased mut (tyInt w32)), l33) ∷ ((sliceTy (tyRef erased mut (tyInt w32))), l34)
+        ∷ ((tyRef erased mut (tyInt w32)), l35) ∷ ((sliceTy (tyRef erased mut (tyInt w32))), l36) ∷ ((tyRef erased mut (tyInt w32)), l37)
+        ∷ ((sliceTy (tyRef erased mut (tyInt w32))), l38) ∷ ((tyRef erased mut (tyInt w32)), l39) ∷ ((sliceTy (tyRef erased mut (tyInt w32))), l40)
+        ∷ ((tyRef erased mut (tyInt w32)), l41) ∷ ((sliceTy (tyRef erased mut (tyInt w32))), l42) ∷ ((tyRef erased mut (tyInt w32)), l43)
+        ∷ ((sliceTy (tyRef erased mut (tyInt w32))), l44) ∷ ((tyRef erased mut (tyInt w32)), l45) ∷ ((sliceTy (tyRef erased mut (tyInt w32))), l46)
+        ∷ ((tyRef erased mut (tyInt w32)), l47) ∷ ((sliceTy (tyRef erased mut (tyInt w32))), l48)
+        ∷ ((tyRef erased mut (pointee (FactT.the-row .written))), l49) ∷ ((sliceTy (tyRef erased mut (pointee (FactT.the-row .written)))), l50)
+        ∷ ((tyRef erased mut (tyArray (tyInt w32) 6144)), l51) ∷ ((sliceTy (tyRef erased mut (tyInt w32))), l52)
+        ∷ ((tyRef erased mut (tyArray (tyInt w64) 4096)), l53) ∷ ((sliceTy (tyRef erased mut (tyInt w64))), l54)
+        ∷ ((tyRef erased mut (tyArray (tyInt w32) 65536)), l55) ∷ ((sliceTy (tyRef erased mut (tyInt w32))), l56)
+        ∷ ((tyRef erased mut (tyArray (tyInt w32) 40960)), l57) ∷ ((sliceTy (tyRef erased mut (tyInt w32))), l58)
+        ∷ ((tyRef erased mut (tyArray (tyInt w32) 4096)), l59) ∷ ((sliceTy (tyRef erased mut (tyInt w32))), l60) ∷ []) (prop (Post v1)))
+    seg·4 l0 l1 l2 l3 l4 l5 l6 l7 l8 l9 l10 l11 l12 l13 l14 l15 l16 l17 l18 l19 l20 l21 l22 l23 l24 l25 l26 l27 l28 l29 l30 l31 l32 l33 l34 l35 l36
+        l37 l38 l39 l40 l41 l42 l43 l44 l45 l46 l47 l48 l49 l50 l51 l52 l53 l54 l55 l56 l57 l58 l59 l60 is·kept is·feet is·cells is·ids is·memo ν·1·17
+        δ·1·17 ν·1·18 δ·1·18 ν·1·19 δ·1·19 ν·1·20 δ·1·20 ν·1·21 δ·1·21 v1 r1 ws1 e1 len·1·sorts len·1·symbols len·1·inputs len·1·rules
+        len·1·rulevars len·1·patterns len·1·vars len·1·index len·1·words len·1·defs len·1·rows len·1·lists len·1·missing len·1·facts
+        len·1·kept len·1·feet len·1·cells len·1·ids len·1·memo is1 va·1·18 va·1·19 va·1·20 va·1·21 va·1·22 =
+        forget ! 133 refl $
+        move ! (133 ∷ 134 ∷ []) $
+        free1 ! $
+        forget ! 131 refl $
+        move ! (131 ∷ 132 ∷ []) $
+        free1 ! $
+        forget ! 129 refl $
+        move ! (129 ∷ 130 ∷ []) $
+        free1 ! $
+        forget ! 127 refl $
+        move ! (127 ∷ 128 ∷ []) $
+        free1 ! $
+        forget ! 125 refl $
+        move ! (125 ∷ 126 ∷ []) $
+        free1 ! $
+        forget ! 8 refl $
+        move ! (8 ∷ 124 ∷ []) $
+        free1 ! $
+        forget ! 6 refl $
+        move ! (6 ∷ 122 ∷ []) $
+        free1 ! $
+        forget ! 4 refl $
+        move ! (4 ∷ 120 ∷ []) $
+        free1 ! $
+        forget ! 2 refl $
+        move ! (2 ∷ 118 ∷ []) $
+        free1 ! $
+        forget ! 0 refl $
+        move ! (0 ∷ 116 ∷ []) $
+        free1 ! $
+        forget ! 113 refl $
+        move ! (113 ∷ 114 ∷ []) $
+        free1 ! $
+        forget ! 111 refl $
+        move ! (111 ∷ 112 ∷ []) $
+        free1 ! $
+        forget ! 109 refl $
+        move ! (109 ∷ 110 ∷ []) $
+        free1 ! $
+        forget ! 107 refl $
+        move ! (107 ∷ 108 ∷ []) $
+        free1 ! $
+        forget ! 105 refl $
+        move ! (105 ∷ 106 ∷ []) $
+        free1 ! $
+        forget ! 103 refl $
+        move ! (103 ∷ 104 ∷ []) $
+        free1 ! $
+        forget ! 101 refl $
+        move ! (101 ∷ 102 ∷ []) $
+        free1 ! $
+        forget ! 99 refl $
+        move ! (99 ∷ 100 ∷ []) $
+        free1 ! $
+        forget ! 97 refl $
+        move ! (97 ∷ 98 ∷ []) $
+        free1 ! $
+        forget ! 95 refl $
+        move ! (95 ∷ 96 ∷ []) $
+        free1 ! $
+        forget ! 93 refl $
+        move ! (93 ∷ 94 ∷ []) $
+        free1 ! $
+        forget ! 91 refl $
+        move ! (91 ∷ 92 ∷ []) $
+        free1 ! $
+        forget ! 89 refl $
+        move ! (89 ∷ 90 ∷ []) $
+        free1 ! $
+        forget ! 87 refl $
+        move ! (87 ∷ 88 ∷ []) $
+        free1 ! $
+        forget ! 85 refl $
+        move ! (85 ∷ 86 ∷ []) $
+        free1 ! $
+        forget ! 83 refl $
+        move ! (83 ∷ 84 ∷ []) $
+        free1 ! $
+        forget ! 81 refl $
+        move ! (81 ∷ 82 ∷ []) $
+        free1 ! $
+        forget ! 79 refl $
+        move ! (79 ∷ 80 ∷ []) $
+        free1 ! $
+        forget ! 77 refl $
+        move ! (77 ∷ 78 ∷ []) $
+        free1 ! $
+        forget ! 75 refl $
+        move ! (75 ∷ 76 ∷ []) $
+        free1 ! $
+        forget ! 73 refl $
+        move ! (73 ∷ 74 ∷ []) $
+        free1 ! $
+        forget ! 71 refl $
+        move ! (71 ∷ 72 ∷ []) $
+        free1 ! $
+        forget ! 69 refl $
+        move ! (69 ∷ 70 ∷ []) $
+        free1 ! $
+        seg·5 l0 l1 l2 l3 l4 l5 l6 l7 l8 l9 l10 l11 l12 l13 l14 l15 l16 l17 l18 l19 l20 l21 l22 l23 l24 l25 l26 l27 l28 l29 l30 l31 l32 l33 l34 l35
+        l36 l37 l38 l39 l40 l41 l42 l43 l44 l45 l46 l47 l48 l49 l50 l51 l52 l53 l54 l55 l56 l57 l58 l59 l60 is·kept is·feet is·cells is·ids is·memo
+        ν·1·17 δ·1·17 ν·1·18 δ·1·18 ν·1·19 δ·1·19 ν·1·20 δ·1·20 ν·1·21 δ·1·21 v1 r1 ws1 e1 len·1·sorts len·1·symbols len·1·inputs len·1·rules
+        len·1·rulevars len·1·patterns len·1·vars len·1·index len·1·words len·1·defs len·1·rows len·1·lists len·1·missing len·1·facts len·1·kept
+        len·1·feet len·1·cells len·1·ids len·1·memo is1 va·1·18 va·1·19 va·1·20 va·1·21 va·1·22
+
+    seg·3 : (l0 : ℕ) (l1 : ℕ) (l2 : ℕ) (l3 : ℕ) (l4 : ℕ) (l5 : ℕ) (l6 : ℕ) (l7 : ℕ) (l8 : ℕ) (l9 : ℕ) (l10 : ℕ) (l11 : ℕ) (l12 : ℕ) (l13 : ℕ)
+        (l14 : ℕ) (l15 : ℕ) (l16 : ℕ) (l17 : ℕ) (l18 : ℕ) (l19 : ℕ) (l20 : ℕ) (l21 : ℕ) (l22 : ℕ) (l23 : ℕ) (l24 : ℕ) (l25 : ℕ) (l26 : ℕ) (l27 : ℕ)
+        (l28 : ℕ) (l29 : ℕ) (l30 : ℕ) (l31 : ℕ) (l32 : ℕ) (l33 : ℕ) (l34 : ℕ) (l35 : ℕ) (l36 : ℕ) (l37 : ℕ) (l38 : ℕ) (l39 : ℕ) (l40 : ℕ) (l41 : ℕ)
+        (l42 : ℕ) (l43 : ℕ) (l44 : ℕ) (l45 : ℕ) (l46 : ℕ) (l47 : ℕ) (l48 : ℕ) (l49 : ℕ) (l50 : ℕ) (l51 : ℕ) (l52 : ℕ) (l53 : ℕ) (l54 : ℕ) (l55 : ℕ)
+        (l56 : ℕ) (l57 : ℕ) (l58 : ℕ) (l59 : ℕ) (l60 : ℕ) (is·kept : Is (Array u32 6144) (many ℕ 6144 0) ((manyVal 6144 (vint w32 0)) ∷ []))
+        (is·feet : Is (Array u64 4096) (many ℕ 4096 0) ((manyVal 4096 (vint w64 0)) ∷ []))
+        (is·cells : Is (Array u32 65536) (many ℕ 65536 0) ((manyVal 65536 (vint w32 0)) ∷ []))
+        (is·ids : Is (Array u32 40960) (many ℕ 40960 0) ((manyVal 40960 (vint w32 0)) ∷ []))
+        (is·memo : Is (Array u32 4096) (many ℕ 4096 0) ((manyVal 4096 (vint w32 0)) ∷ [])) (ν·1·17 : ℕ) (δ·1·17 : GName) (ν·1·18 : ℕ) (δ·1·18 : GName)
+        (ν·1·19 : ℕ) (δ·1·19 : GName) (ν·1·20 : ℕ) (δ·1·20 : GName) (ν·1·21 : ℕ) (δ·1·21 : GName) (v1 : Val) (r1 : Answer)
+        (ws1 : (Unit {0} × (Unit {0} × (Unit {0} × ((List ℕ) × ((List ℕ) × ((List ℕ) ×
+        ((List ℕ) × ((List ℕ) × ((List ℕ) × ((List ℕ) × ((List ℕ) × ((List ℕ) ×
+        ((List ℕ) × ((List ℕ) × ((List ℕ) × ((List ℕ) × ((List Fact) × ((List ℕ) ×
+        ((List ℕ) × ((List ℕ) × ((List ℕ) × ((List ℕ) × Unit {0})))))))))))))))))))))))
+        (e1 : Call theory goals proof (tablesIn (theoryLists sorts symbols inputs rules rulevars patterns) (working vars index words defs rows lists)
+        missing facts) (tablesIn (theoryLists (ws1 .1 .1 .1 .0) (ws1 .1 .1 .1 .1 .0) (ws1 .1 .1 .1 .1 .1 .0) (ws1 .1 .1 .1 .1 .1 .1 .0)
+        (ws1 .1 .1 .1 .1 .1 .1 .1 .0) (ws1 .1 .1 .1 .1 .1 .1 .1 .1 .0)) (working (ws1 .1 .1 .1 .1 .1 .1 .1 .1 .1 .0)
+        (ws1 .1 .1 .1 .1 .1 .1 .1 .1 .1 .1 .0) (ws1 .1 .1 .1 .1 .1 .1 .1 .1 .1 .1 .1 .0) (ws1 .1 .1 .1 .1 .1 .1 .1 .1 .1 .1 .1 .1 .0)
+        (ws1 .1 .1 .1 .1 .1 .1 .1 .1 .1 .1 .1 .1 .1 .0) (ws1 .1 .1 .1 .1 .1 .1 .1 .1 .1 .1 .1 .1 .1 .1 .0))
+        (ws1 .1 .1 .1 .1 .1 .1 .1 .1 .1 .1 .1 .1 .1 .1 .1 .0) (ws1 .1 .1 .1 .1 .1 .1 .1 .1 .1 .1 .1 .1 .1 .1 .1 .1 .0)) (answerOf r1) ×
+        (behind FACTS (ws1 .1 .1 .1 .1 .1 .1 .1 .1 .1 .1 .1 .1 .1 .1 .1 .1 .0) ≡ behind FACTS facts))
+        (len·1·sorts : length (ws1 .1 .1 .1 .0) ≡ length sorts) (len·1·symbols : length (ws1 .1 .1 .1 .1 .0) ≡ length symbols)
+        (len·1·inputs : length (ws1 .1 .1 .1 .1 .1 .0) ≡ length inputs) (len·1·rules : length (ws1 .1 .1 .1 .1 .1 .1 .0) ≡ length rules)
+        (len·1·rulevars : length (ws1 .1 .1 .1 .1 .1 .1 .1 .0) ≡ length rulevars)
+        (len·1·patterns : length (ws1 .1 .1 .1 .1 .1 .1 .1 .1 .0) ≡ length patterns)
+        (len·1·vars : length (ws1 .1 .1 .1 .1 .1 .1 .1 .1 .1 .0) ≡ length vars)
+        (len·1·index : length (ws1 .1 .1 .1 .1 .1 .1 .1 .1 .1 .1 .0) ≡ length index)
+        (len·1·words : length (ws1 .1 .1 .1 .1 .1 .1 .1 .1 .1 .1 .1 .0) ≡ length words)
+        (len·1·defs : length (ws1 .1 .1 .1 .1 .1 .1 .1 .1 .1 .1 .1 .1 .0) ≡ length defs)
+        (len·1·rows : length (ws1 .1 .1 .1 .1 .1 .1 .1 .1 .1 .1 .1 .1 .1 .0) ≡ length rows)
+        (len·1·lists : length (ws1 .1 .1 .1 .1 .1 .1 .1 .1 .1 .1 .1 .1 .1 .1 .0) ≡ length lists)
+        (len·1·missing : length (ws1 .1 .1 .1 .1 .1 .1 .1 .1 .1 .1 .1 .1 .1 .1 .1 .0) ≡ length missing)
+        (len·1·facts : length (ws1 .1 .1 .1 .1 .1 .1 .1 .1 .1 .1 .1 .1 .1 .1 .1 .1 .0) ≡ length facts)
+        (len·1·kept : length (ws1 .1 .1 .1 .1 .1 .1 .1 .1 .1 .1 .1 .1 .1 .1 .1 .1 .1 .0) ≡ length (many ℕ 6144 0))
+        (len·1·feet : length (ws1 .1 .1 .1 .1 .1 .1 .1 .1 .1 .1 .1 .1 .1 .1 .1 .1 .1 .1 .0) ≡ length (many ℕ 4096 0))
+        (len·1·cells : length (ws1 .1 .1 .1 .1 .1 .1 .1 .1 .1 .1 .1 .1 .1 .1 .1 .1 .1 .1 .1 .0) ≡ length (many ℕ 65536 0))
+        (len·1·ids : length (ws1 .1 .1 .1 .1 .1 .1 .1 .1 .1 .1 .1 .1 .1 .1 .1 .1 .1 .1 .1 .1 .0) ≡ length (many ℕ 40960 0))
+        (len·1·memo : length (ws1 .1 .1 .1 .1 .1 .1 .1 .1 .1 .1 .1 .1 .1 .1 .1 .1 .1 .1 .1 .1 .1 .0) ≡ length (many ℕ 4096 0))
         (is1 : Is AnswerT.the-row r1 (v1 ∷ [])) →
-        Sq W (‵ (flft (ν·1·20 ∷ []) fullShare)
+        Sq W (‵ (flft (ν·1·21 ∷ []) fullShare)
+        ∷ ‵ (flft (ν·1·20 ∷ []) fullShare)
         ∷ ‵ (flft (ν·1·19 ∷ []) fullShare)
         ∷ ‵ (flft (ν·1·18 ∷ []) fullShare)
         ∷ ‵ (flft (ν·1·17 ∷ []) fullShare)
@@ -1092,6 +1266,7 @@ module _ {M : Type 1} (𝓤 : URA M) (H : Heap 𝓤) (A : Atoms 𝓤) (W : Given
         ∷ ‵ (flft κ·proof q·proof)
         ∷ ‵ (flft κ·goals q·goals)
         ∷ ‵ (flft κ·theory q·theory)
+        ∷ ‵ (finally u32 δ·1·21 (ws1 .1 .1 .1 .1 .1 .1 .1 .1 .1 .1 .1 .1 .1 .1 .1 .1 .1 .1 .1 .1 .1 .0))
         ∷ ‵ (finally u32 δ·1·20 (ws1 .1 .1 .1 .1 .1 .1 .1 .1 .1 .1 .1 .1 .1 .1 .1 .1 .1 .1 .1 .1 .0))
         ∷ ‵ (finally u32 δ·1·19 (ws1 .1 .1 .1 .1 .1 .1 .1 .1 .1 .1 .1 .1 .1 .1 .1 .1 .1 .1 .1 .0))
         ∷ ‵ (finally u64 δ·1·18 (ws1 .1 .1 .1 .1 .1 .1 .1 .1 .1 .1 .1 .1 .1 .1 .1 .1 .1 .1 .0))
@@ -1110,6 +1285,7 @@ module _ {M : Type 1} (𝓤 : URA M) (H : Heap 𝓤) (A : Atoms 𝓤) (W : Given
         ∷ ‵ (finally u32 γ·inputs (ws1 .1 .1 .1 .1 .1 .0))
         ∷ ‵ (finally u32 γ·symbols (ws1 .1 .1 .1 .1 .0))
         ∷ ‵ (finally u32 γ·sorts (ws1 .1 .1 .1 .0))
+        ∷ ‵ (flent (ν·1·21 ∷ []) (Held u32 4096 l22 0 δ·1·21))
         ∷ ‵ (flent (ν·1·20 ∷ []) (Held u32 40960 l21 0 δ·1·20))
         ∷ ‵ (flent (ν·1·19 ∷ []) (Held u32 65536 l20 0 δ·1·19))
         ∷ ‵ (flent (ν·1·18 ∷ []) (Held u64 4096 l19 0 δ·1·18))
@@ -1117,78 +1293,83 @@ module _ {M : Type 1} (𝓤 : URA M) (H : Heap 𝓤) (A : Atoms 𝓤) (W : Given
         ∷ ‵ (ShrSlice (named 2) κ·proof u8 .own (ref·proof γ·proof proof) (s·proof ∷ []))
         ∷ ‵ (ShrSlice (named 1) κ·goals u8 .own (ref·goals γ·goals goals) (s·goals ∷ []))
         ∷ ‵ (ShrSlice (named 0) κ·theory u8 .own (ref·theory γ·theory theory) (s·theory ∷ []))
-        ∷ ‵ (fat fullShare (sliceTy (tyRef erased mut (tyInt w32))) l57 0 (sliceVal (l21, 0) 40960))
-        ∷ ‵ (fdies (sliceTy (tyRef erased mut (tyInt w32))) l57)
-        ∷ ‵ (fat fullShare (tyRef erased mut (tyArray (tyInt w32) 40960)) l56 0 (vptr l21 0))
-        ∷ ‵ (fdies (tyRef erased mut (tyArray (tyInt w32) 40960)) l56)
-        ∷ ‵ (fat fullShare (sliceTy (tyRef erased mut (tyInt w32))) l55 0 (sliceVal (l20, 0) 65536))
-        ∷ ‵ (fdies (sliceTy (tyRef erased mut (tyInt w32))) l55)
-        ∷ ‵ (fat fullShare (tyRef erased mut (tyArray (tyInt w32) 65536)) l54 0 (vptr l20 0))
-        ∷ ‵ (fdies (tyRef erased mut (tyArray (tyInt w32) 65536)) l54)
-        ∷ ‵ (fat fullShare (sliceTy (tyRef erased mut (tyInt w64))) l53 0 (sliceVal (l19, 0) 4096))
-        ∷ ‵ (fdies (sliceTy (tyRef erased mut (tyInt w64))) l53)
-        ∷ ‵ (fat fullShare (tyRef erased mut (tyArray (tyInt w64) 4096)) l52 0 (vptr l19 0))
-        ∷ ‵ (fdies (tyRef erased mut (tyArray (tyInt w64) 4096)) l52)
-        ∷ ‵ (fat fullShare (sliceTy (tyRef erased mut (tyInt w32))) l51 0 (sliceVal (l18, 0) 6144))
-        ∷ ‵ (fdies (sliceTy (tyRef erased mut (tyInt w32))) l51)
-        ∷ ‵ (fat fullShare (tyRef erased mut (tyArray (tyInt w32) 6144)) l50 0 (vptr l18 0))
-        ∷ ‵ (fdies (tyRef erased mut (tyArray (tyInt w32) 6144)) l50)
-        ∷ ‵ (fat fullShare (sliceTy (tyRef erased mut (pointee (FactT.the-row .written)))) l49 0 s·facts)
-        ∷ ‵ (fdies (sliceTy (tyRef erased mut (pointee (FactT.the-row .written)))) l49)
-        ∷ ‵ (fat fullShare (tyRef erased mut (pointee (FactT.the-row .written))) l48 0 (vptr b·facts o·facts))
-        ∷ ‵ (fdies (tyRef erased mut (pointee (FactT.the-row .written))) l48)
-        ∷ ‵ (fat fullShare (sliceTy (tyRef erased mut (tyInt w32))) l47 0 s·missing)
-        ∷ ‵ (fdies (sliceTy (tyRef erased mut (tyInt w32))) l47)
-        ∷ ‵ (fat fullShare (tyRef erased mut (tyInt w32)) l46 0 (vptr b·missing o·missing))
-        ∷ ‵ (fdies (tyRef erased mut (tyInt w32)) l46)
-        ∷ ‵ (fat fullShare (sliceTy (tyRef erased mut (tyInt w32))) l45 0 s·lists)
-        ∷ ‵ (fdies (sliceTy (tyRef erased mut (tyInt w32))) l45)
-        ∷ ‵ (fat fullShare (tyRef erased mut (tyInt w32)) l44 0 (vptr b·lists o·lists))
-        ∷ ‵ (fdies (tyRef erased mut (tyInt w32)) l44)
-        ∷ ‵ (fat fullShare (sliceTy (tyRef erased mut (tyInt w32))) l43 0 s·rows)
-        ∷ ‵ (fdies (sliceTy (tyRef erased mut (tyInt w32))) l43)
-        ∷ ‵ (fat fullShare (tyRef erased mut (tyInt w32)) l42 0 (vptr b·rows o·rows))
-        ∷ ‵ (fdies (tyRef erased mut (tyInt w32)) l42)
-        ∷ ‵ (fat fullShare (sliceTy (tyRef erased mut (tyInt w32))) l41 0 s·defs)
-        ∷ ‵ (fdies (sliceTy (tyRef erased mut (tyInt w32))) l41)
-        ∷ ‵ (fat fullShare (tyRef erased mut (tyInt w32)) l40 0 (vptr b·defs o·defs))
-        ∷ ‵ (fdies (tyRef erased mut (tyInt w32)) l40)
-        ∷ ‵ (fat fullShare (sliceTy (tyRef erased mut (tyInt w32))) l39 0 s·words)
-        ∷ ‵ (fdies (sliceTy (tyRef erased mut (tyInt w32))) l39)
-        ∷ ‵ (fat fullShare (tyRef erased mut (tyInt w32)) l38 0 (vptr b·words o·words))
-        ∷ ‵ (fdies (tyRef erased mut (tyInt w32)) l38)
-        ∷ ‵ (fat fullShare (sliceTy (tyRef erased mut (tyInt w32))) l37 0 s·index)
-        ∷ ‵ (fdies (sliceTy (tyRef erased mut (tyInt w32))) l37)
-        ∷ ‵ (fat fullShare (tyRef erased mut (tyInt w32)) l36 0 (vptr b·index o·index))
-        ∷ ‵ (fdies (tyRef erased mut (tyInt w32)) l36)
-        ∷ ‵ (fat fullShare (sliceTy (tyRef erased mut (tyInt w32))) l35 0 s·vars)
-        ∷ ‵ (fdies (sliceTy (tyRef erased mut (tyInt w32))) l35)
-        ∷ ‵ (fat fullShare (tyRef erased mut (tyInt w32)) l34 0 (vptr b·vars o·vars))
-        ∷ ‵ (fdies (tyRef erased mut (tyInt w32)) l34)
-        ∷ ‵ (fat fullShare (sliceTy (tyRef erased mut (tyInt w32))) l33 0 s·patterns)
-        ∷ ‵ (fdies (sliceTy (tyRef erased mut (tyInt w32))) l33)
-        ∷ ‵ (fat fullShare (tyRef erased mut (tyInt w32)) l32 0 (vptr b·patterns o·patterns))
-        ∷ ‵ (fdies (tyRef erased mut (tyInt w32)) l32)
-        ∷ ‵ (fat fullShare (sliceTy (tyRef erased mut (tyInt w32))) l31 0 s·rulevars)
-        ∷ ‵ (fdies (sliceTy (tyRef erased mut (tyInt w32))) l31)
-        ∷ ‵ (fat fullShare (tyRef erased mut (tyInt w32)) l30 0 (vptr b·rulevars o·rulevars))
-        ∷ ‵ (fdies (tyRef erased mut (tyInt w32)) l30)
-        ∷ ‵ (fat fullShare (sliceTy (tyRef erased mut (tyInt w32))) l29 0 s·rules)
-        ∷ ‵ (fdies (sliceTy (tyRef erased mut (tyInt w32))) l29)
-        ∷ ‵ (fat fullShare (tyRef erased mut (tyInt w32)) l28 0 (vptr b·rules o·rules))
-        ∷ ‵ (fdies (tyRef erased mut (tyInt w32)) l28)
-        ∷ ‵ (fat fullShare (sliceTy (tyRef erased mut (tyInt w32))) l27 0 s·inputs)
-        ∷ ‵ (fdies (sliceTy (tyRef erased mut (tyInt w32))) l27)
-        ∷ ‵ (fat fullShare (tyRef erased mut (tyInt w32)) l26 0 (vptr b·inputs o·inputs))
-        ∷ ‵ (fdies (tyRef erased mut (tyInt w32)) l26)
-        ∷ ‵ (fat fullShare (sliceTy (tyRef erased mut (tyInt w32))) l25 0 s·symbols)
-        ∷ ‵ (fdies (sliceTy (tyRef erased mut (tyInt w32))) l25)
-        ∷ ‵ (fat fullShare (tyRef erased mut (tyInt w32)) l24 0 (vptr b·symbols o·symbols))
-        ∷ ‵ (fdies (tyRef erased mut (tyInt w32)) l24)
-        ∷ ‵ (fat fullShare (sliceTy (tyRef erased mut (tyInt w32))) l23 0 s·sorts)
-        ∷ ‵ (fdies (sliceTy (tyRef erased mut (tyInt w32))) l23)
-        ∷ ‵ (fat fullShare (tyRef erased mut (tyInt w32)) l22 0 (vptr b·sorts o·sorts))
-        ∷ ‵ (fdies (tyRef erased mut (tyInt w32)) l22)
+        ∷ ‵ (fat fullShare (sliceTy (tyRef erased mut (tyInt w32))) l60 0 (sliceVal (l22, 0) 4096))
+        ∷ ‵ (fdies (sliceTy (tyRef erased mut (tyInt w32))) l60)
+        ∷ ‵ (fat fullShare (tyRef erased mut (tyArray (tyInt w32) 4096)) l59 0 (vptr l22 0))
+        ∷ ‵ (fdies (tyRef erased mut (tyArray (tyInt w32) 4096)) l59)
+        ∷ ‵ (fat fullShare (sliceTy (tyRef erased mut (tyInt w32))) l58 0 (sliceVal (l21, 0) 40960))
+        ∷ ‵ (fdies (sliceTy (tyRef erased mut (tyInt w32))) l58)
+        ∷ ‵ (fat fullShare (tyRef erased mut (tyArray (tyInt w32) 40960)) l57 0 (vptr l21 0))
+        ∷ ‵ (fdies (tyRef erased mut (tyArray (tyInt w32) 40960)) l57)
+        ∷ ‵ (fat fullShare (sliceTy (tyRef erased mut (tyInt w32))) l56 0 (sliceVal (l20, 0) 65536))
+        ∷ ‵ (fdies (sliceTy (tyRef erased mut (tyInt w32))) l56)
+        ∷ ‵ (fat fullShare (tyRef erased mut (tyArray (tyInt w32) 65536)) l55 0 (vptr l20 0))
+        ∷ ‵ (fdies (tyRef erased mut (tyArray (tyInt w32) 65536)) l55)
+        ∷ ‵ (fat fullShare (sliceTy (tyRef erased mut (tyInt w64))) l54 0 (sliceVal (l19, 0) 4096))
+        ∷ ‵ (fdies (sliceTy (tyRef erased mut (tyInt w64))) l54)
+        ∷ ‵ (fat fullShare (tyRef erased mut (tyArray (tyInt w64) 4096)) l53 0 (vptr l19 0))
+        ∷ ‵ (fdies (tyRef erased mut (tyArray (tyInt w64) 4096)) l53)
+        ∷ ‵ (fat fullShare (sliceTy (tyRef erased mut (tyInt w32))) l52 0 (sliceVal (l18, 0) 6144))
+        ∷ ‵ (fdies (sliceTy (tyRef erased mut (tyInt w32))) l52)
+        ∷ ‵ (fat fullShare (tyRef erased mut (tyArray (tyInt w32) 6144)) l51 0 (vptr l18 0))
+        ∷ ‵ (fdies (tyRef erased mut (tyArray (tyInt w32) 6144)) l51)
+        ∷ ‵ (fat fullShare (sliceTy (tyRef erased mut (pointee (FactT.the-row .written)))) l50 0 s·facts)
+        ∷ ‵ (fdies (sliceTy (tyRef erased mut (pointee (FactT.the-row .written)))) l50)
+        ∷ ‵ (fat fullShare (tyRef erased mut (pointee (FactT.the-row .written))) l49 0 (vptr b·facts o·facts))
+        ∷ ‵ (fdies (tyRef erased mut (pointee (FactT.the-row .written))) l49)
+        ∷ ‵ (fat fullShare (sliceTy (tyRef erased mut (tyInt w32))) l48 0 s·missing)
+        ∷ ‵ (fdies (sliceTy (tyRef erased mut (tyInt w32))) l48)
+        ∷ ‵ (fat fullShare (tyRef erased mut (tyInt w32)) l47 0 (vptr b·missing o·missing))
+        ∷ ‵ (fdies (tyRef erased mut (tyInt w32)) l47)
+        ∷ ‵ (fat fullShare (sliceTy (tyRef erased mut (tyInt w32))) l46 0 s·lists)
+        ∷ ‵ (fdies (sliceTy (tyRef erased mut (tyInt w32))) l46)
+        ∷ ‵ (fat fullShare (tyRef erased mut (tyInt w32)) l45 0 (vptr b·lists o·lists))
+        ∷ ‵ (fdies (tyRef erased mut (tyInt w32)) l45)
+        ∷ ‵ (fat fullShare (sliceTy (tyRef erased mut (tyInt w32))) l44 0 s·rows)
+        ∷ ‵ (fdies (sliceTy (tyRef erased mut (tyInt w32))) l44)
+        ∷ ‵ (fat fullShare (tyRef erased mut (tyInt w32)) l43 0 (vptr b·rows o·rows))
+        ∷ ‵ (fdies (tyRef erased mut (tyInt w32)) l43)
+        ∷ ‵ (fat fullShare (sliceTy (tyRef erased mut (tyInt w32))) l42 0 s·defs)
+        ∷ ‵ (fdies (sliceTy (tyRef erased mut (tyInt w32))) l42)
+        ∷ ‵ (fat fullShare (tyRef erased mut (tyInt w32)) l41 0 (vptr b·defs o·defs))
+        ∷ ‵ (fdies (tyRef erased mut (tyInt w32)) l41)
+        ∷ ‵ (fat fullShare (sliceTy (tyRef erased mut (tyInt w32))) l40 0 s·words)
+        ∷ ‵ (fdies (sliceTy (tyRef erased mut (tyInt w32))) l40)
+        ∷ ‵ (fat fullShare (tyRef erased mut (tyInt w32)) l39 0 (vptr b·words o·words))
+        ∷ ‵ (fdies (tyRef erased mut (tyInt w32)) l39)
+        ∷ ‵ (fat fullShare (sliceTy (tyRef erased mut (tyInt w32))) l38 0 s·index)
+        ∷ ‵ (fdies (sliceTy (tyRef erased mut (tyInt w32))) l38)
+        ∷ ‵ (fat fullShare (tyRef erased mut (tyInt w32)) l37 0 (vptr b·index o·index))
+        ∷ ‵ (fdies (tyRef erased mut (tyInt w32)) l37)
+        ∷ ‵ (fat fullShare (sliceTy (tyRef erased mut (tyInt w32))) l36 0 s·vars)
+        ∷ ‵ (fdies (sliceTy (tyRef erased mut (tyInt w32))) l36)
+        ∷ ‵ (fat fullShare (tyRef erased mut (tyInt w32)) l35 0 (vptr b·vars o·vars))
+        ∷ ‵ (fdies (tyRef erased mut (tyInt w32)) l35)
+        ∷ ‵ (fat fullShare (sliceTy (tyRef erased mut (tyInt w32))) l34 0 s·patterns)
+        ∷ ‵ (fdies (sliceTy (tyRef erased mut (tyInt w32))) l34)
+        ∷ ‵ (fat fullShare (tyRef erased mut (tyInt w32)) l33 0 (vptr b·patterns o·patterns))
+        ∷ ‵ (fdies (tyRef erased mut (tyInt w32)) l33)
+        ∷ ‵ (fat fullShare (sliceTy (tyRef erased mut (tyInt w32))) l32 0 s·rulevars)
+        ∷ ‵ (fdies (sliceTy (tyRef erased mut (tyInt w32))) l32)
+        ∷ ‵ (fat fullShare (tyRef erased mut (tyInt w32)) l31 0 (vptr b·rulevars o·rulevars))
+        ∷ ‵ (fdies (tyRef erased mut (tyInt w32)) l31)
+        ∷ ‵ (fat fullShare (sliceTy (tyRef erased mut (tyInt w32))) l30 0 s·rules)
+        ∷ ‵ (fdies (sliceTy (tyRef erased mut (tyInt w32))) l30)
+        ∷ ‵ (fat fullShare (tyRef erased mut (tyInt w32)) l29 0 (vptr b·rules o·rules))
+        ∷ ‵ (fdies (tyRef erased mut (tyInt w32)) l29)
+        ∷ ‵ (fat fullShare (sliceTy (tyRef erased mut (tyInt w32))) l28 0 s·inputs)
+        ∷ ‵ (fdies (sliceTy (tyRef erased mut (tyInt w32))) l28)
+        ∷ ‵ (fat fullShare (tyRef erased mut (tyInt w32)) l27 0 (vptr b·inputs o·inputs))
+        ∷ ‵ (fdies (tyRef erased mut (tyInt w32)) l27)
+        ∷ ‵ (fat fullShare (sliceTy (tyRef erased mut (tyInt w32))) l26 0 s·symbols)
+        ∷ ‵ (fdies (sliceTy (tyRef erased mut (tyInt w32))) l26)
+        ∷ ‵ (fat fullShare (tyRef erased mut (tyInt w32)) l25 0 (vptr b·symbols o·symbols))
+        ∷ ‵ (fdies (tyRef erased mut (tyInt w32)) l25)
+        ∷ ‵ (fat fullShare (sliceTy (tyRef erased mut (tyInt w32))) l24 0 s·sorts)
+        ∷ ‵ (fdies (sliceTy (tyRef erased mut (tyInt w32))) l24)
+        ∷ ‵ (fat fullShare (tyRef erased mut (tyInt w32)) l23 0 (vptr b·sorts o·sorts))
+        ∷ ‵ (fdies (tyRef erased mut (tyInt w32)) l23)
+        ∷ ‵ (fdies (tyArray (tyInt w32) 4096) l22)
         ∷ ‵ (fdies (tyArray (tyInt w32) 40960) l21)
         ∷ ‵ (fdies (tyArray (tyInt w32) 65536) l20)
         ∷ ‵ (fdies (tyArray (tyInt w64) 4096) l19)
@@ -1230,118 +1411,106 @@ module _ {M : Type 1} (𝓤 : URA M) (H : Heap 𝓤) (A : Atoms 𝓤) (W : Given
         ∷ ‵ (fat fullShare AnswerL.mir l0 0 v1)
         ∷ ‵ (fdies AnswerL.mir l0) ∷ [])
         (runs C Λ (En l0 l1 l2 l3 l4 l5 l6 l7 l8 l9 l10 l11 l12 l13 l14 l15 l16 l17 l18 l19 l20 l21 l22 l23 l24 l25 l26 l27 l28 l29 l30 l31 l32 l33
-        l34 l35 l36 l37 l38 l39 l40 l41 l42 l43 l44 l45 l46 l47 l48 l49 l50 l51 l52 l53 l54 l55 l56 l57) pieces.t-42
+        l34 l35 l36 l37 l38 l39 l40 l41 l42 l43 l44 l45 l46 l47 l48 l49 l50 l51 l52 l53 l54 l55 l56 l57 l58 l59 l60) pieces.t-45
         (atRet (En l0 l1 l2 l3 l4 l5 l6 l7 l8 l9 l10 l11 l12 l13 l14 l15 l16 l17 l18 l19 l20 l21 l22 l23 l24 l25 l26 l27 l28 l29 l30 l31 l32 l33 l34
-        l35 l36 l37 l38 l39 l40 l41 l42 l43 l44 l45 l46 l47 l48 l49 l50 l51 l52 l53 l54 l55 l56 l57) Post))
+        l35 l36 l37 l38 l39 l40 l41 l42 l43 l44 l45 l46 l47 l48 l49 l50 l51 l52 l53 l54 l55 l56 l57 l58 l59 l60) Post))
     seg·3 l0 l1 l2 l3 l4 l5 l6 l7 l8 l9 l10 l11 l12 l13 l14 l15 l16 l17 l18 l19 l20 l21 l22 l23 l24 l25 l26 l27 l28 l29 l30 l31 l32 l33 l34 l35 l36
-        l37 l38 l39 l40 l41 l42 l43 l44 l45 l46 l47 l48 l49 l50 l51 l52 l53 l54 l55 l56 l57 is·kept is·feet is·cells is·ids ν·1·17 δ·1·17 ν·1·18
-        δ·1·18 ν·1·19 δ·1·19 ν·1·20 δ·1·20 v1 r1 ws1 e1 len·1·sorts len·1·symbols len·1·inputs len·1·rules len·1·rulevars len·1·patterns
-        len·1·vars len·1·index len·1·words len·1·defs len·1·rows len·1·lists len·1·missing len·1·facts len·1·kept len·1·feet len·1·cells
-        len·1·ids is1 =
-        move ! (3 ∷ []) $
+        l37 l38 l39 l40 l41 l42 l43 l44 l45 l46 l47 l48 l49 l50 l51 l52 l53 l54 l55 l56 l57 l58 l59 l60 is·kept is·feet is·cells is·ids is·memo ν·1·17
+        δ·1·17 ν·1·18 δ·1·18 ν·1·19 δ·1·19 ν·1·20 δ·1·20 ν·1·21 δ·1·21 v1 r1 ws1 e1 len·1·sorts len·1·symbols len·1·inputs len·1·rules
+        len·1·rulevars len·1·patterns len·1·vars len·1·index len·1·words len·1·defs len·1·rows len·1·lists len·1·missing len·1·facts
+        len·1·kept len·1·feet len·1·cells len·1·ids len·1·memo is1 =
+        move ! (4 ∷ []) $
         lft-end ! tt $
-        move ! (0 ∷ 42 ∷ 24 ∷ []) $
+        move ! (0 ∷ 45 ∷ 26 ∷ []) $
         use3 W (later (some (λ (va : Val). ‵ (fat fullShare (tyArray (tyInt w32) 6144) l18 0 va)
         ⊛ ‵ (Array u32 6144 .own (ws1 .1 .1 .1 .1 .1 .1 .1 .1 .1 .1 .1 .1 .1 .1 .1 .1 .1 .0) (va ∷ [])))))
         (array-back u32 tt 6144 (lit< tt, lit< tt) (ν·1·17 ∷ []) l18 𝓤 H A W (named 17) δ·1·17
         (ws1 .1 .1 .1 .1 .1 .1 .1 .1 .1 .1 .1 .1 .1 .1 .1 .1 .1 .0)) $ await ! tt $ pick ! (λ va·1·18. split ! $
-        move ! (4 ∷ []) $
+        move ! (5 ∷ []) $
         lft-end ! tt $
-        move ! (0 ∷ 41 ∷ 24 ∷ []) $
+        move ! (0 ∷ 44 ∷ 26 ∷ []) $
         use3 W (later (some (λ (va : Val). ‵ (fat fullShare (tyArray (tyInt w64) 4096) l19 0 va)
         ⊛ ‵ (Array u64 4096 .own (ws1 .1 .1 .1 .1 .1 .1 .1 .1 .1 .1 .1 .1 .1 .1 .1 .1 .1 .1 .0) (va ∷ [])))))
         (array-back u64 tt 4096 (lit< tt, lit< tt) (ν·1·18 ∷ []) l19 𝓤 H A W (named 18) δ·1·18
         (ws1 .1 .1 .1 .1 .1 .1 .1 .1 .1 .1 .1 .1 .1 .1 .1 .1 .1 .1 .0)) $ await ! tt $ pick ! (λ va·1·19. split ! $
-        move ! (5 ∷ []) $
+        move ! (6 ∷ []) $
         lft-end ! tt $
-        move ! (0 ∷ 40 ∷ 24 ∷ []) $
+        move ! (0 ∷ 43 ∷ 26 ∷ []) $
         use3 W (later (some (λ (va : Val). ‵ (fat fullShare (tyArray (tyInt w32) 65536) l20 0 va)
         ⊛ ‵ (Array u32 65536 .own (ws1 .1 .1 .1 .1 .1 .1 .1 .1 .1 .1 .1 .1 .1 .1 .1 .1 .1 .1 .1 .0) (va ∷ [])))))
         (array-back u32 tt 65536 (lit< tt, lit< tt) (ν·1·19 ∷ []) l20 𝓤 H A W (named 19) δ·1·19
         (ws1 .1 .1 .1 .1 .1 .1 .1 .1 .1 .1 .1 .1 .1 .1 .1 .1 .1 .1 .1 .0)) $ await ! tt $ pick ! (λ va·1·20. split ! $
-        move ! (6 ∷ []) $
+        move ! (7 ∷ []) $
         lft-end ! tt $
-        move ! (0 ∷ 39 ∷ 24 ∷ []) $
+        move ! (0 ∷ 42 ∷ 26 ∷ []) $
         use3 W (later (some (λ (va : Val). ‵ (fat fullShare (tyArray (tyInt w32) 40960) l21 0 va)
         ⊛ ‵ (Array u32 40960 .own (ws1 .1 .1 .1 .1 .1 .1 .1 .1 .1 .1 .1 .1 .1 .1 .1 .1 .1 .1 .1 .1 .0) (va ∷ [])))))
         (array-back u32 tt 40960 (lit< tt, lit< tt) (ν·1·20 ∷ []) l21 𝓤 H A W (named 20) δ·1·20
         (ws1 .1 .1 .1 .1 .1 .1 .1 .1 .1 .1 .1 .1 .1 .1 .1 .1 .1 .1 .1 .1 .0)) $ await ! tt $ pick ! (λ va·1·21. split ! $
-        returns ! (look ! 152 refl) $
-        forget ! 152 refl $
-        move ! (152 ∷ 153 ∷ []) $
+        move ! (8 ∷ []) $
+        lft-end ! tt $
+        move ! (0 ∷ 41 ∷ 26 ∷ []) $
+        use3 W (later (some (λ (va : Val). ‵ (fat fullShare (tyArray (tyInt w32) 4096) l22 0 va)
+        ⊛ ‵ (Array u32 4096 .own (ws1 .1 .1 .1 .1 .1 .1 .1 .1 .1 .1 .1 .1 .1 .1 .1 .1 .1 .1 .1 .1 .1 .0) (va ∷ [])))))
+        (array-back u32 tt 4096 (lit< tt, lit< tt) (ν·1·21 ∷ []) l22 𝓤 H A W (named 21) δ·1·21
+        (ws1 .1 .1 .1 .1 .1 .1 .1 .1 .1 .1 .1 .1 .1 .1 .1 .1 .1 .1 .1 .1 .1 .0)) $ await ! tt $ pick ! (λ va·1·22. split ! $
+        returns ! (look ! 159 refl) $
+        forget ! 159 refl $
+        move ! (159 ∷ 160 ∷ []) $
         free1 ! $
-        forget ! 150 refl $
-        move ! (150 ∷ 151 ∷ []) $
+        forget ! 157 refl $
+        move ! (157 ∷ 158 ∷ []) $
         free1 ! $
-        forget ! 148 refl $
-        move ! (148 ∷ 149 ∷ []) $
+        forget ! 155 refl $
+        move ! (155 ∷ 156 ∷ []) $
         free1 ! $
-        forget ! 146 refl $
-        move ! (146 ∷ 147 ∷ []) $
+        forget ! 153 refl $
+        move ! (153 ∷ 154 ∷ []) $
         free1 ! $
-        forget ! 144 refl $
-        move ! (144 ∷ 145 ∷ []) $
+        forget ! 151 refl $
+        move ! (151 ∷ 152 ∷ []) $
         free1 ! $
-        forget ! 142 refl $
-        move ! (142 ∷ 143 ∷ []) $
+        forget ! 149 refl $
+        move ! (149 ∷ 150 ∷ []) $
         free1 ! $
-        forget ! 140 refl $
-        move ! (140 ∷ 141 ∷ []) $
+        forget ! 147 refl $
+        move ! (147 ∷ 148 ∷ []) $
         free1 ! $
-        forget ! 138 refl $
-        move ! (138 ∷ 139 ∷ []) $
+        forget ! 145 refl $
+        move ! (145 ∷ 146 ∷ []) $
         free1 ! $
-        forget ! 136 refl $
-        move ! (136 ∷ 137 ∷ []) $
+        forget ! 143 refl $
+        move ! (143 ∷ 144 ∷ []) $
         free1 ! $
-        forget ! 134 refl $
-        move ! (134 ∷ 135 ∷ []) $
+        forget ! 141 refl $
+        move ! (141 ∷ 142 ∷ []) $
         free1 ! $
-        forget ! 132 refl $
-        move ! (132 ∷ 133 ∷ []) $
+        forget ! 139 refl $
+        move ! (139 ∷ 140 ∷ []) $
         free1 ! $
-        forget ! 130 refl $
-        move ! (130 ∷ 131 ∷ []) $
+        forget ! 137 refl $
+        move ! (137 ∷ 138 ∷ []) $
         free1 ! $
-        forget ! 128 refl $
-        move ! (128 ∷ 129 ∷ []) $
-        free1 ! $
-        forget ! 126 refl $
-        move ! (126 ∷ 127 ∷ []) $
-        free1 ! $
-        forget ! 124 refl $
-        move ! (124 ∷ 125 ∷ []) $
-        free1 ! $
-        forget ! 122 refl $
-        move ! (122 ∷ 123 ∷ []) $
-        free1 ! $
-        forget ! 120 refl $
-        move ! (120 ∷ 121 ∷ []) $
+        forget ! 135 refl $
+        move ! (135 ∷ 136 ∷ []) $
         free1 ! $
         seg·4 l0 l1 l2 l3 l4 l5 l6 l7 l8 l9 l10 l11 l12 l13 l14 l15 l16 l17 l18 l19 l20 l21 l22 l23 l24 l25 l26 l27 l28 l29 l30 l31 l32 l33 l34 l35
-        l36 l37 l38 l39 l40 l41 l42 l43 l44 l45 l46 l47 l48 l49 l50 l51 l52 l53 l54 l55 l56 l57 is·kept is·feet is·cells is·ids ν·1·17 δ·1·17 ν·1·18
-        δ·1·18 ν·1·19 δ·1·19 ν·1·20 δ·1·20 v1 r1 ws1 e1 len·1·sorts len·1·symbols len·1·inputs len·1·rules len·1·rulevars len·1·patterns len·1·vars
-        len·1·index len·1·words len·1·defs len·1·rows len·1·lists len·1·missing len·1·facts len·1·kept len·1·feet len·1·cells len·1·ids is1 va·1·18
-        va·1·19 va·1·20 va·1·21))))
+        l36 l37 l38 l39 l40 l41 l42 l43 l44 l45 l46 l47 l48 l49 l50 l51 l52 l53 l54 l55 l56 l57 l58 l59 l60 is·kept is·feet is·cells is·ids is·memo
+        ν·1·17 δ·1·17 ν·1·18 δ·1·18 ν·1·19 δ·1·19 ν·1·20 δ·1·20 ν·1·21 δ·1·21 v1 r1 ws1 e1 len·1·sorts len·1·symbols len·1·inputs len·1·rules
+        len·1·rulevars len·1·patterns len·1·vars len·1·index len·1·words len·1·defs len·1·rows len·1·lists len·1·missing len·1·facts len·1·kept
+        len·1·feet len·1·cells len·1·ids len·1·memo is1 va·1·18 va·1·19 va·1·20 va·1·21 va·1·22)))))
 
     seg·2 : (l0 : ℕ) (l1 : ℕ) (l2 : ℕ) (l3 : ℕ) (l4 : ℕ) (l5 : ℕ) (l6 : ℕ) (l7 : ℕ) (l8 : ℕ) (l9 : ℕ) (l10 : ℕ) (l11 : ℕ) (l12 : ℕ) (l13 : ℕ)
         (l14 : ℕ) (l15 : ℕ) (l16 : ℕ) (l17 : ℕ) (l18 : ℕ) (l19 : ℕ) (l20 : ℕ) (l21 : ℕ) (l22 : ℕ) (l23 : ℕ) (l24 : ℕ) (l25 : ℕ) (l26 : ℕ) (l27 : ℕ)
         (l28 : ℕ) (l29 : ℕ) (l30 : ℕ) (l31 : ℕ) (l32 : ℕ) (l33 : ℕ) (l34 : ℕ) (l35 : ℕ) (l36 : ℕ) (l37 : ℕ) (l38 : ℕ) (l39 : ℕ) (l40 : ℕ) (l41 : ℕ)
         (l42 : ℕ) (l43 : ℕ) (l44 : ℕ) (l45 : ℕ) (l46 : ℕ) (l47 : ℕ) (l48 : ℕ) (l49 : ℕ) (l50 : ℕ) (l51 : ℕ) (l52 : ℕ) (l53 : ℕ) (l54 : ℕ) (l55 : ℕ)
-        (l56 : ℕ) (l57 : ℕ) (is·kept : Is (Array u32 6144) (many ℕ 6144 0) ((manyVal 6144 (vint w32 0)) ∷ []))
+        (l56 : ℕ) (l57 : ℕ) (l58 : ℕ) (l59 : ℕ) (l60 : ℕ) (is·kept : Is (Array u32 6144) (many ℕ 6144 0) ((manyVal 6144 (vint w32 0)) ∷ []))
         (is·feet : Is (Array u64 4096) (many ℕ 4096 0) ((manyVal 4096 (vint w64 0)) ∷ []))
         (is·cells : Is (Array u32 65536) (many ℕ 65536 0) ((manyVal 65536 (vint w32 0)) ∷ []))
-        (is·ids : Is (Array u32 40960) (many ℕ 40960 0) ((manyVal 40960 (vint w32 0)) ∷ [])) (ν·1·17 : ℕ) (δ·1·17 : GName) (ν·1·18 : ℕ)
-        (δ·1·18 : GName) (ν·1·19 : ℕ) (δ·1·19 : GName) (ν·1·20 : ℕ) (δ·1·20 : GName) →
-        Sq W (‵ (MutSlice (named 20) (ν·1·20 ∷ []) u32 .own (record { ptr = (l21, 0); name = δ·1·20; now = (many ℕ 40960 0) })
-        (sliceVal (l21, 0) 40960 ∷ []))
-        ∷ ‵ (flent (ν·1·20 ∷ []) (Held u32 40960 l21 0 δ·1·20))
-        ∷ ‵ (flft (ν·1·20 ∷ []) fullShare)
-        ∷ ‵ (MutSlice (named 19) (ν·1·19 ∷ []) u32 .own (record { ptr = (l20, 0); name = δ·1·19; now = (many ℕ 65536 0) })
-        (sliceVal (l20, 0) 65536 ∷ []))
-        ∷ ‵ (flent (ν·1·19 ∷ []) (Held u32 65536 l20 0 δ·1·19))
-        ∷ ‵ (flft (ν·1·19 ∷ []) fullShare)
-        ∷ ‵ (MutSlice (named 18) (ν·1·18 ∷ []) u64 .own (record { ptr = (l19, 0); name = δ·1·18; now = (many ℕ 4096 0) })
+        (is·ids : Is (Array u32 40960) (many ℕ 40960 0) ((manyVal 40960 (vint w32 0)) ∷ []))
+        (is·memo : Is (Array u32 4096) (many ℕ 4096 0) ((manyVal 4096 (vint w32 0)) ∷ [])) (ν·1·17 : ℕ) (δ·1·17 : GName) (ν·1·18 : ℕ) (δ·1·18 : GName)
+        →
+        Sq W (‵ (MutSlice (named 18) (ν·1·18 ∷ []) u64 .own (record { ptr = (l19, 0); name = δ·1·18; now = (many ℕ 4096 0) })
         (sliceVal (l19, 0) 4096 ∷ []))
         ∷ ‵ (flent (ν·1·18 ∷ []) (Held u64 4096 l19 0 δ·1·18))
         ∷ ‵ (flft (ν·1·18 ∷ []) fullShare)
@@ -1355,6 +1524,9 @@ module _ {M : Type 1} (𝓤 : URA M) (H : Heap 𝓤) (A : Atoms 𝓤) (W : Given
         ∷ ‵ (ShrSlice (named 1) κ·goals u8 .own (ref·goals γ·goals goals) (s·goals ∷ []))
         ∷ ‵ (ShrSlice (named 0) κ·theory u8 .own (ref·theory γ·theory theory) (s·theory ∷ []))
         ∷ ‵ (ShrSlice (named 0) κ·theory u8 .own (ref·theory γ·theory theory) (s·theory ∷ []))
+        ∷ ‵ (Array u32 4096 .own (many ℕ 4096 0) ((manyVal 4096 (vint w32 0)) ∷ []))
+        ∷ ‵ (Array u32 40960 .own (many ℕ 40960 0) ((manyVal 40960 (vint w32 0)) ∷ []))
+        ∷ ‵ (Array u32 65536 .own (many ℕ 65536 0) ((manyVal 65536 (vint w32 0)) ∷ []))
         ∷ ‵ (flft κ·missing q·missing)
         ∷ ‵ (flft κ·lists q·lists)
         ∷ ‵ (flft κ·facts q·facts)
@@ -1386,79 +1558,87 @@ module _ {M : Type 1} (𝓤 : URA M) (H : Heap 𝓤) (A : Atoms 𝓤) (W : Given
         ∷ ‵ (MutSlice (named 5) κ·inputs u32 .own (ref·inputs γ·inputs inputs) (s·inputs ∷ []))
         ∷ ‵ (MutSlice (named 4) κ·symbols u32 .own (ref·symbols γ·symbols symbols) (s·symbols ∷ []))
         ∷ ‵ (MutSlice (named 3) κ·sorts u32 .own (ref·sorts γ·sorts sorts) (s·sorts ∷ []))
-        ∷ ‵ (fat fullShare (sliceTy (tyRef erased mut (tyInt w32))) l57 0 (sliceVal (l21, 0) 40960))
-        ∷ ‵ (fdies (sliceTy (tyRef erased mut (tyInt w32))) l57)
-        ∷ ‵ (fat fullShare (tyRef erased mut (tyArray (tyInt w32) 40960)) l56 0 (vptr l21 0))
-        ∷ ‵ (fdies (tyRef erased mut (tyArray (tyInt w32) 40960)) l56)
-        ∷ ‵ (fat fullShare (sliceTy (tyRef erased mut (tyInt w32))) l55 0 (sliceVal (l20, 0) 65536))
-        ∷ ‵ (fdies (sliceTy (tyRef erased mut (tyInt w32))) l55)
-        ∷ ‵ (fat fullShare (tyRef erased mut (tyArray (tyInt w32) 65536)) l54 0 (vptr l20 0))
-        ∷ ‵ (fdies (tyRef erased mut (tyArray (tyInt w32) 65536)) l54)
-        ∷ ‵ (fat fullShare (sliceTy (tyRef erased mut (tyInt w64))) l53 0 (sliceVal (l19, 0) 4096))
-        ∷ ‵ (fdies (sliceTy (tyRef erased mut (tyInt w64))) l53)
-        ∷ ‵ (fat fullShare (tyRef erased mut (tyArray (tyInt w64) 4096)) l52 0 (vptr l19 0))
-        ∷ ‵ (fdies (tyRef erased mut (tyArray (tyInt w64) 4096)) l52)
-        ∷ ‵ (fat fullShare (sliceTy (tyRef erased mut (tyInt w32))) l51 0 (sliceVal (l18, 0) 6144))
-        ∷ ‵ (fdies (sliceTy (tyRef erased mut (tyInt w32))) l51)
-        ∷ ‵ (fat fullShare (tyRef erased mut (tyArray (tyInt w32) 6144)) l50 0 (vptr l18 0))
-        ∷ ‵ (fdies (tyRef erased mut (tyArray (tyInt w32) 6144)) l50)
-        ∷ ‵ (fat fullShare (sliceTy (tyRef erased mut (pointee (FactT.the-row .written)))) l49 0 s·facts)
-        ∷ ‵ (fdies (sliceTy (tyRef erased mut (pointee (FactT.the-row .written)))) l49)
-        ∷ ‵ (fat fullShare (tyRef erased mut (pointee (FactT.the-row .written))) l48 0 (vptr b·facts o·facts))
-        ∷ ‵ (fdies (tyRef erased mut (pointee (FactT.the-row .written))) l48)
-        ∷ ‵ (fat fullShare (sliceTy (tyRef erased mut (tyInt w32))) l47 0 s·missing)
-        ∷ ‵ (fdies (sliceTy (tyRef erased mut (tyInt w32))) l47)
-        ∷ ‵ (fat fullShare (tyRef erased mut (tyInt w32)) l46 0 (vptr b·missing o·missing))
-        ∷ ‵ (fdies (tyRef erased mut (tyInt w32)) l46)
-        ∷ ‵ (fat fullShare (sliceTy (tyRef erased mut (tyInt w32))) l45 0 s·lists)
-        ∷ ‵ (fdies (sliceTy (tyRef erased mut (tyInt w32))) l45)
-        ∷ ‵ (fat fullShare (tyRef erased mut (tyInt w32)) l44 0 (vptr b·lists o·lists))
-        ∷ ‵ (fdies (tyRef erased mut (tyInt w32)) l44)
-        ∷ ‵ (fat fullShare (sliceTy (tyRef erased mut (tyInt w32))) l43 0 s·rows)
-        ∷ ‵ (fdies (sliceTy (tyRef erased mut (tyInt w32))) l43)
-        ∷ ‵ (fat fullShare (tyRef erased mut (tyInt w32)) l42 0 (vptr b·rows o·rows))
-        ∷ ‵ (fdies (tyRef erased mut (tyInt w32)) l42)
-        ∷ ‵ (fat fullShare (sliceTy (tyRef erased mut (tyInt w32))) l41 0 s·defs)
-        ∷ ‵ (fdies (sliceTy (tyRef erased mut (tyInt w32))) l41)
-        ∷ ‵ (fat fullShare (tyRef erased mut (tyInt w32)) l40 0 (vptr b·defs o·defs))
-        ∷ ‵ (fdies (tyRef erased mut (tyInt w32)) l40)
-        ∷ ‵ (fat fullShare (sliceTy (tyRef erased mut (tyInt w32))) l39 0 s·words)
-        ∷ ‵ (fdies (sliceTy (tyRef erased mut (tyInt w32))) l39)
-        ∷ ‵ (fat fullShare (tyRef erased mut (tyInt w32)) l38 0 (vptr b·words o·words))
-        ∷ ‵ (fdies (tyRef erased mut (tyInt w32)) l38)
-        ∷ ‵ (fat fullShare (sliceTy (tyRef erased mut (tyInt w32))) l37 0 s·index)
-        ∷ ‵ (fdies (sliceTy (tyRef erased mut (tyInt w32))) l37)
-        ∷ ‵ (fat fullShare (tyRef erased mut (tyInt w32)) l36 0 (vptr b·index o·index))
-        ∷ ‵ (fdies (tyRef erased mut (tyInt w32)) l36)
-        ∷ ‵ (fat fullShare (sliceTy (tyRef erased mut (tyInt w32))) l35 0 s·vars)
-        ∷ ‵ (fdies (sliceTy (tyRef erased mut (tyInt w32))) l35)
-        ∷ ‵ (fat fullShare (tyRef erased mut (tyInt w32)) l34 0 (vptr b·vars o·vars))
-        ∷ ‵ (fdies (tyRef erased mut (tyInt w32)) l34)
-        ∷ ‵ (fat fullShare (sliceTy (tyRef erased mut (tyInt w32))) l33 0 s·patterns)
-        ∷ ‵ (fdies (sliceTy (tyRef erased mut (tyInt w32))) l33)
-        ∷ ‵ (fat fullShare (tyRef erased mut (tyInt w32)) l32 0 (vptr b·patterns o·patterns))
-        ∷ ‵ (fdies (tyRef erased mut (tyInt w32)) l32)
-        ∷ ‵ (fat fullShare (sliceTy (tyRef erased mut (tyInt w32))) l31 0 s·rulevars)
-        ∷ ‵ (fdies (sliceTy (tyRef erased mut (tyInt w32))) l31)
-        ∷ ‵ (fat fullShare (tyRef erased mut (tyInt w32)) l30 0 (vptr b·rulevars o·rulevars))
-        ∷ ‵ (fdies (tyRef erased mut (tyInt w32)) l30)
-        ∷ ‵ (fat fullShare (sliceTy (tyRef erased mut (tyInt w32))) l29 0 s·rules)
-        ∷ ‵ (fdies (sliceTy (tyRef erased mut (tyInt w32))) l29)
-        ∷ ‵ (fat fullShare (tyRef erased mut (tyInt w32)) l28 0 (vptr b·rules o·rules))
-        ∷ ‵ (fdies (tyRef erased mut (tyInt w32)) l28)
-        ∷ ‵ (fat fullShare (sliceTy (tyRef erased mut (tyInt w32))) l27 0 s·inputs)
-        ∷ ‵ (fdies (sliceTy (tyRef erased mut (tyInt w32))) l27)
-        ∷ ‵ (fat fullShare (tyRef erased mut (tyInt w32)) l26 0 (vptr b·inputs o·inputs))
-        ∷ ‵ (fdies (tyRef erased mut (tyInt w32)) l26)
-        ∷ ‵ (fat fullShare (sliceTy (tyRef erased mut (tyInt w32))) l25 0 s·symbols)
-        ∷ ‵ (fdies (sliceTy (tyRef erased mut (tyInt w32))) l25)
-        ∷ ‵ (fat fullShare (tyRef erased mut (tyInt w32)) l24 0 (vptr b·symbols o·symbols))
-        ∷ ‵ (fdies (tyRef erased mut (tyInt w32)) l24)
-        ∷ ‵ (fat fullShare (sliceTy (tyRef erased mut (tyInt w32))) l23 0 s·sorts)
-        ∷ ‵ (fdies (sliceTy (tyRef erased mut (tyInt w32))) l23)
-        ∷ ‵ (fat fullShare (tyRef erased mut (tyInt w32)) l22 0 (vptr b·sorts o·sorts))
-        ∷ ‵ (fdies (tyRef erased mut (tyInt w32)) l22)
+        ∷ ‵ (fat fullShare (sliceTy (tyRef erased mut (tyInt w32))) l60 0 (sliceVal (l22, 0) 4096))
+        ∷ ‵ (fdies (sliceTy (tyRef erased mut (tyInt w32))) l60)
+        ∷ ‵ (fat fullShare (tyRef erased mut (tyArray (tyInt w32) 4096)) l59 0 (vptr l22 0))
+        ∷ ‵ (fdies (tyRef erased mut (tyArray (tyInt w32) 4096)) l59)
+        ∷ ‵ (fat fullShare (sliceTy (tyRef erased mut (tyInt w32))) l58 0 (sliceVal (l21, 0) 40960))
+        ∷ ‵ (fdies (sliceTy (tyRef erased mut (tyInt w32))) l58)
+        ∷ ‵ (fat fullShare (tyRef erased mut (tyArray (tyInt w32) 40960)) l57 0 (vptr l21 0))
+        ∷ ‵ (fdies (tyRef erased mut (tyArray (tyInt w32) 40960)) l57)
+        ∷ ‵ (fat fullShare (sliceTy (tyRef erased mut (tyInt w32))) l56 0 (sliceVal (l20, 0) 65536))
+        ∷ ‵ (fdies (sliceTy (tyRef erased mut (tyInt w32))) l56)
+        ∷ ‵ (fat fullShare (tyRef erased mut (tyArray (tyInt w32) 65536)) l55 0 (vptr l20 0))
+        ∷ ‵ (fdies (tyRef erased mut (tyArray (tyInt w32) 65536)) l55)
+        ∷ ‵ (fat fullShare (sliceTy (tyRef erased mut (tyInt w64))) l54 0 (sliceVal (l19, 0) 4096))
+        ∷ ‵ (fdies (sliceTy (tyRef erased mut (tyInt w64))) l54)
+        ∷ ‵ (fat fullShare (tyRef erased mut (tyArray (tyInt w64) 4096)) l53 0 (vptr l19 0))
+        ∷ ‵ (fdies (tyRef erased mut (tyArray (tyInt w64) 4096)) l53)
+        ∷ ‵ (fat fullShare (sliceTy (tyRef erased mut (tyInt w32))) l52 0 (sliceVal (l18, 0) 6144))
+        ∷ ‵ (fdies (sliceTy (tyRef erased mut (tyInt w32))) l52)
+        ∷ ‵ (fat fullShare (tyRef erased mut (tyArray (tyInt w32) 6144)) l51 0 (vptr l18 0))
+        ∷ ‵ (fdies (tyRef erased mut (tyArray (tyInt w32) 6144)) l51)
+        ∷ ‵ (fat fullShare (sliceTy (tyRef erased mut (pointee (FactT.the-row .written)))) l50 0 s·facts)
+        ∷ ‵ (fdies (sliceTy (tyRef erased mut (pointee (FactT.the-row .written)))) l50)
+        ∷ ‵ (fat fullShare (tyRef erased mut (pointee (FactT.the-row .written))) l49 0 (vptr b·facts o·facts))
+        ∷ ‵ (fdies (tyRef erased mut (pointee (FactT.the-row .written))) l49)
+        ∷ ‵ (fat fullShare (sliceTy (tyRef erased mut (tyInt w32))) l48 0 s·missing)
+        ∷ ‵ (fdies (sliceTy (tyRef erased mut (tyInt w32))) l48)
+        ∷ ‵ (fat fullShare (tyRef erased mut (tyInt w32)) l47 0 (vptr b·missing o·missing))
+        ∷ ‵ (fdies (tyRef erased mut (tyInt w32)) l47)
+        ∷ ‵ (fat fullShare (sliceTy (tyRef erased mut (tyInt w32))) l46 0 s·lists)
+        ∷ ‵ (fdies (sliceTy (tyRef erased mut (tyInt w32))) l46)
+        ∷ ‵ (fat fullShare (tyRef erased mut (tyInt w32)) l45 0 (vptr b·lists o·lists))
+        ∷ ‵ (fdies (tyRef erased mut (tyInt w32)) l45)
+        ∷ ‵ (fat fullShare (sliceTy (tyRef erased mut (tyInt w32))) l44 0 s·rows)
+        ∷ ‵ (fdies (sliceTy (tyRef erased mut (tyInt w32))) l44)
+        ∷ ‵ (fat fullShare (tyRef erased mut (tyInt w32)) l43 0 (vptr b·rows o·rows))
+        ∷ ‵ (fdies (tyRef erased mut (tyInt w32)) l43)
+        ∷ ‵ (fat fullShare (sliceTy (tyRef erased mut (tyInt w32))) l42 0 s·defs)
+        ∷ ‵ (fdies (sliceTy (tyRef erased mut (tyInt w32))) l42)
+        ∷ ‵ (fat fullShare (tyRef erased mut (tyInt w32)) l41 0 (vptr b·defs o·defs))
+        ∷ ‵ (fdies (tyRef erased mut (tyInt w32)) l41)
+        ∷ ‵ (fat fullShare (sliceTy (tyRef erased mut (tyInt w32))) l40 0 s·words)
+        ∷ ‵ (fdies (sliceTy (tyRef erased mut (tyInt w32))) l40)
+        ∷ ‵ (fat fullShare (tyRef erased mut (tyInt w32)) l39 0 (vptr b·words o·words))
+        ∷ ‵ (fdies (tyRef erased mut (tyInt w32)) l39)
+        ∷ ‵ (fat fullShare (sliceTy (tyRef erased mut (tyInt w32))) l38 0 s·index)
+        ∷ ‵ (fdies (sliceTy (tyRef erased mut (tyInt w32))) l38)
+        ∷ ‵ (fat fullShare (tyRef erased mut (tyInt w32)) l37 0 (vptr b·index o·index))
+        ∷ ‵ (fdies (tyRef erased mut (tyInt w32)) l37)
+        ∷ ‵ (fat fullShare (sliceTy (tyRef erased mut (tyInt w32))) l36 0 s·vars)
+        ∷ ‵ (fdies (sliceTy (tyRef erased mut (tyInt w32))) l36)
+        ∷ ‵ (fat fullShare (tyRef erased mut (tyInt w32)) l35 0 (vptr b·vars o·vars))
+        ∷ ‵ (fdies (tyRef erased mut (tyInt w32)) l35)
+        ∷ ‵ (fat fullShare (sliceTy (tyRef erased mut (tyInt w32))) l34 0 s·patterns)
+        ∷ ‵ (fdies (sliceTy (tyRef erased mut (tyInt w32))) l34)
+        ∷ ‵ (fat fullShare (tyRef erased mut (tyInt w32)) l33 0 (vptr b·patterns o·patterns))
+        ∷ ‵ (fdies (tyRef erased mut (tyInt w32)) l33)
+        ∷ ‵ (fat fullShare (sliceTy (tyRef erased mut (tyInt w32))) l32 0 s·rulevars)
+        ∷ ‵ (fdies (sliceTy (tyRef erased mut (tyInt w32))) l32)
+        ∷ ‵ (fat fullShare (tyRef erased mut (tyInt w32)) l31 0 (vptr b·rulevars o·rulevars))
+        ∷ ‵ (fdies (tyRef erased mut (tyInt w32)) l31)
+        ∷ ‵ (fat fullShare (sliceTy (tyRef erased mut (tyInt w32))) l30 0 s·rules)
+        ∷ ‵ (fdies (sliceTy (tyRef erased mut (tyInt w32))) l30)
+        ∷ ‵ (fat fullShare (tyRef erased mut (tyInt w32)) l29 0 (vptr b·rules o·rules))
+        ∷ ‵ (fdies (tyRef erased mut (tyInt w32)) l29)
+        ∷ ‵ (fat fullShare (sliceTy (tyRef erased mut (tyInt w32))) l28 0 s·inputs)
+        ∷ ‵ (fdies (sliceTy (tyRef erased mut (tyInt w32))) l28)
+        ∷ ‵ (fat fullShare (tyRef erased mut (tyInt w32)) l27 0 (vptr b·inputs o·inputs))
+        ∷ ‵ (fdies (tyRef erased mut (tyInt w32)) l27)
+        ∷ ‵ (fat fullShare (sliceTy (tyRef erased mut (tyInt w32))) l26 0 s·symbols)
+        ∷ ‵ (fdies (sliceTy (tyRef erased mut (tyInt w32))) l26)
+        ∷ ‵ (fat fullShare (tyRef erased mut (tyInt w32)) l25 0 (vptr b·symbols o·symbols))
+        ∷ ‵ (fdies (tyRef erased mut (tyInt w32)) l25)
+        ∷ ‵ (fat fullShare (sliceTy (tyRef erased mut (tyInt w32))) l24 0 s·sorts)
+        ∷ ‵ (fdies (sliceTy (tyRef erased mut (tyInt w32))) l24)
+        ∷ ‵ (fat fullShare (tyRef erased mut (tyInt w32)) l23 0 (vptr b·sorts o·sorts))
+        ∷ ‵ (fdies (tyRef erased mut (tyInt w32)) l23)
+        ∷ ‵ (fat fullShare (tyArray (tyInt w32) 4096) l22 0 (manyVal 4096 (vint w32 0)))
+        ∷ ‵ (fdies (tyArray (tyInt w32) 4096) l22)
+        ∷ ‵ (fat fullShare (tyArray (tyInt w32) 40960) l21 0 (manyVal 40960 (vint w32 0)))
         ∷ ‵ (fdies (tyArray (tyInt w32) 40960) l21)
+        ∷ ‵ (fat fullShare (tyArray (tyInt w32) 65536) l20 0 (manyVal 65536 (vint w32 0)))
         ∷ ‵ (fdies (tyArray (tyInt w32) 65536) l20)
         ∷ ‵ (fdies (tyArray (tyInt w64) 4096) l19)
         ∷ ‵ (fdies (tyArray (tyInt w32) 6144) l18)
@@ -1499,15 +1679,33 @@ module _ {M : Type 1} (𝓤 : URA M) (H : Heap 𝓤) (A : Atoms 𝓤) (W : Given
         ∷ ‵ (froom AnswerL.mir l0 0)
         ∷ ‵ (fdies AnswerL.mir l0) ∷ [])
         (runs C Λ (En l0 l1 l2 l3 l4 l5 l6 l7 l8 l9 l10 l11 l12 l13 l14 l15 l16 l17 l18 l19 l20 l21 l22 l23 l24 l25 l26 l27 l28 l29 l30 l31 l32 l33
-        l34 l35 l36 l37 l38 l39 l40 l41 l42 l43 l44 l45 l46 l47 l48 l49 l50 l51 l52 l53 l54 l55 l56 l57) pieces.t-41
+        l34 l35 l36 l37 l38 l39 l40 l41 l42 l43 l44 l45 l46 l47 l48 l49 l50 l51 l52 l53 l54 l55 l56 l57 l58 l59 l60) pieces.t-44
         (atRet (En l0 l1 l2 l3 l4 l5 l6 l7 l8 l9 l10 l11 l12 l13 l14 l15 l16 l17 l18 l19 l20 l21 l22 l23 l24 l25 l26 l27 l28 l29 l30 l31 l32 l33 l34
-        l35 l36 l37 l38 l39 l40 l41 l42 l43 l44 l45 l46 l47 l48 l49 l50 l51 l52 l53 l54 l55 l56 l57) Post))
+        l35 l36 l37 l38 l39 l40 l41 l42 l43 l44 l45 l46 l47 l48 l49 l50 l51 l52 l53 l54 l55 l56 l57 l58 l59 l60) Post))
     seg·2 l0 l1 l2 l3 l4 l5 l6 l7 l8 l9 l10 l11 l12 l13 l14 l15 l16 l17 l18 l19 l20 l21 l22 l23 l24 l25 l26 l27 l28 l29 l30 l31 l32 l33 l34 l35 l36
-        l37 l38 l39 l40 l41 l42 l43 l44 l45 l46 l47 l48 l49 l50 l51 l52 l53 l54 l55 l56 l57 is·kept is·feet is·cells is·ids ν·1·17 δ·1·17 ν·1·18
-        δ·1·18 ν·1·19 δ·1·19 ν·1·20 δ·1·20 =
-        move ! (34 ∷ 33 ∷ 32 ∷ 31 ∷ 30 ∷ 29 ∷ 28 ∷ 27 ∷ 26 ∷ 25 ∷ 24 ∷ 23 ∷ 22 ∷ 21 ∷ 19 ∷ 18 ∷ 20 ∷ 11 ∷ 8 ∷ 5 ∷ 2 ∷ 16 ∷ 14 ∷ 12 ∷ 48 ∷ 47 ∷ 46 ∷ 45
-        ∷ 44 ∷ 43 ∷ 42 ∷ 41 ∷ 40 ∷ 39 ∷ 38 ∷ 36 ∷ 35 ∷ 37 ∷ 9 ∷ 6 ∷ 3 ∷ 0 ∷ []) $
-        group ! 42 $
+        l37 l38 l39 l40 l41 l42 l43 l44 l45 l46 l47 l48 l49 l50 l51 l52 l53 l54 l55 l56 l57 l58 l59 l60 is·kept is·feet is·cells is·ids is·memo ν·1·17
+        δ·1·17 ν·1·18 δ·1·18 =
+        lft-new ! tt (λ ν·1·19.
+        move ! (127 ∷ 15 ∷ []) $
+        use2 W (later (some (λ (δ : GName). ‵ (MutSlice (named 19) (ν·1·19 ∷ []) u32 .own
+        (record { ptr = (l20, 0); name = δ; now = (many ℕ 65536 0) }) (sliceVal (l20, 0) 65536 ∷ []))
+        ⊛ ‵ (flent (ν·1·19 ∷ []) (Held u32 65536 l20 0 δ))))) (array-lent u32 tt 65536 (lit< tt, lit< tt) (ν·1·19 ∷ []) l20 𝓤 H A W (named 19)
+        (many ℕ 65536 0) (manyVal 65536 (vint w32 0))) $ await ! tt $ pick ! (λ δ·1·19. split ! $
+        lft-new ! tt (λ ν·1·20.
+        move ! (127 ∷ 17 ∷ []) $
+        use2 W (later (some (λ (δ : GName). ‵ (MutSlice (named 20) (ν·1·20 ∷ []) u32 .own
+        (record { ptr = (l21, 0); name = δ; now = (many ℕ 40960 0) }) (sliceVal (l21, 0) 40960 ∷ []))
+        ⊛ ‵ (flent (ν·1·20 ∷ []) (Held u32 40960 l21 0 δ))))) (array-lent u32 tt 40960 (lit< tt, lit< tt) (ν·1·20 ∷ []) l21 𝓤 H A W (named 20)
+        (many ℕ 40960 0) (manyVal 40960 (vint w32 0))) $ await ! tt $ pick ! (λ δ·1·20. split ! $
+        lft-new ! tt (λ ν·1·21.
+        move ! (127 ∷ 19 ∷ []) $
+        use2 W (later (some (λ (δ : GName). ‵ (MutSlice (named 21) (ν·1·21 ∷ []) u32 .own (record { ptr = (l22, 0); name = δ; now = (many ℕ 4096 0) })
+        (sliceVal (l22, 0) 4096 ∷ [])) ⊛ ‵ (flent (ν·1·21 ∷ []) (Held u32 4096 l22 0 δ)))))
+        (array-lent u32 tt 4096 (lit< tt, lit< tt) (ν·1·21 ∷ []) l22 𝓤 H A W (named 21) (many ℕ 4096 0) (manyVal 4096 (vint w32 0))) $ await ! tt $
+        pick ! (λ δ·1·21. split ! $
+        move ! (37 ∷ 36 ∷ 35 ∷ 34 ∷ 33 ∷ 32 ∷ 31 ∷ 30 ∷ 29 ∷ 28 ∷ 27 ∷ 26 ∷ 25 ∷ 24 ∷ 22 ∷ 21 ∷ 23 ∷ 14 ∷ 11 ∷ 8 ∷ 5 ∷ 2 ∷ 19 ∷ 17 ∷ 15 ∷ 51 ∷ 50 ∷ 49
+        ∷ 48 ∷ 47 ∷ 46 ∷ 45 ∷ 44 ∷ 43 ∷ 42 ∷ 41 ∷ 39 ∷ 38 ∷ 40 ∷ 12 ∷ 9 ∷ 6 ∷ 3 ∷ 0 ∷ []) $
+        group ! 44 $
         use1 W (raw ((G1·C 𝓤 H A at-mem run) .pre (
           (
             ((
@@ -1524,7 +1722,7 @@ module _ {M : Type 1} (𝓤 : URA M) (H : Heap 𝓤) (A : Atoms 𝓤) (W : Given
                         κ·inputs,
                         (
                           κ·rules,
-                          (κ·rulevars, (κ·patterns, (κ·vars, (κ·index, (κ·words, (κ·defs, (κ·rows, (κ·lists, (κ·missing, (κ·facts, ((ν·1·17 ∷ []), ((ν·1·18 ∷ []), ((ν·1·19 ∷ []), ((ν·1·20 ∷ []), tt)))))))))))))),
+                          (κ·rulevars, (κ·patterns, (κ·vars, (κ·index, (κ·words, (κ·defs, (κ·rows, (κ·lists, (κ·missing, (κ·facts, ((ν·1·17 ∷ []), ((ν·1·18 ∷ []), ((ν·1·19 ∷ []), ((ν·1·20 ∷ []), ((ν·1·21 ∷ []), tt))))))))))))))),
                         ),
                       ),
                     ),
@@ -1532,7 +1730,7 @@ module _ {M : Type 1} (𝓤 : URA M) (H : Heap 𝓤) (A : Atoms 𝓤) (W : Given
                 ),
               ),
             )),
-            ((q·theory, (q·goals, (q·proof, (q·sorts, (q·symbols, (q·inputs, (q·rules, (q·rulevars, (q·patterns, (q·vars, (q·index, (q·words, (q·defs, (q·rows, (q·lists, (q·missing, (q·facts, (fullShare, (fullShare, (fullShare, (fullShare, tt)))))))))))))))))))))),
+            ((q·theory, (q·goals, (q·proof, (q·sorts, (q·symbols, (q·inputs, (q·rules, (q·rulevars, (q·patterns, (q·vars, (q·index, (q·words, (q·defs, (q·rows, (q·lists, (q·missing, (q·facts, (fullShare, (fullShare, (fullShare, (fullShare, (fullShare, tt))))))))))))))))))))))),
             tt,
             (
               (ref·theory γ·theory theory),
@@ -1570,7 +1768,13 @@ module _ {M : Type 1} (𝓤 : URA M) (H : Heap 𝓤) (A : Atoms 𝓤) (W : Given
                                               (ref·facts γ·facts facts),
                                               (
                                                 (record { ptr = (l18, 0); name = δ·1·17; now = (many ℕ 6144 0) }),
-                                                ((record { ptr = (l19, 0); name = δ·1·18; now = (many ℕ 4096 0) }), ((record { ptr = (l20, 0); name = δ·1·19; now = (many ℕ 65536 0) }), ((record { ptr = (l21, 0); name = δ·1·20; now = (many ℕ 40960 0) }), tt))),
+                                                (
+                                                  (record { ptr = (l19, 0); name = δ·1·18; now = (many ℕ 4096 0) }),
+                                                  (
+                                                    (record { ptr = (l20, 0); name = δ·1·19; now = (many ℕ 65536 0) }),
+                                                    ((record { ptr = (l21, 0); name = δ·1·20; now = (many ℕ 40960 0) }), ((record { ptr = (l22, 0); name = δ·1·21; now = (many ℕ 4096 0) }), tt)),
+                                                  ),
+                                                ),
                                               ),
                                             ),
                                           ),
@@ -1609,7 +1813,22 @@ module _ {M : Type 1} (𝓤 : URA M) (H : Heap 𝓤) (A : Atoms 𝓤) (W : Given
                               s·patterns ∷ [],
                               (
                                 s·vars ∷ [],
-                                (s·index ∷ [], (s·words ∷ [], (s·defs ∷ [], (s·rows ∷ [], (s·lists ∷ [], (s·missing ∷ [], (s·facts ∷ [], ((sliceVal (l18, 0) 6144) ∷ [], ((sliceVal (l19, 0) 4096) ∷ [], ((sliceVal (l20, 0) 65536) ∷ [], ((sliceVal (l21, 0) 40960) ∷ [], tt))))))))))),
+                                (
+                                  s·index ∷ [],
+                                  (
+                                    s·words ∷ [],
+                                    (
+                                      s·defs ∷ [],
+                                      (
+                                        s·rows ∷ [],
+                                        (
+                                          s·lists ∷ [],
+                                          (s·missing ∷ [], (s·facts ∷ [], ((sliceVal (l18, 0) 6144) ∷ [], ((sliceVal (l19, 0) 4096) ∷ [], ((sliceVal (l20, 0) 65536) ∷ [], ((sliceVal (l21, 0) 40960) ∷ [], ((sliceVal (l22, 0) 4096) ∷ [], tt))))))),
+                                        ),
+                                      ),
+                                    ),
+                                  ),
+                                ),
                               ),
                             ),
                           ),
@@ -1627,7 +1846,7 @@ module _ {M : Type 1} (𝓤 : URA M) (H : Heap 𝓤) (A : Atoms 𝓤) (W : Given
         ∷ ‵ (flft κ·patterns q·patterns) ∷ ‵ (flft κ·vars q·vars) ∷ ‵ (flft κ·index q·index) ∷ ‵ (flft κ·words q·words) ∷ ‵ (flft κ·defs q·defs)
         ∷ ‵ (flft κ·rows q·rows) ∷ ‵ (flft κ·lists q·lists) ∷ ‵ (flft κ·missing q·missing) ∷ ‵ (flft κ·facts q·facts)
         ∷ ‵ (flft (ν·1·17 ∷ []) fullShare) ∷ ‵ (flft (ν·1·18 ∷ []) fullShare) ∷ ‵ (flft (ν·1·19 ∷ []) fullShare) ∷ ‵ (flft (ν·1·20 ∷ []) fullShare)
-        ∷ ‵ (ShrSlice (named 0) κ·theory u8 .own (ref·theory γ·theory theory) (s·theory ∷ []))
+        ∷ ‵ (flft (ν·1·21 ∷ []) fullShare) ∷ ‵ (ShrSlice (named 0) κ·theory u8 .own (ref·theory γ·theory theory) (s·theory ∷ []))
         ∷ ‵ (ShrSlice (named 1) κ·goals u8 .own (ref·goals γ·goals goals) (s·goals ∷ []))
         ∷ ‵ (ShrSlice (named 2) κ·proof u8 .own (ref·proof γ·proof proof) (s·proof ∷ []))
         ∷ ‵ (MutSlice (named 3) κ·sorts u32 .own (ref·sorts γ·sorts sorts) (s·sorts ∷ []))
@@ -1649,13 +1868,15 @@ module _ {M : Type 1} (𝓤 : URA M) (H : Heap 𝓤) (A : Atoms 𝓤) (W : Given
         (record { ptr = (l19, 0); name = δ·1·18; now = (many ℕ 4096 0) }) ((sliceVal (l19, 0) 4096) ∷ []))
         ∷ ‵ (MutSlice (named 19) (ν·1·19 ∷ []) u32 .own (record { ptr = (l20, 0); name = δ·1·19; now = (many ℕ 65536 0) })
         ((sliceVal (l20, 0) 65536) ∷ [])) ∷ ‵ (MutSlice (named 20) (ν·1·20 ∷ []) u32 .own
-        (record { ptr = (l21, 0); name = δ·1·20; now = (many ℕ 40960 0) }) ((sliceVal (l21, 0) 40960) ∷ [])) ∷ []) ∵
-        says ! (blank-many 6144 4096 65536 40960 refl refl refl refl) $ nothing ! $ move ! (21 ∷ 0 ∷ []) $ join ! $ move ! (20 ∷ 0 ∷ []) $ join ! $
-        move ! (19 ∷ 0 ∷ []) $ join ! $ move ! (18 ∷ 0 ∷ []) $ join ! $ move ! (17 ∷ 0 ∷ []) $ join ! $ move ! (16 ∷ 0 ∷ []) $ join ! $
-        move ! (15 ∷ 0 ∷ []) $ join ! $ move ! (14 ∷ 0 ∷ []) $ join ! $ move ! (13 ∷ 0 ∷ []) $ join ! $ move ! (12 ∷ 0 ∷ []) $ join ! $
-        move ! (11 ∷ 0 ∷ []) $ join ! $ move ! (10 ∷ 0 ∷ []) $ join ! $ move ! (9 ∷ 0 ∷ []) $ join ! $ move ! (8 ∷ 0 ∷ []) $ join ! $
-        move ! (7 ∷ 0 ∷ []) $ join ! $ move ! (6 ∷ 0 ∷ []) $ join ! $ move ! (5 ∷ 0 ∷ []) $ join ! $ move ! (4 ∷ 0 ∷ []) $ join ! $
-        move ! (3 ∷ 0 ∷ []) $ join ! $ move ! (2 ∷ 0 ∷ []) $ join ! $ move ! (1 ∷ 0 ∷ []) $ join ! $ frame ! $ nothing ! $ move ! (21 ∷ 0 ∷ []) $
+        (record { ptr = (l21, 0); name = δ·1·20; now = (many ℕ 40960 0) }) ((sliceVal (l21, 0) 40960) ∷ []))
+        ∷ ‵ (MutSlice (named 21) (ν·1·21 ∷ []) u32 .own (record { ptr = (l22, 0); name = δ·1·21; now = (many ℕ 4096 0) })
+        ((sliceVal (l22, 0) 4096) ∷ [])) ∷ []) ∵ says ! (blank-many 6144 4096 65536 40960 4096 refl refl refl refl refl) $ nothing ! $
+        move ! (22 ∷ 0 ∷ []) $ join ! $ move ! (21 ∷ 0 ∷ []) $ join ! $ move ! (20 ∷ 0 ∷ []) $ join ! $ move ! (19 ∷ 0 ∷ []) $ join ! $
+        move ! (18 ∷ 0 ∷ []) $ join ! $ move ! (17 ∷ 0 ∷ []) $ join ! $ move ! (16 ∷ 0 ∷ []) $ join ! $ move ! (15 ∷ 0 ∷ []) $ join ! $
+        move ! (14 ∷ 0 ∷ []) $ join ! $ move ! (13 ∷ 0 ∷ []) $ join ! $ move ! (12 ∷ 0 ∷ []) $ join ! $ move ! (11 ∷ 0 ∷ []) $ join ! $
+        move ! (10 ∷ 0 ∷ []) $ join ! $ move ! (9 ∷ 0 ∷ []) $ join ! $ move ! (8 ∷ 0 ∷ []) $ join ! $ move ! (7 ∷ 0 ∷ []) $ join ! $
+        move ! (6 ∷ 0 ∷ []) $ join ! $ move ! (5 ∷ 0 ∷ []) $ join ! $ move ! (4 ∷ 0 ∷ []) $ join ! $ move ! (3 ∷ 0 ∷ []) $ join ! $
+        move ! (2 ∷ 0 ∷ []) $ join ! $ move ! (1 ∷ 0 ∷ []) $ join ! $ frame ! $ nothing ! $ move ! (22 ∷ 0 ∷ []) $ fjoin ! $ move ! (21 ∷ 0 ∷ []) $
         fjoin ! $ move ! (20 ∷ 0 ∷ []) $ fjoin ! $ move ! (19 ∷ 0 ∷ []) $ fjoin ! $ move ! (18 ∷ 0 ∷ []) $ fjoin ! $ move ! (17 ∷ 0 ∷ []) $ fjoin ! $
         move ! (16 ∷ 0 ∷ []) $ fjoin ! $ move ! (15 ∷ 0 ∷ []) $ fjoin ! $ move ! (14 ∷ 0 ∷ []) $ fjoin ! $ move ! (13 ∷ 0 ∷ []) $ fjoin ! $
         move ! (12 ∷ 0 ∷ []) $ fjoin ! $ move ! (11 ∷ 0 ∷ []) $ fjoin ! $ move ! (10 ∷ 0 ∷ []) $ fjoin ! $ move ! (9 ∷ 0 ∷ []) $ fjoin ! $
@@ -1677,7 +1898,7 @@ module _ {M : Type 1} (𝓤 : URA M) (H : Heap 𝓤) (A : Atoms 𝓤) (W : Given
                         κ·inputs,
                         (
                           κ·rules,
-                          (κ·rulevars, (κ·patterns, (κ·vars, (κ·index, (κ·words, (κ·defs, (κ·rows, (κ·lists, (κ·missing, (κ·facts, ((ν·1·17 ∷ []), ((ν·1·18 ∷ []), ((ν·1·19 ∷ []), ((ν·1·20 ∷ []), tt)))))))))))))),
+                          (κ·rulevars, (κ·patterns, (κ·vars, (κ·index, (κ·words, (κ·defs, (κ·rows, (κ·lists, (κ·missing, (κ·facts, ((ν·1·17 ∷ []), ((ν·1·18 ∷ []), ((ν·1·19 ∷ []), ((ν·1·20 ∷ []), ((ν·1·21 ∷ []), tt))))))))))))))),
                         ),
                       ),
                     ),
@@ -1685,7 +1906,7 @@ module _ {M : Type 1} (𝓤 : URA M) (H : Heap 𝓤) (A : Atoms 𝓤) (W : Given
                 ),
               ),
             )),
-            ((q·theory, (q·goals, (q·proof, (q·sorts, (q·symbols, (q·inputs, (q·rules, (q·rulevars, (q·patterns, (q·vars, (q·index, (q·words, (q·defs, (q·rows, (q·lists, (q·missing, (q·facts, (fullShare, (fullShare, (fullShare, (fullShare, tt)))))))))))))))))))))),
+            ((q·theory, (q·goals, (q·proof, (q·sorts, (q·symbols, (q·inputs, (q·rules, (q·rulevars, (q·patterns, (q·vars, (q·index, (q·words, (q·defs, (q·rows, (q·lists, (q·missing, (q·facts, (fullShare, (fullShare, (fullShare, (fullShare, (fullShare, tt))))))))))))))))))))))),
             tt,
             (
               (ref·theory γ·theory theory),
@@ -1723,7 +1944,13 @@ module _ {M : Type 1} (𝓤 : URA M) (H : Heap 𝓤) (A : Atoms 𝓤) (W : Given
                                               (ref·facts γ·facts facts),
                                               (
                                                 (record { ptr = (l18, 0); name = δ·1·17; now = (many ℕ 6144 0) }),
-                                                ((record { ptr = (l19, 0); name = δ·1·18; now = (many ℕ 4096 0) }), ((record { ptr = (l20, 0); name = δ·1·19; now = (many ℕ 65536 0) }), ((record { ptr = (l21, 0); name = δ·1·20; now = (many ℕ 40960 0) }), tt))),
+                                                (
+                                                  (record { ptr = (l19, 0); name = δ·1·18; now = (many ℕ 4096 0) }),
+                                                  (
+                                                    (record { ptr = (l20, 0); name = δ·1·19; now = (many ℕ 65536 0) }),
+                                                    ((record { ptr = (l21, 0); name = δ·1·20; now = (many ℕ 40960 0) }), ((record { ptr = (l22, 0); name = δ·1·21; now = (many ℕ 4096 0) }), tt)),
+                                                  ),
+                                                ),
                                               ),
                                             ),
                                           ),
@@ -1762,75 +1989,17 @@ module _ {M : Type 1} (𝓤 : URA M) (H : Heap 𝓤) (A : Atoms 𝓤) (W : Given
                               s·patterns ∷ [],
                               (
                                 s·vars ∷ [],
-                                (s·index ∷ [], (s·words ∷ [], (s·defs ∷ [], (s·rows ∷ [], (s·lists ∷ [], (s·missing ∷ [], (s·facts ∷ [], ((sliceVal (l18, 0) 6144) ∷ [], ((sliceVal (l19, 0) 4096) ∷ [], ((sliceVal (l20, 0) 65536) ∷ [], ((sliceVal (l21, 0) 40960) ∷ [], tt))))))))))),
-                              ),
-                            ),
-                          ),
-                        ),
-                      ),
-                    ),
-                  ),
-                ),
-              ),
-            ),
-          ),
-          tt,
-        ) (and-then ! (load ! (from ! (stop !)) (look ! 116 refl)) (and-then ! (load ! (from ! (stop !)) (look ! 114 refl))
-        (and-then ! (load ! (from ! (stop !)) (look ! 112 refl)) (and-then ! (load ! (from ! (stop !)) (look ! 76 refl))
-        (and-then ! (load ! (from ! (stop !)) (look ! 72 refl)) (and-then ! (load ! (from ! (stop !)) (look ! 68 refl))
-        (and-then ! (load ! (from ! (stop !)) (look ! 64 refl)) (and-then ! (load ! (from ! (stop !)) (look ! 60 refl))
-        (and-then ! (load ! (from ! (stop !)) (look ! 56 refl)) (and-then ! (load ! (from ! (stop !)) (look ! 52 refl))
-        (and-then ! (load ! (from ! (stop !)) (look ! 48 refl)) (and-then ! (load ! (from ! (stop !)) (look ! 44 refl))
-        (and-then ! (load ! (from ! (stop !)) (look ! 40 refl)) (and-then ! (load ! (from ! (stop !)) (look ! 36 refl))
-        (and-then ! (load ! (from ! (stop !)) (look ! 32 refl)) (and-then ! (load ! (from ! (stop !)) (look ! 28 refl))
-        (and-then ! (load ! (from ! (stop !)) (look ! 24 refl)) (and-then ! (load ! (from ! (stop !)) (look ! 20 refl))
-        (and-then ! (load ! (from ! (stop !)) (look ! 16 refl)) (and-then ! (load ! (from ! (stop !)) (look ! 12 refl))
-        (and-then ! (load ! (from ! (stop !)) (look ! 8 refl)) (no-more !)))))))))))))))))))))) (λ v1.
-        use1 W (later (some (λ (r1 : Answer). ((‵ (flft κ·theory q·theory) ⊛ ‵ (flft κ·goals q·goals) ⊛ ‵ (flft κ·proof q·proof)
-        ⊛ ‵ (flft κ·sorts q·sorts) ⊛ ‵ (flft κ·symbols q·symbols) ⊛ ‵ (flft κ·inputs q·inputs) ⊛ ‵ (flft κ·rules q·rules)
-        ⊛ ‵ (flft κ·rulevars q·rulevars) ⊛ ‵ (flft κ·patterns q·patterns) ⊛ ‵ (flft κ·vars q·vars) ⊛ ‵ (flft κ·index q·index)
-        ⊛ ‵ (flft κ·words q·words) ⊛ ‵ (flft κ·defs q·defs) ⊛ ‵ (flft κ·rows q·rows) ⊛ ‵ (flft κ·lists q·lists) ⊛ ‵ (flft κ·missing q·missing)
-        ⊛ ‵ (flft κ·facts q·facts) ⊛ ‵ (flft (ν·1·17 ∷ []) fullShare) ⊛ ‵ (flft (ν·1·18 ∷ []) fullShare) ⊛ ‵ (flft (ν·1·19 ∷ []) fullShare)
-        ⊛ ‵ (flft (ν·1·20 ∷ []) fullShare) ⊛ ‵ ftrue) ⊛ ‵ (AnswerT.the-row .own r1 (v1 ∷ []))) ⊛ raw
-        (ensured 𝓤 H A G1.ended (G1.clauses 𝓤 H A at-mem run)
-        (κ·theory, (κ·goals, (κ·proof, (κ·sorts, (κ·symbols, (κ·inputs, (κ·rules, (κ·rulevars, (κ·patterns, (κ·vars, (κ·index, (κ·words, (κ·defs, (κ·rows, (κ·lists, (κ·missing, (κ·facts, ((ν·1·17 ∷ []), ((ν·1·18 ∷ []), ((ν·1·19 ∷ []), ((ν·1·20 ∷ []), tt))))))))))))))))))))) (
-          (ref·theory γ·theory theory),
-          (
-            (ref·goals γ·goals goals),
-            (
-              (ref·proof γ·proof proof),
-              (
-                (ref·sorts γ·sorts sorts),
-                (
-                  (ref·symbols γ·symbols symbols),
-                  (
-                    (ref·inputs γ·inputs inputs),
-                    (
-                      (ref·rules γ·rules rules),
-                      (
-                        (ref·rulevars γ·rulevars rulevars),
-                        (
-                          (ref·patterns γ·patterns patterns),
-                          (
-                            (ref·vars γ·vars vars),
-                            (
-                              (ref·index γ·index index),
-                              (
-                                (ref·words γ·words words),
                                 (
-                                  (ref·defs γ·defs defs),
+                                  s·index ∷ [],
                                   (
-                                    (ref·rows γ·rows rows),
+                                    s·words ∷ [],
                                     (
-                                      (ref·lists γ·lists lists),
+                                      s·defs ∷ [],
                                       (
-                                        (ref·missing γ·missing missing),
+                                        s·rows ∷ [],
                                         (
-                                          (ref·facts γ·facts facts),
-                                          (
-                                            (record { ptr = (l18, 0); name = δ·1·17; now = (many ℕ 6144 0) }),
-                                            ((record { ptr = (l19, 0); name = δ·1·18; now = (many ℕ 4096 0) }), ((record { ptr = (l20, 0); name = δ·1·19; now = (many ℕ 65536 0) }), ((record { ptr = (l21, 0); name = δ·1·20; now = (many ℕ 40960 0) }), tt))),
-                                          ),
+                                          s·lists ∷ [],
+                                          (s·missing ∷ [], (s·facts ∷ [], ((sliceVal (l18, 0) 6144) ∷ [], ((sliceVal (l19, 0) 4096) ∷ [], ((sliceVal (l20, 0) 65536) ∷ [], ((sliceVal (l21, 0) 40960) ∷ [], ((sliceVal (l22, 0) 4096) ∷ [], tt))))))),
                                         ),
                                       ),
                                     ),
@@ -1847,13 +2016,26 @@ module _ {M : Type 1} (𝓤 : URA M) (H : Heap 𝓤) (A : Atoms 𝓤) (W : Given
               ),
             ),
           ),
-        )
-        tt r1)))) (id⊢ 𝓤 _) $ await ! tt $ pick ! (λ r1. split ! $ move ! (1 ∷ []) $
-        use1 W (some (λ (ws1 : (Unit {0} × (Unit {0} × (Unit {0} × ((List ℕ) ×
-        ((List ℕ) × ((List ℕ) × ((List ℕ) × ((List ℕ) × ((List ℕ) × ((List ℕ) ×
-        ((List ℕ) × ((List ℕ) × ((List ℕ) × ((List ℕ) × ((List ℕ) × ((List ℕ) ×
-        ((List Fact) × ((List ℕ) × ((List ℕ) × ((List ℕ) × ((List ℕ) × Unit {0})))))))))))))))))))))).
-        ‵ (lasts G1.ended (
+          tt,
+        ) (and-then ! (load ! (from ! (stop !)) (look ! 122 refl)) (and-then ! (load ! (from ! (stop !)) (look ! 120 refl))
+        (and-then ! (load ! (from ! (stop !)) (look ! 118 refl)) (and-then ! (load ! (from ! (stop !)) (look ! 81 refl))
+        (and-then ! (load ! (from ! (stop !)) (look ! 77 refl)) (and-then ! (load ! (from ! (stop !)) (look ! 73 refl))
+        (and-then ! (load ! (from ! (stop !)) (look ! 69 refl)) (and-then ! (load ! (from ! (stop !)) (look ! 65 refl))
+        (and-then ! (load ! (from ! (stop !)) (look ! 61 refl)) (and-then ! (load ! (from ! (stop !)) (look ! 57 refl))
+        (and-then ! (load ! (from ! (stop !)) (look ! 53 refl)) (and-then ! (load ! (from ! (stop !)) (look ! 49 refl))
+        (and-then ! (load ! (from ! (stop !)) (look ! 45 refl)) (and-then ! (load ! (from ! (stop !)) (look ! 41 refl))
+        (and-then ! (load ! (from ! (stop !)) (look ! 37 refl)) (and-then ! (load ! (from ! (stop !)) (look ! 33 refl))
+        (and-then ! (load ! (from ! (stop !)) (look ! 29 refl)) (and-then ! (load ! (from ! (stop !)) (look ! 25 refl))
+        (and-then ! (load ! (from ! (stop !)) (look ! 21 refl)) (and-then ! (load ! (from ! (stop !)) (look ! 17 refl))
+        (and-then ! (load ! (from ! (stop !)) (look ! 13 refl)) (and-then ! (load ! (from ! (stop !)) (look ! 9 refl))
+        (no-more !))))))))))))))))))))))) (λ v1.
+        use1 W (later (some (λ (r1 : Answer). ((‵ (flft κ·theory q·theory) ⊛ ‵ (flft κ·goals q·goals) ⊛ ‵ (flft κ·proof q·proof)
+        ⊛ ‵ (flft κ·sorts q·sorts) ⊛ ‵ (flft κ·symbols q·symbols) ⊛ ‵ (flft κ·inputs q·inputs) ⊛ ‵ (flft κ·rules q·rules)
+        ⊛ ‵ (flft κ·rulevars q·rulevars) ⊛ ‵ (flft κ·patterns q·patterns) ⊛ ‵ (flft κ·vars q·vars) ⊛ ‵ (flft κ·index q·index)
+        ⊛ ‵ (flft κ·words q·words) ⊛ ‵ (flft κ·defs q·defs) ⊛ ‵ (flft κ·rows q·rows) ⊛ ‵ (flft κ·lists q·lists) ⊛ ‵ (flft κ·missing q·missing)
+        ⊛ ‵ (flft κ·facts q·facts) ⊛ ‵ (flft (ν·1·17 ∷ []) fullShare) ⊛ ‵ (flft (ν·1·18 ∷ []) fullShare) ⊛ ‵ (flft (ν·1·19 ∷ []) fullShare)
+        ⊛ ‵ (flft (ν·1·20 ∷ []) fullShare) ⊛ ‵ (flft (ν·1·21 ∷ []) fullShare) ⊛ ‵ ftrue) ⊛ ‵ (AnswerT.the-row .own r1 (v1 ∷ []))) ⊛ raw
+        (ensured 𝓤 H A G1.ended (G1.clauses 𝓤 H A at-mem run) (
           κ·theory,
           (
             κ·goals,
@@ -1863,7 +2045,13 @@ module _ {M : Type 1} (𝓤 : URA M) (H : Heap 𝓤) (A : Atoms 𝓤) (W : Given
                 κ·sorts,
                 (
                   κ·symbols,
-                  (κ·inputs, (κ·rules, (κ·rulevars, (κ·patterns, (κ·vars, (κ·index, (κ·words, (κ·defs, (κ·rows, (κ·lists, (κ·missing, (κ·facts, ((ν·1·17 ∷ []), ((ν·1·18 ∷ []), ((ν·1·19 ∷ []), ((ν·1·20 ∷ []), tt)))))))))))))))),
+                  (
+                    κ·inputs,
+                    (
+                      κ·rules,
+                      (κ·rulevars, (κ·patterns, (κ·vars, (κ·index, (κ·words, (κ·defs, (κ·rows, (κ·lists, (κ·missing, (κ·facts, ((ν·1·17 ∷ []), ((ν·1·18 ∷ []), ((ν·1·19 ∷ []), ((ν·1·20 ∷ []), ((ν·1·21 ∷ []), tt))))))))))))))),
+                    ),
+                  ),
                 ),
               ),
             ),
@@ -1904,7 +2092,94 @@ module _ {M : Type 1} (𝓤 : URA M) (H : Heap 𝓤) (A : Atoms 𝓤) (W : Given
                                           (ref·facts γ·facts facts),
                                           (
                                             (record { ptr = (l18, 0); name = δ·1·17; now = (many ℕ 6144 0) }),
-                                            ((record { ptr = (l19, 0); name = δ·1·18; now = (many ℕ 4096 0) }), ((record { ptr = (l20, 0); name = δ·1·19; now = (many ℕ 65536 0) }), ((record { ptr = (l21, 0); name = δ·1·20; now = (many ℕ 40960 0) }), tt))),
+                                            (
+                                              (record { ptr = (l19, 0); name = δ·1·18; now = (many ℕ 4096 0) }),
+                                              (
+                                                (record { ptr = (l20, 0); name = δ·1·19; now = (many ℕ 65536 0) }),
+                                                ((record { ptr = (l21, 0); name = δ·1·20; now = (many ℕ 40960 0) }), ((record { ptr = (l22, 0); name = δ·1·21; now = (many ℕ 4096 0) }), tt)),
+                                              ),
+                                            ),
+                                          ),
+                                        ),
+                                      ),
+                                    ),
+                                  ),
+                                ),
+                              ),
+                            ),
+                          ),
+                        ),
+                      ),
+                    ),
+                  ),
+                ),
+              ),
+            ),
+          ),
+        )
+        tt r1)))) (id⊢ 𝓤 _) $ await ! tt $ pick ! (λ r1. split ! $ move ! (1 ∷ []) $
+        use1 W (some (λ (ws1 : (Unit {0} × (Unit {0} × (Unit {0} × ((List ℕ) ×
+        ((List ℕ) × ((List ℕ) × ((List ℕ) × ((List ℕ) × ((List ℕ) × ((List ℕ) ×
+        ((List ℕ) × ((List ℕ) × ((List ℕ) × ((List ℕ) × ((List ℕ) × ((List ℕ) ×
+        ((List Fact) × ((List ℕ) × ((List ℕ) × ((List ℕ) × ((List ℕ) × ((List ℕ) × Unit {0}))))))))))))))))))))))).
+        ‵ (lasts G1.ended (
+          κ·theory,
+          (
+            κ·goals,
+            (
+              κ·proof,
+              (
+                κ·sorts,
+                (
+                  κ·symbols,
+                  (κ·inputs, (κ·rules, (κ·rulevars, (κ·patterns, (κ·vars, (κ·index, (κ·words, (κ·defs, (κ·rows, (κ·lists, (κ·missing, (κ·facts, ((ν·1·17 ∷ []), ((ν·1·18 ∷ []), ((ν·1·19 ∷ []), ((ν·1·20 ∷ []), ((ν·1·21 ∷ []), tt))))))))))))))))),
+                ),
+              ),
+            ),
+          ),
+        ) (
+          (ref·theory γ·theory theory),
+          (
+            (ref·goals γ·goals goals),
+            (
+              (ref·proof γ·proof proof),
+              (
+                (ref·sorts γ·sorts sorts),
+                (
+                  (ref·symbols γ·symbols symbols),
+                  (
+                    (ref·inputs γ·inputs inputs),
+                    (
+                      (ref·rules γ·rules rules),
+                      (
+                        (ref·rulevars γ·rulevars rulevars),
+                        (
+                          (ref·patterns γ·patterns patterns),
+                          (
+                            (ref·vars γ·vars vars),
+                            (
+                              (ref·index γ·index index),
+                              (
+                                (ref·words γ·words words),
+                                (
+                                  (ref·defs γ·defs defs),
+                                  (
+                                    (ref·rows γ·rows rows),
+                                    (
+                                      (ref·lists γ·lists lists),
+                                      (
+                                        (ref·missing γ·missing missing),
+                                        (
+                                          (ref·facts γ·facts facts),
+                                          (
+                                            (record { ptr = (l18, 0); name = δ·1·17; now = (many ℕ 6144 0) }),
+                                            (
+                                              (record { ptr = (l19, 0); name = δ·1·18; now = (many ℕ 4096 0) }),
+                                              (
+                                                (record { ptr = (l20, 0); name = δ·1·19; now = (many ℕ 65536 0) }),
+                                                ((record { ptr = (l21, 0); name = δ·1·20; now = (many ℕ 40960 0) }), ((record { ptr = (l22, 0); name = δ·1·21; now = (many ℕ 4096 0) }), tt)),
+                                              ),
+                                            ),
                                           ),
                                         ),
                                       ),
@@ -2036,13 +2311,20 @@ module _ {M : Type 1} (𝓤 : URA M) (H : Heap 𝓤) (A : Atoms 𝓤) (W : Given
         move ! (1 ∷ []) $
         feqL ! (λ len·1·ids.
         move ! (1 ∷ []) $
+        fsplit ! $
+        fsplit ! $
+        move ! (1 ∷ []) $
+        feqL ! (λ len·1·memo.
+        move ! (1 ∷ []) $
         drop ! $
-        move ! (18 ∷ []) $
+        move ! (19 ∷ []) $
         split ! $
         move ! (1 ∷ []) $
         peeks ! AnswerT.the-row (Is AnswerT.the-row) (shows 𝓤 H A AnswerT.the-row) r1 (v1 ∷ []) (λ is1.
         drop ! $
-        land ! (from ! (stop !)) (init ! 136 refl (EL.lawful AnswerT.the-type AnswerL.the-laws 𝓤 H A W tt .typed r1 _ is1 .0)) $
+        land ! (from ! (stop !)) (init ! 143 refl (EL.lawful AnswerT.the-type AnswerL.the-laws 𝓤 H A W tt .typed r1 _ is1 .0)) $
+        split ! $
+        move ! (1 ∷ []) $
         split ! $
         move ! (1 ∷ []) $
         split ! $
@@ -2087,16 +2369,16 @@ module _ {M : Type 1} (𝓤 : URA M) (H : Heap 𝓤) (A : Atoms 𝓤) (W : Given
         move ! (1 ∷ []) $
         drop ! $
         seg·3 l0 l1 l2 l3 l4 l5 l6 l7 l8 l9 l10 l11 l12 l13 l14 l15 l16 l17 l18 l19 l20 l21 l22 l23 l24 l25 l26 l27 l28 l29 l30 l31 l32 l33 l34 l35
-        l36 l37 l38 l39 l40 l41 l42 l43 l44 l45 l46 l47 l48 l49 l50 l51 l52 l53 l54 l55 l56 l57 is·kept is·feet is·cells is·ids ν·1·17 δ·1·17 ν·1·18
-        δ·1·18 ν·1·19 δ·1·19 ν·1·20 δ·1·20 v1 r1 ws1 e1 len·1·sorts len·1·symbols len·1·inputs len·1·rules len·1·rulevars len·1·patterns len·1·vars
-        len·1·index len·1·words len·1·defs len·1·rows len·1·lists len·1·missing len·1·facts len·1·kept len·1·feet len·1·cells len·1·ids
-        is1)))))))))))))))))))))))
+        l36 l37 l38 l39 l40 l41 l42 l43 l44 l45 l46 l47 l48 l49 l50 l51 l52 l53 l54 l55 l56 l57 l58 l59 l60 is·kept is·feet is·cells is·ids is·memo
+        ν·1·17 δ·1·17 ν·1·18 δ·1·18 ν·1·19 δ·1·19 ν·1·20 δ·1·20 ν·1·21 δ·1·21 v1 r1 ws1 e1 len·1·sorts len·1·symbols len·1·inputs len·1·rules
+        len·1·rulevars len·1·patterns len·1·vars len·1·index len·1·words len·1·defs len·1·rows len·1·lists len·1·missing len·1·facts len·1·kept
+        len·1·feet len·1·cells len·1·ids len·1·memo is1))))))))))))))))))))))))))))))
 
     seg·1 : (l0 : ℕ) (l1 : ℕ) (l2 : ℕ) (l3 : ℕ) (l4 : ℕ) (l5 : ℕ) (l6 : ℕ) (l7 : ℕ) (l8 : ℕ) (l9 : ℕ) (l10 : ℕ) (l11 : ℕ) (l12 : ℕ) (l13 : ℕ)
         (l14 : ℕ) (l15 : ℕ) (l16 : ℕ) (l17 : ℕ) (l18 : ℕ) (l19 : ℕ) (l20 : ℕ) (l21 : ℕ) (l22 : ℕ) (l23 : ℕ) (l24 : ℕ) (l25 : ℕ) (l26 : ℕ) (l27 : ℕ)
         (l28 : ℕ) (l29 : ℕ) (l30 : ℕ) (l31 : ℕ) (l32 : ℕ) (l33 : ℕ) (l34 : ℕ) (l35 : ℕ) (l36 : ℕ) (l37 : ℕ) (l38 : ℕ) (l39 : ℕ) (l40 : ℕ) (l41 : ℕ)
         (l42 : ℕ) (l43 : ℕ) (l44 : ℕ) (l45 : ℕ) (l46 : ℕ) (l47 : ℕ) (l48 : ℕ) (l49 : ℕ) (l50 : ℕ) (l51 : ℕ) (l52 : ℕ) (l53 : ℕ) (l54 : ℕ) (l55 : ℕ)
-        (l56 : ℕ) (l57 : ℕ) →
+        (l56 : ℕ) (l57 : ℕ) (l58 : ℕ) (l59 : ℕ) (l60 : ℕ) →
         Sq W (‵ (flft κ·missing q·missing)
         ∷ ‵ (flft κ·lists q·lists)
         ∷ ‵ (flft κ·facts q·facts)
@@ -2131,78 +2413,84 @@ module _ {M : Type 1} (𝓤 : URA M) (H : Heap 𝓤) (A : Atoms 𝓤) (W : Given
         ∷ ‵ (ShrSlice (named 2) κ·proof u8 .own (ref·proof γ·proof proof) (s·proof ∷ []))
         ∷ ‵ (ShrSlice (named 1) κ·goals u8 .own (ref·goals γ·goals goals) (s·goals ∷ []))
         ∷ ‵ (ShrSlice (named 0) κ·theory u8 .own (ref·theory γ·theory theory) (s·theory ∷ []))
-        ∷ ‵ (froom (sliceTy (tyRef erased mut (tyInt w32))) l57 0)
-        ∷ ‵ (fdies (sliceTy (tyRef erased mut (tyInt w32))) l57)
-        ∷ ‵ (froom (tyRef erased mut (tyArray (tyInt w32) 40960)) l56 0)
-        ∷ ‵ (fdies (tyRef erased mut (tyArray (tyInt w32) 40960)) l56)
-        ∷ ‵ (froom (sliceTy (tyRef erased mut (tyInt w32))) l55 0)
-        ∷ ‵ (fdies (sliceTy (tyRef erased mut (tyInt w32))) l55)
-        ∷ ‵ (froom (tyRef erased mut (tyArray (tyInt w32) 65536)) l54 0)
-        ∷ ‵ (fdies (tyRef erased mut (tyArray (tyInt w32) 65536)) l54)
-        ∷ ‵ (froom (sliceTy (tyRef erased mut (tyInt w64))) l53 0)
-        ∷ ‵ (fdies (sliceTy (tyRef erased mut (tyInt w64))) l53)
-        ∷ ‵ (froom (tyRef erased mut (tyArray (tyInt w64) 4096)) l52 0)
-        ∷ ‵ (fdies (tyRef erased mut (tyArray (tyInt w64) 4096)) l52)
-        ∷ ‵ (froom (sliceTy (tyRef erased mut (tyInt w32))) l51 0)
-        ∷ ‵ (fdies (sliceTy (tyRef erased mut (tyInt w32))) l51)
-        ∷ ‵ (froom (tyRef erased mut (tyArray (tyInt w32) 6144)) l50 0)
-        ∷ ‵ (fdies (tyRef erased mut (tyArray (tyInt w32) 6144)) l50)
-        ∷ ‵ (froom (sliceTy (tyRef erased mut (pointee (FactT.the-row .written)))) l49 0)
-        ∷ ‵ (fdies (sliceTy (tyRef erased mut (pointee (FactT.the-row .written)))) l49)
-        ∷ ‵ (froom (tyRef erased mut (pointee (FactT.the-row .written))) l48 0)
-        ∷ ‵ (fdies (tyRef erased mut (pointee (FactT.the-row .written))) l48)
-        ∷ ‵ (froom (sliceTy (tyRef erased mut (tyInt w32))) l47 0)
-        ∷ ‵ (fdies (sliceTy (tyRef erased mut (tyInt w32))) l47)
-        ∷ ‵ (froom (tyRef erased mut (tyInt w32)) l46 0)
-        ∷ ‵ (fdies (tyRef erased mut (tyInt w32)) l46)
-        ∷ ‵ (froom (sliceTy (tyRef erased mut (tyInt w32))) l45 0)
-        ∷ ‵ (fdies (sliceTy (tyRef erased mut (tyInt w32))) l45)
-        ∷ ‵ (froom (tyRef erased mut (tyInt w32)) l44 0)
-        ∷ ‵ (fdies (tyRef erased mut (tyInt w32)) l44)
-        ∷ ‵ (froom (sliceTy (tyRef erased mut (tyInt w32))) l43 0)
-        ∷ ‵ (fdies (sliceTy (tyRef erased mut (tyInt w32))) l43)
-        ∷ ‵ (froom (tyRef erased mut (tyInt w32)) l42 0)
-        ∷ ‵ (fdies (tyRef erased mut (tyInt w32)) l42)
-        ∷ ‵ (froom (sliceTy (tyRef erased mut (tyInt w32))) l41 0)
-        ∷ ‵ (fdies (sliceTy (tyRef erased mut (tyInt w32))) l41)
-        ∷ ‵ (froom (tyRef erased mut (tyInt w32)) l40 0)
-        ∷ ‵ (fdies (tyRef erased mut (tyInt w32)) l40)
-        ∷ ‵ (froom (sliceTy (tyRef erased mut (tyInt w32))) l39 0)
-        ∷ ‵ (fdies (sliceTy (tyRef erased mut (tyInt w32))) l39)
-        ∷ ‵ (froom (tyRef erased mut (tyInt w32)) l38 0)
-        ∷ ‵ (fdies (tyRef erased mut (tyInt w32)) l38)
-        ∷ ‵ (froom (sliceTy (tyRef erased mut (tyInt w32))) l37 0)
-        ∷ ‵ (fdies (sliceTy (tyRef erased mut (tyInt w32))) l37)
-        ∷ ‵ (froom (tyRef erased mut (tyInt w32)) l36 0)
-        ∷ ‵ (fdies (tyRef erased mut (tyInt w32)) l36)
-        ∷ ‵ (froom (sliceTy (tyRef erased mut (tyInt w32))) l35 0)
-        ∷ ‵ (fdies (sliceTy (tyRef erased mut (tyInt w32))) l35)
-        ∷ ‵ (froom (tyRef erased mut (tyInt w32)) l34 0)
-        ∷ ‵ (fdies (tyRef erased mut (tyInt w32)) l34)
-        ∷ ‵ (froom (sliceTy (tyRef erased mut (tyInt w32))) l33 0)
-        ∷ ‵ (fdies (sliceTy (tyRef erased mut (tyInt w32))) l33)
-        ∷ ‵ (froom (tyRef erased mut (tyInt w32)) l32 0)
-        ∷ ‵ (fdies (tyRef erased mut (tyInt w32)) l32)
-        ∷ ‵ (froom (sliceTy (tyRef erased mut (tyInt w32))) l31 0)
-        ∷ ‵ (fdies (sliceTy (tyRef erased mut (tyInt w32))) l31)
-        ∷ ‵ (froom (tyRef erased mut (tyInt w32)) l30 0)
-        ∷ ‵ (fdies (tyRef erased mut (tyInt w32)) l30)
-        ∷ ‵ (froom (sliceTy (tyRef erased mut (tyInt w32))) l29 0)
-        ∷ ‵ (fdies (sliceTy (tyRef erased mut (tyInt w32))) l29)
-        ∷ ‵ (froom (tyRef erased mut (tyInt w32)) l28 0)
-        ∷ ‵ (fdies (tyRef erased mut (tyInt w32)) l28)
-        ∷ ‵ (froom (sliceTy (tyRef erased mut (tyInt w32))) l27 0)
-        ∷ ‵ (fdies (sliceTy (tyRef erased mut (tyInt w32))) l27)
-        ∷ ‵ (froom (tyRef erased mut (tyInt w32)) l26 0)
-        ∷ ‵ (fdies (tyRef erased mut (tyInt w32)) l26)
-        ∷ ‵ (froom (sliceTy (tyRef erased mut (tyInt w32))) l25 0)
-        ∷ ‵ (fdies (sliceTy (tyRef erased mut (tyInt w32))) l25)
-        ∷ ‵ (froom (tyRef erased mut (tyInt w32)) l24 0)
-        ∷ ‵ (fdies (tyRef erased mut (tyInt w32)) l24)
-        ∷ ‵ (froom (sliceTy (tyRef erased mut (tyInt w32))) l23 0)
-        ∷ ‵ (fdies (sliceTy (tyRef erased mut (tyInt w32))) l23)
-        ∷ ‵ (froom (tyRef erased mut (tyInt w32)) l22 0)
-        ∷ ‵ (fdies (tyRef erased mut (tyInt w32)) l22)
+        ∷ ‵ (froom (sliceTy (tyRef erased mut (tyInt w32))) l60 0)
+        ∷ ‵ (fdies (sliceTy (tyRef erased mut (tyInt w32))) l60)
+        ∷ ‵ (froom (tyRef erased mut (tyArray (tyInt w32) 4096)) l59 0)
+        ∷ ‵ (fdies (tyRef erased mut (tyArray (tyInt w32) 4096)) l59)
+        ∷ ‵ (froom (sliceTy (tyRef erased mut (tyInt w32))) l58 0)
+        ∷ ‵ (fdies (sliceTy (tyRef erased mut (tyInt w32))) l58)
+        ∷ ‵ (froom (tyRef erased mut (tyArray (tyInt w32) 40960)) l57 0)
+        ∷ ‵ (fdies (tyRef erased mut (tyArray (tyInt w32) 40960)) l57)
+        ∷ ‵ (froom (sliceTy (tyRef erased mut (tyInt w32))) l56 0)
+        ∷ ‵ (fdies (sliceTy (tyRef erased mut (tyInt w32))) l56)
+        ∷ ‵ (froom (tyRef erased mut (tyArray (tyInt w32) 65536)) l55 0)
+        ∷ ‵ (fdies (tyRef erased mut (tyArray (tyInt w32) 65536)) l55)
+        ∷ ‵ (froom (sliceTy (tyRef erased mut (tyInt w64))) l54 0)
+        ∷ ‵ (fdies (sliceTy (tyRef erased mut (tyInt w64))) l54)
+        ∷ ‵ (froom (tyRef erased mut (tyArray (tyInt w64) 4096)) l53 0)
+        ∷ ‵ (fdies (tyRef erased mut (tyArray (tyInt w64) 4096)) l53)
+        ∷ ‵ (froom (sliceTy (tyRef erased mut (tyInt w32))) l52 0)
+        ∷ ‵ (fdies (sliceTy (tyRef erased mut (tyInt w32))) l52)
+        ∷ ‵ (froom (tyRef erased mut (tyArray (tyInt w32) 6144)) l51 0)
+        ∷ ‵ (fdies (tyRef erased mut (tyArray (tyInt w32) 6144)) l51)
+        ∷ ‵ (froom (sliceTy (tyRef erased mut (pointee (FactT.the-row .written)))) l50 0)
+        ∷ ‵ (fdies (sliceTy (tyRef erased mut (pointee (FactT.the-row .written)))) l50)
+        ∷ ‵ (froom (tyRef erased mut (pointee (FactT.the-row .written))) l49 0)
+        ∷ ‵ (fdies (tyRef erased mut (pointee (FactT.the-row .written))) l49)
+        ∷ ‵ (froom (sliceTy (tyRef erased mut (tyInt w32))) l48 0)
+        ∷ ‵ (fdies (sliceTy (tyRef erased mut (tyInt w32))) l48)
+        ∷ ‵ (froom (tyRef erased mut (tyInt w32)) l47 0)
+        ∷ ‵ (fdies (tyRef erased mut (tyInt w32)) l47)
+        ∷ ‵ (froom (sliceTy (tyRef erased mut (tyInt w32))) l46 0)
+        ∷ ‵ (fdies (sliceTy (tyRef erased mut (tyInt w32))) l46)
+        ∷ ‵ (froom (tyRef erased mut (tyInt w32)) l45 0)
+        ∷ ‵ (fdies (tyRef erased mut (tyInt w32)) l45)
+        ∷ ‵ (froom (sliceTy (tyRef erased mut (tyInt w32))) l44 0)
+        ∷ ‵ (fdies (sliceTy (tyRef erased mut (tyInt w32))) l44)
+        ∷ ‵ (froom (tyRef erased mut (tyInt w32)) l43 0)
+        ∷ ‵ (fdies (tyRef erased mut (tyInt w32)) l43)
+        ∷ ‵ (froom (sliceTy (tyRef erased mut (tyInt w32))) l42 0)
+        ∷ ‵ (fdies (sliceTy (tyRef erased mut (tyInt w32))) l42)
+        ∷ ‵ (froom (tyRef erased mut (tyInt w32)) l41 0)
+        ∷ ‵ (fdies (tyRef erased mut (tyInt w32)) l41)
+        ∷ ‵ (froom (sliceTy (tyRef erased mut (tyInt w32))) l40 0)
+        ∷ ‵ (fdies (sliceTy (tyRef erased mut (tyInt w32))) l40)
+        ∷ ‵ (froom (tyRef erased mut (tyInt w32)) l39 0)
+        ∷ ‵ (fdies (tyRef erased mut (tyInt w32)) l39)
+        ∷ ‵ (froom (sliceTy (tyRef erased mut (tyInt w32))) l38 0)
+        ∷ ‵ (fdies (sliceTy (tyRef erased mut (tyInt w32))) l38)
+        ∷ ‵ (froom (tyRef erased mut (tyInt w32)) l37 0)
+        ∷ ‵ (fdies (tyRef erased mut (tyInt w32)) l37)
+        ∷ ‵ (froom (sliceTy (tyRef erased mut (tyInt w32))) l36 0)
+        ∷ ‵ (fdies (sliceTy (tyRef erased mut (tyInt w32))) l36)
+        ∷ ‵ (froom (tyRef erased mut (tyInt w32)) l35 0)
+        ∷ ‵ (fdies (tyRef erased mut (tyInt w32)) l35)
+        ∷ ‵ (froom (sliceTy (tyRef erased mut (tyInt w32))) l34 0)
+        ∷ ‵ (fdies (sliceTy (tyRef erased mut (tyInt w32))) l34)
+        ∷ ‵ (froom (tyRef erased mut (tyInt w32)) l33 0)
+        ∷ ‵ (fdies (tyRef erased mut (tyInt w32)) l33)
+        ∷ ‵ (froom (sliceTy (tyRef erased mut (tyInt w32))) l32 0)
+        ∷ ‵ (fdies (sliceTy (tyRef erased mut (tyInt w32))) l32)
+        ∷ ‵ (froom (tyRef erased mut (tyInt w32)) l31 0)
+        ∷ ‵ (fdies (tyRef erased mut (tyInt w32)) l31)
+        ∷ ‵ (froom (sliceTy (tyRef erased mut (tyInt w32))) l30 0)
+        ∷ ‵ (fdies (sliceTy (tyRef erased mut (tyInt w32))) l30)
+        ∷ ‵ (froom (tyRef erased mut (tyInt w32)) l29 0)
+        ∷ ‵ (fdies (tyRef erased mut (tyInt w32)) l29)
+        ∷ ‵ (froom (sliceTy (tyRef erased mut (tyInt w32))) l28 0)
+        ∷ ‵ (fdies (sliceTy (tyRef erased mut (tyInt w32))) l28)
+        ∷ ‵ (froom (tyRef erased mut (tyInt w32)) l27 0)
+        ∷ ‵ (fdies (tyRef erased mut (tyInt w32)) l27)
+        ∷ ‵ (froom (sliceTy (tyRef erased mut (tyInt w32))) l26 0)
+        ∷ ‵ (fdies (sliceTy (tyRef erased mut (tyInt w32))) l26)
+        ∷ ‵ (froom (tyRef erased mut (tyInt w32)) l25 0)
+        ∷ ‵ (fdies (tyRef erased mut (tyInt w32)) l25)
+        ∷ ‵ (froom (sliceTy (tyRef erased mut (tyInt w32))) l24 0)
+        ∷ ‵ (fdies (sliceTy (tyRef erased mut (tyInt w32))) l24)
+        ∷ ‵ (froom (tyRef erased mut (tyInt w32)) l23 0)
+        ∷ ‵ (fdies (tyRef erased mut (tyInt w32)) l23)
+        ∷ ‵ (froom (tyArray (tyInt w32) 4096) l22 0)
+        ∷ ‵ (fdies (tyArray (tyInt w32) 4096) l22)
         ∷ ‵ (froom (tyArray (tyInt w32) 40960) l21 0)
         ∷ ‵ (fdies (tyArray (tyInt w32) 40960) l21)
         ∷ ‵ (froom (tyArray (tyInt w32) 65536) l20 0)
@@ -2248,157 +2536,154 @@ module _ {M : Type 1} (𝓤 : URA M) (H : Heap 𝓤) (A : Atoms 𝓤) (W : Given
         ∷ ‵ (froom AnswerL.mir l0 0)
         ∷ ‵ (fdies AnswerL.mir l0) ∷ [])
         (runs C Λ (En l0 l1 l2 l3 l4 l5 l6 l7 l8 l9 l10 l11 l12 l13 l14 l15 l16 l17 l18 l19 l20 l21 l22 l23 l24 l25 l26 l27 l28 l29 l30 l31 l32 l33
-        l34 l35 l36 l37 l38 l39 l40 l41 l42 l43 l44 l45 l46 l47 l48 l49 l50 l51 l52 l53 l54 l55 l56 l57) pieces.t-1
+        l34 l35 l36 l37 l38 l39 l40 l41 l42 l43 l44 l45 l46 l47 l48 l49 l50 l51 l52 l53 l54 l55 l56 l57 l58 l59 l60) pieces.t-1
         (atRet (En l0 l1 l2 l3 l4 l5 l6 l7 l8 l9 l10 l11 l12 l13 l14 l15 l16 l17 l18 l19 l20 l21 l22 l23 l24 l25 l26 l27 l28 l29 l30 l31 l32 l33 l34
-        l35 l36 l37 l38 l39 l40 l41 l42 l43 l44 l45 l46 l47 l48 l49 l50 l51 l52 l53 l54 l55 l56 l57) Post))
+        l35 l36 l37 l38 l39 l40 l41 l42 l43 l44 l45 l46 l47 l48 l49 l50 l51 l52 l53 l54 l55 l56 l57 l58 l59 l60) Post))
     seg·1 l0 l1 l2 l3 l4 l5 l6 l7 l8 l9 l10 l11 l12 l13 l14 l15 l16 l17 l18 l19 l20 l21 l22 l23 l24 l25 l26 l27 l28 l29 l30 l31 l32 l33 l34 l35 l36
-        l37 l38 l39 l40 l41 l42 l43 l44 l45 l46 l47 l48 l49 l50 l51 l52 l53 l54 l55 l56 l57 =
+        l37 l38 l39 l40 l41 l42 l43 l44 l45 l46 l47 l48 l49 l50 l51 l52 l53 l54 l55 l56 l57 l58 l59 l60 =
         owned ! u32 (Is u32) (uint-makes 𝓤 H A W w32) 0 ((vint w32 0) ∷ []) (refl, lit< tt) $
         use1 W (‵ (Array u32 6144 .own (many ℕ 6144 0) ((manyVal 6144 (vint w32 0)) ∷ [])))
         (made 𝓤 H A W u32 (uint-copy 𝓤 H A W w32) 6144 0 (vint w32 0)) $ peeks ! (Array u32 6144) (Is (Array u32 6144)) (shows 𝓤 H A (Array u32 6144))
         (many ℕ 6144 0) ((manyVal 6144 (vint w32 0)) ∷ []) (λ is·kept.
-        assigns ! (repeats ! 6144 (lit ! tt)) (from ! (stop !)) (init ! 113 refl
+        assigns ! (repeats ! 6144 (lit ! tt)) (from ! (stop !)) (init ! 119 refl
         (array-lawful 𝓤 H A W u32 (uint-lawful 𝓤 H A W w32) 6144 .typed (many ℕ 6144 0) _ is·kept .0)) $
         owned ! u64 (Is u64) (uint-makes 𝓤 H A W w64) 0 ((vint w64 0) ∷ []) (refl, lit< tt) $
         use1 W (‵ (Array u64 4096 .own (many ℕ 4096 0) ((manyVal 4096 (vint w64 0)) ∷ [])))
         (made 𝓤 H A W u64 (uint-copy 𝓤 H A W w64) 4096 0 (vint w64 0)) $ peeks ! (Array u64 4096) (Is (Array u64 4096)) (shows 𝓤 H A (Array u64 4096))
         (many ℕ 4096 0) ((manyVal 4096 (vint w64 0)) ∷ []) (λ is·feet.
-        assigns ! (repeats ! 4096 (lit ! tt)) (from ! (stop !)) (init ! 112 refl
+        assigns ! (repeats ! 4096 (lit ! tt)) (from ! (stop !)) (init ! 118 refl
         (array-lawful 𝓤 H A W u64 (uint-lawful 𝓤 H A W w64) 4096 .typed (many ℕ 4096 0) _ is·feet .0)) $
         owned ! u32 (Is u32) (uint-makes 𝓤 H A W w32) 0 ((vint w32 0) ∷ []) (refl, lit< tt) $
         use1 W (‵ (Array u32 65536 .own (many ℕ 65536 0) ((manyVal 65536 (vint w32 0)) ∷ [])))
         (made 𝓤 H A W u32 (uint-copy 𝓤 H A W w32) 65536 0 (vint w32 0)) $ peeks ! (Array u32 65536) (Is (Array u32 65536))
         (shows 𝓤 H A (Array u32 65536)) (many ℕ 65536 0) ((manyVal 65536 (vint w32 0)) ∷ []) (λ is·cells.
-        assigns ! (repeats ! 65536 (lit ! tt)) (from ! (stop !)) (init ! 111 refl
+        assigns ! (repeats ! 65536 (lit ! tt)) (from ! (stop !)) (init ! 117 refl
         (array-lawful 𝓤 H A W u32 (uint-lawful 𝓤 H A W w32) 65536 .typed (many ℕ 65536 0) _ is·cells .0)) $
         owned ! u32 (Is u32) (uint-makes 𝓤 H A W w32) 0 ((vint w32 0) ∷ []) (refl, lit< tt) $
         use1 W (‵ (Array u32 40960 .own (many ℕ 40960 0) ((manyVal 40960 (vint w32 0)) ∷ [])))
         (made 𝓤 H A W u32 (uint-copy 𝓤 H A W w32) 40960 0 (vint w32 0)) $ peeks ! (Array u32 40960) (Is (Array u32 40960))
         (shows 𝓤 H A (Array u32 40960)) (many ℕ 40960 0) ((manyVal 40960 (vint w32 0)) ∷ []) (λ is·ids.
-        assigns ! (repeats ! 40960 (lit ! tt)) (from ! (stop !)) (init ! 110 refl
+        assigns ! (repeats ! 40960 (lit ! tt)) (from ! (stop !)) (init ! 116 refl
         (array-lawful 𝓤 H A W u32 (uint-lawful 𝓤 H A W w32) 40960 .typed (many ℕ 40960 0) _ is·ids .0)) $
-        assigns ! (addr ! (from ! (fld ! refl (hop ! (look-in ! 144 (sub ! 0 refl (whole !))) (stop !))))) (from ! (stop !))
-        (init ! 108 refl (tt, tt)) $
-        assigns ! (agg ! (and-then ! (load ! (from ! (stop !)) (look ! 108 refl))
-        (and-then ! (load ! (from ! (fld ! refl (stop !))) (look-in ! 144 (sub ! 1 refl (whole !)))) (no-more !)))) (from ! (stop !))
-        (init ! 106 refl (tt, (tt, (record { fits = room·sorts .0 }, tt)))) $
-        assigns ! (addr ! (from ! (fld ! refl (hop ! (look-in ! 142 (sub ! 0 refl (whole !))) (stop !))))) (from ! (stop !))
-        (init ! 104 refl (tt, tt)) $
-        assigns ! (agg ! (and-then ! (load ! (from ! (stop !)) (look ! 104 refl))
-        (and-then ! (load ! (from ! (fld ! refl (stop !))) (look-in ! 142 (sub ! 1 refl (whole !)))) (no-more !)))) (from ! (stop !))
-        (init ! 102 refl (tt, (tt, (record { fits = room·symbols .0 }, tt)))) $
-        assigns ! (addr ! (from ! (fld ! refl (hop ! (look-in ! 140 (sub ! 0 refl (whole !))) (stop !))))) (from ! (stop !))
-        (init ! 100 refl (tt, tt)) $
-        assigns ! (agg ! (and-then ! (load ! (from ! (stop !)) (look ! 100 refl))
-        (and-then ! (load ! (from ! (fld ! refl (stop !))) (look-in ! 140 (sub ! 1 refl (whole !)))) (no-more !)))) (from ! (stop !))
-        (init ! 98 refl (tt, (tt, (record { fits = room·inputs .0 }, tt)))) $
-        assigns ! (addr ! (from ! (fld ! refl (hop ! (look-in ! 138 (sub ! 0 refl (whole !))) (stop !))))) (from ! (stop !))
-        (init ! 96 refl (tt, tt)) $
-        assigns ! (agg ! (and-then ! (load ! (from ! (stop !)) (look ! 96 refl))
-        (and-then ! (load ! (from ! (fld ! refl (stop !))) (look-in ! 138 (sub ! 1 refl (whole !)))) (no-more !)))) (from ! (stop !))
-        (init ! 94 refl (tt, (tt, (record { fits = room·rules .0 }, tt)))) $
-        assigns ! (addr ! (from ! (fld ! refl (hop ! (look-in ! 136 (sub ! 0 refl (whole !))) (stop !))))) (from ! (stop !))
-        (init ! 92 refl (tt, tt)) $
-        assigns ! (agg ! (and-then ! (load ! (from ! (stop !)) (look ! 92 refl))
-        (and-then ! (load ! (from ! (fld ! refl (stop !))) (look-in ! 136 (sub ! 1 refl (whole !)))) (no-more !)))) (from ! (stop !))
-        (init ! 90 refl (tt, (tt, (record { fits = room·rulevars .0 }, tt)))) $
-        assigns ! (addr ! (from ! (fld ! refl (hop ! (look-in ! 134 (sub ! 0 refl (whole !))) (stop !))))) (from ! (stop !))
-        (init ! 88 refl (tt, tt)) $
-        assigns ! (agg ! (and-then ! (load ! (from ! (stop !)) (look ! 88 refl))
-        (and-then ! (load ! (from ! (fld ! refl (stop !))) (look-in ! 134 (sub ! 1 refl (whole !)))) (no-more !)))) (from ! (stop !))
-        (init ! 86 refl (tt, (tt, (record { fits = room·patterns .0 }, tt)))) $
-        assigns ! (addr ! (from ! (fld ! refl (hop ! (look-in ! 132 (sub ! 0 refl (whole !))) (stop !))))) (from ! (stop !))
-        (init ! 84 refl (tt, tt)) $
-        assigns ! (agg ! (and-then ! (load ! (from ! (stop !)) (look ! 84 refl))
-        (and-then ! (load ! (from ! (fld ! refl (stop !))) (look-in ! 132 (sub ! 1 refl (whole !)))) (no-more !)))) (from ! (stop !))
-        (init ! 82 refl (tt, (tt, (record { fits = room·vars .0 }, tt)))) $
-        assigns ! (addr ! (from ! (fld ! refl (hop ! (look-in ! 130 (sub ! 0 refl (whole !))) (stop !))))) (from ! (stop !))
-        (init ! 80 refl (tt, tt)) $
-        assigns ! (agg ! (and-then ! (load ! (from ! (stop !)) (look ! 80 refl))
-        (and-then ! (load ! (from ! (fld ! refl (stop !))) (look-in ! 130 (sub ! 1 refl (whole !)))) (no-more !)))) (from ! (stop !))
-        (init ! 78 refl (tt, (tt, (record { fits = room·index .0 }, tt)))) $
-        assigns ! (addr ! (from ! (fld ! refl (hop ! (look-in ! 128 (sub ! 0 refl (whole !))) (stop !))))) (from ! (stop !))
-        (init ! 76 refl (tt, tt)) $
-        assigns ! (agg ! (and-then ! (load ! (from ! (stop !)) (look ! 76 refl))
-        (and-then ! (load ! (from ! (fld ! refl (stop !))) (look-in ! 128 (sub ! 1 refl (whole !)))) (no-more !)))) (from ! (stop !))
-        (init ! 74 refl (tt, (tt, (record { fits = room·words .0 }, tt)))) $
-        assigns ! (addr ! (from ! (fld ! refl (hop ! (look-in ! 126 (sub ! 0 refl (whole !))) (stop !))))) (from ! (stop !))
-        (init ! 72 refl (tt, tt)) $
-        assigns ! (agg ! (and-then ! (load ! (from ! (stop !)) (look ! 72 refl))
-        (and-then ! (load ! (from ! (fld ! refl (stop !))) (look-in ! 126 (sub ! 1 refl (whole !)))) (no-more !)))) (from ! (stop !))
-        (init ! 70 refl (tt, (tt, (record { fits = room·defs .0 }, tt)))) $
-        assigns ! (addr ! (from ! (fld ! refl (hop ! (look-in ! 124 (sub ! 0 refl (whole !))) (stop !))))) (from ! (stop !))
-        (init ! 68 refl (tt, tt)) $
-        assigns ! (agg ! (and-then ! (load ! (from ! (stop !)) (look ! 68 refl))
-        (and-then ! (load ! (from ! (fld ! refl (stop !))) (look-in ! 124 (sub ! 1 refl (whole !)))) (no-more !)))) (from ! (stop !))
-        (init ! 66 refl (tt, (tt, (record { fits = room·rows .0 }, tt)))) $
-        assigns ! (addr ! (from ! (fld ! refl (hop ! (look-in ! 120 (sub ! 0 refl (whole !))) (stop !))))) (from ! (stop !))
-        (init ! 64 refl (tt, tt)) $
-        assigns ! (agg ! (and-then ! (load ! (from ! (stop !)) (look ! 64 refl))
-        (and-then ! (load ! (from ! (fld ! refl (stop !))) (look-in ! 120 (sub ! 1 refl (whole !)))) (no-more !)))) (from ! (stop !))
-        (init ! 62 refl (tt, (tt, (record { fits = room·lists .0 }, tt)))) $
-        assigns ! (addr ! (from ! (fld ! refl (hop ! (look-in ! 118 (sub ! 0 refl (whole !))) (stop !))))) (from ! (stop !))
-        (init ! 60 refl (tt, tt)) $
-        assigns ! (agg ! (and-then ! (load ! (from ! (stop !)) (look ! 60 refl))
-        (and-then ! (load ! (from ! (fld ! refl (stop !))) (look-in ! 118 (sub ! 1 refl (whole !)))) (no-more !)))) (from ! (stop !))
-        (init ! 58 refl (tt, (tt, (record { fits = room·missing .0 }, tt)))) $
-        assigns ! (addr ! (from ! (fld ! refl (hop ! (look-in ! 122 (sub ! 0 refl (whole !))) (stop !))))) (from ! (stop !))
-        (init ! 56 refl (tt, tt)) $
-        assigns ! (agg ! (and-then ! (load ! (from ! (stop !)) (look ! 56 refl))
-        (and-then ! (load ! (from ! (fld ! refl (stop !))) (look-in ! 122 (sub ! 1 refl (whole !)))) (no-more !)))) (from ! (stop !))
-        (init ! 54 refl (tt, (tt, (record { fits = room·facts .0 }, tt)))) $
-        assigns ! (addr ! (from ! (stop !))) (from ! (stop !)) (init ! 52 refl (tt, tt)) $
-        assigns ! (agg ! (and-then ! (load ! (from ! (stop !)) (look ! 52 refl)) (and-then ! (big ! (record { fits = lit< tt })) (no-more !))))
-        (from ! (stop !)) (init ! 50 refl (tt, (tt, (record { fits = lit< tt }, tt)))) $
-        assigns ! (addr ! (from ! (stop !))) (from ! (stop !)) (init ! 48 refl (tt, tt)) $
-        assigns ! (agg ! (and-then ! (load ! (from ! (stop !)) (look ! 48 refl)) (and-then ! (big ! (record { fits = lit< tt })) (no-more !))))
-        (from ! (stop !)) (init ! 46 refl (tt, (tt, (record { fits = lit< tt }, tt)))) $
-        assigns ! (addr ! (from ! (stop !))) (from ! (stop !)) (init ! 44 refl (tt, tt)) $
-        assigns ! (agg ! (and-then ! (load ! (from ! (stop !)) (look ! 44 refl)) (and-then ! (big ! (record { fits = lit< tt })) (no-more !))))
-        (from ! (stop !)) (init ! 42 refl (tt, (tt, (record { fits = lit< tt }, tt)))) $
-        assigns ! (addr ! (from ! (stop !))) (from ! (stop !)) (init ! 40 refl (tt, tt)) $
-        assigns ! (agg ! (and-then ! (load ! (from ! (stop !)) (look ! 40 refl)) (and-then ! (big ! (record { fits = lit< tt })) (no-more !))))
-        (from ! (stop !)) (init ! 38 refl (tt, (tt, (record { fits = lit< tt }, tt)))) $
+        owned ! u32 (Is u32) (uint-makes 𝓤 H A W w32) 0 ((vint w32 0) ∷ []) (refl, lit< tt) $
+        use1 W (‵ (Array u32 4096 .own (many ℕ 4096 0) ((manyVal 4096 (vint w32 0)) ∷ [])))
+        (made 𝓤 H A W u32 (uint-copy 𝓤 H A W w32) 4096 0 (vint w32 0)) $ peeks ! (Array u32 4096) (Is (Array u32 4096)) (shows 𝓤 H A (Array u32 4096))
+        (many ℕ 4096 0) ((manyVal 4096 (vint w32 0)) ∷ []) (λ is·memo.
+        assigns ! (repeats ! 4096 (lit ! tt)) (from ! (stop !)) (init ! 115 refl
+        (array-lawful 𝓤 H A W u32 (uint-lawful 𝓤 H A W w32) 4096 .typed (many ℕ 4096 0) _ is·memo .0)) $
+        assigns ! (addr ! (from ! (fld ! refl (hop ! (look-in ! 151 (sub ! 0 refl (whole !))) (stop !))))) (from ! (stop !))
+        (init ! 113 refl (tt, tt)) $
+        assigns ! (agg ! (and-then ! (load ! (from ! (stop !)) (look ! 113 refl))
+        (and-then ! (load ! (from ! (fld ! refl (stop !))) (look-in ! 151 (sub ! 1 refl (whole !)))) (no-more !)))) (from ! (stop !))
+        (init ! 111 refl (tt, (tt, (record { fits = room·sorts .0 }, tt)))) $
+        assigns ! (addr ! (from ! (fld ! refl (hop ! (look-in ! 149 (sub ! 0 refl (whole !))) (stop !))))) (from ! (stop !))
+        (init ! 109 refl (tt, tt)) $
+        assigns ! (agg ! (and-then ! (load ! (from ! (stop !)) (look ! 109 refl))
+        (and-then ! (load ! (from ! (fld ! refl (stop !))) (look-in ! 149 (sub ! 1 refl (whole !)))) (no-more !)))) (from ! (stop !))
+        (init ! 107 refl (tt, (tt, (record { fits = room·symbols .0 }, tt)))) $
+        assigns ! (addr ! (from ! (fld ! refl (hop ! (look-in ! 147 (sub ! 0 refl (whole !))) (stop !))))) (from ! (stop !))
+        (init ! 105 refl (tt, tt)) $
+        assigns ! (agg ! (and-then ! (load ! (from ! (stop !)) (look ! 105 refl))
+        (and-then ! (load ! (from ! (fld ! refl (stop !))) (look-in ! 147 (sub ! 1 refl (whole !)))) (no-more !)))) (from ! (stop !))
+        (init ! 103 refl (tt, (tt, (record { fits = room·inputs .0 }, tt)))) $
+        assigns ! (addr ! (from ! (fld ! refl (hop ! (look-in ! 145 (sub ! 0 refl (whole !))) (stop !))))) (from ! (stop !))
+        (init ! 101 refl (tt, tt)) $
+        assigns ! (agg ! (and-then ! (load ! (from ! (stop !)) (look ! 101 refl))
+        (and-then ! (load ! (from ! (fld ! refl (stop !))) (look-in ! 145 (sub ! 1 refl (whole !)))) (no-more !)))) (from ! (stop !))
+        (init ! 99 refl (tt, (tt, (record { fits = room·rules .0 }, tt)))) $
+        assigns ! (addr ! (from ! (fld ! refl (hop ! (look-in ! 143 (sub ! 0 refl (whole !))) (stop !))))) (from ! (stop !))
+        (init ! 97 refl (tt, tt)) $
+        assigns ! (agg ! (and-then ! (load ! (from ! (stop !)) (look ! 97 refl))
+        (and-then ! (load ! (from ! (fld ! refl (stop !))) (look-in ! 143 (sub ! 1 refl (whole !)))) (no-more !)))) (from ! (stop !))
+        (init ! 95 refl (tt, (tt, (record { fits = room·rulevars .0 }, tt)))) $
+        assigns ! (addr ! (from ! (fld ! refl (hop ! (look-in ! 141 (sub ! 0 refl (whole !))) (stop !))))) (from ! (stop !))
+        (init ! 93 refl (tt, tt)) $
+        assigns ! (agg ! (and-then ! (load ! (from ! (stop !)) (look ! 93 refl))
+        (and-then ! (load ! (from ! (fld ! refl (stop !))) (look-in ! 141 (sub ! 1 refl (whole !)))) (no-more !)))) (from ! (stop !))
+        (init ! 91 refl (tt, (tt, (record { fits = room·patterns .0 }, tt)))) $
+        assigns ! (addr ! (from ! (fld ! refl (hop ! (look-in ! 139 (sub ! 0 refl (whole !))) (stop !))))) (from ! (stop !))
+        (init ! 89 refl (tt, tt)) $
+        assigns ! (agg ! (and-then ! (load ! (from ! (stop !)) (look ! 89 refl))
+        (and-then ! (load ! (from ! (fld ! refl (stop !))) (look-in ! 139 (sub ! 1 refl (whole !)))) (no-more !)))) (from ! (stop !))
+        (init ! 87 refl (tt, (tt, (record { fits = room·vars .0 }, tt)))) $
+        assigns ! (addr ! (from ! (fld ! refl (hop ! (look-in ! 137 (sub ! 0 refl (whole !))) (stop !))))) (from ! (stop !))
+        (init ! 85 refl (tt, tt)) $
+        assigns ! (agg ! (and-then ! (load ! (from ! (stop !)) (look ! 85 refl))
+        (and-then ! (load ! (from ! (fld ! refl (stop !))) (look-in ! 137 (sub ! 1 refl (whole !)))) (no-more !)))) (from ! (stop !))
+        (init ! 83 refl (tt, (tt, (record { fits = room·index .0 }, tt)))) $
+        assigns ! (addr ! (from ! (fld ! refl (hop ! (look-in ! 135 (sub ! 0 refl (whole !))) (stop !))))) (from ! (stop !))
+        (init ! 81 refl (tt, tt)) $
+        assigns ! (agg ! (and-then ! (load ! (from ! (stop !)) (look ! 81 refl))
+        (and-then ! (load ! (from ! (fld ! refl (stop !))) (look-in ! 135 (sub ! 1 refl (whole !)))) (no-more !)))) (from ! (stop !))
+        (init ! 79 refl (tt, (tt, (record { fits = room·words .0 }, tt)))) $
+        assigns ! (addr ! (from ! (fld ! refl (hop ! (look-in ! 133 (sub ! 0 refl (whole !))) (stop !))))) (from ! (stop !))
+        (init ! 77 refl (tt, tt)) $
+        assigns ! (agg ! (and-then ! (load ! (from ! (stop !)) (look ! 77 refl))
+        (and-then ! (load ! (from ! (fld ! refl (stop !))) (look-in ! 133 (sub ! 1 refl (whole !)))) (no-more !)))) (from ! (stop !))
+        (init ! 75 refl (tt, (tt, (record { fits = room·defs .0 }, tt)))) $
+        assigns ! (addr ! (from ! (fld ! refl (hop ! (look-in ! 131 (sub ! 0 refl (whole !))) (stop !))))) (from ! (stop !))
+        (init ! 73 refl (tt, tt)) $
+        assigns ! (agg ! (and-then ! (load ! (from ! (stop !)) (look ! 73 refl))
+        (and-then ! (load ! (from ! (fld ! refl (stop !))) (look-in ! 131 (sub ! 1 refl (whole !)))) (no-more !)))) (from ! (stop !))
+        (init ! 71 refl (tt, (tt, (record { fits = room·rows .0 }, tt)))) $
+        assigns ! (addr ! (from ! (fld ! refl (hop ! (look-in ! 127 (sub ! 0 refl (whole !))) (stop !))))) (from ! (stop !))
+        (init ! 69 refl (tt, tt)) $
+        assigns ! (agg ! (and-then ! (load ! (from ! (stop !)) (look ! 69 refl))
+        (and-then ! (load ! (from ! (fld ! refl (stop !))) (look-in ! 127 (sub ! 1 refl (whole !)))) (no-more !)))) (from ! (stop !))
+        (init ! 67 refl (tt, (tt, (record { fits = room·lists .0 }, tt)))) $
+        assigns ! (addr ! (from ! (fld ! refl (hop ! (look-in ! 125 (sub ! 0 refl (whole !))) (stop !))))) (from ! (stop !))
+        (init ! 65 refl (tt, tt)) $
+        assigns ! (agg ! (and-then ! (load ! (from ! (stop !)) (look ! 65 refl))
+        (and-then ! (load ! (from ! (fld ! refl (stop !))) (look-in ! 125 (sub ! 1 refl (whole !)))) (no-more !)))) (from ! (stop !))
+        (init ! 63 refl (tt, (tt, (record { fits = room·missing .0 }, tt)))) $
+        assigns ! (addr ! (from ! (fld ! refl (hop ! (look-in ! 129 (sub ! 0 refl (whole !))) (stop !))))) (from ! (stop !))
+        (init ! 61 refl (tt, tt)) $
+        assigns ! (agg ! (and-then ! (load ! (from ! (stop !)) (look ! 61 refl))
+        (and-then ! (load ! (from ! (fld ! refl (stop !))) (look-in ! 129 (sub ! 1 refl (whole !)))) (no-more !)))) (from ! (stop !))
+        (init ! 59 refl (tt, (tt, (record { fits = room·facts .0 }, tt)))) $
+        assigns ! (addr ! (from ! (stop !))) (from ! (stop !)) (init ! 57 refl (tt, tt)) $
+        assigns ! (agg ! (and-then ! (load ! (from ! (stop !)) (look ! 57 refl)) (and-then ! (big ! (record { fits = lit< tt })) (no-more !))))
+        (from ! (stop !)) (init ! 55 refl (tt, (tt, (record { fits = lit< tt }, tt)))) $
+        assigns ! (addr ! (from ! (stop !))) (from ! (stop !)) (init ! 53 refl (tt, tt)) $
+        assigns ! (agg ! (and-then ! (load ! (from ! (stop !)) (look ! 53 refl)) (and-then ! (big ! (record { fits = lit< tt })) (no-more !))))
+        (from ! (stop !)) (init ! 51 refl (tt, (tt, (record { fits = lit< tt }, tt)))) $
+        assigns ! (addr ! (from ! (stop !))) (from ! (stop !)) (init ! 49 refl (tt, tt)) $
+        assigns ! (agg ! (and-then ! (load ! (from ! (stop !)) (look ! 49 refl)) (and-then ! (big ! (record { fits = lit< tt })) (no-more !))))
+        (from ! (stop !)) (init ! 47 refl (tt, (tt, (record { fits = lit< tt }, tt)))) $
+        assigns ! (addr ! (from ! (stop !))) (from ! (stop !)) (init ! 45 refl (tt, tt)) $
+        assigns ! (agg ! (and-then ! (load ! (from ! (stop !)) (look ! 45 refl)) (and-then ! (big ! (record { fits = lit< tt })) (no-more !))))
+        (from ! (stop !)) (init ! 43 refl (tt, (tt, (record { fits = lit< tt }, tt)))) $
+        assigns ! (addr ! (from ! (stop !))) (from ! (stop !)) (init ! 41 refl (tt, tt)) $
+        assigns ! (agg ! (and-then ! (load ! (from ! (stop !)) (look ! 41 refl)) (and-then ! (big ! (record { fits = lit< tt })) (no-more !))))
+        (from ! (stop !)) (init ! 39 refl (tt, (tt, (record { fits = lit< tt }, tt)))) $
         -- call 1: check_with
-        move ! (37 ∷ []) $
+        move ! (38 ∷ []) $
         use1 W (‵ (ShrSlice (named 0) κ·theory u8 .own (ref·theory γ·theory theory) (s·theory ∷ []))
         ⊛ ‵ (ShrSlice (named 0) κ·theory u8 .own (ref·theory γ·theory theory) (s·theory ∷ [])))
         (shr-slice-copy 𝓤 H A W (named 0) κ·theory u8 .twice (ref·theory γ·theory theory) (s·theory ∷ [])) $ split ! $
-        move ! (38 ∷ []) $
+        move ! (39 ∷ []) $
         use1 W (‵ (ShrSlice (named 1) κ·goals u8 .own (ref·goals γ·goals goals) (s·goals ∷ []))
         ⊛ ‵ (ShrSlice (named 1) κ·goals u8 .own (ref·goals γ·goals goals) (s·goals ∷ [])))
         (shr-slice-copy 𝓤 H A W (named 1) κ·goals u8 .twice (ref·goals γ·goals goals) (s·goals ∷ [])) $ split ! $
-        move ! (39 ∷ []) $
+        move ! (40 ∷ []) $
         use1 W (‵ (ShrSlice (named 2) κ·proof u8 .own (ref·proof γ·proof proof) (s·proof ∷ []))
         ⊛ ‵ (ShrSlice (named 2) κ·proof u8 .own (ref·proof γ·proof proof) (s·proof ∷ [])))
         (shr-slice-copy 𝓤 H A W (named 2) κ·proof u8 .twice (ref·proof γ·proof proof) (s·proof ∷ [])) $ split ! $
         lft-new ! tt (λ ν·1·17.
-        move ! (120 ∷ 10 ∷ []) $
+        move ! (127 ∷ 11 ∷ []) $
         use2 W (later (some (λ (δ : GName). ‵ (MutSlice (named 17) (ν·1·17 ∷ []) u32 .own (record { ptr = (l18, 0); name = δ; now = (many ℕ 6144 0) })
         (sliceVal (l18, 0) 6144 ∷ [])) ⊛ ‵ (flent (ν·1·17 ∷ []) (Held u32 6144 l18 0 δ)))))
         (array-lent u32 tt 6144 (lit< tt, lit< tt) (ν·1·17 ∷ []) l18 𝓤 H A W (named 17) (many ℕ 6144 0) (manyVal 6144 (vint w32 0))) $ await ! tt $
         pick ! (λ δ·1·17. split ! $
         lft-new ! tt (λ ν·1·18.
-        move ! (120 ∷ 12 ∷ []) $
+        move ! (127 ∷ 13 ∷ []) $
         use2 W (later (some (λ (δ : GName). ‵ (MutSlice (named 18) (ν·1·18 ∷ []) u64 .own (record { ptr = (l19, 0); name = δ; now = (many ℕ 4096 0) })
         (sliceVal (l19, 0) 4096 ∷ [])) ⊛ ‵ (flent (ν·1·18 ∷ []) (Held u64 4096 l19 0 δ)))))
         (array-lent u64 tt 4096 (lit< tt, lit< tt) (ν·1·18 ∷ []) l19 𝓤 H A W (named 18) (many ℕ 4096 0) (manyVal 4096 (vint w64 0))) $ await ! tt $
         pick ! (λ δ·1·18. split ! $
-        lft-new ! tt (λ ν·1·19.
-        move ! (120 ∷ 14 ∷ []) $
-        use2 W (later (some (λ (δ : GName). ‵ (MutSlice (named 19) (ν·1·19 ∷ []) u32 .own
-        (record { ptr = (l20, 0); name = δ; now = (many ℕ 65536 0) }) (sliceVal (l20, 0) 65536 ∷ []))
-        ⊛ ‵ (flent (ν·1·19 ∷ []) (Held u32 65536 l20 0 δ))))) (array-lent u32 tt 65536 (lit< tt, lit< tt) (ν·1·19 ∷ []) l20 𝓤 H A W (named 19)
-        (many ℕ 65536 0) (manyVal 65536 (vint w32 0))) $ await ! tt $ pick ! (λ δ·1·19. split ! $
-        lft-new ! tt (λ ν·1·20.
-        move ! (120 ∷ 16 ∷ []) $
-        use2 W (later (some (λ (δ : GName). ‵ (MutSlice (named 20) (ν·1·20 ∷ []) u32 .own
-        (record { ptr = (l21, 0); name = δ; now = (many ℕ 40960 0) }) (sliceVal (l21, 0) 40960 ∷ []))
-        ⊛ ‵ (flent (ν·1·20 ∷ []) (Held u32 40960 l21 0 δ))))) (array-lent u32 tt 40960 (lit< tt, lit< tt) (ν·1·20 ∷ []) l21 𝓤 H A W (named 20)
-        (many ℕ 40960 0) (manyVal 40960 (vint w32 0))) $ await ! tt $ pick ! (λ δ·1·20. split ! $
         seg·2 l0 l1 l2 l3 l4 l5 l6 l7 l8 l9 l10 l11 l12 l13 l14 l15 l16 l17 l18 l19 l20 l21 l22 l23 l24 l25 l26 l27 l28 l29 l30 l31 l32 l33 l34 l35
-        l36 l37 l38 l39 l40 l41 l42 l43 l44 l45 l46 l47 l48 l49 l50 l51 l52 l53 l54 l55 l56 l57 is·kept is·feet is·cells is·ids ν·1·17 δ·1·17 ν·1·18
-        δ·1·18 ν·1·19 δ·1·19 ν·1·20 δ·1·20))))))))))))
+        l36 l37 l38 l39 l40 l41 l42 l43 l44 l45 l46 l47 l48 l49 l50 l51 l52 l53 l54 l55 l56 l57 l58 l59 l60 is·kept is·feet is·cells is·ids is·memo
+        ν·1·17 δ·1·17 ν·1·18 δ·1·18)))))))))
 
     walk : ent 𝓤 (onEntry 𝓤 H A self·fn.signature κs qs a at) (WpFn 𝓤 H C Λ code.function
         (s·theory ∷ s·goals ∷ s·proof ∷ s·sorts ∷ s·symbols ∷ s·inputs ∷ s·rules ∷ s·rulevars ∷ s·patterns ∷ s·vars ∷ s·index ∷ s·words ∷ s·defs
@@ -2426,26 +2711,26 @@ module _ {M : Type 1} (𝓤 : URA M) (H : Heap 𝓤) (A : Atoms 𝓤) (W : Given
         alloc1 ! (λ l40. alloc1 ! (λ l41. alloc1 ! (λ l42. alloc1 ! (λ l43. alloc1 ! (λ l44.
         alloc1 ! (λ l45. alloc1 ! (λ l46. alloc1 ! (λ l47. alloc1 ! (λ l48. alloc1 ! (λ l49.
         alloc1 ! (λ l50. alloc1 ! (λ l51. alloc1 ! (λ l52. alloc1 ! (λ l53. alloc1 ! (λ l54.
-        alloc1 ! (λ l55. alloc1 ! (λ l56. alloc1 ! (λ l57. alloc0 ! $ params1 ! $
-        pass1 ! (init ! 112 refl (tt, (tt, (record { fits = room·theory .0 }, tt)))) $
-        pass1 ! (init ! 110 refl (tt, (tt, (record { fits = room·goals .0 }, tt)))) $
-        pass1 ! (init ! 108 refl (tt, (tt, (record { fits = room·proof .0 }, tt)))) $
-        pass1 ! (init ! 106 refl (tt, (tt, (record { fits = room·sorts .0 }, tt)))) $
-        pass1 ! (init ! 104 refl (tt, (tt, (record { fits = room·symbols .0 }, tt)))) $
-        pass1 ! (init ! 102 refl (tt, (tt, (record { fits = room·inputs .0 }, tt)))) $
-        pass1 ! (init ! 100 refl (tt, (tt, (record { fits = room·rules .0 }, tt)))) $
-        pass1 ! (init ! 98 refl (tt, (tt, (record { fits = room·rulevars .0 }, tt)))) $
-        pass1 ! (init ! 96 refl (tt, (tt, (record { fits = room·patterns .0 }, tt)))) $
-        pass1 ! (init ! 94 refl (tt, (tt, (record { fits = room·vars .0 }, tt)))) $
-        pass1 ! (init ! 92 refl (tt, (tt, (record { fits = room·index .0 }, tt)))) $
-        pass1 ! (init ! 90 refl (tt, (tt, (record { fits = room·words .0 }, tt)))) $
-        pass1 ! (init ! 88 refl (tt, (tt, (record { fits = room·defs .0 }, tt)))) $
-        pass1 ! (init ! 86 refl (tt, (tt, (record { fits = room·rows .0 }, tt)))) $
-        pass1 ! (init ! 84 refl (tt, (tt, (record { fits = room·facts .0 }, tt)))) $
-        pass1 ! (init ! 82 refl (tt, (tt, (record { fits = room·lists .0 }, tt)))) $
-        pass1 ! (init ! 80 refl (tt, (tt, (record { fits = room·missing .0 }, tt)))) $
+        alloc1 ! (λ l55. alloc1 ! (λ l56. alloc1 ! (λ l57. alloc1 ! (λ l58. alloc1 ! (λ l59. alloc1 ! (λ l60. alloc0 ! $ params1 ! $
+        pass1 ! (init ! 118 refl (tt, (tt, (record { fits = room·theory .0 }, tt)))) $
+        pass1 ! (init ! 116 refl (tt, (tt, (record { fits = room·goals .0 }, tt)))) $
+        pass1 ! (init ! 114 refl (tt, (tt, (record { fits = room·proof .0 }, tt)))) $
+        pass1 ! (init ! 112 refl (tt, (tt, (record { fits = room·sorts .0 }, tt)))) $
+        pass1 ! (init ! 110 refl (tt, (tt, (record { fits = room·symbols .0 }, tt)))) $
+        pass1 ! (init ! 108 refl (tt, (tt, (record { fits = room·inputs .0 }, tt)))) $
+        pass1 ! (init ! 106 refl (tt, (tt, (record { fits = room·rules .0 }, tt)))) $
+        pass1 ! (init ! 104 refl (tt, (tt, (record { fits = room·rulevars .0 }, tt)))) $
+        pass1 ! (init ! 102 refl (tt, (tt, (record { fits = room·patterns .0 }, tt)))) $
+        pass1 ! (init ! 100 refl (tt, (tt, (record { fits = room·vars .0 }, tt)))) $
+        pass1 ! (init ! 98 refl (tt, (tt, (record { fits = room·index .0 }, tt)))) $
+        pass1 ! (init ! 96 refl (tt, (tt, (record { fits = room·words .0 }, tt)))) $
+        pass1 ! (init ! 94 refl (tt, (tt, (record { fits = room·defs .0 }, tt)))) $
+        pass1 ! (init ! 92 refl (tt, (tt, (record { fits = room·rows .0 }, tt)))) $
+        pass1 ! (init ! 90 refl (tt, (tt, (record { fits = room·facts .0 }, tt)))) $
+        pass1 ! (init ! 88 refl (tt, (tt, (record { fits = room·lists .0 }, tt)))) $
+        pass1 ! (init ! 86 refl (tt, (tt, (record { fits = room·missing .0 }, tt)))) $
         pass0 ! $
-        move ! (117 ∷ []) $
+        move ! (123 ∷ []) $
         fsplit ! $
         move ! (1 ∷ []) $
         fsplit ! $
@@ -2481,7 +2766,7 @@ module _ {M : Type 1} (𝓤 : URA M) (H : Heap 𝓤) (A : Atoms 𝓤) (W : Given
         fsplit ! $
         move ! (1 ∷ []) $
         drop ! $
-        move ! (133 ∷ []) $
+        move ! (139 ∷ []) $
         split ! $
         move ! (1 ∷ []) $
         split ! $
@@ -2518,8 +2803,8 @@ module _ {M : Type 1} (𝓤 : URA M) (H : Heap 𝓤) (A : Atoms 𝓤) (W : Given
         move ! (1 ∷ []) $
         drop ! $
         seg·1 l0 l1 l2 l3 l4 l5 l6 l7 l8 l9 l10 l11 l12 l13 l14 l15 l16 l17 l18 l19 l20 l21 l22 l23 l24 l25 l26 l27 l28 l29 l30 l31 l32 l33 l34 l35
-        l36 l37 l38 l39 l40 l41 l42 l43 l44 l45 l46 l47 l48 l49 l50 l51 l52 l53 l54 l55 l56
-        l57))))))))))))))))))))))))))))))))))))))))))))))))))))))))))
+        l36 l37 l38 l39 l40 l41 l42 l43 l44 l45 l46 l47 l48 l49 l50 l51 l52 l53 l54 l55 l56 l57 l58 l59
+        l60)))))))))))))))))))))))))))))))))))))))))))))))))))))))))))))
 
 module _ {M : Type 1} (𝓤 : URA M) (H : Heap 𝓤) (A : Atoms 𝓤) (W : Given 𝓤 H A) (at-mem : Memory → SProp 𝓤) (run : Routine → Fun 𝓤) (𝓣 : Tables 𝓤 H)
     (known·1 : Triple 𝓤 (𝓣 .C #schematic·check-with) (G1·C 𝓤 H A at-mem run)) where

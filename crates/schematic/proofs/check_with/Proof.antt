@@ -56,7 +56,7 @@ use Rattle.running.proofs.run.Run as RunT
 use Rattle.running.proofs.run.Run.Laws as RunL
 use Rattle.running.specs.declared.finish.Answer.{Answer}
 use Rattle.running.specs.declared.run.Run.{Run}
-use Rattle.schematic.proofs.Lent.{LentAgain, LentShared, lends-again, again-back, lends-shared, shared-back}
+use Rattle.facts.proofs.Lent.{LentAgain, LentShared, lends-again, again-back, lends-shared, shared-back}
 use Rattle.schematic.proofs.LocalRecord.{record-lent, record-back}
 use types.SemTy.{Body as Body·T}
 use Rattle.kernel.specs.Parsed.{theoryLists}
@@ -134,7 +134,13 @@ stayed = (
                               gave-slice (14 ∷ []) tt (plain (λ _. u32)),
                               (
                                 gave-slice (15 ∷ []) tt (plain (λ _. u32)),
-                                (gave-slice (16 ∷ []) tt (plain (λ _. FactT.the-row)), (gave-slice (17 ∷ []) tt (plain (λ _. u32)), (gave-slice (18 ∷ []) tt (plain (λ _. u64)), (gave-slice (19 ∷ []) tt (plain (λ _. u32)), (gave-slice (20 ∷ []) tt (plain (λ _. u32)), tt))))),
+                                (
+                                  gave-slice (16 ∷ []) tt (plain (λ _. FactT.the-row)),
+                                  (
+                                    gave-slice (17 ∷ []) tt (plain (λ _. u32)),
+                                    (gave-slice (18 ∷ []) tt (plain (λ _. u64)), (gave-slice (19 ∷ []) tt (plain (λ _. u32)), (gave-slice (20 ∷ []) tt (plain (λ _. u32)), (gave-slice (21 ∷ []) tt (plain (λ _. u32)), tt)))),
+                                  ),
+                                ),
                               ),
                             ),
                           ),
@@ -179,10 +185,11 @@ abbrev Arg : Type 0
 Arg = (RefT (List ℕ) × (RefT (List ℕ) × (RefT (List ℕ) × (RefT (List ℕ) × (RefT (List ℕ) ×
     (RefT (List ℕ) × (RefT (List ℕ) × (RefT (List ℕ) × (RefT (List ℕ) × (RefT (List ℕ) ×
     (RefT (List ℕ) × (RefT (List ℕ) × (RefT (List ℕ) × (RefT (List ℕ) × (RefT (List ℕ) ×
-    (RefT (List ℕ) × (RefT (List Fact) × (RefT (List ℕ) × (RefT (List ℕ) × (RefT (List ℕ) × (RefT (List ℕ) × Unit {0})))))))))))))))))))))
+    (RefT (List ℕ) × (RefT (List Fact) × (RefT (List ℕ) × (RefT (List ℕ) × (RefT (List ℕ) ×
+    (RefT (List ℕ) × (RefT (List ℕ) × Unit {0}))))))))))))))))))))))
 
-module _ {M : Type 1} (𝓤 : URA M) (H : Heap 𝓤) (A : Atoms 𝓤) (W : Given 𝓤 H A) (at-mem : Memory → SProp 𝓤) (run : Routine → Fun 𝓤) (κs : Lfts 21)
-    (qs : Shares 21) (a : Arg) where
+module _ {M : Type 1} (𝓤 : URA M) (H : Heap 𝓤) (A : Atoms 𝓤) (W : Given 𝓤 H A) (at-mem : Memory → SProp 𝓤) (run : Routine → Fun 𝓤) (κs : Lfts 22)
+    (qs : Shares 22) (a : Arg) where
   abbrev κ·theory : Lft
   κ·theory = κs .0
 
@@ -308,6 +315,12 @@ module _ {M : Type 1} (𝓤 : URA M) (H : Heap 𝓤) (A : Atoms 𝓤) (W : Given
 
   abbrev q·ids : Share
   q·ids = qs .1 .1 .1 .1 .1 .1 .1 .1 .1 .1 .1 .1 .1 .1 .1 .1 .1 .1 .1 .1 .0
+
+  abbrev κ·memo : Lft
+  κ·memo = κs .1 .1 .1 .1 .1 .1 .1 .1 .1 .1 .1 .1 .1 .1 .1 .1 .1 .1 .1 .1 .1 .0
+
+  abbrev q·memo : Share
+  q·memo = qs .1 .1 .1 .1 .1 .1 .1 .1 .1 .1 .1 .1 .1 .1 .1 .1 .1 .1 .1 .1 .1 .0
 
   abbrev theory : List ℕ
   theory = a .0 .now
@@ -687,9 +700,28 @@ module _ {M : Type 1} (𝓤 : URA M) (H : Heap 𝓤) (A : Atoms 𝓤) (W : Given
   abbrev s·ids : Val
   s·ids = sliceVal (b·ids, o·ids) (length ids)
 
+  abbrev memo : List ℕ
+  memo = a .1 .1 .1 .1 .1 .1 .1 .1 .1 .1 .1 .1 .1 .1 .1 .1 .1 .1 .1 .1 .1 .0 .now
+
+  abbrev b·memo : ℕ
+  b·memo = a .1 .1 .1 .1 .1 .1 .1 .1 .1 .1 .1 .1 .1 .1 .1 .1 .1 .1 .1 .1 .1 .0 .ptr .0
+
+  abbrev o·memo : ℕ
+  o·memo = a .1 .1 .1 .1 .1 .1 .1 .1 .1 .1 .1 .1 .1 .1 .1 .1 .1 .1 .1 .1 .1 .0 .ptr .1
+
+  abbrev γ·memo : GName
+  γ·memo = a .1 .1 .1 .1 .1 .1 .1 .1 .1 .1 .1 .1 .1 .1 .1 .1 .1 .1 .1 .1 .1 .0 .name
+
+  abbrev ref·memo : GName → List ℕ → RefT (List ℕ)
+  ref·memo δ l = record { ptr = (b·memo, o·memo); name = δ; now = l }
+
+  abbrev s·memo : Val
+  s·memo = sliceVal (b·memo, o·memo) (length memo)
+
   abbrev at : (List Val × (List Val × (List Val × (List Val × (List Val × (List Val ×
       (List Val × (List Val × (List Val × (List Val × (List Val × (List Val ×
-      (List Val × (List Val × (List Val × (List Val × (List Val × (List Val × (List Val × (List Val × (List Val × Unit {0})))))))))))))))))))))
+      (List Val × (List Val × (List Val × (List Val × (List Val × (List Val ×
+      (List Val × (List Val × (List Val × (List Val × Unit {0}))))))))))))))))))))))
   at = (
     s·theory ∷ [],
     (
@@ -700,7 +732,22 @@ module _ {M : Type 1} (𝓤 : URA M) (H : Heap 𝓤) (A : Atoms 𝓤) (W : Given
           s·sorts ∷ [],
           (
             s·symbols ∷ [],
-            (s·inputs ∷ [], (s·rules ∷ [], (s·rulevars ∷ [], (s·patterns ∷ [], (s·vars ∷ [], (s·index ∷ [], (s·words ∷ [], (s·defs ∷ [], (s·rows ∷ [], (s·lists ∷ [], (s·missing ∷ [], (s·facts ∷ [], (s·kept ∷ [], (s·feet ∷ [], (s·cells ∷ [], (s·ids ∷ [], tt)))))))))))))))),
+            (
+              s·inputs ∷ [],
+              (
+                s·rules ∷ [],
+                (
+                  s·rulevars ∷ [],
+                  (
+                    s·patterns ∷ [],
+                    (
+                      s·vars ∷ [],
+                      (s·index ∷ [], (s·words ∷ [], (s·defs ∷ [], (s·rows ∷ [], (s·lists ∷ [], (s·missing ∷ [], (s·facts ∷ [], (s·kept ∷ [], (s·feet ∷ [], (s·cells ∷ [], (s·ids ∷ [], (s·memo ∷ [], tt)))))))))))),
+                    ),
+                  ),
+                ),
+              ),
+            ),
           ),
         ),
       ),
@@ -716,69 +763,72 @@ module _ {M : Type 1} (𝓤 : URA M) (H : Heap 𝓤) (A : Atoms 𝓤) (W : Given
       (room·vars : Room u32 (length vars)) (room·index : Room u32 (length index)) (room·words : Room u32 (length words))
       (room·defs : Room u32 (length defs)) (room·rows : Room u32 (length rows)) (room·lists : Room u32 (length lists))
       (room·missing : Room u32 (length missing)) (room·facts : Room FactT.the-row (length facts)) (room·kept : Room u32 (length kept))
-      (room·feet : Room u64 (length feet)) (room·cells : Room u32 (length cells)) (room·ids : Room u32 (length ids)) (req : Blank kept feet cells ids)
-      (C : Calls 𝓤 H) (Λ : Loops 𝓤 H) (fm : FmC 𝓤 H (W .laws) C) (known·1 : Triple 𝓤 (C #beginning·begin·begin) (G1·C 𝓤 H A at-mem run))
-      (known·2 : Triple 𝓤 (C #counts·no-counts) (G2·C 𝓤 H A at-mem run)) (known·3 : Triple 𝓤 (C #schematic·run) (G3·C 𝓤 H A at-mem run))
-      (known·4 : Triple 𝓤 (C #running·finish·end) (G4·C 𝓤 H A at-mem run)) (known·5 : Triple 𝓤 (C #running·run·index-of) (G5·C 𝓤 H A at-mem run))
-      (known·6 : Triple 𝓤 (C #running·run·room-of) (G6·C 𝓤 H A at-mem run)) (known·7 : Triple 𝓤 (C #facts·zero-behind) (G7·C 𝓤 H A at-mem run)) where
+      (room·feet : Room u64 (length feet)) (room·cells : Room u32 (length cells)) (room·ids : Room u32 (length ids))
+      (room·memo : Room u32 (length memo)) (req : Blank kept feet cells ids memo) (C : Calls 𝓤 H) (Λ : Loops 𝓤 H) (fm : FmC 𝓤 H (W .laws) C)
+      (known·1 : Triple 𝓤 (C #beginning·begin·begin) (G1·C 𝓤 H A at-mem run)) (known·2 : Triple 𝓤 (C #counts·no-counts) (G2·C 𝓤 H A at-mem run))
+      (known·3 : Triple 𝓤 (C #schematic·run) (G3·C 𝓤 H A at-mem run)) (known·4 : Triple 𝓤 (C #running·finish·end) (G4·C 𝓤 H A at-mem run))
+      (known·5 : Triple 𝓤 (C #running·run·index-of) (G5·C 𝓤 H A at-mem run)) (known·6 : Triple 𝓤 (C #running·run·room-of) (G6·C 𝓤 H A at-mem run))
+      (known·7 : Triple 𝓤 (C #facts·zero-behind) (G7·C 𝓤 H A at-mem run)) where
     abbrev En : ℕ → ℕ → ℕ → ℕ → ℕ → ℕ → ℕ → ℕ → ℕ → ℕ → ℕ → ℕ → ℕ → ℕ → ℕ → ℕ → ℕ → ℕ → ℕ → ℕ → ℕ → ℕ → ℕ → ℕ → ℕ → ℕ → ℕ → ℕ → ℕ → ℕ → ℕ → ℕ → ℕ → ℕ
         → ℕ → ℕ → ℕ → ℕ → ℕ → ℕ → ℕ → ℕ → ℕ → ℕ → ℕ → ℕ → ℕ → ℕ → ℕ → ℕ → ℕ → ℕ → ℕ → ℕ → ℕ → ℕ → ℕ → ℕ → ℕ → ℕ → ℕ → ℕ → ℕ → ℕ → ℕ → ℕ → ℕ → ℕ → ℕ
         → ℕ → ℕ → ℕ → ℕ → ℕ → ℕ → ℕ → ℕ → ℕ → ℕ → ℕ → ℕ → ℕ → ℕ → ℕ → ℕ → ℕ → ℕ → ℕ → ℕ → ℕ → ℕ → ℕ → ℕ → ℕ → ℕ → ℕ → ℕ → ℕ → ℕ → ℕ → ℕ → ℕ → ℕ → ℕ
-        → ℕ → ℕ → ℕ → ℕ → Env 𝓤 H
+        → ℕ → ℕ → ℕ → ℕ → ℕ → ℕ → ℕ → Env 𝓤 H
     En l0 l1 l2 l3 l4 l5 l6 l7 l8 l9 l10 l11 l12 l13 l14 l15 l16 l17 l18 l19 l20 l21 l22 l23 l24 l25 l26 l27 l28 l29 l30 l31 l32 l33 l34 l35 l36 l37
         l38 l39 l40 l41 l42 l43 l44 l45 l46 l47 l48 l49 l50 l51 l52 l53 l54 l55 l56 l57 l58 l59 l60 l61 l62 l63 l64 l65 l66 l67 l68 l69 l70 l71 l72
         l73 l74 l75 l76 l77 l78 l79 l80 l81 l82 l83 l84 l85 l86 l87 l88 l89 l90 l91 l92 l93 l94 l95 l96 l97 l98 l99 l100 l101 l102 l103 l104 l105
-        l106 l107 = (AnswerL.mir, l0) ∷ ((sliceTy (tyRef (named 0) imm (tyInt w8))), l1) ∷ ((sliceTy (tyRef (named 1) imm (tyInt w8))), l2)
-        ∷ ((sliceTy (tyRef (named 2) imm (tyInt w8))), l3) ∷ ((sliceTy (tyRef (named 3) mut (tyInt w32))), l4)
-        ∷ ((sliceTy (tyRef (named 4) mut (tyInt w32))), l5) ∷ ((sliceTy (tyRef (named 5) mut (tyInt w32))), l6)
-        ∷ ((sliceTy (tyRef (named 6) mut (tyInt w32))), l7) ∷ ((sliceTy (tyRef (named 7) mut (tyInt w32))), l8)
-        ∷ ((sliceTy (tyRef (named 8) mut (tyInt w32))), l9) ∷ ((sliceTy (tyRef (named 9) mut (tyInt w32))), l10)
-        ∷ ((sliceTy (tyRef (named 10) mut (tyInt w32))), l11) ∷ ((sliceTy (tyRef (named 11) mut (tyInt w32))), l12)
-        ∷ ((sliceTy (tyRef (named 12) mut (tyInt w32))), l13) ∷ ((sliceTy (tyRef (named 13) mut (tyInt w32))), l14)
-        ∷ ((sliceTy (tyRef (named 14) mut (tyInt w32))), l15) ∷ ((sliceTy (tyRef (named 15) mut (tyInt w32))), l16)
-        ∷ ((sliceTy (tyRef (named 16) mut (pointee (FactT.the-row .written)))), l17) ∷ ((sliceTy (tyRef (named 17) mut (tyInt w32))), l18)
-        ∷ ((sliceTy (tyRef (named 18) mut (tyInt w64))), l19) ∷ ((sliceTy (tyRef (named 19) mut (tyInt w32))), l20)
-        ∷ ((sliceTy (tyRef (named 20) mut (tyInt w32))), l21) ∷ ((tyInt w64), l22) ∷ (RunL.mir, l23) ∷ (CountsL.mir, l24)
-        ∷ (RunL.mir, l25) ∷ (AnswerL.mir, l26) ∷ ((tyRef erased mut (tyInt w32)), l27) ∷ ((sliceTy (tyRef erased mut (tyInt w32))), l28)
-        ∷ ((tyRef erased mut (tyInt w32)), l29) ∷ ((sliceTy (tyRef erased mut (tyInt w32))), l30) ∷ ((tyRef erased mut (tyInt w32)), l31)
-        ∷ ((sliceTy (tyRef erased mut (tyInt w32))), l32) ∷ ((tyRef erased mut (tyInt w32)), l33)
-        ∷ ((sliceTy (tyRef erased mut (tyInt w32))), l34) ∷ ((tyRef erased mut (tyInt w32)), l35)
-        ∷ ((sliceTy (tyRef erased mut (tyInt w32))), l36) ∷ ((tyRef erased mut (tyInt w32)), l37)
-        ∷ ((sliceTy (tyRef erased mut (tyInt w32))), l38) ∷ ((tyRef erased mut (tyInt w32)), l39)
-        ∷ ((sliceTy (tyRef erased mut (tyInt w32))), l40) ∷ ((tyRef erased mut (tyInt w32)), l41)
-        ∷ ((sliceTy (tyRef erased mut (tyInt w32))), l42) ∷ ((tyRef erased mut (tyInt w32)), l43)
-        ∷ ((sliceTy (tyRef erased mut (tyInt w32))), l44) ∷ ((tyRef erased mut (tyInt w32)), l45)
-        ∷ ((sliceTy (tyRef erased mut (tyInt w32))), l46) ∷ ((tyRef erased mut (tyInt w32)), l47)
-        ∷ ((sliceTy (tyRef erased mut (tyInt w32))), l48) ∷ ((tyRef erased mut (tyInt w32)), l49)
-        ∷ ((sliceTy (tyRef erased mut (tyInt w32))), l50) ∷ ((tyRef erased mut (tyInt w32)), l51)
-        ∷ ((sliceTy (tyRef erased mut (tyInt w32))), l52) ∷ ((tyRef erased imm (tyInt w32)), l53)
-        ∷ ((sliceTy (tyRef erased imm (tyInt w32))), l54) ∷ ((tyRef erased imm (tyInt w64)), l55)
-        ∷ ((sliceTy (tyRef erased imm (tyInt w64))), l56) ∷ ((tyRef erased mut (tyInt w32)), l57)
-        ∷ ((sliceTy (tyRef erased mut (tyInt w32))), l58) ∷ (CountsL.mir, l59) ∷ ((tyRef erased imm (tyInt w32)), l60)
-        ∷ ((sliceTy (tyRef erased imm (tyInt w32))), l61) ∷ ((tyRef erased imm (tyInt w32)), l62)
-        ∷ ((sliceTy (tyRef erased imm (tyInt w32))), l63) ∷ ((tyRef erased imm (tyInt w32)), l64)
-        ∷ ((sliceTy (tyRef erased imm (tyInt w32))), l65) ∷ ((tyRef erased imm (tyInt w32)), l66)
-        ∷ ((sliceTy (tyRef erased imm (tyInt w32))), l67) ∷ ((tyRef erased imm (tyInt w32)), l68)
-        ∷ ((sliceTy (tyRef erased imm (tyInt w32))), l69) ∷ ((tyRef erased imm (tyInt w32)), l70)
-        ∷ ((sliceTy (tyRef erased imm (tyInt w32))), l71) ∷ ((tyRef erased mut (tyInt w32)), l72)
-        ∷ ((sliceTy (tyRef erased mut (tyInt w32))), l73) ∷ ((tyRef erased mut (tyInt w32)), l74)
-        ∷ ((sliceTy (tyRef erased mut (tyInt w32))), l75) ∷ ((tyRef erased mut (tyInt w32)), l76)
-        ∷ ((sliceTy (tyRef erased mut (tyInt w32))), l77) ∷ ((tyRef erased mut (tyInt w32)), l78)
-        ∷ ((sliceTy (tyRef erased mut (tyInt w32))), l79) ∷ ((tyRef erased mut (tyInt w32)), l80)
-        ∷ ((sliceTy (tyRef erased mut (tyInt w32))), l81) ∷ ((tyRef erased mut (tyInt w32)), l82)
-        ∷ ((sliceTy (tyRef erased mut (tyInt w32))), l83) ∷ ((tyRef erased mut (tyInt w32)), l84)
-        ∷ ((sliceTy (tyRef erased mut (tyInt w32))), l85) ∷ ((tyRef erased mut (tyInt w64)), l86)
-        ∷ ((sliceTy (tyRef erased mut (tyInt w64))), l87) ∷ ((tyRef erased mut (tyInt w32)), l88)
-        ∷ ((sliceTy (tyRef erased mut (tyInt w32))), l89) ∷ ((tyRef erased mut (tyInt w32)), l90)
-        ∷ ((sliceTy (tyRef erased mut (tyInt w32))), l91) ∷ ((tyRef erased mut (pointee (FactT.the-row .written))), l92)
-        ∷ ((sliceTy (tyRef erased mut (pointee (FactT.the-row .written)))), l93)
-        ∷ ((tyRef erased mut (pointee (CountsT.the-row .written))), l94) ∷ ((tyRef erased mut (tyInt w32)), l95)
-        ∷ ((sliceTy (tyRef erased mut (tyInt w32))), l96) ∷ ((tyRef erased imm (tyInt w32)), l97)
-        ∷ ((sliceTy (tyRef erased imm (tyInt w32))), l98) ∷ ((tyRef erased imm (tyInt w32)), l99)
-        ∷ ((sliceTy (tyRef erased imm (tyInt w32))), l100) ∷ ((tyRef erased mut (tyInt w32)), l101)
-        ∷ ((sliceTy (tyRef erased mut (tyInt w32))), l102) ∷ (tyUnit, l103)
-        ∷ ((tyRef erased mut (pointee (FactT.the-row .written))), l104)
-        ∷ ((sliceTy (tyRef erased mut (pointee (FactT.the-row .written)))), l105) ∷ ((tyInt w64), l106) ∷ ((tyInt w64), l107) ∷ []
+        l106 l107 l108 l109 l110 = (AnswerL.mir, l0) ∷ ((sliceTy (tyRef (named 0) imm (tyInt w8))), l1)
+        ∷ ((sliceTy (tyRef (named 1) imm (tyInt w8))), l2) ∷ ((sliceTy (tyRef (named 2) imm (tyInt w8))), l3)
+        ∷ ((sliceTy (tyRef (named 3) mut (tyInt w32))), l4) ∷ ((sliceTy (tyRef (named 4) mut (tyInt w32))), l5)
+        ∷ ((sliceTy (tyRef (named 5) mut (tyInt w32))), l6) ∷ ((sliceTy (tyRef (named 6) mut (tyInt w32))), l7)
+        ∷ ((sliceTy (tyRef (named 7) mut (tyInt w32))), l8) ∷ ((sliceTy (tyRef (named 8) mut (tyInt w32))), l9)
+        ∷ ((sliceTy (tyRef (named 9) mut (tyInt w32))), l10) ∷ ((sliceTy (tyRef (named 10) mut (tyInt w32))), l11)
+        ∷ ((sliceTy (tyRef (named 11) mut (tyInt w32))), l12) ∷ ((sliceTy (tyRef (named 12) mut (tyInt w32))), l13)
+        ∷ ((sliceTy (tyRef (named 13) mut (tyInt w32))), l14) ∷ ((sliceTy (tyRef (named 14) mut (tyInt w32))), l15)
+        ∷ ((sliceTy (tyRef (named 15) mut (tyInt w32))), l16) ∷ ((sliceTy (tyRef (named 16) mut (pointee (FactT.the-row .written)))), l17)
+        ∷ ((sliceTy (tyRef (named 17) mut (tyInt w32))), l18) ∷ ((sliceTy (tyRef (named 18) mut (tyInt w64))), l19)
+        ∷ ((sliceTy (tyRef (named 19) mut (tyInt w32))), l20) ∷ ((sliceTy (tyRef (named 20) mut (tyInt w32))), l21)
+        ∷ ((sliceTy (tyRef (named 21) mut (tyInt w32))), l22) ∷ ((tyInt w64), l23) ∷ (RunL.mir, l24) ∷ (CountsL.mir, l25)
+        ∷ (RunL.mir, l26) ∷ (AnswerL.mir, l27) ∷ ((tyRef erased mut (tyInt w32)), l28) ∷ ((sliceTy (tyRef erased mut (tyInt w32))), l29)
+        ∷ ((tyRef erased mut (tyInt w32)), l30) ∷ ((sliceTy (tyRef erased mut (tyInt w32))), l31) ∷ ((tyRef erased mut (tyInt w32)), l32)
+        ∷ ((sliceTy (tyRef erased mut (tyInt w32))), l33) ∷ ((tyRef erased mut (tyInt w32)), l34)
+        ∷ ((sliceTy (tyRef erased mut (tyInt w32))), l35) ∷ ((tyRef erased mut (tyInt w32)), l36)
+        ∷ ((sliceTy (tyRef erased mut (tyInt w32))), l37) ∷ ((tyRef erased mut (tyInt w32)), l38)
+        ∷ ((sliceTy (tyRef erased mut (tyInt w32))), l39) ∷ ((tyRef erased mut (tyInt w32)), l40)
+        ∷ ((sliceTy (tyRef erased mut (tyInt w32))), l41) ∷ ((tyRef erased mut (tyInt w32)), l42)
+        ∷ ((sliceTy (tyRef erased mut (tyInt w32))), l43) ∷ ((tyRef erased mut (tyInt w32)), l44)
+        ∷ ((sliceTy (tyRef erased mut (tyInt w32))), l45) ∷ ((tyRef erased mut (tyInt w32)), l46)
+        ∷ ((sliceTy (tyRef erased mut (tyInt w32))), l47) ∷ ((tyRef erased mut (tyInt w32)), l48)
+        ∷ ((sliceTy (tyRef erased mut (tyInt w32))), l49) ∷ ((tyRef erased mut (tyInt w32)), l50)
+        ∷ ((sliceTy (tyRef erased mut (tyInt w32))), l51) ∷ ((tyRef erased mut (tyInt w32)), l52)
+        ∷ ((sliceTy (tyRef erased mut (tyInt w32))), l53) ∷ ((tyRef erased imm (tyInt w32)), l54)
+        ∷ ((sliceTy (tyRef erased imm (tyInt w32))), l55) ∷ ((tyRef erased imm (tyInt w64)), l56)
+        ∷ ((sliceTy (tyRef erased imm (tyInt w64))), l57) ∷ ((tyRef erased mut (tyInt w32)), l58)
+        ∷ ((sliceTy (tyRef erased mut (tyInt w32))), l59) ∷ (CountsL.mir, l60) ∷ ((tyRef erased imm (tyInt w32)), l61)
+        ∷ ((sliceTy (tyRef erased imm (tyInt w32))), l62) ∷ ((tyRef erased imm (tyInt w32)), l63)
+        ∷ ((sliceTy (tyRef erased imm (tyInt w32))), l64) ∷ ((tyRef erased imm (tyInt w32)), l65)
+        ∷ ((sliceTy (tyRef erased imm (tyInt w32))), l66) ∷ ((tyRef erased imm (tyInt w32)), l67)
+        ∷ ((sliceTy (tyRef erased imm (tyInt w32))), l68) ∷ ((tyRef erased imm (tyInt w32)), l69)
+        ∷ ((sliceTy (tyRef erased imm (tyInt w32))), l70) ∷ ((tyRef erased imm (tyInt w32)), l71)
+        ∷ ((sliceTy (tyRef erased imm (tyInt w32))), l72) ∷ ((tyRef erased mut (tyInt w32)), l73)
+        ∷ ((sliceTy (tyRef erased mut (tyInt w32))), l74) ∷ ((tyRef erased mut (tyInt w32)), l75)
+        ∷ ((sliceTy (tyRef erased mut (tyInt w32))), l76) ∷ ((tyRef erased mut (tyInt w32)), l77)
+        ∷ ((sliceTy (tyRef erased mut (tyInt w32))), l78) ∷ ((tyRef erased mut (tyInt w32)), l79)
+        ∷ ((sliceTy (tyRef erased mut (tyInt w32))), l80) ∷ ((tyRef erased mut (tyInt w32)), l81)
+        ∷ ((sliceTy (tyRef erased mut (tyInt w32))), l82) ∷ ((tyRef erased mut (tyInt w32)), l83)
+        ∷ ((sliceTy (tyRef erased mut (tyInt w32))), l84) ∷ ((tyRef erased mut (tyInt w32)), l85)
+        ∷ ((sliceTy (tyRef erased mut (tyInt w32))), l86) ∷ ((tyRef erased mut (tyInt w64)), l87)
+        ∷ ((sliceTy (tyRef erased mut (tyInt w64))), l88) ∷ ((tyRef erased mut (tyInt w32)), l89)
+        ∷ ((sliceTy (tyRef erased mut (tyInt w32))), l90) ∷ ((tyRef erased mut (tyInt w32)), l91)
+        ∷ ((sliceTy (tyRef erased mut (tyInt w32))), l92) ∷ ((tyRef erased mut (tyInt w32)), l93)
+        ∷ ((sliceTy (tyRef erased mut (tyInt w32))), l94) ∷ ((tyRef erased mut (pointee (FactT.the-row .written))), l95)
+        ∷ ((sliceTy (tyRef erased mut (pointee (FactT.the-row .written)))), l96)
+        ∷ ((tyRef erased mut (pointee (CountsT.the-row .written))), l97) ∷ ((tyRef erased mut (tyInt w32)), l98)
+        ∷ ((sliceTy (tyRef erased mut (tyInt w32))), l99) ∷ ((tyRef erased imm (tyInt w32)), l100)
+        ∷ ((sliceTy (tyRef erased imm (tyInt w32))), l101) ∷ ((tyRef erased imm (tyInt w32)), l102)
+        ∷ ((sliceTy (tyRef erased imm (tyInt w32))), l103) ∷ ((tyRef erased mut (tyInt w32)), l104)
+        ∷ ((sliceTy (tyRef erased mut (tyInt w32))), l105) ∷ (tyUnit, l106)
+        ∷ ((tyRef erased mut (pointee (FactT.the-row .written))), l107)
+        ∷ ((sliceTy (tyRef erased mut (pointee (FactT.the-row .written)))), l108) ∷ ((tyInt w64), l109) ∷ ((tyInt w64), l110) ∷ []
 
     seg·17 : (l0 : ℕ) (l1 : ℕ) (l2 : ℕ) (l3 : ℕ) (l4 : ℕ) (l5 : ℕ) (l6 : ℕ) (l7 : ℕ) (l8 : ℕ) (l9 : ℕ) (l10 : ℕ) (l11 : ℕ) (l12 : ℕ) (l13 : ℕ)
         (l14 : ℕ) (l15 : ℕ) (l16 : ℕ) (l17 : ℕ) (l18 : ℕ) (l19 : ℕ) (l20 : ℕ) (l21 : ℕ) (l22 : ℕ) (l23 : ℕ) (l24 : ℕ) (l25 : ℕ) (l26 : ℕ) (l27 : ℕ)
@@ -787,14 +837,14 @@ module _ {M : Type 1} (𝓤 : URA M) (H : Heap 𝓤) (A : Atoms 𝓤) (W : Given
         (l56 : ℕ) (l57 : ℕ) (l58 : ℕ) (l59 : ℕ) (l60 : ℕ) (l61 : ℕ) (l62 : ℕ) (l63 : ℕ) (l64 : ℕ) (l65 : ℕ) (l66 : ℕ) (l67 : ℕ) (l68 : ℕ) (l69 : ℕ)
         (l70 : ℕ) (l71 : ℕ) (l72 : ℕ) (l73 : ℕ) (l74 : ℕ) (l75 : ℕ) (l76 : ℕ) (l77 : ℕ) (l78 : ℕ) (l79 : ℕ) (l80 : ℕ) (l81 : ℕ) (l82 : ℕ) (l83 : ℕ)
         (l84 : ℕ) (l85 : ℕ) (l86 : ℕ) (l87 : ℕ) (l88 : ℕ) (l89 : ℕ) (l90 : ℕ) (l91 : ℕ) (l92 : ℕ) (l93 : ℕ) (l94 : ℕ) (l95 : ℕ) (l96 : ℕ) (l97 : ℕ)
-        (l98 : ℕ) (l99 : ℕ) (l100 : ℕ) (l101 : ℕ) (l102 : ℕ) (l103 : ℕ) (l104 : ℕ) (l105 : ℕ) (l106 : ℕ) (l107 : ℕ) (ν·1·3 : ℕ) (δ·1·3 : GName)
-        (ν·1·4 : ℕ) (δ·1·4 : GName) (ν·1·5 : ℕ) (δ·1·5 : GName) (ν·1·6 : ℕ) (δ·1·6 : GName) (ν·1·7 : ℕ) (δ·1·7 : GName) (ν·1·8 : ℕ) (δ·1·8 : GName)
-        (ν·1·9 : ℕ) (δ·1·9 : GName) (ν·1·10 : ℕ) (δ·1·10 : GName) (ν·1·11 : ℕ) (δ·1·11 : GName) (ν·1·12 : ℕ) (δ·1·12 : GName) (ν·1·13 : ℕ)
-        (δ·1·13 : GName) (ν·1·14 : ℕ) (δ·1·14 : GName) (ν·1·15 : ℕ) (δ·1·15 : GName) (ν·1·16 : ℕ) (δ·1·16 : GName) (ν·1·17 : ℕ) (δ·1·17 : GName)
-        (ν·1·18 : ℕ) (δ·1·18 : GName) (v1 : Val) (r1 : Run) (ws1 : (Unit {0} ×
-        (Unit {0} × (Unit {0} × ((List ℕ) × ((List ℕ) × ((List ℕ) × ((List ℕ) ×
+        (l98 : ℕ) (l99 : ℕ) (l100 : ℕ) (l101 : ℕ) (l102 : ℕ) (l103 : ℕ) (l104 : ℕ) (l105 : ℕ) (l106 : ℕ) (l107 : ℕ) (l108 : ℕ) (l109 : ℕ) (l110 : ℕ)
+        (ν·1·3 : ℕ) (δ·1·3 : GName) (ν·1·4 : ℕ) (δ·1·4 : GName) (ν·1·5 : ℕ) (δ·1·5 : GName) (ν·1·6 : ℕ) (δ·1·6 : GName) (ν·1·7 : ℕ) (δ·1·7 : GName)
+        (ν·1·8 : ℕ) (δ·1·8 : GName) (ν·1·9 : ℕ) (δ·1·9 : GName) (ν·1·10 : ℕ) (δ·1·10 : GName) (ν·1·11 : ℕ) (δ·1·11 : GName) (ν·1·12 : ℕ)
+        (δ·1·12 : GName) (ν·1·13 : ℕ) (δ·1·13 : GName) (ν·1·14 : ℕ) (δ·1·14 : GName) (ν·1·15 : ℕ) (δ·1·15 : GName) (ν·1·16 : ℕ) (δ·1·16 : GName)
+        (ν·1·17 : ℕ) (δ·1·17 : GName) (ν·1·18 : ℕ) (δ·1·18 : GName) (v1 : Val) (r1 : Run)
+        (ws1 : (Unit {0} × (Unit {0} × (Unit {0} × ((List ℕ) × ((List ℕ) × ((List ℕ) ×
         ((List ℕ) × ((List ℕ) × ((List ℕ) × ((List ℕ) × ((List ℕ) × ((List ℕ) ×
-        ((List ℕ) × ((List ℕ) × ((List ℕ) × (Unit {0} × (Unit {0} × ((List ℕ) × (Unit {0} × Unit {0})))))))))))))))))))))
+        ((List ℕ) × ((List ℕ) × ((List ℕ) × ((List ℕ) × (Unit {0} × (Unit {0} × ((List ℕ) × (Unit {0} × Unit {0})))))))))))))))))))))
         (e1·0 : Begun theory goals proof (length facts) (theoryLists sorts symbols inputs rules rulevars patterns)
         (theoryLists (ws1 .1 .1 .1 .0) (ws1 .1 .1 .1 .1 .0) (ws1 .1 .1 .1 .1 .1 .0) (ws1 .1 .1 .1 .1 .1 .1 .0) (ws1 .1 .1 .1 .1 .1 .1 .1 .0)
         (ws1 .1 .1 .1 .1 .1 .1 .1 .1 .0)) (working vars index words defs rows lists)
@@ -815,11 +865,11 @@ module _ {M : Type 1} (𝓤 : URA M) (H : Heap 𝓤) (A : Atoms 𝓤) (W : Given
         (len·1·cells : length (ws1 .1 .1 .1 .1 .1 .1 .1 .1 .1 .1 .1 .1 .1 .1 .1 .1 .1 .1 .0) ≡ length cells) (is1 : Is RunT.the-row r1 (v1 ∷ []))
         (v2 : Val) (r2 : Counts) (ws2 : Unit {0}) (e2 : r2 ≡ none) (is2 : Is CountsT.the-row r2 (v2 ∷ [])) (ν·3·4 : ℕ) (δ·3·4 : GName) (ν·3·5 : ℕ)
         (δ·3·5 : GName) (ν·3·6 : ℕ) (δ·3·6 : GName) (ν·3·7 : ℕ) (δ·3·7 : GName) (ν·3·8 : ℕ) (δ·3·8 : GName) (ν·3·9 : ℕ) (δ·3·9 : GName) (ν·3·11 : ℕ)
-        (δ·3·11 : GName) (ν·3·12 : ℕ) (δ·3·12 : GName) (ν·3·14 : ℕ) (δ·3·14 : GName) (ν·3·20 : ℕ) (δ·3·20 : GName) (ν·3·21 : ℕ) (δ·3·21 : GName)
+        (δ·3·11 : GName) (ν·3·12 : ℕ) (δ·3·12 : GName) (ν·3·14 : ℕ) (δ·3·14 : GName) (ν·3·21 : ℕ) (δ·3·21 : GName) (ν·3·22 : ℕ) (δ·3·22 : GName)
         (v3 : Val) (r3 : Run) (ws3 : (Unit {0} × (Unit {0} × (Unit {0} × (Unit {0} ×
         (Unit {0} × (Unit {0} × (Unit {0} × (Unit {0} × (Unit {0} × (Unit {0} ×
         ((List ℕ) × ((List ℕ) × ((List ℕ) × ((List ℕ) × ((List ℕ) × ((List ℕ) ×
-        ((List ℕ) × ((List ℕ) × ((List ℕ) × ((List ℕ) × ((List Fact) × (Counts × Unit {0})))))))))))))))))))))))
+        ((List ℕ) × ((List ℕ) × ((List ℕ) × ((List ℕ) × ((List ℕ) × ((List Fact) × (Counts × Unit {0}))))))))))))))))))))))))
         (e3 : Ran theory goals proof (theoryLists (ws1 .1 .1 .1 .0) (ws1 .1 .1 .1 .1 .0) (ws1 .1 .1 .1 .1 .1 .0) (ws1 .1 .1 .1 .1 .1 .1 .0)
         (ws1 .1 .1 .1 .1 .1 .1 .1 .0) (ws1 .1 .1 .1 .1 .1 .1 .1 .1 .0)) (working (ws1 .1 .1 .1 .1 .1 .1 .1 .1 .1 .0)
         (ws1 .1 .1 .1 .1 .1 .1 .1 .1 .1 .1 .0) (ws1 .1 .1 .1 .1 .1 .1 .1 .1 .1 .1 .1 .0) (ws1 .1 .1 .1 .1 .1 .1 .1 .1 .1 .1 .1 .1 .0)
@@ -828,8 +878,9 @@ module _ {M : Type 1} (𝓤 : URA M) (H : Heap 𝓤) (A : Atoms 𝓤) (W : Given
         (ws3 .1 .1 .1 .1 .1 .1 .1 .1 .1 .1 .1 .1 .1 .0) (ws3 .1 .1 .1 .1 .1 .1 .1 .1 .1 .1 .1 .1 .1 .1 .0)
         (ws3 .1 .1 .1 .1 .1 .1 .1 .1 .1 .1 .1 .1 .1 .1 .1 .0)) (ws3 .1 .1 .1 .1 .1 .1 .1 .1 .1 .1 .1 .1 .1 .1 .1 .1 .0)
         (ws3 .1 .1 .1 .1 .1 .1 .1 .1 .1 .1 .1 .1 .1 .1 .1 .1 .1 .0) (ws3 .1 .1 .1 .1 .1 .1 .1 .1 .1 .1 .1 .1 .1 .1 .1 .1 .1 .1 .0)
-        (ws3 .1 .1 .1 .1 .1 .1 .1 .1 .1 .1 .1 .1 .1 .1 .1 .1 .1 .1 .1 .0) r1 r3 facts
-        (ws3 .1 .1 .1 .1 .1 .1 .1 .1 .1 .1 .1 .1 .1 .1 .1 .1 .1 .1 .1 .1 .0) (ws3 .1 .1 .1 .1 .1 .1 .1 .1 .1 .1 .1 .1 .1 .1 .1 .1 .1 .1 .1 .1 .1 .0))
+        (ws3 .1 .1 .1 .1 .1 .1 .1 .1 .1 .1 .1 .1 .1 .1 .1 .1 .1 .1 .1 .0) (ws3 .1 .1 .1 .1 .1 .1 .1 .1 .1 .1 .1 .1 .1 .1 .1 .1 .1 .1 .1 .1 .0) r1 r3
+        facts (ws3 .1 .1 .1 .1 .1 .1 .1 .1 .1 .1 .1 .1 .1 .1 .1 .1 .1 .1 .1 .1 .1 .0)
+        (ws3 .1 .1 .1 .1 .1 .1 .1 .1 .1 .1 .1 .1 .1 .1 .1 .1 .1 .1 .1 .1 .1 .1 .0))
         (len·3·vars : length (ws3 .1 .1 .1 .1 .1 .1 .1 .1 .1 .1 .0) ≡ length (ws1 .1 .1 .1 .1 .1 .1 .1 .1 .1 .0))
         (len·3·index : length (ws3 .1 .1 .1 .1 .1 .1 .1 .1 .1 .1 .1 .0) ≡ length (ws1 .1 .1 .1 .1 .1 .1 .1 .1 .1 .1 .0))
         (len·3·words : length (ws3 .1 .1 .1 .1 .1 .1 .1 .1 .1 .1 .1 .1 .0) ≡ length (ws1 .1 .1 .1 .1 .1 .1 .1 .1 .1 .1 .1 .0))
@@ -841,11 +892,12 @@ module _ {M : Type 1} (𝓤 : URA M) (H : Heap 𝓤) (A : Atoms 𝓤) (W : Given
         (len·3·cells : length (ws3 .1 .1 .1 .1 .1 .1 .1 .1 .1 .1 .1 .1 .1 .1 .1 .1 .1 .1 .0) ≡ length
         (ws1 .1 .1 .1 .1 .1 .1 .1 .1 .1 .1 .1 .1 .1 .1 .1 .1 .1 .1 .0)) (len·3·ids : length
         (ws3 .1 .1 .1 .1 .1 .1 .1 .1 .1 .1 .1 .1 .1 .1 .1 .1 .1 .1 .1 .0) ≡ length ids)
-        (len·3·facts : length (ws3 .1 .1 .1 .1 .1 .1 .1 .1 .1 .1 .1 .1 .1 .1 .1 .1 .1 .1 .1 .1 .0) ≡ length facts)
-        (is3 : Is RunT.the-row r3 (v3 ∷ [])) (va·3·24 : Val) (isa·3·24 : Is CountsT.the-row
-        (ws3 .1 .1 .1 .1 .1 .1 .1 .1 .1 .1 .1 .1 .1 .1 .1 .1 .1 .1 .1 .1 .1 .0) (va·3·24 ∷ [])) (ν·4·3 : ℕ) (δ·4·3 : GName) (ν·4·4 : ℕ)
+        (len·3·memo : length (ws3 .1 .1 .1 .1 .1 .1 .1 .1 .1 .1 .1 .1 .1 .1 .1 .1 .1 .1 .1 .1 .0) ≡ length memo)
+        (len·3·facts : length (ws3 .1 .1 .1 .1 .1 .1 .1 .1 .1 .1 .1 .1 .1 .1 .1 .1 .1 .1 .1 .1 .1 .0) ≡ length facts)
+        (is3 : Is RunT.the-row r3 (v3 ∷ [])) (va·3·25 : Val) (isa·3·25 : Is CountsT.the-row
+        (ws3 .1 .1 .1 .1 .1 .1 .1 .1 .1 .1 .1 .1 .1 .1 .1 .1 .1 .1 .1 .1 .1 .1 .0) (va·3·25 ∷ [])) (ν·4·3 : ℕ) (δ·4·3 : GName) (ν·4·4 : ℕ)
         (δ·4·4 : GName) (v4 : Val) (r4 : Answer) (ws4 : (Unit {0} × (Unit {0} × ((List ℕ) × (Unit {0} × (Unit {0} × ((List ℕ) × Unit {0})))))))
-        (e4·0 : (g : Ending r3 (ws3 .1 .1 .1 .1 .1 .1 .1 .1 .1 .1 .1 .1 .1 .1 .1 .1 .1 .1 .1 .1 .1 .0) (ws3 .1 .1 .1 .1 .1 .1 .1 .1 .1 .1 .1 .0)
+        (e4·0 : (g : Ending r3 (ws3 .1 .1 .1 .1 .1 .1 .1 .1 .1 .1 .1 .1 .1 .1 .1 .1 .1 .1 .1 .1 .1 .1 .0) (ws3 .1 .1 .1 .1 .1 .1 .1 .1 .1 .1 .1 .0)
         (ws3 .1 .1 .1 .1 .1 .1 .1 .1 .1 .1 .1 .1 .0) (ws3 .1 .1 .1 .1 .1 .1 .1 .1 .1 .1 .1 .1 .1 .1 .0)
         (ws1 .1 .1 .1 .1 .1 .1 .1 .1 .1 .1 .1 .1 .1 .1 .1 .0)) → Ended (g .theory) (g .goals) (g .proof) r3 (ws3 .1 .1 .1 .1 .1 .1 .1 .1 .1 .1 .1 .0)
         (ws4 .1 .1 .0) (ws1 .1 .1 .1 .1 .1 .1 .1 .1 .1 .1 .1 .1 .1 .1 .1 .0) (ws4 .1 .1 .1 .1 .1 .0) r4)
@@ -856,8 +908,9 @@ module _ {M : Type 1} (𝓤 : URA M) (H : Heap 𝓤) (A : Atoms 𝓤) (W : Given
         (is4 : Is AnswerT.the-row r4 (v4 ∷ [])) (v5 : Val) (r5 : ℕ) (ws5 : (Unit {0} × Unit {0})) (e5 : r5 ≡ r3 .sizes .facts)
         (is5 : Is usize r5 (v5 ∷ [])) (v6 : Val) (r6 : ℕ) (ws6 : (Unit {0} × Unit {0})) (e6 : r6 ≡ roomOf r3) (is6 : Is usize r6 (v6 ∷ [])) (v7 : Val)
         (r7 : Unit {0}) (ws7 : ((List Fact) × (Unit {0} × (Unit {0} × Unit {0}))))
-        (e7 : (ws7 .0) ≡ zeroed (ws3 .1 .1 .1 .1 .1 .1 .1 .1 .1 .1 .1 .1 .1 .1 .1 .1 .1 .1 .1 .1 .0) r5 r6)
-        (len·7·facts : length (ws7 .0) ≡ length (ws3 .1 .1 .1 .1 .1 .1 .1 .1 .1 .1 .1 .1 .1 .1 .1 .1 .1 .1 .1 .1 .0)) (is7 : v7 ∷ [] ≡ vunit ∷ []) →
+        (e7 : (ws7 .0) ≡ zeroed (ws3 .1 .1 .1 .1 .1 .1 .1 .1 .1 .1 .1 .1 .1 .1 .1 .1 .1 .1 .1 .1 .1 .0) r5 r6)
+        (len·7·facts : length (ws7 .0) ≡ length (ws3 .1 .1 .1 .1 .1 .1 .1 .1 .1 .1 .1 .1 .1 .1 .1 .1 .1 .1 .1 .1 .1 .0)) (is7 : v7 ∷ [] ≡ vunit ∷ [])
+        →
         Sq W (‵ (flft κ·facts q·facts)
         ∷ ‵ (finally FactT.the-row γ·facts (ws7 .0))
         ∷ ‵ (MutSlice (named 13) κ·rows u32 .own (ref·rows γ·rows (ws3 .1 .1 .1 .1 .1 .1 .1 .1 .1 .1 .1 .1 .1 .1 .0)) (s·rows ∷ []))
@@ -880,6 +933,7 @@ module _ {M : Type 1} (𝓤 : URA M) (H : Heap 𝓤) (A : Atoms 𝓤) (W : Given
         ∷ ‵ (flft κ·symbols q·symbols)
         ∷ ‵ (MutSlice (named 3) κ·sorts u32 .own (ref·sorts γ·sorts (ws1 .1 .1 .1 .0)) (s·sorts ∷ []))
         ∷ ‵ (flft κ·sorts q·sorts)
+        ∷ ‵ (flft κ·memo q·memo)
         ∷ ‵ (flft κ·ids q·ids)
         ∷ ‵ (flft κ·cells q·cells)
         ∷ ‵ (flft κ·feet q·feet)
@@ -890,6 +944,7 @@ module _ {M : Type 1} (𝓤 : URA M) (H : Heap 𝓤) (A : Atoms 𝓤) (W : Given
         ∷ ‵ (flft κ·proof q·proof)
         ∷ ‵ (flft κ·goals q·goals)
         ∷ ‵ (flft κ·theory q·theory)
+        ∷ ‵ (finally u32 γ·memo (ws3 .1 .1 .1 .1 .1 .1 .1 .1 .1 .1 .1 .1 .1 .1 .1 .1 .1 .1 .1 .1 .0))
         ∷ ‵ (finally u32 γ·ids (ws3 .1 .1 .1 .1 .1 .1 .1 .1 .1 .1 .1 .1 .1 .1 .1 .1 .1 .1 .1 .0))
         ∷ ‵ (finally u32 γ·cells (ws3 .1 .1 .1 .1 .1 .1 .1 .1 .1 .1 .1 .1 .1 .1 .1 .1 .1 .1 .0))
         ∷ ‵ (finally u64 γ·feet (ws3 .1 .1 .1 .1 .1 .1 .1 .1 .1 .1 .1 .1 .1 .1 .1 .1 .1 .0))
@@ -900,83 +955,124 @@ module _ {M : Type 1} (𝓤 : URA M) (H : Heap 𝓤) (A : Atoms 𝓤) (W : Given
         ∷ ‵ (ShrSlice (named 2) κ·proof u8 .own (ref·proof γ·proof proof) (s·proof ∷ []))
         ∷ ‵ (ShrSlice (named 1) κ·goals u8 .own (ref·goals γ·goals goals) (s·goals ∷ []))
         ∷ ‵ (ShrSlice (named 0) κ·theory u8 .own (ref·theory γ·theory theory) (s·theory ∷ []))
-        ∷ ‵ (fat fullShare (tyInt w64) l107 0 v6)
-        ∷ ‵ (fdies (tyInt w64) l107)
-        ∷ ‵ (fat fullShare (tyInt w64) l106 0 v5)
-        ∷ ‵ (fdies (tyInt w64) l106)
-        ∷ ‵ (fat fullShare (sliceTy (tyRef erased mut (pointee (FactT.the-row .written)))) l105 0 s·facts)
-        ∷ ‵ (fdies (sliceTy (tyRef erased mut (pointee (FactT.the-row .written)))) l105)
-        ∷ ‵ (fat fullShare (tyRef erased mut (pointee (FactT.the-row .written))) l104 0 (vptr b·facts o·facts))
-        ∷ ‵ (fdies (tyRef erased mut (pointee (FactT.the-row .written))) l104)
-        ∷ ‵ (fat fullShare tyUnit l103 0 v7)
-        ∷ ‵ (fdies tyUnit l103)
-        ∷ ‵ (fat fullShare (sliceTy (tyRef erased mut (tyInt w32))) l102 0 s·missing)
-        ∷ ‵ (fdies (sliceTy (tyRef erased mut (tyInt w32))) l102)
-        ∷ ‵ (fat fullShare (tyRef erased mut (tyInt w32)) l101 0 (vptr b·missing o·missing))
-        ∷ ‵ (fdies (tyRef erased mut (tyInt w32)) l101)
-        ∷ ‵ (fat fullShare (sliceTy (tyRef erased imm (tyInt w32))) l100 0 s·rows)
-        ∷ ‵ (fdies (sliceTy (tyRef erased imm (tyInt w32))) l100)
-        ∷ ‵ (fat fullShare (tyRef erased imm (tyInt w32)) l99 0 (vptr b·rows o·rows))
-        ∷ ‵ (fdies (tyRef erased imm (tyInt w32)) l99)
-        ∷ ‵ (fat fullShare (sliceTy (tyRef erased imm (tyInt w32))) l98 0 s·words)
-        ∷ ‵ (fdies (sliceTy (tyRef erased imm (tyInt w32))) l98)
-        ∷ ‵ (fat fullShare (tyRef erased imm (tyInt w32)) l97 0 (vptr b·words o·words))
-        ∷ ‵ (fdies (tyRef erased imm (tyInt w32)) l97)
-        ∷ ‵ (fat fullShare (sliceTy (tyRef erased mut (tyInt w32))) l96 0 s·index)
-        ∷ ‵ (fdies (sliceTy (tyRef erased mut (tyInt w32))) l96)
-        ∷ ‵ (fat fullShare (tyRef erased mut (tyInt w32)) l95 0 (vptr b·index o·index))
-        ∷ ‵ (fdies (tyRef erased mut (tyInt w32)) l95)
-        ∷ ‵ (fat fullShare (tyRef erased mut (pointee (CountsT.the-row .written))) l94 0 (vptr l24 0))
-        ∷ ‵ (fdies (tyRef erased mut (pointee (CountsT.the-row .written))) l94)
-        ∷ ‵ (fat fullShare (sliceTy (tyRef erased mut (pointee (FactT.the-row .written)))) l93 0 s·facts)
-        ∷ ‵ (fdies (sliceTy (tyRef erased mut (pointee (FactT.the-row .written)))) l93)
-        ∷ ‵ (fat fullShare (tyRef erased mut (pointee (FactT.the-row .written))) l92 0 (vptr b·facts o·facts))
-        ∷ ‵ (fdies (tyRef erased mut (pointee (FactT.the-row .written))) l92)
-        ∷ ‵ (fat fullShare (sliceTy (tyRef erased mut (tyInt w32))) l91 0 s·ids)
-        ∷ ‵ (fdies (sliceTy (tyRef erased mut (tyInt w32))) l91)
-        ∷ ‵ (fat fullShare (tyRef erased mut (tyInt w32)) l90 0 (vptr b·ids o·ids))
-        ∷ ‵ (fdies (tyRef erased mut (tyInt w32)) l90)
-        ∷ ‵ (fat fullShare (sliceTy (tyRef erased mut (tyInt w32))) l89 0 s·cells)
-        ∷ ‵ (fdies (sliceTy (tyRef erased mut (tyInt w32))) l89)
-        ∷ ‵ (fat fullShare (tyRef erased mut (tyInt w32)) l88 0 (vptr b·cells o·cells))
-        ∷ ‵ (fdies (tyRef erased mut (tyInt w32)) l88)
-        ∷ ‵ (fat fullShare (sliceTy (tyRef erased mut (tyInt w64))) l87 0 s·feet)
-        ∷ ‵ (fdies (sliceTy (tyRef erased mut (tyInt w64))) l87)
-        ∷ ‵ (fat fullShare (tyRef erased mut (tyInt w64)) l86 0 (vptr b·feet o·feet))
-        ∷ ‵ (fdies (tyRef erased mut (tyInt w64)) l86)
-        ∷ ‵ (fat fullShare (sliceTy (tyRef erased mut (tyInt w32))) l85 0 s·kept)
-        ∷ ‵ (fdies (sliceTy (tyRef erased mut (tyInt w32))) l85)
-        ∷ ‵ (fat fullShare (tyRef erased mut (tyInt w32)) l84 0 (vptr b·kept o·kept))
-        ∷ ‵ (fdies (tyRef erased mut (tyInt w32)) l84)
-        ∷ ‵ (fat fullShare (sliceTy (tyRef erased mut (tyInt w32))) l83 0 s·lists)
-        ∷ ‵ (fdies (sliceTy (tyRef erased mut (tyInt w32))) l83)
-        ∷ ‵ (fat fullShare (tyRef erased mut (tyInt w32)) l82 0 (vptr b·lists o·lists))
-        ∷ ‵ (fdies (tyRef erased mut (tyInt w32)) l82)
-        ∷ ‵ (fat fullShare (sliceTy (tyRef erased mut (tyInt w32))) l81 0 s·rows)
-        ∷ ‵ (fdies (sliceTy (tyRef erased mut (tyInt w32))) l81)
-        ∷ ‵ (fat fullShare (tyRef erased mut (tyInt w32)) l80 0 (vptr b·rows o·rows))
-        ∷ ‵ (fdies (tyRef erased mut (tyInt w32)) l80) ∷ [])
-        (frees (((tyRef erased mut (tyInt w32)), l80) ∷ ((sliceTy (tyRef erased mut (tyInt w32))), l81) ∷ ((tyRef erased mut (tyInt w32)), l82)
-        ∷ ((sliceTy (tyRef erased mut (tyInt w32))), l83) ∷ ((tyRef erased mut (tyInt w32)), l84) ∷ ((sliceTy (tyRef erased mut (tyInt w32))), l85)
-        ∷ ((tyRef erased mut (tyInt w64)), l86) ∷ ((sliceTy (tyRef erased mut (tyInt w64))), l87) ∷ ((tyRef erased mut (tyInt w32)), l88)
-        ∷ ((sliceTy (tyRef erased mut (tyInt w32))), l89) ∷ ((tyRef erased mut (tyInt w32)), l90) ∷ ((sliceTy (tyRef erased mut (tyInt w32))), l91)
-        ∷ ((tyRef erased mut (pointee (FactT.the-row .written))), l92) ∷ ((sliceTy (tyRef erased mut (pointee (FactT.the-row .written)))), l93)
-        ∷ ((tyRef erased mut (pointee (CountsT.the-row .written))), l94) ∷ ((tyRef erased mut (tyInt w32)), l95)
-        ∷ ((sliceTy (tyRef erased mut (tyInt w32))), l96) ∷ ((tyRef erased imm (tyInt w32)), l97) ∷ ((sliceTy (tyRef erased imm (tyInt w32))), l98)
-        ∷ ((tyRef erased imm (tyInt w32)), l99) ∷ ((sliceTy (tyRef erased imm (tyInt w32))), l100) ∷ ((tyRef erased mut (tyInt w32)), l101)
-        ∷ ((sliceTy (tyRef erased mut (tyInt w32))), l102) ∷ (tyUnit, l103) ∷ ((tyRef erased mut (pointee (FactT.the-row .written))), l104)
-        ∷ ((sliceTy (tyRef erased mut (pointee (FactT.the-row .written)))), l105) ∷ ((tyInt w64), l106) ∷ ((tyInt w64), l107) ∷ []) (prop (Post v4)))
+        ∷ ‵ (fat fullShare (tyInt w64) l110 0 v6)
+        ∷ ‵ (fdies (tyInt w64) l110)
+        ∷ ‵ (fat fullShare (tyInt w64) l109 0 v5)
+        ∷ ‵ (fdies (tyInt w64) l109)
+        ∷ ‵ (fat fullShare (sliceTy (tyRef erased mut (pointee (FactT.the-row .written)))) l108 0 s·facts)
+        ∷ ‵ (fdies (sliceTy (tyRef erased mut (pointee (FactT.the-row .written)))) l108)
+        ∷ ‵ (fat fullShare (tyRef erased mut (pointee (FactT.the-row .written))) l107 0 (vptr b·facts o·facts))
+        ∷ ‵ (fdies (tyRef erased mut (pointee (FactT.the-row .written))) l107)
+        ∷ ‵ (fat fullShare tyUnit l106 0 v7)
+        ∷ ‵ (fdies tyUnit l106)
+        ∷ ‵ (fat fullShare (sliceTy (tyRef erased mut (tyInt w32))) l105 0 s·missing)
+        ∷ ‵ (fdies (sliceTy (tyRef erased mut (tyInt w32))) l105)
+        ∷ ‵ (fat fullShare (tyRef erased mut (tyInt w32)) l104 0 (vptr b·missing o·missing))
+        ∷ ‵ (fdies (tyRef erased mut (tyInt w32)) l104)
+        ∷ ‵ (fat fullShare (sliceTy (tyRef erased imm (tyInt w32))) l103 0 s·rows)
+        ∷ ‵ (fdies (sliceTy (tyRef erased imm (tyInt w32))) l103)
+        ∷ ‵ (fat fullShare (tyRef erased imm (tyInt w32)) l102 0 (vptr b·rows o·rows))
+        ∷ ‵ (fdies (tyRef erased imm (tyInt w32)) l102)
+        ∷ ‵ (fat fullShare (sliceTy (tyRef erased imm (tyInt w32))) l101 0 s·words)
+        ∷ ‵ (fdies (sliceTy (tyRef erased imm (tyInt w32))) l101)
+        ∷ ‵ (fat fullShare (tyRef erased imm (tyInt w32)) l100 0 (vptr b·words o·words))
+        ∷ ‵ (fdies (tyRef erased imm (tyInt w32)) l100)
+        ∷ ‵ (fat fullShare (sliceTy (tyRef erased mut (tyInt w32))) l99 0 s·index)
+        ∷ ‵ (fdies (sliceTy (tyRef erased mut (tyInt w32))) l99)
+        ∷ ‵ (fat fullShare (tyRef erased mut (tyInt w32)) l98 0 (vptr b·index o·index))
+        ∷ ‵ (fdies (tyRef erased mut (tyInt w32)) l98)
+        ∷ ‵ (fat fullShare (tyRef erased mut (pointee (CountsT.the-row .written))) l97 0 (vptr l25 0))
+        ∷ ‵ (fdies (tyRef erased mut (pointee (CountsT.the-row .written))) l97)
+        ∷ ‵ (fat fullShare (sliceTy (tyRef erased mut (pointee (FactT.the-row .written)))) l96 0 s·facts)
+        ∷ ‵ (fdies (sliceTy (tyRef erased mut (pointee (FactT.the-row .written)))) l96)
+        ∷ ‵ (fat fullShare (tyRef erased mut (pointee (FactT.the-row .written))) l95 0 (vptr b·facts o·facts))
+        ∷ ‵ (fdies (tyRef erased mut (pointee (FactT.the-row .written))) l95)
+        ∷ ‵ (fat fullShare (sliceTy (tyRef erased mut (tyInt w32))) l94 0 s·memo)
+        ∷ ‵ (fdies (sliceTy (tyRef erased mut (tyInt w32))) l94)
+        ∷ ‵ (fat fullShare (tyRef erased mut (tyInt w32)) l93 0 (vptr b·memo o·memo))
+        ∷ ‵ (fdies (tyRef erased mut (tyInt w32)) l93)
+        ∷ ‵ (fat fullShare (sliceTy (tyRef erased mut (tyInt w32))) l92 0 s·ids)
+        ∷ ‵ (fdies (sliceTy (tyRef erased mut (tyInt w32))) l92)
+        ∷ ‵ (fat fullShare (tyRef erased mut (tyInt w32)) l91 0 (vptr b·ids o·ids))
+        ∷ ‵ (fdies (tyRef erased mut (tyInt w32)) l91)
+        ∷ ‵ (fat fullShare (sliceTy (tyRef erased mut (tyInt w32))) l90 0 s·cells)
+        ∷ ‵ (fdies (sliceTy (tyRef erased mut (tyInt w32))) l90)
+        ∷ ‵ (fat fullShare (tyRef erased mut (tyInt w32)) l89 0 (vptr b·cells o·cells))
+        ∷ ‵ (fdies (tyRef erased mut (tyInt w32)) l89)
+        ∷ ‵ (fat fullShare (sliceTy (tyRef erased mut (tyInt w64))) l88 0 s·feet)
+        ∷ ‵ (fdies (sliceTy (tyRef erased mut (tyInt w64))) l88)
+        ∷ ‵ (fat fullShare (tyRef erased mut (tyInt w64)) l87 0 (vptr b·feet o·feet))
+        ∷ ‵ (fdies (tyRef erased mut (tyInt w64)) l87)
+        ∷ ‵ (fat fullShare (sliceTy (tyRef erased mut (tyInt w32))) l86 0 s·kept)
+        ∷ ‵ (fdies (sliceTy (tyRef erased mut (tyInt w32))) l86)
+        ∷ ‵ (fat fullShare (tyRef erased mut (tyInt w32)) l85 0 (vptr b·kept o·kept))
+        ∷ ‵ (fdies (tyRef erased mut (tyInt w32)) l85)
+        ∷ ‵ (fat fullShare (sliceTy (tyRef erased mut (tyInt w32))) l84 0 s·lists)
+        ∷ ‵ (fdies (sliceTy (tyRef erased mut (tyInt w32))) l84)
+        ∷ ‵ (fat fullShare (tyRef erased mut (tyInt w32)) l83 0 (vptr b·lists o·lists))
+        ∷ ‵ (fdies (tyRef erased mut (tyInt w32)) l83)
+        ∷ ‵ (fat fullShare (sliceTy (tyRef erased mut (tyInt w32))) l82 0 s·rows)
+        ∷ ‵ (fdies (sliceTy (tyRef erased mut (tyInt w32))) l82)
+        ∷ ‵ (fat fullShare (tyRef erased mut (tyInt w32)) l81 0 (vptr b·rows o·rows))
+        ∷ ‵ (fdies (tyRef erased mut (tyInt w32)) l81)
+        ∷ ‵ (fat fullShare (sliceTy (tyRef erased mut (tyInt w32))) l80 0 s·defs)
+        ∷ ‵ (fdies (sliceTy (tyRef erased mut (tyInt w32))) l80)
+        ∷ ‵ (fat fullShare (tyRef erased mut (tyInt w32)) l79 0 (vptr b·defs o·defs))
+        ∷ ‵ (fdies (tyRef erased mut (tyInt w32)) l79)
+        ∷ ‵ (fat fullShare (sliceTy (tyRef erased mut (tyInt w32))) l78 0 s·words)
+        ∷ ‵ (fdies (sliceTy (tyRef erased mut (tyInt w32))) l78)
+        ∷ ‵ (fat fullShare (tyRef erased mut (tyInt w32)) l77 0 (vptr b·words o·words))
+        ∷ ‵ (fdies (tyRef erased mut (tyInt w32)) l77)
+        ∷ ‵ (fat fullShare (sliceTy (tyRef erased mut (tyInt w32))) l76 0 s·index)
+        ∷ ‵ (fdies (sliceTy (tyRef erased mut (tyInt w32))) l76) ∷ [])
+        (frees (((sliceTy (tyRef erased mut (tyInt w32))), l76) ∷ ((tyRef erased mut (tyInt w32)), l77)
+        ∷ ((sliceTy (tyRef erased mut (tyInt w32))), l78) ∷ ((tyRef erased mut (tyInt w32)), l79) ∷ ((sliceTy (tyRef erased mut (tyInt w32))), l80)
+        ∷ ((tyRef erased mut (tyInt w32)), l81) ∷ ((sliceTy (tyRef erased mut (tyInt w32))), l82) ∷ ((tyRef erased mut (tyInt w32)), l83)
+        ∷ ((sliceTy (tyRef erased mut (tyInt w32))), l84) ∷ ((tyRef erased mut (tyInt w32)), l85) ∷ ((sliceTy (tyRef erased mut (tyInt w32))), l86)
+        ∷ ((tyRef erased mut (tyInt w64)), l87) ∷ ((sliceTy (tyRef erased mut (tyInt w64))), l88) ∷ ((tyRef erased mut (tyInt w32)), l89)
+        ∷ ((sliceTy (tyRef erased mut (tyInt w32))), l90) ∷ ((tyRef erased mut (tyInt w32)), l91) ∷ ((sliceTy (tyRef erased mut (tyInt w32))), l92)
+        ∷ ((tyRef erased mut (tyInt w32)), l93) ∷ ((sliceTy (tyRef erased mut (tyInt w32))), l94)
+        ∷ ((tyRef erased mut (pointee (FactT.the-row .written))), l95) ∷ ((sliceTy (tyRef erased mut (pointee (FactT.the-row .written)))), l96)
+        ∷ ((tyRef erased mut (pointee (CountsT.the-row .written))), l97) ∷ ((tyRef erased mut (tyInt w32)), l98)
+        ∷ ((sliceTy (tyRef erased mut (tyInt w32))), l99) ∷ ((tyRef erased imm (tyInt w32)), l100) ∷ ((sliceTy (tyRef erased imm (tyInt w32))), l101)
+        ∷ ((tyRef erased imm (tyInt w32)), l102) ∷ ((sliceTy (tyRef erased imm (tyInt w32))), l103) ∷ ((tyRef erased mut (tyInt w32)), l104)
+        ∷ ((sliceTy (tyRef erased mut (tyInt w32))), l105) ∷ (tyUnit, l106) ∷ ((tyRef erased mut (pointee (FactT.the-row .written))), l107)
+        ∷ ((sliceTy (tyRef erased mut (pointee (FactT.the-row .written)))), l108) ∷ ((tyInt w64), l109) ∷ ((tyInt w64), l110) ∷ []) (prop (Post v4)))
     seg·17 l0 l1 l2 l3 l4 l5 l6 l7 l8 l9 l10 l11 l12 l13 l14 l15 l16 l17 l18 l19 l20 l21 l22 l23 l24 l25 l26 l27 l28 l29 l30 l31 l32 l33 l34 l35 l36
         l37 l38 l39 l40 l41 l42 l43 l44 l45 l46 l47 l48 l49 l50 l51 l52 l53 l54 l55 l56 l57 l58 l59 l60 l61 l62 l63 l64 l65 l66 l67 l68 l69 l70 l71
         l72 l73 l74 l75 l76 l77 l78 l79 l80 l81 l82 l83 l84 l85 l86 l87 l88 l89 l90 l91 l92 l93 l94 l95 l96 l97 l98 l99 l100 l101 l102 l103 l104
-        l105 l106 l107 ν·1·3 δ·1·3 ν·1·4 δ·1·4 ν·1·5 δ·1·5 ν·1·6 δ·1·6 ν·1·7 δ·1·7 ν·1·8 δ·1·8 ν·1·9 δ·1·9 ν·1·10 δ·1·10 ν·1·11 δ·1·11 ν·1·12
-        δ·1·12 ν·1·13 δ·1·13 ν·1·14 δ·1·14 ν·1·15 δ·1·15 ν·1·16 δ·1·16 ν·1·17 δ·1·17 ν·1·18 δ·1·18 v1 r1 ws1 e1·0 e1·1 len·1·sorts
-        len·1·symbols len·1·inputs len·1·rules len·1·rulevars len·1·patterns len·1·vars len·1·index len·1·words len·1·defs len·1·rows
-        len·1·lists len·1·missing len·1·cells is1 v2 r2 ws2 e2 is2 ν·3·4 δ·3·4 ν·3·5 δ·3·5 ν·3·6 δ·3·6 ν·3·7 δ·3·7 ν·3·8 δ·3·8
-        ν·3·9 δ·3·9 ν·3·11 δ·3·11 ν·3·12 δ·3·12 ν·3·14 δ·3·14 ν·3·20 δ·3·20 ν·3·21 δ·3·21 v3 r3 ws3 e3 len·3·vars len·3·index
-        len·3·words len·3·defs len·3·rows len·3·lists len·3·kept len·3·feet len·3·cells len·3·ids len·3·facts is3 va·3·24
-        isa·3·24 ν·4·3 δ·4·3 ν·4·4 δ·4·4 v4 r4 ws4 e4·0 e4·1 len·4·index len·4·missing is4 v5 r5 ws5 e5 is5 v6 r6 ws6
-        e6 is6 v7 r7 ws7 e7 len·7·facts is7 =
+        l105 l106 l107 l108 l109 l110 ν·1·3 δ·1·3 ν·1·4 δ·1·4 ν·1·5 δ·1·5 ν·1·6 δ·1·6 ν·1·7 δ·1·7 ν·1·8 δ·1·8 ν·1·9 δ·1·9 ν·1·10 δ·1·10 ν·1·11
+        δ·1·11 ν·1·12 δ·1·12 ν·1·13 δ·1·13 ν·1·14 δ·1·14 ν·1·15 δ·1·15 ν·1·16 δ·1·16 ν·1·17 δ·1·17 ν·1·18 δ·1·18 v1 r1 ws1 e1·0 e1·1
+        len·1·sorts len·1·symbols len·1·inputs len·1·rules len·1·rulevars len·1·patterns len·1·vars len·1·index len·1·words len·1·defs
+        len·1·rows len·1·lists len·1·missing len·1·cells is1 v2 r2 ws2 e2 is2 ν·3·4 δ·3·4 ν·3·5 δ·3·5 ν·3·6 δ·3·6 ν·3·7 δ·3·7
+        ν·3·8 δ·3·8 ν·3·9 δ·3·9 ν·3·11 δ·3·11 ν·3·12 δ·3·12 ν·3·14 δ·3·14 ν·3·21 δ·3·21 ν·3·22 δ·3·22 v3 r3 ws3 e3 len·3·vars
+        len·3·index len·3·words len·3·defs len·3·rows len·3·lists len·3·kept len·3·feet len·3·cells len·3·ids len·3·memo
+        len·3·facts is3 va·3·25 isa·3·25 ν·4·3 δ·4·3 ν·4·4 δ·4·4 v4 r4 ws4 e4·0 e4·1 len·4·index len·4·missing is4 v5
+        r5 ws5 e5 is5 v6 r6 ws6 e6 is6 v7 r7 ws7 e7 len·7·facts is7 =
+        forget ! 112 refl $
+        move ! (112 ∷ 113 ∷ []) $
+        free1 ! $
+        forget ! 110 refl $
+        move ! (110 ∷ 111 ∷ []) $
+        free1 ! $
+        forget ! 108 refl $
+        move ! (108 ∷ 109 ∷ []) $
+        free1 ! $
+        forget ! 106 refl $
+        move ! (106 ∷ 107 ∷ []) $
+        free1 ! $
+        forget ! 104 refl $
+        move ! (104 ∷ 105 ∷ []) $
+        free1 ! $
+        forget ! 102 refl $
+        move ! (102 ∷ 103 ∷ []) $
+        free1 ! $
+        forget ! 100 refl $
+        move ! (100 ∷ 101 ∷ []) $
+        free1 ! $
+        forget ! 98 refl $
+        move ! (98 ∷ 99 ∷ []) $
+        free1 ! $
         forget ! 96 refl $
         move ! (96 ∷ 97 ∷ []) $
         free1 ! $
@@ -1058,12 +1154,9 @@ module _ {M : Type 1} (𝓤 : URA M) (H : Heap 𝓤) (A : Atoms 𝓤) (W : Given
         forget ! 44 refl $
         move ! (44 ∷ 45 ∷ []) $
         free1 ! $
-        forget ! 42 refl $
-        move ! (42 ∷ 43 ∷ []) $
-        free1 ! $
         free0 ! $
-        keep ! (31 ∷ 30 ∷ 29 ∷ 21 ∷ 19 ∷ 17 ∷ 15 ∷ 13 ∷ 11 ∷ 28 ∷ 7 ∷ 5 ∷ 27 ∷ 3 ∷ 26 ∷ 6 ∷ 0 ∷ 25 ∷ 24 ∷ 23 ∷ 22 ∷ 41 ∷ 40 ∷ 39 ∷ 20 ∷ 18 ∷ 16 ∷ 14
-        ∷ 12 ∷ 10 ∷ 38 ∷ 9 ∷ 4 ∷ 37 ∷ 2 ∷ 36 ∷ 8 ∷ 1 ∷ 35 ∷ 34 ∷ 33 ∷ 32 ∷ []) $
+        keep ! (32 ∷ 31 ∷ 30 ∷ 21 ∷ 19 ∷ 17 ∷ 15 ∷ 13 ∷ 11 ∷ 29 ∷ 7 ∷ 5 ∷ 28 ∷ 3 ∷ 27 ∷ 6 ∷ 0 ∷ 26 ∷ 25 ∷ 24 ∷ 23 ∷ 22 ∷ 43 ∷ 42 ∷ 41 ∷ 20 ∷ 18 ∷ 16
+        ∷ 14 ∷ 12 ∷ 10 ∷ 40 ∷ 9 ∷ 4 ∷ 39 ∷ 2 ∷ 38 ∷ 8 ∷ 1 ∷ 37 ∷ 36 ∷ 35 ∷ 34 ∷ 33 ∷ []) $
         suffices ! _ (ends-at 𝓤 H A self·fn.ended stayed (self·fn.clauses 𝓤 H A at-mem run) W ((κs, qs, tt, a, at), tt) v4 r4 (
           tt,
           (
@@ -1100,7 +1193,13 @@ module _ {M : Type 1} (𝓤 : URA M) (H : Heap 𝓤) (A : Atoms 𝓤) (W : Given
                                           (ws7 .0),
                                           (
                                             (ws3 .1 .1 .1 .1 .1 .1 .1 .1 .1 .1 .1 .1 .1 .1 .1 .1 .0),
-                                            ((ws3 .1 .1 .1 .1 .1 .1 .1 .1 .1 .1 .1 .1 .1 .1 .1 .1 .1 .0), ((ws3 .1 .1 .1 .1 .1 .1 .1 .1 .1 .1 .1 .1 .1 .1 .1 .1 .1 .1 .0), ((ws3 .1 .1 .1 .1 .1 .1 .1 .1 .1 .1 .1 .1 .1 .1 .1 .1 .1 .1 .1 .0), tt))),
+                                            (
+                                              (ws3 .1 .1 .1 .1 .1 .1 .1 .1 .1 .1 .1 .1 .1 .1 .1 .1 .1 .0),
+                                              (
+                                                (ws3 .1 .1 .1 .1 .1 .1 .1 .1 .1 .1 .1 .1 .1 .1 .1 .1 .1 .1 .0),
+                                                ((ws3 .1 .1 .1 .1 .1 .1 .1 .1 .1 .1 .1 .1 .1 .1 .1 .1 .1 .1 .1 .0), ((ws3 .1 .1 .1 .1 .1 .1 .1 .1 .1 .1 .1 .1 .1 .1 .1 .1 .1 .1 .1 .1 .0), tt)),
+                                              ),
+                                            ),
                                           ),
                                         ),
                                       ),
@@ -1148,7 +1247,7 @@ module _ {M : Type 1} (𝓤 : URA M) (H : Heap 𝓤) (A : Atoms 𝓤) (W : Given
                                     len·3·rows ∙ (len·1·rows ∙ (refl)),
                                     (
                                       len·3·lists ∙ (len·1·lists ∙ (refl)),
-                                      (len·4·missing ∙ (len·1·missing ∙ (refl)), (len·7·facts ∙ (len·3·facts ∙ (refl)), (len·3·kept ∙ (refl), (len·3·feet ∙ (refl), (len·3·cells ∙ (len·1·cells ∙ (refl)), (len·3·ids ∙ (refl), tt)))))),
+                                      (len·4·missing ∙ (len·1·missing ∙ (refl)), (len·7·facts ∙ (len·3·facts ∙ (refl)), (len·3·kept ∙ (refl), (len·3·feet ∙ (refl), (len·3·cells ∙ (len·1·cells ∙ (refl)), (len·3·ids ∙ (refl), (len·3·memo ∙ (refl), tt))))))),
                                     ),
                                   ),
                                 ),
@@ -1174,10 +1273,13 @@ module _ {M : Type 1} (𝓤 : URA M) (H : Heap 𝓤) (A : Atoms 𝓤) (W : Given
         (ws3 .1 .1 .1 .1 .1 .1 .1 .1 .1 .1 .1 .1 .1 .1 .0) (ws3 .1 .1 .1 .1 .1 .1 .1 .1 .1 .1 .1 .1 .1 .1 .1 .0)) missing
         (ws1 .1 .1 .1 .1 .1 .1 .1 .1 .1 .1 .1 .1 .1 .1 .1 .0) kept feet (ws3 .1 .1 .1 .1 .1 .1 .1 .1 .1 .1 .1 .1 .1 .1 .1 .1 .0)
         (ws3 .1 .1 .1 .1 .1 .1 .1 .1 .1 .1 .1 .1 .1 .1 .1 .1 .1 .0) (ws3 .1 .1 .1 .1 .1 .1 .1 .1 .1 .1 .1 .1 .1 .1 .1 .1 .1 .1 .0)
-        (ws3 .1 .1 .1 .1 .1 .1 .1 .1 .1 .1 .1 .1 .1 .1 .1 .1 .1 .1 .1 .0) r1 r3 facts
-        (ws3 .1 .1 .1 .1 .1 .1 .1 .1 .1 .1 .1 .1 .1 .1 .1 .1 .1 .1 .1 .1 .0) (ws3 .1 .1 .1 .1 .1 .1 .1 .1 .1 .1 .1 .1 .1 .1 .1 .1 .1 .1 .1 .1 .1 .0)
-        e1·0 e3 (ws4 .1 .1 .0) (ws4 .1 .1 .1 .1 .1 .0) (ws7 .0) r4 r5 r6 e5 e6 e7 e4·0 e4·1) $
+        (ws3 .1 .1 .1 .1 .1 .1 .1 .1 .1 .1 .1 .1 .1 .1 .1 .1 .1 .1 .1 .0) (ws3 .1 .1 .1 .1 .1 .1 .1 .1 .1 .1 .1 .1 .1 .1 .1 .1 .1 .1 .1 .1 .0) r1 r3
+        facts (ws3 .1 .1 .1 .1 .1 .1 .1 .1 .1 .1 .1 .1 .1 .1 .1 .1 .1 .1 .1 .1 .1 .0)
+        (ws3 .1 .1 .1 .1 .1 .1 .1 .1 .1 .1 .1 .1 .1 .1 .1 .1 .1 .1 .1 .1 .1 .1 .0) e1·0 e3 (ws4 .1 .1 .0) (ws4 .1 .1 .1 .1 .1 .0) (ws7 .0) r4 r5 r6 e5
+        e6 e7 e4·0 e4·1) $
         nothing ! $
+        move ! (22 ∷ 0 ∷ []) $
+        join ! $
         move ! (21 ∷ 0 ∷ []) $
         join ! $
         move ! (20 ∷ 0 ∷ []) $
@@ -1222,6 +1324,8 @@ module _ {M : Type 1} (𝓤 : URA M) (H : Heap 𝓤) (A : Atoms 𝓤) (W : Given
         join ! $
         frame ! $
         nothing ! $
+        move ! (22 ∷ 0 ∷ []) $
+        fjoin ! $
         move ! (21 ∷ 0 ∷ []) $
         fjoin ! $
         move ! (20 ∷ 0 ∷ []) $
@@ -1273,14 +1377,14 @@ module _ {M : Type 1} (𝓤 : URA M) (H : Heap 𝓤) (A : Atoms 𝓤) (W : Given
         (l56 : ℕ) (l57 : ℕ) (l58 : ℕ) (l59 : ℕ) (l60 : ℕ) (l61 : ℕ) (l62 : ℕ) (l63 : ℕ) (l64 : ℕ) (l65 : ℕ) (l66 : ℕ) (l67 : ℕ) (l68 : ℕ) (l69 : ℕ)
         (l70 : ℕ) (l71 : ℕ) (l72 : ℕ) (l73 : ℕ) (l74 : ℕ) (l75 : ℕ) (l76 : ℕ) (l77 : ℕ) (l78 : ℕ) (l79 : ℕ) (l80 : ℕ) (l81 : ℕ) (l82 : ℕ) (l83 : ℕ)
         (l84 : ℕ) (l85 : ℕ) (l86 : ℕ) (l87 : ℕ) (l88 : ℕ) (l89 : ℕ) (l90 : ℕ) (l91 : ℕ) (l92 : ℕ) (l93 : ℕ) (l94 : ℕ) (l95 : ℕ) (l96 : ℕ) (l97 : ℕ)
-        (l98 : ℕ) (l99 : ℕ) (l100 : ℕ) (l101 : ℕ) (l102 : ℕ) (l103 : ℕ) (l104 : ℕ) (l105 : ℕ) (l106 : ℕ) (l107 : ℕ) (ν·1·3 : ℕ) (δ·1·3 : GName)
-        (ν·1·4 : ℕ) (δ·1·4 : GName) (ν·1·5 : ℕ) (δ·1·5 : GName) (ν·1·6 : ℕ) (δ·1·6 : GName) (ν·1·7 : ℕ) (δ·1·7 : GName) (ν·1·8 : ℕ) (δ·1·8 : GName)
-        (ν·1·9 : ℕ) (δ·1·9 : GName) (ν·1·10 : ℕ) (δ·1·10 : GName) (ν·1·11 : ℕ) (δ·1·11 : GName) (ν·1·12 : ℕ) (δ·1·12 : GName) (ν·1·13 : ℕ)
-        (δ·1·13 : GName) (ν·1·14 : ℕ) (δ·1·14 : GName) (ν·1·15 : ℕ) (δ·1·15 : GName) (ν·1·16 : ℕ) (δ·1·16 : GName) (ν·1·17 : ℕ) (δ·1·17 : GName)
-        (ν·1·18 : ℕ) (δ·1·18 : GName) (v1 : Val) (r1 : Run) (ws1 : (Unit {0} ×
-        (Unit {0} × (Unit {0} × ((List ℕ) × ((List ℕ) × ((List ℕ) × ((List ℕ) ×
+        (l98 : ℕ) (l99 : ℕ) (l100 : ℕ) (l101 : ℕ) (l102 : ℕ) (l103 : ℕ) (l104 : ℕ) (l105 : ℕ) (l106 : ℕ) (l107 : ℕ) (l108 : ℕ) (l109 : ℕ) (l110 : ℕ)
+        (ν·1·3 : ℕ) (δ·1·3 : GName) (ν·1·4 : ℕ) (δ·1·4 : GName) (ν·1·5 : ℕ) (δ·1·5 : GName) (ν·1·6 : ℕ) (δ·1·6 : GName) (ν·1·7 : ℕ) (δ·1·7 : GName)
+        (ν·1·8 : ℕ) (δ·1·8 : GName) (ν·1·9 : ℕ) (δ·1·9 : GName) (ν·1·10 : ℕ) (δ·1·10 : GName) (ν·1·11 : ℕ) (δ·1·11 : GName) (ν·1·12 : ℕ)
+        (δ·1·12 : GName) (ν·1·13 : ℕ) (δ·1·13 : GName) (ν·1·14 : ℕ) (δ·1·14 : GName) (ν·1·15 : ℕ) (δ·1·15 : GName) (ν·1·16 : ℕ) (δ·1·16 : GName)
+        (ν·1·17 : ℕ) (δ·1·17 : GName) (ν·1·18 : ℕ) (δ·1·18 : GName) (v1 : Val) (r1 : Run)
+        (ws1 : (Unit {0} × (Unit {0} × (Unit {0} × ((List ℕ) × ((List ℕ) × ((List ℕ) ×
         ((List ℕ) × ((List ℕ) × ((List ℕ) × ((List ℕ) × ((List ℕ) × ((List ℕ) ×
-        ((List ℕ) × ((List ℕ) × ((List ℕ) × (Unit {0} × (Unit {0} × ((List ℕ) × (Unit {0} × Unit {0})))))))))))))))))))))
+        ((List ℕ) × ((List ℕ) × ((List ℕ) × ((List ℕ) × (Unit {0} × (Unit {0} × ((List ℕ) × (Unit {0} × Unit {0})))))))))))))))))))))
         (e1·0 : Begun theory goals proof (length facts) (theoryLists sorts symbols inputs rules rulevars patterns)
         (theoryLists (ws1 .1 .1 .1 .0) (ws1 .1 .1 .1 .1 .0) (ws1 .1 .1 .1 .1 .1 .0) (ws1 .1 .1 .1 .1 .1 .1 .0) (ws1 .1 .1 .1 .1 .1 .1 .1 .0)
         (ws1 .1 .1 .1 .1 .1 .1 .1 .1 .0)) (working vars index words defs rows lists)
@@ -1301,11 +1405,11 @@ module _ {M : Type 1} (𝓤 : URA M) (H : Heap 𝓤) (A : Atoms 𝓤) (W : Given
         (len·1·cells : length (ws1 .1 .1 .1 .1 .1 .1 .1 .1 .1 .1 .1 .1 .1 .1 .1 .1 .1 .1 .0) ≡ length cells) (is1 : Is RunT.the-row r1 (v1 ∷ []))
         (v2 : Val) (r2 : Counts) (ws2 : Unit {0}) (e2 : r2 ≡ none) (is2 : Is CountsT.the-row r2 (v2 ∷ [])) (ν·3·4 : ℕ) (δ·3·4 : GName) (ν·3·5 : ℕ)
         (δ·3·5 : GName) (ν·3·6 : ℕ) (δ·3·6 : GName) (ν·3·7 : ℕ) (δ·3·7 : GName) (ν·3·8 : ℕ) (δ·3·8 : GName) (ν·3·9 : ℕ) (δ·3·9 : GName) (ν·3·11 : ℕ)
-        (δ·3·11 : GName) (ν·3·12 : ℕ) (δ·3·12 : GName) (ν·3·14 : ℕ) (δ·3·14 : GName) (ν·3·20 : ℕ) (δ·3·20 : GName) (ν·3·21 : ℕ) (δ·3·21 : GName)
+        (δ·3·11 : GName) (ν·3·12 : ℕ) (δ·3·12 : GName) (ν·3·14 : ℕ) (δ·3·14 : GName) (ν·3·21 : ℕ) (δ·3·21 : GName) (ν·3·22 : ℕ) (δ·3·22 : GName)
         (v3 : Val) (r3 : Run) (ws3 : (Unit {0} × (Unit {0} × (Unit {0} × (Unit {0} ×
         (Unit {0} × (Unit {0} × (Unit {0} × (Unit {0} × (Unit {0} × (Unit {0} ×
         ((List ℕ) × ((List ℕ) × ((List ℕ) × ((List ℕ) × ((List ℕ) × ((List ℕ) ×
-        ((List ℕ) × ((List ℕ) × ((List ℕ) × ((List ℕ) × ((List Fact) × (Counts × Unit {0})))))))))))))))))))))))
+        ((List ℕ) × ((List ℕ) × ((List ℕ) × ((List ℕ) × ((List ℕ) × ((List Fact) × (Counts × Unit {0}))))))))))))))))))))))))
         (e3 : Ran theory goals proof (theoryLists (ws1 .1 .1 .1 .0) (ws1 .1 .1 .1 .1 .0) (ws1 .1 .1 .1 .1 .1 .0) (ws1 .1 .1 .1 .1 .1 .1 .0)
         (ws1 .1 .1 .1 .1 .1 .1 .1 .0) (ws1 .1 .1 .1 .1 .1 .1 .1 .1 .0)) (working (ws1 .1 .1 .1 .1 .1 .1 .1 .1 .1 .0)
         (ws1 .1 .1 .1 .1 .1 .1 .1 .1 .1 .1 .0) (ws1 .1 .1 .1 .1 .1 .1 .1 .1 .1 .1 .1 .0) (ws1 .1 .1 .1 .1 .1 .1 .1 .1 .1 .1 .1 .1 .0)
@@ -1314,8 +1418,9 @@ module _ {M : Type 1} (𝓤 : URA M) (H : Heap 𝓤) (A : Atoms 𝓤) (W : Given
         (ws3 .1 .1 .1 .1 .1 .1 .1 .1 .1 .1 .1 .1 .1 .0) (ws3 .1 .1 .1 .1 .1 .1 .1 .1 .1 .1 .1 .1 .1 .1 .0)
         (ws3 .1 .1 .1 .1 .1 .1 .1 .1 .1 .1 .1 .1 .1 .1 .1 .0)) (ws3 .1 .1 .1 .1 .1 .1 .1 .1 .1 .1 .1 .1 .1 .1 .1 .1 .0)
         (ws3 .1 .1 .1 .1 .1 .1 .1 .1 .1 .1 .1 .1 .1 .1 .1 .1 .1 .0) (ws3 .1 .1 .1 .1 .1 .1 .1 .1 .1 .1 .1 .1 .1 .1 .1 .1 .1 .1 .0)
-        (ws3 .1 .1 .1 .1 .1 .1 .1 .1 .1 .1 .1 .1 .1 .1 .1 .1 .1 .1 .1 .0) r1 r3 facts
-        (ws3 .1 .1 .1 .1 .1 .1 .1 .1 .1 .1 .1 .1 .1 .1 .1 .1 .1 .1 .1 .1 .0) (ws3 .1 .1 .1 .1 .1 .1 .1 .1 .1 .1 .1 .1 .1 .1 .1 .1 .1 .1 .1 .1 .1 .0))
+        (ws3 .1 .1 .1 .1 .1 .1 .1 .1 .1 .1 .1 .1 .1 .1 .1 .1 .1 .1 .1 .0) (ws3 .1 .1 .1 .1 .1 .1 .1 .1 .1 .1 .1 .1 .1 .1 .1 .1 .1 .1 .1 .1 .0) r1 r3
+        facts (ws3 .1 .1 .1 .1 .1 .1 .1 .1 .1 .1 .1 .1 .1 .1 .1 .1 .1 .1 .1 .1 .1 .0)
+        (ws3 .1 .1 .1 .1 .1 .1 .1 .1 .1 .1 .1 .1 .1 .1 .1 .1 .1 .1 .1 .1 .1 .1 .0))
         (len·3·vars : length (ws3 .1 .1 .1 .1 .1 .1 .1 .1 .1 .1 .0) ≡ length (ws1 .1 .1 .1 .1 .1 .1 .1 .1 .1 .0))
         (len·3·index : length (ws3 .1 .1 .1 .1 .1 .1 .1 .1 .1 .1 .1 .0) ≡ length (ws1 .1 .1 .1 .1 .1 .1 .1 .1 .1 .1 .0))
         (len·3·words : length (ws3 .1 .1 .1 .1 .1 .1 .1 .1 .1 .1 .1 .1 .0) ≡ length (ws1 .1 .1 .1 .1 .1 .1 .1 .1 .1 .1 .1 .0))
@@ -1327,11 +1432,12 @@ module _ {M : Type 1} (𝓤 : URA M) (H : Heap 𝓤) (A : Atoms 𝓤) (W : Given
         (len·3·cells : length (ws3 .1 .1 .1 .1 .1 .1 .1 .1 .1 .1 .1 .1 .1 .1 .1 .1 .1 .1 .0) ≡ length
         (ws1 .1 .1 .1 .1 .1 .1 .1 .1 .1 .1 .1 .1 .1 .1 .1 .1 .1 .1 .0)) (len·3·ids : length
         (ws3 .1 .1 .1 .1 .1 .1 .1 .1 .1 .1 .1 .1 .1 .1 .1 .1 .1 .1 .1 .0) ≡ length ids)
-        (len·3·facts : length (ws3 .1 .1 .1 .1 .1 .1 .1 .1 .1 .1 .1 .1 .1 .1 .1 .1 .1 .1 .1 .1 .0) ≡ length facts)
-        (is3 : Is RunT.the-row r3 (v3 ∷ [])) (va·3·24 : Val) (isa·3·24 : Is CountsT.the-row
-        (ws3 .1 .1 .1 .1 .1 .1 .1 .1 .1 .1 .1 .1 .1 .1 .1 .1 .1 .1 .1 .1 .1 .0) (va·3·24 ∷ [])) (ν·4·3 : ℕ) (δ·4·3 : GName) (ν·4·4 : ℕ)
+        (len·3·memo : length (ws3 .1 .1 .1 .1 .1 .1 .1 .1 .1 .1 .1 .1 .1 .1 .1 .1 .1 .1 .1 .1 .0) ≡ length memo)
+        (len·3·facts : length (ws3 .1 .1 .1 .1 .1 .1 .1 .1 .1 .1 .1 .1 .1 .1 .1 .1 .1 .1 .1 .1 .1 .0) ≡ length facts)
+        (is3 : Is RunT.the-row r3 (v3 ∷ [])) (va·3·25 : Val) (isa·3·25 : Is CountsT.the-row
+        (ws3 .1 .1 .1 .1 .1 .1 .1 .1 .1 .1 .1 .1 .1 .1 .1 .1 .1 .1 .1 .1 .1 .1 .0) (va·3·25 ∷ [])) (ν·4·3 : ℕ) (δ·4·3 : GName) (ν·4·4 : ℕ)
         (δ·4·4 : GName) (v4 : Val) (r4 : Answer) (ws4 : (Unit {0} × (Unit {0} × ((List ℕ) × (Unit {0} × (Unit {0} × ((List ℕ) × Unit {0})))))))
-        (e4·0 : (g : Ending r3 (ws3 .1 .1 .1 .1 .1 .1 .1 .1 .1 .1 .1 .1 .1 .1 .1 .1 .1 .1 .1 .1 .1 .0) (ws3 .1 .1 .1 .1 .1 .1 .1 .1 .1 .1 .1 .0)
+        (e4·0 : (g : Ending r3 (ws3 .1 .1 .1 .1 .1 .1 .1 .1 .1 .1 .1 .1 .1 .1 .1 .1 .1 .1 .1 .1 .1 .1 .0) (ws3 .1 .1 .1 .1 .1 .1 .1 .1 .1 .1 .1 .0)
         (ws3 .1 .1 .1 .1 .1 .1 .1 .1 .1 .1 .1 .1 .0) (ws3 .1 .1 .1 .1 .1 .1 .1 .1 .1 .1 .1 .1 .1 .1 .0)
         (ws1 .1 .1 .1 .1 .1 .1 .1 .1 .1 .1 .1 .1 .1 .1 .1 .0)) → Ended (g .theory) (g .goals) (g .proof) r3 (ws3 .1 .1 .1 .1 .1 .1 .1 .1 .1 .1 .1 .0)
         (ws4 .1 .1 .0) (ws1 .1 .1 .1 .1 .1 .1 .1 .1 .1 .1 .1 .1 .1 .1 .1 .0) (ws4 .1 .1 .1 .1 .1 .0) r4)
@@ -1342,8 +1448,9 @@ module _ {M : Type 1} (𝓤 : URA M) (H : Heap 𝓤) (A : Atoms 𝓤) (W : Given
         (is4 : Is AnswerT.the-row r4 (v4 ∷ [])) (v5 : Val) (r5 : ℕ) (ws5 : (Unit {0} × Unit {0})) (e5 : r5 ≡ r3 .sizes .facts)
         (is5 : Is usize r5 (v5 ∷ [])) (v6 : Val) (r6 : ℕ) (ws6 : (Unit {0} × Unit {0})) (e6 : r6 ≡ roomOf r3) (is6 : Is usize r6 (v6 ∷ [])) (v7 : Val)
         (r7 : Unit {0}) (ws7 : ((List Fact) × (Unit {0} × (Unit {0} × Unit {0}))))
-        (e7 : (ws7 .0) ≡ zeroed (ws3 .1 .1 .1 .1 .1 .1 .1 .1 .1 .1 .1 .1 .1 .1 .1 .1 .1 .1 .1 .1 .0) r5 r6)
-        (len·7·facts : length (ws7 .0) ≡ length (ws3 .1 .1 .1 .1 .1 .1 .1 .1 .1 .1 .1 .1 .1 .1 .1 .1 .1 .1 .1 .1 .0)) (is7 : v7 ∷ [] ≡ vunit ∷ []) →
+        (e7 : (ws7 .0) ≡ zeroed (ws3 .1 .1 .1 .1 .1 .1 .1 .1 .1 .1 .1 .1 .1 .1 .1 .1 .1 .1 .1 .1 .1 .0) r5 r6)
+        (len·7·facts : length (ws7 .0) ≡ length (ws3 .1 .1 .1 .1 .1 .1 .1 .1 .1 .1 .1 .1 .1 .1 .1 .1 .1 .1 .1 .1 .1 .0)) (is7 : v7 ∷ [] ≡ vunit ∷ [])
+        →
         Sq W (‵ (flft κ·facts q·facts)
         ∷ ‵ (finally FactT.the-row γ·facts (ws7 .0))
         ∷ ‵ (MutSlice (named 13) κ·rows u32 .own (ref·rows γ·rows (ws3 .1 .1 .1 .1 .1 .1 .1 .1 .1 .1 .1 .1 .1 .1 .0)) (s·rows ∷ []))
@@ -1366,6 +1473,7 @@ module _ {M : Type 1} (𝓤 : URA M) (H : Heap 𝓤) (A : Atoms 𝓤) (W : Given
         ∷ ‵ (flft κ·symbols q·symbols)
         ∷ ‵ (MutSlice (named 3) κ·sorts u32 .own (ref·sorts γ·sorts (ws1 .1 .1 .1 .0)) (s·sorts ∷ []))
         ∷ ‵ (flft κ·sorts q·sorts)
+        ∷ ‵ (flft κ·memo q·memo)
         ∷ ‵ (flft κ·ids q·ids)
         ∷ ‵ (flft κ·cells q·cells)
         ∷ ‵ (flft κ·feet q·feet)
@@ -1376,6 +1484,7 @@ module _ {M : Type 1} (𝓤 : URA M) (H : Heap 𝓤) (A : Atoms 𝓤) (W : Given
         ∷ ‵ (flft κ·proof q·proof)
         ∷ ‵ (flft κ·goals q·goals)
         ∷ ‵ (flft κ·theory q·theory)
+        ∷ ‵ (finally u32 γ·memo (ws3 .1 .1 .1 .1 .1 .1 .1 .1 .1 .1 .1 .1 .1 .1 .1 .1 .1 .1 .1 .1 .0))
         ∷ ‵ (finally u32 γ·ids (ws3 .1 .1 .1 .1 .1 .1 .1 .1 .1 .1 .1 .1 .1 .1 .1 .1 .1 .1 .1 .0))
         ∷ ‵ (finally u32 γ·cells (ws3 .1 .1 .1 .1 .1 .1 .1 .1 .1 .1 .1 .1 .1 .1 .1 .1 .1 .1 .0))
         ∷ ‵ (finally u64 γ·feet (ws3 .1 .1 .1 .1 .1 .1 .1 .1 .1 .1 .1 .1 .1 .1 .1 .1 .1 .0))
@@ -1386,146 +1495,171 @@ module _ {M : Type 1} (𝓤 : URA M) (H : Heap 𝓤) (A : Atoms 𝓤) (W : Given
         ∷ ‵ (ShrSlice (named 2) κ·proof u8 .own (ref·proof γ·proof proof) (s·proof ∷ []))
         ∷ ‵ (ShrSlice (named 1) κ·goals u8 .own (ref·goals γ·goals goals) (s·goals ∷ []))
         ∷ ‵ (ShrSlice (named 0) κ·theory u8 .own (ref·theory γ·theory theory) (s·theory ∷ []))
-        ∷ ‵ (fat fullShare (tyInt w64) l107 0 v6)
-        ∷ ‵ (fdies (tyInt w64) l107)
-        ∷ ‵ (fat fullShare (tyInt w64) l106 0 v5)
-        ∷ ‵ (fdies (tyInt w64) l106)
-        ∷ ‵ (fat fullShare (sliceTy (tyRef erased mut (pointee (FactT.the-row .written)))) l105 0 s·facts)
-        ∷ ‵ (fdies (sliceTy (tyRef erased mut (pointee (FactT.the-row .written)))) l105)
-        ∷ ‵ (fat fullShare (tyRef erased mut (pointee (FactT.the-row .written))) l104 0 (vptr b·facts o·facts))
-        ∷ ‵ (fdies (tyRef erased mut (pointee (FactT.the-row .written))) l104)
-        ∷ ‵ (fat fullShare tyUnit l103 0 v7)
-        ∷ ‵ (fdies tyUnit l103)
-        ∷ ‵ (fat fullShare (sliceTy (tyRef erased mut (tyInt w32))) l102 0 s·missing)
-        ∷ ‵ (fdies (sliceTy (tyRef erased mut (tyInt w32))) l102)
-        ∷ ‵ (fat fullShare (tyRef erased mut (tyInt w32)) l101 0 (vptr b·missing o·missing))
-        ∷ ‵ (fdies (tyRef erased mut (tyInt w32)) l101)
-        ∷ ‵ (fat fullShare (sliceTy (tyRef erased imm (tyInt w32))) l100 0 s·rows)
-        ∷ ‵ (fdies (sliceTy (tyRef erased imm (tyInt w32))) l100)
-        ∷ ‵ (fat fullShare (tyRef erased imm (tyInt w32)) l99 0 (vptr b·rows o·rows))
-        ∷ ‵ (fdies (tyRef erased imm (tyInt w32)) l99)
-        ∷ ‵ (fat fullShare (sliceTy (tyRef erased imm (tyInt w32))) l98 0 s·words)
-        ∷ ‵ (fdies (sliceTy (tyRef erased imm (tyInt w32))) l98)
-        ∷ ‵ (fat fullShare (tyRef erased imm (tyInt w32)) l97 0 (vptr b·words o·words))
-        ∷ ‵ (fdies (tyRef erased imm (tyInt w32)) l97)
-        ∷ ‵ (fat fullShare (sliceTy (tyRef erased mut (tyInt w32))) l96 0 s·index)
-        ∷ ‵ (fdies (sliceTy (tyRef erased mut (tyInt w32))) l96)
-        ∷ ‵ (fat fullShare (tyRef erased mut (tyInt w32)) l95 0 (vptr b·index o·index))
-        ∷ ‵ (fdies (tyRef erased mut (tyInt w32)) l95)
-        ∷ ‵ (fat fullShare (tyRef erased mut (pointee (CountsT.the-row .written))) l94 0 (vptr l24 0))
-        ∷ ‵ (fdies (tyRef erased mut (pointee (CountsT.the-row .written))) l94)
-        ∷ ‵ (fat fullShare (sliceTy (tyRef erased mut (pointee (FactT.the-row .written)))) l93 0 s·facts)
-        ∷ ‵ (fdies (sliceTy (tyRef erased mut (pointee (FactT.the-row .written)))) l93)
-        ∷ ‵ (fat fullShare (tyRef erased mut (pointee (FactT.the-row .written))) l92 0 (vptr b·facts o·facts))
-        ∷ ‵ (fdies (tyRef erased mut (pointee (FactT.the-row .written))) l92)
-        ∷ ‵ (fat fullShare (sliceTy (tyRef erased mut (tyInt w32))) l91 0 s·ids)
-        ∷ ‵ (fdies (sliceTy (tyRef erased mut (tyInt w32))) l91)
-        ∷ ‵ (fat fullShare (tyRef erased mut (tyInt w32)) l90 0 (vptr b·ids o·ids))
-        ∷ ‵ (fdies (tyRef erased mut (tyInt w32)) l90)
-        ∷ ‵ (fat fullShare (sliceTy (tyRef erased mut (tyInt w32))) l89 0 s·cells)
-        ∷ ‵ (fdies (sliceTy (tyRef erased mut (tyInt w32))) l89)
-        ∷ ‵ (fat fullShare (tyRef erased mut (tyInt w32)) l88 0 (vptr b·cells o·cells))
-        ∷ ‵ (fdies (tyRef erased mut (tyInt w32)) l88)
-        ∷ ‵ (fat fullShare (sliceTy (tyRef erased mut (tyInt w64))) l87 0 s·feet)
-        ∷ ‵ (fdies (sliceTy (tyRef erased mut (tyInt w64))) l87)
-        ∷ ‵ (fat fullShare (tyRef erased mut (tyInt w64)) l86 0 (vptr b·feet o·feet))
-        ∷ ‵ (fdies (tyRef erased mut (tyInt w64)) l86)
-        ∷ ‵ (fat fullShare (sliceTy (tyRef erased mut (tyInt w32))) l85 0 s·kept)
-        ∷ ‵ (fdies (sliceTy (tyRef erased mut (tyInt w32))) l85)
-        ∷ ‵ (fat fullShare (tyRef erased mut (tyInt w32)) l84 0 (vptr b·kept o·kept))
-        ∷ ‵ (fdies (tyRef erased mut (tyInt w32)) l84)
-        ∷ ‵ (fat fullShare (sliceTy (tyRef erased mut (tyInt w32))) l83 0 s·lists)
-        ∷ ‵ (fdies (sliceTy (tyRef erased mut (tyInt w32))) l83)
-        ∷ ‵ (fat fullShare (tyRef erased mut (tyInt w32)) l82 0 (vptr b·lists o·lists))
-        ∷ ‵ (fdies (tyRef erased mut (tyInt w32)) l82)
-        ∷ ‵ (fat fullShare (sliceTy (tyRef erased mut (tyInt w32))) l81 0 s·rows)
-        ∷ ‵ (fdies (sliceTy (tyRef erased mut (tyInt w32))) l81)
-        ∷ ‵ (fat fullShare (tyRef erased mut (tyInt w32)) l80 0 (vptr b·rows o·rows))
-        ∷ ‵ (fdies (tyRef erased mut (tyInt w32)) l80)
-        ∷ ‵ (fat fullShare (sliceTy (tyRef erased mut (tyInt w32))) l79 0 s·defs)
-        ∷ ‵ (fdies (sliceTy (tyRef erased mut (tyInt w32))) l79)
-        ∷ ‵ (fat fullShare (tyRef erased mut (tyInt w32)) l78 0 (vptr b·defs o·defs))
-        ∷ ‵ (fdies (tyRef erased mut (tyInt w32)) l78)
-        ∷ ‵ (fat fullShare (sliceTy (tyRef erased mut (tyInt w32))) l77 0 s·words)
-        ∷ ‵ (fdies (sliceTy (tyRef erased mut (tyInt w32))) l77)
-        ∷ ‵ (fat fullShare (tyRef erased mut (tyInt w32)) l76 0 (vptr b·words o·words))
-        ∷ ‵ (fdies (tyRef erased mut (tyInt w32)) l76)
-        ∷ ‵ (fat fullShare (sliceTy (tyRef erased mut (tyInt w32))) l75 0 s·index)
-        ∷ ‵ (fdies (sliceTy (tyRef erased mut (tyInt w32))) l75)
-        ∷ ‵ (fat fullShare (tyRef erased mut (tyInt w32)) l74 0 (vptr b·index o·index))
-        ∷ ‵ (fdies (tyRef erased mut (tyInt w32)) l74)
-        ∷ ‵ (fat fullShare (sliceTy (tyRef erased mut (tyInt w32))) l73 0 s·vars)
-        ∷ ‵ (fdies (sliceTy (tyRef erased mut (tyInt w32))) l73)
-        ∷ ‵ (fat fullShare (tyRef erased mut (tyInt w32)) l72 0 (vptr b·vars o·vars))
-        ∷ ‵ (fdies (tyRef erased mut (tyInt w32)) l72)
-        ∷ ‵ (fat fullShare (sliceTy (tyRef erased imm (tyInt w32))) l71 0 s·patterns)
-        ∷ ‵ (fdies (sliceTy (tyRef erased imm (tyInt w32))) l71)
-        ∷ ‵ (fat fullShare (tyRef erased imm (tyInt w32)) l70 0 (vptr b·patterns o·patterns))
-        ∷ ‵ (fdies (tyRef erased imm (tyInt w32)) l70)
-        ∷ ‵ (fat fullShare (sliceTy (tyRef erased imm (tyInt w32))) l69 0 s·rulevars)
-        ∷ ‵ (fdies (sliceTy (tyRef erased imm (tyInt w32))) l69)
-        ∷ ‵ (fat fullShare (tyRef erased imm (tyInt w32)) l68 0 (vptr b·rulevars o·rulevars))
-        ∷ ‵ (fdies (tyRef erased imm (tyInt w32)) l68)
-        ∷ ‵ (fat fullShare (sliceTy (tyRef erased imm (tyInt w32))) l67 0 s·rules)
-        ∷ ‵ (fdies (sliceTy (tyRef erased imm (tyInt w32))) l67)
-        ∷ ‵ (fat fullShare (tyRef erased imm (tyInt w32)) l66 0 (vptr b·rules o·rules))
-        ∷ ‵ (fdies (tyRef erased imm (tyInt w32)) l66)
-        ∷ ‵ (fat fullShare (sliceTy (tyRef erased imm (tyInt w32))) l65 0 s·inputs)
-        ∷ ‵ (fdies (sliceTy (tyRef erased imm (tyInt w32))) l65)
-        ∷ ‵ (fat fullShare (tyRef erased imm (tyInt w32)) l64 0 (vptr b·inputs o·inputs))
-        ∷ ‵ (fdies (tyRef erased imm (tyInt w32)) l64)
-        ∷ ‵ (fat fullShare (sliceTy (tyRef erased imm (tyInt w32))) l63 0 s·symbols)
-        ∷ ‵ (fdies (sliceTy (tyRef erased imm (tyInt w32))) l63)
-        ∷ ‵ (fat fullShare (tyRef erased imm (tyInt w32)) l62 0 (vptr b·symbols o·symbols))
-        ∷ ‵ (fdies (tyRef erased imm (tyInt w32)) l62)
-        ∷ ‵ (fat fullShare (sliceTy (tyRef erased imm (tyInt w32))) l61 0 s·sorts)
-        ∷ ‵ (fdies (sliceTy (tyRef erased imm (tyInt w32))) l61)
-        ∷ ‵ (fat fullShare (tyRef erased imm (tyInt w32)) l60 0 (vptr b·sorts o·sorts))
-        ∷ ‵ (fdies (tyRef erased imm (tyInt w32)) l60)
-        ∷ ‵ (fat fullShare CountsL.mir l59 0 va·3·24)
-        ∷ ‵ (fdies CountsL.mir l59)
-        ∷ ‵ (fat fullShare (sliceTy (tyRef erased mut (tyInt w32))) l58 0 s·cells)
-        ∷ ‵ (fdies (sliceTy (tyRef erased mut (tyInt w32))) l58)
-        ∷ ‵ (fat fullShare (tyRef erased mut (tyInt w32)) l57 0 (vptr b·cells o·cells))
-        ∷ ‵ (fdies (tyRef erased mut (tyInt w32)) l57)
-        ∷ ‵ (fat fullShare (sliceTy (tyRef erased imm (tyInt w64))) l56 0 s·feet)
-        ∷ ‵ (fdies (sliceTy (tyRef erased imm (tyInt w64))) l56)
-        ∷ ‵ (fat fullShare (tyRef erased imm (tyInt w64)) l55 0 (vptr b·feet o·feet))
-        ∷ ‵ (fdies (tyRef erased imm (tyInt w64)) l55)
-        ∷ ‵ (fat fullShare (sliceTy (tyRef erased imm (tyInt w32))) l54 0 s·kept)
-        ∷ ‵ (fdies (sliceTy (tyRef erased imm (tyInt w32))) l54)
-        ∷ ‵ (fat fullShare (tyRef erased imm (tyInt w32)) l53 0 (vptr b·kept o·kept))
-        ∷ ‵ (fdies (tyRef erased imm (tyInt w32)) l53) ∷ [])
-        (frees (((tyRef erased imm (tyInt w32)), l53) ∷ ((sliceTy (tyRef erased imm (tyInt w32))), l54) ∷ ((tyRef erased imm (tyInt w64)), l55)
-        ∷ ((sliceTy (tyRef erased imm (tyInt w64))), l56) ∷ ((tyRef erased mut (tyInt w32)), l57) ∷ ((sliceTy (tyRef erased mut (tyInt w32))), l58)
-        ∷ (CountsL.mir, l59) ∷ ((tyRef erased imm (tyInt w32)), l60) ∷ ((sliceTy (tyRef erased imm (tyInt w32))), l61)
-        ∷ ((tyRef erased imm (tyInt w32)), l62) ∷ ((sliceTy (tyRef erased imm (tyInt w32))), l63) ∷ ((tyRef erased imm (tyInt w32)), l64)
-        ∷ ((sliceTy (tyRef erased imm (tyInt w32))), l65) ∷ ((tyRef erased imm (tyInt w32)), l66) ∷ ((sliceTy (tyRef erased imm (tyInt w32))), l67)
-        ∷ ((tyRef erased imm (tyInt w32)), l68) ∷ ((sliceTy (tyRef erased imm (tyInt w32))), l69) ∷ ((tyRef erased imm (tyInt w32)), l70)
-        ∷ ((sliceTy (tyRef erased imm (tyInt w32))), l71) ∷ ((tyRef erased mut (tyInt w32)), l72) ∷ ((sliceTy (tyRef erased mut (tyInt w32))), l73)
-        ∷ ((tyRef erased mut (tyInt w32)), l74) ∷ ((sliceTy (tyRef erased mut (tyInt w32))), l75) ∷ ((tyRef erased mut (tyInt w32)), l76)
-        ∷ ((sliceTy (tyRef erased mut (tyInt w32))), l77) ∷ ((tyRef erased mut (tyInt w32)), l78) ∷ ((sliceTy (tyRef erased mut (tyInt w32))), l79)
-        ∷ ((tyRef erased mut (tyInt w32)), l80) ∷ ((sliceTy (tyRef erased mut (tyInt w32))), l81) ∷ ((tyRef erased mut (tyInt w32)), l82)
-        ∷ ((sliceTy (tyRef erased mut (tyInt w32))), l83) ∷ ((tyRef erased mut (tyInt w32)), l84) ∷ ((sliceTy (tyRef erased mut (tyInt w32))), l85)
-        ∷ ((tyRef erased mut (tyInt w64)), l86) ∷ ((sliceTy (tyRef erased mut (tyInt w64))), l87) ∷ ((tyRef erased mut (tyInt w32)), l88)
-        ∷ ((sliceTy (tyRef erased mut (tyInt w32))), l89) ∷ ((tyRef erased mut (tyInt w32)), l90) ∷ ((sliceTy (tyRef erased mut (tyInt w32))), l91)
-        ∷ ((tyRef erased mut (pointee (FactT.the-row .written))), l92) ∷ ((sliceTy (tyRef erased mut (pointee (FactT.the-row .written)))), l93)
-        ∷ ((tyRef erased mut (pointee (CountsT.the-row .written))), l94) ∷ ((tyRef erased mut (tyInt w32)), l95)
-        ∷ ((sliceTy (tyRef erased mut (tyInt w32))), l96) ∷ ((tyRef erased imm (tyInt w32)), l97) ∷ ((sliceTy (tyRef erased imm (tyInt w32))), l98)
-        ∷ ((tyRef erased imm (tyInt w32)), l99) ∷ ((sliceTy (tyRef erased imm (tyInt w32))), l100) ∷ ((tyRef erased mut (tyInt w32)), l101)
-        ∷ ((sliceTy (tyRef erased mut (tyInt w32))), l102) ∷ (tyUnit, l103) ∷ ((tyRef erased mut (pointee (FactT.the-row .written))), l104)
-        ∷ ((sliceTy (tyRef erased mut (pointee (FactT.the-row .written)))), l105) ∷ ((tyInt w64), l106) ∷ ((tyInt w64), l107) ∷ []) (prop (Post v4)))
+        ∷ ‵ (fat fullShare (tyInt w64) l110 0 v6)
+        ∷ ‵ (fdies (tyInt w64) l110)
+        ∷ ‵ (fat fullShare (tyInt w64) l109 0 v5)
+        ∷ ‵ (fdies (tyInt w64) l109)
+        ∷ ‵ (fat fullShare (sliceTy (tyRef erased mut (pointee (FactT.the-row .written)))) l108 0 s·facts)
+        ∷ ‵ (fdies (sliceTy (tyRef erased mut (pointee (FactT.the-row .written)))) l108)
+        ∷ ‵ (fat fullShare (tyRef erased mut (pointee (FactT.the-row .written))) l107 0 (vptr b·facts o·facts))
+        ∷ ‵ (fdies (tyRef erased mut (pointee (FactT.the-row .written))) l107)
+        ∷ ‵ (fat fullShare tyUnit l106 0 v7)
+        ∷ ‵ (fdies tyUnit l106)
+        ∷ ‵ (fat fullShare (sliceTy (tyRef erased mut (tyInt w32))) l105 0 s·missing)
+        ∷ ‵ (fdies (sliceTy (tyRef erased mut (tyInt w32))) l105)
+        ∷ ‵ (fat fullShare (tyRef erased mut (tyInt w32)) l104 0 (vptr b·missing o·missing))
+        ∷ ‵ (fdies (tyRef erased mut (tyInt w32)) l104)
+        ∷ ‵ (fat fullShare (sliceTy (tyRef erased imm (tyInt w32))) l103 0 s·rows)
+        ∷ ‵ (fdies (sliceTy (tyRef erased imm (tyInt w32))) l103)
+        ∷ ‵ (fat fullShare (tyRef erased imm (tyInt w32)) l102 0 (vptr b·rows o·rows))
+        ∷ ‵ (fdies (tyRef erased imm (tyInt w32)) l102)
+        ∷ ‵ (fat fullShare (sliceTy (tyRef erased imm (tyInt w32))) l101 0 s·words)
+        ∷ ‵ (fdies (sliceTy (tyRef erased imm (tyInt w32))) l101)
+        ∷ ‵ (fat fullShare (tyRef erased imm (tyInt w32)) l100 0 (vptr b·words o·words))
+        ∷ ‵ (fdies (tyRef erased imm (tyInt w32)) l100)
+        ∷ ‵ (fat fullShare (sliceTy (tyRef erased mut (tyInt w32))) l99 0 s·index)
+        ∷ ‵ (fdies (sliceTy (tyRef erased mut (tyInt w32))) l99)
+        ∷ ‵ (fat fullShare (tyRef erased mut (tyInt w32)) l98 0 (vptr b·index o·index))
+        ∷ ‵ (fdies (tyRef erased mut (tyInt w32)) l98)
+        ∷ ‵ (fat fullShare (tyRef erased mut (pointee (CountsT.the-row .written))) l97 0 (vptr l25 0))
+        ∷ ‵ (fdies (tyRef erased mut (pointee (CountsT.the-row .written))) l97)
+        ∷ ‵ (fat fullShare (sliceTy (tyRef erased mut (pointee (FactT.the-row .written)))) l96 0 s·facts)
+        ∷ ‵ (fdies (sliceTy (tyRef erased mut (pointee (FactT.the-row .written)))) l96)
+        ∷ ‵ (fat fullShare (tyRef erased mut (pointee (FactT.the-row .written))) l95 0 (vptr b·facts o·facts))
+        ∷ ‵ (fdies (tyRef erased mut (pointee (FactT.the-row .written))) l95)
+        ∷ ‵ (fat fullShare (sliceTy (tyRef erased mut (tyInt w32))) l94 0 s·memo)
+        ∷ ‵ (fdies (sliceTy (tyRef erased mut (tyInt w32))) l94)
+        ∷ ‵ (fat fullShare (tyRef erased mut (tyInt w32)) l93 0 (vptr b·memo o·memo))
+        ∷ ‵ (fdies (tyRef erased mut (tyInt w32)) l93)
+        ∷ ‵ (fat fullShare (sliceTy (tyRef erased mut (tyInt w32))) l92 0 s·ids)
+        ∷ ‵ (fdies (sliceTy (tyRef erased mut (tyInt w32))) l92)
+        ∷ ‵ (fat fullShare (tyRef erased mut (tyInt w32)) l91 0 (vptr b·ids o·ids))
+        ∷ ‵ (fdies (tyRef erased mut (tyInt w32)) l91)
+        ∷ ‵ (fat fullShare (sliceTy (tyRef erased mut (tyInt w32))) l90 0 s·cells)
+        ∷ ‵ (fdies (sliceTy (tyRef erased mut (tyInt w32))) l90)
+        ∷ ‵ (fat fullShare (tyRef erased mut (tyInt w32)) l89 0 (vptr b·cells o·cells))
+        ∷ ‵ (fdies (tyRef erased mut (tyInt w32)) l89)
+        ∷ ‵ (fat fullShare (sliceTy (tyRef erased mut (tyInt w64))) l88 0 s·feet)
+        ∷ ‵ (fdies (sliceTy (tyRef erased mut (tyInt w64))) l88)
+        ∷ ‵ (fat fullShare (tyRef erased mut (tyInt w64)) l87 0 (vptr b·feet o·feet))
+        ∷ ‵ (fdies (tyRef erased mut (tyInt w64)) l87)
+        ∷ ‵ (fat fullShare (sliceTy (tyRef erased mut (tyInt w32))) l86 0 s·kept)
+        ∷ ‵ (fdies (sliceTy (tyRef erased mut (tyInt w32))) l86)
+        ∷ ‵ (fat fullShare (tyRef erased mut (tyInt w32)) l85 0 (vptr b·kept o·kept))
+        ∷ ‵ (fdies (tyRef erased mut (tyInt w32)) l85)
+        ∷ ‵ (fat fullShare (sliceTy (tyRef erased mut (tyInt w32))) l84 0 s·lists)
+        ∷ ‵ (fdies (sliceTy (tyRef erased mut (tyInt w32))) l84)
+        ∷ ‵ (fat fullShare (tyRef erased mut (tyInt w32)) l83 0 (vptr b·lists o·lists))
+        ∷ ‵ (fdies (tyRef erased mut (tyInt w32)) l83)
+        ∷ ‵ (fat fullShare (sliceTy (tyRef erased mut (tyInt w32))) l82 0 s·rows)
+        ∷ ‵ (fdies (sliceTy (tyRef erased mut (tyInt w32))) l82)
+        ∷ ‵ (fat fullShare (tyRef erased mut (tyInt w32)) l81 0 (vptr b·rows o·rows))
+        ∷ ‵ (fdies (tyRef erased mut (tyInt w32)) l81)
+        ∷ ‵ (fat fullShare (sliceTy (tyRef erased mut (tyInt w32))) l80 0 s·defs)
+        ∷ ‵ (fdies (sliceTy (tyRef erased mut (tyInt w32))) l80)
+        ∷ ‵ (fat fullShare (tyRef erased mut (tyInt w32)) l79 0 (vptr b·defs o·defs))
+        ∷ ‵ (fdies (tyRef erased mut (tyInt w32)) l79)
+        ∷ ‵ (fat fullShare (sliceTy (tyRef erased mut (tyInt w32))) l78 0 s·words)
+        ∷ ‵ (fdies (sliceTy (tyRef erased mut (tyInt w32))) l78)
+        ∷ ‵ (fat fullShare (tyRef erased mut (tyInt w32)) l77 0 (vptr b·words o·words))
+        ∷ ‵ (fdies (tyRef erased mut (tyInt w32)) l77)
+        ∷ ‵ (fat fullShare (sliceTy (tyRef erased mut (tyInt w32))) l76 0 s·index)
+        ∷ ‵ (fdies (sliceTy (tyRef erased mut (tyInt w32))) l76)
+        ∷ ‵ (fat fullShare (tyRef erased mut (tyInt w32)) l75 0 (vptr b·index o·index))
+        ∷ ‵ (fdies (tyRef erased mut (tyInt w32)) l75)
+        ∷ ‵ (fat fullShare (sliceTy (tyRef erased mut (tyInt w32))) l74 0 s·vars)
+        ∷ ‵ (fdies (sliceTy (tyRef erased mut (tyInt w32))) l74)
+        ∷ ‵ (fat fullShare (tyRef erased mut (tyInt w32)) l73 0 (vptr b·vars o·vars))
+        ∷ ‵ (fdies (tyRef erased mut (tyInt w32)) l73)
+        ∷ ‵ (fat fullShare (sliceTy (tyRef erased imm (tyInt w32))) l72 0 s·patterns)
+        ∷ ‵ (fdies (sliceTy (tyRef erased imm (tyInt w32))) l72)
+        ∷ ‵ (fat fullShare (tyRef erased imm (tyInt w32)) l71 0 (vptr b·patterns o·patterns))
+        ∷ ‵ (fdies (tyRef erased imm (tyInt w32)) l71)
+        ∷ ‵ (fat fullShare (sliceTy (tyRef erased imm (tyInt w32))) l70 0 s·rulevars)
+        ∷ ‵ (fdies (sliceTy (tyRef erased imm (tyInt w32))) l70)
+        ∷ ‵ (fat fullShare (tyRef erased imm (tyInt w32)) l69 0 (vptr b·rulevars o·rulevars))
+        ∷ ‵ (fdies (tyRef erased imm (tyInt w32)) l69)
+        ∷ ‵ (fat fullShare (sliceTy (tyRef erased imm (tyInt w32))) l68 0 s·rules)
+        ∷ ‵ (fdies (sliceTy (tyRef erased imm (tyInt w32))) l68)
+        ∷ ‵ (fat fullShare (tyRef erased imm (tyInt w32)) l67 0 (vptr b·rules o·rules))
+        ∷ ‵ (fdies (tyRef erased imm (tyInt w32)) l67)
+        ∷ ‵ (fat fullShare (sliceTy (tyRef erased imm (tyInt w32))) l66 0 s·inputs)
+        ∷ ‵ (fdies (sliceTy (tyRef erased imm (tyInt w32))) l66)
+        ∷ ‵ (fat fullShare (tyRef erased imm (tyInt w32)) l65 0 (vptr b·inputs o·inputs))
+        ∷ ‵ (fdies (tyRef erased imm (tyInt w32)) l65)
+        ∷ ‵ (fat fullShare (sliceTy (tyRef erased imm (tyInt w32))) l64 0 s·symbols)
+        ∷ ‵ (fdies (sliceTy (tyRef erased imm (tyInt w32))) l64)
+        ∷ ‵ (fat fullShare (tyRef erased imm (tyInt w32)) l63 0 (vptr b·symbols o·symbols))
+        ∷ ‵ (fdies (tyRef erased imm (tyInt w32)) l63)
+        ∷ ‵ (fat fullShare (sliceTy (tyRef erased imm (tyInt w32))) l62 0 s·sorts)
+        ∷ ‵ (fdies (sliceTy (tyRef erased imm (tyInt w32))) l62)
+        ∷ ‵ (fat fullShare (tyRef erased imm (tyInt w32)) l61 0 (vptr b·sorts o·sorts))
+        ∷ ‵ (fdies (tyRef erased imm (tyInt w32)) l61)
+        ∷ ‵ (fat fullShare CountsL.mir l60 0 va·3·25)
+        ∷ ‵ (fdies CountsL.mir l60)
+        ∷ ‵ (fat fullShare (sliceTy (tyRef erased mut (tyInt w32))) l59 0 s·cells)
+        ∷ ‵ (fdies (sliceTy (tyRef erased mut (tyInt w32))) l59)
+        ∷ ‵ (fat fullShare (tyRef erased mut (tyInt w32)) l58 0 (vptr b·cells o·cells))
+        ∷ ‵ (fdies (tyRef erased mut (tyInt w32)) l58)
+        ∷ ‵ (fat fullShare (sliceTy (tyRef erased imm (tyInt w64))) l57 0 s·feet)
+        ∷ ‵ (fdies (sliceTy (tyRef erased imm (tyInt w64))) l57)
+        ∷ ‵ (fat fullShare (tyRef erased imm (tyInt w64)) l56 0 (vptr b·feet o·feet))
+        ∷ ‵ (fdies (tyRef erased imm (tyInt w64)) l56)
+        ∷ ‵ (fat fullShare (sliceTy (tyRef erased imm (tyInt w32))) l55 0 s·kept)
+        ∷ ‵ (fdies (sliceTy (tyRef erased imm (tyInt w32))) l55)
+        ∷ ‵ (fat fullShare (tyRef erased imm (tyInt w32)) l54 0 (vptr b·kept o·kept))
+        ∷ ‵ (fdies (tyRef erased imm (tyInt w32)) l54)
+        ∷ ‵ (fat fullShare (sliceTy (tyRef erased mut (tyInt w32))) l53 0 s·missing)
+        ∷ ‵ (fdies (sliceTy (tyRef erased mut (tyInt w32))) l53)
+        ∷ ‵ (fat fullShare (tyRef erased mut (tyInt w32)) l52 0 (vptr b·missing o·missing))
+        ∷ ‵ (fdies (tyRef erased mut (tyInt w32)) l52) ∷ [])
+        (frees (((tyRef erased mut (tyInt w32)), l52) ∷ ((sliceTy (tyRef erased mut (tyInt w32))), l53) ∷ ((tyRef erased imm (tyInt w32)), l54)
+        ∷ ((sliceTy (tyRef erased imm (tyInt w32))), l55) ∷ ((tyRef erased imm (tyInt w64)), l56) ∷ ((sliceTy (tyRef erased imm (tyInt w64))), l57)
+        ∷ ((tyRef erased mut (tyInt w32)), l58) ∷ ((sliceTy (tyRef erased mut (tyInt w32))), l59) ∷ (CountsL.mir, l60)
+        ∷ ((tyRef erased imm (tyInt w32)), l61) ∷ ((sliceTy (tyRef erased imm (tyInt w32))), l62) ∷ ((tyRef erased imm (tyInt w32)), l63)
+        ∷ ((sliceTy (tyRef erased imm (tyInt w32))), l64) ∷ ((tyRef erased imm (tyInt w32)), l65) ∷ ((sliceTy (tyRef erased imm (tyInt w32))), l66)
+        ∷ ((tyRef erased imm (tyInt w32)), l67) ∷ ((sliceTy (tyRef erased imm (tyInt w32))), l68) ∷ ((tyRef erased imm (tyInt w32)), l69)
+        ∷ ((sliceTy (tyRef erased imm (tyInt w32))), l70) ∷ ((tyRef erased imm (tyInt w32)), l71) ∷ ((sliceTy (tyRef erased imm (tyInt w32))), l72)
+        ∷ ((tyRef erased mut (tyInt w32)), l73) ∷ ((sliceTy (tyRef erased mut (tyInt w32))), l74) ∷ ((tyRef erased mut (tyInt w32)), l75)
+        ∷ ((sliceTy (tyRef erased mut (tyInt w32))), l76) ∷ ((tyRef erased mut (tyInt w32)), l77) ∷ ((sliceTy (tyRef erased mut (tyInt w32))), l78)
+        ∷ ((tyRef erased mut (tyInt w32)), l79) ∷ ((sliceTy (tyRef erased mut (tyInt w32))), l80) ∷ ((tyRef erased mut (tyInt w32)), l81)
+        ∷ ((sliceTy (tyRef erased mut (tyInt w32))), l82) ∷ ((tyRef erased mut (tyInt w32)), l83) ∷ ((sliceTy (tyRef erased mut (tyInt w32))), l84)
+        ∷ ((tyRef erased mut (tyInt w32)), l85) ∷ ((sliceTy (tyRef erased mut (tyInt w32))), l86) ∷ ((tyRef erased mut (tyInt w64)), l87)
+        ∷ ((sliceTy (tyRef erased mut (tyInt w64))), l88) ∷ ((tyRef erased mut (tyInt w32)), l89) ∷ ((sliceTy (tyRef erased mut (tyInt w32))), l90)
+        ∷ ((tyRef erased mut (tyInt w32)), l91) ∷ ((sliceTy (tyRef erased mut (tyInt w32))), l92) ∷ ((tyRef erased mut (tyInt w32)), l93)
+        ∷ ((sliceTy (tyRef erased mut (tyInt w32))), l94) ∷ ((tyRef erased mut (pointee (FactT.the-row .written))), l95)
+        ∷ ((sliceTy (tyRef erased mut (pointee (FactT.the-row .written)))), l96) ∷ ((tyRef erased mut (pointee (CountsT.the-row .written))), l97)
+        ∷ ((tyRef erased mut (tyInt w32)), l98) ∷ ((sliceTy (tyRef erased mut (tyInt w32))), l99) ∷ ((tyRef erased imm (tyInt w32)), l100)
+        ∷ ((sliceTy (tyRef erased imm (tyInt w32))), l101) ∷ ((tyRef erased imm (tyInt w32)), l102) ∷ ((sliceTy (tyRef erased imm (tyInt w32))), l103)
+        ∷ ((tyRef erased mut (tyInt w32)), l104) ∷ ((sliceTy (tyRef erased mut (tyInt w32))), l105) ∷ (tyUnit, l106)
+        ∷ ((tyRef erased mut (pointee (FactT.the-row .written))), l107) ∷ ((sliceTy (tyRef erased mut (pointee (FactT.the-row .written)))), l108)
+        ∷ ((tyInt w64), l109) ∷ ((tyInt w64), l110) ∷ []) (prop (Post v4)))
     seg·16 l0 l1 l2 l3 l4 l5 l6 l7 l8 l9 l10 l11 l12 l13 l14 l15 l16 l17 l18 l19 l20 l21 l22 l23 l24 l25 l26 l27 l28 l29 l30 l31 l32 l33 l34 l35 l36
         l37 l38 l39 l40 l41 l42 l43 l44 l45 l46 l47 l48 l49 l50 l51 l52 l53 l54 l55 l56 l57 l58 l59 l60 l61 l62 l63 l64 l65 l66 l67 l68 l69 l70 l71
         l72 l73 l74 l75 l76 l77 l78 l79 l80 l81 l82 l83 l84 l85 l86 l87 l88 l89 l90 l91 l92 l93 l94 l95 l96 l97 l98 l99 l100 l101 l102 l103 l104
-        l105 l106 l107 ν·1·3 δ·1·3 ν·1·4 δ·1·4 ν·1·5 δ·1·5 ν·1·6 δ·1·6 ν·1·7 δ·1·7 ν·1·8 δ·1·8 ν·1·9 δ·1·9 ν·1·10 δ·1·10 ν·1·11 δ·1·11 ν·1·12
-        δ·1·12 ν·1·13 δ·1·13 ν·1·14 δ·1·14 ν·1·15 δ·1·15 ν·1·16 δ·1·16 ν·1·17 δ·1·17 ν·1·18 δ·1·18 v1 r1 ws1 e1·0 e1·1 len·1·sorts
-        len·1·symbols len·1·inputs len·1·rules len·1·rulevars len·1·patterns len·1·vars len·1·index len·1·words len·1·defs len·1·rows
-        len·1·lists len·1·missing len·1·cells is1 v2 r2 ws2 e2 is2 ν·3·4 δ·3·4 ν·3·5 δ·3·5 ν·3·6 δ·3·6 ν·3·7 δ·3·7 ν·3·8 δ·3·8
-        ν·3·9 δ·3·9 ν·3·11 δ·3·11 ν·3·12 δ·3·12 ν·3·14 δ·3·14 ν·3·20 δ·3·20 ν·3·21 δ·3·21 v3 r3 ws3 e3 len·3·vars len·3·index
-        len·3·words len·3·defs len·3·rows len·3·lists len·3·kept len·3·feet len·3·cells len·3·ids len·3·facts is3 va·3·24
-        isa·3·24 ν·4·3 δ·4·3 ν·4·4 δ·4·4 v4 r4 ws4 e4·0 e4·1 len·4·index len·4·missing is4 v5 r5 ws5 e5 is5 v6 r6 ws6
-        e6 is6 v7 r7 ws7 e7 len·7·facts is7 =
+        l105 l106 l107 l108 l109 l110 ν·1·3 δ·1·3 ν·1·4 δ·1·4 ν·1·5 δ·1·5 ν·1·6 δ·1·6 ν·1·7 δ·1·7 ν·1·8 δ·1·8 ν·1·9 δ·1·9 ν·1·10 δ·1·10 ν·1·11
+        δ·1·11 ν·1·12 δ·1·12 ν·1·13 δ·1·13 ν·1·14 δ·1·14 ν·1·15 δ·1·15 ν·1·16 δ·1·16 ν·1·17 δ·1·17 ν·1·18 δ·1·18 v1 r1 ws1 e1·0 e1·1
+        len·1·sorts len·1·symbols len·1·inputs len·1·rules len·1·rulevars len·1·patterns len·1·vars len·1·index len·1·words len·1·defs
+        len·1·rows len·1·lists len·1·missing len·1·cells is1 v2 r2 ws2 e2 is2 ν·3·4 δ·3·4 ν·3·5 δ·3·5 ν·3·6 δ·3·6 ν·3·7 δ·3·7
+        ν·3·8 δ·3·8 ν·3·9 δ·3·9 ν·3·11 δ·3·11 ν·3·12 δ·3·12 ν·3·14 δ·3·14 ν·3·21 δ·3·21 ν·3·22 δ·3·22 v3 r3 ws3 e3 len·3·vars
+        len·3·index len·3·words len·3·defs len·3·rows len·3·lists len·3·kept len·3·feet len·3·cells len·3·ids len·3·memo
+        len·3·facts is3 va·3·25 isa·3·25 ν·4·3 δ·4·3 ν·4·4 δ·4·4 v4 r4 ws4 e4·0 e4·1 len·4·index len·4·missing is4 v5
+        r5 ws5 e5 is5 v6 r6 ws6 e6 is6 v7 r7 ws7 e7 len·7·facts is7 =
+        forget ! 160 refl $
+        move ! (160 ∷ 161 ∷ []) $
+        free1 ! $
+        forget ! 158 refl $
+        move ! (158 ∷ 159 ∷ []) $
+        free1 ! $
+        forget ! 156 refl $
+        move ! (156 ∷ 157 ∷ []) $
+        free1 ! $
+        forget ! 154 refl $
+        move ! (154 ∷ 155 ∷ []) $
+        free1 ! $
+        forget ! 152 refl $
+        move ! (152 ∷ 153 ∷ []) $
+        free1 ! $
         forget ! 150 refl $
         move ! (150 ∷ 151 ∷ []) $
         free1 ! $
@@ -1583,40 +1717,16 @@ module _ {M : Type 1} (𝓤 : URA M) (H : Heap 𝓤) (A : Atoms 𝓤) (W : Given
         forget ! 114 refl $
         move ! (114 ∷ 115 ∷ []) $
         free1 ! $
-        forget ! 112 refl $
-        move ! (112 ∷ 113 ∷ []) $
-        free1 ! $
-        forget ! 110 refl $
-        move ! (110 ∷ 111 ∷ []) $
-        free1 ! $
-        forget ! 108 refl $
-        move ! (108 ∷ 109 ∷ []) $
-        free1 ! $
-        forget ! 106 refl $
-        move ! (106 ∷ 107 ∷ []) $
-        free1 ! $
-        forget ! 104 refl $
-        move ! (104 ∷ 105 ∷ []) $
-        free1 ! $
-        forget ! 102 refl $
-        move ! (102 ∷ 103 ∷ []) $
-        free1 ! $
-        forget ! 100 refl $
-        move ! (100 ∷ 101 ∷ []) $
-        free1 ! $
-        forget ! 98 refl $
-        move ! (98 ∷ 99 ∷ []) $
-        free1 ! $
         seg·17 l0 l1 l2 l3 l4 l5 l6 l7 l8 l9 l10 l11 l12 l13 l14 l15 l16 l17 l18 l19 l20 l21 l22 l23 l24 l25 l26 l27 l28 l29 l30 l31 l32 l33 l34 l35
         l36 l37 l38 l39 l40 l41 l42 l43 l44 l45 l46 l47 l48 l49 l50 l51 l52 l53 l54 l55 l56 l57 l58 l59 l60 l61 l62 l63 l64 l65 l66 l67 l68 l69 l70
         l71 l72 l73 l74 l75 l76 l77 l78 l79 l80 l81 l82 l83 l84 l85 l86 l87 l88 l89 l90 l91 l92 l93 l94 l95 l96 l97 l98 l99 l100 l101 l102 l103 l104
-        l105 l106 l107 ν·1·3 δ·1·3 ν·1·4 δ·1·4 ν·1·5 δ·1·5 ν·1·6 δ·1·6 ν·1·7 δ·1·7 ν·1·8 δ·1·8 ν·1·9 δ·1·9 ν·1·10 δ·1·10 ν·1·11 δ·1·11 ν·1·12 δ·1·12
-        ν·1·13 δ·1·13 ν·1·14 δ·1·14 ν·1·15 δ·1·15 ν·1·16 δ·1·16 ν·1·17 δ·1·17 ν·1·18 δ·1·18 v1 r1 ws1 e1·0 e1·1 len·1·sorts len·1·symbols len·1·inputs
-        len·1·rules len·1·rulevars len·1·patterns len·1·vars len·1·index len·1·words len·1·defs len·1·rows len·1·lists len·1·missing len·1·cells is1
-        v2 r2 ws2 e2 is2 ν·3·4 δ·3·4 ν·3·5 δ·3·5 ν·3·6 δ·3·6 ν·3·7 δ·3·7 ν·3·8 δ·3·8 ν·3·9 δ·3·9 ν·3·11 δ·3·11 ν·3·12 δ·3·12 ν·3·14 δ·3·14 ν·3·20
-        δ·3·20 ν·3·21 δ·3·21 v3 r3 ws3 e3 len·3·vars len·3·index len·3·words len·3·defs len·3·rows len·3·lists len·3·kept len·3·feet len·3·cells
-        len·3·ids len·3·facts is3 va·3·24 isa·3·24 ν·4·3 δ·4·3 ν·4·4 δ·4·4 v4 r4 ws4 e4·0 e4·1 len·4·index len·4·missing is4 v5 r5 ws5 e5 is5 v6 r6
-        ws6 e6 is6 v7 r7 ws7 e7 len·7·facts is7
+        l105 l106 l107 l108 l109 l110 ν·1·3 δ·1·3 ν·1·4 δ·1·4 ν·1·5 δ·1·5 ν·1·6 δ·1·6 ν·1·7 δ·1·7 ν·1·8 δ·1·8 ν·1·9 δ·1·9 ν·1·10 δ·1·10 ν·1·11 δ·1·11
+        ν·1·12 δ·1·12 ν·1·13 δ·1·13 ν·1·14 δ·1·14 ν·1·15 δ·1·15 ν·1·16 δ·1·16 ν·1·17 δ·1·17 ν·1·18 δ·1·18 v1 r1 ws1 e1·0 e1·1 len·1·sorts
+        len·1·symbols len·1·inputs len·1·rules len·1·rulevars len·1·patterns len·1·vars len·1·index len·1·words len·1·defs len·1·rows len·1·lists
+        len·1·missing len·1·cells is1 v2 r2 ws2 e2 is2 ν·3·4 δ·3·4 ν·3·5 δ·3·5 ν·3·6 δ·3·6 ν·3·7 δ·3·7 ν·3·8 δ·3·8 ν·3·9 δ·3·9 ν·3·11 δ·3·11 ν·3·12
+        δ·3·12 ν·3·14 δ·3·14 ν·3·21 δ·3·21 ν·3·22 δ·3·22 v3 r3 ws3 e3 len·3·vars len·3·index len·3·words len·3·defs len·3·rows len·3·lists len·3·kept
+        len·3·feet len·3·cells len·3·ids len·3·memo len·3·facts is3 va·3·25 isa·3·25 ν·4·3 δ·4·3 ν·4·4 δ·4·4 v4 r4 ws4 e4·0 e4·1 len·4·index
+        len·4·missing is4 v5 r5 ws5 e5 is5 v6 r6 ws6 e6 is6 v7 r7 ws7 e7 len·7·facts is7
 
     seg·15 : (l0 : ℕ) (l1 : ℕ) (l2 : ℕ) (l3 : ℕ) (l4 : ℕ) (l5 : ℕ) (l6 : ℕ) (l7 : ℕ) (l8 : ℕ) (l9 : ℕ) (l10 : ℕ) (l11 : ℕ) (l12 : ℕ) (l13 : ℕ)
         (l14 : ℕ) (l15 : ℕ) (l16 : ℕ) (l17 : ℕ) (l18 : ℕ) (l19 : ℕ) (l20 : ℕ) (l21 : ℕ) (l22 : ℕ) (l23 : ℕ) (l24 : ℕ) (l25 : ℕ) (l26 : ℕ) (l27 : ℕ)
@@ -1625,14 +1735,14 @@ module _ {M : Type 1} (𝓤 : URA M) (H : Heap 𝓤) (A : Atoms 𝓤) (W : Given
         (l56 : ℕ) (l57 : ℕ) (l58 : ℕ) (l59 : ℕ) (l60 : ℕ) (l61 : ℕ) (l62 : ℕ) (l63 : ℕ) (l64 : ℕ) (l65 : ℕ) (l66 : ℕ) (l67 : ℕ) (l68 : ℕ) (l69 : ℕ)
         (l70 : ℕ) (l71 : ℕ) (l72 : ℕ) (l73 : ℕ) (l74 : ℕ) (l75 : ℕ) (l76 : ℕ) (l77 : ℕ) (l78 : ℕ) (l79 : ℕ) (l80 : ℕ) (l81 : ℕ) (l82 : ℕ) (l83 : ℕ)
         (l84 : ℕ) (l85 : ℕ) (l86 : ℕ) (l87 : ℕ) (l88 : ℕ) (l89 : ℕ) (l90 : ℕ) (l91 : ℕ) (l92 : ℕ) (l93 : ℕ) (l94 : ℕ) (l95 : ℕ) (l96 : ℕ) (l97 : ℕ)
-        (l98 : ℕ) (l99 : ℕ) (l100 : ℕ) (l101 : ℕ) (l102 : ℕ) (l103 : ℕ) (l104 : ℕ) (l105 : ℕ) (l106 : ℕ) (l107 : ℕ) (ν·1·3 : ℕ) (δ·1·3 : GName)
-        (ν·1·4 : ℕ) (δ·1·4 : GName) (ν·1·5 : ℕ) (δ·1·5 : GName) (ν·1·6 : ℕ) (δ·1·6 : GName) (ν·1·7 : ℕ) (δ·1·7 : GName) (ν·1·8 : ℕ) (δ·1·8 : GName)
-        (ν·1·9 : ℕ) (δ·1·9 : GName) (ν·1·10 : ℕ) (δ·1·10 : GName) (ν·1·11 : ℕ) (δ·1·11 : GName) (ν·1·12 : ℕ) (δ·1·12 : GName) (ν·1·13 : ℕ)
-        (δ·1·13 : GName) (ν·1·14 : ℕ) (δ·1·14 : GName) (ν·1·15 : ℕ) (δ·1·15 : GName) (ν·1·16 : ℕ) (δ·1·16 : GName) (ν·1·17 : ℕ) (δ·1·17 : GName)
-        (ν·1·18 : ℕ) (δ·1·18 : GName) (v1 : Val) (r1 : Run) (ws1 : (Unit {0} ×
-        (Unit {0} × (Unit {0} × ((List ℕ) × ((List ℕ) × ((List ℕ) × ((List ℕ) ×
+        (l98 : ℕ) (l99 : ℕ) (l100 : ℕ) (l101 : ℕ) (l102 : ℕ) (l103 : ℕ) (l104 : ℕ) (l105 : ℕ) (l106 : ℕ) (l107 : ℕ) (l108 : ℕ) (l109 : ℕ) (l110 : ℕ)
+        (ν·1·3 : ℕ) (δ·1·3 : GName) (ν·1·4 : ℕ) (δ·1·4 : GName) (ν·1·5 : ℕ) (δ·1·5 : GName) (ν·1·6 : ℕ) (δ·1·6 : GName) (ν·1·7 : ℕ) (δ·1·7 : GName)
+        (ν·1·8 : ℕ) (δ·1·8 : GName) (ν·1·9 : ℕ) (δ·1·9 : GName) (ν·1·10 : ℕ) (δ·1·10 : GName) (ν·1·11 : ℕ) (δ·1·11 : GName) (ν·1·12 : ℕ)
+        (δ·1·12 : GName) (ν·1·13 : ℕ) (δ·1·13 : GName) (ν·1·14 : ℕ) (δ·1·14 : GName) (ν·1·15 : ℕ) (δ·1·15 : GName) (ν·1·16 : ℕ) (δ·1·16 : GName)
+        (ν·1·17 : ℕ) (δ·1·17 : GName) (ν·1·18 : ℕ) (δ·1·18 : GName) (v1 : Val) (r1 : Run)
+        (ws1 : (Unit {0} × (Unit {0} × (Unit {0} × ((List ℕ) × ((List ℕ) × ((List ℕ) ×
         ((List ℕ) × ((List ℕ) × ((List ℕ) × ((List ℕ) × ((List ℕ) × ((List ℕ) ×
-        ((List ℕ) × ((List ℕ) × ((List ℕ) × (Unit {0} × (Unit {0} × ((List ℕ) × (Unit {0} × Unit {0})))))))))))))))))))))
+        ((List ℕ) × ((List ℕ) × ((List ℕ) × ((List ℕ) × (Unit {0} × (Unit {0} × ((List ℕ) × (Unit {0} × Unit {0})))))))))))))))))))))
         (e1·0 : Begun theory goals proof (length facts) (theoryLists sorts symbols inputs rules rulevars patterns)
         (theoryLists (ws1 .1 .1 .1 .0) (ws1 .1 .1 .1 .1 .0) (ws1 .1 .1 .1 .1 .1 .0) (ws1 .1 .1 .1 .1 .1 .1 .0) (ws1 .1 .1 .1 .1 .1 .1 .1 .0)
         (ws1 .1 .1 .1 .1 .1 .1 .1 .1 .0)) (working vars index words defs rows lists)
@@ -1653,11 +1763,11 @@ module _ {M : Type 1} (𝓤 : URA M) (H : Heap 𝓤) (A : Atoms 𝓤) (W : Given
         (len·1·cells : length (ws1 .1 .1 .1 .1 .1 .1 .1 .1 .1 .1 .1 .1 .1 .1 .1 .1 .1 .1 .0) ≡ length cells) (is1 : Is RunT.the-row r1 (v1 ∷ []))
         (v2 : Val) (r2 : Counts) (ws2 : Unit {0}) (e2 : r2 ≡ none) (is2 : Is CountsT.the-row r2 (v2 ∷ [])) (ν·3·4 : ℕ) (δ·3·4 : GName) (ν·3·5 : ℕ)
         (δ·3·5 : GName) (ν·3·6 : ℕ) (δ·3·6 : GName) (ν·3·7 : ℕ) (δ·3·7 : GName) (ν·3·8 : ℕ) (δ·3·8 : GName) (ν·3·9 : ℕ) (δ·3·9 : GName) (ν·3·11 : ℕ)
-        (δ·3·11 : GName) (ν·3·12 : ℕ) (δ·3·12 : GName) (ν·3·14 : ℕ) (δ·3·14 : GName) (ν·3·20 : ℕ) (δ·3·20 : GName) (ν·3·21 : ℕ) (δ·3·21 : GName)
+        (δ·3·11 : GName) (ν·3·12 : ℕ) (δ·3·12 : GName) (ν·3·14 : ℕ) (δ·3·14 : GName) (ν·3·21 : ℕ) (δ·3·21 : GName) (ν·3·22 : ℕ) (δ·3·22 : GName)
         (v3 : Val) (r3 : Run) (ws3 : (Unit {0} × (Unit {0} × (Unit {0} × (Unit {0} ×
         (Unit {0} × (Unit {0} × (Unit {0} × (Unit {0} × (Unit {0} × (Unit {0} ×
         ((List ℕ) × ((List ℕ) × ((List ℕ) × ((List ℕ) × ((List ℕ) × ((List ℕ) ×
-        ((List ℕ) × ((List ℕ) × ((List ℕ) × ((List ℕ) × ((List Fact) × (Counts × Unit {0})))))))))))))))))))))))
+        ((List ℕ) × ((List ℕ) × ((List ℕ) × ((List ℕ) × ((List ℕ) × ((List Fact) × (Counts × Unit {0}))))))))))))))))))))))))
         (e3 : Ran theory goals proof (theoryLists (ws1 .1 .1 .1 .0) (ws1 .1 .1 .1 .1 .0) (ws1 .1 .1 .1 .1 .1 .0) (ws1 .1 .1 .1 .1 .1 .1 .0)
         (ws1 .1 .1 .1 .1 .1 .1 .1 .0) (ws1 .1 .1 .1 .1 .1 .1 .1 .1 .0)) (working (ws1 .1 .1 .1 .1 .1 .1 .1 .1 .1 .0)
         (ws1 .1 .1 .1 .1 .1 .1 .1 .1 .1 .1 .0) (ws1 .1 .1 .1 .1 .1 .1 .1 .1 .1 .1 .1 .0) (ws1 .1 .1 .1 .1 .1 .1 .1 .1 .1 .1 .1 .1 .0)
@@ -1666,8 +1776,9 @@ module _ {M : Type 1} (𝓤 : URA M) (H : Heap 𝓤) (A : Atoms 𝓤) (W : Given
         (ws3 .1 .1 .1 .1 .1 .1 .1 .1 .1 .1 .1 .1 .1 .0) (ws3 .1 .1 .1 .1 .1 .1 .1 .1 .1 .1 .1 .1 .1 .1 .0)
         (ws3 .1 .1 .1 .1 .1 .1 .1 .1 .1 .1 .1 .1 .1 .1 .1 .0)) (ws3 .1 .1 .1 .1 .1 .1 .1 .1 .1 .1 .1 .1 .1 .1 .1 .1 .0)
         (ws3 .1 .1 .1 .1 .1 .1 .1 .1 .1 .1 .1 .1 .1 .1 .1 .1 .1 .0) (ws3 .1 .1 .1 .1 .1 .1 .1 .1 .1 .1 .1 .1 .1 .1 .1 .1 .1 .1 .0)
-        (ws3 .1 .1 .1 .1 .1 .1 .1 .1 .1 .1 .1 .1 .1 .1 .1 .1 .1 .1 .1 .0) r1 r3 facts
-        (ws3 .1 .1 .1 .1 .1 .1 .1 .1 .1 .1 .1 .1 .1 .1 .1 .1 .1 .1 .1 .1 .0) (ws3 .1 .1 .1 .1 .1 .1 .1 .1 .1 .1 .1 .1 .1 .1 .1 .1 .1 .1 .1 .1 .1 .0))
+        (ws3 .1 .1 .1 .1 .1 .1 .1 .1 .1 .1 .1 .1 .1 .1 .1 .1 .1 .1 .1 .0) (ws3 .1 .1 .1 .1 .1 .1 .1 .1 .1 .1 .1 .1 .1 .1 .1 .1 .1 .1 .1 .1 .0) r1 r3
+        facts (ws3 .1 .1 .1 .1 .1 .1 .1 .1 .1 .1 .1 .1 .1 .1 .1 .1 .1 .1 .1 .1 .1 .0)
+        (ws3 .1 .1 .1 .1 .1 .1 .1 .1 .1 .1 .1 .1 .1 .1 .1 .1 .1 .1 .1 .1 .1 .1 .0))
         (len·3·vars : length (ws3 .1 .1 .1 .1 .1 .1 .1 .1 .1 .1 .0) ≡ length (ws1 .1 .1 .1 .1 .1 .1 .1 .1 .1 .0))
         (len·3·index : length (ws3 .1 .1 .1 .1 .1 .1 .1 .1 .1 .1 .1 .0) ≡ length (ws1 .1 .1 .1 .1 .1 .1 .1 .1 .1 .1 .0))
         (len·3·words : length (ws3 .1 .1 .1 .1 .1 .1 .1 .1 .1 .1 .1 .1 .0) ≡ length (ws1 .1 .1 .1 .1 .1 .1 .1 .1 .1 .1 .1 .0))
@@ -1679,11 +1790,12 @@ module _ {M : Type 1} (𝓤 : URA M) (H : Heap 𝓤) (A : Atoms 𝓤) (W : Given
         (len·3·cells : length (ws3 .1 .1 .1 .1 .1 .1 .1 .1 .1 .1 .1 .1 .1 .1 .1 .1 .1 .1 .0) ≡ length
         (ws1 .1 .1 .1 .1 .1 .1 .1 .1 .1 .1 .1 .1 .1 .1 .1 .1 .1 .1 .0)) (len·3·ids : length
         (ws3 .1 .1 .1 .1 .1 .1 .1 .1 .1 .1 .1 .1 .1 .1 .1 .1 .1 .1 .1 .0) ≡ length ids)
-        (len·3·facts : length (ws3 .1 .1 .1 .1 .1 .1 .1 .1 .1 .1 .1 .1 .1 .1 .1 .1 .1 .1 .1 .1 .0) ≡ length facts)
-        (is3 : Is RunT.the-row r3 (v3 ∷ [])) (va·3·24 : Val) (isa·3·24 : Is CountsT.the-row
-        (ws3 .1 .1 .1 .1 .1 .1 .1 .1 .1 .1 .1 .1 .1 .1 .1 .1 .1 .1 .1 .1 .1 .0) (va·3·24 ∷ [])) (ν·4·3 : ℕ) (δ·4·3 : GName) (ν·4·4 : ℕ)
+        (len·3·memo : length (ws3 .1 .1 .1 .1 .1 .1 .1 .1 .1 .1 .1 .1 .1 .1 .1 .1 .1 .1 .1 .1 .0) ≡ length memo)
+        (len·3·facts : length (ws3 .1 .1 .1 .1 .1 .1 .1 .1 .1 .1 .1 .1 .1 .1 .1 .1 .1 .1 .1 .1 .1 .0) ≡ length facts)
+        (is3 : Is RunT.the-row r3 (v3 ∷ [])) (va·3·25 : Val) (isa·3·25 : Is CountsT.the-row
+        (ws3 .1 .1 .1 .1 .1 .1 .1 .1 .1 .1 .1 .1 .1 .1 .1 .1 .1 .1 .1 .1 .1 .1 .0) (va·3·25 ∷ [])) (ν·4·3 : ℕ) (δ·4·3 : GName) (ν·4·4 : ℕ)
         (δ·4·4 : GName) (v4 : Val) (r4 : Answer) (ws4 : (Unit {0} × (Unit {0} × ((List ℕ) × (Unit {0} × (Unit {0} × ((List ℕ) × Unit {0})))))))
-        (e4·0 : (g : Ending r3 (ws3 .1 .1 .1 .1 .1 .1 .1 .1 .1 .1 .1 .1 .1 .1 .1 .1 .1 .1 .1 .1 .1 .0) (ws3 .1 .1 .1 .1 .1 .1 .1 .1 .1 .1 .1 .0)
+        (e4·0 : (g : Ending r3 (ws3 .1 .1 .1 .1 .1 .1 .1 .1 .1 .1 .1 .1 .1 .1 .1 .1 .1 .1 .1 .1 .1 .1 .0) (ws3 .1 .1 .1 .1 .1 .1 .1 .1 .1 .1 .1 .0)
         (ws3 .1 .1 .1 .1 .1 .1 .1 .1 .1 .1 .1 .1 .0) (ws3 .1 .1 .1 .1 .1 .1 .1 .1 .1 .1 .1 .1 .1 .1 .0)
         (ws1 .1 .1 .1 .1 .1 .1 .1 .1 .1 .1 .1 .1 .1 .1 .1 .0)) → Ended (g .theory) (g .goals) (g .proof) r3 (ws3 .1 .1 .1 .1 .1 .1 .1 .1 .1 .1 .1 .0)
         (ws4 .1 .1 .0) (ws1 .1 .1 .1 .1 .1 .1 .1 .1 .1 .1 .1 .1 .1 .1 .1 .0) (ws4 .1 .1 .1 .1 .1 .0) r4)
@@ -1694,8 +1806,9 @@ module _ {M : Type 1} (𝓤 : URA M) (H : Heap 𝓤) (A : Atoms 𝓤) (W : Given
         (is4 : Is AnswerT.the-row r4 (v4 ∷ [])) (v5 : Val) (r5 : ℕ) (ws5 : (Unit {0} × Unit {0})) (e5 : r5 ≡ r3 .sizes .facts)
         (is5 : Is usize r5 (v5 ∷ [])) (v6 : Val) (r6 : ℕ) (ws6 : (Unit {0} × Unit {0})) (e6 : r6 ≡ roomOf r3) (is6 : Is usize r6 (v6 ∷ [])) (v7 : Val)
         (r7 : Unit {0}) (ws7 : ((List Fact) × (Unit {0} × (Unit {0} × Unit {0}))))
-        (e7 : (ws7 .0) ≡ zeroed (ws3 .1 .1 .1 .1 .1 .1 .1 .1 .1 .1 .1 .1 .1 .1 .1 .1 .1 .1 .1 .1 .0) r5 r6)
-        (len·7·facts : length (ws7 .0) ≡ length (ws3 .1 .1 .1 .1 .1 .1 .1 .1 .1 .1 .1 .1 .1 .1 .1 .1 .1 .1 .1 .1 .0)) (is7 : v7 ∷ [] ≡ vunit ∷ []) →
+        (e7 : (ws7 .0) ≡ zeroed (ws3 .1 .1 .1 .1 .1 .1 .1 .1 .1 .1 .1 .1 .1 .1 .1 .1 .1 .1 .1 .1 .1 .0) r5 r6)
+        (len·7·facts : length (ws7 .0) ≡ length (ws3 .1 .1 .1 .1 .1 .1 .1 .1 .1 .1 .1 .1 .1 .1 .1 .1 .1 .1 .1 .1 .1 .0)) (is7 : v7 ∷ [] ≡ vunit ∷ [])
+        →
         Sq W (‵ (flft κ·facts q·facts)
         ∷ ‵ (finally FactT.the-row γ·facts (ws7 .0))
         ∷ ‵ (MutSlice (named 13) κ·rows u32 .own (ref·rows γ·rows (ws3 .1 .1 .1 .1 .1 .1 .1 .1 .1 .1 .1 .1 .1 .1 .0)) (s·rows ∷ []))
@@ -1718,6 +1831,7 @@ module _ {M : Type 1} (𝓤 : URA M) (H : Heap 𝓤) (A : Atoms 𝓤) (W : Given
         ∷ ‵ (flft κ·symbols q·symbols)
         ∷ ‵ (MutSlice (named 3) κ·sorts u32 .own (ref·sorts γ·sorts (ws1 .1 .1 .1 .0)) (s·sorts ∷ []))
         ∷ ‵ (flft κ·sorts q·sorts)
+        ∷ ‵ (flft κ·memo q·memo)
         ∷ ‵ (flft κ·ids q·ids)
         ∷ ‵ (flft κ·cells q·cells)
         ∷ ‵ (flft κ·feet q·feet)
@@ -1728,6 +1842,7 @@ module _ {M : Type 1} (𝓤 : URA M) (H : Heap 𝓤) (A : Atoms 𝓤) (W : Given
         ∷ ‵ (flft κ·proof q·proof)
         ∷ ‵ (flft κ·goals q·goals)
         ∷ ‵ (flft κ·theory q·theory)
+        ∷ ‵ (finally u32 γ·memo (ws3 .1 .1 .1 .1 .1 .1 .1 .1 .1 .1 .1 .1 .1 .1 .1 .1 .1 .1 .1 .1 .0))
         ∷ ‵ (finally u32 γ·ids (ws3 .1 .1 .1 .1 .1 .1 .1 .1 .1 .1 .1 .1 .1 .1 .1 .1 .1 .1 .1 .0))
         ∷ ‵ (finally u32 γ·cells (ws3 .1 .1 .1 .1 .1 .1 .1 .1 .1 .1 .1 .1 .1 .1 .1 .1 .1 .1 .0))
         ∷ ‵ (finally u64 γ·feet (ws3 .1 .1 .1 .1 .1 .1 .1 .1 .1 .1 .1 .1 .1 .1 .1 .1 .1 .0))
@@ -1738,193 +1853,212 @@ module _ {M : Type 1} (𝓤 : URA M) (H : Heap 𝓤) (A : Atoms 𝓤) (W : Given
         ∷ ‵ (ShrSlice (named 2) κ·proof u8 .own (ref·proof γ·proof proof) (s·proof ∷ []))
         ∷ ‵ (ShrSlice (named 1) κ·goals u8 .own (ref·goals γ·goals goals) (s·goals ∷ []))
         ∷ ‵ (ShrSlice (named 0) κ·theory u8 .own (ref·theory γ·theory theory) (s·theory ∷ []))
-        ∷ ‵ (fat fullShare (tyInt w64) l107 0 v6)
-        ∷ ‵ (fdies (tyInt w64) l107)
-        ∷ ‵ (fat fullShare (tyInt w64) l106 0 v5)
-        ∷ ‵ (fdies (tyInt w64) l106)
-        ∷ ‵ (fat fullShare (sliceTy (tyRef erased mut (pointee (FactT.the-row .written)))) l105 0 s·facts)
-        ∷ ‵ (fdies (sliceTy (tyRef erased mut (pointee (FactT.the-row .written)))) l105)
-        ∷ ‵ (fat fullShare (tyRef erased mut (pointee (FactT.the-row .written))) l104 0 (vptr b·facts o·facts))
-        ∷ ‵ (fdies (tyRef erased mut (pointee (FactT.the-row .written))) l104)
-        ∷ ‵ (fat fullShare tyUnit l103 0 v7)
-        ∷ ‵ (fdies tyUnit l103)
-        ∷ ‵ (fat fullShare (sliceTy (tyRef erased mut (tyInt w32))) l102 0 s·missing)
-        ∷ ‵ (fdies (sliceTy (tyRef erased mut (tyInt w32))) l102)
-        ∷ ‵ (fat fullShare (tyRef erased mut (tyInt w32)) l101 0 (vptr b·missing o·missing))
-        ∷ ‵ (fdies (tyRef erased mut (tyInt w32)) l101)
-        ∷ ‵ (fat fullShare (sliceTy (tyRef erased imm (tyInt w32))) l100 0 s·rows)
-        ∷ ‵ (fdies (sliceTy (tyRef erased imm (tyInt w32))) l100)
-        ∷ ‵ (fat fullShare (tyRef erased imm (tyInt w32)) l99 0 (vptr b·rows o·rows))
-        ∷ ‵ (fdies (tyRef erased imm (tyInt w32)) l99)
-        ∷ ‵ (fat fullShare (sliceTy (tyRef erased imm (tyInt w32))) l98 0 s·words)
-        ∷ ‵ (fdies (sliceTy (tyRef erased imm (tyInt w32))) l98)
-        ∷ ‵ (fat fullShare (tyRef erased imm (tyInt w32)) l97 0 (vptr b·words o·words))
-        ∷ ‵ (fdies (tyRef erased imm (tyInt w32)) l97)
-        ∷ ‵ (fat fullShare (sliceTy (tyRef erased mut (tyInt w32))) l96 0 s·index)
-        ∷ ‵ (fdies (sliceTy (tyRef erased mut (tyInt w32))) l96)
-        ∷ ‵ (fat fullShare (tyRef erased mut (tyInt w32)) l95 0 (vptr b·index o·index))
-        ∷ ‵ (fdies (tyRef erased mut (tyInt w32)) l95)
-        ∷ ‵ (fat fullShare (tyRef erased mut (pointee (CountsT.the-row .written))) l94 0 (vptr l24 0))
-        ∷ ‵ (fdies (tyRef erased mut (pointee (CountsT.the-row .written))) l94)
-        ∷ ‵ (fat fullShare (sliceTy (tyRef erased mut (pointee (FactT.the-row .written)))) l93 0 s·facts)
-        ∷ ‵ (fdies (sliceTy (tyRef erased mut (pointee (FactT.the-row .written)))) l93)
-        ∷ ‵ (fat fullShare (tyRef erased mut (pointee (FactT.the-row .written))) l92 0 (vptr b·facts o·facts))
-        ∷ ‵ (fdies (tyRef erased mut (pointee (FactT.the-row .written))) l92)
-        ∷ ‵ (fat fullShare (sliceTy (tyRef erased mut (tyInt w32))) l91 0 s·ids)
-        ∷ ‵ (fdies (sliceTy (tyRef erased mut (tyInt w32))) l91)
-        ∷ ‵ (fat fullShare (tyRef erased mut (tyInt w32)) l90 0 (vptr b·ids o·ids))
-        ∷ ‵ (fdies (tyRef erased mut (tyInt w32)) l90)
-        ∷ ‵ (fat fullShare (sliceTy (tyRef erased mut (tyInt w32))) l89 0 s·cells)
-        ∷ ‵ (fdies (sliceTy (tyRef erased mut (tyInt w32))) l89)
-        ∷ ‵ (fat fullShare (tyRef erased mut (tyInt w32)) l88 0 (vptr b·cells o·cells))
-        ∷ ‵ (fdies (tyRef erased mut (tyInt w32)) l88)
-        ∷ ‵ (fat fullShare (sliceTy (tyRef erased mut (tyInt w64))) l87 0 s·feet)
-        ∷ ‵ (fdies (sliceTy (tyRef erased mut (tyInt w64))) l87)
-        ∷ ‵ (fat fullShare (tyRef erased mut (tyInt w64)) l86 0 (vptr b·feet o·feet))
-        ∷ ‵ (fdies (tyRef erased mut (tyInt w64)) l86)
-        ∷ ‵ (fat fullShare (sliceTy (tyRef erased mut (tyInt w32))) l85 0 s·kept)
-        ∷ ‵ (fdies (sliceTy (tyRef erased mut (tyInt w32))) l85)
-        ∷ ‵ (fat fullShare (tyRef erased mut (tyInt w32)) l84 0 (vptr b·kept o·kept))
-        ∷ ‵ (fdies (tyRef erased mut (tyInt w32)) l84)
-        ∷ ‵ (fat fullShare (sliceTy (tyRef erased mut (tyInt w32))) l83 0 s·lists)
-        ∷ ‵ (fdies (sliceTy (tyRef erased mut (tyInt w32))) l83)
-        ∷ ‵ (fat fullShare (tyRef erased mut (tyInt w32)) l82 0 (vptr b·lists o·lists))
-        ∷ ‵ (fdies (tyRef erased mut (tyInt w32)) l82)
-        ∷ ‵ (fat fullShare (sliceTy (tyRef erased mut (tyInt w32))) l81 0 s·rows)
-        ∷ ‵ (fdies (sliceTy (tyRef erased mut (tyInt w32))) l81)
-        ∷ ‵ (fat fullShare (tyRef erased mut (tyInt w32)) l80 0 (vptr b·rows o·rows))
-        ∷ ‵ (fdies (tyRef erased mut (tyInt w32)) l80)
-        ∷ ‵ (fat fullShare (sliceTy (tyRef erased mut (tyInt w32))) l79 0 s·defs)
-        ∷ ‵ (fdies (sliceTy (tyRef erased mut (tyInt w32))) l79)
-        ∷ ‵ (fat fullShare (tyRef erased mut (tyInt w32)) l78 0 (vptr b·defs o·defs))
-        ∷ ‵ (fdies (tyRef erased mut (tyInt w32)) l78)
-        ∷ ‵ (fat fullShare (sliceTy (tyRef erased mut (tyInt w32))) l77 0 s·words)
-        ∷ ‵ (fdies (sliceTy (tyRef erased mut (tyInt w32))) l77)
-        ∷ ‵ (fat fullShare (tyRef erased mut (tyInt w32)) l76 0 (vptr b·words o·words))
-        ∷ ‵ (fdies (tyRef erased mut (tyInt w32)) l76)
-        ∷ ‵ (fat fullShare (sliceTy (tyRef erased mut (tyInt w32))) l75 0 s·index)
-        ∷ ‵ (fdies (sliceTy (tyRef erased mut (tyInt w32))) l75)
-        ∷ ‵ (fat fullShare (tyRef erased mut (tyInt w32)) l74 0 (vptr b·index o·index))
-        ∷ ‵ (fdies (tyRef erased mut (tyInt w32)) l74)
-        ∷ ‵ (fat fullShare (sliceTy (tyRef erased mut (tyInt w32))) l73 0 s·vars)
-        ∷ ‵ (fdies (sliceTy (tyRef erased mut (tyInt w32))) l73)
-        ∷ ‵ (fat fullShare (tyRef erased mut (tyInt w32)) l72 0 (vptr b·vars o·vars))
-        ∷ ‵ (fdies (tyRef erased mut (tyInt w32)) l72)
-        ∷ ‵ (fat fullShare (sliceTy (tyRef erased imm (tyInt w32))) l71 0 s·patterns)
-        ∷ ‵ (fdies (sliceTy (tyRef erased imm (tyInt w32))) l71)
-        ∷ ‵ (fat fullShare (tyRef erased imm (tyInt w32)) l70 0 (vptr b·patterns o·patterns))
-        ∷ ‵ (fdies (tyRef erased imm (tyInt w32)) l70)
-        ∷ ‵ (fat fullShare (sliceTy (tyRef erased imm (tyInt w32))) l69 0 s·rulevars)
-        ∷ ‵ (fdies (sliceTy (tyRef erased imm (tyInt w32))) l69)
-        ∷ ‵ (fat fullShare (tyRef erased imm (tyInt w32)) l68 0 (vptr b·rulevars o·rulevars))
-        ∷ ‵ (fdies (tyRef erased imm (tyInt w32)) l68)
-        ∷ ‵ (fat fullShare (sliceTy (tyRef erased imm (tyInt w32))) l67 0 s·rules)
-        ∷ ‵ (fdies (sliceTy (tyRef erased imm (tyInt w32))) l67)
-        ∷ ‵ (fat fullShare (tyRef erased imm (tyInt w32)) l66 0 (vptr b·rules o·rules))
-        ∷ ‵ (fdies (tyRef erased imm (tyInt w32)) l66)
-        ∷ ‵ (fat fullShare (sliceTy (tyRef erased imm (tyInt w32))) l65 0 s·inputs)
-        ∷ ‵ (fdies (sliceTy (tyRef erased imm (tyInt w32))) l65)
-        ∷ ‵ (fat fullShare (tyRef erased imm (tyInt w32)) l64 0 (vptr b·inputs o·inputs))
-        ∷ ‵ (fdies (tyRef erased imm (tyInt w32)) l64)
-        ∷ ‵ (fat fullShare (sliceTy (tyRef erased imm (tyInt w32))) l63 0 s·symbols)
-        ∷ ‵ (fdies (sliceTy (tyRef erased imm (tyInt w32))) l63)
-        ∷ ‵ (fat fullShare (tyRef erased imm (tyInt w32)) l62 0 (vptr b·symbols o·symbols))
-        ∷ ‵ (fdies (tyRef erased imm (tyInt w32)) l62)
-        ∷ ‵ (fat fullShare (sliceTy (tyRef erased imm (tyInt w32))) l61 0 s·sorts)
-        ∷ ‵ (fdies (sliceTy (tyRef erased imm (tyInt w32))) l61)
-        ∷ ‵ (fat fullShare (tyRef erased imm (tyInt w32)) l60 0 (vptr b·sorts o·sorts))
-        ∷ ‵ (fdies (tyRef erased imm (tyInt w32)) l60)
-        ∷ ‵ (fat fullShare CountsL.mir l59 0 va·3·24)
-        ∷ ‵ (fdies CountsL.mir l59)
-        ∷ ‵ (fat fullShare (sliceTy (tyRef erased mut (tyInt w32))) l58 0 s·cells)
-        ∷ ‵ (fdies (sliceTy (tyRef erased mut (tyInt w32))) l58)
-        ∷ ‵ (fat fullShare (tyRef erased mut (tyInt w32)) l57 0 (vptr b·cells o·cells))
-        ∷ ‵ (fdies (tyRef erased mut (tyInt w32)) l57)
-        ∷ ‵ (fat fullShare (sliceTy (tyRef erased imm (tyInt w64))) l56 0 s·feet)
-        ∷ ‵ (fdies (sliceTy (tyRef erased imm (tyInt w64))) l56)
-        ∷ ‵ (fat fullShare (tyRef erased imm (tyInt w64)) l55 0 (vptr b·feet o·feet))
-        ∷ ‵ (fdies (tyRef erased imm (tyInt w64)) l55)
-        ∷ ‵ (fat fullShare (sliceTy (tyRef erased imm (tyInt w32))) l54 0 s·kept)
-        ∷ ‵ (fdies (sliceTy (tyRef erased imm (tyInt w32))) l54)
-        ∷ ‵ (fat fullShare (tyRef erased imm (tyInt w32)) l53 0 (vptr b·kept o·kept))
-        ∷ ‵ (fdies (tyRef erased imm (tyInt w32)) l53)
-        ∷ ‵ (fat fullShare (sliceTy (tyRef erased mut (tyInt w32))) l52 0 s·missing)
-        ∷ ‵ (fdies (sliceTy (tyRef erased mut (tyInt w32))) l52)
-        ∷ ‵ (fat fullShare (tyRef erased mut (tyInt w32)) l51 0 (vptr b·missing o·missing))
-        ∷ ‵ (fdies (tyRef erased mut (tyInt w32)) l51)
-        ∷ ‵ (fat fullShare (sliceTy (tyRef erased mut (tyInt w32))) l50 0 s·lists)
-        ∷ ‵ (fdies (sliceTy (tyRef erased mut (tyInt w32))) l50)
-        ∷ ‵ (fat fullShare (tyRef erased mut (tyInt w32)) l49 0 (vptr b·lists o·lists))
-        ∷ ‵ (fdies (tyRef erased mut (tyInt w32)) l49)
-        ∷ ‵ (fat fullShare (sliceTy (tyRef erased mut (tyInt w32))) l48 0 s·rows)
-        ∷ ‵ (fdies (sliceTy (tyRef erased mut (tyInt w32))) l48)
-        ∷ ‵ (fat fullShare (tyRef erased mut (tyInt w32)) l47 0 (vptr b·rows o·rows))
-        ∷ ‵ (fdies (tyRef erased mut (tyInt w32)) l47)
-        ∷ ‵ (fat fullShare (sliceTy (tyRef erased mut (tyInt w32))) l46 0 s·defs)
-        ∷ ‵ (fdies (sliceTy (tyRef erased mut (tyInt w32))) l46)
-        ∷ ‵ (fat fullShare (tyRef erased mut (tyInt w32)) l45 0 (vptr b·defs o·defs))
-        ∷ ‵ (fdies (tyRef erased mut (tyInt w32)) l45)
-        ∷ ‵ (fat fullShare (sliceTy (tyRef erased mut (tyInt w32))) l44 0 s·words)
-        ∷ ‵ (fdies (sliceTy (tyRef erased mut (tyInt w32))) l44)
-        ∷ ‵ (fat fullShare (tyRef erased mut (tyInt w32)) l43 0 (vptr b·words o·words))
-        ∷ ‵ (fdies (tyRef erased mut (tyInt w32)) l43)
-        ∷ ‵ (fat fullShare (sliceTy (tyRef erased mut (tyInt w32))) l42 0 s·index)
-        ∷ ‵ (fdies (sliceTy (tyRef erased mut (tyInt w32))) l42)
-        ∷ ‵ (fat fullShare (tyRef erased mut (tyInt w32)) l41 0 (vptr b·index o·index))
-        ∷ ‵ (fdies (tyRef erased mut (tyInt w32)) l41)
-        ∷ ‵ (fat fullShare (sliceTy (tyRef erased mut (tyInt w32))) l40 0 s·vars)
-        ∷ ‵ (fdies (sliceTy (tyRef erased mut (tyInt w32))) l40)
-        ∷ ‵ (fat fullShare (tyRef erased mut (tyInt w32)) l39 0 (vptr b·vars o·vars))
-        ∷ ‵ (fdies (tyRef erased mut (tyInt w32)) l39)
-        ∷ ‵ (fat fullShare (sliceTy (tyRef erased mut (tyInt w32))) l38 0 s·patterns)
-        ∷ ‵ (fdies (sliceTy (tyRef erased mut (tyInt w32))) l38)
-        ∷ ‵ (fat fullShare (tyRef erased mut (tyInt w32)) l37 0 (vptr b·patterns o·patterns))
-        ∷ ‵ (fdies (tyRef erased mut (tyInt w32)) l37)
-        ∷ ‵ (fat fullShare (sliceTy (tyRef erased mut (tyInt w32))) l36 0 s·rulevars)
-        ∷ ‵ (fdies (sliceTy (tyRef erased mut (tyInt w32))) l36)
-        ∷ ‵ (fat fullShare (tyRef erased mut (tyInt w32)) l35 0 (vptr b·rulevars o·rulevars))
-        ∷ ‵ (fdies (tyRef erased mut (tyInt w32)) l35)
-        ∷ ‵ (fat fullShare (sliceTy (tyRef erased mut (tyInt w32))) l34 0 s·rules)
-        ∷ ‵ (fdies (sliceTy (tyRef erased mut (tyInt w32))) l34)
-        ∷ ‵ (fat fullShare (tyRef erased mut (tyInt w32)) l33 0 (vptr b·rules o·rules))
-        ∷ ‵ (fdies (tyRef erased mut (tyInt w32)) l33) ∷ [])
-        (frees (((tyRef erased mut (tyInt w32)), l33) ∷ ((sliceTy (tyRef erased mut (tyInt w32))), l34) ∷ ((tyRef erased mut (tyInt w32)), l35)
-        ∷ ((sliceTy (tyRef erased mut (tyInt w32))), l36) ∷ ((tyRef erased mut (tyInt w32)), l37) ∷ ((sliceTy (tyRef erased mut (tyInt w32))), l38)
-        ∷ ((tyRef erased mut (tyInt w32)), l39) ∷ ((sliceTy (tyRef erased mut (tyInt w32))), l40) ∷ ((tyRef erased mut (tyInt w32)), l41)
-        ∷ ((sliceTy (tyRef erased mut (tyInt w32))), l42) ∷ ((tyRef erased mut (tyInt w32)), l43) ∷ ((sliceTy (tyRef erased mut (tyInt w32))), l44)
-        ∷ ((tyRef erased mut (tyInt w32)), l45) ∷ ((sliceTy (tyRef erased mut (tyInt w32))), l46) ∷ ((tyRef erased mut (tyInt w32)), l47)
-        ∷ ((sliceTy (tyRef erased mut (tyInt w32))), l48) ∷ ((tyRef erased mut (tyInt w32)), l49) ∷ ((sliceTy (tyRef erased mut (tyInt w32))), l50)
-        ∷ ((tyRef erased mut (tyInt w32)), l51) ∷ ((sliceTy (tyRef erased mut (tyInt w32))), l52) ∷ ((tyRef erased imm (tyInt w32)), l53)
-        ∷ ((sliceTy (tyRef erased imm (tyInt w32))), l54) ∷ ((tyRef erased imm (tyInt w64)), l55) ∷ ((sliceTy (tyRef erased imm (tyInt w64))), l56)
-        ∷ ((tyRef erased mut (tyInt w32)), l57) ∷ ((sliceTy (tyRef erased mut (tyInt w32))), l58) ∷ (CountsL.mir, l59)
-        ∷ ((tyRef erased imm (tyInt w32)), l60) ∷ ((sliceTy (tyRef erased imm (tyInt w32))), l61) ∷ ((tyRef erased imm (tyInt w32)), l62)
-        ∷ ((sliceTy (tyRef erased imm (tyInt w32))), l63) ∷ ((tyRef erased imm (tyInt w32)), l64) ∷ ((sliceTy (tyRef erased imm (tyInt w32))), l65)
-        ∷ ((tyRef erased imm (tyInt w32)), l66) ∷ ((sliceTy (tyRef erased imm (tyInt w32))), l67) ∷ ((tyRef erased imm (tyInt w32)), l68)
-        ∷ ((sliceTy (tyRef erased imm (tyInt w32))), l69) ∷ ((tyRef erased imm (tyInt w32)), l70) ∷ ((sliceTy (tyRef erased imm (tyInt w32))), l71)
-        ∷ ((tyRef erased mut (tyInt w32)), l72) ∷ ((sliceTy (tyRef erased mut (tyInt w32))), l73) ∷ ((tyRef erased mut (tyInt w32)), l74)
-        ∷ ((sliceTy (tyRef erased mut (tyInt w32))), l75) ∷ ((tyRef erased mut (tyInt w32)), l76) ∷ ((sliceTy (tyRef erased mut (tyInt w32))), l77)
-        ∷ ((tyRef erased mut (tyInt w32)), l78) ∷ ((sliceTy (tyRef erased mut (tyInt w32))), l79) ∷ ((tyRef erased mut (tyInt w32)), l80)
-        ∷ ((sliceTy (tyRef erased mut (tyInt w32))), l81) ∷ ((tyRef erased mut (tyInt w32)), l82) ∷ ((sliceTy (tyRef erased mut (tyInt w32))), l83)
-        ∷ ((tyRef erased mut (tyInt w32)), l84) ∷ ((sliceTy (tyRef erased mut (tyInt w32))), l85) ∷ ((tyRef erased mut (tyInt w64)), l86)
-        ∷ ((sliceTy (tyRef erased mut (tyInt w64))), l87) ∷ ((tyRef erased mut (tyInt w32)), l88) ∷ ((sliceTy (tyRef erased mut (tyInt w32))), l89)
-        ∷ ((tyRef erased mut (tyInt w32)), l90) ∷ ((sliceTy (tyRef erased mut (tyInt w32))), l91)
-        ∷ ((tyRef erased mut (pointee (FactT.the-row .written))), l92) ∷ ((sliceTy (tyRef erased mut (pointee (FactT.the-row .written)))), l93)
-        ∷ ((tyRef erased mut (pointee (CountsT.the-row .written))), l94) ∷ ((tyRef erased mut (tyInt w32)), l95)
-        ∷ ((sliceTy (tyRef erased mut (tyInt w32))), l96) ∷ ((tyRef erased imm (tyInt w32)), l97) ∷ ((sliceTy (tyRef erased imm (tyInt w32))), l98)
-        ∷ ((tyRef erased imm (tyInt w32)), l99) ∷ ((sliceTy (tyRef erased imm (tyInt w32))), l100) ∷ ((tyRef erased mut (tyInt w32)), l101)
-        ∷ ((sliceTy (tyRef erased mut (tyInt w32))), l102) ∷ (tyUnit, l103) ∷ ((tyRef erased mut (pointee (FactT.the-row .written))), l104)
-        ∷ ((sliceTy (tyRef erased mut (pointee (FactT.the-row .written)))), l105) ∷ ((tyInt w64), l106) ∷ ((tyInt w64), l107) ∷ []) (prop (Post v4)))
+        ∷ ‵ (fat fullShare (tyInt w64) l110 0 v6)
+        ∷ ‵ (fdies (tyInt w64) l110)
+        ∷ ‵ (fat fullShare (tyInt w64) l109 0 v5)
+        ∷ ‵ (fdies (tyInt w64) l109)
+        ∷ ‵ (fat fullShare (sliceTy (tyRef erased mut (pointee (FactT.the-row .written)))) l108 0 s·facts)
+        ∷ ‵ (fdies (sliceTy (tyRef erased mut (pointee (FactT.the-row .written)))) l108)
+        ∷ ‵ (fat fullShare (tyRef erased mut (pointee (FactT.the-row .written))) l107 0 (vptr b·facts o·facts))
+        ∷ ‵ (fdies (tyRef erased mut (pointee (FactT.the-row .written))) l107)
+        ∷ ‵ (fat fullShare tyUnit l106 0 v7)
+        ∷ ‵ (fdies tyUnit l106)
+        ∷ ‵ (fat fullShare (sliceTy (tyRef erased mut (tyInt w32))) l105 0 s·missing)
+        ∷ ‵ (fdies (sliceTy (tyRef erased mut (tyInt w32))) l105)
+        ∷ ‵ (fat fullShare (tyRef erased mut (tyInt w32)) l104 0 (vptr b·missing o·missing))
+        ∷ ‵ (fdies (tyRef erased mut (tyInt w32)) l104)
+        ∷ ‵ (fat fullShare (sliceTy (tyRef erased imm (tyInt w32))) l103 0 s·rows)
+        ∷ ‵ (fdies (sliceTy (tyRef erased imm (tyInt w32))) l103)
+        ∷ ‵ (fat fullShare (tyRef erased imm (tyInt w32)) l102 0 (vptr b·rows o·rows))
+        ∷ ‵ (fdies (tyRef erased imm (tyInt w32)) l102)
+        ∷ ‵ (fat fullShare (sliceTy (tyRef erased imm (tyInt w32))) l101 0 s·words)
+        ∷ ‵ (fdies (sliceTy (tyRef erased imm (tyInt w32))) l101)
+        ∷ ‵ (fat fullShare (tyRef erased imm (tyInt w32)) l100 0 (vptr b·words o·words))
+        ∷ ‵ (fdies (tyRef erased imm (tyInt w32)) l100)
+        ∷ ‵ (fat fullShare (sliceTy (tyRef erased mut (tyInt w32))) l99 0 s·index)
+        ∷ ‵ (fdies (sliceTy (tyRef erased mut (tyInt w32))) l99)
+        ∷ ‵ (fat fullShare (tyRef erased mut (tyInt w32)) l98 0 (vptr b·index o·index))
+        ∷ ‵ (fdies (tyRef erased mut (tyInt w32)) l98)
+        ∷ ‵ (fat fullShare (tyRef erased mut (pointee (CountsT.the-row .written))) l97 0 (vptr l25 0))
+        ∷ ‵ (fdies (tyRef erased mut (pointee (CountsT.the-row .written))) l97)
+        ∷ ‵ (fat fullShare (sliceTy (tyRef erased mut (pointee (FactT.the-row .written)))) l96 0 s·facts)
+        ∷ ‵ (fdies (sliceTy (tyRef erased mut (pointee (FactT.the-row .written)))) l96)
+        ∷ ‵ (fat fullShare (tyRef erased mut (pointee (FactT.the-row .written))) l95 0 (vptr b·facts o·facts))
+        ∷ ‵ (fdies (tyRef erased mut (pointee (FactT.the-row .written))) l95)
+        ∷ ‵ (fat fullShare (sliceTy (tyRef erased mut (tyInt w32))) l94 0 s·memo)
+        ∷ ‵ (fdies (sliceTy (tyRef erased mut (tyInt w32))) l94)
+        ∷ ‵ (fat fullShare (tyRef erased mut (tyInt w32)) l93 0 (vptr b·memo o·memo))
+        ∷ ‵ (fdies (tyRef erased mut (tyInt w32)) l93)
+        ∷ ‵ (fat fullShare (sliceTy (tyRef erased mut (tyInt w32))) l92 0 s·ids)
+        ∷ ‵ (fdies (sliceTy (tyRef erased mut (tyInt w32))) l92)
+        ∷ ‵ (fat fullShare (tyRef erased mut (tyInt w32)) l91 0 (vptr b·ids o·ids))
+        ∷ ‵ (fdies (tyRef erased mut (tyInt w32)) l91)
+        ∷ ‵ (fat fullShare (sliceTy (tyRef erased mut (tyInt w32))) l90 0 s·cells)
+        ∷ ‵ (fdies (sliceTy (tyRef erased mut (tyInt w32))) l90)
+        ∷ ‵ (fat fullShare (tyRef erased mut (tyInt w32)) l89 0 (vptr b·cells o·cells))
+        ∷ ‵ (fdies (tyRef erased mut (tyInt w32)) l89)
+        ∷ ‵ (fat fullShare (sliceTy (tyRef erased mut (tyInt w64))) l88 0 s·feet)
+        ∷ ‵ (fdies (sliceTy (tyRef erased mut (tyInt w64))) l88)
+        ∷ ‵ (fat fullShare (tyRef erased mut (tyInt w64)) l87 0 (vptr b·feet o·feet))
+        ∷ ‵ (fdies (tyRef erased mut (tyInt w64)) l87)
+        ∷ ‵ (fat fullShare (sliceTy (tyRef erased mut (tyInt w32))) l86 0 s·kept)
+        ∷ ‵ (fdies (sliceTy (tyRef erased mut (tyInt w32))) l86)
+        ∷ ‵ (fat fullShare (tyRef erased mut (tyInt w32)) l85 0 (vptr b·kept o·kept))
+        ∷ ‵ (fdies (tyRef erased mut (tyInt w32)) l85)
+        ∷ ‵ (fat fullShare (sliceTy (tyRef erased mut (tyInt w32))) l84 0 s·lists)
+        ∷ ‵ (fdies (sliceTy (tyRef erased mut (tyInt w32))) l84)
+        ∷ ‵ (fat fullShare (tyRef erased mut (tyInt w32)) l83 0 (vptr b·lists o·lists))
+        ∷ ‵ (fdies (tyRef erased mut (tyInt w32)) l83)
+        ∷ ‵ (fat fullShare (sliceTy (tyRef erased mut (tyInt w32))) l82 0 s·rows)
+        ∷ ‵ (fdies (sliceTy (tyRef erased mut (tyInt w32))) l82)
+        ∷ ‵ (fat fullShare (tyRef erased mut (tyInt w32)) l81 0 (vptr b·rows o·rows))
+        ∷ ‵ (fdies (tyRef erased mut (tyInt w32)) l81)
+        ∷ ‵ (fat fullShare (sliceTy (tyRef erased mut (tyInt w32))) l80 0 s·defs)
+        ∷ ‵ (fdies (sliceTy (tyRef erased mut (tyInt w32))) l80)
+        ∷ ‵ (fat fullShare (tyRef erased mut (tyInt w32)) l79 0 (vptr b·defs o·defs))
+        ∷ ‵ (fdies (tyRef erased mut (tyInt w32)) l79)
+        ∷ ‵ (fat fullShare (sliceTy (tyRef erased mut (tyInt w32))) l78 0 s·words)
+        ∷ ‵ (fdies (sliceTy (tyRef erased mut (tyInt w32))) l78)
+        ∷ ‵ (fat fullShare (tyRef erased mut (tyInt w32)) l77 0 (vptr b·words o·words))
+        ∷ ‵ (fdies (tyRef erased mut (tyInt w32)) l77)
+        ∷ ‵ (fat fullShare (sliceTy (tyRef erased mut (tyInt w32))) l76 0 s·index)
+        ∷ ‵ (fdies (sliceTy (tyRef erased mut (tyInt w32))) l76)
+        ∷ ‵ (fat fullShare (tyRef erased mut (tyInt w32)) l75 0 (vptr b·index o·index))
+        ∷ ‵ (fdies (tyRef erased mut (tyInt w32)) l75)
+        ∷ ‵ (fat fullShare (sliceTy (tyRef erased mut (tyInt w32))) l74 0 s·vars)
+        ∷ ‵ (fdies (sliceTy (tyRef erased mut (tyInt w32))) l74)
+        ∷ ‵ (fat fullShare (tyRef erased mut (tyInt w32)) l73 0 (vptr b·vars o·vars))
+        ∷ ‵ (fdies (tyRef erased mut (tyInt w32)) l73)
+        ∷ ‵ (fat fullShare (sliceTy (tyRef erased imm (tyInt w32))) l72 0 s·patterns)
+        ∷ ‵ (fdies (sliceTy (tyRef erased imm (tyInt w32))) l72)
+        ∷ ‵ (fat fullShare (tyRef erased imm (tyInt w32)) l71 0 (vptr b·patterns o·patterns))
+        ∷ ‵ (fdies (tyRef erased imm (tyInt w32)) l71)
+        ∷ ‵ (fat fullShare (sliceTy (tyRef erased imm (tyInt w32))) l70 0 s·rulevars)
+        ∷ ‵ (fdies (sliceTy (tyRef erased imm (tyInt w32))) l70)
+        ∷ ‵ (fat fullShare (tyRef erased imm (tyInt w32)) l69 0 (vptr b·rulevars o·rulevars))
+        ∷ ‵ (fdies (tyRef erased imm (tyInt w32)) l69)
+        ∷ ‵ (fat fullShare (sliceTy (tyRef erased imm (tyInt w32))) l68 0 s·rules)
+        ∷ ‵ (fdies (sliceTy (tyRef erased imm (tyInt w32))) l68)
+        ∷ ‵ (fat fullShare (tyRef erased imm (tyInt w32)) l67 0 (vptr b·rules o·rules))
+        ∷ ‵ (fdies (tyRef erased imm (tyInt w32)) l67)
+        ∷ ‵ (fat fullShare (sliceTy (tyRef erased imm (tyInt w32))) l66 0 s·inputs)
+        ∷ ‵ (fdies (sliceTy (tyRef erased imm (tyInt w32))) l66)
+        ∷ ‵ (fat fullShare (tyRef erased imm (tyInt w32)) l65 0 (vptr b·inputs o·inputs))
+        ∷ ‵ (fdies (tyRef erased imm (tyInt w32)) l65)
+        ∷ ‵ (fat fullShare (sliceTy (tyRef erased imm (tyInt w32))) l64 0 s·symbols)
+        ∷ ‵ (fdies (sliceTy (tyRef erased imm (tyInt w32))) l64)
+        ∷ ‵ (fat fullShare (tyRef erased imm (tyInt w32)) l63 0 (vptr b·symbols o·symbols))
+        ∷ ‵ (fdies (tyRef erased imm (tyInt w32)) l63)
+        ∷ ‵ (fat fullShare (sliceTy (tyRef erased imm (tyInt w32))) l62 0 s·sorts)
+        ∷ ‵ (fdies (sliceTy (tyRef erased imm (tyInt w32))) l62)
+        ∷ ‵ (fat fullShare (tyRef erased imm (tyInt w32)) l61 0 (vptr b·sorts o·sorts))
+        ∷ ‵ (fdies (tyRef erased imm (tyInt w32)) l61)
+        ∷ ‵ (fat fullShare CountsL.mir l60 0 va·3·25)
+        ∷ ‵ (fdies CountsL.mir l60)
+        ∷ ‵ (fat fullShare (sliceTy (tyRef erased mut (tyInt w32))) l59 0 s·cells)
+        ∷ ‵ (fdies (sliceTy (tyRef erased mut (tyInt w32))) l59)
+        ∷ ‵ (fat fullShare (tyRef erased mut (tyInt w32)) l58 0 (vptr b·cells o·cells))
+        ∷ ‵ (fdies (tyRef erased mut (tyInt w32)) l58)
+        ∷ ‵ (fat fullShare (sliceTy (tyRef erased imm (tyInt w64))) l57 0 s·feet)
+        ∷ ‵ (fdies (sliceTy (tyRef erased imm (tyInt w64))) l57)
+        ∷ ‵ (fat fullShare (tyRef erased imm (tyInt w64)) l56 0 (vptr b·feet o·feet))
+        ∷ ‵ (fdies (tyRef erased imm (tyInt w64)) l56)
+        ∷ ‵ (fat fullShare (sliceTy (tyRef erased imm (tyInt w32))) l55 0 s·kept)
+        ∷ ‵ (fdies (sliceTy (tyRef erased imm (tyInt w32))) l55)
+        ∷ ‵ (fat fullShare (tyRef erased imm (tyInt w32)) l54 0 (vptr b·kept o·kept))
+        ∷ ‵ (fdies (tyRef erased imm (tyInt w32)) l54)
+        ∷ ‵ (fat fullShare (sliceTy (tyRef erased mut (tyInt w32))) l53 0 s·missing)
+        ∷ ‵ (fdies (sliceTy (tyRef erased mut (tyInt w32))) l53)
+        ∷ ‵ (fat fullShare (tyRef erased mut (tyInt w32)) l52 0 (vptr b·missing o·missing))
+        ∷ ‵ (fdies (tyRef erased mut (tyInt w32)) l52)
+        ∷ ‵ (fat fullShare (sliceTy (tyRef erased mut (tyInt w32))) l51 0 s·lists)
+        ∷ ‵ (fdies (sliceTy (tyRef erased mut (tyInt w32))) l51)
+        ∷ ‵ (fat fullShare (tyRef erased mut (tyInt w32)) l50 0 (vptr b·lists o·lists))
+        ∷ ‵ (fdies (tyRef erased mut (tyInt w32)) l50)
+        ∷ ‵ (fat fullShare (sliceTy (tyRef erased mut (tyInt w32))) l49 0 s·rows)
+        ∷ ‵ (fdies (sliceTy (tyRef erased mut (tyInt w32))) l49)
+        ∷ ‵ (fat fullShare (tyRef erased mut (tyInt w32)) l48 0 (vptr b·rows o·rows))
+        ∷ ‵ (fdies (tyRef erased mut (tyInt w32)) l48)
+        ∷ ‵ (fat fullShare (sliceTy (tyRef erased mut (tyInt w32))) l47 0 s·defs)
+        ∷ ‵ (fdies (sliceTy (tyRef erased mut (tyInt w32))) l47)
+        ∷ ‵ (fat fullShare (tyRef erased mut (tyInt w32)) l46 0 (vptr b·defs o·defs))
+        ∷ ‵ (fdies (tyRef erased mut (tyInt w32)) l46)
+        ∷ ‵ (fat fullShare (sliceTy (tyRef erased mut (tyInt w32))) l45 0 s·words)
+        ∷ ‵ (fdies (sliceTy (tyRef erased mut (tyInt w32))) l45)
+        ∷ ‵ (fat fullShare (tyRef erased mut (tyInt w32)) l44 0 (vptr b·words o·words))
+        ∷ ‵ (fdies (tyRef erased mut (tyInt w32)) l44)
+        ∷ ‵ (fat fullShare (sliceTy (tyRef erased mut (tyInt w32))) l43 0 s·index)
+        ∷ ‵ (fdies (sliceTy (tyRef erased mut (tyInt w32))) l43)
+        ∷ ‵ (fat fullShare (tyRef erased mut (tyInt w32)) l42 0 (vptr b·index o·index))
+        ∷ ‵ (fdies (tyRef erased mut (tyInt w32)) l42)
+        ∷ ‵ (fat fullShare (sliceTy (tyRef erased mut (tyInt w32))) l41 0 s·vars)
+        ∷ ‵ (fdies (sliceTy (tyRef erased mut (tyInt w32))) l41)
+        ∷ ‵ (fat fullShare (tyRef erased mut (tyInt w32)) l40 0 (vptr b·vars o·vars))
+        ∷ ‵ (fdies (tyRef erased mut (tyInt w32)) l40)
+        ∷ ‵ (fat fullShare (sliceTy (tyRef erased mut (tyInt w32))) l39 0 s·patterns)
+        ∷ ‵ (fdies (sliceTy (tyRef erased mut (tyInt w32))) l39)
+        ∷ ‵ (fat fullShare (tyRef erased mut (tyInt w32)) l38 0 (vptr b·patterns o·patterns))
+        ∷ ‵ (fdies (tyRef erased mut (tyInt w32)) l38)
+        ∷ ‵ (fat fullShare (sliceTy (tyRef erased mut (tyInt w32))) l37 0 s·rulevars)
+        ∷ ‵ (fdies (sliceTy (tyRef erased mut (tyInt w32))) l37)
+        ∷ ‵ (fat fullShare (tyRef erased mut (tyInt w32)) l36 0 (vptr b·rulevars o·rulevars))
+        ∷ ‵ (fdies (tyRef erased mut (tyInt w32)) l36)
+        ∷ ‵ (fat fullShare (sliceTy (tyRef erased mut (tyInt w32))) l35 0 s·rules)
+        ∷ ‵ (fdies (sliceTy (tyRef erased mut (tyInt w32))) l35)
+        ∷ ‵ (fat fullShare (tyRef erased mut (tyInt w32)) l34 0 (vptr b·rules o·rules))
+        ∷ ‵ (fdies (tyRef erased mut (tyInt w32)) l34)
+        ∷ ‵ (fat fullShare (sliceTy (tyRef erased mut (tyInt w32))) l33 0 s·inputs)
+        ∷ ‵ (fdies (sliceTy (tyRef erased mut (tyInt w32))) l33) ∷ [])
+        (frees (((sliceTy (tyRef erased mut (tyInt w32))), l33) ∷ ((tyRef erased mut (tyInt w32)), l34)
+        ∷ ((sliceTy (tyRef erased mut (tyInt w32))), l35) ∷ ((tyRef erased mut (tyInt w32)), l36) ∷ ((sliceTy (tyRef erased mut (tyInt w32))), l37)
+        ∷ ((tyRef erased mut (tyInt w32)), l38) ∷ ((sliceTy (tyRef erased mut (tyInt w32))), l39) ∷ ((tyRef erased mut (tyInt w32)), l40)
+        ∷ ((sliceTy (tyRef erased mut (tyInt w32))), l41) ∷ ((tyRef erased mut (tyInt w32)), l42) ∷ ((sliceTy (tyRef erased mut (tyInt w32))), l43)
+        ∷ ((tyRef erased mut (tyInt w32)), l44) ∷ ((sliceTy (tyRef erased mut (tyInt w32))), l45) ∷ ((tyRef erased mut (tyInt w32)), l46)
+        ∷ ((sliceTy (tyRef erased mut (tyInt w32))), l47) ∷ ((tyRef erased mut (tyInt w32)), l48) ∷ ((sliceTy (tyRef erased mut (tyInt w32))), l49)
+        ∷ ((tyRef erased mut (tyInt w32)), l50) ∷ ((sliceTy (tyRef erased mut (tyInt w32))), l51) ∷ ((tyRef erased mut (tyInt w32)), l52)
+        ∷ ((sliceTy (tyRef erased mut (tyInt w32))), l53) ∷ ((tyRef erased imm (tyInt w32)), l54) ∷ ((sliceTy (tyRef erased imm (tyInt w32))), l55)
+        ∷ ((tyRef erased imm (tyInt w64)), l56) ∷ ((sliceTy (tyRef erased imm (tyInt w64))), l57) ∷ ((tyRef erased mut (tyInt w32)), l58)
+        ∷ ((sliceTy (tyRef erased mut (tyInt w32))), l59) ∷ (CountsL.mir, l60) ∷ ((tyRef erased imm (tyInt w32)), l61)
+        ∷ ((sliceTy (tyRef erased imm (tyInt w32))), l62) ∷ ((tyRef erased imm (tyInt w32)), l63) ∷ ((sliceTy (tyRef erased imm (tyInt w32))), l64)
+        ∷ ((tyRef erased imm (tyInt w32)), l65) ∷ ((sliceTy (tyRef erased imm (tyInt w32))), l66) ∷ ((tyRef erased imm (tyInt w32)), l67)
+        ∷ ((sliceTy (tyRef erased imm (tyInt w32))), l68) ∷ ((tyRef erased imm (tyInt w32)), l69) ∷ ((sliceTy (tyRef erased imm (tyInt w32))), l70)
+        ∷ ((tyRef erased imm (tyInt w32)), l71) ∷ ((sliceTy (tyRef erased imm (tyInt w32))), l72) ∷ ((tyRef erased mut (tyInt w32)), l73)
+        ∷ ((sliceTy (tyRef erased mut (tyInt w32))), l74) ∷ ((tyRef erased mut (tyInt w32)), l75) ∷ ((sliceTy (tyRef erased mut (tyInt w32))), l76)
+        ∷ ((tyRef erased mut (tyInt w32)), l77) ∷ ((sliceTy (tyRef erased mut (tyInt w32))), l78) ∷ ((tyRef erased mut (tyInt w32)), l79)
+        ∷ ((sliceTy (tyRef erased mut (tyInt w32))), l80) ∷ ((tyRef erased mut (tyInt w32)), l81) ∷ ((sliceTy (tyRef erased mut (tyInt w32))), l82)
+        ∷ ((tyRef erased mut (tyInt w32)), l83) ∷ ((sliceTy (tyRef erased mut (tyInt w32))), l84) ∷ ((tyRef erased mut (tyInt w32)), l85)
+        ∷ ((sliceTy (tyRef erased mut (tyInt w32))), l86) ∷ ((tyRef erased mut (tyInt w64)), l87) ∷ ((sliceTy (tyRef erased mut (tyInt w64))), l88)
+        ∷ ((tyRef erased mut (tyInt w32)), l89) ∷ ((sliceTy (tyRef erased mut (tyInt w32))), l90) ∷ ((tyRef erased mut (tyInt w32)), l91)
+        ∷ ((sliceTy (tyRef erased mut (tyInt w32))), l92) ∷ ((tyRef erased mut (tyInt w32)), l93) ∷ ((sliceTy (tyRef erased mut (tyInt w32))), l94)
+        ∷ ((tyRef erased mut (pointee (FactT.the-row .written))), l95) ∷ ((sliceTy (tyRef erased mut (pointee (FactT.the-row .written)))), l96)
+        ∷ ((tyRef erased mut (pointee (CountsT.the-row .written))), l97) ∷ ((tyRef erased mut (tyInt w32)), l98)
+        ∷ ((sliceTy (tyRef erased mut (tyInt w32))), l99) ∷ ((tyRef erased imm (tyInt w32)), l100) ∷ ((sliceTy (tyRef erased imm (tyInt w32))), l101)
+        ∷ ((tyRef erased imm (tyInt w32)), l102) ∷ ((sliceTy (tyRef erased imm (tyInt w32))), l103) ∷ ((tyRef erased mut (tyInt w32)), l104)
+        ∷ ((sliceTy (tyRef erased mut (tyInt w32))), l105) ∷ (tyUnit, l106) ∷ ((tyRef erased mut (pointee (FactT.the-row .written))), l107)
+        ∷ ((sliceTy (tyRef erased mut (pointee (FactT.the-row .written)))), l108) ∷ ((tyInt w64), l109) ∷ ((tyInt w64), l110) ∷ []) (prop (Post v4)))
     seg·15 l0 l1 l2 l3 l4 l5 l6 l7 l8 l9 l10 l11 l12 l13 l14 l15 l16 l17 l18 l19 l20 l21 l22 l23 l24 l25 l26 l27 l28 l29 l30 l31 l32 l33 l34 l35 l36
         l37 l38 l39 l40 l41 l42 l43 l44 l45 l46 l47 l48 l49 l50 l51 l52 l53 l54 l55 l56 l57 l58 l59 l60 l61 l62 l63 l64 l65 l66 l67 l68 l69 l70 l71
         l72 l73 l74 l75 l76 l77 l78 l79 l80 l81 l82 l83 l84 l85 l86 l87 l88 l89 l90 l91 l92 l93 l94 l95 l96 l97 l98 l99 l100 l101 l102 l103 l104
-        l105 l106 l107 ν·1·3 δ·1·3 ν·1·4 δ·1·4 ν·1·5 δ·1·5 ν·1·6 δ·1·6 ν·1·7 δ·1·7 ν·1·8 δ·1·8 ν·1·9 δ·1·9 ν·1·10 δ·1·10 ν·1·11 δ·1·11 ν·1·12
-        δ·1·12 ν·1·13 δ·1·13 ν·1·14 δ·1·14 ν·1·15 δ·1·15 ν·1·16 δ·1·16 ν·1·17 δ·1·17 ν·1·18 δ·1·18 v1 r1 ws1 e1·0 e1·1 len·1·sorts
-        len·1·symbols len·1·inputs len·1·rules len·1·rulevars len·1·patterns len·1·vars len·1·index len·1·words len·1·defs len·1·rows
-        len·1·lists len·1·missing len·1·cells is1 v2 r2 ws2 e2 is2 ν·3·4 δ·3·4 ν·3·5 δ·3·5 ν·3·6 δ·3·6 ν·3·7 δ·3·7 ν·3·8 δ·3·8
-        ν·3·9 δ·3·9 ν·3·11 δ·3·11 ν·3·12 δ·3·12 ν·3·14 δ·3·14 ν·3·20 δ·3·20 ν·3·21 δ·3·21 v3 r3 ws3 e3 len·3·vars len·3·index
-        len·3·words len·3·defs len·3·rows len·3·lists len·3·kept len·3·feet len·3·cells len·3·ids len·3·facts is3 va·3·24
-        isa·3·24 ν·4·3 δ·4·3 ν·4·4 δ·4·4 v4 r4 ws4 e4·0 e4·1 len·4·index len·4·missing is4 v5 r5 ws5 e5 is5 v6 r6 ws6
-        e6 is6 v7 r7 ws7 e7 len·7·facts is7 =
+        l105 l106 l107 l108 l109 l110 ν·1·3 δ·1·3 ν·1·4 δ·1·4 ν·1·5 δ·1·5 ν·1·6 δ·1·6 ν·1·7 δ·1·7 ν·1·8 δ·1·8 ν·1·9 δ·1·9 ν·1·10 δ·1·10 ν·1·11
+        δ·1·11 ν·1·12 δ·1·12 ν·1·13 δ·1·13 ν·1·14 δ·1·14 ν·1·15 δ·1·15 ν·1·16 δ·1·16 ν·1·17 δ·1·17 ν·1·18 δ·1·18 v1 r1 ws1 e1·0 e1·1
+        len·1·sorts len·1·symbols len·1·inputs len·1·rules len·1·rulevars len·1·patterns len·1·vars len·1·index len·1·words len·1·defs
+        len·1·rows len·1·lists len·1·missing len·1·cells is1 v2 r2 ws2 e2 is2 ν·3·4 δ·3·4 ν·3·5 δ·3·5 ν·3·6 δ·3·6 ν·3·7 δ·3·7
+        ν·3·8 δ·3·8 ν·3·9 δ·3·9 ν·3·11 δ·3·11 ν·3·12 δ·3·12 ν·3·14 δ·3·14 ν·3·21 δ·3·21 ν·3·22 δ·3·22 v3 r3 ws3 e3 len·3·vars
+        len·3·index len·3·words len·3·defs len·3·rows len·3·lists len·3·kept len·3·feet len·3·cells len·3·ids len·3·memo
+        len·3·facts is3 va·3·25 isa·3·25 ν·4·3 δ·4·3 ν·4·4 δ·4·4 v4 r4 ws4 e4·0 e4·1 len·4·index len·4·missing is4 v5
+        r5 ws5 e5 is5 v6 r6 ws6 e6 is6 v7 r7 ws7 e7 len·7·facts is7 =
+        forget ! 198 refl $
+        move ! (198 ∷ 199 ∷ []) $
+        free1 ! $
+        forget ! 196 refl $
+        move ! (196 ∷ 197 ∷ []) $
+        free1 ! $
+        forget ! 194 refl $
+        move ! (194 ∷ 195 ∷ []) $
+        free1 ! $
+        forget ! 192 refl $
+        move ! (192 ∷ 193 ∷ []) $
+        free1 ! $
         forget ! 190 refl $
         move ! (190 ∷ 191 ∷ []) $
         free1 ! $
@@ -1970,31 +2104,16 @@ module _ {M : Type 1} (𝓤 : URA M) (H : Heap 𝓤) (A : Atoms 𝓤) (W : Given
         forget ! 162 refl $
         move ! (162 ∷ 163 ∷ []) $
         free1 ! $
-        forget ! 160 refl $
-        move ! (160 ∷ 161 ∷ []) $
-        free1 ! $
-        forget ! 158 refl $
-        move ! (158 ∷ 159 ∷ []) $
-        free1 ! $
-        forget ! 156 refl $
-        move ! (156 ∷ 157 ∷ []) $
-        free1 ! $
-        forget ! 154 refl $
-        move ! (154 ∷ 155 ∷ []) $
-        free1 ! $
-        forget ! 152 refl $
-        move ! (152 ∷ 153 ∷ []) $
-        free1 ! $
         seg·16 l0 l1 l2 l3 l4 l5 l6 l7 l8 l9 l10 l11 l12 l13 l14 l15 l16 l17 l18 l19 l20 l21 l22 l23 l24 l25 l26 l27 l28 l29 l30 l31 l32 l33 l34 l35
         l36 l37 l38 l39 l40 l41 l42 l43 l44 l45 l46 l47 l48 l49 l50 l51 l52 l53 l54 l55 l56 l57 l58 l59 l60 l61 l62 l63 l64 l65 l66 l67 l68 l69 l70
         l71 l72 l73 l74 l75 l76 l77 l78 l79 l80 l81 l82 l83 l84 l85 l86 l87 l88 l89 l90 l91 l92 l93 l94 l95 l96 l97 l98 l99 l100 l101 l102 l103 l104
-        l105 l106 l107 ν·1·3 δ·1·3 ν·1·4 δ·1·4 ν·1·5 δ·1·5 ν·1·6 δ·1·6 ν·1·7 δ·1·7 ν·1·8 δ·1·8 ν·1·9 δ·1·9 ν·1·10 δ·1·10 ν·1·11 δ·1·11 ν·1·12 δ·1·12
-        ν·1·13 δ·1·13 ν·1·14 δ·1·14 ν·1·15 δ·1·15 ν·1·16 δ·1·16 ν·1·17 δ·1·17 ν·1·18 δ·1·18 v1 r1 ws1 e1·0 e1·1 len·1·sorts len·1·symbols len·1·inputs
-        len·1·rules len·1·rulevars len·1·patterns len·1·vars len·1·index len·1·words len·1·defs len·1·rows len·1·lists len·1·missing len·1·cells is1
-        v2 r2 ws2 e2 is2 ν·3·4 δ·3·4 ν·3·5 δ·3·5 ν·3·6 δ·3·6 ν·3·7 δ·3·7 ν·3·8 δ·3·8 ν·3·9 δ·3·9 ν·3·11 δ·3·11 ν·3·12 δ·3·12 ν·3·14 δ·3·14 ν·3·20
-        δ·3·20 ν·3·21 δ·3·21 v3 r3 ws3 e3 len·3·vars len·3·index len·3·words len·3·defs len·3·rows len·3·lists len·3·kept len·3·feet len·3·cells
-        len·3·ids len·3·facts is3 va·3·24 isa·3·24 ν·4·3 δ·4·3 ν·4·4 δ·4·4 v4 r4 ws4 e4·0 e4·1 len·4·index len·4·missing is4 v5 r5 ws5 e5 is5 v6 r6
-        ws6 e6 is6 v7 r7 ws7 e7 len·7·facts is7
+        l105 l106 l107 l108 l109 l110 ν·1·3 δ·1·3 ν·1·4 δ·1·4 ν·1·5 δ·1·5 ν·1·6 δ·1·6 ν·1·7 δ·1·7 ν·1·8 δ·1·8 ν·1·9 δ·1·9 ν·1·10 δ·1·10 ν·1·11 δ·1·11
+        ν·1·12 δ·1·12 ν·1·13 δ·1·13 ν·1·14 δ·1·14 ν·1·15 δ·1·15 ν·1·16 δ·1·16 ν·1·17 δ·1·17 ν·1·18 δ·1·18 v1 r1 ws1 e1·0 e1·1 len·1·sorts
+        len·1·symbols len·1·inputs len·1·rules len·1·rulevars len·1·patterns len·1·vars len·1·index len·1·words len·1·defs len·1·rows len·1·lists
+        len·1·missing len·1·cells is1 v2 r2 ws2 e2 is2 ν·3·4 δ·3·4 ν·3·5 δ·3·5 ν·3·6 δ·3·6 ν·3·7 δ·3·7 ν·3·8 δ·3·8 ν·3·9 δ·3·9 ν·3·11 δ·3·11 ν·3·12
+        δ·3·12 ν·3·14 δ·3·14 ν·3·21 δ·3·21 ν·3·22 δ·3·22 v3 r3 ws3 e3 len·3·vars len·3·index len·3·words len·3·defs len·3·rows len·3·lists len·3·kept
+        len·3·feet len·3·cells len·3·ids len·3·memo len·3·facts is3 va·3·25 isa·3·25 ν·4·3 δ·4·3 ν·4·4 δ·4·4 v4 r4 ws4 e4·0 e4·1 len·4·index
+        len·4·missing is4 v5 r5 ws5 e5 is5 v6 r6 ws6 e6 is6 v7 r7 ws7 e7 len·7·facts is7
 
     seg·14 : (l0 : ℕ) (l1 : ℕ) (l2 : ℕ) (l3 : ℕ) (l4 : ℕ) (l5 : ℕ) (l6 : ℕ) (l7 : ℕ) (l8 : ℕ) (l9 : ℕ) (l10 : ℕ) (l11 : ℕ) (l12 : ℕ) (l13 : ℕ)
         (l14 : ℕ) (l15 : ℕ) (l16 : ℕ) (l17 : ℕ) (l18 : ℕ) (l19 : ℕ) (l20 : ℕ) (l21 : ℕ) (l22 : ℕ) (l23 : ℕ) (l24 : ℕ) (l25 : ℕ) (l26 : ℕ) (l27 : ℕ)
@@ -2003,14 +2122,14 @@ module _ {M : Type 1} (𝓤 : URA M) (H : Heap 𝓤) (A : Atoms 𝓤) (W : Given
         (l56 : ℕ) (l57 : ℕ) (l58 : ℕ) (l59 : ℕ) (l60 : ℕ) (l61 : ℕ) (l62 : ℕ) (l63 : ℕ) (l64 : ℕ) (l65 : ℕ) (l66 : ℕ) (l67 : ℕ) (l68 : ℕ) (l69 : ℕ)
         (l70 : ℕ) (l71 : ℕ) (l72 : ℕ) (l73 : ℕ) (l74 : ℕ) (l75 : ℕ) (l76 : ℕ) (l77 : ℕ) (l78 : ℕ) (l79 : ℕ) (l80 : ℕ) (l81 : ℕ) (l82 : ℕ) (l83 : ℕ)
         (l84 : ℕ) (l85 : ℕ) (l86 : ℕ) (l87 : ℕ) (l88 : ℕ) (l89 : ℕ) (l90 : ℕ) (l91 : ℕ) (l92 : ℕ) (l93 : ℕ) (l94 : ℕ) (l95 : ℕ) (l96 : ℕ) (l97 : ℕ)
-        (l98 : ℕ) (l99 : ℕ) (l100 : ℕ) (l101 : ℕ) (l102 : ℕ) (l103 : ℕ) (l104 : ℕ) (l105 : ℕ) (l106 : ℕ) (l107 : ℕ) (ν·1·3 : ℕ) (δ·1·3 : GName)
-        (ν·1·4 : ℕ) (δ·1·4 : GName) (ν·1·5 : ℕ) (δ·1·5 : GName) (ν·1·6 : ℕ) (δ·1·6 : GName) (ν·1·7 : ℕ) (δ·1·7 : GName) (ν·1·8 : ℕ) (δ·1·8 : GName)
-        (ν·1·9 : ℕ) (δ·1·9 : GName) (ν·1·10 : ℕ) (δ·1·10 : GName) (ν·1·11 : ℕ) (δ·1·11 : GName) (ν·1·12 : ℕ) (δ·1·12 : GName) (ν·1·13 : ℕ)
-        (δ·1·13 : GName) (ν·1·14 : ℕ) (δ·1·14 : GName) (ν·1·15 : ℕ) (δ·1·15 : GName) (ν·1·16 : ℕ) (δ·1·16 : GName) (ν·1·17 : ℕ) (δ·1·17 : GName)
-        (ν·1·18 : ℕ) (δ·1·18 : GName) (v1 : Val) (r1 : Run) (ws1 : (Unit {0} ×
-        (Unit {0} × (Unit {0} × ((List ℕ) × ((List ℕ) × ((List ℕ) × ((List ℕ) ×
+        (l98 : ℕ) (l99 : ℕ) (l100 : ℕ) (l101 : ℕ) (l102 : ℕ) (l103 : ℕ) (l104 : ℕ) (l105 : ℕ) (l106 : ℕ) (l107 : ℕ) (l108 : ℕ) (l109 : ℕ) (l110 : ℕ)
+        (ν·1·3 : ℕ) (δ·1·3 : GName) (ν·1·4 : ℕ) (δ·1·4 : GName) (ν·1·5 : ℕ) (δ·1·5 : GName) (ν·1·6 : ℕ) (δ·1·6 : GName) (ν·1·7 : ℕ) (δ·1·7 : GName)
+        (ν·1·8 : ℕ) (δ·1·8 : GName) (ν·1·9 : ℕ) (δ·1·9 : GName) (ν·1·10 : ℕ) (δ·1·10 : GName) (ν·1·11 : ℕ) (δ·1·11 : GName) (ν·1·12 : ℕ)
+        (δ·1·12 : GName) (ν·1·13 : ℕ) (δ·1·13 : GName) (ν·1·14 : ℕ) (δ·1·14 : GName) (ν·1·15 : ℕ) (δ·1·15 : GName) (ν·1·16 : ℕ) (δ·1·16 : GName)
+        (ν·1·17 : ℕ) (δ·1·17 : GName) (ν·1·18 : ℕ) (δ·1·18 : GName) (v1 : Val) (r1 : Run)
+        (ws1 : (Unit {0} × (Unit {0} × (Unit {0} × ((List ℕ) × ((List ℕ) × ((List ℕ) ×
         ((List ℕ) × ((List ℕ) × ((List ℕ) × ((List ℕ) × ((List ℕ) × ((List ℕ) ×
-        ((List ℕ) × ((List ℕ) × ((List ℕ) × (Unit {0} × (Unit {0} × ((List ℕ) × (Unit {0} × Unit {0})))))))))))))))))))))
+        ((List ℕ) × ((List ℕ) × ((List ℕ) × ((List ℕ) × (Unit {0} × (Unit {0} × ((List ℕ) × (Unit {0} × Unit {0})))))))))))))))))))))
         (e1·0 : Begun theory goals proof (length facts) (theoryLists sorts symbols inputs rules rulevars patterns)
         (theoryLists (ws1 .1 .1 .1 .0) (ws1 .1 .1 .1 .1 .0) (ws1 .1 .1 .1 .1 .1 .0) (ws1 .1 .1 .1 .1 .1 .1 .0) (ws1 .1 .1 .1 .1 .1 .1 .1 .0)
         (ws1 .1 .1 .1 .1 .1 .1 .1 .1 .0)) (working vars index words defs rows lists)
@@ -2031,11 +2150,11 @@ module _ {M : Type 1} (𝓤 : URA M) (H : Heap 𝓤) (A : Atoms 𝓤) (W : Given
         (len·1·cells : length (ws1 .1 .1 .1 .1 .1 .1 .1 .1 .1 .1 .1 .1 .1 .1 .1 .1 .1 .1 .0) ≡ length cells) (is1 : Is RunT.the-row r1 (v1 ∷ []))
         (v2 : Val) (r2 : Counts) (ws2 : Unit {0}) (e2 : r2 ≡ none) (is2 : Is CountsT.the-row r2 (v2 ∷ [])) (ν·3·4 : ℕ) (δ·3·4 : GName) (ν·3·5 : ℕ)
         (δ·3·5 : GName) (ν·3·6 : ℕ) (δ·3·6 : GName) (ν·3·7 : ℕ) (δ·3·7 : GName) (ν·3·8 : ℕ) (δ·3·8 : GName) (ν·3·9 : ℕ) (δ·3·9 : GName) (ν·3·11 : ℕ)
-        (δ·3·11 : GName) (ν·3·12 : ℕ) (δ·3·12 : GName) (ν·3·14 : ℕ) (δ·3·14 : GName) (ν·3·20 : ℕ) (δ·3·20 : GName) (ν·3·21 : ℕ) (δ·3·21 : GName)
+        (δ·3·11 : GName) (ν·3·12 : ℕ) (δ·3·12 : GName) (ν·3·14 : ℕ) (δ·3·14 : GName) (ν·3·21 : ℕ) (δ·3·21 : GName) (ν·3·22 : ℕ) (δ·3·22 : GName)
         (v3 : Val) (r3 : Run) (ws3 : (Unit {0} × (Unit {0} × (Unit {0} × (Unit {0} ×
         (Unit {0} × (Unit {0} × (Unit {0} × (Unit {0} × (Unit {0} × (Unit {0} ×
         ((List ℕ) × ((List ℕ) × ((List ℕ) × ((List ℕ) × ((List ℕ) × ((List ℕ) ×
-        ((List ℕ) × ((List ℕ) × ((List ℕ) × ((List ℕ) × ((List Fact) × (Counts × Unit {0})))))))))))))))))))))))
+        ((List ℕ) × ((List ℕ) × ((List ℕ) × ((List ℕ) × ((List ℕ) × ((List Fact) × (Counts × Unit {0}))))))))))))))))))))))))
         (e3 : Ran theory goals proof (theoryLists (ws1 .1 .1 .1 .0) (ws1 .1 .1 .1 .1 .0) (ws1 .1 .1 .1 .1 .1 .0) (ws1 .1 .1 .1 .1 .1 .1 .0)
         (ws1 .1 .1 .1 .1 .1 .1 .1 .0) (ws1 .1 .1 .1 .1 .1 .1 .1 .1 .0)) (working (ws1 .1 .1 .1 .1 .1 .1 .1 .1 .1 .0)
         (ws1 .1 .1 .1 .1 .1 .1 .1 .1 .1 .1 .0) (ws1 .1 .1 .1 .1 .1 .1 .1 .1 .1 .1 .1 .0) (ws1 .1 .1 .1 .1 .1 .1 .1 .1 .1 .1 .1 .1 .0)
@@ -2044,8 +2163,9 @@ module _ {M : Type 1} (𝓤 : URA M) (H : Heap 𝓤) (A : Atoms 𝓤) (W : Given
         (ws3 .1 .1 .1 .1 .1 .1 .1 .1 .1 .1 .1 .1 .1 .0) (ws3 .1 .1 .1 .1 .1 .1 .1 .1 .1 .1 .1 .1 .1 .1 .0)
         (ws3 .1 .1 .1 .1 .1 .1 .1 .1 .1 .1 .1 .1 .1 .1 .1 .0)) (ws3 .1 .1 .1 .1 .1 .1 .1 .1 .1 .1 .1 .1 .1 .1 .1 .1 .0)
         (ws3 .1 .1 .1 .1 .1 .1 .1 .1 .1 .1 .1 .1 .1 .1 .1 .1 .1 .0) (ws3 .1 .1 .1 .1 .1 .1 .1 .1 .1 .1 .1 .1 .1 .1 .1 .1 .1 .1 .0)
-        (ws3 .1 .1 .1 .1 .1 .1 .1 .1 .1 .1 .1 .1 .1 .1 .1 .1 .1 .1 .1 .0) r1 r3 facts
-        (ws3 .1 .1 .1 .1 .1 .1 .1 .1 .1 .1 .1 .1 .1 .1 .1 .1 .1 .1 .1 .1 .0) (ws3 .1 .1 .1 .1 .1 .1 .1 .1 .1 .1 .1 .1 .1 .1 .1 .1 .1 .1 .1 .1 .1 .0))
+        (ws3 .1 .1 .1 .1 .1 .1 .1 .1 .1 .1 .1 .1 .1 .1 .1 .1 .1 .1 .1 .0) (ws3 .1 .1 .1 .1 .1 .1 .1 .1 .1 .1 .1 .1 .1 .1 .1 .1 .1 .1 .1 .1 .0) r1 r3
+        facts (ws3 .1 .1 .1 .1 .1 .1 .1 .1 .1 .1 .1 .1 .1 .1 .1 .1 .1 .1 .1 .1 .1 .0)
+        (ws3 .1 .1 .1 .1 .1 .1 .1 .1 .1 .1 .1 .1 .1 .1 .1 .1 .1 .1 .1 .1 .1 .1 .0))
         (len·3·vars : length (ws3 .1 .1 .1 .1 .1 .1 .1 .1 .1 .1 .0) ≡ length (ws1 .1 .1 .1 .1 .1 .1 .1 .1 .1 .0))
         (len·3·index : length (ws3 .1 .1 .1 .1 .1 .1 .1 .1 .1 .1 .1 .0) ≡ length (ws1 .1 .1 .1 .1 .1 .1 .1 .1 .1 .1 .0))
         (len·3·words : length (ws3 .1 .1 .1 .1 .1 .1 .1 .1 .1 .1 .1 .1 .0) ≡ length (ws1 .1 .1 .1 .1 .1 .1 .1 .1 .1 .1 .1 .0))
@@ -2057,11 +2177,12 @@ module _ {M : Type 1} (𝓤 : URA M) (H : Heap 𝓤) (A : Atoms 𝓤) (W : Given
         (len·3·cells : length (ws3 .1 .1 .1 .1 .1 .1 .1 .1 .1 .1 .1 .1 .1 .1 .1 .1 .1 .1 .0) ≡ length
         (ws1 .1 .1 .1 .1 .1 .1 .1 .1 .1 .1 .1 .1 .1 .1 .1 .1 .1 .1 .0)) (len·3·ids : length
         (ws3 .1 .1 .1 .1 .1 .1 .1 .1 .1 .1 .1 .1 .1 .1 .1 .1 .1 .1 .1 .0) ≡ length ids)
-        (len·3·facts : length (ws3 .1 .1 .1 .1 .1 .1 .1 .1 .1 .1 .1 .1 .1 .1 .1 .1 .1 .1 .1 .1 .0) ≡ length facts)
-        (is3 : Is RunT.the-row r3 (v3 ∷ [])) (va·3·24 : Val) (isa·3·24 : Is CountsT.the-row
-        (ws3 .1 .1 .1 .1 .1 .1 .1 .1 .1 .1 .1 .1 .1 .1 .1 .1 .1 .1 .1 .1 .1 .0) (va·3·24 ∷ [])) (ν·4·3 : ℕ) (δ·4·3 : GName) (ν·4·4 : ℕ)
+        (len·3·memo : length (ws3 .1 .1 .1 .1 .1 .1 .1 .1 .1 .1 .1 .1 .1 .1 .1 .1 .1 .1 .1 .1 .0) ≡ length memo)
+        (len·3·facts : length (ws3 .1 .1 .1 .1 .1 .1 .1 .1 .1 .1 .1 .1 .1 .1 .1 .1 .1 .1 .1 .1 .1 .0) ≡ length facts)
+        (is3 : Is RunT.the-row r3 (v3 ∷ [])) (va·3·25 : Val) (isa·3·25 : Is CountsT.the-row
+        (ws3 .1 .1 .1 .1 .1 .1 .1 .1 .1 .1 .1 .1 .1 .1 .1 .1 .1 .1 .1 .1 .1 .1 .0) (va·3·25 ∷ [])) (ν·4·3 : ℕ) (δ·4·3 : GName) (ν·4·4 : ℕ)
         (δ·4·4 : GName) (v4 : Val) (r4 : Answer) (ws4 : (Unit {0} × (Unit {0} × ((List ℕ) × (Unit {0} × (Unit {0} × ((List ℕ) × Unit {0})))))))
-        (e4·0 : (g : Ending r3 (ws3 .1 .1 .1 .1 .1 .1 .1 .1 .1 .1 .1 .1 .1 .1 .1 .1 .1 .1 .1 .1 .1 .0) (ws3 .1 .1 .1 .1 .1 .1 .1 .1 .1 .1 .1 .0)
+        (e4·0 : (g : Ending r3 (ws3 .1 .1 .1 .1 .1 .1 .1 .1 .1 .1 .1 .1 .1 .1 .1 .1 .1 .1 .1 .1 .1 .1 .0) (ws3 .1 .1 .1 .1 .1 .1 .1 .1 .1 .1 .1 .0)
         (ws3 .1 .1 .1 .1 .1 .1 .1 .1 .1 .1 .1 .1 .0) (ws3 .1 .1 .1 .1 .1 .1 .1 .1 .1 .1 .1 .1 .1 .1 .0)
         (ws1 .1 .1 .1 .1 .1 .1 .1 .1 .1 .1 .1 .1 .1 .1 .1 .0)) → Ended (g .theory) (g .goals) (g .proof) r3 (ws3 .1 .1 .1 .1 .1 .1 .1 .1 .1 .1 .1 .0)
         (ws4 .1 .1 .0) (ws1 .1 .1 .1 .1 .1 .1 .1 .1 .1 .1 .1 .1 .1 .1 .1 .0) (ws4 .1 .1 .1 .1 .1 .0) r4)
@@ -2072,8 +2193,9 @@ module _ {M : Type 1} (𝓤 : URA M) (H : Heap 𝓤) (A : Atoms 𝓤) (W : Given
         (is4 : Is AnswerT.the-row r4 (v4 ∷ [])) (v5 : Val) (r5 : ℕ) (ws5 : (Unit {0} × Unit {0})) (e5 : r5 ≡ r3 .sizes .facts)
         (is5 : Is usize r5 (v5 ∷ [])) (v6 : Val) (r6 : ℕ) (ws6 : (Unit {0} × Unit {0})) (e6 : r6 ≡ roomOf r3) (is6 : Is usize r6 (v6 ∷ [])) (v7 : Val)
         (r7 : Unit {0}) (ws7 : ((List Fact) × (Unit {0} × (Unit {0} × Unit {0}))))
-        (e7 : (ws7 .0) ≡ zeroed (ws3 .1 .1 .1 .1 .1 .1 .1 .1 .1 .1 .1 .1 .1 .1 .1 .1 .1 .1 .1 .1 .0) r5 r6)
-        (len·7·facts : length (ws7 .0) ≡ length (ws3 .1 .1 .1 .1 .1 .1 .1 .1 .1 .1 .1 .1 .1 .1 .1 .1 .1 .1 .1 .1 .0)) (is7 : v7 ∷ [] ≡ vunit ∷ []) →
+        (e7 : (ws7 .0) ≡ zeroed (ws3 .1 .1 .1 .1 .1 .1 .1 .1 .1 .1 .1 .1 .1 .1 .1 .1 .1 .1 .1 .1 .1 .0) r5 r6)
+        (len·7·facts : length (ws7 .0) ≡ length (ws3 .1 .1 .1 .1 .1 .1 .1 .1 .1 .1 .1 .1 .1 .1 .1 .1 .1 .1 .1 .1 .1 .0)) (is7 : v7 ∷ [] ≡ vunit ∷ [])
+        →
         Sq W (‵ (flft κ·facts q·facts)
         ∷ ‵ (finally FactT.the-row γ·facts (ws7 .0))
         ∷ ‵ (MutSlice (named 13) κ·rows u32 .own (ref·rows γ·rows (ws3 .1 .1 .1 .1 .1 .1 .1 .1 .1 .1 .1 .1 .1 .1 .0)) (s·rows ∷ []))
@@ -2084,7 +2206,7 @@ module _ {M : Type 1} (𝓤 : URA M) (H : Heap 𝓤) (A : Atoms 𝓤) (W : Given
         ∷ ‵ (flft κ·index q·index)
         ∷ ‵ (finally u32 γ·missing (ws4 .1 .1 .1 .1 .1 .0))
         ∷ ‵ (finally u32 γ·index (ws4 .1 .1 .0))
-        ∷ ‵ (fat fullShare CountsL.mir l24 0 va·3·24)
+        ∷ ‵ (fat fullShare CountsL.mir l25 0 va·3·25)
         ∷ ‵ (MutSlice (named 8) κ·patterns u32 .own (ref·patterns γ·patterns (ws1 .1 .1 .1 .1 .1 .1 .1 .1 .0)) (s·patterns ∷ []))
         ∷ ‵ (flft κ·patterns q·patterns)
         ∷ ‵ (MutSlice (named 7) κ·rulevars u32 .own (ref·rulevars γ·rulevars (ws1 .1 .1 .1 .1 .1 .1 .1 .0)) (s·rulevars ∷ []))
@@ -2097,6 +2219,7 @@ module _ {M : Type 1} (𝓤 : URA M) (H : Heap 𝓤) (A : Atoms 𝓤) (W : Given
         ∷ ‵ (flft κ·symbols q·symbols)
         ∷ ‵ (MutSlice (named 3) κ·sorts u32 .own (ref·sorts γ·sorts (ws1 .1 .1 .1 .0)) (s·sorts ∷ []))
         ∷ ‵ (flft κ·sorts q·sorts)
+        ∷ ‵ (flft κ·memo q·memo)
         ∷ ‵ (flft κ·ids q·ids)
         ∷ ‵ (flft κ·cells q·cells)
         ∷ ‵ (flft κ·feet q·feet)
@@ -2107,6 +2230,7 @@ module _ {M : Type 1} (𝓤 : URA M) (H : Heap 𝓤) (A : Atoms 𝓤) (W : Given
         ∷ ‵ (flft κ·proof q·proof)
         ∷ ‵ (flft κ·goals q·goals)
         ∷ ‵ (flft κ·theory q·theory)
+        ∷ ‵ (finally u32 γ·memo (ws3 .1 .1 .1 .1 .1 .1 .1 .1 .1 .1 .1 .1 .1 .1 .1 .1 .1 .1 .1 .1 .0))
         ∷ ‵ (finally u32 γ·ids (ws3 .1 .1 .1 .1 .1 .1 .1 .1 .1 .1 .1 .1 .1 .1 .1 .1 .1 .1 .1 .0))
         ∷ ‵ (finally u32 γ·cells (ws3 .1 .1 .1 .1 .1 .1 .1 .1 .1 .1 .1 .1 .1 .1 .1 .1 .1 .1 .0))
         ∷ ‵ (finally u64 γ·feet (ws3 .1 .1 .1 .1 .1 .1 .1 .1 .1 .1 .1 .1 .1 .1 .1 .1 .1 .0))
@@ -2117,177 +2241,183 @@ module _ {M : Type 1} (𝓤 : URA M) (H : Heap 𝓤) (A : Atoms 𝓤) (W : Given
         ∷ ‵ (ShrSlice (named 2) κ·proof u8 .own (ref·proof γ·proof proof) (s·proof ∷ []))
         ∷ ‵ (ShrSlice (named 1) κ·goals u8 .own (ref·goals γ·goals goals) (s·goals ∷ []))
         ∷ ‵ (ShrSlice (named 0) κ·theory u8 .own (ref·theory γ·theory theory) (s·theory ∷ []))
-        ∷ ‵ (fat fullShare (tyInt w64) l107 0 v6)
-        ∷ ‵ (fdies (tyInt w64) l107)
-        ∷ ‵ (fat fullShare (tyInt w64) l106 0 v5)
-        ∷ ‵ (fdies (tyInt w64) l106)
-        ∷ ‵ (fat fullShare (sliceTy (tyRef erased mut (pointee (FactT.the-row .written)))) l105 0 s·facts)
-        ∷ ‵ (fdies (sliceTy (tyRef erased mut (pointee (FactT.the-row .written)))) l105)
-        ∷ ‵ (fat fullShare (tyRef erased mut (pointee (FactT.the-row .written))) l104 0 (vptr b·facts o·facts))
-        ∷ ‵ (fdies (tyRef erased mut (pointee (FactT.the-row .written))) l104)
-        ∷ ‵ (fat fullShare tyUnit l103 0 v7)
-        ∷ ‵ (fdies tyUnit l103)
-        ∷ ‵ (fat fullShare (sliceTy (tyRef erased mut (tyInt w32))) l102 0 s·missing)
-        ∷ ‵ (fdies (sliceTy (tyRef erased mut (tyInt w32))) l102)
-        ∷ ‵ (fat fullShare (tyRef erased mut (tyInt w32)) l101 0 (vptr b·missing o·missing))
-        ∷ ‵ (fdies (tyRef erased mut (tyInt w32)) l101)
-        ∷ ‵ (fat fullShare (sliceTy (tyRef erased imm (tyInt w32))) l100 0 s·rows)
-        ∷ ‵ (fdies (sliceTy (tyRef erased imm (tyInt w32))) l100)
-        ∷ ‵ (fat fullShare (tyRef erased imm (tyInt w32)) l99 0 (vptr b·rows o·rows))
-        ∷ ‵ (fdies (tyRef erased imm (tyInt w32)) l99)
-        ∷ ‵ (fat fullShare (sliceTy (tyRef erased imm (tyInt w32))) l98 0 s·words)
-        ∷ ‵ (fdies (sliceTy (tyRef erased imm (tyInt w32))) l98)
-        ∷ ‵ (fat fullShare (tyRef erased imm (tyInt w32)) l97 0 (vptr b·words o·words))
-        ∷ ‵ (fdies (tyRef erased imm (tyInt w32)) l97)
-        ∷ ‵ (fat fullShare (sliceTy (tyRef erased mut (tyInt w32))) l96 0 s·index)
-        ∷ ‵ (fdies (sliceTy (tyRef erased mut (tyInt w32))) l96)
-        ∷ ‵ (fat fullShare (tyRef erased mut (tyInt w32)) l95 0 (vptr b·index o·index))
-        ∷ ‵ (fdies (tyRef erased mut (tyInt w32)) l95)
-        ∷ ‵ (fat fullShare (tyRef erased mut (pointee (CountsT.the-row .written))) l94 0 (vptr l24 0))
-        ∷ ‵ (fdies (tyRef erased mut (pointee (CountsT.the-row .written))) l94)
-        ∷ ‵ (fat fullShare (sliceTy (tyRef erased mut (pointee (FactT.the-row .written)))) l93 0 s·facts)
-        ∷ ‵ (fdies (sliceTy (tyRef erased mut (pointee (FactT.the-row .written)))) l93)
-        ∷ ‵ (fat fullShare (tyRef erased mut (pointee (FactT.the-row .written))) l92 0 (vptr b·facts o·facts))
-        ∷ ‵ (fdies (tyRef erased mut (pointee (FactT.the-row .written))) l92)
-        ∷ ‵ (fat fullShare (sliceTy (tyRef erased mut (tyInt w32))) l91 0 s·ids)
-        ∷ ‵ (fdies (sliceTy (tyRef erased mut (tyInt w32))) l91)
-        ∷ ‵ (fat fullShare (tyRef erased mut (tyInt w32)) l90 0 (vptr b·ids o·ids))
-        ∷ ‵ (fdies (tyRef erased mut (tyInt w32)) l90)
-        ∷ ‵ (fat fullShare (sliceTy (tyRef erased mut (tyInt w32))) l89 0 s·cells)
-        ∷ ‵ (fdies (sliceTy (tyRef erased mut (tyInt w32))) l89)
-        ∷ ‵ (fat fullShare (tyRef erased mut (tyInt w32)) l88 0 (vptr b·cells o·cells))
-        ∷ ‵ (fdies (tyRef erased mut (tyInt w32)) l88)
-        ∷ ‵ (fat fullShare (sliceTy (tyRef erased mut (tyInt w64))) l87 0 s·feet)
-        ∷ ‵ (fdies (sliceTy (tyRef erased mut (tyInt w64))) l87)
-        ∷ ‵ (fat fullShare (tyRef erased mut (tyInt w64)) l86 0 (vptr b·feet o·feet))
-        ∷ ‵ (fdies (tyRef erased mut (tyInt w64)) l86)
-        ∷ ‵ (fat fullShare (sliceTy (tyRef erased mut (tyInt w32))) l85 0 s·kept)
-        ∷ ‵ (fdies (sliceTy (tyRef erased mut (tyInt w32))) l85)
-        ∷ ‵ (fat fullShare (tyRef erased mut (tyInt w32)) l84 0 (vptr b·kept o·kept))
-        ∷ ‵ (fdies (tyRef erased mut (tyInt w32)) l84)
-        ∷ ‵ (fat fullShare (sliceTy (tyRef erased mut (tyInt w32))) l83 0 s·lists)
-        ∷ ‵ (fdies (sliceTy (tyRef erased mut (tyInt w32))) l83)
-        ∷ ‵ (fat fullShare (tyRef erased mut (tyInt w32)) l82 0 (vptr b·lists o·lists))
-        ∷ ‵ (fdies (tyRef erased mut (tyInt w32)) l82)
-        ∷ ‵ (fat fullShare (sliceTy (tyRef erased mut (tyInt w32))) l81 0 s·rows)
-        ∷ ‵ (fdies (sliceTy (tyRef erased mut (tyInt w32))) l81)
-        ∷ ‵ (fat fullShare (tyRef erased mut (tyInt w32)) l80 0 (vptr b·rows o·rows))
-        ∷ ‵ (fdies (tyRef erased mut (tyInt w32)) l80)
-        ∷ ‵ (fat fullShare (sliceTy (tyRef erased mut (tyInt w32))) l79 0 s·defs)
-        ∷ ‵ (fdies (sliceTy (tyRef erased mut (tyInt w32))) l79)
-        ∷ ‵ (fat fullShare (tyRef erased mut (tyInt w32)) l78 0 (vptr b·defs o·defs))
-        ∷ ‵ (fdies (tyRef erased mut (tyInt w32)) l78)
-        ∷ ‵ (fat fullShare (sliceTy (tyRef erased mut (tyInt w32))) l77 0 s·words)
-        ∷ ‵ (fdies (sliceTy (tyRef erased mut (tyInt w32))) l77)
-        ∷ ‵ (fat fullShare (tyRef erased mut (tyInt w32)) l76 0 (vptr b·words o·words))
-        ∷ ‵ (fdies (tyRef erased mut (tyInt w32)) l76)
-        ∷ ‵ (fat fullShare (sliceTy (tyRef erased mut (tyInt w32))) l75 0 s·index)
-        ∷ ‵ (fdies (sliceTy (tyRef erased mut (tyInt w32))) l75)
-        ∷ ‵ (fat fullShare (tyRef erased mut (tyInt w32)) l74 0 (vptr b·index o·index))
-        ∷ ‵ (fdies (tyRef erased mut (tyInt w32)) l74)
-        ∷ ‵ (fat fullShare (sliceTy (tyRef erased mut (tyInt w32))) l73 0 s·vars)
-        ∷ ‵ (fdies (sliceTy (tyRef erased mut (tyInt w32))) l73)
-        ∷ ‵ (fat fullShare (tyRef erased mut (tyInt w32)) l72 0 (vptr b·vars o·vars))
-        ∷ ‵ (fdies (tyRef erased mut (tyInt w32)) l72)
-        ∷ ‵ (fat fullShare (sliceTy (tyRef erased imm (tyInt w32))) l71 0 s·patterns)
-        ∷ ‵ (fdies (sliceTy (tyRef erased imm (tyInt w32))) l71)
-        ∷ ‵ (fat fullShare (tyRef erased imm (tyInt w32)) l70 0 (vptr b·patterns o·patterns))
-        ∷ ‵ (fdies (tyRef erased imm (tyInt w32)) l70)
-        ∷ ‵ (fat fullShare (sliceTy (tyRef erased imm (tyInt w32))) l69 0 s·rulevars)
-        ∷ ‵ (fdies (sliceTy (tyRef erased imm (tyInt w32))) l69)
-        ∷ ‵ (fat fullShare (tyRef erased imm (tyInt w32)) l68 0 (vptr b·rulevars o·rulevars))
-        ∷ ‵ (fdies (tyRef erased imm (tyInt w32)) l68)
-        ∷ ‵ (fat fullShare (sliceTy (tyRef erased imm (tyInt w32))) l67 0 s·rules)
-        ∷ ‵ (fdies (sliceTy (tyRef erased imm (tyInt w32))) l67)
-        ∷ ‵ (fat fullShare (tyRef erased imm (tyInt w32)) l66 0 (vptr b·rules o·rules))
-        ∷ ‵ (fdies (tyRef erased imm (tyInt w32)) l66)
-        ∷ ‵ (fat fullShare (sliceTy (tyRef erased imm (tyInt w32))) l65 0 s·inputs)
-        ∷ ‵ (fdies (sliceTy (tyRef erased imm (tyInt w32))) l65)
-        ∷ ‵ (fat fullShare (tyRef erased imm (tyInt w32)) l64 0 (vptr b·inputs o·inputs))
-        ∷ ‵ (fdies (tyRef erased imm (tyInt w32)) l64)
-        ∷ ‵ (fat fullShare (sliceTy (tyRef erased imm (tyInt w32))) l63 0 s·symbols)
-        ∷ ‵ (fdies (sliceTy (tyRef erased imm (tyInt w32))) l63)
-        ∷ ‵ (fat fullShare (tyRef erased imm (tyInt w32)) l62 0 (vptr b·symbols o·symbols))
-        ∷ ‵ (fdies (tyRef erased imm (tyInt w32)) l62)
-        ∷ ‵ (fat fullShare (sliceTy (tyRef erased imm (tyInt w32))) l61 0 s·sorts)
-        ∷ ‵ (fdies (sliceTy (tyRef erased imm (tyInt w32))) l61)
-        ∷ ‵ (fat fullShare (tyRef erased imm (tyInt w32)) l60 0 (vptr b·sorts o·sorts))
-        ∷ ‵ (fdies (tyRef erased imm (tyInt w32)) l60)
-        ∷ ‵ (fat fullShare CountsL.mir l59 0 va·3·24)
-        ∷ ‵ (fdies CountsL.mir l59)
-        ∷ ‵ (fat fullShare (sliceTy (tyRef erased mut (tyInt w32))) l58 0 s·cells)
-        ∷ ‵ (fdies (sliceTy (tyRef erased mut (tyInt w32))) l58)
-        ∷ ‵ (fat fullShare (tyRef erased mut (tyInt w32)) l57 0 (vptr b·cells o·cells))
-        ∷ ‵ (fdies (tyRef erased mut (tyInt w32)) l57)
-        ∷ ‵ (fat fullShare (sliceTy (tyRef erased imm (tyInt w64))) l56 0 s·feet)
-        ∷ ‵ (fdies (sliceTy (tyRef erased imm (tyInt w64))) l56)
-        ∷ ‵ (fat fullShare (tyRef erased imm (tyInt w64)) l55 0 (vptr b·feet o·feet))
-        ∷ ‵ (fdies (tyRef erased imm (tyInt w64)) l55)
-        ∷ ‵ (fat fullShare (sliceTy (tyRef erased imm (tyInt w32))) l54 0 s·kept)
-        ∷ ‵ (fdies (sliceTy (tyRef erased imm (tyInt w32))) l54)
-        ∷ ‵ (fat fullShare (tyRef erased imm (tyInt w32)) l53 0 (vptr b·kept o·kept))
-        ∷ ‵ (fdies (tyRef erased imm (tyInt w32)) l53)
-        ∷ ‵ (fat fullShare (sliceTy (tyRef erased mut (tyInt w32))) l52 0 s·missing)
-        ∷ ‵ (fdies (sliceTy (tyRef erased mut (tyInt w32))) l52)
-        ∷ ‵ (fat fullShare (tyRef erased mut (tyInt w32)) l51 0 (vptr b·missing o·missing))
-        ∷ ‵ (fdies (tyRef erased mut (tyInt w32)) l51)
-        ∷ ‵ (fat fullShare (sliceTy (tyRef erased mut (tyInt w32))) l50 0 s·lists)
-        ∷ ‵ (fdies (sliceTy (tyRef erased mut (tyInt w32))) l50)
-        ∷ ‵ (fat fullShare (tyRef erased mut (tyInt w32)) l49 0 (vptr b·lists o·lists))
-        ∷ ‵ (fdies (tyRef erased mut (tyInt w32)) l49)
-        ∷ ‵ (fat fullShare (sliceTy (tyRef erased mut (tyInt w32))) l48 0 s·rows)
-        ∷ ‵ (fdies (sliceTy (tyRef erased mut (tyInt w32))) l48)
-        ∷ ‵ (fat fullShare (tyRef erased mut (tyInt w32)) l47 0 (vptr b·rows o·rows))
-        ∷ ‵ (fdies (tyRef erased mut (tyInt w32)) l47)
-        ∷ ‵ (fat fullShare (sliceTy (tyRef erased mut (tyInt w32))) l46 0 s·defs)
-        ∷ ‵ (fdies (sliceTy (tyRef erased mut (tyInt w32))) l46)
-        ∷ ‵ (fat fullShare (tyRef erased mut (tyInt w32)) l45 0 (vptr b·defs o·defs))
-        ∷ ‵ (fdies (tyRef erased mut (tyInt w32)) l45)
-        ∷ ‵ (fat fullShare (sliceTy (tyRef erased mut (tyInt w32))) l44 0 s·words)
-        ∷ ‵ (fdies (sliceTy (tyRef erased mut (tyInt w32))) l44)
-        ∷ ‵ (fat fullShare (tyRef erased mut (tyInt w32)) l43 0 (vptr b·words o·words))
-        ∷ ‵ (fdies (tyRef erased mut (tyInt w32)) l43)
-        ∷ ‵ (fat fullShare (sliceTy (tyRef erased mut (tyInt w32))) l42 0 s·index)
-        ∷ ‵ (fdies (sliceTy (tyRef erased mut (tyInt w32))) l42)
-        ∷ ‵ (fat fullShare (tyRef erased mut (tyInt w32)) l41 0 (vptr b·index o·index))
-        ∷ ‵ (fdies (tyRef erased mut (tyInt w32)) l41)
-        ∷ ‵ (fat fullShare (sliceTy (tyRef erased mut (tyInt w32))) l40 0 s·vars)
-        ∷ ‵ (fdies (sliceTy (tyRef erased mut (tyInt w32))) l40)
-        ∷ ‵ (fat fullShare (tyRef erased mut (tyInt w32)) l39 0 (vptr b·vars o·vars))
-        ∷ ‵ (fdies (tyRef erased mut (tyInt w32)) l39)
-        ∷ ‵ (fat fullShare (sliceTy (tyRef erased mut (tyInt w32))) l38 0 s·patterns)
-        ∷ ‵ (fdies (sliceTy (tyRef erased mut (tyInt w32))) l38)
-        ∷ ‵ (fat fullShare (tyRef erased mut (tyInt w32)) l37 0 (vptr b·patterns o·patterns))
-        ∷ ‵ (fdies (tyRef erased mut (tyInt w32)) l37)
-        ∷ ‵ (fat fullShare (sliceTy (tyRef erased mut (tyInt w32))) l36 0 s·rulevars)
-        ∷ ‵ (fdies (sliceTy (tyRef erased mut (tyInt w32))) l36)
-        ∷ ‵ (fat fullShare (tyRef erased mut (tyInt w32)) l35 0 (vptr b·rulevars o·rulevars))
-        ∷ ‵ (fdies (tyRef erased mut (tyInt w32)) l35)
-        ∷ ‵ (fat fullShare (sliceTy (tyRef erased mut (tyInt w32))) l34 0 s·rules)
-        ∷ ‵ (fdies (sliceTy (tyRef erased mut (tyInt w32))) l34)
-        ∷ ‵ (fat fullShare (tyRef erased mut (tyInt w32)) l33 0 (vptr b·rules o·rules))
-        ∷ ‵ (fdies (tyRef erased mut (tyInt w32)) l33)
-        ∷ ‵ (fat fullShare (sliceTy (tyRef erased mut (tyInt w32))) l32 0 s·inputs)
-        ∷ ‵ (fdies (sliceTy (tyRef erased mut (tyInt w32))) l32)
-        ∷ ‵ (fat fullShare (tyRef erased mut (tyInt w32)) l31 0 (vptr b·inputs o·inputs))
-        ∷ ‵ (fdies (tyRef erased mut (tyInt w32)) l31)
-        ∷ ‵ (fat fullShare (sliceTy (tyRef erased mut (tyInt w32))) l30 0 s·symbols)
-        ∷ ‵ (fdies (sliceTy (tyRef erased mut (tyInt w32))) l30)
-        ∷ ‵ (fat fullShare (tyRef erased mut (tyInt w32)) l29 0 (vptr b·symbols o·symbols))
-        ∷ ‵ (fdies (tyRef erased mut (tyInt w32)) l29)
-        ∷ ‵ (fat fullShare (sliceTy (tyRef erased mut (tyInt w32))) l28 0 s·sorts)
-        ∷ ‵ (fdies (sliceTy (tyRef erased mut (tyInt w32))) l28)
-        ∷ ‵ (fat fullShare (tyRef erased mut (tyInt w32)) l27 0 (vptr b·sorts o·sorts))
-        ∷ ‵ (fdies (tyRef erased mut (tyInt w32)) l27)
-        ∷ ‵ (fat fullShare AnswerL.mir l26 0 v4)
-        ∷ ‵ (fdies AnswerL.mir l26)
-        ∷ ‵ (fat fullShare RunL.mir l25 0 v3)
-        ∷ ‵ (fdies RunL.mir l25)
-        ∷ ‵ (fdies CountsL.mir l24)
-        ∷ ‵ (fat fullShare RunL.mir l23 0 v1)
-        ∷ ‵ (fdies RunL.mir l23)
-        ∷ ‵ (fat fullShare (tyInt w64) l22 0 (vint w64 (length facts)))
-        ∷ ‵ (fdies (tyInt w64) l22)
+        ∷ ‵ (fat fullShare (tyInt w64) l110 0 v6)
+        ∷ ‵ (fdies (tyInt w64) l110)
+        ∷ ‵ (fat fullShare (tyInt w64) l109 0 v5)
+        ∷ ‵ (fdies (tyInt w64) l109)
+        ∷ ‵ (fat fullShare (sliceTy (tyRef erased mut (pointee (FactT.the-row .written)))) l108 0 s·facts)
+        ∷ ‵ (fdies (sliceTy (tyRef erased mut (pointee (FactT.the-row .written)))) l108)
+        ∷ ‵ (fat fullShare (tyRef erased mut (pointee (FactT.the-row .written))) l107 0 (vptr b·facts o·facts))
+        ∷ ‵ (fdies (tyRef erased mut (pointee (FactT.the-row .written))) l107)
+        ∷ ‵ (fat fullShare tyUnit l106 0 v7)
+        ∷ ‵ (fdies tyUnit l106)
+        ∷ ‵ (fat fullShare (sliceTy (tyRef erased mut (tyInt w32))) l105 0 s·missing)
+        ∷ ‵ (fdies (sliceTy (tyRef erased mut (tyInt w32))) l105)
+        ∷ ‵ (fat fullShare (tyRef erased mut (tyInt w32)) l104 0 (vptr b·missing o·missing))
+        ∷ ‵ (fdies (tyRef erased mut (tyInt w32)) l104)
+        ∷ ‵ (fat fullShare (sliceTy (tyRef erased imm (tyInt w32))) l103 0 s·rows)
+        ∷ ‵ (fdies (sliceTy (tyRef erased imm (tyInt w32))) l103)
+        ∷ ‵ (fat fullShare (tyRef erased imm (tyInt w32)) l102 0 (vptr b·rows o·rows))
+        ∷ ‵ (fdies (tyRef erased imm (tyInt w32)) l102)
+        ∷ ‵ (fat fullShare (sliceTy (tyRef erased imm (tyInt w32))) l101 0 s·words)
+        ∷ ‵ (fdies (sliceTy (tyRef erased imm (tyInt w32))) l101)
+        ∷ ‵ (fat fullShare (tyRef erased imm (tyInt w32)) l100 0 (vptr b·words o·words))
+        ∷ ‵ (fdies (tyRef erased imm (tyInt w32)) l100)
+        ∷ ‵ (fat fullShare (sliceTy (tyRef erased mut (tyInt w32))) l99 0 s·index)
+        ∷ ‵ (fdies (sliceTy (tyRef erased mut (tyInt w32))) l99)
+        ∷ ‵ (fat fullShare (tyRef erased mut (tyInt w32)) l98 0 (vptr b·index o·index))
+        ∷ ‵ (fdies (tyRef erased mut (tyInt w32)) l98)
+        ∷ ‵ (fat fullShare (tyRef erased mut (pointee (CountsT.the-row .written))) l97 0 (vptr l25 0))
+        ∷ ‵ (fdies (tyRef erased mut (pointee (CountsT.the-row .written))) l97)
+        ∷ ‵ (fat fullShare (sliceTy (tyRef erased mut (pointee (FactT.the-row .written)))) l96 0 s·facts)
+        ∷ ‵ (fdies (sliceTy (tyRef erased mut (pointee (FactT.the-row .written)))) l96)
+        ∷ ‵ (fat fullShare (tyRef erased mut (pointee (FactT.the-row .written))) l95 0 (vptr b·facts o·facts))
+        ∷ ‵ (fdies (tyRef erased mut (pointee (FactT.the-row .written))) l95)
+        ∷ ‵ (fat fullShare (sliceTy (tyRef erased mut (tyInt w32))) l94 0 s·memo)
+        ∷ ‵ (fdies (sliceTy (tyRef erased mut (tyInt w32))) l94)
+        ∷ ‵ (fat fullShare (tyRef erased mut (tyInt w32)) l93 0 (vptr b·memo o·memo))
+        ∷ ‵ (fdies (tyRef erased mut (tyInt w32)) l93)
+        ∷ ‵ (fat fullShare (sliceTy (tyRef erased mut (tyInt w32))) l92 0 s·ids)
+        ∷ ‵ (fdies (sliceTy (tyRef erased mut (tyInt w32))) l92)
+        ∷ ‵ (fat fullShare (tyRef erased mut (tyInt w32)) l91 0 (vptr b·ids o·ids))
+        ∷ ‵ (fdies (tyRef erased mut (tyInt w32)) l91)
+        ∷ ‵ (fat fullShare (sliceTy (tyRef erased mut (tyInt w32))) l90 0 s·cells)
+        ∷ ‵ (fdies (sliceTy (tyRef erased mut (tyInt w32))) l90)
+        ∷ ‵ (fat fullShare (tyRef erased mut (tyInt w32)) l89 0 (vptr b·cells o·cells))
+        ∷ ‵ (fdies (tyRef erased mut (tyInt w32)) l89)
+        ∷ ‵ (fat fullShare (sliceTy (tyRef erased mut (tyInt w64))) l88 0 s·feet)
+        ∷ ‵ (fdies (sliceTy (tyRef erased mut (tyInt w64))) l88)
+        ∷ ‵ (fat fullShare (tyRef erased mut (tyInt w64)) l87 0 (vptr b·feet o·feet))
+        ∷ ‵ (fdies (tyRef erased mut (tyInt w64)) l87)
+        ∷ ‵ (fat fullShare (sliceTy (tyRef erased mut (tyInt w32))) l86 0 s·kept)
+        ∷ ‵ (fdies (sliceTy (tyRef erased mut (tyInt w32))) l86)
+        ∷ ‵ (fat fullShare (tyRef erased mut (tyInt w32)) l85 0 (vptr b·kept o·kept))
+        ∷ ‵ (fdies (tyRef erased mut (tyInt w32)) l85)
+        ∷ ‵ (fat fullShare (sliceTy (tyRef erased mut (tyInt w32))) l84 0 s·lists)
+        ∷ ‵ (fdies (sliceTy (tyRef erased mut (tyInt w32))) l84)
+        ∷ ‵ (fat fullShare (tyRef erased mut (tyInt w32)) l83 0 (vptr b·lists o·lists))
+        ∷ ‵ (fdies (tyRef erased mut (tyInt w32)) l83)
+        ∷ ‵ (fat fullShare (sliceTy (tyRef erased mut (tyInt w32))) l82 0 s·rows)
+        ∷ ‵ (fdies (sliceTy (tyRef erased mut (tyInt w32))) l82)
+        ∷ ‵ (fat fullShare (tyRef erased mut (tyInt w32)) l81 0 (vptr b·rows o·rows))
+        ∷ ‵ (fdies (tyRef erased mut (tyInt w32)) l81)
+        ∷ ‵ (fat fullShare (sliceTy (tyRef erased mut (tyInt w32))) l80 0 s·defs)
+        ∷ ‵ (fdies (sliceTy (tyRef erased mut (tyInt w32))) l80)
+        ∷ ‵ (fat fullShare (tyRef erased mut (tyInt w32)) l79 0 (vptr b·defs o·defs))
+        ∷ ‵ (fdies (tyRef erased mut (tyInt w32)) l79)
+        ∷ ‵ (fat fullShare (sliceTy (tyRef erased mut (tyInt w32))) l78 0 s·words)
+        ∷ ‵ (fdies (sliceTy (tyRef erased mut (tyInt w32))) l78)
+        ∷ ‵ (fat fullShare (tyRef erased mut (tyInt w32)) l77 0 (vptr b·words o·words))
+        ∷ ‵ (fdies (tyRef erased mut (tyInt w32)) l77)
+        ∷ ‵ (fat fullShare (sliceTy (tyRef erased mut (tyInt w32))) l76 0 s·index)
+        ∷ ‵ (fdies (sliceTy (tyRef erased mut (tyInt w32))) l76)
+        ∷ ‵ (fat fullShare (tyRef erased mut (tyInt w32)) l75 0 (vptr b·index o·index))
+        ∷ ‵ (fdies (tyRef erased mut (tyInt w32)) l75)
+        ∷ ‵ (fat fullShare (sliceTy (tyRef erased mut (tyInt w32))) l74 0 s·vars)
+        ∷ ‵ (fdies (sliceTy (tyRef erased mut (tyInt w32))) l74)
+        ∷ ‵ (fat fullShare (tyRef erased mut (tyInt w32)) l73 0 (vptr b·vars o·vars))
+        ∷ ‵ (fdies (tyRef erased mut (tyInt w32)) l73)
+        ∷ ‵ (fat fullShare (sliceTy (tyRef erased imm (tyInt w32))) l72 0 s·patterns)
+        ∷ ‵ (fdies (sliceTy (tyRef erased imm (tyInt w32))) l72)
+        ∷ ‵ (fat fullShare (tyRef erased imm (tyInt w32)) l71 0 (vptr b·patterns o·patterns))
+        ∷ ‵ (fdies (tyRef erased imm (tyInt w32)) l71)
+        ∷ ‵ (fat fullShare (sliceTy (tyRef erased imm (tyInt w32))) l70 0 s·rulevars)
+        ∷ ‵ (fdies (sliceTy (tyRef erased imm (tyInt w32))) l70)
+        ∷ ‵ (fat fullShare (tyRef erased imm (tyInt w32)) l69 0 (vptr b·rulevars o·rulevars))
+        ∷ ‵ (fdies (tyRef erased imm (tyInt w32)) l69)
+        ∷ ‵ (fat fullShare (sliceTy (tyRef erased imm (tyInt w32))) l68 0 s·rules)
+        ∷ ‵ (fdies (sliceTy (tyRef erased imm (tyInt w32))) l68)
+        ∷ ‵ (fat fullShare (tyRef erased imm (tyInt w32)) l67 0 (vptr b·rules o·rules))
+        ∷ ‵ (fdies (tyRef erased imm (tyInt w32)) l67)
+        ∷ ‵ (fat fullShare (sliceTy (tyRef erased imm (tyInt w32))) l66 0 s·inputs)
+        ∷ ‵ (fdies (sliceTy (tyRef erased imm (tyInt w32))) l66)
+        ∷ ‵ (fat fullShare (tyRef erased imm (tyInt w32)) l65 0 (vptr b·inputs o·inputs))
+        ∷ ‵ (fdies (tyRef erased imm (tyInt w32)) l65)
+        ∷ ‵ (fat fullShare (sliceTy (tyRef erased imm (tyInt w32))) l64 0 s·symbols)
+        ∷ ‵ (fdies (sliceTy (tyRef erased imm (tyInt w32))) l64)
+        ∷ ‵ (fat fullShare (tyRef erased imm (tyInt w32)) l63 0 (vptr b·symbols o·symbols))
+        ∷ ‵ (fdies (tyRef erased imm (tyInt w32)) l63)
+        ∷ ‵ (fat fullShare (sliceTy (tyRef erased imm (tyInt w32))) l62 0 s·sorts)
+        ∷ ‵ (fdies (sliceTy (tyRef erased imm (tyInt w32))) l62)
+        ∷ ‵ (fat fullShare (tyRef erased imm (tyInt w32)) l61 0 (vptr b·sorts o·sorts))
+        ∷ ‵ (fdies (tyRef erased imm (tyInt w32)) l61)
+        ∷ ‵ (fat fullShare CountsL.mir l60 0 va·3·25)
+        ∷ ‵ (fdies CountsL.mir l60)
+        ∷ ‵ (fat fullShare (sliceTy (tyRef erased mut (tyInt w32))) l59 0 s·cells)
+        ∷ ‵ (fdies (sliceTy (tyRef erased mut (tyInt w32))) l59)
+        ∷ ‵ (fat fullShare (tyRef erased mut (tyInt w32)) l58 0 (vptr b·cells o·cells))
+        ∷ ‵ (fdies (tyRef erased mut (tyInt w32)) l58)
+        ∷ ‵ (fat fullShare (sliceTy (tyRef erased imm (tyInt w64))) l57 0 s·feet)
+        ∷ ‵ (fdies (sliceTy (tyRef erased imm (tyInt w64))) l57)
+        ∷ ‵ (fat fullShare (tyRef erased imm (tyInt w64)) l56 0 (vptr b·feet o·feet))
+        ∷ ‵ (fdies (tyRef erased imm (tyInt w64)) l56)
+        ∷ ‵ (fat fullShare (sliceTy (tyRef erased imm (tyInt w32))) l55 0 s·kept)
+        ∷ ‵ (fdies (sliceTy (tyRef erased imm (tyInt w32))) l55)
+        ∷ ‵ (fat fullShare (tyRef erased imm (tyInt w32)) l54 0 (vptr b·kept o·kept))
+        ∷ ‵ (fdies (tyRef erased imm (tyInt w32)) l54)
+        ∷ ‵ (fat fullShare (sliceTy (tyRef erased mut (tyInt w32))) l53 0 s·missing)
+        ∷ ‵ (fdies (sliceTy (tyRef erased mut (tyInt w32))) l53)
+        ∷ ‵ (fat fullShare (tyRef erased mut (tyInt w32)) l52 0 (vptr b·missing o·missing))
+        ∷ ‵ (fdies (tyRef erased mut (tyInt w32)) l52)
+        ∷ ‵ (fat fullShare (sliceTy (tyRef erased mut (tyInt w32))) l51 0 s·lists)
+        ∷ ‵ (fdies (sliceTy (tyRef erased mut (tyInt w32))) l51)
+        ∷ ‵ (fat fullShare (tyRef erased mut (tyInt w32)) l50 0 (vptr b·lists o·lists))
+        ∷ ‵ (fdies (tyRef erased mut (tyInt w32)) l50)
+        ∷ ‵ (fat fullShare (sliceTy (tyRef erased mut (tyInt w32))) l49 0 s·rows)
+        ∷ ‵ (fdies (sliceTy (tyRef erased mut (tyInt w32))) l49)
+        ∷ ‵ (fat fullShare (tyRef erased mut (tyInt w32)) l48 0 (vptr b·rows o·rows))
+        ∷ ‵ (fdies (tyRef erased mut (tyInt w32)) l48)
+        ∷ ‵ (fat fullShare (sliceTy (tyRef erased mut (tyInt w32))) l47 0 s·defs)
+        ∷ ‵ (fdies (sliceTy (tyRef erased mut (tyInt w32))) l47)
+        ∷ ‵ (fat fullShare (tyRef erased mut (tyInt w32)) l46 0 (vptr b·defs o·defs))
+        ∷ ‵ (fdies (tyRef erased mut (tyInt w32)) l46)
+        ∷ ‵ (fat fullShare (sliceTy (tyRef erased mut (tyInt w32))) l45 0 s·words)
+        ∷ ‵ (fdies (sliceTy (tyRef erased mut (tyInt w32))) l45)
+        ∷ ‵ (fat fullShare (tyRef erased mut (tyInt w32)) l44 0 (vptr b·words o·words))
+        ∷ ‵ (fdies (tyRef erased mut (tyInt w32)) l44)
+        ∷ ‵ (fat fullShare (sliceTy (tyRef erased mut (tyInt w32))) l43 0 s·index)
+        ∷ ‵ (fdies (sliceTy (tyRef erased mut (tyInt w32))) l43)
+        ∷ ‵ (fat fullShare (tyRef erased mut (tyInt w32)) l42 0 (vptr b·index o·index))
+        ∷ ‵ (fdies (tyRef erased mut (tyInt w32)) l42)
+        ∷ ‵ (fat fullShare (sliceTy (tyRef erased mut (tyInt w32))) l41 0 s·vars)
+        ∷ ‵ (fdies (sliceTy (tyRef erased mut (tyInt w32))) l41)
+        ∷ ‵ (fat fullShare (tyRef erased mut (tyInt w32)) l40 0 (vptr b·vars o·vars))
+        ∷ ‵ (fdies (tyRef erased mut (tyInt w32)) l40)
+        ∷ ‵ (fat fullShare (sliceTy (tyRef erased mut (tyInt w32))) l39 0 s·patterns)
+        ∷ ‵ (fdies (sliceTy (tyRef erased mut (tyInt w32))) l39)
+        ∷ ‵ (fat fullShare (tyRef erased mut (tyInt w32)) l38 0 (vptr b·patterns o·patterns))
+        ∷ ‵ (fdies (tyRef erased mut (tyInt w32)) l38)
+        ∷ ‵ (fat fullShare (sliceTy (tyRef erased mut (tyInt w32))) l37 0 s·rulevars)
+        ∷ ‵ (fdies (sliceTy (tyRef erased mut (tyInt w32))) l37)
+        ∷ ‵ (fat fullShare (tyRef erased mut (tyInt w32)) l36 0 (vptr b·rulevars o·rulevars))
+        ∷ ‵ (fdies (tyRef erased mut (tyInt w32)) l36)
+        ∷ ‵ (fat fullShare (sliceTy (tyRef erased mut (tyInt w32))) l35 0 s·rules)
+        ∷ ‵ (fdies (sliceTy (tyRef erased mut (tyInt w32))) l35)
+        ∷ ‵ (fat fullShare (tyRef erased mut (tyInt w32)) l34 0 (vptr b·rules o·rules))
+        ∷ ‵ (fdies (tyRef erased mut (tyInt w32)) l34)
+        ∷ ‵ (fat fullShare (sliceTy (tyRef erased mut (tyInt w32))) l33 0 s·inputs)
+        ∷ ‵ (fdies (sliceTy (tyRef erased mut (tyInt w32))) l33)
+        ∷ ‵ (fat fullShare (tyRef erased mut (tyInt w32)) l32 0 (vptr b·inputs o·inputs))
+        ∷ ‵ (fdies (tyRef erased mut (tyInt w32)) l32)
+        ∷ ‵ (fat fullShare (sliceTy (tyRef erased mut (tyInt w32))) l31 0 s·symbols)
+        ∷ ‵ (fdies (sliceTy (tyRef erased mut (tyInt w32))) l31)
+        ∷ ‵ (fat fullShare (tyRef erased mut (tyInt w32)) l30 0 (vptr b·symbols o·symbols))
+        ∷ ‵ (fdies (tyRef erased mut (tyInt w32)) l30)
+        ∷ ‵ (fat fullShare (sliceTy (tyRef erased mut (tyInt w32))) l29 0 s·sorts)
+        ∷ ‵ (fdies (sliceTy (tyRef erased mut (tyInt w32))) l29)
+        ∷ ‵ (fat fullShare (tyRef erased mut (tyInt w32)) l28 0 (vptr b·sorts o·sorts))
+        ∷ ‵ (fdies (tyRef erased mut (tyInt w32)) l28)
+        ∷ ‵ (fat fullShare AnswerL.mir l27 0 v4)
+        ∷ ‵ (fdies AnswerL.mir l27)
+        ∷ ‵ (fat fullShare RunL.mir l26 0 v3)
+        ∷ ‵ (fdies RunL.mir l26)
+        ∷ ‵ (fdies CountsL.mir l25)
+        ∷ ‵ (fat fullShare RunL.mir l24 0 v1)
+        ∷ ‵ (fdies RunL.mir l24)
+        ∷ ‵ (fat fullShare (tyInt w64) l23 0 (vint w64 (length facts)))
+        ∷ ‵ (fdies (tyInt w64) l23)
+        ∷ ‵ (fat fullShare (sliceTy (tyRef (named 21) mut (tyInt w32))) l22 0 s·memo)
+        ∷ ‵ (fdies (sliceTy (tyRef (named 21) mut (tyInt w32))) l22)
         ∷ ‵ (fat fullShare (sliceTy (tyRef (named 20) mut (tyInt w32))) l21 0 s·ids)
         ∷ ‵ (fdies (sliceTy (tyRef (named 20) mut (tyInt w32))) l21)
         ∷ ‵ (fat fullShare (sliceTy (tyRef (named 19) mut (tyInt w32))) l20 0 s·cells)
@@ -2300,46 +2430,59 @@ module _ {M : Type 1} (𝓤 : URA M) (H : Heap 𝓤) (A : Atoms 𝓤) (W : Given
         ∷ ‵ (fdies (sliceTy (tyRef (named 16) mut (pointee (FactT.the-row .written)))) l17) ∷ [])
         (frees (((sliceTy (tyRef (named 16) mut (pointee (FactT.the-row .written)))), l17) ∷ ((sliceTy (tyRef (named 17) mut (tyInt w32))), l18)
         ∷ ((sliceTy (tyRef (named 18) mut (tyInt w64))), l19) ∷ ((sliceTy (tyRef (named 19) mut (tyInt w32))), l20)
-        ∷ ((sliceTy (tyRef (named 20) mut (tyInt w32))), l21) ∷ ((tyInt w64), l22) ∷ (RunL.mir, l23) ∷ (CountsL.mir, l24) ∷ (RunL.mir, l25)
-        ∷ (AnswerL.mir, l26) ∷ ((tyRef erased mut (tyInt w32)), l27) ∷ ((sliceTy (tyRef erased mut (tyInt w32))), l28)
-        ∷ ((tyRef erased mut (tyInt w32)), l29) ∷ ((sliceTy (tyRef erased mut (tyInt w32))), l30) ∷ ((tyRef erased mut (tyInt w32)), l31)
-        ∷ ((sliceTy (tyRef erased mut (tyInt w32))), l32) ∷ ((tyRef erased mut (tyInt w32)), l33) ∷ ((sliceTy (tyRef erased mut (tyInt w32))), l34)
-        ∷ ((tyRef erased mut (tyInt w32)), l35) ∷ ((sliceTy (tyRef erased mut (tyInt w32))), l36) ∷ ((tyRef erased mut (tyInt w32)), l37)
-        ∷ ((sliceTy (tyRef erased mut (tyInt w32))), l38) ∷ ((tyRef erased mut (tyInt w32)), l39) ∷ ((sliceTy (tyRef erased mut (tyInt w32))), l40)
-        ∷ ((tyRef erased mut (tyInt w32)), l41) ∷ ((sliceTy (tyRef erased mut (tyInt w32))), l42) ∷ ((tyRef erased mut (tyInt w32)), l43)
-        ∷ ((sliceTy (tyRef erased mut (tyInt w32))), l44) ∷ ((tyRef erased mut (tyInt w32)), l45) ∷ ((sliceTy (tyRef erased mut (tyInt w32))), l46)
-        ∷ ((tyRef erased mut (tyInt w32)), l47) ∷ ((sliceTy (tyRef erased mut (tyInt w32))), l48) ∷ ((tyRef erased mut (tyInt w32)), l49)
-        ∷ ((sliceTy (tyRef erased mut (tyInt w32))), l50) ∷ ((tyRef erased mut (tyInt w32)), l51) ∷ ((sliceTy (tyRef erased mut (tyInt w32))), l52)
-        ∷ ((tyRef erased imm (tyInt w32)), l53) ∷ ((sliceTy (tyRef erased imm (tyInt w32))), l54) ∷ ((tyRef erased imm (tyInt w64)), l55)
-        ∷ ((sliceTy (tyRef erased imm (tyInt w64))), l56) ∷ ((tyRef erased mut (tyInt w32)), l57) ∷ ((sliceTy (tyRef erased mut (tyInt w32))), l58)
-        ∷ (CountsL.mir, l59) ∷ ((tyRef erased imm (tyInt w32)), l60) ∷ ((sliceTy (tyRef erased imm (tyInt w32))), l61)
-        ∷ ((tyRef erased imm (tyInt w32)), l62) ∷ ((sliceTy (tyRef erased imm (tyInt w32))), l63) ∷ ((tyRef erased imm (tyInt w32)), l64)
-        ∷ ((sliceTy (tyRef erased imm (tyInt w32))), l65) ∷ ((tyRef erased imm (tyInt w32)), l66) ∷ ((sliceTy (tyRef erased imm (tyInt w32))), l67)
-        ∷ ((tyRef erased imm (tyInt w32)), l68) ∷ ((sliceTy (tyRef erased imm (tyInt w32))), l69) ∷ ((tyRef erased imm (tyInt w32)), l70)
-        ∷ ((sliceTy (tyRef erased imm (tyInt w32))), l71) ∷ ((tyRef erased mut (tyInt w32)), l72) ∷ ((sliceTy (tyRef erased mut (tyInt w32))), l73)
-        ∷ ((tyRef erased mut (tyInt w32)), l74) ∷ ((sliceTy (tyRef erased mut (tyInt w32))), l75) ∷ ((tyRef erased mut (tyInt w32)), l76)
-        ∷ ((sliceTy (tyRef erased mut (tyInt w32))), l77) ∷ ((tyRef erased mut (tyInt w32)), l78) ∷ ((sliceTy (tyRef erased mut (tyInt w32))), l79)
-        ∷ ((tyRef erased mut (tyInt w32)), l80) ∷ ((sliceTy (tyRef erased mut (tyInt w32))), l81) ∷ ((tyRef erased mut (tyInt w32)), l82)
-        ∷ ((sliceTy (tyRef erased mut (tyInt w32))), l83) ∷ ((tyRef erased mut (tyInt w32)), l84) ∷ ((sliceTy (tyRef erased mut (tyInt w32))), l85)
-        ∷ ((tyRef erased mut (tyInt w64)), l86) ∷ ((sliceTy (tyRef erased mut (tyInt w64))), l87) ∷ ((tyRef erased mut (tyInt w32)), l88)
-        ∷ ((sliceTy (tyRef erased mut (tyInt w32))), l89) ∷ ((tyRef erased mut (tyInt w32)), l90) ∷ ((sliceTy (tyRef erased mut (tyInt w32))), l91)
-        ∷ ((tyRef erased mut (pointee (FactT.the-row .written))), l92) ∷ ((sliceTy (tyRef erased mut (pointee (FactT.the-row .written)))), l93)
-        ∷ ((tyRef erased mut (pointee (CountsT.the-row .written))), l94) ∷ ((tyRef erased mut (tyInt w32)), l95)
-        ∷ ((sliceTy (tyRef erased mut (tyInt w32))), l96) ∷ ((tyRef erased imm (tyInt w32)), l97) ∷ ((sliceTy (tyRef erased imm (tyInt w32))), l98)
-        ∷ ((tyRef erased imm (tyInt w32)), l99) ∷ ((sliceTy (tyRef erased imm (tyInt w32))), l100) ∷ ((tyRef erased mut (tyInt w32)), l101)
-        ∷ ((sliceTy (tyRef erased mut (tyInt w32))), l102) ∷ (tyUnit, l103) ∷ ((tyRef erased mut (pointee (FactT.the-row .written))), l104)
-        ∷ ((sliceTy (tyRef erased mut (pointee (FactT.the-row .written)))), l105) ∷ ((tyInt w64), l106) ∷ ((tyInt w64), l107) ∷ []) (prop (Post v4)))
+        ∷ ((sliceTy (tyRef (named 20) mut (tyInt w32))), l21) ∷ ((sliceTy (tyRef (named 21) mut (tyInt w32))), l22) ∷ ((tyInt w64), l23)
+        ∷ (RunL.mir, l24) ∷ (CountsL.mir, l25) ∷ (RunL.mir, l26) ∷ (AnswerL.mir, l27) ∷ ((tyRef erased mut (tyInt w32)), l28)
+        ∷ ((sliceTy (tyRef erased mut (tyInt w32))), l29) ∷ ((tyRef erased mut (tyInt w32)), l30) ∷ ((sliceTy (tyRef erased mut (tyInt w32))), l31)
+        ∷ ((tyRef erased mut (tyInt w32)), l32) ∷ ((sliceTy (tyRef erased mut (tyInt w32))), l33) ∷ ((tyRef erased mut (tyInt w32)), l34)
+        ∷ ((sliceTy (tyRef erased mut (tyInt w32))), l35) ∷ ((tyRef erased mut (tyInt w32)), l36) ∷ ((sliceTy (tyRef erased mut (tyInt w32))), l37)
+        ∷ ((tyRef erased mut (tyInt w32)), l38) ∷ ((sliceTy (tyRef erased mut (tyInt w32))), l39) ∷ ((tyRef erased mut (tyInt w32)), l40)
+        ∷ ((sliceTy (tyRef erased mut (tyInt w32))), l41) ∷ ((tyRef erased mut (tyInt w32)), l42) ∷ ((sliceTy (tyRef erased mut (tyInt w32))), l43)
+        ∷ ((tyRef erased mut (tyInt w32)), l44) ∷ ((sliceTy (tyRef erased mut (tyInt w32))), l45) ∷ ((tyRef erased mut (tyInt w32)), l46)
+        ∷ ((sliceTy (tyRef erased mut (tyInt w32))), l47) ∷ ((tyRef erased mut (tyInt w32)), l48) ∷ ((sliceTy (tyRef erased mut (tyInt w32))), l49)
+        ∷ ((tyRef erased mut (tyInt w32)), l50) ∷ ((sliceTy (tyRef erased mut (tyInt w32))), l51) ∷ ((tyRef erased mut (tyInt w32)), l52)
+        ∷ ((sliceTy (tyRef erased mut (tyInt w32))), l53) ∷ ((tyRef erased imm (tyInt w32)), l54) ∷ ((sliceTy (tyRef erased imm (tyInt w32))), l55)
+        ∷ ((tyRef erased imm (tyInt w64)), l56) ∷ ((sliceTy (tyRef erased imm (tyInt w64))), l57) ∷ ((tyRef erased mut (tyInt w32)), l58)
+        ∷ ((sliceTy (tyRef erased mut (tyInt w32))), l59) ∷ (CountsL.mir, l60) ∷ ((tyRef erased imm (tyInt w32)), l61)
+        ∷ ((sliceTy (tyRef erased imm (tyInt w32))), l62) ∷ ((tyRef erased imm (tyInt w32)), l63) ∷ ((sliceTy (tyRef erased imm (tyInt w32))), l64)
+        ∷ ((tyRef erased imm (tyInt w32)), l65) ∷ ((sliceTy (tyRef erased imm (tyInt w32))), l66) ∷ ((tyRef erased imm (tyInt w32)), l67)
+        ∷ ((sliceTy (tyRef erased imm (tyInt w32))), l68) ∷ ((tyRef erased imm (tyInt w32)), l69) ∷ ((sliceTy (tyRef erased imm (tyInt w32))), l70)
+        ∷ ((tyRef erased imm (tyInt w32)), l71) ∷ ((sliceTy (tyRef erased imm (tyInt w32))), l72) ∷ ((tyRef erased mut (tyInt w32)), l73)
+        ∷ ((sliceTy (tyRef erased mut (tyInt w32))), l74) ∷ ((tyRef erased mut (tyInt w32)), l75) ∷ ((sliceTy (tyRef erased mut (tyInt w32))), l76)
+        ∷ ((tyRef erased mut (tyInt w32)), l77) ∷ ((sliceTy (tyRef erased mut (tyInt w32))), l78) ∷ ((tyRef erased mut (tyInt w32)), l79)
+        ∷ ((sliceTy (tyRef erased mut (tyInt w32))), l80) ∷ ((tyRef erased mut (tyInt w32)), l81) ∷ ((sliceTy (tyRef erased mut (tyInt w32))), l82)
+        ∷ ((tyRef erased mut (tyInt w32)), l83) ∷ ((sliceTy (tyRef erased mut (tyInt w32))), l84) ∷ ((tyRef erased mut (tyInt w32)), l85)
+        ∷ ((sliceTy (tyRef erased mut (tyInt w32))), l86) ∷ ((tyRef erased mut (tyInt w64)), l87) ∷ ((sliceTy (tyRef erased mut (tyInt w64))), l88)
+        ∷ ((tyRef erased mut (tyInt w32)), l89) ∷ ((sliceTy (tyRef erased mut (tyInt w32))), l90) ∷ ((tyRef erased mut (tyInt w32)), l91)
+        ∷ ((sliceTy (tyRef erased mut (tyInt w32))), l92) ∷ ((tyRef erased mut (tyInt w32)), l93) ∷ ((sliceTy (tyRef erased mut (tyInt w32))), l94)
+        ∷ ((tyRef erased mut (pointee (FactT.the-row .written))), l95) ∷ ((sliceTy (tyRef erased mut (pointee (FactT.the-row .written)))), l96)
+        ∷ ((tyRef erased mut (pointee (CountsT.the-row .written))), l97) ∷ ((tyRef erased mut (tyInt w32)), l98)
+        ∷ ((sliceTy (tyRef erased mut (tyInt w32))), l99) ∷ ((tyRef erased imm (tyInt w32)), l100) ∷ ((sliceTy (tyRef erased imm (tyInt w32))), l101)
+        ∷ ((tyRef erased imm (tyInt w32)), l102) ∷ ((sliceTy (tyRef erased imm (tyInt w32))), l103) ∷ ((tyRef erased mut (tyInt w32)), l104)
+        ∷ ((sliceTy (tyRef erased mut (tyInt w32))), l105) ∷ (tyUnit, l106) ∷ ((tyRef erased mut (pointee (FactT.the-row .written))), l107)
+        ∷ ((sliceTy (tyRef erased mut (pointee (FactT.the-row .written)))), l108) ∷ ((tyInt w64), l109) ∷ ((tyInt w64), l110) ∷ []) (prop (Post v4)))
     seg·14 l0 l1 l2 l3 l4 l5 l6 l7 l8 l9 l10 l11 l12 l13 l14 l15 l16 l17 l18 l19 l20 l21 l22 l23 l24 l25 l26 l27 l28 l29 l30 l31 l32 l33 l34 l35 l36
         l37 l38 l39 l40 l41 l42 l43 l44 l45 l46 l47 l48 l49 l50 l51 l52 l53 l54 l55 l56 l57 l58 l59 l60 l61 l62 l63 l64 l65 l66 l67 l68 l69 l70 l71
         l72 l73 l74 l75 l76 l77 l78 l79 l80 l81 l82 l83 l84 l85 l86 l87 l88 l89 l90 l91 l92 l93 l94 l95 l96 l97 l98 l99 l100 l101 l102 l103 l104
-        l105 l106 l107 ν·1·3 δ·1·3 ν·1·4 δ·1·4 ν·1·5 δ·1·5 ν·1·6 δ·1·6 ν·1·7 δ·1·7 ν·1·8 δ·1·8 ν·1·9 δ·1·9 ν·1·10 δ·1·10 ν·1·11 δ·1·11 ν·1·12
-        δ·1·12 ν·1·13 δ·1·13 ν·1·14 δ·1·14 ν·1·15 δ·1·15 ν·1·16 δ·1·16 ν·1·17 δ·1·17 ν·1·18 δ·1·18 v1 r1 ws1 e1·0 e1·1 len·1·sorts
-        len·1·symbols len·1·inputs len·1·rules len·1·rulevars len·1·patterns len·1·vars len·1·index len·1·words len·1·defs len·1·rows
-        len·1·lists len·1·missing len·1·cells is1 v2 r2 ws2 e2 is2 ν·3·4 δ·3·4 ν·3·5 δ·3·5 ν·3·6 δ·3·6 ν·3·7 δ·3·7 ν·3·8 δ·3·8
-        ν·3·9 δ·3·9 ν·3·11 δ·3·11 ν·3·12 δ·3·12 ν·3·14 δ·3·14 ν·3·20 δ·3·20 ν·3·21 δ·3·21 v3 r3 ws3 e3 len·3·vars len·3·index
-        len·3·words len·3·defs len·3·rows len·3·lists len·3·kept len·3·feet len·3·cells len·3·ids len·3·facts is3 va·3·24
-        isa·3·24 ν·4·3 δ·4·3 ν·4·4 δ·4·4 v4 r4 ws4 e4·0 e4·1 len·4·index len·4·missing is4 v5 r5 ws5 e5 is5 v6 r6 ws6
-        e6 is6 v7 r7 ws7 e7 len·7·facts is7 =
+        l105 l106 l107 l108 l109 l110 ν·1·3 δ·1·3 ν·1·4 δ·1·4 ν·1·5 δ·1·5 ν·1·6 δ·1·6 ν·1·7 δ·1·7 ν·1·8 δ·1·8 ν·1·9 δ·1·9 ν·1·10 δ·1·10 ν·1·11
+        δ·1·11 ν·1·12 δ·1·12 ν·1·13 δ·1·13 ν·1·14 δ·1·14 ν·1·15 δ·1·15 ν·1·16 δ·1·16 ν·1·17 δ·1·17 ν·1·18 δ·1·18 v1 r1 ws1 e1·0 e1·1
+        len·1·sorts len·1·symbols len·1·inputs len·1·rules len·1·rulevars len·1·patterns len·1·vars len·1·index len·1·words len·1·defs
+        len·1·rows len·1·lists len·1·missing len·1·cells is1 v2 r2 ws2 e2 is2 ν·3·4 δ·3·4 ν·3·5 δ·3·5 ν·3·6 δ·3·6 ν·3·7 δ·3·7
+        ν·3·8 δ·3·8 ν·3·9 δ·3·9 ν·3·11 δ·3·11 ν·3·12 δ·3·12 ν·3·14 δ·3·14 ν·3·21 δ·3·21 ν·3·22 δ·3·22 v3 r3 ws3 e3 len·3·vars
+        len·3·index len·3·words len·3·defs len·3·rows len·3·lists len·3·kept len·3·feet len·3·cells len·3·ids len·3·memo
+        len·3·facts is3 va·3·25 isa·3·25 ν·4·3 δ·4·3 ν·4·4 δ·4·4 v4 r4 ws4 e4·0 e4·1 len·4·index len·4·missing is4 v5
+        r5 ws5 e5 is5 v6 r6 ws6 e6 is6 v7 r7 ws7 e7 len·7·facts is7 =
+        forget ! 230 refl $
+        move ! (230 ∷ 231 ∷ []) $
+        free1 ! $
+        forget ! 228 refl $
+        move ! (228 ∷ 229 ∷ []) $
+        free1 ! $
+        forget ! 226 refl $
+        move ! (226 ∷ 227 ∷ []) $
+        free1 ! $
+        forget ! 224 refl $
+        move ! (224 ∷ 225 ∷ []) $
+        free1 ! $
         forget ! 222 refl $
         move ! (222 ∷ 223 ∷ []) $
         free1 ! $
@@ -2352,8 +2495,8 @@ module _ {M : Type 1} (𝓤 : URA M) (H : Heap 𝓤) (A : Atoms 𝓤) (W : Given
         forget ! 216 refl $
         move ! (216 ∷ 217 ∷ []) $
         free1 ! $
-        forget ! 214 refl $
-        move ! (214 ∷ 215 ∷ []) $
+        forget ! 10 refl $
+        move ! (10 ∷ 215 ∷ []) $
         free1 ! $
         forget ! 212 refl $
         move ! (212 ∷ 213 ∷ []) $
@@ -2361,8 +2504,8 @@ module _ {M : Type 1} (𝓤 : URA M) (H : Heap 𝓤) (A : Atoms 𝓤) (W : Given
         forget ! 210 refl $
         move ! (210 ∷ 211 ∷ []) $
         free1 ! $
-        forget ! 10 refl $
-        move ! (10 ∷ 209 ∷ []) $
+        forget ! 208 refl $
+        move ! (208 ∷ 209 ∷ []) $
         free1 ! $
         forget ! 206 refl $
         move ! (206 ∷ 207 ∷ []) $
@@ -2376,28 +2519,16 @@ module _ {M : Type 1} (𝓤 : URA M) (H : Heap 𝓤) (A : Atoms 𝓤) (W : Given
         forget ! 200 refl $
         move ! (200 ∷ 201 ∷ []) $
         free1 ! $
-        forget ! 198 refl $
-        move ! (198 ∷ 199 ∷ []) $
-        free1 ! $
-        forget ! 196 refl $
-        move ! (196 ∷ 197 ∷ []) $
-        free1 ! $
-        forget ! 194 refl $
-        move ! (194 ∷ 195 ∷ []) $
-        free1 ! $
-        forget ! 192 refl $
-        move ! (192 ∷ 193 ∷ []) $
-        free1 ! $
         seg·15 l0 l1 l2 l3 l4 l5 l6 l7 l8 l9 l10 l11 l12 l13 l14 l15 l16 l17 l18 l19 l20 l21 l22 l23 l24 l25 l26 l27 l28 l29 l30 l31 l32 l33 l34 l35
         l36 l37 l38 l39 l40 l41 l42 l43 l44 l45 l46 l47 l48 l49 l50 l51 l52 l53 l54 l55 l56 l57 l58 l59 l60 l61 l62 l63 l64 l65 l66 l67 l68 l69 l70
         l71 l72 l73 l74 l75 l76 l77 l78 l79 l80 l81 l82 l83 l84 l85 l86 l87 l88 l89 l90 l91 l92 l93 l94 l95 l96 l97 l98 l99 l100 l101 l102 l103 l104
-        l105 l106 l107 ν·1·3 δ·1·3 ν·1·4 δ·1·4 ν·1·5 δ·1·5 ν·1·6 δ·1·6 ν·1·7 δ·1·7 ν·1·8 δ·1·8 ν·1·9 δ·1·9 ν·1·10 δ·1·10 ν·1·11 δ·1·11 ν·1·12 δ·1·12
-        ν·1·13 δ·1·13 ν·1·14 δ·1·14 ν·1·15 δ·1·15 ν·1·16 δ·1·16 ν·1·17 δ·1·17 ν·1·18 δ·1·18 v1 r1 ws1 e1·0 e1·1 len·1·sorts len·1·symbols len·1·inputs
-        len·1·rules len·1·rulevars len·1·patterns len·1·vars len·1·index len·1·words len·1·defs len·1·rows len·1·lists len·1·missing len·1·cells is1
-        v2 r2 ws2 e2 is2 ν·3·4 δ·3·4 ν·3·5 δ·3·5 ν·3·6 δ·3·6 ν·3·7 δ·3·7 ν·3·8 δ·3·8 ν·3·9 δ·3·9 ν·3·11 δ·3·11 ν·3·12 δ·3·12 ν·3·14 δ·3·14 ν·3·20
-        δ·3·20 ν·3·21 δ·3·21 v3 r3 ws3 e3 len·3·vars len·3·index len·3·words len·3·defs len·3·rows len·3·lists len·3·kept len·3·feet len·3·cells
-        len·3·ids len·3·facts is3 va·3·24 isa·3·24 ν·4·3 δ·4·3 ν·4·4 δ·4·4 v4 r4 ws4 e4·0 e4·1 len·4·index len·4·missing is4 v5 r5 ws5 e5 is5 v6 r6
-        ws6 e6 is6 v7 r7 ws7 e7 len·7·facts is7
+        l105 l106 l107 l108 l109 l110 ν·1·3 δ·1·3 ν·1·4 δ·1·4 ν·1·5 δ·1·5 ν·1·6 δ·1·6 ν·1·7 δ·1·7 ν·1·8 δ·1·8 ν·1·9 δ·1·9 ν·1·10 δ·1·10 ν·1·11 δ·1·11
+        ν·1·12 δ·1·12 ν·1·13 δ·1·13 ν·1·14 δ·1·14 ν·1·15 δ·1·15 ν·1·16 δ·1·16 ν·1·17 δ·1·17 ν·1·18 δ·1·18 v1 r1 ws1 e1·0 e1·1 len·1·sorts
+        len·1·symbols len·1·inputs len·1·rules len·1·rulevars len·1·patterns len·1·vars len·1·index len·1·words len·1·defs len·1·rows len·1·lists
+        len·1·missing len·1·cells is1 v2 r2 ws2 e2 is2 ν·3·4 δ·3·4 ν·3·5 δ·3·5 ν·3·6 δ·3·6 ν·3·7 δ·3·7 ν·3·8 δ·3·8 ν·3·9 δ·3·9 ν·3·11 δ·3·11 ν·3·12
+        δ·3·12 ν·3·14 δ·3·14 ν·3·21 δ·3·21 ν·3·22 δ·3·22 v3 r3 ws3 e3 len·3·vars len·3·index len·3·words len·3·defs len·3·rows len·3·lists len·3·kept
+        len·3·feet len·3·cells len·3·ids len·3·memo len·3·facts is3 va·3·25 isa·3·25 ν·4·3 δ·4·3 ν·4·4 δ·4·4 v4 r4 ws4 e4·0 e4·1 len·4·index
+        len·4·missing is4 v5 r5 ws5 e5 is5 v6 r6 ws6 e6 is6 v7 r7 ws7 e7 len·7·facts is7
 
     seg·13 : (l0 : ℕ) (l1 : ℕ) (l2 : ℕ) (l3 : ℕ) (l4 : ℕ) (l5 : ℕ) (l6 : ℕ) (l7 : ℕ) (l8 : ℕ) (l9 : ℕ) (l10 : ℕ) (l11 : ℕ) (l12 : ℕ) (l13 : ℕ)
         (l14 : ℕ) (l15 : ℕ) (l16 : ℕ) (l17 : ℕ) (l18 : ℕ) (l19 : ℕ) (l20 : ℕ) (l21 : ℕ) (l22 : ℕ) (l23 : ℕ) (l24 : ℕ) (l25 : ℕ) (l26 : ℕ) (l27 : ℕ)
@@ -2406,14 +2537,14 @@ module _ {M : Type 1} (𝓤 : URA M) (H : Heap 𝓤) (A : Atoms 𝓤) (W : Given
         (l56 : ℕ) (l57 : ℕ) (l58 : ℕ) (l59 : ℕ) (l60 : ℕ) (l61 : ℕ) (l62 : ℕ) (l63 : ℕ) (l64 : ℕ) (l65 : ℕ) (l66 : ℕ) (l67 : ℕ) (l68 : ℕ) (l69 : ℕ)
         (l70 : ℕ) (l71 : ℕ) (l72 : ℕ) (l73 : ℕ) (l74 : ℕ) (l75 : ℕ) (l76 : ℕ) (l77 : ℕ) (l78 : ℕ) (l79 : ℕ) (l80 : ℕ) (l81 : ℕ) (l82 : ℕ) (l83 : ℕ)
         (l84 : ℕ) (l85 : ℕ) (l86 : ℕ) (l87 : ℕ) (l88 : ℕ) (l89 : ℕ) (l90 : ℕ) (l91 : ℕ) (l92 : ℕ) (l93 : ℕ) (l94 : ℕ) (l95 : ℕ) (l96 : ℕ) (l97 : ℕ)
-        (l98 : ℕ) (l99 : ℕ) (l100 : ℕ) (l101 : ℕ) (l102 : ℕ) (l103 : ℕ) (l104 : ℕ) (l105 : ℕ) (l106 : ℕ) (l107 : ℕ) (ν·1·3 : ℕ) (δ·1·3 : GName)
-        (ν·1·4 : ℕ) (δ·1·4 : GName) (ν·1·5 : ℕ) (δ·1·5 : GName) (ν·1·6 : ℕ) (δ·1·6 : GName) (ν·1·7 : ℕ) (δ·1·7 : GName) (ν·1·8 : ℕ) (δ·1·8 : GName)
-        (ν·1·9 : ℕ) (δ·1·9 : GName) (ν·1·10 : ℕ) (δ·1·10 : GName) (ν·1·11 : ℕ) (δ·1·11 : GName) (ν·1·12 : ℕ) (δ·1·12 : GName) (ν·1·13 : ℕ)
-        (δ·1·13 : GName) (ν·1·14 : ℕ) (δ·1·14 : GName) (ν·1·15 : ℕ) (δ·1·15 : GName) (ν·1·16 : ℕ) (δ·1·16 : GName) (ν·1·17 : ℕ) (δ·1·17 : GName)
-        (ν·1·18 : ℕ) (δ·1·18 : GName) (v1 : Val) (r1 : Run) (ws1 : (Unit {0} ×
-        (Unit {0} × (Unit {0} × ((List ℕ) × ((List ℕ) × ((List ℕ) × ((List ℕ) ×
+        (l98 : ℕ) (l99 : ℕ) (l100 : ℕ) (l101 : ℕ) (l102 : ℕ) (l103 : ℕ) (l104 : ℕ) (l105 : ℕ) (l106 : ℕ) (l107 : ℕ) (l108 : ℕ) (l109 : ℕ) (l110 : ℕ)
+        (ν·1·3 : ℕ) (δ·1·3 : GName) (ν·1·4 : ℕ) (δ·1·4 : GName) (ν·1·5 : ℕ) (δ·1·5 : GName) (ν·1·6 : ℕ) (δ·1·6 : GName) (ν·1·7 : ℕ) (δ·1·7 : GName)
+        (ν·1·8 : ℕ) (δ·1·8 : GName) (ν·1·9 : ℕ) (δ·1·9 : GName) (ν·1·10 : ℕ) (δ·1·10 : GName) (ν·1·11 : ℕ) (δ·1·11 : GName) (ν·1·12 : ℕ)
+        (δ·1·12 : GName) (ν·1·13 : ℕ) (δ·1·13 : GName) (ν·1·14 : ℕ) (δ·1·14 : GName) (ν·1·15 : ℕ) (δ·1·15 : GName) (ν·1·16 : ℕ) (δ·1·16 : GName)
+        (ν·1·17 : ℕ) (δ·1·17 : GName) (ν·1·18 : ℕ) (δ·1·18 : GName) (v1 : Val) (r1 : Run)
+        (ws1 : (Unit {0} × (Unit {0} × (Unit {0} × ((List ℕ) × ((List ℕ) × ((List ℕ) ×
         ((List ℕ) × ((List ℕ) × ((List ℕ) × ((List ℕ) × ((List ℕ) × ((List ℕ) ×
-        ((List ℕ) × ((List ℕ) × ((List ℕ) × (Unit {0} × (Unit {0} × ((List ℕ) × (Unit {0} × Unit {0})))))))))))))))))))))
+        ((List ℕ) × ((List ℕ) × ((List ℕ) × ((List ℕ) × (Unit {0} × (Unit {0} × ((List ℕ) × (Unit {0} × Unit {0})))))))))))))))))))))
         (e1·0 : Begun theory goals proof (length facts) (theoryLists sorts symbols inputs rules rulevars patterns)
         (theoryLists (ws1 .1 .1 .1 .0) (ws1 .1 .1 .1 .1 .0) (ws1 .1 .1 .1 .1 .1 .0) (ws1 .1 .1 .1 .1 .1 .1 .0) (ws1 .1 .1 .1 .1 .1 .1 .1 .0)
         (ws1 .1 .1 .1 .1 .1 .1 .1 .1 .0)) (working vars index words defs rows lists)
@@ -2434,11 +2565,11 @@ module _ {M : Type 1} (𝓤 : URA M) (H : Heap 𝓤) (A : Atoms 𝓤) (W : Given
         (len·1·cells : length (ws1 .1 .1 .1 .1 .1 .1 .1 .1 .1 .1 .1 .1 .1 .1 .1 .1 .1 .1 .0) ≡ length cells) (is1 : Is RunT.the-row r1 (v1 ∷ []))
         (v2 : Val) (r2 : Counts) (ws2 : Unit {0}) (e2 : r2 ≡ none) (is2 : Is CountsT.the-row r2 (v2 ∷ [])) (ν·3·4 : ℕ) (δ·3·4 : GName) (ν·3·5 : ℕ)
         (δ·3·5 : GName) (ν·3·6 : ℕ) (δ·3·6 : GName) (ν·3·7 : ℕ) (δ·3·7 : GName) (ν·3·8 : ℕ) (δ·3·8 : GName) (ν·3·9 : ℕ) (δ·3·9 : GName) (ν·3·11 : ℕ)
-        (δ·3·11 : GName) (ν·3·12 : ℕ) (δ·3·12 : GName) (ν·3·14 : ℕ) (δ·3·14 : GName) (ν·3·20 : ℕ) (δ·3·20 : GName) (ν·3·21 : ℕ) (δ·3·21 : GName)
+        (δ·3·11 : GName) (ν·3·12 : ℕ) (δ·3·12 : GName) (ν·3·14 : ℕ) (δ·3·14 : GName) (ν·3·21 : ℕ) (δ·3·21 : GName) (ν·3·22 : ℕ) (δ·3·22 : GName)
         (v3 : Val) (r3 : Run) (ws3 : (Unit {0} × (Unit {0} × (Unit {0} × (Unit {0} ×
         (Unit {0} × (Unit {0} × (Unit {0} × (Unit {0} × (Unit {0} × (Unit {0} ×
         ((List ℕ) × ((List ℕ) × ((List ℕ) × ((List ℕ) × ((List ℕ) × ((List ℕ) ×
-        ((List ℕ) × ((List ℕ) × ((List ℕ) × ((List ℕ) × ((List Fact) × (Counts × Unit {0})))))))))))))))))))))))
+        ((List ℕ) × ((List ℕ) × ((List ℕ) × ((List ℕ) × ((List ℕ) × ((List Fact) × (Counts × Unit {0}))))))))))))))))))))))))
         (e3 : Ran theory goals proof (theoryLists (ws1 .1 .1 .1 .0) (ws1 .1 .1 .1 .1 .0) (ws1 .1 .1 .1 .1 .1 .0) (ws1 .1 .1 .1 .1 .1 .1 .0)
         (ws1 .1 .1 .1 .1 .1 .1 .1 .0) (ws1 .1 .1 .1 .1 .1 .1 .1 .1 .0)) (working (ws1 .1 .1 .1 .1 .1 .1 .1 .1 .1 .0)
         (ws1 .1 .1 .1 .1 .1 .1 .1 .1 .1 .1 .0) (ws1 .1 .1 .1 .1 .1 .1 .1 .1 .1 .1 .1 .0) (ws1 .1 .1 .1 .1 .1 .1 .1 .1 .1 .1 .1 .1 .0)
@@ -2447,8 +2578,9 @@ module _ {M : Type 1} (𝓤 : URA M) (H : Heap 𝓤) (A : Atoms 𝓤) (W : Given
         (ws3 .1 .1 .1 .1 .1 .1 .1 .1 .1 .1 .1 .1 .1 .0) (ws3 .1 .1 .1 .1 .1 .1 .1 .1 .1 .1 .1 .1 .1 .1 .0)
         (ws3 .1 .1 .1 .1 .1 .1 .1 .1 .1 .1 .1 .1 .1 .1 .1 .0)) (ws3 .1 .1 .1 .1 .1 .1 .1 .1 .1 .1 .1 .1 .1 .1 .1 .1 .0)
         (ws3 .1 .1 .1 .1 .1 .1 .1 .1 .1 .1 .1 .1 .1 .1 .1 .1 .1 .0) (ws3 .1 .1 .1 .1 .1 .1 .1 .1 .1 .1 .1 .1 .1 .1 .1 .1 .1 .1 .0)
-        (ws3 .1 .1 .1 .1 .1 .1 .1 .1 .1 .1 .1 .1 .1 .1 .1 .1 .1 .1 .1 .0) r1 r3 facts
-        (ws3 .1 .1 .1 .1 .1 .1 .1 .1 .1 .1 .1 .1 .1 .1 .1 .1 .1 .1 .1 .1 .0) (ws3 .1 .1 .1 .1 .1 .1 .1 .1 .1 .1 .1 .1 .1 .1 .1 .1 .1 .1 .1 .1 .1 .0))
+        (ws3 .1 .1 .1 .1 .1 .1 .1 .1 .1 .1 .1 .1 .1 .1 .1 .1 .1 .1 .1 .0) (ws3 .1 .1 .1 .1 .1 .1 .1 .1 .1 .1 .1 .1 .1 .1 .1 .1 .1 .1 .1 .1 .0) r1 r3
+        facts (ws3 .1 .1 .1 .1 .1 .1 .1 .1 .1 .1 .1 .1 .1 .1 .1 .1 .1 .1 .1 .1 .1 .0)
+        (ws3 .1 .1 .1 .1 .1 .1 .1 .1 .1 .1 .1 .1 .1 .1 .1 .1 .1 .1 .1 .1 .1 .1 .0))
         (len·3·vars : length (ws3 .1 .1 .1 .1 .1 .1 .1 .1 .1 .1 .0) ≡ length (ws1 .1 .1 .1 .1 .1 .1 .1 .1 .1 .0))
         (len·3·index : length (ws3 .1 .1 .1 .1 .1 .1 .1 .1 .1 .1 .1 .0) ≡ length (ws1 .1 .1 .1 .1 .1 .1 .1 .1 .1 .1 .0))
         (len·3·words : length (ws3 .1 .1 .1 .1 .1 .1 .1 .1 .1 .1 .1 .1 .0) ≡ length (ws1 .1 .1 .1 .1 .1 .1 .1 .1 .1 .1 .1 .0))
@@ -2460,11 +2592,12 @@ module _ {M : Type 1} (𝓤 : URA M) (H : Heap 𝓤) (A : Atoms 𝓤) (W : Given
         (len·3·cells : length (ws3 .1 .1 .1 .1 .1 .1 .1 .1 .1 .1 .1 .1 .1 .1 .1 .1 .1 .1 .0) ≡ length
         (ws1 .1 .1 .1 .1 .1 .1 .1 .1 .1 .1 .1 .1 .1 .1 .1 .1 .1 .1 .0)) (len·3·ids : length
         (ws3 .1 .1 .1 .1 .1 .1 .1 .1 .1 .1 .1 .1 .1 .1 .1 .1 .1 .1 .1 .0) ≡ length ids)
-        (len·3·facts : length (ws3 .1 .1 .1 .1 .1 .1 .1 .1 .1 .1 .1 .1 .1 .1 .1 .1 .1 .1 .1 .1 .0) ≡ length facts)
-        (is3 : Is RunT.the-row r3 (v3 ∷ [])) (va·3·24 : Val) (isa·3·24 : Is CountsT.the-row
-        (ws3 .1 .1 .1 .1 .1 .1 .1 .1 .1 .1 .1 .1 .1 .1 .1 .1 .1 .1 .1 .1 .1 .0) (va·3·24 ∷ [])) (ν·4·3 : ℕ) (δ·4·3 : GName) (ν·4·4 : ℕ)
+        (len·3·memo : length (ws3 .1 .1 .1 .1 .1 .1 .1 .1 .1 .1 .1 .1 .1 .1 .1 .1 .1 .1 .1 .1 .0) ≡ length memo)
+        (len·3·facts : length (ws3 .1 .1 .1 .1 .1 .1 .1 .1 .1 .1 .1 .1 .1 .1 .1 .1 .1 .1 .1 .1 .1 .0) ≡ length facts)
+        (is3 : Is RunT.the-row r3 (v3 ∷ [])) (va·3·25 : Val) (isa·3·25 : Is CountsT.the-row
+        (ws3 .1 .1 .1 .1 .1 .1 .1 .1 .1 .1 .1 .1 .1 .1 .1 .1 .1 .1 .1 .1 .1 .1 .0) (va·3·25 ∷ [])) (ν·4·3 : ℕ) (δ·4·3 : GName) (ν·4·4 : ℕ)
         (δ·4·4 : GName) (v4 : Val) (r4 : Answer) (ws4 : (Unit {0} × (Unit {0} × ((List ℕ) × (Unit {0} × (Unit {0} × ((List ℕ) × Unit {0})))))))
-        (e4·0 : (g : Ending r3 (ws3 .1 .1 .1 .1 .1 .1 .1 .1 .1 .1 .1 .1 .1 .1 .1 .1 .1 .1 .1 .1 .1 .0) (ws3 .1 .1 .1 .1 .1 .1 .1 .1 .1 .1 .1 .0)
+        (e4·0 : (g : Ending r3 (ws3 .1 .1 .1 .1 .1 .1 .1 .1 .1 .1 .1 .1 .1 .1 .1 .1 .1 .1 .1 .1 .1 .1 .0) (ws3 .1 .1 .1 .1 .1 .1 .1 .1 .1 .1 .1 .0)
         (ws3 .1 .1 .1 .1 .1 .1 .1 .1 .1 .1 .1 .1 .0) (ws3 .1 .1 .1 .1 .1 .1 .1 .1 .1 .1 .1 .1 .1 .1 .0)
         (ws1 .1 .1 .1 .1 .1 .1 .1 .1 .1 .1 .1 .1 .1 .1 .1 .0)) → Ended (g .theory) (g .goals) (g .proof) r3 (ws3 .1 .1 .1 .1 .1 .1 .1 .1 .1 .1 .1 .0)
         (ws4 .1 .1 .0) (ws1 .1 .1 .1 .1 .1 .1 .1 .1 .1 .1 .1 .1 .1 .1 .1 .0) (ws4 .1 .1 .1 .1 .1 .0) r4)
@@ -2475,8 +2608,9 @@ module _ {M : Type 1} (𝓤 : URA M) (H : Heap 𝓤) (A : Atoms 𝓤) (W : Given
         (is4 : Is AnswerT.the-row r4 (v4 ∷ [])) (v5 : Val) (r5 : ℕ) (ws5 : (Unit {0} × Unit {0})) (e5 : r5 ≡ r3 .sizes .facts)
         (is5 : Is usize r5 (v5 ∷ [])) (v6 : Val) (r6 : ℕ) (ws6 : (Unit {0} × Unit {0})) (e6 : r6 ≡ roomOf r3) (is6 : Is usize r6 (v6 ∷ [])) (v7 : Val)
         (r7 : Unit {0}) (ws7 : ((List Fact) × (Unit {0} × (Unit {0} × Unit {0}))))
-        (e7 : (ws7 .0) ≡ zeroed (ws3 .1 .1 .1 .1 .1 .1 .1 .1 .1 .1 .1 .1 .1 .1 .1 .1 .1 .1 .1 .1 .0) r5 r6)
-        (len·7·facts : length (ws7 .0) ≡ length (ws3 .1 .1 .1 .1 .1 .1 .1 .1 .1 .1 .1 .1 .1 .1 .1 .1 .1 .1 .1 .1 .0)) (is7 : v7 ∷ [] ≡ vunit ∷ []) →
+        (e7 : (ws7 .0) ≡ zeroed (ws3 .1 .1 .1 .1 .1 .1 .1 .1 .1 .1 .1 .1 .1 .1 .1 .1 .1 .1 .1 .1 .1 .0) r5 r6)
+        (len·7·facts : length (ws7 .0) ≡ length (ws3 .1 .1 .1 .1 .1 .1 .1 .1 .1 .1 .1 .1 .1 .1 .1 .1 .1 .1 .1 .1 .1 .0)) (is7 : v7 ∷ [] ≡ vunit ∷ [])
+        →
         Sq W (‵ (flft κ·facts q·facts)
         ∷ ‵ (finally FactT.the-row γ·facts (ws7 .0))
         ∷ ‵ (MutSlice (named 13) κ·rows u32 .own (ref·rows γ·rows (ws3 .1 .1 .1 .1 .1 .1 .1 .1 .1 .1 .1 .1 .1 .1 .0)) (s·rows ∷ []))
@@ -2487,7 +2621,7 @@ module _ {M : Type 1} (𝓤 : URA M) (H : Heap 𝓤) (A : Atoms 𝓤) (W : Given
         ∷ ‵ (flft κ·index q·index)
         ∷ ‵ (finally u32 γ·missing (ws4 .1 .1 .1 .1 .1 .0))
         ∷ ‵ (finally u32 γ·index (ws4 .1 .1 .0))
-        ∷ ‵ (fat fullShare CountsL.mir l24 0 va·3·24)
+        ∷ ‵ (fat fullShare CountsL.mir l25 0 va·3·25)
         ∷ ‵ (MutSlice (named 8) κ·patterns u32 .own (ref·patterns γ·patterns (ws1 .1 .1 .1 .1 .1 .1 .1 .1 .0)) (s·patterns ∷ []))
         ∷ ‵ (flft κ·patterns q·patterns)
         ∷ ‵ (MutSlice (named 7) κ·rulevars u32 .own (ref·rulevars γ·rulevars (ws1 .1 .1 .1 .1 .1 .1 .1 .0)) (s·rulevars ∷ []))
@@ -2500,6 +2634,7 @@ module _ {M : Type 1} (𝓤 : URA M) (H : Heap 𝓤) (A : Atoms 𝓤) (W : Given
         ∷ ‵ (flft κ·symbols q·symbols)
         ∷ ‵ (MutSlice (named 3) κ·sorts u32 .own (ref·sorts γ·sorts (ws1 .1 .1 .1 .0)) (s·sorts ∷ []))
         ∷ ‵ (flft κ·sorts q·sorts)
+        ∷ ‵ (flft κ·memo q·memo)
         ∷ ‵ (flft κ·ids q·ids)
         ∷ ‵ (flft κ·cells q·cells)
         ∷ ‵ (flft κ·feet q·feet)
@@ -2510,6 +2645,7 @@ module _ {M : Type 1} (𝓤 : URA M) (H : Heap 𝓤) (A : Atoms 𝓤) (W : Given
         ∷ ‵ (flft κ·proof q·proof)
         ∷ ‵ (flft κ·goals q·goals)
         ∷ ‵ (flft κ·theory q·theory)
+        ∷ ‵ (finally u32 γ·memo (ws3 .1 .1 .1 .1 .1 .1 .1 .1 .1 .1 .1 .1 .1 .1 .1 .1 .1 .1 .1 .1 .0))
         ∷ ‵ (finally u32 γ·ids (ws3 .1 .1 .1 .1 .1 .1 .1 .1 .1 .1 .1 .1 .1 .1 .1 .1 .1 .1 .1 .0))
         ∷ ‵ (finally u32 γ·cells (ws3 .1 .1 .1 .1 .1 .1 .1 .1 .1 .1 .1 .1 .1 .1 .1 .1 .1 .1 .0))
         ∷ ‵ (finally u64 γ·feet (ws3 .1 .1 .1 .1 .1 .1 .1 .1 .1 .1 .1 .1 .1 .1 .1 .1 .1 .0))
@@ -2520,177 +2656,183 @@ module _ {M : Type 1} (𝓤 : URA M) (H : Heap 𝓤) (A : Atoms 𝓤) (W : Given
         ∷ ‵ (ShrSlice (named 2) κ·proof u8 .own (ref·proof γ·proof proof) (s·proof ∷ []))
         ∷ ‵ (ShrSlice (named 1) κ·goals u8 .own (ref·goals γ·goals goals) (s·goals ∷ []))
         ∷ ‵ (ShrSlice (named 0) κ·theory u8 .own (ref·theory γ·theory theory) (s·theory ∷ []))
-        ∷ ‵ (fat fullShare (tyInt w64) l107 0 v6)
-        ∷ ‵ (fdies (tyInt w64) l107)
-        ∷ ‵ (fat fullShare (tyInt w64) l106 0 v5)
-        ∷ ‵ (fdies (tyInt w64) l106)
-        ∷ ‵ (fat fullShare (sliceTy (tyRef erased mut (pointee (FactT.the-row .written)))) l105 0 s·facts)
-        ∷ ‵ (fdies (sliceTy (tyRef erased mut (pointee (FactT.the-row .written)))) l105)
-        ∷ ‵ (fat fullShare (tyRef erased mut (pointee (FactT.the-row .written))) l104 0 (vptr b·facts o·facts))
-        ∷ ‵ (fdies (tyRef erased mut (pointee (FactT.the-row .written))) l104)
-        ∷ ‵ (fat fullShare tyUnit l103 0 v7)
-        ∷ ‵ (fdies tyUnit l103)
-        ∷ ‵ (fat fullShare (sliceTy (tyRef erased mut (tyInt w32))) l102 0 s·missing)
-        ∷ ‵ (fdies (sliceTy (tyRef erased mut (tyInt w32))) l102)
-        ∷ ‵ (fat fullShare (tyRef erased mut (tyInt w32)) l101 0 (vptr b·missing o·missing))
-        ∷ ‵ (fdies (tyRef erased mut (tyInt w32)) l101)
-        ∷ ‵ (fat fullShare (sliceTy (tyRef erased imm (tyInt w32))) l100 0 s·rows)
-        ∷ ‵ (fdies (sliceTy (tyRef erased imm (tyInt w32))) l100)
-        ∷ ‵ (fat fullShare (tyRef erased imm (tyInt w32)) l99 0 (vptr b·rows o·rows))
-        ∷ ‵ (fdies (tyRef erased imm (tyInt w32)) l99)
-        ∷ ‵ (fat fullShare (sliceTy (tyRef erased imm (tyInt w32))) l98 0 s·words)
-        ∷ ‵ (fdies (sliceTy (tyRef erased imm (tyInt w32))) l98)
-        ∷ ‵ (fat fullShare (tyRef erased imm (tyInt w32)) l97 0 (vptr b·words o·words))
-        ∷ ‵ (fdies (tyRef erased imm (tyInt w32)) l97)
-        ∷ ‵ (fat fullShare (sliceTy (tyRef erased mut (tyInt w32))) l96 0 s·index)
-        ∷ ‵ (fdies (sliceTy (tyRef erased mut (tyInt w32))) l96)
-        ∷ ‵ (fat fullShare (tyRef erased mut (tyInt w32)) l95 0 (vptr b·index o·index))
-        ∷ ‵ (fdies (tyRef erased mut (tyInt w32)) l95)
-        ∷ ‵ (fat fullShare (tyRef erased mut (pointee (CountsT.the-row .written))) l94 0 (vptr l24 0))
-        ∷ ‵ (fdies (tyRef erased mut (pointee (CountsT.the-row .written))) l94)
-        ∷ ‵ (fat fullShare (sliceTy (tyRef erased mut (pointee (FactT.the-row .written)))) l93 0 s·facts)
-        ∷ ‵ (fdies (sliceTy (tyRef erased mut (pointee (FactT.the-row .written)))) l93)
-        ∷ ‵ (fat fullShare (tyRef erased mut (pointee (FactT.the-row .written))) l92 0 (vptr b·facts o·facts))
-        ∷ ‵ (fdies (tyRef erased mut (pointee (FactT.the-row .written))) l92)
-        ∷ ‵ (fat fullShare (sliceTy (tyRef erased mut (tyInt w32))) l91 0 s·ids)
-        ∷ ‵ (fdies (sliceTy (tyRef erased mut (tyInt w32))) l91)
-        ∷ ‵ (fat fullShare (tyRef erased mut (tyInt w32)) l90 0 (vptr b·ids o·ids))
-        ∷ ‵ (fdies (tyRef erased mut (tyInt w32)) l90)
-        ∷ ‵ (fat fullShare (sliceTy (tyRef erased mut (tyInt w32))) l89 0 s·cells)
-        ∷ ‵ (fdies (sliceTy (tyRef erased mut (tyInt w32))) l89)
-        ∷ ‵ (fat fullShare (tyRef erased mut (tyInt w32)) l88 0 (vptr b·cells o·cells))
-        ∷ ‵ (fdies (tyRef erased mut (tyInt w32)) l88)
-        ∷ ‵ (fat fullShare (sliceTy (tyRef erased mut (tyInt w64))) l87 0 s·feet)
-        ∷ ‵ (fdies (sliceTy (tyRef erased mut (tyInt w64))) l87)
-        ∷ ‵ (fat fullShare (tyRef erased mut (tyInt w64)) l86 0 (vptr b·feet o·feet))
-        ∷ ‵ (fdies (tyRef erased mut (tyInt w64)) l86)
-        ∷ ‵ (fat fullShare (sliceTy (tyRef erased mut (tyInt w32))) l85 0 s·kept)
-        ∷ ‵ (fdies (sliceTy (tyRef erased mut (tyInt w32))) l85)
-        ∷ ‵ (fat fullShare (tyRef erased mut (tyInt w32)) l84 0 (vptr b·kept o·kept))
-        ∷ ‵ (fdies (tyRef erased mut (tyInt w32)) l84)
-        ∷ ‵ (fat fullShare (sliceTy (tyRef erased mut (tyInt w32))) l83 0 s·lists)
-        ∷ ‵ (fdies (sliceTy (tyRef erased mut (tyInt w32))) l83)
-        ∷ ‵ (fat fullShare (tyRef erased mut (tyInt w32)) l82 0 (vptr b·lists o·lists))
-        ∷ ‵ (fdies (tyRef erased mut (tyInt w32)) l82)
-        ∷ ‵ (fat fullShare (sliceTy (tyRef erased mut (tyInt w32))) l81 0 s·rows)
-        ∷ ‵ (fdies (sliceTy (tyRef erased mut (tyInt w32))) l81)
-        ∷ ‵ (fat fullShare (tyRef erased mut (tyInt w32)) l80 0 (vptr b·rows o·rows))
-        ∷ ‵ (fdies (tyRef erased mut (tyInt w32)) l80)
-        ∷ ‵ (fat fullShare (sliceTy (tyRef erased mut (tyInt w32))) l79 0 s·defs)
-        ∷ ‵ (fdies (sliceTy (tyRef erased mut (tyInt w32))) l79)
-        ∷ ‵ (fat fullShare (tyRef erased mut (tyInt w32)) l78 0 (vptr b·defs o·defs))
-        ∷ ‵ (fdies (tyRef erased mut (tyInt w32)) l78)
-        ∷ ‵ (fat fullShare (sliceTy (tyRef erased mut (tyInt w32))) l77 0 s·words)
-        ∷ ‵ (fdies (sliceTy (tyRef erased mut (tyInt w32))) l77)
-        ∷ ‵ (fat fullShare (tyRef erased mut (tyInt w32)) l76 0 (vptr b·words o·words))
-        ∷ ‵ (fdies (tyRef erased mut (tyInt w32)) l76)
-        ∷ ‵ (fat fullShare (sliceTy (tyRef erased mut (tyInt w32))) l75 0 s·index)
-        ∷ ‵ (fdies (sliceTy (tyRef erased mut (tyInt w32))) l75)
-        ∷ ‵ (fat fullShare (tyRef erased mut (tyInt w32)) l74 0 (vptr b·index o·index))
-        ∷ ‵ (fdies (tyRef erased mut (tyInt w32)) l74)
-        ∷ ‵ (fat fullShare (sliceTy (tyRef erased mut (tyInt w32))) l73 0 s·vars)
-        ∷ ‵ (fdies (sliceTy (tyRef erased mut (tyInt w32))) l73)
-        ∷ ‵ (fat fullShare (tyRef erased mut (tyInt w32)) l72 0 (vptr b·vars o·vars))
-        ∷ ‵ (fdies (tyRef erased mut (tyInt w32)) l72)
-        ∷ ‵ (fat fullShare (sliceTy (tyRef erased imm (tyInt w32))) l71 0 s·patterns)
-        ∷ ‵ (fdies (sliceTy (tyRef erased imm (tyInt w32))) l71)
-        ∷ ‵ (fat fullShare (tyRef erased imm (tyInt w32)) l70 0 (vptr b·patterns o·patterns))
-        ∷ ‵ (fdies (tyRef erased imm (tyInt w32)) l70)
-        ∷ ‵ (fat fullShare (sliceTy (tyRef erased imm (tyInt w32))) l69 0 s·rulevars)
-        ∷ ‵ (fdies (sliceTy (tyRef erased imm (tyInt w32))) l69)
-        ∷ ‵ (fat fullShare (tyRef erased imm (tyInt w32)) l68 0 (vptr b·rulevars o·rulevars))
-        ∷ ‵ (fdies (tyRef erased imm (tyInt w32)) l68)
-        ∷ ‵ (fat fullShare (sliceTy (tyRef erased imm (tyInt w32))) l67 0 s·rules)
-        ∷ ‵ (fdies (sliceTy (tyRef erased imm (tyInt w32))) l67)
-        ∷ ‵ (fat fullShare (tyRef erased imm (tyInt w32)) l66 0 (vptr b·rules o·rules))
-        ∷ ‵ (fdies (tyRef erased imm (tyInt w32)) l66)
-        ∷ ‵ (fat fullShare (sliceTy (tyRef erased imm (tyInt w32))) l65 0 s·inputs)
-        ∷ ‵ (fdies (sliceTy (tyRef erased imm (tyInt w32))) l65)
-        ∷ ‵ (fat fullShare (tyRef erased imm (tyInt w32)) l64 0 (vptr b·inputs o·inputs))
-        ∷ ‵ (fdies (tyRef erased imm (tyInt w32)) l64)
-        ∷ ‵ (fat fullShare (sliceTy (tyRef erased imm (tyInt w32))) l63 0 s·symbols)
-        ∷ ‵ (fdies (sliceTy (tyRef erased imm (tyInt w32))) l63)
-        ∷ ‵ (fat fullShare (tyRef erased imm (tyInt w32)) l62 0 (vptr b·symbols o·symbols))
-        ∷ ‵ (fdies (tyRef erased imm (tyInt w32)) l62)
-        ∷ ‵ (fat fullShare (sliceTy (tyRef erased imm (tyInt w32))) l61 0 s·sorts)
-        ∷ ‵ (fdies (sliceTy (tyRef erased imm (tyInt w32))) l61)
-        ∷ ‵ (fat fullShare (tyRef erased imm (tyInt w32)) l60 0 (vptr b·sorts o·sorts))
-        ∷ ‵ (fdies (tyRef erased imm (tyInt w32)) l60)
-        ∷ ‵ (fat fullShare CountsL.mir l59 0 va·3·24)
-        ∷ ‵ (fdies CountsL.mir l59)
-        ∷ ‵ (fat fullShare (sliceTy (tyRef erased mut (tyInt w32))) l58 0 s·cells)
-        ∷ ‵ (fdies (sliceTy (tyRef erased mut (tyInt w32))) l58)
-        ∷ ‵ (fat fullShare (tyRef erased mut (tyInt w32)) l57 0 (vptr b·cells o·cells))
-        ∷ ‵ (fdies (tyRef erased mut (tyInt w32)) l57)
-        ∷ ‵ (fat fullShare (sliceTy (tyRef erased imm (tyInt w64))) l56 0 s·feet)
-        ∷ ‵ (fdies (sliceTy (tyRef erased imm (tyInt w64))) l56)
-        ∷ ‵ (fat fullShare (tyRef erased imm (tyInt w64)) l55 0 (vptr b·feet o·feet))
-        ∷ ‵ (fdies (tyRef erased imm (tyInt w64)) l55)
-        ∷ ‵ (fat fullShare (sliceTy (tyRef erased imm (tyInt w32))) l54 0 s·kept)
-        ∷ ‵ (fdies (sliceTy (tyRef erased imm (tyInt w32))) l54)
-        ∷ ‵ (fat fullShare (tyRef erased imm (tyInt w32)) l53 0 (vptr b·kept o·kept))
-        ∷ ‵ (fdies (tyRef erased imm (tyInt w32)) l53)
-        ∷ ‵ (fat fullShare (sliceTy (tyRef erased mut (tyInt w32))) l52 0 s·missing)
-        ∷ ‵ (fdies (sliceTy (tyRef erased mut (tyInt w32))) l52)
-        ∷ ‵ (fat fullShare (tyRef erased mut (tyInt w32)) l51 0 (vptr b·missing o·missing))
-        ∷ ‵ (fdies (tyRef erased mut (tyInt w32)) l51)
-        ∷ ‵ (fat fullShare (sliceTy (tyRef erased mut (tyInt w32))) l50 0 s·lists)
-        ∷ ‵ (fdies (sliceTy (tyRef erased mut (tyInt w32))) l50)
-        ∷ ‵ (fat fullShare (tyRef erased mut (tyInt w32)) l49 0 (vptr b·lists o·lists))
-        ∷ ‵ (fdies (tyRef erased mut (tyInt w32)) l49)
-        ∷ ‵ (fat fullShare (sliceTy (tyRef erased mut (tyInt w32))) l48 0 s·rows)
-        ∷ ‵ (fdies (sliceTy (tyRef erased mut (tyInt w32))) l48)
-        ∷ ‵ (fat fullShare (tyRef erased mut (tyInt w32)) l47 0 (vptr b·rows o·rows))
-        ∷ ‵ (fdies (tyRef erased mut (tyInt w32)) l47)
-        ∷ ‵ (fat fullShare (sliceTy (tyRef erased mut (tyInt w32))) l46 0 s·defs)
-        ∷ ‵ (fdies (sliceTy (tyRef erased mut (tyInt w32))) l46)
-        ∷ ‵ (fat fullShare (tyRef erased mut (tyInt w32)) l45 0 (vptr b·defs o·defs))
-        ∷ ‵ (fdies (tyRef erased mut (tyInt w32)) l45)
-        ∷ ‵ (fat fullShare (sliceTy (tyRef erased mut (tyInt w32))) l44 0 s·words)
-        ∷ ‵ (fdies (sliceTy (tyRef erased mut (tyInt w32))) l44)
-        ∷ ‵ (fat fullShare (tyRef erased mut (tyInt w32)) l43 0 (vptr b·words o·words))
-        ∷ ‵ (fdies (tyRef erased mut (tyInt w32)) l43)
-        ∷ ‵ (fat fullShare (sliceTy (tyRef erased mut (tyInt w32))) l42 0 s·index)
-        ∷ ‵ (fdies (sliceTy (tyRef erased mut (tyInt w32))) l42)
-        ∷ ‵ (fat fullShare (tyRef erased mut (tyInt w32)) l41 0 (vptr b·index o·index))
-        ∷ ‵ (fdies (tyRef erased mut (tyInt w32)) l41)
-        ∷ ‵ (fat fullShare (sliceTy (tyRef erased mut (tyInt w32))) l40 0 s·vars)
-        ∷ ‵ (fdies (sliceTy (tyRef erased mut (tyInt w32))) l40)
-        ∷ ‵ (fat fullShare (tyRef erased mut (tyInt w32)) l39 0 (vptr b·vars o·vars))
-        ∷ ‵ (fdies (tyRef erased mut (tyInt w32)) l39)
-        ∷ ‵ (fat fullShare (sliceTy (tyRef erased mut (tyInt w32))) l38 0 s·patterns)
-        ∷ ‵ (fdies (sliceTy (tyRef erased mut (tyInt w32))) l38)
-        ∷ ‵ (fat fullShare (tyRef erased mut (tyInt w32)) l37 0 (vptr b·patterns o·patterns))
-        ∷ ‵ (fdies (tyRef erased mut (tyInt w32)) l37)
-        ∷ ‵ (fat fullShare (sliceTy (tyRef erased mut (tyInt w32))) l36 0 s·rulevars)
-        ∷ ‵ (fdies (sliceTy (tyRef erased mut (tyInt w32))) l36)
-        ∷ ‵ (fat fullShare (tyRef erased mut (tyInt w32)) l35 0 (vptr b·rulevars o·rulevars))
-        ∷ ‵ (fdies (tyRef erased mut (tyInt w32)) l35)
-        ∷ ‵ (fat fullShare (sliceTy (tyRef erased mut (tyInt w32))) l34 0 s·rules)
-        ∷ ‵ (fdies (sliceTy (tyRef erased mut (tyInt w32))) l34)
-        ∷ ‵ (fat fullShare (tyRef erased mut (tyInt w32)) l33 0 (vptr b·rules o·rules))
-        ∷ ‵ (fdies (tyRef erased mut (tyInt w32)) l33)
-        ∷ ‵ (fat fullShare (sliceTy (tyRef erased mut (tyInt w32))) l32 0 s·inputs)
-        ∷ ‵ (fdies (sliceTy (tyRef erased mut (tyInt w32))) l32)
-        ∷ ‵ (fat fullShare (tyRef erased mut (tyInt w32)) l31 0 (vptr b·inputs o·inputs))
-        ∷ ‵ (fdies (tyRef erased mut (tyInt w32)) l31)
-        ∷ ‵ (fat fullShare (sliceTy (tyRef erased mut (tyInt w32))) l30 0 s·symbols)
-        ∷ ‵ (fdies (sliceTy (tyRef erased mut (tyInt w32))) l30)
-        ∷ ‵ (fat fullShare (tyRef erased mut (tyInt w32)) l29 0 (vptr b·symbols o·symbols))
-        ∷ ‵ (fdies (tyRef erased mut (tyInt w32)) l29)
-        ∷ ‵ (fat fullShare (sliceTy (tyRef erased mut (tyInt w32))) l28 0 s·sorts)
-        ∷ ‵ (fdies (sliceTy (tyRef erased mut (tyInt w32))) l28)
-        ∷ ‵ (fat fullShare (tyRef erased mut (tyInt w32)) l27 0 (vptr b·sorts o·sorts))
-        ∷ ‵ (fdies (tyRef erased mut (tyInt w32)) l27)
-        ∷ ‵ (fat fullShare AnswerL.mir l26 0 v4)
-        ∷ ‵ (fdies AnswerL.mir l26)
-        ∷ ‵ (fat fullShare RunL.mir l25 0 v3)
-        ∷ ‵ (fdies RunL.mir l25)
-        ∷ ‵ (fdies CountsL.mir l24)
-        ∷ ‵ (fat fullShare RunL.mir l23 0 v1)
-        ∷ ‵ (fdies RunL.mir l23)
-        ∷ ‵ (fat fullShare (tyInt w64) l22 0 (vint w64 (length facts)))
-        ∷ ‵ (fdies (tyInt w64) l22)
+        ∷ ‵ (fat fullShare (tyInt w64) l110 0 v6)
+        ∷ ‵ (fdies (tyInt w64) l110)
+        ∷ ‵ (fat fullShare (tyInt w64) l109 0 v5)
+        ∷ ‵ (fdies (tyInt w64) l109)
+        ∷ ‵ (fat fullShare (sliceTy (tyRef erased mut (pointee (FactT.the-row .written)))) l108 0 s·facts)
+        ∷ ‵ (fdies (sliceTy (tyRef erased mut (pointee (FactT.the-row .written)))) l108)
+        ∷ ‵ (fat fullShare (tyRef erased mut (pointee (FactT.the-row .written))) l107 0 (vptr b·facts o·facts))
+        ∷ ‵ (fdies (tyRef erased mut (pointee (FactT.the-row .written))) l107)
+        ∷ ‵ (fat fullShare tyUnit l106 0 v7)
+        ∷ ‵ (fdies tyUnit l106)
+        ∷ ‵ (fat fullShare (sliceTy (tyRef erased mut (tyInt w32))) l105 0 s·missing)
+        ∷ ‵ (fdies (sliceTy (tyRef erased mut (tyInt w32))) l105)
+        ∷ ‵ (fat fullShare (tyRef erased mut (tyInt w32)) l104 0 (vptr b·missing o·missing))
+        ∷ ‵ (fdies (tyRef erased mut (tyInt w32)) l104)
+        ∷ ‵ (fat fullShare (sliceTy (tyRef erased imm (tyInt w32))) l103 0 s·rows)
+        ∷ ‵ (fdies (sliceTy (tyRef erased imm (tyInt w32))) l103)
+        ∷ ‵ (fat fullShare (tyRef erased imm (tyInt w32)) l102 0 (vptr b·rows o·rows))
+        ∷ ‵ (fdies (tyRef erased imm (tyInt w32)) l102)
+        ∷ ‵ (fat fullShare (sliceTy (tyRef erased imm (tyInt w32))) l101 0 s·words)
+        ∷ ‵ (fdies (sliceTy (tyRef erased imm (tyInt w32))) l101)
+        ∷ ‵ (fat fullShare (tyRef erased imm (tyInt w32)) l100 0 (vptr b·words o·words))
+        ∷ ‵ (fdies (tyRef erased imm (tyInt w32)) l100)
+        ∷ ‵ (fat fullShare (sliceTy (tyRef erased mut (tyInt w32))) l99 0 s·index)
+        ∷ ‵ (fdies (sliceTy (tyRef erased mut (tyInt w32))) l99)
+        ∷ ‵ (fat fullShare (tyRef erased mut (tyInt w32)) l98 0 (vptr b·index o·index))
+        ∷ ‵ (fdies (tyRef erased mut (tyInt w32)) l98)
+        ∷ ‵ (fat fullShare (tyRef erased mut (pointee (CountsT.the-row .written))) l97 0 (vptr l25 0))
+        ∷ ‵ (fdies (tyRef erased mut (pointee (CountsT.the-row .written))) l97)
+        ∷ ‵ (fat fullShare (sliceTy (tyRef erased mut (pointee (FactT.the-row .written)))) l96 0 s·facts)
+        ∷ ‵ (fdies (sliceTy (tyRef erased mut (pointee (FactT.the-row .written)))) l96)
+        ∷ ‵ (fat fullShare (tyRef erased mut (pointee (FactT.the-row .written))) l95 0 (vptr b·facts o·facts))
+        ∷ ‵ (fdies (tyRef erased mut (pointee (FactT.the-row .written))) l95)
+        ∷ ‵ (fat fullShare (sliceTy (tyRef erased mut (tyInt w32))) l94 0 s·memo)
+        ∷ ‵ (fdies (sliceTy (tyRef erased mut (tyInt w32))) l94)
+        ∷ ‵ (fat fullShare (tyRef erased mut (tyInt w32)) l93 0 (vptr b·memo o·memo))
+        ∷ ‵ (fdies (tyRef erased mut (tyInt w32)) l93)
+        ∷ ‵ (fat fullShare (sliceTy (tyRef erased mut (tyInt w32))) l92 0 s·ids)
+        ∷ ‵ (fdies (sliceTy (tyRef erased mut (tyInt w32))) l92)
+        ∷ ‵ (fat fullShare (tyRef erased mut (tyInt w32)) l91 0 (vptr b·ids o·ids))
+        ∷ ‵ (fdies (tyRef erased mut (tyInt w32)) l91)
+        ∷ ‵ (fat fullShare (sliceTy (tyRef erased mut (tyInt w32))) l90 0 s·cells)
+        ∷ ‵ (fdies (sliceTy (tyRef erased mut (tyInt w32))) l90)
+        ∷ ‵ (fat fullShare (tyRef erased mut (tyInt w32)) l89 0 (vptr b·cells o·cells))
+        ∷ ‵ (fdies (tyRef erased mut (tyInt w32)) l89)
+        ∷ ‵ (fat fullShare (sliceTy (tyRef erased mut (tyInt w64))) l88 0 s·feet)
+        ∷ ‵ (fdies (sliceTy (tyRef erased mut (tyInt w64))) l88)
+        ∷ ‵ (fat fullShare (tyRef erased mut (tyInt w64)) l87 0 (vptr b·feet o·feet))
+        ∷ ‵ (fdies (tyRef erased mut (tyInt w64)) l87)
+        ∷ ‵ (fat fullShare (sliceTy (tyRef erased mut (tyInt w32))) l86 0 s·kept)
+        ∷ ‵ (fdies (sliceTy (tyRef erased mut (tyInt w32))) l86)
+        ∷ ‵ (fat fullShare (tyRef erased mut (tyInt w32)) l85 0 (vptr b·kept o·kept))
+        ∷ ‵ (fdies (tyRef erased mut (tyInt w32)) l85)
+        ∷ ‵ (fat fullShare (sliceTy (tyRef erased mut (tyInt w32))) l84 0 s·lists)
+        ∷ ‵ (fdies (sliceTy (tyRef erased mut (tyInt w32))) l84)
+        ∷ ‵ (fat fullShare (tyRef erased mut (tyInt w32)) l83 0 (vptr b·lists o·lists))
+        ∷ ‵ (fdies (tyRef erased mut (tyInt w32)) l83)
+        ∷ ‵ (fat fullShare (sliceTy (tyRef erased mut (tyInt w32))) l82 0 s·rows)
+        ∷ ‵ (fdies (sliceTy (tyRef erased mut (tyInt w32))) l82)
+        ∷ ‵ (fat fullShare (tyRef erased mut (tyInt w32)) l81 0 (vptr b·rows o·rows))
+        ∷ ‵ (fdies (tyRef erased mut (tyInt w32)) l81)
+        ∷ ‵ (fat fullShare (sliceTy (tyRef erased mut (tyInt w32))) l80 0 s·defs)
+        ∷ ‵ (fdies (sliceTy (tyRef erased mut (tyInt w32))) l80)
+        ∷ ‵ (fat fullShare (tyRef erased mut (tyInt w32)) l79 0 (vptr b·defs o·defs))
+        ∷ ‵ (fdies (tyRef erased mut (tyInt w32)) l79)
+        ∷ ‵ (fat fullShare (sliceTy (tyRef erased mut (tyInt w32))) l78 0 s·words)
+        ∷ ‵ (fdies (sliceTy (tyRef erased mut (tyInt w32))) l78)
+        ∷ ‵ (fat fullShare (tyRef erased mut (tyInt w32)) l77 0 (vptr b·words o·words))
+        ∷ ‵ (fdies (tyRef erased mut (tyInt w32)) l77)
+        ∷ ‵ (fat fullShare (sliceTy (tyRef erased mut (tyInt w32))) l76 0 s·index)
+        ∷ ‵ (fdies (sliceTy (tyRef erased mut (tyInt w32))) l76)
+        ∷ ‵ (fat fullShare (tyRef erased mut (tyInt w32)) l75 0 (vptr b·index o·index))
+        ∷ ‵ (fdies (tyRef erased mut (tyInt w32)) l75)
+        ∷ ‵ (fat fullShare (sliceTy (tyRef erased mut (tyInt w32))) l74 0 s·vars)
+        ∷ ‵ (fdies (sliceTy (tyRef erased mut (tyInt w32))) l74)
+        ∷ ‵ (fat fullShare (tyRef erased mut (tyInt w32)) l73 0 (vptr b·vars o·vars))
+        ∷ ‵ (fdies (tyRef erased mut (tyInt w32)) l73)
+        ∷ ‵ (fat fullShare (sliceTy (tyRef erased imm (tyInt w32))) l72 0 s·patterns)
+        ∷ ‵ (fdies (sliceTy (tyRef erased imm (tyInt w32))) l72)
+        ∷ ‵ (fat fullShare (tyRef erased imm (tyInt w32)) l71 0 (vptr b·patterns o·patterns))
+        ∷ ‵ (fdies (tyRef erased imm (tyInt w32)) l71)
+        ∷ ‵ (fat fullShare (sliceTy (tyRef erased imm (tyInt w32))) l70 0 s·rulevars)
+        ∷ ‵ (fdies (sliceTy (tyRef erased imm (tyInt w32))) l70)
+        ∷ ‵ (fat fullShare (tyRef erased imm (tyInt w32)) l69 0 (vptr b·rulevars o·rulevars))
+        ∷ ‵ (fdies (tyRef erased imm (tyInt w32)) l69)
+        ∷ ‵ (fat fullShare (sliceTy (tyRef erased imm (tyInt w32))) l68 0 s·rules)
+        ∷ ‵ (fdies (sliceTy (tyRef erased imm (tyInt w32))) l68)
+        ∷ ‵ (fat fullShare (tyRef erased imm (tyInt w32)) l67 0 (vptr b·rules o·rules))
+        ∷ ‵ (fdies (tyRef erased imm (tyInt w32)) l67)
+        ∷ ‵ (fat fullShare (sliceTy (tyRef erased imm (tyInt w32))) l66 0 s·inputs)
+        ∷ ‵ (fdies (sliceTy (tyRef erased imm (tyInt w32))) l66)
+        ∷ ‵ (fat fullShare (tyRef erased imm (tyInt w32)) l65 0 (vptr b·inputs o·inputs))
+        ∷ ‵ (fdies (tyRef erased imm (tyInt w32)) l65)
+        ∷ ‵ (fat fullShare (sliceTy (tyRef erased imm (tyInt w32))) l64 0 s·symbols)
+        ∷ ‵ (fdies (sliceTy (tyRef erased imm (tyInt w32))) l64)
+        ∷ ‵ (fat fullShare (tyRef erased imm (tyInt w32)) l63 0 (vptr b·symbols o·symbols))
+        ∷ ‵ (fdies (tyRef erased imm (tyInt w32)) l63)
+        ∷ ‵ (fat fullShare (sliceTy (tyRef erased imm (tyInt w32))) l62 0 s·sorts)
+        ∷ ‵ (fdies (sliceTy (tyRef erased imm (tyInt w32))) l62)
+        ∷ ‵ (fat fullShare (tyRef erased imm (tyInt w32)) l61 0 (vptr b·sorts o·sorts))
+        ∷ ‵ (fdies (tyRef erased imm (tyInt w32)) l61)
+        ∷ ‵ (fat fullShare CountsL.mir l60 0 va·3·25)
+        ∷ ‵ (fdies CountsL.mir l60)
+        ∷ ‵ (fat fullShare (sliceTy (tyRef erased mut (tyInt w32))) l59 0 s·cells)
+        ∷ ‵ (fdies (sliceTy (tyRef erased mut (tyInt w32))) l59)
+        ∷ ‵ (fat fullShare (tyRef erased mut (tyInt w32)) l58 0 (vptr b·cells o·cells))
+        ∷ ‵ (fdies (tyRef erased mut (tyInt w32)) l58)
+        ∷ ‵ (fat fullShare (sliceTy (tyRef erased imm (tyInt w64))) l57 0 s·feet)
+        ∷ ‵ (fdies (sliceTy (tyRef erased imm (tyInt w64))) l57)
+        ∷ ‵ (fat fullShare (tyRef erased imm (tyInt w64)) l56 0 (vptr b·feet o·feet))
+        ∷ ‵ (fdies (tyRef erased imm (tyInt w64)) l56)
+        ∷ ‵ (fat fullShare (sliceTy (tyRef erased imm (tyInt w32))) l55 0 s·kept)
+        ∷ ‵ (fdies (sliceTy (tyRef erased imm (tyInt w32))) l55)
+        ∷ ‵ (fat fullShare (tyRef erased imm (tyInt w32)) l54 0 (vptr b·kept o·kept))
+        ∷ ‵ (fdies (tyRef erased imm (tyInt w32)) l54)
+        ∷ ‵ (fat fullShare (sliceTy (tyRef erased mut (tyInt w32))) l53 0 s·missing)
+        ∷ ‵ (fdies (sliceTy (tyRef erased mut (tyInt w32))) l53)
+        ∷ ‵ (fat fullShare (tyRef erased mut (tyInt w32)) l52 0 (vptr b·missing o·missing))
+        ∷ ‵ (fdies (tyRef erased mut (tyInt w32)) l52)
+        ∷ ‵ (fat fullShare (sliceTy (tyRef erased mut (tyInt w32))) l51 0 s·lists)
+        ∷ ‵ (fdies (sliceTy (tyRef erased mut (tyInt w32))) l51)
+        ∷ ‵ (fat fullShare (tyRef erased mut (tyInt w32)) l50 0 (vptr b·lists o·lists))
+        ∷ ‵ (fdies (tyRef erased mut (tyInt w32)) l50)
+        ∷ ‵ (fat fullShare (sliceTy (tyRef erased mut (tyInt w32))) l49 0 s·rows)
+        ∷ ‵ (fdies (sliceTy (tyRef erased mut (tyInt w32))) l49)
+        ∷ ‵ (fat fullShare (tyRef erased mut (tyInt w32)) l48 0 (vptr b·rows o·rows))
+        ∷ ‵ (fdies (tyRef erased mut (tyInt w32)) l48)
+        ∷ ‵ (fat fullShare (sliceTy (tyRef erased mut (tyInt w32))) l47 0 s·defs)
+        ∷ ‵ (fdies (sliceTy (tyRef erased mut (tyInt w32))) l47)
+        ∷ ‵ (fat fullShare (tyRef erased mut (tyInt w32)) l46 0 (vptr b·defs o·defs))
+        ∷ ‵ (fdies (tyRef erased mut (tyInt w32)) l46)
+        ∷ ‵ (fat fullShare (sliceTy (tyRef erased mut (tyInt w32))) l45 0 s·words)
+        ∷ ‵ (fdies (sliceTy (tyRef erased mut (tyInt w32))) l45)
+        ∷ ‵ (fat fullShare (tyRef erased mut (tyInt w32)) l44 0 (vptr b·words o·words))
+        ∷ ‵ (fdies (tyRef erased mut (tyInt w32)) l44)
+        ∷ ‵ (fat fullShare (sliceTy (tyRef erased mut (tyInt w32))) l43 0 s·index)
+        ∷ ‵ (fdies (sliceTy (tyRef erased mut (tyInt w32))) l43)
+        ∷ ‵ (fat fullShare (tyRef erased mut (tyInt w32)) l42 0 (vptr b·index o·index))
+        ∷ ‵ (fdies (tyRef erased mut (tyInt w32)) l42)
+        ∷ ‵ (fat fullShare (sliceTy (tyRef erased mut (tyInt w32))) l41 0 s·vars)
+        ∷ ‵ (fdies (sliceTy (tyRef erased mut (tyInt w32))) l41)
+        ∷ ‵ (fat fullShare (tyRef erased mut (tyInt w32)) l40 0 (vptr b·vars o·vars))
+        ∷ ‵ (fdies (tyRef erased mut (tyInt w32)) l40)
+        ∷ ‵ (fat fullShare (sliceTy (tyRef erased mut (tyInt w32))) l39 0 s·patterns)
+        ∷ ‵ (fdies (sliceTy (tyRef erased mut (tyInt w32))) l39)
+        ∷ ‵ (fat fullShare (tyRef erased mut (tyInt w32)) l38 0 (vptr b·patterns o·patterns))
+        ∷ ‵ (fdies (tyRef erased mut (tyInt w32)) l38)
+        ∷ ‵ (fat fullShare (sliceTy (tyRef erased mut (tyInt w32))) l37 0 s·rulevars)
+        ∷ ‵ (fdies (sliceTy (tyRef erased mut (tyInt w32))) l37)
+        ∷ ‵ (fat fullShare (tyRef erased mut (tyInt w32)) l36 0 (vptr b·rulevars o·rulevars))
+        ∷ ‵ (fdies (tyRef erased mut (tyInt w32)) l36)
+        ∷ ‵ (fat fullShare (sliceTy (tyRef erased mut (tyInt w32))) l35 0 s·rules)
+        ∷ ‵ (fdies (sliceTy (tyRef erased mut (tyInt w32))) l35)
+        ∷ ‵ (fat fullShare (tyRef erased mut (tyInt w32)) l34 0 (vptr b·rules o·rules))
+        ∷ ‵ (fdies (tyRef erased mut (tyInt w32)) l34)
+        ∷ ‵ (fat fullShare (sliceTy (tyRef erased mut (tyInt w32))) l33 0 s·inputs)
+        ∷ ‵ (fdies (sliceTy (tyRef erased mut (tyInt w32))) l33)
+        ∷ ‵ (fat fullShare (tyRef erased mut (tyInt w32)) l32 0 (vptr b·inputs o·inputs))
+        ∷ ‵ (fdies (tyRef erased mut (tyInt w32)) l32)
+        ∷ ‵ (fat fullShare (sliceTy (tyRef erased mut (tyInt w32))) l31 0 s·symbols)
+        ∷ ‵ (fdies (sliceTy (tyRef erased mut (tyInt w32))) l31)
+        ∷ ‵ (fat fullShare (tyRef erased mut (tyInt w32)) l30 0 (vptr b·symbols o·symbols))
+        ∷ ‵ (fdies (tyRef erased mut (tyInt w32)) l30)
+        ∷ ‵ (fat fullShare (sliceTy (tyRef erased mut (tyInt w32))) l29 0 s·sorts)
+        ∷ ‵ (fdies (sliceTy (tyRef erased mut (tyInt w32))) l29)
+        ∷ ‵ (fat fullShare (tyRef erased mut (tyInt w32)) l28 0 (vptr b·sorts o·sorts))
+        ∷ ‵ (fdies (tyRef erased mut (tyInt w32)) l28)
+        ∷ ‵ (fat fullShare AnswerL.mir l27 0 v4)
+        ∷ ‵ (fdies AnswerL.mir l27)
+        ∷ ‵ (fat fullShare RunL.mir l26 0 v3)
+        ∷ ‵ (fdies RunL.mir l26)
+        ∷ ‵ (fdies CountsL.mir l25)
+        ∷ ‵ (fat fullShare RunL.mir l24 0 v1)
+        ∷ ‵ (fdies RunL.mir l24)
+        ∷ ‵ (fat fullShare (tyInt w64) l23 0 (vint w64 (length facts)))
+        ∷ ‵ (fdies (tyInt w64) l23)
+        ∷ ‵ (fat fullShare (sliceTy (tyRef (named 21) mut (tyInt w32))) l22 0 s·memo)
+        ∷ ‵ (fdies (sliceTy (tyRef (named 21) mut (tyInt w32))) l22)
         ∷ ‵ (fat fullShare (sliceTy (tyRef (named 20) mut (tyInt w32))) l21 0 s·ids)
         ∷ ‵ (fdies (sliceTy (tyRef (named 20) mut (tyInt w32))) l21)
         ∷ ‵ (fat fullShare (sliceTy (tyRef (named 19) mut (tyInt w32))) l20 0 s·cells)
@@ -2738,46 +2880,59 @@ module _ {M : Type 1} (𝓤 : URA M) (H : Heap 𝓤) (A : Atoms 𝓤) (W : Given
         ∷ ((sliceTy (tyRef (named 14) mut (tyInt w32))), l15) ∷ ((sliceTy (tyRef (named 15) mut (tyInt w32))), l16)
         ∷ ((sliceTy (tyRef (named 16) mut (pointee (FactT.the-row .written)))), l17) ∷ ((sliceTy (tyRef (named 17) mut (tyInt w32))), l18)
         ∷ ((sliceTy (tyRef (named 18) mut (tyInt w64))), l19) ∷ ((sliceTy (tyRef (named 19) mut (tyInt w32))), l20)
-        ∷ ((sliceTy (tyRef (named 20) mut (tyInt w32))), l21) ∷ ((tyInt w64), l22) ∷ (RunL.mir, l23) ∷ (CountsL.mir, l24) ∷ (RunL.mir, l25)
-        ∷ (AnswerL.mir, l26) ∷ ((tyRef erased mut (tyInt w32)), l27) ∷ ((sliceTy (tyRef erased mut (tyInt w32))), l28)
-        ∷ ((tyRef erased mut (tyInt w32)), l29) ∷ ((sliceTy (tyRef erased mut (tyInt w32))), l30) ∷ ((tyRef erased mut (tyInt w32)), l31)
-        ∷ ((sliceTy (tyRef erased mut (tyInt w32))), l32) ∷ ((tyRef erased mut (tyInt w32)), l33) ∷ ((sliceTy (tyRef erased mut (tyInt w32))), l34)
-        ∷ ((tyRef erased mut (tyInt w32)), l35) ∷ ((sliceTy (tyRef erased mut (tyInt w32))), l36) ∷ ((tyRef erased mut (tyInt w32)), l37)
-        ∷ ((sliceTy (tyRef erased mut (tyInt w32))), l38) ∷ ((tyRef erased mut (tyInt w32)), l39) ∷ ((sliceTy (tyRef erased mut (tyInt w32))), l40)
-        ∷ ((tyRef erased mut (tyInt w32)), l41) ∷ ((sliceTy (tyRef erased mut (tyInt w32))), l42) ∷ ((tyRef erased mut (tyInt w32)), l43)
-        ∷ ((sliceTy (tyRef erased mut (tyInt w32))), l44) ∷ ((tyRef erased mut (tyInt w32)), l45) ∷ ((sliceTy (tyRef erased mut (tyInt w32))), l46)
-        ∷ ((tyRef erased mut (tyInt w32)), l47) ∷ ((sliceTy (tyRef erased mut (tyInt w32))), l48) ∷ ((tyRef erased mut (tyInt w32)), l49)
-        ∷ ((sliceTy (tyRef erased mut (tyInt w32))), l50) ∷ ((tyRef erased mut (tyInt w32)), l51) ∷ ((sliceTy (tyRef erased mut (tyInt w32))), l52)
-        ∷ ((tyRef erased imm (tyInt w32)), l53) ∷ ((sliceTy (tyRef erased imm (tyInt w32))), l54) ∷ ((tyRef erased imm (tyInt w64)), l55)
-        ∷ ((sliceTy (tyRef erased imm (tyInt w64))), l56) ∷ ((tyRef erased mut (tyInt w32)), l57) ∷ ((sliceTy (tyRef erased mut (tyInt w32))), l58)
-        ∷ (CountsL.mir, l59) ∷ ((tyRef erased imm (tyInt w32)), l60) ∷ ((sliceTy (tyRef erased imm (tyInt w32))), l61)
-        ∷ ((tyRef erased imm (tyInt w32)), l62) ∷ ((sliceTy (tyRef erased imm (tyInt w32))), l63) ∷ ((tyRef erased imm (tyInt w32)), l64)
-        ∷ ((sliceTy (tyRef erased imm (tyInt w32))), l65) ∷ ((tyRef erased imm (tyInt w32)), l66) ∷ ((sliceTy (tyRef erased imm (tyInt w32))), l67)
-        ∷ ((tyRef erased imm (tyInt w32)), l68) ∷ ((sliceTy (tyRef erased imm (tyInt w32))), l69) ∷ ((tyRef erased imm (tyInt w32)), l70)
-        ∷ ((sliceTy (tyRef erased imm (tyInt w32))), l71) ∷ ((tyRef erased mut (tyInt w32)), l72) ∷ ((sliceTy (tyRef erased mut (tyInt w32))), l73)
-        ∷ ((tyRef erased mut (tyInt w32)), l74) ∷ ((sliceTy (tyRef erased mut (tyInt w32))), l75) ∷ ((tyRef erased mut (tyInt w32)), l76)
-        ∷ ((sliceTy (tyRef erased mut (tyInt w32))), l77) ∷ ((tyRef erased mut (tyInt w32)), l78) ∷ ((sliceTy (tyRef erased mut (tyInt w32))), l79)
-        ∷ ((tyRef erased mut (tyInt w32)), l80) ∷ ((sliceTy (tyRef erased mut (tyInt w32))), l81) ∷ ((tyRef erased mut (tyInt w32)), l82)
-        ∷ ((sliceTy (tyRef erased mut (tyInt w32))), l83) ∷ ((tyRef erased mut (tyInt w32)), l84) ∷ ((sliceTy (tyRef erased mut (tyInt w32))), l85)
-        ∷ ((tyRef erased mut (tyInt w64)), l86) ∷ ((sliceTy (tyRef erased mut (tyInt w64))), l87) ∷ ((tyRef erased mut (tyInt w32)), l88)
-        ∷ ((sliceTy (tyRef erased mut (tyInt w32))), l89) ∷ ((tyRef erased mut (tyInt w32)), l90) ∷ ((sliceTy (tyRef erased mut (tyInt w32))), l91)
-        ∷ ((tyRef erased mut (pointee (FactT.the-row .written))), l92) ∷ ((sliceTy (tyRef erased mut (pointee (FactT.the-row .written)))), l93)
-        ∷ ((tyRef erased mut (pointee (CountsT.the-row .written))), l94) ∷ ((tyRef erased mut (tyInt w32)), l95)
-        ∷ ((sliceTy (tyRef erased mut (tyInt w32))), l96) ∷ ((tyRef erased imm (tyInt w32)), l97) ∷ ((sliceTy (tyRef erased imm (tyInt w32))), l98)
-        ∷ ((tyRef erased imm (tyInt w32)), l99) ∷ ((sliceTy (tyRef erased imm (tyInt w32))), l100) ∷ ((tyRef erased mut (tyInt w32)), l101)
-        ∷ ((sliceTy (tyRef erased mut (tyInt w32))), l102) ∷ (tyUnit, l103) ∷ ((tyRef erased mut (pointee (FactT.the-row .written))), l104)
-        ∷ ((sliceTy (tyRef erased mut (pointee (FactT.the-row .written)))), l105) ∷ ((tyInt w64), l106) ∷ ((tyInt w64), l107) ∷ []) (prop (Post v4)))
+        ∷ ((sliceTy (tyRef (named 20) mut (tyInt w32))), l21) ∷ ((sliceTy (tyRef (named 21) mut (tyInt w32))), l22) ∷ ((tyInt w64), l23)
+        ∷ (RunL.mir, l24) ∷ (CountsL.mir, l25) ∷ (RunL.mir, l26) ∷ (AnswerL.mir, l27) ∷ ((tyRef erased mut (tyInt w32)), l28)
+        ∷ ((sliceTy (tyRef erased mut (tyInt w32))), l29) ∷ ((tyRef erased mut (tyInt w32)), l30) ∷ ((sliceTy (tyRef erased mut (tyInt w32))), l31)
+        ∷ ((tyRef erased mut (tyInt w32)), l32) ∷ ((sliceTy (tyRef erased mut (tyInt w32))), l33) ∷ ((tyRef erased mut (tyInt w32)), l34)
+        ∷ ((sliceTy (tyRef erased mut (tyInt w32))), l35) ∷ ((tyRef erased mut (tyInt w32)), l36) ∷ ((sliceTy (tyRef erased mut (tyInt w32))), l37)
+        ∷ ((tyRef erased mut (tyInt w32)), l38) ∷ ((sliceTy (tyRef erased mut (tyInt w32))), l39) ∷ ((tyRef erased mut (tyInt w32)), l40)
+        ∷ ((sliceTy (tyRef erased mut (tyInt w32))), l41) ∷ ((tyRef erased mut (tyInt w32)), l42) ∷ ((sliceTy (tyRef erased mut (tyInt w32))), l43)
+        ∷ ((tyRef erased mut (tyInt w32)), l44) ∷ ((sliceTy (tyRef erased mut (tyInt w32))), l45) ∷ ((tyRef erased mut (tyInt w32)), l46)
+        ∷ ((sliceTy (tyRef erased mut (tyInt w32))), l47) ∷ ((tyRef erased mut (tyInt w32)), l48) ∷ ((sliceTy (tyRef erased mut (tyInt w32))), l49)
+        ∷ ((tyRef erased mut (tyInt w32)), l50) ∷ ((sliceTy (tyRef erased mut (tyInt w32))), l51) ∷ ((tyRef erased mut (tyInt w32)), l52)
+        ∷ ((sliceTy (tyRef erased mut (tyInt w32))), l53) ∷ ((tyRef erased imm (tyInt w32)), l54) ∷ ((sliceTy (tyRef erased imm (tyInt w32))), l55)
+        ∷ ((tyRef erased imm (tyInt w64)), l56) ∷ ((sliceTy (tyRef erased imm (tyInt w64))), l57) ∷ ((tyRef erased mut (tyInt w32)), l58)
+        ∷ ((sliceTy (tyRef erased mut (tyInt w32))), l59) ∷ (CountsL.mir, l60) ∷ ((tyRef erased imm (tyInt w32)), l61)
+        ∷ ((sliceTy (tyRef erased imm (tyInt w32))), l62) ∷ ((tyRef erased imm (tyInt w32)), l63) ∷ ((sliceTy (tyRef erased imm (tyInt w32))), l64)
+        ∷ ((tyRef erased imm (tyInt w32)), l65) ∷ ((sliceTy (tyRef erased imm (tyInt w32))), l66) ∷ ((tyRef erased imm (tyInt w32)), l67)
+        ∷ ((sliceTy (tyRef erased imm (tyInt w32))), l68) ∷ ((tyRef erased imm (tyInt w32)), l69) ∷ ((sliceTy (tyRef erased imm (tyInt w32))), l70)
+        ∷ ((tyRef erased imm (tyInt w32)), l71) ∷ ((sliceTy (tyRef erased imm (tyInt w32))), l72) ∷ ((tyRef erased mut (tyInt w32)), l73)
+        ∷ ((sliceTy (tyRef erased mut (tyInt w32))), l74) ∷ ((tyRef erased mut (tyInt w32)), l75) ∷ ((sliceTy (tyRef erased mut (tyInt w32))), l76)
+        ∷ ((tyRef erased mut (tyInt w32)), l77) ∷ ((sliceTy (tyRef erased mut (tyInt w32))), l78) ∷ ((tyRef erased mut (tyInt w32)), l79)
+        ∷ ((sliceTy (tyRef erased mut (tyInt w32))), l80) ∷ ((tyRef erased mut (tyInt w32)), l81) ∷ ((sliceTy (tyRef erased mut (tyInt w32))), l82)
+        ∷ ((tyRef erased mut (tyInt w32)), l83) ∷ ((sliceTy (tyRef erased mut (tyInt w32))), l84) ∷ ((tyRef erased mut (tyInt w32)), l85)
+        ∷ ((sliceTy (tyRef erased mut (tyInt w32))), l86) ∷ ((tyRef erased mut (tyInt w64)), l87) ∷ ((sliceTy (tyRef erased mut (tyInt w64))), l88)
+        ∷ ((tyRef erased mut (tyInt w32)), l89) ∷ ((sliceTy (tyRef erased mut (tyInt w32))), l90) ∷ ((tyRef erased mut (tyInt w32)), l91)
+        ∷ ((sliceTy (tyRef erased mut (tyInt w32))), l92) ∷ ((tyRef erased mut (tyInt w32)), l93) ∷ ((sliceTy (tyRef erased mut (tyInt w32))), l94)
+        ∷ ((tyRef erased mut (pointee (FactT.the-row .written))), l95) ∷ ((sliceTy (tyRef erased mut (pointee (FactT.the-row .written)))), l96)
+        ∷ ((tyRef erased mut (pointee (CountsT.the-row .written))), l97) ∷ ((tyRef erased mut (tyInt w32)), l98)
+        ∷ ((sliceTy (tyRef erased mut (tyInt w32))), l99) ∷ ((tyRef erased imm (tyInt w32)), l100) ∷ ((sliceTy (tyRef erased imm (tyInt w32))), l101)
+        ∷ ((tyRef erased imm (tyInt w32)), l102) ∷ ((sliceTy (tyRef erased imm (tyInt w32))), l103) ∷ ((tyRef erased mut (tyInt w32)), l104)
+        ∷ ((sliceTy (tyRef erased mut (tyInt w32))), l105) ∷ (tyUnit, l106) ∷ ((tyRef erased mut (pointee (FactT.the-row .written))), l107)
+        ∷ ((sliceTy (tyRef erased mut (pointee (FactT.the-row .written)))), l108) ∷ ((tyInt w64), l109) ∷ ((tyInt w64), l110) ∷ []) (prop (Post v4)))
     seg·13 l0 l1 l2 l3 l4 l5 l6 l7 l8 l9 l10 l11 l12 l13 l14 l15 l16 l17 l18 l19 l20 l21 l22 l23 l24 l25 l26 l27 l28 l29 l30 l31 l32 l33 l34 l35 l36
         l37 l38 l39 l40 l41 l42 l43 l44 l45 l46 l47 l48 l49 l50 l51 l52 l53 l54 l55 l56 l57 l58 l59 l60 l61 l62 l63 l64 l65 l66 l67 l68 l69 l70 l71
         l72 l73 l74 l75 l76 l77 l78 l79 l80 l81 l82 l83 l84 l85 l86 l87 l88 l89 l90 l91 l92 l93 l94 l95 l96 l97 l98 l99 l100 l101 l102 l103 l104
-        l105 l106 l107 ν·1·3 δ·1·3 ν·1·4 δ·1·4 ν·1·5 δ·1·5 ν·1·6 δ·1·6 ν·1·7 δ·1·7 ν·1·8 δ·1·8 ν·1·9 δ·1·9 ν·1·10 δ·1·10 ν·1·11 δ·1·11 ν·1·12
-        δ·1·12 ν·1·13 δ·1·13 ν·1·14 δ·1·14 ν·1·15 δ·1·15 ν·1·16 δ·1·16 ν·1·17 δ·1·17 ν·1·18 δ·1·18 v1 r1 ws1 e1·0 e1·1 len·1·sorts
-        len·1·symbols len·1·inputs len·1·rules len·1·rulevars len·1·patterns len·1·vars len·1·index len·1·words len·1·defs len·1·rows
-        len·1·lists len·1·missing len·1·cells is1 v2 r2 ws2 e2 is2 ν·3·4 δ·3·4 ν·3·5 δ·3·5 ν·3·6 δ·3·6 ν·3·7 δ·3·7 ν·3·8 δ·3·8
-        ν·3·9 δ·3·9 ν·3·11 δ·3·11 ν·3·12 δ·3·12 ν·3·14 δ·3·14 ν·3·20 δ·3·20 ν·3·21 δ·3·21 v3 r3 ws3 e3 len·3·vars len·3·index
-        len·3·words len·3·defs len·3·rows len·3·lists len·3·kept len·3·feet len·3·cells len·3·ids len·3·facts is3 va·3·24
-        isa·3·24 ν·4·3 δ·4·3 ν·4·4 δ·4·4 v4 r4 ws4 e4·0 e4·1 len·4·index len·4·missing is4 v5 r5 ws5 e5 is5 v6 r6 ws6
-        e6 is6 v7 r7 ws7 e7 len·7·facts is7 =
+        l105 l106 l107 l108 l109 l110 ν·1·3 δ·1·3 ν·1·4 δ·1·4 ν·1·5 δ·1·5 ν·1·6 δ·1·6 ν·1·7 δ·1·7 ν·1·8 δ·1·8 ν·1·9 δ·1·9 ν·1·10 δ·1·10 ν·1·11
+        δ·1·11 ν·1·12 δ·1·12 ν·1·13 δ·1·13 ν·1·14 δ·1·14 ν·1·15 δ·1·15 ν·1·16 δ·1·16 ν·1·17 δ·1·17 ν·1·18 δ·1·18 v1 r1 ws1 e1·0 e1·1
+        len·1·sorts len·1·symbols len·1·inputs len·1·rules len·1·rulevars len·1·patterns len·1·vars len·1·index len·1·words len·1·defs
+        len·1·rows len·1·lists len·1·missing len·1·cells is1 v2 r2 ws2 e2 is2 ν·3·4 δ·3·4 ν·3·5 δ·3·5 ν·3·6 δ·3·6 ν·3·7 δ·3·7
+        ν·3·8 δ·3·8 ν·3·9 δ·3·9 ν·3·11 δ·3·11 ν·3·12 δ·3·12 ν·3·14 δ·3·14 ν·3·21 δ·3·21 ν·3·22 δ·3·22 v3 r3 ws3 e3 len·3·vars
+        len·3·index len·3·words len·3·defs len·3·rows len·3·lists len·3·kept len·3·feet len·3·cells len·3·ids len·3·memo
+        len·3·facts is3 va·3·25 isa·3·25 ν·4·3 δ·4·3 ν·4·4 δ·4·4 v4 r4 ws4 e4·0 e4·1 len·4·index len·4·missing is4 v5
+        r5 ws5 e5 is5 v6 r6 ws6 e6 is6 v7 r7 ws7 e7 len·7·facts is7 =
+        forget ! 258 refl $
+        move ! (258 ∷ 259 ∷ []) $
+        free1 ! $
+        forget ! 256 refl $
+        move ! (256 ∷ 257 ∷ []) $
+        free1 ! $
+        forget ! 254 refl $
+        move ! (254 ∷ 255 ∷ []) $
+        free1 ! $
+        forget ! 252 refl $
+        move ! (252 ∷ 253 ∷ []) $
+        free1 ! $
         forget ! 250 refl $
         move ! (250 ∷ 251 ∷ []) $
         free1 ! $
@@ -2808,28 +2963,16 @@ module _ {M : Type 1} (𝓤 : URA M) (H : Heap 𝓤) (A : Atoms 𝓤) (W : Given
         forget ! 232 refl $
         move ! (232 ∷ 233 ∷ []) $
         free1 ! $
-        forget ! 230 refl $
-        move ! (230 ∷ 231 ∷ []) $
-        free1 ! $
-        forget ! 228 refl $
-        move ! (228 ∷ 229 ∷ []) $
-        free1 ! $
-        forget ! 226 refl $
-        move ! (226 ∷ 227 ∷ []) $
-        free1 ! $
-        forget ! 224 refl $
-        move ! (224 ∷ 225 ∷ []) $
-        free1 ! $
         seg·14 l0 l1 l2 l3 l4 l5 l6 l7 l8 l9 l10 l11 l12 l13 l14 l15 l16 l17 l18 l19 l20 l21 l22 l23 l24 l25 l26 l27 l28 l29 l30 l31 l32 l33 l34 l35
         l36 l37 l38 l39 l40 l41 l42 l43 l44 l45 l46 l47 l48 l49 l50 l51 l52 l53 l54 l55 l56 l57 l58 l59 l60 l61 l62 l63 l64 l65 l66 l67 l68 l69 l70
         l71 l72 l73 l74 l75 l76 l77 l78 l79 l80 l81 l82 l83 l84 l85 l86 l87 l88 l89 l90 l91 l92 l93 l94 l95 l96 l97 l98 l99 l100 l101 l102 l103 l104
-        l105 l106 l107 ν·1·3 δ·1·3 ν·1·4 δ·1·4 ν·1·5 δ·1·5 ν·1·6 δ·1·6 ν·1·7 δ·1·7 ν·1·8 δ·1·8 ν·1·9 δ·1·9 ν·1·10 δ·1·10 ν·1·11 δ·1·11 ν·1·12 δ·1·12
-        ν·1·13 δ·1·13 ν·1·14 δ·1·14 ν·1·15 δ·1·15 ν·1·16 δ·1·16 ν·1·17 δ·1·17 ν·1·18 δ·1·18 v1 r1 ws1 e1·0 e1·1 len·1·sorts len·1·symbols len·1·inputs
-        len·1·rules len·1·rulevars len·1·patterns len·1·vars len·1·index len·1·words len·1·defs len·1·rows len·1·lists len·1·missing len·1·cells is1
-        v2 r2 ws2 e2 is2 ν·3·4 δ·3·4 ν·3·5 δ·3·5 ν·3·6 δ·3·6 ν·3·7 δ·3·7 ν·3·8 δ·3·8 ν·3·9 δ·3·9 ν·3·11 δ·3·11 ν·3·12 δ·3·12 ν·3·14 δ·3·14 ν·3·20
-        δ·3·20 ν·3·21 δ·3·21 v3 r3 ws3 e3 len·3·vars len·3·index len·3·words len·3·defs len·3·rows len·3·lists len·3·kept len·3·feet len·3·cells
-        len·3·ids len·3·facts is3 va·3·24 isa·3·24 ν·4·3 δ·4·3 ν·4·4 δ·4·4 v4 r4 ws4 e4·0 e4·1 len·4·index len·4·missing is4 v5 r5 ws5 e5 is5 v6 r6
-        ws6 e6 is6 v7 r7 ws7 e7 len·7·facts is7
+        l105 l106 l107 l108 l109 l110 ν·1·3 δ·1·3 ν·1·4 δ·1·4 ν·1·5 δ·1·5 ν·1·6 δ·1·6 ν·1·7 δ·1·7 ν·1·8 δ·1·8 ν·1·9 δ·1·9 ν·1·10 δ·1·10 ν·1·11 δ·1·11
+        ν·1·12 δ·1·12 ν·1·13 δ·1·13 ν·1·14 δ·1·14 ν·1·15 δ·1·15 ν·1·16 δ·1·16 ν·1·17 δ·1·17 ν·1·18 δ·1·18 v1 r1 ws1 e1·0 e1·1 len·1·sorts
+        len·1·symbols len·1·inputs len·1·rules len·1·rulevars len·1·patterns len·1·vars len·1·index len·1·words len·1·defs len·1·rows len·1·lists
+        len·1·missing len·1·cells is1 v2 r2 ws2 e2 is2 ν·3·4 δ·3·4 ν·3·5 δ·3·5 ν·3·6 δ·3·6 ν·3·7 δ·3·7 ν·3·8 δ·3·8 ν·3·9 δ·3·9 ν·3·11 δ·3·11 ν·3·12
+        δ·3·12 ν·3·14 δ·3·14 ν·3·21 δ·3·21 ν·3·22 δ·3·22 v3 r3 ws3 e3 len·3·vars len·3·index len·3·words len·3·defs len·3·rows len·3·lists len·3·kept
+        len·3·feet len·3·cells len·3·ids len·3·memo len·3·facts is3 va·3·25 isa·3·25 ν·4·3 δ·4·3 ν·4·4 δ·4·4 v4 r4 ws4 e4·0 e4·1 len·4·index
+        len·4·missing is4 v5 r5 ws5 e5 is5 v6 r6 ws6 e6 is6 v7 r7 ws7 e7 len·7·facts is7
 
     seg·12 : (l0 : ℕ) (l1 : ℕ) (l2 : ℕ) (l3 : ℕ) (l4 : ℕ) (l5 : ℕ) (l6 : ℕ) (l7 : ℕ) (l8 : ℕ) (l9 : ℕ) (l10 : ℕ) (l11 : ℕ) (l12 : ℕ) (l13 : ℕ)
         (l14 : ℕ) (l15 : ℕ) (l16 : ℕ) (l17 : ℕ) (l18 : ℕ) (l19 : ℕ) (l20 : ℕ) (l21 : ℕ) (l22 : ℕ) (l23 : ℕ) (l24 : ℕ) (l25 : ℕ) (l26 : ℕ) (l27 : ℕ)
@@ -2838,14 +2981,14 @@ module _ {M : Type 1} (𝓤 : URA M) (H : Heap 𝓤) (A : Atoms 𝓤) (W : Given
         (l56 : ℕ) (l57 : ℕ) (l58 : ℕ) (l59 : ℕ) (l60 : ℕ) (l61 : ℕ) (l62 : ℕ) (l63 : ℕ) (l64 : ℕ) (l65 : ℕ) (l66 : ℕ) (l67 : ℕ) (l68 : ℕ) (l69 : ℕ)
         (l70 : ℕ) (l71 : ℕ) (l72 : ℕ) (l73 : ℕ) (l74 : ℕ) (l75 : ℕ) (l76 : ℕ) (l77 : ℕ) (l78 : ℕ) (l79 : ℕ) (l80 : ℕ) (l81 : ℕ) (l82 : ℕ) (l83 : ℕ)
         (l84 : ℕ) (l85 : ℕ) (l86 : ℕ) (l87 : ℕ) (l88 : ℕ) (l89 : ℕ) (l90 : ℕ) (l91 : ℕ) (l92 : ℕ) (l93 : ℕ) (l94 : ℕ) (l95 : ℕ) (l96 : ℕ) (l97 : ℕ)
-        (l98 : ℕ) (l99 : ℕ) (l100 : ℕ) (l101 : ℕ) (l102 : ℕ) (l103 : ℕ) (l104 : ℕ) (l105 : ℕ) (l106 : ℕ) (l107 : ℕ) (ν·1·3 : ℕ) (δ·1·3 : GName)
-        (ν·1·4 : ℕ) (δ·1·4 : GName) (ν·1·5 : ℕ) (δ·1·5 : GName) (ν·1·6 : ℕ) (δ·1·6 : GName) (ν·1·7 : ℕ) (δ·1·7 : GName) (ν·1·8 : ℕ) (δ·1·8 : GName)
-        (ν·1·9 : ℕ) (δ·1·9 : GName) (ν·1·10 : ℕ) (δ·1·10 : GName) (ν·1·11 : ℕ) (δ·1·11 : GName) (ν·1·12 : ℕ) (δ·1·12 : GName) (ν·1·13 : ℕ)
-        (δ·1·13 : GName) (ν·1·14 : ℕ) (δ·1·14 : GName) (ν·1·15 : ℕ) (δ·1·15 : GName) (ν·1·16 : ℕ) (δ·1·16 : GName) (ν·1·17 : ℕ) (δ·1·17 : GName)
-        (ν·1·18 : ℕ) (δ·1·18 : GName) (v1 : Val) (r1 : Run) (ws1 : (Unit {0} ×
-        (Unit {0} × (Unit {0} × ((List ℕ) × ((List ℕ) × ((List ℕ) × ((List ℕ) ×
+        (l98 : ℕ) (l99 : ℕ) (l100 : ℕ) (l101 : ℕ) (l102 : ℕ) (l103 : ℕ) (l104 : ℕ) (l105 : ℕ) (l106 : ℕ) (l107 : ℕ) (l108 : ℕ) (l109 : ℕ) (l110 : ℕ)
+        (ν·1·3 : ℕ) (δ·1·3 : GName) (ν·1·4 : ℕ) (δ·1·4 : GName) (ν·1·5 : ℕ) (δ·1·5 : GName) (ν·1·6 : ℕ) (δ·1·6 : GName) (ν·1·7 : ℕ) (δ·1·7 : GName)
+        (ν·1·8 : ℕ) (δ·1·8 : GName) (ν·1·9 : ℕ) (δ·1·9 : GName) (ν·1·10 : ℕ) (δ·1·10 : GName) (ν·1·11 : ℕ) (δ·1·11 : GName) (ν·1·12 : ℕ)
+        (δ·1·12 : GName) (ν·1·13 : ℕ) (δ·1·13 : GName) (ν·1·14 : ℕ) (δ·1·14 : GName) (ν·1·15 : ℕ) (δ·1·15 : GName) (ν·1·16 : ℕ) (δ·1·16 : GName)
+        (ν·1·17 : ℕ) (δ·1·17 : GName) (ν·1·18 : ℕ) (δ·1·18 : GName) (v1 : Val) (r1 : Run)
+        (ws1 : (Unit {0} × (Unit {0} × (Unit {0} × ((List ℕ) × ((List ℕ) × ((List ℕ) ×
         ((List ℕ) × ((List ℕ) × ((List ℕ) × ((List ℕ) × ((List ℕ) × ((List ℕ) ×
-        ((List ℕ) × ((List ℕ) × ((List ℕ) × (Unit {0} × (Unit {0} × ((List ℕ) × (Unit {0} × Unit {0})))))))))))))))))))))
+        ((List ℕ) × ((List ℕ) × ((List ℕ) × ((List ℕ) × (Unit {0} × (Unit {0} × ((List ℕ) × (Unit {0} × Unit {0})))))))))))))))))))))
         (e1·0 : Begun theory goals proof (length facts) (theoryLists sorts symbols inputs rules rulevars patterns)
         (theoryLists (ws1 .1 .1 .1 .0) (ws1 .1 .1 .1 .1 .0) (ws1 .1 .1 .1 .1 .1 .0) (ws1 .1 .1 .1 .1 .1 .1 .0) (ws1 .1 .1 .1 .1 .1 .1 .1 .0)
         (ws1 .1 .1 .1 .1 .1 .1 .1 .1 .0)) (working vars index words defs rows lists)
@@ -2866,11 +3009,11 @@ module _ {M : Type 1} (𝓤 : URA M) (H : Heap 𝓤) (A : Atoms 𝓤) (W : Given
         (len·1·cells : length (ws1 .1 .1 .1 .1 .1 .1 .1 .1 .1 .1 .1 .1 .1 .1 .1 .1 .1 .1 .0) ≡ length cells) (is1 : Is RunT.the-row r1 (v1 ∷ []))
         (v2 : Val) (r2 : Counts) (ws2 : Unit {0}) (e2 : r2 ≡ none) (is2 : Is CountsT.the-row r2 (v2 ∷ [])) (ν·3·4 : ℕ) (δ·3·4 : GName) (ν·3·5 : ℕ)
         (δ·3·5 : GName) (ν·3·6 : ℕ) (δ·3·6 : GName) (ν·3·7 : ℕ) (δ·3·7 : GName) (ν·3·8 : ℕ) (δ·3·8 : GName) (ν·3·9 : ℕ) (δ·3·9 : GName) (ν·3·11 : ℕ)
-        (δ·3·11 : GName) (ν·3·12 : ℕ) (δ·3·12 : GName) (ν·3·14 : ℕ) (δ·3·14 : GName) (ν·3·20 : ℕ) (δ·3·20 : GName) (ν·3·21 : ℕ) (δ·3·21 : GName)
+        (δ·3·11 : GName) (ν·3·12 : ℕ) (δ·3·12 : GName) (ν·3·14 : ℕ) (δ·3·14 : GName) (ν·3·21 : ℕ) (δ·3·21 : GName) (ν·3·22 : ℕ) (δ·3·22 : GName)
         (v3 : Val) (r3 : Run) (ws3 : (Unit {0} × (Unit {0} × (Unit {0} × (Unit {0} ×
         (Unit {0} × (Unit {0} × (Unit {0} × (Unit {0} × (Unit {0} × (Unit {0} ×
         ((List ℕ) × ((List ℕ) × ((List ℕ) × ((List ℕ) × ((List ℕ) × ((List ℕ) ×
-        ((List ℕ) × ((List ℕ) × ((List ℕ) × ((List ℕ) × ((List Fact) × (Counts × Unit {0})))))))))))))))))))))))
+        ((List ℕ) × ((List ℕ) × ((List ℕ) × ((List ℕ) × ((List ℕ) × ((List Fact) × (Counts × Unit {0}))))))))))))))))))))))))
         (e3 : Ran theory goals proof (theoryLists (ws1 .1 .1 .1 .0) (ws1 .1 .1 .1 .1 .0) (ws1 .1 .1 .1 .1 .1 .0) (ws1 .1 .1 .1 .1 .1 .1 .0)
         (ws1 .1 .1 .1 .1 .1 .1 .1 .0) (ws1 .1 .1 .1 .1 .1 .1 .1 .1 .0)) (working (ws1 .1 .1 .1 .1 .1 .1 .1 .1 .1 .0)
         (ws1 .1 .1 .1 .1 .1 .1 .1 .1 .1 .1 .0) (ws1 .1 .1 .1 .1 .1 .1 .1 .1 .1 .1 .1 .0) (ws1 .1 .1 .1 .1 .1 .1 .1 .1 .1 .1 .1 .1 .0)
@@ -2879,8 +3022,9 @@ module _ {M : Type 1} (𝓤 : URA M) (H : Heap 𝓤) (A : Atoms 𝓤) (W : Given
         (ws3 .1 .1 .1 .1 .1 .1 .1 .1 .1 .1 .1 .1 .1 .0) (ws3 .1 .1 .1 .1 .1 .1 .1 .1 .1 .1 .1 .1 .1 .1 .0)
         (ws3 .1 .1 .1 .1 .1 .1 .1 .1 .1 .1 .1 .1 .1 .1 .1 .0)) (ws3 .1 .1 .1 .1 .1 .1 .1 .1 .1 .1 .1 .1 .1 .1 .1 .1 .0)
         (ws3 .1 .1 .1 .1 .1 .1 .1 .1 .1 .1 .1 .1 .1 .1 .1 .1 .1 .0) (ws3 .1 .1 .1 .1 .1 .1 .1 .1 .1 .1 .1 .1 .1 .1 .1 .1 .1 .1 .0)
-        (ws3 .1 .1 .1 .1 .1 .1 .1 .1 .1 .1 .1 .1 .1 .1 .1 .1 .1 .1 .1 .0) r1 r3 facts
-        (ws3 .1 .1 .1 .1 .1 .1 .1 .1 .1 .1 .1 .1 .1 .1 .1 .1 .1 .1 .1 .1 .0) (ws3 .1 .1 .1 .1 .1 .1 .1 .1 .1 .1 .1 .1 .1 .1 .1 .1 .1 .1 .1 .1 .1 .0))
+        (ws3 .1 .1 .1 .1 .1 .1 .1 .1 .1 .1 .1 .1 .1 .1 .1 .1 .1 .1 .1 .0) (ws3 .1 .1 .1 .1 .1 .1 .1 .1 .1 .1 .1 .1 .1 .1 .1 .1 .1 .1 .1 .1 .0) r1 r3
+        facts (ws3 .1 .1 .1 .1 .1 .1 .1 .1 .1 .1 .1 .1 .1 .1 .1 .1 .1 .1 .1 .1 .1 .0)
+        (ws3 .1 .1 .1 .1 .1 .1 .1 .1 .1 .1 .1 .1 .1 .1 .1 .1 .1 .1 .1 .1 .1 .1 .0))
         (len·3·vars : length (ws3 .1 .1 .1 .1 .1 .1 .1 .1 .1 .1 .0) ≡ length (ws1 .1 .1 .1 .1 .1 .1 .1 .1 .1 .0))
         (len·3·index : length (ws3 .1 .1 .1 .1 .1 .1 .1 .1 .1 .1 .1 .0) ≡ length (ws1 .1 .1 .1 .1 .1 .1 .1 .1 .1 .1 .0))
         (len·3·words : length (ws3 .1 .1 .1 .1 .1 .1 .1 .1 .1 .1 .1 .1 .0) ≡ length (ws1 .1 .1 .1 .1 .1 .1 .1 .1 .1 .1 .1 .0))
@@ -2892,11 +3036,12 @@ module _ {M : Type 1} (𝓤 : URA M) (H : Heap 𝓤) (A : Atoms 𝓤) (W : Given
         (len·3·cells : length (ws3 .1 .1 .1 .1 .1 .1 .1 .1 .1 .1 .1 .1 .1 .1 .1 .1 .1 .1 .0) ≡ length
         (ws1 .1 .1 .1 .1 .1 .1 .1 .1 .1 .1 .1 .1 .1 .1 .1 .1 .1 .1 .0)) (len·3·ids : length
         (ws3 .1 .1 .1 .1 .1 .1 .1 .1 .1 .1 .1 .1 .1 .1 .1 .1 .1 .1 .1 .0) ≡ length ids)
-        (len·3·facts : length (ws3 .1 .1 .1 .1 .1 .1 .1 .1 .1 .1 .1 .1 .1 .1 .1 .1 .1 .1 .1 .1 .0) ≡ length facts)
-        (is3 : Is RunT.the-row r3 (v3 ∷ [])) (va·3·24 : Val) (isa·3·24 : Is CountsT.the-row
-        (ws3 .1 .1 .1 .1 .1 .1 .1 .1 .1 .1 .1 .1 .1 .1 .1 .1 .1 .1 .1 .1 .1 .0) (va·3·24 ∷ [])) (ν·4·3 : ℕ) (δ·4·3 : GName) (ν·4·4 : ℕ)
+        (len·3·memo : length (ws3 .1 .1 .1 .1 .1 .1 .1 .1 .1 .1 .1 .1 .1 .1 .1 .1 .1 .1 .1 .1 .0) ≡ length memo)
+        (len·3·facts : length (ws3 .1 .1 .1 .1 .1 .1 .1 .1 .1 .1 .1 .1 .1 .1 .1 .1 .1 .1 .1 .1 .1 .0) ≡ length facts)
+        (is3 : Is RunT.the-row r3 (v3 ∷ [])) (va·3·25 : Val) (isa·3·25 : Is CountsT.the-row
+        (ws3 .1 .1 .1 .1 .1 .1 .1 .1 .1 .1 .1 .1 .1 .1 .1 .1 .1 .1 .1 .1 .1 .1 .0) (va·3·25 ∷ [])) (ν·4·3 : ℕ) (δ·4·3 : GName) (ν·4·4 : ℕ)
         (δ·4·4 : GName) (v4 : Val) (r4 : Answer) (ws4 : (Unit {0} × (Unit {0} × ((List ℕ) × (Unit {0} × (Unit {0} × ((List ℕ) × Unit {0})))))))
-        (e4·0 : (g : Ending r3 (ws3 .1 .1 .1 .1 .1 .1 .1 .1 .1 .1 .1 .1 .1 .1 .1 .1 .1 .1 .1 .1 .1 .0) (ws3 .1 .1 .1 .1 .1 .1 .1 .1 .1 .1 .1 .0)
+        (e4·0 : (g : Ending r3 (ws3 .1 .1 .1 .1 .1 .1 .1 .1 .1 .1 .1 .1 .1 .1 .1 .1 .1 .1 .1 .1 .1 .1 .0) (ws3 .1 .1 .1 .1 .1 .1 .1 .1 .1 .1 .1 .0)
         (ws3 .1 .1 .1 .1 .1 .1 .1 .1 .1 .1 .1 .1 .0) (ws3 .1 .1 .1 .1 .1 .1 .1 .1 .1 .1 .1 .1 .1 .1 .0)
         (ws1 .1 .1 .1 .1 .1 .1 .1 .1 .1 .1 .1 .1 .1 .1 .1 .0)) → Ended (g .theory) (g .goals) (g .proof) r3 (ws3 .1 .1 .1 .1 .1 .1 .1 .1 .1 .1 .1 .0)
         (ws4 .1 .1 .0) (ws1 .1 .1 .1 .1 .1 .1 .1 .1 .1 .1 .1 .1 .1 .1 .1 .0) (ws4 .1 .1 .1 .1 .1 .0) r4)
@@ -2914,9 +3059,9 @@ module _ {M : Type 1} (𝓤 : URA M) (H : Heap 𝓤) (A : Atoms 𝓤) (W : Given
         ∷ ‵ (flft κ·index q·index)
         ∷ ‵ (finally u32 γ·missing (ws4 .1 .1 .1 .1 .1 .0))
         ∷ ‵ (finally u32 γ·index (ws4 .1 .1 .0))
-        ∷ ‵ (fat fullShare CountsL.mir l24 0 va·3·24)
-        ∷ ‵ (MutSlice (named 16) κ·facts FactT.the-row .own (ref·facts γ·facts (ws3 .1 .1 .1 .1 .1 .1 .1 .1 .1 .1 .1 .1 .1 .1 .1 .1 .1 .1 .1 .1 .0))
-        (s·facts ∷ []))
+        ∷ ‵ (fat fullShare CountsL.mir l25 0 va·3·25)
+        ∷ ‵ (MutSlice (named 16) κ·facts FactT.the-row .own (ref·facts γ·facts
+        (ws3 .1 .1 .1 .1 .1 .1 .1 .1 .1 .1 .1 .1 .1 .1 .1 .1 .1 .1 .1 .1 .1 .0)) (s·facts ∷ []))
         ∷ ‵ (flft κ·facts q·facts)
         ∷ ‵ (MutSlice (named 8) κ·patterns u32 .own (ref·patterns γ·patterns (ws1 .1 .1 .1 .1 .1 .1 .1 .1 .0)) (s·patterns ∷ []))
         ∷ ‵ (flft κ·patterns q·patterns)
@@ -2930,6 +3075,7 @@ module _ {M : Type 1} (𝓤 : URA M) (H : Heap 𝓤) (A : Atoms 𝓤) (W : Given
         ∷ ‵ (flft κ·symbols q·symbols)
         ∷ ‵ (MutSlice (named 3) κ·sorts u32 .own (ref·sorts γ·sorts (ws1 .1 .1 .1 .0)) (s·sorts ∷ []))
         ∷ ‵ (flft κ·sorts q·sorts)
+        ∷ ‵ (flft κ·memo q·memo)
         ∷ ‵ (flft κ·ids q·ids)
         ∷ ‵ (flft κ·cells q·cells)
         ∷ ‵ (flft κ·feet q·feet)
@@ -2940,6 +3086,7 @@ module _ {M : Type 1} (𝓤 : URA M) (H : Heap 𝓤) (A : Atoms 𝓤) (W : Given
         ∷ ‵ (flft κ·proof q·proof)
         ∷ ‵ (flft κ·goals q·goals)
         ∷ ‵ (flft κ·theory q·theory)
+        ∷ ‵ (finally u32 γ·memo (ws3 .1 .1 .1 .1 .1 .1 .1 .1 .1 .1 .1 .1 .1 .1 .1 .1 .1 .1 .1 .1 .0))
         ∷ ‵ (finally u32 γ·ids (ws3 .1 .1 .1 .1 .1 .1 .1 .1 .1 .1 .1 .1 .1 .1 .1 .1 .1 .1 .1 .0))
         ∷ ‵ (finally u32 γ·cells (ws3 .1 .1 .1 .1 .1 .1 .1 .1 .1 .1 .1 .1 .1 .1 .1 .1 .1 .1 .0))
         ∷ ‵ (finally u64 γ·feet (ws3 .1 .1 .1 .1 .1 .1 .1 .1 .1 .1 .1 .1 .1 .1 .1 .1 .1 .0))
@@ -2950,177 +3097,183 @@ module _ {M : Type 1} (𝓤 : URA M) (H : Heap 𝓤) (A : Atoms 𝓤) (W : Given
         ∷ ‵ (ShrSlice (named 2) κ·proof u8 .own (ref·proof γ·proof proof) (s·proof ∷ []))
         ∷ ‵ (ShrSlice (named 1) κ·goals u8 .own (ref·goals γ·goals goals) (s·goals ∷ []))
         ∷ ‵ (ShrSlice (named 0) κ·theory u8 .own (ref·theory γ·theory theory) (s·theory ∷ []))
-        ∷ ‵ (fat fullShare (tyInt w64) l107 0 v6)
-        ∷ ‵ (fdies (tyInt w64) l107)
-        ∷ ‵ (fat fullShare (tyInt w64) l106 0 v5)
-        ∷ ‵ (fdies (tyInt w64) l106)
-        ∷ ‵ (fat fullShare (sliceTy (tyRef erased mut (pointee (FactT.the-row .written)))) l105 0 s·facts)
-        ∷ ‵ (fdies (sliceTy (tyRef erased mut (pointee (FactT.the-row .written)))) l105)
-        ∷ ‵ (fat fullShare (tyRef erased mut (pointee (FactT.the-row .written))) l104 0 (vptr b·facts o·facts))
-        ∷ ‵ (fdies (tyRef erased mut (pointee (FactT.the-row .written))) l104)
-        ∷ ‵ (froom tyUnit l103 0)
-        ∷ ‵ (fdies tyUnit l103)
-        ∷ ‵ (fat fullShare (sliceTy (tyRef erased mut (tyInt w32))) l102 0 s·missing)
-        ∷ ‵ (fdies (sliceTy (tyRef erased mut (tyInt w32))) l102)
-        ∷ ‵ (fat fullShare (tyRef erased mut (tyInt w32)) l101 0 (vptr b·missing o·missing))
-        ∷ ‵ (fdies (tyRef erased mut (tyInt w32)) l101)
-        ∷ ‵ (fat fullShare (sliceTy (tyRef erased imm (tyInt w32))) l100 0 s·rows)
-        ∷ ‵ (fdies (sliceTy (tyRef erased imm (tyInt w32))) l100)
-        ∷ ‵ (fat fullShare (tyRef erased imm (tyInt w32)) l99 0 (vptr b·rows o·rows))
-        ∷ ‵ (fdies (tyRef erased imm (tyInt w32)) l99)
-        ∷ ‵ (fat fullShare (sliceTy (tyRef erased imm (tyInt w32))) l98 0 s·words)
-        ∷ ‵ (fdies (sliceTy (tyRef erased imm (tyInt w32))) l98)
-        ∷ ‵ (fat fullShare (tyRef erased imm (tyInt w32)) l97 0 (vptr b·words o·words))
-        ∷ ‵ (fdies (tyRef erased imm (tyInt w32)) l97)
-        ∷ ‵ (fat fullShare (sliceTy (tyRef erased mut (tyInt w32))) l96 0 s·index)
-        ∷ ‵ (fdies (sliceTy (tyRef erased mut (tyInt w32))) l96)
-        ∷ ‵ (fat fullShare (tyRef erased mut (tyInt w32)) l95 0 (vptr b·index o·index))
-        ∷ ‵ (fdies (tyRef erased mut (tyInt w32)) l95)
-        ∷ ‵ (fat fullShare (tyRef erased mut (pointee (CountsT.the-row .written))) l94 0 (vptr l24 0))
-        ∷ ‵ (fdies (tyRef erased mut (pointee (CountsT.the-row .written))) l94)
-        ∷ ‵ (fat fullShare (sliceTy (tyRef erased mut (pointee (FactT.the-row .written)))) l93 0 s·facts)
-        ∷ ‵ (fdies (sliceTy (tyRef erased mut (pointee (FactT.the-row .written)))) l93)
-        ∷ ‵ (fat fullShare (tyRef erased mut (pointee (FactT.the-row .written))) l92 0 (vptr b·facts o·facts))
-        ∷ ‵ (fdies (tyRef erased mut (pointee (FactT.the-row .written))) l92)
-        ∷ ‵ (fat fullShare (sliceTy (tyRef erased mut (tyInt w32))) l91 0 s·ids)
-        ∷ ‵ (fdies (sliceTy (tyRef erased mut (tyInt w32))) l91)
-        ∷ ‵ (fat fullShare (tyRef erased mut (tyInt w32)) l90 0 (vptr b·ids o·ids))
-        ∷ ‵ (fdies (tyRef erased mut (tyInt w32)) l90)
-        ∷ ‵ (fat fullShare (sliceTy (tyRef erased mut (tyInt w32))) l89 0 s·cells)
-        ∷ ‵ (fdies (sliceTy (tyRef erased mut (tyInt w32))) l89)
-        ∷ ‵ (fat fullShare (tyRef erased mut (tyInt w32)) l88 0 (vptr b·cells o·cells))
-        ∷ ‵ (fdies (tyRef erased mut (tyInt w32)) l88)
-        ∷ ‵ (fat fullShare (sliceTy (tyRef erased mut (tyInt w64))) l87 0 s·feet)
-        ∷ ‵ (fdies (sliceTy (tyRef erased mut (tyInt w64))) l87)
-        ∷ ‵ (fat fullShare (tyRef erased mut (tyInt w64)) l86 0 (vptr b·feet o·feet))
-        ∷ ‵ (fdies (tyRef erased mut (tyInt w64)) l86)
-        ∷ ‵ (fat fullShare (sliceTy (tyRef erased mut (tyInt w32))) l85 0 s·kept)
-        ∷ ‵ (fdies (sliceTy (tyRef erased mut (tyInt w32))) l85)
-        ∷ ‵ (fat fullShare (tyRef erased mut (tyInt w32)) l84 0 (vptr b·kept o·kept))
-        ∷ ‵ (fdies (tyRef erased mut (tyInt w32)) l84)
-        ∷ ‵ (fat fullShare (sliceTy (tyRef erased mut (tyInt w32))) l83 0 s·lists)
-        ∷ ‵ (fdies (sliceTy (tyRef erased mut (tyInt w32))) l83)
-        ∷ ‵ (fat fullShare (tyRef erased mut (tyInt w32)) l82 0 (vptr b·lists o·lists))
-        ∷ ‵ (fdies (tyRef erased mut (tyInt w32)) l82)
-        ∷ ‵ (fat fullShare (sliceTy (tyRef erased mut (tyInt w32))) l81 0 s·rows)
-        ∷ ‵ (fdies (sliceTy (tyRef erased mut (tyInt w32))) l81)
-        ∷ ‵ (fat fullShare (tyRef erased mut (tyInt w32)) l80 0 (vptr b·rows o·rows))
-        ∷ ‵ (fdies (tyRef erased mut (tyInt w32)) l80)
-        ∷ ‵ (fat fullShare (sliceTy (tyRef erased mut (tyInt w32))) l79 0 s·defs)
-        ∷ ‵ (fdies (sliceTy (tyRef erased mut (tyInt w32))) l79)
-        ∷ ‵ (fat fullShare (tyRef erased mut (tyInt w32)) l78 0 (vptr b·defs o·defs))
-        ∷ ‵ (fdies (tyRef erased mut (tyInt w32)) l78)
-        ∷ ‵ (fat fullShare (sliceTy (tyRef erased mut (tyInt w32))) l77 0 s·words)
-        ∷ ‵ (fdies (sliceTy (tyRef erased mut (tyInt w32))) l77)
-        ∷ ‵ (fat fullShare (tyRef erased mut (tyInt w32)) l76 0 (vptr b·words o·words))
-        ∷ ‵ (fdies (tyRef erased mut (tyInt w32)) l76)
-        ∷ ‵ (fat fullShare (sliceTy (tyRef erased mut (tyInt w32))) l75 0 s·index)
-        ∷ ‵ (fdies (sliceTy (tyRef erased mut (tyInt w32))) l75)
-        ∷ ‵ (fat fullShare (tyRef erased mut (tyInt w32)) l74 0 (vptr b·index o·index))
-        ∷ ‵ (fdies (tyRef erased mut (tyInt w32)) l74)
-        ∷ ‵ (fat fullShare (sliceTy (tyRef erased mut (tyInt w32))) l73 0 s·vars)
-        ∷ ‵ (fdies (sliceTy (tyRef erased mut (tyInt w32))) l73)
-        ∷ ‵ (fat fullShare (tyRef erased mut (tyInt w32)) l72 0 (vptr b·vars o·vars))
-        ∷ ‵ (fdies (tyRef erased mut (tyInt w32)) l72)
-        ∷ ‵ (fat fullShare (sliceTy (tyRef erased imm (tyInt w32))) l71 0 s·patterns)
-        ∷ ‵ (fdies (sliceTy (tyRef erased imm (tyInt w32))) l71)
-        ∷ ‵ (fat fullShare (tyRef erased imm (tyInt w32)) l70 0 (vptr b·patterns o·patterns))
-        ∷ ‵ (fdies (tyRef erased imm (tyInt w32)) l70)
-        ∷ ‵ (fat fullShare (sliceTy (tyRef erased imm (tyInt w32))) l69 0 s·rulevars)
-        ∷ ‵ (fdies (sliceTy (tyRef erased imm (tyInt w32))) l69)
-        ∷ ‵ (fat fullShare (tyRef erased imm (tyInt w32)) l68 0 (vptr b·rulevars o·rulevars))
-        ∷ ‵ (fdies (tyRef erased imm (tyInt w32)) l68)
-        ∷ ‵ (fat fullShare (sliceTy (tyRef erased imm (tyInt w32))) l67 0 s·rules)
-        ∷ ‵ (fdies (sliceTy (tyRef erased imm (tyInt w32))) l67)
-        ∷ ‵ (fat fullShare (tyRef erased imm (tyInt w32)) l66 0 (vptr b·rules o·rules))
-        ∷ ‵ (fdies (tyRef erased imm (tyInt w32)) l66)
-        ∷ ‵ (fat fullShare (sliceTy (tyRef erased imm (tyInt w32))) l65 0 s·inputs)
-        ∷ ‵ (fdies (sliceTy (tyRef erased imm (tyInt w32))) l65)
-        ∷ ‵ (fat fullShare (tyRef erased imm (tyInt w32)) l64 0 (vptr b·inputs o·inputs))
-        ∷ ‵ (fdies (tyRef erased imm (tyInt w32)) l64)
-        ∷ ‵ (fat fullShare (sliceTy (tyRef erased imm (tyInt w32))) l63 0 s·symbols)
-        ∷ ‵ (fdies (sliceTy (tyRef erased imm (tyInt w32))) l63)
-        ∷ ‵ (fat fullShare (tyRef erased imm (tyInt w32)) l62 0 (vptr b·symbols o·symbols))
-        ∷ ‵ (fdies (tyRef erased imm (tyInt w32)) l62)
-        ∷ ‵ (fat fullShare (sliceTy (tyRef erased imm (tyInt w32))) l61 0 s·sorts)
-        ∷ ‵ (fdies (sliceTy (tyRef erased imm (tyInt w32))) l61)
-        ∷ ‵ (fat fullShare (tyRef erased imm (tyInt w32)) l60 0 (vptr b·sorts o·sorts))
-        ∷ ‵ (fdies (tyRef erased imm (tyInt w32)) l60)
-        ∷ ‵ (fat fullShare CountsL.mir l59 0 va·3·24)
-        ∷ ‵ (fdies CountsL.mir l59)
-        ∷ ‵ (fat fullShare (sliceTy (tyRef erased mut (tyInt w32))) l58 0 s·cells)
-        ∷ ‵ (fdies (sliceTy (tyRef erased mut (tyInt w32))) l58)
-        ∷ ‵ (fat fullShare (tyRef erased mut (tyInt w32)) l57 0 (vptr b·cells o·cells))
-        ∷ ‵ (fdies (tyRef erased mut (tyInt w32)) l57)
-        ∷ ‵ (fat fullShare (sliceTy (tyRef erased imm (tyInt w64))) l56 0 s·feet)
-        ∷ ‵ (fdies (sliceTy (tyRef erased imm (tyInt w64))) l56)
-        ∷ ‵ (fat fullShare (tyRef erased imm (tyInt w64)) l55 0 (vptr b·feet o·feet))
-        ∷ ‵ (fdies (tyRef erased imm (tyInt w64)) l55)
-        ∷ ‵ (fat fullShare (sliceTy (tyRef erased imm (tyInt w32))) l54 0 s·kept)
-        ∷ ‵ (fdies (sliceTy (tyRef erased imm (tyInt w32))) l54)
-        ∷ ‵ (fat fullShare (tyRef erased imm (tyInt w32)) l53 0 (vptr b·kept o·kept))
-        ∷ ‵ (fdies (tyRef erased imm (tyInt w32)) l53)
-        ∷ ‵ (fat fullShare (sliceTy (tyRef erased mut (tyInt w32))) l52 0 s·missing)
-        ∷ ‵ (fdies (sliceTy (tyRef erased mut (tyInt w32))) l52)
-        ∷ ‵ (fat fullShare (tyRef erased mut (tyInt w32)) l51 0 (vptr b·missing o·missing))
-        ∷ ‵ (fdies (tyRef erased mut (tyInt w32)) l51)
-        ∷ ‵ (fat fullShare (sliceTy (tyRef erased mut (tyInt w32))) l50 0 s·lists)
-        ∷ ‵ (fdies (sliceTy (tyRef erased mut (tyInt w32))) l50)
-        ∷ ‵ (fat fullShare (tyRef erased mut (tyInt w32)) l49 0 (vptr b·lists o·lists))
-        ∷ ‵ (fdies (tyRef erased mut (tyInt w32)) l49)
-        ∷ ‵ (fat fullShare (sliceTy (tyRef erased mut (tyInt w32))) l48 0 s·rows)
-        ∷ ‵ (fdies (sliceTy (tyRef erased mut (tyInt w32))) l48)
-        ∷ ‵ (fat fullShare (tyRef erased mut (tyInt w32)) l47 0 (vptr b·rows o·rows))
-        ∷ ‵ (fdies (tyRef erased mut (tyInt w32)) l47)
-        ∷ ‵ (fat fullShare (sliceTy (tyRef erased mut (tyInt w32))) l46 0 s·defs)
-        ∷ ‵ (fdies (sliceTy (tyRef erased mut (tyInt w32))) l46)
-        ∷ ‵ (fat fullShare (tyRef erased mut (tyInt w32)) l45 0 (vptr b·defs o·defs))
-        ∷ ‵ (fdies (tyRef erased mut (tyInt w32)) l45)
-        ∷ ‵ (fat fullShare (sliceTy (tyRef erased mut (tyInt w32))) l44 0 s·words)
-        ∷ ‵ (fdies (sliceTy (tyRef erased mut (tyInt w32))) l44)
-        ∷ ‵ (fat fullShare (tyRef erased mut (tyInt w32)) l43 0 (vptr b·words o·words))
-        ∷ ‵ (fdies (tyRef erased mut (tyInt w32)) l43)
-        ∷ ‵ (fat fullShare (sliceTy (tyRef erased mut (tyInt w32))) l42 0 s·index)
-        ∷ ‵ (fdies (sliceTy (tyRef erased mut (tyInt w32))) l42)
-        ∷ ‵ (fat fullShare (tyRef erased mut (tyInt w32)) l41 0 (vptr b·index o·index))
-        ∷ ‵ (fdies (tyRef erased mut (tyInt w32)) l41)
-        ∷ ‵ (fat fullShare (sliceTy (tyRef erased mut (tyInt w32))) l40 0 s·vars)
-        ∷ ‵ (fdies (sliceTy (tyRef erased mut (tyInt w32))) l40)
-        ∷ ‵ (fat fullShare (tyRef erased mut (tyInt w32)) l39 0 (vptr b·vars o·vars))
-        ∷ ‵ (fdies (tyRef erased mut (tyInt w32)) l39)
-        ∷ ‵ (fat fullShare (sliceTy (tyRef erased mut (tyInt w32))) l38 0 s·patterns)
-        ∷ ‵ (fdies (sliceTy (tyRef erased mut (tyInt w32))) l38)
-        ∷ ‵ (fat fullShare (tyRef erased mut (tyInt w32)) l37 0 (vptr b·patterns o·patterns))
-        ∷ ‵ (fdies (tyRef erased mut (tyInt w32)) l37)
-        ∷ ‵ (fat fullShare (sliceTy (tyRef erased mut (tyInt w32))) l36 0 s·rulevars)
-        ∷ ‵ (fdies (sliceTy (tyRef erased mut (tyInt w32))) l36)
-        ∷ ‵ (fat fullShare (tyRef erased mut (tyInt w32)) l35 0 (vptr b·rulevars o·rulevars))
-        ∷ ‵ (fdies (tyRef erased mut (tyInt w32)) l35)
-        ∷ ‵ (fat fullShare (sliceTy (tyRef erased mut (tyInt w32))) l34 0 s·rules)
-        ∷ ‵ (fdies (sliceTy (tyRef erased mut (tyInt w32))) l34)
-        ∷ ‵ (fat fullShare (tyRef erased mut (tyInt w32)) l33 0 (vptr b·rules o·rules))
-        ∷ ‵ (fdies (tyRef erased mut (tyInt w32)) l33)
-        ∷ ‵ (fat fullShare (sliceTy (tyRef erased mut (tyInt w32))) l32 0 s·inputs)
-        ∷ ‵ (fdies (sliceTy (tyRef erased mut (tyInt w32))) l32)
-        ∷ ‵ (fat fullShare (tyRef erased mut (tyInt w32)) l31 0 (vptr b·inputs o·inputs))
-        ∷ ‵ (fdies (tyRef erased mut (tyInt w32)) l31)
-        ∷ ‵ (fat fullShare (sliceTy (tyRef erased mut (tyInt w32))) l30 0 s·symbols)
-        ∷ ‵ (fdies (sliceTy (tyRef erased mut (tyInt w32))) l30)
-        ∷ ‵ (fat fullShare (tyRef erased mut (tyInt w32)) l29 0 (vptr b·symbols o·symbols))
-        ∷ ‵ (fdies (tyRef erased mut (tyInt w32)) l29)
-        ∷ ‵ (fat fullShare (sliceTy (tyRef erased mut (tyInt w32))) l28 0 s·sorts)
-        ∷ ‵ (fdies (sliceTy (tyRef erased mut (tyInt w32))) l28)
-        ∷ ‵ (fat fullShare (tyRef erased mut (tyInt w32)) l27 0 (vptr b·sorts o·sorts))
-        ∷ ‵ (fdies (tyRef erased mut (tyInt w32)) l27)
-        ∷ ‵ (fat fullShare AnswerL.mir l26 0 v4)
-        ∷ ‵ (fdies AnswerL.mir l26)
-        ∷ ‵ (fat fullShare RunL.mir l25 0 v3)
-        ∷ ‵ (fdies RunL.mir l25)
-        ∷ ‵ (fdies CountsL.mir l24)
-        ∷ ‵ (fat fullShare RunL.mir l23 0 v1)
-        ∷ ‵ (fdies RunL.mir l23)
-        ∷ ‵ (fat fullShare (tyInt w64) l22 0 (vint w64 (length facts)))
-        ∷ ‵ (fdies (tyInt w64) l22)
+        ∷ ‵ (fat fullShare (tyInt w64) l110 0 v6)
+        ∷ ‵ (fdies (tyInt w64) l110)
+        ∷ ‵ (fat fullShare (tyInt w64) l109 0 v5)
+        ∷ ‵ (fdies (tyInt w64) l109)
+        ∷ ‵ (fat fullShare (sliceTy (tyRef erased mut (pointee (FactT.the-row .written)))) l108 0 s·facts)
+        ∷ ‵ (fdies (sliceTy (tyRef erased mut (pointee (FactT.the-row .written)))) l108)
+        ∷ ‵ (fat fullShare (tyRef erased mut (pointee (FactT.the-row .written))) l107 0 (vptr b·facts o·facts))
+        ∷ ‵ (fdies (tyRef erased mut (pointee (FactT.the-row .written))) l107)
+        ∷ ‵ (froom tyUnit l106 0)
+        ∷ ‵ (fdies tyUnit l106)
+        ∷ ‵ (fat fullShare (sliceTy (tyRef erased mut (tyInt w32))) l105 0 s·missing)
+        ∷ ‵ (fdies (sliceTy (tyRef erased mut (tyInt w32))) l105)
+        ∷ ‵ (fat fullShare (tyRef erased mut (tyInt w32)) l104 0 (vptr b·missing o·missing))
+        ∷ ‵ (fdies (tyRef erased mut (tyInt w32)) l104)
+        ∷ ‵ (fat fullShare (sliceTy (tyRef erased imm (tyInt w32))) l103 0 s·rows)
+        ∷ ‵ (fdies (sliceTy (tyRef erased imm (tyInt w32))) l103)
+        ∷ ‵ (fat fullShare (tyRef erased imm (tyInt w32)) l102 0 (vptr b·rows o·rows))
+        ∷ ‵ (fdies (tyRef erased imm (tyInt w32)) l102)
+        ∷ ‵ (fat fullShare (sliceTy (tyRef erased imm (tyInt w32))) l101 0 s·words)
+        ∷ ‵ (fdies (sliceTy (tyRef erased imm (tyInt w32))) l101)
+        ∷ ‵ (fat fullShare (tyRef erased imm (tyInt w32)) l100 0 (vptr b·words o·words))
+        ∷ ‵ (fdies (tyRef erased imm (tyInt w32)) l100)
+        ∷ ‵ (fat fullShare (sliceTy (tyRef erased mut (tyInt w32))) l99 0 s·index)
+        ∷ ‵ (fdies (sliceTy (tyRef erased mut (tyInt w32))) l99)
+        ∷ ‵ (fat fullShare (tyRef erased mut (tyInt w32)) l98 0 (vptr b·index o·index))
+        ∷ ‵ (fdies (tyRef erased mut (tyInt w32)) l98)
+        ∷ ‵ (fat fullShare (tyRef erased mut (pointee (CountsT.the-row .written))) l97 0 (vptr l25 0))
+        ∷ ‵ (fdies (tyRef erased mut (pointee (CountsT.the-row .written))) l97)
+        ∷ ‵ (fat fullShare (sliceTy (tyRef erased mut (pointee (FactT.the-row .written)))) l96 0 s·facts)
+        ∷ ‵ (fdies (sliceTy (tyRef erased mut (pointee (FactT.the-row .written)))) l96)
+        ∷ ‵ (fat fullShare (tyRef erased mut (pointee (FactT.the-row .written))) l95 0 (vptr b·facts o·facts))
+        ∷ ‵ (fdies (tyRef erased mut (pointee (FactT.the-row .written))) l95)
+        ∷ ‵ (fat fullShare (sliceTy (tyRef erased mut (tyInt w32))) l94 0 s·memo)
+        ∷ ‵ (fdies (sliceTy (tyRef erased mut (tyInt w32))) l94)
+        ∷ ‵ (fat fullShare (tyRef erased mut (tyInt w32)) l93 0 (vptr b·memo o·memo))
+        ∷ ‵ (fdies (tyRef erased mut (tyInt w32)) l93)
+        ∷ ‵ (fat fullShare (sliceTy (tyRef erased mut (tyInt w32))) l92 0 s·ids)
+        ∷ ‵ (fdies (sliceTy (tyRef erased mut (tyInt w32))) l92)
+        ∷ ‵ (fat fullShare (tyRef erased mut (tyInt w32)) l91 0 (vptr b·ids o·ids))
+        ∷ ‵ (fdies (tyRef erased mut (tyInt w32)) l91)
+        ∷ ‵ (fat fullShare (sliceTy (tyRef erased mut (tyInt w32))) l90 0 s·cells)
+        ∷ ‵ (fdies (sliceTy (tyRef erased mut (tyInt w32))) l90)
+        ∷ ‵ (fat fullShare (tyRef erased mut (tyInt w32)) l89 0 (vptr b·cells o·cells))
+        ∷ ‵ (fdies (tyRef erased mut (tyInt w32)) l89)
+        ∷ ‵ (fat fullShare (sliceTy (tyRef erased mut (tyInt w64))) l88 0 s·feet)
+        ∷ ‵ (fdies (sliceTy (tyRef erased mut (tyInt w64))) l88)
+        ∷ ‵ (fat fullShare (tyRef erased mut (tyInt w64)) l87 0 (vptr b·feet o·feet))
+        ∷ ‵ (fdies (tyRef erased mut (tyInt w64)) l87)
+        ∷ ‵ (fat fullShare (sliceTy (tyRef erased mut (tyInt w32))) l86 0 s·kept)
+        ∷ ‵ (fdies (sliceTy (tyRef erased mut (tyInt w32))) l86)
+        ∷ ‵ (fat fullShare (tyRef erased mut (tyInt w32)) l85 0 (vptr b·kept o·kept))
+        ∷ ‵ (fdies (tyRef erased mut (tyInt w32)) l85)
+        ∷ ‵ (fat fullShare (sliceTy (tyRef erased mut (tyInt w32))) l84 0 s·lists)
+        ∷ ‵ (fdies (sliceTy (tyRef erased mut (tyInt w32))) l84)
+        ∷ ‵ (fat fullShare (tyRef erased mut (tyInt w32)) l83 0 (vptr b·lists o·lists))
+        ∷ ‵ (fdies (tyRef erased mut (tyInt w32)) l83)
+        ∷ ‵ (fat fullShare (sliceTy (tyRef erased mut (tyInt w32))) l82 0 s·rows)
+        ∷ ‵ (fdies (sliceTy (tyRef erased mut (tyInt w32))) l82)
+        ∷ ‵ (fat fullShare (tyRef erased mut (tyInt w32)) l81 0 (vptr b·rows o·rows))
+        ∷ ‵ (fdies (tyRef erased mut (tyInt w32)) l81)
+        ∷ ‵ (fat fullShare (sliceTy (tyRef erased mut (tyInt w32))) l80 0 s·defs)
+        ∷ ‵ (fdies (sliceTy (tyRef erased mut (tyInt w32))) l80)
+        ∷ ‵ (fat fullShare (tyRef erased mut (tyInt w32)) l79 0 (vptr b·defs o·defs))
+        ∷ ‵ (fdies (tyRef erased mut (tyInt w32)) l79)
+        ∷ ‵ (fat fullShare (sliceTy (tyRef erased mut (tyInt w32))) l78 0 s·words)
+        ∷ ‵ (fdies (sliceTy (tyRef erased mut (tyInt w32))) l78)
+        ∷ ‵ (fat fullShare (tyRef erased mut (tyInt w32)) l77 0 (vptr b·words o·words))
+        ∷ ‵ (fdies (tyRef erased mut (tyInt w32)) l77)
+        ∷ ‵ (fat fullShare (sliceTy (tyRef erased mut (tyInt w32))) l76 0 s·index)
+        ∷ ‵ (fdies (sliceTy (tyRef erased mut (tyInt w32))) l76)
+        ∷ ‵ (fat fullShare (tyRef erased mut (tyInt w32)) l75 0 (vptr b·index o·index))
+        ∷ ‵ (fdies (tyRef erased mut (tyInt w32)) l75)
+        ∷ ‵ (fat fullShare (sliceTy (tyRef erased mut (tyInt w32))) l74 0 s·vars)
+        ∷ ‵ (fdies (sliceTy (tyRef erased mut (tyInt w32))) l74)
+        ∷ ‵ (fat fullShare (tyRef erased mut (tyInt w32)) l73 0 (vptr b·vars o·vars))
+        ∷ ‵ (fdies (tyRef erased mut (tyInt w32)) l73)
+        ∷ ‵ (fat fullShare (sliceTy (tyRef erased imm (tyInt w32))) l72 0 s·patterns)
+        ∷ ‵ (fdies (sliceTy (tyRef erased imm (tyInt w32))) l72)
+        ∷ ‵ (fat fullShare (tyRef erased imm (tyInt w32)) l71 0 (vptr b·patterns o·patterns))
+        ∷ ‵ (fdies (tyRef erased imm (tyInt w32)) l71)
+        ∷ ‵ (fat fullShare (sliceTy (tyRef erased imm (tyInt w32))) l70 0 s·rulevars)
+        ∷ ‵ (fdies (sliceTy (tyRef erased imm (tyInt w32))) l70)
+        ∷ ‵ (fat fullShare (tyRef erased imm (tyInt w32)) l69 0 (vptr b·rulevars o·rulevars))
+        ∷ ‵ (fdies (tyRef erased imm (tyInt w32)) l69)
+        ∷ ‵ (fat fullShare (sliceTy (tyRef erased imm (tyInt w32))) l68 0 s·rules)
+        ∷ ‵ (fdies (sliceTy (tyRef erased imm (tyInt w32))) l68)
+        ∷ ‵ (fat fullShare (tyRef erased imm (tyInt w32)) l67 0 (vptr b·rules o·rules))
+        ∷ ‵ (fdies (tyRef erased imm (tyInt w32)) l67)
+        ∷ ‵ (fat fullShare (sliceTy (tyRef erased imm (tyInt w32))) l66 0 s·inputs)
+        ∷ ‵ (fdies (sliceTy (tyRef erased imm (tyInt w32))) l66)
+        ∷ ‵ (fat fullShare (tyRef erased imm (tyInt w32)) l65 0 (vptr b·inputs o·inputs))
+        ∷ ‵ (fdies (tyRef erased imm (tyInt w32)) l65)
+        ∷ ‵ (fat fullShare (sliceTy (tyRef erased imm (tyInt w32))) l64 0 s·symbols)
+        ∷ ‵ (fdies (sliceTy (tyRef erased imm (tyInt w32))) l64)
+        ∷ ‵ (fat fullShare (tyRef erased imm (tyInt w32)) l63 0 (vptr b·symbols o·symbols))
+        ∷ ‵ (fdies (tyRef erased imm (tyInt w32)) l63)
+        ∷ ‵ (fat fullShare (sliceTy (tyRef erased imm (tyInt w32))) l62 0 s·sorts)
+        ∷ ‵ (fdies (sliceTy (tyRef erased imm (tyInt w32))) l62)
+        ∷ ‵ (fat fullShare (tyRef erased imm (tyInt w32)) l61 0 (vptr b·sorts o·sorts))
+        ∷ ‵ (fdies (tyRef erased imm (tyInt w32)) l61)
+        ∷ ‵ (fat fullShare CountsL.mir l60 0 va·3·25)
+        ∷ ‵ (fdies CountsL.mir l60)
+        ∷ ‵ (fat fullShare (sliceTy (tyRef erased mut (tyInt w32))) l59 0 s·cells)
+        ∷ ‵ (fdies (sliceTy (tyRef erased mut (tyInt w32))) l59)
+        ∷ ‵ (fat fullShare (tyRef erased mut (tyInt w32)) l58 0 (vptr b·cells o·cells))
+        ∷ ‵ (fdies (tyRef erased mut (tyInt w32)) l58)
+        ∷ ‵ (fat fullShare (sliceTy (tyRef erased imm (tyInt w64))) l57 0 s·feet)
+        ∷ ‵ (fdies (sliceTy (tyRef erased imm (tyInt w64))) l57)
+        ∷ ‵ (fat fullShare (tyRef erased imm (tyInt w64)) l56 0 (vptr b·feet o·feet))
+        ∷ ‵ (fdies (tyRef erased imm (tyInt w64)) l56)
+        ∷ ‵ (fat fullShare (sliceTy (tyRef erased imm (tyInt w32))) l55 0 s·kept)
+        ∷ ‵ (fdies (sliceTy (tyRef erased imm (tyInt w32))) l55)
+        ∷ ‵ (fat fullShare (tyRef erased imm (tyInt w32)) l54 0 (vptr b·kept o·kept))
+        ∷ ‵ (fdies (tyRef erased imm (tyInt w32)) l54)
+        ∷ ‵ (fat fullShare (sliceTy (tyRef erased mut (tyInt w32))) l53 0 s·missing)
+        ∷ ‵ (fdies (sliceTy (tyRef erased mut (tyInt w32))) l53)
+        ∷ ‵ (fat fullShare (tyRef erased mut (tyInt w32)) l52 0 (vptr b·missing o·missing))
+        ∷ ‵ (fdies (tyRef erased mut (tyInt w32)) l52)
+        ∷ ‵ (fat fullShare (sliceTy (tyRef erased mut (tyInt w32))) l51 0 s·lists)
+        ∷ ‵ (fdies (sliceTy (tyRef erased mut (tyInt w32))) l51)
+        ∷ ‵ (fat fullShare (tyRef erased mut (tyInt w32)) l50 0 (vptr b·lists o·lists))
+        ∷ ‵ (fdies (tyRef erased mut (tyInt w32)) l50)
+        ∷ ‵ (fat fullShare (sliceTy (tyRef erased mut (tyInt w32))) l49 0 s·rows)
+        ∷ ‵ (fdies (sliceTy (tyRef erased mut (tyInt w32))) l49)
+        ∷ ‵ (fat fullShare (tyRef erased mut (tyInt w32)) l48 0 (vptr b·rows o·rows))
+        ∷ ‵ (fdies (tyRef erased mut (tyInt w32)) l48)
+        ∷ ‵ (fat fullShare (sliceTy (tyRef erased mut (tyInt w32))) l47 0 s·defs)
+        ∷ ‵ (fdies (sliceTy (tyRef erased mut (tyInt w32))) l47)
+        ∷ ‵ (fat fullShare (tyRef erased mut (tyInt w32)) l46 0 (vptr b·defs o·defs))
+        ∷ ‵ (fdies (tyRef erased mut (tyInt w32)) l46)
+        ∷ ‵ (fat fullShare (sliceTy (tyRef erased mut (tyInt w32))) l45 0 s·words)
+        ∷ ‵ (fdies (sliceTy (tyRef erased mut (tyInt w32))) l45)
+        ∷ ‵ (fat fullShare (tyRef erased mut (tyInt w32)) l44 0 (vptr b·words o·words))
+        ∷ ‵ (fdies (tyRef erased mut (tyInt w32)) l44)
+        ∷ ‵ (fat fullShare (sliceTy (tyRef erased mut (tyInt w32))) l43 0 s·index)
+        ∷ ‵ (fdies (sliceTy (tyRef erased mut (tyInt w32))) l43)
+        ∷ ‵ (fat fullShare (tyRef erased mut (tyInt w32)) l42 0 (vptr b·index o·index))
+        ∷ ‵ (fdies (tyRef erased mut (tyInt w32)) l42)
+        ∷ ‵ (fat fullShare (sliceTy (tyRef erased mut (tyInt w32))) l41 0 s·vars)
+        ∷ ‵ (fdies (sliceTy (tyRef erased mut (tyInt w32))) l41)
+        ∷ ‵ (fat fullShare (tyRef erased mut (tyInt w32)) l40 0 (vptr b·vars o·vars))
+        ∷ ‵ (fdies (tyRef erased mut (tyInt w32)) l40)
+        ∷ ‵ (fat fullShare (sliceTy (tyRef erased mut (tyInt w32))) l39 0 s·patterns)
+        ∷ ‵ (fdies (sliceTy (tyRef erased mut (tyInt w32))) l39)
+        ∷ ‵ (fat fullShare (tyRef erased mut (tyInt w32)) l38 0 (vptr b·patterns o·patterns))
+        ∷ ‵ (fdies (tyRef erased mut (tyInt w32)) l38)
+        ∷ ‵ (fat fullShare (sliceTy (tyRef erased mut (tyInt w32))) l37 0 s·rulevars)
+        ∷ ‵ (fdies (sliceTy (tyRef erased mut (tyInt w32))) l37)
+        ∷ ‵ (fat fullShare (tyRef erased mut (tyInt w32)) l36 0 (vptr b·rulevars o·rulevars))
+        ∷ ‵ (fdies (tyRef erased mut (tyInt w32)) l36)
+        ∷ ‵ (fat fullShare (sliceTy (tyRef erased mut (tyInt w32))) l35 0 s·rules)
+        ∷ ‵ (fdies (sliceTy (tyRef erased mut (tyInt w32))) l35)
+        ∷ ‵ (fat fullShare (tyRef erased mut (tyInt w32)) l34 0 (vptr b·rules o·rules))
+        ∷ ‵ (fdies (tyRef erased mut (tyInt w32)) l34)
+        ∷ ‵ (fat fullShare (sliceTy (tyRef erased mut (tyInt w32))) l33 0 s·inputs)
+        ∷ ‵ (fdies (sliceTy (tyRef erased mut (tyInt w32))) l33)
+        ∷ ‵ (fat fullShare (tyRef erased mut (tyInt w32)) l32 0 (vptr b·inputs o·inputs))
+        ∷ ‵ (fdies (tyRef erased mut (tyInt w32)) l32)
+        ∷ ‵ (fat fullShare (sliceTy (tyRef erased mut (tyInt w32))) l31 0 s·symbols)
+        ∷ ‵ (fdies (sliceTy (tyRef erased mut (tyInt w32))) l31)
+        ∷ ‵ (fat fullShare (tyRef erased mut (tyInt w32)) l30 0 (vptr b·symbols o·symbols))
+        ∷ ‵ (fdies (tyRef erased mut (tyInt w32)) l30)
+        ∷ ‵ (fat fullShare (sliceTy (tyRef erased mut (tyInt w32))) l29 0 s·sorts)
+        ∷ ‵ (fdies (sliceTy (tyRef erased mut (tyInt w32))) l29)
+        ∷ ‵ (fat fullShare (tyRef erased mut (tyInt w32)) l28 0 (vptr b·sorts o·sorts))
+        ∷ ‵ (fdies (tyRef erased mut (tyInt w32)) l28)
+        ∷ ‵ (fat fullShare AnswerL.mir l27 0 v4)
+        ∷ ‵ (fdies AnswerL.mir l27)
+        ∷ ‵ (fat fullShare RunL.mir l26 0 v3)
+        ∷ ‵ (fdies RunL.mir l26)
+        ∷ ‵ (fdies CountsL.mir l25)
+        ∷ ‵ (fat fullShare RunL.mir l24 0 v1)
+        ∷ ‵ (fdies RunL.mir l24)
+        ∷ ‵ (fat fullShare (tyInt w64) l23 0 (vint w64 (length facts)))
+        ∷ ‵ (fdies (tyInt w64) l23)
+        ∷ ‵ (fat fullShare (sliceTy (tyRef (named 21) mut (tyInt w32))) l22 0 s·memo)
+        ∷ ‵ (fdies (sliceTy (tyRef (named 21) mut (tyInt w32))) l22)
         ∷ ‵ (fat fullShare (sliceTy (tyRef (named 20) mut (tyInt w32))) l21 0 s·ids)
         ∷ ‵ (fdies (sliceTy (tyRef (named 20) mut (tyInt w32))) l21)
         ∷ ‵ (fat fullShare (sliceTy (tyRef (named 19) mut (tyInt w32))) l20 0 s·cells)
@@ -3168,28 +3321,28 @@ module _ {M : Type 1} (𝓤 : URA M) (H : Heap 𝓤) (A : Atoms 𝓤) (W : Given
         (runs C Λ (En l0 l1 l2 l3 l4 l5 l6 l7 l8 l9 l10 l11 l12 l13 l14 l15 l16 l17 l18 l19 l20 l21 l22 l23 l24 l25 l26 l27 l28 l29 l30 l31 l32 l33
         l34 l35 l36 l37 l38 l39 l40 l41 l42 l43 l44 l45 l46 l47 l48 l49 l50 l51 l52 l53 l54 l55 l56 l57 l58 l59 l60 l61 l62 l63 l64 l65 l66 l67 l68
         l69 l70 l71 l72 l73 l74 l75 l76 l77 l78 l79 l80 l81 l82 l83 l84 l85 l86 l87 l88 l89 l90 l91 l92 l93 l94 l95 l96 l97 l98 l99 l100 l101 l102
-        l103 l104 l105 l106 l107) pieces.t-87 (atRet (En l0 l1 l2 l3 l4 l5 l6 l7 l8 l9 l10 l11 l12 l13 l14 l15 l16 l17 l18 l19 l20 l21 l22 l23 l24 l25
-        l26 l27 l28 l29 l30 l31 l32 l33 l34 l35 l36 l37 l38 l39 l40 l41 l42 l43 l44 l45 l46 l47 l48 l49 l50 l51 l52 l53 l54 l55 l56 l57 l58 l59 l60
-        l61 l62 l63 l64 l65 l66 l67 l68 l69 l70 l71 l72 l73 l74 l75 l76 l77 l78 l79 l80 l81 l82 l83 l84 l85 l86 l87 l88 l89 l90 l91 l92 l93 l94 l95
-        l96 l97 l98 l99 l100 l101 l102 l103 l104 l105 l106 l107) Post))
+        l103 l104 l105 l106 l107 l108 l109 l110) pieces.t-89 (atRet (En l0 l1 l2 l3 l4 l5 l6 l7 l8 l9 l10 l11 l12 l13 l14 l15 l16 l17 l18 l19 l20 l21
+        l22 l23 l24 l25 l26 l27 l28 l29 l30 l31 l32 l33 l34 l35 l36 l37 l38 l39 l40 l41 l42 l43 l44 l45 l46 l47 l48 l49 l50 l51 l52 l53 l54 l55 l56
+        l57 l58 l59 l60 l61 l62 l63 l64 l65 l66 l67 l68 l69 l70 l71 l72 l73 l74 l75 l76 l77 l78 l79 l80 l81 l82 l83 l84 l85 l86 l87 l88 l89 l90 l91
+        l92 l93 l94 l95 l96 l97 l98 l99 l100 l101 l102 l103 l104 l105 l106 l107 l108 l109 l110) Post))
     seg·12 l0 l1 l2 l3 l4 l5 l6 l7 l8 l9 l10 l11 l12 l13 l14 l15 l16 l17 l18 l19 l20 l21 l22 l23 l24 l25 l26 l27 l28 l29 l30 l31 l32 l33 l34 l35 l36
         l37 l38 l39 l40 l41 l42 l43 l44 l45 l46 l47 l48 l49 l50 l51 l52 l53 l54 l55 l56 l57 l58 l59 l60 l61 l62 l63 l64 l65 l66 l67 l68 l69 l70 l71
         l72 l73 l74 l75 l76 l77 l78 l79 l80 l81 l82 l83 l84 l85 l86 l87 l88 l89 l90 l91 l92 l93 l94 l95 l96 l97 l98 l99 l100 l101 l102 l103 l104
-        l105 l106 l107 ν·1·3 δ·1·3 ν·1·4 δ·1·4 ν·1·5 δ·1·5 ν·1·6 δ·1·6 ν·1·7 δ·1·7 ν·1·8 δ·1·8 ν·1·9 δ·1·9 ν·1·10 δ·1·10 ν·1·11 δ·1·11 ν·1·12
-        δ·1·12 ν·1·13 δ·1·13 ν·1·14 δ·1·14 ν·1·15 δ·1·15 ν·1·16 δ·1·16 ν·1·17 δ·1·17 ν·1·18 δ·1·18 v1 r1 ws1 e1·0 e1·1 len·1·sorts
-        len·1·symbols len·1·inputs len·1·rules len·1·rulevars len·1·patterns len·1·vars len·1·index len·1·words len·1·defs len·1·rows
-        len·1·lists len·1·missing len·1·cells is1 v2 r2 ws2 e2 is2 ν·3·4 δ·3·4 ν·3·5 δ·3·5 ν·3·6 δ·3·6 ν·3·7 δ·3·7 ν·3·8 δ·3·8
-        ν·3·9 δ·3·9 ν·3·11 δ·3·11 ν·3·12 δ·3·12 ν·3·14 δ·3·14 ν·3·20 δ·3·20 ν·3·21 δ·3·21 v3 r3 ws3 e3 len·3·vars len·3·index
-        len·3·words len·3·defs len·3·rows len·3·lists len·3·kept len·3·feet len·3·cells len·3·ids len·3·facts is3 va·3·24
-        isa·3·24 ν·4·3 δ·4·3 ν·4·4 δ·4·4 v4 r4 ws4 e4·0 e4·1 len·4·index len·4·missing is4 v5 r5 ws5 e5 is5 v6 r6 ws6
-        e6 is6 =
+        l105 l106 l107 l108 l109 l110 ν·1·3 δ·1·3 ν·1·4 δ·1·4 ν·1·5 δ·1·5 ν·1·6 δ·1·6 ν·1·7 δ·1·7 ν·1·8 δ·1·8 ν·1·9 δ·1·9 ν·1·10 δ·1·10 ν·1·11
+        δ·1·11 ν·1·12 δ·1·12 ν·1·13 δ·1·13 ν·1·14 δ·1·14 ν·1·15 δ·1·15 ν·1·16 δ·1·16 ν·1·17 δ·1·17 ν·1·18 δ·1·18 v1 r1 ws1 e1·0 e1·1
+        len·1·sorts len·1·symbols len·1·inputs len·1·rules len·1·rulevars len·1·patterns len·1·vars len·1·index len·1·words len·1·defs
+        len·1·rows len·1·lists len·1·missing len·1·cells is1 v2 r2 ws2 e2 is2 ν·3·4 δ·3·4 ν·3·5 δ·3·5 ν·3·6 δ·3·6 ν·3·7 δ·3·7
+        ν·3·8 δ·3·8 ν·3·9 δ·3·9 ν·3·11 δ·3·11 ν·3·12 δ·3·12 ν·3·14 δ·3·14 ν·3·21 δ·3·21 ν·3·22 δ·3·22 v3 r3 ws3 e3 len·3·vars
+        len·3·index len·3·words len·3·defs len·3·rows len·3·lists len·3·kept len·3·feet len·3·cells len·3·ids len·3·memo
+        len·3·facts is3 va·3·25 isa·3·25 ν·4·3 δ·4·3 ν·4·4 δ·4·4 v4 r4 ws4 e4·0 e4·1 len·4·index len·4·missing is4 v5
+        r5 ws5 e5 is5 v6 r6 ws6 e6 is6 =
         -- call 7: zero_behind
         move ! (10 ∷ 9 ∷ []) $
         group ! 2 $
         use1 W (raw ((G7·C 𝓤 H A at-mem run) .pre
-        ((((κ·facts, tt)), ((q·facts, tt)), tt, ((ref·facts γ·facts (ws3 .1 .1 .1 .1 .1 .1 .1 .1 .1 .1 .1 .1 .1 .1 .1 .1 .1 .1 .1 .1 .0)), (r5, (r6, tt))), (s·facts ∷ [], (v5 ∷ [], (v6 ∷ [], tt)))), tt)))
+        ((((κ·facts, tt)), ((q·facts, tt)), tt, ((ref·facts γ·facts (ws3 .1 .1 .1 .1 .1 .1 .1 .1 .1 .1 .1 .1 .1 .1 .1 .1 .1 .1 .1 .1 .1 .0)), (r5, (r6, tt))), (s·facts ∷ [], (v5 ∷ [], (v6 ∷ [], tt)))), tt)))
         (qed W (‵ (flft κ·facts q·facts) ∷ ‵ (MutSlice (named 0) κ·facts FactT.the-row .own
-        (ref·facts γ·facts (ws3 .1 .1 .1 .1 .1 .1 .1 .1 .1 .1 .1 .1 .1 .1 .1 .1 .1 .1 .1 .1 .0)) (s·facts ∷ [])) ∷ []) ∵
+        (ref·facts γ·facts (ws3 .1 .1 .1 .1 .1 .1 .1 .1 .1 .1 .1 .1 .1 .1 .1 .1 .1 .1 .1 .1 .1 .0)) (s·facts ∷ [])) ∷ []) ∵
         says ! (blanks theory goals proof (theoryLists sorts symbols inputs rules rulevars patterns)
         (theoryLists (ws1 .1 .1 .1 .0) (ws1 .1 .1 .1 .1 .0) (ws1 .1 .1 .1 .1 .1 .0) (ws1 .1 .1 .1 .1 .1 .1 .0) (ws1 .1 .1 .1 .1 .1 .1 .1 .0)
         (ws1 .1 .1 .1 .1 .1 .1 .1 .1 .0)) (working vars index words defs rows lists)
@@ -3200,24 +3353,24 @@ module _ {M : Type 1} (𝓤 : URA M) (H : Heap 𝓤) (A : Atoms 𝓤) (W : Given
         (ws3 .1 .1 .1 .1 .1 .1 .1 .1 .1 .1 .1 .1 .1 .1 .0) (ws3 .1 .1 .1 .1 .1 .1 .1 .1 .1 .1 .1 .1 .1 .1 .1 .0)) missing
         (ws1 .1 .1 .1 .1 .1 .1 .1 .1 .1 .1 .1 .1 .1 .1 .1 .0) kept feet (ws3 .1 .1 .1 .1 .1 .1 .1 .1 .1 .1 .1 .1 .1 .1 .1 .1 .0)
         (ws3 .1 .1 .1 .1 .1 .1 .1 .1 .1 .1 .1 .1 .1 .1 .1 .1 .1 .0) (ws3 .1 .1 .1 .1 .1 .1 .1 .1 .1 .1 .1 .1 .1 .1 .1 .1 .1 .1 .0)
-        (ws3 .1 .1 .1 .1 .1 .1 .1 .1 .1 .1 .1 .1 .1 .1 .1 .1 .1 .1 .1 .0) r1 r3 facts
-        (ws3 .1 .1 .1 .1 .1 .1 .1 .1 .1 .1 .1 .1 .1 .1 .1 .1 .1 .1 .1 .1 .0) (ws3 .1 .1 .1 .1 .1 .1 .1 .1 .1 .1 .1 .1 .1 .1 .1 .1 .1 .1 .1 .1 .1 .0)
-        e1·0 e3 r5 r6 e5 e6) $ nothing ! $ move ! (1 ∷ 0 ∷ []) $ join ! $ frame ! $ nothing ! $
-        owned ! usize (Is usize) (uint-makes 𝓤 H A W w64) r6 _ is6 $ fjoin ! $ owned ! usize (Is usize) (uint-makes 𝓤 H A W w64) r5 _ is5 $ fjoin ! $
-        move ! (1 ∷ 0 ∷ []) $ fjoin ! $ done !) $
+        (ws3 .1 .1 .1 .1 .1 .1 .1 .1 .1 .1 .1 .1 .1 .1 .1 .1 .1 .1 .1 .0) (ws3 .1 .1 .1 .1 .1 .1 .1 .1 .1 .1 .1 .1 .1 .1 .1 .1 .1 .1 .1 .1 .0) r1 r3
+        facts (ws3 .1 .1 .1 .1 .1 .1 .1 .1 .1 .1 .1 .1 .1 .1 .1 .1 .1 .1 .1 .1 .1 .0)
+        (ws3 .1 .1 .1 .1 .1 .1 .1 .1 .1 .1 .1 .1 .1 .1 .1 .1 .1 .1 .1 .1 .1 .1 .0) e1·0 e3 r5 r6 e5 e6) $ nothing ! $ move ! (1 ∷ 0 ∷ []) $ join ! $
+        frame ! $ nothing ! $ owned ! usize (Is usize) (uint-makes 𝓤 H A W w64) r6 _ is6 $ fjoin ! $
+        owned ! usize (Is usize) (uint-makes 𝓤 H A W w64) r5 _ is5 $ fjoin ! $ move ! (1 ∷ 0 ∷ []) $ fjoin ! $ done !) $
         calls-at ! fm (G7·C 𝓤 H A at-mem run) known·7
-        ((((κ·facts, tt)), ((q·facts, tt)), tt, ((ref·facts γ·facts (ws3 .1 .1 .1 .1 .1 .1 .1 .1 .1 .1 .1 .1 .1 .1 .1 .1 .1 .1 .1 .1 .0)), (r5, (r6, tt))), (s·facts ∷ [], (v5 ∷ [], (v6 ∷ [], tt)))), tt)
-        (and-then ! (load ! (from ! (stop !)) (look ! 46 refl)) (and-then ! (load ! (from ! (stop !)) (look ! 44 refl))
-        (and-then ! (load ! (from ! (stop !)) (look ! 42 refl)) (no-more !)))) (λ v7.
+        ((((κ·facts, tt)), ((q·facts, tt)), tt, ((ref·facts γ·facts (ws3 .1 .1 .1 .1 .1 .1 .1 .1 .1 .1 .1 .1 .1 .1 .1 .1 .1 .1 .1 .1 .1 .0)), (r5, (r6, tt))), (s·facts ∷ [], (v5 ∷ [], (v6 ∷ [], tt)))), tt)
+        (and-then ! (load ! (from ! (stop !)) (look ! 48 refl)) (and-then ! (load ! (from ! (stop !)) (look ! 46 refl))
+        (and-then ! (load ! (from ! (stop !)) (look ! 44 refl)) (no-more !)))) (λ v7.
         use1 W (later (some (λ (r7 : Unit {0}). ((‵ (flft κ·facts q·facts) ⊛ ‵ ftrue) ⊛ ‵ (unit .own r7 (v7 ∷ []))) ⊛ raw
         (ensured 𝓤 H A G7.ended (G7.clauses 𝓤 H A at-mem run) (κ·facts, tt)
-        ((ref·facts γ·facts (ws3 .1 .1 .1 .1 .1 .1 .1 .1 .1 .1 .1 .1 .1 .1 .1 .1 .1 .1 .1 .1 .0)), (r5, (r6, tt))) tt r7)))) (id⊢ 𝓤 _) $ await ! tt $
-        pick ! (λ r7. split ! $ move ! (1 ∷ []) $
+        ((ref·facts γ·facts (ws3 .1 .1 .1 .1 .1 .1 .1 .1 .1 .1 .1 .1 .1 .1 .1 .1 .1 .1 .1 .1 .1 .0)), (r5, (r6, tt))) tt r7)))) (id⊢ 𝓤 _) $
+        await ! tt $ pick ! (λ r7. split ! $ move ! (1 ∷ []) $
         use1 W (some (λ (ws7 : ((List Fact) × (Unit {0} × (Unit {0} × Unit {0})))).
-        ‵ (lasts G7.ended (κ·facts, tt) ((ref·facts γ·facts (ws3 .1 .1 .1 .1 .1 .1 .1 .1 .1 .1 .1 .1 .1 .1 .1 .1 .1 .1 .1 .1 .0)), (r5, (r6, tt)))
-        ws7) ⊛ raw (fact 𝓤 ((ws7 .0) ≡ zeroed (ws3 .1 .1 .1 .1 .1 .1 .1 .1 .1 .1 .1 .1 .1 .1 .1 .1 .1 .1 .1 .1 .0) r5 r6)))) (id⊢ 𝓤 _) $
+        ‵ (lasts G7.ended (κ·facts, tt) ((ref·facts γ·facts (ws3 .1 .1 .1 .1 .1 .1 .1 .1 .1 .1 .1 .1 .1 .1 .1 .1 .1 .1 .1 .1 .1 .0)), (r5, (r6, tt)))
+        ws7) ⊛ raw (fact 𝓤 ((ws7 .0) ≡ zeroed (ws3 .1 .1 .1 .1 .1 .1 .1 .1 .1 .1 .1 .1 .1 .1 .1 .1 .1 .1 .1 .1 .1 .0) r5 r6)))) (id⊢ 𝓤 _) $
         pick ! (λ ws7. split ! $ move ! (1 ∷ []) $
-        heard ! ((ws7 .0) ≡ zeroed (ws3 .1 .1 .1 .1 .1 .1 .1 .1 .1 .1 .1 .1 .1 .1 .1 .1 .1 .1 .1 .1 .0) r5 r6) (λ e7.
+        heard ! ((ws7 .0) ≡ zeroed (ws3 .1 .1 .1 .1 .1 .1 .1 .1 .1 .1 .1 .1 .1 .1 .1 .1 .1 .1 .1 .1 .1 .0) r5 r6) (λ e7.
         fsplit ! $
         fsplit ! $
         move ! (1 ∷ []) $
@@ -3228,32 +3381,32 @@ module _ {M : Type 1} (𝓤 : URA M) (H : Heap 𝓤) (A : Atoms 𝓤) (W : Given
         split ! $
         move ! (1 ∷ []) $
         feqL ! (λ is7.
-        land ! (from ! (stop !)) (init ! 51 refl (subst (λ (vs : List Val). Holds (hasTy tyUnit (only vs)) × WT (only vs)) (sym is7) (tt, tt))) $
+        land ! (from ! (stop !)) (init ! 53 refl (subst (λ (vs : List Val). Holds (hasTy tyUnit (only vs)) × WT (only vs)) (sym is7) (tt, tt))) $
         split ! $
         move ! (1 ∷ []) $
         drop ! $
-        assigns ! (of-opd ! (load ! (from ! (stop !)) (look ! 205 refl))) (from ! (stop !))
-        (init ! 256 refl (EL.lawful AnswerT.the-type AnswerL.the-laws 𝓤 H A W tt .typed r4 _ is4 .0)) $
-        returns ! (look ! 256 refl) $
-        forget ! 256 refl $
-        move ! (256 ∷ 257 ∷ []) $
+        assigns ! (of-opd ! (load ! (from ! (stop !)) (look ! 211 refl))) (from ! (stop !))
+        (init ! 264 refl (EL.lawful AnswerT.the-type AnswerL.the-laws 𝓤 H A W tt .typed r4 _ is4 .0)) $
+        returns ! (look ! 264 refl) $
+        forget ! 264 refl $
+        move ! (264 ∷ 265 ∷ []) $
         free1 ! $
-        forget ! 254 refl $
-        move ! (254 ∷ 255 ∷ []) $
+        forget ! 262 refl $
+        move ! (262 ∷ 263 ∷ []) $
         free1 ! $
-        forget ! 252 refl $
-        move ! (252 ∷ 253 ∷ []) $
+        forget ! 260 refl $
+        move ! (260 ∷ 261 ∷ []) $
         free1 ! $
         seg·13 l0 l1 l2 l3 l4 l5 l6 l7 l8 l9 l10 l11 l12 l13 l14 l15 l16 l17 l18 l19 l20 l21 l22 l23 l24 l25 l26 l27 l28 l29 l30 l31 l32 l33 l34 l35
         l36 l37 l38 l39 l40 l41 l42 l43 l44 l45 l46 l47 l48 l49 l50 l51 l52 l53 l54 l55 l56 l57 l58 l59 l60 l61 l62 l63 l64 l65 l66 l67 l68 l69 l70
         l71 l72 l73 l74 l75 l76 l77 l78 l79 l80 l81 l82 l83 l84 l85 l86 l87 l88 l89 l90 l91 l92 l93 l94 l95 l96 l97 l98 l99 l100 l101 l102 l103 l104
-        l105 l106 l107 ν·1·3 δ·1·3 ν·1·4 δ·1·4 ν·1·5 δ·1·5 ν·1·6 δ·1·6 ν·1·7 δ·1·7 ν·1·8 δ·1·8 ν·1·9 δ·1·9 ν·1·10 δ·1·10 ν·1·11 δ·1·11 ν·1·12 δ·1·12
-        ν·1·13 δ·1·13 ν·1·14 δ·1·14 ν·1·15 δ·1·15 ν·1·16 δ·1·16 ν·1·17 δ·1·17 ν·1·18 δ·1·18 v1 r1 ws1 e1·0 e1·1 len·1·sorts len·1·symbols len·1·inputs
-        len·1·rules len·1·rulevars len·1·patterns len·1·vars len·1·index len·1·words len·1·defs len·1·rows len·1·lists len·1·missing len·1·cells is1
-        v2 r2 ws2 e2 is2 ν·3·4 δ·3·4 ν·3·5 δ·3·5 ν·3·6 δ·3·6 ν·3·7 δ·3·7 ν·3·8 δ·3·8 ν·3·9 δ·3·9 ν·3·11 δ·3·11 ν·3·12 δ·3·12 ν·3·14 δ·3·14 ν·3·20
-        δ·3·20 ν·3·21 δ·3·21 v3 r3 ws3 e3 len·3·vars len·3·index len·3·words len·3·defs len·3·rows len·3·lists len·3·kept len·3·feet len·3·cells
-        len·3·ids len·3·facts is3 va·3·24 isa·3·24 ν·4·3 δ·4·3 ν·4·4 δ·4·4 v4 r4 ws4 e4·0 e4·1 len·4·index len·4·missing is4 v5 r5 ws5 e5 is5 v6 r6
-        ws6 e6 is6 v7 r7 ws7 e7 len·7·facts is7))))))
+        l105 l106 l107 l108 l109 l110 ν·1·3 δ·1·3 ν·1·4 δ·1·4 ν·1·5 δ·1·5 ν·1·6 δ·1·6 ν·1·7 δ·1·7 ν·1·8 δ·1·8 ν·1·9 δ·1·9 ν·1·10 δ·1·10 ν·1·11 δ·1·11
+        ν·1·12 δ·1·12 ν·1·13 δ·1·13 ν·1·14 δ·1·14 ν·1·15 δ·1·15 ν·1·16 δ·1·16 ν·1·17 δ·1·17 ν·1·18 δ·1·18 v1 r1 ws1 e1·0 e1·1 len·1·sorts
+        len·1·symbols len·1·inputs len·1·rules len·1·rulevars len·1·patterns len·1·vars len·1·index len·1·words len·1·defs len·1·rows len·1·lists
+        len·1·missing len·1·cells is1 v2 r2 ws2 e2 is2 ν·3·4 δ·3·4 ν·3·5 δ·3·5 ν·3·6 δ·3·6 ν·3·7 δ·3·7 ν·3·8 δ·3·8 ν·3·9 δ·3·9 ν·3·11 δ·3·11 ν·3·12
+        δ·3·12 ν·3·14 δ·3·14 ν·3·21 δ·3·21 ν·3·22 δ·3·22 v3 r3 ws3 e3 len·3·vars len·3·index len·3·words len·3·defs len·3·rows len·3·lists len·3·kept
+        len·3·feet len·3·cells len·3·ids len·3·memo len·3·facts is3 va·3·25 isa·3·25 ν·4·3 δ·4·3 ν·4·4 δ·4·4 v4 r4 ws4 e4·0 e4·1 len·4·index
+        len·4·missing is4 v5 r5 ws5 e5 is5 v6 r6 ws6 e6 is6 v7 r7 ws7 e7 len·7·facts is7))))))
 
     seg·11 : (l0 : ℕ) (l1 : ℕ) (l2 : ℕ) (l3 : ℕ) (l4 : ℕ) (l5 : ℕ) (l6 : ℕ) (l7 : ℕ) (l8 : ℕ) (l9 : ℕ) (l10 : ℕ) (l11 : ℕ) (l12 : ℕ) (l13 : ℕ)
         (l14 : ℕ) (l15 : ℕ) (l16 : ℕ) (l17 : ℕ) (l18 : ℕ) (l19 : ℕ) (l20 : ℕ) (l21 : ℕ) (l22 : ℕ) (l23 : ℕ) (l24 : ℕ) (l25 : ℕ) (l26 : ℕ) (l27 : ℕ)
@@ -3262,14 +3415,14 @@ module _ {M : Type 1} (𝓤 : URA M) (H : Heap 𝓤) (A : Atoms 𝓤) (W : Given
         (l56 : ℕ) (l57 : ℕ) (l58 : ℕ) (l59 : ℕ) (l60 : ℕ) (l61 : ℕ) (l62 : ℕ) (l63 : ℕ) (l64 : ℕ) (l65 : ℕ) (l66 : ℕ) (l67 : ℕ) (l68 : ℕ) (l69 : ℕ)
         (l70 : ℕ) (l71 : ℕ) (l72 : ℕ) (l73 : ℕ) (l74 : ℕ) (l75 : ℕ) (l76 : ℕ) (l77 : ℕ) (l78 : ℕ) (l79 : ℕ) (l80 : ℕ) (l81 : ℕ) (l82 : ℕ) (l83 : ℕ)
         (l84 : ℕ) (l85 : ℕ) (l86 : ℕ) (l87 : ℕ) (l88 : ℕ) (l89 : ℕ) (l90 : ℕ) (l91 : ℕ) (l92 : ℕ) (l93 : ℕ) (l94 : ℕ) (l95 : ℕ) (l96 : ℕ) (l97 : ℕ)
-        (l98 : ℕ) (l99 : ℕ) (l100 : ℕ) (l101 : ℕ) (l102 : ℕ) (l103 : ℕ) (l104 : ℕ) (l105 : ℕ) (l106 : ℕ) (l107 : ℕ) (ν·1·3 : ℕ) (δ·1·3 : GName)
-        (ν·1·4 : ℕ) (δ·1·4 : GName) (ν·1·5 : ℕ) (δ·1·5 : GName) (ν·1·6 : ℕ) (δ·1·6 : GName) (ν·1·7 : ℕ) (δ·1·7 : GName) (ν·1·8 : ℕ) (δ·1·8 : GName)
-        (ν·1·9 : ℕ) (δ·1·9 : GName) (ν·1·10 : ℕ) (δ·1·10 : GName) (ν·1·11 : ℕ) (δ·1·11 : GName) (ν·1·12 : ℕ) (δ·1·12 : GName) (ν·1·13 : ℕ)
-        (δ·1·13 : GName) (ν·1·14 : ℕ) (δ·1·14 : GName) (ν·1·15 : ℕ) (δ·1·15 : GName) (ν·1·16 : ℕ) (δ·1·16 : GName) (ν·1·17 : ℕ) (δ·1·17 : GName)
-        (ν·1·18 : ℕ) (δ·1·18 : GName) (v1 : Val) (r1 : Run) (ws1 : (Unit {0} ×
-        (Unit {0} × (Unit {0} × ((List ℕ) × ((List ℕ) × ((List ℕ) × ((List ℕ) ×
+        (l98 : ℕ) (l99 : ℕ) (l100 : ℕ) (l101 : ℕ) (l102 : ℕ) (l103 : ℕ) (l104 : ℕ) (l105 : ℕ) (l106 : ℕ) (l107 : ℕ) (l108 : ℕ) (l109 : ℕ) (l110 : ℕ)
+        (ν·1·3 : ℕ) (δ·1·3 : GName) (ν·1·4 : ℕ) (δ·1·4 : GName) (ν·1·5 : ℕ) (δ·1·5 : GName) (ν·1·6 : ℕ) (δ·1·6 : GName) (ν·1·7 : ℕ) (δ·1·7 : GName)
+        (ν·1·8 : ℕ) (δ·1·8 : GName) (ν·1·9 : ℕ) (δ·1·9 : GName) (ν·1·10 : ℕ) (δ·1·10 : GName) (ν·1·11 : ℕ) (δ·1·11 : GName) (ν·1·12 : ℕ)
+        (δ·1·12 : GName) (ν·1·13 : ℕ) (δ·1·13 : GName) (ν·1·14 : ℕ) (δ·1·14 : GName) (ν·1·15 : ℕ) (δ·1·15 : GName) (ν·1·16 : ℕ) (δ·1·16 : GName)
+        (ν·1·17 : ℕ) (δ·1·17 : GName) (ν·1·18 : ℕ) (δ·1·18 : GName) (v1 : Val) (r1 : Run)
+        (ws1 : (Unit {0} × (Unit {0} × (Unit {0} × ((List ℕ) × ((List ℕ) × ((List ℕ) ×
         ((List ℕ) × ((List ℕ) × ((List ℕ) × ((List ℕ) × ((List ℕ) × ((List ℕ) ×
-        ((List ℕ) × ((List ℕ) × ((List ℕ) × (Unit {0} × (Unit {0} × ((List ℕ) × (Unit {0} × Unit {0})))))))))))))))))))))
+        ((List ℕ) × ((List ℕ) × ((List ℕ) × ((List ℕ) × (Unit {0} × (Unit {0} × ((List ℕ) × (Unit {0} × Unit {0})))))))))))))))))))))
         (e1·0 : Begun theory goals proof (length facts) (theoryLists sorts symbols inputs rules rulevars patterns)
         (theoryLists (ws1 .1 .1 .1 .0) (ws1 .1 .1 .1 .1 .0) (ws1 .1 .1 .1 .1 .1 .0) (ws1 .1 .1 .1 .1 .1 .1 .0) (ws1 .1 .1 .1 .1 .1 .1 .1 .0)
         (ws1 .1 .1 .1 .1 .1 .1 .1 .1 .0)) (working vars index words defs rows lists)
@@ -3290,11 +3443,11 @@ module _ {M : Type 1} (𝓤 : URA M) (H : Heap 𝓤) (A : Atoms 𝓤) (W : Given
         (len·1·cells : length (ws1 .1 .1 .1 .1 .1 .1 .1 .1 .1 .1 .1 .1 .1 .1 .1 .1 .1 .1 .0) ≡ length cells) (is1 : Is RunT.the-row r1 (v1 ∷ []))
         (v2 : Val) (r2 : Counts) (ws2 : Unit {0}) (e2 : r2 ≡ none) (is2 : Is CountsT.the-row r2 (v2 ∷ [])) (ν·3·4 : ℕ) (δ·3·4 : GName) (ν·3·5 : ℕ)
         (δ·3·5 : GName) (ν·3·6 : ℕ) (δ·3·6 : GName) (ν·3·7 : ℕ) (δ·3·7 : GName) (ν·3·8 : ℕ) (δ·3·8 : GName) (ν·3·9 : ℕ) (δ·3·9 : GName) (ν·3·11 : ℕ)
-        (δ·3·11 : GName) (ν·3·12 : ℕ) (δ·3·12 : GName) (ν·3·14 : ℕ) (δ·3·14 : GName) (ν·3·20 : ℕ) (δ·3·20 : GName) (ν·3·21 : ℕ) (δ·3·21 : GName)
+        (δ·3·11 : GName) (ν·3·12 : ℕ) (δ·3·12 : GName) (ν·3·14 : ℕ) (δ·3·14 : GName) (ν·3·21 : ℕ) (δ·3·21 : GName) (ν·3·22 : ℕ) (δ·3·22 : GName)
         (v3 : Val) (r3 : Run) (ws3 : (Unit {0} × (Unit {0} × (Unit {0} × (Unit {0} ×
         (Unit {0} × (Unit {0} × (Unit {0} × (Unit {0} × (Unit {0} × (Unit {0} ×
         ((List ℕ) × ((List ℕ) × ((List ℕ) × ((List ℕ) × ((List ℕ) × ((List ℕ) ×
-        ((List ℕ) × ((List ℕ) × ((List ℕ) × ((List ℕ) × ((List Fact) × (Counts × Unit {0})))))))))))))))))))))))
+        ((List ℕ) × ((List ℕ) × ((List ℕ) × ((List ℕ) × ((List ℕ) × ((List Fact) × (Counts × Unit {0}))))))))))))))))))))))))
         (e3 : Ran theory goals proof (theoryLists (ws1 .1 .1 .1 .0) (ws1 .1 .1 .1 .1 .0) (ws1 .1 .1 .1 .1 .1 .0) (ws1 .1 .1 .1 .1 .1 .1 .0)
         (ws1 .1 .1 .1 .1 .1 .1 .1 .0) (ws1 .1 .1 .1 .1 .1 .1 .1 .1 .0)) (working (ws1 .1 .1 .1 .1 .1 .1 .1 .1 .1 .0)
         (ws1 .1 .1 .1 .1 .1 .1 .1 .1 .1 .1 .0) (ws1 .1 .1 .1 .1 .1 .1 .1 .1 .1 .1 .1 .0) (ws1 .1 .1 .1 .1 .1 .1 .1 .1 .1 .1 .1 .1 .0)
@@ -3303,8 +3456,9 @@ module _ {M : Type 1} (𝓤 : URA M) (H : Heap 𝓤) (A : Atoms 𝓤) (W : Given
         (ws3 .1 .1 .1 .1 .1 .1 .1 .1 .1 .1 .1 .1 .1 .0) (ws3 .1 .1 .1 .1 .1 .1 .1 .1 .1 .1 .1 .1 .1 .1 .0)
         (ws3 .1 .1 .1 .1 .1 .1 .1 .1 .1 .1 .1 .1 .1 .1 .1 .0)) (ws3 .1 .1 .1 .1 .1 .1 .1 .1 .1 .1 .1 .1 .1 .1 .1 .1 .0)
         (ws3 .1 .1 .1 .1 .1 .1 .1 .1 .1 .1 .1 .1 .1 .1 .1 .1 .1 .0) (ws3 .1 .1 .1 .1 .1 .1 .1 .1 .1 .1 .1 .1 .1 .1 .1 .1 .1 .1 .0)
-        (ws3 .1 .1 .1 .1 .1 .1 .1 .1 .1 .1 .1 .1 .1 .1 .1 .1 .1 .1 .1 .0) r1 r3 facts
-        (ws3 .1 .1 .1 .1 .1 .1 .1 .1 .1 .1 .1 .1 .1 .1 .1 .1 .1 .1 .1 .1 .0) (ws3 .1 .1 .1 .1 .1 .1 .1 .1 .1 .1 .1 .1 .1 .1 .1 .1 .1 .1 .1 .1 .1 .0))
+        (ws3 .1 .1 .1 .1 .1 .1 .1 .1 .1 .1 .1 .1 .1 .1 .1 .1 .1 .1 .1 .0) (ws3 .1 .1 .1 .1 .1 .1 .1 .1 .1 .1 .1 .1 .1 .1 .1 .1 .1 .1 .1 .1 .0) r1 r3
+        facts (ws3 .1 .1 .1 .1 .1 .1 .1 .1 .1 .1 .1 .1 .1 .1 .1 .1 .1 .1 .1 .1 .1 .0)
+        (ws3 .1 .1 .1 .1 .1 .1 .1 .1 .1 .1 .1 .1 .1 .1 .1 .1 .1 .1 .1 .1 .1 .1 .0))
         (len·3·vars : length (ws3 .1 .1 .1 .1 .1 .1 .1 .1 .1 .1 .0) ≡ length (ws1 .1 .1 .1 .1 .1 .1 .1 .1 .1 .0))
         (len·3·index : length (ws3 .1 .1 .1 .1 .1 .1 .1 .1 .1 .1 .1 .0) ≡ length (ws1 .1 .1 .1 .1 .1 .1 .1 .1 .1 .1 .0))
         (len·3·words : length (ws3 .1 .1 .1 .1 .1 .1 .1 .1 .1 .1 .1 .1 .0) ≡ length (ws1 .1 .1 .1 .1 .1 .1 .1 .1 .1 .1 .1 .0))
@@ -3316,11 +3470,12 @@ module _ {M : Type 1} (𝓤 : URA M) (H : Heap 𝓤) (A : Atoms 𝓤) (W : Given
         (len·3·cells : length (ws3 .1 .1 .1 .1 .1 .1 .1 .1 .1 .1 .1 .1 .1 .1 .1 .1 .1 .1 .0) ≡ length
         (ws1 .1 .1 .1 .1 .1 .1 .1 .1 .1 .1 .1 .1 .1 .1 .1 .1 .1 .1 .0)) (len·3·ids : length
         (ws3 .1 .1 .1 .1 .1 .1 .1 .1 .1 .1 .1 .1 .1 .1 .1 .1 .1 .1 .1 .0) ≡ length ids)
-        (len·3·facts : length (ws3 .1 .1 .1 .1 .1 .1 .1 .1 .1 .1 .1 .1 .1 .1 .1 .1 .1 .1 .1 .1 .0) ≡ length facts)
-        (is3 : Is RunT.the-row r3 (v3 ∷ [])) (va·3·24 : Val) (isa·3·24 : Is CountsT.the-row
-        (ws3 .1 .1 .1 .1 .1 .1 .1 .1 .1 .1 .1 .1 .1 .1 .1 .1 .1 .1 .1 .1 .1 .0) (va·3·24 ∷ [])) (ν·4·3 : ℕ) (δ·4·3 : GName) (ν·4·4 : ℕ)
+        (len·3·memo : length (ws3 .1 .1 .1 .1 .1 .1 .1 .1 .1 .1 .1 .1 .1 .1 .1 .1 .1 .1 .1 .1 .0) ≡ length memo)
+        (len·3·facts : length (ws3 .1 .1 .1 .1 .1 .1 .1 .1 .1 .1 .1 .1 .1 .1 .1 .1 .1 .1 .1 .1 .1 .0) ≡ length facts)
+        (is3 : Is RunT.the-row r3 (v3 ∷ [])) (va·3·25 : Val) (isa·3·25 : Is CountsT.the-row
+        (ws3 .1 .1 .1 .1 .1 .1 .1 .1 .1 .1 .1 .1 .1 .1 .1 .1 .1 .1 .1 .1 .1 .1 .0) (va·3·25 ∷ [])) (ν·4·3 : ℕ) (δ·4·3 : GName) (ν·4·4 : ℕ)
         (δ·4·4 : GName) (v4 : Val) (r4 : Answer) (ws4 : (Unit {0} × (Unit {0} × ((List ℕ) × (Unit {0} × (Unit {0} × ((List ℕ) × Unit {0})))))))
-        (e4·0 : (g : Ending r3 (ws3 .1 .1 .1 .1 .1 .1 .1 .1 .1 .1 .1 .1 .1 .1 .1 .1 .1 .1 .1 .1 .1 .0) (ws3 .1 .1 .1 .1 .1 .1 .1 .1 .1 .1 .1 .0)
+        (e4·0 : (g : Ending r3 (ws3 .1 .1 .1 .1 .1 .1 .1 .1 .1 .1 .1 .1 .1 .1 .1 .1 .1 .1 .1 .1 .1 .1 .0) (ws3 .1 .1 .1 .1 .1 .1 .1 .1 .1 .1 .1 .0)
         (ws3 .1 .1 .1 .1 .1 .1 .1 .1 .1 .1 .1 .1 .0) (ws3 .1 .1 .1 .1 .1 .1 .1 .1 .1 .1 .1 .1 .1 .1 .0)
         (ws1 .1 .1 .1 .1 .1 .1 .1 .1 .1 .1 .1 .1 .1 .1 .1 .0)) → Ended (g .theory) (g .goals) (g .proof) r3 (ws3 .1 .1 .1 .1 .1 .1 .1 .1 .1 .1 .1 .0)
         (ws4 .1 .1 .0) (ws1 .1 .1 .1 .1 .1 .1 .1 .1 .1 .1 .1 .1 .1 .1 .1 .0) (ws4 .1 .1 .1 .1 .1 .0) r4)
@@ -3337,9 +3492,9 @@ module _ {M : Type 1} (𝓤 : URA M) (H : Heap 𝓤) (A : Atoms 𝓤) (W : Given
         ∷ ‵ (finally u32 γ·index (ws4 .1 .1 .0))
         ∷ ‵ (LentShared u32 κ·rows (ν·4·4 ∷ []) q·rows γ·rows b·rows o·rows (ws3 .1 .1 .1 .1 .1 .1 .1 .1 .1 .1 .1 .1 .1 .1 .0))
         ∷ ‵ (LentShared u32 κ·words (ν·4·3 ∷ []) q·words γ·words b·words o·words (ws3 .1 .1 .1 .1 .1 .1 .1 .1 .1 .1 .1 .1 .0))
-        ∷ ‵ (fat fullShare CountsL.mir l24 0 va·3·24)
-        ∷ ‵ (MutSlice (named 16) κ·facts FactT.the-row .own (ref·facts γ·facts (ws3 .1 .1 .1 .1 .1 .1 .1 .1 .1 .1 .1 .1 .1 .1 .1 .1 .1 .1 .1 .1 .0))
-        (s·facts ∷ []))
+        ∷ ‵ (fat fullShare CountsL.mir l25 0 va·3·25)
+        ∷ ‵ (MutSlice (named 16) κ·facts FactT.the-row .own (ref·facts γ·facts
+        (ws3 .1 .1 .1 .1 .1 .1 .1 .1 .1 .1 .1 .1 .1 .1 .1 .1 .1 .1 .1 .1 .1 .0)) (s·facts ∷ []))
         ∷ ‵ (flft κ·facts q·facts)
         ∷ ‵ (MutSlice (named 8) κ·patterns u32 .own (ref·patterns γ·patterns (ws1 .1 .1 .1 .1 .1 .1 .1 .1 .0)) (s·patterns ∷ []))
         ∷ ‵ (flft κ·patterns q·patterns)
@@ -3353,6 +3508,7 @@ module _ {M : Type 1} (𝓤 : URA M) (H : Heap 𝓤) (A : Atoms 𝓤) (W : Given
         ∷ ‵ (flft κ·symbols q·symbols)
         ∷ ‵ (MutSlice (named 3) κ·sorts u32 .own (ref·sorts γ·sorts (ws1 .1 .1 .1 .0)) (s·sorts ∷ []))
         ∷ ‵ (flft κ·sorts q·sorts)
+        ∷ ‵ (flft κ·memo q·memo)
         ∷ ‵ (flft κ·ids q·ids)
         ∷ ‵ (flft κ·cells q·cells)
         ∷ ‵ (flft κ·feet q·feet)
@@ -3363,6 +3519,7 @@ module _ {M : Type 1} (𝓤 : URA M) (H : Heap 𝓤) (A : Atoms 𝓤) (W : Given
         ∷ ‵ (flft κ·proof q·proof)
         ∷ ‵ (flft κ·goals q·goals)
         ∷ ‵ (flft κ·theory q·theory)
+        ∷ ‵ (finally u32 γ·memo (ws3 .1 .1 .1 .1 .1 .1 .1 .1 .1 .1 .1 .1 .1 .1 .1 .1 .1 .1 .1 .1 .0))
         ∷ ‵ (finally u32 γ·ids (ws3 .1 .1 .1 .1 .1 .1 .1 .1 .1 .1 .1 .1 .1 .1 .1 .1 .1 .1 .1 .0))
         ∷ ‵ (finally u32 γ·cells (ws3 .1 .1 .1 .1 .1 .1 .1 .1 .1 .1 .1 .1 .1 .1 .1 .1 .1 .1 .0))
         ∷ ‵ (finally u64 γ·feet (ws3 .1 .1 .1 .1 .1 .1 .1 .1 .1 .1 .1 .1 .1 .1 .1 .1 .1 .0))
@@ -3373,177 +3530,183 @@ module _ {M : Type 1} (𝓤 : URA M) (H : Heap 𝓤) (A : Atoms 𝓤) (W : Given
         ∷ ‵ (ShrSlice (named 2) κ·proof u8 .own (ref·proof γ·proof proof) (s·proof ∷ []))
         ∷ ‵ (ShrSlice (named 1) κ·goals u8 .own (ref·goals γ·goals goals) (s·goals ∷ []))
         ∷ ‵ (ShrSlice (named 0) κ·theory u8 .own (ref·theory γ·theory theory) (s·theory ∷ []))
-        ∷ ‵ (froom (tyInt w64) l107 0)
-        ∷ ‵ (fdies (tyInt w64) l107)
-        ∷ ‵ (froom (tyInt w64) l106 0)
-        ∷ ‵ (fdies (tyInt w64) l106)
-        ∷ ‵ (froom (sliceTy (tyRef erased mut (pointee (FactT.the-row .written)))) l105 0)
-        ∷ ‵ (fdies (sliceTy (tyRef erased mut (pointee (FactT.the-row .written)))) l105)
-        ∷ ‵ (froom (tyRef erased mut (pointee (FactT.the-row .written))) l104 0)
-        ∷ ‵ (fdies (tyRef erased mut (pointee (FactT.the-row .written))) l104)
-        ∷ ‵ (froom tyUnit l103 0)
-        ∷ ‵ (fdies tyUnit l103)
-        ∷ ‵ (fat fullShare (sliceTy (tyRef erased mut (tyInt w32))) l102 0 s·missing)
-        ∷ ‵ (fdies (sliceTy (tyRef erased mut (tyInt w32))) l102)
-        ∷ ‵ (fat fullShare (tyRef erased mut (tyInt w32)) l101 0 (vptr b·missing o·missing))
-        ∷ ‵ (fdies (tyRef erased mut (tyInt w32)) l101)
-        ∷ ‵ (fat fullShare (sliceTy (tyRef erased imm (tyInt w32))) l100 0 s·rows)
-        ∷ ‵ (fdies (sliceTy (tyRef erased imm (tyInt w32))) l100)
-        ∷ ‵ (fat fullShare (tyRef erased imm (tyInt w32)) l99 0 (vptr b·rows o·rows))
-        ∷ ‵ (fdies (tyRef erased imm (tyInt w32)) l99)
-        ∷ ‵ (fat fullShare (sliceTy (tyRef erased imm (tyInt w32))) l98 0 s·words)
-        ∷ ‵ (fdies (sliceTy (tyRef erased imm (tyInt w32))) l98)
-        ∷ ‵ (fat fullShare (tyRef erased imm (tyInt w32)) l97 0 (vptr b·words o·words))
-        ∷ ‵ (fdies (tyRef erased imm (tyInt w32)) l97)
-        ∷ ‵ (fat fullShare (sliceTy (tyRef erased mut (tyInt w32))) l96 0 s·index)
-        ∷ ‵ (fdies (sliceTy (tyRef erased mut (tyInt w32))) l96)
-        ∷ ‵ (fat fullShare (tyRef erased mut (tyInt w32)) l95 0 (vptr b·index o·index))
-        ∷ ‵ (fdies (tyRef erased mut (tyInt w32)) l95)
-        ∷ ‵ (fat fullShare (tyRef erased mut (pointee (CountsT.the-row .written))) l94 0 (vptr l24 0))
-        ∷ ‵ (fdies (tyRef erased mut (pointee (CountsT.the-row .written))) l94)
-        ∷ ‵ (fat fullShare (sliceTy (tyRef erased mut (pointee (FactT.the-row .written)))) l93 0 s·facts)
-        ∷ ‵ (fdies (sliceTy (tyRef erased mut (pointee (FactT.the-row .written)))) l93)
-        ∷ ‵ (fat fullShare (tyRef erased mut (pointee (FactT.the-row .written))) l92 0 (vptr b·facts o·facts))
-        ∷ ‵ (fdies (tyRef erased mut (pointee (FactT.the-row .written))) l92)
-        ∷ ‵ (fat fullShare (sliceTy (tyRef erased mut (tyInt w32))) l91 0 s·ids)
-        ∷ ‵ (fdies (sliceTy (tyRef erased mut (tyInt w32))) l91)
-        ∷ ‵ (fat fullShare (tyRef erased mut (tyInt w32)) l90 0 (vptr b·ids o·ids))
-        ∷ ‵ (fdies (tyRef erased mut (tyInt w32)) l90)
-        ∷ ‵ (fat fullShare (sliceTy (tyRef erased mut (tyInt w32))) l89 0 s·cells)
-        ∷ ‵ (fdies (sliceTy (tyRef erased mut (tyInt w32))) l89)
-        ∷ ‵ (fat fullShare (tyRef erased mut (tyInt w32)) l88 0 (vptr b·cells o·cells))
-        ∷ ‵ (fdies (tyRef erased mut (tyInt w32)) l88)
-        ∷ ‵ (fat fullShare (sliceTy (tyRef erased mut (tyInt w64))) l87 0 s·feet)
-        ∷ ‵ (fdies (sliceTy (tyRef erased mut (tyInt w64))) l87)
-        ∷ ‵ (fat fullShare (tyRef erased mut (tyInt w64)) l86 0 (vptr b·feet o·feet))
-        ∷ ‵ (fdies (tyRef erased mut (tyInt w64)) l86)
-        ∷ ‵ (fat fullShare (sliceTy (tyRef erased mut (tyInt w32))) l85 0 s·kept)
-        ∷ ‵ (fdies (sliceTy (tyRef erased mut (tyInt w32))) l85)
-        ∷ ‵ (fat fullShare (tyRef erased mut (tyInt w32)) l84 0 (vptr b·kept o·kept))
-        ∷ ‵ (fdies (tyRef erased mut (tyInt w32)) l84)
-        ∷ ‵ (fat fullShare (sliceTy (tyRef erased mut (tyInt w32))) l83 0 s·lists)
-        ∷ ‵ (fdies (sliceTy (tyRef erased mut (tyInt w32))) l83)
-        ∷ ‵ (fat fullShare (tyRef erased mut (tyInt w32)) l82 0 (vptr b·lists o·lists))
-        ∷ ‵ (fdies (tyRef erased mut (tyInt w32)) l82)
-        ∷ ‵ (fat fullShare (sliceTy (tyRef erased mut (tyInt w32))) l81 0 s·rows)
-        ∷ ‵ (fdies (sliceTy (tyRef erased mut (tyInt w32))) l81)
-        ∷ ‵ (fat fullShare (tyRef erased mut (tyInt w32)) l80 0 (vptr b·rows o·rows))
-        ∷ ‵ (fdies (tyRef erased mut (tyInt w32)) l80)
-        ∷ ‵ (fat fullShare (sliceTy (tyRef erased mut (tyInt w32))) l79 0 s·defs)
-        ∷ ‵ (fdies (sliceTy (tyRef erased mut (tyInt w32))) l79)
-        ∷ ‵ (fat fullShare (tyRef erased mut (tyInt w32)) l78 0 (vptr b·defs o·defs))
-        ∷ ‵ (fdies (tyRef erased mut (tyInt w32)) l78)
-        ∷ ‵ (fat fullShare (sliceTy (tyRef erased mut (tyInt w32))) l77 0 s·words)
-        ∷ ‵ (fdies (sliceTy (tyRef erased mut (tyInt w32))) l77)
-        ∷ ‵ (fat fullShare (tyRef erased mut (tyInt w32)) l76 0 (vptr b·words o·words))
-        ∷ ‵ (fdies (tyRef erased mut (tyInt w32)) l76)
-        ∷ ‵ (fat fullShare (sliceTy (tyRef erased mut (tyInt w32))) l75 0 s·index)
-        ∷ ‵ (fdies (sliceTy (tyRef erased mut (tyInt w32))) l75)
-        ∷ ‵ (fat fullShare (tyRef erased mut (tyInt w32)) l74 0 (vptr b·index o·index))
-        ∷ ‵ (fdies (tyRef erased mut (tyInt w32)) l74)
-        ∷ ‵ (fat fullShare (sliceTy (tyRef erased mut (tyInt w32))) l73 0 s·vars)
-        ∷ ‵ (fdies (sliceTy (tyRef erased mut (tyInt w32))) l73)
-        ∷ ‵ (fat fullShare (tyRef erased mut (tyInt w32)) l72 0 (vptr b·vars o·vars))
-        ∷ ‵ (fdies (tyRef erased mut (tyInt w32)) l72)
-        ∷ ‵ (fat fullShare (sliceTy (tyRef erased imm (tyInt w32))) l71 0 s·patterns)
-        ∷ ‵ (fdies (sliceTy (tyRef erased imm (tyInt w32))) l71)
-        ∷ ‵ (fat fullShare (tyRef erased imm (tyInt w32)) l70 0 (vptr b·patterns o·patterns))
-        ∷ ‵ (fdies (tyRef erased imm (tyInt w32)) l70)
-        ∷ ‵ (fat fullShare (sliceTy (tyRef erased imm (tyInt w32))) l69 0 s·rulevars)
-        ∷ ‵ (fdies (sliceTy (tyRef erased imm (tyInt w32))) l69)
-        ∷ ‵ (fat fullShare (tyRef erased imm (tyInt w32)) l68 0 (vptr b·rulevars o·rulevars))
-        ∷ ‵ (fdies (tyRef erased imm (tyInt w32)) l68)
-        ∷ ‵ (fat fullShare (sliceTy (tyRef erased imm (tyInt w32))) l67 0 s·rules)
-        ∷ ‵ (fdies (sliceTy (tyRef erased imm (tyInt w32))) l67)
-        ∷ ‵ (fat fullShare (tyRef erased imm (tyInt w32)) l66 0 (vptr b·rules o·rules))
-        ∷ ‵ (fdies (tyRef erased imm (tyInt w32)) l66)
-        ∷ ‵ (fat fullShare (sliceTy (tyRef erased imm (tyInt w32))) l65 0 s·inputs)
-        ∷ ‵ (fdies (sliceTy (tyRef erased imm (tyInt w32))) l65)
-        ∷ ‵ (fat fullShare (tyRef erased imm (tyInt w32)) l64 0 (vptr b·inputs o·inputs))
-        ∷ ‵ (fdies (tyRef erased imm (tyInt w32)) l64)
-        ∷ ‵ (fat fullShare (sliceTy (tyRef erased imm (tyInt w32))) l63 0 s·symbols)
-        ∷ ‵ (fdies (sliceTy (tyRef erased imm (tyInt w32))) l63)
-        ∷ ‵ (fat fullShare (tyRef erased imm (tyInt w32)) l62 0 (vptr b·symbols o·symbols))
-        ∷ ‵ (fdies (tyRef erased imm (tyInt w32)) l62)
-        ∷ ‵ (fat fullShare (sliceTy (tyRef erased imm (tyInt w32))) l61 0 s·sorts)
-        ∷ ‵ (fdies (sliceTy (tyRef erased imm (tyInt w32))) l61)
-        ∷ ‵ (fat fullShare (tyRef erased imm (tyInt w32)) l60 0 (vptr b·sorts o·sorts))
-        ∷ ‵ (fdies (tyRef erased imm (tyInt w32)) l60)
-        ∷ ‵ (fat fullShare CountsL.mir l59 0 va·3·24)
-        ∷ ‵ (fdies CountsL.mir l59)
-        ∷ ‵ (fat fullShare (sliceTy (tyRef erased mut (tyInt w32))) l58 0 s·cells)
-        ∷ ‵ (fdies (sliceTy (tyRef erased mut (tyInt w32))) l58)
-        ∷ ‵ (fat fullShare (tyRef erased mut (tyInt w32)) l57 0 (vptr b·cells o·cells))
-        ∷ ‵ (fdies (tyRef erased mut (tyInt w32)) l57)
-        ∷ ‵ (fat fullShare (sliceTy (tyRef erased imm (tyInt w64))) l56 0 s·feet)
-        ∷ ‵ (fdies (sliceTy (tyRef erased imm (tyInt w64))) l56)
-        ∷ ‵ (fat fullShare (tyRef erased imm (tyInt w64)) l55 0 (vptr b·feet o·feet))
-        ∷ ‵ (fdies (tyRef erased imm (tyInt w64)) l55)
-        ∷ ‵ (fat fullShare (sliceTy (tyRef erased imm (tyInt w32))) l54 0 s·kept)
-        ∷ ‵ (fdies (sliceTy (tyRef erased imm (tyInt w32))) l54)
-        ∷ ‵ (fat fullShare (tyRef erased imm (tyInt w32)) l53 0 (vptr b·kept o·kept))
-        ∷ ‵ (fdies (tyRef erased imm (tyInt w32)) l53)
-        ∷ ‵ (fat fullShare (sliceTy (tyRef erased mut (tyInt w32))) l52 0 s·missing)
-        ∷ ‵ (fdies (sliceTy (tyRef erased mut (tyInt w32))) l52)
-        ∷ ‵ (fat fullShare (tyRef erased mut (tyInt w32)) l51 0 (vptr b·missing o·missing))
-        ∷ ‵ (fdies (tyRef erased mut (tyInt w32)) l51)
-        ∷ ‵ (fat fullShare (sliceTy (tyRef erased mut (tyInt w32))) l50 0 s·lists)
-        ∷ ‵ (fdies (sliceTy (tyRef erased mut (tyInt w32))) l50)
-        ∷ ‵ (fat fullShare (tyRef erased mut (tyInt w32)) l49 0 (vptr b·lists o·lists))
-        ∷ ‵ (fdies (tyRef erased mut (tyInt w32)) l49)
-        ∷ ‵ (fat fullShare (sliceTy (tyRef erased mut (tyInt w32))) l48 0 s·rows)
-        ∷ ‵ (fdies (sliceTy (tyRef erased mut (tyInt w32))) l48)
-        ∷ ‵ (fat fullShare (tyRef erased mut (tyInt w32)) l47 0 (vptr b·rows o·rows))
-        ∷ ‵ (fdies (tyRef erased mut (tyInt w32)) l47)
-        ∷ ‵ (fat fullShare (sliceTy (tyRef erased mut (tyInt w32))) l46 0 s·defs)
-        ∷ ‵ (fdies (sliceTy (tyRef erased mut (tyInt w32))) l46)
-        ∷ ‵ (fat fullShare (tyRef erased mut (tyInt w32)) l45 0 (vptr b·defs o·defs))
-        ∷ ‵ (fdies (tyRef erased mut (tyInt w32)) l45)
-        ∷ ‵ (fat fullShare (sliceTy (tyRef erased mut (tyInt w32))) l44 0 s·words)
-        ∷ ‵ (fdies (sliceTy (tyRef erased mut (tyInt w32))) l44)
-        ∷ ‵ (fat fullShare (tyRef erased mut (tyInt w32)) l43 0 (vptr b·words o·words))
-        ∷ ‵ (fdies (tyRef erased mut (tyInt w32)) l43)
-        ∷ ‵ (fat fullShare (sliceTy (tyRef erased mut (tyInt w32))) l42 0 s·index)
-        ∷ ‵ (fdies (sliceTy (tyRef erased mut (tyInt w32))) l42)
-        ∷ ‵ (fat fullShare (tyRef erased mut (tyInt w32)) l41 0 (vptr b·index o·index))
-        ∷ ‵ (fdies (tyRef erased mut (tyInt w32)) l41)
-        ∷ ‵ (fat fullShare (sliceTy (tyRef erased mut (tyInt w32))) l40 0 s·vars)
-        ∷ ‵ (fdies (sliceTy (tyRef erased mut (tyInt w32))) l40)
-        ∷ ‵ (fat fullShare (tyRef erased mut (tyInt w32)) l39 0 (vptr b·vars o·vars))
-        ∷ ‵ (fdies (tyRef erased mut (tyInt w32)) l39)
-        ∷ ‵ (fat fullShare (sliceTy (tyRef erased mut (tyInt w32))) l38 0 s·patterns)
-        ∷ ‵ (fdies (sliceTy (tyRef erased mut (tyInt w32))) l38)
-        ∷ ‵ (fat fullShare (tyRef erased mut (tyInt w32)) l37 0 (vptr b·patterns o·patterns))
-        ∷ ‵ (fdies (tyRef erased mut (tyInt w32)) l37)
-        ∷ ‵ (fat fullShare (sliceTy (tyRef erased mut (tyInt w32))) l36 0 s·rulevars)
-        ∷ ‵ (fdies (sliceTy (tyRef erased mut (tyInt w32))) l36)
-        ∷ ‵ (fat fullShare (tyRef erased mut (tyInt w32)) l35 0 (vptr b·rulevars o·rulevars))
-        ∷ ‵ (fdies (tyRef erased mut (tyInt w32)) l35)
-        ∷ ‵ (fat fullShare (sliceTy (tyRef erased mut (tyInt w32))) l34 0 s·rules)
-        ∷ ‵ (fdies (sliceTy (tyRef erased mut (tyInt w32))) l34)
-        ∷ ‵ (fat fullShare (tyRef erased mut (tyInt w32)) l33 0 (vptr b·rules o·rules))
-        ∷ ‵ (fdies (tyRef erased mut (tyInt w32)) l33)
-        ∷ ‵ (fat fullShare (sliceTy (tyRef erased mut (tyInt w32))) l32 0 s·inputs)
-        ∷ ‵ (fdies (sliceTy (tyRef erased mut (tyInt w32))) l32)
-        ∷ ‵ (fat fullShare (tyRef erased mut (tyInt w32)) l31 0 (vptr b·inputs o·inputs))
-        ∷ ‵ (fdies (tyRef erased mut (tyInt w32)) l31)
-        ∷ ‵ (fat fullShare (sliceTy (tyRef erased mut (tyInt w32))) l30 0 s·symbols)
-        ∷ ‵ (fdies (sliceTy (tyRef erased mut (tyInt w32))) l30)
-        ∷ ‵ (fat fullShare (tyRef erased mut (tyInt w32)) l29 0 (vptr b·symbols o·symbols))
-        ∷ ‵ (fdies (tyRef erased mut (tyInt w32)) l29)
-        ∷ ‵ (fat fullShare (sliceTy (tyRef erased mut (tyInt w32))) l28 0 s·sorts)
-        ∷ ‵ (fdies (sliceTy (tyRef erased mut (tyInt w32))) l28)
-        ∷ ‵ (fat fullShare (tyRef erased mut (tyInt w32)) l27 0 (vptr b·sorts o·sorts))
-        ∷ ‵ (fdies (tyRef erased mut (tyInt w32)) l27)
-        ∷ ‵ (fat fullShare AnswerL.mir l26 0 v4)
-        ∷ ‵ (fdies AnswerL.mir l26)
-        ∷ ‵ (fat fullShare RunL.mir l25 0 v3)
-        ∷ ‵ (fdies RunL.mir l25)
-        ∷ ‵ (fdies CountsL.mir l24)
-        ∷ ‵ (fat fullShare RunL.mir l23 0 v1)
-        ∷ ‵ (fdies RunL.mir l23)
-        ∷ ‵ (fat fullShare (tyInt w64) l22 0 (vint w64 (length facts)))
-        ∷ ‵ (fdies (tyInt w64) l22)
+        ∷ ‵ (froom (tyInt w64) l110 0)
+        ∷ ‵ (fdies (tyInt w64) l110)
+        ∷ ‵ (froom (tyInt w64) l109 0)
+        ∷ ‵ (fdies (tyInt w64) l109)
+        ∷ ‵ (froom (sliceTy (tyRef erased mut (pointee (FactT.the-row .written)))) l108 0)
+        ∷ ‵ (fdies (sliceTy (tyRef erased mut (pointee (FactT.the-row .written)))) l108)
+        ∷ ‵ (froom (tyRef erased mut (pointee (FactT.the-row .written))) l107 0)
+        ∷ ‵ (fdies (tyRef erased mut (pointee (FactT.the-row .written))) l107)
+        ∷ ‵ (froom tyUnit l106 0)
+        ∷ ‵ (fdies tyUnit l106)
+        ∷ ‵ (fat fullShare (sliceTy (tyRef erased mut (tyInt w32))) l105 0 s·missing)
+        ∷ ‵ (fdies (sliceTy (tyRef erased mut (tyInt w32))) l105)
+        ∷ ‵ (fat fullShare (tyRef erased mut (tyInt w32)) l104 0 (vptr b·missing o·missing))
+        ∷ ‵ (fdies (tyRef erased mut (tyInt w32)) l104)
+        ∷ ‵ (fat fullShare (sliceTy (tyRef erased imm (tyInt w32))) l103 0 s·rows)
+        ∷ ‵ (fdies (sliceTy (tyRef erased imm (tyInt w32))) l103)
+        ∷ ‵ (fat fullShare (tyRef erased imm (tyInt w32)) l102 0 (vptr b·rows o·rows))
+        ∷ ‵ (fdies (tyRef erased imm (tyInt w32)) l102)
+        ∷ ‵ (fat fullShare (sliceTy (tyRef erased imm (tyInt w32))) l101 0 s·words)
+        ∷ ‵ (fdies (sliceTy (tyRef erased imm (tyInt w32))) l101)
+        ∷ ‵ (fat fullShare (tyRef erased imm (tyInt w32)) l100 0 (vptr b·words o·words))
+        ∷ ‵ (fdies (tyRef erased imm (tyInt w32)) l100)
+        ∷ ‵ (fat fullShare (sliceTy (tyRef erased mut (tyInt w32))) l99 0 s·index)
+        ∷ ‵ (fdies (sliceTy (tyRef erased mut (tyInt w32))) l99)
+        ∷ ‵ (fat fullShare (tyRef erased mut (tyInt w32)) l98 0 (vptr b·index o·index))
+        ∷ ‵ (fdies (tyRef erased mut (tyInt w32)) l98)
+        ∷ ‵ (fat fullShare (tyRef erased mut (pointee (CountsT.the-row .written))) l97 0 (vptr l25 0))
+        ∷ ‵ (fdies (tyRef erased mut (pointee (CountsT.the-row .written))) l97)
+        ∷ ‵ (fat fullShare (sliceTy (tyRef erased mut (pointee (FactT.the-row .written)))) l96 0 s·facts)
+        ∷ ‵ (fdies (sliceTy (tyRef erased mut (pointee (FactT.the-row .written)))) l96)
+        ∷ ‵ (fat fullShare (tyRef erased mut (pointee (FactT.the-row .written))) l95 0 (vptr b·facts o·facts))
+        ∷ ‵ (fdies (tyRef erased mut (pointee (FactT.the-row .written))) l95)
+        ∷ ‵ (fat fullShare (sliceTy (tyRef erased mut (tyInt w32))) l94 0 s·memo)
+        ∷ ‵ (fdies (sliceTy (tyRef erased mut (tyInt w32))) l94)
+        ∷ ‵ (fat fullShare (tyRef erased mut (tyInt w32)) l93 0 (vptr b·memo o·memo))
+        ∷ ‵ (fdies (tyRef erased mut (tyInt w32)) l93)
+        ∷ ‵ (fat fullShare (sliceTy (tyRef erased mut (tyInt w32))) l92 0 s·ids)
+        ∷ ‵ (fdies (sliceTy (tyRef erased mut (tyInt w32))) l92)
+        ∷ ‵ (fat fullShare (tyRef erased mut (tyInt w32)) l91 0 (vptr b·ids o·ids))
+        ∷ ‵ (fdies (tyRef erased mut (tyInt w32)) l91)
+        ∷ ‵ (fat fullShare (sliceTy (tyRef erased mut (tyInt w32))) l90 0 s·cells)
+        ∷ ‵ (fdies (sliceTy (tyRef erased mut (tyInt w32))) l90)
+        ∷ ‵ (fat fullShare (tyRef erased mut (tyInt w32)) l89 0 (vptr b·cells o·cells))
+        ∷ ‵ (fdies (tyRef erased mut (tyInt w32)) l89)
+        ∷ ‵ (fat fullShare (sliceTy (tyRef erased mut (tyInt w64))) l88 0 s·feet)
+        ∷ ‵ (fdies (sliceTy (tyRef erased mut (tyInt w64))) l88)
+        ∷ ‵ (fat fullShare (tyRef erased mut (tyInt w64)) l87 0 (vptr b·feet o·feet))
+        ∷ ‵ (fdies (tyRef erased mut (tyInt w64)) l87)
+        ∷ ‵ (fat fullShare (sliceTy (tyRef erased mut (tyInt w32))) l86 0 s·kept)
+        ∷ ‵ (fdies (sliceTy (tyRef erased mut (tyInt w32))) l86)
+        ∷ ‵ (fat fullShare (tyRef erased mut (tyInt w32)) l85 0 (vptr b·kept o·kept))
+        ∷ ‵ (fdies (tyRef erased mut (tyInt w32)) l85)
+        ∷ ‵ (fat fullShare (sliceTy (tyRef erased mut (tyInt w32))) l84 0 s·lists)
+        ∷ ‵ (fdies (sliceTy (tyRef erased mut (tyInt w32))) l84)
+        ∷ ‵ (fat fullShare (tyRef erased mut (tyInt w32)) l83 0 (vptr b·lists o·lists))
+        ∷ ‵ (fdies (tyRef erased mut (tyInt w32)) l83)
+        ∷ ‵ (fat fullShare (sliceTy (tyRef erased mut (tyInt w32))) l82 0 s·rows)
+        ∷ ‵ (fdies (sliceTy (tyRef erased mut (tyInt w32))) l82)
+        ∷ ‵ (fat fullShare (tyRef erased mut (tyInt w32)) l81 0 (vptr b·rows o·rows))
+        ∷ ‵ (fdies (tyRef erased mut (tyInt w32)) l81)
+        ∷ ‵ (fat fullShare (sliceTy (tyRef erased mut (tyInt w32))) l80 0 s·defs)
+        ∷ ‵ (fdies (sliceTy (tyRef erased mut (tyInt w32))) l80)
+        ∷ ‵ (fat fullShare (tyRef erased mut (tyInt w32)) l79 0 (vptr b·defs o·defs))
+        ∷ ‵ (fdies (tyRef erased mut (tyInt w32)) l79)
+        ∷ ‵ (fat fullShare (sliceTy (tyRef erased mut (tyInt w32))) l78 0 s·words)
+        ∷ ‵ (fdies (sliceTy (tyRef erased mut (tyInt w32))) l78)
+        ∷ ‵ (fat fullShare (tyRef erased mut (tyInt w32)) l77 0 (vptr b·words o·words))
+        ∷ ‵ (fdies (tyRef erased mut (tyInt w32)) l77)
+        ∷ ‵ (fat fullShare (sliceTy (tyRef erased mut (tyInt w32))) l76 0 s·index)
+        ∷ ‵ (fdies (sliceTy (tyRef erased mut (tyInt w32))) l76)
+        ∷ ‵ (fat fullShare (tyRef erased mut (tyInt w32)) l75 0 (vptr b·index o·index))
+        ∷ ‵ (fdies (tyRef erased mut (tyInt w32)) l75)
+        ∷ ‵ (fat fullShare (sliceTy (tyRef erased mut (tyInt w32))) l74 0 s·vars)
+        ∷ ‵ (fdies (sliceTy (tyRef erased mut (tyInt w32))) l74)
+        ∷ ‵ (fat fullShare (tyRef erased mut (tyInt w32)) l73 0 (vptr b·vars o·vars))
+        ∷ ‵ (fdies (tyRef erased mut (tyInt w32)) l73)
+        ∷ ‵ (fat fullShare (sliceTy (tyRef erased imm (tyInt w32))) l72 0 s·patterns)
+        ∷ ‵ (fdies (sliceTy (tyRef erased imm (tyInt w32))) l72)
+        ∷ ‵ (fat fullShare (tyRef erased imm (tyInt w32)) l71 0 (vptr b·patterns o·patterns))
+        ∷ ‵ (fdies (tyRef erased imm (tyInt w32)) l71)
+        ∷ ‵ (fat fullShare (sliceTy (tyRef erased imm (tyInt w32))) l70 0 s·rulevars)
+        ∷ ‵ (fdies (sliceTy (tyRef erased imm (tyInt w32))) l70)
+        ∷ ‵ (fat fullShare (tyRef erased imm (tyInt w32)) l69 0 (vptr b·rulevars o·rulevars))
+        ∷ ‵ (fdies (tyRef erased imm (tyInt w32)) l69)
+        ∷ ‵ (fat fullShare (sliceTy (tyRef erased imm (tyInt w32))) l68 0 s·rules)
+        ∷ ‵ (fdies (sliceTy (tyRef erased imm (tyInt w32))) l68)
+        ∷ ‵ (fat fullShare (tyRef erased imm (tyInt w32)) l67 0 (vptr b·rules o·rules))
+        ∷ ‵ (fdies (tyRef erased imm (tyInt w32)) l67)
+        ∷ ‵ (fat fullShare (sliceTy (tyRef erased imm (tyInt w32))) l66 0 s·inputs)
+        ∷ ‵ (fdies (sliceTy (tyRef erased imm (tyInt w32))) l66)
+        ∷ ‵ (fat fullShare (tyRef erased imm (tyInt w32)) l65 0 (vptr b·inputs o·inputs))
+        ∷ ‵ (fdies (tyRef erased imm (tyInt w32)) l65)
+        ∷ ‵ (fat fullShare (sliceTy (tyRef erased imm (tyInt w32))) l64 0 s·symbols)
+        ∷ ‵ (fdies (sliceTy (tyRef erased imm (tyInt w32))) l64)
+        ∷ ‵ (fat fullShare (tyRef erased imm (tyInt w32)) l63 0 (vptr b·symbols o·symbols))
+        ∷ ‵ (fdies (tyRef erased imm (tyInt w32)) l63)
+        ∷ ‵ (fat fullShare (sliceTy (tyRef erased imm (tyInt w32))) l62 0 s·sorts)
+        ∷ ‵ (fdies (sliceTy (tyRef erased imm (tyInt w32))) l62)
+        ∷ ‵ (fat fullShare (tyRef erased imm (tyInt w32)) l61 0 (vptr b·sorts o·sorts))
+        ∷ ‵ (fdies (tyRef erased imm (tyInt w32)) l61)
+        ∷ ‵ (fat fullShare CountsL.mir l60 0 va·3·25)
+        ∷ ‵ (fdies CountsL.mir l60)
+        ∷ ‵ (fat fullShare (sliceTy (tyRef erased mut (tyInt w32))) l59 0 s·cells)
+        ∷ ‵ (fdies (sliceTy (tyRef erased mut (tyInt w32))) l59)
+        ∷ ‵ (fat fullShare (tyRef erased mut (tyInt w32)) l58 0 (vptr b·cells o·cells))
+        ∷ ‵ (fdies (tyRef erased mut (tyInt w32)) l58)
+        ∷ ‵ (fat fullShare (sliceTy (tyRef erased imm (tyInt w64))) l57 0 s·feet)
+        ∷ ‵ (fdies (sliceTy (tyRef erased imm (tyInt w64))) l57)
+        ∷ ‵ (fat fullShare (tyRef erased imm (tyInt w64)) l56 0 (vptr b·feet o·feet))
+        ∷ ‵ (fdies (tyRef erased imm (tyInt w64)) l56)
+        ∷ ‵ (fat fullShare (sliceTy (tyRef erased imm (tyInt w32))) l55 0 s·kept)
+        ∷ ‵ (fdies (sliceTy (tyRef erased imm (tyInt w32))) l55)
+        ∷ ‵ (fat fullShare (tyRef erased imm (tyInt w32)) l54 0 (vptr b·kept o·kept))
+        ∷ ‵ (fdies (tyRef erased imm (tyInt w32)) l54)
+        ∷ ‵ (fat fullShare (sliceTy (tyRef erased mut (tyInt w32))) l53 0 s·missing)
+        ∷ ‵ (fdies (sliceTy (tyRef erased mut (tyInt w32))) l53)
+        ∷ ‵ (fat fullShare (tyRef erased mut (tyInt w32)) l52 0 (vptr b·missing o·missing))
+        ∷ ‵ (fdies (tyRef erased mut (tyInt w32)) l52)
+        ∷ ‵ (fat fullShare (sliceTy (tyRef erased mut (tyInt w32))) l51 0 s·lists)
+        ∷ ‵ (fdies (sliceTy (tyRef erased mut (tyInt w32))) l51)
+        ∷ ‵ (fat fullShare (tyRef erased mut (tyInt w32)) l50 0 (vptr b·lists o·lists))
+        ∷ ‵ (fdies (tyRef erased mut (tyInt w32)) l50)
+        ∷ ‵ (fat fullShare (sliceTy (tyRef erased mut (tyInt w32))) l49 0 s·rows)
+        ∷ ‵ (fdies (sliceTy (tyRef erased mut (tyInt w32))) l49)
+        ∷ ‵ (fat fullShare (tyRef erased mut (tyInt w32)) l48 0 (vptr b·rows o·rows))
+        ∷ ‵ (fdies (tyRef erased mut (tyInt w32)) l48)
+        ∷ ‵ (fat fullShare (sliceTy (tyRef erased mut (tyInt w32))) l47 0 s·defs)
+        ∷ ‵ (fdies (sliceTy (tyRef erased mut (tyInt w32))) l47)
+        ∷ ‵ (fat fullShare (tyRef erased mut (tyInt w32)) l46 0 (vptr b·defs o·defs))
+        ∷ ‵ (fdies (tyRef erased mut (tyInt w32)) l46)
+        ∷ ‵ (fat fullShare (sliceTy (tyRef erased mut (tyInt w32))) l45 0 s·words)
+        ∷ ‵ (fdies (sliceTy (tyRef erased mut (tyInt w32))) l45)
+        ∷ ‵ (fat fullShare (tyRef erased mut (tyInt w32)) l44 0 (vptr b·words o·words))
+        ∷ ‵ (fdies (tyRef erased mut (tyInt w32)) l44)
+        ∷ ‵ (fat fullShare (sliceTy (tyRef erased mut (tyInt w32))) l43 0 s·index)
+        ∷ ‵ (fdies (sliceTy (tyRef erased mut (tyInt w32))) l43)
+        ∷ ‵ (fat fullShare (tyRef erased mut (tyInt w32)) l42 0 (vptr b·index o·index))
+        ∷ ‵ (fdies (tyRef erased mut (tyInt w32)) l42)
+        ∷ ‵ (fat fullShare (sliceTy (tyRef erased mut (tyInt w32))) l41 0 s·vars)
+        ∷ ‵ (fdies (sliceTy (tyRef erased mut (tyInt w32))) l41)
+        ∷ ‵ (fat fullShare (tyRef erased mut (tyInt w32)) l40 0 (vptr b·vars o·vars))
+        ∷ ‵ (fdies (tyRef erased mut (tyInt w32)) l40)
+        ∷ ‵ (fat fullShare (sliceTy (tyRef erased mut (tyInt w32))) l39 0 s·patterns)
+        ∷ ‵ (fdies (sliceTy (tyRef erased mut (tyInt w32))) l39)
+        ∷ ‵ (fat fullShare (tyRef erased mut (tyInt w32)) l38 0 (vptr b·patterns o·patterns))
+        ∷ ‵ (fdies (tyRef erased mut (tyInt w32)) l38)
+        ∷ ‵ (fat fullShare (sliceTy (tyRef erased mut (tyInt w32))) l37 0 s·rulevars)
+        ∷ ‵ (fdies (sliceTy (tyRef erased mut (tyInt w32))) l37)
+        ∷ ‵ (fat fullShare (tyRef erased mut (tyInt w32)) l36 0 (vptr b·rulevars o·rulevars))
+        ∷ ‵ (fdies (tyRef erased mut (tyInt w32)) l36)
+        ∷ ‵ (fat fullShare (sliceTy (tyRef erased mut (tyInt w32))) l35 0 s·rules)
+        ∷ ‵ (fdies (sliceTy (tyRef erased mut (tyInt w32))) l35)
+        ∷ ‵ (fat fullShare (tyRef erased mut (tyInt w32)) l34 0 (vptr b·rules o·rules))
+        ∷ ‵ (fdies (tyRef erased mut (tyInt w32)) l34)
+        ∷ ‵ (fat fullShare (sliceTy (tyRef erased mut (tyInt w32))) l33 0 s·inputs)
+        ∷ ‵ (fdies (sliceTy (tyRef erased mut (tyInt w32))) l33)
+        ∷ ‵ (fat fullShare (tyRef erased mut (tyInt w32)) l32 0 (vptr b·inputs o·inputs))
+        ∷ ‵ (fdies (tyRef erased mut (tyInt w32)) l32)
+        ∷ ‵ (fat fullShare (sliceTy (tyRef erased mut (tyInt w32))) l31 0 s·symbols)
+        ∷ ‵ (fdies (sliceTy (tyRef erased mut (tyInt w32))) l31)
+        ∷ ‵ (fat fullShare (tyRef erased mut (tyInt w32)) l30 0 (vptr b·symbols o·symbols))
+        ∷ ‵ (fdies (tyRef erased mut (tyInt w32)) l30)
+        ∷ ‵ (fat fullShare (sliceTy (tyRef erased mut (tyInt w32))) l29 0 s·sorts)
+        ∷ ‵ (fdies (sliceTy (tyRef erased mut (tyInt w32))) l29)
+        ∷ ‵ (fat fullShare (tyRef erased mut (tyInt w32)) l28 0 (vptr b·sorts o·sorts))
+        ∷ ‵ (fdies (tyRef erased mut (tyInt w32)) l28)
+        ∷ ‵ (fat fullShare AnswerL.mir l27 0 v4)
+        ∷ ‵ (fdies AnswerL.mir l27)
+        ∷ ‵ (fat fullShare RunL.mir l26 0 v3)
+        ∷ ‵ (fdies RunL.mir l26)
+        ∷ ‵ (fdies CountsL.mir l25)
+        ∷ ‵ (fat fullShare RunL.mir l24 0 v1)
+        ∷ ‵ (fdies RunL.mir l24)
+        ∷ ‵ (fat fullShare (tyInt w64) l23 0 (vint w64 (length facts)))
+        ∷ ‵ (fdies (tyInt w64) l23)
+        ∷ ‵ (fat fullShare (sliceTy (tyRef (named 21) mut (tyInt w32))) l22 0 s·memo)
+        ∷ ‵ (fdies (sliceTy (tyRef (named 21) mut (tyInt w32))) l22)
         ∷ ‵ (fat fullShare (sliceTy (tyRef (named 20) mut (tyInt w32))) l21 0 s·ids)
         ∷ ‵ (fdies (sliceTy (tyRef (named 20) mut (tyInt w32))) l21)
         ∷ ‵ (fat fullShare (sliceTy (tyRef (named 19) mut (tyInt w32))) l20 0 s·cells)
@@ -3591,20 +3754,20 @@ module _ {M : Type 1} (𝓤 : URA M) (H : Heap 𝓤) (A : Atoms 𝓤) (W : Given
         (runs C Λ (En l0 l1 l2 l3 l4 l5 l6 l7 l8 l9 l10 l11 l12 l13 l14 l15 l16 l17 l18 l19 l20 l21 l22 l23 l24 l25 l26 l27 l28 l29 l30 l31 l32 l33
         l34 l35 l36 l37 l38 l39 l40 l41 l42 l43 l44 l45 l46 l47 l48 l49 l50 l51 l52 l53 l54 l55 l56 l57 l58 l59 l60 l61 l62 l63 l64 l65 l66 l67 l68
         l69 l70 l71 l72 l73 l74 l75 l76 l77 l78 l79 l80 l81 l82 l83 l84 l85 l86 l87 l88 l89 l90 l91 l92 l93 l94 l95 l96 l97 l98 l99 l100 l101 l102
-        l103 l104 l105 l106 l107) pieces.t-83 (atRet (En l0 l1 l2 l3 l4 l5 l6 l7 l8 l9 l10 l11 l12 l13 l14 l15 l16 l17 l18 l19 l20 l21 l22 l23 l24 l25
-        l26 l27 l28 l29 l30 l31 l32 l33 l34 l35 l36 l37 l38 l39 l40 l41 l42 l43 l44 l45 l46 l47 l48 l49 l50 l51 l52 l53 l54 l55 l56 l57 l58 l59 l60
-        l61 l62 l63 l64 l65 l66 l67 l68 l69 l70 l71 l72 l73 l74 l75 l76 l77 l78 l79 l80 l81 l82 l83 l84 l85 l86 l87 l88 l89 l90 l91 l92 l93 l94 l95
-        l96 l97 l98 l99 l100 l101 l102 l103 l104 l105 l106 l107) Post))
+        l103 l104 l105 l106 l107 l108 l109 l110) pieces.t-85 (atRet (En l0 l1 l2 l3 l4 l5 l6 l7 l8 l9 l10 l11 l12 l13 l14 l15 l16 l17 l18 l19 l20 l21
+        l22 l23 l24 l25 l26 l27 l28 l29 l30 l31 l32 l33 l34 l35 l36 l37 l38 l39 l40 l41 l42 l43 l44 l45 l46 l47 l48 l49 l50 l51 l52 l53 l54 l55 l56
+        l57 l58 l59 l60 l61 l62 l63 l64 l65 l66 l67 l68 l69 l70 l71 l72 l73 l74 l75 l76 l77 l78 l79 l80 l81 l82 l83 l84 l85 l86 l87 l88 l89 l90 l91
+        l92 l93 l94 l95 l96 l97 l98 l99 l100 l101 l102 l103 l104 l105 l106 l107 l108 l109 l110) Post))
     seg·11 l0 l1 l2 l3 l4 l5 l6 l7 l8 l9 l10 l11 l12 l13 l14 l15 l16 l17 l18 l19 l20 l21 l22 l23 l24 l25 l26 l27 l28 l29 l30 l31 l32 l33 l34 l35 l36
         l37 l38 l39 l40 l41 l42 l43 l44 l45 l46 l47 l48 l49 l50 l51 l52 l53 l54 l55 l56 l57 l58 l59 l60 l61 l62 l63 l64 l65 l66 l67 l68 l69 l70 l71
         l72 l73 l74 l75 l76 l77 l78 l79 l80 l81 l82 l83 l84 l85 l86 l87 l88 l89 l90 l91 l92 l93 l94 l95 l96 l97 l98 l99 l100 l101 l102 l103 l104
-        l105 l106 l107 ν·1·3 δ·1·3 ν·1·4 δ·1·4 ν·1·5 δ·1·5 ν·1·6 δ·1·6 ν·1·7 δ·1·7 ν·1·8 δ·1·8 ν·1·9 δ·1·9 ν·1·10 δ·1·10 ν·1·11 δ·1·11 ν·1·12
-        δ·1·12 ν·1·13 δ·1·13 ν·1·14 δ·1·14 ν·1·15 δ·1·15 ν·1·16 δ·1·16 ν·1·17 δ·1·17 ν·1·18 δ·1·18 v1 r1 ws1 e1·0 e1·1 len·1·sorts
-        len·1·symbols len·1·inputs len·1·rules len·1·rulevars len·1·patterns len·1·vars len·1·index len·1·words len·1·defs len·1·rows
-        len·1·lists len·1·missing len·1·cells is1 v2 r2 ws2 e2 is2 ν·3·4 δ·3·4 ν·3·5 δ·3·5 ν·3·6 δ·3·6 ν·3·7 δ·3·7 ν·3·8 δ·3·8
-        ν·3·9 δ·3·9 ν·3·11 δ·3·11 ν·3·12 δ·3·12 ν·3·14 δ·3·14 ν·3·20 δ·3·20 ν·3·21 δ·3·21 v3 r3 ws3 e3 len·3·vars len·3·index
-        len·3·words len·3·defs len·3·rows len·3·lists len·3·kept len·3·feet len·3·cells len·3·ids len·3·facts is3 va·3·24
-        isa·3·24 ν·4·3 δ·4·3 ν·4·4 δ·4·4 v4 r4 ws4 e4·0 e4·1 len·4·index len·4·missing is4 =
+        l105 l106 l107 l108 l109 l110 ν·1·3 δ·1·3 ν·1·4 δ·1·4 ν·1·5 δ·1·5 ν·1·6 δ·1·6 ν·1·7 δ·1·7 ν·1·8 δ·1·8 ν·1·9 δ·1·9 ν·1·10 δ·1·10 ν·1·11
+        δ·1·11 ν·1·12 δ·1·12 ν·1·13 δ·1·13 ν·1·14 δ·1·14 ν·1·15 δ·1·15 ν·1·16 δ·1·16 ν·1·17 δ·1·17 ν·1·18 δ·1·18 v1 r1 ws1 e1·0 e1·1
+        len·1·sorts len·1·symbols len·1·inputs len·1·rules len·1·rulevars len·1·patterns len·1·vars len·1·index len·1·words len·1·defs
+        len·1·rows len·1·lists len·1·missing len·1·cells is1 v2 r2 ws2 e2 is2 ν·3·4 δ·3·4 ν·3·5 δ·3·5 ν·3·6 δ·3·6 ν·3·7 δ·3·7
+        ν·3·8 δ·3·8 ν·3·9 δ·3·9 ν·3·11 δ·3·11 ν·3·12 δ·3·12 ν·3·14 δ·3·14 ν·3·21 δ·3·21 ν·3·22 δ·3·22 v3 r3 ws3 e3 len·3·vars
+        len·3·index len·3·words len·3·defs len·3·rows len·3·lists len·3·kept len·3·feet len·3·cells len·3·ids len·3·memo
+        len·3·facts is3 va·3·25 isa·3·25 ν·4·3 δ·4·3 ν·4·4 δ·4·4 v4 r4 ws4 e4·0 e4·1 len·4·index len·4·missing is4 =
         move ! (2 ∷ []) $
         lft-end ! tt $
         move ! (0 ∷ 7 ∷ []) $
@@ -3617,18 +3780,18 @@ module _ {M : Type 1} (𝓤 : URA M) (H : Heap 𝓤) (A : Atoms 𝓤) (W : Given
         use2 W (later (‵ (MutSlice (named 13) κ·rows u32 .own (ref·rows γ·rows (ws3 .1 .1 .1 .1 .1 .1 .1 .1 .1 .1 .1 .1 .1 .1 .0)) (s·rows ∷ []))
         ⊛ ‵ (flft κ·rows q·rows))) (shared-back u32 κ·rows (ν·4·4 ∷ []) q·rows γ·rows b·rows o·rows 𝓤 H A W (named 13) (named 2) (length rows)
         (ws3 .1 .1 .1 .1 .1 .1 .1 .1 .1 .1 .1 .1 .1 .1 .0) room·rows (len·3·rows ∙ (len·1·rows ∙ (refl)))) $ await ! tt $ split ! $
-        assigns ! (addr ! (from ! (fld ! refl (hop ! (look-in ! 222 (sub ! 0 refl (whole !))) (stop !))))) (from ! (stop !))
-        (init ! 49 refl (tt, tt)) $
-        assigns ! (agg ! (and-then ! (load ! (from ! (stop !)) (look ! 49 refl))
-        (and-then ! (load ! (from ! (fld ! refl (stop !))) (look-in ! 222 (sub ! 1 refl (whole !)))) (no-more !)))) (from ! (stop !))
-        (init ! 47 refl (tt, (tt, (record { fits = room·facts .0 }, tt)))) $
+        assigns ! (addr ! (from ! (fld ! refl (hop ! (look-in ! 230 (sub ! 0 refl (whole !))) (stop !))))) (from ! (stop !))
+        (init ! 51 refl (tt, tt)) $
+        assigns ! (agg ! (and-then ! (load ! (from ! (stop !)) (look ! 51 refl))
+        (and-then ! (load ! (from ! (fld ! refl (stop !))) (look-in ! 230 (sub ! 1 refl (whole !)))) (no-more !)))) (from ! (stop !))
+        (init ! 49 refl (tt, (tt, (record { fits = room·facts .0 }, tt)))) $
         -- call 5: index_of
         nothing ! $
         use1 W (raw ((G5·C 𝓤 H A at-mem run) .pre ((tt, tt, tt, (r3, tt), (v3 ∷ [], tt)), tt))) (qed W (‵ ftrue ∷ []) ∵ drop ! $ nothing ! $
         nothing ! $ owned ! RunT.the-row (Is RunT.the-row) (LL.makes RunT.the-type RunL.the-plain 𝓤 H A) r3 _ is3 $ fjoin ! $ move ! (1 ∷ 0 ∷ []) $
         join ! $ frame ! $ done !) $
         calls-at ! fm (G5·C 𝓤 H A at-mem run) known·5 ((tt, tt, tt, (r3, tt), (v3 ∷ [], tt)), tt)
-        (and-then ! (load ! (from ! (stop !)) (look ! 208 refl)) (no-more !)) (λ v5.
+        (and-then ! (load ! (from ! (stop !)) (look ! 214 refl)) (no-more !)) (λ v5.
         use1 W (later (some (λ (r5 : ℕ). ((‵ ftrue) ⊛ ‵ (usize .own r5 (v5 ∷ []))) ⊛ raw
         (ensured 𝓤 H A G5.ended (G5.clauses 𝓤 H A at-mem run) tt (r3, tt) tt r5)))) (id⊢ 𝓤 _) $ await ! tt $ pick ! (λ r5. split ! $ move ! (1 ∷ []) $
         use1 W (some (λ (ws5 : (Unit {0} × Unit {0})). ‵ (lasts G5.ended tt (r3, tt) ws5) ⊛ raw (fact 𝓤 (r5 ≡ r3 .sizes .facts)))) (id⊢ 𝓤 _) $
@@ -3639,7 +3802,7 @@ module _ {M : Type 1} (𝓤 : URA M) (H : Heap 𝓤) (A : Atoms 𝓤) (W : Given
         move ! (1 ∷ []) $
         peeks ! usize (Is usize) (shows 𝓤 H A usize) r5 (v5 ∷ []) (λ is5.
         drop ! $
-        land ! (from ! (stop !)) (init ! 46 refl (uint-lawful 𝓤 H A W w64 .typed r5 _ is5 .0)) $
+        land ! (from ! (stop !)) (init ! 48 refl (uint-lawful 𝓤 H A W w64 .typed r5 _ is5 .0)) $
         drop ! $
         -- call 6: room_of
         nothing ! $
@@ -3647,7 +3810,7 @@ module _ {M : Type 1} (𝓤 : URA M) (H : Heap 𝓤) (A : Atoms 𝓤) (W : Given
         nothing ! $ owned ! RunT.the-row (Is RunT.the-row) (LL.makes RunT.the-type RunL.the-plain 𝓤 H A) r3 _ is3 $ fjoin ! $ move ! (1 ∷ 0 ∷ []) $
         join ! $ frame ! $ done !) $
         calls-at ! fm (G6·C 𝓤 H A at-mem run) known·6 ((tt, tt, tt, (r3, tt), (v3 ∷ [], tt)), tt)
-        (and-then ! (load ! (from ! (stop !)) (look ! 208 refl)) (no-more !)) (λ v6.
+        (and-then ! (load ! (from ! (stop !)) (look ! 214 refl)) (no-more !)) (λ v6.
         use1 W (later (some (λ (r6 : ℕ). ((‵ ftrue) ⊛ ‵ (usize .own r6 (v6 ∷ []))) ⊛ raw
         (ensured 𝓤 H A G6.ended (G6.clauses 𝓤 H A at-mem run) tt (r3, tt) tt r6)))) (id⊢ 𝓤 _) $ await ! tt $ pick ! (λ r6. split ! $ move ! (1 ∷ []) $
         use1 W (some (λ (ws6 : (Unit {0} × Unit {0})). ‵ (lasts G6.ended tt (r3, tt) ws6) ⊛ raw (fact 𝓤 (r6 ≡ roomOf r3)))) (id⊢ 𝓤 _) $
@@ -3658,18 +3821,18 @@ module _ {M : Type 1} (𝓤 : URA M) (H : Heap 𝓤) (A : Atoms 𝓤) (W : Given
         move ! (1 ∷ []) $
         peeks ! usize (Is usize) (shows 𝓤 H A usize) r6 (v6 ∷ []) (λ is6.
         drop ! $
-        land ! (from ! (stop !)) (init ! 44 refl (uint-lawful 𝓤 H A W w64 .typed r6 _ is6 .0)) $
+        land ! (from ! (stop !)) (init ! 46 refl (uint-lawful 𝓤 H A W w64 .typed r6 _ is6 .0)) $
         drop ! $
         seg·12 l0 l1 l2 l3 l4 l5 l6 l7 l8 l9 l10 l11 l12 l13 l14 l15 l16 l17 l18 l19 l20 l21 l22 l23 l24 l25 l26 l27 l28 l29 l30 l31 l32 l33 l34 l35
         l36 l37 l38 l39 l40 l41 l42 l43 l44 l45 l46 l47 l48 l49 l50 l51 l52 l53 l54 l55 l56 l57 l58 l59 l60 l61 l62 l63 l64 l65 l66 l67 l68 l69 l70
         l71 l72 l73 l74 l75 l76 l77 l78 l79 l80 l81 l82 l83 l84 l85 l86 l87 l88 l89 l90 l91 l92 l93 l94 l95 l96 l97 l98 l99 l100 l101 l102 l103 l104
-        l105 l106 l107 ν·1·3 δ·1·3 ν·1·4 δ·1·4 ν·1·5 δ·1·5 ν·1·6 δ·1·6 ν·1·7 δ·1·7 ν·1·8 δ·1·8 ν·1·9 δ·1·9 ν·1·10 δ·1·10 ν·1·11 δ·1·11 ν·1·12 δ·1·12
-        ν·1·13 δ·1·13 ν·1·14 δ·1·14 ν·1·15 δ·1·15 ν·1·16 δ·1·16 ν·1·17 δ·1·17 ν·1·18 δ·1·18 v1 r1 ws1 e1·0 e1·1 len·1·sorts len·1·symbols len·1·inputs
-        len·1·rules len·1·rulevars len·1·patterns len·1·vars len·1·index len·1·words len·1·defs len·1·rows len·1·lists len·1·missing len·1·cells is1
-        v2 r2 ws2 e2 is2 ν·3·4 δ·3·4 ν·3·5 δ·3·5 ν·3·6 δ·3·6 ν·3·7 δ·3·7 ν·3·8 δ·3·8 ν·3·9 δ·3·9 ν·3·11 δ·3·11 ν·3·12 δ·3·12 ν·3·14 δ·3·14 ν·3·20
-        δ·3·20 ν·3·21 δ·3·21 v3 r3 ws3 e3 len·3·vars len·3·index len·3·words len·3·defs len·3·rows len·3·lists len·3·kept len·3·feet len·3·cells
-        len·3·ids len·3·facts is3 va·3·24 isa·3·24 ν·4·3 δ·4·3 ν·4·4 δ·4·4 v4 r4 ws4 e4·0 e4·1 len·4·index len·4·missing is4 v5 r5 ws5 e5 is5 v6 r6
-        ws6 e6 is6))))))))))
+        l105 l106 l107 l108 l109 l110 ν·1·3 δ·1·3 ν·1·4 δ·1·4 ν·1·5 δ·1·5 ν·1·6 δ·1·6 ν·1·7 δ·1·7 ν·1·8 δ·1·8 ν·1·9 δ·1·9 ν·1·10 δ·1·10 ν·1·11 δ·1·11
+        ν·1·12 δ·1·12 ν·1·13 δ·1·13 ν·1·14 δ·1·14 ν·1·15 δ·1·15 ν·1·16 δ·1·16 ν·1·17 δ·1·17 ν·1·18 δ·1·18 v1 r1 ws1 e1·0 e1·1 len·1·sorts
+        len·1·symbols len·1·inputs len·1·rules len·1·rulevars len·1·patterns len·1·vars len·1·index len·1·words len·1·defs len·1·rows len·1·lists
+        len·1·missing len·1·cells is1 v2 r2 ws2 e2 is2 ν·3·4 δ·3·4 ν·3·5 δ·3·5 ν·3·6 δ·3·6 ν·3·7 δ·3·7 ν·3·8 δ·3·8 ν·3·9 δ·3·9 ν·3·11 δ·3·11 ν·3·12
+        δ·3·12 ν·3·14 δ·3·14 ν·3·21 δ·3·21 ν·3·22 δ·3·22 v3 r3 ws3 e3 len·3·vars len·3·index len·3·words len·3·defs len·3·rows len·3·lists len·3·kept
+        len·3·feet len·3·cells len·3·ids len·3·memo len·3·facts is3 va·3·25 isa·3·25 ν·4·3 δ·4·3 ν·4·4 δ·4·4 v4 r4 ws4 e4·0 e4·1 len·4·index
+        len·4·missing is4 v5 r5 ws5 e5 is5 v6 r6 ws6 e6 is6))))))))))
 
     seg·10 : (l0 : ℕ) (l1 : ℕ) (l2 : ℕ) (l3 : ℕ) (l4 : ℕ) (l5 : ℕ) (l6 : ℕ) (l7 : ℕ) (l8 : ℕ) (l9 : ℕ) (l10 : ℕ) (l11 : ℕ) (l12 : ℕ) (l13 : ℕ)
         (l14 : ℕ) (l15 : ℕ) (l16 : ℕ) (l17 : ℕ) (l18 : ℕ) (l19 : ℕ) (l20 : ℕ) (l21 : ℕ) (l22 : ℕ) (l23 : ℕ) (l24 : ℕ) (l25 : ℕ) (l26 : ℕ) (l27 : ℕ)
@@ -3678,14 +3841,14 @@ module _ {M : Type 1} (𝓤 : URA M) (H : Heap 𝓤) (A : Atoms 𝓤) (W : Given
         (l56 : ℕ) (l57 : ℕ) (l58 : ℕ) (l59 : ℕ) (l60 : ℕ) (l61 : ℕ) (l62 : ℕ) (l63 : ℕ) (l64 : ℕ) (l65 : ℕ) (l66 : ℕ) (l67 : ℕ) (l68 : ℕ) (l69 : ℕ)
         (l70 : ℕ) (l71 : ℕ) (l72 : ℕ) (l73 : ℕ) (l74 : ℕ) (l75 : ℕ) (l76 : ℕ) (l77 : ℕ) (l78 : ℕ) (l79 : ℕ) (l80 : ℕ) (l81 : ℕ) (l82 : ℕ) (l83 : ℕ)
         (l84 : ℕ) (l85 : ℕ) (l86 : ℕ) (l87 : ℕ) (l88 : ℕ) (l89 : ℕ) (l90 : ℕ) (l91 : ℕ) (l92 : ℕ) (l93 : ℕ) (l94 : ℕ) (l95 : ℕ) (l96 : ℕ) (l97 : ℕ)
-        (l98 : ℕ) (l99 : ℕ) (l100 : ℕ) (l101 : ℕ) (l102 : ℕ) (l103 : ℕ) (l104 : ℕ) (l105 : ℕ) (l106 : ℕ) (l107 : ℕ) (ν·1·3 : ℕ) (δ·1·3 : GName)
-        (ν·1·4 : ℕ) (δ·1·4 : GName) (ν·1·5 : ℕ) (δ·1·5 : GName) (ν·1·6 : ℕ) (δ·1·6 : GName) (ν·1·7 : ℕ) (δ·1·7 : GName) (ν·1·8 : ℕ) (δ·1·8 : GName)
-        (ν·1·9 : ℕ) (δ·1·9 : GName) (ν·1·10 : ℕ) (δ·1·10 : GName) (ν·1·11 : ℕ) (δ·1·11 : GName) (ν·1·12 : ℕ) (δ·1·12 : GName) (ν·1·13 : ℕ)
-        (δ·1·13 : GName) (ν·1·14 : ℕ) (δ·1·14 : GName) (ν·1·15 : ℕ) (δ·1·15 : GName) (ν·1·16 : ℕ) (δ·1·16 : GName) (ν·1·17 : ℕ) (δ·1·17 : GName)
-        (ν·1·18 : ℕ) (δ·1·18 : GName) (v1 : Val) (r1 : Run) (ws1 : (Unit {0} ×
-        (Unit {0} × (Unit {0} × ((List ℕ) × ((List ℕ) × ((List ℕ) × ((List ℕ) ×
+        (l98 : ℕ) (l99 : ℕ) (l100 : ℕ) (l101 : ℕ) (l102 : ℕ) (l103 : ℕ) (l104 : ℕ) (l105 : ℕ) (l106 : ℕ) (l107 : ℕ) (l108 : ℕ) (l109 : ℕ) (l110 : ℕ)
+        (ν·1·3 : ℕ) (δ·1·3 : GName) (ν·1·4 : ℕ) (δ·1·4 : GName) (ν·1·5 : ℕ) (δ·1·5 : GName) (ν·1·6 : ℕ) (δ·1·6 : GName) (ν·1·7 : ℕ) (δ·1·7 : GName)
+        (ν·1·8 : ℕ) (δ·1·8 : GName) (ν·1·9 : ℕ) (δ·1·9 : GName) (ν·1·10 : ℕ) (δ·1·10 : GName) (ν·1·11 : ℕ) (δ·1·11 : GName) (ν·1·12 : ℕ)
+        (δ·1·12 : GName) (ν·1·13 : ℕ) (δ·1·13 : GName) (ν·1·14 : ℕ) (δ·1·14 : GName) (ν·1·15 : ℕ) (δ·1·15 : GName) (ν·1·16 : ℕ) (δ·1·16 : GName)
+        (ν·1·17 : ℕ) (δ·1·17 : GName) (ν·1·18 : ℕ) (δ·1·18 : GName) (v1 : Val) (r1 : Run)
+        (ws1 : (Unit {0} × (Unit {0} × (Unit {0} × ((List ℕ) × ((List ℕ) × ((List ℕ) ×
         ((List ℕ) × ((List ℕ) × ((List ℕ) × ((List ℕ) × ((List ℕ) × ((List ℕ) ×
-        ((List ℕ) × ((List ℕ) × ((List ℕ) × (Unit {0} × (Unit {0} × ((List ℕ) × (Unit {0} × Unit {0})))))))))))))))))))))
+        ((List ℕ) × ((List ℕ) × ((List ℕ) × ((List ℕ) × (Unit {0} × (Unit {0} × ((List ℕ) × (Unit {0} × Unit {0})))))))))))))))))))))
         (e1·0 : Begun theory goals proof (length facts) (theoryLists sorts symbols inputs rules rulevars patterns)
         (theoryLists (ws1 .1 .1 .1 .0) (ws1 .1 .1 .1 .1 .0) (ws1 .1 .1 .1 .1 .1 .0) (ws1 .1 .1 .1 .1 .1 .1 .0) (ws1 .1 .1 .1 .1 .1 .1 .1 .0)
         (ws1 .1 .1 .1 .1 .1 .1 .1 .1 .0)) (working vars index words defs rows lists)
@@ -3706,11 +3869,11 @@ module _ {M : Type 1} (𝓤 : URA M) (H : Heap 𝓤) (A : Atoms 𝓤) (W : Given
         (len·1·cells : length (ws1 .1 .1 .1 .1 .1 .1 .1 .1 .1 .1 .1 .1 .1 .1 .1 .1 .1 .1 .0) ≡ length cells) (is1 : Is RunT.the-row r1 (v1 ∷ []))
         (v2 : Val) (r2 : Counts) (ws2 : Unit {0}) (e2 : r2 ≡ none) (is2 : Is CountsT.the-row r2 (v2 ∷ [])) (ν·3·4 : ℕ) (δ·3·4 : GName) (ν·3·5 : ℕ)
         (δ·3·5 : GName) (ν·3·6 : ℕ) (δ·3·6 : GName) (ν·3·7 : ℕ) (δ·3·7 : GName) (ν·3·8 : ℕ) (δ·3·8 : GName) (ν·3·9 : ℕ) (δ·3·9 : GName) (ν·3·11 : ℕ)
-        (δ·3·11 : GName) (ν·3·12 : ℕ) (δ·3·12 : GName) (ν·3·14 : ℕ) (δ·3·14 : GName) (ν·3·20 : ℕ) (δ·3·20 : GName) (ν·3·21 : ℕ) (δ·3·21 : GName)
+        (δ·3·11 : GName) (ν·3·12 : ℕ) (δ·3·12 : GName) (ν·3·14 : ℕ) (δ·3·14 : GName) (ν·3·21 : ℕ) (δ·3·21 : GName) (ν·3·22 : ℕ) (δ·3·22 : GName)
         (v3 : Val) (r3 : Run) (ws3 : (Unit {0} × (Unit {0} × (Unit {0} × (Unit {0} ×
         (Unit {0} × (Unit {0} × (Unit {0} × (Unit {0} × (Unit {0} × (Unit {0} ×
         ((List ℕ) × ((List ℕ) × ((List ℕ) × ((List ℕ) × ((List ℕ) × ((List ℕ) ×
-        ((List ℕ) × ((List ℕ) × ((List ℕ) × ((List ℕ) × ((List Fact) × (Counts × Unit {0})))))))))))))))))))))))
+        ((List ℕ) × ((List ℕ) × ((List ℕ) × ((List ℕ) × ((List ℕ) × ((List Fact) × (Counts × Unit {0}))))))))))))))))))))))))
         (e3 : Ran theory goals proof (theoryLists (ws1 .1 .1 .1 .0) (ws1 .1 .1 .1 .1 .0) (ws1 .1 .1 .1 .1 .1 .0) (ws1 .1 .1 .1 .1 .1 .1 .0)
         (ws1 .1 .1 .1 .1 .1 .1 .1 .0) (ws1 .1 .1 .1 .1 .1 .1 .1 .1 .0)) (working (ws1 .1 .1 .1 .1 .1 .1 .1 .1 .1 .0)
         (ws1 .1 .1 .1 .1 .1 .1 .1 .1 .1 .1 .0) (ws1 .1 .1 .1 .1 .1 .1 .1 .1 .1 .1 .1 .0) (ws1 .1 .1 .1 .1 .1 .1 .1 .1 .1 .1 .1 .1 .0)
@@ -3719,8 +3882,9 @@ module _ {M : Type 1} (𝓤 : URA M) (H : Heap 𝓤) (A : Atoms 𝓤) (W : Given
         (ws3 .1 .1 .1 .1 .1 .1 .1 .1 .1 .1 .1 .1 .1 .0) (ws3 .1 .1 .1 .1 .1 .1 .1 .1 .1 .1 .1 .1 .1 .1 .0)
         (ws3 .1 .1 .1 .1 .1 .1 .1 .1 .1 .1 .1 .1 .1 .1 .1 .0)) (ws3 .1 .1 .1 .1 .1 .1 .1 .1 .1 .1 .1 .1 .1 .1 .1 .1 .0)
         (ws3 .1 .1 .1 .1 .1 .1 .1 .1 .1 .1 .1 .1 .1 .1 .1 .1 .1 .0) (ws3 .1 .1 .1 .1 .1 .1 .1 .1 .1 .1 .1 .1 .1 .1 .1 .1 .1 .1 .0)
-        (ws3 .1 .1 .1 .1 .1 .1 .1 .1 .1 .1 .1 .1 .1 .1 .1 .1 .1 .1 .1 .0) r1 r3 facts
-        (ws3 .1 .1 .1 .1 .1 .1 .1 .1 .1 .1 .1 .1 .1 .1 .1 .1 .1 .1 .1 .1 .0) (ws3 .1 .1 .1 .1 .1 .1 .1 .1 .1 .1 .1 .1 .1 .1 .1 .1 .1 .1 .1 .1 .1 .0))
+        (ws3 .1 .1 .1 .1 .1 .1 .1 .1 .1 .1 .1 .1 .1 .1 .1 .1 .1 .1 .1 .0) (ws3 .1 .1 .1 .1 .1 .1 .1 .1 .1 .1 .1 .1 .1 .1 .1 .1 .1 .1 .1 .1 .0) r1 r3
+        facts (ws3 .1 .1 .1 .1 .1 .1 .1 .1 .1 .1 .1 .1 .1 .1 .1 .1 .1 .1 .1 .1 .1 .0)
+        (ws3 .1 .1 .1 .1 .1 .1 .1 .1 .1 .1 .1 .1 .1 .1 .1 .1 .1 .1 .1 .1 .1 .1 .0))
         (len·3·vars : length (ws3 .1 .1 .1 .1 .1 .1 .1 .1 .1 .1 .0) ≡ length (ws1 .1 .1 .1 .1 .1 .1 .1 .1 .1 .0))
         (len·3·index : length (ws3 .1 .1 .1 .1 .1 .1 .1 .1 .1 .1 .1 .0) ≡ length (ws1 .1 .1 .1 .1 .1 .1 .1 .1 .1 .1 .0))
         (len·3·words : length (ws3 .1 .1 .1 .1 .1 .1 .1 .1 .1 .1 .1 .1 .0) ≡ length (ws1 .1 .1 .1 .1 .1 .1 .1 .1 .1 .1 .1 .0))
@@ -3732,7 +3896,8 @@ module _ {M : Type 1} (𝓤 : URA M) (H : Heap 𝓤) (A : Atoms 𝓤) (W : Given
         (len·3·cells : length (ws3 .1 .1 .1 .1 .1 .1 .1 .1 .1 .1 .1 .1 .1 .1 .1 .1 .1 .1 .0) ≡ length
         (ws1 .1 .1 .1 .1 .1 .1 .1 .1 .1 .1 .1 .1 .1 .1 .1 .1 .1 .1 .0)) (len·3·ids : length
         (ws3 .1 .1 .1 .1 .1 .1 .1 .1 .1 .1 .1 .1 .1 .1 .1 .1 .1 .1 .1 .0) ≡ length ids)
-        (len·3·facts : length (ws3 .1 .1 .1 .1 .1 .1 .1 .1 .1 .1 .1 .1 .1 .1 .1 .1 .1 .1 .1 .1 .0) ≡ length facts)
+        (len·3·memo : length (ws3 .1 .1 .1 .1 .1 .1 .1 .1 .1 .1 .1 .1 .1 .1 .1 .1 .1 .1 .1 .1 .0) ≡ length memo)
+        (len·3·facts : length (ws3 .1 .1 .1 .1 .1 .1 .1 .1 .1 .1 .1 .1 .1 .1 .1 .1 .1 .1 .1 .1 .1 .0) ≡ length facts)
         (is3 : Is RunT.the-row r3 (v3 ∷ [])) →
         Sq W (‵ (MutSlice (named 11) κ·words u32 .own (ref·words γ·words (ws3 .1 .1 .1 .1 .1 .1 .1 .1 .1 .1 .1 .1 .0)) (s·words ∷ []))
         ∷ ‵ (flft κ·words q·words)
@@ -3750,8 +3915,9 @@ module _ {M : Type 1} (𝓤 : URA M) (H : Heap 𝓤) (A : Atoms 𝓤) (W : Given
         ∷ ‵ (flft κ·symbols q·symbols)
         ∷ ‵ (MutSlice (named 3) κ·sorts u32 .own (ref·sorts γ·sorts (ws1 .1 .1 .1 .0)) (s·sorts ∷ []))
         ∷ ‵ (flft κ·sorts q·sorts)
+        ∷ ‵ (flft (ν·3·22 ∷ []) fullShare)
         ∷ ‵ (flft (ν·3·21 ∷ []) fullShare)
-        ∷ ‵ (flft (ν·3·20 ∷ []) fullShare)
+        ∷ ‵ (flft κ·memo q·memo)
         ∷ ‵ (flft κ·ids q·ids)
         ∷ ‵ (flft κ·cells q·cells)
         ∷ ‵ (flft κ·feet q·feet)
@@ -3763,8 +3929,9 @@ module _ {M : Type 1} (𝓤 : URA M) (H : Heap 𝓤) (A : Atoms 𝓤) (W : Given
         ∷ ‵ (flft κ·proof q·proof)
         ∷ ‵ (flft κ·goals q·goals)
         ∷ ‵ (flft κ·theory q·theory)
-        ∷ ‵ (fres δ·3·21 (CountsT.the-row .coded .code (ws3 .1 .1 .1 .1 .1 .1 .1 .1 .1 .1 .1 .1 .1 .1 .1 .1 .1 .1 .1 .1 .1 .0)))
-        ∷ ‵ (finally FactT.the-row δ·3·20 (ws3 .1 .1 .1 .1 .1 .1 .1 .1 .1 .1 .1 .1 .1 .1 .1 .1 .1 .1 .1 .1 .0))
+        ∷ ‵ (fres δ·3·22 (CountsT.the-row .coded .code (ws3 .1 .1 .1 .1 .1 .1 .1 .1 .1 .1 .1 .1 .1 .1 .1 .1 .1 .1 .1 .1 .1 .1 .0)))
+        ∷ ‵ (finally FactT.the-row δ·3·21 (ws3 .1 .1 .1 .1 .1 .1 .1 .1 .1 .1 .1 .1 .1 .1 .1 .1 .1 .1 .1 .1 .1 .0))
+        ∷ ‵ (finally u32 γ·memo (ws3 .1 .1 .1 .1 .1 .1 .1 .1 .1 .1 .1 .1 .1 .1 .1 .1 .1 .1 .1 .1 .0))
         ∷ ‵ (finally u32 γ·ids (ws3 .1 .1 .1 .1 .1 .1 .1 .1 .1 .1 .1 .1 .1 .1 .1 .1 .1 .1 .1 .0))
         ∷ ‵ (finally u32 γ·cells (ws3 .1 .1 .1 .1 .1 .1 .1 .1 .1 .1 .1 .1 .1 .1 .1 .1 .1 .1 .0))
         ∷ ‵ (finally u64 γ·feet (ws3 .1 .1 .1 .1 .1 .1 .1 .1 .1 .1 .1 .1 .1 .1 .1 .1 .1 .0))
@@ -3773,185 +3940,191 @@ module _ {M : Type 1} (𝓤 : URA M) (H : Heap 𝓤) (A : Atoms 𝓤) (W : Given
         ∷ ‵ (finally u32 δ·3·14 (ws3 .1 .1 .1 .1 .1 .1 .1 .1 .1 .1 .1 .1 .1 .1 .0))
         ∷ ‵ (finally u32 γ·defs (ws3 .1 .1 .1 .1 .1 .1 .1 .1 .1 .1 .1 .1 .1 .0))
         ∷ ‵ (finally u32 γ·vars (ws3 .1 .1 .1 .1 .1 .1 .1 .1 .1 .1 .0))
-        ∷ ‵ (flent (ν·3·21 ∷ []) (Body·T (mem·T CountsT.the-row) l24 0 δ·3·21))
-        ∷ ‵ (LentAgain FactT.the-row κ·facts (ν·3·20 ∷ []) q·facts γ·facts b·facts o·facts δ·3·20 facts)
+        ∷ ‵ (flent (ν·3·22 ∷ []) (Body·T (mem·T CountsT.the-row) l25 0 δ·3·22))
+        ∷ ‵ (LentAgain FactT.the-row κ·facts (ν·3·21 ∷ []) q·facts γ·facts b·facts o·facts δ·3·21 facts)
         ∷ ‵ (LentAgain u32 κ·rows (ν·3·14 ∷ []) q·rows γ·rows b·rows o·rows δ·3·14 (ws1 .1 .1 .1 .1 .1 .1 .1 .1 .1 .1 .1 .1 .1 .0))
         ∷ ‵ (ShrSlice (named 2) κ·proof u8 .own (ref·proof γ·proof proof) (s·proof ∷ []))
         ∷ ‵ (ShrSlice (named 1) κ·goals u8 .own (ref·goals γ·goals goals) (s·goals ∷ []))
         ∷ ‵ (ShrSlice (named 0) κ·theory u8 .own (ref·theory γ·theory theory) (s·theory ∷ []))
         ∷ ‵ (MutSlice (named 15) κ·missing u32 .own (ref·missing γ·missing (ws1 .1 .1 .1 .1 .1 .1 .1 .1 .1 .1 .1 .1 .1 .1 .1 .0)) (s·missing ∷ []))
         ∷ ‵ (flft κ·missing q·missing)
-        ∷ ‵ (froom (tyInt w64) l107 0)
-        ∷ ‵ (fdies (tyInt w64) l107)
-        ∷ ‵ (froom (tyInt w64) l106 0)
-        ∷ ‵ (fdies (tyInt w64) l106)
-        ∷ ‵ (froom (sliceTy (tyRef erased mut (pointee (FactT.the-row .written)))) l105 0)
-        ∷ ‵ (fdies (sliceTy (tyRef erased mut (pointee (FactT.the-row .written)))) l105)
-        ∷ ‵ (froom (tyRef erased mut (pointee (FactT.the-row .written))) l104 0)
-        ∷ ‵ (fdies (tyRef erased mut (pointee (FactT.the-row .written))) l104)
-        ∷ ‵ (froom tyUnit l103 0)
-        ∷ ‵ (fdies tyUnit l103)
-        ∷ ‵ (froom (sliceTy (tyRef erased mut (tyInt w32))) l102 0)
-        ∷ ‵ (fdies (sliceTy (tyRef erased mut (tyInt w32))) l102)
-        ∷ ‵ (froom (tyRef erased mut (tyInt w32)) l101 0)
-        ∷ ‵ (fdies (tyRef erased mut (tyInt w32)) l101)
-        ∷ ‵ (froom (sliceTy (tyRef erased imm (tyInt w32))) l100 0)
-        ∷ ‵ (fdies (sliceTy (tyRef erased imm (tyInt w32))) l100)
-        ∷ ‵ (froom (tyRef erased imm (tyInt w32)) l99 0)
-        ∷ ‵ (fdies (tyRef erased imm (tyInt w32)) l99)
-        ∷ ‵ (froom (sliceTy (tyRef erased imm (tyInt w32))) l98 0)
-        ∷ ‵ (fdies (sliceTy (tyRef erased imm (tyInt w32))) l98)
-        ∷ ‵ (froom (tyRef erased imm (tyInt w32)) l97 0)
-        ∷ ‵ (fdies (tyRef erased imm (tyInt w32)) l97)
-        ∷ ‵ (froom (sliceTy (tyRef erased mut (tyInt w32))) l96 0)
-        ∷ ‵ (fdies (sliceTy (tyRef erased mut (tyInt w32))) l96)
-        ∷ ‵ (froom (tyRef erased mut (tyInt w32)) l95 0)
-        ∷ ‵ (fdies (tyRef erased mut (tyInt w32)) l95)
-        ∷ ‵ (fat fullShare (tyRef erased mut (pointee (CountsT.the-row .written))) l94 0 (vptr l24 0))
-        ∷ ‵ (fdies (tyRef erased mut (pointee (CountsT.the-row .written))) l94)
-        ∷ ‵ (fat fullShare (sliceTy (tyRef erased mut (pointee (FactT.the-row .written)))) l93 0 s·facts)
-        ∷ ‵ (fdies (sliceTy (tyRef erased mut (pointee (FactT.the-row .written)))) l93)
-        ∷ ‵ (fat fullShare (tyRef erased mut (pointee (FactT.the-row .written))) l92 0 (vptr b·facts o·facts))
-        ∷ ‵ (fdies (tyRef erased mut (pointee (FactT.the-row .written))) l92)
-        ∷ ‵ (fat fullShare (sliceTy (tyRef erased mut (tyInt w32))) l91 0 s·ids)
-        ∷ ‵ (fdies (sliceTy (tyRef erased mut (tyInt w32))) l91)
-        ∷ ‵ (fat fullShare (tyRef erased mut (tyInt w32)) l90 0 (vptr b·ids o·ids))
-        ∷ ‵ (fdies (tyRef erased mut (tyInt w32)) l90)
-        ∷ ‵ (fat fullShare (sliceTy (tyRef erased mut (tyInt w32))) l89 0 s·cells)
-        ∷ ‵ (fdies (sliceTy (tyRef erased mut (tyInt w32))) l89)
-        ∷ ‵ (fat fullShare (tyRef erased mut (tyInt w32)) l88 0 (vptr b·cells o·cells))
-        ∷ ‵ (fdies (tyRef erased mut (tyInt w32)) l88)
-        ∷ ‵ (fat fullShare (sliceTy (tyRef erased mut (tyInt w64))) l87 0 s·feet)
-        ∷ ‵ (fdies (sliceTy (tyRef erased mut (tyInt w64))) l87)
-        ∷ ‵ (fat fullShare (tyRef erased mut (tyInt w64)) l86 0 (vptr b·feet o·feet))
-        ∷ ‵ (fdies (tyRef erased mut (tyInt w64)) l86)
-        ∷ ‵ (fat fullShare (sliceTy (tyRef erased mut (tyInt w32))) l85 0 s·kept)
-        ∷ ‵ (fdies (sliceTy (tyRef erased mut (tyInt w32))) l85)
-        ∷ ‵ (fat fullShare (tyRef erased mut (tyInt w32)) l84 0 (vptr b·kept o·kept))
-        ∷ ‵ (fdies (tyRef erased mut (tyInt w32)) l84)
-        ∷ ‵ (fat fullShare (sliceTy (tyRef erased mut (tyInt w32))) l83 0 s·lists)
-        ∷ ‵ (fdies (sliceTy (tyRef erased mut (tyInt w32))) l83)
-        ∷ ‵ (fat fullShare (tyRef erased mut (tyInt w32)) l82 0 (vptr b·lists o·lists))
-        ∷ ‵ (fdies (tyRef erased mut (tyInt w32)) l82)
-        ∷ ‵ (fat fullShare (sliceTy (tyRef erased mut (tyInt w32))) l81 0 s·rows)
-        ∷ ‵ (fdies (sliceTy (tyRef erased mut (tyInt w32))) l81)
-        ∷ ‵ (fat fullShare (tyRef erased mut (tyInt w32)) l80 0 (vptr b·rows o·rows))
-        ∷ ‵ (fdies (tyRef erased mut (tyInt w32)) l80)
-        ∷ ‵ (fat fullShare (sliceTy (tyRef erased mut (tyInt w32))) l79 0 s·defs)
-        ∷ ‵ (fdies (sliceTy (tyRef erased mut (tyInt w32))) l79)
-        ∷ ‵ (fat fullShare (tyRef erased mut (tyInt w32)) l78 0 (vptr b·defs o·defs))
-        ∷ ‵ (fdies (tyRef erased mut (tyInt w32)) l78)
-        ∷ ‵ (fat fullShare (sliceTy (tyRef erased mut (tyInt w32))) l77 0 s·words)
-        ∷ ‵ (fdies (sliceTy (tyRef erased mut (tyInt w32))) l77)
-        ∷ ‵ (fat fullShare (tyRef erased mut (tyInt w32)) l76 0 (vptr b·words o·words))
-        ∷ ‵ (fdies (tyRef erased mut (tyInt w32)) l76)
-        ∷ ‵ (fat fullShare (sliceTy (tyRef erased mut (tyInt w32))) l75 0 s·index)
-        ∷ ‵ (fdies (sliceTy (tyRef erased mut (tyInt w32))) l75)
-        ∷ ‵ (fat fullShare (tyRef erased mut (tyInt w32)) l74 0 (vptr b·index o·index))
-        ∷ ‵ (fdies (tyRef erased mut (tyInt w32)) l74)
-        ∷ ‵ (fat fullShare (sliceTy (tyRef erased mut (tyInt w32))) l73 0 s·vars)
-        ∷ ‵ (fdies (sliceTy (tyRef erased mut (tyInt w32))) l73)
-        ∷ ‵ (fat fullShare (tyRef erased mut (tyInt w32)) l72 0 (vptr b·vars o·vars))
-        ∷ ‵ (fdies (tyRef erased mut (tyInt w32)) l72)
-        ∷ ‵ (fat fullShare (sliceTy (tyRef erased imm (tyInt w32))) l71 0 s·patterns)
-        ∷ ‵ (fdies (sliceTy (tyRef erased imm (tyInt w32))) l71)
-        ∷ ‵ (fat fullShare (tyRef erased imm (tyInt w32)) l70 0 (vptr b·patterns o·patterns))
-        ∷ ‵ (fdies (tyRef erased imm (tyInt w32)) l70)
-        ∷ ‵ (fat fullShare (sliceTy (tyRef erased imm (tyInt w32))) l69 0 s·rulevars)
-        ∷ ‵ (fdies (sliceTy (tyRef erased imm (tyInt w32))) l69)
-        ∷ ‵ (fat fullShare (tyRef erased imm (tyInt w32)) l68 0 (vptr b·rulevars o·rulevars))
-        ∷ ‵ (fdies (tyRef erased imm (tyInt w32)) l68)
-        ∷ ‵ (fat fullShare (sliceTy (tyRef erased imm (tyInt w32))) l67 0 s·rules)
-        ∷ ‵ (fdies (sliceTy (tyRef erased imm (tyInt w32))) l67)
-        ∷ ‵ (fat fullShare (tyRef erased imm (tyInt w32)) l66 0 (vptr b·rules o·rules))
-        ∷ ‵ (fdies (tyRef erased imm (tyInt w32)) l66)
-        ∷ ‵ (fat fullShare (sliceTy (tyRef erased imm (tyInt w32))) l65 0 s·inputs)
-        ∷ ‵ (fdies (sliceTy (tyRef erased imm (tyInt w32))) l65)
-        ∷ ‵ (fat fullShare (tyRef erased imm (tyInt w32)) l64 0 (vptr b·inputs o·inputs))
-        ∷ ‵ (fdies (tyRef erased imm (tyInt w32)) l64)
-        ∷ ‵ (fat fullShare (sliceTy (tyRef erased imm (tyInt w32))) l63 0 s·symbols)
-        ∷ ‵ (fdies (sliceTy (tyRef erased imm (tyInt w32))) l63)
-        ∷ ‵ (fat fullShare (tyRef erased imm (tyInt w32)) l62 0 (vptr b·symbols o·symbols))
-        ∷ ‵ (fdies (tyRef erased imm (tyInt w32)) l62)
-        ∷ ‵ (fat fullShare (sliceTy (tyRef erased imm (tyInt w32))) l61 0 s·sorts)
-        ∷ ‵ (fdies (sliceTy (tyRef erased imm (tyInt w32))) l61)
-        ∷ ‵ (fat fullShare (tyRef erased imm (tyInt w32)) l60 0 (vptr b·sorts o·sorts))
-        ∷ ‵ (fdies (tyRef erased imm (tyInt w32)) l60)
-        ∷ ‵ (fat fullShare CountsL.mir l59 0 v2)
-        ∷ ‵ (fdies CountsL.mir l59)
-        ∷ ‵ (fat fullShare (sliceTy (tyRef erased mut (tyInt w32))) l58 0 s·cells)
-        ∷ ‵ (fdies (sliceTy (tyRef erased mut (tyInt w32))) l58)
-        ∷ ‵ (fat fullShare (tyRef erased mut (tyInt w32)) l57 0 (vptr b·cells o·cells))
-        ∷ ‵ (fdies (tyRef erased mut (tyInt w32)) l57)
-        ∷ ‵ (fat fullShare (sliceTy (tyRef erased imm (tyInt w64))) l56 0 s·feet)
-        ∷ ‵ (fdies (sliceTy (tyRef erased imm (tyInt w64))) l56)
-        ∷ ‵ (fat fullShare (tyRef erased imm (tyInt w64)) l55 0 (vptr b·feet o·feet))
-        ∷ ‵ (fdies (tyRef erased imm (tyInt w64)) l55)
-        ∷ ‵ (fat fullShare (sliceTy (tyRef erased imm (tyInt w32))) l54 0 s·kept)
-        ∷ ‵ (fdies (sliceTy (tyRef erased imm (tyInt w32))) l54)
-        ∷ ‵ (fat fullShare (tyRef erased imm (tyInt w32)) l53 0 (vptr b·kept o·kept))
-        ∷ ‵ (fdies (tyRef erased imm (tyInt w32)) l53)
-        ∷ ‵ (fat fullShare (sliceTy (tyRef erased mut (tyInt w32))) l52 0 s·missing)
-        ∷ ‵ (fdies (sliceTy (tyRef erased mut (tyInt w32))) l52)
-        ∷ ‵ (fat fullShare (tyRef erased mut (tyInt w32)) l51 0 (vptr b·missing o·missing))
-        ∷ ‵ (fdies (tyRef erased mut (tyInt w32)) l51)
-        ∷ ‵ (fat fullShare (sliceTy (tyRef erased mut (tyInt w32))) l50 0 s·lists)
-        ∷ ‵ (fdies (sliceTy (tyRef erased mut (tyInt w32))) l50)
-        ∷ ‵ (fat fullShare (tyRef erased mut (tyInt w32)) l49 0 (vptr b·lists o·lists))
-        ∷ ‵ (fdies (tyRef erased mut (tyInt w32)) l49)
-        ∷ ‵ (fat fullShare (sliceTy (tyRef erased mut (tyInt w32))) l48 0 s·rows)
-        ∷ ‵ (fdies (sliceTy (tyRef erased mut (tyInt w32))) l48)
-        ∷ ‵ (fat fullShare (tyRef erased mut (tyInt w32)) l47 0 (vptr b·rows o·rows))
-        ∷ ‵ (fdies (tyRef erased mut (tyInt w32)) l47)
-        ∷ ‵ (fat fullShare (sliceTy (tyRef erased mut (tyInt w32))) l46 0 s·defs)
-        ∷ ‵ (fdies (sliceTy (tyRef erased mut (tyInt w32))) l46)
-        ∷ ‵ (fat fullShare (tyRef erased mut (tyInt w32)) l45 0 (vptr b·defs o·defs))
-        ∷ ‵ (fdies (tyRef erased mut (tyInt w32)) l45)
-        ∷ ‵ (fat fullShare (sliceTy (tyRef erased mut (tyInt w32))) l44 0 s·words)
-        ∷ ‵ (fdies (sliceTy (tyRef erased mut (tyInt w32))) l44)
-        ∷ ‵ (fat fullShare (tyRef erased mut (tyInt w32)) l43 0 (vptr b·words o·words))
-        ∷ ‵ (fdies (tyRef erased mut (tyInt w32)) l43)
-        ∷ ‵ (fat fullShare (sliceTy (tyRef erased mut (tyInt w32))) l42 0 s·index)
-        ∷ ‵ (fdies (sliceTy (tyRef erased mut (tyInt w32))) l42)
-        ∷ ‵ (fat fullShare (tyRef erased mut (tyInt w32)) l41 0 (vptr b·index o·index))
-        ∷ ‵ (fdies (tyRef erased mut (tyInt w32)) l41)
-        ∷ ‵ (fat fullShare (sliceTy (tyRef erased mut (tyInt w32))) l40 0 s·vars)
-        ∷ ‵ (fdies (sliceTy (tyRef erased mut (tyInt w32))) l40)
-        ∷ ‵ (fat fullShare (tyRef erased mut (tyInt w32)) l39 0 (vptr b·vars o·vars))
-        ∷ ‵ (fdies (tyRef erased mut (tyInt w32)) l39)
-        ∷ ‵ (fat fullShare (sliceTy (tyRef erased mut (tyInt w32))) l38 0 s·patterns)
-        ∷ ‵ (fdies (sliceTy (tyRef erased mut (tyInt w32))) l38)
-        ∷ ‵ (fat fullShare (tyRef erased mut (tyInt w32)) l37 0 (vptr b·patterns o·patterns))
-        ∷ ‵ (fdies (tyRef erased mut (tyInt w32)) l37)
-        ∷ ‵ (fat fullShare (sliceTy (tyRef erased mut (tyInt w32))) l36 0 s·rulevars)
-        ∷ ‵ (fdies (sliceTy (tyRef erased mut (tyInt w32))) l36)
-        ∷ ‵ (fat fullShare (tyRef erased mut (tyInt w32)) l35 0 (vptr b·rulevars o·rulevars))
-        ∷ ‵ (fdies (tyRef erased mut (tyInt w32)) l35)
-        ∷ ‵ (fat fullShare (sliceTy (tyRef erased mut (tyInt w32))) l34 0 s·rules)
-        ∷ ‵ (fdies (sliceTy (tyRef erased mut (tyInt w32))) l34)
-        ∷ ‵ (fat fullShare (tyRef erased mut (tyInt w32)) l33 0 (vptr b·rules o·rules))
-        ∷ ‵ (fdies (tyRef erased mut (tyInt w32)) l33)
-        ∷ ‵ (fat fullShare (sliceTy (tyRef erased mut (tyInt w32))) l32 0 s·inputs)
-        ∷ ‵ (fdies (sliceTy (tyRef erased mut (tyInt w32))) l32)
-        ∷ ‵ (fat fullShare (tyRef erased mut (tyInt w32)) l31 0 (vptr b·inputs o·inputs))
-        ∷ ‵ (fdies (tyRef erased mut (tyInt w32)) l31)
-        ∷ ‵ (fat fullShare (sliceTy (tyRef erased mut (tyInt w32))) l30 0 s·symbols)
-        ∷ ‵ (fdies (sliceTy (tyRef erased mut (tyInt w32))) l30)
-        ∷ ‵ (fat fullShare (tyRef erased mut (tyInt w32)) l29 0 (vptr b·symbols o·symbols))
-        ∷ ‵ (fdies (tyRef erased mut (tyInt w32)) l29)
-        ∷ ‵ (fat fullShare (sliceTy (tyRef erased mut (tyInt w32))) l28 0 s·sorts)
-        ∷ ‵ (fdies (sliceTy (tyRef erased mut (tyInt w32))) l28)
-        ∷ ‵ (fat fullShare (tyRef erased mut (tyInt w32)) l27 0 (vptr b·sorts o·sorts))
-        ∷ ‵ (fdies (tyRef erased mut (tyInt w32)) l27)
-        ∷ ‵ (froom AnswerL.mir l26 0)
-        ∷ ‵ (fdies AnswerL.mir l26)
-        ∷ ‵ (fat fullShare RunL.mir l25 0 v3)
-        ∷ ‵ (fdies RunL.mir l25)
-        ∷ ‵ (fdies CountsL.mir l24)
-        ∷ ‵ (fat fullShare RunL.mir l23 0 v1)
-        ∷ ‵ (fdies RunL.mir l23)
-        ∷ ‵ (fat fullShare (tyInt w64) l22 0 (vint w64 (length facts)))
-        ∷ ‵ (fdies (tyInt w64) l22)
+        ∷ ‵ (froom (tyInt w64) l110 0)
+        ∷ ‵ (fdies (tyInt w64) l110)
+        ∷ ‵ (froom (tyInt w64) l109 0)
+        ∷ ‵ (fdies (tyInt w64) l109)
+        ∷ ‵ (froom (sliceTy (tyRef erased mut (pointee (FactT.the-row .written)))) l108 0)
+        ∷ ‵ (fdies (sliceTy (tyRef erased mut (pointee (FactT.the-row .written)))) l108)
+        ∷ ‵ (froom (tyRef erased mut (pointee (FactT.the-row .written))) l107 0)
+        ∷ ‵ (fdies (tyRef erased mut (pointee (FactT.the-row .written))) l107)
+        ∷ ‵ (froom tyUnit l106 0)
+        ∷ ‵ (fdies tyUnit l106)
+        ∷ ‵ (froom (sliceTy (tyRef erased mut (tyInt w32))) l105 0)
+        ∷ ‵ (fdies (sliceTy (tyRef erased mut (tyInt w32))) l105)
+        ∷ ‵ (froom (tyRef erased mut (tyInt w32)) l104 0)
+        ∷ ‵ (fdies (tyRef erased mut (tyInt w32)) l104)
+        ∷ ‵ (froom (sliceTy (tyRef erased imm (tyInt w32))) l103 0)
+        ∷ ‵ (fdies (sliceTy (tyRef erased imm (tyInt w32))) l103)
+        ∷ ‵ (froom (tyRef erased imm (tyInt w32)) l102 0)
+        ∷ ‵ (fdies (tyRef erased imm (tyInt w32)) l102)
+        ∷ ‵ (froom (sliceTy (tyRef erased imm (tyInt w32))) l101 0)
+        ∷ ‵ (fdies (sliceTy (tyRef erased imm (tyInt w32))) l101)
+        ∷ ‵ (froom (tyRef erased imm (tyInt w32)) l100 0)
+        ∷ ‵ (fdies (tyRef erased imm (tyInt w32)) l100)
+        ∷ ‵ (froom (sliceTy (tyRef erased mut (tyInt w32))) l99 0)
+        ∷ ‵ (fdies (sliceTy (tyRef erased mut (tyInt w32))) l99)
+        ∷ ‵ (froom (tyRef erased mut (tyInt w32)) l98 0)
+        ∷ ‵ (fdies (tyRef erased mut (tyInt w32)) l98)
+        ∷ ‵ (fat fullShare (tyRef erased mut (pointee (CountsT.the-row .written))) l97 0 (vptr l25 0))
+        ∷ ‵ (fdies (tyRef erased mut (pointee (CountsT.the-row .written))) l97)
+        ∷ ‵ (fat fullShare (sliceTy (tyRef erased mut (pointee (FactT.the-row .written)))) l96 0 s·facts)
+        ∷ ‵ (fdies (sliceTy (tyRef erased mut (pointee (FactT.the-row .written)))) l96)
+        ∷ ‵ (fat fullShare (tyRef erased mut (pointee (FactT.the-row .written))) l95 0 (vptr b·facts o·facts))
+        ∷ ‵ (fdies (tyRef erased mut (pointee (FactT.the-row .written))) l95)
+        ∷ ‵ (fat fullShare (sliceTy (tyRef erased mut (tyInt w32))) l94 0 s·memo)
+        ∷ ‵ (fdies (sliceTy (tyRef erased mut (tyInt w32))) l94)
+        ∷ ‵ (fat fullShare (tyRef erased mut (tyInt w32)) l93 0 (vptr b·memo o·memo))
+        ∷ ‵ (fdies (tyRef erased mut (tyInt w32)) l93)
+        ∷ ‵ (fat fullShare (sliceTy (tyRef erased mut (tyInt w32))) l92 0 s·ids)
+        ∷ ‵ (fdies (sliceTy (tyRef erased mut (tyInt w32))) l92)
+        ∷ ‵ (fat fullShare (tyRef erased mut (tyInt w32)) l91 0 (vptr b·ids o·ids))
+        ∷ ‵ (fdies (tyRef erased mut (tyInt w32)) l91)
+        ∷ ‵ (fat fullShare (sliceTy (tyRef erased mut (tyInt w32))) l90 0 s·cells)
+        ∷ ‵ (fdies (sliceTy (tyRef erased mut (tyInt w32))) l90)
+        ∷ ‵ (fat fullShare (tyRef erased mut (tyInt w32)) l89 0 (vptr b·cells o·cells))
+        ∷ ‵ (fdies (tyRef erased mut (tyInt w32)) l89)
+        ∷ ‵ (fat fullShare (sliceTy (tyRef erased mut (tyInt w64))) l88 0 s·feet)
+        ∷ ‵ (fdies (sliceTy (tyRef erased mut (tyInt w64))) l88)
+        ∷ ‵ (fat fullShare (tyRef erased mut (tyInt w64)) l87 0 (vptr b·feet o·feet))
+        ∷ ‵ (fdies (tyRef erased mut (tyInt w64)) l87)
+        ∷ ‵ (fat fullShare (sliceTy (tyRef erased mut (tyInt w32))) l86 0 s·kept)
+        ∷ ‵ (fdies (sliceTy (tyRef erased mut (tyInt w32))) l86)
+        ∷ ‵ (fat fullShare (tyRef erased mut (tyInt w32)) l85 0 (vptr b·kept o·kept))
+        ∷ ‵ (fdies (tyRef erased mut (tyInt w32)) l85)
+        ∷ ‵ (fat fullShare (sliceTy (tyRef erased mut (tyInt w32))) l84 0 s·lists)
+        ∷ ‵ (fdies (sliceTy (tyRef erased mut (tyInt w32))) l84)
+        ∷ ‵ (fat fullShare (tyRef erased mut (tyInt w32)) l83 0 (vptr b·lists o·lists))
+        ∷ ‵ (fdies (tyRef erased mut (tyInt w32)) l83)
+        ∷ ‵ (fat fullShare (sliceTy (tyRef erased mut (tyInt w32))) l82 0 s·rows)
+        ∷ ‵ (fdies (sliceTy (tyRef erased mut (tyInt w32))) l82)
+        ∷ ‵ (fat fullShare (tyRef erased mut (tyInt w32)) l81 0 (vptr b·rows o·rows))
+        ∷ ‵ (fdies (tyRef erased mut (tyInt w32)) l81)
+        ∷ ‵ (fat fullShare (sliceTy (tyRef erased mut (tyInt w32))) l80 0 s·defs)
+        ∷ ‵ (fdies (sliceTy (tyRef erased mut (tyInt w32))) l80)
+        ∷ ‵ (fat fullShare (tyRef erased mut (tyInt w32)) l79 0 (vptr b·defs o·defs))
+        ∷ ‵ (fdies (tyRef erased mut (tyInt w32)) l79)
+        ∷ ‵ (fat fullShare (sliceTy (tyRef erased mut (tyInt w32))) l78 0 s·words)
+        ∷ ‵ (fdies (sliceTy (tyRef erased mut (tyInt w32))) l78)
+        ∷ ‵ (fat fullShare (tyRef erased mut (tyInt w32)) l77 0 (vptr b·words o·words))
+        ∷ ‵ (fdies (tyRef erased mut (tyInt w32)) l77)
+        ∷ ‵ (fat fullShare (sliceTy (tyRef erased mut (tyInt w32))) l76 0 s·index)
+        ∷ ‵ (fdies (sliceTy (tyRef erased mut (tyInt w32))) l76)
+        ∷ ‵ (fat fullShare (tyRef erased mut (tyInt w32)) l75 0 (vptr b·index o·index))
+        ∷ ‵ (fdies (tyRef erased mut (tyInt w32)) l75)
+        ∷ ‵ (fat fullShare (sliceTy (tyRef erased mut (tyInt w32))) l74 0 s·vars)
+        ∷ ‵ (fdies (sliceTy (tyRef erased mut (tyInt w32))) l74)
+        ∷ ‵ (fat fullShare (tyRef erased mut (tyInt w32)) l73 0 (vptr b·vars o·vars))
+        ∷ ‵ (fdies (tyRef erased mut (tyInt w32)) l73)
+        ∷ ‵ (fat fullShare (sliceTy (tyRef erased imm (tyInt w32))) l72 0 s·patterns)
+        ∷ ‵ (fdies (sliceTy (tyRef erased imm (tyInt w32))) l72)
+        ∷ ‵ (fat fullShare (tyRef erased imm (tyInt w32)) l71 0 (vptr b·patterns o·patterns))
+        ∷ ‵ (fdies (tyRef erased imm (tyInt w32)) l71)
+        ∷ ‵ (fat fullShare (sliceTy (tyRef erased imm (tyInt w32))) l70 0 s·rulevars)
+        ∷ ‵ (fdies (sliceTy (tyRef erased imm (tyInt w32))) l70)
+        ∷ ‵ (fat fullShare (tyRef erased imm (tyInt w32)) l69 0 (vptr b·rulevars o·rulevars))
+        ∷ ‵ (fdies (tyRef erased imm (tyInt w32)) l69)
+        ∷ ‵ (fat fullShare (sliceTy (tyRef erased imm (tyInt w32))) l68 0 s·rules)
+        ∷ ‵ (fdies (sliceTy (tyRef erased imm (tyInt w32))) l68)
+        ∷ ‵ (fat fullShare (tyRef erased imm (tyInt w32)) l67 0 (vptr b·rules o·rules))
+        ∷ ‵ (fdies (tyRef erased imm (tyInt w32)) l67)
+        ∷ ‵ (fat fullShare (sliceTy (tyRef erased imm (tyInt w32))) l66 0 s·inputs)
+        ∷ ‵ (fdies (sliceTy (tyRef erased imm (tyInt w32))) l66)
+        ∷ ‵ (fat fullShare (tyRef erased imm (tyInt w32)) l65 0 (vptr b·inputs o·inputs))
+        ∷ ‵ (fdies (tyRef erased imm (tyInt w32)) l65)
+        ∷ ‵ (fat fullShare (sliceTy (tyRef erased imm (tyInt w32))) l64 0 s·symbols)
+        ∷ ‵ (fdies (sliceTy (tyRef erased imm (tyInt w32))) l64)
+        ∷ ‵ (fat fullShare (tyRef erased imm (tyInt w32)) l63 0 (vptr b·symbols o·symbols))
+        ∷ ‵ (fdies (tyRef erased imm (tyInt w32)) l63)
+        ∷ ‵ (fat fullShare (sliceTy (tyRef erased imm (tyInt w32))) l62 0 s·sorts)
+        ∷ ‵ (fdies (sliceTy (tyRef erased imm (tyInt w32))) l62)
+        ∷ ‵ (fat fullShare (tyRef erased imm (tyInt w32)) l61 0 (vptr b·sorts o·sorts))
+        ∷ ‵ (fdies (tyRef erased imm (tyInt w32)) l61)
+        ∷ ‵ (fat fullShare CountsL.mir l60 0 v2)
+        ∷ ‵ (fdies CountsL.mir l60)
+        ∷ ‵ (fat fullShare (sliceTy (tyRef erased mut (tyInt w32))) l59 0 s·cells)
+        ∷ ‵ (fdies (sliceTy (tyRef erased mut (tyInt w32))) l59)
+        ∷ ‵ (fat fullShare (tyRef erased mut (tyInt w32)) l58 0 (vptr b·cells o·cells))
+        ∷ ‵ (fdies (tyRef erased mut (tyInt w32)) l58)
+        ∷ ‵ (fat fullShare (sliceTy (tyRef erased imm (tyInt w64))) l57 0 s·feet)
+        ∷ ‵ (fdies (sliceTy (tyRef erased imm (tyInt w64))) l57)
+        ∷ ‵ (fat fullShare (tyRef erased imm (tyInt w64)) l56 0 (vptr b·feet o·feet))
+        ∷ ‵ (fdies (tyRef erased imm (tyInt w64)) l56)
+        ∷ ‵ (fat fullShare (sliceTy (tyRef erased imm (tyInt w32))) l55 0 s·kept)
+        ∷ ‵ (fdies (sliceTy (tyRef erased imm (tyInt w32))) l55)
+        ∷ ‵ (fat fullShare (tyRef erased imm (tyInt w32)) l54 0 (vptr b·kept o·kept))
+        ∷ ‵ (fdies (tyRef erased imm (tyInt w32)) l54)
+        ∷ ‵ (fat fullShare (sliceTy (tyRef erased mut (tyInt w32))) l53 0 s·missing)
+        ∷ ‵ (fdies (sliceTy (tyRef erased mut (tyInt w32))) l53)
+        ∷ ‵ (fat fullShare (tyRef erased mut (tyInt w32)) l52 0 (vptr b·missing o·missing))
+        ∷ ‵ (fdies (tyRef erased mut (tyInt w32)) l52)
+        ∷ ‵ (fat fullShare (sliceTy (tyRef erased mut (tyInt w32))) l51 0 s·lists)
+        ∷ ‵ (fdies (sliceTy (tyRef erased mut (tyInt w32))) l51)
+        ∷ ‵ (fat fullShare (tyRef erased mut (tyInt w32)) l50 0 (vptr b·lists o·lists))
+        ∷ ‵ (fdies (tyRef erased mut (tyInt w32)) l50)
+        ∷ ‵ (fat fullShare (sliceTy (tyRef erased mut (tyInt w32))) l49 0 s·rows)
+        ∷ ‵ (fdies (sliceTy (tyRef erased mut (tyInt w32))) l49)
+        ∷ ‵ (fat fullShare (tyRef erased mut (tyInt w32)) l48 0 (vptr b·rows o·rows))
+        ∷ ‵ (fdies (tyRef erased mut (tyInt w32)) l48)
+        ∷ ‵ (fat fullShare (sliceTy (tyRef erased mut (tyInt w32))) l47 0 s·defs)
+        ∷ ‵ (fdies (sliceTy (tyRef erased mut (tyInt w32))) l47)
+        ∷ ‵ (fat fullShare (tyRef erased mut (tyInt w32)) l46 0 (vptr b·defs o·defs))
+        ∷ ‵ (fdies (tyRef erased mut (tyInt w32)) l46)
+        ∷ ‵ (fat fullShare (sliceTy (tyRef erased mut (tyInt w32))) l45 0 s·words)
+        ∷ ‵ (fdies (sliceTy (tyRef erased mut (tyInt w32))) l45)
+        ∷ ‵ (fat fullShare (tyRef erased mut (tyInt w32)) l44 0 (vptr b·words o·words))
+        ∷ ‵ (fdies (tyRef erased mut (tyInt w32)) l44)
+        ∷ ‵ (fat fullShare (sliceTy (tyRef erased mut (tyInt w32))) l43 0 s·index)
+        ∷ ‵ (fdies (sliceTy (tyRef erased mut (tyInt w32))) l43)
+        ∷ ‵ (fat fullShare (tyRef erased mut (tyInt w32)) l42 0 (vptr b·index o·index))
+        ∷ ‵ (fdies (tyRef erased mut (tyInt w32)) l42)
+        ∷ ‵ (fat fullShare (sliceTy (tyRef erased mut (tyInt w32))) l41 0 s·vars)
+        ∷ ‵ (fdies (sliceTy (tyRef erased mut (tyInt w32))) l41)
+        ∷ ‵ (fat fullShare (tyRef erased mut (tyInt w32)) l40 0 (vptr b·vars o·vars))
+        ∷ ‵ (fdies (tyRef erased mut (tyInt w32)) l40)
+        ∷ ‵ (fat fullShare (sliceTy (tyRef erased mut (tyInt w32))) l39 0 s·patterns)
+        ∷ ‵ (fdies (sliceTy (tyRef erased mut (tyInt w32))) l39)
+        ∷ ‵ (fat fullShare (tyRef erased mut (tyInt w32)) l38 0 (vptr b·patterns o·patterns))
+        ∷ ‵ (fdies (tyRef erased mut (tyInt w32)) l38)
+        ∷ ‵ (fat fullShare (sliceTy (tyRef erased mut (tyInt w32))) l37 0 s·rulevars)
+        ∷ ‵ (fdies (sliceTy (tyRef erased mut (tyInt w32))) l37)
+        ∷ ‵ (fat fullShare (tyRef erased mut (tyInt w32)) l36 0 (vptr b·rulevars o·rulevars))
+        ∷ ‵ (fdies (tyRef erased mut (tyInt w32)) l36)
+        ∷ ‵ (fat fullShare (sliceTy (tyRef erased mut (tyInt w32))) l35 0 s·rules)
+        ∷ ‵ (fdies (sliceTy (tyRef erased mut (tyInt w32))) l35)
+        ∷ ‵ (fat fullShare (tyRef erased mut (tyInt w32)) l34 0 (vptr b·rules o·rules))
+        ∷ ‵ (fdies (tyRef erased mut (tyInt w32)) l34)
+        ∷ ‵ (fat fullShare (sliceTy (tyRef erased mut (tyInt w32))) l33 0 s·inputs)
+        ∷ ‵ (fdies (sliceTy (tyRef erased mut (tyInt w32))) l33)
+        ∷ ‵ (fat fullShare (tyRef erased mut (tyInt w32)) l32 0 (vptr b·inputs o·inputs))
+        ∷ ‵ (fdies (tyRef erased mut (tyInt w32)) l32)
+        ∷ ‵ (fat fullShare (sliceTy (tyRef erased mut (tyInt w32))) l31 0 s·symbols)
+        ∷ ‵ (fdies (sliceTy (tyRef erased mut (tyInt w32))) l31)
+        ∷ ‵ (fat fullShare (tyRef erased mut (tyInt w32)) l30 0 (vptr b·symbols o·symbols))
+        ∷ ‵ (fdies (tyRef erased mut (tyInt w32)) l30)
+        ∷ ‵ (fat fullShare (sliceTy (tyRef erased mut (tyInt w32))) l29 0 s·sorts)
+        ∷ ‵ (fdies (sliceTy (tyRef erased mut (tyInt w32))) l29)
+        ∷ ‵ (fat fullShare (tyRef erased mut (tyInt w32)) l28 0 (vptr b·sorts o·sorts))
+        ∷ ‵ (fdies (tyRef erased mut (tyInt w32)) l28)
+        ∷ ‵ (froom AnswerL.mir l27 0)
+        ∷ ‵ (fdies AnswerL.mir l27)
+        ∷ ‵ (fat fullShare RunL.mir l26 0 v3)
+        ∷ ‵ (fdies RunL.mir l26)
+        ∷ ‵ (fdies CountsL.mir l25)
+        ∷ ‵ (fat fullShare RunL.mir l24 0 v1)
+        ∷ ‵ (fdies RunL.mir l24)
+        ∷ ‵ (fat fullShare (tyInt w64) l23 0 (vint w64 (length facts)))
+        ∷ ‵ (fdies (tyInt w64) l23)
+        ∷ ‵ (fat fullShare (sliceTy (tyRef (named 21) mut (tyInt w32))) l22 0 s·memo)
+        ∷ ‵ (fdies (sliceTy (tyRef (named 21) mut (tyInt w32))) l22)
         ∷ ‵ (fat fullShare (sliceTy (tyRef (named 20) mut (tyInt w32))) l21 0 s·ids)
         ∷ ‵ (fdies (sliceTy (tyRef (named 20) mut (tyInt w32))) l21)
         ∷ ‵ (fat fullShare (sliceTy (tyRef (named 19) mut (tyInt w32))) l20 0 s·cells)
@@ -3999,65 +4172,66 @@ module _ {M : Type 1} (𝓤 : URA M) (H : Heap 𝓤) (A : Atoms 𝓤) (W : Given
         (runs C Λ (En l0 l1 l2 l3 l4 l5 l6 l7 l8 l9 l10 l11 l12 l13 l14 l15 l16 l17 l18 l19 l20 l21 l22 l23 l24 l25 l26 l27 l28 l29 l30 l31 l32 l33
         l34 l35 l36 l37 l38 l39 l40 l41 l42 l43 l44 l45 l46 l47 l48 l49 l50 l51 l52 l53 l54 l55 l56 l57 l58 l59 l60 l61 l62 l63 l64 l65 l66 l67 l68
         l69 l70 l71 l72 l73 l74 l75 l76 l77 l78 l79 l80 l81 l82 l83 l84 l85 l86 l87 l88 l89 l90 l91 l92 l93 l94 l95 l96 l97 l98 l99 l100 l101 l102
-        l103 l104 l105 l106 l107) pieces.t-73 (atRet (En l0 l1 l2 l3 l4 l5 l6 l7 l8 l9 l10 l11 l12 l13 l14 l15 l16 l17 l18 l19 l20 l21 l22 l23 l24 l25
-        l26 l27 l28 l29 l30 l31 l32 l33 l34 l35 l36 l37 l38 l39 l40 l41 l42 l43 l44 l45 l46 l47 l48 l49 l50 l51 l52 l53 l54 l55 l56 l57 l58 l59 l60
-        l61 l62 l63 l64 l65 l66 l67 l68 l69 l70 l71 l72 l73 l74 l75 l76 l77 l78 l79 l80 l81 l82 l83 l84 l85 l86 l87 l88 l89 l90 l91 l92 l93 l94 l95
-        l96 l97 l98 l99 l100 l101 l102 l103 l104 l105 l106 l107) Post))
+        l103 l104 l105 l106 l107 l108 l109 l110) pieces.t-75 (atRet (En l0 l1 l2 l3 l4 l5 l6 l7 l8 l9 l10 l11 l12 l13 l14 l15 l16 l17 l18 l19 l20 l21
+        l22 l23 l24 l25 l26 l27 l28 l29 l30 l31 l32 l33 l34 l35 l36 l37 l38 l39 l40 l41 l42 l43 l44 l45 l46 l47 l48 l49 l50 l51 l52 l53 l54 l55 l56
+        l57 l58 l59 l60 l61 l62 l63 l64 l65 l66 l67 l68 l69 l70 l71 l72 l73 l74 l75 l76 l77 l78 l79 l80 l81 l82 l83 l84 l85 l86 l87 l88 l89 l90 l91
+        l92 l93 l94 l95 l96 l97 l98 l99 l100 l101 l102 l103 l104 l105 l106 l107 l108 l109 l110) Post))
     seg·10 l0 l1 l2 l3 l4 l5 l6 l7 l8 l9 l10 l11 l12 l13 l14 l15 l16 l17 l18 l19 l20 l21 l22 l23 l24 l25 l26 l27 l28 l29 l30 l31 l32 l33 l34 l35 l36
         l37 l38 l39 l40 l41 l42 l43 l44 l45 l46 l47 l48 l49 l50 l51 l52 l53 l54 l55 l56 l57 l58 l59 l60 l61 l62 l63 l64 l65 l66 l67 l68 l69 l70 l71
         l72 l73 l74 l75 l76 l77 l78 l79 l80 l81 l82 l83 l84 l85 l86 l87 l88 l89 l90 l91 l92 l93 l94 l95 l96 l97 l98 l99 l100 l101 l102 l103 l104
-        l105 l106 l107 ν·1·3 δ·1·3 ν·1·4 δ·1·4 ν·1·5 δ·1·5 ν·1·6 δ·1·6 ν·1·7 δ·1·7 ν·1·8 δ·1·8 ν·1·9 δ·1·9 ν·1·10 δ·1·10 ν·1·11 δ·1·11 ν·1·12
-        δ·1·12 ν·1·13 δ·1·13 ν·1·14 δ·1·14 ν·1·15 δ·1·15 ν·1·16 δ·1·16 ν·1·17 δ·1·17 ν·1·18 δ·1·18 v1 r1 ws1 e1·0 e1·1 len·1·sorts
-        len·1·symbols len·1·inputs len·1·rules len·1·rulevars len·1·patterns len·1·vars len·1·index len·1·words len·1·defs len·1·rows
-        len·1·lists len·1·missing len·1·cells is1 v2 r2 ws2 e2 is2 ν·3·4 δ·3·4 ν·3·5 δ·3·5 ν·3·6 δ·3·6 ν·3·7 δ·3·7 ν·3·8 δ·3·8
-        ν·3·9 δ·3·9 ν·3·11 δ·3·11 ν·3·12 δ·3·12 ν·3·14 δ·3·14 ν·3·20 δ·3·20 ν·3·21 δ·3·21 v3 r3 ws3 e3 len·3·vars len·3·index
-        len·3·words len·3·defs len·3·rows len·3·lists len·3·kept len·3·feet len·3·cells len·3·ids len·3·facts is3 =
-        move ! (23 ∷ []) $
+        l105 l106 l107 l108 l109 l110 ν·1·3 δ·1·3 ν·1·4 δ·1·4 ν·1·5 δ·1·5 ν·1·6 δ·1·6 ν·1·7 δ·1·7 ν·1·8 δ·1·8 ν·1·9 δ·1·9 ν·1·10 δ·1·10 ν·1·11
+        δ·1·11 ν·1·12 δ·1·12 ν·1·13 δ·1·13 ν·1·14 δ·1·14 ν·1·15 δ·1·15 ν·1·16 δ·1·16 ν·1·17 δ·1·17 ν·1·18 δ·1·18 v1 r1 ws1 e1·0 e1·1
+        len·1·sorts len·1·symbols len·1·inputs len·1·rules len·1·rulevars len·1·patterns len·1·vars len·1·index len·1·words len·1·defs
+        len·1·rows len·1·lists len·1·missing len·1·cells is1 v2 r2 ws2 e2 is2 ν·3·4 δ·3·4 ν·3·5 δ·3·5 ν·3·6 δ·3·6 ν·3·7 δ·3·7
+        ν·3·8 δ·3·8 ν·3·9 δ·3·9 ν·3·11 δ·3·11 ν·3·12 δ·3·12 ν·3·14 δ·3·14 ν·3·21 δ·3·21 ν·3·22 δ·3·22 v3 r3 ws3 e3 len·3·vars
+        len·3·index len·3·words len·3·defs len·3·rows len·3·lists len·3·kept len·3·feet len·3·cells len·3·ids len·3·memo
+        len·3·facts is3 =
+        move ! (24 ∷ []) $
         lft-end ! tt $
-        move ! (0 ∷ 41 ∷ 36 ∷ []) $
+        move ! (0 ∷ 43 ∷ 38 ∷ []) $
         use3 W (later (‵ (MutSlice (named 13) κ·rows u32 .own (ref·rows γ·rows (ws3 .1 .1 .1 .1 .1 .1 .1 .1 .1 .1 .1 .1 .1 .1 .0)) (s·rows ∷ []))
         ⊛ ‵ (flft κ·rows q·rows))) (again-back u32 κ·rows (ν·3·14 ∷ []) q·rows γ·rows b·rows o·rows 𝓤 H A W (named 13) (named 13) (length rows)
         (ws1 .1 .1 .1 .1 .1 .1 .1 .1 .1 .1 .1 .1 .1 .0) room·rows (len·1·rows ∙ (refl)) δ·3·14 (ws3 .1 .1 .1 .1 .1 .1 .1 .1 .1 .1 .1 .1 .1 .1 .0)
         len·3·rows) $ await ! tt $ split ! $
         move ! (19 ∷ []) $
         lft-end ! tt $
-        move ! (0 ∷ 40 ∷ 31 ∷ []) $
+        move ! (0 ∷ 42 ∷ 32 ∷ []) $
         use3 W (later (‵ (MutSlice (named 16) κ·facts FactT.the-row .own (ref·facts γ·facts
-        (ws3 .1 .1 .1 .1 .1 .1 .1 .1 .1 .1 .1 .1 .1 .1 .1 .1 .1 .1 .1 .1 .0)) (s·facts ∷ [])) ⊛ ‵ (flft κ·facts q·facts)))
-        (again-back FactT.the-row κ·facts (ν·3·20 ∷ []) q·facts γ·facts b·facts o·facts 𝓤 H A W (named 16) (named 19) (length facts) facts room·facts
-        (refl) δ·3·20 (ws3 .1 .1 .1 .1 .1 .1 .1 .1 .1 .1 .1 .1 .1 .1 .1 .1 .1 .1 .1 .1 .0) len·3·facts) $ await ! tt $ split ! $
+        (ws3 .1 .1 .1 .1 .1 .1 .1 .1 .1 .1 .1 .1 .1 .1 .1 .1 .1 .1 .1 .1 .1 .0)) (s·facts ∷ [])) ⊛ ‵ (flft κ·facts q·facts)))
+        (again-back FactT.the-row κ·facts (ν·3·21 ∷ []) q·facts γ·facts b·facts o·facts 𝓤 H A W (named 16) (named 20) (length facts) facts room·facts
+        (refl) δ·3·21 (ws3 .1 .1 .1 .1 .1 .1 .1 .1 .1 .1 .1 .1 .1 .1 .1 .1 .1 .1 .1 .1 .1 .0) len·3·facts) $ await ! tt $ split ! $
         move ! (20 ∷ []) $
         lft-end ! tt $
-        move ! (0 ∷ 39 ∷ 31 ∷ []) $
-        use3 W (later (some (λ (va : Val). ‵ (fat fullShare CountsL.mir l24 0 va)
-        ⊛ ‵ (CountsT.the-row .own (ws3 .1 .1 .1 .1 .1 .1 .1 .1 .1 .1 .1 .1 .1 .1 .1 .1 .1 .1 .1 .1 .1 .0) (va ∷ [])))))
+        move ! (0 ∷ 41 ∷ 32 ∷ []) $
+        use3 W (later (some (λ (va : Val). ‵ (fat fullShare CountsL.mir l25 0 va)
+        ⊛ ‵ (CountsT.the-row .own (ws3 .1 .1 .1 .1 .1 .1 .1 .1 .1 .1 .1 .1 .1 .1 .1 .1 .1 .1 .1 .1 .1 .1 .0) (va ∷ [])))))
         (record-back CountsT.the-row CountsL.mir refl (λ x. LL.val CountsT.the-type CountsL.the-laws x) (LL.tells CountsT.the-type CountsL.the-laws)
-        (ν·3·21 ∷ []) l24 𝓤 H A W (named 20) δ·3·21 (ws3 .1 .1 .1 .1 .1 .1 .1 .1 .1 .1 .1 .1 .1 .1 .1 .1 .1 .1 .1 .1 .1 .0)) $ await ! tt $
-        pick ! (λ va·3·24. split ! $ move ! (1 ∷ []) $ peeks ! CountsT.the-row (Is CountsT.the-row) (shows 𝓤 H A CountsT.the-row)
-        (ws3 .1 .1 .1 .1 .1 .1 .1 .1 .1 .1 .1 .1 .1 .1 .1 .1 .1 .1 .1 .1 .1 .0) (va·3·24 ∷ []) (λ isa·3·24. drop ! $
+        (ν·3·22 ∷ []) l25 𝓤 H A W (named 21) δ·3·22 (ws3 .1 .1 .1 .1 .1 .1 .1 .1 .1 .1 .1 .1 .1 .1 .1 .1 .1 .1 .1 .1 .1 .1 .0)) $ await ! tt $
+        pick ! (λ va·3·25. split ! $ move ! (1 ∷ []) $ peeks ! CountsT.the-row (Is CountsT.the-row) (shows 𝓤 H A CountsT.the-row)
+        (ws3 .1 .1 .1 .1 .1 .1 .1 .1 .1 .1 .1 .1 .1 .1 .1 .1 .1 .1 .1 .1 .1 .1 .0) (va·3·25 ∷ []) (λ isa·3·25. drop ! $
         assigns ! (of-opd ! (load ! (from ! (stop !)) (look ! 0 refl))) (from ! (stop !))
-        (store ! 139 refl (LL.lawful CountsT.the-type CountsL.the-laws 𝓤 H A W .typed
-        (ws3 .1 .1 .1 .1 .1 .1 .1 .1 .1 .1 .1 .1 .1 .1 .1 .1 .1 .1 .1 .1 .1 .0) _ isa·3·24 .0)) $
-        assigns ! (addr ! (from ! (fld ! refl (hop ! (look-in ! 234 (sub ! 0 refl (whole !))) (stop !))))) (from ! (stop !))
-        (init ! 67 refl (tt, tt)) $
-        assigns ! (agg ! (and-then ! (load ! (from ! (stop !)) (look ! 67 refl))
-        (and-then ! (load ! (from ! (fld ! refl (stop !))) (look-in ! 234 (sub ! 1 refl (whole !)))) (no-more !)))) (from ! (stop !))
-        (init ! 65 refl (tt, (tt, (record { fits = room·index .0 }, tt)))) $
+        (store ! 145 refl (LL.lawful CountsT.the-type CountsL.the-laws 𝓤 H A W .typed
+        (ws3 .1 .1 .1 .1 .1 .1 .1 .1 .1 .1 .1 .1 .1 .1 .1 .1 .1 .1 .1 .1 .1 .1 .0) _ isa·3·25 .0)) $
+        assigns ! (addr ! (from ! (fld ! refl (hop ! (look-in ! 242 (sub ! 0 refl (whole !))) (stop !))))) (from ! (stop !))
+        (init ! 69 refl (tt, tt)) $
+        assigns ! (agg ! (and-then ! (load ! (from ! (stop !)) (look ! 69 refl))
+        (and-then ! (load ! (from ! (fld ! refl (stop !))) (look-in ! 242 (sub ! 1 refl (whole !)))) (no-more !)))) (from ! (stop !))
+        (init ! 67 refl (tt, (tt, (record { fits = room·index .0 }, tt)))) $
+        assigns ! (addr ! (from ! (fld ! refl (hop ! (look-in ! 240 (sub ! 0 refl (whole !))) (stop !))))) (from ! (stop !))
+        (init ! 65 refl (tt, tt)) $
+        assigns ! (agg ! (and-then ! (load ! (from ! (stop !)) (look ! 65 refl))
+        (and-then ! (load ! (from ! (fld ! refl (stop !))) (look-in ! 240 (sub ! 1 refl (whole !)))) (no-more !)))) (from ! (stop !))
+        (init ! 63 refl (tt, (tt, (record { fits = room·words .0 }, tt)))) $
+        assigns ! (addr ! (from ! (fld ! refl (hop ! (look-in ! 236 (sub ! 0 refl (whole !))) (stop !))))) (from ! (stop !))
+        (init ! 61 refl (tt, tt)) $
+        assigns ! (agg ! (and-then ! (load ! (from ! (stop !)) (look ! 61 refl))
+        (and-then ! (load ! (from ! (fld ! refl (stop !))) (look-in ! 236 (sub ! 1 refl (whole !)))) (no-more !)))) (from ! (stop !))
+        (init ! 59 refl (tt, (tt, (record { fits = room·rows .0 }, tt)))) $
         assigns ! (addr ! (from ! (fld ! refl (hop ! (look-in ! 232 (sub ! 0 refl (whole !))) (stop !))))) (from ! (stop !))
-        (init ! 63 refl (tt, tt)) $
-        assigns ! (agg ! (and-then ! (load ! (from ! (stop !)) (look ! 63 refl))
+        (init ! 57 refl (tt, tt)) $
+        assigns ! (agg ! (and-then ! (load ! (from ! (stop !)) (look ! 57 refl))
         (and-then ! (load ! (from ! (fld ! refl (stop !))) (look-in ! 232 (sub ! 1 refl (whole !)))) (no-more !)))) (from ! (stop !))
-        (init ! 61 refl (tt, (tt, (record { fits = room·words .0 }, tt)))) $
-        assigns ! (addr ! (from ! (fld ! refl (hop ! (look-in ! 228 (sub ! 0 refl (whole !))) (stop !))))) (from ! (stop !))
-        (init ! 59 refl (tt, tt)) $
-        assigns ! (agg ! (and-then ! (load ! (from ! (stop !)) (look ! 59 refl))
-        (and-then ! (load ! (from ! (fld ! refl (stop !))) (look-in ! 228 (sub ! 1 refl (whole !)))) (no-more !)))) (from ! (stop !))
-        (init ! 57 refl (tt, (tt, (record { fits = room·rows .0 }, tt)))) $
-        assigns ! (addr ! (from ! (fld ! refl (hop ! (look-in ! 224 (sub ! 0 refl (whole !))) (stop !))))) (from ! (stop !))
-        (init ! 55 refl (tt, tt)) $
-        assigns ! (agg ! (and-then ! (load ! (from ! (stop !)) (look ! 55 refl))
-        (and-then ! (load ! (from ! (fld ! refl (stop !))) (look-in ! 224 (sub ! 1 refl (whole !)))) (no-more !)))) (from ! (stop !))
-        (init ! 53 refl (tt, (tt, (record { fits = room·missing .0 }, tt)))) $
+        (init ! 55 refl (tt, (tt, (record { fits = room·missing .0 }, tt)))) $
         -- call 4: end
         lft-new ! tt (λ ν·4·3.
         move ! (6 ∷ 7 ∷ []) $
@@ -4072,7 +4246,7 @@ module _ {M : Type 1} (𝓤 : URA M) (H : Heap 𝓤) (A : Atoms 𝓤) (W : Given
         ⊛ ‵ (LentShared u32 κ·rows (ν·4·4 ∷ []) q·rows γ·rows b·rows o·rows (ws3 .1 .1 .1 .1 .1 .1 .1 .1 .1 .1 .1 .1 .1 .1 .0)))))
         (lends-shared u32 κ·rows (ν·4·4 ∷ []) q·rows γ·rows b·rows o·rows 𝓤 H A W (named 13) (named 2) (length rows)
         (ws3 .1 .1 .1 .1 .1 .1 .1 .1 .1 .1 .1 .1 .1 .1 .0)) $ await ! tt $ pick ! (λ δ·4·4. split ! $
-        move ! (10 ∷ 5 ∷ 2 ∷ 44 ∷ 9 ∷ 3 ∷ 0 ∷ 43 ∷ []) $
+        move ! (10 ∷ 5 ∷ 2 ∷ 46 ∷ 9 ∷ 3 ∷ 0 ∷ 45 ∷ []) $
         group ! 8 $
         use1 W (raw ((G4·C 𝓤 H A at-mem run) .pre (
           (
@@ -4082,7 +4256,7 @@ module _ {M : Type 1} (𝓤 : URA M) (H : Heap 𝓤) (A : Atoms 𝓤) (W : Given
             (
               r3,
               (
-                (ws3 .1 .1 .1 .1 .1 .1 .1 .1 .1 .1 .1 .1 .1 .1 .1 .1 .1 .1 .1 .1 .1 .0),
+                (ws3 .1 .1 .1 .1 .1 .1 .1 .1 .1 .1 .1 .1 .1 .1 .1 .1 .1 .1 .1 .1 .1 .1 .0),
                 (
                   (ref·index γ·index (ws3 .1 .1 .1 .1 .1 .1 .1 .1 .1 .1 .1 .0)),
                   (
@@ -4092,7 +4266,7 @@ module _ {M : Type 1} (𝓤 : URA M) (H : Heap 𝓤) (A : Atoms 𝓤) (W : Given
                 ),
               ),
             ),
-            (v3 ∷ [], (va·3·24 ∷ [], (s·index ∷ [], (s·words ∷ [], (s·rows ∷ [], (s·missing ∷ [], tt)))))),
+            (v3 ∷ [], (va·3·25 ∷ [], (s·index ∷ [], (s·words ∷ [], (s·rows ∷ [], (s·missing ∷ [], tt)))))),
           ),
           tt,
         )))
@@ -4111,12 +4285,13 @@ module _ {M : Type 1} (𝓤 : URA M) (H : Heap 𝓤) (A : Atoms 𝓤) (W : Given
         (ws3 .1 .1 .1 .1 .1 .1 .1 .1 .1 .1 .1 .1 .1 .1 .0) (ws3 .1 .1 .1 .1 .1 .1 .1 .1 .1 .1 .1 .1 .1 .1 .1 .0)) missing
         (ws1 .1 .1 .1 .1 .1 .1 .1 .1 .1 .1 .1 .1 .1 .1 .1 .0) kept feet (ws3 .1 .1 .1 .1 .1 .1 .1 .1 .1 .1 .1 .1 .1 .1 .1 .1 .0)
         (ws3 .1 .1 .1 .1 .1 .1 .1 .1 .1 .1 .1 .1 .1 .1 .1 .1 .1 .0) (ws3 .1 .1 .1 .1 .1 .1 .1 .1 .1 .1 .1 .1 .1 .1 .1 .1 .1 .1 .0)
-        (ws3 .1 .1 .1 .1 .1 .1 .1 .1 .1 .1 .1 .1 .1 .1 .1 .1 .1 .1 .1 .0) r1 r3 facts
-        (ws3 .1 .1 .1 .1 .1 .1 .1 .1 .1 .1 .1 .1 .1 .1 .1 .1 .1 .1 .1 .1 .0) (ws3 .1 .1 .1 .1 .1 .1 .1 .1 .1 .1 .1 .1 .1 .1 .1 .1 .1 .1 .1 .1 .1 .0)
-        e1·0 e3) $ nothing ! $ move ! (4 ∷ 0 ∷ []) $ join ! $ move ! (3 ∷ 0 ∷ []) $ join ! $ move ! (2 ∷ 0 ∷ []) $ join ! $ move ! (1 ∷ 0 ∷ []) $
-        join ! $ frame ! $ nothing ! $ move ! (4 ∷ 0 ∷ []) $ fjoin ! $ move ! (3 ∷ 0 ∷ []) $ fjoin ! $ move ! (2 ∷ 0 ∷ []) $ fjoin ! $
-        move ! (1 ∷ 0 ∷ []) $ fjoin ! $ owned ! CountsT.the-row (Is CountsT.the-row) (LL.makes CountsT.the-type CountsL.the-plain 𝓤 H A)
-        (ws3 .1 .1 .1 .1 .1 .1 .1 .1 .1 .1 .1 .1 .1 .1 .1 .1 .1 .1 .1 .1 .1 .0) _ isa·3·24 $ fjoin ! $
+        (ws3 .1 .1 .1 .1 .1 .1 .1 .1 .1 .1 .1 .1 .1 .1 .1 .1 .1 .1 .1 .0) (ws3 .1 .1 .1 .1 .1 .1 .1 .1 .1 .1 .1 .1 .1 .1 .1 .1 .1 .1 .1 .1 .0) r1 r3
+        facts (ws3 .1 .1 .1 .1 .1 .1 .1 .1 .1 .1 .1 .1 .1 .1 .1 .1 .1 .1 .1 .1 .1 .0)
+        (ws3 .1 .1 .1 .1 .1 .1 .1 .1 .1 .1 .1 .1 .1 .1 .1 .1 .1 .1 .1 .1 .1 .1 .0) e1·0 e3) $ nothing ! $ move ! (4 ∷ 0 ∷ []) $ join ! $
+        move ! (3 ∷ 0 ∷ []) $ join ! $ move ! (2 ∷ 0 ∷ []) $ join ! $ move ! (1 ∷ 0 ∷ []) $ join ! $ frame ! $ nothing ! $ move ! (4 ∷ 0 ∷ []) $
+        fjoin ! $ move ! (3 ∷ 0 ∷ []) $ fjoin ! $ move ! (2 ∷ 0 ∷ []) $ fjoin ! $ move ! (1 ∷ 0 ∷ []) $ fjoin ! $
+        owned ! CountsT.the-row (Is CountsT.the-row) (LL.makes CountsT.the-type CountsL.the-plain 𝓤 H A)
+        (ws3 .1 .1 .1 .1 .1 .1 .1 .1 .1 .1 .1 .1 .1 .1 .1 .1 .1 .1 .1 .1 .1 .1 .0) _ isa·3·25 $ fjoin ! $
         owned ! RunT.the-row (Is RunT.the-row) (LL.makes RunT.the-type RunL.the-plain 𝓤 H A) r3 _ is3 $ fjoin ! $ done !) $
         calls-at ! fm (G4·C 𝓤 H A at-mem run) known·4 (
           (
@@ -4126,7 +4301,7 @@ module _ {M : Type 1} (𝓤 : URA M) (H : Heap 𝓤) (A : Atoms 𝓤) (W : Given
             (
               r3,
               (
-                (ws3 .1 .1 .1 .1 .1 .1 .1 .1 .1 .1 .1 .1 .1 .1 .1 .1 .1 .1 .1 .1 .1 .0),
+                (ws3 .1 .1 .1 .1 .1 .1 .1 .1 .1 .1 .1 .1 .1 .1 .1 .1 .1 .1 .1 .1 .1 .1 .0),
                 (
                   (ref·index γ·index (ws3 .1 .1 .1 .1 .1 .1 .1 .1 .1 .1 .1 .0)),
                   (
@@ -4136,19 +4311,19 @@ module _ {M : Type 1} (𝓤 : URA M) (H : Heap 𝓤) (A : Atoms 𝓤) (W : Given
                 ),
               ),
             ),
-            (v3 ∷ [], (va·3·24 ∷ [], (s·index ∷ [], (s·words ∷ [], (s·rows ∷ [], (s·missing ∷ [], tt)))))),
+            (v3 ∷ [], (va·3·25 ∷ [], (s·index ∷ [], (s·words ∷ [], (s·rows ∷ [], (s·missing ∷ [], tt)))))),
           ),
           tt,
         )
-        (and-then ! (load ! (from ! (stop !)) (look ! 202 refl)) (and-then ! (load ! (from ! (stop !)) (look ! 134 refl))
-        (and-then ! (load ! (from ! (stop !)) (look ! 60 refl)) (and-then ! (load ! (from ! (stop !)) (look ! 56 refl))
-        (and-then ! (load ! (from ! (stop !)) (look ! 52 refl)) (and-then ! (load ! (from ! (stop !)) (look ! 48 refl)) (no-more !))))))) (λ v4.
+        (and-then ! (load ! (from ! (stop !)) (look ! 208 refl)) (and-then ! (load ! (from ! (stop !)) (look ! 140 refl))
+        (and-then ! (load ! (from ! (stop !)) (look ! 62 refl)) (and-then ! (load ! (from ! (stop !)) (look ! 58 refl))
+        (and-then ! (load ! (from ! (stop !)) (look ! 54 refl)) (and-then ! (load ! (from ! (stop !)) (look ! 50 refl)) (no-more !))))))) (λ v4.
         use1 W (later (some (λ (r4 : Answer). ((‵ (flft κ·index q·index) ⊛ ‵ (flft (ν·4·3 ∷ []) fullShare) ⊛ ‵ (flft (ν·4·4 ∷ []) fullShare)
         ⊛ ‵ (flft κ·missing q·missing) ⊛ ‵ ftrue) ⊛ ‵ (AnswerT.the-row .own r4 (v4 ∷ []))) ⊛ raw
         (ensured 𝓤 H A G4.ended (G4.clauses 𝓤 H A at-mem run) (κ·index, ((ν·4·3 ∷ []), ((ν·4·4 ∷ []), (κ·missing, tt)))) (
           r3,
           (
-            (ws3 .1 .1 .1 .1 .1 .1 .1 .1 .1 .1 .1 .1 .1 .1 .1 .1 .1 .1 .1 .1 .1 .0),
+            (ws3 .1 .1 .1 .1 .1 .1 .1 .1 .1 .1 .1 .1 .1 .1 .1 .1 .1 .1 .1 .1 .1 .1 .0),
             (
               (ref·index γ·index (ws3 .1 .1 .1 .1 .1 .1 .1 .1 .1 .1 .1 .0)),
               (
@@ -4163,7 +4338,7 @@ module _ {M : Type 1} (𝓤 : URA M) (H : Heap 𝓤) (A : Atoms 𝓤) (W : Given
         ‵ (lasts G4.ended (κ·index, ((ν·4·3 ∷ []), ((ν·4·4 ∷ []), (κ·missing, tt)))) (
           r3,
           (
-            (ws3 .1 .1 .1 .1 .1 .1 .1 .1 .1 .1 .1 .1 .1 .1 .1 .1 .1 .1 .1 .1 .1 .0),
+            (ws3 .1 .1 .1 .1 .1 .1 .1 .1 .1 .1 .1 .1 .1 .1 .1 .1 .1 .1 .1 .1 .1 .1 .0),
             (
               (ref·index γ·index (ws3 .1 .1 .1 .1 .1 .1 .1 .1 .1 .1 .1 .0)),
               (
@@ -4173,13 +4348,13 @@ module _ {M : Type 1} (𝓤 : URA M) (H : Heap 𝓤) (A : Atoms 𝓤) (W : Given
             ),
           ),
         )
-        ws4) ⊛ (raw (fact 𝓤 ((g : Ending r3 (ws3 .1 .1 .1 .1 .1 .1 .1 .1 .1 .1 .1 .1 .1 .1 .1 .1 .1 .1 .1 .1 .1 .0)
+        ws4) ⊛ (raw (fact 𝓤 ((g : Ending r3 (ws3 .1 .1 .1 .1 .1 .1 .1 .1 .1 .1 .1 .1 .1 .1 .1 .1 .1 .1 .1 .1 .1 .1 .0)
         (ws3 .1 .1 .1 .1 .1 .1 .1 .1 .1 .1 .1 .0) (ws3 .1 .1 .1 .1 .1 .1 .1 .1 .1 .1 .1 .1 .0) (ws3 .1 .1 .1 .1 .1 .1 .1 .1 .1 .1 .1 .1 .1 .1 .0)
         (ws1 .1 .1 .1 .1 .1 .1 .1 .1 .1 .1 .1 .1 .1 .1 .1 .0)) → Ended (g .theory) (g .goals) (g .proof) r3 (ws3 .1 .1 .1 .1 .1 .1 .1 .1 .1 .1 .1 .0)
         (ws4 .1 .1 .0) (ws1 .1 .1 .1 .1 .1 .1 .1 .1 .1 .1 .1 .1 .1 .1 .1 .0) (ws4 .1 .1 .1 .1 .1 .0) r4)) ⊛ raw
         (fact 𝓤 ((r3 .fit ≡ false → (th go pr : List ℕ) → Ended th go pr r3 (ws3 .1 .1 .1 .1 .1 .1 .1 .1 .1 .1 .1 .0) (ws4 .1 .1 .0)
         (ws1 .1 .1 .1 .1 .1 .1 .1 .1 .1 .1 .1 .1 .1 .1 .1 .0) (ws4 .1 .1 .1 .1 .1 .0) r4)))))) (id⊢ 𝓤 _) $ pick ! (λ ws4. split ! $ move ! (1 ∷ []) $
-        split ! $ heard ! ((g : Ending r3 (ws3 .1 .1 .1 .1 .1 .1 .1 .1 .1 .1 .1 .1 .1 .1 .1 .1 .1 .1 .1 .1 .1 .0)
+        split ! $ heard ! ((g : Ending r3 (ws3 .1 .1 .1 .1 .1 .1 .1 .1 .1 .1 .1 .1 .1 .1 .1 .1 .1 .1 .1 .1 .1 .1 .0)
         (ws3 .1 .1 .1 .1 .1 .1 .1 .1 .1 .1 .1 .0) (ws3 .1 .1 .1 .1 .1 .1 .1 .1 .1 .1 .1 .1 .0) (ws3 .1 .1 .1 .1 .1 .1 .1 .1 .1 .1 .1 .1 .1 .1 .0)
         (ws1 .1 .1 .1 .1 .1 .1 .1 .1 .1 .1 .1 .1 .1 .1 .1 .0)) → Ended (g .theory) (g .goals) (g .proof) r3 (ws3 .1 .1 .1 .1 .1 .1 .1 .1 .1 .1 .1 .0)
         (ws4 .1 .1 .0) (ws1 .1 .1 .1 .1 .1 .1 .1 .1 .1 .1 .1 .1 .1 .1 .1 .0) (ws4 .1 .1 .1 .1 .1 .0) r4) (λ e4·0.
@@ -4209,7 +4384,7 @@ module _ {M : Type 1} (𝓤 : URA M) (H : Heap 𝓤) (A : Atoms 𝓤) (W : Given
         move ! (1 ∷ []) $
         peeks ! AnswerT.the-row (Is AnswerT.the-row) (shows 𝓤 H A AnswerT.the-row) r4 (v4 ∷ []) (λ is4.
         drop ! $
-        land ! (from ! (stop !)) (init ! 202 refl (EL.lawful AnswerT.the-type AnswerL.the-laws 𝓤 H A W tt .typed r4 _ is4 .0)) $
+        land ! (from ! (stop !)) (init ! 208 refl (EL.lawful AnswerT.the-type AnswerL.the-laws 𝓤 H A W tt .typed r4 _ is4 .0)) $
         split ! $
         move ! (1 ∷ []) $
         split ! $
@@ -4222,12 +4397,13 @@ module _ {M : Type 1} (𝓤 : URA M) (H : Heap 𝓤) (A : Atoms 𝓤) (W : Given
         seg·11 l0 l1 l2 l3 l4 l5 l6 l7 l8 l9 l10 l11 l12 l13 l14 l15 l16 l17 l18 l19 l20 l21 l22 l23 l24 l25 l26 l27 l28 l29 l30 l31 l32 l33 l34 l35
         l36 l37 l38 l39 l40 l41 l42 l43 l44 l45 l46 l47 l48 l49 l50 l51 l52 l53 l54 l55 l56 l57 l58 l59 l60 l61 l62 l63 l64 l65 l66 l67 l68 l69 l70
         l71 l72 l73 l74 l75 l76 l77 l78 l79 l80 l81 l82 l83 l84 l85 l86 l87 l88 l89 l90 l91 l92 l93 l94 l95 l96 l97 l98 l99 l100 l101 l102 l103 l104
-        l105 l106 l107 ν·1·3 δ·1·3 ν·1·4 δ·1·4 ν·1·5 δ·1·5 ν·1·6 δ·1·6 ν·1·7 δ·1·7 ν·1·8 δ·1·8 ν·1·9 δ·1·9 ν·1·10 δ·1·10 ν·1·11 δ·1·11 ν·1·12 δ·1·12
-        ν·1·13 δ·1·13 ν·1·14 δ·1·14 ν·1·15 δ·1·15 ν·1·16 δ·1·16 ν·1·17 δ·1·17 ν·1·18 δ·1·18 v1 r1 ws1 e1·0 e1·1 len·1·sorts len·1·symbols len·1·inputs
-        len·1·rules len·1·rulevars len·1·patterns len·1·vars len·1·index len·1·words len·1·defs len·1·rows len·1·lists len·1·missing len·1·cells is1
-        v2 r2 ws2 e2 is2 ν·3·4 δ·3·4 ν·3·5 δ·3·5 ν·3·6 δ·3·6 ν·3·7 δ·3·7 ν·3·8 δ·3·8 ν·3·9 δ·3·9 ν·3·11 δ·3·11 ν·3·12 δ·3·12 ν·3·14 δ·3·14 ν·3·20
-        δ·3·20 ν·3·21 δ·3·21 v3 r3 ws3 e3 len·3·vars len·3·index len·3·words len·3·defs len·3·rows len·3·lists len·3·kept len·3·feet len·3·cells
-        len·3·ids len·3·facts is3 va·3·24 isa·3·24 ν·4·3 δ·4·3 ν·4·4 δ·4·4 v4 r4 ws4 e4·0 e4·1 len·4·index len·4·missing is4))))))))))))))
+        l105 l106 l107 l108 l109 l110 ν·1·3 δ·1·3 ν·1·4 δ·1·4 ν·1·5 δ·1·5 ν·1·6 δ·1·6 ν·1·7 δ·1·7 ν·1·8 δ·1·8 ν·1·9 δ·1·9 ν·1·10 δ·1·10 ν·1·11 δ·1·11
+        ν·1·12 δ·1·12 ν·1·13 δ·1·13 ν·1·14 δ·1·14 ν·1·15 δ·1·15 ν·1·16 δ·1·16 ν·1·17 δ·1·17 ν·1·18 δ·1·18 v1 r1 ws1 e1·0 e1·1 len·1·sorts
+        len·1·symbols len·1·inputs len·1·rules len·1·rulevars len·1·patterns len·1·vars len·1·index len·1·words len·1·defs len·1·rows len·1·lists
+        len·1·missing len·1·cells is1 v2 r2 ws2 e2 is2 ν·3·4 δ·3·4 ν·3·5 δ·3·5 ν·3·6 δ·3·6 ν·3·7 δ·3·7 ν·3·8 δ·3·8 ν·3·9 δ·3·9 ν·3·11 δ·3·11 ν·3·12
+        δ·3·12 ν·3·14 δ·3·14 ν·3·21 δ·3·21 ν·3·22 δ·3·22 v3 r3 ws3 e3 len·3·vars len·3·index len·3·words len·3·defs len·3·rows len·3·lists len·3·kept
+        len·3·feet len·3·cells len·3·ids len·3·memo len·3·facts is3 va·3·25 isa·3·25 ν·4·3 δ·4·3 ν·4·4 δ·4·4 v4 r4 ws4 e4·0 e4·1 len·4·index
+        len·4·missing is4))))))))))))))
 
     seg·9 : (l0 : ℕ) (l1 : ℕ) (l2 : ℕ) (l3 : ℕ) (l4 : ℕ) (l5 : ℕ) (l6 : ℕ) (l7 : ℕ) (l8 : ℕ) (l9 : ℕ) (l10 : ℕ) (l11 : ℕ) (l12 : ℕ) (l13 : ℕ)
         (l14 : ℕ) (l15 : ℕ) (l16 : ℕ) (l17 : ℕ) (l18 : ℕ) (l19 : ℕ) (l20 : ℕ) (l21 : ℕ) (l22 : ℕ) (l23 : ℕ) (l24 : ℕ) (l25 : ℕ) (l26 : ℕ) (l27 : ℕ)
@@ -4236,14 +4412,14 @@ module _ {M : Type 1} (𝓤 : URA M) (H : Heap 𝓤) (A : Atoms 𝓤) (W : Given
         (l56 : ℕ) (l57 : ℕ) (l58 : ℕ) (l59 : ℕ) (l60 : ℕ) (l61 : ℕ) (l62 : ℕ) (l63 : ℕ) (l64 : ℕ) (l65 : ℕ) (l66 : ℕ) (l67 : ℕ) (l68 : ℕ) (l69 : ℕ)
         (l70 : ℕ) (l71 : ℕ) (l72 : ℕ) (l73 : ℕ) (l74 : ℕ) (l75 : ℕ) (l76 : ℕ) (l77 : ℕ) (l78 : ℕ) (l79 : ℕ) (l80 : ℕ) (l81 : ℕ) (l82 : ℕ) (l83 : ℕ)
         (l84 : ℕ) (l85 : ℕ) (l86 : ℕ) (l87 : ℕ) (l88 : ℕ) (l89 : ℕ) (l90 : ℕ) (l91 : ℕ) (l92 : ℕ) (l93 : ℕ) (l94 : ℕ) (l95 : ℕ) (l96 : ℕ) (l97 : ℕ)
-        (l98 : ℕ) (l99 : ℕ) (l100 : ℕ) (l101 : ℕ) (l102 : ℕ) (l103 : ℕ) (l104 : ℕ) (l105 : ℕ) (l106 : ℕ) (l107 : ℕ) (ν·1·3 : ℕ) (δ·1·3 : GName)
-        (ν·1·4 : ℕ) (δ·1·4 : GName) (ν·1·5 : ℕ) (δ·1·5 : GName) (ν·1·6 : ℕ) (δ·1·6 : GName) (ν·1·7 : ℕ) (δ·1·7 : GName) (ν·1·8 : ℕ) (δ·1·8 : GName)
-        (ν·1·9 : ℕ) (δ·1·9 : GName) (ν·1·10 : ℕ) (δ·1·10 : GName) (ν·1·11 : ℕ) (δ·1·11 : GName) (ν·1·12 : ℕ) (δ·1·12 : GName) (ν·1·13 : ℕ)
-        (δ·1·13 : GName) (ν·1·14 : ℕ) (δ·1·14 : GName) (ν·1·15 : ℕ) (δ·1·15 : GName) (ν·1·16 : ℕ) (δ·1·16 : GName) (ν·1·17 : ℕ) (δ·1·17 : GName)
-        (ν·1·18 : ℕ) (δ·1·18 : GName) (v1 : Val) (r1 : Run) (ws1 : (Unit {0} ×
-        (Unit {0} × (Unit {0} × ((List ℕ) × ((List ℕ) × ((List ℕ) × ((List ℕ) ×
+        (l98 : ℕ) (l99 : ℕ) (l100 : ℕ) (l101 : ℕ) (l102 : ℕ) (l103 : ℕ) (l104 : ℕ) (l105 : ℕ) (l106 : ℕ) (l107 : ℕ) (l108 : ℕ) (l109 : ℕ) (l110 : ℕ)
+        (ν·1·3 : ℕ) (δ·1·3 : GName) (ν·1·4 : ℕ) (δ·1·4 : GName) (ν·1·5 : ℕ) (δ·1·5 : GName) (ν·1·6 : ℕ) (δ·1·6 : GName) (ν·1·7 : ℕ) (δ·1·7 : GName)
+        (ν·1·8 : ℕ) (δ·1·8 : GName) (ν·1·9 : ℕ) (δ·1·9 : GName) (ν·1·10 : ℕ) (δ·1·10 : GName) (ν·1·11 : ℕ) (δ·1·11 : GName) (ν·1·12 : ℕ)
+        (δ·1·12 : GName) (ν·1·13 : ℕ) (δ·1·13 : GName) (ν·1·14 : ℕ) (δ·1·14 : GName) (ν·1·15 : ℕ) (δ·1·15 : GName) (ν·1·16 : ℕ) (δ·1·16 : GName)
+        (ν·1·17 : ℕ) (δ·1·17 : GName) (ν·1·18 : ℕ) (δ·1·18 : GName) (v1 : Val) (r1 : Run)
+        (ws1 : (Unit {0} × (Unit {0} × (Unit {0} × ((List ℕ) × ((List ℕ) × ((List ℕ) ×
         ((List ℕ) × ((List ℕ) × ((List ℕ) × ((List ℕ) × ((List ℕ) × ((List ℕ) ×
-        ((List ℕ) × ((List ℕ) × ((List ℕ) × (Unit {0} × (Unit {0} × ((List ℕ) × (Unit {0} × Unit {0})))))))))))))))))))))
+        ((List ℕ) × ((List ℕ) × ((List ℕ) × ((List ℕ) × (Unit {0} × (Unit {0} × ((List ℕ) × (Unit {0} × Unit {0})))))))))))))))))))))
         (e1·0 : Begun theory goals proof (length facts) (theoryLists sorts symbols inputs rules rulevars patterns)
         (theoryLists (ws1 .1 .1 .1 .0) (ws1 .1 .1 .1 .1 .0) (ws1 .1 .1 .1 .1 .1 .0) (ws1 .1 .1 .1 .1 .1 .1 .0) (ws1 .1 .1 .1 .1 .1 .1 .1 .0)
         (ws1 .1 .1 .1 .1 .1 .1 .1 .1 .0)) (working vars index words defs rows lists)
@@ -4264,11 +4440,11 @@ module _ {M : Type 1} (𝓤 : URA M) (H : Heap 𝓤) (A : Atoms 𝓤) (W : Given
         (len·1·cells : length (ws1 .1 .1 .1 .1 .1 .1 .1 .1 .1 .1 .1 .1 .1 .1 .1 .1 .1 .1 .0) ≡ length cells) (is1 : Is RunT.the-row r1 (v1 ∷ []))
         (v2 : Val) (r2 : Counts) (ws2 : Unit {0}) (e2 : r2 ≡ none) (is2 : Is CountsT.the-row r2 (v2 ∷ [])) (ν·3·4 : ℕ) (δ·3·4 : GName) (ν·3·5 : ℕ)
         (δ·3·5 : GName) (ν·3·6 : ℕ) (δ·3·6 : GName) (ν·3·7 : ℕ) (δ·3·7 : GName) (ν·3·8 : ℕ) (δ·3·8 : GName) (ν·3·9 : ℕ) (δ·3·9 : GName) (ν·3·11 : ℕ)
-        (δ·3·11 : GName) (ν·3·12 : ℕ) (δ·3·12 : GName) (ν·3·14 : ℕ) (δ·3·14 : GName) (ν·3·20 : ℕ) (δ·3·20 : GName) (ν·3·21 : ℕ) (δ·3·21 : GName)
+        (δ·3·11 : GName) (ν·3·12 : ℕ) (δ·3·12 : GName) (ν·3·14 : ℕ) (δ·3·14 : GName) (ν·3·21 : ℕ) (δ·3·21 : GName) (ν·3·22 : ℕ) (δ·3·22 : GName)
         (v3 : Val) (r3 : Run) (ws3 : (Unit {0} × (Unit {0} × (Unit {0} × (Unit {0} ×
         (Unit {0} × (Unit {0} × (Unit {0} × (Unit {0} × (Unit {0} × (Unit {0} ×
         ((List ℕ) × ((List ℕ) × ((List ℕ) × ((List ℕ) × ((List ℕ) × ((List ℕ) ×
-        ((List ℕ) × ((List ℕ) × ((List ℕ) × ((List ℕ) × ((List Fact) × (Counts × Unit {0})))))))))))))))))))))))
+        ((List ℕ) × ((List ℕ) × ((List ℕ) × ((List ℕ) × ((List ℕ) × ((List Fact) × (Counts × Unit {0}))))))))))))))))))))))))
         (e3 : Ran theory goals proof (theoryLists (ws1 .1 .1 .1 .0) (ws1 .1 .1 .1 .1 .0) (ws1 .1 .1 .1 .1 .1 .0) (ws1 .1 .1 .1 .1 .1 .1 .0)
         (ws1 .1 .1 .1 .1 .1 .1 .1 .0) (ws1 .1 .1 .1 .1 .1 .1 .1 .1 .0)) (working (ws1 .1 .1 .1 .1 .1 .1 .1 .1 .1 .0)
         (ws1 .1 .1 .1 .1 .1 .1 .1 .1 .1 .1 .0) (ws1 .1 .1 .1 .1 .1 .1 .1 .1 .1 .1 .1 .0) (ws1 .1 .1 .1 .1 .1 .1 .1 .1 .1 .1 .1 .1 .0)
@@ -4277,8 +4453,9 @@ module _ {M : Type 1} (𝓤 : URA M) (H : Heap 𝓤) (A : Atoms 𝓤) (W : Given
         (ws3 .1 .1 .1 .1 .1 .1 .1 .1 .1 .1 .1 .1 .1 .0) (ws3 .1 .1 .1 .1 .1 .1 .1 .1 .1 .1 .1 .1 .1 .1 .0)
         (ws3 .1 .1 .1 .1 .1 .1 .1 .1 .1 .1 .1 .1 .1 .1 .1 .0)) (ws3 .1 .1 .1 .1 .1 .1 .1 .1 .1 .1 .1 .1 .1 .1 .1 .1 .0)
         (ws3 .1 .1 .1 .1 .1 .1 .1 .1 .1 .1 .1 .1 .1 .1 .1 .1 .1 .0) (ws3 .1 .1 .1 .1 .1 .1 .1 .1 .1 .1 .1 .1 .1 .1 .1 .1 .1 .1 .0)
-        (ws3 .1 .1 .1 .1 .1 .1 .1 .1 .1 .1 .1 .1 .1 .1 .1 .1 .1 .1 .1 .0) r1 r3 facts
-        (ws3 .1 .1 .1 .1 .1 .1 .1 .1 .1 .1 .1 .1 .1 .1 .1 .1 .1 .1 .1 .1 .0) (ws3 .1 .1 .1 .1 .1 .1 .1 .1 .1 .1 .1 .1 .1 .1 .1 .1 .1 .1 .1 .1 .1 .0))
+        (ws3 .1 .1 .1 .1 .1 .1 .1 .1 .1 .1 .1 .1 .1 .1 .1 .1 .1 .1 .1 .0) (ws3 .1 .1 .1 .1 .1 .1 .1 .1 .1 .1 .1 .1 .1 .1 .1 .1 .1 .1 .1 .1 .0) r1 r3
+        facts (ws3 .1 .1 .1 .1 .1 .1 .1 .1 .1 .1 .1 .1 .1 .1 .1 .1 .1 .1 .1 .1 .1 .0)
+        (ws3 .1 .1 .1 .1 .1 .1 .1 .1 .1 .1 .1 .1 .1 .1 .1 .1 .1 .1 .1 .1 .1 .1 .0))
         (len·3·vars : length (ws3 .1 .1 .1 .1 .1 .1 .1 .1 .1 .1 .0) ≡ length (ws1 .1 .1 .1 .1 .1 .1 .1 .1 .1 .0))
         (len·3·index : length (ws3 .1 .1 .1 .1 .1 .1 .1 .1 .1 .1 .1 .0) ≡ length (ws1 .1 .1 .1 .1 .1 .1 .1 .1 .1 .1 .0))
         (len·3·words : length (ws3 .1 .1 .1 .1 .1 .1 .1 .1 .1 .1 .1 .1 .0) ≡ length (ws1 .1 .1 .1 .1 .1 .1 .1 .1 .1 .1 .1 .0))
@@ -4290,10 +4467,12 @@ module _ {M : Type 1} (𝓤 : URA M) (H : Heap 𝓤) (A : Atoms 𝓤) (W : Given
         (len·3·cells : length (ws3 .1 .1 .1 .1 .1 .1 .1 .1 .1 .1 .1 .1 .1 .1 .1 .1 .1 .1 .0) ≡ length
         (ws1 .1 .1 .1 .1 .1 .1 .1 .1 .1 .1 .1 .1 .1 .1 .1 .1 .1 .1 .0)) (len·3·ids : length
         (ws3 .1 .1 .1 .1 .1 .1 .1 .1 .1 .1 .1 .1 .1 .1 .1 .1 .1 .1 .1 .0) ≡ length ids)
-        (len·3·facts : length (ws3 .1 .1 .1 .1 .1 .1 .1 .1 .1 .1 .1 .1 .1 .1 .1 .1 .1 .1 .1 .1 .0) ≡ length facts)
+        (len·3·memo : length (ws3 .1 .1 .1 .1 .1 .1 .1 .1 .1 .1 .1 .1 .1 .1 .1 .1 .1 .1 .1 .1 .0) ≡ length memo)
+        (len·3·facts : length (ws3 .1 .1 .1 .1 .1 .1 .1 .1 .1 .1 .1 .1 .1 .1 .1 .1 .1 .1 .1 .1 .1 .0) ≡ length facts)
         (is3 : Is RunT.the-row r3 (v3 ∷ [])) →
-        Sq W (‵ (flft (ν·3·21 ∷ []) fullShare)
-        ∷ ‵ (flft (ν·3·20 ∷ []) fullShare)
+        Sq W (‵ (flft (ν·3·22 ∷ []) fullShare)
+        ∷ ‵ (flft (ν·3·21 ∷ []) fullShare)
+        ∷ ‵ (flft κ·memo q·memo)
         ∷ ‵ (flft κ·ids q·ids)
         ∷ ‵ (flft κ·cells q·cells)
         ∷ ‵ (flft κ·feet q·feet)
@@ -4313,8 +4492,9 @@ module _ {M : Type 1} (𝓤 : URA M) (H : Heap 𝓤) (A : Atoms 𝓤) (W : Given
         ∷ ‵ (flft κ·proof q·proof)
         ∷ ‵ (flft κ·goals q·goals)
         ∷ ‵ (flft κ·theory q·theory)
-        ∷ ‵ (fres δ·3·21 (CountsT.the-row .coded .code (ws3 .1 .1 .1 .1 .1 .1 .1 .1 .1 .1 .1 .1 .1 .1 .1 .1 .1 .1 .1 .1 .1 .0)))
-        ∷ ‵ (finally FactT.the-row δ·3·20 (ws3 .1 .1 .1 .1 .1 .1 .1 .1 .1 .1 .1 .1 .1 .1 .1 .1 .1 .1 .1 .1 .0))
+        ∷ ‵ (fres δ·3·22 (CountsT.the-row .coded .code (ws3 .1 .1 .1 .1 .1 .1 .1 .1 .1 .1 .1 .1 .1 .1 .1 .1 .1 .1 .1 .1 .1 .1 .0)))
+        ∷ ‵ (finally FactT.the-row δ·3·21 (ws3 .1 .1 .1 .1 .1 .1 .1 .1 .1 .1 .1 .1 .1 .1 .1 .1 .1 .1 .1 .1 .1 .0))
+        ∷ ‵ (finally u32 γ·memo (ws3 .1 .1 .1 .1 .1 .1 .1 .1 .1 .1 .1 .1 .1 .1 .1 .1 .1 .1 .1 .1 .0))
         ∷ ‵ (finally u32 γ·ids (ws3 .1 .1 .1 .1 .1 .1 .1 .1 .1 .1 .1 .1 .1 .1 .1 .1 .1 .1 .1 .0))
         ∷ ‵ (finally u32 γ·cells (ws3 .1 .1 .1 .1 .1 .1 .1 .1 .1 .1 .1 .1 .1 .1 .1 .1 .1 .1 .0))
         ∷ ‵ (finally u64 γ·feet (ws3 .1 .1 .1 .1 .1 .1 .1 .1 .1 .1 .1 .1 .1 .1 .1 .1 .1 .0))
@@ -4325,8 +4505,8 @@ module _ {M : Type 1} (𝓤 : URA M) (H : Heap 𝓤) (A : Atoms 𝓤) (W : Given
         ∷ ‵ (finally u32 δ·3·12 (ws3 .1 .1 .1 .1 .1 .1 .1 .1 .1 .1 .1 .1 .0))
         ∷ ‵ (finally u32 δ·3·11 (ws3 .1 .1 .1 .1 .1 .1 .1 .1 .1 .1 .1 .0))
         ∷ ‵ (finally u32 γ·vars (ws3 .1 .1 .1 .1 .1 .1 .1 .1 .1 .1 .0))
-        ∷ ‵ (flent (ν·3·21 ∷ []) (Body·T (mem·T CountsT.the-row) l24 0 δ·3·21))
-        ∷ ‵ (LentAgain FactT.the-row κ·facts (ν·3·20 ∷ []) q·facts γ·facts b·facts o·facts δ·3·20 facts)
+        ∷ ‵ (flent (ν·3·22 ∷ []) (Body·T (mem·T CountsT.the-row) l25 0 δ·3·22))
+        ∷ ‵ (LentAgain FactT.the-row κ·facts (ν·3·21 ∷ []) q·facts γ·facts b·facts o·facts δ·3·21 facts)
         ∷ ‵ (LentAgain u32 κ·rows (ν·3·14 ∷ []) q·rows γ·rows b·rows o·rows δ·3·14 (ws1 .1 .1 .1 .1 .1 .1 .1 .1 .1 .1 .1 .1 .1 .0))
         ∷ ‵ (LentAgain u32 κ·words (ν·3·12 ∷ []) q·words γ·words b·words o·words δ·3·12 (ws1 .1 .1 .1 .1 .1 .1 .1 .1 .1 .1 .1 .0))
         ∷ ‵ (LentAgain u32 κ·index (ν·3·11 ∷ []) q·index γ·index b·index o·index δ·3·11 (ws1 .1 .1 .1 .1 .1 .1 .1 .1 .1 .1 .0))
@@ -4341,177 +4521,183 @@ module _ {M : Type 1} (𝓤 : URA M) (H : Heap 𝓤) (A : Atoms 𝓤) (W : Given
         ∷ ‵ (ShrSlice (named 0) κ·theory u8 .own (ref·theory γ·theory theory) (s·theory ∷ []))
         ∷ ‵ (MutSlice (named 15) κ·missing u32 .own (ref·missing γ·missing (ws1 .1 .1 .1 .1 .1 .1 .1 .1 .1 .1 .1 .1 .1 .1 .1 .0)) (s·missing ∷ []))
         ∷ ‵ (flft κ·missing q·missing)
-        ∷ ‵ (froom (tyInt w64) l107 0)
-        ∷ ‵ (fdies (tyInt w64) l107)
-        ∷ ‵ (froom (tyInt w64) l106 0)
-        ∷ ‵ (fdies (tyInt w64) l106)
-        ∷ ‵ (froom (sliceTy (tyRef erased mut (pointee (FactT.the-row .written)))) l105 0)
-        ∷ ‵ (fdies (sliceTy (tyRef erased mut (pointee (FactT.the-row .written)))) l105)
-        ∷ ‵ (froom (tyRef erased mut (pointee (FactT.the-row .written))) l104 0)
-        ∷ ‵ (fdies (tyRef erased mut (pointee (FactT.the-row .written))) l104)
-        ∷ ‵ (froom tyUnit l103 0)
-        ∷ ‵ (fdies tyUnit l103)
-        ∷ ‵ (froom (sliceTy (tyRef erased mut (tyInt w32))) l102 0)
-        ∷ ‵ (fdies (sliceTy (tyRef erased mut (tyInt w32))) l102)
-        ∷ ‵ (froom (tyRef erased mut (tyInt w32)) l101 0)
-        ∷ ‵ (fdies (tyRef erased mut (tyInt w32)) l101)
-        ∷ ‵ (froom (sliceTy (tyRef erased imm (tyInt w32))) l100 0)
-        ∷ ‵ (fdies (sliceTy (tyRef erased imm (tyInt w32))) l100)
-        ∷ ‵ (froom (tyRef erased imm (tyInt w32)) l99 0)
-        ∷ ‵ (fdies (tyRef erased imm (tyInt w32)) l99)
-        ∷ ‵ (froom (sliceTy (tyRef erased imm (tyInt w32))) l98 0)
-        ∷ ‵ (fdies (sliceTy (tyRef erased imm (tyInt w32))) l98)
-        ∷ ‵ (froom (tyRef erased imm (tyInt w32)) l97 0)
-        ∷ ‵ (fdies (tyRef erased imm (tyInt w32)) l97)
-        ∷ ‵ (froom (sliceTy (tyRef erased mut (tyInt w32))) l96 0)
-        ∷ ‵ (fdies (sliceTy (tyRef erased mut (tyInt w32))) l96)
-        ∷ ‵ (froom (tyRef erased mut (tyInt w32)) l95 0)
-        ∷ ‵ (fdies (tyRef erased mut (tyInt w32)) l95)
-        ∷ ‵ (fat fullShare (tyRef erased mut (pointee (CountsT.the-row .written))) l94 0 (vptr l24 0))
-        ∷ ‵ (fdies (tyRef erased mut (pointee (CountsT.the-row .written))) l94)
-        ∷ ‵ (fat fullShare (sliceTy (tyRef erased mut (pointee (FactT.the-row .written)))) l93 0 s·facts)
-        ∷ ‵ (fdies (sliceTy (tyRef erased mut (pointee (FactT.the-row .written)))) l93)
-        ∷ ‵ (fat fullShare (tyRef erased mut (pointee (FactT.the-row .written))) l92 0 (vptr b·facts o·facts))
-        ∷ ‵ (fdies (tyRef erased mut (pointee (FactT.the-row .written))) l92)
-        ∷ ‵ (fat fullShare (sliceTy (tyRef erased mut (tyInt w32))) l91 0 s·ids)
-        ∷ ‵ (fdies (sliceTy (tyRef erased mut (tyInt w32))) l91)
-        ∷ ‵ (fat fullShare (tyRef erased mut (tyInt w32)) l90 0 (vptr b·ids o·ids))
-        ∷ ‵ (fdies (tyRef erased mut (tyInt w32)) l90)
-        ∷ ‵ (fat fullShare (sliceTy (tyRef erased mut (tyInt w32))) l89 0 s·cells)
-        ∷ ‵ (fdies (sliceTy (tyRef erased mut (tyInt w32))) l89)
-        ∷ ‵ (fat fullShare (tyRef erased mut (tyInt w32)) l88 0 (vptr b·cells o·cells))
-        ∷ ‵ (fdies (tyRef erased mut (tyInt w32)) l88)
-        ∷ ‵ (fat fullShare (sliceTy (tyRef erased mut (tyInt w64))) l87 0 s·feet)
-        ∷ ‵ (fdies (sliceTy (tyRef erased mut (tyInt w64))) l87)
-        ∷ ‵ (fat fullShare (tyRef erased mut (tyInt w64)) l86 0 (vptr b·feet o·feet))
-        ∷ ‵ (fdies (tyRef erased mut (tyInt w64)) l86)
-        ∷ ‵ (fat fullShare (sliceTy (tyRef erased mut (tyInt w32))) l85 0 s·kept)
-        ∷ ‵ (fdies (sliceTy (tyRef erased mut (tyInt w32))) l85)
-        ∷ ‵ (fat fullShare (tyRef erased mut (tyInt w32)) l84 0 (vptr b·kept o·kept))
-        ∷ ‵ (fdies (tyRef erased mut (tyInt w32)) l84)
-        ∷ ‵ (fat fullShare (sliceTy (tyRef erased mut (tyInt w32))) l83 0 s·lists)
-        ∷ ‵ (fdies (sliceTy (tyRef erased mut (tyInt w32))) l83)
-        ∷ ‵ (fat fullShare (tyRef erased mut (tyInt w32)) l82 0 (vptr b·lists o·lists))
-        ∷ ‵ (fdies (tyRef erased mut (tyInt w32)) l82)
-        ∷ ‵ (fat fullShare (sliceTy (tyRef erased mut (tyInt w32))) l81 0 s·rows)
-        ∷ ‵ (fdies (sliceTy (tyRef erased mut (tyInt w32))) l81)
-        ∷ ‵ (fat fullShare (tyRef erased mut (tyInt w32)) l80 0 (vptr b·rows o·rows))
-        ∷ ‵ (fdies (tyRef erased mut (tyInt w32)) l80)
-        ∷ ‵ (fat fullShare (sliceTy (tyRef erased mut (tyInt w32))) l79 0 s·defs)
-        ∷ ‵ (fdies (sliceTy (tyRef erased mut (tyInt w32))) l79)
-        ∷ ‵ (fat fullShare (tyRef erased mut (tyInt w32)) l78 0 (vptr b·defs o·defs))
-        ∷ ‵ (fdies (tyRef erased mut (tyInt w32)) l78)
-        ∷ ‵ (fat fullShare (sliceTy (tyRef erased mut (tyInt w32))) l77 0 s·words)
-        ∷ ‵ (fdies (sliceTy (tyRef erased mut (tyInt w32))) l77)
-        ∷ ‵ (fat fullShare (tyRef erased mut (tyInt w32)) l76 0 (vptr b·words o·words))
-        ∷ ‵ (fdies (tyRef erased mut (tyInt w32)) l76)
-        ∷ ‵ (fat fullShare (sliceTy (tyRef erased mut (tyInt w32))) l75 0 s·index)
-        ∷ ‵ (fdies (sliceTy (tyRef erased mut (tyInt w32))) l75)
-        ∷ ‵ (fat fullShare (tyRef erased mut (tyInt w32)) l74 0 (vptr b·index o·index))
-        ∷ ‵ (fdies (tyRef erased mut (tyInt w32)) l74)
-        ∷ ‵ (fat fullShare (sliceTy (tyRef erased mut (tyInt w32))) l73 0 s·vars)
-        ∷ ‵ (fdies (sliceTy (tyRef erased mut (tyInt w32))) l73)
-        ∷ ‵ (fat fullShare (tyRef erased mut (tyInt w32)) l72 0 (vptr b·vars o·vars))
-        ∷ ‵ (fdies (tyRef erased mut (tyInt w32)) l72)
-        ∷ ‵ (fat fullShare (sliceTy (tyRef erased imm (tyInt w32))) l71 0 s·patterns)
-        ∷ ‵ (fdies (sliceTy (tyRef erased imm (tyInt w32))) l71)
-        ∷ ‵ (fat fullShare (tyRef erased imm (tyInt w32)) l70 0 (vptr b·patterns o·patterns))
-        ∷ ‵ (fdies (tyRef erased imm (tyInt w32)) l70)
-        ∷ ‵ (fat fullShare (sliceTy (tyRef erased imm (tyInt w32))) l69 0 s·rulevars)
-        ∷ ‵ (fdies (sliceTy (tyRef erased imm (tyInt w32))) l69)
-        ∷ ‵ (fat fullShare (tyRef erased imm (tyInt w32)) l68 0 (vptr b·rulevars o·rulevars))
-        ∷ ‵ (fdies (tyRef erased imm (tyInt w32)) l68)
-        ∷ ‵ (fat fullShare (sliceTy (tyRef erased imm (tyInt w32))) l67 0 s·rules)
-        ∷ ‵ (fdies (sliceTy (tyRef erased imm (tyInt w32))) l67)
-        ∷ ‵ (fat fullShare (tyRef erased imm (tyInt w32)) l66 0 (vptr b·rules o·rules))
-        ∷ ‵ (fdies (tyRef erased imm (tyInt w32)) l66)
-        ∷ ‵ (fat fullShare (sliceTy (tyRef erased imm (tyInt w32))) l65 0 s·inputs)
-        ∷ ‵ (fdies (sliceTy (tyRef erased imm (tyInt w32))) l65)
-        ∷ ‵ (fat fullShare (tyRef erased imm (tyInt w32)) l64 0 (vptr b·inputs o·inputs))
-        ∷ ‵ (fdies (tyRef erased imm (tyInt w32)) l64)
-        ∷ ‵ (fat fullShare (sliceTy (tyRef erased imm (tyInt w32))) l63 0 s·symbols)
-        ∷ ‵ (fdies (sliceTy (tyRef erased imm (tyInt w32))) l63)
-        ∷ ‵ (fat fullShare (tyRef erased imm (tyInt w32)) l62 0 (vptr b·symbols o·symbols))
-        ∷ ‵ (fdies (tyRef erased imm (tyInt w32)) l62)
-        ∷ ‵ (fat fullShare (sliceTy (tyRef erased imm (tyInt w32))) l61 0 s·sorts)
-        ∷ ‵ (fdies (sliceTy (tyRef erased imm (tyInt w32))) l61)
-        ∷ ‵ (fat fullShare (tyRef erased imm (tyInt w32)) l60 0 (vptr b·sorts o·sorts))
-        ∷ ‵ (fdies (tyRef erased imm (tyInt w32)) l60)
-        ∷ ‵ (fat fullShare CountsL.mir l59 0 v2)
-        ∷ ‵ (fdies CountsL.mir l59)
-        ∷ ‵ (fat fullShare (sliceTy (tyRef erased mut (tyInt w32))) l58 0 s·cells)
-        ∷ ‵ (fdies (sliceTy (tyRef erased mut (tyInt w32))) l58)
-        ∷ ‵ (fat fullShare (tyRef erased mut (tyInt w32)) l57 0 (vptr b·cells o·cells))
-        ∷ ‵ (fdies (tyRef erased mut (tyInt w32)) l57)
-        ∷ ‵ (fat fullShare (sliceTy (tyRef erased imm (tyInt w64))) l56 0 s·feet)
-        ∷ ‵ (fdies (sliceTy (tyRef erased imm (tyInt w64))) l56)
-        ∷ ‵ (fat fullShare (tyRef erased imm (tyInt w64)) l55 0 (vptr b·feet o·feet))
-        ∷ ‵ (fdies (tyRef erased imm (tyInt w64)) l55)
-        ∷ ‵ (fat fullShare (sliceTy (tyRef erased imm (tyInt w32))) l54 0 s·kept)
-        ∷ ‵ (fdies (sliceTy (tyRef erased imm (tyInt w32))) l54)
-        ∷ ‵ (fat fullShare (tyRef erased imm (tyInt w32)) l53 0 (vptr b·kept o·kept))
-        ∷ ‵ (fdies (tyRef erased imm (tyInt w32)) l53)
-        ∷ ‵ (fat fullShare (sliceTy (tyRef erased mut (tyInt w32))) l52 0 s·missing)
-        ∷ ‵ (fdies (sliceTy (tyRef erased mut (tyInt w32))) l52)
-        ∷ ‵ (fat fullShare (tyRef erased mut (tyInt w32)) l51 0 (vptr b·missing o·missing))
-        ∷ ‵ (fdies (tyRef erased mut (tyInt w32)) l51)
-        ∷ ‵ (fat fullShare (sliceTy (tyRef erased mut (tyInt w32))) l50 0 s·lists)
-        ∷ ‵ (fdies (sliceTy (tyRef erased mut (tyInt w32))) l50)
-        ∷ ‵ (fat fullShare (tyRef erased mut (tyInt w32)) l49 0 (vptr b·lists o·lists))
-        ∷ ‵ (fdies (tyRef erased mut (tyInt w32)) l49)
-        ∷ ‵ (fat fullShare (sliceTy (tyRef erased mut (tyInt w32))) l48 0 s·rows)
-        ∷ ‵ (fdies (sliceTy (tyRef erased mut (tyInt w32))) l48)
-        ∷ ‵ (fat fullShare (tyRef erased mut (tyInt w32)) l47 0 (vptr b·rows o·rows))
-        ∷ ‵ (fdies (tyRef erased mut (tyInt w32)) l47)
-        ∷ ‵ (fat fullShare (sliceTy (tyRef erased mut (tyInt w32))) l46 0 s·defs)
-        ∷ ‵ (fdies (sliceTy (tyRef erased mut (tyInt w32))) l46)
-        ∷ ‵ (fat fullShare (tyRef erased mut (tyInt w32)) l45 0 (vptr b·defs o·defs))
-        ∷ ‵ (fdies (tyRef erased mut (tyInt w32)) l45)
-        ∷ ‵ (fat fullShare (sliceTy (tyRef erased mut (tyInt w32))) l44 0 s·words)
-        ∷ ‵ (fdies (sliceTy (tyRef erased mut (tyInt w32))) l44)
-        ∷ ‵ (fat fullShare (tyRef erased mut (tyInt w32)) l43 0 (vptr b·words o·words))
-        ∷ ‵ (fdies (tyRef erased mut (tyInt w32)) l43)
-        ∷ ‵ (fat fullShare (sliceTy (tyRef erased mut (tyInt w32))) l42 0 s·index)
-        ∷ ‵ (fdies (sliceTy (tyRef erased mut (tyInt w32))) l42)
-        ∷ ‵ (fat fullShare (tyRef erased mut (tyInt w32)) l41 0 (vptr b·index o·index))
-        ∷ ‵ (fdies (tyRef erased mut (tyInt w32)) l41)
-        ∷ ‵ (fat fullShare (sliceTy (tyRef erased mut (tyInt w32))) l40 0 s·vars)
-        ∷ ‵ (fdies (sliceTy (tyRef erased mut (tyInt w32))) l40)
-        ∷ ‵ (fat fullShare (tyRef erased mut (tyInt w32)) l39 0 (vptr b·vars o·vars))
-        ∷ ‵ (fdies (tyRef erased mut (tyInt w32)) l39)
-        ∷ ‵ (fat fullShare (sliceTy (tyRef erased mut (tyInt w32))) l38 0 s·patterns)
-        ∷ ‵ (fdies (sliceTy (tyRef erased mut (tyInt w32))) l38)
-        ∷ ‵ (fat fullShare (tyRef erased mut (tyInt w32)) l37 0 (vptr b·patterns o·patterns))
-        ∷ ‵ (fdies (tyRef erased mut (tyInt w32)) l37)
-        ∷ ‵ (fat fullShare (sliceTy (tyRef erased mut (tyInt w32))) l36 0 s·rulevars)
-        ∷ ‵ (fdies (sliceTy (tyRef erased mut (tyInt w32))) l36)
-        ∷ ‵ (fat fullShare (tyRef erased mut (tyInt w32)) l35 0 (vptr b·rulevars o·rulevars))
-        ∷ ‵ (fdies (tyRef erased mut (tyInt w32)) l35)
-        ∷ ‵ (fat fullShare (sliceTy (tyRef erased mut (tyInt w32))) l34 0 s·rules)
-        ∷ ‵ (fdies (sliceTy (tyRef erased mut (tyInt w32))) l34)
-        ∷ ‵ (fat fullShare (tyRef erased mut (tyInt w32)) l33 0 (vptr b·rules o·rules))
-        ∷ ‵ (fdies (tyRef erased mut (tyInt w32)) l33)
-        ∷ ‵ (fat fullShare (sliceTy (tyRef erased mut (tyInt w32))) l32 0 s·inputs)
-        ∷ ‵ (fdies (sliceTy (tyRef erased mut (tyInt w32))) l32)
-        ∷ ‵ (fat fullShare (tyRef erased mut (tyInt w32)) l31 0 (vptr b·inputs o·inputs))
-        ∷ ‵ (fdies (tyRef erased mut (tyInt w32)) l31)
-        ∷ ‵ (fat fullShare (sliceTy (tyRef erased mut (tyInt w32))) l30 0 s·symbols)
-        ∷ ‵ (fdies (sliceTy (tyRef erased mut (tyInt w32))) l30)
-        ∷ ‵ (fat fullShare (tyRef erased mut (tyInt w32)) l29 0 (vptr b·symbols o·symbols))
-        ∷ ‵ (fdies (tyRef erased mut (tyInt w32)) l29)
-        ∷ ‵ (fat fullShare (sliceTy (tyRef erased mut (tyInt w32))) l28 0 s·sorts)
-        ∷ ‵ (fdies (sliceTy (tyRef erased mut (tyInt w32))) l28)
-        ∷ ‵ (fat fullShare (tyRef erased mut (tyInt w32)) l27 0 (vptr b·sorts o·sorts))
-        ∷ ‵ (fdies (tyRef erased mut (tyInt w32)) l27)
-        ∷ ‵ (froom AnswerL.mir l26 0)
-        ∷ ‵ (fdies AnswerL.mir l26)
-        ∷ ‵ (fat fullShare RunL.mir l25 0 v3)
-        ∷ ‵ (fdies RunL.mir l25)
-        ∷ ‵ (fdies CountsL.mir l24)
-        ∷ ‵ (fat fullShare RunL.mir l23 0 v1)
-        ∷ ‵ (fdies RunL.mir l23)
-        ∷ ‵ (fat fullShare (tyInt w64) l22 0 (vint w64 (length facts)))
-        ∷ ‵ (fdies (tyInt w64) l22)
+        ∷ ‵ (froom (tyInt w64) l110 0)
+        ∷ ‵ (fdies (tyInt w64) l110)
+        ∷ ‵ (froom (tyInt w64) l109 0)
+        ∷ ‵ (fdies (tyInt w64) l109)
+        ∷ ‵ (froom (sliceTy (tyRef erased mut (pointee (FactT.the-row .written)))) l108 0)
+        ∷ ‵ (fdies (sliceTy (tyRef erased mut (pointee (FactT.the-row .written)))) l108)
+        ∷ ‵ (froom (tyRef erased mut (pointee (FactT.the-row .written))) l107 0)
+        ∷ ‵ (fdies (tyRef erased mut (pointee (FactT.the-row .written))) l107)
+        ∷ ‵ (froom tyUnit l106 0)
+        ∷ ‵ (fdies tyUnit l106)
+        ∷ ‵ (froom (sliceTy (tyRef erased mut (tyInt w32))) l105 0)
+        ∷ ‵ (fdies (sliceTy (tyRef erased mut (tyInt w32))) l105)
+        ∷ ‵ (froom (tyRef erased mut (tyInt w32)) l104 0)
+        ∷ ‵ (fdies (tyRef erased mut (tyInt w32)) l104)
+        ∷ ‵ (froom (sliceTy (tyRef erased imm (tyInt w32))) l103 0)
+        ∷ ‵ (fdies (sliceTy (tyRef erased imm (tyInt w32))) l103)
+        ∷ ‵ (froom (tyRef erased imm (tyInt w32)) l102 0)
+        ∷ ‵ (fdies (tyRef erased imm (tyInt w32)) l102)
+        ∷ ‵ (froom (sliceTy (tyRef erased imm (tyInt w32))) l101 0)
+        ∷ ‵ (fdies (sliceTy (tyRef erased imm (tyInt w32))) l101)
+        ∷ ‵ (froom (tyRef erased imm (tyInt w32)) l100 0)
+        ∷ ‵ (fdies (tyRef erased imm (tyInt w32)) l100)
+        ∷ ‵ (froom (sliceTy (tyRef erased mut (tyInt w32))) l99 0)
+        ∷ ‵ (fdies (sliceTy (tyRef erased mut (tyInt w32))) l99)
+        ∷ ‵ (froom (tyRef erased mut (tyInt w32)) l98 0)
+        ∷ ‵ (fdies (tyRef erased mut (tyInt w32)) l98)
+        ∷ ‵ (fat fullShare (tyRef erased mut (pointee (CountsT.the-row .written))) l97 0 (vptr l25 0))
+        ∷ ‵ (fdies (tyRef erased mut (pointee (CountsT.the-row .written))) l97)
+        ∷ ‵ (fat fullShare (sliceTy (tyRef erased mut (pointee (FactT.the-row .written)))) l96 0 s·facts)
+        ∷ ‵ (fdies (sliceTy (tyRef erased mut (pointee (FactT.the-row .written)))) l96)
+        ∷ ‵ (fat fullShare (tyRef erased mut (pointee (FactT.the-row .written))) l95 0 (vptr b·facts o·facts))
+        ∷ ‵ (fdies (tyRef erased mut (pointee (FactT.the-row .written))) l95)
+        ∷ ‵ (fat fullShare (sliceTy (tyRef erased mut (tyInt w32))) l94 0 s·memo)
+        ∷ ‵ (fdies (sliceTy (tyRef erased mut (tyInt w32))) l94)
+        ∷ ‵ (fat fullShare (tyRef erased mut (tyInt w32)) l93 0 (vptr b·memo o·memo))
+        ∷ ‵ (fdies (tyRef erased mut (tyInt w32)) l93)
+        ∷ ‵ (fat fullShare (sliceTy (tyRef erased mut (tyInt w32))) l92 0 s·ids)
+        ∷ ‵ (fdies (sliceTy (tyRef erased mut (tyInt w32))) l92)
+        ∷ ‵ (fat fullShare (tyRef erased mut (tyInt w32)) l91 0 (vptr b·ids o·ids))
+        ∷ ‵ (fdies (tyRef erased mut (tyInt w32)) l91)
+        ∷ ‵ (fat fullShare (sliceTy (tyRef erased mut (tyInt w32))) l90 0 s·cells)
+        ∷ ‵ (fdies (sliceTy (tyRef erased mut (tyInt w32))) l90)
+        ∷ ‵ (fat fullShare (tyRef erased mut (tyInt w32)) l89 0 (vptr b·cells o·cells))
+        ∷ ‵ (fdies (tyRef erased mut (tyInt w32)) l89)
+        ∷ ‵ (fat fullShare (sliceTy (tyRef erased mut (tyInt w64))) l88 0 s·feet)
+        ∷ ‵ (fdies (sliceTy (tyRef erased mut (tyInt w64))) l88)
+        ∷ ‵ (fat fullShare (tyRef erased mut (tyInt w64)) l87 0 (vptr b·feet o·feet))
+        ∷ ‵ (fdies (tyRef erased mut (tyInt w64)) l87)
+        ∷ ‵ (fat fullShare (sliceTy (tyRef erased mut (tyInt w32))) l86 0 s·kept)
+        ∷ ‵ (fdies (sliceTy (tyRef erased mut (tyInt w32))) l86)
+        ∷ ‵ (fat fullShare (tyRef erased mut (tyInt w32)) l85 0 (vptr b·kept o·kept))
+        ∷ ‵ (fdies (tyRef erased mut (tyInt w32)) l85)
+        ∷ ‵ (fat fullShare (sliceTy (tyRef erased mut (tyInt w32))) l84 0 s·lists)
+        ∷ ‵ (fdies (sliceTy (tyRef erased mut (tyInt w32))) l84)
+        ∷ ‵ (fat fullShare (tyRef erased mut (tyInt w32)) l83 0 (vptr b·lists o·lists))
+        ∷ ‵ (fdies (tyRef erased mut (tyInt w32)) l83)
+        ∷ ‵ (fat fullShare (sliceTy (tyRef erased mut (tyInt w32))) l82 0 s·rows)
+        ∷ ‵ (fdies (sliceTy (tyRef erased mut (tyInt w32))) l82)
+        ∷ ‵ (fat fullShare (tyRef erased mut (tyInt w32)) l81 0 (vptr b·rows o·rows))
+        ∷ ‵ (fdies (tyRef erased mut (tyInt w32)) l81)
+        ∷ ‵ (fat fullShare (sliceTy (tyRef erased mut (tyInt w32))) l80 0 s·defs)
+        ∷ ‵ (fdies (sliceTy (tyRef erased mut (tyInt w32))) l80)
+        ∷ ‵ (fat fullShare (tyRef erased mut (tyInt w32)) l79 0 (vptr b·defs o·defs))
+        ∷ ‵ (fdies (tyRef erased mut (tyInt w32)) l79)
+        ∷ ‵ (fat fullShare (sliceTy (tyRef erased mut (tyInt w32))) l78 0 s·words)
+        ∷ ‵ (fdies (sliceTy (tyRef erased mut (tyInt w32))) l78)
+        ∷ ‵ (fat fullShare (tyRef erased mut (tyInt w32)) l77 0 (vptr b·words o·words))
+        ∷ ‵ (fdies (tyRef erased mut (tyInt w32)) l77)
+        ∷ ‵ (fat fullShare (sliceTy (tyRef erased mut (tyInt w32))) l76 0 s·index)
+        ∷ ‵ (fdies (sliceTy (tyRef erased mut (tyInt w32))) l76)
+        ∷ ‵ (fat fullShare (tyRef erased mut (tyInt w32)) l75 0 (vptr b·index o·index))
+        ∷ ‵ (fdies (tyRef erased mut (tyInt w32)) l75)
+        ∷ ‵ (fat fullShare (sliceTy (tyRef erased mut (tyInt w32))) l74 0 s·vars)
+        ∷ ‵ (fdies (sliceTy (tyRef erased mut (tyInt w32))) l74)
+        ∷ ‵ (fat fullShare (tyRef erased mut (tyInt w32)) l73 0 (vptr b·vars o·vars))
+        ∷ ‵ (fdies (tyRef erased mut (tyInt w32)) l73)
+        ∷ ‵ (fat fullShare (sliceTy (tyRef erased imm (tyInt w32))) l72 0 s·patterns)
+        ∷ ‵ (fdies (sliceTy (tyRef erased imm (tyInt w32))) l72)
+        ∷ ‵ (fat fullShare (tyRef erased imm (tyInt w32)) l71 0 (vptr b·patterns o·patterns))
+        ∷ ‵ (fdies (tyRef erased imm (tyInt w32)) l71)
+        ∷ ‵ (fat fullShare (sliceTy (tyRef erased imm (tyInt w32))) l70 0 s·rulevars)
+        ∷ ‵ (fdies (sliceTy (tyRef erased imm (tyInt w32))) l70)
+        ∷ ‵ (fat fullShare (tyRef erased imm (tyInt w32)) l69 0 (vptr b·rulevars o·rulevars))
+        ∷ ‵ (fdies (tyRef erased imm (tyInt w32)) l69)
+        ∷ ‵ (fat fullShare (sliceTy (tyRef erased imm (tyInt w32))) l68 0 s·rules)
+        ∷ ‵ (fdies (sliceTy (tyRef erased imm (tyInt w32))) l68)
+        ∷ ‵ (fat fullShare (tyRef erased imm (tyInt w32)) l67 0 (vptr b·rules o·rules))
+        ∷ ‵ (fdies (tyRef erased imm (tyInt w32)) l67)
+        ∷ ‵ (fat fullShare (sliceTy (tyRef erased imm (tyInt w32))) l66 0 s·inputs)
+        ∷ ‵ (fdies (sliceTy (tyRef erased imm (tyInt w32))) l66)
+        ∷ ‵ (fat fullShare (tyRef erased imm (tyInt w32)) l65 0 (vptr b·inputs o·inputs))
+        ∷ ‵ (fdies (tyRef erased imm (tyInt w32)) l65)
+        ∷ ‵ (fat fullShare (sliceTy (tyRef erased imm (tyInt w32))) l64 0 s·symbols)
+        ∷ ‵ (fdies (sliceTy (tyRef erased imm (tyInt w32))) l64)
+        ∷ ‵ (fat fullShare (tyRef erased imm (tyInt w32)) l63 0 (vptr b·symbols o·symbols))
+        ∷ ‵ (fdies (tyRef erased imm (tyInt w32)) l63)
+        ∷ ‵ (fat fullShare (sliceTy (tyRef erased imm (tyInt w32))) l62 0 s·sorts)
+        ∷ ‵ (fdies (sliceTy (tyRef erased imm (tyInt w32))) l62)
+        ∷ ‵ (fat fullShare (tyRef erased imm (tyInt w32)) l61 0 (vptr b·sorts o·sorts))
+        ∷ ‵ (fdies (tyRef erased imm (tyInt w32)) l61)
+        ∷ ‵ (fat fullShare CountsL.mir l60 0 v2)
+        ∷ ‵ (fdies CountsL.mir l60)
+        ∷ ‵ (fat fullShare (sliceTy (tyRef erased mut (tyInt w32))) l59 0 s·cells)
+        ∷ ‵ (fdies (sliceTy (tyRef erased mut (tyInt w32))) l59)
+        ∷ ‵ (fat fullShare (tyRef erased mut (tyInt w32)) l58 0 (vptr b·cells o·cells))
+        ∷ ‵ (fdies (tyRef erased mut (tyInt w32)) l58)
+        ∷ ‵ (fat fullShare (sliceTy (tyRef erased imm (tyInt w64))) l57 0 s·feet)
+        ∷ ‵ (fdies (sliceTy (tyRef erased imm (tyInt w64))) l57)
+        ∷ ‵ (fat fullShare (tyRef erased imm (tyInt w64)) l56 0 (vptr b·feet o·feet))
+        ∷ ‵ (fdies (tyRef erased imm (tyInt w64)) l56)
+        ∷ ‵ (fat fullShare (sliceTy (tyRef erased imm (tyInt w32))) l55 0 s·kept)
+        ∷ ‵ (fdies (sliceTy (tyRef erased imm (tyInt w32))) l55)
+        ∷ ‵ (fat fullShare (tyRef erased imm (tyInt w32)) l54 0 (vptr b·kept o·kept))
+        ∷ ‵ (fdies (tyRef erased imm (tyInt w32)) l54)
+        ∷ ‵ (fat fullShare (sliceTy (tyRef erased mut (tyInt w32))) l53 0 s·missing)
+        ∷ ‵ (fdies (sliceTy (tyRef erased mut (tyInt w32))) l53)
+        ∷ ‵ (fat fullShare (tyRef erased mut (tyInt w32)) l52 0 (vptr b·missing o·missing))
+        ∷ ‵ (fdies (tyRef erased mut (tyInt w32)) l52)
+        ∷ ‵ (fat fullShare (sliceTy (tyRef erased mut (tyInt w32))) l51 0 s·lists)
+        ∷ ‵ (fdies (sliceTy (tyRef erased mut (tyInt w32))) l51)
+        ∷ ‵ (fat fullShare (tyRef erased mut (tyInt w32)) l50 0 (vptr b·lists o·lists))
+        ∷ ‵ (fdies (tyRef erased mut (tyInt w32)) l50)
+        ∷ ‵ (fat fullShare (sliceTy (tyRef erased mut (tyInt w32))) l49 0 s·rows)
+        ∷ ‵ (fdies (sliceTy (tyRef erased mut (tyInt w32))) l49)
+        ∷ ‵ (fat fullShare (tyRef erased mut (tyInt w32)) l48 0 (vptr b·rows o·rows))
+        ∷ ‵ (fdies (tyRef erased mut (tyInt w32)) l48)
+        ∷ ‵ (fat fullShare (sliceTy (tyRef erased mut (tyInt w32))) l47 0 s·defs)
+        ∷ ‵ (fdies (sliceTy (tyRef erased mut (tyInt w32))) l47)
+        ∷ ‵ (fat fullShare (tyRef erased mut (tyInt w32)) l46 0 (vptr b·defs o·defs))
+        ∷ ‵ (fdies (tyRef erased mut (tyInt w32)) l46)
+        ∷ ‵ (fat fullShare (sliceTy (tyRef erased mut (tyInt w32))) l45 0 s·words)
+        ∷ ‵ (fdies (sliceTy (tyRef erased mut (tyInt w32))) l45)
+        ∷ ‵ (fat fullShare (tyRef erased mut (tyInt w32)) l44 0 (vptr b·words o·words))
+        ∷ ‵ (fdies (tyRef erased mut (tyInt w32)) l44)
+        ∷ ‵ (fat fullShare (sliceTy (tyRef erased mut (tyInt w32))) l43 0 s·index)
+        ∷ ‵ (fdies (sliceTy (tyRef erased mut (tyInt w32))) l43)
+        ∷ ‵ (fat fullShare (tyRef erased mut (tyInt w32)) l42 0 (vptr b·index o·index))
+        ∷ ‵ (fdies (tyRef erased mut (tyInt w32)) l42)
+        ∷ ‵ (fat fullShare (sliceTy (tyRef erased mut (tyInt w32))) l41 0 s·vars)
+        ∷ ‵ (fdies (sliceTy (tyRef erased mut (tyInt w32))) l41)
+        ∷ ‵ (fat fullShare (tyRef erased mut (tyInt w32)) l40 0 (vptr b·vars o·vars))
+        ∷ ‵ (fdies (tyRef erased mut (tyInt w32)) l40)
+        ∷ ‵ (fat fullShare (sliceTy (tyRef erased mut (tyInt w32))) l39 0 s·patterns)
+        ∷ ‵ (fdies (sliceTy (tyRef erased mut (tyInt w32))) l39)
+        ∷ ‵ (fat fullShare (tyRef erased mut (tyInt w32)) l38 0 (vptr b·patterns o·patterns))
+        ∷ ‵ (fdies (tyRef erased mut (tyInt w32)) l38)
+        ∷ ‵ (fat fullShare (sliceTy (tyRef erased mut (tyInt w32))) l37 0 s·rulevars)
+        ∷ ‵ (fdies (sliceTy (tyRef erased mut (tyInt w32))) l37)
+        ∷ ‵ (fat fullShare (tyRef erased mut (tyInt w32)) l36 0 (vptr b·rulevars o·rulevars))
+        ∷ ‵ (fdies (tyRef erased mut (tyInt w32)) l36)
+        ∷ ‵ (fat fullShare (sliceTy (tyRef erased mut (tyInt w32))) l35 0 s·rules)
+        ∷ ‵ (fdies (sliceTy (tyRef erased mut (tyInt w32))) l35)
+        ∷ ‵ (fat fullShare (tyRef erased mut (tyInt w32)) l34 0 (vptr b·rules o·rules))
+        ∷ ‵ (fdies (tyRef erased mut (tyInt w32)) l34)
+        ∷ ‵ (fat fullShare (sliceTy (tyRef erased mut (tyInt w32))) l33 0 s·inputs)
+        ∷ ‵ (fdies (sliceTy (tyRef erased mut (tyInt w32))) l33)
+        ∷ ‵ (fat fullShare (tyRef erased mut (tyInt w32)) l32 0 (vptr b·inputs o·inputs))
+        ∷ ‵ (fdies (tyRef erased mut (tyInt w32)) l32)
+        ∷ ‵ (fat fullShare (sliceTy (tyRef erased mut (tyInt w32))) l31 0 s·symbols)
+        ∷ ‵ (fdies (sliceTy (tyRef erased mut (tyInt w32))) l31)
+        ∷ ‵ (fat fullShare (tyRef erased mut (tyInt w32)) l30 0 (vptr b·symbols o·symbols))
+        ∷ ‵ (fdies (tyRef erased mut (tyInt w32)) l30)
+        ∷ ‵ (fat fullShare (sliceTy (tyRef erased mut (tyInt w32))) l29 0 s·sorts)
+        ∷ ‵ (fdies (sliceTy (tyRef erased mut (tyInt w32))) l29)
+        ∷ ‵ (fat fullShare (tyRef erased mut (tyInt w32)) l28 0 (vptr b·sorts o·sorts))
+        ∷ ‵ (fdies (tyRef erased mut (tyInt w32)) l28)
+        ∷ ‵ (froom AnswerL.mir l27 0)
+        ∷ ‵ (fdies AnswerL.mir l27)
+        ∷ ‵ (fat fullShare RunL.mir l26 0 v3)
+        ∷ ‵ (fdies RunL.mir l26)
+        ∷ ‵ (fdies CountsL.mir l25)
+        ∷ ‵ (fat fullShare RunL.mir l24 0 v1)
+        ∷ ‵ (fdies RunL.mir l24)
+        ∷ ‵ (fat fullShare (tyInt w64) l23 0 (vint w64 (length facts)))
+        ∷ ‵ (fdies (tyInt w64) l23)
+        ∷ ‵ (fat fullShare (sliceTy (tyRef (named 21) mut (tyInt w32))) l22 0 s·memo)
+        ∷ ‵ (fdies (sliceTy (tyRef (named 21) mut (tyInt w32))) l22)
         ∷ ‵ (fat fullShare (sliceTy (tyRef (named 20) mut (tyInt w32))) l21 0 s·ids)
         ∷ ‵ (fdies (sliceTy (tyRef (named 20) mut (tyInt w32))) l21)
         ∷ ‵ (fat fullShare (sliceTy (tyRef (named 19) mut (tyInt w32))) l20 0 s·cells)
@@ -4559,65 +4745,66 @@ module _ {M : Type 1} (𝓤 : URA M) (H : Heap 𝓤) (A : Atoms 𝓤) (W : Given
         (runs C Λ (En l0 l1 l2 l3 l4 l5 l6 l7 l8 l9 l10 l11 l12 l13 l14 l15 l16 l17 l18 l19 l20 l21 l22 l23 l24 l25 l26 l27 l28 l29 l30 l31 l32 l33
         l34 l35 l36 l37 l38 l39 l40 l41 l42 l43 l44 l45 l46 l47 l48 l49 l50 l51 l52 l53 l54 l55 l56 l57 l58 l59 l60 l61 l62 l63 l64 l65 l66 l67 l68
         l69 l70 l71 l72 l73 l74 l75 l76 l77 l78 l79 l80 l81 l82 l83 l84 l85 l86 l87 l88 l89 l90 l91 l92 l93 l94 l95 l96 l97 l98 l99 l100 l101 l102
-        l103 l104 l105 l106 l107) pieces.t-73 (atRet (En l0 l1 l2 l3 l4 l5 l6 l7 l8 l9 l10 l11 l12 l13 l14 l15 l16 l17 l18 l19 l20 l21 l22 l23 l24 l25
-        l26 l27 l28 l29 l30 l31 l32 l33 l34 l35 l36 l37 l38 l39 l40 l41 l42 l43 l44 l45 l46 l47 l48 l49 l50 l51 l52 l53 l54 l55 l56 l57 l58 l59 l60
-        l61 l62 l63 l64 l65 l66 l67 l68 l69 l70 l71 l72 l73 l74 l75 l76 l77 l78 l79 l80 l81 l82 l83 l84 l85 l86 l87 l88 l89 l90 l91 l92 l93 l94 l95
-        l96 l97 l98 l99 l100 l101 l102 l103 l104 l105 l106 l107) Post))
+        l103 l104 l105 l106 l107 l108 l109 l110) pieces.t-75 (atRet (En l0 l1 l2 l3 l4 l5 l6 l7 l8 l9 l10 l11 l12 l13 l14 l15 l16 l17 l18 l19 l20 l21
+        l22 l23 l24 l25 l26 l27 l28 l29 l30 l31 l32 l33 l34 l35 l36 l37 l38 l39 l40 l41 l42 l43 l44 l45 l46 l47 l48 l49 l50 l51 l52 l53 l54 l55 l56
+        l57 l58 l59 l60 l61 l62 l63 l64 l65 l66 l67 l68 l69 l70 l71 l72 l73 l74 l75 l76 l77 l78 l79 l80 l81 l82 l83 l84 l85 l86 l87 l88 l89 l90 l91
+        l92 l93 l94 l95 l96 l97 l98 l99 l100 l101 l102 l103 l104 l105 l106 l107 l108 l109 l110) Post))
     seg·9 l0 l1 l2 l3 l4 l5 l6 l7 l8 l9 l10 l11 l12 l13 l14 l15 l16 l17 l18 l19 l20 l21 l22 l23 l24 l25 l26 l27 l28 l29 l30 l31 l32 l33 l34 l35 l36
         l37 l38 l39 l40 l41 l42 l43 l44 l45 l46 l47 l48 l49 l50 l51 l52 l53 l54 l55 l56 l57 l58 l59 l60 l61 l62 l63 l64 l65 l66 l67 l68 l69 l70 l71
         l72 l73 l74 l75 l76 l77 l78 l79 l80 l81 l82 l83 l84 l85 l86 l87 l88 l89 l90 l91 l92 l93 l94 l95 l96 l97 l98 l99 l100 l101 l102 l103 l104
-        l105 l106 l107 ν·1·3 δ·1·3 ν·1·4 δ·1·4 ν·1·5 δ·1·5 ν·1·6 δ·1·6 ν·1·7 δ·1·7 ν·1·8 δ·1·8 ν·1·9 δ·1·9 ν·1·10 δ·1·10 ν·1·11 δ·1·11 ν·1·12
-        δ·1·12 ν·1·13 δ·1·13 ν·1·14 δ·1·14 ν·1·15 δ·1·15 ν·1·16 δ·1·16 ν·1·17 δ·1·17 ν·1·18 δ·1·18 v1 r1 ws1 e1·0 e1·1 len·1·sorts
-        len·1·symbols len·1·inputs len·1·rules len·1·rulevars len·1·patterns len·1·vars len·1·index len·1·words len·1·defs len·1·rows
-        len·1·lists len·1·missing len·1·cells is1 v2 r2 ws2 e2 is2 ν·3·4 δ·3·4 ν·3·5 δ·3·5 ν·3·6 δ·3·6 ν·3·7 δ·3·7 ν·3·8 δ·3·8
-        ν·3·9 δ·3·9 ν·3·11 δ·3·11 ν·3·12 δ·3·12 ν·3·14 δ·3·14 ν·3·20 δ·3·20 ν·3·21 δ·3·21 v3 r3 ws3 e3 len·3·vars len·3·index
-        len·3·words len·3·defs len·3·rows len·3·lists len·3·kept len·3·feet len·3·cells len·3·ids len·3·facts is3 =
-        move ! (17 ∷ []) $
+        l105 l106 l107 l108 l109 l110 ν·1·3 δ·1·3 ν·1·4 δ·1·4 ν·1·5 δ·1·5 ν·1·6 δ·1·6 ν·1·7 δ·1·7 ν·1·8 δ·1·8 ν·1·9 δ·1·9 ν·1·10 δ·1·10 ν·1·11
+        δ·1·11 ν·1·12 δ·1·12 ν·1·13 δ·1·13 ν·1·14 δ·1·14 ν·1·15 δ·1·15 ν·1·16 δ·1·16 ν·1·17 δ·1·17 ν·1·18 δ·1·18 v1 r1 ws1 e1·0 e1·1
+        len·1·sorts len·1·symbols len·1·inputs len·1·rules len·1·rulevars len·1·patterns len·1·vars len·1·index len·1·words len·1·defs
+        len·1·rows len·1·lists len·1·missing len·1·cells is1 v2 r2 ws2 e2 is2 ν·3·4 δ·3·4 ν·3·5 δ·3·5 ν·3·6 δ·3·6 ν·3·7 δ·3·7
+        ν·3·8 δ·3·8 ν·3·9 δ·3·9 ν·3·11 δ·3·11 ν·3·12 δ·3·12 ν·3·14 δ·3·14 ν·3·21 δ·3·21 ν·3·22 δ·3·22 v3 r3 ws3 e3 len·3·vars
+        len·3·index len·3·words len·3·defs len·3·rows len·3·lists len·3·kept len·3·feet len·3·cells len·3·ids len·3·memo
+        len·3·facts is3 =
+        move ! (18 ∷ []) $
         lft-end ! tt $
-        move ! (0 ∷ 43 ∷ []) $
+        move ! (0 ∷ 45 ∷ []) $
         use2 W (later (‵ (MutSlice (named 3) κ·sorts u32 .own (ref·sorts γ·sorts (ws1 .1 .1 .1 .0)) (s·sorts ∷ [])) ⊛ ‵ (flft κ·sorts q·sorts)))
         (shared-back u32 κ·sorts (ν·3·4 ∷ []) q·sorts γ·sorts b·sorts o·sorts 𝓤 H A W (named 3) (named 3) (length sorts) (ws1 .1 .1 .1 .0) room·sorts
         (len·1·sorts ∙ (refl))) $ await ! tt $ split ! $
-        move ! (18 ∷ []) $
+        move ! (19 ∷ []) $
         lft-end ! tt $
-        move ! (0 ∷ 43 ∷ []) $
+        move ! (0 ∷ 45 ∷ []) $
         use2 W (later (‵ (MutSlice (named 4) κ·symbols u32 .own (ref·symbols γ·symbols (ws1 .1 .1 .1 .1 .0)) (s·symbols ∷ []))
         ⊛ ‵ (flft κ·symbols q·symbols))) (shared-back u32 κ·symbols (ν·3·5 ∷ []) q·symbols γ·symbols b·symbols o·symbols 𝓤 H A W (named 4) (named 4)
         (length symbols) (ws1 .1 .1 .1 .1 .0) room·symbols (len·1·symbols ∙ (refl))) $ await ! tt $ split ! $
-        move ! (19 ∷ []) $
+        move ! (20 ∷ []) $
         lft-end ! tt $
-        move ! (0 ∷ 43 ∷ []) $
+        move ! (0 ∷ 45 ∷ []) $
         use2 W (later (‵ (MutSlice (named 5) κ·inputs u32 .own (ref·inputs γ·inputs (ws1 .1 .1 .1 .1 .1 .0)) (s·inputs ∷ []))
         ⊛ ‵ (flft κ·inputs q·inputs))) (shared-back u32 κ·inputs (ν·3·6 ∷ []) q·inputs γ·inputs b·inputs o·inputs 𝓤 H A W (named 5) (named 5)
         (length inputs) (ws1 .1 .1 .1 .1 .1 .0) room·inputs (len·1·inputs ∙ (refl))) $ await ! tt $ split ! $
-        move ! (20 ∷ []) $
+        move ! (21 ∷ []) $
         lft-end ! tt $
-        move ! (0 ∷ 43 ∷ []) $
+        move ! (0 ∷ 45 ∷ []) $
         use2 W (later (‵ (MutSlice (named 6) κ·rules u32 .own (ref·rules γ·rules (ws1 .1 .1 .1 .1 .1 .1 .0)) (s·rules ∷ []))
         ⊛ ‵ (flft κ·rules q·rules))) (shared-back u32 κ·rules (ν·3·7 ∷ []) q·rules γ·rules b·rules o·rules 𝓤 H A W (named 6) (named 6) (length rules)
         (ws1 .1 .1 .1 .1 .1 .1 .0) room·rules (len·1·rules ∙ (refl))) $ await ! tt $ split ! $
-        move ! (21 ∷ []) $
+        move ! (22 ∷ []) $
         lft-end ! tt $
-        move ! (0 ∷ 43 ∷ []) $
+        move ! (0 ∷ 45 ∷ []) $
         use2 W (later (‵ (MutSlice (named 7) κ·rulevars u32 .own (ref·rulevars γ·rulevars (ws1 .1 .1 .1 .1 .1 .1 .1 .0)) (s·rulevars ∷ []))
         ⊛ ‵ (flft κ·rulevars q·rulevars))) (shared-back u32 κ·rulevars (ν·3·8 ∷ []) q·rulevars γ·rulevars b·rulevars o·rulevars 𝓤 H A W (named 7)
         (named 7) (length rulevars) (ws1 .1 .1 .1 .1 .1 .1 .1 .0) room·rulevars (len·1·rulevars ∙ (refl))) $ await ! tt $ split ! $
-        move ! (22 ∷ []) $
+        move ! (23 ∷ []) $
         lft-end ! tt $
-        move ! (0 ∷ 43 ∷ []) $
+        move ! (0 ∷ 45 ∷ []) $
         use2 W (later (‵ (MutSlice (named 8) κ·patterns u32 .own (ref·patterns γ·patterns (ws1 .1 .1 .1 .1 .1 .1 .1 .1 .0)) (s·patterns ∷ []))
         ⊛ ‵ (flft κ·patterns q·patterns))) (shared-back u32 κ·patterns (ν·3·9 ∷ []) q·patterns γ·patterns b·patterns o·patterns 𝓤 H A W (named 8)
         (named 8) (length patterns) (ws1 .1 .1 .1 .1 .1 .1 .1 .1 .0) room·patterns (len·1·patterns ∙ (refl))) $ await ! tt $ split ! $
-        move ! (22 ∷ []) $
+        move ! (23 ∷ []) $
         lft-end ! tt $
-        move ! (0 ∷ 43 ∷ 37 ∷ []) $
+        move ! (0 ∷ 45 ∷ 39 ∷ []) $
         use3 W (later (‵ (MutSlice (named 10) κ·index u32 .own (ref·index γ·index (ws3 .1 .1 .1 .1 .1 .1 .1 .1 .1 .1 .1 .0)) (s·index ∷ []))
         ⊛ ‵ (flft κ·index q·index))) (again-back u32 κ·index (ν·3·11 ∷ []) q·index γ·index b·index o·index 𝓤 H A W (named 10) (named 10)
         (length index) (ws1 .1 .1 .1 .1 .1 .1 .1 .1 .1 .1 .0) room·index (len·1·index ∙ (refl)) δ·3·11 (ws3 .1 .1 .1 .1 .1 .1 .1 .1 .1 .1 .1 .0)
         len·3·index) $ await ! tt $ split ! $
-        move ! (23 ∷ []) $
+        move ! (24 ∷ []) $
         lft-end ! tt $
-        move ! (0 ∷ 42 ∷ 37 ∷ []) $
+        move ! (0 ∷ 44 ∷ 39 ∷ []) $
         use3 W (later (‵ (MutSlice (named 11) κ·words u32 .own (ref·words γ·words (ws3 .1 .1 .1 .1 .1 .1 .1 .1 .1 .1 .1 .1 .0)) (s·words ∷ []))
         ⊛ ‵ (flft κ·words q·words))) (again-back u32 κ·words (ν·3·12 ∷ []) q·words γ·words b·words o·words 𝓤 H A W (named 11) (named 11)
         (length words) (ws1 .1 .1 .1 .1 .1 .1 .1 .1 .1 .1 .1 .0) room·words (len·1·words ∙ (refl)) δ·3·12 (ws3 .1 .1 .1 .1 .1 .1 .1 .1 .1 .1 .1 .1 .0)
@@ -4625,12 +4812,12 @@ module _ {M : Type 1} (𝓤 : URA M) (H : Heap 𝓤) (A : Atoms 𝓤) (W : Given
         seg·10 l0 l1 l2 l3 l4 l5 l6 l7 l8 l9 l10 l11 l12 l13 l14 l15 l16 l17 l18 l19 l20 l21 l22 l23 l24 l25 l26 l27 l28 l29 l30 l31 l32 l33 l34 l35
         l36 l37 l38 l39 l40 l41 l42 l43 l44 l45 l46 l47 l48 l49 l50 l51 l52 l53 l54 l55 l56 l57 l58 l59 l60 l61 l62 l63 l64 l65 l66 l67 l68 l69 l70
         l71 l72 l73 l74 l75 l76 l77 l78 l79 l80 l81 l82 l83 l84 l85 l86 l87 l88 l89 l90 l91 l92 l93 l94 l95 l96 l97 l98 l99 l100 l101 l102 l103 l104
-        l105 l106 l107 ν·1·3 δ·1·3 ν·1·4 δ·1·4 ν·1·5 δ·1·5 ν·1·6 δ·1·6 ν·1·7 δ·1·7 ν·1·8 δ·1·8 ν·1·9 δ·1·9 ν·1·10 δ·1·10 ν·1·11 δ·1·11 ν·1·12 δ·1·12
-        ν·1·13 δ·1·13 ν·1·14 δ·1·14 ν·1·15 δ·1·15 ν·1·16 δ·1·16 ν·1·17 δ·1·17 ν·1·18 δ·1·18 v1 r1 ws1 e1·0 e1·1 len·1·sorts len·1·symbols len·1·inputs
-        len·1·rules len·1·rulevars len·1·patterns len·1·vars len·1·index len·1·words len·1·defs len·1·rows len·1·lists len·1·missing len·1·cells is1
-        v2 r2 ws2 e2 is2 ν·3·4 δ·3·4 ν·3·5 δ·3·5 ν·3·6 δ·3·6 ν·3·7 δ·3·7 ν·3·8 δ·3·8 ν·3·9 δ·3·9 ν·3·11 δ·3·11 ν·3·12 δ·3·12 ν·3·14 δ·3·14 ν·3·20
-        δ·3·20 ν·3·21 δ·3·21 v3 r3 ws3 e3 len·3·vars len·3·index len·3·words len·3·defs len·3·rows len·3·lists len·3·kept len·3·feet len·3·cells
-        len·3·ids len·3·facts is3
+        l105 l106 l107 l108 l109 l110 ν·1·3 δ·1·3 ν·1·4 δ·1·4 ν·1·5 δ·1·5 ν·1·6 δ·1·6 ν·1·7 δ·1·7 ν·1·8 δ·1·8 ν·1·9 δ·1·9 ν·1·10 δ·1·10 ν·1·11 δ·1·11
+        ν·1·12 δ·1·12 ν·1·13 δ·1·13 ν·1·14 δ·1·14 ν·1·15 δ·1·15 ν·1·16 δ·1·16 ν·1·17 δ·1·17 ν·1·18 δ·1·18 v1 r1 ws1 e1·0 e1·1 len·1·sorts
+        len·1·symbols len·1·inputs len·1·rules len·1·rulevars len·1·patterns len·1·vars len·1·index len·1·words len·1·defs len·1·rows len·1·lists
+        len·1·missing len·1·cells is1 v2 r2 ws2 e2 is2 ν·3·4 δ·3·4 ν·3·5 δ·3·5 ν·3·6 δ·3·6 ν·3·7 δ·3·7 ν·3·8 δ·3·8 ν·3·9 δ·3·9 ν·3·11 δ·3·11 ν·3·12
+        δ·3·12 ν·3·14 δ·3·14 ν·3·21 δ·3·21 ν·3·22 δ·3·22 v3 r3 ws3 e3 len·3·vars len·3·index len·3·words len·3·defs len·3·rows len·3·lists len·3·kept
+        len·3·feet len·3·cells len·3·ids len·3·memo len·3·facts is3
 
     seg·8 : (l0 : ℕ) (l1 : ℕ) (l2 : ℕ) (l3 : ℕ) (l4 : ℕ) (l5 : ℕ) (l6 : ℕ) (l7 : ℕ) (l8 : ℕ) (l9 : ℕ) (l10 : ℕ) (l11 : ℕ) (l12 : ℕ) (l13 : ℕ)
         (l14 : ℕ) (l15 : ℕ) (l16 : ℕ) (l17 : ℕ) (l18 : ℕ) (l19 : ℕ) (l20 : ℕ) (l21 : ℕ) (l22 : ℕ) (l23 : ℕ) (l24 : ℕ) (l25 : ℕ) (l26 : ℕ) (l27 : ℕ)
@@ -4639,14 +4826,14 @@ module _ {M : Type 1} (𝓤 : URA M) (H : Heap 𝓤) (A : Atoms 𝓤) (W : Given
         (l56 : ℕ) (l57 : ℕ) (l58 : ℕ) (l59 : ℕ) (l60 : ℕ) (l61 : ℕ) (l62 : ℕ) (l63 : ℕ) (l64 : ℕ) (l65 : ℕ) (l66 : ℕ) (l67 : ℕ) (l68 : ℕ) (l69 : ℕ)
         (l70 : ℕ) (l71 : ℕ) (l72 : ℕ) (l73 : ℕ) (l74 : ℕ) (l75 : ℕ) (l76 : ℕ) (l77 : ℕ) (l78 : ℕ) (l79 : ℕ) (l80 : ℕ) (l81 : ℕ) (l82 : ℕ) (l83 : ℕ)
         (l84 : ℕ) (l85 : ℕ) (l86 : ℕ) (l87 : ℕ) (l88 : ℕ) (l89 : ℕ) (l90 : ℕ) (l91 : ℕ) (l92 : ℕ) (l93 : ℕ) (l94 : ℕ) (l95 : ℕ) (l96 : ℕ) (l97 : ℕ)
-        (l98 : ℕ) (l99 : ℕ) (l100 : ℕ) (l101 : ℕ) (l102 : ℕ) (l103 : ℕ) (l104 : ℕ) (l105 : ℕ) (l106 : ℕ) (l107 : ℕ) (ν·1·3 : ℕ) (δ·1·3 : GName)
-        (ν·1·4 : ℕ) (δ·1·4 : GName) (ν·1·5 : ℕ) (δ·1·5 : GName) (ν·1·6 : ℕ) (δ·1·6 : GName) (ν·1·7 : ℕ) (δ·1·7 : GName) (ν·1·8 : ℕ) (δ·1·8 : GName)
-        (ν·1·9 : ℕ) (δ·1·9 : GName) (ν·1·10 : ℕ) (δ·1·10 : GName) (ν·1·11 : ℕ) (δ·1·11 : GName) (ν·1·12 : ℕ) (δ·1·12 : GName) (ν·1·13 : ℕ)
-        (δ·1·13 : GName) (ν·1·14 : ℕ) (δ·1·14 : GName) (ν·1·15 : ℕ) (δ·1·15 : GName) (ν·1·16 : ℕ) (δ·1·16 : GName) (ν·1·17 : ℕ) (δ·1·17 : GName)
-        (ν·1·18 : ℕ) (δ·1·18 : GName) (v1 : Val) (r1 : Run) (ws1 : (Unit {0} ×
-        (Unit {0} × (Unit {0} × ((List ℕ) × ((List ℕ) × ((List ℕ) × ((List ℕ) ×
+        (l98 : ℕ) (l99 : ℕ) (l100 : ℕ) (l101 : ℕ) (l102 : ℕ) (l103 : ℕ) (l104 : ℕ) (l105 : ℕ) (l106 : ℕ) (l107 : ℕ) (l108 : ℕ) (l109 : ℕ) (l110 : ℕ)
+        (ν·1·3 : ℕ) (δ·1·3 : GName) (ν·1·4 : ℕ) (δ·1·4 : GName) (ν·1·5 : ℕ) (δ·1·5 : GName) (ν·1·6 : ℕ) (δ·1·6 : GName) (ν·1·7 : ℕ) (δ·1·7 : GName)
+        (ν·1·8 : ℕ) (δ·1·8 : GName) (ν·1·9 : ℕ) (δ·1·9 : GName) (ν·1·10 : ℕ) (δ·1·10 : GName) (ν·1·11 : ℕ) (δ·1·11 : GName) (ν·1·12 : ℕ)
+        (δ·1·12 : GName) (ν·1·13 : ℕ) (δ·1·13 : GName) (ν·1·14 : ℕ) (δ·1·14 : GName) (ν·1·15 : ℕ) (δ·1·15 : GName) (ν·1·16 : ℕ) (δ·1·16 : GName)
+        (ν·1·17 : ℕ) (δ·1·17 : GName) (ν·1·18 : ℕ) (δ·1·18 : GName) (v1 : Val) (r1 : Run)
+        (ws1 : (Unit {0} × (Unit {0} × (Unit {0} × ((List ℕ) × ((List ℕ) × ((List ℕ) ×
         ((List ℕ) × ((List ℕ) × ((List ℕ) × ((List ℕ) × ((List ℕ) × ((List ℕ) ×
-        ((List ℕ) × ((List ℕ) × ((List ℕ) × (Unit {0} × (Unit {0} × ((List ℕ) × (Unit {0} × Unit {0})))))))))))))))))))))
+        ((List ℕ) × ((List ℕ) × ((List ℕ) × ((List ℕ) × (Unit {0} × (Unit {0} × ((List ℕ) × (Unit {0} × Unit {0})))))))))))))))))))))
         (e1·0 : Begun theory goals proof (length facts) (theoryLists sorts symbols inputs rules rulevars patterns)
         (theoryLists (ws1 .1 .1 .1 .0) (ws1 .1 .1 .1 .1 .0) (ws1 .1 .1 .1 .1 .1 .0) (ws1 .1 .1 .1 .1 .1 .1 .0) (ws1 .1 .1 .1 .1 .1 .1 .1 .0)
         (ws1 .1 .1 .1 .1 .1 .1 .1 .1 .0)) (working vars index words defs rows lists)
@@ -4666,11 +4853,8 @@ module _ {M : Type 1} (𝓤 : URA M) (H : Heap 𝓤) (A : Atoms 𝓤) (W : Given
         (len·1·missing : length (ws1 .1 .1 .1 .1 .1 .1 .1 .1 .1 .1 .1 .1 .1 .1 .1 .0) ≡ length missing)
         (len·1·cells : length (ws1 .1 .1 .1 .1 .1 .1 .1 .1 .1 .1 .1 .1 .1 .1 .1 .1 .1 .1 .0) ≡ length cells) (is1 : Is RunT.the-row r1 (v1 ∷ []))
         (v2 : Val) (r2 : Counts) (ws2 : Unit {0}) (e2 : r2 ≡ none) (is2 : Is CountsT.the-row r2 (v2 ∷ [])) (ν·3·4 : ℕ) (δ·3·4 : GName) (ν·3·5 : ℕ)
-        (δ·3·5 : GName) (ν·3·6 : ℕ) (δ·3·6 : GName) (ν·3·7 : ℕ) (δ·3·7 : GName) (ν·3·8 : ℕ) (δ·3·8 : GName) →
-        Sq W (‵ (ShrSlice (named 7) (ν·3·8 ∷ []) u32 .own (ref·rulevars δ·3·8 (ws1 .1 .1 .1 .1 .1 .1 .1 .0)) (s·rulevars ∷ []))
-        ∷ ‵ (LentShared u32 κ·rulevars (ν·3·8 ∷ []) q·rulevars γ·rulevars b·rulevars o·rulevars (ws1 .1 .1 .1 .1 .1 .1 .1 .0))
-        ∷ ‵ (flft (ν·3·8 ∷ []) fullShare)
-        ∷ ‵ (ShrSlice (named 6) (ν·3·7 ∷ []) u32 .own (ref·rules δ·3·7 (ws1 .1 .1 .1 .1 .1 .1 .0)) (s·rules ∷ []))
+        (δ·3·5 : GName) (ν·3·6 : ℕ) (δ·3·6 : GName) (ν·3·7 : ℕ) (δ·3·7 : GName) →
+        Sq W (‵ (ShrSlice (named 6) (ν·3·7 ∷ []) u32 .own (ref·rules δ·3·7 (ws1 .1 .1 .1 .1 .1 .1 .0)) (s·rules ∷ []))
         ∷ ‵ (LentShared u32 κ·rules (ν·3·7 ∷ []) q·rules γ·rules b·rules o·rules (ws1 .1 .1 .1 .1 .1 .1 .0))
         ∷ ‵ (flft (ν·3·7 ∷ []) fullShare)
         ∷ ‵ (ShrSlice (named 5) (ν·3·6 ∷ []) u32 .own (ref·inputs δ·3·6 (ws1 .1 .1 .1 .1 .1 .0)) (s·inputs ∷ []))
@@ -4710,185 +4894,195 @@ module _ {M : Type 1} (𝓤 : URA M) (H : Heap 𝓤) (A : Atoms 𝓤) (W : Given
         ∷ ‵ (flft κ·vars q·vars)
         ∷ ‵ (MutSlice (named 8) κ·patterns u32 .own (ref·patterns γ·patterns (ws1 .1 .1 .1 .1 .1 .1 .1 .1 .0)) (s·patterns ∷ []))
         ∷ ‵ (flft κ·patterns q·patterns)
+        ∷ ‵ (MutSlice (named 7) κ·rulevars u32 .own (ref·rulevars γ·rulevars (ws1 .1 .1 .1 .1 .1 .1 .1 .0)) (s·rulevars ∷ []))
+        ∷ ‵ (flft κ·rulevars q·rulevars)
         ∷ ‵ (flft κ·proof q·proof)
         ∷ ‵ (flft κ·goals q·goals)
         ∷ ‵ (flft κ·theory q·theory)
+        ∷ ‵ (flft κ·memo q·memo)
         ∷ ‵ (flft κ·ids q·ids)
         ∷ ‵ (flft κ·facts q·facts)
+        ∷ ‵ (MutSlice (named 21) κ·memo u32 .own (ref·memo γ·memo memo) (s·memo ∷ []))
         ∷ ‵ (MutSlice (named 20) κ·ids u32 .own (ref·ids γ·ids ids) (s·ids ∷ []))
         ∷ ‵ (MutSlice (named 16) κ·facts FactT.the-row .own (ref·facts γ·facts facts) (s·facts ∷ []))
-        ∷ ‵ (froom (tyInt w64) l107 0)
-        ∷ ‵ (fdies (tyInt w64) l107)
-        ∷ ‵ (froom (tyInt w64) l106 0)
-        ∷ ‵ (fdies (tyInt w64) l106)
-        ∷ ‵ (froom (sliceTy (tyRef erased mut (pointee (FactT.the-row .written)))) l105 0)
-        ∷ ‵ (fdies (sliceTy (tyRef erased mut (pointee (FactT.the-row .written)))) l105)
-        ∷ ‵ (froom (tyRef erased mut (pointee (FactT.the-row .written))) l104 0)
-        ∷ ‵ (fdies (tyRef erased mut (pointee (FactT.the-row .written))) l104)
-        ∷ ‵ (froom tyUnit l103 0)
-        ∷ ‵ (fdies tyUnit l103)
-        ∷ ‵ (froom (sliceTy (tyRef erased mut (tyInt w32))) l102 0)
-        ∷ ‵ (fdies (sliceTy (tyRef erased mut (tyInt w32))) l102)
-        ∷ ‵ (froom (tyRef erased mut (tyInt w32)) l101 0)
-        ∷ ‵ (fdies (tyRef erased mut (tyInt w32)) l101)
-        ∷ ‵ (froom (sliceTy (tyRef erased imm (tyInt w32))) l100 0)
-        ∷ ‵ (fdies (sliceTy (tyRef erased imm (tyInt w32))) l100)
-        ∷ ‵ (froom (tyRef erased imm (tyInt w32)) l99 0)
-        ∷ ‵ (fdies (tyRef erased imm (tyInt w32)) l99)
-        ∷ ‵ (froom (sliceTy (tyRef erased imm (tyInt w32))) l98 0)
-        ∷ ‵ (fdies (sliceTy (tyRef erased imm (tyInt w32))) l98)
-        ∷ ‵ (froom (tyRef erased imm (tyInt w32)) l97 0)
-        ∷ ‵ (fdies (tyRef erased imm (tyInt w32)) l97)
-        ∷ ‵ (froom (sliceTy (tyRef erased mut (tyInt w32))) l96 0)
-        ∷ ‵ (fdies (sliceTy (tyRef erased mut (tyInt w32))) l96)
-        ∷ ‵ (froom (tyRef erased mut (tyInt w32)) l95 0)
-        ∷ ‵ (fdies (tyRef erased mut (tyInt w32)) l95)
-        ∷ ‵ (fat fullShare (tyRef erased mut (pointee (CountsT.the-row .written))) l94 0 (vptr l24 0))
-        ∷ ‵ (fdies (tyRef erased mut (pointee (CountsT.the-row .written))) l94)
-        ∷ ‵ (fat fullShare (sliceTy (tyRef erased mut (pointee (FactT.the-row .written)))) l93 0 s·facts)
-        ∷ ‵ (fdies (sliceTy (tyRef erased mut (pointee (FactT.the-row .written)))) l93)
-        ∷ ‵ (fat fullShare (tyRef erased mut (pointee (FactT.the-row .written))) l92 0 (vptr b·facts o·facts))
-        ∷ ‵ (fdies (tyRef erased mut (pointee (FactT.the-row .written))) l92)
-        ∷ ‵ (fat fullShare (sliceTy (tyRef erased mut (tyInt w32))) l91 0 s·ids)
-        ∷ ‵ (fdies (sliceTy (tyRef erased mut (tyInt w32))) l91)
-        ∷ ‵ (fat fullShare (tyRef erased mut (tyInt w32)) l90 0 (vptr b·ids o·ids))
-        ∷ ‵ (fdies (tyRef erased mut (tyInt w32)) l90)
-        ∷ ‵ (fat fullShare (sliceTy (tyRef erased mut (tyInt w32))) l89 0 s·cells)
-        ∷ ‵ (fdies (sliceTy (tyRef erased mut (tyInt w32))) l89)
-        ∷ ‵ (fat fullShare (tyRef erased mut (tyInt w32)) l88 0 (vptr b·cells o·cells))
-        ∷ ‵ (fdies (tyRef erased mut (tyInt w32)) l88)
-        ∷ ‵ (fat fullShare (sliceTy (tyRef erased mut (tyInt w64))) l87 0 s·feet)
-        ∷ ‵ (fdies (sliceTy (tyRef erased mut (tyInt w64))) l87)
-        ∷ ‵ (fat fullShare (tyRef erased mut (tyInt w64)) l86 0 (vptr b·feet o·feet))
-        ∷ ‵ (fdies (tyRef erased mut (tyInt w64)) l86)
-        ∷ ‵ (fat fullShare (sliceTy (tyRef erased mut (tyInt w32))) l85 0 s·kept)
-        ∷ ‵ (fdies (sliceTy (tyRef erased mut (tyInt w32))) l85)
-        ∷ ‵ (fat fullShare (tyRef erased mut (tyInt w32)) l84 0 (vptr b·kept o·kept))
-        ∷ ‵ (fdies (tyRef erased mut (tyInt w32)) l84)
-        ∷ ‵ (fat fullShare (sliceTy (tyRef erased mut (tyInt w32))) l83 0 s·lists)
-        ∷ ‵ (fdies (sliceTy (tyRef erased mut (tyInt w32))) l83)
-        ∷ ‵ (fat fullShare (tyRef erased mut (tyInt w32)) l82 0 (vptr b·lists o·lists))
-        ∷ ‵ (fdies (tyRef erased mut (tyInt w32)) l82)
-        ∷ ‵ (fat fullShare (sliceTy (tyRef erased mut (tyInt w32))) l81 0 s·rows)
-        ∷ ‵ (fdies (sliceTy (tyRef erased mut (tyInt w32))) l81)
-        ∷ ‵ (fat fullShare (tyRef erased mut (tyInt w32)) l80 0 (vptr b·rows o·rows))
-        ∷ ‵ (fdies (tyRef erased mut (tyInt w32)) l80)
-        ∷ ‵ (fat fullShare (sliceTy (tyRef erased mut (tyInt w32))) l79 0 s·defs)
-        ∷ ‵ (fdies (sliceTy (tyRef erased mut (tyInt w32))) l79)
-        ∷ ‵ (fat fullShare (tyRef erased mut (tyInt w32)) l78 0 (vptr b·defs o·defs))
-        ∷ ‵ (fdies (tyRef erased mut (tyInt w32)) l78)
-        ∷ ‵ (fat fullShare (sliceTy (tyRef erased mut (tyInt w32))) l77 0 s·words)
-        ∷ ‵ (fdies (sliceTy (tyRef erased mut (tyInt w32))) l77)
-        ∷ ‵ (fat fullShare (tyRef erased mut (tyInt w32)) l76 0 (vptr b·words o·words))
-        ∷ ‵ (fdies (tyRef erased mut (tyInt w32)) l76)
-        ∷ ‵ (fat fullShare (sliceTy (tyRef erased mut (tyInt w32))) l75 0 s·index)
-        ∷ ‵ (fdies (sliceTy (tyRef erased mut (tyInt w32))) l75)
-        ∷ ‵ (fat fullShare (tyRef erased mut (tyInt w32)) l74 0 (vptr b·index o·index))
-        ∷ ‵ (fdies (tyRef erased mut (tyInt w32)) l74)
-        ∷ ‵ (fat fullShare (sliceTy (tyRef erased mut (tyInt w32))) l73 0 s·vars)
-        ∷ ‵ (fdies (sliceTy (tyRef erased mut (tyInt w32))) l73)
-        ∷ ‵ (fat fullShare (tyRef erased mut (tyInt w32)) l72 0 (vptr b·vars o·vars))
-        ∷ ‵ (fdies (tyRef erased mut (tyInt w32)) l72)
-        ∷ ‵ (fat fullShare (sliceTy (tyRef erased imm (tyInt w32))) l71 0 s·patterns)
-        ∷ ‵ (fdies (sliceTy (tyRef erased imm (tyInt w32))) l71)
-        ∷ ‵ (fat fullShare (tyRef erased imm (tyInt w32)) l70 0 (vptr b·patterns o·patterns))
-        ∷ ‵ (fdies (tyRef erased imm (tyInt w32)) l70)
-        ∷ ‵ (fat fullShare (sliceTy (tyRef erased imm (tyInt w32))) l69 0 s·rulevars)
-        ∷ ‵ (fdies (sliceTy (tyRef erased imm (tyInt w32))) l69)
-        ∷ ‵ (fat fullShare (tyRef erased imm (tyInt w32)) l68 0 (vptr b·rulevars o·rulevars))
-        ∷ ‵ (fdies (tyRef erased imm (tyInt w32)) l68)
-        ∷ ‵ (fat fullShare (sliceTy (tyRef erased imm (tyInt w32))) l67 0 s·rules)
-        ∷ ‵ (fdies (sliceTy (tyRef erased imm (tyInt w32))) l67)
-        ∷ ‵ (fat fullShare (tyRef erased imm (tyInt w32)) l66 0 (vptr b·rules o·rules))
-        ∷ ‵ (fdies (tyRef erased imm (tyInt w32)) l66)
-        ∷ ‵ (fat fullShare (sliceTy (tyRef erased imm (tyInt w32))) l65 0 s·inputs)
-        ∷ ‵ (fdies (sliceTy (tyRef erased imm (tyInt w32))) l65)
-        ∷ ‵ (fat fullShare (tyRef erased imm (tyInt w32)) l64 0 (vptr b·inputs o·inputs))
-        ∷ ‵ (fdies (tyRef erased imm (tyInt w32)) l64)
-        ∷ ‵ (fat fullShare (sliceTy (tyRef erased imm (tyInt w32))) l63 0 s·symbols)
-        ∷ ‵ (fdies (sliceTy (tyRef erased imm (tyInt w32))) l63)
-        ∷ ‵ (fat fullShare (tyRef erased imm (tyInt w32)) l62 0 (vptr b·symbols o·symbols))
-        ∷ ‵ (fdies (tyRef erased imm (tyInt w32)) l62)
-        ∷ ‵ (fat fullShare (sliceTy (tyRef erased imm (tyInt w32))) l61 0 s·sorts)
-        ∷ ‵ (fdies (sliceTy (tyRef erased imm (tyInt w32))) l61)
-        ∷ ‵ (fat fullShare (tyRef erased imm (tyInt w32)) l60 0 (vptr b·sorts o·sorts))
-        ∷ ‵ (fdies (tyRef erased imm (tyInt w32)) l60)
-        ∷ ‵ (fat fullShare CountsL.mir l59 0 v2)
-        ∷ ‵ (fdies CountsL.mir l59)
-        ∷ ‵ (fat fullShare (sliceTy (tyRef erased mut (tyInt w32))) l58 0 s·cells)
-        ∷ ‵ (fdies (sliceTy (tyRef erased mut (tyInt w32))) l58)
-        ∷ ‵ (fat fullShare (tyRef erased mut (tyInt w32)) l57 0 (vptr b·cells o·cells))
-        ∷ ‵ (fdies (tyRef erased mut (tyInt w32)) l57)
-        ∷ ‵ (fat fullShare (sliceTy (tyRef erased imm (tyInt w64))) l56 0 s·feet)
-        ∷ ‵ (fdies (sliceTy (tyRef erased imm (tyInt w64))) l56)
-        ∷ ‵ (fat fullShare (tyRef erased imm (tyInt w64)) l55 0 (vptr b·feet o·feet))
-        ∷ ‵ (fdies (tyRef erased imm (tyInt w64)) l55)
-        ∷ ‵ (fat fullShare (sliceTy (tyRef erased imm (tyInt w32))) l54 0 s·kept)
-        ∷ ‵ (fdies (sliceTy (tyRef erased imm (tyInt w32))) l54)
-        ∷ ‵ (fat fullShare (tyRef erased imm (tyInt w32)) l53 0 (vptr b·kept o·kept))
-        ∷ ‵ (fdies (tyRef erased imm (tyInt w32)) l53)
-        ∷ ‵ (fat fullShare (sliceTy (tyRef erased mut (tyInt w32))) l52 0 s·missing)
-        ∷ ‵ (fdies (sliceTy (tyRef erased mut (tyInt w32))) l52)
-        ∷ ‵ (fat fullShare (tyRef erased mut (tyInt w32)) l51 0 (vptr b·missing o·missing))
-        ∷ ‵ (fdies (tyRef erased mut (tyInt w32)) l51)
-        ∷ ‵ (fat fullShare (sliceTy (tyRef erased mut (tyInt w32))) l50 0 s·lists)
-        ∷ ‵ (fdies (sliceTy (tyRef erased mut (tyInt w32))) l50)
-        ∷ ‵ (fat fullShare (tyRef erased mut (tyInt w32)) l49 0 (vptr b·lists o·lists))
-        ∷ ‵ (fdies (tyRef erased mut (tyInt w32)) l49)
-        ∷ ‵ (fat fullShare (sliceTy (tyRef erased mut (tyInt w32))) l48 0 s·rows)
-        ∷ ‵ (fdies (sliceTy (tyRef erased mut (tyInt w32))) l48)
-        ∷ ‵ (fat fullShare (tyRef erased mut (tyInt w32)) l47 0 (vptr b·rows o·rows))
-        ∷ ‵ (fdies (tyRef erased mut (tyInt w32)) l47)
-        ∷ ‵ (fat fullShare (sliceTy (tyRef erased mut (tyInt w32))) l46 0 s·defs)
-        ∷ ‵ (fdies (sliceTy (tyRef erased mut (tyInt w32))) l46)
-        ∷ ‵ (fat fullShare (tyRef erased mut (tyInt w32)) l45 0 (vptr b·defs o·defs))
-        ∷ ‵ (fdies (tyRef erased mut (tyInt w32)) l45)
-        ∷ ‵ (fat fullShare (sliceTy (tyRef erased mut (tyInt w32))) l44 0 s·words)
-        ∷ ‵ (fdies (sliceTy (tyRef erased mut (tyInt w32))) l44)
-        ∷ ‵ (fat fullShare (tyRef erased mut (tyInt w32)) l43 0 (vptr b·words o·words))
-        ∷ ‵ (fdies (tyRef erased mut (tyInt w32)) l43)
-        ∷ ‵ (fat fullShare (sliceTy (tyRef erased mut (tyInt w32))) l42 0 s·index)
-        ∷ ‵ (fdies (sliceTy (tyRef erased mut (tyInt w32))) l42)
-        ∷ ‵ (fat fullShare (tyRef erased mut (tyInt w32)) l41 0 (vptr b·index o·index))
-        ∷ ‵ (fdies (tyRef erased mut (tyInt w32)) l41)
-        ∷ ‵ (fat fullShare (sliceTy (tyRef erased mut (tyInt w32))) l40 0 s·vars)
-        ∷ ‵ (fdies (sliceTy (tyRef erased mut (tyInt w32))) l40)
-        ∷ ‵ (fat fullShare (tyRef erased mut (tyInt w32)) l39 0 (vptr b·vars o·vars))
-        ∷ ‵ (fdies (tyRef erased mut (tyInt w32)) l39)
-        ∷ ‵ (fat fullShare (sliceTy (tyRef erased mut (tyInt w32))) l38 0 s·patterns)
-        ∷ ‵ (fdies (sliceTy (tyRef erased mut (tyInt w32))) l38)
-        ∷ ‵ (fat fullShare (tyRef erased mut (tyInt w32)) l37 0 (vptr b·patterns o·patterns))
-        ∷ ‵ (fdies (tyRef erased mut (tyInt w32)) l37)
-        ∷ ‵ (fat fullShare (sliceTy (tyRef erased mut (tyInt w32))) l36 0 s·rulevars)
-        ∷ ‵ (fdies (sliceTy (tyRef erased mut (tyInt w32))) l36)
-        ∷ ‵ (fat fullShare (tyRef erased mut (tyInt w32)) l35 0 (vptr b·rulevars o·rulevars))
-        ∷ ‵ (fdies (tyRef erased mut (tyInt w32)) l35)
-        ∷ ‵ (fat fullShare (sliceTy (tyRef erased mut (tyInt w32))) l34 0 s·rules)
-        ∷ ‵ (fdies (sliceTy (tyRef erased mut (tyInt w32))) l34)
-        ∷ ‵ (fat fullShare (tyRef erased mut (tyInt w32)) l33 0 (vptr b·rules o·rules))
-        ∷ ‵ (fdies (tyRef erased mut (tyInt w32)) l33)
-        ∷ ‵ (fat fullShare (sliceTy (tyRef erased mut (tyInt w32))) l32 0 s·inputs)
-        ∷ ‵ (fdies (sliceTy (tyRef erased mut (tyInt w32))) l32)
-        ∷ ‵ (fat fullShare (tyRef erased mut (tyInt w32)) l31 0 (vptr b·inputs o·inputs))
-        ∷ ‵ (fdies (tyRef erased mut (tyInt w32)) l31)
-        ∷ ‵ (fat fullShare (sliceTy (tyRef erased mut (tyInt w32))) l30 0 s·symbols)
-        ∷ ‵ (fdies (sliceTy (tyRef erased mut (tyInt w32))) l30)
-        ∷ ‵ (fat fullShare (tyRef erased mut (tyInt w32)) l29 0 (vptr b·symbols o·symbols))
-        ∷ ‵ (fdies (tyRef erased mut (tyInt w32)) l29)
-        ∷ ‵ (fat fullShare (sliceTy (tyRef erased mut (tyInt w32))) l28 0 s·sorts)
-        ∷ ‵ (fdies (sliceTy (tyRef erased mut (tyInt w32))) l28)
-        ∷ ‵ (fat fullShare (tyRef erased mut (tyInt w32)) l27 0 (vptr b·sorts o·sorts))
-        ∷ ‵ (fdies (tyRef erased mut (tyInt w32)) l27)
-        ∷ ‵ (froom AnswerL.mir l26 0)
-        ∷ ‵ (fdies AnswerL.mir l26)
-        ∷ ‵ (froom RunL.mir l25 0)
-        ∷ ‵ (fdies RunL.mir l25)
-        ∷ ‵ (fat fullShare CountsL.mir l24 0 v2)
-        ∷ ‵ (fdies CountsL.mir l24)
-        ∷ ‵ (fat fullShare RunL.mir l23 0 v1)
-        ∷ ‵ (fdies RunL.mir l23)
-        ∷ ‵ (fat fullShare (tyInt w64) l22 0 (vint w64 (length facts)))
-        ∷ ‵ (fdies (tyInt w64) l22)
+        ∷ ‵ (froom (tyInt w64) l110 0)
+        ∷ ‵ (fdies (tyInt w64) l110)
+        ∷ ‵ (froom (tyInt w64) l109 0)
+        ∷ ‵ (fdies (tyInt w64) l109)
+        ∷ ‵ (froom (sliceTy (tyRef erased mut (pointee (FactT.the-row .written)))) l108 0)
+        ∷ ‵ (fdies (sliceTy (tyRef erased mut (pointee (FactT.the-row .written)))) l108)
+        ∷ ‵ (froom (tyRef erased mut (pointee (FactT.the-row .written))) l107 0)
+        ∷ ‵ (fdies (tyRef erased mut (pointee (FactT.the-row .written))) l107)
+        ∷ ‵ (froom tyUnit l106 0)
+        ∷ ‵ (fdies tyUnit l106)
+        ∷ ‵ (froom (sliceTy (tyRef erased mut (tyInt w32))) l105 0)
+        ∷ ‵ (fdies (sliceTy (tyRef erased mut (tyInt w32))) l105)
+        ∷ ‵ (froom (tyRef erased mut (tyInt w32)) l104 0)
+        ∷ ‵ (fdies (tyRef erased mut (tyInt w32)) l104)
+        ∷ ‵ (froom (sliceTy (tyRef erased imm (tyInt w32))) l103 0)
+        ∷ ‵ (fdies (sliceTy (tyRef erased imm (tyInt w32))) l103)
+        ∷ ‵ (froom (tyRef erased imm (tyInt w32)) l102 0)
+        ∷ ‵ (fdies (tyRef erased imm (tyInt w32)) l102)
+        ∷ ‵ (froom (sliceTy (tyRef erased imm (tyInt w32))) l101 0)
+        ∷ ‵ (fdies (sliceTy (tyRef erased imm (tyInt w32))) l101)
+        ∷ ‵ (froom (tyRef erased imm (tyInt w32)) l100 0)
+        ∷ ‵ (fdies (tyRef erased imm (tyInt w32)) l100)
+        ∷ ‵ (froom (sliceTy (tyRef erased mut (tyInt w32))) l99 0)
+        ∷ ‵ (fdies (sliceTy (tyRef erased mut (tyInt w32))) l99)
+        ∷ ‵ (froom (tyRef erased mut (tyInt w32)) l98 0)
+        ∷ ‵ (fdies (tyRef erased mut (tyInt w32)) l98)
+        ∷ ‵ (fat fullShare (tyRef erased mut (pointee (CountsT.the-row .written))) l97 0 (vptr l25 0))
+        ∷ ‵ (fdies (tyRef erased mut (pointee (CountsT.the-row .written))) l97)
+        ∷ ‵ (fat fullShare (sliceTy (tyRef erased mut (pointee (FactT.the-row .written)))) l96 0 s·facts)
+        ∷ ‵ (fdies (sliceTy (tyRef erased mut (pointee (FactT.the-row .written)))) l96)
+        ∷ ‵ (fat fullShare (tyRef erased mut (pointee (FactT.the-row .written))) l95 0 (vptr b·facts o·facts))
+        ∷ ‵ (fdies (tyRef erased mut (pointee (FactT.the-row .written))) l95)
+        ∷ ‵ (fat fullShare (sliceTy (tyRef erased mut (tyInt w32))) l94 0 s·memo)
+        ∷ ‵ (fdies (sliceTy (tyRef erased mut (tyInt w32))) l94)
+        ∷ ‵ (fat fullShare (tyRef erased mut (tyInt w32)) l93 0 (vptr b·memo o·memo))
+        ∷ ‵ (fdies (tyRef erased mut (tyInt w32)) l93)
+        ∷ ‵ (fat fullShare (sliceTy (tyRef erased mut (tyInt w32))) l92 0 s·ids)
+        ∷ ‵ (fdies (sliceTy (tyRef erased mut (tyInt w32))) l92)
+        ∷ ‵ (fat fullShare (tyRef erased mut (tyInt w32)) l91 0 (vptr b·ids o·ids))
+        ∷ ‵ (fdies (tyRef erased mut (tyInt w32)) l91)
+        ∷ ‵ (fat fullShare (sliceTy (tyRef erased mut (tyInt w32))) l90 0 s·cells)
+        ∷ ‵ (fdies (sliceTy (tyRef erased mut (tyInt w32))) l90)
+        ∷ ‵ (fat fullShare (tyRef erased mut (tyInt w32)) l89 0 (vptr b·cells o·cells))
+        ∷ ‵ (fdies (tyRef erased mut (tyInt w32)) l89)
+        ∷ ‵ (fat fullShare (sliceTy (tyRef erased mut (tyInt w64))) l88 0 s·feet)
+        ∷ ‵ (fdies (sliceTy (tyRef erased mut (tyInt w64))) l88)
+        ∷ ‵ (fat fullShare (tyRef erased mut (tyInt w64)) l87 0 (vptr b·feet o·feet))
+        ∷ ‵ (fdies (tyRef erased mut (tyInt w64)) l87)
+        ∷ ‵ (fat fullShare (sliceTy (tyRef erased mut (tyInt w32))) l86 0 s·kept)
+        ∷ ‵ (fdies (sliceTy (tyRef erased mut (tyInt w32))) l86)
+        ∷ ‵ (fat fullShare (tyRef erased mut (tyInt w32)) l85 0 (vptr b·kept o·kept))
+        ∷ ‵ (fdies (tyRef erased mut (tyInt w32)) l85)
+        ∷ ‵ (fat fullShare (sliceTy (tyRef erased mut (tyInt w32))) l84 0 s·lists)
+        ∷ ‵ (fdies (sliceTy (tyRef erased mut (tyInt w32))) l84)
+        ∷ ‵ (fat fullShare (tyRef erased mut (tyInt w32)) l83 0 (vptr b·lists o·lists))
+        ∷ ‵ (fdies (tyRef erased mut (tyInt w32)) l83)
+        ∷ ‵ (fat fullShare (sliceTy (tyRef erased mut (tyInt w32))) l82 0 s·rows)
+        ∷ ‵ (fdies (sliceTy (tyRef erased mut (tyInt w32))) l82)
+        ∷ ‵ (fat fullShare (tyRef erased mut (tyInt w32)) l81 0 (vptr b·rows o·rows))
+        ∷ ‵ (fdies (tyRef erased mut (tyInt w32)) l81)
+        ∷ ‵ (fat fullShare (sliceTy (tyRef erased mut (tyInt w32))) l80 0 s·defs)
+        ∷ ‵ (fdies (sliceTy (tyRef erased mut (tyInt w32))) l80)
+        ∷ ‵ (fat fullShare (tyRef erased mut (tyInt w32)) l79 0 (vptr b·defs o·defs))
+        ∷ ‵ (fdies (tyRef erased mut (tyInt w32)) l79)
+        ∷ ‵ (fat fullShare (sliceTy (tyRef erased mut (tyInt w32))) l78 0 s·words)
+        ∷ ‵ (fdies (sliceTy (tyRef erased mut (tyInt w32))) l78)
+        ∷ ‵ (fat fullShare (tyRef erased mut (tyInt w32)) l77 0 (vptr b·words o·words))
+        ∷ ‵ (fdies (tyRef erased mut (tyInt w32)) l77)
+        ∷ ‵ (fat fullShare (sliceTy (tyRef erased mut (tyInt w32))) l76 0 s·index)
+        ∷ ‵ (fdies (sliceTy (tyRef erased mut (tyInt w32))) l76)
+        ∷ ‵ (fat fullShare (tyRef erased mut (tyInt w32)) l75 0 (vptr b·index o·index))
+        ∷ ‵ (fdies (tyRef erased mut (tyInt w32)) l75)
+        ∷ ‵ (fat fullShare (sliceTy (tyRef erased mut (tyInt w32))) l74 0 s·vars)
+        ∷ ‵ (fdies (sliceTy (tyRef erased mut (tyInt w32))) l74)
+        ∷ ‵ (fat fullShare (tyRef erased mut (tyInt w32)) l73 0 (vptr b·vars o·vars))
+        ∷ ‵ (fdies (tyRef erased mut (tyInt w32)) l73)
+        ∷ ‵ (fat fullShare (sliceTy (tyRef erased imm (tyInt w32))) l72 0 s·patterns)
+        ∷ ‵ (fdies (sliceTy (tyRef erased imm (tyInt w32))) l72)
+        ∷ ‵ (fat fullShare (tyRef erased imm (tyInt w32)) l71 0 (vptr b·patterns o·patterns))
+        ∷ ‵ (fdies (tyRef erased imm (tyInt w32)) l71)
+        ∷ ‵ (fat fullShare (sliceTy (tyRef erased imm (tyInt w32))) l70 0 s·rulevars)
+        ∷ ‵ (fdies (sliceTy (tyRef erased imm (tyInt w32))) l70)
+        ∷ ‵ (fat fullShare (tyRef erased imm (tyInt w32)) l69 0 (vptr b·rulevars o·rulevars))
+        ∷ ‵ (fdies (tyRef erased imm (tyInt w32)) l69)
+        ∷ ‵ (fat fullShare (sliceTy (tyRef erased imm (tyInt w32))) l68 0 s·rules)
+        ∷ ‵ (fdies (sliceTy (tyRef erased imm (tyInt w32))) l68)
+        ∷ ‵ (fat fullShare (tyRef erased imm (tyInt w32)) l67 0 (vptr b·rules o·rules))
+        ∷ ‵ (fdies (tyRef erased imm (tyInt w32)) l67)
+        ∷ ‵ (fat fullShare (sliceTy (tyRef erased imm (tyInt w32))) l66 0 s·inputs)
+        ∷ ‵ (fdies (sliceTy (tyRef erased imm (tyInt w32))) l66)
+        ∷ ‵ (fat fullShare (tyRef erased imm (tyInt w32)) l65 0 (vptr b·inputs o·inputs))
+        ∷ ‵ (fdies (tyRef erased imm (tyInt w32)) l65)
+        ∷ ‵ (fat fullShare (sliceTy (tyRef erased imm (tyInt w32))) l64 0 s·symbols)
+        ∷ ‵ (fdies (sliceTy (tyRef erased imm (tyInt w32))) l64)
+        ∷ ‵ (fat fullShare (tyRef erased imm (tyInt w32)) l63 0 (vptr b·symbols o·symbols))
+        ∷ ‵ (fdies (tyRef erased imm (tyInt w32)) l63)
+        ∷ ‵ (fat fullShare (sliceTy (tyRef erased imm (tyInt w32))) l62 0 s·sorts)
+        ∷ ‵ (fdies (sliceTy (tyRef erased imm (tyInt w32))) l62)
+        ∷ ‵ (fat fullShare (tyRef erased imm (tyInt w32)) l61 0 (vptr b·sorts o·sorts))
+        ∷ ‵ (fdies (tyRef erased imm (tyInt w32)) l61)
+        ∷ ‵ (fat fullShare CountsL.mir l60 0 v2)
+        ∷ ‵ (fdies CountsL.mir l60)
+        ∷ ‵ (fat fullShare (sliceTy (tyRef erased mut (tyInt w32))) l59 0 s·cells)
+        ∷ ‵ (fdies (sliceTy (tyRef erased mut (tyInt w32))) l59)
+        ∷ ‵ (fat fullShare (tyRef erased mut (tyInt w32)) l58 0 (vptr b·cells o·cells))
+        ∷ ‵ (fdies (tyRef erased mut (tyInt w32)) l58)
+        ∷ ‵ (fat fullShare (sliceTy (tyRef erased imm (tyInt w64))) l57 0 s·feet)
+        ∷ ‵ (fdies (sliceTy (tyRef erased imm (tyInt w64))) l57)
+        ∷ ‵ (fat fullShare (tyRef erased imm (tyInt w64)) l56 0 (vptr b·feet o·feet))
+        ∷ ‵ (fdies (tyRef erased imm (tyInt w64)) l56)
+        ∷ ‵ (fat fullShare (sliceTy (tyRef erased imm (tyInt w32))) l55 0 s·kept)
+        ∷ ‵ (fdies (sliceTy (tyRef erased imm (tyInt w32))) l55)
+        ∷ ‵ (fat fullShare (tyRef erased imm (tyInt w32)) l54 0 (vptr b·kept o·kept))
+        ∷ ‵ (fdies (tyRef erased imm (tyInt w32)) l54)
+        ∷ ‵ (fat fullShare (sliceTy (tyRef erased mut (tyInt w32))) l53 0 s·missing)
+        ∷ ‵ (fdies (sliceTy (tyRef erased mut (tyInt w32))) l53)
+        ∷ ‵ (fat fullShare (tyRef erased mut (tyInt w32)) l52 0 (vptr b·missing o·missing))
+        ∷ ‵ (fdies (tyRef erased mut (tyInt w32)) l52)
+        ∷ ‵ (fat fullShare (sliceTy (tyRef erased mut (tyInt w32))) l51 0 s·lists)
+        ∷ ‵ (fdies (sliceTy (tyRef erased mut (tyInt w32))) l51)
+        ∷ ‵ (fat fullShare (tyRef erased mut (tyInt w32)) l50 0 (vptr b·lists o·lists))
+        ∷ ‵ (fdies (tyRef erased mut (tyInt w32)) l50)
+        ∷ ‵ (fat fullShare (sliceTy (tyRef erased mut (tyInt w32))) l49 0 s·rows)
+        ∷ ‵ (fdies (sliceTy (tyRef erased mut (tyInt w32))) l49)
+        ∷ ‵ (fat fullShare (tyRef erased mut (tyInt w32)) l48 0 (vptr b·rows o·rows))
+        ∷ ‵ (fdies (tyRef erased mut (tyInt w32)) l48)
+        ∷ ‵ (fat fullShare (sliceTy (tyRef erased mut (tyInt w32))) l47 0 s·defs)
+        ∷ ‵ (fdies (sliceTy (tyRef erased mut (tyInt w32))) l47)
+        ∷ ‵ (fat fullShare (tyRef erased mut (tyInt w32)) l46 0 (vptr b·defs o·defs))
+        ∷ ‵ (fdies (tyRef erased mut (tyInt w32)) l46)
+        ∷ ‵ (fat fullShare (sliceTy (tyRef erased mut (tyInt w32))) l45 0 s·words)
+        ∷ ‵ (fdies (sliceTy (tyRef erased mut (tyInt w32))) l45)
+        ∷ ‵ (fat fullShare (tyRef erased mut (tyInt w32)) l44 0 (vptr b·words o·words))
+        ∷ ‵ (fdies (tyRef erased mut (tyInt w32)) l44)
+        ∷ ‵ (fat fullShare (sliceTy (tyRef erased mut (tyInt w32))) l43 0 s·index)
+        ∷ ‵ (fdies (sliceTy (tyRef erased mut (tyInt w32))) l43)
+        ∷ ‵ (fat fullShare (tyRef erased mut (tyInt w32)) l42 0 (vptr b·index o·index))
+        ∷ ‵ (fdies (tyRef erased mut (tyInt w32)) l42)
+        ∷ ‵ (fat fullShare (sliceTy (tyRef erased mut (tyInt w32))) l41 0 s·vars)
+        ∷ ‵ (fdies (sliceTy (tyRef erased mut (tyInt w32))) l41)
+        ∷ ‵ (fat fullShare (tyRef erased mut (tyInt w32)) l40 0 (vptr b·vars o·vars))
+        ∷ ‵ (fdies (tyRef erased mut (tyInt w32)) l40)
+        ∷ ‵ (fat fullShare (sliceTy (tyRef erased mut (tyInt w32))) l39 0 s·patterns)
+        ∷ ‵ (fdies (sliceTy (tyRef erased mut (tyInt w32))) l39)
+        ∷ ‵ (fat fullShare (tyRef erased mut (tyInt w32)) l38 0 (vptr b·patterns o·patterns))
+        ∷ ‵ (fdies (tyRef erased mut (tyInt w32)) l38)
+        ∷ ‵ (fat fullShare (sliceTy (tyRef erased mut (tyInt w32))) l37 0 s·rulevars)
+        ∷ ‵ (fdies (sliceTy (tyRef erased mut (tyInt w32))) l37)
+        ∷ ‵ (fat fullShare (tyRef erased mut (tyInt w32)) l36 0 (vptr b·rulevars o·rulevars))
+        ∷ ‵ (fdies (tyRef erased mut (tyInt w32)) l36)
+        ∷ ‵ (fat fullShare (sliceTy (tyRef erased mut (tyInt w32))) l35 0 s·rules)
+        ∷ ‵ (fdies (sliceTy (tyRef erased mut (tyInt w32))) l35)
+        ∷ ‵ (fat fullShare (tyRef erased mut (tyInt w32)) l34 0 (vptr b·rules o·rules))
+        ∷ ‵ (fdies (tyRef erased mut (tyInt w32)) l34)
+        ∷ ‵ (fat fullShare (sliceTy (tyRef erased mut (tyInt w32))) l33 0 s·inputs)
+        ∷ ‵ (fdies (sliceTy (tyRef erased mut (tyInt w32))) l33)
+        ∷ ‵ (fat fullShare (tyRef erased mut (tyInt w32)) l32 0 (vptr b·inputs o·inputs))
+        ∷ ‵ (fdies (tyRef erased mut (tyInt w32)) l32)
+        ∷ ‵ (fat fullShare (sliceTy (tyRef erased mut (tyInt w32))) l31 0 s·symbols)
+        ∷ ‵ (fdies (sliceTy (tyRef erased mut (tyInt w32))) l31)
+        ∷ ‵ (fat fullShare (tyRef erased mut (tyInt w32)) l30 0 (vptr b·symbols o·symbols))
+        ∷ ‵ (fdies (tyRef erased mut (tyInt w32)) l30)
+        ∷ ‵ (fat fullShare (sliceTy (tyRef erased mut (tyInt w32))) l29 0 s·sorts)
+        ∷ ‵ (fdies (sliceTy (tyRef erased mut (tyInt w32))) l29)
+        ∷ ‵ (fat fullShare (tyRef erased mut (tyInt w32)) l28 0 (vptr b·sorts o·sorts))
+        ∷ ‵ (fdies (tyRef erased mut (tyInt w32)) l28)
+        ∷ ‵ (froom AnswerL.mir l27 0)
+        ∷ ‵ (fdies AnswerL.mir l27)
+        ∷ ‵ (froom RunL.mir l26 0)
+        ∷ ‵ (fdies RunL.mir l26)
+        ∷ ‵ (fat fullShare CountsL.mir l25 0 v2)
+        ∷ ‵ (fdies CountsL.mir l25)
+        ∷ ‵ (fat fullShare RunL.mir l24 0 v1)
+        ∷ ‵ (fdies RunL.mir l24)
+        ∷ ‵ (fat fullShare (tyInt w64) l23 0 (vint w64 (length facts)))
+        ∷ ‵ (fdies (tyInt w64) l23)
+        ∷ ‵ (fat fullShare (sliceTy (tyRef (named 21) mut (tyInt w32))) l22 0 s·memo)
+        ∷ ‵ (fdies (sliceTy (tyRef (named 21) mut (tyInt w32))) l22)
         ∷ ‵ (fat fullShare (sliceTy (tyRef (named 20) mut (tyInt w32))) l21 0 s·ids)
         ∷ ‵ (fdies (sliceTy (tyRef (named 20) mut (tyInt w32))) l21)
         ∷ ‵ (fat fullShare (sliceTy (tyRef (named 19) mut (tyInt w32))) l20 0 s·cells)
@@ -4936,17 +5130,23 @@ module _ {M : Type 1} (𝓤 : URA M) (H : Heap 𝓤) (A : Atoms 𝓤) (W : Given
         (runs C Λ (En l0 l1 l2 l3 l4 l5 l6 l7 l8 l9 l10 l11 l12 l13 l14 l15 l16 l17 l18 l19 l20 l21 l22 l23 l24 l25 l26 l27 l28 l29 l30 l31 l32 l33
         l34 l35 l36 l37 l38 l39 l40 l41 l42 l43 l44 l45 l46 l47 l48 l49 l50 l51 l52 l53 l54 l55 l56 l57 l58 l59 l60 l61 l62 l63 l64 l65 l66 l67 l68
         l69 l70 l71 l72 l73 l74 l75 l76 l77 l78 l79 l80 l81 l82 l83 l84 l85 l86 l87 l88 l89 l90 l91 l92 l93 l94 l95 l96 l97 l98 l99 l100 l101 l102
-        l103 l104 l105 l106 l107) pieces.t-72 (atRet (En l0 l1 l2 l3 l4 l5 l6 l7 l8 l9 l10 l11 l12 l13 l14 l15 l16 l17 l18 l19 l20 l21 l22 l23 l24 l25
-        l26 l27 l28 l29 l30 l31 l32 l33 l34 l35 l36 l37 l38 l39 l40 l41 l42 l43 l44 l45 l46 l47 l48 l49 l50 l51 l52 l53 l54 l55 l56 l57 l58 l59 l60
-        l61 l62 l63 l64 l65 l66 l67 l68 l69 l70 l71 l72 l73 l74 l75 l76 l77 l78 l79 l80 l81 l82 l83 l84 l85 l86 l87 l88 l89 l90 l91 l92 l93 l94 l95
-        l96 l97 l98 l99 l100 l101 l102 l103 l104 l105 l106 l107) Post))
+        l103 l104 l105 l106 l107 l108 l109 l110) pieces.t-74 (atRet (En l0 l1 l2 l3 l4 l5 l6 l7 l8 l9 l10 l11 l12 l13 l14 l15 l16 l17 l18 l19 l20 l21
+        l22 l23 l24 l25 l26 l27 l28 l29 l30 l31 l32 l33 l34 l35 l36 l37 l38 l39 l40 l41 l42 l43 l44 l45 l46 l47 l48 l49 l50 l51 l52 l53 l54 l55 l56
+        l57 l58 l59 l60 l61 l62 l63 l64 l65 l66 l67 l68 l69 l70 l71 l72 l73 l74 l75 l76 l77 l78 l79 l80 l81 l82 l83 l84 l85 l86 l87 l88 l89 l90 l91
+        l92 l93 l94 l95 l96 l97 l98 l99 l100 l101 l102 l103 l104 l105 l106 l107 l108 l109 l110) Post))
     seg·8 l0 l1 l2 l3 l4 l5 l6 l7 l8 l9 l10 l11 l12 l13 l14 l15 l16 l17 l18 l19 l20 l21 l22 l23 l24 l25 l26 l27 l28 l29 l30 l31 l32 l33 l34 l35 l36
         l37 l38 l39 l40 l41 l42 l43 l44 l45 l46 l47 l48 l49 l50 l51 l52 l53 l54 l55 l56 l57 l58 l59 l60 l61 l62 l63 l64 l65 l66 l67 l68 l69 l70 l71
         l72 l73 l74 l75 l76 l77 l78 l79 l80 l81 l82 l83 l84 l85 l86 l87 l88 l89 l90 l91 l92 l93 l94 l95 l96 l97 l98 l99 l100 l101 l102 l103 l104
-        l105 l106 l107 ν·1·3 δ·1·3 ν·1·4 δ·1·4 ν·1·5 δ·1·5 ν·1·6 δ·1·6 ν·1·7 δ·1·7 ν·1·8 δ·1·8 ν·1·9 δ·1·9 ν·1·10 δ·1·10 ν·1·11 δ·1·11 ν·1·12
-        δ·1·12 ν·1·13 δ·1·13 ν·1·14 δ·1·14 ν·1·15 δ·1·15 ν·1·16 δ·1·16 ν·1·17 δ·1·17 ν·1·18 δ·1·18 v1 r1 ws1 e1·0 e1·1 len·1·sorts
-        len·1·symbols len·1·inputs len·1·rules len·1·rulevars len·1·patterns len·1·vars len·1·index len·1·words len·1·defs len·1·rows
-        len·1·lists len·1·missing len·1·cells is1 v2 r2 ws2 e2 is2 ν·3·4 δ·3·4 ν·3·5 δ·3·5 ν·3·6 δ·3·6 ν·3·7 δ·3·7 ν·3·8 δ·3·8 =
+        l105 l106 l107 l108 l109 l110 ν·1·3 δ·1·3 ν·1·4 δ·1·4 ν·1·5 δ·1·5 ν·1·6 δ·1·6 ν·1·7 δ·1·7 ν·1·8 δ·1·8 ν·1·9 δ·1·9 ν·1·10 δ·1·10 ν·1·11
+        δ·1·11 ν·1·12 δ·1·12 ν·1·13 δ·1·13 ν·1·14 δ·1·14 ν·1·15 δ·1·15 ν·1·16 δ·1·16 ν·1·17 δ·1·17 ν·1·18 δ·1·18 v1 r1 ws1 e1·0 e1·1
+        len·1·sorts len·1·symbols len·1·inputs len·1·rules len·1·rulevars len·1·patterns len·1·vars len·1·index len·1·words len·1·defs
+        len·1·rows len·1·lists len·1·missing len·1·cells is1 v2 r2 ws2 e2 is2 ν·3·4 δ·3·4 ν·3·5 δ·3·5 ν·3·6 δ·3·6 ν·3·7 δ·3·7 =
+        lft-new ! tt (λ ν·3·8.
+        move ! (41 ∷ 42 ∷ []) $
+        use2 W (later (some (λ (δ : GName). ‵ (ShrSlice (named 7) (ν·3·8 ∷ []) u32 .own (ref·rulevars δ (ws1 .1 .1 .1 .1 .1 .1 .1 .0))
+        (s·rulevars ∷ [])) ⊛ ‵ (LentShared u32 κ·rulevars (ν·3·8 ∷ []) q·rulevars γ·rulevars b·rulevars o·rulevars (ws1 .1 .1 .1 .1 .1 .1 .1 .0)))))
+        (lends-shared u32 κ·rulevars (ν·3·8 ∷ []) q·rulevars γ·rulevars b·rulevars o·rulevars 𝓤 H A W (named 7) (named 7) (length rulevars)
+        (ws1 .1 .1 .1 .1 .1 .1 .1 .0)) $ await ! tt $ pick ! (λ δ·3·8. split ! $
         lft-new ! tt (λ ν·3·9.
         move ! (42 ∷ 43 ∷ []) $
         use2 W (later (some (λ (δ : GName). ‵ (ShrSlice (named 8) (ν·3·9 ∷ []) u32 .own (ref·patterns δ (ws1 .1 .1 .1 .1 .1 .1 .1 .1 .0))
@@ -4971,22 +5171,22 @@ module _ {M : Type 1} (𝓤 : URA M) (H : Heap 𝓤) (A : Atoms 𝓤) (W : Given
         (s·rows ∷ [])) ⊛ ‵ (LentAgain u32 κ·rows (ν·3·14 ∷ []) q·rows γ·rows b·rows o·rows δ (ws1 .1 .1 .1 .1 .1 .1 .1 .1 .1 .1 .1 .1 .1 .0)))))
         (lends-again u32 κ·rows (ν·3·14 ∷ []) q·rows γ·rows b·rows o·rows 𝓤 H A W (named 13) (named 13) (length rows)
         (ws1 .1 .1 .1 .1 .1 .1 .1 .1 .1 .1 .1 .1 .1 .0)) $ await ! tt $ pick ! (λ δ·3·14. split ! $
-        lft-new ! tt (λ ν·3·20.
-        move ! (54 ∷ 52 ∷ []) $
-        use2 W (later (some (λ (δ : GName). ‵ (MutSlice (named 19) (ν·3·20 ∷ []) FactT.the-row .own (ref·facts δ facts) (s·facts ∷ []))
-        ⊛ ‵ (LentAgain FactT.the-row κ·facts (ν·3·20 ∷ []) q·facts γ·facts b·facts o·facts δ facts))))
-        (lends-again FactT.the-row κ·facts (ν·3·20 ∷ []) q·facts γ·facts b·facts o·facts 𝓤 H A W (named 16) (named 19) (length facts) facts) $
-        await ! tt $ pick ! (λ δ·3·20. split ! $
         lft-new ! tt (λ ν·3·21.
+        move ! (56 ∷ 53 ∷ []) $
+        use2 W (later (some (λ (δ : GName). ‵ (MutSlice (named 20) (ν·3·21 ∷ []) FactT.the-row .own (ref·facts δ facts) (s·facts ∷ []))
+        ⊛ ‵ (LentAgain FactT.the-row κ·facts (ν·3·21 ∷ []) q·facts γ·facts b·facts o·facts δ facts))))
+        (lends-again FactT.the-row κ·facts (ν·3·21 ∷ []) q·facts γ·facts b·facts o·facts 𝓤 H A W (named 16) (named 20) (length facts) facts) $
+        await ! tt $ pick ! (λ δ·3·21. split ! $
+        lft-new ! tt (λ ν·3·22.
         owned ! CountsT.the-row (Is CountsT.the-row) (LL.makes CountsT.the-type CountsL.the-plain 𝓤 H A) r2 _ is2 $
-        move ! (223 ∷ 0 ∷ []) $
-        use2 W (later (some (λ (δ : GName). ‵ (MutRef (named 20) (ν·3·21 ∷ []) CountsT.the-row .own (record { ptr = (l24, 0); name = δ; now = r2 })
-        (vptr l24 0 ∷ [])) ⊛ ‵ (flent (ν·3·21 ∷ []) (Body·T (mem·T CountsT.the-row) l24 0 δ)))))
+        move ! (229 ∷ 0 ∷ []) $
+        use2 W (later (some (λ (δ : GName). ‵ (MutRef (named 21) (ν·3·22 ∷ []) CountsT.the-row .own (record { ptr = (l25, 0); name = δ; now = r2 })
+        (vptr l25 0 ∷ [])) ⊛ ‵ (flent (ν·3·22 ∷ []) (Body·T (mem·T CountsT.the-row) l25 0 δ)))))
         (record-lent CountsT.the-row CountsL.mir refl (λ x. LL.val CountsT.the-type CountsL.the-laws x) (LL.tells CountsT.the-type CountsL.the-laws)
-        (ν·3·21 ∷ []) l24 𝓤 H A W (named 20) r2 v2) $ await ! tt $ pick ! (λ δ·3·21. split ! $
-        move ! (55 ∷ 54 ∷ 53 ∷ 32 ∷ 29 ∷ 26 ∷ 23 ∷ 20 ∷ 17 ∷ 52 ∷ 14 ∷ 11 ∷ 50 ∷ 8 ∷ 48 ∷ 44 ∷ 42 ∷ 40 ∷ 56 ∷ 5 ∷ 2 ∷ 37 ∷ 35 ∷ 33 ∷ 30 ∷ 27 ∷ 24 ∷ 21
-        ∷ 18 ∷ 15 ∷ 51 ∷ 12 ∷ 9 ∷ 49 ∷ 6 ∷ 47 ∷ 43 ∷ 41 ∷ 39 ∷ 57 ∷ 3 ∷ 0 ∷ []) $
-        group ! 42 $
+        (ν·3·22 ∷ []) l25 𝓤 H A W (named 21) r2 v2) $ await ! tt $ pick ! (λ δ·3·22. split ! $
+        move ! (55 ∷ 54 ∷ 53 ∷ 32 ∷ 29 ∷ 26 ∷ 23 ∷ 20 ∷ 17 ∷ 52 ∷ 14 ∷ 11 ∷ 50 ∷ 8 ∷ 48 ∷ 44 ∷ 42 ∷ 40 ∷ 57 ∷ 56 ∷ 5 ∷ 2 ∷ 37 ∷ 35 ∷ 33 ∷ 30 ∷ 27 ∷ 24
+        ∷ 21 ∷ 18 ∷ 15 ∷ 51 ∷ 12 ∷ 9 ∷ 49 ∷ 6 ∷ 47 ∷ 43 ∷ 41 ∷ 39 ∷ 59 ∷ 58 ∷ 3 ∷ 0 ∷ []) $
+        group ! 44 $
         use1 W (raw ((G3·C 𝓤 H A at-mem run) .pre (
           (
             ((
@@ -5001,14 +5201,14 @@ module _ {M : Type 1} (𝓤 : URA M) (H : Heap 𝓤) (A : Atoms 𝓤) (W : Given
                       (ν·3·5 ∷ []),
                       (
                         (ν·3·6 ∷ []),
-                        ((ν·3·7 ∷ []), ((ν·3·8 ∷ []), ((ν·3·9 ∷ []), (κ·vars, ((ν·3·11 ∷ []), ((ν·3·12 ∷ []), (κ·defs, ((ν·3·14 ∷ []), (κ·lists, (κ·kept, (κ·feet, (κ·cells, (κ·ids, ((ν·3·20 ∷ []), ((ν·3·21 ∷ []), tt))))))))))))))),
+                        ((ν·3·7 ∷ []), ((ν·3·8 ∷ []), ((ν·3·9 ∷ []), (κ·vars, ((ν·3·11 ∷ []), ((ν·3·12 ∷ []), (κ·defs, ((ν·3·14 ∷ []), (κ·lists, (κ·kept, (κ·feet, (κ·cells, (κ·ids, (κ·memo, ((ν·3·21 ∷ []), ((ν·3·22 ∷ []), tt)))))))))))))))),
                       ),
                     ),
                   ),
                 ),
               ),
             )),
-            ((q·theory, (q·goals, (q·proof, (fullShare, (fullShare, (fullShare, (fullShare, (fullShare, (fullShare, (q·vars, (fullShare, (fullShare, (q·defs, (fullShare, (q·lists, (q·kept, (q·feet, (q·cells, (q·ids, (fullShare, (fullShare, tt)))))))))))))))))))))),
+            ((q·theory, (q·goals, (q·proof, (fullShare, (fullShare, (fullShare, (fullShare, (fullShare, (fullShare, (q·vars, (fullShare, (fullShare, (q·defs, (fullShare, (q·lists, (q·kept, (q·feet, (q·cells, (q·ids, (q·memo, (fullShare, (fullShare, tt))))))))))))))))))))))),
             tt,
             (
               (ref·theory γ·theory theory),
@@ -5042,7 +5242,16 @@ module _ {M : Type 1} (𝓤 : URA M) (H : Heap 𝓤) (A : Atoms 𝓤) (W : Given
                                           (ref·rows δ·3·14 (ws1 .1 .1 .1 .1 .1 .1 .1 .1 .1 .1 .1 .1 .1 .0)),
                                           (
                                             (ref·lists γ·lists (ws1 .1 .1 .1 .1 .1 .1 .1 .1 .1 .1 .1 .1 .1 .1 .0)),
-                                            ((ref·kept γ·kept kept), ((ref·feet γ·feet feet), ((ref·cells γ·cells (ws1 .1 .1 .1 .1 .1 .1 .1 .1 .1 .1 .1 .1 .1 .1 .1 .1 .1 .1 .0)), ((ref·ids γ·ids ids), ((ref·facts δ·3·20 facts), ((record { ptr = (l24, 0); name = δ·3·21; now = r2 }), tt)))))),
+                                            (
+                                              (ref·kept γ·kept kept),
+                                              (
+                                                (ref·feet γ·feet feet),
+                                                (
+                                                  (ref·cells γ·cells (ws1 .1 .1 .1 .1 .1 .1 .1 .1 .1 .1 .1 .1 .1 .1 .1 .1 .1 .1 .0)),
+                                                  ((ref·ids γ·ids ids), ((ref·memo γ·memo memo), ((ref·facts δ·3·21 facts), ((record { ptr = (l25, 0); name = δ·3·22; now = r2 }), tt)))),
+                                                ),
+                                              ),
+                                            ),
                                           ),
                                         ),
                                       ),
@@ -5079,7 +5288,7 @@ module _ {M : Type 1} (𝓤 : URA M) (H : Heap 𝓤) (A : Atoms 𝓤) (W : Given
                               s·rulevars ∷ [],
                               (
                                 s·patterns ∷ [],
-                                (s·vars ∷ [], (s·index ∷ [], (s·words ∷ [], (s·defs ∷ [], (s·rows ∷ [], (s·lists ∷ [], (s·kept ∷ [], (s·feet ∷ [], (s·cells ∷ [], (s·ids ∷ [], (s·facts ∷ [], ((vptr l24 0) ∷ [], tt)))))))))))),
+                                (s·vars ∷ [], (s·index ∷ [], (s·words ∷ [], (s·defs ∷ [], (s·rows ∷ [], (s·lists ∷ [], (s·kept ∷ [], (s·feet ∷ [], (s·cells ∷ [], (s·ids ∷ [], (s·memo ∷ [], (s·facts ∷ [], ((vptr l25 0) ∷ [], tt))))))))))))),
                               ),
                             ),
                           ),
@@ -5096,8 +5305,8 @@ module _ {M : Type 1} (𝓤 : URA M) (H : Heap 𝓤) (A : Atoms 𝓤) (W : Given
         ∷ ‵ (flft (ν·3·5 ∷ []) fullShare) ∷ ‵ (flft (ν·3·6 ∷ []) fullShare) ∷ ‵ (flft (ν·3·7 ∷ []) fullShare) ∷ ‵ (flft (ν·3·8 ∷ []) fullShare)
         ∷ ‵ (flft (ν·3·9 ∷ []) fullShare) ∷ ‵ (flft κ·vars q·vars) ∷ ‵ (flft (ν·3·11 ∷ []) fullShare) ∷ ‵ (flft (ν·3·12 ∷ []) fullShare)
         ∷ ‵ (flft κ·defs q·defs) ∷ ‵ (flft (ν·3·14 ∷ []) fullShare) ∷ ‵ (flft κ·lists q·lists) ∷ ‵ (flft κ·kept q·kept) ∷ ‵ (flft κ·feet q·feet)
-        ∷ ‵ (flft κ·cells q·cells) ∷ ‵ (flft κ·ids q·ids) ∷ ‵ (flft (ν·3·20 ∷ []) fullShare) ∷ ‵ (flft (ν·3·21 ∷ []) fullShare)
-        ∷ ‵ (ShrSlice (named 0) κ·theory u8 .own (ref·theory γ·theory theory) (s·theory ∷ []))
+        ∷ ‵ (flft κ·cells q·cells) ∷ ‵ (flft κ·ids q·ids) ∷ ‵ (flft κ·memo q·memo) ∷ ‵ (flft (ν·3·21 ∷ []) fullShare)
+        ∷ ‵ (flft (ν·3·22 ∷ []) fullShare) ∷ ‵ (ShrSlice (named 0) κ·theory u8 .own (ref·theory γ·theory theory) (s·theory ∷ []))
         ∷ ‵ (ShrSlice (named 1) κ·goals u8 .own (ref·goals γ·goals goals) (s·goals ∷ []))
         ∷ ‵ (ShrSlice (named 2) κ·proof u8 .own (ref·proof γ·proof proof) (s·proof ∷ []))
         ∷ ‵ (ShrSlice (named 3) (ν·3·4 ∷ []) u32 .own (ref·sorts δ·3·4 (ws1 .1 .1 .1 .0)) (s·sorts ∷ []))
@@ -5116,20 +5325,22 @@ module _ {M : Type 1} (𝓤 : URA M) (H : Heap 𝓤) (A : Atoms 𝓤) (W : Given
         ∷ ‵ (MutSlice (named 16) κ·feet u64 .own (ref·feet γ·feet feet) (s·feet ∷ []))
         ∷ ‵ (MutSlice (named 17) κ·cells u32 .own (ref·cells γ·cells (ws1 .1 .1 .1 .1 .1 .1 .1 .1 .1 .1 .1 .1 .1 .1 .1 .1 .1 .1 .0)) (s·cells ∷ []))
         ∷ ‵ (MutSlice (named 18) κ·ids u32 .own (ref·ids γ·ids ids) (s·ids ∷ []))
-        ∷ ‵ (MutSlice (named 19) (ν·3·20 ∷ []) FactT.the-row .own (ref·facts δ·3·20 facts) (s·facts ∷ []))
-        ∷ ‵ (MutRef (named 20) (ν·3·21 ∷ []) CountsT.the-row .own (record { ptr = (l24, 0); name = δ·3·21; now = r2 }) ((vptr l24 0) ∷ [])) ∷ []) ∵
-        says ! (opened e1·0 e2 req e1·1) $ nothing ! $ move ! (21 ∷ 0 ∷ []) $ join ! $ move ! (20 ∷ 0 ∷ []) $ join ! $ move ! (19 ∷ 0 ∷ []) $ join ! $
-        move ! (18 ∷ 0 ∷ []) $ join ! $ move ! (17 ∷ 0 ∷ []) $ join ! $ move ! (16 ∷ 0 ∷ []) $ join ! $ move ! (15 ∷ 0 ∷ []) $ join ! $
-        move ! (14 ∷ 0 ∷ []) $ join ! $ move ! (13 ∷ 0 ∷ []) $ join ! $ move ! (12 ∷ 0 ∷ []) $ join ! $ move ! (11 ∷ 0 ∷ []) $ join ! $
-        move ! (10 ∷ 0 ∷ []) $ join ! $ move ! (9 ∷ 0 ∷ []) $ join ! $ move ! (8 ∷ 0 ∷ []) $ join ! $ move ! (7 ∷ 0 ∷ []) $ join ! $
-        move ! (6 ∷ 0 ∷ []) $ join ! $ move ! (5 ∷ 0 ∷ []) $ join ! $ move ! (4 ∷ 0 ∷ []) $ join ! $ move ! (3 ∷ 0 ∷ []) $ join ! $
-        move ! (2 ∷ 0 ∷ []) $ join ! $ move ! (1 ∷ 0 ∷ []) $ join ! $ frame ! $ nothing ! $ move ! (21 ∷ 0 ∷ []) $ fjoin ! $ move ! (20 ∷ 0 ∷ []) $
-        fjoin ! $ move ! (19 ∷ 0 ∷ []) $ fjoin ! $ move ! (18 ∷ 0 ∷ []) $ fjoin ! $ move ! (17 ∷ 0 ∷ []) $ fjoin ! $ move ! (16 ∷ 0 ∷ []) $ fjoin ! $
-        move ! (15 ∷ 0 ∷ []) $ fjoin ! $ move ! (14 ∷ 0 ∷ []) $ fjoin ! $ move ! (13 ∷ 0 ∷ []) $ fjoin ! $ move ! (12 ∷ 0 ∷ []) $ fjoin ! $
-        move ! (11 ∷ 0 ∷ []) $ fjoin ! $ move ! (10 ∷ 0 ∷ []) $ fjoin ! $ move ! (9 ∷ 0 ∷ []) $ fjoin ! $ move ! (8 ∷ 0 ∷ []) $ fjoin ! $
-        move ! (7 ∷ 0 ∷ []) $ fjoin ! $ move ! (6 ∷ 0 ∷ []) $ fjoin ! $ move ! (5 ∷ 0 ∷ []) $ fjoin ! $ move ! (4 ∷ 0 ∷ []) $ fjoin ! $
-        owned ! RunT.the-row (Is RunT.the-row) (LL.makes RunT.the-type RunL.the-plain 𝓤 H A) r1 _ is1 $ fjoin ! $ move ! (3 ∷ 0 ∷ []) $ fjoin ! $
-        move ! (2 ∷ 0 ∷ []) $ fjoin ! $ move ! (1 ∷ 0 ∷ []) $ fjoin ! $ done !) $
+        ∷ ‵ (MutSlice (named 19) κ·memo u32 .own (ref·memo γ·memo memo) (s·memo ∷ []))
+        ∷ ‵ (MutSlice (named 20) (ν·3·21 ∷ []) FactT.the-row .own (ref·facts δ·3·21 facts) (s·facts ∷ []))
+        ∷ ‵ (MutRef (named 21) (ν·3·22 ∷ []) CountsT.the-row .own (record { ptr = (l25, 0); name = δ·3·22; now = r2 }) ((vptr l25 0) ∷ [])) ∷ []) ∵
+        says ! (opened e1·0 e2 req e1·1) $ nothing ! $ move ! (22 ∷ 0 ∷ []) $ join ! $ move ! (21 ∷ 0 ∷ []) $ join ! $ move ! (20 ∷ 0 ∷ []) $ join ! $
+        move ! (19 ∷ 0 ∷ []) $ join ! $ move ! (18 ∷ 0 ∷ []) $ join ! $ move ! (17 ∷ 0 ∷ []) $ join ! $ move ! (16 ∷ 0 ∷ []) $ join ! $
+        move ! (15 ∷ 0 ∷ []) $ join ! $ move ! (14 ∷ 0 ∷ []) $ join ! $ move ! (13 ∷ 0 ∷ []) $ join ! $ move ! (12 ∷ 0 ∷ []) $ join ! $
+        move ! (11 ∷ 0 ∷ []) $ join ! $ move ! (10 ∷ 0 ∷ []) $ join ! $ move ! (9 ∷ 0 ∷ []) $ join ! $ move ! (8 ∷ 0 ∷ []) $ join ! $
+        move ! (7 ∷ 0 ∷ []) $ join ! $ move ! (6 ∷ 0 ∷ []) $ join ! $ move ! (5 ∷ 0 ∷ []) $ join ! $ move ! (4 ∷ 0 ∷ []) $ join ! $
+        move ! (3 ∷ 0 ∷ []) $ join ! $ move ! (2 ∷ 0 ∷ []) $ join ! $ move ! (1 ∷ 0 ∷ []) $ join ! $ frame ! $ nothing ! $ move ! (22 ∷ 0 ∷ []) $
+        fjoin ! $ move ! (21 ∷ 0 ∷ []) $ fjoin ! $ move ! (20 ∷ 0 ∷ []) $ fjoin ! $ move ! (19 ∷ 0 ∷ []) $ fjoin ! $ move ! (18 ∷ 0 ∷ []) $ fjoin ! $
+        move ! (17 ∷ 0 ∷ []) $ fjoin ! $ move ! (16 ∷ 0 ∷ []) $ fjoin ! $ move ! (15 ∷ 0 ∷ []) $ fjoin ! $ move ! (14 ∷ 0 ∷ []) $ fjoin ! $
+        move ! (13 ∷ 0 ∷ []) $ fjoin ! $ move ! (12 ∷ 0 ∷ []) $ fjoin ! $ move ! (11 ∷ 0 ∷ []) $ fjoin ! $ move ! (10 ∷ 0 ∷ []) $ fjoin ! $
+        move ! (9 ∷ 0 ∷ []) $ fjoin ! $ move ! (8 ∷ 0 ∷ []) $ fjoin ! $ move ! (7 ∷ 0 ∷ []) $ fjoin ! $ move ! (6 ∷ 0 ∷ []) $ fjoin ! $
+        move ! (5 ∷ 0 ∷ []) $ fjoin ! $ move ! (4 ∷ 0 ∷ []) $ fjoin ! $ owned ! RunT.the-row (Is RunT.the-row)
+        (LL.makes RunT.the-type RunL.the-plain 𝓤 H A) r1 _ is1 $ fjoin ! $ move ! (3 ∷ 0 ∷ []) $ fjoin ! $ move ! (2 ∷ 0 ∷ []) $ fjoin ! $
+        move ! (1 ∷ 0 ∷ []) $ fjoin ! $ done !) $
         calls-at ! fm (G3·C 𝓤 H A at-mem run) known·3 (
           (
             ((
@@ -5144,14 +5355,14 @@ module _ {M : Type 1} (𝓤 : URA M) (H : Heap 𝓤) (A : Atoms 𝓤) (W : Given
                       (ν·3·5 ∷ []),
                       (
                         (ν·3·6 ∷ []),
-                        ((ν·3·7 ∷ []), ((ν·3·8 ∷ []), ((ν·3·9 ∷ []), (κ·vars, ((ν·3·11 ∷ []), ((ν·3·12 ∷ []), (κ·defs, ((ν·3·14 ∷ []), (κ·lists, (κ·kept, (κ·feet, (κ·cells, (κ·ids, ((ν·3·20 ∷ []), ((ν·3·21 ∷ []), tt))))))))))))))),
+                        ((ν·3·7 ∷ []), ((ν·3·8 ∷ []), ((ν·3·9 ∷ []), (κ·vars, ((ν·3·11 ∷ []), ((ν·3·12 ∷ []), (κ·defs, ((ν·3·14 ∷ []), (κ·lists, (κ·kept, (κ·feet, (κ·cells, (κ·ids, (κ·memo, ((ν·3·21 ∷ []), ((ν·3·22 ∷ []), tt)))))))))))))))),
                       ),
                     ),
                   ),
                 ),
               ),
             )),
-            ((q·theory, (q·goals, (q·proof, (fullShare, (fullShare, (fullShare, (fullShare, (fullShare, (fullShare, (q·vars, (fullShare, (fullShare, (q·defs, (fullShare, (q·lists, (q·kept, (q·feet, (q·cells, (q·ids, (fullShare, (fullShare, tt)))))))))))))))))))))),
+            ((q·theory, (q·goals, (q·proof, (fullShare, (fullShare, (fullShare, (fullShare, (fullShare, (fullShare, (q·vars, (fullShare, (fullShare, (q·defs, (fullShare, (q·lists, (q·kept, (q·feet, (q·cells, (q·ids, (q·memo, (fullShare, (fullShare, tt))))))))))))))))))))))),
             tt,
             (
               (ref·theory γ·theory theory),
@@ -5185,7 +5396,16 @@ module _ {M : Type 1} (𝓤 : URA M) (H : Heap 𝓤) (A : Atoms 𝓤) (W : Given
                                           (ref·rows δ·3·14 (ws1 .1 .1 .1 .1 .1 .1 .1 .1 .1 .1 .1 .1 .1 .0)),
                                           (
                                             (ref·lists γ·lists (ws1 .1 .1 .1 .1 .1 .1 .1 .1 .1 .1 .1 .1 .1 .1 .0)),
-                                            ((ref·kept γ·kept kept), ((ref·feet γ·feet feet), ((ref·cells γ·cells (ws1 .1 .1 .1 .1 .1 .1 .1 .1 .1 .1 .1 .1 .1 .1 .1 .1 .1 .1 .0)), ((ref·ids γ·ids ids), ((ref·facts δ·3·20 facts), ((record { ptr = (l24, 0); name = δ·3·21; now = r2 }), tt)))))),
+                                            (
+                                              (ref·kept γ·kept kept),
+                                              (
+                                                (ref·feet γ·feet feet),
+                                                (
+                                                  (ref·cells γ·cells (ws1 .1 .1 .1 .1 .1 .1 .1 .1 .1 .1 .1 .1 .1 .1 .1 .1 .1 .1 .0)),
+                                                  ((ref·ids γ·ids ids), ((ref·memo γ·memo memo), ((ref·facts δ·3·21 facts), ((record { ptr = (l25, 0); name = δ·3·22; now = r2 }), tt)))),
+                                                ),
+                                              ),
+                                            ),
                                           ),
                                         ),
                                       ),
@@ -5222,7 +5442,7 @@ module _ {M : Type 1} (𝓤 : URA M) (H : Heap 𝓤) (A : Atoms 𝓤) (W : Given
                               s·rulevars ∷ [],
                               (
                                 s·patterns ∷ [],
-                                (s·vars ∷ [], (s·index ∷ [], (s·words ∷ [], (s·defs ∷ [], (s·rows ∷ [], (s·lists ∷ [], (s·kept ∷ [], (s·feet ∷ [], (s·cells ∷ [], (s·ids ∷ [], (s·facts ∷ [], ((vptr l24 0) ∷ [], tt)))))))))))),
+                                (s·vars ∷ [], (s·index ∷ [], (s·words ∷ [], (s·defs ∷ [], (s·rows ∷ [], (s·lists ∷ [], (s·kept ∷ [], (s·feet ∷ [], (s·cells ∷ [], (s·ids ∷ [], (s·memo ∷ [], (s·facts ∷ [], ((vptr l25 0) ∷ [], tt))))))))))))),
                               ),
                             ),
                           ),
@@ -5235,24 +5455,24 @@ module _ {M : Type 1} (𝓤 : URA M) (H : Heap 𝓤) (A : Atoms 𝓤) (W : Given
             ),
           ),
           tt,
-        ) (and-then ! (load ! (from ! (stop !)) (look ! 228 refl)) (and-then ! (load ! (from ! (stop !)) (look ! 226 refl))
-        (and-then ! (load ! (from ! (stop !)) (look ! 224 refl)) (and-then ! (load ! (from ! (stop !)) (look ! 184 refl))
-        (and-then ! (load ! (from ! (stop !)) (look ! 109 refl)) (and-then ! (load ! (from ! (stop !)) (look ! 105 refl))
-        (and-then ! (load ! (from ! (stop !)) (look ! 101 refl)) (and-then ! (load ! (from ! (stop !)) (look ! 97 refl))
-        (and-then ! (load ! (from ! (stop !)) (look ! 93 refl)) (and-then ! (load ! (from ! (stop !)) (look ! 89 refl))
-        (and-then ! (load ! (from ! (stop !)) (look ! 85 refl)) (and-then ! (load ! (from ! (stop !)) (look ! 81 refl))
-        (and-then ! (load ! (from ! (stop !)) (look ! 77 refl)) (and-then ! (load ! (from ! (stop !)) (look ! 73 refl))
-        (and-then ! (load ! (from ! (stop !)) (look ! 69 refl)) (and-then ! (load ! (from ! (stop !)) (look ! 65 refl))
-        (and-then ! (load ! (from ! (stop !)) (look ! 61 refl)) (and-then ! (load ! (from ! (stop !)) (look ! 57 refl))
-        (and-then ! (load ! (from ! (stop !)) (look ! 53 refl)) (and-then ! (load ! (from ! (stop !)) (look ! 49 refl))
-        (and-then ! (load ! (from ! (stop !)) (look ! 45 refl)) (and-then ! (load ! (from ! (stop !)) (look ! 43 refl))
-        (no-more !))))))))))))))))))))))) (λ v3.
+        ) (and-then ! (load ! (from ! (stop !)) (look ! 234 refl)) (and-then ! (load ! (from ! (stop !)) (look ! 232 refl))
+        (and-then ! (load ! (from ! (stop !)) (look ! 230 refl)) (and-then ! (load ! (from ! (stop !)) (look ! 188 refl))
+        (and-then ! (load ! (from ! (stop !)) (look ! 113 refl)) (and-then ! (load ! (from ! (stop !)) (look ! 109 refl))
+        (and-then ! (load ! (from ! (stop !)) (look ! 105 refl)) (and-then ! (load ! (from ! (stop !)) (look ! 101 refl))
+        (and-then ! (load ! (from ! (stop !)) (look ! 97 refl)) (and-then ! (load ! (from ! (stop !)) (look ! 93 refl))
+        (and-then ! (load ! (from ! (stop !)) (look ! 89 refl)) (and-then ! (load ! (from ! (stop !)) (look ! 85 refl))
+        (and-then ! (load ! (from ! (stop !)) (look ! 81 refl)) (and-then ! (load ! (from ! (stop !)) (look ! 77 refl))
+        (and-then ! (load ! (from ! (stop !)) (look ! 73 refl)) (and-then ! (load ! (from ! (stop !)) (look ! 69 refl))
+        (and-then ! (load ! (from ! (stop !)) (look ! 65 refl)) (and-then ! (load ! (from ! (stop !)) (look ! 61 refl))
+        (and-then ! (load ! (from ! (stop !)) (look ! 57 refl)) (and-then ! (load ! (from ! (stop !)) (look ! 53 refl))
+        (and-then ! (load ! (from ! (stop !)) (look ! 49 refl)) (and-then ! (load ! (from ! (stop !)) (look ! 45 refl))
+        (and-then ! (load ! (from ! (stop !)) (look ! 43 refl)) (no-more !)))))))))))))))))))))))) (λ v3.
         use1 W (later (some (λ (r3 : Run). ((‵ (flft κ·theory q·theory) ⊛ ‵ (flft κ·goals q·goals) ⊛ ‵ (flft κ·proof q·proof)
         ⊛ ‵ (flft (ν·3·4 ∷ []) fullShare) ⊛ ‵ (flft (ν·3·5 ∷ []) fullShare) ⊛ ‵ (flft (ν·3·6 ∷ []) fullShare) ⊛ ‵ (flft (ν·3·7 ∷ []) fullShare)
         ⊛ ‵ (flft (ν·3·8 ∷ []) fullShare) ⊛ ‵ (flft (ν·3·9 ∷ []) fullShare) ⊛ ‵ (flft κ·vars q·vars) ⊛ ‵ (flft (ν·3·11 ∷ []) fullShare)
         ⊛ ‵ (flft (ν·3·12 ∷ []) fullShare) ⊛ ‵ (flft κ·defs q·defs) ⊛ ‵ (flft (ν·3·14 ∷ []) fullShare) ⊛ ‵ (flft κ·lists q·lists)
-        ⊛ ‵ (flft κ·kept q·kept) ⊛ ‵ (flft κ·feet q·feet) ⊛ ‵ (flft κ·cells q·cells) ⊛ ‵ (flft κ·ids q·ids) ⊛ ‵ (flft (ν·3·20 ∷ []) fullShare)
-        ⊛ ‵ (flft (ν·3·21 ∷ []) fullShare) ⊛ ‵ ftrue) ⊛ ‵ (RunT.the-row .own r3 (v3 ∷ []))) ⊛ raw
+        ⊛ ‵ (flft κ·kept q·kept) ⊛ ‵ (flft κ·feet q·feet) ⊛ ‵ (flft κ·cells q·cells) ⊛ ‵ (flft κ·ids q·ids) ⊛ ‵ (flft κ·memo q·memo)
+        ⊛ ‵ (flft (ν·3·21 ∷ []) fullShare) ⊛ ‵ (flft (ν·3·22 ∷ []) fullShare) ⊛ ‵ ftrue) ⊛ ‵ (RunT.the-row .own r3 (v3 ∷ []))) ⊛ raw
         (ensured 𝓤 H A G3.ended (G3.clauses 𝓤 H A at-mem run) (
           κ·theory,
           (
@@ -5265,7 +5485,7 @@ module _ {M : Type 1} (𝓤 : URA M) (H : Heap 𝓤) (A : Atoms 𝓤) (W : Given
                   (ν·3·5 ∷ []),
                   (
                     (ν·3·6 ∷ []),
-                    ((ν·3·7 ∷ []), ((ν·3·8 ∷ []), ((ν·3·9 ∷ []), (κ·vars, ((ν·3·11 ∷ []), ((ν·3·12 ∷ []), (κ·defs, ((ν·3·14 ∷ []), (κ·lists, (κ·kept, (κ·feet, (κ·cells, (κ·ids, ((ν·3·20 ∷ []), ((ν·3·21 ∷ []), tt))))))))))))))),
+                    ((ν·3·7 ∷ []), ((ν·3·8 ∷ []), ((ν·3·9 ∷ []), (κ·vars, ((ν·3·11 ∷ []), ((ν·3·12 ∷ []), (κ·defs, ((ν·3·14 ∷ []), (κ·lists, (κ·kept, (κ·feet, (κ·cells, (κ·ids, (κ·memo, ((ν·3·21 ∷ []), ((ν·3·22 ∷ []), tt)))))))))))))))),
                   ),
                 ),
               ),
@@ -5303,7 +5523,16 @@ module _ {M : Type 1} (𝓤 : URA M) (H : Heap 𝓤) (A : Atoms 𝓤) (W : Given
                                       (ref·rows δ·3·14 (ws1 .1 .1 .1 .1 .1 .1 .1 .1 .1 .1 .1 .1 .1 .0)),
                                       (
                                         (ref·lists γ·lists (ws1 .1 .1 .1 .1 .1 .1 .1 .1 .1 .1 .1 .1 .1 .1 .0)),
-                                        ((ref·kept γ·kept kept), ((ref·feet γ·feet feet), ((ref·cells γ·cells (ws1 .1 .1 .1 .1 .1 .1 .1 .1 .1 .1 .1 .1 .1 .1 .1 .1 .1 .1 .0)), ((ref·ids γ·ids ids), ((ref·facts δ·3·20 facts), ((record { ptr = (l24, 0); name = δ·3·21; now = r2 }), tt)))))),
+                                        (
+                                          (ref·kept γ·kept kept),
+                                          (
+                                            (ref·feet γ·feet feet),
+                                            (
+                                              (ref·cells γ·cells (ws1 .1 .1 .1 .1 .1 .1 .1 .1 .1 .1 .1 .1 .1 .1 .1 .1 .1 .1 .0)),
+                                              ((ref·ids γ·ids ids), ((ref·memo γ·memo memo), ((ref·facts δ·3·21 facts), ((record { ptr = (l25, 0); name = δ·3·22; now = r2 }), tt)))),
+                                            ),
+                                          ),
+                                        ),
                                       ),
                                     ),
                                   ),
@@ -5324,7 +5553,7 @@ module _ {M : Type 1} (𝓤 : URA M) (H : Heap 𝓤) (A : Atoms 𝓤) (W : Given
         use1 W (some (λ (ws3 : (Unit {0} × (Unit {0} × (Unit {0} × (Unit {0} ×
         (Unit {0} × (Unit {0} × (Unit {0} × (Unit {0} × (Unit {0} × (Unit {0} ×
         ((List ℕ) × ((List ℕ) × ((List ℕ) × ((List ℕ) × ((List ℕ) × ((List ℕ) ×
-        ((List ℕ) × ((List ℕ) × ((List ℕ) × ((List ℕ) × ((List Fact) × (Counts × Unit {0}))))))))))))))))))))))).
+        ((List ℕ) × ((List ℕ) × ((List ℕ) × ((List ℕ) × ((List ℕ) × ((List Fact) × (Counts × Unit {0})))))))))))))))))))))))).
         ‵ (lasts G3.ended (
           κ·theory,
           (
@@ -5335,7 +5564,7 @@ module _ {M : Type 1} (𝓤 : URA M) (H : Heap 𝓤) (A : Atoms 𝓤) (W : Given
                 (ν·3·4 ∷ []),
                 (
                   (ν·3·5 ∷ []),
-                  ((ν·3·6 ∷ []), ((ν·3·7 ∷ []), ((ν·3·8 ∷ []), ((ν·3·9 ∷ []), (κ·vars, ((ν·3·11 ∷ []), ((ν·3·12 ∷ []), (κ·defs, ((ν·3·14 ∷ []), (κ·lists, (κ·kept, (κ·feet, (κ·cells, (κ·ids, ((ν·3·20 ∷ []), ((ν·3·21 ∷ []), tt)))))))))))))))),
+                  ((ν·3·6 ∷ []), ((ν·3·7 ∷ []), ((ν·3·8 ∷ []), ((ν·3·9 ∷ []), (κ·vars, ((ν·3·11 ∷ []), ((ν·3·12 ∷ []), (κ·defs, ((ν·3·14 ∷ []), (κ·lists, (κ·kept, (κ·feet, (κ·cells, (κ·ids, (κ·memo, ((ν·3·21 ∷ []), ((ν·3·22 ∷ []), tt))))))))))))))))),
                 ),
               ),
             ),
@@ -5372,7 +5601,16 @@ module _ {M : Type 1} (𝓤 : URA M) (H : Heap 𝓤) (A : Atoms 𝓤) (W : Given
                                       (ref·rows δ·3·14 (ws1 .1 .1 .1 .1 .1 .1 .1 .1 .1 .1 .1 .1 .1 .0)),
                                       (
                                         (ref·lists γ·lists (ws1 .1 .1 .1 .1 .1 .1 .1 .1 .1 .1 .1 .1 .1 .1 .0)),
-                                        ((ref·kept γ·kept kept), ((ref·feet γ·feet feet), ((ref·cells γ·cells (ws1 .1 .1 .1 .1 .1 .1 .1 .1 .1 .1 .1 .1 .1 .1 .1 .1 .1 .1 .0)), ((ref·ids γ·ids ids), ((ref·facts δ·3·20 facts), ((record { ptr = (l24, 0); name = δ·3·21; now = r2 }), tt)))))),
+                                        (
+                                          (ref·kept γ·kept kept),
+                                          (
+                                            (ref·feet γ·feet feet),
+                                            (
+                                              (ref·cells γ·cells (ws1 .1 .1 .1 .1 .1 .1 .1 .1 .1 .1 .1 .1 .1 .1 .1 .1 .1 .1 .0)),
+                                              ((ref·ids γ·ids ids), ((ref·memo γ·memo memo), ((ref·facts δ·3·21 facts), ((record { ptr = (l25, 0); name = δ·3·22; now = r2 }), tt)))),
+                                            ),
+                                          ),
+                                        ),
                                       ),
                                     ),
                                   ),
@@ -5397,9 +5635,10 @@ module _ {M : Type 1} (𝓤 : URA M) (H : Heap 𝓤) (A : Atoms 𝓤) (W : Given
         (ws3 .1 .1 .1 .1 .1 .1 .1 .1 .1 .1 .1 .1 .0) (ws3 .1 .1 .1 .1 .1 .1 .1 .1 .1 .1 .1 .1 .1 .0)
         (ws3 .1 .1 .1 .1 .1 .1 .1 .1 .1 .1 .1 .1 .1 .1 .0) (ws3 .1 .1 .1 .1 .1 .1 .1 .1 .1 .1 .1 .1 .1 .1 .1 .0))
         (ws3 .1 .1 .1 .1 .1 .1 .1 .1 .1 .1 .1 .1 .1 .1 .1 .1 .0) (ws3 .1 .1 .1 .1 .1 .1 .1 .1 .1 .1 .1 .1 .1 .1 .1 .1 .1 .0)
-        (ws3 .1 .1 .1 .1 .1 .1 .1 .1 .1 .1 .1 .1 .1 .1 .1 .1 .1 .1 .0) (ws3 .1 .1 .1 .1 .1 .1 .1 .1 .1 .1 .1 .1 .1 .1 .1 .1 .1 .1 .1 .0) r1 r3 facts
-        (ws3 .1 .1 .1 .1 .1 .1 .1 .1 .1 .1 .1 .1 .1 .1 .1 .1 .1 .1 .1 .1 .0)
-        (ws3 .1 .1 .1 .1 .1 .1 .1 .1 .1 .1 .1 .1 .1 .1 .1 .1 .1 .1 .1 .1 .1 .0))))) (id⊢ 𝓤 _) $ pick ! (λ ws3. split ! $ move ! (1 ∷ []) $
+        (ws3 .1 .1 .1 .1 .1 .1 .1 .1 .1 .1 .1 .1 .1 .1 .1 .1 .1 .1 .0) (ws3 .1 .1 .1 .1 .1 .1 .1 .1 .1 .1 .1 .1 .1 .1 .1 .1 .1 .1 .1 .0)
+        (ws3 .1 .1 .1 .1 .1 .1 .1 .1 .1 .1 .1 .1 .1 .1 .1 .1 .1 .1 .1 .1 .0) r1 r3 facts
+        (ws3 .1 .1 .1 .1 .1 .1 .1 .1 .1 .1 .1 .1 .1 .1 .1 .1 .1 .1 .1 .1 .1 .0)
+        (ws3 .1 .1 .1 .1 .1 .1 .1 .1 .1 .1 .1 .1 .1 .1 .1 .1 .1 .1 .1 .1 .1 .1 .0))))) (id⊢ 𝓤 _) $ pick ! (λ ws3. split ! $ move ! (1 ∷ []) $
         heard ! (Ran theory goals proof (theoryLists (ws1 .1 .1 .1 .0) (ws1 .1 .1 .1 .1 .0) (ws1 .1 .1 .1 .1 .1 .0) (ws1 .1 .1 .1 .1 .1 .1 .0)
         (ws1 .1 .1 .1 .1 .1 .1 .1 .0) (ws1 .1 .1 .1 .1 .1 .1 .1 .1 .0)) (working (ws1 .1 .1 .1 .1 .1 .1 .1 .1 .1 .0)
         (ws1 .1 .1 .1 .1 .1 .1 .1 .1 .1 .1 .0) (ws1 .1 .1 .1 .1 .1 .1 .1 .1 .1 .1 .1 .0) (ws1 .1 .1 .1 .1 .1 .1 .1 .1 .1 .1 .1 .1 .0)
@@ -5408,9 +5647,9 @@ module _ {M : Type 1} (𝓤 : URA M) (H : Heap 𝓤) (A : Atoms 𝓤) (W : Given
         (ws3 .1 .1 .1 .1 .1 .1 .1 .1 .1 .1 .1 .1 .1 .0) (ws3 .1 .1 .1 .1 .1 .1 .1 .1 .1 .1 .1 .1 .1 .1 .0)
         (ws3 .1 .1 .1 .1 .1 .1 .1 .1 .1 .1 .1 .1 .1 .1 .1 .0)) (ws3 .1 .1 .1 .1 .1 .1 .1 .1 .1 .1 .1 .1 .1 .1 .1 .1 .0)
         (ws3 .1 .1 .1 .1 .1 .1 .1 .1 .1 .1 .1 .1 .1 .1 .1 .1 .1 .0) (ws3 .1 .1 .1 .1 .1 .1 .1 .1 .1 .1 .1 .1 .1 .1 .1 .1 .1 .1 .0)
-        (ws3 .1 .1 .1 .1 .1 .1 .1 .1 .1 .1 .1 .1 .1 .1 .1 .1 .1 .1 .1 .0) r1 r3 facts
-        (ws3 .1 .1 .1 .1 .1 .1 .1 .1 .1 .1 .1 .1 .1 .1 .1 .1 .1 .1 .1 .1 .0) (ws3 .1 .1 .1 .1 .1 .1 .1 .1 .1 .1 .1 .1 .1 .1 .1 .1 .1 .1 .1 .1 .1 .0))
-        (λ e3.
+        (ws3 .1 .1 .1 .1 .1 .1 .1 .1 .1 .1 .1 .1 .1 .1 .1 .1 .1 .1 .1 .0) (ws3 .1 .1 .1 .1 .1 .1 .1 .1 .1 .1 .1 .1 .1 .1 .1 .1 .1 .1 .1 .1 .0) r1 r3
+        facts (ws3 .1 .1 .1 .1 .1 .1 .1 .1 .1 .1 .1 .1 .1 .1 .1 .1 .1 .1 .1 .1 .1 .0)
+        (ws3 .1 .1 .1 .1 .1 .1 .1 .1 .1 .1 .1 .1 .1 .1 .1 .1 .1 .1 .1 .1 .1 .1 .0)) (λ e3.
         fsplit ! $
         drop ! $
         fsplit ! $
@@ -5484,17 +5723,24 @@ module _ {M : Type 1} (𝓤 : URA M) (H : Heap 𝓤) (A : Atoms 𝓤) (W : Given
         fsplit ! $
         fsplit ! $
         move ! (1 ∷ []) $
+        feqL ! (λ len·3·memo.
+        move ! (1 ∷ []) $
+        fsplit ! $
+        fsplit ! $
+        move ! (1 ∷ []) $
         feqL ! (λ len·3·facts.
         move ! (1 ∷ []) $
         fsplit ! $
         move ! (1 ∷ []) $
         drop ! $
-        move ! (12 ∷ []) $
+        move ! (13 ∷ []) $
         split ! $
         move ! (1 ∷ []) $
         peeks ! RunT.the-row (Is RunT.the-row) (shows 𝓤 H A RunT.the-row) r3 (v3 ∷ []) (λ is3.
         drop ! $
-        land ! (from ! (stop !)) (init ! 193 refl (LL.lawful RunT.the-type RunL.the-laws 𝓤 H A W .typed r3 _ is3 .0)) $
+        land ! (from ! (stop !)) (init ! 198 refl (LL.lawful RunT.the-type RunL.the-laws 𝓤 H A W .typed r3 _ is3 .0)) $
+        split ! $
+        move ! (1 ∷ []) $
         split ! $
         move ! (1 ∷ []) $
         split ! $
@@ -5541,12 +5787,12 @@ module _ {M : Type 1} (𝓤 : URA M) (H : Heap 𝓤) (A : Atoms 𝓤) (W : Given
         seg·9 l0 l1 l2 l3 l4 l5 l6 l7 l8 l9 l10 l11 l12 l13 l14 l15 l16 l17 l18 l19 l20 l21 l22 l23 l24 l25 l26 l27 l28 l29 l30 l31 l32 l33 l34 l35
         l36 l37 l38 l39 l40 l41 l42 l43 l44 l45 l46 l47 l48 l49 l50 l51 l52 l53 l54 l55 l56 l57 l58 l59 l60 l61 l62 l63 l64 l65 l66 l67 l68 l69 l70
         l71 l72 l73 l74 l75 l76 l77 l78 l79 l80 l81 l82 l83 l84 l85 l86 l87 l88 l89 l90 l91 l92 l93 l94 l95 l96 l97 l98 l99 l100 l101 l102 l103 l104
-        l105 l106 l107 ν·1·3 δ·1·3 ν·1·4 δ·1·4 ν·1·5 δ·1·5 ν·1·6 δ·1·6 ν·1·7 δ·1·7 ν·1·8 δ·1·8 ν·1·9 δ·1·9 ν·1·10 δ·1·10 ν·1·11 δ·1·11 ν·1·12 δ·1·12
-        ν·1·13 δ·1·13 ν·1·14 δ·1·14 ν·1·15 δ·1·15 ν·1·16 δ·1·16 ν·1·17 δ·1·17 ν·1·18 δ·1·18 v1 r1 ws1 e1·0 e1·1 len·1·sorts len·1·symbols len·1·inputs
-        len·1·rules len·1·rulevars len·1·patterns len·1·vars len·1·index len·1·words len·1·defs len·1·rows len·1·lists len·1·missing len·1·cells is1
-        v2 r2 ws2 e2 is2 ν·3·4 δ·3·4 ν·3·5 δ·3·5 ν·3·6 δ·3·6 ν·3·7 δ·3·7 ν·3·8 δ·3·8 ν·3·9 δ·3·9 ν·3·11 δ·3·11 ν·3·12 δ·3·12 ν·3·14 δ·3·14 ν·3·20
-        δ·3·20 ν·3·21 δ·3·21 v3 r3 ws3 e3 len·3·vars len·3·index len·3·words len·3·defs len·3·rows len·3·lists len·3·kept len·3·feet len·3·cells
-        len·3·ids len·3·facts is3))))))))))))))))))))))))))))
+        l105 l106 l107 l108 l109 l110 ν·1·3 δ·1·3 ν·1·4 δ·1·4 ν·1·5 δ·1·5 ν·1·6 δ·1·6 ν·1·7 δ·1·7 ν·1·8 δ·1·8 ν·1·9 δ·1·9 ν·1·10 δ·1·10 ν·1·11 δ·1·11
+        ν·1·12 δ·1·12 ν·1·13 δ·1·13 ν·1·14 δ·1·14 ν·1·15 δ·1·15 ν·1·16 δ·1·16 ν·1·17 δ·1·17 ν·1·18 δ·1·18 v1 r1 ws1 e1·0 e1·1 len·1·sorts
+        len·1·symbols len·1·inputs len·1·rules len·1·rulevars len·1·patterns len·1·vars len·1·index len·1·words len·1·defs len·1·rows len·1·lists
+        len·1·missing len·1·cells is1 v2 r2 ws2 e2 is2 ν·3·4 δ·3·4 ν·3·5 δ·3·5 ν·3·6 δ·3·6 ν·3·7 δ·3·7 ν·3·8 δ·3·8 ν·3·9 δ·3·9 ν·3·11 δ·3·11 ν·3·12
+        δ·3·12 ν·3·14 δ·3·14 ν·3·21 δ·3·21 ν·3·22 δ·3·22 v3 r3 ws3 e3 len·3·vars len·3·index len·3·words len·3·defs len·3·rows len·3·lists len·3·kept
+        len·3·feet len·3·cells len·3·ids len·3·memo len·3·facts is3)))))))))))))))))))))))))))))))
 
     seg·7 : (l0 : ℕ) (l1 : ℕ) (l2 : ℕ) (l3 : ℕ) (l4 : ℕ) (l5 : ℕ) (l6 : ℕ) (l7 : ℕ) (l8 : ℕ) (l9 : ℕ) (l10 : ℕ) (l11 : ℕ) (l12 : ℕ) (l13 : ℕ)
         (l14 : ℕ) (l15 : ℕ) (l16 : ℕ) (l17 : ℕ) (l18 : ℕ) (l19 : ℕ) (l20 : ℕ) (l21 : ℕ) (l22 : ℕ) (l23 : ℕ) (l24 : ℕ) (l25 : ℕ) (l26 : ℕ) (l27 : ℕ)
@@ -5555,14 +5801,14 @@ module _ {M : Type 1} (𝓤 : URA M) (H : Heap 𝓤) (A : Atoms 𝓤) (W : Given
         (l56 : ℕ) (l57 : ℕ) (l58 : ℕ) (l59 : ℕ) (l60 : ℕ) (l61 : ℕ) (l62 : ℕ) (l63 : ℕ) (l64 : ℕ) (l65 : ℕ) (l66 : ℕ) (l67 : ℕ) (l68 : ℕ) (l69 : ℕ)
         (l70 : ℕ) (l71 : ℕ) (l72 : ℕ) (l73 : ℕ) (l74 : ℕ) (l75 : ℕ) (l76 : ℕ) (l77 : ℕ) (l78 : ℕ) (l79 : ℕ) (l80 : ℕ) (l81 : ℕ) (l82 : ℕ) (l83 : ℕ)
         (l84 : ℕ) (l85 : ℕ) (l86 : ℕ) (l87 : ℕ) (l88 : ℕ) (l89 : ℕ) (l90 : ℕ) (l91 : ℕ) (l92 : ℕ) (l93 : ℕ) (l94 : ℕ) (l95 : ℕ) (l96 : ℕ) (l97 : ℕ)
-        (l98 : ℕ) (l99 : ℕ) (l100 : ℕ) (l101 : ℕ) (l102 : ℕ) (l103 : ℕ) (l104 : ℕ) (l105 : ℕ) (l106 : ℕ) (l107 : ℕ) (ν·1·3 : ℕ) (δ·1·3 : GName)
-        (ν·1·4 : ℕ) (δ·1·4 : GName) (ν·1·5 : ℕ) (δ·1·5 : GName) (ν·1·6 : ℕ) (δ·1·6 : GName) (ν·1·7 : ℕ) (δ·1·7 : GName) (ν·1·8 : ℕ) (δ·1·8 : GName)
-        (ν·1·9 : ℕ) (δ·1·9 : GName) (ν·1·10 : ℕ) (δ·1·10 : GName) (ν·1·11 : ℕ) (δ·1·11 : GName) (ν·1·12 : ℕ) (δ·1·12 : GName) (ν·1·13 : ℕ)
-        (δ·1·13 : GName) (ν·1·14 : ℕ) (δ·1·14 : GName) (ν·1·15 : ℕ) (δ·1·15 : GName) (ν·1·16 : ℕ) (δ·1·16 : GName) (ν·1·17 : ℕ) (δ·1·17 : GName)
-        (ν·1·18 : ℕ) (δ·1·18 : GName) (v1 : Val) (r1 : Run) (ws1 : (Unit {0} ×
-        (Unit {0} × (Unit {0} × ((List ℕ) × ((List ℕ) × ((List ℕ) × ((List ℕ) ×
+        (l98 : ℕ) (l99 : ℕ) (l100 : ℕ) (l101 : ℕ) (l102 : ℕ) (l103 : ℕ) (l104 : ℕ) (l105 : ℕ) (l106 : ℕ) (l107 : ℕ) (l108 : ℕ) (l109 : ℕ) (l110 : ℕ)
+        (ν·1·3 : ℕ) (δ·1·3 : GName) (ν·1·4 : ℕ) (δ·1·4 : GName) (ν·1·5 : ℕ) (δ·1·5 : GName) (ν·1·6 : ℕ) (δ·1·6 : GName) (ν·1·7 : ℕ) (δ·1·7 : GName)
+        (ν·1·8 : ℕ) (δ·1·8 : GName) (ν·1·9 : ℕ) (δ·1·9 : GName) (ν·1·10 : ℕ) (δ·1·10 : GName) (ν·1·11 : ℕ) (δ·1·11 : GName) (ν·1·12 : ℕ)
+        (δ·1·12 : GName) (ν·1·13 : ℕ) (δ·1·13 : GName) (ν·1·14 : ℕ) (δ·1·14 : GName) (ν·1·15 : ℕ) (δ·1·15 : GName) (ν·1·16 : ℕ) (δ·1·16 : GName)
+        (ν·1·17 : ℕ) (δ·1·17 : GName) (ν·1·18 : ℕ) (δ·1·18 : GName) (v1 : Val) (r1 : Run)
+        (ws1 : (Unit {0} × (Unit {0} × (Unit {0} × ((List ℕ) × ((List ℕ) × ((List ℕ) ×
         ((List ℕ) × ((List ℕ) × ((List ℕ) × ((List ℕ) × ((List ℕ) × ((List ℕ) ×
-        ((List ℕ) × ((List ℕ) × ((List ℕ) × (Unit {0} × (Unit {0} × ((List ℕ) × (Unit {0} × Unit {0})))))))))))))))))))))
+        ((List ℕ) × ((List ℕ) × ((List ℕ) × ((List ℕ) × (Unit {0} × (Unit {0} × ((List ℕ) × (Unit {0} × Unit {0})))))))))))))))))))))
         (e1·0 : Begun theory goals proof (length facts) (theoryLists sorts symbols inputs rules rulevars patterns)
         (theoryLists (ws1 .1 .1 .1 .0) (ws1 .1 .1 .1 .1 .0) (ws1 .1 .1 .1 .1 .1 .0) (ws1 .1 .1 .1 .1 .1 .1 .0) (ws1 .1 .1 .1 .1 .1 .1 .1 .0)
         (ws1 .1 .1 .1 .1 .1 .1 .1 .1 .0)) (working vars index words defs rows lists)
@@ -5621,182 +5867,190 @@ module _ {M : Type 1} (𝓤 : URA M) (H : Heap 𝓤) (A : Atoms 𝓤) (W : Given
         ∷ ‵ (ShrSlice (named 2) κ·proof u8 .own (ref·proof γ·proof proof) (s·proof ∷ []))
         ∷ ‵ (ShrSlice (named 1) κ·goals u8 .own (ref·goals γ·goals goals) (s·goals ∷ []))
         ∷ ‵ (ShrSlice (named 0) κ·theory u8 .own (ref·theory γ·theory theory) (s·theory ∷ []))
+        ∷ ‵ (flft κ·memo q·memo)
         ∷ ‵ (flft κ·ids q·ids)
         ∷ ‵ (flft κ·facts q·facts)
+        ∷ ‵ (MutSlice (named 21) κ·memo u32 .own (ref·memo γ·memo memo) (s·memo ∷ []))
         ∷ ‵ (MutSlice (named 20) κ·ids u32 .own (ref·ids γ·ids ids) (s·ids ∷ []))
         ∷ ‵ (MutSlice (named 16) κ·facts FactT.the-row .own (ref·facts γ·facts facts) (s·facts ∷ []))
-        ∷ ‵ (froom (tyInt w64) l107 0)
-        ∷ ‵ (fdies (tyInt w64) l107)
-        ∷ ‵ (froom (tyInt w64) l106 0)
-        ∷ ‵ (fdies (tyInt w64) l106)
-        ∷ ‵ (froom (sliceTy (tyRef erased mut (pointee (FactT.the-row .written)))) l105 0)
-        ∷ ‵ (fdies (sliceTy (tyRef erased mut (pointee (FactT.the-row .written)))) l105)
-        ∷ ‵ (froom (tyRef erased mut (pointee (FactT.the-row .written))) l104 0)
-        ∷ ‵ (fdies (tyRef erased mut (pointee (FactT.the-row .written))) l104)
-        ∷ ‵ (froom tyUnit l103 0)
-        ∷ ‵ (fdies tyUnit l103)
-        ∷ ‵ (froom (sliceTy (tyRef erased mut (tyInt w32))) l102 0)
-        ∷ ‵ (fdies (sliceTy (tyRef erased mut (tyInt w32))) l102)
-        ∷ ‵ (froom (tyRef erased mut (tyInt w32)) l101 0)
-        ∷ ‵ (fdies (tyRef erased mut (tyInt w32)) l101)
-        ∷ ‵ (froom (sliceTy (tyRef erased imm (tyInt w32))) l100 0)
-        ∷ ‵ (fdies (sliceTy (tyRef erased imm (tyInt w32))) l100)
-        ∷ ‵ (froom (tyRef erased imm (tyInt w32)) l99 0)
-        ∷ ‵ (fdies (tyRef erased imm (tyInt w32)) l99)
-        ∷ ‵ (froom (sliceTy (tyRef erased imm (tyInt w32))) l98 0)
-        ∷ ‵ (fdies (sliceTy (tyRef erased imm (tyInt w32))) l98)
-        ∷ ‵ (froom (tyRef erased imm (tyInt w32)) l97 0)
-        ∷ ‵ (fdies (tyRef erased imm (tyInt w32)) l97)
-        ∷ ‵ (froom (sliceTy (tyRef erased mut (tyInt w32))) l96 0)
-        ∷ ‵ (fdies (sliceTy (tyRef erased mut (tyInt w32))) l96)
-        ∷ ‵ (froom (tyRef erased mut (tyInt w32)) l95 0)
-        ∷ ‵ (fdies (tyRef erased mut (tyInt w32)) l95)
-        ∷ ‵ (froom (tyRef erased mut (pointee (CountsT.the-row .written))) l94 0)
-        ∷ ‵ (fdies (tyRef erased mut (pointee (CountsT.the-row .written))) l94)
-        ∷ ‵ (froom (sliceTy (tyRef erased mut (pointee (FactT.the-row .written)))) l93 0)
-        ∷ ‵ (fdies (sliceTy (tyRef erased mut (pointee (FactT.the-row .written)))) l93)
-        ∷ ‵ (froom (tyRef erased mut (pointee (FactT.the-row .written))) l92 0)
-        ∷ ‵ (fdies (tyRef erased mut (pointee (FactT.the-row .written))) l92)
-        ∷ ‵ (froom (sliceTy (tyRef erased mut (tyInt w32))) l91 0)
-        ∷ ‵ (fdies (sliceTy (tyRef erased mut (tyInt w32))) l91)
-        ∷ ‵ (froom (tyRef erased mut (tyInt w32)) l90 0)
-        ∷ ‵ (fdies (tyRef erased mut (tyInt w32)) l90)
-        ∷ ‵ (froom (sliceTy (tyRef erased mut (tyInt w32))) l89 0)
-        ∷ ‵ (fdies (sliceTy (tyRef erased mut (tyInt w32))) l89)
-        ∷ ‵ (froom (tyRef erased mut (tyInt w32)) l88 0)
-        ∷ ‵ (fdies (tyRef erased mut (tyInt w32)) l88)
-        ∷ ‵ (froom (sliceTy (tyRef erased mut (tyInt w64))) l87 0)
-        ∷ ‵ (fdies (sliceTy (tyRef erased mut (tyInt w64))) l87)
-        ∷ ‵ (froom (tyRef erased mut (tyInt w64)) l86 0)
-        ∷ ‵ (fdies (tyRef erased mut (tyInt w64)) l86)
-        ∷ ‵ (froom (sliceTy (tyRef erased mut (tyInt w32))) l85 0)
-        ∷ ‵ (fdies (sliceTy (tyRef erased mut (tyInt w32))) l85)
-        ∷ ‵ (froom (tyRef erased mut (tyInt w32)) l84 0)
-        ∷ ‵ (fdies (tyRef erased mut (tyInt w32)) l84)
-        ∷ ‵ (froom (sliceTy (tyRef erased mut (tyInt w32))) l83 0)
-        ∷ ‵ (fdies (sliceTy (tyRef erased mut (tyInt w32))) l83)
-        ∷ ‵ (froom (tyRef erased mut (tyInt w32)) l82 0)
-        ∷ ‵ (fdies (tyRef erased mut (tyInt w32)) l82)
-        ∷ ‵ (froom (sliceTy (tyRef erased mut (tyInt w32))) l81 0)
-        ∷ ‵ (fdies (sliceTy (tyRef erased mut (tyInt w32))) l81)
-        ∷ ‵ (fat fullShare (tyRef erased mut (tyInt w32)) l80 0 (vptr b·rows o·rows))
-        ∷ ‵ (fdies (tyRef erased mut (tyInt w32)) l80)
-        ∷ ‵ (fat fullShare (sliceTy (tyRef erased mut (tyInt w32))) l79 0 s·defs)
-        ∷ ‵ (fdies (sliceTy (tyRef erased mut (tyInt w32))) l79)
-        ∷ ‵ (fat fullShare (tyRef erased mut (tyInt w32)) l78 0 (vptr b·defs o·defs))
-        ∷ ‵ (fdies (tyRef erased mut (tyInt w32)) l78)
-        ∷ ‵ (fat fullShare (sliceTy (tyRef erased mut (tyInt w32))) l77 0 s·words)
-        ∷ ‵ (fdies (sliceTy (tyRef erased mut (tyInt w32))) l77)
-        ∷ ‵ (fat fullShare (tyRef erased mut (tyInt w32)) l76 0 (vptr b·words o·words))
-        ∷ ‵ (fdies (tyRef erased mut (tyInt w32)) l76)
-        ∷ ‵ (fat fullShare (sliceTy (tyRef erased mut (tyInt w32))) l75 0 s·index)
-        ∷ ‵ (fdies (sliceTy (tyRef erased mut (tyInt w32))) l75)
-        ∷ ‵ (fat fullShare (tyRef erased mut (tyInt w32)) l74 0 (vptr b·index o·index))
-        ∷ ‵ (fdies (tyRef erased mut (tyInt w32)) l74)
-        ∷ ‵ (fat fullShare (sliceTy (tyRef erased mut (tyInt w32))) l73 0 s·vars)
-        ∷ ‵ (fdies (sliceTy (tyRef erased mut (tyInt w32))) l73)
-        ∷ ‵ (fat fullShare (tyRef erased mut (tyInt w32)) l72 0 (vptr b·vars o·vars))
-        ∷ ‵ (fdies (tyRef erased mut (tyInt w32)) l72)
-        ∷ ‵ (fat fullShare (sliceTy (tyRef erased imm (tyInt w32))) l71 0 s·patterns)
-        ∷ ‵ (fdies (sliceTy (tyRef erased imm (tyInt w32))) l71)
-        ∷ ‵ (fat fullShare (tyRef erased imm (tyInt w32)) l70 0 (vptr b·patterns o·patterns))
-        ∷ ‵ (fdies (tyRef erased imm (tyInt w32)) l70)
-        ∷ ‵ (fat fullShare (sliceTy (tyRef erased imm (tyInt w32))) l69 0 s·rulevars)
-        ∷ ‵ (fdies (sliceTy (tyRef erased imm (tyInt w32))) l69)
-        ∷ ‵ (fat fullShare (tyRef erased imm (tyInt w32)) l68 0 (vptr b·rulevars o·rulevars))
-        ∷ ‵ (fdies (tyRef erased imm (tyInt w32)) l68)
-        ∷ ‵ (fat fullShare (sliceTy (tyRef erased imm (tyInt w32))) l67 0 s·rules)
-        ∷ ‵ (fdies (sliceTy (tyRef erased imm (tyInt w32))) l67)
-        ∷ ‵ (fat fullShare (tyRef erased imm (tyInt w32)) l66 0 (vptr b·rules o·rules))
-        ∷ ‵ (fdies (tyRef erased imm (tyInt w32)) l66)
-        ∷ ‵ (fat fullShare (sliceTy (tyRef erased imm (tyInt w32))) l65 0 s·inputs)
-        ∷ ‵ (fdies (sliceTy (tyRef erased imm (tyInt w32))) l65)
-        ∷ ‵ (fat fullShare (tyRef erased imm (tyInt w32)) l64 0 (vptr b·inputs o·inputs))
-        ∷ ‵ (fdies (tyRef erased imm (tyInt w32)) l64)
-        ∷ ‵ (fat fullShare (sliceTy (tyRef erased imm (tyInt w32))) l63 0 s·symbols)
-        ∷ ‵ (fdies (sliceTy (tyRef erased imm (tyInt w32))) l63)
-        ∷ ‵ (fat fullShare (tyRef erased imm (tyInt w32)) l62 0 (vptr b·symbols o·symbols))
-        ∷ ‵ (fdies (tyRef erased imm (tyInt w32)) l62)
-        ∷ ‵ (fat fullShare (sliceTy (tyRef erased imm (tyInt w32))) l61 0 s·sorts)
-        ∷ ‵ (fdies (sliceTy (tyRef erased imm (tyInt w32))) l61)
-        ∷ ‵ (fat fullShare (tyRef erased imm (tyInt w32)) l60 0 (vptr b·sorts o·sorts))
-        ∷ ‵ (fdies (tyRef erased imm (tyInt w32)) l60)
-        ∷ ‵ (fat fullShare CountsL.mir l59 0 v2)
-        ∷ ‵ (fdies CountsL.mir l59)
-        ∷ ‵ (fat fullShare (sliceTy (tyRef erased mut (tyInt w32))) l58 0 s·cells)
-        ∷ ‵ (fdies (sliceTy (tyRef erased mut (tyInt w32))) l58)
-        ∷ ‵ (fat fullShare (tyRef erased mut (tyInt w32)) l57 0 (vptr b·cells o·cells))
-        ∷ ‵ (fdies (tyRef erased mut (tyInt w32)) l57)
-        ∷ ‵ (fat fullShare (sliceTy (tyRef erased imm (tyInt w64))) l56 0 s·feet)
-        ∷ ‵ (fdies (sliceTy (tyRef erased imm (tyInt w64))) l56)
-        ∷ ‵ (fat fullShare (tyRef erased imm (tyInt w64)) l55 0 (vptr b·feet o·feet))
-        ∷ ‵ (fdies (tyRef erased imm (tyInt w64)) l55)
-        ∷ ‵ (fat fullShare (sliceTy (tyRef erased imm (tyInt w32))) l54 0 s·kept)
-        ∷ ‵ (fdies (sliceTy (tyRef erased imm (tyInt w32))) l54)
-        ∷ ‵ (fat fullShare (tyRef erased imm (tyInt w32)) l53 0 (vptr b·kept o·kept))
-        ∷ ‵ (fdies (tyRef erased imm (tyInt w32)) l53)
-        ∷ ‵ (fat fullShare (sliceTy (tyRef erased mut (tyInt w32))) l52 0 s·missing)
-        ∷ ‵ (fdies (sliceTy (tyRef erased mut (tyInt w32))) l52)
-        ∷ ‵ (fat fullShare (tyRef erased mut (tyInt w32)) l51 0 (vptr b·missing o·missing))
-        ∷ ‵ (fdies (tyRef erased mut (tyInt w32)) l51)
-        ∷ ‵ (fat fullShare (sliceTy (tyRef erased mut (tyInt w32))) l50 0 s·lists)
-        ∷ ‵ (fdies (sliceTy (tyRef erased mut (tyInt w32))) l50)
-        ∷ ‵ (fat fullShare (tyRef erased mut (tyInt w32)) l49 0 (vptr b·lists o·lists))
-        ∷ ‵ (fdies (tyRef erased mut (tyInt w32)) l49)
-        ∷ ‵ (fat fullShare (sliceTy (tyRef erased mut (tyInt w32))) l48 0 s·rows)
-        ∷ ‵ (fdies (sliceTy (tyRef erased mut (tyInt w32))) l48)
-        ∷ ‵ (fat fullShare (tyRef erased mut (tyInt w32)) l47 0 (vptr b·rows o·rows))
-        ∷ ‵ (fdies (tyRef erased mut (tyInt w32)) l47)
-        ∷ ‵ (fat fullShare (sliceTy (tyRef erased mut (tyInt w32))) l46 0 s·defs)
-        ∷ ‵ (fdies (sliceTy (tyRef erased mut (tyInt w32))) l46)
-        ∷ ‵ (fat fullShare (tyRef erased mut (tyInt w32)) l45 0 (vptr b·defs o·defs))
-        ∷ ‵ (fdies (tyRef erased mut (tyInt w32)) l45)
-        ∷ ‵ (fat fullShare (sliceTy (tyRef erased mut (tyInt w32))) l44 0 s·words)
-        ∷ ‵ (fdies (sliceTy (tyRef erased mut (tyInt w32))) l44)
-        ∷ ‵ (fat fullShare (tyRef erased mut (tyInt w32)) l43 0 (vptr b·words o·words))
-        ∷ ‵ (fdies (tyRef erased mut (tyInt w32)) l43)
-        ∷ ‵ (fat fullShare (sliceTy (tyRef erased mut (tyInt w32))) l42 0 s·index)
-        ∷ ‵ (fdies (sliceTy (tyRef erased mut (tyInt w32))) l42)
-        ∷ ‵ (fat fullShare (tyRef erased mut (tyInt w32)) l41 0 (vptr b·index o·index))
-        ∷ ‵ (fdies (tyRef erased mut (tyInt w32)) l41)
-        ∷ ‵ (fat fullShare (sliceTy (tyRef erased mut (tyInt w32))) l40 0 s·vars)
-        ∷ ‵ (fdies (sliceTy (tyRef erased mut (tyInt w32))) l40)
-        ∷ ‵ (fat fullShare (tyRef erased mut (tyInt w32)) l39 0 (vptr b·vars o·vars))
-        ∷ ‵ (fdies (tyRef erased mut (tyInt w32)) l39)
-        ∷ ‵ (fat fullShare (sliceTy (tyRef erased mut (tyInt w32))) l38 0 s·patterns)
-        ∷ ‵ (fdies (sliceTy (tyRef erased mut (tyInt w32))) l38)
-        ∷ ‵ (fat fullShare (tyRef erased mut (tyInt w32)) l37 0 (vptr b·patterns o·patterns))
-        ∷ ‵ (fdies (tyRef erased mut (tyInt w32)) l37)
-        ∷ ‵ (fat fullShare (sliceTy (tyRef erased mut (tyInt w32))) l36 0 s·rulevars)
-        ∷ ‵ (fdies (sliceTy (tyRef erased mut (tyInt w32))) l36)
-        ∷ ‵ (fat fullShare (tyRef erased mut (tyInt w32)) l35 0 (vptr b·rulevars o·rulevars))
-        ∷ ‵ (fdies (tyRef erased mut (tyInt w32)) l35)
-        ∷ ‵ (fat fullShare (sliceTy (tyRef erased mut (tyInt w32))) l34 0 s·rules)
-        ∷ ‵ (fdies (sliceTy (tyRef erased mut (tyInt w32))) l34)
-        ∷ ‵ (fat fullShare (tyRef erased mut (tyInt w32)) l33 0 (vptr b·rules o·rules))
-        ∷ ‵ (fdies (tyRef erased mut (tyInt w32)) l33)
-        ∷ ‵ (fat fullShare (sliceTy (tyRef erased mut (tyInt w32))) l32 0 s·inputs)
-        ∷ ‵ (fdies (sliceTy (tyRef erased mut (tyInt w32))) l32)
-        ∷ ‵ (fat fullShare (tyRef erased mut (tyInt w32)) l31 0 (vptr b·inputs o·inputs))
-        ∷ ‵ (fdies (tyRef erased mut (tyInt w32)) l31)
-        ∷ ‵ (fat fullShare (sliceTy (tyRef erased mut (tyInt w32))) l30 0 s·symbols)
-        ∷ ‵ (fdies (sliceTy (tyRef erased mut (tyInt w32))) l30)
-        ∷ ‵ (fat fullShare (tyRef erased mut (tyInt w32)) l29 0 (vptr b·symbols o·symbols))
-        ∷ ‵ (fdies (tyRef erased mut (tyInt w32)) l29)
-        ∷ ‵ (fat fullShare (sliceTy (tyRef erased mut (tyInt w32))) l28 0 s·sorts)
-        ∷ ‵ (fdies (sliceTy (tyRef erased mut (tyInt w32))) l28)
-        ∷ ‵ (fat fullShare (tyRef erased mut (tyInt w32)) l27 0 (vptr b·sorts o·sorts))
-        ∷ ‵ (fdies (tyRef erased mut (tyInt w32)) l27)
-        ∷ ‵ (froom AnswerL.mir l26 0)
-        ∷ ‵ (fdies AnswerL.mir l26)
-        ∷ ‵ (froom RunL.mir l25 0)
-        ∷ ‵ (fdies RunL.mir l25)
-        ∷ ‵ (fat fullShare CountsL.mir l24 0 v2)
-        ∷ ‵ (fdies CountsL.mir l24)
-        ∷ ‵ (fat fullShare RunL.mir l23 0 v1)
-        ∷ ‵ (fdies RunL.mir l23)
-        ∷ ‵ (fat fullShare (tyInt w64) l22 0 (vint w64 (length facts)))
-        ∷ ‵ (fdies (tyInt w64) l22)
+        ∷ ‵ (froom (tyInt w64) l110 0)
+        ∷ ‵ (fdies (tyInt w64) l110)
+        ∷ ‵ (froom (tyInt w64) l109 0)
+        ∷ ‵ (fdies (tyInt w64) l109)
+        ∷ ‵ (froom (sliceTy (tyRef erased mut (pointee (FactT.the-row .written)))) l108 0)
+        ∷ ‵ (fdies (sliceTy (tyRef erased mut (pointee (FactT.the-row .written)))) l108)
+        ∷ ‵ (froom (tyRef erased mut (pointee (FactT.the-row .written))) l107 0)
+        ∷ ‵ (fdies (tyRef erased mut (pointee (FactT.the-row .written))) l107)
+        ∷ ‵ (froom tyUnit l106 0)
+        ∷ ‵ (fdies tyUnit l106)
+        ∷ ‵ (froom (sliceTy (tyRef erased mut (tyInt w32))) l105 0)
+        ∷ ‵ (fdies (sliceTy (tyRef erased mut (tyInt w32))) l105)
+        ∷ ‵ (froom (tyRef erased mut (tyInt w32)) l104 0)
+        ∷ ‵ (fdies (tyRef erased mut (tyInt w32)) l104)
+        ∷ ‵ (froom (sliceTy (tyRef erased imm (tyInt w32))) l103 0)
+        ∷ ‵ (fdies (sliceTy (tyRef erased imm (tyInt w32))) l103)
+        ∷ ‵ (froom (tyRef erased imm (tyInt w32)) l102 0)
+        ∷ ‵ (fdies (tyRef erased imm (tyInt w32)) l102)
+        ∷ ‵ (froom (sliceTy (tyRef erased imm (tyInt w32))) l101 0)
+        ∷ ‵ (fdies (sliceTy (tyRef erased imm (tyInt w32))) l101)
+        ∷ ‵ (froom (tyRef erased imm (tyInt w32)) l100 0)
+        ∷ ‵ (fdies (tyRef erased imm (tyInt w32)) l100)
+        ∷ ‵ (froom (sliceTy (tyRef erased mut (tyInt w32))) l99 0)
+        ∷ ‵ (fdies (sliceTy (tyRef erased mut (tyInt w32))) l99)
+        ∷ ‵ (froom (tyRef erased mut (tyInt w32)) l98 0)
+        ∷ ‵ (fdies (tyRef erased mut (tyInt w32)) l98)
+        ∷ ‵ (froom (tyRef erased mut (pointee (CountsT.the-row .written))) l97 0)
+        ∷ ‵ (fdies (tyRef erased mut (pointee (CountsT.the-row .written))) l97)
+        ∷ ‵ (froom (sliceTy (tyRef erased mut (pointee (FactT.the-row .written)))) l96 0)
+        ∷ ‵ (fdies (sliceTy (tyRef erased mut (pointee (FactT.the-row .written)))) l96)
+        ∷ ‵ (froom (tyRef erased mut (pointee (FactT.the-row .written))) l95 0)
+        ∷ ‵ (fdies (tyRef erased mut (pointee (FactT.the-row .written))) l95)
+        ∷ ‵ (froom (sliceTy (tyRef erased mut (tyInt w32))) l94 0)
+        ∷ ‵ (fdies (sliceTy (tyRef erased mut (tyInt w32))) l94)
+        ∷ ‵ (froom (tyRef erased mut (tyInt w32)) l93 0)
+        ∷ ‵ (fdies (tyRef erased mut (tyInt w32)) l93)
+        ∷ ‵ (froom (sliceTy (tyRef erased mut (tyInt w32))) l92 0)
+        ∷ ‵ (fdies (sliceTy (tyRef erased mut (tyInt w32))) l92)
+        ∷ ‵ (froom (tyRef erased mut (tyInt w32)) l91 0)
+        ∷ ‵ (fdies (tyRef erased mut (tyInt w32)) l91)
+        ∷ ‵ (froom (sliceTy (tyRef erased mut (tyInt w32))) l90 0)
+        ∷ ‵ (fdies (sliceTy (tyRef erased mut (tyInt w32))) l90)
+        ∷ ‵ (froom (tyRef erased mut (tyInt w32)) l89 0)
+        ∷ ‵ (fdies (tyRef erased mut (tyInt w32)) l89)
+        ∷ ‵ (froom (sliceTy (tyRef erased mut (tyInt w64))) l88 0)
+        ∷ ‵ (fdies (sliceTy (tyRef erased mut (tyInt w64))) l88)
+        ∷ ‵ (froom (tyRef erased mut (tyInt w64)) l87 0)
+        ∷ ‵ (fdies (tyRef erased mut (tyInt w64)) l87)
+        ∷ ‵ (froom (sliceTy (tyRef erased mut (tyInt w32))) l86 0)
+        ∷ ‵ (fdies (sliceTy (tyRef erased mut (tyInt w32))) l86)
+        ∷ ‵ (froom (tyRef erased mut (tyInt w32)) l85 0)
+        ∷ ‵ (fdies (tyRef erased mut (tyInt w32)) l85)
+        ∷ ‵ (froom (sliceTy (tyRef erased mut (tyInt w32))) l84 0)
+        ∷ ‵ (fdies (sliceTy (tyRef erased mut (tyInt w32))) l84)
+        ∷ ‵ (froom (tyRef erased mut (tyInt w32)) l83 0)
+        ∷ ‵ (fdies (tyRef erased mut (tyInt w32)) l83)
+        ∷ ‵ (froom (sliceTy (tyRef erased mut (tyInt w32))) l82 0)
+        ∷ ‵ (fdies (sliceTy (tyRef erased mut (tyInt w32))) l82)
+        ∷ ‵ (froom (tyRef erased mut (tyInt w32)) l81 0)
+        ∷ ‵ (fdies (tyRef erased mut (tyInt w32)) l81)
+        ∷ ‵ (fat fullShare (sliceTy (tyRef erased mut (tyInt w32))) l80 0 s·defs)
+        ∷ ‵ (fdies (sliceTy (tyRef erased mut (tyInt w32))) l80)
+        ∷ ‵ (fat fullShare (tyRef erased mut (tyInt w32)) l79 0 (vptr b·defs o·defs))
+        ∷ ‵ (fdies (tyRef erased mut (tyInt w32)) l79)
+        ∷ ‵ (fat fullShare (sliceTy (tyRef erased mut (tyInt w32))) l78 0 s·words)
+        ∷ ‵ (fdies (sliceTy (tyRef erased mut (tyInt w32))) l78)
+        ∷ ‵ (fat fullShare (tyRef erased mut (tyInt w32)) l77 0 (vptr b·words o·words))
+        ∷ ‵ (fdies (tyRef erased mut (tyInt w32)) l77)
+        ∷ ‵ (fat fullShare (sliceTy (tyRef erased mut (tyInt w32))) l76 0 s·index)
+        ∷ ‵ (fdies (sliceTy (tyRef erased mut (tyInt w32))) l76)
+        ∷ ‵ (fat fullShare (tyRef erased mut (tyInt w32)) l75 0 (vptr b·index o·index))
+        ∷ ‵ (fdies (tyRef erased mut (tyInt w32)) l75)
+        ∷ ‵ (fat fullShare (sliceTy (tyRef erased mut (tyInt w32))) l74 0 s·vars)
+        ∷ ‵ (fdies (sliceTy (tyRef erased mut (tyInt w32))) l74)
+        ∷ ‵ (fat fullShare (tyRef erased mut (tyInt w32)) l73 0 (vptr b·vars o·vars))
+        ∷ ‵ (fdies (tyRef erased mut (tyInt w32)) l73)
+        ∷ ‵ (fat fullShare (sliceTy (tyRef erased imm (tyInt w32))) l72 0 s·patterns)
+        ∷ ‵ (fdies (sliceTy (tyRef erased imm (tyInt w32))) l72)
+        ∷ ‵ (fat fullShare (tyRef erased imm (tyInt w32)) l71 0 (vptr b·patterns o·patterns))
+        ∷ ‵ (fdies (tyRef erased imm (tyInt w32)) l71)
+        ∷ ‵ (fat fullShare (sliceTy (tyRef erased imm (tyInt w32))) l70 0 s·rulevars)
+        ∷ ‵ (fdies (sliceTy (tyRef erased imm (tyInt w32))) l70)
+        ∷ ‵ (fat fullShare (tyRef erased imm (tyInt w32)) l69 0 (vptr b·rulevars o·rulevars))
+        ∷ ‵ (fdies (tyRef erased imm (tyInt w32)) l69)
+        ∷ ‵ (fat fullShare (sliceTy (tyRef erased imm (tyInt w32))) l68 0 s·rules)
+        ∷ ‵ (fdies (sliceTy (tyRef erased imm (tyInt w32))) l68)
+        ∷ ‵ (fat fullShare (tyRef erased imm (tyInt w32)) l67 0 (vptr b·rules o·rules))
+        ∷ ‵ (fdies (tyRef erased imm (tyInt w32)) l67)
+        ∷ ‵ (fat fullShare (sliceTy (tyRef erased imm (tyInt w32))) l66 0 s·inputs)
+        ∷ ‵ (fdies (sliceTy (tyRef erased imm (tyInt w32))) l66)
+        ∷ ‵ (fat fullShare (tyRef erased imm (tyInt w32)) l65 0 (vptr b·inputs o·inputs))
+        ∷ ‵ (fdies (tyRef erased imm (tyInt w32)) l65)
+        ∷ ‵ (fat fullShare (sliceTy (tyRef erased imm (tyInt w32))) l64 0 s·symbols)
+        ∷ ‵ (fdies (sliceTy (tyRef erased imm (tyInt w32))) l64)
+        ∷ ‵ (fat fullShare (tyRef erased imm (tyInt w32)) l63 0 (vptr b·symbols o·symbols))
+        ∷ ‵ (fdies (tyRef erased imm (tyInt w32)) l63)
+        ∷ ‵ (fat fullShare (sliceTy (tyRef erased imm (tyInt w32))) l62 0 s·sorts)
+        ∷ ‵ (fdies (sliceTy (tyRef erased imm (tyInt w32))) l62)
+        ∷ ‵ (fat fullShare (tyRef erased imm (tyInt w32)) l61 0 (vptr b·sorts o·sorts))
+        ∷ ‵ (fdies (tyRef erased imm (tyInt w32)) l61)
+        ∷ ‵ (fat fullShare CountsL.mir l60 0 v2)
+        ∷ ‵ (fdies CountsL.mir l60)
+        ∷ ‵ (fat fullShare (sliceTy (tyRef erased mut (tyInt w32))) l59 0 s·cells)
+        ∷ ‵ (fdies (sliceTy (tyRef erased mut (tyInt w32))) l59)
+        ∷ ‵ (fat fullShare (tyRef erased mut (tyInt w32)) l58 0 (vptr b·cells o·cells))
+        ∷ ‵ (fdies (tyRef erased mut (tyInt w32)) l58)
+        ∷ ‵ (fat fullShare (sliceTy (tyRef erased imm (tyInt w64))) l57 0 s·feet)
+        ∷ ‵ (fdies (sliceTy (tyRef erased imm (tyInt w64))) l57)
+        ∷ ‵ (fat fullShare (tyRef erased imm (tyInt w64)) l56 0 (vptr b·feet o·feet))
+        ∷ ‵ (fdies (tyRef erased imm (tyInt w64)) l56)
+        ∷ ‵ (fat fullShare (sliceTy (tyRef erased imm (tyInt w32))) l55 0 s·kept)
+        ∷ ‵ (fdies (sliceTy (tyRef erased imm (tyInt w32))) l55)
+        ∷ ‵ (fat fullShare (tyRef erased imm (tyInt w32)) l54 0 (vptr b·kept o·kept))
+        ∷ ‵ (fdies (tyRef erased imm (tyInt w32)) l54)
+        ∷ ‵ (fat fullShare (sliceTy (tyRef erased mut (tyInt w32))) l53 0 s·missing)
+        ∷ ‵ (fdies (sliceTy (tyRef erased mut (tyInt w32))) l53)
+        ∷ ‵ (fat fullShare (tyRef erased mut (tyInt w32)) l52 0 (vptr b·missing o·missing))
+        ∷ ‵ (fdies (tyRef erased mut (tyInt w32)) l52)
+        ∷ ‵ (fat fullShare (sliceTy (tyRef erased mut (tyInt w32))) l51 0 s·lists)
+        ∷ ‵ (fdies (sliceTy (tyRef erased mut (tyInt w32))) l51)
+        ∷ ‵ (fat fullShare (tyRef erased mut (tyInt w32)) l50 0 (vptr b·lists o·lists))
+        ∷ ‵ (fdies (tyRef erased mut (tyInt w32)) l50)
+        ∷ ‵ (fat fullShare (sliceTy (tyRef erased mut (tyInt w32))) l49 0 s·rows)
+        ∷ ‵ (fdies (sliceTy (tyRef erased mut (tyInt w32))) l49)
+        ∷ ‵ (fat fullShare (tyRef erased mut (tyInt w32)) l48 0 (vptr b·rows o·rows))
+        ∷ ‵ (fdies (tyRef erased mut (tyInt w32)) l48)
+        ∷ ‵ (fat fullShare (sliceTy (tyRef erased mut (tyInt w32))) l47 0 s·defs)
+        ∷ ‵ (fdies (sliceTy (tyRef erased mut (tyInt w32))) l47)
+        ∷ ‵ (fat fullShare (tyRef erased mut (tyInt w32)) l46 0 (vptr b·defs o·defs))
+        ∷ ‵ (fdies (tyRef erased mut (tyInt w32)) l46)
+        ∷ ‵ (fat fullShare (sliceTy (tyRef erased mut (tyInt w32))) l45 0 s·words)
+        ∷ ‵ (fdies (sliceTy (tyRef erased mut (tyInt w32))) l45)
+        ∷ ‵ (fat fullShare (tyRef erased mut (tyInt w32)) l44 0 (vptr b·words o·words))
+        ∷ ‵ (fdies (tyRef erased mut (tyInt w32)) l44)
+        ∷ ‵ (fat fullShare (sliceTy (tyRef erased mut (tyInt w32))) l43 0 s·index)
+        ∷ ‵ (fdies (sliceTy (tyRef erased mut (tyInt w32))) l43)
+        ∷ ‵ (fat fullShare (tyRef erased mut (tyInt w32)) l42 0 (vptr b·index o·index))
+        ∷ ‵ (fdies (tyRef erased mut (tyInt w32)) l42)
+        ∷ ‵ (fat fullShare (sliceTy (tyRef erased mut (tyInt w32))) l41 0 s·vars)
+        ∷ ‵ (fdies (sliceTy (tyRef erased mut (tyInt w32))) l41)
+        ∷ ‵ (fat fullShare (tyRef erased mut (tyInt w32)) l40 0 (vptr b·vars o·vars))
+        ∷ ‵ (fdies (tyRef erased mut (tyInt w32)) l40)
+        ∷ ‵ (fat fullShare (sliceTy (tyRef erased mut (tyInt w32))) l39 0 s·patterns)
+        ∷ ‵ (fdies (sliceTy (tyRef erased mut (tyInt w32))) l39)
+        ∷ ‵ (fat fullShare (tyRef erased mut (tyInt w32)) l38 0 (vptr b·patterns o·patterns))
+        ∷ ‵ (fdies (tyRef erased mut (tyInt w32)) l38)
+        ∷ ‵ (fat fullShare (sliceTy (tyRef erased mut (tyInt w32))) l37 0 s·rulevars)
+        ∷ ‵ (fdies (sliceTy (tyRef erased mut (tyInt w32))) l37)
+        ∷ ‵ (fat fullShare (tyRef erased mut (tyInt w32)) l36 0 (vptr b·rulevars o·rulevars))
+        ∷ ‵ (fdies (tyRef erased mut (tyInt w32)) l36)
+        ∷ ‵ (fat fullShare (sliceTy (tyRef erased mut (tyInt w32))) l35 0 s·rules)
+        ∷ ‵ (fdies (sliceTy (tyRef erased mut (tyInt w32))) l35)
+        ∷ ‵ (fat fullShare (tyRef erased mut (tyInt w32)) l34 0 (vptr b·rules o·rules))
+        ∷ ‵ (fdies (tyRef erased mut (tyInt w32)) l34)
+        ∷ ‵ (fat fullShare (sliceTy (tyRef erased mut (tyInt w32))) l33 0 s·inputs)
+        ∷ ‵ (fdies (sliceTy (tyRef erased mut (tyInt w32))) l33)
+        ∷ ‵ (fat fullShare (tyRef erased mut (tyInt w32)) l32 0 (vptr b·inputs o·inputs))
+        ∷ ‵ (fdies (tyRef erased mut (tyInt w32)) l32)
+        ∷ ‵ (fat fullShare (sliceTy (tyRef erased mut (tyInt w32))) l31 0 s·symbols)
+        ∷ ‵ (fdies (sliceTy (tyRef erased mut (tyInt w32))) l31)
+        ∷ ‵ (fat fullShare (tyRef erased mut (tyInt w32)) l30 0 (vptr b·symbols o·symbols))
+        ∷ ‵ (fdies (tyRef erased mut (tyInt w32)) l30)
+        ∷ ‵ (fat fullShare (sliceTy (tyRef erased mut (tyInt w32))) l29 0 s·sorts)
+        ∷ ‵ (fdies (sliceTy (tyRef erased mut (tyInt w32))) l29)
+        ∷ ‵ (fat fullShare (tyRef erased mut (tyInt w32)) l28 0 (vptr b·sorts o·sorts))
+        ∷ ‵ (fdies (tyRef erased mut (tyInt w32)) l28)
+        ∷ ‵ (froom AnswerL.mir l27 0)
+        ∷ ‵ (fdies AnswerL.mir l27)
+        ∷ ‵ (froom RunL.mir l26 0)
+        ∷ ‵ (fdies RunL.mir l26)
+        ∷ ‵ (fat fullShare CountsL.mir l25 0 v2)
+        ∷ ‵ (fdies CountsL.mir l25)
+        ∷ ‵ (fat fullShare RunL.mir l24 0 v1)
+        ∷ ‵ (fdies RunL.mir l24)
+        ∷ ‵ (fat fullShare (tyInt w64) l23 0 (vint w64 (length facts)))
+        ∷ ‵ (fdies (tyInt w64) l23)
+        ∷ ‵ (fat fullShare (sliceTy (tyRef (named 21) mut (tyInt w32))) l22 0 s·memo)
+        ∷ ‵ (fdies (sliceTy (tyRef (named 21) mut (tyInt w32))) l22)
         ∷ ‵ (fat fullShare (sliceTy (tyRef (named 20) mut (tyInt w32))) l21 0 s·ids)
         ∷ ‵ (fdies (sliceTy (tyRef (named 20) mut (tyInt w32))) l21)
         ∷ ‵ (fat fullShare (sliceTy (tyRef (named 19) mut (tyInt w32))) l20 0 s·cells)
@@ -5844,51 +6098,58 @@ module _ {M : Type 1} (𝓤 : URA M) (H : Heap 𝓤) (A : Atoms 𝓤) (W : Given
         (runs C Λ (En l0 l1 l2 l3 l4 l5 l6 l7 l8 l9 l10 l11 l12 l13 l14 l15 l16 l17 l18 l19 l20 l21 l22 l23 l24 l25 l26 l27 l28 l29 l30 l31 l32 l33
         l34 l35 l36 l37 l38 l39 l40 l41 l42 l43 l44 l45 l46 l47 l48 l49 l50 l51 l52 l53 l54 l55 l56 l57 l58 l59 l60 l61 l62 l63 l64 l65 l66 l67 l68
         l69 l70 l71 l72 l73 l74 l75 l76 l77 l78 l79 l80 l81 l82 l83 l84 l85 l86 l87 l88 l89 l90 l91 l92 l93 l94 l95 l96 l97 l98 l99 l100 l101 l102
-        l103 l104 l105 l106 l107) pieces.t-58 (atRet (En l0 l1 l2 l3 l4 l5 l6 l7 l8 l9 l10 l11 l12 l13 l14 l15 l16 l17 l18 l19 l20 l21 l22 l23 l24 l25
-        l26 l27 l28 l29 l30 l31 l32 l33 l34 l35 l36 l37 l38 l39 l40 l41 l42 l43 l44 l45 l46 l47 l48 l49 l50 l51 l52 l53 l54 l55 l56 l57 l58 l59 l60
-        l61 l62 l63 l64 l65 l66 l67 l68 l69 l70 l71 l72 l73 l74 l75 l76 l77 l78 l79 l80 l81 l82 l83 l84 l85 l86 l87 l88 l89 l90 l91 l92 l93 l94 l95
-        l96 l97 l98 l99 l100 l101 l102 l103 l104 l105 l106 l107) Post))
+        l103 l104 l105 l106 l107 l108 l109 l110) pieces.t-57 (atRet (En l0 l1 l2 l3 l4 l5 l6 l7 l8 l9 l10 l11 l12 l13 l14 l15 l16 l17 l18 l19 l20 l21
+        l22 l23 l24 l25 l26 l27 l28 l29 l30 l31 l32 l33 l34 l35 l36 l37 l38 l39 l40 l41 l42 l43 l44 l45 l46 l47 l48 l49 l50 l51 l52 l53 l54 l55 l56
+        l57 l58 l59 l60 l61 l62 l63 l64 l65 l66 l67 l68 l69 l70 l71 l72 l73 l74 l75 l76 l77 l78 l79 l80 l81 l82 l83 l84 l85 l86 l87 l88 l89 l90 l91
+        l92 l93 l94 l95 l96 l97 l98 l99 l100 l101 l102 l103 l104 l105 l106 l107 l108 l109 l110) Post))
     seg·7 l0 l1 l2 l3 l4 l5 l6 l7 l8 l9 l10 l11 l12 l13 l14 l15 l16 l17 l18 l19 l20 l21 l22 l23 l24 l25 l26 l27 l28 l29 l30 l31 l32 l33 l34 l35 l36
         l37 l38 l39 l40 l41 l42 l43 l44 l45 l46 l47 l48 l49 l50 l51 l52 l53 l54 l55 l56 l57 l58 l59 l60 l61 l62 l63 l64 l65 l66 l67 l68 l69 l70 l71
         l72 l73 l74 l75 l76 l77 l78 l79 l80 l81 l82 l83 l84 l85 l86 l87 l88 l89 l90 l91 l92 l93 l94 l95 l96 l97 l98 l99 l100 l101 l102 l103 l104
-        l105 l106 l107 ν·1·3 δ·1·3 ν·1·4 δ·1·4 ν·1·5 δ·1·5 ν·1·6 δ·1·6 ν·1·7 δ·1·7 ν·1·8 δ·1·8 ν·1·9 δ·1·9 ν·1·10 δ·1·10 ν·1·11 δ·1·11 ν·1·12
-        δ·1·12 ν·1·13 δ·1·13 ν·1·14 δ·1·14 ν·1·15 δ·1·15 ν·1·16 δ·1·16 ν·1·17 δ·1·17 ν·1·18 δ·1·18 v1 r1 ws1 e1·0 e1·1 len·1·sorts
-        len·1·symbols len·1·inputs len·1·rules len·1·rulevars len·1·patterns len·1·vars len·1·index len·1·words len·1·defs len·1·rows
-        len·1·lists len·1·missing len·1·cells is1 v2 r2 ws2 e2 is2 =
-        assigns ! (agg ! (and-then ! (load ! (from ! (stop !)) (look ! 96 refl))
+        l105 l106 l107 l108 l109 l110 ν·1·3 δ·1·3 ν·1·4 δ·1·4 ν·1·5 δ·1·5 ν·1·6 δ·1·6 ν·1·7 δ·1·7 ν·1·8 δ·1·8 ν·1·9 δ·1·9 ν·1·10 δ·1·10 ν·1·11
+        δ·1·11 ν·1·12 δ·1·12 ν·1·13 δ·1·13 ν·1·14 δ·1·14 ν·1·15 δ·1·15 ν·1·16 δ·1·16 ν·1·17 δ·1·17 ν·1·18 δ·1·18 v1 r1 ws1 e1·0 e1·1
+        len·1·sorts len·1·symbols len·1·inputs len·1·rules len·1·rulevars len·1·patterns len·1·vars len·1·index len·1·words len·1·defs
+        len·1·rows len·1·lists len·1·missing len·1·cells is1 v2 r2 ws2 e2 is2 =
+        assigns ! (addr ! (from ! (fld ! refl (hop ! (look-in ! 236 (sub ! 0 refl (whole !))) (stop !))))) (from ! (stop !))
+        (init ! 102 refl (tt, tt)) $
+        assigns ! (agg ! (and-then ! (load ! (from ! (stop !)) (look ! 102 refl))
+        (and-then ! (load ! (from ! (fld ! refl (stop !))) (look-in ! 236 (sub ! 1 refl (whole !)))) (no-more !)))) (from ! (stop !))
+        (init ! 100 refl (tt, (tt, (record { fits = room·rows .0 }, tt)))) $
+        assigns ! (addr ! (from ! (fld ! refl (hop ! (look-in ! 234 (sub ! 0 refl (whole !))) (stop !))))) (from ! (stop !))
+        (init ! 98 refl (tt, tt)) $
+        assigns ! (agg ! (and-then ! (load ! (from ! (stop !)) (look ! 98 refl))
+        (and-then ! (load ! (from ! (fld ! refl (stop !))) (look-in ! 234 (sub ! 1 refl (whole !)))) (no-more !)))) (from ! (stop !))
+        (init ! 96 refl (tt, (tt, (record { fits = room·lists .0 }, tt)))) $
+        assigns ! (addr ! (from ! (fld ! refl (hop ! (look-in ! 228 (sub ! 0 refl (whole !))) (stop !))))) (from ! (stop !))
+        (init ! 94 refl (tt, tt)) $
+        assigns ! (agg ! (and-then ! (load ! (from ! (stop !)) (look ! 94 refl))
         (and-then ! (load ! (from ! (fld ! refl (stop !))) (look-in ! 228 (sub ! 1 refl (whole !)))) (no-more !)))) (from ! (stop !))
-        (init ! 94 refl (tt, (tt, (record { fits = room·rows .0 }, tt)))) $
+        (init ! 92 refl (tt, (tt, (record { fits = room·kept .0 }, tt)))) $
         assigns ! (addr ! (from ! (fld ! refl (hop ! (look-in ! 226 (sub ! 0 refl (whole !))) (stop !))))) (from ! (stop !))
-        (init ! 92 refl (tt, tt)) $
-        assigns ! (agg ! (and-then ! (load ! (from ! (stop !)) (look ! 92 refl))
+        (init ! 90 refl (tt, tt)) $
+        assigns ! (agg ! (and-then ! (load ! (from ! (stop !)) (look ! 90 refl))
         (and-then ! (load ! (from ! (fld ! refl (stop !))) (look-in ! 226 (sub ! 1 refl (whole !)))) (no-more !)))) (from ! (stop !))
-        (init ! 90 refl (tt, (tt, (record { fits = room·lists .0 }, tt)))) $
-        assigns ! (addr ! (from ! (fld ! refl (hop ! (look-in ! 220 (sub ! 0 refl (whole !))) (stop !))))) (from ! (stop !))
-        (init ! 88 refl (tt, tt)) $
-        assigns ! (agg ! (and-then ! (load ! (from ! (stop !)) (look ! 88 refl))
-        (and-then ! (load ! (from ! (fld ! refl (stop !))) (look-in ! 220 (sub ! 1 refl (whole !)))) (no-more !)))) (from ! (stop !))
-        (init ! 86 refl (tt, (tt, (record { fits = room·kept .0 }, tt)))) $
-        assigns ! (addr ! (from ! (fld ! refl (hop ! (look-in ! 218 (sub ! 0 refl (whole !))) (stop !))))) (from ! (stop !))
-        (init ! 84 refl (tt, tt)) $
-        assigns ! (agg ! (and-then ! (load ! (from ! (stop !)) (look ! 84 refl))
-        (and-then ! (load ! (from ! (fld ! refl (stop !))) (look-in ! 218 (sub ! 1 refl (whole !)))) (no-more !)))) (from ! (stop !))
-        (init ! 82 refl (tt, (tt, (record { fits = room·feet .0 }, tt)))) $
-        assigns ! (addr ! (from ! (fld ! refl (hop ! (look-in ! 216 (sub ! 0 refl (whole !))) (stop !))))) (from ! (stop !))
-        (init ! 80 refl (tt, tt)) $
-        assigns ! (agg ! (and-then ! (load ! (from ! (stop !)) (look ! 80 refl))
-        (and-then ! (load ! (from ! (fld ! refl (stop !))) (look-in ! 216 (sub ! 1 refl (whole !)))) (no-more !)))) (from ! (stop !))
-        (init ! 78 refl (tt, (tt, (record { fits = room·cells .0 }, tt)))) $
-        assigns ! (addr ! (from ! (fld ! refl (hop ! (look-in ! 214 (sub ! 0 refl (whole !))) (stop !))))) (from ! (stop !))
-        (init ! 76 refl (tt, tt)) $
-        assigns ! (agg ! (and-then ! (load ! (from ! (stop !)) (look ! 76 refl))
-        (and-then ! (load ! (from ! (fld ! refl (stop !))) (look-in ! 214 (sub ! 1 refl (whole !)))) (no-more !)))) (from ! (stop !))
-        (init ! 74 refl (tt, (tt, (record { fits = room·ids .0 }, tt)))) $
+        (init ! 88 refl (tt, (tt, (record { fits = room·feet .0 }, tt)))) $
+        assigns ! (addr ! (from ! (fld ! refl (hop ! (look-in ! 224 (sub ! 0 refl (whole !))) (stop !))))) (from ! (stop !))
+        (init ! 86 refl (tt, tt)) $
+        assigns ! (agg ! (and-then ! (load ! (from ! (stop !)) (look ! 86 refl))
+        (and-then ! (load ! (from ! (fld ! refl (stop !))) (look-in ! 224 (sub ! 1 refl (whole !)))) (no-more !)))) (from ! (stop !))
+        (init ! 84 refl (tt, (tt, (record { fits = room·cells .0 }, tt)))) $
         assigns ! (addr ! (from ! (fld ! refl (hop ! (look-in ! 222 (sub ! 0 refl (whole !))) (stop !))))) (from ! (stop !))
-        (init ! 72 refl (tt, tt)) $
-        assigns ! (agg ! (and-then ! (load ! (from ! (stop !)) (look ! 72 refl))
+        (init ! 82 refl (tt, tt)) $
+        assigns ! (agg ! (and-then ! (load ! (from ! (stop !)) (look ! 82 refl))
         (and-then ! (load ! (from ! (fld ! refl (stop !))) (look-in ! 222 (sub ! 1 refl (whole !)))) (no-more !)))) (from ! (stop !))
-        (init ! 70 refl (tt, (tt, (record { fits = room·facts .0 }, tt)))) $
-        assigns ! (addr ! (from ! (stop !))) (from ! (stop !)) (init ! 68 refl (tt, tt)) $
+        (init ! 80 refl (tt, (tt, (record { fits = room·ids .0 }, tt)))) $
+        assigns ! (addr ! (from ! (fld ! refl (hop ! (look-in ! 220 (sub ! 0 refl (whole !))) (stop !))))) (from ! (stop !))
+        (init ! 78 refl (tt, tt)) $
+        assigns ! (agg ! (and-then ! (load ! (from ! (stop !)) (look ! 78 refl))
+        (and-then ! (load ! (from ! (fld ! refl (stop !))) (look-in ! 220 (sub ! 1 refl (whole !)))) (no-more !)))) (from ! (stop !))
+        (init ! 76 refl (tt, (tt, (record { fits = room·memo .0 }, tt)))) $
+        assigns ! (addr ! (from ! (fld ! refl (hop ! (look-in ! 230 (sub ! 0 refl (whole !))) (stop !))))) (from ! (stop !))
+        (init ! 74 refl (tt, tt)) $
+        assigns ! (agg ! (and-then ! (load ! (from ! (stop !)) (look ! 74 refl))
+        (and-then ! (load ! (from ! (fld ! refl (stop !))) (look-in ! 230 (sub ! 1 refl (whole !)))) (no-more !)))) (from ! (stop !))
+        (init ! 72 refl (tt, (tt, (record { fits = room·facts .0 }, tt)))) $
+        assigns ! (addr ! (from ! (stop !))) (from ! (stop !)) (init ! 70 refl (tt, tt)) $
         -- call 3: run
         move ! (37 ∷ []) $
         use1 W (‵ (ShrSlice (named 0) κ·theory u8 .own (ref·theory γ·theory theory) (s·theory ∷ []))
@@ -5926,19 +6187,13 @@ module _ {M : Type 1} (𝓤 : URA M) (H : Heap 𝓤) (A : Atoms 𝓤) (W : Given
         ⊛ ‵ (LentShared u32 κ·rules (ν·3·7 ∷ []) q·rules γ·rules b·rules o·rules (ws1 .1 .1 .1 .1 .1 .1 .0)))))
         (lends-shared u32 κ·rules (ν·3·7 ∷ []) q·rules γ·rules b·rules o·rules 𝓤 H A W (named 6) (named 6) (length rules)
         (ws1 .1 .1 .1 .1 .1 .1 .0)) $ await ! tt $ pick ! (λ δ·3·7. split ! $
-        lft-new ! tt (λ ν·3·8.
-        move ! (41 ∷ 42 ∷ []) $
-        use2 W (later (some (λ (δ : GName). ‵ (ShrSlice (named 7) (ν·3·8 ∷ []) u32 .own (ref·rulevars δ (ws1 .1 .1 .1 .1 .1 .1 .1 .0))
-        (s·rulevars ∷ [])) ⊛ ‵ (LentShared u32 κ·rulevars (ν·3·8 ∷ []) q·rulevars γ·rulevars b·rulevars o·rulevars (ws1 .1 .1 .1 .1 .1 .1 .1 .0)))))
-        (lends-shared u32 κ·rulevars (ν·3·8 ∷ []) q·rulevars γ·rulevars b·rulevars o·rulevars 𝓤 H A W (named 7) (named 7) (length rulevars)
-        (ws1 .1 .1 .1 .1 .1 .1 .1 .0)) $ await ! tt $ pick ! (λ δ·3·8. split ! $
         seg·8 l0 l1 l2 l3 l4 l5 l6 l7 l8 l9 l10 l11 l12 l13 l14 l15 l16 l17 l18 l19 l20 l21 l22 l23 l24 l25 l26 l27 l28 l29 l30 l31 l32 l33 l34 l35
         l36 l37 l38 l39 l40 l41 l42 l43 l44 l45 l46 l47 l48 l49 l50 l51 l52 l53 l54 l55 l56 l57 l58 l59 l60 l61 l62 l63 l64 l65 l66 l67 l68 l69 l70
         l71 l72 l73 l74 l75 l76 l77 l78 l79 l80 l81 l82 l83 l84 l85 l86 l87 l88 l89 l90 l91 l92 l93 l94 l95 l96 l97 l98 l99 l100 l101 l102 l103 l104
-        l105 l106 l107 ν·1·3 δ·1·3 ν·1·4 δ·1·4 ν·1·5 δ·1·5 ν·1·6 δ·1·6 ν·1·7 δ·1·7 ν·1·8 δ·1·8 ν·1·9 δ·1·9 ν·1·10 δ·1·10 ν·1·11 δ·1·11 ν·1·12 δ·1·12
-        ν·1·13 δ·1·13 ν·1·14 δ·1·14 ν·1·15 δ·1·15 ν·1·16 δ·1·16 ν·1·17 δ·1·17 ν·1·18 δ·1·18 v1 r1 ws1 e1·0 e1·1 len·1·sorts len·1·symbols len·1·inputs
-        len·1·rules len·1·rulevars len·1·patterns len·1·vars len·1·index len·1·words len·1·defs len·1·rows len·1·lists len·1·missing len·1·cells is1
-        v2 r2 ws2 e2 is2 ν·3·4 δ·3·4 ν·3·5 δ·3·5 ν·3·6 δ·3·6 ν·3·7 δ·3·7 ν·3·8 δ·3·8))))))))))
+        l105 l106 l107 l108 l109 l110 ν·1·3 δ·1·3 ν·1·4 δ·1·4 ν·1·5 δ·1·5 ν·1·6 δ·1·6 ν·1·7 δ·1·7 ν·1·8 δ·1·8 ν·1·9 δ·1·9 ν·1·10 δ·1·10 ν·1·11 δ·1·11
+        ν·1·12 δ·1·12 ν·1·13 δ·1·13 ν·1·14 δ·1·14 ν·1·15 δ·1·15 ν·1·16 δ·1·16 ν·1·17 δ·1·17 ν·1·18 δ·1·18 v1 r1 ws1 e1·0 e1·1 len·1·sorts
+        len·1·symbols len·1·inputs len·1·rules len·1·rulevars len·1·patterns len·1·vars len·1·index len·1·words len·1·defs len·1·rows len·1·lists
+        len·1·missing len·1·cells is1 v2 r2 ws2 e2 is2 ν·3·4 δ·3·4 ν·3·5 δ·3·5 ν·3·6 δ·3·6 ν·3·7 δ·3·7))))))))
 
     seg·6 : (l0 : ℕ) (l1 : ℕ) (l2 : ℕ) (l3 : ℕ) (l4 : ℕ) (l5 : ℕ) (l6 : ℕ) (l7 : ℕ) (l8 : ℕ) (l9 : ℕ) (l10 : ℕ) (l11 : ℕ) (l12 : ℕ) (l13 : ℕ)
         (l14 : ℕ) (l15 : ℕ) (l16 : ℕ) (l17 : ℕ) (l18 : ℕ) (l19 : ℕ) (l20 : ℕ) (l21 : ℕ) (l22 : ℕ) (l23 : ℕ) (l24 : ℕ) (l25 : ℕ) (l26 : ℕ) (l27 : ℕ)
@@ -5947,14 +6202,14 @@ module _ {M : Type 1} (𝓤 : URA M) (H : Heap 𝓤) (A : Atoms 𝓤) (W : Given
         (l56 : ℕ) (l57 : ℕ) (l58 : ℕ) (l59 : ℕ) (l60 : ℕ) (l61 : ℕ) (l62 : ℕ) (l63 : ℕ) (l64 : ℕ) (l65 : ℕ) (l66 : ℕ) (l67 : ℕ) (l68 : ℕ) (l69 : ℕ)
         (l70 : ℕ) (l71 : ℕ) (l72 : ℕ) (l73 : ℕ) (l74 : ℕ) (l75 : ℕ) (l76 : ℕ) (l77 : ℕ) (l78 : ℕ) (l79 : ℕ) (l80 : ℕ) (l81 : ℕ) (l82 : ℕ) (l83 : ℕ)
         (l84 : ℕ) (l85 : ℕ) (l86 : ℕ) (l87 : ℕ) (l88 : ℕ) (l89 : ℕ) (l90 : ℕ) (l91 : ℕ) (l92 : ℕ) (l93 : ℕ) (l94 : ℕ) (l95 : ℕ) (l96 : ℕ) (l97 : ℕ)
-        (l98 : ℕ) (l99 : ℕ) (l100 : ℕ) (l101 : ℕ) (l102 : ℕ) (l103 : ℕ) (l104 : ℕ) (l105 : ℕ) (l106 : ℕ) (l107 : ℕ) (ν·1·3 : ℕ) (δ·1·3 : GName)
-        (ν·1·4 : ℕ) (δ·1·4 : GName) (ν·1·5 : ℕ) (δ·1·5 : GName) (ν·1·6 : ℕ) (δ·1·6 : GName) (ν·1·7 : ℕ) (δ·1·7 : GName) (ν·1·8 : ℕ) (δ·1·8 : GName)
-        (ν·1·9 : ℕ) (δ·1·9 : GName) (ν·1·10 : ℕ) (δ·1·10 : GName) (ν·1·11 : ℕ) (δ·1·11 : GName) (ν·1·12 : ℕ) (δ·1·12 : GName) (ν·1·13 : ℕ)
-        (δ·1·13 : GName) (ν·1·14 : ℕ) (δ·1·14 : GName) (ν·1·15 : ℕ) (δ·1·15 : GName) (ν·1·16 : ℕ) (δ·1·16 : GName) (ν·1·17 : ℕ) (δ·1·17 : GName)
-        (ν·1·18 : ℕ) (δ·1·18 : GName) (v1 : Val) (r1 : Run) (ws1 : (Unit {0} ×
-        (Unit {0} × (Unit {0} × ((List ℕ) × ((List ℕ) × ((List ℕ) × ((List ℕ) ×
+        (l98 : ℕ) (l99 : ℕ) (l100 : ℕ) (l101 : ℕ) (l102 : ℕ) (l103 : ℕ) (l104 : ℕ) (l105 : ℕ) (l106 : ℕ) (l107 : ℕ) (l108 : ℕ) (l109 : ℕ) (l110 : ℕ)
+        (ν·1·3 : ℕ) (δ·1·3 : GName) (ν·1·4 : ℕ) (δ·1·4 : GName) (ν·1·5 : ℕ) (δ·1·5 : GName) (ν·1·6 : ℕ) (δ·1·6 : GName) (ν·1·7 : ℕ) (δ·1·7 : GName)
+        (ν·1·8 : ℕ) (δ·1·8 : GName) (ν·1·9 : ℕ) (δ·1·9 : GName) (ν·1·10 : ℕ) (δ·1·10 : GName) (ν·1·11 : ℕ) (δ·1·11 : GName) (ν·1·12 : ℕ)
+        (δ·1·12 : GName) (ν·1·13 : ℕ) (δ·1·13 : GName) (ν·1·14 : ℕ) (δ·1·14 : GName) (ν·1·15 : ℕ) (δ·1·15 : GName) (ν·1·16 : ℕ) (δ·1·16 : GName)
+        (ν·1·17 : ℕ) (δ·1·17 : GName) (ν·1·18 : ℕ) (δ·1·18 : GName) (v1 : Val) (r1 : Run)
+        (ws1 : (Unit {0} × (Unit {0} × (Unit {0} × ((List ℕ) × ((List ℕ) × ((List ℕ) ×
         ((List ℕ) × ((List ℕ) × ((List ℕ) × ((List ℕ) × ((List ℕ) × ((List ℕ) ×
-        ((List ℕ) × ((List ℕ) × ((List ℕ) × (Unit {0} × (Unit {0} × ((List ℕ) × (Unit {0} × Unit {0})))))))))))))))))))))
+        ((List ℕ) × ((List ℕ) × ((List ℕ) × ((List ℕ) × (Unit {0} × (Unit {0} × ((List ℕ) × (Unit {0} × Unit {0})))))))))))))))))))))
         (e1·0 : Begun theory goals proof (length facts) (theoryLists sorts symbols inputs rules rulevars patterns)
         (theoryLists (ws1 .1 .1 .1 .0) (ws1 .1 .1 .1 .1 .0) (ws1 .1 .1 .1 .1 .1 .0) (ws1 .1 .1 .1 .1 .1 .1 .0) (ws1 .1 .1 .1 .1 .1 .1 .1 .0)
         (ws1 .1 .1 .1 .1 .1 .1 .1 .1 .0)) (working vars index words defs rows lists)
@@ -6012,182 +6267,190 @@ module _ {M : Type 1} (𝓤 : URA M) (H : Heap 𝓤) (A : Atoms 𝓤) (W : Given
         ∷ ‵ (ShrSlice (named 2) κ·proof u8 .own (ref·proof γ·proof proof) (s·proof ∷ []))
         ∷ ‵ (ShrSlice (named 1) κ·goals u8 .own (ref·goals γ·goals goals) (s·goals ∷ []))
         ∷ ‵ (ShrSlice (named 0) κ·theory u8 .own (ref·theory γ·theory theory) (s·theory ∷ []))
+        ∷ ‵ (flft κ·memo q·memo)
         ∷ ‵ (flft κ·ids q·ids)
         ∷ ‵ (flft κ·facts q·facts)
+        ∷ ‵ (MutSlice (named 21) κ·memo u32 .own (ref·memo γ·memo memo) (s·memo ∷ []))
         ∷ ‵ (MutSlice (named 20) κ·ids u32 .own (ref·ids γ·ids ids) (s·ids ∷ []))
         ∷ ‵ (MutSlice (named 16) κ·facts FactT.the-row .own (ref·facts γ·facts facts) (s·facts ∷ []))
-        ∷ ‵ (froom (tyInt w64) l107 0)
-        ∷ ‵ (fdies (tyInt w64) l107)
-        ∷ ‵ (froom (tyInt w64) l106 0)
-        ∷ ‵ (fdies (tyInt w64) l106)
-        ∷ ‵ (froom (sliceTy (tyRef erased mut (pointee (FactT.the-row .written)))) l105 0)
-        ∷ ‵ (fdies (sliceTy (tyRef erased mut (pointee (FactT.the-row .written)))) l105)
-        ∷ ‵ (froom (tyRef erased mut (pointee (FactT.the-row .written))) l104 0)
-        ∷ ‵ (fdies (tyRef erased mut (pointee (FactT.the-row .written))) l104)
-        ∷ ‵ (froom tyUnit l103 0)
-        ∷ ‵ (fdies tyUnit l103)
-        ∷ ‵ (froom (sliceTy (tyRef erased mut (tyInt w32))) l102 0)
-        ∷ ‵ (fdies (sliceTy (tyRef erased mut (tyInt w32))) l102)
-        ∷ ‵ (froom (tyRef erased mut (tyInt w32)) l101 0)
-        ∷ ‵ (fdies (tyRef erased mut (tyInt w32)) l101)
-        ∷ ‵ (froom (sliceTy (tyRef erased imm (tyInt w32))) l100 0)
-        ∷ ‵ (fdies (sliceTy (tyRef erased imm (tyInt w32))) l100)
-        ∷ ‵ (froom (tyRef erased imm (tyInt w32)) l99 0)
-        ∷ ‵ (fdies (tyRef erased imm (tyInt w32)) l99)
-        ∷ ‵ (froom (sliceTy (tyRef erased imm (tyInt w32))) l98 0)
-        ∷ ‵ (fdies (sliceTy (tyRef erased imm (tyInt w32))) l98)
-        ∷ ‵ (froom (tyRef erased imm (tyInt w32)) l97 0)
-        ∷ ‵ (fdies (tyRef erased imm (tyInt w32)) l97)
-        ∷ ‵ (froom (sliceTy (tyRef erased mut (tyInt w32))) l96 0)
-        ∷ ‵ (fdies (sliceTy (tyRef erased mut (tyInt w32))) l96)
-        ∷ ‵ (froom (tyRef erased mut (tyInt w32)) l95 0)
-        ∷ ‵ (fdies (tyRef erased mut (tyInt w32)) l95)
-        ∷ ‵ (froom (tyRef erased mut (pointee (CountsT.the-row .written))) l94 0)
-        ∷ ‵ (fdies (tyRef erased mut (pointee (CountsT.the-row .written))) l94)
-        ∷ ‵ (froom (sliceTy (tyRef erased mut (pointee (FactT.the-row .written)))) l93 0)
-        ∷ ‵ (fdies (sliceTy (tyRef erased mut (pointee (FactT.the-row .written)))) l93)
-        ∷ ‵ (froom (tyRef erased mut (pointee (FactT.the-row .written))) l92 0)
-        ∷ ‵ (fdies (tyRef erased mut (pointee (FactT.the-row .written))) l92)
-        ∷ ‵ (froom (sliceTy (tyRef erased mut (tyInt w32))) l91 0)
-        ∷ ‵ (fdies (sliceTy (tyRef erased mut (tyInt w32))) l91)
-        ∷ ‵ (froom (tyRef erased mut (tyInt w32)) l90 0)
-        ∷ ‵ (fdies (tyRef erased mut (tyInt w32)) l90)
-        ∷ ‵ (froom (sliceTy (tyRef erased mut (tyInt w32))) l89 0)
-        ∷ ‵ (fdies (sliceTy (tyRef erased mut (tyInt w32))) l89)
-        ∷ ‵ (froom (tyRef erased mut (tyInt w32)) l88 0)
-        ∷ ‵ (fdies (tyRef erased mut (tyInt w32)) l88)
-        ∷ ‵ (froom (sliceTy (tyRef erased mut (tyInt w64))) l87 0)
-        ∷ ‵ (fdies (sliceTy (tyRef erased mut (tyInt w64))) l87)
-        ∷ ‵ (froom (tyRef erased mut (tyInt w64)) l86 0)
-        ∷ ‵ (fdies (tyRef erased mut (tyInt w64)) l86)
-        ∷ ‵ (froom (sliceTy (tyRef erased mut (tyInt w32))) l85 0)
-        ∷ ‵ (fdies (sliceTy (tyRef erased mut (tyInt w32))) l85)
-        ∷ ‵ (froom (tyRef erased mut (tyInt w32)) l84 0)
-        ∷ ‵ (fdies (tyRef erased mut (tyInt w32)) l84)
-        ∷ ‵ (froom (sliceTy (tyRef erased mut (tyInt w32))) l83 0)
-        ∷ ‵ (fdies (sliceTy (tyRef erased mut (tyInt w32))) l83)
-        ∷ ‵ (froom (tyRef erased mut (tyInt w32)) l82 0)
-        ∷ ‵ (fdies (tyRef erased mut (tyInt w32)) l82)
-        ∷ ‵ (froom (sliceTy (tyRef erased mut (tyInt w32))) l81 0)
-        ∷ ‵ (fdies (sliceTy (tyRef erased mut (tyInt w32))) l81)
-        ∷ ‵ (froom (tyRef erased mut (tyInt w32)) l80 0)
-        ∷ ‵ (fdies (tyRef erased mut (tyInt w32)) l80)
-        ∷ ‵ (froom (sliceTy (tyRef erased mut (tyInt w32))) l79 0)
-        ∷ ‵ (fdies (sliceTy (tyRef erased mut (tyInt w32))) l79)
-        ∷ ‵ (froom (tyRef erased mut (tyInt w32)) l78 0)
-        ∷ ‵ (fdies (tyRef erased mut (tyInt w32)) l78)
-        ∷ ‵ (froom (sliceTy (tyRef erased mut (tyInt w32))) l77 0)
-        ∷ ‵ (fdies (sliceTy (tyRef erased mut (tyInt w32))) l77)
-        ∷ ‵ (froom (tyRef erased mut (tyInt w32)) l76 0)
-        ∷ ‵ (fdies (tyRef erased mut (tyInt w32)) l76)
-        ∷ ‵ (froom (sliceTy (tyRef erased mut (tyInt w32))) l75 0)
-        ∷ ‵ (fdies (sliceTy (tyRef erased mut (tyInt w32))) l75)
-        ∷ ‵ (froom (tyRef erased mut (tyInt w32)) l74 0)
-        ∷ ‵ (fdies (tyRef erased mut (tyInt w32)) l74)
-        ∷ ‵ (froom (sliceTy (tyRef erased mut (tyInt w32))) l73 0)
-        ∷ ‵ (fdies (sliceTy (tyRef erased mut (tyInt w32))) l73)
-        ∷ ‵ (froom (tyRef erased mut (tyInt w32)) l72 0)
-        ∷ ‵ (fdies (tyRef erased mut (tyInt w32)) l72)
-        ∷ ‵ (froom (sliceTy (tyRef erased imm (tyInt w32))) l71 0)
-        ∷ ‵ (fdies (sliceTy (tyRef erased imm (tyInt w32))) l71)
-        ∷ ‵ (froom (tyRef erased imm (tyInt w32)) l70 0)
-        ∷ ‵ (fdies (tyRef erased imm (tyInt w32)) l70)
-        ∷ ‵ (froom (sliceTy (tyRef erased imm (tyInt w32))) l69 0)
-        ∷ ‵ (fdies (sliceTy (tyRef erased imm (tyInt w32))) l69)
-        ∷ ‵ (froom (tyRef erased imm (tyInt w32)) l68 0)
-        ∷ ‵ (fdies (tyRef erased imm (tyInt w32)) l68)
-        ∷ ‵ (froom (sliceTy (tyRef erased imm (tyInt w32))) l67 0)
-        ∷ ‵ (fdies (sliceTy (tyRef erased imm (tyInt w32))) l67)
-        ∷ ‵ (froom (tyRef erased imm (tyInt w32)) l66 0)
-        ∷ ‵ (fdies (tyRef erased imm (tyInt w32)) l66)
-        ∷ ‵ (froom (sliceTy (tyRef erased imm (tyInt w32))) l65 0)
-        ∷ ‵ (fdies (sliceTy (tyRef erased imm (tyInt w32))) l65)
-        ∷ ‵ (froom (tyRef erased imm (tyInt w32)) l64 0)
-        ∷ ‵ (fdies (tyRef erased imm (tyInt w32)) l64)
-        ∷ ‵ (froom (sliceTy (tyRef erased imm (tyInt w32))) l63 0)
-        ∷ ‵ (fdies (sliceTy (tyRef erased imm (tyInt w32))) l63)
-        ∷ ‵ (froom (tyRef erased imm (tyInt w32)) l62 0)
-        ∷ ‵ (fdies (tyRef erased imm (tyInt w32)) l62)
-        ∷ ‵ (froom (sliceTy (tyRef erased imm (tyInt w32))) l61 0)
-        ∷ ‵ (fdies (sliceTy (tyRef erased imm (tyInt w32))) l61)
-        ∷ ‵ (froom (tyRef erased imm (tyInt w32)) l60 0)
-        ∷ ‵ (fdies (tyRef erased imm (tyInt w32)) l60)
-        ∷ ‵ (froom CountsL.mir l59 0)
-        ∷ ‵ (fdies CountsL.mir l59)
-        ∷ ‵ (fat fullShare (sliceTy (tyRef erased mut (tyInt w32))) l58 0 s·cells)
-        ∷ ‵ (fdies (sliceTy (tyRef erased mut (tyInt w32))) l58)
-        ∷ ‵ (fat fullShare (tyRef erased mut (tyInt w32)) l57 0 (vptr b·cells o·cells))
-        ∷ ‵ (fdies (tyRef erased mut (tyInt w32)) l57)
-        ∷ ‵ (fat fullShare (sliceTy (tyRef erased imm (tyInt w64))) l56 0 s·feet)
-        ∷ ‵ (fdies (sliceTy (tyRef erased imm (tyInt w64))) l56)
-        ∷ ‵ (fat fullShare (tyRef erased imm (tyInt w64)) l55 0 (vptr b·feet o·feet))
-        ∷ ‵ (fdies (tyRef erased imm (tyInt w64)) l55)
-        ∷ ‵ (fat fullShare (sliceTy (tyRef erased imm (tyInt w32))) l54 0 s·kept)
-        ∷ ‵ (fdies (sliceTy (tyRef erased imm (tyInt w32))) l54)
-        ∷ ‵ (fat fullShare (tyRef erased imm (tyInt w32)) l53 0 (vptr b·kept o·kept))
-        ∷ ‵ (fdies (tyRef erased imm (tyInt w32)) l53)
-        ∷ ‵ (fat fullShare (sliceTy (tyRef erased mut (tyInt w32))) l52 0 s·missing)
-        ∷ ‵ (fdies (sliceTy (tyRef erased mut (tyInt w32))) l52)
-        ∷ ‵ (fat fullShare (tyRef erased mut (tyInt w32)) l51 0 (vptr b·missing o·missing))
-        ∷ ‵ (fdies (tyRef erased mut (tyInt w32)) l51)
-        ∷ ‵ (fat fullShare (sliceTy (tyRef erased mut (tyInt w32))) l50 0 s·lists)
-        ∷ ‵ (fdies (sliceTy (tyRef erased mut (tyInt w32))) l50)
-        ∷ ‵ (fat fullShare (tyRef erased mut (tyInt w32)) l49 0 (vptr b·lists o·lists))
-        ∷ ‵ (fdies (tyRef erased mut (tyInt w32)) l49)
-        ∷ ‵ (fat fullShare (sliceTy (tyRef erased mut (tyInt w32))) l48 0 s·rows)
-        ∷ ‵ (fdies (sliceTy (tyRef erased mut (tyInt w32))) l48)
-        ∷ ‵ (fat fullShare (tyRef erased mut (tyInt w32)) l47 0 (vptr b·rows o·rows))
-        ∷ ‵ (fdies (tyRef erased mut (tyInt w32)) l47)
-        ∷ ‵ (fat fullShare (sliceTy (tyRef erased mut (tyInt w32))) l46 0 s·defs)
-        ∷ ‵ (fdies (sliceTy (tyRef erased mut (tyInt w32))) l46)
-        ∷ ‵ (fat fullShare (tyRef erased mut (tyInt w32)) l45 0 (vptr b·defs o·defs))
-        ∷ ‵ (fdies (tyRef erased mut (tyInt w32)) l45)
-        ∷ ‵ (fat fullShare (sliceTy (tyRef erased mut (tyInt w32))) l44 0 s·words)
-        ∷ ‵ (fdies (sliceTy (tyRef erased mut (tyInt w32))) l44)
-        ∷ ‵ (fat fullShare (tyRef erased mut (tyInt w32)) l43 0 (vptr b·words o·words))
-        ∷ ‵ (fdies (tyRef erased mut (tyInt w32)) l43)
-        ∷ ‵ (fat fullShare (sliceTy (tyRef erased mut (tyInt w32))) l42 0 s·index)
-        ∷ ‵ (fdies (sliceTy (tyRef erased mut (tyInt w32))) l42)
-        ∷ ‵ (fat fullShare (tyRef erased mut (tyInt w32)) l41 0 (vptr b·index o·index))
-        ∷ ‵ (fdies (tyRef erased mut (tyInt w32)) l41)
-        ∷ ‵ (fat fullShare (sliceTy (tyRef erased mut (tyInt w32))) l40 0 s·vars)
-        ∷ ‵ (fdies (sliceTy (tyRef erased mut (tyInt w32))) l40)
-        ∷ ‵ (fat fullShare (tyRef erased mut (tyInt w32)) l39 0 (vptr b·vars o·vars))
-        ∷ ‵ (fdies (tyRef erased mut (tyInt w32)) l39)
-        ∷ ‵ (fat fullShare (sliceTy (tyRef erased mut (tyInt w32))) l38 0 s·patterns)
-        ∷ ‵ (fdies (sliceTy (tyRef erased mut (tyInt w32))) l38)
-        ∷ ‵ (fat fullShare (tyRef erased mut (tyInt w32)) l37 0 (vptr b·patterns o·patterns))
-        ∷ ‵ (fdies (tyRef erased mut (tyInt w32)) l37)
-        ∷ ‵ (fat fullShare (sliceTy (tyRef erased mut (tyInt w32))) l36 0 s·rulevars)
-        ∷ ‵ (fdies (sliceTy (tyRef erased mut (tyInt w32))) l36)
-        ∷ ‵ (fat fullShare (tyRef erased mut (tyInt w32)) l35 0 (vptr b·rulevars o·rulevars))
-        ∷ ‵ (fdies (tyRef erased mut (tyInt w32)) l35)
-        ∷ ‵ (fat fullShare (sliceTy (tyRef erased mut (tyInt w32))) l34 0 s·rules)
-        ∷ ‵ (fdies (sliceTy (tyRef erased mut (tyInt w32))) l34)
-        ∷ ‵ (fat fullShare (tyRef erased mut (tyInt w32)) l33 0 (vptr b·rules o·rules))
-        ∷ ‵ (fdies (tyRef erased mut (tyInt w32)) l33)
-        ∷ ‵ (fat fullShare (sliceTy (tyRef erased mut (tyInt w32))) l32 0 s·inputs)
-        ∷ ‵ (fdies (sliceTy (tyRef erased mut (tyInt w32))) l32)
-        ∷ ‵ (fat fullShare (tyRef erased mut (tyInt w32)) l31 0 (vptr b·inputs o·inputs))
-        ∷ ‵ (fdies (tyRef erased mut (tyInt w32)) l31)
-        ∷ ‵ (fat fullShare (sliceTy (tyRef erased mut (tyInt w32))) l30 0 s·symbols)
-        ∷ ‵ (fdies (sliceTy (tyRef erased mut (tyInt w32))) l30)
-        ∷ ‵ (fat fullShare (tyRef erased mut (tyInt w32)) l29 0 (vptr b·symbols o·symbols))
-        ∷ ‵ (fdies (tyRef erased mut (tyInt w32)) l29)
-        ∷ ‵ (fat fullShare (sliceTy (tyRef erased mut (tyInt w32))) l28 0 s·sorts)
-        ∷ ‵ (fdies (sliceTy (tyRef erased mut (tyInt w32))) l28)
-        ∷ ‵ (fat fullShare (tyRef erased mut (tyInt w32)) l27 0 (vptr b·sorts o·sorts))
-        ∷ ‵ (fdies (tyRef erased mut (tyInt w32)) l27)
-        ∷ ‵ (froom AnswerL.mir l26 0)
-        ∷ ‵ (fdies AnswerL.mir l26)
-        ∷ ‵ (froom RunL.mir l25 0)
-        ∷ ‵ (fdies RunL.mir l25)
-        ∷ ‵ (froom CountsL.mir l24 0)
-        ∷ ‵ (fdies CountsL.mir l24)
-        ∷ ‵ (fat fullShare RunL.mir l23 0 v1)
-        ∷ ‵ (fdies RunL.mir l23)
-        ∷ ‵ (fat fullShare (tyInt w64) l22 0 (vint w64 (length facts)))
-        ∷ ‵ (fdies (tyInt w64) l22)
+        ∷ ‵ (froom (tyInt w64) l110 0)
+        ∷ ‵ (fdies (tyInt w64) l110)
+        ∷ ‵ (froom (tyInt w64) l109 0)
+        ∷ ‵ (fdies (tyInt w64) l109)
+        ∷ ‵ (froom (sliceTy (tyRef erased mut (pointee (FactT.the-row .written)))) l108 0)
+        ∷ ‵ (fdies (sliceTy (tyRef erased mut (pointee (FactT.the-row .written)))) l108)
+        ∷ ‵ (froom (tyRef erased mut (pointee (FactT.the-row .written))) l107 0)
+        ∷ ‵ (fdies (tyRef erased mut (pointee (FactT.the-row .written))) l107)
+        ∷ ‵ (froom tyUnit l106 0)
+        ∷ ‵ (fdies tyUnit l106)
+        ∷ ‵ (froom (sliceTy (tyRef erased mut (tyInt w32))) l105 0)
+        ∷ ‵ (fdies (sliceTy (tyRef erased mut (tyInt w32))) l105)
+        ∷ ‵ (froom (tyRef erased mut (tyInt w32)) l104 0)
+        ∷ ‵ (fdies (tyRef erased mut (tyInt w32)) l104)
+        ∷ ‵ (froom (sliceTy (tyRef erased imm (tyInt w32))) l103 0)
+        ∷ ‵ (fdies (sliceTy (tyRef erased imm (tyInt w32))) l103)
+        ∷ ‵ (froom (tyRef erased imm (tyInt w32)) l102 0)
+        ∷ ‵ (fdies (tyRef erased imm (tyInt w32)) l102)
+        ∷ ‵ (froom (sliceTy (tyRef erased imm (tyInt w32))) l101 0)
+        ∷ ‵ (fdies (sliceTy (tyRef erased imm (tyInt w32))) l101)
+        ∷ ‵ (froom (tyRef erased imm (tyInt w32)) l100 0)
+        ∷ ‵ (fdies (tyRef erased imm (tyInt w32)) l100)
+        ∷ ‵ (froom (sliceTy (tyRef erased mut (tyInt w32))) l99 0)
+        ∷ ‵ (fdies (sliceTy (tyRef erased mut (tyInt w32))) l99)
+        ∷ ‵ (froom (tyRef erased mut (tyInt w32)) l98 0)
+        ∷ ‵ (fdies (tyRef erased mut (tyInt w32)) l98)
+        ∷ ‵ (froom (tyRef erased mut (pointee (CountsT.the-row .written))) l97 0)
+        ∷ ‵ (fdies (tyRef erased mut (pointee (CountsT.the-row .written))) l97)
+        ∷ ‵ (froom (sliceTy (tyRef erased mut (pointee (FactT.the-row .written)))) l96 0)
+        ∷ ‵ (fdies (sliceTy (tyRef erased mut (pointee (FactT.the-row .written)))) l96)
+        ∷ ‵ (froom (tyRef erased mut (pointee (FactT.the-row .written))) l95 0)
+        ∷ ‵ (fdies (tyRef erased mut (pointee (FactT.the-row .written))) l95)
+        ∷ ‵ (froom (sliceTy (tyRef erased mut (tyInt w32))) l94 0)
+        ∷ ‵ (fdies (sliceTy (tyRef erased mut (tyInt w32))) l94)
+        ∷ ‵ (froom (tyRef erased mut (tyInt w32)) l93 0)
+        ∷ ‵ (fdies (tyRef erased mut (tyInt w32)) l93)
+        ∷ ‵ (froom (sliceTy (tyRef erased mut (tyInt w32))) l92 0)
+        ∷ ‵ (fdies (sliceTy (tyRef erased mut (tyInt w32))) l92)
+        ∷ ‵ (froom (tyRef erased mut (tyInt w32)) l91 0)
+        ∷ ‵ (fdies (tyRef erased mut (tyInt w32)) l91)
+        ∷ ‵ (froom (sliceTy (tyRef erased mut (tyInt w32))) l90 0)
+        ∷ ‵ (fdies (sliceTy (tyRef erased mut (tyInt w32))) l90)
+        ∷ ‵ (froom (tyRef erased mut (tyInt w32)) l89 0)
+        ∷ ‵ (fdies (tyRef erased mut (tyInt w32)) l89)
+        ∷ ‵ (froom (sliceTy (tyRef erased mut (tyInt w64))) l88 0)
+        ∷ ‵ (fdies (sliceTy (tyRef erased mut (tyInt w64))) l88)
+        ∷ ‵ (froom (tyRef erased mut (tyInt w64)) l87 0)
+        ∷ ‵ (fdies (tyRef erased mut (tyInt w64)) l87)
+        ∷ ‵ (froom (sliceTy (tyRef erased mut (tyInt w32))) l86 0)
+        ∷ ‵ (fdies (sliceTy (tyRef erased mut (tyInt w32))) l86)
+        ∷ ‵ (froom (tyRef erased mut (tyInt w32)) l85 0)
+        ∷ ‵ (fdies (tyRef erased mut (tyInt w32)) l85)
+        ∷ ‵ (froom (sliceTy (tyRef erased mut (tyInt w32))) l84 0)
+        ∷ ‵ (fdies (sliceTy (tyRef erased mut (tyInt w32))) l84)
+        ∷ ‵ (froom (tyRef erased mut (tyInt w32)) l83 0)
+        ∷ ‵ (fdies (tyRef erased mut (tyInt w32)) l83)
+        ∷ ‵ (froom (sliceTy (tyRef erased mut (tyInt w32))) l82 0)
+        ∷ ‵ (fdies (sliceTy (tyRef erased mut (tyInt w32))) l82)
+        ∷ ‵ (froom (tyRef erased mut (tyInt w32)) l81 0)
+        ∷ ‵ (fdies (tyRef erased mut (tyInt w32)) l81)
+        ∷ ‵ (froom (sliceTy (tyRef erased mut (tyInt w32))) l80 0)
+        ∷ ‵ (fdies (sliceTy (tyRef erased mut (tyInt w32))) l80)
+        ∷ ‵ (froom (tyRef erased mut (tyInt w32)) l79 0)
+        ∷ ‵ (fdies (tyRef erased mut (tyInt w32)) l79)
+        ∷ ‵ (froom (sliceTy (tyRef erased mut (tyInt w32))) l78 0)
+        ∷ ‵ (fdies (sliceTy (tyRef erased mut (tyInt w32))) l78)
+        ∷ ‵ (froom (tyRef erased mut (tyInt w32)) l77 0)
+        ∷ ‵ (fdies (tyRef erased mut (tyInt w32)) l77)
+        ∷ ‵ (froom (sliceTy (tyRef erased mut (tyInt w32))) l76 0)
+        ∷ ‵ (fdies (sliceTy (tyRef erased mut (tyInt w32))) l76)
+        ∷ ‵ (froom (tyRef erased mut (tyInt w32)) l75 0)
+        ∷ ‵ (fdies (tyRef erased mut (tyInt w32)) l75)
+        ∷ ‵ (froom (sliceTy (tyRef erased mut (tyInt w32))) l74 0)
+        ∷ ‵ (fdies (sliceTy (tyRef erased mut (tyInt w32))) l74)
+        ∷ ‵ (froom (tyRef erased mut (tyInt w32)) l73 0)
+        ∷ ‵ (fdies (tyRef erased mut (tyInt w32)) l73)
+        ∷ ‵ (froom (sliceTy (tyRef erased imm (tyInt w32))) l72 0)
+        ∷ ‵ (fdies (sliceTy (tyRef erased imm (tyInt w32))) l72)
+        ∷ ‵ (froom (tyRef erased imm (tyInt w32)) l71 0)
+        ∷ ‵ (fdies (tyRef erased imm (tyInt w32)) l71)
+        ∷ ‵ (froom (sliceTy (tyRef erased imm (tyInt w32))) l70 0)
+        ∷ ‵ (fdies (sliceTy (tyRef erased imm (tyInt w32))) l70)
+        ∷ ‵ (froom (tyRef erased imm (tyInt w32)) l69 0)
+        ∷ ‵ (fdies (tyRef erased imm (tyInt w32)) l69)
+        ∷ ‵ (froom (sliceTy (tyRef erased imm (tyInt w32))) l68 0)
+        ∷ ‵ (fdies (sliceTy (tyRef erased imm (tyInt w32))) l68)
+        ∷ ‵ (froom (tyRef erased imm (tyInt w32)) l67 0)
+        ∷ ‵ (fdies (tyRef erased imm (tyInt w32)) l67)
+        ∷ ‵ (froom (sliceTy (tyRef erased imm (tyInt w32))) l66 0)
+        ∷ ‵ (fdies (sliceTy (tyRef erased imm (tyInt w32))) l66)
+        ∷ ‵ (froom (tyRef erased imm (tyInt w32)) l65 0)
+        ∷ ‵ (fdies (tyRef erased imm (tyInt w32)) l65)
+        ∷ ‵ (froom (sliceTy (tyRef erased imm (tyInt w32))) l64 0)
+        ∷ ‵ (fdies (sliceTy (tyRef erased imm (tyInt w32))) l64)
+        ∷ ‵ (froom (tyRef erased imm (tyInt w32)) l63 0)
+        ∷ ‵ (fdies (tyRef erased imm (tyInt w32)) l63)
+        ∷ ‵ (froom (sliceTy (tyRef erased imm (tyInt w32))) l62 0)
+        ∷ ‵ (fdies (sliceTy (tyRef erased imm (tyInt w32))) l62)
+        ∷ ‵ (froom (tyRef erased imm (tyInt w32)) l61 0)
+        ∷ ‵ (fdies (tyRef erased imm (tyInt w32)) l61)
+        ∷ ‵ (froom CountsL.mir l60 0)
+        ∷ ‵ (fdies CountsL.mir l60)
+        ∷ ‵ (fat fullShare (sliceTy (tyRef erased mut (tyInt w32))) l59 0 s·cells)
+        ∷ ‵ (fdies (sliceTy (tyRef erased mut (tyInt w32))) l59)
+        ∷ ‵ (fat fullShare (tyRef erased mut (tyInt w32)) l58 0 (vptr b·cells o·cells))
+        ∷ ‵ (fdies (tyRef erased mut (tyInt w32)) l58)
+        ∷ ‵ (fat fullShare (sliceTy (tyRef erased imm (tyInt w64))) l57 0 s·feet)
+        ∷ ‵ (fdies (sliceTy (tyRef erased imm (tyInt w64))) l57)
+        ∷ ‵ (fat fullShare (tyRef erased imm (tyInt w64)) l56 0 (vptr b·feet o·feet))
+        ∷ ‵ (fdies (tyRef erased imm (tyInt w64)) l56)
+        ∷ ‵ (fat fullShare (sliceTy (tyRef erased imm (tyInt w32))) l55 0 s·kept)
+        ∷ ‵ (fdies (sliceTy (tyRef erased imm (tyInt w32))) l55)
+        ∷ ‵ (fat fullShare (tyRef erased imm (tyInt w32)) l54 0 (vptr b·kept o·kept))
+        ∷ ‵ (fdies (tyRef erased imm (tyInt w32)) l54)
+        ∷ ‵ (fat fullShare (sliceTy (tyRef erased mut (tyInt w32))) l53 0 s·missing)
+        ∷ ‵ (fdies (sliceTy (tyRef erased mut (tyInt w32))) l53)
+        ∷ ‵ (fat fullShare (tyRef erased mut (tyInt w32)) l52 0 (vptr b·missing o·missing))
+        ∷ ‵ (fdies (tyRef erased mut (tyInt w32)) l52)
+        ∷ ‵ (fat fullShare (sliceTy (tyRef erased mut (tyInt w32))) l51 0 s·lists)
+        ∷ ‵ (fdies (sliceTy (tyRef erased mut (tyInt w32))) l51)
+        ∷ ‵ (fat fullShare (tyRef erased mut (tyInt w32)) l50 0 (vptr b·lists o·lists))
+        ∷ ‵ (fdies (tyRef erased mut (tyInt w32)) l50)
+        ∷ ‵ (fat fullShare (sliceTy (tyRef erased mut (tyInt w32))) l49 0 s·rows)
+        ∷ ‵ (fdies (sliceTy (tyRef erased mut (tyInt w32))) l49)
+        ∷ ‵ (fat fullShare (tyRef erased mut (tyInt w32)) l48 0 (vptr b·rows o·rows))
+        ∷ ‵ (fdies (tyRef erased mut (tyInt w32)) l48)
+        ∷ ‵ (fat fullShare (sliceTy (tyRef erased mut (tyInt w32))) l47 0 s·defs)
+        ∷ ‵ (fdies (sliceTy (tyRef erased mut (tyInt w32))) l47)
+        ∷ ‵ (fat fullShare (tyRef erased mut (tyInt w32)) l46 0 (vptr b·defs o·defs))
+        ∷ ‵ (fdies (tyRef erased mut (tyInt w32)) l46)
+        ∷ ‵ (fat fullShare (sliceTy (tyRef erased mut (tyInt w32))) l45 0 s·words)
+        ∷ ‵ (fdies (sliceTy (tyRef erased mut (tyInt w32))) l45)
+        ∷ ‵ (fat fullShare (tyRef erased mut (tyInt w32)) l44 0 (vptr b·words o·words))
+        ∷ ‵ (fdies (tyRef erased mut (tyInt w32)) l44)
+        ∷ ‵ (fat fullShare (sliceTy (tyRef erased mut (tyInt w32))) l43 0 s·index)
+        ∷ ‵ (fdies (sliceTy (tyRef erased mut (tyInt w32))) l43)
+        ∷ ‵ (fat fullShare (tyRef erased mut (tyInt w32)) l42 0 (vptr b·index o·index))
+        ∷ ‵ (fdies (tyRef erased mut (tyInt w32)) l42)
+        ∷ ‵ (fat fullShare (sliceTy (tyRef erased mut (tyInt w32))) l41 0 s·vars)
+        ∷ ‵ (fdies (sliceTy (tyRef erased mut (tyInt w32))) l41)
+        ∷ ‵ (fat fullShare (tyRef erased mut (tyInt w32)) l40 0 (vptr b·vars o·vars))
+        ∷ ‵ (fdies (tyRef erased mut (tyInt w32)) l40)
+        ∷ ‵ (fat fullShare (sliceTy (tyRef erased mut (tyInt w32))) l39 0 s·patterns)
+        ∷ ‵ (fdies (sliceTy (tyRef erased mut (tyInt w32))) l39)
+        ∷ ‵ (fat fullShare (tyRef erased mut (tyInt w32)) l38 0 (vptr b·patterns o·patterns))
+        ∷ ‵ (fdies (tyRef erased mut (tyInt w32)) l38)
+        ∷ ‵ (fat fullShare (sliceTy (tyRef erased mut (tyInt w32))) l37 0 s·rulevars)
+        ∷ ‵ (fdies (sliceTy (tyRef erased mut (tyInt w32))) l37)
+        ∷ ‵ (fat fullShare (tyRef erased mut (tyInt w32)) l36 0 (vptr b·rulevars o·rulevars))
+        ∷ ‵ (fdies (tyRef erased mut (tyInt w32)) l36)
+        ∷ ‵ (fat fullShare (sliceTy (tyRef erased mut (tyInt w32))) l35 0 s·rules)
+        ∷ ‵ (fdies (sliceTy (tyRef erased mut (tyInt w32))) l35)
+        ∷ ‵ (fat fullShare (tyRef erased mut (tyInt w32)) l34 0 (vptr b·rules o·rules))
+        ∷ ‵ (fdies (tyRef erased mut (tyInt w32)) l34)
+        ∷ ‵ (fat fullShare (sliceTy (tyRef erased mut (tyInt w32))) l33 0 s·inputs)
+        ∷ ‵ (fdies (sliceTy (tyRef erased mut (tyInt w32))) l33)
+        ∷ ‵ (fat fullShare (tyRef erased mut (tyInt w32)) l32 0 (vptr b·inputs o·inputs))
+        ∷ ‵ (fdies (tyRef erased mut (tyInt w32)) l32)
+        ∷ ‵ (fat fullShare (sliceTy (tyRef erased mut (tyInt w32))) l31 0 s·symbols)
+        ∷ ‵ (fdies (sliceTy (tyRef erased mut (tyInt w32))) l31)
+        ∷ ‵ (fat fullShare (tyRef erased mut (tyInt w32)) l30 0 (vptr b·symbols o·symbols))
+        ∷ ‵ (fdies (tyRef erased mut (tyInt w32)) l30)
+        ∷ ‵ (fat fullShare (sliceTy (tyRef erased mut (tyInt w32))) l29 0 s·sorts)
+        ∷ ‵ (fdies (sliceTy (tyRef erased mut (tyInt w32))) l29)
+        ∷ ‵ (fat fullShare (tyRef erased mut (tyInt w32)) l28 0 (vptr b·sorts o·sorts))
+        ∷ ‵ (fdies (tyRef erased mut (tyInt w32)) l28)
+        ∷ ‵ (froom AnswerL.mir l27 0)
+        ∷ ‵ (fdies AnswerL.mir l27)
+        ∷ ‵ (froom RunL.mir l26 0)
+        ∷ ‵ (fdies RunL.mir l26)
+        ∷ ‵ (froom CountsL.mir l25 0)
+        ∷ ‵ (fdies CountsL.mir l25)
+        ∷ ‵ (fat fullShare RunL.mir l24 0 v1)
+        ∷ ‵ (fdies RunL.mir l24)
+        ∷ ‵ (fat fullShare (tyInt w64) l23 0 (vint w64 (length facts)))
+        ∷ ‵ (fdies (tyInt w64) l23)
+        ∷ ‵ (fat fullShare (sliceTy (tyRef (named 21) mut (tyInt w32))) l22 0 s·memo)
+        ∷ ‵ (fdies (sliceTy (tyRef (named 21) mut (tyInt w32))) l22)
         ∷ ‵ (fat fullShare (sliceTy (tyRef (named 20) mut (tyInt w32))) l21 0 s·ids)
         ∷ ‵ (fdies (sliceTy (tyRef (named 20) mut (tyInt w32))) l21)
         ∷ ‵ (fat fullShare (sliceTy (tyRef (named 19) mut (tyInt w32))) l20 0 s·cells)
@@ -6235,17 +6498,17 @@ module _ {M : Type 1} (𝓤 : URA M) (H : Heap 𝓤) (A : Atoms 𝓤) (W : Given
         (runs C Λ (En l0 l1 l2 l3 l4 l5 l6 l7 l8 l9 l10 l11 l12 l13 l14 l15 l16 l17 l18 l19 l20 l21 l22 l23 l24 l25 l26 l27 l28 l29 l30 l31 l32 l33
         l34 l35 l36 l37 l38 l39 l40 l41 l42 l43 l44 l45 l46 l47 l48 l49 l50 l51 l52 l53 l54 l55 l56 l57 l58 l59 l60 l61 l62 l63 l64 l65 l66 l67 l68
         l69 l70 l71 l72 l73 l74 l75 l76 l77 l78 l79 l80 l81 l82 l83 l84 l85 l86 l87 l88 l89 l90 l91 l92 l93 l94 l95 l96 l97 l98 l99 l100 l101 l102
-        l103 l104 l105 l106 l107) pieces.t-35 (atRet (En l0 l1 l2 l3 l4 l5 l6 l7 l8 l9 l10 l11 l12 l13 l14 l15 l16 l17 l18 l19 l20 l21 l22 l23 l24 l25
-        l26 l27 l28 l29 l30 l31 l32 l33 l34 l35 l36 l37 l38 l39 l40 l41 l42 l43 l44 l45 l46 l47 l48 l49 l50 l51 l52 l53 l54 l55 l56 l57 l58 l59 l60
-        l61 l62 l63 l64 l65 l66 l67 l68 l69 l70 l71 l72 l73 l74 l75 l76 l77 l78 l79 l80 l81 l82 l83 l84 l85 l86 l87 l88 l89 l90 l91 l92 l93 l94 l95
-        l96 l97 l98 l99 l100 l101 l102 l103 l104 l105 l106 l107) Post))
+        l103 l104 l105 l106 l107 l108 l109 l110) pieces.t-35 (atRet (En l0 l1 l2 l3 l4 l5 l6 l7 l8 l9 l10 l11 l12 l13 l14 l15 l16 l17 l18 l19 l20 l21
+        l22 l23 l24 l25 l26 l27 l28 l29 l30 l31 l32 l33 l34 l35 l36 l37 l38 l39 l40 l41 l42 l43 l44 l45 l46 l47 l48 l49 l50 l51 l52 l53 l54 l55 l56
+        l57 l58 l59 l60 l61 l62 l63 l64 l65 l66 l67 l68 l69 l70 l71 l72 l73 l74 l75 l76 l77 l78 l79 l80 l81 l82 l83 l84 l85 l86 l87 l88 l89 l90 l91
+        l92 l93 l94 l95 l96 l97 l98 l99 l100 l101 l102 l103 l104 l105 l106 l107 l108 l109 l110) Post))
     seg·6 l0 l1 l2 l3 l4 l5 l6 l7 l8 l9 l10 l11 l12 l13 l14 l15 l16 l17 l18 l19 l20 l21 l22 l23 l24 l25 l26 l27 l28 l29 l30 l31 l32 l33 l34 l35 l36
         l37 l38 l39 l40 l41 l42 l43 l44 l45 l46 l47 l48 l49 l50 l51 l52 l53 l54 l55 l56 l57 l58 l59 l60 l61 l62 l63 l64 l65 l66 l67 l68 l69 l70 l71
         l72 l73 l74 l75 l76 l77 l78 l79 l80 l81 l82 l83 l84 l85 l86 l87 l88 l89 l90 l91 l92 l93 l94 l95 l96 l97 l98 l99 l100 l101 l102 l103 l104
-        l105 l106 l107 ν·1·3 δ·1·3 ν·1·4 δ·1·4 ν·1·5 δ·1·5 ν·1·6 δ·1·6 ν·1·7 δ·1·7 ν·1·8 δ·1·8 ν·1·9 δ·1·9 ν·1·10 δ·1·10 ν·1·11 δ·1·11 ν·1·12
-        δ·1·12 ν·1·13 δ·1·13 ν·1·14 δ·1·14 ν·1·15 δ·1·15 ν·1·16 δ·1·16 ν·1·17 δ·1·17 ν·1·18 δ·1·18 v1 r1 ws1 e1·0 e1·1 len·1·sorts
-        len·1·symbols len·1·inputs len·1·rules len·1·rulevars len·1·patterns len·1·vars len·1·index len·1·words len·1·defs len·1·rows
-        len·1·lists len·1·missing len·1·cells is1 =
+        l105 l106 l107 l108 l109 l110 ν·1·3 δ·1·3 ν·1·4 δ·1·4 ν·1·5 δ·1·5 ν·1·6 δ·1·6 ν·1·7 δ·1·7 ν·1·8 δ·1·8 ν·1·9 δ·1·9 ν·1·10 δ·1·10 ν·1·11
+        δ·1·11 ν·1·12 δ·1·12 ν·1·13 δ·1·13 ν·1·14 δ·1·14 ν·1·15 δ·1·15 ν·1·16 δ·1·16 ν·1·17 δ·1·17 ν·1·18 δ·1·18 v1 r1 ws1 e1·0 e1·1
+        len·1·sorts len·1·symbols len·1·inputs len·1·rules len·1·rulevars len·1·patterns len·1·vars len·1·index len·1·words len·1·defs
+        len·1·rows len·1·lists len·1·missing len·1·cells is1 =
         -- call 2: no_counts
         nothing ! $
         use1 W (raw ((G2·C 𝓤 H A at-mem run) .pre ((tt, tt, tt, tt, tt), tt))) (qed W (‵ ftrue ∷ []) ∵ drop ! $ nothing ! $ nothing ! $
@@ -6261,69 +6524,67 @@ module _ {M : Type 1} (𝓤 : URA M) (H : Heap 𝓤) (A : Atoms 𝓤) (W : Given
         move ! (1 ∷ []) $
         peeks ! CountsT.the-row (Is CountsT.the-row) (shows 𝓤 H A CountsT.the-row) r2 (v2 ∷ []) (λ is2.
         drop ! $
-        land ! (from ! (stop !)) (init ! 139 refl (LL.lawful CountsT.the-type CountsL.the-laws 𝓤 H A W .typed r2 _ is2 .0)) $
+        land ! (from ! (stop !)) (init ! 145 refl (LL.lawful CountsT.the-type CountsL.the-laws 𝓤 H A W .typed r2 _ is2 .0)) $
         drop ! $
-        assigns ! (of-opd ! (load ! (from ! (stop !)) (look ! 138 refl))) (from ! (stop !))
-        (init ! 208 refl (LL.lawful CountsT.the-type CountsL.the-laws 𝓤 H A W .typed r2 _ is2 .0)) $
+        assigns ! (of-opd ! (load ! (from ! (stop !)) (look ! 144 refl))) (from ! (stop !))
+        (init ! 214 refl (LL.lawful CountsT.the-type CountsL.the-laws 𝓤 H A W .typed r2 _ is2 .0)) $
+        assigns ! (addr ! (from ! (fld ! refl (hop ! (look-in ! 256 (sub ! 0 refl (whole !))) (stop !))))) (from ! (stop !))
+        (init ! 142 refl (tt, tt)) $
+        assigns ! (agg ! (and-then ! (load ! (from ! (stop !)) (look ! 142 refl))
+        (and-then ! (load ! (from ! (fld ! refl (stop !))) (look-in ! 256 (sub ! 1 refl (whole !)))) (no-more !)))) (from ! (stop !))
+        (init ! 140 refl (tt, (tt, (record { fits = room·sorts .0 }, tt)))) $
+        assigns ! (addr ! (from ! (fld ! refl (hop ! (look-in ! 254 (sub ! 0 refl (whole !))) (stop !))))) (from ! (stop !))
+        (init ! 138 refl (tt, tt)) $
+        assigns ! (agg ! (and-then ! (load ! (from ! (stop !)) (look ! 138 refl))
+        (and-then ! (load ! (from ! (fld ! refl (stop !))) (look-in ! 254 (sub ! 1 refl (whole !)))) (no-more !)))) (from ! (stop !))
+        (init ! 136 refl (tt, (tt, (record { fits = room·symbols .0 }, tt)))) $
+        assigns ! (addr ! (from ! (fld ! refl (hop ! (look-in ! 252 (sub ! 0 refl (whole !))) (stop !))))) (from ! (stop !))
+        (init ! 134 refl (tt, tt)) $
+        assigns ! (agg ! (and-then ! (load ! (from ! (stop !)) (look ! 134 refl))
+        (and-then ! (load ! (from ! (fld ! refl (stop !))) (look-in ! 252 (sub ! 1 refl (whole !)))) (no-more !)))) (from ! (stop !))
+        (init ! 132 refl (tt, (tt, (record { fits = room·inputs .0 }, tt)))) $
+        assigns ! (addr ! (from ! (fld ! refl (hop ! (look-in ! 250 (sub ! 0 refl (whole !))) (stop !))))) (from ! (stop !))
+        (init ! 130 refl (tt, tt)) $
+        assigns ! (agg ! (and-then ! (load ! (from ! (stop !)) (look ! 130 refl))
+        (and-then ! (load ! (from ! (fld ! refl (stop !))) (look-in ! 250 (sub ! 1 refl (whole !)))) (no-more !)))) (from ! (stop !))
+        (init ! 128 refl (tt, (tt, (record { fits = room·rules .0 }, tt)))) $
         assigns ! (addr ! (from ! (fld ! refl (hop ! (look-in ! 248 (sub ! 0 refl (whole !))) (stop !))))) (from ! (stop !))
-        (init ! 136 refl (tt, tt)) $
-        assigns ! (agg ! (and-then ! (load ! (from ! (stop !)) (look ! 136 refl))
+        (init ! 126 refl (tt, tt)) $
+        assigns ! (agg ! (and-then ! (load ! (from ! (stop !)) (look ! 126 refl))
         (and-then ! (load ! (from ! (fld ! refl (stop !))) (look-in ! 248 (sub ! 1 refl (whole !)))) (no-more !)))) (from ! (stop !))
-        (init ! 134 refl (tt, (tt, (record { fits = room·sorts .0 }, tt)))) $
+        (init ! 124 refl (tt, (tt, (record { fits = room·rulevars .0 }, tt)))) $
         assigns ! (addr ! (from ! (fld ! refl (hop ! (look-in ! 246 (sub ! 0 refl (whole !))) (stop !))))) (from ! (stop !))
-        (init ! 132 refl (tt, tt)) $
-        assigns ! (agg ! (and-then ! (load ! (from ! (stop !)) (look ! 132 refl))
+        (init ! 122 refl (tt, tt)) $
+        assigns ! (agg ! (and-then ! (load ! (from ! (stop !)) (look ! 122 refl))
         (and-then ! (load ! (from ! (fld ! refl (stop !))) (look-in ! 246 (sub ! 1 refl (whole !)))) (no-more !)))) (from ! (stop !))
-        (init ! 130 refl (tt, (tt, (record { fits = room·symbols .0 }, tt)))) $
+        (init ! 120 refl (tt, (tt, (record { fits = room·patterns .0 }, tt)))) $
         assigns ! (addr ! (from ! (fld ! refl (hop ! (look-in ! 244 (sub ! 0 refl (whole !))) (stop !))))) (from ! (stop !))
-        (init ! 128 refl (tt, tt)) $
-        assigns ! (agg ! (and-then ! (load ! (from ! (stop !)) (look ! 128 refl))
+        (init ! 118 refl (tt, tt)) $
+        assigns ! (agg ! (and-then ! (load ! (from ! (stop !)) (look ! 118 refl))
         (and-then ! (load ! (from ! (fld ! refl (stop !))) (look-in ! 244 (sub ! 1 refl (whole !)))) (no-more !)))) (from ! (stop !))
-        (init ! 126 refl (tt, (tt, (record { fits = room·inputs .0 }, tt)))) $
+        (init ! 116 refl (tt, (tt, (record { fits = room·vars .0 }, tt)))) $
         assigns ! (addr ! (from ! (fld ! refl (hop ! (look-in ! 242 (sub ! 0 refl (whole !))) (stop !))))) (from ! (stop !))
-        (init ! 124 refl (tt, tt)) $
-        assigns ! (agg ! (and-then ! (load ! (from ! (stop !)) (look ! 124 refl))
+        (init ! 114 refl (tt, tt)) $
+        assigns ! (agg ! (and-then ! (load ! (from ! (stop !)) (look ! 114 refl))
         (and-then ! (load ! (from ! (fld ! refl (stop !))) (look-in ! 242 (sub ! 1 refl (whole !)))) (no-more !)))) (from ! (stop !))
-        (init ! 122 refl (tt, (tt, (record { fits = room·rules .0 }, tt)))) $
+        (init ! 112 refl (tt, (tt, (record { fits = room·index .0 }, tt)))) $
         assigns ! (addr ! (from ! (fld ! refl (hop ! (look-in ! 240 (sub ! 0 refl (whole !))) (stop !))))) (from ! (stop !))
-        (init ! 120 refl (tt, tt)) $
-        assigns ! (agg ! (and-then ! (load ! (from ! (stop !)) (look ! 120 refl))
+        (init ! 110 refl (tt, tt)) $
+        assigns ! (agg ! (and-then ! (load ! (from ! (stop !)) (look ! 110 refl))
         (and-then ! (load ! (from ! (fld ! refl (stop !))) (look-in ! 240 (sub ! 1 refl (whole !)))) (no-more !)))) (from ! (stop !))
-        (init ! 118 refl (tt, (tt, (record { fits = room·rulevars .0 }, tt)))) $
+        (init ! 108 refl (tt, (tt, (record { fits = room·words .0 }, tt)))) $
         assigns ! (addr ! (from ! (fld ! refl (hop ! (look-in ! 238 (sub ! 0 refl (whole !))) (stop !))))) (from ! (stop !))
-        (init ! 116 refl (tt, tt)) $
-        assigns ! (agg ! (and-then ! (load ! (from ! (stop !)) (look ! 116 refl))
+        (init ! 106 refl (tt, tt)) $
+        assigns ! (agg ! (and-then ! (load ! (from ! (stop !)) (look ! 106 refl))
         (and-then ! (load ! (from ! (fld ! refl (stop !))) (look-in ! 238 (sub ! 1 refl (whole !)))) (no-more !)))) (from ! (stop !))
-        (init ! 114 refl (tt, (tt, (record { fits = room·patterns .0 }, tt)))) $
-        assigns ! (addr ! (from ! (fld ! refl (hop ! (look-in ! 236 (sub ! 0 refl (whole !))) (stop !))))) (from ! (stop !))
-        (init ! 112 refl (tt, tt)) $
-        assigns ! (agg ! (and-then ! (load ! (from ! (stop !)) (look ! 112 refl))
-        (and-then ! (load ! (from ! (fld ! refl (stop !))) (look-in ! 236 (sub ! 1 refl (whole !)))) (no-more !)))) (from ! (stop !))
-        (init ! 110 refl (tt, (tt, (record { fits = room·vars .0 }, tt)))) $
-        assigns ! (addr ! (from ! (fld ! refl (hop ! (look-in ! 234 (sub ! 0 refl (whole !))) (stop !))))) (from ! (stop !))
-        (init ! 108 refl (tt, tt)) $
-        assigns ! (agg ! (and-then ! (load ! (from ! (stop !)) (look ! 108 refl))
-        (and-then ! (load ! (from ! (fld ! refl (stop !))) (look-in ! 234 (sub ! 1 refl (whole !)))) (no-more !)))) (from ! (stop !))
-        (init ! 106 refl (tt, (tt, (record { fits = room·index .0 }, tt)))) $
-        assigns ! (addr ! (from ! (fld ! refl (hop ! (look-in ! 232 (sub ! 0 refl (whole !))) (stop !))))) (from ! (stop !))
-        (init ! 104 refl (tt, tt)) $
-        assigns ! (agg ! (and-then ! (load ! (from ! (stop !)) (look ! 104 refl))
-        (and-then ! (load ! (from ! (fld ! refl (stop !))) (look-in ! 232 (sub ! 1 refl (whole !)))) (no-more !)))) (from ! (stop !))
-        (init ! 102 refl (tt, (tt, (record { fits = room·words .0 }, tt)))) $
-        assigns ! (addr ! (from ! (fld ! refl (hop ! (look-in ! 230 (sub ! 0 refl (whole !))) (stop !))))) (from ! (stop !))
-        (init ! 100 refl (tt, tt)) $
-        assigns ! (agg ! (and-then ! (load ! (from ! (stop !)) (look ! 100 refl))
-        (and-then ! (load ! (from ! (fld ! refl (stop !))) (look-in ! 230 (sub ! 1 refl (whole !)))) (no-more !)))) (from ! (stop !))
-        (init ! 98 refl (tt, (tt, (record { fits = room·defs .0 }, tt)))) $
-        assigns ! (addr ! (from ! (fld ! refl (hop ! (look-in ! 228 (sub ! 0 refl (whole !))) (stop !))))) (from ! (stop !))
-        (init ! 96 refl (tt, tt)) $
+        (init ! 104 refl (tt, (tt, (record { fits = room·defs .0 }, tt)))) $
         seg·7 l0 l1 l2 l3 l4 l5 l6 l7 l8 l9 l10 l11 l12 l13 l14 l15 l16 l17 l18 l19 l20 l21 l22 l23 l24 l25 l26 l27 l28 l29 l30 l31 l32 l33 l34 l35
         l36 l37 l38 l39 l40 l41 l42 l43 l44 l45 l46 l47 l48 l49 l50 l51 l52 l53 l54 l55 l56 l57 l58 l59 l60 l61 l62 l63 l64 l65 l66 l67 l68 l69 l70
         l71 l72 l73 l74 l75 l76 l77 l78 l79 l80 l81 l82 l83 l84 l85 l86 l87 l88 l89 l90 l91 l92 l93 l94 l95 l96 l97 l98 l99 l100 l101 l102 l103 l104
-        l105 l106 l107 ν·1·3 δ·1·3 ν·1·4 δ·1·4 ν·1·5 δ·1·5 ν·1·6 δ·1·6 ν·1·7 δ·1·7 ν·1·8 δ·1·8 ν·1·9 δ·1·9 ν·1·10 δ·1·10 ν·1·11 δ·1·11 ν·1·12 δ·1·12
-        ν·1·13 δ·1·13 ν·1·14 δ·1·14 ν·1·15 δ·1·15 ν·1·16 δ·1·16 ν·1·17 δ·1·17 ν·1·18 δ·1·18 v1 r1 ws1 e1·0 e1·1 len·1·sorts len·1·symbols len·1·inputs
-        len·1·rules len·1·rulevars len·1·patterns len·1·vars len·1·index len·1·words len·1·defs len·1·rows len·1·lists len·1·missing len·1·cells is1
-        v2 r2 ws2 e2 is2)))))
+        l105 l106 l107 l108 l109 l110 ν·1·3 δ·1·3 ν·1·4 δ·1·4 ν·1·5 δ·1·5 ν·1·6 δ·1·6 ν·1·7 δ·1·7 ν·1·8 δ·1·8 ν·1·9 δ·1·9 ν·1·10 δ·1·10 ν·1·11 δ·1·11
+        ν·1·12 δ·1·12 ν·1·13 δ·1·13 ν·1·14 δ·1·14 ν·1·15 δ·1·15 ν·1·16 δ·1·16 ν·1·17 δ·1·17 ν·1·18 δ·1·18 v1 r1 ws1 e1·0 e1·1 len·1·sorts
+        len·1·symbols len·1·inputs len·1·rules len·1·rulevars len·1·patterns len·1·vars len·1·index len·1·words len·1·defs len·1·rows len·1·lists
+        len·1·missing len·1·cells is1 v2 r2 ws2 e2 is2)))))
 
     seg·5 : (l0 : ℕ) (l1 : ℕ) (l2 : ℕ) (l3 : ℕ) (l4 : ℕ) (l5 : ℕ) (l6 : ℕ) (l7 : ℕ) (l8 : ℕ) (l9 : ℕ) (l10 : ℕ) (l11 : ℕ) (l12 : ℕ) (l13 : ℕ)
         (l14 : ℕ) (l15 : ℕ) (l16 : ℕ) (l17 : ℕ) (l18 : ℕ) (l19 : ℕ) (l20 : ℕ) (l21 : ℕ) (l22 : ℕ) (l23 : ℕ) (l24 : ℕ) (l25 : ℕ) (l26 : ℕ) (l27 : ℕ)
@@ -6332,14 +6593,14 @@ module _ {M : Type 1} (𝓤 : URA M) (H : Heap 𝓤) (A : Atoms 𝓤) (W : Given
         (l56 : ℕ) (l57 : ℕ) (l58 : ℕ) (l59 : ℕ) (l60 : ℕ) (l61 : ℕ) (l62 : ℕ) (l63 : ℕ) (l64 : ℕ) (l65 : ℕ) (l66 : ℕ) (l67 : ℕ) (l68 : ℕ) (l69 : ℕ)
         (l70 : ℕ) (l71 : ℕ) (l72 : ℕ) (l73 : ℕ) (l74 : ℕ) (l75 : ℕ) (l76 : ℕ) (l77 : ℕ) (l78 : ℕ) (l79 : ℕ) (l80 : ℕ) (l81 : ℕ) (l82 : ℕ) (l83 : ℕ)
         (l84 : ℕ) (l85 : ℕ) (l86 : ℕ) (l87 : ℕ) (l88 : ℕ) (l89 : ℕ) (l90 : ℕ) (l91 : ℕ) (l92 : ℕ) (l93 : ℕ) (l94 : ℕ) (l95 : ℕ) (l96 : ℕ) (l97 : ℕ)
-        (l98 : ℕ) (l99 : ℕ) (l100 : ℕ) (l101 : ℕ) (l102 : ℕ) (l103 : ℕ) (l104 : ℕ) (l105 : ℕ) (l106 : ℕ) (l107 : ℕ) (ν·1·3 : ℕ) (δ·1·3 : GName)
-        (ν·1·4 : ℕ) (δ·1·4 : GName) (ν·1·5 : ℕ) (δ·1·5 : GName) (ν·1·6 : ℕ) (δ·1·6 : GName) (ν·1·7 : ℕ) (δ·1·7 : GName) (ν·1·8 : ℕ) (δ·1·8 : GName)
-        (ν·1·9 : ℕ) (δ·1·9 : GName) (ν·1·10 : ℕ) (δ·1·10 : GName) (ν·1·11 : ℕ) (δ·1·11 : GName) (ν·1·12 : ℕ) (δ·1·12 : GName) (ν·1·13 : ℕ)
-        (δ·1·13 : GName) (ν·1·14 : ℕ) (δ·1·14 : GName) (ν·1·15 : ℕ) (δ·1·15 : GName) (ν·1·16 : ℕ) (δ·1·16 : GName) (ν·1·17 : ℕ) (δ·1·17 : GName)
-        (ν·1·18 : ℕ) (δ·1·18 : GName) (v1 : Val) (r1 : Run) (ws1 : (Unit {0} ×
-        (Unit {0} × (Unit {0} × ((List ℕ) × ((List ℕ) × ((List ℕ) × ((List ℕ) ×
+        (l98 : ℕ) (l99 : ℕ) (l100 : ℕ) (l101 : ℕ) (l102 : ℕ) (l103 : ℕ) (l104 : ℕ) (l105 : ℕ) (l106 : ℕ) (l107 : ℕ) (l108 : ℕ) (l109 : ℕ) (l110 : ℕ)
+        (ν·1·3 : ℕ) (δ·1·3 : GName) (ν·1·4 : ℕ) (δ·1·4 : GName) (ν·1·5 : ℕ) (δ·1·5 : GName) (ν·1·6 : ℕ) (δ·1·6 : GName) (ν·1·7 : ℕ) (δ·1·7 : GName)
+        (ν·1·8 : ℕ) (δ·1·8 : GName) (ν·1·9 : ℕ) (δ·1·9 : GName) (ν·1·10 : ℕ) (δ·1·10 : GName) (ν·1·11 : ℕ) (δ·1·11 : GName) (ν·1·12 : ℕ)
+        (δ·1·12 : GName) (ν·1·13 : ℕ) (δ·1·13 : GName) (ν·1·14 : ℕ) (δ·1·14 : GName) (ν·1·15 : ℕ) (δ·1·15 : GName) (ν·1·16 : ℕ) (δ·1·16 : GName)
+        (ν·1·17 : ℕ) (δ·1·17 : GName) (ν·1·18 : ℕ) (δ·1·18 : GName) (v1 : Val) (r1 : Run)
+        (ws1 : (Unit {0} × (Unit {0} × (Unit {0} × ((List ℕ) × ((List ℕ) × ((List ℕ) ×
         ((List ℕ) × ((List ℕ) × ((List ℕ) × ((List ℕ) × ((List ℕ) × ((List ℕ) ×
-        ((List ℕ) × ((List ℕ) × ((List ℕ) × (Unit {0} × (Unit {0} × ((List ℕ) × (Unit {0} × Unit {0})))))))))))))))))))))
+        ((List ℕ) × ((List ℕ) × ((List ℕ) × ((List ℕ) × (Unit {0} × (Unit {0} × ((List ℕ) × (Unit {0} × Unit {0})))))))))))))))))))))
         (e1·0 : Begun theory goals proof (length facts) (theoryLists sorts symbols inputs rules rulevars patterns)
         (theoryLists (ws1 .1 .1 .1 .0) (ws1 .1 .1 .1 .1 .0) (ws1 .1 .1 .1 .1 .1 .0) (ws1 .1 .1 .1 .1 .1 .1 .0) (ws1 .1 .1 .1 .1 .1 .1 .1 .0)
         (ws1 .1 .1 .1 .1 .1 .1 .1 .1 .0)) (working vars index words defs rows lists)
@@ -6402,182 +6663,190 @@ module _ {M : Type 1} (𝓤 : URA M) (H : Heap 𝓤) (A : Atoms 𝓤) (W : Given
         ∷ ‵ (ShrSlice (named 2) κ·proof u8 .own (ref·proof γ·proof proof) (s·proof ∷ []))
         ∷ ‵ (ShrSlice (named 1) κ·goals u8 .own (ref·goals γ·goals goals) (s·goals ∷ []))
         ∷ ‵ (ShrSlice (named 0) κ·theory u8 .own (ref·theory γ·theory theory) (s·theory ∷ []))
+        ∷ ‵ (flft κ·memo q·memo)
         ∷ ‵ (flft κ·ids q·ids)
         ∷ ‵ (flft κ·facts q·facts)
+        ∷ ‵ (MutSlice (named 21) κ·memo u32 .own (ref·memo γ·memo memo) (s·memo ∷ []))
         ∷ ‵ (MutSlice (named 20) κ·ids u32 .own (ref·ids γ·ids ids) (s·ids ∷ []))
         ∷ ‵ (MutSlice (named 16) κ·facts FactT.the-row .own (ref·facts γ·facts facts) (s·facts ∷ []))
-        ∷ ‵ (froom (tyInt w64) l107 0)
-        ∷ ‵ (fdies (tyInt w64) l107)
-        ∷ ‵ (froom (tyInt w64) l106 0)
-        ∷ ‵ (fdies (tyInt w64) l106)
-        ∷ ‵ (froom (sliceTy (tyRef erased mut (pointee (FactT.the-row .written)))) l105 0)
-        ∷ ‵ (fdies (sliceTy (tyRef erased mut (pointee (FactT.the-row .written)))) l105)
-        ∷ ‵ (froom (tyRef erased mut (pointee (FactT.the-row .written))) l104 0)
-        ∷ ‵ (fdies (tyRef erased mut (pointee (FactT.the-row .written))) l104)
-        ∷ ‵ (froom tyUnit l103 0)
-        ∷ ‵ (fdies tyUnit l103)
-        ∷ ‵ (froom (sliceTy (tyRef erased mut (tyInt w32))) l102 0)
-        ∷ ‵ (fdies (sliceTy (tyRef erased mut (tyInt w32))) l102)
-        ∷ ‵ (froom (tyRef erased mut (tyInt w32)) l101 0)
-        ∷ ‵ (fdies (tyRef erased mut (tyInt w32)) l101)
-        ∷ ‵ (froom (sliceTy (tyRef erased imm (tyInt w32))) l100 0)
-        ∷ ‵ (fdies (sliceTy (tyRef erased imm (tyInt w32))) l100)
-        ∷ ‵ (froom (tyRef erased imm (tyInt w32)) l99 0)
-        ∷ ‵ (fdies (tyRef erased imm (tyInt w32)) l99)
-        ∷ ‵ (froom (sliceTy (tyRef erased imm (tyInt w32))) l98 0)
-        ∷ ‵ (fdies (sliceTy (tyRef erased imm (tyInt w32))) l98)
-        ∷ ‵ (froom (tyRef erased imm (tyInt w32)) l97 0)
-        ∷ ‵ (fdies (tyRef erased imm (tyInt w32)) l97)
-        ∷ ‵ (froom (sliceTy (tyRef erased mut (tyInt w32))) l96 0)
-        ∷ ‵ (fdies (sliceTy (tyRef erased mut (tyInt w32))) l96)
-        ∷ ‵ (froom (tyRef erased mut (tyInt w32)) l95 0)
-        ∷ ‵ (fdies (tyRef erased mut (tyInt w32)) l95)
-        ∷ ‵ (froom (tyRef erased mut (pointee (CountsT.the-row .written))) l94 0)
-        ∷ ‵ (fdies (tyRef erased mut (pointee (CountsT.the-row .written))) l94)
-        ∷ ‵ (froom (sliceTy (tyRef erased mut (pointee (FactT.the-row .written)))) l93 0)
-        ∷ ‵ (fdies (sliceTy (tyRef erased mut (pointee (FactT.the-row .written)))) l93)
-        ∷ ‵ (froom (tyRef erased mut (pointee (FactT.the-row .written))) l92 0)
-        ∷ ‵ (fdies (tyRef erased mut (pointee (FactT.the-row .written))) l92)
-        ∷ ‵ (froom (sliceTy (tyRef erased mut (tyInt w32))) l91 0)
-        ∷ ‵ (fdies (sliceTy (tyRef erased mut (tyInt w32))) l91)
-        ∷ ‵ (froom (tyRef erased mut (tyInt w32)) l90 0)
-        ∷ ‵ (fdies (tyRef erased mut (tyInt w32)) l90)
-        ∷ ‵ (froom (sliceTy (tyRef erased mut (tyInt w32))) l89 0)
-        ∷ ‵ (fdies (sliceTy (tyRef erased mut (tyInt w32))) l89)
-        ∷ ‵ (froom (tyRef erased mut (tyInt w32)) l88 0)
-        ∷ ‵ (fdies (tyRef erased mut (tyInt w32)) l88)
-        ∷ ‵ (froom (sliceTy (tyRef erased mut (tyInt w64))) l87 0)
-        ∷ ‵ (fdies (sliceTy (tyRef erased mut (tyInt w64))) l87)
-        ∷ ‵ (froom (tyRef erased mut (tyInt w64)) l86 0)
-        ∷ ‵ (fdies (tyRef erased mut (tyInt w64)) l86)
-        ∷ ‵ (froom (sliceTy (tyRef erased mut (tyInt w32))) l85 0)
-        ∷ ‵ (fdies (sliceTy (tyRef erased mut (tyInt w32))) l85)
-        ∷ ‵ (froom (tyRef erased mut (tyInt w32)) l84 0)
-        ∷ ‵ (fdies (tyRef erased mut (tyInt w32)) l84)
-        ∷ ‵ (froom (sliceTy (tyRef erased mut (tyInt w32))) l83 0)
-        ∷ ‵ (fdies (sliceTy (tyRef erased mut (tyInt w32))) l83)
-        ∷ ‵ (froom (tyRef erased mut (tyInt w32)) l82 0)
-        ∷ ‵ (fdies (tyRef erased mut (tyInt w32)) l82)
-        ∷ ‵ (froom (sliceTy (tyRef erased mut (tyInt w32))) l81 0)
-        ∷ ‵ (fdies (sliceTy (tyRef erased mut (tyInt w32))) l81)
-        ∷ ‵ (froom (tyRef erased mut (tyInt w32)) l80 0)
-        ∷ ‵ (fdies (tyRef erased mut (tyInt w32)) l80)
-        ∷ ‵ (froom (sliceTy (tyRef erased mut (tyInt w32))) l79 0)
-        ∷ ‵ (fdies (sliceTy (tyRef erased mut (tyInt w32))) l79)
-        ∷ ‵ (froom (tyRef erased mut (tyInt w32)) l78 0)
-        ∷ ‵ (fdies (tyRef erased mut (tyInt w32)) l78)
-        ∷ ‵ (froom (sliceTy (tyRef erased mut (tyInt w32))) l77 0)
-        ∷ ‵ (fdies (sliceTy (tyRef erased mut (tyInt w32))) l77)
-        ∷ ‵ (froom (tyRef erased mut (tyInt w32)) l76 0)
-        ∷ ‵ (fdies (tyRef erased mut (tyInt w32)) l76)
-        ∷ ‵ (froom (sliceTy (tyRef erased mut (tyInt w32))) l75 0)
-        ∷ ‵ (fdies (sliceTy (tyRef erased mut (tyInt w32))) l75)
-        ∷ ‵ (froom (tyRef erased mut (tyInt w32)) l74 0)
-        ∷ ‵ (fdies (tyRef erased mut (tyInt w32)) l74)
-        ∷ ‵ (froom (sliceTy (tyRef erased mut (tyInt w32))) l73 0)
-        ∷ ‵ (fdies (sliceTy (tyRef erased mut (tyInt w32))) l73)
-        ∷ ‵ (froom (tyRef erased mut (tyInt w32)) l72 0)
-        ∷ ‵ (fdies (tyRef erased mut (tyInt w32)) l72)
-        ∷ ‵ (froom (sliceTy (tyRef erased imm (tyInt w32))) l71 0)
-        ∷ ‵ (fdies (sliceTy (tyRef erased imm (tyInt w32))) l71)
-        ∷ ‵ (froom (tyRef erased imm (tyInt w32)) l70 0)
-        ∷ ‵ (fdies (tyRef erased imm (tyInt w32)) l70)
-        ∷ ‵ (froom (sliceTy (tyRef erased imm (tyInt w32))) l69 0)
-        ∷ ‵ (fdies (sliceTy (tyRef erased imm (tyInt w32))) l69)
-        ∷ ‵ (froom (tyRef erased imm (tyInt w32)) l68 0)
-        ∷ ‵ (fdies (tyRef erased imm (tyInt w32)) l68)
-        ∷ ‵ (froom (sliceTy (tyRef erased imm (tyInt w32))) l67 0)
-        ∷ ‵ (fdies (sliceTy (tyRef erased imm (tyInt w32))) l67)
-        ∷ ‵ (froom (tyRef erased imm (tyInt w32)) l66 0)
-        ∷ ‵ (fdies (tyRef erased imm (tyInt w32)) l66)
-        ∷ ‵ (froom (sliceTy (tyRef erased imm (tyInt w32))) l65 0)
-        ∷ ‵ (fdies (sliceTy (tyRef erased imm (tyInt w32))) l65)
-        ∷ ‵ (froom (tyRef erased imm (tyInt w32)) l64 0)
-        ∷ ‵ (fdies (tyRef erased imm (tyInt w32)) l64)
-        ∷ ‵ (froom (sliceTy (tyRef erased imm (tyInt w32))) l63 0)
-        ∷ ‵ (fdies (sliceTy (tyRef erased imm (tyInt w32))) l63)
-        ∷ ‵ (froom (tyRef erased imm (tyInt w32)) l62 0)
-        ∷ ‵ (fdies (tyRef erased imm (tyInt w32)) l62)
-        ∷ ‵ (froom (sliceTy (tyRef erased imm (tyInt w32))) l61 0)
-        ∷ ‵ (fdies (sliceTy (tyRef erased imm (tyInt w32))) l61)
-        ∷ ‵ (froom (tyRef erased imm (tyInt w32)) l60 0)
-        ∷ ‵ (fdies (tyRef erased imm (tyInt w32)) l60)
-        ∷ ‵ (froom CountsL.mir l59 0)
-        ∷ ‵ (fdies CountsL.mir l59)
-        ∷ ‵ (fat fullShare (sliceTy (tyRef erased mut (tyInt w32))) l58 0 s·cells)
-        ∷ ‵ (fdies (sliceTy (tyRef erased mut (tyInt w32))) l58)
-        ∷ ‵ (fat fullShare (tyRef erased mut (tyInt w32)) l57 0 (vptr b·cells o·cells))
-        ∷ ‵ (fdies (tyRef erased mut (tyInt w32)) l57)
-        ∷ ‵ (fat fullShare (sliceTy (tyRef erased imm (tyInt w64))) l56 0 s·feet)
-        ∷ ‵ (fdies (sliceTy (tyRef erased imm (tyInt w64))) l56)
-        ∷ ‵ (fat fullShare (tyRef erased imm (tyInt w64)) l55 0 (vptr b·feet o·feet))
-        ∷ ‵ (fdies (tyRef erased imm (tyInt w64)) l55)
-        ∷ ‵ (fat fullShare (sliceTy (tyRef erased imm (tyInt w32))) l54 0 s·kept)
-        ∷ ‵ (fdies (sliceTy (tyRef erased imm (tyInt w32))) l54)
-        ∷ ‵ (fat fullShare (tyRef erased imm (tyInt w32)) l53 0 (vptr b·kept o·kept))
-        ∷ ‵ (fdies (tyRef erased imm (tyInt w32)) l53)
-        ∷ ‵ (fat fullShare (sliceTy (tyRef erased mut (tyInt w32))) l52 0 s·missing)
-        ∷ ‵ (fdies (sliceTy (tyRef erased mut (tyInt w32))) l52)
-        ∷ ‵ (fat fullShare (tyRef erased mut (tyInt w32)) l51 0 (vptr b·missing o·missing))
-        ∷ ‵ (fdies (tyRef erased mut (tyInt w32)) l51)
-        ∷ ‵ (fat fullShare (sliceTy (tyRef erased mut (tyInt w32))) l50 0 s·lists)
-        ∷ ‵ (fdies (sliceTy (tyRef erased mut (tyInt w32))) l50)
-        ∷ ‵ (fat fullShare (tyRef erased mut (tyInt w32)) l49 0 (vptr b·lists o·lists))
-        ∷ ‵ (fdies (tyRef erased mut (tyInt w32)) l49)
-        ∷ ‵ (fat fullShare (sliceTy (tyRef erased mut (tyInt w32))) l48 0 s·rows)
-        ∷ ‵ (fdies (sliceTy (tyRef erased mut (tyInt w32))) l48)
-        ∷ ‵ (fat fullShare (tyRef erased mut (tyInt w32)) l47 0 (vptr b·rows o·rows))
-        ∷ ‵ (fdies (tyRef erased mut (tyInt w32)) l47)
-        ∷ ‵ (fat fullShare (sliceTy (tyRef erased mut (tyInt w32))) l46 0 s·defs)
-        ∷ ‵ (fdies (sliceTy (tyRef erased mut (tyInt w32))) l46)
-        ∷ ‵ (fat fullShare (tyRef erased mut (tyInt w32)) l45 0 (vptr b·defs o·defs))
-        ∷ ‵ (fdies (tyRef erased mut (tyInt w32)) l45)
-        ∷ ‵ (fat fullShare (sliceTy (tyRef erased mut (tyInt w32))) l44 0 s·words)
-        ∷ ‵ (fdies (sliceTy (tyRef erased mut (tyInt w32))) l44)
-        ∷ ‵ (fat fullShare (tyRef erased mut (tyInt w32)) l43 0 (vptr b·words o·words))
-        ∷ ‵ (fdies (tyRef erased mut (tyInt w32)) l43)
-        ∷ ‵ (fat fullShare (sliceTy (tyRef erased mut (tyInt w32))) l42 0 s·index)
-        ∷ ‵ (fdies (sliceTy (tyRef erased mut (tyInt w32))) l42)
-        ∷ ‵ (fat fullShare (tyRef erased mut (tyInt w32)) l41 0 (vptr b·index o·index))
-        ∷ ‵ (fdies (tyRef erased mut (tyInt w32)) l41)
-        ∷ ‵ (fat fullShare (sliceTy (tyRef erased mut (tyInt w32))) l40 0 s·vars)
-        ∷ ‵ (fdies (sliceTy (tyRef erased mut (tyInt w32))) l40)
-        ∷ ‵ (fat fullShare (tyRef erased mut (tyInt w32)) l39 0 (vptr b·vars o·vars))
-        ∷ ‵ (fdies (tyRef erased mut (tyInt w32)) l39)
-        ∷ ‵ (fat fullShare (sliceTy (tyRef erased mut (tyInt w32))) l38 0 s·patterns)
-        ∷ ‵ (fdies (sliceTy (tyRef erased mut (tyInt w32))) l38)
-        ∷ ‵ (fat fullShare (tyRef erased mut (tyInt w32)) l37 0 (vptr b·patterns o·patterns))
-        ∷ ‵ (fdies (tyRef erased mut (tyInt w32)) l37)
-        ∷ ‵ (fat fullShare (sliceTy (tyRef erased mut (tyInt w32))) l36 0 s·rulevars)
-        ∷ ‵ (fdies (sliceTy (tyRef erased mut (tyInt w32))) l36)
-        ∷ ‵ (fat fullShare (tyRef erased mut (tyInt w32)) l35 0 (vptr b·rulevars o·rulevars))
-        ∷ ‵ (fdies (tyRef erased mut (tyInt w32)) l35)
-        ∷ ‵ (fat fullShare (sliceTy (tyRef erased mut (tyInt w32))) l34 0 s·rules)
-        ∷ ‵ (fdies (sliceTy (tyRef erased mut (tyInt w32))) l34)
-        ∷ ‵ (fat fullShare (tyRef erased mut (tyInt w32)) l33 0 (vptr b·rules o·rules))
-        ∷ ‵ (fdies (tyRef erased mut (tyInt w32)) l33)
-        ∷ ‵ (fat fullShare (sliceTy (tyRef erased mut (tyInt w32))) l32 0 s·inputs)
-        ∷ ‵ (fdies (sliceTy (tyRef erased mut (tyInt w32))) l32)
-        ∷ ‵ (fat fullShare (tyRef erased mut (tyInt w32)) l31 0 (vptr b·inputs o·inputs))
-        ∷ ‵ (fdies (tyRef erased mut (tyInt w32)) l31)
-        ∷ ‵ (fat fullShare (sliceTy (tyRef erased mut (tyInt w32))) l30 0 s·symbols)
-        ∷ ‵ (fdies (sliceTy (tyRef erased mut (tyInt w32))) l30)
-        ∷ ‵ (fat fullShare (tyRef erased mut (tyInt w32)) l29 0 (vptr b·symbols o·symbols))
-        ∷ ‵ (fdies (tyRef erased mut (tyInt w32)) l29)
-        ∷ ‵ (fat fullShare (sliceTy (tyRef erased mut (tyInt w32))) l28 0 s·sorts)
-        ∷ ‵ (fdies (sliceTy (tyRef erased mut (tyInt w32))) l28)
-        ∷ ‵ (fat fullShare (tyRef erased mut (tyInt w32)) l27 0 (vptr b·sorts o·sorts))
-        ∷ ‵ (fdies (tyRef erased mut (tyInt w32)) l27)
-        ∷ ‵ (froom AnswerL.mir l26 0)
-        ∷ ‵ (fdies AnswerL.mir l26)
-        ∷ ‵ (froom RunL.mir l25 0)
-        ∷ ‵ (fdies RunL.mir l25)
-        ∷ ‵ (froom CountsL.mir l24 0)
-        ∷ ‵ (fdies CountsL.mir l24)
-        ∷ ‵ (fat fullShare RunL.mir l23 0 v1)
-        ∷ ‵ (fdies RunL.mir l23)
-        ∷ ‵ (fat fullShare (tyInt w64) l22 0 (vint w64 (length facts)))
-        ∷ ‵ (fdies (tyInt w64) l22)
+        ∷ ‵ (froom (tyInt w64) l110 0)
+        ∷ ‵ (fdies (tyInt w64) l110)
+        ∷ ‵ (froom (tyInt w64) l109 0)
+        ∷ ‵ (fdies (tyInt w64) l109)
+        ∷ ‵ (froom (sliceTy (tyRef erased mut (pointee (FactT.the-row .written)))) l108 0)
+        ∷ ‵ (fdies (sliceTy (tyRef erased mut (pointee (FactT.the-row .written)))) l108)
+        ∷ ‵ (froom (tyRef erased mut (pointee (FactT.the-row .written))) l107 0)
+        ∷ ‵ (fdies (tyRef erased mut (pointee (FactT.the-row .written))) l107)
+        ∷ ‵ (froom tyUnit l106 0)
+        ∷ ‵ (fdies tyUnit l106)
+        ∷ ‵ (froom (sliceTy (tyRef erased mut (tyInt w32))) l105 0)
+        ∷ ‵ (fdies (sliceTy (tyRef erased mut (tyInt w32))) l105)
+        ∷ ‵ (froom (tyRef erased mut (tyInt w32)) l104 0)
+        ∷ ‵ (fdies (tyRef erased mut (tyInt w32)) l104)
+        ∷ ‵ (froom (sliceTy (tyRef erased imm (tyInt w32))) l103 0)
+        ∷ ‵ (fdies (sliceTy (tyRef erased imm (tyInt w32))) l103)
+        ∷ ‵ (froom (tyRef erased imm (tyInt w32)) l102 0)
+        ∷ ‵ (fdies (tyRef erased imm (tyInt w32)) l102)
+        ∷ ‵ (froom (sliceTy (tyRef erased imm (tyInt w32))) l101 0)
+        ∷ ‵ (fdies (sliceTy (tyRef erased imm (tyInt w32))) l101)
+        ∷ ‵ (froom (tyRef erased imm (tyInt w32)) l100 0)
+        ∷ ‵ (fdies (tyRef erased imm (tyInt w32)) l100)
+        ∷ ‵ (froom (sliceTy (tyRef erased mut (tyInt w32))) l99 0)
+        ∷ ‵ (fdies (sliceTy (tyRef erased mut (tyInt w32))) l99)
+        ∷ ‵ (froom (tyRef erased mut (tyInt w32)) l98 0)
+        ∷ ‵ (fdies (tyRef erased mut (tyInt w32)) l98)
+        ∷ ‵ (froom (tyRef erased mut (pointee (CountsT.the-row .written))) l97 0)
+        ∷ ‵ (fdies (tyRef erased mut (pointee (CountsT.the-row .written))) l97)
+        ∷ ‵ (froom (sliceTy (tyRef erased mut (pointee (FactT.the-row .written)))) l96 0)
+        ∷ ‵ (fdies (sliceTy (tyRef erased mut (pointee (FactT.the-row .written)))) l96)
+        ∷ ‵ (froom (tyRef erased mut (pointee (FactT.the-row .written))) l95 0)
+        ∷ ‵ (fdies (tyRef erased mut (pointee (FactT.the-row .written))) l95)
+        ∷ ‵ (froom (sliceTy (tyRef erased mut (tyInt w32))) l94 0)
+        ∷ ‵ (fdies (sliceTy (tyRef erased mut (tyInt w32))) l94)
+        ∷ ‵ (froom (tyRef erased mut (tyInt w32)) l93 0)
+        ∷ ‵ (fdies (tyRef erased mut (tyInt w32)) l93)
+        ∷ ‵ (froom (sliceTy (tyRef erased mut (tyInt w32))) l92 0)
+        ∷ ‵ (fdies (sliceTy (tyRef erased mut (tyInt w32))) l92)
+        ∷ ‵ (froom (tyRef erased mut (tyInt w32)) l91 0)
+        ∷ ‵ (fdies (tyRef erased mut (tyInt w32)) l91)
+        ∷ ‵ (froom (sliceTy (tyRef erased mut (tyInt w32))) l90 0)
+        ∷ ‵ (fdies (sliceTy (tyRef erased mut (tyInt w32))) l90)
+        ∷ ‵ (froom (tyRef erased mut (tyInt w32)) l89 0)
+        ∷ ‵ (fdies (tyRef erased mut (tyInt w32)) l89)
+        ∷ ‵ (froom (sliceTy (tyRef erased mut (tyInt w64))) l88 0)
+        ∷ ‵ (fdies (sliceTy (tyRef erased mut (tyInt w64))) l88)
+        ∷ ‵ (froom (tyRef erased mut (tyInt w64)) l87 0)
+        ∷ ‵ (fdies (tyRef erased mut (tyInt w64)) l87)
+        ∷ ‵ (froom (sliceTy (tyRef erased mut (tyInt w32))) l86 0)
+        ∷ ‵ (fdies (sliceTy (tyRef erased mut (tyInt w32))) l86)
+        ∷ ‵ (froom (tyRef erased mut (tyInt w32)) l85 0)
+        ∷ ‵ (fdies (tyRef erased mut (tyInt w32)) l85)
+        ∷ ‵ (froom (sliceTy (tyRef erased mut (tyInt w32))) l84 0)
+        ∷ ‵ (fdies (sliceTy (tyRef erased mut (tyInt w32))) l84)
+        ∷ ‵ (froom (tyRef erased mut (tyInt w32)) l83 0)
+        ∷ ‵ (fdies (tyRef erased mut (tyInt w32)) l83)
+        ∷ ‵ (froom (sliceTy (tyRef erased mut (tyInt w32))) l82 0)
+        ∷ ‵ (fdies (sliceTy (tyRef erased mut (tyInt w32))) l82)
+        ∷ ‵ (froom (tyRef erased mut (tyInt w32)) l81 0)
+        ∷ ‵ (fdies (tyRef erased mut (tyInt w32)) l81)
+        ∷ ‵ (froom (sliceTy (tyRef erased mut (tyInt w32))) l80 0)
+        ∷ ‵ (fdies (sliceTy (tyRef erased mut (tyInt w32))) l80)
+        ∷ ‵ (froom (tyRef erased mut (tyInt w32)) l79 0)
+        ∷ ‵ (fdies (tyRef erased mut (tyInt w32)) l79)
+        ∷ ‵ (froom (sliceTy (tyRef erased mut (tyInt w32))) l78 0)
+        ∷ ‵ (fdies (sliceTy (tyRef erased mut (tyInt w32))) l78)
+        ∷ ‵ (froom (tyRef erased mut (tyInt w32)) l77 0)
+        ∷ ‵ (fdies (tyRef erased mut (tyInt w32)) l77)
+        ∷ ‵ (froom (sliceTy (tyRef erased mut (tyInt w32))) l76 0)
+        ∷ ‵ (fdies (sliceTy (tyRef erased mut (tyInt w32))) l76)
+        ∷ ‵ (froom (tyRef erased mut (tyInt w32)) l75 0)
+        ∷ ‵ (fdies (tyRef erased mut (tyInt w32)) l75)
+        ∷ ‵ (froom (sliceTy (tyRef erased mut (tyInt w32))) l74 0)
+        ∷ ‵ (fdies (sliceTy (tyRef erased mut (tyInt w32))) l74)
+        ∷ ‵ (froom (tyRef erased mut (tyInt w32)) l73 0)
+        ∷ ‵ (fdies (tyRef erased mut (tyInt w32)) l73)
+        ∷ ‵ (froom (sliceTy (tyRef erased imm (tyInt w32))) l72 0)
+        ∷ ‵ (fdies (sliceTy (tyRef erased imm (tyInt w32))) l72)
+        ∷ ‵ (froom (tyRef erased imm (tyInt w32)) l71 0)
+        ∷ ‵ (fdies (tyRef erased imm (tyInt w32)) l71)
+        ∷ ‵ (froom (sliceTy (tyRef erased imm (tyInt w32))) l70 0)
+        ∷ ‵ (fdies (sliceTy (tyRef erased imm (tyInt w32))) l70)
+        ∷ ‵ (froom (tyRef erased imm (tyInt w32)) l69 0)
+        ∷ ‵ (fdies (tyRef erased imm (tyInt w32)) l69)
+        ∷ ‵ (froom (sliceTy (tyRef erased imm (tyInt w32))) l68 0)
+        ∷ ‵ (fdies (sliceTy (tyRef erased imm (tyInt w32))) l68)
+        ∷ ‵ (froom (tyRef erased imm (tyInt w32)) l67 0)
+        ∷ ‵ (fdies (tyRef erased imm (tyInt w32)) l67)
+        ∷ ‵ (froom (sliceTy (tyRef erased imm (tyInt w32))) l66 0)
+        ∷ ‵ (fdies (sliceTy (tyRef erased imm (tyInt w32))) l66)
+        ∷ ‵ (froom (tyRef erased imm (tyInt w32)) l65 0)
+        ∷ ‵ (fdies (tyRef erased imm (tyInt w32)) l65)
+        ∷ ‵ (froom (sliceTy (tyRef erased imm (tyInt w32))) l64 0)
+        ∷ ‵ (fdies (sliceTy (tyRef erased imm (tyInt w32))) l64)
+        ∷ ‵ (froom (tyRef erased imm (tyInt w32)) l63 0)
+        ∷ ‵ (fdies (tyRef erased imm (tyInt w32)) l63)
+        ∷ ‵ (froom (sliceTy (tyRef erased imm (tyInt w32))) l62 0)
+        ∷ ‵ (fdies (sliceTy (tyRef erased imm (tyInt w32))) l62)
+        ∷ ‵ (froom (tyRef erased imm (tyInt w32)) l61 0)
+        ∷ ‵ (fdies (tyRef erased imm (tyInt w32)) l61)
+        ∷ ‵ (froom CountsL.mir l60 0)
+        ∷ ‵ (fdies CountsL.mir l60)
+        ∷ ‵ (fat fullShare (sliceTy (tyRef erased mut (tyInt w32))) l59 0 s·cells)
+        ∷ ‵ (fdies (sliceTy (tyRef erased mut (tyInt w32))) l59)
+        ∷ ‵ (fat fullShare (tyRef erased mut (tyInt w32)) l58 0 (vptr b·cells o·cells))
+        ∷ ‵ (fdies (tyRef erased mut (tyInt w32)) l58)
+        ∷ ‵ (fat fullShare (sliceTy (tyRef erased imm (tyInt w64))) l57 0 s·feet)
+        ∷ ‵ (fdies (sliceTy (tyRef erased imm (tyInt w64))) l57)
+        ∷ ‵ (fat fullShare (tyRef erased imm (tyInt w64)) l56 0 (vptr b·feet o·feet))
+        ∷ ‵ (fdies (tyRef erased imm (tyInt w64)) l56)
+        ∷ ‵ (fat fullShare (sliceTy (tyRef erased imm (tyInt w32))) l55 0 s·kept)
+        ∷ ‵ (fdies (sliceTy (tyRef erased imm (tyInt w32))) l55)
+        ∷ ‵ (fat fullShare (tyRef erased imm (tyInt w32)) l54 0 (vptr b·kept o·kept))
+        ∷ ‵ (fdies (tyRef erased imm (tyInt w32)) l54)
+        ∷ ‵ (fat fullShare (sliceTy (tyRef erased mut (tyInt w32))) l53 0 s·missing)
+        ∷ ‵ (fdies (sliceTy (tyRef erased mut (tyInt w32))) l53)
+        ∷ ‵ (fat fullShare (tyRef erased mut (tyInt w32)) l52 0 (vptr b·missing o·missing))
+        ∷ ‵ (fdies (tyRef erased mut (tyInt w32)) l52)
+        ∷ ‵ (fat fullShare (sliceTy (tyRef erased mut (tyInt w32))) l51 0 s·lists)
+        ∷ ‵ (fdies (sliceTy (tyRef erased mut (tyInt w32))) l51)
+        ∷ ‵ (fat fullShare (tyRef erased mut (tyInt w32)) l50 0 (vptr b·lists o·lists))
+        ∷ ‵ (fdies (tyRef erased mut (tyInt w32)) l50)
+        ∷ ‵ (fat fullShare (sliceTy (tyRef erased mut (tyInt w32))) l49 0 s·rows)
+        ∷ ‵ (fdies (sliceTy (tyRef erased mut (tyInt w32))) l49)
+        ∷ ‵ (fat fullShare (tyRef erased mut (tyInt w32)) l48 0 (vptr b·rows o·rows))
+        ∷ ‵ (fdies (tyRef erased mut (tyInt w32)) l48)
+        ∷ ‵ (fat fullShare (sliceTy (tyRef erased mut (tyInt w32))) l47 0 s·defs)
+        ∷ ‵ (fdies (sliceTy (tyRef erased mut (tyInt w32))) l47)
+        ∷ ‵ (fat fullShare (tyRef erased mut (tyInt w32)) l46 0 (vptr b·defs o·defs))
+        ∷ ‵ (fdies (tyRef erased mut (tyInt w32)) l46)
+        ∷ ‵ (fat fullShare (sliceTy (tyRef erased mut (tyInt w32))) l45 0 s·words)
+        ∷ ‵ (fdies (sliceTy (tyRef erased mut (tyInt w32))) l45)
+        ∷ ‵ (fat fullShare (tyRef erased mut (tyInt w32)) l44 0 (vptr b·words o·words))
+        ∷ ‵ (fdies (tyRef erased mut (tyInt w32)) l44)
+        ∷ ‵ (fat fullShare (sliceTy (tyRef erased mut (tyInt w32))) l43 0 s·index)
+        ∷ ‵ (fdies (sliceTy (tyRef erased mut (tyInt w32))) l43)
+        ∷ ‵ (fat fullShare (tyRef erased mut (tyInt w32)) l42 0 (vptr b·index o·index))
+        ∷ ‵ (fdies (tyRef erased mut (tyInt w32)) l42)
+        ∷ ‵ (fat fullShare (sliceTy (tyRef erased mut (tyInt w32))) l41 0 s·vars)
+        ∷ ‵ (fdies (sliceTy (tyRef erased mut (tyInt w32))) l41)
+        ∷ ‵ (fat fullShare (tyRef erased mut (tyInt w32)) l40 0 (vptr b·vars o·vars))
+        ∷ ‵ (fdies (tyRef erased mut (tyInt w32)) l40)
+        ∷ ‵ (fat fullShare (sliceTy (tyRef erased mut (tyInt w32))) l39 0 s·patterns)
+        ∷ ‵ (fdies (sliceTy (tyRef erased mut (tyInt w32))) l39)
+        ∷ ‵ (fat fullShare (tyRef erased mut (tyInt w32)) l38 0 (vptr b·patterns o·patterns))
+        ∷ ‵ (fdies (tyRef erased mut (tyInt w32)) l38)
+        ∷ ‵ (fat fullShare (sliceTy (tyRef erased mut (tyInt w32))) l37 0 s·rulevars)
+        ∷ ‵ (fdies (sliceTy (tyRef erased mut (tyInt w32))) l37)
+        ∷ ‵ (fat fullShare (tyRef erased mut (tyInt w32)) l36 0 (vptr b·rulevars o·rulevars))
+        ∷ ‵ (fdies (tyRef erased mut (tyInt w32)) l36)
+        ∷ ‵ (fat fullShare (sliceTy (tyRef erased mut (tyInt w32))) l35 0 s·rules)
+        ∷ ‵ (fdies (sliceTy (tyRef erased mut (tyInt w32))) l35)
+        ∷ ‵ (fat fullShare (tyRef erased mut (tyInt w32)) l34 0 (vptr b·rules o·rules))
+        ∷ ‵ (fdies (tyRef erased mut (tyInt w32)) l34)
+        ∷ ‵ (fat fullShare (sliceTy (tyRef erased mut (tyInt w32))) l33 0 s·inputs)
+        ∷ ‵ (fdies (sliceTy (tyRef erased mut (tyInt w32))) l33)
+        ∷ ‵ (fat fullShare (tyRef erased mut (tyInt w32)) l32 0 (vptr b·inputs o·inputs))
+        ∷ ‵ (fdies (tyRef erased mut (tyInt w32)) l32)
+        ∷ ‵ (fat fullShare (sliceTy (tyRef erased mut (tyInt w32))) l31 0 s·symbols)
+        ∷ ‵ (fdies (sliceTy (tyRef erased mut (tyInt w32))) l31)
+        ∷ ‵ (fat fullShare (tyRef erased mut (tyInt w32)) l30 0 (vptr b·symbols o·symbols))
+        ∷ ‵ (fdies (tyRef erased mut (tyInt w32)) l30)
+        ∷ ‵ (fat fullShare (sliceTy (tyRef erased mut (tyInt w32))) l29 0 s·sorts)
+        ∷ ‵ (fdies (sliceTy (tyRef erased mut (tyInt w32))) l29)
+        ∷ ‵ (fat fullShare (tyRef erased mut (tyInt w32)) l28 0 (vptr b·sorts o·sorts))
+        ∷ ‵ (fdies (tyRef erased mut (tyInt w32)) l28)
+        ∷ ‵ (froom AnswerL.mir l27 0)
+        ∷ ‵ (fdies AnswerL.mir l27)
+        ∷ ‵ (froom RunL.mir l26 0)
+        ∷ ‵ (fdies RunL.mir l26)
+        ∷ ‵ (froom CountsL.mir l25 0)
+        ∷ ‵ (fdies CountsL.mir l25)
+        ∷ ‵ (fat fullShare RunL.mir l24 0 v1)
+        ∷ ‵ (fdies RunL.mir l24)
+        ∷ ‵ (fat fullShare (tyInt w64) l23 0 (vint w64 (length facts)))
+        ∷ ‵ (fdies (tyInt w64) l23)
+        ∷ ‵ (fat fullShare (sliceTy (tyRef (named 21) mut (tyInt w32))) l22 0 s·memo)
+        ∷ ‵ (fdies (sliceTy (tyRef (named 21) mut (tyInt w32))) l22)
         ∷ ‵ (fat fullShare (sliceTy (tyRef (named 20) mut (tyInt w32))) l21 0 s·ids)
         ∷ ‵ (fdies (sliceTy (tyRef (named 20) mut (tyInt w32))) l21)
         ∷ ‵ (fat fullShare (sliceTy (tyRef (named 19) mut (tyInt w32))) l20 0 s·cells)
@@ -6625,17 +6894,17 @@ module _ {M : Type 1} (𝓤 : URA M) (H : Heap 𝓤) (A : Atoms 𝓤) (W : Given
         (runs C Λ (En l0 l1 l2 l3 l4 l5 l6 l7 l8 l9 l10 l11 l12 l13 l14 l15 l16 l17 l18 l19 l20 l21 l22 l23 l24 l25 l26 l27 l28 l29 l30 l31 l32 l33
         l34 l35 l36 l37 l38 l39 l40 l41 l42 l43 l44 l45 l46 l47 l48 l49 l50 l51 l52 l53 l54 l55 l56 l57 l58 l59 l60 l61 l62 l63 l64 l65 l66 l67 l68
         l69 l70 l71 l72 l73 l74 l75 l76 l77 l78 l79 l80 l81 l82 l83 l84 l85 l86 l87 l88 l89 l90 l91 l92 l93 l94 l95 l96 l97 l98 l99 l100 l101 l102
-        l103 l104 l105 l106 l107) pieces.t-35 (atRet (En l0 l1 l2 l3 l4 l5 l6 l7 l8 l9 l10 l11 l12 l13 l14 l15 l16 l17 l18 l19 l20 l21 l22 l23 l24 l25
-        l26 l27 l28 l29 l30 l31 l32 l33 l34 l35 l36 l37 l38 l39 l40 l41 l42 l43 l44 l45 l46 l47 l48 l49 l50 l51 l52 l53 l54 l55 l56 l57 l58 l59 l60
-        l61 l62 l63 l64 l65 l66 l67 l68 l69 l70 l71 l72 l73 l74 l75 l76 l77 l78 l79 l80 l81 l82 l83 l84 l85 l86 l87 l88 l89 l90 l91 l92 l93 l94 l95
-        l96 l97 l98 l99 l100 l101 l102 l103 l104 l105 l106 l107) Post))
+        l103 l104 l105 l106 l107 l108 l109 l110) pieces.t-35 (atRet (En l0 l1 l2 l3 l4 l5 l6 l7 l8 l9 l10 l11 l12 l13 l14 l15 l16 l17 l18 l19 l20 l21
+        l22 l23 l24 l25 l26 l27 l28 l29 l30 l31 l32 l33 l34 l35 l36 l37 l38 l39 l40 l41 l42 l43 l44 l45 l46 l47 l48 l49 l50 l51 l52 l53 l54 l55 l56
+        l57 l58 l59 l60 l61 l62 l63 l64 l65 l66 l67 l68 l69 l70 l71 l72 l73 l74 l75 l76 l77 l78 l79 l80 l81 l82 l83 l84 l85 l86 l87 l88 l89 l90 l91
+        l92 l93 l94 l95 l96 l97 l98 l99 l100 l101 l102 l103 l104 l105 l106 l107 l108 l109 l110) Post))
     seg·5 l0 l1 l2 l3 l4 l5 l6 l7 l8 l9 l10 l11 l12 l13 l14 l15 l16 l17 l18 l19 l20 l21 l22 l23 l24 l25 l26 l27 l28 l29 l30 l31 l32 l33 l34 l35 l36
         l37 l38 l39 l40 l41 l42 l43 l44 l45 l46 l47 l48 l49 l50 l51 l52 l53 l54 l55 l56 l57 l58 l59 l60 l61 l62 l63 l64 l65 l66 l67 l68 l69 l70 l71
         l72 l73 l74 l75 l76 l77 l78 l79 l80 l81 l82 l83 l84 l85 l86 l87 l88 l89 l90 l91 l92 l93 l94 l95 l96 l97 l98 l99 l100 l101 l102 l103 l104
-        l105 l106 l107 ν·1·3 δ·1·3 ν·1·4 δ·1·4 ν·1·5 δ·1·5 ν·1·6 δ·1·6 ν·1·7 δ·1·7 ν·1·8 δ·1·8 ν·1·9 δ·1·9 ν·1·10 δ·1·10 ν·1·11 δ·1·11 ν·1·12
-        δ·1·12 ν·1·13 δ·1·13 ν·1·14 δ·1·14 ν·1·15 δ·1·15 ν·1·16 δ·1·16 ν·1·17 δ·1·17 ν·1·18 δ·1·18 v1 r1 ws1 e1·0 e1·1 len·1·sorts
-        len·1·symbols len·1·inputs len·1·rules len·1·rulevars len·1·patterns len·1·vars len·1·index len·1·words len·1·defs len·1·rows
-        len·1·lists len·1·missing len·1·cells is1 =
+        l105 l106 l107 l108 l109 l110 ν·1·3 δ·1·3 ν·1·4 δ·1·4 ν·1·5 δ·1·5 ν·1·6 δ·1·6 ν·1·7 δ·1·7 ν·1·8 δ·1·8 ν·1·9 δ·1·9 ν·1·10 δ·1·10 ν·1·11
+        δ·1·11 ν·1·12 δ·1·12 ν·1·13 δ·1·13 ν·1·14 δ·1·14 ν·1·15 δ·1·15 ν·1·16 δ·1·16 ν·1·17 δ·1·17 ν·1·18 δ·1·18 v1 r1 ws1 e1·0 e1·1
+        len·1·sorts len·1·symbols len·1·inputs len·1·rules len·1·rulevars len·1·patterns len·1·vars len·1·index len·1·words len·1·defs
+        len·1·rows len·1·lists len·1·missing len·1·cells is1 =
         move ! (23 ∷ []) $
         lft-end ! tt $
         move ! (0 ∷ 40 ∷ 32 ∷ []) $
@@ -6689,9 +6958,10 @@ module _ {M : Type 1} (𝓤 : URA M) (H : Heap 𝓤) (A : Atoms 𝓤) (W : Given
         seg·6 l0 l1 l2 l3 l4 l5 l6 l7 l8 l9 l10 l11 l12 l13 l14 l15 l16 l17 l18 l19 l20 l21 l22 l23 l24 l25 l26 l27 l28 l29 l30 l31 l32 l33 l34 l35
         l36 l37 l38 l39 l40 l41 l42 l43 l44 l45 l46 l47 l48 l49 l50 l51 l52 l53 l54 l55 l56 l57 l58 l59 l60 l61 l62 l63 l64 l65 l66 l67 l68 l69 l70
         l71 l72 l73 l74 l75 l76 l77 l78 l79 l80 l81 l82 l83 l84 l85 l86 l87 l88 l89 l90 l91 l92 l93 l94 l95 l96 l97 l98 l99 l100 l101 l102 l103 l104
-        l105 l106 l107 ν·1·3 δ·1·3 ν·1·4 δ·1·4 ν·1·5 δ·1·5 ν·1·6 δ·1·6 ν·1·7 δ·1·7 ν·1·8 δ·1·8 ν·1·9 δ·1·9 ν·1·10 δ·1·10 ν·1·11 δ·1·11 ν·1·12 δ·1·12
-        ν·1·13 δ·1·13 ν·1·14 δ·1·14 ν·1·15 δ·1·15 ν·1·16 δ·1·16 ν·1·17 δ·1·17 ν·1·18 δ·1·18 v1 r1 ws1 e1·0 e1·1 len·1·sorts len·1·symbols len·1·inputs
-        len·1·rules len·1·rulevars len·1·patterns len·1·vars len·1·index len·1·words len·1·defs len·1·rows len·1·lists len·1·missing len·1·cells is1
+        l105 l106 l107 l108 l109 l110 ν·1·3 δ·1·3 ν·1·4 δ·1·4 ν·1·5 δ·1·5 ν·1·6 δ·1·6 ν·1·7 δ·1·7 ν·1·8 δ·1·8 ν·1·9 δ·1·9 ν·1·10 δ·1·10 ν·1·11 δ·1·11
+        ν·1·12 δ·1·12 ν·1·13 δ·1·13 ν·1·14 δ·1·14 ν·1·15 δ·1·15 ν·1·16 δ·1·16 ν·1·17 δ·1·17 ν·1·18 δ·1·18 v1 r1 ws1 e1·0 e1·1 len·1·sorts
+        len·1·symbols len·1·inputs len·1·rules len·1·rulevars len·1·patterns len·1·vars len·1·index len·1·words len·1·defs len·1·rows len·1·lists
+        len·1·missing len·1·cells is1
 
     seg·4 : (l0 : ℕ) (l1 : ℕ) (l2 : ℕ) (l3 : ℕ) (l4 : ℕ) (l5 : ℕ) (l6 : ℕ) (l7 : ℕ) (l8 : ℕ) (l9 : ℕ) (l10 : ℕ) (l11 : ℕ) (l12 : ℕ) (l13 : ℕ)
         (l14 : ℕ) (l15 : ℕ) (l16 : ℕ) (l17 : ℕ) (l18 : ℕ) (l19 : ℕ) (l20 : ℕ) (l21 : ℕ) (l22 : ℕ) (l23 : ℕ) (l24 : ℕ) (l25 : ℕ) (l26 : ℕ) (l27 : ℕ)
@@ -6700,14 +6970,14 @@ module _ {M : Type 1} (𝓤 : URA M) (H : Heap 𝓤) (A : Atoms 𝓤) (W : Given
         (l56 : ℕ) (l57 : ℕ) (l58 : ℕ) (l59 : ℕ) (l60 : ℕ) (l61 : ℕ) (l62 : ℕ) (l63 : ℕ) (l64 : ℕ) (l65 : ℕ) (l66 : ℕ) (l67 : ℕ) (l68 : ℕ) (l69 : ℕ)
         (l70 : ℕ) (l71 : ℕ) (l72 : ℕ) (l73 : ℕ) (l74 : ℕ) (l75 : ℕ) (l76 : ℕ) (l77 : ℕ) (l78 : ℕ) (l79 : ℕ) (l80 : ℕ) (l81 : ℕ) (l82 : ℕ) (l83 : ℕ)
         (l84 : ℕ) (l85 : ℕ) (l86 : ℕ) (l87 : ℕ) (l88 : ℕ) (l89 : ℕ) (l90 : ℕ) (l91 : ℕ) (l92 : ℕ) (l93 : ℕ) (l94 : ℕ) (l95 : ℕ) (l96 : ℕ) (l97 : ℕ)
-        (l98 : ℕ) (l99 : ℕ) (l100 : ℕ) (l101 : ℕ) (l102 : ℕ) (l103 : ℕ) (l104 : ℕ) (l105 : ℕ) (l106 : ℕ) (l107 : ℕ) (ν·1·3 : ℕ) (δ·1·3 : GName)
-        (ν·1·4 : ℕ) (δ·1·4 : GName) (ν·1·5 : ℕ) (δ·1·5 : GName) (ν·1·6 : ℕ) (δ·1·6 : GName) (ν·1·7 : ℕ) (δ·1·7 : GName) (ν·1·8 : ℕ) (δ·1·8 : GName)
-        (ν·1·9 : ℕ) (δ·1·9 : GName) (ν·1·10 : ℕ) (δ·1·10 : GName) (ν·1·11 : ℕ) (δ·1·11 : GName) (ν·1·12 : ℕ) (δ·1·12 : GName) (ν·1·13 : ℕ)
-        (δ·1·13 : GName) (ν·1·14 : ℕ) (δ·1·14 : GName) (ν·1·15 : ℕ) (δ·1·15 : GName) (ν·1·16 : ℕ) (δ·1·16 : GName) (ν·1·17 : ℕ) (δ·1·17 : GName)
-        (ν·1·18 : ℕ) (δ·1·18 : GName) (v1 : Val) (r1 : Run) (ws1 : (Unit {0} ×
-        (Unit {0} × (Unit {0} × ((List ℕ) × ((List ℕ) × ((List ℕ) × ((List ℕ) ×
+        (l98 : ℕ) (l99 : ℕ) (l100 : ℕ) (l101 : ℕ) (l102 : ℕ) (l103 : ℕ) (l104 : ℕ) (l105 : ℕ) (l106 : ℕ) (l107 : ℕ) (l108 : ℕ) (l109 : ℕ) (l110 : ℕ)
+        (ν·1·3 : ℕ) (δ·1·3 : GName) (ν·1·4 : ℕ) (δ·1·4 : GName) (ν·1·5 : ℕ) (δ·1·5 : GName) (ν·1·6 : ℕ) (δ·1·6 : GName) (ν·1·7 : ℕ) (δ·1·7 : GName)
+        (ν·1·8 : ℕ) (δ·1·8 : GName) (ν·1·9 : ℕ) (δ·1·9 : GName) (ν·1·10 : ℕ) (δ·1·10 : GName) (ν·1·11 : ℕ) (δ·1·11 : GName) (ν·1·12 : ℕ)
+        (δ·1·12 : GName) (ν·1·13 : ℕ) (δ·1·13 : GName) (ν·1·14 : ℕ) (δ·1·14 : GName) (ν·1·15 : ℕ) (δ·1·15 : GName) (ν·1·16 : ℕ) (δ·1·16 : GName)
+        (ν·1·17 : ℕ) (δ·1·17 : GName) (ν·1·18 : ℕ) (δ·1·18 : GName) (v1 : Val) (r1 : Run)
+        (ws1 : (Unit {0} × (Unit {0} × (Unit {0} × ((List ℕ) × ((List ℕ) × ((List ℕ) ×
         ((List ℕ) × ((List ℕ) × ((List ℕ) × ((List ℕ) × ((List ℕ) × ((List ℕ) ×
-        ((List ℕ) × ((List ℕ) × ((List ℕ) × (Unit {0} × (Unit {0} × ((List ℕ) × (Unit {0} × Unit {0})))))))))))))))))))))
+        ((List ℕ) × ((List ℕ) × ((List ℕ) × ((List ℕ) × (Unit {0} × (Unit {0} × ((List ℕ) × (Unit {0} × Unit {0})))))))))))))))))))))
         (e1·0 : Begun theory goals proof (length facts) (theoryLists sorts symbols inputs rules rulevars patterns)
         (theoryLists (ws1 .1 .1 .1 .0) (ws1 .1 .1 .1 .1 .0) (ws1 .1 .1 .1 .1 .1 .0) (ws1 .1 .1 .1 .1 .1 .1 .0) (ws1 .1 .1 .1 .1 .1 .1 .1 .0)
         (ws1 .1 .1 .1 .1 .1 .1 .1 .1 .0)) (working vars index words defs rows lists)
@@ -6778,182 +7048,190 @@ module _ {M : Type 1} (𝓤 : URA M) (H : Heap 𝓤) (A : Atoms 𝓤) (W : Given
         ∷ ‵ (ShrSlice (named 2) κ·proof u8 .own (ref·proof γ·proof proof) (s·proof ∷ []))
         ∷ ‵ (ShrSlice (named 1) κ·goals u8 .own (ref·goals γ·goals goals) (s·goals ∷ []))
         ∷ ‵ (ShrSlice (named 0) κ·theory u8 .own (ref·theory γ·theory theory) (s·theory ∷ []))
+        ∷ ‵ (flft κ·memo q·memo)
         ∷ ‵ (flft κ·ids q·ids)
         ∷ ‵ (flft κ·facts q·facts)
+        ∷ ‵ (MutSlice (named 21) κ·memo u32 .own (ref·memo γ·memo memo) (s·memo ∷ []))
         ∷ ‵ (MutSlice (named 20) κ·ids u32 .own (ref·ids γ·ids ids) (s·ids ∷ []))
         ∷ ‵ (MutSlice (named 16) κ·facts FactT.the-row .own (ref·facts γ·facts facts) (s·facts ∷ []))
-        ∷ ‵ (froom (tyInt w64) l107 0)
-        ∷ ‵ (fdies (tyInt w64) l107)
-        ∷ ‵ (froom (tyInt w64) l106 0)
-        ∷ ‵ (fdies (tyInt w64) l106)
-        ∷ ‵ (froom (sliceTy (tyRef erased mut (pointee (FactT.the-row .written)))) l105 0)
-        ∷ ‵ (fdies (sliceTy (tyRef erased mut (pointee (FactT.the-row .written)))) l105)
-        ∷ ‵ (froom (tyRef erased mut (pointee (FactT.the-row .written))) l104 0)
-        ∷ ‵ (fdies (tyRef erased mut (pointee (FactT.the-row .written))) l104)
-        ∷ ‵ (froom tyUnit l103 0)
-        ∷ ‵ (fdies tyUnit l103)
-        ∷ ‵ (froom (sliceTy (tyRef erased mut (tyInt w32))) l102 0)
-        ∷ ‵ (fdies (sliceTy (tyRef erased mut (tyInt w32))) l102)
-        ∷ ‵ (froom (tyRef erased mut (tyInt w32)) l101 0)
-        ∷ ‵ (fdies (tyRef erased mut (tyInt w32)) l101)
-        ∷ ‵ (froom (sliceTy (tyRef erased imm (tyInt w32))) l100 0)
-        ∷ ‵ (fdies (sliceTy (tyRef erased imm (tyInt w32))) l100)
-        ∷ ‵ (froom (tyRef erased imm (tyInt w32)) l99 0)
-        ∷ ‵ (fdies (tyRef erased imm (tyInt w32)) l99)
-        ∷ ‵ (froom (sliceTy (tyRef erased imm (tyInt w32))) l98 0)
-        ∷ ‵ (fdies (sliceTy (tyRef erased imm (tyInt w32))) l98)
-        ∷ ‵ (froom (tyRef erased imm (tyInt w32)) l97 0)
-        ∷ ‵ (fdies (tyRef erased imm (tyInt w32)) l97)
-        ∷ ‵ (froom (sliceTy (tyRef erased mut (tyInt w32))) l96 0)
-        ∷ ‵ (fdies (sliceTy (tyRef erased mut (tyInt w32))) l96)
-        ∷ ‵ (froom (tyRef erased mut (tyInt w32)) l95 0)
-        ∷ ‵ (fdies (tyRef erased mut (tyInt w32)) l95)
-        ∷ ‵ (froom (tyRef erased mut (pointee (CountsT.the-row .written))) l94 0)
-        ∷ ‵ (fdies (tyRef erased mut (pointee (CountsT.the-row .written))) l94)
-        ∷ ‵ (froom (sliceTy (tyRef erased mut (pointee (FactT.the-row .written)))) l93 0)
-        ∷ ‵ (fdies (sliceTy (tyRef erased mut (pointee (FactT.the-row .written)))) l93)
-        ∷ ‵ (froom (tyRef erased mut (pointee (FactT.the-row .written))) l92 0)
-        ∷ ‵ (fdies (tyRef erased mut (pointee (FactT.the-row .written))) l92)
-        ∷ ‵ (froom (sliceTy (tyRef erased mut (tyInt w32))) l91 0)
-        ∷ ‵ (fdies (sliceTy (tyRef erased mut (tyInt w32))) l91)
-        ∷ ‵ (froom (tyRef erased mut (tyInt w32)) l90 0)
-        ∷ ‵ (fdies (tyRef erased mut (tyInt w32)) l90)
-        ∷ ‵ (froom (sliceTy (tyRef erased mut (tyInt w32))) l89 0)
-        ∷ ‵ (fdies (sliceTy (tyRef erased mut (tyInt w32))) l89)
-        ∷ ‵ (froom (tyRef erased mut (tyInt w32)) l88 0)
-        ∷ ‵ (fdies (tyRef erased mut (tyInt w32)) l88)
-        ∷ ‵ (froom (sliceTy (tyRef erased mut (tyInt w64))) l87 0)
-        ∷ ‵ (fdies (sliceTy (tyRef erased mut (tyInt w64))) l87)
-        ∷ ‵ (froom (tyRef erased mut (tyInt w64)) l86 0)
-        ∷ ‵ (fdies (tyRef erased mut (tyInt w64)) l86)
-        ∷ ‵ (froom (sliceTy (tyRef erased mut (tyInt w32))) l85 0)
-        ∷ ‵ (fdies (sliceTy (tyRef erased mut (tyInt w32))) l85)
-        ∷ ‵ (froom (tyRef erased mut (tyInt w32)) l84 0)
-        ∷ ‵ (fdies (tyRef erased mut (tyInt w32)) l84)
-        ∷ ‵ (froom (sliceTy (tyRef erased mut (tyInt w32))) l83 0)
-        ∷ ‵ (fdies (sliceTy (tyRef erased mut (tyInt w32))) l83)
-        ∷ ‵ (froom (tyRef erased mut (tyInt w32)) l82 0)
-        ∷ ‵ (fdies (tyRef erased mut (tyInt w32)) l82)
-        ∷ ‵ (froom (sliceTy (tyRef erased mut (tyInt w32))) l81 0)
-        ∷ ‵ (fdies (sliceTy (tyRef erased mut (tyInt w32))) l81)
-        ∷ ‵ (froom (tyRef erased mut (tyInt w32)) l80 0)
-        ∷ ‵ (fdies (tyRef erased mut (tyInt w32)) l80)
-        ∷ ‵ (froom (sliceTy (tyRef erased mut (tyInt w32))) l79 0)
-        ∷ ‵ (fdies (sliceTy (tyRef erased mut (tyInt w32))) l79)
-        ∷ ‵ (froom (tyRef erased mut (tyInt w32)) l78 0)
-        ∷ ‵ (fdies (tyRef erased mut (tyInt w32)) l78)
-        ∷ ‵ (froom (sliceTy (tyRef erased mut (tyInt w32))) l77 0)
-        ∷ ‵ (fdies (sliceTy (tyRef erased mut (tyInt w32))) l77)
-        ∷ ‵ (froom (tyRef erased mut (tyInt w32)) l76 0)
-        ∷ ‵ (fdies (tyRef erased mut (tyInt w32)) l76)
-        ∷ ‵ (froom (sliceTy (tyRef erased mut (tyInt w32))) l75 0)
-        ∷ ‵ (fdies (sliceTy (tyRef erased mut (tyInt w32))) l75)
-        ∷ ‵ (froom (tyRef erased mut (tyInt w32)) l74 0)
-        ∷ ‵ (fdies (tyRef erased mut (tyInt w32)) l74)
-        ∷ ‵ (froom (sliceTy (tyRef erased mut (tyInt w32))) l73 0)
-        ∷ ‵ (fdies (sliceTy (tyRef erased mut (tyInt w32))) l73)
-        ∷ ‵ (froom (tyRef erased mut (tyInt w32)) l72 0)
-        ∷ ‵ (fdies (tyRef erased mut (tyInt w32)) l72)
-        ∷ ‵ (froom (sliceTy (tyRef erased imm (tyInt w32))) l71 0)
-        ∷ ‵ (fdies (sliceTy (tyRef erased imm (tyInt w32))) l71)
-        ∷ ‵ (froom (tyRef erased imm (tyInt w32)) l70 0)
-        ∷ ‵ (fdies (tyRef erased imm (tyInt w32)) l70)
-        ∷ ‵ (froom (sliceTy (tyRef erased imm (tyInt w32))) l69 0)
-        ∷ ‵ (fdies (sliceTy (tyRef erased imm (tyInt w32))) l69)
-        ∷ ‵ (froom (tyRef erased imm (tyInt w32)) l68 0)
-        ∷ ‵ (fdies (tyRef erased imm (tyInt w32)) l68)
-        ∷ ‵ (froom (sliceTy (tyRef erased imm (tyInt w32))) l67 0)
-        ∷ ‵ (fdies (sliceTy (tyRef erased imm (tyInt w32))) l67)
-        ∷ ‵ (froom (tyRef erased imm (tyInt w32)) l66 0)
-        ∷ ‵ (fdies (tyRef erased imm (tyInt w32)) l66)
-        ∷ ‵ (froom (sliceTy (tyRef erased imm (tyInt w32))) l65 0)
-        ∷ ‵ (fdies (sliceTy (tyRef erased imm (tyInt w32))) l65)
-        ∷ ‵ (froom (tyRef erased imm (tyInt w32)) l64 0)
-        ∷ ‵ (fdies (tyRef erased imm (tyInt w32)) l64)
-        ∷ ‵ (froom (sliceTy (tyRef erased imm (tyInt w32))) l63 0)
-        ∷ ‵ (fdies (sliceTy (tyRef erased imm (tyInt w32))) l63)
-        ∷ ‵ (froom (tyRef erased imm (tyInt w32)) l62 0)
-        ∷ ‵ (fdies (tyRef erased imm (tyInt w32)) l62)
-        ∷ ‵ (froom (sliceTy (tyRef erased imm (tyInt w32))) l61 0)
-        ∷ ‵ (fdies (sliceTy (tyRef erased imm (tyInt w32))) l61)
-        ∷ ‵ (froom (tyRef erased imm (tyInt w32)) l60 0)
-        ∷ ‵ (fdies (tyRef erased imm (tyInt w32)) l60)
-        ∷ ‵ (froom CountsL.mir l59 0)
-        ∷ ‵ (fdies CountsL.mir l59)
-        ∷ ‵ (fat fullShare (sliceTy (tyRef erased mut (tyInt w32))) l58 0 s·cells)
-        ∷ ‵ (fdies (sliceTy (tyRef erased mut (tyInt w32))) l58)
-        ∷ ‵ (fat fullShare (tyRef erased mut (tyInt w32)) l57 0 (vptr b·cells o·cells))
-        ∷ ‵ (fdies (tyRef erased mut (tyInt w32)) l57)
-        ∷ ‵ (fat fullShare (sliceTy (tyRef erased imm (tyInt w64))) l56 0 s·feet)
-        ∷ ‵ (fdies (sliceTy (tyRef erased imm (tyInt w64))) l56)
-        ∷ ‵ (fat fullShare (tyRef erased imm (tyInt w64)) l55 0 (vptr b·feet o·feet))
-        ∷ ‵ (fdies (tyRef erased imm (tyInt w64)) l55)
-        ∷ ‵ (fat fullShare (sliceTy (tyRef erased imm (tyInt w32))) l54 0 s·kept)
-        ∷ ‵ (fdies (sliceTy (tyRef erased imm (tyInt w32))) l54)
-        ∷ ‵ (fat fullShare (tyRef erased imm (tyInt w32)) l53 0 (vptr b·kept o·kept))
-        ∷ ‵ (fdies (tyRef erased imm (tyInt w32)) l53)
-        ∷ ‵ (fat fullShare (sliceTy (tyRef erased mut (tyInt w32))) l52 0 s·missing)
-        ∷ ‵ (fdies (sliceTy (tyRef erased mut (tyInt w32))) l52)
-        ∷ ‵ (fat fullShare (tyRef erased mut (tyInt w32)) l51 0 (vptr b·missing o·missing))
-        ∷ ‵ (fdies (tyRef erased mut (tyInt w32)) l51)
-        ∷ ‵ (fat fullShare (sliceTy (tyRef erased mut (tyInt w32))) l50 0 s·lists)
-        ∷ ‵ (fdies (sliceTy (tyRef erased mut (tyInt w32))) l50)
-        ∷ ‵ (fat fullShare (tyRef erased mut (tyInt w32)) l49 0 (vptr b·lists o·lists))
-        ∷ ‵ (fdies (tyRef erased mut (tyInt w32)) l49)
-        ∷ ‵ (fat fullShare (sliceTy (tyRef erased mut (tyInt w32))) l48 0 s·rows)
-        ∷ ‵ (fdies (sliceTy (tyRef erased mut (tyInt w32))) l48)
-        ∷ ‵ (fat fullShare (tyRef erased mut (tyInt w32)) l47 0 (vptr b·rows o·rows))
-        ∷ ‵ (fdies (tyRef erased mut (tyInt w32)) l47)
-        ∷ ‵ (fat fullShare (sliceTy (tyRef erased mut (tyInt w32))) l46 0 s·defs)
-        ∷ ‵ (fdies (sliceTy (tyRef erased mut (tyInt w32))) l46)
-        ∷ ‵ (fat fullShare (tyRef erased mut (tyInt w32)) l45 0 (vptr b·defs o·defs))
-        ∷ ‵ (fdies (tyRef erased mut (tyInt w32)) l45)
-        ∷ ‵ (fat fullShare (sliceTy (tyRef erased mut (tyInt w32))) l44 0 s·words)
-        ∷ ‵ (fdies (sliceTy (tyRef erased mut (tyInt w32))) l44)
-        ∷ ‵ (fat fullShare (tyRef erased mut (tyInt w32)) l43 0 (vptr b·words o·words))
-        ∷ ‵ (fdies (tyRef erased mut (tyInt w32)) l43)
-        ∷ ‵ (fat fullShare (sliceTy (tyRef erased mut (tyInt w32))) l42 0 s·index)
-        ∷ ‵ (fdies (sliceTy (tyRef erased mut (tyInt w32))) l42)
-        ∷ ‵ (fat fullShare (tyRef erased mut (tyInt w32)) l41 0 (vptr b·index o·index))
-        ∷ ‵ (fdies (tyRef erased mut (tyInt w32)) l41)
-        ∷ ‵ (fat fullShare (sliceTy (tyRef erased mut (tyInt w32))) l40 0 s·vars)
-        ∷ ‵ (fdies (sliceTy (tyRef erased mut (tyInt w32))) l40)
-        ∷ ‵ (fat fullShare (tyRef erased mut (tyInt w32)) l39 0 (vptr b·vars o·vars))
-        ∷ ‵ (fdies (tyRef erased mut (tyInt w32)) l39)
-        ∷ ‵ (fat fullShare (sliceTy (tyRef erased mut (tyInt w32))) l38 0 s·patterns)
-        ∷ ‵ (fdies (sliceTy (tyRef erased mut (tyInt w32))) l38)
-        ∷ ‵ (fat fullShare (tyRef erased mut (tyInt w32)) l37 0 (vptr b·patterns o·patterns))
-        ∷ ‵ (fdies (tyRef erased mut (tyInt w32)) l37)
-        ∷ ‵ (fat fullShare (sliceTy (tyRef erased mut (tyInt w32))) l36 0 s·rulevars)
-        ∷ ‵ (fdies (sliceTy (tyRef erased mut (tyInt w32))) l36)
-        ∷ ‵ (fat fullShare (tyRef erased mut (tyInt w32)) l35 0 (vptr b·rulevars o·rulevars))
-        ∷ ‵ (fdies (tyRef erased mut (tyInt w32)) l35)
-        ∷ ‵ (fat fullShare (sliceTy (tyRef erased mut (tyInt w32))) l34 0 s·rules)
-        ∷ ‵ (fdies (sliceTy (tyRef erased mut (tyInt w32))) l34)
-        ∷ ‵ (fat fullShare (tyRef erased mut (tyInt w32)) l33 0 (vptr b·rules o·rules))
-        ∷ ‵ (fdies (tyRef erased mut (tyInt w32)) l33)
-        ∷ ‵ (fat fullShare (sliceTy (tyRef erased mut (tyInt w32))) l32 0 s·inputs)
-        ∷ ‵ (fdies (sliceTy (tyRef erased mut (tyInt w32))) l32)
-        ∷ ‵ (fat fullShare (tyRef erased mut (tyInt w32)) l31 0 (vptr b·inputs o·inputs))
-        ∷ ‵ (fdies (tyRef erased mut (tyInt w32)) l31)
-        ∷ ‵ (fat fullShare (sliceTy (tyRef erased mut (tyInt w32))) l30 0 s·symbols)
-        ∷ ‵ (fdies (sliceTy (tyRef erased mut (tyInt w32))) l30)
-        ∷ ‵ (fat fullShare (tyRef erased mut (tyInt w32)) l29 0 (vptr b·symbols o·symbols))
-        ∷ ‵ (fdies (tyRef erased mut (tyInt w32)) l29)
-        ∷ ‵ (fat fullShare (sliceTy (tyRef erased mut (tyInt w32))) l28 0 s·sorts)
-        ∷ ‵ (fdies (sliceTy (tyRef erased mut (tyInt w32))) l28)
-        ∷ ‵ (fat fullShare (tyRef erased mut (tyInt w32)) l27 0 (vptr b·sorts o·sorts))
-        ∷ ‵ (fdies (tyRef erased mut (tyInt w32)) l27)
-        ∷ ‵ (froom AnswerL.mir l26 0)
-        ∷ ‵ (fdies AnswerL.mir l26)
-        ∷ ‵ (froom RunL.mir l25 0)
-        ∷ ‵ (fdies RunL.mir l25)
-        ∷ ‵ (froom CountsL.mir l24 0)
-        ∷ ‵ (fdies CountsL.mir l24)
-        ∷ ‵ (fat fullShare RunL.mir l23 0 v1)
-        ∷ ‵ (fdies RunL.mir l23)
-        ∷ ‵ (fat fullShare (tyInt w64) l22 0 (vint w64 (length facts)))
-        ∷ ‵ (fdies (tyInt w64) l22)
+        ∷ ‵ (froom (tyInt w64) l110 0)
+        ∷ ‵ (fdies (tyInt w64) l110)
+        ∷ ‵ (froom (tyInt w64) l109 0)
+        ∷ ‵ (fdies (tyInt w64) l109)
+        ∷ ‵ (froom (sliceTy (tyRef erased mut (pointee (FactT.the-row .written)))) l108 0)
+        ∷ ‵ (fdies (sliceTy (tyRef erased mut (pointee (FactT.the-row .written)))) l108)
+        ∷ ‵ (froom (tyRef erased mut (pointee (FactT.the-row .written))) l107 0)
+        ∷ ‵ (fdies (tyRef erased mut (pointee (FactT.the-row .written))) l107)
+        ∷ ‵ (froom tyUnit l106 0)
+        ∷ ‵ (fdies tyUnit l106)
+        ∷ ‵ (froom (sliceTy (tyRef erased mut (tyInt w32))) l105 0)
+        ∷ ‵ (fdies (sliceTy (tyRef erased mut (tyInt w32))) l105)
+        ∷ ‵ (froom (tyRef erased mut (tyInt w32)) l104 0)
+        ∷ ‵ (fdies (tyRef erased mut (tyInt w32)) l104)
+        ∷ ‵ (froom (sliceTy (tyRef erased imm (tyInt w32))) l103 0)
+        ∷ ‵ (fdies (sliceTy (tyRef erased imm (tyInt w32))) l103)
+        ∷ ‵ (froom (tyRef erased imm (tyInt w32)) l102 0)
+        ∷ ‵ (fdies (tyRef erased imm (tyInt w32)) l102)
+        ∷ ‵ (froom (sliceTy (tyRef erased imm (tyInt w32))) l101 0)
+        ∷ ‵ (fdies (sliceTy (tyRef erased imm (tyInt w32))) l101)
+        ∷ ‵ (froom (tyRef erased imm (tyInt w32)) l100 0)
+        ∷ ‵ (fdies (tyRef erased imm (tyInt w32)) l100)
+        ∷ ‵ (froom (sliceTy (tyRef erased mut (tyInt w32))) l99 0)
+        ∷ ‵ (fdies (sliceTy (tyRef erased mut (tyInt w32))) l99)
+        ∷ ‵ (froom (tyRef erased mut (tyInt w32)) l98 0)
+        ∷ ‵ (fdies (tyRef erased mut (tyInt w32)) l98)
+        ∷ ‵ (froom (tyRef erased mut (pointee (CountsT.the-row .written))) l97 0)
+        ∷ ‵ (fdies (tyRef erased mut (pointee (CountsT.the-row .written))) l97)
+        ∷ ‵ (froom (sliceTy (tyRef erased mut (pointee (FactT.the-row .written)))) l96 0)
+        ∷ ‵ (fdies (sliceTy (tyRef erased mut (pointee (FactT.the-row .written)))) l96)
+        ∷ ‵ (froom (tyRef erased mut (pointee (FactT.the-row .written))) l95 0)
+        ∷ ‵ (fdies (tyRef erased mut (pointee (FactT.the-row .written))) l95)
+        ∷ ‵ (froom (sliceTy (tyRef erased mut (tyInt w32))) l94 0)
+        ∷ ‵ (fdies (sliceTy (tyRef erased mut (tyInt w32))) l94)
+        ∷ ‵ (froom (tyRef erased mut (tyInt w32)) l93 0)
+        ∷ ‵ (fdies (tyRef erased mut (tyInt w32)) l93)
+        ∷ ‵ (froom (sliceTy (tyRef erased mut (tyInt w32))) l92 0)
+        ∷ ‵ (fdies (sliceTy (tyRef erased mut (tyInt w32))) l92)
+        ∷ ‵ (froom (tyRef erased mut (tyInt w32)) l91 0)
+        ∷ ‵ (fdies (tyRef erased mut (tyInt w32)) l91)
+        ∷ ‵ (froom (sliceTy (tyRef erased mut (tyInt w32))) l90 0)
+        ∷ ‵ (fdies (sliceTy (tyRef erased mut (tyInt w32))) l90)
+        ∷ ‵ (froom (tyRef erased mut (tyInt w32)) l89 0)
+        ∷ ‵ (fdies (tyRef erased mut (tyInt w32)) l89)
+        ∷ ‵ (froom (sliceTy (tyRef erased mut (tyInt w64))) l88 0)
+        ∷ ‵ (fdies (sliceTy (tyRef erased mut (tyInt w64))) l88)
+        ∷ ‵ (froom (tyRef erased mut (tyInt w64)) l87 0)
+        ∷ ‵ (fdies (tyRef erased mut (tyInt w64)) l87)
+        ∷ ‵ (froom (sliceTy (tyRef erased mut (tyInt w32))) l86 0)
+        ∷ ‵ (fdies (sliceTy (tyRef erased mut (tyInt w32))) l86)
+        ∷ ‵ (froom (tyRef erased mut (tyInt w32)) l85 0)
+        ∷ ‵ (fdies (tyRef erased mut (tyInt w32)) l85)
+        ∷ ‵ (froom (sliceTy (tyRef erased mut (tyInt w32))) l84 0)
+        ∷ ‵ (fdies (sliceTy (tyRef erased mut (tyInt w32))) l84)
+        ∷ ‵ (froom (tyRef erased mut (tyInt w32)) l83 0)
+        ∷ ‵ (fdies (tyRef erased mut (tyInt w32)) l83)
+        ∷ ‵ (froom (sliceTy (tyRef erased mut (tyInt w32))) l82 0)
+        ∷ ‵ (fdies (sliceTy (tyRef erased mut (tyInt w32))) l82)
+        ∷ ‵ (froom (tyRef erased mut (tyInt w32)) l81 0)
+        ∷ ‵ (fdies (tyRef erased mut (tyInt w32)) l81)
+        ∷ ‵ (froom (sliceTy (tyRef erased mut (tyInt w32))) l80 0)
+        ∷ ‵ (fdies (sliceTy (tyRef erased mut (tyInt w32))) l80)
+        ∷ ‵ (froom (tyRef erased mut (tyInt w32)) l79 0)
+        ∷ ‵ (fdies (tyRef erased mut (tyInt w32)) l79)
+        ∷ ‵ (froom (sliceTy (tyRef erased mut (tyInt w32))) l78 0)
+        ∷ ‵ (fdies (sliceTy (tyRef erased mut (tyInt w32))) l78)
+        ∷ ‵ (froom (tyRef erased mut (tyInt w32)) l77 0)
+        ∷ ‵ (fdies (tyRef erased mut (tyInt w32)) l77)
+        ∷ ‵ (froom (sliceTy (tyRef erased mut (tyInt w32))) l76 0)
+        ∷ ‵ (fdies (sliceTy (tyRef erased mut (tyInt w32))) l76)
+        ∷ ‵ (froom (tyRef erased mut (tyInt w32)) l75 0)
+        ∷ ‵ (fdies (tyRef erased mut (tyInt w32)) l75)
+        ∷ ‵ (froom (sliceTy (tyRef erased mut (tyInt w32))) l74 0)
+        ∷ ‵ (fdies (sliceTy (tyRef erased mut (tyInt w32))) l74)
+        ∷ ‵ (froom (tyRef erased mut (tyInt w32)) l73 0)
+        ∷ ‵ (fdies (tyRef erased mut (tyInt w32)) l73)
+        ∷ ‵ (froom (sliceTy (tyRef erased imm (tyInt w32))) l72 0)
+        ∷ ‵ (fdies (sliceTy (tyRef erased imm (tyInt w32))) l72)
+        ∷ ‵ (froom (tyRef erased imm (tyInt w32)) l71 0)
+        ∷ ‵ (fdies (tyRef erased imm (tyInt w32)) l71)
+        ∷ ‵ (froom (sliceTy (tyRef erased imm (tyInt w32))) l70 0)
+        ∷ ‵ (fdies (sliceTy (tyRef erased imm (tyInt w32))) l70)
+        ∷ ‵ (froom (tyRef erased imm (tyInt w32)) l69 0)
+        ∷ ‵ (fdies (tyRef erased imm (tyInt w32)) l69)
+        ∷ ‵ (froom (sliceTy (tyRef erased imm (tyInt w32))) l68 0)
+        ∷ ‵ (fdies (sliceTy (tyRef erased imm (tyInt w32))) l68)
+        ∷ ‵ (froom (tyRef erased imm (tyInt w32)) l67 0)
+        ∷ ‵ (fdies (tyRef erased imm (tyInt w32)) l67)
+        ∷ ‵ (froom (sliceTy (tyRef erased imm (tyInt w32))) l66 0)
+        ∷ ‵ (fdies (sliceTy (tyRef erased imm (tyInt w32))) l66)
+        ∷ ‵ (froom (tyRef erased imm (tyInt w32)) l65 0)
+        ∷ ‵ (fdies (tyRef erased imm (tyInt w32)) l65)
+        ∷ ‵ (froom (sliceTy (tyRef erased imm (tyInt w32))) l64 0)
+        ∷ ‵ (fdies (sliceTy (tyRef erased imm (tyInt w32))) l64)
+        ∷ ‵ (froom (tyRef erased imm (tyInt w32)) l63 0)
+        ∷ ‵ (fdies (tyRef erased imm (tyInt w32)) l63)
+        ∷ ‵ (froom (sliceTy (tyRef erased imm (tyInt w32))) l62 0)
+        ∷ ‵ (fdies (sliceTy (tyRef erased imm (tyInt w32))) l62)
+        ∷ ‵ (froom (tyRef erased imm (tyInt w32)) l61 0)
+        ∷ ‵ (fdies (tyRef erased imm (tyInt w32)) l61)
+        ∷ ‵ (froom CountsL.mir l60 0)
+        ∷ ‵ (fdies CountsL.mir l60)
+        ∷ ‵ (fat fullShare (sliceTy (tyRef erased mut (tyInt w32))) l59 0 s·cells)
+        ∷ ‵ (fdies (sliceTy (tyRef erased mut (tyInt w32))) l59)
+        ∷ ‵ (fat fullShare (tyRef erased mut (tyInt w32)) l58 0 (vptr b·cells o·cells))
+        ∷ ‵ (fdies (tyRef erased mut (tyInt w32)) l58)
+        ∷ ‵ (fat fullShare (sliceTy (tyRef erased imm (tyInt w64))) l57 0 s·feet)
+        ∷ ‵ (fdies (sliceTy (tyRef erased imm (tyInt w64))) l57)
+        ∷ ‵ (fat fullShare (tyRef erased imm (tyInt w64)) l56 0 (vptr b·feet o·feet))
+        ∷ ‵ (fdies (tyRef erased imm (tyInt w64)) l56)
+        ∷ ‵ (fat fullShare (sliceTy (tyRef erased imm (tyInt w32))) l55 0 s·kept)
+        ∷ ‵ (fdies (sliceTy (tyRef erased imm (tyInt w32))) l55)
+        ∷ ‵ (fat fullShare (tyRef erased imm (tyInt w32)) l54 0 (vptr b·kept o·kept))
+        ∷ ‵ (fdies (tyRef erased imm (tyInt w32)) l54)
+        ∷ ‵ (fat fullShare (sliceTy (tyRef erased mut (tyInt w32))) l53 0 s·missing)
+        ∷ ‵ (fdies (sliceTy (tyRef erased mut (tyInt w32))) l53)
+        ∷ ‵ (fat fullShare (tyRef erased mut (tyInt w32)) l52 0 (vptr b·missing o·missing))
+        ∷ ‵ (fdies (tyRef erased mut (tyInt w32)) l52)
+        ∷ ‵ (fat fullShare (sliceTy (tyRef erased mut (tyInt w32))) l51 0 s·lists)
+        ∷ ‵ (fdies (sliceTy (tyRef erased mut (tyInt w32))) l51)
+        ∷ ‵ (fat fullShare (tyRef erased mut (tyInt w32)) l50 0 (vptr b·lists o·lists))
+        ∷ ‵ (fdies (tyRef erased mut (tyInt w32)) l50)
+        ∷ ‵ (fat fullShare (sliceTy (tyRef erased mut (tyInt w32))) l49 0 s·rows)
+        ∷ ‵ (fdies (sliceTy (tyRef erased mut (tyInt w32))) l49)
+        ∷ ‵ (fat fullShare (tyRef erased mut (tyInt w32)) l48 0 (vptr b·rows o·rows))
+        ∷ ‵ (fdies (tyRef erased mut (tyInt w32)) l48)
+        ∷ ‵ (fat fullShare (sliceTy (tyRef erased mut (tyInt w32))) l47 0 s·defs)
+        ∷ ‵ (fdies (sliceTy (tyRef erased mut (tyInt w32))) l47)
+        ∷ ‵ (fat fullShare (tyRef erased mut (tyInt w32)) l46 0 (vptr b·defs o·defs))
+        ∷ ‵ (fdies (tyRef erased mut (tyInt w32)) l46)
+        ∷ ‵ (fat fullShare (sliceTy (tyRef erased mut (tyInt w32))) l45 0 s·words)
+        ∷ ‵ (fdies (sliceTy (tyRef erased mut (tyInt w32))) l45)
+        ∷ ‵ (fat fullShare (tyRef erased mut (tyInt w32)) l44 0 (vptr b·words o·words))
+        ∷ ‵ (fdies (tyRef erased mut (tyInt w32)) l44)
+        ∷ ‵ (fat fullShare (sliceTy (tyRef erased mut (tyInt w32))) l43 0 s·index)
+        ∷ ‵ (fdies (sliceTy (tyRef erased mut (tyInt w32))) l43)
+        ∷ ‵ (fat fullShare (tyRef erased mut (tyInt w32)) l42 0 (vptr b·index o·index))
+        ∷ ‵ (fdies (tyRef erased mut (tyInt w32)) l42)
+        ∷ ‵ (fat fullShare (sliceTy (tyRef erased mut (tyInt w32))) l41 0 s·vars)
+        ∷ ‵ (fdies (sliceTy (tyRef erased mut (tyInt w32))) l41)
+        ∷ ‵ (fat fullShare (tyRef erased mut (tyInt w32)) l40 0 (vptr b·vars o·vars))
+        ∷ ‵ (fdies (tyRef erased mut (tyInt w32)) l40)
+        ∷ ‵ (fat fullShare (sliceTy (tyRef erased mut (tyInt w32))) l39 0 s·patterns)
+        ∷ ‵ (fdies (sliceTy (tyRef erased mut (tyInt w32))) l39)
+        ∷ ‵ (fat fullShare (tyRef erased mut (tyInt w32)) l38 0 (vptr b·patterns o·patterns))
+        ∷ ‵ (fdies (tyRef erased mut (tyInt w32)) l38)
+        ∷ ‵ (fat fullShare (sliceTy (tyRef erased mut (tyInt w32))) l37 0 s·rulevars)
+        ∷ ‵ (fdies (sliceTy (tyRef erased mut (tyInt w32))) l37)
+        ∷ ‵ (fat fullShare (tyRef erased mut (tyInt w32)) l36 0 (vptr b·rulevars o·rulevars))
+        ∷ ‵ (fdies (tyRef erased mut (tyInt w32)) l36)
+        ∷ ‵ (fat fullShare (sliceTy (tyRef erased mut (tyInt w32))) l35 0 s·rules)
+        ∷ ‵ (fdies (sliceTy (tyRef erased mut (tyInt w32))) l35)
+        ∷ ‵ (fat fullShare (tyRef erased mut (tyInt w32)) l34 0 (vptr b·rules o·rules))
+        ∷ ‵ (fdies (tyRef erased mut (tyInt w32)) l34)
+        ∷ ‵ (fat fullShare (sliceTy (tyRef erased mut (tyInt w32))) l33 0 s·inputs)
+        ∷ ‵ (fdies (sliceTy (tyRef erased mut (tyInt w32))) l33)
+        ∷ ‵ (fat fullShare (tyRef erased mut (tyInt w32)) l32 0 (vptr b·inputs o·inputs))
+        ∷ ‵ (fdies (tyRef erased mut (tyInt w32)) l32)
+        ∷ ‵ (fat fullShare (sliceTy (tyRef erased mut (tyInt w32))) l31 0 s·symbols)
+        ∷ ‵ (fdies (sliceTy (tyRef erased mut (tyInt w32))) l31)
+        ∷ ‵ (fat fullShare (tyRef erased mut (tyInt w32)) l30 0 (vptr b·symbols o·symbols))
+        ∷ ‵ (fdies (tyRef erased mut (tyInt w32)) l30)
+        ∷ ‵ (fat fullShare (sliceTy (tyRef erased mut (tyInt w32))) l29 0 s·sorts)
+        ∷ ‵ (fdies (sliceTy (tyRef erased mut (tyInt w32))) l29)
+        ∷ ‵ (fat fullShare (tyRef erased mut (tyInt w32)) l28 0 (vptr b·sorts o·sorts))
+        ∷ ‵ (fdies (tyRef erased mut (tyInt w32)) l28)
+        ∷ ‵ (froom AnswerL.mir l27 0)
+        ∷ ‵ (fdies AnswerL.mir l27)
+        ∷ ‵ (froom RunL.mir l26 0)
+        ∷ ‵ (fdies RunL.mir l26)
+        ∷ ‵ (froom CountsL.mir l25 0)
+        ∷ ‵ (fdies CountsL.mir l25)
+        ∷ ‵ (fat fullShare RunL.mir l24 0 v1)
+        ∷ ‵ (fdies RunL.mir l24)
+        ∷ ‵ (fat fullShare (tyInt w64) l23 0 (vint w64 (length facts)))
+        ∷ ‵ (fdies (tyInt w64) l23)
+        ∷ ‵ (fat fullShare (sliceTy (tyRef (named 21) mut (tyInt w32))) l22 0 s·memo)
+        ∷ ‵ (fdies (sliceTy (tyRef (named 21) mut (tyInt w32))) l22)
         ∷ ‵ (fat fullShare (sliceTy (tyRef (named 20) mut (tyInt w32))) l21 0 s·ids)
         ∷ ‵ (fdies (sliceTy (tyRef (named 20) mut (tyInt w32))) l21)
         ∷ ‵ (fat fullShare (sliceTy (tyRef (named 19) mut (tyInt w32))) l20 0 s·cells)
@@ -7001,17 +7279,17 @@ module _ {M : Type 1} (𝓤 : URA M) (H : Heap 𝓤) (A : Atoms 𝓤) (W : Given
         (runs C Λ (En l0 l1 l2 l3 l4 l5 l6 l7 l8 l9 l10 l11 l12 l13 l14 l15 l16 l17 l18 l19 l20 l21 l22 l23 l24 l25 l26 l27 l28 l29 l30 l31 l32 l33
         l34 l35 l36 l37 l38 l39 l40 l41 l42 l43 l44 l45 l46 l47 l48 l49 l50 l51 l52 l53 l54 l55 l56 l57 l58 l59 l60 l61 l62 l63 l64 l65 l66 l67 l68
         l69 l70 l71 l72 l73 l74 l75 l76 l77 l78 l79 l80 l81 l82 l83 l84 l85 l86 l87 l88 l89 l90 l91 l92 l93 l94 l95 l96 l97 l98 l99 l100 l101 l102
-        l103 l104 l105 l106 l107) pieces.t-35 (atRet (En l0 l1 l2 l3 l4 l5 l6 l7 l8 l9 l10 l11 l12 l13 l14 l15 l16 l17 l18 l19 l20 l21 l22 l23 l24 l25
-        l26 l27 l28 l29 l30 l31 l32 l33 l34 l35 l36 l37 l38 l39 l40 l41 l42 l43 l44 l45 l46 l47 l48 l49 l50 l51 l52 l53 l54 l55 l56 l57 l58 l59 l60
-        l61 l62 l63 l64 l65 l66 l67 l68 l69 l70 l71 l72 l73 l74 l75 l76 l77 l78 l79 l80 l81 l82 l83 l84 l85 l86 l87 l88 l89 l90 l91 l92 l93 l94 l95
-        l96 l97 l98 l99 l100 l101 l102 l103 l104 l105 l106 l107) Post))
+        l103 l104 l105 l106 l107 l108 l109 l110) pieces.t-35 (atRet (En l0 l1 l2 l3 l4 l5 l6 l7 l8 l9 l10 l11 l12 l13 l14 l15 l16 l17 l18 l19 l20 l21
+        l22 l23 l24 l25 l26 l27 l28 l29 l30 l31 l32 l33 l34 l35 l36 l37 l38 l39 l40 l41 l42 l43 l44 l45 l46 l47 l48 l49 l50 l51 l52 l53 l54 l55 l56
+        l57 l58 l59 l60 l61 l62 l63 l64 l65 l66 l67 l68 l69 l70 l71 l72 l73 l74 l75 l76 l77 l78 l79 l80 l81 l82 l83 l84 l85 l86 l87 l88 l89 l90 l91
+        l92 l93 l94 l95 l96 l97 l98 l99 l100 l101 l102 l103 l104 l105 l106 l107 l108 l109 l110) Post))
     seg·4 l0 l1 l2 l3 l4 l5 l6 l7 l8 l9 l10 l11 l12 l13 l14 l15 l16 l17 l18 l19 l20 l21 l22 l23 l24 l25 l26 l27 l28 l29 l30 l31 l32 l33 l34 l35 l36
         l37 l38 l39 l40 l41 l42 l43 l44 l45 l46 l47 l48 l49 l50 l51 l52 l53 l54 l55 l56 l57 l58 l59 l60 l61 l62 l63 l64 l65 l66 l67 l68 l69 l70 l71
         l72 l73 l74 l75 l76 l77 l78 l79 l80 l81 l82 l83 l84 l85 l86 l87 l88 l89 l90 l91 l92 l93 l94 l95 l96 l97 l98 l99 l100 l101 l102 l103 l104
-        l105 l106 l107 ν·1·3 δ·1·3 ν·1·4 δ·1·4 ν·1·5 δ·1·5 ν·1·6 δ·1·6 ν·1·7 δ·1·7 ν·1·8 δ·1·8 ν·1·9 δ·1·9 ν·1·10 δ·1·10 ν·1·11 δ·1·11 ν·1·12
-        δ·1·12 ν·1·13 δ·1·13 ν·1·14 δ·1·14 ν·1·15 δ·1·15 ν·1·16 δ·1·16 ν·1·17 δ·1·17 ν·1·18 δ·1·18 v1 r1 ws1 e1·0 e1·1 len·1·sorts
-        len·1·symbols len·1·inputs len·1·rules len·1·rulevars len·1·patterns len·1·vars len·1·index len·1·words len·1·defs len·1·rows
-        len·1·lists len·1·missing len·1·cells is1 =
+        l105 l106 l107 l108 l109 l110 ν·1·3 δ·1·3 ν·1·4 δ·1·4 ν·1·5 δ·1·5 ν·1·6 δ·1·6 ν·1·7 δ·1·7 ν·1·8 δ·1·8 ν·1·9 δ·1·9 ν·1·10 δ·1·10 ν·1·11
+        δ·1·11 ν·1·12 δ·1·12 ν·1·13 δ·1·13 ν·1·14 δ·1·14 ν·1·15 δ·1·15 ν·1·16 δ·1·16 ν·1·17 δ·1·17 ν·1·18 δ·1·18 v1 r1 ws1 e1·0 e1·1
+        len·1·sorts len·1·symbols len·1·inputs len·1·rules len·1·rulevars len·1·patterns len·1·vars len·1·index len·1·words len·1·defs
+        len·1·rows len·1·lists len·1·missing len·1·cells is1 =
         move ! (15 ∷ []) $
         lft-end ! tt $
         move ! (0 ∷ 48 ∷ 32 ∷ []) $
@@ -7063,9 +7341,10 @@ module _ {M : Type 1} (𝓤 : URA M) (H : Heap 𝓤) (A : Atoms 𝓤) (W : Given
         seg·5 l0 l1 l2 l3 l4 l5 l6 l7 l8 l9 l10 l11 l12 l13 l14 l15 l16 l17 l18 l19 l20 l21 l22 l23 l24 l25 l26 l27 l28 l29 l30 l31 l32 l33 l34 l35
         l36 l37 l38 l39 l40 l41 l42 l43 l44 l45 l46 l47 l48 l49 l50 l51 l52 l53 l54 l55 l56 l57 l58 l59 l60 l61 l62 l63 l64 l65 l66 l67 l68 l69 l70
         l71 l72 l73 l74 l75 l76 l77 l78 l79 l80 l81 l82 l83 l84 l85 l86 l87 l88 l89 l90 l91 l92 l93 l94 l95 l96 l97 l98 l99 l100 l101 l102 l103 l104
-        l105 l106 l107 ν·1·3 δ·1·3 ν·1·4 δ·1·4 ν·1·5 δ·1·5 ν·1·6 δ·1·6 ν·1·7 δ·1·7 ν·1·8 δ·1·8 ν·1·9 δ·1·9 ν·1·10 δ·1·10 ν·1·11 δ·1·11 ν·1·12 δ·1·12
-        ν·1·13 δ·1·13 ν·1·14 δ·1·14 ν·1·15 δ·1·15 ν·1·16 δ·1·16 ν·1·17 δ·1·17 ν·1·18 δ·1·18 v1 r1 ws1 e1·0 e1·1 len·1·sorts len·1·symbols len·1·inputs
-        len·1·rules len·1·rulevars len·1·patterns len·1·vars len·1·index len·1·words len·1·defs len·1·rows len·1·lists len·1·missing len·1·cells is1
+        l105 l106 l107 l108 l109 l110 ν·1·3 δ·1·3 ν·1·4 δ·1·4 ν·1·5 δ·1·5 ν·1·6 δ·1·6 ν·1·7 δ·1·7 ν·1·8 δ·1·8 ν·1·9 δ·1·9 ν·1·10 δ·1·10 ν·1·11 δ·1·11
+        ν·1·12 δ·1·12 ν·1·13 δ·1·13 ν·1·14 δ·1·14 ν·1·15 δ·1·15 ν·1·16 δ·1·16 ν·1·17 δ·1·17 ν·1·18 δ·1·18 v1 r1 ws1 e1·0 e1·1 len·1·sorts
+        len·1·symbols len·1·inputs len·1·rules len·1·rulevars len·1·patterns len·1·vars len·1·index len·1·words len·1·defs len·1·rows len·1·lists
+        len·1·missing len·1·cells is1
 
     seg·3 : (l0 : ℕ) (l1 : ℕ) (l2 : ℕ) (l3 : ℕ) (l4 : ℕ) (l5 : ℕ) (l6 : ℕ) (l7 : ℕ) (l8 : ℕ) (l9 : ℕ) (l10 : ℕ) (l11 : ℕ) (l12 : ℕ) (l13 : ℕ)
         (l14 : ℕ) (l15 : ℕ) (l16 : ℕ) (l17 : ℕ) (l18 : ℕ) (l19 : ℕ) (l20 : ℕ) (l21 : ℕ) (l22 : ℕ) (l23 : ℕ) (l24 : ℕ) (l25 : ℕ) (l26 : ℕ) (l27 : ℕ)
@@ -7074,14 +7353,11 @@ module _ {M : Type 1} (𝓤 : URA M) (H : Heap 𝓤) (A : Atoms 𝓤) (W : Given
         (l56 : ℕ) (l57 : ℕ) (l58 : ℕ) (l59 : ℕ) (l60 : ℕ) (l61 : ℕ) (l62 : ℕ) (l63 : ℕ) (l64 : ℕ) (l65 : ℕ) (l66 : ℕ) (l67 : ℕ) (l68 : ℕ) (l69 : ℕ)
         (l70 : ℕ) (l71 : ℕ) (l72 : ℕ) (l73 : ℕ) (l74 : ℕ) (l75 : ℕ) (l76 : ℕ) (l77 : ℕ) (l78 : ℕ) (l79 : ℕ) (l80 : ℕ) (l81 : ℕ) (l82 : ℕ) (l83 : ℕ)
         (l84 : ℕ) (l85 : ℕ) (l86 : ℕ) (l87 : ℕ) (l88 : ℕ) (l89 : ℕ) (l90 : ℕ) (l91 : ℕ) (l92 : ℕ) (l93 : ℕ) (l94 : ℕ) (l95 : ℕ) (l96 : ℕ) (l97 : ℕ)
-        (l98 : ℕ) (l99 : ℕ) (l100 : ℕ) (l101 : ℕ) (l102 : ℕ) (l103 : ℕ) (l104 : ℕ) (l105 : ℕ) (l106 : ℕ) (l107 : ℕ) (ν·1·3 : ℕ) (δ·1·3 : GName)
-        (ν·1·4 : ℕ) (δ·1·4 : GName) (ν·1·5 : ℕ) (δ·1·5 : GName) (ν·1·6 : ℕ) (δ·1·6 : GName) (ν·1·7 : ℕ) (δ·1·7 : GName) (ν·1·8 : ℕ) (δ·1·8 : GName)
-        (ν·1·9 : ℕ) (δ·1·9 : GName) (ν·1·10 : ℕ) (δ·1·10 : GName) (ν·1·11 : ℕ) (δ·1·11 : GName) (ν·1·12 : ℕ) (δ·1·12 : GName) (ν·1·13 : ℕ)
-        (δ·1·13 : GName) →
-        Sq W (‵ (MutSlice (named 13) (ν·1·13 ∷ []) u32 .own (ref·rows δ·1·13 rows) (s·rows ∷ []))
-        ∷ ‵ (LentAgain u32 κ·rows (ν·1·13 ∷ []) q·rows γ·rows b·rows o·rows δ·1·13 rows)
-        ∷ ‵ (flft (ν·1·13 ∷ []) fullShare)
-        ∷ ‵ (MutSlice (named 12) (ν·1·12 ∷ []) u32 .own (ref·defs δ·1·12 defs) (s·defs ∷ []))
+        (l98 : ℕ) (l99 : ℕ) (l100 : ℕ) (l101 : ℕ) (l102 : ℕ) (l103 : ℕ) (l104 : ℕ) (l105 : ℕ) (l106 : ℕ) (l107 : ℕ) (l108 : ℕ) (l109 : ℕ) (l110 : ℕ)
+        (ν·1·3 : ℕ) (δ·1·3 : GName) (ν·1·4 : ℕ) (δ·1·4 : GName) (ν·1·5 : ℕ) (δ·1·5 : GName) (ν·1·6 : ℕ) (δ·1·6 : GName) (ν·1·7 : ℕ) (δ·1·7 : GName)
+        (ν·1·8 : ℕ) (δ·1·8 : GName) (ν·1·9 : ℕ) (δ·1·9 : GName) (ν·1·10 : ℕ) (δ·1·10 : GName) (ν·1·11 : ℕ) (δ·1·11 : GName) (ν·1·12 : ℕ)
+        (δ·1·12 : GName) →
+        Sq W (‵ (MutSlice (named 12) (ν·1·12 ∷ []) u32 .own (ref·defs δ·1·12 defs) (s·defs ∷ []))
         ∷ ‵ (LentAgain u32 κ·defs (ν·1·12 ∷ []) q·defs γ·defs b·defs o·defs δ·1·12 defs)
         ∷ ‵ (flft (ν·1·12 ∷ []) fullShare)
         ∷ ‵ (MutSlice (named 11) (ν·1·11 ∷ []) u32 .own (ref·words δ·1·11 words) (s·words ∷ []))
@@ -7117,6 +7393,7 @@ module _ {M : Type 1} (𝓤 : URA M) (H : Heap 𝓤) (A : Atoms 𝓤) (W : Given
         ∷ ‵ (ShrSlice (named 1) κ·goals u8 .own (ref·goals γ·goals goals) (s·goals ∷ []))
         ∷ ‵ (ShrSlice (named 0) κ·theory u8 .own (ref·theory γ·theory theory) (s·theory ∷ []))
         ∷ ‵ (ShrSlice (named 0) κ·theory u8 .own (ref·theory γ·theory theory) (s·theory ∷ []))
+        ∷ ‵ (flft κ·memo q·memo)
         ∷ ‵ (flft κ·ids q·ids)
         ∷ ‵ (flft κ·cells q·cells)
         ∷ ‵ (flft κ·feet q·feet)
@@ -7124,9 +7401,11 @@ module _ {M : Type 1} (𝓤 : URA M) (H : Heap 𝓤) (A : Atoms 𝓤) (W : Given
         ∷ ‵ (flft κ·facts q·facts)
         ∷ ‵ (flft κ·missing q·missing)
         ∷ ‵ (flft κ·lists q·lists)
+        ∷ ‵ (flft κ·rows q·rows)
         ∷ ‵ (flft κ·proof q·proof)
         ∷ ‵ (flft κ·goals q·goals)
         ∷ ‵ (flft κ·theory q·theory)
+        ∷ ‵ (MutSlice (named 21) κ·memo u32 .own (ref·memo γ·memo memo) (s·memo ∷ []))
         ∷ ‵ (MutSlice (named 20) κ·ids u32 .own (ref·ids γ·ids ids) (s·ids ∷ []))
         ∷ ‵ (MutSlice (named 19) κ·cells u32 .own (ref·cells γ·cells cells) (s·cells ∷ []))
         ∷ ‵ (MutSlice (named 18) κ·feet u64 .own (ref·feet γ·feet feet) (s·feet ∷ []))
@@ -7134,178 +7413,185 @@ module _ {M : Type 1} (𝓤 : URA M) (H : Heap 𝓤) (A : Atoms 𝓤) (W : Given
         ∷ ‵ (MutSlice (named 16) κ·facts FactT.the-row .own (ref·facts γ·facts facts) (s·facts ∷ []))
         ∷ ‵ (MutSlice (named 15) κ·missing u32 .own (ref·missing γ·missing missing) (s·missing ∷ []))
         ∷ ‵ (MutSlice (named 14) κ·lists u32 .own (ref·lists γ·lists lists) (s·lists ∷ []))
-        ∷ ‵ (froom (tyInt w64) l107 0)
-        ∷ ‵ (fdies (tyInt w64) l107)
-        ∷ ‵ (froom (tyInt w64) l106 0)
-        ∷ ‵ (fdies (tyInt w64) l106)
-        ∷ ‵ (froom (sliceTy (tyRef erased mut (pointee (FactT.the-row .written)))) l105 0)
-        ∷ ‵ (fdies (sliceTy (tyRef erased mut (pointee (FactT.the-row .written)))) l105)
-        ∷ ‵ (froom (tyRef erased mut (pointee (FactT.the-row .written))) l104 0)
-        ∷ ‵ (fdies (tyRef erased mut (pointee (FactT.the-row .written))) l104)
-        ∷ ‵ (froom tyUnit l103 0)
-        ∷ ‵ (fdies tyUnit l103)
-        ∷ ‵ (froom (sliceTy (tyRef erased mut (tyInt w32))) l102 0)
-        ∷ ‵ (fdies (sliceTy (tyRef erased mut (tyInt w32))) l102)
-        ∷ ‵ (froom (tyRef erased mut (tyInt w32)) l101 0)
-        ∷ ‵ (fdies (tyRef erased mut (tyInt w32)) l101)
-        ∷ ‵ (froom (sliceTy (tyRef erased imm (tyInt w32))) l100 0)
-        ∷ ‵ (fdies (sliceTy (tyRef erased imm (tyInt w32))) l100)
-        ∷ ‵ (froom (tyRef erased imm (tyInt w32)) l99 0)
-        ∷ ‵ (fdies (tyRef erased imm (tyInt w32)) l99)
-        ∷ ‵ (froom (sliceTy (tyRef erased imm (tyInt w32))) l98 0)
-        ∷ ‵ (fdies (sliceTy (tyRef erased imm (tyInt w32))) l98)
-        ∷ ‵ (froom (tyRef erased imm (tyInt w32)) l97 0)
-        ∷ ‵ (fdies (tyRef erased imm (tyInt w32)) l97)
-        ∷ ‵ (froom (sliceTy (tyRef erased mut (tyInt w32))) l96 0)
-        ∷ ‵ (fdies (sliceTy (tyRef erased mut (tyInt w32))) l96)
-        ∷ ‵ (froom (tyRef erased mut (tyInt w32)) l95 0)
-        ∷ ‵ (fdies (tyRef erased mut (tyInt w32)) l95)
-        ∷ ‵ (froom (tyRef erased mut (pointee (CountsT.the-row .written))) l94 0)
-        ∷ ‵ (fdies (tyRef erased mut (pointee (CountsT.the-row .written))) l94)
-        ∷ ‵ (froom (sliceTy (tyRef erased mut (pointee (FactT.the-row .written)))) l93 0)
-        ∷ ‵ (fdies (sliceTy (tyRef erased mut (pointee (FactT.the-row .written)))) l93)
-        ∷ ‵ (froom (tyRef erased mut (pointee (FactT.the-row .written))) l92 0)
-        ∷ ‵ (fdies (tyRef erased mut (pointee (FactT.the-row .written))) l92)
-        ∷ ‵ (froom (sliceTy (tyRef erased mut (tyInt w32))) l91 0)
-        ∷ ‵ (fdies (sliceTy (tyRef erased mut (tyInt w32))) l91)
-        ∷ ‵ (froom (tyRef erased mut (tyInt w32)) l90 0)
-        ∷ ‵ (fdies (tyRef erased mut (tyInt w32)) l90)
-        ∷ ‵ (froom (sliceTy (tyRef erased mut (tyInt w32))) l89 0)
-        ∷ ‵ (fdies (sliceTy (tyRef erased mut (tyInt w32))) l89)
-        ∷ ‵ (froom (tyRef erased mut (tyInt w32)) l88 0)
-        ∷ ‵ (fdies (tyRef erased mut (tyInt w32)) l88)
-        ∷ ‵ (froom (sliceTy (tyRef erased mut (tyInt w64))) l87 0)
-        ∷ ‵ (fdies (sliceTy (tyRef erased mut (tyInt w64))) l87)
-        ∷ ‵ (froom (tyRef erased mut (tyInt w64)) l86 0)
-        ∷ ‵ (fdies (tyRef erased mut (tyInt w64)) l86)
-        ∷ ‵ (froom (sliceTy (tyRef erased mut (tyInt w32))) l85 0)
-        ∷ ‵ (fdies (sliceTy (tyRef erased mut (tyInt w32))) l85)
-        ∷ ‵ (froom (tyRef erased mut (tyInt w32)) l84 0)
-        ∷ ‵ (fdies (tyRef erased mut (tyInt w32)) l84)
-        ∷ ‵ (froom (sliceTy (tyRef erased mut (tyInt w32))) l83 0)
-        ∷ ‵ (fdies (sliceTy (tyRef erased mut (tyInt w32))) l83)
-        ∷ ‵ (froom (tyRef erased mut (tyInt w32)) l82 0)
-        ∷ ‵ (fdies (tyRef erased mut (tyInt w32)) l82)
-        ∷ ‵ (froom (sliceTy (tyRef erased mut (tyInt w32))) l81 0)
-        ∷ ‵ (fdies (sliceTy (tyRef erased mut (tyInt w32))) l81)
-        ∷ ‵ (froom (tyRef erased mut (tyInt w32)) l80 0)
-        ∷ ‵ (fdies (tyRef erased mut (tyInt w32)) l80)
-        ∷ ‵ (froom (sliceTy (tyRef erased mut (tyInt w32))) l79 0)
-        ∷ ‵ (fdies (sliceTy (tyRef erased mut (tyInt w32))) l79)
-        ∷ ‵ (froom (tyRef erased mut (tyInt w32)) l78 0)
-        ∷ ‵ (fdies (tyRef erased mut (tyInt w32)) l78)
-        ∷ ‵ (froom (sliceTy (tyRef erased mut (tyInt w32))) l77 0)
-        ∷ ‵ (fdies (sliceTy (tyRef erased mut (tyInt w32))) l77)
-        ∷ ‵ (froom (tyRef erased mut (tyInt w32)) l76 0)
-        ∷ ‵ (fdies (tyRef erased mut (tyInt w32)) l76)
-        ∷ ‵ (froom (sliceTy (tyRef erased mut (tyInt w32))) l75 0)
-        ∷ ‵ (fdies (sliceTy (tyRef erased mut (tyInt w32))) l75)
-        ∷ ‵ (froom (tyRef erased mut (tyInt w32)) l74 0)
-        ∷ ‵ (fdies (tyRef erased mut (tyInt w32)) l74)
-        ∷ ‵ (froom (sliceTy (tyRef erased mut (tyInt w32))) l73 0)
-        ∷ ‵ (fdies (sliceTy (tyRef erased mut (tyInt w32))) l73)
-        ∷ ‵ (froom (tyRef erased mut (tyInt w32)) l72 0)
-        ∷ ‵ (fdies (tyRef erased mut (tyInt w32)) l72)
-        ∷ ‵ (froom (sliceTy (tyRef erased imm (tyInt w32))) l71 0)
-        ∷ ‵ (fdies (sliceTy (tyRef erased imm (tyInt w32))) l71)
-        ∷ ‵ (froom (tyRef erased imm (tyInt w32)) l70 0)
-        ∷ ‵ (fdies (tyRef erased imm (tyInt w32)) l70)
-        ∷ ‵ (froom (sliceTy (tyRef erased imm (tyInt w32))) l69 0)
-        ∷ ‵ (fdies (sliceTy (tyRef erased imm (tyInt w32))) l69)
-        ∷ ‵ (froom (tyRef erased imm (tyInt w32)) l68 0)
-        ∷ ‵ (fdies (tyRef erased imm (tyInt w32)) l68)
-        ∷ ‵ (froom (sliceTy (tyRef erased imm (tyInt w32))) l67 0)
-        ∷ ‵ (fdies (sliceTy (tyRef erased imm (tyInt w32))) l67)
-        ∷ ‵ (froom (tyRef erased imm (tyInt w32)) l66 0)
-        ∷ ‵ (fdies (tyRef erased imm (tyInt w32)) l66)
-        ∷ ‵ (froom (sliceTy (tyRef erased imm (tyInt w32))) l65 0)
-        ∷ ‵ (fdies (sliceTy (tyRef erased imm (tyInt w32))) l65)
-        ∷ ‵ (froom (tyRef erased imm (tyInt w32)) l64 0)
-        ∷ ‵ (fdies (tyRef erased imm (tyInt w32)) l64)
-        ∷ ‵ (froom (sliceTy (tyRef erased imm (tyInt w32))) l63 0)
-        ∷ ‵ (fdies (sliceTy (tyRef erased imm (tyInt w32))) l63)
-        ∷ ‵ (froom (tyRef erased imm (tyInt w32)) l62 0)
-        ∷ ‵ (fdies (tyRef erased imm (tyInt w32)) l62)
-        ∷ ‵ (froom (sliceTy (tyRef erased imm (tyInt w32))) l61 0)
-        ∷ ‵ (fdies (sliceTy (tyRef erased imm (tyInt w32))) l61)
-        ∷ ‵ (froom (tyRef erased imm (tyInt w32)) l60 0)
-        ∷ ‵ (fdies (tyRef erased imm (tyInt w32)) l60)
-        ∷ ‵ (froom CountsL.mir l59 0)
-        ∷ ‵ (fdies CountsL.mir l59)
-        ∷ ‵ (fat fullShare (sliceTy (tyRef erased mut (tyInt w32))) l58 0 s·cells)
-        ∷ ‵ (fdies (sliceTy (tyRef erased mut (tyInt w32))) l58)
-        ∷ ‵ (fat fullShare (tyRef erased mut (tyInt w32)) l57 0 (vptr b·cells o·cells))
-        ∷ ‵ (fdies (tyRef erased mut (tyInt w32)) l57)
-        ∷ ‵ (fat fullShare (sliceTy (tyRef erased imm (tyInt w64))) l56 0 s·feet)
-        ∷ ‵ (fdies (sliceTy (tyRef erased imm (tyInt w64))) l56)
-        ∷ ‵ (fat fullShare (tyRef erased imm (tyInt w64)) l55 0 (vptr b·feet o·feet))
-        ∷ ‵ (fdies (tyRef erased imm (tyInt w64)) l55)
-        ∷ ‵ (fat fullShare (sliceTy (tyRef erased imm (tyInt w32))) l54 0 s·kept)
-        ∷ ‵ (fdies (sliceTy (tyRef erased imm (tyInt w32))) l54)
-        ∷ ‵ (fat fullShare (tyRef erased imm (tyInt w32)) l53 0 (vptr b·kept o·kept))
-        ∷ ‵ (fdies (tyRef erased imm (tyInt w32)) l53)
-        ∷ ‵ (fat fullShare (sliceTy (tyRef erased mut (tyInt w32))) l52 0 s·missing)
-        ∷ ‵ (fdies (sliceTy (tyRef erased mut (tyInt w32))) l52)
-        ∷ ‵ (fat fullShare (tyRef erased mut (tyInt w32)) l51 0 (vptr b·missing o·missing))
-        ∷ ‵ (fdies (tyRef erased mut (tyInt w32)) l51)
-        ∷ ‵ (fat fullShare (sliceTy (tyRef erased mut (tyInt w32))) l50 0 s·lists)
-        ∷ ‵ (fdies (sliceTy (tyRef erased mut (tyInt w32))) l50)
-        ∷ ‵ (fat fullShare (tyRef erased mut (tyInt w32)) l49 0 (vptr b·lists o·lists))
-        ∷ ‵ (fdies (tyRef erased mut (tyInt w32)) l49)
-        ∷ ‵ (fat fullShare (sliceTy (tyRef erased mut (tyInt w32))) l48 0 s·rows)
-        ∷ ‵ (fdies (sliceTy (tyRef erased mut (tyInt w32))) l48)
-        ∷ ‵ (fat fullShare (tyRef erased mut (tyInt w32)) l47 0 (vptr b·rows o·rows))
-        ∷ ‵ (fdies (tyRef erased mut (tyInt w32)) l47)
-        ∷ ‵ (fat fullShare (sliceTy (tyRef erased mut (tyInt w32))) l46 0 s·defs)
-        ∷ ‵ (fdies (sliceTy (tyRef erased mut (tyInt w32))) l46)
-        ∷ ‵ (fat fullShare (tyRef erased mut (tyInt w32)) l45 0 (vptr b·defs o·defs))
-        ∷ ‵ (fdies (tyRef erased mut (tyInt w32)) l45)
-        ∷ ‵ (fat fullShare (sliceTy (tyRef erased mut (tyInt w32))) l44 0 s·words)
-        ∷ ‵ (fdies (sliceTy (tyRef erased mut (tyInt w32))) l44)
-        ∷ ‵ (fat fullShare (tyRef erased mut (tyInt w32)) l43 0 (vptr b·words o·words))
-        ∷ ‵ (fdies (tyRef erased mut (tyInt w32)) l43)
-        ∷ ‵ (fat fullShare (sliceTy (tyRef erased mut (tyInt w32))) l42 0 s·index)
-        ∷ ‵ (fdies (sliceTy (tyRef erased mut (tyInt w32))) l42)
-        ∷ ‵ (fat fullShare (tyRef erased mut (tyInt w32)) l41 0 (vptr b·index o·index))
-        ∷ ‵ (fdies (tyRef erased mut (tyInt w32)) l41)
-        ∷ ‵ (fat fullShare (sliceTy (tyRef erased mut (tyInt w32))) l40 0 s·vars)
-        ∷ ‵ (fdies (sliceTy (tyRef erased mut (tyInt w32))) l40)
-        ∷ ‵ (fat fullShare (tyRef erased mut (tyInt w32)) l39 0 (vptr b·vars o·vars))
-        ∷ ‵ (fdies (tyRef erased mut (tyInt w32)) l39)
-        ∷ ‵ (fat fullShare (sliceTy (tyRef erased mut (tyInt w32))) l38 0 s·patterns)
-        ∷ ‵ (fdies (sliceTy (tyRef erased mut (tyInt w32))) l38)
-        ∷ ‵ (fat fullShare (tyRef erased mut (tyInt w32)) l37 0 (vptr b·patterns o·patterns))
-        ∷ ‵ (fdies (tyRef erased mut (tyInt w32)) l37)
-        ∷ ‵ (fat fullShare (sliceTy (tyRef erased mut (tyInt w32))) l36 0 s·rulevars)
-        ∷ ‵ (fdies (sliceTy (tyRef erased mut (tyInt w32))) l36)
-        ∷ ‵ (fat fullShare (tyRef erased mut (tyInt w32)) l35 0 (vptr b·rulevars o·rulevars))
-        ∷ ‵ (fdies (tyRef erased mut (tyInt w32)) l35)
-        ∷ ‵ (fat fullShare (sliceTy (tyRef erased mut (tyInt w32))) l34 0 s·rules)
-        ∷ ‵ (fdies (sliceTy (tyRef erased mut (tyInt w32))) l34)
-        ∷ ‵ (fat fullShare (tyRef erased mut (tyInt w32)) l33 0 (vptr b·rules o·rules))
-        ∷ ‵ (fdies (tyRef erased mut (tyInt w32)) l33)
-        ∷ ‵ (fat fullShare (sliceTy (tyRef erased mut (tyInt w32))) l32 0 s·inputs)
-        ∷ ‵ (fdies (sliceTy (tyRef erased mut (tyInt w32))) l32)
-        ∷ ‵ (fat fullShare (tyRef erased mut (tyInt w32)) l31 0 (vptr b·inputs o·inputs))
-        ∷ ‵ (fdies (tyRef erased mut (tyInt w32)) l31)
-        ∷ ‵ (fat fullShare (sliceTy (tyRef erased mut (tyInt w32))) l30 0 s·symbols)
-        ∷ ‵ (fdies (sliceTy (tyRef erased mut (tyInt w32))) l30)
-        ∷ ‵ (fat fullShare (tyRef erased mut (tyInt w32)) l29 0 (vptr b·symbols o·symbols))
-        ∷ ‵ (fdies (tyRef erased mut (tyInt w32)) l29)
-        ∷ ‵ (fat fullShare (sliceTy (tyRef erased mut (tyInt w32))) l28 0 s·sorts)
-        ∷ ‵ (fdies (sliceTy (tyRef erased mut (tyInt w32))) l28)
-        ∷ ‵ (fat fullShare (tyRef erased mut (tyInt w32)) l27 0 (vptr b·sorts o·sorts))
-        ∷ ‵ (fdies (tyRef erased mut (tyInt w32)) l27)
-        ∷ ‵ (froom AnswerL.mir l26 0)
-        ∷ ‵ (fdies AnswerL.mir l26)
-        ∷ ‵ (froom RunL.mir l25 0)
-        ∷ ‵ (fdies RunL.mir l25)
-        ∷ ‵ (froom CountsL.mir l24 0)
-        ∷ ‵ (fdies CountsL.mir l24)
-        ∷ ‵ (froom RunL.mir l23 0)
-        ∷ ‵ (fdies RunL.mir l23)
-        ∷ ‵ (fat fullShare (tyInt w64) l22 0 (vint w64 (length facts)))
-        ∷ ‵ (fdies (tyInt w64) l22)
+        ∷ ‵ (MutSlice (named 13) κ·rows u32 .own (ref·rows γ·rows rows) (s·rows ∷ []))
+        ∷ ‵ (froom (tyInt w64) l110 0)
+        ∷ ‵ (fdies (tyInt w64) l110)
+        ∷ ‵ (froom (tyInt w64) l109 0)
+        ∷ ‵ (fdies (tyInt w64) l109)
+        ∷ ‵ (froom (sliceTy (tyRef erased mut (pointee (FactT.the-row .written)))) l108 0)
+        ∷ ‵ (fdies (sliceTy (tyRef erased mut (pointee (FactT.the-row .written)))) l108)
+        ∷ ‵ (froom (tyRef erased mut (pointee (FactT.the-row .written))) l107 0)
+        ∷ ‵ (fdies (tyRef erased mut (pointee (FactT.the-row .written))) l107)
+        ∷ ‵ (froom tyUnit l106 0)
+        ∷ ‵ (fdies tyUnit l106)
+        ∷ ‵ (froom (sliceTy (tyRef erased mut (tyInt w32))) l105 0)
+        ∷ ‵ (fdies (sliceTy (tyRef erased mut (tyInt w32))) l105)
+        ∷ ‵ (froom (tyRef erased mut (tyInt w32)) l104 0)
+        ∷ ‵ (fdies (tyRef erased mut (tyInt w32)) l104)
+        ∷ ‵ (froom (sliceTy (tyRef erased imm (tyInt w32))) l103 0)
+        ∷ ‵ (fdies (sliceTy (tyRef erased imm (tyInt w32))) l103)
+        ∷ ‵ (froom (tyRef erased imm (tyInt w32)) l102 0)
+        ∷ ‵ (fdies (tyRef erased imm (tyInt w32)) l102)
+        ∷ ‵ (froom (sliceTy (tyRef erased imm (tyInt w32))) l101 0)
+        ∷ ‵ (fdies (sliceTy (tyRef erased imm (tyInt w32))) l101)
+        ∷ ‵ (froom (tyRef erased imm (tyInt w32)) l100 0)
+        ∷ ‵ (fdies (tyRef erased imm (tyInt w32)) l100)
+        ∷ ‵ (froom (sliceTy (tyRef erased mut (tyInt w32))) l99 0)
+        ∷ ‵ (fdies (sliceTy (tyRef erased mut (tyInt w32))) l99)
+        ∷ ‵ (froom (tyRef erased mut (tyInt w32)) l98 0)
+        ∷ ‵ (fdies (tyRef erased mut (tyInt w32)) l98)
+        ∷ ‵ (froom (tyRef erased mut (pointee (CountsT.the-row .written))) l97 0)
+        ∷ ‵ (fdies (tyRef erased mut (pointee (CountsT.the-row .written))) l97)
+        ∷ ‵ (froom (sliceTy (tyRef erased mut (pointee (FactT.the-row .written)))) l96 0)
+        ∷ ‵ (fdies (sliceTy (tyRef erased mut (pointee (FactT.the-row .written)))) l96)
+        ∷ ‵ (froom (tyRef erased mut (pointee (FactT.the-row .written))) l95 0)
+        ∷ ‵ (fdies (tyRef erased mut (pointee (FactT.the-row .written))) l95)
+        ∷ ‵ (froom (sliceTy (tyRef erased mut (tyInt w32))) l94 0)
+        ∷ ‵ (fdies (sliceTy (tyRef erased mut (tyInt w32))) l94)
+        ∷ ‵ (froom (tyRef erased mut (tyInt w32)) l93 0)
+        ∷ ‵ (fdies (tyRef erased mut (tyInt w32)) l93)
+        ∷ ‵ (froom (sliceTy (tyRef erased mut (tyInt w32))) l92 0)
+        ∷ ‵ (fdies (sliceTy (tyRef erased mut (tyInt w32))) l92)
+        ∷ ‵ (froom (tyRef erased mut (tyInt w32)) l91 0)
+        ∷ ‵ (fdies (tyRef erased mut (tyInt w32)) l91)
+        ∷ ‵ (froom (sliceTy (tyRef erased mut (tyInt w32))) l90 0)
+        ∷ ‵ (fdies (sliceTy (tyRef erased mut (tyInt w32))) l90)
+        ∷ ‵ (froom (tyRef erased mut (tyInt w32)) l89 0)
+        ∷ ‵ (fdies (tyRef erased mut (tyInt w32)) l89)
+        ∷ ‵ (froom (sliceTy (tyRef erased mut (tyInt w64))) l88 0)
+        ∷ ‵ (fdies (sliceTy (tyRef erased mut (tyInt w64))) l88)
+        ∷ ‵ (froom (tyRef erased mut (tyInt w64)) l87 0)
+        ∷ ‵ (fdies (tyRef erased mut (tyInt w64)) l87)
+        ∷ ‵ (froom (sliceTy (tyRef erased mut (tyInt w32))) l86 0)
+        ∷ ‵ (fdies (sliceTy (tyRef erased mut (tyInt w32))) l86)
+        ∷ ‵ (froom (tyRef erased mut (tyInt w32)) l85 0)
+        ∷ ‵ (fdies (tyRef erased mut (tyInt w32)) l85)
+        ∷ ‵ (froom (sliceTy (tyRef erased mut (tyInt w32))) l84 0)
+        ∷ ‵ (fdies (sliceTy (tyRef erased mut (tyInt w32))) l84)
+        ∷ ‵ (froom (tyRef erased mut (tyInt w32)) l83 0)
+        ∷ ‵ (fdies (tyRef erased mut (tyInt w32)) l83)
+        ∷ ‵ (froom (sliceTy (tyRef erased mut (tyInt w32))) l82 0)
+        ∷ ‵ (fdies (sliceTy (tyRef erased mut (tyInt w32))) l82)
+        ∷ ‵ (froom (tyRef erased mut (tyInt w32)) l81 0)
+        ∷ ‵ (fdies (tyRef erased mut (tyInt w32)) l81)
+        ∷ ‵ (froom (sliceTy (tyRef erased mut (tyInt w32))) l80 0)
+        ∷ ‵ (fdies (sliceTy (tyRef erased mut (tyInt w32))) l80)
+        ∷ ‵ (froom (tyRef erased mut (tyInt w32)) l79 0)
+        ∷ ‵ (fdies (tyRef erased mut (tyInt w32)) l79)
+        ∷ ‵ (froom (sliceTy (tyRef erased mut (tyInt w32))) l78 0)
+        ∷ ‵ (fdies (sliceTy (tyRef erased mut (tyInt w32))) l78)
+        ∷ ‵ (froom (tyRef erased mut (tyInt w32)) l77 0)
+        ∷ ‵ (fdies (tyRef erased mut (tyInt w32)) l77)
+        ∷ ‵ (froom (sliceTy (tyRef erased mut (tyInt w32))) l76 0)
+        ∷ ‵ (fdies (sliceTy (tyRef erased mut (tyInt w32))) l76)
+        ∷ ‵ (froom (tyRef erased mut (tyInt w32)) l75 0)
+        ∷ ‵ (fdies (tyRef erased mut (tyInt w32)) l75)
+        ∷ ‵ (froom (sliceTy (tyRef erased mut (tyInt w32))) l74 0)
+        ∷ ‵ (fdies (sliceTy (tyRef erased mut (tyInt w32))) l74)
+        ∷ ‵ (froom (tyRef erased mut (tyInt w32)) l73 0)
+        ∷ ‵ (fdies (tyRef erased mut (tyInt w32)) l73)
+        ∷ ‵ (froom (sliceTy (tyRef erased imm (tyInt w32))) l72 0)
+        ∷ ‵ (fdies (sliceTy (tyRef erased imm (tyInt w32))) l72)
+        ∷ ‵ (froom (tyRef erased imm (tyInt w32)) l71 0)
+        ∷ ‵ (fdies (tyRef erased imm (tyInt w32)) l71)
+        ∷ ‵ (froom (sliceTy (tyRef erased imm (tyInt w32))) l70 0)
+        ∷ ‵ (fdies (sliceTy (tyRef erased imm (tyInt w32))) l70)
+        ∷ ‵ (froom (tyRef erased imm (tyInt w32)) l69 0)
+        ∷ ‵ (fdies (tyRef erased imm (tyInt w32)) l69)
+        ∷ ‵ (froom (sliceTy (tyRef erased imm (tyInt w32))) l68 0)
+        ∷ ‵ (fdies (sliceTy (tyRef erased imm (tyInt w32))) l68)
+        ∷ ‵ (froom (tyRef erased imm (tyInt w32)) l67 0)
+        ∷ ‵ (fdies (tyRef erased imm (tyInt w32)) l67)
+        ∷ ‵ (froom (sliceTy (tyRef erased imm (tyInt w32))) l66 0)
+        ∷ ‵ (fdies (sliceTy (tyRef erased imm (tyInt w32))) l66)
+        ∷ ‵ (froom (tyRef erased imm (tyInt w32)) l65 0)
+        ∷ ‵ (fdies (tyRef erased imm (tyInt w32)) l65)
+        ∷ ‵ (froom (sliceTy (tyRef erased imm (tyInt w32))) l64 0)
+        ∷ ‵ (fdies (sliceTy (tyRef erased imm (tyInt w32))) l64)
+        ∷ ‵ (froom (tyRef erased imm (tyInt w32)) l63 0)
+        ∷ ‵ (fdies (tyRef erased imm (tyInt w32)) l63)
+        ∷ ‵ (froom (sliceTy (tyRef erased imm (tyInt w32))) l62 0)
+        ∷ ‵ (fdies (sliceTy (tyRef erased imm (tyInt w32))) l62)
+        ∷ ‵ (froom (tyRef erased imm (tyInt w32)) l61 0)
+        ∷ ‵ (fdies (tyRef erased imm (tyInt w32)) l61)
+        ∷ ‵ (froom CountsL.mir l60 0)
+        ∷ ‵ (fdies CountsL.mir l60)
+        ∷ ‵ (fat fullShare (sliceTy (tyRef erased mut (tyInt w32))) l59 0 s·cells)
+        ∷ ‵ (fdies (sliceTy (tyRef erased mut (tyInt w32))) l59)
+        ∷ ‵ (fat fullShare (tyRef erased mut (tyInt w32)) l58 0 (vptr b·cells o·cells))
+        ∷ ‵ (fdies (tyRef erased mut (tyInt w32)) l58)
+        ∷ ‵ (fat fullShare (sliceTy (tyRef erased imm (tyInt w64))) l57 0 s·feet)
+        ∷ ‵ (fdies (sliceTy (tyRef erased imm (tyInt w64))) l57)
+        ∷ ‵ (fat fullShare (tyRef erased imm (tyInt w64)) l56 0 (vptr b·feet o·feet))
+        ∷ ‵ (fdies (tyRef erased imm (tyInt w64)) l56)
+        ∷ ‵ (fat fullShare (sliceTy (tyRef erased imm (tyInt w32))) l55 0 s·kept)
+        ∷ ‵ (fdies (sliceTy (tyRef erased imm (tyInt w32))) l55)
+        ∷ ‵ (fat fullShare (tyRef erased imm (tyInt w32)) l54 0 (vptr b·kept o·kept))
+        ∷ ‵ (fdies (tyRef erased imm (tyInt w32)) l54)
+        ∷ ‵ (fat fullShare (sliceTy (tyRef erased mut (tyInt w32))) l53 0 s·missing)
+        ∷ ‵ (fdies (sliceTy (tyRef erased mut (tyInt w32))) l53)
+        ∷ ‵ (fat fullShare (tyRef erased mut (tyInt w32)) l52 0 (vptr b·missing o·missing))
+        ∷ ‵ (fdies (tyRef erased mut (tyInt w32)) l52)
+        ∷ ‵ (fat fullShare (sliceTy (tyRef erased mut (tyInt w32))) l51 0 s·lists)
+        ∷ ‵ (fdies (sliceTy (tyRef erased mut (tyInt w32))) l51)
+        ∷ ‵ (fat fullShare (tyRef erased mut (tyInt w32)) l50 0 (vptr b·lists o·lists))
+        ∷ ‵ (fdies (tyRef erased mut (tyInt w32)) l50)
+        ∷ ‵ (fat fullShare (sliceTy (tyRef erased mut (tyInt w32))) l49 0 s·rows)
+        ∷ ‵ (fdies (sliceTy (tyRef erased mut (tyInt w32))) l49)
+        ∷ ‵ (fat fullShare (tyRef erased mut (tyInt w32)) l48 0 (vptr b·rows o·rows))
+        ∷ ‵ (fdies (tyRef erased mut (tyInt w32)) l48)
+        ∷ ‵ (fat fullShare (sliceTy (tyRef erased mut (tyInt w32))) l47 0 s·defs)
+        ∷ ‵ (fdies (sliceTy (tyRef erased mut (tyInt w32))) l47)
+        ∷ ‵ (fat fullShare (tyRef erased mut (tyInt w32)) l46 0 (vptr b·defs o·defs))
+        ∷ ‵ (fdies (tyRef erased mut (tyInt w32)) l46)
+        ∷ ‵ (fat fullShare (sliceTy (tyRef erased mut (tyInt w32))) l45 0 s·words)
+        ∷ ‵ (fdies (sliceTy (tyRef erased mut (tyInt w32))) l45)
+        ∷ ‵ (fat fullShare (tyRef erased mut (tyInt w32)) l44 0 (vptr b·words o·words))
+        ∷ ‵ (fdies (tyRef erased mut (tyInt w32)) l44)
+        ∷ ‵ (fat fullShare (sliceTy (tyRef erased mut (tyInt w32))) l43 0 s·index)
+        ∷ ‵ (fdies (sliceTy (tyRef erased mut (tyInt w32))) l43)
+        ∷ ‵ (fat fullShare (tyRef erased mut (tyInt w32)) l42 0 (vptr b·index o·index))
+        ∷ ‵ (fdies (tyRef erased mut (tyInt w32)) l42)
+        ∷ ‵ (fat fullShare (sliceTy (tyRef erased mut (tyInt w32))) l41 0 s·vars)
+        ∷ ‵ (fdies (sliceTy (tyRef erased mut (tyInt w32))) l41)
+        ∷ ‵ (fat fullShare (tyRef erased mut (tyInt w32)) l40 0 (vptr b·vars o·vars))
+        ∷ ‵ (fdies (tyRef erased mut (tyInt w32)) l40)
+        ∷ ‵ (fat fullShare (sliceTy (tyRef erased mut (tyInt w32))) l39 0 s·patterns)
+        ∷ ‵ (fdies (sliceTy (tyRef erased mut (tyInt w32))) l39)
+        ∷ ‵ (fat fullShare (tyRef erased mut (tyInt w32)) l38 0 (vptr b·patterns o·patterns))
+        ∷ ‵ (fdies (tyRef erased mut (tyInt w32)) l38)
+        ∷ ‵ (fat fullShare (sliceTy (tyRef erased mut (tyInt w32))) l37 0 s·rulevars)
+        ∷ ‵ (fdies (sliceTy (tyRef erased mut (tyInt w32))) l37)
+        ∷ ‵ (fat fullShare (tyRef erased mut (tyInt w32)) l36 0 (vptr b·rulevars o·rulevars))
+        ∷ ‵ (fdies (tyRef erased mut (tyInt w32)) l36)
+        ∷ ‵ (fat fullShare (sliceTy (tyRef erased mut (tyInt w32))) l35 0 s·rules)
+        ∷ ‵ (fdies (sliceTy (tyRef erased mut (tyInt w32))) l35)
+        ∷ ‵ (fat fullShare (tyRef erased mut (tyInt w32)) l34 0 (vptr b·rules o·rules))
+        ∷ ‵ (fdies (tyRef erased mut (tyInt w32)) l34)
+        ∷ ‵ (fat fullShare (sliceTy (tyRef erased mut (tyInt w32))) l33 0 s·inputs)
+        ∷ ‵ (fdies (sliceTy (tyRef erased mut (tyInt w32))) l33)
+        ∷ ‵ (fat fullShare (tyRef erased mut (tyInt w32)) l32 0 (vptr b·inputs o·inputs))
+        ∷ ‵ (fdies (tyRef erased mut (tyInt w32)) l32)
+        ∷ ‵ (fat fullShare (sliceTy (tyRef erased mut (tyInt w32))) l31 0 s·symbols)
+        ∷ ‵ (fdies (sliceTy (tyRef erased mut (tyInt w32))) l31)
+        ∷ ‵ (fat fullShare (tyRef erased mut (tyInt w32)) l30 0 (vptr b·symbols o·symbols))
+        ∷ ‵ (fdies (tyRef erased mut (tyInt w32)) l30)
+        ∷ ‵ (fat fullShare (sliceTy (tyRef erased mut (tyInt w32))) l29 0 s·sorts)
+        ∷ ‵ (fdies (sliceTy (tyRef erased mut (tyInt w32))) l29)
+        ∷ ‵ (fat fullShare (tyRef erased mut (tyInt w32)) l28 0 (vptr b·sorts o·sorts))
+        ∷ ‵ (fdies (tyRef erased mut (tyInt w32)) l28)
+        ∷ ‵ (froom AnswerL.mir l27 0)
+        ∷ ‵ (fdies AnswerL.mir l27)
+        ∷ ‵ (froom RunL.mir l26 0)
+        ∷ ‵ (fdies RunL.mir l26)
+        ∷ ‵ (froom CountsL.mir l25 0)
+        ∷ ‵ (fdies CountsL.mir l25)
+        ∷ ‵ (froom RunL.mir l24 0)
+        ∷ ‵ (fdies RunL.mir l24)
+        ∷ ‵ (fat fullShare (tyInt w64) l23 0 (vint w64 (length facts)))
+        ∷ ‵ (fdies (tyInt w64) l23)
+        ∷ ‵ (fat fullShare (sliceTy (tyRef (named 21) mut (tyInt w32))) l22 0 s·memo)
+        ∷ ‵ (fdies (sliceTy (tyRef (named 21) mut (tyInt w32))) l22)
         ∷ ‵ (fat fullShare (sliceTy (tyRef (named 20) mut (tyInt w32))) l21 0 s·ids)
         ∷ ‵ (fdies (sliceTy (tyRef (named 20) mut (tyInt w32))) l21)
         ∷ ‵ (fat fullShare (sliceTy (tyRef (named 19) mut (tyInt w32))) l20 0 s·cells)
@@ -7353,46 +7639,52 @@ module _ {M : Type 1} (𝓤 : URA M) (H : Heap 𝓤) (A : Atoms 𝓤) (W : Given
         (runs C Λ (En l0 l1 l2 l3 l4 l5 l6 l7 l8 l9 l10 l11 l12 l13 l14 l15 l16 l17 l18 l19 l20 l21 l22 l23 l24 l25 l26 l27 l28 l29 l30 l31 l32 l33
         l34 l35 l36 l37 l38 l39 l40 l41 l42 l43 l44 l45 l46 l47 l48 l49 l50 l51 l52 l53 l54 l55 l56 l57 l58 l59 l60 l61 l62 l63 l64 l65 l66 l67 l68
         l69 l70 l71 l72 l73 l74 l75 l76 l77 l78 l79 l80 l81 l82 l83 l84 l85 l86 l87 l88 l89 l90 l91 l92 l93 l94 l95 l96 l97 l98 l99 l100 l101 l102
-        l103 l104 l105 l106 l107) pieces.t-34 (atRet (En l0 l1 l2 l3 l4 l5 l6 l7 l8 l9 l10 l11 l12 l13 l14 l15 l16 l17 l18 l19 l20 l21 l22 l23 l24 l25
-        l26 l27 l28 l29 l30 l31 l32 l33 l34 l35 l36 l37 l38 l39 l40 l41 l42 l43 l44 l45 l46 l47 l48 l49 l50 l51 l52 l53 l54 l55 l56 l57 l58 l59 l60
-        l61 l62 l63 l64 l65 l66 l67 l68 l69 l70 l71 l72 l73 l74 l75 l76 l77 l78 l79 l80 l81 l82 l83 l84 l85 l86 l87 l88 l89 l90 l91 l92 l93 l94 l95
-        l96 l97 l98 l99 l100 l101 l102 l103 l104 l105 l106 l107) Post))
+        l103 l104 l105 l106 l107 l108 l109 l110) pieces.t-34 (atRet (En l0 l1 l2 l3 l4 l5 l6 l7 l8 l9 l10 l11 l12 l13 l14 l15 l16 l17 l18 l19 l20 l21
+        l22 l23 l24 l25 l26 l27 l28 l29 l30 l31 l32 l33 l34 l35 l36 l37 l38 l39 l40 l41 l42 l43 l44 l45 l46 l47 l48 l49 l50 l51 l52 l53 l54 l55 l56
+        l57 l58 l59 l60 l61 l62 l63 l64 l65 l66 l67 l68 l69 l70 l71 l72 l73 l74 l75 l76 l77 l78 l79 l80 l81 l82 l83 l84 l85 l86 l87 l88 l89 l90 l91
+        l92 l93 l94 l95 l96 l97 l98 l99 l100 l101 l102 l103 l104 l105 l106 l107 l108 l109 l110) Post))
     seg·3 l0 l1 l2 l3 l4 l5 l6 l7 l8 l9 l10 l11 l12 l13 l14 l15 l16 l17 l18 l19 l20 l21 l22 l23 l24 l25 l26 l27 l28 l29 l30 l31 l32 l33 l34 l35 l36
         l37 l38 l39 l40 l41 l42 l43 l44 l45 l46 l47 l48 l49 l50 l51 l52 l53 l54 l55 l56 l57 l58 l59 l60 l61 l62 l63 l64 l65 l66 l67 l68 l69 l70 l71
         l72 l73 l74 l75 l76 l77 l78 l79 l80 l81 l82 l83 l84 l85 l86 l87 l88 l89 l90 l91 l92 l93 l94 l95 l96 l97 l98 l99 l100 l101 l102 l103 l104
-        l105 l106 l107 ν·1·3 δ·1·3 ν·1·4 δ·1·4 ν·1·5 δ·1·5 ν·1·6 δ·1·6 ν·1·7 δ·1·7 ν·1·8 δ·1·8 ν·1·9 δ·1·9 ν·1·10 δ·1·10 ν·1·11 δ·1·11 ν·1·12
-        δ·1·12 ν·1·13 δ·1·13 =
+        l105 l106 l107 l108 l109 l110 ν·1·3 δ·1·3 ν·1·4 δ·1·4 ν·1·5 δ·1·5 ν·1·6 δ·1·6 ν·1·7 δ·1·7 ν·1·8 δ·1·8 ν·1·9 δ·1·9 ν·1·10 δ·1·10 ν·1·11
+        δ·1·11 ν·1·12 δ·1·12 =
+        lft-new ! tt (λ ν·1·13.
+        move ! (57 ∷ 45 ∷ []) $
+        use2 W (later (some (λ (δ : GName). ‵ (MutSlice (named 13) (ν·1·13 ∷ []) u32 .own (ref·rows δ rows) (s·rows ∷ []))
+        ⊛ ‵ (LentAgain u32 κ·rows (ν·1·13 ∷ []) q·rows γ·rows b·rows o·rows δ rows))))
+        (lends-again u32 κ·rows (ν·1·13 ∷ []) q·rows γ·rows b·rows o·rows 𝓤 H A W (named 13) (named 13) (length rows) rows) $ await ! tt $
+        pick ! (λ δ·1·13. split ! $
         lft-new ! tt (λ ν·1·14.
-        move ! (56 ∷ 46 ∷ []) $
+        move ! (58 ∷ 47 ∷ []) $
         use2 W (later (some (λ (δ : GName). ‵ (MutSlice (named 14) (ν·1·14 ∷ []) u32 .own (ref·lists δ lists) (s·lists ∷ []))
         ⊛ ‵ (LentAgain u32 κ·lists (ν·1·14 ∷ []) q·lists γ·lists b·lists o·lists δ lists))))
         (lends-again u32 κ·lists (ν·1·14 ∷ []) q·lists γ·lists b·lists o·lists 𝓤 H A W (named 14) (named 14) (length lists) lists) $ await ! tt $
         pick ! (λ δ·1·14. split ! $
         lft-new ! tt (λ ν·1·15.
-        move ! (57 ∷ 48 ∷ []) $
+        move ! (59 ∷ 49 ∷ []) $
         use2 W (later (some (λ (δ : GName). ‵ (MutSlice (named 15) (ν·1·15 ∷ []) u32 .own (ref·missing δ missing) (s·missing ∷ []))
         ⊛ ‵ (LentAgain u32 κ·missing (ν·1·15 ∷ []) q·missing γ·missing b·missing o·missing δ missing))))
         (lends-again u32 κ·missing (ν·1·15 ∷ []) q·missing γ·missing b·missing o·missing 𝓤 H A W (named 15) (named 15) (length missing) missing) $
         await ! tt $ pick ! (λ δ·1·15. split ! $
         lft-new ! tt (λ ν·1·16.
-        move ! (57 ∷ 49 ∷ []) $
+        move ! (59 ∷ 50 ∷ []) $
         use2 W (later (some (λ (δ : GName). ‵ (ShrSlice (named 16) (ν·1·16 ∷ []) u32 .own (ref·kept δ kept) (s·kept ∷ []))
         ⊛ ‵ (LentShared u32 κ·kept (ν·1·16 ∷ []) q·kept γ·kept b·kept o·kept kept))))
         (lends-shared u32 κ·kept (ν·1·16 ∷ []) q·kept γ·kept b·kept o·kept 𝓤 H A W (named 17) (named 16) (length kept) kept) $ await ! tt $
         pick ! (λ δ·1·16. split ! $
         lft-new ! tt (λ ν·1·17.
-        move ! (58 ∷ 51 ∷ []) $
+        move ! (60 ∷ 52 ∷ []) $
         use2 W (later (some (λ (δ : GName). ‵ (ShrSlice (named 17) (ν·1·17 ∷ []) u64 .own (ref·feet δ feet) (s·feet ∷ []))
         ⊛ ‵ (LentShared u64 κ·feet (ν·1·17 ∷ []) q·feet γ·feet b·feet o·feet feet))))
         (lends-shared u64 κ·feet (ν·1·17 ∷ []) q·feet γ·feet b·feet o·feet 𝓤 H A W (named 18) (named 17) (length feet) feet) $ await ! tt $
         pick ! (λ δ·1·17. split ! $
         lft-new ! tt (λ ν·1·18.
-        move ! (59 ∷ 53 ∷ []) $
+        move ! (61 ∷ 54 ∷ []) $
         use2 W (later (some (λ (δ : GName). ‵ (MutSlice (named 18) (ν·1·18 ∷ []) u32 .own (ref·cells δ cells) (s·cells ∷ []))
         ⊛ ‵ (LentAgain u32 κ·cells (ν·1·18 ∷ []) q·cells γ·cells b·cells o·cells δ cells))))
         (lends-again u32 κ·cells (ν·1·18 ∷ []) q·cells γ·cells b·cells o·cells 𝓤 H A W (named 19) (named 18) (length cells) cells) $ await ! tt $
         pick ! (λ δ·1·18. split ! $
-        move ! (58 ∷ 57 ∷ 56 ∷ 47 ∷ 44 ∷ 41 ∷ 38 ∷ 35 ∷ 32 ∷ 29 ∷ 26 ∷ 23 ∷ 20 ∷ 17 ∷ 14 ∷ 11 ∷ 8 ∷ 5 ∷ 2 ∷ 52 ∷ 50 ∷ 48 ∷ 45 ∷ 42 ∷ 39 ∷ 36 ∷ 33 ∷ 30
+        move ! (59 ∷ 58 ∷ 57 ∷ 47 ∷ 44 ∷ 41 ∷ 38 ∷ 35 ∷ 32 ∷ 29 ∷ 26 ∷ 23 ∷ 20 ∷ 17 ∷ 14 ∷ 11 ∷ 8 ∷ 5 ∷ 2 ∷ 52 ∷ 50 ∷ 48 ∷ 45 ∷ 42 ∷ 39 ∷ 36 ∷ 33 ∷ 30
         ∷ 27 ∷ 24 ∷ 21 ∷ 18 ∷ 15 ∷ 12 ∷ 9 ∷ 6 ∷ 3 ∷ 0 ∷ []) $
         group ! 38 $
         use1 W (raw ((G1·C 𝓤 H A at-mem run) .pre (
@@ -7586,16 +7878,16 @@ module _ {M : Type 1} (𝓤 : URA M) (H : Heap 𝓤) (A : Atoms 𝓤) (W : Given
             ),
           ),
           tt,
-        ) (and-then ! (load ! (from ! (stop !)) (look ! 236 refl)) (and-then ! (load ! (from ! (stop !)) (look ! 234 refl))
-        (and-then ! (load ! (from ! (stop !)) (look ! 232 refl)) (and-then ! (load ! (from ! (stop !)) (look ! 182 refl))
-        (and-then ! (load ! (from ! (stop !)) (look ! 178 refl)) (and-then ! (load ! (from ! (stop !)) (look ! 174 refl))
-        (and-then ! (load ! (from ! (stop !)) (look ! 170 refl)) (and-then ! (load ! (from ! (stop !)) (look ! 166 refl))
-        (and-then ! (load ! (from ! (stop !)) (look ! 162 refl)) (and-then ! (load ! (from ! (stop !)) (look ! 158 refl))
-        (and-then ! (load ! (from ! (stop !)) (look ! 154 refl)) (and-then ! (load ! (from ! (stop !)) (look ! 150 refl))
-        (and-then ! (load ! (from ! (stop !)) (look ! 146 refl)) (and-then ! (load ! (from ! (stop !)) (look ! 142 refl))
-        (and-then ! (load ! (from ! (stop !)) (look ! 138 refl)) (and-then ! (load ! (from ! (stop !)) (look ! 134 refl))
-        (and-then ! (load ! (from ! (stop !)) (look ! 130 refl)) (and-then ! (load ! (from ! (stop !)) (look ! 126 refl))
-        (and-then ! (load ! (from ! (stop !)) (look ! 122 refl)) (and-then ! (load ! (from ! (stop !)) (look ! 194 refl))
+        ) (and-then ! (load ! (from ! (stop !)) (look ! 244 refl)) (and-then ! (load ! (from ! (stop !)) (look ! 242 refl))
+        (and-then ! (load ! (from ! (stop !)) (look ! 240 refl)) (and-then ! (load ! (from ! (stop !)) (look ! 188 refl))
+        (and-then ! (load ! (from ! (stop !)) (look ! 184 refl)) (and-then ! (load ! (from ! (stop !)) (look ! 180 refl))
+        (and-then ! (load ! (from ! (stop !)) (look ! 176 refl)) (and-then ! (load ! (from ! (stop !)) (look ! 172 refl))
+        (and-then ! (load ! (from ! (stop !)) (look ! 168 refl)) (and-then ! (load ! (from ! (stop !)) (look ! 164 refl))
+        (and-then ! (load ! (from ! (stop !)) (look ! 160 refl)) (and-then ! (load ! (from ! (stop !)) (look ! 156 refl))
+        (and-then ! (load ! (from ! (stop !)) (look ! 152 refl)) (and-then ! (load ! (from ! (stop !)) (look ! 148 refl))
+        (and-then ! (load ! (from ! (stop !)) (look ! 144 refl)) (and-then ! (load ! (from ! (stop !)) (look ! 140 refl))
+        (and-then ! (load ! (from ! (stop !)) (look ! 136 refl)) (and-then ! (load ! (from ! (stop !)) (look ! 132 refl))
+        (and-then ! (load ! (from ! (stop !)) (look ! 128 refl)) (and-then ! (load ! (from ! (stop !)) (look ! 200 refl))
         (no-more !))))))))))))))))))))) (λ v1.
         use1 W (later (some (λ (r1 : Run). ((‵ (flft κ·theory q·theory) ⊛ ‵ (flft κ·goals q·goals) ⊛ ‵ (flft κ·proof q·proof)
         ⊛ ‵ (flft (ν·1·3 ∷ []) fullShare) ⊛ ‵ (flft (ν·1·4 ∷ []) fullShare) ⊛ ‵ (flft (ν·1·5 ∷ []) fullShare) ⊛ ‵ (flft (ν·1·6 ∷ []) fullShare)
@@ -7814,7 +8106,7 @@ module _ {M : Type 1} (𝓤 : URA M) (H : Heap 𝓤) (A : Atoms 𝓤) (W : Given
         move ! (1 ∷ []) $
         peeks ! RunT.the-row (Is RunT.the-row) (shows 𝓤 H A RunT.the-row) r1 (v1 ∷ []) (λ is1.
         drop ! $
-        land ! (from ! (stop !)) (init ! 206 refl (LL.lawful RunT.the-type RunL.the-laws 𝓤 H A W .typed r1 _ is1 .0)) $
+        land ! (from ! (stop !)) (init ! 212 refl (LL.lawful RunT.the-type RunL.the-laws 𝓤 H A W .typed r1 _ is1 .0)) $
         split ! $
         move ! (1 ∷ []) $
         split ! $
@@ -7857,10 +8149,10 @@ module _ {M : Type 1} (𝓤 : URA M) (H : Heap 𝓤) (A : Atoms 𝓤) (W : Given
         seg·4 l0 l1 l2 l3 l4 l5 l6 l7 l8 l9 l10 l11 l12 l13 l14 l15 l16 l17 l18 l19 l20 l21 l22 l23 l24 l25 l26 l27 l28 l29 l30 l31 l32 l33 l34 l35
         l36 l37 l38 l39 l40 l41 l42 l43 l44 l45 l46 l47 l48 l49 l50 l51 l52 l53 l54 l55 l56 l57 l58 l59 l60 l61 l62 l63 l64 l65 l66 l67 l68 l69 l70
         l71 l72 l73 l74 l75 l76 l77 l78 l79 l80 l81 l82 l83 l84 l85 l86 l87 l88 l89 l90 l91 l92 l93 l94 l95 l96 l97 l98 l99 l100 l101 l102 l103 l104
-        l105 l106 l107 ν·1·3 δ·1·3 ν·1·4 δ·1·4 ν·1·5 δ·1·5 ν·1·6 δ·1·6 ν·1·7 δ·1·7 ν·1·8 δ·1·8 ν·1·9 δ·1·9 ν·1·10 δ·1·10 ν·1·11 δ·1·11 ν·1·12 δ·1·12
-        ν·1·13 δ·1·13 ν·1·14 δ·1·14 ν·1·15 δ·1·15 ν·1·16 δ·1·16 ν·1·17 δ·1·17 ν·1·18 δ·1·18 v1 r1 ws1 e1·0 e1·1 len·1·sorts len·1·symbols len·1·inputs
-        len·1·rules len·1·rulevars len·1·patterns len·1·vars len·1·index len·1·words len·1·defs len·1·rows len·1·lists len·1·missing len·1·cells
-        is1))))))))))))))))))))))))))))))
+        l105 l106 l107 l108 l109 l110 ν·1·3 δ·1·3 ν·1·4 δ·1·4 ν·1·5 δ·1·5 ν·1·6 δ·1·6 ν·1·7 δ·1·7 ν·1·8 δ·1·8 ν·1·9 δ·1·9 ν·1·10 δ·1·10 ν·1·11 δ·1·11
+        ν·1·12 δ·1·12 ν·1·13 δ·1·13 ν·1·14 δ·1·14 ν·1·15 δ·1·15 ν·1·16 δ·1·16 ν·1·17 δ·1·17 ν·1·18 δ·1·18 v1 r1 ws1 e1·0 e1·1 len·1·sorts
+        len·1·symbols len·1·inputs len·1·rules len·1·rulevars len·1·patterns len·1·vars len·1·index len·1·words len·1·defs len·1·rows len·1·lists
+        len·1·missing len·1·cells is1))))))))))))))))))))))))))))))))
 
     seg·2 : (l0 : ℕ) (l1 : ℕ) (l2 : ℕ) (l3 : ℕ) (l4 : ℕ) (l5 : ℕ) (l6 : ℕ) (l7 : ℕ) (l8 : ℕ) (l9 : ℕ) (l10 : ℕ) (l11 : ℕ) (l12 : ℕ) (l13 : ℕ)
         (l14 : ℕ) (l15 : ℕ) (l16 : ℕ) (l17 : ℕ) (l18 : ℕ) (l19 : ℕ) (l20 : ℕ) (l21 : ℕ) (l22 : ℕ) (l23 : ℕ) (l24 : ℕ) (l25 : ℕ) (l26 : ℕ) (l27 : ℕ)
@@ -7869,13 +8161,12 @@ module _ {M : Type 1} (𝓤 : URA M) (H : Heap 𝓤) (A : Atoms 𝓤) (W : Given
         (l56 : ℕ) (l57 : ℕ) (l58 : ℕ) (l59 : ℕ) (l60 : ℕ) (l61 : ℕ) (l62 : ℕ) (l63 : ℕ) (l64 : ℕ) (l65 : ℕ) (l66 : ℕ) (l67 : ℕ) (l68 : ℕ) (l69 : ℕ)
         (l70 : ℕ) (l71 : ℕ) (l72 : ℕ) (l73 : ℕ) (l74 : ℕ) (l75 : ℕ) (l76 : ℕ) (l77 : ℕ) (l78 : ℕ) (l79 : ℕ) (l80 : ℕ) (l81 : ℕ) (l82 : ℕ) (l83 : ℕ)
         (l84 : ℕ) (l85 : ℕ) (l86 : ℕ) (l87 : ℕ) (l88 : ℕ) (l89 : ℕ) (l90 : ℕ) (l91 : ℕ) (l92 : ℕ) (l93 : ℕ) (l94 : ℕ) (l95 : ℕ) (l96 : ℕ) (l97 : ℕ)
-        (l98 : ℕ) (l99 : ℕ) (l100 : ℕ) (l101 : ℕ) (l102 : ℕ) (l103 : ℕ) (l104 : ℕ) (l105 : ℕ) (l106 : ℕ) (l107 : ℕ) →
-        Sq W (‵ (ShrSlice (named 2) κ·proof u8 .own (ref·proof γ·proof proof) (s·proof ∷ []))
-        ∷ ‵ (ShrSlice (named 2) κ·proof u8 .own (ref·proof γ·proof proof) (s·proof ∷ []))
-        ∷ ‵ (ShrSlice (named 1) κ·goals u8 .own (ref·goals γ·goals goals) (s·goals ∷ []))
+        (l98 : ℕ) (l99 : ℕ) (l100 : ℕ) (l101 : ℕ) (l102 : ℕ) (l103 : ℕ) (l104 : ℕ) (l105 : ℕ) (l106 : ℕ) (l107 : ℕ) (l108 : ℕ) (l109 : ℕ) (l110 : ℕ) →
+        Sq W (‵ (ShrSlice (named 1) κ·goals u8 .own (ref·goals γ·goals goals) (s·goals ∷ []))
         ∷ ‵ (ShrSlice (named 1) κ·goals u8 .own (ref·goals γ·goals goals) (s·goals ∷ []))
         ∷ ‵ (ShrSlice (named 0) κ·theory u8 .own (ref·theory γ·theory theory) (s·theory ∷ []))
         ∷ ‵ (ShrSlice (named 0) κ·theory u8 .own (ref·theory γ·theory theory) (s·theory ∷ []))
+        ∷ ‵ (flft κ·memo q·memo)
         ∷ ‵ (flft κ·ids q·ids)
         ∷ ‵ (flft κ·cells q·cells)
         ∷ ‵ (flft κ·feet q·feet)
@@ -7897,6 +8188,7 @@ module _ {M : Type 1} (𝓤 : URA M) (H : Heap 𝓤) (A : Atoms 𝓤) (W : Given
         ∷ ‵ (flft κ·proof q·proof)
         ∷ ‵ (flft κ·goals q·goals)
         ∷ ‵ (flft κ·theory q·theory)
+        ∷ ‵ (MutSlice (named 21) κ·memo u32 .own (ref·memo γ·memo memo) (s·memo ∷ []))
         ∷ ‵ (MutSlice (named 20) κ·ids u32 .own (ref·ids γ·ids ids) (s·ids ∷ []))
         ∷ ‵ (MutSlice (named 19) κ·cells u32 .own (ref·cells γ·cells cells) (s·cells ∷ []))
         ∷ ‵ (MutSlice (named 18) κ·feet u64 .own (ref·feet γ·feet feet) (s·feet ∷ []))
@@ -7915,178 +8207,185 @@ module _ {M : Type 1} (𝓤 : URA M) (H : Heap 𝓤) (A : Atoms 𝓤) (W : Given
         ∷ ‵ (MutSlice (named 5) κ·inputs u32 .own (ref·inputs γ·inputs inputs) (s·inputs ∷ []))
         ∷ ‵ (MutSlice (named 4) κ·symbols u32 .own (ref·symbols γ·symbols symbols) (s·symbols ∷ []))
         ∷ ‵ (MutSlice (named 3) κ·sorts u32 .own (ref·sorts γ·sorts sorts) (s·sorts ∷ []))
-        ∷ ‵ (froom (tyInt w64) l107 0)
-        ∷ ‵ (fdies (tyInt w64) l107)
-        ∷ ‵ (froom (tyInt w64) l106 0)
-        ∷ ‵ (fdies (tyInt w64) l106)
-        ∷ ‵ (froom (sliceTy (tyRef erased mut (pointee (FactT.the-row .written)))) l105 0)
-        ∷ ‵ (fdies (sliceTy (tyRef erased mut (pointee (FactT.the-row .written)))) l105)
-        ∷ ‵ (froom (tyRef erased mut (pointee (FactT.the-row .written))) l104 0)
-        ∷ ‵ (fdies (tyRef erased mut (pointee (FactT.the-row .written))) l104)
-        ∷ ‵ (froom tyUnit l103 0)
-        ∷ ‵ (fdies tyUnit l103)
-        ∷ ‵ (froom (sliceTy (tyRef erased mut (tyInt w32))) l102 0)
-        ∷ ‵ (fdies (sliceTy (tyRef erased mut (tyInt w32))) l102)
-        ∷ ‵ (froom (tyRef erased mut (tyInt w32)) l101 0)
-        ∷ ‵ (fdies (tyRef erased mut (tyInt w32)) l101)
-        ∷ ‵ (froom (sliceTy (tyRef erased imm (tyInt w32))) l100 0)
-        ∷ ‵ (fdies (sliceTy (tyRef erased imm (tyInt w32))) l100)
-        ∷ ‵ (froom (tyRef erased imm (tyInt w32)) l99 0)
-        ∷ ‵ (fdies (tyRef erased imm (tyInt w32)) l99)
-        ∷ ‵ (froom (sliceTy (tyRef erased imm (tyInt w32))) l98 0)
-        ∷ ‵ (fdies (sliceTy (tyRef erased imm (tyInt w32))) l98)
-        ∷ ‵ (froom (tyRef erased imm (tyInt w32)) l97 0)
-        ∷ ‵ (fdies (tyRef erased imm (tyInt w32)) l97)
-        ∷ ‵ (froom (sliceTy (tyRef erased mut (tyInt w32))) l96 0)
-        ∷ ‵ (fdies (sliceTy (tyRef erased mut (tyInt w32))) l96)
-        ∷ ‵ (froom (tyRef erased mut (tyInt w32)) l95 0)
-        ∷ ‵ (fdies (tyRef erased mut (tyInt w32)) l95)
-        ∷ ‵ (froom (tyRef erased mut (pointee (CountsT.the-row .written))) l94 0)
-        ∷ ‵ (fdies (tyRef erased mut (pointee (CountsT.the-row .written))) l94)
-        ∷ ‵ (froom (sliceTy (tyRef erased mut (pointee (FactT.the-row .written)))) l93 0)
-        ∷ ‵ (fdies (sliceTy (tyRef erased mut (pointee (FactT.the-row .written)))) l93)
-        ∷ ‵ (froom (tyRef erased mut (pointee (FactT.the-row .written))) l92 0)
-        ∷ ‵ (fdies (tyRef erased mut (pointee (FactT.the-row .written))) l92)
-        ∷ ‵ (froom (sliceTy (tyRef erased mut (tyInt w32))) l91 0)
-        ∷ ‵ (fdies (sliceTy (tyRef erased mut (tyInt w32))) l91)
-        ∷ ‵ (froom (tyRef erased mut (tyInt w32)) l90 0)
-        ∷ ‵ (fdies (tyRef erased mut (tyInt w32)) l90)
-        ∷ ‵ (froom (sliceTy (tyRef erased mut (tyInt w32))) l89 0)
-        ∷ ‵ (fdies (sliceTy (tyRef erased mut (tyInt w32))) l89)
-        ∷ ‵ (froom (tyRef erased mut (tyInt w32)) l88 0)
-        ∷ ‵ (fdies (tyRef erased mut (tyInt w32)) l88)
-        ∷ ‵ (froom (sliceTy (tyRef erased mut (tyInt w64))) l87 0)
-        ∷ ‵ (fdies (sliceTy (tyRef erased mut (tyInt w64))) l87)
-        ∷ ‵ (froom (tyRef erased mut (tyInt w64)) l86 0)
-        ∷ ‵ (fdies (tyRef erased mut (tyInt w64)) l86)
-        ∷ ‵ (froom (sliceTy (tyRef erased mut (tyInt w32))) l85 0)
-        ∷ ‵ (fdies (sliceTy (tyRef erased mut (tyInt w32))) l85)
-        ∷ ‵ (froom (tyRef erased mut (tyInt w32)) l84 0)
-        ∷ ‵ (fdies (tyRef erased mut (tyInt w32)) l84)
-        ∷ ‵ (froom (sliceTy (tyRef erased mut (tyInt w32))) l83 0)
-        ∷ ‵ (fdies (sliceTy (tyRef erased mut (tyInt w32))) l83)
-        ∷ ‵ (froom (tyRef erased mut (tyInt w32)) l82 0)
-        ∷ ‵ (fdies (tyRef erased mut (tyInt w32)) l82)
-        ∷ ‵ (froom (sliceTy (tyRef erased mut (tyInt w32))) l81 0)
-        ∷ ‵ (fdies (sliceTy (tyRef erased mut (tyInt w32))) l81)
-        ∷ ‵ (froom (tyRef erased mut (tyInt w32)) l80 0)
-        ∷ ‵ (fdies (tyRef erased mut (tyInt w32)) l80)
-        ∷ ‵ (froom (sliceTy (tyRef erased mut (tyInt w32))) l79 0)
-        ∷ ‵ (fdies (sliceTy (tyRef erased mut (tyInt w32))) l79)
-        ∷ ‵ (froom (tyRef erased mut (tyInt w32)) l78 0)
-        ∷ ‵ (fdies (tyRef erased mut (tyInt w32)) l78)
-        ∷ ‵ (froom (sliceTy (tyRef erased mut (tyInt w32))) l77 0)
-        ∷ ‵ (fdies (sliceTy (tyRef erased mut (tyInt w32))) l77)
-        ∷ ‵ (froom (tyRef erased mut (tyInt w32)) l76 0)
-        ∷ ‵ (fdies (tyRef erased mut (tyInt w32)) l76)
-        ∷ ‵ (froom (sliceTy (tyRef erased mut (tyInt w32))) l75 0)
-        ∷ ‵ (fdies (sliceTy (tyRef erased mut (tyInt w32))) l75)
-        ∷ ‵ (froom (tyRef erased mut (tyInt w32)) l74 0)
-        ∷ ‵ (fdies (tyRef erased mut (tyInt w32)) l74)
-        ∷ ‵ (froom (sliceTy (tyRef erased mut (tyInt w32))) l73 0)
-        ∷ ‵ (fdies (sliceTy (tyRef erased mut (tyInt w32))) l73)
-        ∷ ‵ (froom (tyRef erased mut (tyInt w32)) l72 0)
-        ∷ ‵ (fdies (tyRef erased mut (tyInt w32)) l72)
-        ∷ ‵ (froom (sliceTy (tyRef erased imm (tyInt w32))) l71 0)
-        ∷ ‵ (fdies (sliceTy (tyRef erased imm (tyInt w32))) l71)
-        ∷ ‵ (froom (tyRef erased imm (tyInt w32)) l70 0)
-        ∷ ‵ (fdies (tyRef erased imm (tyInt w32)) l70)
-        ∷ ‵ (froom (sliceTy (tyRef erased imm (tyInt w32))) l69 0)
-        ∷ ‵ (fdies (sliceTy (tyRef erased imm (tyInt w32))) l69)
-        ∷ ‵ (froom (tyRef erased imm (tyInt w32)) l68 0)
-        ∷ ‵ (fdies (tyRef erased imm (tyInt w32)) l68)
-        ∷ ‵ (froom (sliceTy (tyRef erased imm (tyInt w32))) l67 0)
-        ∷ ‵ (fdies (sliceTy (tyRef erased imm (tyInt w32))) l67)
-        ∷ ‵ (froom (tyRef erased imm (tyInt w32)) l66 0)
-        ∷ ‵ (fdies (tyRef erased imm (tyInt w32)) l66)
-        ∷ ‵ (froom (sliceTy (tyRef erased imm (tyInt w32))) l65 0)
-        ∷ ‵ (fdies (sliceTy (tyRef erased imm (tyInt w32))) l65)
-        ∷ ‵ (froom (tyRef erased imm (tyInt w32)) l64 0)
-        ∷ ‵ (fdies (tyRef erased imm (tyInt w32)) l64)
-        ∷ ‵ (froom (sliceTy (tyRef erased imm (tyInt w32))) l63 0)
-        ∷ ‵ (fdies (sliceTy (tyRef erased imm (tyInt w32))) l63)
-        ∷ ‵ (froom (tyRef erased imm (tyInt w32)) l62 0)
-        ∷ ‵ (fdies (tyRef erased imm (tyInt w32)) l62)
-        ∷ ‵ (froom (sliceTy (tyRef erased imm (tyInt w32))) l61 0)
-        ∷ ‵ (fdies (sliceTy (tyRef erased imm (tyInt w32))) l61)
-        ∷ ‵ (froom (tyRef erased imm (tyInt w32)) l60 0)
-        ∷ ‵ (fdies (tyRef erased imm (tyInt w32)) l60)
-        ∷ ‵ (froom CountsL.mir l59 0)
-        ∷ ‵ (fdies CountsL.mir l59)
-        ∷ ‵ (fat fullShare (sliceTy (tyRef erased mut (tyInt w32))) l58 0 s·cells)
-        ∷ ‵ (fdies (sliceTy (tyRef erased mut (tyInt w32))) l58)
-        ∷ ‵ (fat fullShare (tyRef erased mut (tyInt w32)) l57 0 (vptr b·cells o·cells))
-        ∷ ‵ (fdies (tyRef erased mut (tyInt w32)) l57)
-        ∷ ‵ (fat fullShare (sliceTy (tyRef erased imm (tyInt w64))) l56 0 s·feet)
-        ∷ ‵ (fdies (sliceTy (tyRef erased imm (tyInt w64))) l56)
-        ∷ ‵ (fat fullShare (tyRef erased imm (tyInt w64)) l55 0 (vptr b·feet o·feet))
-        ∷ ‵ (fdies (tyRef erased imm (tyInt w64)) l55)
-        ∷ ‵ (fat fullShare (sliceTy (tyRef erased imm (tyInt w32))) l54 0 s·kept)
-        ∷ ‵ (fdies (sliceTy (tyRef erased imm (tyInt w32))) l54)
-        ∷ ‵ (fat fullShare (tyRef erased imm (tyInt w32)) l53 0 (vptr b·kept o·kept))
-        ∷ ‵ (fdies (tyRef erased imm (tyInt w32)) l53)
-        ∷ ‵ (fat fullShare (sliceTy (tyRef erased mut (tyInt w32))) l52 0 s·missing)
-        ∷ ‵ (fdies (sliceTy (tyRef erased mut (tyInt w32))) l52)
-        ∷ ‵ (fat fullShare (tyRef erased mut (tyInt w32)) l51 0 (vptr b·missing o·missing))
-        ∷ ‵ (fdies (tyRef erased mut (tyInt w32)) l51)
-        ∷ ‵ (fat fullShare (sliceTy (tyRef erased mut (tyInt w32))) l50 0 s·lists)
-        ∷ ‵ (fdies (sliceTy (tyRef erased mut (tyInt w32))) l50)
-        ∷ ‵ (fat fullShare (tyRef erased mut (tyInt w32)) l49 0 (vptr b·lists o·lists))
-        ∷ ‵ (fdies (tyRef erased mut (tyInt w32)) l49)
-        ∷ ‵ (fat fullShare (sliceTy (tyRef erased mut (tyInt w32))) l48 0 s·rows)
-        ∷ ‵ (fdies (sliceTy (tyRef erased mut (tyInt w32))) l48)
-        ∷ ‵ (fat fullShare (tyRef erased mut (tyInt w32)) l47 0 (vptr b·rows o·rows))
-        ∷ ‵ (fdies (tyRef erased mut (tyInt w32)) l47)
-        ∷ ‵ (fat fullShare (sliceTy (tyRef erased mut (tyInt w32))) l46 0 s·defs)
-        ∷ ‵ (fdies (sliceTy (tyRef erased mut (tyInt w32))) l46)
-        ∷ ‵ (fat fullShare (tyRef erased mut (tyInt w32)) l45 0 (vptr b·defs o·defs))
-        ∷ ‵ (fdies (tyRef erased mut (tyInt w32)) l45)
-        ∷ ‵ (fat fullShare (sliceTy (tyRef erased mut (tyInt w32))) l44 0 s·words)
-        ∷ ‵ (fdies (sliceTy (tyRef erased mut (tyInt w32))) l44)
-        ∷ ‵ (fat fullShare (tyRef erased mut (tyInt w32)) l43 0 (vptr b·words o·words))
-        ∷ ‵ (fdies (tyRef erased mut (tyInt w32)) l43)
-        ∷ ‵ (fat fullShare (sliceTy (tyRef erased mut (tyInt w32))) l42 0 s·index)
-        ∷ ‵ (fdies (sliceTy (tyRef erased mut (tyInt w32))) l42)
-        ∷ ‵ (fat fullShare (tyRef erased mut (tyInt w32)) l41 0 (vptr b·index o·index))
-        ∷ ‵ (fdies (tyRef erased mut (tyInt w32)) l41)
-        ∷ ‵ (fat fullShare (sliceTy (tyRef erased mut (tyInt w32))) l40 0 s·vars)
-        ∷ ‵ (fdies (sliceTy (tyRef erased mut (tyInt w32))) l40)
-        ∷ ‵ (fat fullShare (tyRef erased mut (tyInt w32)) l39 0 (vptr b·vars o·vars))
-        ∷ ‵ (fdies (tyRef erased mut (tyInt w32)) l39)
-        ∷ ‵ (fat fullShare (sliceTy (tyRef erased mut (tyInt w32))) l38 0 s·patterns)
-        ∷ ‵ (fdies (sliceTy (tyRef erased mut (tyInt w32))) l38)
-        ∷ ‵ (fat fullShare (tyRef erased mut (tyInt w32)) l37 0 (vptr b·patterns o·patterns))
-        ∷ ‵ (fdies (tyRef erased mut (tyInt w32)) l37)
-        ∷ ‵ (fat fullShare (sliceTy (tyRef erased mut (tyInt w32))) l36 0 s·rulevars)
-        ∷ ‵ (fdies (sliceTy (tyRef erased mut (tyInt w32))) l36)
-        ∷ ‵ (fat fullShare (tyRef erased mut (tyInt w32)) l35 0 (vptr b·rulevars o·rulevars))
-        ∷ ‵ (fdies (tyRef erased mut (tyInt w32)) l35)
-        ∷ ‵ (fat fullShare (sliceTy (tyRef erased mut (tyInt w32))) l34 0 s·rules)
-        ∷ ‵ (fdies (sliceTy (tyRef erased mut (tyInt w32))) l34)
-        ∷ ‵ (fat fullShare (tyRef erased mut (tyInt w32)) l33 0 (vptr b·rules o·rules))
-        ∷ ‵ (fdies (tyRef erased mut (tyInt w32)) l33)
-        ∷ ‵ (fat fullShare (sliceTy (tyRef erased mut (tyInt w32))) l32 0 s·inputs)
-        ∷ ‵ (fdies (sliceTy (tyRef erased mut (tyInt w32))) l32)
-        ∷ ‵ (fat fullShare (tyRef erased mut (tyInt w32)) l31 0 (vptr b·inputs o·inputs))
-        ∷ ‵ (fdies (tyRef erased mut (tyInt w32)) l31)
-        ∷ ‵ (fat fullShare (sliceTy (tyRef erased mut (tyInt w32))) l30 0 s·symbols)
-        ∷ ‵ (fdies (sliceTy (tyRef erased mut (tyInt w32))) l30)
-        ∷ ‵ (fat fullShare (tyRef erased mut (tyInt w32)) l29 0 (vptr b·symbols o·symbols))
-        ∷ ‵ (fdies (tyRef erased mut (tyInt w32)) l29)
-        ∷ ‵ (fat fullShare (sliceTy (tyRef erased mut (tyInt w32))) l28 0 s·sorts)
-        ∷ ‵ (fdies (sliceTy (tyRef erased mut (tyInt w32))) l28)
-        ∷ ‵ (fat fullShare (tyRef erased mut (tyInt w32)) l27 0 (vptr b·sorts o·sorts))
-        ∷ ‵ (fdies (tyRef erased mut (tyInt w32)) l27)
-        ∷ ‵ (froom AnswerL.mir l26 0)
-        ∷ ‵ (fdies AnswerL.mir l26)
-        ∷ ‵ (froom RunL.mir l25 0)
-        ∷ ‵ (fdies RunL.mir l25)
-        ∷ ‵ (froom CountsL.mir l24 0)
-        ∷ ‵ (fdies CountsL.mir l24)
-        ∷ ‵ (froom RunL.mir l23 0)
-        ∷ ‵ (fdies RunL.mir l23)
-        ∷ ‵ (fat fullShare (tyInt w64) l22 0 (vint w64 (length facts)))
-        ∷ ‵ (fdies (tyInt w64) l22)
+        ∷ ‵ (ShrSlice (named 2) κ·proof u8 .own (ref·proof γ·proof proof) (s·proof ∷ []))
+        ∷ ‵ (froom (tyInt w64) l110 0)
+        ∷ ‵ (fdies (tyInt w64) l110)
+        ∷ ‵ (froom (tyInt w64) l109 0)
+        ∷ ‵ (fdies (tyInt w64) l109)
+        ∷ ‵ (froom (sliceTy (tyRef erased mut (pointee (FactT.the-row .written)))) l108 0)
+        ∷ ‵ (fdies (sliceTy (tyRef erased mut (pointee (FactT.the-row .written)))) l108)
+        ∷ ‵ (froom (tyRef erased mut (pointee (FactT.the-row .written))) l107 0)
+        ∷ ‵ (fdies (tyRef erased mut (pointee (FactT.the-row .written))) l107)
+        ∷ ‵ (froom tyUnit l106 0)
+        ∷ ‵ (fdies tyUnit l106)
+        ∷ ‵ (froom (sliceTy (tyRef erased mut (tyInt w32))) l105 0)
+        ∷ ‵ (fdies (sliceTy (tyRef erased mut (tyInt w32))) l105)
+        ∷ ‵ (froom (tyRef erased mut (tyInt w32)) l104 0)
+        ∷ ‵ (fdies (tyRef erased mut (tyInt w32)) l104)
+        ∷ ‵ (froom (sliceTy (tyRef erased imm (tyInt w32))) l103 0)
+        ∷ ‵ (fdies (sliceTy (tyRef erased imm (tyInt w32))) l103)
+        ∷ ‵ (froom (tyRef erased imm (tyInt w32)) l102 0)
+        ∷ ‵ (fdies (tyRef erased imm (tyInt w32)) l102)
+        ∷ ‵ (froom (sliceTy (tyRef erased imm (tyInt w32))) l101 0)
+        ∷ ‵ (fdies (sliceTy (tyRef erased imm (tyInt w32))) l101)
+        ∷ ‵ (froom (tyRef erased imm (tyInt w32)) l100 0)
+        ∷ ‵ (fdies (tyRef erased imm (tyInt w32)) l100)
+        ∷ ‵ (froom (sliceTy (tyRef erased mut (tyInt w32))) l99 0)
+        ∷ ‵ (fdies (sliceTy (tyRef erased mut (tyInt w32))) l99)
+        ∷ ‵ (froom (tyRef erased mut (tyInt w32)) l98 0)
+        ∷ ‵ (fdies (tyRef erased mut (tyInt w32)) l98)
+        ∷ ‵ (froom (tyRef erased mut (pointee (CountsT.the-row .written))) l97 0)
+        ∷ ‵ (fdies (tyRef erased mut (pointee (CountsT.the-row .written))) l97)
+        ∷ ‵ (froom (sliceTy (tyRef erased mut (pointee (FactT.the-row .written)))) l96 0)
+        ∷ ‵ (fdies (sliceTy (tyRef erased mut (pointee (FactT.the-row .written)))) l96)
+        ∷ ‵ (froom (tyRef erased mut (pointee (FactT.the-row .written))) l95 0)
+        ∷ ‵ (fdies (tyRef erased mut (pointee (FactT.the-row .written))) l95)
+        ∷ ‵ (froom (sliceTy (tyRef erased mut (tyInt w32))) l94 0)
+        ∷ ‵ (fdies (sliceTy (tyRef erased mut (tyInt w32))) l94)
+        ∷ ‵ (froom (tyRef erased mut (tyInt w32)) l93 0)
+        ∷ ‵ (fdies (tyRef erased mut (tyInt w32)) l93)
+        ∷ ‵ (froom (sliceTy (tyRef erased mut (tyInt w32))) l92 0)
+        ∷ ‵ (fdies (sliceTy (tyRef erased mut (tyInt w32))) l92)
+        ∷ ‵ (froom (tyRef erased mut (tyInt w32)) l91 0)
+        ∷ ‵ (fdies (tyRef erased mut (tyInt w32)) l91)
+        ∷ ‵ (froom (sliceTy (tyRef erased mut (tyInt w32))) l90 0)
+        ∷ ‵ (fdies (sliceTy (tyRef erased mut (tyInt w32))) l90)
+        ∷ ‵ (froom (tyRef erased mut (tyInt w32)) l89 0)
+        ∷ ‵ (fdies (tyRef erased mut (tyInt w32)) l89)
+        ∷ ‵ (froom (sliceTy (tyRef erased mut (tyInt w64))) l88 0)
+        ∷ ‵ (fdies (sliceTy (tyRef erased mut (tyInt w64))) l88)
+        ∷ ‵ (froom (tyRef erased mut (tyInt w64)) l87 0)
+        ∷ ‵ (fdies (tyRef erased mut (tyInt w64)) l87)
+        ∷ ‵ (froom (sliceTy (tyRef erased mut (tyInt w32))) l86 0)
+        ∷ ‵ (fdies (sliceTy (tyRef erased mut (tyInt w32))) l86)
+        ∷ ‵ (froom (tyRef erased mut (tyInt w32)) l85 0)
+        ∷ ‵ (fdies (tyRef erased mut (tyInt w32)) l85)
+        ∷ ‵ (froom (sliceTy (tyRef erased mut (tyInt w32))) l84 0)
+        ∷ ‵ (fdies (sliceTy (tyRef erased mut (tyInt w32))) l84)
+        ∷ ‵ (froom (tyRef erased mut (tyInt w32)) l83 0)
+        ∷ ‵ (fdies (tyRef erased mut (tyInt w32)) l83)
+        ∷ ‵ (froom (sliceTy (tyRef erased mut (tyInt w32))) l82 0)
+        ∷ ‵ (fdies (sliceTy (tyRef erased mut (tyInt w32))) l82)
+        ∷ ‵ (froom (tyRef erased mut (tyInt w32)) l81 0)
+        ∷ ‵ (fdies (tyRef erased mut (tyInt w32)) l81)
+        ∷ ‵ (froom (sliceTy (tyRef erased mut (tyInt w32))) l80 0)
+        ∷ ‵ (fdies (sliceTy (tyRef erased mut (tyInt w32))) l80)
+        ∷ ‵ (froom (tyRef erased mut (tyInt w32)) l79 0)
+        ∷ ‵ (fdies (tyRef erased mut (tyInt w32)) l79)
+        ∷ ‵ (froom (sliceTy (tyRef erased mut (tyInt w32))) l78 0)
+        ∷ ‵ (fdies (sliceTy (tyRef erased mut (tyInt w32))) l78)
+        ∷ ‵ (froom (tyRef erased mut (tyInt w32)) l77 0)
+        ∷ ‵ (fdies (tyRef erased mut (tyInt w32)) l77)
+        ∷ ‵ (froom (sliceTy (tyRef erased mut (tyInt w32))) l76 0)
+        ∷ ‵ (fdies (sliceTy (tyRef erased mut (tyInt w32))) l76)
+        ∷ ‵ (froom (tyRef erased mut (tyInt w32)) l75 0)
+        ∷ ‵ (fdies (tyRef erased mut (tyInt w32)) l75)
+        ∷ ‵ (froom (sliceTy (tyRef erased mut (tyInt w32))) l74 0)
+        ∷ ‵ (fdies (sliceTy (tyRef erased mut (tyInt w32))) l74)
+        ∷ ‵ (froom (tyRef erased mut (tyInt w32)) l73 0)
+        ∷ ‵ (fdies (tyRef erased mut (tyInt w32)) l73)
+        ∷ ‵ (froom (sliceTy (tyRef erased imm (tyInt w32))) l72 0)
+        ∷ ‵ (fdies (sliceTy (tyRef erased imm (tyInt w32))) l72)
+        ∷ ‵ (froom (tyRef erased imm (tyInt w32)) l71 0)
+        ∷ ‵ (fdies (tyRef erased imm (tyInt w32)) l71)
+        ∷ ‵ (froom (sliceTy (tyRef erased imm (tyInt w32))) l70 0)
+        ∷ ‵ (fdies (sliceTy (tyRef erased imm (tyInt w32))) l70)
+        ∷ ‵ (froom (tyRef erased imm (tyInt w32)) l69 0)
+        ∷ ‵ (fdies (tyRef erased imm (tyInt w32)) l69)
+        ∷ ‵ (froom (sliceTy (tyRef erased imm (tyInt w32))) l68 0)
+        ∷ ‵ (fdies (sliceTy (tyRef erased imm (tyInt w32))) l68)
+        ∷ ‵ (froom (tyRef erased imm (tyInt w32)) l67 0)
+        ∷ ‵ (fdies (tyRef erased imm (tyInt w32)) l67)
+        ∷ ‵ (froom (sliceTy (tyRef erased imm (tyInt w32))) l66 0)
+        ∷ ‵ (fdies (sliceTy (tyRef erased imm (tyInt w32))) l66)
+        ∷ ‵ (froom (tyRef erased imm (tyInt w32)) l65 0)
+        ∷ ‵ (fdies (tyRef erased imm (tyInt w32)) l65)
+        ∷ ‵ (froom (sliceTy (tyRef erased imm (tyInt w32))) l64 0)
+        ∷ ‵ (fdies (sliceTy (tyRef erased imm (tyInt w32))) l64)
+        ∷ ‵ (froom (tyRef erased imm (tyInt w32)) l63 0)
+        ∷ ‵ (fdies (tyRef erased imm (tyInt w32)) l63)
+        ∷ ‵ (froom (sliceTy (tyRef erased imm (tyInt w32))) l62 0)
+        ∷ ‵ (fdies (sliceTy (tyRef erased imm (tyInt w32))) l62)
+        ∷ ‵ (froom (tyRef erased imm (tyInt w32)) l61 0)
+        ∷ ‵ (fdies (tyRef erased imm (tyInt w32)) l61)
+        ∷ ‵ (froom CountsL.mir l60 0)
+        ∷ ‵ (fdies CountsL.mir l60)
+        ∷ ‵ (fat fullShare (sliceTy (tyRef erased mut (tyInt w32))) l59 0 s·cells)
+        ∷ ‵ (fdies (sliceTy (tyRef erased mut (tyInt w32))) l59)
+        ∷ ‵ (fat fullShare (tyRef erased mut (tyInt w32)) l58 0 (vptr b·cells o·cells))
+        ∷ ‵ (fdies (tyRef erased mut (tyInt w32)) l58)
+        ∷ ‵ (fat fullShare (sliceTy (tyRef erased imm (tyInt w64))) l57 0 s·feet)
+        ∷ ‵ (fdies (sliceTy (tyRef erased imm (tyInt w64))) l57)
+        ∷ ‵ (fat fullShare (tyRef erased imm (tyInt w64)) l56 0 (vptr b·feet o·feet))
+        ∷ ‵ (fdies (tyRef erased imm (tyInt w64)) l56)
+        ∷ ‵ (fat fullShare (sliceTy (tyRef erased imm (tyInt w32))) l55 0 s·kept)
+        ∷ ‵ (fdies (sliceTy (tyRef erased imm (tyInt w32))) l55)
+        ∷ ‵ (fat fullShare (tyRef erased imm (tyInt w32)) l54 0 (vptr b·kept o·kept))
+        ∷ ‵ (fdies (tyRef erased imm (tyInt w32)) l54)
+        ∷ ‵ (fat fullShare (sliceTy (tyRef erased mut (tyInt w32))) l53 0 s·missing)
+        ∷ ‵ (fdies (sliceTy (tyRef erased mut (tyInt w32))) l53)
+        ∷ ‵ (fat fullShare (tyRef erased mut (tyInt w32)) l52 0 (vptr b·missing o·missing))
+        ∷ ‵ (fdies (tyRef erased mut (tyInt w32)) l52)
+        ∷ ‵ (fat fullShare (sliceTy (tyRef erased mut (tyInt w32))) l51 0 s·lists)
+        ∷ ‵ (fdies (sliceTy (tyRef erased mut (tyInt w32))) l51)
+        ∷ ‵ (fat fullShare (tyRef erased mut (tyInt w32)) l50 0 (vptr b·lists o·lists))
+        ∷ ‵ (fdies (tyRef erased mut (tyInt w32)) l50)
+        ∷ ‵ (fat fullShare (sliceTy (tyRef erased mut (tyInt w32))) l49 0 s·rows)
+        ∷ ‵ (fdies (sliceTy (tyRef erased mut (tyInt w32))) l49)
+        ∷ ‵ (fat fullShare (tyRef erased mut (tyInt w32)) l48 0 (vptr b·rows o·rows))
+        ∷ ‵ (fdies (tyRef erased mut (tyInt w32)) l48)
+        ∷ ‵ (fat fullShare (sliceTy (tyRef erased mut (tyInt w32))) l47 0 s·defs)
+        ∷ ‵ (fdies (sliceTy (tyRef erased mut (tyInt w32))) l47)
+        ∷ ‵ (fat fullShare (tyRef erased mut (tyInt w32)) l46 0 (vptr b·defs o·defs))
+        ∷ ‵ (fdies (tyRef erased mut (tyInt w32)) l46)
+        ∷ ‵ (fat fullShare (sliceTy (tyRef erased mut (tyInt w32))) l45 0 s·words)
+        ∷ ‵ (fdies (sliceTy (tyRef erased mut (tyInt w32))) l45)
+        ∷ ‵ (fat fullShare (tyRef erased mut (tyInt w32)) l44 0 (vptr b·words o·words))
+        ∷ ‵ (fdies (tyRef erased mut (tyInt w32)) l44)
+        ∷ ‵ (fat fullShare (sliceTy (tyRef erased mut (tyInt w32))) l43 0 s·index)
+        ∷ ‵ (fdies (sliceTy (tyRef erased mut (tyInt w32))) l43)
+        ∷ ‵ (fat fullShare (tyRef erased mut (tyInt w32)) l42 0 (vptr b·index o·index))
+        ∷ ‵ (fdies (tyRef erased mut (tyInt w32)) l42)
+        ∷ ‵ (fat fullShare (sliceTy (tyRef erased mut (tyInt w32))) l41 0 s·vars)
+        ∷ ‵ (fdies (sliceTy (tyRef erased mut (tyInt w32))) l41)
+        ∷ ‵ (fat fullShare (tyRef erased mut (tyInt w32)) l40 0 (vptr b·vars o·vars))
+        ∷ ‵ (fdies (tyRef erased mut (tyInt w32)) l40)
+        ∷ ‵ (fat fullShare (sliceTy (tyRef erased mut (tyInt w32))) l39 0 s·patterns)
+        ∷ ‵ (fdies (sliceTy (tyRef erased mut (tyInt w32))) l39)
+        ∷ ‵ (fat fullShare (tyRef erased mut (tyInt w32)) l38 0 (vptr b·patterns o·patterns))
+        ∷ ‵ (fdies (tyRef erased mut (tyInt w32)) l38)
+        ∷ ‵ (fat fullShare (sliceTy (tyRef erased mut (tyInt w32))) l37 0 s·rulevars)
+        ∷ ‵ (fdies (sliceTy (tyRef erased mut (tyInt w32))) l37)
+        ∷ ‵ (fat fullShare (tyRef erased mut (tyInt w32)) l36 0 (vptr b·rulevars o·rulevars))
+        ∷ ‵ (fdies (tyRef erased mut (tyInt w32)) l36)
+        ∷ ‵ (fat fullShare (sliceTy (tyRef erased mut (tyInt w32))) l35 0 s·rules)
+        ∷ ‵ (fdies (sliceTy (tyRef erased mut (tyInt w32))) l35)
+        ∷ ‵ (fat fullShare (tyRef erased mut (tyInt w32)) l34 0 (vptr b·rules o·rules))
+        ∷ ‵ (fdies (tyRef erased mut (tyInt w32)) l34)
+        ∷ ‵ (fat fullShare (sliceTy (tyRef erased mut (tyInt w32))) l33 0 s·inputs)
+        ∷ ‵ (fdies (sliceTy (tyRef erased mut (tyInt w32))) l33)
+        ∷ ‵ (fat fullShare (tyRef erased mut (tyInt w32)) l32 0 (vptr b·inputs o·inputs))
+        ∷ ‵ (fdies (tyRef erased mut (tyInt w32)) l32)
+        ∷ ‵ (fat fullShare (sliceTy (tyRef erased mut (tyInt w32))) l31 0 s·symbols)
+        ∷ ‵ (fdies (sliceTy (tyRef erased mut (tyInt w32))) l31)
+        ∷ ‵ (fat fullShare (tyRef erased mut (tyInt w32)) l30 0 (vptr b·symbols o·symbols))
+        ∷ ‵ (fdies (tyRef erased mut (tyInt w32)) l30)
+        ∷ ‵ (fat fullShare (sliceTy (tyRef erased mut (tyInt w32))) l29 0 s·sorts)
+        ∷ ‵ (fdies (sliceTy (tyRef erased mut (tyInt w32))) l29)
+        ∷ ‵ (fat fullShare (tyRef erased mut (tyInt w32)) l28 0 (vptr b·sorts o·sorts))
+        ∷ ‵ (fdies (tyRef erased mut (tyInt w32)) l28)
+        ∷ ‵ (froom AnswerL.mir l27 0)
+        ∷ ‵ (fdies AnswerL.mir l27)
+        ∷ ‵ (froom RunL.mir l26 0)
+        ∷ ‵ (fdies RunL.mir l26)
+        ∷ ‵ (froom CountsL.mir l25 0)
+        ∷ ‵ (fdies CountsL.mir l25)
+        ∷ ‵ (froom RunL.mir l24 0)
+        ∷ ‵ (fdies RunL.mir l24)
+        ∷ ‵ (fat fullShare (tyInt w64) l23 0 (vint w64 (length facts)))
+        ∷ ‵ (fdies (tyInt w64) l23)
+        ∷ ‵ (fat fullShare (sliceTy (tyRef (named 21) mut (tyInt w32))) l22 0 s·memo)
+        ∷ ‵ (fdies (sliceTy (tyRef (named 21) mut (tyInt w32))) l22)
         ∷ ‵ (fat fullShare (sliceTy (tyRef (named 20) mut (tyInt w32))) l21 0 s·ids)
         ∷ ‵ (fdies (sliceTy (tyRef (named 20) mut (tyInt w32))) l21)
         ∷ ‵ (fat fullShare (sliceTy (tyRef (named 19) mut (tyInt w32))) l20 0 s·cells)
@@ -8134,85 +8433,83 @@ module _ {M : Type 1} (𝓤 : URA M) (H : Heap 𝓤) (A : Atoms 𝓤) (W : Given
         (runs C Λ (En l0 l1 l2 l3 l4 l5 l6 l7 l8 l9 l10 l11 l12 l13 l14 l15 l16 l17 l18 l19 l20 l21 l22 l23 l24 l25 l26 l27 l28 l29 l30 l31 l32 l33
         l34 l35 l36 l37 l38 l39 l40 l41 l42 l43 l44 l45 l46 l47 l48 l49 l50 l51 l52 l53 l54 l55 l56 l57 l58 l59 l60 l61 l62 l63 l64 l65 l66 l67 l68
         l69 l70 l71 l72 l73 l74 l75 l76 l77 l78 l79 l80 l81 l82 l83 l84 l85 l86 l87 l88 l89 l90 l91 l92 l93 l94 l95 l96 l97 l98 l99 l100 l101 l102
-        l103 l104 l105 l106 l107) pieces.t-34 (atRet (En l0 l1 l2 l3 l4 l5 l6 l7 l8 l9 l10 l11 l12 l13 l14 l15 l16 l17 l18 l19 l20 l21 l22 l23 l24 l25
-        l26 l27 l28 l29 l30 l31 l32 l33 l34 l35 l36 l37 l38 l39 l40 l41 l42 l43 l44 l45 l46 l47 l48 l49 l50 l51 l52 l53 l54 l55 l56 l57 l58 l59 l60
-        l61 l62 l63 l64 l65 l66 l67 l68 l69 l70 l71 l72 l73 l74 l75 l76 l77 l78 l79 l80 l81 l82 l83 l84 l85 l86 l87 l88 l89 l90 l91 l92 l93 l94 l95
-        l96 l97 l98 l99 l100 l101 l102 l103 l104 l105 l106 l107) Post))
+        l103 l104 l105 l106 l107 l108 l109 l110) pieces.t-34 (atRet (En l0 l1 l2 l3 l4 l5 l6 l7 l8 l9 l10 l11 l12 l13 l14 l15 l16 l17 l18 l19 l20 l21
+        l22 l23 l24 l25 l26 l27 l28 l29 l30 l31 l32 l33 l34 l35 l36 l37 l38 l39 l40 l41 l42 l43 l44 l45 l46 l47 l48 l49 l50 l51 l52 l53 l54 l55 l56
+        l57 l58 l59 l60 l61 l62 l63 l64 l65 l66 l67 l68 l69 l70 l71 l72 l73 l74 l75 l76 l77 l78 l79 l80 l81 l82 l83 l84 l85 l86 l87 l88 l89 l90 l91
+        l92 l93 l94 l95 l96 l97 l98 l99 l100 l101 l102 l103 l104 l105 l106 l107 l108 l109 l110) Post))
     seg·2 l0 l1 l2 l3 l4 l5 l6 l7 l8 l9 l10 l11 l12 l13 l14 l15 l16 l17 l18 l19 l20 l21 l22 l23 l24 l25 l26 l27 l28 l29 l30 l31 l32 l33 l34 l35 l36
         l37 l38 l39 l40 l41 l42 l43 l44 l45 l46 l47 l48 l49 l50 l51 l52 l53 l54 l55 l56 l57 l58 l59 l60 l61 l62 l63 l64 l65 l66 l67 l68 l69 l70 l71
         l72 l73 l74 l75 l76 l77 l78 l79 l80 l81 l82 l83 l84 l85 l86 l87 l88 l89 l90 l91 l92 l93 l94 l95 l96 l97 l98 l99 l100 l101 l102 l103 l104
-        l105 l106 l107 =
+        l105 l106 l107 l108 l109 l110 =
+        move ! (45 ∷ []) $
+        use1 W (‵ (ShrSlice (named 2) κ·proof u8 .own (ref·proof γ·proof proof) (s·proof ∷ []))
+        ⊛ ‵ (ShrSlice (named 2) κ·proof u8 .own (ref·proof γ·proof proof) (s·proof ∷ [])))
+        (shr-slice-copy 𝓤 H A W (named 2) κ·proof u8 .twice (ref·proof γ·proof proof) (s·proof ∷ [])) $ split ! $
         lft-new ! tt (λ ν·1·3.
-        move ! (45 ∷ 24 ∷ []) $
+        move ! (47 ∷ 25 ∷ []) $
         use2 W (later (some (λ (δ : GName). ‵ (MutSlice (named 3) (ν·1·3 ∷ []) u32 .own (ref·sorts δ sorts) (s·sorts ∷ []))
         ⊛ ‵ (LentAgain u32 κ·sorts (ν·1·3 ∷ []) q·sorts γ·sorts b·sorts o·sorts δ sorts))))
         (lends-again u32 κ·sorts (ν·1·3 ∷ []) q·sorts γ·sorts b·sorts o·sorts 𝓤 H A W (named 3) (named 3) (length sorts) sorts) $ await ! tt $
         pick ! (λ δ·1·3. split ! $
         lft-new ! tt (λ ν·1·4.
-        move ! (46 ∷ 26 ∷ []) $
+        move ! (48 ∷ 27 ∷ []) $
         use2 W (later (some (λ (δ : GName). ‵ (MutSlice (named 4) (ν·1·4 ∷ []) u32 .own (ref·symbols δ symbols) (s·symbols ∷ []))
         ⊛ ‵ (LentAgain u32 κ·symbols (ν·1·4 ∷ []) q·symbols γ·symbols b·symbols o·symbols δ symbols))))
         (lends-again u32 κ·symbols (ν·1·4 ∷ []) q·symbols γ·symbols b·symbols o·symbols 𝓤 H A W (named 4) (named 4) (length symbols) symbols) $
         await ! tt $ pick ! (λ δ·1·4. split ! $
         lft-new ! tt (λ ν·1·5.
-        move ! (47 ∷ 28 ∷ []) $
+        move ! (49 ∷ 29 ∷ []) $
         use2 W (later (some (λ (δ : GName). ‵ (MutSlice (named 5) (ν·1·5 ∷ []) u32 .own (ref·inputs δ inputs) (s·inputs ∷ []))
         ⊛ ‵ (LentAgain u32 κ·inputs (ν·1·5 ∷ []) q·inputs γ·inputs b·inputs o·inputs δ inputs))))
         (lends-again u32 κ·inputs (ν·1·5 ∷ []) q·inputs γ·inputs b·inputs o·inputs 𝓤 H A W (named 5) (named 5) (length inputs) inputs) $ await ! tt $
         pick ! (λ δ·1·5. split ! $
         lft-new ! tt (λ ν·1·6.
-        move ! (48 ∷ 30 ∷ []) $
+        move ! (50 ∷ 31 ∷ []) $
         use2 W (later (some (λ (δ : GName). ‵ (MutSlice (named 6) (ν·1·6 ∷ []) u32 .own (ref·rules δ rules) (s·rules ∷ []))
         ⊛ ‵ (LentAgain u32 κ·rules (ν·1·6 ∷ []) q·rules γ·rules b·rules o·rules δ rules))))
         (lends-again u32 κ·rules (ν·1·6 ∷ []) q·rules γ·rules b·rules o·rules 𝓤 H A W (named 6) (named 6) (length rules) rules) $ await ! tt $
         pick ! (λ δ·1·6. split ! $
         lft-new ! tt (λ ν·1·7.
-        move ! (49 ∷ 32 ∷ []) $
+        move ! (51 ∷ 33 ∷ []) $
         use2 W (later (some (λ (δ : GName). ‵ (MutSlice (named 7) (ν·1·7 ∷ []) u32 .own (ref·rulevars δ rulevars) (s·rulevars ∷ []))
         ⊛ ‵ (LentAgain u32 κ·rulevars (ν·1·7 ∷ []) q·rulevars γ·rulevars b·rulevars o·rulevars δ rulevars))))
         (lends-again u32 κ·rulevars (ν·1·7 ∷ []) q·rulevars γ·rulevars b·rulevars o·rulevars 𝓤 H A W (named 7) (named 7) (length rulevars) rulevars) $
         await ! tt $ pick ! (λ δ·1·7. split ! $
         lft-new ! tt (λ ν·1·8.
-        move ! (50 ∷ 34 ∷ []) $
+        move ! (52 ∷ 35 ∷ []) $
         use2 W (later (some (λ (δ : GName). ‵ (MutSlice (named 8) (ν·1·8 ∷ []) u32 .own (ref·patterns δ patterns) (s·patterns ∷ []))
         ⊛ ‵ (LentAgain u32 κ·patterns (ν·1·8 ∷ []) q·patterns γ·patterns b·patterns o·patterns δ patterns))))
         (lends-again u32 κ·patterns (ν·1·8 ∷ []) q·patterns γ·patterns b·patterns o·patterns 𝓤 H A W (named 8) (named 8) (length patterns) patterns) $
         await ! tt $ pick ! (λ δ·1·8. split ! $
         lft-new ! tt (λ ν·1·9.
-        move ! (51 ∷ 36 ∷ []) $
+        move ! (53 ∷ 37 ∷ []) $
         use2 W (later (some (λ (δ : GName). ‵ (MutSlice (named 9) (ν·1·9 ∷ []) u32 .own (ref·vars δ vars) (s·vars ∷ []))
         ⊛ ‵ (LentAgain u32 κ·vars (ν·1·9 ∷ []) q·vars γ·vars b·vars o·vars δ vars))))
         (lends-again u32 κ·vars (ν·1·9 ∷ []) q·vars γ·vars b·vars o·vars 𝓤 H A W (named 9) (named 9) (length vars) vars) $ await ! tt $
         pick ! (λ δ·1·9. split ! $
         lft-new ! tt (λ ν·1·10.
-        move ! (52 ∷ 38 ∷ []) $
+        move ! (54 ∷ 39 ∷ []) $
         use2 W (later (some (λ (δ : GName). ‵ (MutSlice (named 10) (ν·1·10 ∷ []) u32 .own (ref·index δ index) (s·index ∷ []))
         ⊛ ‵ (LentAgain u32 κ·index (ν·1·10 ∷ []) q·index γ·index b·index o·index δ index))))
         (lends-again u32 κ·index (ν·1·10 ∷ []) q·index γ·index b·index o·index 𝓤 H A W (named 10) (named 10) (length index) index) $ await ! tt $
         pick ! (λ δ·1·10. split ! $
         lft-new ! tt (λ ν·1·11.
-        move ! (53 ∷ 40 ∷ []) $
+        move ! (55 ∷ 41 ∷ []) $
         use2 W (later (some (λ (δ : GName). ‵ (MutSlice (named 11) (ν·1·11 ∷ []) u32 .own (ref·words δ words) (s·words ∷ []))
         ⊛ ‵ (LentAgain u32 κ·words (ν·1·11 ∷ []) q·words γ·words b·words o·words δ words))))
         (lends-again u32 κ·words (ν·1·11 ∷ []) q·words γ·words b·words o·words 𝓤 H A W (named 11) (named 11) (length words) words) $ await ! tt $
         pick ! (λ δ·1·11. split ! $
         lft-new ! tt (λ ν·1·12.
-        move ! (54 ∷ 42 ∷ []) $
+        move ! (56 ∷ 43 ∷ []) $
         use2 W (later (some (λ (δ : GName). ‵ (MutSlice (named 12) (ν·1·12 ∷ []) u32 .own (ref·defs δ defs) (s·defs ∷ []))
         ⊛ ‵ (LentAgain u32 κ·defs (ν·1·12 ∷ []) q·defs γ·defs b·defs o·defs δ defs))))
         (lends-again u32 κ·defs (ν·1·12 ∷ []) q·defs γ·defs b·defs o·defs 𝓤 H A W (named 12) (named 12) (length defs) defs) $ await ! tt $
         pick ! (λ δ·1·12. split ! $
-        lft-new ! tt (λ ν·1·13.
-        move ! (55 ∷ 44 ∷ []) $
-        use2 W (later (some (λ (δ : GName). ‵ (MutSlice (named 13) (ν·1·13 ∷ []) u32 .own (ref·rows δ rows) (s·rows ∷ []))
-        ⊛ ‵ (LentAgain u32 κ·rows (ν·1·13 ∷ []) q·rows γ·rows b·rows o·rows δ rows))))
-        (lends-again u32 κ·rows (ν·1·13 ∷ []) q·rows γ·rows b·rows o·rows 𝓤 H A W (named 13) (named 13) (length rows) rows) $ await ! tt $
-        pick ! (λ δ·1·13. split ! $
         seg·3 l0 l1 l2 l3 l4 l5 l6 l7 l8 l9 l10 l11 l12 l13 l14 l15 l16 l17 l18 l19 l20 l21 l22 l23 l24 l25 l26 l27 l28 l29 l30 l31 l32 l33 l34 l35
         l36 l37 l38 l39 l40 l41 l42 l43 l44 l45 l46 l47 l48 l49 l50 l51 l52 l53 l54 l55 l56 l57 l58 l59 l60 l61 l62 l63 l64 l65 l66 l67 l68 l69 l70
         l71 l72 l73 l74 l75 l76 l77 l78 l79 l80 l81 l82 l83 l84 l85 l86 l87 l88 l89 l90 l91 l92 l93 l94 l95 l96 l97 l98 l99 l100 l101 l102 l103 l104
-        l105 l106 l107 ν·1·3 δ·1·3 ν·1·4 δ·1·4 ν·1·5 δ·1·5 ν·1·6 δ·1·6 ν·1·7 δ·1·7 ν·1·8 δ·1·8 ν·1·9 δ·1·9 ν·1·10 δ·1·10 ν·1·11 δ·1·11 ν·1·12 δ·1·12
-        ν·1·13 δ·1·13))))))))))))))))))))))
+        l105 l106 l107 l108 l109 l110 ν·1·3 δ·1·3 ν·1·4 δ·1·4 ν·1·5 δ·1·5 ν·1·6 δ·1·6 ν·1·7 δ·1·7 ν·1·8 δ·1·8 ν·1·9 δ·1·9 ν·1·10 δ·1·10 ν·1·11 δ·1·11
+        ν·1·12 δ·1·12))))))))))))))))))))
 
     seg·1 : (l0 : ℕ) (l1 : ℕ) (l2 : ℕ) (l3 : ℕ) (l4 : ℕ) (l5 : ℕ) (l6 : ℕ) (l7 : ℕ) (l8 : ℕ) (l9 : ℕ) (l10 : ℕ) (l11 : ℕ) (l12 : ℕ) (l13 : ℕ)
         (l14 : ℕ) (l15 : ℕ) (l16 : ℕ) (l17 : ℕ) (l18 : ℕ) (l19 : ℕ) (l20 : ℕ) (l21 : ℕ) (l22 : ℕ) (l23 : ℕ) (l24 : ℕ) (l25 : ℕ) (l26 : ℕ) (l27 : ℕ)
@@ -8221,8 +8518,9 @@ module _ {M : Type 1} (𝓤 : URA M) (H : Heap 𝓤) (A : Atoms 𝓤) (W : Given
         (l56 : ℕ) (l57 : ℕ) (l58 : ℕ) (l59 : ℕ) (l60 : ℕ) (l61 : ℕ) (l62 : ℕ) (l63 : ℕ) (l64 : ℕ) (l65 : ℕ) (l66 : ℕ) (l67 : ℕ) (l68 : ℕ) (l69 : ℕ)
         (l70 : ℕ) (l71 : ℕ) (l72 : ℕ) (l73 : ℕ) (l74 : ℕ) (l75 : ℕ) (l76 : ℕ) (l77 : ℕ) (l78 : ℕ) (l79 : ℕ) (l80 : ℕ) (l81 : ℕ) (l82 : ℕ) (l83 : ℕ)
         (l84 : ℕ) (l85 : ℕ) (l86 : ℕ) (l87 : ℕ) (l88 : ℕ) (l89 : ℕ) (l90 : ℕ) (l91 : ℕ) (l92 : ℕ) (l93 : ℕ) (l94 : ℕ) (l95 : ℕ) (l96 : ℕ) (l97 : ℕ)
-        (l98 : ℕ) (l99 : ℕ) (l100 : ℕ) (l101 : ℕ) (l102 : ℕ) (l103 : ℕ) (l104 : ℕ) (l105 : ℕ) (l106 : ℕ) (l107 : ℕ) →
-        Sq W (‵ (flft κ·ids q·ids)
+        (l98 : ℕ) (l99 : ℕ) (l100 : ℕ) (l101 : ℕ) (l102 : ℕ) (l103 : ℕ) (l104 : ℕ) (l105 : ℕ) (l106 : ℕ) (l107 : ℕ) (l108 : ℕ) (l109 : ℕ) (l110 : ℕ) →
+        Sq W (‵ (flft κ·memo q·memo)
+        ∷ ‵ (flft κ·ids q·ids)
         ∷ ‵ (flft κ·cells q·cells)
         ∷ ‵ (flft κ·feet q·feet)
         ∷ ‵ (flft κ·kept q·kept)
@@ -8243,6 +8541,7 @@ module _ {M : Type 1} (𝓤 : URA M) (H : Heap 𝓤) (A : Atoms 𝓤) (W : Given
         ∷ ‵ (flft κ·proof q·proof)
         ∷ ‵ (flft κ·goals q·goals)
         ∷ ‵ (flft κ·theory q·theory)
+        ∷ ‵ (MutSlice (named 21) κ·memo u32 .own (ref·memo γ·memo memo) (s·memo ∷ []))
         ∷ ‵ (MutSlice (named 20) κ·ids u32 .own (ref·ids γ·ids ids) (s·ids ∷ []))
         ∷ ‵ (MutSlice (named 19) κ·cells u32 .own (ref·cells γ·cells cells) (s·cells ∷ []))
         ∷ ‵ (MutSlice (named 18) κ·feet u64 .own (ref·feet γ·feet feet) (s·feet ∷ []))
@@ -8264,178 +8563,184 @@ module _ {M : Type 1} (𝓤 : URA M) (H : Heap 𝓤) (A : Atoms 𝓤) (W : Given
         ∷ ‵ (ShrSlice (named 2) κ·proof u8 .own (ref·proof γ·proof proof) (s·proof ∷ []))
         ∷ ‵ (ShrSlice (named 1) κ·goals u8 .own (ref·goals γ·goals goals) (s·goals ∷ []))
         ∷ ‵ (ShrSlice (named 0) κ·theory u8 .own (ref·theory γ·theory theory) (s·theory ∷ []))
-        ∷ ‵ (froom (tyInt w64) l107 0)
-        ∷ ‵ (fdies (tyInt w64) l107)
-        ∷ ‵ (froom (tyInt w64) l106 0)
-        ∷ ‵ (fdies (tyInt w64) l106)
-        ∷ ‵ (froom (sliceTy (tyRef erased mut (pointee (FactT.the-row .written)))) l105 0)
-        ∷ ‵ (fdies (sliceTy (tyRef erased mut (pointee (FactT.the-row .written)))) l105)
-        ∷ ‵ (froom (tyRef erased mut (pointee (FactT.the-row .written))) l104 0)
-        ∷ ‵ (fdies (tyRef erased mut (pointee (FactT.the-row .written))) l104)
-        ∷ ‵ (froom tyUnit l103 0)
-        ∷ ‵ (fdies tyUnit l103)
-        ∷ ‵ (froom (sliceTy (tyRef erased mut (tyInt w32))) l102 0)
-        ∷ ‵ (fdies (sliceTy (tyRef erased mut (tyInt w32))) l102)
-        ∷ ‵ (froom (tyRef erased mut (tyInt w32)) l101 0)
-        ∷ ‵ (fdies (tyRef erased mut (tyInt w32)) l101)
-        ∷ ‵ (froom (sliceTy (tyRef erased imm (tyInt w32))) l100 0)
-        ∷ ‵ (fdies (sliceTy (tyRef erased imm (tyInt w32))) l100)
-        ∷ ‵ (froom (tyRef erased imm (tyInt w32)) l99 0)
-        ∷ ‵ (fdies (tyRef erased imm (tyInt w32)) l99)
-        ∷ ‵ (froom (sliceTy (tyRef erased imm (tyInt w32))) l98 0)
-        ∷ ‵ (fdies (sliceTy (tyRef erased imm (tyInt w32))) l98)
-        ∷ ‵ (froom (tyRef erased imm (tyInt w32)) l97 0)
-        ∷ ‵ (fdies (tyRef erased imm (tyInt w32)) l97)
-        ∷ ‵ (froom (sliceTy (tyRef erased mut (tyInt w32))) l96 0)
-        ∷ ‵ (fdies (sliceTy (tyRef erased mut (tyInt w32))) l96)
-        ∷ ‵ (froom (tyRef erased mut (tyInt w32)) l95 0)
-        ∷ ‵ (fdies (tyRef erased mut (tyInt w32)) l95)
-        ∷ ‵ (froom (tyRef erased mut (pointee (CountsT.the-row .written))) l94 0)
-        ∷ ‵ (fdies (tyRef erased mut (pointee (CountsT.the-row .written))) l94)
-        ∷ ‵ (froom (sliceTy (tyRef erased mut (pointee (FactT.the-row .written)))) l93 0)
-        ∷ ‵ (fdies (sliceTy (tyRef erased mut (pointee (FactT.the-row .written)))) l93)
-        ∷ ‵ (froom (tyRef erased mut (pointee (FactT.the-row .written))) l92 0)
-        ∷ ‵ (fdies (tyRef erased mut (pointee (FactT.the-row .written))) l92)
-        ∷ ‵ (froom (sliceTy (tyRef erased mut (tyInt w32))) l91 0)
-        ∷ ‵ (fdies (sliceTy (tyRef erased mut (tyInt w32))) l91)
-        ∷ ‵ (froom (tyRef erased mut (tyInt w32)) l90 0)
-        ∷ ‵ (fdies (tyRef erased mut (tyInt w32)) l90)
-        ∷ ‵ (froom (sliceTy (tyRef erased mut (tyInt w32))) l89 0)
-        ∷ ‵ (fdies (sliceTy (tyRef erased mut (tyInt w32))) l89)
-        ∷ ‵ (froom (tyRef erased mut (tyInt w32)) l88 0)
-        ∷ ‵ (fdies (tyRef erased mut (tyInt w32)) l88)
-        ∷ ‵ (froom (sliceTy (tyRef erased mut (tyInt w64))) l87 0)
-        ∷ ‵ (fdies (sliceTy (tyRef erased mut (tyInt w64))) l87)
-        ∷ ‵ (froom (tyRef erased mut (tyInt w64)) l86 0)
-        ∷ ‵ (fdies (tyRef erased mut (tyInt w64)) l86)
-        ∷ ‵ (froom (sliceTy (tyRef erased mut (tyInt w32))) l85 0)
-        ∷ ‵ (fdies (sliceTy (tyRef erased mut (tyInt w32))) l85)
-        ∷ ‵ (froom (tyRef erased mut (tyInt w32)) l84 0)
-        ∷ ‵ (fdies (tyRef erased mut (tyInt w32)) l84)
-        ∷ ‵ (froom (sliceTy (tyRef erased mut (tyInt w32))) l83 0)
-        ∷ ‵ (fdies (sliceTy (tyRef erased mut (tyInt w32))) l83)
-        ∷ ‵ (froom (tyRef erased mut (tyInt w32)) l82 0)
-        ∷ ‵ (fdies (tyRef erased mut (tyInt w32)) l82)
-        ∷ ‵ (froom (sliceTy (tyRef erased mut (tyInt w32))) l81 0)
-        ∷ ‵ (fdies (sliceTy (tyRef erased mut (tyInt w32))) l81)
-        ∷ ‵ (froom (tyRef erased mut (tyInt w32)) l80 0)
-        ∷ ‵ (fdies (tyRef erased mut (tyInt w32)) l80)
-        ∷ ‵ (froom (sliceTy (tyRef erased mut (tyInt w32))) l79 0)
-        ∷ ‵ (fdies (sliceTy (tyRef erased mut (tyInt w32))) l79)
-        ∷ ‵ (froom (tyRef erased mut (tyInt w32)) l78 0)
-        ∷ ‵ (fdies (tyRef erased mut (tyInt w32)) l78)
-        ∷ ‵ (froom (sliceTy (tyRef erased mut (tyInt w32))) l77 0)
-        ∷ ‵ (fdies (sliceTy (tyRef erased mut (tyInt w32))) l77)
-        ∷ ‵ (froom (tyRef erased mut (tyInt w32)) l76 0)
-        ∷ ‵ (fdies (tyRef erased mut (tyInt w32)) l76)
-        ∷ ‵ (froom (sliceTy (tyRef erased mut (tyInt w32))) l75 0)
-        ∷ ‵ (fdies (sliceTy (tyRef erased mut (tyInt w32))) l75)
-        ∷ ‵ (froom (tyRef erased mut (tyInt w32)) l74 0)
-        ∷ ‵ (fdies (tyRef erased mut (tyInt w32)) l74)
-        ∷ ‵ (froom (sliceTy (tyRef erased mut (tyInt w32))) l73 0)
-        ∷ ‵ (fdies (sliceTy (tyRef erased mut (tyInt w32))) l73)
-        ∷ ‵ (froom (tyRef erased mut (tyInt w32)) l72 0)
-        ∷ ‵ (fdies (tyRef erased mut (tyInt w32)) l72)
-        ∷ ‵ (froom (sliceTy (tyRef erased imm (tyInt w32))) l71 0)
-        ∷ ‵ (fdies (sliceTy (tyRef erased imm (tyInt w32))) l71)
-        ∷ ‵ (froom (tyRef erased imm (tyInt w32)) l70 0)
-        ∷ ‵ (fdies (tyRef erased imm (tyInt w32)) l70)
-        ∷ ‵ (froom (sliceTy (tyRef erased imm (tyInt w32))) l69 0)
-        ∷ ‵ (fdies (sliceTy (tyRef erased imm (tyInt w32))) l69)
-        ∷ ‵ (froom (tyRef erased imm (tyInt w32)) l68 0)
-        ∷ ‵ (fdies (tyRef erased imm (tyInt w32)) l68)
-        ∷ ‵ (froom (sliceTy (tyRef erased imm (tyInt w32))) l67 0)
-        ∷ ‵ (fdies (sliceTy (tyRef erased imm (tyInt w32))) l67)
-        ∷ ‵ (froom (tyRef erased imm (tyInt w32)) l66 0)
-        ∷ ‵ (fdies (tyRef erased imm (tyInt w32)) l66)
-        ∷ ‵ (froom (sliceTy (tyRef erased imm (tyInt w32))) l65 0)
-        ∷ ‵ (fdies (sliceTy (tyRef erased imm (tyInt w32))) l65)
-        ∷ ‵ (froom (tyRef erased imm (tyInt w32)) l64 0)
-        ∷ ‵ (fdies (tyRef erased imm (tyInt w32)) l64)
-        ∷ ‵ (froom (sliceTy (tyRef erased imm (tyInt w32))) l63 0)
-        ∷ ‵ (fdies (sliceTy (tyRef erased imm (tyInt w32))) l63)
-        ∷ ‵ (froom (tyRef erased imm (tyInt w32)) l62 0)
-        ∷ ‵ (fdies (tyRef erased imm (tyInt w32)) l62)
-        ∷ ‵ (froom (sliceTy (tyRef erased imm (tyInt w32))) l61 0)
-        ∷ ‵ (fdies (sliceTy (tyRef erased imm (tyInt w32))) l61)
-        ∷ ‵ (froom (tyRef erased imm (tyInt w32)) l60 0)
-        ∷ ‵ (fdies (tyRef erased imm (tyInt w32)) l60)
-        ∷ ‵ (froom CountsL.mir l59 0)
-        ∷ ‵ (fdies CountsL.mir l59)
-        ∷ ‵ (froom (sliceTy (tyRef erased mut (tyInt w32))) l58 0)
-        ∷ ‵ (fdies (sliceTy (tyRef erased mut (tyInt w32))) l58)
-        ∷ ‵ (froom (tyRef erased mut (tyInt w32)) l57 0)
-        ∷ ‵ (fdies (tyRef erased mut (tyInt w32)) l57)
-        ∷ ‵ (froom (sliceTy (tyRef erased imm (tyInt w64))) l56 0)
-        ∷ ‵ (fdies (sliceTy (tyRef erased imm (tyInt w64))) l56)
-        ∷ ‵ (froom (tyRef erased imm (tyInt w64)) l55 0)
-        ∷ ‵ (fdies (tyRef erased imm (tyInt w64)) l55)
-        ∷ ‵ (froom (sliceTy (tyRef erased imm (tyInt w32))) l54 0)
-        ∷ ‵ (fdies (sliceTy (tyRef erased imm (tyInt w32))) l54)
-        ∷ ‵ (froom (tyRef erased imm (tyInt w32)) l53 0)
-        ∷ ‵ (fdies (tyRef erased imm (tyInt w32)) l53)
-        ∷ ‵ (froom (sliceTy (tyRef erased mut (tyInt w32))) l52 0)
-        ∷ ‵ (fdies (sliceTy (tyRef erased mut (tyInt w32))) l52)
-        ∷ ‵ (froom (tyRef erased mut (tyInt w32)) l51 0)
-        ∷ ‵ (fdies (tyRef erased mut (tyInt w32)) l51)
-        ∷ ‵ (froom (sliceTy (tyRef erased mut (tyInt w32))) l50 0)
-        ∷ ‵ (fdies (sliceTy (tyRef erased mut (tyInt w32))) l50)
-        ∷ ‵ (froom (tyRef erased mut (tyInt w32)) l49 0)
-        ∷ ‵ (fdies (tyRef erased mut (tyInt w32)) l49)
-        ∷ ‵ (froom (sliceTy (tyRef erased mut (tyInt w32))) l48 0)
-        ∷ ‵ (fdies (sliceTy (tyRef erased mut (tyInt w32))) l48)
-        ∷ ‵ (froom (tyRef erased mut (tyInt w32)) l47 0)
-        ∷ ‵ (fdies (tyRef erased mut (tyInt w32)) l47)
-        ∷ ‵ (froom (sliceTy (tyRef erased mut (tyInt w32))) l46 0)
-        ∷ ‵ (fdies (sliceTy (tyRef erased mut (tyInt w32))) l46)
-        ∷ ‵ (froom (tyRef erased mut (tyInt w32)) l45 0)
-        ∷ ‵ (fdies (tyRef erased mut (tyInt w32)) l45)
-        ∷ ‵ (froom (sliceTy (tyRef erased mut (tyInt w32))) l44 0)
-        ∷ ‵ (fdies (sliceTy (tyRef erased mut (tyInt w32))) l44)
-        ∷ ‵ (froom (tyRef erased mut (tyInt w32)) l43 0)
-        ∷ ‵ (fdies (tyRef erased mut (tyInt w32)) l43)
-        ∷ ‵ (froom (sliceTy (tyRef erased mut (tyInt w32))) l42 0)
-        ∷ ‵ (fdies (sliceTy (tyRef erased mut (tyInt w32))) l42)
-        ∷ ‵ (froom (tyRef erased mut (tyInt w32)) l41 0)
-        ∷ ‵ (fdies (tyRef erased mut (tyInt w32)) l41)
-        ∷ ‵ (froom (sliceTy (tyRef erased mut (tyInt w32))) l40 0)
-        ∷ ‵ (fdies (sliceTy (tyRef erased mut (tyInt w32))) l40)
-        ∷ ‵ (froom (tyRef erased mut (tyInt w32)) l39 0)
-        ∷ ‵ (fdies (tyRef erased mut (tyInt w32)) l39)
-        ∷ ‵ (froom (sliceTy (tyRef erased mut (tyInt w32))) l38 0)
-        ∷ ‵ (fdies (sliceTy (tyRef erased mut (tyInt w32))) l38)
-        ∷ ‵ (froom (tyRef erased mut (tyInt w32)) l37 0)
-        ∷ ‵ (fdies (tyRef erased mut (tyInt w32)) l37)
-        ∷ ‵ (froom (sliceTy (tyRef erased mut (tyInt w32))) l36 0)
-        ∷ ‵ (fdies (sliceTy (tyRef erased mut (tyInt w32))) l36)
-        ∷ ‵ (froom (tyRef erased mut (tyInt w32)) l35 0)
-        ∷ ‵ (fdies (tyRef erased mut (tyInt w32)) l35)
-        ∷ ‵ (froom (sliceTy (tyRef erased mut (tyInt w32))) l34 0)
-        ∷ ‵ (fdies (sliceTy (tyRef erased mut (tyInt w32))) l34)
-        ∷ ‵ (froom (tyRef erased mut (tyInt w32)) l33 0)
-        ∷ ‵ (fdies (tyRef erased mut (tyInt w32)) l33)
-        ∷ ‵ (froom (sliceTy (tyRef erased mut (tyInt w32))) l32 0)
-        ∷ ‵ (fdies (sliceTy (tyRef erased mut (tyInt w32))) l32)
-        ∷ ‵ (froom (tyRef erased mut (tyInt w32)) l31 0)
-        ∷ ‵ (fdies (tyRef erased mut (tyInt w32)) l31)
-        ∷ ‵ (froom (sliceTy (tyRef erased mut (tyInt w32))) l30 0)
-        ∷ ‵ (fdies (sliceTy (tyRef erased mut (tyInt w32))) l30)
-        ∷ ‵ (froom (tyRef erased mut (tyInt w32)) l29 0)
-        ∷ ‵ (fdies (tyRef erased mut (tyInt w32)) l29)
-        ∷ ‵ (froom (sliceTy (tyRef erased mut (tyInt w32))) l28 0)
-        ∷ ‵ (fdies (sliceTy (tyRef erased mut (tyInt w32))) l28)
-        ∷ ‵ (froom (tyRef erased mut (tyInt w32)) l27 0)
-        ∷ ‵ (fdies (tyRef erased mut (tyInt w32)) l27)
-        ∷ ‵ (froom AnswerL.mir l26 0)
-        ∷ ‵ (fdies AnswerL.mir l26)
-        ∷ ‵ (froom RunL.mir l25 0)
-        ∷ ‵ (fdies RunL.mir l25)
-        ∷ ‵ (froom CountsL.mir l24 0)
-        ∷ ‵ (fdies CountsL.mir l24)
-        ∷ ‵ (froom RunL.mir l23 0)
-        ∷ ‵ (fdies RunL.mir l23)
-        ∷ ‵ (froom (tyInt w64) l22 0)
-        ∷ ‵ (fdies (tyInt w64) l22)
+        ∷ ‵ (froom (tyInt w64) l110 0)
+        ∷ ‵ (fdies (tyInt w64) l110)
+        ∷ ‵ (froom (tyInt w64) l109 0)
+        ∷ ‵ (fdies (tyInt w64) l109)
+        ∷ ‵ (froom (sliceTy (tyRef erased mut (pointee (FactT.the-row .written)))) l108 0)
+        ∷ ‵ (fdies (sliceTy (tyRef erased mut (pointee (FactT.the-row .written)))) l108)
+        ∷ ‵ (froom (tyRef erased mut (pointee (FactT.the-row .written))) l107 0)
+        ∷ ‵ (fdies (tyRef erased mut (pointee (FactT.the-row .written))) l107)
+        ∷ ‵ (froom tyUnit l106 0)
+        ∷ ‵ (fdies tyUnit l106)
+        ∷ ‵ (froom (sliceTy (tyRef erased mut (tyInt w32))) l105 0)
+        ∷ ‵ (fdies (sliceTy (tyRef erased mut (tyInt w32))) l105)
+        ∷ ‵ (froom (tyRef erased mut (tyInt w32)) l104 0)
+        ∷ ‵ (fdies (tyRef erased mut (tyInt w32)) l104)
+        ∷ ‵ (froom (sliceTy (tyRef erased imm (tyInt w32))) l103 0)
+        ∷ ‵ (fdies (sliceTy (tyRef erased imm (tyInt w32))) l103)
+        ∷ ‵ (froom (tyRef erased imm (tyInt w32)) l102 0)
+        ∷ ‵ (fdies (tyRef erased imm (tyInt w32)) l102)
+        ∷ ‵ (froom (sliceTy (tyRef erased imm (tyInt w32))) l101 0)
+        ∷ ‵ (fdies (sliceTy (tyRef erased imm (tyInt w32))) l101)
+        ∷ ‵ (froom (tyRef erased imm (tyInt w32)) l100 0)
+        ∷ ‵ (fdies (tyRef erased imm (tyInt w32)) l100)
+        ∷ ‵ (froom (sliceTy (tyRef erased mut (tyInt w32))) l99 0)
+        ∷ ‵ (fdies (sliceTy (tyRef erased mut (tyInt w32))) l99)
+        ∷ ‵ (froom (tyRef erased mut (tyInt w32)) l98 0)
+        ∷ ‵ (fdies (tyRef erased mut (tyInt w32)) l98)
+        ∷ ‵ (froom (tyRef erased mut (pointee (CountsT.the-row .written))) l97 0)
+        ∷ ‵ (fdies (tyRef erased mut (pointee (CountsT.the-row .written))) l97)
+        ∷ ‵ (froom (sliceTy (tyRef erased mut (pointee (FactT.the-row .written)))) l96 0)
+        ∷ ‵ (fdies (sliceTy (tyRef erased mut (pointee (FactT.the-row .written)))) l96)
+        ∷ ‵ (froom (tyRef erased mut (pointee (FactT.the-row .written))) l95 0)
+        ∷ ‵ (fdies (tyRef erased mut (pointee (FactT.the-row .written))) l95)
+        ∷ ‵ (froom (sliceTy (tyRef erased mut (tyInt w32))) l94 0)
+        ∷ ‵ (fdies (sliceTy (tyRef erased mut (tyInt w32))) l94)
+        ∷ ‵ (froom (tyRef erased mut (tyInt w32)) l93 0)
+        ∷ ‵ (fdies (tyRef erased mut (tyInt w32)) l93)
+        ∷ ‵ (froom (sliceTy (tyRef erased mut (tyInt w32))) l92 0)
+        ∷ ‵ (fdies (sliceTy (tyRef erased mut (tyInt w32))) l92)
+        ∷ ‵ (froom (tyRef erased mut (tyInt w32)) l91 0)
+        ∷ ‵ (fdies (tyRef erased mut (tyInt w32)) l91)
+        ∷ ‵ (froom (sliceTy (tyRef erased mut (tyInt w32))) l90 0)
+        ∷ ‵ (fdies (sliceTy (tyRef erased mut (tyInt w32))) l90)
+        ∷ ‵ (froom (tyRef erased mut (tyInt w32)) l89 0)
+        ∷ ‵ (fdies (tyRef erased mut (tyInt w32)) l89)
+        ∷ ‵ (froom (sliceTy (tyRef erased mut (tyInt w64))) l88 0)
+        ∷ ‵ (fdies (sliceTy (tyRef erased mut (tyInt w64))) l88)
+        ∷ ‵ (froom (tyRef erased mut (tyInt w64)) l87 0)
+        ∷ ‵ (fdies (tyRef erased mut (tyInt w64)) l87)
+        ∷ ‵ (froom (sliceTy (tyRef erased mut (tyInt w32))) l86 0)
+        ∷ ‵ (fdies (sliceTy (tyRef erased mut (tyInt w32))) l86)
+        ∷ ‵ (froom (tyRef erased mut (tyInt w32)) l85 0)
+        ∷ ‵ (fdies (tyRef erased mut (tyInt w32)) l85)
+        ∷ ‵ (froom (sliceTy (tyRef erased mut (tyInt w32))) l84 0)
+        ∷ ‵ (fdies (sliceTy (tyRef erased mut (tyInt w32))) l84)
+        ∷ ‵ (froom (tyRef erased mut (tyInt w32)) l83 0)
+        ∷ ‵ (fdies (tyRef erased mut (tyInt w32)) l83)
+        ∷ ‵ (froom (sliceTy (tyRef erased mut (tyInt w32))) l82 0)
+        ∷ ‵ (fdies (sliceTy (tyRef erased mut (tyInt w32))) l82)
+        ∷ ‵ (froom (tyRef erased mut (tyInt w32)) l81 0)
+        ∷ ‵ (fdies (tyRef erased mut (tyInt w32)) l81)
+        ∷ ‵ (froom (sliceTy (tyRef erased mut (tyInt w32))) l80 0)
+        ∷ ‵ (fdies (sliceTy (tyRef erased mut (tyInt w32))) l80)
+        ∷ ‵ (froom (tyRef erased mut (tyInt w32)) l79 0)
+        ∷ ‵ (fdies (tyRef erased mut (tyInt w32)) l79)
+        ∷ ‵ (froom (sliceTy (tyRef erased mut (tyInt w32))) l78 0)
+        ∷ ‵ (fdies (sliceTy (tyRef erased mut (tyInt w32))) l78)
+        ∷ ‵ (froom (tyRef erased mut (tyInt w32)) l77 0)
+        ∷ ‵ (fdies (tyRef erased mut (tyInt w32)) l77)
+        ∷ ‵ (froom (sliceTy (tyRef erased mut (tyInt w32))) l76 0)
+        ∷ ‵ (fdies (sliceTy (tyRef erased mut (tyInt w32))) l76)
+        ∷ ‵ (froom (tyRef erased mut (tyInt w32)) l75 0)
+        ∷ ‵ (fdies (tyRef erased mut (tyInt w32)) l75)
+        ∷ ‵ (froom (sliceTy (tyRef erased mut (tyInt w32))) l74 0)
+        ∷ ‵ (fdies (sliceTy (tyRef erased mut (tyInt w32))) l74)
+        ∷ ‵ (froom (tyRef erased mut (tyInt w32)) l73 0)
+        ∷ ‵ (fdies (tyRef erased mut (tyInt w32)) l73)
+        ∷ ‵ (froom (sliceTy (tyRef erased imm (tyInt w32))) l72 0)
+        ∷ ‵ (fdies (sliceTy (tyRef erased imm (tyInt w32))) l72)
+        ∷ ‵ (froom (tyRef erased imm (tyInt w32)) l71 0)
+        ∷ ‵ (fdies (tyRef erased imm (tyInt w32)) l71)
+        ∷ ‵ (froom (sliceTy (tyRef erased imm (tyInt w32))) l70 0)
+        ∷ ‵ (fdies (sliceTy (tyRef erased imm (tyInt w32))) l70)
+        ∷ ‵ (froom (tyRef erased imm (tyInt w32)) l69 0)
+        ∷ ‵ (fdies (tyRef erased imm (tyInt w32)) l69)
+        ∷ ‵ (froom (sliceTy (tyRef erased imm (tyInt w32))) l68 0)
+        ∷ ‵ (fdies (sliceTy (tyRef erased imm (tyInt w32))) l68)
+        ∷ ‵ (froom (tyRef erased imm (tyInt w32)) l67 0)
+        ∷ ‵ (fdies (tyRef erased imm (tyInt w32)) l67)
+        ∷ ‵ (froom (sliceTy (tyRef erased imm (tyInt w32))) l66 0)
+        ∷ ‵ (fdies (sliceTy (tyRef erased imm (tyInt w32))) l66)
+        ∷ ‵ (froom (tyRef erased imm (tyInt w32)) l65 0)
+        ∷ ‵ (fdies (tyRef erased imm (tyInt w32)) l65)
+        ∷ ‵ (froom (sliceTy (tyRef erased imm (tyInt w32))) l64 0)
+        ∷ ‵ (fdies (sliceTy (tyRef erased imm (tyInt w32))) l64)
+        ∷ ‵ (froom (tyRef erased imm (tyInt w32)) l63 0)
+        ∷ ‵ (fdies (tyRef erased imm (tyInt w32)) l63)
+        ∷ ‵ (froom (sliceTy (tyRef erased imm (tyInt w32))) l62 0)
+        ∷ ‵ (fdies (sliceTy (tyRef erased imm (tyInt w32))) l62)
+        ∷ ‵ (froom (tyRef erased imm (tyInt w32)) l61 0)
+        ∷ ‵ (fdies (tyRef erased imm (tyInt w32)) l61)
+        ∷ ‵ (froom CountsL.mir l60 0)
+        ∷ ‵ (fdies CountsL.mir l60)
+        ∷ ‵ (froom (sliceTy (tyRef erased mut (tyInt w32))) l59 0)
+        ∷ ‵ (fdies (sliceTy (tyRef erased mut (tyInt w32))) l59)
+        ∷ ‵ (froom (tyRef erased mut (tyInt w32)) l58 0)
+        ∷ ‵ (fdies (tyRef erased mut (tyInt w32)) l58)
+        ∷ ‵ (froom (sliceTy (tyRef erased imm (tyInt w64))) l57 0)
+        ∷ ‵ (fdies (sliceTy (tyRef erased imm (tyInt w64))) l57)
+        ∷ ‵ (froom (tyRef erased imm (tyInt w64)) l56 0)
+        ∷ ‵ (fdies (tyRef erased imm (tyInt w64)) l56)
+        ∷ ‵ (froom (sliceTy (tyRef erased imm (tyInt w32))) l55 0)
+        ∷ ‵ (fdies (sliceTy (tyRef erased imm (tyInt w32))) l55)
+        ∷ ‵ (froom (tyRef erased imm (tyInt w32)) l54 0)
+        ∷ ‵ (fdies (tyRef erased imm (tyInt w32)) l54)
+        ∷ ‵ (froom (sliceTy (tyRef erased mut (tyInt w32))) l53 0)
+        ∷ ‵ (fdies (sliceTy (tyRef erased mut (tyInt w32))) l53)
+        ∷ ‵ (froom (tyRef erased mut (tyInt w32)) l52 0)
+        ∷ ‵ (fdies (tyRef erased mut (tyInt w32)) l52)
+        ∷ ‵ (froom (sliceTy (tyRef erased mut (tyInt w32))) l51 0)
+        ∷ ‵ (fdies (sliceTy (tyRef erased mut (tyInt w32))) l51)
+        ∷ ‵ (froom (tyRef erased mut (tyInt w32)) l50 0)
+        ∷ ‵ (fdies (tyRef erased mut (tyInt w32)) l50)
+        ∷ ‵ (froom (sliceTy (tyRef erased mut (tyInt w32))) l49 0)
+        ∷ ‵ (fdies (sliceTy (tyRef erased mut (tyInt w32))) l49)
+        ∷ ‵ (froom (tyRef erased mut (tyInt w32)) l48 0)
+        ∷ ‵ (fdies (tyRef erased mut (tyInt w32)) l48)
+        ∷ ‵ (froom (sliceTy (tyRef erased mut (tyInt w32))) l47 0)
+        ∷ ‵ (fdies (sliceTy (tyRef erased mut (tyInt w32))) l47)
+        ∷ ‵ (froom (tyRef erased mut (tyInt w32)) l46 0)
+        ∷ ‵ (fdies (tyRef erased mut (tyInt w32)) l46)
+        ∷ ‵ (froom (sliceTy (tyRef erased mut (tyInt w32))) l45 0)
+        ∷ ‵ (fdies (sliceTy (tyRef erased mut (tyInt w32))) l45)
+        ∷ ‵ (froom (tyRef erased mut (tyInt w32)) l44 0)
+        ∷ ‵ (fdies (tyRef erased mut (tyInt w32)) l44)
+        ∷ ‵ (froom (sliceTy (tyRef erased mut (tyInt w32))) l43 0)
+        ∷ ‵ (fdies (sliceTy (tyRef erased mut (tyInt w32))) l43)
+        ∷ ‵ (froom (tyRef erased mut (tyInt w32)) l42 0)
+        ∷ ‵ (fdies (tyRef erased mut (tyInt w32)) l42)
+        ∷ ‵ (froom (sliceTy (tyRef erased mut (tyInt w32))) l41 0)
+        ∷ ‵ (fdies (sliceTy (tyRef erased mut (tyInt w32))) l41)
+        ∷ ‵ (froom (tyRef erased mut (tyInt w32)) l40 0)
+        ∷ ‵ (fdies (tyRef erased mut (tyInt w32)) l40)
+        ∷ ‵ (froom (sliceTy (tyRef erased mut (tyInt w32))) l39 0)
+        ∷ ‵ (fdies (sliceTy (tyRef erased mut (tyInt w32))) l39)
+        ∷ ‵ (froom (tyRef erased mut (tyInt w32)) l38 0)
+        ∷ ‵ (fdies (tyRef erased mut (tyInt w32)) l38)
+        ∷ ‵ (froom (sliceTy (tyRef erased mut (tyInt w32))) l37 0)
+        ∷ ‵ (fdies (sliceTy (tyRef erased mut (tyInt w32))) l37)
+        ∷ ‵ (froom (tyRef erased mut (tyInt w32)) l36 0)
+        ∷ ‵ (fdies (tyRef erased mut (tyInt w32)) l36)
+        ∷ ‵ (froom (sliceTy (tyRef erased mut (tyInt w32))) l35 0)
+        ∷ ‵ (fdies (sliceTy (tyRef erased mut (tyInt w32))) l35)
+        ∷ ‵ (froom (tyRef erased mut (tyInt w32)) l34 0)
+        ∷ ‵ (fdies (tyRef erased mut (tyInt w32)) l34)
+        ∷ ‵ (froom (sliceTy (tyRef erased mut (tyInt w32))) l33 0)
+        ∷ ‵ (fdies (sliceTy (tyRef erased mut (tyInt w32))) l33)
+        ∷ ‵ (froom (tyRef erased mut (tyInt w32)) l32 0)
+        ∷ ‵ (fdies (tyRef erased mut (tyInt w32)) l32)
+        ∷ ‵ (froom (sliceTy (tyRef erased mut (tyInt w32))) l31 0)
+        ∷ ‵ (fdies (sliceTy (tyRef erased mut (tyInt w32))) l31)
+        ∷ ‵ (froom (tyRef erased mut (tyInt w32)) l30 0)
+        ∷ ‵ (fdies (tyRef erased mut (tyInt w32)) l30)
+        ∷ ‵ (froom (sliceTy (tyRef erased mut (tyInt w32))) l29 0)
+        ∷ ‵ (fdies (sliceTy (tyRef erased mut (tyInt w32))) l29)
+        ∷ ‵ (froom (tyRef erased mut (tyInt w32)) l28 0)
+        ∷ ‵ (fdies (tyRef erased mut (tyInt w32)) l28)
+        ∷ ‵ (froom AnswerL.mir l27 0)
+        ∷ ‵ (fdies AnswerL.mir l27)
+        ∷ ‵ (froom RunL.mir l26 0)
+        ∷ ‵ (fdies RunL.mir l26)
+        ∷ ‵ (froom CountsL.mir l25 0)
+        ∷ ‵ (fdies CountsL.mir l25)
+        ∷ ‵ (froom RunL.mir l24 0)
+        ∷ ‵ (fdies RunL.mir l24)
+        ∷ ‵ (froom (tyInt w64) l23 0)
+        ∷ ‵ (fdies (tyInt w64) l23)
+        ∷ ‵ (fat fullShare (sliceTy (tyRef (named 21) mut (tyInt w32))) l22 0 s·memo)
+        ∷ ‵ (fdies (sliceTy (tyRef (named 21) mut (tyInt w32))) l22)
         ∷ ‵ (fat fullShare (sliceTy (tyRef (named 20) mut (tyInt w32))) l21 0 s·ids)
         ∷ ‵ (fdies (sliceTy (tyRef (named 20) mut (tyInt w32))) l21)
         ∷ ‵ (fat fullShare (sliceTy (tyRef (named 19) mut (tyInt w32))) l20 0 s·cells)
@@ -8483,131 +8788,127 @@ module _ {M : Type 1} (𝓤 : URA M) (H : Heap 𝓤) (A : Atoms 𝓤) (W : Given
         (runs C Λ (En l0 l1 l2 l3 l4 l5 l6 l7 l8 l9 l10 l11 l12 l13 l14 l15 l16 l17 l18 l19 l20 l21 l22 l23 l24 l25 l26 l27 l28 l29 l30 l31 l32 l33
         l34 l35 l36 l37 l38 l39 l40 l41 l42 l43 l44 l45 l46 l47 l48 l49 l50 l51 l52 l53 l54 l55 l56 l57 l58 l59 l60 l61 l62 l63 l64 l65 l66 l67 l68
         l69 l70 l71 l72 l73 l74 l75 l76 l77 l78 l79 l80 l81 l82 l83 l84 l85 l86 l87 l88 l89 l90 l91 l92 l93 l94 l95 l96 l97 l98 l99 l100 l101 l102
-        l103 l104 l105 l106 l107) pieces.t-1 (atRet (En l0 l1 l2 l3 l4 l5 l6 l7 l8 l9 l10 l11 l12 l13 l14 l15 l16 l17 l18 l19 l20 l21 l22 l23 l24 l25
-        l26 l27 l28 l29 l30 l31 l32 l33 l34 l35 l36 l37 l38 l39 l40 l41 l42 l43 l44 l45 l46 l47 l48 l49 l50 l51 l52 l53 l54 l55 l56 l57 l58 l59 l60
-        l61 l62 l63 l64 l65 l66 l67 l68 l69 l70 l71 l72 l73 l74 l75 l76 l77 l78 l79 l80 l81 l82 l83 l84 l85 l86 l87 l88 l89 l90 l91 l92 l93 l94 l95
-        l96 l97 l98 l99 l100 l101 l102 l103 l104 l105 l106 l107) Post))
+        l103 l104 l105 l106 l107 l108 l109 l110) pieces.t-1 (atRet (En l0 l1 l2 l3 l4 l5 l6 l7 l8 l9 l10 l11 l12 l13 l14 l15 l16 l17 l18 l19 l20 l21
+        l22 l23 l24 l25 l26 l27 l28 l29 l30 l31 l32 l33 l34 l35 l36 l37 l38 l39 l40 l41 l42 l43 l44 l45 l46 l47 l48 l49 l50 l51 l52 l53 l54 l55 l56
+        l57 l58 l59 l60 l61 l62 l63 l64 l65 l66 l67 l68 l69 l70 l71 l72 l73 l74 l75 l76 l77 l78 l79 l80 l81 l82 l83 l84 l85 l86 l87 l88 l89 l90 l91
+        l92 l93 l94 l95 l96 l97 l98 l99 l100 l101 l102 l103 l104 l105 l106 l107 l108 l109 l110) Post))
     seg·1 l0 l1 l2 l3 l4 l5 l6 l7 l8 l9 l10 l11 l12 l13 l14 l15 l16 l17 l18 l19 l20 l21 l22 l23 l24 l25 l26 l27 l28 l29 l30 l31 l32 l33 l34 l35 l36
         l37 l38 l39 l40 l41 l42 l43 l44 l45 l46 l47 l48 l49 l50 l51 l52 l53 l54 l55 l56 l57 l58 l59 l60 l61 l62 l63 l64 l65 l66 l67 l68 l69 l70 l71
         l72 l73 l74 l75 l76 l77 l78 l79 l80 l81 l82 l83 l84 l85 l86 l87 l88 l89 l90 l91 l92 l93 l94 l95 l96 l97 l98 l99 l100 l101 l102 l103 l104
-        l105 l106 l107 =
-        assigns ! (of-opd ! (load ! (from ! (fld ! refl (stop !))) (look-in ! 222 (sub ! 1 refl (whole !))))) (from ! (stop !))
-        (init ! 212 refl (uint-lawful 𝓤 H A W w64 .typed (length facts) _ (refl, room·facts .0) .0)) $
+        l105 l106 l107 l108 l109 l110 =
+        assigns ! (of-opd ! (load ! (from ! (fld ! refl (stop !))) (look-in ! 230 (sub ! 1 refl (whole !))))) (from ! (stop !))
+        (init ! 218 refl (uint-lawful 𝓤 H A W w64 .typed (length facts) _ (refl, room·facts .0) .0)) $
+        assigns ! (addr ! (from ! (fld ! refl (hop ! (look-in ! 256 (sub ! 0 refl (whole !))) (stop !))))) (from ! (stop !))
+        (init ! 208 refl (tt, tt)) $
+        assigns ! (agg ! (and-then ! (load ! (from ! (stop !)) (look ! 208 refl))
+        (and-then ! (load ! (from ! (fld ! refl (stop !))) (look-in ! 256 (sub ! 1 refl (whole !)))) (no-more !)))) (from ! (stop !))
+        (init ! 206 refl (tt, (tt, (record { fits = room·sorts .0 }, tt)))) $
+        assigns ! (addr ! (from ! (fld ! refl (hop ! (look-in ! 254 (sub ! 0 refl (whole !))) (stop !))))) (from ! (stop !))
+        (init ! 204 refl (tt, tt)) $
+        assigns ! (agg ! (and-then ! (load ! (from ! (stop !)) (look ! 204 refl))
+        (and-then ! (load ! (from ! (fld ! refl (stop !))) (look-in ! 254 (sub ! 1 refl (whole !)))) (no-more !)))) (from ! (stop !))
+        (init ! 202 refl (tt, (tt, (record { fits = room·symbols .0 }, tt)))) $
+        assigns ! (addr ! (from ! (fld ! refl (hop ! (look-in ! 252 (sub ! 0 refl (whole !))) (stop !))))) (from ! (stop !))
+        (init ! 200 refl (tt, tt)) $
+        assigns ! (agg ! (and-then ! (load ! (from ! (stop !)) (look ! 200 refl))
+        (and-then ! (load ! (from ! (fld ! refl (stop !))) (look-in ! 252 (sub ! 1 refl (whole !)))) (no-more !)))) (from ! (stop !))
+        (init ! 198 refl (tt, (tt, (record { fits = room·inputs .0 }, tt)))) $
+        assigns ! (addr ! (from ! (fld ! refl (hop ! (look-in ! 250 (sub ! 0 refl (whole !))) (stop !))))) (from ! (stop !))
+        (init ! 196 refl (tt, tt)) $
+        assigns ! (agg ! (and-then ! (load ! (from ! (stop !)) (look ! 196 refl))
+        (and-then ! (load ! (from ! (fld ! refl (stop !))) (look-in ! 250 (sub ! 1 refl (whole !)))) (no-more !)))) (from ! (stop !))
+        (init ! 194 refl (tt, (tt, (record { fits = room·rules .0 }, tt)))) $
         assigns ! (addr ! (from ! (fld ! refl (hop ! (look-in ! 248 (sub ! 0 refl (whole !))) (stop !))))) (from ! (stop !))
-        (init ! 202 refl (tt, tt)) $
-        assigns ! (agg ! (and-then ! (load ! (from ! (stop !)) (look ! 202 refl))
+        (init ! 192 refl (tt, tt)) $
+        assigns ! (agg ! (and-then ! (load ! (from ! (stop !)) (look ! 192 refl))
         (and-then ! (load ! (from ! (fld ! refl (stop !))) (look-in ! 248 (sub ! 1 refl (whole !)))) (no-more !)))) (from ! (stop !))
-        (init ! 200 refl (tt, (tt, (record { fits = room·sorts .0 }, tt)))) $
+        (init ! 190 refl (tt, (tt, (record { fits = room·rulevars .0 }, tt)))) $
         assigns ! (addr ! (from ! (fld ! refl (hop ! (look-in ! 246 (sub ! 0 refl (whole !))) (stop !))))) (from ! (stop !))
-        (init ! 198 refl (tt, tt)) $
-        assigns ! (agg ! (and-then ! (load ! (from ! (stop !)) (look ! 198 refl))
+        (init ! 188 refl (tt, tt)) $
+        assigns ! (agg ! (and-then ! (load ! (from ! (stop !)) (look ! 188 refl))
         (and-then ! (load ! (from ! (fld ! refl (stop !))) (look-in ! 246 (sub ! 1 refl (whole !)))) (no-more !)))) (from ! (stop !))
-        (init ! 196 refl (tt, (tt, (record { fits = room·symbols .0 }, tt)))) $
+        (init ! 186 refl (tt, (tt, (record { fits = room·patterns .0 }, tt)))) $
         assigns ! (addr ! (from ! (fld ! refl (hop ! (look-in ! 244 (sub ! 0 refl (whole !))) (stop !))))) (from ! (stop !))
-        (init ! 194 refl (tt, tt)) $
-        assigns ! (agg ! (and-then ! (load ! (from ! (stop !)) (look ! 194 refl))
+        (init ! 184 refl (tt, tt)) $
+        assigns ! (agg ! (and-then ! (load ! (from ! (stop !)) (look ! 184 refl))
         (and-then ! (load ! (from ! (fld ! refl (stop !))) (look-in ! 244 (sub ! 1 refl (whole !)))) (no-more !)))) (from ! (stop !))
-        (init ! 192 refl (tt, (tt, (record { fits = room·inputs .0 }, tt)))) $
+        (init ! 182 refl (tt, (tt, (record { fits = room·vars .0 }, tt)))) $
         assigns ! (addr ! (from ! (fld ! refl (hop ! (look-in ! 242 (sub ! 0 refl (whole !))) (stop !))))) (from ! (stop !))
-        (init ! 190 refl (tt, tt)) $
-        assigns ! (agg ! (and-then ! (load ! (from ! (stop !)) (look ! 190 refl))
+        (init ! 180 refl (tt, tt)) $
+        assigns ! (agg ! (and-then ! (load ! (from ! (stop !)) (look ! 180 refl))
         (and-then ! (load ! (from ! (fld ! refl (stop !))) (look-in ! 242 (sub ! 1 refl (whole !)))) (no-more !)))) (from ! (stop !))
-        (init ! 188 refl (tt, (tt, (record { fits = room·rules .0 }, tt)))) $
+        (init ! 178 refl (tt, (tt, (record { fits = room·index .0 }, tt)))) $
         assigns ! (addr ! (from ! (fld ! refl (hop ! (look-in ! 240 (sub ! 0 refl (whole !))) (stop !))))) (from ! (stop !))
-        (init ! 186 refl (tt, tt)) $
-        assigns ! (agg ! (and-then ! (load ! (from ! (stop !)) (look ! 186 refl))
+        (init ! 176 refl (tt, tt)) $
+        assigns ! (agg ! (and-then ! (load ! (from ! (stop !)) (look ! 176 refl))
         (and-then ! (load ! (from ! (fld ! refl (stop !))) (look-in ! 240 (sub ! 1 refl (whole !)))) (no-more !)))) (from ! (stop !))
-        (init ! 184 refl (tt, (tt, (record { fits = room·rulevars .0 }, tt)))) $
+        (init ! 174 refl (tt, (tt, (record { fits = room·words .0 }, tt)))) $
         assigns ! (addr ! (from ! (fld ! refl (hop ! (look-in ! 238 (sub ! 0 refl (whole !))) (stop !))))) (from ! (stop !))
-        (init ! 182 refl (tt, tt)) $
-        assigns ! (agg ! (and-then ! (load ! (from ! (stop !)) (look ! 182 refl))
+        (init ! 172 refl (tt, tt)) $
+        assigns ! (agg ! (and-then ! (load ! (from ! (stop !)) (look ! 172 refl))
         (and-then ! (load ! (from ! (fld ! refl (stop !))) (look-in ! 238 (sub ! 1 refl (whole !)))) (no-more !)))) (from ! (stop !))
-        (init ! 180 refl (tt, (tt, (record { fits = room·patterns .0 }, tt)))) $
+        (init ! 170 refl (tt, (tt, (record { fits = room·defs .0 }, tt)))) $
         assigns ! (addr ! (from ! (fld ! refl (hop ! (look-in ! 236 (sub ! 0 refl (whole !))) (stop !))))) (from ! (stop !))
-        (init ! 178 refl (tt, tt)) $
-        assigns ! (agg ! (and-then ! (load ! (from ! (stop !)) (look ! 178 refl))
+        (init ! 168 refl (tt, tt)) $
+        assigns ! (agg ! (and-then ! (load ! (from ! (stop !)) (look ! 168 refl))
         (and-then ! (load ! (from ! (fld ! refl (stop !))) (look-in ! 236 (sub ! 1 refl (whole !)))) (no-more !)))) (from ! (stop !))
-        (init ! 176 refl (tt, (tt, (record { fits = room·vars .0 }, tt)))) $
+        (init ! 166 refl (tt, (tt, (record { fits = room·rows .0 }, tt)))) $
         assigns ! (addr ! (from ! (fld ! refl (hop ! (look-in ! 234 (sub ! 0 refl (whole !))) (stop !))))) (from ! (stop !))
-        (init ! 174 refl (tt, tt)) $
-        assigns ! (agg ! (and-then ! (load ! (from ! (stop !)) (look ! 174 refl))
+        (init ! 164 refl (tt, tt)) $
+        assigns ! (agg ! (and-then ! (load ! (from ! (stop !)) (look ! 164 refl))
         (and-then ! (load ! (from ! (fld ! refl (stop !))) (look-in ! 234 (sub ! 1 refl (whole !)))) (no-more !)))) (from ! (stop !))
-        (init ! 172 refl (tt, (tt, (record { fits = room·index .0 }, tt)))) $
+        (init ! 162 refl (tt, (tt, (record { fits = room·lists .0 }, tt)))) $
         assigns ! (addr ! (from ! (fld ! refl (hop ! (look-in ! 232 (sub ! 0 refl (whole !))) (stop !))))) (from ! (stop !))
-        (init ! 170 refl (tt, tt)) $
-        assigns ! (agg ! (and-then ! (load ! (from ! (stop !)) (look ! 170 refl))
+        (init ! 160 refl (tt, tt)) $
+        assigns ! (agg ! (and-then ! (load ! (from ! (stop !)) (look ! 160 refl))
         (and-then ! (load ! (from ! (fld ! refl (stop !))) (look-in ! 232 (sub ! 1 refl (whole !)))) (no-more !)))) (from ! (stop !))
-        (init ! 168 refl (tt, (tt, (record { fits = room·words .0 }, tt)))) $
-        assigns ! (addr ! (from ! (fld ! refl (hop ! (look-in ! 230 (sub ! 0 refl (whole !))) (stop !))))) (from ! (stop !))
-        (init ! 166 refl (tt, tt)) $
-        assigns ! (agg ! (and-then ! (load ! (from ! (stop !)) (look ! 166 refl))
-        (and-then ! (load ! (from ! (fld ! refl (stop !))) (look-in ! 230 (sub ! 1 refl (whole !)))) (no-more !)))) (from ! (stop !))
-        (init ! 164 refl (tt, (tt, (record { fits = room·defs .0 }, tt)))) $
+        (init ! 158 refl (tt, (tt, (record { fits = room·missing .0 }, tt)))) $
         assigns ! (addr ! (from ! (fld ! refl (hop ! (look-in ! 228 (sub ! 0 refl (whole !))) (stop !))))) (from ! (stop !))
-        (init ! 162 refl (tt, tt)) $
-        assigns ! (agg ! (and-then ! (load ! (from ! (stop !)) (look ! 162 refl))
+        (init ! 156 refl (tt, tt)) $
+        assigns ! (agg ! (and-then ! (load ! (from ! (stop !)) (look ! 156 refl))
         (and-then ! (load ! (from ! (fld ! refl (stop !))) (look-in ! 228 (sub ! 1 refl (whole !)))) (no-more !)))) (from ! (stop !))
-        (init ! 160 refl (tt, (tt, (record { fits = room·rows .0 }, tt)))) $
+        (init ! 154 refl (tt, (tt, (record { fits = room·kept .0 }, tt)))) $
         assigns ! (addr ! (from ! (fld ! refl (hop ! (look-in ! 226 (sub ! 0 refl (whole !))) (stop !))))) (from ! (stop !))
-        (init ! 158 refl (tt, tt)) $
-        assigns ! (agg ! (and-then ! (load ! (from ! (stop !)) (look ! 158 refl))
+        (init ! 152 refl (tt, tt)) $
+        assigns ! (agg ! (and-then ! (load ! (from ! (stop !)) (look ! 152 refl))
         (and-then ! (load ! (from ! (fld ! refl (stop !))) (look-in ! 226 (sub ! 1 refl (whole !)))) (no-more !)))) (from ! (stop !))
-        (init ! 156 refl (tt, (tt, (record { fits = room·lists .0 }, tt)))) $
+        (init ! 150 refl (tt, (tt, (record { fits = room·feet .0 }, tt)))) $
         assigns ! (addr ! (from ! (fld ! refl (hop ! (look-in ! 224 (sub ! 0 refl (whole !))) (stop !))))) (from ! (stop !))
-        (init ! 154 refl (tt, tt)) $
-        assigns ! (agg ! (and-then ! (load ! (from ! (stop !)) (look ! 154 refl))
+        (init ! 148 refl (tt, tt)) $
+        assigns ! (agg ! (and-then ! (load ! (from ! (stop !)) (look ! 148 refl))
         (and-then ! (load ! (from ! (fld ! refl (stop !))) (look-in ! 224 (sub ! 1 refl (whole !)))) (no-more !)))) (from ! (stop !))
-        (init ! 152 refl (tt, (tt, (record { fits = room·missing .0 }, tt)))) $
-        assigns ! (addr ! (from ! (fld ! refl (hop ! (look-in ! 220 (sub ! 0 refl (whole !))) (stop !))))) (from ! (stop !))
-        (init ! 150 refl (tt, tt)) $
-        assigns ! (agg ! (and-then ! (load ! (from ! (stop !)) (look ! 150 refl))
-        (and-then ! (load ! (from ! (fld ! refl (stop !))) (look-in ! 220 (sub ! 1 refl (whole !)))) (no-more !)))) (from ! (stop !))
-        (init ! 148 refl (tt, (tt, (record { fits = room·kept .0 }, tt)))) $
-        assigns ! (addr ! (from ! (fld ! refl (hop ! (look-in ! 218 (sub ! 0 refl (whole !))) (stop !))))) (from ! (stop !))
-        (init ! 146 refl (tt, tt)) $
-        assigns ! (agg ! (and-then ! (load ! (from ! (stop !)) (look ! 146 refl))
-        (and-then ! (load ! (from ! (fld ! refl (stop !))) (look-in ! 218 (sub ! 1 refl (whole !)))) (no-more !)))) (from ! (stop !))
-        (init ! 144 refl (tt, (tt, (record { fits = room·feet .0 }, tt)))) $
-        assigns ! (addr ! (from ! (fld ! refl (hop ! (look-in ! 216 (sub ! 0 refl (whole !))) (stop !))))) (from ! (stop !))
-        (init ! 142 refl (tt, tt)) $
-        assigns ! (agg ! (and-then ! (load ! (from ! (stop !)) (look ! 142 refl))
-        (and-then ! (load ! (from ! (fld ! refl (stop !))) (look-in ! 216 (sub ! 1 refl (whole !)))) (no-more !)))) (from ! (stop !))
-        (init ! 140 refl (tt, (tt, (record { fits = room·cells .0 }, tt)))) $
+        (init ! 146 refl (tt, (tt, (record { fits = room·cells .0 }, tt)))) $
         -- call 1: begin
-        move ! (41 ∷ []) $
+        move ! (43 ∷ []) $
         use1 W (‵ (ShrSlice (named 0) κ·theory u8 .own (ref·theory γ·theory theory) (s·theory ∷ []))
         ⊛ ‵ (ShrSlice (named 0) κ·theory u8 .own (ref·theory γ·theory theory) (s·theory ∷ [])))
         (shr-slice-copy 𝓤 H A W (named 0) κ·theory u8 .twice (ref·theory γ·theory theory) (s·theory ∷ [])) $ split ! $
-        move ! (42 ∷ []) $
+        move ! (44 ∷ []) $
         use1 W (‵ (ShrSlice (named 1) κ·goals u8 .own (ref·goals γ·goals goals) (s·goals ∷ []))
         ⊛ ‵ (ShrSlice (named 1) κ·goals u8 .own (ref·goals γ·goals goals) (s·goals ∷ [])))
         (shr-slice-copy 𝓤 H A W (named 1) κ·goals u8 .twice (ref·goals γ·goals goals) (s·goals ∷ [])) $ split ! $
-        move ! (43 ∷ []) $
-        use1 W (‵ (ShrSlice (named 2) κ·proof u8 .own (ref·proof γ·proof proof) (s·proof ∷ []))
-        ⊛ ‵ (ShrSlice (named 2) κ·proof u8 .own (ref·proof γ·proof proof) (s·proof ∷ [])))
-        (shr-slice-copy 𝓤 H A W (named 2) κ·proof u8 .twice (ref·proof γ·proof proof) (s·proof ∷ [])) $ split ! $
         seg·2 l0 l1 l2 l3 l4 l5 l6 l7 l8 l9 l10 l11 l12 l13 l14 l15 l16 l17 l18 l19 l20 l21 l22 l23 l24 l25 l26 l27 l28 l29 l30 l31 l32 l33 l34 l35
         l36 l37 l38 l39 l40 l41 l42 l43 l44 l45 l46 l47 l48 l49 l50 l51 l52 l53 l54 l55 l56 l57 l58 l59 l60 l61 l62 l63 l64 l65 l66 l67 l68 l69 l70
         l71 l72 l73 l74 l75 l76 l77 l78 l79 l80 l81 l82 l83 l84 l85 l86 l87 l88 l89 l90 l91 l92 l93 l94 l95 l96 l97 l98 l99 l100 l101 l102 l103 l104
-        l105 l106 l107
+        l105 l106 l107 l108 l109 l110
 
     walk : ent 𝓤 (onEntry 𝓤 H A self·fn.signature κs qs a at) (WpFn 𝓤 H C Λ code.function
         (s·theory ∷ s·goals ∷ s·proof ∷ s·sorts ∷ s·symbols ∷ s·inputs ∷ s·rules ∷ s·rulevars ∷ s·patterns ∷ s·vars ∷ s·index ∷ s·words ∷ s·defs
-        ∷ s·rows ∷ s·lists ∷ s·missing ∷ s·facts ∷ s·kept ∷ s·feet ∷ s·cells ∷ s·ids ∷ []) Post)
+        ∷ s·rows ∷ s·lists ∷ s·missing ∷ s·facts ∷ s·kept ∷ s·feet ∷ s·cells ∷ s·ids ∷ s·memo ∷ []) Post)
     walk =
         qed W ((‵ (flft κ·theory q·theory) ⊛ ‵ (flft κ·goals q·goals) ⊛ ‵ (flft κ·proof q·proof) ⊛ ‵ (flft κ·sorts q·sorts)
         ⊛ ‵ (flft κ·symbols q·symbols) ⊛ ‵ (flft κ·inputs q·inputs) ⊛ ‵ (flft κ·rules q·rules) ⊛ ‵ (flft κ·rulevars q·rulevars)
         ⊛ ‵ (flft κ·patterns q·patterns) ⊛ ‵ (flft κ·vars q·vars) ⊛ ‵ (flft κ·index q·index) ⊛ ‵ (flft κ·words q·words) ⊛ ‵ (flft κ·defs q·defs)
         ⊛ ‵ (flft κ·rows q·rows) ⊛ ‵ (flft κ·lists q·lists) ⊛ ‵ (flft κ·missing q·missing) ⊛ ‵ (flft κ·facts q·facts) ⊛ ‵ (flft κ·kept q·kept)
-        ⊛ ‵ (flft κ·feet q·feet) ⊛ ‵ (flft κ·cells q·cells) ⊛ ‵ (flft κ·ids q·ids) ⊛ ‵ ftrue)
+        ⊛ ‵ (flft κ·feet q·feet) ⊛ ‵ (flft κ·cells q·cells) ⊛ ‵ (flft κ·ids q·ids) ⊛ ‵ (flft κ·memo q·memo) ⊛ ‵ ftrue)
         ∷ ‵ (owns (ShrSlice (named 0) κ·theory u8 ∷ ShrSlice (named 1) κ·goals u8 ∷ ShrSlice (named 2) κ·proof u8 ∷ MutSlice (named 3) κ·sorts u32
         ∷ MutSlice (named 4) κ·symbols u32 ∷ MutSlice (named 5) κ·inputs u32 ∷ MutSlice (named 6) κ·rules u32 ∷ MutSlice (named 7) κ·rulevars u32
         ∷ MutSlice (named 8) κ·patterns u32 ∷ MutSlice (named 9) κ·vars u32 ∷ MutSlice (named 10) κ·index u32 ∷ MutSlice (named 11) κ·words u32
         ∷ MutSlice (named 12) κ·defs u32 ∷ MutSlice (named 13) κ·rows u32 ∷ MutSlice (named 14) κ·lists u32 ∷ MutSlice (named 15) κ·missing u32
         ∷ MutSlice (named 16) κ·facts FactT.the-row ∷ MutSlice (named 17) κ·kept u32 ∷ MutSlice (named 18) κ·feet u64 ∷ MutSlice (named 19) κ·cells
-        u32 ∷ MutSlice (named 20) κ·ids u32 ∷ []) a at) ∷ []) ∵ enter ! C Λ code.function
-        (s·theory ∷ s·goals ∷ s·proof ∷ s·sorts ∷ s·symbols ∷ s·inputs ∷ s·rules ∷ s·rulevars ∷ s·patterns ∷ s·vars ∷ s·index ∷ s·words ∷ s·defs
-        ∷ s·rows ∷ s·lists ∷ s·missing ∷ s·facts ∷ s·kept ∷ s·feet ∷ s·cells ∷ s·ids ∷ []) _ $
+        u32 ∷ MutSlice (named 20) κ·ids u32 ∷ MutSlice (named 21) κ·memo u32 ∷ []) a at) ∷ []) ∵
+        enter ! C Λ code.function (s·theory ∷ s·goals ∷ s·proof ∷ s·sorts ∷ s·symbols ∷ s·inputs ∷ s·rules ∷ s·rulevars ∷ s·patterns ∷ s·vars
+        ∷ s·index ∷ s·words ∷ s·defs ∷ s·rows ∷ s·lists ∷ s·missing ∷ s·facts ∷ s·kept ∷ s·feet ∷ s·cells ∷ s·ids ∷ s·memo ∷ []) _ $
         alloc1 ! (λ l0. alloc1 ! (λ l1. alloc1 ! (λ l2. alloc1 ! (λ l3. alloc1 ! (λ l4.
         alloc1 ! (λ l5. alloc1 ! (λ l6. alloc1 ! (λ l7. alloc1 ! (λ l8. alloc1 ! (λ l9.
         alloc1 ! (λ l10. alloc1 ! (λ l11. alloc1 ! (λ l12. alloc1 ! (λ l13. alloc1 ! (λ l14.
@@ -8629,30 +8930,34 @@ module _ {M : Type 1} (𝓤 : URA M) (H : Heap 𝓤) (A : Atoms 𝓤) (W : Given
         alloc1 ! (λ l90. alloc1 ! (λ l91. alloc1 ! (λ l92. alloc1 ! (λ l93. alloc1 ! (λ l94.
         alloc1 ! (λ l95. alloc1 ! (λ l96. alloc1 ! (λ l97. alloc1 ! (λ l98. alloc1 ! (λ l99.
         alloc1 ! (λ l100. alloc1 ! (λ l101. alloc1 ! (λ l102. alloc1 ! (λ l103.
-        alloc1 ! (λ l104. alloc1 ! (λ l105. alloc1 ! (λ l106. alloc1 ! (λ l107. alloc0 ! $ params1 ! $
-        pass1 ! (init ! 212 refl (tt, (tt, (record { fits = room·theory .0 }, tt)))) $
-        pass1 ! (init ! 210 refl (tt, (tt, (record { fits = room·goals .0 }, tt)))) $
-        pass1 ! (init ! 208 refl (tt, (tt, (record { fits = room·proof .0 }, tt)))) $
-        pass1 ! (init ! 206 refl (tt, (tt, (record { fits = room·sorts .0 }, tt)))) $
-        pass1 ! (init ! 204 refl (tt, (tt, (record { fits = room·symbols .0 }, tt)))) $
-        pass1 ! (init ! 202 refl (tt, (tt, (record { fits = room·inputs .0 }, tt)))) $
-        pass1 ! (init ! 200 refl (tt, (tt, (record { fits = room·rules .0 }, tt)))) $
-        pass1 ! (init ! 198 refl (tt, (tt, (record { fits = room·rulevars .0 }, tt)))) $
-        pass1 ! (init ! 196 refl (tt, (tt, (record { fits = room·patterns .0 }, tt)))) $
-        pass1 ! (init ! 194 refl (tt, (tt, (record { fits = room·vars .0 }, tt)))) $
-        pass1 ! (init ! 192 refl (tt, (tt, (record { fits = room·index .0 }, tt)))) $
-        pass1 ! (init ! 190 refl (tt, (tt, (record { fits = room·words .0 }, tt)))) $
-        pass1 ! (init ! 188 refl (tt, (tt, (record { fits = room·defs .0 }, tt)))) $
-        pass1 ! (init ! 186 refl (tt, (tt, (record { fits = room·rows .0 }, tt)))) $
-        pass1 ! (init ! 184 refl (tt, (tt, (record { fits = room·lists .0 }, tt)))) $
-        pass1 ! (init ! 182 refl (tt, (tt, (record { fits = room·missing .0 }, tt)))) $
-        pass1 ! (init ! 180 refl (tt, (tt, (record { fits = room·facts .0 }, tt)))) $
-        pass1 ! (init ! 178 refl (tt, (tt, (record { fits = room·kept .0 }, tt)))) $
-        pass1 ! (init ! 176 refl (tt, (tt, (record { fits = room·feet .0 }, tt)))) $
-        pass1 ! (init ! 174 refl (tt, (tt, (record { fits = room·cells .0 }, tt)))) $
-        pass1 ! (init ! 172 refl (tt, (tt, (record { fits = room·ids .0 }, tt)))) $
+        alloc1 ! (λ l104. alloc1 ! (λ l105. alloc1 ! (λ l106. alloc1 ! (λ l107.
+        alloc1 ! (λ l108. alloc1 ! (λ l109. alloc1 ! (λ l110. alloc0 ! $ params1 ! $
+        pass1 ! (init ! 218 refl (tt, (tt, (record { fits = room·theory .0 }, tt)))) $
+        pass1 ! (init ! 216 refl (tt, (tt, (record { fits = room·goals .0 }, tt)))) $
+        pass1 ! (init ! 214 refl (tt, (tt, (record { fits = room·proof .0 }, tt)))) $
+        pass1 ! (init ! 212 refl (tt, (tt, (record { fits = room·sorts .0 }, tt)))) $
+        pass1 ! (init ! 210 refl (tt, (tt, (record { fits = room·symbols .0 }, tt)))) $
+        pass1 ! (init ! 208 refl (tt, (tt, (record { fits = room·inputs .0 }, tt)))) $
+        pass1 ! (init ! 206 refl (tt, (tt, (record { fits = room·rules .0 }, tt)))) $
+        pass1 ! (init ! 204 refl (tt, (tt, (record { fits = room·rulevars .0 }, tt)))) $
+        pass1 ! (init ! 202 refl (tt, (tt, (record { fits = room·patterns .0 }, tt)))) $
+        pass1 ! (init ! 200 refl (tt, (tt, (record { fits = room·vars .0 }, tt)))) $
+        pass1 ! (init ! 198 refl (tt, (tt, (record { fits = room·index .0 }, tt)))) $
+        pass1 ! (init ! 196 refl (tt, (tt, (record { fits = room·words .0 }, tt)))) $
+        pass1 ! (init ! 194 refl (tt, (tt, (record { fits = room·defs .0 }, tt)))) $
+        pass1 ! (init ! 192 refl (tt, (tt, (record { fits = room·rows .0 }, tt)))) $
+        pass1 ! (init ! 190 refl (tt, (tt, (record { fits = room·lists .0 }, tt)))) $
+        pass1 ! (init ! 188 refl (tt, (tt, (record { fits = room·missing .0 }, tt)))) $
+        pass1 ! (init ! 186 refl (tt, (tt, (record { fits = room·facts .0 }, tt)))) $
+        pass1 ! (init ! 184 refl (tt, (tt, (record { fits = room·kept .0 }, tt)))) $
+        pass1 ! (init ! 182 refl (tt, (tt, (record { fits = room·feet .0 }, tt)))) $
+        pass1 ! (init ! 180 refl (tt, (tt, (record { fits = room·cells .0 }, tt)))) $
+        pass1 ! (init ! 178 refl (tt, (tt, (record { fits = room·ids .0 }, tt)))) $
+        pass1 ! (init ! 176 refl (tt, (tt, (record { fits = room·memo .0 }, tt)))) $
         pass0 ! $
-        move ! (217 ∷ []) $
+        move ! (223 ∷ []) $
+        fsplit ! $
+        move ! (1 ∷ []) $
         fsplit ! $
         move ! (1 ∷ []) $
         fsplit ! $
@@ -8696,7 +9001,9 @@ module _ {M : Type 1} (𝓤 : URA M) (H : Heap 𝓤) (A : Atoms 𝓤) (W : Given
         fsplit ! $
         move ! (1 ∷ []) $
         drop ! $
-        move ! (237 ∷ []) $
+        move ! (244 ∷ []) $
+        split ! $
+        move ! (1 ∷ []) $
         split ! $
         move ! (1 ∷ []) $
         split ! $
@@ -8743,7 +9050,7 @@ module _ {M : Type 1} (𝓤 : URA M) (H : Heap 𝓤) (A : Atoms 𝓤) (W : Given
         seg·1 l0 l1 l2 l3 l4 l5 l6 l7 l8 l9 l10 l11 l12 l13 l14 l15 l16 l17 l18 l19 l20 l21 l22 l23 l24 l25 l26 l27 l28 l29 l30 l31 l32 l33 l34 l35
         l36 l37 l38 l39 l40 l41 l42 l43 l44 l45 l46 l47 l48 l49 l50 l51 l52 l53 l54 l55 l56 l57 l58 l59 l60 l61 l62 l63 l64 l65 l66 l67 l68 l69 l70
         l71 l72 l73 l74 l75 l76 l77 l78 l79 l80 l81 l82 l83 l84 l85 l86 l87 l88 l89 l90 l91 l92 l93 l94 l95 l96 l97 l98 l99 l100 l101 l102 l103 l104
-        l105 l106 l107))))))))))))))))))))))))))))))))))))))))))))))))))))))))))))))))))))))))))))))))))))))))))))))))))))))))))))
+        l105 l106 l107 l108 l109 l110)))))))))))))))))))))))))))))))))))))))))))))))))))))))))))))))))))))))))))))))))))))))))))))))))))))))))))))))
 
 module _ {M : Type 1} (𝓤 : URA M) (H : Heap 𝓤) (A : Atoms 𝓤) (W : Given 𝓤 H A) (at-mem : Memory → SProp 𝓤) (run : Routine → Fun 𝓤) (𝓣 : Tables 𝓤 H)
     (known·1 : Triple 𝓤 (𝓣 .C #beginning·begin·begin) (G1·C 𝓤 H A at-mem run)) (known·2 : Triple 𝓤 (𝓣 .C #counts·no-counts) (G2·C 𝓤 H A at-mem run))
@@ -8762,7 +9069,7 @@ module _ {M : Type 1} (𝓤 : URA M) (H : Heap 𝓤) (A : Atoms 𝓤) (W : Given
               slice-vals,
               (
                 slice-vals,
-                (slice-vals, (slice-vals, (slice-vals, (slice-vals, (slice-vals, (slice-vals, (slice-vals, (slice-vals, (slice-vals, (slice-vals, (slice-vals, (slice-vals, (slice-vals, (slice-vals, (slice-vals, (slice-vals, tt)))))))))))))))),
+                (slice-vals, (slice-vals, (slice-vals, (slice-vals, (slice-vals, (slice-vals, (slice-vals, (slice-vals, (slice-vals, (slice-vals, (slice-vals, (slice-vals, (slice-vals, (slice-vals, (slice-vals, (slice-vals, (slice-vals, tt))))))))))))))))),
               ),
             ),
           ),
@@ -8806,7 +9113,10 @@ module _ {M : Type 1} (𝓤 : URA M) (H : Heap 𝓤) (A : Atoms 𝓤) (W : Given
                                           mut-slice-tells (named 17) (κs .1 .1 .1 .1 .1 .1 .1 .1 .1 .1 .1 .1 .1 .1 .1 .1 .1 .0) u32,
                                           (
                                             mut-slice-tells (named 18) (κs .1 .1 .1 .1 .1 .1 .1 .1 .1 .1 .1 .1 .1 .1 .1 .1 .1 .1 .0) u64,
-                                            (mut-slice-tells (named 19) (κs .1 .1 .1 .1 .1 .1 .1 .1 .1 .1 .1 .1 .1 .1 .1 .1 .1 .1 .1 .0) u32, (mut-slice-tells (named 20) (κs .1 .1 .1 .1 .1 .1 .1 .1 .1 .1 .1 .1 .1 .1 .1 .1 .1 .1 .1 .1 .0) u32, tt)),
+                                            (
+                                              mut-slice-tells (named 19) (κs .1 .1 .1 .1 .1 .1 .1 .1 .1 .1 .1 .1 .1 .1 .1 .1 .1 .1 .1 .0) u32,
+                                              (mut-slice-tells (named 20) (κs .1 .1 .1 .1 .1 .1 .1 .1 .1 .1 .1 .1 .1 .1 .1 .1 .1 .1 .1 .1 .0) u32, (mut-slice-tells (named 21) (κs .1 .1 .1 .1 .1 .1 .1 .1 .1 .1 .1 .1 .1 .1 .1 .1 .1 .1 .1 .1 .1 .0) u32, tt)),
+                                            ),
                                           ),
                                         ),
                                       ),
@@ -8828,7 +9138,8 @@ module _ {M : Type 1} (𝓤 : URA M) (H : Heap 𝓤) (A : Atoms 𝓤) (W : Given
       ))
       (λ κs qs bounds a g are. needs 𝓤 (Blank (a .1 .1 .1 .1 .1 .1 .1 .1 .1 .1 .1 .1 .1 .1 .1 .1 .1 .0 .now)
       (a .1 .1 .1 .1 .1 .1 .1 .1 .1 .1 .1 .1 .1 .1 .1 .1 .1 .1 .0 .now) (a .1 .1 .1 .1 .1 .1 .1 .1 .1 .1 .1 .1 .1 .1 .1 .1 .1 .1 .1 .0 .now)
-      (a .1 .1 .1 .1 .1 .1 .1 .1 .1 .1 .1 .1 .1 .1 .1 .1 .1 .1 .1 .1 .0 .now)) _
+      (a .1 .1 .1 .1 .1 .1 .1 .1 .1 .1 .1 .1 .1 .1 .1 .1 .1 .1 .1 .1 .0 .now)
+      (a .1 .1 .1 .1 .1 .1 .1 .1 .1 .1 .1 .1 .1 .1 .1 .1 .1 .1 .1 .1 .1 .0 .now)) _
       (λ req. walk 𝓤 H A W at-mem run κs qs a (are .0 .0 .1) (are .1 .0 .0 .1) (are .1 .1 .0 .0 .1) (are .1 .1 .1 .0 .0 .1) (are .1 .1 .1 .1 .0 .0 .1)
       (are .1 .1 .1 .1 .1 .0 .0 .1) (are .1 .1 .1 .1 .1 .1 .0 .0 .1) (are .1 .1 .1 .1 .1 .1 .1 .0 .0 .1) (are .1 .1 .1 .1 .1 .1 .1 .1 .0 .0 .1)
       (are .1 .1 .1 .1 .1 .1 .1 .1 .1 .0 .0 .1) (are .1 .1 .1 .1 .1 .1 .1 .1 .1 .1 .0 .0 .1) (are .1 .1 .1 .1 .1 .1 .1 .1 .1 .1 .1 .0 .0 .1)
@@ -8836,47 +9147,48 @@ module _ {M : Type 1} (𝓤 : URA M) (H : Heap 𝓤) (A : Atoms 𝓤) (W : Given
       (are .1 .1 .1 .1 .1 .1 .1 .1 .1 .1 .1 .1 .1 .1 .0 .0 .1) (are .1 .1 .1 .1 .1 .1 .1 .1 .1 .1 .1 .1 .1 .1 .1 .0 .0 .1)
       (are .1 .1 .1 .1 .1 .1 .1 .1 .1 .1 .1 .1 .1 .1 .1 .1 .0 .0 .1) (are .1 .1 .1 .1 .1 .1 .1 .1 .1 .1 .1 .1 .1 .1 .1 .1 .1 .0 .0 .1)
       (are .1 .1 .1 .1 .1 .1 .1 .1 .1 .1 .1 .1 .1 .1 .1 .1 .1 .1 .0 .0 .1) (are .1 .1 .1 .1 .1 .1 .1 .1 .1 .1 .1 .1 .1 .1 .1 .1 .1 .1 .1 .0 .0 .1)
-      (are .1 .1 .1 .1 .1 .1 .1 .1 .1 .1 .1 .1 .1 .1 .1 .1 .1 .1 .1 .1 .0 .0 .1) req (𝓣 .C) (𝓣 .Λ) (fmOf 𝓤 H (W .laws) 𝓣) known·1 known·2 known·3
+      (are .1 .1 .1 .1 .1 .1 .1 .1 .1 .1 .1 .1 .1 .1 .1 .1 .1 .1 .1 .1 .0 .0 .1)
+      (are .1 .1 .1 .1 .1 .1 .1 .1 .1 .1 .1 .1 .1 .1 .1 .1 .1 .1 .1 .1 .1 .0 .0 .1) req (𝓣 .C) (𝓣 .Λ) (fmOf 𝓤 H (W .laws) 𝓣) known·1 known·2 known·3
       known·4 known·5 known·6 known·7))
 
   the-meets : Meets 𝓤 H A self·fn.signature (WpFn 𝓤 H (𝓣 .C) (𝓣 .Λ) code.function) (self·fn.spec 𝓤 H A at-mem run)
   the-meets = walk-meets 𝓤 H A self·fn.ended stayed W (
-    goes-none-slice 𝓤 H A W 21 (0 ∷ []) tt (plain (λ _. u8)) yes,
+    goes-none-slice 𝓤 H A W 22 (0 ∷ []) tt (plain (λ _. u8)) yes,
     (
-      goes-none-slice 𝓤 H A W 21 (1 ∷ []) tt (plain (λ _. u8)) yes,
+      goes-none-slice 𝓤 H A W 22 (1 ∷ []) tt (plain (λ _. u8)) yes,
       (
-        goes-none-slice 𝓤 H A W 21 (2 ∷ []) tt (plain (λ _. u8)) yes,
+        goes-none-slice 𝓤 H A W 22 (2 ∷ []) tt (plain (λ _. u8)) yes,
         (
-          goes-slice 𝓤 H A W 21 3 tt (plain (λ _. u32)),
+          goes-slice 𝓤 H A W 22 3 tt (plain (λ _. u32)),
           (
-            goes-slice 𝓤 H A W 21 4 tt (plain (λ _. u32)),
+            goes-slice 𝓤 H A W 22 4 tt (plain (λ _. u32)),
             (
-              goes-slice 𝓤 H A W 21 5 tt (plain (λ _. u32)),
+              goes-slice 𝓤 H A W 22 5 tt (plain (λ _. u32)),
               (
-                goes-slice 𝓤 H A W 21 6 tt (plain (λ _. u32)),
+                goes-slice 𝓤 H A W 22 6 tt (plain (λ _. u32)),
                 (
-                  goes-slice 𝓤 H A W 21 7 tt (plain (λ _. u32)),
+                  goes-slice 𝓤 H A W 22 7 tt (plain (λ _. u32)),
                   (
-                    goes-slice 𝓤 H A W 21 8 tt (plain (λ _. u32)),
+                    goes-slice 𝓤 H A W 22 8 tt (plain (λ _. u32)),
                     (
-                      goes-gave-slice 𝓤 H A W 21 9 tt (plain (λ _. u32)),
+                      goes-gave-slice 𝓤 H A W 22 9 tt (plain (λ _. u32)),
                       (
-                        goes-gave-slice 𝓤 H A W 21 10 tt (plain (λ _. u32)),
+                        goes-gave-slice 𝓤 H A W 22 10 tt (plain (λ _. u32)),
                         (
-                          goes-slice 𝓤 H A W 21 11 tt (plain (λ _. u32)),
+                          goes-slice 𝓤 H A W 22 11 tt (plain (λ _. u32)),
                           (
-                            goes-gave-slice 𝓤 H A W 21 12 tt (plain (λ _. u32)),
+                            goes-gave-slice 𝓤 H A W 22 12 tt (plain (λ _. u32)),
                             (
-                              goes-slice 𝓤 H A W 21 13 tt (plain (λ _. u32)),
+                              goes-slice 𝓤 H A W 22 13 tt (plain (λ _. u32)),
                               (
-                                goes-gave-slice 𝓤 H A W 21 14 tt (plain (λ _. u32)),
+                                goes-gave-slice 𝓤 H A W 22 14 tt (plain (λ _. u32)),
                                 (
-                                  goes-gave-slice 𝓤 H A W 21 15 tt (plain (λ _. u32)),
+                                  goes-gave-slice 𝓤 H A W 22 15 tt (plain (λ _. u32)),
                                   (
-                                    goes-gave-slice 𝓤 H A W 21 16 tt (plain (λ _. FactT.the-row)),
+                                    goes-gave-slice 𝓤 H A W 22 16 tt (plain (λ _. FactT.the-row)),
                                     (
-                                      goes-gave-slice 𝓤 H A W 21 17 tt (plain (λ _. u32)),
-                                      (goes-gave-slice 𝓤 H A W 21 18 tt (plain (λ _. u64)), (goes-gave-slice 𝓤 H A W 21 19 tt (plain (λ _. u32)), (goes-gave-slice 𝓤 H A W 21 20 tt (plain (λ _. u32)), tt))),
+                                      goes-gave-slice 𝓤 H A W 22 17 tt (plain (λ _. u32)),
+                                      (goes-gave-slice 𝓤 H A W 22 18 tt (plain (λ _. u64)), (goes-gave-slice 𝓤 H A W 22 19 tt (plain (λ _. u32)), (goes-gave-slice 𝓤 H A W 22 20 tt (plain (λ _. u32)), (goes-gave-slice 𝓤 H A W 22 21 tt (plain (λ _. u32)), tt)))),
                                     ),
                                   ),
                                 ),

@@ -52,7 +52,7 @@ use Rattle.facts.specs.declared.Fact.{Fact}
 use Rattle.running.proofs.run.Run as RunT
 use Rattle.running.proofs.run.Run.Laws as RunL
 use Rattle.running.specs.declared.run.Run.{Run}
-use Rattle.schematic.proofs.Lent.{LentAgain, lends-again, again-back}
+use Rattle.facts.proofs.Lent.{LentAgain, lends-again, again-back}
 use Rattle.kernel.specs.Parsed.{theoryLists}
 use Rattle.running.specs.Lent.{working}
 use Rattle.schematic.specs.Taken.{Turned as OneTaken, Kept}
@@ -108,7 +108,7 @@ stayed = (
                                   stay-slice (15 ∷ []) tt (plain (λ _. u32)),
                                   (
                                     stay-slice (16 ∷ []) tt (plain (λ _. u64)),
-                                    (stay-slice (17 ∷ []) tt (plain (λ _. u32)), (stay-slice (18 ∷ []) tt (plain (λ _. u32)), (stay-slice (19 ∷ []) tt (plain (λ _. FactT.the-row)), (stay-ref (20 ∷ []) tt (plain (λ _. CountsT.the-row)), tt)))),
+                                    (stay-slice (17 ∷ []) tt (plain (λ _. u32)), (stay-slice (18 ∷ []) tt (plain (λ _. u32)), (stay-slice (19 ∷ []) tt (plain (λ _. u32)), (stay-slice (20 ∷ []) tt (plain (λ _. FactT.the-row)), (stay-ref (21 ∷ []) tt (plain (λ _. CountsT.the-row)), tt))))),
                                   ),
                                 ),
                               ),
@@ -154,10 +154,10 @@ Arg = (RefT (List ℕ) × (RefT (List ℕ) × (RefT (List ℕ) × (Run × (RefT 
     (RefT (List ℕ) × (RefT (List ℕ) × (RefT (List ℕ) × (RefT (List ℕ) × (RefT (List ℕ) ×
     (RefT (List ℕ) × (RefT (List ℕ) × (RefT (List ℕ) × (RefT (List ℕ) × (RefT (List ℕ) ×
     (RefT (List ℕ) × (RefT (List ℕ) × (RefT (List ℕ) × (RefT (List ℕ) × (RefT (List ℕ) ×
-    (RefT (List Fact) × (RefT Counts × Unit {0}))))))))))))))))))))))
+    (RefT (List ℕ) × (RefT (List Fact) × (RefT Counts × Unit {0})))))))))))))))))))))))
 
-module _ {M : Type 1} (𝓤 : URA M) (H : Heap 𝓤) (A : Atoms 𝓤) (W : Given 𝓤 H A) (at-mem : Memory → SProp 𝓤) (run : Routine → Fun 𝓤) (κs : Lfts 21)
-    (qs : Shares 21) (a : Arg) where
+module _ {M : Type 1} (𝓤 : URA M) (H : Heap 𝓤) (A : Atoms 𝓤) (W : Given 𝓤 H A) (at-mem : Memory → SProp 𝓤) (run : Routine → Fun 𝓤) (κs : Lfts 22)
+    (qs : Shares 22) (a : Arg) where
   abbrev κ·theory : Lft
   κ·theory = κs .0
 
@@ -272,17 +272,23 @@ module _ {M : Type 1} (𝓤 : URA M) (H : Heap 𝓤) (A : Atoms 𝓤) (W : Given
   abbrev q·ids : Share
   q·ids = qs .1 .1 .1 .1 .1 .1 .1 .1 .1 .1 .1 .1 .1 .1 .1 .1 .1 .1 .0
 
+  abbrev κ·memo : Lft
+  κ·memo = κs .1 .1 .1 .1 .1 .1 .1 .1 .1 .1 .1 .1 .1 .1 .1 .1 .1 .1 .1 .0
+
+  abbrev q·memo : Share
+  q·memo = qs .1 .1 .1 .1 .1 .1 .1 .1 .1 .1 .1 .1 .1 .1 .1 .1 .1 .1 .1 .0
+
   abbrev κ·facts : Lft
-  κ·facts = κs .1 .1 .1 .1 .1 .1 .1 .1 .1 .1 .1 .1 .1 .1 .1 .1 .1 .1 .1 .0
+  κ·facts = κs .1 .1 .1 .1 .1 .1 .1 .1 .1 .1 .1 .1 .1 .1 .1 .1 .1 .1 .1 .1 .0
 
   abbrev q·facts : Share
-  q·facts = qs .1 .1 .1 .1 .1 .1 .1 .1 .1 .1 .1 .1 .1 .1 .1 .1 .1 .1 .1 .0
+  q·facts = qs .1 .1 .1 .1 .1 .1 .1 .1 .1 .1 .1 .1 .1 .1 .1 .1 .1 .1 .1 .1 .0
 
   abbrev κ·counts : Lft
-  κ·counts = κs .1 .1 .1 .1 .1 .1 .1 .1 .1 .1 .1 .1 .1 .1 .1 .1 .1 .1 .1 .1 .0
+  κ·counts = κs .1 .1 .1 .1 .1 .1 .1 .1 .1 .1 .1 .1 .1 .1 .1 .1 .1 .1 .1 .1 .1 .0
 
   abbrev q·counts : Share
-  q·counts = qs .1 .1 .1 .1 .1 .1 .1 .1 .1 .1 .1 .1 .1 .1 .1 .1 .1 .1 .1 .1 .0
+  q·counts = qs .1 .1 .1 .1 .1 .1 .1 .1 .1 .1 .1 .1 .1 .1 .1 .1 .1 .1 .1 .1 .1 .0
 
   abbrev theory : List ℕ
   theory = a .0 .now
@@ -632,17 +638,35 @@ module _ {M : Type 1} (𝓤 : URA M) (H : Heap 𝓤) (A : Atoms 𝓤) (W : Given
   abbrev s·ids : Val
   s·ids = sliceVal (b·ids, o·ids) (length ids)
 
+  abbrev memo : List ℕ
+  memo = a .1 .1 .1 .1 .1 .1 .1 .1 .1 .1 .1 .1 .1 .1 .1 .1 .1 .1 .1 .1 .0 .now
+
+  abbrev b·memo : ℕ
+  b·memo = a .1 .1 .1 .1 .1 .1 .1 .1 .1 .1 .1 .1 .1 .1 .1 .1 .1 .1 .1 .1 .0 .ptr .0
+
+  abbrev o·memo : ℕ
+  o·memo = a .1 .1 .1 .1 .1 .1 .1 .1 .1 .1 .1 .1 .1 .1 .1 .1 .1 .1 .1 .1 .0 .ptr .1
+
+  abbrev γ·memo : GName
+  γ·memo = a .1 .1 .1 .1 .1 .1 .1 .1 .1 .1 .1 .1 .1 .1 .1 .1 .1 .1 .1 .1 .0 .name
+
+  abbrev ref·memo : GName → List ℕ → RefT (List ℕ)
+  ref·memo δ l = record { ptr = (b·memo, o·memo); name = δ; now = l }
+
+  abbrev s·memo : Val
+  s·memo = sliceVal (b·memo, o·memo) (length memo)
+
   abbrev facts : List Fact
-  facts = a .1 .1 .1 .1 .1 .1 .1 .1 .1 .1 .1 .1 .1 .1 .1 .1 .1 .1 .1 .1 .0 .now
+  facts = a .1 .1 .1 .1 .1 .1 .1 .1 .1 .1 .1 .1 .1 .1 .1 .1 .1 .1 .1 .1 .1 .0 .now
 
   abbrev b·facts : ℕ
-  b·facts = a .1 .1 .1 .1 .1 .1 .1 .1 .1 .1 .1 .1 .1 .1 .1 .1 .1 .1 .1 .1 .0 .ptr .0
+  b·facts = a .1 .1 .1 .1 .1 .1 .1 .1 .1 .1 .1 .1 .1 .1 .1 .1 .1 .1 .1 .1 .1 .0 .ptr .0
 
   abbrev o·facts : ℕ
-  o·facts = a .1 .1 .1 .1 .1 .1 .1 .1 .1 .1 .1 .1 .1 .1 .1 .1 .1 .1 .1 .1 .0 .ptr .1
+  o·facts = a .1 .1 .1 .1 .1 .1 .1 .1 .1 .1 .1 .1 .1 .1 .1 .1 .1 .1 .1 .1 .1 .0 .ptr .1
 
   abbrev γ·facts : GName
-  γ·facts = a .1 .1 .1 .1 .1 .1 .1 .1 .1 .1 .1 .1 .1 .1 .1 .1 .1 .1 .1 .1 .0 .name
+  γ·facts = a .1 .1 .1 .1 .1 .1 .1 .1 .1 .1 .1 .1 .1 .1 .1 .1 .1 .1 .1 .1 .1 .0 .name
 
   abbrev ref·facts : GName → List Fact → RefT (List Fact)
   ref·facts δ l = record { ptr = (b·facts, o·facts); name = δ; now = l }
@@ -651,16 +675,16 @@ module _ {M : Type 1} (𝓤 : URA M) (H : Heap 𝓤) (A : Atoms 𝓤) (W : Given
   s·facts = sliceVal (b·facts, o·facts) (length facts)
 
   abbrev counts : Counts
-  counts = a .1 .1 .1 .1 .1 .1 .1 .1 .1 .1 .1 .1 .1 .1 .1 .1 .1 .1 .1 .1 .1 .0 .now
+  counts = a .1 .1 .1 .1 .1 .1 .1 .1 .1 .1 .1 .1 .1 .1 .1 .1 .1 .1 .1 .1 .1 .1 .0 .now
 
   abbrev b·counts : ℕ
-  b·counts = a .1 .1 .1 .1 .1 .1 .1 .1 .1 .1 .1 .1 .1 .1 .1 .1 .1 .1 .1 .1 .1 .0 .ptr .0
+  b·counts = a .1 .1 .1 .1 .1 .1 .1 .1 .1 .1 .1 .1 .1 .1 .1 .1 .1 .1 .1 .1 .1 .1 .0 .ptr .0
 
   abbrev o·counts : ℕ
-  o·counts = a .1 .1 .1 .1 .1 .1 .1 .1 .1 .1 .1 .1 .1 .1 .1 .1 .1 .1 .1 .1 .1 .0 .ptr .1
+  o·counts = a .1 .1 .1 .1 .1 .1 .1 .1 .1 .1 .1 .1 .1 .1 .1 .1 .1 .1 .1 .1 .1 .1 .0 .ptr .1
 
   abbrev γ·counts : GName
-  γ·counts = a .1 .1 .1 .1 .1 .1 .1 .1 .1 .1 .1 .1 .1 .1 .1 .1 .1 .1 .1 .1 .1 .0 .name
+  γ·counts = a .1 .1 .1 .1 .1 .1 .1 .1 .1 .1 .1 .1 .1 .1 .1 .1 .1 .1 .1 .1 .1 .1 .0 .name
 
   abbrev ref·counts : GName → Counts → RefT Counts
   ref·counts δ l = record { ptr = (b·counts, o·counts); name = δ; now = l }
@@ -671,7 +695,7 @@ module _ {M : Type 1} (𝓤 : URA M) (H : Heap 𝓤) (A : Atoms 𝓤) (W : Given
   abbrev at : (List Val × (List Val × (List Val × (List Val × (List Val × (List Val ×
       (List Val × (List Val × (List Val × (List Val × (List Val × (List Val ×
       (List Val × (List Val × (List Val × (List Val × (List Val × (List Val ×
-      (List Val × (List Val × (List Val × (List Val × Unit {0}))))))))))))))))))))))
+      (List Val × (List Val × (List Val × (List Val × (List Val × Unit {0})))))))))))))))))))))))
   at = (
     s·theory ∷ [],
     (
@@ -692,7 +716,7 @@ module _ {M : Type 1} (𝓤 : URA M) (H : Heap 𝓤) (A : Atoms 𝓤) (W : Given
                     s·rulevars ∷ [],
                     (
                       s·patterns ∷ [],
-                      (s·vars ∷ [], (s·index ∷ [], (s·words ∷ [], (s·defs ∷ [], (s·rows ∷ [], (s·lists ∷ [], (s·kept ∷ [], (s·feet ∷ [], (s·cells ∷ [], (s·ids ∷ [], (s·facts ∷ [], (s·counts ∷ [], tt)))))))))))),
+                      (s·vars ∷ [], (s·index ∷ [], (s·words ∷ [], (s·defs ∷ [], (s·rows ∷ [], (s·lists ∷ [], (s·kept ∷ [], (s·feet ∷ [], (s·cells ∷ [], (s·ids ∷ [], (s·memo ∷ [], (s·facts ∷ [], (s·counts ∷ [], tt))))))))))))),
                     ),
                   ),
                 ),
@@ -714,1063 +738,1411 @@ module _ {M : Type 1} (𝓤 : URA M) (H : Heap 𝓤) (A : Atoms 𝓤) (W : Given
       (room·index : Room u32 (length index)) (room·words : Room u32 (length words)) (room·defs : Room u32 (length defs))
       (room·rows : Room u32 (length rows)) (room·lists : Room u32 (length lists)) (room·kept : Room u32 (length kept))
       (room·feet : Room u64 (length feet)) (room·cells : Room u32 (length cells)) (room·ids : Room u32 (length ids))
-      (room·facts : Room FactT.the-row (length facts)) (req : Kept theory goals proof (theoryLists sorts symbols inputs rules rulevars patterns)
-      (working vars index words defs rows lists) kept feet cells ids s facts counts) (𝓣 : Tables 𝓤 H)
-      (known·1 : Triple 𝓤 (𝓣 .C #running·run·is-going) (G1·C 𝓤 H A at-mem run)) (known·2 : Triple 𝓤 (𝓣 .C #schematic·turn) (G2·C 𝓤 H A at-mem run))
-    where
-      abbrev C : Calls 𝓤 H
-      C = 𝓣 .C
+      (room·memo : Room u32 (length memo)) (room·facts : Room FactT.the-row (length facts))
+      (req : Kept theory goals proof (theoryLists sorts symbols inputs rules rulevars patterns) (working vars index words defs rows lists) kept feet
+      cells ids memo s facts counts) (𝓣 : Tables 𝓤 H) (known·1 : Triple 𝓤 (𝓣 .C #running·run·is-going) (G1·C 𝓤 H A at-mem run))
+      (known·2 : Triple 𝓤 (𝓣 .C #schematic·turn) (G2·C 𝓤 H A at-mem run)) where
+    abbrev C : Calls 𝓤 H
+    C = 𝓣 .C
 
-      abbrev Λ : Loops 𝓤 H
-      Λ = 𝓣 .Λ
+    abbrev Λ : Loops 𝓤 H
+    Λ = 𝓣 .Λ
 
-      fm : FmC 𝓤 H (W .laws) C
-      fm = fmOf 𝓤 H (W .laws) 𝓣
+    fm : FmC 𝓤 H (W .laws) C
+    fm = fmOf 𝓤 H (W .laws) 𝓣
 
-      abbrev En : ℕ → ℕ → ℕ → ℕ → ℕ → ℕ → ℕ → ℕ → ℕ → ℕ → ℕ → ℕ → ℕ → ℕ → ℕ → ℕ → ℕ → ℕ → ℕ → ℕ → ℕ → ℕ → ℕ → ℕ → ℕ → ℕ → ℕ → ℕ → ℕ → ℕ → ℕ → ℕ → ℕ → ℕ
-          → ℕ → ℕ → ℕ → ℕ → ℕ → ℕ → ℕ → ℕ → ℕ → ℕ → ℕ → ℕ → ℕ → ℕ → ℕ → Env 𝓤 H
-      En l0 l1 l2 l3 l4 l5 l6 l7 l8 l9 l10 l11 l12 l13 l14 l15 l16 l17 l18 l19 l20 l21 l22 l23 l24 l25 l26 l27 l28 l29 l30 l31 l32 l33 l34 l35 l36 l37
-          l38 l39 l40 l41 l42 l43 l44 l45 l46 l47 l48 = (RunL.mir, l0) ∷ ((sliceTy (tyRef (named 0) imm (tyInt w8))), l1)
-          ∷ ((sliceTy (tyRef (named 1) imm (tyInt w8))), l2) ∷ ((sliceTy (tyRef (named 2) imm (tyInt w8))), l3) ∷ (RunL.mir, l4)
-          ∷ ((sliceTy (tyRef (named 3) imm (tyInt w32))), l5) ∷ ((sliceTy (tyRef (named 4) imm (tyInt w32))), l6)
-          ∷ ((sliceTy (tyRef (named 5) imm (tyInt w32))), l7) ∷ ((sliceTy (tyRef (named 6) imm (tyInt w32))), l8)
-          ∷ ((sliceTy (tyRef (named 7) imm (tyInt w32))), l9) ∷ ((sliceTy (tyRef (named 8) imm (tyInt w32))), l10)
-          ∷ ((sliceTy (tyRef (named 9) mut (tyInt w32))), l11) ∷ ((sliceTy (tyRef (named 10) mut (tyInt w32))), l12)
-          ∷ ((sliceTy (tyRef (named 11) mut (tyInt w32))), l13) ∷ ((sliceTy (tyRef (named 12) mut (tyInt w32))), l14)
-          ∷ ((sliceTy (tyRef (named 13) mut (tyInt w32))), l15) ∷ ((sliceTy (tyRef (named 14) mut (tyInt w32))), l16)
-          ∷ ((sliceTy (tyRef (named 15) mut (tyInt w32))), l17) ∷ ((sliceTy (tyRef (named 16) mut (tyInt w64))), l18)
-          ∷ ((sliceTy (tyRef (named 17) mut (tyInt w32))), l19) ∷ ((sliceTy (tyRef (named 18) mut (tyInt w32))), l20)
-          ∷ ((sliceTy (tyRef (named 19) mut (pointee (FactT.the-row .written)))), l21)
-          ∷ ((tyRef (named 20) mut (pointee (CountsT.the-row .written))), l22) ∷ (RunL.mir, l23) ∷ (RunL.mir, l24) ∷ (tyBool, l25)
-          ∷ ((tyRef erased mut (tyInt w32)), l26) ∷ ((sliceTy (tyRef erased mut (tyInt w32))), l27) ∷ ((tyRef erased mut (tyInt w32)), l28)
-          ∷ ((sliceTy (tyRef erased mut (tyInt w32))), l29) ∷ ((tyRef erased mut (tyInt w32)), l30)
-          ∷ ((sliceTy (tyRef erased mut (tyInt w32))), l31) ∷ ((tyRef erased mut (tyInt w32)), l32)
-          ∷ ((sliceTy (tyRef erased mut (tyInt w32))), l33) ∷ ((tyRef erased mut (tyInt w32)), l34)
-          ∷ ((sliceTy (tyRef erased mut (tyInt w32))), l35) ∷ ((tyRef erased mut (tyInt w32)), l36)
-          ∷ ((sliceTy (tyRef erased mut (tyInt w32))), l37) ∷ ((tyRef erased mut (tyInt w32)), l38)
-          ∷ ((sliceTy (tyRef erased mut (tyInt w32))), l39) ∷ ((tyRef erased mut (tyInt w64)), l40)
-          ∷ ((sliceTy (tyRef erased mut (tyInt w64))), l41) ∷ ((tyRef erased mut (tyInt w32)), l42)
-          ∷ ((sliceTy (tyRef erased mut (tyInt w32))), l43) ∷ ((tyRef erased mut (tyInt w32)), l44)
-          ∷ ((sliceTy (tyRef erased mut (tyInt w32))), l45) ∷ ((tyRef erased mut (pointee (FactT.the-row .written))), l46)
-          ∷ ((sliceTy (tyRef erased mut (pointee (FactT.the-row .written)))), l47) ∷ ((tyRef erased mut (pointee (CountsT.the-row .written))), l48)
-          ∷ []
+    abbrev En : ℕ → ℕ → ℕ → ℕ → ℕ → ℕ → ℕ → ℕ → ℕ → ℕ → ℕ → ℕ → ℕ → ℕ → ℕ → ℕ → ℕ → ℕ → ℕ → ℕ → ℕ → ℕ → ℕ → ℕ → ℕ → ℕ → ℕ → ℕ → ℕ → ℕ → ℕ → ℕ → ℕ → ℕ
+        → ℕ → ℕ → ℕ → ℕ → ℕ → ℕ → ℕ → ℕ → ℕ → ℕ → ℕ → ℕ → ℕ → ℕ → ℕ → ℕ → ℕ → ℕ → Env 𝓤 H
+    En l0 l1 l2 l3 l4 l5 l6 l7 l8 l9 l10 l11 l12 l13 l14 l15 l16 l17 l18 l19 l20 l21 l22 l23 l24 l25 l26 l27 l28 l29 l30 l31 l32 l33 l34 l35 l36 l37
+        l38 l39 l40 l41 l42 l43 l44 l45 l46 l47 l48 l49 l50 l51 = (RunL.mir, l0) ∷ ((sliceTy (tyRef (named 0) imm (tyInt w8))), l1)
+        ∷ ((sliceTy (tyRef (named 1) imm (tyInt w8))), l2) ∷ ((sliceTy (tyRef (named 2) imm (tyInt w8))), l3) ∷ (RunL.mir, l4)
+        ∷ ((sliceTy (tyRef (named 3) imm (tyInt w32))), l5) ∷ ((sliceTy (tyRef (named 4) imm (tyInt w32))), l6)
+        ∷ ((sliceTy (tyRef (named 5) imm (tyInt w32))), l7) ∷ ((sliceTy (tyRef (named 6) imm (tyInt w32))), l8)
+        ∷ ((sliceTy (tyRef (named 7) imm (tyInt w32))), l9) ∷ ((sliceTy (tyRef (named 8) imm (tyInt w32))), l10)
+        ∷ ((sliceTy (tyRef (named 9) mut (tyInt w32))), l11) ∷ ((sliceTy (tyRef (named 10) mut (tyInt w32))), l12)
+        ∷ ((sliceTy (tyRef (named 11) mut (tyInt w32))), l13) ∷ ((sliceTy (tyRef (named 12) mut (tyInt w32))), l14)
+        ∷ ((sliceTy (tyRef (named 13) mut (tyInt w32))), l15) ∷ ((sliceTy (tyRef (named 14) mut (tyInt w32))), l16)
+        ∷ ((sliceTy (tyRef (named 15) mut (tyInt w32))), l17) ∷ ((sliceTy (tyRef (named 16) mut (tyInt w64))), l18)
+        ∷ ((sliceTy (tyRef (named 17) mut (tyInt w32))), l19) ∷ ((sliceTy (tyRef (named 18) mut (tyInt w32))), l20)
+        ∷ ((sliceTy (tyRef (named 19) mut (tyInt w32))), l21) ∷ ((sliceTy (tyRef (named 20) mut (pointee (FactT.the-row .written)))), l22)
+        ∷ ((tyRef (named 21) mut (pointee (CountsT.the-row .written))), l23) ∷ (RunL.mir, l24) ∷ (RunL.mir, l25) ∷ (tyBool, l26)
+        ∷ ((tyRef erased mut (tyInt w32)), l27) ∷ ((sliceTy (tyRef erased mut (tyInt w32))), l28) ∷ ((tyRef erased mut (tyInt w32)), l29)
+        ∷ ((sliceTy (tyRef erased mut (tyInt w32))), l30) ∷ ((tyRef erased mut (tyInt w32)), l31)
+        ∷ ((sliceTy (tyRef erased mut (tyInt w32))), l32) ∷ ((tyRef erased mut (tyInt w32)), l33)
+        ∷ ((sliceTy (tyRef erased mut (tyInt w32))), l34) ∷ ((tyRef erased mut (tyInt w32)), l35)
+        ∷ ((sliceTy (tyRef erased mut (tyInt w32))), l36) ∷ ((tyRef erased mut (tyInt w32)), l37)
+        ∷ ((sliceTy (tyRef erased mut (tyInt w32))), l38) ∷ ((tyRef erased mut (tyInt w32)), l39)
+        ∷ ((sliceTy (tyRef erased mut (tyInt w32))), l40) ∷ ((tyRef erased mut (tyInt w64)), l41)
+        ∷ ((sliceTy (tyRef erased mut (tyInt w64))), l42) ∷ ((tyRef erased mut (tyInt w32)), l43)
+        ∷ ((sliceTy (tyRef erased mut (tyInt w32))), l44) ∷ ((tyRef erased mut (tyInt w32)), l45)
+        ∷ ((sliceTy (tyRef erased mut (tyInt w32))), l46) ∷ ((tyRef erased mut (tyInt w32)), l47)
+        ∷ ((sliceTy (tyRef erased mut (tyInt w32))), l48) ∷ ((tyRef erased mut (pointee (FactT.the-row .written))), l49)
+        ∷ ((sliceTy (tyRef erased mut (pointee (FactT.the-row .written)))), l50) ∷ ((tyRef erased mut (pointee (CountsT.the-row .written))), l51)
+        ∷ []
 
-      abbrev At : (l0 : ℕ) (l1 : ℕ) (l2 : ℕ) (l3 : ℕ) (l4 : ℕ) (l5 : ℕ) (l6 : ℕ) (l7 : ℕ) (l8 : ℕ) (l9 : ℕ) (l10 : ℕ) (l11 : ℕ) (l12 : ℕ) (l13 : ℕ)
-          (l14 : ℕ) (l15 : ℕ) (l16 : ℕ) (l17 : ℕ) (l18 : ℕ) (l19 : ℕ) (l20 : ℕ) (l21 : ℕ) (l22 : ℕ) (l23 : ℕ) (l24 : ℕ) (l25 : ℕ) (l26 : ℕ) (l27 : ℕ)
-          (l28 : ℕ) (l29 : ℕ) (l30 : ℕ) (l31 : ℕ) (l32 : ℕ) (l33 : ℕ) (l34 : ℕ) (l35 : ℕ) (l36 : ℕ) (l37 : ℕ) (l38 : ℕ) (l39 : ℕ) (l40 : ℕ) (l41 : ℕ)
-          (l42 : ℕ) (l43 : ℕ) (l44 : ℕ) (l45 : ℕ) (l46 : ℕ) (l47 : ℕ) (l48 : ℕ) → Looping theory goals proof
-          (theoryLists sorts symbols inputs rules rulevars patterns) (working vars index words defs rows lists) kept feet cells ids s facts → List
-          (Item 𝓤)
-      At l0 l1 l2 l3 l4 l5 l6 l7 l8 l9 l10 l11 l12 l13 l14 l15 l16 l17 l18 l19 l20 l21 l22 l23 l24 l25 l26 l27 l28 l29 l30 l31 l32 l33 l34 l35 l36 l37
-          l38 l39 l40 l41 l42 l43 l44 l45 l46 l47 l48 x = ‵ (ShrSlice (named 0) κ·theory u8 .own (ref·theory γ·theory theory) (s·theory ∷ []))
-          ∷ ‵ (ShrSlice (named 1) κ·goals u8 .own (ref·goals γ·goals goals) (s·goals ∷ []))
-          ∷ ‵ (ShrSlice (named 2) κ·proof u8 .own (ref·proof γ·proof proof) (s·proof ∷ []))
-          ∷ ‵ (ShrSlice (named 3) κ·sorts u32 .own (ref·sorts γ·sorts sorts) (s·sorts ∷ []))
-          ∷ ‵ (ShrSlice (named 4) κ·symbols u32 .own (ref·symbols γ·symbols symbols) (s·symbols ∷ []))
-          ∷ ‵ (ShrSlice (named 5) κ·inputs u32 .own (ref·inputs γ·inputs inputs) (s·inputs ∷ []))
-          ∷ ‵ (ShrSlice (named 6) κ·rules u32 .own (ref·rules γ·rules rules) (s·rules ∷ []))
-          ∷ ‵ (ShrSlice (named 7) κ·rulevars u32 .own (ref·rulevars γ·rulevars rulevars) (s·rulevars ∷ []))
-          ∷ ‵ (ShrSlice (named 8) κ·patterns u32 .own (ref·patterns γ·patterns patterns) (s·patterns ∷ []))
-          ∷ ‵ (MutSlice (named 9) κ·vars u32 .own (ref·vars γ·vars (x .Z .vars)) (s·vars ∷ []))
-          ∷ ‵ (MutSlice (named 10) κ·index u32 .own (ref·index γ·index (x .Z .index)) (s·index ∷ []))
-          ∷ ‵ (MutSlice (named 11) κ·words u32 .own (ref·words γ·words (x .Z .words)) (s·words ∷ []))
-          ∷ ‵ (MutSlice (named 12) κ·defs u32 .own (ref·defs γ·defs (x .Z .defs)) (s·defs ∷ []))
-          ∷ ‵ (MutSlice (named 13) κ·rows u32 .own (ref·rows γ·rows (x .Z .goals)) (s·rows ∷ []))
-          ∷ ‵ (MutSlice (named 14) κ·lists u32 .own (ref·lists γ·lists (x .Z .lists)) (s·lists ∷ []))
-          ∷ ‵ (MutSlice (named 15) κ·kept u32 .own (ref·kept γ·kept (x .rows-now)) (s·kept ∷ []))
-          ∷ ‵ (MutSlice (named 16) κ·feet u64 .own (ref·feet γ·feet (x .feet-now)) (s·feet ∷ []))
-          ∷ ‵ (MutSlice (named 17) κ·cells u32 .own (ref·cells γ·cells (x .cells-now)) (s·cells ∷ []))
-          ∷ ‵ (MutSlice (named 18) κ·ids u32 .own (ref·ids γ·ids (x .ids-now)) (s·ids ∷ []))
-          ∷ ‵ (MutSlice (named 19) κ·facts FactT.the-row .own (ref·facts γ·facts (x .fs-now)) (s·facts ∷ []))
-          ∷ ‵ (MutRef (named 20) κ·counts CountsT.the-row .own (ref·counts γ·counts (x .counts-now)) (s·counts ∷ []))
-          ∷ ‵ (flft κ·theory q·theory)
-          ∷ ‵ (flft κ·goals q·goals)
-          ∷ ‵ (flft κ·proof q·proof)
-          ∷ ‵ (flft κ·sorts q·sorts)
-          ∷ ‵ (flft κ·symbols q·symbols)
-          ∷ ‵ (flft κ·inputs q·inputs)
-          ∷ ‵ (flft κ·rules q·rules)
-          ∷ ‵ (flft κ·rulevars q·rulevars)
-          ∷ ‵ (flft κ·patterns q·patterns)
-          ∷ ‵ (flft κ·vars q·vars)
-          ∷ ‵ (flft κ·index q·index)
-          ∷ ‵ (flft κ·words q·words)
-          ∷ ‵ (flft κ·defs q·defs)
-          ∷ ‵ (flft κ·rows q·rows)
-          ∷ ‵ (flft κ·lists q·lists)
-          ∷ ‵ (flft κ·kept q·kept)
-          ∷ ‵ (flft κ·feet q·feet)
-          ∷ ‵ (flft κ·cells q·cells)
-          ∷ ‵ (flft κ·ids q·ids)
-          ∷ ‵ (flft κ·facts q·facts)
-          ∷ ‵ (flft κ·counts q·counts)
-          ∷ ‵ (froom (tyRef erased mut (pointee (CountsT.the-row .written))) l48 0)
-          ∷ ‵ (fdies (tyRef erased mut (pointee (CountsT.the-row .written))) l48)
-          ∷ ‵ (froom (sliceTy (tyRef erased mut (pointee (FactT.the-row .written)))) l47 0)
-          ∷ ‵ (fdies (sliceTy (tyRef erased mut (pointee (FactT.the-row .written)))) l47)
-          ∷ ‵ (froom (tyRef erased mut (pointee (FactT.the-row .written))) l46 0)
-          ∷ ‵ (fdies (tyRef erased mut (pointee (FactT.the-row .written))) l46)
-          ∷ ‵ (froom (sliceTy (tyRef erased mut (tyInt w32))) l45 0)
-          ∷ ‵ (fdies (sliceTy (tyRef erased mut (tyInt w32))) l45)
-          ∷ ‵ (froom (tyRef erased mut (tyInt w32)) l44 0)
-          ∷ ‵ (fdies (tyRef erased mut (tyInt w32)) l44)
-          ∷ ‵ (froom (sliceTy (tyRef erased mut (tyInt w32))) l43 0)
-          ∷ ‵ (fdies (sliceTy (tyRef erased mut (tyInt w32))) l43)
-          ∷ ‵ (froom (tyRef erased mut (tyInt w32)) l42 0)
-          ∷ ‵ (fdies (tyRef erased mut (tyInt w32)) l42)
-          ∷ ‵ (froom (sliceTy (tyRef erased mut (tyInt w64))) l41 0)
-          ∷ ‵ (fdies (sliceTy (tyRef erased mut (tyInt w64))) l41)
-          ∷ ‵ (froom (tyRef erased mut (tyInt w64)) l40 0)
-          ∷ ‵ (fdies (tyRef erased mut (tyInt w64)) l40)
-          ∷ ‵ (froom (sliceTy (tyRef erased mut (tyInt w32))) l39 0)
-          ∷ ‵ (fdies (sliceTy (tyRef erased mut (tyInt w32))) l39)
-          ∷ ‵ (froom (tyRef erased mut (tyInt w32)) l38 0)
-          ∷ ‵ (fdies (tyRef erased mut (tyInt w32)) l38)
-          ∷ ‵ (froom (sliceTy (tyRef erased mut (tyInt w32))) l37 0)
-          ∷ ‵ (fdies (sliceTy (tyRef erased mut (tyInt w32))) l37)
-          ∷ ‵ (froom (tyRef erased mut (tyInt w32)) l36 0)
-          ∷ ‵ (fdies (tyRef erased mut (tyInt w32)) l36)
-          ∷ ‵ (froom (sliceTy (tyRef erased mut (tyInt w32))) l35 0)
-          ∷ ‵ (fdies (sliceTy (tyRef erased mut (tyInt w32))) l35)
-          ∷ ‵ (froom (tyRef erased mut (tyInt w32)) l34 0)
-          ∷ ‵ (fdies (tyRef erased mut (tyInt w32)) l34)
-          ∷ ‵ (froom (sliceTy (tyRef erased mut (tyInt w32))) l33 0)
-          ∷ ‵ (fdies (sliceTy (tyRef erased mut (tyInt w32))) l33)
-          ∷ ‵ (froom (tyRef erased mut (tyInt w32)) l32 0)
-          ∷ ‵ (fdies (tyRef erased mut (tyInt w32)) l32)
-          ∷ ‵ (froom (sliceTy (tyRef erased mut (tyInt w32))) l31 0)
-          ∷ ‵ (fdies (sliceTy (tyRef erased mut (tyInt w32))) l31)
-          ∷ ‵ (froom (tyRef erased mut (tyInt w32)) l30 0)
-          ∷ ‵ (fdies (tyRef erased mut (tyInt w32)) l30)
-          ∷ ‵ (froom (sliceTy (tyRef erased mut (tyInt w32))) l29 0)
-          ∷ ‵ (fdies (sliceTy (tyRef erased mut (tyInt w32))) l29)
-          ∷ ‵ (froom (tyRef erased mut (tyInt w32)) l28 0)
-          ∷ ‵ (fdies (tyRef erased mut (tyInt w32)) l28)
-          ∷ ‵ (froom (sliceTy (tyRef erased mut (tyInt w32))) l27 0)
-          ∷ ‵ (fdies (sliceTy (tyRef erased mut (tyInt w32))) l27)
-          ∷ ‵ (froom (tyRef erased mut (tyInt w32)) l26 0)
-          ∷ ‵ (fdies (tyRef erased mut (tyInt w32)) l26)
-          ∷ ‵ (froom tyBool l25 0)
-          ∷ ‵ (fdies tyBool l25)
-          ∷ ‵ (froom RunL.mir l24 0)
-          ∷ ‵ (fdies RunL.mir l24)
-          ∷ ‵ (fat fullShare RunL.mir l23 0 (LL.val RunT.the-type RunL.the-laws (x .st)))
-          ∷ ‵ (fdies RunL.mir l23)
-          ∷ ‵ (fat fullShare (tyRef (named 20) mut (pointee (CountsT.the-row .written))) l22 0 s·counts)
-          ∷ ‵ (fdies (tyRef (named 20) mut (pointee (CountsT.the-row .written))) l22)
-          ∷ ‵ (fat fullShare (sliceTy (tyRef (named 19) mut (pointee (FactT.the-row .written)))) l21 0 s·facts)
-          ∷ ‵ (fdies (sliceTy (tyRef (named 19) mut (pointee (FactT.the-row .written)))) l21)
-          ∷ ‵ (fat fullShare (sliceTy (tyRef (named 18) mut (tyInt w32))) l20 0 s·ids)
-          ∷ ‵ (fdies (sliceTy (tyRef (named 18) mut (tyInt w32))) l20)
-          ∷ ‵ (fat fullShare (sliceTy (tyRef (named 17) mut (tyInt w32))) l19 0 s·cells)
-          ∷ ‵ (fdies (sliceTy (tyRef (named 17) mut (tyInt w32))) l19)
-          ∷ ‵ (fat fullShare (sliceTy (tyRef (named 16) mut (tyInt w64))) l18 0 s·feet)
-          ∷ ‵ (fdies (sliceTy (tyRef (named 16) mut (tyInt w64))) l18)
-          ∷ ‵ (fat fullShare (sliceTy (tyRef (named 15) mut (tyInt w32))) l17 0 s·kept)
-          ∷ ‵ (fdies (sliceTy (tyRef (named 15) mut (tyInt w32))) l17)
-          ∷ ‵ (fat fullShare (sliceTy (tyRef (named 14) mut (tyInt w32))) l16 0 s·lists)
-          ∷ ‵ (fdies (sliceTy (tyRef (named 14) mut (tyInt w32))) l16)
-          ∷ ‵ (fat fullShare (sliceTy (tyRef (named 13) mut (tyInt w32))) l15 0 s·rows)
-          ∷ ‵ (fdies (sliceTy (tyRef (named 13) mut (tyInt w32))) l15)
-          ∷ ‵ (fat fullShare (sliceTy (tyRef (named 12) mut (tyInt w32))) l14 0 s·defs)
-          ∷ ‵ (fdies (sliceTy (tyRef (named 12) mut (tyInt w32))) l14)
-          ∷ ‵ (fat fullShare (sliceTy (tyRef (named 11) mut (tyInt w32))) l13 0 s·words)
-          ∷ ‵ (fdies (sliceTy (tyRef (named 11) mut (tyInt w32))) l13)
-          ∷ ‵ (fat fullShare (sliceTy (tyRef (named 10) mut (tyInt w32))) l12 0 s·index)
-          ∷ ‵ (fdies (sliceTy (tyRef (named 10) mut (tyInt w32))) l12)
-          ∷ ‵ (fat fullShare (sliceTy (tyRef (named 9) mut (tyInt w32))) l11 0 s·vars)
-          ∷ ‵ (fdies (sliceTy (tyRef (named 9) mut (tyInt w32))) l11)
-          ∷ ‵ (fat fullShare (sliceTy (tyRef (named 8) imm (tyInt w32))) l10 0 s·patterns)
-          ∷ ‵ (fdies (sliceTy (tyRef (named 8) imm (tyInt w32))) l10)
-          ∷ ‵ (fat fullShare (sliceTy (tyRef (named 7) imm (tyInt w32))) l9 0 s·rulevars)
-          ∷ ‵ (fdies (sliceTy (tyRef (named 7) imm (tyInt w32))) l9)
-          ∷ ‵ (fat fullShare (sliceTy (tyRef (named 6) imm (tyInt w32))) l8 0 s·rules)
-          ∷ ‵ (fdies (sliceTy (tyRef (named 6) imm (tyInt w32))) l8)
-          ∷ ‵ (fat fullShare (sliceTy (tyRef (named 5) imm (tyInt w32))) l7 0 s·inputs)
-          ∷ ‵ (fdies (sliceTy (tyRef (named 5) imm (tyInt w32))) l7)
-          ∷ ‵ (fat fullShare (sliceTy (tyRef (named 4) imm (tyInt w32))) l6 0 s·symbols)
-          ∷ ‵ (fdies (sliceTy (tyRef (named 4) imm (tyInt w32))) l6)
-          ∷ ‵ (fat fullShare (sliceTy (tyRef (named 3) imm (tyInt w32))) l5 0 s·sorts)
-          ∷ ‵ (fdies (sliceTy (tyRef (named 3) imm (tyInt w32))) l5)
-          ∷ ‵ (fat fullShare RunL.mir l4 0 v·s)
-          ∷ ‵ (fdies RunL.mir l4)
-          ∷ ‵ (fat fullShare (sliceTy (tyRef (named 2) imm (tyInt w8))) l3 0 s·proof)
-          ∷ ‵ (fdies (sliceTy (tyRef (named 2) imm (tyInt w8))) l3)
-          ∷ ‵ (fat fullShare (sliceTy (tyRef (named 1) imm (tyInt w8))) l2 0 s·goals)
-          ∷ ‵ (fdies (sliceTy (tyRef (named 1) imm (tyInt w8))) l2)
-          ∷ ‵ (fat fullShare (sliceTy (tyRef (named 0) imm (tyInt w8))) l1 0 s·theory)
-          ∷ ‵ (fdies (sliceTy (tyRef (named 0) imm (tyInt w8))) l1)
-          ∷ ‵ (froom RunL.mir l0 0)
-          ∷ ‵ (fdies RunL.mir l0) ∷ []
+    abbrev At : (l0 : ℕ) (l1 : ℕ) (l2 : ℕ) (l3 : ℕ) (l4 : ℕ) (l5 : ℕ) (l6 : ℕ) (l7 : ℕ) (l8 : ℕ) (l9 : ℕ) (l10 : ℕ) (l11 : ℕ) (l12 : ℕ) (l13 : ℕ)
+        (l14 : ℕ) (l15 : ℕ) (l16 : ℕ) (l17 : ℕ) (l18 : ℕ) (l19 : ℕ) (l20 : ℕ) (l21 : ℕ) (l22 : ℕ) (l23 : ℕ) (l24 : ℕ) (l25 : ℕ) (l26 : ℕ) (l27 : ℕ)
+        (l28 : ℕ) (l29 : ℕ) (l30 : ℕ) (l31 : ℕ) (l32 : ℕ) (l33 : ℕ) (l34 : ℕ) (l35 : ℕ) (l36 : ℕ) (l37 : ℕ) (l38 : ℕ) (l39 : ℕ) (l40 : ℕ) (l41 : ℕ)
+        (l42 : ℕ) (l43 : ℕ) (l44 : ℕ) (l45 : ℕ) (l46 : ℕ) (l47 : ℕ) (l48 : ℕ) (l49 : ℕ) (l50 : ℕ) (l51 : ℕ) → Looping theory goals proof
+        (theoryLists sorts symbols inputs rules rulevars patterns) (working vars index words defs rows lists) kept feet cells ids memo s facts → List
+        (Item 𝓤)
+    At l0 l1 l2 l3 l4 l5 l6 l7 l8 l9 l10 l11 l12 l13 l14 l15 l16 l17 l18 l19 l20 l21 l22 l23 l24 l25 l26 l27 l28 l29 l30 l31 l32 l33 l34 l35 l36 l37
+        l38 l39 l40 l41 l42 l43 l44 l45 l46 l47 l48 l49 l50 l51 x = ‵ (ShrSlice (named 0) κ·theory u8 .own (ref·theory γ·theory theory)
+        (s·theory ∷ []))
+        ∷ ‵ (ShrSlice (named 1) κ·goals u8 .own (ref·goals γ·goals goals) (s·goals ∷ []))
+        ∷ ‵ (ShrSlice (named 2) κ·proof u8 .own (ref·proof γ·proof proof) (s·proof ∷ []))
+        ∷ ‵ (ShrSlice (named 3) κ·sorts u32 .own (ref·sorts γ·sorts sorts) (s·sorts ∷ []))
+        ∷ ‵ (ShrSlice (named 4) κ·symbols u32 .own (ref·symbols γ·symbols symbols) (s·symbols ∷ []))
+        ∷ ‵ (ShrSlice (named 5) κ·inputs u32 .own (ref·inputs γ·inputs inputs) (s·inputs ∷ []))
+        ∷ ‵ (ShrSlice (named 6) κ·rules u32 .own (ref·rules γ·rules rules) (s·rules ∷ []))
+        ∷ ‵ (ShrSlice (named 7) κ·rulevars u32 .own (ref·rulevars γ·rulevars rulevars) (s·rulevars ∷ []))
+        ∷ ‵ (ShrSlice (named 8) κ·patterns u32 .own (ref·patterns γ·patterns patterns) (s·patterns ∷ []))
+        ∷ ‵ (MutSlice (named 9) κ·vars u32 .own (ref·vars γ·vars (x .Z .vars)) (s·vars ∷ []))
+        ∷ ‵ (MutSlice (named 10) κ·index u32 .own (ref·index γ·index (x .Z .index)) (s·index ∷ []))
+        ∷ ‵ (MutSlice (named 11) κ·words u32 .own (ref·words γ·words (x .Z .words)) (s·words ∷ []))
+        ∷ ‵ (MutSlice (named 12) κ·defs u32 .own (ref·defs γ·defs (x .Z .defs)) (s·defs ∷ []))
+        ∷ ‵ (MutSlice (named 13) κ·rows u32 .own (ref·rows γ·rows (x .Z .goals)) (s·rows ∷ []))
+        ∷ ‵ (MutSlice (named 14) κ·lists u32 .own (ref·lists γ·lists (x .Z .lists)) (s·lists ∷ []))
+        ∷ ‵ (MutSlice (named 15) κ·kept u32 .own (ref·kept γ·kept (x .rows-now)) (s·kept ∷ []))
+        ∷ ‵ (MutSlice (named 16) κ·feet u64 .own (ref·feet γ·feet (x .feet-now)) (s·feet ∷ []))
+        ∷ ‵ (MutSlice (named 17) κ·cells u32 .own (ref·cells γ·cells (x .cells-now)) (s·cells ∷ []))
+        ∷ ‵ (MutSlice (named 18) κ·ids u32 .own (ref·ids γ·ids (x .ids-now)) (s·ids ∷ []))
+        ∷ ‵ (MutSlice (named 19) κ·memo u32 .own (ref·memo γ·memo (x .memo-now)) (s·memo ∷ []))
+        ∷ ‵ (MutSlice (named 20) κ·facts FactT.the-row .own (ref·facts γ·facts (x .fs-now)) (s·facts ∷ []))
+        ∷ ‵ (MutRef (named 21) κ·counts CountsT.the-row .own (ref·counts γ·counts (x .counts-now)) (s·counts ∷ []))
+        ∷ ‵ (flft κ·theory q·theory)
+        ∷ ‵ (flft κ·goals q·goals)
+        ∷ ‵ (flft κ·proof q·proof)
+        ∷ ‵ (flft κ·sorts q·sorts)
+        ∷ ‵ (flft κ·symbols q·symbols)
+        ∷ ‵ (flft κ·inputs q·inputs)
+        ∷ ‵ (flft κ·rules q·rules)
+        ∷ ‵ (flft κ·rulevars q·rulevars)
+        ∷ ‵ (flft κ·patterns q·patterns)
+        ∷ ‵ (flft κ·vars q·vars)
+        ∷ ‵ (flft κ·index q·index)
+        ∷ ‵ (flft κ·words q·words)
+        ∷ ‵ (flft κ·defs q·defs)
+        ∷ ‵ (flft κ·rows q·rows)
+        ∷ ‵ (flft κ·lists q·lists)
+        ∷ ‵ (flft κ·kept q·kept)
+        ∷ ‵ (flft κ·feet q·feet)
+        ∷ ‵ (flft κ·cells q·cells)
+        ∷ ‵ (flft κ·ids q·ids)
+        ∷ ‵ (flft κ·memo q·memo)
+        ∷ ‵ (flft κ·facts q·facts)
+        ∷ ‵ (flft κ·counts q·counts)
+        ∷ ‵ (froom (tyRef erased mut (pointee (CountsT.the-row .written))) l51 0)
+        ∷ ‵ (fdies (tyRef erased mut (pointee (CountsT.the-row .written))) l51)
+        ∷ ‵ (froom (sliceTy (tyRef erased mut (pointee (FactT.the-row .written)))) l50 0)
+        ∷ ‵ (fdies (sliceTy (tyRef erased mut (pointee (FactT.the-row .written)))) l50)
+        ∷ ‵ (froom (tyRef erased mut (pointee (FactT.the-row .written))) l49 0)
+        ∷ ‵ (fdies (tyRef erased mut (pointee (FactT.the-row .written))) l49)
+        ∷ ‵ (froom (sliceTy (tyRef erased mut (tyInt w32))) l48 0)
+        ∷ ‵ (fdies (sliceTy (tyRef erased mut (tyInt w32))) l48)
+        ∷ ‵ (froom (tyRef erased mut (tyInt w32)) l47 0)
+        ∷ ‵ (fdies (tyRef erased mut (tyInt w32)) l47)
+        ∷ ‵ (froom (sliceTy (tyRef erased mut (tyInt w32))) l46 0)
+        ∷ ‵ (fdies (sliceTy (tyRef erased mut (tyInt w32))) l46)
+        ∷ ‵ (froom (tyRef erased mut (tyInt w32)) l45 0)
+        ∷ ‵ (fdies (tyRef erased mut (tyInt w32)) l45)
+        ∷ ‵ (froom (sliceTy (tyRef erased mut (tyInt w32))) l44 0)
+        ∷ ‵ (fdies (sliceTy (tyRef erased mut (tyInt w32))) l44)
+        ∷ ‵ (froom (tyRef erased mut (tyInt w32)) l43 0)
+        ∷ ‵ (fdies (tyRef erased mut (tyInt w32)) l43)
+        ∷ ‵ (froom (sliceTy (tyRef erased mut (tyInt w64))) l42 0)
+        ∷ ‵ (fdies (sliceTy (tyRef erased mut (tyInt w64))) l42)
+        ∷ ‵ (froom (tyRef erased mut (tyInt w64)) l41 0)
+        ∷ ‵ (fdies (tyRef erased mut (tyInt w64)) l41)
+        ∷ ‵ (froom (sliceTy (tyRef erased mut (tyInt w32))) l40 0)
+        ∷ ‵ (fdies (sliceTy (tyRef erased mut (tyInt w32))) l40)
+        ∷ ‵ (froom (tyRef erased mut (tyInt w32)) l39 0)
+        ∷ ‵ (fdies (tyRef erased mut (tyInt w32)) l39)
+        ∷ ‵ (froom (sliceTy (tyRef erased mut (tyInt w32))) l38 0)
+        ∷ ‵ (fdies (sliceTy (tyRef erased mut (tyInt w32))) l38)
+        ∷ ‵ (froom (tyRef erased mut (tyInt w32)) l37 0)
+        ∷ ‵ (fdies (tyRef erased mut (tyInt w32)) l37)
+        ∷ ‵ (froom (sliceTy (tyRef erased mut (tyInt w32))) l36 0)
+        ∷ ‵ (fdies (sliceTy (tyRef erased mut (tyInt w32))) l36)
+        ∷ ‵ (froom (tyRef erased mut (tyInt w32)) l35 0)
+        ∷ ‵ (fdies (tyRef erased mut (tyInt w32)) l35)
+        ∷ ‵ (froom (sliceTy (tyRef erased mut (tyInt w32))) l34 0)
+        ∷ ‵ (fdies (sliceTy (tyRef erased mut (tyInt w32))) l34)
+        ∷ ‵ (froom (tyRef erased mut (tyInt w32)) l33 0)
+        ∷ ‵ (fdies (tyRef erased mut (tyInt w32)) l33)
+        ∷ ‵ (froom (sliceTy (tyRef erased mut (tyInt w32))) l32 0)
+        ∷ ‵ (fdies (sliceTy (tyRef erased mut (tyInt w32))) l32)
+        ∷ ‵ (froom (tyRef erased mut (tyInt w32)) l31 0)
+        ∷ ‵ (fdies (tyRef erased mut (tyInt w32)) l31)
+        ∷ ‵ (froom (sliceTy (tyRef erased mut (tyInt w32))) l30 0)
+        ∷ ‵ (fdies (sliceTy (tyRef erased mut (tyInt w32))) l30)
+        ∷ ‵ (froom (tyRef erased mut (tyInt w32)) l29 0)
+        ∷ ‵ (fdies (tyRef erased mut (tyInt w32)) l29)
+        ∷ ‵ (froom (sliceTy (tyRef erased mut (tyInt w32))) l28 0)
+        ∷ ‵ (fdies (sliceTy (tyRef erased mut (tyInt w32))) l28)
+        ∷ ‵ (froom (tyRef erased mut (tyInt w32)) l27 0)
+        ∷ ‵ (fdies (tyRef erased mut (tyInt w32)) l27)
+        ∷ ‵ (froom tyBool l26 0)
+        ∷ ‵ (fdies tyBool l26)
+        ∷ ‵ (froom RunL.mir l25 0)
+        ∷ ‵ (fdies RunL.mir l25)
+        ∷ ‵ (fat fullShare RunL.mir l24 0 (LL.val RunT.the-type RunL.the-laws (x .st)))
+        ∷ ‵ (fdies RunL.mir l24)
+        ∷ ‵ (fat fullShare (tyRef (named 21) mut (pointee (CountsT.the-row .written))) l23 0 s·counts)
+        ∷ ‵ (fdies (tyRef (named 21) mut (pointee (CountsT.the-row .written))) l23)
+        ∷ ‵ (fat fullShare (sliceTy (tyRef (named 20) mut (pointee (FactT.the-row .written)))) l22 0 s·facts)
+        ∷ ‵ (fdies (sliceTy (tyRef (named 20) mut (pointee (FactT.the-row .written)))) l22)
+        ∷ ‵ (fat fullShare (sliceTy (tyRef (named 19) mut (tyInt w32))) l21 0 s·memo)
+        ∷ ‵ (fdies (sliceTy (tyRef (named 19) mut (tyInt w32))) l21)
+        ∷ ‵ (fat fullShare (sliceTy (tyRef (named 18) mut (tyInt w32))) l20 0 s·ids)
+        ∷ ‵ (fdies (sliceTy (tyRef (named 18) mut (tyInt w32))) l20)
+        ∷ ‵ (fat fullShare (sliceTy (tyRef (named 17) mut (tyInt w32))) l19 0 s·cells)
+        ∷ ‵ (fdies (sliceTy (tyRef (named 17) mut (tyInt w32))) l19)
+        ∷ ‵ (fat fullShare (sliceTy (tyRef (named 16) mut (tyInt w64))) l18 0 s·feet)
+        ∷ ‵ (fdies (sliceTy (tyRef (named 16) mut (tyInt w64))) l18)
+        ∷ ‵ (fat fullShare (sliceTy (tyRef (named 15) mut (tyInt w32))) l17 0 s·kept)
+        ∷ ‵ (fdies (sliceTy (tyRef (named 15) mut (tyInt w32))) l17)
+        ∷ ‵ (fat fullShare (sliceTy (tyRef (named 14) mut (tyInt w32))) l16 0 s·lists)
+        ∷ ‵ (fdies (sliceTy (tyRef (named 14) mut (tyInt w32))) l16)
+        ∷ ‵ (fat fullShare (sliceTy (tyRef (named 13) mut (tyInt w32))) l15 0 s·rows)
+        ∷ ‵ (fdies (sliceTy (tyRef (named 13) mut (tyInt w32))) l15)
+        ∷ ‵ (fat fullShare (sliceTy (tyRef (named 12) mut (tyInt w32))) l14 0 s·defs)
+        ∷ ‵ (fdies (sliceTy (tyRef (named 12) mut (tyInt w32))) l14)
+        ∷ ‵ (fat fullShare (sliceTy (tyRef (named 11) mut (tyInt w32))) l13 0 s·words)
+        ∷ ‵ (fdies (sliceTy (tyRef (named 11) mut (tyInt w32))) l13)
+        ∷ ‵ (fat fullShare (sliceTy (tyRef (named 10) mut (tyInt w32))) l12 0 s·index)
+        ∷ ‵ (fdies (sliceTy (tyRef (named 10) mut (tyInt w32))) l12)
+        ∷ ‵ (fat fullShare (sliceTy (tyRef (named 9) mut (tyInt w32))) l11 0 s·vars)
+        ∷ ‵ (fdies (sliceTy (tyRef (named 9) mut (tyInt w32))) l11)
+        ∷ ‵ (fat fullShare (sliceTy (tyRef (named 8) imm (tyInt w32))) l10 0 s·patterns)
+        ∷ ‵ (fdies (sliceTy (tyRef (named 8) imm (tyInt w32))) l10)
+        ∷ ‵ (fat fullShare (sliceTy (tyRef (named 7) imm (tyInt w32))) l9 0 s·rulevars)
+        ∷ ‵ (fdies (sliceTy (tyRef (named 7) imm (tyInt w32))) l9)
+        ∷ ‵ (fat fullShare (sliceTy (tyRef (named 6) imm (tyInt w32))) l8 0 s·rules)
+        ∷ ‵ (fdies (sliceTy (tyRef (named 6) imm (tyInt w32))) l8)
+        ∷ ‵ (fat fullShare (sliceTy (tyRef (named 5) imm (tyInt w32))) l7 0 s·inputs)
+        ∷ ‵ (fdies (sliceTy (tyRef (named 5) imm (tyInt w32))) l7)
+        ∷ ‵ (fat fullShare (sliceTy (tyRef (named 4) imm (tyInt w32))) l6 0 s·symbols)
+        ∷ ‵ (fdies (sliceTy (tyRef (named 4) imm (tyInt w32))) l6)
+        ∷ ‵ (fat fullShare (sliceTy (tyRef (named 3) imm (tyInt w32))) l5 0 s·sorts)
+        ∷ ‵ (fdies (sliceTy (tyRef (named 3) imm (tyInt w32))) l5)
+        ∷ ‵ (fat fullShare RunL.mir l4 0 v·s)
+        ∷ ‵ (fdies RunL.mir l4)
+        ∷ ‵ (fat fullShare (sliceTy (tyRef (named 2) imm (tyInt w8))) l3 0 s·proof)
+        ∷ ‵ (fdies (sliceTy (tyRef (named 2) imm (tyInt w8))) l3)
+        ∷ ‵ (fat fullShare (sliceTy (tyRef (named 1) imm (tyInt w8))) l2 0 s·goals)
+        ∷ ‵ (fdies (sliceTy (tyRef (named 1) imm (tyInt w8))) l2)
+        ∷ ‵ (fat fullShare (sliceTy (tyRef (named 0) imm (tyInt w8))) l1 0 s·theory)
+        ∷ ‵ (fdies (sliceTy (tyRef (named 0) imm (tyInt w8))) l1)
+        ∷ ‵ (froom RunL.mir l0 0)
+        ∷ ‵ (fdies RunL.mir l0) ∷ []
 
-      abbrev Turned : (l0 : ℕ) (l1 : ℕ) (l2 : ℕ) (l3 : ℕ) (l4 : ℕ) (l5 : ℕ) (l6 : ℕ) (l7 : ℕ) (l8 : ℕ) (l9 : ℕ) (l10 : ℕ) (l11 : ℕ) (l12 : ℕ) (l13 : ℕ)
-          (l14 : ℕ) (l15 : ℕ) (l16 : ℕ) (l17 : ℕ) (l18 : ℕ) (l19 : ℕ) (l20 : ℕ) (l21 : ℕ) (l22 : ℕ) (l23 : ℕ) (l24 : ℕ) (l25 : ℕ) (l26 : ℕ) (l27 : ℕ)
-          (l28 : ℕ) (l29 : ℕ) (l30 : ℕ) (l31 : ℕ) (l32 : ℕ) (l33 : ℕ) (l34 : ℕ) (l35 : ℕ) (l36 : ℕ) (l37 : ℕ) (l38 : ℕ) (l39 : ℕ) (l40 : ℕ) (l41 : ℕ)
-          (l42 : ℕ) (l43 : ℕ) (l44 : ℕ) (l45 : ℕ) (l46 : ℕ) (l47 : ℕ) (l48 : ℕ) → Looping theory goals proof
-          (theoryLists sorts symbols inputs rules rulevars patterns) (working vars index words defs rows lists) kept feet cells ids s facts → Outcome
-          → SProp 𝓤
-      Turned l0 l1 l2 l3 l4 l5 l6 l7 l8 l9 l10 l11 l12 l13 l14 l15 l16 l17 l18 l19 l20 l21 l22 l23 l24 l25 l26 l27 l28 l29 l30 l31 l32 l33 l34 l35 l36
-          l37 l38 l39 l40 l41 l42 l43 l44 l45 l46 l47 l48 x = afterTurn 𝓤 H (Below 𝓤 H A
-          (Fewer theory goals proof (theoryLists sorts symbols inputs rules rulevars patterns) (working vars index words defs rows lists) kept feet
-          cells ids s facts) (At l0 l1 l2 l3 l4 l5 l6 l7 l8 l9 l10 l11 l12 l13 l14 l15 l16 l17 l18 l19 l20 l21 l22 l23 l24 l25 l26 l27 l28 l29 l30
-          l31 l32 l33 l34 l35 l36 l37 l38 l39 l40 l41 l42 l43 l44 l45 l46 l47 l48) x)
-          (afterBlock 𝓤 H (afterSeq 𝓤 H (Wp 𝓤 H C Λ (En l0 l1 l2 l3 l4 l5 l6 l7 l8 l9 l10 l11 l12 l13 l14 l15 l16 l17 l18 l19 l20 l21 l22 l23 l24
-          l25 l26 l27 l28 l29 l30 l31 l32 l33 l34 l35 l36 l37 l38 l39 l40 l41 l42 l43 l44 l45 l46 l47 l48) pieces.t-3
-          (atReturn 𝓤 H (En l0 l1 l2 l3 l4 l5 l6 l7 l8 l9 l10 l11 l12 l13 l14 l15 l16 l17 l18 l19 l20 l21 l22 l23 l24 l25 l26 l27 l28 l29 l30 l31
-          l32 l33 l34 l35 l36 l37 l38 l39 l40 l41 l42 l43 l44 l45 l46 l47 l48) Post))
-          (atReturn 𝓤 H (En l0 l1 l2 l3 l4 l5 l6 l7 l8 l9 l10 l11 l12 l13 l14 l15 l16 l17 l18 l19 l20 l21 l22 l23 l24 l25 l26 l27 l28 l29 l30 l31
-          l32 l33 l34 l35 l36 l37 l38 l39 l40 l41 l42 l43 l44 l45 l46 l47 l48) Post)))
+    abbrev Turned : (l0 : ℕ) (l1 : ℕ) (l2 : ℕ) (l3 : ℕ) (l4 : ℕ) (l5 : ℕ) (l6 : ℕ) (l7 : ℕ) (l8 : ℕ) (l9 : ℕ) (l10 : ℕ) (l11 : ℕ) (l12 : ℕ) (l13 : ℕ)
+        (l14 : ℕ) (l15 : ℕ) (l16 : ℕ) (l17 : ℕ) (l18 : ℕ) (l19 : ℕ) (l20 : ℕ) (l21 : ℕ) (l22 : ℕ) (l23 : ℕ) (l24 : ℕ) (l25 : ℕ) (l26 : ℕ) (l27 : ℕ)
+        (l28 : ℕ) (l29 : ℕ) (l30 : ℕ) (l31 : ℕ) (l32 : ℕ) (l33 : ℕ) (l34 : ℕ) (l35 : ℕ) (l36 : ℕ) (l37 : ℕ) (l38 : ℕ) (l39 : ℕ) (l40 : ℕ) (l41 : ℕ)
+        (l42 : ℕ) (l43 : ℕ) (l44 : ℕ) (l45 : ℕ) (l46 : ℕ) (l47 : ℕ) (l48 : ℕ) (l49 : ℕ) (l50 : ℕ) (l51 : ℕ) → Looping theory goals proof
+        (theoryLists sorts symbols inputs rules rulevars patterns) (working vars index words defs rows lists) kept feet cells ids memo s facts
+        → Outcome → SProp 𝓤
+    Turned l0 l1 l2 l3 l4 l5 l6 l7 l8 l9 l10 l11 l12 l13 l14 l15 l16 l17 l18 l19 l20 l21 l22 l23 l24 l25 l26 l27 l28 l29 l30 l31 l32 l33 l34 l35 l36
+        l37 l38 l39 l40 l41 l42 l43 l44 l45 l46 l47 l48 l49 l50 l51 x = afterTurn 𝓤 H
+        (Below 𝓤 H A (Fewer theory goals proof (theoryLists sorts symbols inputs rules rulevars patterns)
+        (working vars index words defs rows lists) kept feet cells ids memo s facts)
+        (At l0 l1 l2 l3 l4 l5 l6 l7 l8 l9 l10 l11 l12 l13 l14 l15 l16 l17 l18 l19 l20 l21 l22 l23 l24 l25 l26 l27 l28 l29 l30 l31 l32 l33 l34 l35
+        l36 l37 l38 l39 l40 l41 l42 l43 l44 l45 l46 l47 l48 l49 l50 l51) x)
+        (afterBlock 𝓤 H (afterSeq 𝓤 H (Wp 𝓤 H C Λ (En l0 l1 l2 l3 l4 l5 l6 l7 l8 l9 l10 l11 l12 l13 l14 l15 l16 l17 l18 l19 l20 l21 l22 l23 l24
+        l25 l26 l27 l28 l29 l30 l31 l32 l33 l34 l35 l36 l37 l38 l39 l40 l41 l42 l43 l44 l45 l46 l47 l48 l49 l50 l51) pieces.t-3
+        (atReturn 𝓤 H (En l0 l1 l2 l3 l4 l5 l6 l7 l8 l9 l10 l11 l12 l13 l14 l15 l16 l17 l18 l19 l20 l21 l22 l23 l24 l25 l26 l27 l28 l29 l30 l31
+        l32 l33 l34 l35 l36 l37 l38 l39 l40 l41 l42 l43 l44 l45 l46 l47 l48 l49 l50 l51) Post))
+        (atReturn 𝓤 H (En l0 l1 l2 l3 l4 l5 l6 l7 l8 l9 l10 l11 l12 l13 l14 l15 l16 l17 l18 l19 l20 l21 l22 l23 l24 l25 l26 l27 l28 l29 l30 l31
+        l32 l33 l34 l35 l36 l37 l38 l39 l40 l41 l42 l43 l44 l45 l46 l47 l48 l49 l50 l51) Post)))
 
-      turn·seg·4 : (l0 : ℕ) (l1 : ℕ) (l2 : ℕ) (l3 : ℕ) (l4 : ℕ) (l5 : ℕ) (l6 : ℕ) (l7 : ℕ) (l8 : ℕ) (l9 : ℕ) (l10 : ℕ) (l11 : ℕ) (l12 : ℕ) (l13 : ℕ)
-          (l14 : ℕ) (l15 : ℕ) (l16 : ℕ) (l17 : ℕ) (l18 : ℕ) (l19 : ℕ) (l20 : ℕ) (l21 : ℕ) (l22 : ℕ) (l23 : ℕ) (l24 : ℕ) (l25 : ℕ) (l26 : ℕ) (l27 : ℕ)
-          (l28 : ℕ) (l29 : ℕ) (l30 : ℕ) (l31 : ℕ) (l32 : ℕ) (l33 : ℕ) (l34 : ℕ) (l35 : ℕ) (l36 : ℕ) (l37 : ℕ) (l38 : ℕ) (l39 : ℕ) (l40 : ℕ) (l41 : ℕ)
-          (l42 : ℕ) (l43 : ℕ) (l44 : ℕ) (l45 : ℕ) (l46 : ℕ) (l47 : ℕ) (l48 : ℕ)
-          (x : Looping theory goals proof (theoryLists sorts symbols inputs rules rulevars patterns) (working vars index words defs rows lists) kept
-          feet cells ids s facts) (v1 : Val) (r1 : Bool) (ws1 : (Unit {0} × Unit {0})) (e1 : r1 ≡ x .st .going) (is1 : Is bool r1 (v1 ∷ []))
-          (over : Holds (not r1)) →
-          Sq W (‵ (ShrSlice (named 0) κ·theory u8 .own (ref·theory γ·theory theory) (s·theory ∷ []))
-          ∷ ‵ (ShrSlice (named 1) κ·goals u8 .own (ref·goals γ·goals goals) (s·goals ∷ []))
-          ∷ ‵ (ShrSlice (named 2) κ·proof u8 .own (ref·proof γ·proof proof) (s·proof ∷ []))
-          ∷ ‵ (ShrSlice (named 3) κ·sorts u32 .own (ref·sorts γ·sorts sorts) (s·sorts ∷ []))
-          ∷ ‵ (ShrSlice (named 4) κ·symbols u32 .own (ref·symbols γ·symbols symbols) (s·symbols ∷ []))
-          ∷ ‵ (ShrSlice (named 5) κ·inputs u32 .own (ref·inputs γ·inputs inputs) (s·inputs ∷ []))
-          ∷ ‵ (ShrSlice (named 6) κ·rules u32 .own (ref·rules γ·rules rules) (s·rules ∷ []))
-          ∷ ‵ (ShrSlice (named 7) κ·rulevars u32 .own (ref·rulevars γ·rulevars rulevars) (s·rulevars ∷ []))
-          ∷ ‵ (ShrSlice (named 8) κ·patterns u32 .own (ref·patterns γ·patterns patterns) (s·patterns ∷ []))
-          ∷ ‵ (MutSlice (named 9) κ·vars u32 .own (ref·vars γ·vars (x .Z .vars)) (s·vars ∷ []))
-          ∷ ‵ (MutSlice (named 10) κ·index u32 .own (ref·index γ·index (x .Z .index)) (s·index ∷ []))
-          ∷ ‵ (MutSlice (named 11) κ·words u32 .own (ref·words γ·words (x .Z .words)) (s·words ∷ []))
-          ∷ ‵ (MutSlice (named 12) κ·defs u32 .own (ref·defs γ·defs (x .Z .defs)) (s·defs ∷ []))
-          ∷ ‵ (MutSlice (named 13) κ·rows u32 .own (ref·rows γ·rows (x .Z .goals)) (s·rows ∷ []))
-          ∷ ‵ (MutSlice (named 14) κ·lists u32 .own (ref·lists γ·lists (x .Z .lists)) (s·lists ∷ []))
-          ∷ ‵ (MutSlice (named 15) κ·kept u32 .own (ref·kept γ·kept (x .rows-now)) (s·kept ∷ []))
-          ∷ ‵ (MutSlice (named 16) κ·feet u64 .own (ref·feet γ·feet (x .feet-now)) (s·feet ∷ []))
-          ∷ ‵ (MutSlice (named 17) κ·cells u32 .own (ref·cells γ·cells (x .cells-now)) (s·cells ∷ []))
-          ∷ ‵ (MutSlice (named 18) κ·ids u32 .own (ref·ids γ·ids (x .ids-now)) (s·ids ∷ []))
-          ∷ ‵ (MutSlice (named 19) κ·facts FactT.the-row .own (ref·facts γ·facts (x .fs-now)) (s·facts ∷ []))
-          ∷ ‵ (MutRef (named 20) κ·counts CountsT.the-row .own (ref·counts γ·counts (x .counts-now)) (s·counts ∷ []))
-          ∷ ‵ (flft κ·theory q·theory)
-          ∷ ‵ (flft κ·goals q·goals)
-          ∷ ‵ (flft κ·proof q·proof)
-          ∷ ‵ (flft κ·sorts q·sorts)
-          ∷ ‵ (flft κ·symbols q·symbols)
-          ∷ ‵ (flft κ·inputs q·inputs)
-          ∷ ‵ (flft κ·rules q·rules)
-          ∷ ‵ (flft κ·rulevars q·rulevars)
-          ∷ ‵ (flft κ·patterns q·patterns)
-          ∷ ‵ (flft κ·vars q·vars)
-          ∷ ‵ (flft κ·index q·index)
-          ∷ ‵ (flft κ·words q·words)
-          ∷ ‵ (flft κ·defs q·defs)
-          ∷ ‵ (flft κ·rows q·rows)
-          ∷ ‵ (flft κ·lists q·lists)
-          ∷ ‵ (flft κ·kept q·kept)
-          ∷ ‵ (flft κ·feet q·feet)
-          ∷ ‵ (flft κ·cells q·cells)
-          ∷ ‵ (flft κ·ids q·ids)
-          ∷ ‵ (flft κ·facts q·facts)
-          ∷ ‵ (flft κ·counts q·counts)
-          ∷ ‵ (froom (tyRef erased mut (pointee (CountsT.the-row .written))) l48 0)
-          ∷ ‵ (fdies (tyRef erased mut (pointee (CountsT.the-row .written))) l48)
-          ∷ ‵ (froom (sliceTy (tyRef erased mut (pointee (FactT.the-row .written)))) l47 0)
-          ∷ ‵ (fdies (sliceTy (tyRef erased mut (pointee (FactT.the-row .written)))) l47)
-          ∷ ‵ (froom (tyRef erased mut (pointee (FactT.the-row .written))) l46 0)
-          ∷ ‵ (fdies (tyRef erased mut (pointee (FactT.the-row .written))) l46)
-          ∷ ‵ (froom (sliceTy (tyRef erased mut (tyInt w32))) l45 0)
-          ∷ ‵ (fdies (sliceTy (tyRef erased mut (tyInt w32))) l45)
-          ∷ ‵ (froom (tyRef erased mut (tyInt w32)) l44 0)
-          ∷ ‵ (fdies (tyRef erased mut (tyInt w32)) l44)
-          ∷ ‵ (froom (sliceTy (tyRef erased mut (tyInt w32))) l43 0)
-          ∷ ‵ (fdies (sliceTy (tyRef erased mut (tyInt w32))) l43)
-          ∷ ‵ (froom (tyRef erased mut (tyInt w32)) l42 0)
-          ∷ ‵ (fdies (tyRef erased mut (tyInt w32)) l42)
-          ∷ ‵ (froom (sliceTy (tyRef erased mut (tyInt w64))) l41 0)
-          ∷ ‵ (fdies (sliceTy (tyRef erased mut (tyInt w64))) l41)
-          ∷ ‵ (froom (tyRef erased mut (tyInt w64)) l40 0)
-          ∷ ‵ (fdies (tyRef erased mut (tyInt w64)) l40)
-          ∷ ‵ (froom (sliceTy (tyRef erased mut (tyInt w32))) l39 0)
-          ∷ ‵ (fdies (sliceTy (tyRef erased mut (tyInt w32))) l39)
-          ∷ ‵ (froom (tyRef erased mut (tyInt w32)) l38 0)
-          ∷ ‵ (fdies (tyRef erased mut (tyInt w32)) l38)
-          ∷ ‵ (froom (sliceTy (tyRef erased mut (tyInt w32))) l37 0)
-          ∷ ‵ (fdies (sliceTy (tyRef erased mut (tyInt w32))) l37)
-          ∷ ‵ (froom (tyRef erased mut (tyInt w32)) l36 0)
-          ∷ ‵ (fdies (tyRef erased mut (tyInt w32)) l36)
-          ∷ ‵ (froom (sliceTy (tyRef erased mut (tyInt w32))) l35 0)
-          ∷ ‵ (fdies (sliceTy (tyRef erased mut (tyInt w32))) l35)
-          ∷ ‵ (froom (tyRef erased mut (tyInt w32)) l34 0)
-          ∷ ‵ (fdies (tyRef erased mut (tyInt w32)) l34)
-          ∷ ‵ (froom (sliceTy (tyRef erased mut (tyInt w32))) l33 0)
-          ∷ ‵ (fdies (sliceTy (tyRef erased mut (tyInt w32))) l33)
-          ∷ ‵ (froom (tyRef erased mut (tyInt w32)) l32 0)
-          ∷ ‵ (fdies (tyRef erased mut (tyInt w32)) l32)
-          ∷ ‵ (froom (sliceTy (tyRef erased mut (tyInt w32))) l31 0)
-          ∷ ‵ (fdies (sliceTy (tyRef erased mut (tyInt w32))) l31)
-          ∷ ‵ (froom (tyRef erased mut (tyInt w32)) l30 0)
-          ∷ ‵ (fdies (tyRef erased mut (tyInt w32)) l30) ∷ [])
-          (frees (((tyRef erased mut (tyInt w32)), l30) ∷ ((sliceTy (tyRef erased mut (tyInt w32))), l31) ∷ ((tyRef erased mut (tyInt w32)), l32)
-          ∷ ((sliceTy (tyRef erased mut (tyInt w32))), l33) ∷ ((tyRef erased mut (tyInt w32)), l34) ∷ ((sliceTy (tyRef erased mut (tyInt w32))), l35)
-          ∷ ((tyRef erased mut (tyInt w32)), l36) ∷ ((sliceTy (tyRef erased mut (tyInt w32))), l37) ∷ ((tyRef erased mut (tyInt w32)), l38)
-          ∷ ((sliceTy (tyRef erased mut (tyInt w32))), l39) ∷ ((tyRef erased mut (tyInt w64)), l40) ∷ ((sliceTy (tyRef erased mut (tyInt w64))), l41)
-          ∷ ((tyRef erased mut (tyInt w32)), l42) ∷ ((sliceTy (tyRef erased mut (tyInt w32))), l43) ∷ ((tyRef erased mut (tyInt w32)), l44)
-          ∷ ((sliceTy (tyRef erased mut (tyInt w32))), l45) ∷ ((tyRef erased mut (pointee (FactT.the-row .written))), l46)
-          ∷ ((sliceTy (tyRef erased mut (pointee (FactT.the-row .written)))), l47) ∷ ((tyRef erased mut (pointee (CountsT.the-row .written))), l48)
-          ∷ []) (prop (Post (LL.val RunT.the-type RunL.the-laws (x .st)))))
-      unfolding afterTurn
-      turn·seg·4 l0 l1 l2 l3 l4 l5 l6 l7 l8 l9 l10 l11 l12 l13 l14 l15 l16 l17 l18 l19 l20 l21 l22 l23 l24 l25 l26 l27 l28 l29 l30 l31 l32 l33 l34 l35
-          l36 l37 l38 l39 l40 l41 l42 l43 l44 l45 l46 l47 l48 x v1 r1 ws1 e1 is1 over =
-          move ! (78 ∷ 79 ∷ []) $
-          free1 ! $
-          move ! (76 ∷ 77 ∷ []) $
-          free1 ! $
-          move ! (74 ∷ 75 ∷ []) $
-          free1 ! $
-          move ! (72 ∷ 73 ∷ []) $
-          free1 ! $
-          move ! (70 ∷ 71 ∷ []) $
-          free1 ! $
-          move ! (68 ∷ 69 ∷ []) $
-          free1 ! $
-          move ! (66 ∷ 67 ∷ []) $
-          free1 ! $
-          move ! (64 ∷ 65 ∷ []) $
-          free1 ! $
-          move ! (62 ∷ 63 ∷ []) $
-          free1 ! $
-          move ! (60 ∷ 61 ∷ []) $
-          free1 ! $
-          move ! (58 ∷ 59 ∷ []) $
-          free1 ! $
-          move ! (56 ∷ 57 ∷ []) $
-          free1 ! $
-          move ! (54 ∷ 55 ∷ []) $
-          free1 ! $
-          move ! (52 ∷ 53 ∷ []) $
-          free1 ! $
-          move ! (50 ∷ 51 ∷ []) $
-          free1 ! $
-          move ! (48 ∷ 49 ∷ []) $
-          free1 ! $
-          move ! (46 ∷ 47 ∷ []) $
-          free1 ! $
-          move ! (44 ∷ 45 ∷ []) $
-          free1 ! $
-          move ! (42 ∷ 43 ∷ []) $
-          free1 ! $
-          free0 ! $
-          keep ! (21 ∷ 22 ∷ 23 ∷ 24 ∷ 25 ∷ 26 ∷ 27 ∷ 28 ∷ 29 ∷ 30 ∷ 31 ∷ 32 ∷ 33 ∷ 34 ∷ 35 ∷ 36 ∷ 37 ∷ 38 ∷ 39 ∷ 40 ∷ 41 ∷ 0 ∷ 1 ∷ 2 ∷ 3 ∷ 4 ∷ 5 ∷ 6 ∷ 7
-          ∷ 8 ∷ 9 ∷ 10 ∷ 11 ∷ 12 ∷ 13 ∷ 14 ∷ 15 ∷ 16 ∷ 17 ∷ 18 ∷ 19 ∷ 20 ∷ []) $
-          suffices ! _ (ends-at 𝓤 H A self·fn.ended stayed (self·fn.clauses 𝓤 H A at-mem run) W ((κs, qs, tt, a, at), tt)
-          (LL.val RunT.the-type RunL.the-laws (x .st)) (x .st)
-          (tt, (tt, (tt, (tt, (tt, (tt, (tt, (tt, (tt, (tt, ((x .Z .vars), ((x .Z .index), ((x .Z .words), ((x .Z .defs), ((x .Z .goals), ((x .Z .lists), ((x .rows-now), ((x .feet-now), ((x .cells-now), ((x .ids-now), ((x .fs-now), ((x .counts-now), tt))))))))))))))))))))))
-          (tt, (tt, (tt, (tt, (tt, (tt, (tt, (tt, (tt, (tt, (x .vars-long, (x .index-long, (x .words-long, (x .defs-long, (x .goals-long, (x .lists-long, (x .rows-long, (x .feet-long, (x .cells-long, (x .ids-long, (x .facts-long, (tt, tt))))))))))))))))))))))) $
-          says ! (ran theory goals proof (theoryLists sorts symbols inputs rules rulevars patterns) (working vars index words defs rows lists) kept feet
-          cells ids s facts x (is-over r1 e1 over)) $
-          nothing ! $
-          move ! (21 ∷ 0 ∷ []) $
-          join ! $
-          move ! (20 ∷ 0 ∷ []) $
-          join ! $
-          move ! (19 ∷ 0 ∷ []) $
-          join ! $
-          move ! (18 ∷ 0 ∷ []) $
-          join ! $
-          move ! (17 ∷ 0 ∷ []) $
-          join ! $
-          move ! (16 ∷ 0 ∷ []) $
-          join ! $
-          move ! (15 ∷ 0 ∷ []) $
-          join ! $
-          move ! (14 ∷ 0 ∷ []) $
-          join ! $
-          move ! (13 ∷ 0 ∷ []) $
-          join ! $
-          move ! (12 ∷ 0 ∷ []) $
-          join ! $
-          move ! (11 ∷ 0 ∷ []) $
-          join ! $
-          move ! (10 ∷ 0 ∷ []) $
-          join ! $
-          move ! (9 ∷ 0 ∷ []) $
-          join ! $
-          move ! (8 ∷ 0 ∷ []) $
-          join ! $
-          move ! (7 ∷ 0 ∷ []) $
-          join ! $
-          move ! (6 ∷ 0 ∷ []) $
-          join ! $
-          move ! (5 ∷ 0 ∷ []) $
-          join ! $
-          move ! (4 ∷ 0 ∷ []) $
-          join ! $
-          move ! (3 ∷ 0 ∷ []) $
-          join ! $
-          move ! (2 ∷ 0 ∷ []) $
-          join ! $
-          move ! (1 ∷ 0 ∷ []) $
-          join ! $
-          frame ! $
-          nothing ! $
-          move ! (21 ∷ 0 ∷ []) $
-          fjoin ! $
-          move ! (20 ∷ 0 ∷ []) $
-          fjoin ! $
-          move ! (19 ∷ 0 ∷ []) $
-          fjoin ! $
-          move ! (18 ∷ 0 ∷ []) $
-          fjoin ! $
-          move ! (17 ∷ 0 ∷ []) $
-          fjoin ! $
-          move ! (16 ∷ 0 ∷ []) $
-          fjoin ! $
-          move ! (15 ∷ 0 ∷ []) $
-          fjoin ! $
-          move ! (14 ∷ 0 ∷ []) $
-          fjoin ! $
-          move ! (13 ∷ 0 ∷ []) $
-          fjoin ! $
-          move ! (12 ∷ 0 ∷ []) $
-          fjoin ! $
-          move ! (11 ∷ 0 ∷ []) $
-          fjoin ! $
-          move ! (10 ∷ 0 ∷ []) $
-          fjoin ! $
-          move ! (9 ∷ 0 ∷ []) $
-          fjoin ! $
-          move ! (8 ∷ 0 ∷ []) $
-          fjoin ! $
-          move ! (7 ∷ 0 ∷ []) $
-          fjoin ! $
-          move ! (6 ∷ 0 ∷ []) $
-          fjoin ! $
-          move ! (5 ∷ 0 ∷ []) $
-          fjoin ! $
-          move ! (4 ∷ 0 ∷ []) $
-          fjoin ! $
-          owned ! RunT.the-row (Is RunT.the-row) (LL.makes RunT.the-type RunL.the-plain 𝓤 H A) s _ is·s $
-          fjoin ! $
-          move ! (3 ∷ 0 ∷ []) $
-          fjoin ! $
-          move ! (2 ∷ 0 ∷ []) $
-          fjoin ! $
-          move ! (1 ∷ 0 ∷ []) $
-          fjoin ! $
-          owned ! RunT.the-row (Is RunT.the-row) (LL.makes RunT.the-type RunL.the-plain 𝓤 H A) (x .st) _ (x .is) $ move ! (1 ∷ 0 ∷ []) $ done !
-
-      turn·seg·2 : (l0 : ℕ) (l1 : ℕ) (l2 : ℕ) (l3 : ℕ) (l4 : ℕ) (l5 : ℕ) (l6 : ℕ) (l7 : ℕ) (l8 : ℕ) (l9 : ℕ) (l10 : ℕ) (l11 : ℕ) (l12 : ℕ) (l13 : ℕ)
-          (l14 : ℕ) (l15 : ℕ) (l16 : ℕ) (l17 : ℕ) (l18 : ℕ) (l19 : ℕ) (l20 : ℕ) (l21 : ℕ) (l22 : ℕ) (l23 : ℕ) (l24 : ℕ) (l25 : ℕ) (l26 : ℕ) (l27 : ℕ)
-          (l28 : ℕ) (l29 : ℕ) (l30 : ℕ) (l31 : ℕ) (l32 : ℕ) (l33 : ℕ) (l34 : ℕ) (l35 : ℕ) (l36 : ℕ) (l37 : ℕ) (l38 : ℕ) (l39 : ℕ) (l40 : ℕ) (l41 : ℕ)
-          (l42 : ℕ) (l43 : ℕ) (l44 : ℕ) (l45 : ℕ) (l46 : ℕ) (l47 : ℕ) (l48 : ℕ)
-          (x : Looping theory goals proof (theoryLists sorts symbols inputs rules rulevars patterns) (working vars index words defs rows lists) kept
-          feet cells ids s facts) (v1 : Val) (r1 : Bool) (ws1 : (Unit {0} × Unit {0})) (e1 : r1 ≡ x .st .going) (is1 : Is bool r1 (v1 ∷ []))
-          (held : Holds r1) (ν·2·10 : ℕ) (δ·2·10 : GName) (ν·2·11 : ℕ) (δ·2·11 : GName) (ν·2·12 : ℕ) (δ·2·12 : GName) (ν·2·13 : ℕ) (δ·2·13 : GName)
-          (ν·2·14 : ℕ) (δ·2·14 : GName) (ν·2·15 : ℕ) (δ·2·15 : GName) (ν·2·16 : ℕ) (δ·2·16 : GName) (ν·2·17 : ℕ) (δ·2·17 : GName) (ν·2·18 : ℕ)
-          (δ·2·18 : GName) (ν·2·19 : ℕ) (δ·2·19 : GName) (ν·2·20 : ℕ) (δ·2·20 : GName) (ν·2·21 : ℕ) (δ·2·21 : GName) (v2 : Val) (r2 : Run)
-          (ws2 : (Unit {0} × (Unit {0} × (Unit {0} × (Unit {0} × (Unit {0} × (Unit {0} ×
-          (Unit {0} × (Unit {0} × (Unit {0} × (Unit {0} × ((List ℕ) × ((List ℕ) ×
-          ((List ℕ) × ((List ℕ) × ((List ℕ) × ((List ℕ) × ((List ℕ) × ((List ℕ) ×
-          ((List ℕ) × ((List ℕ) × ((List Fact) × (Counts × Unit {0})))))))))))))))))))))))
-          (e2 : OneTaken theory goals proof (theoryLists sorts symbols inputs rules rulevars patterns) (x .Z)
-          (working (ws2 .1 .1 .1 .1 .1 .1 .1 .1 .1 .1 .0) (ws2 .1 .1 .1 .1 .1 .1 .1 .1 .1 .1 .1 .0) (ws2 .1 .1 .1 .1 .1 .1 .1 .1 .1 .1 .1 .1 .0)
-          (ws2 .1 .1 .1 .1 .1 .1 .1 .1 .1 .1 .1 .1 .1 .0) (ws2 .1 .1 .1 .1 .1 .1 .1 .1 .1 .1 .1 .1 .1 .1 .0)
-          (ws2 .1 .1 .1 .1 .1 .1 .1 .1 .1 .1 .1 .1 .1 .1 .1 .0)) (ws2 .1 .1 .1 .1 .1 .1 .1 .1 .1 .1 .1 .1 .1 .1 .1 .1 .0)
-          (ws2 .1 .1 .1 .1 .1 .1 .1 .1 .1 .1 .1 .1 .1 .1 .1 .1 .1 .0) (ws2 .1 .1 .1 .1 .1 .1 .1 .1 .1 .1 .1 .1 .1 .1 .1 .1 .1 .1 .0)
-          (ws2 .1 .1 .1 .1 .1 .1 .1 .1 .1 .1 .1 .1 .1 .1 .1 .1 .1 .1 .1 .0) (x .st) r2 (x .fs-now)
-          (ws2 .1 .1 .1 .1 .1 .1 .1 .1 .1 .1 .1 .1 .1 .1 .1 .1 .1 .1 .1 .1 .0) (ws2 .1 .1 .1 .1 .1 .1 .1 .1 .1 .1 .1 .1 .1 .1 .1 .1 .1 .1 .1 .1 .1 .0))
-          (len·2·vars : length (ws2 .1 .1 .1 .1 .1 .1 .1 .1 .1 .1 .0) ≡ length (x .Z .vars))
-          (len·2·index : length (ws2 .1 .1 .1 .1 .1 .1 .1 .1 .1 .1 .1 .0) ≡ length (x .Z .index))
-          (len·2·words : length (ws2 .1 .1 .1 .1 .1 .1 .1 .1 .1 .1 .1 .1 .0) ≡ length (x .Z .words))
-          (len·2·defs : length (ws2 .1 .1 .1 .1 .1 .1 .1 .1 .1 .1 .1 .1 .1 .0) ≡ length (x .Z .defs))
-          (len·2·rows : length (ws2 .1 .1 .1 .1 .1 .1 .1 .1 .1 .1 .1 .1 .1 .1 .0) ≡ length (x .Z .goals))
-          (len·2·lists : length (ws2 .1 .1 .1 .1 .1 .1 .1 .1 .1 .1 .1 .1 .1 .1 .1 .0) ≡ length (x .Z .lists))
-          (len·2·kept : length (ws2 .1 .1 .1 .1 .1 .1 .1 .1 .1 .1 .1 .1 .1 .1 .1 .1 .0) ≡ length (x .rows-now))
-          (len·2·feet : length (ws2 .1 .1 .1 .1 .1 .1 .1 .1 .1 .1 .1 .1 .1 .1 .1 .1 .1 .0) ≡ length (x .feet-now))
-          (len·2·cells : length (ws2 .1 .1 .1 .1 .1 .1 .1 .1 .1 .1 .1 .1 .1 .1 .1 .1 .1 .1 .0) ≡ length (x .cells-now))
-          (len·2·ids : length (ws2 .1 .1 .1 .1 .1 .1 .1 .1 .1 .1 .1 .1 .1 .1 .1 .1 .1 .1 .1 .0) ≡ length (x .ids-now))
-          (len·2·facts : length (ws2 .1 .1 .1 .1 .1 .1 .1 .1 .1 .1 .1 .1 .1 .1 .1 .1 .1 .1 .1 .1 .0) ≡ length (x .fs-now))
-          (is2 : Is RunT.the-row r2 (v2 ∷ [])) →
-          Sq W (‵ (flft (ν·2·21 ∷ []) fullShare)
-          ∷ ‵ (flft (ν·2·20 ∷ []) fullShare)
-          ∷ ‵ (flft (ν·2·19 ∷ []) fullShare)
-          ∷ ‵ (flft (ν·2·18 ∷ []) fullShare)
-          ∷ ‵ (flft (ν·2·17 ∷ []) fullShare)
-          ∷ ‵ (flft (ν·2·16 ∷ []) fullShare)
-          ∷ ‵ (flft (ν·2·15 ∷ []) fullShare)
-          ∷ ‵ (flft (ν·2·14 ∷ []) fullShare)
-          ∷ ‵ (flft (ν·2·13 ∷ []) fullShare)
-          ∷ ‵ (flft (ν·2·12 ∷ []) fullShare)
-          ∷ ‵ (flft (ν·2·11 ∷ []) fullShare)
-          ∷ ‵ (flft (ν·2·10 ∷ []) fullShare)
-          ∷ ‵ (flft κ·patterns q·patterns)
-          ∷ ‵ (flft κ·rulevars q·rulevars)
-          ∷ ‵ (flft κ·rules q·rules)
-          ∷ ‵ (flft κ·inputs q·inputs)
-          ∷ ‵ (flft κ·symbols q·symbols)
-          ∷ ‵ (flft κ·sorts q·sorts)
-          ∷ ‵ (flft κ·proof q·proof)
-          ∷ ‵ (flft κ·goals q·goals)
-          ∷ ‵ (flft κ·theory q·theory)
-          ∷ ‵ (fres δ·2·21 (CountsT.the-row .coded .code (ws2 .1 .1 .1 .1 .1 .1 .1 .1 .1 .1 .1 .1 .1 .1 .1 .1 .1 .1 .1 .1 .1 .0)))
-          ∷ ‵ (finally FactT.the-row δ·2·20 (ws2 .1 .1 .1 .1 .1 .1 .1 .1 .1 .1 .1 .1 .1 .1 .1 .1 .1 .1 .1 .1 .0))
-          ∷ ‵ (finally u32 δ·2·19 (ws2 .1 .1 .1 .1 .1 .1 .1 .1 .1 .1 .1 .1 .1 .1 .1 .1 .1 .1 .1 .0))
-          ∷ ‵ (finally u32 δ·2·18 (ws2 .1 .1 .1 .1 .1 .1 .1 .1 .1 .1 .1 .1 .1 .1 .1 .1 .1 .1 .0))
-          ∷ ‵ (finally u64 δ·2·17 (ws2 .1 .1 .1 .1 .1 .1 .1 .1 .1 .1 .1 .1 .1 .1 .1 .1 .1 .0))
-          ∷ ‵ (finally u32 δ·2·16 (ws2 .1 .1 .1 .1 .1 .1 .1 .1 .1 .1 .1 .1 .1 .1 .1 .1 .0))
-          ∷ ‵ (finally u32 δ·2·15 (ws2 .1 .1 .1 .1 .1 .1 .1 .1 .1 .1 .1 .1 .1 .1 .1 .0))
-          ∷ ‵ (finally u32 δ·2·14 (ws2 .1 .1 .1 .1 .1 .1 .1 .1 .1 .1 .1 .1 .1 .1 .0))
-          ∷ ‵ (finally u32 δ·2·13 (ws2 .1 .1 .1 .1 .1 .1 .1 .1 .1 .1 .1 .1 .1 .0))
-          ∷ ‵ (finally u32 δ·2·12 (ws2 .1 .1 .1 .1 .1 .1 .1 .1 .1 .1 .1 .1 .0))
-          ∷ ‵ (finally u32 δ·2·11 (ws2 .1 .1 .1 .1 .1 .1 .1 .1 .1 .1 .1 .0))
-          ∷ ‵ (finally u32 δ·2·10 (ws2 .1 .1 .1 .1 .1 .1 .1 .1 .1 .1 .0))
-          ∷ ‵ (ThinLent CountsT.the-row κ·counts (ν·2·21 ∷ []) q·counts γ·counts b·counts o·counts δ·2·21 (x .counts-now))
-          ∷ ‵ (LentAgain FactT.the-row κ·facts (ν·2·20 ∷ []) q·facts γ·facts b·facts o·facts δ·2·20 (x .fs-now))
-          ∷ ‵ (LentAgain u32 κ·ids (ν·2·19 ∷ []) q·ids γ·ids b·ids o·ids δ·2·19 (x .ids-now))
-          ∷ ‵ (LentAgain u32 κ·cells (ν·2·18 ∷ []) q·cells γ·cells b·cells o·cells δ·2·18 (x .cells-now))
-          ∷ ‵ (LentAgain u64 κ·feet (ν·2·17 ∷ []) q·feet γ·feet b·feet o·feet δ·2·17 (x .feet-now))
-          ∷ ‵ (LentAgain u32 κ·kept (ν·2·16 ∷ []) q·kept γ·kept b·kept o·kept δ·2·16 (x .rows-now))
-          ∷ ‵ (LentAgain u32 κ·lists (ν·2·15 ∷ []) q·lists γ·lists b·lists o·lists δ·2·15 (x .Z .lists))
-          ∷ ‵ (LentAgain u32 κ·rows (ν·2·14 ∷ []) q·rows γ·rows b·rows o·rows δ·2·14 (x .Z .goals))
-          ∷ ‵ (LentAgain u32 κ·defs (ν·2·13 ∷ []) q·defs γ·defs b·defs o·defs δ·2·13 (x .Z .defs))
-          ∷ ‵ (LentAgain u32 κ·words (ν·2·12 ∷ []) q·words γ·words b·words o·words δ·2·12 (x .Z .words))
-          ∷ ‵ (LentAgain u32 κ·index (ν·2·11 ∷ []) q·index γ·index b·index o·index δ·2·11 (x .Z .index))
-          ∷ ‵ (LentAgain u32 κ·vars (ν·2·10 ∷ []) q·vars γ·vars b·vars o·vars δ·2·10 (x .Z .vars))
-          ∷ ‵ (ShrSlice (named 8) κ·patterns u32 .own (ref·patterns γ·patterns patterns) (s·patterns ∷ []))
-          ∷ ‵ (ShrSlice (named 7) κ·rulevars u32 .own (ref·rulevars γ·rulevars rulevars) (s·rulevars ∷ []))
-          ∷ ‵ (ShrSlice (named 6) κ·rules u32 .own (ref·rules γ·rules rules) (s·rules ∷ []))
-          ∷ ‵ (ShrSlice (named 5) κ·inputs u32 .own (ref·inputs γ·inputs inputs) (s·inputs ∷ []))
-          ∷ ‵ (ShrSlice (named 4) κ·symbols u32 .own (ref·symbols γ·symbols symbols) (s·symbols ∷ []))
-          ∷ ‵ (ShrSlice (named 3) κ·sorts u32 .own (ref·sorts γ·sorts sorts) (s·sorts ∷ []))
-          ∷ ‵ (ShrSlice (named 2) κ·proof u8 .own (ref·proof γ·proof proof) (s·proof ∷ []))
-          ∷ ‵ (ShrSlice (named 1) κ·goals u8 .own (ref·goals γ·goals goals) (s·goals ∷ []))
-          ∷ ‵ (ShrSlice (named 0) κ·theory u8 .own (ref·theory γ·theory theory) (s·theory ∷ []))
-          ∷ ‵ (fat fullShare (tyRef erased mut (pointee (CountsT.the-row .written))) l48 0 s·counts)
-          ∷ ‵ (fdies (tyRef erased mut (pointee (CountsT.the-row .written))) l48)
-          ∷ ‵ (fat fullShare (sliceTy (tyRef erased mut (pointee (FactT.the-row .written)))) l47 0 s·facts)
-          ∷ ‵ (fdies (sliceTy (tyRef erased mut (pointee (FactT.the-row .written)))) l47)
-          ∷ ‵ (fat fullShare (tyRef erased mut (pointee (FactT.the-row .written))) l46 0 (vptr b·facts o·facts))
-          ∷ ‵ (fdies (tyRef erased mut (pointee (FactT.the-row .written))) l46)
-          ∷ ‵ (fat fullShare (sliceTy (tyRef erased mut (tyInt w32))) l45 0 s·ids)
-          ∷ ‵ (fdies (sliceTy (tyRef erased mut (tyInt w32))) l45)
-          ∷ ‵ (fat fullShare (tyRef erased mut (tyInt w32)) l44 0 (vptr b·ids o·ids))
-          ∷ ‵ (fdies (tyRef erased mut (tyInt w32)) l44)
-          ∷ ‵ (fat fullShare (sliceTy (tyRef erased mut (tyInt w32))) l43 0 s·cells)
-          ∷ ‵ (fdies (sliceTy (tyRef erased mut (tyInt w32))) l43)
-          ∷ ‵ (fat fullShare (tyRef erased mut (tyInt w32)) l42 0 (vptr b·cells o·cells))
-          ∷ ‵ (fdies (tyRef erased mut (tyInt w32)) l42)
-          ∷ ‵ (fat fullShare (sliceTy (tyRef erased mut (tyInt w64))) l41 0 s·feet)
-          ∷ ‵ (fdies (sliceTy (tyRef erased mut (tyInt w64))) l41)
-          ∷ ‵ (fat fullShare (tyRef erased mut (tyInt w64)) l40 0 (vptr b·feet o·feet))
-          ∷ ‵ (fdies (tyRef erased mut (tyInt w64)) l40)
-          ∷ ‵ (fat fullShare (sliceTy (tyRef erased mut (tyInt w32))) l39 0 s·kept)
-          ∷ ‵ (fdies (sliceTy (tyRef erased mut (tyInt w32))) l39)
-          ∷ ‵ (fat fullShare (tyRef erased mut (tyInt w32)) l38 0 (vptr b·kept o·kept))
-          ∷ ‵ (fdies (tyRef erased mut (tyInt w32)) l38)
-          ∷ ‵ (fat fullShare (sliceTy (tyRef erased mut (tyInt w32))) l37 0 s·lists)
-          ∷ ‵ (fdies (sliceTy (tyRef erased mut (tyInt w32))) l37)
-          ∷ ‵ (fat fullShare (tyRef erased mut (tyInt w32)) l36 0 (vptr b·lists o·lists))
-          ∷ ‵ (fdies (tyRef erased mut (tyInt w32)) l36)
-          ∷ ‵ (fat fullShare (sliceTy (tyRef erased mut (tyInt w32))) l35 0 s·rows)
-          ∷ ‵ (fdies (sliceTy (tyRef erased mut (tyInt w32))) l35)
-          ∷ ‵ (fat fullShare (tyRef erased mut (tyInt w32)) l34 0 (vptr b·rows o·rows))
-          ∷ ‵ (fdies (tyRef erased mut (tyInt w32)) l34)
-          ∷ ‵ (fat fullShare (sliceTy (tyRef erased mut (tyInt w32))) l33 0 s·defs)
-          ∷ ‵ (fdies (sliceTy (tyRef erased mut (tyInt w32))) l33)
-          ∷ ‵ (fat fullShare (tyRef erased mut (tyInt w32)) l32 0 (vptr b·defs o·defs))
-          ∷ ‵ (fdies (tyRef erased mut (tyInt w32)) l32)
-          ∷ ‵ (fat fullShare (sliceTy (tyRef erased mut (tyInt w32))) l31 0 s·words)
-          ∷ ‵ (fdies (sliceTy (tyRef erased mut (tyInt w32))) l31)
-          ∷ ‵ (fat fullShare (tyRef erased mut (tyInt w32)) l30 0 (vptr b·words o·words))
-          ∷ ‵ (fdies (tyRef erased mut (tyInt w32)) l30)
-          ∷ ‵ (fat fullShare (sliceTy (tyRef erased mut (tyInt w32))) l29 0 s·index)
-          ∷ ‵ (fdies (sliceTy (tyRef erased mut (tyInt w32))) l29)
-          ∷ ‵ (fat fullShare (tyRef erased mut (tyInt w32)) l28 0 (vptr b·index o·index))
-          ∷ ‵ (fdies (tyRef erased mut (tyInt w32)) l28)
-          ∷ ‵ (fat fullShare (sliceTy (tyRef erased mut (tyInt w32))) l27 0 s·vars)
-          ∷ ‵ (fdies (sliceTy (tyRef erased mut (tyInt w32))) l27)
-          ∷ ‵ (fat fullShare (tyRef erased mut (tyInt w32)) l26 0 (vptr b·vars o·vars))
-          ∷ ‵ (fdies (tyRef erased mut (tyInt w32)) l26)
-          ∷ ‵ (fat fullShare tyBool l25 0 (vbool r1))
-          ∷ ‵ (fdies tyBool l25)
-          ∷ ‵ (fat fullShare RunL.mir l24 0 v2)
-          ∷ ‵ (fdies RunL.mir l24)
-          ∷ ‵ (fat fullShare RunL.mir l23 0 (LL.val RunT.the-type RunL.the-laws (x .st)))
-          ∷ ‵ (fdies RunL.mir l23)
-          ∷ ‵ (fat fullShare (tyRef (named 20) mut (pointee (CountsT.the-row .written))) l22 0 s·counts)
-          ∷ ‵ (fdies (tyRef (named 20) mut (pointee (CountsT.the-row .written))) l22)
-          ∷ ‵ (fat fullShare (sliceTy (tyRef (named 19) mut (pointee (FactT.the-row .written)))) l21 0 s·facts)
-          ∷ ‵ (fdies (sliceTy (tyRef (named 19) mut (pointee (FactT.the-row .written)))) l21)
-          ∷ ‵ (fat fullShare (sliceTy (tyRef (named 18) mut (tyInt w32))) l20 0 s·ids)
-          ∷ ‵ (fdies (sliceTy (tyRef (named 18) mut (tyInt w32))) l20)
-          ∷ ‵ (fat fullShare (sliceTy (tyRef (named 17) mut (tyInt w32))) l19 0 s·cells)
-          ∷ ‵ (fdies (sliceTy (tyRef (named 17) mut (tyInt w32))) l19)
-          ∷ ‵ (fat fullShare (sliceTy (tyRef (named 16) mut (tyInt w64))) l18 0 s·feet)
-          ∷ ‵ (fdies (sliceTy (tyRef (named 16) mut (tyInt w64))) l18)
-          ∷ ‵ (fat fullShare (sliceTy (tyRef (named 15) mut (tyInt w32))) l17 0 s·kept)
-          ∷ ‵ (fdies (sliceTy (tyRef (named 15) mut (tyInt w32))) l17)
-          ∷ ‵ (fat fullShare (sliceTy (tyRef (named 14) mut (tyInt w32))) l16 0 s·lists)
-          ∷ ‵ (fdies (sliceTy (tyRef (named 14) mut (tyInt w32))) l16)
-          ∷ ‵ (fat fullShare (sliceTy (tyRef (named 13) mut (tyInt w32))) l15 0 s·rows)
-          ∷ ‵ (fdies (sliceTy (tyRef (named 13) mut (tyInt w32))) l15)
-          ∷ ‵ (fat fullShare (sliceTy (tyRef (named 12) mut (tyInt w32))) l14 0 s·defs)
-          ∷ ‵ (fdies (sliceTy (tyRef (named 12) mut (tyInt w32))) l14)
-          ∷ ‵ (fat fullShare (sliceTy (tyRef (named 11) mut (tyInt w32))) l13 0 s·words)
-          ∷ ‵ (fdies (sliceTy (tyRef (named 11) mut (tyInt w32))) l13)
-          ∷ ‵ (fat fullShare (sliceTy (tyRef (named 10) mut (tyInt w32))) l12 0 s·index)
-          ∷ ‵ (fdies (sliceTy (tyRef (named 10) mut (tyInt w32))) l12)
-          ∷ ‵ (fat fullShare (sliceTy (tyRef (named 9) mut (tyInt w32))) l11 0 s·vars)
-          ∷ ‵ (fdies (sliceTy (tyRef (named 9) mut (tyInt w32))) l11)
-          ∷ ‵ (fat fullShare (sliceTy (tyRef (named 8) imm (tyInt w32))) l10 0 s·patterns)
-          ∷ ‵ (fdies (sliceTy (tyRef (named 8) imm (tyInt w32))) l10)
-          ∷ ‵ (fat fullShare (sliceTy (tyRef (named 7) imm (tyInt w32))) l9 0 s·rulevars)
-          ∷ ‵ (fdies (sliceTy (tyRef (named 7) imm (tyInt w32))) l9)
-          ∷ ‵ (fat fullShare (sliceTy (tyRef (named 6) imm (tyInt w32))) l8 0 s·rules)
-          ∷ ‵ (fdies (sliceTy (tyRef (named 6) imm (tyInt w32))) l8)
-          ∷ ‵ (fat fullShare (sliceTy (tyRef (named 5) imm (tyInt w32))) l7 0 s·inputs)
-          ∷ ‵ (fdies (sliceTy (tyRef (named 5) imm (tyInt w32))) l7)
-          ∷ ‵ (fat fullShare (sliceTy (tyRef (named 4) imm (tyInt w32))) l6 0 s·symbols)
-          ∷ ‵ (fdies (sliceTy (tyRef (named 4) imm (tyInt w32))) l6)
-          ∷ ‵ (fat fullShare (sliceTy (tyRef (named 3) imm (tyInt w32))) l5 0 s·sorts)
-          ∷ ‵ (fdies (sliceTy (tyRef (named 3) imm (tyInt w32))) l5)
-          ∷ ‵ (fat fullShare RunL.mir l4 0 v·s)
-          ∷ ‵ (fdies RunL.mir l4)
-          ∷ ‵ (fat fullShare (sliceTy (tyRef (named 2) imm (tyInt w8))) l3 0 s·proof)
-          ∷ ‵ (fdies (sliceTy (tyRef (named 2) imm (tyInt w8))) l3)
-          ∷ ‵ (fat fullShare (sliceTy (tyRef (named 1) imm (tyInt w8))) l2 0 s·goals)
-          ∷ ‵ (fdies (sliceTy (tyRef (named 1) imm (tyInt w8))) l2)
-          ∷ ‵ (fat fullShare (sliceTy (tyRef (named 0) imm (tyInt w8))) l1 0 s·theory)
-          ∷ ‵ (fdies (sliceTy (tyRef (named 0) imm (tyInt w8))) l1)
-          ∷ ‵ (froom RunL.mir l0 0)
-          ∷ ‵ (fdies RunL.mir l0) ∷ [])
-          (runs C Λ (En l0 l1 l2 l3 l4 l5 l6 l7 l8 l9 l10 l11 l12 l13 l14 l15 l16 l17 l18 l19 l20 l21 l22 l23 l24 l25 l26 l27 l28 l29 l30 l31 l32 l33
-          l34 l35 l36 l37 l38 l39 l40 l41 l42 l43 l44 l45 l46 l47 l48) (rest-of
-          (rest-of (rest-of (rest-of (rest-of (rest-of (rest-of (rest-of (rest-of
-          (rest-of (rest-of (rest-of (rest-of (rest-of (rest-of (rest-of (rest-of
-          (rest-of (rest-of (rest-of (rest-of (rest-of (rest-of (rest-of (rest-of (rest-of pieces.turn-1))))))))))))))))))))))))))
-          (anyQ (Turned l0 l1 l2 l3 l4 l5 l6 l7 l8 l9 l10 l11 l12 l13 l14 l15 l16 l17 l18 l19 l20 l21 l22 l23 l24 l25 l26 l27 l28 l29 l30 l31 l32 l33
-          l34 l35 l36 l37 l38 l39 l40 l41 l42 l43 l44 l45 l46 l47 l48 x)))
-      unfolding afterTurn
-      turn·seg·2 l0 l1 l2 l3 l4 l5 l6 l7 l8 l9 l10 l11 l12 l13 l14 l15 l16 l17 l18 l19 l20 l21 l22 l23 l24 l25 l26 l27 l28 l29 l30 l31 l32 l33 l34 l35
-          l36 l37 l38 l39 l40 l41 l42 l43 l44 l45 l46 l47 l48 x v1 r1 ws1 e1 is1 held ν·2·10 δ·2·10 ν·2·11 δ·2·11 ν·2·12 δ·2·12 ν·2·13 δ·2·13 ν·2·14
-          δ·2·14 ν·2·15 δ·2·15 ν·2·16 δ·2·16 ν·2·17 δ·2·17 ν·2·18 δ·2·18 ν·2·19 δ·2·19 ν·2·20 δ·2·20 ν·2·21 δ·2·21 v2 r2 ws2 e2 len·2·vars
-          len·2·index len·2·words len·2·defs len·2·rows len·2·lists len·2·kept len·2·feet len·2·cells len·2·ids len·2·facts is2 =
-          move ! (11 ∷ []) $
-          lft-end ! tt $
-          move ! (0 ∷ 44 ∷ 32 ∷ []) $
-          use3 W (later (‵ (MutSlice (named 9) κ·vars u32 .own (ref·vars γ·vars (ws2 .1 .1 .1 .1 .1 .1 .1 .1 .1 .1 .0)) (s·vars ∷ []))
-          ⊛ ‵ (flft κ·vars q·vars))) (again-back u32 κ·vars (ν·2·10 ∷ []) q·vars γ·vars b·vars o·vars 𝓤 H A W (named 9) (named 9) (length vars)
-          (x .Z .vars) room·vars (x .vars-long) δ·2·10 (ws2 .1 .1 .1 .1 .1 .1 .1 .1 .1 .1 .0) len·2·vars) $ await ! tt $ split ! $
-          move ! (12 ∷ []) $
-          lft-end ! tt $
-          move ! (0 ∷ 43 ∷ 32 ∷ []) $
-          use3 W (later (‵ (MutSlice (named 10) κ·index u32 .own (ref·index γ·index (ws2 .1 .1 .1 .1 .1 .1 .1 .1 .1 .1 .1 .0)) (s·index ∷ []))
-          ⊛ ‵ (flft κ·index q·index))) (again-back u32 κ·index (ν·2·11 ∷ []) q·index γ·index b·index o·index 𝓤 H A W (named 10) (named 10)
-          (length index) (x .Z .index) room·index (x .index-long) δ·2·11 (ws2 .1 .1 .1 .1 .1 .1 .1 .1 .1 .1 .1 .0) len·2·index) $ await ! tt $ split ! $
-          move ! (13 ∷ []) $
-          lft-end ! tt $
-          move ! (0 ∷ 42 ∷ 32 ∷ []) $
-          use3 W (later (‵ (MutSlice (named 11) κ·words u32 .own (ref·words γ·words (ws2 .1 .1 .1 .1 .1 .1 .1 .1 .1 .1 .1 .1 .0)) (s·words ∷ []))
-          ⊛ ‵ (flft κ·words q·words))) (again-back u32 κ·words (ν·2·12 ∷ []) q·words γ·words b·words o·words 𝓤 H A W (named 11) (named 11)
-          (length words) (x .Z .words) room·words (x .words-long) δ·2·12 (ws2 .1 .1 .1 .1 .1 .1 .1 .1 .1 .1 .1 .1 .0) len·2·words) $ await ! tt $
-          split ! $
-          move ! (14 ∷ []) $
-          lft-end ! tt $
-          move ! (0 ∷ 41 ∷ 32 ∷ []) $
-          use3 W (later (‵ (MutSlice (named 12) κ·defs u32 .own (ref·defs γ·defs (ws2 .1 .1 .1 .1 .1 .1 .1 .1 .1 .1 .1 .1 .1 .0)) (s·defs ∷ []))
-          ⊛ ‵ (flft κ·defs q·defs))) (again-back u32 κ·defs (ν·2·13 ∷ []) q·defs γ·defs b·defs o·defs 𝓤 H A W (named 12) (named 12) (length defs)
-          (x .Z .defs) room·defs (x .defs-long) δ·2·13 (ws2 .1 .1 .1 .1 .1 .1 .1 .1 .1 .1 .1 .1 .1 .0) len·2·defs) $ await ! tt $ split ! $
-          move ! (15 ∷ []) $
-          lft-end ! tt $
-          move ! (0 ∷ 40 ∷ 32 ∷ []) $
-          use3 W (later (‵ (MutSlice (named 13) κ·rows u32 .own (ref·rows γ·rows (ws2 .1 .1 .1 .1 .1 .1 .1 .1 .1 .1 .1 .1 .1 .1 .0)) (s·rows ∷ []))
-          ⊛ ‵ (flft κ·rows q·rows))) (again-back u32 κ·rows (ν·2·14 ∷ []) q·rows γ·rows b·rows o·rows 𝓤 H A W (named 13) (named 13) (length rows)
-          (x .Z .goals) room·rows (x .goals-long) δ·2·14 (ws2 .1 .1 .1 .1 .1 .1 .1 .1 .1 .1 .1 .1 .1 .1 .0) len·2·rows) $ await ! tt $ split ! $
-          move ! (16 ∷ []) $
-          lft-end ! tt $
-          move ! (0 ∷ 39 ∷ 32 ∷ []) $
-          use3 W (later (‵ (MutSlice (named 14) κ·lists u32 .own (ref·lists γ·lists (ws2 .1 .1 .1 .1 .1 .1 .1 .1 .1 .1 .1 .1 .1 .1 .1 .0))
-          (s·lists ∷ [])) ⊛ ‵ (flft κ·lists q·lists))) (again-back u32 κ·lists (ν·2·15 ∷ []) q·lists γ·lists b·lists o·lists 𝓤 H A W (named 14)
-          (named 14) (length lists) (x .Z .lists) room·lists (x .lists-long) δ·2·15 (ws2 .1 .1 .1 .1 .1 .1 .1 .1 .1 .1 .1 .1 .1 .1 .1 .0) len·2·lists) $
-          await ! tt $ split ! $
-          move ! (17 ∷ []) $
-          lft-end ! tt $
-          move ! (0 ∷ 38 ∷ 32 ∷ []) $
-          use3 W (later (‵ (MutSlice (named 15) κ·kept u32 .own (ref·kept γ·kept (ws2 .1 .1 .1 .1 .1 .1 .1 .1 .1 .1 .1 .1 .1 .1 .1 .1 .0))
-          (s·kept ∷ [])) ⊛ ‵ (flft κ·kept q·kept))) (again-back u32 κ·kept (ν·2·16 ∷ []) q·kept γ·kept b·kept o·kept 𝓤 H A W (named 15) (named 15)
-          (length kept) (x .rows-now) room·kept (x .rows-long) δ·2·16 (ws2 .1 .1 .1 .1 .1 .1 .1 .1 .1 .1 .1 .1 .1 .1 .1 .1 .0) len·2·kept) $
-          await ! tt $ split ! $
-          move ! (18 ∷ []) $
-          lft-end ! tt $
-          move ! (0 ∷ 37 ∷ 32 ∷ []) $
-          use3 W (later (‵ (MutSlice (named 16) κ·feet u64 .own (ref·feet γ·feet (ws2 .1 .1 .1 .1 .1 .1 .1 .1 .1 .1 .1 .1 .1 .1 .1 .1 .1 .0))
-          (s·feet ∷ [])) ⊛ ‵ (flft κ·feet q·feet))) (again-back u64 κ·feet (ν·2·17 ∷ []) q·feet γ·feet b·feet o·feet 𝓤 H A W (named 16) (named 16)
-          (length feet) (x .feet-now) room·feet (x .feet-long) δ·2·17 (ws2 .1 .1 .1 .1 .1 .1 .1 .1 .1 .1 .1 .1 .1 .1 .1 .1 .1 .0) len·2·feet) $
-          await ! tt $ split ! $
-          move ! (19 ∷ []) $
-          lft-end ! tt $
-          move ! (0 ∷ 36 ∷ 32 ∷ []) $
-          use3 W (later (‵ (MutSlice (named 17) κ·cells u32 .own (ref·cells γ·cells (ws2 .1 .1 .1 .1 .1 .1 .1 .1 .1 .1 .1 .1 .1 .1 .1 .1 .1 .1 .0))
-          (s·cells ∷ [])) ⊛ ‵ (flft κ·cells q·cells))) (again-back u32 κ·cells (ν·2·18 ∷ []) q·cells γ·cells b·cells o·cells 𝓤 H A W (named 17)
-          (named 17) (length cells) (x .cells-now) room·cells (x .cells-long) δ·2·18 (ws2 .1 .1 .1 .1 .1 .1 .1 .1 .1 .1 .1 .1 .1 .1 .1 .1 .1 .1 .0)
-          len·2·cells) $ await ! tt $ split ! $
-          move ! (20 ∷ []) $
-          lft-end ! tt $
-          move ! (0 ∷ 35 ∷ 32 ∷ []) $
-          use3 W (later (‵ (MutSlice (named 18) κ·ids u32 .own (ref·ids γ·ids (ws2 .1 .1 .1 .1 .1 .1 .1 .1 .1 .1 .1 .1 .1 .1 .1 .1 .1 .1 .1 .0))
-          (s·ids ∷ [])) ⊛ ‵ (flft κ·ids q·ids))) (again-back u32 κ·ids (ν·2·19 ∷ []) q·ids γ·ids b·ids o·ids 𝓤 H A W (named 18) (named 18) (length ids)
-          (x .ids-now) room·ids (x .ids-long) δ·2·19 (ws2 .1 .1 .1 .1 .1 .1 .1 .1 .1 .1 .1 .1 .1 .1 .1 .1 .1 .1 .1 .0) len·2·ids) $ await ! tt $
-          split ! $
-          move ! (21 ∷ []) $
-          lft-end ! tt $
-          move ! (0 ∷ 34 ∷ 32 ∷ []) $
-          use3 W (later (‵ (MutSlice (named 19) κ·facts FactT.the-row .own (ref·facts γ·facts
-          (ws2 .1 .1 .1 .1 .1 .1 .1 .1 .1 .1 .1 .1 .1 .1 .1 .1 .1 .1 .1 .1 .0)) (s·facts ∷ [])) ⊛ ‵ (flft κ·facts q·facts)))
-          (again-back FactT.the-row κ·facts (ν·2·20 ∷ []) q·facts γ·facts b·facts o·facts 𝓤 H A W (named 19) (named 19) (length facts) (x .fs-now)
-          room·facts (x .facts-long) δ·2·20 (ws2 .1 .1 .1 .1 .1 .1 .1 .1 .1 .1 .1 .1 .1 .1 .1 .1 .1 .1 .1 .1 .0) len·2·facts) $ await ! tt $ split ! $
-          move ! (22 ∷ []) $
-          lft-end ! tt $
-          move ! (0 ∷ 33 ∷ 32 ∷ []) $
-          use3 W (later (‵ (MutRef (named 20) κ·counts CountsT.the-row .own (ref·counts γ·counts
-          (ws2 .1 .1 .1 .1 .1 .1 .1 .1 .1 .1 .1 .1 .1 .1 .1 .1 .1 .1 .1 .1 .1 .0)) (s·counts ∷ [])) ⊛ ‵ (flft κ·counts q·counts)))
-          (thin-back 𝓤 H A W CountsT.the-row (named 20) κ·counts (ν·2·21 ∷ []) q·counts γ·counts b·counts o·counts δ·2·21 (x .counts-now)
-          (ws2 .1 .1 .1 .1 .1 .1 .1 .1 .1 .1 .1 .1 .1 .1 .1 .1 .1 .1 .1 .1 .1 .0)) $ await ! tt $ split ! $
-          assigns-last ! (of-opd ! (load ! (from ! (stop !)) (look ! 90 refl))) (from ! (stop !))
-          (store ! 92 refl (LL.lawful RunT.the-type RunL.the-laws 𝓤 H A W .typed r2 _ is2 .0)) $
-          rewrite ! 92 (λ (u : Val). ‵ (fat fullShare RunL.mir l23 0 u)) (ap only ((LL.tells RunT.the-type RunL.the-laws) r2 (v2 ∷ []) is2)) refl $
-          forget ! 90 refl $
-          forget ! 88 refl $
-          forget ! 86 refl $
-          forget ! 84 refl $
-          forget ! 82 refl $
-          forget ! 80 refl $
-          forget ! 78 refl $
-          forget ! 76 refl $
-          forget ! 74 refl $
-          forget ! 72 refl $
-          forget ! 70 refl $
-          forget ! 68 refl $
-          forget ! 66 refl $
-          forget ! 64 refl $
-          forget ! 62 refl $
-          forget ! 60 refl $
-          forget ! 58 refl $
-          forget ! 56 refl $
-          forget ! 54 refl $
-          forget ! 52 refl $
-          forget ! 50 refl $
-          forget ! 48 refl $
-          forget ! 46 refl $
-          forget ! 44 refl $
-          forget ! 42 refl $
-          keep ! (41 ∷ 40 ∷ 39 ∷ 38 ∷ 37 ∷ 36 ∷ 35 ∷ 34 ∷ 33 ∷ 22 ∷ 20 ∷ 18 ∷ 16 ∷ 14 ∷ 12 ∷ 10 ∷ 8 ∷ 6 ∷ 4 ∷ 2 ∷ 0 ∷ 32 ∷ 31 ∷ 30 ∷ 29 ∷ 28 ∷ 27 ∷ 26
-          ∷ 25 ∷ 24 ∷ 23 ∷ 21 ∷ 19 ∷ 17 ∷ 15 ∷ 13 ∷ 11 ∷ 9 ∷ 7 ∷ 5 ∷ 3 ∷ 1 ∷ 42 ∷ 43 ∷ 44 ∷ 45 ∷ 46 ∷ 47 ∷ 48 ∷ 49 ∷ 50 ∷ 51 ∷ 52 ∷ 53 ∷ 54 ∷ 55 ∷ 56
-          ∷ 57 ∷ 58 ∷ 59 ∷ 60 ∷ 61 ∷ 62 ∷ 63 ∷ 64 ∷ 65 ∷ 66 ∷ 67 ∷ 68 ∷ 69 ∷ 70 ∷ 71 ∷ 72 ∷ 73 ∷ 74 ∷ 75 ∷ 76 ∷ 77 ∷ 78 ∷ 79 ∷ 80 ∷ 81 ∷ 82 ∷ 83 ∷ 84
-          ∷ 85 ∷ 86 ∷ 87 ∷ 88 ∷ 89 ∷ 90 ∷ 91 ∷ 92 ∷ 93 ∷ 94 ∷ 95 ∷ 96 ∷ 97 ∷ 98 ∷ 99 ∷ 100 ∷ 101 ∷ 102 ∷ 103 ∷ 104 ∷ 105 ∷ 106 ∷ 107 ∷ 108 ∷ 109 ∷ 110
-          ∷ 111 ∷ 112 ∷ 113 ∷ 114 ∷ 115 ∷ 116 ∷ 117 ∷ 118 ∷ 119 ∷ 120 ∷ 121 ∷ 122 ∷ 123 ∷ 124 ∷ 125 ∷ 126 ∷ 127 ∷ 128 ∷ 129 ∷ 130 ∷ 131 ∷ 132 ∷ 133
-          ∷ 134 ∷ 135 ∷ 136 ∷ 137 ∷ 138 ∷ 139 ∷ []) $ again ! (Fewer theory goals proof (theoryLists sorts symbols inputs rules rulevars patterns)
-          (working vars index words defs rows lists) kept feet cells ids s facts)
-          (At l0 l1 l2 l3 l4 l5 l6 l7 l8 l9 l10 l11 l12 l13 l14 l15 l16 l17 l18 l19 l20 l21 l22 l23 l24 l25 l26 l27 l28 l29 l30 l31 l32 l33 l34 l35 l36
-          l37 l38 l39 l40 l41 l42 l43 l44 l45 l46 l47 l48) x (next theory goals proof (theoryLists sorts symbols inputs rules rulevars patterns)
-          (working vars index words defs rows lists) kept feet cells ids s facts x e2 (is-going r1 e1 held) v2 is2 len·2·vars len·2·index len·2·words
-          len·2·defs len·2·rows len·2·lists len·2·kept len·2·feet len·2·cells len·2·ids len·2·facts)
-          (less theory goals proof (theoryLists sorts symbols inputs rules rulevars patterns) (working vars index words defs rows lists) kept feet cells
-          ids s facts x e2 (is-going r1 e1 held))
-
-      turn·seg·1 : (l0 : ℕ) (l1 : ℕ) (l2 : ℕ) (l3 : ℕ) (l4 : ℕ) (l5 : ℕ) (l6 : ℕ) (l7 : ℕ) (l8 : ℕ) (l9 : ℕ) (l10 : ℕ) (l11 : ℕ) (l12 : ℕ) (l13 : ℕ)
-          (l14 : ℕ) (l15 : ℕ) (l16 : ℕ) (l17 : ℕ) (l18 : ℕ) (l19 : ℕ) (l20 : ℕ) (l21 : ℕ) (l22 : ℕ) (l23 : ℕ) (l24 : ℕ) (l25 : ℕ) (l26 : ℕ) (l27 : ℕ)
-          (l28 : ℕ) (l29 : ℕ) (l30 : ℕ) (l31 : ℕ) (l32 : ℕ) (l33 : ℕ) (l34 : ℕ) (l35 : ℕ) (l36 : ℕ) (l37 : ℕ) (l38 : ℕ) (l39 : ℕ) (l40 : ℕ) (l41 : ℕ)
-          (l42 : ℕ) (l43 : ℕ) (l44 : ℕ) (l45 : ℕ) (l46 : ℕ) (l47 : ℕ) (l48 : ℕ)
-          (x : Looping theory goals proof (theoryLists sorts symbols inputs rules rulevars patterns) (working vars index words defs rows lists) kept
-          feet cells ids s facts) (v1 : Val) (r1 : Bool) (ws1 : (Unit {0} × Unit {0})) (e1 : r1 ≡ x .st .going) (is1 : Is bool r1 (v1 ∷ []))
-          (held : Holds r1) (ν·2·10 : ℕ) (δ·2·10 : GName) →
-          Sq W (‵ (MutSlice (named 9) (ν·2·10 ∷ []) u32 .own (ref·vars δ·2·10 (x .Z .vars)) (s·vars ∷ []))
-          ∷ ‵ (LentAgain u32 κ·vars (ν·2·10 ∷ []) q·vars γ·vars b·vars o·vars δ·2·10 (x .Z .vars))
-          ∷ ‵ (flft (ν·2·10 ∷ []) fullShare)
-          ∷ ‵ (ShrSlice (named 8) κ·patterns u32 .own (ref·patterns γ·patterns patterns) (s·patterns ∷ []))
-          ∷ ‵ (ShrSlice (named 8) κ·patterns u32 .own (ref·patterns γ·patterns patterns) (s·patterns ∷ []))
-          ∷ ‵ (ShrSlice (named 7) κ·rulevars u32 .own (ref·rulevars γ·rulevars rulevars) (s·rulevars ∷ []))
-          ∷ ‵ (ShrSlice (named 7) κ·rulevars u32 .own (ref·rulevars γ·rulevars rulevars) (s·rulevars ∷ []))
-          ∷ ‵ (ShrSlice (named 6) κ·rules u32 .own (ref·rules γ·rules rules) (s·rules ∷ []))
-          ∷ ‵ (ShrSlice (named 6) κ·rules u32 .own (ref·rules γ·rules rules) (s·rules ∷ []))
-          ∷ ‵ (ShrSlice (named 5) κ·inputs u32 .own (ref·inputs γ·inputs inputs) (s·inputs ∷ []))
-          ∷ ‵ (ShrSlice (named 5) κ·inputs u32 .own (ref·inputs γ·inputs inputs) (s·inputs ∷ []))
-          ∷ ‵ (ShrSlice (named 4) κ·symbols u32 .own (ref·symbols γ·symbols symbols) (s·symbols ∷ []))
-          ∷ ‵ (ShrSlice (named 4) κ·symbols u32 .own (ref·symbols γ·symbols symbols) (s·symbols ∷ []))
-          ∷ ‵ (ShrSlice (named 3) κ·sorts u32 .own (ref·sorts γ·sorts sorts) (s·sorts ∷ []))
-          ∷ ‵ (ShrSlice (named 3) κ·sorts u32 .own (ref·sorts γ·sorts sorts) (s·sorts ∷ []))
-          ∷ ‵ (ShrSlice (named 2) κ·proof u8 .own (ref·proof γ·proof proof) (s·proof ∷ []))
-          ∷ ‵ (ShrSlice (named 2) κ·proof u8 .own (ref·proof γ·proof proof) (s·proof ∷ []))
-          ∷ ‵ (ShrSlice (named 1) κ·goals u8 .own (ref·goals γ·goals goals) (s·goals ∷ []))
-          ∷ ‵ (ShrSlice (named 1) κ·goals u8 .own (ref·goals γ·goals goals) (s·goals ∷ []))
-          ∷ ‵ (ShrSlice (named 0) κ·theory u8 .own (ref·theory γ·theory theory) (s·theory ∷ []))
-          ∷ ‵ (ShrSlice (named 0) κ·theory u8 .own (ref·theory γ·theory theory) (s·theory ∷ []))
-          ∷ ‵ (MutSlice (named 10) κ·index u32 .own (ref·index γ·index (x .Z .index)) (s·index ∷ []))
-          ∷ ‵ (MutSlice (named 11) κ·words u32 .own (ref·words γ·words (x .Z .words)) (s·words ∷ []))
-          ∷ ‵ (MutSlice (named 12) κ·defs u32 .own (ref·defs γ·defs (x .Z .defs)) (s·defs ∷ []))
-          ∷ ‵ (MutSlice (named 13) κ·rows u32 .own (ref·rows γ·rows (x .Z .goals)) (s·rows ∷ []))
-          ∷ ‵ (MutSlice (named 14) κ·lists u32 .own (ref·lists γ·lists (x .Z .lists)) (s·lists ∷ []))
-          ∷ ‵ (MutSlice (named 15) κ·kept u32 .own (ref·kept γ·kept (x .rows-now)) (s·kept ∷ []))
-          ∷ ‵ (MutSlice (named 16) κ·feet u64 .own (ref·feet γ·feet (x .feet-now)) (s·feet ∷ []))
-          ∷ ‵ (MutSlice (named 17) κ·cells u32 .own (ref·cells γ·cells (x .cells-now)) (s·cells ∷ []))
-          ∷ ‵ (MutSlice (named 18) κ·ids u32 .own (ref·ids γ·ids (x .ids-now)) (s·ids ∷ []))
-          ∷ ‵ (MutSlice (named 19) κ·facts FactT.the-row .own (ref·facts γ·facts (x .fs-now)) (s·facts ∷ []))
-          ∷ ‵ (MutRef (named 20) κ·counts CountsT.the-row .own (ref·counts γ·counts (x .counts-now)) (s·counts ∷ []))
-          ∷ ‵ (flft κ·theory q·theory)
-          ∷ ‵ (flft κ·goals q·goals)
-          ∷ ‵ (flft κ·proof q·proof)
-          ∷ ‵ (flft κ·sorts q·sorts)
-          ∷ ‵ (flft κ·symbols q·symbols)
-          ∷ ‵ (flft κ·inputs q·inputs)
-          ∷ ‵ (flft κ·rules q·rules)
-          ∷ ‵ (flft κ·rulevars q·rulevars)
-          ∷ ‵ (flft κ·patterns q·patterns)
-          ∷ ‵ (flft κ·index q·index)
-          ∷ ‵ (flft κ·words q·words)
-          ∷ ‵ (flft κ·defs q·defs)
-          ∷ ‵ (flft κ·rows q·rows)
-          ∷ ‵ (flft κ·lists q·lists)
-          ∷ ‵ (flft κ·kept q·kept)
-          ∷ ‵ (flft κ·feet q·feet)
-          ∷ ‵ (flft κ·cells q·cells)
-          ∷ ‵ (flft κ·ids q·ids)
-          ∷ ‵ (flft κ·facts q·facts)
-          ∷ ‵ (flft κ·counts q·counts)
-          ∷ ‵ (fat fullShare (tyRef erased mut (pointee (CountsT.the-row .written))) l48 0 s·counts)
-          ∷ ‵ (fdies (tyRef erased mut (pointee (CountsT.the-row .written))) l48)
-          ∷ ‵ (fat fullShare (sliceTy (tyRef erased mut (pointee (FactT.the-row .written)))) l47 0 s·facts)
-          ∷ ‵ (fdies (sliceTy (tyRef erased mut (pointee (FactT.the-row .written)))) l47)
-          ∷ ‵ (fat fullShare (tyRef erased mut (pointee (FactT.the-row .written))) l46 0 (vptr b·facts o·facts))
-          ∷ ‵ (fdies (tyRef erased mut (pointee (FactT.the-row .written))) l46)
-          ∷ ‵ (fat fullShare (sliceTy (tyRef erased mut (tyInt w32))) l45 0 s·ids)
-          ∷ ‵ (fdies (sliceTy (tyRef erased mut (tyInt w32))) l45)
-          ∷ ‵ (fat fullShare (tyRef erased mut (tyInt w32)) l44 0 (vptr b·ids o·ids))
-          ∷ ‵ (fdies (tyRef erased mut (tyInt w32)) l44)
-          ∷ ‵ (fat fullShare (sliceTy (tyRef erased mut (tyInt w32))) l43 0 s·cells)
-          ∷ ‵ (fdies (sliceTy (tyRef erased mut (tyInt w32))) l43)
-          ∷ ‵ (fat fullShare (tyRef erased mut (tyInt w32)) l42 0 (vptr b·cells o·cells))
-          ∷ ‵ (fdies (tyRef erased mut (tyInt w32)) l42)
-          ∷ ‵ (fat fullShare (sliceTy (tyRef erased mut (tyInt w64))) l41 0 s·feet)
-          ∷ ‵ (fdies (sliceTy (tyRef erased mut (tyInt w64))) l41)
-          ∷ ‵ (fat fullShare (tyRef erased mut (tyInt w64)) l40 0 (vptr b·feet o·feet))
-          ∷ ‵ (fdies (tyRef erased mut (tyInt w64)) l40)
-          ∷ ‵ (fat fullShare (sliceTy (tyRef erased mut (tyInt w32))) l39 0 s·kept)
-          ∷ ‵ (fdies (sliceTy (tyRef erased mut (tyInt w32))) l39)
-          ∷ ‵ (fat fullShare (tyRef erased mut (tyInt w32)) l38 0 (vptr b·kept o·kept))
-          ∷ ‵ (fdies (tyRef erased mut (tyInt w32)) l38)
-          ∷ ‵ (fat fullShare (sliceTy (tyRef erased mut (tyInt w32))) l37 0 s·lists)
-          ∷ ‵ (fdies (sliceTy (tyRef erased mut (tyInt w32))) l37)
-          ∷ ‵ (fat fullShare (tyRef erased mut (tyInt w32)) l36 0 (vptr b·lists o·lists))
-          ∷ ‵ (fdies (tyRef erased mut (tyInt w32)) l36)
-          ∷ ‵ (fat fullShare (sliceTy (tyRef erased mut (tyInt w32))) l35 0 s·rows)
-          ∷ ‵ (fdies (sliceTy (tyRef erased mut (tyInt w32))) l35)
-          ∷ ‵ (fat fullShare (tyRef erased mut (tyInt w32)) l34 0 (vptr b·rows o·rows))
-          ∷ ‵ (fdies (tyRef erased mut (tyInt w32)) l34)
-          ∷ ‵ (fat fullShare (sliceTy (tyRef erased mut (tyInt w32))) l33 0 s·defs)
-          ∷ ‵ (fdies (sliceTy (tyRef erased mut (tyInt w32))) l33)
-          ∷ ‵ (fat fullShare (tyRef erased mut (tyInt w32)) l32 0 (vptr b·defs o·defs))
-          ∷ ‵ (fdies (tyRef erased mut (tyInt w32)) l32)
-          ∷ ‵ (fat fullShare (sliceTy (tyRef erased mut (tyInt w32))) l31 0 s·words)
-          ∷ ‵ (fdies (sliceTy (tyRef erased mut (tyInt w32))) l31)
-          ∷ ‵ (fat fullShare (tyRef erased mut (tyInt w32)) l30 0 (vptr b·words o·words))
-          ∷ ‵ (fdies (tyRef erased mut (tyInt w32)) l30)
-          ∷ ‵ (fat fullShare (sliceTy (tyRef erased mut (tyInt w32))) l29 0 s·index)
-          ∷ ‵ (fdies (sliceTy (tyRef erased mut (tyInt w32))) l29)
-          ∷ ‵ (fat fullShare (tyRef erased mut (tyInt w32)) l28 0 (vptr b·index o·index))
-          ∷ ‵ (fdies (tyRef erased mut (tyInt w32)) l28)
-          ∷ ‵ (fat fullShare (sliceTy (tyRef erased mut (tyInt w32))) l27 0 s·vars)
-          ∷ ‵ (fdies (sliceTy (tyRef erased mut (tyInt w32))) l27)
-          ∷ ‵ (fat fullShare (tyRef erased mut (tyInt w32)) l26 0 (vptr b·vars o·vars))
-          ∷ ‵ (fdies (tyRef erased mut (tyInt w32)) l26)
-          ∷ ‵ (fat fullShare tyBool l25 0 (vbool r1))
-          ∷ ‵ (fdies tyBool l25)
-          ∷ ‵ (froom RunL.mir l24 0)
-          ∷ ‵ (fdies RunL.mir l24)
-          ∷ ‵ (fat fullShare RunL.mir l23 0 (LL.val RunT.the-type RunL.the-laws (x .st)))
-          ∷ ‵ (fdies RunL.mir l23)
-          ∷ ‵ (fat fullShare (tyRef (named 20) mut (pointee (CountsT.the-row .written))) l22 0 s·counts)
-          ∷ ‵ (fdies (tyRef (named 20) mut (pointee (CountsT.the-row .written))) l22)
-          ∷ ‵ (fat fullShare (sliceTy (tyRef (named 19) mut (pointee (FactT.the-row .written)))) l21 0 s·facts)
-          ∷ ‵ (fdies (sliceTy (tyRef (named 19) mut (pointee (FactT.the-row .written)))) l21)
-          ∷ ‵ (fat fullShare (sliceTy (tyRef (named 18) mut (tyInt w32))) l20 0 s·ids)
-          ∷ ‵ (fdies (sliceTy (tyRef (named 18) mut (tyInt w32))) l20)
-          ∷ ‵ (fat fullShare (sliceTy (tyRef (named 17) mut (tyInt w32))) l19 0 s·cells)
-          ∷ ‵ (fdies (sliceTy (tyRef (named 17) mut (tyInt w32))) l19)
-          ∷ ‵ (fat fullShare (sliceTy (tyRef (named 16) mut (tyInt w64))) l18 0 s·feet)
-          ∷ ‵ (fdies (sliceTy (tyRef (named 16) mut (tyInt w64))) l18)
-          ∷ ‵ (fat fullShare (sliceTy (tyRef (named 15) mut (tyInt w32))) l17 0 s·kept)
-          ∷ ‵ (fdies (sliceTy (tyRef (named 15) mut (tyInt w32))) l17)
-          ∷ ‵ (fat fullShare (sliceTy (tyRef (named 14) mut (tyInt w32))) l16 0 s·lists)
-          ∷ ‵ (fdies (sliceTy (tyRef (named 14) mut (tyInt w32))) l16)
-          ∷ ‵ (fat fullShare (sliceTy (tyRef (named 13) mut (tyInt w32))) l15 0 s·rows)
-          ∷ ‵ (fdies (sliceTy (tyRef (named 13) mut (tyInt w32))) l15)
-          ∷ ‵ (fat fullShare (sliceTy (tyRef (named 12) mut (tyInt w32))) l14 0 s·defs)
-          ∷ ‵ (fdies (sliceTy (tyRef (named 12) mut (tyInt w32))) l14)
-          ∷ ‵ (fat fullShare (sliceTy (tyRef (named 11) mut (tyInt w32))) l13 0 s·words)
-          ∷ ‵ (fdies (sliceTy (tyRef (named 11) mut (tyInt w32))) l13)
-          ∷ ‵ (fat fullShare (sliceTy (tyRef (named 10) mut (tyInt w32))) l12 0 s·index)
-          ∷ ‵ (fdies (sliceTy (tyRef (named 10) mut (tyInt w32))) l12)
-          ∷ ‵ (fat fullShare (sliceTy (tyRef (named 9) mut (tyInt w32))) l11 0 s·vars)
-          ∷ ‵ (fdies (sliceTy (tyRef (named 9) mut (tyInt w32))) l11)
-          ∷ ‵ (fat fullShare (sliceTy (tyRef (named 8) imm (tyInt w32))) l10 0 s·patterns)
-          ∷ ‵ (fdies (sliceTy (tyRef (named 8) imm (tyInt w32))) l10)
-          ∷ ‵ (fat fullShare (sliceTy (tyRef (named 7) imm (tyInt w32))) l9 0 s·rulevars)
-          ∷ ‵ (fdies (sliceTy (tyRef (named 7) imm (tyInt w32))) l9)
-          ∷ ‵ (fat fullShare (sliceTy (tyRef (named 6) imm (tyInt w32))) l8 0 s·rules)
-          ∷ ‵ (fdies (sliceTy (tyRef (named 6) imm (tyInt w32))) l8)
-          ∷ ‵ (fat fullShare (sliceTy (tyRef (named 5) imm (tyInt w32))) l7 0 s·inputs)
-          ∷ ‵ (fdies (sliceTy (tyRef (named 5) imm (tyInt w32))) l7)
-          ∷ ‵ (fat fullShare (sliceTy (tyRef (named 4) imm (tyInt w32))) l6 0 s·symbols)
-          ∷ ‵ (fdies (sliceTy (tyRef (named 4) imm (tyInt w32))) l6)
-          ∷ ‵ (fat fullShare (sliceTy (tyRef (named 3) imm (tyInt w32))) l5 0 s·sorts)
-          ∷ ‵ (fdies (sliceTy (tyRef (named 3) imm (tyInt w32))) l5)
-          ∷ ‵ (fat fullShare RunL.mir l4 0 v·s)
-          ∷ ‵ (fdies RunL.mir l4)
-          ∷ ‵ (fat fullShare (sliceTy (tyRef (named 2) imm (tyInt w8))) l3 0 s·proof)
-          ∷ ‵ (fdies (sliceTy (tyRef (named 2) imm (tyInt w8))) l3)
-          ∷ ‵ (fat fullShare (sliceTy (tyRef (named 1) imm (tyInt w8))) l2 0 s·goals)
-          ∷ ‵ (fdies (sliceTy (tyRef (named 1) imm (tyInt w8))) l2)
-          ∷ ‵ (fat fullShare (sliceTy (tyRef (named 0) imm (tyInt w8))) l1 0 s·theory)
-          ∷ ‵ (fdies (sliceTy (tyRef (named 0) imm (tyInt w8))) l1)
-          ∷ ‵ (froom RunL.mir l0 0)
-          ∷ ‵ (fdies RunL.mir l0) ∷ [])
-          (runs C Λ (En l0 l1 l2 l3 l4 l5 l6 l7 l8 l9 l10 l11 l12 l13 l14 l15 l16 l17 l18 l19 l20 l21 l22 l23 l24 l25 l26 l27 l28 l29 l30 l31 l32 l33
-          l34 l35 l36 l37 l38 l39 l40 l41 l42 l43 l44 l45 l46 l47 l48) (rest-of
-          (rest-of (rest-of (rest-of (rest-of (rest-of (rest-of (rest-of (rest-of
-          (rest-of (rest-of (rest-of (rest-of (rest-of (rest-of (rest-of (rest-of
-          (rest-of (rest-of (rest-of (rest-of (rest-of (rest-of (rest-of (rest-of pieces.turn-1)))))))))))))))))))))))))
-          (anyQ (Turned l0 l1 l2 l3 l4 l5 l6 l7 l8 l9 l10 l11 l12 l13 l14 l15 l16 l17 l18 l19 l20 l21 l22 l23 l24 l25 l26 l27 l28 l29 l30 l31 l32 l33
-          l34 l35 l36 l37 l38 l39 l40 l41 l42 l43 l44 l45 l46 l47 l48 x)))
-      unfolding afterTurn
-      turn·seg·1 l0 l1 l2 l3 l4 l5 l6 l7 l8 l9 l10 l11 l12 l13 l14 l15 l16 l17 l18 l19 l20 l21 l22 l23 l24 l25 l26 l27 l28 l29 l30 l31 l32 l33 l34 l35
-          l36 l37 l38 l39 l40 l41 l42 l43 l44 l45 l46 l47 l48 x v1 r1 ws1 e1 is1 held ν·2·10 δ·2·10 =
-          lft-new ! tt (λ ν·2·11.
-          move ! (22 ∷ 42 ∷ []) $
-          use2 W (later (some (λ (δ : GName). ‵ (MutSlice (named 10) (ν·2·11 ∷ []) u32 .own (ref·index δ (x .Z .index)) (s·index ∷ []))
-          ⊛ ‵ (LentAgain u32 κ·index (ν·2·11 ∷ []) q·index γ·index b·index o·index δ (x .Z .index)))))
-          (lends-again u32 κ·index (ν·2·11 ∷ []) q·index γ·index b·index o·index 𝓤 H A W (named 10) (named 10) (length index) (x .Z .index)) $
-          await ! tt $ pick ! (λ δ·2·11. split ! $
-          lft-new ! tt (λ ν·2·12.
-          move ! (25 ∷ 44 ∷ []) $
-          use2 W (later (some (λ (δ : GName). ‵ (MutSlice (named 11) (ν·2·12 ∷ []) u32 .own (ref·words δ (x .Z .words)) (s·words ∷ []))
-          ⊛ ‵ (LentAgain u32 κ·words (ν·2·12 ∷ []) q·words γ·words b·words o·words δ (x .Z .words)))))
-          (lends-again u32 κ·words (ν·2·12 ∷ []) q·words γ·words b·words o·words 𝓤 H A W (named 11) (named 11) (length words) (x .Z .words)) $
-          await ! tt $ pick ! (λ δ·2·12. split ! $
-          lft-new ! tt (λ ν·2·13.
-          move ! (28 ∷ 46 ∷ []) $
-          use2 W (later (some (λ (δ : GName). ‵ (MutSlice (named 12) (ν·2·13 ∷ []) u32 .own (ref·defs δ (x .Z .defs)) (s·defs ∷ []))
-          ⊛ ‵ (LentAgain u32 κ·defs (ν·2·13 ∷ []) q·defs γ·defs b·defs o·defs δ (x .Z .defs)))))
-          (lends-again u32 κ·defs (ν·2·13 ∷ []) q·defs γ·defs b·defs o·defs 𝓤 H A W (named 12) (named 12) (length defs) (x .Z .defs)) $ await ! tt $
-          pick ! (λ δ·2·13. split ! $
-          lft-new ! tt (λ ν·2·14.
-          move ! (31 ∷ 48 ∷ []) $
-          use2 W (later (some (λ (δ : GName). ‵ (MutSlice (named 13) (ν·2·14 ∷ []) u32 .own (ref·rows δ (x .Z .goals)) (s·rows ∷ []))
-          ⊛ ‵ (LentAgain u32 κ·rows (ν·2·14 ∷ []) q·rows γ·rows b·rows o·rows δ (x .Z .goals)))))
-          (lends-again u32 κ·rows (ν·2·14 ∷ []) q·rows γ·rows b·rows o·rows 𝓤 H A W (named 13) (named 13) (length rows) (x .Z .goals)) $ await ! tt $
-          pick ! (λ δ·2·14. split ! $
-          lft-new ! tt (λ ν·2·15.
-          move ! (34 ∷ 50 ∷ []) $
-          use2 W (later (some (λ (δ : GName). ‵ (MutSlice (named 14) (ν·2·15 ∷ []) u32 .own (ref·lists δ (x .Z .lists)) (s·lists ∷ []))
-          ⊛ ‵ (LentAgain u32 κ·lists (ν·2·15 ∷ []) q·lists γ·lists b·lists o·lists δ (x .Z .lists)))))
-          (lends-again u32 κ·lists (ν·2·15 ∷ []) q·lists γ·lists b·lists o·lists 𝓤 H A W (named 14) (named 14) (length lists) (x .Z .lists)) $
-          await ! tt $ pick ! (λ δ·2·15. split ! $
-          lft-new ! tt (λ ν·2·16.
-          move ! (37 ∷ 52 ∷ []) $
-          use2 W (later (some (λ (δ : GName). ‵ (MutSlice (named 15) (ν·2·16 ∷ []) u32 .own (ref·kept δ (x .rows-now)) (s·kept ∷ []))
-          ⊛ ‵ (LentAgain u32 κ·kept (ν·2·16 ∷ []) q·kept γ·kept b·kept o·kept δ (x .rows-now)))))
-          (lends-again u32 κ·kept (ν·2·16 ∷ []) q·kept γ·kept b·kept o·kept 𝓤 H A W (named 15) (named 15) (length kept) (x .rows-now)) $ await ! tt $
-          pick ! (λ δ·2·16. split ! $
-          lft-new ! tt (λ ν·2·17.
-          move ! (40 ∷ 54 ∷ []) $
-          use2 W (later (some (λ (δ : GName). ‵ (MutSlice (named 16) (ν·2·17 ∷ []) u64 .own (ref·feet δ (x .feet-now)) (s·feet ∷ []))
-          ⊛ ‵ (LentAgain u64 κ·feet (ν·2·17 ∷ []) q·feet γ·feet b·feet o·feet δ (x .feet-now)))))
-          (lends-again u64 κ·feet (ν·2·17 ∷ []) q·feet γ·feet b·feet o·feet 𝓤 H A W (named 16) (named 16) (length feet) (x .feet-now)) $ await ! tt $
-          pick ! (λ δ·2·17. split ! $
-          lft-new ! tt (λ ν·2·18.
-          move ! (43 ∷ 56 ∷ []) $
-          use2 W (later (some (λ (δ : GName). ‵ (MutSlice (named 17) (ν·2·18 ∷ []) u32 .own (ref·cells δ (x .cells-now)) (s·cells ∷ []))
-          ⊛ ‵ (LentAgain u32 κ·cells (ν·2·18 ∷ []) q·cells γ·cells b·cells o·cells δ (x .cells-now)))))
-          (lends-again u32 κ·cells (ν·2·18 ∷ []) q·cells γ·cells b·cells o·cells 𝓤 H A W (named 17) (named 17) (length cells) (x .cells-now)) $
-          await ! tt $ pick ! (λ δ·2·18. split ! $
-          lft-new ! tt (λ ν·2·19.
-          move ! (46 ∷ 58 ∷ []) $
-          use2 W (later (some (λ (δ : GName). ‵ (MutSlice (named 18) (ν·2·19 ∷ []) u32 .own (ref·ids δ (x .ids-now)) (s·ids ∷ []))
-          ⊛ ‵ (LentAgain u32 κ·ids (ν·2·19 ∷ []) q·ids γ·ids b·ids o·ids δ (x .ids-now)))))
-          (lends-again u32 κ·ids (ν·2·19 ∷ []) q·ids γ·ids b·ids o·ids 𝓤 H A W (named 18) (named 18) (length ids) (x .ids-now)) $ await ! tt $
-          pick ! (λ δ·2·19. split ! $
-          lft-new ! tt (λ ν·2·20.
-          move ! (49 ∷ 60 ∷ []) $
-          use2 W (later (some (λ (δ : GName). ‵ (MutSlice (named 19) (ν·2·20 ∷ []) FactT.the-row .own (ref·facts δ (x .fs-now)) (s·facts ∷ []))
-          ⊛ ‵ (LentAgain FactT.the-row κ·facts (ν·2·20 ∷ []) q·facts γ·facts b·facts o·facts δ (x .fs-now)))))
-          (lends-again FactT.the-row κ·facts (ν·2·20 ∷ []) q·facts γ·facts b·facts o·facts 𝓤 H A W (named 19) (named 19) (length facts) (x .fs-now)) $
-          await ! tt $ pick ! (λ δ·2·20. split ! $
-          lft-new ! tt (λ ν·2·21.
-          move ! (52 ∷ 62 ∷ []) $
-          use2 W (later (some (λ (δ : GName). ‵ (MutRef (named 20) (ν·2·21 ∷ []) CountsT.the-row .own (ref·counts δ (x .counts-now)) (s·counts ∷ []))
-          ⊛ ‵ (ThinLent CountsT.the-row κ·counts (ν·2·21 ∷ []) q·counts γ·counts b·counts o·counts δ (x .counts-now)))))
-          (thin-lends 𝓤 H A W CountsT.the-row (named 20) κ·counts (ν·2·21 ∷ []) q·counts γ·counts b·counts o·counts (named 20) (x .counts-now)) $
-          await ! tt $ pick ! (λ δ·2·21. split ! $
-          move ! (54 ∷ 55 ∷ 56 ∷ 57 ∷ 58 ∷ 59 ∷ 60 ∷ 61 ∷ 62 ∷ 35 ∷ 32 ∷ 29 ∷ 26 ∷ 23 ∷ 20 ∷ 17 ∷ 14 ∷ 11 ∷ 8 ∷ 5 ∷ 2 ∷ 52 ∷ 50 ∷ 48 ∷ 46 ∷ 44 ∷ 42 ∷ 40
-          ∷ 38 ∷ 36 ∷ 33 ∷ 30 ∷ 27 ∷ 24 ∷ 21 ∷ 18 ∷ 15 ∷ 12 ∷ 9 ∷ 6 ∷ 3 ∷ 0 ∷ []) $
-          group ! 42 $
-          use1 W (raw ((G2·C 𝓤 H A at-mem run) .pre (
+    turn·seg·5 : (l0 : ℕ) (l1 : ℕ) (l2 : ℕ) (l3 : ℕ) (l4 : ℕ) (l5 : ℕ) (l6 : ℕ) (l7 : ℕ) (l8 : ℕ) (l9 : ℕ) (l10 : ℕ) (l11 : ℕ) (l12 : ℕ) (l13 : ℕ)
+        (l14 : ℕ) (l15 : ℕ) (l16 : ℕ) (l17 : ℕ) (l18 : ℕ) (l19 : ℕ) (l20 : ℕ) (l21 : ℕ) (l22 : ℕ) (l23 : ℕ) (l24 : ℕ) (l25 : ℕ) (l26 : ℕ) (l27 : ℕ)
+        (l28 : ℕ) (l29 : ℕ) (l30 : ℕ) (l31 : ℕ) (l32 : ℕ) (l33 : ℕ) (l34 : ℕ) (l35 : ℕ) (l36 : ℕ) (l37 : ℕ) (l38 : ℕ) (l39 : ℕ) (l40 : ℕ) (l41 : ℕ)
+        (l42 : ℕ) (l43 : ℕ) (l44 : ℕ) (l45 : ℕ) (l46 : ℕ) (l47 : ℕ) (l48 : ℕ) (l49 : ℕ) (l50 : ℕ) (l51 : ℕ)
+        (x : Looping theory goals proof (theoryLists sorts symbols inputs rules rulevars patterns) (working vars index words defs rows lists) kept
+        feet cells ids memo s facts) (v1 : Val) (r1 : Bool) (ws1 : (Unit {0} × Unit {0})) (e1 : r1 ≡ x .st .going) (is1 : Is bool r1 (v1 ∷ []))
+        (over : Holds (not r1)) →
+        Sq W (‵ (ShrSlice (named 0) κ·theory u8 .own (ref·theory γ·theory theory) (s·theory ∷ []))
+        ∷ ‵ (ShrSlice (named 1) κ·goals u8 .own (ref·goals γ·goals goals) (s·goals ∷ []))
+        ∷ ‵ (ShrSlice (named 2) κ·proof u8 .own (ref·proof γ·proof proof) (s·proof ∷ []))
+        ∷ ‵ (ShrSlice (named 3) κ·sorts u32 .own (ref·sorts γ·sorts sorts) (s·sorts ∷ []))
+        ∷ ‵ (ShrSlice (named 4) κ·symbols u32 .own (ref·symbols γ·symbols symbols) (s·symbols ∷ []))
+        ∷ ‵ (ShrSlice (named 5) κ·inputs u32 .own (ref·inputs γ·inputs inputs) (s·inputs ∷ []))
+        ∷ ‵ (ShrSlice (named 6) κ·rules u32 .own (ref·rules γ·rules rules) (s·rules ∷ []))
+        ∷ ‵ (ShrSlice (named 7) κ·rulevars u32 .own (ref·rulevars γ·rulevars rulevars) (s·rulevars ∷ []))
+        ∷ ‵ (ShrSlice (named 8) κ·patterns u32 .own (ref·patterns γ·patterns patterns) (s·patterns ∷ []))
+        ∷ ‵ (MutSlice (named 9) κ·vars u32 .own (ref·vars γ·vars (x .Z .vars)) (s·vars ∷ []))
+        ∷ ‵ (MutSlice (named 10) κ·index u32 .own (ref·index γ·index (x .Z .index)) (s·index ∷ []))
+        ∷ ‵ (MutSlice (named 11) κ·words u32 .own (ref·words γ·words (x .Z .words)) (s·words ∷ []))
+        ∷ ‵ (MutSlice (named 12) κ·defs u32 .own (ref·defs γ·defs (x .Z .defs)) (s·defs ∷ []))
+        ∷ ‵ (MutSlice (named 13) κ·rows u32 .own (ref·rows γ·rows (x .Z .goals)) (s·rows ∷ []))
+        ∷ ‵ (MutSlice (named 14) κ·lists u32 .own (ref·lists γ·lists (x .Z .lists)) (s·lists ∷ []))
+        ∷ ‵ (MutSlice (named 15) κ·kept u32 .own (ref·kept γ·kept (x .rows-now)) (s·kept ∷ []))
+        ∷ ‵ (MutSlice (named 16) κ·feet u64 .own (ref·feet γ·feet (x .feet-now)) (s·feet ∷ []))
+        ∷ ‵ (MutSlice (named 17) κ·cells u32 .own (ref·cells γ·cells (x .cells-now)) (s·cells ∷ []))
+        ∷ ‵ (MutSlice (named 18) κ·ids u32 .own (ref·ids γ·ids (x .ids-now)) (s·ids ∷ []))
+        ∷ ‵ (MutSlice (named 19) κ·memo u32 .own (ref·memo γ·memo (x .memo-now)) (s·memo ∷ []))
+        ∷ ‵ (MutSlice (named 20) κ·facts FactT.the-row .own (ref·facts γ·facts (x .fs-now)) (s·facts ∷ []))
+        ∷ ‵ (MutRef (named 21) κ·counts CountsT.the-row .own (ref·counts γ·counts (x .counts-now)) (s·counts ∷ []))
+        ∷ ‵ (flft κ·theory q·theory)
+        ∷ ‵ (flft κ·goals q·goals)
+        ∷ ‵ (flft κ·proof q·proof)
+        ∷ ‵ (flft κ·sorts q·sorts)
+        ∷ ‵ (flft κ·symbols q·symbols)
+        ∷ ‵ (flft κ·inputs q·inputs)
+        ∷ ‵ (flft κ·rules q·rules)
+        ∷ ‵ (flft κ·rulevars q·rulevars)
+        ∷ ‵ (flft κ·patterns q·patterns)
+        ∷ ‵ (flft κ·vars q·vars)
+        ∷ ‵ (flft κ·index q·index)
+        ∷ ‵ (flft κ·words q·words)
+        ∷ ‵ (flft κ·defs q·defs)
+        ∷ ‵ (flft κ·rows q·rows)
+        ∷ ‵ (flft κ·lists q·lists)
+        ∷ ‵ (flft κ·kept q·kept)
+        ∷ ‵ (flft κ·feet q·feet)
+        ∷ ‵ (flft κ·cells q·cells)
+        ∷ ‵ (flft κ·ids q·ids)
+        ∷ ‵ (flft κ·memo q·memo)
+        ∷ ‵ (flft κ·facts q·facts)
+        ∷ ‵ (flft κ·counts q·counts)
+        ∷ ‵ (froom (tyRef erased mut (pointee (CountsT.the-row .written))) l51 0)
+        ∷ ‵ (fdies (tyRef erased mut (pointee (CountsT.the-row .written))) l51)
+        ∷ ‵ (froom (sliceTy (tyRef erased mut (pointee (FactT.the-row .written)))) l50 0)
+        ∷ ‵ (fdies (sliceTy (tyRef erased mut (pointee (FactT.the-row .written)))) l50)
+        ∷ ‵ (froom (tyRef erased mut (pointee (FactT.the-row .written))) l49 0)
+        ∷ ‵ (fdies (tyRef erased mut (pointee (FactT.the-row .written))) l49)
+        ∷ ‵ (froom (sliceTy (tyRef erased mut (tyInt w32))) l48 0)
+        ∷ ‵ (fdies (sliceTy (tyRef erased mut (tyInt w32))) l48)
+        ∷ ‵ (froom (tyRef erased mut (tyInt w32)) l47 0)
+        ∷ ‵ (fdies (tyRef erased mut (tyInt w32)) l47)
+        ∷ ‵ (froom (sliceTy (tyRef erased mut (tyInt w32))) l46 0)
+        ∷ ‵ (fdies (sliceTy (tyRef erased mut (tyInt w32))) l46)
+        ∷ ‵ (froom (tyRef erased mut (tyInt w32)) l45 0)
+        ∷ ‵ (fdies (tyRef erased mut (tyInt w32)) l45)
+        ∷ ‵ (froom (sliceTy (tyRef erased mut (tyInt w32))) l44 0)
+        ∷ ‵ (fdies (sliceTy (tyRef erased mut (tyInt w32))) l44)
+        ∷ ‵ (froom (tyRef erased mut (tyInt w32)) l43 0)
+        ∷ ‵ (fdies (tyRef erased mut (tyInt w32)) l43)
+        ∷ ‵ (froom (sliceTy (tyRef erased mut (tyInt w64))) l42 0)
+        ∷ ‵ (fdies (sliceTy (tyRef erased mut (tyInt w64))) l42)
+        ∷ ‵ (froom (tyRef erased mut (tyInt w64)) l41 0)
+        ∷ ‵ (fdies (tyRef erased mut (tyInt w64)) l41)
+        ∷ ‵ (froom (sliceTy (tyRef erased mut (tyInt w32))) l40 0)
+        ∷ ‵ (fdies (sliceTy (tyRef erased mut (tyInt w32))) l40)
+        ∷ ‵ (froom (tyRef erased mut (tyInt w32)) l39 0)
+        ∷ ‵ (fdies (tyRef erased mut (tyInt w32)) l39)
+        ∷ ‵ (froom (sliceTy (tyRef erased mut (tyInt w32))) l38 0)
+        ∷ ‵ (fdies (sliceTy (tyRef erased mut (tyInt w32))) l38)
+        ∷ ‵ (froom (tyRef erased mut (tyInt w32)) l37 0)
+        ∷ ‵ (fdies (tyRef erased mut (tyInt w32)) l37)
+        ∷ ‵ (froom (sliceTy (tyRef erased mut (tyInt w32))) l36 0)
+        ∷ ‵ (fdies (sliceTy (tyRef erased mut (tyInt w32))) l36)
+        ∷ ‵ (froom (tyRef erased mut (tyInt w32)) l35 0)
+        ∷ ‵ (fdies (tyRef erased mut (tyInt w32)) l35)
+        ∷ ‵ (froom (sliceTy (tyRef erased mut (tyInt w32))) l34 0)
+        ∷ ‵ (fdies (sliceTy (tyRef erased mut (tyInt w32))) l34)
+        ∷ ‵ (froom (tyRef erased mut (tyInt w32)) l33 0)
+        ∷ ‵ (fdies (tyRef erased mut (tyInt w32)) l33)
+        ∷ ‵ (froom (sliceTy (tyRef erased mut (tyInt w32))) l32 0)
+        ∷ ‵ (fdies (sliceTy (tyRef erased mut (tyInt w32))) l32)
+        ∷ ‵ (froom (tyRef erased mut (tyInt w32)) l31 0)
+        ∷ ‵ (fdies (tyRef erased mut (tyInt w32)) l31)
+        ∷ ‵ (froom (sliceTy (tyRef erased mut (tyInt w32))) l30 0)
+        ∷ ‵ (fdies (sliceTy (tyRef erased mut (tyInt w32))) l30)
+        ∷ ‵ (froom (tyRef erased mut (tyInt w32)) l29 0)
+        ∷ ‵ (fdies (tyRef erased mut (tyInt w32)) l29)
+        ∷ ‵ (froom (sliceTy (tyRef erased mut (tyInt w32))) l28 0)
+        ∷ ‵ (fdies (sliceTy (tyRef erased mut (tyInt w32))) l28)
+        ∷ ‵ (froom (tyRef erased mut (tyInt w32)) l27 0)
+        ∷ ‵ (fdies (tyRef erased mut (tyInt w32)) l27)
+        ∷ ‵ (fat fullShare tyBool l26 0 (vbool r1))
+        ∷ ‵ (fdies tyBool l26) ∷ [])
+        (frees ((tyBool, l26) ∷ ((tyRef erased mut (tyInt w32)), l27) ∷ ((sliceTy (tyRef erased mut (tyInt w32))), l28)
+        ∷ ((tyRef erased mut (tyInt w32)), l29) ∷ ((sliceTy (tyRef erased mut (tyInt w32))), l30) ∷ ((tyRef erased mut (tyInt w32)), l31)
+        ∷ ((sliceTy (tyRef erased mut (tyInt w32))), l32) ∷ ((tyRef erased mut (tyInt w32)), l33) ∷ ((sliceTy (tyRef erased mut (tyInt w32))), l34)
+        ∷ ((tyRef erased mut (tyInt w32)), l35) ∷ ((sliceTy (tyRef erased mut (tyInt w32))), l36) ∷ ((tyRef erased mut (tyInt w32)), l37)
+        ∷ ((sliceTy (tyRef erased mut (tyInt w32))), l38) ∷ ((tyRef erased mut (tyInt w32)), l39) ∷ ((sliceTy (tyRef erased mut (tyInt w32))), l40)
+        ∷ ((tyRef erased mut (tyInt w64)), l41) ∷ ((sliceTy (tyRef erased mut (tyInt w64))), l42) ∷ ((tyRef erased mut (tyInt w32)), l43)
+        ∷ ((sliceTy (tyRef erased mut (tyInt w32))), l44) ∷ ((tyRef erased mut (tyInt w32)), l45) ∷ ((sliceTy (tyRef erased mut (tyInt w32))), l46)
+        ∷ ((tyRef erased mut (tyInt w32)), l47) ∷ ((sliceTy (tyRef erased mut (tyInt w32))), l48)
+        ∷ ((tyRef erased mut (pointee (FactT.the-row .written))), l49) ∷ ((sliceTy (tyRef erased mut (pointee (FactT.the-row .written)))), l50)
+        ∷ ((tyRef erased mut (pointee (CountsT.the-row .written))), l51) ∷ []) (prop (Post (LL.val RunT.the-type RunL.the-laws (x .st)))))
+    unfolding afterTurn
+    turn·seg·5 l0 l1 l2 l3 l4 l5 l6 l7 l8 l9 l10 l11 l12 l13 l14 l15 l16 l17 l18 l19 l20 l21 l22 l23 l24 l25 l26 l27 l28 l29 l30 l31 l32 l33 l34 l35
+        l36 l37 l38 l39 l40 l41 l42 l43 l44 l45 l46 l47 l48 l49 l50 l51 x v1 r1 ws1 e1 is1 over =
+        forget ! 94 refl $
+        move ! (94 ∷ 95 ∷ []) $
+        free1 ! $
+        move ! (92 ∷ 93 ∷ []) $
+        free1 ! $
+        move ! (90 ∷ 91 ∷ []) $
+        free1 ! $
+        move ! (88 ∷ 89 ∷ []) $
+        free1 ! $
+        move ! (86 ∷ 87 ∷ []) $
+        free1 ! $
+        move ! (84 ∷ 85 ∷ []) $
+        free1 ! $
+        move ! (82 ∷ 83 ∷ []) $
+        free1 ! $
+        move ! (80 ∷ 81 ∷ []) $
+        free1 ! $
+        move ! (78 ∷ 79 ∷ []) $
+        free1 ! $
+        move ! (76 ∷ 77 ∷ []) $
+        free1 ! $
+        move ! (74 ∷ 75 ∷ []) $
+        free1 ! $
+        move ! (72 ∷ 73 ∷ []) $
+        free1 ! $
+        move ! (70 ∷ 71 ∷ []) $
+        free1 ! $
+        move ! (68 ∷ 69 ∷ []) $
+        free1 ! $
+        move ! (66 ∷ 67 ∷ []) $
+        free1 ! $
+        move ! (64 ∷ 65 ∷ []) $
+        free1 ! $
+        move ! (62 ∷ 63 ∷ []) $
+        free1 ! $
+        move ! (60 ∷ 61 ∷ []) $
+        free1 ! $
+        move ! (58 ∷ 59 ∷ []) $
+        free1 ! $
+        move ! (56 ∷ 57 ∷ []) $
+        free1 ! $
+        move ! (54 ∷ 55 ∷ []) $
+        free1 ! $
+        move ! (52 ∷ 53 ∷ []) $
+        free1 ! $
+        move ! (50 ∷ 51 ∷ []) $
+        free1 ! $
+        move ! (48 ∷ 49 ∷ []) $
+        free1 ! $
+        move ! (46 ∷ 47 ∷ []) $
+        free1 ! $
+        move ! (44 ∷ 45 ∷ []) $
+        free1 ! $
+        free0 ! $
+        keep ! (22 ∷ 23 ∷ 24 ∷ 25 ∷ 26 ∷ 27 ∷ 28 ∷ 29 ∷ 30 ∷ 31 ∷ 32 ∷ 33 ∷ 34 ∷ 35 ∷ 36 ∷ 37 ∷ 38 ∷ 39 ∷ 40 ∷ 41 ∷ 42 ∷ 43 ∷ 0 ∷ 1 ∷ 2 ∷ 3 ∷ 4 ∷ 5
+        ∷ 6 ∷ 7 ∷ 8 ∷ 9 ∷ 10 ∷ 11 ∷ 12 ∷ 13 ∷ 14 ∷ 15 ∷ 16 ∷ 17 ∷ 18 ∷ 19 ∷ 20 ∷ 21 ∷ []) $
+        suffices ! _ (ends-at 𝓤 H A self·fn.ended stayed (self·fn.clauses 𝓤 H A at-mem run) W ((κs, qs, tt, a, at), tt)
+        (LL.val RunT.the-type RunL.the-laws (x .st)) (x .st) (
+          tt,
+          (
+            tt,
             (
-              ((
-                κ·theory,
+              tt,
+              (
+                tt,
                 (
-                  κ·goals,
+                  tt,
                   (
-                    κ·proof,
+                    tt,
                     (
-                      κ·sorts,
+                      tt,
                       (
-                        κ·symbols,
+                        tt,
                         (
-                          κ·inputs,
+                          tt,
                           (
-                            κ·rules,
-                            (κ·rulevars, (κ·patterns, ((ν·2·10 ∷ []), ((ν·2·11 ∷ []), ((ν·2·12 ∷ []), ((ν·2·13 ∷ []), ((ν·2·14 ∷ []), ((ν·2·15 ∷ []), ((ν·2·16 ∷ []), ((ν·2·17 ∷ []), ((ν·2·18 ∷ []), ((ν·2·19 ∷ []), ((ν·2·20 ∷ []), ((ν·2·21 ∷ []), tt)))))))))))))),
+                            tt,
+                            (
+                              (x .Z .vars),
+                              (
+                                (x .Z .index),
+                                ((x .Z .words), ((x .Z .defs), ((x .Z .goals), ((x .Z .lists), ((x .rows-now), ((x .feet-now), ((x .cells-now), ((x .ids-now), ((x .memo-now), ((x .fs-now), ((x .counts-now), tt))))))))))),
+                              ),
+                            ),
                           ),
                         ),
                       ),
                     ),
                   ),
                 ),
-              )),
-              ((q·theory, (q·goals, (q·proof, (q·sorts, (q·symbols, (q·inputs, (q·rules, (q·rulevars, (q·patterns, (fullShare, (fullShare, (fullShare, (fullShare, (fullShare, (fullShare, (fullShare, (fullShare, (fullShare, (fullShare, (fullShare, (fullShare, tt)))))))))))))))))))))),
-              tt,
+              ),
+            ),
+          ),
+        )
+        (tt, (tt, (tt, (tt, (tt, (tt, (tt, (tt, (tt, (tt, (x .vars-long, (x .index-long, (x .words-long, (x .defs-long, (x .goals-long, (x .lists-long, (x .rows-long, (x .feet-long, (x .cells-long, (x .ids-long, (x .memo-long, (x .facts-long, (tt, tt)))))))))))))))))))))))) $
+        says ! (ran theory goals proof (theoryLists sorts symbols inputs rules rulevars patterns) (working vars index words defs rows lists) kept feet
+        cells ids memo s facts x (is-over r1 e1 over)) $
+        nothing ! $
+        move ! (22 ∷ 0 ∷ []) $
+        join ! $
+        move ! (21 ∷ 0 ∷ []) $
+        join ! $
+        move ! (20 ∷ 0 ∷ []) $
+        join ! $
+        move ! (19 ∷ 0 ∷ []) $
+        join ! $
+        move ! (18 ∷ 0 ∷ []) $
+        join ! $
+        move ! (17 ∷ 0 ∷ []) $
+        join ! $
+        move ! (16 ∷ 0 ∷ []) $
+        join ! $
+        move ! (15 ∷ 0 ∷ []) $
+        join ! $
+        move ! (14 ∷ 0 ∷ []) $
+        join ! $
+        move ! (13 ∷ 0 ∷ []) $
+        join ! $
+        move ! (12 ∷ 0 ∷ []) $
+        join ! $
+        move ! (11 ∷ 0 ∷ []) $
+        join ! $
+        move ! (10 ∷ 0 ∷ []) $
+        join ! $
+        move ! (9 ∷ 0 ∷ []) $
+        join ! $
+        move ! (8 ∷ 0 ∷ []) $
+        join ! $
+        move ! (7 ∷ 0 ∷ []) $
+        join ! $
+        move ! (6 ∷ 0 ∷ []) $
+        join ! $
+        move ! (5 ∷ 0 ∷ []) $
+        join ! $
+        move ! (4 ∷ 0 ∷ []) $
+        join ! $
+        move ! (3 ∷ 0 ∷ []) $
+        join ! $
+        move ! (2 ∷ 0 ∷ []) $
+        join ! $
+        move ! (1 ∷ 0 ∷ []) $
+        join ! $
+        frame ! $
+        nothing ! $
+        move ! (22 ∷ 0 ∷ []) $
+        fjoin ! $
+        move ! (21 ∷ 0 ∷ []) $
+        fjoin ! $
+        move ! (20 ∷ 0 ∷ []) $
+        fjoin ! $
+        move ! (19 ∷ 0 ∷ []) $
+        fjoin ! $
+        move ! (18 ∷ 0 ∷ []) $
+        fjoin ! $
+        move ! (17 ∷ 0 ∷ []) $
+        fjoin ! $
+        move ! (16 ∷ 0 ∷ []) $
+        fjoin ! $
+        move ! (15 ∷ 0 ∷ []) $
+        fjoin ! $
+        move ! (14 ∷ 0 ∷ []) $
+        fjoin ! $
+        move ! (13 ∷ 0 ∷ []) $
+        fjoin ! $
+        move ! (12 ∷ 0 ∷ []) $
+        fjoin ! $
+        move ! (11 ∷ 0 ∷ []) $
+        fjoin ! $
+        move ! (10 ∷ 0 ∷ []) $
+        fjoin ! $
+        move ! (9 ∷ 0 ∷ []) $
+        fjoin ! $
+        move ! (8 ∷ 0 ∷ []) $
+        fjoin ! $
+        move ! (7 ∷ 0 ∷ []) $
+        fjoin ! $
+        move ! (6 ∷ 0 ∷ []) $
+        fjoin ! $
+        move ! (5 ∷ 0 ∷ []) $
+        fjoin ! $
+        move ! (4 ∷ 0 ∷ []) $
+        fjoin ! $
+        owned ! RunT.the-row (Is RunT.the-row) (LL.makes RunT.the-type RunL.the-plain 𝓤 H A) s _ is·s $
+        fjoin ! $
+        move ! (3 ∷ 0 ∷ []) $
+        fjoin ! $
+        move ! (2 ∷ 0 ∷ []) $
+        fjoin ! $
+        move ! (1 ∷ 0 ∷ []) $
+        fjoin ! $
+        owned ! RunT.the-row (Is RunT.the-row) (LL.makes RunT.the-type RunL.the-plain 𝓤 H A) (x .st) _ (x .is) $ move ! (1 ∷ 0 ∷ []) $ done !
+
+    turn·seg·3 : (l0 : ℕ) (l1 : ℕ) (l2 : ℕ) (l3 : ℕ) (l4 : ℕ) (l5 : ℕ) (l6 : ℕ) (l7 : ℕ) (l8 : ℕ) (l9 : ℕ) (l10 : ℕ) (l11 : ℕ) (l12 : ℕ) (l13 : ℕ)
+        (l14 : ℕ) (l15 : ℕ) (l16 : ℕ) (l17 : ℕ) (l18 : ℕ) (l19 : ℕ) (l20 : ℕ) (l21 : ℕ) (l22 : ℕ) (l23 : ℕ) (l24 : ℕ) (l25 : ℕ) (l26 : ℕ) (l27 : ℕ)
+        (l28 : ℕ) (l29 : ℕ) (l30 : ℕ) (l31 : ℕ) (l32 : ℕ) (l33 : ℕ) (l34 : ℕ) (l35 : ℕ) (l36 : ℕ) (l37 : ℕ) (l38 : ℕ) (l39 : ℕ) (l40 : ℕ) (l41 : ℕ)
+        (l42 : ℕ) (l43 : ℕ) (l44 : ℕ) (l45 : ℕ) (l46 : ℕ) (l47 : ℕ) (l48 : ℕ) (l49 : ℕ) (l50 : ℕ) (l51 : ℕ)
+        (x : Looping theory goals proof (theoryLists sorts symbols inputs rules rulevars patterns) (working vars index words defs rows lists) kept
+        feet cells ids memo s facts) (v1 : Val) (r1 : Bool) (ws1 : (Unit {0} × Unit {0})) (e1 : r1 ≡ x .st .going) (is1 : Is bool r1 (v1 ∷ []))
+        (held : Holds r1) (ν·2·10 : ℕ) (δ·2·10 : GName) (ν·2·11 : ℕ) (δ·2·11 : GName) (ν·2·12 : ℕ) (δ·2·12 : GName) (ν·2·13 : ℕ) (δ·2·13 : GName)
+        (ν·2·14 : ℕ) (δ·2·14 : GName) (ν·2·15 : ℕ) (δ·2·15 : GName) (ν·2·16 : ℕ) (δ·2·16 : GName) (ν·2·17 : ℕ) (δ·2·17 : GName) (ν·2·18 : ℕ)
+        (δ·2·18 : GName) (ν·2·19 : ℕ) (δ·2·19 : GName) (ν·2·20 : ℕ) (δ·2·20 : GName) (ν·2·21 : ℕ) (δ·2·21 : GName) (ν·2·22 : ℕ) (δ·2·22 : GName)
+        (v2 : Val) (r2 : Run) (ws2 : (Unit {0} × (Unit {0} × (Unit {0} × (Unit {0} ×
+        (Unit {0} × (Unit {0} × (Unit {0} × (Unit {0} × (Unit {0} × (Unit {0} ×
+        ((List ℕ) × ((List ℕ) × ((List ℕ) × ((List ℕ) × ((List ℕ) × ((List ℕ) ×
+        ((List ℕ) × ((List ℕ) × ((List ℕ) × ((List ℕ) × ((List ℕ) × ((List Fact) × (Counts × Unit {0}))))))))))))))))))))))))
+        (e2 : OneTaken theory goals proof (theoryLists sorts symbols inputs rules rulevars patterns) (x .Z)
+        (working (ws2 .1 .1 .1 .1 .1 .1 .1 .1 .1 .1 .0) (ws2 .1 .1 .1 .1 .1 .1 .1 .1 .1 .1 .1 .0) (ws2 .1 .1 .1 .1 .1 .1 .1 .1 .1 .1 .1 .1 .0)
+        (ws2 .1 .1 .1 .1 .1 .1 .1 .1 .1 .1 .1 .1 .1 .0) (ws2 .1 .1 .1 .1 .1 .1 .1 .1 .1 .1 .1 .1 .1 .1 .0)
+        (ws2 .1 .1 .1 .1 .1 .1 .1 .1 .1 .1 .1 .1 .1 .1 .1 .0)) (ws2 .1 .1 .1 .1 .1 .1 .1 .1 .1 .1 .1 .1 .1 .1 .1 .1 .0)
+        (ws2 .1 .1 .1 .1 .1 .1 .1 .1 .1 .1 .1 .1 .1 .1 .1 .1 .1 .0) (ws2 .1 .1 .1 .1 .1 .1 .1 .1 .1 .1 .1 .1 .1 .1 .1 .1 .1 .1 .0)
+        (ws2 .1 .1 .1 .1 .1 .1 .1 .1 .1 .1 .1 .1 .1 .1 .1 .1 .1 .1 .1 .0) (ws2 .1 .1 .1 .1 .1 .1 .1 .1 .1 .1 .1 .1 .1 .1 .1 .1 .1 .1 .1 .1 .0) (x .st)
+        r2 (x .fs-now) (ws2 .1 .1 .1 .1 .1 .1 .1 .1 .1 .1 .1 .1 .1 .1 .1 .1 .1 .1 .1 .1 .1 .0)
+        (ws2 .1 .1 .1 .1 .1 .1 .1 .1 .1 .1 .1 .1 .1 .1 .1 .1 .1 .1 .1 .1 .1 .1 .0))
+        (len·2·vars : length (ws2 .1 .1 .1 .1 .1 .1 .1 .1 .1 .1 .0) ≡ length (x .Z .vars))
+        (len·2·index : length (ws2 .1 .1 .1 .1 .1 .1 .1 .1 .1 .1 .1 .0) ≡ length (x .Z .index))
+        (len·2·words : length (ws2 .1 .1 .1 .1 .1 .1 .1 .1 .1 .1 .1 .1 .0) ≡ length (x .Z .words))
+        (len·2·defs : length (ws2 .1 .1 .1 .1 .1 .1 .1 .1 .1 .1 .1 .1 .1 .0) ≡ length (x .Z .defs))
+        (len·2·rows : length (ws2 .1 .1 .1 .1 .1 .1 .1 .1 .1 .1 .1 .1 .1 .1 .0) ≡ length (x .Z .goals))
+        (len·2·lists : length (ws2 .1 .1 .1 .1 .1 .1 .1 .1 .1 .1 .1 .1 .1 .1 .1 .0) ≡ length (x .Z .lists))
+        (len·2·kept : length (ws2 .1 .1 .1 .1 .1 .1 .1 .1 .1 .1 .1 .1 .1 .1 .1 .1 .0) ≡ length (x .rows-now))
+        (len·2·feet : length (ws2 .1 .1 .1 .1 .1 .1 .1 .1 .1 .1 .1 .1 .1 .1 .1 .1 .1 .0) ≡ length (x .feet-now))
+        (len·2·cells : length (ws2 .1 .1 .1 .1 .1 .1 .1 .1 .1 .1 .1 .1 .1 .1 .1 .1 .1 .1 .0) ≡ length (x .cells-now))
+        (len·2·ids : length (ws2 .1 .1 .1 .1 .1 .1 .1 .1 .1 .1 .1 .1 .1 .1 .1 .1 .1 .1 .1 .0) ≡ length (x .ids-now))
+        (len·2·memo : length (ws2 .1 .1 .1 .1 .1 .1 .1 .1 .1 .1 .1 .1 .1 .1 .1 .1 .1 .1 .1 .1 .0) ≡ length (x .memo-now))
+        (len·2·facts : length (ws2 .1 .1 .1 .1 .1 .1 .1 .1 .1 .1 .1 .1 .1 .1 .1 .1 .1 .1 .1 .1 .1 .0) ≡ length (x .fs-now))
+        (is2 : Is RunT.the-row r2 (v2 ∷ [])) →
+        Sq W (‵ (MutRef (named 21) κ·counts CountsT.the-row .own (ref·counts γ·counts
+        (ws2 .1 .1 .1 .1 .1 .1 .1 .1 .1 .1 .1 .1 .1 .1 .1 .1 .1 .1 .1 .1 .1 .1 .0)) (s·counts ∷ []))
+        ∷ ‵ (flft κ·counts q·counts)
+        ∷ ‵ (MutSlice (named 20) κ·facts FactT.the-row .own (ref·facts γ·facts
+        (ws2 .1 .1 .1 .1 .1 .1 .1 .1 .1 .1 .1 .1 .1 .1 .1 .1 .1 .1 .1 .1 .1 .0)) (s·facts ∷ []))
+        ∷ ‵ (flft κ·facts q·facts)
+        ∷ ‵ (MutSlice (named 19) κ·memo u32 .own (ref·memo γ·memo (ws2 .1 .1 .1 .1 .1 .1 .1 .1 .1 .1 .1 .1 .1 .1 .1 .1 .1 .1 .1 .1 .0)) (s·memo ∷ []))
+        ∷ ‵ (flft κ·memo q·memo)
+        ∷ ‵ (MutSlice (named 18) κ·ids u32 .own (ref·ids γ·ids (ws2 .1 .1 .1 .1 .1 .1 .1 .1 .1 .1 .1 .1 .1 .1 .1 .1 .1 .1 .1 .0)) (s·ids ∷ []))
+        ∷ ‵ (flft κ·ids q·ids)
+        ∷ ‵ (MutSlice (named 17) κ·cells u32 .own (ref·cells γ·cells (ws2 .1 .1 .1 .1 .1 .1 .1 .1 .1 .1 .1 .1 .1 .1 .1 .1 .1 .1 .0)) (s·cells ∷ []))
+        ∷ ‵ (flft κ·cells q·cells)
+        ∷ ‵ (MutSlice (named 16) κ·feet u64 .own (ref·feet γ·feet (ws2 .1 .1 .1 .1 .1 .1 .1 .1 .1 .1 .1 .1 .1 .1 .1 .1 .1 .0)) (s·feet ∷ []))
+        ∷ ‵ (flft κ·feet q·feet)
+        ∷ ‵ (MutSlice (named 15) κ·kept u32 .own (ref·kept γ·kept (ws2 .1 .1 .1 .1 .1 .1 .1 .1 .1 .1 .1 .1 .1 .1 .1 .1 .0)) (s·kept ∷ []))
+        ∷ ‵ (flft κ·kept q·kept)
+        ∷ ‵ (MutSlice (named 14) κ·lists u32 .own (ref·lists γ·lists (ws2 .1 .1 .1 .1 .1 .1 .1 .1 .1 .1 .1 .1 .1 .1 .1 .0)) (s·lists ∷ []))
+        ∷ ‵ (flft κ·lists q·lists)
+        ∷ ‵ (MutSlice (named 13) κ·rows u32 .own (ref·rows γ·rows (ws2 .1 .1 .1 .1 .1 .1 .1 .1 .1 .1 .1 .1 .1 .1 .0)) (s·rows ∷ []))
+        ∷ ‵ (flft κ·rows q·rows)
+        ∷ ‵ (MutSlice (named 12) κ·defs u32 .own (ref·defs γ·defs (ws2 .1 .1 .1 .1 .1 .1 .1 .1 .1 .1 .1 .1 .1 .0)) (s·defs ∷ []))
+        ∷ ‵ (flft κ·defs q·defs)
+        ∷ ‵ (MutSlice (named 11) κ·words u32 .own (ref·words γ·words (ws2 .1 .1 .1 .1 .1 .1 .1 .1 .1 .1 .1 .1 .0)) (s·words ∷ []))
+        ∷ ‵ (flft κ·words q·words)
+        ∷ ‵ (MutSlice (named 10) κ·index u32 .own (ref·index γ·index (ws2 .1 .1 .1 .1 .1 .1 .1 .1 .1 .1 .1 .0)) (s·index ∷ []))
+        ∷ ‵ (flft κ·index q·index)
+        ∷ ‵ (MutSlice (named 9) κ·vars u32 .own (ref·vars γ·vars (ws2 .1 .1 .1 .1 .1 .1 .1 .1 .1 .1 .0)) (s·vars ∷ []))
+        ∷ ‵ (flft κ·vars q·vars)
+        ∷ ‵ (flft κ·patterns q·patterns)
+        ∷ ‵ (flft κ·rulevars q·rulevars)
+        ∷ ‵ (flft κ·rules q·rules)
+        ∷ ‵ (flft κ·inputs q·inputs)
+        ∷ ‵ (flft κ·symbols q·symbols)
+        ∷ ‵ (flft κ·sorts q·sorts)
+        ∷ ‵ (flft κ·proof q·proof)
+        ∷ ‵ (flft κ·goals q·goals)
+        ∷ ‵ (flft κ·theory q·theory)
+        ∷ ‵ (ShrSlice (named 8) κ·patterns u32 .own (ref·patterns γ·patterns patterns) (s·patterns ∷ []))
+        ∷ ‵ (ShrSlice (named 7) κ·rulevars u32 .own (ref·rulevars γ·rulevars rulevars) (s·rulevars ∷ []))
+        ∷ ‵ (ShrSlice (named 6) κ·rules u32 .own (ref·rules γ·rules rules) (s·rules ∷ []))
+        ∷ ‵ (ShrSlice (named 5) κ·inputs u32 .own (ref·inputs γ·inputs inputs) (s·inputs ∷ []))
+        ∷ ‵ (ShrSlice (named 4) κ·symbols u32 .own (ref·symbols γ·symbols symbols) (s·symbols ∷ []))
+        ∷ ‵ (ShrSlice (named 3) κ·sorts u32 .own (ref·sorts γ·sorts sorts) (s·sorts ∷ []))
+        ∷ ‵ (ShrSlice (named 2) κ·proof u8 .own (ref·proof γ·proof proof) (s·proof ∷ []))
+        ∷ ‵ (ShrSlice (named 1) κ·goals u8 .own (ref·goals γ·goals goals) (s·goals ∷ []))
+        ∷ ‵ (ShrSlice (named 0) κ·theory u8 .own (ref·theory γ·theory theory) (s·theory ∷ []))
+        ∷ ‵ (fat fullShare (tyRef erased mut (pointee (CountsT.the-row .written))) l51 0 s·counts)
+        ∷ ‵ (fdies (tyRef erased mut (pointee (CountsT.the-row .written))) l51)
+        ∷ ‵ (fat fullShare (sliceTy (tyRef erased mut (pointee (FactT.the-row .written)))) l50 0 s·facts)
+        ∷ ‵ (fdies (sliceTy (tyRef erased mut (pointee (FactT.the-row .written)))) l50)
+        ∷ ‵ (fat fullShare (tyRef erased mut (pointee (FactT.the-row .written))) l49 0 (vptr b·facts o·facts))
+        ∷ ‵ (fdies (tyRef erased mut (pointee (FactT.the-row .written))) l49)
+        ∷ ‵ (fat fullShare (sliceTy (tyRef erased mut (tyInt w32))) l48 0 s·memo)
+        ∷ ‵ (fdies (sliceTy (tyRef erased mut (tyInt w32))) l48)
+        ∷ ‵ (fat fullShare (tyRef erased mut (tyInt w32)) l47 0 (vptr b·memo o·memo))
+        ∷ ‵ (fdies (tyRef erased mut (tyInt w32)) l47)
+        ∷ ‵ (fat fullShare (sliceTy (tyRef erased mut (tyInt w32))) l46 0 s·ids)
+        ∷ ‵ (fdies (sliceTy (tyRef erased mut (tyInt w32))) l46)
+        ∷ ‵ (fat fullShare (tyRef erased mut (tyInt w32)) l45 0 (vptr b·ids o·ids))
+        ∷ ‵ (fdies (tyRef erased mut (tyInt w32)) l45)
+        ∷ ‵ (fat fullShare (sliceTy (tyRef erased mut (tyInt w32))) l44 0 s·cells)
+        ∷ ‵ (fdies (sliceTy (tyRef erased mut (tyInt w32))) l44)
+        ∷ ‵ (fat fullShare (tyRef erased mut (tyInt w32)) l43 0 (vptr b·cells o·cells))
+        ∷ ‵ (fdies (tyRef erased mut (tyInt w32)) l43)
+        ∷ ‵ (fat fullShare (sliceTy (tyRef erased mut (tyInt w64))) l42 0 s·feet)
+        ∷ ‵ (fdies (sliceTy (tyRef erased mut (tyInt w64))) l42)
+        ∷ ‵ (fat fullShare (tyRef erased mut (tyInt w64)) l41 0 (vptr b·feet o·feet))
+        ∷ ‵ (fdies (tyRef erased mut (tyInt w64)) l41)
+        ∷ ‵ (fat fullShare (sliceTy (tyRef erased mut (tyInt w32))) l40 0 s·kept)
+        ∷ ‵ (fdies (sliceTy (tyRef erased mut (tyInt w32))) l40)
+        ∷ ‵ (fat fullShare (tyRef erased mut (tyInt w32)) l39 0 (vptr b·kept o·kept))
+        ∷ ‵ (fdies (tyRef erased mut (tyInt w32)) l39)
+        ∷ ‵ (fat fullShare (sliceTy (tyRef erased mut (tyInt w32))) l38 0 s·lists)
+        ∷ ‵ (fdies (sliceTy (tyRef erased mut (tyInt w32))) l38)
+        ∷ ‵ (fat fullShare (tyRef erased mut (tyInt w32)) l37 0 (vptr b·lists o·lists))
+        ∷ ‵ (fdies (tyRef erased mut (tyInt w32)) l37)
+        ∷ ‵ (fat fullShare (sliceTy (tyRef erased mut (tyInt w32))) l36 0 s·rows)
+        ∷ ‵ (fdies (sliceTy (tyRef erased mut (tyInt w32))) l36)
+        ∷ ‵ (fat fullShare (tyRef erased mut (tyInt w32)) l35 0 (vptr b·rows o·rows))
+        ∷ ‵ (fdies (tyRef erased mut (tyInt w32)) l35)
+        ∷ ‵ (fat fullShare (sliceTy (tyRef erased mut (tyInt w32))) l34 0 s·defs)
+        ∷ ‵ (fdies (sliceTy (tyRef erased mut (tyInt w32))) l34)
+        ∷ ‵ (fat fullShare (tyRef erased mut (tyInt w32)) l33 0 (vptr b·defs o·defs))
+        ∷ ‵ (fdies (tyRef erased mut (tyInt w32)) l33)
+        ∷ ‵ (fat fullShare (sliceTy (tyRef erased mut (tyInt w32))) l32 0 s·words)
+        ∷ ‵ (fdies (sliceTy (tyRef erased mut (tyInt w32))) l32)
+        ∷ ‵ (fat fullShare (tyRef erased mut (tyInt w32)) l31 0 (vptr b·words o·words))
+        ∷ ‵ (fdies (tyRef erased mut (tyInt w32)) l31)
+        ∷ ‵ (fat fullShare (sliceTy (tyRef erased mut (tyInt w32))) l30 0 s·index)
+        ∷ ‵ (fdies (sliceTy (tyRef erased mut (tyInt w32))) l30)
+        ∷ ‵ (fat fullShare (tyRef erased mut (tyInt w32)) l29 0 (vptr b·index o·index))
+        ∷ ‵ (fdies (tyRef erased mut (tyInt w32)) l29)
+        ∷ ‵ (fat fullShare (sliceTy (tyRef erased mut (tyInt w32))) l28 0 s·vars)
+        ∷ ‵ (fdies (sliceTy (tyRef erased mut (tyInt w32))) l28)
+        ∷ ‵ (fat fullShare (tyRef erased mut (tyInt w32)) l27 0 (vptr b·vars o·vars))
+        ∷ ‵ (fdies (tyRef erased mut (tyInt w32)) l27)
+        ∷ ‵ (fat fullShare tyBool l26 0 (vbool r1))
+        ∷ ‵ (fdies tyBool l26)
+        ∷ ‵ (fat fullShare RunL.mir l25 0 v2)
+        ∷ ‵ (fdies RunL.mir l25)
+        ∷ ‵ (fat fullShare RunL.mir l24 0 (LL.val RunT.the-type RunL.the-laws (x .st)))
+        ∷ ‵ (fdies RunL.mir l24)
+        ∷ ‵ (fat fullShare (tyRef (named 21) mut (pointee (CountsT.the-row .written))) l23 0 s·counts)
+        ∷ ‵ (fdies (tyRef (named 21) mut (pointee (CountsT.the-row .written))) l23)
+        ∷ ‵ (fat fullShare (sliceTy (tyRef (named 20) mut (pointee (FactT.the-row .written)))) l22 0 s·facts)
+        ∷ ‵ (fdies (sliceTy (tyRef (named 20) mut (pointee (FactT.the-row .written)))) l22)
+        ∷ ‵ (fat fullShare (sliceTy (tyRef (named 19) mut (tyInt w32))) l21 0 s·memo)
+        ∷ ‵ (fdies (sliceTy (tyRef (named 19) mut (tyInt w32))) l21)
+        ∷ ‵ (fat fullShare (sliceTy (tyRef (named 18) mut (tyInt w32))) l20 0 s·ids)
+        ∷ ‵ (fdies (sliceTy (tyRef (named 18) mut (tyInt w32))) l20)
+        ∷ ‵ (fat fullShare (sliceTy (tyRef (named 17) mut (tyInt w32))) l19 0 s·cells)
+        ∷ ‵ (fdies (sliceTy (tyRef (named 17) mut (tyInt w32))) l19)
+        ∷ ‵ (fat fullShare (sliceTy (tyRef (named 16) mut (tyInt w64))) l18 0 s·feet)
+        ∷ ‵ (fdies (sliceTy (tyRef (named 16) mut (tyInt w64))) l18)
+        ∷ ‵ (fat fullShare (sliceTy (tyRef (named 15) mut (tyInt w32))) l17 0 s·kept)
+        ∷ ‵ (fdies (sliceTy (tyRef (named 15) mut (tyInt w32))) l17)
+        ∷ ‵ (fat fullShare (sliceTy (tyRef (named 14) mut (tyInt w32))) l16 0 s·lists)
+        ∷ ‵ (fdies (sliceTy (tyRef (named 14) mut (tyInt w32))) l16)
+        ∷ ‵ (fat fullShare (sliceTy (tyRef (named 13) mut (tyInt w32))) l15 0 s·rows)
+        ∷ ‵ (fdies (sliceTy (tyRef (named 13) mut (tyInt w32))) l15)
+        ∷ ‵ (fat fullShare (sliceTy (tyRef (named 12) mut (tyInt w32))) l14 0 s·defs)
+        ∷ ‵ (fdies (sliceTy (tyRef (named 12) mut (tyInt w32))) l14)
+        ∷ ‵ (fat fullShare (sliceTy (tyRef (named 11) mut (tyInt w32))) l13 0 s·words)
+        ∷ ‵ (fdies (sliceTy (tyRef (named 11) mut (tyInt w32))) l13)
+        ∷ ‵ (fat fullShare (sliceTy (tyRef (named 10) mut (tyInt w32))) l12 0 s·index)
+        ∷ ‵ (fdies (sliceTy (tyRef (named 10) mut (tyInt w32))) l12)
+        ∷ ‵ (fat fullShare (sliceTy (tyRef (named 9) mut (tyInt w32))) l11 0 s·vars)
+        ∷ ‵ (fdies (sliceTy (tyRef (named 9) mut (tyInt w32))) l11)
+        ∷ ‵ (fat fullShare (sliceTy (tyRef (named 8) imm (tyInt w32))) l10 0 s·patterns)
+        ∷ ‵ (fdies (sliceTy (tyRef (named 8) imm (tyInt w32))) l10)
+        ∷ ‵ (fat fullShare (sliceTy (tyRef (named 7) imm (tyInt w32))) l9 0 s·rulevars)
+        ∷ ‵ (fdies (sliceTy (tyRef (named 7) imm (tyInt w32))) l9)
+        ∷ ‵ (fat fullShare (sliceTy (tyRef (named 6) imm (tyInt w32))) l8 0 s·rules)
+        ∷ ‵ (fdies (sliceTy (tyRef (named 6) imm (tyInt w32))) l8)
+        ∷ ‵ (fat fullShare (sliceTy (tyRef (named 5) imm (tyInt w32))) l7 0 s·inputs)
+        ∷ ‵ (fdies (sliceTy (tyRef (named 5) imm (tyInt w32))) l7)
+        ∷ ‵ (fat fullShare (sliceTy (tyRef (named 4) imm (tyInt w32))) l6 0 s·symbols)
+        ∷ ‵ (fdies (sliceTy (tyRef (named 4) imm (tyInt w32))) l6)
+        ∷ ‵ (fat fullShare (sliceTy (tyRef (named 3) imm (tyInt w32))) l5 0 s·sorts)
+        ∷ ‵ (fdies (sliceTy (tyRef (named 3) imm (tyInt w32))) l5)
+        ∷ ‵ (fat fullShare RunL.mir l4 0 v·s)
+        ∷ ‵ (fdies RunL.mir l4)
+        ∷ ‵ (fat fullShare (sliceTy (tyRef (named 2) imm (tyInt w8))) l3 0 s·proof)
+        ∷ ‵ (fdies (sliceTy (tyRef (named 2) imm (tyInt w8))) l3)
+        ∷ ‵ (fat fullShare (sliceTy (tyRef (named 1) imm (tyInt w8))) l2 0 s·goals)
+        ∷ ‵ (fdies (sliceTy (tyRef (named 1) imm (tyInt w8))) l2)
+        ∷ ‵ (fat fullShare (sliceTy (tyRef (named 0) imm (tyInt w8))) l1 0 s·theory)
+        ∷ ‵ (fdies (sliceTy (tyRef (named 0) imm (tyInt w8))) l1)
+        ∷ ‵ (froom RunL.mir l0 0)
+        ∷ ‵ (fdies RunL.mir l0) ∷ [])
+        (runs C Λ (En l0 l1 l2 l3 l4 l5 l6 l7 l8 l9 l10 l11 l12 l13 l14 l15 l16 l17 l18 l19 l20 l21 l22 l23 l24 l25 l26 l27 l28 l29 l30 l31 l32 l33
+        l34 l35 l36 l37 l38 l39 l40 l41 l42 l43 l44 l45 l46 l47 l48 l49 l50 l51)
+        (rest-of (rest-of (rest-of (rest-of (rest-of (rest-of (rest-of (rest-of
+        (rest-of (rest-of (rest-of (rest-of (rest-of (rest-of (rest-of (rest-of
+        (rest-of (rest-of (rest-of (rest-of (rest-of (rest-of (rest-of (rest-of
+        (rest-of (rest-of (rest-of (rest-of pieces.turn-1))))))))))))))))))))))))))))
+        (anyQ (Turned l0 l1 l2 l3 l4 l5 l6 l7 l8 l9 l10 l11 l12 l13 l14 l15 l16 l17 l18 l19 l20 l21 l22 l23 l24 l25 l26 l27 l28 l29 l30 l31 l32 l33
+        l34 l35 l36 l37 l38 l39 l40 l41 l42 l43 l44 l45 l46 l47 l48 l49 l50 l51 x)))
+    unfolding afterTurn
+    turn·seg·3 l0 l1 l2 l3 l4 l5 l6 l7 l8 l9 l10 l11 l12 l13 l14 l15 l16 l17 l18 l19 l20 l21 l22 l23 l24 l25 l26 l27 l28 l29 l30 l31 l32 l33 l34 l35
+        l36 l37 l38 l39 l40 l41 l42 l43 l44 l45 l46 l47 l48 l49 l50 l51 x v1 r1 ws1 e1 is1 held ν·2·10 δ·2·10 ν·2·11 δ·2·11 ν·2·12 δ·2·12 ν·2·13
+        δ·2·13 ν·2·14 δ·2·14 ν·2·15 δ·2·15 ν·2·16 δ·2·16 ν·2·17 δ·2·17 ν·2·18 δ·2·18 ν·2·19 δ·2·19 ν·2·20 δ·2·20 ν·2·21 δ·2·21 ν·2·22 δ·2·22 v2 r2
+        ws2 e2 len·2·vars len·2·index len·2·words len·2·defs len·2·rows len·2·lists len·2·kept len·2·feet len·2·cells len·2·ids len·2·memo
+        len·2·facts is2 =
+        assigns-last ! (of-opd ! (load ! (from ! (stop !)) (look ! 96 refl))) (from ! (stop !))
+        (store ! 98 refl (LL.lawful RunT.the-type RunL.the-laws 𝓤 H A W .typed r2 _ is2 .0)) $
+        rewrite ! 98 (λ (u : Val). ‵ (fat fullShare RunL.mir l24 0 u)) (ap only ((LL.tells RunT.the-type RunL.the-laws) r2 (v2 ∷ []) is2)) refl $
+        forget ! 96 refl $
+        forget ! 94 refl $
+        forget ! 92 refl $
+        forget ! 90 refl $
+        forget ! 88 refl $
+        forget ! 86 refl $
+        forget ! 84 refl $
+        forget ! 82 refl $
+        forget ! 80 refl $
+        forget ! 78 refl $
+        forget ! 76 refl $
+        forget ! 74 refl $
+        forget ! 72 refl $
+        forget ! 70 refl $
+        forget ! 68 refl $
+        forget ! 66 refl $
+        forget ! 64 refl $
+        forget ! 62 refl $
+        forget ! 60 refl $
+        forget ! 58 refl $
+        forget ! 56 refl $
+        forget ! 54 refl $
+        forget ! 52 refl $
+        forget ! 50 refl $
+        forget ! 48 refl $
+        forget ! 46 refl $
+        forget ! 44 refl $
+        keep ! (43 ∷ 42 ∷ 41 ∷ 40 ∷ 39 ∷ 38 ∷ 37 ∷ 36 ∷ 35 ∷ 24 ∷ 22 ∷ 20 ∷ 18 ∷ 16 ∷ 14 ∷ 12 ∷ 10 ∷ 8 ∷ 6 ∷ 4 ∷ 2 ∷ 0 ∷ 34 ∷ 33 ∷ 32 ∷ 31 ∷ 30 ∷ 29
+        ∷ 28 ∷ 27 ∷ 26 ∷ 25 ∷ 23 ∷ 21 ∷ 19 ∷ 17 ∷ 15 ∷ 13 ∷ 11 ∷ 9 ∷ 7 ∷ 5 ∷ 3 ∷ 1 ∷ 44 ∷ 45 ∷ 46 ∷ 47 ∷ 48 ∷ 49 ∷ 50 ∷ 51 ∷ 52 ∷ 53 ∷ 54 ∷ 55 ∷ 56
+        ∷ 57 ∷ 58 ∷ 59 ∷ 60 ∷ 61 ∷ 62 ∷ 63 ∷ 64 ∷ 65 ∷ 66 ∷ 67 ∷ 68 ∷ 69 ∷ 70 ∷ 71 ∷ 72 ∷ 73 ∷ 74 ∷ 75 ∷ 76 ∷ 77 ∷ 78 ∷ 79 ∷ 80 ∷ 81 ∷ 82 ∷ 83 ∷ 84
+        ∷ 85 ∷ 86 ∷ 87 ∷ 88 ∷ 89 ∷ 90 ∷ 91 ∷ 92 ∷ 93 ∷ 94 ∷ 95 ∷ 96 ∷ 97 ∷ 98 ∷ 99 ∷ 100 ∷ 101 ∷ 102 ∷ 103 ∷ 104 ∷ 105 ∷ 106 ∷ 107 ∷ 108 ∷ 109 ∷ 110
+        ∷ 111 ∷ 112 ∷ 113 ∷ 114 ∷ 115 ∷ 116 ∷ 117 ∷ 118 ∷ 119 ∷ 120 ∷ 121 ∷ 122 ∷ 123 ∷ 124 ∷ 125 ∷ 126 ∷ 127 ∷ 128 ∷ 129 ∷ 130 ∷ 131 ∷ 132 ∷ 133
+        ∷ 134 ∷ 135 ∷ 136 ∷ 137 ∷ 138 ∷ 139 ∷ 140 ∷ 141 ∷ 142 ∷ 143 ∷ 144 ∷ 145 ∷ 146 ∷ 147 ∷ []) $
+        again ! (Fewer theory goals proof (theoryLists sorts symbols inputs rules rulevars patterns) (working vars index words defs rows lists) kept
+        feet cells ids memo s facts) (At l0 l1 l2 l3 l4 l5 l6 l7 l8 l9 l10 l11 l12 l13 l14 l15 l16 l17 l18 l19 l20 l21 l22 l23 l24 l25 l26 l27 l28 l29
+        l30 l31 l32 l33 l34 l35 l36 l37 l38 l39 l40 l41 l42 l43 l44 l45 l46 l47 l48 l49 l50 l51) x
+        (next theory goals proof (theoryLists sorts symbols inputs rules rulevars patterns) (working vars index words defs rows lists) kept feet cells
+        ids memo s facts x e2 (is-going r1 e1 held) v2 is2 len·2·vars len·2·index len·2·words len·2·defs len·2·rows len·2·lists len·2·kept len·2·feet
+        len·2·cells len·2·ids len·2·memo len·2·facts) (less theory goals proof (theoryLists sorts symbols inputs rules rulevars patterns)
+        (working vars index words defs rows lists) kept feet cells ids memo s facts x e2 (is-going r1 e1 held))
+
+    turn·seg·2 : (l0 : ℕ) (l1 : ℕ) (l2 : ℕ) (l3 : ℕ) (l4 : ℕ) (l5 : ℕ) (l6 : ℕ) (l7 : ℕ) (l8 : ℕ) (l9 : ℕ) (l10 : ℕ) (l11 : ℕ) (l12 : ℕ) (l13 : ℕ)
+        (l14 : ℕ) (l15 : ℕ) (l16 : ℕ) (l17 : ℕ) (l18 : ℕ) (l19 : ℕ) (l20 : ℕ) (l21 : ℕ) (l22 : ℕ) (l23 : ℕ) (l24 : ℕ) (l25 : ℕ) (l26 : ℕ) (l27 : ℕ)
+        (l28 : ℕ) (l29 : ℕ) (l30 : ℕ) (l31 : ℕ) (l32 : ℕ) (l33 : ℕ) (l34 : ℕ) (l35 : ℕ) (l36 : ℕ) (l37 : ℕ) (l38 : ℕ) (l39 : ℕ) (l40 : ℕ) (l41 : ℕ)
+        (l42 : ℕ) (l43 : ℕ) (l44 : ℕ) (l45 : ℕ) (l46 : ℕ) (l47 : ℕ) (l48 : ℕ) (l49 : ℕ) (l50 : ℕ) (l51 : ℕ)
+        (x : Looping theory goals proof (theoryLists sorts symbols inputs rules rulevars patterns) (working vars index words defs rows lists) kept
+        feet cells ids memo s facts) (v1 : Val) (r1 : Bool) (ws1 : (Unit {0} × Unit {0})) (e1 : r1 ≡ x .st .going) (is1 : Is bool r1 (v1 ∷ []))
+        (held : Holds r1) (ν·2·10 : ℕ) (δ·2·10 : GName) (ν·2·11 : ℕ) (δ·2·11 : GName) (ν·2·12 : ℕ) (δ·2·12 : GName) (ν·2·13 : ℕ) (δ·2·13 : GName)
+        (ν·2·14 : ℕ) (δ·2·14 : GName) (ν·2·15 : ℕ) (δ·2·15 : GName) (ν·2·16 : ℕ) (δ·2·16 : GName) (ν·2·17 : ℕ) (δ·2·17 : GName) (ν·2·18 : ℕ)
+        (δ·2·18 : GName) (ν·2·19 : ℕ) (δ·2·19 : GName) (ν·2·20 : ℕ) (δ·2·20 : GName) (ν·2·21 : ℕ) (δ·2·21 : GName) (ν·2·22 : ℕ) (δ·2·22 : GName)
+        (v2 : Val) (r2 : Run) (ws2 : (Unit {0} × (Unit {0} × (Unit {0} × (Unit {0} ×
+        (Unit {0} × (Unit {0} × (Unit {0} × (Unit {0} × (Unit {0} × (Unit {0} ×
+        ((List ℕ) × ((List ℕ) × ((List ℕ) × ((List ℕ) × ((List ℕ) × ((List ℕ) ×
+        ((List ℕ) × ((List ℕ) × ((List ℕ) × ((List ℕ) × ((List ℕ) × ((List Fact) × (Counts × Unit {0}))))))))))))))))))))))))
+        (e2 : OneTaken theory goals proof (theoryLists sorts symbols inputs rules rulevars patterns) (x .Z)
+        (working (ws2 .1 .1 .1 .1 .1 .1 .1 .1 .1 .1 .0) (ws2 .1 .1 .1 .1 .1 .1 .1 .1 .1 .1 .1 .0) (ws2 .1 .1 .1 .1 .1 .1 .1 .1 .1 .1 .1 .1 .0)
+        (ws2 .1 .1 .1 .1 .1 .1 .1 .1 .1 .1 .1 .1 .1 .0) (ws2 .1 .1 .1 .1 .1 .1 .1 .1 .1 .1 .1 .1 .1 .1 .0)
+        (ws2 .1 .1 .1 .1 .1 .1 .1 .1 .1 .1 .1 .1 .1 .1 .1 .0)) (ws2 .1 .1 .1 .1 .1 .1 .1 .1 .1 .1 .1 .1 .1 .1 .1 .1 .0)
+        (ws2 .1 .1 .1 .1 .1 .1 .1 .1 .1 .1 .1 .1 .1 .1 .1 .1 .1 .0) (ws2 .1 .1 .1 .1 .1 .1 .1 .1 .1 .1 .1 .1 .1 .1 .1 .1 .1 .1 .0)
+        (ws2 .1 .1 .1 .1 .1 .1 .1 .1 .1 .1 .1 .1 .1 .1 .1 .1 .1 .1 .1 .0) (ws2 .1 .1 .1 .1 .1 .1 .1 .1 .1 .1 .1 .1 .1 .1 .1 .1 .1 .1 .1 .1 .0) (x .st)
+        r2 (x .fs-now) (ws2 .1 .1 .1 .1 .1 .1 .1 .1 .1 .1 .1 .1 .1 .1 .1 .1 .1 .1 .1 .1 .1 .0)
+        (ws2 .1 .1 .1 .1 .1 .1 .1 .1 .1 .1 .1 .1 .1 .1 .1 .1 .1 .1 .1 .1 .1 .1 .0))
+        (len·2·vars : length (ws2 .1 .1 .1 .1 .1 .1 .1 .1 .1 .1 .0) ≡ length (x .Z .vars))
+        (len·2·index : length (ws2 .1 .1 .1 .1 .1 .1 .1 .1 .1 .1 .1 .0) ≡ length (x .Z .index))
+        (len·2·words : length (ws2 .1 .1 .1 .1 .1 .1 .1 .1 .1 .1 .1 .1 .0) ≡ length (x .Z .words))
+        (len·2·defs : length (ws2 .1 .1 .1 .1 .1 .1 .1 .1 .1 .1 .1 .1 .1 .0) ≡ length (x .Z .defs))
+        (len·2·rows : length (ws2 .1 .1 .1 .1 .1 .1 .1 .1 .1 .1 .1 .1 .1 .1 .0) ≡ length (x .Z .goals))
+        (len·2·lists : length (ws2 .1 .1 .1 .1 .1 .1 .1 .1 .1 .1 .1 .1 .1 .1 .1 .0) ≡ length (x .Z .lists))
+        (len·2·kept : length (ws2 .1 .1 .1 .1 .1 .1 .1 .1 .1 .1 .1 .1 .1 .1 .1 .1 .0) ≡ length (x .rows-now))
+        (len·2·feet : length (ws2 .1 .1 .1 .1 .1 .1 .1 .1 .1 .1 .1 .1 .1 .1 .1 .1 .1 .0) ≡ length (x .feet-now))
+        (len·2·cells : length (ws2 .1 .1 .1 .1 .1 .1 .1 .1 .1 .1 .1 .1 .1 .1 .1 .1 .1 .1 .0) ≡ length (x .cells-now))
+        (len·2·ids : length (ws2 .1 .1 .1 .1 .1 .1 .1 .1 .1 .1 .1 .1 .1 .1 .1 .1 .1 .1 .1 .0) ≡ length (x .ids-now))
+        (len·2·memo : length (ws2 .1 .1 .1 .1 .1 .1 .1 .1 .1 .1 .1 .1 .1 .1 .1 .1 .1 .1 .1 .1 .0) ≡ length (x .memo-now))
+        (len·2·facts : length (ws2 .1 .1 .1 .1 .1 .1 .1 .1 .1 .1 .1 .1 .1 .1 .1 .1 .1 .1 .1 .1 .1 .0) ≡ length (x .fs-now))
+        (is2 : Is RunT.the-row r2 (v2 ∷ [])) →
+        Sq W (‵ (flft (ν·2·22 ∷ []) fullShare)
+        ∷ ‵ (flft (ν·2·21 ∷ []) fullShare)
+        ∷ ‵ (flft (ν·2·20 ∷ []) fullShare)
+        ∷ ‵ (flft (ν·2·19 ∷ []) fullShare)
+        ∷ ‵ (flft (ν·2·18 ∷ []) fullShare)
+        ∷ ‵ (flft (ν·2·17 ∷ []) fullShare)
+        ∷ ‵ (flft (ν·2·16 ∷ []) fullShare)
+        ∷ ‵ (flft (ν·2·15 ∷ []) fullShare)
+        ∷ ‵ (flft (ν·2·14 ∷ []) fullShare)
+        ∷ ‵ (flft (ν·2·13 ∷ []) fullShare)
+        ∷ ‵ (flft (ν·2·12 ∷ []) fullShare)
+        ∷ ‵ (flft (ν·2·11 ∷ []) fullShare)
+        ∷ ‵ (flft (ν·2·10 ∷ []) fullShare)
+        ∷ ‵ (flft κ·patterns q·patterns)
+        ∷ ‵ (flft κ·rulevars q·rulevars)
+        ∷ ‵ (flft κ·rules q·rules)
+        ∷ ‵ (flft κ·inputs q·inputs)
+        ∷ ‵ (flft κ·symbols q·symbols)
+        ∷ ‵ (flft κ·sorts q·sorts)
+        ∷ ‵ (flft κ·proof q·proof)
+        ∷ ‵ (flft κ·goals q·goals)
+        ∷ ‵ (flft κ·theory q·theory)
+        ∷ ‵ (fres δ·2·22 (CountsT.the-row .coded .code (ws2 .1 .1 .1 .1 .1 .1 .1 .1 .1 .1 .1 .1 .1 .1 .1 .1 .1 .1 .1 .1 .1 .1 .0)))
+        ∷ ‵ (finally FactT.the-row δ·2·21 (ws2 .1 .1 .1 .1 .1 .1 .1 .1 .1 .1 .1 .1 .1 .1 .1 .1 .1 .1 .1 .1 .1 .0))
+        ∷ ‵ (finally u32 δ·2·20 (ws2 .1 .1 .1 .1 .1 .1 .1 .1 .1 .1 .1 .1 .1 .1 .1 .1 .1 .1 .1 .1 .0))
+        ∷ ‵ (finally u32 δ·2·19 (ws2 .1 .1 .1 .1 .1 .1 .1 .1 .1 .1 .1 .1 .1 .1 .1 .1 .1 .1 .1 .0))
+        ∷ ‵ (finally u32 δ·2·18 (ws2 .1 .1 .1 .1 .1 .1 .1 .1 .1 .1 .1 .1 .1 .1 .1 .1 .1 .1 .0))
+        ∷ ‵ (finally u64 δ·2·17 (ws2 .1 .1 .1 .1 .1 .1 .1 .1 .1 .1 .1 .1 .1 .1 .1 .1 .1 .0))
+        ∷ ‵ (finally u32 δ·2·16 (ws2 .1 .1 .1 .1 .1 .1 .1 .1 .1 .1 .1 .1 .1 .1 .1 .1 .0))
+        ∷ ‵ (finally u32 δ·2·15 (ws2 .1 .1 .1 .1 .1 .1 .1 .1 .1 .1 .1 .1 .1 .1 .1 .0))
+        ∷ ‵ (finally u32 δ·2·14 (ws2 .1 .1 .1 .1 .1 .1 .1 .1 .1 .1 .1 .1 .1 .1 .0))
+        ∷ ‵ (finally u32 δ·2·13 (ws2 .1 .1 .1 .1 .1 .1 .1 .1 .1 .1 .1 .1 .1 .0))
+        ∷ ‵ (finally u32 δ·2·12 (ws2 .1 .1 .1 .1 .1 .1 .1 .1 .1 .1 .1 .1 .0))
+        ∷ ‵ (finally u32 δ·2·11 (ws2 .1 .1 .1 .1 .1 .1 .1 .1 .1 .1 .1 .0))
+        ∷ ‵ (finally u32 δ·2·10 (ws2 .1 .1 .1 .1 .1 .1 .1 .1 .1 .1 .0))
+        ∷ ‵ (ThinLent CountsT.the-row κ·counts (ν·2·22 ∷ []) q·counts γ·counts b·counts o·counts δ·2·22 (x .counts-now))
+        ∷ ‵ (LentAgain FactT.the-row κ·facts (ν·2·21 ∷ []) q·facts γ·facts b·facts o·facts δ·2·21 (x .fs-now))
+        ∷ ‵ (LentAgain u32 κ·memo (ν·2·20 ∷ []) q·memo γ·memo b·memo o·memo δ·2·20 (x .memo-now))
+        ∷ ‵ (LentAgain u32 κ·ids (ν·2·19 ∷ []) q·ids γ·ids b·ids o·ids δ·2·19 (x .ids-now))
+        ∷ ‵ (LentAgain u32 κ·cells (ν·2·18 ∷ []) q·cells γ·cells b·cells o·cells δ·2·18 (x .cells-now))
+        ∷ ‵ (LentAgain u64 κ·feet (ν·2·17 ∷ []) q·feet γ·feet b·feet o·feet δ·2·17 (x .feet-now))
+        ∷ ‵ (LentAgain u32 κ·kept (ν·2·16 ∷ []) q·kept γ·kept b·kept o·kept δ·2·16 (x .rows-now))
+        ∷ ‵ (LentAgain u32 κ·lists (ν·2·15 ∷ []) q·lists γ·lists b·lists o·lists δ·2·15 (x .Z .lists))
+        ∷ ‵ (LentAgain u32 κ·rows (ν·2·14 ∷ []) q·rows γ·rows b·rows o·rows δ·2·14 (x .Z .goals))
+        ∷ ‵ (LentAgain u32 κ·defs (ν·2·13 ∷ []) q·defs γ·defs b·defs o·defs δ·2·13 (x .Z .defs))
+        ∷ ‵ (LentAgain u32 κ·words (ν·2·12 ∷ []) q·words γ·words b·words o·words δ·2·12 (x .Z .words))
+        ∷ ‵ (LentAgain u32 κ·index (ν·2·11 ∷ []) q·index γ·index b·index o·index δ·2·11 (x .Z .index))
+        ∷ ‵ (LentAgain u32 κ·vars (ν·2·10 ∷ []) q·vars γ·vars b·vars o·vars δ·2·10 (x .Z .vars))
+        ∷ ‵ (ShrSlice (named 8) κ·patterns u32 .own (ref·patterns γ·patterns patterns) (s·patterns ∷ []))
+        ∷ ‵ (ShrSlice (named 7) κ·rulevars u32 .own (ref·rulevars γ·rulevars rulevars) (s·rulevars ∷ []))
+        ∷ ‵ (ShrSlice (named 6) κ·rules u32 .own (ref·rules γ·rules rules) (s·rules ∷ []))
+        ∷ ‵ (ShrSlice (named 5) κ·inputs u32 .own (ref·inputs γ·inputs inputs) (s·inputs ∷ []))
+        ∷ ‵ (ShrSlice (named 4) κ·symbols u32 .own (ref·symbols γ·symbols symbols) (s·symbols ∷ []))
+        ∷ ‵ (ShrSlice (named 3) κ·sorts u32 .own (ref·sorts γ·sorts sorts) (s·sorts ∷ []))
+        ∷ ‵ (ShrSlice (named 2) κ·proof u8 .own (ref·proof γ·proof proof) (s·proof ∷ []))
+        ∷ ‵ (ShrSlice (named 1) κ·goals u8 .own (ref·goals γ·goals goals) (s·goals ∷ []))
+        ∷ ‵ (ShrSlice (named 0) κ·theory u8 .own (ref·theory γ·theory theory) (s·theory ∷ []))
+        ∷ ‵ (fat fullShare (tyRef erased mut (pointee (CountsT.the-row .written))) l51 0 s·counts)
+        ∷ ‵ (fdies (tyRef erased mut (pointee (CountsT.the-row .written))) l51)
+        ∷ ‵ (fat fullShare (sliceTy (tyRef erased mut (pointee (FactT.the-row .written)))) l50 0 s·facts)
+        ∷ ‵ (fdies (sliceTy (tyRef erased mut (pointee (FactT.the-row .written)))) l50)
+        ∷ ‵ (fat fullShare (tyRef erased mut (pointee (FactT.the-row .written))) l49 0 (vptr b·facts o·facts))
+        ∷ ‵ (fdies (tyRef erased mut (pointee (FactT.the-row .written))) l49)
+        ∷ ‵ (fat fullShare (sliceTy (tyRef erased mut (tyInt w32))) l48 0 s·memo)
+        ∷ ‵ (fdies (sliceTy (tyRef erased mut (tyInt w32))) l48)
+        ∷ ‵ (fat fullShare (tyRef erased mut (tyInt w32)) l47 0 (vptr b·memo o·memo))
+        ∷ ‵ (fdies (tyRef erased mut (tyInt w32)) l47)
+        ∷ ‵ (fat fullShare (sliceTy (tyRef erased mut (tyInt w32))) l46 0 s·ids)
+        ∷ ‵ (fdies (sliceTy (tyRef erased mut (tyInt w32))) l46)
+        ∷ ‵ (fat fullShare (tyRef erased mut (tyInt w32)) l45 0 (vptr b·ids o·ids))
+        ∷ ‵ (fdies (tyRef erased mut (tyInt w32)) l45)
+        ∷ ‵ (fat fullShare (sliceTy (tyRef erased mut (tyInt w32))) l44 0 s·cells)
+        ∷ ‵ (fdies (sliceTy (tyRef erased mut (tyInt w32))) l44)
+        ∷ ‵ (fat fullShare (tyRef erased mut (tyInt w32)) l43 0 (vptr b·cells o·cells))
+        ∷ ‵ (fdies (tyRef erased mut (tyInt w32)) l43)
+        ∷ ‵ (fat fullShare (sliceTy (tyRef erased mut (tyInt w64))) l42 0 s·feet)
+        ∷ ‵ (fdies (sliceTy (tyRef erased mut (tyInt w64))) l42)
+        ∷ ‵ (fat fullShare (tyRef erased mut (tyInt w64)) l41 0 (vptr b·feet o·feet))
+        ∷ ‵ (fdies (tyRef erased mut (tyInt w64)) l41)
+        ∷ ‵ (fat fullShare (sliceTy (tyRef erased mut (tyInt w32))) l40 0 s·kept)
+        ∷ ‵ (fdies (sliceTy (tyRef erased mut (tyInt w32))) l40)
+        ∷ ‵ (fat fullShare (tyRef erased mut (tyInt w32)) l39 0 (vptr b·kept o·kept))
+        ∷ ‵ (fdies (tyRef erased mut (tyInt w32)) l39)
+        ∷ ‵ (fat fullShare (sliceTy (tyRef erased mut (tyInt w32))) l38 0 s·lists)
+        ∷ ‵ (fdies (sliceTy (tyRef erased mut (tyInt w32))) l38)
+        ∷ ‵ (fat fullShare (tyRef erased mut (tyInt w32)) l37 0 (vptr b·lists o·lists))
+        ∷ ‵ (fdies (tyRef erased mut (tyInt w32)) l37)
+        ∷ ‵ (fat fullShare (sliceTy (tyRef erased mut (tyInt w32))) l36 0 s·rows)
+        ∷ ‵ (fdies (sliceTy (tyRef erased mut (tyInt w32))) l36)
+        ∷ ‵ (fat fullShare (tyRef erased mut (tyInt w32)) l35 0 (vptr b·rows o·rows))
+        ∷ ‵ (fdies (tyRef erased mut (tyInt w32)) l35)
+        ∷ ‵ (fat fullShare (sliceTy (tyRef erased mut (tyInt w32))) l34 0 s·defs)
+        ∷ ‵ (fdies (sliceTy (tyRef erased mut (tyInt w32))) l34)
+        ∷ ‵ (fat fullShare (tyRef erased mut (tyInt w32)) l33 0 (vptr b·defs o·defs))
+        ∷ ‵ (fdies (tyRef erased mut (tyInt w32)) l33)
+        ∷ ‵ (fat fullShare (sliceTy (tyRef erased mut (tyInt w32))) l32 0 s·words)
+        ∷ ‵ (fdies (sliceTy (tyRef erased mut (tyInt w32))) l32)
+        ∷ ‵ (fat fullShare (tyRef erased mut (tyInt w32)) l31 0 (vptr b·words o·words))
+        ∷ ‵ (fdies (tyRef erased mut (tyInt w32)) l31)
+        ∷ ‵ (fat fullShare (sliceTy (tyRef erased mut (tyInt w32))) l30 0 s·index)
+        ∷ ‵ (fdies (sliceTy (tyRef erased mut (tyInt w32))) l30)
+        ∷ ‵ (fat fullShare (tyRef erased mut (tyInt w32)) l29 0 (vptr b·index o·index))
+        ∷ ‵ (fdies (tyRef erased mut (tyInt w32)) l29)
+        ∷ ‵ (fat fullShare (sliceTy (tyRef erased mut (tyInt w32))) l28 0 s·vars)
+        ∷ ‵ (fdies (sliceTy (tyRef erased mut (tyInt w32))) l28)
+        ∷ ‵ (fat fullShare (tyRef erased mut (tyInt w32)) l27 0 (vptr b·vars o·vars))
+        ∷ ‵ (fdies (tyRef erased mut (tyInt w32)) l27)
+        ∷ ‵ (fat fullShare tyBool l26 0 (vbool r1))
+        ∷ ‵ (fdies tyBool l26)
+        ∷ ‵ (fat fullShare RunL.mir l25 0 v2)
+        ∷ ‵ (fdies RunL.mir l25)
+        ∷ ‵ (fat fullShare RunL.mir l24 0 (LL.val RunT.the-type RunL.the-laws (x .st)))
+        ∷ ‵ (fdies RunL.mir l24)
+        ∷ ‵ (fat fullShare (tyRef (named 21) mut (pointee (CountsT.the-row .written))) l23 0 s·counts)
+        ∷ ‵ (fdies (tyRef (named 21) mut (pointee (CountsT.the-row .written))) l23)
+        ∷ ‵ (fat fullShare (sliceTy (tyRef (named 20) mut (pointee (FactT.the-row .written)))) l22 0 s·facts)
+        ∷ ‵ (fdies (sliceTy (tyRef (named 20) mut (pointee (FactT.the-row .written)))) l22)
+        ∷ ‵ (fat fullShare (sliceTy (tyRef (named 19) mut (tyInt w32))) l21 0 s·memo)
+        ∷ ‵ (fdies (sliceTy (tyRef (named 19) mut (tyInt w32))) l21)
+        ∷ ‵ (fat fullShare (sliceTy (tyRef (named 18) mut (tyInt w32))) l20 0 s·ids)
+        ∷ ‵ (fdies (sliceTy (tyRef (named 18) mut (tyInt w32))) l20)
+        ∷ ‵ (fat fullShare (sliceTy (tyRef (named 17) mut (tyInt w32))) l19 0 s·cells)
+        ∷ ‵ (fdies (sliceTy (tyRef (named 17) mut (tyInt w32))) l19)
+        ∷ ‵ (fat fullShare (sliceTy (tyRef (named 16) mut (tyInt w64))) l18 0 s·feet)
+        ∷ ‵ (fdies (sliceTy (tyRef (named 16) mut (tyInt w64))) l18)
+        ∷ ‵ (fat fullShare (sliceTy (tyRef (named 15) mut (tyInt w32))) l17 0 s·kept)
+        ∷ ‵ (fdies (sliceTy (tyRef (named 15) mut (tyInt w32))) l17)
+        ∷ ‵ (fat fullShare (sliceTy (tyRef (named 14) mut (tyInt w32))) l16 0 s·lists)
+        ∷ ‵ (fdies (sliceTy (tyRef (named 14) mut (tyInt w32))) l16)
+        ∷ ‵ (fat fullShare (sliceTy (tyRef (named 13) mut (tyInt w32))) l15 0 s·rows)
+        ∷ ‵ (fdies (sliceTy (tyRef (named 13) mut (tyInt w32))) l15)
+        ∷ ‵ (fat fullShare (sliceTy (tyRef (named 12) mut (tyInt w32))) l14 0 s·defs)
+        ∷ ‵ (fdies (sliceTy (tyRef (named 12) mut (tyInt w32))) l14)
+        ∷ ‵ (fat fullShare (sliceTy (tyRef (named 11) mut (tyInt w32))) l13 0 s·words)
+        ∷ ‵ (fdies (sliceTy (tyRef (named 11) mut (tyInt w32))) l13)
+        ∷ ‵ (fat fullShare (sliceTy (tyRef (named 10) mut (tyInt w32))) l12 0 s·index)
+        ∷ ‵ (fdies (sliceTy (tyRef (named 10) mut (tyInt w32))) l12)
+        ∷ ‵ (fat fullShare (sliceTy (tyRef (named 9) mut (tyInt w32))) l11 0 s·vars)
+        ∷ ‵ (fdies (sliceTy (tyRef (named 9) mut (tyInt w32))) l11)
+        ∷ ‵ (fat fullShare (sliceTy (tyRef (named 8) imm (tyInt w32))) l10 0 s·patterns)
+        ∷ ‵ (fdies (sliceTy (tyRef (named 8) imm (tyInt w32))) l10)
+        ∷ ‵ (fat fullShare (sliceTy (tyRef (named 7) imm (tyInt w32))) l9 0 s·rulevars)
+        ∷ ‵ (fdies (sliceTy (tyRef (named 7) imm (tyInt w32))) l9)
+        ∷ ‵ (fat fullShare (sliceTy (tyRef (named 6) imm (tyInt w32))) l8 0 s·rules)
+        ∷ ‵ (fdies (sliceTy (tyRef (named 6) imm (tyInt w32))) l8)
+        ∷ ‵ (fat fullShare (sliceTy (tyRef (named 5) imm (tyInt w32))) l7 0 s·inputs)
+        ∷ ‵ (fdies (sliceTy (tyRef (named 5) imm (tyInt w32))) l7)
+        ∷ ‵ (fat fullShare (sliceTy (tyRef (named 4) imm (tyInt w32))) l6 0 s·symbols)
+        ∷ ‵ (fdies (sliceTy (tyRef (named 4) imm (tyInt w32))) l6)
+        ∷ ‵ (fat fullShare (sliceTy (tyRef (named 3) imm (tyInt w32))) l5 0 s·sorts)
+        ∷ ‵ (fdies (sliceTy (tyRef (named 3) imm (tyInt w32))) l5)
+        ∷ ‵ (fat fullShare RunL.mir l4 0 v·s)
+        ∷ ‵ (fdies RunL.mir l4)
+        ∷ ‵ (fat fullShare (sliceTy (tyRef (named 2) imm (tyInt w8))) l3 0 s·proof)
+        ∷ ‵ (fdies (sliceTy (tyRef (named 2) imm (tyInt w8))) l3)
+        ∷ ‵ (fat fullShare (sliceTy (tyRef (named 1) imm (tyInt w8))) l2 0 s·goals)
+        ∷ ‵ (fdies (sliceTy (tyRef (named 1) imm (tyInt w8))) l2)
+        ∷ ‵ (fat fullShare (sliceTy (tyRef (named 0) imm (tyInt w8))) l1 0 s·theory)
+        ∷ ‵ (fdies (sliceTy (tyRef (named 0) imm (tyInt w8))) l1)
+        ∷ ‵ (froom RunL.mir l0 0)
+        ∷ ‵ (fdies RunL.mir l0) ∷ [])
+        (runs C Λ (En l0 l1 l2 l3 l4 l5 l6 l7 l8 l9 l10 l11 l12 l13 l14 l15 l16 l17 l18 l19 l20 l21 l22 l23 l24 l25 l26 l27 l28 l29 l30 l31 l32 l33
+        l34 l35 l36 l37 l38 l39 l40 l41 l42 l43 l44 l45 l46 l47 l48 l49 l50 l51)
+        (rest-of (rest-of (rest-of (rest-of (rest-of (rest-of (rest-of (rest-of
+        (rest-of (rest-of (rest-of (rest-of (rest-of (rest-of (rest-of (rest-of
+        (rest-of (rest-of (rest-of (rest-of (rest-of (rest-of (rest-of (rest-of
+        (rest-of (rest-of (rest-of (rest-of pieces.turn-1))))))))))))))))))))))))))))
+        (anyQ (Turned l0 l1 l2 l3 l4 l5 l6 l7 l8 l9 l10 l11 l12 l13 l14 l15 l16 l17 l18 l19 l20 l21 l22 l23 l24 l25 l26 l27 l28 l29 l30 l31 l32 l33
+        l34 l35 l36 l37 l38 l39 l40 l41 l42 l43 l44 l45 l46 l47 l48 l49 l50 l51 x)))
+    unfolding afterTurn
+    turn·seg·2 l0 l1 l2 l3 l4 l5 l6 l7 l8 l9 l10 l11 l12 l13 l14 l15 l16 l17 l18 l19 l20 l21 l22 l23 l24 l25 l26 l27 l28 l29 l30 l31 l32 l33 l34 l35
+        l36 l37 l38 l39 l40 l41 l42 l43 l44 l45 l46 l47 l48 l49 l50 l51 x v1 r1 ws1 e1 is1 held ν·2·10 δ·2·10 ν·2·11 δ·2·11 ν·2·12 δ·2·12 ν·2·13
+        δ·2·13 ν·2·14 δ·2·14 ν·2·15 δ·2·15 ν·2·16 δ·2·16 ν·2·17 δ·2·17 ν·2·18 δ·2·18 ν·2·19 δ·2·19 ν·2·20 δ·2·20 ν·2·21 δ·2·21 ν·2·22 δ·2·22 v2 r2
+        ws2 e2 len·2·vars len·2·index len·2·words len·2·defs len·2·rows len·2·lists len·2·kept len·2·feet len·2·cells len·2·ids len·2·memo
+        len·2·facts is2 =
+        move ! (12 ∷ []) $
+        lft-end ! tt $
+        move ! (0 ∷ 47 ∷ 34 ∷ []) $
+        use3 W (later (‵ (MutSlice (named 9) κ·vars u32 .own (ref·vars γ·vars (ws2 .1 .1 .1 .1 .1 .1 .1 .1 .1 .1 .0)) (s·vars ∷ []))
+        ⊛ ‵ (flft κ·vars q·vars))) (again-back u32 κ·vars (ν·2·10 ∷ []) q·vars γ·vars b·vars o·vars 𝓤 H A W (named 9) (named 9) (length vars)
+        (x .Z .vars) room·vars (x .vars-long) δ·2·10 (ws2 .1 .1 .1 .1 .1 .1 .1 .1 .1 .1 .0) len·2·vars) $ await ! tt $ split ! $
+        move ! (13 ∷ []) $
+        lft-end ! tt $
+        move ! (0 ∷ 46 ∷ 34 ∷ []) $
+        use3 W (later (‵ (MutSlice (named 10) κ·index u32 .own (ref·index γ·index (ws2 .1 .1 .1 .1 .1 .1 .1 .1 .1 .1 .1 .0)) (s·index ∷ []))
+        ⊛ ‵ (flft κ·index q·index))) (again-back u32 κ·index (ν·2·11 ∷ []) q·index γ·index b·index o·index 𝓤 H A W (named 10) (named 10)
+        (length index) (x .Z .index) room·index (x .index-long) δ·2·11 (ws2 .1 .1 .1 .1 .1 .1 .1 .1 .1 .1 .1 .0) len·2·index) $ await ! tt $ split ! $
+        move ! (14 ∷ []) $
+        lft-end ! tt $
+        move ! (0 ∷ 45 ∷ 34 ∷ []) $
+        use3 W (later (‵ (MutSlice (named 11) κ·words u32 .own (ref·words γ·words (ws2 .1 .1 .1 .1 .1 .1 .1 .1 .1 .1 .1 .1 .0)) (s·words ∷ []))
+        ⊛ ‵ (flft κ·words q·words))) (again-back u32 κ·words (ν·2·12 ∷ []) q·words γ·words b·words o·words 𝓤 H A W (named 11) (named 11)
+        (length words) (x .Z .words) room·words (x .words-long) δ·2·12 (ws2 .1 .1 .1 .1 .1 .1 .1 .1 .1 .1 .1 .1 .0) len·2·words) $ await ! tt $
+        split ! $
+        move ! (15 ∷ []) $
+        lft-end ! tt $
+        move ! (0 ∷ 44 ∷ 34 ∷ []) $
+        use3 W (later (‵ (MutSlice (named 12) κ·defs u32 .own (ref·defs γ·defs (ws2 .1 .1 .1 .1 .1 .1 .1 .1 .1 .1 .1 .1 .1 .0)) (s·defs ∷ []))
+        ⊛ ‵ (flft κ·defs q·defs))) (again-back u32 κ·defs (ν·2·13 ∷ []) q·defs γ·defs b·defs o·defs 𝓤 H A W (named 12) (named 12) (length defs)
+        (x .Z .defs) room·defs (x .defs-long) δ·2·13 (ws2 .1 .1 .1 .1 .1 .1 .1 .1 .1 .1 .1 .1 .1 .0) len·2·defs) $ await ! tt $ split ! $
+        move ! (16 ∷ []) $
+        lft-end ! tt $
+        move ! (0 ∷ 43 ∷ 34 ∷ []) $
+        use3 W (later (‵ (MutSlice (named 13) κ·rows u32 .own (ref·rows γ·rows (ws2 .1 .1 .1 .1 .1 .1 .1 .1 .1 .1 .1 .1 .1 .1 .0)) (s·rows ∷ []))
+        ⊛ ‵ (flft κ·rows q·rows))) (again-back u32 κ·rows (ν·2·14 ∷ []) q·rows γ·rows b·rows o·rows 𝓤 H A W (named 13) (named 13) (length rows)
+        (x .Z .goals) room·rows (x .goals-long) δ·2·14 (ws2 .1 .1 .1 .1 .1 .1 .1 .1 .1 .1 .1 .1 .1 .1 .0) len·2·rows) $ await ! tt $ split ! $
+        move ! (17 ∷ []) $
+        lft-end ! tt $
+        move ! (0 ∷ 42 ∷ 34 ∷ []) $
+        use3 W (later (‵ (MutSlice (named 14) κ·lists u32 .own (ref·lists γ·lists (ws2 .1 .1 .1 .1 .1 .1 .1 .1 .1 .1 .1 .1 .1 .1 .1 .0))
+        (s·lists ∷ [])) ⊛ ‵ (flft κ·lists q·lists))) (again-back u32 κ·lists (ν·2·15 ∷ []) q·lists γ·lists b·lists o·lists 𝓤 H A W (named 14)
+        (named 14) (length lists) (x .Z .lists) room·lists (x .lists-long) δ·2·15 (ws2 .1 .1 .1 .1 .1 .1 .1 .1 .1 .1 .1 .1 .1 .1 .1 .0) len·2·lists) $
+        await ! tt $ split ! $
+        move ! (18 ∷ []) $
+        lft-end ! tt $
+        move ! (0 ∷ 41 ∷ 34 ∷ []) $
+        use3 W (later (‵ (MutSlice (named 15) κ·kept u32 .own (ref·kept γ·kept (ws2 .1 .1 .1 .1 .1 .1 .1 .1 .1 .1 .1 .1 .1 .1 .1 .1 .0))
+        (s·kept ∷ [])) ⊛ ‵ (flft κ·kept q·kept))) (again-back u32 κ·kept (ν·2·16 ∷ []) q·kept γ·kept b·kept o·kept 𝓤 H A W (named 15) (named 15)
+        (length kept) (x .rows-now) room·kept (x .rows-long) δ·2·16 (ws2 .1 .1 .1 .1 .1 .1 .1 .1 .1 .1 .1 .1 .1 .1 .1 .1 .0) len·2·kept) $
+        await ! tt $ split ! $
+        move ! (19 ∷ []) $
+        lft-end ! tt $
+        move ! (0 ∷ 40 ∷ 34 ∷ []) $
+        use3 W (later (‵ (MutSlice (named 16) κ·feet u64 .own (ref·feet γ·feet (ws2 .1 .1 .1 .1 .1 .1 .1 .1 .1 .1 .1 .1 .1 .1 .1 .1 .1 .0))
+        (s·feet ∷ [])) ⊛ ‵ (flft κ·feet q·feet))) (again-back u64 κ·feet (ν·2·17 ∷ []) q·feet γ·feet b·feet o·feet 𝓤 H A W (named 16) (named 16)
+        (length feet) (x .feet-now) room·feet (x .feet-long) δ·2·17 (ws2 .1 .1 .1 .1 .1 .1 .1 .1 .1 .1 .1 .1 .1 .1 .1 .1 .1 .0) len·2·feet) $
+        await ! tt $ split ! $
+        move ! (20 ∷ []) $
+        lft-end ! tt $
+        move ! (0 ∷ 39 ∷ 34 ∷ []) $
+        use3 W (later (‵ (MutSlice (named 17) κ·cells u32 .own (ref·cells γ·cells (ws2 .1 .1 .1 .1 .1 .1 .1 .1 .1 .1 .1 .1 .1 .1 .1 .1 .1 .1 .0))
+        (s·cells ∷ [])) ⊛ ‵ (flft κ·cells q·cells))) (again-back u32 κ·cells (ν·2·18 ∷ []) q·cells γ·cells b·cells o·cells 𝓤 H A W (named 17)
+        (named 17) (length cells) (x .cells-now) room·cells (x .cells-long) δ·2·18 (ws2 .1 .1 .1 .1 .1 .1 .1 .1 .1 .1 .1 .1 .1 .1 .1 .1 .1 .1 .0)
+        len·2·cells) $ await ! tt $ split ! $
+        move ! (21 ∷ []) $
+        lft-end ! tt $
+        move ! (0 ∷ 38 ∷ 34 ∷ []) $
+        use3 W (later (‵ (MutSlice (named 18) κ·ids u32 .own (ref·ids γ·ids (ws2 .1 .1 .1 .1 .1 .1 .1 .1 .1 .1 .1 .1 .1 .1 .1 .1 .1 .1 .1 .0))
+        (s·ids ∷ [])) ⊛ ‵ (flft κ·ids q·ids))) (again-back u32 κ·ids (ν·2·19 ∷ []) q·ids γ·ids b·ids o·ids 𝓤 H A W (named 18) (named 18) (length ids)
+        (x .ids-now) room·ids (x .ids-long) δ·2·19 (ws2 .1 .1 .1 .1 .1 .1 .1 .1 .1 .1 .1 .1 .1 .1 .1 .1 .1 .1 .1 .0) len·2·ids) $ await ! tt $
+        split ! $
+        move ! (22 ∷ []) $
+        lft-end ! tt $
+        move ! (0 ∷ 37 ∷ 34 ∷ []) $
+        use3 W (later (‵ (MutSlice (named 19) κ·memo u32 .own (ref·memo γ·memo (ws2 .1 .1 .1 .1 .1 .1 .1 .1 .1 .1 .1 .1 .1 .1 .1 .1 .1 .1 .1 .1 .0))
+        (s·memo ∷ [])) ⊛ ‵ (flft κ·memo q·memo))) (again-back u32 κ·memo (ν·2·20 ∷ []) q·memo γ·memo b·memo o·memo 𝓤 H A W (named 19) (named 19)
+        (length memo) (x .memo-now) room·memo (x .memo-long) δ·2·20 (ws2 .1 .1 .1 .1 .1 .1 .1 .1 .1 .1 .1 .1 .1 .1 .1 .1 .1 .1 .1 .1 .0) len·2·memo) $
+        await ! tt $ split ! $
+        move ! (23 ∷ []) $
+        lft-end ! tt $
+        move ! (0 ∷ 36 ∷ 34 ∷ []) $
+        use3 W (later (‵ (MutSlice (named 20) κ·facts FactT.the-row .own (ref·facts γ·facts
+        (ws2 .1 .1 .1 .1 .1 .1 .1 .1 .1 .1 .1 .1 .1 .1 .1 .1 .1 .1 .1 .1 .1 .0)) (s·facts ∷ [])) ⊛ ‵ (flft κ·facts q·facts)))
+        (again-back FactT.the-row κ·facts (ν·2·21 ∷ []) q·facts γ·facts b·facts o·facts 𝓤 H A W (named 20) (named 20) (length facts) (x .fs-now)
+        room·facts (x .facts-long) δ·2·21 (ws2 .1 .1 .1 .1 .1 .1 .1 .1 .1 .1 .1 .1 .1 .1 .1 .1 .1 .1 .1 .1 .1 .0) len·2·facts) $ await ! tt $
+        split ! $
+        move ! (24 ∷ []) $
+        lft-end ! tt $
+        move ! (0 ∷ 35 ∷ 34 ∷ []) $
+        use3 W (later (‵ (MutRef (named 21) κ·counts CountsT.the-row .own (ref·counts γ·counts
+        (ws2 .1 .1 .1 .1 .1 .1 .1 .1 .1 .1 .1 .1 .1 .1 .1 .1 .1 .1 .1 .1 .1 .1 .0)) (s·counts ∷ [])) ⊛ ‵ (flft κ·counts q·counts)))
+        (thin-back 𝓤 H A W CountsT.the-row (named 21) κ·counts (ν·2·22 ∷ []) q·counts γ·counts b·counts o·counts δ·2·22 (x .counts-now)
+        (ws2 .1 .1 .1 .1 .1 .1 .1 .1 .1 .1 .1 .1 .1 .1 .1 .1 .1 .1 .1 .1 .1 .1 .0)) $ await ! tt $ split ! $
+        turn·seg·3 l0 l1 l2 l3 l4 l5 l6 l7 l8 l9 l10 l11 l12 l13 l14 l15 l16 l17 l18 l19 l20 l21 l22 l23 l24 l25 l26 l27 l28 l29 l30 l31 l32 l33 l34
+        l35 l36 l37 l38 l39 l40 l41 l42 l43 l44 l45 l46 l47 l48 l49 l50 l51 x v1 r1 ws1 e1 is1 held ν·2·10 δ·2·10 ν·2·11 δ·2·11 ν·2·12 δ·2·12 ν·2·13
+        δ·2·13 ν·2·14 δ·2·14 ν·2·15 δ·2·15 ν·2·16 δ·2·16 ν·2·17 δ·2·17 ν·2·18 δ·2·18 ν·2·19 δ·2·19 ν·2·20 δ·2·20 ν·2·21 δ·2·21 ν·2·22 δ·2·22 v2 r2 ws2
+        e2 len·2·vars len·2·index len·2·words len·2·defs len·2·rows len·2·lists len·2·kept len·2·feet len·2·cells len·2·ids len·2·memo len·2·facts is2
+
+    turn·seg·1 : (l0 : ℕ) (l1 : ℕ) (l2 : ℕ) (l3 : ℕ) (l4 : ℕ) (l5 : ℕ) (l6 : ℕ) (l7 : ℕ) (l8 : ℕ) (l9 : ℕ) (l10 : ℕ) (l11 : ℕ) (l12 : ℕ) (l13 : ℕ)
+        (l14 : ℕ) (l15 : ℕ) (l16 : ℕ) (l17 : ℕ) (l18 : ℕ) (l19 : ℕ) (l20 : ℕ) (l21 : ℕ) (l22 : ℕ) (l23 : ℕ) (l24 : ℕ) (l25 : ℕ) (l26 : ℕ) (l27 : ℕ)
+        (l28 : ℕ) (l29 : ℕ) (l30 : ℕ) (l31 : ℕ) (l32 : ℕ) (l33 : ℕ) (l34 : ℕ) (l35 : ℕ) (l36 : ℕ) (l37 : ℕ) (l38 : ℕ) (l39 : ℕ) (l40 : ℕ) (l41 : ℕ)
+        (l42 : ℕ) (l43 : ℕ) (l44 : ℕ) (l45 : ℕ) (l46 : ℕ) (l47 : ℕ) (l48 : ℕ) (l49 : ℕ) (l50 : ℕ) (l51 : ℕ)
+        (x : Looping theory goals proof (theoryLists sorts symbols inputs rules rulevars patterns) (working vars index words defs rows lists) kept
+        feet cells ids memo s facts) (v1 : Val) (r1 : Bool) (ws1 : (Unit {0} × Unit {0})) (e1 : r1 ≡ x .st .going) (is1 : Is bool r1 (v1 ∷ []))
+        (held : Holds r1) →
+        Sq W (‵ (ShrSlice (named 8) κ·patterns u32 .own (ref·patterns γ·patterns patterns) (s·patterns ∷ []))
+        ∷ ‵ (ShrSlice (named 8) κ·patterns u32 .own (ref·patterns γ·patterns patterns) (s·patterns ∷ []))
+        ∷ ‵ (ShrSlice (named 7) κ·rulevars u32 .own (ref·rulevars γ·rulevars rulevars) (s·rulevars ∷ []))
+        ∷ ‵ (ShrSlice (named 7) κ·rulevars u32 .own (ref·rulevars γ·rulevars rulevars) (s·rulevars ∷ []))
+        ∷ ‵ (ShrSlice (named 6) κ·rules u32 .own (ref·rules γ·rules rules) (s·rules ∷ []))
+        ∷ ‵ (ShrSlice (named 6) κ·rules u32 .own (ref·rules γ·rules rules) (s·rules ∷ []))
+        ∷ ‵ (ShrSlice (named 5) κ·inputs u32 .own (ref·inputs γ·inputs inputs) (s·inputs ∷ []))
+        ∷ ‵ (ShrSlice (named 5) κ·inputs u32 .own (ref·inputs γ·inputs inputs) (s·inputs ∷ []))
+        ∷ ‵ (ShrSlice (named 4) κ·symbols u32 .own (ref·symbols γ·symbols symbols) (s·symbols ∷ []))
+        ∷ ‵ (ShrSlice (named 4) κ·symbols u32 .own (ref·symbols γ·symbols symbols) (s·symbols ∷ []))
+        ∷ ‵ (ShrSlice (named 3) κ·sorts u32 .own (ref·sorts γ·sorts sorts) (s·sorts ∷ []))
+        ∷ ‵ (ShrSlice (named 3) κ·sorts u32 .own (ref·sorts γ·sorts sorts) (s·sorts ∷ []))
+        ∷ ‵ (ShrSlice (named 2) κ·proof u8 .own (ref·proof γ·proof proof) (s·proof ∷ []))
+        ∷ ‵ (ShrSlice (named 2) κ·proof u8 .own (ref·proof γ·proof proof) (s·proof ∷ []))
+        ∷ ‵ (ShrSlice (named 1) κ·goals u8 .own (ref·goals γ·goals goals) (s·goals ∷ []))
+        ∷ ‵ (ShrSlice (named 1) κ·goals u8 .own (ref·goals γ·goals goals) (s·goals ∷ []))
+        ∷ ‵ (ShrSlice (named 0) κ·theory u8 .own (ref·theory γ·theory theory) (s·theory ∷ []))
+        ∷ ‵ (ShrSlice (named 0) κ·theory u8 .own (ref·theory γ·theory theory) (s·theory ∷ []))
+        ∷ ‵ (MutSlice (named 9) κ·vars u32 .own (ref·vars γ·vars (x .Z .vars)) (s·vars ∷ []))
+        ∷ ‵ (MutSlice (named 10) κ·index u32 .own (ref·index γ·index (x .Z .index)) (s·index ∷ []))
+        ∷ ‵ (MutSlice (named 11) κ·words u32 .own (ref·words γ·words (x .Z .words)) (s·words ∷ []))
+        ∷ ‵ (MutSlice (named 12) κ·defs u32 .own (ref·defs γ·defs (x .Z .defs)) (s·defs ∷ []))
+        ∷ ‵ (MutSlice (named 13) κ·rows u32 .own (ref·rows γ·rows (x .Z .goals)) (s·rows ∷ []))
+        ∷ ‵ (MutSlice (named 14) κ·lists u32 .own (ref·lists γ·lists (x .Z .lists)) (s·lists ∷ []))
+        ∷ ‵ (MutSlice (named 15) κ·kept u32 .own (ref·kept γ·kept (x .rows-now)) (s·kept ∷ []))
+        ∷ ‵ (MutSlice (named 16) κ·feet u64 .own (ref·feet γ·feet (x .feet-now)) (s·feet ∷ []))
+        ∷ ‵ (MutSlice (named 17) κ·cells u32 .own (ref·cells γ·cells (x .cells-now)) (s·cells ∷ []))
+        ∷ ‵ (MutSlice (named 18) κ·ids u32 .own (ref·ids γ·ids (x .ids-now)) (s·ids ∷ []))
+        ∷ ‵ (MutSlice (named 19) κ·memo u32 .own (ref·memo γ·memo (x .memo-now)) (s·memo ∷ []))
+        ∷ ‵ (MutSlice (named 20) κ·facts FactT.the-row .own (ref·facts γ·facts (x .fs-now)) (s·facts ∷ []))
+        ∷ ‵ (MutRef (named 21) κ·counts CountsT.the-row .own (ref·counts γ·counts (x .counts-now)) (s·counts ∷ []))
+        ∷ ‵ (flft κ·theory q·theory)
+        ∷ ‵ (flft κ·goals q·goals)
+        ∷ ‵ (flft κ·proof q·proof)
+        ∷ ‵ (flft κ·sorts q·sorts)
+        ∷ ‵ (flft κ·symbols q·symbols)
+        ∷ ‵ (flft κ·inputs q·inputs)
+        ∷ ‵ (flft κ·rules q·rules)
+        ∷ ‵ (flft κ·rulevars q·rulevars)
+        ∷ ‵ (flft κ·patterns q·patterns)
+        ∷ ‵ (flft κ·vars q·vars)
+        ∷ ‵ (flft κ·index q·index)
+        ∷ ‵ (flft κ·words q·words)
+        ∷ ‵ (flft κ·defs q·defs)
+        ∷ ‵ (flft κ·rows q·rows)
+        ∷ ‵ (flft κ·lists q·lists)
+        ∷ ‵ (flft κ·kept q·kept)
+        ∷ ‵ (flft κ·feet q·feet)
+        ∷ ‵ (flft κ·cells q·cells)
+        ∷ ‵ (flft κ·ids q·ids)
+        ∷ ‵ (flft κ·memo q·memo)
+        ∷ ‵ (flft κ·facts q·facts)
+        ∷ ‵ (flft κ·counts q·counts)
+        ∷ ‵ (fat fullShare (tyRef erased mut (pointee (CountsT.the-row .written))) l51 0 s·counts)
+        ∷ ‵ (fdies (tyRef erased mut (pointee (CountsT.the-row .written))) l51)
+        ∷ ‵ (fat fullShare (sliceTy (tyRef erased mut (pointee (FactT.the-row .written)))) l50 0 s·facts)
+        ∷ ‵ (fdies (sliceTy (tyRef erased mut (pointee (FactT.the-row .written)))) l50)
+        ∷ ‵ (fat fullShare (tyRef erased mut (pointee (FactT.the-row .written))) l49 0 (vptr b·facts o·facts))
+        ∷ ‵ (fdies (tyRef erased mut (pointee (FactT.the-row .written))) l49)
+        ∷ ‵ (fat fullShare (sliceTy (tyRef erased mut (tyInt w32))) l48 0 s·memo)
+        ∷ ‵ (fdies (sliceTy (tyRef erased mut (tyInt w32))) l48)
+        ∷ ‵ (fat fullShare (tyRef erased mut (tyInt w32)) l47 0 (vptr b·memo o·memo))
+        ∷ ‵ (fdies (tyRef erased mut (tyInt w32)) l47)
+        ∷ ‵ (fat fullShare (sliceTy (tyRef erased mut (tyInt w32))) l46 0 s·ids)
+        ∷ ‵ (fdies (sliceTy (tyRef erased mut (tyInt w32))) l46)
+        ∷ ‵ (fat fullShare (tyRef erased mut (tyInt w32)) l45 0 (vptr b·ids o·ids))
+        ∷ ‵ (fdies (tyRef erased mut (tyInt w32)) l45)
+        ∷ ‵ (fat fullShare (sliceTy (tyRef erased mut (tyInt w32))) l44 0 s·cells)
+        ∷ ‵ (fdies (sliceTy (tyRef erased mut (tyInt w32))) l44)
+        ∷ ‵ (fat fullShare (tyRef erased mut (tyInt w32)) l43 0 (vptr b·cells o·cells))
+        ∷ ‵ (fdies (tyRef erased mut (tyInt w32)) l43)
+        ∷ ‵ (fat fullShare (sliceTy (tyRef erased mut (tyInt w64))) l42 0 s·feet)
+        ∷ ‵ (fdies (sliceTy (tyRef erased mut (tyInt w64))) l42)
+        ∷ ‵ (fat fullShare (tyRef erased mut (tyInt w64)) l41 0 (vptr b·feet o·feet))
+        ∷ ‵ (fdies (tyRef erased mut (tyInt w64)) l41)
+        ∷ ‵ (fat fullShare (sliceTy (tyRef erased mut (tyInt w32))) l40 0 s·kept)
+        ∷ ‵ (fdies (sliceTy (tyRef erased mut (tyInt w32))) l40)
+        ∷ ‵ (fat fullShare (tyRef erased mut (tyInt w32)) l39 0 (vptr b·kept o·kept))
+        ∷ ‵ (fdies (tyRef erased mut (tyInt w32)) l39)
+        ∷ ‵ (fat fullShare (sliceTy (tyRef erased mut (tyInt w32))) l38 0 s·lists)
+        ∷ ‵ (fdies (sliceTy (tyRef erased mut (tyInt w32))) l38)
+        ∷ ‵ (fat fullShare (tyRef erased mut (tyInt w32)) l37 0 (vptr b·lists o·lists))
+        ∷ ‵ (fdies (tyRef erased mut (tyInt w32)) l37)
+        ∷ ‵ (fat fullShare (sliceTy (tyRef erased mut (tyInt w32))) l36 0 s·rows)
+        ∷ ‵ (fdies (sliceTy (tyRef erased mut (tyInt w32))) l36)
+        ∷ ‵ (fat fullShare (tyRef erased mut (tyInt w32)) l35 0 (vptr b·rows o·rows))
+        ∷ ‵ (fdies (tyRef erased mut (tyInt w32)) l35)
+        ∷ ‵ (fat fullShare (sliceTy (tyRef erased mut (tyInt w32))) l34 0 s·defs)
+        ∷ ‵ (fdies (sliceTy (tyRef erased mut (tyInt w32))) l34)
+        ∷ ‵ (fat fullShare (tyRef erased mut (tyInt w32)) l33 0 (vptr b·defs o·defs))
+        ∷ ‵ (fdies (tyRef erased mut (tyInt w32)) l33)
+        ∷ ‵ (fat fullShare (sliceTy (tyRef erased mut (tyInt w32))) l32 0 s·words)
+        ∷ ‵ (fdies (sliceTy (tyRef erased mut (tyInt w32))) l32)
+        ∷ ‵ (fat fullShare (tyRef erased mut (tyInt w32)) l31 0 (vptr b·words o·words))
+        ∷ ‵ (fdies (tyRef erased mut (tyInt w32)) l31)
+        ∷ ‵ (fat fullShare (sliceTy (tyRef erased mut (tyInt w32))) l30 0 s·index)
+        ∷ ‵ (fdies (sliceTy (tyRef erased mut (tyInt w32))) l30)
+        ∷ ‵ (fat fullShare (tyRef erased mut (tyInt w32)) l29 0 (vptr b·index o·index))
+        ∷ ‵ (fdies (tyRef erased mut (tyInt w32)) l29)
+        ∷ ‵ (fat fullShare (sliceTy (tyRef erased mut (tyInt w32))) l28 0 s·vars)
+        ∷ ‵ (fdies (sliceTy (tyRef erased mut (tyInt w32))) l28)
+        ∷ ‵ (fat fullShare (tyRef erased mut (tyInt w32)) l27 0 (vptr b·vars o·vars))
+        ∷ ‵ (fdies (tyRef erased mut (tyInt w32)) l27)
+        ∷ ‵ (fat fullShare tyBool l26 0 (vbool r1))
+        ∷ ‵ (fdies tyBool l26)
+        ∷ ‵ (froom RunL.mir l25 0)
+        ∷ ‵ (fdies RunL.mir l25)
+        ∷ ‵ (fat fullShare RunL.mir l24 0 (LL.val RunT.the-type RunL.the-laws (x .st)))
+        ∷ ‵ (fdies RunL.mir l24)
+        ∷ ‵ (fat fullShare (tyRef (named 21) mut (pointee (CountsT.the-row .written))) l23 0 s·counts)
+        ∷ ‵ (fdies (tyRef (named 21) mut (pointee (CountsT.the-row .written))) l23)
+        ∷ ‵ (fat fullShare (sliceTy (tyRef (named 20) mut (pointee (FactT.the-row .written)))) l22 0 s·facts)
+        ∷ ‵ (fdies (sliceTy (tyRef (named 20) mut (pointee (FactT.the-row .written)))) l22)
+        ∷ ‵ (fat fullShare (sliceTy (tyRef (named 19) mut (tyInt w32))) l21 0 s·memo)
+        ∷ ‵ (fdies (sliceTy (tyRef (named 19) mut (tyInt w32))) l21)
+        ∷ ‵ (fat fullShare (sliceTy (tyRef (named 18) mut (tyInt w32))) l20 0 s·ids)
+        ∷ ‵ (fdies (sliceTy (tyRef (named 18) mut (tyInt w32))) l20)
+        ∷ ‵ (fat fullShare (sliceTy (tyRef (named 17) mut (tyInt w32))) l19 0 s·cells)
+        ∷ ‵ (fdies (sliceTy (tyRef (named 17) mut (tyInt w32))) l19)
+        ∷ ‵ (fat fullShare (sliceTy (tyRef (named 16) mut (tyInt w64))) l18 0 s·feet)
+        ∷ ‵ (fdies (sliceTy (tyRef (named 16) mut (tyInt w64))) l18)
+        ∷ ‵ (fat fullShare (sliceTy (tyRef (named 15) mut (tyInt w32))) l17 0 s·kept)
+        ∷ ‵ (fdies (sliceTy (tyRef (named 15) mut (tyInt w32))) l17)
+        ∷ ‵ (fat fullShare (sliceTy (tyRef (named 14) mut (tyInt w32))) l16 0 s·lists)
+        ∷ ‵ (fdies (sliceTy (tyRef (named 14) mut (tyInt w32))) l16)
+        ∷ ‵ (fat fullShare (sliceTy (tyRef (named 13) mut (tyInt w32))) l15 0 s·rows)
+        ∷ ‵ (fdies (sliceTy (tyRef (named 13) mut (tyInt w32))) l15)
+        ∷ ‵ (fat fullShare (sliceTy (tyRef (named 12) mut (tyInt w32))) l14 0 s·defs)
+        ∷ ‵ (fdies (sliceTy (tyRef (named 12) mut (tyInt w32))) l14)
+        ∷ ‵ (fat fullShare (sliceTy (tyRef (named 11) mut (tyInt w32))) l13 0 s·words)
+        ∷ ‵ (fdies (sliceTy (tyRef (named 11) mut (tyInt w32))) l13)
+        ∷ ‵ (fat fullShare (sliceTy (tyRef (named 10) mut (tyInt w32))) l12 0 s·index)
+        ∷ ‵ (fdies (sliceTy (tyRef (named 10) mut (tyInt w32))) l12)
+        ∷ ‵ (fat fullShare (sliceTy (tyRef (named 9) mut (tyInt w32))) l11 0 s·vars)
+        ∷ ‵ (fdies (sliceTy (tyRef (named 9) mut (tyInt w32))) l11)
+        ∷ ‵ (fat fullShare (sliceTy (tyRef (named 8) imm (tyInt w32))) l10 0 s·patterns)
+        ∷ ‵ (fdies (sliceTy (tyRef (named 8) imm (tyInt w32))) l10)
+        ∷ ‵ (fat fullShare (sliceTy (tyRef (named 7) imm (tyInt w32))) l9 0 s·rulevars)
+        ∷ ‵ (fdies (sliceTy (tyRef (named 7) imm (tyInt w32))) l9)
+        ∷ ‵ (fat fullShare (sliceTy (tyRef (named 6) imm (tyInt w32))) l8 0 s·rules)
+        ∷ ‵ (fdies (sliceTy (tyRef (named 6) imm (tyInt w32))) l8)
+        ∷ ‵ (fat fullShare (sliceTy (tyRef (named 5) imm (tyInt w32))) l7 0 s·inputs)
+        ∷ ‵ (fdies (sliceTy (tyRef (named 5) imm (tyInt w32))) l7)
+        ∷ ‵ (fat fullShare (sliceTy (tyRef (named 4) imm (tyInt w32))) l6 0 s·symbols)
+        ∷ ‵ (fdies (sliceTy (tyRef (named 4) imm (tyInt w32))) l6)
+        ∷ ‵ (fat fullShare (sliceTy (tyRef (named 3) imm (tyInt w32))) l5 0 s·sorts)
+        ∷ ‵ (fdies (sliceTy (tyRef (named 3) imm (tyInt w32))) l5)
+        ∷ ‵ (fat fullShare RunL.mir l4 0 v·s)
+        ∷ ‵ (fdies RunL.mir l4)
+        ∷ ‵ (fat fullShare (sliceTy (tyRef (named 2) imm (tyInt w8))) l3 0 s·proof)
+        ∷ ‵ (fdies (sliceTy (tyRef (named 2) imm (tyInt w8))) l3)
+        ∷ ‵ (fat fullShare (sliceTy (tyRef (named 1) imm (tyInt w8))) l2 0 s·goals)
+        ∷ ‵ (fdies (sliceTy (tyRef (named 1) imm (tyInt w8))) l2)
+        ∷ ‵ (fat fullShare (sliceTy (tyRef (named 0) imm (tyInt w8))) l1 0 s·theory)
+        ∷ ‵ (fdies (sliceTy (tyRef (named 0) imm (tyInt w8))) l1)
+        ∷ ‵ (froom RunL.mir l0 0)
+        ∷ ‵ (fdies RunL.mir l0) ∷ [])
+        (runs C Λ (En l0 l1 l2 l3 l4 l5 l6 l7 l8 l9 l10 l11 l12 l13 l14 l15 l16 l17 l18 l19 l20 l21 l22 l23 l24 l25 l26 l27 l28 l29 l30 l31 l32 l33
+        l34 l35 l36 l37 l38 l39 l40 l41 l42 l43 l44 l45 l46 l47 l48 l49 l50 l51)
+        (rest-of (rest-of (rest-of (rest-of (rest-of (rest-of (rest-of (rest-of
+        (rest-of (rest-of (rest-of (rest-of (rest-of (rest-of (rest-of (rest-of
+        (rest-of (rest-of (rest-of (rest-of (rest-of (rest-of (rest-of (rest-of (rest-of (rest-of (rest-of pieces.turn-1)))))))))))))))))))))))))))
+        (anyQ (Turned l0 l1 l2 l3 l4 l5 l6 l7 l8 l9 l10 l11 l12 l13 l14 l15 l16 l17 l18 l19 l20 l21 l22 l23 l24 l25 l26 l27 l28 l29 l30 l31 l32 l33
+        l34 l35 l36 l37 l38 l39 l40 l41 l42 l43 l44 l45 l46 l47 l48 l49 l50 l51 x)))
+    unfolding afterTurn
+    turn·seg·1 l0 l1 l2 l3 l4 l5 l6 l7 l8 l9 l10 l11 l12 l13 l14 l15 l16 l17 l18 l19 l20 l21 l22 l23 l24 l25 l26 l27 l28 l29 l30 l31 l32 l33 l34 l35
+        l36 l37 l38 l39 l40 l41 l42 l43 l44 l45 l46 l47 l48 l49 l50 l51 x v1 r1 ws1 e1 is1 held =
+        lft-new ! tt (λ ν·2·10.
+        move ! (19 ∷ 41 ∷ []) $
+        use2 W (later (some (λ (δ : GName). ‵ (MutSlice (named 9) (ν·2·10 ∷ []) u32 .own (ref·vars δ (x .Z .vars)) (s·vars ∷ []))
+        ⊛ ‵ (LentAgain u32 κ·vars (ν·2·10 ∷ []) q·vars γ·vars b·vars o·vars δ (x .Z .vars)))))
+        (lends-again u32 κ·vars (ν·2·10 ∷ []) q·vars γ·vars b·vars o·vars 𝓤 H A W (named 9) (named 9) (length vars) (x .Z .vars)) $ await ! tt $
+        pick ! (λ δ·2·10. split ! $
+        lft-new ! tt (λ ν·2·11.
+        move ! (22 ∷ 43 ∷ []) $
+        use2 W (later (some (λ (δ : GName). ‵ (MutSlice (named 10) (ν·2·11 ∷ []) u32 .own (ref·index δ (x .Z .index)) (s·index ∷ []))
+        ⊛ ‵ (LentAgain u32 κ·index (ν·2·11 ∷ []) q·index γ·index b·index o·index δ (x .Z .index)))))
+        (lends-again u32 κ·index (ν·2·11 ∷ []) q·index γ·index b·index o·index 𝓤 H A W (named 10) (named 10) (length index) (x .Z .index)) $
+        await ! tt $ pick ! (λ δ·2·11. split ! $
+        lft-new ! tt (λ ν·2·12.
+        move ! (25 ∷ 45 ∷ []) $
+        use2 W (later (some (λ (δ : GName). ‵ (MutSlice (named 11) (ν·2·12 ∷ []) u32 .own (ref·words δ (x .Z .words)) (s·words ∷ []))
+        ⊛ ‵ (LentAgain u32 κ·words (ν·2·12 ∷ []) q·words γ·words b·words o·words δ (x .Z .words)))))
+        (lends-again u32 κ·words (ν·2·12 ∷ []) q·words γ·words b·words o·words 𝓤 H A W (named 11) (named 11) (length words) (x .Z .words)) $
+        await ! tt $ pick ! (λ δ·2·12. split ! $
+        lft-new ! tt (λ ν·2·13.
+        move ! (28 ∷ 47 ∷ []) $
+        use2 W (later (some (λ (δ : GName). ‵ (MutSlice (named 12) (ν·2·13 ∷ []) u32 .own (ref·defs δ (x .Z .defs)) (s·defs ∷ []))
+        ⊛ ‵ (LentAgain u32 κ·defs (ν·2·13 ∷ []) q·defs γ·defs b·defs o·defs δ (x .Z .defs)))))
+        (lends-again u32 κ·defs (ν·2·13 ∷ []) q·defs γ·defs b·defs o·defs 𝓤 H A W (named 12) (named 12) (length defs) (x .Z .defs)) $ await ! tt $
+        pick ! (λ δ·2·13. split ! $
+        lft-new ! tt (λ ν·2·14.
+        move ! (31 ∷ 49 ∷ []) $
+        use2 W (later (some (λ (δ : GName). ‵ (MutSlice (named 13) (ν·2·14 ∷ []) u32 .own (ref·rows δ (x .Z .goals)) (s·rows ∷ []))
+        ⊛ ‵ (LentAgain u32 κ·rows (ν·2·14 ∷ []) q·rows γ·rows b·rows o·rows δ (x .Z .goals)))))
+        (lends-again u32 κ·rows (ν·2·14 ∷ []) q·rows γ·rows b·rows o·rows 𝓤 H A W (named 13) (named 13) (length rows) (x .Z .goals)) $ await ! tt $
+        pick ! (λ δ·2·14. split ! $
+        lft-new ! tt (λ ν·2·15.
+        move ! (34 ∷ 51 ∷ []) $
+        use2 W (later (some (λ (δ : GName). ‵ (MutSlice (named 14) (ν·2·15 ∷ []) u32 .own (ref·lists δ (x .Z .lists)) (s·lists ∷ []))
+        ⊛ ‵ (LentAgain u32 κ·lists (ν·2·15 ∷ []) q·lists γ·lists b·lists o·lists δ (x .Z .lists)))))
+        (lends-again u32 κ·lists (ν·2·15 ∷ []) q·lists γ·lists b·lists o·lists 𝓤 H A W (named 14) (named 14) (length lists) (x .Z .lists)) $
+        await ! tt $ pick ! (λ δ·2·15. split ! $
+        lft-new ! tt (λ ν·2·16.
+        move ! (37 ∷ 53 ∷ []) $
+        use2 W (later (some (λ (δ : GName). ‵ (MutSlice (named 15) (ν·2·16 ∷ []) u32 .own (ref·kept δ (x .rows-now)) (s·kept ∷ []))
+        ⊛ ‵ (LentAgain u32 κ·kept (ν·2·16 ∷ []) q·kept γ·kept b·kept o·kept δ (x .rows-now)))))
+        (lends-again u32 κ·kept (ν·2·16 ∷ []) q·kept γ·kept b·kept o·kept 𝓤 H A W (named 15) (named 15) (length kept) (x .rows-now)) $ await ! tt $
+        pick ! (λ δ·2·16. split ! $
+        lft-new ! tt (λ ν·2·17.
+        move ! (40 ∷ 55 ∷ []) $
+        use2 W (later (some (λ (δ : GName). ‵ (MutSlice (named 16) (ν·2·17 ∷ []) u64 .own (ref·feet δ (x .feet-now)) (s·feet ∷ []))
+        ⊛ ‵ (LentAgain u64 κ·feet (ν·2·17 ∷ []) q·feet γ·feet b·feet o·feet δ (x .feet-now)))))
+        (lends-again u64 κ·feet (ν·2·17 ∷ []) q·feet γ·feet b·feet o·feet 𝓤 H A W (named 16) (named 16) (length feet) (x .feet-now)) $ await ! tt $
+        pick ! (λ δ·2·17. split ! $
+        lft-new ! tt (λ ν·2·18.
+        move ! (43 ∷ 57 ∷ []) $
+        use2 W (later (some (λ (δ : GName). ‵ (MutSlice (named 17) (ν·2·18 ∷ []) u32 .own (ref·cells δ (x .cells-now)) (s·cells ∷ []))
+        ⊛ ‵ (LentAgain u32 κ·cells (ν·2·18 ∷ []) q·cells γ·cells b·cells o·cells δ (x .cells-now)))))
+        (lends-again u32 κ·cells (ν·2·18 ∷ []) q·cells γ·cells b·cells o·cells 𝓤 H A W (named 17) (named 17) (length cells) (x .cells-now)) $
+        await ! tt $ pick ! (λ δ·2·18. split ! $
+        lft-new ! tt (λ ν·2·19.
+        move ! (46 ∷ 59 ∷ []) $
+        use2 W (later (some (λ (δ : GName). ‵ (MutSlice (named 18) (ν·2·19 ∷ []) u32 .own (ref·ids δ (x .ids-now)) (s·ids ∷ []))
+        ⊛ ‵ (LentAgain u32 κ·ids (ν·2·19 ∷ []) q·ids γ·ids b·ids o·ids δ (x .ids-now)))))
+        (lends-again u32 κ·ids (ν·2·19 ∷ []) q·ids γ·ids b·ids o·ids 𝓤 H A W (named 18) (named 18) (length ids) (x .ids-now)) $ await ! tt $
+        pick ! (λ δ·2·19. split ! $
+        lft-new ! tt (λ ν·2·20.
+        move ! (49 ∷ 61 ∷ []) $
+        use2 W (later (some (λ (δ : GName). ‵ (MutSlice (named 19) (ν·2·20 ∷ []) u32 .own (ref·memo δ (x .memo-now)) (s·memo ∷ []))
+        ⊛ ‵ (LentAgain u32 κ·memo (ν·2·20 ∷ []) q·memo γ·memo b·memo o·memo δ (x .memo-now)))))
+        (lends-again u32 κ·memo (ν·2·20 ∷ []) q·memo γ·memo b·memo o·memo 𝓤 H A W (named 19) (named 19) (length memo) (x .memo-now)) $ await ! tt $
+        pick ! (λ δ·2·20. split ! $
+        lft-new ! tt (λ ν·2·21.
+        move ! (52 ∷ 63 ∷ []) $
+        use2 W (later (some (λ (δ : GName). ‵ (MutSlice (named 20) (ν·2·21 ∷ []) FactT.the-row .own (ref·facts δ (x .fs-now)) (s·facts ∷ []))
+        ⊛ ‵ (LentAgain FactT.the-row κ·facts (ν·2·21 ∷ []) q·facts γ·facts b·facts o·facts δ (x .fs-now)))))
+        (lends-again FactT.the-row κ·facts (ν·2·21 ∷ []) q·facts γ·facts b·facts o·facts 𝓤 H A W (named 20) (named 20) (length facts) (x .fs-now)) $
+        await ! tt $ pick ! (λ δ·2·21. split ! $
+        lft-new ! tt (λ ν·2·22.
+        move ! (55 ∷ 65 ∷ []) $
+        use2 W (later (some (λ (δ : GName). ‵ (MutRef (named 21) (ν·2·22 ∷ []) CountsT.the-row .own (ref·counts δ (x .counts-now)) (s·counts ∷ []))
+        ⊛ ‵ (ThinLent CountsT.the-row κ·counts (ν·2·22 ∷ []) q·counts γ·counts b·counts o·counts δ (x .counts-now)))))
+        (thin-lends 𝓤 H A W CountsT.the-row (named 21) κ·counts (ν·2·22 ∷ []) q·counts γ·counts b·counts o·counts (named 21) (x .counts-now)) $
+        await ! tt $ pick ! (λ δ·2·22. split ! $
+        move ! (57 ∷ 58 ∷ 59 ∷ 60 ∷ 61 ∷ 62 ∷ 63 ∷ 64 ∷ 65 ∷ 38 ∷ 35 ∷ 32 ∷ 29 ∷ 26 ∷ 23 ∷ 20 ∷ 17 ∷ 14 ∷ 11 ∷ 8 ∷ 5 ∷ 2 ∷ 55 ∷ 53 ∷ 51 ∷ 49 ∷ 47 ∷ 45
+        ∷ 43 ∷ 41 ∷ 39 ∷ 36 ∷ 33 ∷ 30 ∷ 27 ∷ 24 ∷ 21 ∷ 18 ∷ 15 ∷ 12 ∷ 9 ∷ 6 ∷ 3 ∷ 0 ∷ []) $
+        group ! 44 $
+        use1 W (raw ((G2·C 𝓤 H A at-mem run) .pre (
+          (
+            ((
+              κ·theory,
               (
-                (ref·theory γ·theory theory),
+                κ·goals,
                 (
-                  (ref·goals γ·goals goals),
+                  κ·proof,
                   (
-                    (ref·proof γ·proof proof),
+                    κ·sorts,
                     (
-                      (x .st),
+                      κ·symbols,
                       (
-                        (ref·sorts γ·sorts sorts),
+                        κ·inputs,
                         (
-                          (ref·symbols γ·symbols symbols),
+                          κ·rules,
+                          (κ·rulevars, (κ·patterns, ((ν·2·10 ∷ []), ((ν·2·11 ∷ []), ((ν·2·12 ∷ []), ((ν·2·13 ∷ []), ((ν·2·14 ∷ []), ((ν·2·15 ∷ []), ((ν·2·16 ∷ []), ((ν·2·17 ∷ []), ((ν·2·18 ∷ []), ((ν·2·19 ∷ []), ((ν·2·20 ∷ []), ((ν·2·21 ∷ []), ((ν·2·22 ∷ []), tt))))))))))))))),
+                        ),
+                      ),
+                    ),
+                  ),
+                ),
+              ),
+            )),
+            ((
+              q·theory,
+              (
+                q·goals,
+                (
+                  q·proof,
+                  (
+                    q·sorts,
+                    (
+                      q·symbols,
+                      (
+                        q·inputs,
+                        (
+                          q·rules,
+                          (q·rulevars, (q·patterns, (fullShare, (fullShare, (fullShare, (fullShare, (fullShare, (fullShare, (fullShare, (fullShare, (fullShare, (fullShare, (fullShare, (fullShare, (fullShare, tt))))))))))))))),
+                        ),
+                      ),
+                    ),
+                  ),
+                ),
+              ),
+            )),
+            tt,
+            (
+              (ref·theory γ·theory theory),
+              (
+                (ref·goals γ·goals goals),
+                (
+                  (ref·proof γ·proof proof),
+                  (
+                    (x .st),
+                    (
+                      (ref·sorts γ·sorts sorts),
+                      (
+                        (ref·symbols γ·symbols symbols),
+                        (
+                          (ref·inputs γ·inputs inputs),
                           (
-                            (ref·inputs γ·inputs inputs),
+                            (ref·rules γ·rules rules),
                             (
-                              (ref·rules γ·rules rules),
+                              (ref·rulevars γ·rulevars rulevars),
                               (
-                                (ref·rulevars γ·rulevars rulevars),
+                                (ref·patterns γ·patterns patterns),
                                 (
-                                  (ref·patterns γ·patterns patterns),
+                                  (ref·vars δ·2·10 (x .Z .vars)),
                                   (
-                                    (ref·vars δ·2·10 (x .Z .vars)),
+                                    (ref·index δ·2·11 (x .Z .index)),
                                     (
-                                      (ref·index δ·2·11 (x .Z .index)),
+                                      (ref·words δ·2·12 (x .Z .words)),
                                       (
-                                        (ref·words δ·2·12 (x .Z .words)),
+                                        (ref·defs δ·2·13 (x .Z .defs)),
                                         (
-                                          (ref·defs δ·2·13 (x .Z .defs)),
+                                          (ref·rows δ·2·14 (x .Z .goals)),
                                           (
-                                            (ref·rows δ·2·14 (x .Z .goals)),
-                                            (
-                                              (ref·lists δ·2·15 (x .Z .lists)),
-                                              ((ref·kept δ·2·16 (x .rows-now)), ((ref·feet δ·2·17 (x .feet-now)), ((ref·cells δ·2·18 (x .cells-now)), ((ref·ids δ·2·19 (x .ids-now)), ((ref·facts δ·2·20 (x .fs-now)), ((ref·counts δ·2·21 (x .counts-now)), tt)))))),
-                                            ),
+                                            (ref·lists δ·2·15 (x .Z .lists)),
+                                            ((ref·kept δ·2·16 (x .rows-now)), ((ref·feet δ·2·17 (x .feet-now)), ((ref·cells δ·2·18 (x .cells-now)), ((ref·ids δ·2·19 (x .ids-now)), ((ref·memo δ·2·20 (x .memo-now)), ((ref·facts δ·2·21 (x .fs-now)), ((ref·counts δ·2·22 (x .counts-now)), tt))))))),
                                           ),
                                         ),
                                       ),
@@ -1786,26 +2158,26 @@ module _ {M : Type 1} (𝓤 : URA M) (H : Heap 𝓤) (A : Atoms 𝓤) (W : Given
                   ),
                 ),
               ),
+            ),
+            (
+              s·theory ∷ [],
               (
-                s·theory ∷ [],
+                s·goals ∷ [],
                 (
-                  s·goals ∷ [],
+                  s·proof ∷ [],
                   (
-                    s·proof ∷ [],
+                    (LL.val RunT.the-type RunL.the-laws (x .st)) ∷ [],
                     (
-                      (LL.val RunT.the-type RunL.the-laws (x .st)) ∷ [],
+                      s·sorts ∷ [],
                       (
-                        s·sorts ∷ [],
+                        s·symbols ∷ [],
                         (
-                          s·symbols ∷ [],
+                          s·inputs ∷ [],
                           (
-                            s·inputs ∷ [],
+                            s·rules ∷ [],
                             (
-                              s·rules ∷ [],
-                              (
-                                s·rulevars ∷ [],
-                                (s·patterns ∷ [], (s·vars ∷ [], (s·index ∷ [], (s·words ∷ [], (s·defs ∷ [], (s·rows ∷ [], (s·lists ∷ [], (s·kept ∷ [], (s·feet ∷ [], (s·cells ∷ [], (s·ids ∷ [], (s·facts ∷ [], (s·counts ∷ [], tt))))))))))))),
-                              ),
+                              s·rulevars ∷ [],
+                              (s·patterns ∷ [], (s·vars ∷ [], (s·index ∷ [], (s·words ∷ [], (s·defs ∷ [], (s·rows ∷ [], (s·lists ∷ [], (s·kept ∷ [], (s·feet ∷ [], (s·cells ∷ [], (s·ids ∷ [], (s·memo ∷ [], (s·facts ∷ [], (s·counts ∷ [], tt)))))))))))))),
                             ),
                           ),
                         ),
@@ -1815,106 +2187,130 @@ module _ {M : Type 1} (𝓤 : URA M) (H : Heap 𝓤) (A : Atoms 𝓤) (W : Given
                 ),
               ),
             ),
-            tt,
-          ))) (qed W (‵ (flft κ·theory q·theory) ∷ ‵ (flft κ·goals q·goals) ∷ ‵ (flft κ·proof q·proof) ∷ ‵ (flft κ·sorts q·sorts)
-          ∷ ‵ (flft κ·symbols q·symbols) ∷ ‵ (flft κ·inputs q·inputs) ∷ ‵ (flft κ·rules q·rules) ∷ ‵ (flft κ·rulevars q·rulevars)
-          ∷ ‵ (flft κ·patterns q·patterns) ∷ ‵ (flft (ν·2·10 ∷ []) fullShare) ∷ ‵ (flft (ν·2·11 ∷ []) fullShare) ∷ ‵ (flft (ν·2·12 ∷ []) fullShare)
-          ∷ ‵ (flft (ν·2·13 ∷ []) fullShare) ∷ ‵ (flft (ν·2·14 ∷ []) fullShare) ∷ ‵ (flft (ν·2·15 ∷ []) fullShare) ∷ ‵ (flft (ν·2·16 ∷ []) fullShare)
-          ∷ ‵ (flft (ν·2·17 ∷ []) fullShare) ∷ ‵ (flft (ν·2·18 ∷ []) fullShare) ∷ ‵ (flft (ν·2·19 ∷ []) fullShare) ∷ ‵ (flft (ν·2·20 ∷ []) fullShare)
-          ∷ ‵ (flft (ν·2·21 ∷ []) fullShare) ∷ ‵ (ShrSlice (named 0) κ·theory u8 .own (ref·theory γ·theory theory) (s·theory ∷ []))
-          ∷ ‵ (ShrSlice (named 1) κ·goals u8 .own (ref·goals γ·goals goals) (s·goals ∷ []))
-          ∷ ‵ (ShrSlice (named 2) κ·proof u8 .own (ref·proof γ·proof proof) (s·proof ∷ []))
-          ∷ ‵ (ShrSlice (named 3) κ·sorts u32 .own (ref·sorts γ·sorts sorts) (s·sorts ∷ []))
-          ∷ ‵ (ShrSlice (named 4) κ·symbols u32 .own (ref·symbols γ·symbols symbols) (s·symbols ∷ []))
-          ∷ ‵ (ShrSlice (named 5) κ·inputs u32 .own (ref·inputs γ·inputs inputs) (s·inputs ∷ []))
-          ∷ ‵ (ShrSlice (named 6) κ·rules u32 .own (ref·rules γ·rules rules) (s·rules ∷ []))
-          ∷ ‵ (ShrSlice (named 7) κ·rulevars u32 .own (ref·rulevars γ·rulevars rulevars) (s·rulevars ∷ []))
-          ∷ ‵ (ShrSlice (named 8) κ·patterns u32 .own (ref·patterns γ·patterns patterns) (s·patterns ∷ []))
-          ∷ ‵ (MutSlice (named 9) (ν·2·10 ∷ []) u32 .own (ref·vars δ·2·10 (x .Z .vars)) (s·vars ∷ []))
-          ∷ ‵ (MutSlice (named 10) (ν·2·11 ∷ []) u32 .own (ref·index δ·2·11 (x .Z .index)) (s·index ∷ []))
-          ∷ ‵ (MutSlice (named 11) (ν·2·12 ∷ []) u32 .own (ref·words δ·2·12 (x .Z .words)) (s·words ∷ []))
-          ∷ ‵ (MutSlice (named 12) (ν·2·13 ∷ []) u32 .own (ref·defs δ·2·13 (x .Z .defs)) (s·defs ∷ []))
-          ∷ ‵ (MutSlice (named 13) (ν·2·14 ∷ []) u32 .own (ref·rows δ·2·14 (x .Z .goals)) (s·rows ∷ []))
-          ∷ ‵ (MutSlice (named 14) (ν·2·15 ∷ []) u32 .own (ref·lists δ·2·15 (x .Z .lists)) (s·lists ∷ []))
-          ∷ ‵ (MutSlice (named 15) (ν·2·16 ∷ []) u32 .own (ref·kept δ·2·16 (x .rows-now)) (s·kept ∷ []))
-          ∷ ‵ (MutSlice (named 16) (ν·2·17 ∷ []) u64 .own (ref·feet δ·2·17 (x .feet-now)) (s·feet ∷ []))
-          ∷ ‵ (MutSlice (named 17) (ν·2·18 ∷ []) u32 .own (ref·cells δ·2·18 (x .cells-now)) (s·cells ∷ []))
-          ∷ ‵ (MutSlice (named 18) (ν·2·19 ∷ []) u32 .own (ref·ids δ·2·19 (x .ids-now)) (s·ids ∷ []))
-          ∷ ‵ (MutSlice (named 19) (ν·2·20 ∷ []) FactT.the-row .own (ref·facts δ·2·20 (x .fs-now)) (s·facts ∷ []))
-          ∷ ‵ (MutRef (named 20) (ν·2·21 ∷ []) CountsT.the-row .own (ref·counts δ·2·21 (x .counts-now)) (s·counts ∷ [])) ∷ []) ∵
-          says ! (asked theory goals proof (theoryLists sorts symbols inputs rules rulevars patterns) (working vars index words defs rows lists) kept
-          feet cells ids s facts x (is-going r1 e1 held)) $ nothing ! $ move ! (21 ∷ 0 ∷ []) $ join ! $ move ! (20 ∷ 0 ∷ []) $ join ! $
-          move ! (19 ∷ 0 ∷ []) $ join ! $ move ! (18 ∷ 0 ∷ []) $ join ! $ move ! (17 ∷ 0 ∷ []) $ join ! $ move ! (16 ∷ 0 ∷ []) $ join ! $
-          move ! (15 ∷ 0 ∷ []) $ join ! $ move ! (14 ∷ 0 ∷ []) $ join ! $ move ! (13 ∷ 0 ∷ []) $ join ! $ move ! (12 ∷ 0 ∷ []) $ join ! $
-          move ! (11 ∷ 0 ∷ []) $ join ! $ move ! (10 ∷ 0 ∷ []) $ join ! $ move ! (9 ∷ 0 ∷ []) $ join ! $ move ! (8 ∷ 0 ∷ []) $ join ! $
-          move ! (7 ∷ 0 ∷ []) $ join ! $ move ! (6 ∷ 0 ∷ []) $ join ! $ move ! (5 ∷ 0 ∷ []) $ join ! $ move ! (4 ∷ 0 ∷ []) $ join ! $
-          move ! (3 ∷ 0 ∷ []) $ join ! $ move ! (2 ∷ 0 ∷ []) $ join ! $ move ! (1 ∷ 0 ∷ []) $ join ! $ frame ! $ nothing ! $ move ! (21 ∷ 0 ∷ []) $
-          fjoin ! $ move ! (20 ∷ 0 ∷ []) $ fjoin ! $ move ! (19 ∷ 0 ∷ []) $ fjoin ! $ move ! (18 ∷ 0 ∷ []) $ fjoin ! $ move ! (17 ∷ 0 ∷ []) $ fjoin ! $
-          move ! (16 ∷ 0 ∷ []) $ fjoin ! $ move ! (15 ∷ 0 ∷ []) $ fjoin ! $ move ! (14 ∷ 0 ∷ []) $ fjoin ! $ move ! (13 ∷ 0 ∷ []) $ fjoin ! $
-          move ! (12 ∷ 0 ∷ []) $ fjoin ! $ move ! (11 ∷ 0 ∷ []) $ fjoin ! $ move ! (10 ∷ 0 ∷ []) $ fjoin ! $ move ! (9 ∷ 0 ∷ []) $ fjoin ! $
-          move ! (8 ∷ 0 ∷ []) $ fjoin ! $ move ! (7 ∷ 0 ∷ []) $ fjoin ! $ move ! (6 ∷ 0 ∷ []) $ fjoin ! $ move ! (5 ∷ 0 ∷ []) $ fjoin ! $
-          move ! (4 ∷ 0 ∷ []) $ fjoin ! $ owned ! RunT.the-row (Is RunT.the-row) (LL.makes RunT.the-type RunL.the-plain 𝓤 H A) (x .st) _ (x .is) $
-          fjoin ! $ move ! (3 ∷ 0 ∷ []) $ fjoin ! $ move ! (2 ∷ 0 ∷ []) $ fjoin ! $ move ! (1 ∷ 0 ∷ []) $ fjoin ! $ done !) $
-          calls-at ! fm (G2·C 𝓤 H A at-mem run) known·2 (
-            (
-              ((
-                κ·theory,
+          ),
+          tt,
+        ))) (qed W (‵ (flft κ·theory q·theory) ∷ ‵ (flft κ·goals q·goals) ∷ ‵ (flft κ·proof q·proof) ∷ ‵ (flft κ·sorts q·sorts)
+        ∷ ‵ (flft κ·symbols q·symbols) ∷ ‵ (flft κ·inputs q·inputs) ∷ ‵ (flft κ·rules q·rules) ∷ ‵ (flft κ·rulevars q·rulevars)
+        ∷ ‵ (flft κ·patterns q·patterns) ∷ ‵ (flft (ν·2·10 ∷ []) fullShare) ∷ ‵ (flft (ν·2·11 ∷ []) fullShare) ∷ ‵ (flft (ν·2·12 ∷ []) fullShare)
+        ∷ ‵ (flft (ν·2·13 ∷ []) fullShare) ∷ ‵ (flft (ν·2·14 ∷ []) fullShare) ∷ ‵ (flft (ν·2·15 ∷ []) fullShare) ∷ ‵ (flft (ν·2·16 ∷ []) fullShare)
+        ∷ ‵ (flft (ν·2·17 ∷ []) fullShare) ∷ ‵ (flft (ν·2·18 ∷ []) fullShare) ∷ ‵ (flft (ν·2·19 ∷ []) fullShare) ∷ ‵ (flft (ν·2·20 ∷ []) fullShare)
+        ∷ ‵ (flft (ν·2·21 ∷ []) fullShare) ∷ ‵ (flft (ν·2·22 ∷ []) fullShare)
+        ∷ ‵ (ShrSlice (named 0) κ·theory u8 .own (ref·theory γ·theory theory) (s·theory ∷ []))
+        ∷ ‵ (ShrSlice (named 1) κ·goals u8 .own (ref·goals γ·goals goals) (s·goals ∷ []))
+        ∷ ‵ (ShrSlice (named 2) κ·proof u8 .own (ref·proof γ·proof proof) (s·proof ∷ []))
+        ∷ ‵ (ShrSlice (named 3) κ·sorts u32 .own (ref·sorts γ·sorts sorts) (s·sorts ∷ []))
+        ∷ ‵ (ShrSlice (named 4) κ·symbols u32 .own (ref·symbols γ·symbols symbols) (s·symbols ∷ []))
+        ∷ ‵ (ShrSlice (named 5) κ·inputs u32 .own (ref·inputs γ·inputs inputs) (s·inputs ∷ []))
+        ∷ ‵ (ShrSlice (named 6) κ·rules u32 .own (ref·rules γ·rules rules) (s·rules ∷ []))
+        ∷ ‵ (ShrSlice (named 7) κ·rulevars u32 .own (ref·rulevars γ·rulevars rulevars) (s·rulevars ∷ []))
+        ∷ ‵ (ShrSlice (named 8) κ·patterns u32 .own (ref·patterns γ·patterns patterns) (s·patterns ∷ []))
+        ∷ ‵ (MutSlice (named 9) (ν·2·10 ∷ []) u32 .own (ref·vars δ·2·10 (x .Z .vars)) (s·vars ∷ []))
+        ∷ ‵ (MutSlice (named 10) (ν·2·11 ∷ []) u32 .own (ref·index δ·2·11 (x .Z .index)) (s·index ∷ []))
+        ∷ ‵ (MutSlice (named 11) (ν·2·12 ∷ []) u32 .own (ref·words δ·2·12 (x .Z .words)) (s·words ∷ []))
+        ∷ ‵ (MutSlice (named 12) (ν·2·13 ∷ []) u32 .own (ref·defs δ·2·13 (x .Z .defs)) (s·defs ∷ []))
+        ∷ ‵ (MutSlice (named 13) (ν·2·14 ∷ []) u32 .own (ref·rows δ·2·14 (x .Z .goals)) (s·rows ∷ []))
+        ∷ ‵ (MutSlice (named 14) (ν·2·15 ∷ []) u32 .own (ref·lists δ·2·15 (x .Z .lists)) (s·lists ∷ []))
+        ∷ ‵ (MutSlice (named 15) (ν·2·16 ∷ []) u32 .own (ref·kept δ·2·16 (x .rows-now)) (s·kept ∷ []))
+        ∷ ‵ (MutSlice (named 16) (ν·2·17 ∷ []) u64 .own (ref·feet δ·2·17 (x .feet-now)) (s·feet ∷ []))
+        ∷ ‵ (MutSlice (named 17) (ν·2·18 ∷ []) u32 .own (ref·cells δ·2·18 (x .cells-now)) (s·cells ∷ []))
+        ∷ ‵ (MutSlice (named 18) (ν·2·19 ∷ []) u32 .own (ref·ids δ·2·19 (x .ids-now)) (s·ids ∷ []))
+        ∷ ‵ (MutSlice (named 19) (ν·2·20 ∷ []) u32 .own (ref·memo δ·2·20 (x .memo-now)) (s·memo ∷ []))
+        ∷ ‵ (MutSlice (named 20) (ν·2·21 ∷ []) FactT.the-row .own (ref·facts δ·2·21 (x .fs-now)) (s·facts ∷ []))
+        ∷ ‵ (MutRef (named 21) (ν·2·22 ∷ []) CountsT.the-row .own (ref·counts δ·2·22 (x .counts-now)) (s·counts ∷ [])) ∷ []) ∵
+        says ! (asked theory goals proof (theoryLists sorts symbols inputs rules rulevars patterns) (working vars index words defs rows lists) kept
+        feet cells ids memo s facts x (is-going r1 e1 held)) $ nothing ! $ move ! (22 ∷ 0 ∷ []) $ join ! $ move ! (21 ∷ 0 ∷ []) $ join ! $
+        move ! (20 ∷ 0 ∷ []) $ join ! $ move ! (19 ∷ 0 ∷ []) $ join ! $ move ! (18 ∷ 0 ∷ []) $ join ! $ move ! (17 ∷ 0 ∷ []) $ join ! $
+        move ! (16 ∷ 0 ∷ []) $ join ! $ move ! (15 ∷ 0 ∷ []) $ join ! $ move ! (14 ∷ 0 ∷ []) $ join ! $ move ! (13 ∷ 0 ∷ []) $ join ! $
+        move ! (12 ∷ 0 ∷ []) $ join ! $ move ! (11 ∷ 0 ∷ []) $ join ! $ move ! (10 ∷ 0 ∷ []) $ join ! $ move ! (9 ∷ 0 ∷ []) $ join ! $
+        move ! (8 ∷ 0 ∷ []) $ join ! $ move ! (7 ∷ 0 ∷ []) $ join ! $ move ! (6 ∷ 0 ∷ []) $ join ! $ move ! (5 ∷ 0 ∷ []) $ join ! $
+        move ! (4 ∷ 0 ∷ []) $ join ! $ move ! (3 ∷ 0 ∷ []) $ join ! $ move ! (2 ∷ 0 ∷ []) $ join ! $ move ! (1 ∷ 0 ∷ []) $ join ! $ frame ! $
+        nothing ! $ move ! (22 ∷ 0 ∷ []) $ fjoin ! $ move ! (21 ∷ 0 ∷ []) $ fjoin ! $ move ! (20 ∷ 0 ∷ []) $ fjoin ! $ move ! (19 ∷ 0 ∷ []) $
+        fjoin ! $ move ! (18 ∷ 0 ∷ []) $ fjoin ! $ move ! (17 ∷ 0 ∷ []) $ fjoin ! $ move ! (16 ∷ 0 ∷ []) $ fjoin ! $ move ! (15 ∷ 0 ∷ []) $ fjoin ! $
+        move ! (14 ∷ 0 ∷ []) $ fjoin ! $ move ! (13 ∷ 0 ∷ []) $ fjoin ! $ move ! (12 ∷ 0 ∷ []) $ fjoin ! $ move ! (11 ∷ 0 ∷ []) $ fjoin ! $
+        move ! (10 ∷ 0 ∷ []) $ fjoin ! $ move ! (9 ∷ 0 ∷ []) $ fjoin ! $ move ! (8 ∷ 0 ∷ []) $ fjoin ! $ move ! (7 ∷ 0 ∷ []) $ fjoin ! $
+        move ! (6 ∷ 0 ∷ []) $ fjoin ! $ move ! (5 ∷ 0 ∷ []) $ fjoin ! $ move ! (4 ∷ 0 ∷ []) $ fjoin ! $
+        owned ! RunT.the-row (Is RunT.the-row) (LL.makes RunT.the-type RunL.the-plain 𝓤 H A) (x .st) _ (x .is) $ fjoin ! $ move ! (3 ∷ 0 ∷ []) $
+        fjoin ! $ move ! (2 ∷ 0 ∷ []) $ fjoin ! $ move ! (1 ∷ 0 ∷ []) $ fjoin ! $ done !) $
+        calls-at ! fm (G2·C 𝓤 H A at-mem run) known·2 (
+          (
+            ((
+              κ·theory,
+              (
+                κ·goals,
                 (
-                  κ·goals,
+                  κ·proof,
                   (
-                    κ·proof,
+                    κ·sorts,
                     (
-                      κ·sorts,
+                      κ·symbols,
                       (
-                        κ·symbols,
+                        κ·inputs,
                         (
-                          κ·inputs,
-                          (
-                            κ·rules,
-                            (κ·rulevars, (κ·patterns, ((ν·2·10 ∷ []), ((ν·2·11 ∷ []), ((ν·2·12 ∷ []), ((ν·2·13 ∷ []), ((ν·2·14 ∷ []), ((ν·2·15 ∷ []), ((ν·2·16 ∷ []), ((ν·2·17 ∷ []), ((ν·2·18 ∷ []), ((ν·2·19 ∷ []), ((ν·2·20 ∷ []), ((ν·2·21 ∷ []), tt)))))))))))))),
-                          ),
+                          κ·rules,
+                          (κ·rulevars, (κ·patterns, ((ν·2·10 ∷ []), ((ν·2·11 ∷ []), ((ν·2·12 ∷ []), ((ν·2·13 ∷ []), ((ν·2·14 ∷ []), ((ν·2·15 ∷ []), ((ν·2·16 ∷ []), ((ν·2·17 ∷ []), ((ν·2·18 ∷ []), ((ν·2·19 ∷ []), ((ν·2·20 ∷ []), ((ν·2·21 ∷ []), ((ν·2·22 ∷ []), tt))))))))))))))),
                         ),
                       ),
                     ),
                   ),
                 ),
-              )),
-              ((q·theory, (q·goals, (q·proof, (q·sorts, (q·symbols, (q·inputs, (q·rules, (q·rulevars, (q·patterns, (fullShare, (fullShare, (fullShare, (fullShare, (fullShare, (fullShare, (fullShare, (fullShare, (fullShare, (fullShare, (fullShare, (fullShare, tt)))))))))))))))))))))),
-              tt,
+              ),
+            )),
+            ((
+              q·theory,
               (
-                (ref·theory γ·theory theory),
+                q·goals,
                 (
-                  (ref·goals γ·goals goals),
+                  q·proof,
                   (
-                    (ref·proof γ·proof proof),
+                    q·sorts,
                     (
-                      (x .st),
+                      q·symbols,
                       (
-                        (ref·sorts γ·sorts sorts),
+                        q·inputs,
                         (
-                          (ref·symbols γ·symbols symbols),
+                          q·rules,
+                          (q·rulevars, (q·patterns, (fullShare, (fullShare, (fullShare, (fullShare, (fullShare, (fullShare, (fullShare, (fullShare, (fullShare, (fullShare, (fullShare, (fullShare, (fullShare, tt))))))))))))))),
+                        ),
+                      ),
+                    ),
+                  ),
+                ),
+              ),
+            )),
+            tt,
+            (
+              (ref·theory γ·theory theory),
+              (
+                (ref·goals γ·goals goals),
+                (
+                  (ref·proof γ·proof proof),
+                  (
+                    (x .st),
+                    (
+                      (ref·sorts γ·sorts sorts),
+                      (
+                        (ref·symbols γ·symbols symbols),
+                        (
+                          (ref·inputs γ·inputs inputs),
                           (
-                            (ref·inputs γ·inputs inputs),
+                            (ref·rules γ·rules rules),
                             (
-                              (ref·rules γ·rules rules),
+                              (ref·rulevars γ·rulevars rulevars),
                               (
-                                (ref·rulevars γ·rulevars rulevars),
+                                (ref·patterns γ·patterns patterns),
                                 (
-                                  (ref·patterns γ·patterns patterns),
+                                  (ref·vars δ·2·10 (x .Z .vars)),
                                   (
-                                    (ref·vars δ·2·10 (x .Z .vars)),
+                                    (ref·index δ·2·11 (x .Z .index)),
                                     (
-                                      (ref·index δ·2·11 (x .Z .index)),
+                                      (ref·words δ·2·12 (x .Z .words)),
                                       (
-                                        (ref·words δ·2·12 (x .Z .words)),
+                                        (ref·defs δ·2·13 (x .Z .defs)),
                                         (
-                                          (ref·defs δ·2·13 (x .Z .defs)),
+                                          (ref·rows δ·2·14 (x .Z .goals)),
                                           (
-                                            (ref·rows δ·2·14 (x .Z .goals)),
-                                            (
-                                              (ref·lists δ·2·15 (x .Z .lists)),
-                                              ((ref·kept δ·2·16 (x .rows-now)), ((ref·feet δ·2·17 (x .feet-now)), ((ref·cells δ·2·18 (x .cells-now)), ((ref·ids δ·2·19 (x .ids-now)), ((ref·facts δ·2·20 (x .fs-now)), ((ref·counts δ·2·21 (x .counts-now)), tt)))))),
-                                            ),
+                                            (ref·lists δ·2·15 (x .Z .lists)),
+                                            ((ref·kept δ·2·16 (x .rows-now)), ((ref·feet δ·2·17 (x .feet-now)), ((ref·cells δ·2·18 (x .cells-now)), ((ref·ids δ·2·19 (x .ids-now)), ((ref·memo δ·2·20 (x .memo-now)), ((ref·facts δ·2·21 (x .fs-now)), ((ref·counts δ·2·22 (x .counts-now)), tt))))))),
                                           ),
                                         ),
                                       ),
@@ -1930,26 +2326,26 @@ module _ {M : Type 1} (𝓤 : URA M) (H : Heap 𝓤) (A : Atoms 𝓤) (W : Given
                   ),
                 ),
               ),
+            ),
+            (
+              s·theory ∷ [],
               (
-                s·theory ∷ [],
+                s·goals ∷ [],
                 (
-                  s·goals ∷ [],
+                  s·proof ∷ [],
                   (
-                    s·proof ∷ [],
+                    (LL.val RunT.the-type RunL.the-laws (x .st)) ∷ [],
                     (
-                      (LL.val RunT.the-type RunL.the-laws (x .st)) ∷ [],
+                      s·sorts ∷ [],
                       (
-                        s·sorts ∷ [],
+                        s·symbols ∷ [],
                         (
-                          s·symbols ∷ [],
+                          s·inputs ∷ [],
                           (
-                            s·inputs ∷ [],
+                            s·rules ∷ [],
                             (
-                              s·rules ∷ [],
-                              (
-                                s·rulevars ∷ [],
-                                (s·patterns ∷ [], (s·vars ∷ [], (s·index ∷ [], (s·words ∷ [], (s·defs ∷ [], (s·rows ∷ [], (s·lists ∷ [], (s·kept ∷ [], (s·feet ∷ [], (s·cells ∷ [], (s·ids ∷ [], (s·facts ∷ [], (s·counts ∷ [], tt))))))))))))),
-                              ),
+                              s·rulevars ∷ [],
+                              (s·patterns ∷ [], (s·vars ∷ [], (s·index ∷ [], (s·words ∷ [], (s·defs ∷ [], (s·rows ∷ [], (s·lists ∷ [], (s·kept ∷ [], (s·feet ∷ [], (s·cells ∷ [], (s·ids ∷ [], (s·memo ∷ [], (s·facts ∷ [], (s·counts ∷ [], tt)))))))))))))),
                             ),
                           ),
                         ),
@@ -1959,80 +2355,80 @@ module _ {M : Type 1} (𝓤 : URA M) (H : Heap 𝓤) (A : Atoms 𝓤) (W : Given
                 ),
               ),
             ),
-            tt,
-          ) (and-then ! (load ! (from ! (stop !)) (look ! 116 refl)) (and-then ! (load ! (from ! (stop !)) (look ! 114 refl))
-          (and-then ! (load ! (from ! (stop !)) (look ! 112 refl)) (and-then ! (load ! (from ! (stop !)) (look ! 72 refl))
-          (and-then ! (load ! (from ! (stop !)) (look ! 108 refl)) (and-then ! (load ! (from ! (stop !)) (look ! 106 refl))
-          (and-then ! (load ! (from ! (stop !)) (look ! 104 refl)) (and-then ! (load ! (from ! (stop !)) (look ! 102 refl))
-          (and-then ! (load ! (from ! (stop !)) (look ! 100 refl)) (and-then ! (load ! (from ! (stop !)) (look ! 98 refl))
-          (and-then ! (load ! (from ! (stop !)) (look ! 64 refl)) (and-then ! (load ! (from ! (stop !)) (look ! 60 refl))
-          (and-then ! (load ! (from ! (stop !)) (look ! 56 refl)) (and-then ! (load ! (from ! (stop !)) (look ! 52 refl))
-          (and-then ! (load ! (from ! (stop !)) (look ! 48 refl)) (and-then ! (load ! (from ! (stop !)) (look ! 44 refl))
-          (and-then ! (load ! (from ! (stop !)) (look ! 40 refl)) (and-then ! (load ! (from ! (stop !)) (look ! 36 refl))
-          (and-then ! (load ! (from ! (stop !)) (look ! 32 refl)) (and-then ! (load ! (from ! (stop !)) (look ! 28 refl))
-          (and-then ! (load ! (from ! (stop !)) (look ! 24 refl)) (and-then ! (load ! (from ! (stop !)) (look ! 22 refl))
-          (no-more !))))))))))))))))))))))) (λ v2.
-          use1 W (later (some (λ (r2 : Run). ((‵ (flft κ·theory q·theory) ⊛ ‵ (flft κ·goals q·goals) ⊛ ‵ (flft κ·proof q·proof)
-          ⊛ ‵ (flft κ·sorts q·sorts) ⊛ ‵ (flft κ·symbols q·symbols) ⊛ ‵ (flft κ·inputs q·inputs) ⊛ ‵ (flft κ·rules q·rules)
-          ⊛ ‵ (flft κ·rulevars q·rulevars) ⊛ ‵ (flft κ·patterns q·patterns) ⊛ ‵ (flft (ν·2·10 ∷ []) fullShare) ⊛ ‵ (flft (ν·2·11 ∷ []) fullShare)
-          ⊛ ‵ (flft (ν·2·12 ∷ []) fullShare) ⊛ ‵ (flft (ν·2·13 ∷ []) fullShare) ⊛ ‵ (flft (ν·2·14 ∷ []) fullShare) ⊛ ‵ (flft (ν·2·15 ∷ []) fullShare)
-          ⊛ ‵ (flft (ν·2·16 ∷ []) fullShare) ⊛ ‵ (flft (ν·2·17 ∷ []) fullShare) ⊛ ‵ (flft (ν·2·18 ∷ []) fullShare) ⊛ ‵ (flft (ν·2·19 ∷ []) fullShare)
-          ⊛ ‵ (flft (ν·2·20 ∷ []) fullShare) ⊛ ‵ (flft (ν·2·21 ∷ []) fullShare) ⊛ ‵ ftrue) ⊛ ‵ (RunT.the-row .own r2 (v2 ∷ []))) ⊛ raw
-          (ensured 𝓤 H A G2.ended (G2.clauses 𝓤 H A at-mem run) (
-            κ·theory,
+          ),
+          tt,
+        ) (and-then ! (load ! (from ! (stop !)) (look ! 123 refl)) (and-then ! (load ! (from ! (stop !)) (look ! 121 refl))
+        (and-then ! (load ! (from ! (stop !)) (look ! 119 refl)) (and-then ! (load ! (from ! (stop !)) (look ! 77 refl))
+        (and-then ! (load ! (from ! (stop !)) (look ! 115 refl)) (and-then ! (load ! (from ! (stop !)) (look ! 113 refl))
+        (and-then ! (load ! (from ! (stop !)) (look ! 111 refl)) (and-then ! (load ! (from ! (stop !)) (look ! 109 refl))
+        (and-then ! (load ! (from ! (stop !)) (look ! 107 refl)) (and-then ! (load ! (from ! (stop !)) (look ! 105 refl))
+        (and-then ! (load ! (from ! (stop !)) (look ! 69 refl)) (and-then ! (load ! (from ! (stop !)) (look ! 65 refl))
+        (and-then ! (load ! (from ! (stop !)) (look ! 61 refl)) (and-then ! (load ! (from ! (stop !)) (look ! 57 refl))
+        (and-then ! (load ! (from ! (stop !)) (look ! 53 refl)) (and-then ! (load ! (from ! (stop !)) (look ! 49 refl))
+        (and-then ! (load ! (from ! (stop !)) (look ! 45 refl)) (and-then ! (load ! (from ! (stop !)) (look ! 41 refl))
+        (and-then ! (load ! (from ! (stop !)) (look ! 37 refl)) (and-then ! (load ! (from ! (stop !)) (look ! 33 refl))
+        (and-then ! (load ! (from ! (stop !)) (look ! 29 refl)) (and-then ! (load ! (from ! (stop !)) (look ! 25 refl))
+        (and-then ! (load ! (from ! (stop !)) (look ! 23 refl)) (no-more !)))))))))))))))))))))))) (λ v2.
+        use1 W (later (some (λ (r2 : Run). ((‵ (flft κ·theory q·theory) ⊛ ‵ (flft κ·goals q·goals) ⊛ ‵ (flft κ·proof q·proof)
+        ⊛ ‵ (flft κ·sorts q·sorts) ⊛ ‵ (flft κ·symbols q·symbols) ⊛ ‵ (flft κ·inputs q·inputs) ⊛ ‵ (flft κ·rules q·rules)
+        ⊛ ‵ (flft κ·rulevars q·rulevars) ⊛ ‵ (flft κ·patterns q·patterns) ⊛ ‵ (flft (ν·2·10 ∷ []) fullShare) ⊛ ‵ (flft (ν·2·11 ∷ []) fullShare)
+        ⊛ ‵ (flft (ν·2·12 ∷ []) fullShare) ⊛ ‵ (flft (ν·2·13 ∷ []) fullShare) ⊛ ‵ (flft (ν·2·14 ∷ []) fullShare) ⊛ ‵ (flft (ν·2·15 ∷ []) fullShare)
+        ⊛ ‵ (flft (ν·2·16 ∷ []) fullShare) ⊛ ‵ (flft (ν·2·17 ∷ []) fullShare) ⊛ ‵ (flft (ν·2·18 ∷ []) fullShare) ⊛ ‵ (flft (ν·2·19 ∷ []) fullShare)
+        ⊛ ‵ (flft (ν·2·20 ∷ []) fullShare) ⊛ ‵ (flft (ν·2·21 ∷ []) fullShare) ⊛ ‵ (flft (ν·2·22 ∷ []) fullShare) ⊛ ‵ ftrue)
+        ⊛ ‵ (RunT.the-row .own r2 (v2 ∷ []))) ⊛ raw (ensured 𝓤 H A G2.ended (G2.clauses 𝓤 H A at-mem run) (
+          κ·theory,
+          (
+            κ·goals,
             (
-              κ·goals,
+              κ·proof,
               (
-                κ·proof,
+                κ·sorts,
                 (
-                  κ·sorts,
+                  κ·symbols,
                   (
-                    κ·symbols,
+                    κ·inputs,
                     (
-                      κ·inputs,
-                      (
-                        κ·rules,
-                        (κ·rulevars, (κ·patterns, ((ν·2·10 ∷ []), ((ν·2·11 ∷ []), ((ν·2·12 ∷ []), ((ν·2·13 ∷ []), ((ν·2·14 ∷ []), ((ν·2·15 ∷ []), ((ν·2·16 ∷ []), ((ν·2·17 ∷ []), ((ν·2·18 ∷ []), ((ν·2·19 ∷ []), ((ν·2·20 ∷ []), ((ν·2·21 ∷ []), tt)))))))))))))),
-                      ),
+                      κ·rules,
+                      (κ·rulevars, (κ·patterns, ((ν·2·10 ∷ []), ((ν·2·11 ∷ []), ((ν·2·12 ∷ []), ((ν·2·13 ∷ []), ((ν·2·14 ∷ []), ((ν·2·15 ∷ []), ((ν·2·16 ∷ []), ((ν·2·17 ∷ []), ((ν·2·18 ∷ []), ((ν·2·19 ∷ []), ((ν·2·20 ∷ []), ((ν·2·21 ∷ []), ((ν·2·22 ∷ []), tt))))))))))))))),
                     ),
                   ),
                 ),
               ),
             ),
-          ) (
-            (ref·theory γ·theory theory),
+          ),
+        ) (
+          (ref·theory γ·theory theory),
+          (
+            (ref·goals γ·goals goals),
             (
-              (ref·goals γ·goals goals),
+              (ref·proof γ·proof proof),
               (
-                (ref·proof γ·proof proof),
+                (x .st),
                 (
-                  (x .st),
+                  (ref·sorts γ·sorts sorts),
                   (
-                    (ref·sorts γ·sorts sorts),
+                    (ref·symbols γ·symbols symbols),
                     (
-                      (ref·symbols γ·symbols symbols),
+                      (ref·inputs γ·inputs inputs),
                       (
-                        (ref·inputs γ·inputs inputs),
+                        (ref·rules γ·rules rules),
                         (
-                          (ref·rules γ·rules rules),
+                          (ref·rulevars γ·rulevars rulevars),
                           (
-                            (ref·rulevars γ·rulevars rulevars),
+                            (ref·patterns γ·patterns patterns),
                             (
-                              (ref·patterns γ·patterns patterns),
+                              (ref·vars δ·2·10 (x .Z .vars)),
                               (
-                                (ref·vars δ·2·10 (x .Z .vars)),
+                                (ref·index δ·2·11 (x .Z .index)),
                                 (
-                                  (ref·index δ·2·11 (x .Z .index)),
+                                  (ref·words δ·2·12 (x .Z .words)),
                                   (
-                                    (ref·words δ·2·12 (x .Z .words)),
+                                    (ref·defs δ·2·13 (x .Z .defs)),
                                     (
-                                      (ref·defs δ·2·13 (x .Z .defs)),
+                                      (ref·rows δ·2·14 (x .Z .goals)),
                                       (
-                                        (ref·rows δ·2·14 (x .Z .goals)),
-                                        (
-                                          (ref·lists δ·2·15 (x .Z .lists)),
-                                          ((ref·kept δ·2·16 (x .rows-now)), ((ref·feet δ·2·17 (x .feet-now)), ((ref·cells δ·2·18 (x .cells-now)), ((ref·ids δ·2·19 (x .ids-now)), ((ref·facts δ·2·20 (x .fs-now)), ((ref·counts δ·2·21 (x .counts-now)), tt)))))),
-                                        ),
+                                        (ref·lists δ·2·15 (x .Z .lists)),
+                                        ((ref·kept δ·2·16 (x .rows-now)), ((ref·feet δ·2·17 (x .feet-now)), ((ref·cells δ·2·18 (x .cells-now)), ((ref·ids δ·2·19 (x .ids-now)), ((ref·memo δ·2·20 (x .memo-now)), ((ref·facts δ·2·21 (x .fs-now)), ((ref·counts δ·2·22 (x .counts-now)), tt))))))),
                                       ),
                                     ),
                                   ),
@@ -2047,61 +2443,79 @@ module _ {M : Type 1} (𝓤 : URA M) (H : Heap 𝓤) (A : Atoms 𝓤) (W : Given
                 ),
               ),
             ),
-          )
-          tt r2)))) (id⊢ 𝓤 _) $ await ! tt $ pick ! (λ r2. split ! $ move ! (1 ∷ []) $
-          use1 W (some (λ (ws2 : (Unit {0} × (Unit {0} × (Unit {0} × (Unit {0} ×
-          (Unit {0} × (Unit {0} × (Unit {0} × (Unit {0} × (Unit {0} × (Unit {0} ×
-          ((List ℕ) × ((List ℕ) × ((List ℕ) × ((List ℕ) × ((List ℕ) × ((List ℕ) ×
-          ((List ℕ) × ((List ℕ) × ((List ℕ) × ((List ℕ) × ((List Fact) × (Counts × Unit {0}))))))))))))))))))))))).
-          ‵ (lasts G2.ended (
-            κ·theory,
+          ),
+        )
+        tt r2)))) (id⊢ 𝓤 _) $ await ! tt $ pick ! (λ r2. split ! $ move ! (1 ∷ []) $
+        use1 W (some (λ (ws2 : (Unit {0} × (Unit {0} × (Unit {0} × (Unit {0} ×
+        (Unit {0} × (Unit {0} × (Unit {0} × (Unit {0} × (Unit {0} × (Unit {0} ×
+        ((List ℕ) × ((List ℕ) × ((List ℕ) × ((List ℕ) × ((List ℕ) × ((List ℕ) ×
+        ((List ℕ) × ((List ℕ) × ((List ℕ) × ((List ℕ) × ((List ℕ) × ((List Fact) × (Counts × Unit {0})))))))))))))))))))))))).
+        ‵ (lasts G2.ended (
+          κ·theory,
+          (
+            κ·goals,
             (
-              κ·goals,
+              κ·proof,
               (
-                κ·proof,
+                κ·sorts,
                 (
-                  κ·sorts,
+                  κ·symbols,
                   (
-                    κ·symbols,
-                    (κ·inputs, (κ·rules, (κ·rulevars, (κ·patterns, ((ν·2·10 ∷ []), ((ν·2·11 ∷ []), ((ν·2·12 ∷ []), ((ν·2·13 ∷ []), ((ν·2·14 ∷ []), ((ν·2·15 ∷ []), ((ν·2·16 ∷ []), ((ν·2·17 ∷ []), ((ν·2·18 ∷ []), ((ν·2·19 ∷ []), ((ν·2·20 ∷ []), ((ν·2·21 ∷ []), tt)))))))))))))))),
+                    κ·inputs,
+                    (
+                      κ·rules,
+                      (
+                        κ·rulevars,
+                        (
+                          κ·patterns,
+                          (
+                            (ν·2·10 ∷ []),
+                            (
+                              (ν·2·11 ∷ []),
+                              ((ν·2·12 ∷ []), ((ν·2·13 ∷ []), ((ν·2·14 ∷ []), ((ν·2·15 ∷ []), ((ν·2·16 ∷ []), ((ν·2·17 ∷ []), ((ν·2·18 ∷ []), ((ν·2·19 ∷ []), ((ν·2·20 ∷ []), ((ν·2·21 ∷ []), ((ν·2·22 ∷ []), tt))))))))))),
+                            ),
+                          ),
+                        ),
+                      ),
+                    ),
                   ),
                 ),
               ),
             ),
-          ) (
-            (ref·theory γ·theory theory),
+          ),
+        ) (
+          (ref·theory γ·theory theory),
+          (
+            (ref·goals γ·goals goals),
             (
-              (ref·goals γ·goals goals),
+              (ref·proof γ·proof proof),
               (
-                (ref·proof γ·proof proof),
+                (x .st),
                 (
-                  (x .st),
+                  (ref·sorts γ·sorts sorts),
                   (
-                    (ref·sorts γ·sorts sorts),
+                    (ref·symbols γ·symbols symbols),
                     (
-                      (ref·symbols γ·symbols symbols),
+                      (ref·inputs γ·inputs inputs),
                       (
-                        (ref·inputs γ·inputs inputs),
+                        (ref·rules γ·rules rules),
                         (
-                          (ref·rules γ·rules rules),
+                          (ref·rulevars γ·rulevars rulevars),
                           (
-                            (ref·rulevars γ·rulevars rulevars),
+                            (ref·patterns γ·patterns patterns),
                             (
-                              (ref·patterns γ·patterns patterns),
+                              (ref·vars δ·2·10 (x .Z .vars)),
                               (
-                                (ref·vars δ·2·10 (x .Z .vars)),
+                                (ref·index δ·2·11 (x .Z .index)),
                                 (
-                                  (ref·index δ·2·11 (x .Z .index)),
+                                  (ref·words δ·2·12 (x .Z .words)),
                                   (
-                                    (ref·words δ·2·12 (x .Z .words)),
+                                    (ref·defs δ·2·13 (x .Z .defs)),
                                     (
-                                      (ref·defs δ·2·13 (x .Z .defs)),
+                                      (ref·rows δ·2·14 (x .Z .goals)),
                                       (
-                                        (ref·rows δ·2·14 (x .Z .goals)),
-                                        (
-                                          (ref·lists δ·2·15 (x .Z .lists)),
-                                          ((ref·kept δ·2·16 (x .rows-now)), ((ref·feet δ·2·17 (x .feet-now)), ((ref·cells δ·2·18 (x .cells-now)), ((ref·ids δ·2·19 (x .ids-now)), ((ref·facts δ·2·20 (x .fs-now)), ((ref·counts δ·2·21 (x .counts-now)), tt)))))),
-                                        ),
+                                        (ref·lists δ·2·15 (x .Z .lists)),
+                                        ((ref·kept δ·2·16 (x .rows-now)), ((ref·feet δ·2·17 (x .feet-now)), ((ref·cells δ·2·18 (x .cells-now)), ((ref·ids δ·2·19 (x .ids-now)), ((ref·memo δ·2·20 (x .memo-now)), ((ref·facts δ·2·21 (x .fs-now)), ((ref·counts δ·2·22 (x .counts-now)), tt))))))),
                                       ),
                                     ),
                                   ),
@@ -2116,701 +2530,713 @@ module _ {M : Type 1} (𝓤 : URA M) (H : Heap 𝓤) (A : Atoms 𝓤) (W : Given
                 ),
               ),
             ),
-          )
-          ws2) ⊛ raw (fact 𝓤 (OneTaken theory goals proof (theoryLists sorts symbols inputs rules rulevars patterns) (x .Z)
-          (working (ws2 .1 .1 .1 .1 .1 .1 .1 .1 .1 .1 .0) (ws2 .1 .1 .1 .1 .1 .1 .1 .1 .1 .1 .1 .0) (ws2 .1 .1 .1 .1 .1 .1 .1 .1 .1 .1 .1 .1 .0)
-          (ws2 .1 .1 .1 .1 .1 .1 .1 .1 .1 .1 .1 .1 .1 .0) (ws2 .1 .1 .1 .1 .1 .1 .1 .1 .1 .1 .1 .1 .1 .1 .0)
-          (ws2 .1 .1 .1 .1 .1 .1 .1 .1 .1 .1 .1 .1 .1 .1 .1 .0)) (ws2 .1 .1 .1 .1 .1 .1 .1 .1 .1 .1 .1 .1 .1 .1 .1 .1 .0)
-          (ws2 .1 .1 .1 .1 .1 .1 .1 .1 .1 .1 .1 .1 .1 .1 .1 .1 .1 .0) (ws2 .1 .1 .1 .1 .1 .1 .1 .1 .1 .1 .1 .1 .1 .1 .1 .1 .1 .1 .0)
-          (ws2 .1 .1 .1 .1 .1 .1 .1 .1 .1 .1 .1 .1 .1 .1 .1 .1 .1 .1 .1 .0) (x .st) r2 (x .fs-now)
-          (ws2 .1 .1 .1 .1 .1 .1 .1 .1 .1 .1 .1 .1 .1 .1 .1 .1 .1 .1 .1 .1 .0)
-          (ws2 .1 .1 .1 .1 .1 .1 .1 .1 .1 .1 .1 .1 .1 .1 .1 .1 .1 .1 .1 .1 .1 .0))))) (id⊢ 𝓤 _) $ pick ! (λ ws2. split ! $ move ! (1 ∷ []) $
-          heard ! (OneTaken theory goals proof (theoryLists sorts symbols inputs rules rulevars patterns) (x .Z)
-          (working (ws2 .1 .1 .1 .1 .1 .1 .1 .1 .1 .1 .0) (ws2 .1 .1 .1 .1 .1 .1 .1 .1 .1 .1 .1 .0) (ws2 .1 .1 .1 .1 .1 .1 .1 .1 .1 .1 .1 .1 .0)
-          (ws2 .1 .1 .1 .1 .1 .1 .1 .1 .1 .1 .1 .1 .1 .0) (ws2 .1 .1 .1 .1 .1 .1 .1 .1 .1 .1 .1 .1 .1 .1 .0)
-          (ws2 .1 .1 .1 .1 .1 .1 .1 .1 .1 .1 .1 .1 .1 .1 .1 .0)) (ws2 .1 .1 .1 .1 .1 .1 .1 .1 .1 .1 .1 .1 .1 .1 .1 .1 .0)
-          (ws2 .1 .1 .1 .1 .1 .1 .1 .1 .1 .1 .1 .1 .1 .1 .1 .1 .1 .0) (ws2 .1 .1 .1 .1 .1 .1 .1 .1 .1 .1 .1 .1 .1 .1 .1 .1 .1 .1 .0)
-          (ws2 .1 .1 .1 .1 .1 .1 .1 .1 .1 .1 .1 .1 .1 .1 .1 .1 .1 .1 .1 .0) (x .st) r2 (x .fs-now)
-          (ws2 .1 .1 .1 .1 .1 .1 .1 .1 .1 .1 .1 .1 .1 .1 .1 .1 .1 .1 .1 .1 .0) (ws2 .1 .1 .1 .1 .1 .1 .1 .1 .1 .1 .1 .1 .1 .1 .1 .1 .1 .1 .1 .1 .1 .0))
-          (λ e2.
-          fsplit ! $
-          drop ! $
-          fsplit ! $
-          drop ! $
-          fsplit ! $
-          drop ! $
-          fsplit ! $
-          drop ! $
-          fsplit ! $
-          drop ! $
-          fsplit ! $
-          drop ! $
-          fsplit ! $
-          drop ! $
-          fsplit ! $
-          drop ! $
-          fsplit ! $
-          drop ! $
-          fsplit ! $
-          drop ! $
-          fsplit ! $
-          fsplit ! $
-          move ! (1 ∷ []) $
-          feqL ! (λ len·2·vars.
-          move ! (1 ∷ []) $
-          fsplit ! $
-          fsplit ! $
-          move ! (1 ∷ []) $
-          feqL ! (λ len·2·index.
-          move ! (1 ∷ []) $
-          fsplit ! $
-          fsplit ! $
-          move ! (1 ∷ []) $
-          feqL ! (λ len·2·words.
-          move ! (1 ∷ []) $
-          fsplit ! $
-          fsplit ! $
-          move ! (1 ∷ []) $
-          feqL ! (λ len·2·defs.
-          move ! (1 ∷ []) $
-          fsplit ! $
-          fsplit ! $
-          move ! (1 ∷ []) $
-          feqL ! (λ len·2·rows.
-          move ! (1 ∷ []) $
-          fsplit ! $
-          fsplit ! $
-          move ! (1 ∷ []) $
-          feqL ! (λ len·2·lists.
-          move ! (1 ∷ []) $
-          fsplit ! $
-          fsplit ! $
-          move ! (1 ∷ []) $
-          feqL ! (λ len·2·kept.
-          move ! (1 ∷ []) $
-          fsplit ! $
-          fsplit ! $
-          move ! (1 ∷ []) $
-          feqL ! (λ len·2·feet.
-          move ! (1 ∷ []) $
-          fsplit ! $
-          fsplit ! $
-          move ! (1 ∷ []) $
-          feqL ! (λ len·2·cells.
-          move ! (1 ∷ []) $
-          fsplit ! $
-          fsplit ! $
-          move ! (1 ∷ []) $
-          feqL ! (λ len·2·ids.
-          move ! (1 ∷ []) $
-          fsplit ! $
-          fsplit ! $
-          move ! (1 ∷ []) $
-          feqL ! (λ len·2·facts.
-          move ! (1 ∷ []) $
-          fsplit ! $
-          move ! (1 ∷ []) $
-          drop ! $
-          move ! (12 ∷ []) $
-          split ! $
-          move ! (1 ∷ []) $
-          peeks ! RunT.the-row (Is RunT.the-row) (shows 𝓤 H A RunT.the-row) r2 (v2 ∷ []) (λ is2.
-          drop ! $
-          land ! (from ! (stop !)) (init ! 82 refl (LL.lawful RunT.the-type RunL.the-laws 𝓤 H A W .typed r2 _ is2 .0)) $
-          split ! $
-          move ! (1 ∷ []) $
-          split ! $
-          move ! (1 ∷ []) $
-          split ! $
-          move ! (1 ∷ []) $
-          split ! $
-          move ! (1 ∷ []) $
-          split ! $
-          move ! (1 ∷ []) $
-          split ! $
-          move ! (1 ∷ []) $
-          split ! $
-          move ! (1 ∷ []) $
-          split ! $
-          move ! (1 ∷ []) $
-          split ! $
-          move ! (1 ∷ []) $
-          split ! $
-          move ! (1 ∷ []) $
-          split ! $
-          move ! (1 ∷ []) $
-          split ! $
-          move ! (1 ∷ []) $
-          split ! $
-          move ! (1 ∷ []) $
-          split ! $
-          move ! (1 ∷ []) $
-          split ! $
-          move ! (1 ∷ []) $
-          split ! $
-          move ! (1 ∷ []) $
-          split ! $
-          move ! (1 ∷ []) $
-          split ! $
-          move ! (1 ∷ []) $
-          split ! $
-          move ! (1 ∷ []) $
-          split ! $
-          move ! (1 ∷ []) $
-          split ! $
-          move ! (1 ∷ []) $
-          drop ! $
-          turn·seg·2 l0 l1 l2 l3 l4 l5 l6 l7 l8 l9 l10 l11 l12 l13 l14 l15 l16 l17 l18 l19 l20 l21 l22 l23 l24 l25 l26 l27 l28 l29 l30 l31 l32 l33 l34
-          l35 l36 l37 l38 l39 l40 l41 l42 l43 l44 l45 l46 l47 l48 x v1 r1 ws1 e1 is1 held ν·2·10 δ·2·10 ν·2·11 δ·2·11 ν·2·12 δ·2·12 ν·2·13 δ·2·13 ν·2·14
-          δ·2·14 ν·2·15 δ·2·15 ν·2·16 δ·2·16 ν·2·17 δ·2·17 ν·2·18 δ·2·18 ν·2·19 δ·2·19 ν·2·20 δ·2·20 ν·2·21 δ·2·21 v2 r2 ws2 e2 len·2·vars len·2·index
-          len·2·words len·2·defs len·2·rows len·2·lists len·2·kept len·2·feet len·2·cells len·2·ids len·2·facts
-          is2))))))))))))))))))))))))))))))))))))))
+          ),
+        )
+        ws2) ⊛ raw (fact 𝓤 (OneTaken theory goals proof (theoryLists sorts symbols inputs rules rulevars patterns) (x .Z)
+        (working (ws2 .1 .1 .1 .1 .1 .1 .1 .1 .1 .1 .0) (ws2 .1 .1 .1 .1 .1 .1 .1 .1 .1 .1 .1 .0) (ws2 .1 .1 .1 .1 .1 .1 .1 .1 .1 .1 .1 .1 .0)
+        (ws2 .1 .1 .1 .1 .1 .1 .1 .1 .1 .1 .1 .1 .1 .0) (ws2 .1 .1 .1 .1 .1 .1 .1 .1 .1 .1 .1 .1 .1 .1 .0)
+        (ws2 .1 .1 .1 .1 .1 .1 .1 .1 .1 .1 .1 .1 .1 .1 .1 .0)) (ws2 .1 .1 .1 .1 .1 .1 .1 .1 .1 .1 .1 .1 .1 .1 .1 .1 .0)
+        (ws2 .1 .1 .1 .1 .1 .1 .1 .1 .1 .1 .1 .1 .1 .1 .1 .1 .1 .0) (ws2 .1 .1 .1 .1 .1 .1 .1 .1 .1 .1 .1 .1 .1 .1 .1 .1 .1 .1 .0)
+        (ws2 .1 .1 .1 .1 .1 .1 .1 .1 .1 .1 .1 .1 .1 .1 .1 .1 .1 .1 .1 .0) (ws2 .1 .1 .1 .1 .1 .1 .1 .1 .1 .1 .1 .1 .1 .1 .1 .1 .1 .1 .1 .1 .0) (x .st)
+        r2 (x .fs-now) (ws2 .1 .1 .1 .1 .1 .1 .1 .1 .1 .1 .1 .1 .1 .1 .1 .1 .1 .1 .1 .1 .1 .0)
+        (ws2 .1 .1 .1 .1 .1 .1 .1 .1 .1 .1 .1 .1 .1 .1 .1 .1 .1 .1 .1 .1 .1 .1 .0))))) (id⊢ 𝓤 _) $ pick ! (λ ws2. split ! $ move ! (1 ∷ []) $
+        heard ! (OneTaken theory goals proof (theoryLists sorts symbols inputs rules rulevars patterns) (x .Z)
+        (working (ws2 .1 .1 .1 .1 .1 .1 .1 .1 .1 .1 .0) (ws2 .1 .1 .1 .1 .1 .1 .1 .1 .1 .1 .1 .0) (ws2 .1 .1 .1 .1 .1 .1 .1 .1 .1 .1 .1 .1 .0)
+        (ws2 .1 .1 .1 .1 .1 .1 .1 .1 .1 .1 .1 .1 .1 .0) (ws2 .1 .1 .1 .1 .1 .1 .1 .1 .1 .1 .1 .1 .1 .1 .0)
+        (ws2 .1 .1 .1 .1 .1 .1 .1 .1 .1 .1 .1 .1 .1 .1 .1 .0)) (ws2 .1 .1 .1 .1 .1 .1 .1 .1 .1 .1 .1 .1 .1 .1 .1 .1 .0)
+        (ws2 .1 .1 .1 .1 .1 .1 .1 .1 .1 .1 .1 .1 .1 .1 .1 .1 .1 .0) (ws2 .1 .1 .1 .1 .1 .1 .1 .1 .1 .1 .1 .1 .1 .1 .1 .1 .1 .1 .0)
+        (ws2 .1 .1 .1 .1 .1 .1 .1 .1 .1 .1 .1 .1 .1 .1 .1 .1 .1 .1 .1 .0) (ws2 .1 .1 .1 .1 .1 .1 .1 .1 .1 .1 .1 .1 .1 .1 .1 .1 .1 .1 .1 .1 .0) (x .st)
+        r2 (x .fs-now) (ws2 .1 .1 .1 .1 .1 .1 .1 .1 .1 .1 .1 .1 .1 .1 .1 .1 .1 .1 .1 .1 .1 .0)
+        (ws2 .1 .1 .1 .1 .1 .1 .1 .1 .1 .1 .1 .1 .1 .1 .1 .1 .1 .1 .1 .1 .1 .1 .0)) (λ e2.
+        fsplit ! $
+        drop ! $
+        fsplit ! $
+        drop ! $
+        fsplit ! $
+        drop ! $
+        fsplit ! $
+        drop ! $
+        fsplit ! $
+        drop ! $
+        fsplit ! $
+        drop ! $
+        fsplit ! $
+        drop ! $
+        fsplit ! $
+        drop ! $
+        fsplit ! $
+        drop ! $
+        fsplit ! $
+        drop ! $
+        fsplit ! $
+        fsplit ! $
+        move ! (1 ∷ []) $
+        feqL ! (λ len·2·vars.
+        move ! (1 ∷ []) $
+        fsplit ! $
+        fsplit ! $
+        move ! (1 ∷ []) $
+        feqL ! (λ len·2·index.
+        move ! (1 ∷ []) $
+        fsplit ! $
+        fsplit ! $
+        move ! (1 ∷ []) $
+        feqL ! (λ len·2·words.
+        move ! (1 ∷ []) $
+        fsplit ! $
+        fsplit ! $
+        move ! (1 ∷ []) $
+        feqL ! (λ len·2·defs.
+        move ! (1 ∷ []) $
+        fsplit ! $
+        fsplit ! $
+        move ! (1 ∷ []) $
+        feqL ! (λ len·2·rows.
+        move ! (1 ∷ []) $
+        fsplit ! $
+        fsplit ! $
+        move ! (1 ∷ []) $
+        feqL ! (λ len·2·lists.
+        move ! (1 ∷ []) $
+        fsplit ! $
+        fsplit ! $
+        move ! (1 ∷ []) $
+        feqL ! (λ len·2·kept.
+        move ! (1 ∷ []) $
+        fsplit ! $
+        fsplit ! $
+        move ! (1 ∷ []) $
+        feqL ! (λ len·2·feet.
+        move ! (1 ∷ []) $
+        fsplit ! $
+        fsplit ! $
+        move ! (1 ∷ []) $
+        feqL ! (λ len·2·cells.
+        move ! (1 ∷ []) $
+        fsplit ! $
+        fsplit ! $
+        move ! (1 ∷ []) $
+        feqL ! (λ len·2·ids.
+        move ! (1 ∷ []) $
+        fsplit ! $
+        fsplit ! $
+        move ! (1 ∷ []) $
+        feqL ! (λ len·2·memo.
+        move ! (1 ∷ []) $
+        fsplit ! $
+        fsplit ! $
+        move ! (1 ∷ []) $
+        feqL ! (λ len·2·facts.
+        move ! (1 ∷ []) $
+        fsplit ! $
+        move ! (1 ∷ []) $
+        drop ! $
+        move ! (13 ∷ []) $
+        split ! $
+        move ! (1 ∷ []) $
+        peeks ! RunT.the-row (Is RunT.the-row) (shows 𝓤 H A RunT.the-row) r2 (v2 ∷ []) (λ is2.
+        drop ! $
+        land ! (from ! (stop !)) (init ! 88 refl (LL.lawful RunT.the-type RunL.the-laws 𝓤 H A W .typed r2 _ is2 .0)) $
+        split ! $
+        move ! (1 ∷ []) $
+        split ! $
+        move ! (1 ∷ []) $
+        split ! $
+        move ! (1 ∷ []) $
+        split ! $
+        move ! (1 ∷ []) $
+        split ! $
+        move ! (1 ∷ []) $
+        split ! $
+        move ! (1 ∷ []) $
+        split ! $
+        move ! (1 ∷ []) $
+        split ! $
+        move ! (1 ∷ []) $
+        split ! $
+        move ! (1 ∷ []) $
+        split ! $
+        move ! (1 ∷ []) $
+        split ! $
+        move ! (1 ∷ []) $
+        split ! $
+        move ! (1 ∷ []) $
+        split ! $
+        move ! (1 ∷ []) $
+        split ! $
+        move ! (1 ∷ []) $
+        split ! $
+        move ! (1 ∷ []) $
+        split ! $
+        move ! (1 ∷ []) $
+        split ! $
+        move ! (1 ∷ []) $
+        split ! $
+        move ! (1 ∷ []) $
+        split ! $
+        move ! (1 ∷ []) $
+        split ! $
+        move ! (1 ∷ []) $
+        split ! $
+        move ! (1 ∷ []) $
+        split ! $
+        move ! (1 ∷ []) $
+        drop ! $
+        turn·seg·2 l0 l1 l2 l3 l4 l5 l6 l7 l8 l9 l10 l11 l12 l13 l14 l15 l16 l17 l18 l19 l20 l21 l22 l23 l24 l25 l26 l27 l28 l29 l30 l31 l32 l33 l34
+        l35 l36 l37 l38 l39 l40 l41 l42 l43 l44 l45 l46 l47 l48 l49 l50 l51 x v1 r1 ws1 e1 is1 held ν·2·10 δ·2·10 ν·2·11 δ·2·11 ν·2·12 δ·2·12 ν·2·13
+        δ·2·13 ν·2·14 δ·2·14 ν·2·15 δ·2·15 ν·2·16 δ·2·16 ν·2·17 δ·2·17 ν·2·18 δ·2·18 ν·2·19 δ·2·19 ν·2·20 δ·2·20 ν·2·21 δ·2·21 ν·2·22 δ·2·22 v2 r2 ws2
+        e2 len·2·vars len·2·index len·2·words len·2·defs len·2·rows len·2·lists len·2·kept len·2·feet len·2·cells len·2·ids len·2·memo len·2·facts
+        is2)))))))))))))))))))))))))))))))))))))))))))
 
-      turns : (l0 : ℕ) (l1 : ℕ) (l2 : ℕ) (l3 : ℕ) (l4 : ℕ) (l5 : ℕ) (l6 : ℕ) (l7 : ℕ) (l8 : ℕ) (l9 : ℕ) (l10 : ℕ) (l11 : ℕ) (l12 : ℕ) (l13 : ℕ)
-          (l14 : ℕ) (l15 : ℕ) (l16 : ℕ) (l17 : ℕ) (l18 : ℕ) (l19 : ℕ) (l20 : ℕ) (l21 : ℕ) (l22 : ℕ) (l23 : ℕ) (l24 : ℕ) (l25 : ℕ) (l26 : ℕ) (l27 : ℕ)
-          (l28 : ℕ) (l29 : ℕ) (l30 : ℕ) (l31 : ℕ) (l32 : ℕ) (l33 : ℕ) (l34 : ℕ) (l35 : ℕ) (l36 : ℕ) (l37 : ℕ) (l38 : ℕ) (l39 : ℕ) (l40 : ℕ) (l41 : ℕ)
-          (l42 : ℕ) (l43 : ℕ) (l44 : ℕ) (l45 : ℕ) (l46 : ℕ) (l47 : ℕ) (l48 : ℕ)
-          (x : Looping theory goals proof (theoryLists sorts symbols inputs rules rulevars patterns) (working vars index words defs rows lists) kept
-          feet cells ids s facts) → Sq W (At l0 l1 l2 l3 l4 l5 l6 l7 l8 l9 l10 l11 l12 l13 l14 l15 l16 l17 l18 l19 l20 l21 l22 l23 l24 l25 l26 l27 l28
-          l29 l30 l31 l32 l33 l34 l35 l36 l37 l38 l39 l40 l41 l42 l43 l44 l45 l46 l47 l48 x)
-          (runs C Λ (En l0 l1 l2 l3 l4 l5 l6 l7 l8 l9 l10 l11 l12 l13 l14 l15 l16 l17 l18 l19 l20 l21 l22 l23 l24 l25 l26 l27 l28 l29 l30 l31 l32 l33
-          l34 l35 l36 l37 l38 l39 l40 l41 l42 l43 l44 l45 l46 l47 l48) pieces.turn-1
-          (anyQ (Turned l0 l1 l2 l3 l4 l5 l6 l7 l8 l9 l10 l11 l12 l13 l14 l15 l16 l17 l18 l19 l20 l21 l22 l23 l24 l25 l26 l27 l28 l29 l30 l31 l32 l33
-          l34 l35 l36 l37 l38 l39 l40 l41 l42 l43 l44 l45 l46 l47 l48 x)))
-      unfolding afterTurn
-      turns l0 l1 l2 l3 l4 l5 l6 l7 l8 l9 l10 l11 l12 l13 l14 l15 l16 l17 l18 l19 l20 l21 l22 l23 l24 l25 l26 l27 l28 l29 l30 l31 l32 l33 l34 l35 l36
-          l37 l38 l39 l40 l41 l42 l43 l44 l45 l46 l47 l48 x =
-          -- call 1: is_going
-          nothing ! $
-          use1 W (raw ((G1·C 𝓤 H A at-mem run) .pre ((tt, tt, tt, ((x .st), tt), ((LL.val RunT.the-type RunL.the-laws (x .st)) ∷ [], tt)), tt)))
-          (qed W (‵ ftrue ∷ []) ∵ drop ! $ nothing ! $ nothing ! $ owned ! RunT.the-row (Is RunT.the-row) (LL.makes RunT.the-type RunL.the-plain 𝓤 H A)
-          (x .st) _ (x .is) $ fjoin ! $ move ! (1 ∷ 0 ∷ []) $ join ! $ frame ! $ done !) $
-          calls-at ! fm (G1·C 𝓤 H A at-mem run) known·1 ((tt, tt, tt, ((x .st), tt), ((LL.val RunT.the-type RunL.the-laws (x .st)) ∷ [], tt)), tt)
-          (and-then ! (load ! (from ! (stop !)) (look ! 93 refl)) (no-more !)) (λ v1.
-          use1 W (later (some (λ (r1 : Bool). ((‵ ftrue) ⊛ ‵ (bool .own r1 (v1 ∷ []))) ⊛ raw
-          (ensured 𝓤 H A G1.ended (G1.clauses 𝓤 H A at-mem run) tt ((x .st), tt) tt r1)))) (id⊢ 𝓤 _) $ await ! tt $
-          pick ! (λ r1. split ! $ move ! (1 ∷ []) $
-          use1 W (some (λ (ws1 : (Unit {0} × Unit {0})). ‵ (lasts G1.ended tt ((x .st), tt) ws1) ⊛ raw (fact 𝓤 (r1 ≡ x .st .going)))) (id⊢ 𝓤 _) $
-          pick ! (λ ws1. split ! $ move ! (1 ∷ []) $
-          heard ! (r1 ≡ x .st .going) (λ e1.
-          drop ! $
-          split ! $
-          move ! (1 ∷ []) $
-          peeks ! bool (Is bool) (shows 𝓤 H A bool) r1 (v1 ∷ []) (λ is1.
-          drop ! $
-          land ! (from ! (stop !)) (init ! 89 refl (bool-lawful 𝓤 H A W .typed r1 _ is1 .0)) $
-          drop ! $
-          rewrite ! 88 (λ (u : Val). ‵ (fat fullShare tyBool l25 0 u)) (ap only is1) refl $
-          into ! $ branches ! (load ! (from ! (stop !)) (look ! 88 refl))
-          (λ held. skips ! $ exec ! C Λ (En l0 l1 l2 l3 l4 l5 l6 l7 l8 l9 l10 l11 l12 l13 l14 l15 l16 l17 l18 l19 l20 l21 l22 l23 l24 l25 l26 l27 l28
-          l29 l30 l31 l32 l33 l34 l35 l36 l37 l38 l39 l40 l41 l42 l43 l44 l45 l46 l47 l48) (rest-of (rest-of pieces.turn-1))
-          (anyQ (Turned l0 l1 l2 l3 l4 l5 l6 l7 l8 l9 l10 l11 l12 l13 l14 l15 l16 l17 l18 l19 l20 l21 l22 l23 l24 l25 l26 l27 l28 l29 l30 l31 l32 l33
-          l34 l35 l36 l37 l38 l39 l40 l41 l42 l43 l44 l45 l46 l47 l48 x)) $
-          assigns ! (addr ! (from ! (fld ! refl (hop ! (look-in ! 116 (sub ! 0 refl (whole !))) (stop !))))) (from ! (stop !))
-          (init ! 86 refl (tt, tt)) $
-          assigns ! (agg ! (and-then ! (load ! (from ! (stop !)) (look ! 86 refl))
-          (and-then ! (load ! (from ! (fld ! refl (stop !))) (look-in ! 116 (sub ! 1 refl (whole !)))) (no-more !)))) (from ! (stop !))
-          (init ! 84 refl (tt, (tt, (record { fits = room·vars .0 }, tt)))) $
-          assigns ! (addr ! (from ! (fld ! refl (hop ! (look-in ! 114 (sub ! 0 refl (whole !))) (stop !))))) (from ! (stop !))
-          (init ! 82 refl (tt, tt)) $
-          assigns ! (agg ! (and-then ! (load ! (from ! (stop !)) (look ! 82 refl))
-          (and-then ! (load ! (from ! (fld ! refl (stop !))) (look-in ! 114 (sub ! 1 refl (whole !)))) (no-more !)))) (from ! (stop !))
-          (init ! 80 refl (tt, (tt, (record { fits = room·index .0 }, tt)))) $
-          assigns ! (addr ! (from ! (fld ! refl (hop ! (look-in ! 112 (sub ! 0 refl (whole !))) (stop !))))) (from ! (stop !))
-          (init ! 78 refl (tt, tt)) $
-          assigns ! (agg ! (and-then ! (load ! (from ! (stop !)) (look ! 78 refl))
-          (and-then ! (load ! (from ! (fld ! refl (stop !))) (look-in ! 112 (sub ! 1 refl (whole !)))) (no-more !)))) (from ! (stop !))
-          (init ! 76 refl (tt, (tt, (record { fits = room·words .0 }, tt)))) $
-          assigns ! (addr ! (from ! (fld ! refl (hop ! (look-in ! 110 (sub ! 0 refl (whole !))) (stop !))))) (from ! (stop !))
-          (init ! 74 refl (tt, tt)) $
-          assigns ! (agg ! (and-then ! (load ! (from ! (stop !)) (look ! 74 refl))
-          (and-then ! (load ! (from ! (fld ! refl (stop !))) (look-in ! 110 (sub ! 1 refl (whole !)))) (no-more !)))) (from ! (stop !))
-          (init ! 72 refl (tt, (tt, (record { fits = room·defs .0 }, tt)))) $
-          assigns ! (addr ! (from ! (fld ! refl (hop ! (look-in ! 108 (sub ! 0 refl (whole !))) (stop !))))) (from ! (stop !))
-          (init ! 70 refl (tt, tt)) $
-          assigns ! (agg ! (and-then ! (load ! (from ! (stop !)) (look ! 70 refl))
-          (and-then ! (load ! (from ! (fld ! refl (stop !))) (look-in ! 108 (sub ! 1 refl (whole !)))) (no-more !)))) (from ! (stop !))
-          (init ! 68 refl (tt, (tt, (record { fits = room·rows .0 }, tt)))) $
-          assigns ! (addr ! (from ! (fld ! refl (hop ! (look-in ! 106 (sub ! 0 refl (whole !))) (stop !))))) (from ! (stop !))
-          (init ! 66 refl (tt, tt)) $
-          assigns ! (agg ! (and-then ! (load ! (from ! (stop !)) (look ! 66 refl))
-          (and-then ! (load ! (from ! (fld ! refl (stop !))) (look-in ! 106 (sub ! 1 refl (whole !)))) (no-more !)))) (from ! (stop !))
-          (init ! 64 refl (tt, (tt, (record { fits = room·lists .0 }, tt)))) $
-          assigns ! (addr ! (from ! (fld ! refl (hop ! (look-in ! 104 (sub ! 0 refl (whole !))) (stop !))))) (from ! (stop !))
-          (init ! 62 refl (tt, tt)) $
-          assigns ! (agg ! (and-then ! (load ! (from ! (stop !)) (look ! 62 refl))
-          (and-then ! (load ! (from ! (fld ! refl (stop !))) (look-in ! 104 (sub ! 1 refl (whole !)))) (no-more !)))) (from ! (stop !))
-          (init ! 60 refl (tt, (tt, (record { fits = room·kept .0 }, tt)))) $
-          assigns ! (addr ! (from ! (fld ! refl (hop ! (look-in ! 102 (sub ! 0 refl (whole !))) (stop !))))) (from ! (stop !))
-          (init ! 58 refl (tt, tt)) $
-          assigns ! (agg ! (and-then ! (load ! (from ! (stop !)) (look ! 58 refl))
-          (and-then ! (load ! (from ! (fld ! refl (stop !))) (look-in ! 102 (sub ! 1 refl (whole !)))) (no-more !)))) (from ! (stop !))
-          (init ! 56 refl (tt, (tt, (record { fits = room·feet .0 }, tt)))) $
-          assigns ! (addr ! (from ! (fld ! refl (hop ! (look-in ! 100 (sub ! 0 refl (whole !))) (stop !))))) (from ! (stop !))
-          (init ! 54 refl (tt, tt)) $
-          assigns ! (agg ! (and-then ! (load ! (from ! (stop !)) (look ! 54 refl))
-          (and-then ! (load ! (from ! (fld ! refl (stop !))) (look-in ! 100 (sub ! 1 refl (whole !)))) (no-more !)))) (from ! (stop !))
-          (init ! 52 refl (tt, (tt, (record { fits = room·cells .0 }, tt)))) $
-          assigns ! (addr ! (from ! (fld ! refl (hop ! (look-in ! 98 (sub ! 0 refl (whole !))) (stop !))))) (from ! (stop !))
-          (init ! 50 refl (tt, tt)) $
-          assigns ! (agg ! (and-then ! (load ! (from ! (stop !)) (look ! 50 refl))
-          (and-then ! (load ! (from ! (fld ! refl (stop !))) (look-in ! 98 (sub ! 1 refl (whole !)))) (no-more !)))) (from ! (stop !))
-          (init ! 48 refl (tt, (tt, (record { fits = room·ids .0 }, tt)))) $
-          assigns ! (addr ! (from ! (fld ! refl (hop ! (look-in ! 96 (sub ! 0 refl (whole !))) (stop !))))) (from ! (stop !))
-          (init ! 46 refl (tt, tt)) $
-          assigns ! (agg ! (and-then ! (load ! (from ! (stop !)) (look ! 46 refl))
-          (and-then ! (load ! (from ! (fld ! refl (stop !))) (look-in ! 96 (sub ! 1 refl (whole !)))) (no-more !)))) (from ! (stop !))
-          (init ! 44 refl (tt, (tt, (record { fits = room·facts .0 }, tt)))) $
-          assigns ! (addr ! (from ! (hop ! (look ! 94 refl) (stop !)))) (from ! (stop !)) (init ! 42 refl (tt, tt)) $
-          -- call 2: turn
-          use1 W (‵ (ShrSlice (named 0) κ·theory u8 .own (ref·theory γ·theory theory) (s·theory ∷ []))
-          ⊛ ‵ (ShrSlice (named 0) κ·theory u8 .own (ref·theory γ·theory theory) (s·theory ∷ [])))
-          (shr-slice-copy 𝓤 H A W (named 0) κ·theory u8 .twice (ref·theory γ·theory theory) (s·theory ∷ [])) $ split ! $
-          move ! (2 ∷ []) $
-          use1 W (‵ (ShrSlice (named 1) κ·goals u8 .own (ref·goals γ·goals goals) (s·goals ∷ []))
-          ⊛ ‵ (ShrSlice (named 1) κ·goals u8 .own (ref·goals γ·goals goals) (s·goals ∷ [])))
-          (shr-slice-copy 𝓤 H A W (named 1) κ·goals u8 .twice (ref·goals γ·goals goals) (s·goals ∷ [])) $ split ! $
-          move ! (4 ∷ []) $
-          use1 W (‵ (ShrSlice (named 2) κ·proof u8 .own (ref·proof γ·proof proof) (s·proof ∷ []))
-          ⊛ ‵ (ShrSlice (named 2) κ·proof u8 .own (ref·proof γ·proof proof) (s·proof ∷ [])))
-          (shr-slice-copy 𝓤 H A W (named 2) κ·proof u8 .twice (ref·proof γ·proof proof) (s·proof ∷ [])) $ split ! $
-          move ! (6 ∷ []) $
-          use1 W (‵ (ShrSlice (named 3) κ·sorts u32 .own (ref·sorts γ·sorts sorts) (s·sorts ∷ []))
-          ⊛ ‵ (ShrSlice (named 3) κ·sorts u32 .own (ref·sorts γ·sorts sorts) (s·sorts ∷ [])))
-          (shr-slice-copy 𝓤 H A W (named 3) κ·sorts u32 .twice (ref·sorts γ·sorts sorts) (s·sorts ∷ [])) $ split ! $
-          move ! (8 ∷ []) $
-          use1 W (‵ (ShrSlice (named 4) κ·symbols u32 .own (ref·symbols γ·symbols symbols) (s·symbols ∷ []))
-          ⊛ ‵ (ShrSlice (named 4) κ·symbols u32 .own (ref·symbols γ·symbols symbols) (s·symbols ∷ [])))
-          (shr-slice-copy 𝓤 H A W (named 4) κ·symbols u32 .twice (ref·symbols γ·symbols symbols) (s·symbols ∷ [])) $ split ! $
-          move ! (10 ∷ []) $
-          use1 W (‵ (ShrSlice (named 5) κ·inputs u32 .own (ref·inputs γ·inputs inputs) (s·inputs ∷ []))
-          ⊛ ‵ (ShrSlice (named 5) κ·inputs u32 .own (ref·inputs γ·inputs inputs) (s·inputs ∷ [])))
-          (shr-slice-copy 𝓤 H A W (named 5) κ·inputs u32 .twice (ref·inputs γ·inputs inputs) (s·inputs ∷ [])) $ split ! $
-          move ! (12 ∷ []) $
-          use1 W (‵ (ShrSlice (named 6) κ·rules u32 .own (ref·rules γ·rules rules) (s·rules ∷ []))
-          ⊛ ‵ (ShrSlice (named 6) κ·rules u32 .own (ref·rules γ·rules rules) (s·rules ∷ [])))
-          (shr-slice-copy 𝓤 H A W (named 6) κ·rules u32 .twice (ref·rules γ·rules rules) (s·rules ∷ [])) $ split ! $
-          move ! (14 ∷ []) $
-          use1 W (‵ (ShrSlice (named 7) κ·rulevars u32 .own (ref·rulevars γ·rulevars rulevars) (s·rulevars ∷ []))
-          ⊛ ‵ (ShrSlice (named 7) κ·rulevars u32 .own (ref·rulevars γ·rulevars rulevars) (s·rulevars ∷ [])))
-          (shr-slice-copy 𝓤 H A W (named 7) κ·rulevars u32 .twice (ref·rulevars γ·rulevars rulevars) (s·rulevars ∷ [])) $ split ! $
-          move ! (16 ∷ []) $
-          use1 W (‵ (ShrSlice (named 8) κ·patterns u32 .own (ref·patterns γ·patterns patterns) (s·patterns ∷ []))
-          ⊛ ‵ (ShrSlice (named 8) κ·patterns u32 .own (ref·patterns γ·patterns patterns) (s·patterns ∷ [])))
-          (shr-slice-copy 𝓤 H A W (named 8) κ·patterns u32 .twice (ref·patterns γ·patterns patterns) (s·patterns ∷ [])) $ split ! $
-          lft-new ! tt (λ ν·2·10.
-          move ! (19 ∷ 40 ∷ []) $
-          use2 W (later (some (λ (δ : GName). ‵ (MutSlice (named 9) (ν·2·10 ∷ []) u32 .own (ref·vars δ (x .Z .vars)) (s·vars ∷ []))
-          ⊛ ‵ (LentAgain u32 κ·vars (ν·2·10 ∷ []) q·vars γ·vars b·vars o·vars δ (x .Z .vars)))))
-          (lends-again u32 κ·vars (ν·2·10 ∷ []) q·vars γ·vars b·vars o·vars 𝓤 H A W (named 9) (named 9) (length vars) (x .Z .vars)) $ await ! tt $
-          pick ! (λ δ·2·10. split ! $
-          turn·seg·1 l0 l1 l2 l3 l4 l5 l6 l7 l8 l9 l10 l11 l12 l13 l14 l15 l16 l17 l18 l19 l20 l21 l22 l23 l24 l25 l26 l27 l28 l29 l30 l31 l32 l33 l34
-          l35 l36 l37 l38 l39 l40 l41 l42 l43 l44 l45 l46 l47 l48 x v1 r1 ws1 e1 is1 held ν·2·10 δ·2·10)))
-          (λ over. jumps ! $ exec ! C Λ (En l0 l1 l2 l3 l4 l5 l6 l7 l8 l9 l10 l11 l12 l13 l14 l15 l16 l17 l18 l19 l20 l21 l22 l23 l24 l25 l26 l27 l28
-          l29 l30 l31 l32 l33 l34 l35 l36 l37 l38 l39 l40 l41 l42 l43 l44 l45 l46 l47 l48) pieces.t-3
-          (atRet (En l0 l1 l2 l3 l4 l5 l6 l7 l8 l9 l10 l11 l12 l13 l14 l15 l16 l17 l18 l19 l20 l21 l22 l23 l24 l25 l26 l27 l28 l29 l30 l31 l32 l33 l34
-          l35 l36 l37 l38 l39 l40 l41 l42 l43 l44 l45 l46 l47 l48) Post) $
-          assigns ! (of-opd ! (load ! (from ! (stop !)) (look ! 92 refl))) (from ! (stop !))
-          (init ! 138 refl (LL.lawful RunT.the-type RunL.the-laws 𝓤 H A W .typed (x .st) _ (x .is) .0)) $
-          returns ! (look ! 138 refl) $
-          forget ! 138 refl $
-          move ! (138 ∷ 139 ∷ []) $
-          free1 ! $
-          forget ! 136 refl $
-          move ! (136 ∷ 137 ∷ []) $
-          free1 ! $
-          forget ! 134 refl $
-          move ! (134 ∷ 135 ∷ []) $
-          free1 ! $
-          forget ! 132 refl $
-          move ! (132 ∷ 133 ∷ []) $
-          free1 ! $
-          forget ! 130 refl $
-          move ! (130 ∷ 131 ∷ []) $
-          free1 ! $
-          forget ! 128 refl $
-          move ! (128 ∷ 129 ∷ []) $
-          free1 ! $
-          forget ! 126 refl $
-          move ! (126 ∷ 127 ∷ []) $
-          free1 ! $
-          forget ! 124 refl $
-          move ! (124 ∷ 125 ∷ []) $
-          free1 ! $
-          forget ! 122 refl $
-          move ! (122 ∷ 123 ∷ []) $
-          free1 ! $
-          forget ! 120 refl $
-          move ! (120 ∷ 121 ∷ []) $
-          free1 ! $
-          forget ! 118 refl $
-          move ! (118 ∷ 119 ∷ []) $
-          free1 ! $
-          forget ! 116 refl $
-          move ! (116 ∷ 117 ∷ []) $
-          free1 ! $
-          forget ! 114 refl $
-          move ! (114 ∷ 115 ∷ []) $
-          free1 ! $
-          forget ! 112 refl $
-          move ! (112 ∷ 113 ∷ []) $
-          free1 ! $
-          forget ! 110 refl $
-          move ! (110 ∷ 111 ∷ []) $
-          free1 ! $
-          forget ! 108 refl $
-          move ! (108 ∷ 109 ∷ []) $
-          free1 ! $
-          forget ! 106 refl $
-          move ! (106 ∷ 107 ∷ []) $
-          free1 ! $
-          forget ! 104 refl $
-          move ! (104 ∷ 105 ∷ []) $
-          free1 ! $
-          forget ! 102 refl $
-          move ! (102 ∷ 103 ∷ []) $
-          free1 ! $
-          forget ! 100 refl $
-          move ! (100 ∷ 101 ∷ []) $
-          free1 ! $
-          forget ! 98 refl $
-          move ! (98 ∷ 99 ∷ []) $
-          free1 ! $
-          forget ! 96 refl $
-          move ! (96 ∷ 97 ∷ []) $
-          free1 ! $
-          forget ! 94 refl $
-          move ! (94 ∷ 95 ∷ []) $
-          free1 ! $
-          forget ! 92 refl $
-          move ! (92 ∷ 93 ∷ []) $
-          free1 ! $
-          move ! (90 ∷ 91 ∷ []) $
-          free1 ! $
-          forget ! 88 refl $
-          move ! (88 ∷ 89 ∷ []) $
-          free1 ! $
-          move ! (86 ∷ 87 ∷ []) $
-          free1 ! $
-          move ! (84 ∷ 85 ∷ []) $
-          free1 ! $
-          move ! (82 ∷ 83 ∷ []) $
-          free1 ! $
-          move ! (80 ∷ 81 ∷ []) $
-          free1 ! $
-          turn·seg·4 l0 l1 l2 l3 l4 l5 l6 l7 l8 l9 l10 l11 l12 l13 l14 l15 l16 l17 l18 l19 l20 l21 l22 l23 l24 l25 l26 l27 l28 l29 l30 l31 l32 l33 l34
-          l35 l36 l37 l38 l39 l40 l41 l42 l43 l44 l45 l46 l47 l48 x v1 r1 ws1 e1 is1 over))))))
+    turns : (l0 : ℕ) (l1 : ℕ) (l2 : ℕ) (l3 : ℕ) (l4 : ℕ) (l5 : ℕ) (l6 : ℕ) (l7 : ℕ) (l8 : ℕ) (l9 : ℕ) (l10 : ℕ) (l11 : ℕ) (l12 : ℕ) (l13 : ℕ)
+        (l14 : ℕ) (l15 : ℕ) (l16 : ℕ) (l17 : ℕ) (l18 : ℕ) (l19 : ℕ) (l20 : ℕ) (l21 : ℕ) (l22 : ℕ) (l23 : ℕ) (l24 : ℕ) (l25 : ℕ) (l26 : ℕ) (l27 : ℕ)
+        (l28 : ℕ) (l29 : ℕ) (l30 : ℕ) (l31 : ℕ) (l32 : ℕ) (l33 : ℕ) (l34 : ℕ) (l35 : ℕ) (l36 : ℕ) (l37 : ℕ) (l38 : ℕ) (l39 : ℕ) (l40 : ℕ) (l41 : ℕ)
+        (l42 : ℕ) (l43 : ℕ) (l44 : ℕ) (l45 : ℕ) (l46 : ℕ) (l47 : ℕ) (l48 : ℕ) (l49 : ℕ) (l50 : ℕ) (l51 : ℕ)
+        (x : Looping theory goals proof (theoryLists sorts symbols inputs rules rulevars patterns) (working vars index words defs rows lists) kept
+        feet cells ids memo s facts) → Sq W (At l0 l1 l2 l3 l4 l5 l6 l7 l8 l9 l10 l11 l12 l13 l14 l15 l16 l17 l18 l19 l20 l21 l22 l23 l24 l25 l26 l27
+        l28 l29 l30 l31 l32 l33 l34 l35 l36 l37 l38 l39 l40 l41 l42 l43 l44 l45 l46 l47 l48 l49 l50 l51 x)
+        (runs C Λ (En l0 l1 l2 l3 l4 l5 l6 l7 l8 l9 l10 l11 l12 l13 l14 l15 l16 l17 l18 l19 l20 l21 l22 l23 l24 l25 l26 l27 l28 l29 l30 l31 l32 l33
+        l34 l35 l36 l37 l38 l39 l40 l41 l42 l43 l44 l45 l46 l47 l48 l49 l50 l51) pieces.turn-1
+        (anyQ (Turned l0 l1 l2 l3 l4 l5 l6 l7 l8 l9 l10 l11 l12 l13 l14 l15 l16 l17 l18 l19 l20 l21 l22 l23 l24 l25 l26 l27 l28 l29 l30 l31 l32 l33
+        l34 l35 l36 l37 l38 l39 l40 l41 l42 l43 l44 l45 l46 l47 l48 l49 l50 l51 x)))
+    unfolding afterTurn
+    turns l0 l1 l2 l3 l4 l5 l6 l7 l8 l9 l10 l11 l12 l13 l14 l15 l16 l17 l18 l19 l20 l21 l22 l23 l24 l25 l26 l27 l28 l29 l30 l31 l32 l33 l34 l35 l36
+        l37 l38 l39 l40 l41 l42 l43 l44 l45 l46 l47 l48 l49 l50 l51 x =
+        -- call 1: is_going
+        nothing ! $
+        use1 W (raw ((G1·C 𝓤 H A at-mem run) .pre ((tt, tt, tt, ((x .st), tt), ((LL.val RunT.the-type RunL.the-laws (x .st)) ∷ [], tt)), tt)))
+        (qed W (‵ ftrue ∷ []) ∵ drop ! $ nothing ! $ nothing ! $ owned ! RunT.the-row (Is RunT.the-row) (LL.makes RunT.the-type RunL.the-plain 𝓤 H A)
+        (x .st) _ (x .is) $ fjoin ! $ move ! (1 ∷ 0 ∷ []) $ join ! $ frame ! $ done !) $
+        calls-at ! fm (G1·C 𝓤 H A at-mem run) known·1 ((tt, tt, tt, ((x .st), tt), ((LL.val RunT.the-type RunL.the-laws (x .st)) ∷ [], tt)), tt)
+        (and-then ! (load ! (from ! (stop !)) (look ! 99 refl)) (no-more !)) (λ v1.
+        use1 W (later (some (λ (r1 : Bool). ((‵ ftrue) ⊛ ‵ (bool .own r1 (v1 ∷ []))) ⊛ raw
+        (ensured 𝓤 H A G1.ended (G1.clauses 𝓤 H A at-mem run) tt ((x .st), tt) tt r1)))) (id⊢ 𝓤 _) $ await ! tt $
+        pick ! (λ r1. split ! $ move ! (1 ∷ []) $
+        use1 W (some (λ (ws1 : (Unit {0} × Unit {0})). ‵ (lasts G1.ended tt ((x .st), tt) ws1) ⊛ raw (fact 𝓤 (r1 ≡ x .st .going)))) (id⊢ 𝓤 _) $
+        pick ! (λ ws1. split ! $ move ! (1 ∷ []) $
+        heard ! (r1 ≡ x .st .going) (λ e1.
+        drop ! $
+        split ! $
+        move ! (1 ∷ []) $
+        peeks ! bool (Is bool) (shows 𝓤 H A bool) r1 (v1 ∷ []) (λ is1.
+        drop ! $
+        land ! (from ! (stop !)) (init ! 95 refl (bool-lawful 𝓤 H A W .typed r1 _ is1 .0)) $
+        drop ! $
+        rewrite ! 94 (λ (u : Val). ‵ (fat fullShare tyBool l26 0 u)) (ap only is1) refl $
+        into ! $ branches ! (load ! (from ! (stop !)) (look ! 94 refl))
+        (λ held. skips ! $ exec ! C Λ (En l0 l1 l2 l3 l4 l5 l6 l7 l8 l9 l10 l11 l12 l13 l14 l15 l16 l17 l18 l19 l20 l21 l22 l23 l24 l25 l26 l27 l28
+        l29 l30 l31 l32 l33 l34 l35 l36 l37 l38 l39 l40 l41 l42 l43 l44 l45 l46 l47 l48 l49 l50 l51) (rest-of (rest-of pieces.turn-1))
+        (anyQ (Turned l0 l1 l2 l3 l4 l5 l6 l7 l8 l9 l10 l11 l12 l13 l14 l15 l16 l17 l18 l19 l20 l21 l22 l23 l24 l25 l26 l27 l28 l29 l30 l31 l32 l33
+        l34 l35 l36 l37 l38 l39 l40 l41 l42 l43 l44 l45 l46 l47 l48 l49 l50 l51 x)) $
+        assigns ! (addr ! (from ! (fld ! refl (hop ! (look-in ! 124 (sub ! 0 refl (whole !))) (stop !))))) (from ! (stop !))
+        (init ! 92 refl (tt, tt)) $
+        assigns ! (agg ! (and-then ! (load ! (from ! (stop !)) (look ! 92 refl))
+        (and-then ! (load ! (from ! (fld ! refl (stop !))) (look-in ! 124 (sub ! 1 refl (whole !)))) (no-more !)))) (from ! (stop !))
+        (init ! 90 refl (tt, (tt, (record { fits = room·vars .0 }, tt)))) $
+        assigns ! (addr ! (from ! (fld ! refl (hop ! (look-in ! 122 (sub ! 0 refl (whole !))) (stop !))))) (from ! (stop !))
+        (init ! 88 refl (tt, tt)) $
+        assigns ! (agg ! (and-then ! (load ! (from ! (stop !)) (look ! 88 refl))
+        (and-then ! (load ! (from ! (fld ! refl (stop !))) (look-in ! 122 (sub ! 1 refl (whole !)))) (no-more !)))) (from ! (stop !))
+        (init ! 86 refl (tt, (tt, (record { fits = room·index .0 }, tt)))) $
+        assigns ! (addr ! (from ! (fld ! refl (hop ! (look-in ! 120 (sub ! 0 refl (whole !))) (stop !))))) (from ! (stop !))
+        (init ! 84 refl (tt, tt)) $
+        assigns ! (agg ! (and-then ! (load ! (from ! (stop !)) (look ! 84 refl))
+        (and-then ! (load ! (from ! (fld ! refl (stop !))) (look-in ! 120 (sub ! 1 refl (whole !)))) (no-more !)))) (from ! (stop !))
+        (init ! 82 refl (tt, (tt, (record { fits = room·words .0 }, tt)))) $
+        assigns ! (addr ! (from ! (fld ! refl (hop ! (look-in ! 118 (sub ! 0 refl (whole !))) (stop !))))) (from ! (stop !))
+        (init ! 80 refl (tt, tt)) $
+        assigns ! (agg ! (and-then ! (load ! (from ! (stop !)) (look ! 80 refl))
+        (and-then ! (load ! (from ! (fld ! refl (stop !))) (look-in ! 118 (sub ! 1 refl (whole !)))) (no-more !)))) (from ! (stop !))
+        (init ! 78 refl (tt, (tt, (record { fits = room·defs .0 }, tt)))) $
+        assigns ! (addr ! (from ! (fld ! refl (hop ! (look-in ! 116 (sub ! 0 refl (whole !))) (stop !))))) (from ! (stop !))
+        (init ! 76 refl (tt, tt)) $
+        assigns ! (agg ! (and-then ! (load ! (from ! (stop !)) (look ! 76 refl))
+        (and-then ! (load ! (from ! (fld ! refl (stop !))) (look-in ! 116 (sub ! 1 refl (whole !)))) (no-more !)))) (from ! (stop !))
+        (init ! 74 refl (tt, (tt, (record { fits = room·rows .0 }, tt)))) $
+        assigns ! (addr ! (from ! (fld ! refl (hop ! (look-in ! 114 (sub ! 0 refl (whole !))) (stop !))))) (from ! (stop !))
+        (init ! 72 refl (tt, tt)) $
+        assigns ! (agg ! (and-then ! (load ! (from ! (stop !)) (look ! 72 refl))
+        (and-then ! (load ! (from ! (fld ! refl (stop !))) (look-in ! 114 (sub ! 1 refl (whole !)))) (no-more !)))) (from ! (stop !))
+        (init ! 70 refl (tt, (tt, (record { fits = room·lists .0 }, tt)))) $
+        assigns ! (addr ! (from ! (fld ! refl (hop ! (look-in ! 112 (sub ! 0 refl (whole !))) (stop !))))) (from ! (stop !))
+        (init ! 68 refl (tt, tt)) $
+        assigns ! (agg ! (and-then ! (load ! (from ! (stop !)) (look ! 68 refl))
+        (and-then ! (load ! (from ! (fld ! refl (stop !))) (look-in ! 112 (sub ! 1 refl (whole !)))) (no-more !)))) (from ! (stop !))
+        (init ! 66 refl (tt, (tt, (record { fits = room·kept .0 }, tt)))) $
+        assigns ! (addr ! (from ! (fld ! refl (hop ! (look-in ! 110 (sub ! 0 refl (whole !))) (stop !))))) (from ! (stop !))
+        (init ! 64 refl (tt, tt)) $
+        assigns ! (agg ! (and-then ! (load ! (from ! (stop !)) (look ! 64 refl))
+        (and-then ! (load ! (from ! (fld ! refl (stop !))) (look-in ! 110 (sub ! 1 refl (whole !)))) (no-more !)))) (from ! (stop !))
+        (init ! 62 refl (tt, (tt, (record { fits = room·feet .0 }, tt)))) $
+        assigns ! (addr ! (from ! (fld ! refl (hop ! (look-in ! 108 (sub ! 0 refl (whole !))) (stop !))))) (from ! (stop !))
+        (init ! 60 refl (tt, tt)) $
+        assigns ! (agg ! (and-then ! (load ! (from ! (stop !)) (look ! 60 refl))
+        (and-then ! (load ! (from ! (fld ! refl (stop !))) (look-in ! 108 (sub ! 1 refl (whole !)))) (no-more !)))) (from ! (stop !))
+        (init ! 58 refl (tt, (tt, (record { fits = room·cells .0 }, tt)))) $
+        assigns ! (addr ! (from ! (fld ! refl (hop ! (look-in ! 106 (sub ! 0 refl (whole !))) (stop !))))) (from ! (stop !))
+        (init ! 56 refl (tt, tt)) $
+        assigns ! (agg ! (and-then ! (load ! (from ! (stop !)) (look ! 56 refl))
+        (and-then ! (load ! (from ! (fld ! refl (stop !))) (look-in ! 106 (sub ! 1 refl (whole !)))) (no-more !)))) (from ! (stop !))
+        (init ! 54 refl (tt, (tt, (record { fits = room·ids .0 }, tt)))) $
+        assigns ! (addr ! (from ! (fld ! refl (hop ! (look-in ! 104 (sub ! 0 refl (whole !))) (stop !))))) (from ! (stop !))
+        (init ! 52 refl (tt, tt)) $
+        assigns ! (agg ! (and-then ! (load ! (from ! (stop !)) (look ! 52 refl))
+        (and-then ! (load ! (from ! (fld ! refl (stop !))) (look-in ! 104 (sub ! 1 refl (whole !)))) (no-more !)))) (from ! (stop !))
+        (init ! 50 refl (tt, (tt, (record { fits = room·memo .0 }, tt)))) $
+        assigns ! (addr ! (from ! (fld ! refl (hop ! (look-in ! 102 (sub ! 0 refl (whole !))) (stop !))))) (from ! (stop !))
+        (init ! 48 refl (tt, tt)) $
+        assigns ! (agg ! (and-then ! (load ! (from ! (stop !)) (look ! 48 refl))
+        (and-then ! (load ! (from ! (fld ! refl (stop !))) (look-in ! 102 (sub ! 1 refl (whole !)))) (no-more !)))) (from ! (stop !))
+        (init ! 46 refl (tt, (tt, (record { fits = room·facts .0 }, tt)))) $
+        assigns ! (addr ! (from ! (hop ! (look ! 100 refl) (stop !)))) (from ! (stop !)) (init ! 44 refl (tt, tt)) $
+        -- call 2: turn
+        use1 W (‵ (ShrSlice (named 0) κ·theory u8 .own (ref·theory γ·theory theory) (s·theory ∷ []))
+        ⊛ ‵ (ShrSlice (named 0) κ·theory u8 .own (ref·theory γ·theory theory) (s·theory ∷ [])))
+        (shr-slice-copy 𝓤 H A W (named 0) κ·theory u8 .twice (ref·theory γ·theory theory) (s·theory ∷ [])) $ split ! $
+        move ! (2 ∷ []) $
+        use1 W (‵ (ShrSlice (named 1) κ·goals u8 .own (ref·goals γ·goals goals) (s·goals ∷ []))
+        ⊛ ‵ (ShrSlice (named 1) κ·goals u8 .own (ref·goals γ·goals goals) (s·goals ∷ [])))
+        (shr-slice-copy 𝓤 H A W (named 1) κ·goals u8 .twice (ref·goals γ·goals goals) (s·goals ∷ [])) $ split ! $
+        move ! (4 ∷ []) $
+        use1 W (‵ (ShrSlice (named 2) κ·proof u8 .own (ref·proof γ·proof proof) (s·proof ∷ []))
+        ⊛ ‵ (ShrSlice (named 2) κ·proof u8 .own (ref·proof γ·proof proof) (s·proof ∷ [])))
+        (shr-slice-copy 𝓤 H A W (named 2) κ·proof u8 .twice (ref·proof γ·proof proof) (s·proof ∷ [])) $ split ! $
+        move ! (6 ∷ []) $
+        use1 W (‵ (ShrSlice (named 3) κ·sorts u32 .own (ref·sorts γ·sorts sorts) (s·sorts ∷ []))
+        ⊛ ‵ (ShrSlice (named 3) κ·sorts u32 .own (ref·sorts γ·sorts sorts) (s·sorts ∷ [])))
+        (shr-slice-copy 𝓤 H A W (named 3) κ·sorts u32 .twice (ref·sorts γ·sorts sorts) (s·sorts ∷ [])) $ split ! $
+        move ! (8 ∷ []) $
+        use1 W (‵ (ShrSlice (named 4) κ·symbols u32 .own (ref·symbols γ·symbols symbols) (s·symbols ∷ []))
+        ⊛ ‵ (ShrSlice (named 4) κ·symbols u32 .own (ref·symbols γ·symbols symbols) (s·symbols ∷ [])))
+        (shr-slice-copy 𝓤 H A W (named 4) κ·symbols u32 .twice (ref·symbols γ·symbols symbols) (s·symbols ∷ [])) $ split ! $
+        move ! (10 ∷ []) $
+        use1 W (‵ (ShrSlice (named 5) κ·inputs u32 .own (ref·inputs γ·inputs inputs) (s·inputs ∷ []))
+        ⊛ ‵ (ShrSlice (named 5) κ·inputs u32 .own (ref·inputs γ·inputs inputs) (s·inputs ∷ [])))
+        (shr-slice-copy 𝓤 H A W (named 5) κ·inputs u32 .twice (ref·inputs γ·inputs inputs) (s·inputs ∷ [])) $ split ! $
+        move ! (12 ∷ []) $
+        use1 W (‵ (ShrSlice (named 6) κ·rules u32 .own (ref·rules γ·rules rules) (s·rules ∷ []))
+        ⊛ ‵ (ShrSlice (named 6) κ·rules u32 .own (ref·rules γ·rules rules) (s·rules ∷ [])))
+        (shr-slice-copy 𝓤 H A W (named 6) κ·rules u32 .twice (ref·rules γ·rules rules) (s·rules ∷ [])) $ split ! $
+        move ! (14 ∷ []) $
+        use1 W (‵ (ShrSlice (named 7) κ·rulevars u32 .own (ref·rulevars γ·rulevars rulevars) (s·rulevars ∷ []))
+        ⊛ ‵ (ShrSlice (named 7) κ·rulevars u32 .own (ref·rulevars γ·rulevars rulevars) (s·rulevars ∷ [])))
+        (shr-slice-copy 𝓤 H A W (named 7) κ·rulevars u32 .twice (ref·rulevars γ·rulevars rulevars) (s·rulevars ∷ [])) $ split ! $
+        move ! (16 ∷ []) $
+        use1 W (‵ (ShrSlice (named 8) κ·patterns u32 .own (ref·patterns γ·patterns patterns) (s·patterns ∷ []))
+        ⊛ ‵ (ShrSlice (named 8) κ·patterns u32 .own (ref·patterns γ·patterns patterns) (s·patterns ∷ [])))
+        (shr-slice-copy 𝓤 H A W (named 8) κ·patterns u32 .twice (ref·patterns γ·patterns patterns) (s·patterns ∷ [])) $ split ! $
+        turn·seg·1 l0 l1 l2 l3 l4 l5 l6 l7 l8 l9 l10 l11 l12 l13 l14 l15 l16 l17 l18 l19 l20 l21 l22 l23 l24 l25 l26 l27 l28 l29 l30 l31 l32 l33 l34
+        l35 l36 l37 l38 l39 l40 l41 l42 l43 l44 l45 l46 l47 l48 l49 l50 l51 x v1 r1 ws1 e1 is1 held)
+        (λ over. jumps ! $ exec ! C Λ (En l0 l1 l2 l3 l4 l5 l6 l7 l8 l9 l10 l11 l12 l13 l14 l15 l16 l17 l18 l19 l20 l21 l22 l23 l24 l25 l26 l27 l28
+        l29 l30 l31 l32 l33 l34 l35 l36 l37 l38 l39 l40 l41 l42 l43 l44 l45 l46 l47 l48 l49 l50 l51) pieces.t-3
+        (atRet (En l0 l1 l2 l3 l4 l5 l6 l7 l8 l9 l10 l11 l12 l13 l14 l15 l16 l17 l18 l19 l20 l21 l22 l23 l24 l25 l26 l27 l28 l29 l30 l31 l32 l33 l34
+        l35 l36 l37 l38 l39 l40 l41 l42 l43 l44 l45 l46 l47 l48 l49 l50 l51) Post) $
+        assigns ! (of-opd ! (load ! (from ! (stop !)) (look ! 98 refl))) (from ! (stop !))
+        (init ! 146 refl (LL.lawful RunT.the-type RunL.the-laws 𝓤 H A W .typed (x .st) _ (x .is) .0)) $
+        returns ! (look ! 146 refl) $
+        forget ! 146 refl $
+        move ! (146 ∷ 147 ∷ []) $
+        free1 ! $
+        forget ! 144 refl $
+        move ! (144 ∷ 145 ∷ []) $
+        free1 ! $
+        forget ! 142 refl $
+        move ! (142 ∷ 143 ∷ []) $
+        free1 ! $
+        forget ! 140 refl $
+        move ! (140 ∷ 141 ∷ []) $
+        free1 ! $
+        forget ! 138 refl $
+        move ! (138 ∷ 139 ∷ []) $
+        free1 ! $
+        forget ! 136 refl $
+        move ! (136 ∷ 137 ∷ []) $
+        free1 ! $
+        forget ! 134 refl $
+        move ! (134 ∷ 135 ∷ []) $
+        free1 ! $
+        forget ! 132 refl $
+        move ! (132 ∷ 133 ∷ []) $
+        free1 ! $
+        forget ! 130 refl $
+        move ! (130 ∷ 131 ∷ []) $
+        free1 ! $
+        forget ! 128 refl $
+        move ! (128 ∷ 129 ∷ []) $
+        free1 ! $
+        forget ! 126 refl $
+        move ! (126 ∷ 127 ∷ []) $
+        free1 ! $
+        forget ! 124 refl $
+        move ! (124 ∷ 125 ∷ []) $
+        free1 ! $
+        forget ! 122 refl $
+        move ! (122 ∷ 123 ∷ []) $
+        free1 ! $
+        forget ! 120 refl $
+        move ! (120 ∷ 121 ∷ []) $
+        free1 ! $
+        forget ! 118 refl $
+        move ! (118 ∷ 119 ∷ []) $
+        free1 ! $
+        forget ! 116 refl $
+        move ! (116 ∷ 117 ∷ []) $
+        free1 ! $
+        forget ! 114 refl $
+        move ! (114 ∷ 115 ∷ []) $
+        free1 ! $
+        forget ! 112 refl $
+        move ! (112 ∷ 113 ∷ []) $
+        free1 ! $
+        forget ! 110 refl $
+        move ! (110 ∷ 111 ∷ []) $
+        free1 ! $
+        forget ! 108 refl $
+        move ! (108 ∷ 109 ∷ []) $
+        free1 ! $
+        forget ! 106 refl $
+        move ! (106 ∷ 107 ∷ []) $
+        free1 ! $
+        forget ! 104 refl $
+        move ! (104 ∷ 105 ∷ []) $
+        free1 ! $
+        forget ! 102 refl $
+        move ! (102 ∷ 103 ∷ []) $
+        free1 ! $
+        forget ! 100 refl $
+        move ! (100 ∷ 101 ∷ []) $
+        free1 ! $
+        forget ! 98 refl $
+        move ! (98 ∷ 99 ∷ []) $
+        free1 ! $
+        move ! (96 ∷ 97 ∷ []) $
+        free1 ! $
+        turn·seg·5 l0 l1 l2 l3 l4 l5 l6 l7 l8 l9 l10 l11 l12 l13 l14 l15 l16 l17 l18 l19 l20 l21 l22 l23 l24 l25 l26 l27 l28 l29 l30 l31 l32 l33 l34
+        l35 l36 l37 l38 l39 l40 l41 l42 l43 l44 l45 l46 l47 l48 l49 l50 l51 x v1 r1 ws1 e1 is1 over))))))
 
-      seg·1 : (l0 : ℕ) (l1 : ℕ) (l2 : ℕ) (l3 : ℕ) (l4 : ℕ) (l5 : ℕ) (l6 : ℕ) (l7 : ℕ) (l8 : ℕ) (l9 : ℕ) (l10 : ℕ) (l11 : ℕ) (l12 : ℕ) (l13 : ℕ)
-          (l14 : ℕ) (l15 : ℕ) (l16 : ℕ) (l17 : ℕ) (l18 : ℕ) (l19 : ℕ) (l20 : ℕ) (l21 : ℕ) (l22 : ℕ) (l23 : ℕ) (l24 : ℕ) (l25 : ℕ) (l26 : ℕ) (l27 : ℕ)
-          (l28 : ℕ) (l29 : ℕ) (l30 : ℕ) (l31 : ℕ) (l32 : ℕ) (l33 : ℕ) (l34 : ℕ) (l35 : ℕ) (l36 : ℕ) (l37 : ℕ) (l38 : ℕ) (l39 : ℕ) (l40 : ℕ) (l41 : ℕ)
-          (l42 : ℕ) (l43 : ℕ) (l44 : ℕ) (l45 : ℕ) (l46 : ℕ) (l47 : ℕ) (l48 : ℕ) →
-          Sq W (‵ (flft κ·counts q·counts)
-          ∷ ‵ (flft κ·facts q·facts)
-          ∷ ‵ (flft κ·ids q·ids)
-          ∷ ‵ (flft κ·cells q·cells)
-          ∷ ‵ (flft κ·feet q·feet)
-          ∷ ‵ (flft κ·kept q·kept)
-          ∷ ‵ (flft κ·lists q·lists)
-          ∷ ‵ (flft κ·rows q·rows)
-          ∷ ‵ (flft κ·defs q·defs)
-          ∷ ‵ (flft κ·words q·words)
-          ∷ ‵ (flft κ·index q·index)
-          ∷ ‵ (flft κ·vars q·vars)
-          ∷ ‵ (flft κ·patterns q·patterns)
-          ∷ ‵ (flft κ·rulevars q·rulevars)
-          ∷ ‵ (flft κ·rules q·rules)
-          ∷ ‵ (flft κ·inputs q·inputs)
-          ∷ ‵ (flft κ·symbols q·symbols)
-          ∷ ‵ (flft κ·sorts q·sorts)
-          ∷ ‵ (flft κ·proof q·proof)
-          ∷ ‵ (flft κ·goals q·goals)
-          ∷ ‵ (flft κ·theory q·theory)
-          ∷ ‵ (MutRef (named 20) κ·counts CountsT.the-row .own (ref·counts γ·counts counts) (s·counts ∷ []))
-          ∷ ‵ (MutSlice (named 19) κ·facts FactT.the-row .own (ref·facts γ·facts facts) (s·facts ∷ []))
-          ∷ ‵ (MutSlice (named 18) κ·ids u32 .own (ref·ids γ·ids ids) (s·ids ∷ []))
-          ∷ ‵ (MutSlice (named 17) κ·cells u32 .own (ref·cells γ·cells cells) (s·cells ∷ []))
-          ∷ ‵ (MutSlice (named 16) κ·feet u64 .own (ref·feet γ·feet feet) (s·feet ∷ []))
-          ∷ ‵ (MutSlice (named 15) κ·kept u32 .own (ref·kept γ·kept kept) (s·kept ∷ []))
-          ∷ ‵ (MutSlice (named 14) κ·lists u32 .own (ref·lists γ·lists lists) (s·lists ∷ []))
-          ∷ ‵ (MutSlice (named 13) κ·rows u32 .own (ref·rows γ·rows rows) (s·rows ∷ []))
-          ∷ ‵ (MutSlice (named 12) κ·defs u32 .own (ref·defs γ·defs defs) (s·defs ∷ []))
-          ∷ ‵ (MutSlice (named 11) κ·words u32 .own (ref·words γ·words words) (s·words ∷ []))
-          ∷ ‵ (MutSlice (named 10) κ·index u32 .own (ref·index γ·index index) (s·index ∷ []))
-          ∷ ‵ (MutSlice (named 9) κ·vars u32 .own (ref·vars γ·vars vars) (s·vars ∷ []))
-          ∷ ‵ (ShrSlice (named 8) κ·patterns u32 .own (ref·patterns γ·patterns patterns) (s·patterns ∷ []))
-          ∷ ‵ (ShrSlice (named 7) κ·rulevars u32 .own (ref·rulevars γ·rulevars rulevars) (s·rulevars ∷ []))
-          ∷ ‵ (ShrSlice (named 6) κ·rules u32 .own (ref·rules γ·rules rules) (s·rules ∷ []))
-          ∷ ‵ (ShrSlice (named 5) κ·inputs u32 .own (ref·inputs γ·inputs inputs) (s·inputs ∷ []))
-          ∷ ‵ (ShrSlice (named 4) κ·symbols u32 .own (ref·symbols γ·symbols symbols) (s·symbols ∷ []))
-          ∷ ‵ (ShrSlice (named 3) κ·sorts u32 .own (ref·sorts γ·sorts sorts) (s·sorts ∷ []))
-          ∷ ‵ (ShrSlice (named 2) κ·proof u8 .own (ref·proof γ·proof proof) (s·proof ∷ []))
-          ∷ ‵ (ShrSlice (named 1) κ·goals u8 .own (ref·goals γ·goals goals) (s·goals ∷ []))
-          ∷ ‵ (ShrSlice (named 0) κ·theory u8 .own (ref·theory γ·theory theory) (s·theory ∷ []))
-          ∷ ‵ (froom (tyRef erased mut (pointee (CountsT.the-row .written))) l48 0)
-          ∷ ‵ (fdies (tyRef erased mut (pointee (CountsT.the-row .written))) l48)
-          ∷ ‵ (froom (sliceTy (tyRef erased mut (pointee (FactT.the-row .written)))) l47 0)
-          ∷ ‵ (fdies (sliceTy (tyRef erased mut (pointee (FactT.the-row .written)))) l47)
-          ∷ ‵ (froom (tyRef erased mut (pointee (FactT.the-row .written))) l46 0)
-          ∷ ‵ (fdies (tyRef erased mut (pointee (FactT.the-row .written))) l46)
-          ∷ ‵ (froom (sliceTy (tyRef erased mut (tyInt w32))) l45 0)
-          ∷ ‵ (fdies (sliceTy (tyRef erased mut (tyInt w32))) l45)
-          ∷ ‵ (froom (tyRef erased mut (tyInt w32)) l44 0)
-          ∷ ‵ (fdies (tyRef erased mut (tyInt w32)) l44)
-          ∷ ‵ (froom (sliceTy (tyRef erased mut (tyInt w32))) l43 0)
-          ∷ ‵ (fdies (sliceTy (tyRef erased mut (tyInt w32))) l43)
-          ∷ ‵ (froom (tyRef erased mut (tyInt w32)) l42 0)
-          ∷ ‵ (fdies (tyRef erased mut (tyInt w32)) l42)
-          ∷ ‵ (froom (sliceTy (tyRef erased mut (tyInt w64))) l41 0)
-          ∷ ‵ (fdies (sliceTy (tyRef erased mut (tyInt w64))) l41)
-          ∷ ‵ (froom (tyRef erased mut (tyInt w64)) l40 0)
-          ∷ ‵ (fdies (tyRef erased mut (tyInt w64)) l40)
-          ∷ ‵ (froom (sliceTy (tyRef erased mut (tyInt w32))) l39 0)
-          ∷ ‵ (fdies (sliceTy (tyRef erased mut (tyInt w32))) l39)
-          ∷ ‵ (froom (tyRef erased mut (tyInt w32)) l38 0)
-          ∷ ‵ (fdies (tyRef erased mut (tyInt w32)) l38)
-          ∷ ‵ (froom (sliceTy (tyRef erased mut (tyInt w32))) l37 0)
-          ∷ ‵ (fdies (sliceTy (tyRef erased mut (tyInt w32))) l37)
-          ∷ ‵ (froom (tyRef erased mut (tyInt w32)) l36 0)
-          ∷ ‵ (fdies (tyRef erased mut (tyInt w32)) l36)
-          ∷ ‵ (froom (sliceTy (tyRef erased mut (tyInt w32))) l35 0)
-          ∷ ‵ (fdies (sliceTy (tyRef erased mut (tyInt w32))) l35)
-          ∷ ‵ (froom (tyRef erased mut (tyInt w32)) l34 0)
-          ∷ ‵ (fdies (tyRef erased mut (tyInt w32)) l34)
-          ∷ ‵ (froom (sliceTy (tyRef erased mut (tyInt w32))) l33 0)
-          ∷ ‵ (fdies (sliceTy (tyRef erased mut (tyInt w32))) l33)
-          ∷ ‵ (froom (tyRef erased mut (tyInt w32)) l32 0)
-          ∷ ‵ (fdies (tyRef erased mut (tyInt w32)) l32)
-          ∷ ‵ (froom (sliceTy (tyRef erased mut (tyInt w32))) l31 0)
-          ∷ ‵ (fdies (sliceTy (tyRef erased mut (tyInt w32))) l31)
-          ∷ ‵ (froom (tyRef erased mut (tyInt w32)) l30 0)
-          ∷ ‵ (fdies (tyRef erased mut (tyInt w32)) l30)
-          ∷ ‵ (froom (sliceTy (tyRef erased mut (tyInt w32))) l29 0)
-          ∷ ‵ (fdies (sliceTy (tyRef erased mut (tyInt w32))) l29)
-          ∷ ‵ (froom (tyRef erased mut (tyInt w32)) l28 0)
-          ∷ ‵ (fdies (tyRef erased mut (tyInt w32)) l28)
-          ∷ ‵ (froom (sliceTy (tyRef erased mut (tyInt w32))) l27 0)
-          ∷ ‵ (fdies (sliceTy (tyRef erased mut (tyInt w32))) l27)
-          ∷ ‵ (froom (tyRef erased mut (tyInt w32)) l26 0)
-          ∷ ‵ (fdies (tyRef erased mut (tyInt w32)) l26)
-          ∷ ‵ (froom tyBool l25 0)
-          ∷ ‵ (fdies tyBool l25)
-          ∷ ‵ (froom RunL.mir l24 0)
-          ∷ ‵ (fdies RunL.mir l24)
-          ∷ ‵ (froom RunL.mir l23 0)
-          ∷ ‵ (fdies RunL.mir l23)
-          ∷ ‵ (fat fullShare (tyRef (named 20) mut (pointee (CountsT.the-row .written))) l22 0 s·counts)
-          ∷ ‵ (fdies (tyRef (named 20) mut (pointee (CountsT.the-row .written))) l22)
-          ∷ ‵ (fat fullShare (sliceTy (tyRef (named 19) mut (pointee (FactT.the-row .written)))) l21 0 s·facts)
-          ∷ ‵ (fdies (sliceTy (tyRef (named 19) mut (pointee (FactT.the-row .written)))) l21)
-          ∷ ‵ (fat fullShare (sliceTy (tyRef (named 18) mut (tyInt w32))) l20 0 s·ids)
-          ∷ ‵ (fdies (sliceTy (tyRef (named 18) mut (tyInt w32))) l20)
-          ∷ ‵ (fat fullShare (sliceTy (tyRef (named 17) mut (tyInt w32))) l19 0 s·cells)
-          ∷ ‵ (fdies (sliceTy (tyRef (named 17) mut (tyInt w32))) l19)
-          ∷ ‵ (fat fullShare (sliceTy (tyRef (named 16) mut (tyInt w64))) l18 0 s·feet)
-          ∷ ‵ (fdies (sliceTy (tyRef (named 16) mut (tyInt w64))) l18)
-          ∷ ‵ (fat fullShare (sliceTy (tyRef (named 15) mut (tyInt w32))) l17 0 s·kept)
-          ∷ ‵ (fdies (sliceTy (tyRef (named 15) mut (tyInt w32))) l17)
-          ∷ ‵ (fat fullShare (sliceTy (tyRef (named 14) mut (tyInt w32))) l16 0 s·lists)
-          ∷ ‵ (fdies (sliceTy (tyRef (named 14) mut (tyInt w32))) l16)
-          ∷ ‵ (fat fullShare (sliceTy (tyRef (named 13) mut (tyInt w32))) l15 0 s·rows)
-          ∷ ‵ (fdies (sliceTy (tyRef (named 13) mut (tyInt w32))) l15)
-          ∷ ‵ (fat fullShare (sliceTy (tyRef (named 12) mut (tyInt w32))) l14 0 s·defs)
-          ∷ ‵ (fdies (sliceTy (tyRef (named 12) mut (tyInt w32))) l14)
-          ∷ ‵ (fat fullShare (sliceTy (tyRef (named 11) mut (tyInt w32))) l13 0 s·words)
-          ∷ ‵ (fdies (sliceTy (tyRef (named 11) mut (tyInt w32))) l13)
-          ∷ ‵ (fat fullShare (sliceTy (tyRef (named 10) mut (tyInt w32))) l12 0 s·index)
-          ∷ ‵ (fdies (sliceTy (tyRef (named 10) mut (tyInt w32))) l12)
-          ∷ ‵ (fat fullShare (sliceTy (tyRef (named 9) mut (tyInt w32))) l11 0 s·vars)
-          ∷ ‵ (fdies (sliceTy (tyRef (named 9) mut (tyInt w32))) l11)
-          ∷ ‵ (fat fullShare (sliceTy (tyRef (named 8) imm (tyInt w32))) l10 0 s·patterns)
-          ∷ ‵ (fdies (sliceTy (tyRef (named 8) imm (tyInt w32))) l10)
-          ∷ ‵ (fat fullShare (sliceTy (tyRef (named 7) imm (tyInt w32))) l9 0 s·rulevars)
-          ∷ ‵ (fdies (sliceTy (tyRef (named 7) imm (tyInt w32))) l9)
-          ∷ ‵ (fat fullShare (sliceTy (tyRef (named 6) imm (tyInt w32))) l8 0 s·rules)
-          ∷ ‵ (fdies (sliceTy (tyRef (named 6) imm (tyInt w32))) l8)
-          ∷ ‵ (fat fullShare (sliceTy (tyRef (named 5) imm (tyInt w32))) l7 0 s·inputs)
-          ∷ ‵ (fdies (sliceTy (tyRef (named 5) imm (tyInt w32))) l7)
-          ∷ ‵ (fat fullShare (sliceTy (tyRef (named 4) imm (tyInt w32))) l6 0 s·symbols)
-          ∷ ‵ (fdies (sliceTy (tyRef (named 4) imm (tyInt w32))) l6)
-          ∷ ‵ (fat fullShare (sliceTy (tyRef (named 3) imm (tyInt w32))) l5 0 s·sorts)
-          ∷ ‵ (fdies (sliceTy (tyRef (named 3) imm (tyInt w32))) l5)
-          ∷ ‵ (fat fullShare RunL.mir l4 0 v·s)
-          ∷ ‵ (fdies RunL.mir l4)
-          ∷ ‵ (fat fullShare (sliceTy (tyRef (named 2) imm (tyInt w8))) l3 0 s·proof)
-          ∷ ‵ (fdies (sliceTy (tyRef (named 2) imm (tyInt w8))) l3)
-          ∷ ‵ (fat fullShare (sliceTy (tyRef (named 1) imm (tyInt w8))) l2 0 s·goals)
-          ∷ ‵ (fdies (sliceTy (tyRef (named 1) imm (tyInt w8))) l2)
-          ∷ ‵ (fat fullShare (sliceTy (tyRef (named 0) imm (tyInt w8))) l1 0 s·theory)
-          ∷ ‵ (fdies (sliceTy (tyRef (named 0) imm (tyInt w8))) l1)
-          ∷ ‵ (froom RunL.mir l0 0)
-          ∷ ‵ (fdies RunL.mir l0) ∷ [])
-          (runs C Λ (En l0 l1 l2 l3 l4 l5 l6 l7 l8 l9 l10 l11 l12 l13 l14 l15 l16 l17 l18 l19 l20 l21 l22 l23 l24 l25 l26 l27 l28 l29 l30 l31 l32 l33
-          l34 l35 l36 l37 l38 l39 l40 l41 l42 l43 l44 l45 l46 l47 l48) pieces.t-1
-          (atRet (En l0 l1 l2 l3 l4 l5 l6 l7 l8 l9 l10 l11 l12 l13 l14 l15 l16 l17 l18 l19 l20 l21 l22 l23 l24 l25 l26 l27 l28 l29 l30 l31 l32 l33 l34
-          l35 l36 l37 l38 l39 l40 l41 l42 l43 l44 l45 l46 l47 l48) Post))
-      seg·1 l0 l1 l2 l3 l4 l5 l6 l7 l8 l9 l10 l11 l12 l13 l14 l15 l16 l17 l18 l19 l20 l21 l22 l23 l24 l25 l26 l27 l28 l29 l30 l31 l32 l33 l34 l35 l36
-          l37 l38 l39 l40 l41 l42 l43 l44 l45 l46 l47 l48 =
-          assigns ! (of-opd ! (load ! (from ! (stop !)) (look ! 130 refl))) (from ! (stop !))
-          (init ! 92 refl (LL.lawful RunT.the-type RunL.the-laws 𝓤 H A W .typed s _ is·s .0)) $
-          rewrite ! 92 (λ (u : Val). ‵ (fat fullShare RunL.mir l23 0 u)) (ap only ((LL.tells RunT.the-type RunL.the-laws) s (v·s ∷ []) is·s)) refl $
-          keep ! (41 ∷ 40 ∷ 39 ∷ 38 ∷ 37 ∷ 36 ∷ 35 ∷ 34 ∷ 33 ∷ 32 ∷ 31 ∷ 30 ∷ 29 ∷ 28 ∷ 27 ∷ 26 ∷ 25 ∷ 24 ∷ 23 ∷ 22 ∷ 21 ∷ 20 ∷ 19 ∷ 18 ∷ 17 ∷ 16 ∷ 15
-          ∷ 14 ∷ 13 ∷ 12 ∷ 11 ∷ 10 ∷ 9 ∷ 8 ∷ 7 ∷ 6 ∷ 5 ∷ 4 ∷ 3 ∷ 2 ∷ 1 ∷ 0 ∷ 42 ∷ 43 ∷ 44 ∷ 45 ∷ 46 ∷ 47 ∷ 48 ∷ 49 ∷ 50 ∷ 51 ∷ 52 ∷ 53 ∷ 54 ∷ 55 ∷ 56
-          ∷ 57 ∷ 58 ∷ 59 ∷ 60 ∷ 61 ∷ 62 ∷ 63 ∷ 64 ∷ 65 ∷ 66 ∷ 67 ∷ 68 ∷ 69 ∷ 70 ∷ 71 ∷ 72 ∷ 73 ∷ 74 ∷ 75 ∷ 76 ∷ 77 ∷ 78 ∷ 79 ∷ 80 ∷ 81 ∷ 82 ∷ 83 ∷ 84
-          ∷ 85 ∷ 86 ∷ 87 ∷ 88 ∷ 89 ∷ 90 ∷ 91 ∷ 92 ∷ 93 ∷ 94 ∷ 95 ∷ 96 ∷ 97 ∷ 98 ∷ 99 ∷ 100 ∷ 101 ∷ 102 ∷ 103 ∷ 104 ∷ 105 ∷ 106 ∷ 107 ∷ 108 ∷ 109 ∷ 110
-          ∷ 111 ∷ 112 ∷ 113 ∷ 114 ∷ 115 ∷ 116 ∷ 117 ∷ 118 ∷ 119 ∷ 120 ∷ 121 ∷ 122 ∷ 123 ∷ 124 ∷ 125 ∷ 126 ∷ 127 ∷ 128 ∷ 129 ∷ 130 ∷ 131 ∷ 132 ∷ 133
-          ∷ 134 ∷ 135 ∷ 136 ∷ 137 ∷ 138 ∷ 139 ∷ []) $ into ! $ blocks ! $ loops ! 𝓣
-          (Fewer theory goals proof (theoryLists sorts symbols inputs rules rulevars patterns) (working vars index words defs rows lists) kept feet
-          cells ids s facts) (Fewer-wf theory goals proof (theoryLists sorts symbols inputs rules rulevars patterns)
-          (working vars index words defs rows lists) kept feet cells ids s facts)
-          (At l0 l1 l2 l3 l4 l5 l6 l7 l8 l9 l10 l11 l12 l13 l14 l15 l16 l17 l18 l19 l20 l21 l22 l23 l24 l25 l26 l27 l28 l29 l30 l31 l32 l33 l34 l35 l36
-          l37 l38 l39 l40 l41 l42 l43 l44 l45 l46 l47 l48) (turns l0 l1 l2 l3 l4 l5 l6 l7 l8 l9 l10 l11 l12 l13 l14 l15 l16 l17 l18 l19 l20 l21 l22 l23
-          l24 l25 l26 l27 l28 l29 l30 l31 l32 l33 l34 l35 l36 l37 l38 l39 l40 l41 l42 l43 l44 l45 l46 l47 l48)
-          (begin theory goals proof (theoryLists sorts symbols inputs rules rulevars patterns) (working vars index words defs rows lists) kept feet
-          cells ids s facts is·s req)
+    seg·1 : (l0 : ℕ) (l1 : ℕ) (l2 : ℕ) (l3 : ℕ) (l4 : ℕ) (l5 : ℕ) (l6 : ℕ) (l7 : ℕ) (l8 : ℕ) (l9 : ℕ) (l10 : ℕ) (l11 : ℕ) (l12 : ℕ) (l13 : ℕ)
+        (l14 : ℕ) (l15 : ℕ) (l16 : ℕ) (l17 : ℕ) (l18 : ℕ) (l19 : ℕ) (l20 : ℕ) (l21 : ℕ) (l22 : ℕ) (l23 : ℕ) (l24 : ℕ) (l25 : ℕ) (l26 : ℕ) (l27 : ℕ)
+        (l28 : ℕ) (l29 : ℕ) (l30 : ℕ) (l31 : ℕ) (l32 : ℕ) (l33 : ℕ) (l34 : ℕ) (l35 : ℕ) (l36 : ℕ) (l37 : ℕ) (l38 : ℕ) (l39 : ℕ) (l40 : ℕ) (l41 : ℕ)
+        (l42 : ℕ) (l43 : ℕ) (l44 : ℕ) (l45 : ℕ) (l46 : ℕ) (l47 : ℕ) (l48 : ℕ) (l49 : ℕ) (l50 : ℕ) (l51 : ℕ) →
+        Sq W (‵ (flft κ·counts q·counts)
+        ∷ ‵ (flft κ·facts q·facts)
+        ∷ ‵ (flft κ·memo q·memo)
+        ∷ ‵ (flft κ·ids q·ids)
+        ∷ ‵ (flft κ·cells q·cells)
+        ∷ ‵ (flft κ·feet q·feet)
+        ∷ ‵ (flft κ·kept q·kept)
+        ∷ ‵ (flft κ·lists q·lists)
+        ∷ ‵ (flft κ·rows q·rows)
+        ∷ ‵ (flft κ·defs q·defs)
+        ∷ ‵ (flft κ·words q·words)
+        ∷ ‵ (flft κ·index q·index)
+        ∷ ‵ (flft κ·vars q·vars)
+        ∷ ‵ (flft κ·patterns q·patterns)
+        ∷ ‵ (flft κ·rulevars q·rulevars)
+        ∷ ‵ (flft κ·rules q·rules)
+        ∷ ‵ (flft κ·inputs q·inputs)
+        ∷ ‵ (flft κ·symbols q·symbols)
+        ∷ ‵ (flft κ·sorts q·sorts)
+        ∷ ‵ (flft κ·proof q·proof)
+        ∷ ‵ (flft κ·goals q·goals)
+        ∷ ‵ (flft κ·theory q·theory)
+        ∷ ‵ (MutRef (named 21) κ·counts CountsT.the-row .own (ref·counts γ·counts counts) (s·counts ∷ []))
+        ∷ ‵ (MutSlice (named 20) κ·facts FactT.the-row .own (ref·facts γ·facts facts) (s·facts ∷ []))
+        ∷ ‵ (MutSlice (named 19) κ·memo u32 .own (ref·memo γ·memo memo) (s·memo ∷ []))
+        ∷ ‵ (MutSlice (named 18) κ·ids u32 .own (ref·ids γ·ids ids) (s·ids ∷ []))
+        ∷ ‵ (MutSlice (named 17) κ·cells u32 .own (ref·cells γ·cells cells) (s·cells ∷ []))
+        ∷ ‵ (MutSlice (named 16) κ·feet u64 .own (ref·feet γ·feet feet) (s·feet ∷ []))
+        ∷ ‵ (MutSlice (named 15) κ·kept u32 .own (ref·kept γ·kept kept) (s·kept ∷ []))
+        ∷ ‵ (MutSlice (named 14) κ·lists u32 .own (ref·lists γ·lists lists) (s·lists ∷ []))
+        ∷ ‵ (MutSlice (named 13) κ·rows u32 .own (ref·rows γ·rows rows) (s·rows ∷ []))
+        ∷ ‵ (MutSlice (named 12) κ·defs u32 .own (ref·defs γ·defs defs) (s·defs ∷ []))
+        ∷ ‵ (MutSlice (named 11) κ·words u32 .own (ref·words γ·words words) (s·words ∷ []))
+        ∷ ‵ (MutSlice (named 10) κ·index u32 .own (ref·index γ·index index) (s·index ∷ []))
+        ∷ ‵ (MutSlice (named 9) κ·vars u32 .own (ref·vars γ·vars vars) (s·vars ∷ []))
+        ∷ ‵ (ShrSlice (named 8) κ·patterns u32 .own (ref·patterns γ·patterns patterns) (s·patterns ∷ []))
+        ∷ ‵ (ShrSlice (named 7) κ·rulevars u32 .own (ref·rulevars γ·rulevars rulevars) (s·rulevars ∷ []))
+        ∷ ‵ (ShrSlice (named 6) κ·rules u32 .own (ref·rules γ·rules rules) (s·rules ∷ []))
+        ∷ ‵ (ShrSlice (named 5) κ·inputs u32 .own (ref·inputs γ·inputs inputs) (s·inputs ∷ []))
+        ∷ ‵ (ShrSlice (named 4) κ·symbols u32 .own (ref·symbols γ·symbols symbols) (s·symbols ∷ []))
+        ∷ ‵ (ShrSlice (named 3) κ·sorts u32 .own (ref·sorts γ·sorts sorts) (s·sorts ∷ []))
+        ∷ ‵ (ShrSlice (named 2) κ·proof u8 .own (ref·proof γ·proof proof) (s·proof ∷ []))
+        ∷ ‵ (ShrSlice (named 1) κ·goals u8 .own (ref·goals γ·goals goals) (s·goals ∷ []))
+        ∷ ‵ (ShrSlice (named 0) κ·theory u8 .own (ref·theory γ·theory theory) (s·theory ∷ []))
+        ∷ ‵ (froom (tyRef erased mut (pointee (CountsT.the-row .written))) l51 0)
+        ∷ ‵ (fdies (tyRef erased mut (pointee (CountsT.the-row .written))) l51)
+        ∷ ‵ (froom (sliceTy (tyRef erased mut (pointee (FactT.the-row .written)))) l50 0)
+        ∷ ‵ (fdies (sliceTy (tyRef erased mut (pointee (FactT.the-row .written)))) l50)
+        ∷ ‵ (froom (tyRef erased mut (pointee (FactT.the-row .written))) l49 0)
+        ∷ ‵ (fdies (tyRef erased mut (pointee (FactT.the-row .written))) l49)
+        ∷ ‵ (froom (sliceTy (tyRef erased mut (tyInt w32))) l48 0)
+        ∷ ‵ (fdies (sliceTy (tyRef erased mut (tyInt w32))) l48)
+        ∷ ‵ (froom (tyRef erased mut (tyInt w32)) l47 0)
+        ∷ ‵ (fdies (tyRef erased mut (tyInt w32)) l47)
+        ∷ ‵ (froom (sliceTy (tyRef erased mut (tyInt w32))) l46 0)
+        ∷ ‵ (fdies (sliceTy (tyRef erased mut (tyInt w32))) l46)
+        ∷ ‵ (froom (tyRef erased mut (tyInt w32)) l45 0)
+        ∷ ‵ (fdies (tyRef erased mut (tyInt w32)) l45)
+        ∷ ‵ (froom (sliceTy (tyRef erased mut (tyInt w32))) l44 0)
+        ∷ ‵ (fdies (sliceTy (tyRef erased mut (tyInt w32))) l44)
+        ∷ ‵ (froom (tyRef erased mut (tyInt w32)) l43 0)
+        ∷ ‵ (fdies (tyRef erased mut (tyInt w32)) l43)
+        ∷ ‵ (froom (sliceTy (tyRef erased mut (tyInt w64))) l42 0)
+        ∷ ‵ (fdies (sliceTy (tyRef erased mut (tyInt w64))) l42)
+        ∷ ‵ (froom (tyRef erased mut (tyInt w64)) l41 0)
+        ∷ ‵ (fdies (tyRef erased mut (tyInt w64)) l41)
+        ∷ ‵ (froom (sliceTy (tyRef erased mut (tyInt w32))) l40 0)
+        ∷ ‵ (fdies (sliceTy (tyRef erased mut (tyInt w32))) l40)
+        ∷ ‵ (froom (tyRef erased mut (tyInt w32)) l39 0)
+        ∷ ‵ (fdies (tyRef erased mut (tyInt w32)) l39)
+        ∷ ‵ (froom (sliceTy (tyRef erased mut (tyInt w32))) l38 0)
+        ∷ ‵ (fdies (sliceTy (tyRef erased mut (tyInt w32))) l38)
+        ∷ ‵ (froom (tyRef erased mut (tyInt w32)) l37 0)
+        ∷ ‵ (fdies (tyRef erased mut (tyInt w32)) l37)
+        ∷ ‵ (froom (sliceTy (tyRef erased mut (tyInt w32))) l36 0)
+        ∷ ‵ (fdies (sliceTy (tyRef erased mut (tyInt w32))) l36)
+        ∷ ‵ (froom (tyRef erased mut (tyInt w32)) l35 0)
+        ∷ ‵ (fdies (tyRef erased mut (tyInt w32)) l35)
+        ∷ ‵ (froom (sliceTy (tyRef erased mut (tyInt w32))) l34 0)
+        ∷ ‵ (fdies (sliceTy (tyRef erased mut (tyInt w32))) l34)
+        ∷ ‵ (froom (tyRef erased mut (tyInt w32)) l33 0)
+        ∷ ‵ (fdies (tyRef erased mut (tyInt w32)) l33)
+        ∷ ‵ (froom (sliceTy (tyRef erased mut (tyInt w32))) l32 0)
+        ∷ ‵ (fdies (sliceTy (tyRef erased mut (tyInt w32))) l32)
+        ∷ ‵ (froom (tyRef erased mut (tyInt w32)) l31 0)
+        ∷ ‵ (fdies (tyRef erased mut (tyInt w32)) l31)
+        ∷ ‵ (froom (sliceTy (tyRef erased mut (tyInt w32))) l30 0)
+        ∷ ‵ (fdies (sliceTy (tyRef erased mut (tyInt w32))) l30)
+        ∷ ‵ (froom (tyRef erased mut (tyInt w32)) l29 0)
+        ∷ ‵ (fdies (tyRef erased mut (tyInt w32)) l29)
+        ∷ ‵ (froom (sliceTy (tyRef erased mut (tyInt w32))) l28 0)
+        ∷ ‵ (fdies (sliceTy (tyRef erased mut (tyInt w32))) l28)
+        ∷ ‵ (froom (tyRef erased mut (tyInt w32)) l27 0)
+        ∷ ‵ (fdies (tyRef erased mut (tyInt w32)) l27)
+        ∷ ‵ (froom tyBool l26 0)
+        ∷ ‵ (fdies tyBool l26)
+        ∷ ‵ (froom RunL.mir l25 0)
+        ∷ ‵ (fdies RunL.mir l25)
+        ∷ ‵ (froom RunL.mir l24 0)
+        ∷ ‵ (fdies RunL.mir l24)
+        ∷ ‵ (fat fullShare (tyRef (named 21) mut (pointee (CountsT.the-row .written))) l23 0 s·counts)
+        ∷ ‵ (fdies (tyRef (named 21) mut (pointee (CountsT.the-row .written))) l23)
+        ∷ ‵ (fat fullShare (sliceTy (tyRef (named 20) mut (pointee (FactT.the-row .written)))) l22 0 s·facts)
+        ∷ ‵ (fdies (sliceTy (tyRef (named 20) mut (pointee (FactT.the-row .written)))) l22)
+        ∷ ‵ (fat fullShare (sliceTy (tyRef (named 19) mut (tyInt w32))) l21 0 s·memo)
+        ∷ ‵ (fdies (sliceTy (tyRef (named 19) mut (tyInt w32))) l21)
+        ∷ ‵ (fat fullShare (sliceTy (tyRef (named 18) mut (tyInt w32))) l20 0 s·ids)
+        ∷ ‵ (fdies (sliceTy (tyRef (named 18) mut (tyInt w32))) l20)
+        ∷ ‵ (fat fullShare (sliceTy (tyRef (named 17) mut (tyInt w32))) l19 0 s·cells)
+        ∷ ‵ (fdies (sliceTy (tyRef (named 17) mut (tyInt w32))) l19)
+        ∷ ‵ (fat fullShare (sliceTy (tyRef (named 16) mut (tyInt w64))) l18 0 s·feet)
+        ∷ ‵ (fdies (sliceTy (tyRef (named 16) mut (tyInt w64))) l18)
+        ∷ ‵ (fat fullShare (sliceTy (tyRef (named 15) mut (tyInt w32))) l17 0 s·kept)
+        ∷ ‵ (fdies (sliceTy (tyRef (named 15) mut (tyInt w32))) l17)
+        ∷ ‵ (fat fullShare (sliceTy (tyRef (named 14) mut (tyInt w32))) l16 0 s·lists)
+        ∷ ‵ (fdies (sliceTy (tyRef (named 14) mut (tyInt w32))) l16)
+        ∷ ‵ (fat fullShare (sliceTy (tyRef (named 13) mut (tyInt w32))) l15 0 s·rows)
+        ∷ ‵ (fdies (sliceTy (tyRef (named 13) mut (tyInt w32))) l15)
+        ∷ ‵ (fat fullShare (sliceTy (tyRef (named 12) mut (tyInt w32))) l14 0 s·defs)
+        ∷ ‵ (fdies (sliceTy (tyRef (named 12) mut (tyInt w32))) l14)
+        ∷ ‵ (fat fullShare (sliceTy (tyRef (named 11) mut (tyInt w32))) l13 0 s·words)
+        ∷ ‵ (fdies (sliceTy (tyRef (named 11) mut (tyInt w32))) l13)
+        ∷ ‵ (fat fullShare (sliceTy (tyRef (named 10) mut (tyInt w32))) l12 0 s·index)
+        ∷ ‵ (fdies (sliceTy (tyRef (named 10) mut (tyInt w32))) l12)
+        ∷ ‵ (fat fullShare (sliceTy (tyRef (named 9) mut (tyInt w32))) l11 0 s·vars)
+        ∷ ‵ (fdies (sliceTy (tyRef (named 9) mut (tyInt w32))) l11)
+        ∷ ‵ (fat fullShare (sliceTy (tyRef (named 8) imm (tyInt w32))) l10 0 s·patterns)
+        ∷ ‵ (fdies (sliceTy (tyRef (named 8) imm (tyInt w32))) l10)
+        ∷ ‵ (fat fullShare (sliceTy (tyRef (named 7) imm (tyInt w32))) l9 0 s·rulevars)
+        ∷ ‵ (fdies (sliceTy (tyRef (named 7) imm (tyInt w32))) l9)
+        ∷ ‵ (fat fullShare (sliceTy (tyRef (named 6) imm (tyInt w32))) l8 0 s·rules)
+        ∷ ‵ (fdies (sliceTy (tyRef (named 6) imm (tyInt w32))) l8)
+        ∷ ‵ (fat fullShare (sliceTy (tyRef (named 5) imm (tyInt w32))) l7 0 s·inputs)
+        ∷ ‵ (fdies (sliceTy (tyRef (named 5) imm (tyInt w32))) l7)
+        ∷ ‵ (fat fullShare (sliceTy (tyRef (named 4) imm (tyInt w32))) l6 0 s·symbols)
+        ∷ ‵ (fdies (sliceTy (tyRef (named 4) imm (tyInt w32))) l6)
+        ∷ ‵ (fat fullShare (sliceTy (tyRef (named 3) imm (tyInt w32))) l5 0 s·sorts)
+        ∷ ‵ (fdies (sliceTy (tyRef (named 3) imm (tyInt w32))) l5)
+        ∷ ‵ (fat fullShare RunL.mir l4 0 v·s)
+        ∷ ‵ (fdies RunL.mir l4)
+        ∷ ‵ (fat fullShare (sliceTy (tyRef (named 2) imm (tyInt w8))) l3 0 s·proof)
+        ∷ ‵ (fdies (sliceTy (tyRef (named 2) imm (tyInt w8))) l3)
+        ∷ ‵ (fat fullShare (sliceTy (tyRef (named 1) imm (tyInt w8))) l2 0 s·goals)
+        ∷ ‵ (fdies (sliceTy (tyRef (named 1) imm (tyInt w8))) l2)
+        ∷ ‵ (fat fullShare (sliceTy (tyRef (named 0) imm (tyInt w8))) l1 0 s·theory)
+        ∷ ‵ (fdies (sliceTy (tyRef (named 0) imm (tyInt w8))) l1)
+        ∷ ‵ (froom RunL.mir l0 0)
+        ∷ ‵ (fdies RunL.mir l0) ∷ [])
+        (runs C Λ (En l0 l1 l2 l3 l4 l5 l6 l7 l8 l9 l10 l11 l12 l13 l14 l15 l16 l17 l18 l19 l20 l21 l22 l23 l24 l25 l26 l27 l28 l29 l30 l31 l32 l33
+        l34 l35 l36 l37 l38 l39 l40 l41 l42 l43 l44 l45 l46 l47 l48 l49 l50 l51) pieces.t-1
+        (atRet (En l0 l1 l2 l3 l4 l5 l6 l7 l8 l9 l10 l11 l12 l13 l14 l15 l16 l17 l18 l19 l20 l21 l22 l23 l24 l25 l26 l27 l28 l29 l30 l31 l32 l33 l34
+        l35 l36 l37 l38 l39 l40 l41 l42 l43 l44 l45 l46 l47 l48 l49 l50 l51) Post))
+    seg·1 l0 l1 l2 l3 l4 l5 l6 l7 l8 l9 l10 l11 l12 l13 l14 l15 l16 l17 l18 l19 l20 l21 l22 l23 l24 l25 l26 l27 l28 l29 l30 l31 l32 l33 l34 l35 l36
+        l37 l38 l39 l40 l41 l42 l43 l44 l45 l46 l47 l48 l49 l50 l51 =
+        assigns ! (of-opd ! (load ! (from ! (stop !)) (look ! 138 refl))) (from ! (stop !))
+        (init ! 98 refl (LL.lawful RunT.the-type RunL.the-laws 𝓤 H A W .typed s _ is·s .0)) $
+        rewrite ! 98 (λ (u : Val). ‵ (fat fullShare RunL.mir l24 0 u)) (ap only ((LL.tells RunT.the-type RunL.the-laws) s (v·s ∷ []) is·s)) refl $
+        keep ! (43 ∷ 42 ∷ 41 ∷ 40 ∷ 39 ∷ 38 ∷ 37 ∷ 36 ∷ 35 ∷ 34 ∷ 33 ∷ 32 ∷ 31 ∷ 30 ∷ 29 ∷ 28 ∷ 27 ∷ 26 ∷ 25 ∷ 24 ∷ 23 ∷ 22 ∷ 21 ∷ 20 ∷ 19 ∷ 18 ∷ 17
+        ∷ 16 ∷ 15 ∷ 14 ∷ 13 ∷ 12 ∷ 11 ∷ 10 ∷ 9 ∷ 8 ∷ 7 ∷ 6 ∷ 5 ∷ 4 ∷ 3 ∷ 2 ∷ 1 ∷ 0 ∷ 44 ∷ 45 ∷ 46 ∷ 47 ∷ 48 ∷ 49 ∷ 50 ∷ 51 ∷ 52 ∷ 53 ∷ 54 ∷ 55 ∷ 56
+        ∷ 57 ∷ 58 ∷ 59 ∷ 60 ∷ 61 ∷ 62 ∷ 63 ∷ 64 ∷ 65 ∷ 66 ∷ 67 ∷ 68 ∷ 69 ∷ 70 ∷ 71 ∷ 72 ∷ 73 ∷ 74 ∷ 75 ∷ 76 ∷ 77 ∷ 78 ∷ 79 ∷ 80 ∷ 81 ∷ 82 ∷ 83 ∷ 84
+        ∷ 85 ∷ 86 ∷ 87 ∷ 88 ∷ 89 ∷ 90 ∷ 91 ∷ 92 ∷ 93 ∷ 94 ∷ 95 ∷ 96 ∷ 97 ∷ 98 ∷ 99 ∷ 100 ∷ 101 ∷ 102 ∷ 103 ∷ 104 ∷ 105 ∷ 106 ∷ 107 ∷ 108 ∷ 109 ∷ 110
+        ∷ 111 ∷ 112 ∷ 113 ∷ 114 ∷ 115 ∷ 116 ∷ 117 ∷ 118 ∷ 119 ∷ 120 ∷ 121 ∷ 122 ∷ 123 ∷ 124 ∷ 125 ∷ 126 ∷ 127 ∷ 128 ∷ 129 ∷ 130 ∷ 131 ∷ 132 ∷ 133
+        ∷ 134 ∷ 135 ∷ 136 ∷ 137 ∷ 138 ∷ 139 ∷ 140 ∷ 141 ∷ 142 ∷ 143 ∷ 144 ∷ 145 ∷ 146 ∷ 147 ∷ []) $ into ! $ blocks ! $
+        loops ! 𝓣 (Fewer theory goals proof (theoryLists sorts symbols inputs rules rulevars patterns) (working vars index words defs rows lists) kept
+        feet cells ids memo s facts) (Fewer-wf theory goals proof (theoryLists sorts symbols inputs rules rulevars patterns)
+        (working vars index words defs rows lists) kept feet cells ids memo s facts)
+        (At l0 l1 l2 l3 l4 l5 l6 l7 l8 l9 l10 l11 l12 l13 l14 l15 l16 l17 l18 l19 l20 l21 l22 l23 l24 l25 l26 l27 l28 l29 l30 l31 l32 l33 l34 l35 l36
+        l37 l38 l39 l40 l41 l42 l43 l44 l45 l46 l47 l48 l49 l50 l51) (turns l0 l1 l2 l3 l4 l5 l6 l7 l8 l9 l10 l11 l12 l13 l14 l15 l16 l17 l18 l19 l20
+        l21 l22 l23 l24 l25 l26 l27 l28 l29 l30 l31 l32 l33 l34 l35 l36 l37 l38 l39 l40 l41 l42 l43 l44 l45 l46 l47 l48 l49 l50 l51)
+        (begin theory goals proof (theoryLists sorts symbols inputs rules rulevars patterns) (working vars index words defs rows lists) kept feet
+        cells ids memo s facts is·s req)
 
-      walk : ent 𝓤 (onEntry 𝓤 H A self·fn.signature κs qs a at) (WpFn 𝓤 H C Λ code.function
-          (s·theory ∷ s·goals ∷ s·proof ∷ v·s ∷ s·sorts ∷ s·symbols ∷ s·inputs ∷ s·rules ∷ s·rulevars ∷ s·patterns ∷ s·vars ∷ s·index ∷ s·words ∷ s·defs
-          ∷ s·rows ∷ s·lists ∷ s·kept ∷ s·feet ∷ s·cells ∷ s·ids ∷ s·facts ∷ s·counts ∷ []) Post)
-      walk =
-          qed W ((‵ (flft κ·theory q·theory) ⊛ ‵ (flft κ·goals q·goals) ⊛ ‵ (flft κ·proof q·proof) ⊛ ‵ (flft κ·sorts q·sorts)
-          ⊛ ‵ (flft κ·symbols q·symbols) ⊛ ‵ (flft κ·inputs q·inputs) ⊛ ‵ (flft κ·rules q·rules) ⊛ ‵ (flft κ·rulevars q·rulevars)
-          ⊛ ‵ (flft κ·patterns q·patterns) ⊛ ‵ (flft κ·vars q·vars) ⊛ ‵ (flft κ·index q·index) ⊛ ‵ (flft κ·words q·words) ⊛ ‵ (flft κ·defs q·defs)
-          ⊛ ‵ (flft κ·rows q·rows) ⊛ ‵ (flft κ·lists q·lists) ⊛ ‵ (flft κ·kept q·kept) ⊛ ‵ (flft κ·feet q·feet) ⊛ ‵ (flft κ·cells q·cells)
-          ⊛ ‵ (flft κ·ids q·ids) ⊛ ‵ (flft κ·facts q·facts) ⊛ ‵ (flft κ·counts q·counts) ⊛ ‵ ftrue)
-          ∷ ‵ (owns (ShrSlice (named 0) κ·theory u8 ∷ ShrSlice (named 1) κ·goals u8 ∷ ShrSlice (named 2) κ·proof u8 ∷ RunT.the-row ∷ ShrSlice (named 3)
-          κ·sorts u32 ∷ ShrSlice (named 4) κ·symbols u32 ∷ ShrSlice (named 5) κ·inputs u32 ∷ ShrSlice (named 6) κ·rules u32 ∷ ShrSlice (named 7)
-          κ·rulevars u32 ∷ ShrSlice (named 8) κ·patterns u32 ∷ MutSlice (named 9) κ·vars u32 ∷ MutSlice (named 10) κ·index u32 ∷ MutSlice (named 11)
-          κ·words u32 ∷ MutSlice (named 12) κ·defs u32 ∷ MutSlice (named 13) κ·rows u32 ∷ MutSlice (named 14) κ·lists u32 ∷ MutSlice (named 15) κ·kept
-          u32 ∷ MutSlice (named 16) κ·feet u64 ∷ MutSlice (named 17) κ·cells u32 ∷ MutSlice (named 18) κ·ids u32 ∷ MutSlice (named 19) κ·facts
-          FactT.the-row ∷ MutRef (named 20) κ·counts CountsT.the-row ∷ []) a at) ∷ []) ∵
-          enter ! C Λ code.function (s·theory ∷ s·goals ∷ s·proof ∷ v·s ∷ s·sorts ∷ s·symbols ∷ s·inputs ∷ s·rules ∷ s·rulevars ∷ s·patterns ∷ s·vars
-          ∷ s·index ∷ s·words ∷ s·defs ∷ s·rows ∷ s·lists ∷ s·kept ∷ s·feet ∷ s·cells ∷ s·ids ∷ s·facts ∷ s·counts ∷ []) _ $
-          alloc1 ! (λ l0. alloc1 ! (λ l1. alloc1 ! (λ l2. alloc1 ! (λ l3. alloc1 ! (λ l4.
-          alloc1 ! (λ l5. alloc1 ! (λ l6. alloc1 ! (λ l7. alloc1 ! (λ l8. alloc1 ! (λ l9.
-          alloc1 ! (λ l10. alloc1 ! (λ l11. alloc1 ! (λ l12. alloc1 ! (λ l13. alloc1 ! (λ l14.
-          alloc1 ! (λ l15. alloc1 ! (λ l16. alloc1 ! (λ l17. alloc1 ! (λ l18. alloc1 ! (λ l19.
-          alloc1 ! (λ l20. alloc1 ! (λ l21. alloc1 ! (λ l22. alloc1 ! (λ l23. alloc1 ! (λ l24.
-          alloc1 ! (λ l25. alloc1 ! (λ l26. alloc1 ! (λ l27. alloc1 ! (λ l28. alloc1 ! (λ l29.
-          alloc1 ! (λ l30. alloc1 ! (λ l31. alloc1 ! (λ l32. alloc1 ! (λ l33. alloc1 ! (λ l34.
-          alloc1 ! (λ l35. alloc1 ! (λ l36. alloc1 ! (λ l37. alloc1 ! (λ l38. alloc1 ! (λ l39.
-          alloc1 ! (λ l40. alloc1 ! (λ l41. alloc1 ! (λ l42. alloc1 ! (λ l43. alloc1 ! (λ l44.
-          alloc1 ! (λ l45. alloc1 ! (λ l46. alloc1 ! (λ l47. alloc1 ! (λ l48. alloc0 ! $ params1 ! $
-          pass1 ! (init ! 94 refl (tt, (tt, (record { fits = room·theory .0 }, tt)))) $
-          pass1 ! (init ! 92 refl (tt, (tt, (record { fits = room·goals .0 }, tt)))) $
-          pass1 ! (init ! 90 refl (tt, (tt, (record { fits = room·proof .0 }, tt)))) $
-          pass1 ! (init ! 88 refl (LL.lawful RunT.the-type RunL.the-laws 𝓤 H A W .typed s _ is·s .0)) $
-          pass1 ! (init ! 86 refl (tt, (tt, (record { fits = room·sorts .0 }, tt)))) $
-          pass1 ! (init ! 84 refl (tt, (tt, (record { fits = room·symbols .0 }, tt)))) $
-          pass1 ! (init ! 82 refl (tt, (tt, (record { fits = room·inputs .0 }, tt)))) $
-          pass1 ! (init ! 80 refl (tt, (tt, (record { fits = room·rules .0 }, tt)))) $
-          pass1 ! (init ! 78 refl (tt, (tt, (record { fits = room·rulevars .0 }, tt)))) $
-          pass1 ! (init ! 76 refl (tt, (tt, (record { fits = room·patterns .0 }, tt)))) $
-          pass1 ! (init ! 74 refl (tt, (tt, (record { fits = room·vars .0 }, tt)))) $
-          pass1 ! (init ! 72 refl (tt, (tt, (record { fits = room·index .0 }, tt)))) $
-          pass1 ! (init ! 70 refl (tt, (tt, (record { fits = room·words .0 }, tt)))) $
-          pass1 ! (init ! 68 refl (tt, (tt, (record { fits = room·defs .0 }, tt)))) $
-          pass1 ! (init ! 66 refl (tt, (tt, (record { fits = room·rows .0 }, tt)))) $
-          pass1 ! (init ! 64 refl (tt, (tt, (record { fits = room·lists .0 }, tt)))) $
-          pass1 ! (init ! 62 refl (tt, (tt, (record { fits = room·kept .0 }, tt)))) $
-          pass1 ! (init ! 60 refl (tt, (tt, (record { fits = room·feet .0 }, tt)))) $
-          pass1 ! (init ! 58 refl (tt, (tt, (record { fits = room·cells .0 }, tt)))) $
-          pass1 ! (init ! 56 refl (tt, (tt, (record { fits = room·ids .0 }, tt)))) $
-          pass1 ! (init ! 54 refl (tt, (tt, (record { fits = room·facts .0 }, tt)))) $
-          pass1 ! (init ! 52 refl (tt, tt)) $
-          pass0 ! $
-          move ! (99 ∷ []) $
-          fsplit ! $
-          move ! (1 ∷ []) $
-          fsplit ! $
-          move ! (1 ∷ []) $
-          fsplit ! $
-          move ! (1 ∷ []) $
-          fsplit ! $
-          drop ! $
-          fsplit ! $
-          move ! (1 ∷ []) $
-          fsplit ! $
-          move ! (1 ∷ []) $
-          fsplit ! $
-          move ! (1 ∷ []) $
-          fsplit ! $
-          move ! (1 ∷ []) $
-          fsplit ! $
-          move ! (1 ∷ []) $
-          fsplit ! $
-          move ! (1 ∷ []) $
-          fsplit ! $
-          move ! (1 ∷ []) $
-          fsplit ! $
-          move ! (1 ∷ []) $
-          fsplit ! $
-          move ! (1 ∷ []) $
-          fsplit ! $
-          move ! (1 ∷ []) $
-          fsplit ! $
-          move ! (1 ∷ []) $
-          fsplit ! $
-          move ! (1 ∷ []) $
-          fsplit ! $
-          move ! (1 ∷ []) $
-          fsplit ! $
-          move ! (1 ∷ []) $
-          fsplit ! $
-          move ! (1 ∷ []) $
-          fsplit ! $
-          move ! (1 ∷ []) $
-          fsplit ! $
-          move ! (1 ∷ []) $
-          fsplit ! $
-          move ! (1 ∷ []) $
-          drop ! $
-          move ! (119 ∷ []) $
-          split ! $
-          move ! (1 ∷ []) $
-          split ! $
-          move ! (1 ∷ []) $
-          split ! $
-          move ! (1 ∷ []) $
-          split ! $
-          move ! (1 ∷ []) $
-          split ! $
-          move ! (1 ∷ []) $
-          split ! $
-          move ! (1 ∷ []) $
-          split ! $
-          move ! (1 ∷ []) $
-          split ! $
-          move ! (1 ∷ []) $
-          split ! $
-          move ! (1 ∷ []) $
-          split ! $
-          move ! (1 ∷ []) $
-          split ! $
-          move ! (1 ∷ []) $
-          split ! $
-          move ! (1 ∷ []) $
-          split ! $
-          move ! (1 ∷ []) $
-          split ! $
-          move ! (1 ∷ []) $
-          split ! $
-          move ! (1 ∷ []) $
-          split ! $
-          move ! (1 ∷ []) $
-          split ! $
-          move ! (1 ∷ []) $
-          split ! $
-          move ! (1 ∷ []) $
-          split ! $
-          move ! (1 ∷ []) $
-          split ! $
-          move ! (1 ∷ []) $
-          split ! $
-          move ! (1 ∷ []) $
-          drop ! $
-          seg·1 l0 l1 l2 l3 l4 l5 l6 l7 l8 l9 l10 l11 l12 l13 l14 l15 l16 l17 l18 l19 l20 l21 l22 l23 l24 l25 l26 l27 l28 l29 l30 l31 l32 l33 l34 l35
-          l36 l37 l38 l39 l40 l41 l42 l43 l44 l45 l46 l47 l48)))))))))))))))))))))))))))))))))))))))))))))))))
+    walk : ent 𝓤 (onEntry 𝓤 H A self·fn.signature κs qs a at) (WpFn 𝓤 H C Λ code.function
+        (s·theory ∷ s·goals ∷ s·proof ∷ v·s ∷ s·sorts ∷ s·symbols ∷ s·inputs ∷ s·rules ∷ s·rulevars ∷ s·patterns ∷ s·vars ∷ s·index ∷ s·words ∷ s·defs
+        ∷ s·rows ∷ s·lists ∷ s·kept ∷ s·feet ∷ s·cells ∷ s·ids ∷ s·memo ∷ s·facts ∷ s·counts ∷ []) Post)
+    walk =
+        qed W ((‵ (flft κ·theory q·theory) ⊛ ‵ (flft κ·goals q·goals) ⊛ ‵ (flft κ·proof q·proof) ⊛ ‵ (flft κ·sorts q·sorts)
+        ⊛ ‵ (flft κ·symbols q·symbols) ⊛ ‵ (flft κ·inputs q·inputs) ⊛ ‵ (flft κ·rules q·rules) ⊛ ‵ (flft κ·rulevars q·rulevars)
+        ⊛ ‵ (flft κ·patterns q·patterns) ⊛ ‵ (flft κ·vars q·vars) ⊛ ‵ (flft κ·index q·index) ⊛ ‵ (flft κ·words q·words) ⊛ ‵ (flft κ·defs q·defs)
+        ⊛ ‵ (flft κ·rows q·rows) ⊛ ‵ (flft κ·lists q·lists) ⊛ ‵ (flft κ·kept q·kept) ⊛ ‵ (flft κ·feet q·feet) ⊛ ‵ (flft κ·cells q·cells)
+        ⊛ ‵ (flft κ·ids q·ids) ⊛ ‵ (flft κ·memo q·memo) ⊛ ‵ (flft κ·facts q·facts) ⊛ ‵ (flft κ·counts q·counts) ⊛ ‵ ftrue)
+        ∷ ‵ (owns (ShrSlice (named 0) κ·theory u8 ∷ ShrSlice (named 1) κ·goals u8 ∷ ShrSlice (named 2) κ·proof u8 ∷ RunT.the-row ∷ ShrSlice (named 3)
+        κ·sorts u32 ∷ ShrSlice (named 4) κ·symbols u32 ∷ ShrSlice (named 5) κ·inputs u32 ∷ ShrSlice (named 6) κ·rules u32 ∷ ShrSlice (named 7)
+        κ·rulevars u32 ∷ ShrSlice (named 8) κ·patterns u32 ∷ MutSlice (named 9) κ·vars u32 ∷ MutSlice (named 10) κ·index u32 ∷ MutSlice (named 11)
+        κ·words u32 ∷ MutSlice (named 12) κ·defs u32 ∷ MutSlice (named 13) κ·rows u32 ∷ MutSlice (named 14) κ·lists u32 ∷ MutSlice (named 15) κ·kept
+        u32 ∷ MutSlice (named 16) κ·feet u64 ∷ MutSlice (named 17) κ·cells u32 ∷ MutSlice (named 18) κ·ids u32 ∷ MutSlice (named 19) κ·memo u32
+        ∷ MutSlice (named 20) κ·facts FactT.the-row ∷ MutRef (named 21) κ·counts CountsT.the-row ∷ []) a at) ∷ []) ∵
+        enter ! C Λ code.function (s·theory ∷ s·goals ∷ s·proof ∷ v·s ∷ s·sorts ∷ s·symbols ∷ s·inputs ∷ s·rules ∷ s·rulevars ∷ s·patterns ∷ s·vars
+        ∷ s·index ∷ s·words ∷ s·defs ∷ s·rows ∷ s·lists ∷ s·kept ∷ s·feet ∷ s·cells ∷ s·ids ∷ s·memo ∷ s·facts ∷ s·counts ∷ []) _ $
+        alloc1 ! (λ l0. alloc1 ! (λ l1. alloc1 ! (λ l2. alloc1 ! (λ l3. alloc1 ! (λ l4.
+        alloc1 ! (λ l5. alloc1 ! (λ l6. alloc1 ! (λ l7. alloc1 ! (λ l8. alloc1 ! (λ l9.
+        alloc1 ! (λ l10. alloc1 ! (λ l11. alloc1 ! (λ l12. alloc1 ! (λ l13. alloc1 ! (λ l14.
+        alloc1 ! (λ l15. alloc1 ! (λ l16. alloc1 ! (λ l17. alloc1 ! (λ l18. alloc1 ! (λ l19.
+        alloc1 ! (λ l20. alloc1 ! (λ l21. alloc1 ! (λ l22. alloc1 ! (λ l23. alloc1 ! (λ l24.
+        alloc1 ! (λ l25. alloc1 ! (λ l26. alloc1 ! (λ l27. alloc1 ! (λ l28. alloc1 ! (λ l29.
+        alloc1 ! (λ l30. alloc1 ! (λ l31. alloc1 ! (λ l32. alloc1 ! (λ l33. alloc1 ! (λ l34.
+        alloc1 ! (λ l35. alloc1 ! (λ l36. alloc1 ! (λ l37. alloc1 ! (λ l38. alloc1 ! (λ l39.
+        alloc1 ! (λ l40. alloc1 ! (λ l41. alloc1 ! (λ l42. alloc1 ! (λ l43. alloc1 ! (λ l44.
+        alloc1 ! (λ l45. alloc1 ! (λ l46. alloc1 ! (λ l47. alloc1 ! (λ l48. alloc1 ! (λ l49. alloc1 ! (λ l50. alloc1 ! (λ l51. alloc0 ! $ params1 ! $
+        pass1 ! (init ! 100 refl (tt, (tt, (record { fits = room·theory .0 }, tt)))) $
+        pass1 ! (init ! 98 refl (tt, (tt, (record { fits = room·goals .0 }, tt)))) $
+        pass1 ! (init ! 96 refl (tt, (tt, (record { fits = room·proof .0 }, tt)))) $
+        pass1 ! (init ! 94 refl (LL.lawful RunT.the-type RunL.the-laws 𝓤 H A W .typed s _ is·s .0)) $
+        pass1 ! (init ! 92 refl (tt, (tt, (record { fits = room·sorts .0 }, tt)))) $
+        pass1 ! (init ! 90 refl (tt, (tt, (record { fits = room·symbols .0 }, tt)))) $
+        pass1 ! (init ! 88 refl (tt, (tt, (record { fits = room·inputs .0 }, tt)))) $
+        pass1 ! (init ! 86 refl (tt, (tt, (record { fits = room·rules .0 }, tt)))) $
+        pass1 ! (init ! 84 refl (tt, (tt, (record { fits = room·rulevars .0 }, tt)))) $
+        pass1 ! (init ! 82 refl (tt, (tt, (record { fits = room·patterns .0 }, tt)))) $
+        pass1 ! (init ! 80 refl (tt, (tt, (record { fits = room·vars .0 }, tt)))) $
+        pass1 ! (init ! 78 refl (tt, (tt, (record { fits = room·index .0 }, tt)))) $
+        pass1 ! (init ! 76 refl (tt, (tt, (record { fits = room·words .0 }, tt)))) $
+        pass1 ! (init ! 74 refl (tt, (tt, (record { fits = room·defs .0 }, tt)))) $
+        pass1 ! (init ! 72 refl (tt, (tt, (record { fits = room·rows .0 }, tt)))) $
+        pass1 ! (init ! 70 refl (tt, (tt, (record { fits = room·lists .0 }, tt)))) $
+        pass1 ! (init ! 68 refl (tt, (tt, (record { fits = room·kept .0 }, tt)))) $
+        pass1 ! (init ! 66 refl (tt, (tt, (record { fits = room·feet .0 }, tt)))) $
+        pass1 ! (init ! 64 refl (tt, (tt, (record { fits = room·cells .0 }, tt)))) $
+        pass1 ! (init ! 62 refl (tt, (tt, (record { fits = room·ids .0 }, tt)))) $
+        pass1 ! (init ! 60 refl (tt, (tt, (record { fits = room·memo .0 }, tt)))) $
+        pass1 ! (init ! 58 refl (tt, (tt, (record { fits = room·facts .0 }, tt)))) $
+        pass1 ! (init ! 56 refl (tt, tt)) $
+        pass0 ! $
+        move ! (105 ∷ []) $
+        fsplit ! $
+        move ! (1 ∷ []) $
+        fsplit ! $
+        move ! (1 ∷ []) $
+        fsplit ! $
+        move ! (1 ∷ []) $
+        fsplit ! $
+        drop ! $
+        fsplit ! $
+        move ! (1 ∷ []) $
+        fsplit ! $
+        move ! (1 ∷ []) $
+        fsplit ! $
+        move ! (1 ∷ []) $
+        fsplit ! $
+        move ! (1 ∷ []) $
+        fsplit ! $
+        move ! (1 ∷ []) $
+        fsplit ! $
+        move ! (1 ∷ []) $
+        fsplit ! $
+        move ! (1 ∷ []) $
+        fsplit ! $
+        move ! (1 ∷ []) $
+        fsplit ! $
+        move ! (1 ∷ []) $
+        fsplit ! $
+        move ! (1 ∷ []) $
+        fsplit ! $
+        move ! (1 ∷ []) $
+        fsplit ! $
+        move ! (1 ∷ []) $
+        fsplit ! $
+        move ! (1 ∷ []) $
+        fsplit ! $
+        move ! (1 ∷ []) $
+        fsplit ! $
+        move ! (1 ∷ []) $
+        fsplit ! $
+        move ! (1 ∷ []) $
+        fsplit ! $
+        move ! (1 ∷ []) $
+        fsplit ! $
+        move ! (1 ∷ []) $
+        fsplit ! $
+        move ! (1 ∷ []) $
+        drop ! $
+        move ! (126 ∷ []) $
+        split ! $
+        move ! (1 ∷ []) $
+        split ! $
+        move ! (1 ∷ []) $
+        split ! $
+        move ! (1 ∷ []) $
+        split ! $
+        move ! (1 ∷ []) $
+        split ! $
+        move ! (1 ∷ []) $
+        split ! $
+        move ! (1 ∷ []) $
+        split ! $
+        move ! (1 ∷ []) $
+        split ! $
+        move ! (1 ∷ []) $
+        split ! $
+        move ! (1 ∷ []) $
+        split ! $
+        move ! (1 ∷ []) $
+        split ! $
+        move ! (1 ∷ []) $
+        split ! $
+        move ! (1 ∷ []) $
+        split ! $
+        move ! (1 ∷ []) $
+        split ! $
+        move ! (1 ∷ []) $
+        split ! $
+        move ! (1 ∷ []) $
+        split ! $
+        move ! (1 ∷ []) $
+        split ! $
+        move ! (1 ∷ []) $
+        split ! $
+        move ! (1 ∷ []) $
+        split ! $
+        move ! (1 ∷ []) $
+        split ! $
+        move ! (1 ∷ []) $
+        split ! $
+        move ! (1 ∷ []) $
+        split ! $
+        move ! (1 ∷ []) $
+        drop ! $
+        seg·1 l0 l1 l2 l3 l4 l5 l6 l7 l8 l9 l10 l11 l12 l13 l14 l15 l16 l17 l18 l19 l20 l21 l22 l23 l24 l25 l26 l27 l28 l29 l30 l31 l32 l33 l34 l35
+        l36 l37 l38 l39 l40 l41 l42 l43 l44 l45 l46 l47 l48 l49 l50 l51))))))))))))))))))))))))))))))))))))))))))))))))))))
 
 module _ {M : Type 1} (𝓤 : URA M) (H : Heap 𝓤) (A : Atoms 𝓤) (W : Given 𝓤 H A) (at-mem : Memory → SProp 𝓤) (run : Routine → Fun 𝓤) (𝓣 : Tables 𝓤 H)
     (known·1 : Triple 𝓤 (𝓣 .C #running·run·is-going) (G1·C 𝓤 H A at-mem run)) (known·2 : Triple 𝓤 (𝓣 .C #schematic·turn) (G2·C 𝓤 H A at-mem run))
@@ -2825,7 +3251,7 @@ module _ {M : Type 1} (𝓤 : URA M) (H : Heap 𝓤) (A : Atoms 𝓤) (W : Given
               slice-vals,
               (
                 (LL.vals RunT.the-type RunL.the-laws),
-                (slice-vals, (slice-vals, (slice-vals, (slice-vals, (slice-vals, (slice-vals, (slice-vals, (slice-vals, (slice-vals, (slice-vals, (slice-vals, (slice-vals, (slice-vals, (slice-vals, (slice-vals, (slice-vals, (slice-vals, (ptr-vals, tt)))))))))))))))))),
+                (slice-vals, (slice-vals, (slice-vals, (slice-vals, (slice-vals, (slice-vals, (slice-vals, (slice-vals, (slice-vals, (slice-vals, (slice-vals, (slice-vals, (slice-vals, (slice-vals, (slice-vals, (slice-vals, (slice-vals, (slice-vals, (ptr-vals, tt))))))))))))))))))),
               ),
             ),
           ),
@@ -2870,7 +3296,10 @@ module _ {M : Type 1} (𝓤 : URA M) (H : Heap 𝓤) (A : Atoms 𝓤) (W : Given
                                               mut-slice-tells (named 17) (κs .1 .1 .1 .1 .1 .1 .1 .1 .1 .1 .1 .1 .1 .1 .1 .1 .1 .0) u32,
                                               (
                                                 mut-slice-tells (named 18) (κs .1 .1 .1 .1 .1 .1 .1 .1 .1 .1 .1 .1 .1 .1 .1 .1 .1 .1 .0) u32,
-                                                (mut-slice-tells (named 19) (κs .1 .1 .1 .1 .1 .1 .1 .1 .1 .1 .1 .1 .1 .1 .1 .1 .1 .1 .1 .0) FactT.the-row, (mut-tells (named 20) (κs .1 .1 .1 .1 .1 .1 .1 .1 .1 .1 .1 .1 .1 .1 .1 .1 .1 .1 .1 .1 .0) CountsT.the-row, tt)),
+                                                (
+                                                  mut-slice-tells (named 19) (κs .1 .1 .1 .1 .1 .1 .1 .1 .1 .1 .1 .1 .1 .1 .1 .1 .1 .1 .1 .0) u32,
+                                                  (mut-slice-tells (named 20) (κs .1 .1 .1 .1 .1 .1 .1 .1 .1 .1 .1 .1 .1 .1 .1 .1 .1 .1 .1 .1 .0) FactT.the-row, (mut-tells (named 21) (κs .1 .1 .1 .1 .1 .1 .1 .1 .1 .1 .1 .1 .1 .1 .1 .1 .1 .1 .1 .1 .1 .0) CountsT.the-row, tt)),
+                                                ),
                                               ),
                                             ),
                                           ),
@@ -2898,9 +3327,9 @@ module _ {M : Type 1} (𝓤 : URA M) (H : Heap 𝓤) (A : Atoms 𝓤) (W : Given
         (a .1 .1 .1 .1 .1 .1 .1 .1 .1 .1 .1 .1 .1 .0 .now) (a .1 .1 .1 .1 .1 .1 .1 .1 .1 .1 .1 .1 .1 .1 .0 .now)
         (a .1 .1 .1 .1 .1 .1 .1 .1 .1 .1 .1 .1 .1 .1 .1 .0 .now)) (a .1 .1 .1 .1 .1 .1 .1 .1 .1 .1 .1 .1 .1 .1 .1 .1 .0 .now)
         (a .1 .1 .1 .1 .1 .1 .1 .1 .1 .1 .1 .1 .1 .1 .1 .1 .1 .0 .now) (a .1 .1 .1 .1 .1 .1 .1 .1 .1 .1 .1 .1 .1 .1 .1 .1 .1 .1 .0 .now)
-        (a .1 .1 .1 .1 .1 .1 .1 .1 .1 .1 .1 .1 .1 .1 .1 .1 .1 .1 .1 .0 .now) (a .1 .1 .1 .0)
-        (a .1 .1 .1 .1 .1 .1 .1 .1 .1 .1 .1 .1 .1 .1 .1 .1 .1 .1 .1 .1 .0 .now)
-        (a .1 .1 .1 .1 .1 .1 .1 .1 .1 .1 .1 .1 .1 .1 .1 .1 .1 .1 .1 .1 .1 .0 .now)) _
+        (a .1 .1 .1 .1 .1 .1 .1 .1 .1 .1 .1 .1 .1 .1 .1 .1 .1 .1 .1 .0 .now) (a .1 .1 .1 .1 .1 .1 .1 .1 .1 .1 .1 .1 .1 .1 .1 .1 .1 .1 .1 .1 .0 .now)
+        (a .1 .1 .1 .0) (a .1 .1 .1 .1 .1 .1 .1 .1 .1 .1 .1 .1 .1 .1 .1 .1 .1 .1 .1 .1 .1 .0 .now)
+        (a .1 .1 .1 .1 .1 .1 .1 .1 .1 .1 .1 .1 .1 .1 .1 .1 .1 .1 .1 .1 .1 .1 .0 .now)) _
         (λ req. walk 𝓤 H A W at-mem run κs qs a (are .0 .0 .1) (are .1 .0 .0 .1) (are .1 .1 .0 .0 .1) (are .1 .1 .1 .0) (are .1 .1 .1 .1 .0 .0 .1)
         (are .1 .1 .1 .1 .1 .0 .0 .1) (are .1 .1 .1 .1 .1 .1 .0 .0 .1) (are .1 .1 .1 .1 .1 .1 .1 .0 .0 .1) (are .1 .1 .1 .1 .1 .1 .1 .1 .0 .0 .1)
         (are .1 .1 .1 .1 .1 .1 .1 .1 .1 .0 .0 .1) (are .1 .1 .1 .1 .1 .1 .1 .1 .1 .1 .0 .0 .1) (are .1 .1 .1 .1 .1 .1 .1 .1 .1 .1 .1 .0 .0 .1)
@@ -2908,46 +3337,53 @@ module _ {M : Type 1} (𝓤 : URA M) (H : Heap 𝓤) (A : Atoms 𝓤) (W : Given
         (are .1 .1 .1 .1 .1 .1 .1 .1 .1 .1 .1 .1 .1 .1 .0 .0 .1) (are .1 .1 .1 .1 .1 .1 .1 .1 .1 .1 .1 .1 .1 .1 .1 .0 .0 .1)
         (are .1 .1 .1 .1 .1 .1 .1 .1 .1 .1 .1 .1 .1 .1 .1 .1 .0 .0 .1) (are .1 .1 .1 .1 .1 .1 .1 .1 .1 .1 .1 .1 .1 .1 .1 .1 .1 .0 .0 .1)
         (are .1 .1 .1 .1 .1 .1 .1 .1 .1 .1 .1 .1 .1 .1 .1 .1 .1 .1 .0 .0 .1) (are .1 .1 .1 .1 .1 .1 .1 .1 .1 .1 .1 .1 .1 .1 .1 .1 .1 .1 .1 .0 .0 .1)
-        (are .1 .1 .1 .1 .1 .1 .1 .1 .1 .1 .1 .1 .1 .1 .1 .1 .1 .1 .1 .1 .0 .0 .1) req 𝓣 known·1 known·2))
+        (are .1 .1 .1 .1 .1 .1 .1 .1 .1 .1 .1 .1 .1 .1 .1 .1 .1 .1 .1 .1 .0 .0 .1)
+        (are .1 .1 .1 .1 .1 .1 .1 .1 .1 .1 .1 .1 .1 .1 .1 .1 .1 .1 .1 .1 .1 .0 .0 .1) req 𝓣 known·1 known·2))
 
     the-meets : Meets 𝓤 H A self·fn.signature (WpFn 𝓤 H (𝓣 .C) (𝓣 .Λ) code.function) (self·fn.spec 𝓤 H A at-mem run)
     the-meets = walk-meets 𝓤 H A self·fn.ended stayed W (
-      goes-none-slice 𝓤 H A W 21 (0 ∷ []) tt (plain (λ _. u8)) yes,
+      goes-none-slice 𝓤 H A W 22 (0 ∷ []) tt (plain (λ _. u8)) yes,
       (
-        goes-none-slice 𝓤 H A W 21 (1 ∷ []) tt (plain (λ _. u8)) yes,
+        goes-none-slice 𝓤 H A W 22 (1 ∷ []) tt (plain (λ _. u8)) yes,
         (
-          goes-none-slice 𝓤 H A W 21 (2 ∷ []) tt (plain (λ _. u8)) yes,
+          goes-none-slice 𝓤 H A W 22 (2 ∷ []) tt (plain (λ _. u8)) yes,
           (
-            goes-none 𝓤 H A W 21 (λ _. RunT.the-row) yes (λ κs x f. refl),
+            goes-none 𝓤 H A W 22 (λ _. RunT.the-row) yes (λ κs x f. refl),
             (
-              goes-none-slice 𝓤 H A W 21 (3 ∷ []) tt (plain (λ _. u32)) yes,
+              goes-none-slice 𝓤 H A W 22 (3 ∷ []) tt (plain (λ _. u32)) yes,
               (
-                goes-none-slice 𝓤 H A W 21 (4 ∷ []) tt (plain (λ _. u32)) yes,
+                goes-none-slice 𝓤 H A W 22 (4 ∷ []) tt (plain (λ _. u32)) yes,
                 (
-                  goes-none-slice 𝓤 H A W 21 (5 ∷ []) tt (plain (λ _. u32)) yes,
+                  goes-none-slice 𝓤 H A W 22 (5 ∷ []) tt (plain (λ _. u32)) yes,
                   (
-                    goes-none-slice 𝓤 H A W 21 (6 ∷ []) tt (plain (λ _. u32)) yes,
+                    goes-none-slice 𝓤 H A W 22 (6 ∷ []) tt (plain (λ _. u32)) yes,
                     (
-                      goes-none-slice 𝓤 H A W 21 (7 ∷ []) tt (plain (λ _. u32)) yes,
+                      goes-none-slice 𝓤 H A W 22 (7 ∷ []) tt (plain (λ _. u32)) yes,
                       (
-                        goes-none-slice 𝓤 H A W 21 (8 ∷ []) tt (plain (λ _. u32)) yes,
+                        goes-none-slice 𝓤 H A W 22 (8 ∷ []) tt (plain (λ _. u32)) yes,
                         (
-                          goes-slice 𝓤 H A W 21 9 tt (plain (λ _. u32)),
+                          goes-slice 𝓤 H A W 22 9 tt (plain (λ _. u32)),
                           (
-                            goes-slice 𝓤 H A W 21 10 tt (plain (λ _. u32)),
+                            goes-slice 𝓤 H A W 22 10 tt (plain (λ _. u32)),
                             (
-                              goes-slice 𝓤 H A W 21 11 tt (plain (λ _. u32)),
+                              goes-slice 𝓤 H A W 22 11 tt (plain (λ _. u32)),
                               (
-                                goes-slice 𝓤 H A W 21 12 tt (plain (λ _. u32)),
+                                goes-slice 𝓤 H A W 22 12 tt (plain (λ _. u32)),
                                 (
-                                  goes-slice 𝓤 H A W 21 13 tt (plain (λ _. u32)),
+                                  goes-slice 𝓤 H A W 22 13 tt (plain (λ _. u32)),
                                   (
-                                    goes-slice 𝓤 H A W 21 14 tt (plain (λ _. u32)),
+                                    goes-slice 𝓤 H A W 22 14 tt (plain (λ _. u32)),
                                     (
-                                      goes-slice 𝓤 H A W 21 15 tt (plain (λ _. u32)),
+                                      goes-slice 𝓤 H A W 22 15 tt (plain (λ _. u32)),
                                       (
-                                        goes-slice 𝓤 H A W 21 16 tt (plain (λ _. u64)),
-                                        (goes-slice 𝓤 H A W 21 17 tt (plain (λ _. u32)), (goes-slice 𝓤 H A W 21 18 tt (plain (λ _. u32)), (goes-slice 𝓤 H A W 21 19 tt (plain (λ _. FactT.the-row)), (goes-ref 𝓤 H A W 21 20 tt (plain (λ _. CountsT.the-row)), tt)))),
+                                        goes-slice 𝓤 H A W 22 16 tt (plain (λ _. u64)),
+                                        (
+                                          goes-slice 𝓤 H A W 22 17 tt (plain (λ _. u32)),
+                                          (
+                                            goes-slice 𝓤 H A W 22 18 tt (plain (λ _. u32)),
+                                            (goes-slice 𝓤 H A W 22 19 tt (plain (λ _. u32)), (goes-slice 𝓤 H A W 22 20 tt (plain (λ _. FactT.the-row)), (goes-ref 𝓤 H A W 22 21 tt (plain (λ _. CountsT.the-row)), tt))),
+                                          ),
+                                        ),
                                       ),
                                     ),
                                   ),

@@ -136,7 +136,7 @@ stayed = (
                                   gave-slice (15 ∷ []) tt (plain (λ _. u32)),
                                   (
                                     gave-slice (16 ∷ []) tt (plain (λ _. u64)),
-                                    (gave-slice (17 ∷ []) tt (plain (λ _. u32)), (gave-slice (18 ∷ []) tt (plain (λ _. u32)), (gave-slice (19 ∷ []) tt (plain (λ _. FactT.the-row)), (gave-ref (20 ∷ []) tt (plain (λ _. CountsT.the-row)), tt)))),
+                                    (gave-slice (17 ∷ []) tt (plain (λ _. u32)), (gave-slice (18 ∷ []) tt (plain (λ _. u32)), (gave-slice (19 ∷ []) tt (plain (λ _. u32)), (gave-slice (20 ∷ []) tt (plain (λ _. FactT.the-row)), (gave-ref (21 ∷ []) tt (plain (λ _. CountsT.the-row)), tt))))),
                                   ),
                                 ),
                               ),
@@ -187,10 +187,10 @@ Arg = (RefT (List ℕ) × (RefT (List ℕ) × (RefT (List ℕ) × (Run × (RefT 
     (RefT (List ℕ) × (RefT (List ℕ) × (RefT (List ℕ) × (RefT (List ℕ) × (RefT (List ℕ) ×
     (RefT (List ℕ) × (RefT (List ℕ) × (RefT (List ℕ) × (RefT (List ℕ) × (RefT (List ℕ) ×
     (RefT (List ℕ) × (RefT (List ℕ) × (RefT (List ℕ) × (RefT (List ℕ) × (RefT (List ℕ) ×
-    (RefT (List Fact) × (RefT Counts × Unit {0}))))))))))))))))))))))
+    (RefT (List ℕ) × (RefT (List Fact) × (RefT Counts × Unit {0})))))))))))))))))))))))
 
-module _ {M : Type 1} (𝓤 : URA M) (H : Heap 𝓤) (A : Atoms 𝓤) (W : Given 𝓤 H A) (at-mem : Memory → SProp 𝓤) (run : Routine → Fun 𝓤) (κs : Lfts 21)
-    (qs : Shares 21) (a : Arg) where
+module _ {M : Type 1} (𝓤 : URA M) (H : Heap 𝓤) (A : Atoms 𝓤) (W : Given 𝓤 H A) (at-mem : Memory → SProp 𝓤) (run : Routine → Fun 𝓤) (κs : Lfts 22)
+    (qs : Shares 22) (a : Arg) where
   abbrev κ·theory : Lft
   κ·theory = κs .0
 
@@ -305,17 +305,23 @@ module _ {M : Type 1} (𝓤 : URA M) (H : Heap 𝓤) (A : Atoms 𝓤) (W : Given
   abbrev q·ids : Share
   q·ids = qs .1 .1 .1 .1 .1 .1 .1 .1 .1 .1 .1 .1 .1 .1 .1 .1 .1 .1 .0
 
+  abbrev κ·memo : Lft
+  κ·memo = κs .1 .1 .1 .1 .1 .1 .1 .1 .1 .1 .1 .1 .1 .1 .1 .1 .1 .1 .1 .0
+
+  abbrev q·memo : Share
+  q·memo = qs .1 .1 .1 .1 .1 .1 .1 .1 .1 .1 .1 .1 .1 .1 .1 .1 .1 .1 .1 .0
+
   abbrev κ·facts : Lft
-  κ·facts = κs .1 .1 .1 .1 .1 .1 .1 .1 .1 .1 .1 .1 .1 .1 .1 .1 .1 .1 .1 .0
+  κ·facts = κs .1 .1 .1 .1 .1 .1 .1 .1 .1 .1 .1 .1 .1 .1 .1 .1 .1 .1 .1 .1 .0
 
   abbrev q·facts : Share
-  q·facts = qs .1 .1 .1 .1 .1 .1 .1 .1 .1 .1 .1 .1 .1 .1 .1 .1 .1 .1 .1 .0
+  q·facts = qs .1 .1 .1 .1 .1 .1 .1 .1 .1 .1 .1 .1 .1 .1 .1 .1 .1 .1 .1 .1 .0
 
   abbrev κ·counts : Lft
-  κ·counts = κs .1 .1 .1 .1 .1 .1 .1 .1 .1 .1 .1 .1 .1 .1 .1 .1 .1 .1 .1 .1 .0
+  κ·counts = κs .1 .1 .1 .1 .1 .1 .1 .1 .1 .1 .1 .1 .1 .1 .1 .1 .1 .1 .1 .1 .1 .0
 
   abbrev q·counts : Share
-  q·counts = qs .1 .1 .1 .1 .1 .1 .1 .1 .1 .1 .1 .1 .1 .1 .1 .1 .1 .1 .1 .1 .0
+  q·counts = qs .1 .1 .1 .1 .1 .1 .1 .1 .1 .1 .1 .1 .1 .1 .1 .1 .1 .1 .1 .1 .1 .0
 
   abbrev theory : List ℕ
   theory = a .0 .now
@@ -665,17 +671,35 @@ module _ {M : Type 1} (𝓤 : URA M) (H : Heap 𝓤) (A : Atoms 𝓤) (W : Given
   abbrev s·ids : Val
   s·ids = sliceVal (b·ids, o·ids) (length ids)
 
+  abbrev memo : List ℕ
+  memo = a .1 .1 .1 .1 .1 .1 .1 .1 .1 .1 .1 .1 .1 .1 .1 .1 .1 .1 .1 .1 .0 .now
+
+  abbrev b·memo : ℕ
+  b·memo = a .1 .1 .1 .1 .1 .1 .1 .1 .1 .1 .1 .1 .1 .1 .1 .1 .1 .1 .1 .1 .0 .ptr .0
+
+  abbrev o·memo : ℕ
+  o·memo = a .1 .1 .1 .1 .1 .1 .1 .1 .1 .1 .1 .1 .1 .1 .1 .1 .1 .1 .1 .1 .0 .ptr .1
+
+  abbrev γ·memo : GName
+  γ·memo = a .1 .1 .1 .1 .1 .1 .1 .1 .1 .1 .1 .1 .1 .1 .1 .1 .1 .1 .1 .1 .0 .name
+
+  abbrev ref·memo : GName → List ℕ → RefT (List ℕ)
+  ref·memo δ l = record { ptr = (b·memo, o·memo); name = δ; now = l }
+
+  abbrev s·memo : Val
+  s·memo = sliceVal (b·memo, o·memo) (length memo)
+
   abbrev facts : List Fact
-  facts = a .1 .1 .1 .1 .1 .1 .1 .1 .1 .1 .1 .1 .1 .1 .1 .1 .1 .1 .1 .1 .0 .now
+  facts = a .1 .1 .1 .1 .1 .1 .1 .1 .1 .1 .1 .1 .1 .1 .1 .1 .1 .1 .1 .1 .1 .0 .now
 
   abbrev b·facts : ℕ
-  b·facts = a .1 .1 .1 .1 .1 .1 .1 .1 .1 .1 .1 .1 .1 .1 .1 .1 .1 .1 .1 .1 .0 .ptr .0
+  b·facts = a .1 .1 .1 .1 .1 .1 .1 .1 .1 .1 .1 .1 .1 .1 .1 .1 .1 .1 .1 .1 .1 .0 .ptr .0
 
   abbrev o·facts : ℕ
-  o·facts = a .1 .1 .1 .1 .1 .1 .1 .1 .1 .1 .1 .1 .1 .1 .1 .1 .1 .1 .1 .1 .0 .ptr .1
+  o·facts = a .1 .1 .1 .1 .1 .1 .1 .1 .1 .1 .1 .1 .1 .1 .1 .1 .1 .1 .1 .1 .1 .0 .ptr .1
 
   abbrev γ·facts : GName
-  γ·facts = a .1 .1 .1 .1 .1 .1 .1 .1 .1 .1 .1 .1 .1 .1 .1 .1 .1 .1 .1 .1 .0 .name
+  γ·facts = a .1 .1 .1 .1 .1 .1 .1 .1 .1 .1 .1 .1 .1 .1 .1 .1 .1 .1 .1 .1 .1 .0 .name
 
   abbrev ref·facts : GName → List Fact → RefT (List Fact)
   ref·facts δ l = record { ptr = (b·facts, o·facts); name = δ; now = l }
@@ -684,16 +708,16 @@ module _ {M : Type 1} (𝓤 : URA M) (H : Heap 𝓤) (A : Atoms 𝓤) (W : Given
   s·facts = sliceVal (b·facts, o·facts) (length facts)
 
   abbrev counts : Counts
-  counts = a .1 .1 .1 .1 .1 .1 .1 .1 .1 .1 .1 .1 .1 .1 .1 .1 .1 .1 .1 .1 .1 .0 .now
+  counts = a .1 .1 .1 .1 .1 .1 .1 .1 .1 .1 .1 .1 .1 .1 .1 .1 .1 .1 .1 .1 .1 .1 .0 .now
 
   abbrev b·counts : ℕ
-  b·counts = a .1 .1 .1 .1 .1 .1 .1 .1 .1 .1 .1 .1 .1 .1 .1 .1 .1 .1 .1 .1 .1 .0 .ptr .0
+  b·counts = a .1 .1 .1 .1 .1 .1 .1 .1 .1 .1 .1 .1 .1 .1 .1 .1 .1 .1 .1 .1 .1 .1 .0 .ptr .0
 
   abbrev o·counts : ℕ
-  o·counts = a .1 .1 .1 .1 .1 .1 .1 .1 .1 .1 .1 .1 .1 .1 .1 .1 .1 .1 .1 .1 .1 .0 .ptr .1
+  o·counts = a .1 .1 .1 .1 .1 .1 .1 .1 .1 .1 .1 .1 .1 .1 .1 .1 .1 .1 .1 .1 .1 .1 .0 .ptr .1
 
   abbrev γ·counts : GName
-  γ·counts = a .1 .1 .1 .1 .1 .1 .1 .1 .1 .1 .1 .1 .1 .1 .1 .1 .1 .1 .1 .1 .1 .0 .name
+  γ·counts = a .1 .1 .1 .1 .1 .1 .1 .1 .1 .1 .1 .1 .1 .1 .1 .1 .1 .1 .1 .1 .1 .1 .0 .name
 
   abbrev ref·counts : GName → Counts → RefT Counts
   ref·counts δ l = record { ptr = (b·counts, o·counts); name = δ; now = l }
@@ -704,7 +728,7 @@ module _ {M : Type 1} (𝓤 : URA M) (H : Heap 𝓤) (A : Atoms 𝓤) (W : Given
   abbrev at : (List Val × (List Val × (List Val × (List Val × (List Val × (List Val ×
       (List Val × (List Val × (List Val × (List Val × (List Val × (List Val ×
       (List Val × (List Val × (List Val × (List Val × (List Val × (List Val ×
-      (List Val × (List Val × (List Val × (List Val × Unit {0}))))))))))))))))))))))
+      (List Val × (List Val × (List Val × (List Val × (List Val × Unit {0})))))))))))))))))))))))
   at = (
     s·theory ∷ [],
     (
@@ -725,7 +749,7 @@ module _ {M : Type 1} (𝓤 : URA M) (H : Heap 𝓤) (A : Atoms 𝓤) (W : Given
                     s·rulevars ∷ [],
                     (
                       s·patterns ∷ [],
-                      (s·vars ∷ [], (s·index ∷ [], (s·words ∷ [], (s·defs ∷ [], (s·rows ∷ [], (s·lists ∷ [], (s·kept ∷ [], (s·feet ∷ [], (s·cells ∷ [], (s·ids ∷ [], (s·facts ∷ [], (s·counts ∷ [], tt)))))))))))),
+                      (s·vars ∷ [], (s·index ∷ [], (s·words ∷ [], (s·defs ∷ [], (s·rows ∷ [], (s·lists ∷ [], (s·kept ∷ [], (s·feet ∷ [], (s·cells ∷ [], (s·ids ∷ [], (s·memo ∷ [], (s·facts ∷ [], (s·counts ∷ [], tt))))))))))))),
                     ),
                   ),
                 ),
@@ -747,18 +771,18 @@ module _ {M : Type 1} (𝓤 : URA M) (H : Heap 𝓤) (A : Atoms 𝓤) (W : Given
       (room·index : Room u32 (length index)) (room·words : Room u32 (length words)) (room·defs : Room u32 (length defs))
       (room·rows : Room u32 (length rows)) (room·lists : Room u32 (length lists)) (room·kept : Room u32 (length kept))
       (room·feet : Room u64 (length feet)) (room·cells : Room u32 (length cells)) (room·ids : Room u32 (length ids))
-      (room·facts : Room FactT.the-row (length facts)) (req : Between theory goals proof (theoryLists sorts symbols inputs rules rulevars patterns)
-      (working vars index words defs rows lists) kept feet cells ids s facts counts × (s .going ≡ true)) (C : Calls 𝓤 H) (Λ : Loops 𝓤 H)
-      (fm : FmC 𝓤 H (W .laws) C) (known·1 : Triple 𝓤 (C #advancing·form·form) (G1·C 𝓤 H A at-mem run))
-      (known·2 : Triple 𝓤 (C #advancing·advance·stored-of) (G2·C 𝓤 H A at-mem run))
-      (known·3 : Triple 𝓤 (C #running·run·index-of) (G3·C 𝓤 H A at-mem run))
+      (room·memo : Room u32 (length memo)) (room·facts : Room FactT.the-row (length facts))
+      (req : Between theory goals proof (theoryLists sorts symbols inputs rules rulevars patterns) (working vars index words defs rows lists) kept
+      feet cells ids memo s facts counts × (s .going ≡ true)) (C : Calls 𝓤 H) (Λ : Loops 𝓤 H) (fm : FmC 𝓤 H (W .laws) C)
+      (known·1 : Triple 𝓤 (C #advancing·form·form) (G1·C 𝓤 H A at-mem run)) (known·2 : Triple 𝓤 (C #advancing·advance·stored-of)
+      (G2·C 𝓤 H A at-mem run)) (known·3 : Triple 𝓤 (C #running·run·index-of) (G3·C 𝓤 H A at-mem run))
       (known·4 : Triple 𝓤 (C #advancing·advance·fact-of) (G4·C 𝓤 H A at-mem run)) (known·5 : Triple 𝓤 (C #facts·append-if) (G5·C 𝓤 H A at-mem run))
       (known·6 : Triple 𝓤 (C #advancing·advance·more-of) (G6·C 𝓤 H A at-mem run)) (known·7 : Triple 𝓤 (C #counts·add) (G7·C 𝓤 H A at-mem run))
       (known·8 : Triple 𝓤 (C #advancing·advance·next-of) (G8·C 𝓤 H A at-mem run)) where
     abbrev En : ℕ → ℕ → ℕ → ℕ → ℕ → ℕ → ℕ → ℕ → ℕ → ℕ → ℕ → ℕ → ℕ → ℕ → ℕ → ℕ → ℕ → ℕ → ℕ → ℕ → ℕ → ℕ → ℕ → ℕ → ℕ → ℕ → ℕ → ℕ → ℕ → ℕ → ℕ → ℕ → ℕ → ℕ
-        → ℕ → ℕ → ℕ → ℕ → ℕ → ℕ → ℕ → ℕ → ℕ → ℕ → ℕ → ℕ → ℕ → ℕ → ℕ → ℕ → ℕ → ℕ → Env 𝓤 H
+        → ℕ → ℕ → ℕ → ℕ → ℕ → ℕ → ℕ → ℕ → ℕ → ℕ → ℕ → ℕ → ℕ → ℕ → ℕ → ℕ → ℕ → ℕ → ℕ → ℕ → ℕ → Env 𝓤 H
     En l0 l1 l2 l3 l4 l5 l6 l7 l8 l9 l10 l11 l12 l13 l14 l15 l16 l17 l18 l19 l20 l21 l22 l23 l24 l25 l26 l27 l28 l29 l30 l31 l32 l33 l34 l35 l36 l37
-        l38 l39 l40 l41 l42 l43 l44 l45 l46 l47 l48 l49 l50 l51 = (RunL.mir, l0) ∷ ((sliceTy (tyRef (named 0) imm (tyInt w8))), l1)
+        l38 l39 l40 l41 l42 l43 l44 l45 l46 l47 l48 l49 l50 l51 l52 l53 l54 = (RunL.mir, l0) ∷ ((sliceTy (tyRef (named 0) imm (tyInt w8))), l1)
         ∷ ((sliceTy (tyRef (named 1) imm (tyInt w8))), l2) ∷ ((sliceTy (tyRef (named 2) imm (tyInt w8))), l3) ∷ (RunL.mir, l4)
         ∷ ((sliceTy (tyRef (named 3) imm (tyInt w32))), l5) ∷ ((sliceTy (tyRef (named 4) imm (tyInt w32))), l6)
         ∷ ((sliceTy (tyRef (named 5) imm (tyInt w32))), l7) ∷ ((sliceTy (tyRef (named 6) imm (tyInt w32))), l8)
@@ -768,36 +792,39 @@ module _ {M : Type 1} (𝓤 : URA M) (H : Heap 𝓤) (A : Atoms 𝓤) (W : Given
         ∷ ((sliceTy (tyRef (named 13) mut (tyInt w32))), l15) ∷ ((sliceTy (tyRef (named 14) mut (tyInt w32))), l16)
         ∷ ((sliceTy (tyRef (named 15) mut (tyInt w32))), l17) ∷ ((sliceTy (tyRef (named 16) mut (tyInt w64))), l18)
         ∷ ((sliceTy (tyRef (named 17) mut (tyInt w32))), l19) ∷ ((sliceTy (tyRef (named 18) mut (tyInt w32))), l20)
-        ∷ ((sliceTy (tyRef (named 19) mut (pointee (FactT.the-row .written)))), l21)
-        ∷ ((tyRef (named 20) mut (pointee (CountsT.the-row .written))), l22) ∷ (AdvanceL.mir, l23) ∷ ((tyRef erased mut (tyInt w32)), l24)
-        ∷ ((sliceTy (tyRef erased mut (tyInt w32))), l25) ∷ ((tyRef erased mut (tyInt w32)), l26)
-        ∷ ((sliceTy (tyRef erased mut (tyInt w32))), l27) ∷ ((tyRef erased mut (tyInt w32)), l28)
-        ∷ ((sliceTy (tyRef erased mut (tyInt w32))), l29) ∷ ((tyRef erased mut (tyInt w32)), l30)
-        ∷ ((sliceTy (tyRef erased mut (tyInt w32))), l31) ∷ ((tyRef erased mut (tyInt w32)), l32)
-        ∷ ((sliceTy (tyRef erased mut (tyInt w32))), l33) ∷ ((tyRef erased mut (tyInt w32)), l34)
-        ∷ ((sliceTy (tyRef erased mut (tyInt w32))), l35) ∷ ((tyRef erased mut (tyInt w32)), l36)
-        ∷ ((sliceTy (tyRef erased mut (tyInt w32))), l37) ∷ ((tyRef erased mut (tyInt w64)), l38)
-        ∷ ((sliceTy (tyRef erased mut (tyInt w64))), l39) ∷ ((tyRef erased mut (tyInt w32)), l40)
-        ∷ ((sliceTy (tyRef erased mut (tyInt w32))), l41) ∷ ((tyRef erased mut (tyInt w32)), l42)
-        ∷ ((sliceTy (tyRef erased mut (tyInt w32))), l43) ∷ (tyUnit, l44) ∷ ((tyRef erased mut (pointee (FactT.the-row .written))), l45)
-        ∷ ((sliceTy (tyRef erased mut (pointee (FactT.the-row .written)))), l46) ∷ (tyBool, l47) ∷ ((tyInt w64), l48) ∷ (FactL.mir, l49)
-        ∷ ((tyRef erased mut (pointee (CountsT.the-row .written))), l50) ∷ (CountsL.mir, l51) ∷ []
+        ∷ ((sliceTy (tyRef (named 19) mut (tyInt w32))), l21) ∷ ((sliceTy (tyRef (named 20) mut (pointee (FactT.the-row .written)))), l22)
+        ∷ ((tyRef (named 21) mut (pointee (CountsT.the-row .written))), l23) ∷ (AdvanceL.mir, l24) ∷ ((tyRef erased mut (tyInt w32)), l25)
+        ∷ ((sliceTy (tyRef erased mut (tyInt w32))), l26) ∷ ((tyRef erased mut (tyInt w32)), l27)
+        ∷ ((sliceTy (tyRef erased mut (tyInt w32))), l28) ∷ ((tyRef erased mut (tyInt w32)), l29)
+        ∷ ((sliceTy (tyRef erased mut (tyInt w32))), l30) ∷ ((tyRef erased mut (tyInt w32)), l31)
+        ∷ ((sliceTy (tyRef erased mut (tyInt w32))), l32) ∷ ((tyRef erased mut (tyInt w32)), l33)
+        ∷ ((sliceTy (tyRef erased mut (tyInt w32))), l34) ∷ ((tyRef erased mut (tyInt w32)), l35)
+        ∷ ((sliceTy (tyRef erased mut (tyInt w32))), l36) ∷ ((tyRef erased mut (tyInt w32)), l37)
+        ∷ ((sliceTy (tyRef erased mut (tyInt w32))), l38) ∷ ((tyRef erased mut (tyInt w64)), l39)
+        ∷ ((sliceTy (tyRef erased mut (tyInt w64))), l40) ∷ ((tyRef erased mut (tyInt w32)), l41)
+        ∷ ((sliceTy (tyRef erased mut (tyInt w32))), l42) ∷ ((tyRef erased mut (tyInt w32)), l43)
+        ∷ ((sliceTy (tyRef erased mut (tyInt w32))), l44) ∷ ((tyRef erased mut (tyInt w32)), l45)
+        ∷ ((sliceTy (tyRef erased mut (tyInt w32))), l46) ∷ (tyUnit, l47) ∷ ((tyRef erased mut (pointee (FactT.the-row .written))), l48)
+        ∷ ((sliceTy (tyRef erased mut (pointee (FactT.the-row .written)))), l49) ∷ (tyBool, l50) ∷ ((tyInt w64), l51) ∷ (FactL.mir, l52)
+        ∷ ((tyRef erased mut (pointee (CountsT.the-row .written))), l53) ∷ (CountsL.mir, l54) ∷ []
 
     seg·5 : (l0 : ℕ) (l1 : ℕ) (l2 : ℕ) (l3 : ℕ) (l4 : ℕ) (l5 : ℕ) (l6 : ℕ) (l7 : ℕ) (l8 : ℕ) (l9 : ℕ) (l10 : ℕ) (l11 : ℕ) (l12 : ℕ) (l13 : ℕ)
         (l14 : ℕ) (l15 : ℕ) (l16 : ℕ) (l17 : ℕ) (l18 : ℕ) (l19 : ℕ) (l20 : ℕ) (l21 : ℕ) (l22 : ℕ) (l23 : ℕ) (l24 : ℕ) (l25 : ℕ) (l26 : ℕ) (l27 : ℕ)
         (l28 : ℕ) (l29 : ℕ) (l30 : ℕ) (l31 : ℕ) (l32 : ℕ) (l33 : ℕ) (l34 : ℕ) (l35 : ℕ) (l36 : ℕ) (l37 : ℕ) (l38 : ℕ) (l39 : ℕ) (l40 : ℕ) (l41 : ℕ)
-        (l42 : ℕ) (l43 : ℕ) (l44 : ℕ) (l45 : ℕ) (l46 : ℕ) (l47 : ℕ) (l48 : ℕ) (l49 : ℕ) (l50 : ℕ) (l51 : ℕ) (v1 : Val) (r1 : Advance)
-        (ws1 : (Unit {0} × (Unit {0} × (Unit {0} × (Unit {0} × (Unit {0} × (Unit {0} ×
-        (Unit {0} × (Unit {0} × (Unit {0} × (Unit {0} × ((List ℕ) × ((List ℕ) ×
-        ((List ℕ) × ((List ℕ) × ((List ℕ) × ((List ℕ) × ((List ℕ) × ((List ℕ) × ((List ℕ) × ((List ℕ) × Unit {0})))))))))))))))))))))
+        (l42 : ℕ) (l43 : ℕ) (l44 : ℕ) (l45 : ℕ) (l46 : ℕ) (l47 : ℕ) (l48 : ℕ) (l49 : ℕ) (l50 : ℕ) (l51 : ℕ) (l52 : ℕ) (l53 : ℕ) (l54 : ℕ) (v1 : Val)
+        (r1 : Advance) (ws1 : (Unit {0} × (Unit {0} × (Unit {0} × (Unit {0} ×
+        (Unit {0} × (Unit {0} × (Unit {0} × (Unit {0} × (Unit {0} × (Unit {0} ×
+        ((List ℕ) × ((List ℕ) × ((List ℕ) × ((List ℕ) × ((List ℕ) × ((List ℕ) ×
+        ((List ℕ) × ((List ℕ) × ((List ℕ) × ((List ℕ) × ((List ℕ) × Unit {0}))))))))))))))))))))))
         (e1 : (g : Going theory goals proof (theoryLists sorts symbols inputs rules rulevars patterns) (working vars index words defs rows lists) kept
-        feet cells ids s) → Advanced theory goals proof (theoryLists sorts symbols inputs rules rulevars patterns)
+        feet cells ids memo s) → Advanced theory goals proof (theoryLists sorts symbols inputs rules rulevars patterns)
         (working vars index words defs rows lists) (working (ws1 .1 .1 .1 .1 .1 .1 .1 .1 .1 .1 .0) (ws1 .1 .1 .1 .1 .1 .1 .1 .1 .1 .1 .1 .0)
         (ws1 .1 .1 .1 .1 .1 .1 .1 .1 .1 .1 .1 .1 .0) (ws1 .1 .1 .1 .1 .1 .1 .1 .1 .1 .1 .1 .1 .1 .0)
         (ws1 .1 .1 .1 .1 .1 .1 .1 .1 .1 .1 .1 .1 .1 .1 .0) (ws1 .1 .1 .1 .1 .1 .1 .1 .1 .1 .1 .1 .1 .1 .1 .1 .0)) kept feet
         (ws1 .1 .1 .1 .1 .1 .1 .1 .1 .1 .1 .1 .1 .1 .1 .1 .1 .0) (ws1 .1 .1 .1 .1 .1 .1 .1 .1 .1 .1 .1 .1 .1 .1 .1 .1 .1 .0)
-        (ws1 .1 .1 .1 .1 .1 .1 .1 .1 .1 .1 .1 .1 .1 .1 .1 .1 .1 .1 .0) (ws1 .1 .1 .1 .1 .1 .1 .1 .1 .1 .1 .1 .1 .1 .1 .1 .1 .1 .1 .1 .0) s
-        (g .held .S) (r1 .next) (r1 .stored) (r1 .fact) (r1 .more)) (len·1·vars : length (ws1 .1 .1 .1 .1 .1 .1 .1 .1 .1 .1 .0) ≡ length vars)
+        (ws1 .1 .1 .1 .1 .1 .1 .1 .1 .1 .1 .1 .1 .1 .1 .1 .1 .1 .1 .0) (ws1 .1 .1 .1 .1 .1 .1 .1 .1 .1 .1 .1 .1 .1 .1 .1 .1 .1 .1 .1 .0)
+        (ws1 .1 .1 .1 .1 .1 .1 .1 .1 .1 .1 .1 .1 .1 .1 .1 .1 .1 .1 .1 .1 .0) s (g .held .S) (r1 .next) (r1 .stored) (r1 .fact) (r1 .more))
+        (len·1·vars : length (ws1 .1 .1 .1 .1 .1 .1 .1 .1 .1 .1 .0) ≡ length vars)
         (len·1·index : length (ws1 .1 .1 .1 .1 .1 .1 .1 .1 .1 .1 .1 .0) ≡ length index)
         (len·1·words : length (ws1 .1 .1 .1 .1 .1 .1 .1 .1 .1 .1 .1 .1 .0) ≡ length words)
         (len·1·defs : length (ws1 .1 .1 .1 .1 .1 .1 .1 .1 .1 .1 .1 .1 .1 .0) ≡ length defs)
@@ -806,10 +833,11 @@ module _ {M : Type 1} (𝓤 : URA M) (H : Heap 𝓤) (A : Atoms 𝓤) (W : Given
         (len·1·kept : length (ws1 .1 .1 .1 .1 .1 .1 .1 .1 .1 .1 .1 .1 .1 .1 .1 .1 .0) ≡ length kept)
         (len·1·feet : length (ws1 .1 .1 .1 .1 .1 .1 .1 .1 .1 .1 .1 .1 .1 .1 .1 .1 .1 .0) ≡ length feet)
         (len·1·cells : length (ws1 .1 .1 .1 .1 .1 .1 .1 .1 .1 .1 .1 .1 .1 .1 .1 .1 .1 .1 .0) ≡ length cells)
-        (len·1·ids : length (ws1 .1 .1 .1 .1 .1 .1 .1 .1 .1 .1 .1 .1 .1 .1 .1 .1 .1 .1 .1 .0) ≡ length ids) (is1 : Is AdvanceT.the-row r1 (v1 ∷ []))
-        (v2 : Val) (r2 : Bool) (ws2 : (Unit {0} × Unit {0})) (e2 : r2 ≡ r1 .stored) (is2 : Is bool r2 (v2 ∷ [])) (v3 : Val) (r3 : ℕ)
-        (ws3 : (Unit {0} × Unit {0})) (e3 : r3 ≡ s .sizes .facts) (is3 : Is usize r3 (v3 ∷ [])) (v4 : Val) (r4 : Fact) (ws4 : (Unit {0} × Unit {0}))
-        (e4 : r4 ≡ r1 .fact) (is4 : Is FactT.the-row r4 (v4 ∷ [])) (v5 : Val) (r5 : Unit {0})
+        (len·1·ids : length (ws1 .1 .1 .1 .1 .1 .1 .1 .1 .1 .1 .1 .1 .1 .1 .1 .1 .1 .1 .1 .0) ≡ length ids)
+        (len·1·memo : length (ws1 .1 .1 .1 .1 .1 .1 .1 .1 .1 .1 .1 .1 .1 .1 .1 .1 .1 .1 .1 .1 .0) ≡ length memo)
+        (is1 : Is AdvanceT.the-row r1 (v1 ∷ [])) (v2 : Val) (r2 : Bool) (ws2 : (Unit {0} × Unit {0})) (e2 : r2 ≡ r1 .stored)
+        (is2 : Is bool r2 (v2 ∷ [])) (v3 : Val) (r3 : ℕ) (ws3 : (Unit {0} × Unit {0})) (e3 : r3 ≡ s .sizes .facts) (is3 : Is usize r3 (v3 ∷ []))
+        (v4 : Val) (r4 : Fact) (ws4 : (Unit {0} × Unit {0})) (e4 : r4 ≡ r1 .fact) (is4 : Is FactT.the-row r4 (v4 ∷ [])) (v5 : Val) (r5 : Unit {0})
         (ws5 : ((List Fact) × (Unit {0} × (Unit {0} × (Unit {0} × Unit {0}))))) (e5 : (ws5 .0) ≡ appended r2 facts r3 r4)
         (len·5·facts : length (ws5 .0) ≡ length facts) (is5 : v5 ∷ [] ≡ vunit ∷ []) (v6 : Val) (r6 : Counts) (ws6 : (Unit {0} × Unit {0}))
         (e6 : r6 ≡ r1 .more) (is6 : Is CountsT.the-row r6 (v6 ∷ [])) (v7 : Val) (r7 : Unit {0}) (ws7 : (Counts × (Unit {0} × Unit {0})))
@@ -819,6 +847,7 @@ module _ {M : Type 1} (𝓤 : URA M) (H : Heap 𝓤) (A : Atoms 𝓤) (W : Given
         ∷ ‵ (fres γ·counts (CountsT.the-row .coded .code (ws7 .0)))
         ∷ ‵ (flft κ·facts q·facts)
         ∷ ‵ (finally FactT.the-row γ·facts (ws5 .0))
+        ∷ ‵ (flft κ·memo q·memo)
         ∷ ‵ (flft κ·ids q·ids)
         ∷ ‵ (flft κ·cells q·cells)
         ∷ ‵ (flft κ·feet q·feet)
@@ -838,6 +867,7 @@ module _ {M : Type 1} (𝓤 : URA M) (H : Heap 𝓤) (A : Atoms 𝓤) (W : Given
         ∷ ‵ (flft κ·proof q·proof)
         ∷ ‵ (flft κ·goals q·goals)
         ∷ ‵ (flft κ·theory q·theory)
+        ∷ ‵ (finally u32 γ·memo (ws1 .1 .1 .1 .1 .1 .1 .1 .1 .1 .1 .1 .1 .1 .1 .1 .1 .1 .1 .1 .1 .0))
         ∷ ‵ (finally u32 γ·ids (ws1 .1 .1 .1 .1 .1 .1 .1 .1 .1 .1 .1 .1 .1 .1 .1 .1 .1 .1 .1 .0))
         ∷ ‵ (finally u32 γ·cells (ws1 .1 .1 .1 .1 .1 .1 .1 .1 .1 .1 .1 .1 .1 .1 .1 .1 .1 .1 .0))
         ∷ ‵ (finally u64 γ·feet (ws1 .1 .1 .1 .1 .1 .1 .1 .1 .1 .1 .1 .1 .1 .1 .1 .1 .1 .0))
@@ -857,57 +887,98 @@ module _ {M : Type 1} (𝓤 : URA M) (H : Heap 𝓤) (A : Atoms 𝓤) (W : Given
         ∷ ‵ (ShrSlice (named 2) κ·proof u8 .own (ref·proof γ·proof proof) (s·proof ∷ []))
         ∷ ‵ (ShrSlice (named 1) κ·goals u8 .own (ref·goals γ·goals goals) (s·goals ∷ []))
         ∷ ‵ (ShrSlice (named 0) κ·theory u8 .own (ref·theory γ·theory theory) (s·theory ∷ []))
-        ∷ ‵ (fat fullShare CountsL.mir l51 0 v6)
-        ∷ ‵ (fdies CountsL.mir l51)
-        ∷ ‵ (fat fullShare (tyRef erased mut (pointee (CountsT.the-row .written))) l50 0 s·counts)
-        ∷ ‵ (fdies (tyRef erased mut (pointee (CountsT.the-row .written))) l50)
-        ∷ ‵ (fat fullShare FactL.mir l49 0 v4)
-        ∷ ‵ (fdies FactL.mir l49)
-        ∷ ‵ (fat fullShare (tyInt w64) l48 0 v3)
-        ∷ ‵ (fdies (tyInt w64) l48)
-        ∷ ‵ (fat fullShare tyBool l47 0 v2)
-        ∷ ‵ (fdies tyBool l47)
-        ∷ ‵ (fat fullShare (sliceTy (tyRef erased mut (pointee (FactT.the-row .written)))) l46 0 s·facts)
-        ∷ ‵ (fdies (sliceTy (tyRef erased mut (pointee (FactT.the-row .written)))) l46)
-        ∷ ‵ (fat fullShare (tyRef erased mut (pointee (FactT.the-row .written))) l45 0 (vptr b·facts o·facts))
-        ∷ ‵ (fdies (tyRef erased mut (pointee (FactT.the-row .written))) l45)
-        ∷ ‵ (fat fullShare tyUnit l44 0 v7)
-        ∷ ‵ (fdies tyUnit l44)
-        ∷ ‵ (fat fullShare (sliceTy (tyRef erased mut (tyInt w32))) l43 0 s·ids)
-        ∷ ‵ (fdies (sliceTy (tyRef erased mut (tyInt w32))) l43)
-        ∷ ‵ (fat fullShare (tyRef erased mut (tyInt w32)) l42 0 (vptr b·ids o·ids))
-        ∷ ‵ (fdies (tyRef erased mut (tyInt w32)) l42)
-        ∷ ‵ (fat fullShare (sliceTy (tyRef erased mut (tyInt w32))) l41 0 s·cells)
-        ∷ ‵ (fdies (sliceTy (tyRef erased mut (tyInt w32))) l41)
-        ∷ ‵ (fat fullShare (tyRef erased mut (tyInt w32)) l40 0 (vptr b·cells o·cells))
-        ∷ ‵ (fdies (tyRef erased mut (tyInt w32)) l40)
-        ∷ ‵ (fat fullShare (sliceTy (tyRef erased mut (tyInt w64))) l39 0 s·feet)
-        ∷ ‵ (fdies (sliceTy (tyRef erased mut (tyInt w64))) l39)
-        ∷ ‵ (fat fullShare (tyRef erased mut (tyInt w64)) l38 0 (vptr b·feet o·feet))
-        ∷ ‵ (fdies (tyRef erased mut (tyInt w64)) l38)
-        ∷ ‵ (fat fullShare (sliceTy (tyRef erased mut (tyInt w32))) l37 0 s·kept)
-        ∷ ‵ (fdies (sliceTy (tyRef erased mut (tyInt w32))) l37)
-        ∷ ‵ (fat fullShare (tyRef erased mut (tyInt w32)) l36 0 (vptr b·kept o·kept))
-        ∷ ‵ (fdies (tyRef erased mut (tyInt w32)) l36)
-        ∷ ‵ (fat fullShare (sliceTy (tyRef erased mut (tyInt w32))) l35 0 s·lists)
-        ∷ ‵ (fdies (sliceTy (tyRef erased mut (tyInt w32))) l35)
-        ∷ ‵ (fat fullShare (tyRef erased mut (tyInt w32)) l34 0 (vptr b·lists o·lists))
-        ∷ ‵ (fdies (tyRef erased mut (tyInt w32)) l34)
-        ∷ ‵ (fat fullShare (sliceTy (tyRef erased mut (tyInt w32))) l33 0 s·rows)
-        ∷ ‵ (fdies (sliceTy (tyRef erased mut (tyInt w32))) l33)
-        ∷ ‵ (fat fullShare (tyRef erased mut (tyInt w32)) l32 0 (vptr b·rows o·rows))
-        ∷ ‵ (fdies (tyRef erased mut (tyInt w32)) l32) ∷ [])
-        (frees (((tyRef erased mut (tyInt w32)), l32) ∷ ((sliceTy (tyRef erased mut (tyInt w32))), l33) ∷ ((tyRef erased mut (tyInt w32)), l34)
-        ∷ ((sliceTy (tyRef erased mut (tyInt w32))), l35) ∷ ((tyRef erased mut (tyInt w32)), l36) ∷ ((sliceTy (tyRef erased mut (tyInt w32))), l37)
-        ∷ ((tyRef erased mut (tyInt w64)), l38) ∷ ((sliceTy (tyRef erased mut (tyInt w64))), l39) ∷ ((tyRef erased mut (tyInt w32)), l40)
-        ∷ ((sliceTy (tyRef erased mut (tyInt w32))), l41) ∷ ((tyRef erased mut (tyInt w32)), l42) ∷ ((sliceTy (tyRef erased mut (tyInt w32))), l43)
-        ∷ (tyUnit, l44) ∷ ((tyRef erased mut (pointee (FactT.the-row .written))), l45)
-        ∷ ((sliceTy (tyRef erased mut (pointee (FactT.the-row .written)))), l46) ∷ (tyBool, l47) ∷ ((tyInt w64), l48) ∷ (FactL.mir, l49)
-        ∷ ((tyRef erased mut (pointee (CountsT.the-row .written))), l50) ∷ (CountsL.mir, l51) ∷ []) (prop (Post v8)))
+        ∷ ‵ (fat fullShare CountsL.mir l54 0 v6)
+        ∷ ‵ (fdies CountsL.mir l54)
+        ∷ ‵ (fat fullShare (tyRef erased mut (pointee (CountsT.the-row .written))) l53 0 s·counts)
+        ∷ ‵ (fdies (tyRef erased mut (pointee (CountsT.the-row .written))) l53)
+        ∷ ‵ (fat fullShare FactL.mir l52 0 v4)
+        ∷ ‵ (fdies FactL.mir l52)
+        ∷ ‵ (fat fullShare (tyInt w64) l51 0 v3)
+        ∷ ‵ (fdies (tyInt w64) l51)
+        ∷ ‵ (fat fullShare tyBool l50 0 v2)
+        ∷ ‵ (fdies tyBool l50)
+        ∷ ‵ (fat fullShare (sliceTy (tyRef erased mut (pointee (FactT.the-row .written)))) l49 0 s·facts)
+        ∷ ‵ (fdies (sliceTy (tyRef erased mut (pointee (FactT.the-row .written)))) l49)
+        ∷ ‵ (fat fullShare (tyRef erased mut (pointee (FactT.the-row .written))) l48 0 (vptr b·facts o·facts))
+        ∷ ‵ (fdies (tyRef erased mut (pointee (FactT.the-row .written))) l48)
+        ∷ ‵ (fat fullShare tyUnit l47 0 v7)
+        ∷ ‵ (fdies tyUnit l47)
+        ∷ ‵ (fat fullShare (sliceTy (tyRef erased mut (tyInt w32))) l46 0 s·memo)
+        ∷ ‵ (fdies (sliceTy (tyRef erased mut (tyInt w32))) l46)
+        ∷ ‵ (fat fullShare (tyRef erased mut (tyInt w32)) l45 0 (vptr b·memo o·memo))
+        ∷ ‵ (fdies (tyRef erased mut (tyInt w32)) l45)
+        ∷ ‵ (fat fullShare (sliceTy (tyRef erased mut (tyInt w32))) l44 0 s·ids)
+        ∷ ‵ (fdies (sliceTy (tyRef erased mut (tyInt w32))) l44)
+        ∷ ‵ (fat fullShare (tyRef erased mut (tyInt w32)) l43 0 (vptr b·ids o·ids))
+        ∷ ‵ (fdies (tyRef erased mut (tyInt w32)) l43)
+        ∷ ‵ (fat fullShare (sliceTy (tyRef erased mut (tyInt w32))) l42 0 s·cells)
+        ∷ ‵ (fdies (sliceTy (tyRef erased mut (tyInt w32))) l42)
+        ∷ ‵ (fat fullShare (tyRef erased mut (tyInt w32)) l41 0 (vptr b·cells o·cells))
+        ∷ ‵ (fdies (tyRef erased mut (tyInt w32)) l41)
+        ∷ ‵ (fat fullShare (sliceTy (tyRef erased mut (tyInt w64))) l40 0 s·feet)
+        ∷ ‵ (fdies (sliceTy (tyRef erased mut (tyInt w64))) l40)
+        ∷ ‵ (fat fullShare (tyRef erased mut (tyInt w64)) l39 0 (vptr b·feet o·feet))
+        ∷ ‵ (fdies (tyRef erased mut (tyInt w64)) l39)
+        ∷ ‵ (fat fullShare (sliceTy (tyRef erased mut (tyInt w32))) l38 0 s·kept)
+        ∷ ‵ (fdies (sliceTy (tyRef erased mut (tyInt w32))) l38)
+        ∷ ‵ (fat fullShare (tyRef erased mut (tyInt w32)) l37 0 (vptr b·kept o·kept))
+        ∷ ‵ (fdies (tyRef erased mut (tyInt w32)) l37)
+        ∷ ‵ (fat fullShare (sliceTy (tyRef erased mut (tyInt w32))) l36 0 s·lists)
+        ∷ ‵ (fdies (sliceTy (tyRef erased mut (tyInt w32))) l36)
+        ∷ ‵ (fat fullShare (tyRef erased mut (tyInt w32)) l35 0 (vptr b·lists o·lists))
+        ∷ ‵ (fdies (tyRef erased mut (tyInt w32)) l35)
+        ∷ ‵ (fat fullShare (sliceTy (tyRef erased mut (tyInt w32))) l34 0 s·rows)
+        ∷ ‵ (fdies (sliceTy (tyRef erased mut (tyInt w32))) l34)
+        ∷ ‵ (fat fullShare (tyRef erased mut (tyInt w32)) l33 0 (vptr b·rows o·rows))
+        ∷ ‵ (fdies (tyRef erased mut (tyInt w32)) l33)
+        ∷ ‵ (fat fullShare (sliceTy (tyRef erased mut (tyInt w32))) l32 0 s·defs)
+        ∷ ‵ (fdies (sliceTy (tyRef erased mut (tyInt w32))) l32)
+        ∷ ‵ (fat fullShare (tyRef erased mut (tyInt w32)) l31 0 (vptr b·defs o·defs))
+        ∷ ‵ (fdies (tyRef erased mut (tyInt w32)) l31)
+        ∷ ‵ (fat fullShare (sliceTy (tyRef erased mut (tyInt w32))) l30 0 s·words)
+        ∷ ‵ (fdies (sliceTy (tyRef erased mut (tyInt w32))) l30)
+        ∷ ‵ (fat fullShare (tyRef erased mut (tyInt w32)) l29 0 (vptr b·words o·words))
+        ∷ ‵ (fdies (tyRef erased mut (tyInt w32)) l29)
+        ∷ ‵ (fat fullShare (sliceTy (tyRef erased mut (tyInt w32))) l28 0 s·index)
+        ∷ ‵ (fdies (sliceTy (tyRef erased mut (tyInt w32))) l28) ∷ [])
+        (frees (((sliceTy (tyRef erased mut (tyInt w32))), l28) ∷ ((tyRef erased mut (tyInt w32)), l29)
+        ∷ ((sliceTy (tyRef erased mut (tyInt w32))), l30) ∷ ((tyRef erased mut (tyInt w32)), l31) ∷ ((sliceTy (tyRef erased mut (tyInt w32))), l32)
+        ∷ ((tyRef erased mut (tyInt w32)), l33) ∷ ((sliceTy (tyRef erased mut (tyInt w32))), l34) ∷ ((tyRef erased mut (tyInt w32)), l35)
+        ∷ ((sliceTy (tyRef erased mut (tyInt w32))), l36) ∷ ((tyRef erased mut (tyInt w32)), l37) ∷ ((sliceTy (tyRef erased mut (tyInt w32))), l38)
+        ∷ ((tyRef erased mut (tyInt w64)), l39) ∷ ((sliceTy (tyRef erased mut (tyInt w64))), l40) ∷ ((tyRef erased mut (tyInt w32)), l41)
+        ∷ ((sliceTy (tyRef erased mut (tyInt w32))), l42) ∷ ((tyRef erased mut (tyInt w32)), l43) ∷ ((sliceTy (tyRef erased mut (tyInt w32))), l44)
+        ∷ ((tyRef erased mut (tyInt w32)), l45) ∷ ((sliceTy (tyRef erased mut (tyInt w32))), l46) ∷ (tyUnit, l47)
+        ∷ ((tyRef erased mut (pointee (FactT.the-row .written))), l48) ∷ ((sliceTy (tyRef erased mut (pointee (FactT.the-row .written)))), l49)
+        ∷ (tyBool, l50) ∷ ((tyInt w64), l51) ∷ (FactL.mir, l52) ∷ ((tyRef erased mut (pointee (CountsT.the-row .written))), l53) ∷ (CountsL.mir, l54)
+        ∷ []) (prop (Post v8)))
     seg·5 l0 l1 l2 l3 l4 l5 l6 l7 l8 l9 l10 l11 l12 l13 l14 l15 l16 l17 l18 l19 l20 l21 l22 l23 l24 l25 l26 l27 l28 l29 l30 l31 l32 l33 l34 l35 l36
-        l37 l38 l39 l40 l41 l42 l43 l44 l45 l46 l47 l48 l49 l50 l51 v1 r1 ws1 e1 len·1·vars len·1·index len·1·words len·1·defs len·1·rows len·1·lists
-        len·1·kept len·1·feet len·1·cells len·1·ids is1 v2 r2 ws2 e2 is2 v3 r3 ws3 e3 is3 v4 r4 ws4 e4 is4 v5 r5 ws5 e5 len·5·facts is5 v6 r6 ws6
-        e6 is6 v7 r7 ws7 e7 is7 v8 r8 ws8 e8 is8 =
+        l37 l38 l39 l40 l41 l42 l43 l44 l45 l46 l47 l48 l49 l50 l51 l52 l53 l54 v1 r1 ws1 e1 len·1·vars len·1·index len·1·words len·1·defs len·1·rows
+        len·1·lists len·1·kept len·1·feet len·1·cells len·1·ids len·1·memo is1 v2 r2 ws2 e2 is2 v3 r3 ws3 e3 is3 v4 r4 ws4 e4 is4 v5 r5 ws5 e5
+        len·5·facts is5 v6 r6 ws6 e6 is6 v7 r7 ws7 e7 is7 v8 r8 ws8 e8 is8 =
+        forget ! 96 refl $
+        move ! (96 ∷ 97 ∷ []) $
+        free1 ! $
+        forget ! 94 refl $
+        move ! (94 ∷ 95 ∷ []) $
+        free1 ! $
+        forget ! 92 refl $
+        move ! (92 ∷ 93 ∷ []) $
+        free1 ! $
+        forget ! 90 refl $
+        move ! (90 ∷ 91 ∷ []) $
+        free1 ! $
+        forget ! 88 refl $
+        move ! (88 ∷ 89 ∷ []) $
+        free1 ! $
+        forget ! 86 refl $
+        move ! (86 ∷ 87 ∷ []) $
+        free1 ! $
+        forget ! 84 refl $
+        move ! (84 ∷ 85 ∷ []) $
+        free1 ! $
+        forget ! 82 refl $
+        move ! (82 ∷ 83 ∷ []) $
+        free1 ! $
         forget ! 80 refl $
         move ! (80 ∷ 81 ∷ []) $
         free1 ! $
@@ -965,12 +1036,9 @@ module _ {M : Type 1} (𝓤 : URA M) (H : Heap 𝓤) (A : Atoms 𝓤) (W : Given
         forget ! 44 refl $
         move ! (44 ∷ 45 ∷ []) $
         free1 ! $
-        forget ! 42 refl $
-        move ! (42 ∷ 43 ∷ []) $
-        free1 ! $
         free0 ! $
-        keep ! (22 ∷ 21 ∷ 20 ∷ 19 ∷ 18 ∷ 17 ∷ 16 ∷ 15 ∷ 14 ∷ 13 ∷ 12 ∷ 11 ∷ 10 ∷ 9 ∷ 8 ∷ 7 ∷ 6 ∷ 5 ∷ 4 ∷ 2 ∷ 0 ∷ 41 ∷ 40 ∷ 39 ∷ 38 ∷ 37 ∷ 36 ∷ 35 ∷ 34
-        ∷ 33 ∷ 32 ∷ 31 ∷ 30 ∷ 29 ∷ 28 ∷ 27 ∷ 26 ∷ 25 ∷ 24 ∷ 23 ∷ 3 ∷ 1 ∷ []) $
+        keep ! (23 ∷ 22 ∷ 21 ∷ 20 ∷ 19 ∷ 18 ∷ 17 ∷ 16 ∷ 15 ∷ 14 ∷ 13 ∷ 12 ∷ 11 ∷ 10 ∷ 9 ∷ 8 ∷ 7 ∷ 6 ∷ 5 ∷ 4 ∷ 2 ∷ 0 ∷ 43 ∷ 42 ∷ 41 ∷ 40 ∷ 39 ∷ 38 ∷ 37
+        ∷ 36 ∷ 35 ∷ 34 ∷ 33 ∷ 32 ∷ 31 ∷ 30 ∷ 29 ∷ 28 ∷ 27 ∷ 26 ∷ 25 ∷ 24 ∷ 3 ∷ 1 ∷ []) $
         suffices ! _ (ends-at 𝓤 H A self·fn.ended stayed (self·fn.clauses 𝓤 H A at-mem run) W ((κs, qs, tt, a, at), tt) v8 r8 (
           tt,
           (
@@ -1005,7 +1073,13 @@ module _ {M : Type 1} (𝓤 : URA M) (H : Heap 𝓤) (A : Atoms 𝓤) (W : Given
                                         (ws1 .1 .1 .1 .1 .1 .1 .1 .1 .1 .1 .1 .1 .1 .1 .1 .0),
                                         (
                                           (ws1 .1 .1 .1 .1 .1 .1 .1 .1 .1 .1 .1 .1 .1 .1 .1 .1 .0),
-                                          ((ws1 .1 .1 .1 .1 .1 .1 .1 .1 .1 .1 .1 .1 .1 .1 .1 .1 .1 .0), ((ws1 .1 .1 .1 .1 .1 .1 .1 .1 .1 .1 .1 .1 .1 .1 .1 .1 .1 .1 .0), ((ws1 .1 .1 .1 .1 .1 .1 .1 .1 .1 .1 .1 .1 .1 .1 .1 .1 .1 .1 .1 .0), ((ws5 .0), ((ws7 .0), tt))))),
+                                          (
+                                            (ws1 .1 .1 .1 .1 .1 .1 .1 .1 .1 .1 .1 .1 .1 .1 .1 .1 .1 .0),
+                                            (
+                                              (ws1 .1 .1 .1 .1 .1 .1 .1 .1 .1 .1 .1 .1 .1 .1 .1 .1 .1 .1 .0),
+                                              ((ws1 .1 .1 .1 .1 .1 .1 .1 .1 .1 .1 .1 .1 .1 .1 .1 .1 .1 .1 .1 .0), ((ws1 .1 .1 .1 .1 .1 .1 .1 .1 .1 .1 .1 .1 .1 .1 .1 .1 .1 .1 .1 .1 .0), ((ws5 .0), ((ws7 .0), tt)))),
+                                            ),
+                                          ),
                                         ),
                                       ),
                                     ),
@@ -1044,7 +1118,19 @@ module _ {M : Type 1} (𝓤 : URA M) (H : Heap 𝓤) (A : Atoms 𝓤) (W : Given
                             tt,
                             (
                               len·1·vars ∙ (refl),
-                              (len·1·index ∙ (refl), (len·1·words ∙ (refl), (len·1·defs ∙ (refl), (len·1·rows ∙ (refl), (len·1·lists ∙ (refl), (len·1·kept ∙ (refl), (len·1·feet ∙ (refl), (len·1·cells ∙ (refl), (len·1·ids ∙ (refl), (len·5·facts ∙ (refl), (tt, tt))))))))))),
+                              (
+                                len·1·index ∙ (refl),
+                                (
+                                  len·1·words ∙ (refl),
+                                  (
+                                    len·1·defs ∙ (refl),
+                                    (
+                                      len·1·rows ∙ (refl),
+                                      (len·1·lists ∙ (refl), (len·1·kept ∙ (refl), (len·1·feet ∙ (refl), (len·1·cells ∙ (refl), (len·1·ids ∙ (refl), (len·1·memo ∙ (refl), (len·5·facts ∙ (refl), (tt, tt)))))))),
+                                    ),
+                                  ),
+                                ),
+                              ),
                             ),
                           ),
                         ),
@@ -1058,6 +1144,8 @@ module _ {M : Type 1} (𝓤 : URA M) (H : Heap 𝓤) (A : Atoms 𝓤) (W : Given
         )) $
         says ! (turned req (e1 (going-of req)) e2 e3 e4 e5 e6 e7 e8) $
         nothing ! $
+        move ! (22 ∷ 0 ∷ []) $
+        join ! $
         move ! (21 ∷ 0 ∷ []) $
         join ! $
         move ! (20 ∷ 0 ∷ []) $
@@ -1102,6 +1190,8 @@ module _ {M : Type 1} (𝓤 : URA M) (H : Heap 𝓤) (A : Atoms 𝓤) (W : Given
         join ! $
         frame ! $
         nothing ! $
+        move ! (22 ∷ 0 ∷ []) $
+        fjoin ! $
         move ! (21 ∷ 0 ∷ []) $
         fjoin ! $
         move ! (20 ∷ 0 ∷ []) $
@@ -1151,18 +1241,20 @@ module _ {M : Type 1} (𝓤 : URA M) (H : Heap 𝓤) (A : Atoms 𝓤) (W : Given
     seg·4 : (l0 : ℕ) (l1 : ℕ) (l2 : ℕ) (l3 : ℕ) (l4 : ℕ) (l5 : ℕ) (l6 : ℕ) (l7 : ℕ) (l8 : ℕ) (l9 : ℕ) (l10 : ℕ) (l11 : ℕ) (l12 : ℕ) (l13 : ℕ)
         (l14 : ℕ) (l15 : ℕ) (l16 : ℕ) (l17 : ℕ) (l18 : ℕ) (l19 : ℕ) (l20 : ℕ) (l21 : ℕ) (l22 : ℕ) (l23 : ℕ) (l24 : ℕ) (l25 : ℕ) (l26 : ℕ) (l27 : ℕ)
         (l28 : ℕ) (l29 : ℕ) (l30 : ℕ) (l31 : ℕ) (l32 : ℕ) (l33 : ℕ) (l34 : ℕ) (l35 : ℕ) (l36 : ℕ) (l37 : ℕ) (l38 : ℕ) (l39 : ℕ) (l40 : ℕ) (l41 : ℕ)
-        (l42 : ℕ) (l43 : ℕ) (l44 : ℕ) (l45 : ℕ) (l46 : ℕ) (l47 : ℕ) (l48 : ℕ) (l49 : ℕ) (l50 : ℕ) (l51 : ℕ) (v1 : Val) (r1 : Advance)
-        (ws1 : (Unit {0} × (Unit {0} × (Unit {0} × (Unit {0} × (Unit {0} × (Unit {0} ×
-        (Unit {0} × (Unit {0} × (Unit {0} × (Unit {0} × ((List ℕ) × ((List ℕ) ×
-        ((List ℕ) × ((List ℕ) × ((List ℕ) × ((List ℕ) × ((List ℕ) × ((List ℕ) × ((List ℕ) × ((List ℕ) × Unit {0})))))))))))))))))))))
+        (l42 : ℕ) (l43 : ℕ) (l44 : ℕ) (l45 : ℕ) (l46 : ℕ) (l47 : ℕ) (l48 : ℕ) (l49 : ℕ) (l50 : ℕ) (l51 : ℕ) (l52 : ℕ) (l53 : ℕ) (l54 : ℕ) (v1 : Val)
+        (r1 : Advance) (ws1 : (Unit {0} × (Unit {0} × (Unit {0} × (Unit {0} ×
+        (Unit {0} × (Unit {0} × (Unit {0} × (Unit {0} × (Unit {0} × (Unit {0} ×
+        ((List ℕ) × ((List ℕ) × ((List ℕ) × ((List ℕ) × ((List ℕ) × ((List ℕ) ×
+        ((List ℕ) × ((List ℕ) × ((List ℕ) × ((List ℕ) × ((List ℕ) × Unit {0}))))))))))))))))))))))
         (e1 : (g : Going theory goals proof (theoryLists sorts symbols inputs rules rulevars patterns) (working vars index words defs rows lists) kept
-        feet cells ids s) → Advanced theory goals proof (theoryLists sorts symbols inputs rules rulevars patterns)
+        feet cells ids memo s) → Advanced theory goals proof (theoryLists sorts symbols inputs rules rulevars patterns)
         (working vars index words defs rows lists) (working (ws1 .1 .1 .1 .1 .1 .1 .1 .1 .1 .1 .0) (ws1 .1 .1 .1 .1 .1 .1 .1 .1 .1 .1 .1 .0)
         (ws1 .1 .1 .1 .1 .1 .1 .1 .1 .1 .1 .1 .1 .0) (ws1 .1 .1 .1 .1 .1 .1 .1 .1 .1 .1 .1 .1 .1 .0)
         (ws1 .1 .1 .1 .1 .1 .1 .1 .1 .1 .1 .1 .1 .1 .1 .0) (ws1 .1 .1 .1 .1 .1 .1 .1 .1 .1 .1 .1 .1 .1 .1 .1 .0)) kept feet
         (ws1 .1 .1 .1 .1 .1 .1 .1 .1 .1 .1 .1 .1 .1 .1 .1 .1 .0) (ws1 .1 .1 .1 .1 .1 .1 .1 .1 .1 .1 .1 .1 .1 .1 .1 .1 .1 .0)
-        (ws1 .1 .1 .1 .1 .1 .1 .1 .1 .1 .1 .1 .1 .1 .1 .1 .1 .1 .1 .0) (ws1 .1 .1 .1 .1 .1 .1 .1 .1 .1 .1 .1 .1 .1 .1 .1 .1 .1 .1 .1 .0) s
-        (g .held .S) (r1 .next) (r1 .stored) (r1 .fact) (r1 .more)) (len·1·vars : length (ws1 .1 .1 .1 .1 .1 .1 .1 .1 .1 .1 .0) ≡ length vars)
+        (ws1 .1 .1 .1 .1 .1 .1 .1 .1 .1 .1 .1 .1 .1 .1 .1 .1 .1 .1 .0) (ws1 .1 .1 .1 .1 .1 .1 .1 .1 .1 .1 .1 .1 .1 .1 .1 .1 .1 .1 .1 .0)
+        (ws1 .1 .1 .1 .1 .1 .1 .1 .1 .1 .1 .1 .1 .1 .1 .1 .1 .1 .1 .1 .1 .0) s (g .held .S) (r1 .next) (r1 .stored) (r1 .fact) (r1 .more))
+        (len·1·vars : length (ws1 .1 .1 .1 .1 .1 .1 .1 .1 .1 .1 .0) ≡ length vars)
         (len·1·index : length (ws1 .1 .1 .1 .1 .1 .1 .1 .1 .1 .1 .1 .0) ≡ length index)
         (len·1·words : length (ws1 .1 .1 .1 .1 .1 .1 .1 .1 .1 .1 .1 .1 .0) ≡ length words)
         (len·1·defs : length (ws1 .1 .1 .1 .1 .1 .1 .1 .1 .1 .1 .1 .1 .1 .0) ≡ length defs)
@@ -1171,10 +1263,11 @@ module _ {M : Type 1} (𝓤 : URA M) (H : Heap 𝓤) (A : Atoms 𝓤) (W : Given
         (len·1·kept : length (ws1 .1 .1 .1 .1 .1 .1 .1 .1 .1 .1 .1 .1 .1 .1 .1 .1 .0) ≡ length kept)
         (len·1·feet : length (ws1 .1 .1 .1 .1 .1 .1 .1 .1 .1 .1 .1 .1 .1 .1 .1 .1 .1 .0) ≡ length feet)
         (len·1·cells : length (ws1 .1 .1 .1 .1 .1 .1 .1 .1 .1 .1 .1 .1 .1 .1 .1 .1 .1 .1 .0) ≡ length cells)
-        (len·1·ids : length (ws1 .1 .1 .1 .1 .1 .1 .1 .1 .1 .1 .1 .1 .1 .1 .1 .1 .1 .1 .1 .0) ≡ length ids) (is1 : Is AdvanceT.the-row r1 (v1 ∷ []))
-        (v2 : Val) (r2 : Bool) (ws2 : (Unit {0} × Unit {0})) (e2 : r2 ≡ r1 .stored) (is2 : Is bool r2 (v2 ∷ [])) (v3 : Val) (r3 : ℕ)
-        (ws3 : (Unit {0} × Unit {0})) (e3 : r3 ≡ s .sizes .facts) (is3 : Is usize r3 (v3 ∷ [])) (v4 : Val) (r4 : Fact) (ws4 : (Unit {0} × Unit {0}))
-        (e4 : r4 ≡ r1 .fact) (is4 : Is FactT.the-row r4 (v4 ∷ [])) (v5 : Val) (r5 : Unit {0})
+        (len·1·ids : length (ws1 .1 .1 .1 .1 .1 .1 .1 .1 .1 .1 .1 .1 .1 .1 .1 .1 .1 .1 .1 .0) ≡ length ids)
+        (len·1·memo : length (ws1 .1 .1 .1 .1 .1 .1 .1 .1 .1 .1 .1 .1 .1 .1 .1 .1 .1 .1 .1 .1 .0) ≡ length memo)
+        (is1 : Is AdvanceT.the-row r1 (v1 ∷ [])) (v2 : Val) (r2 : Bool) (ws2 : (Unit {0} × Unit {0})) (e2 : r2 ≡ r1 .stored)
+        (is2 : Is bool r2 (v2 ∷ [])) (v3 : Val) (r3 : ℕ) (ws3 : (Unit {0} × Unit {0})) (e3 : r3 ≡ s .sizes .facts) (is3 : Is usize r3 (v3 ∷ []))
+        (v4 : Val) (r4 : Fact) (ws4 : (Unit {0} × Unit {0})) (e4 : r4 ≡ r1 .fact) (is4 : Is FactT.the-row r4 (v4 ∷ [])) (v5 : Val) (r5 : Unit {0})
         (ws5 : ((List Fact) × (Unit {0} × (Unit {0} × (Unit {0} × Unit {0}))))) (e5 : (ws5 .0) ≡ appended r2 facts r3 r4)
         (len·5·facts : length (ws5 .0) ≡ length facts) (is5 : v5 ∷ [] ≡ vunit ∷ []) (v6 : Val) (r6 : Counts) (ws6 : (Unit {0} × Unit {0}))
         (e6 : r6 ≡ r1 .more) (is6 : Is CountsT.the-row r6 (v6 ∷ [])) (v7 : Val) (r7 : Unit {0}) (ws7 : (Counts × (Unit {0} × Unit {0})))
@@ -1184,6 +1277,7 @@ module _ {M : Type 1} (𝓤 : URA M) (H : Heap 𝓤) (A : Atoms 𝓤) (W : Given
         ∷ ‵ (fres γ·counts (CountsT.the-row .coded .code (ws7 .0)))
         ∷ ‵ (flft κ·facts q·facts)
         ∷ ‵ (finally FactT.the-row γ·facts (ws5 .0))
+        ∷ ‵ (flft κ·memo q·memo)
         ∷ ‵ (flft κ·ids q·ids)
         ∷ ‵ (flft κ·cells q·cells)
         ∷ ‵ (flft κ·feet q·feet)
@@ -1203,6 +1297,7 @@ module _ {M : Type 1} (𝓤 : URA M) (H : Heap 𝓤) (A : Atoms 𝓤) (W : Given
         ∷ ‵ (flft κ·proof q·proof)
         ∷ ‵ (flft κ·goals q·goals)
         ∷ ‵ (flft κ·theory q·theory)
+        ∷ ‵ (finally u32 γ·memo (ws1 .1 .1 .1 .1 .1 .1 .1 .1 .1 .1 .1 .1 .1 .1 .1 .1 .1 .1 .1 .1 .0))
         ∷ ‵ (finally u32 γ·ids (ws1 .1 .1 .1 .1 .1 .1 .1 .1 .1 .1 .1 .1 .1 .1 .1 .1 .1 .1 .1 .0))
         ∷ ‵ (finally u32 γ·cells (ws1 .1 .1 .1 .1 .1 .1 .1 .1 .1 .1 .1 .1 .1 .1 .1 .1 .1 .1 .0))
         ∷ ‵ (finally u64 γ·feet (ws1 .1 .1 .1 .1 .1 .1 .1 .1 .1 .1 .1 .1 .1 .1 .1 .1 .1 .0))
@@ -1222,68 +1317,74 @@ module _ {M : Type 1} (𝓤 : URA M) (H : Heap 𝓤) (A : Atoms 𝓤) (W : Given
         ∷ ‵ (ShrSlice (named 2) κ·proof u8 .own (ref·proof γ·proof proof) (s·proof ∷ []))
         ∷ ‵ (ShrSlice (named 1) κ·goals u8 .own (ref·goals γ·goals goals) (s·goals ∷ []))
         ∷ ‵ (ShrSlice (named 0) κ·theory u8 .own (ref·theory γ·theory theory) (s·theory ∷ []))
-        ∷ ‵ (fat fullShare CountsL.mir l51 0 v6)
-        ∷ ‵ (fdies CountsL.mir l51)
-        ∷ ‵ (fat fullShare (tyRef erased mut (pointee (CountsT.the-row .written))) l50 0 s·counts)
-        ∷ ‵ (fdies (tyRef erased mut (pointee (CountsT.the-row .written))) l50)
-        ∷ ‵ (fat fullShare FactL.mir l49 0 v4)
-        ∷ ‵ (fdies FactL.mir l49)
-        ∷ ‵ (fat fullShare (tyInt w64) l48 0 v3)
-        ∷ ‵ (fdies (tyInt w64) l48)
-        ∷ ‵ (fat fullShare tyBool l47 0 v2)
-        ∷ ‵ (fdies tyBool l47)
-        ∷ ‵ (fat fullShare (sliceTy (tyRef erased mut (pointee (FactT.the-row .written)))) l46 0 s·facts)
-        ∷ ‵ (fdies (sliceTy (tyRef erased mut (pointee (FactT.the-row .written)))) l46)
-        ∷ ‵ (fat fullShare (tyRef erased mut (pointee (FactT.the-row .written))) l45 0 (vptr b·facts o·facts))
-        ∷ ‵ (fdies (tyRef erased mut (pointee (FactT.the-row .written))) l45)
-        ∷ ‵ (fat fullShare tyUnit l44 0 v7)
-        ∷ ‵ (fdies tyUnit l44)
-        ∷ ‵ (fat fullShare (sliceTy (tyRef erased mut (tyInt w32))) l43 0 s·ids)
-        ∷ ‵ (fdies (sliceTy (tyRef erased mut (tyInt w32))) l43)
-        ∷ ‵ (fat fullShare (tyRef erased mut (tyInt w32)) l42 0 (vptr b·ids o·ids))
-        ∷ ‵ (fdies (tyRef erased mut (tyInt w32)) l42)
-        ∷ ‵ (fat fullShare (sliceTy (tyRef erased mut (tyInt w32))) l41 0 s·cells)
-        ∷ ‵ (fdies (sliceTy (tyRef erased mut (tyInt w32))) l41)
-        ∷ ‵ (fat fullShare (tyRef erased mut (tyInt w32)) l40 0 (vptr b·cells o·cells))
-        ∷ ‵ (fdies (tyRef erased mut (tyInt w32)) l40)
-        ∷ ‵ (fat fullShare (sliceTy (tyRef erased mut (tyInt w64))) l39 0 s·feet)
-        ∷ ‵ (fdies (sliceTy (tyRef erased mut (tyInt w64))) l39)
-        ∷ ‵ (fat fullShare (tyRef erased mut (tyInt w64)) l38 0 (vptr b·feet o·feet))
-        ∷ ‵ (fdies (tyRef erased mut (tyInt w64)) l38)
-        ∷ ‵ (fat fullShare (sliceTy (tyRef erased mut (tyInt w32))) l37 0 s·kept)
-        ∷ ‵ (fdies (sliceTy (tyRef erased mut (tyInt w32))) l37)
-        ∷ ‵ (fat fullShare (tyRef erased mut (tyInt w32)) l36 0 (vptr b·kept o·kept))
-        ∷ ‵ (fdies (tyRef erased mut (tyInt w32)) l36)
-        ∷ ‵ (fat fullShare (sliceTy (tyRef erased mut (tyInt w32))) l35 0 s·lists)
-        ∷ ‵ (fdies (sliceTy (tyRef erased mut (tyInt w32))) l35)
-        ∷ ‵ (fat fullShare (tyRef erased mut (tyInt w32)) l34 0 (vptr b·lists o·lists))
-        ∷ ‵ (fdies (tyRef erased mut (tyInt w32)) l34)
-        ∷ ‵ (fat fullShare (sliceTy (tyRef erased mut (tyInt w32))) l33 0 s·rows)
-        ∷ ‵ (fdies (sliceTy (tyRef erased mut (tyInt w32))) l33)
-        ∷ ‵ (fat fullShare (tyRef erased mut (tyInt w32)) l32 0 (vptr b·rows o·rows))
-        ∷ ‵ (fdies (tyRef erased mut (tyInt w32)) l32)
-        ∷ ‵ (fat fullShare (sliceTy (tyRef erased mut (tyInt w32))) l31 0 s·defs)
-        ∷ ‵ (fdies (sliceTy (tyRef erased mut (tyInt w32))) l31)
-        ∷ ‵ (fat fullShare (tyRef erased mut (tyInt w32)) l30 0 (vptr b·defs o·defs))
-        ∷ ‵ (fdies (tyRef erased mut (tyInt w32)) l30)
-        ∷ ‵ (fat fullShare (sliceTy (tyRef erased mut (tyInt w32))) l29 0 s·words)
-        ∷ ‵ (fdies (sliceTy (tyRef erased mut (tyInt w32))) l29)
-        ∷ ‵ (fat fullShare (tyRef erased mut (tyInt w32)) l28 0 (vptr b·words o·words))
-        ∷ ‵ (fdies (tyRef erased mut (tyInt w32)) l28)
-        ∷ ‵ (fat fullShare (sliceTy (tyRef erased mut (tyInt w32))) l27 0 s·index)
-        ∷ ‵ (fdies (sliceTy (tyRef erased mut (tyInt w32))) l27)
-        ∷ ‵ (fat fullShare (tyRef erased mut (tyInt w32)) l26 0 (vptr b·index o·index))
-        ∷ ‵ (fdies (tyRef erased mut (tyInt w32)) l26)
-        ∷ ‵ (fat fullShare (sliceTy (tyRef erased mut (tyInt w32))) l25 0 s·vars)
-        ∷ ‵ (fdies (sliceTy (tyRef erased mut (tyInt w32))) l25)
-        ∷ ‵ (fat fullShare (tyRef erased mut (tyInt w32)) l24 0 (vptr b·vars o·vars))
-        ∷ ‵ (fdies (tyRef erased mut (tyInt w32)) l24)
-        ∷ ‵ (fat fullShare AdvanceL.mir l23 0 v1)
-        ∷ ‵ (fdies AdvanceL.mir l23)
-        ∷ ‵ (fat fullShare (tyRef (named 20) mut (pointee (CountsT.the-row .written))) l22 0 s·counts)
-        ∷ ‵ (fdies (tyRef (named 20) mut (pointee (CountsT.the-row .written))) l22)
-        ∷ ‵ (fat fullShare (sliceTy (tyRef (named 19) mut (pointee (FactT.the-row .written)))) l21 0 s·facts)
-        ∷ ‵ (fdies (sliceTy (tyRef (named 19) mut (pointee (FactT.the-row .written)))) l21)
+        ∷ ‵ (fat fullShare CountsL.mir l54 0 v6)
+        ∷ ‵ (fdies CountsL.mir l54)
+        ∷ ‵ (fat fullShare (tyRef erased mut (pointee (CountsT.the-row .written))) l53 0 s·counts)
+        ∷ ‵ (fdies (tyRef erased mut (pointee (CountsT.the-row .written))) l53)
+        ∷ ‵ (fat fullShare FactL.mir l52 0 v4)
+        ∷ ‵ (fdies FactL.mir l52)
+        ∷ ‵ (fat fullShare (tyInt w64) l51 0 v3)
+        ∷ ‵ (fdies (tyInt w64) l51)
+        ∷ ‵ (fat fullShare tyBool l50 0 v2)
+        ∷ ‵ (fdies tyBool l50)
+        ∷ ‵ (fat fullShare (sliceTy (tyRef erased mut (pointee (FactT.the-row .written)))) l49 0 s·facts)
+        ∷ ‵ (fdies (sliceTy (tyRef erased mut (pointee (FactT.the-row .written)))) l49)
+        ∷ ‵ (fat fullShare (tyRef erased mut (pointee (FactT.the-row .written))) l48 0 (vptr b·facts o·facts))
+        ∷ ‵ (fdies (tyRef erased mut (pointee (FactT.the-row .written))) l48)
+        ∷ ‵ (fat fullShare tyUnit l47 0 v7)
+        ∷ ‵ (fdies tyUnit l47)
+        ∷ ‵ (fat fullShare (sliceTy (tyRef erased mut (tyInt w32))) l46 0 s·memo)
+        ∷ ‵ (fdies (sliceTy (tyRef erased mut (tyInt w32))) l46)
+        ∷ ‵ (fat fullShare (tyRef erased mut (tyInt w32)) l45 0 (vptr b·memo o·memo))
+        ∷ ‵ (fdies (tyRef erased mut (tyInt w32)) l45)
+        ∷ ‵ (fat fullShare (sliceTy (tyRef erased mut (tyInt w32))) l44 0 s·ids)
+        ∷ ‵ (fdies (sliceTy (tyRef erased mut (tyInt w32))) l44)
+        ∷ ‵ (fat fullShare (tyRef erased mut (tyInt w32)) l43 0 (vptr b·ids o·ids))
+        ∷ ‵ (fdies (tyRef erased mut (tyInt w32)) l43)
+        ∷ ‵ (fat fullShare (sliceTy (tyRef erased mut (tyInt w32))) l42 0 s·cells)
+        ∷ ‵ (fdies (sliceTy (tyRef erased mut (tyInt w32))) l42)
+        ∷ ‵ (fat fullShare (tyRef erased mut (tyInt w32)) l41 0 (vptr b·cells o·cells))
+        ∷ ‵ (fdies (tyRef erased mut (tyInt w32)) l41)
+        ∷ ‵ (fat fullShare (sliceTy (tyRef erased mut (tyInt w64))) l40 0 s·feet)
+        ∷ ‵ (fdies (sliceTy (tyRef erased mut (tyInt w64))) l40)
+        ∷ ‵ (fat fullShare (tyRef erased mut (tyInt w64)) l39 0 (vptr b·feet o·feet))
+        ∷ ‵ (fdies (tyRef erased mut (tyInt w64)) l39)
+        ∷ ‵ (fat fullShare (sliceTy (tyRef erased mut (tyInt w32))) l38 0 s·kept)
+        ∷ ‵ (fdies (sliceTy (tyRef erased mut (tyInt w32))) l38)
+        ∷ ‵ (fat fullShare (tyRef erased mut (tyInt w32)) l37 0 (vptr b·kept o·kept))
+        ∷ ‵ (fdies (tyRef erased mut (tyInt w32)) l37)
+        ∷ ‵ (fat fullShare (sliceTy (tyRef erased mut (tyInt w32))) l36 0 s·lists)
+        ∷ ‵ (fdies (sliceTy (tyRef erased mut (tyInt w32))) l36)
+        ∷ ‵ (fat fullShare (tyRef erased mut (tyInt w32)) l35 0 (vptr b·lists o·lists))
+        ∷ ‵ (fdies (tyRef erased mut (tyInt w32)) l35)
+        ∷ ‵ (fat fullShare (sliceTy (tyRef erased mut (tyInt w32))) l34 0 s·rows)
+        ∷ ‵ (fdies (sliceTy (tyRef erased mut (tyInt w32))) l34)
+        ∷ ‵ (fat fullShare (tyRef erased mut (tyInt w32)) l33 0 (vptr b·rows o·rows))
+        ∷ ‵ (fdies (tyRef erased mut (tyInt w32)) l33)
+        ∷ ‵ (fat fullShare (sliceTy (tyRef erased mut (tyInt w32))) l32 0 s·defs)
+        ∷ ‵ (fdies (sliceTy (tyRef erased mut (tyInt w32))) l32)
+        ∷ ‵ (fat fullShare (tyRef erased mut (tyInt w32)) l31 0 (vptr b·defs o·defs))
+        ∷ ‵ (fdies (tyRef erased mut (tyInt w32)) l31)
+        ∷ ‵ (fat fullShare (sliceTy (tyRef erased mut (tyInt w32))) l30 0 s·words)
+        ∷ ‵ (fdies (sliceTy (tyRef erased mut (tyInt w32))) l30)
+        ∷ ‵ (fat fullShare (tyRef erased mut (tyInt w32)) l29 0 (vptr b·words o·words))
+        ∷ ‵ (fdies (tyRef erased mut (tyInt w32)) l29)
+        ∷ ‵ (fat fullShare (sliceTy (tyRef erased mut (tyInt w32))) l28 0 s·index)
+        ∷ ‵ (fdies (sliceTy (tyRef erased mut (tyInt w32))) l28)
+        ∷ ‵ (fat fullShare (tyRef erased mut (tyInt w32)) l27 0 (vptr b·index o·index))
+        ∷ ‵ (fdies (tyRef erased mut (tyInt w32)) l27)
+        ∷ ‵ (fat fullShare (sliceTy (tyRef erased mut (tyInt w32))) l26 0 s·vars)
+        ∷ ‵ (fdies (sliceTy (tyRef erased mut (tyInt w32))) l26)
+        ∷ ‵ (fat fullShare (tyRef erased mut (tyInt w32)) l25 0 (vptr b·vars o·vars))
+        ∷ ‵ (fdies (tyRef erased mut (tyInt w32)) l25)
+        ∷ ‵ (fat fullShare AdvanceL.mir l24 0 v1)
+        ∷ ‵ (fdies AdvanceL.mir l24)
+        ∷ ‵ (fat fullShare (tyRef (named 21) mut (pointee (CountsT.the-row .written))) l23 0 s·counts)
+        ∷ ‵ (fdies (tyRef (named 21) mut (pointee (CountsT.the-row .written))) l23)
+        ∷ ‵ (fat fullShare (sliceTy (tyRef (named 20) mut (pointee (FactT.the-row .written)))) l22 0 s·facts)
+        ∷ ‵ (fdies (sliceTy (tyRef (named 20) mut (pointee (FactT.the-row .written)))) l22)
+        ∷ ‵ (fat fullShare (sliceTy (tyRef (named 19) mut (tyInt w32))) l21 0 s·memo)
+        ∷ ‵ (fdies (sliceTy (tyRef (named 19) mut (tyInt w32))) l21)
         ∷ ‵ (fat fullShare (sliceTy (tyRef (named 18) mut (tyInt w32))) l20 0 s·ids)
         ∷ ‵ (fdies (sliceTy (tyRef (named 18) mut (tyInt w32))) l20)
         ∷ ‵ (fat fullShare (sliceTy (tyRef (named 17) mut (tyInt w32))) l19 0 s·cells)
@@ -1321,31 +1422,50 @@ module _ {M : Type 1} (𝓤 : URA M) (H : Heap 𝓤) (A : Atoms 𝓤) (W : Given
         ∷ ‵ (fat fullShare (sliceTy (tyRef (named 2) imm (tyInt w8))) l3 0 s·proof)
         ∷ ‵ (fdies (sliceTy (tyRef (named 2) imm (tyInt w8))) l3)
         ∷ ‵ (fat fullShare (sliceTy (tyRef (named 1) imm (tyInt w8))) l2 0 s·goals)
-        ∷ ‵ (fdies (sliceTy (tyRef (named 1) imm (tyInt w8))) l2) ∷ [])
-        (frees (((sliceTy (tyRef (named 1) imm (tyInt w8))), l2) ∷ ((sliceTy (tyRef (named 2) imm (tyInt w8))), l3) ∷ (RunL.mir, l4)
-        ∷ ((sliceTy (tyRef (named 3) imm (tyInt w32))), l5) ∷ ((sliceTy (tyRef (named 4) imm (tyInt w32))), l6)
-        ∷ ((sliceTy (tyRef (named 5) imm (tyInt w32))), l7) ∷ ((sliceTy (tyRef (named 6) imm (tyInt w32))), l8)
-        ∷ ((sliceTy (tyRef (named 7) imm (tyInt w32))), l9) ∷ ((sliceTy (tyRef (named 8) imm (tyInt w32))), l10)
-        ∷ ((sliceTy (tyRef (named 9) mut (tyInt w32))), l11) ∷ ((sliceTy (tyRef (named 10) mut (tyInt w32))), l12)
-        ∷ ((sliceTy (tyRef (named 11) mut (tyInt w32))), l13) ∷ ((sliceTy (tyRef (named 12) mut (tyInt w32))), l14)
-        ∷ ((sliceTy (tyRef (named 13) mut (tyInt w32))), l15) ∷ ((sliceTy (tyRef (named 14) mut (tyInt w32))), l16)
-        ∷ ((sliceTy (tyRef (named 15) mut (tyInt w32))), l17) ∷ ((sliceTy (tyRef (named 16) mut (tyInt w64))), l18)
-        ∷ ((sliceTy (tyRef (named 17) mut (tyInt w32))), l19) ∷ ((sliceTy (tyRef (named 18) mut (tyInt w32))), l20)
-        ∷ ((sliceTy (tyRef (named 19) mut (pointee (FactT.the-row .written)))), l21)
-        ∷ ((tyRef (named 20) mut (pointee (CountsT.the-row .written))), l22) ∷ (AdvanceL.mir, l23) ∷ ((tyRef erased mut (tyInt w32)), l24)
-        ∷ ((sliceTy (tyRef erased mut (tyInt w32))), l25) ∷ ((tyRef erased mut (tyInt w32)), l26) ∷ ((sliceTy (tyRef erased mut (tyInt w32))), l27)
-        ∷ ((tyRef erased mut (tyInt w32)), l28) ∷ ((sliceTy (tyRef erased mut (tyInt w32))), l29) ∷ ((tyRef erased mut (tyInt w32)), l30)
-        ∷ ((sliceTy (tyRef erased mut (tyInt w32))), l31) ∷ ((tyRef erased mut (tyInt w32)), l32) ∷ ((sliceTy (tyRef erased mut (tyInt w32))), l33)
-        ∷ ((tyRef erased mut (tyInt w32)), l34) ∷ ((sliceTy (tyRef erased mut (tyInt w32))), l35) ∷ ((tyRef erased mut (tyInt w32)), l36)
-        ∷ ((sliceTy (tyRef erased mut (tyInt w32))), l37) ∷ ((tyRef erased mut (tyInt w64)), l38) ∷ ((sliceTy (tyRef erased mut (tyInt w64))), l39)
-        ∷ ((tyRef erased mut (tyInt w32)), l40) ∷ ((sliceTy (tyRef erased mut (tyInt w32))), l41) ∷ ((tyRef erased mut (tyInt w32)), l42)
-        ∷ ((sliceTy (tyRef erased mut (tyInt w32))), l43) ∷ (tyUnit, l44) ∷ ((tyRef erased mut (pointee (FactT.the-row .written))), l45)
-        ∷ ((sliceTy (tyRef erased mut (pointee (FactT.the-row .written)))), l46) ∷ (tyBool, l47) ∷ ((tyInt w64), l48) ∷ (FactL.mir, l49)
-        ∷ ((tyRef erased mut (pointee (CountsT.the-row .written))), l50) ∷ (CountsL.mir, l51) ∷ []) (prop (Post v8)))
+        ∷ ‵ (fdies (sliceTy (tyRef (named 1) imm (tyInt w8))) l2)
+        ∷ ‵ (fat fullShare (sliceTy (tyRef (named 0) imm (tyInt w8))) l1 0 s·theory)
+        ∷ ‵ (fdies (sliceTy (tyRef (named 0) imm (tyInt w8))) l1) ∷ [])
+        (frees (((sliceTy (tyRef (named 0) imm (tyInt w8))), l1) ∷ ((sliceTy (tyRef (named 1) imm (tyInt w8))), l2)
+        ∷ ((sliceTy (tyRef (named 2) imm (tyInt w8))), l3) ∷ (RunL.mir, l4) ∷ ((sliceTy (tyRef (named 3) imm (tyInt w32))), l5)
+        ∷ ((sliceTy (tyRef (named 4) imm (tyInt w32))), l6) ∷ ((sliceTy (tyRef (named 5) imm (tyInt w32))), l7)
+        ∷ ((sliceTy (tyRef (named 6) imm (tyInt w32))), l8) ∷ ((sliceTy (tyRef (named 7) imm (tyInt w32))), l9)
+        ∷ ((sliceTy (tyRef (named 8) imm (tyInt w32))), l10) ∷ ((sliceTy (tyRef (named 9) mut (tyInt w32))), l11)
+        ∷ ((sliceTy (tyRef (named 10) mut (tyInt w32))), l12) ∷ ((sliceTy (tyRef (named 11) mut (tyInt w32))), l13)
+        ∷ ((sliceTy (tyRef (named 12) mut (tyInt w32))), l14) ∷ ((sliceTy (tyRef (named 13) mut (tyInt w32))), l15)
+        ∷ ((sliceTy (tyRef (named 14) mut (tyInt w32))), l16) ∷ ((sliceTy (tyRef (named 15) mut (tyInt w32))), l17)
+        ∷ ((sliceTy (tyRef (named 16) mut (tyInt w64))), l18) ∷ ((sliceTy (tyRef (named 17) mut (tyInt w32))), l19)
+        ∷ ((sliceTy (tyRef (named 18) mut (tyInt w32))), l20) ∷ ((sliceTy (tyRef (named 19) mut (tyInt w32))), l21)
+        ∷ ((sliceTy (tyRef (named 20) mut (pointee (FactT.the-row .written)))), l22)
+        ∷ ((tyRef (named 21) mut (pointee (CountsT.the-row .written))), l23) ∷ (AdvanceL.mir, l24) ∷ ((tyRef erased mut (tyInt w32)), l25)
+        ∷ ((sliceTy (tyRef erased mut (tyInt w32))), l26) ∷ ((tyRef erased mut (tyInt w32)), l27) ∷ ((sliceTy (tyRef erased mut (tyInt w32))), l28)
+        ∷ ((tyRef erased mut (tyInt w32)), l29) ∷ ((sliceTy (tyRef erased mut (tyInt w32))), l30) ∷ ((tyRef erased mut (tyInt w32)), l31)
+        ∷ ((sliceTy (tyRef erased mut (tyInt w32))), l32) ∷ ((tyRef erased mut (tyInt w32)), l33) ∷ ((sliceTy (tyRef erased mut (tyInt w32))), l34)
+        ∷ ((tyRef erased mut (tyInt w32)), l35) ∷ ((sliceTy (tyRef erased mut (tyInt w32))), l36) ∷ ((tyRef erased mut (tyInt w32)), l37)
+        ∷ ((sliceTy (tyRef erased mut (tyInt w32))), l38) ∷ ((tyRef erased mut (tyInt w64)), l39) ∷ ((sliceTy (tyRef erased mut (tyInt w64))), l40)
+        ∷ ((tyRef erased mut (tyInt w32)), l41) ∷ ((sliceTy (tyRef erased mut (tyInt w32))), l42) ∷ ((tyRef erased mut (tyInt w32)), l43)
+        ∷ ((sliceTy (tyRef erased mut (tyInt w32))), l44) ∷ ((tyRef erased mut (tyInt w32)), l45) ∷ ((sliceTy (tyRef erased mut (tyInt w32))), l46)
+        ∷ (tyUnit, l47) ∷ ((tyRef erased mut (pointee (FactT.the-row .written))), l48)
+        ∷ ((sliceTy (tyRef erased mut (pointee (FactT.the-row .written)))), l49) ∷ (tyBool, l50) ∷ ((tyInt w64), l51) ∷ (FactL.mir, l52)
+        ∷ ((tyRef erased mut (pointee (CountsT.the-row .written))), l53) ∷ (CountsL.mir, l54) ∷ []) (prop (Post v8)))
     seg·4 l0 l1 l2 l3 l4 l5 l6 l7 l8 l9 l10 l11 l12 l13 l14 l15 l16 l17 l18 l19 l20 l21 l22 l23 l24 l25 l26 l27 l28 l29 l30 l31 l32 l33 l34 l35 l36
-        l37 l38 l39 l40 l41 l42 l43 l44 l45 l46 l47 l48 l49 l50 l51 v1 r1 ws1 e1 len·1·vars len·1·index len·1·words len·1·defs len·1·rows len·1·lists
-        len·1·kept len·1·feet len·1·cells len·1·ids is1 v2 r2 ws2 e2 is2 v3 r3 ws3 e3 is3 v4 r4 ws4 e4 is4 v5 r5 ws5 e5 len·5·facts is5 v6 r6 ws6
-        e6 is6 v7 r7 ws7 e7 is7 v8 r8 ws8 e8 is8 =
+        l37 l38 l39 l40 l41 l42 l43 l44 l45 l46 l47 l48 l49 l50 l51 l52 l53 l54 v1 r1 ws1 e1 len·1·vars len·1·index len·1·words len·1·defs len·1·rows
+        len·1·lists len·1·kept len·1·feet len·1·cells len·1·ids len·1·memo is1 v2 r2 ws2 e2 is2 v3 r3 ws3 e3 is3 v4 r4 ws4 e4 is4 v5 r5 ws5 e5
+        len·5·facts is5 v6 r6 ws6 e6 is6 v7 r7 ws7 e7 is7 v8 r8 ws8 e8 is8 =
+        forget ! 150 refl $
+        move ! (150 ∷ 151 ∷ []) $
+        free1 ! $
+        forget ! 148 refl $
+        move ! (148 ∷ 149 ∷ []) $
+        free1 ! $
+        forget ! 146 refl $
+        move ! (146 ∷ 147 ∷ []) $
+        free1 ! $
+        forget ! 144 refl $
+        move ! (144 ∷ 145 ∷ []) $
+        free1 ! $
+        forget ! 142 refl $
+        move ! (142 ∷ 143 ∷ []) $
+        free1 ! $
         forget ! 140 refl $
         move ! (140 ∷ 141 ∷ []) $
         free1 ! $
@@ -1412,50 +1532,28 @@ module _ {M : Type 1} (𝓤 : URA M) (H : Heap 𝓤) (A : Atoms 𝓤) (W : Given
         forget ! 98 refl $
         move ! (98 ∷ 99 ∷ []) $
         free1 ! $
-        forget ! 96 refl $
-        move ! (96 ∷ 97 ∷ []) $
-        free1 ! $
-        forget ! 94 refl $
-        move ! (94 ∷ 95 ∷ []) $
-        free1 ! $
-        forget ! 92 refl $
-        move ! (92 ∷ 93 ∷ []) $
-        free1 ! $
-        forget ! 90 refl $
-        move ! (90 ∷ 91 ∷ []) $
-        free1 ! $
-        forget ! 88 refl $
-        move ! (88 ∷ 89 ∷ []) $
-        free1 ! $
-        forget ! 86 refl $
-        move ! (86 ∷ 87 ∷ []) $
-        free1 ! $
-        forget ! 84 refl $
-        move ! (84 ∷ 85 ∷ []) $
-        free1 ! $
-        forget ! 82 refl $
-        move ! (82 ∷ 83 ∷ []) $
-        free1 ! $
         seg·5 l0 l1 l2 l3 l4 l5 l6 l7 l8 l9 l10 l11 l12 l13 l14 l15 l16 l17 l18 l19 l20 l21 l22 l23 l24 l25 l26 l27 l28 l29 l30 l31 l32 l33 l34 l35
-        l36 l37 l38 l39 l40 l41 l42 l43 l44 l45 l46 l47 l48 l49 l50 l51 v1 r1 ws1 e1 len·1·vars len·1·index len·1·words len·1·defs len·1·rows
-        len·1·lists len·1·kept len·1·feet len·1·cells len·1·ids is1 v2 r2 ws2 e2 is2 v3 r3 ws3 e3 is3 v4 r4 ws4 e4 is4 v5 r5 ws5 e5 len·5·facts is5 v6
-        r6 ws6 e6 is6 v7 r7 ws7 e7 is7 v8 r8 ws8 e8 is8
+        l36 l37 l38 l39 l40 l41 l42 l43 l44 l45 l46 l47 l48 l49 l50 l51 l52 l53 l54 v1 r1 ws1 e1 len·1·vars len·1·index len·1·words len·1·defs
+        len·1·rows len·1·lists len·1·kept len·1·feet len·1·cells len·1·ids len·1·memo is1 v2 r2 ws2 e2 is2 v3 r3 ws3 e3 is3 v4 r4 ws4 e4 is4 v5 r5 ws5
+        e5 len·5·facts is5 v6 r6 ws6 e6 is6 v7 r7 ws7 e7 is7 v8 r8 ws8 e8 is8
 
     seg·3 : (l0 : ℕ) (l1 : ℕ) (l2 : ℕ) (l3 : ℕ) (l4 : ℕ) (l5 : ℕ) (l6 : ℕ) (l7 : ℕ) (l8 : ℕ) (l9 : ℕ) (l10 : ℕ) (l11 : ℕ) (l12 : ℕ) (l13 : ℕ)
         (l14 : ℕ) (l15 : ℕ) (l16 : ℕ) (l17 : ℕ) (l18 : ℕ) (l19 : ℕ) (l20 : ℕ) (l21 : ℕ) (l22 : ℕ) (l23 : ℕ) (l24 : ℕ) (l25 : ℕ) (l26 : ℕ) (l27 : ℕ)
         (l28 : ℕ) (l29 : ℕ) (l30 : ℕ) (l31 : ℕ) (l32 : ℕ) (l33 : ℕ) (l34 : ℕ) (l35 : ℕ) (l36 : ℕ) (l37 : ℕ) (l38 : ℕ) (l39 : ℕ) (l40 : ℕ) (l41 : ℕ)
-        (l42 : ℕ) (l43 : ℕ) (l44 : ℕ) (l45 : ℕ) (l46 : ℕ) (l47 : ℕ) (l48 : ℕ) (l49 : ℕ) (l50 : ℕ) (l51 : ℕ) (v1 : Val) (r1 : Advance)
-        (ws1 : (Unit {0} × (Unit {0} × (Unit {0} × (Unit {0} × (Unit {0} × (Unit {0} ×
-        (Unit {0} × (Unit {0} × (Unit {0} × (Unit {0} × ((List ℕ) × ((List ℕ) ×
-        ((List ℕ) × ((List ℕ) × ((List ℕ) × ((List ℕ) × ((List ℕ) × ((List ℕ) × ((List ℕ) × ((List ℕ) × Unit {0})))))))))))))))))))))
+        (l42 : ℕ) (l43 : ℕ) (l44 : ℕ) (l45 : ℕ) (l46 : ℕ) (l47 : ℕ) (l48 : ℕ) (l49 : ℕ) (l50 : ℕ) (l51 : ℕ) (l52 : ℕ) (l53 : ℕ) (l54 : ℕ) (v1 : Val)
+        (r1 : Advance) (ws1 : (Unit {0} × (Unit {0} × (Unit {0} × (Unit {0} ×
+        (Unit {0} × (Unit {0} × (Unit {0} × (Unit {0} × (Unit {0} × (Unit {0} ×
+        ((List ℕ) × ((List ℕ) × ((List ℕ) × ((List ℕ) × ((List ℕ) × ((List ℕ) ×
+        ((List ℕ) × ((List ℕ) × ((List ℕ) × ((List ℕ) × ((List ℕ) × Unit {0}))))))))))))))))))))))
         (e1 : (g : Going theory goals proof (theoryLists sorts symbols inputs rules rulevars patterns) (working vars index words defs rows lists) kept
-        feet cells ids s) → Advanced theory goals proof (theoryLists sorts symbols inputs rules rulevars patterns)
+        feet cells ids memo s) → Advanced theory goals proof (theoryLists sorts symbols inputs rules rulevars patterns)
         (working vars index words defs rows lists) (working (ws1 .1 .1 .1 .1 .1 .1 .1 .1 .1 .1 .0) (ws1 .1 .1 .1 .1 .1 .1 .1 .1 .1 .1 .1 .0)
         (ws1 .1 .1 .1 .1 .1 .1 .1 .1 .1 .1 .1 .1 .0) (ws1 .1 .1 .1 .1 .1 .1 .1 .1 .1 .1 .1 .1 .1 .0)
         (ws1 .1 .1 .1 .1 .1 .1 .1 .1 .1 .1 .1 .1 .1 .1 .0) (ws1 .1 .1 .1 .1 .1 .1 .1 .1 .1 .1 .1 .1 .1 .1 .1 .0)) kept feet
         (ws1 .1 .1 .1 .1 .1 .1 .1 .1 .1 .1 .1 .1 .1 .1 .1 .1 .0) (ws1 .1 .1 .1 .1 .1 .1 .1 .1 .1 .1 .1 .1 .1 .1 .1 .1 .1 .0)
-        (ws1 .1 .1 .1 .1 .1 .1 .1 .1 .1 .1 .1 .1 .1 .1 .1 .1 .1 .1 .0) (ws1 .1 .1 .1 .1 .1 .1 .1 .1 .1 .1 .1 .1 .1 .1 .1 .1 .1 .1 .1 .0) s
-        (g .held .S) (r1 .next) (r1 .stored) (r1 .fact) (r1 .more)) (len·1·vars : length (ws1 .1 .1 .1 .1 .1 .1 .1 .1 .1 .1 .0) ≡ length vars)
+        (ws1 .1 .1 .1 .1 .1 .1 .1 .1 .1 .1 .1 .1 .1 .1 .1 .1 .1 .1 .0) (ws1 .1 .1 .1 .1 .1 .1 .1 .1 .1 .1 .1 .1 .1 .1 .1 .1 .1 .1 .1 .0)
+        (ws1 .1 .1 .1 .1 .1 .1 .1 .1 .1 .1 .1 .1 .1 .1 .1 .1 .1 .1 .1 .1 .0) s (g .held .S) (r1 .next) (r1 .stored) (r1 .fact) (r1 .more))
+        (len·1·vars : length (ws1 .1 .1 .1 .1 .1 .1 .1 .1 .1 .1 .0) ≡ length vars)
         (len·1·index : length (ws1 .1 .1 .1 .1 .1 .1 .1 .1 .1 .1 .1 .0) ≡ length index)
         (len·1·words : length (ws1 .1 .1 .1 .1 .1 .1 .1 .1 .1 .1 .1 .1 .0) ≡ length words)
         (len·1·defs : length (ws1 .1 .1 .1 .1 .1 .1 .1 .1 .1 .1 .1 .1 .1 .0) ≡ length defs)
@@ -1464,14 +1562,16 @@ module _ {M : Type 1} (𝓤 : URA M) (H : Heap 𝓤) (A : Atoms 𝓤) (W : Given
         (len·1·kept : length (ws1 .1 .1 .1 .1 .1 .1 .1 .1 .1 .1 .1 .1 .1 .1 .1 .1 .0) ≡ length kept)
         (len·1·feet : length (ws1 .1 .1 .1 .1 .1 .1 .1 .1 .1 .1 .1 .1 .1 .1 .1 .1 .1 .0) ≡ length feet)
         (len·1·cells : length (ws1 .1 .1 .1 .1 .1 .1 .1 .1 .1 .1 .1 .1 .1 .1 .1 .1 .1 .1 .0) ≡ length cells)
-        (len·1·ids : length (ws1 .1 .1 .1 .1 .1 .1 .1 .1 .1 .1 .1 .1 .1 .1 .1 .1 .1 .1 .1 .0) ≡ length ids) (is1 : Is AdvanceT.the-row r1 (v1 ∷ []))
-        (v2 : Val) (r2 : Bool) (ws2 : (Unit {0} × Unit {0})) (e2 : r2 ≡ r1 .stored) (is2 : Is bool r2 (v2 ∷ [])) (v3 : Val) (r3 : ℕ)
-        (ws3 : (Unit {0} × Unit {0})) (e3 : r3 ≡ s .sizes .facts) (is3 : Is usize r3 (v3 ∷ [])) (v4 : Val) (r4 : Fact) (ws4 : (Unit {0} × Unit {0}))
-        (e4 : r4 ≡ r1 .fact) (is4 : Is FactT.the-row r4 (v4 ∷ [])) (v5 : Val) (r5 : Unit {0})
+        (len·1·ids : length (ws1 .1 .1 .1 .1 .1 .1 .1 .1 .1 .1 .1 .1 .1 .1 .1 .1 .1 .1 .1 .0) ≡ length ids)
+        (len·1·memo : length (ws1 .1 .1 .1 .1 .1 .1 .1 .1 .1 .1 .1 .1 .1 .1 .1 .1 .1 .1 .1 .1 .0) ≡ length memo)
+        (is1 : Is AdvanceT.the-row r1 (v1 ∷ [])) (v2 : Val) (r2 : Bool) (ws2 : (Unit {0} × Unit {0})) (e2 : r2 ≡ r1 .stored)
+        (is2 : Is bool r2 (v2 ∷ [])) (v3 : Val) (r3 : ℕ) (ws3 : (Unit {0} × Unit {0})) (e3 : r3 ≡ s .sizes .facts) (is3 : Is usize r3 (v3 ∷ []))
+        (v4 : Val) (r4 : Fact) (ws4 : (Unit {0} × Unit {0})) (e4 : r4 ≡ r1 .fact) (is4 : Is FactT.the-row r4 (v4 ∷ [])) (v5 : Val) (r5 : Unit {0})
         (ws5 : ((List Fact) × (Unit {0} × (Unit {0} × (Unit {0} × Unit {0}))))) (e5 : (ws5 .0) ≡ appended r2 facts r3 r4)
         (len·5·facts : length (ws5 .0) ≡ length facts) (is5 : v5 ∷ [] ≡ vunit ∷ []) →
         Sq W (‵ (flft κ·facts q·facts)
         ∷ ‵ (finally FactT.the-row γ·facts (ws5 .0))
+        ∷ ‵ (flft κ·memo q·memo)
         ∷ ‵ (flft κ·ids q·ids)
         ∷ ‵ (flft κ·cells q·cells)
         ∷ ‵ (flft κ·feet q·feet)
@@ -1491,6 +1591,7 @@ module _ {M : Type 1} (𝓤 : URA M) (H : Heap 𝓤) (A : Atoms 𝓤) (W : Given
         ∷ ‵ (flft κ·proof q·proof)
         ∷ ‵ (flft κ·goals q·goals)
         ∷ ‵ (flft κ·theory q·theory)
+        ∷ ‵ (finally u32 γ·memo (ws1 .1 .1 .1 .1 .1 .1 .1 .1 .1 .1 .1 .1 .1 .1 .1 .1 .1 .1 .1 .1 .0))
         ∷ ‵ (finally u32 γ·ids (ws1 .1 .1 .1 .1 .1 .1 .1 .1 .1 .1 .1 .1 .1 .1 .1 .1 .1 .1 .1 .0))
         ∷ ‵ (finally u32 γ·cells (ws1 .1 .1 .1 .1 .1 .1 .1 .1 .1 .1 .1 .1 .1 .1 .1 .1 .1 .1 .0))
         ∷ ‵ (finally u64 γ·feet (ws1 .1 .1 .1 .1 .1 .1 .1 .1 .1 .1 .1 .1 .1 .1 .1 .1 .1 .0))
@@ -1511,69 +1612,75 @@ module _ {M : Type 1} (𝓤 : URA M) (H : Heap 𝓤) (A : Atoms 𝓤) (W : Given
         ∷ ‵ (ShrSlice (named 1) κ·goals u8 .own (ref·goals γ·goals goals) (s·goals ∷ []))
         ∷ ‵ (ShrSlice (named 0) κ·theory u8 .own (ref·theory γ·theory theory) (s·theory ∷ []))
         ∷ ‵ (flft κ·counts q·counts)
-        ∷ ‵ (MutRef (named 20) κ·counts CountsT.the-row .own (ref·counts γ·counts counts) (s·counts ∷ []))
-        ∷ ‵ (froom CountsL.mir l51 0)
-        ∷ ‵ (fdies CountsL.mir l51)
-        ∷ ‵ (froom (tyRef erased mut (pointee (CountsT.the-row .written))) l50 0)
-        ∷ ‵ (fdies (tyRef erased mut (pointee (CountsT.the-row .written))) l50)
-        ∷ ‵ (fat fullShare FactL.mir l49 0 v4)
-        ∷ ‵ (fdies FactL.mir l49)
-        ∷ ‵ (fat fullShare (tyInt w64) l48 0 v3)
-        ∷ ‵ (fdies (tyInt w64) l48)
-        ∷ ‵ (fat fullShare tyBool l47 0 v2)
-        ∷ ‵ (fdies tyBool l47)
-        ∷ ‵ (fat fullShare (sliceTy (tyRef erased mut (pointee (FactT.the-row .written)))) l46 0 s·facts)
-        ∷ ‵ (fdies (sliceTy (tyRef erased mut (pointee (FactT.the-row .written)))) l46)
-        ∷ ‵ (fat fullShare (tyRef erased mut (pointee (FactT.the-row .written))) l45 0 (vptr b·facts o·facts))
-        ∷ ‵ (fdies (tyRef erased mut (pointee (FactT.the-row .written))) l45)
-        ∷ ‵ (fat fullShare tyUnit l44 0 v5)
-        ∷ ‵ (fdies tyUnit l44)
-        ∷ ‵ (fat fullShare (sliceTy (tyRef erased mut (tyInt w32))) l43 0 s·ids)
-        ∷ ‵ (fdies (sliceTy (tyRef erased mut (tyInt w32))) l43)
-        ∷ ‵ (fat fullShare (tyRef erased mut (tyInt w32)) l42 0 (vptr b·ids o·ids))
-        ∷ ‵ (fdies (tyRef erased mut (tyInt w32)) l42)
-        ∷ ‵ (fat fullShare (sliceTy (tyRef erased mut (tyInt w32))) l41 0 s·cells)
-        ∷ ‵ (fdies (sliceTy (tyRef erased mut (tyInt w32))) l41)
-        ∷ ‵ (fat fullShare (tyRef erased mut (tyInt w32)) l40 0 (vptr b·cells o·cells))
-        ∷ ‵ (fdies (tyRef erased mut (tyInt w32)) l40)
-        ∷ ‵ (fat fullShare (sliceTy (tyRef erased mut (tyInt w64))) l39 0 s·feet)
-        ∷ ‵ (fdies (sliceTy (tyRef erased mut (tyInt w64))) l39)
-        ∷ ‵ (fat fullShare (tyRef erased mut (tyInt w64)) l38 0 (vptr b·feet o·feet))
-        ∷ ‵ (fdies (tyRef erased mut (tyInt w64)) l38)
-        ∷ ‵ (fat fullShare (sliceTy (tyRef erased mut (tyInt w32))) l37 0 s·kept)
-        ∷ ‵ (fdies (sliceTy (tyRef erased mut (tyInt w32))) l37)
-        ∷ ‵ (fat fullShare (tyRef erased mut (tyInt w32)) l36 0 (vptr b·kept o·kept))
-        ∷ ‵ (fdies (tyRef erased mut (tyInt w32)) l36)
-        ∷ ‵ (fat fullShare (sliceTy (tyRef erased mut (tyInt w32))) l35 0 s·lists)
-        ∷ ‵ (fdies (sliceTy (tyRef erased mut (tyInt w32))) l35)
-        ∷ ‵ (fat fullShare (tyRef erased mut (tyInt w32)) l34 0 (vptr b·lists o·lists))
-        ∷ ‵ (fdies (tyRef erased mut (tyInt w32)) l34)
-        ∷ ‵ (fat fullShare (sliceTy (tyRef erased mut (tyInt w32))) l33 0 s·rows)
-        ∷ ‵ (fdies (sliceTy (tyRef erased mut (tyInt w32))) l33)
-        ∷ ‵ (fat fullShare (tyRef erased mut (tyInt w32)) l32 0 (vptr b·rows o·rows))
-        ∷ ‵ (fdies (tyRef erased mut (tyInt w32)) l32)
-        ∷ ‵ (fat fullShare (sliceTy (tyRef erased mut (tyInt w32))) l31 0 s·defs)
-        ∷ ‵ (fdies (sliceTy (tyRef erased mut (tyInt w32))) l31)
-        ∷ ‵ (fat fullShare (tyRef erased mut (tyInt w32)) l30 0 (vptr b·defs o·defs))
-        ∷ ‵ (fdies (tyRef erased mut (tyInt w32)) l30)
-        ∷ ‵ (fat fullShare (sliceTy (tyRef erased mut (tyInt w32))) l29 0 s·words)
-        ∷ ‵ (fdies (sliceTy (tyRef erased mut (tyInt w32))) l29)
-        ∷ ‵ (fat fullShare (tyRef erased mut (tyInt w32)) l28 0 (vptr b·words o·words))
-        ∷ ‵ (fdies (tyRef erased mut (tyInt w32)) l28)
-        ∷ ‵ (fat fullShare (sliceTy (tyRef erased mut (tyInt w32))) l27 0 s·index)
-        ∷ ‵ (fdies (sliceTy (tyRef erased mut (tyInt w32))) l27)
-        ∷ ‵ (fat fullShare (tyRef erased mut (tyInt w32)) l26 0 (vptr b·index o·index))
-        ∷ ‵ (fdies (tyRef erased mut (tyInt w32)) l26)
-        ∷ ‵ (fat fullShare (sliceTy (tyRef erased mut (tyInt w32))) l25 0 s·vars)
-        ∷ ‵ (fdies (sliceTy (tyRef erased mut (tyInt w32))) l25)
-        ∷ ‵ (fat fullShare (tyRef erased mut (tyInt w32)) l24 0 (vptr b·vars o·vars))
-        ∷ ‵ (fdies (tyRef erased mut (tyInt w32)) l24)
-        ∷ ‵ (fat fullShare AdvanceL.mir l23 0 v1)
-        ∷ ‵ (fdies AdvanceL.mir l23)
-        ∷ ‵ (fat fullShare (tyRef (named 20) mut (pointee (CountsT.the-row .written))) l22 0 s·counts)
-        ∷ ‵ (fdies (tyRef (named 20) mut (pointee (CountsT.the-row .written))) l22)
-        ∷ ‵ (fat fullShare (sliceTy (tyRef (named 19) mut (pointee (FactT.the-row .written)))) l21 0 s·facts)
-        ∷ ‵ (fdies (sliceTy (tyRef (named 19) mut (pointee (FactT.the-row .written)))) l21)
+        ∷ ‵ (MutRef (named 21) κ·counts CountsT.the-row .own (ref·counts γ·counts counts) (s·counts ∷ []))
+        ∷ ‵ (froom CountsL.mir l54 0)
+        ∷ ‵ (fdies CountsL.mir l54)
+        ∷ ‵ (froom (tyRef erased mut (pointee (CountsT.the-row .written))) l53 0)
+        ∷ ‵ (fdies (tyRef erased mut (pointee (CountsT.the-row .written))) l53)
+        ∷ ‵ (fat fullShare FactL.mir l52 0 v4)
+        ∷ ‵ (fdies FactL.mir l52)
+        ∷ ‵ (fat fullShare (tyInt w64) l51 0 v3)
+        ∷ ‵ (fdies (tyInt w64) l51)
+        ∷ ‵ (fat fullShare tyBool l50 0 v2)
+        ∷ ‵ (fdies tyBool l50)
+        ∷ ‵ (fat fullShare (sliceTy (tyRef erased mut (pointee (FactT.the-row .written)))) l49 0 s·facts)
+        ∷ ‵ (fdies (sliceTy (tyRef erased mut (pointee (FactT.the-row .written)))) l49)
+        ∷ ‵ (fat fullShare (tyRef erased mut (pointee (FactT.the-row .written))) l48 0 (vptr b·facts o·facts))
+        ∷ ‵ (fdies (tyRef erased mut (pointee (FactT.the-row .written))) l48)
+        ∷ ‵ (fat fullShare tyUnit l47 0 v5)
+        ∷ ‵ (fdies tyUnit l47)
+        ∷ ‵ (fat fullShare (sliceTy (tyRef erased mut (tyInt w32))) l46 0 s·memo)
+        ∷ ‵ (fdies (sliceTy (tyRef erased mut (tyInt w32))) l46)
+        ∷ ‵ (fat fullShare (tyRef erased mut (tyInt w32)) l45 0 (vptr b·memo o·memo))
+        ∷ ‵ (fdies (tyRef erased mut (tyInt w32)) l45)
+        ∷ ‵ (fat fullShare (sliceTy (tyRef erased mut (tyInt w32))) l44 0 s·ids)
+        ∷ ‵ (fdies (sliceTy (tyRef erased mut (tyInt w32))) l44)
+        ∷ ‵ (fat fullShare (tyRef erased mut (tyInt w32)) l43 0 (vptr b·ids o·ids))
+        ∷ ‵ (fdies (tyRef erased mut (tyInt w32)) l43)
+        ∷ ‵ (fat fullShare (sliceTy (tyRef erased mut (tyInt w32))) l42 0 s·cells)
+        ∷ ‵ (fdies (sliceTy (tyRef erased mut (tyInt w32))) l42)
+        ∷ ‵ (fat fullShare (tyRef erased mut (tyInt w32)) l41 0 (vptr b·cells o·cells))
+        ∷ ‵ (fdies (tyRef erased mut (tyInt w32)) l41)
+        ∷ ‵ (fat fullShare (sliceTy (tyRef erased mut (tyInt w64))) l40 0 s·feet)
+        ∷ ‵ (fdies (sliceTy (tyRef erased mut (tyInt w64))) l40)
+        ∷ ‵ (fat fullShare (tyRef erased mut (tyInt w64)) l39 0 (vptr b·feet o·feet))
+        ∷ ‵ (fdies (tyRef erased mut (tyInt w64)) l39)
+        ∷ ‵ (fat fullShare (sliceTy (tyRef erased mut (tyInt w32))) l38 0 s·kept)
+        ∷ ‵ (fdies (sliceTy (tyRef erased mut (tyInt w32))) l38)
+        ∷ ‵ (fat fullShare (tyRef erased mut (tyInt w32)) l37 0 (vptr b·kept o·kept))
+        ∷ ‵ (fdies (tyRef erased mut (tyInt w32)) l37)
+        ∷ ‵ (fat fullShare (sliceTy (tyRef erased mut (tyInt w32))) l36 0 s·lists)
+        ∷ ‵ (fdies (sliceTy (tyRef erased mut (tyInt w32))) l36)
+        ∷ ‵ (fat fullShare (tyRef erased mut (tyInt w32)) l35 0 (vptr b·lists o·lists))
+        ∷ ‵ (fdies (tyRef erased mut (tyInt w32)) l35)
+        ∷ ‵ (fat fullShare (sliceTy (tyRef erased mut (tyInt w32))) l34 0 s·rows)
+        ∷ ‵ (fdies (sliceTy (tyRef erased mut (tyInt w32))) l34)
+        ∷ ‵ (fat fullShare (tyRef erased mut (tyInt w32)) l33 0 (vptr b·rows o·rows))
+        ∷ ‵ (fdies (tyRef erased mut (tyInt w32)) l33)
+        ∷ ‵ (fat fullShare (sliceTy (tyRef erased mut (tyInt w32))) l32 0 s·defs)
+        ∷ ‵ (fdies (sliceTy (tyRef erased mut (tyInt w32))) l32)
+        ∷ ‵ (fat fullShare (tyRef erased mut (tyInt w32)) l31 0 (vptr b·defs o·defs))
+        ∷ ‵ (fdies (tyRef erased mut (tyInt w32)) l31)
+        ∷ ‵ (fat fullShare (sliceTy (tyRef erased mut (tyInt w32))) l30 0 s·words)
+        ∷ ‵ (fdies (sliceTy (tyRef erased mut (tyInt w32))) l30)
+        ∷ ‵ (fat fullShare (tyRef erased mut (tyInt w32)) l29 0 (vptr b·words o·words))
+        ∷ ‵ (fdies (tyRef erased mut (tyInt w32)) l29)
+        ∷ ‵ (fat fullShare (sliceTy (tyRef erased mut (tyInt w32))) l28 0 s·index)
+        ∷ ‵ (fdies (sliceTy (tyRef erased mut (tyInt w32))) l28)
+        ∷ ‵ (fat fullShare (tyRef erased mut (tyInt w32)) l27 0 (vptr b·index o·index))
+        ∷ ‵ (fdies (tyRef erased mut (tyInt w32)) l27)
+        ∷ ‵ (fat fullShare (sliceTy (tyRef erased mut (tyInt w32))) l26 0 s·vars)
+        ∷ ‵ (fdies (sliceTy (tyRef erased mut (tyInt w32))) l26)
+        ∷ ‵ (fat fullShare (tyRef erased mut (tyInt w32)) l25 0 (vptr b·vars o·vars))
+        ∷ ‵ (fdies (tyRef erased mut (tyInt w32)) l25)
+        ∷ ‵ (fat fullShare AdvanceL.mir l24 0 v1)
+        ∷ ‵ (fdies AdvanceL.mir l24)
+        ∷ ‵ (fat fullShare (tyRef (named 21) mut (pointee (CountsT.the-row .written))) l23 0 s·counts)
+        ∷ ‵ (fdies (tyRef (named 21) mut (pointee (CountsT.the-row .written))) l23)
+        ∷ ‵ (fat fullShare (sliceTy (tyRef (named 20) mut (pointee (FactT.the-row .written)))) l22 0 s·facts)
+        ∷ ‵ (fdies (sliceTy (tyRef (named 20) mut (pointee (FactT.the-row .written)))) l22)
+        ∷ ‵ (fat fullShare (sliceTy (tyRef (named 19) mut (tyInt w32))) l21 0 s·memo)
+        ∷ ‵ (fdies (sliceTy (tyRef (named 19) mut (tyInt w32))) l21)
         ∷ ‵ (fat fullShare (sliceTy (tyRef (named 18) mut (tyInt w32))) l20 0 s·ids)
         ∷ ‵ (fdies (sliceTy (tyRef (named 18) mut (tyInt w32))) l20)
         ∷ ‵ (fat fullShare (sliceTy (tyRef (named 17) mut (tyInt w32))) l19 0 s·cells)
@@ -1617,20 +1724,21 @@ module _ {M : Type 1} (𝓤 : URA M) (H : Heap 𝓤) (A : Atoms 𝓤) (W : Given
         ∷ ‵ (froom RunL.mir l0 0)
         ∷ ‵ (fdies RunL.mir l0) ∷ [])
         (runs C Λ (En l0 l1 l2 l3 l4 l5 l6 l7 l8 l9 l10 l11 l12 l13 l14 l15 l16 l17 l18 l19 l20 l21 l22 l23 l24 l25 l26 l27 l28 l29 l30 l31 l32 l33
-        l34 l35 l36 l37 l38 l39 l40 l41 l42 l43 l44 l45 l46 l47 l48 l49 l50 l51) pieces.t-28
+        l34 l35 l36 l37 l38 l39 l40 l41 l42 l43 l44 l45 l46 l47 l48 l49 l50 l51 l52 l53 l54) pieces.t-30
         (atRet (En l0 l1 l2 l3 l4 l5 l6 l7 l8 l9 l10 l11 l12 l13 l14 l15 l16 l17 l18 l19 l20 l21 l22 l23 l24 l25 l26 l27 l28 l29 l30 l31 l32 l33 l34
-        l35 l36 l37 l38 l39 l40 l41 l42 l43 l44 l45 l46 l47 l48 l49 l50 l51) Post))
+        l35 l36 l37 l38 l39 l40 l41 l42 l43 l44 l45 l46 l47 l48 l49 l50 l51 l52 l53 l54) Post))
     seg·3 l0 l1 l2 l3 l4 l5 l6 l7 l8 l9 l10 l11 l12 l13 l14 l15 l16 l17 l18 l19 l20 l21 l22 l23 l24 l25 l26 l27 l28 l29 l30 l31 l32 l33 l34 l35 l36
-        l37 l38 l39 l40 l41 l42 l43 l44 l45 l46 l47 l48 l49 l50 l51 v1 r1 ws1 e1 len·1·vars len·1·index len·1·words len·1·defs len·1·rows len·1·lists
-        len·1·kept len·1·feet len·1·cells len·1·ids is1 v2 r2 ws2 e2 is2 v3 r3 ws3 e3 is3 v4 r4 ws4 e4 is4 v5 r5 ws5 e5 len·5·facts is5 =
-        assigns ! (addr ! (from ! (hop ! (look ! 100 refl) (stop !)))) (from ! (stop !)) (init ! 44 refl (tt, tt)) $
+        l37 l38 l39 l40 l41 l42 l43 l44 l45 l46 l47 l48 l49 l50 l51 l52 l53 l54 v1 r1 ws1 e1 len·1·vars len·1·index len·1·words len·1·defs len·1·rows
+        len·1·lists len·1·kept len·1·feet len·1·cells len·1·ids len·1·memo is1 v2 r2 ws2 e2 is2 v3 r3 ws3 e3 is3 v4 r4 ws4 e4 is4 v5 r5 ws5 e5
+        len·5·facts is5 =
+        assigns ! (addr ! (from ! (hop ! (look ! 106 refl) (stop !)))) (from ! (stop !)) (init ! 46 refl (tt, tt)) $
         -- call 6: more_of
         nothing ! $
         use1 W (raw ((G6·C 𝓤 H A at-mem run) .pre ((tt, tt, tt, (r1, tt), (v1 ∷ [], tt)), tt))) (qed W (‵ ftrue ∷ []) ∵ drop ! $ nothing ! $
         nothing ! $ owned ! AdvanceT.the-row (Is AdvanceT.the-row) (LL.makes AdvanceT.the-type AdvanceL.the-plain 𝓤 H A) r1 _ is1 $ fjoin ! $
         move ! (1 ∷ 0 ∷ []) $ join ! $ frame ! $ done !) $
         calls-at ! fm (G6·C 𝓤 H A at-mem run) known·6 ((tt, tt, tt, (r1, tt), (v1 ∷ [], tt)), tt)
-        (and-then ! (load ! (from ! (stop !)) (look ! 99 refl)) (no-more !)) (λ v6.
+        (and-then ! (load ! (from ! (stop !)) (look ! 105 refl)) (no-more !)) (λ v6.
         use1 W (later (some (λ (r6 : Counts). ((‵ ftrue) ⊛ ‵ (CountsT.the-row .own r6 (v6 ∷ []))) ⊛ raw
         (ensured 𝓤 H A G6.ended (G6.clauses 𝓤 H A at-mem run) tt (r1, tt) tt r6)))) (id⊢ 𝓤 _) $ await ! tt $ pick ! (λ r6. split ! $ move ! (1 ∷ []) $
         use1 W (some (λ (ws6 : (Unit {0} × Unit {0})). ‵ (lasts G6.ended tt (r1, tt) ws6) ⊛ raw (fact 𝓤 (r6 ≡ r1 .more)))) (id⊢ 𝓤 _) $
@@ -1641,10 +1749,10 @@ module _ {M : Type 1} (𝓤 : URA M) (H : Heap 𝓤) (A : Atoms 𝓤) (W : Given
         move ! (1 ∷ []) $
         peeks ! CountsT.the-row (Is CountsT.the-row) (shows 𝓤 H A CountsT.the-row) r6 (v6 ∷ []) (λ is6.
         drop ! $
-        land ! (from ! (stop !)) (init ! 43 refl (LL.lawful CountsT.the-type CountsL.the-laws 𝓤 H A W .typed r6 _ is6 .0)) $
+        land ! (from ! (stop !)) (init ! 45 refl (LL.lawful CountsT.the-type CountsL.the-laws 𝓤 H A W .typed r6 _ is6 .0)) $
         drop ! $
         -- call 7: add
-        move ! (40 ∷ 41 ∷ []) $
+        move ! (42 ∷ 43 ∷ []) $
         group ! 2 $
         use1 W (raw ((G7·C 𝓤 H A at-mem run) .pre
         ((((κ·counts, tt)), ((q·counts, tt)), tt, ((ref·counts γ·counts counts), (r6, tt)), (s·counts ∷ [], (v6 ∷ [], tt))), tt)))
@@ -1654,7 +1762,7 @@ module _ {M : Type 1} (𝓤 : URA M) (H : Heap 𝓤) (A : Atoms 𝓤) (W : Given
         fjoin ! $ done !) $
         calls-at ! fm (G7·C 𝓤 H A at-mem run) known·7
         ((((κ·counts, tt)), ((q·counts, tt)), tt, ((ref·counts γ·counts counts), (r6, tt)), (s·counts ∷ [], (v6 ∷ [], tt))), tt)
-        (and-then ! (load ! (from ! (stop !)) (look ! 43 refl)) (and-then ! (load ! (from ! (stop !)) (look ! 41 refl)) (no-more !))) (λ v7.
+        (and-then ! (load ! (from ! (stop !)) (look ! 45 refl)) (and-then ! (load ! (from ! (stop !)) (look ! 43 refl)) (no-more !))) (λ v7.
         use1 W (later (some (λ (r7 : Unit {0}). ((‵ (flft κ·counts q·counts) ⊛ ‵ ftrue) ⊛ ‵ (unit .own r7 (v7 ∷ []))) ⊛ raw
         (ensured 𝓤 H A G7.ended (G7.clauses 𝓤 H A at-mem run) (κ·counts, tt) ((ref·counts γ·counts counts), (r6, tt)) tt r7)))) (id⊢ 𝓤 _) $
         await ! tt $ pick ! (λ r7. split ! $ move ! (1 ∷ []) $
@@ -1668,7 +1776,7 @@ module _ {M : Type 1} (𝓤 : URA M) (H : Heap 𝓤) (A : Atoms 𝓤) (W : Given
         split ! $
         move ! (1 ∷ []) $
         feqL ! (λ is7.
-        land ! (from ! (stop !)) (store ! 56 refl (subst (λ (vs : List Val). Holds (hasTy tyUnit (only vs)) × WT (only vs)) (sym is7) (tt, tt))) $
+        land ! (from ! (stop !)) (store ! 58 refl (subst (λ (vs : List Val). Holds (hasTy tyUnit (only vs)) × WT (only vs)) (sym is7) (tt, tt))) $
         split ! $
         move ! (1 ∷ []) $
         drop ! $
@@ -1678,7 +1786,7 @@ module _ {M : Type 1} (𝓤 : URA M) (H : Heap 𝓤) (A : Atoms 𝓤) (W : Given
         nothing ! $ owned ! AdvanceT.the-row (Is AdvanceT.the-row) (LL.makes AdvanceT.the-type AdvanceL.the-plain 𝓤 H A) r1 _ is1 $ fjoin ! $
         move ! (1 ∷ 0 ∷ []) $ join ! $ frame ! $ done !) $
         calls-at ! fm (G8·C 𝓤 H A at-mem run) known·8 ((tt, tt, tt, (r1, tt), (v1 ∷ [], tt)), tt)
-        (and-then ! (load ! (from ! (stop !)) (look ! 99 refl)) (no-more !)) (λ v8.
+        (and-then ! (load ! (from ! (stop !)) (look ! 105 refl)) (no-more !)) (λ v8.
         use1 W (later (some (λ (r8 : Run). ((‵ ftrue) ⊛ ‵ (RunT.the-row .own r8 (v8 ∷ []))) ⊛ raw
         (ensured 𝓤 H A G8.ended (G8.clauses 𝓤 H A at-mem run) tt (r1, tt) tt r8)))) (id⊢ 𝓤 _) $ await ! tt $ pick ! (λ r8. split ! $ move ! (1 ∷ []) $
         use1 W (some (λ (ws8 : (Unit {0} × Unit {0})). ‵ (lasts G8.ended tt (r1, tt) ws8) ⊛ raw (fact 𝓤 (r8 ≡ r1 .next)))) (id⊢ 𝓤 _) $
@@ -1689,35 +1797,34 @@ module _ {M : Type 1} (𝓤 : URA M) (H : Heap 𝓤) (A : Atoms 𝓤) (W : Given
         move ! (1 ∷ []) $
         peeks ! RunT.the-row (Is RunT.the-row) (shows 𝓤 H A RunT.the-row) r8 (v8 ∷ []) (λ is8.
         drop ! $
-        land ! (from ! (stop !)) (init ! 145 refl (LL.lawful RunT.the-type RunL.the-laws 𝓤 H A W .typed r8 _ is8 .0)) $
+        land ! (from ! (stop !)) (init ! 153 refl (LL.lawful RunT.the-type RunL.the-laws 𝓤 H A W .typed r8 _ is8 .0)) $
         drop ! $
-        returns ! (look ! 144 refl) $
-        forget ! 144 refl $
-        move ! (144 ∷ 145 ∷ []) $
-        free1 ! $
-        forget ! 142 refl $
-        move ! (142 ∷ 143 ∷ []) $
+        returns ! (look ! 152 refl) $
+        forget ! 152 refl $
+        move ! (152 ∷ 153 ∷ []) $
         free1 ! $
         seg·4 l0 l1 l2 l3 l4 l5 l6 l7 l8 l9 l10 l11 l12 l13 l14 l15 l16 l17 l18 l19 l20 l21 l22 l23 l24 l25 l26 l27 l28 l29 l30 l31 l32 l33 l34 l35
-        l36 l37 l38 l39 l40 l41 l42 l43 l44 l45 l46 l47 l48 l49 l50 l51 v1 r1 ws1 e1 len·1·vars len·1·index len·1·words len·1·defs len·1·rows
-        len·1·lists len·1·kept len·1·feet len·1·cells len·1·ids is1 v2 r2 ws2 e2 is2 v3 r3 ws3 e3 is3 v4 r4 ws4 e4 is4 v5 r5 ws5 e5 len·5·facts is5 v6
-        r6 ws6 e6 is6 v7 r7 ws7 e7 is7 v8 r8 ws8 e8 is8)))))))))))))))
+        l36 l37 l38 l39 l40 l41 l42 l43 l44 l45 l46 l47 l48 l49 l50 l51 l52 l53 l54 v1 r1 ws1 e1 len·1·vars len·1·index len·1·words len·1·defs
+        len·1·rows len·1·lists len·1·kept len·1·feet len·1·cells len·1·ids len·1·memo is1 v2 r2 ws2 e2 is2 v3 r3 ws3 e3 is3 v4 r4 ws4 e4 is4 v5 r5 ws5
+        e5 len·5·facts is5 v6 r6 ws6 e6 is6 v7 r7 ws7 e7 is7 v8 r8 ws8 e8 is8)))))))))))))))
 
     seg·2 : (l0 : ℕ) (l1 : ℕ) (l2 : ℕ) (l3 : ℕ) (l4 : ℕ) (l5 : ℕ) (l6 : ℕ) (l7 : ℕ) (l8 : ℕ) (l9 : ℕ) (l10 : ℕ) (l11 : ℕ) (l12 : ℕ) (l13 : ℕ)
         (l14 : ℕ) (l15 : ℕ) (l16 : ℕ) (l17 : ℕ) (l18 : ℕ) (l19 : ℕ) (l20 : ℕ) (l21 : ℕ) (l22 : ℕ) (l23 : ℕ) (l24 : ℕ) (l25 : ℕ) (l26 : ℕ) (l27 : ℕ)
         (l28 : ℕ) (l29 : ℕ) (l30 : ℕ) (l31 : ℕ) (l32 : ℕ) (l33 : ℕ) (l34 : ℕ) (l35 : ℕ) (l36 : ℕ) (l37 : ℕ) (l38 : ℕ) (l39 : ℕ) (l40 : ℕ) (l41 : ℕ)
-        (l42 : ℕ) (l43 : ℕ) (l44 : ℕ) (l45 : ℕ) (l46 : ℕ) (l47 : ℕ) (l48 : ℕ) (l49 : ℕ) (l50 : ℕ) (l51 : ℕ) (v1 : Val) (r1 : Advance)
-        (ws1 : (Unit {0} × (Unit {0} × (Unit {0} × (Unit {0} × (Unit {0} × (Unit {0} ×
-        (Unit {0} × (Unit {0} × (Unit {0} × (Unit {0} × ((List ℕ) × ((List ℕ) ×
-        ((List ℕ) × ((List ℕ) × ((List ℕ) × ((List ℕ) × ((List ℕ) × ((List ℕ) × ((List ℕ) × ((List ℕ) × Unit {0})))))))))))))))))))))
+        (l42 : ℕ) (l43 : ℕ) (l44 : ℕ) (l45 : ℕ) (l46 : ℕ) (l47 : ℕ) (l48 : ℕ) (l49 : ℕ) (l50 : ℕ) (l51 : ℕ) (l52 : ℕ) (l53 : ℕ) (l54 : ℕ) (v1 : Val)
+        (r1 : Advance) (ws1 : (Unit {0} × (Unit {0} × (Unit {0} × (Unit {0} ×
+        (Unit {0} × (Unit {0} × (Unit {0} × (Unit {0} × (Unit {0} × (Unit {0} ×
+        ((List ℕ) × ((List ℕ) × ((List ℕ) × ((List ℕ) × ((List ℕ) × ((List ℕ) ×
+        ((List ℕ) × ((List ℕ) × ((List ℕ) × ((List ℕ) × ((List ℕ) × Unit {0}))))))))))))))))))))))
         (e1 : (g : Going theory goals proof (theoryLists sorts symbols inputs rules rulevars patterns) (working vars index words defs rows lists) kept
-        feet cells ids s) → Advanced theory goals proof (theoryLists sorts symbols inputs rules rulevars patterns)
+        feet cells ids memo s) → Advanced theory goals proof (theoryLists sorts symbols inputs rules rulevars patterns)
         (working vars index words defs rows lists) (working (ws1 .1 .1 .1 .1 .1 .1 .1 .1 .1 .1 .0) (ws1 .1 .1 .1 .1 .1 .1 .1 .1 .1 .1 .1 .0)
         (ws1 .1 .1 .1 .1 .1 .1 .1 .1 .1 .1 .1 .1 .0) (ws1 .1 .1 .1 .1 .1 .1 .1 .1 .1 .1 .1 .1 .1 .0)
         (ws1 .1 .1 .1 .1 .1 .1 .1 .1 .1 .1 .1 .1 .1 .1 .0) (ws1 .1 .1 .1 .1 .1 .1 .1 .1 .1 .1 .1 .1 .1 .1 .1 .0)) kept feet
         (ws1 .1 .1 .1 .1 .1 .1 .1 .1 .1 .1 .1 .1 .1 .1 .1 .1 .0) (ws1 .1 .1 .1 .1 .1 .1 .1 .1 .1 .1 .1 .1 .1 .1 .1 .1 .1 .0)
-        (ws1 .1 .1 .1 .1 .1 .1 .1 .1 .1 .1 .1 .1 .1 .1 .1 .1 .1 .1 .0) (ws1 .1 .1 .1 .1 .1 .1 .1 .1 .1 .1 .1 .1 .1 .1 .1 .1 .1 .1 .1 .0) s
-        (g .held .S) (r1 .next) (r1 .stored) (r1 .fact) (r1 .more)) (len·1·vars : length (ws1 .1 .1 .1 .1 .1 .1 .1 .1 .1 .1 .0) ≡ length vars)
+        (ws1 .1 .1 .1 .1 .1 .1 .1 .1 .1 .1 .1 .1 .1 .1 .1 .1 .1 .1 .0) (ws1 .1 .1 .1 .1 .1 .1 .1 .1 .1 .1 .1 .1 .1 .1 .1 .1 .1 .1 .1 .0)
+        (ws1 .1 .1 .1 .1 .1 .1 .1 .1 .1 .1 .1 .1 .1 .1 .1 .1 .1 .1 .1 .1 .0) s (g .held .S) (r1 .next) (r1 .stored) (r1 .fact) (r1 .more))
+        (len·1·vars : length (ws1 .1 .1 .1 .1 .1 .1 .1 .1 .1 .1 .0) ≡ length vars)
         (len·1·index : length (ws1 .1 .1 .1 .1 .1 .1 .1 .1 .1 .1 .1 .0) ≡ length index)
         (len·1·words : length (ws1 .1 .1 .1 .1 .1 .1 .1 .1 .1 .1 .1 .1 .0) ≡ length words)
         (len·1·defs : length (ws1 .1 .1 .1 .1 .1 .1 .1 .1 .1 .1 .1 .1 .1 .0) ≡ length defs)
@@ -1726,8 +1833,11 @@ module _ {M : Type 1} (𝓤 : URA M) (H : Heap 𝓤) (A : Atoms 𝓤) (W : Given
         (len·1·kept : length (ws1 .1 .1 .1 .1 .1 .1 .1 .1 .1 .1 .1 .1 .1 .1 .1 .1 .0) ≡ length kept)
         (len·1·feet : length (ws1 .1 .1 .1 .1 .1 .1 .1 .1 .1 .1 .1 .1 .1 .1 .1 .1 .1 .0) ≡ length feet)
         (len·1·cells : length (ws1 .1 .1 .1 .1 .1 .1 .1 .1 .1 .1 .1 .1 .1 .1 .1 .1 .1 .1 .0) ≡ length cells)
-        (len·1·ids : length (ws1 .1 .1 .1 .1 .1 .1 .1 .1 .1 .1 .1 .1 .1 .1 .1 .1 .1 .1 .1 .0) ≡ length ids) (is1 : Is AdvanceT.the-row r1 (v1 ∷ [])) →
-        Sq W (‵ (flft κ·ids q·ids)
+        (len·1·ids : length (ws1 .1 .1 .1 .1 .1 .1 .1 .1 .1 .1 .1 .1 .1 .1 .1 .1 .1 .1 .1 .0) ≡ length ids)
+        (len·1·memo : length (ws1 .1 .1 .1 .1 .1 .1 .1 .1 .1 .1 .1 .1 .1 .1 .1 .1 .1 .1 .1 .1 .0) ≡ length memo)
+        (is1 : Is AdvanceT.the-row r1 (v1 ∷ [])) →
+        Sq W (‵ (flft κ·memo q·memo)
+        ∷ ‵ (flft κ·ids q·ids)
         ∷ ‵ (flft κ·cells q·cells)
         ∷ ‵ (flft κ·feet q·feet)
         ∷ ‵ (flft κ·kept q·kept)
@@ -1746,6 +1856,7 @@ module _ {M : Type 1} (𝓤 : URA M) (H : Heap 𝓤) (A : Atoms 𝓤) (W : Given
         ∷ ‵ (flft κ·proof q·proof)
         ∷ ‵ (flft κ·goals q·goals)
         ∷ ‵ (flft κ·theory q·theory)
+        ∷ ‵ (finally u32 γ·memo (ws1 .1 .1 .1 .1 .1 .1 .1 .1 .1 .1 .1 .1 .1 .1 .1 .1 .1 .1 .1 .1 .0))
         ∷ ‵ (finally u32 γ·ids (ws1 .1 .1 .1 .1 .1 .1 .1 .1 .1 .1 .1 .1 .1 .1 .1 .1 .1 .1 .1 .0))
         ∷ ‵ (finally u32 γ·cells (ws1 .1 .1 .1 .1 .1 .1 .1 .1 .1 .1 .1 .1 .1 .1 .1 .1 .1 .1 .0))
         ∷ ‵ (finally u64 γ·feet (ws1 .1 .1 .1 .1 .1 .1 .1 .1 .1 .1 .1 .1 .1 .1 .1 .1 .1 .0))
@@ -1767,70 +1878,76 @@ module _ {M : Type 1} (𝓤 : URA M) (H : Heap 𝓤) (A : Atoms 𝓤) (W : Given
         ∷ ‵ (ShrSlice (named 0) κ·theory u8 .own (ref·theory γ·theory theory) (s·theory ∷ []))
         ∷ ‵ (flft κ·counts q·counts)
         ∷ ‵ (flft κ·facts q·facts)
-        ∷ ‵ (MutRef (named 20) κ·counts CountsT.the-row .own (ref·counts γ·counts counts) (s·counts ∷ []))
-        ∷ ‵ (MutSlice (named 19) κ·facts FactT.the-row .own (ref·facts γ·facts facts) (s·facts ∷ []))
-        ∷ ‵ (froom CountsL.mir l51 0)
-        ∷ ‵ (fdies CountsL.mir l51)
-        ∷ ‵ (froom (tyRef erased mut (pointee (CountsT.the-row .written))) l50 0)
-        ∷ ‵ (fdies (tyRef erased mut (pointee (CountsT.the-row .written))) l50)
-        ∷ ‵ (froom FactL.mir l49 0)
-        ∷ ‵ (fdies FactL.mir l49)
-        ∷ ‵ (froom (tyInt w64) l48 0)
-        ∷ ‵ (fdies (tyInt w64) l48)
-        ∷ ‵ (froom tyBool l47 0)
-        ∷ ‵ (fdies tyBool l47)
-        ∷ ‵ (froom (sliceTy (tyRef erased mut (pointee (FactT.the-row .written)))) l46 0)
-        ∷ ‵ (fdies (sliceTy (tyRef erased mut (pointee (FactT.the-row .written)))) l46)
-        ∷ ‵ (froom (tyRef erased mut (pointee (FactT.the-row .written))) l45 0)
-        ∷ ‵ (fdies (tyRef erased mut (pointee (FactT.the-row .written))) l45)
-        ∷ ‵ (froom tyUnit l44 0)
-        ∷ ‵ (fdies tyUnit l44)
-        ∷ ‵ (fat fullShare (sliceTy (tyRef erased mut (tyInt w32))) l43 0 s·ids)
-        ∷ ‵ (fdies (sliceTy (tyRef erased mut (tyInt w32))) l43)
-        ∷ ‵ (fat fullShare (tyRef erased mut (tyInt w32)) l42 0 (vptr b·ids o·ids))
-        ∷ ‵ (fdies (tyRef erased mut (tyInt w32)) l42)
-        ∷ ‵ (fat fullShare (sliceTy (tyRef erased mut (tyInt w32))) l41 0 s·cells)
-        ∷ ‵ (fdies (sliceTy (tyRef erased mut (tyInt w32))) l41)
-        ∷ ‵ (fat fullShare (tyRef erased mut (tyInt w32)) l40 0 (vptr b·cells o·cells))
-        ∷ ‵ (fdies (tyRef erased mut (tyInt w32)) l40)
-        ∷ ‵ (fat fullShare (sliceTy (tyRef erased mut (tyInt w64))) l39 0 s·feet)
-        ∷ ‵ (fdies (sliceTy (tyRef erased mut (tyInt w64))) l39)
-        ∷ ‵ (fat fullShare (tyRef erased mut (tyInt w64)) l38 0 (vptr b·feet o·feet))
-        ∷ ‵ (fdies (tyRef erased mut (tyInt w64)) l38)
-        ∷ ‵ (fat fullShare (sliceTy (tyRef erased mut (tyInt w32))) l37 0 s·kept)
-        ∷ ‵ (fdies (sliceTy (tyRef erased mut (tyInt w32))) l37)
-        ∷ ‵ (fat fullShare (tyRef erased mut (tyInt w32)) l36 0 (vptr b·kept o·kept))
-        ∷ ‵ (fdies (tyRef erased mut (tyInt w32)) l36)
-        ∷ ‵ (fat fullShare (sliceTy (tyRef erased mut (tyInt w32))) l35 0 s·lists)
-        ∷ ‵ (fdies (sliceTy (tyRef erased mut (tyInt w32))) l35)
-        ∷ ‵ (fat fullShare (tyRef erased mut (tyInt w32)) l34 0 (vptr b·lists o·lists))
-        ∷ ‵ (fdies (tyRef erased mut (tyInt w32)) l34)
-        ∷ ‵ (fat fullShare (sliceTy (tyRef erased mut (tyInt w32))) l33 0 s·rows)
-        ∷ ‵ (fdies (sliceTy (tyRef erased mut (tyInt w32))) l33)
-        ∷ ‵ (fat fullShare (tyRef erased mut (tyInt w32)) l32 0 (vptr b·rows o·rows))
-        ∷ ‵ (fdies (tyRef erased mut (tyInt w32)) l32)
-        ∷ ‵ (fat fullShare (sliceTy (tyRef erased mut (tyInt w32))) l31 0 s·defs)
-        ∷ ‵ (fdies (sliceTy (tyRef erased mut (tyInt w32))) l31)
-        ∷ ‵ (fat fullShare (tyRef erased mut (tyInt w32)) l30 0 (vptr b·defs o·defs))
-        ∷ ‵ (fdies (tyRef erased mut (tyInt w32)) l30)
-        ∷ ‵ (fat fullShare (sliceTy (tyRef erased mut (tyInt w32))) l29 0 s·words)
-        ∷ ‵ (fdies (sliceTy (tyRef erased mut (tyInt w32))) l29)
-        ∷ ‵ (fat fullShare (tyRef erased mut (tyInt w32)) l28 0 (vptr b·words o·words))
-        ∷ ‵ (fdies (tyRef erased mut (tyInt w32)) l28)
-        ∷ ‵ (fat fullShare (sliceTy (tyRef erased mut (tyInt w32))) l27 0 s·index)
-        ∷ ‵ (fdies (sliceTy (tyRef erased mut (tyInt w32))) l27)
-        ∷ ‵ (fat fullShare (tyRef erased mut (tyInt w32)) l26 0 (vptr b·index o·index))
-        ∷ ‵ (fdies (tyRef erased mut (tyInt w32)) l26)
-        ∷ ‵ (fat fullShare (sliceTy (tyRef erased mut (tyInt w32))) l25 0 s·vars)
-        ∷ ‵ (fdies (sliceTy (tyRef erased mut (tyInt w32))) l25)
-        ∷ ‵ (fat fullShare (tyRef erased mut (tyInt w32)) l24 0 (vptr b·vars o·vars))
-        ∷ ‵ (fdies (tyRef erased mut (tyInt w32)) l24)
-        ∷ ‵ (fat fullShare AdvanceL.mir l23 0 v1)
-        ∷ ‵ (fdies AdvanceL.mir l23)
-        ∷ ‵ (fat fullShare (tyRef (named 20) mut (pointee (CountsT.the-row .written))) l22 0 s·counts)
-        ∷ ‵ (fdies (tyRef (named 20) mut (pointee (CountsT.the-row .written))) l22)
-        ∷ ‵ (fat fullShare (sliceTy (tyRef (named 19) mut (pointee (FactT.the-row .written)))) l21 0 s·facts)
-        ∷ ‵ (fdies (sliceTy (tyRef (named 19) mut (pointee (FactT.the-row .written)))) l21)
+        ∷ ‵ (MutRef (named 21) κ·counts CountsT.the-row .own (ref·counts γ·counts counts) (s·counts ∷ []))
+        ∷ ‵ (MutSlice (named 20) κ·facts FactT.the-row .own (ref·facts γ·facts facts) (s·facts ∷ []))
+        ∷ ‵ (froom CountsL.mir l54 0)
+        ∷ ‵ (fdies CountsL.mir l54)
+        ∷ ‵ (froom (tyRef erased mut (pointee (CountsT.the-row .written))) l53 0)
+        ∷ ‵ (fdies (tyRef erased mut (pointee (CountsT.the-row .written))) l53)
+        ∷ ‵ (froom FactL.mir l52 0)
+        ∷ ‵ (fdies FactL.mir l52)
+        ∷ ‵ (froom (tyInt w64) l51 0)
+        ∷ ‵ (fdies (tyInt w64) l51)
+        ∷ ‵ (froom tyBool l50 0)
+        ∷ ‵ (fdies tyBool l50)
+        ∷ ‵ (froom (sliceTy (tyRef erased mut (pointee (FactT.the-row .written)))) l49 0)
+        ∷ ‵ (fdies (sliceTy (tyRef erased mut (pointee (FactT.the-row .written)))) l49)
+        ∷ ‵ (froom (tyRef erased mut (pointee (FactT.the-row .written))) l48 0)
+        ∷ ‵ (fdies (tyRef erased mut (pointee (FactT.the-row .written))) l48)
+        ∷ ‵ (froom tyUnit l47 0)
+        ∷ ‵ (fdies tyUnit l47)
+        ∷ ‵ (fat fullShare (sliceTy (tyRef erased mut (tyInt w32))) l46 0 s·memo)
+        ∷ ‵ (fdies (sliceTy (tyRef erased mut (tyInt w32))) l46)
+        ∷ ‵ (fat fullShare (tyRef erased mut (tyInt w32)) l45 0 (vptr b·memo o·memo))
+        ∷ ‵ (fdies (tyRef erased mut (tyInt w32)) l45)
+        ∷ ‵ (fat fullShare (sliceTy (tyRef erased mut (tyInt w32))) l44 0 s·ids)
+        ∷ ‵ (fdies (sliceTy (tyRef erased mut (tyInt w32))) l44)
+        ∷ ‵ (fat fullShare (tyRef erased mut (tyInt w32)) l43 0 (vptr b·ids o·ids))
+        ∷ ‵ (fdies (tyRef erased mut (tyInt w32)) l43)
+        ∷ ‵ (fat fullShare (sliceTy (tyRef erased mut (tyInt w32))) l42 0 s·cells)
+        ∷ ‵ (fdies (sliceTy (tyRef erased mut (tyInt w32))) l42)
+        ∷ ‵ (fat fullShare (tyRef erased mut (tyInt w32)) l41 0 (vptr b·cells o·cells))
+        ∷ ‵ (fdies (tyRef erased mut (tyInt w32)) l41)
+        ∷ ‵ (fat fullShare (sliceTy (tyRef erased mut (tyInt w64))) l40 0 s·feet)
+        ∷ ‵ (fdies (sliceTy (tyRef erased mut (tyInt w64))) l40)
+        ∷ ‵ (fat fullShare (tyRef erased mut (tyInt w64)) l39 0 (vptr b·feet o·feet))
+        ∷ ‵ (fdies (tyRef erased mut (tyInt w64)) l39)
+        ∷ ‵ (fat fullShare (sliceTy (tyRef erased mut (tyInt w32))) l38 0 s·kept)
+        ∷ ‵ (fdies (sliceTy (tyRef erased mut (tyInt w32))) l38)
+        ∷ ‵ (fat fullShare (tyRef erased mut (tyInt w32)) l37 0 (vptr b·kept o·kept))
+        ∷ ‵ (fdies (tyRef erased mut (tyInt w32)) l37)
+        ∷ ‵ (fat fullShare (sliceTy (tyRef erased mut (tyInt w32))) l36 0 s·lists)
+        ∷ ‵ (fdies (sliceTy (tyRef erased mut (tyInt w32))) l36)
+        ∷ ‵ (fat fullShare (tyRef erased mut (tyInt w32)) l35 0 (vptr b·lists o·lists))
+        ∷ ‵ (fdies (tyRef erased mut (tyInt w32)) l35)
+        ∷ ‵ (fat fullShare (sliceTy (tyRef erased mut (tyInt w32))) l34 0 s·rows)
+        ∷ ‵ (fdies (sliceTy (tyRef erased mut (tyInt w32))) l34)
+        ∷ ‵ (fat fullShare (tyRef erased mut (tyInt w32)) l33 0 (vptr b·rows o·rows))
+        ∷ ‵ (fdies (tyRef erased mut (tyInt w32)) l33)
+        ∷ ‵ (fat fullShare (sliceTy (tyRef erased mut (tyInt w32))) l32 0 s·defs)
+        ∷ ‵ (fdies (sliceTy (tyRef erased mut (tyInt w32))) l32)
+        ∷ ‵ (fat fullShare (tyRef erased mut (tyInt w32)) l31 0 (vptr b·defs o·defs))
+        ∷ ‵ (fdies (tyRef erased mut (tyInt w32)) l31)
+        ∷ ‵ (fat fullShare (sliceTy (tyRef erased mut (tyInt w32))) l30 0 s·words)
+        ∷ ‵ (fdies (sliceTy (tyRef erased mut (tyInt w32))) l30)
+        ∷ ‵ (fat fullShare (tyRef erased mut (tyInt w32)) l29 0 (vptr b·words o·words))
+        ∷ ‵ (fdies (tyRef erased mut (tyInt w32)) l29)
+        ∷ ‵ (fat fullShare (sliceTy (tyRef erased mut (tyInt w32))) l28 0 s·index)
+        ∷ ‵ (fdies (sliceTy (tyRef erased mut (tyInt w32))) l28)
+        ∷ ‵ (fat fullShare (tyRef erased mut (tyInt w32)) l27 0 (vptr b·index o·index))
+        ∷ ‵ (fdies (tyRef erased mut (tyInt w32)) l27)
+        ∷ ‵ (fat fullShare (sliceTy (tyRef erased mut (tyInt w32))) l26 0 s·vars)
+        ∷ ‵ (fdies (sliceTy (tyRef erased mut (tyInt w32))) l26)
+        ∷ ‵ (fat fullShare (tyRef erased mut (tyInt w32)) l25 0 (vptr b·vars o·vars))
+        ∷ ‵ (fdies (tyRef erased mut (tyInt w32)) l25)
+        ∷ ‵ (fat fullShare AdvanceL.mir l24 0 v1)
+        ∷ ‵ (fdies AdvanceL.mir l24)
+        ∷ ‵ (fat fullShare (tyRef (named 21) mut (pointee (CountsT.the-row .written))) l23 0 s·counts)
+        ∷ ‵ (fdies (tyRef (named 21) mut (pointee (CountsT.the-row .written))) l23)
+        ∷ ‵ (fat fullShare (sliceTy (tyRef (named 20) mut (pointee (FactT.the-row .written)))) l22 0 s·facts)
+        ∷ ‵ (fdies (sliceTy (tyRef (named 20) mut (pointee (FactT.the-row .written)))) l22)
+        ∷ ‵ (fat fullShare (sliceTy (tyRef (named 19) mut (tyInt w32))) l21 0 s·memo)
+        ∷ ‵ (fdies (sliceTy (tyRef (named 19) mut (tyInt w32))) l21)
         ∷ ‵ (fat fullShare (sliceTy (tyRef (named 18) mut (tyInt w32))) l20 0 s·ids)
         ∷ ‵ (fdies (sliceTy (tyRef (named 18) mut (tyInt w32))) l20)
         ∷ ‵ (fat fullShare (sliceTy (tyRef (named 17) mut (tyInt w32))) l19 0 s·cells)
@@ -1874,24 +1991,24 @@ module _ {M : Type 1} (𝓤 : URA M) (H : Heap 𝓤) (A : Atoms 𝓤) (W : Given
         ∷ ‵ (froom RunL.mir l0 0)
         ∷ ‵ (fdies RunL.mir l0) ∷ [])
         (runs C Λ (En l0 l1 l2 l3 l4 l5 l6 l7 l8 l9 l10 l11 l12 l13 l14 l15 l16 l17 l18 l19 l20 l21 l22 l23 l24 l25 l26 l27 l28 l29 l30 l31 l32 l33
-        l34 l35 l36 l37 l38 l39 l40 l41 l42 l43 l44 l45 l46 l47 l48 l49 l50 l51) pieces.t-22
+        l34 l35 l36 l37 l38 l39 l40 l41 l42 l43 l44 l45 l46 l47 l48 l49 l50 l51 l52 l53 l54) pieces.t-24
         (atRet (En l0 l1 l2 l3 l4 l5 l6 l7 l8 l9 l10 l11 l12 l13 l14 l15 l16 l17 l18 l19 l20 l21 l22 l23 l24 l25 l26 l27 l28 l29 l30 l31 l32 l33 l34
-        l35 l36 l37 l38 l39 l40 l41 l42 l43 l44 l45 l46 l47 l48 l49 l50 l51) Post))
+        l35 l36 l37 l38 l39 l40 l41 l42 l43 l44 l45 l46 l47 l48 l49 l50 l51 l52 l53 l54) Post))
     seg·2 l0 l1 l2 l3 l4 l5 l6 l7 l8 l9 l10 l11 l12 l13 l14 l15 l16 l17 l18 l19 l20 l21 l22 l23 l24 l25 l26 l27 l28 l29 l30 l31 l32 l33 l34 l35 l36
-        l37 l38 l39 l40 l41 l42 l43 l44 l45 l46 l47 l48 l49 l50 l51 v1 r1 ws1 e1 len·1·vars len·1·index len·1·words len·1·defs len·1·rows len·1·lists
-        len·1·kept len·1·feet len·1·cells len·1·ids is1 =
-        assigns ! (addr ! (from ! (fld ! refl (hop ! (look-in ! 102 (sub ! 0 refl (whole !))) (stop !))))) (from ! (stop !))
-        (init ! 54 refl (tt, tt)) $
-        assigns ! (agg ! (and-then ! (load ! (from ! (stop !)) (look ! 54 refl))
-        (and-then ! (load ! (from ! (fld ! refl (stop !))) (look-in ! 102 (sub ! 1 refl (whole !)))) (no-more !)))) (from ! (stop !))
-        (init ! 52 refl (tt, (tt, (record { fits = room·facts .0 }, tt)))) $
+        l37 l38 l39 l40 l41 l42 l43 l44 l45 l46 l47 l48 l49 l50 l51 l52 l53 l54 v1 r1 ws1 e1 len·1·vars len·1·index len·1·words len·1·defs len·1·rows
+        len·1·lists len·1·kept len·1·feet len·1·cells len·1·ids len·1·memo is1 =
+        assigns ! (addr ! (from ! (fld ! refl (hop ! (look-in ! 108 (sub ! 0 refl (whole !))) (stop !))))) (from ! (stop !))
+        (init ! 56 refl (tt, tt)) $
+        assigns ! (agg ! (and-then ! (load ! (from ! (stop !)) (look ! 56 refl))
+        (and-then ! (load ! (from ! (fld ! refl (stop !))) (look-in ! 108 (sub ! 1 refl (whole !)))) (no-more !)))) (from ! (stop !))
+        (init ! 54 refl (tt, (tt, (record { fits = room·facts .0 }, tt)))) $
         -- call 2: stored_of
         nothing ! $
         use1 W (raw ((G2·C 𝓤 H A at-mem run) .pre ((tt, tt, tt, (r1, tt), (v1 ∷ [], tt)), tt))) (qed W (‵ ftrue ∷ []) ∵ drop ! $ nothing ! $
         nothing ! $ owned ! AdvanceT.the-row (Is AdvanceT.the-row) (LL.makes AdvanceT.the-type AdvanceL.the-plain 𝓤 H A) r1 _ is1 $ fjoin ! $
         move ! (1 ∷ 0 ∷ []) $ join ! $ frame ! $ done !) $
         calls-at ! fm (G2·C 𝓤 H A at-mem run) known·2 ((tt, tt, tt, (r1, tt), (v1 ∷ [], tt)), tt)
-        (and-then ! (load ! (from ! (stop !)) (look ! 99 refl)) (no-more !)) (λ v2.
+        (and-then ! (load ! (from ! (stop !)) (look ! 105 refl)) (no-more !)) (λ v2.
         use1 W (later (some (λ (r2 : Bool). ((‵ ftrue) ⊛ ‵ (bool .own r2 (v2 ∷ []))) ⊛ raw
         (ensured 𝓤 H A G2.ended (G2.clauses 𝓤 H A at-mem run) tt (r1, tt) tt r2)))) (id⊢ 𝓤 _) $ await ! tt $ pick ! (λ r2. split ! $ move ! (1 ∷ []) $
         use1 W (some (λ (ws2 : (Unit {0} × Unit {0})). ‵ (lasts G2.ended tt (r1, tt) ws2) ⊛ raw (fact 𝓤 (r2 ≡ r1 .stored)))) (id⊢ 𝓤 _) $
@@ -1902,7 +2019,7 @@ module _ {M : Type 1} (𝓤 : URA M) (H : Heap 𝓤) (A : Atoms 𝓤) (W : Given
         move ! (1 ∷ []) $
         peeks ! bool (Is bool) (shows 𝓤 H A bool) r2 (v2 ∷ []) (λ is2.
         drop ! $
-        land ! (from ! (stop !)) (init ! 51 refl (bool-lawful 𝓤 H A W .typed r2 _ is2 .0)) $
+        land ! (from ! (stop !)) (init ! 53 refl (bool-lawful 𝓤 H A W .typed r2 _ is2 .0)) $
         drop ! $
         -- call 3: index_of
         nothing ! $
@@ -1910,7 +2027,7 @@ module _ {M : Type 1} (𝓤 : URA M) (H : Heap 𝓤) (A : Atoms 𝓤) (W : Given
         nothing ! $ owned ! RunT.the-row (Is RunT.the-row) (LL.makes RunT.the-type RunL.the-plain 𝓤 H A) s _ is·s $ fjoin ! $ move ! (1 ∷ 0 ∷ []) $
         join ! $ frame ! $ done !) $
         calls-at ! fm (G3·C 𝓤 H A at-mem run) known·3 ((tt, tt, tt, (s, tt), (v·s ∷ [], tt)), tt)
-        (and-then ! (load ! (from ! (stop !)) (look ! 137 refl)) (no-more !)) (λ v3.
+        (and-then ! (load ! (from ! (stop !)) (look ! 145 refl)) (no-more !)) (λ v3.
         use1 W (later (some (λ (r3 : ℕ). ((‵ ftrue) ⊛ ‵ (usize .own r3 (v3 ∷ []))) ⊛ raw
         (ensured 𝓤 H A G3.ended (G3.clauses 𝓤 H A at-mem run) tt (s, tt) tt r3)))) (id⊢ 𝓤 _) $ await ! tt $ pick ! (λ r3. split ! $ move ! (1 ∷ []) $
         use1 W (some (λ (ws3 : (Unit {0} × Unit {0})). ‵ (lasts G3.ended tt (s, tt) ws3) ⊛ raw (fact 𝓤 (r3 ≡ s .sizes .facts)))) (id⊢ 𝓤 _) $
@@ -1921,7 +2038,7 @@ module _ {M : Type 1} (𝓤 : URA M) (H : Heap 𝓤) (A : Atoms 𝓤) (W : Given
         move ! (1 ∷ []) $
         peeks ! usize (Is usize) (shows 𝓤 H A usize) r3 (v3 ∷ []) (λ is3.
         drop ! $
-        land ! (from ! (stop !)) (init ! 49 refl (uint-lawful 𝓤 H A W w64 .typed r3 _ is3 .0)) $
+        land ! (from ! (stop !)) (init ! 51 refl (uint-lawful 𝓤 H A W w64 .typed r3 _ is3 .0)) $
         drop ! $
         -- call 4: fact_of
         nothing ! $
@@ -1929,7 +2046,7 @@ module _ {M : Type 1} (𝓤 : URA M) (H : Heap 𝓤) (A : Atoms 𝓤) (W : Given
         nothing ! $ owned ! AdvanceT.the-row (Is AdvanceT.the-row) (LL.makes AdvanceT.the-type AdvanceL.the-plain 𝓤 H A) r1 _ is1 $ fjoin ! $
         move ! (1 ∷ 0 ∷ []) $ join ! $ frame ! $ done !) $
         calls-at ! fm (G4·C 𝓤 H A at-mem run) known·4 ((tt, tt, tt, (r1, tt), (v1 ∷ [], tt)), tt)
-        (and-then ! (load ! (from ! (stop !)) (look ! 99 refl)) (no-more !)) (λ v4.
+        (and-then ! (load ! (from ! (stop !)) (look ! 105 refl)) (no-more !)) (λ v4.
         use1 W (later (some (λ (r4 : Fact). ((‵ ftrue) ⊛ ‵ (FactT.the-row .own r4 (v4 ∷ []))) ⊛ raw
         (ensured 𝓤 H A G4.ended (G4.clauses 𝓤 H A at-mem run) tt (r1, tt) tt r4)))) (id⊢ 𝓤 _) $ await ! tt $ pick ! (λ r4. split ! $ move ! (1 ∷ []) $
         use1 W (some (λ (ws4 : (Unit {0} × Unit {0})). ‵ (lasts G4.ended tt (r1, tt) ws4) ⊛ raw (fact 𝓤 (r4 ≡ r1 .fact)))) (id⊢ 𝓤 _) $
@@ -1940,10 +2057,10 @@ module _ {M : Type 1} (𝓤 : URA M) (H : Heap 𝓤) (A : Atoms 𝓤) (W : Given
         move ! (1 ∷ []) $
         peeks ! FactT.the-row (Is FactT.the-row) (shows 𝓤 H A FactT.the-row) r4 (v4 ∷ []) (λ is4.
         drop ! $
-        land ! (from ! (stop !)) (init ! 47 refl (LL.lawful FactT.the-type FactL.the-laws 𝓤 H A W .typed r4 _ is4 .0)) $
+        land ! (from ! (stop !)) (init ! 49 refl (LL.lawful FactT.the-type FactL.the-laws 𝓤 H A W .typed r4 _ is4 .0)) $
         drop ! $
         -- call 5: append_if
-        move ! (39 ∷ 41 ∷ []) $
+        move ! (41 ∷ 43 ∷ []) $
         group ! 2 $
         use1 W (raw ((G5·C 𝓤 H A at-mem run) .pre
         ((((κ·facts, tt)), ((q·facts, tt)), tt, ((ref·facts γ·facts facts), (r2, (r3, (r4, tt)))), (s·facts ∷ [], (v2 ∷ [], (v3 ∷ [], (v4 ∷ [], tt))))), tt)))
@@ -1954,8 +2071,8 @@ module _ {M : Type 1} (𝓤 : URA M) (H : Heap 𝓤) (A : Atoms 𝓤) (W : Given
         move ! (1 ∷ 0 ∷ []) $ fjoin ! $ done !) $
         calls-at ! fm (G5·C 𝓤 H A at-mem run) known·5
         ((((κ·facts, tt)), ((q·facts, tt)), tt, ((ref·facts γ·facts facts), (r2, (r3, (r4, tt)))), (s·facts ∷ [], (v2 ∷ [], (v3 ∷ [], (v4 ∷ [], tt))))), tt)
-        (and-then ! (load ! (from ! (stop !)) (look ! 51 refl)) (and-then ! (load ! (from ! (stop !)) (look ! 49 refl))
-        (and-then ! (load ! (from ! (stop !)) (look ! 47 refl)) (and-then ! (load ! (from ! (stop !)) (look ! 45 refl)) (no-more !))))) (λ v5.
+        (and-then ! (load ! (from ! (stop !)) (look ! 53 refl)) (and-then ! (load ! (from ! (stop !)) (look ! 51 refl))
+        (and-then ! (load ! (from ! (stop !)) (look ! 49 refl)) (and-then ! (load ! (from ! (stop !)) (look ! 47 refl)) (no-more !))))) (λ v5.
         use1 W (later (some (λ (r5 : Unit {0}). ((‵ (flft κ·facts q·facts) ⊛ ‵ ftrue) ⊛ ‵ (unit .own r5 (v5 ∷ []))) ⊛ raw
         (ensured 𝓤 H A G5.ended (G5.clauses 𝓤 H A at-mem run) (κ·facts, tt) ((ref·facts γ·facts facts), (r2, (r3, (r4, tt)))) tt r5)))) (id⊢ 𝓤 _) $
         await ! tt $ pick ! (λ r5. split ! $ move ! (1 ∷ []) $
@@ -1973,21 +2090,22 @@ module _ {M : Type 1} (𝓤 : URA M) (H : Heap 𝓤) (A : Atoms 𝓤) (W : Given
         split ! $
         move ! (1 ∷ []) $
         feqL ! (λ is5.
-        land ! (from ! (stop !)) (init ! 56 refl (subst (λ (vs : List Val). Holds (hasTy tyUnit (only vs)) × WT (only vs)) (sym is5) (tt, tt))) $
+        land ! (from ! (stop !)) (init ! 58 refl (subst (λ (vs : List Val). Holds (hasTy tyUnit (only vs)) × WT (only vs)) (sym is5) (tt, tt))) $
         split ! $
         move ! (1 ∷ []) $
         drop ! $
         seg·3 l0 l1 l2 l3 l4 l5 l6 l7 l8 l9 l10 l11 l12 l13 l14 l15 l16 l17 l18 l19 l20 l21 l22 l23 l24 l25 l26 l27 l28 l29 l30 l31 l32 l33 l34 l35
-        l36 l37 l38 l39 l40 l41 l42 l43 l44 l45 l46 l47 l48 l49 l50 l51 v1 r1 ws1 e1 len·1·vars len·1·index len·1·words len·1·defs len·1·rows
-        len·1·lists len·1·kept len·1·feet len·1·cells len·1·ids is1 v2 r2 ws2 e2 is2 v3 r3 ws3 e3 is3 v4 r4 ws4 e4 is4 v5 r5 ws5 e5 len·5·facts
-        is5)))))))))))))))))))))
+        l36 l37 l38 l39 l40 l41 l42 l43 l44 l45 l46 l47 l48 l49 l50 l51 l52 l53 l54 v1 r1 ws1 e1 len·1·vars len·1·index len·1·words len·1·defs
+        len·1·rows len·1·lists len·1·kept len·1·feet len·1·cells len·1·ids len·1·memo is1 v2 r2 ws2 e2 is2 v3 r3 ws3 e3 is3 v4 r4 ws4 e4 is4 v5 r5 ws5
+        e5 len·5·facts is5)))))))))))))))))))))
 
     seg·1 : (l0 : ℕ) (l1 : ℕ) (l2 : ℕ) (l3 : ℕ) (l4 : ℕ) (l5 : ℕ) (l6 : ℕ) (l7 : ℕ) (l8 : ℕ) (l9 : ℕ) (l10 : ℕ) (l11 : ℕ) (l12 : ℕ) (l13 : ℕ)
         (l14 : ℕ) (l15 : ℕ) (l16 : ℕ) (l17 : ℕ) (l18 : ℕ) (l19 : ℕ) (l20 : ℕ) (l21 : ℕ) (l22 : ℕ) (l23 : ℕ) (l24 : ℕ) (l25 : ℕ) (l26 : ℕ) (l27 : ℕ)
         (l28 : ℕ) (l29 : ℕ) (l30 : ℕ) (l31 : ℕ) (l32 : ℕ) (l33 : ℕ) (l34 : ℕ) (l35 : ℕ) (l36 : ℕ) (l37 : ℕ) (l38 : ℕ) (l39 : ℕ) (l40 : ℕ) (l41 : ℕ)
-        (l42 : ℕ) (l43 : ℕ) (l44 : ℕ) (l45 : ℕ) (l46 : ℕ) (l47 : ℕ) (l48 : ℕ) (l49 : ℕ) (l50 : ℕ) (l51 : ℕ) →
+        (l42 : ℕ) (l43 : ℕ) (l44 : ℕ) (l45 : ℕ) (l46 : ℕ) (l47 : ℕ) (l48 : ℕ) (l49 : ℕ) (l50 : ℕ) (l51 : ℕ) (l52 : ℕ) (l53 : ℕ) (l54 : ℕ) →
         Sq W (‵ (flft κ·counts q·counts)
         ∷ ‵ (flft κ·facts q·facts)
+        ∷ ‵ (flft κ·memo q·memo)
         ∷ ‵ (flft κ·ids q·ids)
         ∷ ‵ (flft κ·cells q·cells)
         ∷ ‵ (flft κ·feet q·feet)
@@ -2007,8 +2125,9 @@ module _ {M : Type 1} (𝓤 : URA M) (H : Heap 𝓤) (A : Atoms 𝓤) (W : Given
         ∷ ‵ (flft κ·proof q·proof)
         ∷ ‵ (flft κ·goals q·goals)
         ∷ ‵ (flft κ·theory q·theory)
-        ∷ ‵ (MutRef (named 20) κ·counts CountsT.the-row .own (ref·counts γ·counts counts) (s·counts ∷ []))
-        ∷ ‵ (MutSlice (named 19) κ·facts FactT.the-row .own (ref·facts γ·facts facts) (s·facts ∷ []))
+        ∷ ‵ (MutRef (named 21) κ·counts CountsT.the-row .own (ref·counts γ·counts counts) (s·counts ∷ []))
+        ∷ ‵ (MutSlice (named 20) κ·facts FactT.the-row .own (ref·facts γ·facts facts) (s·facts ∷ []))
+        ∷ ‵ (MutSlice (named 19) κ·memo u32 .own (ref·memo γ·memo memo) (s·memo ∷ []))
         ∷ ‵ (MutSlice (named 18) κ·ids u32 .own (ref·ids γ·ids ids) (s·ids ∷ []))
         ∷ ‵ (MutSlice (named 17) κ·cells u32 .own (ref·cells γ·cells cells) (s·cells ∷ []))
         ∷ ‵ (MutSlice (named 16) κ·feet u64 .own (ref·feet γ·feet feet) (s·feet ∷ []))
@@ -2028,68 +2147,74 @@ module _ {M : Type 1} (𝓤 : URA M) (H : Heap 𝓤) (A : Atoms 𝓤) (W : Given
         ∷ ‵ (ShrSlice (named 2) κ·proof u8 .own (ref·proof γ·proof proof) (s·proof ∷ []))
         ∷ ‵ (ShrSlice (named 1) κ·goals u8 .own (ref·goals γ·goals goals) (s·goals ∷ []))
         ∷ ‵ (ShrSlice (named 0) κ·theory u8 .own (ref·theory γ·theory theory) (s·theory ∷ []))
-        ∷ ‵ (froom CountsL.mir l51 0)
-        ∷ ‵ (fdies CountsL.mir l51)
-        ∷ ‵ (froom (tyRef erased mut (pointee (CountsT.the-row .written))) l50 0)
-        ∷ ‵ (fdies (tyRef erased mut (pointee (CountsT.the-row .written))) l50)
-        ∷ ‵ (froom FactL.mir l49 0)
-        ∷ ‵ (fdies FactL.mir l49)
-        ∷ ‵ (froom (tyInt w64) l48 0)
-        ∷ ‵ (fdies (tyInt w64) l48)
-        ∷ ‵ (froom tyBool l47 0)
-        ∷ ‵ (fdies tyBool l47)
-        ∷ ‵ (froom (sliceTy (tyRef erased mut (pointee (FactT.the-row .written)))) l46 0)
-        ∷ ‵ (fdies (sliceTy (tyRef erased mut (pointee (FactT.the-row .written)))) l46)
-        ∷ ‵ (froom (tyRef erased mut (pointee (FactT.the-row .written))) l45 0)
-        ∷ ‵ (fdies (tyRef erased mut (pointee (FactT.the-row .written))) l45)
-        ∷ ‵ (froom tyUnit l44 0)
-        ∷ ‵ (fdies tyUnit l44)
-        ∷ ‵ (froom (sliceTy (tyRef erased mut (tyInt w32))) l43 0)
-        ∷ ‵ (fdies (sliceTy (tyRef erased mut (tyInt w32))) l43)
-        ∷ ‵ (froom (tyRef erased mut (tyInt w32)) l42 0)
-        ∷ ‵ (fdies (tyRef erased mut (tyInt w32)) l42)
-        ∷ ‵ (froom (sliceTy (tyRef erased mut (tyInt w32))) l41 0)
-        ∷ ‵ (fdies (sliceTy (tyRef erased mut (tyInt w32))) l41)
-        ∷ ‵ (froom (tyRef erased mut (tyInt w32)) l40 0)
-        ∷ ‵ (fdies (tyRef erased mut (tyInt w32)) l40)
-        ∷ ‵ (froom (sliceTy (tyRef erased mut (tyInt w64))) l39 0)
-        ∷ ‵ (fdies (sliceTy (tyRef erased mut (tyInt w64))) l39)
-        ∷ ‵ (froom (tyRef erased mut (tyInt w64)) l38 0)
-        ∷ ‵ (fdies (tyRef erased mut (tyInt w64)) l38)
-        ∷ ‵ (froom (sliceTy (tyRef erased mut (tyInt w32))) l37 0)
-        ∷ ‵ (fdies (sliceTy (tyRef erased mut (tyInt w32))) l37)
-        ∷ ‵ (froom (tyRef erased mut (tyInt w32)) l36 0)
-        ∷ ‵ (fdies (tyRef erased mut (tyInt w32)) l36)
-        ∷ ‵ (froom (sliceTy (tyRef erased mut (tyInt w32))) l35 0)
-        ∷ ‵ (fdies (sliceTy (tyRef erased mut (tyInt w32))) l35)
-        ∷ ‵ (froom (tyRef erased mut (tyInt w32)) l34 0)
-        ∷ ‵ (fdies (tyRef erased mut (tyInt w32)) l34)
-        ∷ ‵ (froom (sliceTy (tyRef erased mut (tyInt w32))) l33 0)
-        ∷ ‵ (fdies (sliceTy (tyRef erased mut (tyInt w32))) l33)
-        ∷ ‵ (froom (tyRef erased mut (tyInt w32)) l32 0)
-        ∷ ‵ (fdies (tyRef erased mut (tyInt w32)) l32)
-        ∷ ‵ (froom (sliceTy (tyRef erased mut (tyInt w32))) l31 0)
-        ∷ ‵ (fdies (sliceTy (tyRef erased mut (tyInt w32))) l31)
-        ∷ ‵ (froom (tyRef erased mut (tyInt w32)) l30 0)
-        ∷ ‵ (fdies (tyRef erased mut (tyInt w32)) l30)
-        ∷ ‵ (froom (sliceTy (tyRef erased mut (tyInt w32))) l29 0)
-        ∷ ‵ (fdies (sliceTy (tyRef erased mut (tyInt w32))) l29)
-        ∷ ‵ (froom (tyRef erased mut (tyInt w32)) l28 0)
-        ∷ ‵ (fdies (tyRef erased mut (tyInt w32)) l28)
-        ∷ ‵ (froom (sliceTy (tyRef erased mut (tyInt w32))) l27 0)
-        ∷ ‵ (fdies (sliceTy (tyRef erased mut (tyInt w32))) l27)
-        ∷ ‵ (froom (tyRef erased mut (tyInt w32)) l26 0)
-        ∷ ‵ (fdies (tyRef erased mut (tyInt w32)) l26)
-        ∷ ‵ (froom (sliceTy (tyRef erased mut (tyInt w32))) l25 0)
-        ∷ ‵ (fdies (sliceTy (tyRef erased mut (tyInt w32))) l25)
-        ∷ ‵ (froom (tyRef erased mut (tyInt w32)) l24 0)
-        ∷ ‵ (fdies (tyRef erased mut (tyInt w32)) l24)
-        ∷ ‵ (froom AdvanceL.mir l23 0)
-        ∷ ‵ (fdies AdvanceL.mir l23)
-        ∷ ‵ (fat fullShare (tyRef (named 20) mut (pointee (CountsT.the-row .written))) l22 0 s·counts)
-        ∷ ‵ (fdies (tyRef (named 20) mut (pointee (CountsT.the-row .written))) l22)
-        ∷ ‵ (fat fullShare (sliceTy (tyRef (named 19) mut (pointee (FactT.the-row .written)))) l21 0 s·facts)
-        ∷ ‵ (fdies (sliceTy (tyRef (named 19) mut (pointee (FactT.the-row .written)))) l21)
+        ∷ ‵ (froom CountsL.mir l54 0)
+        ∷ ‵ (fdies CountsL.mir l54)
+        ∷ ‵ (froom (tyRef erased mut (pointee (CountsT.the-row .written))) l53 0)
+        ∷ ‵ (fdies (tyRef erased mut (pointee (CountsT.the-row .written))) l53)
+        ∷ ‵ (froom FactL.mir l52 0)
+        ∷ ‵ (fdies FactL.mir l52)
+        ∷ ‵ (froom (tyInt w64) l51 0)
+        ∷ ‵ (fdies (tyInt w64) l51)
+        ∷ ‵ (froom tyBool l50 0)
+        ∷ ‵ (fdies tyBool l50)
+        ∷ ‵ (froom (sliceTy (tyRef erased mut (pointee (FactT.the-row .written)))) l49 0)
+        ∷ ‵ (fdies (sliceTy (tyRef erased mut (pointee (FactT.the-row .written)))) l49)
+        ∷ ‵ (froom (tyRef erased mut (pointee (FactT.the-row .written))) l48 0)
+        ∷ ‵ (fdies (tyRef erased mut (pointee (FactT.the-row .written))) l48)
+        ∷ ‵ (froom tyUnit l47 0)
+        ∷ ‵ (fdies tyUnit l47)
+        ∷ ‵ (froom (sliceTy (tyRef erased mut (tyInt w32))) l46 0)
+        ∷ ‵ (fdies (sliceTy (tyRef erased mut (tyInt w32))) l46)
+        ∷ ‵ (froom (tyRef erased mut (tyInt w32)) l45 0)
+        ∷ ‵ (fdies (tyRef erased mut (tyInt w32)) l45)
+        ∷ ‵ (froom (sliceTy (tyRef erased mut (tyInt w32))) l44 0)
+        ∷ ‵ (fdies (sliceTy (tyRef erased mut (tyInt w32))) l44)
+        ∷ ‵ (froom (tyRef erased mut (tyInt w32)) l43 0)
+        ∷ ‵ (fdies (tyRef erased mut (tyInt w32)) l43)
+        ∷ ‵ (froom (sliceTy (tyRef erased mut (tyInt w32))) l42 0)
+        ∷ ‵ (fdies (sliceTy (tyRef erased mut (tyInt w32))) l42)
+        ∷ ‵ (froom (tyRef erased mut (tyInt w32)) l41 0)
+        ∷ ‵ (fdies (tyRef erased mut (tyInt w32)) l41)
+        ∷ ‵ (froom (sliceTy (tyRef erased mut (tyInt w64))) l40 0)
+        ∷ ‵ (fdies (sliceTy (tyRef erased mut (tyInt w64))) l40)
+        ∷ ‵ (froom (tyRef erased mut (tyInt w64)) l39 0)
+        ∷ ‵ (fdies (tyRef erased mut (tyInt w64)) l39)
+        ∷ ‵ (froom (sliceTy (tyRef erased mut (tyInt w32))) l38 0)
+        ∷ ‵ (fdies (sliceTy (tyRef erased mut (tyInt w32))) l38)
+        ∷ ‵ (froom (tyRef erased mut (tyInt w32)) l37 0)
+        ∷ ‵ (fdies (tyRef erased mut (tyInt w32)) l37)
+        ∷ ‵ (froom (sliceTy (tyRef erased mut (tyInt w32))) l36 0)
+        ∷ ‵ (fdies (sliceTy (tyRef erased mut (tyInt w32))) l36)
+        ∷ ‵ (froom (tyRef erased mut (tyInt w32)) l35 0)
+        ∷ ‵ (fdies (tyRef erased mut (tyInt w32)) l35)
+        ∷ ‵ (froom (sliceTy (tyRef erased mut (tyInt w32))) l34 0)
+        ∷ ‵ (fdies (sliceTy (tyRef erased mut (tyInt w32))) l34)
+        ∷ ‵ (froom (tyRef erased mut (tyInt w32)) l33 0)
+        ∷ ‵ (fdies (tyRef erased mut (tyInt w32)) l33)
+        ∷ ‵ (froom (sliceTy (tyRef erased mut (tyInt w32))) l32 0)
+        ∷ ‵ (fdies (sliceTy (tyRef erased mut (tyInt w32))) l32)
+        ∷ ‵ (froom (tyRef erased mut (tyInt w32)) l31 0)
+        ∷ ‵ (fdies (tyRef erased mut (tyInt w32)) l31)
+        ∷ ‵ (froom (sliceTy (tyRef erased mut (tyInt w32))) l30 0)
+        ∷ ‵ (fdies (sliceTy (tyRef erased mut (tyInt w32))) l30)
+        ∷ ‵ (froom (tyRef erased mut (tyInt w32)) l29 0)
+        ∷ ‵ (fdies (tyRef erased mut (tyInt w32)) l29)
+        ∷ ‵ (froom (sliceTy (tyRef erased mut (tyInt w32))) l28 0)
+        ∷ ‵ (fdies (sliceTy (tyRef erased mut (tyInt w32))) l28)
+        ∷ ‵ (froom (tyRef erased mut (tyInt w32)) l27 0)
+        ∷ ‵ (fdies (tyRef erased mut (tyInt w32)) l27)
+        ∷ ‵ (froom (sliceTy (tyRef erased mut (tyInt w32))) l26 0)
+        ∷ ‵ (fdies (sliceTy (tyRef erased mut (tyInt w32))) l26)
+        ∷ ‵ (froom (tyRef erased mut (tyInt w32)) l25 0)
+        ∷ ‵ (fdies (tyRef erased mut (tyInt w32)) l25)
+        ∷ ‵ (froom AdvanceL.mir l24 0)
+        ∷ ‵ (fdies AdvanceL.mir l24)
+        ∷ ‵ (fat fullShare (tyRef (named 21) mut (pointee (CountsT.the-row .written))) l23 0 s·counts)
+        ∷ ‵ (fdies (tyRef (named 21) mut (pointee (CountsT.the-row .written))) l23)
+        ∷ ‵ (fat fullShare (sliceTy (tyRef (named 20) mut (pointee (FactT.the-row .written)))) l22 0 s·facts)
+        ∷ ‵ (fdies (sliceTy (tyRef (named 20) mut (pointee (FactT.the-row .written)))) l22)
+        ∷ ‵ (fat fullShare (sliceTy (tyRef (named 19) mut (tyInt w32))) l21 0 s·memo)
+        ∷ ‵ (fdies (sliceTy (tyRef (named 19) mut (tyInt w32))) l21)
         ∷ ‵ (fat fullShare (sliceTy (tyRef (named 18) mut (tyInt w32))) l20 0 s·ids)
         ∷ ‵ (fdies (sliceTy (tyRef (named 18) mut (tyInt w32))) l20)
         ∷ ‵ (fat fullShare (sliceTy (tyRef (named 17) mut (tyInt w32))) l19 0 s·cells)
@@ -2133,101 +2258,106 @@ module _ {M : Type 1} (𝓤 : URA M) (H : Heap 𝓤) (A : Atoms 𝓤) (W : Given
         ∷ ‵ (froom RunL.mir l0 0)
         ∷ ‵ (fdies RunL.mir l0) ∷ [])
         (runs C Λ (En l0 l1 l2 l3 l4 l5 l6 l7 l8 l9 l10 l11 l12 l13 l14 l15 l16 l17 l18 l19 l20 l21 l22 l23 l24 l25 l26 l27 l28 l29 l30 l31 l32 l33
-        l34 l35 l36 l37 l38 l39 l40 l41 l42 l43 l44 l45 l46 l47 l48 l49 l50 l51) pieces.t-1
+        l34 l35 l36 l37 l38 l39 l40 l41 l42 l43 l44 l45 l46 l47 l48 l49 l50 l51 l52 l53 l54) pieces.t-1
         (atRet (En l0 l1 l2 l3 l4 l5 l6 l7 l8 l9 l10 l11 l12 l13 l14 l15 l16 l17 l18 l19 l20 l21 l22 l23 l24 l25 l26 l27 l28 l29 l30 l31 l32 l33 l34
-        l35 l36 l37 l38 l39 l40 l41 l42 l43 l44 l45 l46 l47 l48 l49 l50 l51) Post))
+        l35 l36 l37 l38 l39 l40 l41 l42 l43 l44 l45 l46 l47 l48 l49 l50 l51 l52 l53 l54) Post))
     seg·1 l0 l1 l2 l3 l4 l5 l6 l7 l8 l9 l10 l11 l12 l13 l14 l15 l16 l17 l18 l19 l20 l21 l22 l23 l24 l25 l26 l27 l28 l29 l30 l31 l32 l33 l34 l35 l36
-        l37 l38 l39 l40 l41 l42 l43 l44 l45 l46 l47 l48 l49 l50 l51 =
+        l37 l38 l39 l40 l41 l42 l43 l44 l45 l46 l47 l48 l49 l50 l51 l52 l53 l54 =
+        assigns ! (addr ! (from ! (fld ! refl (hop ! (look-in ! 130 (sub ! 0 refl (whole !))) (stop !))))) (from ! (stop !))
+        (init ! 102 refl (tt, tt)) $
+        assigns ! (agg ! (and-then ! (load ! (from ! (stop !)) (look ! 102 refl))
+        (and-then ! (load ! (from ! (fld ! refl (stop !))) (look-in ! 130 (sub ! 1 refl (whole !)))) (no-more !)))) (from ! (stop !))
+        (init ! 100 refl (tt, (tt, (record { fits = room·vars .0 }, tt)))) $
+        assigns ! (addr ! (from ! (fld ! refl (hop ! (look-in ! 128 (sub ! 0 refl (whole !))) (stop !))))) (from ! (stop !))
+        (init ! 98 refl (tt, tt)) $
+        assigns ! (agg ! (and-then ! (load ! (from ! (stop !)) (look ! 98 refl))
+        (and-then ! (load ! (from ! (fld ! refl (stop !))) (look-in ! 128 (sub ! 1 refl (whole !)))) (no-more !)))) (from ! (stop !))
+        (init ! 96 refl (tt, (tt, (record { fits = room·index .0 }, tt)))) $
+        assigns ! (addr ! (from ! (fld ! refl (hop ! (look-in ! 126 (sub ! 0 refl (whole !))) (stop !))))) (from ! (stop !))
+        (init ! 94 refl (tt, tt)) $
+        assigns ! (agg ! (and-then ! (load ! (from ! (stop !)) (look ! 94 refl))
+        (and-then ! (load ! (from ! (fld ! refl (stop !))) (look-in ! 126 (sub ! 1 refl (whole !)))) (no-more !)))) (from ! (stop !))
+        (init ! 92 refl (tt, (tt, (record { fits = room·words .0 }, tt)))) $
+        assigns ! (addr ! (from ! (fld ! refl (hop ! (look-in ! 124 (sub ! 0 refl (whole !))) (stop !))))) (from ! (stop !))
+        (init ! 90 refl (tt, tt)) $
+        assigns ! (agg ! (and-then ! (load ! (from ! (stop !)) (look ! 90 refl))
+        (and-then ! (load ! (from ! (fld ! refl (stop !))) (look-in ! 124 (sub ! 1 refl (whole !)))) (no-more !)))) (from ! (stop !))
+        (init ! 88 refl (tt, (tt, (record { fits = room·defs .0 }, tt)))) $
         assigns ! (addr ! (from ! (fld ! refl (hop ! (look-in ! 122 (sub ! 0 refl (whole !))) (stop !))))) (from ! (stop !))
-        (init ! 96 refl (tt, tt)) $
-        assigns ! (agg ! (and-then ! (load ! (from ! (stop !)) (look ! 96 refl))
+        (init ! 86 refl (tt, tt)) $
+        assigns ! (agg ! (and-then ! (load ! (from ! (stop !)) (look ! 86 refl))
         (and-then ! (load ! (from ! (fld ! refl (stop !))) (look-in ! 122 (sub ! 1 refl (whole !)))) (no-more !)))) (from ! (stop !))
-        (init ! 94 refl (tt, (tt, (record { fits = room·vars .0 }, tt)))) $
+        (init ! 84 refl (tt, (tt, (record { fits = room·rows .0 }, tt)))) $
         assigns ! (addr ! (from ! (fld ! refl (hop ! (look-in ! 120 (sub ! 0 refl (whole !))) (stop !))))) (from ! (stop !))
-        (init ! 92 refl (tt, tt)) $
-        assigns ! (agg ! (and-then ! (load ! (from ! (stop !)) (look ! 92 refl))
+        (init ! 82 refl (tt, tt)) $
+        assigns ! (agg ! (and-then ! (load ! (from ! (stop !)) (look ! 82 refl))
         (and-then ! (load ! (from ! (fld ! refl (stop !))) (look-in ! 120 (sub ! 1 refl (whole !)))) (no-more !)))) (from ! (stop !))
-        (init ! 90 refl (tt, (tt, (record { fits = room·index .0 }, tt)))) $
+        (init ! 80 refl (tt, (tt, (record { fits = room·lists .0 }, tt)))) $
         assigns ! (addr ! (from ! (fld ! refl (hop ! (look-in ! 118 (sub ! 0 refl (whole !))) (stop !))))) (from ! (stop !))
-        (init ! 88 refl (tt, tt)) $
-        assigns ! (agg ! (and-then ! (load ! (from ! (stop !)) (look ! 88 refl))
+        (init ! 78 refl (tt, tt)) $
+        assigns ! (agg ! (and-then ! (load ! (from ! (stop !)) (look ! 78 refl))
         (and-then ! (load ! (from ! (fld ! refl (stop !))) (look-in ! 118 (sub ! 1 refl (whole !)))) (no-more !)))) (from ! (stop !))
-        (init ! 86 refl (tt, (tt, (record { fits = room·words .0 }, tt)))) $
+        (init ! 76 refl (tt, (tt, (record { fits = room·kept .0 }, tt)))) $
         assigns ! (addr ! (from ! (fld ! refl (hop ! (look-in ! 116 (sub ! 0 refl (whole !))) (stop !))))) (from ! (stop !))
-        (init ! 84 refl (tt, tt)) $
-        assigns ! (agg ! (and-then ! (load ! (from ! (stop !)) (look ! 84 refl))
+        (init ! 74 refl (tt, tt)) $
+        assigns ! (agg ! (and-then ! (load ! (from ! (stop !)) (look ! 74 refl))
         (and-then ! (load ! (from ! (fld ! refl (stop !))) (look-in ! 116 (sub ! 1 refl (whole !)))) (no-more !)))) (from ! (stop !))
-        (init ! 82 refl (tt, (tt, (record { fits = room·defs .0 }, tt)))) $
+        (init ! 72 refl (tt, (tt, (record { fits = room·feet .0 }, tt)))) $
         assigns ! (addr ! (from ! (fld ! refl (hop ! (look-in ! 114 (sub ! 0 refl (whole !))) (stop !))))) (from ! (stop !))
-        (init ! 80 refl (tt, tt)) $
-        assigns ! (agg ! (and-then ! (load ! (from ! (stop !)) (look ! 80 refl))
+        (init ! 70 refl (tt, tt)) $
+        assigns ! (agg ! (and-then ! (load ! (from ! (stop !)) (look ! 70 refl))
         (and-then ! (load ! (from ! (fld ! refl (stop !))) (look-in ! 114 (sub ! 1 refl (whole !)))) (no-more !)))) (from ! (stop !))
-        (init ! 78 refl (tt, (tt, (record { fits = room·rows .0 }, tt)))) $
+        (init ! 68 refl (tt, (tt, (record { fits = room·cells .0 }, tt)))) $
         assigns ! (addr ! (from ! (fld ! refl (hop ! (look-in ! 112 (sub ! 0 refl (whole !))) (stop !))))) (from ! (stop !))
-        (init ! 76 refl (tt, tt)) $
-        assigns ! (agg ! (and-then ! (load ! (from ! (stop !)) (look ! 76 refl))
+        (init ! 66 refl (tt, tt)) $
+        assigns ! (agg ! (and-then ! (load ! (from ! (stop !)) (look ! 66 refl))
         (and-then ! (load ! (from ! (fld ! refl (stop !))) (look-in ! 112 (sub ! 1 refl (whole !)))) (no-more !)))) (from ! (stop !))
-        (init ! 74 refl (tt, (tt, (record { fits = room·lists .0 }, tt)))) $
+        (init ! 64 refl (tt, (tt, (record { fits = room·ids .0 }, tt)))) $
         assigns ! (addr ! (from ! (fld ! refl (hop ! (look-in ! 110 (sub ! 0 refl (whole !))) (stop !))))) (from ! (stop !))
-        (init ! 72 refl (tt, tt)) $
-        assigns ! (agg ! (and-then ! (load ! (from ! (stop !)) (look ! 72 refl))
+        (init ! 62 refl (tt, tt)) $
+        assigns ! (agg ! (and-then ! (load ! (from ! (stop !)) (look ! 62 refl))
         (and-then ! (load ! (from ! (fld ! refl (stop !))) (look-in ! 110 (sub ! 1 refl (whole !)))) (no-more !)))) (from ! (stop !))
-        (init ! 70 refl (tt, (tt, (record { fits = room·kept .0 }, tt)))) $
-        assigns ! (addr ! (from ! (fld ! refl (hop ! (look-in ! 108 (sub ! 0 refl (whole !))) (stop !))))) (from ! (stop !))
-        (init ! 68 refl (tt, tt)) $
-        assigns ! (agg ! (and-then ! (load ! (from ! (stop !)) (look ! 68 refl))
-        (and-then ! (load ! (from ! (fld ! refl (stop !))) (look-in ! 108 (sub ! 1 refl (whole !)))) (no-more !)))) (from ! (stop !))
-        (init ! 66 refl (tt, (tt, (record { fits = room·feet .0 }, tt)))) $
-        assigns ! (addr ! (from ! (fld ! refl (hop ! (look-in ! 106 (sub ! 0 refl (whole !))) (stop !))))) (from ! (stop !))
-        (init ! 64 refl (tt, tt)) $
-        assigns ! (agg ! (and-then ! (load ! (from ! (stop !)) (look ! 64 refl))
-        (and-then ! (load ! (from ! (fld ! refl (stop !))) (look-in ! 106 (sub ! 1 refl (whole !)))) (no-more !)))) (from ! (stop !))
-        (init ! 62 refl (tt, (tt, (record { fits = room·cells .0 }, tt)))) $
-        assigns ! (addr ! (from ! (fld ! refl (hop ! (look-in ! 104 (sub ! 0 refl (whole !))) (stop !))))) (from ! (stop !))
-        (init ! 60 refl (tt, tt)) $
-        assigns ! (agg ! (and-then ! (load ! (from ! (stop !)) (look ! 60 refl))
-        (and-then ! (load ! (from ! (fld ! refl (stop !))) (look-in ! 104 (sub ! 1 refl (whole !)))) (no-more !)))) (from ! (stop !))
-        (init ! 58 refl (tt, (tt, (record { fits = room·ids .0 }, tt)))) $
+        (init ! 60 refl (tt, (tt, (record { fits = room·memo .0 }, tt)))) $
         -- call 1: form
-        move ! (41 ∷ []) $
+        move ! (43 ∷ []) $
         use1 W (‵ (ShrSlice (named 0) κ·theory u8 .own (ref·theory γ·theory theory) (s·theory ∷ []))
         ⊛ ‵ (ShrSlice (named 0) κ·theory u8 .own (ref·theory γ·theory theory) (s·theory ∷ [])))
         (shr-slice-copy 𝓤 H A W (named 0) κ·theory u8 .twice (ref·theory γ·theory theory) (s·theory ∷ [])) $ split ! $
-        move ! (42 ∷ []) $
+        move ! (44 ∷ []) $
         use1 W (‵ (ShrSlice (named 1) κ·goals u8 .own (ref·goals γ·goals goals) (s·goals ∷ []))
         ⊛ ‵ (ShrSlice (named 1) κ·goals u8 .own (ref·goals γ·goals goals) (s·goals ∷ [])))
         (shr-slice-copy 𝓤 H A W (named 1) κ·goals u8 .twice (ref·goals γ·goals goals) (s·goals ∷ [])) $ split ! $
-        move ! (43 ∷ []) $
+        move ! (45 ∷ []) $
         use1 W (‵ (ShrSlice (named 2) κ·proof u8 .own (ref·proof γ·proof proof) (s·proof ∷ []))
         ⊛ ‵ (ShrSlice (named 2) κ·proof u8 .own (ref·proof γ·proof proof) (s·proof ∷ [])))
         (shr-slice-copy 𝓤 H A W (named 2) κ·proof u8 .twice (ref·proof γ·proof proof) (s·proof ∷ [])) $ split ! $
-        move ! (44 ∷ []) $
+        move ! (46 ∷ []) $
         use1 W (‵ (ShrSlice (named 3) κ·sorts u32 .own (ref·sorts γ·sorts sorts) (s·sorts ∷ []))
         ⊛ ‵ (ShrSlice (named 3) κ·sorts u32 .own (ref·sorts γ·sorts sorts) (s·sorts ∷ [])))
         (shr-slice-copy 𝓤 H A W (named 3) κ·sorts u32 .twice (ref·sorts γ·sorts sorts) (s·sorts ∷ [])) $ split ! $
-        move ! (45 ∷ []) $
+        move ! (47 ∷ []) $
         use1 W (‵ (ShrSlice (named 4) κ·symbols u32 .own (ref·symbols γ·symbols symbols) (s·symbols ∷ []))
         ⊛ ‵ (ShrSlice (named 4) κ·symbols u32 .own (ref·symbols γ·symbols symbols) (s·symbols ∷ [])))
         (shr-slice-copy 𝓤 H A W (named 4) κ·symbols u32 .twice (ref·symbols γ·symbols symbols) (s·symbols ∷ [])) $ split ! $
-        move ! (46 ∷ []) $
+        move ! (48 ∷ []) $
         use1 W (‵ (ShrSlice (named 5) κ·inputs u32 .own (ref·inputs γ·inputs inputs) (s·inputs ∷ []))
         ⊛ ‵ (ShrSlice (named 5) κ·inputs u32 .own (ref·inputs γ·inputs inputs) (s·inputs ∷ [])))
         (shr-slice-copy 𝓤 H A W (named 5) κ·inputs u32 .twice (ref·inputs γ·inputs inputs) (s·inputs ∷ [])) $ split ! $
-        move ! (47 ∷ []) $
+        move ! (49 ∷ []) $
         use1 W (‵ (ShrSlice (named 6) κ·rules u32 .own (ref·rules γ·rules rules) (s·rules ∷ []))
         ⊛ ‵ (ShrSlice (named 6) κ·rules u32 .own (ref·rules γ·rules rules) (s·rules ∷ [])))
         (shr-slice-copy 𝓤 H A W (named 6) κ·rules u32 .twice (ref·rules γ·rules rules) (s·rules ∷ [])) $ split ! $
-        move ! (48 ∷ []) $
+        move ! (50 ∷ []) $
         use1 W (‵ (ShrSlice (named 7) κ·rulevars u32 .own (ref·rulevars γ·rulevars rulevars) (s·rulevars ∷ []))
         ⊛ ‵ (ShrSlice (named 7) κ·rulevars u32 .own (ref·rulevars γ·rulevars rulevars) (s·rulevars ∷ [])))
         (shr-slice-copy 𝓤 H A W (named 7) κ·rulevars u32 .twice (ref·rulevars γ·rulevars rulevars) (s·rulevars ∷ [])) $ split ! $
-        move ! (49 ∷ []) $
+        move ! (51 ∷ []) $
         use1 W (‵ (ShrSlice (named 8) κ·patterns u32 .own (ref·patterns γ·patterns patterns) (s·patterns ∷ []))
         ⊛ ‵ (ShrSlice (named 8) κ·patterns u32 .own (ref·patterns γ·patterns patterns) (s·patterns ∷ [])))
         (shr-slice-copy 𝓤 H A W (named 8) κ·patterns u32 .twice (ref·patterns γ·patterns patterns) (s·patterns ∷ [])) $ split ! $
-        move ! (38 ∷ 37 ∷ 36 ∷ 35 ∷ 34 ∷ 33 ∷ 32 ∷ 31 ∷ 30 ∷ 29 ∷ 28 ∷ 27 ∷ 26 ∷ 25 ∷ 24 ∷ 23 ∷ 22 ∷ 21 ∷ 20 ∷ 16 ∷ 14 ∷ 12 ∷ 10 ∷ 8 ∷ 6 ∷ 4 ∷ 2 ∷ 0
-        ∷ 50 ∷ 49 ∷ 48 ∷ 47 ∷ 46 ∷ 45 ∷ 44 ∷ 43 ∷ 42 ∷ 41 ∷ []) $
-        group ! 38 $
+        move ! (39 ∷ 38 ∷ 37 ∷ 36 ∷ 35 ∷ 34 ∷ 33 ∷ 32 ∷ 31 ∷ 30 ∷ 29 ∷ 28 ∷ 27 ∷ 26 ∷ 25 ∷ 24 ∷ 23 ∷ 22 ∷ 21 ∷ 20 ∷ 16 ∷ 14 ∷ 12 ∷ 10 ∷ 8 ∷ 6 ∷ 4 ∷ 2
+        ∷ 0 ∷ 52 ∷ 51 ∷ 50 ∷ 49 ∷ 48 ∷ 47 ∷ 46 ∷ 45 ∷ 44 ∷ 43 ∷ 42 ∷ []) $
+        group ! 40 $
         use1 W (raw ((G1·C 𝓤 H A at-mem run) .pre (
           (
             ((
@@ -2244,7 +2374,7 @@ module _ {M : Type 1} (𝓤 : URA M) (H : Heap 𝓤) (A : Atoms 𝓤) (W : Given
                         κ·inputs,
                         (
                           κ·rules,
-                          (κ·rulevars, (κ·patterns, (κ·vars, (κ·index, (κ·words, (κ·defs, (κ·rows, (κ·lists, (κ·kept, (κ·feet, (κ·cells, (κ·ids, tt)))))))))))),
+                          (κ·rulevars, (κ·patterns, (κ·vars, (κ·index, (κ·words, (κ·defs, (κ·rows, (κ·lists, (κ·kept, (κ·feet, (κ·cells, (κ·ids, (κ·memo, tt))))))))))))),
                         ),
                       ),
                     ),
@@ -2252,7 +2382,7 @@ module _ {M : Type 1} (𝓤 : URA M) (H : Heap 𝓤) (A : Atoms 𝓤) (W : Given
                 ),
               ),
             )),
-            ((q·theory, (q·goals, (q·proof, (q·sorts, (q·symbols, (q·inputs, (q·rules, (q·rulevars, (q·patterns, (q·vars, (q·index, (q·words, (q·defs, (q·rows, (q·lists, (q·kept, (q·feet, (q·cells, (q·ids, tt)))))))))))))))))))),
+            ((q·theory, (q·goals, (q·proof, (q·sorts, (q·symbols, (q·inputs, (q·rules, (q·rulevars, (q·patterns, (q·vars, (q·index, (q·words, (q·defs, (q·rows, (q·lists, (q·kept, (q·feet, (q·cells, (q·ids, (q·memo, tt))))))))))))))))))))),
             tt,
             (
               (ref·theory γ·theory theory),
@@ -2280,7 +2410,7 @@ module _ {M : Type 1} (𝓤 : URA M) (H : Heap 𝓤) (A : Atoms 𝓤) (W : Given
                                     (ref·index γ·index index),
                                     (
                                       (ref·words γ·words words),
-                                      ((ref·defs γ·defs defs), ((ref·rows γ·rows rows), ((ref·lists γ·lists lists), ((ref·kept γ·kept kept), ((ref·feet γ·feet feet), ((ref·cells γ·cells cells), ((ref·ids γ·ids ids), tt))))))),
+                                      ((ref·defs γ·defs defs), ((ref·rows γ·rows rows), ((ref·lists γ·lists lists), ((ref·kept γ·kept kept), ((ref·feet γ·feet feet), ((ref·cells γ·cells cells), ((ref·ids γ·ids ids), ((ref·memo γ·memo memo), tt)))))))),
                                     ),
                                   ),
                                 ),
@@ -2304,7 +2434,7 @@ module _ {M : Type 1} (𝓤 : URA M) (H : Heap 𝓤) (A : Atoms 𝓤) (W : Given
                     v·s ∷ [],
                     (
                       s·sorts ∷ [],
-                      (s·symbols ∷ [], (s·inputs ∷ [], (s·rules ∷ [], (s·rulevars ∷ [], (s·patterns ∷ [], (s·vars ∷ [], (s·index ∷ [], (s·words ∷ [], (s·defs ∷ [], (s·rows ∷ [], (s·lists ∷ [], (s·kept ∷ [], (s·feet ∷ [], (s·cells ∷ [], (s·ids ∷ [], tt))))))))))))))),
+                      (s·symbols ∷ [], (s·inputs ∷ [], (s·rules ∷ [], (s·rulevars ∷ [], (s·patterns ∷ [], (s·vars ∷ [], (s·index ∷ [], (s·words ∷ [], (s·defs ∷ [], (s·rows ∷ [], (s·lists ∷ [], (s·kept ∷ [], (s·feet ∷ [], (s·cells ∷ [], (s·ids ∷ [], (s·memo ∷ [], tt)))))))))))))))),
                     ),
                   ),
                 ),
@@ -2316,7 +2446,7 @@ module _ {M : Type 1} (𝓤 : URA M) (H : Heap 𝓤) (A : Atoms 𝓤) (W : Given
         ∷ ‵ (flft κ·symbols q·symbols) ∷ ‵ (flft κ·inputs q·inputs) ∷ ‵ (flft κ·rules q·rules) ∷ ‵ (flft κ·rulevars q·rulevars)
         ∷ ‵ (flft κ·patterns q·patterns) ∷ ‵ (flft κ·vars q·vars) ∷ ‵ (flft κ·index q·index) ∷ ‵ (flft κ·words q·words) ∷ ‵ (flft κ·defs q·defs)
         ∷ ‵ (flft κ·rows q·rows) ∷ ‵ (flft κ·lists q·lists) ∷ ‵ (flft κ·kept q·kept) ∷ ‵ (flft κ·feet q·feet) ∷ ‵ (flft κ·cells q·cells)
-        ∷ ‵ (flft κ·ids q·ids) ∷ ‵ (ShrSlice (named 0) κ·theory u8 .own (ref·theory γ·theory theory) (s·theory ∷ []))
+        ∷ ‵ (flft κ·ids q·ids) ∷ ‵ (flft κ·memo q·memo) ∷ ‵ (ShrSlice (named 0) κ·theory u8 .own (ref·theory γ·theory theory) (s·theory ∷ []))
         ∷ ‵ (ShrSlice (named 1) κ·goals u8 .own (ref·goals γ·goals goals) (s·goals ∷ []))
         ∷ ‵ (ShrSlice (named 2) κ·proof u8 .own (ref·proof γ·proof proof) (s·proof ∷ []))
         ∷ ‵ (ShrSlice (named 3) κ·sorts u32 .own (ref·sorts γ·sorts sorts) (s·sorts ∷ []))
@@ -2334,18 +2464,19 @@ module _ {M : Type 1} (𝓤 : URA M) (H : Heap 𝓤) (A : Atoms 𝓤) (W : Given
         ∷ ‵ (MutSlice (named 15) κ·kept u32 .own (ref·kept γ·kept kept) (s·kept ∷ []))
         ∷ ‵ (MutSlice (named 16) κ·feet u64 .own (ref·feet γ·feet feet) (s·feet ∷ []))
         ∷ ‵ (MutSlice (named 17) κ·cells u32 .own (ref·cells γ·cells cells) (s·cells ∷ []))
-        ∷ ‵ (MutSlice (named 18) κ·ids u32 .own (ref·ids γ·ids ids) (s·ids ∷ [])) ∷ []) ∵ says ! (going-of req) $ nothing ! $ move ! (19 ∷ 0 ∷ []) $
-        join ! $ move ! (18 ∷ 0 ∷ []) $ join ! $ move ! (17 ∷ 0 ∷ []) $ join ! $ move ! (16 ∷ 0 ∷ []) $ join ! $ move ! (15 ∷ 0 ∷ []) $ join ! $
-        move ! (14 ∷ 0 ∷ []) $ join ! $ move ! (13 ∷ 0 ∷ []) $ join ! $ move ! (12 ∷ 0 ∷ []) $ join ! $ move ! (11 ∷ 0 ∷ []) $ join ! $
-        move ! (10 ∷ 0 ∷ []) $ join ! $ move ! (9 ∷ 0 ∷ []) $ join ! $ move ! (8 ∷ 0 ∷ []) $ join ! $ move ! (7 ∷ 0 ∷ []) $ join ! $
-        move ! (6 ∷ 0 ∷ []) $ join ! $ move ! (5 ∷ 0 ∷ []) $ join ! $ move ! (4 ∷ 0 ∷ []) $ join ! $ move ! (3 ∷ 0 ∷ []) $ join ! $
-        move ! (2 ∷ 0 ∷ []) $ join ! $ move ! (1 ∷ 0 ∷ []) $ join ! $ frame ! $ nothing ! $ move ! (19 ∷ 0 ∷ []) $ fjoin ! $ move ! (18 ∷ 0 ∷ []) $
-        fjoin ! $ move ! (17 ∷ 0 ∷ []) $ fjoin ! $ move ! (16 ∷ 0 ∷ []) $ fjoin ! $ move ! (15 ∷ 0 ∷ []) $ fjoin ! $ move ! (14 ∷ 0 ∷ []) $ fjoin ! $
-        move ! (13 ∷ 0 ∷ []) $ fjoin ! $ move ! (12 ∷ 0 ∷ []) $ fjoin ! $ move ! (11 ∷ 0 ∷ []) $ fjoin ! $ move ! (10 ∷ 0 ∷ []) $ fjoin ! $
-        move ! (9 ∷ 0 ∷ []) $ fjoin ! $ move ! (8 ∷ 0 ∷ []) $ fjoin ! $ move ! (7 ∷ 0 ∷ []) $ fjoin ! $ move ! (6 ∷ 0 ∷ []) $ fjoin ! $
-        move ! (5 ∷ 0 ∷ []) $ fjoin ! $ move ! (4 ∷ 0 ∷ []) $ fjoin ! $ owned ! RunT.the-row (Is RunT.the-row)
-        (LL.makes RunT.the-type RunL.the-plain 𝓤 H A) s _ is·s $ fjoin ! $ move ! (3 ∷ 0 ∷ []) $ fjoin ! $ move ! (2 ∷ 0 ∷ []) $ fjoin ! $
-        move ! (1 ∷ 0 ∷ []) $ fjoin ! $ done !) $
+        ∷ ‵ (MutSlice (named 18) κ·ids u32 .own (ref·ids γ·ids ids) (s·ids ∷ []))
+        ∷ ‵ (MutSlice (named 19) κ·memo u32 .own (ref·memo γ·memo memo) (s·memo ∷ [])) ∷ []) ∵ says ! (going-of req) $ nothing ! $
+        move ! (20 ∷ 0 ∷ []) $ join ! $ move ! (19 ∷ 0 ∷ []) $ join ! $ move ! (18 ∷ 0 ∷ []) $ join ! $ move ! (17 ∷ 0 ∷ []) $ join ! $
+        move ! (16 ∷ 0 ∷ []) $ join ! $ move ! (15 ∷ 0 ∷ []) $ join ! $ move ! (14 ∷ 0 ∷ []) $ join ! $ move ! (13 ∷ 0 ∷ []) $ join ! $
+        move ! (12 ∷ 0 ∷ []) $ join ! $ move ! (11 ∷ 0 ∷ []) $ join ! $ move ! (10 ∷ 0 ∷ []) $ join ! $ move ! (9 ∷ 0 ∷ []) $ join ! $
+        move ! (8 ∷ 0 ∷ []) $ join ! $ move ! (7 ∷ 0 ∷ []) $ join ! $ move ! (6 ∷ 0 ∷ []) $ join ! $ move ! (5 ∷ 0 ∷ []) $ join ! $
+        move ! (4 ∷ 0 ∷ []) $ join ! $ move ! (3 ∷ 0 ∷ []) $ join ! $ move ! (2 ∷ 0 ∷ []) $ join ! $ move ! (1 ∷ 0 ∷ []) $ join ! $ frame ! $
+        nothing ! $ move ! (20 ∷ 0 ∷ []) $ fjoin ! $ move ! (19 ∷ 0 ∷ []) $ fjoin ! $ move ! (18 ∷ 0 ∷ []) $ fjoin ! $ move ! (17 ∷ 0 ∷ []) $
+        fjoin ! $ move ! (16 ∷ 0 ∷ []) $ fjoin ! $ move ! (15 ∷ 0 ∷ []) $ fjoin ! $ move ! (14 ∷ 0 ∷ []) $ fjoin ! $ move ! (13 ∷ 0 ∷ []) $ fjoin ! $
+        move ! (12 ∷ 0 ∷ []) $ fjoin ! $ move ! (11 ∷ 0 ∷ []) $ fjoin ! $ move ! (10 ∷ 0 ∷ []) $ fjoin ! $ move ! (9 ∷ 0 ∷ []) $ fjoin ! $
+        move ! (8 ∷ 0 ∷ []) $ fjoin ! $ move ! (7 ∷ 0 ∷ []) $ fjoin ! $ move ! (6 ∷ 0 ∷ []) $ fjoin ! $ move ! (5 ∷ 0 ∷ []) $ fjoin ! $
+        move ! (4 ∷ 0 ∷ []) $ fjoin ! $ owned ! RunT.the-row (Is RunT.the-row) (LL.makes RunT.the-type RunL.the-plain 𝓤 H A) s _ is·s $ fjoin ! $
+        move ! (3 ∷ 0 ∷ []) $ fjoin ! $ move ! (2 ∷ 0 ∷ []) $ fjoin ! $ move ! (1 ∷ 0 ∷ []) $ fjoin ! $ done !) $
         calls-at ! fm (G1·C 𝓤 H A at-mem run) known·1 (
           (
             ((
@@ -2362,7 +2493,7 @@ module _ {M : Type 1} (𝓤 : URA M) (H : Heap 𝓤) (A : Atoms 𝓤) (W : Given
                         κ·inputs,
                         (
                           κ·rules,
-                          (κ·rulevars, (κ·patterns, (κ·vars, (κ·index, (κ·words, (κ·defs, (κ·rows, (κ·lists, (κ·kept, (κ·feet, (κ·cells, (κ·ids, tt)))))))))))),
+                          (κ·rulevars, (κ·patterns, (κ·vars, (κ·index, (κ·words, (κ·defs, (κ·rows, (κ·lists, (κ·kept, (κ·feet, (κ·cells, (κ·ids, (κ·memo, tt))))))))))))),
                         ),
                       ),
                     ),
@@ -2370,7 +2501,7 @@ module _ {M : Type 1} (𝓤 : URA M) (H : Heap 𝓤) (A : Atoms 𝓤) (W : Given
                 ),
               ),
             )),
-            ((q·theory, (q·goals, (q·proof, (q·sorts, (q·symbols, (q·inputs, (q·rules, (q·rulevars, (q·patterns, (q·vars, (q·index, (q·words, (q·defs, (q·rows, (q·lists, (q·kept, (q·feet, (q·cells, (q·ids, tt)))))))))))))))))))),
+            ((q·theory, (q·goals, (q·proof, (q·sorts, (q·symbols, (q·inputs, (q·rules, (q·rulevars, (q·patterns, (q·vars, (q·index, (q·words, (q·defs, (q·rows, (q·lists, (q·kept, (q·feet, (q·cells, (q·ids, (q·memo, tt))))))))))))))))))))),
             tt,
             (
               (ref·theory γ·theory theory),
@@ -2398,7 +2529,7 @@ module _ {M : Type 1} (𝓤 : URA M) (H : Heap 𝓤) (A : Atoms 𝓤) (W : Given
                                     (ref·index γ·index index),
                                     (
                                       (ref·words γ·words words),
-                                      ((ref·defs γ·defs defs), ((ref·rows γ·rows rows), ((ref·lists γ·lists lists), ((ref·kept γ·kept kept), ((ref·feet γ·feet feet), ((ref·cells γ·cells cells), ((ref·ids γ·ids ids), tt))))))),
+                                      ((ref·defs γ·defs defs), ((ref·rows γ·rows rows), ((ref·lists γ·lists lists), ((ref·kept γ·kept kept), ((ref·feet γ·feet feet), ((ref·cells γ·cells cells), ((ref·ids γ·ids ids), ((ref·memo γ·memo memo), tt)))))))),
                                     ),
                                   ),
                                 ),
@@ -2422,7 +2553,7 @@ module _ {M : Type 1} (𝓤 : URA M) (H : Heap 𝓤) (A : Atoms 𝓤) (W : Given
                     v·s ∷ [],
                     (
                       s·sorts ∷ [],
-                      (s·symbols ∷ [], (s·inputs ∷ [], (s·rules ∷ [], (s·rulevars ∷ [], (s·patterns ∷ [], (s·vars ∷ [], (s·index ∷ [], (s·words ∷ [], (s·defs ∷ [], (s·rows ∷ [], (s·lists ∷ [], (s·kept ∷ [], (s·feet ∷ [], (s·cells ∷ [], (s·ids ∷ [], tt))))))))))))))),
+                      (s·symbols ∷ [], (s·inputs ∷ [], (s·rules ∷ [], (s·rulevars ∷ [], (s·patterns ∷ [], (s·vars ∷ [], (s·index ∷ [], (s·words ∷ [], (s·defs ∷ [], (s·rows ∷ [], (s·lists ∷ [], (s·kept ∷ [], (s·feet ∷ [], (s·cells ∷ [], (s·ids ∷ [], (s·memo ∷ [], tt)))))))))))))))),
                     ),
                   ),
                 ),
@@ -2430,24 +2561,24 @@ module _ {M : Type 1} (𝓤 : URA M) (H : Heap 𝓤) (A : Atoms 𝓤) (W : Given
             ),
           ),
           tt,
-        ) (and-then ! (load ! (from ! (stop !)) (look ! 114 refl)) (and-then ! (load ! (from ! (stop !)) (look ! 112 refl))
-        (and-then ! (load ! (from ! (stop !)) (look ! 110 refl)) (and-then ! (load ! (from ! (stop !)) (look ! 108 refl))
-        (and-then ! (load ! (from ! (stop !)) (look ! 106 refl)) (and-then ! (load ! (from ! (stop !)) (look ! 104 refl))
-        (and-then ! (load ! (from ! (stop !)) (look ! 102 refl)) (and-then ! (load ! (from ! (stop !)) (look ! 100 refl))
-        (and-then ! (load ! (from ! (stop !)) (look ! 98 refl)) (and-then ! (load ! (from ! (stop !)) (look ! 96 refl))
-        (and-then ! (load ! (from ! (stop !)) (look ! 66 refl)) (and-then ! (load ! (from ! (stop !)) (look ! 62 refl))
-        (and-then ! (load ! (from ! (stop !)) (look ! 58 refl)) (and-then ! (load ! (from ! (stop !)) (look ! 54 refl))
-        (and-then ! (load ! (from ! (stop !)) (look ! 50 refl)) (and-then ! (load ! (from ! (stop !)) (look ! 46 refl))
-        (and-then ! (load ! (from ! (stop !)) (look ! 42 refl)) (and-then ! (load ! (from ! (stop !)) (look ! 38 refl))
-        (and-then ! (load ! (from ! (stop !)) (look ! 34 refl)) (and-then ! (load ! (from ! (stop !)) (look ! 30 refl))
-        (no-more !))))))))))))))))))))) (λ v1.
+        ) (and-then ! (load ! (from ! (stop !)) (look ! 120 refl)) (and-then ! (load ! (from ! (stop !)) (look ! 118 refl))
+        (and-then ! (load ! (from ! (stop !)) (look ! 116 refl)) (and-then ! (load ! (from ! (stop !)) (look ! 114 refl))
+        (and-then ! (load ! (from ! (stop !)) (look ! 112 refl)) (and-then ! (load ! (from ! (stop !)) (look ! 110 refl))
+        (and-then ! (load ! (from ! (stop !)) (look ! 108 refl)) (and-then ! (load ! (from ! (stop !)) (look ! 106 refl))
+        (and-then ! (load ! (from ! (stop !)) (look ! 104 refl)) (and-then ! (load ! (from ! (stop !)) (look ! 102 refl))
+        (and-then ! (load ! (from ! (stop !)) (look ! 70 refl)) (and-then ! (load ! (from ! (stop !)) (look ! 66 refl))
+        (and-then ! (load ! (from ! (stop !)) (look ! 62 refl)) (and-then ! (load ! (from ! (stop !)) (look ! 58 refl))
+        (and-then ! (load ! (from ! (stop !)) (look ! 54 refl)) (and-then ! (load ! (from ! (stop !)) (look ! 50 refl))
+        (and-then ! (load ! (from ! (stop !)) (look ! 46 refl)) (and-then ! (load ! (from ! (stop !)) (look ! 42 refl))
+        (and-then ! (load ! (from ! (stop !)) (look ! 38 refl)) (and-then ! (load ! (from ! (stop !)) (look ! 34 refl))
+        (and-then ! (load ! (from ! (stop !)) (look ! 30 refl)) (no-more !)))))))))))))))))))))) (λ v1.
         use1 W (later (some (λ (r1 : Advance). ((‵ (flft κ·theory q·theory) ⊛ ‵ (flft κ·goals q·goals) ⊛ ‵ (flft κ·proof q·proof)
         ⊛ ‵ (flft κ·sorts q·sorts) ⊛ ‵ (flft κ·symbols q·symbols) ⊛ ‵ (flft κ·inputs q·inputs) ⊛ ‵ (flft κ·rules q·rules)
         ⊛ ‵ (flft κ·rulevars q·rulevars) ⊛ ‵ (flft κ·patterns q·patterns) ⊛ ‵ (flft κ·vars q·vars) ⊛ ‵ (flft κ·index q·index)
         ⊛ ‵ (flft κ·words q·words) ⊛ ‵ (flft κ·defs q·defs) ⊛ ‵ (flft κ·rows q·rows) ⊛ ‵ (flft κ·lists q·lists) ⊛ ‵ (flft κ·kept q·kept)
-        ⊛ ‵ (flft κ·feet q·feet) ⊛ ‵ (flft κ·cells q·cells) ⊛ ‵ (flft κ·ids q·ids) ⊛ ‵ ftrue) ⊛ ‵ (AdvanceT.the-row .own r1 (v1 ∷ []))) ⊛ raw
-        (ensured 𝓤 H A G1.ended (G1.clauses 𝓤 H A at-mem run)
-        (κ·theory, (κ·goals, (κ·proof, (κ·sorts, (κ·symbols, (κ·inputs, (κ·rules, (κ·rulevars, (κ·patterns, (κ·vars, (κ·index, (κ·words, (κ·defs, (κ·rows, (κ·lists, (κ·kept, (κ·feet, (κ·cells, (κ·ids, tt))))))))))))))))))) (
+        ⊛ ‵ (flft κ·feet q·feet) ⊛ ‵ (flft κ·cells q·cells) ⊛ ‵ (flft κ·ids q·ids) ⊛ ‵ (flft κ·memo q·memo) ⊛ ‵ ftrue)
+        ⊛ ‵ (AdvanceT.the-row .own r1 (v1 ∷ []))) ⊛ raw (ensured 𝓤 H A G1.ended (G1.clauses 𝓤 H A at-mem run)
+        (κ·theory, (κ·goals, (κ·proof, (κ·sorts, (κ·symbols, (κ·inputs, (κ·rules, (κ·rulevars, (κ·patterns, (κ·vars, (κ·index, (κ·words, (κ·defs, (κ·rows, (κ·lists, (κ·kept, (κ·feet, (κ·cells, (κ·ids, (κ·memo, tt)))))))))))))))))))) (
           (ref·theory γ·theory theory),
           (
             (ref·goals γ·goals goals),
@@ -2473,7 +2604,7 @@ module _ {M : Type 1} (𝓤 : URA M) (H : Heap 𝓤) (A : Atoms 𝓤) (W : Given
                                 (ref·index γ·index index),
                                 (
                                   (ref·words γ·words words),
-                                  ((ref·defs γ·defs defs), ((ref·rows γ·rows rows), ((ref·lists γ·lists lists), ((ref·kept γ·kept kept), ((ref·feet γ·feet feet), ((ref·cells γ·cells cells), ((ref·ids γ·ids ids), tt))))))),
+                                  ((ref·defs γ·defs defs), ((ref·rows γ·rows rows), ((ref·lists γ·lists lists), ((ref·kept γ·kept kept), ((ref·feet γ·feet feet), ((ref·cells γ·cells cells), ((ref·ids γ·ids ids), ((ref·memo γ·memo memo), tt)))))))),
                                 ),
                               ),
                             ),
@@ -2491,8 +2622,8 @@ module _ {M : Type 1} (𝓤 : URA M) (H : Heap 𝓤) (A : Atoms 𝓤) (W : Given
         use1 W (some (λ (ws1 : (Unit {0} × (Unit {0} × (Unit {0} × (Unit {0} ×
         (Unit {0} × (Unit {0} × (Unit {0} × (Unit {0} × (Unit {0} × (Unit {0} ×
         ((List ℕ) × ((List ℕ) × ((List ℕ) × ((List ℕ) × ((List ℕ) × ((List ℕ) ×
-        ((List ℕ) × ((List ℕ) × ((List ℕ) × ((List ℕ) × Unit {0}))))))))))))))))))))).
-        ‵ (lasts G1.ended (κ·theory, (κ·goals, (κ·proof, (κ·sorts, (κ·symbols, (κ·inputs, (κ·rules, (κ·rulevars, (κ·patterns, (κ·vars, (κ·index, (κ·words, (κ·defs, (κ·rows, (κ·lists, (κ·kept, (κ·feet, (κ·cells, (κ·ids, tt))))))))))))))))))) (
+        ((List ℕ) × ((List ℕ) × ((List ℕ) × ((List ℕ) × ((List ℕ) × Unit {0})))))))))))))))))))))).
+        ‵ (lasts G1.ended (κ·theory, (κ·goals, (κ·proof, (κ·sorts, (κ·symbols, (κ·inputs, (κ·rules, (κ·rulevars, (κ·patterns, (κ·vars, (κ·index, (κ·words, (κ·defs, (κ·rows, (κ·lists, (κ·kept, (κ·feet, (κ·cells, (κ·ids, (κ·memo, tt)))))))))))))))))))) (
           (ref·theory γ·theory theory),
           (
             (ref·goals γ·goals goals),
@@ -2518,7 +2649,7 @@ module _ {M : Type 1} (𝓤 : URA M) (H : Heap 𝓤) (A : Atoms 𝓤) (W : Given
                                 (ref·index γ·index index),
                                 (
                                   (ref·words γ·words words),
-                                  ((ref·defs γ·defs defs), ((ref·rows γ·rows rows), ((ref·lists γ·lists lists), ((ref·kept γ·kept kept), ((ref·feet γ·feet feet), ((ref·cells γ·cells cells), ((ref·ids γ·ids ids), tt))))))),
+                                  ((ref·defs γ·defs defs), ((ref·rows γ·rows rows), ((ref·lists γ·lists lists), ((ref·kept γ·kept kept), ((ref·feet γ·feet feet), ((ref·cells γ·cells cells), ((ref·ids γ·ids ids), ((ref·memo γ·memo memo), tt)))))))),
                                 ),
                               ),
                             ),
@@ -2533,22 +2664,22 @@ module _ {M : Type 1} (𝓤 : URA M) (H : Heap 𝓤) (A : Atoms 𝓤) (W : Given
           ),
         )
         ws1) ⊛ raw (fact 𝓤 ((g : Going theory goals proof (theoryLists sorts symbols inputs rules rulevars patterns)
-        (working vars index words defs rows lists) kept feet cells ids s) → Advanced theory goals proof
+        (working vars index words defs rows lists) kept feet cells ids memo s) → Advanced theory goals proof
         (theoryLists sorts symbols inputs rules rulevars patterns) (working vars index words defs rows lists)
         (working (ws1 .1 .1 .1 .1 .1 .1 .1 .1 .1 .1 .0) (ws1 .1 .1 .1 .1 .1 .1 .1 .1 .1 .1 .1 .0) (ws1 .1 .1 .1 .1 .1 .1 .1 .1 .1 .1 .1 .1 .0)
         (ws1 .1 .1 .1 .1 .1 .1 .1 .1 .1 .1 .1 .1 .1 .0) (ws1 .1 .1 .1 .1 .1 .1 .1 .1 .1 .1 .1 .1 .1 .1 .0)
         (ws1 .1 .1 .1 .1 .1 .1 .1 .1 .1 .1 .1 .1 .1 .1 .1 .0)) kept feet (ws1 .1 .1 .1 .1 .1 .1 .1 .1 .1 .1 .1 .1 .1 .1 .1 .1 .0)
         (ws1 .1 .1 .1 .1 .1 .1 .1 .1 .1 .1 .1 .1 .1 .1 .1 .1 .1 .0) (ws1 .1 .1 .1 .1 .1 .1 .1 .1 .1 .1 .1 .1 .1 .1 .1 .1 .1 .1 .0)
-        (ws1 .1 .1 .1 .1 .1 .1 .1 .1 .1 .1 .1 .1 .1 .1 .1 .1 .1 .1 .1 .0) s (g .held .S) (r1 .next) (r1 .stored) (r1 .fact) (r1 .more))))) (id⊢ 𝓤 _) $
-        pick ! (λ ws1. split ! $ move ! (1 ∷ []) $
+        (ws1 .1 .1 .1 .1 .1 .1 .1 .1 .1 .1 .1 .1 .1 .1 .1 .1 .1 .1 .1 .0) (ws1 .1 .1 .1 .1 .1 .1 .1 .1 .1 .1 .1 .1 .1 .1 .1 .1 .1 .1 .1 .1 .0) s
+        (g .held .S) (r1 .next) (r1 .stored) (r1 .fact) (r1 .more))))) (id⊢ 𝓤 _) $ pick ! (λ ws1. split ! $ move ! (1 ∷ []) $
         heard ! ((g : Going theory goals proof (theoryLists sorts symbols inputs rules rulevars patterns) (working vars index words defs rows lists)
-        kept feet cells ids s) → Advanced theory goals proof (theoryLists sorts symbols inputs rules rulevars patterns)
+        kept feet cells ids memo s) → Advanced theory goals proof (theoryLists sorts symbols inputs rules rulevars patterns)
         (working vars index words defs rows lists) (working (ws1 .1 .1 .1 .1 .1 .1 .1 .1 .1 .1 .0) (ws1 .1 .1 .1 .1 .1 .1 .1 .1 .1 .1 .1 .0)
         (ws1 .1 .1 .1 .1 .1 .1 .1 .1 .1 .1 .1 .1 .0) (ws1 .1 .1 .1 .1 .1 .1 .1 .1 .1 .1 .1 .1 .1 .0)
         (ws1 .1 .1 .1 .1 .1 .1 .1 .1 .1 .1 .1 .1 .1 .1 .0) (ws1 .1 .1 .1 .1 .1 .1 .1 .1 .1 .1 .1 .1 .1 .1 .1 .0)) kept feet
         (ws1 .1 .1 .1 .1 .1 .1 .1 .1 .1 .1 .1 .1 .1 .1 .1 .1 .0) (ws1 .1 .1 .1 .1 .1 .1 .1 .1 .1 .1 .1 .1 .1 .1 .1 .1 .1 .0)
-        (ws1 .1 .1 .1 .1 .1 .1 .1 .1 .1 .1 .1 .1 .1 .1 .1 .1 .1 .1 .0) (ws1 .1 .1 .1 .1 .1 .1 .1 .1 .1 .1 .1 .1 .1 .1 .1 .1 .1 .1 .1 .0) s
-        (g .held .S) (r1 .next) (r1 .stored) (r1 .fact) (r1 .more)) (λ e1.
+        (ws1 .1 .1 .1 .1 .1 .1 .1 .1 .1 .1 .1 .1 .1 .1 .1 .1 .1 .1 .0) (ws1 .1 .1 .1 .1 .1 .1 .1 .1 .1 .1 .1 .1 .1 .1 .1 .1 .1 .1 .1 .0)
+        (ws1 .1 .1 .1 .1 .1 .1 .1 .1 .1 .1 .1 .1 .1 .1 .1 .1 .1 .1 .1 .1 .0) s (g .held .S) (r1 .next) (r1 .stored) (r1 .fact) (r1 .more)) (λ e1.
         fsplit ! $
         drop ! $
         fsplit ! $
@@ -2619,13 +2750,20 @@ module _ {M : Type 1} (𝓤 : URA M) (H : Heap 𝓤) (A : Atoms 𝓤) (W : Given
         move ! (1 ∷ []) $
         feqL ! (λ len·1·ids.
         move ! (1 ∷ []) $
+        fsplit ! $
+        fsplit ! $
+        move ! (1 ∷ []) $
+        feqL ! (λ len·1·memo.
+        move ! (1 ∷ []) $
         drop ! $
-        move ! (10 ∷ []) $
+        move ! (11 ∷ []) $
         split ! $
         move ! (1 ∷ []) $
         peeks ! AdvanceT.the-row (Is AdvanceT.the-row) (shows 𝓤 H A AdvanceT.the-row) r1 (v1 ∷ []) (λ is1.
         drop ! $
-        land ! (from ! (stop !)) (init ! 80 refl (LL.lawful AdvanceT.the-type AdvanceL.the-laws 𝓤 H A W .typed r1 _ is1 .0)) $
+        land ! (from ! (stop !)) (init ! 85 refl (LL.lawful AdvanceT.the-type AdvanceL.the-laws 𝓤 H A W .typed r1 _ is1 .0)) $
+        split ! $
+        move ! (1 ∷ []) $
         split ! $
         move ! (1 ∷ []) $
         split ! $
@@ -2666,26 +2804,26 @@ module _ {M : Type 1} (𝓤 : URA M) (H : Heap 𝓤) (A : Atoms 𝓤) (W : Given
         move ! (1 ∷ []) $
         drop ! $
         seg·2 l0 l1 l2 l3 l4 l5 l6 l7 l8 l9 l10 l11 l12 l13 l14 l15 l16 l17 l18 l19 l20 l21 l22 l23 l24 l25 l26 l27 l28 l29 l30 l31 l32 l33 l34 l35
-        l36 l37 l38 l39 l40 l41 l42 l43 l44 l45 l46 l47 l48 l49 l50 l51 v1 r1 ws1 e1 len·1·vars len·1·index len·1·words len·1·defs len·1·rows
-        len·1·lists len·1·kept len·1·feet len·1·cells len·1·ids is1)))))))))))))))
+        l36 l37 l38 l39 l40 l41 l42 l43 l44 l45 l46 l47 l48 l49 l50 l51 l52 l53 l54 v1 r1 ws1 e1 len·1·vars len·1·index len·1·words len·1·defs
+        len·1·rows len·1·lists len·1·kept len·1·feet len·1·cells len·1·ids len·1·memo is1))))))))))))))))
 
     walk : ent 𝓤 (onEntry 𝓤 H A self·fn.signature κs qs a at) (WpFn 𝓤 H C Λ code.function
         (s·theory ∷ s·goals ∷ s·proof ∷ v·s ∷ s·sorts ∷ s·symbols ∷ s·inputs ∷ s·rules ∷ s·rulevars ∷ s·patterns ∷ s·vars ∷ s·index ∷ s·words ∷ s·defs
-        ∷ s·rows ∷ s·lists ∷ s·kept ∷ s·feet ∷ s·cells ∷ s·ids ∷ s·facts ∷ s·counts ∷ []) Post)
+        ∷ s·rows ∷ s·lists ∷ s·kept ∷ s·feet ∷ s·cells ∷ s·ids ∷ s·memo ∷ s·facts ∷ s·counts ∷ []) Post)
     walk =
         qed W ((‵ (flft κ·theory q·theory) ⊛ ‵ (flft κ·goals q·goals) ⊛ ‵ (flft κ·proof q·proof) ⊛ ‵ (flft κ·sorts q·sorts)
         ⊛ ‵ (flft κ·symbols q·symbols) ⊛ ‵ (flft κ·inputs q·inputs) ⊛ ‵ (flft κ·rules q·rules) ⊛ ‵ (flft κ·rulevars q·rulevars)
         ⊛ ‵ (flft κ·patterns q·patterns) ⊛ ‵ (flft κ·vars q·vars) ⊛ ‵ (flft κ·index q·index) ⊛ ‵ (flft κ·words q·words) ⊛ ‵ (flft κ·defs q·defs)
         ⊛ ‵ (flft κ·rows q·rows) ⊛ ‵ (flft κ·lists q·lists) ⊛ ‵ (flft κ·kept q·kept) ⊛ ‵ (flft κ·feet q·feet) ⊛ ‵ (flft κ·cells q·cells)
-        ⊛ ‵ (flft κ·ids q·ids) ⊛ ‵ (flft κ·facts q·facts) ⊛ ‵ (flft κ·counts q·counts) ⊛ ‵ ftrue)
+        ⊛ ‵ (flft κ·ids q·ids) ⊛ ‵ (flft κ·memo q·memo) ⊛ ‵ (flft κ·facts q·facts) ⊛ ‵ (flft κ·counts q·counts) ⊛ ‵ ftrue)
         ∷ ‵ (owns (ShrSlice (named 0) κ·theory u8 ∷ ShrSlice (named 1) κ·goals u8 ∷ ShrSlice (named 2) κ·proof u8 ∷ RunT.the-row ∷ ShrSlice (named 3)
         κ·sorts u32 ∷ ShrSlice (named 4) κ·symbols u32 ∷ ShrSlice (named 5) κ·inputs u32 ∷ ShrSlice (named 6) κ·rules u32 ∷ ShrSlice (named 7)
         κ·rulevars u32 ∷ ShrSlice (named 8) κ·patterns u32 ∷ MutSlice (named 9) κ·vars u32 ∷ MutSlice (named 10) κ·index u32 ∷ MutSlice (named 11)
         κ·words u32 ∷ MutSlice (named 12) κ·defs u32 ∷ MutSlice (named 13) κ·rows u32 ∷ MutSlice (named 14) κ·lists u32 ∷ MutSlice (named 15) κ·kept
-        u32 ∷ MutSlice (named 16) κ·feet u64 ∷ MutSlice (named 17) κ·cells u32 ∷ MutSlice (named 18) κ·ids u32 ∷ MutSlice (named 19) κ·facts
-        FactT.the-row ∷ MutRef (named 20) κ·counts CountsT.the-row ∷ []) a at) ∷ []) ∵
+        u32 ∷ MutSlice (named 16) κ·feet u64 ∷ MutSlice (named 17) κ·cells u32 ∷ MutSlice (named 18) κ·ids u32 ∷ MutSlice (named 19) κ·memo u32
+        ∷ MutSlice (named 20) κ·facts FactT.the-row ∷ MutRef (named 21) κ·counts CountsT.the-row ∷ []) a at) ∷ []) ∵
         enter ! C Λ code.function (s·theory ∷ s·goals ∷ s·proof ∷ v·s ∷ s·sorts ∷ s·symbols ∷ s·inputs ∷ s·rules ∷ s·rulevars ∷ s·patterns ∷ s·vars
-        ∷ s·index ∷ s·words ∷ s·defs ∷ s·rows ∷ s·lists ∷ s·kept ∷ s·feet ∷ s·cells ∷ s·ids ∷ s·facts ∷ s·counts ∷ []) _ $
+        ∷ s·index ∷ s·words ∷ s·defs ∷ s·rows ∷ s·lists ∷ s·kept ∷ s·feet ∷ s·cells ∷ s·ids ∷ s·memo ∷ s·facts ∷ s·counts ∷ []) _ $
         alloc1 ! (λ l0. alloc1 ! (λ l1. alloc1 ! (λ l2. alloc1 ! (λ l3. alloc1 ! (λ l4.
         alloc1 ! (λ l5. alloc1 ! (λ l6. alloc1 ! (λ l7. alloc1 ! (λ l8. alloc1 ! (λ l9.
         alloc1 ! (λ l10. alloc1 ! (λ l11. alloc1 ! (λ l12. alloc1 ! (λ l13. alloc1 ! (λ l14.
@@ -2695,31 +2833,33 @@ module _ {M : Type 1} (𝓤 : URA M) (H : Heap 𝓤) (A : Atoms 𝓤) (W : Given
         alloc1 ! (λ l30. alloc1 ! (λ l31. alloc1 ! (λ l32. alloc1 ! (λ l33. alloc1 ! (λ l34.
         alloc1 ! (λ l35. alloc1 ! (λ l36. alloc1 ! (λ l37. alloc1 ! (λ l38. alloc1 ! (λ l39.
         alloc1 ! (λ l40. alloc1 ! (λ l41. alloc1 ! (λ l42. alloc1 ! (λ l43. alloc1 ! (λ l44.
-        alloc1 ! (λ l45. alloc1 ! (λ l46. alloc1 ! (λ l47. alloc1 ! (λ l48. alloc1 ! (λ l49. alloc1 ! (λ l50. alloc1 ! (λ l51. alloc0 ! $ params1 ! $
-        pass1 ! (init ! 100 refl (tt, (tt, (record { fits = room·theory .0 }, tt)))) $
-        pass1 ! (init ! 98 refl (tt, (tt, (record { fits = room·goals .0 }, tt)))) $
-        pass1 ! (init ! 96 refl (tt, (tt, (record { fits = room·proof .0 }, tt)))) $
-        pass1 ! (init ! 94 refl (LL.lawful RunT.the-type RunL.the-laws 𝓤 H A W .typed s _ is·s .0)) $
-        pass1 ! (init ! 92 refl (tt, (tt, (record { fits = room·sorts .0 }, tt)))) $
-        pass1 ! (init ! 90 refl (tt, (tt, (record { fits = room·symbols .0 }, tt)))) $
-        pass1 ! (init ! 88 refl (tt, (tt, (record { fits = room·inputs .0 }, tt)))) $
-        pass1 ! (init ! 86 refl (tt, (tt, (record { fits = room·rules .0 }, tt)))) $
-        pass1 ! (init ! 84 refl (tt, (tt, (record { fits = room·rulevars .0 }, tt)))) $
-        pass1 ! (init ! 82 refl (tt, (tt, (record { fits = room·patterns .0 }, tt)))) $
-        pass1 ! (init ! 80 refl (tt, (tt, (record { fits = room·vars .0 }, tt)))) $
-        pass1 ! (init ! 78 refl (tt, (tt, (record { fits = room·index .0 }, tt)))) $
-        pass1 ! (init ! 76 refl (tt, (tt, (record { fits = room·words .0 }, tt)))) $
-        pass1 ! (init ! 74 refl (tt, (tt, (record { fits = room·defs .0 }, tt)))) $
-        pass1 ! (init ! 72 refl (tt, (tt, (record { fits = room·rows .0 }, tt)))) $
-        pass1 ! (init ! 70 refl (tt, (tt, (record { fits = room·lists .0 }, tt)))) $
-        pass1 ! (init ! 68 refl (tt, (tt, (record { fits = room·kept .0 }, tt)))) $
-        pass1 ! (init ! 66 refl (tt, (tt, (record { fits = room·feet .0 }, tt)))) $
-        pass1 ! (init ! 64 refl (tt, (tt, (record { fits = room·cells .0 }, tt)))) $
-        pass1 ! (init ! 62 refl (tt, (tt, (record { fits = room·ids .0 }, tt)))) $
-        pass1 ! (init ! 60 refl (tt, (tt, (record { fits = room·facts .0 }, tt)))) $
-        pass1 ! (init ! 58 refl (tt, tt)) $
+        alloc1 ! (λ l45. alloc1 ! (λ l46. alloc1 ! (λ l47. alloc1 ! (λ l48. alloc1 ! (λ l49.
+        alloc1 ! (λ l50. alloc1 ! (λ l51. alloc1 ! (λ l52. alloc1 ! (λ l53. alloc1 ! (λ l54. alloc0 ! $ params1 ! $
+        pass1 ! (init ! 106 refl (tt, (tt, (record { fits = room·theory .0 }, tt)))) $
+        pass1 ! (init ! 104 refl (tt, (tt, (record { fits = room·goals .0 }, tt)))) $
+        pass1 ! (init ! 102 refl (tt, (tt, (record { fits = room·proof .0 }, tt)))) $
+        pass1 ! (init ! 100 refl (LL.lawful RunT.the-type RunL.the-laws 𝓤 H A W .typed s _ is·s .0)) $
+        pass1 ! (init ! 98 refl (tt, (tt, (record { fits = room·sorts .0 }, tt)))) $
+        pass1 ! (init ! 96 refl (tt, (tt, (record { fits = room·symbols .0 }, tt)))) $
+        pass1 ! (init ! 94 refl (tt, (tt, (record { fits = room·inputs .0 }, tt)))) $
+        pass1 ! (init ! 92 refl (tt, (tt, (record { fits = room·rules .0 }, tt)))) $
+        pass1 ! (init ! 90 refl (tt, (tt, (record { fits = room·rulevars .0 }, tt)))) $
+        pass1 ! (init ! 88 refl (tt, (tt, (record { fits = room·patterns .0 }, tt)))) $
+        pass1 ! (init ! 86 refl (tt, (tt, (record { fits = room·vars .0 }, tt)))) $
+        pass1 ! (init ! 84 refl (tt, (tt, (record { fits = room·index .0 }, tt)))) $
+        pass1 ! (init ! 82 refl (tt, (tt, (record { fits = room·words .0 }, tt)))) $
+        pass1 ! (init ! 80 refl (tt, (tt, (record { fits = room·defs .0 }, tt)))) $
+        pass1 ! (init ! 78 refl (tt, (tt, (record { fits = room·rows .0 }, tt)))) $
+        pass1 ! (init ! 76 refl (tt, (tt, (record { fits = room·lists .0 }, tt)))) $
+        pass1 ! (init ! 74 refl (tt, (tt, (record { fits = room·kept .0 }, tt)))) $
+        pass1 ! (init ! 72 refl (tt, (tt, (record { fits = room·feet .0 }, tt)))) $
+        pass1 ! (init ! 70 refl (tt, (tt, (record { fits = room·cells .0 }, tt)))) $
+        pass1 ! (init ! 68 refl (tt, (tt, (record { fits = room·ids .0 }, tt)))) $
+        pass1 ! (init ! 66 refl (tt, (tt, (record { fits = room·memo .0 }, tt)))) $
+        pass1 ! (init ! 64 refl (tt, (tt, (record { fits = room·facts .0 }, tt)))) $
+        pass1 ! (init ! 62 refl (tt, tt)) $
         pass0 ! $
-        move ! (105 ∷ []) $
+        move ! (111 ∷ []) $
         fsplit ! $
         move ! (1 ∷ []) $
         fsplit ! $
@@ -2764,8 +2904,12 @@ module _ {M : Type 1} (𝓤 : URA M) (H : Heap 𝓤) (A : Atoms 𝓤) (W : Given
         move ! (1 ∷ []) $
         fsplit ! $
         move ! (1 ∷ []) $
+        fsplit ! $
+        move ! (1 ∷ []) $
         drop ! $
-        move ! (125 ∷ []) $
+        move ! (132 ∷ []) $
+        split ! $
+        move ! (1 ∷ []) $
         split ! $
         move ! (1 ∷ []) $
         split ! $
@@ -2810,7 +2954,7 @@ module _ {M : Type 1} (𝓤 : URA M) (H : Heap 𝓤) (A : Atoms 𝓤) (W : Given
         move ! (1 ∷ []) $
         drop ! $
         seg·1 l0 l1 l2 l3 l4 l5 l6 l7 l8 l9 l10 l11 l12 l13 l14 l15 l16 l17 l18 l19 l20 l21 l22 l23 l24 l25 l26 l27 l28 l29 l30 l31 l32 l33 l34 l35
-        l36 l37 l38 l39 l40 l41 l42 l43 l44 l45 l46 l47 l48 l49 l50 l51))))))))))))))))))))))))))))))))))))))))))))))))))))
+        l36 l37 l38 l39 l40 l41 l42 l43 l44 l45 l46 l47 l48 l49 l50 l51 l52 l53 l54)))))))))))))))))))))))))))))))))))))))))))))))))))))))
 
 module _ {M : Type 1} (𝓤 : URA M) (H : Heap 𝓤) (A : Atoms 𝓤) (W : Given 𝓤 H A) (at-mem : Memory → SProp 𝓤) (run : Routine → Fun 𝓤) (𝓣 : Tables 𝓤 H)
     (known·1 : Triple 𝓤 (𝓣 .C #advancing·form·form) (G1·C 𝓤 H A at-mem run))
@@ -2830,7 +2974,7 @@ module _ {M : Type 1} (𝓤 : URA M) (H : Heap 𝓤) (A : Atoms 𝓤) (W : Given
             slice-vals,
             (
               (LL.vals RunT.the-type RunL.the-laws),
-              (slice-vals, (slice-vals, (slice-vals, (slice-vals, (slice-vals, (slice-vals, (slice-vals, (slice-vals, (slice-vals, (slice-vals, (slice-vals, (slice-vals, (slice-vals, (slice-vals, (slice-vals, (slice-vals, (slice-vals, (ptr-vals, tt)))))))))))))))))),
+              (slice-vals, (slice-vals, (slice-vals, (slice-vals, (slice-vals, (slice-vals, (slice-vals, (slice-vals, (slice-vals, (slice-vals, (slice-vals, (slice-vals, (slice-vals, (slice-vals, (slice-vals, (slice-vals, (slice-vals, (slice-vals, (ptr-vals, tt))))))))))))))))))),
             ),
           ),
         ),
@@ -2875,7 +3019,10 @@ module _ {M : Type 1} (𝓤 : URA M) (H : Heap 𝓤) (A : Atoms 𝓤) (W : Given
                                             mut-slice-tells (named 17) (κs .1 .1 .1 .1 .1 .1 .1 .1 .1 .1 .1 .1 .1 .1 .1 .1 .1 .0) u32,
                                             (
                                               mut-slice-tells (named 18) (κs .1 .1 .1 .1 .1 .1 .1 .1 .1 .1 .1 .1 .1 .1 .1 .1 .1 .1 .0) u32,
-                                              (mut-slice-tells (named 19) (κs .1 .1 .1 .1 .1 .1 .1 .1 .1 .1 .1 .1 .1 .1 .1 .1 .1 .1 .1 .0) FactT.the-row, (mut-tells (named 20) (κs .1 .1 .1 .1 .1 .1 .1 .1 .1 .1 .1 .1 .1 .1 .1 .1 .1 .1 .1 .1 .0) CountsT.the-row, tt)),
+                                              (
+                                                mut-slice-tells (named 19) (κs .1 .1 .1 .1 .1 .1 .1 .1 .1 .1 .1 .1 .1 .1 .1 .1 .1 .1 .1 .0) u32,
+                                                (mut-slice-tells (named 20) (κs .1 .1 .1 .1 .1 .1 .1 .1 .1 .1 .1 .1 .1 .1 .1 .1 .1 .1 .1 .1 .0) FactT.the-row, (mut-tells (named 21) (κs .1 .1 .1 .1 .1 .1 .1 .1 .1 .1 .1 .1 .1 .1 .1 .1 .1 .1 .1 .1 .1 .0) CountsT.the-row, tt)),
+                                              ),
                                             ),
                                           ),
                                         ),
@@ -2903,9 +3050,9 @@ module _ {M : Type 1} (𝓤 : URA M) (H : Heap 𝓤) (A : Atoms 𝓤) (W : Given
       (a .1 .1 .1 .1 .1 .1 .1 .1 .1 .1 .1 .1 .1 .0 .now) (a .1 .1 .1 .1 .1 .1 .1 .1 .1 .1 .1 .1 .1 .1 .0 .now)
       (a .1 .1 .1 .1 .1 .1 .1 .1 .1 .1 .1 .1 .1 .1 .1 .0 .now)) (a .1 .1 .1 .1 .1 .1 .1 .1 .1 .1 .1 .1 .1 .1 .1 .1 .0 .now)
       (a .1 .1 .1 .1 .1 .1 .1 .1 .1 .1 .1 .1 .1 .1 .1 .1 .1 .0 .now) (a .1 .1 .1 .1 .1 .1 .1 .1 .1 .1 .1 .1 .1 .1 .1 .1 .1 .1 .0 .now)
-      (a .1 .1 .1 .1 .1 .1 .1 .1 .1 .1 .1 .1 .1 .1 .1 .1 .1 .1 .1 .0 .now) (a .1 .1 .1 .0)
-      (a .1 .1 .1 .1 .1 .1 .1 .1 .1 .1 .1 .1 .1 .1 .1 .1 .1 .1 .1 .1 .0 .now)
-      (a .1 .1 .1 .1 .1 .1 .1 .1 .1 .1 .1 .1 .1 .1 .1 .1 .1 .1 .1 .1 .1 .0 .now) × ((a .1 .1 .1 .0) .going ≡ true)) _
+      (a .1 .1 .1 .1 .1 .1 .1 .1 .1 .1 .1 .1 .1 .1 .1 .1 .1 .1 .1 .0 .now) (a .1 .1 .1 .1 .1 .1 .1 .1 .1 .1 .1 .1 .1 .1 .1 .1 .1 .1 .1 .1 .0 .now)
+      (a .1 .1 .1 .0) (a .1 .1 .1 .1 .1 .1 .1 .1 .1 .1 .1 .1 .1 .1 .1 .1 .1 .1 .1 .1 .1 .0 .now)
+      (a .1 .1 .1 .1 .1 .1 .1 .1 .1 .1 .1 .1 .1 .1 .1 .1 .1 .1 .1 .1 .1 .1 .0 .now) × ((a .1 .1 .1 .0) .going ≡ true)) _
       (λ req. walk 𝓤 H A W at-mem run κs qs a (are .0 .0 .1) (are .1 .0 .0 .1) (are .1 .1 .0 .0 .1) (are .1 .1 .1 .0) (are .1 .1 .1 .1 .0 .0 .1)
       (are .1 .1 .1 .1 .1 .0 .0 .1) (are .1 .1 .1 .1 .1 .1 .0 .0 .1) (are .1 .1 .1 .1 .1 .1 .1 .0 .0 .1) (are .1 .1 .1 .1 .1 .1 .1 .1 .0 .0 .1)
       (are .1 .1 .1 .1 .1 .1 .1 .1 .1 .0 .0 .1) (are .1 .1 .1 .1 .1 .1 .1 .1 .1 .1 .0 .0 .1) (are .1 .1 .1 .1 .1 .1 .1 .1 .1 .1 .1 .0 .0 .1)
@@ -2913,47 +3060,54 @@ module _ {M : Type 1} (𝓤 : URA M) (H : Heap 𝓤) (A : Atoms 𝓤) (W : Given
       (are .1 .1 .1 .1 .1 .1 .1 .1 .1 .1 .1 .1 .1 .1 .0 .0 .1) (are .1 .1 .1 .1 .1 .1 .1 .1 .1 .1 .1 .1 .1 .1 .1 .0 .0 .1)
       (are .1 .1 .1 .1 .1 .1 .1 .1 .1 .1 .1 .1 .1 .1 .1 .1 .0 .0 .1) (are .1 .1 .1 .1 .1 .1 .1 .1 .1 .1 .1 .1 .1 .1 .1 .1 .1 .0 .0 .1)
       (are .1 .1 .1 .1 .1 .1 .1 .1 .1 .1 .1 .1 .1 .1 .1 .1 .1 .1 .0 .0 .1) (are .1 .1 .1 .1 .1 .1 .1 .1 .1 .1 .1 .1 .1 .1 .1 .1 .1 .1 .1 .0 .0 .1)
-      (are .1 .1 .1 .1 .1 .1 .1 .1 .1 .1 .1 .1 .1 .1 .1 .1 .1 .1 .1 .1 .0 .0 .1) req (𝓣 .C) (𝓣 .Λ) (fmOf 𝓤 H (W .laws) 𝓣) known·1 known·2 known·3
+      (are .1 .1 .1 .1 .1 .1 .1 .1 .1 .1 .1 .1 .1 .1 .1 .1 .1 .1 .1 .1 .0 .0 .1)
+      (are .1 .1 .1 .1 .1 .1 .1 .1 .1 .1 .1 .1 .1 .1 .1 .1 .1 .1 .1 .1 .1 .0 .0 .1) req (𝓣 .C) (𝓣 .Λ) (fmOf 𝓤 H (W .laws) 𝓣) known·1 known·2 known·3
       known·4 known·5 known·6 known·7 known·8))
 
   the-meets : Meets 𝓤 H A self·fn.signature (WpFn 𝓤 H (𝓣 .C) (𝓣 .Λ) code.function) (self·fn.spec 𝓤 H A at-mem run)
   the-meets = walk-meets 𝓤 H A self·fn.ended stayed W (
-    goes-none-slice 𝓤 H A W 21 (0 ∷ []) tt (plain (λ _. u8)) yes,
+    goes-none-slice 𝓤 H A W 22 (0 ∷ []) tt (plain (λ _. u8)) yes,
     (
-      goes-none-slice 𝓤 H A W 21 (1 ∷ []) tt (plain (λ _. u8)) yes,
+      goes-none-slice 𝓤 H A W 22 (1 ∷ []) tt (plain (λ _. u8)) yes,
       (
-        goes-none-slice 𝓤 H A W 21 (2 ∷ []) tt (plain (λ _. u8)) yes,
+        goes-none-slice 𝓤 H A W 22 (2 ∷ []) tt (plain (λ _. u8)) yes,
         (
-          goes-none 𝓤 H A W 21 (λ _. RunT.the-row) yes (λ κs x f. refl),
+          goes-none 𝓤 H A W 22 (λ _. RunT.the-row) yes (λ κs x f. refl),
           (
-            goes-none-slice 𝓤 H A W 21 (3 ∷ []) tt (plain (λ _. u32)) yes,
+            goes-none-slice 𝓤 H A W 22 (3 ∷ []) tt (plain (λ _. u32)) yes,
             (
-              goes-none-slice 𝓤 H A W 21 (4 ∷ []) tt (plain (λ _. u32)) yes,
+              goes-none-slice 𝓤 H A W 22 (4 ∷ []) tt (plain (λ _. u32)) yes,
               (
-                goes-none-slice 𝓤 H A W 21 (5 ∷ []) tt (plain (λ _. u32)) yes,
+                goes-none-slice 𝓤 H A W 22 (5 ∷ []) tt (plain (λ _. u32)) yes,
                 (
-                  goes-none-slice 𝓤 H A W 21 (6 ∷ []) tt (plain (λ _. u32)) yes,
+                  goes-none-slice 𝓤 H A W 22 (6 ∷ []) tt (plain (λ _. u32)) yes,
                   (
-                    goes-none-slice 𝓤 H A W 21 (7 ∷ []) tt (plain (λ _. u32)) yes,
+                    goes-none-slice 𝓤 H A W 22 (7 ∷ []) tt (plain (λ _. u32)) yes,
                     (
-                      goes-none-slice 𝓤 H A W 21 (8 ∷ []) tt (plain (λ _. u32)) yes,
+                      goes-none-slice 𝓤 H A W 22 (8 ∷ []) tt (plain (λ _. u32)) yes,
                       (
-                        goes-gave-slice 𝓤 H A W 21 9 tt (plain (λ _. u32)),
+                        goes-gave-slice 𝓤 H A W 22 9 tt (plain (λ _. u32)),
                         (
-                          goes-gave-slice 𝓤 H A W 21 10 tt (plain (λ _. u32)),
+                          goes-gave-slice 𝓤 H A W 22 10 tt (plain (λ _. u32)),
                           (
-                            goes-gave-slice 𝓤 H A W 21 11 tt (plain (λ _. u32)),
+                            goes-gave-slice 𝓤 H A W 22 11 tt (plain (λ _. u32)),
                             (
-                              goes-gave-slice 𝓤 H A W 21 12 tt (plain (λ _. u32)),
+                              goes-gave-slice 𝓤 H A W 22 12 tt (plain (λ _. u32)),
                               (
-                                goes-gave-slice 𝓤 H A W 21 13 tt (plain (λ _. u32)),
+                                goes-gave-slice 𝓤 H A W 22 13 tt (plain (λ _. u32)),
                                 (
-                                  goes-gave-slice 𝓤 H A W 21 14 tt (plain (λ _. u32)),
+                                  goes-gave-slice 𝓤 H A W 22 14 tt (plain (λ _. u32)),
                                   (
-                                    goes-gave-slice 𝓤 H A W 21 15 tt (plain (λ _. u32)),
+                                    goes-gave-slice 𝓤 H A W 22 15 tt (plain (λ _. u32)),
                                     (
-                                      goes-gave-slice 𝓤 H A W 21 16 tt (plain (λ _. u64)),
-                                      (goes-gave-slice 𝓤 H A W 21 17 tt (plain (λ _. u32)), (goes-gave-slice 𝓤 H A W 21 18 tt (plain (λ _. u32)), (goes-gave-slice 𝓤 H A W 21 19 tt (plain (λ _. FactT.the-row)), (goes-gave-ref 𝓤 H A W 21 20 tt (plain (λ _. CountsT.the-row)), tt)))),
+                                      goes-gave-slice 𝓤 H A W 22 16 tt (plain (λ _. u64)),
+                                      (
+                                        goes-gave-slice 𝓤 H A W 22 17 tt (plain (λ _. u32)),
+                                        (
+                                          goes-gave-slice 𝓤 H A W 22 18 tt (plain (λ _. u32)),
+                                          (goes-gave-slice 𝓤 H A W 22 19 tt (plain (λ _. u32)), (goes-gave-slice 𝓤 H A W 22 20 tt (plain (λ _. FactT.the-row)), (goes-gave-ref 𝓤 H A W 22 21 tt (plain (λ _. CountsT.the-row)), tt))),
+                                        ),
+                                      ),
                                     ),
                                   ),
                                 ),
