@@ -4,7 +4,6 @@ use mathlib.Core.Bool.{Bool, true, false, true≢false}
 use mathlib.Core.List.{List, [], _∷_, _++_}
 use Prim.Native.Nat.{ℕ, zero, suc, _+_, _-_, _*_, _<_, _≤_}
 use native.Mathlib.Omega.{arith}
-use native.Mathlib.Numerals.{add-one}
 use native.Mathlib.Decide.{decLt}
 use lib.ListN.{length, getD, replicate, length-replicate, length-append, List·getD-append}
 use lib.Seq.{getD-append-add}
@@ -14,7 +13,7 @@ use Rattle.rules.specs.Find.{any}
 use Rattle.rules.specs.Invert.{Case}
 use Rattle.rules.specs.Laws.Text.{same-self, same-equal}
 use Rattle.casework.specs.Distinct.{nameOf, Tree, IsMet, Entered, EnteredAs}
-use Rattle.casework.specs.Cases.{noCase, CasesFirst, Named, Kept, Naming, TakenAs}
+use Rattle.casework.specs.Cases.{noCase, Named, Kept, Naming, TakenAs}
 
 -- A case with the name -------------------------------------------------------------------------------------------------------------------------
 

@@ -2,7 +2,7 @@
 use mathlib.Core.Path.{_≡_, refl, sym, ap, _∙_, subst}
 use mathlib.Core.Bool.{Bool, true, false, true≢false}
 use mathlib.Core.List.{List}
-use Prim.Native.Nat.{ℕ, suc, _+_, _-_, _*_, _/_, _%_, _^_, _<_, _≤_}
+use Prim.Native.Nat.{ℕ, suc, _+_, _*_, _/_, _%_, _^_, _<_, _≤_}
 use native.Mathlib.Omega.{arith}
 use native.Mathlib.Numerals.{add-one}
 use native.Mathlib.Decide.{ℕ-discrete}
@@ -13,7 +13,7 @@ use Rattle.rules.specs.Text.{same}
 use Rattle.rules.specs.Laws.Text.{same-self, same-equal}
 use Rattle.casework.specs.declared.distinct.Spot.{Spot}
 use Rattle.casework.specs.declared.distinct.Spot.the-variants.{Met, Free}
-use Rattle.casework.specs.Distinct.{turnOf, between, nameOf, Way, done, on, Comes, Tree, IsMet, Unmet, IsFree, SpotAs, Entered}
+use Rattle.casework.specs.Distinct.{turnOf, between, nameOf, Way, done, on, Comes, Tree, IsMet, IsFree, SpotAs, Entered}
 
 -- Turns ------------------------------------------------------------------------------------------------------------------------------------------
 

@@ -1,5 +1,5 @@
-// Whether a name is among those met before. They are a tree that goes by the bits of names (specs/Distinct.antt), so that a name costs by its own letters, whatever the names are:
-// those that it is compared with agree with it in one bit more each.
+// Whether a name is among those met before. They are a tree that goes by the bits of names (specs/Distinct.antt): each name that one is compared with agrees with it in one
+// bit more, so that it costs by its own letters, whatever the names are.
 ghost use mathlib.Core.Path.{_≡_};
 ghost use Prim.Native.Nat.{ℕ, _+_, _*_, _<_, _≤_};
 ghost use lib.ListN.{length};

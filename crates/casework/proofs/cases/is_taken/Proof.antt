@@ -1,5 +1,4 @@
 -- `casework::cases::is_taken` meets its contract. Assumes nothing.
-use mathlib.Core.Path.{refl}
 use native.Mathlib.Omega.{arith}
 use Rattle.casework.proofs.Taken.{taken-among, tree-now, taken-by-tree}
 use borrow.Author.Needs.{needs}
