@@ -1,14 +1,12 @@
 -- The loops over the cases of `invert`: the case of a name, and all of them, one a name. Assumes nothing.
 use mathlib.Core.Path.{_≡_, refl, sym, ap, _∙_, subst}
-use mathlib.Core.Bool.{Bool, true, false, not, _||_, true≢false, false≢true}
+use mathlib.Core.Bool.{Bool, true, false, not}
 use mathlib.Core.Option.{Option, some, none as nothing}
 use mathlib.Core.List.{List, [], _∷_, _++_}
-use Prim.Native.Nat.{ℕ, zero, suc, _+_, _-_, _*_, _%_, _<_, _≤_}
+use Prim.Native.Nat.{ℕ, zero, suc, _+_, _-_, _<_, _≤_}
 use native.Mathlib.Omega.{arith}
 use native.Mathlib.Numerals.{add-one}
 use native.Mathlib.Decide.{decLt}
-use lib.Dec.{eqb}
-use borrow.Author.Tests.{eq-eqb}
 use lib.ListN.{length, getD, take, drop, drop-of-length-le, length-append, List·getD-append}
 use lib.Seq.{drop-cons, getD-append-add}
 use Rattle.rules.specs.Text.{same}
@@ -18,11 +16,8 @@ use Rattle.rules.specs.Find.{any}
 use Rattle.rules.specs.Store.{Made}
 use Rattle.rules.specs.State.{State}
 use Rattle.rules.specs.Invert.{Case, caseNamed, readCase, readCases}
-use Rattle.rules.specs.Laws.Theory.{All, empty, both, all-snoc, all-map}
 use Rattle.rules.specs.Laws.Store.{then-ok, then-refuse}
 use Rattle.rules.specs.Laws.Sexp.{rest-item}
-use Rattle.rules.specs.Laws.Text.{same-equal}
-use Rattle.rules.specs.Laws.Set.{or-left, or-right}
 use Rattle.sexp.specs.Encode.{encode}
 use Rattle.sexp.specs.Items.{Holds, itemAt, behind}
 use Rattle.sexp.specs.ItemLaws.{at-room, some-cells}
@@ -30,20 +25,8 @@ use Rattle.sexp.specs.Never.{never}
 use Rattle.sexp.specs.WalkLaws.{Walk, walk-start, walk-over, walk-rest}
 use Rattle.sexp.specs.declared.names.Found.{Found}
 use Rattle.sexp.specs.declared.names.Found.the-variants.{At, Missing}
-use Rattle.terms.specs.Sets.{holds, plus}
 use Rattle.reading.specs.Laws.Walks.{Here, here, go-on}
-use Rattle.casework.specs.Cases.{noCase, CaseItem, CaseFirst, CasesFirst, CaseHere, CaseFound, hashOf, CasesAre}
-
--- A number for a name ------------------------------------------------------------------------------------------------------------------------
-
-pub hash-more : (name : List ℕ) (h at : ℕ) → at < length name → hashOf ((h * 31 + getD name at 0) % 65536) (drop (at + 1) name) ≡ hashOf h (drop at name)
-unfolding hashOf
-hash-more name h at l =
-    sym (ap (hashOf h) (drop-cons name at 0 l ∙ ap (λ (k : ℕ). getD name at 0 ∷ drop k name) (sym (add-one at))))
-
-pub hash-over : (name : List ℕ) (h at : ℕ) → length name ≤ at → h ≡ hashOf h (drop at name)
-unfolding hashOf
-hash-over name h at l = sym (ap (hashOf h) (drop-of-length-le name l))
+use Rattle.casework.specs.Cases.{noCase, CaseItem, CaseFirst, CasesFirst, CaseHere, CaseFound, Kept, Naming, CasesAre}
 
 -- The case of a name -------------------------------------------------------------------------------------------------------------------------
 
@@ -145,17 +128,6 @@ pub any-nowhere : (cs : List Case) (name : List ℕ) → caseNamed cs name ≡ n
 unfolding isSome
 any-nowhere cs name e = sym (any-named cs name ∙ ap isSome e)
 
--- a name whose number was not met is no case's
-pub any-unmet : (set : ℕ → Bool) (cs : List Case) (name : List ℕ) → All (λ (c : Case). set (hashOf 0 (c .name)) ≡ true) cs → set (hashOf 0 name) ≡ false →
-    false ≡ any (λ (d : Case). same (d .name) name) cs
-unfolding any
-any-unmet set [] name empty e = refl
-any-unmet set (c ∷ cs) name (both p a) e = go (same (c .name) name) refl (any-unmet set cs name a e)
-  where
-    go : (b : Bool) → same (c .name) name ≡ b → false ≡ any (λ (d : Case). same (d .name) name) cs → false ≡ elim b [ true ↦ true | false ↦ any (λ (d : Case). same (d .name) name) cs ]
-    go true q h = absurd (true≢false (sym p ∙ ap (λ (n : List ℕ). set (hashOf 0 n)) (same-equal (c .name) name q) ∙ e))
-    go false q h = h
-
 -- All cases --------------------------------------------------------------------------------------------------------------------------------------
 
 module _ (S : State) (x : Sexp) (ys : Sexps) (cs : List Case) (M : Made) where
@@ -173,17 +145,17 @@ module _ (S : State) (x : Sexp) (ys : Sexps) (cs : List Case) (M : Made) where
     read-more a = then-ok (readCase S x M) c M _ e ∙ then-ok _ tt M _ (ap (λ (b : Bool). ask 41 (not b) M) a)
 
 -- these are read; the rest is left
-pub record Casing (S : State) (xs : Sexps) (text cells names : List ℕ) (at k : ℕ) : Type 0 where
+pub record Casing (S : State) (xs : Sexps) (text cells places links : List ℕ) (at k : ℕ) : Type 0 where
   pub cs : List Case
   pub walk : Walk text cells at (rest xs k)
   pub whole : (M : Made) → readCases S xs [] M ≡ readCases S (rest xs k) cs M
   pub many : length cs ≡ k
   pub few : k ≤ count xs
   pub cases : (i : ℕ) → i < k → CaseItem (S .vars) (item xs i) (getD cs i noCase)
-  pub met : All (λ (c : Case). holds names (hashOf 0 (c .name)) ≡ true) cs
+  pub kept : Kept text places links cs
 
-pub casing-start : (S : State) (xs : Sexps) {text cells names : List ℕ} → Holds text cells xs → Casing S xs text cells names 0 0
-casing-start S xs {text} {cells} h =
+pub casing-start : (S : State) (xs : Sexps) {text cells places links : List ℕ} → Holds text cells xs → Kept text places links [] → Casing S xs text cells places links 0 0
+casing-start S xs {text} {cells} h w =
     record {
       cs = [];
       walk = subst (λ (z : Sexps). Walk text cells 0 z) (rest-zero xs) (walk-start h);
@@ -191,7 +163,7 @@ casing-start S xs {text} {cells} h =
       many = refl;
       few = omega arith;
       cases = λ i l. absurd (omega (arith, l));
-      met = empty;
+      kept = w;
     }
 
 count-rest : (xs : Sexps) (k : ℕ) → k ≤ count xs → rest xs k ≡ nil → count xs ≤ k
@@ -206,7 +178,7 @@ cons-more nil k x ys e = never cc
 cons-more (cons z zs) zero x ys e = omega arith
 cons-more (cons z zs) (suc k) x ys e = let l = cons-more zs k x ys e in omega arith
 
-module _ {S : State} {xs : Sexps} {text cells names : List ℕ} {at k : ℕ} (h : Casing S xs text cells names at k) where
+module _ {S : State} {xs : Sexps} {text cells places links : List ℕ} {at k : ℕ} (h : Casing S xs text cells places links at k) where
   pub casing-over : length cells ≤ at → CasesAre S xs
   unfolding readCases
   casing-over l =
@@ -221,8 +193,8 @@ module _ {S : State} {xs : Sexps} {text cells names : List ℕ} {at k : ℕ} (h 
       }
 
   -- what `is_taken` asks
-  abbrev pub casing-first : Holds text cells xs → CasesFirst text cells k
-  casing-first w = record { vs = S .vars; xs = xs; cs = h .cs; holds = w; length-is = h .many; few = h .few; cases = h .cases }
+  abbrev pub casing-first : Holds text cells xs → Naming text cells places links k
+  casing-first w = record { first = record { vs = S .vars; xs = xs; cs = h .cs; holds = w; length-is = h .many; few = h .few; cases = h .cases }; kept = h .kept }
 
   module _ (l : at < length cells) where
     pub casing-here : Here text cells at (rest xs k)
@@ -251,13 +223,12 @@ module _ {S : State} {xs : Sexps} {text cells names : List ℕ} {at k : ℕ} (h 
       casing-twice b a t M = opened M ∙ read-twice S (casing-here .x) (casing-here .ys) (h .cs) M c (e M) (sym a ∙ t)
 
       pub casing-more : (b : Bool) → b ≡ any (λ (d : Case). same (d .name) (c .name)) (h .cs) → b ≡ false → CaseItem (S .vars) (casing-here .x) c →
-          {next : ℕ} {names′ : List ℕ} (v : ℕ) → v ≡ hashOf 0 (c .name) → holds names′ ≡ plus v (holds names) → next ≡ behind at (itemAt cells at) →
-          Casing S xs text cells names′ next (k + 1)
-      casing-more b a t i {next} {names′} v u s n =
+          {next : ℕ} {places′ links′ : List ℕ} → Kept text places′ links′ (h .cs ++ (c ∷ [])) → next ≡ behind at (itemAt cells at) →
+          Casing S xs text cells places′ links′ next (k + 1)
+      casing-more b a t i {next} w n =
           let j : k + 1 ≡ suc k = add-one k in
           let lk = left in
           let len : length (h .cs ++ (c ∷ [])) ≡ k + 1 = length-append (h .cs) (c ∷ []) ∙ ap (λ (z : ℕ). z + 1) (h .many) in
-          let was : (w : ℕ) → holds names w ≡ true → holds names′ w ≡ true = λ w p. ap (λ (f : ℕ → Bool). f w) s ∙ or-left (holds names w) (eqb w v) p in
           record {
             cs = h .cs ++ (c ∷ []);
             walk = subst (λ (z : Sexps). Walk text cells next z) (same-rest ∙ ap (rest xs) (sym j)) (go-on casing-here n .walk);
@@ -269,13 +240,9 @@ module _ {S : State} {xs : Sexps} {text cells names : List ℕ} {at k : ℕ} (h 
               | yes p ↦ subst (λ (d : Case). CaseItem (S .vars) (item xs y) d) (sym (List·getD-append (h .cs) (c ∷ []) noCase y (omega (arith, p, h .many)))) (h .cases y p)
               | no p ↦ last y (omega (arith, p, q)) i
             ];
-            met = all-snoc (all-map (λ d p. was (hashOf 0 (d .name)) p) (h .met))
-                (ap (λ (f : ℕ → Bool). f (hashOf 0 (c .name))) s ∙ or-right (holds names (hashOf 0 (c .name))) (eqb (hashOf 0 (c .name)) v) (self (hashOf 0 (c .name)) v u));
+            kept = w;
           }
         where
-          self : (w v : ℕ) → v ≡ w → eqb w v ≡ true
-          self w v e = eq-eqb w v (sym e)
-
           last : (y : ℕ) → y ≡ k → CaseItem (S .vars) (casing-here .x) c → CaseItem (S .vars) (item xs y) (getD (h .cs ++ (c ∷ [])) y noCase)
           last y e i =
               let z : y ≡ length (h .cs) + 0 = omega (arith, e, h .many) in
@@ -284,10 +251,7 @@ module _ {S : State} {xs : Sexps} {text cells names : List ℕ} {at k : ℕ} (h 
               subst (λ (b : Case). CaseItem (S .vars) (item xs y) b) (sym d)
               (subst (λ (b : Sexp). CaseItem (S .vars) b c) (same-item ∙ ap (item xs) (sym e)) i)
 
--- What `is_taken` learns -------------------------------------------------------------------------------------------------------------------------
-
-pub met-no : (set : ℕ → Bool) {number : ℕ} (name : List ℕ) {b : Bool} → number ≡ hashOf 0 name → b ≡ set number → b ≡ false → set (hashOf 0 name) ≡ false
-met-no set name n e f = ap set (sym n) ∙ sym e ∙ f
+-- What `is_among` learns --------------------------------------------------------------------------------------------------------------------------
 
 module _ {text cells : List ℕ} {many : ℕ} (g : CasesFirst text cells many) (name : List ℕ) (r : Found) (f : CaseFound (g .vs) text cells (g .cs) name r) where
   pub found-there : {p : ℕ} → r ≡ At p → true ≡ any (λ (d : Case). same (d .name) name) (g .cs)

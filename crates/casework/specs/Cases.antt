@@ -1,12 +1,15 @@
 -- The cases of `invert` as items of a form: which item is which case, and what their readers answer. Assumes nothing.
 use mathlib.Core.Path.{_≡_}
 use mathlib.Core.Option.{some, none as nothing}
-use mathlib.Core.List.{List, [], _∷_}
-use Prim.Native.Nat.{ℕ, _+_, _*_, _%_, _<_, _≤_}
+use mathlib.Core.Bool.{Bool, false}
+use mathlib.Core.List.{List, [], _∷_, _++_}
+use Prim.Native.Nat.{ℕ, _+_, _*_, _<_, _≤_}
 use lib.ListN.{length, getD, drop}
-use Rattle.rules.specs.Limits.{VARIABLES}
+use Rattle.rules.specs.Limits.{LENGTH, VARIABLES}
 use Rattle.rules.specs.Out.{ok, refuse}
 use Rattle.rules.specs.Lex.{letters}
+use Rattle.rules.specs.Text.{same}
+use Rattle.rules.specs.Find.{any}
 use Rattle.rules.specs.Sexp.{Sexp, Sexps, atom, list, cons, count, item}
 use Rattle.rules.specs.Store.{Made}
 use Rattle.rules.specs.State.{State, Var}
@@ -20,6 +23,7 @@ use Rattle.sexp.specs.declared.names.Found.the-variants.{At, Missing}
 use Rattle.reading.specs.Items.{indexIn, varsIn}
 use Rattle.reading.specs.declared.hyps.Listed.{Listed}
 use Rattle.reading.specs.declared.hyps.Listed.the-variants as listed
+use Rattle.casework.specs.Distinct.{nameOf, Tree}
 use Rattle.casework.specs.declared.cases.CaseRead.{CaseRead}
 use Rattle.casework.specs.declared.cases.CaseRead.the-variants as cases
 
@@ -91,10 +95,26 @@ CaseFound vs text cells cs name Missing = caseNamed cs name ≡ nothing
 
 -- All cases ------------------------------------------------------------------------------------------------------------------------
 
--- a number below 65536 for a name
-unfoldable pub hashOf : ℕ → List ℕ → ℕ
-hashOf h [] = h
-hashOf h (b ∷ bs) = hashOf ((h * 31 + b) % 65536) bs
+-- their names are in a tree of names
+pub record Named (text places links : List ℕ) (cs : List Case) : Type 0 where
+  pub tree : Tree text places links (length cs)
+  pub each : (k : ℕ) → k < length cs → nameOf text places (k + 1) ≡ getD cs k noCase .name
+
+-- they are where its tables have room
+pub record Kept (text places links : List ℕ) (cs : List Case) : Type 0 where
+  pub even : length links ≡ length places
+  pub short : length places ≤ LENGTH
+  pub named : length text ≤ LENGTH → 2 * length cs + 2 ≤ length places → Named text places links cs
+
+-- the first items are cases, so many, and their names are kept
+pub record Naming (text cells places links : List ℕ) (many : ℕ) : Type 0 where
+  pub first : CasesFirst text cells many
+  pub kept : Kept text places links (first .cs)
+
+-- whether one of them has the name; if none has, the name of one more is kept
+pub record TakenAs (text : List ℕ) (cs : List Case) (name places links : List ℕ) (taken : Bool) : Type 0 where
+  pub is : taken ≡ any (λ (d : Case). same (d .name) name) cs
+  pub more : taken ≡ false → (c : Case) → c .name ≡ name → Kept text places links (cs ++ (c ∷ []))
 
 -- all items are cases, one a name
 pub record CasesAre (S : State) (xs : Sexps) : Type 0 where

@@ -1,3 +1,4 @@
 pub mod Cases
 pub mod Context
+pub mod Distinct
 pub mod Laws
