@@ -4,10 +4,10 @@ use mathlib.Core.List.{List}
 use Prim.Native.Nat.{ℕ}
 use Rattle.rules.specs.Unify.{unify}
 use Rattle.terms.specs.declared.store.Mark.{Mark}
-use Rattle.terms.specs.declared.unify.Unified.{Unified}
-use Rattle.terms.specs.declared.unify.Unified.the-variants.{Found, Apart, Full}
+use Rattle.unification.specs.declared.unify.Unified.{Unified}
+use Rattle.unification.specs.declared.unify.Unified.the-variants.{Found, Apart, Full}
 use Rattle.terms.specs.Table.{made, tree}
-use Rattle.terms.specs.Unify.{UnifiedBy}
+use Rattle.unification.specs.Unify.{UnifiedBy}
 
 -- bindings are found, there are none, or a table has no room
 abbrev pub foundOf : Unified → ℕ

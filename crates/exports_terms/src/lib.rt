@@ -8,16 +8,16 @@ ghost use Rattle.terms.specs.Sets.{holds};
 ghost use Rattle.terms.specs.Collect.{Readable};
 ghost use Rattle.terms.specs.Table.{Good, Node, tree};
 ghost use Rattle.terms.specs.Subst.{Replaceable};
-ghost use Rattle.terms.specs.Unify.{Unifiable};
+ghost use Rattle.unification.specs.Unify.{Unifiable};
 ghost use Rattle.exports_terms.specs.Keeps.{Keeps, Replaces};
 ghost use Rattle.exports_terms.specs.Unifies.{foundOf, Unifies};
 use terms::store::Kept;
 use terms::store::Mark;
 use terms::store::keep;
 use terms::substitute::substitute;
-use terms::unify::Unified;
-use terms::unify::unify;
 use terms::variables::variables;
+use unification::unify::Unified;
+use unification::unify::unify;
 
 // The number of a node's term, which comes into the store if it is new; the number of terms that fit where it does not. The node is the
 // first parameter, since a slice that is passed on the stack is read there before it is quite written, for which the processor waits.

@@ -17,8 +17,8 @@ use Rattle.rules.specs.Laws.Below.{below-up}
 use Rattle.sexp.specs.declared.names.Found.{Found}
 use Rattle.sexp.specs.declared.names.Found.the-variants.{At, Missing}
 use Rattle.terms.specs.declared.store.Mark.{Mark}
-use Rattle.terms.specs.declared.unify.Unified.{Unified}
-use Rattle.terms.specs.declared.unify.Unified.the-variants as unified
+use Rattle.unification.specs.declared.unify.Unified.{Unified}
+use Rattle.unification.specs.declared.unify.Unified.the-variants as unified
 use Rattle.terms.specs.Table.{made, tree}
 use Rattle.terms.specs.On.{Stopped, On, on-start, on-is, on-ok, on-no, on-pure, on-stop, on-done, on-refused}
 use Rattle.terms.specs.Laws.Bound.{cells-zeros}

@@ -23,14 +23,15 @@ use Rattle.sexp.specs.Never.{never}
 use Rattle.terms.specs.declared.store.Mark.{Mark}
 use Rattle.terms.specs.declared.patterns.Built.{Built}
 use Rattle.terms.specs.declared.patterns.Built.the-variants as built
-use Rattle.terms.specs.declared.unify.Unified.{Unified}
-use Rattle.terms.specs.declared.unify.Unified.the-variants as unified
+use Rattle.unification.specs.declared.unify.Unified.{Unified}
+use Rattle.unification.specs.declared.unify.Unified.the-variants as unified
 use Rattle.terms.specs.Table.{made, tree, Good, Grown}
 use Rattle.terms.specs.Theta.{Zeros}
 use Rattle.terms.specs.Patterns.{Stands, Buildable, BuiltAt, Builds, boundOf, Cells}
-use Rattle.terms.specs.Unify.{Unifiable, UnifiedBy, Scratch}
-use Rattle.terms.specs.On.{On, on-start, on-is, on-ok, on-no, on-went, on-stopped, solved-went, unsolved-went, refused-stopped}
-use Rattle.terms.specs.Laws.Answers.{built-term, built-no, unified-found, unified-apart, unified-full}
+use Rattle.unification.specs.Unify.{Unifiable, UnifiedBy, Scratch}
+use Rattle.terms.specs.On.{On, on-start, on-is, on-ok, on-no, on-went, on-stopped, refused-stopped}
+use Rattle.terms.specs.Laws.Answers.{built-term, built-no}
+use Rattle.unification.specs.Laws.Answers.{unified-found, unified-apart, unified-full, solved-went, unsolved-went}
 use Rattle.terms.specs.Laws.Bound.{build-is, bound-grown, cells-grown}
 use Rattle.terms.specs.Laws.Growth.{grown-tree, grown-there, grown-trans}
 use Rattle.terms.specs.Laws.Numbers.{made-closed}

@@ -26,8 +26,8 @@ use Rattle.sexp.specs.WalkLaws.{Walk}
 use Rattle.sexp.specs.declared.names.Found.{Found}
 use Rattle.sexp.specs.declared.names.Found.the-variants.{At, Missing}
 use Rattle.terms.specs.declared.store.Mark.{Mark}
-use Rattle.terms.specs.declared.unify.Unified.{Unified}
-use Rattle.terms.specs.declared.unify.Unified.the-variants as unified
+use Rattle.unification.specs.declared.unify.Unified.{Unified}
+use Rattle.unification.specs.declared.unify.Unified.the-variants as unified
 use Rattle.terms.specs.Table.{made, tree, Good}
 use Rattle.terms.specs.Sets.{holds}
 use Rattle.terms.specs.Theta.{bindings, Theta}

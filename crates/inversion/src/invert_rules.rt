@@ -53,8 +53,8 @@ use terms::store::Kept;
 use terms::store::Mark;
 use terms::store::keep;
 use terms::substitute::substitute;
-use terms::unify::Unified;
-use terms::unify::unify;
+use unification::unify::Unified;
+use unification::unify::unify;
 
 // Whether the variables are as many as the rule has, each of its sort.
 fn suits(vars: &[u32], rulevars: &[u32], r: usize, need: usize, list: &[u32]) -> bool

@@ -13,7 +13,6 @@ pub mod Digits
 pub mod Sets
 pub mod Theta
 pub mod Patterns
-pub mod Unify
 pub mod Answers
 pub mod Bound
 pub mod Seen

@@ -12,13 +12,10 @@ use Prim.Native.Nat.{ℕ}
 use Rattle.rules.specs.Out.{Out, ok, refuse, then, ask, room, found}
 use Rattle.rules.specs.Tree.{Tree}
 use Rattle.rules.specs.Store.{Made}
-use Rattle.rules.specs.Unify.{Binding}
 use Rattle.rules.specs.Laws.Store.{then-ok, then-refuse}
 use Rattle.terms.specs.declared.store.Mark.{Mark}
 use Rattle.terms.specs.Table.{made, Good, Grown, Stored, Refused, tree}
 use Rattle.terms.specs.Patterns.{Builds, Stops}
-use Rattle.terms.specs.Theta.{bindings}
-use Rattle.terms.specs.Unify.{Solved, Unsolved}
 use Rattle.terms.specs.Laws.Growth.{grown-refl, grown-trans}
 
 -- Answers ------------------------------------------------------------------------------------------------------------------------------
@@ -52,12 +49,6 @@ module _ {I W J X : List ℕ} {old new : Mark} where
 
   pub stops-stopped : {K : Out Made Tree} {q d : ℕ} → Stops I W J X old K q d new → Stopped I W J X old K q d new
   stops-stopped s = record { grown = s .grown; makes = s .makes }
-
-  pub solved-went : {theta : List ℕ} {K : Out Made (Option (List Binding))} → Solved I W J X old theta K new → Went I W J X old K (some (bindings (made J X new) theta 0)) new
-  solved-went s = record { grown = s .grown; makes = s .makes }
-
-  pub unsolved-went : {theta : List ℕ} {K : Out Made (Option (List Binding))} → Unsolved I W J X old theta K new → Went I W J X old K nothing new
-  unsolved-went s = record { grown = s .grown; makes = s .makes }
 
 -- How far a block has come ---------------------------------------------------------------------------------------------------------------
 

@@ -15,7 +15,7 @@ use Rattle.terms_main.specs.declared.Placed.{Placed}
 use Rattle.terms_main.specs.declared.Placed.the-variants.{Term, Full}
 use Rattle.terms.specs.Table.{start, isVar, isApp, Node, Good, Grown, Stored}
 use Rattle.terms_main.specs.Parts.{There, ReadAs, ReadBy}
-use Rattle.terms.specs.Unify.{Scratch, Unifiable}
+use Rattle.unification.specs.Unify.{Scratch, Unifiable}
 use Rattle.terms.specs.Laws.Growth.{grown-trans}
 use Rattle.terms.specs.Laws.Terms.{node-inside, args-below, variables-few}
 

@@ -8,7 +8,7 @@ use Rattle.rules.specs.Limits.{VARIABLES, TERMS, WORDS, PAIRS, TERMWORDS}
 use Rattle.terms.specs.declared.store.Mark.{Mark}
 use Rattle.terms.specs.Table.{INDEX, start, Good, Part}
 use Rattle.terms.specs.Theta.{Zeros}
-use Rattle.terms.specs.Unify.{Scratch}
+use Rattle.unification.specs.Unify.{Scratch}
 use Rattle.terms_main.specs.Parts.{none, Idle}
 use Rattle.terms.specs.Laws.Empty.{good-empty}
 

@@ -3,7 +3,7 @@ use Prim.Native.Nat.{ℕ, _≤_, _<_}
 use mathlib.Core.List.{List}
 use Rattle.terms.specs.declared.store.Mark.{Mark}
 use Rattle.terms.specs.Table.{Good, Grown}
-use Rattle.terms.specs.Unify.{Scratch}
+use Rattle.unification.specs.Unify.{Scratch}
 use Rattle.terms_main.specs.declared.Placed.{Placed}
 use Rattle.terms_main.specs.declared.Placed.the-variants.{Term, Full}
 

@@ -7,7 +7,7 @@
 ghost use Prim.Native.Nat.{_+_, _<_};
 ghost use Rattle.rules.specs.Limits.{SYMBOLS, VARIABLES};
 ghost use Rattle.terms.specs.Table.{Good};
-ghost use Rattle.terms.specs.Unify.{Unifiable};
+ghost use Rattle.unification.specs.Unify.{Unifiable};
 ghost use Rattle.terms_main.specs.Parts.{none, Idle, ReadBy};
 
 mod show;
@@ -25,8 +25,8 @@ use terms::store::Kept;
 use terms::store::Mark;
 use terms::store::forget;
 use terms::store::keep;
-use terms::unify::Unified;
-use terms::unify::unify;
+use unification::unify::Unified;
+use unification::unify::unify;
 
 // The symbols by their numbers.
 pub const A: usize = 0;

@@ -1,26 +1,18 @@
 -- What a call's answer says, once a caller has seen which one it is: `@keep .ensures` and the equation of the match's arm give the record of that
 -- case. Assumes nothing.
 use mathlib.Core.Path.{_≡_, subst}
-use mathlib.Core.Option.{Option}
 use mathlib.Core.List.{List}
 use Prim.Native.Nat.{ℕ}
-use lib.ListN.{length}
-use Rattle.rules.specs.Limits.{VARIABLES}
 use Rattle.rules.specs.Out.{Out}
 use Rattle.rules.specs.Tree.{Tree}
 use Rattle.rules.specs.Store.{Made}
-use Rattle.rules.specs.Unify.{Binding}
 use Rattle.terms.specs.declared.store.Mark.{Mark}
 use Rattle.terms.specs.declared.store.Kept.{Kept}
 use Rattle.terms.specs.declared.store.Kept.the-variants.{Term, Full}
 use Rattle.terms.specs.declared.patterns.Built.{Built}
-use Rattle.terms.specs.declared.unify.Unified.{Unified}
 use Rattle.terms.specs.Table.{Stored, Refused, AfterAs, After}
 use Rattle.terms.specs.Patterns.{Builds, Stops, BuiltAs, BuiltBy}
-use Rattle.terms.specs.Theta.{Zeros}
-use Rattle.terms.specs.Unify.{Solved, Unsolved, UnifiedAs, UnifiedBy}
 use Rattle.terms.specs.declared.patterns.Built.the-variants as built
-use Rattle.terms.specs.declared.unify.Unified.the-variants as unified
 
 -- `keep`, `substitute`
 module _ {I W J X : List ℕ} {old : Mark} {t : Tree} {K : Out Made Tree} {r : Kept} (a : After I W J X old t K r) where
@@ -37,14 +29,3 @@ module _ {I W J X : List ℕ} {old : Mark} {K : Out Made Tree} {behind : ℕ} {r
 
   pub built-no : {q d : ℕ} {new : Mark} → r ≡ built.No q d new → Stops I W J X old K q d new
   built-no e = subst (BuiltAs I W J X old K behind) e (a .says)
-
--- `unify`
-module _ {I W J X : List ℕ} {old : Mark} {theta : List ℕ} {K : Out Made (Option (List Binding))} {r : Unified} (a : UnifiedBy I W J X old theta K r) where
-  pub unified-found : {new : Mark} → r ≡ unified.Found new → Solved I W J X old theta K new
-  unified-found e = subst (UnifiedAs I W J X old theta K) e (a .says)
-
-  pub unified-apart : {new : Mark} → r ≡ unified.Apart new → Unsolved I W J X old theta K new × (length theta ≡ VARIABLES) × Zeros theta
-  unified-apart e = subst (UnifiedAs I W J X old theta K) e (a .says)
-
-  pub unified-full : {row : ℕ} {new : Mark} → r ≡ unified.Full row new → Refused (Option (List Binding)) I W J X old K row new × (length theta ≡ VARIABLES) × Zeros theta
-  unified-full e = subst (UnifiedAs I W J X old theta K) e (a .says)

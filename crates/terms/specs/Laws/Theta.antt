@@ -21,7 +21,6 @@ use Rattle.terms.specs.Theta.{bindings, Theta, Zeros}
 use Rattle.terms.specs.Table.{made, Grown}
 use Rattle.terms.specs.Subst.{replacement}
 use Rattle.terms.specs.Laws.Growth.{grown-tree}
-use Rattle.terms.specs.declared.unify.Round.the-variants as round
 
 -- what the cell c of the variable v stands for
 abbrev pub binding : Made → ℕ → ℕ → Binding

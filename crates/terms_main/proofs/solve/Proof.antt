@@ -8,7 +8,7 @@ use Rattle.terms_main.proofs.Rests.{wiped, scratch-again}
 use borrow.Author.Needs.{needs}
 use Rattle.terms_main.proofs.solve.Statement.{statement}
 use Rattle.terms_main.proofs.solve.Tie as tie
-use Rattle.terms.specs.Laws.Answers.{unified-found, unified-apart, unified-full}
+use Rattle.unification.specs.Laws.Answers.{unified-found, unified-apart, unified-full}
 
 unify-requires : tie.Need-unify-requires
 unify-requires c κs = (c .before .before .before .before .before .before .before .before .before .before .before .before .before .before .pre)

@@ -2,7 +2,7 @@
 use mathlib.Core.Path.{sym, _∙_, subst}
 use mathlib.Core.List.{List}
 use Prim.Native.Nat.{ℕ}
-use Rattle.terms.specs.Unify.{Scratch}
+use Rattle.unification.specs.Unify.{Scratch}
 use Rattle.terms_main.proofs.Places.{as-term, as-full, unifies-both}
 use borrow.Author.Needs.{needs}
 use Rattle.terms_main.proofs.solve_with.Statement.{statement}

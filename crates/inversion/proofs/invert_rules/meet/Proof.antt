@@ -9,7 +9,7 @@ use Rattle.inversion.proofs.invert_rules.meet.Lts as lts
 use Rattle.inversion.proofs.invert_rules.keep_vars.Reads as keep-vars-reads
 use Rattle.kernel.proofs.rule_readers.conclusion.Reads as conclusion-reads
 use Rattle.terms.proofs.patterns.build.Reads as build-reads
-use Rattle.terms.proofs.unify.unify.Reads as unify-reads
+use Rattle.unification.proofs.unify.unify.Reads as unify-reads
 
 -- src/invert_rules.rt:212:11
 keep-vars-requires : tie.Need-keep-vars-requires

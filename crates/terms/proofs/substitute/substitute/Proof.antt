@@ -1,4 +1,5 @@
-use Rattle.terms.proofs.Fresh.{next-fits, part-long, part-again, part-wiped, fresh-ready, fresh-done}
+use Rattle.terms.specs.Laws.Zeros.{part-long, part-again, part-wiped}
+use Rattle.terms.proofs.Fresh.{next-fits, fresh-ready, fresh-done}
 use borrow.Author.Needs.{needs}
 use Rattle.terms.proofs.substitute.substitute.Statement.{statement}
 use Rattle.terms.proofs.substitute.substitute.Tie as tie

@@ -1,0 +1,5 @@
+pub mod Pairs
+pub mod Extend
+pub mod Unify
+pub mod Peel
+pub mod Laws
