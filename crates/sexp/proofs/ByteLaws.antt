@@ -1,15 +1,16 @@
 -- Kinds of bytes, from the tests that the code makes. Assumes nothing.
 use mathlib.Core.Path.{_≡_, refl, sym, ap, _∙_}
 use mathlib.Core.Bool.{Bool, true, false, cond, not}
-use Prim.Native.Nat.{ℕ, _+_, _≤_, _<_}
+use Prim.Native.Nat.{ℕ, _+_, _-_, _≤_, _<_}
 use mathlib.Core.List.{List}
 use native.Mathlib.Omega.{arith}
 use lib.Dec.{eqb}
 use lib.ListN.{length, getD, drop, drop-of-length-le}
 use borrow.Author.Tests.{ne-eqb, le-leb, lt-leb}
-use Rattle.rules.specs.Text.{plain}
+use Rattle.rules.specs.Text.{plain, same}
 use Rattle.rules.specs.Lex.{Kind, blank, left, right, semicolon, letter, white, kind, letters}
 use Rattle.rules.specs.Laws.Lex.{kind-blank, kind-left, kind-right, kind-semicolon, kind-letter, drop-at, place-letters-more, place-letters-none, letters-end}
+use Rattle.rules.specs.Laws.Text.{same-equal, same-on, same-over}
 use Rattle.sexp.specs.Lexed.{wide, isLetter}
 
 -- white space
@@ -128,3 +129,28 @@ letters-off text p h k = omega (arith, ap length (place-letters-none text p h k)
 
 pub letters-over : (text : List ℕ) (p : ℕ) → length text ≤ p → p + length (letters (drop p text)) ≡ p
 letters-over text p h = omega (arith, ap length (letters-end text p h))
+
+-- names
+
+pub same-differs : (s t : List ℕ) (i : ℕ) → (getD s i 0 ≡ getD t i 0 → ⊥) → same s t ≡ false
+same-differs s t i h = go (same s t) refl
+  where
+    go : (b : Bool) → same s t ≡ b → same s t ≡ false
+    go true e = absurd (h (ap (λ (l : List ℕ). getD l i 0) (same-equal s t e)))
+    go false e = e
+
+-- two names of one length, from their ends on
+module _ (s t : List ℕ) (l : length s ≡ length t) where
+  pub same-end : (at : ℕ) → at ≡ length s → same (drop at s) (drop at t) ≡ true
+  same-end at e = same-over s t at (omega arith) (omega arith)
+
+  pub same-before : (at : ℕ) → 0 < at → at ≤ length s → getD s (at - 1) 0 ≡ getD t (at - 1) 0 → same (drop at s) (drop at t) ≡ true
+      → same (drop (at - 1) s) (drop (at - 1) t) ≡ true
+  same-before at p q e h =
+      let one : at - 1 + 1 ≡ at = omega arith in
+      same-on s t (at - 1) (omega arith) (omega arith) e ∙ ap (λ (k : ℕ). same (drop k s) (drop k t)) one ∙ h
+
+  pub same-whole : (at : ℕ) → at ≤ 0 → same (drop at s) (drop at t) ≡ true → true ≡ same s t
+  same-whole at p h =
+      let none : at ≡ 0 = omega arith in
+      sym (sym (ap (λ (k : ℕ). same (drop k s) (drop k t)) none) ∙ h)

@@ -15,19 +15,19 @@ pub enum Index {
     Unreadable,
 }
 
-// Whether two names have the same bytes.
+// Whether two names have the same bytes. Names of one tariff often share their beginnings, so the last bytes are looked at first.
 pub fn same(s: &[u8], t: &[u8]) -> bool
     ensures { λ r. ⌜ r ≡ same (now (s .entry)) (now (t .entry)) ⌝ }
 {
     if s.len() != t.len() {
         return false;
     }
-    let mut at = 0;
-    while at < s.len() {
+    let mut at = s.len();
+    while 0 < at {
+        at -= 1;
         if s[at] != t[at] {
             return false;
         }
-        at += 1;
     }
     true
 }
