@@ -23,6 +23,7 @@ use state::facts::general;
 use state::facts::judgment;
 use state::facts::premises;
 use state::sizes::Sizes;
+use terms::sets::count;
 use terms::sets::lowest_outside;
 use terms::sets::minus_from;
 use terms::sets::union_into;
@@ -126,8 +127,8 @@ fn join_free(
     mention_free(facts, lists, n, index, words, mark, i, set);
 }
 
-// The variables that are free in hypotheses join the set; these are facts, given as a set.
-pub fn hyp_vars(
+// The variables that are free in hypotheses join the set, one hypothesis after the other.
+fn join_hyps(
     facts: &[u32],
     lists: &[u32],
     n: Sizes,
@@ -161,6 +162,30 @@ pub fn hyp_vars(
         );
         k += 1;
     }
+}
+
+// The variables that are free in hypotheses join the set; these are facts, given as a set. Most facts rest on none, and then no list is made.
+pub fn hyp_vars(
+    facts: &[u32],
+    lists: &[u32],
+    n: Sizes,
+    index: &[u32],
+    words: &[u32],
+    mark: Mark,
+    hyps: &[u64],
+    seen: &mut [u64],
+    set: &mut [u64],
+)
+    requires { ⌜ Recalls (now facts) (now lists) n (now index) (now words) mark × Under (n .facts) (holds (now hyps)) ⌝ }
+    requires { ⌜ (length (now hyps) ≡ FACTWORDS) × (length (now seen) ≡ TERMWORDS) × (length (now set) ≡ VARIABLEWORDS) ⌝ }
+    requires { ⌜ Seen (now index) (now words) mark (holds (now seen)) (holds (now set)) ⌝ }
+    ensures { λ _. ⌜ ((g : Recalls (now (facts .entry)) (now (lists .entry)) n (now (index .entry)) (now (words .entry)) mark) →
+        holds (now (set .exit)) ≡ union (holds (now (set .entry))) (hypVars (g .S .facts) (rising (n .facts) (holds (now (hyps .entry)))))) ⌝ }
+{
+    if count(hyps) == 0 {
+        return;
+    }
+    join_hyps(facts, lists, n, index, words, mark, hyps, seen, set);
 }
 
 // Question 39: the lowest variable in use, counted from 1, that is neither in the conclusion nor free in the hypotheses; 0 where there is none.
