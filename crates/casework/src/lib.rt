@@ -2,4 +2,4 @@
 // question, detail, and the terms made until then, on refusals too.
 pub mod cases;
 pub mod context;
-pub mod distinct;
+mod distinct;
