@@ -9,6 +9,7 @@ use crate::names::head_cell;
 use crate::names::say_head;
 use crate::pen::Pen;
 use crate::pen::say;
+use rules::WORDS;
 
 // What may be said of one term.
 pub const BYTES: usize = 1000000;
@@ -79,6 +80,12 @@ fn next_word(stack: &mut [usize], depth: usize) -> Next
     let second = top + 1;
     let end = stack[second];
     if end <= next {
+        return Next {
+            over: true,
+            word: 0,
+        };
+    }
+    if WORDS <= next {
         return Next {
             over: true,
             word: 0,

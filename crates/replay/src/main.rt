@@ -35,7 +35,7 @@ fn name_case(name: &[u8]) {
 }
 
 // Where the parts of a case begin, and where the last one ends.
-struct Places {
+struct Parts {
     name: usize,
     theory: usize,
     goals: usize,
@@ -46,7 +46,7 @@ struct Places {
 }
 
 // Those of the case at a place.
-fn places(window: &[u8], at: usize, end: usize) -> Places
+fn parts_at(window: &[u8], at: usize, end: usize) -> Parts
     requires { ⌜ (at ≤ end) × (end ≤ length (now window)) ⌝ }
     ensures { λ r. ⌜ (r .name ≤ r .theory) × (r .theory ≤ r .goals) × (r .goals ≤ r .proof) × (r .proof ≤ r .answer) ⌝ }
     ensures { λ r. ⌜ (r .answer ≤ r .wanted) × (r .wanted ≤ r .last) × (r .last ≤ end) ⌝ }
@@ -66,7 +66,7 @@ fn places(window: &[u8], at: usize, end: usize) -> Places
     let wanted = part_end(answer, a.value, end);
     let feet = part_end(wanted, f.value, end);
     let last = part_end(feet, o.value, end);
-    Places {
+    Parts {
         name: name,
         theory: theory,
         goals: goals,
@@ -82,7 +82,7 @@ fn replay_case(window: &[u8], at: usize, end: usize, out: &mut [u8]) -> usize
     requires { ⌜ (at ≤ end) × (end ≤ length (now window)) ⌝ }
     ensures { λ r. ⌜ r ≤ end ⌝ }
 {
-    let q = places(window, at, end);
+    let q = parts_at(window, at, end);
     let name = q.name;
     let theory = q.theory;
     let answer = q.answer;

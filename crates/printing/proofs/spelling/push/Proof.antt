@@ -11,9 +11,6 @@ mul-top c = search needs
 sub-if1 : tie.Need-sub-if1
 sub-if1 c = search needs
 
-same-length : tie.Need-same-length
-same-length c = search needs
-
 returns : tie.Need-returns
 returns c = search needs
 
@@ -35,8 +32,8 @@ slice-write-stack-2 c = simp length-set (omega arith)
 add-result : tie.Need-add-result
 add-result c = search needs
 
-same-length-2 : tie.Need-same-length-2
-same-length-2 c = search needs
+same-length : tie.Need-same-length
+same-length c = search needs
 
 returns-2 : tie.Need-returns-2
 returns-2 c = search needs
@@ -47,7 +44,6 @@ push-spec =
     (tie.spec
     mul-top
     sub-if1
-    same-length
     returns
     mul-stack
     slice-write-stack
@@ -55,5 +51,5 @@ push-spec =
     mul-stack-2
     slice-write-stack-2
     add-result
-    same-length-2
+    same-length
     returns-2)
