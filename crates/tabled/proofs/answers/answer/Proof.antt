@@ -53,7 +53,7 @@ check-rows-requires : tie.Need-check-rows-requires
 check-rows-requires c κs = rows-room
 
 returns : tie.Need-returns
-returns c = search (needs, answers-named)
+returns c = answers-named ((c .before .before .before .before .before .before .before .before .before .before .before .before .before .before .before .check-rows) .ensures)
 
 pub answer-spec : {M : Type 1} → statement M
 answer-spec =
