@@ -1,27 +1,28 @@
 // One case: its texts are checked, and what comes is compared with what is expected.
 ghost use Prim.Native.Nat.{_≤_};
 ghost use lib.ListN.{length};
+use sexp::names::same;
 use tabled::told::tell;
 
-// Whether bytes stand at a place of a text that ends there.
-fn stands(text: &[u8], end: usize, at: usize, bytes: &[u8]) -> bool {
+// No place: behind the end of every text.
+const NOWHERE: usize = 0xffff_ffff_ffff_ffff;
+
+// The place behind these bytes, where they stand at a place of a text with this end.
+fn behind(text: &[u8], end: usize, at: usize, bytes: &[u8]) -> usize {
     if text.len() < end {
-        return false;
+        return NOWHERE;
     }
     if end < at {
-        return false;
+        return NOWHERE;
     }
     if end - at < bytes.len() {
-        return false;
+        return NOWHERE;
     }
-    let mut i = 0;
-    while i < bytes.len() {
-        if text[at + i] != bytes[i] {
-            return false;
-        }
-        i += 1;
+    let to = at + bytes.len();
+    if same(&text[at..to], bytes) {
+        return to;
     }
-    true
+    NOWHERE
 }
 
 // Whether facts and footings are compared: `-` stands for whatever they are.
@@ -46,18 +47,11 @@ pub fn same_case(
     let all = is_stored(wanted);
     let p = tell(text, goals, proof, out, -1, all);
     let end = p.at;
-    if !stands(out, end, 0, answer) {
-        return false;
-    }
-    let next = answer.len();
-    if !stands(out, end, next, b"\n") {
-        return false;
-    }
+    let line = behind(out, end, 0, answer);
+    let facts = behind(out, end, line, b"\n");
     if !all {
-        return true;
+        return facts <= end;
     }
-    if !stands(out, end, next + 1, wanted) {
-        return false;
-    }
-    stands(out, end, next + 1 + wanted.len(), b"(missing [")
+    let rest = behind(out, end, facts, wanted);
+    behind(out, end, rest, b"(missing [") <= end
 }

@@ -1,5 +1,6 @@
 // Replays stored cases from standard input: each case's three texts are checked, and the line, and where they are stored the facts and the footings, are
 // compared with what is expected. Names the cases that differ; the last line says how many were replayed.
+ghost use mathlib.Core.Path.{_≡_};
 ghost use Prim.Native.Nat.{_≤_};
 ghost use lib.ListN.{length};
 
@@ -12,9 +13,9 @@ use crate::source::part_end;
 use crate::source::slide;
 
 // Bytes of a window, and those that a case has at most.
-const WINDOW: usize = 1048576;
+const WINDOW: usize = 262144;
 
-const CASE: usize = 262144;
+const CASE: usize = 131072;
 // Cases that are read at most.
 const CASES: usize = 100000;
 
@@ -137,9 +138,16 @@ fn replay_all(window: &mut [u8], out: &mut [u8]) -> usize {
     many
 }
 
+// Room for cases.
+fn room() -> [u8; WINDOW]
+    ensures { λ r. ⌜ 262144 ≡ length r ⌝ }
+{
+    [0; WINDOW]
+}
+
 fn main() {
-    let mut window = [0u8; WINDOW];
-    let mut out = [0u8; 8192];
+    let mut window = room();
+    let mut out = io::large_buffer();
     let many = replay_all(&mut window, &mut out);
     io::print_decimal(1, many as u64);
     io::write_all(1, b" cases replayed\n");

@@ -134,9 +134,8 @@ pub fn tell(text: &[u8], goals: usize, proof: usize, out: &mut [u8], fd: i32, al
     requires { ⌜ (goals ≤ proof) × (proof ≤ length (now text)) ⌝ }
     ensures { λ r. ⌜ r .at ≤ length (now (out .entry)) ⌝ }
 {
-    let first = 0;
     tell_texts(
-        &text[first..goals],
+        &text[..goals],
         &text[goals..proof],
         &text[proof..],
         text,
