@@ -194,7 +194,7 @@ fn numbers(file: &[u8], at: usize) -> (Vec<usize>, usize) {
 
 /// The stored cases, read by their lengths alone: name, theory, goals, proof, answer, facts, footings.
 pub fn stored() -> Vec<Vec<Vec<u8>>> {
-    let file = std::fs::read("cases/stored.txt").expect("the file stands");
+    let file = std::fs::read("../crates/replay/stdin").expect("the file stands");
     let (header, start) = numbers(&file, 0);
     let (mut at, mut cases) = (start + header[0], Vec::new());
     while at < file.len() {

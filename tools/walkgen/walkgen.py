@@ -5,7 +5,7 @@ as a list, the context. Such a proof is long and all of one shape where the code
 one `while` over such calls whose test is a call, and at the end a local, or nothing, is returned. This writes it, and keeps count of the places.
 
 An argument may be a slice parameter that is `&` (a copy of it is passed), one that is `&mut` (lent again for the call where it is used later, else
-given for good), a `&mut` slice passed as `&`, a `&mut` to a record, a local record or a local array `[0u32; n]` lent by `&mut`, and a plain value.
+given for good), a `&mut` slice passed as `&`, a `&mut` to a record, a local record or a local array `[x; n]` lent by `&mut`, and a plain value.
 
 A description has a function describe() that gives a dict:
 
@@ -31,7 +31,7 @@ Names that its texts may use (p a parameter, i the number of a call, from 1):
     ri, ei          the result of call i, and the proof of its ensures (ei·0, ei·1, .. of several); isi : Is row ri (vi ∷ [])
     zi·p            in an ensures, the last list of p, where call i had it as `&mut`; elsewhere (ws1 .1 .1 .0), with a .1 for each argument before it
     len·i·p         it is as long as before the call
-    many ℕ n x      a local array of numbers as it is made, n times x; many-is ℕ n x : it is replicate n x. After a call it is zi·p
+    many ℕ n x      a local array of numbers as it is made, n times x, or many T n x, of records; many-is ℕ n x : it is replicate n x. After a call it is zi·p
     req             the proof of the function's requires
     held, over      in a loop: its test holds, or does not
 """
@@ -386,21 +386,26 @@ class Walk:
         return "(lit ! tt)" if n < 1024 else "(big ! (record { fits = lit< tt }))"
 
     def array(self, d, printed, tail):
-        """An array of n times a number. It is owned beside its local."""
-        w, (_, (_, bits, x), n) = self.steps, printed
-        t, p = self.types[f"u{bits}"], self.owned_names[d]
-        row, value, many = f"Array {t.row} {n}", t.value(x), f"(many {t.denot} {n} {x})"
-        machine = f"(manyVal {n} {value})"
+        """An array of n times a number, or of what a local holds. It is owned beside its local."""
+        w, (_, source, n), p = self.steps, printed, self.owned_names[d]
+        if source[0] in ("copy", "move"):
+            of = self.values[place(source[1])[0]]
+            t, x, value, known = of.type, of.denot, of.machine, of.known
+        else:
+            t, x = self.types[f"u{source[1]}"], source[2]
+            value, known = t.value(x), "(refl, lit< tt)"
+        row, many, machine = f"Array {t.row} {n}", f"(many {t.denot} {n} {x})", f"(manyVal {n} {value})"
         own = f"{row} .own {many} ({machine} ∷ [])"
         self.arrays[d] = Array(t, int(n), many, machine, p)
         self.type[p], self.kind[p], self.now[p] = t, "mut", many
-        w.say(f"owned ! {t.row} (Is {t.row}) {t.makes} {x} ({value} ∷ []) (refl, lit< tt) $ "
+        w.say(f"owned ! {t.row} (Is {t.row}) {t.makes} {x} ({value} ∷ []) {known} $ "
               f"use1 W (‵ ({own})) (made 𝓤 H A W {t.row} {t.copy} {n} {x} {value}) $ "
               f"peeks ! ({row}) (Is ({row})) (shows 𝓤 H A ({row})) {many} ({machine} ∷ []) (λ is·{p}.")
         w.push(f"arr·{p}")
         w.held[f"arr·{p}"] = f"‵ ({own})"
         w.bind(f"is·{p}", f"Is ({row}) {many} ({machine} ∷ [])")
-        w.say(f"assigns ! (repeats ! {n} {self.literal(int(x))}) {STOP} (init ! {w.at(f'L{d}')} refl "
+        read = self.load(place(source[1])[0]) if source[0] in ("copy", "move") else self.literal(int(x))
+        w.say(f"assigns ! (repeats ! {n} {read}) {STOP} (init ! {w.at(f'L{d}')} refl "
               f"(array-lawful 𝓤 H A W {t.row} ({t.lawful}) {n} .typed {many} _ is·{p} .0)) $")
         self.fill(d, machine)
 

@@ -32,9 +32,9 @@ pub const THEORY: &[u8] = b"(sort Pass) (ctor first () Pass) (ctor renew (Pass) 
 /// A stored case: name, theory, goals, proof, answer, facts, footings.
 pub type Stored = [Vec<u8>; 7];
 
-/// The cases of compare/cases/stored.txt; its header says how they are written.
+/// The cases of crates/replay/stdin; its header says how they are written.
 pub fn stored() -> Vec<Stored> {
-    let file = std::fs::read(path("compare/cases/stored.txt")).expect("the file stands");
+    let file = std::fs::read(path("crates/replay/stdin")).expect("the file stands");
     let (header, mut at) = numbers(&file, 0);
     at += header[0];
     let mut cases = Vec::new();

@@ -1,0 +1,48 @@
+-- `printing::footings::say_footings` meets its contract. Assumes nothing.
+use Prim.Native.Nat.{_-_, _≤_}
+use mathlib.Core.Path.{_≡_}
+use lib.ListN.{length}
+use borrow.Author.Needs.{needs}
+use Rattle.printing.proofs.footings.say_footings.Statement.{statement}
+use Rattle.printing.proofs.footings.say_footings.Tie as tie
+
+abbrev Inv-loop : tie.InvT-loop
+Inv-loop out₀ fd text rules footings many q₀ k₀ out q k = (q .at ≤ length out) × (length out ≡ length out₀)
+
+abbrev μ-loop : tie.MeasureT-loop
+μ-loop out₀ fd text rules footings many q₀ k₀ out q k = many - k
+
+loop-holds : tie.Need-loop-holds Inv-loop μ-loop
+loop-holds c = search needs
+
+say-footing-requires : tie.Need-say-footing-requires Inv-loop μ-loop
+say-footing-requires c κs = search needs
+
+add-k : tie.Need-add-k Inv-loop μ-loop
+add-k c = search needs
+
+loop-less : tie.Need-loop-less Inv-loop μ-loop
+loop-less c = search needs
+
+loop-again : tie.Need-loop-again Inv-loop μ-loop
+loop-again c = search needs
+
+same-length : tie.Need-same-length Inv-loop μ-loop
+same-length c = search needs
+
+returns : tie.Need-returns Inv-loop μ-loop
+returns c = search needs
+
+pub say-footings-spec : {M : Type 1} → statement M
+say-footings-spec =
+    tie.close
+    (tie.spec
+    Inv-loop
+    μ-loop
+    loop-holds
+    say-footing-requires
+    add-k
+    loop-less
+    loop-again
+    same-length
+    returns)
