@@ -54,7 +54,7 @@ pub fn read_case(
     if items::count(inner) != 3 {
         return CaseRead::No(41);
     }
-    let Item::Atom(start) = items::item_at(inner, 0) else {
+    let Item::Atom(start, size) = items::item_at(inner, 0) else {
         return CaseRead::No(41);
     };
     let second = items::place(inner, 1);
@@ -76,7 +76,7 @@ fn is_named(text: &[u8], cells: &[u32], name: &[u8]) -> bool
     let Item::List(a, b) = items::item_at(cells, 0) else {
         return false;
     };
-    let Item::Atom(start) = items::item_at(&cells[a..b], 0) else {
+    let Item::Atom(start, size) = items::item_at(&cells[a..b], 0) else {
         return false;
     };
     let end = lex::atom_end(text, start);

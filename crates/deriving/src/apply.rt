@@ -327,7 +327,8 @@ fn apply_to(
         Out::Ok(_, m) => {
             rest_on(facts, i, hyps);
             let mut seen = [0u64; TERMWORDS];
-            visit_cells(index, words, m, bound, &mut seen, &mut used);
+            let vars_used = n.vars;
+            visit_cells(index, words, m, &bound[..vars_used], &mut seen, &mut used);
             let v = outside(facts, lists, n, index, words, m, &used, j, hyps);
             if v != 0 {
                 return Derived::No(39, v, m);
@@ -371,7 +372,8 @@ fn apply_on(
     if !is_fact(n, i) {
         return Derived::No(34, 0, mark);
     }
-    let q = applicable(facts, lists, i, bound);
+    let vars_used = n.vars;
+    let q = applicable(facts, lists, i, &bound[..vars_used]);
     if q != 0 {
         return Derived::No(q, 0, mark);
     }

@@ -174,7 +174,7 @@ fn read_item(
     if inner.len() == 0 {
         return Out::No(22, 0, mark);
     }
-    let Item::Atom(start) = items::item_at(inner, 0) else {
+    let Item::Atom(start, size) = items::item_at(inner, 0) else {
         return Out::No(22, 0, mark);
     };
     if binds(text, inner, start) {

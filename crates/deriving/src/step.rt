@@ -23,10 +23,12 @@ use cells::clear;
 use kernel::rule_readers::conclusion;
 use kernel::rule_readers::premises;
 use kernel::rule_readers::rule_named;
+use kernel::rule_readers::variables;
 use kernel::rule_readers::words as rule_words;
 use reading::term::Out;
 use referring::derived::Derived;
 use referring::references::Referred;
+use referring::references::bare;
 use referring::references::join;
 use referring::references::reference;
 use referring::scope::outside;
@@ -45,6 +47,7 @@ use terms::patterns::build;
 use terms::patterns::match_all;
 use terms::patterns::matches;
 use terms::sets::insert;
+use terms::sets::is_empty;
 use terms::store::Mark;
 use terms::variables::visit;
 
@@ -56,6 +59,46 @@ fn instances(bare: bool) -> usize
         return 0;
     }
     1
+}
+
+// The reference that the first item is; a bare one, as most are, asks for few tables.
+fn one_reference(
+    theory: &[u8],
+    goals: &[u8],
+    text: &[u8],
+    symbols: &[u32],
+    inputs: &[u32],
+    vars: &[u32],
+    defs: &[u32],
+    facts: &[u32],
+    n: Sizes,
+    index: &mut [u32],
+    words: &mut [u32],
+    mark: Mark,
+    cells: &[u32],
+    map: &mut [u32],
+    memo: &mut [u32],
+) -> Referred {
+    let Item::List(_, _) = items::item_at(cells, 0) else {
+        return bare(text, facts, n, mark, cells);
+    };
+    reference(
+        theory,
+        goals,
+        text,
+        symbols,
+        inputs,
+        vars,
+        defs,
+        facts,
+        n,
+        index,
+        words,
+        mark,
+        cells,
+        map,
+        memo,
+    )
 }
 
 // All references: their judgments' numbers come into the first cells of `ids`, what they bring into the sets. What is answered is how many of them are
@@ -93,7 +136,7 @@ fn references(
     let mut many = 0;
     let mut at = 0;
     while at < cells.len() {
-        match reference(
+        match one_reference(
             theory,
             goals,
             text,
@@ -110,10 +153,10 @@ fn references(
             map,
             memo,
         ) {
-            Referred::To(t, i, bare, new) => {
+            Referred::To(t, i, alone, new) => {
                 ids[k] = t as u32;
-                join(facts, footings, lists, i, bare, hyps, footing);
-                many += instances(bare);
+                join(facts, footings, lists, i, alone, hyps, footing);
+                many += instances(alone);
                 m = new;
             }
             Referred::No(q, d, new) => {
@@ -175,7 +218,8 @@ fn conclude(
     ) {
         Out::Ok(stated, m) => {
             visit_all(index, words, m, ids, &mut seen, used);
-            visit_cells(index, words, m, &bound, &mut seen, used);
+            let own = variables(rules, r);
+            visit_cells(index, words, m, &bound[..own], &mut seen, used);
             let place = conclusion(patterns, rules, symbols, r);
             let first = rule_words(rules, r).from;
             matched(
@@ -275,10 +319,11 @@ pub fn step(
         DerivedAs (Fact × ℕ) (now (index .entry)) (now (words .entry)) (now (index .exit)) (now (words .exit)) mark (g .S) (step (g .S) (g .xs) (made (now (index .entry)) (now (words .entry)) mark)) withInstances (now (hyps .exit)) (now (footing .exit)) r) ⌝ }
     ensures { λ _. ⌜ (now (map .exit) ≡ now (map .entry)) × (now (memo .exit) ≡ now (memo .entry)) × (now (ids .exit) ≡ now (ids .entry)) ⌝ }
 {
-    let Item::Atom(start) = items::nth(cells, 2) else {
+    let at = items::place(cells, 2);
+    let Item::Atom(start, size) = items::item_at(cells, at) else {
         return Derived::No(33, 0, mark);
     };
-    let end = lex::atom_end(text, start);
+    let end = lex::end_at(text, start, size);
     let Found::At(r) = rule_named(theory, rules, n.rules, &text[start..end]) else {
         return Derived::No(33, 0, mark);
     };
@@ -302,7 +347,7 @@ pub fn step(
         words,
         mark,
         r,
-        cells,
+        &cells[at..],
         map,
         memo,
         &mut ids[..few],
@@ -346,7 +391,8 @@ fn step_by(
         DerivedAs (Fact × ℕ) (now (index .entry)) (now (words .entry)) (now (index .exit)) (now (words .exit)) mark (g .S) (byRule (g .S) r (g .xs) (made (now (index .entry)) (now (words .entry)) mark)) withInstances (now (hyps .exit)) (now (footing .exit)) a) ⌝ }
     ensures { λ _. ⌜ (now (map .exit) ≡ now (map .entry)) × (now (memo .exit) ≡ now (memo .entry)) ⌝ }
 {
-    let Item::List(a, b) = items::nth(cells, 3) else {
+    let next = items::after(cells, 0);
+    let Item::List(a, b) = items::item_at(cells, next) else {
         return Derived::No(37, 0, mark);
     };
     let inner = &cells[a..b];
@@ -396,7 +442,7 @@ fn step_by(
                 words,
                 m,
                 r,
-                cells,
+                &cells[b..],
                 &ids[..many],
                 hyps,
                 k,
@@ -435,7 +481,6 @@ fn step_on(
         ScopedAs (now (index .entry)) (now (words .entry)) (now (index .exit)) (now (words .exit)) mark (inScope (g .S) (rule (g .S .theory) r) (argsOf (made (now (index .entry)) (now (words .entry)) mark) (now (ids .entry))) (rising (length (g .S .facts)) (holds (now (hyps .entry)))) (rest (g .xs) 4) (made (now (index .entry)) (now (words .entry)) mark)) k a) ⌝ }
 {
     let mut used = [0u64; VARIABLEWORDS];
-    let at = items::place(cells, 4);
     match conclude(
         theory,
         goals,
@@ -453,10 +498,13 @@ fn step_on(
         mark,
         r,
         ids,
-        &cells[at..],
+        cells,
         &mut used,
     ) {
         Out::Ok(j, m) => {
+            if is_empty(&used) {
+                return Derived::Ok(j, k, m);
+            }
             let v = outside(facts, lists, n, index, words, m, &used, j, hyps);
             if v != 0 {
                 return Derived::No(39, v, m);

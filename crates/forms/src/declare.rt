@@ -25,6 +25,7 @@ use sexp::items;
 use sexp::items::Item;
 use sexp::lex;
 use sexp::names::Found;
+use sexp::names::link_name;
 use state::defs::def_named;
 use state::defs::put_def;
 use state::sizes::Sizes;
@@ -87,20 +88,20 @@ pub fn add_var(
     ensures { λ r. ⌜ ((g : AddsVar (now (theory .entry)) (now (goals .entry)) (now (text .entry)) (now (sorts .entry)) (now (symbols .entry)) (now (vars .entry)) n which (now (cells .entry))) →
         VarAs (now (text .entry)) (now (vars .entry)) (now (vars .exit)) n which (g .S) (addVar which (g .xs) (g .S)) r) ⌝ }
 {
-    let Item::Atom(start) = items::nth(cells, 1) else {
+    let Item::Atom(start, size) = items::nth(cells, 1) else {
         return Declared::No(21, 0);
     };
-    let Item::Atom(from) = items::nth(cells, 2) else {
+    let Item::Atom(from, width) = items::nth(cells, 2) else {
         return Declared::No(21, 0);
     };
-    let last = lex::atom_end(text, from);
+    let last = lex::end_at(text, from, width);
     let Found::At(sort) = sort_named(theory, sorts, n.sorts, &text[from..last]) else {
         return Declared::No(21, 0);
     };
     if marked(text, start) {
         return Declared::No(21, 0);
     }
-    let end = lex::atom_end(text, start);
+    let end = lex::end_at(text, start, size);
     if !is_unused(theory, goals, text, symbols, vars, n, &text[start..end]) {
         return Declared::No(21, 0);
     }
@@ -108,6 +109,7 @@ pub fn add_var(
         return Declared::No(60, 7);
     }
     put_var(vars, n.vars, sort, which, start, end);
+    link_name(vars, 4 * rules::VARIABLES, n.vars, &text[start..end]);
     Declared::Ok
 }
 
@@ -130,13 +132,13 @@ pub fn add_def(
     ensures { λ r. ⌜ ((g : ReadsForm (names (now (theory .entry)) (now (goals .entry)) (now (text .entry)) (now (symbols .entry)) (now (inputs .entry)) (now (vars .entry)) (now (defs .entry))) n (now (index .entry)) (now (words .entry)) mark (now (cells .entry)) 3) →
         DefAs (now (text .entry)) (now (defs .entry)) (now (defs .exit)) n (now (index .entry)) (now (words .entry)) (now (index .exit)) (now (words .exit)) mark (g .S) (addDef (g .xs) (g .S)) r) ⌝ }
 {
-    let Item::Atom(start) = items::nth(cells, 1) else {
+    let Item::Atom(start, size) = items::nth(cells, 1) else {
         return Defined::No(33, 0, mark);
     };
     if !marked(text, start) {
         return Defined::No(33, 0, mark);
     }
-    let end = lex::atom_end(text, start);
+    let end = lex::end_at(text, start, size);
     if end < start + 2 {
         return Defined::No(33, 0, mark);
     }
@@ -164,6 +166,7 @@ pub fn add_def(
                 return Defined::No(60, 10, new);
             }
             put_def(defs, n.defs, start, end, t);
+            link_name(defs, 3 * rules::DEFS, n.defs, &text[start..end]);
             Defined::Ok(new)
         }
         Typed::No(q, d, new) => Defined::No(q, d, new),

@@ -58,10 +58,10 @@ fn place_goal(
     ensures { λ r. ⌜ ((g : GoalPlace (now (goals .entry)) (now (rows .entry)) n (now (cells .entry))) (hs : Trees) (j : Tree) → hyps ≡ countTrees hs →
         PlacedAs (now (goals .entry)) (now (rows .entry)) (now (rows .exit)) n judgment (g .S) hs j (addGoal (item (g .xs) 1) hs j (g .S)) r) ⌝ }
 {
-    let Item::Atom(start) = items::nth(cells, 1) else {
+    let Item::Atom(start, size) = items::nth(cells, 1) else {
         return Placed::No(24, 0);
     };
-    let end = lex::atom_end(goals, start);
+    let end = lex::end_at(goals, start, size);
     let Found::Missing = goal_named(goals, rows, n.goals, &goals[start..end]) else {
         return Placed::No(24, 0);
     };

@@ -114,10 +114,10 @@ pub fn result(
         ResultedAs (now (rows .entry)) (now (rows .exit)) n (now (index .entry)) (now (words .entry)) (now (index .exit)) (now (words .exit)) mark (g .S) (result (g .xs) (g .S)) r) ⌝ }
     ensures { λ _. ⌜ (now (map .exit) ≡ now (map .entry)) × (now (memo .exit) ≡ now (memo .entry)) ⌝ }
 {
-    let Item::Atom(start) = items::nth(cells, 1) else {
+    let Item::Atom(start, size) = items::nth(cells, 1) else {
         return Resulted::No(50, 0, mark);
     };
-    let end = lex::atom_end(text, start);
+    let end = lex::end_at(text, start, size);
     let Found::At(k) = goal_named(goals, rows, n.goals, &text[start..end]) else {
         return Resulted::No(50, 0, mark);
     };

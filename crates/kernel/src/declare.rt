@@ -33,10 +33,10 @@ fn tag_of(text: &[u8], items: &[u32]) -> Declaration
     if items.len() == 0 {
         return Declaration::Unknown;
     }
-    let Item::Atom(start) = items::item_at(items, 0) else {
+    let Item::Atom(start, size) = items::item_at(items, 0) else {
         return Declaration::Unknown;
     };
-    let end = lex::atom_end(text, start);
+    let end = lex::end_at(text, start, size);
     theory_tag(&text[start..end], items::count(items))
 }
 

@@ -7,6 +7,8 @@ ghost use Rattle.rules.specs.Theory.{Symbol};
 ghost use Rattle.kernel.specs.Named.{SymbolAt, SomeSymbol, SymbolRows, SomeSymbols, kindOf, called};
 ghost use Rattle.sexp.specs.NameRows.{foundOf};
 use sexp::names::Found;
+use sexp::names::first_in;
+use sexp::names::next_in;
 use sexp::names::same;
 
 // Whether a symbol with that output is a predicate, or is none.
@@ -46,12 +48,13 @@ pub fn symbol_named(
     ensures { λ r. ⌜ ((ss : List Symbol) → SymbolRows (now (text .entry)) (now (symbols .entry)) count ss →
         r ≡ foundOf (first (called predicate (now (name .entry))) ss 0)) ⌝ }
 {
-    let mut i: usize = 0;
-    while i < count {
+    let mut next = first_in(symbols, 4 * rules::SYMBOLS, name);
+    while next != 0 {
+        let i = next - 1;
         if is_symbol(text, symbols, i, predicate, name) {
             return Found::At(i);
         }
-        i += 1;
+        next = next_in(symbols, 4 * rules::SYMBOLS, i);
     }
     Found::Missing
 }

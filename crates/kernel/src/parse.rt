@@ -53,9 +53,9 @@ fn wipe_behind(
         ≡ wiped (theoryLists (now (sorts .entry)) (now (symbols .entry)) (now (inputs .entry)) (now (rules .entry)) (now (vars .entry)) (now (patterns .entry))) held ⌝ }
 {
     wipe(sorts, 2 * held.sorts);
-    wipe(symbols, 4 * held.symbols);
+    wipe(&mut symbols[..4 * rules::SYMBOLS], 4 * held.symbols);
     wipe(inputs, rules::ARGUMENTS * held.symbols);
-    wipe(rules, 6 * held.rules);
+    wipe(&mut rules[..6 * rules::RULES], 6 * held.rules);
     wipe(vars, 3 * rules::RULEVARS * held.rules);
     wipe(patterns, held.words);
 }
@@ -205,9 +205,9 @@ pub fn parse(
         text,
         cells,
         &mut sorts[..2 * rules::SORTS],
-        &mut symbols[..4 * rules::SYMBOLS],
+        &mut symbols[..rules::SYMBOLCELLS],
         &mut inputs[..rules::ARGUMENTS * rules::SYMBOLS],
-        &mut rules[..6 * rules::RULES],
+        &mut rules[..rules::RULECELLS],
         &mut vars[..3 * rules::RULEVARS * rules::RULES],
         &mut patterns[..rules::PATTERNS],
     )

@@ -21,7 +21,8 @@ use rules::RULES;
 use sexp::items;
 use sexp::items::Item;
 use sexp::names::Found;
-use sexp::names::named;
+use sexp::names::link_name;
+use sexp::names::looked_up;
 
 // The words of the premises, then those of the conclusion, and the variables into an empty row.
 fn schema(
@@ -144,11 +145,11 @@ pub fn add_rule(
     let Spelling::Name(start, end) = proper_at(text, form, 1) else {
         return Reply::No(11, 0);
     };
-    let Found::Missing = named(text, rules, 6, 0, count, &text[start..end]) else {
+    let Found::Missing = looked_up(text, rules, 6, 0, 6 * rules::RULES, &text[start..end]) else {
         return Reply::No(11, 0);
     };
     let premises = premise_count(form);
-    store(
+    let r = store(
         rules,
         vars,
         count,
@@ -159,5 +160,10 @@ pub fn add_rule(
         used,
         last,
         &row,
-    )
+    );
+    let Reply::Ok(_, _) = r else {
+        return r;
+    };
+    link_name(rules, 6 * rules::RULES, count, &text[start..end]);
+    r
 }

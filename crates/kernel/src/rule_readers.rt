@@ -18,6 +18,7 @@ ghost use Rattle.kernel.specs.Readers.{KnownRule, KnownVar, NamedRules, 
 ghost use Rattle.kernel.specs.Listing.{nextRule};
 use crate::readers::arity;
 use sexp::names::Found;
+use sexp::names::looked_up;
 use sexp::names::named;
 
 // A part of the words of patterns, or of the text: the first place, and the place behind the last.
@@ -32,7 +33,7 @@ pub fn rule_named(text: &[u8], rules: &[u32], count: usize, name: &[u8]) -> Foun
     ensures { λ a. ⌜ ((T : Theory) (vars patterns : List ℕ) (words : ℕ) → RulesHeld (now (text .entry)) (now (rules .entry)) vars patterns count words (T .rules) →
         a ≡ foundOf (ruleNamed T (now (name .entry)))) ⌝ }
 {
-    named(text, rules, 6, 0, count, name)
+    looked_up(text, rules, 6, 0, 6 * rules::RULES, name)
 }
 
 // Where the name of rule r stands in the text.

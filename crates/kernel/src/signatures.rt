@@ -21,6 +21,7 @@ use crate::symbols::sort;
 use sexp::items;
 use sexp::items::Item;
 use sexp::names::Found;
+use sexp::names::link_name;
 
 // The sorts that the items name, into a row that has `count` of them.
 fn argument_sorts(
@@ -131,7 +132,12 @@ pub fn add_ctor(
     let Found::Missing = symbol_named(text, symbols, count, false, &text[start..end]) else {
         return Added::No(11, 0);
     };
-    store(symbols, inputs, count, output, arity, start, end, &row)
+    let r = store(symbols, inputs, count, output, arity, start, end, &row);
+    let Added::Ok(_) = r else {
+        return r;
+    };
+    link_name(symbols, 4 * rules::SYMBOLS, count, &text[start..end]);
+    r
 }
 
 // `(pred NAME (SORT...))`, given the items of the form.
@@ -162,5 +168,10 @@ pub fn add_pred(
     let Found::Missing = symbol_named(text, symbols, count, true, &text[start..end]) else {
         return Added::No(11, 0);
     };
-    store(symbols, inputs, count, 0, arity, start, end, &row)
+    let r = store(symbols, inputs, count, 0, arity, start, end, &row);
+    let Added::Ok(_) = r else {
+        return r;
+    };
+    link_name(symbols, 4 * rules::SYMBOLS, count, &text[start..end]);
+    r
 }

@@ -37,11 +37,11 @@ pub fn proper(text: &[u8], item: Item) -> Spelling
     ensures { λ r. ⌜ ((x : Sexp) (at : ℕ) → item ≡ itemOf at x → Spelt (now (text .entry)) x → r ≡ nameOf (proper x)) ⌝ }
 {
     match item {
-        Item::Atom(start) => {
+        Item::Atom(start, size) => {
             if marked(text, start) {
                 return Spelling::Refused;
             }
-            Spelling::Name(start, lex::atom_end(text, start))
+            Spelling::Name(start, lex::end_at(text, start, size))
         }
         Item::List(_, _) => Spelling::Refused,
     }

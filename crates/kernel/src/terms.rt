@@ -38,7 +38,7 @@ fn open_term(
     if cells.len() == 0 {
         return Reply::No(11, 0);
     }
-    let Item::Atom(start) = items::item_at(cells, 0) else {
+    let Item::Atom(start, size) = items::item_at(cells, 0) else {
         return Reply::No(11, 0);
     };
     let many = items::count(cells);
@@ -65,7 +65,7 @@ fn open_judgment(
     if cells.len() == 0 {
         return Reply::No(11, 0);
     }
-    let Item::Atom(start) = items::item_at(cells, 0) else {
+    let Item::Atom(start, size) = items::item_at(cells, 0) else {
         return Reply::No(11, 0);
     };
     let end = lex::atom_end(text, start);
@@ -103,7 +103,7 @@ fn term(
         PatternRead prefix (now (text .entry)) (now (vars .exit)) (now (patterns .entry)) (now (patterns .exit)) used (pattern T x sort R) r) ⌝ }
 {
     match items::item_at(cells, 0) {
-        Item::Atom(start) => atomic(
+        Item::Atom(start, size) => atomic(
             text,
             start,
             sort,

@@ -21,10 +21,10 @@ pub fn index(text: &[u8], cells: &[u32]) -> Found
     requires { ⌜ FirstItem (now text) (now cells) ⌝ }
     ensures { λ r. ⌜ ((x : Sexp) (ys : Sexps) → Holds (now (text .entry)) (now (cells .entry)) (cons x ys) → r ≡ foundOf (indexIn x)) ⌝ }
 {
-    let Item::Atom(start) = items::item_at(cells, 0) else {
+    let Item::Atom(start, size) = items::item_at(cells, 0) else {
         return Found::Missing;
     };
-    let end = lex::atom_end(text, start);
+    let end = lex::end_at(text, start, size);
     match index_of(&text[start..end]) {
         Index::Number(i) => Found::At(i),
         Index::Unreadable => Found::Missing,
@@ -37,9 +37,9 @@ pub fn variable(goals: &[u8], text: &[u8], vars: &[u32], count: usize, cells: &[
     ensures { λ r. ⌜ ((vs : List Var) (x : Sexp) (ys : Sexps) → VarsHeld (now (goals .entry)) (now (text .entry)) (now (vars .entry)) count vs →
         Holds (now (text .entry)) (now (cells .entry)) (cons x ys) → r ≡ foundOf (variableIn vs x)) ⌝ }
 {
-    let Item::Atom(start) = items::item_at(cells, 0) else {
+    let Item::Atom(start, size) = items::item_at(cells, 0) else {
         return Found::Missing;
     };
-    let end = lex::atom_end(text, start);
+    let end = lex::end_at(text, start, size);
     var_named(goals, text, vars, count, &text[start..end])
 }

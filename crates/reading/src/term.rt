@@ -165,13 +165,14 @@ fn atomic(
     words: &mut [u32],
     mark: Mark,
     start: usize,
+    size: usize,
     sort: usize,
 ) -> Typed
     requires { ⌜ ReadsAtom (now theory) (now goals) (now text) (now symbols) (now vars) (now defs) n (now index) (now words) mark start ⌝ }
     ensures { λ r. ⌜ ((g : ReadsAtom (now (theory .entry)) (now (goals .entry)) (now (text .entry)) (now (symbols .entry)) (now (vars .entry)) (now (defs .entry)) n (now (index .entry)) (now (words .entry)) mark start) →
         TypedAs (now (index .entry)) (now (words .entry)) (now (index .exit)) (now (words .exit)) mark (g .S) sort (term (g .S) (atom start (letters (drop start (now (text .entry))))) (made (now (index .entry)) (now (words .entry)) mark)) r) ⌝ }
 {
-    let end = lex::atom_end(text, start);
+    let end = lex::end_at(text, start, size);
     let name = &text[start..end];
     if marked(text, start) {
         return abbreviation(text, symbols, vars, defs, n, index, words, mark, name, sort);
@@ -212,7 +213,7 @@ pub fn term(
         TypedAs (now (index .entry)) (now (words .entry)) (now (index .exit)) (now (words .exit)) mark (g .S) sort (term (g .S) (g .x) (made (now (index .entry)) (now (words .entry)) mark)) r) ⌝ }
 {
     match items::item_at(cells, 0) {
-        Item::Atom(start) => atomic(
+        Item::Atom(start, size) => atomic(
             theory,
             goals,
             text,
@@ -224,6 +225,7 @@ pub fn term(
             words,
             mark,
             start,
+            size,
             sort,
         ),
         Item::List(a, b) => compound(
@@ -240,6 +242,7 @@ pub fn term(
             mark,
             &cells[a..b],
             sort,
+            false,
         ),
     }
 }
@@ -259,10 +262,10 @@ fn constructor_first(
     if cells.len() == 0 {
         return Opening::No(22);
     }
-    let Item::Atom(start) = items::item_at(cells, 0) else {
+    let Item::Atom(start, size) = items::item_at(cells, 0) else {
         return Opening::No(22);
     };
-    let end = lex::atom_end(text, start);
+    let end = lex::end_at(text, start, size);
     let Found::At(c) = constructor_named(theory, symbols, count, &text[start..end]) else {
         return Opening::No(22);
     };
@@ -287,17 +290,33 @@ fn predicate_first(
     if cells.len() == 0 {
         return Opening::No(22);
     }
-    let Item::Atom(start) = items::item_at(cells, 0) else {
+    let Item::Atom(start, size) = items::item_at(cells, 0) else {
         return Opening::No(22);
     };
-    let end = lex::atom_end(text, start);
+    let end = lex::end_at(text, start, size);
     let Found::At(p) = predicate_named(theory, symbols, count, &text[start..end]) else {
         return Opening::No(22);
     };
     Opening::Symbol(p)
 }
 
-// The constructor over its arguments that the items of a list spell.
+// The symbol that the items of a list begin with: the predicate of a judgment, or a constructor.
+fn symbol_first(
+    theory: &[u8],
+    text: &[u8],
+    symbols: &[u32],
+    count: usize,
+    cells: &[u32],
+    predicate: bool,
+) -> Opening
+{
+    if predicate {
+        return predicate_first(theory, text, symbols, count, cells);
+    }
+    constructor_first(theory, text, symbols, count, cells)
+}
+
+// The symbol over its arguments that the items of a list spell: a constructor's term, or a predicate's judgment, whose sort is 0.
 fn compound(
     theory: &[u8],
     goals: &[u8],
@@ -312,12 +331,13 @@ fn compound(
     mark: Mark,
     cells: &[u32],
     sort: usize,
+    predicate: bool,
 ) -> Typed
     requires { ⌜ ReadsItems (names (now theory) (now goals) (now text) (now symbols) (now inputs) (now vars) (now defs)) n (now index) (now words) mark (now cells) ⌝ }
     ensures { λ r. ⌜ ((g : ReadsItems (names (now (theory .entry)) (now (goals .entry)) (now (text .entry)) (now (symbols .entry)) (now (inputs .entry)) (now (vars .entry)) (now (defs .entry))) n (now (index .entry)) (now (words .entry)) mark (now (cells .entry))) →
         TypedAs (now (index .entry)) (now (words .entry)) (now (index .exit)) (now (words .exit)) mark (g .S) sort (compound (g .S) (g .xs) (made (now (index .entry)) (now (words .entry)) mark)) r) ⌝ }
 {
-    match constructor_first(theory, text, symbols, n.symbols, cells) {
+    match symbol_first(theory, text, symbols, n.symbols, cells, predicate) {
         Opening::No(q) => Typed::No(q, 0, mark),
         Opening::Symbol(c) => {
             let mut node = [0u32; NODE];
@@ -419,21 +439,40 @@ fn arguments(
     let mut fits = true;
     while at < cells.len() {
         let sort = input_or_none(inputs, c, k, count);
-        match term(
-            theory,
-            goals,
-            text,
-            symbols,
-            inputs,
-            vars,
-            defs,
-            n,
-            index,
-            words,
-            m,
-            &cells[at..],
-            sort,
-        ) {
+        let r = match items::item_at(cells, at) {
+            Item::Atom(start, size) => atomic(
+                theory,
+                goals,
+                text,
+                symbols,
+                vars,
+                defs,
+                n,
+                index,
+                words,
+                m,
+                start,
+                size,
+                sort,
+            ),
+            Item::List(a, b) => compound(
+                theory,
+                goals,
+                text,
+                symbols,
+                inputs,
+                vars,
+                defs,
+                n,
+                index,
+                words,
+                m,
+                &cells[a..b],
+                sort,
+                false,
+            ),
+        };
+        match r {
             Typed::Term(t, right, new) => {
                 put_argument(node, k, t);
                 fits = both(fits, right);
@@ -517,38 +556,23 @@ pub fn judgment(
     let Item::List(a, b) = items::item_at(cells, 0) else {
         return Out::No(22, 0, mark);
     };
-    let inner = &cells[a..b];
-    match predicate_first(theory, text, symbols, n.symbols, inner) {
-        Opening::No(q) => Out::No(q, 0, mark),
-        Opening::Symbol(p) => {
-            let mut node = [0u32; NODE];
-            match arguments(
-                theory,
-                goals,
-                text,
-                symbols,
-                inputs,
-                vars,
-                defs,
-                n,
-                index,
-                words,
-                mark,
-                &inner[1..],
-                p,
-                &mut node,
-            ) {
-                Typed::Term(len, fits, m) => {
-                    if !fits {
-                        return Out::No(23, 0, m);
-                    }
-                    match keep(index, words, m, &node[..len]) {
-                        Kept::Term(t, new) => Out::Ok(t, new),
-                        Kept::Full(row, new) => Out::No(60, row, new),
-                    }
-                }
-                Typed::No(q, d, m) => Out::No(q, d, m),
-            }
-        }
+    match compound(
+        theory,
+        goals,
+        text,
+        symbols,
+        inputs,
+        vars,
+        defs,
+        n,
+        index,
+        words,
+        mark,
+        &cells[a..b],
+        0,
+        true,
+    ) {
+        Typed::Term(t, _, new) => Out::Ok(t, new),
+        Typed::No(q, d, new) => Out::No(q, d, new),
     }
 }

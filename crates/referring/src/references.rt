@@ -37,7 +37,7 @@ pub enum Referred {
 }
 
 // The fact that the first item numbers.
-fn bare(text: &[u8], facts: &[u32], n: Sizes, mark: Mark, cells: &[u32]) -> Referred
+pub fn bare(text: &[u8], facts: &[u32], n: Sizes, mark: Mark, cells: &[u32]) -> Referred
     requires { ⌜ BareItem (now text) (now facts) n mark (now cells) ⌝ }
     ensures { λ r. ⌜ ((g : BareItem (now (text .entry)) (now (facts .entry)) n mark (now (cells .entry))) → (p : ℕ) (bs : List ℕ) → g .x ≡ atom p bs →
         ReferredAs (g .index) (g .words) (g .index) (g .words) mark (g .S) (reference (g .S) (g .x) (made (g .index) (g .words) mark)) r) ⌝ }
@@ -141,7 +141,7 @@ pub fn reference(
     ensures { λ _. ⌜ (now (map .exit) ≡ now (map .entry)) × (now (memo .exit) ≡ now (memo .entry)) ⌝ }
 {
     match items::item_at(cells, 0) {
-        Item::Atom(_) => bare(text, facts, n, mark, cells),
+        Item::Atom(_, _) => bare(text, facts, n, mark, cells),
         Item::List(a, b) => instance(
             theory,
             goals,

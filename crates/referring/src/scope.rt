@@ -23,7 +23,7 @@ use state::facts::general;
 use state::facts::judgment;
 use state::facts::premises;
 use state::sizes::Sizes;
-use terms::sets::count;
+use terms::sets::is_empty;
 use terms::sets::lowest_outside;
 use terms::sets::minus_from;
 use terms::sets::union_into;
@@ -182,7 +182,7 @@ pub fn hyp_vars(
     ensures { λ _. ⌜ ((g : Recalls (now (facts .entry)) (now (lists .entry)) n (now (index .entry)) (now (words .entry)) mark) →
         holds (now (set .exit)) ≡ union (holds (now (set .entry))) (hypVars (g .S .facts) (rising (n .facts) (holds (now (hyps .entry)))))) ⌝ }
 {
-    if count(hyps) == 0 {
+    if is_empty(hyps) {
         return;
     }
     join_hyps(facts, lists, n, index, words, mark, hyps, seen, set);
@@ -205,6 +205,9 @@ pub fn outside(
     ensures { λ r. ⌜ ((g : Recalls (now (facts .entry)) (now (lists .entry)) n (now (index .entry)) (now (words .entry)) mark) →
         r ≡ least (length (g .S .vars)) (minus (holds (now (used .entry))) (union (variables (tree (now (index .entry)) (now (words .entry)) mark conclusion)) (hypVars (g .S .facts) (rising (length (g .S .facts)) (holds (now (hyps .entry)))))))) ⌝ }
 {
+    if is_empty(used) {
+        return 0;
+    }
     let mut seen = [0u64; TERMWORDS];
     let mut inside = [0u64; VARIABLEWORDS];
     visit(index, words, mark, conclusion, &mut seen, &mut inside);

@@ -43,3 +43,14 @@ pub const FACTWORDS: usize = FACTS / 64;
 pub const RULEWORDS: usize = RULES / 64;
 
 pub const TERMWORDS: usize = TERMS / 64;
+
+// A table of names has behind its rows a part to look them up: a head for each of so many buckets, then a link for each row.
+pub const BUCKETS: usize = 512;
+
+pub const SYMBOLCELLS: usize = 4 * SYMBOLS + BUCKETS + SYMBOLS;
+
+pub const RULECELLS: usize = 6 * RULES + BUCKETS + RULES;
+
+pub const VARIABLECELLS: usize = 4 * VARIABLES + BUCKETS + VARIABLES;
+
+pub const DEFCELLS: usize = 3 * DEFS + BUCKETS + DEFS;

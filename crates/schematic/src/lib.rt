@@ -273,25 +273,29 @@ pub fn check(
         (working (now (vars .exit)) (now (index .exit)) (now (words .exit)) (now (defs .exit)) (now (rows .exit)) (now (lists .exit)))
         (now (missing .exit)) (now (facts .exit))) (answerOf a) × (drop FACTS (now (facts .exit)) ≡ drop FACTS (now (facts .entry))) ⌝ }
 {
+    let mut own_symbols = [0u32; rules::SYMBOLCELLS];
+    let mut own_rules = [0u32; rules::RULECELLS];
+    let mut own_vars = [0u32; rules::VARIABLECELLS];
+    let mut own_defs = [0u32; rules::DEFCELLS];
     let mut kept = [0u32; 6 * rules::FACTS];
     let mut feet = [0u64; 4 * rules::FACTS];
     let mut cells = [0u32; rules::LENGTH];
     let mut ids = [0u32; induction::induct::IDS];
     let mut memo = [0u32; rules::TERMS];
-    check_with(
+    let a = check_with(
         theory,
         goals,
         proof,
         sorts,
-        symbols,
+        &mut own_symbols,
         inputs,
-        rules,
+        &mut own_rules,
         rulevars,
         patterns,
-        vars,
+        &mut own_vars,
         index,
         words,
-        defs,
+        &mut own_defs,
         rows,
         lists,
         missing,
@@ -301,5 +305,10 @@ pub fn check(
         &mut cells,
         &mut ids,
         &mut memo,
-    )
+    );
+    cells::write(symbols, &own_symbols[..4 * rules::SYMBOLS]);
+    cells::write(rules, &own_rules[..6 * rules::RULES]);
+    cells::write(vars, &own_vars[..4 * rules::VARIABLES]);
+    cells::write(defs, &own_defs[..3 * rules::DEFS]);
+    a
 }

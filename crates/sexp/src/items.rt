@@ -8,7 +8,7 @@ ghost use Rattle.sexp.specs.Items.{Items, Reaches, itemAt, itemOf, behin
 
 // An atom by its place in the text, or a list by where its items' cells begin and end.
 pub enum Item {
-    Atom(usize),
+    Atom(usize, usize),
     List(usize, usize),
 }
 
@@ -19,7 +19,7 @@ pub fn item_at(words: &[u32], at: usize) -> Item
 {
     let cell = words[at] as usize;
     if cell % 2 == 1 {
-        return Item::Atom(cell / 2);
+        return Item::Atom(cell % 131072 / 2, cell / 131072);
     }
     let start = at + 1;
     Item::List(start, start + cell / 2)
@@ -31,7 +31,7 @@ pub fn after(words: &[u32], at: usize) -> usize
     ensures { λ r. ⌜ r ≡ behind at (itemAt (now (words .entry)) at) ⌝ }
 {
     match item_at(words, at) {
-        Item::Atom(_) => at + 1,
+        Item::Atom(_, _) => at + 1,
         Item::List(_, end) => end,
     }
 }

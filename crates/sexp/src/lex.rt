@@ -28,6 +28,13 @@ pub fn plain(text: &[u8]) -> bool
     ensures { λ r. ⌜ r ≡ plain (now (text .entry)) ⌝ }
 {
     let mut at = 0;
+    while text.len() - at >= 64 {
+        if plain_block(text, at) {
+            at += 64;
+        } else {
+            return false;
+        }
+    }
     while at < text.len() {
         if 127 < text[at] {
             return false;
@@ -35,6 +42,20 @@ pub fn plain(text: &[u8]) -> bool
         at += 1;
     }
     true
+}
+
+// Whether 64 bytes from a place on are below 128; without a way out, so that the machine can take many at a time.
+fn plain_block(text: &[u8], at: usize) -> bool {
+    let mut most: u8 = 0;
+    let mut i = 0;
+    while i < 64 {
+        let b = text[at + i];
+        if most < b {
+            most = b;
+        }
+        i += 1;
+    }
+    most <= 127
 }
 
 // How many bytes of white space stand at a place; 0 where there is none.
@@ -56,7 +77,7 @@ pub fn white(text: &[u8], at: usize) -> usize
 }
 
 // Whether the byte at a place belongs to an atom.
-fn is_letter(text: &[u8], at: usize) -> bool
+pub(crate) fn is_letter(text: &[u8], at: usize) -> bool
     requires { ⌜ at < length (now text) ⌝ }
     ensures { λ r. ⌜ r ≡ isLetter (kind (getD (now (text .entry)) at 0)) ⌝ }
 {
@@ -120,8 +141,34 @@ fn skip_letters(text: &[u8], from: usize) -> usize
     at
 }
 
+// The place behind the letters that begin at a place, as far as another place.
+fn letters_end(text: &[u8], start: usize, stop: usize) -> usize {
+    let mut at = start;
+    while at < stop {
+        if is_letter(text, at) {
+            at += 1;
+        } else {
+            return at;
+        }
+    }
+    at
+}
+
+// The place behind the atom that begins, or goes on, at a place. Most are short.
+pub fn atom_end(text: &[u8], start: usize) -> usize {
+    if text.len() - start <= 32 {
+        return letters_end(text, start, text.len());
+    }
+    let stop = start + 32;
+    let at = letters_end(text, start, stop);
+    if at < stop {
+        return at;
+    }
+    long_end(text, at)
+}
+
 // The place behind the atom that begins, or goes on, at a place. Most atoms are short, so that blocks are tried at each 64th place only.
-pub fn atom_end(text: &[u8], start: usize) -> usize
+fn long_end(text: &[u8], start: usize) -> usize
     requires { ⌜ start ≤ length (now text) ⌝ }
     ensures { λ r. ⌜ r ≡ start + length (letters (drop start (now (text .entry)))) ⌝ }
 {
@@ -137,6 +184,14 @@ pub fn atom_end(text: &[u8], start: usize) -> usize
         }
     }
     at
+}
+
+// The place behind an atom by its place and its length, which is found anew where it is 0.
+pub fn end_at(text: &[u8], start: usize, size: usize) -> usize {
+    if size == 0 {
+        return atom_end(text, start);
+    }
+    start + size
 }
 
 // Whether none of 64 bytes from a place on is 10; without a way out here too.

@@ -110,3 +110,54 @@ pub fn named(
     }
     Found::Missing
 }
+
+// The bucket of a name.
+pub fn bucket_of(name: &[u8]) -> usize {
+    let mut h = 0;
+    let mut i = 0;
+    while i < name.len() {
+        h = (h * 31 + name[i] as usize) % 65536;
+        i += 1;
+    }
+    h % rules::BUCKETS
+}
+
+// The row, with 1 added, that a look-up of the name begins with; 0 for none. The part for look-ups begins at `look`.
+pub fn first_in(table: &[u32], look: usize, name: &[u8]) -> usize {
+    table[look + bucket_of(name)] as usize
+}
+
+// The row, with 1 added, of the same bucket before row i; 0 for none.
+pub fn next_in(table: &[u32], look: usize, i: usize) -> usize {
+    table[look + rules::BUCKETS + i] as usize
+}
+
+// Row i comes into the bucket of its name.
+pub fn link_name(table: &mut [u32], look: usize, i: usize, name: &[u8]) {
+    let head = look + bucket_of(name);
+    table[look + rules::BUCKETS + i] = table[head];
+    table[head] = (i + 1) as u32;
+}
+
+// The row whose name has these bytes, by its bucket: rows of `width` cells with the name from `place` on.
+pub fn looked_up(
+    text: &[u8],
+    table: &[u32],
+    width: usize,
+    place: usize,
+    look: usize,
+    name: &[u8],
+) -> Found {
+    let mut next = first_in(table, look, name);
+    while next != 0 {
+        let i = next - 1;
+        let at = width * i + place;
+        let start = table[at] as usize;
+        let end = table[at + 1] as usize;
+        if same(&text[start..end], name) {
+            return Found::At(i);
+        }
+        next = next_in(table, look, i);
+    }
+    Found::Missing
+}

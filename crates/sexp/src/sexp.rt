@@ -9,6 +9,7 @@ ghost use Rattle.sexp.specs.Reads.{Clear, ReadRight};
 ghost use Rattle.sexp.specs.Whole.{wholeOf};
 ghost use Rattle.sexp.specs.declared.sexp.Read.the-variants.{Refused};
 use crate::lex::atom_end;
+use crate::lex::is_letter;
 use crate::lex::skip;
 
 // What stands in front: nothing, a form with the place behind it and the number of its cells, or a refusal by its number.
@@ -44,6 +45,15 @@ fn put(words: &mut [u32], at: usize, cell: usize)
     words[at] = cell as u32;
 }
 
+// The cell of an atom: its place, and its length where it is below 32768, or else 0.
+fn atom_cell(start: usize, end: usize) -> usize {
+    let size = end - start;
+    if size < 32768 {
+        return 2 * start + 1 + 131072 * size;
+    }
+    2 * start + 1
+}
+
 // Closes the list whose cell is at `head`, where the place of the list around it stood, which is handed out.
 fn close_list(words: &mut [u32], head: usize, count: usize) -> usize
     requires { ⌜ (head < length (now words)) × (2 * count < 2 ^ 32) ⌝ }
@@ -76,12 +86,13 @@ fn read_list(text: &[u8], from: usize, words: &mut [u32]) -> Read
     // the cell of the innermost open list
     let mut open = 0;
     loop {
-        at = skip(text, at);
         if at >= text.len() {
             return refused(words, used, 4);
         }
         let b = text[at];
-        if b == b'(' {
+        if b == b' ' {
+            at += 1;
+        } else if b == b'(' {
             if depth == rules::DEPTH {
                 return refused(words, used, 5);
             }
@@ -97,10 +108,13 @@ fn read_list(text: &[u8], from: usize, words: &mut [u32]) -> Read
             if depth == 0 {
                 return Read::Form(at, used);
             }
-        } else {
-            put(words, used, 2 * at + 1);
+        } else if is_letter(text, at) {
+            let end = atom_end(text, at + 1);
+            put(words, used, atom_cell(at, end));
             used += 1;
-            at = atom_end(text, at);
+            at = end;
+        } else {
+            at = skip(text, at);
         }
     }
 }
@@ -122,8 +136,9 @@ pub fn read_form(text: &[u8], from: usize, words: &mut [u32]) -> Read
     if b == b')' {
         return Read::Refused(4);
     }
-    put(words, 0, 2 * at + 1);
-    Read::Form(atom_end(text, at), 1)
+    let end = atom_end(text, at);
+    put(words, 0, atom_cell(at, end));
+    Read::Form(end, 1)
 }
 
 // Reads a text to its end or to a refusal, without a look at its forms and without cells.

@@ -41,16 +41,78 @@ pub enum GoalForm {
 // No form has more items than this.
 const MANY: usize = 0xffff_ffff_ffff_ffff;
 
-// Names, six bytes a row; their lengths; the least and the most items; the place of the index, or 0.
-const NAMES: [u8; 102] =
-    *b"var   def   step  hyp   hyp   inductinductapply invertresultsort  ctor  pred  rule  var   goal  goal  ";
+// The least items of a row, and the most.
+fn least(row: usize) -> usize {
+    match row {
+        0 => 3,
+        1 => 3,
+        2 => 4,
+        3 => 3,
+        4 => 5,
+        5 => 5,
+        6 => 6,
+        7 => 5,
+        8 => 6,
+        9 => 3,
+        10 => 2,
+        11 => 4,
+        12 => 3,
+        13 => 4,
+        14 => 3,
+        15 => 3,
+        16 => 4,
+        _ => 0,
+    }
+}
 
-const SIZES: [usize; 17] = [3, 3, 4, 3, 3, 6, 6, 5, 6, 6, 4, 4, 4, 4, 3, 4, 4];
+fn most(row: usize) -> usize {
+    match row {
+        0 => 3,
+        1 => 3,
+        2 => MANY,
+        3 => 3,
+        4 => 5,
+        5 => 5,
+        6 => 6,
+        7 => 5,
+        8 => 6,
+        9 => 3,
+        10 => 2,
+        11 => 4,
+        12 => 3,
+        13 => 4,
+        14 => 3,
+        15 => 3,
+        16 => 4,
+        _ => 0,
+    }
+}
 
-const LEAST: [usize; 17] = [3, 3, 4, 3, 5, 5, 6, 5, 6, 3, 2, 4, 3, 4, 3, 3, 4];
+// Whether the name is that of a row.
+fn is_name(row: usize, name: &[u8]) -> bool {
+    match row {
+        0 => same(b"var", name),
+        1 => same(b"def", name),
+        2 => same(b"step", name),
+        3 => same(b"hyp", name),
+        4 => same(b"hyp", name),
+        5 => same(b"induct", name),
+        6 => same(b"induct", name),
+        7 => same(b"apply", name),
+        8 => same(b"invert", name),
+        9 => same(b"result", name),
+        10 => same(b"sort", name),
+        11 => same(b"ctor", name),
+        12 => same(b"pred", name),
+        13 => same(b"rule", name),
+        14 => same(b"var", name),
+        15 => same(b"goal", name),
+        16 => same(b"goal", name),
+        _ => false,
+    }
+}
 
-const MOST: [usize; 17] = [3, 3, MANY, 3, 5, 5, 6, 5, 6, 3, 2, 4, 3, 4, 3, 3, 4];
-
+// The place of the index, or 0.
 const INDEX: [usize; 10] = [0, 0, 1, 1, 1, 1, 1, 1, 1, 0];
 
 // Whether a row is for that name and so many items.
@@ -58,15 +120,13 @@ fn fits_row(row: usize, name: &[u8], items: usize) -> bool
     requires { ⌜ row < 17 ⌝ }
     ensures { λ r. ⌜ r ≡ suits (shapeAt row) (now (name .entry)) items ⌝ }
 {
-    if items < LEAST[row] {
+    if items < least(row) {
         return false;
     }
-    if MOST[row] < items {
+    if most(row) < items {
         return false;
     }
-    let start = 6 * row;
-    let end = start + SIZES[row];
-    same(&NAMES[start..end], name)
+    is_name(row, name)
 }
 
 // The first of some rows, from `from` up to `to`, that is; `to` where none is.
@@ -82,6 +142,23 @@ fn first_row(from: usize, to: usize, name: &[u8], items: usize) -> usize
         row += 1;
     }
     row
+}
+
+// The first of the proof's rows whose name begins with the same letter.
+fn begin_row(name: &[u8]) -> usize {
+    if name.len() == 0 {
+        return 10;
+    }
+    match name[0] {
+        b'v' => 0,
+        b'd' => 1,
+        b's' => 2,
+        b'h' => 3,
+        b'i' => 5,
+        b'a' => 7,
+        b'r' => 9,
+        _ => 10,
+    }
 }
 
 // The tag of a proof's row.
@@ -107,14 +184,14 @@ fn tag_at(row: usize) -> Tag
 pub fn proof_tag(name: &[u8], items: usize) -> Tag
     ensures { λ r. ⌜ r ≡ tagAnswer (proofTag (now (name .entry)) items) ⌝ }
 {
-    tag_at(first_row(0, 10, name, items))
+    tag_at(first_row(begin_row(name), 10, name, items))
 }
 
 // Where the index of such a form stands among its items; 0 where it has none.
 pub fn index_place(name: &[u8], items: usize) -> usize
     ensures { λ r. ⌜ r ≡ placeAnswer (indexPlace (now (name .entry)) items) ⌝ }
 {
-    let row = first_row(0, 10, name, items);
+    let row = first_row(begin_row(name), 10, name, items);
     if row < 10 {
         return INDEX[row];
     }

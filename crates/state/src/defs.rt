@@ -10,14 +10,14 @@ ghost use Rattle.rules.specs.State.{Def};
 ghost use Rattle.state.specs.Held.{DefsHeld};
 ghost use Rattle.state.specs.Rows.{Fits4, SomeDefs, DefFound};
 use sexp::names::Found;
-use sexp::names::named;
+use sexp::names::looked_up;
 
 // The term that these bytes abbreviate.
 pub fn def_named(text: &[u8], defs: &[u32], count: usize, name: &[u8]) -> Found
     requires { ⌜ SomeDefs (now text) (now defs) count ⌝ }
     ensures { λ r. ⌜ ((M : Made) (ds : List Def) → DefsHeld (now (text .entry)) (now (defs .entry)) count M ds → DefFound M ds (now (name .entry)) r) ⌝ }
 {
-    let Found::At(i) = named(text, defs, 3, 0, count, name) else {
+    let Found::At(i) = looked_up(text, defs, 3, 0, 3 * rules::DEFS, name) else {
         return Found::Missing;
     };
     Found::At(defs[3 * i + 2] as usize)

@@ -14,6 +14,7 @@ ghost use Rattle.state.specs.Held.{records};
 ghost use Rattle.state.specs.Rows.{cell, hypsSpan, premisesSpan, generalSpan, plainRow, Putting, PutAs};
 use crate::sizes::Sizes;
 use terms::sets::count;
+use terms::sets::is_empty;
 use terms::sets::union_into;
 use terms::sets::write_out;
 
@@ -151,6 +152,14 @@ fn put_footing(footings: &mut [u64], i: usize, footing: &[u64])
     footings[at + 3] = footing[3];
 }
 
+// How many members a set has that is mostly empty.
+fn members(set: &[u64]) -> usize {
+    if is_empty(set) {
+        return 0;
+    }
+    count(set)
+}
+
 // A derived fact behind the others: its row, its hypotheses by rising number, its footing.
 pub fn put_derived(
     facts: &mut [u32],
@@ -172,14 +181,16 @@ pub fn put_derived(
     if i >= rules::FACTS {
         return Put::Full(12);
     }
-    let many = count(hyps);
+    let many = members(hyps);
     let end = from + many;
     if rules::ENTRIES < end {
         return Put::Full(13);
     }
     put_row(facts, i, judgment, 0, from, many, 0, 0);
     put_footing(footings, i, footing);
-    write_out(hyps, &mut lists[from..]);
+    if many != 0 {
+        write_out(hyps, &mut lists[from..]);
+    }
     Put::Stored(end)
 }
 

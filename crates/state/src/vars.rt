@@ -12,6 +12,8 @@ ghost use Rattle.sexp.specs.NameRows.{foundOf};
 ghost use Rattle.state.specs.Held.{VarsHeld};
 ghost use Rattle.state.specs.Rows.{cell, Fits4, SomeVars};
 use sexp::names::Found;
+use sexp::names::first_in;
+use sexp::names::next_in;
 use sexp::names::same;
 
 // Whether variable i has these bytes for a name.
@@ -33,12 +35,13 @@ pub fn var_named(goals: &[u8], text: &[u8], vars: &[u32], count: usize, name: &[
     requires { ⌜ SomeVars (now goals) (now text) (now vars) count ⌝ }
     ensures { λ r. ⌜ ((vs : List Var) → VarsHeld (now (goals .entry)) (now (text .entry)) (now (vars .entry)) count vs → r ≡ foundOf (varNamed vs (now (name .entry)))) ⌝ }
 {
-    let mut i: usize = 0;
-    while i < count {
+    let mut next = first_in(vars, 4 * rules::VARIABLES, name);
+    while next != 0 {
+        let i = next - 1;
         if is_var(goals, text, vars, count, i, name) {
             return Found::At(i);
         }
-        i += 1;
+        next = next_in(vars, 4 * rules::VARIABLES, i);
     }
     Found::Missing
 }

@@ -21,10 +21,10 @@ pub fn tag_of_goal(text: &[u8], items: &[u32]) -> GoalForm
     if items.len() == 0 {
         return GoalForm::Unknown;
     }
-    let Item::Atom(start) = items::item_at(items, 0) else {
+    let Item::Atom(start, size) = items::item_at(items, 0) else {
         return GoalForm::Unknown;
     };
-    let end = lex::atom_end(text, start);
+    let end = lex::end_at(text, start, size);
     goal_tag(&text[start..end], items::count(items))
 }
 
@@ -36,9 +36,9 @@ pub fn tag_of(text: &[u8], items: &[u32]) -> Tag
     if items.len() == 0 {
         return Tag::Unknown;
     }
-    let Item::Atom(start) = items::item_at(items, 0) else {
+    let Item::Atom(start, size) = items::item_at(items, 0) else {
         return Tag::Unknown;
     };
-    let end = lex::atom_end(text, start);
+    let end = lex::end_at(text, start, size);
     proof_tag(&text[start..end], items::count(items))
 }

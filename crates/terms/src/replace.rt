@@ -61,6 +61,64 @@ fn rebuild(
     keep(index, words, mark, &node[..len])
 }
 
+// The term `id` under the substitution, with 1 added, where no node has to be made: the memo has it, or it has no variable, or it is one. 0 for other terms.
+fn settled(index: &[u32], words: &[u32], map: &[u32], memo: &mut [u32], id: usize) -> usize
+{
+    let known = memo[id] as usize;
+    if known != 0 {
+        return known;
+    }
+    if index[FLAGS + id] == 0 {
+        memo[id] = (id + 1) as u32;
+        return id + 1;
+    }
+    let start = start_of(index, id);
+    let head = words[start] as usize;
+    if SYMBOLS <= head {
+        let value = image_of(map, head - SYMBOLS, id);
+        memo[id] = (value + 1) as u32;
+        return value + 1;
+    }
+    0
+}
+
+// The term `id`, which is not settled, under the substitution.
+fn replace_open(
+    index: &mut [u32],
+    words: &mut [u32],
+    mark: Mark,
+    map: &[u32],
+    memo: &mut [u32],
+    id: usize,
+) -> Kept
+{
+    let start = start_of(index, id);
+    let end = index[id] as usize;
+    let mut m = mark;
+    let mut at = start + 1;
+    while at < end {
+        let arg = words[at] as usize;
+        if settled(index, words, map, memo, arg) == 0 {
+            match replace_open(index, words, m, map, memo, arg) {
+                Kept::Term(_, next) => {
+                    m = next;
+                }
+                Kept::Full(row, last) => {
+                    return Kept::Full(row, last);
+                }
+            }
+        }
+        at += 1;
+    }
+    match rebuild(index, words, m, memo, start, end) {
+        Kept::Term(n, next) => {
+            memo[id] = (n + 1) as u32;
+            Kept::Term(n, next)
+        }
+        Kept::Full(row, last) => Kept::Full(row, last),
+    }
+}
+
 // The term `id` under the substitution `map`, with the results that the memo has.
 pub fn replace(
     index: &mut [u32],
@@ -73,41 +131,9 @@ pub fn replace(
     requires { ⌜ Replacing (now index) (now words) mark (now map) (now memo) id ⌝ }
     ensures { λ r. ⌜ Substituted (now (index .entry)) (now (words .entry)) (now (index .exit)) (now (words .exit)) mark (now (map .entry)) (now (memo .entry)) (now (memo .exit)) id r ⌝ }
 {
-    let known = memo[id] as usize;
+    let known = settled(index, words, map, memo, id);
     if known != 0 {
         return Kept::Term(known - 1, mark);
     }
-    if index[FLAGS + id] == 0 {
-        memo[id] = (id + 1) as u32;
-        return Kept::Term(id, mark);
-    }
-    let start = start_of(index, id);
-    let end = index[id] as usize;
-    let head = words[start] as usize;
-    if SYMBOLS <= head {
-        let value = image_of(map, head - SYMBOLS, id);
-        memo[id] = (value + 1) as u32;
-        return Kept::Term(value, mark);
-    }
-    let mut m = mark;
-    let mut at = start + 1;
-    while at < end {
-        let arg = words[at] as usize;
-        match replace(index, words, m, map, memo, arg) {
-            Kept::Term(_, next) => {
-                m = next;
-            }
-            Kept::Full(row, last) => {
-                return Kept::Full(row, last);
-            }
-        }
-        at += 1;
-    }
-    match rebuild(index, words, m, memo, start, end) {
-        Kept::Term(n, next) => {
-            memo[id] = (n + 1) as u32;
-            Kept::Term(n, next)
-        }
-        Kept::Full(row, last) => Kept::Full(row, last),
-    }
+    replace_open(index, words, mark, map, memo, id)
 }

@@ -90,10 +90,23 @@ pub fn count(set: &[u64]) -> usize
     let mut n = 0;
     let mut i = 0;
     while i < set.len() {
-        n += ones_of(set[i]);
+        if set[i] != 0 {
+            n += ones_of(set[i]);
+        }
         i += 1;
     }
     n
+}
+
+// Whether the set has no member.
+pub fn is_empty(set: &[u64]) -> bool {
+    let mut all: u64 = 0;
+    let mut i = 0;
+    while i < set.len() {
+        all = all | set[i];
+        i += 1;
+    }
+    all == 0
 }
 
 // The members of a word that stands from `base` on are written by rising number from cell `n` on; what comes back is where they end.

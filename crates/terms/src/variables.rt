@@ -27,6 +27,18 @@ pub fn visit(index: &[u32], words: &[u32], mark: Mark, id: usize, seen: &mut [u6
     if index[FLAGS + id] == 0 {
         return;
     }
+    visit_open(index, words, mark, id, seen, set);
+}
+
+// The same of a term that has a variable.
+fn visit_open(
+    index: &[u32],
+    words: &[u32],
+    mark: Mark,
+    id: usize,
+    seen: &mut [u64],
+    set: &mut [u64],
+) {
     if has(seen, id) {
         return;
     }

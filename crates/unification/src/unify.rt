@@ -143,16 +143,26 @@ pub fn unify(
 {
     pairs[0] = s as u32;
     pairs[1] = t as u32;
-    let r = solve(index, words, mark, count, theta, map, memo, pairs, seen, 1);
-    clear(pairs);
+    let r = solve(
+        index,
+        words,
+        mark,
+        count,
+        &mut theta[..count],
+        map,
+        memo,
+        pairs,
+        seen,
+        1,
+    );
     match r {
         Unified::Found(last) => Unified::Found(last),
         Unified::Apart(last) => {
-            clear(theta);
+            clear(&mut theta[..count]);
             Unified::Apart(last)
         }
         Unified::Full(row, last) => {
-            clear(theta);
+            clear(&mut theta[..count]);
             Unified::Full(row, last)
         }
     }
