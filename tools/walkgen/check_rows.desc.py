@@ -1,5 +1,5 @@
 """`tabled::check_rows`: a table of records of its own is lent to a check and written as rows. What is said of it stands in tabled/proofs/Storing."""
-from schematic import LIMIT, TEXTS, THEORY, call, params, records, spaced, theory_lists, working
+from schematic import TEXTS, THEORY, call, head, spaced, theory_lists, working
 
 PROOFS = "Rattle.tabled.proofs"
 TABLES = ["vars", "index", "words", "defs", "rows", "lists", "missing"]
@@ -15,16 +15,11 @@ def describe():
                  f"Call {spaced(TEXTS)} (tablesIn {theory_lists()} {working()} missing {MADE}) "
                  f"(tablesIn {theory_lists('z2·{}')} {working('z2·{}')} z2·missing z2·records) (answerOf r2) × (behind FACTS z2·records ≡ behind FACTS {MADE})")
     return dict(
-        crate="tabled",
-        fn="check_rows",
-        lent="Rattle.facts.proofs.Lent",
+        head("tabled::check_rows", TEXTS + THEORY + TABLES, "mut", [("facts", "mut", "u32"), ("footings", "mut", "u64")]),
         localarray="Rattle.schematic.proofs.LocalArray",
         big="Rattle.schematic.proofs.Big",
         owns=["records"],
-        types=records(struct, enum),
-        params=params(TEXTS + THEORY + TABLES, "mut") + [("facts", "mut", "u32"), ("footings", "mut", "u64")],
         requires="(6 * FACTS ≤ length facts) × (4 * FACTS ≤ length footings)",
-        limit=LIMIT,
         uses=["use lib.ListN.{take, drop as behind}", "use Prim.Native.Nat.{_*_}", "use mathlib.Core.List.{_++_}",
               "use Rattle.rules.specs.Limits.{FACTS}", "use Rattle.facts.specs.Table.{blank}", "use Rattle.kernel.specs.Parsed.{theoryLists}",
               "use Rattle.running.specs.Lent.{working, factRows, factFeet}", "use Rattle.running.specs.Checking.{tablesOf as tablesIn}",
