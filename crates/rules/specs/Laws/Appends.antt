@@ -95,7 +95,7 @@ pub record FormAppends (S U : State) : Type 0 where
   pub goals : Marks S.goals U.goals
   pub facts : AtMostOne S.facts U.facts
 
-taken_appends : {S U : State} {c : Counts} → Taken anything S c U → FormAppends S U
+taken_appends : {S : State} {c : Counts} {U : State} → Taken anything S c U → FormAppends S U
 taken_appends {S} (new_var v l) =
     record { theory = refl; vars = one_new S.vars v; made = nothing_new S.made; defs = no_more; goals = unmarked; facts = no_more }
 taken_appends {S} (new_def m d g h l) =

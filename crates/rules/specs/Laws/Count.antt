@@ -40,7 +40,7 @@ nothing_more : (c : Counts) → c ≡ plus c no_counts
 unfolding plus
 nothing_more c = simp add-zero
 
-pub taken_counts : {S U : State} {c : Counts} → Taken anything S c U → U.counts ≡ plus S.counts c
+pub taken_counts : {S : State} {c : Counts} {U : State} → Taken anything S c U → U.counts ≡ plus S.counts c
 taken_counts {S} (new_var v l) = nothing_more S.counts
 taken_counts {S} (new_def m d g p l) = nothing_more S.counts
 taken_counts (new_fact vs m f c l g p n k r) = refl

@@ -38,7 +38,7 @@ posed_right : {S U : State} → FactsRight S → Posed anything S U → FactsRig
 posed_right h (posed_var v l) = record { shaped = h.shaped; hypotheses = h.hypotheses }
 posed_right h (posed_goal m g k i l r) = record { shaped = h.shaped; hypotheses = h.hypotheses }
 
-taken_right : {S U : State} {c : Counts} → FactsRight S → Taken anything S c U → FactsRight U
+taken_right : {S : State} {c : Counts} {U : State} → FactsRight S → Taken anything S c U → FactsRight U
 unfolding plus
 taken_right h (new_var v l) = record { shaped = h.shaped; hypotheses = h.hypotheses }
 taken_right h (new_def m d g p l) = record { shaped = h.shaped; hypotheses = h.hypotheses }

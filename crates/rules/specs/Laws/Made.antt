@@ -204,7 +204,7 @@ module _ {K : Invariant} where
   posed_ready h (posed_goal m g k i l r) =
       let w = ready_on h k in record { good = w.good; defs = w.defs; goals = all_snoc w.goals i; facts = w.facts }
 
-  pub taken_ready : {S U : State} {c : Counts} → Ready K S S.made → Taken K S c U → Ready K U U.made
+  pub taken_ready : {S : State} {c : Counts} {U : State} → Ready K S S.made → Taken K S c U → Ready K U U.made
   taken_ready h (new_var v l) = record { good = h.good; defs = h.defs; goals = h.goals; facts = h.facts }
   taken_ready h (new_def m d g p l) =
       let w = ready_on h g in record { good = w.good; defs = all_snoc w.defs p; goals = w.goals; facts = w.facts }

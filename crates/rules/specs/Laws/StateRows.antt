@@ -61,7 +61,7 @@ posed_rows {S} h (posed_goal m g k i l r) =
       row13 = omega (arith, r, goal_entries_snoc S.goals g);
     }
 
-taken_rows : {S U : State} {c : Counts} → Rows S → Taken anything S c U → Rows U
+taken_rows : {S : State} {c : Counts} {U : State} → Rows S → Taken anything S c U → Rows U
 unfolding entries
 taken_rows {S} h (new_var v l) =
     record { row7 = omega (arith, length-append S.vars (v ∷ [])); row10 = h.row10; row11 = h.row11; row12 = h.row12; row13 = h.row13 }
