@@ -98,7 +98,7 @@ at_place {at = at} nil k h = rw (add-zero at) h
 at_place {at = at} (cons x xs) zero h = rw (add-zero at) h
 at_place {at = at} (cons x xs) (suc k) h =
     let e : at + length (encode x) + place xs k ≡ at + (length (encode x) + place xs k) = omega arith in
-    rw e at (at_place xs k (at_next h))
+    rw e at (at_place {at = at + length (encode x)} xs k (at_next h))
 
 pub item_at_place : {words : List ℕ} (xs : Sexps) (k : ℕ) → words ≡ encodes xs → k < count xs → At words (place xs k) (cons (item xs k) (rest xs (suc k)))
 item_at_place xs k e h = rw (zero-add (place xs k), rest_item xs k h) at (at_place xs k (at_first e))

@@ -1,0 +1,29 @@
+use mathlib.Core.Path.{refl}
+use Prim.Native.Nat.{◌-◌}
+use native.Mathlib.Omega.{arith}
+use Rattle.sexp.proofs.Blocks.{comment_begin, comment_byte, comment_block, comment_stop, comment_over}
+use Rattle.sexp.proofs.lex.line_end.Goals as goal
+
+pub loop-at-init : goal.loop-at-init
+loop-at-init c = comment_begin _ _ _ c.requires refl
+
+pub returns-then-text-at-eq10 : goal.returns-then-text-at-eq10
+returns-then-text-at-eq10 c = comment_stop c.loop-at.invariant c.loop-at-test.true c.if-text-at-eq10.true
+
+pub skip_line-at-requires : goal.skip_line-at-requires
+skip_line-at-requires c = omega (arith, c.loop-at-test.true)
+
+pub loop-at-smaller-then-at-eq0 : goal.loop-at-smaller-then-at-eq0
+loop-at-smaller-then-at-eq0 c = omega (arith, c.loop-at-test.true, c.skip_line-at.ensures.low)
+
+pub loop-at-preserved-then-at-eq0 : goal.loop-at-preserved-then-at-eq0
+loop-at-preserved-then-at-eq0 c = comment_block (comment_byte c.loop-at.invariant c.loop-at-test.true c.if-text-at-eq10.false refl) c.skip_line-at.ensures
+
+pub loop-at-smaller : goal.loop-at-smaller
+loop-at-smaller c = omega (arith, c.loop-at-test.true)
+
+pub loop-at-preserved : goal.loop-at-preserved
+loop-at-preserved c = comment_byte c.loop-at.invariant c.loop-at-test.true c.if-text-at-eq10.false refl
+
+pub returns : goal.returns
+returns c = comment_over c.loop-at.invariant c.loop-at-test.false
