@@ -1,4 +1,6 @@
 // Cells of tables as such: set to zero, or copied. Whoever means a part of a table lends that part.
+#![tactic(auto)]
+
 ghost use Rattle.std.specs.Prelude.{◌≡◌, ◌++◌, ◌≤◌, length, drop, replicate};
 
 // Every cell becomes 0.

@@ -1,4 +1,6 @@
 // The running counts of a check: one record, lent by `&mut` to one thin function that adds what a form counts.
+#![tactic(auto)]
+
 ghost use Rattle.std.specs.Prelude.{◌≡◌};
 ghost use Rattle.counts.specs.Sum.{sum, Fits, none};
 

@@ -1,5 +1,7 @@
 // The store for programs in other languages, which link the static library: a chain of terms, made in one call. What it requires, its
 // caller keeps. `keep` is called at one place of the library, so that the compiler puts it in place there.
+#![tactic(auto)]
+
 ghost use Rattle.std.specs.Prelude.{◌<◌};
 ghost use Rattle.terms.specs.Table.{Good};
 ghost use Rattle.exports_store.specs.Chains.{Chained};

@@ -1,4 +1,6 @@
 // Functions on terms for programs in other languages, which link the static library. What one requires, its caller keeps.
+#![tactic(auto)]
+
 ghost use Rattle.std.specs.Prelude.{◌≡◌, ◌<◌, length, replicate};
 ghost use Rattle.rules.specs.Find.{union};
 ghost use Rattle.rules.specs.Tree.{variables as variables_in};

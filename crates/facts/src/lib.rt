@@ -1,5 +1,7 @@
 // The recorded facts: one lent table of records. Nothing else writes a record or reads one out of the table; whoever wants more of a record
 // takes it by value.
+#![tactic(auto)]
+
 ghost use Rattle.std.specs.Prelude.{◌≡◌, true, not, ◌<◌, ◌≤◌, ◌+◌, eqb, ltb, length, get_or, set};
 ghost use Rattle.facts.specs.Table.{blank, appended, zeroed};
 

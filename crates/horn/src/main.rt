@@ -1,4 +1,6 @@
 // `horn THEORY GOALS PROOF` checks the proof in three files and writes the answer's line. Without arguments the files are called theory, goals, proof.
+#![tactic(auto)]
+
 ghost use Rattle.std.specs.Prelude.{◌≡◌, ◌≤◌, length};
 
 use printing::line::begin_line;

@@ -1,5 +1,7 @@
 // `horn_facts THEORY GOALS PROOF` writes the answer's line and then what is recorded, read off the lent tables: each fact, each fact's footing, and the
 // goals without a result that 53 lists.
+#![tactic(auto)]
+
 ghost use Rattle.std.specs.Prelude.{◌≡◌, ◌≤◌, length};
 
 use printing::load::{TEXTS, load_texts};

@@ -1,4 +1,6 @@
 // From the text of a theory to its tables.
+#![tactic(auto)]
+
 pub mod atoms;
 mod declare;
 mod names;

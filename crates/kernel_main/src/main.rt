@@ -1,4 +1,6 @@
 // Reads up to 4,096 bytes of a theory from standard input and writes the answer, then the used rows of each table, a row a line.
+#![tactic(auto)]
+
 ghost use Rattle.kernel.specs.Parsed.{theory_lists, Roomy};
 ghost use Rattle.sexp.specs.Through.{Legible};
 

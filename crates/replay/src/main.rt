@@ -1,5 +1,7 @@
 // Replays stored cases from standard input: each case's three texts are checked, and the line, and where they are stored the facts and the footings, are
 // compared with what is expected. Names the cases that differ; the last line says how many were replayed.
+#![tactic(auto)]
+
 ghost use Rattle.std.specs.Prelude.{◌≡◌, ◌≤◌, length};
 
 mod compare;

@@ -1,4 +1,5 @@
 // The limits of a check, under the names that specs/Limits.antt gives them.
+#![tactic(auto)]
 
 // question 2: the bytes of a text
 pub const LENGTH: usize = 65536;

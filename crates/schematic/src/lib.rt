@@ -1,5 +1,7 @@
 // The whole check over lent tables and records of facts. Nothing is tested here and nothing computed: each function calls those that are covered, one
 // after the other, and a refusal goes on by value.
+#![tactic(auto)]
+
 ghost use Rattle.std.specs.Prelude.{◌≡◌, true, drop};
 ghost use Rattle.rules.specs.Limits.{FACTS};
 ghost use Rattle.kernel.specs.Parsed.{theory_lists};

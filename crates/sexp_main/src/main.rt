@@ -1,4 +1,6 @@
 // Reads up to 4,096 bytes of forms from standard input and writes them back, a form a line, one space between items, without comments.
+#![tactic(auto)]
+
 ghost use Rattle.std.specs.Prelude.{◌≤◌, length};
 ghost use Rattle.rules.specs.Limits.{LENGTH};
 ghost use Rattle.sexp.specs.Items.{Held};

@@ -1,4 +1,6 @@
 // A check whose facts are answered as numbers, for callers that hold no table of records: six cells a fact, and its footing as four words.
+#![tactic(auto)]
+
 ghost use Rattle.std.specs.Prelude.{◌≡◌, ◌++◌, ◌+◌, ◌*◌, ◌<◌, ◌≤◌, ltb, length, take, drop};
 ghost use Rattle.std.proofs.lemmas.List.Edits.{sets};
 ghost use Rattle.rules.specs.Limits.{FACTS};

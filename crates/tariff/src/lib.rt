@@ -1,4 +1,6 @@
 // The check for programs in other languages, which link the static library: one function, over tables and texts as pointer and length.
+#![tactic(auto)]
+
 ghost use Rattle.std.specs.Prelude.{◌≡◌, [], ◌∷◌, ltb, length, drop};
 ghost use Rattle.rules.specs.Limits.{FACTS};
 ghost use Rattle.kernel.specs.Parsed.{theory_lists};

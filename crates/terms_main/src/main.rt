@@ -4,6 +4,8 @@
 // `stdout` follows from the definition: the last arguments are taken first, a variable is bound to the other side, and a value that was
 // found before is changed by each later one. The first pair has bindings; the second fails by the occurs check, which sees x0 in
 // (f (f x0 a) a) once x1 is bound; the third by the symbols a and b.
+#![tactic(auto)]
+
 ghost use Rattle.std.specs.Prelude.{◌+◌, ◌<◌};
 ghost use Rattle.rules.specs.Limits.{SYMBOLS, VARIABLES};
 ghost use Rattle.terms.specs.Table.{Good};

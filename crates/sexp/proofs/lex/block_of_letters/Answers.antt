@@ -14,16 +14,16 @@ loop-i-preserved c = (
   omega arith,
   c.loop-i.invariant.1,
   λ e g f. elim c.if-b-le41.branch [
-      then-b-le41 v ↦ absurd (true≢false (sym e ∙ v.above-is))
+    | then-b-le41 v ↦ absurd (true≢false (sym e ∙ v.above-is))
     | else-b-le41 v ↦ elim c.if-b-gt127.branch [
-          then-b-gt127 u ↦ absurd (true≢false (sym g ∙ u.below-is))
-        | else-b-gt127 u ↦ elim c.if-b-eq59.branch [
-              then-b-eq59 w ↦ absurd (true≢false (sym f ∙ w.clean-is))
-            | else-b-eq59 w ↦
-                atom_byte (c.loop-i.invariant.2 (sym v.above-is ∙ e) (sym u.below-is ∙ g) (sym w.clean-is ∙ f)) (omega (arith, c.loop-i.invariant.1))
-                (above_letter _ v.if-b-le41.false u.if-b-gt127.false w.if-b-eq59.false) (omega arith)
-          ]
+      | then-b-gt127 u ↦ absurd (true≢false (sym g ∙ u.below-is))
+      | else-b-gt127 u ↦ elim c.if-b-eq59.branch [
+        | then-b-eq59 w ↦ absurd (true≢false (sym f ∙ w.clean-is))
+        | else-b-eq59 w ↦
+            atom_byte (c.loop-i.invariant.2 (sym v.above-is ∙ e) (sym u.below-is ∙ g) (sym w.clean-is ∙ f)) (omega (arith, c.loop-i.invariant.1))
+            (above_letter _ v.if-b-le41.false u.if-b-gt127.false w.if-b-eq59.false) (omega arith)
       ]
+    ]
   ],
 )
 

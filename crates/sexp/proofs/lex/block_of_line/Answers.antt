@@ -14,7 +14,7 @@ loop-i-preserved c = (
   omega arith,
   c.loop-i.invariant.1,
   λ e. elim c.if-text-at-eq10.branch [
-      then-text-at-eq10 w ↦ absurd (true≢false (sym e ∙ w.clean-is))
+    | then-text-at-eq10 w ↦ absurd (true≢false (sym e ∙ w.clean-is))
     | else-text-at-eq10 w ↦ comment_byte (c.loop-i.invariant.2 (sym w.clean-is ∙ e)) (omega (arith, c.loop-i.invariant.1)) w.if-text-at-eq10.false (omega arith)
   ],
 )

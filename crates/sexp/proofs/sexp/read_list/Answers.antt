@@ -99,12 +99,11 @@ pub loop-at-smaller-else-depth-eq0 : goal.loop-at-smaller-else-depth-eq0
 loop-at-smaller-else-depth-eq0 c = omega (arith, c.if-at-text.false, c.skip-at.ensures.low)
 
 pub loop-at-preserved-else-depth-eq0 : goal.loop-at-preserved-else-depth-eq0
-loop-at-preserved-else-depth-eq0 c = let here : State c.args.text.now c.args.from c.args.words.now c.loop-at.words c.skip-at.result c.loop-at.used c.loop-at.depth c.loop-at.«open» = states.skipped c.loop-at.invariant.0 _ c.skip-at.ensures in
-    (
-      rw (c.close_list-open.ensures.0, c.close_list-open.ensures.1)
-          (states.closes_on here c.if-at-text.false c.if-b-eq41.true c.loop-at.invariant.1 c.if-depth-eq0.false),
-      c.if-depth-eq0.false,
-    )
+loop-at-preserved-else-depth-eq0 c = let here : State c.args.text.now c.args.from c.args.words.now c.loop-at.words c.skip-at.result c.loop-at.used c.loop-at.depth c.loop-at.«open» = states.skipped c.loop-at.invariant.0 _ c.skip-at.ensures in (
+  rw (c.close_list-open.ensures.0, c.close_list-open.ensures.1)
+      (states.closes_on here c.if-at-text.false c.if-b-eq41.true c.loop-at.invariant.1 c.if-depth-eq0.false),
+  c.if-depth-eq0.false,
+)
 
 pub overflow_mul-at : goal.overflow_mul-at
 overflow_mul-at c = omega (arith, c.if-at-text.false, c.requires.text_len_bound.0)
@@ -131,8 +130,7 @@ loop-at-smaller c = let here : State c.args.text.now c.args.from c.args.words.no
 
 pub loop-at-preserved : goal.loop-at-preserved
 loop-at-preserved c = let here : State c.args.text.now c.args.from c.args.words.now c.loop-at.words c.skip-at.result c.loop-at.used c.loop-at.depth c.loop-at.«open» = states.skipped c.loop-at.invariant.0 _ c.skip-at.ensures in
-    let letter_at : kind (get_or c.args.text.now c.skip-at.result 0) ≡ letter = letter_here _ (c.skip-at.ensures.no_blank c.if-at-text.false) (c.skip-at.ensures.no_comment c.if-at-text.false) c.if-b-eq40.false c.if-b-eq41.false in
-    (
+    let letter_at : kind (get_or c.args.text.now c.skip-at.result 0) ≡ letter = letter_here _ (c.skip-at.ensures.no_blank c.if-at-text.false) (c.skip-at.ensures.no_comment c.if-at-text.false) c.if-b-eq40.false c.if-b-eq41.false in (
       rw c.put-else-b-eq41.ensures (states.word_on here c.if-at-text.false letter_at _ c.atom_end-at.ensures c.loop-at.invariant.1),
       c.loop-at.invariant.1,
     )
