@@ -5,7 +5,7 @@ use counts::Counts;
 use facts::Fact;
 use running::run::Run;
 
-#[derive(Drop)]
+#[derive(Clone, Copy)]
 pub struct Advance {
     pub next: Run,
     pub stored: bool,

@@ -7,7 +7,7 @@ ghost use Rattle.beginning.specs.Asking.{AskedAs};
 use sexp::lex::{plain, short};
 
 // No question is left; or one by its number, with the text: 1 theory, 2 goals, 3 proof.
-#[derive(Drop)]
+#[derive(Clone, Copy)]
 pub enum Asked {
     Nothing,
     Left(usize, usize),

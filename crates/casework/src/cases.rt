@@ -24,7 +24,7 @@ const FEW: usize = 16;
 const NAMECELLS: usize = 16384;
 
 // Where the case's name begins, the number of its fact, and how many variables it has; or a question.
-#[derive(Drop)]
+#[derive(Clone, Copy)]
 pub enum CaseRead {
     Ok(usize, usize, usize),
     No(usize),

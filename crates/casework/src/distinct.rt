@@ -7,7 +7,7 @@ ghost use Rattle.casework.specs.Distinct.{turn_of, between, Tree, SpotAs, Entere
 use sexp::names::same;
 
 // What a name comes to in the tree: itself, or a cell where it can come in.
-#[derive(Drop)]
+#[derive(Clone, Copy)]
 pub enum Spot {
     Met,
     Free(usize),

@@ -20,7 +20,7 @@ use state::sizes::Sizes;
 use terms::store::Mark;
 
 // A derived fact is there: so many entries of the lists are used, and so many instances it has; or a question and its detail. What is used of the store then.
-#[derive(Drop)]
+#[derive(Clone, Copy)]
 pub enum Entered {
     Ok(usize, usize, Mark),
     No(usize, usize, Mark),

@@ -24,14 +24,14 @@ use state::vars::{put_var, var_named};
 use terms::store::Mark;
 
 // A variable is declared; or a question and its detail.
-#[derive(Drop)]
+#[derive(Clone, Copy)]
 pub enum Declared {
     Ok,
     No(usize, usize),
 }
 
 // An abbreviation is declared; or a question and its detail. What is used of the store then.
-#[derive(Drop)]
+#[derive(Clone, Copy)]
 pub enum Defined {
     Ok(Mark),
     No(usize, usize, Mark),

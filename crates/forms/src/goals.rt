@@ -21,21 +21,21 @@ use state::sizes::Sizes;
 use terms::store::Mark;
 
 // A goal is there, and so many entries of the lists are used; or a question and its detail. What is used of the store then.
-#[derive(Drop)]
+#[derive(Clone, Copy)]
 pub enum Aimed {
     Ok(usize, Mark),
     No(usize, usize, Mark),
 }
 
 // What a goal asks: its judgment, and the number of its hypotheses; or a question and its detail. What is used of the store then.
-#[derive(Drop)]
+#[derive(Clone, Copy)]
 pub enum Aims {
     Ok(usize, usize, Mark),
     No(usize, usize, Mark),
 }
 
 // A goal has its row, and so many entries of the lists are used; or a question and its detail.
-#[derive(Drop)]
+#[derive(Clone, Copy)]
 pub enum Placed {
     Ok(usize),
     No(usize, usize),

@@ -18,7 +18,7 @@ use state::sizes::Sizes;
 use terms::store::Mark;
 
 // A hypothesis is there, and so many entries of the lists are used; or a question and its detail. What is used of the store then.
-#[derive(Drop)]
+#[derive(Clone, Copy)]
 pub enum Assumed {
     Ok(usize, Mark),
     No(usize, usize, Mark),
@@ -26,7 +26,7 @@ pub enum Assumed {
 
 // What a hypothesis states: its judgment, the number of its premises, that of its generalised variables; or a question and its detail. What is used of
 // the store then.
-#[derive(Drop)]
+#[derive(Clone, Copy)]
 pub enum Stated {
     Ok(usize, usize, usize, Mark),
     No(usize, usize, Mark),

@@ -8,7 +8,7 @@ use sexp::names::Found;
 use state::sizes::Sizes;
 
 // It is the next; or the question that is left.
-#[derive(Drop)]
+#[derive(Clone, Copy)]
 pub enum Numbered {
     Next,
     No(usize),

@@ -25,7 +25,7 @@ use terms::sets::has;
 use terms::store::Mark;
 
 // A goal's result has come; or a question and its detail. What is used of the store then.
-#[derive(Drop)]
+#[derive(Clone, Copy)]
 pub enum Resulted {
     Ok(Mark),
     No(usize, usize, Mark),

@@ -34,7 +34,7 @@ use terms::store::{Mark, head};
 use terms::variables::visit;
 
 // The judgment's number and the number of variables then; or a question and its detail. What is used of the store then.
-#[derive(Drop)]
+#[derive(Clone, Copy)]
 pub enum Inverted {
     Ok(usize, usize, Mark),
     No(usize, usize, Mark),

@@ -17,7 +17,7 @@ use sexp::tags::{Declaration, theory_tag};
 use sexp::{items, lex};
 
 // A declaration is taken, and so much is used now; or it is refused, by number and detail.
-#[derive(Drop)]
+#[derive(Clone, Copy)]
 pub enum Declared {
     Ok(Counts),
     No(usize, usize),

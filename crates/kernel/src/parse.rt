@@ -11,7 +11,7 @@ use crate::declare::{Declared, declare};
 use sexp::sexp::{Read, Whole, clear, read_all, read_form};
 
 // What is used of the tables: sorts, symbols, rules, and words of the rules' patterns.
-#[derive(Drop)]
+#[derive(Clone, Copy)]
 pub struct Counts {
     pub sorts: usize,
     pub symbols: usize,
@@ -20,7 +20,7 @@ pub struct Counts {
 }
 
 // The number of the text's forms, or a refusal by number and detail with the number of the forms before; and what is used of the tables.
-#[derive(Drop)]
+#[derive(Clone, Copy)]
 pub enum Judged {
     Done(usize, Counts),
     Refused(usize, usize, usize, Counts),

@@ -17,7 +17,7 @@ use sexp::lex;
 use sexp::names::{Found, named};
 
 // Two numbers of what is there now, or a refusal by number and detail.
-#[derive(Drop)]
+#[derive(Clone, Copy)]
 pub enum Reply {
     Ok(usize, usize),
     No(usize, usize),

@@ -18,7 +18,7 @@ use crate::readers::arity;
 use sexp::names::{Found, named};
 
 // A part of the words of patterns, or of the text: the first place, and the place behind the last.
-#[derive(Drop)]
+#[derive(Clone, Copy)]
 pub struct Span {
     pub from: usize,
     pub end: usize,

@@ -16,14 +16,14 @@ use sexp::items::Item;
 use sexp::names::{Found, named};
 use sexp::{items, lex};
 
-#[derive(Drop)]
+#[derive(Clone, Copy)]
 pub enum Spelling {
     Name(usize, usize),
     Refused,
 }
 
 // A declaration is taken, with a number of things that are there now, or refused by number and detail.
-#[derive(Drop)]
+#[derive(Clone, Copy)]
 pub enum Added {
     Ok(usize),
     No(usize, usize),

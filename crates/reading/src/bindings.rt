@@ -18,14 +18,14 @@ use state::vars::var_sort;
 use terms::store::Mark;
 
 // A variable and a term's number, or a question and its detail; and what is used of the store then.
-#[derive(Drop)]
+#[derive(Clone, Copy)]
 pub enum Pair {
     Of(usize, usize, Mark),
     No(usize, usize, Mark),
 }
 
 // The bindings are in the map, or a question and its detail; and what is used of the store then.
-#[derive(Drop)]
+#[derive(Clone, Copy)]
 pub enum Bound {
     Ok(Mark),
     No(usize, usize, Mark),

@@ -17,7 +17,7 @@ use state::sizes::Sizes;
 use terms::sets::insert;
 
 // The list is read, or a question.
-#[derive(Drop)]
+#[derive(Clone, Copy)]
 pub enum Listed {
     Ok,
     No(usize),

@@ -26,21 +26,21 @@ use state::vars::{var_named, var_sort};
 use terms::store::{Kept, Mark, head, keep};
 
 // A term's number, or a question and its detail; and what is used of the store then.
-#[derive(Drop)]
+#[derive(Clone, Copy)]
 pub enum Out {
     Ok(usize, Mark),
     No(usize, usize, Mark),
 }
 
 // The same, with the answer to whether the term is of the sort that was expected.
-#[derive(Drop)]
+#[derive(Clone, Copy)]
 pub enum Typed {
     Term(usize, bool, Mark),
     No(usize, usize, Mark),
 }
 
 // The symbol that a list begins with, or a question.
-#[derive(Drop)]
+#[derive(Clone, Copy)]
 pub enum Opening {
     Symbol(usize),
     No(usize),

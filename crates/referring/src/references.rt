@@ -24,7 +24,7 @@ use terms::substitute::substitute;
 
 // A judgment by its number, the fact that it comes from, and whether the fact is named bare; or a question and its detail. What is used of the store
 // then.
-#[derive(Drop)]
+#[derive(Clone, Copy)]
 pub enum Referred {
     To(usize, usize, bool, Mark),
     No(usize, usize, Mark),

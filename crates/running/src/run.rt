@@ -7,7 +7,7 @@ ghost use Rattle.running.specs.Run.{no_sizes, unfit_run, stopped_run, started_ru
 use state::sizes::Sizes;
 use terms::store::Mark;
 
-#[derive(Drop)]
+#[derive(Clone, Copy)]
 pub struct Run {
     // the lent tables are long enough
     pub fit: bool,

@@ -5,7 +5,7 @@ ghost use Rattle.sexp.specs.Encode.{encodes};
 ghost use Rattle.sexp.specs.Items.{Items, Reaches, item_at, item_of, behind, place};
 
 // An atom by its place in the text, or a list by where its items' cells begin and end.
-#[derive(Drop)]
+#[derive(Clone, Copy)]
 pub enum Item {
     Atom(usize),
     List(usize, usize),

@@ -8,7 +8,7 @@ ghost use Rattle.rules.specs.Sexp.{Name};
 ghost use Rattle.sexp.specs.NameRows.{NameRows, SomeNames, found_of};
 
 // What a name spells, read as an index.
-#[derive(Drop)]
+#[derive(Clone, Copy)]
 pub enum Index {
     Number(usize),
     Unreadable,
@@ -79,7 +79,7 @@ pub fn index_of(name: &[u8]) -> Index
 }
 
 // A row by its number.
-#[derive(Drop)]
+#[derive(Clone, Copy)]
 pub enum Found {
     At(usize),
     Missing,

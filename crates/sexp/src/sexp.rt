@@ -9,7 +9,7 @@ ghost use Rattle.sexp.specs.declared.sexp.Read.TheVariants.{Refused};
 use crate::lex::{atom_end, skip};
 
 // What stands in front: nothing, a form with the place behind it and the number of its cells, or a refusal by its number.
-#[derive(Drop)]
+#[derive(Clone, Copy)]
 pub enum Read {
     End,
     Form(usize, usize),
@@ -17,7 +17,7 @@ pub enum Read {
 }
 
 // How a text ends: the number of its bracketed forms, or a refusal by its number, with that of the bracketed forms before it.
-#[derive(Drop)]
+#[derive(Clone, Copy)]
 pub enum Whole {
     Forms(usize),
     Refused(usize, usize),

@@ -6,7 +6,7 @@ ghost use Rattle.sexp.specs.TagTable.{tag_answer, declaration_answer, goal_answe
 use crate::names::same;
 
 // Of a proof's form; `Hyp` and `RuleHyp` are `hyp` without and with premises, `InductWith` has a list of hypotheses.
-#[derive(Drop)]
+#[derive(Clone, Copy)]
 pub enum Tag {
     Var,
     Def,
@@ -22,7 +22,7 @@ pub enum Tag {
 }
 
 // Of a theory's form.
-#[derive(Drop)]
+#[derive(Clone, Copy)]
 pub enum Declaration {
     Sort,
     Ctor,
@@ -32,7 +32,7 @@ pub enum Declaration {
 }
 
 // Of the goals' form; `GoalWith` lists hypotheses.
-#[derive(Drop)]
+#[derive(Clone, Copy)]
 pub enum GoalForm {
     Variable,
     Goal,

@@ -12,14 +12,14 @@ use crate::sizes::Sizes;
 use terms::sets::{count, union_into, write_out};
 
 // Entries of the lists: the first place, and the place behind the last.
-#[derive(Drop)]
+#[derive(Clone, Copy)]
 pub struct Span {
     pub from: usize,
     pub end: usize,
 }
 
 // The number of entries in use then, or the row of question 60 that has no room.
-#[derive(Drop)]
+#[derive(Clone, Copy)]
 pub enum Put {
     Stored(usize),
     Full(usize),

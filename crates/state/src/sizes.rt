@@ -1,7 +1,7 @@
 // How much of each table is used.
 
 // Sorts, symbols and rules of the theory; variables, abbreviations, goals, facts; and entries of lists.
-#[derive(Drop)]
+#[derive(Clone, Copy)]
 pub struct Sizes {
     pub sorts: usize,
     pub symbols: usize,

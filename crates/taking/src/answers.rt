@@ -14,7 +14,7 @@ use terms::store::Mark;
 
 // The form is taken: what is used of the tables and of the store then, and what it counts; or a question and its detail, and what is used of the store
 // until it is cleaned.
-#[derive(Drop)]
+#[derive(Clone, Copy)]
 pub enum Tried {
     Ok(Sizes, Mark, Counts),
     No(usize, usize, Mark),

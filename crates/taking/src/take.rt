@@ -28,7 +28,7 @@ use state::sizes::Sizes;
 use terms::store::{Mark, forget};
 
 // The form is taken: what is used of the tables and of the store then, and what it counts; or a question and its detail.
-#[derive(Drop)]
+#[derive(Clone, Copy)]
 pub enum Taken {
     Ok(Sizes, Mark, Counts),
     No(usize, usize),

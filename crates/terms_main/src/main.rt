@@ -28,7 +28,7 @@ pub const B: usize = 1;
 pub const F: usize = 2;
 
 // A term's number, the place behind it in the text, and what is used of the store; or the store has no room.
-#[derive(Drop)]
+#[derive(Clone, Copy)]
 enum Placed {
     Term(usize, usize, Mark),
     Full(Mark),

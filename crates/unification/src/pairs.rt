@@ -12,7 +12,7 @@ use terms::variables::occurs;
 
 // What two terms ask for: nothing, as they are one; no unifier exists; a variable bound to a term; or the arguments pair by pair, where
 // the left ones stand, where the right ones stand, and how many there are.
-#[derive(Drop)]
+#[derive(Clone, Copy)]
 pub enum Asks {
     Nothing,
     Clash,

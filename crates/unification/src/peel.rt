@@ -11,14 +11,14 @@ use terms::replace::replace;
 use terms::store::{Kept, Mark};
 
 // Both sides' numbers, or the row of question 60 that has no room; and what is used of the store then.
-#[derive(Drop)]
+#[derive(Clone, Copy)]
 pub enum Sides {
     Both(usize, usize, Mark),
     Full(usize, Mark),
 }
 
 // So many pairs wait; no unifier exists; a variable is bound to a term; or there is no room for the pairs.
-#[derive(Drop)]
+#[derive(Clone, Copy)]
 pub enum Next {
     More(usize),
     Clash,
@@ -27,7 +27,7 @@ pub enum Next {
 }
 
 // So many pairs wait; no unifier exists; a variable is bound to a term, and so many pairs wait; or the row of question 60 that has no room.
-#[derive(Drop)]
+#[derive(Clone, Copy)]
 pub enum Turn {
     More(usize, Mark),
     Clash(Mark),
@@ -36,7 +36,7 @@ pub enum Turn {
 }
 
 // No pair is left; or as above.
-#[derive(Drop)]
+#[derive(Clone, Copy)]
 pub enum Peeled {
     Finished(Mark),
     Clash(Mark),

@@ -11,7 +11,7 @@ use terms::replace::replace;
 use terms::store::{Kept, Mark};
 
 // What is used of the store now, or the row of question 60 that has no room, with the mark of the moment.
-#[derive(Drop)]
+#[derive(Clone, Copy)]
 pub enum Grew {
     Ok(Mark),
     Full(usize, Mark),

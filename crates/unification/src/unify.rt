@@ -11,7 +11,7 @@ use cells::clear;
 use terms::store::Mark;
 
 // Bindings are found; no unifier exists; or the row of question 60 that has no room. What is used of the store then.
-#[derive(Drop)]
+#[derive(Clone, Copy)]
 pub enum Unified {
     Found(Mark),
     Apart(Mark),
@@ -19,7 +19,7 @@ pub enum Unified {
 }
 
 // One variable more is bound, and so many pairs wait; or as above.
-#[derive(Drop)]
+#[derive(Clone, Copy)]
 pub enum Round {
     More(usize, Mark),
     Found(Mark),

@@ -1,0 +1,11 @@
+use Rattle.kernel.proofs.Conclusions.{Passing}
+use Prim.Native.Nat.{◌-◌}
+use lib.ListN.{length}
+use borrow.Author.Rules.{rules}
+use Rattle.kernel.proofs.rule_readers.conclusion.Given as goal
+
+abbrev pub invariant-loop-left : goal.invariant-loop-left
+invariant-loop-left l = Passing l.symbols l.rules l.patterns l.r l.place l.left
+
+abbrev pub decreases-loop-left : goal.decreases-loop-left
+decreases-loop-left l = length l.patterns - l.place
