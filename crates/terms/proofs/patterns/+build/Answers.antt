@@ -9,53 +9,41 @@ use borrow.Author.Rules.{rules}
 use Rattle.terms.proofs.patterns.+build.Goals as goal
 
 pub offset_bounds-patterns-at : goal.offset_bounds-patterns-at
-offset_bounds-patterns-at t c = omega (arith, reads_in _ _ _ c.requires.1.reads, c.well_formed.1.0)
+offset_bounds-patterns-at t c = omega (arith, reads_in _ _ _ c.requires.reads, c.well_formed.1.0)
 
 pub bounds-patterns-at : goal.bounds-patterns-at
-bounds-patterns-at t c = reads_in _ _ _ c.requires.1.reads
-
-pub overflow_cast-head : goal.overflow_cast-head
-overflow_cast-head t c = omega (arith, c.shared_slice_known-4-1.given c.args.at)
+bounds-patterns-at t c = reads_in _ _ _ c.requires.reads
 
 pub offset_bounds-bound-head : goal.offset_bounds-bound-head
-offset_bounds-bound-head t c = omega (arith, cell_there _ _ _ _ _ _ _ c.requires.1 c.if-head-ge-SYMBOLS.true, c.well_formed.1.1.1.1.1.0)
+offset_bounds-bound-head t c = omega (arith, cell_there _ _ _ _ _ _ _ c.requires c.if-head-ge-SYMBOLS.true, c.well_formed.1.1.1.1.1.0)
 
 pub bounds-bound-head : goal.bounds-bound-head
-bounds-bound-head t c = cell_there _ _ _ _ _ _ _ c.requires.1 c.if-head-ge-SYMBOLS.true
-
-pub overflow_cast-cell : goal.overflow_cast-cell
-overflow_cast-cell t c = omega (arith, c.shared_slice_known-then-head-ge-SYMBOLS-1.given (get_or c.args.patterns.now c.args.at 0 - SYMBOLS))
+bounds-bound-head t c = cell_there _ _ _ _ _ _ _ c.requires c.if-head-ge-SYMBOLS.true
 
 pub returns-then-cell-eq0 : goal.returns-then-cell-eq0
-returns-then-cell-eq0 t c = build_unbound _ _ _ _ _ _ _ c.requires.1 c.if-head-ge-SYMBOLS.true c.if-cell-eq0.true
-
-pub overflow_sub-result : goal.overflow_sub-result
-overflow_sub-result t c = search rules
+returns-then-cell-eq0 t c = build_unbound _ _ _ _ _ _ _ c.requires c.if-head-ge-SYMBOLS.true c.if-cell-eq0.true
 
 pub overflow_add-result : goal.overflow_add-result
-overflow_add-result t c = omega (arith, reads_in _ _ _ c.requires.1.reads, c.well_formed.1.0)
+overflow_add-result t c = omega (arith, reads_in _ _ _ c.requires.reads, c.well_formed.1.0)
 
 pub returns-then-head-ge-SYMBOLS : goal.returns-then-head-ge-SYMBOLS
-returns-then-head-ge-SYMBOLS t c = build_bound _ _ _ _ _ _ _ c.requires.1 c.if-head-ge-SYMBOLS.true c.if-cell-eq0.false
+returns-then-head-ge-SYMBOLS t c = build_bound _ _ _ _ _ _ _ c.requires c.if-head-ge-SYMBOLS.true c.if-cell-eq0.false
 
 pub arity_of-count-requires : goal.arity_of-count-requires
-arity_of-count-requires t c = (c.requires.1.symbols, c.if-head-ge-SYMBOLS.false)
+arity_of-count-requires t c = (c.requires.symbols, c.if-head-ge-SYMBOLS.false)
 
 pub overflow_cast-node : goal.overflow_cast-node
 overflow_cast-node t c = omega (arith, c.if-head-ge-SYMBOLS.false)
 
-pub bounds-node-0 : goal.bounds-node-0
-bounds-node-0 t c = search rules
-
 pub overflow_add-place : goal.overflow_add-place
-overflow_add-place t c = omega (arith, reads_in _ _ _ c.requires.1.reads, c.well_formed.1.0)
+overflow_add-place t c = omega (arith, reads_in _ _ _ c.requires.reads, c.well_formed.1.0)
 
 pub loop-k-init : goal.loop-k-init
-loop-k-init t c = building_begins _ _ _ _ _ _ _ c.requires.1 c.if-head-ge-SYMBOLS.false _ c.arity_of-count.ensures _ refl refl
+loop-k-init t c = building_begins _ _ _ _ _ _ _ c.requires c.if-head-ge-SYMBOLS.false _ c.arity_of-count.ensures _ refl refl
 
 pub build-requires : goal.build-requires
 build-requires t c = (
-      omega (arith, building_falls _ _ _ _ _ _ _ _ _ _ _ _ _ _ _ c.loop-k.invariant c.loop-k-test.true, c.requires.0),
+      omega (arith, building_falls _ _ _ _ _ _ _ _ _ _ _ _ _ _ _ c.loop-k.invariant c.loop-k-test.true),
       building_asks _ _ _ _ _ _ _ _ _ _ _
           _ _ _ _ c.loop-k.invariant c.loop-k-test.true,
     )
@@ -76,20 +64,11 @@ offset_bounds-node-k t c = omega (arith, c.loop-k.invariant.few, c.loop-k-test.t
 pub bounds-node-k : goal.bounds-node-k
 bounds-node-k t c = omega (arith, c.loop-k.invariant.few, c.loop-k-test.true, c.loop-k.invariant.long)
 
-pub shape_of-index-in-No : goal.shape_of-index-in-No
-shape_of-index-in-No t c = search rules
-
-pub shape_of-words-in-No : goal.shape_of-words-in-No
-shape_of-words-in-No t c = search rules
-
 pub returns-in-No : goal.returns-in-No
 returns-in-No t c = building_stops _ _ _ _ _ _ _ _ _ _ _ _ _ _ _ c.loop-k.invariant c.loop-k-test.true _ _ _ c.build.ensures _ _ _ c.in-No.is
 
 pub overflow_add-k : goal.overflow_add-k
 overflow_add-k t c = omega (arith, c.loop-k.invariant.few, c.loop-k-test.true)
-
-pub loop-k-smaller : goal.loop-k-smaller
-loop-k-smaller t c = search rules
 
 pub loop-k-preserved : goal.loop-k-preserved
 loop-k-preserved t c = building_on _ _ _ _ _ _ _ _ _ _ _ _ _ _ _ c.loop-k.invariant c.loop-k-test.true _ _ _ c.build.ensures _ _ _ c.in-Term.is
@@ -106,20 +85,8 @@ slice_bounds-keep-end t c = node_count _ _ _ _ _ _ _ _ _ _ _ _ _ _ _ c.loop-k.in
 pub keep-requires : goal.keep-requires
 keep-requires t c = record { good = c.loop-k.invariant.grown.good; node = node_ready _ _ _ _ _ _ _ _ _ _ _ _ _ _ _ c.loop-k.invariant c.loop-k-test.false }
 
-pub shape_of-index-in-Term-keep : goal.shape_of-index-in-Term-keep
-shape_of-index-in-Term-keep t c = search rules
-
-pub shape_of-words-in-Term-keep : goal.shape_of-words-in-Term-keep
-shape_of-words-in-Term-keep t c = search rules
-
 pub returns-in-Term-keep : goal.returns-in-Term-keep
 returns-in-Term-keep t c = building_done _ _ _ _ _ _ _ _ _ _ _ _ _ _ _ c.loop-k.invariant c.loop-k-test.false _ _ _ c.keep.ensures _ _ c.in-Term-keep.is
-
-pub shape_of-index-in-Full : goal.shape_of-index-in-Full
-shape_of-index-in-Full t c = search rules
-
-pub shape_of-words-in-Full : goal.shape_of-words-in-Full
-shape_of-words-in-Full t c = search rules
 
 pub returns-in-Full : goal.returns-in-Full
 returns-in-Full t c = building_full _ _ _ _ _ _ _ _ _ _ _ _ _ _ _ c.loop-k.invariant c.loop-k-test.false _ _ _ c.keep.ensures _ _ c.in-Full.is

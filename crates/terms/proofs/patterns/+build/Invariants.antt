@@ -1,4 +1,5 @@
 use Prim.Native.Nat.{◌-◌}
+use lib.ListN.{length}
 use Rattle.terms.proofs.BuildTerms.{Building}
 use Rattle.terms.proofs.patterns.+build.Given as goal
 
@@ -7,3 +8,6 @@ invariant-loop-k l = Building l.symbols l.patterns l.initial.index l.initial.wor
 
 abbrev pub decreases-loop-k : goal.decreases-loop-k
 decreases-loop-k l = l.count - l.k
+
+abbrev pub decreases-build : goal.decreases-build
+decreases-build l = length l.patterns.now - l.at

@@ -7,3 +7,6 @@ invariant-loop-k l = Looping l.symbols l.patterns l.index l.words l.mark l.initi
 
 abbrev pub decreases-loop-k : goal.decreases-loop-k
 decreases-loop-k l = l.end - l.k
+
+abbrev pub decreases-match_term : goal.decreases-match_term
+decreases-match_term l = l.id

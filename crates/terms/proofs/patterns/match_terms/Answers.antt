@@ -6,9 +6,6 @@ use Rattle.terms.proofs.patterns.match_terms.Goals as goal
 pub loop-k-init : goal.loop-k-init
 loop-k-init c = listing_begins _ _ _ _ _ _ _ _ (c.requires)
 
-pub overflow_cast-ids : goal.overflow_cast-ids
-overflow_cast-ids c = omega (arith, c.shared_slice_known-in-loop-k-1.given c.loop-k.k)
-
 pub match_term-place-requires : goal.match_term-place-requires
 match_term-place-requires c = listing_asks _ _ _ _ _ _ _ _ _ _ _ c.loop-k.invariant c.loop-k-test.true
 

@@ -12,9 +12,6 @@ offset_bounds-patterns-place c = omega (arith, skipping_in _ _ _ _ _ _ c.loop-le
 pub bounds-patterns-place : goal.bounds-patterns-place
 bounds-patterns-place c = (skipping_in _ _ _ _ _ _ c.loop-left.invariant c.loop-left-test.true).0
 
-pub overflow_cast-patterns : goal.overflow_cast-patterns
-overflow_cast-patterns c = omega (arith, c.shared_slice_known-in-loop-left-1.given c.loop-left.place)
-
 pub args_of-args-requires : goal.args_of-args-requires
 args_of-args-requires c = c.loop-left.invariant.asked.symbols
 

@@ -6,106 +6,64 @@ use Rattle.terms.proofs.SubstLoop.{looping_begins, arg_in, arg_falls, arg_ready,
 use borrow.Author.Rules.{rules}
 use Rattle.terms.proofs.replace.+replace.Goals as goal
 
-pub offset_bounds-memo-id : goal.offset_bounds-memo-id
-offset_bounds-memo-id t c = search rules
-
-pub bounds-memo-id : goal.bounds-memo-id
-bounds-memo-id t c = search rules
-
-pub overflow_cast-known : goal.overflow_cast-known
-overflow_cast-known t c = omega (arith, c.slice_known-4-1.given c.args.id)
-
-pub overflow_sub-result : goal.overflow_sub-result
-overflow_sub-result t c = search rules
-
 pub returns-then-known-ne0 : goal.returns-then-known-ne0
-returns-then-known-ne0 t c = sub_known _ _ _ _ _ _ c.requires.1 c.if-known-ne0.true
+returns-then-known-ne0 t c = sub_known _ _ _ _ _ _ c.requires c.if-known-ne0.true
 
 pub overflow_add-id : goal.overflow_add-id
-overflow_add-id t c = omega (arith, flag_in _ _ _ c.requires.1.good _ c.requires.1.there, c.requires.1.good.index)
+overflow_add-id t c = omega (arith, flag_in _ _ _ c.requires.good _ c.requires.there, c.requires.good.index)
 
 pub offset_bounds-index-id : goal.offset_bounds-index-id
-offset_bounds-index-id t c = omega (arith, flag_in _ _ _ c.requires.1.good _ c.requires.1.there, c.requires.1.good.index)
+offset_bounds-index-id t c = omega (arith, flag_in _ _ _ c.requires.good _ c.requires.there, c.requires.good.index)
 
 pub bounds-index-id : goal.bounds-index-id
-bounds-index-id t c = flag_in _ _ _ c.requires.1.good _ c.requires.1.there
+bounds-index-id t c = flag_in _ _ _ c.requires.good _ c.requires.there
 
 pub overflow_add-memo : goal.overflow_add-memo
-overflow_add-memo t c = omega (arith, c.requires.1.there, c.requires.1.good.room)
+overflow_add-memo t c = omega (arith, c.requires.there, c.requires.good.room)
 
 pub overflow_cast-memo : goal.overflow_cast-memo
-overflow_cast-memo t c = omega (arith, c.requires.1.there, c.requires.1.good.room)
-
-pub offset_bounds-memo-id-then-index-id-eq0 : goal.offset_bounds-memo-id-then-index-id-eq0
-offset_bounds-memo-id-then-index-id-eq0 t c = search rules
-
-pub bounds-memo-id-then-index-id-eq0 : goal.bounds-memo-id-then-index-id-eq0
-bounds-memo-id-then-index-id-eq0 t c = search rules
-
-pub shape_of-memo-then-index-id-eq0 : goal.shape_of-memo-then-index-id-eq0
-shape_of-memo-then-index-id-eq0 t c = search rules
+overflow_cast-memo t c = omega (arith, c.requires.there, c.requires.good.room)
 
 pub returns-then-index-id-eq0 : goal.returns-then-index-id-eq0
-returns-then-index-id-eq0 t c = sub_none _ _ _ _ _ _ c.requires.1 c.if-index-id-eq0.true
+returns-then-index-id-eq0 t c = sub_none _ _ _ _ _ _ c.requires c.if-index-id-eq0.true
 
 pub start_of-start-requires : goal.start_of-start-requires
-start_of-start-requires t c = omega (arith, end_in _ _ _ c.before.requires.1.good _ c.before.requires.1.there)
+start_of-start-requires t c = omega (arith, end_in _ _ _ c.requires.good _ c.requires.there)
 
 pub offset_bounds-index-id-2 : goal.offset_bounds-index-id-2
-offset_bounds-index-id-2 t c = omega (arith, end_in _ _ _ c.before.requires.1.good _ c.before.requires.1.there, c.before.requires.1.good.index)
+offset_bounds-index-id-2 t c = omega (arith, end_in _ _ _ c.requires.good _ c.requires.there, c.requires.good.index)
 
 pub bounds-index-id-2 : goal.bounds-index-id-2
-bounds-index-id-2 t c = end_in _ _ _ c.before.requires.1.good _ c.before.requires.1.there
-
-pub overflow_cast-end : goal.overflow_cast-end
-overflow_cast-end t c = omega (arith, c.slice_known-6-1.given c.before.args.id)
+bounds-index-id-2 t c = end_in _ _ _ c.requires.good _ c.requires.there
 
 pub offset_bounds-words-start : goal.offset_bounds-words-start
-offset_bounds-words-start t c = omega (arith, start_in _ _ _ c.before.requires.1.good _ c.before.requires.1.there _ c.start_of-start.ensures, c.before.requires.1.good.words)
+offset_bounds-words-start t c = omega (arith, start_in _ _ _ c.requires.good _ c.requires.there _ c.start_of-start.ensures, c.requires.good.words)
 
 pub bounds-words-start : goal.bounds-words-start
-bounds-words-start t c = start_in _ _ _ c.before.requires.1.good _ c.before.requires.1.there _ c.start_of-start.ensures
-
-pub overflow_cast-head : goal.overflow_cast-head
-overflow_cast-head t c = omega (arith, c.slice_known-7-1.given c.start_of-start.result)
-
-pub image_of-value-requires : goal.image_of-value-requires
-image_of-value-requires t c = search rules
+bounds-words-start t c = start_in _ _ _ c.requires.good _ c.requires.there _ c.start_of-start.ensures
 
 pub overflow_add-memo-then-head-ge-SYMBOLS : goal.overflow_add-memo-then-head-ge-SYMBOLS
 overflow_add-memo-then-head-ge-SYMBOLS t c = omega (
       arith,
-      (sub_var _ _ _ _ _ _ c.before.requires.1 _ _ c.start_of-start.ensures c.if-head-ge-SYMBOLS.true c.image_of-value.ensures).stored.there,
-      c.before.requires.1.good.room,
+      (sub_var _ _ _ _ _ _ c.requires _ _ c.start_of-start.ensures c.if-head-ge-SYMBOLS.true c.image_of-value.ensures).stored.there,
+      c.requires.good.room,
     )
 
 pub overflow_cast-memo-then-head-ge-SYMBOLS : goal.overflow_cast-memo-then-head-ge-SYMBOLS
 overflow_cast-memo-then-head-ge-SYMBOLS t c = omega (
       arith,
-      (sub_var _ _ _ _ _ _ c.before.requires.1 _ _ c.start_of-start.ensures c.if-head-ge-SYMBOLS.true c.image_of-value.ensures).stored.there,
-      c.before.requires.1.good.room,
+      (sub_var _ _ _ _ _ _ c.requires _ _ c.start_of-start.ensures c.if-head-ge-SYMBOLS.true c.image_of-value.ensures).stored.there,
+      c.requires.good.room,
     )
 
-pub offset_bounds-memo-id-then-head-ge-SYMBOLS : goal.offset_bounds-memo-id-then-head-ge-SYMBOLS
-offset_bounds-memo-id-then-head-ge-SYMBOLS t c = search rules
-
-pub bounds-memo-id-then-head-ge-SYMBOLS : goal.bounds-memo-id-then-head-ge-SYMBOLS
-bounds-memo-id-then-head-ge-SYMBOLS t c = search rules
-
-pub shape_of-index-then-head-ge-SYMBOLS : goal.shape_of-index-then-head-ge-SYMBOLS
-shape_of-index-then-head-ge-SYMBOLS t c = search rules
-
-pub shape_of-memo-then-head-ge-SYMBOLS : goal.shape_of-memo-then-head-ge-SYMBOLS
-shape_of-memo-then-head-ge-SYMBOLS t c = search rules
-
 pub returns-then-head-ge-SYMBOLS : goal.returns-then-head-ge-SYMBOLS
-returns-then-head-ge-SYMBOLS t c = sub_var _ _ _ _ _ _ c.before.requires.1 _ _ c.start_of-start.ensures c.if-head-ge-SYMBOLS.true c.image_of-value.ensures
+returns-then-head-ge-SYMBOLS t c = sub_var _ _ _ _ _ _ c.requires _ _ c.start_of-start.ensures c.if-head-ge-SYMBOLS.true c.image_of-value.ensures
 
 pub overflow_add-at : goal.overflow_add-at
-overflow_add-at t c = omega (arith, start_in _ _ _ c.before.requires.1.good _ c.before.requires.1.there _ c.start_of-start.ensures, c.before.requires.1.good.words)
+overflow_add-at t c = omega (arith, start_in _ _ _ c.requires.good _ c.requires.there _ c.start_of-start.ensures, c.requires.good.words)
 
 pub loop-at-init : goal.loop-at-init
-loop-at-init t c = looping_begins _ _ _ _ _ _ _ c.before.requires.1 c.start_of-start.ensures c.if-head-ge-SYMBOLS.false
+loop-at-init t c = looping_begins _ _ _ _ _ _ _ c.requires c.start_of-start.ensures c.if-head-ge-SYMBOLS.false
 
 pub offset_bounds-words-at : goal.offset_bounds-words-at
 offset_bounds-words-at t c = omega (arith, arg_in _ _ _ _ _ _ _ _ _ _ _ _ _ c.loop-at.invariant c.loop-at-test.true, c.loop-at.invariant.grown.good.words)
@@ -113,24 +71,12 @@ offset_bounds-words-at t c = omega (arith, arg_in _ _ _ _ _ _ _ _ _ _ _ _ _ c.lo
 pub bounds-words-at : goal.bounds-words-at
 bounds-words-at t c = arg_in _ _ _ _ _ _ _ _ _ _ _ _ _ c.loop-at.invariant c.loop-at-test.true
 
-pub overflow_cast-arg : goal.overflow_cast-arg
-overflow_cast-arg t c = omega (arith, c.slice_known-in-loop-at-1.given c.loop-at.at)
-
 pub replace-requires : goal.replace-requires
 replace-requires t c = (
-      omega (arith, arg_falls _ _ _ _ _ _ _ _ _ _ _ _ _ c.loop-at.invariant c.loop-at-test.true, c.before.requires.0),
+      omega (arith, arg_falls _ _ _ _ _ _ _ _ _ _ _ _ _ c.loop-at.invariant c.loop-at-test.true),
       arg_ready _ _ _ _ _ _ _ _ _ _ _ _ _
           c.loop-at.invariant c.loop-at-test.true,
     )
-
-pub shape_of-index-in-Full : goal.shape_of-index-in-Full
-shape_of-index-in-Full t c = search rules
-
-pub shape_of-words-in-Full : goal.shape_of-words-in-Full
-shape_of-words-in-Full t c = search rules
-
-pub shape_of-memo-in-Full : goal.shape_of-memo-in-Full
-shape_of-memo-in-Full t c = search rules
 
 pub returns-in-Full : goal.returns-in-Full
 returns-in-Full t c = arm_full _ _ _ _ _ _ _ _ _ _ _ _ _ c.loop-at.invariant c.loop-at-test.true _ _ c.replace.new.memo c.replace.result
@@ -139,51 +85,30 @@ returns-in-Full t c = arm_full _ _ _ _ _ _ _ _ _ _ _ _ _ c.loop-at.invariant c.l
 pub overflow_add-at-in-loop-at : goal.overflow_add-at-in-loop-at
 overflow_add-at-in-loop-at t c = omega (arith, arg_in _ _ _ _ _ _ _ _ _ _ _ _ _ c.loop-at.invariant c.loop-at-test.true, c.loop-at.invariant.grown.good.words)
 
-pub loop-at-smaller : goal.loop-at-smaller
-loop-at-smaller t c = search rules
-
 pub loop-at-preserved : goal.loop-at-preserved
 loop-at-preserved t c = arm_term _ _ _ _ _ _ _ _ _ _ _ _ _ c.loop-at.invariant c.loop-at-test.true _ _ _ c.replace.result c.replace.ensures
     c.replace.auto.memo _ _ c.in-Term.is
 
 pub rebuild-requires : goal.rebuild-requires
-rebuild-requires t c = record { good = c.loop.invariant.grown.good; rebuildable = rebuildable _ _ _ _ _ _ _ _ _ _ _ _ _ c.loop.invariant c.loop-test.false; shaped = rebuilt_shaped _ _ _ _ _ _ _ _ _ _ _ _ _ c.loop.invariant
-            c.loop-test.false }
+rebuild-requires t c = record { good = c.loop-at.invariant.grown.good; rebuildable = rebuildable _ _ _ _ _ _ _ _ _ _ _ _ _ c.loop-at.invariant c.loop-at-test.false; shaped = rebuilt_shaped _ _ _ _ _ _ _ _ _ _ _ _ _ c.loop-at.invariant
+            c.loop-at-test.false }
 
 pub overflow_add-memo-in-Term-rebuild : goal.overflow_add-memo-in-Term-rebuild
-overflow_add-memo-in-Term-rebuild t c = let d = end_term _ _ _ _ _ _ _ _ _ _ _ _ _ c.loop.invariant c.loop-test.false _ _ c.rebuild.result c.rebuild.ensures _ _ c.in-Term-rebuild.is in
+overflow_add-memo-in-Term-rebuild t c = let d = end_term _ _ _ _ _ _ _ _ _ _ _ _ _ c.loop-at.invariant c.loop-at-test.false _ _ c.rebuild.result c.rebuild.ensures _ _ c.in-Term-rebuild.is in
     omega (arith, d.stored.there, d.stored.grown.good.room)
 
 pub overflow_cast-memo-in-Term-rebuild : goal.overflow_cast-memo-in-Term-rebuild
-overflow_cast-memo-in-Term-rebuild t c = let d = end_term _ _ _ _ _ _ _ _ _ _ _ _ _ c.loop.invariant c.loop-test.false _ _ c.rebuild.result c.rebuild.ensures _ _ c.in-Term-rebuild.is in
+overflow_cast-memo-in-Term-rebuild t c = let d = end_term _ _ _ _ _ _ _ _ _ _ _ _ _ c.loop-at.invariant c.loop-at-test.false _ _ c.rebuild.result c.rebuild.ensures _ _ c.in-Term-rebuild.is in
     omega (arith, d.stored.there, d.stored.grown.good.room)
 
 pub offset_bounds-memo-id-in-Term-rebuild : goal.offset_bounds-memo-id-in-Term-rebuild
-offset_bounds-memo-id-in-Term-rebuild t c = omega (arith, c.before.before.requires.1.there, c.before.before.requires.1.good.room)
+offset_bounds-memo-id-in-Term-rebuild t c = omega (arith, c.requires.there, c.requires.good.room)
 
 pub bounds-memo-id-in-Term-rebuild : goal.bounds-memo-id-in-Term-rebuild
-bounds-memo-id-in-Term-rebuild t c = omega (arith, c.loop.invariant.ready.inside, c.loop.invariant.long)
-
-pub shape_of-index-in-Term-rebuild : goal.shape_of-index-in-Term-rebuild
-shape_of-index-in-Term-rebuild t c = search rules
-
-pub shape_of-words-in-Term-rebuild : goal.shape_of-words-in-Term-rebuild
-shape_of-words-in-Term-rebuild t c = search rules
-
-pub shape_of-memo-in-Term-rebuild : goal.shape_of-memo-in-Term-rebuild
-shape_of-memo-in-Term-rebuild t c = search rules
+bounds-memo-id-in-Term-rebuild t c = omega (arith, c.loop-at.invariant.ready.inside, c.loop-at.invariant.long)
 
 pub returns-in-Term-rebuild : goal.returns-in-Term-rebuild
-returns-in-Term-rebuild t c = end_term _ _ _ _ _ _ _ _ _ _ _ _ _ c.loop.invariant c.loop-test.false _ _ c.rebuild.result c.rebuild.ensures _ _ c.in-Term-rebuild.is
-
-pub shape_of-index-in-Full-rebuild : goal.shape_of-index-in-Full-rebuild
-shape_of-index-in-Full-rebuild t c = search rules
-
-pub shape_of-words-in-Full-rebuild : goal.shape_of-words-in-Full-rebuild
-shape_of-words-in-Full-rebuild t c = search rules
-
-pub shape_of-memo-in-Full-rebuild : goal.shape_of-memo-in-Full-rebuild
-shape_of-memo-in-Full-rebuild t c = search rules
+returns-in-Term-rebuild t c = end_term _ _ _ _ _ _ _ _ _ _ _ _ _ c.loop-at.invariant c.loop-at-test.false _ _ c.rebuild.result c.rebuild.ensures _ _ c.in-Term-rebuild.is
 
 pub returns-in-Full-rebuild : goal.returns-in-Full-rebuild
-returns-in-Full-rebuild t c = end_full _ _ _ _ _ _ _ _ _ _ _ _ _ c.loop.invariant c.loop-test.false _ _ c.rebuild.result c.rebuild.ensures _ _ c.in-Full-rebuild.is
+returns-in-Full-rebuild t c = end_full _ _ _ _ _ _ _ _ _ _ _ _ _ c.loop-at.invariant c.loop-at-test.false _ _ c.rebuild.result c.rebuild.ensures _ _ c.in-Full-rebuild.is

@@ -7,3 +7,6 @@ invariant-loop-at l = Looping l.initial.index l.initial.words l.initial.m l.map 
 
 abbrev pub decreases-loop-at : goal.decreases-loop-at
 decreases-loop-at l = l.end - l.at
+
+abbrev pub decreases-replace : goal.decreases-replace
+decreases-replace l = l.id

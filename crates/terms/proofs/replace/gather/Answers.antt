@@ -17,9 +17,6 @@ offset_bounds-words-at c = omega (arith, gathering_word _ _ _ _ _ _ _ c.loop-at.
 pub bounds-words-at : goal.bounds-words-at
 bounds-words-at c = gathering_word _ _ _ _ _ _ _ c.loop-at.invariant c.loop-at-test.true
 
-pub overflow_cast-node : goal.overflow_cast-node
-overflow_cast-node c = omega (arith, c.shared_slice_known-in-loop-at-1.given c.loop-at.at)
-
 pub offset_bounds-memo-words : goal.offset_bounds-memo-words
 offset_bounds-memo-words c = omega (arith, (gathering_known _ _ _ _ _ _ _ c.loop-at.invariant c.loop-at-test.true).inside, c.well_formed.1.0.0, c.well_formed.1.0.1)
 

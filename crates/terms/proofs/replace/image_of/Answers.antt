@@ -6,9 +6,6 @@ use Rattle.terms.proofs.replace.image_of.Goals as goal
 pub returns-then-map-v : goal.returns-then-map-v
 returns-then-map-v c = image_out _ _ _ c.if-map-v.true
 
-pub overflow_cast-bound : goal.overflow_cast-bound
-overflow_cast-bound c = omega (arith, c.shared_slice_known-1.given c.args.v)
-
 pub returns-then-bound-eq0 : goal.returns-then-bound-eq0
 returns-then-bound-eq0 c = image_none _ _ _ _ refl c.if-bound-eq0.true
 

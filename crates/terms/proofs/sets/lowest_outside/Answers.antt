@@ -9,9 +9,6 @@ use Rattle.terms.proofs.sets.lowest_outside.Goals as goal
 pub loop-i-init : goal.loop-i-init
 loop-i-init c = (search rules, below_none _)
 
-pub overflow_cast-result : goal.overflow_cast-result
-overflow_cast-result c = omega (arith, trailing_le 64 (outside c.args.a.now c.args.b.now c.loop-i.i (c.shared_slice_known-in-loop-i-1.given c.loop-i.i).fits))
-
 pub overflow_add-result : goal.overflow_add-result
 overflow_add-result c = omega (arith, trailing_le 64 (outside c.args.a.now c.args.b.now c.loop-i.i (c.shared_slice_known-in-loop-i-1.given c.loop-i.i).fits))
 

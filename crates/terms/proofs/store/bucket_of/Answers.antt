@@ -6,9 +6,6 @@ use Rattle.terms.proofs.store.bucket_of.Goals as goal
 pub loop-i-init : goal.loop-i-init
 loop-i-init c = search hashing_begins
 
-pub overflow_cast-h : goal.overflow_cast-h
-overflow_cast-h c = omega (arith, c.shared_slice_known-1.given c.loop-i.i)
-
 pub overflow_add-h : goal.overflow_add-h
 overflow_add-h c = omega (arith, c.loop-i.invariant.small, c.shared_slice_known-1.given c.loop-i.i)
 

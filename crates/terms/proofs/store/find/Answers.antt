@@ -13,9 +13,6 @@ offset_bounds-index-bucket c = omega (arith, head_in _ _ _ _ _ c.requires.good c
 pub bounds-index-bucket : goal.bounds-index-bucket
 bounds-index-bucket c = head_in _ _ _ _ _ c.requires.good c.requires.bucket_value
 
-pub overflow_cast-at : goal.overflow_cast-at
-overflow_cast-at c = omega (arith, c.shared_slice_known-4-1.given (HEADS + c.args.bucket))
-
 pub loop-at-init : goal.loop-at-init
 loop-at-init c = λ m g s. seeking_begins _ _ m _ _ g s c.requires.bucket_value
 
@@ -27,9 +24,6 @@ offset_bounds-index-i c = let i = seeking_in _ _ _ _ _ (c.loop-at.invariant _ c.
 
 pub bounds-index-i : goal.bounds-index-i
 bounds-index-i c = let i = seeking_in _ _ _ _ _ (c.loop-at.invariant _ c.requires.good c.requires.shaped) c.loop-at-test.true in omega (arith, i, c.requires.good.room, c.requires.good.index)
-
-pub overflow_cast-index : goal.overflow_cast-index
-overflow_cast-index c = omega (arith, c.shared_slice_known-in-loop-at-1.given (c.loop-at.at - 1))
 
 pub is_node-requires : goal.is_node-requires
 is_node-requires c = seeking_asks _ _ _ _ _ (c.loop-at.invariant _ c.requires.good c.requires.shaped) c.loop-at-test.true _ c.start_of-start.ensures
@@ -45,9 +39,6 @@ offset_bounds-index-i-in-loop-at c = omega (arith, seeking_chain _ _ _ _ _ (c.lo
 
 pub bounds-index-i-in-loop-at : goal.bounds-index-i-in-loop-at
 bounds-index-i-in-loop-at c = seeking_chain _ _ _ _ _ (c.loop-at.invariant _ c.requires.good c.requires.shaped) c.loop-at-test.true
-
-pub overflow_cast-at-in-loop-at : goal.overflow_cast-at-in-loop-at
-overflow_cast-at-in-loop-at c = omega (arith, c.shared_slice_known-in-loop-at-2-1.given (CHAINS + (c.loop-at.at - 1)))
 
 pub loop-at-smaller : goal.loop-at-smaller
 loop-at-smaller c = seeking_falls _ _ _ _ _ (c.loop-at.invariant _ c.requires.good c.requires.shaped) c.loop-at-test.true

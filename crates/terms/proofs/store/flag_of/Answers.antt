@@ -7,17 +7,11 @@ use Rattle.terms.proofs.store.flag_of.Goals as goal
 pub bounds-node-0 : goal.bounds-node-0
 bounds-node-0 c = shaped_some _ c.requires.shaped
 
-pub overflow_cast-node : goal.overflow_cast-node
-overflow_cast-node c = omega (arith, c.shared_slice_known-1.given 0)
-
 pub returns-then-node-ge-SYMBOLS : goal.returns-then-node-ge-SYMBOLS
 returns-then-node-ge-SYMBOLS c = flag_var _ _ _ c.requires.shaped c.if-node-ge-SYMBOLS.true
 
 pub loop-i-init : goal.loop-i-init
 loop-i-init c = λ m g s. flagging_begins _ _ _ m g s c.if-node-ge-SYMBOLS.false
-
-pub overflow_cast-node-in-loop-i : goal.overflow_cast-node-in-loop-i
-overflow_cast-node-in-loop-i c = omega (arith, c.shared_slice_known-in-loop-i-1.given c.loop-i.i)
 
 pub overflow_add-node : goal.overflow_add-node
 overflow_add-node c = omega (arith, flagging_in _ _ _ _ _ (c.loop-i.invariant _ c.requires.good c.requires.shaped) c.loop-i-test.true, c.requires.good.index)

@@ -8,8 +8,5 @@ offset_bounds-words-start c = omega (arith, held_start _ _ _ c.requires _ c.star
 pub bounds-words-start : goal.bounds-words-start
 bounds-words-start c = held_start _ _ _ c.requires _ c.start_of-start.ensures
 
-pub overflow_cast-result : goal.overflow_cast-result
-overflow_cast-result c = omega (arith, c.shared_slice_known-3-1.given c.start_of-start.result)
-
 pub returns : goal.returns
 returns c = head_is_lem _ _ _ c.requires _ c.start_of-start.ensures

@@ -3,9 +3,6 @@ use Prim.Native.Nat.{◌-◌}
 use Rattle.terms.specs.Laws.Tables.{start_first, start_later}
 use Rattle.terms.proofs.store.start_of.Goals as goal
 
-pub overflow_cast-result : goal.overflow_cast-result
-overflow_cast-result c = omega (arith, c.shared_slice_known-1.given (c.args.id - 1))
-
 pub returns-then-id-eq0 : goal.returns-then-id-eq0
 returns-then-id-eq0 c = start_first _ _ c.if-id-eq0.true
 

@@ -7,85 +7,64 @@ use borrow.Author.Rules.{rules}
 use Rattle.terms.proofs.variables.+visit.Goals as goal
 
 pub overflow_add-id : goal.overflow_add-id
-overflow_add-id t c = omega (arith, flag_in _ _ _ c.requires.seen.0.good _ c.requires.seen.0.there, c.requires.seen.0.good.index)
+overflow_add-id t c = omega (arith, flag_in _ _ _ c.requires.readable.good _ c.requires.readable.there, c.requires.readable.good.index)
 
 pub offset_bounds-index-id : goal.offset_bounds-index-id
-offset_bounds-index-id t c = omega (arith, flag_in _ _ _ c.requires.seen.0.good _ c.requires.seen.0.there, c.requires.seen.0.good.index)
+offset_bounds-index-id t c = omega (arith, flag_in _ _ _ c.requires.readable.good _ c.requires.readable.there, c.requires.readable.good.index)
 
 pub bounds-index-id : goal.bounds-index-id
-bounds-index-id t c = flag_in _ _ _ c.requires.seen.0.good _ c.requires.seen.0.there
+bounds-index-id t c = flag_in _ _ _ c.requires.readable.good _ c.requires.readable.there
 
 pub returns-then-index-id-eq0 : goal.returns-then-index-id-eq0
-returns-then-index-id-eq0 t c = closed_done _ _ _ _ _ _ c.requires.seen.0.good c.requires.seen.0.there c.requires.seen.1 c.if-index-id-eq0.true
+returns-then-index-id-eq0 t c = closed_done _ _ _ _ _ _ c.requires.readable.good c.requires.readable.there c.requires.seen c.if-index-id-eq0.true
 
 pub has-requires : goal.has-requires
-has-requires t c = omega (arith, c.before.requires.1.0.there, c.before.requires.1.0.good.room, c.before.requires.1.0.wide)
-
-pub shape_of-seen-then-has : goal.shape_of-seen-then-has
-shape_of-seen-then-has t c = search rules
+has-requires t c = omega (arith, c.requires.readable.there, c.requires.readable.good.room, c.requires.readable.wide)
 
 pub returns-then-has : goal.returns-then-has
-returns-then-has t c = seen_done _ _ _ _ _ _ c.before.requires.1.1 (sym c.if-has.true ∙ c.has.ensures)
+returns-then-has t c = seen_done _ _ _ _ _ _ c.requires.seen (sym c.if-has.true ∙ c.has.ensures)
 
 pub start_of-start-requires : goal.start_of-start-requires
-start_of-start-requires t c = omega (arith, end_in _ _ _ c.before.requires.1.0.good _ c.before.requires.1.0.there)
+start_of-start-requires t c = omega (arith, end_in _ _ _ c.requires.readable.good _ c.requires.readable.there)
 
 pub offset_bounds-index-id-2 : goal.offset_bounds-index-id-2
-offset_bounds-index-id-2 t c = omega (arith, end_in _ _ _ c.before.requires.1.0.good _ c.before.requires.1.0.there, c.before.requires.1.0.good.index)
+offset_bounds-index-id-2 t c = omega (arith, end_in _ _ _ c.requires.readable.good _ c.requires.readable.there, c.requires.readable.good.index)
 
 pub bounds-index-id-2 : goal.bounds-index-id-2
-bounds-index-id-2 t c = end_in _ _ _ c.before.requires.1.0.good _ c.before.requires.1.0.there
-
-pub overflow_cast-end : goal.overflow_cast-end
-overflow_cast-end t c = omega (arith, c.shared_slice_known-4-1.given c.before.args.id)
+bounds-index-id-2 t c = end_in _ _ _ c.requires.readable.good _ c.requires.readable.there
 
 pub offset_bounds-words-start : goal.offset_bounds-words-start
-offset_bounds-words-start t c = omega (arith, start_in _ _ _ c.before.requires.1.0.good _ c.before.requires.1.0.there _ c.start_of-start.ensures, c.before.requires.1.0.good.words)
+offset_bounds-words-start t c = omega (arith, start_in _ _ _ c.requires.readable.good _ c.requires.readable.there _ c.start_of-start.ensures, c.requires.readable.good.words)
 
 pub bounds-words-start : goal.bounds-words-start
-bounds-words-start t c = start_in _ _ _ c.before.requires.1.0.good _ c.before.requires.1.0.there _ c.start_of-start.ensures
-
-pub overflow_cast-head : goal.overflow_cast-head
-overflow_cast-head t c = omega (arith, c.shared_slice_known-5-1.given c.start_of-start.result)
+bounds-words-start t c = start_in _ _ _ c.requires.readable.good _ c.requires.readable.there _ c.start_of-start.ensures
 
 pub insert-requires : goal.insert-requires
-insert-requires t c = var_fits _ _ _ _ _ _ c.before.requires.1.0 _ c.start_of-start.ensures c.if-head-ge-SYMBOLS.true
-
-pub shape_of-seen-then-head-ge-SYMBOLS : goal.shape_of-seen-then-head-ge-SYMBOLS
-shape_of-seen-then-head-ge-SYMBOLS t c = search rules
-
-pub shape_of-set-then-head-ge-SYMBOLS : goal.shape_of-set-then-head-ge-SYMBOLS
-shape_of-set-then-head-ge-SYMBOLS t c = search rules
+insert-requires t c = var_fits _ _ _ _ _ _ c.requires.readable _ c.start_of-start.ensures c.if-head-ge-SYMBOLS.true
 
 pub returns-then-head-ge-SYMBOLS : goal.returns-then-head-ge-SYMBOLS
-returns-then-head-ge-SYMBOLS t c = var_done _ _ _ _ c.before.requires.1.0.good c.before.requires.1.0.there _ c.start_of-start.ensures _ _ _ c.before.requires.1.1 c.if-head-ge-SYMBOLS.true c.insert.ensures
+returns-then-head-ge-SYMBOLS t c = var_done _ _ _ _ c.requires.readable.good c.requires.readable.there _ c.start_of-start.ensures _ _ _ c.requires.seen c.if-head-ge-SYMBOLS.true c.insert.ensures
 
 pub overflow_add-at : goal.overflow_add-at
-overflow_add-at t c = omega (arith, start_in _ _ _ c.before.requires.1.0.good _ c.before.requires.1.0.there _ c.start_of-start.ensures, c.before.requires.1.0.good.words)
+overflow_add-at t c = omega (arith, start_in _ _ _ c.requires.readable.good _ c.requires.readable.there _ c.start_of-start.ensures, c.requires.readable.good.words)
 
 pub loop-at-init : goal.loop-at-init
-loop-at-init t c = looping_begins _ _ _ _ _ _ _ c.before.requires.1.0 c.before.requires.1.1 c.if1.false c.start_of-start.ensures c.if-head-ge-SYMBOLS.false
+loop-at-init t c = looping_begins _ _ _ _ _ _ _ c.requires.readable c.requires.seen c.if-index-id-eq0.false c.start_of-start.ensures c.if-head-ge-SYMBOLS.false
 
 pub offset_bounds-words-at : goal.offset_bounds-words-at
-offset_bounds-words-at t c = omega (arith, arg_in _ _ _ _ _ _ _ _ _ _ _ c.loop-at.invariant c.loop-at-test.true, c.before.requires.1.0.good.words)
+offset_bounds-words-at t c = omega (arith, arg_in _ _ _ _ _ _ _ _ _ _ _ c.loop-at.invariant c.loop-at-test.true, c.requires.readable.good.words)
 
 pub bounds-words-at : goal.bounds-words-at
 bounds-words-at t c = arg_in _ _ _ _ _ _ _ _ _ _ _ c.loop-at.invariant c.loop-at-test.true
 
-pub overflow_cast-arg : goal.overflow_cast-arg
-overflow_cast-arg t c = omega (arith, c.shared_slice_known-in-loop-at-1.given c.loop-at.at)
-
 pub visit-requires : goal.visit-requires
 visit-requires t c = (
-      omega (arith, arg_falls _ _ _ _ _ _ _ _ _ _ _ c.loop-at.invariant c.loop-at-test.true, c.before.requires.0),
+      omega (arith, arg_falls _ _ _ _ _ _ _ _ _ _ _ c.loop-at.invariant c.loop-at-test.true),
       (arg_ready _ _ _ _ _ _ _ _ _ _ _ c.loop-at.invariant c.loop-at-test.true, c.loop-at.invariant.visits),
     )
 
 pub overflow_add-at-in-loop-at : goal.overflow_add-at-in-loop-at
-overflow_add-at-in-loop-at t c = omega (arith, arg_in _ _ _ _ _ _ _ _ _ _ _ c.loop-at.invariant c.loop-at-test.true, c.before.requires.1.0.good.words)
-
-pub loop-at-smaller : goal.loop-at-smaller
-loop-at-smaller t c = search rules
+overflow_add-at-in-loop-at t c = omega (arith, arg_in _ _ _ _ _ _ _ _ _ _ _ c.loop-at.invariant c.loop-at-test.true, c.requires.readable.good.words)
 
 pub loop-at-preserved : goal.loop-at-preserved
 loop-at-preserved t c = looping_on _ _ _ _ _ _ _ _ _ _ _ c.loop-at.invariant c.loop-at-test.true _ _ c.visit.auto.set c.visit.auto.seen

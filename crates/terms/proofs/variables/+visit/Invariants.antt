@@ -7,3 +7,6 @@ invariant-loop-at l = Looping l.index l.words l.mark l.id l.start l.end l.initia
 
 abbrev pub decreases-loop-at : goal.decreases-loop-at
 decreases-loop-at l = l.end - l.at
+
+abbrev pub decreases-visit : goal.decreases-visit
+decreases-visit l = l.id
