@@ -1,11 +1,7 @@
 use mathlib.Core.Path.{refl}
-use Prim.Native.Nat.{◌-◌}
 use native.Mathlib.Omega.{arith}
-use lib.ListN.{get_or}
-use Rattle.rules.specs.Limits.{SYMBOLS}
 use Rattle.terms.proofs.Matches.{reads_in}
 use Rattle.terms.proofs.BuildTerms.{cell_there, build_unbound, build_bound, building_begins, building_asks, building_falls, node_count, building_stops, built_there, built_room, building_on, node_ready, building_done, building_full}
-use borrow.Author.Rules.{rules}
 use Rattle.terms.proofs.patterns.+build.Goals as goal
 
 pub offset_bounds-patterns-at : goal.offset_bounds-patterns-at
@@ -43,17 +39,17 @@ loop-k-init t c = building_begins _ _ _ _ _ _ _ c.requires c.if-head-ge-SYMBOLS.
 
 pub build-requires : goal.build-requires
 build-requires t c = (
-      omega (arith, building_falls _ _ _ _ _ _ _ _ _ _ _ _ _ _ _ c.loop-k.invariant c.loop-k-test.true),
-      building_asks _ _ _ _ _ _ _ _ _ _ _
-          _ _ _ _ c.loop-k.invariant c.loop-k-test.true,
-    )
+  omega (arith, building_falls _ _ _ _ _ _ _ _ _ _ _ _ _ _ _ c.loop-k.invariant c.loop-k-test.true),
+  building_asks _ _ _ _ _ _ _ _ _ _ _
+      _ _ _ _ c.loop-k.invariant c.loop-k-test.true,
+)
 
 pub overflow_cast-node-in-Term : goal.overflow_cast-node-in-Term
 overflow_cast-node-in-Term t c = omega (
-      arith,
-      built_there _ _ _ _ _ _ _ _ _ _ _ _ _ _ _ c.loop-k.invariant c.loop-k-test.true _ _ _ c.build.ensures _ _ _ c.in-Term.is,
-      built_room _ _ _ _ _ _ _ _ _ _ _ _ _ _ _ c.loop-k.invariant c.loop-k-test.true _ _ _ c.build.ensures _ _ _ c.in-Term.is,
-    )
+  arith,
+  built_there _ _ _ _ _ _ _ _ _ _ _ _ _ _ _ c.loop-k.invariant c.loop-k-test.true _ _ _ c.build.ensures _ _ _ c.in-Term.is,
+  built_room _ _ _ _ _ _ _ _ _ _ _ _ _ _ _ c.loop-k.invariant c.loop-k-test.true _ _ _ c.build.ensures _ _ _ c.in-Term.is,
+)
 
 pub overflow_add-node : goal.overflow_add-node
 overflow_add-node t c = omega (arith, c.loop-k.invariant.few, c.loop-k-test.true)

@@ -1,10 +1,6 @@
-use Prim.Native.Nat.{◌-◌}
 use native.Mathlib.Omega.{arith}
-use lib.ListN.{get_or}
-use Rattle.rules.specs.Limits.{SYMBOLS}
 use Rattle.terms.proofs.Matches.{reads_in}
 use Rattle.terms.proofs.MatchTerms.{node_fits, term_new, term_same, term_differs, cell_in, term_head, term_count, looping_begins, looping_falls, looping_asks, looping_miss, looping_on, looping_ends}
-use borrow.Author.Rules.{rules}
 use Rattle.terms.proofs.patterns.+match_term.Goals as goal
 
 pub offset_bounds-patterns-at : goal.offset_bounds-patterns-at
@@ -96,10 +92,10 @@ bounds-words-k t c = omega (arith, c.loop-k.invariant.fits, c.loop-k-test.true)
 
 pub match_term-place-requires : goal.match_term-place-requires
 match_term-place-requires t c = (
-      omega (arith, looping_falls _ _ _ _ _ _ _ _ _ _ _ _ _ c.loop-k.invariant c.loop-k-test.true),
-      looping_asks _ _ _ _ _ _ _ _ _ _ _ _ _
-          c.loop-k.invariant c.loop-k-test.true,
-    )
+  omega (arith, looping_falls _ _ _ _ _ _ _ _ _ _ _ _ _ c.loop-k.invariant c.loop-k-test.true),
+  looping_asks _ _ _ _ _ _ _ _ _ _ _ _ _
+      c.loop-k.invariant c.loop-k-test.true,
+)
 
 pub returns-then-place-eq0 : goal.returns-then-place-eq0
 returns-then-place-eq0 t c = looping_miss _ _ _ _ _ _ _ _ _ _ _ _ _ c.loop-k.invariant c.loop-k-test.true _ _ c.match_term-place.ensures c.if-place-eq0.true

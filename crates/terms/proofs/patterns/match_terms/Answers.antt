@@ -1,5 +1,3 @@
-use Prim.Native.Nat.{◌-◌}
-use native.Mathlib.Omega.{arith}
 use Rattle.terms.proofs.MatchLists.{listing_begins, listing_asks, listing_miss, listing_on, listing_ends}
 use Rattle.terms.proofs.patterns.match_terms.Goals as goal
 

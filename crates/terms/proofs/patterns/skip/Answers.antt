@@ -1,4 +1,3 @@
-use Prim.Native.Nat.{◌-◌}
 use native.Mathlib.Omega.{arith}
 use Rattle.terms.proofs.Skips.{skipping_begins, skipping_in, skipping_on, skipping_ends}
 use Rattle.terms.proofs.patterns.skip.Goals as goal

@@ -1,9 +1,7 @@
-use Prim.Native.Nat.{◌-◌}
 use native.Mathlib.Omega.{arith}
 use Rattle.terms.specs.Laws.Terms.{flag_in, end_in, start_in}
 use Rattle.terms.proofs.Substs.{sub_known, sub_none, sub_var}
 use Rattle.terms.proofs.SubstLoop.{looping_begins, arg_in, arg_falls, arg_ready, arm_term, arm_full, rebuildable, rebuilt_shaped, end_full, end_term}
-use borrow.Author.Rules.{rules}
 use Rattle.terms.proofs.replace.+replace.Goals as goal
 
 pub returns-then-known-ne0 : goal.returns-then-known-ne0
@@ -44,17 +42,17 @@ bounds-words-start t c = start_in _ _ _ c.requires.good _ c.requires.there _ c.s
 
 pub overflow_add-memo-then-head-ge-SYMBOLS : goal.overflow_add-memo-then-head-ge-SYMBOLS
 overflow_add-memo-then-head-ge-SYMBOLS t c = omega (
-      arith,
-      (sub_var _ _ _ _ _ _ c.requires _ _ c.start_of-start.ensures c.if-head-ge-SYMBOLS.true c.image_of-value.ensures).stored.there,
-      c.requires.good.room,
-    )
+  arith,
+  (sub_var _ _ _ _ _ _ c.requires _ _ c.start_of-start.ensures c.if-head-ge-SYMBOLS.true c.image_of-value.ensures).stored.there,
+  c.requires.good.room,
+)
 
 pub overflow_cast-memo-then-head-ge-SYMBOLS : goal.overflow_cast-memo-then-head-ge-SYMBOLS
 overflow_cast-memo-then-head-ge-SYMBOLS t c = omega (
-      arith,
-      (sub_var _ _ _ _ _ _ c.requires _ _ c.start_of-start.ensures c.if-head-ge-SYMBOLS.true c.image_of-value.ensures).stored.there,
-      c.requires.good.room,
-    )
+  arith,
+  (sub_var _ _ _ _ _ _ c.requires _ _ c.start_of-start.ensures c.if-head-ge-SYMBOLS.true c.image_of-value.ensures).stored.there,
+  c.requires.good.room,
+)
 
 pub returns-then-head-ge-SYMBOLS : goal.returns-then-head-ge-SYMBOLS
 returns-then-head-ge-SYMBOLS t c = sub_var _ _ _ _ _ _ c.requires _ _ c.start_of-start.ensures c.if-head-ge-SYMBOLS.true c.image_of-value.ensures
@@ -73,10 +71,10 @@ bounds-words-at t c = arg_in _ _ _ _ _ _ _ _ _ _ _ _ _ c.loop-at.invariant c.loo
 
 pub replace-requires : goal.replace-requires
 replace-requires t c = (
-      omega (arith, arg_falls _ _ _ _ _ _ _ _ _ _ _ _ _ c.loop-at.invariant c.loop-at-test.true),
-      arg_ready _ _ _ _ _ _ _ _ _ _ _ _ _
-          c.loop-at.invariant c.loop-at-test.true,
-    )
+  omega (arith, arg_falls _ _ _ _ _ _ _ _ _ _ _ _ _ c.loop-at.invariant c.loop-at-test.true),
+  arg_ready _ _ _ _ _ _ _ _ _ _ _ _ _
+      c.loop-at.invariant c.loop-at-test.true,
+)
 
 pub returns-in-Full : goal.returns-in-Full
 returns-in-Full t c = arm_full _ _ _ _ _ _ _ _ _ _ _ _ _ c.loop-at.invariant c.loop-at-test.true _ _ c.replace.new.memo c.replace.result
@@ -90,8 +88,12 @@ loop-at-preserved t c = arm_term _ _ _ _ _ _ _ _ _ _ _ _ _ c.loop-at.invariant c
     c.replace.auto.memo _ _ c.in-Term.is
 
 pub rebuild-requires : goal.rebuild-requires
-rebuild-requires t c = record { good = c.loop-at.invariant.grown.good; rebuildable = rebuildable _ _ _ _ _ _ _ _ _ _ _ _ _ c.loop-at.invariant c.loop-at-test.false; shaped = rebuilt_shaped _ _ _ _ _ _ _ _ _ _ _ _ _ c.loop-at.invariant
-            c.loop-at-test.false }
+rebuild-requires t c = record {
+  good = c.loop-at.invariant.grown.good;
+  rebuildable = rebuildable _ _ _ _ _ _ _ _ _ _ _ _ _ c.loop-at.invariant c.loop-at-test.false;
+  shaped = rebuilt_shaped _ _ _ _ _ _ _ _ _ _ _ _ _ c.loop-at.invariant
+      c.loop-at-test.false;
+}
 
 pub overflow_add-memo-in-Term-rebuild : goal.overflow_add-memo-in-Term-rebuild
 overflow_add-memo-in-Term-rebuild t c = let d = end_term _ _ _ _ _ _ _ _ _ _ _ _ _ c.loop-at.invariant c.loop-at-test.false _ _ c.rebuild.result c.rebuild.ensures _ _ c.in-Term-rebuild.is in

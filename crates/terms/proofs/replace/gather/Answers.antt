@@ -1,5 +1,4 @@
-use Prim.Native.Nat.{◌-◌}
-use lib.ListN.{length, length-set}
+use lib.ListN.{length-set}
 use mathlib.Core.Path.{◌∙◌}
 use native.Mathlib.Omega.{arith}
 use Rattle.terms.proofs.Gathers.{gathering_begins, gathering_word, gathering_known, gathering_room, gathering_on, gathering_ends}

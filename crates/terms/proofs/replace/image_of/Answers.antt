@@ -1,4 +1,3 @@
-use native.Mathlib.Omega.{arith}
 use mathlib.Core.Path.{refl}
 use Rattle.terms.proofs.Gathers.{image_none, image_some, image_out}
 use Rattle.terms.proofs.replace.image_of.Goals as goal

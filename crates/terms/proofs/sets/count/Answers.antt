@@ -1,4 +1,3 @@
-use Prim.Native.Nat.{◌-◌}
 use Rattle.terms.proofs.SetWords.{count_none, count_more, count_all}
 use borrow.Author.Rules.{rules}
 use Rattle.terms.proofs.sets.count.Goals as goal

@@ -1,4 +1,3 @@
-use Prim.Native.Nat.{◌-◌}
 use Rattle.terms.proofs.SetWords.{joined_none, minus_more, minus_all}
 use Rattle.terms.proofs.sets.minus_from.Goals as goal
 

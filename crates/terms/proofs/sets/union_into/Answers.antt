@@ -1,4 +1,3 @@
-use Prim.Native.Nat.{◌-◌}
 use Rattle.terms.proofs.SetWords.{joined_none, or_more, or_all}
 use Rattle.terms.proofs.sets.union_into.Goals as goal
 

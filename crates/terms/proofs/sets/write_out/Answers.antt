@@ -1,4 +1,3 @@
-use Prim.Native.Nat.{◌-◌}
 use Rattle.terms.proofs.SetsOut.{all_begins, all_asks, all_on, all_done}
 use Rattle.terms.proofs.sets.write_out.Goals as goal
 

@@ -1,4 +1,3 @@
-use Prim.Native.Nat.{◌-◌}
 use native.Mathlib.Omega.{arith}
 use lib.Count.{trailing_le}
 use Rattle.terms.proofs.SetsOut.{laying_begins, skip_small, laying_fits, laying_on, laying_done}

@@ -1,4 +1,3 @@
-use Prim.Native.Nat.{◌-◌}
 use native.Mathlib.Omega.{arith}
 use Rattle.terms.proofs.Hash.{hashing_begins, hashing_on, hashing_ends}
 use Rattle.terms.proofs.store.bucket_of.Goals as goal

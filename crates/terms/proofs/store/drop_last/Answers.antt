@@ -1,4 +1,3 @@
-use Prim.Native.Nat.{◌-◌}
 use native.Mathlib.Omega.{arith}
 use Rattle.terms.proofs.Forgets.{last_fits, last_unlinks, last_gone}
 use Rattle.terms.proofs.store.drop_last.Goals as goal

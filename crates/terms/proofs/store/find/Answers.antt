@@ -1,6 +1,4 @@
-use Prim.Native.Nat.{◌+◌, ◌-◌}
 use native.Mathlib.Omega.{arith}
-use Rattle.terms.specs.Table.{HEADS, CHAINS}
 use Rattle.terms.proofs.Finds.{head_in, seeking_begins, seeking_in, seeking_chain, seeking_asks, seeking_hit, seeking_on, seeking_falls, seeking_none}
 use Rattle.terms.proofs.store.find.Goals as goal
 

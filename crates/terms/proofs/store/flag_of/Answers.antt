@@ -1,4 +1,3 @@
-use Prim.Native.Nat.{◌-◌}
 use native.Mathlib.Omega.{arith}
 use Rattle.terms.specs.Laws.Tables.{shaped_some}
 use Rattle.terms.proofs.Nodes.{flag_var, flagging_begins, flagging_in, flagging_hit, flagging_on, flagging_ends}

@@ -1,4 +1,3 @@
-use Prim.Native.Nat.{◌-◌}
 use native.Mathlib.Omega.{arith}
 use Rattle.terms.proofs.Words.{comparing_begins, comparing_on, comparing_not, comparing_in, comparing_ends, comparing_other}
 use Rattle.terms.proofs.store.is_node.Goals as goal

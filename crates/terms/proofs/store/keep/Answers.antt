@@ -15,6 +15,6 @@ link-requires c = keep_links _ _ _ _ c.requires.good _ c.bucket_of-bucket.ensure
 
 pub returns : goal.returns
 returns c = record {
-      says = keep_made _ _ _ _ c.requires.good c.requires.node _ c.bucket_of-bucket.ensures _ c.find-found.ensures c.if-found-ne0.false c.if-terms-ge-TERMS.false c.if-words-end.false _
-          c.flag_of-flag.ensures _ c.link.ensures _ c.write.ensures;
-    }
+  says = keep_made _ _ _ _ c.requires.good c.requires.node _ c.bucket_of-bucket.ensures _ c.find-found.ensures c.if-found-ne0.false c.if-terms-ge-TERMS.false c.if-words-end.false _
+      c.flag_of-flag.ensures _ c.link.ensures _ c.write.ensures;
+}

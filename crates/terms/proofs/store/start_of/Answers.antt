@@ -1,5 +1,3 @@
-use native.Mathlib.Omega.{arith}
-use Prim.Native.Nat.{◌-◌}
 use Rattle.terms.specs.Laws.Tables.{start_first, start_later}
 use Rattle.terms.proofs.store.start_of.Goals as goal
 

@@ -12,5 +12,8 @@ pub slice_bounds-clear-end-2 : goal.slice_bounds-clear-end-2
 slice_bounds-clear-end-2 c = part_again c.args.memo.now _ (next_fits _ _ c.requires.id_in_bounds.0) c.requires.id_in_bounds.1 c.replace-r.new.memo c.replace-r.auto.memo
 
 pub returns : goal.returns
-returns c = record { after = fresh_done _ _ _ _ _ _ _ c.replace-r.new.memo _ c.replace-r.result c.replace-r.ensures; memo_unchanged = part_wiped c.args.memo.now _ (next_fits _ _ c.requires.id_in_bounds.0) c.requires.id_in_bounds.1 c.replace-r.new.memo _ c.replace-r.auto.memo
-          c.clear.ensures }
+returns c = record {
+  after = fresh_done _ _ _ _ _ _ _ c.replace-r.new.memo _ c.replace-r.result c.replace-r.ensures;
+  memo_unchanged = part_wiped c.args.memo.now _ (next_fits _ _ c.requires.id_in_bounds.0) c.requires.id_in_bounds.1 c.replace-r.new.memo _ c.replace-r.auto.memo
+      c.clear.ensures;
+}

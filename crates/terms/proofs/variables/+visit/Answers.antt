@@ -1,9 +1,7 @@
 use mathlib.Core.Path.{sym, ◌∙◌}
-use Prim.Native.Nat.{◌-◌}
 use native.Mathlib.Omega.{arith}
 use Rattle.terms.specs.Laws.Terms.{flag_in, end_in, start_in}
 use Rattle.terms.proofs.Visits.{closed_done, seen_done, var_fits, var_done, looping_begins, arg_in, arg_falls, arg_ready, looping_on, looping_ends}
-use borrow.Author.Rules.{rules}
 use Rattle.terms.proofs.variables.+visit.Goals as goal
 
 pub overflow_add-id : goal.overflow_add-id
@@ -59,9 +57,9 @@ bounds-words-at t c = arg_in _ _ _ _ _ _ _ _ _ _ _ c.loop-at.invariant c.loop-at
 
 pub visit-requires : goal.visit-requires
 visit-requires t c = (
-      omega (arith, arg_falls _ _ _ _ _ _ _ _ _ _ _ c.loop-at.invariant c.loop-at-test.true),
-      (arg_ready _ _ _ _ _ _ _ _ _ _ _ c.loop-at.invariant c.loop-at-test.true, c.loop-at.invariant.visits),
-    )
+  omega (arith, arg_falls _ _ _ _ _ _ _ _ _ _ _ c.loop-at.invariant c.loop-at-test.true),
+  (arg_ready _ _ _ _ _ _ _ _ _ _ _ c.loop-at.invariant c.loop-at-test.true, c.loop-at.invariant.visits),
+)
 
 pub overflow_add-at-in-loop-at : goal.overflow_add-at-in-loop-at
 overflow_add-at-in-loop-at t c = omega (arith, arg_in _ _ _ _ _ _ _ _ _ _ _ c.loop-at.invariant c.loop-at-test.true, c.requires.readable.good.words)
