@@ -9,7 +9,7 @@ use lib.ListN.{length, get_or, set}
 use Rattle.rules.specs.Limits.{TERMS}
 use Rattle.rules.specs.Out.{Out, ok, refuse, then}
 use Rattle.rules.specs.Tree.{Tree, var, app, none, more}
-use Rattle.rules.specs.Store.{Made, number, keep}
+use Rattle.rules.specs.Store.{Made, keep}
 use Rattle.rules.specs.Laws.Store.{number_of_lem}
 use Rattle.terms.specs.declared.store.Mark.{Mark}
 use Rattle.terms.specs.declared.store.Kept.{Kept}

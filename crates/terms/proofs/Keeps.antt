@@ -11,7 +11,7 @@ use lib.Seq.{length-take-le, take_all, take_at, drop_at, drop-drop, get_or-take,
 use Rattle.rules.specs.Limits.{TERMS, WORDS, NODE}
 use Rattle.rules.specs.Out.{ok}
 use Rattle.rules.specs.Tree.{Tree, var, is_open}
-use Rattle.rules.specs.Store.{Made, number, words, keep}
+use Rattle.rules.specs.Store.{Made, number, keep}
 use Rattle.rules.specs.Laws.Store.{Apart, get_d_last, apart_more, number_of_lem, keep_old, keep_8, keep_9, keep_new}
 use Rattle.terms.specs.declared.store.Mark.{Mark}
 use Rattle.terms.specs.Table.{CHAINS, FLAGS, HEADS, INDEX, BUCKETS, run, start, node_at, tree_at, trees, made, hash, bucket, latest, flag}

@@ -9,7 +9,7 @@ use cells::write;
 use rules::{NODE, RULEVARS, SYMBOLS};
 
 // A term's number, the place behind the pattern's words and the mark; or the question that refuses, its detail and the mark of the moment.
-#[derive(Drop)]
+#[derive(Clone, Copy)]
 pub enum Built {
     Term(usize, usize, Mark),
     No(usize, usize, Mark),

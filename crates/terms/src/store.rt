@@ -21,14 +21,14 @@ const HEADS: usize = 3 * TERMS;
 const SPREAD: usize = 4294967296 / TERMS;
 
 // What is used of the tables.
-#[derive(Drop)]
+#[derive(Clone, Copy)]
 pub struct Mark {
     pub terms: usize,
     pub words: usize,
 }
 
 // A term's number, or the row of question 60 that has no room; and the mark of the moment.
-#[derive(Drop)]
+#[derive(Clone, Copy)]
 pub enum Kept {
     Term(usize, Mark),
     Full(usize, Mark),

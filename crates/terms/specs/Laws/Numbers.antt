@@ -7,7 +7,7 @@ use mathlib.Core.List.{List, [], ◌∷◌}
 use native.Mathlib.Omega.{arith}
 use Rattle.std.proofs.Math.Decide.{dec_lt, ℕ_discrete}
 use Rattle.rules.specs.Out.{Out, ok}
-use Rattle.rules.specs.Tree.{Tree, Trees, var, app, more, same_tree, same_trees}
+use Rattle.rules.specs.Tree.{Tree, Trees, var, app, same_tree, same_trees}
 use Rattle.rules.specs.Store.{Made, stored, number, make}
 use Rattle.rules.specs.StateTables.{numbers}
 use Rattle.rules.specs.Laws.Tree.{same_self, not_same}
