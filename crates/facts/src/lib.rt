@@ -8,7 +8,7 @@ ghost use Rattle.facts.specs.Table.{blank, appended, zeroed};
 // The number of its judgment; 1 if it is assumed; the first entry of its lists; how many hypotheses, premises and generalised variables they
 // have; the rules that it rests on, a bit each. Programs in other languages lend such records, so that their layout is C's.
 #[repr(C)]
-#[derive(Drop)]
+#[derive(Clone, Copy)]
 pub struct Fact {
     pub judgment: u32,
     pub assumed: u32,
