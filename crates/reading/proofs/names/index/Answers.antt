@@ -1,0 +1,22 @@
+use native.Mathlib.Omega.{arith}
+use Rattle.reading.proofs.Atoms.{item_atom_lem, item_list, first_there, first_inside, first_high, no_index, index_number, index_none}
+use Rattle.reading.proofs.names.index.Goals as goal
+
+pub item_at-requires : goal.item_at-requires
+item_at-requires c = first_there c.requires
+
+pub returns-in_default : goal.returns-in_default
+returns-in_default c = λ x ys h. no_index x (item_list h c.item_at.ensures c.in_default.is)
+
+pub atom_end-end-requires : goal.atom_end-end-requires
+atom_end-end-requires c = omega (arith, first_inside c.requires c.item_at.ensures c.in-Atom.is)
+
+pub slice_bounds-index_of-end : goal.slice_bounds-index_of-end
+slice_bounds-index_of-end c = first_high c.requires _ c.item_at.ensures c.in-Atom.is c.atom_end-end.ensures
+
+pub returns-in-Number : goal.returns-in-Number
+returns-in-Number c = λ x ys h. index_number _ (item_atom_lem h c.item_at.ensures c.in-Atom.is) c.atom_end-end.ensures c.index_of.ensures c.in-Number.is
+
+pub returns-in-Unreadable : goal.returns-in-Unreadable
+returns-in-Unreadable c = λ x ys h. index_none _ (item_atom_lem h c.item_at.ensures c.in-Atom.is) c.atom_end-end.ensures c.index_of.ensures
+    c.in-Unreadable.is
