@@ -1,0 +1,19 @@
+use native.Mathlib.Omega.{arith}
+use mathlib.Core.Path.{refl}
+use Rattle.terms.specs.Laws.Seen.{seen_none}
+use Rattle.referring.proofs.ScopeOutside.{outside_none, outside_some}
+use Rattle.referring.proofs.scope.outside.Goals as goal
+
+pub visit-requires : goal.visit-requires
+visit-requires c = record { readable = record { good = c.requires.recalls.0.good; there = c.requires.recalls.2; wide = omega arith; broad = omega arith }; seen = seen_none _ _ _ _ _ refl }
+
+pub hyp_vars-requires : goal.hyp_vars-requires
+hyp_vars-requires c = record { recalls = (c.requires.recalls.0, c.requires.recalls.1); hyps_len = (c.requires.hyps_len.0, c.visit.auto.seen, c.visit.auto.set); seen = c.visit.ensures.visits }
+
+pub returns-then-n-lowest : goal.returns-then-n-lowest
+returns-then-n-lowest c = λ g. outside_none c.args.used.now c.args.hyps.now c.requires.hyps_len.1 c.visit.ensures c.hyp_vars.ensures c.lowest_outside-lowest.ensures g
+    c.if-n-lowest.true
+
+pub returns : goal.returns
+returns c = λ g. outside_some c.args.used.now c.args.hyps.now c.requires.hyps_len.1 c.visit.ensures c.hyp_vars.ensures c.lowest_outside-lowest.ensures g
+    (omega (arith, c.if-n-lowest.false))
