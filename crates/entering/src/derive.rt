@@ -9,8 +9,8 @@ ghost use Rattle.induction.specs.Inducing.{IDS};
 ghost use Rattle.entering.specs.Inverted.{AddsInversion, InversionAs};
 
 use cells::clear;
-use deriving::apply::apply;
-use deriving::step::step;
+use derivation::apply::apply;
+use derivation::step::step;
 use induction::induct::{induct, induct_with};
 use inversion::invert::{Inverted, invert};
 use referring::derived::Derived;

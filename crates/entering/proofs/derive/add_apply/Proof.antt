@@ -8,7 +8,7 @@ use Rattle.entering.proofs.derive.add_apply.Statement.{statement}
 use Rattle.entering.proofs.derive.add_apply.Tie as tie
 use Rattle.entering.proofs.derive.add_apply.Reads as reads
 use Rattle.entering.proofs.derive.add_apply.Lts as lts
-use Rattle.deriving.proofs.apply.apply.Reads as apply-reads
+use Rattle.derivation.proofs.apply.apply.Reads as apply-reads
 use Rattle.entering.proofs.derive.enter.Reads as enter-reads
 
 -- src/derive.rt:169:9

@@ -9,7 +9,7 @@ use Rattle.entering.proofs.derive.add_step.Tie as tie
 use Rattle.entering.proofs.derive.add_step.Reads as reads
 use Rattle.entering.proofs.derive.add_step.Lts as lts
 use Rattle.entering.proofs.derive.enter.Reads as enter-reads
-use Rattle.deriving.proofs.step.step.Reads as step-reads
+use Rattle.derivation.proofs.step.step.Reads as step-reads
 
 -- src/derive.rt:113:9
 slice-aggregate-step : tie.Need-slice-aggregate-step

@@ -1,0 +1,293 @@
+-- The form `apply` from its index on: what each part of it answers, and what the next part is given. Assumes nothing.
+use mathlib.Core.Path.{◌≡◌, refl, sym, ap, ◌∙◌, subst}
+use mathlib.Core.Bool.{Bool, true, false, not}
+use mathlib.Core.List.{List, []}
+use Prim.Native.Nat.{ℕ, ◌-◌, ◌<◌, ◌≤◌}
+use native.Mathlib.Omega.{arith}
+use lib.Dec.{eqb, ltb}
+use lib.ListN.{length, take, drop}
+use borrow.Author.Tests.{eq-eqb, ne_eqb}
+use Rattle.rules.specs.Out.{Out, ok, refuse, then, ask, found}
+use Rattle.rules.specs.Sexp.{Sexp, Sexps, cons, count, item, rest, items}
+use Rattle.rules.specs.Tree.{Tree, count_trees, sub}
+use Rattle.rules.specs.Store.{Made, substitute}
+use Rattle.rules.specs.Unify.{Binding, along}
+use Rattle.rules.specs.State.{State, Fact}
+use Rattle.rules.specs.Reference.{bindings as read_bindings}
+use Rattle.rules.specs.Apply.{Applied, applied, apply}
+use Rattle.rules.specs.Laws.Sexp.{rest_item}
+use Rattle.rules.specs.Laws.MakingWalk.{substitute_keeps}
+use Rattle.sexp.specs.Encode.{encodes}
+use Rattle.sexp.specs.Items.{Holds, item_of, place}
+use Rattle.sexp.specs.WalkLaws.{ListIs, nth_atom}
+use Rattle.sexp.specs.NthItem.{nth_part, place_high, rest_holds}
+use Rattle.sexp.specs.NameRows.{found_of}
+use Rattle.sexp.specs.FoundLaws.{found_at, found_missing}
+use Rattle.sexp.specs.declared.items.Item.{Item}
+use Rattle.sexp.specs.declared.items.Item.TheVariants.{Atom, List as Part}
+use Rattle.sexp.specs.declared.names.Found.{Found}
+use Rattle.sexp.specs.declared.names.Found.TheVariants as found
+use Rattle.terms.specs.declared.store.Mark.{Mark}
+use Rattle.terms.specs.declared.store.Kept.{Kept}
+use Rattle.terms.specs.declared.store.Kept.TheVariants as kept
+use Rattle.terms.specs.Table.{made, tree, After, Stored}
+use Rattle.terms.specs.Subst.{replacement, substituted, Replaceable}
+use Rattle.terms.specs.Theta.{Theta, bindings}
+use Rattle.terms.specs.On.{On, Stopped, stored_went, refused_stopped, on_start, on_is, on_ok, on_no, on_pure, on_stop, on_went, on_stopped, on_ask_yes, on_ask_no, on_found_some, on_found_none}
+use Rattle.terms.specs.Laws.Answers.{after_term, after_full}
+use Rattle.terms.specs.Laws.Growth.{made_length}
+use Rattle.terms.specs.Laws.Numbers.{stored_is}
+use Rattle.terms.specs.Laws.Theta.{bindings_grown, theta_grown}
+use Rattle.state.specs.declared.sizes.Sizes.{Sizes}
+use Rattle.state.specs.Held.{Names, records}
+use Rattle.state.specs.Rows.{cell}
+use Rattle.state.specs.FactLaws.{FactRow, fact_row_lem}
+use Rattle.reading.specs.declared.bindings.Bound.{Bound}
+use Rattle.reading.specs.declared.bindings.Bound.TheVariants as bounds
+use Rattle.referring.specs.declared.derived.Derived.{Derived}
+use Rattle.referring.specs.declared.derived.Derived.TheVariants as derived
+use Rattle.reading.specs.Items.{FirstItem, index_in, index_found}
+use Rattle.reading.specs.Given.{ReadsItems}
+use Rattle.reading.specs.Answers.{BindingsRead, BindingsAs}
+use Rattle.referring.specs.Recall.{fact_of, Refers}
+use Rattle.referring.specs.Derived.{FactForm, DerivedAs, alone}
+use Rattle.derivation.specs.Applying.{RuleFact, rule_of, ApplicableAs, premise_numbers, apply_to, apply_on, RuleUse}
+use Rattle.reading.specs.Laws.Bindings.{substitute_along}
+use Rattle.state.specs.Looking.{not_late, is_late}
+use Rattle.referring.specs.Laws.Refers.{refers_ready, refers_went, refers_bindings, fact_found, fact_none}
+use Rattle.derivation.proofs.RuleFacts.{rule_assumed_lem, rule_derived_lem}
+use Rattle.derivation.proofs.RulePremises.{premises_numbered}
+
+-- an answer for what is left is the answer
+module _ {I W J X : List ℕ} {m mid : Mark} {K left : Out Made Fact} (o : On I W m K J X mid left) (Y Z : List ℕ) (S : State) (hyps footing : List ℕ) where
+  derived_on : (v : Derived) → DerivedAs Fact J X Y Z mid S left alone hyps footing v → DerivedAs Fact I W Y Z m S K alone hyps footing v
+  derived_on (derived.Ok j k new) d = record { went = on_went o d.went; there = d.there; earlier = d.earlier; known = d.known }
+  derived_on (derived.No q d new) s = on_stopped o s
+
+-- its conclusion is the fact's judgment
+rule_concludes : (S : State) (i : ℕ) (f : Fact) → (rule_of S i f).conclusion ≡ f.judgment
+rule_concludes S i f = go f.assumed refl
+  where
+    go : (b : Bool) → f.assumed ≡ b → (rule_of S i f).conclusion ≡ f.judgment
+    go true e = ap (λ (a : Applied). a.conclusion) (rule_assumed_lem S [] i f e)
+    go false e = ap (λ (a : Applied). a.conclusion) (rule_derived_lem S [] i f e)
+
+-- Behind the bindings ----------------------------------------------------------------------------------------------------------------------
+
+module _ {K : Names} {facts footings lists : List ℕ} {n : Sizes} {I W : List ℕ} {m : Mark} {cells : List ℕ} (g : FactForm K facts footings lists n I W m cells 5)
+    {bound : List ℕ} (θ : Theta m bound) (i : ℕ) where
+  abbrev rule_all : Out Made Fact
+  rule_all = apply_on g.S i g.xs (bindings (made I W m) bound 0) (made I W m)
+
+  abbrev rule : Applied
+  rule = rule_of g.S i (fact_of g.S i)
+
+  -- b: what `is_fact` answers
+  module _ {b : Bool} (e : b ≡ ltb i n.facts) where
+    pub rule_late : not b ≡ true → Stopped I W I W m rule_all 34 0 m
+    rule_late t = on_stop _ (on_start g.refers.reads.good) (fact_none g.refers.recorded (made I W m) (is_late i n.facts b e t))
+
+    module _ (there : not b ≡ false) where
+      pub rule_early : i < n.facts
+      rule_early = not_late i n.facts b e there
+
+      abbrev pub rule_fact : RuleFact facts lists i
+      rule_fact = record { S = g.S; n = n; trees = made I W m; footings = footings; recorded = g.refers.recorded; there = rule_early }
+
+      rule_row_lem : FactRow (records facts footings lists) n (made I W m) g.S i (fact_of g.S i)
+      rule_row_lem = fact_row_lem g.refers.recorded i rule_early
+
+      on_fact : On I W m rule_all I W m (then (applied g.S (bindings (made I W m) bound 0) i (fact_of g.S i) (made I W m)) (λ a U.
+          then (items 37 (item g.xs 4) U) (λ zs T. then (ask 37 (eqb (count zs) (count_trees a.premises)) T) (λ u Z.
+          then (substitute (along (bindings (made I W m) bound 0)) a.conclusion Z) (λ j Q. apply_to g.S (bindings (made I W m) bound 0) a zs j Q)))))
+      on_fact = on_pure _ (on_start g.refers.reads.good) (fact_found g.refers.recorded (made I W m) rule_early)
+
+      -- q: what `applicable` answers
+      module _ {q : ℕ} (a : (h : RuleFact facts lists i) (M : Made) → ApplicableAs h.S (bindings M bound 0) i (fact_of h.S i) q) where
+        pub rule_unfit : (q ≡ 0 → ⊥) → Stopped I W I W m rule_all q 0 m
+        rule_unfit z =
+            on_stop _ on_fact (a rule_fact (made I W m) (made I W m)
+            ∙ ap (λ (c : Bool). elim c as (λ (x : Bool). Out Made Applied) [ true ↦ ok rule (made I W m) | false ↦ refuse q 0 (made I W m) ]) (ne_eqb q 0 z))
+
+        module _ (z : q ≡ 0) where
+          on_applied : On I W m rule_all I W m (then (items 37 (item g.xs 4) (made I W m)) (λ zs T. then (ask 37 (eqb (count zs) (count_trees rule.premises)) T) (λ u Z.
+              then (substitute (along (bindings (made I W m) bound 0)) rule.conclusion Z) (λ j Q. apply_to g.S (bindings (made I W m) bound 0) rule zs j Q))))
+          on_applied =
+              on_pure _ on_fact (a rule_fact (made I W m) (made I W m)
+              ∙ ap (λ (c : Bool). elim c as (λ (x : Bool). Out Made Applied) [ true ↦ ok rule (made I W m) | false ↦ refuse q 0 (made I W m) ]) (eq-eqb q 0 z))
+
+          -- thing: item 4
+          module _ {thing : Item} (c : (ys : Sexps) → cells ≡ encodes ys → thing ≡ item_of (place ys 4) (item ys 4)) where
+            pub rule_atom : {p : ℕ} → thing ≡ Atom p → Stopped I W I W m rule_all 37 0 m
+            unfolding items
+            rule_atom f =
+                on_stop _ on_applied (ap (λ (x : Sexp). items 37 x (made I W m)) (nth_atom g.holds 4 (c g.xs g.holds.cells) f).is)
+
+            module _ {s t : ℕ} (f : thing ≡ Part s t) where
+              pub rule_list_lem : ListIs K.text cells (item g.xs 4) s t
+              rule_list_lem = nth_part g.holds 4 c (omega (arith, g.many)) f
+
+              on_items : On I W m rule_all I W m (then (ask 37 (eqb (count rule_list_lem.items) (count_trees rule.premises)) (made I W m)) (λ u Z.
+                  then (substitute (along (bindings (made I W m) bound 0)) rule.conclusion Z) (λ j Q. apply_to g.S (bindings (made I W m) bound 0) rule rule_list_lem.items j Q)))
+              unfolding items
+              on_items = on_pure _ on_applied (ap (λ (x : Sexp). items 37 x (made I W m)) rule_list_lem.is)
+
+              -- k, p: what `count` and `premises_of` answer
+              module _ {k p : ℕ} (d : (ys : Sexps) → take (t - s) (drop s cells) ≡ encodes ys → k ≡ count ys)
+                  (o : (l : List ℕ) → RuleFact facts l i → p ≡ length (premise_numbers facts l i)) where
+                items_many : count rule_list_lem.items ≡ k
+                items_many = sym (d rule_list_lem.items rule_list_lem.holds.cells)
+
+                premises_many : count_trees rule.premises ≡ p
+                premises_many = sym (premises_numbered g.refers.recorded rule_early).many ∙ sym (o lists rule_fact)
+
+                pub rule_other : (k ≡ p → ⊥) → Stopped I W I W m rule_all 37 0 m
+                rule_other x = on_ask_no _ 37 on_items (ne_eqb _ _ (λ y. x (sym items_many ∙ y ∙ premises_many)))
+
+                module _ (x : k ≡ p) where
+                  on_many : On I W m rule_all I W m (then (substitute (along (bindings (made I W m) bound 0)) rule.conclusion (made I W m))
+                      (λ j Q. apply_to g.S (bindings (made I W m) bound 0) rule rule_list_lem.items j Q))
+                  on_many = on_ask_yes _ 37 on_items (eq-eqb _ _ (items_many ∙ x ∙ sym premises_many))
+
+                  -- id: the fact's judgment
+                  module _ {id : ℕ} (y : id ≡ cell 6 facts i 0) where
+                    pub rule_replaceable : Replaceable I W m bound id
+                    rule_replaceable =
+                        record { good = g.refers.reads.good; bound = θ.bound; there = omega (arith, y, rule_row_lem.judgment.below, made_length I W m) }
+
+                    conclusion_is : tree I W m id ≡ rule.conclusion
+                    conclusion_is = ap (λ (h : ℕ). tree I W m h) y ∙ rule_row_lem.judgment.tree ∙ sym (rule_concludes g.S i (fact_of g.S i))
+
+                    on_judgment : On I W m rule_all I W m (then (substitute (along (bindings (made I W m) bound 0)) (tree I W m id) (made I W m))
+                        (λ j Q. apply_to g.S (bindings (made I W m) bound 0) rule rule_list_lem.items j Q))
+                    on_judgment =
+                        on_is on_many (ap (λ (u : Tree). then (substitute (along (bindings (made I W m) bound 0)) u (made I W m))
+                        (λ j Q. apply_to g.S (bindings (made I W m) bound 0) rule rule_list_lem.items j Q)) (sym conclusion_is))
+
+                    -- r: what `substitute` answers
+                    module _ (J X : List ℕ) (r : Kept)
+                        (w : After I W J X m (substituted I W m bound id) (substitute (replacement (made I W m) bound) (tree I W m id) (made I W m)) r) where
+                      pub rule_full : {row : ℕ} {new : Mark} → r ≡ kept.Full row new → Stopped I W J X m rule_all 60 row new
+                      rule_full h = on_no _ on_judgment (refused_stopped (after_full (substitute_along bound id w) h))
+
+                      module _ {j : ℕ} {mid : Mark} (h : r ≡ kept.Term j mid) where
+                        rule_stored : Stored I W J X m (sub (along (bindings (made I W m) bound 0)) (tree I W m id))
+                            (substitute (along (bindings (made I W m) bound 0)) (tree I W m id) (made I W m)) j mid
+                        rule_stored = after_term (substitute_along bound id w) h
+
+                        pub rule_there : j < mid.terms
+                        rule_there = rule_stored.there
+
+                        pub rule_refers : Refers K facts footings lists n J X mid g.S
+                        rule_refers =
+                            refers_went g.refers
+                            (substitute_keeps (along (bindings (made I W m) bound 0)) (tree I W m id) (made I W m) (refers_ready g.refers).good) (stored_went rule_stored)
+
+                        pub rule_many : count rule_list_lem.items ≡ length (premise_numbers facts lists i)
+                        rule_many = items_many ∙ x ∙ o lists rule_fact
+
+                        pub rule_theta : Theta mid bound
+                        rule_theta = theta_grown rule_stored.grown θ
+
+                        abbrev pub rule_given : RuleUse K facts footings lists n J X mid i (take (t - s) (drop s cells)) bound
+                        rule_given =
+                            record {
+                              S = g.S;
+                              xs = rule_list_lem.items;
+                              refers = rule_refers;
+                              there = rule_early;
+                              holds = rule_list_lem.holds;
+                              many = rule_many;
+                              theta = rule_theta;
+                            }
+
+                        on_last : On I W m rule_all J X mid (apply_to g.S (bindings (made J X mid) bound 0) rule rule_list_lem.items (tree J X mid j) (made J X mid))
+                        on_last =
+                            on_is (on_ok _ on_judgment (stored_went rule_stored))
+                            (ap (λ (u : Tree). apply_to g.S (bindings (made I W m) bound 0) rule rule_list_lem.items u (made J X mid)) (sym (stored_is rule_stored))
+                            ∙ ap (λ (bs : List Binding). apply_to g.S bs rule rule_list_lem.items (tree J X mid j) (made J X mid)) (sym (bindings_grown rule_stored.grown θ)))
+
+                        -- v: what `apply_to` answers
+                        pub rule_answers : (Y Z hyps footing : List ℕ) (v : Derived) → ((h : RuleUse K facts footings lists n J X mid i (take (t - s) (drop s cells)) bound) →
+                            DerivedAs Fact J X Y Z mid h.S (apply_to h.S (bindings (made J X mid) bound 0) (rule_of h.S i (fact_of h.S i)) h.xs (tree J X mid j) (made J X mid)) alone hyps footing v) →
+                            DerivedAs Fact I W Y Z m g.S rule_all alone hyps footing v
+                        rule_answers Y Z hyps footing v u = derived_on on_last Y Z g.S hyps footing v (u rule_given)
+
+-- The whole form ---------------------------------------------------------------------------------------------------------------------------
+
+-- behind its index
+abbrev behind_index : State → Sexps → ℕ → Made → Out Made Fact
+behind_index S xs i U = then (items 36 (item xs 3) U) (λ ys T. then (read_bindings S ys [] T) (λ bs Z. apply_on S i xs bs Z))
+
+apply_is : (S : State) (xs : Sexps) (M : Made) → apply S xs M ≡ then (found 34 (index_in (item xs 2)) M) (behind_index S xs)
+unfolding apply
+apply_is S xs M = ap (λ (o : Out Made ℕ). then o (behind_index S xs)) (index_found 34 (item xs 2) M)
+
+module _ {K : Names} {facts footings lists : List ℕ} {n : Sizes} {I W : List ℕ} {m : Mark} {cells : List ℕ} (g : FactForm K facts footings lists n I W m cells 5) where
+  abbrev form_all : Out Made Fact
+  form_all = apply g.S g.xs (made I W m)
+
+  on_begin : On I W m form_all I W m (then (found 34 (index_in (item g.xs 2)) (made I W m)) (behind_index g.S g.xs))
+  on_begin = on_is (on_start g.refers.reads.good) (apply_is g.S g.xs (made I W m))
+
+  module _ {at : ℕ} (p : (ys : Sexps) → cells ≡ encodes ys → at ≡ place ys 2) where
+    pub index_high : at ≤ length cells
+    index_high = place_high g.holds 2 p
+
+    index_holds : Holds K.text (take (length cells - at) (drop at cells)) (cons (item g.xs 2) (rest g.xs 3))
+    index_holds =
+        subst (λ (ys : Sexps). Holds K.text (take (length cells - at) (drop at cells)) ys) (rest_item g.xs 2 (omega (arith, g.many))) (rest_holds g.holds 2 p)
+
+    pub index_given : FirstItem K.text (take (length cells - at) (drop at cells))
+    index_given = record { x = item g.xs 2; ys = rest g.xs 3; holds = index_holds }
+
+    -- r: what `index` answers
+    module _ {r : Found} (h : (x : Sexp) (ys : Sexps) → Holds K.text (take (length cells - at) (drop at cells)) (cons x ys) → r ≡ found_of (index_in x)) where
+      pub index_missing : r ≡ found.Missing → Stopped I W I W m form_all 34 0 m
+      index_missing e = on_found_none _ 34 on_begin (found_missing (index_in (item g.xs 2)) r (h (item g.xs 2) (rest g.xs 3) index_holds) e)
+
+      module _ {i : ℕ} (e : r ≡ found.At i) where
+        on_index : On I W m form_all I W m (behind_index g.S g.xs i (made I W m))
+        on_index = on_found_some _ 34 on_begin (found_at (index_in (item g.xs 2)) r i (h (item g.xs 2) (rest g.xs 3) index_holds) e)
+
+        -- thing: item 3
+        module _ {thing : Item} (c : (ys : Sexps) → cells ≡ encodes ys → thing ≡ item_of (place ys 3) (item ys 3)) where
+          pub form_atom_lem : {q : ℕ} → thing ≡ Atom q → Stopped I W I W m form_all 36 0 m
+          unfolding items
+          form_atom_lem f = on_stop _ on_index (ap (λ (x : Sexp). items 36 x (made I W m)) (nth_atom g.holds 3 (c g.xs g.holds.cells) f).is)
+
+          module _ {s t : ℕ} (f : thing ≡ Part s t) where
+            pub form_list : ListIs K.text cells (item g.xs 3) s t
+            form_list = nth_part g.holds 3 c (omega (arith, g.many)) f
+
+            abbrev pub bindings_given : ReadsItems K n I W m (take (t - s) (drop s cells))
+            bindings_given = record { S = g.S; xs = form_list.items; reads = g.refers.reads; holds = form_list.holds }
+
+            on_list : On I W m form_all I W m (then (read_bindings g.S form_list.items [] (made I W m)) (λ bs Z. apply_on g.S i g.xs bs Z))
+            unfolding items
+            on_list = on_pure _ on_index (ap (λ (x : Sexp). items 36 x (made I W m)) form_list.is)
+
+            -- b: what `bindings` answers
+            module _ (J X before map : List ℕ) (b : Bound) (d : (h : ReadsItems K n I W m (take (t - s) (drop s cells))) →
+                BindingsAs I W J X m (read_bindings h.S h.xs [] (made I W m)) before map b) where
+              form_bound : {a : Bound} → b ≡ a → BindingsAs I W J X m (read_bindings g.S form_list.items [] (made I W m)) before map a
+              form_bound w = subst (λ (z : Bound). BindingsAs I W J X m (read_bindings g.S form_list.items [] (made I W m)) before map z) w (d bindings_given)
+
+              pub form_refused : {q e : ℕ} {new : Mark} → b ≡ bounds.No q e new → Stopped I W J X m form_all q e new × (map ≡ before)
+              form_refused {q} {e} {new} w = (on_no _ on_list (form_bound {a = bounds.No q e new} w).0, (form_bound {a = bounds.No q e new} w).1)
+
+              module _ {mid : Mark} (w : b ≡ bounds.Ok mid) where
+                pub form_read : BindingsRead I W J X m (read_bindings g.S form_list.items [] (made I W m)) map mid
+                form_read = form_bound w
+
+                pub form_refers : Refers K facts footings lists n J X mid g.S
+                form_refers = refers_bindings g.refers form_list.items form_read.went
+
+                abbrev pub form_given : FactForm K facts footings lists n J X mid cells 5
+                form_given = record { S = g.S; xs = g.xs; refers = form_refers; holds = g.holds; many = g.many }
+
+                -- v: what `apply_on` answers
+                pub form_answers : (Y Z hyps footing : List ℕ) (v : Derived) → ((h : FactForm K facts footings lists n J X mid cells 5) →
+                    DerivedAs Fact J X Y Z mid h.S (apply_on h.S i h.xs (bindings (made J X mid) map 0) (made J X mid)) alone hyps footing v) →
+                    DerivedAs Fact I W Y Z m g.S form_all alone hyps footing v
+                form_answers Y Z hyps footing v u = derived_on (on_ok _ on_list form_read.went) Y Z g.S hyps footing v (u form_given)

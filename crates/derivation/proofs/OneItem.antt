@@ -1,0 +1,342 @@
+-- One item of a step, a binding or the conclusion: what it is for each answer, and what its parts are given. Assumes nothing.
+use mathlib.Core.Path.{◌≡◌, refl, sym, ap, ◌∙◌, subst}
+use mathlib.Core.Bool.{Bool, true, false, ◌&&◌}
+use mathlib.Core.List.{List}
+use mathlib.Core.Option.{Option}
+use Prim.Native.Nat.{ℕ, ◌+◌, ◌-◌, ◌^◌, ◌<◌, ◌≤◌}
+use native.Mathlib.Omega.{arith}
+use lib.Dec.{eqb}
+use lib.ListN.{length, get_or, set, take, drop}
+use borrow.Author.Tests.{eq-eqb, ne_eqb, eqb-true}
+use Rattle.rules.specs.Limits.{RULEVARS}
+use Rattle.rules.specs.Out.{Out, ok, then, Act, ask, found as find}
+use Rattle.rules.specs.Text.{same}
+use Rattle.rules.specs.Lex.{letters}
+use Rattle.rules.specs.Sexp.{Sexp, Sexps, atom, list, nil, cons, count, item, name, items, marked}
+use Rattle.rules.specs.Find.{first}
+use Rattle.rules.specs.Tree.{Tree}
+use Rattle.rules.specs.Store.{Made}
+use Rattle.rules.specs.Theory.{Theory, Rule, RuleVar, no_rule, rule}
+use Rattle.rules.specs.Declare.{no_rule_var, is_new}
+use Rattle.rules.specs.State.{State}
+use Rattle.rules.specs.Read.{term_of, judgment}
+use Rattle.rules.specs.Step.{Items, bind_item, state_item, read_item}
+use Rattle.rules.specs.Laws.Theory.{all_at}
+use Rattle.sexp.specs.Encode.{encodes}
+use Rattle.sexp.specs.Items.{Holds, Items as SomeItems, item_at}
+use Rattle.sexp.specs.ItemLaws.{More, at_inside}
+use Rattle.sexp.specs.WalkLaws.{ListIs, walk_start, walk_atom, walk_list}
+use Rattle.sexp.specs.AtomText.{atom_part}
+use Rattle.sexp.specs.FirstItem.{AtomFirst, none_left, atom_first, list_first}
+use Rattle.sexp.specs.NameRows.{found_of}
+use Rattle.sexp.specs.FoundLaws.{found_at, found_missing, found_entry}
+use Rattle.sexp.specs.declared.items.Item.{Item}
+use Rattle.sexp.specs.declared.items.Item.TheVariants.{Atom, List as Part}
+use Rattle.sexp.specs.declared.names.Found.{Found}
+use Rattle.sexp.specs.declared.names.Found.TheVariants as found
+use Rattle.kernel.specs.HeldRules.{RulesHeld}
+use Rattle.kernel.specs.Readers.{KnownRule, KnownVar, NamedVars}
+use Rattle.kernel.specs.Entries.{known_rule, known_var, named_vars}
+use Rattle.terms.specs.declared.store.Mark.{Mark}
+use Rattle.terms.specs.Table.{made}
+use Rattle.terms.specs.On.{On, Stopped, on_start, on_is, on_ok, on_no, on_pure, on_stop, on_done, on_ask_yes, on_ask_no, on_found_some, on_found_none}
+use Rattle.state.specs.declared.sizes.Sizes.{Sizes}
+use Rattle.state.specs.Held.{Names}
+use Rattle.reading.specs.Given.{ReadsItem}
+use Rattle.reading.specs.Answers.{TermRead, ReadAs}
+use Rattle.referring.specs.Derived.{ItemsRead, ItemsAs}
+use Rattle.derivation.specs.ItemsOf.{ItemsHeld, RuleItem}
+use Rattle.derivation.specs.Laws.ItemsOf.{with_bound, held_grown, held_new, held_unstated, held_bound, held_stated, items_read}
+use Rattle.reading.specs.declared.term.Out.{Out as Answer}
+use Rattle.reading.specs.declared.term.Out.TheVariants.{Ok, No}
+
+-- Whether it is a binding ------------------------------------------------------------------------------------------------------------
+
+pub binds_yes : (a : Bool) (n : ℕ) (xs : Sexps) → a ≡ true → n ≡ count xs → eqb n 2 ≡ a && eqb (count xs) 2
+binds_yes true n xs e f = ap (λ (k : ℕ). eqb k 2) f
+binds_yes false n xs e f = absurd (let z : ◌≡◌ {A = ℕ} 0 1 = cc in omega arith)
+
+pub binds_no : (a b : Bool) → a ≡ false → false ≡ a && b
+binds_no false b e = refl
+binds_no true b e = absurd (let z : ◌≡◌ {A = ℕ} 0 1 = cc in omega arith)
+
+and_right : (a b : Bool) → a && b ≡ true → b ≡ true
+and_right true b e = e
+and_right false b e = absurd (let z : ◌≡◌ {A = ℕ} 0 1 = cc in omega arith)
+
+-- A binding --------------------------------------------------------------------------------------------------------------------------
+
+abbrev looked : Rule → List ℕ → Option ℕ
+looked R bs = first (λ v. same v.name.bytes bs) R.vars 0
+
+-- behind the term
+abbrev bind_rest : Items → ℕ → Tree → Made → Out Made Items
+bind_rest it v t M = then (ask 36 (is_new (it.bound v)) M) (λ _ U. ok (with_bound it v t) U)
+
+-- behind the variable
+abbrev bind_from : State → Rule → Sexp → Items → ℕ → Made → Out Made Items
+bind_from S R x it v M = then (term_of S x (get_or R.vars v no_rule_var).sort M) (bind_rest it v)
+
+bind_is : (S : State) (R : Rule) (bs : List ℕ) (x : Sexp) (it : Items) (M : Made) → bind_item S R bs x it M ≡ then (find 36 (looked R bs) M) (bind_from S R x it)
+unfolding bind_item
+bind_is S R bs x it M = refl
+
+module _ {K : Names} {rules rulevars : List ℕ} {n : Sizes} {I W : List ℕ} {m : Mark} {r : ℕ} {cells bound : List ℕ} {stated : ℕ}
+    (g : RuleItem K rules rulevars n I W m r cells bound stated) where
+  pub bind_rule : KnownRule rules r
+  bind_rule = known_rule g.ruled.held g.known
+
+  few : length (rule g.S.theory r).vars ≤ RULEVARS
+  unfolding rule
+  few = all_at g.S.theory.rules r no_rule g.ruled.held.vars_few (omega (arith, g.known, g.ruled.held.many))
+
+  -- the rule has so many variables
+  module _ {many : ℕ} (counted : (T : Theory) (text vars patterns : List ℕ) (count words : ℕ) → RulesHeld text rules vars patterns count words T.rules → r < count →
+      many ≡ length (rule T r).vars) where
+    many_are : many ≡ length (rule g.S.theory r).vars
+    many_are = counted g.S.theory K.theory rulevars g.patterns n.rules g.ruled.words g.ruled.held g.known
+
+    pub bind_names : NamedVars K.theory rulevars r many
+    bind_names = named_vars g.S.theory g.ruled.held g.known many_are
+
+    -- what its name finds among them
+    module _ {start end : ℕ} (inside : start < length K.text) (ends : end ≡ start + length (letters (drop start K.text))) {o : Found}
+        (h : (T : Theory) (rows patterns : List ℕ) (known words : ℕ) → RulesHeld K.theory rows rulevars patterns known words T.rules → r < known →
+        many ≡ length (rule T r).vars → o ≡ found_of (first (λ v. same v.name.bytes (take (end - start) (drop start K.text))) (rule T r).vars 0)) where
+      answer : o ≡ found_of (first (λ v. same v.name.bytes (letters (drop start K.text))) (rule g.S.theory r).vars 0)
+      answer =
+          h g.S.theory rules g.patterns n.rules g.ruled.words g.ruled.held g.known many_are
+          ∙ ap (λ (bs : List ℕ). found_of (first (λ v. same v.name.bytes bs) (rule g.S.theory r).vars 0)) (atom_part K.text start end inside ends)
+
+      on_bind : On I W m (bind_item g.S (rule g.S.theory r) (letters (drop start K.text)) g.x g.it (made I W m)) I W m
+          (then (find 36 (looked (rule g.S.theory r) (letters (drop start K.text))) (made I W m)) (bind_from g.S (rule g.S.theory r) g.x g.it))
+      on_bind = on_is (on_start g.reads.good) (bind_is g.S (rule g.S.theory r) (letters (drop start K.text)) g.x g.it (made I W m))
+
+      pub bind_unnamed : o ≡ found.Missing →
+          Stopped I W I W m (bind_item g.S (rule g.S.theory r) (letters (drop start K.text)) g.x g.it (made I W m)) 36 0 m
+      bind_unnamed f = on_found_none _ 36 on_bind (found_missing (looked (rule g.S.theory r) (letters (drop start K.text))) o answer f)
+
+      module _ {v : ℕ} (f : o ≡ found.At v) where
+        bind_inside : v < length (rule g.S.theory r).vars
+        bind_inside =
+            (found_entry (λ (u : RuleVar). same u.name.bytes (letters (drop start K.text))) (rule g.S.theory r).vars no_rule_var o v answer f).inside
+
+        small : v < RULEVARS
+        small = omega (arith, bind_inside, few)
+
+        pub bind_small : v < length bound
+        bind_small = omega (arith, small, g.so_far.cells.long)
+
+        pub bind_narrow : length bound ≡ RULEVARS
+        bind_narrow = g.so_far.cells.long
+
+        pub bind_known : KnownVar rulevars r v
+        bind_known = known_var g.S.theory g.ruled.held g.known bind_inside
+
+        abbrev bind_given : ReadsItem K n I W m cells
+        bind_given = record { S = g.S; x = g.x; ys = g.ys; reads = g.reads; holds = g.holds }
+
+        on_found : On I W m (bind_item g.S (rule g.S.theory r) (letters (drop start K.text)) g.x g.it (made I W m)) I W m
+            (then (term_of g.S g.x (get_or (rule g.S.theory r).vars v no_rule_var).sort (made I W m)) (bind_rest g.it v))
+        on_found =
+            on_found_some (bind_from g.S (rule g.S.theory r) g.x g.it) 36 on_bind
+            (found_at (looked (rule g.S.theory r) (letters (drop start K.text))) o v answer f)
+
+        -- a is the answer for the term of sort s
+        module _ {s : ℕ} (q : (T : Theory) (text rows patterns : List ℕ) (count words : ℕ) → RulesHeld text rows rulevars patterns count words T.rules → r < count →
+            v < length (rule T r).vars → s ≡ (get_or (rule T r).vars v no_rule_var).sort) (J X : List ℕ) (a : Answer)
+            (t : (k : ReadsItem K n I W m cells) → ReadAs I W J X m (term_of k.S k.x s (made I W m)) a) where
+          sorted : s ≡ (get_or (rule g.S.theory r).vars v no_rule_var).sort
+          sorted = q g.S.theory K.theory rules g.patterns n.rules g.ruled.words g.ruled.held g.known bind_inside
+
+          answered : (b : Answer) → a ≡ b → ReadAs I W J X m (term_of g.S g.x (get_or (rule g.S.theory r).vars v no_rule_var).sort (made I W m)) b
+          answered b e =
+              subst (λ (z : Answer). ReadAs I W J X m (term_of g.S g.x (get_or (rule g.S.theory r).vars v no_rule_var).sort (made I W m)) z) e
+              (subst (λ (k : ℕ). ReadAs I W J X m (term_of g.S g.x k (made I W m)) a) sorted (t bind_given))
+
+          pub bind_refused : {k d : ℕ} {new : Mark} → a ≡ No k d new →
+              Stopped I W J X m (bind_item g.S (rule g.S.theory r) (letters (drop start K.text)) g.x g.it (made I W m)) k d new
+          bind_refused {k} {d} {new} e = on_no _ on_found (answered (No k d new) e)
+
+          module _ {id : ℕ} {new : Mark} (e : a ≡ Ok id new) where
+            read : TermRead I W J X m (term_of g.S g.x (get_or (rule g.S.theory r).vars v no_rule_var).sort (made I W m)) id new
+            read = answered (Ok id new) e
+
+            pub bind_fits : id + 1 < 2 ^ 32
+            bind_fits = omega (arith, read.there, read.went.grown.good.room)
+
+            -- bound already
+            pub bind_twice : (get_or bound v 0 ≡ 0 → ⊥) →
+                Stopped I W J X m (bind_item g.S (rule g.S.theory r) (letters (drop start K.text)) g.x g.it (made I W m)) 36 0 new
+            bind_twice z = on_ask_no _ 36 (on_ok _ on_found read.went) (held_new g.so_far v ∙ ne_eqb (get_or bound v 0) 0 z)
+
+            pub bind_done : get_or bound v 0 ≡ 0 →
+                ItemsRead I W J X m (bind_item g.S (rule g.S.theory r) (letters (drop start K.text)) g.x g.it (made I W m)) (set bound v (id + 1)) stated new
+            bind_done z =
+                items_read
+                (on_done (on_ask_yes _ 36 (on_ok _ on_found read.went) (held_new g.so_far v ∙ eq-eqb (get_or bound v 0) 0 z)))
+                (held_bound (held_grown g.so_far read.went.grown) id read.there v small z)
+
+-- The conclusion ---------------------------------------------------------------------------------------------------------------------
+
+module _ {K : Names} {n : Sizes} {I W : List ℕ} {m : Mark} {cells : List ℕ} (g : ReadsItem K n I W m cells) (J X : List ℕ) (a : Answer)
+    (t : (k : ReadsItem K n I W m cells) → ReadAs I W J X m (judgment k.S k.x (made I W m)) a) where
+  judged : (b : Answer) → a ≡ b → ReadAs I W J X m (judgment g.S g.x (made I W m)) b
+  judged b e = subst (λ (z : Answer). ReadAs I W J X m (judgment g.S g.x (made I W m)) z) e (t g)
+
+  pub state_fits : {id : ℕ} {new : Mark} → a ≡ Ok id new → id + 1 < 2 ^ 32
+  state_fits {id} {new} e =
+      let d : TermRead I W J X m (judgment g.S g.x (made I W m)) id new = judged (Ok id new) e in
+      omega (arith, d.there, d.went.grown.good.room)
+
+  module _ (it : Items) {bound : List ℕ} {stated : ℕ} (k : ItemsHeld I W m bound stated it) where
+    pub state_refused : {q d : ℕ} {new : Mark} → a ≡ No q d new → Stopped I W J X m (state_item g.S g.x it (made I W m)) q d new
+    unfolding state_item
+    state_refused {q} {d} {new} e = on_no _ (on_start g.reads.good) (judged (No q d new) e)
+
+    module _ {id : ℕ} {new : Mark} (e : a ≡ Ok id new) where
+      told : TermRead I W J X m (judgment g.S g.x (made I W m)) id new
+      told = judged (Ok id new) e
+
+      -- stated already
+      pub state_twice : (stated ≡ 0 → ⊥) → Stopped I W J X m (state_item g.S g.x it (made I W m)) 37 0 new
+      unfolding state_item
+      state_twice z = on_ask_no _ 37 (on_ok _ (on_start g.reads.good) told.went) (held_unstated k ∙ ne_eqb stated 0 z)
+
+      pub state_done : stated ≡ 0 → ItemsRead I W J X m (state_item g.S g.x it (made I W m)) bound (id + 1) new
+      unfolding state_item
+      state_done z =
+          items_read
+          (on_done (on_ask_yes _ 37 (on_ok _ (on_start g.reads.good) told.went) (held_unstated k ∙ eq-eqb stated 0 z)))
+          (held_stated (held_grown k told.went.grown) id told.there)
+
+-- One or the other -------------------------------------------------------------------------------------------------------------------
+
+abbrev pick : State → Rule → Sexp → Items → List ℕ → Sexps → Bool → Made → Out Made Items
+pick S R x it bs ys b M = (elim b as (λ (z : Bool). Act Made Items) [ true ↦ bind_item S R bs (item ys 1) it | false ↦ state_item S x it ]) M
+
+pick_is : (S : State) (R : Rule) (it : Items) (M : Made) (p : ℕ) (bs : List ℕ) (zs : Sexps) →
+    read_item S R (list (cons (atom p bs) zs)) it M
+    ≡ pick S R (list (cons (atom p bs) zs)) it bs (cons (atom p bs) zs) (marked bs && eqb (count (cons (atom p bs) zs)) 2) M
+unfolding read_item items name item then
+pick_is S R it M p bs zs = refl
+
+second : (x : Sexp) (zs : Sexps) → count (cons x zs) ≡ 2 → More zs
+unfolding count
+second x nil e = absurd (omega arith)
+second x (cons y ys) e = record { first = y; others = ys; is = refl }
+
+second_item : (x y : Sexp) (ys : Sexps) → item (cons x (cons y ys)) 1 ≡ y
+unfolding item
+second_item x y ys = refl
+
+module _ {K : Names} {rules rulevars : List ℕ} {n : Sizes} {I W : List ℕ} {m : Mark} {r : ℕ} {cells bound : List ℕ} {stated : ℕ}
+    (g : RuleItem K rules rulevars n I W m r cells bound stated) where
+  pub item_cell : 0 < length cells
+  item_cell = at_inside (walk_start g.holds).here
+
+  -- the item
+  module _ {thing : Item} (e : thing ≡ item_at cells 0) where
+    pub item_atom_lem : {p : ℕ} → thing ≡ Atom p → Stopped I W I W m (read_item g.S (rule g.S.theory r) g.x g.it (made I W m)) 22 0 m
+    unfolding read_item items
+    item_atom_lem f = on_stop _ (on_start g.reads.good) (ap (λ (z : Sexp). items 22 z (made I W m)) (walk_atom (walk_start g.holds) e f).is)
+
+    module _ {a b : ℕ} (f : thing ≡ Part a b) where
+      pub item_list : ListIs K.text cells g.x a b
+      item_list = walk_list (walk_start g.holds) e f
+
+      -- a list whose first item is no atom
+      unnamed : (ys : Sexps) → g.x ≡ list ys → name {S = Made} 22 (item ys 0) (made I W m) ≡ name {S = Made} 22 (list nil) (made I W m) →
+          Stopped I W I W m (read_item g.S (rule g.S.theory r) g.x g.it (made I W m)) 22 0 m
+      unfolding read_item items name
+      unnamed ys i d = on_stop _ (on_pure _ (on_start g.reads.good) (ap (λ (z : Sexp). items 22 z (made I W m)) i)) d
+
+      pub item_empty_lem : length (take (b - a) (drop a cells)) ≡ 0 → Stopped I W I W m (read_item g.S (rule g.S.theory r) g.x g.it (made I W m)) 22 0 m
+      unfolding item
+      item_empty_lem z = unnamed nil (item_list.is ∙ ap list (none_left item_list.holds z)) refl
+
+      -- its first item
+      module _ (l : length (take (b - a) (drop a cells)) ≡ 0 → ⊥) {head : Item} (h : head ≡ item_at (take (b - a) (drop a cells)) 0) where
+        pub item_nested : {c d : ℕ} → head ≡ Part c d → Stopped I W I W m (read_item g.S (rule g.S.theory r) g.x g.it (made I W m)) 22 0 m
+        unfolding item name
+        item_nested k =
+            let d = list_first item_list.holds l h k in
+            unnamed (cons (list d.inner) d.others) (item_list.is ∙ ap list d.is) refl
+
+        module _ {p : ℕ} (k : head ≡ Atom p) where
+          pub item_named : AtomFirst K.text (take (b - a) (drop a cells)) item_list.items p
+          item_named = atom_first item_list.holds l h k
+
+          pub binds_given : SomeItems (take (b - a) (drop a cells)) × (p < length K.text)
+          binds_given = ((item_list.items, item_list.holds.cells), item_named.inside)
+
+          abbrev all : Sexps
+          all = cons (atom p (letters (drop p K.text))) item_named.others
+
+          is_all : g.x ≡ list all
+          is_all = item_list.is ∙ ap list item_named.is
+
+          -- y says whether it is a binding
+          module _ (y : Bool) (c : (xs : Sexps) → take (b - a) (drop a cells) ≡ encodes xs → y ≡ marked (letters (drop p K.text)) && eqb (count xs) 2) where
+            says : y ≡ marked (letters (drop p K.text)) && eqb (count all) 2
+            says = c all (item_list.holds.cells ∙ ap encodes item_named.is)
+
+            picks : read_item g.S (rule g.S.theory r) g.x g.it (made I W m)
+                ≡ pick g.S (rule g.S.theory r) g.x g.it (letters (drop p K.text)) all y (made I W m)
+            picks =
+                subst (λ (z : Sexp). read_item g.S (rule g.S.theory r) z g.it (made I W m)
+                ≡ pick g.S (rule g.S.theory r) z g.it (letters (drop p K.text)) all (marked (letters (drop p K.text)) && eqb (count all) 2) (made I W m))
+                (sym is_all) (pick_is g.S (rule g.S.theory r) g.it (made I W m) p (letters (drop p K.text)) item_named.others)
+                ∙ ap (λ (z : Bool). pick g.S (rule g.S.theory r) g.x g.it (letters (drop p K.text)) all z (made I W m)) (sym says)
+
+            -- a binding
+            module _ (yes : y ≡ true) where
+              pub one_more_lem : More item_named.others
+              one_more_lem = second (atom p (letters (drop p K.text))) item_named.others
+                  (eqb-true (count all) 2 (and_right (marked (letters (drop p K.text))) (eqb (count all) 2) (sym says ∙ yes)))
+
+              abbrev pub item_given : RuleItem K rules rulevars n I W m r
+                  (take (length (take (b - a) (drop a cells)) - 1) (drop 1 (take (b - a) (drop a cells)))) bound stated
+              item_given =
+                  record {
+                    S = g.S;
+                    patterns = g.patterns;
+                    it = g.it;
+                    x = one_more_lem.first;
+                    ys = one_more_lem.others;
+                    reads = g.reads;
+                    ruled = g.ruled;
+                    known = g.known;
+                    so_far = g.so_far;
+                    holds = subst (λ (z : Sexps). Holds K.text (take (length (take (b - a) (drop a cells)) - 1) (drop 1 (take (b - a) (drop a cells)))) z)
+                        one_more_lem.is item_named.rest;
+                  }
+
+              binding_is : read_item g.S (rule g.S.theory r) g.x g.it (made I W m)
+                  ≡ bind_item g.S (rule g.S.theory r) (letters (drop p K.text)) one_more_lem.first g.it (made I W m)
+              binding_is =
+                  picks
+                  ∙ ap (λ (z : Bool). pick g.S (rule g.S.theory r) g.x g.it (letters (drop p K.text)) all z (made I W m)) yes
+                  ∙ ap (λ (z : Sexp). bind_item g.S (rule g.S.theory r) (letters (drop p K.text)) z g.it (made I W m))
+                  (ap (λ (zs : Sexps). item (cons (atom p (letters (drop p K.text))) zs) 1) one_more_lem.is
+                  ∙ second_item (atom p (letters (drop p K.text))) one_more_lem.first one_more_lem.others)
+
+              pub item_bound : (J X B : List ℕ) (o : Answer) →
+                  ((q : RuleItem K rules rulevars n I W m r (take (length (take (b - a) (drop a cells)) - 1) (drop 1 (take (b - a) (drop a cells)))) bound stated) →
+                  ItemsAs I W J X m (bind_item q.S (rule q.S.theory r) (letters (drop p K.text)) q.x q.it (made I W m)) B o) →
+                  ItemsAs I W J X m (read_item g.S (rule g.S.theory r) g.x g.it (made I W m)) B o
+              item_bound J X B o q = subst (λ (Q : Out Made Items). ItemsAs I W J X m Q B o) (sym binding_is) (q item_given)
+
+            -- the conclusion
+            module _ (no : y ≡ false) where
+              conclusion_is : read_item g.S (rule g.S.theory r) g.x g.it (made I W m) ≡ state_item g.S g.x g.it (made I W m)
+              conclusion_is = picks ∙ ap (λ (z : Bool). pick g.S (rule g.S.theory r) g.x g.it (letters (drop p K.text)) all z (made I W m)) no
+
+              abbrev concluding : ReadsItem K n I W m cells
+              concluding = record { S = g.S; x = g.x; ys = g.ys; reads = g.reads; holds = g.holds }
+
+              pub item_stated : (J X : List ℕ) (o : Answer) →
+                  ((q : ReadsItem K n I W m cells) (it : Items) (B : List ℕ) → ItemsHeld I W m B stated it → ItemsAs I W J X m (state_item q.S q.x it (made I W m)) B o) →
+                  ItemsAs I W J X m (read_item g.S (rule g.S.theory r) g.x g.it (made I W m)) bound o
+              item_stated J X o q =
+                  subst (λ (Q : Out Made Items). ItemsAs I W J X m Q bound o) (sym conclusion_is) (q concluding g.it bound g.so_far)

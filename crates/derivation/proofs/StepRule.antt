@@ -1,0 +1,267 @@
+-- A step by the rule that it names: its references, then its conclusion and question 39; the derived fact. Assumes nothing.
+use mathlib.Core.Path.{◌≡◌, refl, sym, ap, ◌∙◌, subst}
+use mathlib.Core.Logic.{⊎_elim}
+use mathlib.Core.Bool.{Bool, true, false, ◌||◌}
+use mathlib.Core.List.{List, [], ◌∷◌}
+use Prim.Native.Nat.{ℕ, ◌-◌, ◌*◌, ◌<◌, ◌≤◌}
+use native.Mathlib.Omega.{arith}
+use lib.Dec.{eqb}
+use lib.ListN.{length, get_or, take, drop, length-append}
+use lib.Seq.{length-take-le, get_or-take}
+use borrow.Author.Tests.{eqb-true, eq-eqb, ne_eqb}
+use Rattle.rules.specs.Limits.{PATTERNS, RULEWORDS, FACTWORDS}
+use Rattle.rules.specs.Out.{Out, ok, then, ask}
+use Rattle.rules.specs.Find.{Set, has, union, rising}
+use Rattle.rules.specs.Sexp.{Sexp, Sexps, count, item, rest, items}
+use Rattle.rules.specs.Tree.{Tree, none, count_trees}
+use Rattle.rules.specs.Store.{Made}
+use Rattle.rules.specs.Theory.{rule}
+use Rattle.rules.specs.TheoryTables.{pattern_row, prefix, prefixes}
+use Rattle.rules.specs.State.{Fact}
+use Rattle.rules.specs.Step.{Refs, references}
+use Rattle.rules.specs.Laws.Prefix.{prefixes_length}
+use Rattle.rules.specs.Laws.Rising.{or_cases}
+use Rattle.rules.specs.Laws.StepWalk.{references_keeps}
+use Rattle.sexp.specs.Encode.{encodes}
+use Rattle.sexp.specs.Items.{item_of, place}
+use Rattle.sexp.specs.WalkLaws.{ListIs}
+use Rattle.sexp.specs.NthItem.{nth_text, nth_part}
+use Rattle.sexp.specs.declared.items.Item.{Item}
+use Rattle.sexp.specs.declared.items.Item.TheVariants.{Atom, List as Part}
+use Rattle.kernel.specs.Readers.{KnownRule}
+use Rattle.kernel.specs.RuleRows.{words_inside, rules_few}
+use Rattle.terms.specs.declared.store.Mark.{Mark}
+use Rattle.terms.specs.Table.{made, tree, args_of}
+use Rattle.terms.specs.Sets.{holds, plus}
+use Rattle.terms.specs.On.{On, Stopped, on_start, on_is, on_ok, on_no, on_pure, on_stop, on_done, on_ask_yes, on_ask_no}
+use Rattle.terms.specs.Laws.Patterns.{count_sizes}
+use Rattle.state.specs.declared.sizes.Sizes.{Sizes}
+use Rattle.state.specs.Held.{Names, rule_lists}
+use Rattle.state.specs.Members.{Under}
+use Rattle.reading.specs.declared.term.Out.{Out as Answer}
+use Rattle.reading.specs.declared.term.Out.TheVariants.{Ok, No}
+use Rattle.referring.specs.declared.derived.Derived.{Derived}
+use Rattle.referring.specs.declared.derived.Derived.TheVariants as derived
+use Rattle.referring.specs.Recall.{Refers}
+use Rattle.referring.specs.Derived.{RuleForm, FactForm, FewItems, RefsRead, RefsAs, DerivedAs, derived_fact, with_instances}
+use Rattle.derivation.specs.Stepping.{Scopes, ScopedAs, PremisesOf, in_scope, by_rule}
+use Rattle.referring.specs.Laws.Refers.{refers_went}
+
+-- one member more, in front
+plus_is : (r : ℕ) (a : Set) → plus r a ≡ union (has (r ∷ [])) a
+unfolding has
+plus_is r a = λ i v. go (a v) (eqb v r) i
+  where
+    go : (b c : Bool) → b || c ≡ elim c [ true ↦ true | false ↦ false ] || b
+    go true true = refl
+    go true false = refl
+    go false true = refl
+    go false false = refl
+
+-- cells for the premises, as many as there are
+pub premises_cells : {rules : List ℕ} {r k : ℕ} → PremisesOf rules r k → {room : ℕ} → k ≡ room → PremisesOf rules r room
+premises_cells p e T text vars patterns count words h l = sym e ∙ p T text vars patterns count words h l
+
+module _ {K : Names} {rules rulevars patterns facts footings lists : List ℕ} {n : Sizes} {I W : List ℕ} {m : Mark} {cells : List ℕ}
+    (g : RuleForm K (rule_lists K.theory rules rulevars patterns) facts footings lists n I W m cells 4) {r : ℕ} (known : r < n.rules) where
+  abbrev whole : Out Made (Fact × ℕ)
+  whole = by_rule g.S r g.xs (made I W m)
+
+  -- the fact with judgment j, over what the references give
+  abbrev fact : Refs → Tree → Fact × ℕ
+  fact rs j = (
+    record {
+      judgment = j;
+      hyps = rising (length g.S.facts) rs.hyps;
+      assumed = false;
+      premises = none;
+      general = [];
+      footing = rising (length g.S.theory.rules) (union (has (r ∷ [])) rs.footing);
+    },
+    rs.instances,
+  )
+
+  abbrev third : Refs → Made → Out Made (Fact × ℕ)
+  third rs s =
+      then (in_scope g.S (rule g.S.theory r) rs.judgments (rising (length g.S.facts) rs.hyps) (rest g.xs 4) s) (λ j s. ok (fact rs j) s)
+
+  abbrev second : Sexps → Made → Out Made (Fact × ℕ)
+  second ys s = then (ask 37 (eqb (count ys) (count_trees (rule g.S.theory r).premises)) s) (λ _ s. then (references g.S ys s) third)
+
+  on_first : On I W m whole I W m (then (items 37 (item g.xs 3) (made I W m)) second)
+  unfolding by_rule
+  on_first = on_start g.refers.reads.good
+
+  -- The rule -----------------------------------------------------------------------------------------------------------------------------
+
+  pub by_there : KnownRule rules r
+  by_there =
+      record {
+        text = K.theory;
+        vars = rulevars;
+        patterns = patterns;
+        count = n.rules;
+        words = g.ruled.words;
+        held = (g.S.theory.rules, g.ruled.held);
+        known = known;
+      }
+
+  by_rule_lem : r < length g.S.theory.rules
+  by_rule_lem = omega (arith, known, g.ruled.held.many)
+
+  pub by_small : (footing : List ℕ) → length footing ≡ RULEWORDS → r < 64 * length footing
+  by_small footing e = omega (arith, known, rules_few g.ruled.held, e)
+
+  -- the premises are no more than the words of patterns
+  by_few : count_trees (rule g.S.theory r).premises ≤ PATTERNS
+  unfolding pattern_row
+  by_few =
+      omega (
+        arith,
+        words_inside g.S.theory g.ruled.held r known,
+        length-append (prefixes (rule g.S.theory r).premises) (prefix (rule g.S.theory r).conclusion),
+        prefixes_length (rule g.S.theory r).premises,
+        count_sizes (rule g.S.theory r).premises,
+        g.ruled.held.room,
+      )
+
+  by_premises : {k : ℕ} → PremisesOf rules r k → k ≡ count_trees (rule g.S.theory r).premises
+  by_premises p = p g.S.theory K.theory rulevars patterns n.rules g.ruled.words g.ruled.held known
+
+  pub by_most : {k : ℕ} → PremisesOf rules r k → k ≤ PATTERNS
+  by_most {k} p = omega (arith, by_premises {k = k} p, by_few)
+
+  -- The references -----------------------------------------------------------------------------------------------------------------------
+
+  module _ {thing : Item} (a : (ys : Sexps) → cells ≡ encodes ys → thing ≡ item_of (place ys 3) (item ys 3)) where
+    pub by_atom : {p : ℕ} → thing ≡ Atom p → Stopped I W I W m whole 37 0 m
+    unfolding items
+    by_atom f = on_stop second on_first (ap (λ (x : Sexp). items 37 x (made I W m)) (nth_text g.holds 3 a f).is)
+
+    module _ {start end : ℕ} (f : thing ≡ Part start end) where
+      pub by_part : ListIs K.text cells (item g.xs 3) start end
+      by_part = nth_part g.holds 3 a (omega (arith, g.many)) f
+
+      on_second : On I W m whole I W m (second by_part.items (made I W m))
+      unfolding items
+      on_second = on_pure second on_first (ap (λ (x : Sexp). items 37 x (made I W m)) by_part.is)
+
+      module _ {k v : ℕ} (c : (ys : Sexps) → take (end - start) (drop start cells) ≡ encodes ys → k ≡ count ys) (p : PremisesOf rules r v) where
+        counted : k ≡ count by_part.items
+        counted = c by_part.items by_part.holds.cells
+
+        pub wanted : v ≡ count_trees (rule g.S.theory r).premises
+        wanted = by_premises p
+
+        pub by_count : (k ≡ v → ⊥) → Stopped I W I W m whole 37 0 m
+        by_count q = on_ask_no _ 37 on_second (ne_eqb _ _ (λ z. q (counted ∙ z ∙ sym wanted)))
+
+        module _ (e : k ≡ v) where
+          on_third : On I W m whole I W m (then (references g.S by_part.items (made I W m)) third)
+          on_third = on_ask_yes _ 37 on_second (eq-eqb _ _ (sym counted ∙ e ∙ wanted))
+
+          abbrev pub by_given : FactForm K facts footings lists n I W m (take (end - start) (drop start cells)) 0
+          by_given = record { S = g.S; xs = by_part.items; refers = g.refers; holds = by_part.holds; many = omega arith }
+
+          -- a cell for each premise is one for each reference
+          pub by_room : {most : ℕ} → PremisesOf rules r most → {room : ℕ} → room ≡ most → k ≤ room
+          by_room {most} w h = omega (arith, e, wanted, by_premises {k = most} w, h)
+
+          pub by_few_items : {most : ℕ} → PremisesOf rules r most → FewItems (take (end - start) (drop start cells)) most
+          by_few_items {most} w ys q = omega (arith, c ys q, e, wanted, by_premises {k = most} w)
+
+          module _ (J X ids hyps footing : List ℕ) (o : Answer)
+              (q : (h : FactForm K facts footings lists n I W m (take (end - start) (drop start cells)) 0) →
+              RefsAs I W J X m h.S (references h.S h.xs (made I W m)) ids hyps footing (count h.xs) o) where
+            pub by_refused : {k d : ℕ} {new : Mark} → o ≡ No k d new → Stopped I W J X m whole k d new
+            by_refused {k} {d} {new} h =
+                let s : Stopped I W J X m (references g.S by_part.items (made I W m)) k d new =
+                subst (λ (z : Answer). RefsAs I W J X m g.S (references g.S by_part.items (made I W m)) ids hyps footing (count by_part.items) z) h (q by_given) in
+                on_no third on_third s
+
+            module _ {instances : ℕ} {new : Mark} (h : o ≡ Ok instances new) where
+              pub refs : RefsRead I W J X m g.S (references g.S by_part.items (made I W m)) ids hyps footing (count by_part.items) instances new
+              refs =
+                  subst (λ (z : Answer). RefsAs I W J X m g.S (references g.S by_part.items (made I W m)) ids hyps footing (count by_part.items) z) h
+                  (q by_given)
+
+              pub after : Refers K facts footings lists n J X new g.S
+              after = refers_went g.refers (references_keeps g.S by_part.items (made I W m) g.refers.recorded.trees) refs.went
+
+              pub terms_there : (i : ℕ) → i < length (take k ids) → k ≤ length ids → get_or (take k ids) i 0 < new.terms
+              terms_there i l b =
+                  let w : i < k = omega (arith, length-take-le k ids b) in
+                  let z : get_or (take k ids) i 0 ≡ get_or ids i 0 = get_or-take k ids i 0 w in
+                  omega (arith, z, refs.there i (omega (arith, w, counted)))
+
+              abbrev pub by_scopes : k ≤ length ids → length hyps ≡ FACTWORDS →
+                  Scopes K (rule_lists K.theory rules rulevars patterns) facts lists n J X new r cells (take k ids) hyps
+              by_scopes b w =
+                  record {
+                    S = g.S;
+                    xs = g.xs;
+                    footings = footings;
+                    refers = after;
+                    ruled = g.ruled;
+                    known = known;
+                    holding = g.holds;
+                    many = sym (length-take-le k ids b ∙ e ∙ wanted);
+                    there = λ i l. terms_there i l b;
+                    earlier = refs.earlier;
+                    long = w;
+                  }
+
+              -- the terms of the references, and what they rest on
+              judged : args_of (made J X new) (take k ids) ≡ refs.refs.judgments
+              judged = ap (λ (i : ℕ). args_of (made J X new) (take i ids)) counted ∙ refs.judgments
+
+              abbrev scope : Out Made Tree
+              scope =
+                  in_scope g.S (rule g.S.theory r) (args_of (made J X new) (take k ids)) (rising (length g.S.facts) (holds hyps)) (rest g.xs 4) (made J X new)
+
+              abbrev last : Tree → Made → Out Made (Fact × ℕ)
+              last j s = ok (fact refs.refs j) s
+
+              on_last : On I W m whole J X new (then scope last)
+              on_last =
+                  on_is (on_ok third on_third refs.went)
+                  (λ i. then (in_scope g.S (rule g.S.theory r) (sym judged i) (rising (length g.S.facts) (sym refs.rests i)) (rest g.xs 4) (made J X new)) last)
+
+              -- the rule has joined the footing
+              module _ (footing' : List ℕ) (w : holds footing' ≡ plus r (holds footing)) where
+                footed : union (has (r ∷ [])) refs.refs.footing ≡ holds footing'
+                footed = sym (w ∙ ap (plus r) refs.uses ∙ plus_is r refs.refs.footing)
+
+                known_all : Under (length g.S.theory.rules) (holds footing')
+                known_all v t =
+                    ⊎_elim (λ z. refs.known v z) (λ z. omega (arith, eqb-true v r z, by_rule_lem)) (or_cases (holds footing v) (eqb v r) (sym (ap (λ (s : Set). s v) w) ∙ t))
+
+                fact_is : (j : Tree) (c : ℕ) → c ≡ instances → fact refs.refs j ≡ with_instances (derived_fact g.S j hyps footing') c
+                fact_is j c z = λ i. (
+                  record {
+                    judgment = j;
+                    hyps = rising (length g.S.facts) (sym refs.rests i);
+                    assumed = false;
+                    premises = none;
+                    general = [];
+                    footing = rising (length g.S.theory.rules) (footed i);
+                  },
+                  (sym (z ∙ refs.counted)) i,
+                )
+
+                by_answers : (Y Z : List ℕ) (d : Derived) → ScopedAs J X Y Z new scope instances d →
+                    DerivedAs (Fact × ℕ) I W Y Z m g.S whole with_instances hyps footing' d
+                by_answers Y Z (derived.Ok j c now) t =
+                    record {
+                      went = on_done (on_is (on_ok last on_last t.0.went) (ap (λ (f : Fact × ℕ). ok f (made Y Z now)) (fact_is (tree Y Z now j) c t.1)));
+                      there = t.0.there;
+                      earlier = refs.earlier;
+                      known = known_all;
+                    }
+                by_answers Y Z (derived.No q d now) t = on_no last on_last t
+
+                pub by_answer : (b : k ≤ length ids) (l : length hyps ≡ FACTWORDS) (Y Z : List ℕ) (d : Derived) →
+                    ((h : Scopes K (rule_lists K.theory rules rulevars patterns) facts lists n J X new r cells (take k ids) hyps) →
+                    ScopedAs J X Y Z new (in_scope h.S (rule h.S.theory r) (args_of (made J X new) (take k ids)) (rising (length h.S.facts) (holds hyps)) (rest h.xs 4) (made J X new)) instances d) →
+                    DerivedAs (Fact × ℕ) I W Y Z m g.S whole with_instances hyps footing' d
+                by_answer b l Y Z d t = by_answers Y Z d (t (by_scopes b l))
