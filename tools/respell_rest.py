@@ -1,0 +1,27 @@
+#!/usr/bin/env python3
+"""The constructors that stand several on a line, which respell.py did not see. usage: tools/respell_rest.py FOLDER.. (files below them, in place)"""
+import os
+import re
+import sys
+
+NAMES = {
+    "aResult": "a_result", "anInductWith": "an_induct_with", "aVar": "a_var", "aDef": "a_def", "anApply": "an_apply", "aHyp": "a_hyp",
+    "aRuleHyp": "a_rule_hyp", "aGoalWith": "a_goal_with", "inComment": "in_comment", "aGoal": "a_goal", "aVariable": "a_variable",
+    "aSort": "a_sort", "aCtor": "a_ctor", "aRule": "a_rule", "aPred": "a_pred",
+}
+TOKEN = re.compile(r"(?<![\w'₀-₉-])(" + "|".join(NAMES) + r")(?![\w'₀-₉-])")
+
+for top in sys.argv[1:]:
+    for folder, dirs, files in os.walk(top):
+        dirs[:] = [d for d in dirs if d != "out"]
+        for name in files:
+            if name.endswith((".rt", ".antt", ".edit")):
+                path = os.path.join(folder, name)
+                with open(path, encoding="utf-8") as f:
+                    text = f.read()
+                if "inComment" in text:
+                    text = re.sub(r"(?<![\w'-])in_comment(?![\w'-])", "in_comment_lem", text)
+                new = TOKEN.sub(lambda m: NAMES[m[1]], text)
+                if new != text:
+                    with open(path, "w", encoding="utf-8") as f:
+                        f.write(new)
