@@ -3,7 +3,7 @@ ghost use Rattle.std.specs.Prelude.{◌≡◌, ◌&&◌, ◌*◌, ◌<◌, lengt
 ghost use Rattle.rules.specs.Limits.{VARIABLES, TERMS, FACTS};
 ghost use Rattle.rules.specs.Find.{entry, all, has};
 ghost use Rattle.rules.specs.Tree.{Trees};
-ghost use Rattle.rules.specs.Forms.{listed, result};
+ghost use Rattle.rules.specs.Forms.{listed, result as result_of};
 ghost use Rattle.rules.specs.StateTables.{numbers};
 ghost use Rattle.rules.specs.Laws.Keeping.{Each};
 ghost use Rattle.rules.specs.Laws.Made.{sound};
@@ -34,7 +34,7 @@ pub enum Resulted {
 // Whether fact h is a plain hypothesis, with a judgment of the set.
 fn is_listed(facts: &[u32], h: usize, terms: &[u64]) -> bool
     requires { (length facts.now ≡ 6 * FACTS) × (h < FACTS) × (cell 6 facts.now h 0 < 64 * length terms.now) }
-    ensures* { λ r. ⌜ r ≡ plain_row facts.now h && holds terms.now (cell 6 facts.now h 0) ⌝ }
+    ensures { result ≡ plain_row facts.now h && holds terms.now (cell 6 facts.now h 0) }
 {
     if !is_plain(facts, h) {
         return false;
@@ -45,8 +45,8 @@ fn is_listed(facts: &[u32], h: usize, terms: &[u64]) -> bool
 // Whether each of the hypotheses is plain, with a judgment of the set.
 fn all_listed(facts: &[u32], hyps: &[u32], terms: &[u64]) -> bool
     requires { ListsHyps facts.now hyps.now terms.now }
-    ensures* { λ r. ⌜ ((g : ListsHyps facts.now hyps.now terms.now) (hs : Trees) → Each (sound.Has g.trees) hs →
-        holds terms.now ≡ has (numbers g.trees hs) → r ≡ all (λ h. listed hs (entry g.S.facts h)) hyps.now) ⌝ }
+    ensures { ((g : ListsHyps facts.now hyps.now terms.now) (hs : Trees) → Each (sound.Has g.trees) hs →
+        holds terms.now ≡ has (numbers g.trees hs) → result ≡ all (λ h. listed hs (entry g.S.facts h)) hyps.now) }
 {
     let mut k = 0;
     while k < hyps.len() {
@@ -61,8 +61,8 @@ fn all_listed(facts: &[u32], hyps: &[u32], terms: &[u64]) -> bool
 // Question 51: whether goal k lists each hypothesis of a reference to fact i.
 fn covers(rows: &[u32], facts: &[u32], lists: &[u32], k: usize, i: usize, bare: bool) -> bool
     requires { Covers rows.now facts.now lists.now k i }
-    ensures* { λ r. ⌜ ((g : Covers rows.now facts.now lists.now k i) →
-        r ≡ all (λ h. listed (goal_of g.S k).hyps (entry g.S.facts h)) (rests_on g.S i bare)) ⌝ }
+    ensures { ((g : Covers rows.now facts.now lists.now k i) →
+        result ≡ all (λ h. listed (goal_of g.S k).hyps (entry g.S.facts h)) (rests_on g.S i bare)) }
 {
     if !bare {
         return true;
@@ -100,9 +100,9 @@ pub fn result(
 ) -> Resulted
     requires takes_result { TakesResult (names theory.now goals.now text.now symbols.now inputs.now vars.now defs.now) rows.old facts.now lists.now n index.old words.old mark cells.now }
     requires map_value { (map.old ≡ replicate VARIABLES 0) × (memo.old ≡ replicate TERMS 0) }
-    ensures* fact { λ r. ⌜ ((g : TakesResult (names theory.now goals.now text.now symbols.now inputs.now vars.now defs.now) rows.old facts.now lists.now n index.old words.old mark cells.now) →
-        ResultedAs rows.old rows.new n index.old words.old index.new words.new mark g.S (result g.xs g.S) r) ⌝ }
-    ensures* fact_2 { λ _. ⌜ (map.new ≡ map.old) × (memo.new ≡ memo.old) ⌝ }
+    ensures fact { ((g : TakesResult (names theory.now goals.now text.now symbols.now inputs.now vars.now defs.now) rows.old facts.now lists.now n index.old words.old mark cells.now) →
+        ResultedAs rows.old rows.new n index.old words.old index.new words.new mark g.S (result_of g.xs g.S) result) }
+    ensures fact_2 { (map.new ≡ map.old) × (memo.new ≡ memo.old) }
 {
     let Item::Atom(start) = items::nth(cells, 1) else {
         return Resulted::No(50, 0, mark);

@@ -3,7 +3,7 @@
 ghost use Rattle.std.specs.Prelude.{◌≡◌, replicate};
 ghost use Rattle.rules.specs.Limits.{TERMS};
 ghost use Rattle.rules.specs.Tags.{a_step, aHyp, aRuleHyp, an_induct, anInductWith, anApply};
-ghost use Rattle.rules.specs.Forms.{perform, result, some_instances};
+ghost use Rattle.rules.specs.Forms.{perform, result as result_of, some_instances};
 ghost use Rattle.state.specs.Held.{names, rule_lists, records};
 ghost use Rattle.forms.specs.Assumed.{AddsFact, AssumedAs};
 ghost use Rattle.entering.specs.Entered.{AddsInstance, AddsDerived, Spare, EnteredAs, an_induction};
@@ -35,8 +35,8 @@ pub fn hyp_next(
     cells: &[u32],
 ) -> Assumed
     requires { AddsFact (names theory.now goals.now text.now symbols.now inputs.now vars.now defs.now) facts.old lists.old n index.old words.old mark cells.now 3 }
-    ensures* { λ r. ⌜ ((g : AddsFact (names theory.now goals.now text.now symbols.now inputs.now vars.now defs.now) facts.old lists.old n index.old words.old mark cells.now 3) →
-        AssumedAs (records facts.old g.footings lists.old) (records facts.new g.footings lists.new) n index.old words.old index.new words.new mark g.S (perform aHyp g.xs g.S) r) ⌝ }
+    ensures { ((g : AddsFact (names theory.now goals.now text.now symbols.now inputs.now vars.now defs.now) facts.old lists.old n index.old words.old mark cells.now 3) →
+        AssumedAs (records facts.old g.footings lists.old) (records facts.new g.footings lists.new) n index.old words.old index.new words.new mark g.S (perform aHyp g.xs g.S) result) }
 {
     match is_next(text, cells, n) {
         Numbered::Next => add_hyp(
@@ -65,8 +65,8 @@ pub fn rule_hyp_next(
     cells: &[u32],
 ) -> Assumed
     requires { AddsFact (names theory.now goals.now text.now symbols.now inputs.now vars.now defs.now) facts.old lists.old n index.old words.old mark cells.now 5 }
-    ensures* { λ r. ⌜ ((g : AddsFact (names theory.now goals.now text.now symbols.now inputs.now vars.now defs.now) facts.old lists.old n index.old words.old mark cells.now 5) →
-        AssumedAs (records facts.old g.footings lists.old) (records facts.new g.footings lists.new) n index.old words.old index.new words.new mark g.S (perform aRuleHyp g.xs g.S) r) ⌝ }
+    ensures { ((g : AddsFact (names theory.now goals.now text.now symbols.now inputs.now vars.now defs.now) facts.old lists.old n index.old words.old mark cells.now 5) →
+        AssumedAs (records facts.old g.footings lists.old) (records facts.new g.footings lists.new) n index.old words.old index.new words.new mark g.S (perform aRuleHyp g.xs g.S) result) }
 {
     match is_next(text, cells, n) {
         Numbered::Next => add_rule_hyp(
@@ -102,9 +102,9 @@ pub fn step_next(
 ) -> Entered
     requires adds_instance { AddsInstance (names theory.now goals.now text.now symbols.now inputs.now vars.now defs.now) (rule_lists theory.now rules.now rulevars.now patterns.now) facts.old footings.old lists.old n index.old words.old mark cells.now 4 }
     requires spare { Spare ids.old memo.old }
-    ensures* fact { λ r. ⌜ ((g : AddsInstance (names theory.now goals.now text.now symbols.now inputs.now vars.now defs.now) (rule_lists theory.now rules.now rulevars.now patterns.now) facts.old footings.old lists.old n index.old words.old mark cells.now 4) →
-        EnteredAs (records facts.old footings.old lists.old) (records facts.new footings.new lists.new) n index.old words.old index.new words.new mark g.form.S (perform a_step g.form.xs g.form.S) some_instances r) ⌝ }
-    ensures* fact_2 { λ _. ⌜ (ids.new ≡ ids.old) × (memo.new ≡ memo.old) ⌝ }
+    ensures fact { ((g : AddsInstance (names theory.now goals.now text.now symbols.now inputs.now vars.now defs.now) (rule_lists theory.now rules.now rulevars.now patterns.now) facts.old footings.old lists.old n index.old words.old mark cells.now 4) →
+        EnteredAs (records facts.old footings.old lists.old) (records facts.new footings.new lists.new) n index.old words.old index.new words.new mark g.form.S (perform a_step g.form.xs g.form.S) some_instances result) }
+    ensures fact_2 { (ids.new ≡ ids.old) × (memo.new ≡ memo.old) }
 {
     let mut map = [0u32; VARIABLES];
     let few = PATTERNS;
@@ -157,9 +157,9 @@ pub fn apply_next(
 ) -> Entered
     requires adds_derived { AddsDerived (names theory.now goals.now text.now symbols.now inputs.now vars.now defs.now) facts.old footings.old lists.old n index.old words.old mark cells.now 5 }
     requires memo_value { memo.old ≡ replicate TERMS 0 }
-    ensures* fact { λ r. ⌜ ((g : AddsDerived (names theory.now goals.now text.now symbols.now inputs.now vars.now defs.now) facts.old footings.old lists.old n index.old words.old mark cells.now 5) →
-        EnteredAs (records facts.old footings.old lists.old) (records facts.new footings.new lists.new) n index.old words.old index.new words.new mark g.form.S (perform anApply g.form.xs g.form.S) some_instances r) ⌝ }
-    ensures* memo_after { λ _. ⌜ memo.new ≡ memo.old ⌝ }
+    ensures fact { ((g : AddsDerived (names theory.now goals.now text.now symbols.now inputs.now vars.now defs.now) facts.old footings.old lists.old n index.old words.old mark cells.now 5) →
+        EnteredAs (records facts.old footings.old lists.old) (records facts.new footings.new lists.new) n index.old words.old index.new words.new mark g.form.S (perform anApply g.form.xs g.form.S) some_instances result) }
+    ensures memo_after { memo.new ≡ memo.old }
 {
     let mut bound = [0u32; VARIABLES];
     let mut map = [0u32; VARIABLES];
@@ -194,9 +194,9 @@ pub fn induct_next(
 ) -> Entered
     requires adds_derived { AddsDerived (names theory.now goals.now text.now symbols.now inputs.now vars.now defs.now) facts.old footings.old lists.old n index.old words.old mark cells.now 5 }
     requires spare { Spare ids.old memo.old }
-    ensures* fact { λ r. ⌜ ((g : AddsDerived (names theory.now goals.now text.now symbols.now inputs.now vars.now defs.now) facts.old footings.old lists.old n index.old words.old mark cells.now 5) →
-        EnteredAs (records facts.old footings.old lists.old) (records facts.new footings.new lists.new) n index.old words.old index.new words.new mark g.form.S (perform an_induct g.form.xs g.form.S) an_induction r) ⌝ }
-    ensures* fact_2 { λ _. ⌜ (ids.new ≡ ids.old) × (memo.new ≡ memo.old) ⌝ }
+    ensures fact { ((g : AddsDerived (names theory.now goals.now text.now symbols.now inputs.now vars.now defs.now) facts.old footings.old lists.old n index.old words.old mark cells.now 5) →
+        EnteredAs (records facts.old footings.old lists.old) (records facts.new footings.new lists.new) n index.old words.old index.new words.new mark g.form.S (perform an_induct g.form.xs g.form.S) an_induction result) }
+    ensures fact_2 { (ids.new ≡ ids.old) × (memo.new ≡ memo.old) }
 {
     let mut map = [0u32; VARIABLES];
     match is_next(text, cells, n) {
@@ -230,9 +230,9 @@ pub fn induct_with_next(
 ) -> Entered
     requires adds_derived { AddsDerived (names theory.now goals.now text.now symbols.now inputs.now vars.now defs.now) facts.old footings.old lists.old n index.old words.old mark cells.now 6 }
     requires spare { Spare ids.old memo.old }
-    ensures* fact { λ r. ⌜ ((g : AddsDerived (names theory.now goals.now text.now symbols.now inputs.now vars.now defs.now) facts.old footings.old lists.old n index.old words.old mark cells.now 6) →
-        EnteredAs (records facts.old footings.old lists.old) (records facts.new footings.new lists.new) n index.old words.old index.new words.new mark g.form.S (perform anInductWith g.form.xs g.form.S) an_induction r) ⌝ }
-    ensures* fact_2 { λ _. ⌜ (ids.new ≡ ids.old) × (memo.new ≡ memo.old) ⌝ }
+    ensures fact { ((g : AddsDerived (names theory.now goals.now text.now symbols.now inputs.now vars.now defs.now) facts.old footings.old lists.old n index.old words.old mark cells.now 6) →
+        EnteredAs (records facts.old footings.old lists.old) (records facts.new footings.new lists.new) n index.old words.old index.new words.new mark g.form.S (perform anInductWith g.form.xs g.form.S) an_induction result) }
+    ensures fact_2 { (ids.new ≡ ids.old) × (memo.new ≡ memo.old) }
 {
     let mut map = [0u32; VARIABLES];
     match is_next(text, cells, n) {
@@ -265,9 +265,9 @@ pub fn outcome(
 ) -> Resulted
     requires takes_result { TakesResult (names theory.now goals.now text.now symbols.now inputs.now vars.now defs.now) rows.old facts.now lists.now n index.old words.old mark cells.now }
     requires memo_value { memo.old ≡ replicate TERMS 0 }
-    ensures* fact { λ r. ⌜ ((g : TakesResult (names theory.now goals.now text.now symbols.now inputs.now vars.now defs.now) rows.old facts.now lists.now n index.old words.old mark cells.now) →
-        ResultedAs rows.old rows.new n index.old words.old index.new words.new mark g.S (result g.xs g.S) r) ⌝ }
-    ensures* memo_after { λ _. ⌜ memo.new ≡ memo.old ⌝ }
+    ensures fact { ((g : TakesResult (names theory.now goals.now text.now symbols.now inputs.now vars.now defs.now) rows.old facts.now lists.now n index.old words.old mark cells.now) →
+        ResultedAs rows.old rows.new n index.old words.old index.new words.new mark g.S (result_of g.xs g.S) result) }
+    ensures memo_after { memo.new ≡ memo.old }
 {
     let mut map = [0u32; VARIABLES];
     result(
