@@ -1,4 +1,3 @@
-use mathlib.Core.Path.{◌∙◌}
 use Rattle.unification.proofs.Sides.{first_full, second_ready, second_full, both_done}
 use Rattle.unification.proofs.peel.both_under.Goals as goal
 
@@ -6,39 +5,12 @@ pub replace-requires-in-Term : goal.replace-requires-in-Term
 replace-requires-in-Term c = second_ready _ _ _ _ _ _ _ c.requires _ _ c.replace.new.memo c.replace.result c.replace.ensures _ _ c.in-Term.is
     c.replace.auto.memo
 
-pub shape_of-index-in-Full : goal.shape_of-index-in-Full
-shape_of-index-in-Full c = c.replace.auto.index
-
-pub shape_of-words-in-Full : goal.shape_of-words-in-Full
-shape_of-words-in-Full c = c.replace.auto.words
-
-pub shape_of-memo-in-Full : goal.shape_of-memo-in-Full
-shape_of-memo-in-Full c = c.replace.auto.memo
-
 pub returns-in-Full : goal.returns-in-Full
 returns-in-Full c = first_full _ _ _ _ _ _ _ c.requires _ _ c.replace.new.memo c.replace.result c.replace.ensures _ _ c.in-Full.is
-
-pub shape_of-index-in-Full-replace : goal.shape_of-index-in-Full-replace
-shape_of-index-in-Full-replace c = c.replace-in-Term.auto.index ∙ c.replace.auto.index
-
-pub shape_of-words-in-Full-replace : goal.shape_of-words-in-Full-replace
-shape_of-words-in-Full-replace c = c.replace-in-Term.auto.words ∙ c.replace.auto.words
-
-pub shape_of-memo-in-Full-replace : goal.shape_of-memo-in-Full-replace
-shape_of-memo-in-Full-replace c = c.replace-in-Term.auto.memo ∙ c.replace.auto.memo
 
 pub returns-in-Full-replace : goal.returns-in-Full-replace
 returns-in-Full-replace c = second_full _ _ _ _ _ _ _ c.requires _ _ c.replace.new.memo c.replace.result c.replace.ensures _ _ c.in-Term.is _ _
     c.replace-in-Term.new.memo c.replace-in-Term.result c.replace-in-Term.ensures _ _ c.in-Full-replace.is
-
-pub shape_of-index-in-Term-replace : goal.shape_of-index-in-Term-replace
-shape_of-index-in-Term-replace c = c.replace-in-Term.auto.index ∙ c.replace.auto.index
-
-pub shape_of-words-in-Term-replace : goal.shape_of-words-in-Term-replace
-shape_of-words-in-Term-replace c = c.replace-in-Term.auto.words ∙ c.replace.auto.words
-
-pub shape_of-memo-in-Term-replace : goal.shape_of-memo-in-Term-replace
-shape_of-memo-in-Term-replace c = c.replace-in-Term.auto.memo ∙ c.replace.auto.memo
 
 pub returns-in-Term-replace : goal.returns-in-Term-replace
 returns-in-Term-replace c = both_done _ _ _ _ _ _ _ c.requires _ _ c.replace.new.memo c.replace.result c.replace.ensures _ _ c.in-Term.is _ _

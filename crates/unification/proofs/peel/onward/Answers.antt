@@ -1,9 +1,5 @@
-use native.Mathlib.Omega.{arith}
-use Rattle.unification.proofs.Looks.{look_nothing, look_clash, look_binds, sum_small, look_crowd, push_asks, look_more}
+use Rattle.unification.proofs.Looks.{look_nothing, look_clash, look_binds, look_crowd, push_asks, look_more}
 use Rattle.unification.proofs.peel.onward.Goals as goal
-
-pub overflow_add-waiting : goal.overflow_add-waiting
-overflow_add-waiting c = omega (arith, sum_small _ _ _ _ _ _ _ _ c.requires _ c.compare.result c.compare.ensures.answered _ _ _ c.in-Parts.is)
 
 pub returns-then-waiting-count-gt-PAIRS : goal.returns-then-waiting-count-gt-PAIRS
 returns-then-waiting-count-gt-PAIRS c = record { looked = look_crowd _ _ _ _ _ _ _ _ c.requires _ c.compare.result c.compare.ensures.answered _ _ _ c.in-Parts.is c.if-waiting-count-gt-PAIRS.true; seen_unchanged = c.compare.ensures.seen_unchanged }

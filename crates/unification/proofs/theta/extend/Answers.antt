@@ -16,17 +16,23 @@ slice_bounds-clear-end-2 c = part_again c.args.memo.now _ (memo_long _ _ _ _ _ _
     c.replace_values-r.auto.memo
 
 pub returns-in-Ok : goal.returns-in-Ok
-returns-in-Ok c = record { extended = extended_ok _ _ _ _ _ _ _ _ c.requires _ _ c.replace_values-r.new.theta c.replace_values-r.result c.replace_values-r.ensures _
-          c.in-Ok.is; map_unchanged = (
-        map_back _ _ _ _ _ _ _ _ c.requires,
-        part_wiped c.args.memo.now _ (memo_long _ _ _ _ _ _ _ _ c.requires) c.requires.empty
-            c.replace_values-r.new.memo _ c.replace_values-r.auto.memo c.clear.ensures,
-      ) }
+returns-in-Ok c = record {
+  extended = extended_ok _ _ _ _ _ _ _ _ c.requires _ _ c.replace_values-r.new.theta c.replace_values-r.result c.replace_values-r.ensures _
+      c.in-Ok.is;
+  map_unchanged = (
+    map_back _ _ _ _ _ _ _ _ c.requires,
+    part_wiped c.args.memo.now _ (memo_long _ _ _ _ _ _ _ _ c.requires) c.requires.empty
+        c.replace_values-r.new.memo _ c.replace_values-r.auto.memo c.clear.ensures,
+  );
+}
 
 pub returns-in-Full : goal.returns-in-Full
-returns-in-Full c = record { extended = extended_full _ _ _ _ _ _ _ _ c.requires _ _ c.replace_values-r.new.theta c.replace_values-r.result c.replace_values-r.ensures _ _
-          c.in-Full.is c.replace_values-r.auto.theta; map_unchanged = (
-        map_back _ _ _ _ _ _ _ _ c.requires,
-        part_wiped c.args.memo.now _ (memo_long _ _ _ _ _ _ _ _ c.requires) c.requires.empty
-            c.replace_values-r.new.memo _ c.replace_values-r.auto.memo c.clear.ensures,
-      ) }
+returns-in-Full c = record {
+  extended = extended_full _ _ _ _ _ _ _ _ c.requires _ _ c.replace_values-r.new.theta c.replace_values-r.result c.replace_values-r.ensures _ _
+      c.in-Full.is c.replace_values-r.auto.theta;
+  map_unchanged = (
+    map_back _ _ _ _ _ _ _ _ c.requires,
+    part_wiped c.args.memo.now _ (memo_long _ _ _ _ _ _ _ _ c.requires) c.requires.empty
+        c.replace_values-r.new.memo _ c.replace_values-r.auto.memo c.clear.ensures,
+  );
+}

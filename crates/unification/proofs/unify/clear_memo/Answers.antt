@@ -1,5 +1,4 @@
 use Rattle.unification.proofs.Solves.{results_long, cleared}
-use Rattle.unification.proofs.unify.clear_memo.Lts as lts
 use Rattle.unification.proofs.unify.clear_memo.Goals as goal
 
 pub slice_bounds-clear-end-2 : goal.slice_bounds-clear-end-2

@@ -1,4 +1,3 @@
-use mathlib.Core.Path.{ap}
 use Rattle.unification.proofs.Unifies.{Solving}
 use Rattle.unification.proofs.unify.solve.Given as goal
 
