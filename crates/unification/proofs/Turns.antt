@@ -7,7 +7,7 @@ use lib.ListN.{length, get_or}
 use Rattle.rules.specs.Out.{then}
 use Rattle.rules.specs.Tree.{Tree, Trees, app, sub, count_trees, size}
 use Rattle.rules.specs.Store.{substitute}
-use Rattle.rules.specs.Unify.{Binding, Pair, along, Look, parts, look, push, Found, bound, onward, peel, weight}
+use Rattle.rules.specs.Unify.{Binding, Pair, along, Look, parts, look, push, Found, onward, peel, weight}
 use Rattle.meaning.specs.Trees.Tree.{size_pos}
 use Rattle.meaning.specs.Unification.List.{Settled, Each}
 use Rattle.meaning.specs.Unification.Pairs.{Saw, saw, WithinPairs}
