@@ -27,10 +27,10 @@ fn write_answer(text: &[u8], goals: usize, proof: usize, end: usize)
     finish(out, 1, p);
 }
 
-fn main() {
+fn main(rt: HostRuntime) {
     let mut buffer = room();
     let text: &mut [u8] = &mut buffer;
-    let t = load_texts(b"usage: horn THEORY GOALS PROOF\n", text);
+    let t = load_texts(&rt, b"usage: horn THEORY GOALS PROOF\n", text);
     if !t.done {
         return;
     }

@@ -26,10 +26,10 @@ fn write_facts(text: &[u8], goals: usize, proof: usize, end: usize)
     finish(out, 1, p);
 }
 
-fn main() {
+fn main(rt: HostRuntime) {
     let mut buffer = room();
     let text: &mut [u8] = &mut buffer;
-    let t = load_texts(b"usage: horn_facts THEORY GOALS PROOF\n", text);
+    let t = load_texts(&rt, b"usage: horn_facts THEORY GOALS PROOF\n", text);
     if !t.done {
         return;
     }

@@ -9,7 +9,7 @@ use native.Mathlib.Numerals.{add-one}
 use lib.ListN.{length, take, drop, get_or, set, length-drop}
 use lib.Seq.{paste, paste-suc, take-paste, take-length, append_snoc, length-take-le}
 use Rattle.io.specs.Digits.{last_digits, IsDigitCount}
-use Rattle.printing.specs.Written.{Put, Decimal, PutNumber, PutField}
+use Rattle.printing.specs.Written.{Put, PutNumber, PutField}
 use Rattle.running.specs.declared.finish.Report.{Report}
 use Rattle.running.specs.declared.finish.Refusal.{Refusal}
 use Rattle.printing.specs.Lines.{accepted, refused, closing, Accepts, Refuses}

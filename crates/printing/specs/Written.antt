@@ -1,5 +1,5 @@
 -- What is put into a buffer: bytes at a place, behind what stands in front of it. Assumes nothing.
-use Rattle.std.specs.Prelude.{ℕ, ◌+◌, ◌≤◌, ◌≡◌, List, [], ◌∷◌, ◌++◌, length, take}
+use Rattle.std.specs.Prelude.{ℕ, ◌+◌, ◌≤◌, ◌≡◌, List, ◌∷◌, ◌++◌, length, take}
 use Rattle.io.specs.Digits.{last_digits, IsDigitCount}
 
 -- the bytes stand at the place, r is behind them, and what is in front is as it was

@@ -7,7 +7,7 @@ use crate::spelling::say_term;
 use rules::SYMBOLS;
 
 // A fact's row, with the places at which the parts of its list begin and end.
-#[derive(Drop)]
+#[derive(Clone, Copy)]
 pub struct Parts {
     pub judgment: usize,
     pub assumed: usize,

@@ -5,7 +5,7 @@ ghost use Rattle.printing.specs.Pens.{Said, SaidSome};
 use crate::text::put_bytes;
 
 // Where the next byte comes, and how many may still be said of what is being said.
-#[derive(Drop)]
+#[derive(Clone, Copy)]
 pub struct Pen {
     pub at: usize,
     pub left: usize,

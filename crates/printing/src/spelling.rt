@@ -11,7 +11,7 @@ use rules::WORDS;
 pub const BYTES: usize = 1000000;
 
 // A pen, and how many terms are begun and not ended.
-#[derive(Drop)]
+#[derive(Clone, Copy)]
 pub struct Trace {
     pub at: usize,
     pub left: usize,
