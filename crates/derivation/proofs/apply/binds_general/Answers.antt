@@ -6,6 +6,7 @@ use mathlib.Core.Path.{refl, sym}
 use mathlib.Core.Path.{ap}
 use mathlib.Core.Bool.{not}
 use Rattle.derivation.proofs.apply.binds_general.Goals as goal
+use Rattle.derivation.proofs.apply.binds_general.Goals.{then-bound-v-ne0+else-not-has, else-bound-v-ne0}
 
 pub general-span-requires : goal.general-span-requires
 general-span-requires c = rule_asks c.requires.0
@@ -56,8 +57,10 @@ pub loop-v-preserved : goal.loop-v-preserved
 loop-v-preserved c = (
       c.loop-v.invariant.0,
       c.loop-v.invariant.1,
-      ⊎_elim (λ w. general_in c.loop-v.invariant.2 c.loop-v-test.true w.0.taken w.2.ensures w.3.left)
-          (λ w. general_skip c.loop-v.invariant.2 c.loop-v-test.true w.left) c.if-bound-v-ne0.branch,
+      elim c.if-bound-v-ne0.branch [
+          then-bound-v-ne0+else-not-has w ↦ general_in c.loop-v.invariant.2 c.loop-v-test.true w.if-bound-v-ne0.true w.has.ensures (ap not w.if-not-has.false)
+        | else-bound-v-ne0 w ↦ general_skip c.loop-v.invariant.2 c.loop-v-test.true w.if-bound-v-ne0.false
+      ],
     )
 
 pub returns : goal.returns
