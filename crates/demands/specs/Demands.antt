@@ -34,6 +34,22 @@ use Rattle.running.specs.ReadBack.{Call}
 use Rattle.demands.specs.Reader.{goal_in, fact_in, facts_in}
 use Rattle.demands.specs.ReaderLaws.{fact_read, goal_read, facts_read}
 
+-- what a call says, by its two cases: too short tables, and an answer
+short_case : {t g f : List ℕ} {before after : Tables} {answer : Answer} → Checked t g f before after answer → ¬ (Long before)
+    → (answer ≡ refuses (record { number = 1; text = 0; form = 0; detail = 0 })) × (after ≡ before)
+short_case (too_short m e) n = (refl, e)
+short_case (answered l d) n = absurd (n l)
+
+laid_case : {t g f : List ℕ} {before after : Tables} {answer : Answer} → Checked t g f before after answer → Long before
+    → Laid (check t g f) before after
+laid_case (too_short n e) l = absurd (n l)
+laid_case (answered m d) l = d
+
+answer_case : {t g f : List ℕ} {before after : Tables} {answer : Answer} → Checked t g f before after answer → Long before
+    → answer ≡ (check t g f).answer
+answer_case (too_short n e) l = absurd (n l)
+answer_case (answered m d) l = refl
+
 module _ {theory goals proof : List ℕ} {before after : Tables} {answer : Answer} (call : Call theory goals proof before after answer) where
   -- what the definition leaves
   abbrev S : State
@@ -42,15 +58,15 @@ module _ {theory goals proof : List ℕ} {before after : Tables} {answer : Answe
   -- Demand 1 -----------------------------------------------------------------------------------------------------------------------
 
   pub short_unwritten : ¬ (Long before) → (answer ≡ refuses (record { number = 1; text = 0; form = 0; detail = 0 })) × (after ≡ before)
-  short_unwritten n = elim call.checked [ too_short m e ↦ (refl, e) | answered l d ↦ absurd (n l) ]
+  short_unwritten n = short_case call.checked n
 
   pub tables_named : Long before → Laid (check theory goals proof) before after
-  tables_named l = elim call.checked [ too_short n e ↦ absurd (n l) | answered m d ↦ d ]
+  tables_named l = laid_case call.checked l
 
   -- Demand 2 -----------------------------------------------------------------------------------------------------------------------
 
   pub answer_defined : Long before → answer ≡ (check theory goals proof).answer
-  answer_defined l = elim call.checked [ too_short n e ↦ absurd (n l) | answered m d ↦ refl ]
+  answer_defined l = answer_case call.checked l
 
   pub facts_recorded : Long before → facts_in after (length S.facts) ≡ S.facts
   facts_recorded l = facts_read (call.read l)
