@@ -9,7 +9,7 @@ use lib.ListN.{length, get_or, set, length-set}
 use lib.Seq.{get_or-set_same, get_or-set_other}
 use lib.Dec.{leb}
 use borrow.Author.Tests.{le-leb, lt-leb}
-use Rattle.rules.specs.Limits.{PAIRS, ARGUMENTS}
+use Rattle.rules.specs.Limits.{PAIRS}
 use Rattle.rules.specs.Out.{Out, ok, refuse, then, Act, room}
 use Rattle.rules.specs.Tree.{Tree, Trees, count_trees}
 use Rattle.rules.specs.Store.{Made}
@@ -111,9 +111,6 @@ module _ (I W : List ℕ) (m : Mark) (P seen : List ℕ) (w s t : ℕ) (q : Look
 
     count : count_trees (args_of (made I W m) (run W a n)) ≡ n
     count = args_count (made I W m) (run W a n) ∙ run_length W a n left_in
-
-    pub sum_small : w + n ≤ PAIRS + ARGUMENTS
-    sum_small = let x = asks.few in let y = q.few in omega arith
 
     pub look_crowd : PAIRS < w + n → Crowded w L
     look_crowd h = let z = count in record { lefts = _; rights = _; asks = asks.asks; full = omega arith }

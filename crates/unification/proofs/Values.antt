@@ -7,7 +7,6 @@ use native.Mathlib.Decide.{dec_lt, ℕ_discrete}
 use native.Mathlib.Numerals.{add-one}
 use lib.ListN.{length, get_or, take, drop, set, length-set, drop_of_length-le, get_or-eq_default}
 use lib.Seq.{length-take-le, take-suc, take-suc-set, take_all, drop-cons, get_or-take, get_or-set_same, get_or-set_other}
-use Rattle.rules.specs.Limits.{TERMS}
 use Rattle.rules.specs.Out.{Out, ok, refuse, then}
 use Rattle.rules.specs.Tree.{Tree, var, sub}
 use Rattle.rules.specs.Store.{Made, make, substitute}
@@ -224,13 +223,6 @@ module _ (I W : List ℕ) (old : Mark) (theta map memo : List ℕ) (J X theta' m
       pub value_term : (K Y memo'' : List ℕ) (r : Kept) → Substituted J X K Y m map memo' memo'' id r → length memo'' ≡ length memo' → (n : ℕ) (new : Mark) → r ≡ Term n new
           → Changing I W old theta map memo K Y (set theta' v (n + 1)) memo'' new (v + 1)
       value_term K Y memo'' r d q n new p = changing_on K Y memo'' n new q (subst (Substituted J X K Y m map memo' memo'' id) p d)
-
-      pub term_there : (K Y memo'' : List ℕ) (r : Kept) → Substituted J X K Y m map memo' memo'' id r → (n : ℕ) (new : Mark) → r ≡ Term n new → n < TERMS
-      term_there K Y memo'' r d n new p =
-          let e : Done J X K Y m map memo' memo'' id n new = subst (Substituted J X K Y m map memo' memo'' id) p d in
-          let a = e.stored.there in
-          let b = e.stored.grown.good.room in
-          omega arith
 
       pub value_full : (K Y memo'' : List ℕ) (r : Kept) → Substituted J X K Y m map memo' memo'' id r → (row : ℕ) (new : Mark) → r ≡ Full row new → Refused (List Binding) I W K Y old K₀ row new
       value_full K Y memo'' r d row new p =

@@ -1,46 +1,20 @@
-use mathlib.Core.Path.{◌∙◌}
 use native.Mathlib.Omega.{arith}
 use Rattle.terms.specs.Laws.Growth.{grown_trans}
 use Rattle.terms_main.proofs.Places.{as_term, as_full, sooner, both_read}
-use borrow.Author.Rules.{rules}
 use Rattle.terms_main.proofs.+read.Goals as goal
 
 pub put_leaf-requires : goal.put_leaf-requires
 put_leaf-requires t c = (c.requires, omega arith)
 
-pub shape_of-index-then-text-at : goal.shape_of-index-then-text-at
-shape_of-index-then-text-at t c = c.put_leaf.auto.index
-
-pub shape_of-words-then-text-at : goal.shape_of-words-then-text-at
-shape_of-words-then-text-at t c = c.put_leaf.auto.words
-
 pub returns-then-text-at : goal.returns-then-text-at
 returns-then-text-at t c = c.put_leaf.ensures
-
-pub bounds-text-at : goal.bounds-text-at
-bounds-text-at t c = search rules
-
-pub head_of-head-requires : goal.head_of-head-requires
-head_of-head-requires t c = search rules
-
-pub overflow_add-at : goal.overflow_add-at
-overflow_add-at t c = search rules
 
 pub put_leaf-requires-then-head-ne-F : goal.put_leaf-requires-then-head-ne-F
 put_leaf-requires-then-head-ne-F t c = (c.requires, c.head_of-head.ensures)
 
-pub shape_of-index-then-head-ne-F : goal.shape_of-index-then-head-ne-F
-shape_of-index-then-head-ne-F t c = c.put_leaf-then-head-ne-F.auto.index
-
-pub shape_of-words-then-head-ne-F : goal.shape_of-words-then-head-ne-F
-shape_of-words-then-head-ne-F t c = c.put_leaf-then-head-ne-F.auto.words
-
 pub returns-then-head-ne-F : goal.returns-then-head-ne-F
 returns-then-head-ne-F t c = sooner c.args.index.now c.args.words.now c.put_leaf-then-head-ne-F.new.index c.put_leaf-then-head-ne-F.new.words c.args.mark c.args.at c.put_leaf-then-head-ne-F.result
     c.put_leaf-then-head-ne-F.ensures
-
-pub overflow_add-at-2 : goal.overflow_add-at-2
-overflow_add-at-2 t c = search rules
 
 pub read-requires : goal.read-requires
 read-requires t c = (omega (arith, c.if-text-at.false, c.decreases), c.requires)
@@ -51,30 +25,12 @@ read-requires-in-Term t c = (omega (arith, c.if-text-at.false, c.decreases, (as_
 pub put_pair-requires : goal.put_pair-requires
 put_pair-requires t c = let spelt = as_term c.read-in-Term.ensures c.in-Term-read.is in record { good = spelt.0.grown.good; a_lt_terms = (omega (arith, (as_term c.read.ensures c.in-Term.is).0.there, spelt.0.grown.more), spelt.0.there) }
 
-pub shape_of-index-in-Term-read : goal.shape_of-index-in-Term-read
-shape_of-index-in-Term-read t c = c.put_pair.auto.index ∙ c.read-in-Term.auto.index ∙ c.read.auto.index
-
-pub shape_of-words-in-Term-read : goal.shape_of-words-in-Term-read
-shape_of-words-in-Term-read t c = c.put_pair.auto.words ∙ c.read-in-Term.auto.words ∙ c.read.auto.words
-
 pub returns-in-Term-read : goal.returns-in-Term-read
 returns-in-Term-read t c = both_read _ _ _ _ _ _ c.put_pair.new.index c.put_pair.new.words _ _ _ _ _ _ _ _ c.put_pair.result
     (as_term c.read.ensures c.in-Term.is) (as_term c.read-in-Term.ensures c.in-Term-read.is) c.put_pair.ensures
 
-pub shape_of-index-in-Full-read : goal.shape_of-index-in-Full-read
-shape_of-index-in-Full-read t c = c.read-in-Term.auto.index ∙ c.read.auto.index
-
-pub shape_of-words-in-Full-read : goal.shape_of-words-in-Full-read
-shape_of-words-in-Full-read t c = c.read-in-Term.auto.words ∙ c.read.auto.words
-
 pub returns-in-Full-read : goal.returns-in-Full-read
 returns-in-Full-read t c = record { says = grown_trans (as_term c.read.ensures c.in-Term.is).0.grown (as_full c.read-in-Term.ensures c.in-Full-read.is) }
-
-pub shape_of-index-in-Full : goal.shape_of-index-in-Full
-shape_of-index-in-Full t c = c.read.auto.index
-
-pub shape_of-words-in-Full : goal.shape_of-words-in-Full
-shape_of-words-in-Full t c = c.read.auto.words
 
 pub returns-in-Full : goal.returns-in-Full
 returns-in-Full t c = record { says = as_full c.read.ensures c.in-Full.is }

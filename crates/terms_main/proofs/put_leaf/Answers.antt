@@ -6,20 +6,8 @@ use Rattle.terms_main.proofs.put_leaf.Goals as goal
 pub keep-requires : goal.keep-requires
 keep-requires c = record { good = c.requires.0; node = leaf_node _ _ c.requires.1 }
 
-pub shape_of-index-in-Term : goal.shape_of-index-in-Term
-shape_of-index-in-Term c = c.keep.auto.index
-
-pub shape_of-words-in-Term : goal.shape_of-words-in-Term
-shape_of-words-in-Term c = c.keep.auto.words
-
 pub returns-in-Term : goal.returns-in-Term
 returns-in-Term c = record { says = (stored_there (after_term c.keep.ensures c.in-Term.is), omega arith) }
-
-pub shape_of-index-in-Full : goal.shape_of-index-in-Full
-shape_of-index-in-Full c = c.keep.auto.index
-
-pub shape_of-words-in-Full : goal.shape_of-words-in-Full
-shape_of-words-in-Full c = c.keep.auto.words
 
 pub returns-in-Full : goal.returns-in-Full
 returns-in-Full c = record { says = (after_full c.keep.ensures c.in-Full.is).grown }

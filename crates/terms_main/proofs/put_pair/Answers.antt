@@ -3,29 +3,11 @@ use Rattle.terms_main.proofs.Places.{stored_there, pair_node}
 use Rattle.terms.specs.Laws.Answers.{after_term, after_full}
 use Rattle.terms_main.proofs.put_pair.Goals as goal
 
-pub overflow_cast-node-2 : goal.overflow_cast-node-2
-overflow_cast-node-2 c = omega (arith, c.requires.a_lt_terms.0, c.requires.good.room)
-
-pub overflow_cast-node-3 : goal.overflow_cast-node-3
-overflow_cast-node-3 c = omega (arith, c.requires.a_lt_terms.1, c.requires.good.room)
-
 pub keep-requires : goal.keep-requires
 keep-requires c = record { good = c.requires.good; node = pair_node _ _ _ _ (omega arith) c.requires.a_lt_terms.0 c.requires.a_lt_terms.1 }
 
-pub shape_of-index-in-Term : goal.shape_of-index-in-Term
-shape_of-index-in-Term c = c.keep.auto.index
-
-pub shape_of-words-in-Term : goal.shape_of-words-in-Term
-shape_of-words-in-Term c = c.keep.auto.words
-
 pub returns-in-Term : goal.returns-in-Term
 returns-in-Term c = record { says = (stored_there (after_term c.keep.ensures c.in-Term.is), omega arith) }
-
-pub shape_of-index-in-Full : goal.shape_of-index-in-Full
-shape_of-index-in-Full c = c.keep.auto.index
-
-pub shape_of-words-in-Full : goal.shape_of-words-in-Full
-shape_of-words-in-Full c = c.keep.auto.words
 
 pub returns-in-Full : goal.returns-in-Full
 returns-in-Full c = record { says = (after_full c.keep.ensures c.in-Full.is).grown }

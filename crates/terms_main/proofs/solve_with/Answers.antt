@@ -1,4 +1,4 @@
-use mathlib.Core.Path.{sym, ◌∙◌, subst}
+use mathlib.Core.Path.{sym, subst}
 use mathlib.Core.List.{List}
 use Prim.Native.Nat.{ℕ}
 use Rattle.unification.specs.Unify.{Scratch}
@@ -17,35 +17,8 @@ solve-requires c = unifies_both _ _ _ _ _ _ _ _ _ _ _ _ _ c.requires.s_lt_terms 
     (subst (λ (l : List ℕ). Scratch c.args.theta.now c.args.map.now c.args.memo.now c.args.pairs.now l)
     (sym c.show_both.ensures) c.requires.idle.scratch)
 
-pub shape_of-index-in-Term : goal.shape_of-index-in-Term
-shape_of-index-in-Term c = c.solve.auto.index ∙ c.read.auto.index
-
-pub shape_of-words-in-Term : goal.shape_of-words-in-Term
-shape_of-words-in-Term c = c.solve.auto.words ∙ c.read.auto.words
-
-pub shape_of-theta : goal.shape_of-theta
-shape_of-theta c = c.solve.auto.theta
-
-pub shape_of-map : goal.shape_of-map
-shape_of-map c = c.solve.auto.map
-
-pub shape_of-memo : goal.shape_of-memo
-shape_of-memo c = c.solve.auto.memo
-
-pub shape_of-pairs : goal.shape_of-pairs
-shape_of-pairs c = c.solve.auto.pairs
-
-pub shape_of-seen : goal.shape_of-seen
-shape_of-seen c = c.solve.auto.seen ∙ c.show_both.auto.seen
-
 pub returns-in-Term : goal.returns-in-Term
 returns-in-Term c = c.solve.ensures
-
-pub shape_of-index-in-Full : goal.shape_of-index-in-Full
-shape_of-index-in-Full c = c.read.auto.index
-
-pub shape_of-words-in-Full : goal.shape_of-words-in-Full
-shape_of-words-in-Full c = c.read.auto.words
 
 pub returns-in-Full : goal.returns-in-Full
 returns-in-Full c = record { good = (as_full c.read.ensures c.in-Full.is).good; scratch = c.requires.idle.scratch }

@@ -1,3 +1,4 @@
+-- An argument has a smaller number, so the calls end.
 use Prim.Native.Nat.{◌-◌}
 use Rattle.terms_main.proofs.Places.{Walking}
 use Rattle.terms_main.proofs.show.+show.Given as goal

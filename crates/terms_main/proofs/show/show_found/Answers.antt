@@ -21,14 +21,5 @@ show_under-requires c = record {
   in_bounds = (omega (arith, c.requires.in_bounds.0, ap length c.show_under-m.ensures.1), subst Zeros (sym c.show_under-m.ensures.1) c.requires.in_bounds.1);
 }
 
-pub shape_of-index : goal.shape_of-index
-shape_of-index c = c.show_under.auto.index ∙ c.show_under-m.auto.index
-
-pub shape_of-words : goal.shape_of-words
-shape_of-words c = c.show_under.auto.words ∙ c.show_under-m.auto.words
-
-pub shape_of-memo : goal.shape_of-memo
-shape_of-memo c = c.show_under.auto.memo ∙ c.show_under-m.auto.memo
-
 pub returns : goal.returns
 returns c = (c.show_under.ensures.0.good, c.show_under.ensures.1 ∙ c.show_under-m.ensures.1)
