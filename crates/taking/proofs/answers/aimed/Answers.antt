@@ -1,0 +1,13 @@
+use mathlib.Core.Path.{◌∙◌, sym, ap}
+use Prim.Native.Nat.{◌+◌}
+use Rattle.state.specs.Used.{goals_now}
+use Rattle.taking.specs.declared.answers.Tried.TheVariants.{Ok}
+use Rattle.taking.specs.Tried.{aimed_tried}
+use Rattle.taking.proofs.answers.aimed.Goals as goal
+
+pub returns-in-Ok : goal.returns-in-Ok
+returns-in-Ok c = ap (λ z. Ok (goals_now c.args.n (c.args.n.goals + 1) c.in-Ok.e) c.in-Ok.new z) c.no_counts.ensures
+    ∙ sym (ap (aimed_tried c.args.n) c.in-Ok.is)
+
+pub returns-in-No : goal.returns-in-No
+returns-in-No c = sym (ap (aimed_tried c.args.n) c.in-No.is)
