@@ -25,19 +25,9 @@ use Rattle.running.specs.Between.{Held, Few, Between, AllLong, Begun, begun, unf
 use Rattle.running.specs.ReadBack.{Call}
 use Rattle.running.specs.Checking.{tables_of, with_index, call_fit, call_unfit, facts_room, room_fit, room_unfit}
 use Rattle.schematic.specs.Taken.{Kept, Untouched, Ran, Blank}
-use Rattle.schematic.proofs.LocalArray.{many, many_is}
 use Rattle.schematic.proofs.Looping.{behind_both}
 
 -- The beginning --------------------------------------------------------------------------------------------------------------------
-
--- the scratch as it is made
-pub zeros_many : (a n : ℕ) → a ≡ n → many ℕ a 0 ≡ replicate n 0
-zeros_many a n e = many_is ℕ a 0 ∙ ap (λ (k : ℕ). replicate k 0) e
-
-pub blank_many : (a b c d e : ℕ) → a ≡ 6 * FACTS → b ≡ 4 * FACTS → c ≡ LENGTH → d ≡ IDS → e ≡ TERMS →
-    Blank (many ℕ a 0) (many ℕ b 0) (many ℕ c 0) (many ℕ d 0) (many ℕ e 0)
-blank_many a b c d e ea eb ec ed ee =
-    (zeros_many a (6 * FACTS) ea, (zeros_many b (4 * FACTS) eb, (zeros_many c LENGTH ec, (zeros_many d IDS ed, zeros_many e TERMS ee))))
 
 few_none : (forms : ℕ) → Few none forms
 few_none forms = record { hypotheses = omega arith; inductions = omega arith; inversions = omega arith; instances = omega arith }

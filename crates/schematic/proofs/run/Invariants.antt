@@ -1,0 +1,16 @@
+-- `schematic::run`: all forms, one turn each, by proofs/Looping. Assumes nothing.
+use Rattle.std.proofs.Common.{ℕ, length}
+use Rattle.kernel.specs.Parsed.{theory_lists}
+use Rattle.running.specs.Lent.{working}
+use Rattle.schematic.proofs.Looping.{Looping, measure}
+use Rattle.schematic.proofs.run.Given as goal
+
+abbrev pub invariant-loop-st : goal.invariant-loop-st
+invariant-loop-st l =
+    Looping l.theory l.goals l.proof (theory_lists l.sorts l.symbols l.inputs l.rules l.rulevars l.patterns)
+    (working l.initial.vars l.initial.index l.initial.words l.initial.defs l.initial.rows l.initial.lists)
+    (working l.vars l.index l.words l.defs l.rows l.lists)
+    l.kept l.feet l.cells l.ids l.memo l.initial.st l.st l.initial.facts l.facts l.counts
+
+abbrev pub decreases-loop-st : goal.decreases-loop-st
+decreases-loop-st l = measure l.st.going (length l.proof) l.st.at
