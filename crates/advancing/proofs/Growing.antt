@@ -71,7 +71,7 @@ front_stays N {before} {after} {xs} {ys} n b a f e l =
 
 -- A form -------------------------------------------------------------------------------------------------------------------------------
 
-grows_sound : {S U : State} {c : Counts} → sound.Good S.made → Taken sound S c U → Grows sound S.made U.made
+grows_sound : {S : State} {c : Counts} {U : State} → sound.Good S.made → Taken sound S c U → Grows sound S.made U.made
 grows_sound h (new_var v l) = stays h
 grows_sound h (new_def m d g k l) = g
 grows_sound h (new_fact vs m f c l g k n p r) = g

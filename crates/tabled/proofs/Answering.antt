@@ -18,7 +18,8 @@ use Rattle.tabled.specs.Tabled.{Tabled}
 
 defined : {theory goals proof : List ℕ} {before after : Tables} {a : Answer} → Long before → Checked theory goals proof before after a →
     a ≡ (check theory goals proof).answer
-defined l c = elim c [ too_short n e ↦ absurd (n l) | answered m d ↦ refl ]
+defined l (too_short n e) = absurd (n l)
+defined l (answered m d) = refl
 
 -- Tables of zeros as long as named ---------------------------------------------------------------------------------------------------
 
