@@ -1,5 +1,5 @@
 #!/usr/bin/env python3
-"""The constructors that stand several on a line, which respell.py did not see. usage: tools/respell_rest.py FOLDER.. (files below them, in place)"""
+"""The constructors that stand several on a line, which respell.py did not see, and the field `ground`, today a tactic's name. usage: tools/respell_rest.py FOLDER.. (files below them, in place)"""
 import os
 import re
 import sys
@@ -18,10 +18,14 @@ for top in sys.argv[1:]:
             if name.endswith((".rt", ".antt", ".edit")):
                 path = os.path.join(folder, name)
                 with open(path, encoding="utf-8") as f:
-                    text = f.read()
+                    text = original = f.read()
                 if "inComment" in text:
                     text = re.sub(r"(?<![\w'-])in_comment(?![\w'-])", "in_comment_lem", text)
-                new = TOKEN.sub(lambda m: NAMES[m[1]], text)
-                if new != text:
+                if "crates/meaning/" in path or "/meaning/specs/" in path:
+                    text_ = re.sub(r"(?<![\w'-])ground(?![\w'-])", "grounded", text) if name.endswith(".antt") else text
+                else:
+                    text_ = text
+                new = TOKEN.sub(lambda m: NAMES[m[1]], text_)
+                if new != original:
                     with open(path, "w", encoding="utf-8") as f:
                         f.write(new)

@@ -6,7 +6,7 @@ use native.Mathlib.Omega.{arith}
 use lib.ListN.{length, length-append}
 use Rattle.rules.specs.Out.{ok}
 use Rattle.rules.specs.Sexp.{Sexp, Sexps, atom, list, nil, cons, count, item}
-use Rattle.rules.specs.Tags.{Tag, aVar, aDef, a_step, aHyp, aRuleHyp, an_induct, anInductWith, anApply, an_invert, aResult}
+use Rattle.rules.specs.Tags.{Tag, a_var, a_def, a_step, a_hyp, a_rule_hyp, an_induct, an_induct_with, an_apply, an_invert, a_result}
 use Rattle.rules.specs.State.{State, Counts}
 use Rattle.rules.specs.Forms.{plus, take_form}
 use Rattle.rules.specs.Laws.Out.{of_ok}
@@ -50,8 +50,8 @@ pub record OneAtMost (c : Counts) (n : ℕ) : Type 0 where
 
 tag_counts : (t : Tag) (xs : Sexps) → OneAtMost (counted t xs) (suc (length (encodes xs)))
 unfolding counted
-tag_counts aVar xs = record { hypotheses = omega arith; inductions = omega arith; inversions = omega arith; instances = omega arith }
-tag_counts aDef xs = record { hypotheses = omega arith; inductions = omega arith; inversions = omega arith; instances = omega arith }
+tag_counts a_var xs = record { hypotheses = omega arith; inductions = omega arith; inversions = omega arith; instances = omega arith }
+tag_counts a_def xs = record { hypotheses = omega arith; inductions = omega arith; inversions = omega arith; instances = omega arith }
 tag_counts a_step xs =
     record {
       hypotheses = omega arith;
@@ -59,13 +59,13 @@ tag_counts a_step xs =
       inversions = omega arith;
       instances = omega (arith, brackets_in_few (item xs 3), item_short xs 3);
     }
-tag_counts aHyp xs = record { hypotheses = omega arith; inductions = omega arith; inversions = omega arith; instances = omega arith }
-tag_counts aRuleHyp xs = record { hypotheses = omega arith; inductions = omega arith; inversions = omega arith; instances = omega arith }
+tag_counts a_hyp xs = record { hypotheses = omega arith; inductions = omega arith; inversions = omega arith; instances = omega arith }
+tag_counts a_rule_hyp xs = record { hypotheses = omega arith; inductions = omega arith; inversions = omega arith; instances = omega arith }
 tag_counts an_induct xs = record { hypotheses = omega arith; inductions = omega arith; inversions = omega arith; instances = omega arith }
-tag_counts anInductWith xs = record { hypotheses = omega arith; inductions = omega arith; inversions = omega arith; instances = omega arith }
-tag_counts anApply xs = record { hypotheses = omega arith; inductions = omega arith; inversions = omega arith; instances = omega arith }
+tag_counts an_induct_with xs = record { hypotheses = omega arith; inductions = omega arith; inversions = omega arith; instances = omega arith }
+tag_counts an_apply xs = record { hypotheses = omega arith; inductions = omega arith; inversions = omega arith; instances = omega arith }
 tag_counts an_invert xs = record { hypotheses = omega arith; inductions = omega arith; inversions = omega arith; instances = omega arith }
-tag_counts aResult xs = record { hypotheses = omega arith; inductions = omega arith; inversions = omega arith; instances = omega arith }
+tag_counts a_result xs = record { hypotheses = omega arith; inductions = omega arith; inversions = omega arith; instances = omega arith }
 
 counted_as_lem : (o : Option Tag) (xs : Sexps) → OneAtMost (counted_as o xs) (suc (length (encodes xs)))
 unfolding counted_as

@@ -8,7 +8,7 @@ use lib.ListN.{length}
 use Rattle.rules.specs.Limits.{VARIABLES, GOALS, ENTRIES}
 use Rattle.rules.specs.Out.{Out, ok, refuse, then, Act}
 use Rattle.rules.specs.Sexp.{Sexp, Sexps, count, item, marked}
-use Rattle.rules.specs.Tags.{GoalForm, aVariable, aGoal, aGoalWith, goal_form}
+use Rattle.rules.specs.Tags.{GoalForm, a_variable, a_goal, a_goal_with, goal_form}
 use Rattle.rules.specs.Tree.{Tree, Trees, none, count_trees}
 use Rattle.rules.specs.Store.{Made}
 use Rattle.rules.specs.Theory.{sort_named, constructor_named, predicate_named}
@@ -62,9 +62,9 @@ add_goal_keeps x hs j S h =
 
 goal_keeps : (t : GoalForm) (xs : Sexps) (S : State) → InGoals S → Keeps (goal t xs S)
 unfolding goal
-goal_keeps aVariable xs S h = add_var_keeps xs S h
-goal_keeps aGoal xs S h = go_on _ (by_making (judgment S (item xs 2)) S _ λ j u. add_goal_keeps (item xs 1) none j (with_made S u) h)
-goal_keeps aGoalWith xs S h =
+goal_keeps a_variable xs S h = add_var_keeps xs S h
+goal_keeps a_goal xs S h = go_on _ (by_making (judgment S (item xs 2)) S _ λ j u. add_goal_keeps (item xs 1) none j (with_made S u) h)
+goal_keeps a_goal_with xs S h =
     go_on _ (by_making (judgments S (item xs 2)) S _ λ hs u. by_making (judgment S (item xs 3)) (with_made S u) _ λ j w.
     add_goal_keeps (item xs 1) hs j (with_made S w) h)
 

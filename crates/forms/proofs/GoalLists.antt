@@ -9,7 +9,7 @@ use lib.Seq.{sets}
 use borrow.Rule.Slice.PartMut.{put_same, take_put, same_len_mid}
 use Rattle.rules.specs.Limits.{ENTRIES}
 use Rattle.rules.specs.Sexp.{item}
-use Rattle.rules.specs.Tags.{aGoalWith}
+use Rattle.rules.specs.Tags.{a_goal_with}
 use Rattle.rules.specs.Tree.{Tree, Trees, count_trees}
 use Rattle.rules.specs.Forms.{add_goal, goal}
 use Rattle.rules.specs.TheoryTables.{filled}
@@ -109,24 +109,24 @@ module _ {K : Names} {rows : List ℕ} {n : Sizes} {I W : List ℕ} {m : Mark} {
   form_given = record { S = g.S; xs = g.xs; reads = g.reads; store = g.store; holds = g.holds; many = g.many }
 
   module _ (J X before out : List ℕ) (r : Aims)
-      (b : (h : ReadsForm K n I W m cells 4) → AimsAs I W J X m h.S (goal aGoalWith h.xs h.S) (item h.xs 1) before out r) where
-    pub with_stop : {q d : ℕ} {new : Mark} → r ≡ aims_as.No q d new → Halts I W J X m g.S (goal aGoalWith g.xs g.S) q d new × (out ≡ before)
-    with_stop e = subst (AimsAs I W J X m g.S (goal aGoalWith g.xs g.S) (item g.xs 1) before out) e (b form_given)
+      (b : (h : ReadsForm K n I W m cells 4) → AimsAs I W J X m h.S (goal a_goal_with h.xs h.S) (item h.xs 1) before out r) where
+    pub with_stop : {q d : ℕ} {new : Mark} → r ≡ aims_as.No q d new → Halts I W J X m g.S (goal a_goal_with g.xs g.S) q d new × (out ≡ before)
+    with_stop e = subst (AimsAs I W J X m g.S (goal a_goal_with g.xs g.S) (item g.xs 1) before out) e (b form_given)
 
     module _ {j many : ℕ} {new : Mark} (e : r ≡ aims_as.Ok j many new) where
-      with_read : AimsRead I W J X m g.S (goal aGoalWith g.xs g.S) (item g.xs 1) out j many new
-      with_read = subst (AimsAs I W J X m g.S (goal aGoalWith g.xs g.S) (item g.xs 1) before out) e (b form_given)
+      with_read : AimsRead I W J X m g.S (goal a_goal_with g.xs g.S) (item g.xs 1) out j many new
+      with_read = subst (AimsAs I W J X m g.S (goal a_goal_with g.xs g.S) (item g.xs 1) before out) e (b form_given)
 
       pub with_small : j < 2 ^ 32
       with_small = omega (arith, with_read.there, with_read.makes.grown.good.room)
 
-      with_named : Named K rows n I W m cells J X g.S g.xs (goal aGoalWith g.xs g.S) with_read.hyps j new
+      with_named : Named K rows n I W m cells J X g.S g.xs (goal a_goal_with g.xs g.S) with_read.hyps j new
       with_named = record { reached = record { makes = with_read.makes; here = with_read.is }; there = with_read.there; known = with_read.known }
 
       module _ (after : List ℕ) (p : Placed)
           (c : (h : GoalPlace K.text rows n cells) (hs : Trees) (t : Tree) → many ≡ count_trees hs →
           PlacedAs K.text rows after n j h.S hs t (add_goal (item h.xs 1) hs t h.S) p) where
-        pub with_halts : {q d : ℕ} → p ≡ placed_as.No q d → Halts I W J X m g.S (goal aGoalWith g.xs g.S) q d new × (after ≡ rows)
+        pub with_halts : {q d : ℕ} → p ≡ placed_as.No q d → Halts I W J X m g.S (goal a_goal_with g.xs g.S) q d new × (after ≡ rows)
         with_halts f = (
           named_halts g (omega arith) with_named with_read.count after p c f,
           named_rows g (omega arith) with_named with_read.count after p c f,
@@ -135,7 +135,7 @@ module _ {K : Names} {rows : List ℕ} {n : Sizes} {I W : List ℕ} {m : Mark} {
         pub with_added : {e : ℕ} → p ≡ placed_as.Ok e → (lists : List ℕ) → length lists ≡ ENTRIES →
             drop n.entries lists ≡ replicate (ENTRIES - n.entries) 0 → length out ≡ length (take (length lists - n.entries) (drop n.entries lists)) →
             GoalAdded K.text rows after lists (take n.entries lists ++ (out ++ drop (length lists - n.entries) (drop n.entries lists))) n I W J X m g.S
-            (goal aGoalWith g.xs g.S) e new
+            (goal a_goal_with g.xs g.S) e new
         with_added f lists long zero o =
             named_added g (omega arith) with_named with_read.count after p c f lists _
             (tail_filled lists n.entries long g.fits zero out (numbers (made J X new) with_read.hyps) o with_read.cells_are

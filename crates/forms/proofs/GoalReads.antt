@@ -8,7 +8,7 @@ use lib.Seq.{sets}
 use Rattle.rules.specs.Limits.{ENTRIES}
 use Rattle.rules.specs.Out.{Out, refuse, then}
 use Rattle.rules.specs.Sexp.{Sexps, item}
-use Rattle.rules.specs.Tags.{aGoal, aGoalWith}
+use Rattle.rules.specs.Tags.{a_goal, a_goal_with}
 use Rattle.rules.specs.Tree.{Tree, Trees, none, count_trees}
 use Rattle.rules.specs.Store.{Made}
 use Rattle.rules.specs.State.{State, entries}
@@ -48,11 +48,11 @@ after_judgment xs hs j U = add_goal (item xs 1) hs j U
 abbrev pub after_hyps : Sexps → State → Trees → State → Out State (Unit {0})
 after_hyps xs S hs U = then (making (judgment S (item xs 3)) U) (after_judgment xs hs)
 
-goal_plain : (xs : Sexps) (S : State) → goal aGoal xs S ≡ then (making (judgment S (item xs 2)) S) (after_judgment xs none)
+goal_plain : (xs : Sexps) (S : State) → goal a_goal xs S ≡ then (making (judgment S (item xs 2)) S) (after_judgment xs none)
 unfolding goal then
 goal_plain xs S = refl
 
-goal_with : (xs : Sexps) (S : State) → goal aGoalWith xs S ≡ then (making (judgments S (item xs 2)) S) (after_hyps xs S)
+goal_with : (xs : Sexps) (S : State) → goal a_goal_with xs S ≡ then (making (judgments S (item xs 2)) S) (after_hyps xs S)
 unfolding goal then
 goal_with xs S = refl
 
@@ -150,7 +150,7 @@ module _ {K : Names} {rows : List ℕ} {n : Sizes} {I W : List ℕ} {m : Mark} {
   abbrev pub plain_given : ReadsItem K n I W m (take (length cells - at) (drop at cells))
   plain_given = reads_item g.reads (item_holds g.holds 2 (omega (arith, g.many)) a)
 
-  plain_starts : Reached I W m g.S (goal aGoal g.xs g.S) I W m
+  plain_starts : Reached I W m g.S (goal a_goal g.xs g.S) I W m
       (then (making (judgment g.S (item g.xs 2)) (with_made g.S (made I W m))) (after_judgment g.xs none))
   plain_starts =
       record {
@@ -163,7 +163,7 @@ module _ {K : Names} {rows : List ℕ} {n : Sizes} {I W : List ℕ} {m : Mark} {
       start = reached_start g.reads.good (reads_ready g.reads) g.store (λ T. then (making (judgment g.S (item g.xs 2)) T) (after_judgment g.xs none))
 
   module _ (J X : List ℕ) (r : Answer) (b : (h : ReadsItem K n I W m (take (length cells - at) (drop at cells))) → ReadAs I W J X m (judgment h.S h.x (made I W m)) r) where
-    pub plain_stops : {q d : ℕ} {new : Mark} → r ≡ No q d new → Halts I W J X m g.S (goal aGoal g.xs g.S) q d new
+    pub plain_stops : {q d : ℕ} {new : Mark} → r ≡ No q d new → Halts I W J X m g.S (goal a_goal g.xs g.S) q d new
     plain_stops e =
         reached_stopped (judgment g.S (item g.xs 2)) (after_judgment g.xs none) plain_starts
         (judgment_keeps g.S (item g.xs 2) (made I W m) (reads_ready g.reads))
@@ -176,7 +176,7 @@ module _ {K : Names} {rows : List ℕ} {n : Sizes} {I W : List ℕ} {m : Mark} {
       pub plain_small : j < 2 ^ 32
       plain_small = omega (arith, plain_read.there, plain_read.went.grown.good.room)
 
-      pub plain_named : Named K rows n I W m cells J X g.S g.xs (goal aGoal g.xs g.S) none j new
+      pub plain_named : Named K rows n I W m cells J X g.S g.xs (goal a_goal g.xs g.S) none j new
       plain_named =
           record {
             reached = reached_went (judgment g.S (item g.xs 2)) (after_judgment g.xs none) plain_starts
@@ -188,11 +188,11 @@ module _ {K : Names} {rows : List ℕ} {n : Sizes} {I W : List ℕ} {m : Mark} {
       module _ (after : List ℕ) (p : Placed)
           (c : (h : GoalPlace K.text rows n cells) (hs : Trees) (t : Tree) → 0 ≡ count_trees hs →
           PlacedAs K.text rows after n j h.S hs t (add_goal (item h.xs 1) hs t h.S) p) where
-        pub plain_halts : {q d : ℕ} → p ≡ placed_as.No q d → Halts I W J X m g.S (goal aGoal g.xs g.S) q d new × (after ≡ rows)
+        pub plain_halts : {q d : ℕ} → p ≡ placed_as.No q d → Halts I W J X m g.S (goal a_goal g.xs g.S) q d new × (after ≡ rows)
         plain_halts f = (named_halts g (omega arith) plain_named none_count after p c f, named_rows g (omega arith) plain_named none_count after p c f)
 
         pub plain_added : {e : ℕ} → p ≡ placed_as.Ok e → (lists : List ℕ) →
-            GoalAdded K.text rows after lists lists n I W J X m g.S (goal aGoal g.xs g.S) e new
+            GoalAdded K.text rows after lists lists n I W J X m g.S (goal a_goal g.xs g.S) e new
         plain_added f lists =
             named_added g (omega arith) plain_named none_count after p c f lists lists (no_numbers lists n.entries (made J X new))
 
@@ -206,7 +206,7 @@ module _ {K : Names} {n : Sizes} {I W : List ℕ} {m : Mark} {cells : List ℕ} 
   abbrev pub hyps_given : ReadsItem K n I W m (take (length cells - at) (drop at cells))
   hyps_given = reads_item g.reads (item_holds g.holds 2 (omega (arith, g.many)) a)
 
-  hyps_starts : Reached I W m g.S (goal aGoalWith g.xs g.S) I W m
+  hyps_starts : Reached I W m g.S (goal a_goal_with g.xs g.S) I W m
       (then (making (judgments g.S (item g.xs 2)) (with_made g.S (made I W m))) (after_hyps g.xs g.S))
   hyps_starts =
       record {
@@ -220,7 +220,7 @@ module _ {K : Names} {n : Sizes} {I W : List ℕ} {m : Mark} {cells : List ℕ} 
 
   module _ (J X before out : List ℕ) (r : Answer)
       (b : (h : ReadsItem K n I W m (take (length cells - at) (drop at cells))) → JudgmentsAs I W J X m (judgments h.S h.x (made I W m)) before out r) where
-    pub hyps_stop : {q d : ℕ} {new : Mark} → r ≡ No q d new → Halts I W J X m g.S (goal aGoalWith g.xs g.S) q d new × (out ≡ before)
+    pub hyps_stop : {q d : ℕ} {new : Mark} → r ≡ No q d new → Halts I W J X m g.S (goal a_goal_with g.xs g.S) q d new × (out ≡ before)
     hyps_stop e =
         let s = subst (JudgmentsAs I W J X m (judgments g.S (item g.xs 2) (made I W m)) before out) e (b hyps_given) in (
           reached_stopped (judgments g.S (item g.xs 2)) (after_hyps g.xs g.S) hyps_starts
@@ -238,7 +238,7 @@ module _ {K : Names} {n : Sizes} {I W : List ℕ} {m : Mark} {cells : List ℕ} 
       hyps_known : Each (sound.Has (made J X k)) hyps_read.trees
       hyps_known = (grows_ok (judgments_keeps g.S (item g.xs 2) (made I W m) (reads_ready g.reads)) hyps_read.went.makes).1
 
-      hyps_reached : Reached I W m g.S (goal aGoalWith g.xs g.S) J X k (after_hyps g.xs g.S hyps_read.trees (with_made g.S (made J X k)))
+      hyps_reached : Reached I W m g.S (goal a_goal_with g.xs g.S) J X k (after_hyps g.xs g.S hyps_read.trees (with_made g.S (made J X k)))
       hyps_reached =
           reached_went (judgments g.S (item g.xs 2)) (after_hyps g.xs g.S) hyps_starts
           (judgments_keeps g.S (item g.xs 2) (made I W m) (reads_ready g.reads)) hyps_read.went
@@ -251,13 +251,13 @@ module _ {K : Names} {n : Sizes} {I W : List ℕ} {m : Mark} {cells : List ℕ} 
         last_given = reads_item hyps_on (item_holds g.holds 3 (omega (arith, g.many)) f)
 
         module _ (Y Z : List ℕ) (s : Answer) (c : (h : ReadsItem K n J X k (take (length cells - next) (drop next cells))) → ReadAs J X Y Z k (judgment h.S h.x (made J X k)) s) where
-          pub last_stops : {q d : ℕ} {new : Mark} → s ≡ No q d new → Halts I W Y Z m g.S (goal aGoalWith g.xs g.S) q d new
+          pub last_stops : {q d : ℕ} {new : Mark} → s ≡ No q d new → Halts I W Y Z m g.S (goal a_goal_with g.xs g.S) q d new
           last_stops q =
               reached_stopped (judgment g.S (item g.xs 3)) (after_judgment g.xs hyps_read.trees) hyps_reached
               (judgment_keeps g.S (item g.xs 3) (made J X k) (reads_ready hyps_on))
               (subst (ReadAs J X Y Z k (judgment g.S (item g.xs 3) (made J X k))) q (c last_given))
 
-          pub parts_read : {j : ℕ} {new : Mark} → s ≡ Ok j new → AimsRead I W Y Z m g.S (goal aGoalWith g.xs g.S) (item g.xs 1) out j many new
+          pub parts_read : {j : ℕ} {new : Mark} → s ≡ Ok j new → AimsRead I W Y Z m g.S (goal a_goal_with g.xs g.S) (item g.xs 1) out j many new
           parts_read {j} {new} q =
               let read : TermRead J X Y Z k (judgment g.S (item g.xs 3) (made J X k)) j new
               = subst (ReadAs J X Y Z k (judgment g.S (item g.xs 3) (made J X k))) q (c last_given) in

@@ -2,7 +2,7 @@
 ghost use Rattle.std.specs.Prelude.{◌≡◌, List, ℕ, ◌-◌, ◌<◌, ◌^◌, length, drop, replicate};
 ghost use Rattle.rules.specs.Limits.{ENTRIES};
 ghost use Rattle.rules.specs.Sexp.{item};
-ghost use Rattle.rules.specs.Tags.{aGoal, aGoalWith};
+ghost use Rattle.rules.specs.Tags.{a_goal, a_goal_with};
 ghost use Rattle.rules.specs.Tree.{Tree, Trees, count_trees};
 ghost use Rattle.rules.specs.Forms.{goal, add_goal};
 ghost use Rattle.state.specs.Held.{names};
@@ -90,7 +90,7 @@ pub fn add_goal(
 ) -> Aimed
     requires { AddsGoal (names theory.now goals.now goals.now symbols.now inputs.now vars.now defs.now) rows.old n index.old words.old mark cells.now 3 }
     ensures { (g : AddsGoal (names theory.now goals.now goals.now symbols.now inputs.now vars.now defs.now) rows.old n index.old words.old mark cells.now 3) (lists : List ℕ) →
-        AimedAs goals.now rows.old rows.new lists lists n index.old words.old index.new words.new mark g.S (goal aGoal g.xs g.S) result }
+        AimedAs goals.now rows.old rows.new lists lists n index.old words.old index.new words.new mark g.S (goal a_goal g.xs g.S) result }
 {
     let at = items::place(cells, 2);
     match judgment(
@@ -134,7 +134,7 @@ fn goal_parts(
     requires reads_form { ReadsForm (names theory.now goals.now goals.now symbols.now inputs.now vars.now defs.now) n index.old words.old mark cells.now 4 }
     requires out_value { out.old ≡ replicate (length out.old) 0 }
     ensures { (g : ReadsForm (names theory.now goals.now goals.now symbols.now inputs.now vars.now defs.now) n index.old words.old mark cells.now 4) →
-        AimsAs index.old words.old index.new words.new mark g.S (goal aGoalWith g.xs g.S) (item g.xs 1) out.old out.new result }
+        AimsAs index.old words.old index.new words.new mark g.S (goal a_goal_with g.xs g.S) (item g.xs 1) out.old out.new result }
 {
     let at = items::place(cells, 2);
     match judgments(
@@ -199,7 +199,7 @@ pub fn add_goal_with(
     requires adds_goal { AddsGoal (names theory.now goals.now goals.now symbols.now inputs.now vars.now defs.now) rows.old n index.old words.old mark cells.now 4 }
     requires lists_len { (length lists.old ≡ ENTRIES) × (drop n.entries lists.old ≡ replicate (ENTRIES - n.entries) 0) }
     ensures { (g : AddsGoal (names theory.now goals.now goals.now symbols.now inputs.now vars.now defs.now) rows.old n index.old words.old mark cells.now 4) →
-        AimedAs goals.now rows.old rows.new lists.old lists.new n index.old words.old index.new words.new mark g.S (goal aGoalWith g.xs g.S) result }
+        AimedAs goals.now rows.old rows.new lists.old lists.new n index.old words.old index.new words.new mark g.S (goal a_goal_with g.xs g.S) result }
 {
     let from = n.entries;
     match goal_parts(

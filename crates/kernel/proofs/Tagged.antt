@@ -11,7 +11,7 @@ use borrow.Author.Tests.{leb-true}
 use Rattle.rules.specs.Lex.{letters}
 use Rattle.rules.specs.Out.{Out, refuse, then, found}
 use Rattle.rules.specs.Sexp.{Sexp, Sexps, atom, list, nil, cons, count, item, name, items}
-use Rattle.rules.specs.Tags.{Declaration, aSort, aCtor, aPred, aRule, Row, theory_tags, within, fits, tag_in, declaration}
+use Rattle.rules.specs.Tags.{Declaration, a_sort, a_ctor, a_pred, a_rule, Row, theory_tags, within, fits, tag_in, declaration}
 use Rattle.rules.specs.Theory.{Theory}
 use Rattle.rules.specs.Text.{same}
 use Rattle.rules.specs.Declare.{add_sort, add_ctor, add_pred, add_rule, declare_as, declare}
@@ -40,10 +40,10 @@ use Rattle.kernel.specs.declared.declare.Declared.TheVariants.{No}
 
 -- the number of items of a declaration
 abbrev pub many : Declaration → ℕ
-many aSort = 2
-many aCtor = 4
-many aPred = 3
-many aRule = 4
+many a_sort = 2
+many a_ctor = 4
+many a_pred = 3
+many a_rule = 4
 
 -- every row wants the items of its tag
 abbrev Exactly : List (Row Declaration) → Type 0
@@ -84,18 +84,18 @@ headed_many (list xs) n d e = never cc
 
 -- the tag of an answer
 abbrev tag_of : Tag → Option Declaration
-tag_of Sort = some aSort
-tag_of Ctor = some aCtor
-tag_of Pred = some aPred
-tag_of Rule = some aRule
+tag_of Sort = some a_sort
+tag_of Ctor = some a_ctor
+tag_of Pred = some a_pred
+tag_of Rule = some a_rule
 tag_of Unknown = nothing
 
 tag_back : (o : Option Declaration) → tag_of (declaration_answer o) ≡ o
 tag_back nothing = refl
-tag_back (some aSort) = refl
-tag_back (some aCtor) = refl
-tag_back (some aPred) = refl
-tag_back (some aRule) = refl
+tag_back (some a_sort) = refl
+tag_back (some a_ctor) = refl
+tag_back (some a_pred) = refl
+tag_back (some a_rule) = refl
 
 -- what an answer says
 pub told : {o : Option Declaration} {r : Tag} (q : Tag) → r ≡ declaration_answer o → r ≡ q → o ≡ tag_of q
@@ -178,7 +178,7 @@ module _ {text : List ℕ} (t : TheoryLists) (n : Counts) (T : Theory) (xs : Sex
     abbrev with_sorts : TheoryLists
     with_sorts = theory_lists s t.symbols t.inputs t.rules t.rule_vars t.patterns
 
-    sort_step : (r : Added) → SortAdded text t.sorts s T (add_sort xs T) r → DeclaredAs text with_sorts n T (declare_as aSort xs T) (sorts_now n r)
+    sort_step : (r : Added) → SortAdded text t.sorts s T (add_sort xs T) r → DeclaredAs text with_sorts n T (declare_as a_sort xs T) (sorts_now n r)
     unfolding declare_as
     sort_step (AddedOk k) a =
         record {
@@ -188,7 +188,7 @@ module _ {text : List ℕ} (t : TheoryLists) (n : Counts) (T : Theory) (xs : Sex
         }
     sort_step (AddedNo b d) a = (a.0, record { sorts = rw a.1 h.sorts; symbols = h.symbols; rules = h.rules })
 
-    pub sort_taken : tagged xs ≡ some aSort → (r : Added) (d : Declared) → SortAdded text t.sorts s T (add_sort xs T) r → d ≡ sorts_now n r →
+    pub sort_taken : tagged xs ≡ some a_sort → (r : Added) (d : Declared) → SortAdded text t.sorts s T (add_sort xs T) r → d ≡ sorts_now n r →
         DeclaredAs text with_sorts n T (taken (tagged xs) xs T) d
     sort_taken e r d a f = subst (λ z. DeclaredAs text with_sorts n T (taken (tagged xs) xs T) z) (sym f) (given_as with_sorts (sorts_now n r) e (sort_step r a))
 
@@ -205,12 +205,12 @@ module _ {text : List ℕ} (t : TheoryLists) (n : Counts) (T : Theory) (xs : Sex
         }
     symbol_step g (AddedNo b d) a = (a.0, record { sorts = h.sorts; symbols = rw (a.1, a.2) h.symbols; rules = h.rules })
 
-    pub ctor_taken : tagged xs ≡ some aCtor → (r : Added) (d : Declared) → SymbolAdded text t.symbols t.inputs y i T (add_ctor xs T) r → d ≡ symbols_now n r →
+    pub ctor_taken : tagged xs ≡ some a_ctor → (r : Added) (d : Declared) → SymbolAdded text t.symbols t.inputs y i T (add_ctor xs T) r → d ≡ symbols_now n r →
         DeclaredAs text with_symbols n T (taken (tagged xs) xs T) d
     unfolding declare_as
     ctor_taken e r d a f = subst (λ z. DeclaredAs text with_symbols n T (taken (tagged xs) xs T) z) (sym f) (given_as with_symbols (symbols_now n r) e (symbol_step (add_ctor xs T) r a))
 
-    pub pred_taken : tagged xs ≡ some aPred → (r : Added) (d : Declared) → SymbolAdded text t.symbols t.inputs y i T (add_pred xs T) r → d ≡ symbols_now n r →
+    pub pred_taken : tagged xs ≡ some a_pred → (r : Added) (d : Declared) → SymbolAdded text t.symbols t.inputs y i T (add_pred xs T) r → d ≡ symbols_now n r →
         DeclaredAs text with_symbols n T (taken (tagged xs) xs T) d
     unfolding declare_as
     pred_taken e r d a f = subst (λ z. DeclaredAs text with_symbols n T (taken (tagged xs) xs T) z) (sym f) (given_as with_symbols (symbols_now n r) e (symbol_step (add_pred xs T) r a))
@@ -219,7 +219,7 @@ module _ {text : List ℕ} (t : TheoryLists) (n : Counts) (T : Theory) (xs : Sex
     abbrev with_rules : TheoryLists
     with_rules = theory_lists t.sorts t.symbols t.inputs u w p
 
-    rule_step : (r : Reply) → RuleAdded text u w p T (add_rule xs T) n.rules n.words r → DeclaredAs text with_rules n T (declare_as aRule xs T) (rules_now n r)
+    rule_step : (r : Reply) → RuleAdded text u w p T (add_rule xs T) n.rules n.words r → DeclaredAs text with_rules n T (declare_as a_rule xs T) (rules_now n r)
     unfolding declare_as
     rule_step (ReplyOk k m) a =
         record {
@@ -229,7 +229,7 @@ module _ {text : List ℕ} (t : TheoryLists) (n : Counts) (T : Theory) (xs : Sex
         }
     rule_step (ReplyNo b d) a = (a.is, record { sorts = h.sorts; symbols = h.symbols; rules = a.held })
 
-    pub rule_taken : tagged xs ≡ some aRule → (r : Reply) (d : Declared) → RuleAdded text u w p T (add_rule xs T) n.rules n.words r → d ≡ rules_now n r →
+    pub rule_taken : tagged xs ≡ some a_rule → (r : Reply) (d : Declared) → RuleAdded text u w p T (add_rule xs T) n.rules n.words r → d ≡ rules_now n r →
         DeclaredAs text with_rules n T (taken (tagged xs) xs T) d
     rule_taken e r d a f = subst (λ z. DeclaredAs text with_rules n T (taken (tagged xs) xs T) z) (sym f) (given_as with_rules (rules_now n r) e (rule_step r a))
 

@@ -6,7 +6,7 @@ use Rattle.std.proofs.Math.Option.{Option, some, none as nothing}
 use Rattle.rules.specs.Text.{same}
 use Rattle.rules.specs.Sexp.{Sexp, Sexps, atom, list, nil, cons, count, item}
 use Rattle.rules.specs.Index.{index_of}
-use Rattle.rules.specs.Tags.{Tag, aVar, aDef, a_step, aHyp, aRuleHyp, an_induct, anInductWith, anApply, an_invert, aResult, proof_tag}
+use Rattle.rules.specs.Tags.{Tag, a_var, a_def, a_step, a_hyp, a_rule_hyp, an_induct, an_induct_with, an_apply, an_invert, a_result, proof_tag}
 use Rattle.rules.specs.Tree.{none}
 use Rattle.rules.specs.Theory.{rule, rules_of}
 use Rattle.rules.specs.State.{State, Fact, Goal, goal_named}
@@ -70,15 +70,15 @@ SomeInverts S k y i =
 -- The premise -----------------------------------------------------------------------------------------------------------------------
 
 unfoldable pub NamesAs : Tag → State → Sexps → ℕ → Type 0
-NamesAs aVar S xs i = ⊥
-NamesAs aDef S xs i = ⊥
-NamesAs aHyp S xs i = ⊥
-NamesAs aRuleHyp S xs i = ⊥
+NamesAs a_var S xs i = ⊥
+NamesAs a_def S xs i = ⊥
+NamesAs a_hyp S xs i = ⊥
+NamesAs a_rule_hyp S xs i = ⊥
 NamesAs a_step S xs i = SomeRefers (item xs 3) i
-NamesAs anApply S xs i = SomeRefers (item xs 4) i
-NamesAs aResult S xs i = Refers (item xs 2) i
+NamesAs an_apply S xs i = SomeRefers (item xs 4) i
+NamesAs a_result S xs i = Refers (item xs 2) i
 NamesAs an_induct S xs i = SomeCases (item xs 4) i
-NamesAs anInductWith S xs i = SomeCases (item xs 5) i
+NamesAs an_induct_with S xs i = SomeCases (item xs 5) i
 NamesAs an_invert S xs i = SomeInverts S (item xs 2) (item xs 5) i
 
 unfoldable pub tag_of : Sexp → ℕ → Option Tag
@@ -107,15 +107,15 @@ GoalAt gs (list xs) k = ⊥
 
 -- the result of goal k by fact i, bare or as an instance
 unfoldable pub ResultAs : Tag → State → Sexps → ℕ → ℕ → Type 0
-ResultAs aResult S xs k i = GoalAt S.goals (item xs 1) k × Refers (item xs 2) i
-ResultAs aVar S xs k i = ⊥
-ResultAs aDef S xs k i = ⊥
-ResultAs aHyp S xs k i = ⊥
-ResultAs aRuleHyp S xs k i = ⊥
+ResultAs a_result S xs k i = GoalAt S.goals (item xs 1) k × Refers (item xs 2) i
+ResultAs a_var S xs k i = ⊥
+ResultAs a_def S xs k i = ⊥
+ResultAs a_hyp S xs k i = ⊥
+ResultAs a_rule_hyp S xs k i = ⊥
 ResultAs a_step S xs k i = ⊥
-ResultAs anApply S xs k i = ⊥
+ResultAs an_apply S xs k i = ⊥
 ResultAs an_induct S xs k i = ⊥
-ResultAs anInductWith S xs k i = ⊥
+ResultAs an_induct_with S xs k i = ⊥
 ResultAs an_invert S xs k i = ⊥
 
 unfoldable pub ResultOf : State → Sexp → ℕ → ℕ → Type 0

@@ -7,7 +7,7 @@ use Rattle.rules.specs.Out.{Out, ok, refuse}
 use Rattle.rules.specs.Text.{same}
 use Rattle.rules.specs.Sexp.{Sexp, Sexps, atom, list, nil, cons, count, item, Text, ends, fails, more}
 use Rattle.rules.specs.Index.{index_of}
-use Rattle.rules.specs.Tags.{Tag, aVar, aDef, a_step, aHyp, aRuleHyp, an_induct, anInductWith, anApply, an_invert, aResult}
+use Rattle.rules.specs.Tags.{Tag, a_var, a_def, a_step, a_hyp, a_rule_hyp, an_induct, an_induct_with, an_apply, an_invert, a_result}
 use Rattle.rules.specs.Find.{entry, all, has}
 use Rattle.rules.specs.Theory.{Theory, rule, rules_of, rule_named}
 use Rattle.rules.specs.State.{State, Fact, is_none}
@@ -142,56 +142,56 @@ inverts_in S k y i (h, g, r, x, p, a, m, j, c) =
     (items_in (cased_for (rule S.theory r).name.bytes) y x i j (cases_for_in (rule S.theory r).name.bytes x i c))))
 
 unfoldable pub named_as : Tag → State → Sexps → List ℕ
-named_as aVar S xs = []
-named_as aDef S xs = []
-named_as aHyp S xs = []
-named_as aRuleHyp S xs = []
+named_as a_var S xs = []
+named_as a_def S xs = []
+named_as a_hyp S xs = []
+named_as a_rule_hyp S xs = []
 named_as a_step S xs = from_items referred (item xs 3)
-named_as anApply S xs = from_items referred (item xs 4)
-named_as aResult S xs = referred (item xs 2)
+named_as an_apply S xs = from_items referred (item xs 4)
+named_as a_result S xs = referred (item xs 2)
 named_as an_induct S xs = from_items cased (item xs 4)
-named_as anInductWith S xs = from_items cased (item xs 5)
+named_as an_induct_with S xs = from_items cased (item xs 5)
 named_as an_invert S xs = inverted S (item xs 2) (item xs 5)
 
 names_as_in : (t : Tag) (S : State) (xs : Sexps) (i : ℕ) → NamesAs t S xs i → In i (named_as t S xs)
 unfolding named_as NamesAs SomeRefers SomeCases
-names_as_in aVar S xs i n = absurd n
-names_as_in aDef S xs i n = absurd n
-names_as_in aHyp S xs i n = absurd n
-names_as_in aRuleHyp S xs i n = absurd n
+names_as_in a_var S xs i n = absurd n
+names_as_in a_def S xs i n = absurd n
+names_as_in a_hyp S xs i n = absurd n
+names_as_in a_rule_hyp S xs i n = absurd n
 names_as_in a_step S xs i n = items_in referred (item xs 3) n.0 i n.1 (refers_in n.0 i n.2)
-names_as_in anApply S xs i n = items_in referred (item xs 4) n.0 i n.1 (refers_in n.0 i n.2)
-names_as_in aResult S xs i n = refers_in (item xs 2) i n
+names_as_in an_apply S xs i n = items_in referred (item xs 4) n.0 i n.1 (refers_in n.0 i n.2)
+names_as_in a_result S xs i n = refers_in (item xs 2) i n
 names_as_in an_induct S xs i n = items_in cased (item xs 4) n.0 i n.1 (cases_in n.0 i n.2)
-names_as_in anInductWith S xs i n = items_in cased (item xs 5) n.0 i n.1 (cases_in n.0 i n.2)
+names_as_in an_induct_with S xs i n = items_in cased (item xs 5) n.0 i n.1 (cases_in n.0 i n.2)
 names_as_in an_invert S xs i n = inverts_in S (item xs 2) (item xs 5) i n
 
 unfoldable pub cited_as : Tag → State → Sexps → List ℕ
-cited_as anApply S xs = pointed (item xs 2) ++ from_items referred (item xs 4)
-cited_as aVar S xs = []
-cited_as aDef S xs = []
-cited_as aHyp S xs = []
-cited_as aRuleHyp S xs = []
+cited_as an_apply S xs = pointed (item xs 2) ++ from_items referred (item xs 4)
+cited_as a_var S xs = []
+cited_as a_def S xs = []
+cited_as a_hyp S xs = []
+cited_as a_rule_hyp S xs = []
 cited_as a_step S xs = named_as a_step S xs
 cited_as an_induct S xs = named_as an_induct S xs
-cited_as anInductWith S xs = named_as anInductWith S xs
+cited_as an_induct_with S xs = named_as an_induct_with S xs
 cited_as an_invert S xs = named_as an_invert S xs
-cited_as aResult S xs = []
+cited_as a_result S xs = []
 
 cites_as_in : (t : Tag) (S : State) (xs : Sexps) (i : ℕ) → CitesAs t S xs i → In i (cited_as t S xs)
 unfolding cited_as CitesAs SomeRefers
-cites_as_in anApply S xs i (inl p) = in_left (pointed (item xs 2)) (from_items referred (item xs 4)) i (points_in (item xs 2) i p)
-cites_as_in anApply S xs i (inr n) =
+cites_as_in an_apply S xs i (inl p) = in_left (pointed (item xs 2)) (from_items referred (item xs 4)) i (points_in (item xs 2) i p)
+cites_as_in an_apply S xs i (inr n) =
     in_right (pointed (item xs 2)) (from_items referred (item xs 4)) i (items_in referred (item xs 4) n.0 i n.1 (refers_in n.0 i n.2))
-cites_as_in aVar S xs i n = absurd n
-cites_as_in aDef S xs i n = absurd n
-cites_as_in aHyp S xs i n = absurd n
-cites_as_in aRuleHyp S xs i n = absurd n
+cites_as_in a_var S xs i n = absurd n
+cites_as_in a_def S xs i n = absurd n
+cites_as_in a_hyp S xs i n = absurd n
+cites_as_in a_rule_hyp S xs i n = absurd n
 cites_as_in a_step S xs i n = names_as_in a_step S xs i n
 cites_as_in an_induct S xs i n = names_as_in an_induct S xs i n
-cites_as_in anInductWith S xs i n = names_as_in anInductWith S xs i n
+cites_as_in an_induct_with S xs i n = names_as_in an_induct_with S xs i n
 cites_as_in an_invert S xs i n = names_as_in an_invert S xs i n
-cites_as_in aResult S xs i n = absurd n
+cites_as_in a_result S xs i n = absurd n
 
 -- the rule that a `step` names
 unfoldable pub rule_at : Theory → Sexp → List ℕ
@@ -200,15 +200,15 @@ rule_at T (list xs) = []
 
 unfoldable pub ruled_as : Tag → State → Sexps → List ℕ
 ruled_as a_step S xs = rule_at S.theory (item xs 2)
-ruled_as aVar S xs = []
-ruled_as aDef S xs = []
-ruled_as aHyp S xs = []
-ruled_as aRuleHyp S xs = []
+ruled_as a_var S xs = []
+ruled_as a_def S xs = []
+ruled_as a_hyp S xs = []
+ruled_as a_rule_hyp S xs = []
 ruled_as an_induct S xs = []
-ruled_as anInductWith S xs = []
-ruled_as anApply S xs = []
+ruled_as an_induct_with S xs = []
+ruled_as an_apply S xs = []
 ruled_as an_invert S xs = []
-ruled_as aResult S xs = []
+ruled_as a_result S xs = []
 
 rule_at_in : (T : Theory) (x : Sexp) (r : ℕ) → RuleAt T x r → In r (rule_at T x)
 unfolding rule_at RuleAt
@@ -218,15 +218,15 @@ rule_at_in T (list xs) r e = absurd e
 rules_in : (t : Tag) (S : State) (xs : Sexps) (r : ℕ) → RuleAs t S xs r → In r (ruled_as t S xs)
 unfolding ruled_as RuleAs
 rules_in a_step S xs r n = rule_at_in S.theory (item xs 2) r n
-rules_in aVar S xs r n = absurd n
-rules_in aDef S xs r n = absurd n
-rules_in aHyp S xs r n = absurd n
-rules_in aRuleHyp S xs r n = absurd n
+rules_in a_var S xs r n = absurd n
+rules_in a_def S xs r n = absurd n
+rules_in a_hyp S xs r n = absurd n
+rules_in a_rule_hyp S xs r n = absurd n
 rules_in an_induct S xs r n = absurd n
-rules_in anInductWith S xs r n = absurd n
-rules_in anApply S xs r n = absurd n
+rules_in an_induct_with S xs r n = absurd n
+rules_in an_apply S xs r n = absurd n
 rules_in an_invert S xs r n = absurd n
-rules_in aResult S xs r n = absurd n
+rules_in a_result S xs r n = absurd n
 
 -- by the tag of the form
 unfoldable pub by_tag : (Tag → List ℕ) → Option Tag → List ℕ

@@ -4,7 +4,7 @@
 use Rattle.std.specs.Prelude.{ℕ, ◌≡◌, ◌⊎◌, length}
 use Rattle.std.proofs.Math.Option.{some}
 use Rattle.rules.specs.Sexp.{Sexp, Sexps, atom, list, count, item}
-use Rattle.rules.specs.Tags.{Tag, aVar, aDef, a_step, aHyp, aRuleHyp, an_induct, anInductWith, anApply, an_invert, aResult}
+use Rattle.rules.specs.Tags.{Tag, a_var, a_def, a_step, a_hyp, a_rule_hyp, an_induct, an_induct_with, an_apply, an_invert, a_result}
 use Rattle.rules.specs.Theory.{Theory, rule_named}
 use Rattle.rules.specs.State.{State}
 use Rattle.meaning.specs.Derivation.{RuleOf}
@@ -26,28 +26,28 @@ RuleAt T (list xs) r = ⊥
 
 unfoldable pub RuleAs : Tag → State → Sexps → ℕ → Type 0
 RuleAs a_step S xs r = RuleAt S.theory (item xs 2) r
-RuleAs aVar S xs r = ⊥
-RuleAs aDef S xs r = ⊥
-RuleAs aHyp S xs r = ⊥
-RuleAs aRuleHyp S xs r = ⊥
+RuleAs a_var S xs r = ⊥
+RuleAs a_def S xs r = ⊥
+RuleAs a_hyp S xs r = ⊥
+RuleAs a_rule_hyp S xs r = ⊥
 RuleAs an_induct S xs r = ⊥
-RuleAs anInductWith S xs r = ⊥
-RuleAs anApply S xs r = ⊥
+RuleAs an_induct_with S xs r = ⊥
+RuleAs an_apply S xs r = ⊥
 RuleAs an_invert S xs r = ⊥
-RuleAs aResult S xs r = ⊥
+RuleAs a_result S xs r = ⊥
 
 -- the new fact cites fact i: by a reference, by a case, or as what is applied
 unfoldable pub CitesAs : Tag → State → Sexps → ℕ → Type 0
-CitesAs anApply S xs i = Points (item xs 2) i ⊎ SomeRefers (item xs 4) i
-CitesAs aVar S xs i = ⊥
-CitesAs aDef S xs i = ⊥
-CitesAs aHyp S xs i = ⊥
-CitesAs aRuleHyp S xs i = ⊥
+CitesAs an_apply S xs i = Points (item xs 2) i ⊎ SomeRefers (item xs 4) i
+CitesAs a_var S xs i = ⊥
+CitesAs a_def S xs i = ⊥
+CitesAs a_hyp S xs i = ⊥
+CitesAs a_rule_hyp S xs i = ⊥
 CitesAs a_step S xs i = NamesAs a_step S xs i
 CitesAs an_induct S xs i = NamesAs an_induct S xs i
-CitesAs anInductWith S xs i = NamesAs anInductWith S xs i
+CitesAs an_induct_with S xs i = NamesAs an_induct_with S xs i
 CitesAs an_invert S xs i = NamesAs an_invert S xs i
-CitesAs aResult S xs i = ⊥
+CitesAs a_result S xs i = ⊥
 
 -- for the tag t of the form
 unfoldable pub Tagged : (Tag → State → Sexps → ℕ → Type 0) → State → Sexp → ℕ → Type 0

@@ -1,5 +1,5 @@
 -- The theorems are not empty. Example A: its texts are taken, its premise holds, and what `goals_derivable` says of it is that `Child t`
--- is derivable for every ground term t of sort Pass, and `goals_firm` that the rules c0 and c1 suffice. Example G: its texts are accepted
+-- is derivable for every grounded term t of sort Pass, and `goals_firm` that the rules c0 and c1 suffice. Example G: its texts are accepted
 -- though the goal `Bad first` is not derivable, so the premise of the theorems is needed; it does not hold of G, and the hypothesis that G
 -- names is not true itself. A run that is calm although rule hypotheses with premises stand in places that do not count. Example I:
 -- a unification that finds nothing. Assumes nothing.
@@ -9,7 +9,7 @@ use Rattle.std.proofs.Math.Option.{some, none as nothing}
 use Rattle.rules.specs.Out.{ok}
 use Rattle.rules.specs.Text.{bytes}
 use Rattle.rules.specs.Sexp.{Sexps, atom, list, nil, Text, ends, fails, more, read}
-use Rattle.rules.specs.Tags.{aResult}
+use Rattle.rules.specs.Tags.{a_result}
 use Rattle.rules.specs.Find.{entry}
 use Rattle.rules.specs.Tree.{Tree, var, app, none, more as more_trees, sub}
 use Rattle.rules.specs.Store.{Made}
@@ -108,7 +108,7 @@ respects_a = refl
 -- its result, the sixth form, names fact 3
 result_a : Results (read proof_a) S 0 3
 unfolding running T S reached end_of Somewhere OrLater ResultOf tag_of ResultAs GoalAt Refers Points
-result_a = inr (inr (inr (inr (inr (inl (aResult, refl, (refl, refl)))))))
+result_a = inr (inr (inr (inr (inr (inl (a_result, refl, (refl, refl)))))))
 
 two_rules : (r : ℕ) → In r (0 ∷ 1 ∷ []) → RuleOf T r
 unfolding running T reached In

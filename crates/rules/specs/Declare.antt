@@ -8,7 +8,7 @@ use Rattle.rules.specs.Sexp.{Sexp, Sexps, atom, list, nil, cons, count, item, Na
 use Rattle.rules.specs.Find.{first}
 use Rattle.rules.specs.Tree.{Tree, Trees, var, app, none, more}
 use Rattle.rules.specs.Theory.{Symbol, RuleVar, Theory, no_name, sort_named, predicate_named, constructor_named, rule_named, inputs, output, rule_words, theories}
-use Rattle.rules.specs.Tags.{Declaration, aSort, aCtor, aPred, aRule, declaration, tagging}
+use Rattle.rules.specs.Tags.{Declaration, a_sort, a_ctor, a_pred, a_rule, declaration, tagging}
 
 unfoldable pub is_new : {A : Type 0} → Option A → Bool
 is_new nothing = true
@@ -192,10 +192,10 @@ add_rule xs = do
 -- Declarations --------------------------------------------------------------------------------------------------------------------
 
 unfoldable pub declare_as : Declaration → Sexps → Act Theory (Unit {0})
-declare_as aSort = add_sort
-declare_as aCtor = add_ctor
-declare_as aPred = add_pred
-declare_as aRule = add_rule
+declare_as a_sort = add_sort
+declare_as a_ctor = add_ctor
+declare_as a_pred = add_pred
+declare_as a_rule = add_rule
 
 unfoldable pub declare : Sexp → Act Theory (Unit {0})
 declare x = do

@@ -5,7 +5,7 @@ use Rattle.std.proofs.Math.Option.{Option, some, none as nothing}
 use Rattle.rules.specs.Limits.{VARIABLES, DEFS, GOALS, FACTS, ENTRIES}
 use Rattle.rules.specs.Out.{ok, refuse, Act, ◌>>=◌, ask, room, found, get, put}
 use Rattle.rules.specs.Sexp.{Sexp, Sexps, count, item, name, items, marked}
-use Rattle.rules.specs.Tags.{Tag, aVar, aDef, a_step, aHyp, aRuleHyp, an_induct, anInductWith, anApply, an_invert, aResult, proof_tag, GoalForm, aVariable, aGoal, aGoalWith, goal_form, tagging}
+use Rattle.rules.specs.Tags.{Tag, a_var, a_def, a_step, a_hyp, a_rule_hyp, an_induct, an_induct_with, an_apply, an_invert, a_result, proof_tag, GoalForm, a_variable, a_goal, a_goal_with, goal_form, tagging}
 use Rattle.rules.specs.Find.{entry, all, change}
 use Rattle.rules.specs.Tree.{Tree, Trees, none, same_tree, count_trees, among}
 use Rattle.rules.specs.Store.{Made}
@@ -79,12 +79,12 @@ add_goal x hs j = do
   put (with_goals S (S.goals ++ (record { name = n; judgment = j; hyps = hs; taken = false } ∷ [])))
 
 unfoldable pub goal : GoalForm → Sexps → Act State (Unit {0})
-goal aVariable xs = add_var 2 xs
-goal aGoal xs = do
+goal a_variable xs = add_var 2 xs
+goal a_goal xs = do
   S ← get
   j ← making (judgment S (item xs 2))
   add_goal (item xs 1) none j
-goal aGoalWith xs = do
+goal a_goal_with xs = do
   S ← get
   hs ← making (judgments S (item xs 2))
   j ← making (judgment S (item xs 3))
@@ -215,30 +215,30 @@ next xs = do
   ask 32 (eqb i (length S.facts))
 
 unfoldable pub perform : Tag → Sexps → Act State (Unit {0})
-perform aVar xs = add_var 3 xs
-perform aDef xs = add_def xs
+perform a_var xs = add_var 3 xs
+perform a_def xs = add_def xs
 perform a_step xs = do
   _ ← next xs
   add_step xs
-perform aHyp xs = do
+perform a_hyp xs = do
   _ ← next xs
   add_hyp xs
-perform aRuleHyp xs = do
+perform a_rule_hyp xs = do
   _ ← next xs
   add_rule_hyp xs
 perform an_induct xs = do
   _ ← next xs
   add_induct xs
-perform anInductWith xs = do
+perform an_induct_with xs = do
   _ ← next xs
   add_induct_with xs
-perform anApply xs = do
+perform an_apply xs = do
   _ ← next xs
   add_apply xs
 perform an_invert xs = do
   _ ← next xs
   add_invert xs
-perform aResult xs = result xs
+perform a_result xs = result xs
 
 -- a form of the proof
 unfoldable pub take_form : Sexp → Act State (Unit {0})

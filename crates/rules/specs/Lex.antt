@@ -20,7 +20,7 @@ pub data Token : Type 0 where
 
 -- what the byte in front of a place belongs to
 pub data Mode : Type 0 where
-  between in_word inComment : Mode
+  between in_word in_comment : Mode
 
 -- the bytes up to the end of the atom that goes on here
 unfoldable pub letters : List ℕ → List ℕ
@@ -35,7 +35,7 @@ tokens between at (b ∷ t) =
       | blank ↦ tokens between (suc at) t
       | left ↦ opens at ∷ tokens between (suc at) t
       | right ↦ closes at ∷ tokens between (suc at) t
-      | semicolon ↦ tokens inComment (suc at) t
+      | semicolon ↦ tokens in_comment (suc at) t
       | letter ↦ word at (b ∷ letters t) ∷ tokens in_word (suc at) t
     ]
 tokens in_word at (b ∷ t) =
@@ -43,10 +43,10 @@ tokens in_word at (b ∷ t) =
       | blank ↦ tokens between (suc at) t
       | left ↦ opens at ∷ tokens between (suc at) t
       | right ↦ closes at ∷ tokens between (suc at) t
-      | semicolon ↦ tokens inComment (suc at) t
+      | semicolon ↦ tokens in_comment (suc at) t
       | letter ↦ tokens in_word (suc at) t
     ]
-tokens inComment at (b ∷ t) = elim (eqb b 10) [ true ↦ tokens between (suc at) t | false ↦ tokens inComment (suc at) t ]
+tokens in_comment at (b ∷ t) = elim (eqb b 10) [ true ↦ tokens between (suc at) t | false ↦ tokens in_comment (suc at) t ]
 
 -- `unfolding lexing` opens all of the above, for a computation
 unfoldable pub lexing : Unit {0}

@@ -6,15 +6,15 @@ use Rattle.rules.specs.Text.{bytes, same, texts}
 
 -- a proof's forms
 pub data Tag : Type 0 where
-  aVar aDef a_step aHyp aRuleHyp an_induct anInductWith anApply an_invert aResult : Tag
+  a_var a_def a_step a_hyp a_rule_hyp an_induct an_induct_with an_apply an_invert a_result : Tag
 
 -- a theory's
 pub data Declaration : Type 0 where
-  aSort aCtor aPred aRule : Declaration
+  a_sort a_ctor a_pred a_rule : Declaration
 
 -- the goals'
 pub data GoalForm : Type 0 where
-  aVariable aGoal aGoalWith : GoalForm
+  a_variable a_goal a_goal_with : GoalForm
 
 -- most: nothing where any number of items from the least on will do; index: the place of the index among the items, counted from 0
 pub record Row (T : Type 0) : Type 0 where
@@ -33,29 +33,29 @@ at_least x n t i = record { name = x; least = n; most = nothing; tag = t; index 
 
 unfoldable pub proof_tags : List (Row Tag)
 proof_tags =
-    exactly (bytes "var") 3 aVar nothing ∷
-    exactly (bytes "def") 3 aDef nothing ∷
+    exactly (bytes "var") 3 a_var nothing ∷
+    exactly (bytes "def") 3 a_def nothing ∷
     at_least (bytes "step") 4 a_step (some 1) ∷
-    exactly (bytes "hyp") 3 aHyp (some 1) ∷
-    exactly (bytes "hyp") 5 aRuleHyp (some 1) ∷
+    exactly (bytes "hyp") 3 a_hyp (some 1) ∷
+    exactly (bytes "hyp") 5 a_rule_hyp (some 1) ∷
     exactly (bytes "induct") 5 an_induct (some 1) ∷
-    exactly (bytes "induct") 6 anInductWith (some 1) ∷
-    exactly (bytes "apply") 5 anApply (some 1) ∷
+    exactly (bytes "induct") 6 an_induct_with (some 1) ∷
+    exactly (bytes "apply") 5 an_apply (some 1) ∷
     exactly (bytes "invert") 6 an_invert (some 1) ∷
-    exactly (bytes "result") 3 aResult nothing ∷ []
+    exactly (bytes "result") 3 a_result nothing ∷ []
 
 unfoldable pub theory_tags : List (Row Declaration)
 theory_tags =
-    exactly (bytes "sort") 2 aSort nothing ∷
-    exactly (bytes "ctor") 4 aCtor nothing ∷
-    exactly (bytes "pred") 3 aPred nothing ∷
-    exactly (bytes "rule") 4 aRule nothing ∷ []
+    exactly (bytes "sort") 2 a_sort nothing ∷
+    exactly (bytes "ctor") 4 a_ctor nothing ∷
+    exactly (bytes "pred") 3 a_pred nothing ∷
+    exactly (bytes "rule") 4 a_rule nothing ∷ []
 
 unfoldable pub goal_tags : List (Row GoalForm)
 goal_tags =
-    exactly (bytes "var") 3 aVariable nothing ∷
-    exactly (bytes "goal") 3 aGoal nothing ∷
-    exactly (bytes "goal") 4 aGoalWith nothing ∷ []
+    exactly (bytes "var") 3 a_variable nothing ∷
+    exactly (bytes "goal") 3 a_goal nothing ∷
+    exactly (bytes "goal") 4 a_goal_with nothing ∷ []
 
 -- whether n items are not too many
 unfoldable pub within : Option ℕ → ℕ → Bool
@@ -103,7 +103,7 @@ step_short : proof_tag (bytes "step") 3 ≡ nothing
 unfolding tagging
 step_short = refl
 
-hyp_three : proof_tag (bytes "hyp") 3 ≡ some aHyp
+hyp_three : proof_tag (bytes "hyp") 3 ≡ some a_hyp
 unfolding tagging
 hyp_three = refl
 
@@ -111,11 +111,11 @@ hyp_four : proof_tag (bytes "hyp") 4 ≡ nothing
 unfolding tagging
 hyp_four = refl
 
-hyp_five : proof_tag (bytes "hyp") 5 ≡ some aRuleHyp
+hyp_five : proof_tag (bytes "hyp") 5 ≡ some a_rule_hyp
 unfolding tagging
 hyp_five = refl
 
-induct_six : proof_tag (bytes "induct") 6 ≡ some anInductWith
+induct_six : proof_tag (bytes "induct") 6 ≡ some an_induct_with
 unfolding tagging
 induct_six = refl
 
@@ -134,14 +134,14 @@ index_places :
 unfolding tagging
 index_places = (refl, refl, refl, refl, refl, refl, refl, refl, refl, refl)
 
-ctor_four : declaration (bytes "ctor") 4 ≡ some aCtor
+ctor_four : declaration (bytes "ctor") 4 ≡ some a_ctor
 unfolding tagging
 ctor_four = refl
 
-goal_three : goal_form (bytes "goal") 3 ≡ some aGoal
+goal_three : goal_form (bytes "goal") 3 ≡ some a_goal
 unfolding tagging
 goal_three = refl
 
-goal_four : goal_form (bytes "goal") 4 ≡ some aGoalWith
+goal_four : goal_form (bytes "goal") 4 ≡ some a_goal_with
 unfolding tagging
 goal_four = refl

@@ -7,7 +7,7 @@ use mathlib.Core.List.{List}
 use native.Mathlib.Omega.{arith}
 use lib.ListN.{length, get_or, drop}
 use borrow.Author.Tests.{ne_eqb, le-leb, lt-leb}
-use Rattle.rules.specs.Lex.{white, kind, letter, letters, between, inComment}
+use Rattle.rules.specs.Lex.{white, kind, letter, letters, between, in_comment}
 use Rattle.rules.specs.Laws.Lex.{kind_letter, place_in_comment, place_comment_over, at_end}
 use Rattle.sexp.specs.Lexed.{InAtom, InComment, LineEnd}
 use Rattle.sexp.proofs.ByteLaws.{letters_on, letters_off, letters_over}
@@ -61,4 +61,4 @@ module _ {text : List ℕ} {start at : ℕ} (s : InComment text start at) where
   comment_stop i e = record { low = s.low; high = s.high; same = s.same ∙ place_comment_over text at i e }
 
   pub comment_over : length text ≤ at → LineEnd text start at
-  comment_over h = record { low = s.low; high = s.high; same = s.same ∙ at_end inComment text at h ∙ sym (at_end between text at h) }
+  comment_over h = record { low = s.low; high = s.high; same = s.same ∙ at_end in_comment text at h ∙ sym (at_end between text at h) }

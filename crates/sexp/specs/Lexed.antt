@@ -1,6 +1,6 @@
 -- What the contracts of `lex` cite: the lexer at a place of a text. Assumes nothing.
 use Rattle.std.specs.Prelude.{◌≡◌, ℕ, ◌+◌, ◌≤◌, ◌<◌, List, Bool, true, false, length, get_or, drop}
-use Rattle.rules.specs.Lex.{Kind, blank, left, right, semicolon, letter, kind, Token, between, inComment, tokens, letters}
+use Rattle.rules.specs.Lex.{Kind, blank, left, right, semicolon, letter, kind, Token, between, in_comment, tokens, letters}
 
 -- the width of a byte that is white space or not
 abbrev pub wide : Bool → ℕ
@@ -28,13 +28,13 @@ pub record InAtom (text : List ℕ) (at r : ℕ) : Type 0 where
 pub record InComment (text : List ℕ) (at r : ℕ) : Type 0 where
   pub low : at ≤ r
   pub high : r ≤ length text
-  pub same : tokens inComment at (drop at text) ≡ tokens inComment r (drop r text)
+  pub same : tokens in_comment at (drop at text) ≡ tokens in_comment r (drop r text)
 
 -- a comment from `at` on ends at `r`
 pub record LineEnd (text : List ℕ) (at r : ℕ) : Type 0 where
   pub low : at ≤ r
   pub high : r ≤ length text
-  pub same : tokens inComment at (drop at text) ≡ from text r
+  pub same : tokens in_comment at (drop at text) ≡ from text r
 
 -- from `at` on there is no token up to `r`, and one begins at `r`, unless the text ends there
 pub record Skipped (text : List ℕ) (at r : ℕ) : Type 0 where

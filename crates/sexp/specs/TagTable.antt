@@ -3,7 +3,7 @@
 use Rattle.std.specs.Prelude.{ℕ, zero, suc, ◌+◌, Bool, true, false, ◌&&◌, List, [], ◌∷◌, ◌++◌, leb, get_or}
 use Rattle.std.proofs.Math.Option.{Option, some, none as nothing}
 use Rattle.rules.specs.Text.{same}
-use Rattle.rules.specs.Tags.{Row, Tag, aVar, aDef, a_step, aHyp, aRuleHyp, an_induct, anInductWith, anApply, an_invert, aResult, Declaration, aSort, aCtor, aPred, aRule, GoalForm, aVariable, aGoal, aGoalWith, proof_tags, theory_tags, goal_tags, within}
+use Rattle.rules.specs.Tags.{Row, Tag, a_var, a_def, a_step, a_hyp, a_rule_hyp, an_induct, an_induct_with, an_apply, an_invert, a_result, Declaration, a_sort, a_ctor, a_pred, a_rule, GoalForm, a_variable, a_goal, a_goal_with, proof_tags, theory_tags, goal_tags, within}
 use Rattle.sexp.specs.declared.tags.Tag.{Tag as TagAnswer}
 use Rattle.sexp.specs.declared.tags.Tag.TheVariants.{Var, Def, Step, Hyp, RuleHyp, Induct, InductWith, Apply, Invert, Outcome, Unknown}
 use Rattle.sexp.specs.declared.tags.Declaration.{Declaration as DeclarationAnswer}
@@ -15,29 +15,29 @@ use Rattle.sexp.specs.declared.tags.GoalForm.TheVariants.{Variable, Goal, GoalWi
 
 abbrev pub tag_answer : Option Tag → TagAnswer
 tag_answer nothing = Unknown
-tag_answer (some aVar) = Var
-tag_answer (some aDef) = Def
+tag_answer (some a_var) = Var
+tag_answer (some a_def) = Def
 tag_answer (some a_step) = Step
-tag_answer (some aHyp) = Hyp
-tag_answer (some aRuleHyp) = RuleHyp
+tag_answer (some a_hyp) = Hyp
+tag_answer (some a_rule_hyp) = RuleHyp
 tag_answer (some an_induct) = Induct
-tag_answer (some anInductWith) = InductWith
-tag_answer (some anApply) = Apply
+tag_answer (some an_induct_with) = InductWith
+tag_answer (some an_apply) = Apply
 tag_answer (some an_invert) = Invert
-tag_answer (some aResult) = Outcome
+tag_answer (some a_result) = Outcome
 
 abbrev pub declaration_answer : Option Declaration → DeclarationAnswer
 declaration_answer nothing = UnknownDeclaration
-declaration_answer (some aSort) = Sort
-declaration_answer (some aCtor) = Ctor
-declaration_answer (some aPred) = Pred
-declaration_answer (some aRule) = Rule
+declaration_answer (some a_sort) = Sort
+declaration_answer (some a_ctor) = Ctor
+declaration_answer (some a_pred) = Pred
+declaration_answer (some a_rule) = Rule
 
 abbrev pub goal_answer : Option GoalForm → GoalAnswer
 goal_answer nothing = UnknownGoal
-goal_answer (some aVariable) = Variable
-goal_answer (some aGoal) = Goal
-goal_answer (some aGoalWith) = GoalWith
+goal_answer (some a_variable) = Variable
+goal_answer (some a_goal) = Goal
+goal_answer (some a_goal_with) = GoalWith
 
 -- 0 where a form has no index: no index stands first
 abbrev pub place_answer : Option ℕ → ℕ

@@ -7,7 +7,7 @@ use Prim.Native.Nat.{ℕ, ◌≤◌}
 use native.Mathlib.Omega.{arith}
 use Rattle.rules.specs.Sexp.{Sexps, count}
 use Rattle.rules.specs.State.{State}
-use Rattle.rules.specs.Tags.{Tag, aVar, aDef, an_invert, aResult, aVariable, aGoal, aGoalWith, proof_tag, goal_form}
+use Rattle.rules.specs.Tags.{Tag, a_var, a_def, an_invert, a_result, a_variable, a_goal, a_goal_with, proof_tag, goal_form}
 use Rattle.rules.specs.Forms.{add_var, add_def, goal, result, perform, some_instances}
 use Rattle.kernel.specs.Parsed.{TheoryLists}
 use Rattle.terms.specs.declared.store.Mark.{Mark}
@@ -39,19 +39,19 @@ use Rattle.taking.proofs.Tries.{chosen_tried, var_tried, def_tried, hyp_tried, e
 
 -- The definition by the tag ----------------------------------------------------------------------------------------------------------
 
-goal_var : (xs : Sexps) (S : State) → goal aVariable xs S ≡ add_var 2 xs S
+goal_var : (xs : Sexps) (S : State) → goal a_variable xs S ≡ add_var 2 xs S
 unfolding goal
 goal_var xs S = refl
 
-perform_var : (xs : Sexps) (S : State) → perform aVar xs S ≡ add_var 3 xs S
+perform_var : (xs : Sexps) (S : State) → perform a_var xs S ≡ add_var 3 xs S
 unfolding perform
 perform_var xs S = refl
 
-perform_def : (xs : Sexps) (S : State) → perform aDef xs S ≡ add_def xs S
+perform_def : (xs : Sexps) (S : State) → perform a_def xs S ≡ add_def xs S
 unfolding perform
 perform_def xs S = refl
 
-perform_result : (xs : Sexps) (S : State) → perform aResult xs S ≡ result xs S
+perform_result : (xs : Sexps) (S : State) → perform a_result xs S ≡ result xs S
 unfolding perform
 perform_result xs S = refl
 
@@ -69,29 +69,29 @@ module _ {X : Texts} {T : TheoryLists} {B : Board} {n : Sizes} {m : Mark} {cells
   abbrev Answers : Board → Type 0
   Answers D = TriedAs X T B D m g.S (chosen 30 perform (tagged proof_tag g.xs) g.xs g.S) t
 
-  pub var_arm : (vars : List ℕ) (r : Declared) → tagged proof_tag g.xs ≡ some aVar →
+  pub var_arm : (vars : List ℕ) (r : Declared) → tagged proof_tag g.xs ≡ some a_var →
       ((k : AddsVar X.theory X.goals X.text T.sorts T.symbols B.vars n 3 cells) → VarAs X.text B.vars vars n 3 k.S (add_var 3 k.xs k.S) r) →
       t ≡ declared_tried n m r → Answers (board vars B.index B.words B.defs B.goals B.facts B.footings B.lists)
   var_arm vars r e a f =
-      chosen_tried (board vars B.index B.words B.defs B.goals B.facts B.footings B.lists) g.stands 30 perform g.xs aVar t e (perform_var g.xs g.S)
+      chosen_tried (board vars B.index B.words B.defs B.goals B.facts B.footings B.lists) g.stands 30 perform g.xs a_var t e (perform_var g.xs g.S)
       (var_tried B g.stands (add_var 3 g.xs g.S) t 3 vars r (text_proof X.goals X.text)
-      (a (gives_var g.stands {which = 3} (omega arith) g.holds (form_many g.xs aVar e))) f)
+      (a (gives_var g.stands {which = 3} (omega arith) g.holds (form_many g.xs a_var e))) f)
 
-  pub def_arm : (defs J Y : List ℕ) (r : Defined) → tagged proof_tag g.xs ≡ some aDef →
+  pub def_arm : (defs J Y : List ℕ) (r : Defined) → tagged proof_tag g.xs ≡ some a_def →
       ((k : ReadsForm (names_of X T B) n B.index B.words m cells 3) →
       DefAs X.text B.defs defs n B.index B.words J Y m k.S (add_def k.xs k.S) r) →
       t ≡ defined_tried n r → Answers (board B.vars J Y defs B.goals B.facts B.footings B.lists)
   def_arm defs J Y r e a f =
-      chosen_tried (board B.vars J Y defs B.goals B.facts B.footings B.lists) g.stands 30 perform g.xs aDef t e (perform_def g.xs g.S)
-      (def_tried B g.stands (add_def g.xs g.S) t defs J Y r (a (gives_form g.stands g.holds (form_many g.xs aDef e))) f)
+      chosen_tried (board B.vars J Y defs B.goals B.facts B.footings B.lists) g.stands 30 perform g.xs a_def t e (perform_def g.xs g.S)
+      (def_tried B g.stands (add_def g.xs g.S) t defs J Y r (a (gives_form g.stands g.holds (form_many g.xs a_def e))) f)
 
-  pub result_arm : (J Y rows : List ℕ) (r : Resulted) → tagged proof_tag g.xs ≡ some aResult →
+  pub result_arm : (J Y rows : List ℕ) (r : Resulted) → tagged proof_tag g.xs ≡ some a_result →
       ((k : TakesResult (names_of X T B) B.goals B.facts B.lists n B.index B.words m cells) →
       ResultedAs B.goals rows n B.index B.words J Y m k.S (result k.xs k.S) r) →
       t ≡ resulted_tried n r → Answers (board B.vars J Y B.defs rows B.facts B.footings B.lists)
   result_arm J Y rows r e a f =
-      chosen_tried (board B.vars J Y B.defs rows B.facts B.footings B.lists) g.stands 30 perform g.xs aResult t e (perform_result g.xs g.S)
-      (result_tried B g.stands (result g.xs g.S) t J Y rows r (a (stands_result g.stands g.holds (form_many g.xs aResult e))) f)
+      chosen_tried (board B.vars J Y B.defs rows B.facts B.footings B.lists) g.stands 30 perform g.xs a_result t e (perform_result g.xs g.S)
+      (result_tried B g.stands (result g.xs g.S) t J Y rows r (a (stands_result g.stands g.holds (form_many g.xs a_result e))) f)
 
   -- d: the form's tag
   module _ (d : Tag) (e : tagged proof_tag g.xs ≡ some d) where
@@ -137,29 +137,29 @@ module _ {theory goals : List ℕ} {T : TheoryLists} {B : Board} {n : Sizes} {m 
   abbrev Aims : Board → Type 0
   Aims D = TriedAs (texts theory goals goals) T B D m g.items.S (chosen 20 goal (tagged goal_form g.items.xs) g.items.xs g.items.S) t
 
-  pub goal_var_arm : (vars : List ℕ) (r : Declared) → tagged goal_form g.items.xs ≡ some aVariable →
+  pub goal_var_arm : (vars : List ℕ) (r : Declared) → tagged goal_form g.items.xs ≡ some a_variable →
       ((k : AddsVar theory goals goals T.sorts T.symbols B.vars n 2 cells) → VarAs goals B.vars vars n 2 k.S (add_var 2 k.xs k.S) r) →
       t ≡ declared_tried n m r → Aims (board vars B.index B.words B.defs B.goals B.facts B.footings B.lists)
   goal_var_arm vars r e a f =
-      chosen_tried (board vars B.index B.words B.defs B.goals B.facts B.footings B.lists) g.items.stands 20 goal g.items.xs aVariable t e
+      chosen_tried (board vars B.index B.words B.defs B.goals B.facts B.footings B.lists) g.items.stands 20 goal g.items.xs a_variable t e
       (goal_var g.items.xs g.items.S)
       (var_tried B g.items.stands (add_var 2 g.items.xs g.items.S) t 2 vars r (text_goals goals goals)
-      (a (gives_var g.items.stands {which = 2} (omega arith) g.items.holds (goal_many g.items.xs aVariable e))) f)
+      (a (gives_var g.items.stands {which = 2} (omega arith) g.items.holds (goal_many g.items.xs a_variable e))) f)
 
-  pub goal_arm : (J Y rows : List ℕ) (r : Aimed) → tagged goal_form g.items.xs ≡ some aGoal →
+  pub goal_arm : (J Y rows : List ℕ) (r : Aimed) → tagged goal_form g.items.xs ≡ some a_goal →
       ((k : AddsGoal (names theory goals goals T.symbols T.inputs B.vars B.defs) B.goals n B.index B.words m cells 3) (lists : List ℕ) →
-      AimedAs goals B.goals rows lists lists n B.index B.words J Y m k.S (goal aGoal k.xs k.S) r) →
+      AimedAs goals B.goals rows lists lists n B.index B.words J Y m k.S (goal a_goal k.xs k.S) r) →
       t ≡ aimed_tried n r → Aims (board B.vars J Y B.defs rows B.facts B.footings B.lists)
   goal_arm J Y rows r e a f =
-      chosen_tried (board B.vars J Y B.defs rows B.facts B.footings B.lists) g.items.stands 20 goal g.items.xs aGoal t e refl
-      (goal_tried B g.items.stands g.none_yet (goal aGoal g.items.xs g.items.S) t J Y rows B.lists r
-      (a (stands_adds g.items.stands g.items.holds (goal_many g.items.xs aGoal e)) B.lists) f)
+      chosen_tried (board B.vars J Y B.defs rows B.facts B.footings B.lists) g.items.stands 20 goal g.items.xs a_goal t e refl
+      (goal_tried B g.items.stands g.none_yet (goal a_goal g.items.xs g.items.S) t J Y rows B.lists r
+      (a (stands_adds g.items.stands g.items.holds (goal_many g.items.xs a_goal e)) B.lists) f)
 
-  pub goal_with_arm : (J Y rows lists : List ℕ) (r : Aimed) → tagged goal_form g.items.xs ≡ some aGoalWith →
+  pub goal_with_arm : (J Y rows lists : List ℕ) (r : Aimed) → tagged goal_form g.items.xs ≡ some a_goal_with →
       ((k : AddsGoal (names theory goals goals T.symbols T.inputs B.vars B.defs) B.goals n B.index B.words m cells 4) →
-      AimedAs goals B.goals rows B.lists lists n B.index B.words J Y m k.S (goal aGoalWith k.xs k.S) r) →
+      AimedAs goals B.goals rows B.lists lists n B.index B.words J Y m k.S (goal a_goal_with k.xs k.S) r) →
       t ≡ aimed_tried n r → Aims (board B.vars J Y B.defs rows B.facts B.footings lists)
   goal_with_arm J Y rows lists r e a f =
-      chosen_tried (board B.vars J Y B.defs rows B.facts B.footings lists) g.items.stands 20 goal g.items.xs aGoalWith t e refl
-      (goal_tried B g.items.stands g.none_yet (goal aGoalWith g.items.xs g.items.S) t J Y rows lists r
-      (a (stands_adds g.items.stands g.items.holds (goal_many g.items.xs aGoalWith e))) f)
+      chosen_tried (board B.vars J Y B.defs rows B.facts B.footings lists) g.items.stands 20 goal g.items.xs a_goal_with t e refl
+      (goal_tried B g.items.stands g.none_yet (goal a_goal_with g.items.xs g.items.S) t J Y rows lists r
+      (a (stands_adds g.items.stands g.items.holds (goal_many g.items.xs a_goal_with e))) f)

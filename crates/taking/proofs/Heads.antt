@@ -11,7 +11,7 @@ use borrow.Author.Tests.{leb-true}
 use Rattle.rules.specs.Lex.{letters}
 use Rattle.rules.specs.Out.{refuse, then, found}
 use Rattle.rules.specs.Sexp.{Sexp, Sexps, atom, list, nil, cons, count, item, name, items}
-use Rattle.rules.specs.Tags.{Tag, aVar, aDef, a_step, aHyp, aRuleHyp, an_induct, anInductWith, anApply, an_invert, aResult, GoalForm, aVariable, aGoal, aGoalWith, Row, proof_tags, goal_tags, within, fits, tag_in, proof_tag, goal_form}
+use Rattle.rules.specs.Tags.{Tag, a_var, a_def, a_step, a_hyp, a_rule_hyp, an_induct, an_induct_with, an_apply, an_invert, a_result, GoalForm, a_variable, a_goal, a_goal_with, Row, proof_tags, goal_tags, within, fits, tag_in, proof_tag, goal_form}
 use Rattle.rules.specs.Text.{same}
 use Rattle.rules.specs.State.{State}
 use Rattle.rules.specs.Forms.{goal, take_goal, perform, take_form}
@@ -61,21 +61,21 @@ module _ {A : Type 0} (least : A → ℕ) where
 
 -- the least number of items
 abbrev pub least_of : Tag → ℕ
-least_of aVar = 3
-least_of aDef = 3
+least_of a_var = 3
+least_of a_def = 3
 least_of a_step = 4
-least_of aHyp = 3
-least_of aRuleHyp = 5
+least_of a_hyp = 3
+least_of a_rule_hyp = 5
 least_of an_induct = 5
-least_of anInductWith = 6
-least_of anApply = 5
+least_of an_induct_with = 6
+least_of an_apply = 5
 least_of an_invert = 6
-least_of aResult = 3
+least_of a_result = 3
 
 abbrev pub least_goal : GoalForm → ℕ
-least_goal aVariable = 3
-least_goal aGoal = 3
-least_goal aGoalWith = 4
+least_goal a_variable = 3
+least_goal a_goal = 3
+least_goal a_goal_with = 4
 
 form_least : (x : Sexp) (n : ℕ) (t : Tag) → headed proof_tag x n ≡ some t → least_of t ≤ n
 unfolding headed proof_tag proof_tags
@@ -97,42 +97,42 @@ goal_many xs t e = goal_least (item xs 0) (count xs) t e
 -- What an answer says --------------------------------------------------------------------------------------------------------------
 
 abbrev tag_told : TagAnswer → Option Tag
-tag_told Var = some aVar
-tag_told Def = some aDef
+tag_told Var = some a_var
+tag_told Def = some a_def
 tag_told Step = some a_step
-tag_told Hyp = some aHyp
-tag_told RuleHyp = some aRuleHyp
+tag_told Hyp = some a_hyp
+tag_told RuleHyp = some a_rule_hyp
 tag_told Induct = some an_induct
-tag_told InductWith = some anInductWith
-tag_told Apply = some anApply
+tag_told InductWith = some an_induct_with
+tag_told Apply = some an_apply
 tag_told Invert = some an_invert
-tag_told Outcome = some aResult
+tag_told Outcome = some a_result
 tag_told Unknown = nothing
 
 abbrev goal_told : GoalAnswer → Option GoalForm
-goal_told Variable = some aVariable
-goal_told Goal = some aGoal
-goal_told GoalWith = some aGoalWith
+goal_told Variable = some a_variable
+goal_told Goal = some a_goal
+goal_told GoalWith = some a_goal_with
 goal_told UnknownGoal = nothing
 
 tag_back : (o : Option Tag) → tag_told (tag_answer o) ≡ o
 tag_back nothing = refl
-tag_back (some aVar) = refl
-tag_back (some aDef) = refl
+tag_back (some a_var) = refl
+tag_back (some a_def) = refl
 tag_back (some a_step) = refl
-tag_back (some aHyp) = refl
-tag_back (some aRuleHyp) = refl
+tag_back (some a_hyp) = refl
+tag_back (some a_rule_hyp) = refl
 tag_back (some an_induct) = refl
-tag_back (some anInductWith) = refl
-tag_back (some anApply) = refl
+tag_back (some an_induct_with) = refl
+tag_back (some an_apply) = refl
 tag_back (some an_invert) = refl
-tag_back (some aResult) = refl
+tag_back (some a_result) = refl
 
 goal_back : (o : Option GoalForm) → goal_told (goal_answer o) ≡ o
 goal_back nothing = refl
-goal_back (some aVariable) = refl
-goal_back (some aGoal) = refl
-goal_back (some aGoalWith) = refl
+goal_back (some a_variable) = refl
+goal_back (some a_goal) = refl
+goal_back (some a_goal_with) = refl
 
 pub told : {o : Option Tag} {r : TagAnswer} (q : TagAnswer) → r ≡ tag_answer o → r ≡ q → o ≡ tag_told q
 told {o} q e f = sym (tag_back o) ∙ ap tag_told (sym e ∙ f)

@@ -2,7 +2,7 @@
 // before and after; the rest is local.
 ghost use Rattle.std.specs.Prelude.{◌≡◌, replicate};
 ghost use Rattle.rules.specs.Limits.{TERMS};
-ghost use Rattle.rules.specs.Tags.{a_step, aHyp, aRuleHyp, an_induct, anInductWith, anApply};
+ghost use Rattle.rules.specs.Tags.{a_step, a_hyp, a_rule_hyp, an_induct, an_induct_with, an_apply};
 ghost use Rattle.rules.specs.Forms.{perform, result as result_of, some_instances};
 ghost use Rattle.state.specs.Held.{names, rule_lists, records};
 ghost use Rattle.forms.specs.Assumed.{AddsFact, AssumedAs};
@@ -36,7 +36,7 @@ pub fn hyp_next(
 ) -> Assumed
     requires { AddsFact (names theory.now goals.now text.now symbols.now inputs.now vars.now defs.now) facts.old lists.old n index.old words.old mark cells.now 3 }
     ensures { ((g : AddsFact (names theory.now goals.now text.now symbols.now inputs.now vars.now defs.now) facts.old lists.old n index.old words.old mark cells.now 3) →
-        AssumedAs (records facts.old g.footings lists.old) (records facts.new g.footings lists.new) n index.old words.old index.new words.new mark g.S (perform aHyp g.xs g.S) result) }
+        AssumedAs (records facts.old g.footings lists.old) (records facts.new g.footings lists.new) n index.old words.old index.new words.new mark g.S (perform a_hyp g.xs g.S) result) }
 {
     match is_next(text, cells, n) {
         Numbered::Next => add_hyp(
@@ -66,7 +66,7 @@ pub fn rule_hyp_next(
 ) -> Assumed
     requires { AddsFact (names theory.now goals.now text.now symbols.now inputs.now vars.now defs.now) facts.old lists.old n index.old words.old mark cells.now 5 }
     ensures { ((g : AddsFact (names theory.now goals.now text.now symbols.now inputs.now vars.now defs.now) facts.old lists.old n index.old words.old mark cells.now 5) →
-        AssumedAs (records facts.old g.footings lists.old) (records facts.new g.footings lists.new) n index.old words.old index.new words.new mark g.S (perform aRuleHyp g.xs g.S) result) }
+        AssumedAs (records facts.old g.footings lists.old) (records facts.new g.footings lists.new) n index.old words.old index.new words.new mark g.S (perform a_rule_hyp g.xs g.S) result) }
 {
     match is_next(text, cells, n) {
         Numbered::Next => add_rule_hyp(
@@ -158,7 +158,7 @@ pub fn apply_next(
     requires adds_derived { AddsDerived (names theory.now goals.now text.now symbols.now inputs.now vars.now defs.now) facts.old footings.old lists.old n index.old words.old mark cells.now 5 }
     requires memo_value { memo.old ≡ replicate TERMS 0 }
     ensures fact { ((g : AddsDerived (names theory.now goals.now text.now symbols.now inputs.now vars.now defs.now) facts.old footings.old lists.old n index.old words.old mark cells.now 5) →
-        EnteredAs (records facts.old footings.old lists.old) (records facts.new footings.new lists.new) n index.old words.old index.new words.new mark g.form.S (perform anApply g.form.xs g.form.S) some_instances result) }
+        EnteredAs (records facts.old footings.old lists.old) (records facts.new footings.new lists.new) n index.old words.old index.new words.new mark g.form.S (perform an_apply g.form.xs g.form.S) some_instances result) }
     ensures memo_after { memo.new ≡ memo.old }
 {
     let mut bound = [0u32; VARIABLES];
@@ -231,7 +231,7 @@ pub fn induct_with_next(
     requires adds_derived { AddsDerived (names theory.now goals.now text.now symbols.now inputs.now vars.now defs.now) facts.old footings.old lists.old n index.old words.old mark cells.now 6 }
     requires spare { Spare ids.old memo.old }
     ensures fact { ((g : AddsDerived (names theory.now goals.now text.now symbols.now inputs.now vars.now defs.now) facts.old footings.old lists.old n index.old words.old mark cells.now 6) →
-        EnteredAs (records facts.old footings.old lists.old) (records facts.new footings.new lists.new) n index.old words.old index.new words.new mark g.form.S (perform anInductWith g.form.xs g.form.S) an_induction result) }
+        EnteredAs (records facts.old footings.old lists.old) (records facts.new footings.new lists.new) n index.old words.old index.new words.new mark g.form.S (perform an_induct_with g.form.xs g.form.S) an_induction result) }
     ensures fact_2 { (ids.new ≡ ids.old) × (memo.new ≡ memo.old) }
 {
     let mut map = [0u32; VARIABLES];

@@ -3,7 +3,7 @@ use Rattle.std.specs.Prelude.{◌≡◌, refl, List, ℕ, ◌≤◌}
 use Rattle.std.proofs.Common.{◌∙◌}
 use Rattle.rules.specs.Out.{ok, refuse, then, Act}
 use Rattle.rules.specs.Sexp.{Sexps, count}
-use Rattle.rules.specs.Tags.{Tag, a_step, aHyp, aRuleHyp, an_induct, anInductWith, anApply, an_invert}
+use Rattle.rules.specs.Tags.{Tag, a_step, a_hyp, a_rule_hyp, an_induct, an_induct_with, an_apply, an_invert}
 use Rattle.rules.specs.State.{State}
 use Rattle.rules.specs.Forms.{next, perform, add_step, add_hyp, add_rule_hyp, add_induct, add_induct_with, add_apply, add_invert}
 use Rattle.rules.specs.Laws.Store.{then_ok, then_refuse}
@@ -22,11 +22,11 @@ stands_own {S = S} h {xs = xs} o l = record { S = S; xs = xs; holds = o; many = 
 -- the forms behind their index
 pub data Numbers : Tag → (Sexps → Act State (Unit {0})) → Type 0 where
   steps : Numbers a_step add_step
-  hyps : Numbers aHyp add_hyp
-  rule_hyps : Numbers aRuleHyp add_rule_hyp
+  hyps : Numbers a_hyp add_hyp
+  rule_hyps : Numbers a_rule_hyp add_rule_hyp
   inducts : Numbers an_induct add_induct
-  inducts_with : Numbers anInductWith add_induct_with
-  applies : Numbers anApply add_apply
+  inducts_with : Numbers an_induct_with add_induct_with
+  applies : Numbers an_apply add_apply
   inverts : Numbers an_invert add_invert
 
 perform_is : {t : Tag} {f : Sexps → Act State (Unit {0})} → Numbers t f → (xs : Sexps) (S : State) → perform t xs S ≡ then (next xs S) (λ _. f xs)

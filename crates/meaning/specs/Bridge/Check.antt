@@ -19,7 +19,7 @@ use Rattle.rules.specs.Laws.Reached.{end_of}
 use Rattle.rules.specs.Laws.Bounded.{BoundedCheck, goals_bounded, forms_bounded}
 use Rattle.rules.specs.State.{State, Goal, begin, sort_of_var}
 use Rattle.rules.specs.Loop.{Judged, done, refused, through, unread, whole}
-use Rattle.rules.specs.Tags.{Tag, aVar, aDef, a_step, aHyp, aRuleHyp, an_induct, anInductWith, anApply, an_invert, aResult}
+use Rattle.rules.specs.Tags.{Tag, a_var, a_def, a_step, a_hyp, a_rule_hyp, an_induct, an_induct_with, an_apply, an_invert, a_result}
 use Rattle.rules.specs.Forms.{take_goal, take_form}
 use Rattle.rules.specs.Check.{Report, Answer, accepts, refuses, Outcome, refused_in, report, missing, ended, after_proof, after_goals, after_theory, first_failing, readable, fitting, check}
 use Rattle.meaning.specs.Named.{Calm, ResultOf}
@@ -62,15 +62,15 @@ rule_there T (list xs) r e = absurd e
 rule_as : (t : Tag) (S : State) (xs : Sexps) (r : ℕ) → RuleAs t S xs r → RuleOf S.theory r
 unfolding RuleAs
 rule_as a_step S xs r e = rule_there S.theory (item xs 2) r e
-rule_as aVar S xs r e = absurd e
-rule_as aDef S xs r e = absurd e
-rule_as aHyp S xs r e = absurd e
-rule_as aRuleHyp S xs r e = absurd e
+rule_as a_var S xs r e = absurd e
+rule_as a_def S xs r e = absurd e
+rule_as a_hyp S xs r e = absurd e
+rule_as a_rule_hyp S xs r e = absurd e
 rule_as an_induct S xs r e = absurd e
-rule_as anInductWith S xs r e = absurd e
-rule_as anApply S xs r e = absurd e
+rule_as an_induct_with S xs r e = absurd e
+rule_as an_apply S xs r e = absurd e
 rule_as an_invert S xs r e = absurd e
-rule_as aResult S xs r e = absurd e
+rule_as a_result S xs r e = absurd e
 
 tagged_rule : (S : State) (x : Sexp) (r : ℕ) → Tagged RuleAs S x r → RuleOf S.theory r
 unfolding Tagged

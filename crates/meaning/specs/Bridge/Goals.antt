@@ -11,7 +11,7 @@ use Rattle.rules.specs.Theory.{Theory}
 use Rattle.rules.specs.Declare.{is_new}
 use Rattle.rules.specs.State.{State, Goal, begin as start, goal_named, abbreviated, entries}
 use Rattle.rules.specs.Read.{judgment, judgments}
-use Rattle.rules.specs.Tags.{GoalForm, aVariable, aGoal, aGoalWith, goal_form}
+use Rattle.rules.specs.Tags.{GoalForm, a_variable, a_goal, a_goal_with, goal_form}
 use Rattle.rules.specs.Forms.{with_made, add_goal, goal, take_goal}
 use Rattle.rules.specs.Laws.Entry.{entry_front, entry_snoc}
 use Rattle.meaning.specs.Trees.Tests.{true_false}
@@ -55,10 +55,10 @@ add_goal_ok K x hs j S m =
 
 goal_ok : (K : Sets) (g : GoalForm) (xs : Sexps) (S : State) → Ends (λ _ S'. Post K (λ k i. ⊥) (Unit {0}) S S') (goal g xs S)
 unfolding goal then
-goal_ok K aVariable xs S = add-var-ok K (λ k i b. b) (Unit {0}) 2 xs S
-goal_ok K aGoal xs S =
+goal_ok K a_variable xs S = add-var-ok K (λ k i b. b) (Unit {0}) 2 xs S
+goal_ok K a_goal xs S =
     making_then (judgment S (item xs 2)) S _ (ok_any (judgment S (item xs 2) S.made)) (λ j m _. add_goal_ok K (item xs 1) none j S m)
-goal_ok K aGoalWith xs S =
+goal_ok K a_goal_with xs S =
     making_then (judgments S (item xs 2)) S _ (ok_any (judgments S (item xs 2) S.made)) (λ hs m _.
     making_then (judgment S (item xs 3)) (with_made S m) _ (ok_any (judgment S (item xs 3) m)) (λ j m₁ _. add_goal_ok K (item xs 1) hs j S m₁))
 

@@ -17,7 +17,7 @@ use Rattle.rules.specs.Step.{step}
 use Rattle.rules.specs.Apply.{apply}
 use Rattle.rules.specs.Induct.{keep_vars, induct, induct_with}
 use Rattle.rules.specs.Invert.{Case, case_named, Inversion, Names, renamed, invert_rule, invert_rules, taken_vars, suit, invert}
-use Rattle.rules.specs.Tags.{Tag, aDef, a_step, aHyp, aRuleHyp, an_induct, anInductWith, anApply, an_invert}
+use Rattle.rules.specs.Tags.{Tag, a_def, a_step, a_hyp, a_rule_hyp, an_induct, an_induct_with, an_apply, an_invert}
 use Rattle.rules.specs.Forms.{with_made, with_vars, with_defs, add_var, add_def, hypothesis, one_hypothesis, one_induction, one_inversion, some_instances}
 use Rattle.rules.specs.Forms.{add_hyp, add_rule_hyp, add_step, add_apply, add_induct, add_induct_with, add_invert}
 use Rattle.meaning.specs.Trees.Tree.{In}
@@ -103,7 +103,7 @@ well-def S vs w m d y = record {
   facts = w.facts;
 }
 
-pub add-def-ok : (K : Sets) (xs : Sexps) (S : State) → After K aDef xs S (add_def xs S)
+pub add-def-ok : (K : Sets) (xs : Sexps) (S : State) → After K a_def xs S (add_def xs S)
 unfolding add_def then ResultAs
 add-def-ok K xs S =
     keeping _ (keeps_name 33 (item xs 1) S) (λ n _.
@@ -134,17 +134,17 @@ hyp_fine K S vs w j ps gs a b = record {
   form = hyp (record { own = in_here (length S.facts) });
 }
 
-pub add-hyp-ok : (K : Sets) (xs : Sexps) (S : State) → After K aHyp xs S (add_hyp xs S)
+pub add-hyp-ok : (K : Sets) (xs : Sexps) (S : State) → After K a_hyp xs S (add_hyp xs S)
 unfolding add_hyp then Judgments ResultAs
 add-hyp-ok K xs S =
     making_then (judgment S (item xs 2)) S _
     (ok_all {I = (vs : ℕ → ℕ) × Well S vs} {P = λ i t. Judgment S.theory i.0 (length S.vars) t}
     (judgment S (item xs 2) S.made) (λ i. judgment_ok S i.0 i.1 (item xs 2) S.made)) (λ j m y.
-    ends_map (λ _ S' e. subst (λ z. Post K (ResultAs aHyp S xs) (Clear K aHyp S xs) S z) (sym e)
+    ends_map (λ _ S' e. subst (λ z. Post K (ResultAs a_hyp S xs) (Clear K a_hyp S xs) S z) (sym e)
     (fact_post K (λ k i b. b) S m S.vars (extends_same S.vars) (hypothesis (length S.facts) j none []) _ (λ vs w _ _. hyp_fine K S vs w j none [] (y (vs, w)) tt)))
     (add_fact_lem (hypothesis (length S.facts) j none []) one_hypothesis (with_made S m)))
 
-pub add-rule-hyp-ok : (K : Sets) (xs : Sexps) (S : State) → After K aRuleHyp xs S (add_rule_hyp xs S)
+pub add-rule-hyp-ok : (K : Sets) (xs : Sexps) (S : State) → After K a_rule_hyp xs S (add_rule_hyp xs S)
 unfolding add_rule_hyp then ResultAs
 add-rule-hyp-ok K xs S =
     making_then (judgments S (item xs 2)) S _
@@ -154,7 +154,7 @@ add-rule-hyp-ok K xs S =
     (ok_all {I = (vs : ℕ → ℕ) × Well S vs} {P = λ i t. Judgment S.theory i.0 (length S.vars) t}
     (judgment S (item xs 3) m) (λ i. judgment_ok S i.0 i.1 (item xs 3) m)) (λ j m₁ y.
     keeping _ (keeps_vars_list 36 S (item xs 4) (with_made S m₁) (ok_any (vars_list 36 S (item xs 4) (with_made S m₁)))) (λ gs _.
-    ends_map (λ _ S' e. subst (λ z. Post K (ResultAs aRuleHyp S xs) (Clear K aRuleHyp S xs) S z) (sym e)
+    ends_map (λ _ S' e. subst (λ z. Post K (ResultAs a_rule_hyp S xs) (Clear K a_rule_hyp S xs) S z) (sym e)
     (fact_post K (λ k i b. b) S m₁ S.vars (extends_same S.vars) (hypothesis (length S.facts) j ps gs) _
     (λ vs w _ _. hyp_fine K S vs w j ps gs (y (vs, w)) (x (vs, w)))))
     (add_fact_lem (hypothesis (length S.facts) j ps gs) one_hypothesis (with_made S m₁)))))
@@ -186,14 +186,14 @@ add-step-ok K xs S =
     (fact_post K (λ k i b. b) S m S.vars (extends_same S.vars) r.0 _ (λ vs w c _. y (vs, w, c))))
     (add_fact_lem r.0 (some_instances r.1) (with_made S m)))
 
-pub add-apply-ok : (K : Sets) (xs : Sexps) (S : State) → After K anApply xs S (add_apply xs S)
+pub add-apply-ok : (K : Sets) (xs : Sexps) (S : State) → After K an_apply xs S (add_apply xs S)
 unfolding add_apply then NamesAs RuleAs CitesAs Citable ResultAs
 add-apply-ok K xs S =
     making_then (apply S xs) S _
-    (ok_all {I = Given K anApply xs S} {P = λ i f. Fine K S i.0 i.1 f} (apply S xs S.made)
+    (ok_all {I = Given K an_apply xs S} {P = λ i f. Fine K S i.0 i.1 f} (apply S xs S.made)
     (λ i. apply_ok K S i.0 i.1 xs (λ k p. i.2.cites k (inl p))
     (refs-free K S i.0 i.1 (item xs 4) i.2.calm (λ k p. i.2.cites k (inr p))) S.made)) (λ f m y.
-    ends_map (λ _ S' e. subst (λ z. Post K (ResultAs anApply S xs) (Clear K anApply S xs) S z) (sym e)
+    ends_map (λ _ S' e. subst (λ z. Post K (ResultAs an_apply S xs) (Clear K an_apply S xs) S z) (sym e)
     (fact_post K (λ k i b. b) S m S.vars (extends_same S.vars) f _ (λ vs w c _. y (vs, w, c))))
     (add_fact_lem f no_counts (with_made S m)))
 
@@ -207,13 +207,13 @@ add-induct-ok K xs S =
     (fact_post K (λ k i b. b) S m S.vars (extends_same S.vars) f _ (λ vs w c _. y (vs, w, c))))
     (add_fact_lem f one_induction (with_made S m)))
 
-pub add-induct-with-ok : (K : Sets) (xs : Sexps) (S : State) → After K anInductWith xs S (add_induct_with xs S)
+pub add-induct-with-ok : (K : Sets) (xs : Sexps) (S : State) → After K an_induct_with xs S (add_induct_with xs S)
 unfolding add_induct_with then NamesAs RuleAs CitesAs Citable ResultAs
 add-induct-with-ok K xs S =
     making_then (induct_with S xs) S _
-    (ok_all {I = Given K anInductWith xs S} {P = λ i f. Fine K S i.0 i.1 f} (induct_with S xs S.made)
+    (ok_all {I = Given K an_induct_with xs S} {P = λ i f. Fine K S i.0 i.1 f} (induct_with S xs S.made)
     (λ i. induct_with_ok K S i.0 i.1 xs (cases_free K S i.0 i.1 (item xs 5) i.2.calm i.2.cites) S.made)) (λ f m y.
-    ends_map (λ _ S' e. subst (λ z. Post K (ResultAs anInductWith S xs) (Clear K anInductWith S xs) S z) (sym e)
+    ends_map (λ _ S' e. subst (λ z. Post K (ResultAs an_induct_with S xs) (Clear K an_induct_with S xs) S z) (sym e)
     (fact_post K (λ k i b. b) S m S.vars (extends_same S.vars) f _ (λ vs w c _. y (vs, w, c))))
     (add_fact_lem f one_induction (with_made S m)))
 

@@ -9,7 +9,7 @@ use Rattle.rules.specs.Tree.{Trees, same_tree, among}
 use Rattle.rules.specs.Store.{Made}
 use Rattle.rules.specs.State.{State, Fact, Goal, goal_named, is_plain, is_empty}
 use Rattle.rules.specs.Reference.{Ref, instance, reference}
-use Rattle.rules.specs.Tags.{Tag, aVar, aDef, a_step, aHyp, aRuleHyp, an_induct, anInductWith, anApply, an_invert, aResult, proof_tag}
+use Rattle.rules.specs.Tags.{Tag, a_var, a_def, a_step, a_hyp, a_rule_hyp, an_induct, an_induct_with, an_apply, an_invert, a_result, proof_tag}
 use Rattle.rules.specs.Forms.{with_made, listed, taken_goal, result, next, perform, take_form}
 use Rattle.meaning.specs.Trees.Tree.{Among}
 use Rattle.meaning.specs.Trees.Tests.{true_false, same_tree_true, among_true}
@@ -112,7 +112,7 @@ ref_free K S vs w x c n e i f r a = (
 
 -- a well state, and the fact that the result names
 abbrev NamedResult : Sets → Sexps → State → Type 0
-NamedResult K xs S = (vs : ℕ → ℕ) × Well S vs × Clear K aResult S xs × (i : ℕ) × Refers (item xs 2) i
+NamedResult K xs S = (vs : ℕ → ℕ) × Well S vs × Clear K a_result S xs × (i : ℕ) × Refers (item xs 2) i
 
 ResultBy : (K : Sets) (xs : Sexps) (S : State) → Ref → Unit {0} ⊎ NamedResult K xs S → Type 0
 ResultBy K xs S r (inl u) = (i : ℕ) × Refers (item xs 2) i
@@ -123,7 +123,7 @@ unfolding ResultBy NamesAs
 result_by K xs S (inl u) = reference_points S (item xs 2) S.made
 result_by K xs S (inr (vs, w, c, i, e)) = reference_ok K S vs w i (item xs 2) (ref_free K S vs w (item xs 2) c.calm i e) S.made
 
-result_ok : (K : Sets) (xs : Sexps) (S : State) → After K aResult xs S (result xs S)
+result_ok : (K : Sets) (xs : Sexps) (S : State) → After K a_result xs S (result xs S)
 unfolding result then ResultBy ResultAs
 result_ok K xs S =
     keeping _ (keeps_name 50 (item xs 1) S) (λ n ei.
@@ -162,16 +162,16 @@ next_keeps xs S =
 
 perform_ok : (K : Sets) (t : Tag) (xs : Sexps) (S : State) → After K t xs S (perform t xs S)
 unfolding perform ResultAs
-perform_ok K aVar xs S = add-var-ok K (λ k i b. b) (Clear K aVar S xs) 3 xs S
-perform_ok K aDef xs S = add-def-ok K xs S
+perform_ok K a_var xs S = add-var-ok K (λ k i b. b) (Clear K a_var S xs) 3 xs S
+perform_ok K a_def xs S = add-def-ok K xs S
 perform_ok K a_step xs S = keeping _ (next_keeps xs S) (λ _ _. add-step-ok K xs S)
-perform_ok K aHyp xs S = keeping _ (next_keeps xs S) (λ _ _. add-hyp-ok K xs S)
-perform_ok K aRuleHyp xs S = keeping _ (next_keeps xs S) (λ _ _. add-rule-hyp-ok K xs S)
+perform_ok K a_hyp xs S = keeping _ (next_keeps xs S) (λ _ _. add-hyp-ok K xs S)
+perform_ok K a_rule_hyp xs S = keeping _ (next_keeps xs S) (λ _ _. add-rule-hyp-ok K xs S)
 perform_ok K an_induct xs S = keeping _ (next_keeps xs S) (λ _ _. add-induct-ok K xs S)
-perform_ok K anInductWith xs S = keeping _ (next_keeps xs S) (λ _ _. add-induct-with-ok K xs S)
-perform_ok K anApply xs S = keeping _ (next_keeps xs S) (λ _ _. add-apply-ok K xs S)
+perform_ok K an_induct_with xs S = keeping _ (next_keeps xs S) (λ _ _. add-induct-with-ok K xs S)
+perform_ok K an_apply xs S = keeping _ (next_keeps xs S) (λ _ _. add-apply-ok K xs S)
 perform_ok K an_invert xs S = keeping _ (next_keeps xs S) (λ _ _. add-invert-ok K xs S)
-perform_ok K aResult xs S = result_ok K xs S
+perform_ok K a_result xs S = result_ok K xs S
 
 -- The whole form --------------------------------------------------------------------------------------------------------------------
 

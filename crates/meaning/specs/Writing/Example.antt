@@ -45,8 +45,8 @@ first_of_sort (suc i) l = absurd (let z : ⊥ = omega arith in z)
 pub two_nodes : Nodes example_theory [] two_steps
 unfolding checking example_theory reached Nodes Names NamesAll conclusion Value arity rule_sort sig
 two_nodes = (
-  record { known = omega arith; ground = λ i l. absurd (let z : ⊥ = omega arith in z); next = refl; children = tt },
-  (record { known = omega arith; ground = first_of_sort; next = refl; children = ((0, refl, refl), tt) }, tt),
+  record { known = omega arith; grounded = λ i l. absurd (let z : ⊥ = omega arith in z); next = refl; children = tt },
+  (record { known = omega arith; grounded = first_of_sort; next = refl; children = ((0, refl, refl), tt) }, tt),
 )
 
 abbrev renewed : Tree

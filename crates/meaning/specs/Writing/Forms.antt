@@ -12,7 +12,7 @@ use Rattle.rules.specs.Out.{Out, ok, refuse, then, ask, room}
 use Rattle.rules.specs.Sexp.{Sexp, Sexps, atom, list, nil as nilˢ, cons as consˢ, count, item, name as nameˢ, items}
 use Rattle.rules.specs.Find.{first, entry, all, change}
 use Rattle.rules.specs.Index.{index_of}
-use Rattle.rules.specs.Tags.{a_step, aResult, proof_tag, aGoal, aGoalWith, goal_form, tagging}
+use Rattle.rules.specs.Tags.{a_step, a_result, proof_tag, a_goal, a_goal_with, goal_form, tagging}
 use Rattle.rules.specs.Tree.{Tree, none, same_tree, count_trees}
 use Rattle.rules.specs.Store.{Made, make}
 use Rattle.rules.specs.Theory.{Theory}
@@ -137,7 +137,7 @@ unfoldable pub GoalTook : Theory → ℕ → List ℕ → Tree → Out Made Tree
 GoalTook T p n j (ok a m) o = o ≡ ok tt (state_of T m (awaited p n j) [])
 GoalTook T p n j (refuse k d m) o = Full o
 
-goal_tag : (goal_form (bytes "goal") 3 ≡ some aGoal) × (goal_form (bytes "goal") 4 ≡ some aGoalWith)
+goal_tag : (goal_form (bytes "goal") 3 ≡ some a_goal) × (goal_form (bytes "goal") 4 ≡ some a_goal_with)
 unfolding tagging
 goal_tag = (refl, refl)
 
@@ -148,7 +148,7 @@ module _ (T : Theory) (n : List ℕ) (j : Tree) where
       ≡ then (lifted (begin T) o) (λ i S. add_goal (atom q n) none i S)
   unfolding take_goal items item count nameˢ goal then
   goal_begins p q x o e =
-      then_found 20 (goal_form (bytes "goal") 3) aGoal (begin T) _ goal_tag.0
+      then_found 20 (goal_form (bytes "goal") 3) a_goal (begin T) _ goal_tag.0
       ∙ then_same (making (judgment (begin T) x) (begin T)) (lifted (begin T) o) _ (making_is (judgment (begin T) x) (begin T) o e)
 
   -- the same with an empty list
@@ -157,7 +157,7 @@ module _ (T : Theory) (n : List ℕ) (j : Tree) where
       ≡ then (lifted (begin T) o) (λ i S. add_goal (atom q n) none i S)
   unfolding take_goal items item count nameˢ goal then judgments judgment_each making
   goal_begins_listing p q x o e =
-      then_found 20 (goal_form (bytes "goal") 4) aGoalWith (begin T) _ goal_tag.1
+      then_found 20 (goal_form (bytes "goal") 4) a_goal_with (begin T) _ goal_tag.1
       ∙ then_same (making (judgment (begin T) x) (begin T)) (lifted (begin T) o) _ (making_is (judgment (begin T) x) (begin T) o e)
 
   goal_ends : (q : ℕ) (o : Out Made Tree) → Makes j o → GoalTook T q n j o (then (lifted (begin T) o) (λ i S. add_goal (atom q n) none i S))
@@ -165,7 +165,7 @@ module _ (T : Theory) (n : List ℕ) (j : Tree) where
   goal_ends q (ok a m) made = refl
   goal_ends q (refuse k d m) unmade = record { row = d; state = with_made (begin T) m; is = refl }
 
--- the goal of a ground judgment, in both spellings
+-- the goal of a grounded judgment, in both spellings
 module _ (T : Theory) (w : WellFormed T) (nm : Named T) (n : List ℕ) (j : Tree) (c : Concludes T j) where
   judgment_begins : (x : Sexp) → bare x ≡ judgment_form T j → judgment (begin T) x [] ≡ make j []
   judgment_begins x e =
@@ -284,7 +284,7 @@ module _ (T : Theory) (w : WellFormed T) (nm : Named T) (p : ℕ) (gn : List ℕ
 
 -- The result ----------------------------------------------------------------------------------------------------------------------
 
-result_tag : proof_tag (bytes "result") 3 ≡ some aResult
+result_tag : proof_tag (bytes "result") 3 ≡ some a_result
 unfolding tagging
 result_tag = refl
 
@@ -300,7 +300,7 @@ module _ (T : Theory) (p : ℕ) (gn : List ℕ) (j : Tree) (m : Made) (cs : List
       → take_form (list (consˢ (atom t (bytes "result")) (consˢ (atom q gn) (consˢ x nilˢ)))) U ≡ ok tt (state_of T m (taken_goal (awaited p gn j)) fs)
   unfolding take_form items item count nameˢ perform result then lifted entry all change
   result_read t q x r e h =
-      then_found 30 (proof_tag (bytes "result") 3) aResult U _ result_tag
+      then_found 30 (proof_tag (bytes "result") 3) a_result U _ result_tag
       ∙ (then_found 50 (goal_named (awaited p gn j ∷ []) gn) 0 U _ goal_found
       ∙ (then_same (making (reference U x) U) (lifted U (ok r m)) _ (making_is (reference U x) U (ok r m) e)
       ∙ (then_ask 51 (all (λ i. listed none (entry fs i)) r.hyps) U _ (ap (all (λ i. listed none (entry fs i))) h.hyps)

@@ -1,4 +1,4 @@
--- One node of a written derivation: its conclusion is a ground judgment, its rule matches, its children are found, and so its step is taken
+-- One node of a written derivation: its conclusion is a grounded judgment, its rule matches, its children are found, and so its step is taken
 -- as soon as the conclusion is made. Assumes nothing.
 use Prim.Native.Nat.{ℕ, zero, suc, ◌+◌, ◌<◌}
 use Rattle.std.specs.Prelude.{◌≡◌, ◌||◌, length}
@@ -77,7 +77,7 @@ module _ (ρ : ℕ → Tree) where
 
 -- Conclusions ---------------------------------------------------------------------------------------------------------------------
 
--- a predicate over ground terms
+-- a predicate over grounded terms
 pub record Concludes (T : Theory) (t : Tree) : Type 0 where
   pub head : ℕ
   pub arguments : Trees
@@ -91,7 +91,7 @@ module _ (T : Theory) (s : Step) (cs : List Tree) (n : Node T cs s) where
     unfolding sub Sorted Value sig sort_in rule_sort arity
 
     instance_value : (t : Tree) (k : ℕ) → Sorted T (rule T s.rule).vars t k → Value (sig T) (sub s.replacement t) k
-    instance_value (var v) k h = subst (λ z. Value (sig T) (s.replacement v) z) h.1 (n.ground v h.0)
+    instance_value (var v) k h = subst (λ z. Value (sig T) (s.replacement v) z) h.1 (n.grounded v h.0)
     instance_value (app c ts) k h = (h.0, h.1, instance_values ts (inputs T c) h.2)
 
     instance_values : (ts : Trees) (ks : List ℕ) → Sorteds T (rule T s.rule).vars ts ks → Values (sig T) (subs s.replacement ts) ks

@@ -121,7 +121,7 @@ root_lists T cs ss r ρ is j n u v e h q l =
       nodes = nodes_append T ss (s ∷ []) cs h.nodes (
         record {
           known = u;
-          ground = v;
+          grounded = v;
           next = decimal_read n l ∙ ap some long;
           children = h.names;
         },
@@ -212,7 +212,7 @@ module _ (T : Theory) where
   node_derivable : (cs : List Tree) (s : Step) → AllDerivable cs → Node T cs s → Derivable T (conclusion T s)
   unfolding conclusion
   node_derivable cs s a n =
-      node s.rule s.replacement _ n.known n.ground (names_derivable cs a s.children (subs s.replacement (rule T s.rule).premises) n.children) refl
+      node s.rule s.replacement _ n.known n.grounded (names_derivable cs a s.children (subs s.replacement (rule T s.rule).premises) n.children) refl
 
   nodes_derivable : (ss : List Step) (cs : List Tree) → AllDerivable cs → Nodes T cs ss → AllDerivable (cs ++ conclusions T ss)
   unfolding Nodes conclusions

@@ -8,7 +8,7 @@ use mathlib.Core.List.{List, [], ◌∷◌, ◌++◌}
 use Rattle.std.proofs.lemmas.Bool.{lt-leb}
 use Rattle.rules.specs.Limits.{DEPTH}
 use Rattle.rules.specs.Text.{bytes, plain}
-use Rattle.rules.specs.Lex.{Kind, blank, left, right, semicolon, letter, white, kind, Token, opens, closes, word, Mode, between, in_word, inComment, tokens, letters}
+use Rattle.rules.specs.Lex.{Kind, blank, left, right, semicolon, letter, white, kind, Token, opens, closes, word, Mode, between, in_word, in_comment, tokens, letters}
 use Rattle.rules.specs.Laws.Lex.{kind_letter}
 use Rattle.rules.specs.Sexp.{Sexp, Sexps, atom, list, nil as nilˢ, cons as consˢ, snoc, Text, fails, forms, read}
 use Rattle.rules.specs.Tree.{Tree, Trees, var, app, none, more}
@@ -57,7 +57,7 @@ tokens_are : (t : List ℕ) (m : Mode) (p : ℕ) → plain t ≡ true → Tokens
 unfolding tokens Tokens Word Letters
 tokens_are [] between p e = tt
 tokens_are [] in_word p e = tt
-tokens_are [] inComment p e = tt
+tokens_are [] in_comment p e = tt
 tokens_are (b ∷ t) between p e = go (kind b) refl (λ m. tokens_are t m (suc p) (plain_split b t e).1)
   where
     go : (k : Kind) → kind b ≡ k → ((m : Mode) → Tokens (tokens m (suc p) t))
@@ -65,13 +65,13 @@ tokens_are (b ∷ t) between p e = go (kind b) refl (λ m. tokens_are t m (suc p
           | blank ↦ tokens between (suc p) t
           | left ↦ opens p ∷ tokens between (suc p) t
           | right ↦ closes p ∷ tokens between (suc p) t
-          | semicolon ↦ tokens inComment (suc p) t
+          | semicolon ↦ tokens in_comment (suc p) t
           | letter ↦ word p (b ∷ letters t) ∷ tokens in_word (suc p) t
         ])
     go blank q h = h between
     go left q h = h between
     go right q h = h between
-    go semicolon q h = h inComment
+    go semicolon q h = h in_comment
     go letter q h = ((q, (plain_split b t e).0, letters_are t (plain_split b t e).1), h in_word)
 tokens_are (b ∷ t) in_word p e = go (kind b) (λ m. tokens_are t m (suc p) (plain_split b t e).1)
   where
@@ -80,20 +80,20 @@ tokens_are (b ∷ t) in_word p e = go (kind b) (λ m. tokens_are t m (suc p) (pl
           | blank ↦ tokens between (suc p) t
           | left ↦ opens p ∷ tokens between (suc p) t
           | right ↦ closes p ∷ tokens between (suc p) t
-          | semicolon ↦ tokens inComment (suc p) t
+          | semicolon ↦ tokens in_comment (suc p) t
           | letter ↦ tokens in_word (suc p) t
         ])
     go blank h = h between
     go left h = h between
     go right h = h between
-    go semicolon h = h inComment
+    go semicolon h = h in_comment
     go letter h = h in_word
-tokens_are (b ∷ t) inComment p e = go (eqb b 10) (λ m. tokens_are t m (suc p) (plain_split b t e).1)
+tokens_are (b ∷ t) in_comment p e = go (eqb b 10) (λ m. tokens_are t m (suc p) (plain_split b t e).1)
   where
     go : (k : Bool) → ((m : Mode) → Tokens (tokens m (suc p) t))
-        → Tokens (elim k as (λ _. List Token) [ true ↦ tokens between (suc p) t | false ↦ tokens inComment (suc p) t ])
+        → Tokens (elim k as (λ _. List Token) [ true ↦ tokens between (suc p) t | false ↦ tokens in_comment (suc p) t ])
     go true h = h between
-    go false h = h inComment
+    go false h = h in_comment
 
 -- Forms ---------------------------------------------------------------------------------------------------------------------------
 

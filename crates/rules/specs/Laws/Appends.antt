@@ -7,7 +7,7 @@ use Rattle.rules.specs.Limits.{ARGUMENTS}
 use Rattle.rules.specs.Out.{ok}
 use Rattle.rules.specs.Sexp.{Sexp, Sexps, nil, cons, count, item, Name, marked}
 use Rattle.rules.specs.Find.{entry, change}
-use Rattle.rules.specs.Tags.{Declaration, aSort, aCtor, aPred, aRule, declaration}
+use Rattle.rules.specs.Tags.{Declaration, a_sort, a_ctor, a_pred, a_rule, declaration}
 use Rattle.rules.specs.Tree.{Trees, none, more}
 use Rattle.rules.specs.Store.{Made}
 use Rattle.rules.specs.Theory.{Theory, Symbol, Rule, sort_named, constructor_named, predicate_named}
@@ -191,10 +191,10 @@ add_rule_declares xs T = go_on _ (past _ _ λ r a e. past _ _ λ n b e. past _ _
 
 declare_as_lem : (d : Declaration) (xs : Sexps) (T : Theory) → Ok (λ a U. Declares T U) (declare_as d xs T)
 unfolding declare_as
-declare_as_lem aSort xs T = add_sort_declares xs T
-declare_as_lem aCtor xs T = add_ctor_declares xs T
-declare_as_lem aPred xs T = add_pred_declares xs T
-declare_as_lem aRule xs T = add_rule_declares xs T
+declare_as_lem a_sort xs T = add_sort_declares xs T
+declare_as_lem a_ctor xs T = add_ctor_declares xs T
+declare_as_lem a_pred xs T = add_pred_declares xs T
+declare_as_lem a_rule xs T = add_rule_declares xs T
 
 declare_declares : (x : Sexp) (T : Theory) → Ok (λ a U. Declares T U) (declare x T)
 unfolding declare

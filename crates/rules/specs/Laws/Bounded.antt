@@ -8,7 +8,7 @@ use Rattle.std.proofs.Math.Dec.{leb}
 use Rattle.rules.specs.Limits.{VARIABLES, DEFS, GOALS, FACTS, ENTRIES}
 use Rattle.rules.specs.Out.{Out, ok, refuse, then, Act}
 use Rattle.rules.specs.Sexp.{Sexp, Sexps, Text, count, item, marked}
-use Rattle.rules.specs.Tags.{Tag, aVar, aDef, a_step, aHyp, aRuleHyp, an_induct, anInductWith, anApply, an_invert, aResult, proof_tag, GoalForm, aVariable, aGoal, aGoalWith, goal_form}
+use Rattle.rules.specs.Tags.{Tag, a_var, a_def, a_step, a_hyp, a_rule_hyp, an_induct, an_induct_with, an_apply, an_invert, a_result, proof_tag, GoalForm, a_variable, a_goal, a_goal_with, goal_form}
 use Rattle.rules.specs.Find.{entry, all, change}
 use Rattle.rules.specs.Tree.{Tree, Trees, none, more, same_tree, count_trees}
 use Rattle.rules.specs.Store.{Made}
@@ -159,11 +159,11 @@ module _ (S : State) (h : BoundedState S) where
 
   goal_bounded : (t : GoalForm) (xs : Sexps) → Keeps (goal t xs S)
   unfolding goal Below
-  goal_bounded aVariable xs = add_var_takes 2 xs S (λ v l. one_var S v l h)
-  goal_bounded aGoal xs =
+  goal_bounded a_variable xs = add_var_takes 2 xs S (λ v l. one_var S v l h)
+  goal_bounded a_goal xs =
       go_on _ (by_making (judgment S (item xs 2)) S _ (judgment_below n S h.trees (item xs 2) S.made h.made) λ j u p.
       add_goal_bounded (item xs 1) none j u p.0 tt p.1)
-  goal_bounded aGoalWith xs =
+  goal_bounded a_goal_with xs =
       go_on _ (by_making (judgments S (item xs 2)) S _ (judgments_below n S h.trees (item xs 2) S.made h.made) λ hs u p.
       by_making (judgment S (item xs 3)) (with_made S u) _ (judgment_below n S h.trees (item xs 3) u p.0) λ j w q.
       add_goal_bounded (item xs 1) hs j w q.0 p.1 q.1)
@@ -222,16 +222,16 @@ module _ (S : State) (h : BoundedState S) where
 
   perform_bounded : WellFormed S.theory → (t : Tag) (xs : Sexps) → Keeps (perform t xs S)
   unfolding perform
-  perform_bounded wf aVar xs = add_var_takes 3 xs S (λ v l. one_var S v l h)
-  perform_bounded wf aDef xs = add_def_bounded xs
+  perform_bounded wf a_var xs = add_var_takes 3 xs S (λ v l. one_var S v l h)
+  perform_bounded wf a_def xs = add_def_bounded xs
   perform_bounded wf a_step xs = from_still _ _ (next_still xs S) λ a e. add_step_bounded xs
-  perform_bounded wf aHyp xs = from_still _ _ (next_still xs S) λ a e. add_hyp_bounded xs
-  perform_bounded wf aRuleHyp xs = from_still _ _ (next_still xs S) λ a e. add_rule_hyp_bounded xs
+  perform_bounded wf a_hyp xs = from_still _ _ (next_still xs S) λ a e. add_hyp_bounded xs
+  perform_bounded wf a_rule_hyp xs = from_still _ _ (next_still xs S) λ a e. add_rule_hyp_bounded xs
   perform_bounded wf an_induct xs = from_still _ _ (next_still xs S) λ a e. add_induct_bounded xs
-  perform_bounded wf anInductWith xs = from_still _ _ (next_still xs S) λ a e. add_induct_with_bounded xs
-  perform_bounded wf anApply xs = from_still _ _ (next_still xs S) λ a e. add_apply_bounded xs
+  perform_bounded wf an_induct_with xs = from_still _ _ (next_still xs S) λ a e. add_induct_with_bounded xs
+  perform_bounded wf an_apply xs = from_still _ _ (next_still xs S) λ a e. add_apply_bounded xs
   perform_bounded wf an_invert xs = from_still _ _ (next_still xs S) λ a e. add_invert_bounded wf xs
-  perform_bounded wf aResult xs = result_bounded xs
+  perform_bounded wf a_result xs = result_bounded xs
 
 -- Reached states ------------------------------------------------------------------------------------------------------------------------
 

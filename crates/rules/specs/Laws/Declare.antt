@@ -13,7 +13,7 @@ use Rattle.rules.specs.Theory.{Symbol, RuleVar, Rule, Theory, no_theory, no_name
 use Rattle.rules.specs.Laws.Theory.{All, empty, both, IsSort, Sorted, Sorteds, Judgment, Judgments, SymbolFormed, RuleFormed, WellFormed, all_snoc, all_map}
 use Rattle.rules.specs.Declare.{is_new, proper_name, sort, sorts, schema, add_sort, add_symbol, add_ctor, add_pred, add_rule, declare_as, declare}
 use Rattle.rules.specs.Laws.Pattern.{schema_reads}
-use Rattle.rules.specs.Tags.{Declaration, aSort, aCtor, aPred, aRule, declaration}
+use Rattle.rules.specs.Tags.{Declaration, a_sort, a_ctor, a_pred, a_rule, declaration}
 use Rattle.rules.specs.Loop.{Judged, done, refused, through, unread, whole}
 
 -- A theory that has grown ------------------------------------------------------------------------------------------------------
@@ -211,10 +211,10 @@ add_rule_keeps T xs w =
 
 declare_as_keeps : (d : Declaration) (T : Theory) (xs : Sexps) → WellFormed T → Ok (λ u U. WellFormed U) (declare_as d xs T)
 unfolding declare_as
-declare_as_keeps aSort T xs w = add_sort_keeps T xs w
-declare_as_keeps aCtor T xs w = add_ctor_keeps T xs w
-declare_as_keeps aPred T xs w = add_pred_keeps T xs w
-declare_as_keeps aRule T xs w = add_rule_keeps T xs w
+declare_as_keeps a_sort T xs w = add_sort_keeps T xs w
+declare_as_keeps a_ctor T xs w = add_ctor_keeps T xs w
+declare_as_keeps a_pred T xs w = add_pred_keeps T xs w
+declare_as_keeps a_rule T xs w = add_rule_keeps T xs w
 
 declare_formed : (T : Theory) (x : Sexp) → WellFormed T → Ok (λ u U. WellFormed U) (declare x T)
 unfolding declare

@@ -17,7 +17,7 @@ use Rattle.rules.specs.Limits.{DEFS, FACTS, ENTRIES}
 use Rattle.rules.specs.Out.{Out, ok, refuse, then, Act, found}
 use Rattle.rules.specs.Sexp.{Sexp, Sexps, atom, list, nil, cons, count, item, Name, name, marked}
 use Rattle.rules.specs.Index.{index_of}
-use Rattle.rules.specs.Tags.{Tag, aVar, aDef, a_step, aHyp, aRuleHyp, an_induct, anInductWith, anApply, an_invert, aResult, proof_tag}
+use Rattle.rules.specs.Tags.{Tag, a_var, a_def, a_step, a_hyp, a_rule_hyp, an_induct, an_induct_with, an_apply, an_invert, a_result, proof_tag}
 use Rattle.rules.specs.Find.{Set, first, entry, all, has, rising, empty}
 use Rattle.rules.specs.Tree.{Trees, none, more, same_tree, count_trees}
 use Rattle.rules.specs.Store.{Made}
@@ -79,15 +79,15 @@ rule_in T (list xs) r = false
 -- the footing of the fact that a form records: (step N RULE (REF...) ..), (apply N M (..) (REF...)), and no other form has one
 unfoldable pub footing : State → Tag → Sexps → Set
 footing S a_step xs r = rule_in S.theory (item xs 2) r || footings S.facts (items_of (item xs 3)) r
-footing S anApply xs r = footings S.facts (items_of (item xs 4)) r
-footing S aVar xs r = false
-footing S aDef xs r = false
-footing S aHyp xs r = false
-footing S aRuleHyp xs r = false
+footing S an_apply xs r = footings S.facts (items_of (item xs 4)) r
+footing S a_var xs r = false
+footing S a_def xs r = false
+footing S a_hyp xs r = false
+footing S a_rule_hyp xs r = false
 footing S an_induct xs r = false
-footing S anInductWith xs r = false
+footing S an_induct_with xs r = false
 footing S an_invert xs r = false
-footing S aResult xs r = false
+footing S a_result xs r = false
 
 -- of a form as it is read
 unfoldable pub footing_by : State → Option Tag → Sexps → Set
@@ -99,15 +99,15 @@ form_footing S x = footing_by S (tag_of x) (items_of x)
 
 -- the forms that record a fact
 unfoldable pub records : Tag → Bool
-records aVar = false
-records aDef = false
-records aResult = false
+records a_var = false
+records a_def = false
+records a_result = false
 records a_step = true
-records aHyp = true
-records aRuleHyp = true
+records a_hyp = true
+records a_rule_hyp = true
 records an_induct = true
-records anInductWith = true
-records anApply = true
+records an_induct_with = true
+records an_apply = true
 records an_invert = true
 
 unfoldable pub records_by : Option Tag → Bool
@@ -195,7 +195,7 @@ module _ (S : State) where
       past _ _ λ it i y. past _ _ λ b j y. past _ _ λ c l y. past _ _ λ o p y. past _ _ λ w v y.
       fine (rising_agree (length S.theory.rules) _ _ λ r v. ap₂ ◌||◌ (rule_is (item xs 2) n k r m e f) (h r ∙ in_list ys (item xs 3) q r))
 
-  apply_footing_lem : (xs : Sexps) (m : Made) → Ok (λ a u. Footed S (footing S anApply xs) a) (apply S xs m)
+  apply_footing_lem : (xs : Sexps) (m : Made) → Ok (λ a u. Footed S (footing S an_apply xs) a) (apply S xs m)
   unfolding apply footing
   apply_footing_lem xs m =
       past _ _ λ i a e. past _ _ λ ys b e. past _ _ λ bs c e. past _ _ λ f d e. past _ _ λ p g e.
@@ -266,17 +266,17 @@ step_records : (S : State) (xs : Sexps) → Ok (λ a U. Gives S true (footing S 
 unfolding add_step
 step_records S xs = go_on _ (records_made S _ (step S xs) (λ r. r.0) (λ r. some_instances r.1) (step_footing_lem S xs S.made))
 
-apply_records : (S : State) (xs : Sexps) → Ok (λ a U. Gives S true (footing S anApply xs) U) (add_apply xs S)
+apply_records : (S : State) (xs : Sexps) → Ok (λ a U. Gives S true (footing S an_apply xs) U) (add_apply xs S)
 unfolding add_apply
 apply_records S xs = go_on _ (records_made S _ (apply S xs) (λ f. f) (λ f. no_counts) (apply_footing_lem S xs S.made))
 
-hyp_records : (S : State) (xs : Sexps) → Ok (λ a U. Gives S true (footing S aHyp xs) U) (add_hyp xs S)
+hyp_records : (S : State) (xs : Sexps) → Ok (λ a U. Gives S true (footing S a_hyp xs) U) (add_hyp xs S)
 unfolding add_hyp footing
 hyp_records S xs =
     go_on _ (by_made (judgment S (item xs 2)) S _ (any _) λ j u p.
     add_fact_records S.facts _ _ _ (with_made S u) refl (none_footed S (hypothesis (length S.facts) j none []) refl))
 
-rule_hyp_records : (S : State) (xs : Sexps) → Ok (λ a U. Gives S true (footing S aRuleHyp xs) U) (add_rule_hyp xs S)
+rule_hyp_records : (S : State) (xs : Sexps) → Ok (λ a U. Gives S true (footing S a_rule_hyp xs) U) (add_rule_hyp xs S)
 unfolding add_rule_hyp footing
 rule_hyp_records S xs =
     go_on _ (by_made (judgments S (item xs 2)) S _ (any _) λ ps u p. by_made (judgment S (item xs 3)) (with_made S u) _ (any _) λ j w q.
@@ -288,7 +288,7 @@ unfolding add_induct footing
 induct_records S xs =
     go_on _ (records_made S _ (induct S xs) (λ f. f) (λ f. one_induction) (weaken (induct_footing S xs S.made) (λ f u e. none_footed S f e)))
 
-induct_with_records : (S : State) (xs : Sexps) → Ok (λ a U. Gives S true (footing S anInductWith xs) U) (add_induct_with xs S)
+induct_with_records : (S : State) (xs : Sexps) → Ok (λ a U. Gives S true (footing S an_induct_with xs) U) (add_induct_with xs S)
 unfolding add_induct_with footing
 induct_with_records S xs =
     go_on _ (records_made S _ (induct_with S xs) (λ f. f) (λ f. one_induction) (weaken (induct_with_footing S xs S.made) (λ f u e. none_footed S f e)))
@@ -310,16 +310,16 @@ result_records S xs a =
 
 pub perform_footing : (t : Tag) (xs : Sexps) (S : State) → Ok (λ a U. Gives S (records t) (footing S t xs) U) (perform t xs S)
 unfolding perform records
-perform_footing aVar xs S = add_var_takes 3 xs S (λ v l. no_more)
-perform_footing aDef xs S = def_records S xs _
+perform_footing a_var xs S = add_var_takes 3 xs S (λ v l. no_more)
+perform_footing a_def xs S = def_records S xs _
 perform_footing a_step xs S = from_still _ _ (next_still xs S) λ a e. step_records S xs
-perform_footing aHyp xs S = from_still _ _ (next_still xs S) λ a e. hyp_records S xs
-perform_footing aRuleHyp xs S = from_still _ _ (next_still xs S) λ a e. rule_hyp_records S xs
+perform_footing a_hyp xs S = from_still _ _ (next_still xs S) λ a e. hyp_records S xs
+perform_footing a_rule_hyp xs S = from_still _ _ (next_still xs S) λ a e. rule_hyp_records S xs
 perform_footing an_induct xs S = from_still _ _ (next_still xs S) λ a e. induct_records S xs
-perform_footing anInductWith xs S = from_still _ _ (next_still xs S) λ a e. induct_with_records S xs
-perform_footing anApply xs S = from_still _ _ (next_still xs S) λ a e. apply_records S xs
+perform_footing an_induct_with xs S = from_still _ _ (next_still xs S) λ a e. induct_with_records S xs
+perform_footing an_apply xs S = from_still _ _ (next_still xs S) λ a e. apply_records S xs
 perform_footing an_invert xs S = from_still _ _ (next_still xs S) λ a e. invert_records S xs
-perform_footing aResult xs S = result_records S xs _
+perform_footing a_result xs S = result_records S xs _
 
 take_form_footing : (x : Sexp) (S : State) → Ok (λ a U. Gives S (records_by (tag_of x)) (form_footing S x) U) (take_form x S)
 unfolding take_form footing_by records_by
@@ -368,15 +368,15 @@ module _ (S : State) (w : ShapedIn S) where
     | inl q ↦ rule_rules (item xs 2) r q
     | inr q ↦ footings_rules (items_of (item xs 3)) r q
   ]
-  form_rules (some anApply) xs r e = footings_rules (items_of (item xs 4)) r e
-  form_rules (some aVar) xs r e = absurd (false≢true e)
-  form_rules (some aDef) xs r e = absurd (false≢true e)
-  form_rules (some aHyp) xs r e = absurd (false≢true e)
-  form_rules (some aRuleHyp) xs r e = absurd (false≢true e)
+  form_rules (some an_apply) xs r e = footings_rules (items_of (item xs 4)) r e
+  form_rules (some a_var) xs r e = absurd (false≢true e)
+  form_rules (some a_def) xs r e = absurd (false≢true e)
+  form_rules (some a_hyp) xs r e = absurd (false≢true e)
+  form_rules (some a_rule_hyp) xs r e = absurd (false≢true e)
   form_rules (some an_induct) xs r e = absurd (false≢true e)
-  form_rules (some anInductWith) xs r e = absurd (false≢true e)
+  form_rules (some an_induct_with) xs r e = absurd (false≢true e)
   form_rules (some an_invert) xs r e = absurd (false≢true e)
-  form_rules (some aResult) xs r e = absurd (false≢true e)
+  form_rules (some a_result) xs r e = absurd (false≢true e)
 
 -- a taken form, in any state: it records a fact if it is of that kind, with the footing that 01 says
 pub form_footing_lem : (x : Sexp) (S U : State) → take_form x S ≡ ok tt U → Gives S (records_by (tag_of x)) (form_footing S x) U

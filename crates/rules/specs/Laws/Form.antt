@@ -9,7 +9,7 @@ use Rattle.std.proofs.Math.Dec.{leb}
 use Rattle.rules.specs.Limits.{VARIABLES, DEFS, GOALS, FACTS, ENTRIES}
 use Rattle.rules.specs.Out.{Out, ok, refuse, then, Act, ask}
 use Rattle.rules.specs.Sexp.{Sexp, Sexps, count, item, marked}
-use Rattle.rules.specs.Tags.{Tag, aVar, aDef, a_step, aHyp, aRuleHyp, an_induct, anInductWith, anApply, an_invert, aResult, proof_tag, GoalForm, aVariable, aGoal, aGoalWith, goal_form}
+use Rattle.rules.specs.Tags.{Tag, a_var, a_def, a_step, a_hyp, a_rule_hyp, an_induct, an_induct_with, an_apply, an_invert, a_result, proof_tag, GoalForm, a_variable, a_goal, a_goal_with, goal_form}
 use Rattle.rules.specs.Find.{entry, all, change}
 use Rattle.rules.specs.Tree.{Tree, Trees, none, same_tree, count_trees}
 use Rattle.rules.specs.Store.{Made}
@@ -150,11 +150,11 @@ module _ {K : Invariant} where
 
   goal_takes : (t : GoalForm) (xs : Sexps) (S : State) → Ready K S S.made → Ok (λ a U. Posed K S U) (goal t xs S)
   unfolding goal Each
-  goal_takes aVariable xs S h = add_var_takes 2 xs S (λ v l. posed_var v l)
-  goal_takes aGoal xs S h =
+  goal_takes a_variable xs S h = add_var_takes 2 xs S (λ v l. posed_var v l)
+  goal_takes a_goal xs S h =
       go_on _ (by_making (judgment S (item xs 2)) S _ (judgment_keeps S (item xs 2) S.made h) λ j u e g p.
       add_goal_takes (item xs 1) none j S u g tt p)
-  goal_takes aGoalWith xs S h =
+  goal_takes a_goal_with xs S h =
       go_on _ (by_making (judgments S (item xs 2)) S _ (judgments_keeps S (item xs 2) S.made h) λ hs u e g p.
       by_making (judgment S (item xs 3)) (with_made S u) _ (judgment_keeps S (item xs 3) u (ready_on h g)) λ j w f k q.
       add_goal_takes (item xs 1) hs j S w (keeping.further g k) (each_on hs k p) q)
@@ -233,16 +233,16 @@ module _ {K : Invariant} where
 
   perform_takes : (t : Tag) (xs : Sexps) (S : State) → Ready K S S.made → Ok (λ a U. Taken K S (counted t xs) U) (perform t xs S)
   unfolding perform counted
-  perform_takes aVar xs S h = add_var_takes 3 xs S (λ v l. new_var v l)
-  perform_takes aDef xs S h = add_def_takes xs S h
+  perform_takes a_var xs S h = add_var_takes 3 xs S (λ v l. new_var v l)
+  perform_takes a_def xs S h = add_def_takes xs S h
   perform_takes a_step xs S h = from_still _ _ (next_still xs S) λ a e. add_step_takes xs S h
-  perform_takes aHyp xs S h = from_still _ _ (next_still xs S) λ a e. add_hyp_takes xs S h
-  perform_takes aRuleHyp xs S h = from_still _ _ (next_still xs S) λ a e. add_rule_hyp_takes xs S h
+  perform_takes a_hyp xs S h = from_still _ _ (next_still xs S) λ a e. add_hyp_takes xs S h
+  perform_takes a_rule_hyp xs S h = from_still _ _ (next_still xs S) λ a e. add_rule_hyp_takes xs S h
   perform_takes an_induct xs S h = from_still _ _ (next_still xs S) λ a e. add_induct_takes xs S h
-  perform_takes anInductWith xs S h = from_still _ _ (next_still xs S) λ a e. add_induct_with_takes xs S h
-  perform_takes anApply xs S h = from_still _ _ (next_still xs S) λ a e. add_apply_takes xs S h
+  perform_takes an_induct_with xs S h = from_still _ _ (next_still xs S) λ a e. add_induct_with_takes xs S h
+  perform_takes an_apply xs S h = from_still _ _ (next_still xs S) λ a e. add_apply_takes xs S h
   perform_takes an_invert xs S h = from_still _ _ (next_still xs S) λ a e. add_invert_takes xs S h
-  perform_takes aResult xs S h = result_takes xs S h
+  perform_takes a_result xs S h = result_takes xs S h
 
   pub take_form_takes : (x : Sexp) (S : State) → Ready K S S.made → Ok (λ a U. Taken K S (counted_form x) U) (take_form x S)
   unfolding take_form

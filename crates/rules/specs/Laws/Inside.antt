@@ -8,7 +8,7 @@ use Rattle.std.proofs.Math.Bool.{true, false}
 use mathlib.Core.List.{List, [], ◌∷◌}
 use Rattle.rules.specs.Laws.Theory.{All, empty, both}
 use Rattle.rules.specs.Limits.{DEPTH}
-use Rattle.rules.specs.Lex.{Kind, blank, left, right, semicolon, letter, kind, Token, opens, closes, word, Mode, between, in_word, inComment, letters, tokens}
+use Rattle.rules.specs.Lex.{Kind, blank, left, right, semicolon, letter, kind, Token, opens, closes, word, Mode, between, in_word, in_comment, letters, tokens}
 use Rattle.rules.specs.Sexp.{Sexp, Sexps, atom, list, nil, cons, snoc, Text, ends, fails, more, forms, read_from, read}
 
 -- no letter stands first
@@ -102,13 +102,13 @@ module _ (text : List ℕ) (p b : ℕ) (t : List ℕ) (e : b ∷ t ≡ drop p te
           | blank ↦ tokens between (suc p) t
           | left ↦ opens p ∷ tokens between (suc p) t
           | right ↦ closes p ∷ tokens between (suc p) t
-          | semicolon ↦ tokens inComment (suc p) t
+          | semicolon ↦ tokens in_comment (suc p) t
           | letter ↦ word p (b ∷ letters t) ∷ tokens in_word (suc p) t
         ])
         go blank f = ih between
         go left f = (here h, ih between)
         go right f = (here h, ih between)
-        go semicolon f = ih inComment
+        go semicolon f = ih in_comment
         go letter f = (word_at h f, ih in_word)
 
     word_in : TokensIn text (tokens in_word p (b ∷ t))
@@ -119,22 +119,22 @@ module _ (text : List ℕ) (p b : ℕ) (t : List ℕ) (e : b ∷ t ≡ drop p te
           | blank ↦ tokens between (suc p) t
           | left ↦ opens p ∷ tokens between (suc p) t
           | right ↦ closes p ∷ tokens between (suc p) t
-          | semicolon ↦ tokens inComment (suc p) t
+          | semicolon ↦ tokens in_comment (suc p) t
           | letter ↦ tokens in_word (suc p) t
         ])
         go blank = ih between
         go left = (here h, ih between)
         go right = (here h, ih between)
-        go semicolon = ih inComment
+        go semicolon = ih in_comment
         go letter = ih in_word
 
-    comment_in : TokensIn text (tokens inComment p (b ∷ t))
+    comment_in : TokensIn text (tokens in_comment p (b ∷ t))
     unfolding tokens
     comment_in = go (eqb b 10)
       where
-        go : (k : Bool) → TokensIn text (elim k [ true ↦ tokens between (suc p) t | false ↦ tokens inComment (suc p) t ])
+        go : (k : Bool) → TokensIn text (elim k [ true ↦ tokens between (suc p) t | false ↦ tokens in_comment (suc p) t ])
         go true = ih between
-        go false = ih inComment
+        go false = ih in_comment
 
 tokens_in : (text : List ℕ) (m : Mode) (p : ℕ) (t : List ℕ) → t ≡ drop p text → p ≤ length text → TokensIn text (tokens m p t)
 unfolding tokens TokensIn
@@ -143,7 +143,7 @@ tokens_in text between p (b ∷ t) e h =
     between_in text p b t e h (λ m. tokens_in text m (suc p) t (rest_is text p b t e) (here text p b t e h))
 tokens_in text in_word p (b ∷ t) e h =
     word_in text p b t e h (λ m. tokens_in text m (suc p) t (rest_is text p b t e) (here text p b t e h))
-tokens_in text inComment p (b ∷ t) e h =
+tokens_in text in_comment p (b ∷ t) e h =
     comment_in text p b t e h (λ m. tokens_in text m (suc p) t (rest_is text p b t e) (here text p b t e h))
 
 -- Forms -----------------------------------------------------------------------------------------------------------------------------

@@ -1,7 +1,7 @@
 -- Laws of the lexer, a byte at a time, and of an atom whole: at a place of a text, by the kind of the byte there. Assumes nothing.
 use Rattle.std.specs.Prelude.{◌≡◌, refl, ℕ, suc, ◌+◌, ◌≤◌, ◌<◌, List, [], ◌∷◌, true, false, length, get_or, take, drop}
 use Rattle.std.proofs.Common.{ap, ◌∙◌, add-one, add-zero, arith, drop_of_length-le, drop-cons, drop-drop, ne_eqb}
-use Rattle.rules.specs.Lex.{Kind, blank, left, right, semicolon, letter, white, kind, opens, closes, word, Mode, between, in_word, inComment, tokens, letters}
+use Rattle.rules.specs.Lex.{Kind, blank, left, right, semicolon, letter, white, kind, opens, closes, word, Mode, between, in_word, in_comment, tokens, letters}
 
 -- kinds, from tests
 
@@ -39,7 +39,7 @@ pub at_right : (p b : ℕ) (t : List ℕ) → kind b ≡ right → tokens betwee
 unfolding tokens
 at_right p b t h = rw (h, tokens)
 
-pub at_semicolon : (p b : ℕ) (t : List ℕ) → kind b ≡ semicolon → tokens between p (b ∷ t) ≡ tokens inComment (suc p) t
+pub at_semicolon : (p b : ℕ) (t : List ℕ) → kind b ≡ semicolon → tokens between p (b ∷ t) ≡ tokens in_comment (suc p) t
 unfolding tokens
 at_semicolon p b t h = rw (h, tokens)
 
@@ -63,11 +63,11 @@ word_over p b t h = go (kind b) refl
     go semicolon e = rw (e, tokens)
     go letter e = absurd (h e)
 
-pub in_comment : (p b : ℕ) (t : List ℕ) → (b ≡ 10 → ⊥) → tokens inComment p (b ∷ t) ≡ tokens inComment (suc p) t
+pub in_comment_lem : (p b : ℕ) (t : List ℕ) → (b ≡ 10 → ⊥) → tokens in_comment p (b ∷ t) ≡ tokens in_comment (suc p) t
 unfolding tokens
-in_comment p b t h = rw (ne_eqb b 10 h, tokens)
+in_comment_lem p b t h = rw (ne_eqb b 10 h, tokens)
 
-pub comment_over : (p b : ℕ) (t : List ℕ) → b ≡ 10 → tokens inComment p (b ∷ t) ≡ tokens between p (b ∷ t)
+pub comment_over : (p b : ℕ) (t : List ℕ) → b ≡ 10 → tokens in_comment p (b ∷ t) ≡ tokens between p (b ∷ t)
 unfolding tokens kind white
 comment_over p b t e = rw (e, tokens)
 
@@ -100,7 +100,7 @@ module _ (text : List ℕ) (p : ℕ) (h : p < length text) where
   pub place_right : kind (get_or text p 0) ≡ right → tokens between p (drop p text) ≡ closes p ∷ tokens between (p + 1) (drop (p + 1) text)
   place_right k = ap (tokens between p) (drop_at text p h) ∙ rw (add-one, at_right p (get_or text p 0) (drop (suc p) text) k)
 
-  pub place_semicolon : kind (get_or text p 0) ≡ semicolon → tokens between p (drop p text) ≡ tokens inComment (p + 1) (drop (p + 1) text)
+  pub place_semicolon : kind (get_or text p 0) ≡ semicolon → tokens between p (drop p text) ≡ tokens in_comment (p + 1) (drop (p + 1) text)
   place_semicolon k = ap (tokens between p) (drop_at text p h) ∙ rw (add-one, at_semicolon p (get_or text p 0) (drop (suc p) text) k)
 
   -- a word begins: its letters are those from its place on
@@ -116,10 +116,10 @@ module _ (text : List ℕ) (p : ℕ) (h : p < length text) where
   pub place_word_over : (kind (get_or text p 0) ≡ letter → ⊥) → tokens in_word p (drop p text) ≡ tokens between p (drop p text)
   place_word_over k = rw (drop_at text p h) (word_over p (get_or text p 0) (drop (p + 1) text) k)
 
-  pub place_in_comment : (get_or text p 0 ≡ 10 → ⊥) → tokens inComment p (drop p text) ≡ tokens inComment (p + 1) (drop (p + 1) text)
-  place_in_comment k = ap (tokens inComment p) (drop_at text p h) ∙ rw (add-one, in_comment p (get_or text p 0) (drop (suc p) text) k)
+  pub place_in_comment : (get_or text p 0 ≡ 10 → ⊥) → tokens in_comment p (drop p text) ≡ tokens in_comment (p + 1) (drop (p + 1) text)
+  place_in_comment k = ap (tokens in_comment p) (drop_at text p h) ∙ rw (add-one, in_comment_lem p (get_or text p 0) (drop (suc p) text) k)
 
-  pub place_comment_over : get_or text p 0 ≡ 10 → tokens inComment p (drop p text) ≡ tokens between p (drop p text)
+  pub place_comment_over : get_or text p 0 ≡ 10 → tokens in_comment p (drop p text) ≡ tokens between p (drop p text)
   place_comment_over k = rw (drop_at text p h) (comment_over p (get_or text p 0) (drop (p + 1) text) k)
 
   pub place_letters_more : kind (get_or text p 0) ≡ letter → length (letters (drop p text)) ≡ 1 + length (letters (drop (p + 1) text))

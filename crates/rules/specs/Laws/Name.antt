@@ -19,7 +19,7 @@ use Rattle.rules.specs.Laws.Out.{Ok, fine, off, of_ok, by_name, by_items, by_ask
 use Rattle.rules.specs.Sexp.{Sexp, Sexps, atom, list, nil, cons, count, item, Name, name, marked, Text, ends, fails, more, read}
 use Rattle.rules.specs.Find.{first}
 use Rattle.rules.specs.Laws.Find.{first_some, get_d_front}
-use Rattle.rules.specs.Tags.{Declaration, aSort, aCtor, aPred, aRule, declaration}
+use Rattle.rules.specs.Tags.{Declaration, a_sort, a_ctor, a_pred, a_rule, declaration}
 use Rattle.rules.specs.Theory.{Symbol, Rule, Theory, no_theory, no_name, no_symbol, no_rule, sort_named, is_predicate, predicate_named, constructor_named, rule_named, rule_words}
 use Rattle.rules.specs.Declare.{is_new, proper_name, sort, sorts, schema, add_sort, add_symbol, add_ctor, add_pred, add_rule, declare_as, declare}
 use Rattle.rules.specs.Loop.{refused, through, unread, whole}
@@ -287,10 +287,10 @@ module _ (G : List ℕ → Type 0) (P : Theory → Type 0)
 
   declare_as_kept : (d : Declaration) (T : Theory) (xs : Sexps) → AllAtoms G xs → P T → Ok (λ u U. P U) (declare_as d xs T)
   unfolding declare_as
-  declare_as_kept aSort T xs a w = add_sort_kept T xs w
-  declare_as_kept aCtor T xs a w = add_ctor_kept T xs a w
-  declare_as_kept aPred T xs a w = add_pred_kept T xs a w
-  declare_as_kept aRule T xs a w = add_rule_kept T xs a w
+  declare_as_kept a_sort T xs a w = add_sort_kept T xs w
+  declare_as_kept a_ctor T xs a w = add_ctor_kept T xs a w
+  declare_as_kept a_pred T xs a w = add_pred_kept T xs a w
+  declare_as_kept a_rule T xs a w = add_rule_kept T xs a w
 
   declare_kept : (T : Theory) (x : Sexp) → Atoms G x → P T → Ok (λ u U. P U) (declare x T)
   unfolding declare Atoms

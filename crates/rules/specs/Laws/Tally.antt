@@ -4,7 +4,7 @@ use Rattle.std.proofs.Common.{ap₂, subst, sym, arith}
 use Rattle.std.proofs.Math.Option.{Option, some, none as nothing}
 use Rattle.rules.specs.Out.{ok}
 use Rattle.rules.specs.Sexp.{Sexp, Sexps, atom, list, nil, cons, count, item, Name, name}
-use Rattle.rules.specs.Tags.{Tag, aVar, aDef, a_step, aHyp, aRuleHyp, an_induct, anInductWith, anApply, an_invert, aResult, proof_tag}
+use Rattle.rules.specs.Tags.{Tag, a_var, a_def, a_step, a_hyp, a_rule_hyp, an_induct, an_induct_with, an_apply, an_invert, a_result, proof_tag}
 use Rattle.rules.specs.Store.{Made}
 use Rattle.rules.specs.State.{State, Counts, no_counts}
 use Rattle.rules.specs.Reference.{instance, reference}
@@ -29,16 +29,16 @@ brackets_in (list ys) = brackets ys
 
 -- a form's counts
 unfoldable pub counted : Tag → Sexps → Counts
-counted aVar xs = no_counts
-counted aDef xs = no_counts
+counted a_var xs = no_counts
+counted a_def xs = no_counts
 counted a_step xs = some_instances (brackets_in (item xs 3))
-counted aHyp xs = one_hypothesis
-counted aRuleHyp xs = one_hypothesis
+counted a_hyp xs = one_hypothesis
+counted a_rule_hyp xs = one_hypothesis
 counted an_induct xs = one_induction
-counted anInductWith xs = one_induction
-counted anApply xs = no_counts
+counted an_induct_with xs = one_induction
+counted an_apply xs = no_counts
 counted an_invert xs = one_inversion
-counted aResult xs = no_counts
+counted a_result xs = no_counts
 
 -- the tag of a form that begins with that item and has n items
 unfoldable pub head_tag : Sexp → ℕ → Option Tag

@@ -29,8 +29,11 @@ pub shape_of-patterns-in-Left : goal.shape_of-patterns-in-Left
 shape_of-patterns-in-Left c = c.clear_theory.auto.patterns
 
 pub returns-in-Left : goal.returns-in-Left
-returns-in-Left c = record { opened = texts_left c.requires (asked_left {r = c.ask.result} c.ask.ensures c.in-Left.is) c.clear_theory.ensures c.no_sizes.ensures
-          c.stopped.ensures; cells_unchanged = refl }
+returns-in-Left c = record {
+  opened = texts_left c.requires (asked_left {r = c.ask.result} c.ask.ensures c.in-Left.is) c.clear_theory.ensures c.no_sizes.ensures
+      c.stopped.ensures;
+  cells_unchanged = refl;
+}
 
 pub shape_of-sorts-in-Nothing : goal.shape_of-sorts-in-Nothing
 shape_of-sorts-in-Nothing c = c.judge.auto.sorts

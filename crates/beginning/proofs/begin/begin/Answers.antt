@@ -155,30 +155,36 @@ pub shape_of-cells-then-fits : goal.shape_of-cells-then-fits
 shape_of-cells-then-fits c = c.begin_exact.auto.cells
 
 pub returns-then-fits : goal.returns-then-fits
-returns-then-fits c = record { begun = parts_begun
-          (theory_lists c.args.sorts.now c.args.symbols.now c.args.inputs.now c.args.rules.now c.args.rulevars.now
-          c.args.patterns.now)
-          (working c.args.vars.now c.args.index.now c.args.words.now c.args.defs.now c.args.rows.now c.args.lists.now)
-          c.args.missing.now
-          (theory_lists c.begin_exact.new.sorts c.begin_exact.new.symbols c.begin_exact.new.inputs
-          c.begin_exact.new.rules c.begin_exact.new.rulevars
-          c.begin_exact.new.patterns)
-          (working c.begin_exact.new.vars c.begin_exact.new.index
-          c.begin_exact.new.words c.begin_exact.new.defs
-          c.begin_exact.new.rows
-          c.begin_exact.new.lists)
-          c.begin_exact.new.missing
-          (all_long c.args.room
-          (theory_lists c.args.sorts.now c.args.symbols.now c.args.inputs.now c.args.rules.now c.args.rulevars.now
-          c.args.patterns.now)
-          (working c.args.vars.now c.args.index.now c.args.words.now c.args.defs.now c.args.rows.now c.args.lists.now)
-          c.args.missing.now (c.fits.ensures.yes c.if-fits.true)) c.begin_exact.ensures.opened c.begin_exact.ensures.missing_after; cells_unchanged = c.begin_exact.ensures.cells_unchanged }
+returns-then-fits c = record {
+  begun = parts_begun
+      (theory_lists c.args.sorts.now c.args.symbols.now c.args.inputs.now c.args.rules.now c.args.rulevars.now
+      c.args.patterns.now)
+      (working c.args.vars.now c.args.index.now c.args.words.now c.args.defs.now c.args.rows.now c.args.lists.now)
+      c.args.missing.now
+      (theory_lists c.begin_exact.new.sorts c.begin_exact.new.symbols c.begin_exact.new.inputs
+      c.begin_exact.new.rules c.begin_exact.new.rulevars
+      c.begin_exact.new.patterns)
+      (working c.begin_exact.new.vars c.begin_exact.new.index
+      c.begin_exact.new.words c.begin_exact.new.defs
+      c.begin_exact.new.rows
+      c.begin_exact.new.lists)
+      c.begin_exact.new.missing
+      (all_long c.args.room
+      (theory_lists c.args.sorts.now c.args.symbols.now c.args.inputs.now c.args.rules.now c.args.rulevars.now
+      c.args.patterns.now)
+      (working c.args.vars.now c.args.index.now c.args.words.now c.args.defs.now c.args.rows.now c.args.lists.now)
+      c.args.missing.now (c.fits.ensures.yes c.if-fits.true)) c.begin_exact.ensures.opened c.begin_exact.ensures.missing_after;
+  cells_unchanged = c.begin_exact.ensures.cells_unchanged;
+}
 
 pub returns : goal.returns
-returns c = record { begun = between.unfit
-          (λ l. c.fits.ensures.no c.if-fits.false
-          (all_fit c.args.room
-          (theory_lists c.args.sorts.now c.args.symbols.now c.args.inputs.now c.args.rules.now c.args.rulevars.now
-          c.args.patterns.now)
-          (working c.args.vars.now c.args.index.now c.args.words.now c.args.defs.now c.args.rows.now c.args.lists.now)
-          c.args.missing.now l)) refl refl refl c.unfit.ensures; cells_unchanged = refl }
+returns c = record {
+  begun = between.unfit
+      (λ l. c.fits.ensures.no c.if-fits.false
+      (all_fit c.args.room
+      (theory_lists c.args.sorts.now c.args.symbols.now c.args.inputs.now c.args.rules.now c.args.rulevars.now
+      c.args.patterns.now)
+      (working c.args.vars.now c.args.index.now c.args.words.now c.args.defs.now c.args.rows.now c.args.lists.now)
+      c.args.missing.now l)) refl refl refl c.unfit.ensures;
+  cells_unchanged = refl;
+}

@@ -32,8 +32,11 @@ pub shape_of-cells-in-Refused : goal.shape_of-cells-in-Refused
 shape_of-cells-in-Refused c = c.parse_exact.auto.cells
 
 pub returns-in-Refused : goal.returns-in-Refused
-returns-in-Refused c = record { opened = theory_left c.requires.opening c.requires.plain _ c.parse_exact.ensures.value c.parse_exact.ensures.patterns_after c.parse_exact.ensures.laid_held
-          c.in-Refused.is c.theory_sizes.ensures c.stopped.ensures; cells_unchanged = c.parse_exact.ensures.cells_unchanged }
+returns-in-Refused c = record {
+  opened = theory_left c.requires.opening c.requires.plain _ c.parse_exact.ensures.value c.parse_exact.ensures.patterns_after c.parse_exact.ensures.laid_held
+      c.in-Refused.is c.theory_sizes.ensures c.stopped.ensures;
+  cells_unchanged = c.parse_exact.ensures.cells_unchanged;
+}
 
 pub shape_of-sorts-in-Done : goal.shape_of-sorts-in-Done
 shape_of-sorts-in-Done c = c.parse_exact.auto.sorts
@@ -75,6 +78,9 @@ pub shape_of-cells-in-Done : goal.shape_of-cells-in-Done
 shape_of-cells-in-Done c = c.pose.auto.cells ∙ c.parse_exact.auto.cells
 
 pub returns-in-Done : goal.returns-in-Done
-returns-in-Done c = record { opened = goals_opened _ c.pose.ensures.posed
-          (goals_next c.requires.opening c.requires.plain _ c.parse_exact.ensures.value c.parse_exact.ensures.patterns_after c.parse_exact.ensures.laid_held
-          c.in-Done.is) c.requires.plain.short_proof; cells_unchanged = c.pose.ensures.cells_unchanged ∙ c.parse_exact.ensures.cells_unchanged }
+returns-in-Done c = record {
+  opened = goals_opened _ c.pose.ensures.posed
+      (goals_next c.requires.opening c.requires.plain _ c.parse_exact.ensures.value c.parse_exact.ensures.patterns_after c.parse_exact.ensures.laid_held
+      c.in-Done.is) c.requires.plain.short_proof;
+  cells_unchanged = c.pose.ensures.cells_unchanged ∙ c.parse_exact.ensures.cells_unchanged;
+}

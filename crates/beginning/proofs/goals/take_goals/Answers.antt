@@ -87,22 +87,25 @@ pub shape_of-cells-in-No : goal.shape_of-cells-in-No
 shape_of-cells-in-No c = c.clear.auto.words ∙ c.read_form.auto.words ∙ ap length c.loop-number.invariant.going.same
 
 pub returns-in-No : goal.returns-in-No
-returns-in-No c = record { posed = turn_refused c.loop-number.invariant c.read_form.ensures c.in-Form.is
-          (board c.take_goal-r.new.vars c.take_goal-r.new.index
-          c.take_goal-r.new.words c.args.defs.now c.take_goal-r.new.rows
-          c.args.facts.now c.args.footings.now c.take_goal-r.new.lists)
-          (c.take_goal-r.ensures (turn_takes c.loop-number.invariant c.read_form.ensures c.in-Form.is)) c.in-No.is c.stopped-in-No.ensures; cells_unchanged = going_cleared c.loop-number.invariant.going c.read_form.ensures c.in-Form.is c.clear.ensures }
+returns-in-No c = record {
+  posed = turn_refused c.loop-number.invariant c.read_form.ensures c.in-Form.is
+      (board c.take_goal-r.new.vars c.take_goal-r.new.index
+      c.take_goal-r.new.words c.args.defs.now c.take_goal-r.new.rows
+      c.args.facts.now c.args.footings.now c.take_goal-r.new.lists)
+      (c.take_goal-r.ensures (turn_takes c.loop-number.invariant c.read_form.ensures c.in-Form.is)) c.in-No.is c.stopped-in-No.ensures;
+  cells_unchanged = going_cleared c.loop-number.invariant.going c.read_form.ensures c.in-Form.is c.clear.ensures;
+}
 
 pub overflow_add-forms : goal.overflow_add-forms
 overflow_add-forms c = omega (arith, c.loop-number.invariant.going.few, c.loop-number.invariant.going.high, c.loop-number.invariant.going.legible.short)
 
 pub loop-number-smaller : goal.loop-number-smaller
 loop-number-smaller c = omega (
-      arith,
-      (going_form c.loop-number.invariant.going c.read_form.ensures c.in-Form.is).on,
-      (going_form c.loop-number.invariant.going c.read_form.ensures
-          c.in-Form.is).within,
-    )
+  arith,
+  (going_form c.loop-number.invariant.going c.read_form.ensures c.in-Form.is).on,
+  (going_form c.loop-number.invariant.going c.read_form.ensures
+      c.in-Form.is).within,
+)
 
 pub loop-number-preserved : goal.loop-number-preserved
 loop-number-preserved c = turn_on c.loop-number.invariant c.read_form.ensures c.in-Form.is

@@ -24,6 +24,9 @@ pub shape_of-missing : goal.shape_of-missing
 shape_of-missing c = c.clear-7.auto.cells
 
 pub returns : goal.returns
-returns c = record { lists_after = working_cleared
-          (working c.args.vars.now c.args.index.now c.args.words.now c.args.defs.now c.args.rows.now c.args.lists.now) c.requires.0 _
-          _ _ _ _ _ c.clear.ensures c.clear-2.ensures c.clear-3.ensures c.clear-4.ensures c.clear-5.ensures c.clear-6.ensures; missing_after = missing_cleared c.args.missing.now c.requires.1 c.clear-7.ensures }
+returns c = record {
+  lists_after = working_cleared
+      (working c.args.vars.now c.args.index.now c.args.words.now c.args.defs.now c.args.rows.now c.args.lists.now) c.requires.0 _
+      _ _ _ _ _ c.clear.ensures c.clear-2.ensures c.clear-3.ensures c.clear-4.ensures c.clear-5.ensures c.clear-6.ensures;
+  missing_after = missing_cleared c.args.missing.now c.requires.1 c.clear-7.ensures;
+}

@@ -14,11 +14,11 @@ returns-in_default c = λ g. (vars_atom g c.item_at.ensures c.in_default.is, ref
 
 pub offset_bounds-cells-a : goal.offset_bounds-cells-a
 offset_bounds-cells-a c = omega (
-      arith,
-      (within c.requires.0 c.item_at.ensures c.in-List.is).low,
-      (within c.requires.0 c.item_at.ensures c.in-List.is).high,
-      c.well_formed.1.1.1.1.0,
-    )
+  arith,
+  (within c.requires.0 c.item_at.ensures c.in-List.is).low,
+  (within c.requires.0 c.item_at.ensures c.in-List.is).high,
+  c.well_formed.1.1.1.1.0,
+)
 
 pub slice_bounds-inner-count : goal.slice_bounds-inner-count
 slice_bounds-inner-count c = (within c.requires.0 c.item_at.ensures c.in-List.is).low
@@ -48,12 +48,12 @@ place-second-requires c = has_items (within c.requires.0 c.item_at.ensures c.in-
 
 pub offset_bounds-inner-second : goal.offset_bounds-inner-second
 offset_bounds-inner-second c = omega (
-      arith,
-      inner_high (within c.requires.0 c.item_at.ensures c.in-List.is).holds
-          (three c.requires.0 c.item_at.ensures c.in-List.is c.count.ensures c.if-count-ne3.false) 1 (omega arith) c.place-second.ensures,
-      part_shorter (within c.requires.0 c.item_at.ensures c.in-List.is),
-      c.well_formed.1.1.1.1.0,
-    )
+  arith,
+  inner_high (within c.requires.0 c.item_at.ensures c.in-List.is).holds
+      (three c.requires.0 c.item_at.ensures c.in-List.is c.count.ensures c.if-count-ne3.false) 1 (omega arith) c.place-second.ensures,
+  part_shorter (within c.requires.0 c.item_at.ensures c.in-List.is),
+  c.well_formed.1.1.1.1.0,
+)
 
 pub slice_bounds-index-count : goal.slice_bounds-index-count
 slice_bounds-index-count c = inner_high (within c.requires.0 c.item_at.ensures c.in-List.is).holds
@@ -69,22 +69,22 @@ index-requires c = inner_item (within c.requires.0 c.item_at.ensures c.in-List.i
 
 pub returns-in_default-index_in : goal.returns-in_default-index_in
 returns-in_default-index_in c = λ g. (
-      vars_no_index g c.item_at.ensures c.in-List.is c.count.ensures c.if-count-ne3.false c.item_at-2.ensures c.in-Atom.is
-          c.place-second.ensures c.index.ensures c.in_default-index_in.is,
-      refl,
-    )
+  vars_no_index g c.item_at.ensures c.in-List.is c.count.ensures c.if-count-ne3.false c.item_at-2.ensures c.in-Atom.is
+      c.place-second.ensures c.index.ensures c.in_default-index_in.is,
+  refl,
+)
 
 pub place-third-requires : goal.place-third-requires
 place-third-requires c = has_items (within c.requires.0 c.item_at.ensures c.in-List.is).holds
 
 pub offset_bounds-inner-third : goal.offset_bounds-inner-third
 offset_bounds-inner-third c = omega (
-      arith,
-      inner_high (within c.requires.0 c.item_at.ensures c.in-List.is).holds
-          (three c.requires.0 c.item_at.ensures c.in-List.is c.count.ensures c.if-count-ne3.false) 2 (omega arith) c.place-third.ensures,
-      part_shorter (within c.requires.0 c.item_at.ensures c.in-List.is),
-      c.well_formed.1.1.1.1.0,
-    )
+  arith,
+  inner_high (within c.requires.0 c.item_at.ensures c.in-List.is).holds
+      (three c.requires.0 c.item_at.ensures c.in-List.is c.count.ensures c.if-count-ne3.false) 2 (omega arith) c.place-third.ensures,
+  part_shorter (within c.requires.0 c.item_at.ensures c.in-List.is),
+  c.well_formed.1.1.1.1.0,
+)
 
 pub slice_bounds-vars_list-count : goal.slice_bounds-vars_list-count
 slice_bounds-vars_list-count c = inner_high (within c.requires.0 c.item_at.ensures c.in-List.is).holds
@@ -96,10 +96,10 @@ slice_bounds-vars_list-start c = inner_high (within c.requires.0 c.item_at.ensur
 
 pub vars_list-requires : goal.vars_list-requires
 vars_list-requires c = (
-      vars_item c.requires.0 c.item_at.ensures c.in-List.is c.count.ensures c.if-count-ne3.false c.item_at-2.ensures c.in-Atom.is c.place-second.ensures
-          c.index.ensures c.in-At.is c.place-third.ensures,
-      c.requires.1,
-    )
+  vars_item c.requires.0 c.item_at.ensures c.in-List.is c.count.ensures c.if-count-ne3.false c.item_at-2.ensures c.in-Atom.is c.place-second.ensures
+      c.index.ensures c.in-At.is c.place-third.ensures,
+  c.requires.1,
+)
 
 pub returns-in_default-vars_list : goal.returns-in_default-vars_list
 returns-in_default-vars_list c = λ g. vars_no_vars g c.item_at.ensures c.in-List.is c.count.ensures c.if-count-ne3.false c.item_at-2.ensures c.in-Atom.is c.place-second.ensures

@@ -24,21 +24,21 @@ read_case-requires c = (item_now c.requires.0 (c.loop-at.invariant.3 c.requires.
 
 pub atom_end-end-requires : goal.atom_end-end-requires
 atom_end-end-requires c = omega (
-      arith,
-      (read_ok c.requires.0 (c.loop-at.invariant.3 c.requires.0) c.loop-at-test.true _ c.read_case.new.out c.read_case.result
-          c.read_case.ensures c.in-Ok.is).inside,
-    )
+  arith,
+  (read_ok c.requires.0 (c.loop-at.invariant.3 c.requires.0) c.loop-at-test.true _ c.read_case.new.out c.read_case.result
+      c.read_case.ensures c.in-Ok.is).inside,
+)
 
 pub is_taken-requires : goal.is_taken-requires
 is_taken-requires c = (
-      casing_first (c.loop-at.invariant.3 c.requires.0) c.requires.0.holds,
-      omega (arith, c.loop-at.invariant.2, c.loop-at-test.true),
-      omega
-          (arith, c.atom_end-end.ensures),
-      atom_high _ _ _
-          (read_ok c.requires.0 (c.loop-at.invariant.3 c.requires.0) c.loop-at-test.true _ c.read_case.new.out c.read_case.result
-          c.read_case.ensures c.in-Ok.is).inside c.atom_end-end.ensures,
-    )
+  casing_first (c.loop-at.invariant.3 c.requires.0) c.requires.0.holds,
+  omega (arith, c.loop-at.invariant.2, c.loop-at-test.true),
+  omega
+      (arith, c.atom_end-end.ensures),
+  atom_high _ _ _
+      (read_ok c.requires.0 (c.loop-at.invariant.3 c.requires.0) c.loop-at-test.true _ c.read_case.new.out c.read_case.result
+      c.read_case.ensures c.in-Ok.is).inside c.atom_end-end.ensures,
+)
 
 pub shape_of-places-then-is_taken : goal.shape_of-places-then-is_taken
 shape_of-places-then-is_taken c = c.is_taken.auto.places ∙ c.loop-at.invariant.0
@@ -74,18 +74,18 @@ loop-at-smaller c = omega (arith, (go_on (casing_here (c.loop-at.invariant.3 c.r
 
 pub loop-at-preserved : goal.loop-at-preserved
 loop-at-preserved c = (
-      c.is_taken.auto.places ∙ c.loop-at.invariant.0,
-      c.is_taken.auto.links ∙ c.loop-at.invariant.1,
-      omega
-          (arith, (go_on (casing_here (c.loop-at.invariant.3 c.requires.0) c.loop-at-test.true) c.after-at.ensures).on, c.loop-at.invariant.2),
-      λ g. let ci =
-          (read_ok g (c.loop-at.invariant.3 g) c.loop-at-test.true _ c.read_case.new.out c.read_case.result c.read_case.ensures
-          c.in-Ok.is) in casing_more (c.loop-at.invariant.3 g) c.loop-at-test.true ci.c ci.read c.is_taken.result
-          (taken_is (c.loop-at.invariant.3 g) g.holds ci.c (bytes_are ci c.atom_end-end.ensures) c.is_taken.ensures).is c.if-is_taken.false
-          ci.case
-          ((taken_is (c.loop-at.invariant.3 g) g.holds ci.c (bytes_are ci c.atom_end-end.ensures) c.is_taken.ensures).more c.if-is_taken.false ci.c
-          refl) c.after-at.ensures,
-    )
+  c.is_taken.auto.places ∙ c.loop-at.invariant.0,
+  c.is_taken.auto.links ∙ c.loop-at.invariant.1,
+  omega
+      (arith, (go_on (casing_here (c.loop-at.invariant.3 c.requires.0) c.loop-at-test.true) c.after-at.ensures).on, c.loop-at.invariant.2),
+  λ g. let ci =
+      (read_ok g (c.loop-at.invariant.3 g) c.loop-at-test.true _ c.read_case.new.out c.read_case.result c.read_case.ensures
+      c.in-Ok.is) in casing_more (c.loop-at.invariant.3 g) c.loop-at-test.true ci.c ci.read c.is_taken.result
+      (taken_is (c.loop-at.invariant.3 g) g.holds ci.c (bytes_are ci c.atom_end-end.ensures) c.is_taken.ensures).is c.if-is_taken.false
+      ci.case
+      ((taken_is (c.loop-at.invariant.3 g) g.holds ci.c (bytes_are ci c.atom_end-end.ensures) c.is_taken.ensures).more c.if-is_taken.false ci.c
+      refl) c.after-at.ensures,
+)
 
 pub shape_of-places : goal.shape_of-places
 shape_of-places c = c.loop-at.invariant.0

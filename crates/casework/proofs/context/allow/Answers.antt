@@ -15,12 +15,12 @@ returns-then-is_bare c = λ g. allow_plain g c.requires.recalls.1 c.general-boun
 
 pub offset_bounds-lists-from : goal.offset_bounds-lists-from
 offset_bounds-lists-from c = omega (
-      arith,
-      general_low c.requires.recalls.0 c.requires.recalls.1 c.general-bound.ensures,
-      general_high c.requires.recalls.0 c.requires.recalls.1 c.general-bound.ensures,
-      lists_are
-          c.requires.recalls.0,
-    )
+  arith,
+  general_low c.requires.recalls.0 c.requires.recalls.1 c.general-bound.ensures,
+  general_high c.requires.recalls.0 c.requires.recalls.1 c.general-bound.ensures,
+  lists_are
+      c.requires.recalls.0,
+)
 
 pub slice_bounds-mark_rests-count : goal.slice_bounds-mark_rests-count
 slice_bounds-mark_rests-count c = general_low c.requires.recalls.0 c.requires.recalls.1 c.general-bound.ensures

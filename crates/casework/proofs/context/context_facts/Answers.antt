@@ -16,10 +16,10 @@ overflow_cast-context c = omega (arith, (c.requires.1 c.loop-k.k c.loop-k-test.t
 
 pub context_fact-requires : goal.context_fact-requires
 context_fact-requires c = (
-      given_grown c.requires.0 (c.loop-k.invariant.7 c.requires.0.recalls).on.grown c.loop-k.invariant.3 c.loop-k.invariant.5 c.loop-k.invariant.6,
-      c.requires.1 c.loop-k.k c.loop-k-test.true,
-      c.loop-k.invariant.4 ∙ c.requires.2,
-    )
+  given_grown c.requires.0 (c.loop-k.invariant.7 c.requires.0.recalls).on.grown c.loop-k.invariant.3 c.loop-k.invariant.5 c.loop-k.invariant.6,
+  c.requires.1 c.loop-k.k c.loop-k-test.true,
+  c.loop-k.invariant.4 ∙ c.requires.2,
+)
 
 pub shape_of-index-in-No : goal.shape_of-index-in-No
 shape_of-index-in-No c = c.context_fact.auto.index ∙ c.loop-k.invariant.1
@@ -40,11 +40,14 @@ pub shape_of-fine-in-No : goal.shape_of-fine-in-No
 shape_of-fine-in-No c = c.context_fact.auto.fine ∙ c.loop-k.invariant.6
 
 pub returns-in-No : goal.returns-in-No
-returns-in-No c = record { context_as = λ g. contexting_stops (c.loop-k.invariant.7 g) g refl c.requires.0.cells c.loop-k-test.true (c.requires.1 c.loop-k.k c.loop-k-test.true)
-          (context_no Allowed c.loop-k.index c.loop-k.words c.context_fact.new.index c.context_fact.new.words c.loop-k.m
-          g.S _ one c.args.own.now c.loop-k.plain c.context_fact.new.plain c.loop-k.fine
-          c.context_fact.new.fine c.context_fact.result
-          (c.context_fact.ensures.context_as (recalls_grown (c.loop-k.invariant.7 g).on.grown g)) c.in-No.is); memo_unchanged = (c.context_fact.ensures.memo_unchanged.0 ∙ c.loop-k.invariant.3, c.context_fact.ensures.memo_unchanged.1 ∙ c.loop-k.invariant.4) }
+returns-in-No c = record {
+  context_as = λ g. contexting_stops (c.loop-k.invariant.7 g) g refl c.requires.0.cells c.loop-k-test.true (c.requires.1 c.loop-k.k c.loop-k-test.true)
+      (context_no Allowed c.loop-k.index c.loop-k.words c.context_fact.new.index c.context_fact.new.words c.loop-k.m
+      g.S _ one c.args.own.now c.loop-k.plain c.context_fact.new.plain c.loop-k.fine
+      c.context_fact.new.fine c.context_fact.result
+      (c.context_fact.ensures.context_as (recalls_grown (c.loop-k.invariant.7 g).on.grown g)) c.in-No.is);
+  memo_unchanged = (c.context_fact.ensures.memo_unchanged.0 ∙ c.loop-k.invariant.3, c.context_fact.ensures.memo_unchanged.1 ∙ c.loop-k.invariant.4);
+}
 
 pub overflow_add-k : goal.overflow_add-k
 overflow_add-k c = omega (arith, c.loop-k-test.true, c.well_formed.1.1.1.1.1.1.1.1.0.0)
@@ -54,20 +57,20 @@ loop-k-smaller c = omega arith
 
 pub loop-k-preserved : goal.loop-k-preserved
 loop-k-preserved c = (
-      omega arith,
-      c.context_fact.auto.index ∙ c.loop-k.invariant.1,
-      c.context_fact.auto.words ∙ c.loop-k.invariant.2,
-      c.context_fact.ensures.memo_unchanged.0 ∙ c.loop-k.invariant.3,
-      c.context_fact.ensures.memo_unchanged.1 ∙ c.loop-k.invariant.4,
-      c.context_fact.auto.plain ∙ c.loop-k.invariant.5,
-      c.context_fact.auto.fine ∙ c.loop-k.invariant.6,
-      λ g. contexting_more
-          (c.loop-k.invariant.7 g) g refl c.requires.0.cells c.loop-k-test.true (c.requires.1 c.loop-k.k c.loop-k-test.true)
-          (context_ok Allowed c.loop-k.index c.loop-k.words c.context_fact.new.index c.context_fact.new.words c.loop-k.m
-          g.S _ one c.args.own.now c.loop-k.plain c.context_fact.new.plain c.loop-k.fine
-          c.context_fact.new.fine c.context_fact.result
-          (c.context_fact.ensures.context_as (recalls_grown (c.loop-k.invariant.7 g).on.grown g)) c.in-Ok.is),
-    )
+  omega arith,
+  c.context_fact.auto.index ∙ c.loop-k.invariant.1,
+  c.context_fact.auto.words ∙ c.loop-k.invariant.2,
+  c.context_fact.ensures.memo_unchanged.0 ∙ c.loop-k.invariant.3,
+  c.context_fact.ensures.memo_unchanged.1 ∙ c.loop-k.invariant.4,
+  c.context_fact.auto.plain ∙ c.loop-k.invariant.5,
+  c.context_fact.auto.fine ∙ c.loop-k.invariant.6,
+  λ g. contexting_more
+      (c.loop-k.invariant.7 g) g refl c.requires.0.cells c.loop-k-test.true (c.requires.1 c.loop-k.k c.loop-k-test.true)
+      (context_ok Allowed c.loop-k.index c.loop-k.words c.context_fact.new.index c.context_fact.new.words c.loop-k.m
+      g.S _ one c.args.own.now c.loop-k.plain c.context_fact.new.plain c.loop-k.fine
+      c.context_fact.new.fine c.context_fact.result
+      (c.context_fact.ensures.context_as (recalls_grown (c.loop-k.invariant.7 g).on.grown g)) c.in-Ok.is),
+)
 
 pub shape_of-index : goal.shape_of-index
 shape_of-index c = c.loop-k.invariant.1

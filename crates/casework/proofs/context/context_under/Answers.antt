@@ -21,14 +21,14 @@ slice_bounds-fact_under-end-2 c = front_count 40960 c.requires.2 (c.premises-spa
 
 pub fact_under-answer-requires : goal.fact_under-answer-requires
 fact_under-answer-requires c = (
-      c.requires.0,
-      c.requires.1,
-      omega (
-        arith,
-        front_count 40960 c.requires.2 (c.premises-span.result.end - c.premises-span.result.from) (omega (arith, part_few c.requires.0 c.requires.1 c.premises-span.ensures)),
-        part_width c.requires.0 c.requires.1 c.premises-span.ensures,
-      ),
-    )
+  c.requires.0,
+  c.requires.1,
+  omega (
+    arith,
+    front_count 40960 c.requires.2 (c.premises-span.result.end - c.premises-span.result.from) (omega (arith, part_few c.requires.0 c.requires.1 c.premises-span.ensures)),
+    part_width c.requires.0 c.requires.1 c.premises-span.ensures,
+  ),
+)
 
 pub slice_bounds-clear-end : goal.slice_bounds-clear-end
 slice_bounds-clear-end c = back_room 40960 c.requires.2 (c.premises-span.result.end - c.premises-span.result.from) (omega (arith, part_few c.requires.0 c.requires.1 c.premises-span.ensures))
@@ -59,9 +59,12 @@ pub shape_of-fine : goal.shape_of-fine
 shape_of-fine c = c.fact_under-answer.auto.fine
 
 pub returns : goal.returns
-returns c = record { context_as = c.fact_under-answer.ensures.context_as; memo_unchanged = (
-        c.fact_under-answer.ensures.memo_unchanged,
-        front_cleared 40960 c.requires.2 (c.premises-span.result.end - c.premises-span.result.from) (omega (arith, part_few c.requires.0 c.requires.1 c.premises-span.ensures))
-            c.fact_under-answer.new.ids c.fact_under-answer.auto.ids c.clear.new.cells
-            c.clear.ensures,
-      ) }
+returns c = record {
+  context_as = c.fact_under-answer.ensures.context_as;
+  memo_unchanged = (
+    c.fact_under-answer.ensures.memo_unchanged,
+    front_cleared 40960 c.requires.2 (c.premises-span.result.end - c.premises-span.result.from) (omega (arith, part_few c.requires.0 c.requires.1 c.premises-span.ensures))
+        c.fact_under-answer.new.ids c.fact_under-answer.auto.ids c.clear.new.cells
+        c.clear.ensures,
+  );
+}

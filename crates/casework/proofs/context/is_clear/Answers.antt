@@ -30,11 +30,11 @@ loop-k-smaller c = omega arith
 
 pub loop-k-preserved : goal.loop-k-preserved
 loop-k-preserved c = (
-      c.loop-k.invariant.0,
-      omega arith,
-      clear_on c.visit_cells.new.set c.args.variables.now c.loop-k.k c.loop-k.invariant.2
-          c.loop-k-test.true c.has.ensures c.if-has.false,
-    )
+  c.loop-k.invariant.0,
+  omega arith,
+  clear_on c.visit_cells.new.set c.args.variables.now c.loop-k.k c.loop-k.invariant.2
+      c.loop-k-test.true c.has.ensures c.if-has.false,
+)
 
 pub returns : goal.returns
 returns c = clear_over (made c.args.index.now c.args.words.now c.args.mark) c.args.variables.now c.args.map.now

@@ -16,12 +16,12 @@ premises-own-requires c = facts_asked c.requires.0 c.requires.1
 
 pub offset_bounds-lists-from : goal.offset_bounds-lists-from
 offset_bounds-lists-from c = omega (
-      arith,
-      premises_low c.requires.0 c.requires.1 c.premises-own.ensures,
-      premises_high c.requires.0 c.requires.1 c.premises-own.ensures,
-      lists_are
-          c.requires.0,
-    )
+  arith,
+  premises_low c.requires.0 c.requires.1 c.premises-own.ensures,
+  premises_high c.requires.0 c.requires.1 c.premises-own.ensures,
+  lists_are
+      c.requires.0,
+)
 
 pub slice_bounds-same_cells-count : goal.slice_bounds-same_cells-count
 slice_bounds-same_cells-count c = premises_low c.requires.0 c.requires.1 c.premises-own.ensures
@@ -41,12 +41,12 @@ general-bound-requires c = facts_asked c.requires.0 c.requires.1
 
 pub offset_bounds-lists-first : goal.offset_bounds-lists-first
 offset_bounds-lists-first c = omega (
-      arith,
-      general_low c.requires.0 c.requires.1 c.general-bound.ensures,
-      general_high c.requires.0 c.requires.1 c.general-bound.ensures,
-      lists_are
-          c.requires.0,
-    )
+  arith,
+  general_low c.requires.0 c.requires.1 c.general-bound.ensures,
+  general_high c.requires.0 c.requires.1 c.general-bound.ensures,
+  lists_are
+      c.requires.0,
+)
 
 pub slice_bounds-same_cells-count-2 : goal.slice_bounds-same_cells-count-2
 slice_bounds-same_cells-count-2 c = general_low c.requires.0 c.requires.1 c.general-bound.ensures

@@ -29,14 +29,14 @@ loop-k-smaller c = omega arith
 
 pub loop-k-preserved : goal.loop-k-preserved
 loop-k-preserved c = (
-      omega arith,
-      c.mark_one.auto.fine ∙ c.loop-k.invariant.1,
-      λ g. marks_one
-          (λ h. is_allowed (fact_of g.S h)
-          (allowed_of (made c.args.index.now c.args.words.now c.args.mark) c.args.ids.now c.args.j c.args.variables.now))
-          c.args.own.now (holds c.args.fine.now) (holds c.loop-k.fine) c.loop-k.k (c.loop-k.invariant.2 g) c.loop-k-test.true _ refl c.loop-k.fine
-          c.mark_one.new.fine refl (c.mark_one.ensures g),
-    )
+  omega arith,
+  c.mark_one.auto.fine ∙ c.loop-k.invariant.1,
+  λ g. marks_one
+      (λ h. is_allowed (fact_of g.S h)
+      (allowed_of (made c.args.index.now c.args.words.now c.args.mark) c.args.ids.now c.args.j c.args.variables.now))
+      c.args.own.now (holds c.args.fine.now) (holds c.loop-k.fine) c.loop-k.k (c.loop-k.invariant.2 g) c.loop-k-test.true _ refl c.loop-k.fine
+      c.mark_one.new.fine refl (c.mark_one.ensures g),
+)
 
 pub shape_of-fine : goal.shape_of-fine
 shape_of-fine c = c.loop-k.invariant.1 ∙ sym c.requires.4

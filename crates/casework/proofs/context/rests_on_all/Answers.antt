@@ -12,13 +12,13 @@ loop-k-init c = (omega arith, λ g. refl)
 
 pub overflow_cast-own : goal.overflow_cast-own
 overflow_cast-own c = omega (
-      arith,
-      c.type_inv.facts c.loop-k.k,
-      c.type_inv.own c.loop-k.k,
-      c.type_inv.plain c.loop-k.k,
-      c.type_inv.fine c.loop-k.k,
-      c.type_inv.own c.loop-k.k,
-    )
+  arith,
+  c.type_inv.facts c.loop-k.k,
+  c.type_inv.own c.loop-k.k,
+  c.type_inv.plain c.loop-k.k,
+  c.type_inv.fine c.loop-k.k,
+  c.type_inv.own c.loop-k.k,
+)
 
 pub rests_on-requires : goal.rests_on-requires
 rests_on-requires c = (c.requires.0, c.requires.1 c.loop-k.k c.loop-k-test.true, c.requires.2, c.requires.3)

@@ -17,36 +17,39 @@ premises-left-requires c = known_rule c.requires.0.formed.held c.requires.0.know
 
 pub loop-left-init : goal.loop-left-init
 loop-left-init c = (
-      refl,
-      refl,
-      refl,
-      refl,
-      λ n g. premising_start g
-          (c.words-span.ensures g.T g.formed.text g.formed.vars _ n.rules g.formed.words g.formed.held g.known)
-          (c.premises-left.ensures g.T g.formed.text g.formed.vars _ n.rules g.formed.words g.formed.held g.known) _
-          _,
-    )
+  refl,
+  refl,
+  refl,
+  refl,
+  λ n g. premising_start g
+      (c.words-span.ensures g.T g.formed.text g.formed.vars _ n.rules g.formed.words g.formed.held g.known)
+      (c.premises-left.ensures g.T g.formed.text g.formed.vars _ n.rules g.formed.words g.formed.held g.known) _
+      _,
+)
 
 pub build-requires : goal.build-requires
 build-requires c = premising_asks c.requires.0 c.requires.1 (premising_first (c.loop-left.invariant.4 _ c.requires.0) c.loop-left-test.true)
 
 pub substitute-requires : goal.substitute-requires
-substitute-requires c = record { replaceable = premising_replaces c.requires.0 c.requires.1 (premising_first (c.loop-left.invariant.4 _ c.requires.0) c.loop-left-test.true) c.build.ensures c.in-Term.is; id_in_bounds = memo_asked
-          (premising_good c.requires.0 c.requires.1 (premising_first (c.loop-left.invariant.4 _ c.requires.0) c.loop-left-test.true) c.build.ensures c.in-Term.is)
-          c.requires.2 c.loop-left.invariant.2
-          (premising_there c.requires.0 c.requires.1 (premising_first (c.loop-left.invariant.4 _ c.requires.0) c.loop-left-test.true) c.build.ensures c.in-Term.is) }
+substitute-requires c = record {
+  replaceable = premising_replaces c.requires.0 c.requires.1 (premising_first (c.loop-left.invariant.4 _ c.requires.0) c.loop-left-test.true) c.build.ensures c.in-Term.is;
+  id_in_bounds = memo_asked
+      (premising_good c.requires.0 c.requires.1 (premising_first (c.loop-left.invariant.4 _ c.requires.0) c.loop-left-test.true) c.build.ensures c.in-Term.is)
+      c.requires.2 c.loop-left.invariant.2
+      (premising_there c.requires.0 c.requires.1 (premising_first (c.loop-left.invariant.4 _ c.requires.0) c.loop-left-test.true) c.build.ensures c.in-Term.is);
+}
 
 pub insert-requires : goal.insert-requires
 insert-requires c = omega (
-      arith,
-      premising_small c.requires.0 c.requires.1 (premising_first (c.loop-left.invariant.4 _ c.requires.0) c.loop-left-test.true) c.build.ensures
-          c.in-Term.is c.substitute.ensures.after c.in-Term-substitute.is,
-      (premising_room c.requires.0 c.requires.1
-          (premising_first (c.loop-left.invariant.4 _ c.requires.0) c.loop-left-test.true) c.build.ensures c.in-Term.is c.substitute.ensures.after
-          c.in-Term-substitute.is).room,
-      c.loop-left.invariant.3,
-      c.requires.3,
-    )
+  arith,
+  premising_small c.requires.0 c.requires.1 (premising_first (c.loop-left.invariant.4 _ c.requires.0) c.loop-left-test.true) c.build.ensures
+      c.in-Term.is c.substitute.ensures.after c.in-Term-substitute.is,
+  (premising_room c.requires.0 c.requires.1
+      (premising_first (c.loop-left.invariant.4 _ c.requires.0) c.loop-left-test.true) c.build.ensures c.in-Term.is c.substitute.ensures.after
+      c.in-Term-substitute.is).room,
+  c.loop-left.invariant.3,
+  c.requires.3,
+)
 
 pub shape_of-index-in-Full : goal.shape_of-index-in-Full
 shape_of-index-in-Full c = c.substitute.auto.index ∙ c.build.auto.index ∙ c.loop-left.invariant.0
@@ -61,8 +64,11 @@ pub shape_of-plain-in-Full : goal.shape_of-plain-in-Full
 shape_of-plain-in-Full c = c.loop-left.invariant.3
 
 pub returns-in-Full : goal.returns-in-Full
-returns-in-Full c = record { premises_as = λ g. premising_full g c.requires.1 (premising_first (c.loop-left.invariant.4 _ g) c.loop-left-test.true) c.build.ensures c.in-Term.is
-          c.substitute.ensures.after c.in-Full.is; memo_unchanged = c.substitute.ensures.memo_unchanged ∙ c.loop-left.invariant.2 }
+returns-in-Full c = record {
+  premises_as = λ g. premising_full g c.requires.1 (premising_first (c.loop-left.invariant.4 _ g) c.loop-left-test.true) c.build.ensures c.in-Term.is
+      c.substitute.ensures.after c.in-Full.is;
+  memo_unchanged = c.substitute.ensures.memo_unchanged ∙ c.loop-left.invariant.2;
+}
 
 pub shape_of-index-in-No : goal.shape_of-index-in-No
 shape_of-index-in-No c = c.build.auto.index ∙ c.loop-left.invariant.0
@@ -84,14 +90,14 @@ loop-left-smaller c = omega arith
 
 pub loop-left-preserved : goal.loop-left-preserved
 loop-left-preserved c = (
-      c.substitute.auto.index ∙ c.build.auto.index ∙ c.loop-left.invariant.0,
-      c.substitute.auto.words ∙ c.build.auto.words ∙ c.loop-left.invariant.1,
-      c.substitute.ensures.memo_unchanged ∙ c.loop-left.invariant.2,
-      c.insert.auto.set ∙ c.loop-left.invariant.3,
-      λ n g. premising_more g c.requires.1
-          (premising_first (c.loop-left.invariant.4 _ g) c.loop-left-test.true) c.build.ensures c.in-Term.is c.substitute.ensures.after c.in-Term-substitute.is
-          c.insert.ensures (omega (arith, c.loop-left-test.true)),
-    )
+  c.substitute.auto.index ∙ c.build.auto.index ∙ c.loop-left.invariant.0,
+  c.substitute.auto.words ∙ c.build.auto.words ∙ c.loop-left.invariant.1,
+  c.substitute.ensures.memo_unchanged ∙ c.loop-left.invariant.2,
+  c.insert.auto.set ∙ c.loop-left.invariant.3,
+  λ n g. premising_more g c.requires.1
+      (premising_first (c.loop-left.invariant.4 _ g) c.loop-left-test.true) c.build.ensures c.in-Term.is c.substitute.ensures.after c.in-Term-substitute.is
+      c.insert.ensures (omega (arith, c.loop-left-test.true)),
+)
 
 pub shape_of-index : goal.shape_of-index
 shape_of-index c = c.loop-left.invariant.0

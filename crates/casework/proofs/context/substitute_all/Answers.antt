@@ -16,15 +16,18 @@ pub overflow_cast-ids : goal.overflow_cast-ids
 overflow_cast-ids c = omega (arith, c.type_inv.map c.loop-k.k, c.type_inv.ids c.loop-k.k, c.type_inv.ids c.loop-k.k)
 
 pub substitute-requires : goal.substitute-requires
-substitute-requires c = record { replaceable = replaceable_now c.loop-k.invariant.3.on.grown c.args.map.now c.requires.within (c.requires.there c.loop-k.k c.loop-k-test.true); id_in_bounds = memo_asked
-          c.requires.good c.requires.empty c.loop-k.invariant.2 (c.requires.there c.loop-k.k c.loop-k-test.true) }
+substitute-requires c = record {
+  replaceable = replaceable_now c.loop-k.invariant.3.on.grown c.args.map.now c.requires.within (c.requires.there c.loop-k.k c.loop-k-test.true);
+  id_in_bounds = memo_asked
+      c.requires.good c.requires.empty c.loop-k.invariant.2 (c.requires.there c.loop-k.k c.loop-k-test.true);
+}
 
 pub overflow_cast-out : goal.overflow_cast-out
 overflow_cast-out c = omega (
-      arith,
-      under_small c.loop-k.invariant.3.on.grown c.args.map.now c.requires.within (c.requires.there c.loop-k.k c.loop-k-test.true)
-          c.substitute.ensures.after c.in-Term.is,
-    )
+  arith,
+  under_small c.loop-k.invariant.3.on.grown c.args.map.now c.requires.within (c.requires.there c.loop-k.k c.loop-k-test.true)
+      c.substitute.ensures.after c.in-Term.is,
+)
 
 pub bounds-out-k : goal.bounds-out-k
 bounds-out-k c = omega (arith, c.loop-k-test.true, c.requires.fits, c.loop-k.invariant.1)
@@ -42,9 +45,12 @@ pub shape_of-out-in-Full : goal.shape_of-out-in-Full
 shape_of-out-in-Full c = c.loop-k.invariant.1
 
 pub returns-in-Full : goal.returns-in-Full
-returns-in-Full c = record { replaced_as = substituting_stops c.loop-k.invariant.3 c.loop-k-test.true
-          (under_stopped c.loop-k.invariant.3.on.grown c.args.map.now c.requires.within (c.requires.there c.loop-k.k c.loop-k-test.true)
-          c.substitute.ensures.after c.in-Full.is); memo_unchanged = c.substitute.ensures.memo_unchanged ∙ c.loop-k.invariant.2 }
+returns-in-Full c = record {
+  replaced_as = substituting_stops c.loop-k.invariant.3 c.loop-k-test.true
+      (under_stopped c.loop-k.invariant.3.on.grown c.args.map.now c.requires.within (c.requires.there c.loop-k.k c.loop-k-test.true)
+      c.substitute.ensures.after c.in-Full.is);
+  memo_unchanged = c.substitute.ensures.memo_unchanged ∙ c.loop-k.invariant.2;
+}
 
 pub overflow_add-k : goal.overflow_add-k
 overflow_add-k c = omega arith
@@ -54,15 +60,15 @@ loop-k-smaller c = omega arith
 
 pub loop-k-preserved : goal.loop-k-preserved
 loop-k-preserved c = (
-      omega arith,
-      length-set {A = ℕ} c.loop-k.out c.loop-k.k c.in-Term.t ∙ c.loop-k.invariant.1,
-      c.substitute.ensures.memo_unchanged ∙ c.loop-k.invariant.2,
-      substituting_more c.loop-k.invariant.3 c.loop-k-test.true
-          (under_went c.loop-k.invariant.3.on.grown c.args.map.now c.requires.within (c.requires.there c.loop-k.k c.loop-k-test.true)
-          c.substitute.ensures.after c.in-Term.is)
-          (under_there c.loop-k.invariant.3.on.grown c.args.map.now c.requires.within (c.requires.there c.loop-k.k c.loop-k-test.true)
-          c.substitute.ensures.after c.in-Term.is) (omega (arith, c.loop-k-test.true, c.requires.fits, c.loop-k.invariant.1)),
-    )
+  omega arith,
+  length-set {A = ℕ} c.loop-k.out c.loop-k.k c.in-Term.t ∙ c.loop-k.invariant.1,
+  c.substitute.ensures.memo_unchanged ∙ c.loop-k.invariant.2,
+  substituting_more c.loop-k.invariant.3 c.loop-k-test.true
+      (under_went c.loop-k.invariant.3.on.grown c.args.map.now c.requires.within (c.requires.there c.loop-k.k c.loop-k-test.true)
+      c.substitute.ensures.after c.in-Term.is)
+      (under_there c.loop-k.invariant.3.on.grown c.args.map.now c.requires.within (c.requires.there c.loop-k.k c.loop-k-test.true)
+      c.substitute.ensures.after c.in-Term.is) (omega (arith, c.loop-k-test.true, c.requires.fits, c.loop-k.invariant.1)),
+)
 
 pub shape_of-index : goal.shape_of-index
 shape_of-index c = substituting_index c.loop-k.invariant.3

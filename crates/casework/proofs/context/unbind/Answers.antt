@@ -22,10 +22,10 @@ loop-k-smaller c = omega arith
 
 pub loop-k-preserved : goal.loop-k-preserved
 loop-k-preserved c = (
-      omega arith,
-      unbinding_on c.args.variables.now c.args.map.now c.loop-k.map c.loop-k.k c.loop-k.invariant.1 c.loop-k-test.true
-          (get_or c.args.variables.now c.loop-k.k 0) refl (omega (arith, c.requires c.loop-k.k c.loop-k-test.true, c.loop-k.invariant.1.0)),
-    )
+  omega arith,
+  unbinding_on c.args.variables.now c.args.map.now c.loop-k.map c.loop-k.k c.loop-k.invariant.1 c.loop-k-test.true
+      (get_or c.args.variables.now c.loop-k.k 0) refl (omega (arith, c.requires c.loop-k.k c.loop-k-test.true, c.loop-k.invariant.1.0)),
+)
 
 pub shape_of-map : goal.shape_of-map
 shape_of-map c = c.loop-k.invariant.1.0

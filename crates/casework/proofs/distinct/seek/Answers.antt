@@ -63,14 +63,14 @@ overflow_add-depth c = omega (arith, (c.loop-cell.invariant c.requires.0 c.requi
 
 pub loop-cell-smaller : goal.loop-cell-smaller
 loop-cell-smaller c = omega (
-      arith,
-      sought_rise c.requires.1 _ (c.loop-cell.invariant c.requires.0 c.requires.1) c.if-node-eq0.false c.same.ensures c.if-same.false c.turn.ensures.0
-          c.turn.ensures.1,
-      sought_near c.requires.1 _ (c.loop-cell.invariant c.requires.0 c.requires.1) c.if-node-eq0.false c.same.ensures c.if-same.false
-          c.turn.ensures.0 c.turn.ensures.1,
-      c.requires.1.room,
-      c.requires.1.even,
-    )
+  arith,
+  sought_rise c.requires.1 _ (c.loop-cell.invariant c.requires.0 c.requires.1) c.if-node-eq0.false c.same.ensures c.if-same.false c.turn.ensures.0
+      c.turn.ensures.1,
+  sought_near c.requires.1 _ (c.loop-cell.invariant c.requires.0 c.requires.1) c.if-node-eq0.false c.same.ensures c.if-same.false
+      c.turn.ensures.0 c.turn.ensures.1,
+  c.requires.1.room,
+  c.requires.1.even,
+)
 
 pub loop-cell-preserved : goal.loop-cell-preserved
 loop-cell-preserved c = λ many t. sought_on t _ (c.loop-cell.invariant many t) c.if-node-eq0.false c.same.ensures c.if-same.false c.turn.ensures.0 c.turn.ensures.1

@@ -55,13 +55,13 @@ loop-v-smaller c = omega (arith, c.loop-v-test.true)
 
 pub loop-v-preserved : goal.loop-v-preserved
 loop-v-preserved c = (
-      c.loop-v.invariant.0,
-      c.loop-v.invariant.1,
-      elim c.if-bound-v-ne0.branch [
-          then-bound-v-ne0+else-not-has w ↦ general_in c.loop-v.invariant.2 c.loop-v-test.true w.if-bound-v-ne0.true w.has.ensures (ap not w.if-not-has.false)
-        | else-bound-v-ne0 w ↦ general_skip c.loop-v.invariant.2 c.loop-v-test.true w.if-bound-v-ne0.false
-      ],
-    )
+  c.loop-v.invariant.0,
+  c.loop-v.invariant.1,
+  elim c.if-bound-v-ne0.branch [
+    | then-bound-v-ne0+else-not-has w ↦ general_in c.loop-v.invariant.2 c.loop-v-test.true w.if-bound-v-ne0.true w.has.ensures (ap not w.if-not-has.false)
+    | else-bound-v-ne0 w ↦ general_skip c.loop-v.invariant.2 c.loop-v-test.true w.if-bound-v-ne0.false
+  ],
+)
 
 pub returns : goal.returns
 returns c = λ g M. general_done c.loop-v.invariant.2 c.loop-v-test.false g M

@@ -23,31 +23,37 @@ pub slice_bounds-met-start : goal.slice_bounds-met-start
 slice_bounds-met-start c = omega (arith, c.loop-at-test.true)
 
 pub met-requires : goal.met-requires
-met-requires c = record { refers_item = left_given (c.loop-at.invariant.left c.requires.rule_use) c.loop-at-test.true; theta = (
-        left_theta (c.loop-at.invariant.left c.requires.rule_use) c.loop-at-test.true,
-        left_there (c.loop-at.invariant.left c.requires.rule_use) c.loop-at-test.true
-            c.premise.ensures,
-        c.loop-at.invariant.clean.map_zero,
-        c.loop-at.invariant.clean.memo_zero,
-      ) }
+met-requires c = record {
+  refers_item = left_given (c.loop-at.invariant.left c.requires.rule_use) c.loop-at-test.true;
+  theta = (
+    left_theta (c.loop-at.invariant.left c.requires.rule_use) c.loop-at-test.true,
+    left_there (c.loop-at.invariant.left c.requires.rule_use) c.loop-at-test.true
+        c.premise.ensures,
+    c.loop-at.invariant.clean.map_zero,
+    c.loop-at.invariant.clean.memo_zero,
+  );
+}
 
 pub join-requires : goal.join-requires
 join-requires c = (
-      left_join (c.loop-at.invariant.left c.requires.rule_use) c.loop-at-test.true c.premise.ensures c.met.new.index
-          c.met.new.words c.met.result c.met.ensures.referred_as c.in-To.is,
-      c.loop-at.invariant.clean.hyps_long,
-      c.loop-at.invariant.clean.footing_long,
-    )
+  left_join (c.loop-at.invariant.left c.requires.rule_use) c.loop-at-test.true c.premise.ensures c.met.new.index
+      c.met.new.words c.met.result c.met.ensures.referred_as c.in-To.is,
+  c.loop-at.invariant.clean.hyps_long,
+  c.loop-at.invariant.clean.footing_long,
+)
 
 pub slice_bounds-visit-end : goal.slice_bounds-visit-end
 slice_bounds-visit-end c = sym c.loop-at.invariant.clean.seen_long
 
 pub visit-requires : goal.visit-requires
-visit-requires c = record { readable = (left_visit (c.loop-at.invariant.left c.requires.rule_use) c.loop-at-test.true c.premise.ensures c.met.new.index
-    c.met.new.words c.met.result c.met.ensures.referred_as c.in-To.is c.loop-at.invariant.clean.seen_long
-    c.loop-at.invariant.clean.used_long).0; seen = (left_visit (c.loop-at.invariant.left c.requires.rule_use) c.loop-at-test.true c.premise.ensures c.met.new.index
-    c.met.new.words c.met.result c.met.ensures.referred_as c.in-To.is c.loop-at.invariant.clean.seen_long
-    c.loop-at.invariant.clean.used_long).1 }
+visit-requires c = record {
+  readable = (left_visit (c.loop-at.invariant.left c.requires.rule_use) c.loop-at-test.true c.premise.ensures c.met.new.index
+      c.met.new.words c.met.result c.met.ensures.referred_as c.in-To.is c.loop-at.invariant.clean.seen_long
+      c.loop-at.invariant.clean.used_long).0;
+  seen = (left_visit (c.loop-at.invariant.left c.requires.rule_use) c.loop-at-test.true c.premise.ensures c.met.new.index
+      c.met.new.words c.met.result c.met.ensures.referred_as c.in-To.is c.loop-at.invariant.clean.seen_long
+      c.loop-at.invariant.clean.used_long).1;
+}
 
 pub shape_of-index-in-No : goal.shape_of-index-in-No
 shape_of-index-in-No c = c.met.auto.index ∙ (c.loop-at.invariant.left c.requires.rule_use).on.grown.same.long_index
@@ -71,20 +77,23 @@ pub shape_of-used-in-No : goal.shape_of-used-in-No
 shape_of-used-in-No c = c.loop-at.invariant.clean.used_long ∙ sym (blank_long _ _ c.requires.blank.1)
 
 pub returns-in-No : goal.returns-in-No
-returns-in-No c = record { discharged_as = λ g. left_refused (c.loop-at.invariant.left g) c.loop-at-test.true c.premise.ensures c.met.new.index
-          c.met.new.words c.met.result c.met.ensures.referred_as c.in-No.is; map_unchanged = (
-        c.met.ensures.map_unchanged.0 ∙ c.loop-at.invariant.clean.map_zero ∙ sym c.requires.blank.0.map_zero,
-        c.met.ensures.map_unchanged.1 ∙ c.loop-at.invariant.clean.memo_zero ∙
-            sym c.requires.blank.0.memo_zero,
-      ) }
+returns-in-No c = record {
+  discharged_as = λ g. left_refused (c.loop-at.invariant.left g) c.loop-at-test.true c.premise.ensures c.met.new.index
+      c.met.new.words c.met.result c.met.ensures.referred_as c.in-No.is;
+  map_unchanged = (
+    c.met.ensures.map_unchanged.0 ∙ c.loop-at.invariant.clean.map_zero ∙ sym c.requires.blank.0.map_zero,
+    c.met.ensures.map_unchanged.1 ∙ c.loop-at.invariant.clean.memo_zero ∙
+        sym c.requires.blank.0.memo_zero,
+  );
+}
 
 pub overflow_add-k : goal.overflow_add-k
 overflow_add-k c = omega (
-      arith,
-      left_inside (c.loop-at.invariant.left c.requires.rule_use) c.loop-at-test.true,
-      premise_few
-          (left_rule (c.loop-at.invariant.left c.requires.rule_use) c.loop-at-test.true),
-    )
+  arith,
+  left_inside (c.loop-at.invariant.left c.requires.rule_use) c.loop-at-test.true,
+  premise_few
+      (left_rule (c.loop-at.invariant.left c.requires.rule_use) c.loop-at-test.true),
+)
 
 pub after-at-requires : goal.after-at-requires
 after-at-requires c = c.loop-at-test.true
@@ -94,22 +103,22 @@ loop-at-smaller c = omega (arith, left_less (c.loop-at.invariant.left c.requires
 
 pub loop-at-preserved : goal.loop-at-preserved
 loop-at-preserved c = record {
-      clean = record {
-        map_zero = c.met.ensures.map_unchanged.0 ∙ c.loop-at.invariant.clean.map_zero;
-        memo_zero = c.met.ensures.map_unchanged.1 ∙ c.loop-at.invariant.clean.memo_zero;
-        hyps_long = c.join.auto.hyps ∙ c.loop-at.invariant.clean.hyps_long;
-        footing_long = c.join.auto.footing ∙ c.loop-at.invariant.clean.footing_long;
-        used_long = c.visit.auto.set ∙ c.loop-at.invariant.clean.used_long;
-        seen_long = c.visit.auto.seen ∙ c.loop-at.invariant.clean.seen_long;
-      };
-      left = λ g. left_again (c.loop-at.invariant.left g) c.loop-at-test.true c.premise.ensures c.met.new.index
-          c.met.new.words c.met.result c.met.ensures.referred_as c.in-To.is c.join.new.hyps
-          c.join.new.footing c.visit.new.set c.visit.new.seen
-          (c.join.ensures
-          (left_join (c.loop-at.invariant.left g) c.loop-at-test.true c.premise.ensures c.met.new.index
-          c.met.new.words c.met.result c.met.ensures.referred_as c.in-To.is)) c.visit.ensures
-          c.after-at.ensures;
-    }
+  clean = record {
+    map_zero = c.met.ensures.map_unchanged.0 ∙ c.loop-at.invariant.clean.map_zero;
+    memo_zero = c.met.ensures.map_unchanged.1 ∙ c.loop-at.invariant.clean.memo_zero;
+    hyps_long = c.join.auto.hyps ∙ c.loop-at.invariant.clean.hyps_long;
+    footing_long = c.join.auto.footing ∙ c.loop-at.invariant.clean.footing_long;
+    used_long = c.visit.auto.set ∙ c.loop-at.invariant.clean.used_long;
+    seen_long = c.visit.auto.seen ∙ c.loop-at.invariant.clean.seen_long;
+  };
+  left = λ g. left_again (c.loop-at.invariant.left g) c.loop-at-test.true c.premise.ensures c.met.new.index
+      c.met.new.words c.met.result c.met.ensures.referred_as c.in-To.is c.join.new.hyps
+      c.join.new.footing c.visit.new.set c.visit.new.seen
+      (c.join.ensures
+      (left_join (c.loop-at.invariant.left g) c.loop-at-test.true c.premise.ensures c.met.new.index
+      c.met.new.words c.met.result c.met.ensures.referred_as c.in-To.is)) c.visit.ensures
+      c.after-at.ensures;
+}
 
 pub shape_of-index : goal.shape_of-index
 shape_of-index c = (c.loop-at.invariant.left c.requires.rule_use).on.grown.same.long_index

@@ -20,11 +20,11 @@ variable_sort-requires c = bind_known c.requires.0 c.variables.ensures c.require
 
 pub offset_bounds-bound-i : goal.offset_bounds-bound-i
 offset_bounds-bound-i c = omega (
-      arith,
-      bind_small c.requires.0 c.variables.ensures c.requires.1 c.atom_end-end.ensures c.rule_var_named.ensures c.in-At.is,
-      bind_narrow
-          c.requires.0 c.variables.ensures c.requires.1 c.atom_end-end.ensures c.rule_var_named.ensures c.in-At.is,
-    )
+  arith,
+  bind_small c.requires.0 c.variables.ensures c.requires.1 c.atom_end-end.ensures c.rule_var_named.ensures c.in-At.is,
+  bind_narrow
+      c.requires.0 c.variables.ensures c.requires.1 c.atom_end-end.ensures c.rule_var_named.ensures c.in-At.is,
+)
 
 pub bounds-bound-i : goal.bounds-bound-i
 bounds-bound-i c = bind_small c.requires.0 c.variables.ensures c.requires.1 c.atom_end-end.ensures c.rule_var_named.ensures c.in-At.is
@@ -36,27 +36,27 @@ returns-then-bound-i-ne0 c = λ g. bind_twice g c.variables.ensures c.requires.1
 
 pub overflow_add-bound : goal.overflow_add-bound
 overflow_add-bound c = omega (
-      arith,
-      bind_fits c.requires.0 c.variables.ensures c.requires.1 c.atom_end-end.ensures c.rule_var_named.ensures c.in-At.is
-          c.variable_sort.ensures c.term_of.new.index c.term_of.new.words
-          c.term_of.result c.term_of.ensures c.in-Ok.is,
-    )
+  arith,
+  bind_fits c.requires.0 c.variables.ensures c.requires.1 c.atom_end-end.ensures c.rule_var_named.ensures c.in-At.is
+      c.variable_sort.ensures c.term_of.new.index c.term_of.new.words
+      c.term_of.result c.term_of.ensures c.in-Ok.is,
+)
 
 pub overflow_cast-bound : goal.overflow_cast-bound
 overflow_cast-bound c = omega (
-      arith,
-      bind_fits c.requires.0 c.variables.ensures c.requires.1 c.atom_end-end.ensures c.rule_var_named.ensures c.in-At.is
-          c.variable_sort.ensures c.term_of.new.index c.term_of.new.words
-          c.term_of.result c.term_of.ensures c.in-Ok.is,
-    )
+  arith,
+  bind_fits c.requires.0 c.variables.ensures c.requires.1 c.atom_end-end.ensures c.rule_var_named.ensures c.in-At.is
+      c.variable_sort.ensures c.term_of.new.index c.term_of.new.words
+      c.term_of.result c.term_of.ensures c.in-Ok.is,
+)
 
 pub offset_bounds-bound-i-in-Ok : goal.offset_bounds-bound-i-in-Ok
 offset_bounds-bound-i-in-Ok c = omega (
-      arith,
-      bind_small c.requires.0 c.variables.ensures c.requires.1 c.atom_end-end.ensures c.rule_var_named.ensures c.in-At.is,
-      bind_narrow
-          c.requires.0 c.variables.ensures c.requires.1 c.atom_end-end.ensures c.rule_var_named.ensures c.in-At.is,
-    )
+  arith,
+  bind_small c.requires.0 c.variables.ensures c.requires.1 c.atom_end-end.ensures c.rule_var_named.ensures c.in-At.is,
+  bind_narrow
+      c.requires.0 c.variables.ensures c.requires.1 c.atom_end-end.ensures c.rule_var_named.ensures c.in-At.is,
+)
 
 pub bounds-bound-i-in-Ok : goal.bounds-bound-i-in-Ok
 bounds-bound-i-in-Ok c = bind_small c.requires.0 c.variables.ensures c.requires.1 c.atom_end-end.ensures c.rule_var_named.ensures c.in-At.is

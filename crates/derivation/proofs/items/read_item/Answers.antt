@@ -10,11 +10,11 @@ returns-in_default c = λ g. item_atom_lem g c.item_at.ensures c.in_default.is
 
 pub offset_bounds-cells-a : goal.offset_bounds-cells-a
 offset_bounds-cells-a c = omega (
-      arith,
-      (item_list c.requires c.item_at.ensures c.in-List.is).low,
-      (item_list c.requires c.item_at.ensures c.in-List.is).high,
-      c.well_formed.1.1.1.1.1.1.1.1.1.1.1.1.1.1.0,
-    )
+  arith,
+  (item_list c.requires c.item_at.ensures c.in-List.is).low,
+  (item_list c.requires c.item_at.ensures c.in-List.is).high,
+  c.well_formed.1.1.1.1.1.1.1.1.1.1.1.1.1.1.0,
+)
 
 pub slice_bounds-inner-count : goal.slice_bounds-inner-count
 slice_bounds-inner-count c = (item_list (c.requires) c.item_at.ensures c.in-List.is).low
@@ -36,10 +36,10 @@ binds-requires c = binds_given c.requires c.item_at.ensures c.in-List.is c.if-in
 
 pub bind_item-requires : goal.bind_item-requires
 bind_item-requires c = (
-      item_given c.requires c.item_at.ensures c.in-List.is c.if-inner-eq0.false c.item_at-2.ensures c.in-Atom.is c.binds.result c.binds.ensures
-          c.if-binds.true,
-      (binds_given c.requires c.item_at.ensures c.in-List.is c.if-inner-eq0.false c.item_at-2.ensures c.in-Atom.is).1,
-    )
+  item_given c.requires c.item_at.ensures c.in-List.is c.if-inner-eq0.false c.item_at-2.ensures c.in-Atom.is c.binds.result c.binds.ensures
+      c.if-binds.true,
+  (binds_given c.requires c.item_at.ensures c.in-List.is c.if-inner-eq0.false c.item_at-2.ensures c.in-Atom.is).1,
+)
 
 pub returns-then-binds : goal.returns-then-binds
 returns-then-binds c = λ g. item_bound g c.item_at.ensures c.in-List.is c.if-inner-eq0.false c.item_at-2.ensures c.in-Atom.is c.binds.result c.binds.ensures

@@ -8,10 +8,10 @@ returns-then-stated-ne0 c = λ g it bound k. state_twice g c.judgment.new.index 
 
 pub overflow_add-result : goal.overflow_add-result
 overflow_add-result c = omega (
-      arith,
-      state_fits c.requires c.judgment.new.index c.judgment.new.words c.judgment.result
-          c.judgment.ensures c.in-Ok.is,
-    )
+  arith,
+  state_fits c.requires c.judgment.new.index c.judgment.new.words c.judgment.result
+      c.judgment.ensures c.in-Ok.is,
+)
 
 pub returns-else-stated-ne0 : goal.returns-else-stated-ne0
 returns-else-stated-ne0 c = λ g it bound k. state_done g c.judgment.new.index c.judgment.new.words

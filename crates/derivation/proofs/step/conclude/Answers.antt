@@ -9,20 +9,26 @@ pub read_items-requires : goal.read_items-requires
 read_items-requires c = (c.requires.0.given, refl)
 
 pub visit_all-requires : goal.visit_all-requires
-visit_all-requires c = record { readable_all = ids_readable c.requires.0 c.read_items.new.index
-          c.read_items.new.words c.read_items.new.bound
-          c.read_items.result c.read_items.ensures c.in-Ok.is refl c.requires.1; seen = none_seen c.requires.0
-          c.read_items.new.index c.read_items.new.words
-          c.read_items.new.bound c.read_items.result c.read_items.ensures
-          c.in-Ok.is _ refl }
+visit_all-requires c = record {
+  readable_all = ids_readable c.requires.0 c.read_items.new.index
+      c.read_items.new.words c.read_items.new.bound
+      c.read_items.result c.read_items.ensures c.in-Ok.is refl c.requires.1;
+  seen = none_seen c.requires.0
+      c.read_items.new.index c.read_items.new.words
+      c.read_items.new.bound c.read_items.result c.read_items.ensures
+      c.in-Ok.is _ refl;
+}
 
 pub visit_cells-requires : goal.visit_cells-requires
-visit_cells-requires c = record { readable_cells = cells_readable c.requires.0 c.read_items.new.index
-          c.read_items.new.words c.read_items.new.bound
-          c.read_items.result c.read_items.ensures c.in-Ok.is c.requires.1 c.visit_all.new.seen
-          c.visit_all.new.set c.visit_all.ensures
-          (c.visit_all.auto.seen ∙ length-replicate {A = ℕ} TERMWORDS 0)
-          (c.visit_all.auto.set ∙ ap length c.requires.1 ∙ length-replicate {A = ℕ} VARIABLEWORDS 0); seen = c.visit_all.ensures.visits }
+visit_cells-requires c = record {
+  readable_cells = cells_readable c.requires.0 c.read_items.new.index
+      c.read_items.new.words c.read_items.new.bound
+      c.read_items.result c.read_items.ensures c.in-Ok.is c.requires.1 c.visit_all.new.seen
+      c.visit_all.new.set c.visit_all.ensures
+      (c.visit_all.auto.seen ∙ length-replicate {A = ℕ} TERMWORDS 0)
+      (c.visit_all.auto.set ∙ ap length c.requires.1 ∙ length-replicate {A = ℕ} VARIABLEWORDS 0);
+  seen = c.visit_all.ensures.visits;
+}
 
 pub conclusion-place-requires : goal.conclusion-place-requires
 conclusion-place-requires c = rule_known c.requires.0

@@ -22,42 +22,42 @@ reference-requires c = record { refers_item = left_given (c.loop-at.invariant.le
 
 pub overflow_cast-ids : goal.overflow_cast-ids
 overflow_cast-ids c = omega (
-      arith,
-      left_fits (c.loop-at.invariant.left c.requires.fact_form.0) c.loop-at-test.true c.reference.new.index
-          c.reference.new.words c.reference.result c.reference.ensures.referred_as c.in-To.is,
-    )
+  arith,
+  left_fits (c.loop-at.invariant.left c.requires.fact_form.0) c.loop-at-test.true c.reference.new.index
+      c.reference.new.words c.reference.result c.reference.ensures.referred_as c.in-To.is,
+)
 
 pub offset_bounds-ids-k : goal.offset_bounds-ids-k
 offset_bounds-ids-k c = omega (
-      arith,
-      left_room (c.loop-at.invariant.left c.requires.fact_form.0) c.loop-at-test.true c.requires.few_items c.requires.fact_form.0.holds.cells,
-      c.well_formed.1.1.1.1.1.1.1.1.1.1.1.1.1.1.1.1.1.0,
-      c.loop-at.invariant.long_ids,
-    )
+  arith,
+  left_room (c.loop-at.invariant.left c.requires.fact_form.0) c.loop-at-test.true c.requires.few_items c.requires.fact_form.0.holds.cells,
+  c.well_formed.1.1.1.1.1.1.1.1.1.1.1.1.1.1.1.1.1.0,
+  c.loop-at.invariant.long_ids,
+)
 
 pub bounds-ids-k : goal.bounds-ids-k
 bounds-ids-k c = omega (arith, left_room (c.loop-at.invariant.left c.requires.fact_form.0) c.loop-at-test.true c.requires.few_items c.requires.fact_form.0.holds.cells, c.loop-at.invariant.long_ids)
 
 pub join-requires : goal.join-requires
 join-requires c = (
-      left_fact (c.loop-at.invariant.left c.requires.fact_form.0) c.loop-at-test.true c.reference.new.index
-          c.reference.new.words c.reference.result c.reference.ensures.referred_as c.in-To.is,
-      c.loop-at.invariant.long_hyps,
-      c.loop-at.invariant.long_footing,
-    )
+  left_fact (c.loop-at.invariant.left c.requires.fact_form.0) c.loop-at-test.true c.reference.new.index
+      c.reference.new.words c.reference.result c.reference.ensures.referred_as c.in-To.is,
+  c.loop-at.invariant.long_hyps,
+  c.loop-at.invariant.long_footing,
+)
 
 pub instances-many-requires : goal.instances-many-requires
 instances-many-requires c = tt
 
 pub overflow_add-many : goal.overflow_add-many
 overflow_add-many c = omega (
-      arith,
-      c.loop-at.invariant.few,
-      left_room (c.loop-at.invariant.left c.requires.fact_form.0) c.loop-at-test.true c.requires.few_items c.requires.fact_form.0.holds.cells,
-      c.well_formed.1.1.1.1.1.1.1.1.1.1.1.1.1.1.1.1.1.0,
-      instances_small c.in-To.bare,
-      c.instances-many.ensures,
-    )
+  arith,
+  c.loop-at.invariant.few,
+  left_room (c.loop-at.invariant.left c.requires.fact_form.0) c.loop-at-test.true c.requires.few_items c.requires.fact_form.0.holds.cells,
+  c.well_formed.1.1.1.1.1.1.1.1.1.1.1.1.1.1.1.1.1.0,
+  instances_small c.in-To.bare,
+  c.instances-many.ensures,
+)
 
 pub shape_of-index-in-No : goal.shape_of-index-in-No
 shape_of-index-in-No c = c.reference.auto.index ∙ (c.loop-at.invariant.left c.requires.fact_form.0).on.grown.same.long_index
@@ -81,15 +81,18 @@ pub shape_of-footing-in-No : goal.shape_of-footing-in-No
 shape_of-footing-in-No c = c.loop-at.invariant.long_footing ∙ sym (blank_footing c.requires.fact_form.1)
 
 pub returns-in-No : goal.returns-in-No
-returns-in-No c = record { refs_as = λ g. left_refused (c.loop-at.invariant.left g) c.loop-at-test.true c.reference.new.index
-          c.reference.new.words c.reference.result c.reference.ensures.referred_as c.in-No.is; map_unchanged = (c.reference.ensures.map_unchanged.0 ∙ c.loop-at.invariant.map_same, c.reference.ensures.map_unchanged.1 ∙ c.loop-at.invariant.memo_same) }
+returns-in-No c = record {
+  refs_as = λ g. left_refused (c.loop-at.invariant.left g) c.loop-at-test.true c.reference.new.index
+      c.reference.new.words c.reference.result c.reference.ensures.referred_as c.in-No.is;
+  map_unchanged = (c.reference.ensures.map_unchanged.0 ∙ c.loop-at.invariant.map_same, c.reference.ensures.map_unchanged.1 ∙ c.loop-at.invariant.memo_same);
+}
 
 pub overflow_add-k : goal.overflow_add-k
 overflow_add-k c = omega (
-      arith,
-      left_room (c.loop-at.invariant.left c.requires.fact_form.0) c.loop-at-test.true c.requires.few_items c.requires.fact_form.0.holds.cells,
-      c.well_formed.1.1.1.1.1.1.1.1.1.1.1.1.1.1.1.1.1.0,
-    )
+  arith,
+  left_room (c.loop-at.invariant.left c.requires.fact_form.0) c.loop-at-test.true c.requires.few_items c.requires.fact_form.0.holds.cells,
+  c.well_formed.1.1.1.1.1.1.1.1.1.1.1.1.1.1.1.1.1.0,
+)
 
 pub after-at-requires : goal.after-at-requires
 after-at-requires c = c.loop-at-test.true
@@ -99,21 +102,21 @@ loop-at-smaller c = omega (arith, left_less (c.loop-at.invariant.left c.requires
 
 pub loop-at-preserved : goal.loop-at-preserved
 loop-at-preserved c = record {
-      left = λ g. left_again (c.loop-at.invariant.left g) c.loop-at-test.true c.reference.new.index
-          c.reference.new.words c.reference.result c.reference.ensures.referred_as c.in-To.is
-          c.join.new.hyps c.join.new.footing c.join.ensures
-          (omega (
-            arith,
-            left_room (c.loop-at.invariant.left c.requires.fact_form.0) c.loop-at-test.true c.requires.few_items c.requires.fact_form.0.holds.cells,
-            c.loop-at.invariant.long_ids,
-          )) c.instances-many.ensures c.after-at.ensures;
-      few = omega (arith, c.loop-at.invariant.few, instances_small c.in-To.bare, c.instances-many.ensures);
-      map_same = c.reference.ensures.map_unchanged.0 ∙ c.loop-at.invariant.map_same;
-      memo_same = c.reference.ensures.map_unchanged.1 ∙ c.loop-at.invariant.memo_same;
-      long_ids = length-set c.loop-at.ids c.loop-at.k _ ∙ c.loop-at.invariant.long_ids;
-      long_hyps = c.join.auto.hyps ∙ c.loop-at.invariant.long_hyps;
-      long_footing = c.join.auto.footing ∙ c.loop-at.invariant.long_footing;
-    }
+  left = λ g. left_again (c.loop-at.invariant.left g) c.loop-at-test.true c.reference.new.index
+      c.reference.new.words c.reference.result c.reference.ensures.referred_as c.in-To.is
+      c.join.new.hyps c.join.new.footing c.join.ensures
+      (omega (
+        arith,
+        left_room (c.loop-at.invariant.left c.requires.fact_form.0) c.loop-at-test.true c.requires.few_items c.requires.fact_form.0.holds.cells,
+        c.loop-at.invariant.long_ids,
+      )) c.instances-many.ensures c.after-at.ensures;
+  few = omega (arith, c.loop-at.invariant.few, instances_small c.in-To.bare, c.instances-many.ensures);
+  map_same = c.reference.ensures.map_unchanged.0 ∙ c.loop-at.invariant.map_same;
+  memo_same = c.reference.ensures.map_unchanged.1 ∙ c.loop-at.invariant.memo_same;
+  long_ids = length-set c.loop-at.ids c.loop-at.k _ ∙ c.loop-at.invariant.long_ids;
+  long_hyps = c.join.auto.hyps ∙ c.loop-at.invariant.long_hyps;
+  long_footing = c.join.auto.footing ∙ c.loop-at.invariant.long_footing;
+}
 
 pub shape_of-index : goal.shape_of-index
 shape_of-index c = (c.loop-at.invariant.left c.requires.fact_form.0).on.grown.same.long_index

@@ -42,12 +42,15 @@ pub slice_bounds-step_by-end-2 : goal.slice_bounds-step_by-end-2
 slice_bounds-step_by-end-2 c = front_count PATTERNS c.requires.blank.1 c.premises-few.result (step_most c.requires.rule_form c.nth.ensures c.in-Atom.is c.atom_end-end.ensures c.rule_named.ensures c.in-At.is c.premises-few.ensures)
 
 pub step_by-answer-requires : goal.step_by-answer-requires
-step_by-answer-requires c = record { rule_form = c.requires.rule_form; r_lt_rules = (
-        step_known c.requires.rule_form c.nth.ensures c.in-Atom.is c.atom_end-end.ensures c.rule_named.ensures c.in-At.is,
-        c.requires.blank.0,
-        premises_cells c.premises-few.ensures
-            (front_count PATTERNS c.requires.blank.1 c.premises-few.result (step_most c.requires.rule_form c.nth.ensures c.in-Atom.is c.atom_end-end.ensures c.rule_named.ensures c.in-At.is c.premises-few.ensures)),
-      ) }
+step_by-answer-requires c = record {
+  rule_form = c.requires.rule_form;
+  r_lt_rules = (
+    step_known c.requires.rule_form c.nth.ensures c.in-Atom.is c.atom_end-end.ensures c.rule_named.ensures c.in-At.is,
+    c.requires.blank.0,
+    premises_cells c.premises-few.ensures
+        (front_count PATTERNS c.requires.blank.1 c.premises-few.result (step_most c.requires.rule_form c.nth.ensures c.in-Atom.is c.atom_end-end.ensures c.rule_named.ensures c.in-At.is c.premises-few.ensures)),
+  );
+}
 
 pub slice_bounds-clear-end : goal.slice_bounds-clear-end
 slice_bounds-clear-end c = back_room PATTERNS c.requires.blank.1 c.premises-few.result (step_most c.requires.rule_form c.nth.ensures c.in-Atom.is c.atom_end-end.ensures c.rule_named.ensures c.in-At.is c.premises-few.ensures)
@@ -80,14 +83,17 @@ pub shape_of-footing : goal.shape_of-footing
 shape_of-footing c = c.step_by-answer.auto.footing
 
 pub returns : goal.returns
-returns c = record { derived_as = λ g. step_answer g c.nth.ensures c.in-Atom.is c.atom_end-end.ensures c.rule_named.ensures c.in-At.is
-          c.step_by-answer.new.index c.step_by-answer.new.words
-          c.step_by-answer.new.hyps
-          c.step_by-answer.new.footing c.step_by-answer.result
-          (c.step_by-answer.ensures.derived_as g); map_unchanged = (
-        c.step_by-answer.ensures.map_unchanged.0,
-        c.step_by-answer.ensures.map_unchanged.1,
-        front_cleared PATTERNS c.requires.blank.1 c.premises-few.result
-            (step_most c.requires.rule_form c.nth.ensures c.in-Atom.is c.atom_end-end.ensures c.rule_named.ensures c.in-At.is c.premises-few.ensures)
-            c.step_by-answer.new.ids c.step_by-answer.auto.ids c.clear.new.cells c.clear.ensures,
-      ) }
+returns c = record {
+  derived_as = λ g. step_answer g c.nth.ensures c.in-Atom.is c.atom_end-end.ensures c.rule_named.ensures c.in-At.is
+      c.step_by-answer.new.index c.step_by-answer.new.words
+      c.step_by-answer.new.hyps
+      c.step_by-answer.new.footing c.step_by-answer.result
+      (c.step_by-answer.ensures.derived_as g);
+  map_unchanged = (
+    c.step_by-answer.ensures.map_unchanged.0,
+    c.step_by-answer.ensures.map_unchanged.1,
+    front_cleared PATTERNS c.requires.blank.1 c.premises-few.result
+        (step_most c.requires.rule_form c.nth.ensures c.in-Atom.is c.atom_end-end.ensures c.rule_named.ensures c.in-At.is c.premises-few.ensures)
+        c.step_by-answer.new.ids c.step_by-answer.auto.ids c.clear.new.cells c.clear.ensures,
+  );
+}

@@ -16,12 +16,12 @@ returns-in_default c = record { derived_as = λ g. by_atom g c.requires.r_lt_rul
 
 pub offset_bounds-cells-a : goal.offset_bounds-cells-a
 offset_bounds-cells-a c = omega (
-      arith,
-      (by_part c.requires.rule_form c.requires.r_lt_rules.0 c.nth.ensures c.in-List.is).low,
-      (by_part c.requires.rule_form c.requires.r_lt_rules.0 c.nth.ensures
-          c.in-List.is).high,
-      c.well_formed.1.1.1.1.1.1.1.1.1.1.1.1.1.1.1.1.1.1.0,
-    )
+  arith,
+  (by_part c.requires.rule_form c.requires.r_lt_rules.0 c.nth.ensures c.in-List.is).low,
+  (by_part c.requires.rule_form c.requires.r_lt_rules.0 c.nth.ensures
+      c.in-List.is).high,
+  c.well_formed.1.1.1.1.1.1.1.1.1.1.1.1.1.1.1.1.1.1.0,
+)
 
 pub slice_bounds-inner-count : goal.slice_bounds-inner-count
 slice_bounds-inner-count c = (by_part c.requires.rule_form c.requires.r_lt_rules.0 c.nth.ensures c.in-List.is).low
@@ -91,17 +91,20 @@ pub shape_of-footing-in-Ok : goal.shape_of-footing-in-Ok
 shape_of-footing-in-Ok c = c.insert.auto.set ∙ c.references.auto.footing
 
 pub returns-in-Ok : goal.returns-in-Ok
-returns-in-Ok c = record { derived_as = λ g. by_answer g c.requires.r_lt_rules.0 c.nth.ensures c.in-List.is c.count-many.ensures c.premises.ensures c.if-many-premises.false
-          c.references.new.index c.references.new.words
-          c.references.new.ids
-          c.references.new.hyps
-          c.references.new.footing c.references.result c.references.ensures.refs_as
-          c.in-Ok.is c.insert.new.set c.insert.ensures
-          (by_room g c.requires.r_lt_rules.0 c.nth.ensures c.in-List.is c.count-many.ensures c.premises.ensures c.if-many-premises.false
-          c.requires.r_lt_rules.2 c.references.auto.ids)
-          (c.references.auto.hyps ∙ blank_hyps c.requires.r_lt_rules.1)
-          c.step_on.new.index c.step_on.new.words
-          c.step_on.result c.step_on.ensures; map_unchanged = (c.references.ensures.map_unchanged.0, c.references.ensures.map_unchanged.1) }
+returns-in-Ok c = record {
+  derived_as = λ g. by_answer g c.requires.r_lt_rules.0 c.nth.ensures c.in-List.is c.count-many.ensures c.premises.ensures c.if-many-premises.false
+      c.references.new.index c.references.new.words
+      c.references.new.ids
+      c.references.new.hyps
+      c.references.new.footing c.references.result c.references.ensures.refs_as
+      c.in-Ok.is c.insert.new.set c.insert.ensures
+      (by_room g c.requires.r_lt_rules.0 c.nth.ensures c.in-List.is c.count-many.ensures c.premises.ensures c.if-many-premises.false
+      c.requires.r_lt_rules.2 c.references.auto.ids)
+      (c.references.auto.hyps ∙ blank_hyps c.requires.r_lt_rules.1)
+      c.step_on.new.index c.step_on.new.words
+      c.step_on.result c.step_on.ensures;
+  map_unchanged = (c.references.ensures.map_unchanged.0, c.references.ensures.map_unchanged.1);
+}
 
 pub shape_of-index-in-No : goal.shape_of-index-in-No
 shape_of-index-in-No c = c.references.auto.index
@@ -125,9 +128,12 @@ pub shape_of-footing-in-No : goal.shape_of-footing-in-No
 shape_of-footing-in-No c = c.references.auto.footing
 
 pub returns-in-No : goal.returns-in-No
-returns-in-No c = record { derived_as = λ g. by_refused g c.requires.r_lt_rules.0 c.nth.ensures c.in-List.is c.count-many.ensures c.premises.ensures c.if-many-premises.false
-          c.references.new.index c.references.new.words
-          c.references.new.ids
-          c.references.new.hyps
-          c.references.new.footing c.references.result c.references.ensures.refs_as
-          c.in-No.is; map_unchanged = (c.references.ensures.map_unchanged.0, c.references.ensures.map_unchanged.1) }
+returns-in-No c = record {
+  derived_as = λ g. by_refused g c.requires.r_lt_rules.0 c.nth.ensures c.in-List.is c.count-many.ensures c.premises.ensures c.if-many-premises.false
+      c.references.new.index c.references.new.words
+      c.references.new.ids
+      c.references.new.hyps
+      c.references.new.footing c.references.result c.references.ensures.refs_as
+      c.in-No.is;
+  map_unchanged = (c.references.ensures.map_unchanged.0, c.references.ensures.map_unchanged.1);
+}

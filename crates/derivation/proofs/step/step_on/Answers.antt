@@ -19,17 +19,20 @@ pub conclude-requires : goal.conclude-requires
 conclude-requires c = (scope_given c.requires c.place-at.ensures, refl)
 
 pub outside-v-requires : goal.outside-v-requires
-outside-v-requires c = record { recalls = (
-        scope_recalls c.requires c.place-at.ensures c.conclude.new.index
-            c.conclude.new.words c.conclude.new.used
-            c.conclude.result c.conclude.ensures c.in-Ok.is,
-        scope_under c.requires c.place-at.ensures
-            c.conclude.new.index c.conclude.new.words
-            c.conclude.new.used c.conclude.result c.conclude.ensures c.in-Ok.is,
-        scope_there c.requires c.place-at.ensures c.conclude.new.index
-            c.conclude.new.words c.conclude.new.used
-            c.conclude.result c.conclude.ensures c.in-Ok.is,
-      ); hyps_len = (c.requires.long, c.conclude.auto.used ∙ length-replicate {A = ℕ} VARIABLEWORDS 0) }
+outside-v-requires c = record {
+  recalls = (
+    scope_recalls c.requires c.place-at.ensures c.conclude.new.index
+        c.conclude.new.words c.conclude.new.used
+        c.conclude.result c.conclude.ensures c.in-Ok.is,
+    scope_under c.requires c.place-at.ensures
+        c.conclude.new.index c.conclude.new.words
+        c.conclude.new.used c.conclude.result c.conclude.ensures c.in-Ok.is,
+    scope_there c.requires c.place-at.ensures c.conclude.new.index
+        c.conclude.new.words c.conclude.new.used
+        c.conclude.result c.conclude.ensures c.in-Ok.is,
+  );
+  hyps_len = (c.requires.long, c.conclude.auto.used ∙ length-replicate {A = ℕ} VARIABLEWORDS 0);
+}
 
 pub returns-then-v-ne0 : goal.returns-then-v-ne0
 returns-then-v-ne0 c = λ g. scope_outside g c.place-at.ensures c.conclude.new.index
@@ -38,12 +41,12 @@ returns-then-v-ne0 c = λ g. scope_outside g c.place-at.ensures c.conclude.new.i
 
 pub returns-else-v-ne0 : goal.returns-else-v-ne0
 returns-else-v-ne0 c = λ g. (
-      scope_inside g c.place-at.ensures c.conclude.new.index
-          c.conclude.new.words
-          c.conclude.new.used c.conclude.result c.conclude.ensures c.in-Ok.is
-          c.outside-v.ensures c.if-v-ne0.false,
-      refl,
-    )
+  scope_inside g c.place-at.ensures c.conclude.new.index
+      c.conclude.new.words
+      c.conclude.new.used c.conclude.result c.conclude.ensures c.in-Ok.is
+      c.outside-v.ensures c.if-v-ne0.false,
+  refl,
+)
 
 pub returns-in-No : goal.returns-in-No
 returns-in-No c = λ g. scope_refused g c.place-at.ensures c.conclude.new.index

@@ -28,9 +28,9 @@ overflow_add-start c = omega (arith, (def_name c.requires c.nth.ensures c.in-Ato
 
 pub returns-then-end-start : goal.returns-then-end-start
 returns-then-end-start c = λ g. (
-      def_too_short g c.nth.ensures c.in-Atom.is c.marked.ensures (not-false _ (ap not c.if-not-marked.false)) c.atom_end-end.ensures c.if-end-start.true,
-      refl,
-    )
+  def_too_short g c.nth.ensures c.in-Atom.is c.marked.ensures (not-false _ (ap not c.if-not-marked.false)) c.atom_end-end.ensures c.if-end-start.true,
+  refl,
+)
 
 pub offset_bounds-cells-at : goal.offset_bounds-cells-at
 offset_bounds-cells-at c = omega (arith, place_high c.requires.holds 2 c.place-at.ensures, c.well_formed.1.1.1.1.1.1.1.1.1.1.1.0)
@@ -55,19 +55,19 @@ def_named-requires c = def_defs c.requires c.nth.ensures c.in-Atom.is c.marked.e
 
 pub returns-in_default-def_named : goal.returns-in_default-def_named
 returns-in_default-def_named c = λ g. (
-      def_again g c.nth.ensures c.in-Atom.is c.marked.ensures (not-false _ (ap not c.if-not-marked.false)) c.atom_end-end.ensures c.if-end-start.false
-          c.place-at.ensures c.term.new.index c.term.new.words c.term.result
-          c.term.ensures c.in-Term.is c.def_named.result c.def_named.ensures c.in_default-def_named.is,
-      refl,
-    )
+  def_again g c.nth.ensures c.in-Atom.is c.marked.ensures (not-false _ (ap not c.if-not-marked.false)) c.atom_end-end.ensures c.if-end-start.false
+      c.place-at.ensures c.term.new.index c.term.new.words c.term.result
+      c.term.ensures c.in-Term.is c.def_named.result c.def_named.ensures c.in_default-def_named.is,
+  refl,
+)
 
 pub returns-then-n-ge-DEFS : goal.returns-then-n-ge-DEFS
 returns-then-n-ge-DEFS c = λ g. (
-      def_full g c.nth.ensures c.in-Atom.is c.marked.ensures (not-false _ (ap not c.if-not-marked.false)) c.atom_end-end.ensures c.if-end-start.false
-          c.place-at.ensures c.term.new.index c.term.new.words c.term.result
-          c.term.ensures c.in-Term.is c.def_named.result c.def_named.ensures c.in-Missing.is c.if-n-ge-DEFS.true,
-      refl,
-    )
+  def_full g c.nth.ensures c.in-Atom.is c.marked.ensures (not-false _ (ap not c.if-not-marked.false)) c.atom_end-end.ensures c.if-end-start.false
+      c.place-at.ensures c.term.new.index c.term.new.words c.term.result
+      c.term.ensures c.in-Term.is c.def_named.result c.def_named.ensures c.in-Missing.is c.if-n-ge-DEFS.true,
+  refl,
+)
 
 pub put_def-requires : goal.put_def-requires
 put_def-requires c = def_fits c.requires c.nth.ensures c.in-Atom.is c.marked.ensures (not-false _ (ap not c.if-not-marked.false)) c.atom_end-end.ensures c.if-end-start.false
@@ -81,8 +81,8 @@ returns-else-n-ge-DEFS c = λ g. def_is_added g c.nth.ensures c.in-Atom.is c.mar
 
 pub returns-in-No : goal.returns-in-No
 returns-in-No c = λ g. (
-      def_term_no g c.nth.ensures c.in-Atom.is c.marked.ensures (not-false _ (ap not c.if-not-marked.false)) c.atom_end-end.ensures c.if-end-start.false
-          c.place-at.ensures c.term.new.index c.term.new.words c.term.result
-          c.term.ensures c.in-No.is,
-      refl,
-    )
+  def_term_no g c.nth.ensures c.in-Atom.is c.marked.ensures (not-false _ (ap not c.if-not-marked.false)) c.atom_end-end.ensures c.if-end-start.false
+      c.place-at.ensures c.term.new.index c.term.new.words c.term.result
+      c.term.ensures c.in-No.is,
+  refl,
+)

@@ -25,20 +25,20 @@ slice_bounds-sort_named-end c = atom_high _ _ _ (var_sort_text c.requires c.nth.
 
 pub returns-in_default-sort_named : goal.returns-in_default-sort_named
 returns-in_default-sort_named c = λ g. (
-      var_sort_missing g c.nth.ensures c.in-Atom.is c.nth-2.ensures c.in-Atom-nth.is c.atom_end-last.ensures c.sort_named.ensures
-          c.in_default-sort_named.is,
-      refl,
-    )
+  var_sort_missing g c.nth.ensures c.in-Atom.is c.nth-2.ensures c.in-Atom-nth.is c.atom_end-last.ensures c.sort_named.ensures
+      c.in_default-sort_named.is,
+  refl,
+)
 
 pub marked-requires : goal.marked-requires
 marked-requires c = (var_name_lem c.requires c.nth.ensures c.in-Atom.is).inside
 
 pub returns-then-marked : goal.returns-then-marked
 returns-then-marked c = λ g. (
-      var_is_marked g c.nth.ensures c.in-Atom.is c.nth-2.ensures c.in-Atom-nth.is c.atom_end-last.ensures c.sort_named.ensures
-          c.in-At.is c.marked.ensures c.if-marked.true,
-      refl,
-    )
+  var_is_marked g c.nth.ensures c.in-Atom.is c.nth-2.ensures c.in-Atom-nth.is c.atom_end-last.ensures c.sort_named.ensures
+      c.in-At.is c.marked.ensures c.if-marked.true,
+  refl,
+)
 
 pub atom_end-end-requires : goal.atom_end-end-requires
 atom_end-end-requires c = omega (arith, (var_name_lem c.requires c.nth.ensures c.in-Atom.is).inside)
@@ -51,18 +51,18 @@ is_unused-requires c = ((c.requires.inputs, (c.requires.S.theory.symbols, c.requ
 
 pub returns-then-not-is_unused : goal.returns-then-not-is_unused
 returns-then-not-is_unused c = λ g. (
-      var_is_used g c.nth.ensures c.in-Atom.is c.nth-2.ensures c.in-Atom-nth.is c.atom_end-last.ensures c.sort_named.ensures
-          c.in-At.is c.marked.ensures c.if-marked.false c.atom_end-end.ensures c.is_unused.ensures (not-true _ (ap not c.if-not-is_unused.true)),
-      refl,
-    )
+  var_is_used g c.nth.ensures c.in-Atom.is c.nth-2.ensures c.in-Atom-nth.is c.atom_end-last.ensures c.sort_named.ensures
+      c.in-At.is c.marked.ensures c.if-marked.false c.atom_end-end.ensures c.is_unused.ensures (not-true _ (ap not c.if-not-is_unused.true)),
+  refl,
+)
 
 pub returns-then-n-ge-VARIABLES : goal.returns-then-n-ge-VARIABLES
 returns-then-n-ge-VARIABLES c = λ g. (
-      var_no_room g c.nth.ensures c.in-Atom.is c.nth-2.ensures c.in-Atom-nth.is c.atom_end-last.ensures c.sort_named.ensures
-          c.in-At.is c.marked.ensures c.if-marked.false c.atom_end-end.ensures c.is_unused.ensures (not-false _ (ap not c.if-not-is_unused.false))
-          c.if-n-ge-VARIABLES.true,
-      refl,
-    )
+  var_no_room g c.nth.ensures c.in-Atom.is c.nth-2.ensures c.in-Atom-nth.is c.atom_end-last.ensures c.sort_named.ensures
+      c.in-At.is c.marked.ensures c.if-marked.false c.atom_end-end.ensures c.is_unused.ensures (not-false _ (ap not c.if-not-is_unused.false))
+      c.if-n-ge-VARIABLES.true,
+  refl,
+)
 
 pub put_var-requires : goal.put_var-requires
 put_var-requires c = var_fits c.requires c.nth.ensures c.in-Atom.is c.nth-2.ensures c.in-Atom-nth.is c.atom_end-last.ensures c.sort_named.ensures

@@ -19,10 +19,10 @@ judgment-requires c = plain_given c.requires c.place-at.ensures
 
 pub place_goal-requires : goal.place_goal-requires
 place_goal-requires c = (
-      place_given c.requires (omega arith) [],
-      plain_small c.requires c.place-at.ensures c.judgment.new.index
-          c.judgment.new.words c.judgment.result c.judgment.ensures c.in-Ok.is,
-    )
+  place_given c.requires (omega arith) [],
+  plain_small c.requires c.place-at.ensures c.judgment.new.index
+      c.judgment.new.words c.judgment.result c.judgment.ensures c.in-Ok.is,
+)
 
 pub returns-in-Ok-place_goal : goal.returns-in-Ok-place_goal
 returns-in-Ok-place_goal c = λ g lists. plain_added g c.place-at.ensures c.judgment.new.index c.judgment.new.words
@@ -36,8 +36,8 @@ returns-in-No-place_goal c = λ g lists. let h = plain_halts g c.place-at.ensure
 
 pub returns-in-No : goal.returns-in-No
 returns-in-No c = λ g lists. (
-      plain_stops g c.place-at.ensures c.judgment.new.index c.judgment.new.words
-          c.judgment.result c.judgment.ensures c.in-No.is,
-      refl,
-      refl,
-    )
+  plain_stops g c.place-at.ensures c.judgment.new.index c.judgment.new.words
+      c.judgment.result c.judgment.ensures c.in-No.is,
+  refl,
+  refl,
+)

@@ -11,35 +11,35 @@ goal_parts-requires c = record { reads_form = form_given c.requires.adds_goal; o
 
 pub place_goal-requires : goal.place_goal-requires
 place_goal-requires c = (
-      place_given c.requires.adds_goal (omega arith) [],
-      with_small c.requires.adds_goal c.goal_parts.new.index
-          c.goal_parts.new.words _ c.goal_parts.new.out c.goal_parts.result
-          c.goal_parts.ensures c.in-Ok.is,
-    )
+  place_given c.requires.adds_goal (omega arith) [],
+  with_small c.requires.adds_goal c.goal_parts.new.index
+      c.goal_parts.new.words _ c.goal_parts.new.out c.goal_parts.result
+      c.goal_parts.ensures c.in-Ok.is,
+)
 
 pub offset_bounds-lists-from-in-No-place_goal : goal.offset_bounds-lists-from-in-No-place_goal
 offset_bounds-lists-from-in-No-place_goal c = omega (
-      arith,
-      tail_length c.args.lists.now c.args.n.entries c.requires.lists_len.0 c.requires.adds_goal.fits c.requires.lists_len.1
-          c.goal_parts.new.out c.goal_parts.auto.out,
-      c.requires.adds_goal.fits,
-    )
+  arith,
+  tail_length c.args.lists.now c.args.n.entries c.requires.lists_len.0 c.requires.adds_goal.fits c.requires.lists_len.1
+      c.goal_parts.new.out c.goal_parts.auto.out,
+  c.requires.adds_goal.fits,
+)
 
 pub slice_bounds-clear-count : goal.slice_bounds-clear-count
 slice_bounds-clear-count c = omega (
-      arith,
-      tail_length c.args.lists.now c.args.n.entries c.requires.lists_len.0 c.requires.adds_goal.fits c.requires.lists_len.1
-          c.goal_parts.new.out c.goal_parts.auto.out,
-      c.requires.adds_goal.fits,
-    )
+  arith,
+  tail_length c.args.lists.now c.args.n.entries c.requires.lists_len.0 c.requires.adds_goal.fits c.requires.lists_len.1
+      c.goal_parts.new.out c.goal_parts.auto.out,
+  c.requires.adds_goal.fits,
+)
 
 pub slice_bounds-clear-start : goal.slice_bounds-clear-start
 slice_bounds-clear-start c = omega (
-      arith,
-      tail_length c.args.lists.now c.args.n.entries c.requires.lists_len.0 c.requires.adds_goal.fits c.requires.lists_len.1
-          c.goal_parts.new.out c.goal_parts.auto.out,
-      c.requires.adds_goal.fits,
-    )
+  arith,
+  tail_length c.args.lists.now c.args.n.entries c.requires.lists_len.0 c.requires.adds_goal.fits c.requires.lists_len.1
+      c.goal_parts.new.out c.goal_parts.auto.out,
+  c.requires.adds_goal.fits,
+)
 
 pub returns-in-Ok-place_goal : goal.returns-in-Ok-place_goal
 returns-in-Ok-place_goal c = λ g. with_added g c.goal_parts.new.index c.goal_parts.new.words _

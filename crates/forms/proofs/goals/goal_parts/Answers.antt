@@ -45,13 +45,13 @@ shape_of-index-in-No-judgment c = c.judgment.auto.index ∙ c.judgments.auto.ind
 
 pub returns-in-No-judgment : goal.returns-in-No-judgment
 returns-in-No-judgment c = λ g. (
-      last_stops g c.place-at.ensures c.judgments.new.index c.judgments.new.words
-          c.args.out.now c.judgments.new.out c.judgments.result c.judgments.ensures
-          c.in-Ok.is c.place-next.ensures c.judgment.new.index c.judgment.new.words
-          c.judgment.result c.judgment.ensures c.in-No-judgment.is,
-      zero_again c.judgments.new.out
-          c.requires.out_value c.judgments.auto.out c.clear.ensures,
-    )
+  last_stops g c.place-at.ensures c.judgments.new.index c.judgments.new.words
+      c.args.out.now c.judgments.new.out c.judgments.result c.judgments.ensures
+      c.in-Ok.is c.place-next.ensures c.judgment.new.index c.judgment.new.words
+      c.judgment.result c.judgment.ensures c.in-No-judgment.is,
+  zero_again c.judgments.new.out
+      c.requires.out_value c.judgments.auto.out c.clear.ensures,
+)
 
 pub returns-in-No : goal.returns-in-No
 returns-in-No c = λ g. hyps_stop g c.place-at.ensures c.judgments.new.index c.judgments.new.words

@@ -20,13 +20,13 @@ judgment-requires c = hyp_item (form_of (c.requires)) c.place-at.ensures
 
 pub put_hypothesis-requires : goal.put_hypothesis-requires
 put_hypothesis-requires c = (
-      (
-        c.requires.footings,
-        hyp_asks c.requires c.place-at.ensures c.judgment.new.index
-            c.judgment.new.words c.judgment.result c.judgment.ensures c.in-Ok.is,
-      ),
-      omega arith,
-    )
+  (
+    c.requires.footings,
+    hyp_asks c.requires c.place-at.ensures c.judgment.new.index
+        c.judgment.new.words c.judgment.result c.judgment.ensures c.in-Ok.is,
+  ),
+  omega arith,
+)
 
 pub returns-in-Stored : goal.returns-in-Stored
 returns-in-Stored c = λ g. hyp_added g c.place-at.ensures c.judgment.new.index c.judgment.new.words
@@ -40,7 +40,7 @@ returns-in-Full c = λ g. hyp_full g c.place-at.ensures c.judgment.new.index c.j
 
 pub returns-in-No : goal.returns-in-No
 returns-in-No c = λ g. (
-      hyp_no (form_of g) c.place-at.ensures c.judgment.new.index c.judgment.new.words
-          c.judgment.result c.judgment.ensures c.in-No.is,
-      refl,
-    )
+  hyp_no (form_of g) c.place-at.ensures c.judgment.new.index c.judgment.new.words
+      c.judgment.result c.judgment.ensures c.in-No.is,
+  refl,
+)

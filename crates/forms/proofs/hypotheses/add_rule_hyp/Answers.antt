@@ -36,37 +36,37 @@ slice_bounds-put_rule-end c = sym
 
 pub put_rule-requires : goal.put_rule-requires
 put_rule-requires c = (
-      c.requires.footings,
-      rule_asks c.requires c.behind_own-from.ensures c.rule_parts.new.index
-          c.rule_parts.new.words c.rule_parts.new.out
-          c.rule_parts.new.general c.rule_parts.result c.rule_parts.ensures
-          c.rule_parts.auto.out c.in-Ok.is,
-    )
+  c.requires.footings,
+  rule_asks c.requires c.behind_own-from.ensures c.rule_parts.new.index
+      c.rule_parts.new.words c.rule_parts.new.out
+      c.rule_parts.new.general c.rule_parts.result c.rule_parts.ensures
+      c.rule_parts.auto.out c.in-Ok.is,
+)
 
 pub offset_bounds-lists-from-in-Full : goal.offset_bounds-lists-from-in-Full
 offset_bounds-lists-from-in-Full c = omega (arith, from_high c.requires c.behind_own-from.ensures, c.well_formed.1.1.1.1.1.1.1.1.0)
 
 pub slice_bounds-clear-count : goal.slice_bounds-clear-count
 slice_bounds-clear-count c = omega (
-      arith,
-      from_high c.requires c.behind_own-from.ensures,
-      c.put_rule.auto.lists,
-      tailed_as_long c.requires c.behind_own-from.ensures
-          c.rule_parts.new.index c.rule_parts.new.words
-          c.rule_parts.new.out c.rule_parts.new.general
-          c.rule_parts.result c.rule_parts.ensures c.rule_parts.auto.out c.in-Ok.is,
-    )
+  arith,
+  from_high c.requires c.behind_own-from.ensures,
+  c.put_rule.auto.lists,
+  tailed_as_long c.requires c.behind_own-from.ensures
+      c.rule_parts.new.index c.rule_parts.new.words
+      c.rule_parts.new.out c.rule_parts.new.general
+      c.rule_parts.result c.rule_parts.ensures c.rule_parts.auto.out c.in-Ok.is,
+)
 
 pub slice_bounds-clear-start : goal.slice_bounds-clear-start
 slice_bounds-clear-start c = omega (
-      arith,
-      from_high c.requires c.behind_own-from.ensures,
-      c.put_rule.auto.lists,
-      tailed_as_long c.requires c.behind_own-from.ensures
-          c.rule_parts.new.index c.rule_parts.new.words
-          c.rule_parts.new.out c.rule_parts.new.general
-          c.rule_parts.result c.rule_parts.ensures c.rule_parts.auto.out c.in-Ok.is,
-    )
+  arith,
+  from_high c.requires c.behind_own-from.ensures,
+  c.put_rule.auto.lists,
+  tailed_as_long c.requires c.behind_own-from.ensures
+      c.rule_parts.new.index c.rule_parts.new.words
+      c.rule_parts.new.out c.rule_parts.new.general
+      c.rule_parts.result c.rule_parts.ensures c.rule_parts.auto.out c.in-Ok.is,
+)
 
 pub returns-in-Stored : goal.returns-in-Stored
 returns-in-Stored c = λ g. rule_added g c.behind_own-from.ensures c.rule_parts.new.index c.rule_parts.new.words

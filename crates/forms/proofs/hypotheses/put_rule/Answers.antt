@@ -23,21 +23,21 @@ returns-then-room-premises-2 c = λ footings e. rule_13 (records c.args.facts.no
 
 pub put_hypothesis-requires : goal.put_hypothesis-requires
 put_hypothesis-requires c = (
-      (
-        c.requires.0,
-        record {
-          facts = c.requires.1.facts;
-          footings = c.requires.1.footings;
-          lists = tailed_length c.args.lists.now
-              (c.args.n.entries + 1 + c.args.premises) c.args.general.now (omega (arith, c.requires.1.lists, c.if-own-ge-ENTRIES.false, c.if-room-premises.false, c.if-room-premises-2.false))
-              c.write.ensures ∙ c.requires.1.lists;
-          entries = c.requires.1.entries;
-          fits = c.requires.1.fits;
-        },
-      ),
-      omega
-          (arith, c.if-own-ge-ENTRIES.false, c.if-room-premises.false, c.if-room-premises-2.false),
-    )
+  (
+    c.requires.0,
+    record {
+      facts = c.requires.1.facts;
+      footings = c.requires.1.footings;
+      lists = tailed_length c.args.lists.now
+          (c.args.n.entries + 1 + c.args.premises) c.args.general.now (omega (arith, c.requires.1.lists, c.if-own-ge-ENTRIES.false, c.if-room-premises.false, c.if-room-premises-2.false))
+          c.write.ensures ∙ c.requires.1.lists;
+      entries = c.requires.1.entries;
+      fits = c.requires.1.fits;
+    },
+  ),
+  omega
+      (arith, c.if-own-ge-ENTRIES.false, c.if-room-premises.false, c.if-room-premises-2.false),
+)
 
 pub returns : goal.returns
 returns c = λ footings e. rule_put c.args.facts.now footings c.args.lists.now c.args.n c.args.judgment c.args.premises c.args.general.now

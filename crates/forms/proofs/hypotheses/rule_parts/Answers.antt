@@ -48,12 +48,12 @@ slice_bounds-vars_list-start c = place_high c.requires.reads_form.holds 4 c.plac
 
 pub vars_list-requires : goal.vars_list-requires
 vars_list-requires c = (
-      vars_item c.requires.reads_form c.place-at.ensures c.judgments.new.index c.judgments.new.words
-          c.args.out.now c.judgments.new.out c.judgments.result c.judgments.ensures c.in-Ok.is
-          c.place-next.ensures c.judgment.new.index c.judgment.new.words c.judgment.result
-          c.judgment.ensures c.in-Ok-judgment.is c.place-last.ensures,
-      c.requires.out_value.1,
-    )
+  vars_item c.requires.reads_form c.place-at.ensures c.judgments.new.index c.judgments.new.words
+      c.args.out.now c.judgments.new.out c.judgments.result c.judgments.ensures c.in-Ok.is
+      c.place-next.ensures c.judgment.new.index c.judgment.new.words c.judgment.result
+      c.judgment.ensures c.in-Ok-judgment.is c.place-last.ensures,
+  c.requires.out_value.1,
+)
 
 pub shape_of-index-in_default : goal.shape_of-index-in_default
 shape_of-index-in_default c = c.judgment.auto.index ∙ c.judgments.auto.index
@@ -66,15 +66,15 @@ shape_of-out-in_default c = c.clear.auto.cells ∙ c.judgments.auto.out
 
 pub returns-in_default : goal.returns-in_default
 returns-in_default c = λ g. (
-      vars_no g c.place-at.ensures c.judgments.new.index c.judgments.new.words
-          c.args.out.now c.judgments.new.out c.judgments.result c.judgments.ensures
-          c.in-Ok.is c.place-next.ensures c.judgment.new.index c.judgment.new.words
-          c.judgment.result c.judgment.ensures c.in-Ok-judgment.is c.place-last.ensures c.args.general.now c.vars_list.new.out
-          c.vars_list.result c.vars_list.ensures c.in_default.is,
-      zero_again
-          c.judgments.new.out c.requires.out_value.0 c.judgments.auto.out
-          c.clear.ensures,
-    )
+  vars_no g c.place-at.ensures c.judgments.new.index c.judgments.new.words
+      c.args.out.now c.judgments.new.out c.judgments.result c.judgments.ensures
+      c.in-Ok.is c.place-next.ensures c.judgment.new.index c.judgment.new.words
+      c.judgment.result c.judgment.ensures c.in-Ok-judgment.is c.place-last.ensures c.args.general.now c.vars_list.new.out
+      c.vars_list.result c.vars_list.ensures c.in_default.is,
+  zero_again
+      c.judgments.new.out c.requires.out_value.0 c.judgments.auto.out
+      c.clear.ensures,
+)
 
 pub shape_of-index-in-At : goal.shape_of-index-in-At
 shape_of-index-in-At c = c.judgment.auto.index ∙ c.judgments.auto.index
@@ -103,13 +103,13 @@ shape_of-out-in-No-judgment c = c.clear-in-No-judgment.auto.cells ∙ c.judgment
 
 pub returns-in-No-judgment : goal.returns-in-No-judgment
 returns-in-No-judgment c = λ g. (
-      stated_no g c.place-at.ensures c.judgments.new.index c.judgments.new.words
-          c.args.out.now c.judgments.new.out c.judgments.result c.judgments.ensures
-          c.in-Ok.is c.place-next.ensures c.judgment.new.index c.judgment.new.words
-          c.judgment.result c.judgment.ensures c.in-No-judgment.is,
-      zero_again c.judgments.new.out
-          c.requires.out_value.0 c.judgments.auto.out c.clear-in-No-judgment.ensures,
-    )
+  stated_no g c.place-at.ensures c.judgments.new.index c.judgments.new.words
+      c.args.out.now c.judgments.new.out c.judgments.result c.judgments.ensures
+      c.in-Ok.is c.place-next.ensures c.judgment.new.index c.judgment.new.words
+      c.judgment.result c.judgment.ensures c.in-No-judgment.is,
+  zero_again c.judgments.new.out
+      c.requires.out_value.0 c.judgments.auto.out c.clear-in-No-judgment.ensures,
+)
 
 pub returns-in-No : goal.returns-in-No
 returns-in-No c = λ g. premises_no g c.place-at.ensures c.judgments.new.index c.judgments.new.words

@@ -33,11 +33,11 @@ hyps-own-requires c = covers_fact c.requires
 
 pub offset_bounds-lists-from : goal.offset_bounds-lists-from
 offset_bounds-lists-from c = omega (
-      arith,
-      own_low c.requires c.goal_hyps-aims.ensures c.hyps-own.ensures,
-      own_high c.requires c.goal_hyps-aims.ensures c.hyps-own.ensures,
-      c.well_formed.1.1.0,
-    )
+  arith,
+  own_low c.requires c.goal_hyps-aims.ensures c.hyps-own.ensures,
+  own_high c.requires c.goal_hyps-aims.ensures c.hyps-own.ensures,
+  c.well_formed.1.1.0,
+)
 
 pub slice_bounds-all_listed-count : goal.slice_bounds-all_listed-count
 slice_bounds-all_listed-count c = own_low c.requires c.goal_hyps-aims.ensures c.hyps-own.ensures

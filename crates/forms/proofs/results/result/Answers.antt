@@ -25,11 +25,14 @@ pub is_taken-requires : goal.is_taken-requires
 is_taken-requires c = goal_asks c.requires.takes_result c.nth.ensures c.in-Atom.is c.atom_end-end.ensures c.goal_named.ensures c.in-At.is
 
 pub returns-then-is_taken : goal.returns-then-is_taken
-returns-then-is_taken c = record { fact = λ g. (
-        goal_taken g c.nth.ensures c.in-Atom.is c.atom_end-end.ensures c.goal_named.ensures c.in-At.is c.is_taken.ensures
-            c.if-is_taken.true,
-        refl,
-      ); fact_2 = (refl, refl) }
+returns-then-is_taken c = record {
+  fact = λ g. (
+    goal_taken g c.nth.ensures c.in-Atom.is c.atom_end-end.ensures c.goal_named.ensures c.in-At.is c.is_taken.ensures
+        c.if-is_taken.true,
+    refl,
+  );
+  fact_2 = (refl, refl);
+}
 
 pub place-at-requires : goal.place-at-requires
 place-at-requires c = has_items c.requires.takes_result.holds
@@ -53,42 +56,54 @@ covers-requires c = ref_covers c.requires.takes_result c.place-at.ensures
     c.reference.result c.reference.ensures.referred_as c.in-To.is
 
 pub returns-then-not-covers : goal.returns-then-not-covers
-returns-then-not-covers c = record { fact = λ g. (
-        not_covered g c.place-at.ensures
-            (goal_open g c.nth.ensures c.in-Atom.is c.atom_end-end.ensures c.goal_named.ensures c.in-At.is c.is_taken.ensures
-            c.if-is_taken.false) c.reference.new.index c.reference.new.words
-            c.reference.result c.reference.ensures.referred_as c.in-To.is c.covers.ensures (ap not c.if-not-covers.true),
-        refl,
-      ); fact_2 = c.reference.ensures.map_unchanged }
+returns-then-not-covers c = record {
+  fact = λ g. (
+    not_covered g c.place-at.ensures
+        (goal_open g c.nth.ensures c.in-Atom.is c.atom_end-end.ensures c.goal_named.ensures c.in-At.is c.is_taken.ensures
+        c.if-is_taken.false) c.reference.new.index c.reference.new.words
+        c.reference.result c.reference.ensures.referred_as c.in-To.is c.covers.ensures (ap not c.if-not-covers.true),
+    refl,
+  );
+  fact_2 = c.reference.ensures.map_unchanged;
+}
 
 pub goal_judgment-requires : goal.goal_judgment-requires
 goal_judgment-requires c = goal_asks c.requires.takes_result c.nth.ensures c.in-Atom.is c.atom_end-end.ensures c.goal_named.ensures c.in-At.is
 
 pub returns-then-t-goal_judgment : goal.returns-then-t-goal_judgment
-returns-then-t-goal_judgment c = record { fact = λ g. (
-        other_judgment_lem g c.place-at.ensures
-            (goal_open g c.nth.ensures c.in-Atom.is c.atom_end-end.ensures c.goal_named.ensures c.in-At.is c.is_taken.ensures
-            c.if-is_taken.false) c.reference.new.index c.reference.new.words
-            c.reference.result c.reference.ensures.referred_as c.in-To.is c.covers.ensures (ap not c.if-not-covers.false) c.goal_judgment.ensures
-            c.if-t-goal_judgment.true,
-        refl,
-      ); fact_2 = c.reference.ensures.map_unchanged }
+returns-then-t-goal_judgment c = record {
+  fact = λ g. (
+    other_judgment_lem g c.place-at.ensures
+        (goal_open g c.nth.ensures c.in-Atom.is c.atom_end-end.ensures c.goal_named.ensures c.in-At.is c.is_taken.ensures
+        c.if-is_taken.false) c.reference.new.index c.reference.new.words
+        c.reference.result c.reference.ensures.referred_as c.in-To.is c.covers.ensures (ap not c.if-not-covers.false) c.goal_judgment.ensures
+        c.if-t-goal_judgment.true,
+    refl,
+  );
+  fact_2 = c.reference.ensures.map_unchanged;
+}
 
 pub take_goal-requires : goal.take_goal-requires
 take_goal-requires c = goal_asks c.requires.takes_result c.nth.ensures c.in-Atom.is c.atom_end-end.ensures c.goal_named.ensures c.in-At.is
 
 pub returns-else-t-goal_judgment : goal.returns-else-t-goal_judgment
-returns-else-t-goal_judgment c = record { fact = λ g. result_comes g c.place-at.ensures
-          (goal_open g c.nth.ensures c.in-Atom.is c.atom_end-end.ensures c.goal_named.ensures c.in-At.is c.is_taken.ensures
-          c.if-is_taken.false) c.reference.new.index c.reference.new.words
-          c.reference.result c.reference.ensures.referred_as c.in-To.is c.covers.ensures (ap not c.if-not-covers.false) c.goal_judgment.ensures c.if-t-goal_judgment.false _
-          c.take_goal.ensures; fact_2 = c.reference.ensures.map_unchanged }
+returns-else-t-goal_judgment c = record {
+  fact = λ g. result_comes g c.place-at.ensures
+      (goal_open g c.nth.ensures c.in-Atom.is c.atom_end-end.ensures c.goal_named.ensures c.in-At.is c.is_taken.ensures
+      c.if-is_taken.false) c.reference.new.index c.reference.new.words
+      c.reference.result c.reference.ensures.referred_as c.in-To.is c.covers.ensures (ap not c.if-not-covers.false) c.goal_judgment.ensures c.if-t-goal_judgment.false _
+      c.take_goal.ensures;
+  fact_2 = c.reference.ensures.map_unchanged;
+}
 
 pub returns-in-No : goal.returns-in-No
-returns-in-No c = record { fact = λ g. (
-        ref_stops g c.place-at.ensures
-            (goal_open g c.nth.ensures c.in-Atom.is c.atom_end-end.ensures c.goal_named.ensures c.in-At.is c.is_taken.ensures
-            c.if-is_taken.false) c.reference.new.index c.reference.new.words
-            c.reference.result c.reference.ensures.referred_as c.in-No.is,
-        refl,
-      ); fact_2 = c.reference.ensures.map_unchanged }
+returns-in-No c = record {
+  fact = λ g. (
+    ref_stops g c.place-at.ensures
+        (goal_open g c.nth.ensures c.in-Atom.is c.atom_end-end.ensures c.goal_named.ensures c.in-At.is c.is_taken.ensures
+        c.if-is_taken.false) c.reference.new.index c.reference.new.words
+        c.reference.result c.reference.ensures.referred_as c.in-No.is,
+    refl,
+  );
+  fact_2 = c.reference.ensures.map_unchanged;
+}

@@ -13,11 +13,11 @@ loop-k-init c = supposing_start _ c.requires.motived c.requires.below c.next_of-
 
 pub overflow_add-end : goal.overflow_add-end
 overflow_add-end c = omega (
-      arith,
-      supposing_room _ c.requires.motived c.requires.below c.loop-k.invariant c.loop-k-test.true,
-      c.loop-k.invariant.long,
-      c.well_formed.1.1.1.1.1.1.1.1.1.1.1.0.0,
-    )
+  arith,
+  supposing_room _ c.requires.motived c.requires.below c.loop-k.invariant c.loop-k-test.true,
+  c.loop-k.invariant.long,
+  c.well_formed.1.1.1.1.1.1.1.1.1.1.1.0.0,
+)
 
 pub offset_bounds-own-k : goal.offset_bounds-own-k
 offset_bounds-own-k c = omega (arith, c.loop-k-test.true, c.well_formed.1.1.1.0.0)
@@ -30,11 +30,11 @@ overflow_cast-v c = omega (arith, c.type_inv.own c.loop-k.k)
 
 pub offset_bounds-ids-at : goal.offset_bounds-ids-at
 offset_bounds-ids-at c = omega (
-      arith,
-      supposing_room _ c.requires.motived c.requires.below c.loop-k.invariant c.loop-k-test.true,
-      c.loop-k.invariant.long,
-      c.well_formed.1.1.1.1.1.1.1.1.1.1.1.0.0,
-    )
+  arith,
+  supposing_room _ c.requires.motived c.requires.below c.loop-k.invariant c.loop-k-test.true,
+  c.loop-k.invariant.long,
+  c.well_formed.1.1.1.1.1.1.1.1.1.1.1.0.0,
+)
 
 pub slice_bounds-hypothesis_at-count : goal.slice_bounds-hypothesis_at-count
 slice_bounds-hypothesis_at-count c = omega arith
@@ -50,42 +50,42 @@ hypothesis_at-requires c = record { motived = (supposing_given _ c.requires.moti
 
 pub overflow_cast-ids : goal.overflow_cast-ids
 overflow_cast-ids c = omega (
-      arith,
-      supposing_small _ c.requires.motived c.requires.below c.loop-k.invariant c.loop-k-test.true c.hypothesis_at.new.index c.hypothesis_at.new.words
-          c.hypothesis_at.new.out c.hypothesis_at.result c.hypothesis_at.ensures.by_index c.in-Ok.is
-          c.hypothesis_at.auto.out,
-    )
+  arith,
+  supposing_small _ c.requires.motived c.requires.below c.loop-k.invariant c.loop-k-test.true c.hypothesis_at.new.index c.hypothesis_at.new.words
+      c.hypothesis_at.new.out c.hypothesis_at.result c.hypothesis_at.ensures.by_index c.in-Ok.is
+      c.hypothesis_at.auto.out,
+)
 
 pub offset_bounds-ids-end : goal.offset_bounds-ids-end
 offset_bounds-ids-end c = omega (
-      arith,
-      supposing_room _ c.requires.motived c.requires.below c.loop-k.invariant c.loop-k-test.true,
-      lent_as_long c.loop-k.ids
-          c.hypothesis_at.new.out c.loop-k.at (length c.args.premises.now)
-          c.hypothesis_at.auto.out,
-      c.loop-k.invariant.long,
-      c.well_formed.1.1.1.1.1.1.1.1.1.1.1.0.1,
-    )
+  arith,
+  supposing_room _ c.requires.motived c.requires.below c.loop-k.invariant c.loop-k-test.true,
+  lent_as_long c.loop-k.ids
+      c.hypothesis_at.new.out c.loop-k.at (length c.args.premises.now)
+      c.hypothesis_at.auto.out,
+  c.loop-k.invariant.long,
+  c.well_formed.1.1.1.1.1.1.1.1.1.1.1.0.1,
+)
 
 pub bounds-ids-end : goal.bounds-ids-end
 bounds-ids-end c = omega (
-      arith,
-      supposing_room _ c.requires.motived c.requires.below c.loop-k.invariant c.loop-k-test.true,
-      lent_as_long c.loop-k.ids
-          c.hypothesis_at.new.out c.loop-k.at (length c.args.premises.now)
-          c.hypothesis_at.auto.out,
-    )
+  arith,
+  supposing_room _ c.requires.motived c.requires.below c.loop-k.invariant c.loop-k-test.true,
+  lent_as_long c.loop-k.ids
+      c.hypothesis_at.new.out c.loop-k.at (length c.args.premises.now)
+      c.hypothesis_at.auto.out,
+)
 
 pub overflow_add-many : goal.overflow_add-many
 overflow_add-many c = omega (arith, c.loop-k.invariant.few, c.loop-k-test.true, c.well_formed.1.1.1.0.0)
 
 pub overflow_add-at : goal.overflow_add-at
 overflow_add-at c = omega (
-      arith,
-      supposing_room _ c.requires.motived c.requires.below c.loop-k.invariant c.loop-k-test.true,
-      c.loop-k.invariant.long,
-      c.well_formed.1.1.1.1.1.1.1.1.1.1.1.0.0,
-    )
+  arith,
+  supposing_room _ c.requires.motived c.requires.below c.loop-k.invariant c.loop-k-test.true,
+  c.loop-k.invariant.long,
+  c.well_formed.1.1.1.1.1.1.1.1.1.1.1.0.0,
+)
 
 pub shape_of-index-in-No : goal.shape_of-index-in-No
 shape_of-index-in-No c = c.hypothesis_at.auto.index ∙ c.loop-k.invariant.on.grown.same.long_index
@@ -104,8 +104,11 @@ shape_of-ids-in-No c = lent_as_long c.loop-k.ids c.hypothesis_at.new.out c.loop-
     c.hypothesis_at.auto.out ∙ c.loop-k.invariant.long
 
 pub returns-in-No : goal.returns-in-No
-returns-in-No c = record { hyps_made_as = supposing_stopped _ c.requires.motived c.requires.below c.loop-k.invariant c.loop-k-test.true c.hypothesis_at.new.index c.hypothesis_at.new.words
-          c.hypothesis_at.new.out c.hypothesis_at.result c.hypothesis_at.ensures.by_index c.in-No.is; map_unchanged = (c.hypothesis_at.ensures.map_unchanged.0 ∙ c.loop-k.invariant.map_same, c.hypothesis_at.ensures.map_unchanged.1 ∙ c.loop-k.invariant.memo_same) }
+returns-in-No c = record {
+  hyps_made_as = supposing_stopped _ c.requires.motived c.requires.below c.loop-k.invariant c.loop-k-test.true c.hypothesis_at.new.index c.hypothesis_at.new.words
+      c.hypothesis_at.new.out c.hypothesis_at.result c.hypothesis_at.ensures.by_index c.in-No.is;
+  map_unchanged = (c.hypothesis_at.ensures.map_unchanged.0 ∙ c.loop-k.invariant.map_same, c.hypothesis_at.ensures.map_unchanged.1 ∙ c.loop-k.invariant.memo_same);
+}
 
 pub overflow_add-k : goal.overflow_add-k
 overflow_add-k c = omega (arith, c.loop-k-test.true, c.well_formed.1.1.1.0.0)

@@ -7,17 +7,17 @@ use Rattle.induction.proofs.cases.hypothesis_at.Goals as goal
 
 pub overflow_add-map : goal.overflow_add-map
 overflow_add-map c = omega (
-      arith,
-      supposed_small c.args.out.now c.requires.motived c.requires.scratch c.keep_var.new.index c.keep_var.new.words c.keep_var.result
-          c.keep_var.ensures c.in-Term.is,
-    )
+  arith,
+  supposed_small c.args.out.now c.requires.motived c.requires.scratch c.keep_var.new.index c.keep_var.new.words c.keep_var.result
+      c.keep_var.ensures c.in-Term.is,
+)
 
 pub overflow_cast-map : goal.overflow_cast-map
 overflow_cast-map c = omega (
-      arith,
-      supposed_small c.args.out.now c.requires.motived c.requires.scratch c.keep_var.new.index c.keep_var.new.words c.keep_var.result
-          c.keep_var.ensures c.in-Term.is,
-    )
+  arith,
+  supposed_small c.args.out.now c.requires.motived c.requires.scratch c.keep_var.new.index c.keep_var.new.words c.keep_var.result
+      c.keep_var.ensures c.in-Term.is,
+)
 
 pub bounds-map-x : goal.bounds-map-x
 bounds-map-x c = cell_there _ c.requires.scratch.0.map_zero c.requires.motived.0.small
@@ -33,10 +33,16 @@ pub bounds-map-x-in-Term : goal.bounds-map-x-in-Term
 bounds-map-x-in-Term c = cell_after _ _ c.requires.scratch.0.map_zero c.requires.motived.0.small
 
 pub returns-in-Term : goal.returns-in-Term
-returns-in-Term c = record { by_index = supposed_moved c.args.out.now c.requires.motived c.requires.scratch c.keep_var.new.index c.keep_var.new.words c.keep_var.result c.keep_var.ensures
-          c.in-Term.is c.premises_first-r.new.index c.premises_first-r.new.words c.premises_first-r.new.out
-          c.premises_first-r.result c.premises_first-r.ensures.moved_as; map_unchanged = (cell_back _ _ _ c.requires.scratch.0.map_zero, c.premises_first-r.ensures.memo_unchanged) }
+returns-in-Term c = record {
+  by_index = supposed_moved c.args.out.now c.requires.motived c.requires.scratch c.keep_var.new.index c.keep_var.new.words c.keep_var.result c.keep_var.ensures
+      c.in-Term.is c.premises_first-r.new.index c.premises_first-r.new.words c.premises_first-r.new.out
+      c.premises_first-r.result c.premises_first-r.ensures.moved_as;
+  map_unchanged = (cell_back _ _ _ c.requires.scratch.0.map_zero, c.premises_first-r.ensures.memo_unchanged);
+}
 
 pub returns-in-Full : goal.returns-in-Full
-returns-in-Full c = record { by_index = supposed_full c.args.out.now c.requires.motived c.requires.scratch c.keep_var.new.index c.keep_var.new.words c.keep_var.result c.keep_var.ensures
-          c.in-Full.is; map_unchanged = (refl, refl) }
+returns-in-Full c = record {
+  by_index = supposed_full c.args.out.now c.requires.motived c.requires.scratch c.keep_var.new.index c.keep_var.new.words c.keep_var.result c.keep_var.ensures
+      c.in-Full.is;
+  map_unchanged = (refl, refl);
+}

@@ -11,14 +11,20 @@ substitute_all-requires c = first_movable c.requires c.substitute.new.index c.su
     c.substitute.ensures.memo_unchanged
 
 pub returns-in-Ok : goal.returns-in-Ok
-returns-in-Ok c = record { moved_as = first_moved c.requires c.substitute.new.index c.substitute.new.words c.substitute.result c.substitute.ensures.after c.in-Term.is
-          c.substitute_all.new.index c.substitute_all.new.words c.substitute_all.new.out c.substitute_all.result
-          c.substitute_all.ensures.moved_all_as c.in-Ok.is; memo_unchanged = c.substitute_all.ensures.memo_unchanged ∙ c.substitute.ensures.memo_unchanged }
+returns-in-Ok c = record {
+  moved_as = first_moved c.requires c.substitute.new.index c.substitute.new.words c.substitute.result c.substitute.ensures.after c.in-Term.is
+      c.substitute_all.new.index c.substitute_all.new.words c.substitute_all.new.out c.substitute_all.result
+      c.substitute_all.ensures.moved_all_as c.in-Ok.is;
+  memo_unchanged = c.substitute_all.ensures.memo_unchanged ∙ c.substitute.ensures.memo_unchanged;
+}
 
 pub returns-in-No : goal.returns-in-No
-returns-in-No c = record { moved_as = first_stopped c.requires c.substitute.new.index c.substitute.new.words c.substitute.result c.substitute.ensures.after c.in-Term.is
-          c.substitute_all.new.index c.substitute_all.new.words c.substitute_all.new.out c.substitute_all.result
-          c.substitute_all.ensures.moved_all_as c.in-No.is; memo_unchanged = c.substitute_all.ensures.memo_unchanged ∙ c.substitute.ensures.memo_unchanged }
+returns-in-No c = record {
+  moved_as = first_stopped c.requires c.substitute.new.index c.substitute.new.words c.substitute.result c.substitute.ensures.after c.in-Term.is
+      c.substitute_all.new.index c.substitute_all.new.words c.substitute_all.new.out c.substitute_all.result
+      c.substitute_all.ensures.moved_all_as c.in-No.is;
+  memo_unchanged = c.substitute_all.ensures.memo_unchanged ∙ c.substitute.ensures.memo_unchanged;
+}
 
 pub returns-in-Full : goal.returns-in-Full
 returns-in-Full c = record { moved_as = first_full c.requires c.substitute.new.index c.substitute.new.words c.substitute.result c.substitute.ensures.after c.in-Full.is; memo_unchanged = c.substitute.ensures.memo_unchanged }

@@ -28,26 +28,26 @@ overflow_add-k c = omega (arith, c.loop-k-test.true, c.well_formed.1.1.1.1.0.0)
 
 pub overflow_cast-node-in-Term : goal.overflow_cast-node-in-Term
 overflow_cast-node-in-Term c = omega (
-      arith,
-      keeping_small c.requires c.loop-k.invariant c.loop-k-test.true c.keep_var.new.index c.keep_var.new.words c.keep_var.result
-          c.keep_var.ensures c.in-Term.is,
-    )
+  arith,
+  keeping_small c.requires c.loop-k.invariant c.loop-k-test.true c.keep_var.new.index c.keep_var.new.words c.keep_var.result
+      c.keep_var.ensures c.in-Term.is,
+)
 
 pub offset_bounds-node-k : goal.offset_bounds-node-k
 offset_bounds-node-k c = omega (
-      arith,
-      keeping_place c.requires c.loop-k.invariant c.loop-k-test.true c.keep_var.new.index c.keep_var.new.words c.keep_var.result
-          c.keep_var.ensures c.in-Term.is,
-      c.loop-k.invariant.long,
-    )
+  arith,
+  keeping_place c.requires c.loop-k.invariant c.loop-k-test.true c.keep_var.new.index c.keep_var.new.words c.keep_var.result
+      c.keep_var.ensures c.in-Term.is,
+  c.loop-k.invariant.long,
+)
 
 pub bounds-node-k : goal.bounds-node-k
 bounds-node-k c = omega (
-      arith,
-      keeping_place c.requires c.loop-k.invariant c.loop-k-test.true c.keep_var.new.index c.keep_var.new.words c.keep_var.result
-          c.keep_var.ensures c.in-Term.is,
-      c.loop-k.invariant.long,
-    )
+  arith,
+  keeping_place c.requires c.loop-k.invariant c.loop-k-test.true c.keep_var.new.index c.keep_var.new.words c.keep_var.result
+      c.keep_var.ensures c.in-Term.is,
+  c.loop-k.invariant.long,
+)
 
 pub loop-k-smaller : goal.loop-k-smaller
 loop-k-smaller c = omega (arith, c.loop-k-test.true)

@@ -22,10 +22,10 @@ substitute-requires c = record { replaceable = moving_replaceable c.requires c.l
 
 pub overflow_cast-out : goal.overflow_cast-out
 overflow_cast-out c = omega (
-      arith,
-      moving_small c.requires c.loop-k.invariant c.loop-k-test.true c.substitute.new.index c.substitute.new.words c.substitute.result
-          c.substitute.ensures.after c.in-Term.is,
-    )
+  arith,
+  moving_small c.requires c.loop-k.invariant c.loop-k-test.true c.substitute.new.index c.substitute.new.words c.substitute.result
+      c.substitute.ensures.after c.in-Term.is,
+)
 
 pub offset_bounds-out-k : goal.offset_bounds-out-k
 offset_bounds-out-k c = omega (arith, c.loop-k-test.true, c.well_formed.1.1.1.1.1.0.0, c.loop-k.invariant.long)
@@ -46,8 +46,11 @@ pub shape_of-out-in-Full : goal.shape_of-out-in-Full
 shape_of-out-in-Full c = c.loop-k.invariant.long ∙ sym c.requires.long
 
 pub returns-in-Full : goal.returns-in-Full
-returns-in-Full c = record { moved_all_as = moving_full c.requires c.loop-k.invariant c.loop-k-test.true c.substitute.new.index c.substitute.new.words c.substitute.result
-          c.substitute.ensures.after c.in-Full.is; memo_unchanged = c.substitute.ensures.memo_unchanged ∙ c.loop-k.invariant.blank }
+returns-in-Full c = record {
+  moved_all_as = moving_full c.requires c.loop-k.invariant c.loop-k-test.true c.substitute.new.index c.substitute.new.words c.substitute.result
+      c.substitute.ensures.after c.in-Full.is;
+  memo_unchanged = c.substitute.ensures.memo_unchanged ∙ c.loop-k.invariant.blank;
+}
 
 pub overflow_add-k : goal.overflow_add-k
 overflow_add-k c = omega (arith, c.loop-k-test.true, c.well_formed.1.1.1.1.1.0.0)

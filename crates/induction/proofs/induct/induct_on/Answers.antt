@@ -24,22 +24,25 @@ pub shape_of-words-in_default : goal.shape_of-words-in_default
 shape_of-words-in_default c = c.judgment.auto.words
 
 pub returns-in_default : goal.returns-in_default
-returns-in_default c = record { derived_as = λ g. form_atom_lem g c.judgment.new.index c.judgment.new.words c.judgment.result
-          c.judgment.ensures c.in-Ok.is c.after-next.ensures c.item_at.ensures c.in_default.is; map_unchanged = (refl, refl, refl) }
+returns-in_default c = record {
+  derived_as = λ g. form_atom_lem g c.judgment.new.index c.judgment.new.words c.judgment.result
+      c.judgment.ensures c.in-Ok.is c.after-next.ensures c.item_at.ensures c.in_default.is;
+  map_unchanged = (refl, refl, refl);
+}
 
 pub judgments_of-width-requires : goal.judgments_of-width-requires
 judgments_of-width-requires c = form_facts c.requires.induct_form (replicate FACTS 0) (length-replicate {A = ℕ} FACTS 0)
 
 pub offset_bounds-cells-a : goal.offset_bounds-cells-a
 offset_bounds-cells-a c = omega (
-      arith,
-      (form_list c.requires.induct_form c.judgment.new.index c.judgment.new.words
-          c.judgment.result c.judgment.ensures c.in-Ok.is c.after-next.ensures c.item_at.ensures c.in-List.is).low,
-      (form_list c.requires.induct_form
-          c.judgment.new.index c.judgment.new.words c.judgment.result
-          c.judgment.ensures c.in-Ok.is c.after-next.ensures c.item_at.ensures c.in-List.is).high,
-      c.well_formed.1.1.1.1.1.1.1.1.1.1.1.1.1.0.1,
-    )
+  arith,
+  (form_list c.requires.induct_form c.judgment.new.index c.judgment.new.words
+      c.judgment.result c.judgment.ensures c.in-Ok.is c.after-next.ensures c.item_at.ensures c.in-List.is).low,
+  (form_list c.requires.induct_form
+      c.judgment.new.index c.judgment.new.words c.judgment.result
+      c.judgment.ensures c.in-Ok.is c.after-next.ensures c.item_at.ensures c.in-List.is).high,
+  c.well_formed.1.1.1.1.1.1.1.1.1.1.1.1.1.0.1,
+)
 
 pub slice_bounds-on_motive-count : goal.slice_bounds-on_motive-count
 slice_bounds-on_motive-count c = (form_list c.requires.induct_form c.judgment.new.index c.judgment.new.words c.judgment.result
@@ -60,9 +63,12 @@ pub slice_bounds-on_motive-end-in-Ok : goal.slice_bounds-on_motive-end-in-Ok
 slice_bounds-on_motive-end-in-Ok c = sym (length-take-le _ _ (omega (arith, c.judgments_of-width.ensures.0, (c.judgments_of-width.auto.out ∙ length-replicate {A = ℕ} FACTS 0))))
 
 pub on_motive-requires : goal.on_motive-requires
-on_motive-requires c = record { motive_items = form_motive c.requires.induct_form c.judgment.new.index c.judgment.new.words c.judgment.result
-          c.judgment.ensures c.in-Ok.is c.after-next.ensures c.item_at.ensures c.in-List.is c.judgments_of-width.new.out
-          c.judgments_of-width.result (c.judgments_of-width.auto.out ∙ length-replicate {A = ℕ} FACTS 0) c.judgments_of-width.ensures; scratch = c.requires.scratch }
+on_motive-requires c = record {
+  motive_items = form_motive c.requires.induct_form c.judgment.new.index c.judgment.new.words c.judgment.result
+      c.judgment.ensures c.in-Ok.is c.after-next.ensures c.item_at.ensures c.in-List.is c.judgments_of-width.new.out
+      c.judgments_of-width.result (c.judgments_of-width.auto.out ∙ length-replicate {A = ℕ} FACTS 0) c.judgments_of-width.ensures;
+  scratch = c.requires.scratch;
+}
 
 pub shape_of-index-in-Ok-on_motive : goal.shape_of-index-in-Ok-on_motive
 shape_of-index-in-Ok-on_motive c = c.on_motive.auto.index ∙ c.judgment.auto.index
@@ -80,15 +86,18 @@ pub shape_of-ids-in-Ok-on_motive : goal.shape_of-ids-in-Ok-on_motive
 shape_of-ids-in-Ok-on_motive c = c.on_motive.auto.ids
 
 pub returns-in-Ok-on_motive : goal.returns-in-Ok-on_motive
-returns-in-Ok-on_motive c = record { derived_as = λ g. form_derived g c.judgment.new.index c.judgment.new.words c.judgment.result
-          c.judgment.ensures c.in-Ok.is c.after-next.ensures c.item_at.ensures c.in-List.is c.judgments_of-width.new.out
-          c.judgments_of-width.result (c.judgments_of-width.auto.out ∙ length-replicate {A = ℕ} FACTS 0) c.judgments_of-width.ensures
-          c.on_motive.new.index c.on_motive.new.words c.on_motive.result
-          (c.on_motive.ensures.passed_as
-          (form_motive g c.judgment.new.index c.judgment.new.words c.judgment.result
-          c.judgment.ensures c.in-Ok.is c.after-next.ensures c.item_at.ensures c.in-List.is c.judgments_of-width.new.out
-          c.judgments_of-width.result (c.judgments_of-width.auto.out ∙ length-replicate {A = ℕ} FACTS 0) c.judgments_of-width.ensures))
-          c.in-Ok-on_motive.is; map_unchanged = c.on_motive.ensures.map_unchanged }
+returns-in-Ok-on_motive c = record {
+  derived_as = λ g. form_derived g c.judgment.new.index c.judgment.new.words c.judgment.result
+      c.judgment.ensures c.in-Ok.is c.after-next.ensures c.item_at.ensures c.in-List.is c.judgments_of-width.new.out
+      c.judgments_of-width.result (c.judgments_of-width.auto.out ∙ length-replicate {A = ℕ} FACTS 0) c.judgments_of-width.ensures
+      c.on_motive.new.index c.on_motive.new.words c.on_motive.result
+      (c.on_motive.ensures.passed_as
+      (form_motive g c.judgment.new.index c.judgment.new.words c.judgment.result
+      c.judgment.ensures c.in-Ok.is c.after-next.ensures c.item_at.ensures c.in-List.is c.judgments_of-width.new.out
+      c.judgments_of-width.result (c.judgments_of-width.auto.out ∙ length-replicate {A = ℕ} FACTS 0) c.judgments_of-width.ensures))
+      c.in-Ok-on_motive.is;
+  map_unchanged = c.on_motive.ensures.map_unchanged;
+}
 
 pub shape_of-index-in-No-on_motive : goal.shape_of-index-in-No-on_motive
 shape_of-index-in-No-on_motive c = c.on_motive.auto.index ∙ c.judgment.auto.index
@@ -106,15 +115,18 @@ pub shape_of-ids-in-No-on_motive : goal.shape_of-ids-in-No-on_motive
 shape_of-ids-in-No-on_motive c = c.on_motive.auto.ids
 
 pub returns-in-No-on_motive : goal.returns-in-No-on_motive
-returns-in-No-on_motive c = record { derived_as = λ g. form_refused g c.judgment.new.index c.judgment.new.words c.judgment.result
-          c.judgment.ensures c.in-Ok.is c.after-next.ensures c.item_at.ensures c.in-List.is c.judgments_of-width.new.out
-          c.judgments_of-width.result (c.judgments_of-width.auto.out ∙ length-replicate {A = ℕ} FACTS 0) c.judgments_of-width.ensures
-          c.on_motive.new.index c.on_motive.new.words c.on_motive.result
-          (c.on_motive.ensures.passed_as
-          (form_motive g c.judgment.new.index c.judgment.new.words c.judgment.result
-          c.judgment.ensures c.in-Ok.is c.after-next.ensures c.item_at.ensures c.in-List.is c.judgments_of-width.new.out
-          c.judgments_of-width.result (c.judgments_of-width.auto.out ∙ length-replicate {A = ℕ} FACTS 0) c.judgments_of-width.ensures))
-          c.in-No-on_motive.is; map_unchanged = c.on_motive.ensures.map_unchanged }
+returns-in-No-on_motive c = record {
+  derived_as = λ g. form_refused g c.judgment.new.index c.judgment.new.words c.judgment.result
+      c.judgment.ensures c.in-Ok.is c.after-next.ensures c.item_at.ensures c.in-List.is c.judgments_of-width.new.out
+      c.judgments_of-width.result (c.judgments_of-width.auto.out ∙ length-replicate {A = ℕ} FACTS 0) c.judgments_of-width.ensures
+      c.on_motive.new.index c.on_motive.new.words c.on_motive.result
+      (c.on_motive.ensures.passed_as
+      (form_motive g c.judgment.new.index c.judgment.new.words c.judgment.result
+      c.judgment.ensures c.in-Ok.is c.after-next.ensures c.item_at.ensures c.in-List.is c.judgments_of-width.new.out
+      c.judgments_of-width.result (c.judgments_of-width.auto.out ∙ length-replicate {A = ℕ} FACTS 0) c.judgments_of-width.ensures))
+      c.in-No-on_motive.is;
+  map_unchanged = c.on_motive.ensures.map_unchanged;
+}
 
 pub shape_of-index-in-No : goal.shape_of-index-in-No
 shape_of-index-in-No c = c.judgment.auto.index
@@ -123,5 +135,8 @@ pub shape_of-words-in-No : goal.shape_of-words-in-No
 shape_of-words-in-No c = c.judgment.auto.words
 
 pub returns-in-No : goal.returns-in-No
-returns-in-No c = record { derived_as = λ g. form_stopped g c.judgment.new.index c.judgment.new.words c.judgment.result
-          c.judgment.ensures c.in-No.is; map_unchanged = (refl, refl, refl) }
+returns-in-No c = record {
+  derived_as = λ g. form_stopped g c.judgment.new.index c.judgment.new.words c.judgment.result
+      c.judgment.ensures c.in-No.is;
+  map_unchanged = (refl, refl, refl);
+}

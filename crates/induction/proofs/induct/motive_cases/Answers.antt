@@ -31,16 +31,22 @@ pub has-requires : goal.has-requires
 has-requires c = omega (arith, c.requires.motive_items.motived.small, (c.motive_vars.auto.set ∙ length-replicate {A = ℕ} VARIABLEWORDS 0))
 
 pub returns-then-not-has : goal.returns-then-not-has
-returns-then-not-has c = record { passed_as = λ g. motive_absent g c.var_sort-sort.ensures c.count.ensures c.constructors.ensures c.if-count-constructors.false c.motive_vars.new.set
-          c.motive_vars.ensures c.has.result c.has.ensures (not-true _ (ap not c.if-not-has.true)); map_unchanged = (refl, refl) }
+returns-then-not-has c = record {
+  passed_as = λ g. motive_absent g c.var_sort-sort.ensures c.count.ensures c.constructors.ensures c.if-count-constructors.false c.motive_vars.new.set
+      c.motive_vars.ensures c.has.result c.has.ensures (not-true _ (ap not c.if-not-has.true));
+  map_unchanged = (refl, refl);
+}
 
 pub slice_bounds-induct_cases-end : goal.slice_bounds-induct_cases-end
 slice_bounds-induct_cases-end c = sym (c.motive_vars.auto.set ∙ length-replicate {A = ℕ} VARIABLEWORDS 0)
 
 pub induct_cases-requires : goal.induct_cases-requires
-induct_cases-requires c = record { case_items = motive_cases c.requires.motive_items c.var_sort-sort.ensures c.count.ensures c.constructors.ensures c.if-count-constructors.false c.motive_vars.new.set
-          c.motive_vars.ensures c.has.result c.has.ensures
-          (c.motive_vars.auto.set ∙ length-replicate {A = ℕ} VARIABLEWORDS 0); scratch = c.requires.scratch }
+induct_cases-requires c = record {
+  case_items = motive_cases c.requires.motive_items c.var_sort-sort.ensures c.count.ensures c.constructors.ensures c.if-count-constructors.false c.motive_vars.new.set
+      c.motive_vars.ensures c.has.result c.has.ensures
+      (c.motive_vars.auto.set ∙ length-replicate {A = ℕ} VARIABLEWORDS 0);
+  scratch = c.requires.scratch;
+}
 
 pub shape_of-index : goal.shape_of-index
 shape_of-index c = c.induct_cases.auto.index
@@ -58,10 +64,13 @@ pub shape_of-ids : goal.shape_of-ids
 shape_of-ids c = c.induct_cases.auto.ids
 
 pub returns : goal.returns
-returns c = record { passed_as = λ g. motive_passed g c.var_sort-sort.ensures c.count.ensures c.constructors.ensures c.if-count-constructors.false c.motive_vars.new.set
-          c.motive_vars.ensures c.has.result c.has.ensures (not-false _ (ap not c.if-not-has.false)) c.induct_cases.new.index
-          c.induct_cases.new.words c.induct_cases.result
-          (c.induct_cases.ensures.passed_as
-          (motive_cases g c.var_sort-sort.ensures c.count.ensures c.constructors.ensures c.if-count-constructors.false
-          c.motive_vars.new.set c.motive_vars.ensures c.has.result c.has.ensures
-          (c.motive_vars.auto.set ∙ length-replicate {A = ℕ} VARIABLEWORDS 0))); map_unchanged = c.induct_cases.ensures.map_unchanged }
+returns c = record {
+  passed_as = λ g. motive_passed g c.var_sort-sort.ensures c.count.ensures c.constructors.ensures c.if-count-constructors.false c.motive_vars.new.set
+      c.motive_vars.ensures c.has.result c.has.ensures (not-false _ (ap not c.if-not-has.false)) c.induct_cases.new.index
+      c.induct_cases.new.words c.induct_cases.result
+      (c.induct_cases.ensures.passed_as
+      (motive_cases g c.var_sort-sort.ensures c.count.ensures c.constructors.ensures c.if-count-constructors.false
+      c.motive_vars.new.set c.motive_vars.ensures c.has.result c.has.ensures
+      (c.motive_vars.auto.set ∙ length-replicate {A = ℕ} VARIABLEWORDS 0)));
+  map_unchanged = c.induct_cases.ensures.map_unchanged;
+}

@@ -49,10 +49,13 @@ shape_of-ids c = ap length
     c.motive_cases-answer.auto.ids c.clear.new.cells c.clear.ensures)
 
 pub returns : goal.returns
-returns c = record { passed_as = c.motive_cases-answer.ensures.passed_as; map_unchanged = (
-        c.motive_cases-answer.ensures.map_unchanged.0,
-        c.motive_cases-answer.ensures.map_unchanged.1,
-        front_cleared IDS c.requires.scratch.1 (ARGUMENTS * (length c.args.premises.now + 1)) (omega (arith, c.requires.motive_items.motived.few))
-            c.motive_cases-answer.new.ids
-            c.motive_cases-answer.auto.ids c.clear.new.cells c.clear.ensures,
-      ) }
+returns c = record {
+  passed_as = c.motive_cases-answer.ensures.passed_as;
+  map_unchanged = (
+    c.motive_cases-answer.ensures.map_unchanged.0,
+    c.motive_cases-answer.ensures.map_unchanged.1,
+    front_cleared IDS c.requires.scratch.1 (ARGUMENTS * (length c.args.premises.now + 1)) (omega (arith, c.requires.motive_items.motived.few))
+        c.motive_cases-answer.new.ids
+        c.motive_cases-answer.auto.ids c.clear.new.cells c.clear.ensures,
+  );
+}

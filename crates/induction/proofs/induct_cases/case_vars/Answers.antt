@@ -50,8 +50,11 @@ pub shape_of-out-then-has : goal.shape_of-out-then-has
 shape_of-out-then-has c = (c.loop-at.invariant c.requires.0).long ∙ sym c.requires.1
 
 pub returns-then-has : goal.returns-then-has
-returns-then-has c = record { sorts_value = λ g. names_taken g (c.loop-at.invariant g) c.loop-at-test.true c.variable.ensures c.in-At.is c.var_sort.ensures c.if-var_sort-sorts.false c.has.result
-          c.has.ensures c.if-has.true; below = not_yes }
+returns-then-has c = record {
+  sorts_value = λ g. names_taken g (c.loop-at.invariant g) c.loop-at-test.true c.variable.ensures c.in-At.is c.var_sort.ensures c.if-var_sort-sorts.false c.has.result
+      c.has.ensures c.if-has.true;
+  below = not_yes;
+}
 
 pub slice_bounds-has-end : goal.slice_bounds-has-end
 slice_bounds-has-end c = sym (c.loop-at.invariant c.requires.0).wide
@@ -63,8 +66,11 @@ pub shape_of-out-then-has-2 : goal.shape_of-out-then-has-2
 shape_of-out-then-has-2 c = (c.loop-at.invariant c.requires.0).long ∙ sym c.requires.1
 
 pub returns-then-has-2 : goal.returns-then-has-2
-returns-then-has-2 c = record { sorts_value = λ g. names_twice g (c.loop-at.invariant g) c.loop-at-test.true c.variable.ensures c.in-At.is c.var_sort.ensures c.if-var_sort-sorts.false c.has.result
-          c.has.ensures c.if-has.false c.has-in-loop-at.result c.has-in-loop-at.ensures c.if-has-2.true; below = not_yes }
+returns-then-has-2 c = record {
+  sorts_value = λ g. names_twice g (c.loop-at.invariant g) c.loop-at-test.true c.variable.ensures c.in-At.is c.var_sort.ensures c.if-var_sort-sorts.false c.has.result
+      c.has.ensures c.if-has.false c.has-in-loop-at.result c.has-in-loop-at.ensures c.if-has-2.true;
+  below = not_yes;
+}
 
 pub slice_bounds-insert-end : goal.slice_bounds-insert-end
 slice_bounds-insert-end c = sym (c.loop-at.invariant c.requires.0).wide
@@ -89,11 +95,11 @@ after-at-requires c = c.loop-at-test.true
 
 pub loop-at-smaller : goal.loop-at-smaller
 loop-at-smaller c = omega (
-      arith,
-      c.loop-at-test.true,
-      names_less c.requires.0 (c.loop-at.invariant c.requires.0) c.loop-at-test.true c.variable.ensures c.in-At.is
-          c.var_sort.ensures c.if-var_sort-sorts.false c.has.result c.has.ensures c.if-has.false c.has-in-loop-at.result c.has-in-loop-at.ensures c.after-at.ensures,
-    )
+  arith,
+  c.loop-at-test.true,
+  names_less c.requires.0 (c.loop-at.invariant c.requires.0) c.loop-at-test.true c.variable.ensures c.in-At.is
+      c.var_sort.ensures c.if-var_sort-sorts.false c.has.result c.has.ensures c.if-has.false c.has-in-loop-at.result c.has-in-loop-at.ensures c.after-at.ensures,
+)
 
 pub loop-at-preserved : goal.loop-at-preserved
 loop-at-preserved c = λ g. names_again g (c.loop-at.invariant g) c.loop-at-test.true c.variable.ensures c.in-At.is c.var_sort.ensures c.if-var_sort-sorts.false c.has.result

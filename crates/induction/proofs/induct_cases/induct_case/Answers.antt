@@ -16,12 +16,12 @@ returns-in_default c = record { passed_as = λ g. case_atom_lem c.args.c g c.ite
 
 pub offset_bounds-cells-a : goal.offset_bounds-cells-a
 offset_bounds-cells-a c = omega (
-      arith,
-      (case_list c.args.c c.requires.case_item.0 c.item_at.ensures c.in-List.is).low,
-      (case_list c.args.c c.requires.case_item.0 c.item_at.ensures
-          c.in-List.is).high,
-      c.well_formed.1.1.1.1.1.1.1.1.1.1.1.0.1,
-    )
+  arith,
+  (case_list c.args.c c.requires.case_item.0 c.item_at.ensures c.in-List.is).low,
+  (case_list c.args.c c.requires.case_item.0 c.item_at.ensures
+      c.in-List.is).high,
+  c.well_formed.1.1.1.1.1.1.1.1.1.1.1.0.1,
+)
 
 pub slice_bounds-inner-count : goal.slice_bounds-inner-count
 slice_bounds-inner-count c = (case_list c.args.c c.requires.case_item.0 c.item_at.ensures c.in-List.is).low
@@ -49,40 +49,43 @@ count-requires c = case_items c.args.c c.requires.case_item.0 c.item_at.ensures 
 
 pub overflow_add-many : goal.overflow_add-many
 overflow_add-many c = omega (
-      arith,
-      many_few c.args.c c.requires.case_item.0 c.item_at.ensures c.in-List.is c.if-inner-eq0.false c.index.ensures c.in-At.is c.requires.case_item.1
-          c.arity-many.ensures c.count.ensures,
-    )
+  arith,
+  many_few c.args.c c.requires.case_item.0 c.item_at.ensures c.in-List.is c.if-inner-eq0.false c.index.ensures c.in-At.is c.requires.case_item.1
+      c.arity-many.ensures c.count.ensures,
+)
 
 pub returns-then-count-many : goal.returns-then-count-many
-returns-then-count-many c = record { passed_as = λ g. case_count c.args.c g c.item_at.ensures c.in-List.is c.if-inner-eq0.false c.index.ensures c.in-At.is c.requires.case_item.1 c.arity-many.ensures
-          c.count.ensures c.if-count-many.true; map_unchanged = (refl, refl) }
+returns-then-count-many c = record {
+  passed_as = λ g. case_count c.args.c g c.item_at.ensures c.in-List.is c.if-inner-eq0.false c.index.ensures c.in-At.is c.requires.case_item.1 c.arity-many.ensures
+      c.count.ensures c.if-count-many.true;
+  map_unchanged = (refl, refl);
+}
 
 pub after-next-requires : goal.after-next-requires
 after-next-requires c = omega (arith, c.if-inner-eq0.false)
 
 pub overflow_mul-from : goal.overflow_mul-from
 overflow_mul-from c = omega (
-      arith,
-      case_symbol c.args.c c.requires.case_item.0 c.item_at.ensures c.in-List.is c.if-inner-eq0.false c.index.ensures c.in-At.is c.requires.case_item.1
-          c.arity-many.ensures c.count.ensures,
-    )
+  arith,
+  case_symbol c.args.c c.requires.case_item.0 c.item_at.ensures c.in-List.is c.if-inner-eq0.false c.index.ensures c.in-At.is c.requires.case_item.1
+      c.arity-many.ensures c.count.ensures,
+)
 
 pub overflow_add-end : goal.overflow_add-end
 overflow_add-end c = omega (
-      arith,
-      inputs_room c.args.c c.requires.case_item.0 c.item_at.ensures c.in-List.is c.if-inner-eq0.false c.index.ensures c.in-At.is c.requires.case_item.1
-          c.arity-many.ensures c.count.ensures,
-      c.well_formed.1.1.1.0.0,
-    )
+  arith,
+  inputs_room c.args.c c.requires.case_item.0 c.item_at.ensures c.in-List.is c.if-inner-eq0.false c.index.ensures c.in-At.is c.requires.case_item.1
+      c.arity-many.ensures c.count.ensures,
+  c.well_formed.1.1.1.0.0,
+)
 
 pub offset_bounds-inputs-from : goal.offset_bounds-inputs-from
 offset_bounds-inputs-from c = omega (
-      arith,
-      inputs_room c.args.c c.requires.case_item.0 c.item_at.ensures c.in-List.is c.if-inner-eq0.false c.index.ensures c.in-At.is c.requires.case_item.1
-          c.arity-many.ensures c.count.ensures,
-      c.well_formed.1.1.1.0.1,
-    )
+  arith,
+  inputs_room c.args.c c.requires.case_item.0 c.item_at.ensures c.in-List.is c.if-inner-eq0.false c.index.ensures c.in-At.is c.requires.case_item.1
+      c.arity-many.ensures c.count.ensures,
+  c.well_formed.1.1.1.0.1,
+)
 
 pub slice_bounds-sorts-count : goal.slice_bounds-sorts-count
 slice_bounds-sorts-count c = omega arith
@@ -96,11 +99,11 @@ slice_bounds-sorts-end c = inputs_room c.args.c c.requires.case_item.0 c.item_at
 
 pub offset_bounds-inner-next : goal.offset_bounds-inner-next
 offset_bounds-inner-next c = omega (
-      arith,
-      behind_near c.args.c c.requires.case_item.0 c.item_at.ensures c.in-List.is c.if-inner-eq0.false c.index.ensures c.in-At.is c.requires.case_item.1
-          c.arity-many.ensures c.count.ensures c.if-count-many.false c.after-next.ensures,
-      c.well_formed.1.1.1.1.1.1.1.1.1.1.1.0.1,
-    )
+  arith,
+  behind_near c.args.c c.requires.case_item.0 c.item_at.ensures c.in-List.is c.if-inner-eq0.false c.index.ensures c.in-At.is c.requires.case_item.1
+      c.arity-many.ensures c.count.ensures c.if-count-many.false c.after-next.ensures,
+  c.well_formed.1.1.1.1.1.1.1.1.1.1.1.0.1,
+)
 
 pub slice_bounds-case_vars-count : goal.slice_bounds-case_vars-count
 slice_bounds-case_vars-count c = behind_high c.args.c c.requires.case_item.0 c.item_at.ensures c.in-List.is c.if-inner-eq0.false c.index.ensures c.in-At.is c.requires.case_item.1
@@ -112,23 +115,26 @@ slice_bounds-case_vars-start c = behind_high c.args.c c.requires.case_item.0 c.i
 
 pub case_vars-requires : goal.case_vars-requires
 case_vars-requires c = (
-      named c.args.c c.requires.case_item.0 c.item_at.ensures c.in-List.is c.if-inner-eq0.false c.index.ensures c.in-At.is c.requires.case_item.1 c.arity-many.ensures
-          c.count.ensures c.if-count-many.false c.after-next.ensures,
-      refl,
-    )
+  named c.args.c c.requires.case_item.0 c.item_at.ensures c.in-List.is c.if-inner-eq0.false c.index.ensures c.in-At.is c.requires.case_item.1 c.arity-many.ensures
+      c.count.ensures c.if-count-many.false c.after-next.ensures,
+  refl,
+)
 
 pub returns-then-not-case_vars : goal.returns-then-not-case_vars
-returns-then-not-case_vars c = record { passed_as = λ g. case_unnamed c.args.c g c.item_at.ensures c.in-List.is c.if-inner-eq0.false c.index.ensures c.in-At.is c.requires.case_item.1 c.arity-many.ensures
-          c.count.ensures c.if-count-many.false c.after-next.ensures c.case_vars.new.out c.case_vars.result c.case_vars.ensures.sorts_value
-          (not-true _ (ap not c.if-not-case_vars.true)); map_unchanged = (refl, refl) }
+returns-then-not-case_vars c = record {
+  passed_as = λ g. case_unnamed c.args.c g c.item_at.ensures c.in-List.is c.if-inner-eq0.false c.index.ensures c.in-At.is c.requires.case_item.1 c.arity-many.ensures
+      c.count.ensures c.if-count-many.false c.after-next.ensures c.case_vars.new.out c.case_vars.result c.case_vars.ensures.sorts_value
+      (not-true _ (ap not c.if-not-case_vars.true));
+  map_unchanged = (refl, refl);
+}
 
 pub slice_bounds-own-end : goal.slice_bounds-own-end
 slice_bounds-own-end c = omega (
-      arith,
-      many_few c.args.c c.requires.case_item.0 c.item_at.ensures c.in-List.is c.if-inner-eq0.false c.index.ensures c.in-At.is c.requires.case_item.1
-          c.arity-many.ensures c.count.ensures,
-      c.case_vars.auto.out,
-    )
+  arith,
+  many_few c.args.c c.requires.case_item.0 c.item_at.ensures c.in-List.is c.if-inner-eq0.false c.index.ensures c.in-At.is c.requires.case_item.1
+      c.arity-many.ensures c.count.ensures,
+  c.case_vars.auto.out,
+)
 
 pub slice_bounds-case_terms-end : goal.slice_bounds-case_terms-end
 slice_bounds-case_terms-end c = sym
@@ -141,9 +147,12 @@ slice_bounds-case_terms-end c = sym
     )))
 
 pub case_terms-requires : goal.case_terms-requires
-case_terms-requires c = record { in_case = terms_given c.args.c c.requires.case_item.0 c.item_at.ensures c.in-List.is c.if-inner-eq0.false c.index.ensures c.in-At.is c.requires.case_item.1
-          c.arity-many.ensures c.count.ensures c.if-count-many.false c.after-next.ensures c.case_vars.new.out
-          c.case_vars.auto.out (c.case_vars.ensures.below (not-false _ (ap not c.if-not-case_vars.false))); scratch = c.requires.scratch }
+case_terms-requires c = record {
+  in_case = terms_given c.args.c c.requires.case_item.0 c.item_at.ensures c.in-List.is c.if-inner-eq0.false c.index.ensures c.in-At.is c.requires.case_item.1
+      c.arity-many.ensures c.count.ensures c.if-count-many.false c.after-next.ensures c.case_vars.new.out
+      c.case_vars.auto.out (c.case_vars.ensures.below (not-false _ (ap not c.if-not-case_vars.false)));
+  scratch = c.requires.scratch;
+}
 
 pub shape_of-index : goal.shape_of-index
 shape_of-index c = c.case_terms.auto.index
@@ -161,10 +170,13 @@ pub shape_of-ids : goal.shape_of-ids
 shape_of-ids c = c.case_terms.auto.ids
 
 pub returns : goal.returns
-returns c = record { passed_as = λ g. passed_on c.case_terms.new.index c.case_terms.new.words c.case_terms.result
-          (case_named_lem c.args.c g c.item_at.ensures c.in-List.is c.if-inner-eq0.false c.index.ensures c.in-At.is c.requires.case_item.1 c.arity-many.ensures
-          c.count.ensures c.if-count-many.false c.after-next.ensures c.case_vars.new.out c.case_vars.result
-          c.case_vars.ensures.sorts_value (not-false _ (ap not c.if-not-case_vars.false)))
-          (c.case_terms.ensures.passed_as
-          (in_case c.args.c g c.item_at.ensures c.in-List.is c.if-inner-eq0.false c.index.ensures c.in-At.is c.requires.case_item.1 c.arity-many.ensures
-          c.count.ensures c.if-count-many.false c.after-next.ensures)); map_unchanged = c.case_terms.ensures.map_unchanged }
+returns c = record {
+  passed_as = λ g. passed_on c.case_terms.new.index c.case_terms.new.words c.case_terms.result
+      (case_named_lem c.args.c g c.item_at.ensures c.in-List.is c.if-inner-eq0.false c.index.ensures c.in-At.is c.requires.case_item.1 c.arity-many.ensures
+      c.count.ensures c.if-count-many.false c.after-next.ensures c.case_vars.new.out c.case_vars.result
+      c.case_vars.ensures.sorts_value (not-false _ (ap not c.if-not-case_vars.false)))
+      (c.case_terms.ensures.passed_as
+      (in_case c.args.c g c.item_at.ensures c.in-List.is c.if-inner-eq0.false c.index.ensures c.in-At.is c.requires.case_item.1 c.arity-many.ensures
+      c.count.ensures c.if-count-many.false c.after-next.ensures));
+  map_unchanged = c.case_terms.ensures.map_unchanged;
+}

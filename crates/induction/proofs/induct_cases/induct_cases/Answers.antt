@@ -39,12 +39,15 @@ pub slice_bounds-induct_case-start : goal.slice_bounds-induct_case-start
 slice_bounds-induct_case-start c = omega (arith, c.loop-at-test.true)
 
 pub induct_case-requires : goal.induct_case-requires
-induct_case-requires c = record { case_item = (
-        cases_given c.requires.case_items (c.loop-at.invariant c.requires.case_items) c.loop-at-test.true c.next_constructor.ensures c.in-At.is,
-        cases_known c.requires.case_items
-            (c.loop-at.invariant c.requires.case_items) c.loop-at-test.true c.next_constructor.ensures c.in-At.is,
-      ); scratch = cases_scratch c.requires.case_items (c.loop-at.invariant c.requires.case_items)
-          c.loop-at-test.true c.next_constructor.ensures c.in-At.is c.requires.scratch }
+induct_case-requires c = record {
+  case_item = (
+    cases_given c.requires.case_items (c.loop-at.invariant c.requires.case_items) c.loop-at-test.true c.next_constructor.ensures c.in-At.is,
+    cases_known c.requires.case_items
+        (c.loop-at.invariant c.requires.case_items) c.loop-at-test.true c.next_constructor.ensures c.in-At.is,
+  );
+  scratch = cases_scratch c.requires.case_items (c.loop-at.invariant c.requires.case_items)
+      c.loop-at-test.true c.next_constructor.ensures c.in-At.is c.requires.scratch;
+}
 
 pub shape_of-index-in-No : goal.shape_of-index-in-No
 shape_of-index-in-No c = c.induct_case.auto.index ∙ (c.loop-at.invariant c.requires.case_items).on.grown.same.long_index
@@ -62,9 +65,12 @@ pub shape_of-ids-in-No : goal.shape_of-ids-in-No
 shape_of-ids-in-No c = c.induct_case.auto.ids ∙ (c.loop-at.invariant c.requires.case_items).long
 
 pub returns-in-No : goal.returns-in-No
-returns-in-No c = record { passed_as = λ g. cases_stopped g (c.loop-at.invariant g) c.loop-at-test.true c.next_constructor.ensures c.in-At.is
-          c.induct_case.new.index c.induct_case.new.words c.induct_case.result
-          c.induct_case.ensures.passed_as c.in-No.is; map_unchanged = (c.induct_case.ensures.map_unchanged.0 ∙ (c.loop-at.invariant c.requires.case_items).map_same, c.induct_case.ensures.map_unchanged.1 ∙ (c.loop-at.invariant c.requires.case_items).memo_same) }
+returns-in-No c = record {
+  passed_as = λ g. cases_stopped g (c.loop-at.invariant g) c.loop-at-test.true c.next_constructor.ensures c.in-At.is
+      c.induct_case.new.index c.induct_case.new.words c.induct_case.result
+      c.induct_case.ensures.passed_as c.in-No.is;
+  map_unchanged = (c.induct_case.ensures.map_unchanged.0 ∙ (c.loop-at.invariant c.requires.case_items).map_same, c.induct_case.ensures.map_unchanged.1 ∙ (c.loop-at.invariant c.requires.case_items).memo_same);
+}
 
 pub overflow_add-from : goal.overflow_add-from
 overflow_add-from c = omega (arith, cases_small c.requires.case_items (c.loop-at.invariant c.requires.case_items) c.loop-at-test.true c.next_constructor.ensures c.in-At.is)

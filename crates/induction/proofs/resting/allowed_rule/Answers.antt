@@ -16,11 +16,11 @@ general-own-requires c = rest_facts c.requires.0 c.requires.1
 
 pub offset_bounds-lists-from : goal.offset_bounds-lists-from
 offset_bounds-lists-from c = omega (
-      arith,
-      general_low c.requires.0 _ c.requires.1 c.general-own.ensures,
-      general_high c.requires.0 _ c.requires.1 c.general-own.ensures,
-      c.well_formed.1.0.0,
-    )
+  arith,
+  general_low c.requires.0 _ c.requires.1 c.general-own.ensures,
+  general_high c.requires.0 _ c.requires.1 c.general-own.ensures,
+  c.well_formed.1.0.0,
+)
 
 pub slice_bounds-generalises-count : goal.slice_bounds-generalises-count
 slice_bounds-generalises-count c = general_low c.requires.0 _ c.requires.1 c.general-own.ensures
@@ -43,11 +43,11 @@ premises-ps-requires c = rest_facts c.requires.0 c.requires.1
 
 pub offset_bounds-lists-first : goal.offset_bounds-lists-first
 offset_bounds-lists-first c = omega (
-      arith,
-      premises_low c.requires.0 _ c.requires.1 c.premises-ps.ensures,
-      premises_high c.requires.0 _ c.requires.1 c.premises-ps.ensures,
-      c.well_formed.1.0.0,
-    )
+  arith,
+  premises_low c.requires.0 _ c.requires.1 c.premises-ps.ensures,
+  premises_high c.requires.0 _ c.requires.1 c.premises-ps.ensures,
+  c.well_formed.1.0.0,
+)
 
 pub slice_bounds-is_hypothesis-count : goal.slice_bounds-is_hypothesis-count
 slice_bounds-is_hypothesis-count c = premises_low c.requires.0 _ c.requires.1 c.premises-ps.ensures

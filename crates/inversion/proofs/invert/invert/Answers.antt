@@ -32,11 +32,14 @@ pub is_plain-requires : goal.is_plain-requires
 is_plain-requires c = form_fact c.requires.invert_form c.place-at.ensures c.index.ensures c.in-At.is c.is_fact.ensures (ap not c.if-not-is_fact.false)
 
 pub returns-then-not-is_plain : goal.returns-then-not-is_plain
-returns-then-not-is_plain c = record { inverted_as = λ g. (
-        form_not_plain g c.place-at.ensures c.index.ensures c.in-At.is c.is_fact.ensures (ap not c.if-not-is_fact.false) c.is_plain.ensures
-            (ap not c.if-not-is_plain.true),
-        refl,
-      ); map_unchanged = (refl, refl, refl, refl, refl) }
+returns-then-not-is_plain c = record {
+  inverted_as = λ g. (
+    form_not_plain g c.place-at.ensures c.index.ensures c.in-At.is c.is_fact.ensures (ap not c.if-not-is_fact.false) c.is_plain.ensures
+        (ap not c.if-not-is_plain.true),
+    refl,
+  );
+  map_unchanged = (refl, refl, refl, refl, refl);
+}
 
 pub place-third-requires : goal.place-third-requires
 place-third-requires c = form_items c.requires.invert_form
@@ -52,20 +55,23 @@ slice_bounds-any_hyps-start c = form_high c.requires.invert_form 3 (omega arith)
 
 pub any_hyps-requires : goal.any_hyps-requires
 any_hyps-requires c = (
-      form_hyps c.requires.invert_form c.place-at.ensures c.index.ensures c.in-At.is c.is_fact.ensures (ap not c.if-not-is_fact.false) c.is_plain.ensures (ap not c.if-not-is_plain.false)
-          c.place-third.ensures,
-      c.requires.blank.0.no_hyps,
-    )
+  form_hyps c.requires.invert_form c.place-at.ensures c.index.ensures c.in-At.is c.is_fact.ensures (ap not c.if-not-is_fact.false) c.is_plain.ensures (ap not c.if-not-is_plain.false)
+      c.place-third.ensures,
+  c.requires.blank.0.no_hyps,
+)
 
 pub shape_of-hyps-in-No : goal.shape_of-hyps-in-No
 shape_of-hyps-in-No c = c.any_hyps.auto.set
 
 pub returns-in-No : goal.returns-in-No
-returns-in-No c = record { inverted_as = λ g. (
-        form_no_hyps g c.place-at.ensures c.index.ensures c.in-At.is c.is_fact.ensures (ap not c.if-not-is_fact.false) c.is_plain.ensures (ap not c.if-not-is_plain.false)
-            c.place-third.ensures c.args.hyps.now c.any_hyps.new.set c.any_hyps.result c.any_hyps.ensures c.in-No.is,
-        refl,
-      ); map_unchanged = (refl, refl, refl, refl, refl) }
+returns-in-No c = record {
+  inverted_as = λ g. (
+    form_no_hyps g c.place-at.ensures c.index.ensures c.in-At.is c.is_fact.ensures (ap not c.if-not-is_fact.false) c.is_plain.ensures (ap not c.if-not-is_plain.false)
+        c.place-third.ensures c.args.hyps.now c.any_hyps.new.set c.any_hyps.result c.any_hyps.ensures c.in-No.is,
+    refl,
+  );
+  map_unchanged = (refl, refl, refl, refl, refl);
+}
 
 pub place-fourth-requires : goal.place-fourth-requires
 place-fourth-requires c = form_items c.requires.invert_form
@@ -88,19 +94,22 @@ pub judgment-s-requires : goal.judgment-s-requires
 judgment-s-requires c = form_fact c.requires.invert_form c.place-at.ensures c.index.ensures c.in-At.is c.is_fact.ensures (ap not c.if-not-is_fact.false)
 
 pub invert_on-requires : goal.invert_on-requires
-invert_on-requires c = record { inverting_on = form_on c.requires.invert_form c.place-at.ensures c.index.ensures c.in-At.is c.is_fact.ensures (ap not c.if-not-is_fact.false) c.is_plain.ensures (ap not c.if-not-is_plain.false)
-          c.place-third.ensures c.args.hyps.now c.any_hyps.new.set c.any_hyps.result c.any_hyps.ensures c.in-Ok.is
-          c.place-fourth.ensures c.judgment.new.index c.judgment.new.words c.judgment.result
-          c.judgment.ensures c.in-Ok-judgment.is c.judgment-s.ensures
-          (c.any_hyps.auto.set ∙ ap length c.requires.blank.0.no_hyps ∙ length-replicate {A = ℕ} FACTWORDS 0); empty = blank_empty
-          c.args.ids.now c.requires.blank }
+invert_on-requires c = record {
+  inverting_on = form_on c.requires.invert_form c.place-at.ensures c.index.ensures c.in-At.is c.is_fact.ensures (ap not c.if-not-is_fact.false) c.is_plain.ensures (ap not c.if-not-is_plain.false)
+      c.place-third.ensures c.args.hyps.now c.any_hyps.new.set c.any_hyps.result c.any_hyps.ensures c.in-Ok.is
+      c.place-fourth.ensures c.judgment.new.index c.judgment.new.words c.judgment.result
+      c.judgment.ensures c.in-Ok-judgment.is c.judgment-s.ensures
+      (c.any_hyps.auto.set ∙ ap length c.requires.blank.0.no_hyps ∙ length-replicate {A = ℕ} FACTWORDS 0);
+  empty = blank_empty
+      c.args.ids.now c.requires.blank;
+}
 
 pub insert-requires : goal.insert-requires
 insert-requires c = omega (
-      arith,
-      (form_fact c.requires.invert_form c.place-at.ensures c.index.ensures c.in-At.is c.is_fact.ensures (ap not c.if-not-is_fact.false)).1,
-      (c.any_hyps.auto.set ∙ ap length c.requires.blank.0.no_hyps ∙ length-replicate {A = ℕ} FACTWORDS 0),
-    )
+  arith,
+  (form_fact c.requires.invert_form c.place-at.ensures c.index.ensures c.in-At.is c.is_fact.ensures (ap not c.if-not-is_fact.false)).1,
+  (c.any_hyps.auto.set ∙ ap length c.requires.blank.0.no_hyps ∙ length-replicate {A = ℕ} FACTWORDS 0),
+)
 
 pub shape_of-vars-in-Ok-invert_on : goal.shape_of-vars-in-Ok-invert_on
 shape_of-vars-in-Ok-invert_on c = c.invert_on.auto.vars
@@ -130,18 +139,21 @@ pub shape_of-hyps-in-Ok-invert_on : goal.shape_of-hyps-in-Ok-invert_on
 shape_of-hyps-in-Ok-invert_on c = c.insert.auto.set ∙ c.any_hyps.auto.set
 
 pub returns-in-Ok-invert_on : goal.returns-in-Ok-invert_on
-returns-in-Ok-invert_on c = record { inverted_as = λ g. form_read g c.place-at.ensures c.index.ensures c.in-At.is c.is_fact.ensures (ap not c.if-not-is_fact.false) c.is_plain.ensures (ap not c.if-not-is_plain.false)
-          c.place-third.ensures c.args.hyps.now c.any_hyps.new.set c.any_hyps.result c.any_hyps.ensures c.in-Ok.is
-          c.place-fourth.ensures c.judgment.new.index c.judgment.new.words c.judgment.result
-          c.judgment.ensures c.in-Ok-judgment.is c.judgment-s.ensures
-          (c.any_hyps.auto.set ∙ ap length c.requires.blank.0.no_hyps ∙ length-replicate {A = ℕ} FACTWORDS 0)
-          c.invert_on.new.index c.invert_on.new.words
-          c.invert_on.new.vars c.invert_on.result c.invert_on.ensures.inverted_on_as c.in-Ok-invert_on.is c.insert.new.set
-          c.args.footing.now c.insert.ensures c.requires.blank.0.no_footing; map_unchanged = blank_again c.args.ids.now c.requires.blank
-          c.invert_on.new.map
-          c.invert_on.new.memo
-          c.invert_on.new.theta
-          c.invert_on.new.pairs c.invert_on.ensures.empty_2 }
+returns-in-Ok-invert_on c = record {
+  inverted_as = λ g. form_read g c.place-at.ensures c.index.ensures c.in-At.is c.is_fact.ensures (ap not c.if-not-is_fact.false) c.is_plain.ensures (ap not c.if-not-is_plain.false)
+      c.place-third.ensures c.args.hyps.now c.any_hyps.new.set c.any_hyps.result c.any_hyps.ensures c.in-Ok.is
+      c.place-fourth.ensures c.judgment.new.index c.judgment.new.words c.judgment.result
+      c.judgment.ensures c.in-Ok-judgment.is c.judgment-s.ensures
+      (c.any_hyps.auto.set ∙ ap length c.requires.blank.0.no_hyps ∙ length-replicate {A = ℕ} FACTWORDS 0)
+      c.invert_on.new.index c.invert_on.new.words
+      c.invert_on.new.vars c.invert_on.result c.invert_on.ensures.inverted_on_as c.in-Ok-invert_on.is c.insert.new.set
+      c.args.footing.now c.insert.ensures c.requires.blank.0.no_footing;
+  map_unchanged = blank_again c.args.ids.now c.requires.blank
+      c.invert_on.new.map
+      c.invert_on.new.memo
+      c.invert_on.new.theta
+      c.invert_on.new.pairs c.invert_on.ensures.empty_2;
+}
 
 pub shape_of-vars-in-No-invert_on : goal.shape_of-vars-in-No-invert_on
 shape_of-vars-in-No-invert_on c = c.invert_on.auto.vars
@@ -171,17 +183,20 @@ pub shape_of-hyps-in-No-invert_on : goal.shape_of-hyps-in-No-invert_on
 shape_of-hyps-in-No-invert_on c = c.any_hyps.auto.set
 
 pub returns-in-No-invert_on : goal.returns-in-No-invert_on
-returns-in-No-invert_on c = record { inverted_as = λ g. form_refused g c.place-at.ensures c.index.ensures c.in-At.is c.is_fact.ensures (ap not c.if-not-is_fact.false) c.is_plain.ensures (ap not c.if-not-is_plain.false)
-          c.place-third.ensures c.args.hyps.now c.any_hyps.new.set c.any_hyps.result c.any_hyps.ensures c.in-Ok.is
-          c.place-fourth.ensures c.judgment.new.index c.judgment.new.words c.judgment.result
-          c.judgment.ensures c.in-Ok-judgment.is c.judgment-s.ensures
-          (c.any_hyps.auto.set ∙ ap length c.requires.blank.0.no_hyps ∙ length-replicate {A = ℕ} FACTWORDS 0)
-          c.invert_on.new.index c.invert_on.new.words
-          c.invert_on.new.vars c.invert_on.result c.invert_on.ensures.inverted_on_as c.in-No-invert_on.is; map_unchanged = blank_again
-          c.args.ids.now c.requires.blank c.invert_on.new.map
-          c.invert_on.new.memo
-          c.invert_on.new.theta
-          c.invert_on.new.pairs c.invert_on.ensures.empty_2 }
+returns-in-No-invert_on c = record {
+  inverted_as = λ g. form_refused g c.place-at.ensures c.index.ensures c.in-At.is c.is_fact.ensures (ap not c.if-not-is_fact.false) c.is_plain.ensures (ap not c.if-not-is_plain.false)
+      c.place-third.ensures c.args.hyps.now c.any_hyps.new.set c.any_hyps.result c.any_hyps.ensures c.in-Ok.is
+      c.place-fourth.ensures c.judgment.new.index c.judgment.new.words c.judgment.result
+      c.judgment.ensures c.in-Ok-judgment.is c.judgment-s.ensures
+      (c.any_hyps.auto.set ∙ ap length c.requires.blank.0.no_hyps ∙ length-replicate {A = ℕ} FACTWORDS 0)
+      c.invert_on.new.index c.invert_on.new.words
+      c.invert_on.new.vars c.invert_on.result c.invert_on.ensures.inverted_on_as c.in-No-invert_on.is;
+  map_unchanged = blank_again
+      c.args.ids.now c.requires.blank c.invert_on.new.map
+      c.invert_on.new.memo
+      c.invert_on.new.theta
+      c.invert_on.new.pairs c.invert_on.ensures.empty_2;
+}
 
 pub shape_of-vars-in-No-judgment : goal.shape_of-vars-in-No-judgment
 shape_of-vars-in-No-judgment c = refl
@@ -196,10 +211,13 @@ pub shape_of-hyps-in-No-judgment : goal.shape_of-hyps-in-No-judgment
 shape_of-hyps-in-No-judgment c = c.any_hyps.auto.set
 
 pub returns-in-No-judgment : goal.returns-in-No-judgment
-returns-in-No-judgment c = record { inverted_as = λ g. (
-        form_no_judgment g c.place-at.ensures c.index.ensures c.in-At.is c.is_fact.ensures (ap not c.if-not-is_fact.false) c.is_plain.ensures (ap not c.if-not-is_plain.false)
-            c.place-third.ensures c.args.hyps.now c.any_hyps.new.set c.any_hyps.result c.any_hyps.ensures
-            c.in-Ok.is c.place-fourth.ensures c.judgment.new.index
-            c.judgment.new.words c.judgment.result c.judgment.ensures c.in-No-judgment.is,
-        refl,
-      ); map_unchanged = (refl, refl, refl, refl, refl) }
+returns-in-No-judgment c = record {
+  inverted_as = λ g. (
+    form_no_judgment g c.place-at.ensures c.index.ensures c.in-At.is c.is_fact.ensures (ap not c.if-not-is_fact.false) c.is_plain.ensures (ap not c.if-not-is_plain.false)
+        c.place-third.ensures c.args.hyps.now c.any_hyps.new.set c.any_hyps.result c.any_hyps.ensures
+        c.in-Ok.is c.place-fourth.ensures c.judgment.new.index
+        c.judgment.new.words c.judgment.result c.judgment.ensures c.in-No-judgment.is,
+    refl,
+  );
+  map_unchanged = (refl, refl, refl, refl, refl);
+}

@@ -16,11 +16,11 @@ returns-in_default c = record { inverted_on_as = λ g. (on_atom g c.nth.ensures 
 
 pub offset_bounds-cells-a : goal.offset_bounds-cells-a
 offset_bounds-cells-a c = omega (
-      arith,
-      (on_list c.requires.inverting_on c.nth.ensures c.in-List.is).low,
-      (on_list c.requires.inverting_on c.nth.ensures c.in-List.is).high,
-      c.well_formed.1.1.1.1.1.1.1.1.1.1.1.1.1.1.1.1.0.1,
-    )
+  arith,
+  (on_list c.requires.inverting_on c.nth.ensures c.in-List.is).low,
+  (on_list c.requires.inverting_on c.nth.ensures c.in-List.is).high,
+  c.well_formed.1.1.1.1.1.1.1.1.1.1.1.1.1.1.1.1.0.1,
+)
 
 pub slice_bounds-inner-count : goal.slice_bounds-inner-count
 slice_bounds-inner-count c = (on_list c.requires.inverting_on c.nth.ensures c.in-List.is).low
@@ -48,11 +48,11 @@ write_out-context-requires c = record { set_len_bound = (on_writes c.requires.in
 
 pub slice_bounds-list-end : goal.slice_bounds-list-end
 slice_bounds-list-end c = omega (
-      arith,
-      on_few c.requires.inverting_on (replicate FACTS 0) (length-replicate {A = ℕ} FACTS 0) c.write_out-context.ensures,
-      c.write_out-context.auto.out,
-      length-replicate {A = ℕ} FACTS 0,
-    )
+  arith,
+  on_few c.requires.inverting_on (replicate FACTS 0) (length-replicate {A = ℕ} FACTS 0) c.write_out-context.ensures,
+  c.write_out-context.auto.out,
+  length-replicate {A = ℕ} FACTS 0,
+)
 
 pub slice_bounds-taken_vars-end : goal.slice_bounds-taken_vars-end
 slice_bounds-taken_vars-end c = sym
@@ -69,11 +69,11 @@ taken_vars-requires c = on_takes c.requires.inverting_on (replicate FACTS 0) (le
 
 pub slice_bounds-list-end-2 : goal.slice_bounds-list-end-2
 slice_bounds-list-end-2 c = omega (
-      arith,
-      on_few c.requires.inverting_on (replicate FACTS 0) (length-replicate {A = ℕ} FACTS 0) c.write_out-context.ensures,
-      c.write_out-context.auto.out,
-      length-replicate {A = ℕ} FACTS 0,
-    )
+  arith,
+  on_few c.requires.inverting_on (replicate FACTS 0) (length-replicate {A = ℕ} FACTS 0) c.write_out-context.ensures,
+  c.write_out-context.auto.out,
+  length-replicate {A = ℕ} FACTS 0,
+)
 
 pub slice_bounds-invert_rules-end : goal.slice_bounds-invert_rules-end
 slice_bounds-invert_rules-end c = sym
@@ -86,10 +86,13 @@ slice_bounds-invert_rules-end c = sym
     )))
 
 pub invert_rules-requires : goal.invert_rules-requires
-invert_rules-requires c = record { turning = on_turning c.requires.inverting_on c.nth.ensures c.in-List.is c.read_cases.result c.read_cases.ensures c.in-Ok.is c.count-many.ensures
-          (replicate FACTS 0) (length-replicate {A = ℕ} FACTS 0) c.write_out-context.ensures c.taken_vars.new.set
-          c.taken_vars.auto.set c.taken_vars.ensures (replicate VARIABLES 0)
-          (length-replicate {A = ℕ} VARIABLES 0); empty = (c.requires.empty.0, c.requires.empty.1) }
+invert_rules-requires c = record {
+  turning = on_turning c.requires.inverting_on c.nth.ensures c.in-List.is c.read_cases.result c.read_cases.ensures c.in-Ok.is c.count-many.ensures
+      (replicate FACTS 0) (length-replicate {A = ℕ} FACTS 0) c.write_out-context.ensures c.taken_vars.new.set
+      c.taken_vars.auto.set c.taken_vars.ensures (replicate VARIABLES 0)
+      (length-replicate {A = ℕ} VARIABLES 0);
+  empty = (c.requires.empty.0, c.requires.empty.1);
+}
 
 pub put_made-requires : goal.put_made-requires
 put_made-requires c = on_puts c.requires.inverting_on c.nth.ensures c.in-List.is c.read_cases.result c.read_cases.ensures c.in-Ok.is c.count-many.ensures
@@ -127,14 +130,17 @@ pub shape_of-ids-in-Ok-invert_rules : goal.shape_of-ids-in-Ok-invert_rules
 shape_of-ids-in-Ok-invert_rules c = c.invert_rules.auto.ids
 
 pub returns-in-Ok-invert_rules : goal.returns-in-Ok-invert_rules
-returns-in-Ok-invert_rules c = record { inverted_on_as = λ g. on_read g c.nth.ensures c.in-List.is c.read_cases.result c.read_cases.ensures c.in-Ok.is c.count-many.ensures
-          (replicate FACTS 0) (length-replicate {A = ℕ} FACTS 0) c.write_out-context.ensures c.taken_vars.new.set
-          c.taken_vars.auto.set c.taken_vars.ensures (replicate VARIABLES 0)
-          (length-replicate {A = ℕ} VARIABLES 0) c.invert_rules.new.index
-          c.invert_rules.new.words
-          c.invert_rules.new.taken
-          c.invert_rules.new.sorts c.invert_rules.result
-          c.invert_rules.ensures.turned_as c.in-Ok-invert_rules.is c.put_made.new.vars c.put_made.ensures; empty_2 = c.invert_rules.ensures.empty_2 }
+returns-in-Ok-invert_rules c = record {
+  inverted_on_as = λ g. on_read g c.nth.ensures c.in-List.is c.read_cases.result c.read_cases.ensures c.in-Ok.is c.count-many.ensures
+      (replicate FACTS 0) (length-replicate {A = ℕ} FACTS 0) c.write_out-context.ensures c.taken_vars.new.set
+      c.taken_vars.auto.set c.taken_vars.ensures (replicate VARIABLES 0)
+      (length-replicate {A = ℕ} VARIABLES 0) c.invert_rules.new.index
+      c.invert_rules.new.words
+      c.invert_rules.new.taken
+      c.invert_rules.new.sorts c.invert_rules.result
+      c.invert_rules.ensures.turned_as c.in-Ok-invert_rules.is c.put_made.new.vars c.put_made.ensures;
+  empty_2 = c.invert_rules.ensures.empty_2;
+}
 
 pub shape_of-vars-in-No-invert_rules : goal.shape_of-vars-in-No-invert_rules
 shape_of-vars-in-No-invert_rules c = refl
@@ -161,14 +167,17 @@ pub shape_of-ids-in-No-invert_rules : goal.shape_of-ids-in-No-invert_rules
 shape_of-ids-in-No-invert_rules c = c.invert_rules.auto.ids
 
 pub returns-in-No-invert_rules : goal.returns-in-No-invert_rules
-returns-in-No-invert_rules c = record { inverted_on_as = λ g. (
-        on_stopped g c.nth.ensures c.in-List.is c.read_cases.result c.read_cases.ensures c.in-Ok.is c.count-many.ensures
-            (replicate FACTS 0) (length-replicate {A = ℕ} FACTS 0) c.write_out-context.ensures c.taken_vars.new.set
-            c.taken_vars.auto.set c.taken_vars.ensures (replicate VARIABLES 0)
-            (length-replicate {A = ℕ} VARIABLES 0) c.invert_rules.new.index
-            c.invert_rules.new.words
-            c.invert_rules.new.taken
-            c.invert_rules.new.sorts c.invert_rules.result
-            c.invert_rules.ensures.turned_as c.in-No-invert_rules.is,
-        refl,
-      ); empty_2 = c.invert_rules.ensures.empty_2 }
+returns-in-No-invert_rules c = record {
+  inverted_on_as = λ g. (
+    on_stopped g c.nth.ensures c.in-List.is c.read_cases.result c.read_cases.ensures c.in-Ok.is c.count-many.ensures
+        (replicate FACTS 0) (length-replicate {A = ℕ} FACTS 0) c.write_out-context.ensures c.taken_vars.new.set
+        c.taken_vars.auto.set c.taken_vars.ensures (replicate VARIABLES 0)
+        (length-replicate {A = ℕ} VARIABLES 0) c.invert_rules.new.index
+        c.invert_rules.new.words
+        c.invert_rules.new.taken
+        c.invert_rules.new.sorts c.invert_rules.result
+        c.invert_rules.ensures.turned_as c.in-No-invert_rules.is,
+    refl,
+  );
+  empty_2 = c.invert_rules.ensures.empty_2;
+}

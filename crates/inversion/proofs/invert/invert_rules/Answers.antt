@@ -46,12 +46,15 @@ pub returns-in_default : goal.returns-in_default
 returns-in_default c = record { turned_as = λ g. rounds_over g (c.loop-r.invariant.0 g) c.next_rule.ensures c.in_default.is; empty_2 = (c.loop-r.invariant.1, c.loop-r.invariant.6) }
 
 pub invert_rule-requires : goal.invert_rule-requires
-invert_rule-requires c = record { turning = rounds_turning c.requires.turning (c.loop-r.invariant.0 c.requires.turning) c.next_rule.ensures c.in-At.is (c.loop-r.invariant.4 ∙ c.requires.turning.taken_long)
-          (c.loop-r.invariant.5 ∙ c.requires.turning.sorts_long); r_lt_rules = (
-        rounds_known c.requires.turning (c.loop-r.invariant.0 c.requires.turning) c.next_rule.ensures c.in-At.is,
-        c.loop-r.invariant.1,
-        c.loop-r.invariant.6 ∙ c.requires.empty.1,
-      ) }
+invert_rule-requires c = record {
+  turning = rounds_turning c.requires.turning (c.loop-r.invariant.0 c.requires.turning) c.next_rule.ensures c.in-At.is (c.loop-r.invariant.4 ∙ c.requires.turning.taken_long)
+      (c.loop-r.invariant.5 ∙ c.requires.turning.sorts_long);
+  r_lt_rules = (
+    rounds_known c.requires.turning (c.loop-r.invariant.0 c.requires.turning) c.next_rule.ensures c.in-At.is,
+    c.loop-r.invariant.1,
+    c.loop-r.invariant.6 ∙ c.requires.empty.1,
+  );
+}
 
 pub shape_of-index-in-No : goal.shape_of-index-in-No
 shape_of-index-in-No c = c.invert_rule.auto.index ∙ c.loop-r.invariant.2
@@ -85,42 +88,45 @@ pub shape_of-ids-in-No : goal.shape_of-ids-in-No
 shape_of-ids-in-No c = c.invert_rule.auto.ids ∙ ap length c.loop-r.invariant.6
 
 pub returns-in-No : goal.returns-in-No
-returns-in-No c = record { turned_as = λ g. rounds_stopped g (c.loop-r.invariant.0 g) c.next_rule.ensures c.in-At.is (c.loop-r.invariant.4 ∙ c.requires.turning.taken_long)
-          (c.loop-r.invariant.5 ∙ c.requires.turning.sorts_long) c.invert_rule.new.index
-          c.invert_rule.new.words
-          c.invert_rule.new.taken
-          c.invert_rule.new.sorts c.invert_rule.result
-          c.invert_rule.ensures.turned_as c.in-No.is; empty_2 = (c.invert_rule.ensures.empty.0, c.invert_rule.ensures.empty.1 ∙ c.loop-r.invariant.6) }
+returns-in-No c = record {
+  turned_as = λ g. rounds_stopped g (c.loop-r.invariant.0 g) c.next_rule.ensures c.in-At.is (c.loop-r.invariant.4 ∙ c.requires.turning.taken_long)
+      (c.loop-r.invariant.5 ∙ c.requires.turning.sorts_long) c.invert_rule.new.index
+      c.invert_rule.new.words
+      c.invert_rule.new.taken
+      c.invert_rule.new.sorts c.invert_rule.result
+      c.invert_rule.ensures.turned_as c.in-No.is;
+  empty_2 = (c.invert_rule.ensures.empty.0, c.invert_rule.ensures.empty.1 ∙ c.loop-r.invariant.6);
+}
 
 pub overflow_add-from : goal.overflow_add-from
 overflow_add-from c = omega (
-      arith,
-      rounds_known c.requires.turning (c.loop-r.invariant.0 c.requires.turning) c.next_rule.ensures c.in-At.is,
-      c.requires.turning.ruled.held.many,
-      c.requires.turning.refers.reads.spelling.formed.row4,
-    )
+  arith,
+  rounds_known c.requires.turning (c.loop-r.invariant.0 c.requires.turning) c.next_rule.ensures c.in-At.is,
+  c.requires.turning.ruled.held.many,
+  c.requires.turning.refers.reads.spelling.formed.row4,
+)
 
 pub loop-r-smaller : goal.loop-r-smaller
 loop-r-smaller c = omega (
-      arith,
-      rounds_known c.requires.turning (c.loop-r.invariant.0 c.requires.turning) c.next_rule.ensures c.in-At.is,
-      rounds_high c.requires.turning
-          (c.loop-r.invariant.0 c.requires.turning) c.next_rule.ensures c.in-At.is,
-    )
+  arith,
+  rounds_known c.requires.turning (c.loop-r.invariant.0 c.requires.turning) c.next_rule.ensures c.in-At.is,
+  rounds_high c.requires.turning
+      (c.loop-r.invariant.0 c.requires.turning) c.next_rule.ensures c.in-At.is,
+)
 
 pub loop-r-preserved : goal.loop-r-preserved
 loop-r-preserved c = (
-      λ g. rounds_again g (c.loop-r.invariant.0 g) c.next_rule.ensures c.in-At.is (c.loop-r.invariant.4 ∙ c.requires.turning.taken_long)
-          (c.loop-r.invariant.5 ∙ c.requires.turning.sorts_long) c.invert_rule.new.index
-          c.invert_rule.new.words
-          c.invert_rule.new.taken
-          c.invert_rule.new.sorts c.invert_rule.result
-          c.invert_rule.ensures.turned_as c.in-Ok.is,
-      c.invert_rule.ensures.empty.0,
-      c.invert_rule.auto.index ∙
-          c.loop-r.invariant.2,
-      c.invert_rule.auto.words ∙ c.loop-r.invariant.3,
-      c.invert_rule.auto.taken ∙ c.loop-r.invariant.4,
-      c.invert_rule.auto.sorts ∙ c.loop-r.invariant.5,
-      c.invert_rule.ensures.empty.1 ∙ c.loop-r.invariant.6,
-    )
+  λ g. rounds_again g (c.loop-r.invariant.0 g) c.next_rule.ensures c.in-At.is (c.loop-r.invariant.4 ∙ c.requires.turning.taken_long)
+      (c.loop-r.invariant.5 ∙ c.requires.turning.sorts_long) c.invert_rule.new.index
+      c.invert_rule.new.words
+      c.invert_rule.new.taken
+      c.invert_rule.new.sorts c.invert_rule.result
+      c.invert_rule.ensures.turned_as c.in-Ok.is,
+  c.invert_rule.ensures.empty.0,
+  c.invert_rule.auto.index ∙
+      c.loop-r.invariant.2,
+  c.invert_rule.auto.words ∙ c.loop-r.invariant.3,
+  c.invert_rule.auto.taken ∙ c.loop-r.invariant.4,
+  c.invert_rule.auto.sorts ∙ c.loop-r.invariant.5,
+  c.invert_rule.ensures.empty.1 ∙ c.loop-r.invariant.6,
+)

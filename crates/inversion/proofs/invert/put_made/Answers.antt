@@ -16,15 +16,15 @@ overflow_cast-sorts c = omega (arith, c.type_inv.sorts c.loop-v.v)
 
 pub put_var-requires : goal.put_var-requires
 put_var-requires c = (
-      c.loop-v.invariant.2,
-      omega (arith, c.loop-v-test.true, c.requires.2),
-      record {
-        first = omega (arith, c.type_inv.sorts c.loop-v.v);
-        second = omega arith;
-        third = omega arith;
-        fourth = omega arith;
-      },
-    )
+  c.loop-v.invariant.2,
+  omega (arith, c.loop-v-test.true, c.requires.2),
+  record {
+    first = omega (arith, c.type_inv.sorts c.loop-v.v);
+    second = omega arith;
+    third = omega arith;
+    fourth = omega arith;
+  },
+)
 
 pub overflow_add-v : goal.overflow_add-v
 overflow_add-v c = omega (arith, c.loop-v-test.true, c.requires.2)
@@ -34,14 +34,14 @@ loop-v-smaller c = omega (arith, c.loop-v-test.true)
 
 pub loop-v-preserved : goal.loop-v-preserved
 loop-v-preserved c = (
-      omega (arith, c.loop-v.invariant.0),
-      omega (arith, c.loop-v-test.true),
-      c.put_var.auto.vars ∙ c.loop-v.invariant.2,
-      λ goals text vs h. rows_end
-          c.put_var.ensures
-          (rows_more vs _ _ (omega (arith, c.loop-v.invariant.0, h.stand.many)) (omega (arith, c.loop-v-test.true, c.requires.2, c.requires.3))
-          (omega (arith, c.loop-v-test.true, c.requires.2)) (c.loop-v.invariant.3 goals text vs h)),
-    )
+  omega (arith, c.loop-v.invariant.0),
+  omega (arith, c.loop-v-test.true),
+  c.put_var.auto.vars ∙ c.loop-v.invariant.2,
+  λ goals text vs h. rows_end
+      c.put_var.ensures
+      (rows_more vs _ _ (omega (arith, c.loop-v.invariant.0, h.stand.many)) (omega (arith, c.loop-v-test.true, c.requires.2, c.requires.3))
+      (omega (arith, c.loop-v-test.true, c.requires.2)) (c.loop-v.invariant.3 goals text vs h)),
+)
 
 pub shape_of-vars : goal.shape_of-vars
 shape_of-vars c = c.loop-v.invariant.2 ∙ sym (vars_long c.requires.0.3.stand)

@@ -11,8 +11,11 @@ pub visit-requires : goal.visit-requires
 visit-requires c = record { readable = taken_reads c.requires.0.good c.requires.1 refl (ap length c.requires.4 ∙ length-replicate {A = ℕ} VARIABLEWORDS 0); seen = seen_none _ _ _ _ _ refl }
 
 pub visit-requires-2 : goal.visit-requires-2
-visit-requires-2 c = record { readable = taken_reads c.requires.0.good c.requires.2 c.visit.auto.seen
-          (c.visit.auto.set ∙ (ap length c.requires.4 ∙ length-replicate {A = ℕ} VARIABLEWORDS 0)); seen = c.visit.ensures.visits }
+visit-requires-2 c = record {
+  readable = taken_reads c.requires.0.good c.requires.2 c.visit.auto.seen
+      (c.visit.auto.set ∙ (ap length c.requires.4 ∙ length-replicate {A = ℕ} VARIABLEWORDS 0));
+  seen = c.visit.ensures.visits;
+}
 
 pub loop-k-init : goal.loop-k-init
 loop-k-init c = taking_begins c.requires.4 c.visit.ensures c.visit-2.ensures (c.visit-2.auto.seen ∙ c.visit.auto.seen)

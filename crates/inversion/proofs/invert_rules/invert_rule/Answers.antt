@@ -45,37 +45,43 @@ pub shape_of-pairs-in_default : goal.shape_of-pairs-in_default
 shape_of-pairs-in_default c = c.without_case.auto.pairs
 
 pub returns-in_default : goal.returns-in_default
-returns-in_default c = record { turned_as = λ g. turn_lacked g c.requires.r_lt_rules.0 c.rule_name-span.result c.rule_name-span.ensures c.find_case.result c.find_case.ensures c.in_default.is
-          c.without_case.new.index c.without_case.new.words
-          c.without_case.new.sorts c.without_case.result
-          (c.without_case.ensures.lacked_as (turn_lacking g c.requires.r_lt_rules.0)); empty = (c.without_case.ensures.empty, refl) }
+returns-in_default c = record {
+  turned_as = λ g. turn_lacked g c.requires.r_lt_rules.0 c.rule_name-span.result c.rule_name-span.ensures c.find_case.result c.find_case.ensures c.in_default.is
+      c.without_case.new.index c.without_case.new.words
+      c.without_case.new.sorts c.without_case.result
+      (c.without_case.ensures.lacked_as (turn_lacking g c.requires.r_lt_rules.0));
+  empty = (c.without_case.ensures.empty, refl);
+}
 
 pub variables-need-requires : goal.variables-need-requires
 variables-need-requires c = turn_known c.requires.turning c.requires.r_lt_rules.0
 
 pub case_vars-requires : goal.case_vars-requires
 case_vars-requires c = (
-      turn_case c.requires.turning c.requires.r_lt_rules.0 c.rule_name-span.result c.rule_name-span.ensures c.find_case.result c.find_case.ensures c.in-At.is
-          c.variables-need.ensures,
-      c.requires.turning.taken_long,
-      refl,
-    )
+  turn_case c.requires.turning c.requires.r_lt_rules.0 c.rule_name-span.result c.rule_name-span.ensures c.find_case.result c.find_case.ensures c.in-At.is
+      c.variables-need.ensures,
+  c.requires.turning.taken_long,
+  refl,
+)
 
 pub shape_of-taken-in_default-case_vars : goal.shape_of-taken-in_default-case_vars
 shape_of-taken-in_default-case_vars c = c.case_vars.auto.taken
 
 pub returns-in_default-case_vars : goal.returns-in_default-case_vars
-returns-in_default-case_vars c = record { turned_as = λ g. turn_missing g c.requires.r_lt_rules.0 c.rule_name-span.result c.rule_name-span.ensures c.find_case.result c.find_case.ensures c.in-At.is
-          c.variables-need.ensures c.case_vars.new.taken c.case_vars.new.list
-          c.case_vars.result c.case_vars.ensures c.in_default-case_vars.is; empty = (c.requires.r_lt_rules.1, refl) }
+returns-in_default-case_vars c = record {
+  turned_as = λ g. turn_missing g c.requires.r_lt_rules.0 c.rule_name-span.result c.rule_name-span.ensures c.find_case.result c.find_case.ensures c.in-At.is
+      c.variables-need.ensures c.case_vars.new.taken c.case_vars.new.list
+      c.case_vars.result c.case_vars.ensures c.in_default-case_vars.is;
+  empty = (c.requires.r_lt_rules.1, refl);
+}
 
 pub slice_bounds-list-end : goal.slice_bounds-list-end
 slice_bounds-list-end c = omega (
-      arith,
-      turn_few c.requires.turning c.requires.r_lt_rules.0 c.rule_name-span.result c.rule_name-span.ensures c.find_case.result c.find_case.ensures
-          c.in-At.is c.variables-need.ensures,
-      c.case_vars.auto.list,
-    )
+  arith,
+  turn_few c.requires.turning c.requires.r_lt_rules.0 c.rule_name-span.result c.rule_name-span.ensures c.find_case.result c.find_case.ensures
+      c.in-At.is c.variables-need.ensures,
+  c.case_vars.auto.list,
+)
 
 pub slice_bounds-with_case-end : goal.slice_bounds-with_case-end
 slice_bounds-with_case-end c = sym
@@ -89,11 +95,11 @@ slice_bounds-with_case-end c = sym
 
 pub with_case-requires : goal.with_case-requires
 with_case-requires c = (
-      turn_having c.requires.turning c.requires.r_lt_rules.0 c.rule_name-span.result c.rule_name-span.ensures c.find_case.result c.find_case.ensures c.in-At.is
-          c.variables-need.ensures c.case_vars.new.taken c.case_vars.new.list
-          c.case_vars.result c.case_vars.ensures c.in-At-case_vars.is c.requires.r_lt_rules.2,
-      c.requires.r_lt_rules.1,
-    )
+  turn_having c.requires.turning c.requires.r_lt_rules.0 c.rule_name-span.result c.rule_name-span.ensures c.find_case.result c.find_case.ensures c.in-At.is
+      c.variables-need.ensures c.case_vars.new.taken c.case_vars.new.list
+      c.case_vars.result c.case_vars.ensures c.in-At-case_vars.is c.requires.r_lt_rules.2,
+  c.requires.r_lt_rules.1,
+)
 
 pub shape_of-index-in-Ok : goal.shape_of-index-in-Ok
 shape_of-index-in-Ok c = c.with_case.auto.index
@@ -120,14 +126,17 @@ pub shape_of-ids-in-Ok : goal.shape_of-ids-in-Ok
 shape_of-ids-in-Ok c = c.with_case.auto.ids
 
 pub returns-in-Ok : goal.returns-in-Ok
-returns-in-Ok c = record { turned_as = λ g. turn_judged g c.requires.r_lt_rules.0 c.rule_name-span.result c.rule_name-span.ensures c.find_case.result c.find_case.ensures c.in-At.is
-          c.variables-need.ensures c.case_vars.new.taken c.case_vars.new.list
-          c.case_vars.result c.case_vars.ensures c.in-At-case_vars.is c.with_case.new.index
-          c.with_case.new.words c.with_case.result
-          (c.with_case.ensures.judged_as
-          (turn_having g c.requires.r_lt_rules.0 c.rule_name-span.result c.rule_name-span.ensures c.find_case.result c.find_case.ensures c.in-At.is
-          c.variables-need.ensures c.case_vars.new.taken c.case_vars.new.list
-          c.case_vars.result c.case_vars.ensures c.in-At-case_vars.is c.requires.r_lt_rules.2)) c.in-Ok.is; empty = c.with_case.ensures.empty }
+returns-in-Ok c = record {
+  turned_as = λ g. turn_judged g c.requires.r_lt_rules.0 c.rule_name-span.result c.rule_name-span.ensures c.find_case.result c.find_case.ensures c.in-At.is
+      c.variables-need.ensures c.case_vars.new.taken c.case_vars.new.list
+      c.case_vars.result c.case_vars.ensures c.in-At-case_vars.is c.with_case.new.index
+      c.with_case.new.words c.with_case.result
+      (c.with_case.ensures.judged_as
+      (turn_having g c.requires.r_lt_rules.0 c.rule_name-span.result c.rule_name-span.ensures c.find_case.result c.find_case.ensures c.in-At.is
+      c.variables-need.ensures c.case_vars.new.taken c.case_vars.new.list
+      c.case_vars.result c.case_vars.ensures c.in-At-case_vars.is c.requires.r_lt_rules.2)) c.in-Ok.is;
+  empty = c.with_case.ensures.empty;
+}
 
 pub shape_of-index-in-No : goal.shape_of-index-in-No
 shape_of-index-in-No c = c.with_case.auto.index
@@ -154,11 +163,14 @@ pub shape_of-ids-in-No : goal.shape_of-ids-in-No
 shape_of-ids-in-No c = c.with_case.auto.ids
 
 pub returns-in-No : goal.returns-in-No
-returns-in-No c = record { turned_as = λ g. turn_refused g c.requires.r_lt_rules.0 c.rule_name-span.result c.rule_name-span.ensures c.find_case.result c.find_case.ensures c.in-At.is
-          c.variables-need.ensures c.case_vars.new.taken c.case_vars.new.list
-          c.case_vars.result c.case_vars.ensures c.in-At-case_vars.is c.with_case.new.index
-          c.with_case.new.words c.with_case.result
-          (c.with_case.ensures.judged_as
-          (turn_having g c.requires.r_lt_rules.0 c.rule_name-span.result c.rule_name-span.ensures c.find_case.result c.find_case.ensures c.in-At.is
-          c.variables-need.ensures c.case_vars.new.taken c.case_vars.new.list
-          c.case_vars.result c.case_vars.ensures c.in-At-case_vars.is c.requires.r_lt_rules.2)) c.in-No.is; empty = c.with_case.ensures.empty }
+returns-in-No c = record {
+  turned_as = λ g. turn_refused g c.requires.r_lt_rules.0 c.rule_name-span.result c.rule_name-span.ensures c.find_case.result c.find_case.ensures c.in-At.is
+      c.variables-need.ensures c.case_vars.new.taken c.case_vars.new.list
+      c.case_vars.result c.case_vars.ensures c.in-At-case_vars.is c.with_case.new.index
+      c.with_case.new.words c.with_case.result
+      (c.with_case.ensures.judged_as
+      (turn_having g c.requires.r_lt_rules.0 c.rule_name-span.result c.rule_name-span.ensures c.find_case.result c.find_case.ensures c.in-At.is
+      c.variables-need.ensures c.case_vars.new.taken c.case_vars.new.list
+      c.case_vars.result c.case_vars.ensures c.in-At-case_vars.is c.requires.r_lt_rules.2)) c.in-No.is;
+  empty = c.with_case.ensures.empty;
+}

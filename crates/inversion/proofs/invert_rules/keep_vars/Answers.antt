@@ -25,17 +25,17 @@ keep-requires c = record { good = c.loop-k.invariant.on.grown.good; node = var_n
 
 pub overflow_add-bound : goal.overflow_add-bound
 overflow_add-bound c = omega (
-      arith,
-      vars_small c.loop-k.invariant c.requires.2 c.loop-k-test.true c.keep.new.index c.keep.new.words c.keep.result
-          (var_after _ _ _ c.keep.ensures) c.in-Term.is,
-    )
+  arith,
+  vars_small c.loop-k.invariant c.requires.2 c.loop-k-test.true c.keep.new.index c.keep.new.words c.keep.result
+      (var_after _ _ _ c.keep.ensures) c.in-Term.is,
+)
 
 pub overflow_cast-bound : goal.overflow_cast-bound
 overflow_cast-bound c = omega (
-      arith,
-      vars_small c.loop-k.invariant c.requires.2 c.loop-k-test.true c.keep.new.index c.keep.new.words c.keep.result
-          (var_after _ _ _ c.keep.ensures) c.in-Term.is,
-    )
+  arith,
+  vars_small c.loop-k.invariant c.requires.2 c.loop-k-test.true c.keep.new.index c.keep.new.words c.keep.result
+      (var_after _ _ _ c.keep.ensures) c.in-Term.is,
+)
 
 pub bounds-bound-k : goal.bounds-bound-k
 bounds-bound-k c = vars_place c.loop-k.invariant c.requires.2 c.loop-k-test.true c.keep.new.index c.keep.new.words c.keep.result (var_after _ _ _ c.keep.ensures)

@@ -47,17 +47,17 @@ loop-k-smaller c = omega (arith, c.loop-k-test.true)
 
 pub loop-k-preserved : goal.loop-k-preserved
 loop-k-preserved c = (
-      omega (arith, c.loop-k-test.true),
-      omega (arith, c.loop-k.invariant.1),
-      omega (arith, c.if-v-ge-VARIABLES.false),
-      length-set {A = ℕ} c.loop-k.sorts c.loop-k.v
-          c.variable_sort.result ∙ c.loop-k.invariant.3,
-      length-set {A = ℕ} c.loop-k.list c.loop-k.k c.loop-k.v ∙ c.loop-k.invariant.4,
-      λ g vs l.
-          making_more (c.loop-k.invariant.5 g vs l) (omega (arith, l, c.loop-k.invariant.1)) c.loop-k.invariant.3 c.loop-k.invariant.1
-          (omega (arith, c.loop-k-test.true, g.many)) (omega (arith, c.if-v-ge-VARIABLES.false)) (omega (arith, c.loop-k-test.true, c.requires.1, c.loop-k.invariant.4))
-          (rule_sort_lem g c.loop-k-test.true c.variable_sort.ensures),
-    )
+  omega (arith, c.loop-k-test.true),
+  omega (arith, c.loop-k.invariant.1),
+  omega (arith, c.if-v-ge-VARIABLES.false),
+  length-set {A = ℕ} c.loop-k.sorts c.loop-k.v
+      c.variable_sort.result ∙ c.loop-k.invariant.3,
+  length-set {A = ℕ} c.loop-k.list c.loop-k.k c.loop-k.v ∙ c.loop-k.invariant.4,
+  λ g vs l.
+      making_more (c.loop-k.invariant.5 g vs l) (omega (arith, l, c.loop-k.invariant.1)) c.loop-k.invariant.3 c.loop-k.invariant.1
+      (omega (arith, c.loop-k-test.true, g.many)) (omega (arith, c.if-v-ge-VARIABLES.false)) (omega (arith, c.loop-k-test.true, c.requires.1, c.loop-k.invariant.4))
+      (rule_sort_lem g c.loop-k-test.true c.variable_sort.ensures),
+)
 
 pub shape_of-sorts : goal.shape_of-sorts
 shape_of-sorts c = c.loop-k.invariant.3 ∙ sym c.requires.2

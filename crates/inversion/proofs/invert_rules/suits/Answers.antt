@@ -35,12 +35,12 @@ loop-k-smaller c = omega arith
 
 pub loop-k-preserved : goal.loop-k-preserved
 loop-k-preserved c = (
-      omega arith,
-      c.loop-k.invariant.1,
-      λ g vs count h. c.loop-k.invariant.2 g vs count h ∙ suit_on vs _ _ _ c.loop-k-test.true
-          (omega (arith, c.loop-k.invariant.1, g.many, c.loop-k-test.true)) (c.var_sort.ensures ∙ var_sort_is h _)
-          (rule_sort_lem g (omega (arith, c.loop-k.invariant.1, c.loop-k-test.true)) c.variable_sort.ensures) c.same_sort.ensures (ap not c.if-not-same_sort.false),
-    )
+  omega arith,
+  c.loop-k.invariant.1,
+  λ g vs count h. c.loop-k.invariant.2 g vs count h ∙ suit_on vs _ _ _ c.loop-k-test.true
+      (omega (arith, c.loop-k.invariant.1, g.many, c.loop-k-test.true)) (c.var_sort.ensures ∙ var_sort_is h _)
+      (rule_sort_lem g (omega (arith, c.loop-k.invariant.1, c.loop-k-test.true)) c.variable_sort.ensures) c.same_sort.ensures (ap not c.if-not-same_sort.false),
+)
 
 pub returns : goal.returns
 returns c = λ g vs count h. sym (c.loop-k.invariant.2 g vs count h ∙ suit_over vs _ _ _ c.loop-k-test.false (omega (arith, c.loop-k.invariant.1, g.many, c.loop-k-test.false)))

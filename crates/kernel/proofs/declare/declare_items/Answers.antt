@@ -1,5 +1,5 @@
 use mathlib.Core.Path.{refl}
-use Rattle.rules.specs.Tags.{aSort, aCtor, aPred, aRule}
+use Rattle.rules.specs.Tags.{a_sort, a_ctor, a_pred, a_rule}
 use Rattle.sexp.specs.declared.tags.Declaration.TheVariants.{Sort, Ctor, Pred, Rule, Unknown}
 use Rattle.kernel.specs.Parsed.{theory_lists}
 use Rattle.kernel.proofs.Tagged.{told, item_many, form_of, no_tag, sort_taken, ctor_taken, pred_taken, rule_taken}
@@ -10,16 +10,16 @@ pub tag_of-requires : goal.tag_of-requires
 tag_of-requires c = (c.requires.xs, c.requires.holds)
 
 pub add_sort-r-requires : goal.add_sort-r-requires
-add_sort-r-requires c = record { form = form_of c.requires aSort (told Sort (c.tag_of.ensures c.requires.xs c.requires.holds) c.in-Sort.is); some_sorts = (c.requires.T.sorts, c.requires.held.sorts) }
+add_sort-r-requires c = record { form = form_of c.requires a_sort (told Sort (c.tag_of.ensures c.requires.xs c.requires.holds) c.in-Sort.is); some_sorts = (c.requires.T.sorts, c.requires.held.sorts) }
 
 pub add_ctor-r-requires : goal.add_ctor-r-requires
-add_ctor-r-requires c = record { form = form_of c.requires aCtor (told Ctor (c.tag_of.ensures c.requires.xs c.requires.holds) c.in-Ctor.is); some_sorts = (c.requires.T.sorts, c.requires.held.sorts); some_symbols_held = (c.requires.T.symbols, c.requires.held.symbols) }
+add_ctor-r-requires c = record { form = form_of c.requires a_ctor (told Ctor (c.tag_of.ensures c.requires.xs c.requires.holds) c.in-Ctor.is); some_sorts = (c.requires.T.sorts, c.requires.held.sorts); some_symbols_held = (c.requires.T.symbols, c.requires.held.symbols) }
 
 pub add_pred-r-requires : goal.add_pred-r-requires
-add_pred-r-requires c = record { form = form_of c.requires aPred (told Pred (c.tag_of.ensures c.requires.xs c.requires.holds) c.in-Pred.is); some_sorts = (c.requires.T.sorts, c.requires.held.sorts); some_symbols_held = (c.requires.T.symbols, c.requires.held.symbols) }
+add_pred-r-requires c = record { form = form_of c.requires a_pred (told Pred (c.tag_of.ensures c.requires.xs c.requires.holds) c.in-Pred.is); some_sorts = (c.requires.T.sorts, c.requires.held.sorts); some_symbols_held = (c.requires.T.symbols, c.requires.held.symbols) }
 
 pub add_rule-r-requires : goal.add_rule-r-requires
-add_rule-r-requires c = record { form = form_of c.requires aRule (told Rule (c.tag_of.ensures c.requires.xs c.requires.holds) c.in-Rule.is); some_symbols_held = (c.requires.T.symbols, c.requires.held.symbols); some_rules = (c.requires.T.rules, c.requires.held.rules) }
+add_rule-r-requires c = record { form = form_of c.requires a_rule (told Rule (c.tag_of.ensures c.requires.xs c.requires.holds) c.in-Rule.is); some_symbols_held = (c.requires.T.symbols, c.requires.held.symbols); some_rules = (c.requires.T.rules, c.requires.held.rules) }
 
 pub shape_of-sorts-in-Sort : goal.shape_of-sorts-in-Sort
 shape_of-sorts-in-Sort c = c.add_sort-r.auto.sorts
@@ -45,7 +45,7 @@ returns-in-Ctor c = λ T xs h k.
     ctor_taken
     (theory_lists c.args.sorts.now c.args.symbols.now c.args.inputs.now c.args.rules.now c.args.vars.now c.args.patterns.now)
     c.args.held T xs h c.add_ctor-r.new.symbols c.add_ctor-r.new.inputs tagged c.add_ctor-r.result
-    c.symbols_now.result (c.add_ctor-r.ensures T xs h.sorts h.symbols k (item_many xs aCtor tagged))
+    c.symbols_now.result (c.add_ctor-r.ensures T xs h.sorts h.symbols k (item_many xs a_ctor tagged))
     c.symbols_now.ensures
 
 pub shape_of-sorts-in-Pred : goal.shape_of-sorts-in-Pred
@@ -63,7 +63,7 @@ returns-in-Pred c = λ T xs h k.
     pred_taken
     (theory_lists c.args.sorts.now c.args.symbols.now c.args.inputs.now c.args.rules.now c.args.vars.now c.args.patterns.now)
     c.args.held T xs h c.add_pred-r.new.symbols c.add_pred-r.new.inputs tagged c.add_pred-r.result
-    c.symbols_now-in-Pred.result (c.add_pred-r.ensures T xs h.sorts h.symbols k (item_many xs aPred tagged))
+    c.symbols_now-in-Pred.result (c.add_pred-r.ensures T xs h.sorts h.symbols k (item_many xs a_pred tagged))
     c.symbols_now-in-Pred.ensures
 
 pub shape_of-symbols-in-Rule : goal.shape_of-symbols-in-Rule
@@ -88,7 +88,7 @@ returns-in-Rule c = λ T xs h k.
     (theory_lists c.args.sorts.now c.args.symbols.now c.args.inputs.now c.args.rules.now c.args.vars.now c.args.patterns.now)
     c.args.held T xs h c.add_rule-r.new.rules c.add_rule-r.new.vars
     c.add_rule-r.new.patterns tagged c.add_rule-r.result c.rules_now.result
-    (c.add_rule-r.ensures T xs h.symbols h.rules k (item_many xs aRule tagged)) c.rules_now.ensures
+    (c.add_rule-r.ensures T xs h.symbols h.rules k (item_many xs a_rule tagged)) c.rules_now.ensures
 
 pub returns-in-Unknown : goal.returns-in-Unknown
 returns-in-Unknown c = λ T xs h k. no_tag

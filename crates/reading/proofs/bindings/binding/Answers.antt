@@ -11,11 +11,11 @@ returns-in_default c = λ g. binding_atom_lem g c.item_at.ensures c.in_default.i
 
 pub offset_bounds-cells-a : goal.offset_bounds-cells-a
 offset_bounds-cells-a c = omega (
-      arith,
-      (binding_list c.requires c.item_at.ensures c.in-List.is).low,
-      (binding_list c.requires c.item_at.ensures c.in-List.is).high,
-      c.well_formed.1.1.1.1.1.1.1.1.1.1.1.0,
-    )
+  arith,
+  (binding_list c.requires c.item_at.ensures c.in-List.is).low,
+  (binding_list c.requires c.item_at.ensures c.in-List.is).high,
+  c.well_formed.1.1.1.1.1.1.1.1.1.1.1.0,
+)
 
 pub slice_bounds-inner-count : goal.slice_bounds-inner-count
 slice_bounds-inner-count c = (binding_list (c.requires) c.item_at.ensures c.in-List.is).low
@@ -44,11 +44,11 @@ after-next-requires c = first_cell c.requires (binding_two c.requires c.item_at.
 
 pub offset_bounds-inner-next : goal.offset_bounds-inner-next
 offset_bounds-inner-next c = omega (
-      arith,
-      second_near c.requires (binding_two c.requires c.item_at.ensures c.in-List.is c.count.ensures c.if-count-ne2.false) c.variable.ensures
-          c.in-At.is c.after-next.ensures,
-      c.well_formed.1.1.1.1.1.1.1.1.1.1.1.0,
-    )
+  arith,
+  second_near c.requires (binding_two c.requires c.item_at.ensures c.in-List.is c.count.ensures c.if-count-ne2.false) c.variable.ensures
+      c.in-At.is c.after-next.ensures,
+  c.well_formed.1.1.1.1.1.1.1.1.1.1.1.0,
+)
 
 pub slice_bounds-term_of-count : goal.slice_bounds-term_of-count
 slice_bounds-term_of-count c = second_high c.requires (binding_two c.requires c.item_at.ensures c.in-List.is c.count.ensures c.if-count-ne2.false) c.variable.ensures c.in-At.is

@@ -24,11 +24,11 @@ binding-requires c = left_given (c.loop-at.invariant c.requires.reads_items) c.l
 
 pub offset_bounds-map-v : goal.offset_bounds-map-v
 offset_bounds-map-v c = omega (
-      arith,
-      left_small (c.loop-at.invariant c.requires.reads_items) c.loop-at-test.true c.binding.new.index
-          c.binding.new.words c.binding.result c.binding.ensures c.in-Of.is,
-      (c.loop-at.invariant c.requires.reads_items).theta.long,
-    )
+  arith,
+  left_small (c.loop-at.invariant c.requires.reads_items) c.loop-at-test.true c.binding.new.index
+      c.binding.new.words c.binding.result c.binding.ensures c.in-Of.is,
+  (c.loop-at.invariant c.requires.reads_items).theta.long,
+)
 
 pub bounds-map-v : goal.bounds-map-v
 bounds-map-v c = left_small (c.loop-at.invariant c.requires.reads_items) c.loop-at-test.true c.binding.new.index
@@ -48,33 +48,33 @@ shape_of-map-then-map-v-ne0 c = c.clear.auto.cells ∙ (c.loop-at.invariant c.re
 
 pub returns-then-map-v-ne0 : goal.returns-then-map-v-ne0
 returns-then-map-v-ne0 c = λ g. (
-      left_twice (c.loop-at.invariant g) c.loop-at-test.true c.binding.new.index
-          c.binding.new.words c.binding.result c.binding.ensures c.in-Of.is c.if-map-v-ne0.true,
-      cleared
-          (c.loop-at.invariant g).theta c.requires.map_value c.clear.ensures,
-    )
+  left_twice (c.loop-at.invariant g) c.loop-at-test.true c.binding.new.index
+      c.binding.new.words c.binding.result c.binding.ensures c.in-Of.is c.if-map-v-ne0.true,
+  cleared
+      (c.loop-at.invariant g).theta c.requires.map_value c.clear.ensures,
+)
 
 pub overflow_add-map : goal.overflow_add-map
 overflow_add-map c = omega (
-      arith,
-      left_fits (c.loop-at.invariant c.requires.reads_items) c.loop-at-test.true c.binding.new.index
-          c.binding.new.words c.binding.result c.binding.ensures c.in-Of.is,
-    )
+  arith,
+  left_fits (c.loop-at.invariant c.requires.reads_items) c.loop-at-test.true c.binding.new.index
+      c.binding.new.words c.binding.result c.binding.ensures c.in-Of.is,
+)
 
 pub overflow_cast-map : goal.overflow_cast-map
 overflow_cast-map c = omega (
-      arith,
-      left_fits (c.loop-at.invariant c.requires.reads_items) c.loop-at-test.true c.binding.new.index
-          c.binding.new.words c.binding.result c.binding.ensures c.in-Of.is,
-    )
+  arith,
+  left_fits (c.loop-at.invariant c.requires.reads_items) c.loop-at-test.true c.binding.new.index
+      c.binding.new.words c.binding.result c.binding.ensures c.in-Of.is,
+)
 
 pub offset_bounds-map-v-in-Of : goal.offset_bounds-map-v-in-Of
 offset_bounds-map-v-in-Of c = omega (
-      arith,
-      left_small (c.loop-at.invariant c.requires.reads_items) c.loop-at-test.true c.binding.new.index
-          c.binding.new.words c.binding.result c.binding.ensures c.in-Of.is,
-      (c.loop-at.invariant c.requires.reads_items).theta.long,
-    )
+  arith,
+  left_small (c.loop-at.invariant c.requires.reads_items) c.loop-at-test.true c.binding.new.index
+      c.binding.new.words c.binding.result c.binding.ensures c.in-Of.is,
+  (c.loop-at.invariant c.requires.reads_items).theta.long,
+)
 
 pub bounds-map-v-in-Of : goal.bounds-map-v-in-Of
 bounds-map-v-in-Of c = left_small (c.loop-at.invariant c.requires.reads_items) c.loop-at-test.true c.binding.new.index
@@ -94,11 +94,11 @@ shape_of-map-in-No c = c.clear-in-No.auto.cells ∙ (c.loop-at.invariant c.requi
 
 pub returns-in-No : goal.returns-in-No
 returns-in-No c = λ g. (
-      left_refused (c.loop-at.invariant g) c.loop-at-test.true c.binding.new.index
-          c.binding.new.words c.binding.result c.binding.ensures c.in-No.is,
-      cleared (c.loop-at.invariant g).theta
-          c.requires.map_value c.clear-in-No.ensures,
-    )
+  left_refused (c.loop-at.invariant g) c.loop-at-test.true c.binding.new.index
+      c.binding.new.words c.binding.result c.binding.ensures c.in-No.is,
+  cleared (c.loop-at.invariant g).theta
+      c.requires.map_value c.clear-in-No.ensures,
+)
 
 pub after-at-requires : goal.after-at-requires
 after-at-requires c = c.loop-at-test.true

@@ -12,11 +12,11 @@ returns-in_default c = λ g. (atom_refuses _ g.S g.x _ _ (first_atom g.holds c.i
 
 pub offset_bounds-cells-a : goal.offset_bounds-cells-a
 offset_bounds-cells-a c = omega (
-      arith,
-      (first_list c.requires.0.holds c.item_at.ensures c.in-List.is).low,
-      (first_list c.requires.0.holds c.item_at.ensures c.in-List.is).high,
-      c.well_formed.1.1.1.0,
-    )
+  arith,
+  (first_list c.requires.0.holds c.item_at.ensures c.in-List.is).low,
+  (first_list c.requires.0.holds c.item_at.ensures c.in-List.is).high,
+  c.well_formed.1.1.1.0,
+)
 
 pub slice_bounds-hyp_each-count : goal.slice_bounds-hyp_each-count
 slice_bounds-hyp_each-count c = (first_list c.requires.0.holds c.item_at.ensures c.in-List.is).low

@@ -13,11 +13,11 @@ returns-in_default c = λ g. (pure_stopped g.reads.good (atom_stops g.S g.x _ _ 
 
 pub offset_bounds-cells-a : goal.offset_bounds-cells-a
 offset_bounds-cells-a c = omega (
-      arith,
-      (first_list c.requires.reads_item.holds c.item_at.ensures c.in-List.is).low,
-      (first_list c.requires.reads_item.holds c.item_at.ensures c.in-List.is).high,
-      c.well_formed.1.1.1.1.1.1.1.1.1.1.1.0,
-    )
+  arith,
+  (first_list c.requires.reads_item.holds c.item_at.ensures c.in-List.is).low,
+  (first_list c.requires.reads_item.holds c.item_at.ensures c.in-List.is).high,
+  c.well_formed.1.1.1.1.1.1.1.1.1.1.1.0,
+)
 
 pub slice_bounds-judgment_each-count : goal.slice_bounds-judgment_each-count
 slice_bounds-judgment_each-count c = (first_list c.requires.reads_item.holds c.item_at.ensures c.in-List.is).low

@@ -112,22 +112,22 @@ compound-slice_bounds-arguments-end-in-Symbol t c = search rules
 
 pub compound-arguments-requires : goal.compound-arguments-requires
 compound-arguments-requires t c = (
-      omega (
-        arith,
-        rest_fewer c.args.cells.now
-            (opened c.requires.S (compoundOf c.requires.S c.requires.xs) c.constructor_first.result
-            (c.constructor_first.ensures (opens c.requires)) c.in-Symbol.is).some,
-        c.decreases,
-      ),
-      (
-        rest_items c.requires.reads
-            (opened c.requires.S (compoundOf c.requires.S c.requires.xs) c.constructor_first.result
-            (c.constructor_first.ensures (opens c.requires)) c.in-Symbol.is),
+  omega (
+    arith,
+    rest_fewer c.args.cells.now
         (opened c.requires.S (compoundOf c.requires.S c.requires.xs) c.constructor_first.result
-            (c.constructor_first.ensures (opens c.requires)) c.in-Symbol.is).known,
-        refl,
-      ),
-    )
+        (c.constructor_first.ensures (opens c.requires)) c.in-Symbol.is).some,
+    c.decreases,
+  ),
+  (
+    rest_items c.requires.reads
+        (opened c.requires.S (compoundOf c.requires.S c.requires.xs) c.constructor_first.result
+        (c.constructor_first.ensures (opens c.requires)) c.in-Symbol.is),
+    (opened c.requires.S (compoundOf c.requires.S c.requires.xs) c.constructor_first.result
+        (c.constructor_first.ensures (opens c.requires)) c.in-Symbol.is).known,
+    refl,
+  ),
+)
 
 pub compound-shape_of-index-then-not-fits : goal.compound-shape_of-index-then-not-fits
 compound-shape_of-index-then-not-fits t c = c.arguments.auto.index
@@ -144,14 +144,14 @@ compound-returns-then-not-fits t c = λ g. behind_misfits g.reads
 
 pub compound-slice_bounds-node-end : goal.compound-slice_bounds-node-end
 compound-slice_bounds-node-end t c = omega (
-      arith,
-      behind_narrow c.requires.reads
-          (opened c.requires.S (compoundOf c.requires.S c.requires.xs) c.constructor_first.result
-          (c.constructor_first.ensures (opens c.requires)) c.in-Symbol.is) c.arguments.new.index
-          c.arguments.new.words c.arguments.new.node c.arguments.result
-          c.arguments.ensures c.in-Term.is (ap not c.if-not-fits.false),
-      c.arguments.auto.node,
-    )
+  arith,
+  behind_narrow c.requires.reads
+      (opened c.requires.S (compoundOf c.requires.S c.requires.xs) c.constructor_first.result
+      (c.constructor_first.ensures (opens c.requires)) c.in-Symbol.is) c.arguments.new.index
+      c.arguments.new.words c.arguments.new.node c.arguments.result
+      c.arguments.ensures c.in-Term.is (ap not c.if-not-fits.false),
+  c.arguments.auto.node,
+)
 
 pub compound-slice_bounds-keep_typed-end : goal.compound-slice_bounds-keep_typed-end
 compound-slice_bounds-keep_typed-end t c = behind_length c.requires.reads
@@ -211,11 +211,11 @@ term-atomic-requires t c = atom_given c.requires c.item_at.ensures c.in-Atom.is
 
 pub term-offset_bounds-cells-a : goal.term-offset_bounds-cells-a
 term-offset_bounds-cells-a t c = omega (
-      arith,
-      (item_list c.requires c.item_at.ensures c.in-List.is).low,
-      (item_list c.requires c.item_at.ensures c.in-List.is).high,
-      c.well_formed.1.1.1.1.1.1.1.1.1.1.1.0,
-    )
+  arith,
+  (item_list c.requires c.item_at.ensures c.in-List.is).low,
+  (item_list c.requires c.item_at.ensures c.in-List.is).high,
+  c.well_formed.1.1.1.1.1.1.1.1.1.1.1.0,
+)
 
 pub term-slice_bounds-compound-count : goal.term-slice_bounds-compound-count
 term-slice_bounds-compound-count t c = (item_list c.requires c.item_at.ensures c.in-List.is).low
@@ -228,10 +228,10 @@ term-slice_bounds-compound-end t c = (item_list c.requires c.item_at.ensures c.i
 
 pub term-compound-requires : goal.term-compound-requires
 term-compound-requires t c = (
-      omega (arith, (item_list c.requires c.item_at.ensures c.in-List.is).shorter, c.decreases),
-      list_items c.requires c.item_at.ensures
-          c.in-List.is,
-    )
+  omega (arith, (item_list c.requires c.item_at.ensures c.in-List.is).shorter, c.decreases),
+  list_items c.requires c.item_at.ensures
+      c.in-List.is,
+)
 
 pub term-shape_of-index-in-Atom : goal.term-shape_of-index-in-Atom
 term-shape_of-index-in-Atom t c = c.atomic.auto.index

@@ -17,11 +17,11 @@ returns-in_default c = λ g. judgment_atom g c.item_at.ensures c.in_default.is
 
 pub offset_bounds-cells-a : goal.offset_bounds-cells-a
 offset_bounds-cells-a c = omega (
-      arith,
-      (item_list c.requires c.item_at.ensures c.in-List.is).low,
-      (item_list c.requires c.item_at.ensures c.in-List.is).high,
-      c.well_formed.1.1.1.1.1.1.1.1.1.1.1.0,
-    )
+  arith,
+  (item_list c.requires c.item_at.ensures c.in-List.is).low,
+  (item_list c.requires c.item_at.ensures c.in-List.is).high,
+  c.well_formed.1.1.1.1.1.1.1.1.1.1.1.0,
+)
 
 pub slice_bounds-inner-count : goal.slice_bounds-inner-count
 slice_bounds-inner-count c = (item_list c.requires c.item_at.ensures c.in-List.is).low
@@ -45,13 +45,13 @@ slice_bounds-arguments-start c = (opened c.requires.S (judgment_of c.requires.S 
 
 pub arguments-requires : goal.arguments-requires
 arguments-requires c = (
-      rest_items c.requires.reads
-          (opened c.requires.S (judgment_of c.requires.S c.requires.x) c.predicate_first.result
-          (judgment_opening c.requires c.item_at.ensures c.in-List.is c.predicate_first.result c.predicate_first.ensures) c.in-Symbol.is),
+  rest_items c.requires.reads
       (opened c.requires.S (judgment_of c.requires.S c.requires.x) c.predicate_first.result
-          (judgment_opening c.requires c.item_at.ensures c.in-List.is c.predicate_first.result c.predicate_first.ensures) c.in-Symbol.is).known,
-      refl,
-    )
+      (judgment_opening c.requires c.item_at.ensures c.in-List.is c.predicate_first.result c.predicate_first.ensures) c.in-Symbol.is),
+  (opened c.requires.S (judgment_of c.requires.S c.requires.x) c.predicate_first.result
+      (judgment_opening c.requires c.item_at.ensures c.in-List.is c.predicate_first.result c.predicate_first.ensures) c.in-Symbol.is).known,
+  refl,
+)
 
 pub shape_of-index-then-not-fits : goal.shape_of-index-then-not-fits
 shape_of-index-then-not-fits c = c.arguments.auto.index
@@ -69,15 +69,15 @@ returns-then-not-fits c = λ g. behind_misfits g.reads
 
 pub slice_bounds-node-end : goal.slice_bounds-node-end
 slice_bounds-node-end c = omega (
-      arith,
-      behind_narrow c.requires.reads
-          (opened c.requires.S (judgment_of c.requires.S c.requires.x) c.predicate_first.result
-          (judgment_opening c.requires c.item_at.ensures c.in-List.is c.predicate_first.result c.predicate_first.ensures)
-          c.in-Symbol.is) c.arguments.new.index c.arguments.new.words
-          c.arguments.new.node c.arguments.result c.arguments.ensures c.in-Term.is
-          (ap not c.if-not-fits.false),
-      c.arguments.auto.node,
-    )
+  arith,
+  behind_narrow c.requires.reads
+      (opened c.requires.S (judgment_of c.requires.S c.requires.x) c.predicate_first.result
+      (judgment_opening c.requires c.item_at.ensures c.in-List.is c.predicate_first.result c.predicate_first.ensures)
+      c.in-Symbol.is) c.arguments.new.index c.arguments.new.words
+      c.arguments.new.node c.arguments.result c.arguments.ensures c.in-Term.is
+      (ap not c.if-not-fits.false),
+  c.arguments.auto.node,
+)
 
 pub slice_bounds-keep-end : goal.slice_bounds-keep-end
 slice_bounds-keep-end c = behind_length c.requires.reads
@@ -88,15 +88,18 @@ slice_bounds-keep-end c = behind_length c.requires.reads
     c.arguments.auto.node
 
 pub keep-requires : goal.keep-requires
-keep-requires c = record { good = (behind_node c.requires.reads
-    (opened c.requires.S (judgment_of c.requires.S c.requires.x) c.predicate_first.result
-    (judgment_opening c.requires c.item_at.ensures c.in-List.is c.predicate_first.result c.predicate_first.ensures) c.in-Symbol.is)
-    c.arguments.new.index c.arguments.new.words
-    c.arguments.new.node c.arguments.result c.arguments.ensures c.in-Term.is (ap not c.if-not-fits.false)).0; node = (behind_node c.requires.reads
-    (opened c.requires.S (judgment_of c.requires.S c.requires.x) c.predicate_first.result
-    (judgment_opening c.requires c.item_at.ensures c.in-List.is c.predicate_first.result c.predicate_first.ensures) c.in-Symbol.is)
-    c.arguments.new.index c.arguments.new.words
-    c.arguments.new.node c.arguments.result c.arguments.ensures c.in-Term.is (ap not c.if-not-fits.false)).1 }
+keep-requires c = record {
+  good = (behind_node c.requires.reads
+      (opened c.requires.S (judgment_of c.requires.S c.requires.x) c.predicate_first.result
+      (judgment_opening c.requires c.item_at.ensures c.in-List.is c.predicate_first.result c.predicate_first.ensures) c.in-Symbol.is)
+      c.arguments.new.index c.arguments.new.words
+      c.arguments.new.node c.arguments.result c.arguments.ensures c.in-Term.is (ap not c.if-not-fits.false)).0;
+  node = (behind_node c.requires.reads
+      (opened c.requires.S (judgment_of c.requires.S c.requires.x) c.predicate_first.result
+      (judgment_opening c.requires c.item_at.ensures c.in-List.is c.predicate_first.result c.predicate_first.ensures) c.in-Symbol.is)
+      c.arguments.new.index c.arguments.new.words
+      c.arguments.new.node c.arguments.result c.arguments.ensures c.in-Term.is (ap not c.if-not-fits.false)).1;
+}
 
 pub returns-in-No : goal.returns-in-No
 returns-in-No c = λ g. unopened g.reads.good c.args.text.now (take (c.in-List.b - c.in-List.a) (drop c.in-List.a c.args.cells.now))

@@ -31,10 +31,10 @@ returns-then-arity-ne0 c = λ g. name_many g c.args.name.now (c.var_named.ensure
 
 pub overflow_cast-node-in-Missing : goal.overflow_cast-node-in-Missing
 overflow_cast-node-in-Missing c = omega (
-      arith,
-      constant_small c.requires c.args.name.now (c.var_named.ensures _ c.requires.vars_are) c.in-Missing.is
-          (c.constructor_named.ensures c.requires.S.theory _ c.requires.held) c.in-At-constructor_named.c c.in-At-constructor_named.is,
-    )
+  arith,
+  constant_small c.requires c.args.name.now (c.var_named.ensures _ c.requires.vars_are) c.in-Missing.is
+      (c.constructor_named.ensures c.requires.S.theory _ c.requires.held) c.in-At-constructor_named.c c.in-At-constructor_named.is,
+)
 
 pub output-requires : goal.output-requires
 output-requires c = constant_known c.requires c.args.name.now (c.var_named.ensures _ c.requires.vars_are) c.in-Missing.is

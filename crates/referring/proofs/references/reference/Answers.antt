@@ -8,12 +8,12 @@ item_at-requires c = reference_cell c.requires.refers_item
 
 pub offset_bounds-cells-a : goal.offset_bounds-cells-a
 offset_bounds-cells-a c = omega (
-      arith,
-      (reference_list c.requires.refers_item c.item_at.ensures c.in-List.is).low,
-      (reference_list c.requires.refers_item c.item_at.ensures c.in-List.is
-          ).high,
-      c.well_formed.1.1.1.1.1.1.1.1.1.1.1.1.0,
-    )
+  arith,
+  (reference_list c.requires.refers_item c.item_at.ensures c.in-List.is).low,
+  (reference_list c.requires.refers_item c.item_at.ensures c.in-List.is
+      ).high,
+  c.well_formed.1.1.1.1.1.1.1.1.1.1.1.1.0,
+)
 
 pub slice_bounds-instance-count : goal.slice_bounds-instance-count
 slice_bounds-instance-count c = (reference_list c.requires.refers_item c.item_at.ensures c.in-List.is).low
@@ -31,5 +31,8 @@ pub returns-in-Atom : goal.returns-in-Atom
 returns-in-Atom c = record { referred_as = λ g. reference_atom g c.item_at.ensures c.in-Atom.is c.bare.result c.bare.ensures; map_unchanged = (refl, refl) }
 
 pub returns-in-List : goal.returns-in-List
-returns-in-List c = record { referred_as = λ g. reference_instance g c.item_at.ensures c.in-List.is c.instance.new.index
-          c.instance.new.words c.instance.result c.instance.ensures.referred_as; map_unchanged = c.instance.ensures.map_unchanged }
+returns-in-List c = record {
+  referred_as = λ g. reference_instance g c.item_at.ensures c.in-List.is c.instance.new.index
+      c.instance.new.words c.instance.result c.instance.ensures.referred_as;
+  map_unchanged = c.instance.ensures.map_unchanged;
+}

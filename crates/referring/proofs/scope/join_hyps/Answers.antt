@@ -14,43 +14,46 @@ loop-k-init c = joining_begins c.requires.seen
 
 pub offset_bounds-ids-k : goal.offset_bounds-ids-k
 offset_bounds-ids-k c = omega (
-      arith,
-      rising_few (64 * length c.args.hyps.now) (holds c.args.hyps.now),
-      c.write_out-count.ensures.0,
-      c.requires.hyps_len.0,
-      c.loop-k-test.true,
-    )
+  arith,
+  rising_few (64 * length c.args.hyps.now) (holds c.args.hyps.now),
+  c.write_out-count.ensures.0,
+  c.requires.hyps_len.0,
+  c.loop-k-test.true,
+)
 
 pub bounds-ids-k : goal.bounds-ids-k
 bounds-ids-k c = omega (
-      arith,
-      rising_few (64 * length c.args.hyps.now) (holds c.args.hyps.now),
-      c.write_out-count.ensures.0,
-      c.requires.hyps_len.0,
-      c.loop-k-test.true,
-    )
+  arith,
+  rising_few (64 * length c.args.hyps.now) (holds c.args.hyps.now),
+  c.write_out-count.ensures.0,
+  c.requires.hyps_len.0,
+  c.loop-k-test.true,
+)
 
 pub overflow_cast-ids : goal.overflow_cast-ids
 overflow_cast-ids c = omega (
-      arith,
-      member_below c.requires.recalls.0 _ c.requires.recalls.1 c.requires.hyps_len.0 c.write_out-count.ensures.0 c.write_out-count.ensures.1
-          c.loop-k-test.true,
-      c.requires.recalls.0.recorded.many,
-      c.requires.recalls.0.recorded.rows.row12,
-    )
+  arith,
+  member_below c.requires.recalls.0 _ c.requires.recalls.1 c.requires.hyps_len.0 c.write_out-count.ensures.0 c.write_out-count.ensures.1
+      c.loop-k-test.true,
+  c.requires.recalls.0.recorded.many,
+  c.requires.recalls.0.recorded.rows.row12,
+)
 
 pub join_free-requires : goal.join_free-requires
-join_free-requires c = record { recalls = joining_ready c.loop-k.invariant c.requires.recalls.0 c.requires.recalls.1 c.requires.hyps_len.0 c.write_out-count.ensures.0 c.requires.hyps_len.1 c.requires.hyps_len.2
-          c.write_out-count.ensures.1 c.loop-k-test.true; seen = c.loop-k.invariant.visits }
+join_free-requires c = record {
+  recalls = joining_ready c.loop-k.invariant c.requires.recalls.0 c.requires.recalls.1 c.requires.hyps_len.0 c.write_out-count.ensures.0 c.requires.hyps_len.1 c.requires.hyps_len.2
+      c.write_out-count.ensures.1 c.loop-k-test.true;
+  seen = c.loop-k.invariant.visits;
+}
 
 pub overflow_add-k : goal.overflow_add-k
 overflow_add-k c = omega (
-      arith,
-      rising_few (64 * length c.args.hyps.now) (holds c.args.hyps.now),
-      c.write_out-count.ensures.0,
-      c.requires.hyps_len.0,
-      c.loop-k-test.true,
-    )
+  arith,
+  rising_few (64 * length c.args.hyps.now) (holds c.args.hyps.now),
+  c.write_out-count.ensures.0,
+  c.requires.hyps_len.0,
+  c.loop-k-test.true,
+)
 
 pub loop-k-preserved : goal.loop-k-preserved
 loop-k-preserved c = joining_on c.loop-k.invariant c.requires.recalls.0 c.requires.recalls.1 c.requires.hyps_len.0 c.write_out-count.ensures.0 c.write_out-count.ensures.1 c.loop-k-test.true

@@ -14,35 +14,38 @@ premises-own-requires c = fact_there c.requires.recalls.0 c.requires.recalls.1
 
 pub offset_bounds-lists-from : goal.offset_bounds-lists-from
 offset_bounds-lists-from c = omega (
-      arith,
-      premises_order c.requires.recalls.0 c.requires.recalls.1 c.premises-own.ensures,
-      premises_end c.requires.recalls.0 c.requires.recalls.1
-          c.premises-own.ensures,
-      lists_are c.requires.recalls.0 c.requires.recalls.1,
-    )
+  arith,
+  premises_order c.requires.recalls.0 c.requires.recalls.1 c.premises-own.ensures,
+  premises_end c.requires.recalls.0 c.requires.recalls.1
+      c.premises-own.ensures,
+  lists_are c.requires.recalls.0 c.requires.recalls.1,
+)
 
 pub slice_bounds-visit_all-count : goal.slice_bounds-visit_all-count
 slice_bounds-visit_all-count c = premises_order c.requires.recalls.0 c.requires.recalls.1 c.premises-own.ensures
 
 pub slice_bounds-visit_all-start : goal.slice_bounds-visit_all-start
 slice_bounds-visit_all-start c = omega (
-      arith,
-      premises_order c.requires.recalls.0 c.requires.recalls.1 c.premises-own.ensures,
-      premises_end c.requires.recalls.0 c.requires.recalls.1
-          c.premises-own.ensures,
-    )
+  arith,
+  premises_order c.requires.recalls.0 c.requires.recalls.1 c.premises-own.ensures,
+  premises_end c.requires.recalls.0 c.requires.recalls.1
+      c.premises-own.ensures,
+)
 
 pub slice_bounds-visit_all-end : goal.slice_bounds-visit_all-end
 slice_bounds-visit_all-end c = omega (
-      arith,
-      premises_order c.requires.recalls.0 c.requires.recalls.1 c.premises-own.ensures,
-      premises_end c.requires.recalls.0 c.requires.recalls.1
-          c.premises-own.ensures,
-    )
+  arith,
+  premises_order c.requires.recalls.0 c.requires.recalls.1 c.premises-own.ensures,
+  premises_end c.requires.recalls.0 c.requires.recalls.1
+      c.premises-own.ensures,
+)
 
 pub visit_all-requires : goal.visit_all-requires
-visit_all-requires c = record { readable_all = premises_ready c.requires.recalls.0 c.requires.recalls.1 c.premises-own.ensures (c.visit.auto.seen ∙ c.requires.recalls.2)
-          (c.visit.auto.set ∙ c.requires.recalls.3); seen = c.visit.ensures.visits }
+visit_all-requires c = record {
+  readable_all = premises_ready c.requires.recalls.0 c.requires.recalls.1 c.premises-own.ensures (c.visit.auto.seen ∙ c.requires.recalls.2)
+      (c.visit.auto.set ∙ c.requires.recalls.3);
+  seen = c.visit.ensures.visits;
+}
 
 pub returns : goal.returns
 returns c = λ g. mention_done g c.requires.recalls.1 c.premises-own.ensures c.judgment.ensures c.visit.ensures c.visit_all.ensures

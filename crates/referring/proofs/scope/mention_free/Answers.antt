@@ -16,12 +16,12 @@ general-own-requires c = fact_there c.requires.0 c.requires.1
 
 pub offset_bounds-lists-from : goal.offset_bounds-lists-from
 offset_bounds-lists-from c = omega (
-      arith,
-      general_order c.requires.0 c.requires.1 c.general-own.ensures,
-      general_end c.requires.0 c.requires.1 c.general-own.ensures,
-      lists_are
-          c.requires.0 c.requires.1,
-    )
+  arith,
+  general_order c.requires.0 c.requires.1 c.general-own.ensures,
+  general_end c.requires.0 c.requires.1 c.general-own.ensures,
+  lists_are
+      c.requires.0 c.requires.1,
+)
 
 pub slice_bounds-insert_all-count : goal.slice_bounds-insert_all-count
 slice_bounds-insert_all-count c = general_order c.requires.0 c.requires.1 c.general-own.ensures

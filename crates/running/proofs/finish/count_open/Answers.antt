@@ -15,7 +15,7 @@ is_open-requires c = judgment_held c.requires c.loop-k.k c.loop-k-test.true c.go
 
 pub loop-k-preserved : goal.loop-k-preserved
 loop-k-preserved c = elim c.if-is_open.branch [
-    then-is_open w ↦ seen_more c.loop-k.invariant c.loop-k-test.true c.goal_judgment.ensures c.is_open.result c.is_open.ensures w.if-is_open.true w.many-is
+  | then-is_open w ↦ seen_more c.loop-k.invariant c.loop-k-test.true c.goal_judgment.ensures c.is_open.result c.is_open.ensures w.if-is_open.true w.many-is
   | else-is_open w ↦ seen_skip c.loop-k.invariant c.loop-k-test.true c.goal_judgment.ensures c.is_open.result c.is_open.ensures w.if-is_open.false w.many-is
 ]
 

@@ -14,7 +14,7 @@ is_taken-requires c = (rows_long c.requires.0, omega (arith, c.loop-k-test.true,
 
 pub loop-k-preserved : goal.loop-k-preserved
 loop-k-preserved c = elim c.if-not-is_taken.branch [
-    then-not-is_taken w ↦ seen_put c.loop-k.invariant c.loop-k-test.true c.is_taken.ensures (ap not w.if-not-is_taken.true) w.missing-is w.many-is
+  | then-not-is_taken w ↦ seen_put c.loop-k.invariant c.loop-k-test.true c.is_taken.ensures (ap not w.if-not-is_taken.true) w.missing-is w.many-is
   | else-not-is_taken w ↦ seen_skip c.loop-k.invariant c.loop-k-test.true c.is_taken.ensures (ap not w.if-not-is_taken.false) w.missing-is w.many-is
 ]
 

@@ -12,24 +12,24 @@ returns-in_default c = λ M ds h. def_nowhere h c.args.name.now c.named.ensures
 
 pub overflow_mul-result : goal.overflow_mul-result
 overflow_mul-result c = omega (
-      arith,
-      def_inside c.args.name.now _ c.requires c.named.ensures c.in-At.is,
-      c.well_formed,
-    )
+  arith,
+  def_inside c.args.name.now _ c.requires c.named.ensures c.in-At.is,
+  c.well_formed,
+)
 
 pub overflow_add-result : goal.overflow_add-result
 overflow_add-result c = omega (
-      arith,
-      def_inside c.args.name.now _ c.requires c.named.ensures c.in-At.is,
-      c.well_formed,
-    )
+  arith,
+  def_inside c.args.name.now _ c.requires c.named.ensures c.in-At.is,
+  c.well_formed,
+)
 
 pub offset_bounds-defs-i : goal.offset_bounds-defs-i
 offset_bounds-defs-i c = omega (
-      arith,
-      def_inside c.args.name.now _ c.requires c.named.ensures c.in-At.is,
-      c.well_formed,
-    )
+  arith,
+  def_inside c.args.name.now _ c.requires c.named.ensures c.in-At.is,
+  c.well_formed,
+)
 
 pub bounds-defs-i : goal.bounds-defs-i
 bounds-defs-i c = def_inside c.args.name.now _

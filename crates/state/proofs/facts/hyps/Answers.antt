@@ -10,7 +10,7 @@ overflow_cast-result c = omega (arith, c.shared_slice_known-2-1.given (6 * c.arg
 
 pub overflow_add-result-2 : goal.overflow_add-result-2
 overflow_add-result-2 c = omega (
-      arith,
-      c.shared_slice_known-1.given (6 * c.args.i + 2),
-      c.shared_slice_known-2-1.given (6 * c.args.i + 3),
-    )
+  arith,
+  c.shared_slice_known-1.given (6 * c.args.i + 2),
+  c.shared_slice_known-2-1.given (6 * c.args.i + 3),
+)

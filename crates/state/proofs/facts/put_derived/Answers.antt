@@ -15,12 +15,12 @@ returns-then-i-ge-FACTS c = full_12
 
 pub overflow_add-end : goal.overflow_add-end
 overflow_add-end c = omega (
-      arith,
-      rising_few (64 * length c.args.hyps.now) (holds c.args.hyps.now),
-      c.count-many.ensures,
-      c.requires.putting.entries,
-      c.requires.hyps_value.0,
-    )
+  arith,
+  rising_few (64 * length c.args.hyps.now) (holds c.args.hyps.now),
+  c.count-many.ensures,
+  c.requires.putting.entries,
+  c.requires.hyps_value.0,
+)
 
 pub returns-then-end-gt-ENTRIES : goal.returns-then-end-gt-ENTRIES
 returns-then-end-gt-ENTRIES c = derived_13 c.args.hyps.now

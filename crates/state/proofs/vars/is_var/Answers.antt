@@ -5,27 +5,27 @@ use Rattle.state.proofs.vars.is_var.Goals as goal
 
 pub bounds-vars-at : goal.bounds-vars-at
 bounds-vars-at c = omega (
-      arith,
-      var_row_in c.requires.0.1 c.args.i c.requires.1,
-    )
+  arith,
+  var_row_in c.requires.0.1 c.args.i c.requires.1,
+)
 
 pub overflow_cast-start : goal.overflow_cast-start
 overflow_cast-start c = omega (arith, c.shared_slice_known-5-1.given (4 * c.args.i + 2))
 
 pub bounds-vars-at-2 : goal.bounds-vars-at-2
 bounds-vars-at-2 c = omega (
-      arith,
-      var_row_in c.requires.0.1 c.args.i c.requires.1,
-    )
+  arith,
+  var_row_in c.requires.0.1 c.args.i c.requires.1,
+)
 
 pub overflow_cast-end : goal.overflow_cast-end
 overflow_cast-end c = omega (arith, c.shared_slice_known-6-1.given (4 * c.args.i + 3))
 
 pub bounds-vars-at-3 : goal.bounds-vars-at-3
 bounds-vars-at-3 c = omega (
-      arith,
-      var_row_in c.requires.0.1 c.args.i c.requires.1,
-    )
+  arith,
+  var_row_in c.requires.0.1 c.args.i c.requires.1,
+)
 
 pub slice_bounds-same-count : goal.slice_bounds-same-count
 slice_bounds-same-count c = var_order c.requires.0.1

@@ -12,10 +12,13 @@ pub add_induct-requires : goal.add_induct-requires
 add_induct-requires c = record { adds_derived = c.requires.adds_derived; scratch = (record { map_zero = refl; memo_zero = c.requires.spare.memo_zero }, c.requires.spare.ids_zero) }
 
 pub returns-in-Next : goal.returns-in-Next
-returns-in-Next c = record { fact = λ g. derived_next inducts g c.add_induct.new.facts c.add_induct.new.footings
-          c.add_induct.new.lists c.add_induct.new.index
-          c.add_induct.new.words c.add_induct.result (c.is_next.ensures (derived_own g (omega arith)))
-          c.in-Next.is an_induction c.add_induct.ensures.entered_as; fact_2 = (c.add_induct.ensures.map_unchanged.2, c.add_induct.ensures.map_unchanged.1) }
+returns-in-Next c = record {
+  fact = λ g. derived_next inducts g c.add_induct.new.facts c.add_induct.new.footings
+      c.add_induct.new.lists c.add_induct.new.index
+      c.add_induct.new.words c.add_induct.result (c.is_next.ensures (derived_own g (omega arith)))
+      c.in-Next.is an_induction c.add_induct.ensures.entered_as;
+  fact_2 = (c.add_induct.ensures.map_unchanged.2, c.add_induct.ensures.map_unchanged.1);
+}
 
 pub returns-in-No : goal.returns-in-No
 returns-in-No c = record { fact = λ g. derived_not inducts g (c.is_next.ensures (derived_own g (omega arith))) c.in-No.is; fact_2 = (refl, refl) }

@@ -21,10 +21,13 @@ pub add_step-requires : goal.add_step-requires
 add_step-requires c = record { adds_instance = c.requires.adds_instance; scratch = (record { map_zero = refl; memo_zero = c.requires.spare.memo_zero }, front_zero IDS c.requires.spare.ids_zero PATTERNS (omega arith)) }
 
 pub returns-in-Next : goal.returns-in-Next
-returns-in-Next c = record { fact = λ g. instance_next steps g c.add_step.new.facts c.add_step.new.footings
-          c.add_step.new.lists c.add_step.new.index
-          c.add_step.new.words c.add_step.result
-          (c.is_next.ensures (instance_own g (omega arith))) c.in-Next.is some_instances c.add_step.ensures.entered_as; fact_2 = (front_same IDS c.requires.spare.ids_zero PATTERNS (omega arith) c.add_step.ensures.map_unchanged.2, c.add_step.ensures.map_unchanged.1) }
+returns-in-Next c = record {
+  fact = λ g. instance_next steps g c.add_step.new.facts c.add_step.new.footings
+      c.add_step.new.lists c.add_step.new.index
+      c.add_step.new.words c.add_step.result
+      (c.is_next.ensures (instance_own g (omega arith))) c.in-Next.is some_instances c.add_step.ensures.entered_as;
+  fact_2 = (front_same IDS c.requires.spare.ids_zero PATTERNS (omega arith) c.add_step.ensures.map_unchanged.2, c.add_step.ensures.map_unchanged.1);
+}
 
 pub returns-in-No : goal.returns-in-No
 returns-in-No c = record { fact = λ g. instance_not steps g (c.is_next.ensures (instance_own g (omega arith))) c.in-No.is; fact_2 = (refl, refl) }

@@ -1,5 +1,5 @@
 use native.Mathlib.Omega.{arith}
-use Rattle.rules.specs.Tags.{aVariable, aGoal, aGoalWith, goal_form}
+use Rattle.rules.specs.Tags.{a_variable, a_goal, a_goal_with, goal_form}
 use Rattle.taking.specs.Tagged.{tagged}
 use Rattle.rules.specs.Forms.{goal}
 use Rattle.sexp.specs.declared.tags.GoalForm.TheVariants.{Variable, Goal, GoalWith, Unknown}
@@ -12,7 +12,7 @@ use Rattle.taking.proofs.take.goal_items.Goals as goal
 
 pub add_var-r-requires : goal.add_var-r-requires
 add_var-r-requires c = gives_var c.requires.items.stands {which = 2} (omega arith) c.requires.items.holds
-    (goal_many c.requires.items.xs aVariable
+    (goal_many c.requires.items.xs a_variable
     (told_goal Variable (c.tag_of_goal.ensures c.requires.items.xs c.requires.items.holds) c.in-Variable.is))
 
 pub declared-requires : goal.declared-requires
@@ -20,17 +20,20 @@ declared-requires c = c.requires.items.stands.spelling.vars.stand.few
 
 pub add_goal-r-requires : goal.add_goal-r-requires
 add_goal-r-requires c = stands_adds c.requires.items.stands c.requires.items.holds
-    (goal_many c.requires.items.xs aGoal
+    (goal_many c.requires.items.xs a_goal
     (told_goal Goal (c.tag_of_goal.ensures c.requires.items.xs c.requires.items.holds) c.in-Goal.is))
 
 pub aimed-requires : goal.aimed-requires
 aimed-requires c = c.requires.items.stands.goals.few
 
 pub add_goal_with-r-requires : goal.add_goal_with-r-requires
-add_goal_with-r-requires c = record { adds_goal = stands_adds c.requires.items.stands c.requires.items.holds
-          (goal_many c.requires.items.xs aGoalWith
-          (told_goal GoalWith (c.tag_of_goal.ensures c.requires.items.xs c.requires.items.holds) c.in-GoalWith.is)); lists_len = stands_lists
-          c.requires.items.stands }
+add_goal_with-r-requires c = record {
+  adds_goal = stands_adds c.requires.items.stands c.requires.items.holds
+      (goal_many c.requires.items.xs a_goal_with
+      (told_goal GoalWith (c.tag_of_goal.ensures c.requires.items.xs c.requires.items.holds) c.in-GoalWith.is));
+  lists_len = stands_lists
+      c.requires.items.stands;
+}
 
 pub aimed-requires-in-GoalWith : goal.aimed-requires-in-GoalWith
 aimed-requires-in-GoalWith c = c.requires.items.stands.goals.few

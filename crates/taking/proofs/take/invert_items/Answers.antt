@@ -36,11 +36,14 @@ pub shape_of-memo : goal.shape_of-memo
 shape_of-memo c = c.add_invert-r.auto.memo
 
 pub returns-in-Next : goal.returns-in-Next
-returns-in-Next c = record { by_index_2 = λ sorts rows g l. inverts_tried g l c.is_next.result (c.is_next.ensures (inverts_own g l)) c.in-Next.is
-          c.add_invert-r.new.vars c.add_invert-r.new.index
-          c.add_invert-r.new.words c.add_invert-r.new.facts
-          c.add_invert-r.new.footings c.add_invert-r.new.lists
-          c.add_invert-r.result (c.add_invert-r.ensures.inversion_as (inverts_given g l)) c.inverted.result c.inverted.ensures; ids_unchanged = c.add_invert-r.ensures.ids_unchanged }
+returns-in-Next c = record {
+  by_index_2 = λ sorts rows g l. inverts_tried g l c.is_next.result (c.is_next.ensures (inverts_own g l)) c.in-Next.is
+      c.add_invert-r.new.vars c.add_invert-r.new.index
+      c.add_invert-r.new.words c.add_invert-r.new.facts
+      c.add_invert-r.new.footings c.add_invert-r.new.lists
+      c.add_invert-r.result (c.add_invert-r.ensures.inversion_as (inverts_given g l)) c.inverted.result c.inverted.ensures;
+  ids_unchanged = c.add_invert-r.ensures.ids_unchanged;
+}
 
 pub returns-in-No : goal.returns-in-No
 returns-in-No c = record { by_index_2 = λ sorts rows g l. inverts_not g l c.is_next.result (c.is_next.ensures (inverts_own g l)) c.in-No.is; ids_unchanged = (refl, refl) }

@@ -16,37 +16,37 @@ returns-in_default c = record { taken_as = λ g. never_tried g.stands (form_atom
 
 pub offset_bounds-cells-a : goal.offset_bounds-cells-a
 offset_bounds-cells-a c = omega (
-      arith,
-      (form_list c.requires.0.formed c.item_at.ensures c.in-List.is).low,
-      (form_list c.requires.0.formed c.item_at.ensures c.in-List.is).high,
-      c.well_formed.1.1.1.1.1.1.1.1.1.1.1.1.1.1.1.1.1.1.1.0,
-    )
+  arith,
+  (form_list c.requires.0.formed c.item_at.ensures c.in-List.is).low,
+  (form_list c.requires.0.formed c.item_at.ensures c.in-List.is).high,
+  c.well_formed.1.1.1.1.1.1.1.1.1.1.1.1.1.1.1.1.1.1.1.0,
+)
 
 pub slice_bounds-form_items-count : goal.slice_bounds-form_items-count
 slice_bounds-form_items-count c = (form_list c.requires.0.formed c.item_at.ensures c.in-List.is).low
 
 pub slice_bounds-form_items-start : goal.slice_bounds-form_items-start
 slice_bounds-form_items-start c = omega (
-      arith,
-      (form_list c.requires.0.formed c.item_at.ensures c.in-List.is).low,
-      (form_list c.requires.0.formed c.item_at.ensures c.in-List.is).high,
-    )
+  arith,
+  (form_list c.requires.0.formed c.item_at.ensures c.in-List.is).low,
+  (form_list c.requires.0.formed c.item_at.ensures c.in-List.is).high,
+)
 
 pub slice_bounds-form_items-end : goal.slice_bounds-form_items-end
 slice_bounds-form_items-end c = (form_list c.requires.0.formed c.item_at.ensures c.in-List.is).high
 
 pub form_items-requires : goal.form_items-requires
 form_items-requires c = (
-      record {
-        S = c.requires.0.S;
-        xs = (form_list c.requires.0.formed c.item_at.ensures c.in-List.is).items;
-        stands = c.requires.0.stands;
-        bounded =
-            c.requires.0.bounded;
-        holds = (form_list c.requires.0.formed c.item_at.ensures c.in-List.is).holds;
-      },
-      c.requires.1,
-    )
+  record {
+    S = c.requires.0.S;
+    xs = (form_list c.requires.0.formed c.item_at.ensures c.in-List.is).items;
+    stands = c.requires.0.stands;
+    bounded =
+        c.requires.0.bounded;
+    holds = (form_list c.requires.0.formed c.item_at.ensures c.in-List.is).holds;
+  },
+  c.requires.1,
+)
 
 pub forget-requires : goal.forget-requires
 forget-requires c = left_part
@@ -100,25 +100,28 @@ pub shape_of-memo-in-Ok : goal.shape_of-memo-in-Ok
 shape_of-memo-in-Ok c = c.form_items.auto.memo
 
 pub returns-in-Ok : goal.returns-in-Ok
-returns-in-Ok c = record { taken_as = λ g. taken_tried
-          (board c.args.vars.now c.args.index.now c.args.words.now c.args.defs.now c.args.rows.now c.args.facts.now
-          c.args.footings.now c.args.lists.now)
-          (board c.form_items.new.vars c.form_items.new.index
-          c.form_items.new.words c.form_items.new.defs
-          c.form_items.new.rows c.form_items.new.facts
-          c.form_items.new.footings
-          c.form_items.new.lists) g.stands
-          (chosen 30 perform (tagged proof_tag (form_list g.formed c.item_at.ensures c.in-List.is).items)
-          (form_list g.formed c.item_at.ensures c.in-List.is).items g.S) c.form_items.result
-          (c.form_items.ensures.tried_as
-          (record {
-            S = (g).S;
-            xs = (form_list g.formed c.item_at.ensures c.in-List.is).items;
-            stands = (g).stands;
-            bounded = (g).bounded;
-            holds = (form_list g.formed c.item_at.ensures c.in-List.is).holds;
-          })) c.in-Ok.is
-          (form_takes g.formed c.item_at.ensures c.in-List.is g.S); ids_unchanged = c.form_items.ensures.ids_unchanged }
+returns-in-Ok c = record {
+  taken_as = λ g. taken_tried
+      (board c.args.vars.now c.args.index.now c.args.words.now c.args.defs.now c.args.rows.now c.args.facts.now
+      c.args.footings.now c.args.lists.now)
+      (board c.form_items.new.vars c.form_items.new.index
+      c.form_items.new.words c.form_items.new.defs
+      c.form_items.new.rows c.form_items.new.facts
+      c.form_items.new.footings
+      c.form_items.new.lists) g.stands
+      (chosen 30 perform (tagged proof_tag (form_list g.formed c.item_at.ensures c.in-List.is).items)
+      (form_list g.formed c.item_at.ensures c.in-List.is).items g.S) c.form_items.result
+      (c.form_items.ensures.tried_as
+      (record {
+        S = (g).S;
+        xs = (form_list g.formed c.item_at.ensures c.in-List.is).items;
+        stands = (g).stands;
+        bounded = (g).bounded;
+        holds = (form_list g.formed c.item_at.ensures c.in-List.is).holds;
+      })) c.in-Ok.is
+      (form_takes g.formed c.item_at.ensures c.in-List.is g.S);
+  ids_unchanged = c.form_items.ensures.ids_unchanged;
+}
 
 pub shape_of-vars-in-No : goal.shape_of-vars-in-No
 shape_of-vars-in-No c = c.form_items.auto.vars
@@ -151,22 +154,25 @@ pub shape_of-memo-in-No : goal.shape_of-memo-in-No
 shape_of-memo-in-No c = c.form_items.auto.memo
 
 pub returns-in-No : goal.returns-in-No
-returns-in-No c = record { taken_as = λ g. left_back
-          (board c.args.vars.now c.args.index.now c.args.words.now c.args.defs.now c.args.rows.now c.args.facts.now
-          c.args.footings.now c.args.lists.now)
-          (board c.form_items.new.vars c.form_items.new.index
-          c.form_items.new.words c.form_items.new.defs
-          c.form_items.new.rows c.form_items.new.facts
-          c.form_items.new.footings
-          c.form_items.new.lists) g.stands
-          (chosen 30 perform (tagged proof_tag (form_list g.formed c.item_at.ensures c.in-List.is).items)
-          (form_list g.formed c.item_at.ensures c.in-List.is).items g.S) c.form_items.result
-          (c.form_items.ensures.tried_as
-          (record {
-            S = (g).S;
-            xs = (form_list g.formed c.item_at.ensures c.in-List.is).items;
-            stands = (g).stands;
-            bounded = (g).bounded;
-            holds = (form_list g.formed c.item_at.ensures c.in-List.is).holds;
-          })) c.in-No.is c.forget.ensures
-          (form_takes g.formed c.item_at.ensures c.in-List.is g.S); ids_unchanged = c.form_items.ensures.ids_unchanged }
+returns-in-No c = record {
+  taken_as = λ g. left_back
+      (board c.args.vars.now c.args.index.now c.args.words.now c.args.defs.now c.args.rows.now c.args.facts.now
+      c.args.footings.now c.args.lists.now)
+      (board c.form_items.new.vars c.form_items.new.index
+      c.form_items.new.words c.form_items.new.defs
+      c.form_items.new.rows c.form_items.new.facts
+      c.form_items.new.footings
+      c.form_items.new.lists) g.stands
+      (chosen 30 perform (tagged proof_tag (form_list g.formed c.item_at.ensures c.in-List.is).items)
+      (form_list g.formed c.item_at.ensures c.in-List.is).items g.S) c.form_items.result
+      (c.form_items.ensures.tried_as
+      (record {
+        S = (g).S;
+        xs = (form_list g.formed c.item_at.ensures c.in-List.is).items;
+        stands = (g).stands;
+        bounded = (g).bounded;
+        holds = (form_list g.formed c.item_at.ensures c.in-List.is).holds;
+      })) c.in-No.is c.forget.ensures
+      (form_takes g.formed c.item_at.ensures c.in-List.is g.S);
+  ids_unchanged = c.form_items.ensures.ids_unchanged;
+}

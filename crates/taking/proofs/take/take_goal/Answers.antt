@@ -15,36 +15,36 @@ returns-in_default c = λ g. never_tried g.form.stands (goal_atom_lem g.form.for
 
 pub offset_bounds-cells-a : goal.offset_bounds-cells-a
 offset_bounds-cells-a c = omega (
-      arith,
-      (form_list c.requires.form.formed c.item_at.ensures c.in-List.is).low,
-      (form_list c.requires.form.formed c.item_at.ensures c.in-List.is).high,
-      c.well_formed.1.1.1.1.1.1.1.1.1.1.1.1.1.1.1.1.1.1.0,
-    )
+  arith,
+  (form_list c.requires.form.formed c.item_at.ensures c.in-List.is).low,
+  (form_list c.requires.form.formed c.item_at.ensures c.in-List.is).high,
+  c.well_formed.1.1.1.1.1.1.1.1.1.1.1.1.1.1.1.1.1.1.0,
+)
 
 pub slice_bounds-goal_items-count : goal.slice_bounds-goal_items-count
 slice_bounds-goal_items-count c = (form_list c.requires.form.formed c.item_at.ensures c.in-List.is).low
 
 pub slice_bounds-goal_items-start : goal.slice_bounds-goal_items-start
 slice_bounds-goal_items-start c = omega (
-      arith,
-      (form_list c.requires.form.formed c.item_at.ensures c.in-List.is).low,
-      (form_list c.requires.form.formed c.item_at.ensures c.in-List.is).high,
-    )
+  arith,
+  (form_list c.requires.form.formed c.item_at.ensures c.in-List.is).low,
+  (form_list c.requires.form.formed c.item_at.ensures c.in-List.is).high,
+)
 
 pub slice_bounds-goal_items-end : goal.slice_bounds-goal_items-end
 slice_bounds-goal_items-end c = (form_list c.requires.form.formed c.item_at.ensures c.in-List.is).high
 
 pub goal_items-requires : goal.goal_items-requires
 goal_items-requires c = record {
-      items = record {
-        S = c.requires.form.S;
-        xs = (form_list c.requires.form.formed c.item_at.ensures c.in-List.is).items;
-        stands = c.requires.form.stands;
-        bounded = c.requires.form.bounded;
-        holds = (form_list c.requires.form.formed c.item_at.ensures c.in-List.is).holds;
-      };
-      none_yet = c.requires.none;
-    }
+  items = record {
+    S = c.requires.form.S;
+    xs = (form_list c.requires.form.formed c.item_at.ensures c.in-List.is).items;
+    stands = c.requires.form.stands;
+    bounded = c.requires.form.bounded;
+    holds = (form_list c.requires.form.formed c.item_at.ensures c.in-List.is).holds;
+  };
+  none_yet = c.requires.none;
+}
 
 pub forget-requires : goal.forget-requires
 forget-requires c = left_part
