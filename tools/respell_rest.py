@@ -22,7 +22,7 @@ for top in sys.argv[1:]:
                 if "inComment" in text:
                     text = re.sub(r"(?<![\w'-])in_comment(?![\w'-])", "in_comment_lem", text)
                 if "crates/meaning/" in path or "/meaning/specs/" in path:
-                    text_ = re.sub(r"(?<![\w'-])ground(?![\w'-])", "grounded", text) if name.endswith(".antt") else text
+                    text_ = re.sub(r"(?m)^(?!\s*--).*$", lambda m: re.sub(r"(?<![\w'-])ground(?![\w'-])", "grounded", m[0]), text) if name.endswith(".antt") else text
                 else:
                     text_ = text
                 new = TOKEN.sub(lambda m: NAMES[m[1]], text_)

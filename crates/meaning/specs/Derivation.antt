@@ -1,5 +1,5 @@
 -- The words of demand 3, second part: derivations. Definitions only.
--- "A derivation is a finite tree: each node is a rule under a grounded replacement of all its variables, and its children derive the
+-- "A derivation is a finite tree: each node is a rule under a ground replacement of all its variables, and its children derive the
 -- premises, in order. A judgment is derivable if the root of some derivation concludes it."
 use Rattle.std.specs.Prelude.{ℕ, ◌<◌, ◌≡◌, length}
 use Rattle.rules.specs.Tree.{Tree, Trees, none, more, sub, subs}

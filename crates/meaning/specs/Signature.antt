@@ -1,4 +1,4 @@
--- The words of demand 3, first part: the signature that a theory declares, and grounded terms. Definitions only.
+-- The words of demand 3, first part: the signature that a theory declares, and ground terms. Definitions only.
 use Rattle.std.specs.Prelude.{ℕ, ◌<◌, ◌≡◌, List, [], ◌∷◌, length, get_or}
 use Rattle.rules.specs.Tree.{Tree, Trees, var, app, none, more}
 use Rattle.rules.specs.Theory.{Theory, Rule, no_name, inputs, output}
@@ -12,7 +12,7 @@ sig T = record { syms = length T.symbols; ins = inputs T; out = output T }
 abbrev pub PROP : ℕ
 PROP = 0
 
--- a grounded term of sort s: a symbol with that value sort over grounded terms of its argument sorts, finitely deep
+-- a ground term of sort s: a symbol with that value sort over ground terms of its argument sorts, finitely deep
 module _ (S : Sig) where
   unfoldable mutual
     pub Value : Tree → ℕ → Type 0

@@ -1,4 +1,4 @@
--- What is claimed of the definition, stated alone. The words are defined in Signature (grounded terms), Derivation, Truth, Named (the
+-- What is claimed of the definition, stated alone. The words are defined in Signature (ground terms), Derivation, Truth, Named (the
 -- premise, and what a result names), Sets, Runs (a list of forms gone through) and Inversions.
 --
 --     facts-and-goals        demand 3 up to its last sentence, one claim about a list of forms, with one premise: every recorded fact is true
@@ -51,11 +51,11 @@ use Rattle.meaning.specs.Bridge.Check.{theory_respected, taken_good, taken_fresh
 abbrev pub sorts_of : State → ℕ → ℕ
 sorts_of S v = sort_of_var S.vars v
 
--- γ gives each variable of the goal, and of what it lists, a grounded term of its sort
+-- γ gives each variable of the goal, and of what it lists, a ground term of its sort
 abbrev pub Grounds : Theory → State → Goal → (ℕ → Tree) → Type 0
 Grounds T S g γ = (v : ℕ) → Occ v g.judgment ⊎ Occs v g.hyps → Value (sig T) (γ v) (sorts_of S v)
 
--- under each grounded replacement under which the judgments that the goal lists are derivable, so is its own; R: the rules that may be used
+-- under each ground replacement under which the judgments that the goal lists are derivable, so is its own; R: the rules that may be used
 abbrev pub Follows : Theory → (ℕ → Type 0) → State → Goal → Type 0
 Follows T R S g = (γ : ℕ → Tree) → Grounds T S g γ → ((t : Tree) → Among t g.hyps → Der T R (sub γ t)) → Der T R (sub γ g.judgment)
 
@@ -139,7 +139,7 @@ nothing_listed : (ts : Trees) → ts ≡ none → (t : Tree) → ¬ (Among t ts)
 unfolding Among
 nothing_listed ts e t i = subst (λ us. Among t us) e i
 
--- Every goal with its result taken and without listed judgments is derivable in every grounded instance.
+-- Every goal with its result taken and without listed judgments is derivable in every ground instance.
 pub goals_derivable : (theory goals : List ℕ) (T : Theory) (S : State) → Taken theory goals T S → (forms : Text) → Calmly forms S
     → (k : ℕ) (g : Goal) → entry (after forms S).goals k ≡ some g → g.taken ≡ true → g.hyps ≡ none
     → (γ : ℕ → Tree) → Grounds T (after forms S) g γ → Derivable T (sub γ g.judgment)
@@ -177,7 +177,7 @@ pub check_facts_true : (theory goals proof : List ℕ) → CalmTexts theory goal
     (i : ℕ) (f : Fact) → At S.facts i f → ¬ (RuleHyp f) → True S.theory (sorts_of S) (RuleOf S.theory) S.facts f
 check_facts_true theory goals proof c = (check_right theory goals proof c).facts
 
--- The goals of an accepted check are derivable, under each grounded replacement under which the judgments that they list are
+-- The goals of an accepted check are derivable, under each ground replacement under which the judgments that they list are
 pub accepted_derivable : (theory goals proof : List ℕ) → CalmTexts theory goals proof → (r : Report) → (check theory goals proof).answer ≡ accepts r
     → let S = (check theory goals proof).state in
     (k : ℕ) (g : Goal) → entry S.goals k ≡ some g → Follows S.theory (RuleOf S.theory) S g

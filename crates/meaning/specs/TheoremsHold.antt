@@ -1,5 +1,5 @@
 -- The theorems are not empty. Example A: its texts are taken, its premise holds, and what `goals_derivable` says of it is that `Child t`
--- is derivable for every grounded term t of sort Pass, and `goals_firm` that the rules c0 and c1 suffice. Example G: its texts are accepted
+-- is derivable for every ground term t of sort Pass, and `goals_firm` that the rules c0 and c1 suffice. Example G: its texts are accepted
 -- though the goal `Bad first` is not derivable, so the premise of the theorems is needed; it does not hold of G, and the hypothesis that G
 -- names is not true itself. A run that is calm although rule hypotheses with premises stand in places that do not count. Example I:
 -- a unification that finds nothing. Assumes nothing.

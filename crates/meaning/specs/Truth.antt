@@ -1,5 +1,5 @@
 -- The words of demand 3, third part: a hypothesis's free variables, when it holds, when a fact is true. Definitions only.
--- "A hypothesis's free variables are those of its judgment and premises that are not generalised. It holds when, for each grounded value
+-- "A hypothesis's free variables are those of its judgment and premises that are not generalised. It holds when, for each ground value
 -- of its generalised variables that occur in it, its judgment is derivable if all its premises are."
 use Rattle.std.specs.Prelude.{ℕ, zero, suc, ◌≡◌, ◌⊎◌, List, [], ◌∷◌}
 use Rattle.rules.specs.Tree.{Tree, none, sub, subs}
@@ -40,7 +40,7 @@ Needs H j v = Occ v j ⊎ ((g : Fact) × H g × Free v g)
 
 -- T: the theory; vs: the sorts of the proof's variables
 module _ (T : Theory) (vs : ℕ → ℕ) where
-  -- δ is γ but for g's generalised variables, which have some grounded value of their sort
+  -- δ is γ but for g's generalised variables, which have some ground value of their sort
   pub record Varies (g : Fact) (γ δ : ℕ → Tree) : Type 0 where
     pub same : (v : ℕ) → Mentions v g → ¬ (In v g.general) → δ v ≡ γ v
     pub value : (v : ℕ) → Mentions v g → In v g.general → Value (sig T) (δ v) (vs v)
@@ -51,7 +51,7 @@ module _ (T : Theory) (vs : ℕ → ℕ) (R : ℕ → Type 0) where
   unfoldable pub Holds : (ℕ → Tree) → Fact → Type 0
   Holds γ g = (δ : ℕ → Tree) → Varies T vs g γ δ → Ders T R (subs δ g.premises) → Der T R (sub δ g.judgment)
 
-  -- under each γ with a grounded value for what H and j need, under which all of H holds, t is derivable
+  -- under each γ with a ground value for what H and j need, under which all of H holds, t is derivable
   unfoldable pub Gives : (Fact → Type 0) → Tree → Tree → Type 0
   Gives H j t =
       (γ : ℕ → Tree)
@@ -62,7 +62,7 @@ module _ (T : Theory) (vs : ℕ → ℕ) (R : ℕ → Type 0) where
   unfoldable pub Entails : (Fact → Type 0) → Tree → Type 0
   Entails H j = Gives H j j
 
-  -- a fact f of the list fs: for each grounded replacement of its judgment's variables and of the free variables of the hypotheses on
+  -- a fact f of the list fs: for each ground replacement of its judgment's variables and of the free variables of the hypotheses on
   -- which it rests, if these hold, its judgment is derivable
   unfoldable pub True : List Fact → Fact → Type 0
   True fs f = Entails (HypOf fs f) f.judgment

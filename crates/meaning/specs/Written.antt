@@ -84,7 +84,7 @@ unfoldable pub applied : List ℕ → Forms → Form
 applied n nil = name n
 applied n (cons f fs) = group (cons (name n) (cons f fs))
 
--- a variable has no writing: a derivation's terms are grounded
+-- a variable has no writing: a derivation's terms are ground
 unfoldable mutual
   pub term_form : Theory → Tree → Form
   term_form T (var v) = group nil
@@ -125,7 +125,7 @@ NamesAll cs [] (more t ts) = ⊥
 NamesAll cs (bs ∷ bss) none = ⊥
 NamesAll cs (bs ∷ bss) (more t ts) = Names cs bs t × NamesAll cs bss ts
 
--- a node behind steps with these conclusions: a rule under a grounded replacement of all its variables, the next index, and children that
+-- a node behind steps with these conclusions: a rule under a ground replacement of all its variables, the next index, and children that
 -- conclude the premises
 pub record Node (T : Theory) (cs : List Tree) (s : Step) : Type 0 where
   pub known : s.rule < length T.rules
@@ -209,7 +209,7 @@ unfoldable pub few : Made → Bool
 few m = leb (length m) TERMS && leb (words m) WORDS
 
 -- question 60: no more nodes than facts (row 12), and few enough trees in the goal and all conclusions. The theory has passed rows 1 to 6;
--- the others cannot be reached by one goal and grounded steps
+-- the others cannot be reached by one goal and ground steps
 unfoldable pub roomy : Theory → Tree → List Step → Bool
 roomy T j ss = leb (length ss) FACTS && few (gathers (more j (trees_of (conclusions T ss))) [])
 

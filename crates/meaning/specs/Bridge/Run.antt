@@ -202,7 +202,7 @@ module _ (K : Sets) (T : Theory) (within : Within K T) (vs : ℕ → ℕ) (S : S
       run_sound T vs K.known K.part shapes S.facts g.run i f a
       (calm_free S.theory vs (length S.vars) (length S.facts) f (g.well.facts i f a) n)
 
-  -- a goal that is settled by the fact i: under each grounded replacement of its variables under which what it lists is derivable, so is its
+  -- a goal that is settled by the fact i: under each ground replacement of its variables under which what it lists is derivable, so is its
   -- judgment
   module _ (i : ℕ) (h : Goal) (s : Settled K T vs S.facts i h) where
     pub good_goal : (R : ℕ → Type 0) → ((r : ℕ) → K.part i r → R r) → ((r : ℕ) → R r → K.known i r) → (γ : ℕ → Tree)

@@ -1,4 +1,4 @@
--- `induct`: what its cases may assume, and that the fact that it gives is true, by induction on the grounded value of its variable. Generic in
+-- `induct`: what its cases may assume, and that the fact that it gives is true, by induction on the ground value of its variable. Generic in
 -- the set of rules. Assumes nothing.
 use Prim.Native.Nat.{ℕ, ◌<◌}
 use Rattle.std.specs.Prelude.{◌≡◌, ◌⊎◌, List}
@@ -48,13 +48,13 @@ module _ (T : Theory) (vs : ℕ → ℕ) (R : ℕ → Type 0) (x : ℕ) (P : Tre
     pub proved : Entails T vs R hyps (at x (app c (vars ys)) J)
     pub allowed : (h : Fact) → hyps h → CaseHyp vs x P J c ys h
 
-  -- what is proved by induction on the grounded tree u
+  -- what is proved by induction on the ground tree u
   abbrev Goal : Tree → Type 0
   Goal u =
       Value (sig T) u (vs x) → (δ : ℕ → Tree) → δ x ≡ u → ((v : ℕ) → Motive P J v → Value (sig T) (δ v) (vs v))
       → Ders T R (subs δ P) → Der T R (sub δ J)
 
-  -- one node of the grounded tree
+  -- one node of the ground tree
   module _ (mx : Motive P J x) (c : ℕ) (ts : Trees) (lt : c < (sig T).syms) (oc : (sig T).out c ≡ vs x)
       (vts : Values (sig T) ts ((sig T).ins c)) (k : Case c) (ih : (t : Tree) → Among t ts → Goal t)
       (δ : ℕ → Tree) (e : δ x ≡ app c ts) (good : (v : ℕ) → Motive P J v → Value (sig T) (δ v) (vs v)) (ders : Ders T R (subs δ P)) where

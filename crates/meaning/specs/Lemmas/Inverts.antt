@@ -93,7 +93,7 @@ module _ (T : Theory) (vs : ℕ → ℕ) (R : ℕ → Type 0) (k : Fact) (J : Tr
   unfoldable pub Both : Fact → Type 0
   Both g = (g ≡ k) ⊎ C g
 
-  -- the given grounded replacement γ, and the last node of the derivation of the inverted judgment under it
+  -- the given ground replacement γ, and the last node of the derivation of the inverted judgment under it
   module _ (plain : Plain k) (γ : ℕ → Tree)
       (n : (v : ℕ) → Needs Both J v → Value (sig T) (γ v) (vs v))
       (hold : (g : Fact) → Both g → Holds T vs R γ g)

@@ -12,7 +12,7 @@ use Rattle.meaning.specs.Signature.{sig, Value, Values}
 use Rattle.meaning.specs.Derivation.{Der, Ders, leaf, both}
 use Rattle.meaning.specs.Truth.{Mentions, Needs, Varies, Holds, Gives, Entails, Plain}
 
--- a replacement by grounded terms, both ways
+-- a replacement by ground terms, both ways
 module _ (S : Sig) (ps : ℕ → ℕ) (f : ℕ → Tree) where
   mutual
     unfolding sub Occ Sorted Value

@@ -195,7 +195,7 @@ mutual
   subs_grounds f (more t ts) h v (inl o) = sub_ground f t h.0 v o
   subs_grounds f (more t ts) h v (inr o) = subs_grounds f ts h.1 v o
 
--- nothing occurs in a grounded tree, and a tree in which nothing occurs is grounded
+-- nothing occurs in a ground tree, and a tree in which nothing occurs is ground
 mutual
   unfolding Occ Ground
 
@@ -219,7 +219,7 @@ mutual
   occs_grounds none h = tt
   occs_grounds (more t ts) h = (occ_ground t (λ v o. h v (inl o)), occs_grounds ts (λ v o. h v (inr o)))
 
--- a grounded tree stays
+-- a ground tree stays
 pub ground_still : (f : ℕ → Tree) (t : Tree) → Ground t → sub f t ≡ t
 ground_still f t g = sub_ext f var t (λ v o. absurd (ground_occ t g v o)) ∙ sub_var t
 

@@ -165,7 +165,7 @@ module _ (T : Theory) (n : List ℕ) (j : Tree) where
   goal_ends q (ok a m) made = refl
   goal_ends q (refuse k d m) unmade = record { row = d; state = with_made (begin T) m; is = refl }
 
--- the goal of a grounded judgment, in both spellings
+-- the goal of a ground judgment, in both spellings
 module _ (T : Theory) (w : WellFormed T) (nm : Named T) (n : List ℕ) (j : Tree) (c : Concludes T j) where
   judgment_begins : (x : Sexp) → bare x ≡ judgment_form T j → judgment (begin T) x [] ≡ make j []
   judgment_begins x e =

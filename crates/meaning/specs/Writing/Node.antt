@@ -1,4 +1,4 @@
--- One node of a written derivation: its conclusion is a grounded judgment, its rule matches, its children are found, and so its step is taken
+-- One node of a written derivation: its conclusion is a ground judgment, its rule matches, its children are found, and so its step is taken
 -- as soon as the conclusion is made. Assumes nothing.
 use Prim.Native.Nat.{ℕ, zero, suc, ◌+◌, ◌<◌}
 use Rattle.std.specs.Prelude.{◌≡◌, ◌||◌, length}
@@ -77,7 +77,7 @@ module _ (ρ : ℕ → Tree) where
 
 -- Conclusions ---------------------------------------------------------------------------------------------------------------------
 
--- a predicate over grounded terms
+-- a predicate over ground terms
 pub record Concludes (T : Theory) (t : Tree) : Type 0 where
   pub head : ℕ
   pub arguments : Trees

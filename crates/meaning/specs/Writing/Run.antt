@@ -52,7 +52,7 @@ module _ (T : Theory) where
   unfolding Ground sig
   concludes_ground t c = subst (λ z. Ground z) (sym c.is) (values_ground c.arguments _ c.values)
 
--- every conclusion of the derivation is a grounded judgment
+-- every conclusion of the derivation is a ground judgment
 pub nodes_conclude : (T : Theory) → WellFormed T → (cs : List Tree) (ss : List Step) (i : ℕ) (t : Tree) → Nodes T cs ss
     → entry (conclusions T ss) i ≡ some t → Concludes T t
 unfolding Nodes conclusions entry

@@ -198,7 +198,7 @@ module _ (S : State) (free : S.vars ≡ []) (w : WellFormed S.theory) (n : Named
         (λ m₁. then_same (terms S q.behind m₁) (makes ts m₁) (λ us m₂. ok (more t us) m₂) (terms_read ts ss q.behind m₁ q.behinds a.1 is)
         ∙ answer_then (λ us m₂. ok (more t us) m₂) (λ _ m₂. ok (more t ts) m₂) (makes_ok ts m₁) (λ m₂. refl)))
 
-  -- a judgment: a predicate over grounded terms
+  -- a judgment: a predicate over ground terms
   pub judgment_read : (p : ℕ) (ts : Trees) (x : Sexp) (m : Made) → bare x ≡ judgment_form T (app p ts) → p < length T.symbols → output T p ≡ 0
       → Values (sig T) ts (inputs T p) → judgment S x m ≡ make (app p ts) m
   unfolding judgment_form judgment items item rest nameˢ make then
