@@ -14,8 +14,8 @@ use Rattle.rules.specs.Tree.{Tree, Trees, var, none, more}
 use Rattle.rules.specs.Store.{Made}
 use Rattle.rules.specs.State.{State, is_none, is_empty}
 use Rattle.rules.specs.Invert.{Allowed, is_allowed}
-use Rattle.rules.specs.Laws.Theory.{All, empty, both}
-use Rattle.rules.specs.Laws.Set.{union_empty}
+use Rattle.rules.proofs.Laws.Theory.{All, empty, both}
+use Rattle.rules.proofs.Laws.Set.{union_empty}
 use Rattle.terms.specs.declared.store.Mark.{Mark}
 use Rattle.terms.specs.Table.{made, tree, args_of}
 use Rattle.terms.specs.Sets.{holds, plus}

@@ -24,10 +24,11 @@ use Rattle.meaning.specs.Derivation.{RuleOf}
 use Rattle.meaning.specs.Truth.{At, True}
 use Rattle.meaning.specs.Named.{RuleHyp}
 use Rattle.meaning.specs.Runs.{CalmTexts}
-use Rattle.meaning.specs.Bridge.Asked.{entry_at as is_at}
-use Rattle.meaning.specs.Theorems.{sorts_of, Follows, check_right}
+use Rattle.meaning.proofs.Bridge.Asked.{entry_at as is_at}
+use Rattle.meaning.specs.Theorems.{sorts_of, Follows}
+use Rattle.meaning.proofs.Theorems.{check_right}
 use Rattle.meaning.specs.Written.{Written, inside, Verdict}
-use Rattle.meaning.specs.Writing.Accepted.{derivation_accepted}
+use Rattle.meaning.proofs.Writing.Accepted.{derivation_accepted}
 use Rattle.state.specs.RowCells.{no_fact}
 use Rattle.state.specs.RowTables.{entry_at}
 use Rattle.running.specs.ReadBack.{Call}

@@ -13,7 +13,7 @@ use Rattle.rules.specs.Tree.{same_tree, sub}
 use Rattle.rules.specs.Store.{Made, substitute}
 use Rattle.rules.specs.Unify.{along}
 use Rattle.rules.specs.Reference.{Ref, reference}
-use Rattle.rules.specs.Laws.MakingWalk.{substitute_keeps}
+use Rattle.rules.proofs.Laws.MakingWalk.{substitute_keeps}
 use Rattle.terms.specs.declared.store.Mark.{Mark}
 use Rattle.terms.specs.declared.store.Kept.{Kept}
 use Rattle.terms.specs.declared.store.Kept.TheVariants as kept

@@ -4,7 +4,7 @@ use Rattle.std.specs.Prelude.{◌≡◌, List, ℕ}
 use Rattle.rules.specs.Out.{Out}
 use Rattle.rules.specs.State.{State, Var}
 use Rattle.rules.specs.Forms.{with_vars, one_inversion}
-use Rattle.rules.specs.Laws.Appends.{Behind}
+use Rattle.rules.proofs.Laws.Appends.{Behind}
 use Rattle.terms.specs.declared.store.Mark.{Mark}
 use Rattle.terms.specs.Table.{made}
 use Rattle.state.specs.declared.sizes.Sizes.{Sizes}

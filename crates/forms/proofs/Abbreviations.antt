@@ -18,7 +18,7 @@ use Rattle.rules.specs.Declare.{is_new}
 use Rattle.rules.specs.State.{State, Def, abbreviated}
 use Rattle.rules.specs.Read.{term}
 use Rattle.rules.specs.Forms.{with_made, with_defs, making, add_def}
-use Rattle.rules.specs.Laws.ReadWalk.{term_keeps}
+use Rattle.rules.proofs.Laws.ReadWalk.{term_keeps}
 use Rattle.sexp.specs.Encode.{encodes}
 use Rattle.sexp.specs.Items.{item_of, place}
 use Rattle.sexp.specs.NthItem.{nth_text, nth_part}

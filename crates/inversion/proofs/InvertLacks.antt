@@ -13,7 +13,7 @@ use Rattle.rules.specs.Unify.{Binding}
 use Rattle.rules.specs.Theory.{Theory, Rule, rule}
 use Rattle.rules.specs.State.{Var}
 use Rattle.rules.specs.Invert.{up_from}
-use Rattle.rules.specs.Laws.Below.{below_up}
+use Rattle.rules.proofs.Laws.Below.{below_up}
 use Rattle.sexp.specs.declared.names.Found.{Found}
 use Rattle.sexp.specs.declared.names.Found.TheVariants.{At, Missing}
 use Rattle.terms.specs.declared.store.Mark.{Mark}

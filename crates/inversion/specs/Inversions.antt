@@ -6,10 +6,10 @@ use Rattle.rules.specs.Sexp.{Sexps, count, item, items}
 use Rattle.rules.specs.Tree.{Tree}
 use Rattle.rules.specs.Store.{Made}
 use Rattle.rules.specs.State.{State, Var, Fact}
-use Rattle.rules.specs.Laws.Appends.{Behind}
+use Rattle.rules.proofs.Laws.Appends.{Behind}
 use Rattle.rules.specs.Theory.{rules_of}
 use Rattle.rules.specs.Invert.{read_cases, invert_rules, predicate_of}
-use Rattle.rules.specs.Laws.Below.{Below, MadeBelow}
+use Rattle.rules.proofs.Laws.Below.{Below, MadeBelow}
 use Rattle.sexp.specs.Items.{Holds}
 use Rattle.terms.specs.declared.store.Mark.{Mark}
 use Rattle.terms.specs.Table.{made, tree}

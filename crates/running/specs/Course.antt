@@ -6,7 +6,7 @@ use Rattle.rules.specs.Loop.{through}
 use Rattle.rules.specs.State.{State}
 use Rattle.rules.specs.Forms.{take_form}
 use Rattle.rules.specs.Check.{Outcome, refused_in, missing, ended, after_proof, check}
-use Rattle.rules.specs.Laws.Bounded.{BoundedCheck}
+use Rattle.rules.proofs.Laws.Bounded.{BoundedCheck}
 use Rattle.kernel.specs.Parsed.{TheoryLists}
 use Rattle.state.specs.Stands.{Texts, texts, Board, Stands}
 use Rattle.running.specs.declared.run.Run.{Run}

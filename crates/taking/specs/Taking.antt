@@ -5,7 +5,7 @@ use Rattle.rules.specs.Out.{Out, refuse}
 use Rattle.rules.specs.Sexp.{Sexp}
 use Rattle.rules.specs.State.{State}
 use Rattle.rules.specs.Forms.{plus}
-use Rattle.rules.specs.Laws.Bounded.{BoundedState}
+use Rattle.rules.proofs.Laws.Bounded.{BoundedState}
 use Rattle.kernel.specs.Parsed.{TheoryLists, Formed}
 use Rattle.terms.specs.declared.store.Mark.{Mark}
 use Rattle.state.specs.declared.sizes.Sizes.{Sizes}

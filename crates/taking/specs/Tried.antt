@@ -5,7 +5,7 @@ use Rattle.rules.specs.Out.{Out}
 use Rattle.rules.specs.Sexp.{Sexps}
 use Rattle.rules.specs.State.{State}
 use Rattle.rules.specs.Forms.{plus}
-use Rattle.rules.specs.Laws.Bounded.{BoundedState}
+use Rattle.rules.proofs.Laws.Bounded.{BoundedState}
 use Rattle.sexp.specs.Items.{Holds}
 use Rattle.kernel.specs.Parsed.{TheoryLists}
 use Rattle.terms.specs.declared.store.Mark.{Mark}

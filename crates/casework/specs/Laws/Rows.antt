@@ -14,8 +14,8 @@ use Rattle.rules.specs.Tree.{Tree, Trees, var, same_tree, same_trees}
 use Rattle.rules.specs.Store.{Made}
 use Rattle.rules.specs.State.{State, Fact}
 use Rattle.rules.specs.Invert.{Allowed, is_allowed}
-use Rattle.rules.specs.Laws.Theory.{All, all_at}
-use Rattle.rules.specs.Laws.Set.{union_empty}
+use Rattle.rules.proofs.Laws.Theory.{All, all_at}
+use Rattle.rules.proofs.Laws.Set.{union_empty}
 use Rattle.terms.specs.declared.store.Mark.{Mark}
 use Rattle.terms.specs.Node.{same_words}
 use Rattle.terms.specs.Table.{made, tree, args_of, Good}

@@ -5,8 +5,8 @@ use Rattle.rules.specs.Out.{Out}
 use Rattle.rules.specs.Sexp.{Sexps, count}
 use Rattle.rules.specs.State.{State}
 use Rattle.rules.specs.Forms.{with_vars, one_inversion, plus}
-use Rattle.rules.specs.Laws.Below.{MadeBelow}
-use Rattle.rules.specs.Laws.Bounded.{BoundedState}
+use Rattle.rules.proofs.Laws.Below.{MadeBelow}
+use Rattle.rules.proofs.Laws.Bounded.{BoundedState}
 use Rattle.sexp.specs.Items.{Holds}
 use Rattle.kernel.specs.Parsed.{TheoryLists}
 use Rattle.terms.specs.declared.store.Mark.{Mark}

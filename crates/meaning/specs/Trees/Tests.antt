@@ -5,7 +5,7 @@ use Rattle.std.proofs.Common.{sym, ◌∙◌, ap, ap₂, subst, inl, inr, arith,
 use Rattle.std.proofs.Math.Decide.{ℕ_discrete}
 use Rattle.rules.specs.Tree.{Tree, Trees, var, app, none, more, same_tree, same_trees, sub, single, variables, variables_of, is_open, are_open}
 use Rattle.rules.specs.Tree.{among}
-use Rattle.rules.specs.Laws.Below.{Below, Belows}
+use Rattle.rules.proofs.Laws.Below.{Below, Belows}
 use Rattle.meaning.specs.Trees.Tree.{Occ, Occs, Ground, Grounds, Among, sub_ext, sub_var, ground_occ, grounds_occs}
 
 -- Tests in a row ----------------------------------------------------------------------------------------------------------------

@@ -3,7 +3,7 @@ use Prim.Native.Nat.{◌-◌}
 use lib.ListN.{length}
 use native.Mathlib.Omega.{arith}
 use Rattle.rules.specs.Text.{same}
-use Rattle.rules.specs.Laws.Text.{same_lengths, same_on, same_off, same_over}
+use Rattle.rules.proofs.Laws.Text.{same_lengths, same_on, same_off, same_over}
 use Rattle.casework.proofs.context.same_cells.Goals as goal
 
 pub returns-then-a-b : goal.returns-then-a-b

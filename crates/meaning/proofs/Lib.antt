@@ -1,0 +1,6 @@
+pub mod Bridge
+pub mod Premise
+pub mod Writing
+pub mod Theorems
+pub mod TheoremsHold
+pub mod Lemmas
