@@ -45,14 +45,15 @@ def prove(home, crate):
 
 def verdict(said):
     """What became of an edit, by the words of `rt must-fail` behind its name."""
-    kind, _, why = said.partition(": ")
-    if kind.startswith("refused, as it must be (only because a proof file names"):
-        return "OTHER SHAPE", why
-    if kind.startswith("refused, as it must be (only by a limit"):
-        return "refused", "by a limit of the prover alone"
-    if kind.startswith("refused, as it must be"):
-        return "refused", why
-    return ("ACCEPTED", "the crate is proved with it") if kind.startswith("NOT REFUSED") else (kind, why)
+    known = re.fullmatch(r"(refused, as it must be|NOT REFUSED|BAD EDIT|NOT TRIED)(?: \((only .*?)\))?(?:: (.*))?", said)
+    if not known:
+        return "NOT TRIED", said
+    kind, only, why = known[1], known[2] or "", known[3] or ""
+    if kind == "NOT REFUSED":
+        return "ACCEPTED", "the crate is proved with it"
+    if kind != "refused, as it must be":
+        return kind, why
+    return "OTHER SHAPE" if "names what the edit took away" in only else "refused", "by a limit of the prover alone: " + why if "by a limit" in only else why
 
 
 def tried(home, crate, edits):
