@@ -20,12 +20,14 @@ fn main() {
     link(&here);
 }
 
-/// Where a part of this product is measured: the static library that `rt staticlib` writes of its exported functions.
+/// Where a part of this product is measured: the static library that `rt lib` writes of its exported functions, in the folder of its crate. The
+/// variable STATICLIB names another folder, which has all of them.
 fn link(here: &Path) {
     println!("cargo:rerun-if-env-changed=STATICLIB");
-    let folder = env::var("STATICLIB").map_or(here.join("../target/staticlib"), PathBuf::from);
+    let named = env::var_os("STATICLIB").map(PathBuf::from);
     for (part, library) in [("READER", "exports"), ("TERMS", "exports_terms"), ("TERMS", "exports_store")] {
         if env::var(format!("CARGO_FEATURE_{part}")).is_ok() {
+            let folder = named.clone().unwrap_or_else(|| here.join("../crates").join(library).join("out"));
             println!("cargo:rerun-if-changed={}", folder.join(format!("lib{library}.a")).display());
             println!("cargo:rustc-link-search=native={}", folder.display());
             println!("cargo:rustc-link-lib=static={library}");

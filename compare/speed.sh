@@ -3,6 +3,6 @@
 # The variable RT names the prover's command; ORIGINAL the folder of the original's sources, where they do not stand beside the repository.
 cd "$(dirname "$0")/.." || exit 2
 for crate in exports exports_terms exports_store tariff; do
-    "${RT:-rt}" staticlib "$crate" || exit 1
+    (cd "crates/$crate" && exec "${RT:-rt}" lib) || exit 1
 done
 cd compare && cargo run --release --offline --features reader,terms -- speed && exec cargo run --release --offline --features reader,terms -- whole

@@ -1,5 +1,6 @@
-/* The tariff proof checker, for C and for whatever calls C: one function over target/staticlib/libtariff.a, which `rt staticlib tariff` proves
- * and writes. It is compiled for x86-64 Linux. docs/USING.md has an example, docs/TABLES.md what the tables hold, docs/REFUSALS.md the refusals.
+/* The tariff proof checker, for C and for whatever calls C: one function over crates/tariff/out/libtariff.a, which `rt lib`, run in crates/tariff,
+ * proves and writes. It is compiled for x86-64 Linux (x86-64-v2). docs/USING.md has an example, docs/TABLES.md what the tables hold,
+ * docs/REFUSALS.md the refusals.
  */
 #ifndef TARIFF_H
 #define TARIFF_H

@@ -1,4 +1,4 @@
-//! Links the proved static library: target/staticlib/libtariff.a of the repository, or the file that the variable TARIFF_LIB names.
+//! Links the proved static library: crates/tariff/out/libtariff.a of the repository, or the file that the variable TARIFF_LIB names.
 use std::path::{Path, PathBuf};
 use std::{env, process};
 
@@ -9,7 +9,7 @@ fn main() {
     }
     let here = PathBuf::from(env::var_os("CARGO_MANIFEST_DIR").expect("cargo says where it builds"));
     let named = env::var_os("TARIFF_LIB").map(PathBuf::from);
-    let file = named.unwrap_or_else(|| here.join("../target/staticlib/libtariff.a"));
+    let file = named.unwrap_or_else(|| here.join("../crates/tariff/out/libtariff.a"));
     println!("cargo:rerun-if-changed={}", file.display());
     match file.canonicalize() {
         Ok(found) if found.is_file() => link(&found),
@@ -28,7 +28,7 @@ fn link(file: &Path) {
 
 fn fail(why: &str) {
     eprintln!("\nThe checker's static library: {why}.");
-    eprintln!("`rt staticlib tariff`, run in the repository, proves and writes it at target/staticlib/libtariff.a;");
+    eprintln!("`rt lib`, run in the repository's folder crates/tariff, proves and writes it at crates/tariff/out/libtariff.a;");
     eprintln!("the variable TARIFF_LIB names another file. Without the feature `library` nothing is linked, and there is no checker.\n");
     process::exit(1);
 }

@@ -1,6 +1,6 @@
 /* Checks three files and prints the one line of the answer. From the repository's folder:
  *
- *     cc -Iinclude samples/check.c target/staticlib/libtariff.a -o check
+ *     cc -Iinclude samples/check.c crates/tariff/out/libtariff.a -o check
  *     ./check samples/child/theory samples/child/goals samples/child/proof
  *
  * It ends with 0 where the proof is accepted, 1 where it is refused, 2 where a file cannot be read.

@@ -88,7 +88,7 @@ only (false ∷ bs) (n ∷ ns) = only bs ns
 FACTS = """unfoldable mutual
   code : Tree → List ℕ
   code (var v) = 0 ∷ v ∷ []
-  code (app c ts) = 1 ∷ c ∷ countTrees ts ∷ codes ts
+  code (app c ts) = 1 ∷ c ∷ count_trees ts ∷ codes ts
 
   codes : Trees → List ℕ
   codes none = []
@@ -99,34 +99,30 @@ truth true = 1
 truth false = 0
 
 unfoldable coded : Fact → List ℕ
-coded f = code (f .judgment) ++ ((length (f .hyps) ∷ f .hyps) ++ ((truth (f .assumed) ∷ countTrees (f .premises) ∷ codes (f .premises))
-    ++ (length (f .general) ∷ f .general)))
+coded f =
+    code f.judgment ++ ((length f.hyps ∷ f.hyps) ++ ((truth f.assumed ∷ count_trees f.premises ∷ codes f.premises) ++ (length f.general ∷ f.general)))
 
-unfoldable allCoded : List Fact → List ℕ
-allCoded [] = []
-allCoded (f ∷ fs) = coded f ++ allCoded fs
+unfoldable all_coded : List Fact → List ℕ
+all_coded [] = []
+all_coded (f ∷ fs) = coded f ++ all_coded fs
 
-unfoldable withFacts : Outcome → List ℕ
-withFacts o = lineOf (o .answer) ++ allCoded (o .state .facts)
+unfoldable with_facts : Outcome → List ℕ
+with_facts o = line_of o.answer ++ all_coded o.state.facts
 
-unfoldable allFooted : List Fact → List ℕ
-allFooted [] = []
-allFooted (f ∷ fs) = (length (f .footing) ∷ f .footing) ++ allFooted fs
+unfoldable all_footed : List Fact → List ℕ
+all_footed [] = []
+all_footed (f ∷ fs) = (length f.footing ∷ f.footing) ++ all_footed fs
 
-unfoldable withFootings : Outcome → List ℕ
-withFootings o = withFacts o ++ allFooted (o .state .facts)
+unfoldable with_footings : Outcome → List ℕ
+with_footings o = with_facts o ++ all_footed o.state.facts
 """
 
-USES = """use Prim.Native.Nat.{ℕ}
-use mathlib.Core.Path.{_≡_, refl}
-use mathlib.Core.Bool.{Bool, true, false}
-use mathlib.Core.List.{List, [], _∷_, _++_}
-use lib.ListN.{length}
-use Rattle·rules.specs.Text.{bytes}
-use Rattle·rules.specs.Tree.{Tree, Trees, var, app, none, more, countTrees}
-use Rattle·rules.specs.State.{Fact}
-use Rattle·rules.specs.Check.{Outcome, check}
-use Rattle·rules.specs.Run.{lineOf, line, running}
+USES = """use Rattle.std.specs.Prelude.{ℕ, ◌≡◌, refl, Bool, true, false, List, [], ◌∷◌, ◌++◌, length}
+use Rattle.rules.specs.Text.{bytes}
+use Rattle.rules.specs.Tree.{Tree, Trees, var, app, none, more, count_trees}
+use Rattle.rules.specs.State.{Fact}
+use Rattle.rules.specs.Check.{Outcome, check}
+use Rattle.rules.specs.Run.{line_of, line, running}
 """
 
 
@@ -136,9 +132,9 @@ def equation(case):
     left, opened = "line " + texts, "running"
     if case.facts is not None:
         facts, ask, footings = case.facts.partition(b";")
-        left, opened = "withFacts (check %s)" % texts, "running code truth coded allCoded withFacts"
+        left, opened = "with_facts (check %s)" % texts, "running code truth coded all_coded with_facts"
         if ask:
-            left, opened = "withFootings (check %s)" % texts, opened + " allFooted withFootings"
+            left, opened = "with_footings (check %s)" % texts, opened + " all_footed with_footings"
         right += [int(n) for n in facts.split() + footings.split()]
     if None not in right:
         return left, listed(right), opened
@@ -177,7 +173,7 @@ def definition(rules, top, limits, roots=("Run", "Text")):
         name = waiting.pop()
         if name not in reached:
             reached[name] = open(os.path.join(specs, *name.split(".")) + ".antt").read()
-            waiting += re.findall(r"^use Rattle·rules·specs\.specs\.([\w.]+)\.\{", reached[name], re.M)
+            waiting += re.findall(r"^use Rattle\.rules\.specs\.([\w.]+)\.\{", reached[name], re.M)
             waiting += [name + "." + part for part in re.findall(r"^pub mod (\w+)", reached[name], re.M)]
     reached["Limits"] = limited(reached["Limits"], limits)
     order = re.findall(r"^pub mod (\w+)", open(os.path.join(specs, "Lib.antt")).read(), re.M)
@@ -187,22 +183,27 @@ def definition(rules, top, limits, roots=("Run", "Text")):
     write(os.path.join(top, "crates", "rules", "src", "lib.rt"), open(os.path.join(rules, "src", "lib.rt")).read())
 
 
+def difference(why):
+    """Where the two sides of an equation differ once they are computed, of what the prover says of it."""
+    return re.sub(r"^.*?computed as far as they go, the two types differ (.*?\(found\)).*$", r"they differ \1", why)
+
+
 def run(rules, cases):
-    """The cases of one definition; the names of those that fail, with why."""
+    """The cases of one definition: those that fail, with why."""
     with tempfile.TemporaryDirectory() as top:
         write(os.path.join(top, "crates.txt"), "rules:\ncases: rules\n")
         definition(rules, top, cases[0].limits)
-        write(os.path.join(top, "crates", "cases", "src", "lib.rt"), "pub const ROWS: usize = %d;\n" % len(cases))
+        write(os.path.join(top, "crates", "cases", "src", "lib.rt"), "#![tactic(auto)]\n\npub const ROWS: usize = %d;\n" % len(cases))
         names = []
         for k in range(0, len(cases), ROWS_A_FILE):
             names.append("Rows%d" % (k // ROWS_A_FILE))
             write(os.path.join(top, "crates", "cases", "specs", names[-1] + ".antt"), module(cases[k:k + ROWS_A_FILE], k))
         write(os.path.join(top, "crates", "cases", "specs", "Lib.antt"), "".join("pub mod %s\n" % n for n in names))
-        ran = subprocess.run([os.environ.get("RT", "rt"), "dev", "cases"], cwd=top, capture_output=True, text=True, env=dict(os.environ, RT_CUT="0"))
+        ran = subprocess.run([os.environ.get("RT", "rt"), "check"], cwd=os.path.join(top, "crates", "cases"), capture_output=True, text=True)
     said = ran.stdout + ran.stderr
     wrong = {}
-    for found in re.finditer(r"error: `row(\d+)`: (.*)", said):
-        wrong.setdefault(int(found.group(1)), found.group(2))
+    for found in re.finditer(r"error: `row(\d+)`: (.*(?:\n  .*)*)", said):
+        wrong.setdefault(int(found.group(1)), difference(" ".join(found.group(2).split())))
     if ran.returncode != 0 and not wrong:
         sys.exit(said)
     return [(cases[i], why) for i, why in sorted(wrong.items())]

@@ -1,19 +1,20 @@
 #!/usr/bin/env python3
-"""Tries edits that the prover must refuse, and tells a proof that no longer holds from an edit that shows nothing.
+"""Tries edits that the prover must refuse, beyond those of the gate.
 
     tools/edits.py [--gate] [--rows] [CRATE [EDIT..]]
 
 Without a CRATE it tries those of every crate. The edits are those of crates/CRATE/tried, which the gate leaves out to stay short; with --gate
-those of must-fail, which the gate tries. With --rows an edit of the definition is held to its rows alone (Examples, Slips), without the laws:
-some seconds an edit, and what refuses it is a row. An edit has lines `file:`, `old:` and `new:`; each old text stands once in its file.
-Each is tried in a copy of the checkout, on the crate as it was proved before. What is said of it:
+those of must-fail, which the gate tries. With --rows an edit of the definition is held to its rows alone (Examples, Slips, Rows), without the
+laws: what refuses it then is a row. An edit has lines `file:`, `old:` and `new:`; each old text stands once in its file.
+They are tried by `rt must-fail` in a copy of the repository, over the crate as `rt check` proves it. What is said of an edit:
 
     refused         a proof or a row no longer holds: as it must be
     ACCEPTED        the crate is proved with the edit
-    DOES NOT APPLY  its old text does not stand once in its file
-    DOES NOT PARSE  the edited file is no text of the language, or has no type where it was edited: the prover saw no wrong answer
-    OTHER SHAPE     the code asks for other proofs than those there are (no such `Need-..`): keep its operations, change an operand
+    BAD EDIT        its old text does not stand once in its file, or the edited file is no text of the language: the prover saw no wrong answer
+    OTHER SHAPE     a proof file names what the edit took away, and nothing else refuses it: keep the code's operations, change an operand
+    NOT TRIED       its check was killed, or the like: run it again
 
+The last line counts those that are not refused, and the edits that docs/EDITS.md lists and that are not there, or the other way round.
 The variable RT names the prover's command."""
 import os
 import pathlib
@@ -24,86 +25,52 @@ import sys
 import tempfile
 
 from cases import definition
-from walks import root
 
-HERE = root()
-AGAIN = re.compile("was not admitted|could not be checked")
-LEFT_OUT = {".git", "compare", "goals", "names", "must-fail", "bin", "log"}
+HERE = pathlib.Path(__file__).resolve().parent.parent
+LEFT_OUT = shutil.ignore_patterns("out", "must-fail", "tried", "__pycache__")
 
 
-def pairs(text):
-    """The replacements of an edit: file, old text, new text."""
-    found, file, old = [], None, None
-    for line in text.splitlines():
-        if line.startswith("file: "):
-            file = line[6:]
-        elif line.startswith("old: "):
-            old = line[5:]
-        elif line.startswith("new:"):
-            found.append((file, old, line[5:]))
-    return found
+def rt(where, *words):
+    """What the prover's command says, run there."""
+    run = subprocess.run([os.environ.get("RT", "rt"), *words], cwd=where, stdout=subprocess.PIPE, stderr=subprocess.STDOUT, text=True)
+    return run.stdout
 
 
-def said_of(home, crate):
-    """Whether the prover takes the crate, and what it said."""
-    run = subprocess.run([os.environ.get("RT", "rt"), "dev", crate], cwd=home, capture_output=True, text=True)
-    said = run.stdout + run.stderr
-    return run.returncode == 0 and "logic=proved" in said, said.replace(f"{home}/crates/{crate}/", "")
+def prove(home, crate):
+    """The crate as it stands must be proved, since any edit of one that is not is refused."""
+    said = rt(home / "crates" / crate, "check")
+    if not re.search(r"^logic=proved", said, re.M):
+        raise SystemExit(f"{said[-2000:]}\n{crate} is not proved as it stands")
 
 
-def touched(text, old):
-    """The lines that an edit of a definition can make ill-typed: the whole definition; of a theorem, whose proof must fail, its own line."""
-    lines, at = text.split("\n"), text[:text.index(old)].count("\n")
-    starts = [i for i, line in enumerate(lines) if re.match(r"(pub |abbrev |unfoldable |opaque )*\S+ :|(pub )?(data|record) ", line)] + [len(lines)]
-    first = max([i for i in starts if i <= at], default=at)
-    if re.match(r"(pub )?(abbrev|unfoldable|data|record)", lines[first]):
-        return range(first + 1, min(i for i in starts if i > at) + 1)
-    return range(at + 1, at + 2)
+def verdict(said):
+    """What became of an edit, by the words of `rt must-fail` behind its name."""
+    known = re.fullmatch(r"(refused, as it must be|NOT REFUSED|BAD EDIT|NOT TRIED)(?: \((only .*?)\))?(?:: (.*))?", said)
+    if not known:
+        return "NOT TRIED", said
+    kind, only, why = known[1], known[2] or "", known[3] or ""
+    if kind == "NOT REFUSED":
+        return "ACCEPTED", "the crate is proved with it"
+    if kind != "refused, as it must be":
+        return kind, why
+    return "OTHER SHAPE" if "names what the edit took away" in only else "refused", "by a limit of the prover alone: " + why if "by a limit" in only else why
 
 
-def verdict(said, edited):
-    """What became of an edit that was not taken; `edited` has the files and lines in which an error is one of the text."""
-    if compiler := re.search(r"^.*: error\[.*$", said, re.M):
-        return "DOES NOT PARSE", compiler[0]
-    errors = re.findall(r"^(\S+?):(\d+):\d+: error: (?:`([^`]*)`: )?(.*)$", said, re.M)
-    first = [(file, line, name, what) for file, line, name, what in errors if not AGAIN.search(what)]
-    for file, line, name, what in first:
-        if not name or (file, int(line)) in edited:
-            return "DOES NOT PARSE", f"{file}:{line}: {what}"
-    for file, line, name, what in first:
-        if re.search(r"has no `Need-\S+` that can be named", what):
-            return "OTHER SHAPE", f"{file}:{line}: {what}"
-    for file, line, name, what in first:
-        if name.endswith("-spec"):
-            return "OTHER SHAPE", f"{file}:{line}: {what}"
-    if first:
-        rows = {name: row[1] for _, _, name, what in first if (row := re.search(r"`(\w+) \.says`", what))}
-        names = dict.fromkeys(f"{name}{' at row ' + rows[name] if name in rows else ''} ({file}:{line})" for file, line, name, _ in first)
-        return "refused", "by " + ", ".join(list(names)[:3]) + (f" and {len(names) - 3} more" if len(names) > 3 else "")
-    if note := re.search(r"^note: what antt said of a `search`.*?: (\S+?:\d+):\d+: (`\S+`)", said, re.M):
-        return "refused", f"by {note[2]} ({note[1]})"
-    return "NOT TOLD", said[-300:]
-
-
-def tried(home, crate, edit, replacements):
-    """Whether the edited crate is refused."""
-    before, edited, verb, why = {}, set(), None, ""
-    for name, old, new in replacements:
-        file = home / "crates" / crate / name
-        text = file.read_text() if file.exists() else ""
-        if not old or text.count(old) != 1:
-            verb, why = "DOES NOT APPLY", f"{name} has not its old text once" if file.exists() else f"{name} is not there"
-            break
-        before.setdefault(file, text)
-        edited.update((name, line) for line in touched(text, old))
-        file.write_text(text.replace(old, new))
-    if not verb:
-        taken, said = said_of(home, crate)
-        verb, why = ("ACCEPTED", "the crate is proved with it") if taken else verdict(said, edited)
-    for file, text in before.items():
-        file.write_text(text)
-    print(f"{crate}/{edit}: {verb}: {why[:200]}", flush=True)
-    return verb == "refused"
+def tried(home, crate, edits):
+    """Those of the edits that are not refused."""
+    folder = home / "crates" / crate / "must-fail"
+    folder.mkdir()
+    for edit in edits:
+        shutil.copy(edit, folder)
+    prove(home, crate)
+    said = dict(re.findall(rf"^rt: must-fail {crate}/(\S+)\.edit: (.*)$", rt(home, "must-fail", crate), re.M))
+    shutil.rmtree(folder)
+    wrong = []
+    for name in [edit.stem for edit in edits]:
+        verb, why = verdict(said.get(name, "NOT TRIED: nothing is said of it"))
+        print(f"{crate}/{name}: {verb}" + (f": {why[:200]}" if why else ""), flush=True)
+        wrong += [f"{crate}/{name}: {verb}"] if verb != "refused" else []
+    return wrong
 
 
 def unlisted(crate):
@@ -123,9 +90,17 @@ def rows_alone(home):
     definition(str(HERE / "crates/rules"), str(home), b"", names[names.index("Examples"):])
 
 
+def whole(home):
+    """Lays a copy of the repository there, without what the prover made and without edits."""
+    shutil.copytree(HERE / "crates", home / "crates", ignore=LEFT_OUT)
+    for name in ("crates.txt", "HANDLES"):
+        if (HERE / name).exists():
+            shutil.copy(HERE / name, home)
+
+
 def main(words):
-    options = {word for word in words if word.startswith("--")}
-    crate, names = next(iter([w for w in words if w not in options]), None), [w for w in words if w not in options][1:]
+    options, names = {word for word in words if word.startswith("--")}, [word for word in words if not word.startswith("--")]
+    crate, names = next(iter(names), None), names[1:]
     if options - {"--gate", "--rows"}:
         raise SystemExit(__doc__)
     if "--rows" in options and crate not in (None, "rules"):
@@ -135,20 +110,13 @@ def main(words):
     count, failed = 0, []
     with tempfile.TemporaryDirectory() as top:
         home = pathlib.Path(top) / "checkout"
-        if "--rows" in options:
-            home.mkdir()
-            rows_alone(home)
-        else:
-            shutil.copytree(HERE, home, ignore=lambda at, _: LEFT_OUT if pathlib.Path(at) in (HERE, HERE / "target") else set())
+        home.mkdir()
+        (rows_alone if "--rows" in options else whole)(home)
         for crate in crates:
-            found = sorted((HERE / "crates" / crate / folder).glob("*.edit"))
-            edits = {e.stem: pairs(e.read_text()) for e in found if not names or e.stem in names}
-            if not edits:
+            edits = [e for e in sorted((HERE / "crates" / crate / folder).glob("*.edit")) if not names or e.stem in names]
+            if not edits or set(names) - {edit.stem for edit in edits}:
                 raise SystemExit(f"{crate} has no such edit in {folder}")
-            taken, said = said_of(home, crate)
-            if not taken:
-                raise SystemExit(f"{said[-2000:]}\n{crate} is not proved as it stands")
-            failed += [f"{crate}/{name}" for name, what in edits.items() if not tried(home, crate, name, what)]
+            failed += tried(home, crate, edits)
             failed += [f"{crate}/{name}: docs/EDITS.md has it otherwise" for name in unlisted(crate)]
             count += len(edits)
     print(f"{count} tried, {len(failed)} failed" + "".join("\n    " + name for name in failed))

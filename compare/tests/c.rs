@@ -9,7 +9,7 @@ fn root() -> PathBuf {
 
 /// The library that the crate `tariff` links.
 fn library() -> PathBuf {
-    std::env::var_os("TARIFF_LIB").map_or(root().join("target/staticlib/libtariff.a"), PathBuf::from)
+    std::env::var_os("TARIFF_LIB").map_or(root().join("crates/tariff/out/libtariff.a"), PathBuf::from)
 }
 
 /// Builds a program of the repository with these options of the compiler; any warning is an error.
@@ -54,7 +54,7 @@ fn the_sample_is_compiled_by_one_line() {
     let line = source.lines().find_map(|l| l.trim_start_matches([' ', '*']).strip_prefix("cc ")).expect("the line");
     let program = Path::new(env!("CARGO_TARGET_TMPDIR")).join("check-plain");
     let words = line.split(' ').map(|w| match w {
-        "target/staticlib/libtariff.a" => library(),
+        "crates/tariff/out/libtariff.a" => library(),
         "check" => program.clone(),
         w => w.into(),
     });

@@ -48,7 +48,7 @@ fn a_record_is_laid_out_as_in_the_header() {
 
 #[test]
 fn the_line_that_compiles_the_sample_is_said_alike() {
-    let line = "cc -Iinclude samples/check.c target/staticlib/libtariff.a -o check\n";
+    let line = "cc -Iinclude samples/check.c crates/tariff/out/libtariff.a -o check\n";
     assert!(page("samples/check.c").contains(line) && page("docs/USING.md").contains(line));
 }
 
