@@ -10,7 +10,7 @@
 --     goals-in-tables       demand 3: each goal that stands there as taken is derivable, in every ground instance, where what it lists is
 --     derivation-in-tables  demand 3: a written derivation is accepted just where it is inside the limits; else 2, 5 or 60 refuses it
 --
--- That unification fails only where no unifier exists (demand 2) is `inversions_complete` of meaning/specs/Theorems: it speaks of the definition, whose every
+-- That unification fails only where no unifier exists (demand 2) is `inversions_complete` of meaning/proofs/Theorems: it speaks of the definition, whose every
 -- answer the code gives. Assumes nothing.
 use Rattle.std.specs.Prelude.{ℕ, ◌<◌, ◌≡◌, refl, true, List, length, get_or}
 use Rattle.std.proofs.Common.{sym, ap, ◌∙◌, subst}
