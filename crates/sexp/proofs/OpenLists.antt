@@ -1,7 +1,7 @@
 -- How the lists that are still open lie in the cells: of each its own cell, in which the place of the list around it stands, and the
 -- cells of its items so far, the outermost list first. Assumes nothing.
 use mathlib.Core.Path.{◌≡◌, refl, sym}
-use Prim.Native.Nat.{ℕ, ◌+◌, ◌*◌, ◌-◌, ◌≤◌, ◌<◌}
+use Prim.Native.Nat.{ℕ, ◌+◌, ◌*◌, ◌≤◌, ◌<◌}
 use mathlib.Core.List.{List, [], ◌∷◌, ◌++◌, append_assoc, append-nil}
 use native.Mathlib.Omega.{arith}
 use lib.ListN.{length, set, get_or, length-append}

@@ -1,4 +1,3 @@
-use Prim.Native.Nat.{◌-◌}
 use Rattle.cells.proofs.Fronts.{clearing_begins, clearing_on, clearing_done}
 use Rattle.cells.proofs.clear_words.Goals as goal
 

@@ -1,4 +1,3 @@
-use Prim.Native.Nat.{◌-◌}
 use native.Mathlib.Omega.{arith}
 use Rattle.cells.proofs.Fronts.{writing_begins, writing_on, writing_ends}
 use Rattle.cells.proofs.write.Goals as goal

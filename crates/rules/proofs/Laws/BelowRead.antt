@@ -18,7 +18,7 @@ use Rattle.rules.specs.Declare.{no_rule_var, is_new}
 use Rattle.rules.specs.Match.{Bound, match_all}
 use Rattle.rules.specs.Unify.{Binding, along, insert}
 use Rattle.rules.specs.State.{State, Var, no_var, Goal, Fact, sort_of, sort_of_var, fit, var_named, abbreviated, is_empty, is_plain}
-use Rattle.rules.specs.Read.{variable, named, term, compound, terms, term_of, judgment, judgment_each, judgments}
+use Rattle.rules.specs.Read.{named, term, compound, terms, term_of, judgment, judgment_each, judgments}
 use Rattle.rules.specs.Reference.{fact_at, binding, is_bound, bindings, instance, reference, judgment_of, judgments_at}
 use Rattle.rules.specs.Step.{Items, no_items, references, bind_item, state_item, read_item, read_items, match_stated, conclude, step}
 use Rattle.rules.specs.Apply.{plain_at, applied, discharge, apply}

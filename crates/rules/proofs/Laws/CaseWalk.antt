@@ -5,7 +5,7 @@ use Rattle.std.proofs.Math.Option.{Option, some, none as nothing}
 use mathlib.Core.List.{List, [], ◌∷◌, ◌++◌, append_assoc, append-nil}
 use Rattle.rules.specs.Limits.{VARIABLES}
 use Rattle.rules.specs.Out.{ask}
-use Rattle.rules.specs.Sexp.{Sexp, Sexps, nil, cons, count, item, rest, name}
+use Rattle.rules.specs.Sexp.{Sexp, Sexps, nil, cons, count, item, rest}
 use Rattle.rules.specs.Find.{entry, all, has}
 use Rattle.rules.specs.Tree.{Tree, Trees, var, app, none, more, same_tree, single}
 use Rattle.rules.specs.Store.{Made}

@@ -1,4 +1,3 @@
-use Prim.Native.Nat.{◌-◌}
 use native.Mathlib.Omega.{arith}
 use Rattle.sexp.proofs.Tallies.{tally_start, tally_on, tally_less, tally_done}
 use Rattle.sexp.proofs.items.count.Goals as goal

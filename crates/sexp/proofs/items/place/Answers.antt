@@ -1,4 +1,3 @@
-use Prim.Native.Nat.{◌-◌}
 use native.Mathlib.Omega.{arith}
 use Rattle.sexp.proofs.Tallies.{seek_start, seek_on, seek_over, seek_found}
 use Rattle.sexp.proofs.items.place.Goals as goal

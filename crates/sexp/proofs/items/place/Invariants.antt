@@ -1,4 +1,3 @@
-use Prim.Native.Nat.{◌-◌}
 use Rattle.sexp.proofs.Tallies.{Seeks}
 use Rattle.sexp.proofs.items.place.Given as goal
 

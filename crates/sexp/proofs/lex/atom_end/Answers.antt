@@ -1,5 +1,4 @@
 use mathlib.Core.Path.{refl, sym, ◌∙◌}
-use Prim.Native.Nat.{◌-◌}
 use native.Mathlib.Omega.{arith}
 use Rattle.sexp.proofs.Blocks.{atom_begin, atom_byte, atom_block, atom_stop, atom_over}
 use Rattle.sexp.proofs.ByteLaws.{is_letter_lem, no_letter}

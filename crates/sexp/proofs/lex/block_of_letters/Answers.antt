@@ -1,6 +1,6 @@
 use mathlib.Core.Path.{◌≡◌, sym, ◌∙◌}
-use mathlib.Core.Bool.{true, true≢false}
-use Prim.Native.Nat.{ℕ, ◌-◌}
+use mathlib.Core.Bool.{true≢false}
+use Prim.Native.Nat.{ℕ}
 use native.Mathlib.Omega.{arith}
 use Rattle.sexp.proofs.Blocks.{above_letter, atom_begin, atom_byte}
 use Rattle.sexp.proofs.lex.block_of_letters.Goals as goal

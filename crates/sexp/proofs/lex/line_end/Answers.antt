@@ -1,5 +1,4 @@
 use mathlib.Core.Path.{refl}
-use Prim.Native.Nat.{◌-◌}
 use native.Mathlib.Omega.{arith}
 use Rattle.sexp.proofs.Blocks.{comment_begin, comment_byte, comment_block, comment_stop, comment_over}
 use Rattle.sexp.proofs.lex.line_end.Goals as goal

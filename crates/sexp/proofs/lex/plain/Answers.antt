@@ -1,7 +1,5 @@
 use mathlib.Core.Path.{refl, sym, ◌∙◌}
-use Prim.Native.Nat.{◌-◌}
 use native.Mathlib.Omega.{arith}
-use Rattle.rules.specs.Text.{plain}
 use Rattle.sexp.proofs.ByteLaws.{plain_more, plain_not, plain_end}
 use Rattle.sexp.proofs.lex.plain.Goals as goal
 

@@ -1,4 +1,3 @@
-use Prim.Native.Nat.{◌-◌}
 use native.Mathlib.Omega.{arith}
 use Rattle.sexp.proofs.ByteLaws.{one_wide}
 use Rattle.sexp.proofs.Skips as skips

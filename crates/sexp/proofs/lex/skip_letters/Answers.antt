@@ -1,5 +1,4 @@
 use mathlib.Core.Path.{refl}
-use Prim.Native.Nat.{◌-◌}
 use native.Mathlib.Omega.{arith}
 use Rattle.sexp.proofs.Blocks.{atom_begin, atom_block}
 use Rattle.sexp.proofs.lex.skip_letters.Goals as goal

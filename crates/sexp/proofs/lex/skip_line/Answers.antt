@@ -1,5 +1,4 @@
 use mathlib.Core.Path.{refl}
-use Prim.Native.Nat.{◌-◌}
 use native.Mathlib.Omega.{arith}
 use Rattle.sexp.proofs.Blocks.{comment_begin, comment_block}
 use Rattle.sexp.proofs.lex.skip_line.Goals as goal

@@ -1,5 +1,5 @@
 use mathlib.Core.Path.{sym, ◌∙◌}
-use Prim.Native.Nat.{◌+◌, ◌-◌, ◌*◌}
+use Prim.Native.Nat.{◌+◌, ◌*◌}
 use native.Mathlib.Omega.{arith}
 use Rattle.sexp.specs.RowLaws.{name_order, name_within}
 use Rattle.sexp.proofs.Lookings.{looking_start, looking_row, looking_here, looking_on, looking_over}

@@ -1,4 +1,3 @@
-use Prim.Native.Nat.{◌-◌}
 use Rattle.sexp.proofs.IndexLaws.{start, more, all_read, none_there, too_low, too_high, overflows}
 use Rattle.sexp.proofs.names.unsigned.Goals as goal
 

@@ -1,4 +1,3 @@
-use Prim.Native.Nat.{◌-◌}
 use native.Mathlib.Omega.{arith}
 use Rattle.sexp.proofs.CellLaws.{zero_none, zero_more, zero_all}
 use Rattle.sexp.proofs.sexp.clear.Goals as goal

@@ -1,5 +1,4 @@
 use mathlib.Core.Path.{sym, ◌∙◌}
-use Prim.Native.Nat.{◌-◌}
 use native.Mathlib.Omega.{arith}
 use Rattle.sexp.proofs.TagLaws.{begin, found, next, none_found}
 use Rattle.sexp.proofs.tags.first_row.Goals as goal
