@@ -4,9 +4,9 @@ use mathlib.Core.List.{List, []}
 use Prim.Native.Nat.{ℕ, ◌*◌, ◌≤◌}
 use native.Mathlib.Omega.{arith}
 use lib.ListN.{length, replicate}
-use Rattle.rules.specs.Limits.{LENGTH, SORTS, SYMBOLS, ARGUMENTS, RULES, RULEVARS, PATTERNS, VARIABLES, TERMS, WORDS, DEFS, GOALS, FACTS, ENTRIES}
+use Rattle.rules.specs.Limits.{LENGTH, SORTS, SYMBOLS, ARGUMENTS, RULES, RULEVARS, PATTERNS, VARIABLES, TERMS, WORDS, DEFS, GOALS, ENTRIES}
 use Rattle.rules.specs.Theory.{Theory, no_theory, rule_words}
-use Rattle.rules.specs.State.{State, begin, goal_entries, all_entries, entries}
+use Rattle.rules.specs.State.{begin, goal_entries, all_entries, entries}
 use Rattle.rules.specs.TheoryTables.{rows, rule_cells, sort_table, symbol_table, input_table, rule_table, rule_var_table, pattern_table}
 use Rattle.rules.proofs.Laws.Theory.{empty, WellFormed}
 use Rattle.rules.proofs.Laws.Declare.{nothing_formed}

@@ -1,5 +1,5 @@
 -- The named parts of tables that may be longer: what is lent, and what stands in the whole afterwards. Assumes nothing.
-use mathlib.Core.Path.{◌≡◌, refl, sym, ap, ◌∙◌, subst}
+use mathlib.Core.Path.{◌≡◌, sym, ap, subst}
 use mathlib.Core.List.{List, ◌++◌}
 use Prim.Native.Nat.{ℕ, ◌*◌, ◌≤◌}
 use native.Mathlib.Omega.{arith}
@@ -9,11 +9,11 @@ use Rattle.rules.specs.Limits.{LENGTH, SORTS, SYMBOLS, ARGUMENTS, RULES, RULEVAR
 use Rattle.rules.specs.State.{State}
 use Rattle.kernel.specs.Parsed.{TheoryLists, theory_lists, Roomy, Exact}
 use Rattle.kernel.specs.Layout.{tables_exact}
-use Rattle.state.specs.Stands.{Board, board, Stands}
+use Rattle.state.specs.Stands.{Board, board}
 use Rattle.running.specs.declared.run.Run.{Run}
 use Rattle.running.specs.Course.{Course, on, off}
 use Rattle.running.specs.Lent.{Working, working, LongWorking, theory_front, board_front, TheoryBehind, WorkingBehind}
-use Rattle.running.specs.Between.{Held, AllLong, Begun, begun}
+use Rattle.running.specs.Between.{AllLong, Begun, begun}
 use Rattle.beginning.specs.Lengths.{ExactWorking}
 use Rattle.beginning.specs.Opened.{Lending, Opened}
 use Rattle.beginning.proofs.Turns.{stands_long}

@@ -7,15 +7,15 @@ use native.Mathlib.Omega.{arith}
 use lib.Dec.{eqb}
 use lib.ListN.{length, replicate, length-replicate}
 use Rattle.rules.specs.Limits.{LENGTH}
-use Rattle.rules.specs.Sexp.{read, read_from}
-use Rattle.rules.specs.Theory.{Theory, no_theory}
+use Rattle.rules.specs.Sexp.{read}
+use Rattle.rules.specs.Theory.{no_theory}
 use Rattle.rules.specs.Loop.{Judged, done, refused, through, whole}
 use Rattle.rules.specs.State.{State, no_counts, begin}
 use Rattle.rules.specs.Forms.{take_goal, take_form}
 use Rattle.rules.specs.Check.{Outcome, refused_in, after_proof, after_goals, after_theory, check}
 use Rattle.sexp.specs.ReadLaws.{read_first}
 use Rattle.sexp.specs.Through.{Legible}
-use Rattle.kernel.specs.Parsed.{TheoryLists, Exact, counts_of, judged_of, theory_of, verdict, theory_tables, LaidHeld}
+use Rattle.kernel.specs.Parsed.{TheoryLists, Exact, counts_of, judged_of, verdict, theory_tables, LaidHeld}
 use Rattle.kernel.specs.Layout.{verdict_formed, judged_done, judged_refused}
 use Rattle.kernel.specs.declared.parse.Counts.{Counts}
 use Rattle.kernel.specs.declared.parse.Judged.{Judged as Answer}
@@ -28,8 +28,8 @@ use Rattle.running.specs.Run.{no_sizes, no_mark, stopped_run, started_run}
 use Rattle.running.specs.Course.{on, off, outcome_by}
 use Rattle.beginning.specs.Asking.{Plain, LeftIn}
 use Rattle.beginning.specs.Lengths.{theory_sizes}
-use Rattle.beginning.specs.Posed.{theory_in, Posing, Fresh, behind_goals, Posed}
-use Rattle.beginning.specs.Opened.{no_board, Opening, Opened}
+use Rattle.beginning.specs.Posed.{theory_in, Posing, Fresh, Posed}
+use Rattle.beginning.specs.Opened.{Opening, Opened}
 use Rattle.beginning.proofs.Blank.{theory_stands, nothing_stands}
 use Rattle.beginning.proofs.Turns.{run_of}
 

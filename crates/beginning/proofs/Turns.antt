@@ -1,5 +1,5 @@
 -- What is held while the loop of `take_goals` goes through the goals (sexp/specs/Through), and what `read_all` says before. Assumes nothing.
-use mathlib.Core.Path.{◌≡◌, refl, sym, ap, ◌∙◌, subst}
+use mathlib.Core.Path.{◌≡◌, sym, ap, ◌∙◌, subst}
 use mathlib.Core.List.{List, ◌++◌, append-nil}
 use mathlib.Core.Bool.{Bool, true, false}
 use Prim.Native.Nat.{ℕ, ◌+◌, ◌*◌}
@@ -23,22 +23,18 @@ use Rattle.sexp.specs.declared.sexp.Whole.{Whole}
 use Rattle.sexp.specs.declared.sexp.Whole.TheVariants.{Forms, Refused as Unreadable}
 use Rattle.kernel.specs.Parsed.{TheoryLists, Formed}
 use Rattle.terms.specs.declared.store.Mark.{Mark}
-use Rattle.terms.specs.Table.{made}
 use Rattle.state.specs.declared.sizes.Sizes.{Sizes}
 use Rattle.state.specs.Held.{listed}
 use Rattle.state.specs.Stands.{Texts, texts, Board, trees_of, Stands}
 use Rattle.counts.specs.declared.Counts.{Counts}
-use Rattle.counts.specs.Counted.{counts_of}
-use Rattle.rules.specs.Forms.{plus}
-use Rattle.forms.specs.Moved.{Moves}
 use Rattle.taking.specs.declared.take.Taken.{Taken}
 use Rattle.taking.specs.declared.take.Taken.TheVariants as taken_as
-use Rattle.taking.specs.Taking.{TakesGoal, Refuses, TakenAs}
+use Rattle.taking.specs.Taking.{TakesGoal, TakenAs}
 use Rattle.running.specs.declared.run.Run.{Run}
 use Rattle.running.specs.Run.{no_mark, stopped_run, started_run}
-use Rattle.running.specs.Lent.{Working, working}
+use Rattle.running.specs.Lent.{working}
 use Rattle.beginning.specs.Lengths.{ExactWorking}
-use Rattle.beginning.specs.Posed.{theory_in, Posing, Fresh, behind_goals, posed_run, state_in, Posed}
+use Rattle.beginning.specs.Posed.{theory_in, Posing, Fresh, behind_goals, Posed}
 use Rattle.beginning.proofs.Posing.{fresh_first, fresh_on}
 
 -- Lengths ----------------------------------------------------------------------------------------------------------------------------

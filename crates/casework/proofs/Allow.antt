@@ -1,20 +1,18 @@
 -- What one fact of the context allows: by its judgment where it has neither premises nor generalised variables, else by comparison. Assumes nothing.
-use mathlib.Core.Path.{◌≡◌, refl, sym, ap, ◌∙◌, subst}
+use mathlib.Core.Path.{◌≡◌, refl, sym, ap, ◌∙◌}
 use mathlib.Core.Bool.{Bool, true, false, ◌&&◌, ◌||◌}
 use mathlib.Core.List.{List, [], ◌∷◌}
-use Prim.Native.Nat.{ℕ, zero, suc, ◌+◌, ◌-◌, ◌<◌, ◌≤◌}
+use Prim.Native.Nat.{ℕ, suc, ◌-◌, ◌<◌}
 use native.Mathlib.Omega.{arith}
 use lib.Dec.{eqb}
-use lib.ListN.{length, get_or, take, drop, length-drop}
+use lib.ListN.{length, drop, length-drop}
 use lib.Seq.{length-take-le}
-use borrow.Author.Tests.{eq-eqb, ne_eqb}
-use Rattle.rules.specs.Limits.{TERMS}
-use Rattle.rules.specs.Find.{Set, union, has, any}
-use Rattle.rules.specs.Tree.{Tree, Trees, var, none, more}
+use borrow.Author.Tests.{ne_eqb}
+use Rattle.rules.specs.Find.{union, has, any}
 use Rattle.rules.specs.Store.{Made}
-use Rattle.rules.specs.State.{State, is_none, is_empty}
+use Rattle.rules.specs.State.{is_none, is_empty}
 use Rattle.rules.specs.Invert.{Allowed, is_allowed}
-use Rattle.rules.proofs.Laws.Theory.{All, empty, both}
+use Rattle.rules.proofs.Laws.Theory.{empty, both}
 use Rattle.rules.proofs.Laws.Set.{union_empty}
 use Rattle.terms.specs.declared.store.Mark.{Mark}
 use Rattle.terms.specs.Table.{made, tree, args_of}
@@ -26,7 +24,7 @@ use Rattle.state.specs.declared.facts.Span.{Span}
 use Rattle.state.specs.Entries.{part}
 use Rattle.state.specs.Rows.{general_span}
 use Rattle.referring.specs.Recall.{fact_of, Recalls}
-use Rattle.casework.specs.Context.{allowed_of, plainly, plains_of, others_of, trees_of, PlainAdds, matching, Adds, one, MarkedAs}
+use Rattle.casework.specs.Context.{allowed_of, plainly, plains_of, others_of, trees_of, Adds, one, MarkedAs}
 use Rattle.casework.specs.Laws.Rows.{general_is, general_low, general_high}
 
 -- Whether it is bare ---------------------------------------------------------------------------------------------------------------------------

@@ -10,7 +10,7 @@ use native.Mathlib.Decide.{dec_lt}
 use lib.ListN.{length, get_or, take, drop, drop_of_length-le, length-append, get_or-append}
 use lib.Seq.{drop-cons, get_or-append-add}
 use Rattle.rules.specs.Text.{same}
-use Rattle.rules.specs.Out.{Out, ok, refuse, then, ask}
+use Rattle.rules.specs.Out.{ok, refuse, ask}
 use Rattle.rules.specs.Sexp.{Sexp, Sexps, nil, cons, count, item, rest}
 use Rattle.rules.specs.Find.{any}
 use Rattle.rules.specs.Store.{Made}
@@ -18,7 +18,6 @@ use Rattle.rules.specs.State.{State}
 use Rattle.rules.specs.Invert.{Case, case_named, read_case, read_cases}
 use Rattle.rules.proofs.Laws.Store.{then_ok, then_refuse}
 use Rattle.rules.proofs.Laws.Sexp.{rest_item}
-use Rattle.sexp.specs.Encode.{encode}
 use Rattle.sexp.specs.Items.{Holds, item_at, behind}
 use Rattle.sexp.specs.ItemLaws.{at_room, some_cells}
 use Rattle.sexp.specs.Never.{never}

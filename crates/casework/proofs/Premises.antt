@@ -2,14 +2,13 @@
 use mathlib.Core.Path.{◌≡◌, refl, sym, ap, ◌∙◌, subst}
 use mathlib.Core.Bool.{Bool, true, false, ◌||◌, false≢true}
 use mathlib.Core.List.{List, [], ◌∷◌, ◌++◌, append_assoc, append-nil}
-use mathlib.Core.Option.{Option, some}
-use Prim.Native.Nat.{ℕ, zero, suc, ◌+◌, ◌-◌, ◌*◌, ◌<◌, ◌≤◌}
+use mathlib.Core.Option.{Option}
+use Prim.Native.Nat.{ℕ, suc, ◌+◌, ◌<◌}
 use native.Mathlib.Omega.{arith}
-use lib.Dec.{eqb}
-use lib.ListN.{length, get_or}
+use lib.ListN.{length}
 use borrow.Author.Tests.{eqb-true}
-use Rattle.rules.specs.Out.{Out, ok, refuse, then}
-use Rattle.rules.specs.Find.{Set, has, union}
+use Rattle.rules.specs.Out.{Out, ok, then}
+use Rattle.rules.specs.Find.{has}
 use Rattle.rules.specs.Tree.{Tree, Trees, var, app, none, more, variables, variables_of, count_trees, size}
 use Rattle.rules.specs.Store.{Made, substitute}
 use Rattle.rules.specs.Match.{build}
@@ -28,7 +27,7 @@ use Rattle.terms.specs.Table.{made, tree, Good, Grown, After}
 use Rattle.terms.specs.Sets.{holds, plus}
 use Rattle.terms.specs.Subst.{replacement, substituted, Replaceable}
 use Rattle.terms.specs.Theta.{bindings, Theta}
-use Rattle.terms.specs.Patterns.{bound_of, Cells, Stands, Standing, Buildable, Builds, Stops, BuiltAs, BuiltAt}
+use Rattle.terms.specs.Patterns.{bound_of, Stands, Standing, Buildable, Builds, Stops, BuiltAs, BuiltAt}
 use Rattle.terms.specs.On.{Went, Stopped, On, on_start, on_is, on_ok, on_no, on_done}
 use Rattle.terms.specs.Laws.Growth.{made_length, grown_refl, grown_trans}
 use Rattle.terms.specs.Laws.Bound.{bound_grown, cells_grown, build_is}

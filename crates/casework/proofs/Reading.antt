@@ -1,13 +1,12 @@
 -- The loop that reads the cases of `invert`: what it asks of its calls, and what it learns. Assumes nothing.
-use mathlib.Core.Path.{◌≡◌, refl, sym, ap, ◌∙◌, subst}
+use mathlib.Core.Path.{◌≡◌, sym, ◌∙◌, subst}
 use mathlib.Core.Bool.{Bool}
 use mathlib.Core.List.{List}
-use Prim.Native.Nat.{ℕ, ◌+◌, ◌-◌, ◌<◌, ◌≤◌}
-use native.Mathlib.Omega.{arith}
+use Prim.Native.Nat.{ℕ, ◌+◌, ◌-◌, ◌<◌}
 use lib.ListN.{length, take, drop}
 use Rattle.rules.specs.Out.{refuse}
 use Rattle.rules.specs.Lex.{letters}
-use Rattle.rules.specs.Sexp.{Sexp, Sexps, cons}
+use Rattle.rules.specs.Sexp.{Sexp, Sexps}
 use Rattle.rules.specs.Store.{Made}
 use Rattle.rules.specs.State.{State}
 use Rattle.rules.specs.Invert.{Case, read_case}

@@ -1,20 +1,20 @@
 -- A fact of the context under a substitution: its premises in turn, then its judgment, and what it allows. Assumes nothing.
-use mathlib.Core.Path.{◌≡◌, refl, sym, ap, ◌∙◌, subst}
-use mathlib.Core.List.{List, [], ◌∷◌}
-use Prim.Native.Nat.{ℕ, zero, suc, ◌+◌, ◌-◌, ◌<◌, ◌≤◌}
+use mathlib.Core.Path.{◌≡◌, sym, ap, ◌∙◌, subst}
+use mathlib.Core.List.{List}
+use Prim.Native.Nat.{ℕ, ◌-◌, ◌<◌, ◌≤◌}
 use native.Mathlib.Omega.{arith}
-use lib.ListN.{length, get_or, take, drop, length-drop}
+use lib.ListN.{length, take, drop, length-drop}
 use lib.Seq.{length-take-le}
-use Rattle.rules.specs.Limits.{TERMS, ENTRIES}
-use Rattle.rules.specs.Out.{Out, ok, then}
-use Rattle.rules.specs.Tree.{Tree, Trees, var}
-use Rattle.rules.specs.Store.{Made, substitute, substitutes, number}
-use Rattle.rules.specs.State.{State, Fact}
+use Rattle.rules.specs.Limits.{ENTRIES}
+use Rattle.rules.specs.Out.{ok, then}
+use Rattle.rules.specs.Tree.{Tree, Trees}
+use Rattle.rules.specs.Store.{substitute, substitutes}
+use Rattle.rules.specs.State.{Fact}
 use Rattle.rules.specs.Invert.{Allowed}
 use Rattle.terms.specs.declared.store.Mark.{Mark}
-use Rattle.terms.specs.Table.{made, tree, args_of, Good, Grown}
+use Rattle.terms.specs.Table.{made, tree, args_of, Grown}
 use Rattle.terms.specs.Subst.{replacement}
-use Rattle.terms.specs.On.{Went, Stopped, On, on_start, on_is, on_ok, on_no, on_done}
+use Rattle.terms.specs.On.{Went, Stopped, On, on_start, on_ok, on_no, on_done}
 use Rattle.terms.specs.Laws.Growth.{grown_args}
 use Rattle.state.specs.declared.sizes.Sizes.{Sizes}
 use Rattle.state.specs.declared.facts.Span.{Span}
@@ -25,7 +25,7 @@ use Rattle.rules.proofs.Laws.Made.{sound}
 use Rattle.rules.proofs.Laws.MakingWalk.{substitute_keeps, substitutes_keeps}
 use Rattle.reading.specs.declared.bindings.Bound.{Bound}
 use Rattle.reading.specs.declared.bindings.Bound.TheVariants as bound
-use Rattle.referring.specs.Recall.{fact_of, Recalls, Refers}
+use Rattle.referring.specs.Recall.{fact_of, Recalls}
 use Rattle.casework.specs.Context.{There, Replaceables, Replaced, ReplacedAs, allowed_of, Adds, ContextRead, one, under, width_of, ContextGiven}
 use Rattle.casework.specs.Laws.Rows.{premises_are, judgment_is, judgment_there, premises_there, premises_low, premises_high, lists_are}
 

@@ -12,7 +12,6 @@ use Rattle.rules.specs.State.{State, Var}
 use Rattle.rules.specs.TheoryTables.{filled}
 use Rattle.rules.specs.Invert.{Case, case_named, read_case, read_cases}
 use Rattle.sexp.specs.Items.{Holds}
-use Rattle.sexp.specs.AtomText.{AtomText}
 use Rattle.sexp.specs.WalkLaws.{Walk}
 use Rattle.sexp.specs.declared.names.Found.{Found}
 use Rattle.sexp.specs.declared.names.Found.TheVariants.{At, Missing}

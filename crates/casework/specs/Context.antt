@@ -2,7 +2,7 @@
 -- judgments, the others are compared with the facts that the case rests on, one by one. Assumes nothing.
 use Rattle.std.specs.Prelude.{◌≡◌, Bool, true, false, ◌&&◌, List, [], ◌∷◌, ℕ, ◌-◌, ◌<◌, ◌≤◌, length, get_or, take, replicate}
 use Rattle.std.proofs.Math.Option.{some}
-use Rattle.rules.specs.Limits.{VARIABLES, TERMS}
+use Rattle.rules.specs.Limits.{TERMS}
 use Rattle.rules.specs.Out.{Out, Act, ◌>>=◌, pure}
 use Rattle.rules.specs.Find.{Set, union, has, any}
 use Rattle.rules.specs.Tree.{Tree, var}

@@ -2,13 +2,13 @@
 -- afterwards, and of the answer; every claim here is about such a call. The tables are those of TABLES.md, of whatever length and content before the call;
 -- Reader says what is read off them afterwards. The words: rules/specs/StateTables (Long, Laid), meaning/specs (Truth, Derivation, Written, Runs).
 --
---     short-unwritten       demand 1: where a table is too short the answer is 1, and nothing is written
---     tables-named          demand 1: else every cell of every table is what the definition lays out; what lies past the named lengths is as it was
---     answer-defined        demand 2: the answer is the definition's
---     facts-recorded        demand 2: the facts that are read off the tables are those that the definition records, all of them and in order
---     facts-in-tables-true  demand 3: each fact that is read off the tables is true, but for a rule hypothesis with premises
---     goals-in-tables       demand 3: each goal that stands there as taken is derivable, in every ground instance, where what it lists is
---     derivation-in-tables  demand 3: a written derivation is accepted just where it is inside the limits; else 2, 5 or 60 refuses it
+--     short_unwritten       demand 1: where a table is too short the answer is 1, and nothing is written
+--     tables_named          demand 1: else every cell of every table is what the definition lays out; what lies past the named lengths is as it was
+--     answer_defined        demand 2: the answer is the definition's
+--     facts_recorded        demand 2: the facts that are read off the tables are those that the definition records, all of them and in order
+--     facts_in_tables_true  demand 3: each fact that is read off the tables is true, but for a rule hypothesis with premises
+--     goals_in_tables       demand 3: each goal that stands there as taken is derivable, in every ground instance, where what it lists is
+--     derivation_in_tables  demand 3: a written derivation is accepted just where it is inside the limits; else 2, 5 or 60 refuses it
 --
 -- That unification fails only where no unifier exists (demand 2) is `inversions_complete` of meaning/proofs/Theorems: it speaks of the definition, whose every
 -- answer the code gives. Assumes nothing.
@@ -16,12 +16,11 @@ use Rattle.std.specs.Prelude.{ℕ, ◌<◌, ◌≡◌, refl, true, List, length,
 use Rattle.std.proofs.Common.{sym, ap, ◌∙◌, subst}
 use Rattle.std.proofs.Math.Option.{some}
 use Rattle.rules.specs.Find.{entry}
-use Rattle.rules.specs.Theory.{Theory}
-use Rattle.rules.specs.State.{State, Fact, Goal}
-use Rattle.rules.specs.Check.{Answer, accepts, refuses, check}
+use Rattle.rules.specs.State.{State, Goal}
+use Rattle.rules.specs.Check.{Answer, refuses, check}
 use Rattle.rules.specs.StateTables.{Tables, Long, Laid, Checked, too_short, answered}
 use Rattle.meaning.specs.Derivation.{RuleOf}
-use Rattle.meaning.specs.Truth.{At, True}
+use Rattle.meaning.specs.Truth.{True}
 use Rattle.meaning.specs.Named.{RuleHyp}
 use Rattle.meaning.specs.Runs.{CalmTexts}
 use Rattle.meaning.proofs.Bridge.Asked.{entry_at as is_at}

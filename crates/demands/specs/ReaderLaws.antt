@@ -7,15 +7,15 @@ use Rattle.std.proofs.Math.Option.{some}
 use mathlib.Core.List.{List, [], ◌∷◌, ◌++◌}
 use Rattle.std.proofs.Math.Seq.{take-length}
 use Rattle.rules.specs.Limits.{RULES, TERMS, WORDS, FACTS}
-use Rattle.rules.specs.Find.{entry, has, rising}
-use Rattle.rules.specs.Tree.{Tree, Trees, var, none, more}
+use Rattle.rules.specs.Find.{entry, rising}
+use Rattle.rules.specs.Tree.{Tree, Trees, var, more}
 use Rattle.rules.specs.Store.{Made}
 use Rattle.rules.specs.State.{State, Fact, Goal}
 use Rattle.rules.specs.StateTables.{Tables, numbers}
 use Rattle.rules.proofs.Laws.Theory.{All, empty, both}
 use Rattle.rules.proofs.Laws.Made.{sound}
-use Rattle.terms.specs.Table.{args_of, trees}
-use Rattle.terms.specs.Laws.Tables.{length_trees, get_d_trees}
+use Rattle.terms.specs.Table.{args_of}
+use Rattle.terms.specs.Laws.Tables.{get_d_trees}
 use Rattle.terms.specs.Sets.{holds}
 use Rattle.state.specs.FactLaws.{FactRow, fact_row_of, goal_row_of}
 use Rattle.state.specs.GoalLaws.{GoalRow}
@@ -25,7 +25,7 @@ use Rattle.state.specs.RowCells.{no_goal, no_fact}
 use Rattle.state.specs.RowTables.{entry_at}
 use Rattle.rules.proofs.Laws.Entry.{entry_below}
 use Rattle.running.specs.ReadBack.{Read}
-use Rattle.demands.specs.Reader.{fact_rows, goal_rows, entries_in, terms_in, term_in, list_in, goal_in, fact_in, facts_in}
+use Rattle.demands.specs.Reader.{goal_rows, entries_in, term_in, list_in, goal_in, fact_in, facts_in}
 
 module _ {T : Tables} {S : State} (h : Read T S) where
   abbrev I : List ℕ

@@ -2,14 +2,13 @@
 -- for it. Assumes nothing.
 use mathlib.Core.Path.{◌≡◌, refl, sym, ap, ◌∙◌, subst}
 use mathlib.Core.List.{List, ◌++◌}
-use Prim.Native.Nat.{ℕ, ◌+◌, ◌-◌, ◌*◌, ◌<◌, ◌≤◌}
+use Prim.Native.Nat.{ℕ, ◌+◌, ◌-◌, ◌*◌, ◌≤◌}
 use native.Mathlib.Omega.{arith}
 use lib.ListN.{length, take, drop, replicate, length-take, length-drop, length-append}
 use Rattle.rules.specs.Limits.{VARIABLES}
-use Rattle.rules.specs.Out.{Out, then, Act}
+use Rattle.rules.specs.Out.{then, Act}
 use Rattle.rules.specs.Sexp.{Sexps}
-use Rattle.rules.specs.Store.{Made}
-use Rattle.rules.specs.State.{State, Var, Fact, Counts}
+use Rattle.rules.specs.State.{State, Var, Fact}
 use Rattle.rules.specs.Invert.{invert}
 use Rattle.rules.specs.Forms.{with_made, with_vars, making, add_fact, add_invert, one_inversion}
 use Rattle.rules.specs.TheoryTables.{filled}
@@ -35,9 +34,8 @@ use Rattle.inversion.specs.declared.invert.Inverted.TheVariants as inverted_as
 use Rattle.inversion.specs.Inversions.{InvertedRead, InvertedAs}
 use Rattle.entering.specs.declared.derive.Entered.{Entered}
 use Rattle.entering.specs.declared.derive.Entered.TheVariants as entered_as
-use Rattle.forms.specs.Halted.{Halts}
 use Rattle.entering.specs.Entered.{EnteredAs, EnterAs, Words}
-use Rattle.entering.specs.Inverted.{AddsInversion, InversionAdded, InversionLeft, InversionAs}
+use Rattle.entering.specs.Inverted.{AddsInversion, InversionAdded, InversionAs}
 use Rattle.forms.specs.Laws.Making.{Reached, reached_start, reached_went, reached_stopped}
 use Rattle.entering.proofs.Entering.{entered, fits_cell, derived_putting}
 

@@ -6,7 +6,7 @@ use Prim.Native.Nat.{ℕ, ◌-◌}
 use native.Mathlib.Omega.{arith}
 use lib.ListN.{length, take, drop}
 use Rattle.rules.specs.Out.{Out, then, found}
-use Rattle.rules.specs.Sexp.{Sexps, count, item, rest}
+use Rattle.rules.specs.Sexp.{Sexps, item, rest}
 use Rattle.rules.specs.Tree.{Tree, Trees, none}
 use Rattle.rules.specs.State.{State}
 use Rattle.rules.specs.Read.{judgment, judgments, vars_list}

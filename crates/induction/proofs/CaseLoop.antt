@@ -11,7 +11,7 @@ use borrow.Author.Tests.{eq-eqb, ne_eqb}
 use Rattle.rules.specs.Limits.{SYMBOLS, VARIABLES, VARIABLEWORDS}
 use Rattle.rules.specs.Out.{then, ask}
 use Rattle.rules.specs.Sexp.{Sexps, cons, count}
-use Rattle.rules.specs.Find.{first, every}
+use Rattle.rules.specs.Find.{every}
 use Rattle.rules.specs.Theory.{Theory, Symbol, no_symbol, constructors}
 use Rattle.rules.specs.State.{State, sort_of_var}
 use Rattle.rules.specs.Induct.{Motive, motive_vars, induct_case, induct_cases}

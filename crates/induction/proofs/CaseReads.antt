@@ -15,7 +15,6 @@ use Rattle.rules.specs.Sexp.{Sexp, Sexps, list, nil, cons, count, item, rest, it
 use Rattle.rules.specs.Tree.{Tree, app, single}
 use Rattle.rules.specs.Store.{Made, keep, substitute, substitutes}
 use Rattle.rules.specs.Theory.{Theory, no_symbol, inputs}
-use Rattle.rules.specs.Find.{first}
 use Rattle.rules.specs.State.{State}
 use Rattle.rules.specs.Induct.{Motive, motive_vars, Hyp, case_vars, keep_vars, hypotheses, induct_case}
 use Rattle.rules.proofs.Laws.Out.{then_then}

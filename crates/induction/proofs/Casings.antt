@@ -1,12 +1,12 @@
 -- A constructor over a case's variables, and the motive at it and at a variable: what the loop has kept, and what is answered. Assumes nothing.
 use mathlib.Core.Path.{◌≡◌, refl, sym, ap, ◌∙◌, subst}
 use mathlib.Core.List.{List, [], ◌∷◌, ◌++◌}
-use Prim.Native.Nat.{ℕ, suc, ◌+◌, ◌-◌, ◌<◌, ◌≤◌}
+use Prim.Native.Nat.{ℕ, suc, ◌+◌, ◌<◌, ◌≤◌}
 use native.Mathlib.Omega.{arith}
 use native.Mathlib.Numerals.{add-one}
 use lib.ListN.{length, get_or, set, take, drop, replicate, length-set, length-drop, length-replicate, drop_of_length-le}
 use lib.Seq.{drop-cons, take-suc-set, length-take-le, drop-set-add, get_or-set_other}
-use Rattle.rules.specs.Limits.{SYMBOLS, VARIABLES, TERMS, NODE}
+use Rattle.rules.specs.Limits.{VARIABLES, TERMS, NODE}
 use Rattle.rules.specs.Out.{Out, ok, then, Act}
 use Rattle.rules.specs.Tree.{Tree, Trees, var, app, none, more, single}
 use Rattle.rules.specs.Store.{Made, keep}
@@ -15,13 +15,13 @@ use Rattle.rules.proofs.Laws.Out.{then_then}
 use Rattle.terms.specs.declared.store.Mark.{Mark}
 use Rattle.terms.specs.declared.store.Kept.{Kept}
 use Rattle.terms.specs.declared.store.Kept.TheVariants.{Term, Full}
-use Rattle.terms.specs.Table.{made, tree, tree_at, args_of, Good, Node, Shaped, is_var, is_app, Stored, After}
+use Rattle.terms.specs.Table.{made, tree, tree_at, args_of, Good, Node, Shaped, is_app, Stored, After}
 use Rattle.terms.specs.Subst.{replacement}
 use Rattle.terms.specs.On.{Stopped, On, on_start, on_is, on_ok, on_no, stored_went, refused_stopped}
 use Rattle.terms.specs.Laws.Answers.{after_term, after_full}
 use Rattle.terms.specs.Laws.Growth.{grown_tree, grown_args, grown_there, grown_trans}
 use Rattle.terms.specs.Laws.Numbers.{stored_is}
-use Rattle.terms.specs.Laws.Tables.{tree_app, tree_var}
+use Rattle.terms.specs.Laws.Tables.{tree_app}
 use Rattle.reading.specs.declared.term.Out.{Out as Answer}
 use Rattle.induction.specs.Inducing.{Below, motive_in, Motived, Movable, MovedAs, judgment_first, premises_first, var_trees, keep_case, Casing, at_constructor, Scratch}
 use Rattle.induction.proofs.Moves.{ahead, ahead_none, ahead_snoc, ahead_grown, below_snoc, below_grown, moved_on, one_cell, one_bound}

@@ -1,6 +1,6 @@
 -- The form `induct` behind its variable and hypotheses, and its two spellings. Assumes nothing.
 use mathlib.Core.Path.{◌≡◌, sym, ap, ◌∙◌, subst}
-use mathlib.Core.Bool.{true, false, false≢true}
+use mathlib.Core.Bool.{false, false≢true}
 use mathlib.Core.List.{List, []}
 use Prim.Native.Nat.{ℕ, ◌-◌, ◌*◌, ◌<◌, ◌≤◌}
 use native.Mathlib.Omega.{arith}
@@ -15,7 +15,7 @@ use Rattle.rules.specs.Tree.{Tree, none}
 use Rattle.rules.specs.Store.{Made}
 use Rattle.rules.specs.Theory.{constructors}
 use Rattle.rules.specs.State.{State, Fact, sort_of_var}
-use Rattle.rules.specs.Read.{judgment, variable}
+use Rattle.rules.specs.Read.{judgment}
 use Rattle.rules.specs.Reference.{judgments_at}
 use Rattle.rules.specs.Induct.{Motive, motive_vars, induct_cases, induct_on}
 use Rattle.rules.proofs.Laws.Out.{then_then}
@@ -26,7 +26,6 @@ use Rattle.sexp.specs.ItemLaws.{at_inside}
 use Rattle.sexp.specs.WalkLaws.{Walk, ListIs, walk_start, walk_atom, walk_list}
 use Rattle.sexp.specs.declared.items.Item.{Item}
 use Rattle.sexp.specs.declared.items.Item.TheVariants.{Atom, List as Part}
-use Rattle.sexp.specs.declared.names.Found.TheVariants as look
 use Rattle.terms.specs.declared.store.Mark.{Mark}
 use Rattle.terms.specs.Table.{made, tree, args_of}
 use Rattle.terms.specs.Sets.{holds}
@@ -42,7 +41,6 @@ use Rattle.reading.specs.declared.term.Out.{Out as Answer}
 use Rattle.reading.specs.declared.term.Out.TheVariants.{Ok, No}
 use Rattle.referring.specs.declared.derived.Derived.{Derived}
 use Rattle.referring.specs.declared.derived.Derived.TheVariants as derived
-use Rattle.reading.specs.declared.hyps.Listed.TheVariants as listed
 use Rattle.reading.specs.Given.{ReadsItem}
 use Rattle.reading.specs.Answers.{TermRead, ReadAs}
 use Rattle.referring.specs.Derived.{DerivedRead, DerivedAs, alone}

@@ -16,7 +16,7 @@ use Rattle.rules.specs.Tree.{Tree, Trees, var, none, more}
 use Rattle.rules.specs.Store.{Made}
 use Rattle.rules.specs.Theory.{rules_of}
 use Rattle.rules.specs.State.{State, Var, Fact, is_plain}
-use Rattle.rules.specs.Read.{index, judgment}
+use Rattle.rules.specs.Read.{judgment}
 use Rattle.rules.specs.Reference.{fact_at, hyp_each, hyp_list}
 use Rattle.rules.specs.Invert.{read_cases, predicate_of, invert_rules, invert}
 use Rattle.rules.proofs.Laws.Out.{then_then}

@@ -1,14 +1,14 @@
 -- The loop that keeps variables as terms, each bound to the rule's variable of its place. Assumes nothing.
-use mathlib.Core.Path.{◌≡◌, refl, sym, ap, ◌∙◌, subst}
-use mathlib.Core.List.{List, [], ◌∷◌}
+use mathlib.Core.Path.{◌≡◌, sym, ap, ◌∙◌, subst}
+use mathlib.Core.List.{List}
 use mathlib.Core.Option.{Option, some}
-use Prim.Native.Nat.{ℕ, suc, ◌+◌, ◌^◌, ◌<◌, ◌≤◌}
+use Prim.Native.Nat.{ℕ, suc, ◌+◌, ◌<◌, ◌≤◌}
 use native.Mathlib.Omega.{arith}
 use native.Mathlib.Decide.{ℕ_discrete}
 use native.Mathlib.Numerals.{add-one}
 use lib.ListN.{length, get_or, set, drop, drop_of_length-le}
 use lib.Seq.{drop-cons, get_or-set_same, get_or-set_other}
-use Rattle.rules.specs.Limits.{VARIABLES, RULEVARS, TERMS}
+use Rattle.rules.specs.Limits.{RULEVARS, TERMS}
 use Rattle.rules.specs.Out.{Out, ok, then}
 use Rattle.rules.specs.Tree.{Tree, Trees, var, none, more}
 use Rattle.rules.specs.Store.{Made, keep}
@@ -18,7 +18,7 @@ use Rattle.rules.proofs.Laws.Out.{then_then}
 use Rattle.terms.specs.declared.store.Mark.{Mark}
 use Rattle.terms.specs.declared.store.Kept.{Kept}
 use Rattle.terms.specs.declared.store.Kept.TheVariants.{Term, Full}
-use Rattle.terms.specs.Table.{made, tree, Good, Stored, After}
+use Rattle.terms.specs.Table.{made, Good, Stored, After}
 use Rattle.terms.specs.Patterns.{tree_in, bound_of, Cells}
 use Rattle.terms.specs.On.{Stopped, On, on_start, on_is, on_ok, on_no, on_done, stored_went, refused_stopped}
 use Rattle.terms.specs.Laws.Answers.{after_term, after_full}
@@ -26,7 +26,6 @@ use Rattle.terms.specs.Laws.Bound.{bound_some, bound_grown, cells_grown, cells_s
 use Rattle.terms.specs.Laws.Growth.{made_length}
 use Rattle.terms.specs.Laws.Numbers.{stored_is}
 use Rattle.reading.specs.Laws.Walks.{then_same}
-use Rattle.casework.specs.Context.{There}
 use Rattle.inversion.specs.InvertRules.{VarsKept}
 
 -- the first k are kept; front: they stand before those that are left

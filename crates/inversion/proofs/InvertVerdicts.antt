@@ -25,7 +25,7 @@ use Rattle.state.specs.Entries.{part}
 use Rattle.state.specs.FactLaws.{FactRow, fact_row_lem}
 use Rattle.referring.specs.Recall.{fact_of}
 use Rattle.casework.specs.Context.{There, rests_by}
-use Rattle.inversion.specs.InvertRules.{Verdict, verdict_of, own_span}
+use Rattle.inversion.specs.InvertRules.{Verdict, verdict_of}
 use Rattle.referring.specs.Laws.Refers.{fact_asks}
 use Rattle.state.specs.Looking.{not_late, is_late}
 

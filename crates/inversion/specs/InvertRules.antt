@@ -1,12 +1,12 @@
 -- One rule of `invert`: its renaming, its unification, its case; and what is carried from rule to rule. Variables that are made come into a table of
 -- sorts, from which their rows are written at the end. Assumes nothing.
-use Rattle.std.specs.Prelude.{◌≡◌, Bool, true, false, ◌&&◌, not, List, [], ◌∷◌, ◌++◌, ℕ, ◌+◌, ◌-◌, ◌*◌, ◌^◌, ◌<◌, ◌≤◌, ltb, length, get_or, take, drop, replicate}
+use Rattle.std.specs.Prelude.{◌≡◌, true, false, ◌&&◌, not, List, [], ◌∷◌, ◌++◌, ℕ, ◌+◌, ◌-◌, ◌*◌, ◌^◌, ◌<◌, ◌≤◌, ltb, length, get_or, take, drop, replicate}
 use Rattle.std.proofs.Math.Option.{Option, some, none as nothing}
 use Rattle.rules.specs.Limits.{VARIABLES, RULEVARS, TERMS, PAIRS, VARIABLEWORDS}
 use Rattle.rules.specs.Out.{Out, ok, refuse, Act, ◌>>=◌, pure, stop, ask}
 use Rattle.rules.specs.Sexp.{Sexp, Sexps, cons, count as count_items, item}
 use Rattle.rules.specs.Find.{Set, union, has, all, entry}
-use Rattle.rules.specs.Tree.{Tree, Trees, var, same_tree}
+use Rattle.rules.specs.Tree.{Tree, Trees, same_tree}
 use Rattle.rules.specs.Store.{Made, substitute}
 use Rattle.rules.specs.Unify.{Binding, along, unify}
 use Rattle.rules.specs.Theory.{Theory, Rule, RuleVar, no_name, rule}

@@ -10,7 +10,7 @@ use lib.Seq.{sets}
 use Rattle.rules.specs.Limits.{LENGTH, SORTS, ARGUMENTS}
 use Rattle.rules.specs.Find.{first}
 use Rattle.rules.specs.Out.{Out, refuse}
-use Rattle.rules.specs.Sexp.{Sexp, Sexps, item, count, Name}
+use Rattle.rules.specs.Sexp.{Sexp, Sexps, item, Name}
 use Rattle.rules.specs.Theory.{Theory, Symbol, constructor_named, predicate_named}
 use Rattle.rules.specs.Declare.{add_ctor, add_pred, add_symbol}
 use Rattle.rules.proofs.Laws.Declaring.{sort_of, arguments_of, constructor_of, ctor_arguments, pred_arguments, ctor_unsorted, ctor_twice, ctor_new, pred_twice, pred_new}

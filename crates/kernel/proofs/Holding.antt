@@ -12,7 +12,7 @@ use Rattle.rules.specs.Text.{same}
 use Rattle.rules.specs.Find.{first}
 use Rattle.rules.proofs.Laws.Find.{next, first_next}
 use Rattle.rules.specs.Out.{refuse}
-use Rattle.rules.specs.Sexp.{Sexp, Sexps, item, count, Name}
+use Rattle.rules.specs.Sexp.{Sexp, Sexps, item, Name}
 use Rattle.rules.specs.Theory.{Theory, Symbol, sort_named}
 use Rattle.rules.proofs.Laws.Theory.{all_snoc}
 use Rattle.rules.specs.TheoryTables.{name_cells, rows, symbol_row, input_row}

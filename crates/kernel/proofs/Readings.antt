@@ -14,7 +14,7 @@ use Rattle.rules.specs.Text.{same}
 use Rattle.rules.specs.Find.{first, every}
 use Rattle.rules.proofs.Laws.Find.{next, first_next, first_some, first_here, first_later, first_over}
 use Rattle.rules.specs.Sexp.{Name}
-use Rattle.rules.specs.Theory.{Theory, Symbol, no_symbol, inputs, output, constructors, sort_named, constructor_named, predicate_named}
+use Rattle.rules.specs.Theory.{Theory, Symbol, no_symbol, output, constructors, sort_named, constructor_named, predicate_named}
 use Rattle.sexp.specs.NameRows.{NameRows, SomeNames, found_of}
 use Rattle.kernel.specs.Named.{of_kind, SymbolRows, SomeSymbols, called}
 use Rattle.kernel.specs.Held.{SortsHeld, SomeSorts, SymbolsHeld}

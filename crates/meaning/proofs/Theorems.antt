@@ -1,13 +1,13 @@
 -- What is claimed of the definition, stated alone. The words are defined in specs: Theorems, Signature (ground terms), Derivation, Truth, Named (the
 -- premise, and what a result names), Sets, Runs (a list of forms gone through) and Inversions.
 --
---     facts-and-goals        demand 3 up to its last sentence, one claim about a list of forms, with one premise: every recorded fact is true
---                            and every goal that was taken is derivable; facts-true and goals-derivable are its parts
---     facts-and-goals-firm   the same with two sets of rules for each fact, those on which it rests and those that it tolerates, a goal's being
---                            those of the fact that its result names; facts-firm and goals-firm are its parts
---     check-right            the same of the facts and goals that a whole check leaves, whatever it answers
---     accepted-derivable     the goals of an accepted check are derivable
---     inversions-complete    unification fails only where no unifier exists, in every inversion that a check comes to
+--     facts_and_goals        demand 3 up to its last sentence, one claim about a list of forms, with one premise: every recorded fact is true
+--                            and every goal that was taken is derivable; facts_true and goals_derivable are its parts
+--     facts_and_goals_firm   the same with two sets of rules for each fact, those on which it rests and those that it tolerates, a goal's being
+--                            those of the fact that its result names; facts_firm and goals_firm are its parts
+--     check_right            the same of the facts and goals that a whole check leaves, whatever it answers
+--     accepted_derivable     the goals of an accepted check are derivable
+--     inversions_complete    unification fails only where no unifier exists, in every inversion that a check comes to
 --
 -- They rule out a checker that checks the first form and waves the rest through, that drops a hypothesis, that lets a variable of an empty
 -- sort stand in a premise, that pairs cases by their number only, that renames a rule by a variable in use, or that unifies without the
@@ -15,8 +15,8 @@
 -- answers `rules` fixes; TheoremsHold shows a goal that is taken, and what the claim says of it.
 --
 -- The other theorems stand where their words do:
---     derivation-accepted, tree-accepted   (Writing) a written derivation is accepted, unless 2, 5 or 60 refuses it
---     unify-general, unify-sorted          (Unification/Right) what unification finds is most general and well-sorted
+--     derivation_accepted, tree_accepted   (Writing) a written derivation is accepted, unless 2, 5 or 60 refuses it
+--     unify_general, unify_sorted          (Unification/Right) what unification finds is most general and well-sorted
 --     examples                             (Examples of `rules`) the worked examples hold
 use Rattle.std.specs.Prelude.{ℕ, ◌≡◌, refl, true, List}
 use Rattle.std.proofs.Common.{sym, ◌∙◌, subst, inl, inr}

@@ -102,7 +102,7 @@ judgments S x = do
   xs ← items 22 x
   judgment_each S xs
 
--- `unfolding termReading` opens all of the above, for a computation
+-- `unfolding term_reading` opens all of the above, for a computation
 unfoldable pub term_reading : Unit {0}
 unfolding reading indexing storing states then index variable others vars_list named term term_of judgment judgment_each judgments
 term_reading = tt

@@ -1,5 +1,5 @@
 -- The end over tables as they are lent: their named parts go to `finish_exact`, and what lies behind them stays. Assumes nothing.
-use mathlib.Core.Path.{◌≡◌, refl, sym, ap, ◌∙◌, subst}
+use mathlib.Core.Path.{◌≡◌, sym, ap, ◌∙◌, subst}
 use Prim.Native.Nat.{ℕ, ◌*◌}
 use mathlib.Core.Bool.{Bool, true, false, true≢false}
 use mathlib.Core.List.{List, ◌++◌}
@@ -10,9 +10,9 @@ use Rattle.terms.specs.Table.{settled}
 use Rattle.counts.specs.declared.Counts.{Counts}
 use Rattle.running.specs.declared.run.Run.{Run}
 use Rattle.running.specs.declared.finish.Answer.{Answer as Answered}
-use Rattle.running.specs.Finished.{FinishGiven, Finishes, refusal_of}
+use Rattle.running.specs.Finished.{FinishGiven, Finishes}
 use Rattle.running.specs.Lent.{theory_front}
-use Rattle.running.specs.Between.{Ending, Ended, unfit, ended}
+use Rattle.running.specs.Between.{Ending, Ended, ended}
 use Rattle.running.specs.Checking.{over_of}
 
 module _ {s : Run} {c : Counts} {index words rows M : List ℕ} (g : Ending s c index words rows M) where

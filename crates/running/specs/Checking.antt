@@ -1,10 +1,10 @@
 -- A whole check over lent tables is what the definition says, and its tables can be read back (`Call` of ReadBack): from what stands when no form is left, what
 -- `end` leaves, and the records of facts made blank behind; or from a table that is too short. No word of code. Assumes nothing.
-use Rattle.std.specs.Prelude.{◌≡◌, refl, ℕ, zero, suc, ◌+◌, ◌-◌, ◌*◌, ◌≤◌, true, false, List, [], ◌∷◌, ◌++◌, length, take, drop, replicate}
+use Rattle.std.specs.Prelude.{◌≡◌, refl, ℕ, zero, suc, ◌*◌, ◌≤◌, true, false, List, [], ◌∷◌, ◌++◌, length, take, drop, replicate}
 use Rattle.std.proofs.Common.{sym, ap, ◌∙◌, subst, true≢false, arith, take-append-drop, take_at}
 use Rattle.rules.specs.Limits.{SORTS, SYMBOLS, ARGUMENTS, RULES, RULEVARS, PATTERNS, VARIABLES, TERMS, WORDS, DEFS, GOALS, FACTS, ENTRIES}
 use Rattle.rules.specs.State.{State, goal_entries}
-use Rattle.rules.specs.Check.{Outcome, refused_in, missing, ended, check}
+use Rattle.rules.specs.Check.{refused_in, missing, ended, check}
 use Rattle.rules.specs.TheoryTables.{filled, sort_table, symbol_table, input_table, rule_table, rule_var_table, pattern_table}
 use Rattle.rules.specs.StateTables.{Tables, Long, laid, missing_of, Laid, Checked, too_short, answered, var_cells, def_cells, end_cells, word_cells, goal_cells, fact_cells, footing_cells, goal_list, fact_list}
 use Rattle.rules.proofs.Laws.Row.{length_rows, length_filled}

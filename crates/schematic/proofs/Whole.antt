@@ -1,12 +1,12 @@
 -- The whole check: what its parts ask of each other, and that all of it is a call as the definition says; where a table is too short too. Assumes nothing.
 use mathlib.Core.Path.{◌≡◌, refl, sym, ap, subst, ◌∙◌}
-use Prim.Native.Nat.{ℕ, zero, ◌*◌, ◌≤◌}
+use Prim.Native.Nat.{ℕ, ◌≤◌}
 use native.Mathlib.Omega.{arith}
 use mathlib.Core.Bool.{Bool, true, false, true≢false}
 use mathlib.Core.List.{List, ◌++◌}
 use lib.ListN.{length, take, drop, replicate, length-append, length-replicate}
 use lib.Seq.{take_at, drop_at}
-use Rattle.rules.specs.Limits.{GOALS, FACTS, LENGTH, TERMS}
+use Rattle.rules.specs.Limits.{GOALS, FACTS}
 use Rattle.rules.specs.TheoryTables.{rows as rows_of}
 use Rattle.kernel.specs.Parsed.{TheoryLists}
 use Rattle.facts.specs.declared.Fact.{Fact}
@@ -15,13 +15,12 @@ use Rattle.facts.specs.Laws.{drop_zeroed, zeroed_none}
 use Rattle.counts.specs.declared.Counts.{Counts}
 use Rattle.counts.specs.Sum.{none}
 use Rattle.counts.specs.Counted.{counts_of, counts_none}
-use Rattle.induction.specs.Inducing.{IDS}
 use Rattle.running.specs.declared.run.Run.{Run}
 use Rattle.running.specs.declared.finish.Answer.{Answer}
 use Rattle.running.specs.Run.{unfit_run, room_of}
-use Rattle.running.specs.Finished.{answer_of, refusal_of}
-use Rattle.running.specs.Lent.{Working, working, TheoryBehind, WorkingBehind, Mirrored}
-use Rattle.running.specs.Between.{Held, Few, Between, AllLong, Begun, begun, unfit, Ending, Ended, ended}
+use Rattle.running.specs.Finished.{answer_of}
+use Rattle.running.specs.Lent.{Working, TheoryBehind, WorkingBehind, Mirrored}
+use Rattle.running.specs.Between.{Few, AllLong, Begun, begun, unfit, Ending, Ended, ended}
 use Rattle.running.specs.ReadBack.{Call}
 use Rattle.running.specs.Checking.{tables_of, with_index, call_fit, call_unfit, facts_room, room_fit, room_unfit}
 use Rattle.schematic.specs.Taken.{Kept, Untouched, Ran, Blank}

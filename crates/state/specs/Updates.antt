@@ -4,8 +4,8 @@ use Rattle.std.specs.Prelude.{◌≡◌, ℕ, ◌+◌, ◌*◌, ◌<◌, ◌≤�
 use Rattle.std.proofs.Common.{sym, ◌∙◌, arith}
 use Rattle.std.proofs.Math.Path.{ap, subst}
 use Rattle.std.proofs.lemmas.List.Edits.{sets}
-use Rattle.rules.specs.Limits.{VARIABLES, DEFS, GOALS, FACTS, ENTRIES}
-use Rattle.rules.specs.Find.{change, rising}
+use Rattle.rules.specs.Limits.{VARIABLES, DEFS, GOALS, ENTRIES}
+use Rattle.rules.specs.Find.{change}
 use Rattle.rules.specs.Tree.{count_trees}
 use Rattle.rules.specs.Store.{number}
 use Rattle.rules.specs.State.{State, Var, Def, Goal, Fact, Counts, goal_entries, all_entries, entries}
@@ -19,12 +19,10 @@ use Rattle.rules.proofs.Laws.ReadWalk.{GoalIn}
 use Rattle.kernel.specs.Parsed.{TheoryLists}
 use Rattle.sexp.specs.NameRows.{NameIn}
 use Rattle.terms.specs.declared.store.Mark.{Mark}
-use Rattle.terms.specs.Sets.{holds}
 use Rattle.state.specs.declared.sizes.Sizes.{Sizes}
 use Rattle.state.specs.declared.facts.Put.{Put}
 use Rattle.state.specs.declared.facts.Put.TheVariants.{Stored}
 use Rattle.state.specs.Held.{text_of, VarsHeld, Records, records, Recorded}
-use Rattle.state.specs.Rows.{PutAs}
 use Rattle.state.specs.Used.{vars_now, defs_now, goals_now, facts_now}
 use Rattle.state.specs.Numbered.{in_sound}
 use Rattle.state.specs.VarLaws.{vars_more}

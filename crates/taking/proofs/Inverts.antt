@@ -1,10 +1,10 @@
 -- The form of an inversion, from all tables to all tables: its index, what it is given, and what it answers when it was tried. Assumes nothing.
-use mathlib.Core.Path.{◌≡◌, refl, sym, ◌∙◌, subst}
+use mathlib.Core.Path.{◌≡◌, refl, sym, subst}
 use mathlib.Core.List.{List}
 use Prim.Native.Nat.{ℕ, ◌≤◌}
 use native.Mathlib.Omega.{arith}
 use Rattle.rules.specs.Limits.{FACTS}
-use Rattle.rules.specs.Out.{ok, refuse}
+use Rattle.rules.specs.Out.{ok}
 use Rattle.rules.specs.Sexp.{count}
 use Rattle.rules.specs.Tags.{an_invert}
 use Rattle.rules.specs.Forms.{next, perform, add_invert}

@@ -2,7 +2,7 @@
 -- And `On`: how far a definition's `do` block has come. It began at the tables I W and the mark old with the answer K; now the tables are J X at
 -- the mark now, and K is what `rest` says. A law for each kind of step goes from bind to bind: of a block that makes u, asks, looks v up and
 -- makes us, with g the tables' Good, p and d what the two calls did, q the test's answer and e what was found, the whole is
---     on-done (on-ok _ (on-found-some _ _ (on-ask-yes _ _ (on-ok _ (on-start g) p) q) e) d)
+--     on_done (on_ok _ (on_found_some _ _ (on_ask_yes _ _ (on_ok _ (on_start g) p) q) e) d)
 -- (the block shows each `_`). Assumes nothing.
 use Rattle.std.specs.Prelude.{◌≡◌, refl, Bool, true, false, List, ℕ}
 use Rattle.std.proofs.Common.{ap, ◌∙◌}

@@ -1,15 +1,13 @@
 -- One case of `invert`: what the definition reads of its item, and what the cells say of it. Assumes nothing.
-use Rattle.std.specs.Prelude.{◌≡◌, refl, Bool, true, false, not, List, [], ℕ, zero, suc, ◌+◌, ◌-◌, ◌<◌, ◌≤◌, eqb, length, take, drop, replicate}
+use Rattle.std.specs.Prelude.{◌≡◌, refl, Bool, List, ℕ, suc, ◌-◌, ◌<◌, ◌≤◌, eqb, length, take, drop}
 use Rattle.std.proofs.Common.{sym, ◌∙◌, subst, arith, eq-eqb, ne_eqb}
 use Rattle.std.proofs.Math.Path.{ap}
 use Rattle.std.proofs.Math.Option.{Option, some, none as nothing}
-use Rattle.rules.specs.Limits.{VARIABLES}
-use Rattle.rules.specs.Out.{Out, ok, refuse, then, ask, found}
+use Rattle.rules.specs.Out.{ok, refuse, then, ask, found}
 use Rattle.rules.specs.Lex.{letters}
-use Rattle.rules.specs.Text.{same}
 use Rattle.rules.specs.Sexp.{Sexp, Sexps, Name, atom, list, nil, cons, count, item, rest, name, items}
 use Rattle.rules.specs.Store.{Made}
-use Rattle.rules.specs.State.{State, Var}
+use Rattle.rules.specs.State.{State}
 use Rattle.rules.specs.Read.{index, vars_list}
 use Rattle.rules.specs.Invert.{Case, read_case}
 use Rattle.rules.proofs.Laws.Store.{then_ok, then_refuse}
@@ -19,7 +17,7 @@ use Rattle.sexp.specs.Items.{Holds, item_at, place}
 use Rattle.sexp.specs.Never.{never}
 use Rattle.sexp.specs.AtomText.{AtomText, text_of}
 use Rattle.sexp.specs.NthItem.{place_high, rest_holds}
-use Rattle.sexp.specs.WalkLaws.{ListIs, AtomIs}
+use Rattle.sexp.specs.WalkLaws.{ListIs}
 use Rattle.sexp.specs.NameRows.{found_of}
 use Rattle.sexp.specs.FoundLaws.{found_at, found_missing}
 use Rattle.sexp.specs.declared.items.Item.{Item}
@@ -28,7 +26,7 @@ use Rattle.sexp.specs.declared.names.Found.{Found}
 use Rattle.sexp.specs.declared.names.Found.TheVariants.{At, Missing}
 use Rattle.reading.specs.Items.{FirstItem, index_in, vars_in, index_found}
 use Rattle.reading.specs.Given.{VarsItem}
-use Rattle.reading.specs.Answers.{VarsRead, VarsAs}
+use Rattle.reading.specs.Answers.{VarsAs}
 use Rattle.reading.specs.Laws.Lists.{vars_found}
 use Rattle.reading.specs.Laws.Walks.{first_atom, first_list, first_some}
 use Rattle.casework.specs.Cases.{CaseItem, CaseFirst, CaseIs}

@@ -1,19 +1,18 @@
 -- Small loops of `invert`: lists of variables tested one by one, cells set to zero, what a case rests on. Assumes nothing.
 use Rattle.std.proofs.Math.Path.{◌≡◌, refl, ap}
-use Rattle.std.proofs.Common.{sym, ◌∙◌, subst, true≢false, arith, add-one, drop_of_length-le, length-set, drop-cons, get_or-set_same, get_or-set_other, eq-eqb, ne_eqb, eqb-true, ltb-true}
+use Rattle.std.proofs.Common.{sym, ◌∙◌, true≢false, arith, add-one, drop_of_length-le, length-set, drop-cons, get_or-set_same, get_or-set_other, eq-eqb, eqb-true, ltb-true}
 use Rattle.std.specs.Prelude.{Bool, ◌&&◌, not, eqb, ltb, length, set}
 use Rattle.std.proofs.Math.Bool.{true, false}
-use Rattle.std.proofs.lemmas.Bool.{false≢true, not-true, not-false}
+use Rattle.std.proofs.lemmas.Bool.{not-true, not-false}
 use mathlib.Core.List.{List, [], ◌∷◌}
-use Prim.Native.Nat.{ℕ, zero, suc, ◌+◌, ◌-◌, ◌*◌, ◌<◌, ◌≤◌}
-use Rattle.std.proofs.Math.Decide.{ℕ_discrete}
+use Prim.Native.Nat.{ℕ, suc, ◌+◌, ◌*◌, ◌<◌, ◌≤◌}
 use Rattle.std.proofs.Math.ListN.{get_or, drop}
 use Rattle.rules.specs.Limits.{FACTS, TERMS}
 use Rattle.rules.specs.Find.{Set, has, all}
-use Rattle.rules.specs.Store.{Made, number}
+use Rattle.rules.specs.Store.{number}
 use Rattle.rules.specs.Theory.{RuleVar}
 use Rattle.rules.specs.Declare.{no_rule_var}
-use Rattle.rules.specs.State.{State, Fact, Var, sort_of_var, is_plain}
+use Rattle.rules.specs.State.{Var, sort_of_var}
 use Rattle.rules.specs.Invert.{suit}
 use Rattle.state.specs.declared.sizes.Sizes.{Sizes}
 use Rattle.state.specs.declared.facts.Span.{Span}
@@ -21,7 +20,7 @@ use Rattle.state.specs.Rows.{cell, plain_row}
 use Rattle.state.specs.RowTables.{tabled_long}
 use Rattle.state.specs.FactLaws.{fact_row_lem, facts_tabled}
 use Rattle.referring.specs.Recall.{fact_of}
-use Rattle.casework.specs.Context.{There, UnboundAs, RestsGiven, rests_by}
+use Rattle.casework.specs.Context.{UnboundAs, RestsGiven, rests_by}
 
 -- A test of all ------------------------------------------------------------------------------------------------------------------------------
 

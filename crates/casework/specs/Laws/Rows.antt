@@ -1,24 +1,21 @@
 -- A fact's row compared with a judgment, premises and generalised variables by their numbers; and the facts that have them, as a set. Assumes nothing.
-use Rattle.std.specs.Prelude.{◌≡◌, refl, Bool, ◌&&◌, ◌||◌, not, ℕ, zero, suc, ◌+◌, ◌-◌, ◌*◌, ◌<◌, ◌≤◌, length, get_or, drop, take}
+use Rattle.std.specs.Prelude.{◌≡◌, refl, Bool, ◌&&◌, ◌||◌, not, ℕ, ◌+◌, ◌*◌, ◌<◌, ◌≤◌, length, get_or, drop}
 use Rattle.std.proofs.Math.Path.{sym, ap}
 use Rattle.std.proofs.Common.{◌∙◌, subst, true≢false, arith, add-one, drop_of_length-le, drop-cons, eq-eqb, ne_eqb, eqb-true}
 use Rattle.std.proofs.Math.Bool.{true, false}
 use Rattle.std.proofs.lemmas.Bool.{false≢true, not-true, not-false}
 use mathlib.Core.List.{List, [], ◌∷◌}
-use Rattle.std.proofs.Math.Decide.{ℕ_discrete}
 use Rattle.std.proofs.Math.Dec.{eqb}
 use Rattle.rules.specs.Limits.{FACTS, ENTRIES}
 use Rattle.rules.specs.Text.{same}
 use Rattle.rules.specs.Find.{Set, union, has}
-use Rattle.rules.specs.Tree.{Tree, Trees, var, same_tree, same_trees}
-use Rattle.rules.specs.Store.{Made}
-use Rattle.rules.specs.State.{State, Fact}
-use Rattle.rules.specs.Invert.{Allowed, is_allowed}
-use Rattle.rules.proofs.Laws.Theory.{All, all_at}
+use Rattle.rules.specs.Tree.{same_tree, same_trees}
+use Rattle.rules.specs.Invert.{is_allowed}
+use Rattle.rules.proofs.Laws.Theory.{all_at}
 use Rattle.rules.proofs.Laws.Set.{union_empty}
 use Rattle.terms.specs.declared.store.Mark.{Mark}
 use Rattle.terms.specs.Node.{same_words}
-use Rattle.terms.specs.Table.{made, tree, args_of, Good}
+use Rattle.terms.specs.Table.{made, tree, args_of}
 use Rattle.terms.specs.Sets.{holds, plus}
 use Rattle.terms.specs.Laws.Growth.{made_length}
 use Rattle.terms.specs.Laws.Numbers.{same_number, same_numbers}

@@ -3,12 +3,12 @@ use Rattle.std.specs.Prelude.{◌≡◌, replicate}
 use Rattle.std.proofs.Math.Path.{refl, sym, ap, subst}
 use Rattle.std.proofs.Common.{◌∙◌, add-one, drop_of_length-le, drop-cons}
 use mathlib.Core.List.{List, [], ◌∷◌, ◌++◌}
-use Prim.Native.Nat.{ℕ, zero, suc, ◌+◌, ◌-◌, ◌^◌, ◌<◌, ◌≤◌}
+use Prim.Native.Nat.{ℕ, zero, suc, ◌+◌, ◌^◌, ◌<◌, ◌≤◌}
 use native.Mathlib.Omega.{arith}
 use Rattle.std.proofs.Math.ListN.{length, get_or, set, take, drop, length-append}
 use Rattle.std.proofs.lemmas.List.{length-replicate}
 use Rattle.rules.specs.Limits.{TERMS}
-use Rattle.rules.specs.Out.{Out, ok, refuse, then}
+use Rattle.rules.specs.Out.{Out, ok, then}
 use Rattle.rules.specs.Tree.{Tree, Trees, var, none, more}
 use Rattle.rules.specs.Store.{Made, substitute, substitutes}
 use Rattle.rules.proofs.Laws.Theory.{All, empty, both, all_snoc, all_map, all_at}
@@ -16,7 +16,7 @@ use Rattle.rules.proofs.Laws.Out.{then_then}
 use Rattle.terms.specs.declared.store.Mark.{Mark}
 use Rattle.terms.specs.declared.store.Kept.{Kept}
 use Rattle.terms.specs.declared.store.Kept.TheVariants.{Term, Full}
-use Rattle.terms.specs.Table.{made, tree, args_of, Good, Grown, After, Stored, Refused}
+use Rattle.terms.specs.Table.{made, tree, args_of, Good, Grown, After}
 use Rattle.terms.specs.Subst.{replacement, substituted, Replaceable}
 use Rattle.terms.specs.On.{Went, Stopped, On, on_start, on_is, on_ok, on_no, on_done}
 use Rattle.terms.specs.Laws.Growth.{grown_tree, grown_there}

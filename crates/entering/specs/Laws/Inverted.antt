@@ -4,7 +4,7 @@ use Rattle.std.proofs.Common.{sym, ap, ◌∙◌, subst}
 use Rattle.rules.specs.Out.{Out}
 use Rattle.rules.specs.Sexp.{Sexps, count}
 use Rattle.rules.specs.State.{State}
-use Rattle.rules.specs.Forms.{with_vars, one_inversion, plus}
+use Rattle.rules.specs.Forms.{one_inversion, plus}
 use Rattle.rules.proofs.Laws.Below.{MadeBelow}
 use Rattle.rules.proofs.Laws.Bounded.{BoundedState}
 use Rattle.sexp.specs.Items.{Holds}

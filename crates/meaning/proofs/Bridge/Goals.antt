@@ -3,7 +3,7 @@ use Rattle.std.specs.Prelude.{ℕ, ◌+◌, refl, false, [], ◌∷◌, ltb, leb
 use Rattle.std.proofs.Common.{arith, ap, inl, inr}
 use Rattle.rules.specs.Limits.{GOALS, ENTRIES}
 use Rattle.rules.specs.Out.{Out, ok, refuse, then}
-use Rattle.rules.specs.Sexp.{Sexp, Sexps, count, item, name, Text, ends, fails, more}
+use Rattle.rules.specs.Sexp.{Sexp, Sexps, count, item, Text, ends, fails, more}
 use Rattle.rules.specs.Find.{entry}
 use Rattle.rules.specs.Tree.{Tree, Trees, none, count_trees}
 use Rattle.rules.specs.Store.{Made}

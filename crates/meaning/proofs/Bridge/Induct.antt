@@ -16,7 +16,6 @@ use Rattle.rules.specs.Tree.{Tree, Trees, var, app, none, more, variables, varia
 use Rattle.rules.specs.Store.{Made}
 use Rattle.rules.specs.Theory.{Theory, no_symbol, inputs, output, constructors}
 use Rattle.rules.specs.State.{State, Fact, sort_of_var, is_none, is_plain}
-use Rattle.rules.specs.Read.{variable, judgment}
 use Rattle.rules.specs.Reference.{judgments_at}
 use Rattle.rules.specs.Induct.{Motive as MotiveOf, motive_vars, case_vars, keep_vars, Hyp, hypothesis_at, hypotheses, allowed_plain, allowed_rule, allowed_hyp}
 use Rattle.rules.specs.Induct.{induct_case, induct_cases, induct_on, induct, induct_with}

@@ -18,7 +18,6 @@ use Rattle.rules.specs.Store.{Made}
 use Rattle.rules.specs.Theory.{Theory, Rule, no_name, no_rule, rule, head_is, rules_of}
 use Rattle.rules.specs.Unify.{Binding, along, unify}
 use Rattle.rules.specs.State.{State, Fact, Var, sort_of_var, is_plain, mentioned}
-use Rattle.rules.specs.Read.{judgment}
 use Rattle.rules.specs.Induct.{keep_vars}
 use Rattle.rules.specs.Invert.{Case, case_named, Inversion, mentioned_at, context_vars, taken_vars, Names, suit, up_from, renamed as renamed_to, renaming}
 use Rattle.rules.specs.Invert.{allowed_in, invert_case, case_or_not, invert_rule, invert_rules, predicate_of, invert}

@@ -1,11 +1,11 @@
 -- Every form of the proof, as an action on the state, does to it what `Took` says. Of a well state.
-use Rattle.std.specs.Prelude.{ℕ, ◌+◌, ◌≡◌, refl, ◌⊎◌, Bool, true, false, ◌&&◌, not, List, [], ◌∷◌, ◌++◌, ltb, leb, length}
+use Rattle.std.specs.Prelude.{ℕ, ◌≡◌, refl, ◌⊎◌, Bool, true, false, ◌&&◌, not, List, [], ◌∷◌, ◌++◌, ltb, leb, length}
 use Rattle.std.proofs.Common.{arith, sym, subst, inl, inr}
 use Rattle.std.proofs.Math.Option.{Option, some, none as nothing}
 use Rattle.rules.specs.Limits.{VARIABLES, DEFS}
 use Rattle.rules.specs.Out.{Out, then}
 use Rattle.rules.specs.Text.{same}
-use Rattle.rules.specs.Sexp.{Sexp, Sexps, item, name, marked}
+use Rattle.rules.specs.Sexp.{Sexp, Sexps, item, marked}
 use Rattle.rules.specs.Find.{all, has}
 use Rattle.rules.specs.Tree.{Tree, Trees, none}
 use Rattle.rules.specs.Store.{Made}

@@ -15,7 +15,6 @@ use Rattle.rules.specs.Store.{Made}
 use Rattle.rules.specs.Theory.{Theory}
 use Rattle.rules.specs.Unify.{Binding, along, insert}
 use Rattle.rules.specs.State.{State, Fact, sort_of_var, is_empty, is_none, mentioned, free, free_at, hyp_vars}
-use Rattle.rules.specs.Read.{variable}
 use Rattle.rules.specs.Reference.{binding, is_bound, bindings, Ref, instance, reference, hyp_each, hyp_list, judgment_of, judgments_at, outside, scoped}
 use Rattle.rules.specs.Step.{Refs, no_refs, with_ref, references}
 use Rattle.meaning.specs.Trees.Tree.{Occ, Sorted, In, Among}

@@ -14,7 +14,6 @@ use Rattle.rules.specs.Theory.{Rule, rule_named, rule}
 use Rattle.rules.specs.Declare.{no_rule_var, is_new}
 use Rattle.rules.specs.Match.{Bound, match_all}
 use Rattle.rules.specs.State.{State, Fact}
-use Rattle.rules.specs.Read.{judgment}
 use Rattle.rules.specs.Step.{Refs, Items, no_items, bind_item, state_item, read_item, read_items, match_stated, conclude, step}
 use Rattle.meaning.specs.Trees.Tree.{Occ, Occs, Sorted, sub_sorted, occ_sub, occs_subs}
 use Rattle.meaning.specs.Trees.Tests.{occs_variables_of}

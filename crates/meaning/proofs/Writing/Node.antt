@@ -18,7 +18,7 @@ use Rattle.rules.specs.Theory.{Theory, no_rule, inputs, output, rule}
 use Rattle.rules.proofs.Laws.Theory.{WellFormed, Sorted, Sorteds, sort_in, all_at, Judgment}
 use Rattle.rules.specs.Match.{Bound, bind, match_var, and_then, matches, match_all}
 use Rattle.rules.specs.State.{State, Fact}
-use Rattle.rules.specs.Read.{index, judgment}
+use Rattle.rules.specs.Read.{index}
 use Rattle.rules.specs.Reference.{Ref, fact_at, reference}
 use Rattle.rules.specs.Step.{Refs, no_refs, with_ref, references}
 use Rattle.meaning.specs.Trees.Tests.{eq_same_tree}

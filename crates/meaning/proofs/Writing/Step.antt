@@ -17,7 +17,7 @@ use Rattle.rules.proofs.Laws.Theory.{WellFormed}
 use Rattle.rules.proofs.Laws.Name.{Own, Named}
 use Rattle.rules.specs.Match.{unbound, matches, match_all}
 use Rattle.rules.specs.State.{State, Fact, Var, hyp_vars}
-use Rattle.rules.specs.Read.{index, judgment}
+use Rattle.rules.specs.Read.{judgment}
 use Rattle.rules.specs.Declare.{is_new}
 use Rattle.rules.specs.Reference.{outside, scoped}
 use Rattle.rules.specs.Step.{Refs, references, Items, no_items, state_item, read_item, read_items, match_stated, conclude, step}

@@ -1,9 +1,9 @@
 -- Unification does what its name says. The theorems of the definition's `unify`, for a reader who wants no more than these:
---     unify-complete     `nothing` is answered only where no replacement makes the two trees equal, if their variables are below n; they are
+--     unify_complete     `nothing` is answered only where no replacement makes the two trees equal, if their variables are below n; they are
 --                        in every inversion that a check comes to (`inversions_complete` of Theorems)
---     unify-general      what is answered makes them equal, and is a most general such replacement
---     unify-sorted       trees of one sort give bindings of the right sorts
---     unify-refuses      no question but 60 is put, in row 8, 9 or 14
+--     unify_general      what is answered makes them equal, and is a most general such replacement
+--     unify_sorted       trees of one sort give bindings of the right sorts
+--     unify_refuses      no question but 60 is put, in row 8, 9 or 14
 -- Assumes nothing.
 use Rattle.std.specs.Prelude.{◌≡◌, refl, ◌⊎◌, List, [], ◌∷◌, ℕ, suc, ◌<◌}
 use Rattle.std.proofs.Common.{inl, inr, arith}

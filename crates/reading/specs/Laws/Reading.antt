@@ -36,7 +36,7 @@ bindings_none : (S : State) (x : Sexp) (M U : Made) (q d : ℕ) → binding S x 
 unfolding bindings
 bindings_none S x M U q d e = then_refuse (binding S x M) q d U _ e
 
--- Each takes the items that are read, then the answer of the call: reads-term h x w.
+-- Each takes the items that are read, then the answer of the call: reads_term h x w.
 module _ {K : Names} {n : Sizes} {I W : List ℕ} {m : Mark} {S : State} (h : Reads K n I W m S) where
   -- The store has grown -----------------------------------------------------------------------------------------------------------------
 

@@ -1,7 +1,7 @@
 -- What an action leaves readable where references are read: the store has grown, and texts and tables stand for the same state, facts included.
 -- And what the functions that read a part of it are given. Assumes nothing.
 use Rattle.std.specs.Prelude.{◌≡◌, refl, List, [], ◌∷◌, ℕ, zero, suc, ◌*◌, ◌<◌, ◌≤◌, length}
-use Rattle.std.proofs.Common.{sym, ◌∙◌, arith}
+use Rattle.std.proofs.Common.{arith}
 use Rattle.std.proofs.Math.Path.{ap}
 use Rattle.std.proofs.Math.Option.{Option, none as nothing}
 use Rattle.rules.specs.Limits.{FACTS}
@@ -32,7 +32,7 @@ use Rattle.reading.specs.Given.{FactsItem}
 use Rattle.referring.specs.Recall.{fact_of, Recalls, RecallsFact, BareItem, Refers, RefersItem, RefersItems}
 use Rattle.reading.specs.Laws.Reading.{reads_on}
 
--- Each takes the items that are read, then the answer of the call: refers-reference h x w.
+-- Each takes the items that are read, then the answer of the call: refers_reference h x w.
 module _ {K : Names} {facts footings lists : List ℕ} {n : Sizes} {I W : List ℕ} {m : Mark} {S : State} (h : Refers K facts footings lists n I W m S) where
   -- The store has grown -----------------------------------------------------------------------------------------------------------------
 

@@ -1,7 +1,7 @@
 -- A variable as a term of the store. Assumes nothing.
 use Rattle.std.specs.Prelude.{◌≡◌, List, [], ◌∷◌, ℕ, ◌+◌, ◌-◌, ◌<◌}
 use Rattle.std.proofs.Common.{ap, ◌∙◌, subst, arith}
-use Rattle.rules.specs.Limits.{SYMBOLS, VARIABLES, NODE}
+use Rattle.rules.specs.Limits.{SYMBOLS, VARIABLES}
 use Rattle.rules.specs.Tree.{Tree, var}
 use Rattle.rules.specs.Store.{keep}
 use Rattle.terms.specs.declared.store.Mark.{Mark}

@@ -1,7 +1,7 @@
 -- The made trees, in every state that a check reaches: no tree stands twice, the arguments of a tree stand before it, rows 8 and 9 hold, and
 -- the trees of abbreviations, goals and facts are among them. A store that kept a tree again, stored a term before its arguments, or a form
 -- that answered a tree which it never made, would not have this. Each action on made trees keeps it whether it answers or refuses: those laws
--- are `keep_keeps`, `substitute_keeps`, `term_keeps`, `step_Keeps` and so on, at the invariant `sound`. Assumes nothing.
+-- are `keep_keeps`, `substitute_keeps`, `term_keeps`, `step_keeps` and so on, at the invariant `sound`. Assumes nothing.
 use Rattle.std.specs.Prelude.{ℕ, zero, suc, ◌+◌, ◌≤◌, ◌<◌, ◌≡◌, refl, Bool, true, false, ◌⊎◌, List, [], ◌∷◌, ◌++◌, length}
 use Rattle.std.proofs.Common.{subst, sym, ◌∙◌, ap, true≢false, inl, inr, append_assoc, append-nil, arith, length-append}
 use Rattle.std.proofs.lemmas.Bool.{false≢true}

@@ -10,13 +10,13 @@ use Rattle.rules.specs.Limits.{RULEVARS, PATTERNS}
 use Rattle.rules.specs.Text.{same}
 use Rattle.rules.specs.Out.{then, Act}
 use Rattle.rules.proofs.Laws.Out.{Ok, fine, off, by_then, by_name, by_items, by_ask, by_room, by_found}
-use Rattle.rules.specs.Sexp.{Sexp, Sexps, atom, list, nil, cons, count, item, Name, name, marked}
+use Rattle.rules.specs.Sexp.{Sexp, Sexps, atom, list, nil, cons, count, item, Name, marked}
 use Rattle.rules.specs.Find.{first}
 use Rattle.rules.proofs.Laws.Find.{first_some, get_d_front}
 use Rattle.rules.specs.Tree.{Tree, Trees, var, app, none, more, variables, variables_of, size, sizes}
 use Rattle.rules.specs.Theory.{Symbol, RuleVar, Theory, no_symbol, is_predicate, predicate_named, constructor_named, inputs, output}
 use Rattle.rules.proofs.Laws.Theory.{All, both, IsSort, sort_in, Sorted, Sorteds, Judgment, Judgments, SymbolFormed, all_snoc, all_at}
-use Rattle.rules.specs.Declare.{no_rule_var, sort, sorts, Reading, word, met_or_new, variable, head, pattern, compound, patterns, predicated, judgment, judgments, schema}
+use Rattle.rules.specs.Declare.{no_rule_var, Reading, word, met_or_new, variable, head, pattern, compound, patterns, predicated, judgment, judgments, schema}
 
 -- further variables
 pub record Extends (vs ws : List RuleVar) : Type 0 where

@@ -1,5 +1,5 @@
 -- `schematic::run`: all forms, one turn each, by proofs/Looping. Assumes nothing.
-use Rattle.std.proofs.Common.{ℕ, length}
+use Rattle.std.proofs.Common.{length}
 use Rattle.kernel.specs.Parsed.{theory_lists}
 use Rattle.running.specs.Lent.{working}
 use Rattle.schematic.proofs.Looping.{Looping, measure}

@@ -4,7 +4,6 @@ use lib.Seq.{length-take-le}
 use Rattle.rules.specs.Limits.{SORTS, SYMBOLS, ARGUMENTS, RULES, RULEVARS, PATTERNS, VARIABLES, TERMS, WORDS, DEFS, GOALS, ENTRIES}
 use Rattle.running.specs.Lent.{working}
 use Rattle.advancing.proofs.Fronts.{as_long, exact_asks, advanced}
-use borrow.Author.Rules.{rules}
 use Rattle.advancing.proofs.form.form.Goals as goal
 
 pub slice_bounds-form_exact-end : goal.slice_bounds-form_exact-end

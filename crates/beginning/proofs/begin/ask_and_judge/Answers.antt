@@ -1,6 +1,5 @@
 use Rattle.beginning.proofs.Asks.{asked_left, asked_nothing}
 use Rattle.beginning.proofs.Opens.{texts_left}
-use borrow.Author.Rules.{rules}
 use mathlib.Core.Path.{refl}
 use Rattle.beginning.proofs.begin.ask_and_judge.Goals as goal
 

@@ -5,7 +5,6 @@ use Rattle.kernel.specs.Parsed.{theory_lists}
 use Rattle.rules.specs.Limits.{SORTS, SYMBOLS, ARGUMENTS, RULES, RULEVARS, PATTERNS, VARIABLES, TERMS, WORDS, DEFS, GOALS, ENTRIES}
 use Rattle.running.specs.Between as between
 use Rattle.running.specs.Lent.{working}
-use borrow.Author.Rules.{rules}
 use mathlib.Core.Path.{refl}
 use Rattle.beginning.proofs.begin.begin.Goals as goal
 

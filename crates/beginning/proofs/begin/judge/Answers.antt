@@ -1,5 +1,4 @@
 use Rattle.beginning.proofs.Opens.{theory_given, theory_left, goals_given, goals_next, goals_opened}
-use borrow.Author.Rules.{rules}
 use mathlib.Core.Path.{refl, ◌∙◌}
 use Rattle.beginning.proofs.begin.judge.Goals as goal
 

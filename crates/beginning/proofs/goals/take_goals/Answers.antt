@@ -1,4 +1,3 @@
-use Prim.Native.Nat.{◌-◌}
 use Rattle.beginning.proofs.Turns.{stands_long, turn_first, turn_ends, turn_fails, turn_takes, turn_refused, turn_on}
 use Rattle.sexp.specs.Through.{going_asks, going_form, going_room, going_cells, going_cleared}
 use Rattle.state.specs.Stands.{board}

@@ -2,9 +2,7 @@ use Prim.Native.Nat.{◌-◌}
 use Rattle.beginning.proofs.Turns.{Turn}
 use Rattle.kernel.specs.Parsed.{theory_lists}
 use Rattle.state.specs.Stands.{board}
-use borrow.Author.Rules.{rules}
 use lib.ListN.{length}
-use mathlib.Core.Path.{sym}
 use Rattle.beginning.proofs.goals.take_goals.Given as goal
 
 abbrev pub invariant-loop-number : goal.invariant-loop-number

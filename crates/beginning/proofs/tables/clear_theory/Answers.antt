@@ -1,6 +1,5 @@
 use Rattle.beginning.proofs.Blank.{theory_cleared}
 use Rattle.kernel.specs.Parsed.{theory_lists}
-use borrow.Author.Rules.{rules}
 use Rattle.beginning.proofs.tables.clear_theory.Goals as goal
 
 pub shape_of-sorts : goal.shape_of-sorts

@@ -1,5 +1,4 @@
 use Rattle.beginning.proofs.Fitting.{short_of, says_no, says_yes}
-use borrow.Author.Rules.{rules}
 use Rattle.beginning.proofs.tables.fits_theory.Goals as goal
 
 pub returns-then-sorts : goal.returns-then-sorts

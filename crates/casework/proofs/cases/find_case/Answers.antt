@@ -1,4 +1,3 @@
-use Prim.Native.Nat.{◌-◌}
 use native.Mathlib.Omega.{arith}
 use Rattle.casework.proofs.Finding.{seeking_start, seeking_over, seeking_inside, seeking_first, seeking_found, seeking_on}
 use Rattle.casework.proofs.cases.find_case.Goals as goal

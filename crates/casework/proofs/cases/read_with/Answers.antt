@@ -1,5 +1,4 @@
 use mathlib.Core.Path.{refl, ◌∙◌}
-use Prim.Native.Nat.{◌-◌}
 use native.Mathlib.Omega.{arith}
 use Rattle.sexp.specs.AtomText.{atom_high}
 use Rattle.reading.specs.Laws.Walks.{go_on}

@@ -1,5 +1,4 @@
-use mathlib.Core.Path.{refl, sym, ap}
-use Prim.Native.Nat.{◌-◌}
+use mathlib.Core.Path.{refl, sym}
 use native.Mathlib.Omega.{arith}
 use Rattle.terms.specs.Table.{made}
 use Rattle.casework.proofs.Clear.{clear_asks, clear_set, clear_on, clear_no, clear_over}

@@ -1,8 +1,6 @@
 use mathlib.Core.Path.{refl, sym, ap, ◌∙◌}
-use Prim.Native.Nat.{◌-◌}
 use native.Mathlib.Omega.{arith}
 use borrow.Author.Tests.{not-true, not-false}
-use Rattle.rules.specs.Find.{all}
 use Rattle.casework.specs.Laws.Loops.{all_yes, all_no, all_over}
 use mathlib.Core.Bool.{not}
 use Rattle.casework.proofs.context.rests_on_all.Goals as goal

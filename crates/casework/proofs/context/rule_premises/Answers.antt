@@ -1,12 +1,9 @@
 use mathlib.Core.Path.{refl, ap, ◌∙◌}
-use Prim.Native.Nat.{◌-◌}
 use lib.ListN.{length}
 use native.Mathlib.Omega.{arith}
-use Rattle.rules.specs.Theory.{rule}
 use Rattle.kernel.specs.Entries.{known_rule}
 use Rattle.casework.specs.Laws.Substitutes.{memo_asked}
 use Rattle.casework.proofs.Premises.{premising_start, premising_over, premising_first, premising_asks, premising_unbuilt, premising_there, premising_good, premising_replaces, premising_full, premising_small, premising_room, premising_more}
-use borrow.Author.Rules.{rules}
 use Rattle.casework.proofs.context.rule_premises.Goals as goal
 
 pub words-span-requires : goal.words-span-requires

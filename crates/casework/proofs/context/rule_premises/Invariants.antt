@@ -1,11 +1,9 @@
-use mathlib.Core.Path.{◌≡◌, sym}
-use Prim.Native.Nat.{◌-◌}
+use mathlib.Core.Path.{◌≡◌}
 use lib.ListN.{length}
 use Rattle.rules.specs.Theory.{rule}
 use Rattle.state.specs.declared.sizes.Sizes.{Sizes}
 use Rattle.casework.specs.Context.{RenamedRule}
 use Rattle.casework.proofs.Premises.{Premising}
-use borrow.Author.Rules.{rules}
 use Rattle.casework.proofs.context.rule_premises.Given as goal
 
 abbrev pub invariant-loop-left : goal.invariant-loop-left

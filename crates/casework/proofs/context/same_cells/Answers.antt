@@ -1,8 +1,5 @@
 use mathlib.Core.Path.{refl, sym, ◌∙◌}
-use Prim.Native.Nat.{◌-◌}
-use lib.ListN.{length}
 use native.Mathlib.Omega.{arith}
-use Rattle.rules.specs.Text.{same}
 use Rattle.rules.proofs.Laws.Text.{same_lengths, same_on, same_off, same_over}
 use Rattle.casework.proofs.context.same_cells.Goals as goal
 

@@ -1,5 +1,4 @@
 use mathlib.Core.Path.{refl, ap, ◌∙◌}
-use Prim.Native.Nat.{◌-◌}
 use lib.ListN.{length, length-set}
 use native.Mathlib.Omega.{arith}
 use Rattle.casework.specs.Laws.Substitutes.{substituting_start, substituting_index, substituting_words, substituting_over, substituting_stops, substituting_more, replaceable_now, memo_asked, under_small, under_went, under_there, under_stopped}

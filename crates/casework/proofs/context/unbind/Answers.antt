@@ -1,5 +1,4 @@
-use mathlib.Core.Path.{refl, ap}
-use Prim.Native.Nat.{◌-◌}
+use mathlib.Core.Path.{refl}
 use lib.ListN.{get_or}
 use native.Mathlib.Omega.{arith}
 use Rattle.casework.specs.Laws.Loops.{unbinding_over, unbinding_on}

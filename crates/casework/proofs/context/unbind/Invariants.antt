@@ -1,4 +1,3 @@
-use mathlib.Core.Path.{ap}
 use Prim.Native.Nat.{◌-◌, ◌≤◌}
 use lib.ListN.{length}
 use Rattle.casework.specs.Laws.Loops.{Unbinding}

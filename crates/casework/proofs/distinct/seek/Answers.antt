@@ -1,4 +1,4 @@
-use Prim.Native.Nat.{◌-◌, ◌*◌, ◌+◌}
+use Prim.Native.Nat.{◌*◌, ◌+◌}
 use native.Mathlib.Omega.{arith}
 use lib.ListN.{get_or}
 use Rattle.casework.proofs.Tree.{sought_start, sought_cell, sought_free, node_room, node_low, node_high, sought_met, sought_rise, sought_near, sought_on}

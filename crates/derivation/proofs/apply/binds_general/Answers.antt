@@ -1,6 +1,4 @@
 use Rattle.derivation.proofs.RuleFacts.{rule_asks, rule_lists_lem, general_low, general_high, general_small, general_begins, general_out, general_skip, general_in, general_done}
-use Prim.Native.Nat.{◌-◌}
-use mathlib.Core.Logic.{⊎_elim}
 use native.Mathlib.Omega.{arith}
 use mathlib.Core.Path.{refl, sym}
 use mathlib.Core.Path.{ap}

@@ -2,7 +2,6 @@ use Rattle.derivation.proofs.PremiseTurn.{left_done, left_less, left_inside, lef
 use Rattle.derivation.proofs.Discharging.{discharge_begins, blank_hyps, blank_footing, blank_long}
 use Rattle.derivation.proofs.RulePremises.{premise_few}
 use lib.ListN.{length}
-use Prim.Native.Nat.{◌-◌}
 use native.Mathlib.Omega.{arith}
 use mathlib.Core.Path.{refl, sym, ap, ◌∙◌}
 use Rattle.derivation.proofs.apply.discharge.Goals as goal

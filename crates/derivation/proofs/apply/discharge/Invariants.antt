@@ -2,7 +2,6 @@ use Rattle.derivation.proofs.Discharging.{Discharges}
 use Rattle.state.specs.Held.{names}
 use lib.ListN.{length}
 use Prim.Native.Nat.{◌-◌}
-use mathlib.Core.Path.{sym, ap}
 use Rattle.derivation.proofs.apply.discharge.Given as goal
 
 abbrev pub invariant-loop-at : goal.invariant-loop-at

@@ -1,5 +1,4 @@
 use Rattle.derivation.proofs.RuleFacts.{rule_asks, rule_lists_lem, hyps_begin, hyp_inside, hyp_asks, hyp_other, hyps_again, hyps_done}
-use Prim.Native.Nat.{◌-◌}
 use native.Mathlib.Omega.{arith}
 use mathlib.Core.Path.{ap}
 use mathlib.Core.Bool.{not}

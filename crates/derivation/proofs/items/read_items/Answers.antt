@@ -1,5 +1,4 @@
 use mathlib.Core.Path.{◌∙◌}
-use Prim.Native.Nat.{◌-◌}
 use native.Mathlib.Omega.{arith}
 use Rattle.derivation.proofs.AllItems.{itemed_start, left_given, left_long, left_refused, left_again, left_less, left_done}
 use Rattle.derivation.proofs.items.read_items.Goals as goal

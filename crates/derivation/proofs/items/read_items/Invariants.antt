@@ -1,6 +1,5 @@
 use Prim.Native.Nat.{◌-◌}
 use lib.ListN.{length}
-use borrow.Author.Rules.{rules}
 use Rattle.state.specs.Held.{names, rule_lists}
 use Rattle.derivation.proofs.AllItems.{Itemed}
 use Rattle.derivation.proofs.items.read_items.Given as goal

@@ -1,5 +1,4 @@
 use mathlib.Core.Path.{sym, ap, ◌∙◌}
-use Prim.Native.Nat.{◌-◌}
 use native.Mathlib.Omega.{arith}
 use lib.ListN.{length, length-set}
 use Rattle.derivation.proofs.StepRefs.{blank_hyps, blank_footing, instances_small, refs_start, left_given, left_room, left_refused, left_fits, left_fact, left_again, left_less, left_done}

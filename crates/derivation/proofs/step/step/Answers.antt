@@ -5,7 +5,6 @@ use lib.ListN.{length}
 use Rattle.rules.specs.Limits.{PATTERNS}
 use Rattle.referring.specs.Laws.Fronts.{front_room, front_count, back_room, back_count, front_cleared}
 use Rattle.derivation.proofs.StepRule.{by_there, premises_cells}
-use borrow.Author.Rules.{rules}
 use Rattle.derivation.proofs.step.step.Goals as goal
 
 pub nth-requires : goal.nth-requires

@@ -5,7 +5,6 @@ use Rattle.sexp.specs.NthItem.{has_items}
 use native.Mathlib.Omega.{arith}
 use mathlib.Core.Path.{refl, sym, ◌∙◌}
 use lib.Seq.{length-take-le}
-use borrow.Author.Rules.{rules}
 use Rattle.derivation.proofs.step.step_by.Goals as goal
 
 pub nth-requires : goal.nth-requires

@@ -2,7 +2,6 @@ use mathlib.Core.Path.{refl}
 use mathlib.Core.List.{[]}
 use native.Mathlib.Omega.{arith}
 use Rattle.forms.proofs.GoalReads.{place_given, plain_high, plain_given, plain_small, plain_stops, plain_halts, plain_added}
-use Rattle.forms.proofs.goals.add_goal.Lts as lts
 use Rattle.forms.proofs.goals.add_goal.Goals as goal
 
 pub offset_bounds-cells-at : goal.offset_bounds-cells-at

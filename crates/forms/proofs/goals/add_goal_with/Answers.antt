@@ -3,7 +3,6 @@ use mathlib.Core.List.{[]}
 use native.Mathlib.Omega.{arith}
 use Rattle.forms.proofs.GoalReads.{place_given}
 use Rattle.forms.proofs.GoalLists.{form_given, tail_zero, tail_same, tail_length, tail_cleared, with_stop, with_small, with_halts, with_added}
-use Rattle.forms.proofs.goals.add_goal_with.Lts as lts
 use Rattle.forms.proofs.goals.add_goal_with.Goals as goal
 
 pub goal_parts-requires : goal.goal_parts-requires

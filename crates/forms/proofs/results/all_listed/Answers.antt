@@ -1,4 +1,3 @@
-use Prim.Native.Nat.{◌-◌}
 use native.Mathlib.Omega.{arith}
 use Rattle.forms.proofs.Covering.{listing_start, listing_asks, listing_more, listing_stops, listing_end}
 use mathlib.Core.Path.{ap}

@@ -1,6 +1,5 @@
 use Rattle.induction.proofs.Supposes.{supposing_start, supposing_done, supposing_room, supposing_given, supposing_stopped, supposing_small, supposing_again, lent_as_long}
 use lib.ListN.{length}
-use Prim.Native.Nat.{◌-◌}
 use mathlib.Core.Path.{◌∙◌, ap}
 use native.Mathlib.Omega.{arith}
 use Rattle.induction.proofs.cases.hypotheses.Goals as goal

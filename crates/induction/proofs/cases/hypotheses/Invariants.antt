@@ -1,7 +1,6 @@
 use Rattle.induction.proofs.Supposes.{Supposing}
 use lib.ListN.{length}
 use Prim.Native.Nat.{◌-◌}
-use mathlib.Core.Path.{ap}
 use Rattle.induction.proofs.cases.hypotheses.Given as goal
 
 abbrev pub invariant-loop-k : goal.invariant-loop-k

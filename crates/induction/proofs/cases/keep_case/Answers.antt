@@ -1,7 +1,6 @@
 use Rattle.induction.proofs.Casings.{keeping_count}
 use mathlib.Core.Path.{◌∙◌}
 use Rattle.induction.proofs.Casings.{keeping_start, keeping_var, keeping_full, keeping_small, keeping_place, keeping_again, keeping_room, keeping_node, keeping_done}
-use Prim.Native.Nat.{◌-◌}
 use native.Mathlib.Omega.{arith}
 use Rattle.induction.proofs.cases.keep_case.Goals as goal
 

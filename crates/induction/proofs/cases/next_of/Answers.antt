@@ -1,5 +1,4 @@
 use Rattle.induction.proofs.Supposes.{nexting_start, nexting_again, nexting_here, nexting_none}
-use Prim.Native.Nat.{◌-◌}
 use native.Mathlib.Omega.{arith}
 use Rattle.induction.proofs.cases.next_of.Goals as goal
 

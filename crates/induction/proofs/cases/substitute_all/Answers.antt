@@ -1,6 +1,5 @@
 use Rattle.induction.proofs.Moves.{moving_start, moving_done, moving_replaceable, moving_memo, moving_full, moving_small, moving_again}
 use lib.ListN.{length}
-use Prim.Native.Nat.{◌-◌}
 use mathlib.Core.Path.{◌∙◌, sym, ap}
 use native.Mathlib.Omega.{arith}
 use Rattle.induction.proofs.cases.substitute_all.Goals as goal

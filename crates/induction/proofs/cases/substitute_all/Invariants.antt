@@ -1,7 +1,6 @@
 use Rattle.induction.proofs.Moves.{Moving}
 use lib.ListN.{length}
 use Prim.Native.Nat.{◌-◌}
-use mathlib.Core.Path.{ap}
 use Rattle.induction.proofs.cases.substitute_all.Given as goal
 
 abbrev pub invariant-loop-k : goal.invariant-loop-k

@@ -1,7 +1,6 @@
 use Prim.Native.Nat.{◌+◌, ◌*◌}
 use lib.ListN.{get_or}
 use Rattle.induction.proofs.Inducts.{write_asks, judged_start, judged_place, judged_fact, judged_again, judged_done}
-use Prim.Native.Nat.{◌-◌}
 use mathlib.Core.Path.{◌∙◌, sym}
 use native.Mathlib.Omega.{arith}
 use Rattle.induction.proofs.induct.judgments_of.Goals as goal

@@ -1,5 +1,4 @@
 use Rattle.induction.proofs.CaseNames.{names_start, names_done, names_small, names_place, names_room, names_given, names_unknown, names_variable, names_sort_asks, names_used, names_seen, names_other, names_taken, names_twice, names_again, names_less, not_yes}
-use Prim.Native.Nat.{◌-◌}
 use mathlib.Core.Path.{◌∙◌, sym}
 use native.Mathlib.Omega.{arith}
 use Rattle.induction.proofs.induct_cases.case_vars.Goals as goal

@@ -1,6 +1,5 @@
 use Rattle.induction.proofs.CaseLoop.{cases_start, cases_done, cases_counted, cases_less, cases_over, cases_known, cases_small, cases_given, cases_scratch, cases_stopped, cases_again}
 use lib.ListN.{length}
-use Prim.Native.Nat.{◌-◌}
 use mathlib.Core.Path.{◌∙◌, ap}
 use native.Mathlib.Omega.{arith}
 use Rattle.induction.proofs.induct_cases.induct_cases.Goals as goal

@@ -1,7 +1,6 @@
 use Rattle.induction.proofs.CaseLoop.{CasesOf}
 use lib.ListN.{length}
 use Prim.Native.Nat.{◌-◌}
-use mathlib.Core.Path.{ap}
 use Rattle.induction.proofs.induct_cases.induct_cases.Given as goal
 
 abbrev pub invariant-loop-at : goal.invariant-loop-at

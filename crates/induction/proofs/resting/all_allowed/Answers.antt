@@ -1,5 +1,4 @@
 use Rattle.induction.proofs.Allowed.{rest_facts, allows_start, allowing_here, allowing_not, allowing_again, allowing_done}
-use Prim.Native.Nat.{◌-◌}
 use borrow.Author.Tests.{not-true, not-false}
 use native.Mathlib.Omega.{arith}
 use mathlib.Core.Path.{ap}

@@ -1,6 +1,5 @@
 use Rattle.induction.proofs.Rests.{generalising_start, generalising_outside, generalising_itself, generalising_again, generalising_done}
 use borrow.Author.Tests.{not-true, not-false}
-use Prim.Native.Nat.{◌-◌}
 use mathlib.Core.Path.{sym, ◌∙◌}
 use native.Mathlib.Omega.{arith}
 use mathlib.Core.Path.{ap}

@@ -1,6 +1,5 @@
 use Prim.Native.Nat.{◌+◌}
 use Rattle.induction.proofs.Rests.{rowing_start, rowing_done, rowing_high, rowing_else, rowing_found}
-use Prim.Native.Nat.{◌-◌}
 use native.Mathlib.Omega.{arith}
 use Rattle.induction.proofs.resting.is_hypothesis.Goals as goal
 

@@ -1,5 +1,4 @@
 use Rattle.induction.proofs.Rests.{Rowing}
-use Prim.Native.Nat.{◌-◌}
 use Rattle.induction.proofs.resting.is_hypothesis.Given as goal
 
 abbrev pub invariant-loop-left : goal.invariant-loop-left

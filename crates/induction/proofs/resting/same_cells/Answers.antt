@@ -1,6 +1,4 @@
 use Rattle.induction.proofs.Rests.{comparing_start, comparing_lengths, comparing_other, comparing_again, comparing_done}
-use lib.ListN.{length}
-use Prim.Native.Nat.{◌-◌}
 use native.Mathlib.Omega.{arith}
 use Rattle.induction.proofs.resting.same_cells.Goals as goal
 

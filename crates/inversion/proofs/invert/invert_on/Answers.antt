@@ -5,7 +5,6 @@ use lib.ListN.{replicate, length-replicate}
 use lib.Seq.{length-take-le}
 use Rattle.rules.specs.Limits.{FACTS, VARIABLES}
 use Rattle.inversion.proofs.InvertOn.{on_reaches, on_writes, on_few, on_takes, on_atom, on_list, on_cases, on_items, on_refused, on_turning, on_stopped, on_puts, on_read}
-use borrow.Author.Rules.{rules}
 use Rattle.inversion.proofs.invert.invert_on.Goals as goal
 
 pub nth-requires : goal.nth-requires

@@ -1,9 +1,7 @@
 use mathlib.Core.Path.{refl, sym, ap, ◌∙◌}
-use Prim.Native.Nat.{◌-◌}
 use native.Mathlib.Omega.{arith}
 use lib.ListN.{length}
 use Rattle.inversion.proofs.InvertRounds.{rounds_term, rounds_rules, rounds_start, rounds_over, rounds_known, rounds_high, rounds_turning, rounds_stopped, rounds_again}
-use borrow.Author.Rules.{rules}
 use Rattle.inversion.proofs.invert.invert_rules.Goals as goal
 
 pub predicate_of-predicate-requires : goal.predicate_of-predicate-requires

@@ -1,10 +1,9 @@
-use mathlib.Core.Path.{◌≡◌, sym, ap}
+use mathlib.Core.Path.{◌≡◌}
 use Prim.Native.Nat.{◌-◌}
 use lib.ListN.{length}
 use Rattle.state.specs.Held.{names, rule_lists}
 use Rattle.inversion.specs.InvertRules.{Empty, Turning}
 use Rattle.inversion.proofs.InvertRounds.{RulesLeft, whole}
-use borrow.Author.Rules.{rules}
 use Rattle.inversion.proofs.invert.invert_rules.Given as goal
 
 abbrev pub invariant-loop-r : goal.invariant-loop-r

@@ -1,5 +1,4 @@
-use mathlib.Core.Path.{sym, ap, ◌∙◌}
-use Prim.Native.Nat.{◌-◌}
+use mathlib.Core.Path.{sym, ◌∙◌}
 use native.Mathlib.Omega.{arith}
 use Rattle.state.specs.VarLaws.{vars_long}
 use Rattle.inversion.proofs.InvertNames.{rows_start, rows_more, rows_end, rows_done}

@@ -1,8 +1,5 @@
 use mathlib.Core.Path.{refl, sym, ◌∙◌}
-use mathlib.Core.Bool.{not}
-use Prim.Native.Nat.{◌-◌}
 use native.Mathlib.Omega.{arith}
-use Rattle.rules.specs.Find.{all}
 use Rattle.casework.specs.Laws.Loops.{all_yes, all_no, all_over, not_so, not_not}
 use Rattle.inversion.proofs.invert_rules.all_new.Goals as goal
 

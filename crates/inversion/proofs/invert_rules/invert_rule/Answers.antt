@@ -2,7 +2,6 @@ use mathlib.Core.Path.{refl, sym}
 use native.Mathlib.Omega.{arith}
 use lib.Seq.{length-take-le}
 use Rattle.inversion.proofs.InvertRuleTurn.{turn_known, turn_cases, turn_lacking, turn_low, turn_high, turn_lacked, turn_few, turn_case, turn_missing, turn_having, turn_judged, turn_refused}
-use borrow.Author.Rules.{rules}
 use Rattle.inversion.proofs.invert_rules.invert_rule.Goals as goal
 
 pub rule_name-span-requires : goal.rule_name-span-requires

@@ -1,6 +1,5 @@
-use mathlib.Core.Path.{sym, ap, ◌∙◌}
+use mathlib.Core.Path.{sym, ◌∙◌}
 use Rattle.referring.specs.Laws.Variable.{var_node, var_after}
-use Prim.Native.Nat.{◌-◌}
 use native.Mathlib.Omega.{arith}
 use Rattle.inversion.proofs.InvertKeeps.{vars_start, vars_index, vars_words, vars_over, vars_full, vars_small, vars_place, vars_again}
 use Rattle.inversion.proofs.invert_rules.keep_vars.Goals as goal

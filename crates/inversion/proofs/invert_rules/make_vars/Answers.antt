@@ -1,9 +1,6 @@
-use mathlib.Core.Path.{refl, sym, ap, ◌∙◌}
-use Prim.Native.Nat.{◌-◌}
-use lib.ListN.{length, length-set}
+use mathlib.Core.Path.{refl, sym, ◌∙◌}
+use lib.ListN.{length-set}
 use native.Mathlib.Omega.{arith}
-use Rattle.rules.specs.Limits.{VARIABLES}
-use Rattle.rules.specs.Theory.{rule}
 use Rattle.inversion.proofs.InvertNames.{known_var, rule_sort_lem, sort_small, making_start, making_over, making_full, making_more}
 use Prim.Native.Nat.{ℕ}
 use Rattle.inversion.proofs.invert_rules.make_vars.Goals as goal

@@ -1,6 +1,5 @@
 use mathlib.Core.Path.{refl, ◌∙◌}
 use Rattle.inversion.proofs.InvertMeets.{meet_keeps, meet_unkept, meet_buildable, meet_unbuilt, meet_unifiable, meet_done}
-use borrow.Author.Rules.{rules}
 use Rattle.inversion.proofs.invert_rules.meet.Goals as goal
 
 pub keep_vars-requires : goal.keep_vars-requires

@@ -1,8 +1,5 @@
 use mathlib.Core.Path.{refl, sym, ap, ◌∙◌}
-use Prim.Native.Nat.{◌-◌}
 use native.Mathlib.Omega.{arith}
-use Rattle.rules.specs.Theory.{rule}
-use Rattle.rules.specs.Invert.{suit}
 use Rattle.state.specs.VarLaws.{vars_long, var_sort_is}
 use Rattle.casework.specs.Laws.Loops.{suit_none, suit_on, suit_off, suit_over}
 use Rattle.inversion.proofs.InvertNames.{known_var, rule_sort_lem}

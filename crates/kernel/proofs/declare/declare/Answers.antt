@@ -2,7 +2,6 @@ use mathlib.Core.Path.{sym, subst}
 use native.Mathlib.Omega.{arith}
 use Rattle.kernel.specs.Parsed.{theory_lists, DeclaredAs}
 use Rattle.kernel.proofs.Tagged.{form_some, form_atom_lem, form_list, form_declares}
-use borrow.Author.Rules.{rules}
 use Rattle.kernel.proofs.declare.declare.Goals as goal
 
 pub item_at-requires : goal.item_at-requires

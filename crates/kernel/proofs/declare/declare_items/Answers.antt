@@ -3,7 +3,6 @@ use Rattle.rules.specs.Tags.{a_sort, a_ctor, a_pred, a_rule}
 use Rattle.sexp.specs.declared.tags.Declaration.TheVariants.{Sort, Ctor, Pred, Rule, Unknown}
 use Rattle.kernel.specs.Parsed.{theory_lists}
 use Rattle.kernel.proofs.Tagged.{told, item_many, form_of, no_tag, sort_taken, ctor_taken, pred_taken, rule_taken}
-use borrow.Author.Rules.{rules}
 use Rattle.kernel.proofs.declare.declare_items.Goals as goal
 
 pub tag_of-requires : goal.tag_of-requires

@@ -1,6 +1,5 @@
 use mathlib.Core.Path.{sym, ap}
 use Rattle.kernel.specs.Parsed.{rules_now}
-use borrow.Author.Rules.{rules}
 use Rattle.kernel.proofs.declare.rules_now.Goals as goal
 
 pub returns-in-Ok : goal.returns-in-Ok

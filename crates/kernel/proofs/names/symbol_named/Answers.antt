@@ -1,4 +1,3 @@
-use Prim.Native.Nat.{◌-◌}
 use Rattle.kernel.proofs.Rows.{seeking_start, seeking_row, seeking_here, seeking_on, seeking_over}
 use Rattle.kernel.proofs.names.symbol_named.Goals as goal
 

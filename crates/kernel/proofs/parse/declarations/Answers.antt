@@ -1,11 +1,9 @@
 use mathlib.Core.Path.{sym, ap, ◌∙◌}
-use Prim.Native.Nat.{◌-◌}
 use lib.ListN.{length}
 use native.Mathlib.Omega.{arith}
 use Rattle.kernel.specs.Parsed.{theory_lists}
 use Rattle.sexp.specs.Through.{going_asks, going_form, going_room, going_cells, going_cleared}
 use Rattle.kernel.proofs.Runs.{underway_first, ended, failed, formed, declaring, declared_no, declared_ok}
-use borrow.Author.Rules.{rules}
 use Rattle.kernel.proofs.parse.declarations.Goals as goal
 
 pub loop-number-init : goal.loop-number-init

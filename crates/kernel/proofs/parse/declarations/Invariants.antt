@@ -1,9 +1,7 @@
-use mathlib.Core.Path.{sym}
 use Prim.Native.Nat.{◌-◌}
 use lib.ListN.{length}
 use Rattle.kernel.specs.Parsed.{theory_lists}
 use Rattle.kernel.proofs.Runs.{Underway}
-use borrow.Author.Rules.{rules}
 use Rattle.kernel.proofs.parse.declarations.Given as goal
 
 abbrev pub invariant-loop-number : goal.invariant-loop-number

@@ -5,7 +5,6 @@ use Rattle.rules.specs.Limits.{SORTS, SYMBOLS, ARGUMENTS, RULES, RULEVARS, PATTE
 use Rattle.kernel.specs.Parsed.{theory_lists, theory_of, verdict}
 use Rattle.kernel.specs.Layout.{laid_longer}
 use Rattle.kernel.proofs.Laid.{longer, exact_fronts}
-use borrow.Author.Rules.{rules}
 use Rattle.kernel.proofs.parse.parse.Goals as goal
 
 pub slice_bounds-parse_exact-end : goal.slice_bounds-parse_exact-end

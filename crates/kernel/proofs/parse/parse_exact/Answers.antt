@@ -2,7 +2,6 @@ use mathlib.Core.Path.{◌∙◌}
 use Rattle.kernel.specs.Parsed.{theory_lists, verdict}
 use Rattle.kernel.proofs.Laid.{laid_held}
 use Rattle.kernel.proofs.Runs.{run_within, run_laid}
-use borrow.Author.Rules.{rules}
 use Rattle.kernel.proofs.parse.parse_exact.Goals as goal
 
 pub read_and_declare-r-requires : goal.read_and_declare-r-requires

@@ -1,7 +1,6 @@
 use mathlib.Core.Path.{refl}
 use Rattle.kernel.specs.Parsed.{theory_lists}
 use Rattle.kernel.proofs.Runs.{unread_refused, read_whole}
-use borrow.Author.Rules.{rules}
 use Rattle.kernel.proofs.parse.read_and_declare.Goals as goal
 
 pub declarations-requires : goal.declarations-requires

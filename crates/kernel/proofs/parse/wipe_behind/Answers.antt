@@ -1,6 +1,5 @@
 use native.Mathlib.Omega.{arith}
 use Rattle.kernel.specs.Parsed.{theory_lists}
-use borrow.Author.Rules.{rules}
 use Rattle.kernel.proofs.parse.wipe_behind.Goals as goal
 
 pub overflow_mul-held : goal.overflow_mul-held

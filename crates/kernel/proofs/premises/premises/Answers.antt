@@ -1,5 +1,4 @@
 use mathlib.Core.Path.{◌∙◌}
-use Prim.Native.Nat.{◌-◌}
 use native.Mathlib.Omega.{arith}
 use Rattle.kernel.proofs.Premised.{running_start, here, vars_long, next_here, judging, going_atom, going_over, running_stops, running_on}
 use Rattle.kernel.proofs.premises.premises.Goals as goal

@@ -1,5 +1,4 @@
 use Rattle.kernel.proofs.Readings.{counting_start, counting_inside, counting_on, counting_over}
-use Prim.Native.Nat.{◌-◌}
 use native.Mathlib.Omega.{arith}
 use Rattle.kernel.proofs.readers.constructors.Goals as goal
 

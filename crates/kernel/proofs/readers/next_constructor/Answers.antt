@@ -1,6 +1,5 @@
 use Rattle.kernel.proofs.Readings.{scanning_start, scanning_known, scanning_here, scanning_on, scanning_over}
 use mathlib.Core.Path.{sym, ◌∙◌}
-use Prim.Native.Nat.{◌-◌}
 use borrow.Author.Tests.{eqb-true, eqb-false}
 use Rattle.kernel.proofs.readers.next_constructor.Goals as goal
 

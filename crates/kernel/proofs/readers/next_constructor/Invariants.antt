@@ -1,5 +1,4 @@
 use Rattle.kernel.proofs.Readings.{Scanning}
-use mathlib.Core.Path.{sym}
 use Prim.Native.Nat.{◌-◌}
 use Rattle.kernel.proofs.readers.next_constructor.Given as goal
 

@@ -7,7 +7,6 @@ use Rattle.sexp.specs.FoundLaws.{names_of}
 use Rattle.kernel.proofs.Ruling.{begun}
 use Rattle.kernel.specs.RuleRows.{rule_name, rules_rows}
 use Rattle.kernel.proofs.Ruled.{ruled, reads_none, beginning, rule_stops, schema_of, held_still, rule_no_name, rule_again, rule_put, rule_is, rule_fits}
-use borrow.Author.Rules.{rules}
 use Rattle.kernel.proofs.rule.add_rule.Goals as goal
 
 pub schema-r-requires : goal.schema-r-requires

@@ -3,7 +3,6 @@ use Prim.Native.Nat.{◌+◌, ◌*◌}
 use native.Mathlib.Omega.{arith}
 use lib.ListN.{set, length-set}
 use Rattle.kernel.proofs.RuleStore.{rules_more}
-use borrow.Author.Rules.{rules}
 use Rattle.kernel.proofs.rule.store.Goals as goal
 
 pub returns-then-count-ge-RULES : goal.returns-then-count-ge-RULES

@@ -1,6 +1,5 @@
 use Rattle.kernel.proofs.Conclusions.{rule_there, passing_start, passing_next, passing_word, passing_few, passing_on, passing_over}
 use native.Mathlib.Omega.{arith}
-use Prim.Native.Nat.{◌-◌}
 use Rattle.kernel.proofs.rule_readers.conclusion.Goals as goal
 
 pub words-span-requires : goal.words-span-requires

@@ -1,7 +1,6 @@
 use Rattle.kernel.proofs.Conclusions.{Passing}
 use Prim.Native.Nat.{◌-◌}
 use lib.ListN.{length}
-use borrow.Author.Rules.{rules}
 use Rattle.kernel.proofs.rule_readers.conclusion.Given as goal
 
 abbrev pub invariant-loop-left : goal.invariant-loop-left

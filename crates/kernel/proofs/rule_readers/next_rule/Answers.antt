@@ -1,5 +1,4 @@
 use Rattle.kernel.proofs.Heads.{scanning_start, scanning_known, scanning_here, scanning_on, scanning_over}
-use Prim.Native.Nat.{◌-◌}
 use Rattle.kernel.proofs.rule_readers.next_rule.Goals as goal
 
 pub loop-i-init : goal.loop-i-init

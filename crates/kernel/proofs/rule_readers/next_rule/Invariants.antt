@@ -1,6 +1,5 @@
 use Rattle.kernel.proofs.Heads.{Scanning}
 use Prim.Native.Nat.{◌-◌}
-use borrow.Author.Rules.{rules}
 use Rattle.kernel.proofs.rule_readers.next_rule.Given as goal
 
 abbrev pub invariant-loop-i : goal.invariant-loop-i

@@ -1,6 +1,5 @@
 use Rattle.kernel.specs.RuleRows.{some_var_names, named_few, var_is}
 use native.Mathlib.Omega.{arith}
-use borrow.Author.Rules.{rules}
 use Rattle.kernel.proofs.rule_readers.rule_var_named.Goals as goal
 
 pub overflow_mul-r : goal.overflow_mul-r

@@ -1,6 +1,6 @@
 use mathlib.Core.Path.{◌∙◌}
 use native.Mathlib.Omega.{arith}
-use lib.ListN.{length, length-set}
+use lib.ListN.{length-set}
 use Rattle.kernel.specs.SignatureRows.{sorts_rows}
 use Rattle.sexp.specs.FirstItem.{first_of, first_item, some_first, rest_shorter}
 use Rattle.kernel.proofs.Arguments.{first_small, arguments_none, arguments_unknown, arguments_full, arguments_more, gathering_next}

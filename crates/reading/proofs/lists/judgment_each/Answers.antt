@@ -1,5 +1,4 @@
 use mathlib.Core.Path.{refl, ◌∙◌}
-use Prim.Native.Nat.{◌-◌}
 use native.Mathlib.Omega.{arith}
 use Rattle.reading.proofs.Judgments.{judging_start, judging_here, judging_item, judging_index, judging_words, judging_ok, judging_no, judging_small, judging_stops, judging_more, judging_over}
 use Rattle.reading.proofs.Filling.{cleared}

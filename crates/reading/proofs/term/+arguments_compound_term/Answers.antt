@@ -1,14 +1,11 @@
 use mathlib.Core.Path.{refl, sym, ◌∙◌}
-use Prim.Native.Nat.{◌-◌}
 use native.Mathlib.Omega.{arith}
-use lib.ListN.{length}
 use Rattle.rules.specs.Read.{compound as compoundOf}
 use Rattle.reading.proofs.TermArguments.{known_symbol, symbol_small, going_begins, going_inputs, going_high, going_item, going_past, going_stops, going_put, going_on, going_ends, part_most}
 use Rattle.reading.proofs.TermHeads.{rest_fewer}
 use Rattle.reading.proofs.TermBehind.{opens, opened, unopened, rest_items, behind_stops, behind_misfits, behind_narrow, behind_length, behind_node, behind_typed}
 use Rattle.reading.proofs.TermItems.{item_there, atom_given, term_atomic, item_list, list_items, term_compounds}
 use borrow.Author.Rules.{rules}
-use borrow.Fn.PlainCycle.{is}
 use mathlib.Core.Path.{ap}
 use mathlib.Core.Bool.{not}
 use Rattle.reading.proofs.term.+arguments_compound_term.Goals as goal

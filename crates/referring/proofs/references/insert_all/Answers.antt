@@ -1,4 +1,3 @@
-use Prim.Native.Nat.{◌-◌}
 use native.Mathlib.Omega.{arith}
 use Rattle.referring.proofs.Joins.{joining_start, joining_more, joining_end}
 use Rattle.referring.proofs.references.insert_all.Goals as goal

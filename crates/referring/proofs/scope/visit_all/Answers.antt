@@ -1,4 +1,3 @@
-use Prim.Native.Nat.{◌-◌}
 use native.Mathlib.Omega.{arith}
 use Rattle.referring.proofs.ScopeVisits.{visiting_begins, visiting_ready, visiting_on, visiting_ends}
 use Rattle.referring.proofs.scope.visit_all.Goals as goal

@@ -1,6 +1,5 @@
 use Rattle.referring.proofs.ScopeCells.{visiting_start, visiting_cell, visiting_more, visiting_done}
 use native.Mathlib.Omega.{arith}
-use Prim.Native.Nat.{◌-◌}
 use Rattle.referring.proofs.scope.visit_cells.Goals as goal
 
 pub loop-k-init : goal.loop-k-init

@@ -1,4 +1,3 @@
-use Prim.Native.Nat.{◌-◌}
 use native.Mathlib.Omega.{arith}
 use Rattle.running.proofs.Opened.{open_rows_long, judgment_held, opening_start, opening_over, seen_more, seen_skip}
 use Rattle.running.proofs.finish.count_open.Goals as goal

@@ -1,8 +1,5 @@
 use mathlib.Core.Path.{refl, sym}
-use mathlib.Core.Bool.{true}
-use lib.ListN.{length}
 use native.Mathlib.Omega.{arith}
-use Rattle.rules.specs.Text.{same}
 use Rattle.rules.proofs.Laws.Text.{same_lengths}
 use Rattle.sexp.proofs.ByteLaws.{same_differs, same_end, same_before, same_whole}
 use Rattle.sexp.proofs.names.same.Goals as goal

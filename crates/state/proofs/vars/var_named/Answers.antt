@@ -1,4 +1,3 @@
-use Prim.Native.Nat.{◌-◌}
 use native.Mathlib.Omega.{arith}
 use Rattle.state.proofs.Named.{seeking_begins, seeking_here, seeking_on, seeking_over}
 use Rattle.state.proofs.vars.var_named.Goals as goal
