@@ -9,8 +9,8 @@ use Rattle.rules.specs.Sexp.{Sexp, Sexps, atom, list, nil, cons, count, item}
 use Rattle.rules.specs.Tags.{Tag, a_var, a_def, a_step, a_hyp, a_rule_hyp, an_induct, an_induct_with, an_apply, an_invert, a_result}
 use Rattle.rules.specs.State.{State, Counts}
 use Rattle.rules.specs.Forms.{plus, take_form}
-use Rattle.rules.proofs.Laws.Out.{of_ok}
-use Rattle.rules.proofs.Laws.Tally.{bracket, brackets, brackets_in, counted, head_tag, tag_of, items_of, counted_as, counted_form}
+use Rattle.rules.specs.Laws.Out.{of_ok}
+use Rattle.rules.specs.Laws.Tally.{bracket, brackets, brackets_in, counted, head_tag, tag_of, items_of, counted_as, counted_form}
 use Rattle.rules.proofs.Laws.Form.{take_form_takes}
 use Rattle.rules.proofs.Laws.Appends.{ready_any}
 use Rattle.rules.proofs.Laws.Count.{taken_counts}

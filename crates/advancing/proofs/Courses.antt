@@ -9,7 +9,7 @@ use Rattle.rules.specs.Loop.{Judged, refused, through}
 use Rattle.rules.specs.State.{State}
 use Rattle.rules.specs.Forms.{take_form}
 use Rattle.rules.specs.Check.{after_proof, check}
-use Rattle.rules.proofs.Laws.Out.{of_ok}
+use Rattle.rules.specs.Laws.Out.{of_ok}
 use Rattle.rules.proofs.Laws.Bounded.{take_form_checked}
 use Rattle.sexp.specs.ReadLaws.{FormIs}
 use Rattle.sexp.specs.Through.{through_ends, through_fails, through_taken, through_refused}

@@ -13,9 +13,9 @@ use Rattle.rules.specs.State.{State, Goal, Fact, Counts, goal_entries, all_entri
 use Rattle.rules.specs.Forms.{take_form, taken_goal}
 use Rattle.rules.specs.TheoryTables.{filled}
 use Rattle.rules.specs.StateTables.{fact_cells, footing_cells}
-use Rattle.rules.proofs.Laws.Out.{of_ok}
-use Rattle.rules.proofs.Laws.Keeping.{Grows, stays}
-use Rattle.rules.proofs.Laws.Made.{sound}
+use Rattle.rules.specs.Laws.Out.{of_ok}
+use Rattle.rules.specs.Laws.Keeping.{Grows, stays}
+use Rattle.rules.specs.Laws.Sound.{sound}
 use Rattle.rules.proofs.Laws.Form.{Taken, new_var, new_def, new_fact, got_result, take_form_takes}
 use Rattle.rules.proofs.Laws.Appends.{AtMostOne, no_more, one_more, Marks, unmarked, marks, take_form_appends}
 use Rattle.kernel.specs.Parsed.{TheoryLists}

@@ -8,8 +8,8 @@ use Rattle.rules.specs.Limits.{LENGTH, SORTS, SYMBOLS, ARGUMENTS, RULES, RULEVAR
 use Rattle.rules.specs.Theory.{Theory, no_theory, rule_words}
 use Rattle.rules.specs.State.{begin, goal_entries, all_entries, entries}
 use Rattle.rules.specs.TheoryTables.{rows, rule_cells, sort_table, symbol_table, input_table, rule_table, rule_var_table, pattern_table}
-use Rattle.rules.proofs.Laws.Theory.{empty, WellFormed}
-use Rattle.rules.proofs.Laws.Declare.{nothing_formed}
+use Rattle.rules.specs.Laws.Theory.{empty, WellFormed}
+use Rattle.rules.specs.Laws.Declare.{nothing_formed}
 use Rattle.kernel.specs.Parsed.{TheoryLists, theory_lists, Exact, counts_of, theory_tables, LaidHeld}
 use Rattle.kernel.specs.Layout.{tables_exact}
 use Rattle.kernel.specs.declared.parse.Counts.{Counts}

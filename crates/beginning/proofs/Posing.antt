@@ -16,8 +16,8 @@ use Rattle.rules.specs.Declare.{is_new}
 use Rattle.rules.specs.State.{State, begin, var_named, goal_named, entries}
 use Rattle.rules.specs.Read.{judgment, judgments}
 use Rattle.rules.specs.Forms.{with_made, making, add_var, add_goal, goal, take_goal}
-use Rattle.rules.proofs.Laws.Out.{Ok, fine, off, of_ok, by_name, by_items, by_ask, by_room, by_found}
-use Rattle.rules.proofs.Laws.Theory.{All, empty, all_snoc}
+use Rattle.rules.specs.Laws.Out.{Ok, fine, off, of_ok, by_name, by_items, by_ask, by_room, by_found}
+use Rattle.rules.specs.Laws.Theory.{All, empty, all_snoc}
 use Rattle.rules.proofs.Laws.Form.{go_on}
 use Rattle.rules.proofs.Laws.Appends.{take_goal_appends}
 use Rattle.rules.proofs.Laws.Bounded.{begins_bounded, take_goal_checked}

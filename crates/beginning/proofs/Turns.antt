@@ -11,7 +11,7 @@ use Rattle.rules.specs.State.{State, begin}
 use Rattle.rules.specs.Forms.{take_goal}
 use Rattle.rules.specs.Loop.{Judged, done, refused, through, whole}
 use Rattle.rules.specs.StateTables.{var_cells, def_cells, goal_cells}
-use Rattle.rules.proofs.Laws.Row.{length_filled}
+use Rattle.rules.specs.Laws.Row.{length_filled}
 use Rattle.sexp.specs.Encode.{encode}
 use Rattle.sexp.specs.Reads.{ReadRight}
 use Rattle.sexp.specs.ReadLaws.{FormIs}

@@ -3,7 +3,7 @@ use Rattle.std.specs.Prelude.{◌≡◌, true, false, List, [], ℕ, eqb}
 use Rattle.rules.specs.Theory.{Theory}
 use Rattle.rules.specs.Loop.{Judged, done, refused}
 use Rattle.rules.specs.State.{State, no_counts, begin}
-use Rattle.rules.proofs.Laws.Theory.{All}
+use Rattle.rules.specs.Laws.Theory.{All}
 use Rattle.rules.proofs.Laws.Bounded.{BoundedCheck}
 use Rattle.sexp.specs.Through.{Legible}
 use Rattle.kernel.specs.Parsed.{TheoryLists, theory_of, verdict}

@@ -12,8 +12,8 @@ use Rattle.rules.specs.Find.{union, has, any}
 use Rattle.rules.specs.Store.{Made}
 use Rattle.rules.specs.State.{is_none, is_empty}
 use Rattle.rules.specs.Invert.{Allowed, is_allowed}
-use Rattle.rules.proofs.Laws.Theory.{empty, both}
-use Rattle.rules.proofs.Laws.Set.{union_empty}
+use Rattle.rules.specs.Laws.Theory.{empty, both}
+use Rattle.rules.specs.Laws.Set.{union_empty}
 use Rattle.terms.specs.declared.store.Mark.{Mark}
 use Rattle.terms.specs.Table.{made, tree, args_of}
 use Rattle.terms.specs.Sets.{holds, plus}

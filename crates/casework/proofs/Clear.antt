@@ -16,8 +16,8 @@ use Rattle.rules.specs.Store.{Made}
 use Rattle.rules.specs.Unify.{Binding, along}
 use Rattle.rules.specs.State.{Fact}
 use Rattle.rules.specs.Invert.{Allowed, clear, without, context_fact}
-use Rattle.rules.proofs.Laws.Theory.{all_at}
-use Rattle.rules.proofs.Laws.Store.{then_ok, then_refuse}
+use Rattle.rules.specs.Laws.Theory.{all_at}
+use Rattle.rules.specs.Laws.Store.{then_ok, then_refuse}
 use Rattle.terms.specs.declared.store.Mark.{Mark}
 use Rattle.terms.specs.Table.{made, Good}
 use Rattle.terms.specs.Sets.{holds}

@@ -16,8 +16,8 @@ use Rattle.rules.specs.Find.{any}
 use Rattle.rules.specs.Store.{Made}
 use Rattle.rules.specs.State.{State}
 use Rattle.rules.specs.Invert.{Case, case_named, read_case, read_cases}
-use Rattle.rules.proofs.Laws.Store.{then_ok, then_refuse}
-use Rattle.rules.proofs.Laws.Sexp.{rest_item}
+use Rattle.rules.specs.Laws.Store.{then_ok, then_refuse}
+use Rattle.rules.specs.Laws.Sexp.{rest_item}
 use Rattle.sexp.specs.Items.{Holds, item_at, behind}
 use Rattle.sexp.specs.ItemLaws.{at_room, some_cells}
 use Rattle.sexp.specs.Never.{never}

@@ -16,8 +16,8 @@ use Rattle.rules.specs.Unify.{along}
 use Rattle.rules.specs.Theory.{Theory, RuleVar, inputs, rule}
 use Rattle.rules.specs.State.{is_none, is_empty}
 use Rattle.rules.specs.Invert.{Allowed, renaming, rule_premises}
-use Rattle.rules.proofs.Laws.Theory.{Sorted, Sorteds, Judgment, Judgments, empty, both}
-use Rattle.rules.proofs.Laws.Out.{then_then}
+use Rattle.rules.specs.Laws.Theory.{Sorted, Sorteds, Judgment, Judgments, empty, both}
+use Rattle.rules.specs.Laws.Out.{then_then}
 use Rattle.terms.specs.declared.store.Mark.{Mark}
 use Rattle.terms.specs.declared.store.Kept.{Kept}
 use Rattle.terms.specs.declared.store.Kept.TheVariants.{Term, Full}

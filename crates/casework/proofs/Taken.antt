@@ -11,7 +11,7 @@ use Rattle.rules.specs.Limits.{LENGTH}
 use Rattle.rules.specs.Text.{same}
 use Rattle.rules.specs.Find.{any}
 use Rattle.rules.specs.Invert.{Case}
-use Rattle.rules.proofs.Laws.Text.{same_self, same_equal}
+use Rattle.rules.specs.Laws.Text.{same_self, same_equal}
 use Rattle.casework.specs.Distinct.{name_of, Tree, IsMet, Entered, EnteredAs}
 use Rattle.casework.specs.Cases.{no_case, Named, Kept, Naming, TakenAs}
 

@@ -10,7 +10,7 @@ use native.Mathlib.Nat.{zero-div}
 use lib.ListN.{length, get_or, set, length-set, get_or-eq_default}
 use lib.Seq.{get_or-set_same, get_or-set_other}
 use Rattle.rules.specs.Text.{same}
-use Rattle.rules.proofs.Laws.Text.{same_self, same_equal}
+use Rattle.rules.specs.Laws.Text.{same_self, same_equal}
 use Rattle.casework.specs.declared.distinct.Spot.{Spot}
 use Rattle.casework.specs.declared.distinct.Spot.TheVariants.{Met, Free}
 use Rattle.casework.specs.Distinct.{turn_of, between, name_of, Way, done, on, Comes, Tree, IsMet, IsFree, SpotAs, Entered}

@@ -21,7 +21,7 @@ use Rattle.state.specs.declared.facts.Span.{Span}
 use Rattle.state.specs.Entries.{part}
 use Rattle.state.specs.Rows.{cell, premises_span}
 use Rattle.state.specs.Growth.{grows_ok, recorded_on}
-use Rattle.rules.proofs.Laws.Made.{sound}
+use Rattle.rules.specs.Laws.Sound.{sound}
 use Rattle.rules.proofs.Laws.MakingWalk.{substitute_keeps, substitutes_keeps}
 use Rattle.reading.specs.declared.bindings.Bound.{Bound}
 use Rattle.reading.specs.declared.bindings.Bound.TheVariants as bound

@@ -10,8 +10,8 @@ use Rattle.rules.specs.Store.{Made, number, substitute, substitutes}
 use Rattle.rules.specs.Theory.{Theory, rule}
 use Rattle.rules.specs.State.{State, Fact, is_none, is_empty, is_plain}
 use Rattle.rules.specs.Invert.{Allowed, is_allowed, renaming}
-use Rattle.rules.proofs.Laws.Theory.{All}
-use Rattle.rules.proofs.Laws.Store.{Apart}
+use Rattle.rules.specs.Laws.Theory.{All}
+use Rattle.rules.specs.Laws.Store.{Apart}
 use Rattle.terms.specs.declared.store.Mark.{Mark}
 use Rattle.terms.specs.Table.{made, args_of, Good}
 use Rattle.terms.specs.Sets.{holds, plus}

@@ -23,7 +23,7 @@ use Rattle.meaning.specs.Derivation.{RuleOf}
 use Rattle.meaning.specs.Truth.{True}
 use Rattle.meaning.specs.Named.{RuleHyp}
 use Rattle.meaning.specs.Runs.{CalmTexts}
-use Rattle.meaning.proofs.Bridge.Asked.{entry_at as is_at}
+use Rattle.meaning.specs.Bridge.Asked.{entry_at as is_at}
 use Rattle.meaning.specs.Theorems.{sorts_of, Follows}
 use Rattle.meaning.proofs.Theorems.{check_right}
 use Rattle.meaning.specs.Written.{Written, inside, Verdict}

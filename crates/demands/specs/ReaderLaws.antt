@@ -12,8 +12,8 @@ use Rattle.rules.specs.Tree.{Tree, Trees, var, more}
 use Rattle.rules.specs.Store.{Made}
 use Rattle.rules.specs.State.{State, Fact, Goal}
 use Rattle.rules.specs.StateTables.{Tables, numbers}
-use Rattle.rules.proofs.Laws.Theory.{All, empty, both}
-use Rattle.rules.proofs.Laws.Made.{sound}
+use Rattle.rules.specs.Laws.Theory.{All, empty, both}
+use Rattle.rules.specs.Laws.Sound.{sound}
 use Rattle.terms.specs.Table.{args_of}
 use Rattle.terms.specs.Laws.Tables.{get_d_trees}
 use Rattle.terms.specs.Sets.{holds}
@@ -23,7 +23,7 @@ use Rattle.state.specs.Members.{rises_rising}
 use Rattle.state.specs.Numbered.{Numbered, AllNumbered}
 use Rattle.state.specs.RowCells.{no_goal, no_fact}
 use Rattle.state.specs.RowTables.{entry_at}
-use Rattle.rules.proofs.Laws.Entry.{entry_below}
+use Rattle.rules.specs.Laws.Entry.{entry_below}
 use Rattle.running.specs.ReadBack.{Read}
 use Rattle.demands.specs.Reader.{goal_rows, entries_in, term_in, list_in, goal_in, fact_in, facts_in}
 

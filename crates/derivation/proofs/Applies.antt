@@ -15,7 +15,7 @@ use Rattle.rules.specs.Unify.{Binding, along}
 use Rattle.rules.specs.State.{State, Fact}
 use Rattle.rules.specs.Reference.{bindings as read_bindings}
 use Rattle.rules.specs.Apply.{Applied, applied, apply}
-use Rattle.rules.proofs.Laws.Sexp.{rest_item}
+use Rattle.rules.specs.Laws.Sexp.{rest_item}
 use Rattle.rules.proofs.Laws.MakingWalk.{substitute_keeps}
 use Rattle.sexp.specs.Encode.{encodes}
 use Rattle.sexp.specs.Items.{Holds, item_of, place}

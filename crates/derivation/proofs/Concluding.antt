@@ -14,8 +14,8 @@ use Rattle.rules.specs.Store.{Made}
 use Rattle.rules.specs.State.{State, Fact, hyp_vars}
 use Rattle.rules.specs.Reference.{outside, scoped}
 use Rattle.rules.specs.Apply.{Applied, discharge, value_vars}
-use Rattle.rules.proofs.Laws.Theory.{All, empty as none_of, both}
-use Rattle.rules.proofs.Laws.Rising.{has_all}
+use Rattle.rules.specs.Laws.Theory.{All, empty as none_of, both}
+use Rattle.rules.specs.Laws.Rising.{has_all}
 use Rattle.terms.specs.declared.store.Mark.{Mark}
 use Rattle.terms.specs.Table.{made, tree}
 use Rattle.terms.specs.Sets.{holds}

@@ -18,14 +18,15 @@ use Rattle.rules.specs.State.{State}
 use Rattle.rules.specs.Reference.{Ref, reference}
 use Rattle.rules.specs.Step.{Refs, with_ref}
 use Rattle.rules.specs.Apply.{discharge}
-use Rattle.rules.proofs.Laws.Theory.{All, empty as none_of}
-use Rattle.rules.proofs.Laws.Out.{then_then}
-use Rattle.rules.proofs.Laws.Keeping.{Keeps, fine, stays, by_then, by_ask}
-use Rattle.rules.proofs.Laws.Made.{sound}
+use Rattle.rules.specs.Laws.Theory.{All, empty as none_of}
+use Rattle.rules.specs.Laws.Out.{then_then}
+use Rattle.rules.specs.Laws.Keeping.{Keeps, fine, stays, by_then, by_ask}
+use Rattle.rules.specs.Laws.Sound.{sound}
 use Rattle.rules.proofs.Laws.MakingWalk.{substitute_keeps}
-use Rattle.rules.proofs.Laws.ReadWalk.{Ready, ready_on, reference_keeps}
-use Rattle.rules.proofs.Laws.Set.{union_assoc}
-use Rattle.rules.proofs.Laws.Rising.{or_cases}
+use Rattle.rules.proofs.Laws.ReadWalk.{ready_on, reference_keeps}
+use Rattle.rules.specs.Laws.Ready.{Ready}
+use Rattle.rules.specs.Laws.Set.{union_assoc}
+use Rattle.rules.specs.Laws.Rising.{or_cases}
 use Rattle.sexp.specs.WalkLaws.{Walk, walk_start}
 use Rattle.terms.specs.declared.store.Mark.{Mark}
 use Rattle.terms.specs.Table.{made}

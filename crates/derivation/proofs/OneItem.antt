@@ -21,7 +21,7 @@ use Rattle.rules.specs.Declare.{no_rule_var, is_new}
 use Rattle.rules.specs.State.{State}
 use Rattle.rules.specs.Read.{term_of, judgment}
 use Rattle.rules.specs.Step.{Items, bind_item, state_item, read_item}
-use Rattle.rules.proofs.Laws.Theory.{all_at}
+use Rattle.rules.specs.Laws.Theory.{all_at}
 use Rattle.sexp.specs.Encode.{encodes}
 use Rattle.sexp.specs.Items.{Holds, Items as SomeItems, item_at}
 use Rattle.sexp.specs.ItemLaws.{More, at_inside}

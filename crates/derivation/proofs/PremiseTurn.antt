@@ -16,10 +16,10 @@ use Rattle.rules.specs.State.{State}
 use Rattle.rules.specs.Reference.{Ref}
 use Rattle.rules.specs.Step.{Refs, no_refs, with_ref}
 use Rattle.rules.specs.Apply.{discharge}
-use Rattle.rules.proofs.Laws.Out.{then_then}
-use Rattle.rules.proofs.Laws.Set.{union_empty}
-use Rattle.rules.proofs.Laws.Rising.{has_all}
-use Rattle.rules.proofs.Laws.Tree.{variables_more}
+use Rattle.rules.specs.Laws.Out.{then_then}
+use Rattle.rules.specs.Laws.Set.{union_empty}
+use Rattle.rules.specs.Laws.Rising.{has_all}
+use Rattle.rules.specs.Laws.Tree.{variables_more}
 use Rattle.sexp.specs.Items.{item_at, behind}
 use Rattle.sexp.specs.ItemLaws.{More}
 use Rattle.sexp.specs.WalkLaws.{Walk, walk_more, walk_over, walk_rest}

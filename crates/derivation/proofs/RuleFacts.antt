@@ -18,7 +18,7 @@ use Rattle.rules.specs.Unify.{Binding}
 use Rattle.rules.specs.State.{State, Fact, is_plain}
 use Rattle.rules.specs.Reference.{judgments_at}
 use Rattle.rules.specs.Apply.{Applied, plain_at, applied}
-use Rattle.rules.proofs.Laws.Theory.{All, both, all_at}
+use Rattle.rules.specs.Laws.Theory.{All, both, all_at}
 use Rattle.terms.specs.Sets.{holds}
 use Rattle.terms.specs.Theta.{bindings}
 use Rattle.terms.specs.Laws.Sets.{holds_zero}

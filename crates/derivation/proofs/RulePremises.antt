@@ -15,9 +15,9 @@ use Rattle.rules.specs.State.{State}
 use Rattle.rules.specs.Reference.{judgment_of, judgments_at}
 use Rattle.rules.specs.Apply.{Applied}
 use Rattle.rules.specs.StateTables.{numbers}
-use Rattle.rules.proofs.Laws.Theory.{All, empty as none_of, both, all_at}
-use Rattle.rules.proofs.Laws.Set.{union_empty}
-use Rattle.rules.proofs.Laws.Members.{union_comm}
+use Rattle.rules.specs.Laws.Theory.{All, empty as none_of, both, all_at}
+use Rattle.rules.specs.Laws.Set.{union_empty}
+use Rattle.rules.specs.Laws.Members.{union_comm}
 use Rattle.terms.specs.Table.{args_of}
 use Rattle.terms.specs.Sets.{plus}
 use Rattle.terms.specs.Laws.Sets.{plus_has, plus_union}

@@ -14,7 +14,7 @@ use Rattle.rules.specs.Store.{Made}
 use Rattle.rules.specs.Theory.{Theory, Rule, no_rule, rule_named}
 use Rattle.rules.specs.State.{Fact}
 use Rattle.rules.specs.Step.{step}
-use Rattle.rules.proofs.Laws.Find.{first_some}
+use Rattle.rules.specs.Laws.Find.{first_some}
 use Rattle.sexp.specs.Encode.{encodes}
 use Rattle.sexp.specs.Items.{Reaches, item_of, place}
 use Rattle.sexp.specs.NthItem.{reaches, nth_text, nth_part}

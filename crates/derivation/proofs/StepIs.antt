@@ -14,7 +14,7 @@ use Rattle.rules.specs.State.{State}
 use Rattle.rules.specs.Match.{match_all}
 use Rattle.rules.specs.Reference.{scoped}
 use Rattle.rules.specs.Step.{Items, references, no_items, read_items, match_stated, conclude, step}
-use Rattle.rules.proofs.Laws.Out.{then_then}
+use Rattle.rules.specs.Laws.Out.{then_then}
 use Rattle.derivation.specs.Stepping.{concluded, from_items, in_scope, by_rule}
 use Rattle.derivation.proofs.StepJoins.{then_other}
 

@@ -16,11 +16,11 @@ use Rattle.rules.specs.Store.{Made}
 use Rattle.rules.specs.State.{State}
 use Rattle.rules.specs.Reference.{Ref, reference}
 use Rattle.rules.specs.Step.{Refs, with_ref, references}
-use Rattle.rules.proofs.Laws.Theory.{All, empty as none_left}
-use Rattle.rules.proofs.Laws.Set.{union_assoc}
-use Rattle.rules.proofs.Laws.Rising.{or_cases}
-use Rattle.rules.proofs.Laws.Out.{then_then}
-use Rattle.rules.proofs.Laws.Store.{then_ok, then_refuse}
+use Rattle.rules.specs.Laws.Theory.{All, empty as none_left}
+use Rattle.rules.specs.Laws.Set.{union_assoc}
+use Rattle.rules.specs.Laws.Rising.{or_cases}
+use Rattle.rules.specs.Laws.Out.{then_then}
+use Rattle.rules.specs.Laws.Store.{then_ok, then_refuse}
 use Rattle.terms.specs.Table.{args_of}
 use Rattle.terms.specs.Laws.Patterns.{before}
 use Rattle.state.specs.Members.{Under, has_under}

@@ -16,8 +16,8 @@ use Rattle.rules.specs.Store.{Made}
 use Rattle.rules.specs.State.{State}
 use Rattle.rules.specs.Reference.{reference}
 use Rattle.rules.specs.Step.{Refs, no_refs, references}
-use Rattle.rules.proofs.Laws.Theory.{All}
-use Rattle.rules.proofs.Laws.Set.{union_empty}
+use Rattle.rules.specs.Laws.Theory.{All}
+use Rattle.rules.specs.Laws.Set.{union_empty}
 use Rattle.sexp.specs.Encode.{encodes}
 use Rattle.sexp.specs.Items.{item_at, behind}
 use Rattle.sexp.specs.ItemLaws.{More}

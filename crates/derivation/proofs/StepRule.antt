@@ -19,8 +19,8 @@ use Rattle.rules.specs.Theory.{rule}
 use Rattle.rules.specs.TheoryTables.{pattern_row, prefix, prefixes}
 use Rattle.rules.specs.State.{Fact}
 use Rattle.rules.specs.Step.{Refs, references}
-use Rattle.rules.proofs.Laws.Prefix.{prefixes_length}
-use Rattle.rules.proofs.Laws.Rising.{or_cases}
+use Rattle.rules.specs.Laws.Prefix.{prefixes_length}
+use Rattle.rules.specs.Laws.Rising.{or_cases}
 use Rattle.rules.proofs.Laws.StepWalk.{references_keeps}
 use Rattle.sexp.specs.Encode.{encodes}
 use Rattle.sexp.specs.Items.{item_of, place}

@@ -14,11 +14,11 @@ use Rattle.rules.specs.State.{State, hyp_vars}
 use Rattle.rules.specs.Match.{match_all}
 use Rattle.rules.specs.Reference.{outside, scoped}
 use Rattle.rules.specs.Step.{Items, no_items, match_stated}
-use Rattle.rules.proofs.Laws.Keeping.{Each, Invariant, Keeps, fine, stays, each_on, by_then, by_found}
-use Rattle.rules.proofs.Laws.MakingWalk.{Known}
-use Rattle.rules.proofs.Laws.ReadWalk.{Ready}
+use Rattle.rules.specs.Laws.Keeping.{Each, Invariant, Keeps, fine, stays, each_on, by_then, by_found}
+use Rattle.rules.specs.Laws.Ready.{Known}
+use Rattle.rules.specs.Laws.Ready.{Ready}
 use Rattle.rules.proofs.Laws.StepWalk.{ItemsIn, no_items_in, read_items_keeps, conclude_keeps, match_bounded}
-use Rattle.rules.proofs.Laws.Made.{sound}
+use Rattle.rules.specs.Laws.Sound.{sound}
 use Rattle.sexp.specs.Encode.{encodes}
 use Rattle.sexp.specs.Items.{place}
 use Rattle.sexp.specs.NthItem.{place_high, rest_holds}

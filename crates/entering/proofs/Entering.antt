@@ -16,12 +16,12 @@ use Rattle.rules.specs.Step.{step}
 use Rattle.rules.specs.Apply.{apply}
 use Rattle.rules.specs.Induct.{induct, induct_with}
 use Rattle.rules.specs.Forms.{with_made, making, add_fact, add_step, add_apply, add_induct, add_induct_with, some_instances}
-use Rattle.rules.proofs.Laws.Keeping.{Each, Keeps}
-use Rattle.rules.proofs.Laws.Made.{sound}
+use Rattle.rules.specs.Laws.Keeping.{Each, Keeps}
+use Rattle.rules.specs.Laws.Sound.{sound}
 use Rattle.rules.proofs.Laws.MadeActions.{step_sound, apply_sound, induct_sound, induct_with_sound}
-use Rattle.rules.proofs.Laws.Out.{Ok, of_ok}
-use Rattle.rules.proofs.Laws.ReadWalk.{Ready, FactIn}
-use Rattle.rules.proofs.Laws.Shape.{DerivedIn, derived as derived_shape, step_shape, apply_shape, induct_shape, induct_with_shape}
+use Rattle.rules.specs.Laws.Out.{Ok, of_ok}
+use Rattle.rules.specs.Laws.Ready.{Ready, FactIn}
+use Rattle.rules.specs.Laws.Shape.{DerivedIn, derived as derived_shape, step_shape, apply_shape, induct_shape, induct_with_shape}
 use Rattle.terms.specs.declared.store.Mark.{Mark}
 use Rattle.terms.specs.Table.{made, tree, Good}
 use Rattle.terms.specs.Sets.{holds}
@@ -37,7 +37,7 @@ use Rattle.state.specs.Recording.{valid_of, valid_more, DerivedPut}
 use Rattle.state.specs.Adding.{put_ok, put_full}
 use Rattle.state.specs.FactLaws.{facts_tabled, footings_tabled, entries_fit}
 use Rattle.state.specs.RowTables.{tabled_long}
-use Rattle.rules.proofs.Laws.Row.{length_filled}
+use Rattle.rules.specs.Laws.Row.{length_filled}
 use Rattle.entering.specs.declared.derive.Entered.{Entered}
 use Rattle.entering.specs.declared.derive.Entered.TheVariants as entered_as
 use Rattle.referring.specs.declared.derived.Derived.{Derived}

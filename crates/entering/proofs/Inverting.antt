@@ -14,11 +14,11 @@ use Rattle.rules.specs.Forms.{with_made, with_vars, making, add_fact, add_invert
 use Rattle.rules.specs.TheoryTables.{filled}
 use Rattle.rules.specs.StateTables.{var_cells}
 use Rattle.rules.proofs.Laws.Appends.{Behind}
-use Rattle.rules.proofs.Laws.Made.{sound}
+use Rattle.rules.specs.Laws.Sound.{sound}
 use Rattle.rules.proofs.Laws.MadeActions.{invert_sound}
-use Rattle.rules.proofs.Laws.Out.{of_ok}
-use Rattle.rules.proofs.Laws.ReadWalk.{Ready}
-use Rattle.rules.proofs.Laws.Shape.{invert_shape}
+use Rattle.rules.specs.Laws.Out.{of_ok}
+use Rattle.rules.specs.Laws.Ready.{Ready}
+use Rattle.rules.specs.Laws.Shape.{invert_shape}
 use Rattle.terms.specs.declared.store.Mark.{Mark}
 use Rattle.terms.specs.Table.{made, tree}
 use Rattle.state.specs.declared.sizes.Sizes.{Sizes}

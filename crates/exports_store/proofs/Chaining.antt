@@ -10,7 +10,7 @@ use Rattle.rules.specs.Limits.{TERMS}
 use Rattle.rules.specs.Out.{Out, ok, refuse, then}
 use Rattle.rules.specs.Tree.{Tree, var, app, none, more}
 use Rattle.rules.specs.Store.{Made, keep}
-use Rattle.rules.proofs.Laws.Store.{number_of_lem}
+use Rattle.rules.specs.Laws.Store.{number_of_lem}
 use Rattle.terms.specs.declared.store.Mark.{Mark}
 use Rattle.terms.specs.declared.store.Kept.{Kept}
 use Rattle.terms.specs.declared.store.Kept.TheVariants.{Term, Full}

@@ -16,10 +16,10 @@ use Rattle.rules.specs.Store.{Made}
 use Rattle.rules.specs.State.{State, Fact, fact_entries, entries}
 use Rattle.rules.specs.Forms.{with_made, add_fact, hypothesis, one_hypothesis}
 use Rattle.rules.specs.StateTables.{numbers}
-use Rattle.rules.proofs.Laws.Theory.{All}
-use Rattle.rules.proofs.Laws.Keeping.{Each}
-use Rattle.rules.proofs.Laws.Made.{sound}
-use Rattle.rules.proofs.Laws.Shape.{stated}
+use Rattle.rules.specs.Laws.Theory.{All}
+use Rattle.rules.specs.Laws.Keeping.{Each}
+use Rattle.rules.specs.Laws.Sound.{sound}
+use Rattle.rules.specs.Laws.Shape.{stated}
 use Rattle.terms.specs.declared.store.Mark.{Mark}
 use Rattle.terms.specs.Table.{made, tree}
 use Rattle.terms.specs.Laws.Numbers.{tree_number, tree_stored}

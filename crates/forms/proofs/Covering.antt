@@ -19,10 +19,10 @@ use Rattle.rules.specs.Store.{Made, number}
 use Rattle.rules.specs.State.{State, Fact, is_plain}
 use Rattle.rules.specs.Forms.{listed}
 use Rattle.rules.specs.StateTables.{numbers}
-use Rattle.rules.proofs.Laws.Theory.{All, all_at}
-use Rattle.rules.proofs.Laws.Tree.{same_self, not_same}
-use Rattle.rules.proofs.Laws.Keeping.{Each}
-use Rattle.rules.proofs.Laws.Made.{In, sound}
+use Rattle.rules.specs.Laws.Theory.{All, all_at}
+use Rattle.rules.specs.Laws.Tree.{same_self, not_same}
+use Rattle.rules.specs.Laws.Keeping.{Each}
+use Rattle.rules.specs.Laws.Sound.{In, sound}
 use Rattle.terms.specs.Sets.{holds}
 use Rattle.state.specs.declared.sizes.Sizes.{Sizes}
 use Rattle.state.specs.declared.facts.Span.{Span}

@@ -14,7 +14,7 @@ use Rattle.rules.specs.Tree.{Tree, Trees, count_trees}
 use Rattle.rules.specs.Forms.{add_goal, goal}
 use Rattle.rules.specs.TheoryTables.{filled}
 use Rattle.rules.specs.StateTables.{numbers}
-use Rattle.rules.proofs.Laws.Row.{filled_fits}
+use Rattle.rules.specs.Laws.Row.{filled_fits}
 use Rattle.terms.specs.declared.store.Mark.{Mark}
 use Rattle.terms.specs.Table.{made}
 use Rattle.state.specs.declared.sizes.Sizes.{Sizes}

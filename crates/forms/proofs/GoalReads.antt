@@ -16,8 +16,8 @@ use Rattle.rules.specs.Read.{judgment, judgments}
 use Rattle.rules.specs.Forms.{with_made, making, add_goal, goal}
 use Rattle.rules.specs.TheoryTables.{filled}
 use Rattle.rules.specs.StateTables.{numbers}
-use Rattle.rules.proofs.Laws.Keeping.{Each, Grows, each_on}
-use Rattle.rules.proofs.Laws.Made.{sound}
+use Rattle.rules.specs.Laws.Keeping.{Each, Grows, each_on}
+use Rattle.rules.specs.Laws.Sound.{sound}
 use Rattle.rules.proofs.Laws.ReadWalk.{judgment_keeps, judgments_keeps}
 use Rattle.sexp.specs.Encode.{encodes}
 use Rattle.sexp.specs.Items.{place}

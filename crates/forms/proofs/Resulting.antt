@@ -19,7 +19,7 @@ use Rattle.rules.specs.Store.{Made}
 use Rattle.rules.specs.State.{State, Goal, goal_named}
 use Rattle.rules.specs.Reference.{Ref, reference}
 use Rattle.rules.specs.Forms.{with_made, with_goals, making, listed, taken_goal, result}
-use Rattle.rules.proofs.Laws.Find.{first_some}
+use Rattle.rules.specs.Laws.Find.{first_some}
 use Rattle.rules.proofs.Laws.ReadWalk.{reference_keeps}
 use Rattle.sexp.specs.Encode.{encodes}
 use Rattle.sexp.specs.Items.{item_of, place}

@@ -12,8 +12,8 @@ use Rattle.rules.specs.State.{State}
 use Rattle.rules.specs.Read.{judgment, judgments, vars_list}
 use Rattle.rules.specs.Forms.{with_made, making, add_fact, hypothesis, one_hypothesis, add_hyp, add_rule_hyp}
 use Rattle.rules.specs.TheoryTables.{filled}
-use Rattle.rules.proofs.Laws.Keeping.{Each, each_on}
-use Rattle.rules.proofs.Laws.Made.{sound}
+use Rattle.rules.specs.Laws.Keeping.{Each, each_on}
+use Rattle.rules.specs.Laws.Sound.{sound}
 use Rattle.rules.proofs.Laws.ReadWalk.{judgment_keeps, judgments_keeps}
 use Rattle.sexp.specs.Encode.{encodes}
 use Rattle.sexp.specs.Items.{place}

@@ -15,9 +15,9 @@ use Rattle.rules.specs.State.{State}
 use Rattle.rules.specs.Read.{judgment}
 use Rattle.rules.specs.Forms.{add_hyp, add_rule_hyp}
 use Rattle.rules.specs.StateTables.{numbers}
-use Rattle.rules.proofs.Laws.Theory.{empty}
-use Rattle.rules.proofs.Laws.Row.{length_filled}
-use Rattle.rules.proofs.Laws.Keeping.{Each}
+use Rattle.rules.specs.Laws.Theory.{empty}
+use Rattle.rules.specs.Laws.Row.{length_filled}
+use Rattle.rules.specs.Laws.Keeping.{Each}
 use Rattle.sexp.specs.Encode.{encodes}
 use Rattle.sexp.specs.Items.{place}
 use Rattle.terms.specs.declared.store.Mark.{Mark}

@@ -18,7 +18,7 @@ use Rattle.rules.specs.Theory.{Theory, no_name, sort_named, constructor_named, p
 use Rattle.rules.specs.Declare.{is_new}
 use Rattle.rules.specs.State.{State, Var, var_named}
 use Rattle.rules.specs.Forms.{with_vars, add_var}
-use Rattle.rules.proofs.Laws.Find.{first_some}
+use Rattle.rules.specs.Laws.Find.{first_some}
 use Rattle.sexp.specs.Encode.{encodes}
 use Rattle.sexp.specs.Items.{item_of, place}
 use Rattle.sexp.specs.NameRows.{found_of}

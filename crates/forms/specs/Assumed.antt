@@ -9,8 +9,8 @@ use Rattle.rules.specs.State.{State, Fact}
 use Rattle.rules.specs.Forms.{with_made, add_fact, hypothesis, one_hypothesis, plus}
 use Rattle.rules.specs.TheoryTables.{filled}
 use Rattle.rules.specs.StateTables.{numbers}
-use Rattle.rules.proofs.Laws.Keeping.{Each}
-use Rattle.rules.proofs.Laws.Made.{sound}
+use Rattle.rules.specs.Laws.Keeping.{Each}
+use Rattle.rules.specs.Laws.Sound.{sound}
 use Rattle.sexp.specs.Items.{Holds}
 use Rattle.terms.specs.declared.store.Mark.{Mark}
 use Rattle.terms.specs.Table.{made, tree}

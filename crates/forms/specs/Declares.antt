@@ -7,7 +7,7 @@ use Rattle.rules.specs.Sexp.{Sexps, count}
 use Rattle.rules.specs.Store.{number}
 use Rattle.rules.specs.State.{State, Var, Def}
 use Rattle.rules.specs.Forms.{with_made, with_vars, with_defs}
-use Rattle.rules.proofs.Laws.Made.{In}
+use Rattle.rules.specs.Laws.Sound.{In}
 use Rattle.sexp.specs.Items.{Holds}
 use Rattle.sexp.specs.NameRows.{NameIn}
 use Rattle.kernel.specs.Held.{SortsHeld, SymbolsHeld}

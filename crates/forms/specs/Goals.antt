@@ -10,8 +10,8 @@ use Rattle.rules.specs.State.{State, Goal, entries}
 use Rattle.rules.specs.Forms.{with_made, with_goals, add_goal}
 use Rattle.rules.specs.TheoryTables.{filled}
 use Rattle.rules.specs.StateTables.{numbers}
-use Rattle.rules.proofs.Laws.Keeping.{Each}
-use Rattle.rules.proofs.Laws.Made.{sound}
+use Rattle.rules.specs.Laws.Keeping.{Each}
+use Rattle.rules.specs.Laws.Sound.{sound}
 use Rattle.sexp.specs.Items.{Holds}
 use Rattle.sexp.specs.NameRows.{NameIn}
 use Rattle.terms.specs.declared.store.Mark.{Mark}

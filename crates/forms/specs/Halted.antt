@@ -4,8 +4,8 @@ use Rattle.rules.specs.Out.{Out, refuse}
 use Rattle.rules.specs.Sexp.{Sexps, count}
 use Rattle.rules.specs.State.{State}
 use Rattle.rules.specs.Forms.{with_made}
-use Rattle.rules.proofs.Laws.Keeping.{Grows}
-use Rattle.rules.proofs.Laws.Made.{sound}
+use Rattle.rules.specs.Laws.Keeping.{Grows}
+use Rattle.rules.specs.Laws.Sound.{sound}
 use Rattle.sexp.specs.Items.{Holds}
 use Rattle.terms.specs.declared.store.Mark.{Mark}
 use Rattle.terms.specs.Table.{made, Grown}

@@ -7,7 +7,7 @@ use Rattle.rules.specs.Sexp.{Sexps, count}
 use Rattle.rules.specs.Store.{Made}
 use Rattle.rules.specs.State.{State, Goal}
 use Rattle.rules.specs.Forms.{with_made, with_goals, taken_goal}
-use Rattle.rules.proofs.Laws.Theory.{All}
+use Rattle.rules.specs.Laws.Theory.{All}
 use Rattle.sexp.specs.Items.{Holds}
 use Rattle.terms.specs.declared.store.Mark.{Mark}
 use Rattle.terms.specs.Table.{made}

@@ -15,7 +15,7 @@ use Rattle.rules.specs.Find.{every}
 use Rattle.rules.specs.Theory.{Theory, Symbol, no_symbol, constructors}
 use Rattle.rules.specs.State.{State, sort_of_var}
 use Rattle.rules.specs.Induct.{Motive, motive_vars, induct_case, induct_cases}
-use Rattle.rules.proofs.Laws.Find.{first_some}
+use Rattle.rules.specs.Laws.Find.{first_some}
 use Rattle.sexp.specs.Encode.{encodes}
 use Rattle.sexp.specs.Items.{Items, item_at, behind}
 use Rattle.sexp.specs.ItemLaws.{More}

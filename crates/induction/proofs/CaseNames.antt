@@ -18,7 +18,7 @@ use Rattle.rules.specs.Find.{Set, has}
 use Rattle.rules.specs.Store.{Made}
 use Rattle.rules.specs.State.{State, Var, no_var, var_named, sort_of_var}
 use Rattle.rules.specs.Induct.{Motive, motive_vars, case_vars}
-use Rattle.rules.proofs.Laws.Find.{first_some}
+use Rattle.rules.specs.Laws.Find.{first_some}
 use Rattle.sexp.specs.Items.{Holds, item_at, behind}
 use Rattle.sexp.specs.ItemLaws.{More, At, at_next, item_here, behind_item, some_cells}
 use Rattle.sexp.specs.Encode.{encode}

@@ -17,8 +17,8 @@ use Rattle.rules.specs.Store.{Made, keep, substitute, substitutes}
 use Rattle.rules.specs.Theory.{Theory, no_symbol, inputs}
 use Rattle.rules.specs.State.{State}
 use Rattle.rules.specs.Induct.{Motive, motive_vars, Hyp, case_vars, keep_vars, hypotheses, induct_case}
-use Rattle.rules.proofs.Laws.Out.{then_then}
-use Rattle.rules.proofs.Laws.Theory.{all_at}
+use Rattle.rules.specs.Laws.Out.{then_then}
+use Rattle.rules.specs.Laws.Theory.{all_at}
 use Rattle.sexp.specs.Encode.{encodes}
 use Rattle.sexp.specs.Items.{Holds, Items, item_at, behind}
 use Rattle.sexp.specs.ItemLaws.{More, at_inside}

@@ -11,7 +11,7 @@ use Rattle.rules.specs.Out.{Out, ok, then, Act}
 use Rattle.rules.specs.Tree.{Tree, Trees, var, app, none, more, single}
 use Rattle.rules.specs.Store.{Made, keep}
 use Rattle.rules.specs.Induct.{Hyp, keep_vars, hypothesis_at}
-use Rattle.rules.proofs.Laws.Out.{then_then}
+use Rattle.rules.specs.Laws.Out.{then_then}
 use Rattle.terms.specs.declared.store.Mark.{Mark}
 use Rattle.terms.specs.declared.store.Kept.{Kept}
 use Rattle.terms.specs.declared.store.Kept.TheVariants.{Term, Full}

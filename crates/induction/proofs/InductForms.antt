@@ -18,9 +18,9 @@ use Rattle.rules.specs.State.{State, Fact, sort_of_var}
 use Rattle.rules.specs.Read.{judgment}
 use Rattle.rules.specs.Reference.{judgments_at}
 use Rattle.rules.specs.Induct.{Motive, motive_vars, induct_cases, induct_on}
-use Rattle.rules.proofs.Laws.Out.{then_then}
-use Rattle.rules.proofs.Laws.Theory.{All}
-use Rattle.rules.proofs.Laws.Rising.{rising_all_of}
+use Rattle.rules.specs.Laws.Out.{then_then}
+use Rattle.rules.specs.Laws.Theory.{All}
+use Rattle.rules.specs.Laws.Rising.{rising_all_of}
 use Rattle.sexp.specs.Items.{item_at, behind}
 use Rattle.sexp.specs.ItemLaws.{at_inside}
 use Rattle.sexp.specs.WalkLaws.{Walk, ListIs, walk_start, walk_atom, walk_list}

@@ -14,9 +14,9 @@ use Rattle.rules.specs.Store.{Made}
 use Rattle.rules.specs.State.{State, Fact, Var, is_plain}
 use Rattle.rules.specs.Reference.{hyp_each, hyp_list}
 use Rattle.rules.specs.Induct.{induct_on, induct, induct_with}
-use Rattle.rules.proofs.Laws.Sexp.{rest_item}
-use Rattle.rules.proofs.Laws.Theory.{All}
-use Rattle.rules.proofs.Laws.Rising.{rising_rises, rising_all_of, has_all}
+use Rattle.rules.specs.Laws.Sexp.{rest_item}
+use Rattle.rules.specs.Laws.Theory.{All}
+use Rattle.rules.specs.Laws.Rising.{rising_rises, rising_all_of, has_all}
 use Rattle.sexp.specs.Encode.{encodes}
 use Rattle.sexp.specs.Items.{Holds, Items, item_at, behind, place}
 use Rattle.sexp.specs.ItemLaws.{at_inside}

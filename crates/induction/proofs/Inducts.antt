@@ -16,8 +16,8 @@ use Rattle.rules.specs.Store.{Made}
 use Rattle.rules.specs.State.{State}
 use Rattle.rules.specs.Reference.{judgment_of, judgments_at}
 use Rattle.rules.specs.Induct.{motive_vars}
-use Rattle.rules.proofs.Laws.Theory.{All, both, all_at}
-use Rattle.rules.proofs.Laws.Rising.{rising_all_of}
+use Rattle.rules.specs.Laws.Theory.{All, both, all_at}
+use Rattle.rules.specs.Laws.Rising.{rising_all_of}
 use Rattle.terms.specs.declared.store.Mark.{Mark}
 use Rattle.terms.specs.Table.{made, tree, args_of, Good}
 use Rattle.terms.specs.Collect.{Seen, Readable, Visited}

@@ -15,7 +15,7 @@ use Rattle.rules.specs.Limits.{VARIABLES, TERMS}
 use Rattle.rules.specs.Out.{Out, ok, then, Act}
 use Rattle.rules.specs.Store.{Made}
 use Rattle.rules.specs.Induct.{Hyp, Motive, hypothesis_at, hypotheses}
-use Rattle.rules.proofs.Laws.Out.{then_then}
+use Rattle.rules.specs.Laws.Out.{then_then}
 use Rattle.terms.specs.declared.store.Mark.{Mark}
 use Rattle.terms.specs.Table.{made, Grown}
 use Rattle.terms.specs.On.{Stopped, On, on_start, on_is, on_ok, on_no, on_done}

@@ -17,12 +17,12 @@ use Rattle.rules.specs.Theory.{Theory, RuleVar, rule}
 use Rattle.rules.specs.State.{Var}
 use Rattle.rules.specs.TheoryTables.{filled}
 use Rattle.rules.specs.Invert.{Case, suit}
-use Rattle.rules.proofs.Laws.Theory.{all_at}
+use Rattle.rules.specs.Laws.Theory.{all_at}
 use Rattle.sexp.specs.Never.{never}
 use Rattle.sexp.specs.WalkLaws.{walk_rest}
 use Rattle.terms.specs.Sets.{holds}
 use Rattle.state.specs.Held.{VarCells}
-use Rattle.rules.proofs.Laws.Row.{filled_fits}
+use Rattle.rules.specs.Laws.Row.{filled_fits}
 use Rattle.state.specs.Filled.{filled_front}
 use Rattle.reading.specs.Given.{VarsItem}
 use Rattle.reading.specs.Laws.Lists.{Listing, vars_listed, listing_few}

@@ -19,15 +19,15 @@ use Rattle.rules.specs.State.{State, Var, Fact, is_plain}
 use Rattle.rules.specs.Read.{judgment}
 use Rattle.rules.specs.Reference.{fact_at, hyp_each, hyp_list}
 use Rattle.rules.specs.Invert.{read_cases, predicate_of, invert_rules, invert}
-use Rattle.rules.proofs.Laws.Out.{then_then}
-use Rattle.rules.proofs.Laws.Sexp.{rest_item}
-use Rattle.rules.proofs.Laws.Theory.{All, both, all_at, all_map}
-use Rattle.rules.proofs.Laws.Keeping.{Each}
-use Rattle.rules.proofs.Laws.Made.{In, sound}
-use Rattle.rules.proofs.Laws.Rising.{rising_rises, rising_all_of, has_all}
+use Rattle.rules.specs.Laws.Out.{then_then}
+use Rattle.rules.specs.Laws.Sexp.{rest_item}
+use Rattle.rules.specs.Laws.Theory.{All, both, all_at, all_map}
+use Rattle.rules.specs.Laws.Keeping.{Each}
+use Rattle.rules.specs.Laws.Sound.{In, sound}
+use Rattle.rules.specs.Laws.Rising.{rising_rises, rising_all_of, has_all}
 use Rattle.rules.proofs.Laws.Below.{Below, Belows, MadeBelow, Leaves, fine, Bounds}
 use Rattle.rules.proofs.Laws.BelowRead.{StateBelow, judgment_below}
-use Rattle.rules.proofs.Laws.ReadWalk.{Ready}
+use Rattle.rules.specs.Laws.Ready.{Ready}
 use Rattle.sexp.specs.Encode.{encodes}
 use Rattle.sexp.specs.Items.{Holds, Items, place}
 use Rattle.sexp.specs.Never.{never}

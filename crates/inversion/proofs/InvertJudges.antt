@@ -15,7 +15,7 @@ use Rattle.rules.specs.Store.{Made, substitute}
 use Rattle.rules.specs.Unify.{Binding, along}
 use Rattle.rules.specs.Theory.{Theory, rule}
 use Rattle.rules.specs.Invert.{Allowed, renaming, rule_premises, context_facts}
-use Rattle.rules.proofs.Laws.Theory.{all_at}
+use Rattle.rules.specs.Laws.Theory.{all_at}
 use Rattle.terms.specs.declared.store.Mark.{Mark}
 use Rattle.unification.specs.declared.unify.Unified.{Unified}
 use Rattle.unification.specs.declared.unify.Unified.TheVariants as unified

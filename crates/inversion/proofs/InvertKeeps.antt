@@ -14,7 +14,7 @@ use Rattle.rules.specs.Tree.{Tree, Trees, var, none, more}
 use Rattle.rules.specs.Store.{Made, keep}
 use Rattle.rules.specs.Induct.{keep_vars}
 use Rattle.rules.specs.Invert.{renaming}
-use Rattle.rules.proofs.Laws.Out.{then_then}
+use Rattle.rules.specs.Laws.Out.{then_then}
 use Rattle.terms.specs.declared.store.Mark.{Mark}
 use Rattle.terms.specs.declared.store.Kept.{Kept}
 use Rattle.terms.specs.declared.store.Kept.TheVariants.{Term, Full}

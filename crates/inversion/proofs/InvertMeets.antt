@@ -15,8 +15,8 @@ use Rattle.rules.specs.Match.{build}
 use Rattle.rules.specs.Unify.{Binding, unify}
 use Rattle.rules.specs.Theory.{Rule, rule}
 use Rattle.rules.specs.Invert.{renaming}
-use Rattle.rules.proofs.Laws.Theory.{All, empty, both, RuleFormed}
-use Rattle.rules.proofs.Laws.Build.{Makes, made as makes_it, full as makes_not, make_makes}
+use Rattle.rules.specs.Laws.Theory.{All, empty, both, RuleFormed}
+use Rattle.rules.specs.Laws.Build.{Makes, made as makes_it, full as makes_not, make_makes}
 use Rattle.rules.proofs.Laws.Below.{Below, below_variables}
 use Rattle.rules.proofs.Laws.BelowCases.{pattern_below, conclusion_below}
 use Rattle.sexp.specs.Never.{never}

@@ -13,8 +13,8 @@ use Rattle.rules.specs.Out.{refuse, room}
 use Rattle.rules.specs.Store.{Made}
 use Rattle.rules.specs.State.{Var}
 use Rattle.rules.specs.Invert.{make_vars, up_from}
-use Rattle.rules.proofs.Laws.Store.{then_ok, then_refuse}
-use Rattle.rules.proofs.Laws.Theory.{all_at}
+use Rattle.rules.specs.Laws.Store.{then_ok, then_refuse}
+use Rattle.rules.specs.Laws.Theory.{all_at}
 use Rattle.rules.specs.Theory.{Theory, RuleVar, no_name, rule}
 use Rattle.state.specs.Held.{VarsHeld}
 use Rattle.state.specs.VarLaws.{vars_made}

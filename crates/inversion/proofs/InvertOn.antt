@@ -13,8 +13,8 @@ use Rattle.rules.specs.Store.{Made}
 use Rattle.rules.specs.Theory.{rules_of}
 use Rattle.rules.specs.State.{State, Var}
 use Rattle.rules.specs.Invert.{Inversion, Names, read_cases, taken_vars, predicate_of, invert_rules}
-use Rattle.rules.proofs.Laws.Theory.{all_at}
-use Rattle.rules.proofs.Laws.Rising.{rising_all_of}
+use Rattle.rules.specs.Laws.Theory.{all_at}
+use Rattle.rules.specs.Laws.Rising.{rising_all_of}
 use Rattle.sexp.specs.Encode.{encodes}
 use Rattle.sexp.specs.Items.{Items, Reaches, item_of, place}
 use Rattle.sexp.specs.NthItem.{has_items, reaches, nth_text, nth_part}

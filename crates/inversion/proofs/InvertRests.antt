@@ -19,9 +19,9 @@ use Rattle.rules.specs.Store.{Made, number}
 use Rattle.rules.specs.State.{State, Fact, is_none, is_empty, is_plain}
 use Rattle.rules.specs.Reference.{fact_at}
 use Rattle.rules.specs.Invert.{Allowed, is_allowed, allowed_in}
-use Rattle.rules.proofs.Laws.Theory.{All, empty, both}
-use Rattle.rules.proofs.Laws.Tree.{same_self, not_same}
-use Rattle.rules.proofs.Laws.Store.{Apart}
+use Rattle.rules.specs.Laws.Theory.{All, empty, both}
+use Rattle.rules.specs.Laws.Tree.{same_self, not_same}
+use Rattle.rules.specs.Laws.Store.{Apart}
 use Rattle.terms.specs.declared.store.Mark.{Mark}
 use Rattle.terms.specs.Table.{made, Grown}
 use Rattle.terms.specs.Sets.{holds}

@@ -13,7 +13,7 @@ use Rattle.rules.specs.Store.{Made}
 use Rattle.rules.specs.Theory.{Theory, Rule, no_rule, head_is, rule, rules_of}
 use Rattle.rules.specs.State.{State}
 use Rattle.rules.specs.Invert.{Inversion, Names, taken_vars, predicate_of, invert_rule, invert_rules}
-use Rattle.rules.proofs.Laws.Find.{first_some}
+use Rattle.rules.specs.Laws.Find.{first_some}
 use Rattle.sexp.specs.NameRows.{found_of}
 use Rattle.sexp.specs.FoundLaws.{found_at, found_missing}
 use Rattle.sexp.specs.declared.names.Found.{Found}

@@ -12,7 +12,7 @@ use Rattle.rules.specs.Find.{all, has}
 use Rattle.rules.specs.Sexp.{item}
 use Rattle.rules.specs.Theory.{Theory, Rule, rule}
 use Rattle.rules.specs.Invert.{Case, case_named, suit, taken_vars, invert_rule}
-use Rattle.rules.proofs.Laws.Theory.{RuleFormed, all_at, all_map}
+use Rattle.rules.specs.Laws.Theory.{RuleFormed, all_at, all_map}
 use Rattle.rules.proofs.Laws.Below.{Below, below_up}
 use Rattle.sexp.specs.AtomText.{Spans, spans_low, spans_high, spans_part}
 use Rattle.sexp.specs.declared.names.Found.{Found}

@@ -13,7 +13,7 @@ use Rattle.rules.specs.Find.{Set, empty, union}
 use Rattle.rules.specs.Tree.{variables}
 use Rattle.rules.specs.State.{Fact, mentioned}
 use Rattle.rules.specs.Invert.{Inversion, mentioned_at, context_vars, taken_vars}
-use Rattle.rules.proofs.Laws.Set.{union_assoc, union_empty}
+use Rattle.rules.specs.Laws.Set.{union_assoc, union_empty}
 use Rattle.terms.specs.declared.store.Mark.{Mark}
 use Rattle.terms.specs.Table.{tree, Good}
 use Rattle.terms.specs.Sets.{holds}

@@ -14,10 +14,10 @@ use Rattle.rules.specs.Theory.{Rule}
 use Rattle.rules.specs.State.{State, Var}
 use Rattle.rules.specs.Induct.{keep_vars}
 use Rattle.rules.specs.Invert.{Case, Inversion, Names, case_named, suit, make_vars, up_from, taken_vars, renamed, renaming, invert_case, case_or_not, invert_rule}
-use Rattle.rules.proofs.Laws.Out.{then_then}
-use Rattle.rules.proofs.Laws.Store.{then_ok, then_refuse}
-use Rattle.rules.proofs.Laws.Set.{union_assoc}
-use Rattle.rules.proofs.Laws.Members.{has_append}
+use Rattle.rules.specs.Laws.Out.{then_then}
+use Rattle.rules.specs.Laws.Store.{then_ok, then_refuse}
+use Rattle.rules.specs.Laws.Set.{union_assoc}
+use Rattle.rules.specs.Laws.Members.{has_append}
 use Rattle.inversion.specs.InvertRules.{meets, lacks, judges, has_case}
 
 module _ (S : State) (Y : Inversion) (R : Rule) where

@@ -14,9 +14,9 @@ use Rattle.rules.specs.Find.{Set, entry, all}
 use Rattle.rules.specs.Tree.{Tree, var, same_tree}
 use Rattle.rules.specs.Store.{Made}
 use Rattle.rules.specs.State.{Fact}
-use Rattle.rules.proofs.Laws.Theory.{all_at}
-use Rattle.rules.proofs.Laws.Tree.{same_self, not_same}
-use Rattle.rules.proofs.Laws.Store.{Apart}
+use Rattle.rules.specs.Laws.Theory.{all_at}
+use Rattle.rules.specs.Laws.Tree.{same_self, not_same}
+use Rattle.rules.specs.Laws.Store.{Apart}
 use Rattle.state.specs.declared.sizes.Sizes.{Sizes}
 use Rattle.state.specs.declared.facts.Span.{Span}
 use Rattle.state.specs.Held.{records}

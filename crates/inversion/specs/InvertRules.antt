@@ -14,7 +14,7 @@ use Rattle.rules.specs.State.{State, Var}
 use Rattle.rules.specs.Induct.{keep_vars}
 use Rattle.rules.specs.Invert.{Case, Inversion, Names, suit, make_vars, up_from, renaming, taken_vars, rule_premises, context_facts, allowed_in}
 use Rattle.rules.specs.Reference.{fact_at}
-use Rattle.rules.proofs.Laws.Theory.{All}
+use Rattle.rules.specs.Laws.Theory.{All}
 use Rattle.rules.proofs.Laws.Below.{Below}
 use Rattle.sexp.specs.Items.{Holds}
 use Rattle.sexp.specs.WalkLaws.{Walk}

@@ -10,14 +10,14 @@ use native.Mathlib.Nat.{zero-add, zero-sub, sub-zero, suc-sub-suc}
 use lib.Seq.{sets, sets-eq}
 use Rattle.rules.specs.Limits.{ARGUMENTS, SORTS}
 use Rattle.rules.specs.Text.{same}
-use Rattle.rules.proofs.Laws.Find.{first_some}
+use Rattle.rules.specs.Laws.Find.{first_some}
 use Rattle.rules.specs.Out.{ok, refuse, then}
 use Rattle.rules.specs.Sexp.{Sexp, Sexps, item, Name}
 use Rattle.rules.specs.Theory.{Theory, no_name}
 use Rattle.rules.specs.Declare.{sorts}
 use Rattle.rules.specs.TheoryTables.{filled}
-use Rattle.rules.proofs.Laws.Row.{filled_fits}
-use Rattle.rules.proofs.Laws.Declaring.{proper, sort_of, sort_of_name, sorts_none, sorts_unknown, sorts_full, sorts_more, arguments_of}
+use Rattle.rules.specs.Laws.Row.{filled_fits}
+use Rattle.rules.specs.Laws.Declaring.{proper, sort_of, sort_of_name, sorts_none, sorts_unknown, sorts_full, sorts_more, arguments_of}
 use Rattle.sexp.specs.Items.{Holds, item_of}
 use Rattle.sexp.specs.Spelt.{Spelt}
 use Rattle.sexp.specs.WalkLaws.{ListIs, AtomIs}

@@ -9,9 +9,9 @@ use borrow.Author.Tests.{lt-ltb, le-ltb}
 use Rattle.rules.specs.Limits.{SYMBOLS, ARGUMENTS}
 use Rattle.rules.specs.Tree.{Tree, Trees, var, app, none, more, count_trees}
 use Rattle.rules.specs.Theory.{Theory, RuleVar, no_symbol, no_rule, inputs, rule}
-use Rattle.rules.proofs.Laws.Theory.{Sorted, Sorteds, Judgment, Judgments, WellFormed, all_at}
+use Rattle.rules.specs.Laws.Theory.{Sorted, Sorteds, Judgment, Judgments, WellFormed, all_at}
 use Rattle.rules.specs.TheoryTables.{prefix, prefixes, pattern_row, pattern_cells}
-use Rattle.rules.proofs.Laws.Row.{append_assoc}
+use Rattle.rules.specs.Laws.Row.{append_assoc}
 use Rattle.kernel.specs.Held.{SymbolsHeld}
 use Rattle.kernel.specs.HeldRules.{RulesHeld}
 use Rattle.kernel.specs.Readers.{KnownRule, KnownWord, arguments_behind, WordsAt, FormedRules, KnownFormedRule, conclusion_at}

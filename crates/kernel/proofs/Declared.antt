@@ -13,7 +13,7 @@ use Rattle.rules.specs.Out.{Out, refuse}
 use Rattle.rules.specs.Sexp.{Sexp, Sexps, item, Name}
 use Rattle.rules.specs.Theory.{Theory, Symbol, constructor_named, predicate_named}
 use Rattle.rules.specs.Declare.{add_ctor, add_pred, add_symbol}
-use Rattle.rules.proofs.Laws.Declaring.{sort_of, arguments_of, constructor_of, ctor_arguments, pred_arguments, ctor_unsorted, ctor_twice, ctor_new, pred_twice, pred_new}
+use Rattle.rules.specs.Laws.Declaring.{sort_of, arguments_of, constructor_of, ctor_arguments, pred_arguments, ctor_unsorted, ctor_twice, ctor_new, pred_twice, pred_new}
 use Rattle.kernel.specs.Named.{called, of_kind}
 use Rattle.sexp.specs.NameRows.{found_of}
 use Rattle.kernel.specs.Spelled.{Reaching}

@@ -8,11 +8,11 @@ use lib.Dec.{eqb}
 use lib.ListN.{length, get_or, drop}
 use lib.Seq.{drop-drop, drop-append_seam}
 use Rattle.rules.specs.Tree.{Tree, var, app}
-use Rattle.rules.proofs.Laws.Find.{first_here, first_later, first_over}
+use Rattle.rules.specs.Laws.Find.{first_here, first_later, first_over}
 use Rattle.rules.specs.Theory.{Theory, Rule, no_rule, rule, head_is}
-use Rattle.rules.proofs.Laws.Theory.{Judgment, all_at}
+use Rattle.rules.specs.Laws.Theory.{Judgment, all_at}
 use Rattle.rules.specs.TheoryTables.{prefix, prefixes, pattern_row, pattern_cells}
-use Rattle.rules.proofs.Laws.Row.{append_assoc}
+use Rattle.rules.specs.Laws.Row.{append_assoc}
 use Rattle.sexp.specs.NameRows.{found_of}
 use Rattle.kernel.specs.Readers.{words_before, conclusion_at, FormedRules, SomeFormedRules, KnownFormedRule}
 use Rattle.kernel.specs.Entries.{formed_rule}

@@ -10,15 +10,15 @@ use lib.Seq.{drop-drop, take_all, sets, sets-eq, length-sets, take_at, take-leng
 use Rattle.rules.specs.Limits.{LENGTH, SORTS, SYMBOLS, ARGUMENTS}
 use Rattle.rules.specs.Text.{same}
 use Rattle.rules.specs.Find.{first}
-use Rattle.rules.proofs.Laws.Find.{next, first_next}
+use Rattle.rules.specs.Laws.Find.{next, first_next}
 use Rattle.rules.specs.Out.{refuse}
 use Rattle.rules.specs.Sexp.{Sexp, Sexps, item, Name}
 use Rattle.rules.specs.Theory.{Theory, Symbol, sort_named}
-use Rattle.rules.proofs.Laws.Theory.{all_snoc}
+use Rattle.rules.specs.Laws.Theory.{all_snoc}
 use Rattle.rules.specs.TheoryTables.{name_cells, rows, symbol_row, input_row}
-use Rattle.rules.proofs.Laws.Row.{append-nil, append_assoc, rows_snoc, length_filled}
+use Rattle.rules.specs.Laws.Row.{append-nil, append_assoc, rows_snoc, length_filled}
 use Rattle.rules.specs.Declare.{add_sort, add_symbol}
-use Rattle.rules.proofs.Laws.Declaring.{add_sort_known, add_sort_full, add_sort_new, add_symbol_full, add_symbol_new}
+use Rattle.rules.specs.Laws.Declaring.{add_sort_known, add_sort_full, add_sort_new, add_symbol_full, add_symbol_new}
 use Rattle.sexp.specs.NameRows.{NameIn, found_of}
 use Rattle.kernel.specs.SignatureRows.{sorts_cells, symbols_cells, inputs_cells}
 use Rattle.kernel.specs.Held.{Front, NameFits, SortsHeld, SortStored, SymbolsHeld, SymbolIs, SymbolStored}

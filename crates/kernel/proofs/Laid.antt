@@ -9,8 +9,8 @@ use Rattle.rules.specs.Limits.{SORTS, SYMBOLS, ARGUMENTS, RULES, RULEVARS, PATTE
 use Rattle.rules.specs.Sexp.{Name}
 use Rattle.rules.specs.Theory.{Theory, Symbol, Rule}
 use Rattle.rules.specs.TheoryTables.{filled, rows, name_cells, symbol_row, input_row, pattern_row, rule_var_row, rule_cells, sort_table, symbol_table, input_table, rule_table, rule_var_table, pattern_table}
-use Rattle.rules.proofs.Laws.Row.{length_rows, length_filled, filled_fits}
-use Rattle.rules.proofs.Laws.Prefix.{words_counted}
+use Rattle.rules.specs.Laws.Row.{length_rows, length_filled, filled_fits}
+use Rattle.rules.specs.Laws.Prefix.{words_counted}
 use Rattle.kernel.specs.Held.{Front}
 use Rattle.kernel.specs.Parsed.{TheoryLists, theory_lists, TheoryHeld, Roomy, Exact, CountsFit, zero_from, wiped, counts_of, theory_tables}
 use Rattle.kernel.proofs.Holding.{part_back}

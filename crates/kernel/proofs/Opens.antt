@@ -8,14 +8,14 @@ use native.Mathlib.Omega.{arith}
 use lib.ListN.{length, get_or, take, drop, set, length-set}
 use Rattle.rules.specs.Limits.{PATTERNS}
 use Rattle.rules.specs.Find.{first}
-use Rattle.rules.proofs.Laws.Find.{first_some}
+use Rattle.rules.specs.Laws.Find.{first_some}
 use Rattle.rules.specs.Lex.{letters}
 use Rattle.rules.specs.Out.{Out, ok, refuse, then}
 use Rattle.rules.specs.Sexp.{Sexps, atom, list, cons, count}
 use Rattle.rules.specs.Tree.{Tree, app}
 use Rattle.rules.specs.Theory.{Theory, Symbol, no_symbol, inputs, predicate_named}
 use Rattle.rules.specs.Declare.{Reading, word, head, pattern, patterns, predicated}
-use Rattle.rules.proofs.Laws.PatternSteps.{word_full, word_more, pattern_empty, pattern_headless, pattern_lone, pattern_asks, predicated_empty, predicated_headless, predicated_unknown, predicated_count, predicated_asks}
+use Rattle.rules.specs.Laws.PatternSteps.{word_full, word_more, pattern_empty, pattern_headless, pattern_lone, pattern_asks, predicated_empty, predicated_headless, predicated_unknown, predicated_count, predicated_asks}
 use Rattle.sexp.specs.Items.{Holds}
 use Rattle.kernel.specs.Named.{called, of_kind, SymbolRows}
 use Rattle.sexp.specs.NameRows.{found_of}

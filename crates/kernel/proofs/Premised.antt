@@ -10,9 +10,9 @@ use Rattle.rules.specs.Sexp.{Sexps, list, cons}
 use Rattle.rules.specs.Tree.{none, more}
 use Rattle.rules.specs.Theory.{Theory}
 use Rattle.rules.specs.TheoryTables.{prefix, prefixes}
-use Rattle.rules.proofs.Laws.Row.{append-nil}
+use Rattle.rules.specs.Laws.Row.{append-nil}
 use Rattle.rules.specs.Declare.{Reading, predicated, judgments}
-use Rattle.rules.proofs.Laws.PatternSteps.{judgments_none, judgments_atom, judgments_more}
+use Rattle.rules.specs.Laws.PatternSteps.{judgments_none, judgments_atom, judgments_more}
 use Rattle.sexp.specs.Items.{Holds, item_at}
 use Rattle.sexp.specs.WalkLaws.{Walk, walk_start, walk_more, walk_over, walk_atom, walk_list, past_list, list_on}
 use Rattle.sexp.specs.declared.items.Item.{Item}

@@ -12,7 +12,7 @@ use borrow.Author.Tests.{eq-eqb, ne_eqb}
 use Rattle.rules.specs.Limits.{SORTS, ARGUMENTS}
 use Rattle.rules.specs.Text.{same}
 use Rattle.rules.specs.Find.{first, every}
-use Rattle.rules.proofs.Laws.Find.{next, first_next, first_some, first_here, first_later, first_over}
+use Rattle.rules.specs.Laws.Find.{next, first_next, first_some, first_here, first_later, first_over}
 use Rattle.rules.specs.Sexp.{Name}
 use Rattle.rules.specs.Theory.{Theory, Symbol, no_symbol, output, constructors, sort_named, constructor_named, predicate_named}
 use Rattle.sexp.specs.NameRows.{NameRows, SomeNames, found_of}

@@ -8,7 +8,7 @@ use lib.Dec.{eqb}
 use lib.ListN.{length, get_or, take, drop}
 use Rattle.rules.specs.Text.{same}
 use Rattle.rules.specs.Find.{first}
-use Rattle.rules.proofs.Laws.Find.{first_here, first_later, first_over}
+use Rattle.rules.specs.Laws.Find.{first_here, first_later, first_over}
 use Rattle.rules.specs.Theory.{Symbol, no_symbol, is_predicate}
 use Rattle.sexp.specs.RowLaws.{name_bytes}
 use Rattle.kernel.specs.Named.{kind_of, of_kind, SymbolAt, SomeSymbol, SymbolRows, SomeSymbols, called}

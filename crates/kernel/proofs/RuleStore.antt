@@ -8,10 +8,10 @@ use lib.Seq.{sets, length-sets, take_at, paste, length-paste, length-take-le}
 use Rattle.rules.specs.Limits.{RULES, RULEVARS}
 use Rattle.rules.specs.Tree.{Tree, Trees, var, app, none, more, count_trees}
 use Rattle.rules.specs.Theory.{Rule}
-use Rattle.rules.proofs.Laws.Theory.{all_snoc}
+use Rattle.rules.specs.Laws.Theory.{all_snoc}
 use Rattle.rules.specs.TheoryTables.{rows, name_cells, prefix, prefixes, pattern_row, rule_var_row, rule_row, rule_cells}
-use Rattle.rules.proofs.Laws.Prefix.{words_counted}
-use Rattle.rules.proofs.Laws.Row.{append_assoc, append-nil, rows_snoc, length_rows}
+use Rattle.rules.specs.Laws.Prefix.{words_counted}
+use Rattle.rules.specs.Laws.Row.{append_assoc, append-nil, rows_snoc, length_rows}
 use Rattle.kernel.specs.Held.{Front}
 use Rattle.kernel.specs.HeldRules.{RulesHeld, RuleIs}
 use Rattle.kernel.proofs.Holding.{front_write, front_same, front_paste}

@@ -13,10 +13,10 @@ use Rattle.rules.specs.Out.{Out, refuse}
 use Rattle.rules.specs.Sexp.{Sexps, list, item, count as item_count, Name}
 use Rattle.rules.specs.Tree.{Tree, Trees, count_trees}
 use Rattle.rules.specs.Theory.{Theory, Symbol, Rule, rule_named}
-use Rattle.rules.proofs.Laws.Theory.{empty}
+use Rattle.rules.specs.Laws.Theory.{empty}
 use Rattle.rules.specs.TheoryTables.{rows, prefix, prefixes, pattern_row, rule_var_row}
 use Rattle.rules.specs.Declare.{Reading, schema, add_rule}
-use Rattle.rules.proofs.Laws.Declaring.{proper}
+use Rattle.rules.specs.Laws.Declaring.{proper}
 use Rattle.sexp.specs.Items.{Holds}
 use Rattle.sexp.specs.NameRows.{NameRows, found_of}
 use Rattle.sexp.specs.declared.names.Found.{Found}

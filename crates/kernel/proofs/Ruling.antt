@@ -12,8 +12,8 @@ use Rattle.rules.specs.Sexp.{Sexp, Sexps, atom, list, nil, cons, count, item, Na
 use Rattle.rules.specs.Tree.{Tree, Trees, none, more, count_trees}
 use Rattle.rules.specs.Theory.{Theory, Rule, rule_named, rule_words}
 use Rattle.rules.specs.Declare.{Reading, is_new, proper_name, predicated, judgment, judgments, schema, add_rule}
-use Rattle.rules.proofs.Laws.Declaring.{proper, proper_asks}
-use Rattle.rules.proofs.Laws.PatternSteps.{schema_no_premises, schema_stopped, schema_no_conclusion, schema_asks}
+use Rattle.rules.specs.Laws.Declaring.{proper, proper_asks}
+use Rattle.rules.specs.Laws.PatternSteps.{schema_no_premises, schema_stopped, schema_no_conclusion, schema_asks}
 use Rattle.kernel.specs.HeldRules.{with_rule}
 use Rattle.sexp.specs.Never.{never}
 

@@ -6,7 +6,7 @@ use native.Mathlib.Omega.{arith}
 use lib.ListN.{take, drop, replicate}
 use Rattle.rules.specs.Sexp.{read}
 use Rattle.rules.specs.Theory.{Theory, no_theory, rule_words}
-use Rattle.rules.proofs.Laws.Theory.{empty}
+use Rattle.rules.specs.Laws.Theory.{empty}
 use Rattle.rules.specs.TheoryTables.{rows, rule_cells}
 use Rattle.rules.specs.Declare.{declare}
 use Rattle.rules.specs.Loop.{Judged as Verdict, done, refused, through}

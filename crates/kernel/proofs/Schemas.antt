@@ -10,9 +10,9 @@ use Rattle.rules.specs.Sexp.{Sexp, Sexps, list, item, count}
 use Rattle.rules.specs.Tree.{Trees}
 use Rattle.rules.specs.Theory.{Theory}
 use Rattle.rules.specs.TheoryTables.{prefix, prefixes}
-use Rattle.rules.proofs.Laws.Row.{append_assoc}
+use Rattle.rules.specs.Laws.Row.{append_assoc}
 use Rattle.rules.specs.Declare.{Reading, predicated, judgments, schema}
-use Rattle.rules.proofs.Laws.PatternSteps.{schema_no_premises, schema_stopped, schema_no_conclusion, schema_asks}
+use Rattle.rules.specs.Laws.PatternSteps.{schema_no_premises, schema_stopped, schema_no_conclusion, schema_asks}
 use Rattle.sexp.specs.Encode.{encodes}
 use Rattle.sexp.specs.Items.{item_of, place}
 use Rattle.sexp.specs.WalkLaws.{AtomIs, ListIs, nth_list}

@@ -9,7 +9,7 @@ use native.Mathlib.Numerals.{add-one}
 use lib.ListN.{length, take, drop}
 use Rattle.rules.specs.Text.{same}
 use Rattle.rules.specs.Find.{first}
-use Rattle.rules.proofs.Laws.Find.{next, first_next}
+use Rattle.rules.specs.Laws.Find.{next, first_next}
 use Rattle.rules.specs.Lex.{letters}
 use Rattle.rules.specs.Sexp.{Sexp, Sexps, atom, list, Name, marked, item}
 use Rattle.sexp.specs.Spelt.{Spelt}
@@ -18,7 +18,7 @@ use Rattle.sexp.specs.WalkLaws.{Span, span, spells_item}
 use Rattle.sexp.specs.declared.items.Item.{Item}
 use Rattle.sexp.specs.declared.items.Item.TheVariants.{Atom, List as Part}
 use Rattle.kernel.specs.Spelled.{name_of}
-use Rattle.rules.proofs.Laws.Declaring.{proper, sort_of, sort_of_name}
+use Rattle.rules.specs.Laws.Declaring.{proper, sort_of, sort_of_name}
 use Rattle.sexp.specs.Never.{never}
 use Rattle.sexp.specs.AtomText.{atom_text}
 use Rattle.sexp.specs.FoundLaws.{found_at, found_missing}

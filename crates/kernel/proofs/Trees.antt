@@ -12,9 +12,9 @@ use Rattle.rules.specs.Sexp.{Sexp, Sexps, cons, count}
 use Rattle.rules.specs.Tree.{Tree, Trees, app, none, more}
 use Rattle.rules.specs.Theory.{Theory, Symbol, no_symbol, inputs}
 use Rattle.rules.specs.TheoryTables.{prefix, prefixes}
-use Rattle.rules.proofs.Laws.Row.{append_assoc, append-nil}
+use Rattle.rules.specs.Laws.Row.{append_assoc, append-nil}
 use Rattle.rules.specs.Declare.{Reading, pattern, patterns}
-use Rattle.rules.proofs.Laws.PatternSteps.{worded, patterns_none, patterns_more}
+use Rattle.rules.specs.Laws.PatternSteps.{worded, patterns_none, patterns_more}
 use Rattle.sexp.specs.Items.{Holds}
 use Rattle.sexp.specs.declared.items.Item.{Item}
 use Rattle.kernel.specs.Held.{SymbolsHeld}

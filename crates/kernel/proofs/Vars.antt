@@ -16,11 +16,11 @@ use Rattle.rules.specs.Find.{first}
 use Rattle.rules.specs.Out.{ok, refuse}
 use Rattle.rules.specs.Sexp.{Name}
 use Rattle.rules.specs.Theory.{RuleVar}
-use Rattle.rules.proofs.Laws.Theory.{all_at, all_snoc}
+use Rattle.rules.specs.Laws.Theory.{all_at, all_snoc}
 use Rattle.rules.specs.TheoryTables.{name_cells, rows, var_row, filled}
-use Rattle.rules.proofs.Laws.Row.{length_rows, row_cell, filled_fits}
+use Rattle.rules.specs.Laws.Row.{length_rows, row_cell, filled_fits}
 use Rattle.rules.specs.Declare.{Reading, no_rule_var, met_or_new}
-use Rattle.rules.proofs.Laws.PatternSteps.{var_named, with_var, met_other, met_same, new_full, new_more}
+use Rattle.rules.specs.Laws.PatternSteps.{var_named, with_var, met_other, met_same, new_full, new_more}
 use Rattle.sexp.specs.NameRows.{NameAt, NameRows, found_of}
 use Rattle.kernel.specs.Held.{Front, NameFits}
 use Rattle.kernel.specs.Reading.{VarsHeld, Meeting, Met}

@@ -12,7 +12,7 @@ use lib.Seq.{take-suc-set}
 use borrow.Author.Tests.{eqb-true, eqb-false}
 use Rattle.rules.specs.Limits.{SYMBOLS, PATTERNS}
 use Rattle.rules.specs.Find.{first}
-use Rattle.rules.proofs.Laws.Find.{first_some}
+use Rattle.rules.specs.Laws.Find.{first_some}
 use Rattle.rules.specs.Lex.{letters}
 use Rattle.rules.specs.Out.{ok, refuse, then}
 use Rattle.rules.specs.Sexp.{atom, marked}
@@ -20,7 +20,7 @@ use Rattle.rules.specs.Tree.{var, app, none}
 use Rattle.rules.specs.Theory.{Theory, Symbol, no_symbol, inputs, output, constructor_named}
 use Rattle.rules.specs.TheoryTables.{prefix}
 use Rattle.rules.specs.Declare.{Reading, word, met_or_new, variable, head, pattern}
-use Rattle.rules.proofs.Laws.PatternSteps.{var_named, worded, word_full, word_more, variable_short, variable_asks, head_unknown, head_sort, head_count, head_asks, pattern_marked, pattern_atom}
+use Rattle.rules.specs.Laws.PatternSteps.{var_named, worded, word_full, word_more, variable_short, variable_asks, head_unknown, head_sort, head_count, head_asks, pattern_marked, pattern_atom}
 use Rattle.sexp.specs.AtomText.{name_from, atom_span}
 use Rattle.kernel.specs.Named.{called, of_kind, SymbolRows}
 use Rattle.sexp.specs.NameRows.{found_of}

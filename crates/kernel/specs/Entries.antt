@@ -7,7 +7,7 @@ use Rattle.std.proofs.Math.ListN.{length, take, drop, length-append}
 use Rattle.std.proofs.Math.Seq.{take-append_seam, drop-append_seam}
 use Rattle.rules.specs.Theory.{Theory, Symbol, Rule, no_rule, inputs as inputs_of, rule}
 use Rattle.rules.specs.TheoryTables.{prefix, prefixes, pattern_row}
-use Rattle.rules.proofs.Laws.Theory.{WellFormed, RuleFormed, all_at}
+use Rattle.rules.specs.Laws.Theory.{WellFormed, RuleFormed, all_at}
 use Rattle.kernel.specs.Held.{SymbolsHeld}
 use Rattle.kernel.specs.HeldRules.{RulesHeld}
 use Rattle.kernel.specs.Parsed.{TheoryLists, TheoryHeld}

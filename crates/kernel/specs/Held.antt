@@ -5,9 +5,9 @@ use Rattle.rules.specs.Limits.{LENGTH, SORTS, SYMBOLS, ARGUMENTS}
 use Rattle.rules.specs.Out.{Out, ok, refuse}
 use Rattle.rules.specs.Sexp.{Sexps, count, Name}
 use Rattle.rules.specs.Theory.{Theory, Symbol}
-use Rattle.rules.proofs.Laws.Theory.{All}
+use Rattle.rules.specs.Laws.Theory.{All}
 use Rattle.rules.specs.TheoryTables.{filled, sort_cells, symbol_cells, input_cells}
-use Rattle.rules.proofs.Laws.Declaring.{with_sort, with_symbol}
+use Rattle.rules.specs.Laws.Declaring.{with_sort, with_symbol}
 use Rattle.sexp.specs.Items.{Holds}
 use Rattle.sexp.specs.NameRows.{NameIn}
 use Rattle.kernel.specs.declared.symbols.Added.{Added}

@@ -4,7 +4,7 @@ use Rattle.rules.specs.Limits.{RULES, RULEVARS, PATTERNS}
 use Rattle.rules.specs.Out.{Out, ok, refuse}
 use Rattle.rules.specs.Tree.{Tree, Trees, count_trees}
 use Rattle.rules.specs.Theory.{Theory, Rule, rule_words}
-use Rattle.rules.proofs.Laws.Theory.{All}
+use Rattle.rules.specs.Laws.Theory.{All}
 use Rattle.rules.specs.TheoryTables.{prefix, prefixes, pattern_row, rule_var_row, rule_cells, rule_var_cells, pattern_cells}
 use Rattle.rules.specs.Declare.{Reading}
 use Rattle.sexp.specs.NameRows.{NameIn}

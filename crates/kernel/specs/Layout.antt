@@ -6,9 +6,9 @@ use Rattle.rules.specs.Theory.{Theory}
 use Rattle.rules.specs.Loop.{Judged, done, refused}
 use Rattle.rules.specs.TheoryTables.{rows, name_cells, symbol_row, input_row, rule_var_row, pattern_row, rule_cells, sort_table, symbol_table, input_table, rule_table, rule_var_table, pattern_table}
 use Rattle.rules.specs.StateTables.{Tables, Long, laid}
-use Rattle.rules.proofs.Laws.Row.{length_filled}
-use Rattle.rules.proofs.Laws.Theory.{WellFormed}
-use Rattle.rules.proofs.Laws.Declare.{reached, theory_formed}
+use Rattle.rules.specs.Laws.Row.{length_filled}
+use Rattle.rules.specs.Laws.Theory.{WellFormed}
+use Rattle.rules.specs.Laws.Declare.{reached, theory_formed}
 use Rattle.sexp.specs.Never.{never}
 use Rattle.kernel.specs.Parsed.{TheoryLists, theory_lists, TheoryHeld, Roomy, Exact, counts_of, judged_of, theory_of, verdict, theory_tables, laid_theory, LaidHeld}
 use Rattle.kernel.specs.declared.parse.Counts.{Counts}

@@ -11,7 +11,7 @@ use native.Mathlib.Omega.{arith}
 use Rattle.std.proofs.Math.Decide.{dec_lt}
 use Rattle.std.proofs.Math.ListN.{length}
 use Rattle.rules.specs.Find.{first, every}
-use Rattle.rules.proofs.Laws.Find.{first_some}
+use Rattle.rules.specs.Laws.Find.{first_some}
 use Rattle.rules.specs.Theory.{Theory, Symbol, Rule, no_symbol, no_rule, constructors, head_is, rules_of}
 
 -- the first constructor of sort s with that number or a greater one

@@ -3,7 +3,7 @@ use Rattle.std.specs.Prelude.{◌≡◌, ℕ, ◌+◌, ◌-◌, ◌<◌, ◌≤�
 use Rattle.rules.specs.Limits.{SYMBOLS}
 use Rattle.rules.specs.Theory.{Theory, Rule, no_symbol, no_rule, inputs, rule}
 use Rattle.rules.specs.TheoryTables.{prefixes, pattern_row, pattern_cells}
-use Rattle.rules.proofs.Laws.Theory.{WellFormed}
+use Rattle.rules.specs.Laws.Theory.{WellFormed}
 use Rattle.kernel.specs.Held.{SymbolsHeld, SomeSymbolsHeld}
 use Rattle.kernel.specs.HeldRules.{RulesHeld, SomeRules}
 use Rattle.kernel.specs.declared.rule_readers.Span.{Span}

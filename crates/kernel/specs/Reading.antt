@@ -6,10 +6,10 @@ use Rattle.rules.specs.Out.{Out, ok, refuse, then}
 use Rattle.rules.specs.Sexp.{Sexp, Sexps, cons, count}
 use Rattle.rules.specs.Tree.{Tree, app}
 use Rattle.rules.specs.Theory.{RuleVar, Theory, Symbol, no_symbol, inputs}
-use Rattle.rules.proofs.Laws.Theory.{All}
+use Rattle.rules.specs.Laws.Theory.{All}
 use Rattle.rules.specs.TheoryTables.{var_rows}
 use Rattle.rules.specs.Declare.{Reading, patterns}
-use Rattle.rules.proofs.Laws.PatternSteps.{worded}
+use Rattle.rules.specs.Laws.PatternSteps.{worded}
 use Rattle.sexp.specs.Items.{Holds}
 use Rattle.sexp.specs.NameRows.{NameIn}
 use Rattle.kernel.specs.Held.{Front, SomeSymbolsHeld}

@@ -10,14 +10,14 @@ use Rattle.std.proofs.Math.Seq.{take-append_seam, drop-append_seam}
 use Rattle.rules.specs.Limits.{RULES, RULEVARS}
 use Rattle.rules.specs.Text.{same}
 use Rattle.rules.specs.Find.{first}
-use Rattle.rules.proofs.Laws.Find.{get_d_front}
+use Rattle.rules.specs.Laws.Find.{get_d_front}
 use Rattle.rules.specs.Sexp.{Name}
 use Rattle.rules.specs.Tree.{count_trees}
 use Rattle.rules.specs.Theory.{Theory, RuleVar, Rule, no_rule, rule, rule_named}
 use Rattle.rules.specs.Declare.{no_rule_var}
-use Rattle.rules.proofs.Laws.Theory.{all_at}
+use Rattle.rules.specs.Laws.Theory.{all_at}
 use Rattle.rules.specs.TheoryTables.{name_cells, rows, var_row, var_rows, rule_var_row, rule_row, rule_cells, pattern_row, pattern_cells}
-use Rattle.rules.proofs.Laws.Row.{append_assoc, length_rows, row_cell, length_filled, filled_fits}
+use Rattle.rules.specs.Laws.Row.{append_assoc, length_rows, row_cell, length_filled, filled_fits}
 use Rattle.sexp.specs.AtomText.{Spans}
 use Rattle.sexp.specs.NameRows.{NameAt, NameRows, SomeNames, found_of}
 use Rattle.kernel.specs.HeldRules.{RulesHeld}

@@ -5,12 +5,12 @@ use Rattle.std.proofs.Math.Path.{refl, ap}
 use Rattle.std.proofs.Common.{◌∙◌, arith, length-append}
 use Rattle.std.proofs.Math.ListN.{length, get_or}
 use Rattle.rules.specs.Limits.{SORTS, SYMBOLS, ARGUMENTS}
-use Rattle.rules.proofs.Laws.Find.{get_d_front}
+use Rattle.rules.specs.Laws.Find.{get_d_front}
 use Rattle.rules.specs.Sexp.{Name}
 use Rattle.rules.specs.Theory.{Theory, Symbol, no_name, no_symbol, inputs, output}
-use Rattle.rules.proofs.Laws.Theory.{all_at}
+use Rattle.rules.specs.Laws.Theory.{all_at}
 use Rattle.rules.specs.TheoryTables.{name_cells, rows, symbol_row, input_row}
-use Rattle.rules.proofs.Laws.Row.{length_rows, row_cell, length_filled, filled_fits}
+use Rattle.rules.specs.Laws.Row.{length_rows, row_cell, length_filled, filled_fits}
 use Rattle.sexp.specs.NameRows.{NameRows}
 use Rattle.kernel.specs.Named.{SymbolRows}
 use Rattle.kernel.specs.Held.{SortsHeld, SymbolsHeld}

@@ -4,7 +4,7 @@ ghost use Rattle.rules.specs.Lex.{letters};
 ghost use Rattle.rules.specs.Sexp.{Name, atom};
 ghost use Rattle.rules.specs.Theory.{Theory};
 ghost use Rattle.rules.specs.Declare.{Reading, met_or_new, variable, head, pattern};
-ghost use Rattle.rules.proofs.Laws.PatternSteps.{var_named};
+ghost use Rattle.rules.specs.Laws.PatternSteps.{var_named};
 ghost use Rattle.rules.specs.TheoryTables.{prefix};
 ghost use Rattle.kernel.specs.Held.{SymbolsHeld};
 ghost use Rattle.kernel.specs.Reading.{WordFits, WordPut, VarsHeld, Meeting, MetRead, ReadSoFar, AtomReading, PatternRead, Heading, HeadRead};

@@ -5,7 +5,7 @@ ghost use Rattle.std.proofs.Math.Seq.{paste};
 ghost use Rattle.rules.specs.Sexp.{Sexps, item, count as items};
 ghost use Rattle.rules.specs.Theory.{Theory, Symbol};
 ghost use Rattle.rules.specs.Declare.{sorts as argument_sorts, add_symbol, add_ctor, add_pred};
-ghost use Rattle.rules.proofs.Laws.Declaring.{arguments_of};
+ghost use Rattle.rules.specs.Laws.Declaring.{arguments_of};
 ghost use Rattle.sexp.specs.Items.{Holds};
 ghost use Rattle.kernel.specs.Spelled.{Reaching};
 ghost use Rattle.kernel.specs.Held.{Form, SortsHeld, SomeSorts, Gathering, ArgumentsRead, SymbolsHeld, SomeSymbolsHeld, SymbolFits, SymbolIs, SymbolAdded};

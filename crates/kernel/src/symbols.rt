@@ -5,7 +5,7 @@ ghost use Rattle.rules.specs.Theory.{Theory};
 ghost use Rattle.rules.specs.Declare.{add_sort};
 ghost use Rattle.sexp.specs.Spelt.{Spelt};
 ghost use Rattle.sexp.specs.Items.{item_of, Holds};
-ghost use Rattle.rules.proofs.Laws.Declaring.{proper, sort_of};
+ghost use Rattle.rules.specs.Laws.Declaring.{proper, sort_of};
 ghost use Rattle.kernel.specs.Spelled.{Reaching, name_of};
 ghost use Rattle.sexp.specs.FirstItem.{SomeItem};
 ghost use Rattle.sexp.specs.NameRows.{NameRows, SomeNames, found_of};

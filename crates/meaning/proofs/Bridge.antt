@@ -1,21 +1,12 @@
 -- From the definition to the lemmas: what each form takes is what its lemma assumes, and every state reached is good.
-pub mod Asked
-pub mod Well
-pub mod Read
-pub mod Matching
 pub mod Refs
 pub mod Step
 pub mod Apply
 pub mod Induct
-pub mod Case
-pub mod Names
 pub mod Invert
-pub mod Ends
 pub mod Took
 pub mod Proof
 pub mod Take
 pub mod Run
-pub mod Theory
 pub mod Goals
 pub mod Check
-pub mod Unified

@@ -3,4 +3,3 @@ pub mod Premise
 pub mod Writing
 pub mod Theorems
 pub mod TheoremsHold
-pub mod Lemmas

@@ -19,7 +19,7 @@ use Rattle.meaning.specs.Derivation.{RuleOf}
 use Rattle.meaning.specs.Named.{Points, Spells, Item, ItemOf, Refers, Cases, CasesFor, SomeRefers, SomeCases, SomeInverts, NamesAs, tag_of, Names, RuleHyp, Calm}
 use Rattle.meaning.specs.Sets.{Sets, RuleAt, RuleAs, CitesAs, Tagged, Respects}
 use Rattle.meaning.specs.Runs.{IfTaken, Throughout, Calmly, Respectful}
-use Rattle.meaning.proofs.Bridge.Asked.{no_some, some_same, both_true, at_entry, all_in, has_in}
+use Rattle.meaning.specs.Bridge.Asked.{no_some, some_same, both_true, at_entry, all_in, has_in}
 use Rattle.meaning.proofs.Bridge.Refs.{is_none_lem}
 
 -- Lists of numbers ------------------------------------------------------------------------------------------------------------------

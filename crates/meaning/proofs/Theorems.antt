@@ -36,10 +36,10 @@ use Rattle.meaning.specs.Truth.{At, True}
 use Rattle.meaning.specs.Named.{RuleHyp}
 use Rattle.meaning.specs.Sets.{Sets, of_theory, Within}
 use Rattle.meaning.specs.Inversions.{Comes}
-use Rattle.meaning.proofs.Bridge.Well.{Agree}
-use Rattle.meaning.proofs.Bridge.Unified.{comes_complete}
+use Rattle.meaning.specs.Bridge.Well.{Agree}
+use Rattle.meaning.specs.Bridge.Unified.{comes_complete}
 use Rattle.meaning.specs.Runs.{Taken, after, Calmly, Respectful, CalmTexts, Results}
-use Rattle.meaning.proofs.Bridge.Asked.{some_same}
+use Rattle.meaning.specs.Bridge.Asked.{some_same}
 use Rattle.meaning.proofs.Bridge.Took.{Settled}
 use Rattle.meaning.proofs.Bridge.Run.{Passed, good_true, good_goal}
 use Rattle.meaning.proofs.Bridge.Check.{theory_respected, taken_good, taken_fresh, taken_theory, after_bounded, proof_passed, check_good, AllTaken, accepted_taken}

@@ -16,8 +16,8 @@ use Rattle.rules.specs.Store.{Made}
 use Rattle.rules.specs.Unify.{unify}
 use Rattle.rules.specs.Theory.{Theory, no_name, no_theory, rule}
 use Rattle.rules.specs.Declare.{declare}
-use Rattle.rules.proofs.Laws.Declare.{reached}
-use Rattle.rules.proofs.Laws.Reached.{end_of}
+use Rattle.rules.specs.Laws.Declare.{reached}
+use Rattle.rules.specs.Laws.Reached.{end_of}
 use Rattle.rules.specs.State.{State, Fact, Goal, begin}
 use Rattle.rules.specs.Loop.{whole}
 use Rattle.rules.specs.Forms.{take_goal}
@@ -28,9 +28,9 @@ use Rattle.meaning.specs.Trees.Tests.{true_false}
 use Rattle.meaning.specs.Signature.{sig, Value}
 use Rattle.meaning.specs.Derivation.{Der, node, RuleOf, Derivable}
 use Rattle.meaning.specs.Truth.{At, HypOf, Needs, Free, Mentions, Holds, Gives, Entails, True}
-use Rattle.meaning.proofs.Lemmas.Sound.{ders_in}
+use Rattle.meaning.specs.Lemmas.Sound.{ders_in}
 use Rattle.meaning.specs.Named.{Points, Refers, tag_of, RuleHyp, GoalAt, ResultAs, ResultOf}
-use Rattle.meaning.proofs.Bridge.Asked.{at_unique}
+use Rattle.meaning.specs.Bridge.Asked.{at_unique}
 use Rattle.meaning.specs.Runs.{Taken, after, OrLater, Somewhere, Calmly, Results}
 use Rattle.meaning.proofs.Premise.{throughout, calm, calm_run, resting, respects, respectful_run, testing}
 use Rattle.meaning.specs.Inversions.{asked, first_names, tried, Turn, Comes}

@@ -3,9 +3,12 @@ pub mod Unification
 pub mod Signature
 pub mod Derivation
 pub mod Truth
+pub mod Lemmas
 pub mod Named
 pub mod Sets
 pub mod Runs
 pub mod Inversions
+pub mod Bridge
 pub mod Written
+pub mod Writing
 pub mod Theorems

@@ -8,7 +8,7 @@ use Rattle.rules.specs.Declare.{declare}
 use Rattle.rules.specs.Loop.{done, through, whole}
 use Rattle.rules.specs.State.{State, begin}
 use Rattle.rules.specs.Forms.{take_goal, take_form}
-use Rattle.rules.proofs.Laws.Reached.{end_of}
+use Rattle.rules.specs.Laws.Reached.{end_of}
 use Rattle.meaning.specs.Named.{Calm, ResultOf}
 use Rattle.meaning.specs.Sets.{Sets, Respects}
 

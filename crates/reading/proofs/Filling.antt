@@ -7,7 +7,7 @@ use native.Mathlib.Decide.{dec_lt}
 use lib.ListN.{length, set, replicate, length-append, length-replicate}
 use lib.Seq.{set_out, take-append-le}
 use Rattle.rules.specs.TheoryTables.{filled}
-use Rattle.rules.proofs.Laws.Row.{length_filled}
+use Rattle.rules.specs.Laws.Row.{length_filled}
 use Rattle.state.specs.Filled.{filled_more}
 
 pub length_snoc : (xs : List ℕ) (v : ℕ) → length (xs ++ (v ∷ [])) ≡ length xs + 1

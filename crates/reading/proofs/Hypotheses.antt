@@ -15,12 +15,12 @@ use Rattle.rules.specs.Store.{Made}
 use Rattle.rules.specs.State.{State, Fact, is_plain}
 use Rattle.rules.specs.Read.{index}
 use Rattle.rules.specs.Reference.{fact_at, hyp_each, hyp_list}
-use Rattle.rules.proofs.Laws.Theory.{All, empty, all_snoc}
-use Rattle.rules.proofs.Laws.Store.{then_ok, then_refuse}
-use Rattle.rules.proofs.Laws.Out.{then_then}
-use Rattle.rules.proofs.Laws.Entry.{entry_below}
-use Rattle.rules.proofs.Laws.Rising.{has_all}
-use Rattle.rules.proofs.Laws.Members.{has_rising_all}
+use Rattle.rules.specs.Laws.Theory.{All, empty, all_snoc}
+use Rattle.rules.specs.Laws.Store.{then_ok, then_refuse}
+use Rattle.rules.specs.Laws.Out.{then_then}
+use Rattle.rules.specs.Laws.Entry.{entry_below}
+use Rattle.rules.specs.Laws.Rising.{has_all}
+use Rattle.rules.specs.Laws.Members.{has_rising_all}
 use Rattle.sexp.specs.Items.{Holds, item_at, behind}
 use Rattle.sexp.specs.WalkLaws.{Walk, walk_start, walk_over, ListIs}
 use Rattle.sexp.specs.NameRows.{found_of}

@@ -12,8 +12,8 @@ use Rattle.rules.specs.Store.{Made}
 use Rattle.rules.specs.State.{State}
 use Rattle.rules.specs.Read.{judgment, judgment_each, judgments}
 use Rattle.rules.specs.TheoryTables.{filled}
-use Rattle.rules.proofs.Laws.Theory.{All, empty, both, all_snoc, all_map, all_at}
-use Rattle.rules.proofs.Laws.Out.{then_then}
+use Rattle.rules.specs.Laws.Theory.{All, empty, both, all_snoc, all_map, all_at}
+use Rattle.rules.specs.Laws.Out.{then_then}
 use Rattle.sexp.specs.Items.{Holds, item_at, behind}
 use Rattle.sexp.specs.WalkLaws.{Walk, walk_start, walk_over, ListIs}
 use Rattle.terms.specs.declared.store.Mark.{Mark}

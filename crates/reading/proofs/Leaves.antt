@@ -20,8 +20,8 @@ use Rattle.rules.specs.Theory.{Theory, Symbol, no_symbol, inputs, output, constr
 use Rattle.rules.specs.State.{State, Def, no_var, sort_of, sort_of_var, var_named, abbreviated, is_empty}
 use Rattle.rules.specs.Read.{named}
 use Rattle.rules.specs.TheoryTables.{filled, rows, name_cells, symbol_row, symbol_table}
-use Rattle.rules.proofs.Laws.Row.{length_filled, length_rows, row_cell, append-nil}
-use Rattle.rules.proofs.Laws.Store.{then_ok, then_refuse}
+use Rattle.rules.specs.Laws.Row.{length_filled, length_rows, row_cell, append-nil}
+use Rattle.rules.specs.Laws.Store.{then_ok, then_refuse}
 use Rattle.sexp.specs.NameRows.{found_of}
 use Rattle.sexp.specs.FoundLaws.{found_at, found_missing, found_entry}
 use Rattle.sexp.specs.declared.names.Found.{Found}

@@ -15,7 +15,7 @@ use Rattle.rules.specs.Unify.{Binding}
 use Rattle.rules.specs.State.{State, Var, no_var, var_named, sort_of_var}
 use Rattle.rules.specs.Read.{term_of}
 use Rattle.rules.specs.Reference.{binding}
-use Rattle.rules.proofs.Laws.Find.{first_some}
+use Rattle.rules.specs.Laws.Find.{first_some}
 use Rattle.sexp.specs.Encode.{encodes}
 use Rattle.sexp.specs.Items.{Holds, item_at, behind}
 use Rattle.sexp.specs.ItemLaws.{at_inside}

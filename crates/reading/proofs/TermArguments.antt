@@ -17,8 +17,8 @@ use Rattle.rules.specs.Tree.{Trees, more, count_trees}
 use Rattle.rules.specs.Theory.{no_symbol, inputs}
 use Rattle.rules.specs.State.{State, sort_of, fit}
 use Rattle.rules.specs.Read.{term, terms}
-use Rattle.rules.proofs.Laws.Theory.{all_at}
-use Rattle.rules.proofs.Laws.Out.{then_then}
+use Rattle.rules.specs.Laws.Theory.{all_at}
+use Rattle.rules.specs.Laws.Out.{then_then}
 use Rattle.sexp.specs.Items.{Holds, item_at, behind}
 use Rattle.sexp.specs.ItemLaws.{More}
 use Rattle.sexp.specs.WalkLaws.{Walk, walk_start, walk_more, walk_over, walk_rest}

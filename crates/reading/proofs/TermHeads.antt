@@ -15,7 +15,7 @@ use Rattle.rules.specs.Sexp.{Sexps, atom, list, nil, cons, count, item, rest, na
 use Rattle.rules.specs.Tree.{Tree}
 use Rattle.rules.specs.Store.{Made}
 use Rattle.rules.specs.Theory.{Theory, no_symbol, constructor_named, predicate_named}
-use Rattle.rules.proofs.Laws.Find.{first_some}
+use Rattle.rules.specs.Laws.Find.{first_some}
 use Rattle.rules.specs.State.{State}
 use Rattle.rules.specs.Read.{term, compound, terms, judgment}
 use Rattle.sexp.specs.Items.{item_at}

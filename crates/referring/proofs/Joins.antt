@@ -11,8 +11,8 @@ use lib.ListN.{length, get_or, take, drop, drop_of_length-le}
 use lib.Seq.{drop-cons}
 use Rattle.rules.specs.Limits.{FACTS, FACTWORDS, RULEWORDS}
 use Rattle.rules.specs.Find.{Set, union, has}
-use Rattle.rules.proofs.Laws.Theory.{all_at}
-use Rattle.rules.proofs.Laws.Set.{union_empty}
+use Rattle.rules.specs.Laws.Theory.{all_at}
+use Rattle.rules.specs.Laws.Set.{union_empty}
 use Rattle.terms.specs.Sets.{holds, plus}
 use Rattle.terms.specs.Laws.Sets.{plus_has}
 use Rattle.state.specs.declared.facts.Span.{Span}

@@ -12,7 +12,7 @@ use borrow.Author.Tests.{eq-eqb, ne_eqb}
 use Rattle.rules.specs.Find.{Set, empty, union}
 use Rattle.rules.specs.Tree.{var, variables}
 use Rattle.rules.specs.Store.{Made}
-use Rattle.rules.proofs.Laws.Set.{union_assoc, union_empty}
+use Rattle.rules.specs.Laws.Set.{union_assoc, union_empty}
 use Rattle.terms.specs.declared.store.Mark.{Mark}
 use Rattle.terms.specs.Table.{made}
 use Rattle.terms.specs.Collect.{Seen, Readable, Visited}

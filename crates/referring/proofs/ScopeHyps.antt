@@ -11,9 +11,9 @@ use lib.Seq.{sets, sets-eq, drop-cons}
 use Rattle.rules.specs.Limits.{FACTS, FACTWORDS, TERMWORDS, VARIABLEWORDS}
 use Rattle.rules.specs.Find.{Set, empty, union, rising}
 use Rattle.rules.specs.State.{Fact, free, free_at, hyp_vars}
-use Rattle.rules.proofs.Laws.Theory.{all_at}
-use Rattle.rules.proofs.Laws.Set.{union_assoc, union_empty}
-use Rattle.rules.proofs.Laws.Rising.{rising_all_of}
+use Rattle.rules.specs.Laws.Theory.{all_at}
+use Rattle.rules.specs.Laws.Set.{union_assoc, union_empty}
+use Rattle.rules.specs.Laws.Rising.{rising_all_of}
 use Rattle.terms.specs.declared.store.Mark.{Mark}
 use Rattle.terms.specs.Sets.{holds}
 use Rattle.terms.specs.Collect.{Seen}

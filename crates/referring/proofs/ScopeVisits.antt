@@ -9,8 +9,8 @@ use lib.Seq.{drop-cons}
 use Rattle.rules.specs.Find.{Set, union}
 use Rattle.rules.specs.Tree.{var, none, more, variables, variables_of}
 use Rattle.rules.specs.Store.{Made}
-use Rattle.rules.proofs.Laws.Set.{union_assoc, union_empty}
-use Rattle.rules.proofs.Laws.Tree.{variables_none, variables_more}
+use Rattle.rules.specs.Laws.Set.{union_assoc, union_empty}
+use Rattle.rules.specs.Laws.Tree.{variables_none, variables_more}
 use Rattle.terms.specs.declared.store.Mark.{Mark}
 use Rattle.terms.specs.Sets.{holds}
 use Rattle.terms.specs.Table.{args_of, made, tree}

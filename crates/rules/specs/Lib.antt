@@ -1,6 +1,7 @@
 pub mod Limits
 pub mod Out
 pub mod Text
+pub mod Laws
 pub mod Lex
 pub mod Sexp
 pub mod Find

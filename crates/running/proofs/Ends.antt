@@ -12,7 +12,7 @@ use Rattle.rules.specs.State.{State}
 use Rattle.rules.specs.Check.{accepts, refused_in, report, missing, ended, count_open, check}
 use Rattle.rules.specs.StateTables.{missing_of}
 use Rattle.rules.specs.TheoryTables.{filled}
-use Rattle.rules.proofs.Laws.Theory.{all_map}
+use Rattle.rules.specs.Laws.Theory.{all_map}
 use Rattle.terms.specs.Table.{made, INDEX}
 use Rattle.state.specs.Filled.{filled_none}
 use Rattle.state.specs.Numbered.{sound_in}

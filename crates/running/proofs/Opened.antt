@@ -12,7 +12,7 @@ use Rattle.rules.specs.Tree.{var, is_open}
 use Rattle.rules.specs.State.{Goal}
 use Rattle.rules.specs.Check.{count_open}
 use Rattle.rules.specs.TheoryTables.{name_cells}
-use Rattle.rules.proofs.Laws.Theory.{all_at}
+use Rattle.rules.specs.Laws.Theory.{all_at}
 use Rattle.terms.specs.Table.{made}
 use Rattle.terms.specs.Node.{HeldIn, OpenIs}
 use Rattle.terms.specs.Laws.Growth.{made_length}

@@ -7,7 +7,7 @@ use Rattle.rules.specs.State.{State, goal_entries}
 use Rattle.rules.specs.Check.{refused_in, missing, ended, check}
 use Rattle.rules.specs.TheoryTables.{filled, sort_table, symbol_table, input_table, rule_table, rule_var_table, pattern_table}
 use Rattle.rules.specs.StateTables.{Tables, Long, laid, missing_of, Laid, Checked, too_short, answered, var_cells, def_cells, end_cells, word_cells, goal_cells, fact_cells, footing_cells, goal_list, fact_list}
-use Rattle.rules.proofs.Laws.Row.{length_rows, length_filled}
+use Rattle.rules.specs.Laws.Row.{length_rows, length_filled}
 use Rattle.kernel.specs.Parsed.{TheoryLists}
 use Rattle.kernel.specs.Layout.{laid_front, tables_exact}
 use Rattle.terms.specs.Table.{settled}

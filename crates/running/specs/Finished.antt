@@ -7,8 +7,8 @@ use Rattle.rules.specs.State.{State, Goal}
 use Rattle.rules.specs.Check.{Answer, accepts, refuses, check}
 use Rattle.rules.specs.StateTables.{missing_of}
 use Rattle.rules.specs.TheoryTables.{filled}
-use Rattle.rules.proofs.Laws.Theory.{All}
-use Rattle.rules.proofs.Laws.Made.{In}
+use Rattle.rules.specs.Laws.Theory.{All}
+use Rattle.rules.specs.Laws.Sound.{In}
 use Rattle.kernel.specs.Parsed.{TheoryLists}
 use Rattle.terms.specs.declared.store.Mark.{Mark}
 use Rattle.terms.specs.Table.{made, Good}

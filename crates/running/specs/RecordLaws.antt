@@ -10,7 +10,7 @@ use Rattle.std.proofs.Math.ListN.{take, drop, replicate, replicate-append-replic
 use Rattle.std.proofs.Math.Seq.{take-nil, drop-nil, take-append-add, drop-append-add}
 use Rattle.rules.specs.TheoryTables.{filled, rows}
 use Rattle.rules.specs.StateTables.{laid}
-use Rattle.rules.proofs.Laws.Row.{append_assoc, filled_fits}
+use Rattle.rules.specs.Laws.Row.{append_assoc, filled_fits}
 use Rattle.state.specs.Stands.{leaves_laid}
 use Rattle.facts.specs.declared.Fact.{Fact}
 use Rattle.facts.specs.Table.{blank, appended, zeroed}

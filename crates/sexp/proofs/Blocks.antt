@@ -8,7 +8,7 @@ use native.Mathlib.Omega.{arith}
 use lib.ListN.{length, get_or, drop}
 use borrow.Author.Tests.{ne_eqb, le-leb, lt-leb}
 use Rattle.rules.specs.Lex.{white, kind, letter, letters, between, in_comment}
-use Rattle.rules.proofs.Laws.Lex.{kind_letter, place_in_comment, place_comment_over, at_end}
+use Rattle.rules.specs.Laws.Lex.{kind_letter, place_in_comment, place_comment_over, at_end}
 use Rattle.sexp.specs.Lexed.{InAtom, InComment, LineEnd}
 use Rattle.sexp.proofs.ByteLaws.{letters_on, letters_off, letters_over}
 

@@ -9,8 +9,8 @@ use lib.ListN.{length, get_or, drop, drop_of_length-le}
 use borrow.Author.Tests.{ne_eqb, le-leb, lt-leb}
 use Rattle.rules.specs.Text.{plain, same}
 use Rattle.rules.specs.Lex.{Kind, blank, left, right, semicolon, letter, white, kind, letters}
-use Rattle.rules.proofs.Laws.Lex.{kind_blank, kind_left, kind_right, kind_semicolon, kind_letter, drop_at, place_letters_more, place_letters_none, letters_end}
-use Rattle.rules.proofs.Laws.Text.{same_equal, same_on, same_over}
+use Rattle.rules.specs.Laws.Lex.{kind_blank, kind_left, kind_right, kind_semicolon, kind_letter, drop_at, place_letters_more, place_letters_none, letters_end}
+use Rattle.rules.specs.Laws.Text.{same_equal, same_on, same_over}
 use Rattle.sexp.specs.Lexed.{wide, is_letter}
 
 -- white space

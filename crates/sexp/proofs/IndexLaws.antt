@@ -10,7 +10,7 @@ use lib.Seq.{take_all}
 use lib.Dec.{ltb, leb}
 use borrow.Author.Tests.{eq-eqb, ne_eqb, le-leb, lt-leb, lt-ltb, le-ltb}
 use Rattle.rules.specs.Index.{digit, digits, value, unsigned, index_of}
-use Rattle.rules.proofs.Laws.Lex.{drop_at}
+use Rattle.rules.specs.Laws.Lex.{drop_at}
 use Rattle.sexp.specs.Names.{spelling}
 use Rattle.sexp.specs.declared.names.Index.TheVariants.{Number, Unreadable}
 

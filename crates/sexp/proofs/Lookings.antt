@@ -7,7 +7,7 @@ use native.Mathlib.Omega.{arith}
 use lib.ListN.{get_or, take, drop}
 use Rattle.rules.specs.Text.{same}
 use Rattle.rules.specs.Find.{first}
-use Rattle.rules.proofs.Laws.Find.{first_here, first_later, first_over}
+use Rattle.rules.specs.Laws.Find.{first_here, first_later, first_over}
 use Rattle.rules.specs.Sexp.{Name}
 use Rattle.rules.specs.Theory.{no_name}
 use Rattle.sexp.specs.NameRows.{NameAt, NameRows, SomeNames, found_of}

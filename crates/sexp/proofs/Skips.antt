@@ -5,7 +5,7 @@ use mathlib.Core.List.{List}
 use native.Mathlib.Omega.{arith}
 use lib.ListN.{length, get_or}
 use Rattle.rules.specs.Lex.{white}
-use Rattle.rules.proofs.Laws.Lex.{place_blank, place_semicolon, kind_semicolon}
+use Rattle.rules.specs.Laws.Lex.{place_blank, place_semicolon, kind_semicolon}
 use Rattle.sexp.specs.Lexed.{wide, from, LineEnd, Skipped}
 use Rattle.sexp.proofs.ByteLaws.{is_white, one_wide, not_white, not_blank, not_semicolon}
 

@@ -9,7 +9,7 @@ use lib.Dec.{eqb, leb}
 use lib.ListN.{length, get_or, take, drop}
 use borrow.Author.Tests.{eqb-true, leb-true, le-leb, lt-leb}
 use Rattle.rules.specs.Text.{bytes, same}
-use Rattle.rules.proofs.Laws.Text.{same_equal}
+use Rattle.rules.specs.Laws.Text.{same_equal}
 use Rattle.rules.specs.Tags.{within, tagging}
 use Rattle.sexp.specs.TagTable.{shapes, shape_at, suits}
 use Rattle.sexp.proofs.TableLaws.{at}

@@ -5,7 +5,7 @@ use mathlib.Core.List.{List}
 use native.Mathlib.Omega.{arith}
 use lib.ListN.{length}
 use Rattle.rules.specs.Sexp.{Sexp, Sexps, nil, cons, count, item}
-use Rattle.rules.proofs.Laws.Sexp.{count_cons}
+use Rattle.rules.specs.Laws.Sexp.{count_cons}
 use Rattle.sexp.specs.Encode.{encode, encodes}
 use Rattle.sexp.specs.Items.{Items, Reaches, item_at, item_of, behind, place}
 use Rattle.sexp.specs.declared.items.Item.{Item}

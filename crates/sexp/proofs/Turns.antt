@@ -6,9 +6,9 @@ use native.Mathlib.Omega.{arith}
 use lib.ListN.{length, drop, get_or, length-drop}
 use Rattle.rules.specs.Limits.{DEPTH}
 use Rattle.rules.specs.Lex.{kind, letter, word, between, letters}
-use Rattle.rules.proofs.Laws.Lex.{kind_left, kind_right, place_left, place_right, place_letter, place_letters_more, place_behind, letters_front, at_end}
+use Rattle.rules.specs.Laws.Lex.{kind_left, kind_right, place_left, place_right, place_letter, place_letters_more, place_behind, letters_front, at_end}
 use Rattle.rules.specs.Sexp.{Sexp, Sexps, atom, list, nil, snoc, Text, ends, fails, more, forms, read}
-use Rattle.rules.proofs.Laws.Sexp.{forms_opens, forms_deep, forms_stray, forms_closes, forms_closed, forms_word, forms_bare, forms_ends, forms_open_end}
+use Rattle.rules.specs.Laws.Sexp.{forms_opens, forms_deep, forms_stray, forms_closes, forms_closed, forms_word, forms_bare, forms_ends, forms_open_end}
 use Rattle.sexp.specs.Lexed.{from, Skipped}
 use Rattle.sexp.specs.Whole.{whole_of}
 use Rattle.sexp.specs.declared.sexp.Whole.TheVariants.{Forms, Refused}

@@ -8,7 +8,7 @@ use Rattle.std.proofs.Math.Option.{Option, some, none as nothing}
 use mathlib.Core.List.{List, [], ◌∷◌}
 use Rattle.rules.specs.Text.{same}
 use Rattle.rules.specs.Find.{first}
-use Rattle.rules.proofs.Laws.Find.{first_some}
+use Rattle.rules.specs.Laws.Find.{first_some}
 use Rattle.rules.specs.Sexp.{Name}
 use Rattle.rules.specs.Theory.{no_name}
 use Rattle.sexp.specs.Never.{never}

@@ -6,7 +6,7 @@ use native.Mathlib.Omega.{arith}
 use Rattle.std.proofs.Math.ListN.{length, get_or, length-drop}
 use Rattle.std.proofs.Math.Seq.{drop-append_seam}
 use Rattle.rules.specs.Sexp.{Sexp, Sexps, atom, list, nil, cons, count, item, rest}
-use Rattle.rules.proofs.Laws.Sexp.{rest_item}
+use Rattle.rules.specs.Laws.Sexp.{rest_item}
 use Rattle.sexp.specs.Encode.{encode, encodes}
 use Rattle.sexp.specs.Items.{item_of, item_at, behind, place}
 use Rattle.sexp.specs.declared.items.Item.TheVariants.{Atom, List as Part}

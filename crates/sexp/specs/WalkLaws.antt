@@ -4,7 +4,7 @@ use Rattle.std.proofs.Common.{sym, ap, ◌∙◌, zero-add, arith, length-drop, 
 use Prim.Native.Nat.{ℕ, zero, suc, ◌+◌, ◌-◌, ◌≤◌, ◌<◌}
 use Rattle.std.proofs.Math.Seq.{take-append_seam}
 use Rattle.rules.specs.Lex.{letters}
-use Rattle.rules.proofs.Laws.Lex.{letters_front}
+use Rattle.rules.specs.Laws.Lex.{letters_front}
 use Rattle.rules.specs.Sexp.{Sexp, Sexps, atom, list, nil, cons, count, item, rest}
 use Rattle.sexp.specs.Encode.{encode, encodes}
 use Rattle.sexp.specs.Spelt.{AtomAt, Spelt, Spells}

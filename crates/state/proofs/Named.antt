@@ -15,8 +15,8 @@ use Rattle.rules.specs.Tree.{Tree, var}
 use Rattle.rules.specs.Store.{Made}
 use Rattle.rules.specs.State.{Var, Def, Goal, no_var, var_named, abbreviated, goal_named}
 use Rattle.rules.specs.TheoryTables.{name_cells}
-use Rattle.rules.proofs.Laws.Theory.{All, all_at}
-use Rattle.rules.proofs.Laws.Find.{first_here, first_later, first_over}
+use Rattle.rules.specs.Laws.Theory.{All, all_at}
+use Rattle.rules.specs.Laws.Find.{first_here, first_later, first_over}
 use Rattle.sexp.specs.NameRows.{NameIn, NameRows, SomeNames, found_of}
 use Rattle.sexp.specs.declared.names.Found.{Found}
 use Rattle.sexp.specs.declared.names.Found.TheVariants.{At, Missing}

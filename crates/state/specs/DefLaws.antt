@@ -8,9 +8,9 @@ use Rattle.rules.specs.Store.{Made, number}
 use Rattle.rules.specs.State.{Def}
 use Rattle.rules.specs.TheoryTables.{filled, rows, name_cells}
 use Rattle.rules.specs.StateTables.{def_cells}
-use Rattle.rules.proofs.Laws.Theory.{all_snoc, all_at}
-use Rattle.rules.proofs.Laws.Made.{In}
-use Rattle.rules.proofs.Laws.Row.{rows_snoc, length_rows, row_cell, append-nil}
+use Rattle.rules.specs.Laws.Theory.{all_snoc, all_at}
+use Rattle.rules.specs.Laws.Sound.{In}
+use Rattle.rules.specs.Laws.Row.{rows_snoc, length_rows, row_cell, append-nil}
 use Rattle.sexp.specs.NameRows.{NameIn}
 use Rattle.state.specs.Held.{DefsHeld}
 use Rattle.state.specs.Rows.{cell}

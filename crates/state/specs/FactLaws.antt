@@ -15,10 +15,10 @@ use Rattle.rules.specs.Store.{Made}
 use Rattle.rules.specs.State.{State, Fact, is_none, is_empty, is_plain, goal_entries, fact_entries, all_entries, entries}
 use Rattle.rules.specs.TheoryTables.{filled, rows}
 use Rattle.rules.specs.StateTables.{fact_cells, footing_cells, goal_list, fact_list, numbers}
-use Rattle.rules.proofs.Laws.Theory.{All, all_at, all_map}
-use Rattle.rules.proofs.Laws.Entry.{entry_below}
-use Rattle.rules.proofs.Laws.Row.{length_filled, filled_fits, length_rows, rows_snoc}
-use Rattle.rules.proofs.Laws.Shape.{Shaped}
+use Rattle.rules.specs.Laws.Theory.{All, all_at, all_map}
+use Rattle.rules.specs.Laws.Entry.{entry_below}
+use Rattle.rules.specs.Laws.Row.{length_filled, filled_fits, length_rows, rows_snoc}
+use Rattle.rules.specs.Laws.Shape.{Shaped}
 use Rattle.terms.specs.Sets.{holds}
 use Rattle.state.specs.declared.sizes.Sizes.{Sizes}
 use Rattle.state.specs.Held.{Records, listed, GoalsHeld, Recorded}

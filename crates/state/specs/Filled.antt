@@ -7,7 +7,7 @@ use Rattle.std.proofs.Math.ListN.{get_or-eq_default, get_or-append}
 use Rattle.std.proofs.lemmas.List.Edits.{sets, sets-eq}
 use Rattle.std.proofs.Math.Seq.{drop-append-add}
 use Rattle.rules.specs.TheoryTables.{filled}
-use Rattle.rules.proofs.Laws.Row.{filled_fits}
+use Rattle.rules.specs.Laws.Row.{filled_fits}
 
 -- Zeros --------------------------------------------------------------------------------------------------------------------------
 

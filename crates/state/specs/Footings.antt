@@ -10,9 +10,9 @@ use Rattle.rules.specs.Limits.{RULES}
 use Rattle.rules.specs.Find.{Set, has, rising, rising_from}
 use Rattle.rules.specs.State.{Fact}
 use Rattle.rules.specs.StateTables.{bit, bit_word}
-use Rattle.rules.proofs.Laws.Theory.{All, all_map}
-use Rattle.rules.proofs.Laws.Set.{rising_split, rising_from_split, rising_all}
-use Rattle.rules.proofs.Laws.Shape.{Footed}
+use Rattle.rules.specs.Laws.Theory.{All, all_map}
+use Rattle.rules.specs.Laws.Set.{rising_split, rising_from_split, rising_all}
+use Rattle.rules.specs.Laws.Shape.{Footed}
 use Rattle.terms.specs.Sets.{digit, holds}
 use Rattle.state.specs.RowCells.{footing_row, footing_width}
 use Rattle.state.specs.Members.{has_above, rises_rising}

@@ -15,10 +15,10 @@ use Rattle.rules.specs.State.{Goal, goal_entries}
 use Rattle.rules.specs.Forms.{taken_goal}
 use Rattle.rules.specs.TheoryTables.{filled, name_cells}
 use Rattle.rules.specs.StateTables.{goal_cells, goal_list, numbers, bit}
-use Rattle.rules.proofs.Laws.Theory.{All, all_snoc, all_at}
-use Rattle.rules.proofs.Laws.Entry.{change_length, change_all}
-use Rattle.rules.proofs.Laws.Made.{sound}
-use Rattle.rules.proofs.Laws.ReadWalk.{GoalIn}
+use Rattle.rules.specs.Laws.Theory.{All, all_snoc, all_at}
+use Rattle.rules.specs.Laws.Entry.{change_length, change_all}
+use Rattle.rules.specs.Laws.Sound.{sound}
+use Rattle.rules.specs.Laws.Ready.{GoalIn}
 use Rattle.sexp.specs.NameRows.{NameIn}
 use Rattle.state.specs.Held.{GoalsHeld}
 use Rattle.state.specs.Rows.{cell, list_span}

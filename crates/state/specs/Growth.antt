@@ -13,10 +13,11 @@ use Rattle.rules.specs.State.{State, Def, Goal, Fact, goal_entries, fact_entries
 use Rattle.rules.specs.Forms.{with_made}
 use Rattle.rules.specs.TheoryTables.{filled, name_cells}
 use Rattle.rules.specs.StateTables.{def_cells, goal_cells, fact_cells, goal_list, fact_list, bit}
-use Rattle.rules.proofs.Laws.Theory.{All, both, all_map}
-use Rattle.rules.proofs.Laws.Keeping.{Invariant, Grows, Keeps, fine, off}
-use Rattle.rules.proofs.Laws.Made.{In, sound, in_front}
-use Rattle.rules.proofs.Laws.ReadWalk.{FactIn, GoalIn, ready_on}
+use Rattle.rules.specs.Laws.Theory.{All, both, all_map}
+use Rattle.rules.specs.Laws.Keeping.{Invariant, Grows, Keeps, fine, off}
+use Rattle.rules.specs.Laws.Sound.{In, sound, in_front}
+use Rattle.rules.proofs.Laws.ReadWalk.{ready_on}
+use Rattle.rules.specs.Laws.Ready.{FactIn, GoalIn}
 use Rattle.state.specs.declared.sizes.Sizes.{Sizes}
 use Rattle.state.specs.Held.{DefsHeld, GoalsHeld, Names, Spelling, Records, Recorded}
 use Rattle.state.specs.Numbered.{sound_in, number_on, numbers_on}

@@ -8,10 +8,10 @@ use Rattle.rules.specs.Theory.{Theory}
 use Rattle.rules.specs.State.{State, Var, Def, Goal, goal_entries, entries}
 use Rattle.rules.specs.TheoryTables.{filled, symbol_table}
 use Rattle.rules.specs.StateTables.{var_cells, def_cells, goal_cells, fact_cells, footing_cells, goal_list, fact_list}
-use Rattle.rules.proofs.Laws.Theory.{All, WellFormed}
-use Rattle.rules.proofs.Laws.Made.{In, sound}
-use Rattle.rules.proofs.Laws.ReadWalk.{Ready}
-use Rattle.rules.proofs.Laws.Shape.{ShapedIn}
+use Rattle.rules.specs.Laws.Theory.{All, WellFormed}
+use Rattle.rules.specs.Laws.Sound.{In, sound}
+use Rattle.rules.specs.Laws.Ready.{Ready}
+use Rattle.rules.specs.Laws.Shape.{ShapedIn}
 use Rattle.rules.proofs.Laws.StateRows.{Rows}
 use Rattle.sexp.specs.NameRows.{NameIn}
 use Rattle.kernel.specs.Held.{SymbolsHeld}

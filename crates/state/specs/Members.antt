@@ -4,9 +4,9 @@ use Rattle.std.proofs.Common.{sym, ap, ◌∙◌, subst, append-nil, arith, eq-e
 use Rattle.std.proofs.lemmas.Bool.{false≢true}
 use Rattle.std.proofs.Math.Decide.{dec_lt, ℕ_discrete}
 use Rattle.rules.specs.Find.{Set, has, rising, rising_from}
-use Rattle.rules.proofs.Laws.Theory.{All, both, all_map}
-use Rattle.rules.proofs.Laws.Set.{rising_split, rising_from_none, rising_from_agree}
-use Rattle.rules.proofs.Laws.Rising.{Rises, RisesFrom}
+use Rattle.rules.specs.Laws.Theory.{All, both, all_map}
+use Rattle.rules.specs.Laws.Set.{rising_split, rising_from_none, rising_from_agree}
+use Rattle.rules.specs.Laws.Rising.{Rises, RisesFrom}
 
 -- every member is below n
 abbrev pub Under : ℕ → Set → Type 0

@@ -5,11 +5,11 @@ use Rattle.std.proofs.Common.{sym, ap, ◌∙◌, subst, inl, inr}
 use Rattle.rules.specs.Tree.{Tree, Trees, var, none, more, same_tree, count_trees}
 use Rattle.rules.specs.Store.{Made, number}
 use Rattle.rules.specs.StateTables.{numbers}
-use Rattle.rules.proofs.Laws.Theory.{All, empty, both}
-use Rattle.rules.proofs.Laws.Tree.{same_self}
-use Rattle.rules.proofs.Laws.Store.{number_is}
-use Rattle.rules.proofs.Laws.Keeping.{Each, Grows}
-use Rattle.rules.proofs.Laws.Made.{In, sound, in_number}
+use Rattle.rules.specs.Laws.Theory.{All, empty, both}
+use Rattle.rules.specs.Laws.Tree.{same_self}
+use Rattle.rules.specs.Laws.Store.{number_is}
+use Rattle.rules.specs.Laws.Keeping.{Each, Grows}
+use Rattle.rules.specs.Laws.Sound.{In, sound, in_number}
 use Rattle.terms.specs.Table.{args_of}
 
 -- a term by its number: it is below, and the tree is there

@@ -13,11 +13,11 @@ use Rattle.rules.specs.State.{State, Var, Def, Goal, Fact, Counts, goal_entries,
 use Rattle.rules.specs.Forms.{with_vars, with_defs, with_goals, with_facts, taken_goal}
 use Rattle.rules.specs.TheoryTables.{filled}
 use Rattle.rules.specs.StateTables.{numbers, goal_list, fact_list, fact_cells}
-use Rattle.rules.proofs.Laws.Theory.{All, all_map, all_snoc}
+use Rattle.rules.specs.Laws.Theory.{All, all_map, all_snoc}
 use Rattle.rules.proofs.Laws.Appends.{Behind}
-use Rattle.rules.proofs.Laws.Entry.{change_length, change_all}
-use Rattle.rules.proofs.Laws.Made.{sound}
-use Rattle.rules.proofs.Laws.ReadWalk.{FactIn, GoalIn}
+use Rattle.rules.specs.Laws.Entry.{change_length, change_all}
+use Rattle.rules.specs.Laws.Sound.{sound}
+use Rattle.rules.specs.Laws.Ready.{FactIn, GoalIn}
 use Rattle.state.specs.declared.sizes.Sizes.{Sizes}
 use Rattle.state.specs.Held.{VarsHeld, DefsHeld, Names, names, Spelling, Records, records, listed, Recorded}
 use Rattle.state.specs.Used.{vars_now, defs_now, goals_now, facts_now}

@@ -14,11 +14,11 @@ use Rattle.rules.specs.State.{State, Fact, Counts, goal_entries, fact_entries, a
 use Rattle.rules.specs.Forms.{with_facts}
 use Rattle.rules.specs.TheoryTables.{filled}
 use Rattle.rules.specs.StateTables.{fact_cells, footing_cells, goal_list, fact_list, numbers, bit, bit_word}
-use Rattle.rules.proofs.Laws.Theory.{All, empty, all_snoc}
-use Rattle.rules.proofs.Laws.Entry.{entry_last}
-use Rattle.rules.proofs.Laws.Made.{sound}
-use Rattle.rules.proofs.Laws.ReadWalk.{Ready, FactIn}
-use Rattle.rules.proofs.Laws.Shape.{Shape, Shaped, ShapedIn, all_shaped_snoc}
+use Rattle.rules.specs.Laws.Theory.{All, empty, all_snoc}
+use Rattle.rules.specs.Laws.Entry.{entry_last}
+use Rattle.rules.specs.Laws.Sound.{sound}
+use Rattle.rules.specs.Laws.Ready.{Ready, FactIn}
+use Rattle.rules.specs.Laws.Shape.{Shape, Shaped, ShapedIn, all_shaped_snoc}
 use Rattle.rules.proofs.Laws.StateRows.{Rows}
 use Rattle.terms.specs.Sets.{holds}
 use Rattle.state.specs.declared.sizes.Sizes.{Sizes}

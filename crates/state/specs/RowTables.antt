@@ -9,8 +9,8 @@ use Rattle.std.proofs.Math.ListN.{get_or-eq_default}
 use Rattle.std.proofs.lemmas.List.Edits.{sets}
 use Rattle.rules.specs.Find.{entry}
 use Rattle.rules.specs.TheoryTables.{filled}
-use Rattle.rules.proofs.Laws.Theory.{All, empty, both}
-use Rattle.rules.proofs.Laws.Row.{length_filled}
+use Rattle.rules.specs.Laws.Theory.{All, empty, both}
+use Rattle.rules.specs.Laws.Row.{length_filled}
 use Rattle.state.specs.Filled.{filled_at, filled_more, filled_set, filled_back}
 
 -- Lists --------------------------------------------------------------------------------------------------------------------------

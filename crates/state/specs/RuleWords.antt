@@ -10,8 +10,8 @@ use Rattle.rules.specs.Limits.{SYMBOLS, ARGUMENTS, RULEVARS}
 use Rattle.rules.specs.Tree.{Tree, Trees, var, app, none, more, size, sizes, count_trees}
 use Rattle.rules.specs.Theory.{Theory, RuleVar, no_symbol, inputs, rule}
 use Rattle.rules.specs.TheoryTables.{prefix, prefixes, pattern_row, pattern_cells}
-use Rattle.rules.proofs.Laws.Prefix.{prefix_length, prefixes_length}
-use Rattle.rules.proofs.Laws.Theory.{Sorted, Sorteds, Judgment, Judgments, WellFormed, all_at}
+use Rattle.rules.specs.Laws.Prefix.{prefix_length, prefixes_length}
+use Rattle.rules.specs.Laws.Theory.{Sorted, Sorteds, Judgment, Judgments, WellFormed, all_at}
 use Rattle.kernel.specs.Held.{SymbolsHeld}
 use Rattle.kernel.specs.Readers.{WordsAt, FormedRules, words_before, conclusion_at}
 use Rattle.kernel.specs.SignatureRows.{arity_cell}

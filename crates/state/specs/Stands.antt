@@ -10,11 +10,11 @@ use Rattle.rules.specs.State.{State, Var, begin, goal_entries, all_entries, entr
 use Rattle.rules.specs.Forms.{with_made}
 use Rattle.rules.specs.TheoryTables.{filled}
 use Rattle.rules.specs.StateTables.{var_cells, def_cells, word_cells, goal_cells, fact_cells, footing_cells, goal_list, fact_list, laid}
-use Rattle.rules.proofs.Laws.Theory.{All, empty, both, WellFormed}
-use Rattle.rules.proofs.Laws.Keeping.{Grows}
-use Rattle.rules.proofs.Laws.Made.{sound, Distinct, ClosedBehind}
-use Rattle.rules.proofs.Laws.ReadWalk.{Ready}
-use Rattle.rules.proofs.Laws.Row.{length_filled}
+use Rattle.rules.specs.Laws.Theory.{All, empty, both, WellFormed}
+use Rattle.rules.specs.Laws.Keeping.{Grows}
+use Rattle.rules.specs.Laws.Sound.{sound, Distinct, ClosedBehind}
+use Rattle.rules.specs.Laws.Ready.{Ready}
+use Rattle.rules.specs.Laws.Row.{length_filled}
 use Rattle.kernel.specs.Held.{SortsHeld}
 use Rattle.kernel.specs.Parsed.{TheoryLists, theory_tables, LaidHeld}
 use Rattle.sexp.specs.NameRows.{NameIn}

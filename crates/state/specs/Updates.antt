@@ -11,11 +11,11 @@ use Rattle.rules.specs.Store.{number}
 use Rattle.rules.specs.State.{State, Var, Def, Goal, Fact, Counts, goal_entries, all_entries, entries}
 use Rattle.rules.specs.Forms.{with_vars, with_defs, with_goals, taken_goal}
 use Rattle.rules.specs.StateTables.{numbers}
-use Rattle.rules.proofs.Laws.Theory.{all_snoc, all_map}
+use Rattle.rules.specs.Laws.Theory.{all_snoc, all_map}
 use Rattle.rules.proofs.Laws.Appends.{Behind, one_new}
-use Rattle.rules.proofs.Laws.Entry.{change_all}
-use Rattle.rules.proofs.Laws.Made.{In, sound}
-use Rattle.rules.proofs.Laws.ReadWalk.{GoalIn}
+use Rattle.rules.specs.Laws.Entry.{change_all}
+use Rattle.rules.specs.Laws.Sound.{In, sound}
+use Rattle.rules.specs.Laws.Ready.{GoalIn}
 use Rattle.kernel.specs.Parsed.{TheoryLists}
 use Rattle.sexp.specs.NameRows.{NameIn}
 use Rattle.terms.specs.declared.store.Mark.{Mark}

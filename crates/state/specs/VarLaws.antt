@@ -10,9 +10,9 @@ use Rattle.rules.specs.Theory.{no_name}
 use Rattle.rules.specs.State.{Var, no_var, sort_of_var}
 use Rattle.rules.specs.TheoryTables.{filled, rows, name_cells}
 use Rattle.rules.specs.StateTables.{var_cells}
-use Rattle.rules.proofs.Laws.Theory.{All, all_snoc}
+use Rattle.rules.specs.Laws.Theory.{All, all_snoc}
 use Rattle.rules.proofs.Laws.Appends.{Behind}
-use Rattle.rules.proofs.Laws.Row.{rows_snoc, length_rows, row_cell, append-nil}
+use Rattle.rules.specs.Laws.Row.{rows_snoc, length_rows, row_cell, append-nil}
 use Rattle.sexp.specs.NameRows.{NameIn}
 use Rattle.state.specs.Held.{text_of, VarCells, VarsHeld}
 use Rattle.state.specs.Rows.{cell}

@@ -7,7 +7,7 @@ use lib.ListN.{length, replicate, length-replicate}
 use Rattle.rules.specs.Limits.{SORTS, SYMBOLS, ARGUMENTS, RULES, RULEVARS, PATTERNS, VARIABLES, TERMS, WORDS, DEFS, GOALS, FACTS, ENTRIES}
 use Rattle.rules.specs.Check.{Answer, check}
 use Rattle.rules.specs.StateTables.{Tables, Long, Checked, too_short, answered}
-use Rattle.rules.proofs.Laws.Row.{length_rows}
+use Rattle.rules.specs.Laws.Row.{length_rows}
 use Rattle.kernel.specs.Parsed.{TheoryLists, theory_lists}
 use Rattle.facts.specs.Table.{blank}
 use Rattle.running.specs.declared.finish.Answer.{Answer as Answered}

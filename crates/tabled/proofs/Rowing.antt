@@ -8,7 +8,7 @@ use mathlib.Core.List.{List, ◌++◌}
 use lib.ListN.{length, get_or, take, drop, length-append, length-drop}
 use lib.Seq.{sets, sets-eq, length-take-le, take-suc, take_at, drop-drop, drop-append-add}
 use Rattle.rules.specs.TheoryTables.{rows}
-use Rattle.rules.proofs.Laws.Row.{rows_snoc, length_rows}
+use Rattle.rules.specs.Laws.Row.{rows_snoc, length_rows}
 use Rattle.facts.specs.declared.Fact.{Fact}
 use Rattle.facts.specs.Table.{blank}
 

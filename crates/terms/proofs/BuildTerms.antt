@@ -11,7 +11,7 @@ use Rattle.rules.specs.Limits.{SYMBOLS, ARGUMENTS, TERMS, NODE}
 use Rattle.rules.specs.Out.{Out, ok}
 use Rattle.rules.specs.Tree.{Tree, Trees, var, app, more, size}
 use Rattle.rules.specs.Store.{Made, keep}
-use Rattle.rules.proofs.Laws.Store.{number_is}
+use Rattle.rules.specs.Laws.Store.{number_is}
 use Rattle.rules.specs.Match.{Bound, build}
 use Rattle.terms.specs.declared.store.Mark.{Mark}
 use Rattle.terms.specs.declared.store.Kept.{Kept}

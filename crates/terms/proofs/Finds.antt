@@ -8,7 +8,7 @@ use native.Mathlib.Decide.{dec_lt, ℕ_discrete}
 use lib.ListN.{length, get_or}
 use Rattle.rules.specs.Tree.{Tree}
 use Rattle.rules.specs.Store.{Made, number}
-use Rattle.rules.proofs.Laws.Store.{stored_true, stored_false, number_le}
+use Rattle.rules.specs.Laws.Store.{stored_true, stored_false, number_le}
 use Rattle.terms.specs.declared.store.Mark.{Mark}
 use Rattle.terms.specs.Table.{CHAINS, HEADS, run, start, node_at, tree_at, made, hash, bucket, latest, Shaped, Good}
 use Rattle.terms.specs.Node.{same_words, seek}

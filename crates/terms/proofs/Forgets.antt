@@ -10,7 +10,7 @@ use lib.Seq.{get_or-set_same, get_or-set_other, get_or-take, get_or-drop, get_or
 use Rattle.rules.specs.Limits.{TERMS}
 use Rattle.rules.specs.Tree.{Tree, var, is_open}
 use Rattle.rules.specs.Store.{Made}
-use Rattle.rules.proofs.Laws.Store.{Apart}
+use Rattle.rules.specs.Laws.Store.{Apart}
 use Rattle.terms.specs.declared.store.Mark.{Mark}
 use Rattle.terms.specs.Table.{CHAINS, FLAGS, HEADS, INDEX, BUCKETS, run, start, node_at, trees, hash, bucket, latest, flag, Shaped, Good, Same}
 use Rattle.terms.specs.Table.{Part, Back, lower}

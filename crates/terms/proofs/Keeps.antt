@@ -12,7 +12,7 @@ use Rattle.rules.specs.Limits.{TERMS, WORDS, NODE}
 use Rattle.rules.specs.Out.{ok}
 use Rattle.rules.specs.Tree.{Tree, var, is_open}
 use Rattle.rules.specs.Store.{Made, number, keep}
-use Rattle.rules.proofs.Laws.Store.{Apart, get_d_last, apart_more, number_of_lem, keep_old, keep_8, keep_9, keep_new}
+use Rattle.rules.specs.Laws.Store.{Apart, get_d_last, apart_more, number_of_lem, keep_old, keep_8, keep_9, keep_new}
 use Rattle.terms.specs.declared.store.Mark.{Mark}
 use Rattle.terms.specs.Table.{CHAINS, FLAGS, HEADS, INDEX, BUCKETS, run, start, node_at, tree_at, trees, made, hash, bucket, latest, flag}
 use Rattle.terms.specs.Table.{Shaped, Node, Good, Same, Stored, Refused}

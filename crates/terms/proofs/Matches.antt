@@ -11,9 +11,9 @@ use lib.ListN.{length, get_or, set}
 use borrow.Author.Tests.{eq-eqb, ne_eqb}
 use Rattle.rules.specs.Limits.{SYMBOLS, ARGUMENTS, RULEVARS}
 use Rattle.rules.specs.Tree.{Tree, Trees, var, app, none, more, size, sizes, count_trees}
-use Rattle.rules.proofs.Laws.Tree.{not_same, same_self}
+use Rattle.rules.specs.Laws.Tree.{not_same, same_self}
 use Rattle.rules.specs.Store.{Made}
-use Rattle.rules.proofs.Laws.Store.{Apart}
+use Rattle.rules.specs.Laws.Store.{Apart}
 use Rattle.rules.specs.Match.{Bound, match_var, and_then, matches, match_all}
 use Rattle.terms.specs.Table.{args_of, tree_at}
 use Rattle.terms.specs.Patterns.{arity, Stands, Standing, PatternAt, tree_in, bound_of, Cells, Tried, hit, miss}

@@ -17,7 +17,7 @@ use lib.Count.{count_trailing_zeros, ones, ones_step}
 use borrow.Author.Count.{below_more}
 use borrow.Author.Tests.{ne_eqb, eqb-true, eqb-false}
 use Rattle.rules.specs.Find.{union, minus, least, rising, rising_from}
-use Rattle.rules.proofs.Laws.Set.{least_none, least_here, rising_all, rising_none, rising_split, rising_from_length}
+use Rattle.rules.specs.Laws.Set.{least_none, least_here, rising_all, rising_none, rising_split, rising_from_length}
 use Rattle.terms.specs.Sets.{digit, holds, plus}
 use Rattle.terms.specs.Laws.Digits.{digit_or, digit_and, digit_not, digit_one, digit_zero, digit_suc, digit_of_zero, Lowest, lowest}
 use Rattle.terms.specs.Laws.Sets.{eqb_iff, or_false, word_digit}

@@ -11,7 +11,7 @@ use lib.ListN.{length, get_or, set, length-set, length-append}
 use lib.Seq.{sets}
 use lib.Count.{count_trailing_zeros}
 use Rattle.rules.specs.Find.{rising, rising_from}
-use Rattle.rules.proofs.Laws.Set.{rising_from_none, rising_from_here, rising_from_agree, rising_from_split}
+use Rattle.rules.specs.Laws.Set.{rising_from_none, rising_from_here, rising_from_agree, rising_from_split}
 use Rattle.rules.specs.Limits.{TERMS, TERMWORDS}
 use Rattle.terms.specs.Sets.{digit, holds, shifted}
 use Rattle.terms.specs.Laws.Digits.{digit_of_zero, Lowest, lowest, digit_shift, digit_high}

@@ -9,7 +9,7 @@ use Rattle.rules.specs.Limits.{SYMBOLS}
 use Rattle.rules.specs.Out.{ok, then}
 use Rattle.rules.specs.Tree.{Tree, Trees, var, app, more, sub, subs}
 use Rattle.rules.specs.Store.{number, keep, make, makes}
-use Rattle.rules.proofs.Laws.Store.{number_is, make_app, makes_none, makes_more, makes_stop}
+use Rattle.rules.specs.Laws.Store.{number_is, make_app, makes_none, makes_more, makes_stop}
 use Rattle.terms.specs.declared.store.Mark.{Mark}
 use Rattle.terms.specs.declared.store.Kept.{Kept}
 use Rattle.terms.specs.declared.store.Kept.TheVariants.{Term, Full}

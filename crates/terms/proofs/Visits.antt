@@ -10,9 +10,9 @@ use lib.Dec.{eqb}
 use borrow.Author.Tests.{eqb-true}
 use Rattle.rules.specs.Limits.{SYMBOLS}
 use Rattle.rules.specs.Find.{Set, union}
-use Rattle.rules.proofs.Laws.Set.{or_left, or_right, union_assoc, union_empty, union_inside}
+use Rattle.rules.specs.Laws.Set.{or_left, or_right, union_assoc, union_empty, union_inside}
 use Rattle.rules.specs.Tree.{Tree, variables, variables_of, Trees, app, more, is_open, are_open}
-use Rattle.rules.proofs.Laws.Tree.{closed_empty, variables_var, variables_app, variables_none, variables_more}
+use Rattle.rules.specs.Laws.Tree.{closed_empty, variables_var, variables_app, variables_none, variables_more}
 use Rattle.rules.specs.Store.{Made, number}
 use Rattle.terms.specs.declared.store.Mark.{Mark}
 use Rattle.terms.specs.Sets.{holds, plus}

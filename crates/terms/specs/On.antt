@@ -10,7 +10,7 @@ use Rattle.std.proofs.Math.Option.{Option, some, none as nothing}
 use Rattle.rules.specs.Out.{Out, ok, refuse, then, ask, room, found}
 use Rattle.rules.specs.Tree.{Tree}
 use Rattle.rules.specs.Store.{Made}
-use Rattle.rules.proofs.Laws.Store.{then_ok, then_refuse}
+use Rattle.rules.specs.Laws.Store.{then_ok, then_refuse}
 use Rattle.terms.specs.declared.store.Mark.{Mark}
 use Rattle.terms.specs.Table.{made, Good, Grown, Stored, Refused, tree}
 use Rattle.terms.specs.Patterns.{Builds, Stops}

@@ -7,7 +7,7 @@ use Rattle.rules.specs.Limits.{SYMBOLS, VARIABLES, TERMS, WORDS, NODE}
 use Rattle.rules.specs.Out.{Out, ok, refuse}
 use Rattle.rules.specs.Tree.{Tree, Trees, var, app, none, more, is_open}
 use Rattle.rules.specs.Store.{Made, number}
-use Rattle.rules.proofs.Laws.Store.{Apart}
+use Rattle.rules.specs.Laws.Store.{Apart}
 use Rattle.terms.specs.declared.store.Mark.{Mark}
 use Rattle.terms.specs.declared.store.Kept.{Kept}
 use Rattle.terms.specs.declared.store.Kept.TheVariants.{Term, Full}

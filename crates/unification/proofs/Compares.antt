@@ -9,8 +9,8 @@ use lib.Dec.{eqb}
 use borrow.Author.Tests.{eq-eqb, ne_eqb}
 use Rattle.rules.specs.Limits.{SYMBOLS, VARIABLES, VARIABLEWORDS}
 use Rattle.rules.specs.Tree.{Tree, Trees, var, app, variables, count_trees}
-use Rattle.rules.proofs.Laws.Tree.{same_eq, not_same}
-use Rattle.rules.proofs.Laws.Store.{Apart}
+use Rattle.rules.specs.Laws.Tree.{same_eq, not_same}
+use Rattle.rules.specs.Laws.Store.{Apart}
 use Rattle.rules.specs.Unify.{Look, agree, clash, binds, parts, bind_or_clash, differ, look}
 use Rattle.terms.specs.declared.store.Mark.{Mark}
 use Rattle.unification.specs.declared.pairs.Asks.{Asks}

@@ -8,7 +8,7 @@ use Rattle.rules.specs.Out.{Out, then}
 use Rattle.rules.specs.Tree.{Tree, sub}
 use Rattle.rules.specs.Store.{Made, make, substitute}
 use Rattle.rules.specs.Unify.{Found}
-use Rattle.rules.proofs.Laws.Store.{then_ok, then_refuse}
+use Rattle.rules.specs.Laws.Store.{then_ok, then_refuse}
 use Rattle.terms.specs.declared.store.Mark.{Mark}
 use Rattle.terms.specs.declared.store.Kept.{Kept}
 use Rattle.terms.specs.declared.store.Kept.TheVariants.{Term, Full}

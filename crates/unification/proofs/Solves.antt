@@ -16,7 +16,7 @@ use Rattle.rules.specs.Out.{Out, ok, then}
 use Rattle.rules.specs.Tree.{Tree, var}
 use Rattle.rules.specs.Store.{Made}
 use Rattle.rules.specs.Unify.{Binding, Pair, insert, replace, Found, finished, clashed, bound, weight, outcome, solve}
-use Rattle.rules.proofs.Laws.Store.{then_ok, then_refuse}
+use Rattle.rules.specs.Laws.Store.{then_ok, then_refuse}
 use Rattle.meaning.specs.Unification.Acts.{of_ok}
 use Rattle.meaning.specs.Unification.List.{Bound as HasBinding, Settled, replaced, replace_ok, extended, settled_extended}
 use Rattle.meaning.specs.Unification.Peel.{Binds as BindsRightly, Peeled as PeeledRightly, peel_ok}

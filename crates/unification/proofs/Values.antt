@@ -10,8 +10,8 @@ use lib.Seq.{length-take-le, take-suc, take-suc-set, take_all, drop-cons, get_or
 use Rattle.rules.specs.Out.{Out, ok, refuse, then}
 use Rattle.rules.specs.Tree.{Tree, var, sub}
 use Rattle.rules.specs.Store.{Made, make, substitute}
-use Rattle.rules.proofs.Laws.Out.{then_then}
-use Rattle.rules.proofs.Laws.Store.{then_ok, then_refuse, number_is}
+use Rattle.rules.specs.Laws.Out.{then_then}
+use Rattle.rules.specs.Laws.Store.{then_ok, then_refuse, number_is}
 use Rattle.rules.specs.Unify.{Binding}
 use Rattle.terms.specs.declared.store.Mark.{Mark}
 use Rattle.terms.specs.declared.store.Kept.{Kept}

@@ -10,8 +10,8 @@ use Rattle.rules.specs.Store.{Made}
 use Rattle.rules.specs.State.{State}
 use Rattle.rules.specs.Read.{index, vars_list}
 use Rattle.rules.specs.Invert.{Case, read_case}
-use Rattle.rules.proofs.Laws.Store.{then_ok, then_refuse}
-use Rattle.rules.proofs.Laws.Sexp.{rest_item}
+use Rattle.rules.specs.Laws.Store.{then_ok, then_refuse}
+use Rattle.rules.specs.Laws.Sexp.{rest_item}
 use Rattle.sexp.specs.Encode.{encodes}
 use Rattle.sexp.specs.Items.{Holds, item_at, place}
 use Rattle.sexp.specs.Never.{never}

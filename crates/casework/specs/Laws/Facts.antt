@@ -11,11 +11,11 @@ use Rattle.rules.specs.Unify.{Binding}
 use Rattle.rules.specs.State.{State}
 use Rattle.rules.specs.Reference.{fact_at}
 use Rattle.rules.specs.Invert.{Allowed, is_allowed, context_fact, context_facts}
-use Rattle.rules.proofs.Laws.Theory.{All, empty, both, all_map}
-use Rattle.rules.proofs.Laws.Out.{then_then}
-use Rattle.rules.proofs.Laws.Store.{then_ok}
-use Rattle.rules.proofs.Laws.Set.{union_assoc, union_empty}
-use Rattle.rules.proofs.Laws.Members.{has_append}
+use Rattle.rules.specs.Laws.Theory.{All, empty, both, all_map}
+use Rattle.rules.specs.Laws.Out.{then_then}
+use Rattle.rules.specs.Laws.Store.{then_ok}
+use Rattle.rules.specs.Laws.Set.{union_assoc, union_empty}
+use Rattle.rules.specs.Laws.Members.{has_append}
 use Rattle.terms.specs.declared.store.Mark.{Mark}
 use Rattle.terms.specs.Table.{made, Good, Grown}
 use Rattle.terms.specs.Sets.{holds}

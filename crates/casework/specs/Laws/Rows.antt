@@ -11,8 +11,8 @@ use Rattle.rules.specs.Text.{same}
 use Rattle.rules.specs.Find.{Set, union, has}
 use Rattle.rules.specs.Tree.{same_tree, same_trees}
 use Rattle.rules.specs.Invert.{is_allowed}
-use Rattle.rules.proofs.Laws.Theory.{all_at}
-use Rattle.rules.proofs.Laws.Set.{union_empty}
+use Rattle.rules.specs.Laws.Theory.{all_at}
+use Rattle.rules.specs.Laws.Set.{union_empty}
 use Rattle.terms.specs.declared.store.Mark.{Mark}
 use Rattle.terms.specs.Node.{same_words}
 use Rattle.terms.specs.Table.{made, tree, args_of}

@@ -11,8 +11,8 @@ use Rattle.rules.specs.Limits.{TERMS}
 use Rattle.rules.specs.Out.{Out, ok, then}
 use Rattle.rules.specs.Tree.{Tree, Trees, var, none, more}
 use Rattle.rules.specs.Store.{Made, substitute, substitutes}
-use Rattle.rules.proofs.Laws.Theory.{All, empty, both, all_snoc, all_map, all_at}
-use Rattle.rules.proofs.Laws.Out.{then_then}
+use Rattle.rules.specs.Laws.Theory.{All, empty, both, all_snoc, all_map, all_at}
+use Rattle.rules.specs.Laws.Out.{then_then}
 use Rattle.terms.specs.declared.store.Mark.{Mark}
 use Rattle.terms.specs.declared.store.Kept.{Kept}
 use Rattle.terms.specs.declared.store.Kept.TheVariants.{Term, Full}

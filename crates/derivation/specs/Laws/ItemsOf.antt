@@ -21,9 +21,10 @@ use Rattle.rules.specs.Declare.{no_rule_var, is_new}
 use Rattle.rules.specs.Match.{Bound, bind}
 use Rattle.rules.specs.State.{State}
 use Rattle.rules.specs.Step.{Items, no_items, bind_item, state_item, read_item}
-use Rattle.rules.proofs.Laws.Keeping.{Invariant, Keeps, fine, stays, by_then, by_still, by_ask, by_found, by_either}
+use Rattle.rules.specs.Laws.Keeping.{Invariant, Keeps, fine, stays, by_then, by_still, by_ask, by_found, by_either}
 use Rattle.rules.proofs.Laws.Still.{name_still, items_still}
-use Rattle.rules.proofs.Laws.ReadWalk.{Ready, term_of_keeps, judgment_keeps}
+use Rattle.rules.proofs.Laws.ReadWalk.{term_of_keeps, judgment_keeps}
+use Rattle.rules.specs.Laws.Ready.{Ready}
 use Rattle.terms.specs.declared.store.Mark.{Mark}
 use Rattle.terms.specs.Table.{made, tree, Grown}
 use Rattle.terms.specs.Patterns.{tree_in, bound_of, Cells}

@@ -8,8 +8,8 @@ use Rattle.rules.specs.Sexp.{Sexps, count}
 use Rattle.rules.specs.Tree.{count_trees}
 use Rattle.rules.specs.State.{State}
 use Rattle.rules.specs.Forms.{with_made, with_goals}
-use Rattle.rules.proofs.Laws.Made.{sound, stored_in}
-use Rattle.rules.proofs.Laws.Row.{filled_fits}
+use Rattle.rules.specs.Laws.Sound.{sound, stored_in}
+use Rattle.rules.specs.Laws.Row.{filled_fits}
 use Rattle.kernel.specs.Parsed.{TheoryLists}
 use Rattle.sexp.specs.Items.{Holds}
 use Rattle.terms.specs.declared.store.Mark.{Mark}

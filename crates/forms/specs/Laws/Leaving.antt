@@ -3,8 +3,8 @@ use Rattle.std.specs.Prelude.{◌≡◌, List, ℕ}
 use Rattle.std.proofs.Common.{sym, subst}
 use Rattle.rules.specs.State.{State}
 use Rattle.rules.specs.Forms.{with_made}
-use Rattle.rules.proofs.Laws.Keeping.{Grows, stays}
-use Rattle.rules.proofs.Laws.Made.{sound}
+use Rattle.rules.specs.Laws.Keeping.{Grows, stays}
+use Rattle.rules.specs.Laws.Sound.{sound}
 use Rattle.kernel.specs.Parsed.{TheoryLists}
 use Rattle.terms.specs.declared.store.Mark.{Mark}
 use Rattle.terms.specs.Table.{made, Good}

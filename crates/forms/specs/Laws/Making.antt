@@ -9,11 +9,11 @@ use Rattle.rules.specs.Sexp.{Sexps, cons, count, item, rest}
 use Rattle.rules.specs.Store.{Made}
 use Rattle.rules.specs.State.{State}
 use Rattle.rules.specs.Forms.{with_made, making}
-use Rattle.rules.proofs.Laws.Keeping.{Keeps, stays, further}
-use Rattle.rules.proofs.Laws.Made.{sound}
-use Rattle.rules.proofs.Laws.ReadWalk.{Ready}
-use Rattle.rules.proofs.Laws.Sexp.{rest_item}
-use Rattle.rules.proofs.Laws.Store.{then_ok, then_refuse}
+use Rattle.rules.specs.Laws.Keeping.{Keeps, stays, further}
+use Rattle.rules.specs.Laws.Sound.{sound}
+use Rattle.rules.specs.Laws.Ready.{Ready}
+use Rattle.rules.specs.Laws.Sexp.{rest_item}
+use Rattle.rules.specs.Laws.Store.{then_ok, then_refuse}
 use Rattle.sexp.specs.Encode.{encodes}
 use Rattle.sexp.specs.Items.{Holds, place}
 use Rattle.sexp.specs.NthItem.{rest_holds}

@@ -6,7 +6,7 @@ use Rattle.rules.specs.Sexp.{Sexps, count}
 use Rattle.rules.specs.Tags.{Tag, a_step, a_hyp, a_rule_hyp, an_induct, an_induct_with, an_apply, an_invert}
 use Rattle.rules.specs.State.{State}
 use Rattle.rules.specs.Forms.{next, perform, add_step, add_hyp, add_rule_hyp, add_induct, add_induct_with, add_apply, add_invert}
-use Rattle.rules.proofs.Laws.Store.{then_ok, then_refuse}
+use Rattle.rules.specs.Laws.Store.{then_ok, then_refuse}
 use Rattle.sexp.specs.Items.{Holds}
 use Rattle.kernel.specs.Parsed.{TheoryLists}
 use Rattle.terms.specs.declared.store.Mark.{Mark}

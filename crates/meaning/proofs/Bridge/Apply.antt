@@ -23,12 +23,12 @@ use Rattle.meaning.specs.Trees.Tests.{and_true, same_tree_true, occ_variables, o
 use Rattle.meaning.specs.Unification.Acts.{Ok, done, ok_then, substitute_ok}
 use Rattle.meaning.specs.Unification.List.{Bound, Each, along_cases, each_map}
 use Rattle.meaning.specs.Truth.{At, HypOf, Needs, Plain}
-use Rattle.meaning.proofs.Lemmas.Forms.{Ref as RefForm, Refs as RefForms, Allowed, apply_hyp, apply_fact}
+use Rattle.meaning.specs.Lemmas.Forms.{Ref as RefForm, Refs as RefForms, Allowed, apply_hyp, apply_fact}
 use Rattle.meaning.specs.Named.{Points, Item, ItemOf}
 use Rattle.meaning.specs.Sets.{Sets}
-use Rattle.meaning.proofs.Bridge.Asked.{no_some, some_same, both_true, true_left, true_right, ok_ask, ok_if, ok_items, ok_index, at_entry, at_below, all_in, has_in, in_has, rising_in, in_rising}
-use Rattle.meaning.proofs.Bridge.Well.{Typed, Judgment, Judgments, WellFact, Well, judgments_small}
-use Rattle.meaning.proofs.Bridge.Read.{fact_ok}
+use Rattle.meaning.specs.Bridge.Asked.{no_some, some_same, both_true, true_left, true_right, ok_ask, ok_if, ok_items, ok_index, at_entry, at_below, all_in, has_in, in_has, rising_in, in_rising}
+use Rattle.meaning.specs.Bridge.Well.{Typed, Judgment, Judgments, WellFact, Well, judgments_small}
+use Rattle.meaning.specs.Bridge.Read.{fact_ok}
 use Rattle.meaning.proofs.Bridge.Refs.{is_none_lem, is_empty_lem, Scoped, scoped_ok, BindsOk, bindings_ok, along_sorted, along_judgment, at_judgments}
 use Rattle.meaning.proofs.Bridge.Refs.{Citable, cite, FreeOfRules, reference_ok, RefsOk, no_refs_ok, with_ref_ok}
 use Rattle.meaning.proofs.Bridge.Step.{Fine}

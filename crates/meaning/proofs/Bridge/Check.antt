@@ -13,9 +13,9 @@ use Rattle.rules.specs.Sexp.{Sexp, Sexps, atom, list, item, Text, ends, fails, m
 use Rattle.rules.specs.Find.{entry, every}
 use Rattle.rules.specs.Theory.{Theory, no_theory}
 use Rattle.rules.specs.Declare.{declare}
-use Rattle.rules.proofs.Laws.Theory.{WellFormed}
-use Rattle.rules.proofs.Laws.Declare.{reached, theory_formed, nothing_formed}
-use Rattle.rules.proofs.Laws.Reached.{end_of}
+use Rattle.rules.specs.Laws.Theory.{WellFormed}
+use Rattle.rules.specs.Laws.Declare.{reached, theory_formed, nothing_formed}
+use Rattle.rules.specs.Laws.Reached.{end_of}
 use Rattle.rules.proofs.Laws.Bounded.{BoundedCheck, goals_bounded, forms_bounded}
 use Rattle.rules.specs.State.{State, Goal, begin, sort_of_var}
 use Rattle.rules.specs.Loop.{Judged, done, refused, through, unread, whole}
@@ -26,12 +26,12 @@ use Rattle.meaning.specs.Named.{Calm, ResultOf}
 use Rattle.meaning.specs.Runs.{Taken, after, IfTaken, Throughout, OrLater, Somewhere, Calmly, Respectful, CalmTexts, Results}
 use Rattle.meaning.specs.Derivation.{RuleOf}
 use Rattle.meaning.specs.Sets.{Sets, of_theory, RuleAt, RuleAs, Tagged, Respects, Within}
-use Rattle.meaning.proofs.Bridge.Asked.{no_some, some_same}
-use Rattle.meaning.proofs.Bridge.Well.{WellTheory, Agree, agree_extends}
-use Rattle.meaning.proofs.Bridge.Read.{rule_known}
-use Rattle.meaning.proofs.Bridge.Ends.{Ends, done as taken}
+use Rattle.meaning.specs.Bridge.Asked.{no_some, some_same}
+use Rattle.meaning.specs.Bridge.Well.{WellTheory, Agree, agree_extends}
+use Rattle.meaning.specs.Bridge.Read.{rule_known}
+use Rattle.meaning.specs.Bridge.Ends.{Ends, done as taken}
 use Rattle.meaning.proofs.Bridge.Took.{Post}
-use Rattle.meaning.proofs.Bridge.Theory.{well_theory}
+use Rattle.meaning.specs.Bridge.Theory.{well_theory}
 use Rattle.meaning.proofs.Bridge.Take.{Asks, take_form_ok}
 use Rattle.meaning.proofs.Bridge.Run.{Good, Passed, passed_none, passed_void, run_extends, run_passed}
 use Rattle.meaning.proofs.Bridge.Goals.{Anything, take_goal_ok, anything, start_good}

@@ -13,15 +13,15 @@ use Rattle.rules.specs.State.{State, Goal, begin as start, goal_named, abbreviat
 use Rattle.rules.specs.Read.{judgment, judgments}
 use Rattle.rules.specs.Tags.{GoalForm, a_variable, a_goal, a_goal_with, goal_form}
 use Rattle.rules.specs.Forms.{with_made, add_goal, goal, take_goal}
-use Rattle.rules.proofs.Laws.Entry.{entry_front, entry_snoc}
+use Rattle.rules.specs.Laws.Entry.{entry_front, entry_snoc}
 use Rattle.meaning.specs.Trees.Tests.{true_false}
 use Rattle.meaning.specs.Unification.Acts.{ok_any}
 use Rattle.meaning.specs.Truth.{At}
-use Rattle.meaning.proofs.Lemmas.Forms.{begin}
+use Rattle.meaning.specs.Lemmas.Forms.{begin}
 use Rattle.meaning.specs.Sets.{Sets}
-use Rattle.meaning.proofs.Bridge.Asked.{no_some}
-use Rattle.meaning.proofs.Bridge.Well.{WellTheory, Agree, extends_same}
-use Rattle.meaning.proofs.Bridge.Ends.{Ends, done, keeping, keeps_ask, keeps_room, keeps_found, keeps_name, keeps_items, making_then}
+use Rattle.meaning.specs.Bridge.Asked.{no_some}
+use Rattle.meaning.specs.Bridge.Well.{WellTheory, Agree, extends_same}
+use Rattle.meaning.specs.Bridge.Ends.{Ends, done, keeping, keeps_ask, keeps_room, keeps_found, keeps_name, keeps_items, making_then}
 use Rattle.meaning.proofs.Bridge.Took.{Post}
 use Rattle.meaning.proofs.Bridge.Proof.{add-var-ok}
 use Rattle.meaning.specs.Runs.{IfTaken, Throughout}

@@ -25,13 +25,13 @@ use Rattle.meaning.specs.Unification.Acts.{Ok, done, ok_then, keep_ok, substitut
 use Rattle.meaning.specs.Signature.{sig}
 use Rattle.meaning.specs.Truth.{At, HypOf, Plain}
 use Rattle.meaning.specs.Trees.Replace.{vars, Fit, Distinct}
-use Rattle.meaning.proofs.Lemmas.Inducts.{CaseHyp, premise, plainly, ruled, Motive, Below, at, ats}
-use Rattle.meaning.proofs.Lemmas.Forms.{InductCase, induct as an_induct}
+use Rattle.meaning.specs.Lemmas.Inducts.{CaseHyp, premise, plainly, ruled, Motive, Below, at, ats}
+use Rattle.meaning.specs.Lemmas.Forms.{InductCase, induct as an_induct}
 use Rattle.meaning.specs.Named.{Item, ItemOf, Cases}
 use Rattle.meaning.specs.Sets.{Sets}
-use Rattle.meaning.proofs.Bridge.Asked.{both_true, either_true, true_left, true_right, not-true, ok_ask, ok_map, ok_if, ok_items, ok_index, at_entry, at_unique, at_below, every_in, all_in}
-use Rattle.meaning.proofs.Bridge.Well.{Judgments, Agree, Well}
-use Rattle.meaning.proofs.Bridge.Read.{in_snoc, distinct_snoc, not_has, variable_ok, fact_ok, judgment_ok}
+use Rattle.meaning.specs.Bridge.Asked.{both_true, either_true, true_left, true_right, not-true, ok_ask, ok_map, ok_if, ok_items, ok_index, at_entry, at_unique, at_below, every_in, all_in}
+use Rattle.meaning.specs.Bridge.Well.{Judgments, Agree, Well}
+use Rattle.meaning.specs.Bridge.Read.{in_snoc, distinct_snoc, not_has, variable_ok, fact_ok, judgment_ok}
 use Rattle.meaning.proofs.Bridge.Refs.{is_none_lem, HypsOk, hyp_list_ok, judgments_at_lem, Citable, cite}
 use Rattle.meaning.proofs.Bridge.Apply.{is_plain_lem}
 use Rattle.meaning.proofs.Bridge.Step.{Fine}

@@ -28,18 +28,18 @@ use Rattle.meaning.specs.Unification.Right.{unify_complete, unify_general, unify
 use Rattle.meaning.specs.Signature.{sig, PROP, arity, rule_sort}
 use Rattle.meaning.specs.Derivation.{RuleOf}
 use Rattle.meaning.specs.Truth.{Mentions, At, HypOf}
-use Rattle.meaning.proofs.Lemmas.Inverts.{renamed, Used, Apart}
-use Rattle.meaning.proofs.Lemmas.Forms.{InContext, InvertCase, InvertCased, lone, paired, InvertRule, invert as an_invert}
+use Rattle.meaning.specs.Lemmas.Inverts.{renamed, Used, Apart}
+use Rattle.meaning.specs.Lemmas.Forms.{InContext, InvertCase, InvertCased, lone, paired, InvertRule, invert as an_invert}
 use Rattle.meaning.specs.Named.{ItemOf, CasesFor, SomeInverts}
 use Rattle.meaning.specs.Sets.{Sets}
-use Rattle.meaning.proofs.Bridge.Asked.{both_true, true_left, true_right, not-true, ok_self, ok_ask, ok_map, ok_items, ok_index, at_entry, at_below, every_in, in_every, all_in, in_has, rising_in, in_rising}
-use Rattle.meaning.proofs.Bridge.Well.{Judgment, Judgments, WellRule, WellTheory, Agree, Extends, Well, app_form, judgments_small, extends_same, extends_both, extends_length, agree_extends}
-use Rattle.meaning.proofs.Bridge.Read.{VarsOk, fact_ok, judgment_ok}
+use Rattle.meaning.specs.Bridge.Asked.{both_true, true_left, true_right, not-true, ok_self, ok_ask, ok_map, ok_items, ok_index, at_entry, at_below, every_in, in_every, all_in, in_has, rising_in, in_rising}
+use Rattle.meaning.specs.Bridge.Well.{Judgment, Judgments, WellRule, WellTheory, Agree, Extends, Well, app_form, judgments_small, extends_same, extends_both, extends_length, agree_extends}
+use Rattle.meaning.specs.Bridge.Read.{VarsOk, fact_ok, judgment_ok}
 use Rattle.meaning.proofs.Bridge.Refs.{HypsOk, hyp_list_ok, Citable, cite}
 use Rattle.meaning.proofs.Bridge.Apply.{is_plain_lem, in_here}
 use Rattle.meaning.proofs.Bridge.Step.{Fine}
-use Rattle.meaning.proofs.Bridge.Names.{get_in, get_distinct, suit_sorts, get_up, made_for, make_vars_ok, made_length, made_sort}
-use Rattle.meaning.proofs.Bridge.Case.{CasesOk, read_cases_ok, case_found, Uncaptured, rule_premises_ok, context_facts_ok, allowed_in_lem, premises_and_context}
+use Rattle.meaning.specs.Bridge.Names.{get_in, get_distinct, suit_sorts, get_up, made_for, make_vars_ok, made_length, made_sort}
+use Rattle.meaning.specs.Bridge.Case.{CasesOk, read_cases_ok, case_found, Uncaptured, rule_premises_ok, context_facts_ok, allowed_in_lem, premises_and_context}
 
 -- The renaming ----------------------------------------------------------------------------------------------------------------------
 

@@ -24,20 +24,20 @@ use Rattle.meaning.specs.Trees.Tree.{In}
 use Rattle.meaning.specs.Trees.Tests.{true_false}
 use Rattle.meaning.specs.Unification.Acts.{Ok, done as fine, ok_then, ok_any}
 use Rattle.meaning.specs.Truth.{At}
-use Rattle.meaning.proofs.Lemmas.Forms.{hyp}
+use Rattle.meaning.specs.Lemmas.Forms.{hyp}
 use Rattle.meaning.specs.Named.{ItemOf, NamesAs, ResultAs, SomeRefers, SomeCases, RuleHyp}
 use Rattle.meaning.specs.Derivation.{RuleOf}
 use Rattle.meaning.specs.Sets.{Sets, RuleAs, CitesAs}
-use Rattle.meaning.proofs.Bridge.Asked.{some_same, ok_map, ok_ask}
-use Rattle.meaning.proofs.Bridge.Well.{Typed, Judgment, Judgments, Agree, Extends, Well, extends_same, extends_one, extends_both}
-use Rattle.meaning.proofs.Bridge.Read.{term_ok, judgment_ok, judgments_ok}
+use Rattle.meaning.specs.Bridge.Asked.{some_same, ok_map, ok_ask}
+use Rattle.meaning.specs.Bridge.Well.{Typed, Judgment, Judgments, Agree, Extends, Well, extends_same, extends_one, extends_both}
+use Rattle.meaning.specs.Bridge.Read.{term_ok, judgment_ok, judgments_ok}
 use Rattle.meaning.proofs.Bridge.Refs.{calm_free, Citable, FreeOfRules}
 use Rattle.meaning.proofs.Bridge.Step.{Fine, step_ok}
 use Rattle.meaning.proofs.Bridge.Apply.{in_here, apply_ok}
 use Rattle.meaning.proofs.Bridge.Induct.{CasesFree, induct_ok, induct_with_ok}
-use Rattle.meaning.proofs.Bridge.Names.{made_for, make_vars_ok}
+use Rattle.meaning.specs.Bridge.Names.{made_for, make_vars_ok}
 use Rattle.meaning.proofs.Bridge.Invert.{invert_ok}
-use Rattle.meaning.proofs.Bridge.Ends.{Ends, done, ends_map, keeping, keeps_ask, keeps_room, keeps_found, keeps_name, keeps_vars_list, making_then}
+use Rattle.meaning.specs.Bridge.Ends.{Ends, done, ends_map, keeping, keeps_ask, keeps_room, keeps_found, keeps_name, keeps_vars_list, making_then}
 use Rattle.meaning.proofs.Bridge.Took.{Post, ok_all, no_result, well_vars, add_fact_lem, fact_post}
 
 -- what is asked of a form: the facts that it names are no rule hypotheses with premises, and the sets respect what it cites

@@ -23,12 +23,12 @@ use Rattle.meaning.specs.Unification.Acts.{Ok, done, stopped, ok_then, substitut
 use Rattle.meaning.specs.Unification.List.{Each, along_cases, each_insert}
 use Rattle.meaning.specs.Signature.{sig}
 use Rattle.meaning.specs.Truth.{Mentions, Free, At}
-use Rattle.meaning.proofs.Lemmas.Forms.{Cites, Ref as RefForm, bare, inst, Refs as RefForms}
+use Rattle.meaning.specs.Lemmas.Forms.{Cites, Ref as RefForm, bare, inst, Refs as RefForms}
 use Rattle.meaning.specs.Named.{Points, Item, Refers, RuleHyp}
 use Rattle.meaning.specs.Sets.{Sets}
-use Rattle.meaning.proofs.Bridge.Asked.{both_true, either_true, not-true, ok_ask, ok_map, ok_items, ok_index, entry_at, at_entry, has_in, in_has, in_rising, least_zero}
-use Rattle.meaning.proofs.Bridge.Well.{Typed, Judgment, Judgments, WellFact, Agree, Well, judgment_sub}
-use Rattle.meaning.proofs.Bridge.Read.{variable_ok, fact_ok, term_of_ok}
+use Rattle.meaning.specs.Bridge.Asked.{both_true, either_true, not-true, ok_ask, ok_map, ok_items, ok_index, entry_at, at_entry, has_in, in_has, in_rising, least_zero}
+use Rattle.meaning.specs.Bridge.Well.{Typed, Judgment, Judgments, WellFact, Agree, Well, judgment_sub}
+use Rattle.meaning.specs.Bridge.Read.{variable_ok, fact_ok, term_of_ok}
 
 -- Small tests -----------------------------------------------------------------------------------------------------------------------
 

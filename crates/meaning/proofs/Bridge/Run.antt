@@ -12,22 +12,22 @@ use Rattle.rules.specs.Tree.{Tree, Trees, none, sub}
 use Rattle.rules.specs.Theory.{Theory, rule}
 use Rattle.rules.specs.State.{State, Fact, Goal}
 use Rattle.rules.specs.Loop.{Judged, refused, through}
-use Rattle.rules.proofs.Laws.Reached.{end_of}
+use Rattle.rules.specs.Laws.Reached.{end_of}
 use Rattle.meaning.specs.Trees.Tree.{Occ, Occs, In, Among, among_occ}
 use Rattle.meaning.specs.Signature.{sig, Value}
 use Rattle.meaning.specs.Derivation.{Der, RuleOf}
 use Rattle.meaning.specs.Truth.{Mentions, Free, At, HypOf, Needs, Holds, Gives, True, Plain}
-use Rattle.meaning.proofs.Lemmas.Sound.{plain_holds}
-use Rattle.meaning.proofs.Lemmas.Inverts.{Shaped}
-use Rattle.meaning.proofs.Lemmas.Forms.{grown, Allowed, Cites, Ref, bare, inst, Form, Run, take}
-use Rattle.meaning.proofs.Lemmas.Run.{at_grown, run_sound, ref_gives}
+use Rattle.meaning.specs.Lemmas.Sound.{plain_holds}
+use Rattle.meaning.specs.Lemmas.Inverts.{Shaped}
+use Rattle.meaning.specs.Lemmas.Forms.{grown, Allowed, Cites, Ref, bare, inst, Form, Run, take}
+use Rattle.meaning.specs.Lemmas.Run.{at_grown, run_sound, ref_gives}
 use Rattle.meaning.specs.Named.{RuleHyp}
 use Rattle.meaning.specs.Runs.{IfTaken, Throughout, OrLater, Somewhere}
 use Rattle.meaning.specs.Sets.{Sets, Within}
-use Rattle.meaning.proofs.Bridge.Asked.{some_same, at_unique}
-use Rattle.meaning.proofs.Bridge.Well.{WellTheory, Agree, Extends, Well, app_form, extends_same, extends_both, agree_extends}
+use Rattle.meaning.specs.Bridge.Asked.{some_same, at_unique}
+use Rattle.meaning.specs.Bridge.Well.{WellTheory, Agree, Extends, Well, app_form, extends_same, extends_both, agree_extends}
 use Rattle.meaning.proofs.Bridge.Refs.{calm_free}
-use Rattle.meaning.proofs.Bridge.Ends.{Ends, done}
+use Rattle.meaning.specs.Bridge.Ends.{Ends, done}
 use Rattle.meaning.proofs.Bridge.Took.{Kept, resting, Settled, Took, Post}
 
 -- Definitions -----------------------------------------------------------------------------------------------------------------------

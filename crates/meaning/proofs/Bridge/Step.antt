@@ -20,13 +20,13 @@ use Rattle.meaning.specs.Trees.Tests.{occs_variables_of}
 use Rattle.meaning.specs.Unification.Acts.{Ok, done, ok_then, ok_any}
 use Rattle.meaning.specs.Signature.{sig, PROP, rule_sort}
 use Rattle.meaning.specs.Truth.{HypOf, Needs}
-use Rattle.meaning.proofs.Lemmas.Forms.{Refs as RefForms, Allowed, Form, step as a_step}
+use Rattle.meaning.specs.Lemmas.Forms.{Refs as RefForms, Allowed, Form, step as a_step}
 use Rattle.meaning.specs.Named.{ItemOf}
 use Rattle.meaning.specs.Sets.{Sets, RuleAt}
-use Rattle.meaning.proofs.Bridge.Asked.{no_some, some_same, true_left, ok_ask, ok_found, ok_if, ok_atom, ok_items, rising_in, in_rising}
-use Rattle.meaning.proofs.Bridge.Matching.{Agrees, Grows, Matched, MatchedAll, matched, matched_all, bind_cases, filled, filled_agrees, Built, build_ok}
-use Rattle.meaning.proofs.Bridge.Well.{Props, Typed, Judgment, Judgments, WellRule, WellTheory, WellFact, Well, judgment_sub, judgments_small, judgments_props, props_bound}
-use Rattle.meaning.proofs.Bridge.Read.{rule_known, term_of_ok, judgment_ok}
+use Rattle.meaning.specs.Bridge.Asked.{no_some, some_same, true_left, ok_ask, ok_found, ok_if, ok_atom, ok_items, rising_in, in_rising}
+use Rattle.meaning.specs.Bridge.Matching.{Agrees, Grows, Matched, MatchedAll, matched, matched_all, bind_cases, filled, filled_agrees, Built, build_ok}
+use Rattle.meaning.specs.Bridge.Well.{Props, Typed, Judgment, Judgments, WellRule, WellTheory, WellFact, Well, judgment_sub, judgments_small, judgments_props, props_bound}
+use Rattle.meaning.specs.Bridge.Read.{rule_known, term_of_ok, judgment_ok}
 use Rattle.meaning.proofs.Bridge.Refs.{Scoped, scoped_ok, FreeOfRules, RefsOk, references_ok}
 
 -- a new fact is well-sorted, and taken by a form whose tests held

@@ -15,14 +15,14 @@ use Rattle.meaning.specs.Trees.Tree.{Among}
 use Rattle.meaning.specs.Trees.Tests.{true_false, same_tree_true, among_true}
 use Rattle.meaning.specs.Unification.Acts.{Ok, done as fine, ok_then, ok_any}
 use Rattle.meaning.specs.Truth.{At, Plain}
-use Rattle.meaning.proofs.Lemmas.Forms.{Ref as RefForm}
+use Rattle.meaning.specs.Lemmas.Forms.{Ref as RefForm}
 use Rattle.meaning.specs.Named.{Points, Refers, NamesAs, tag_of, Names, RuleHyp, Calm, GoalAt, ResultAs, ResultOf}
 use Rattle.meaning.specs.Sets.{Sets, RuleAs, CitesAs, Tagged, Respects, Within}
-use Rattle.meaning.proofs.Bridge.Asked.{no_some, some_same, both_true, ok_ask, ok_index, entry_at, all_in}
-use Rattle.meaning.proofs.Bridge.Well.{Well, extends_same}
+use Rattle.meaning.specs.Bridge.Asked.{no_some, some_same, both_true, ok_ask, ok_index, entry_at, all_in}
+use Rattle.meaning.specs.Bridge.Well.{Well, extends_same}
 use Rattle.meaning.proofs.Bridge.Refs.{calm_free, Citable, FreeOfRules, RefOk, reference_ok}
 use Rattle.meaning.proofs.Bridge.Apply.{is_plain_lem}
-use Rattle.meaning.proofs.Bridge.Ends.{Ends, done, Keeps, ends_map, keeping, keeps_ask, keeps_found, keeps_name, keeps_items, keeps_index, making_then}
+use Rattle.meaning.specs.Bridge.Ends.{Ends, done, Keeps, ends_map, keeping, keeps_ask, keeps_found, keeps_name, keeps_items, keeps_index, making_then}
 use Rattle.meaning.proofs.Bridge.Took.{resting, Settled, Took, Post, ok_all}
 use Rattle.meaning.proofs.Bridge.Proof.{Clear, After, add-var-ok, add-def-ok, add-hyp-ok, add-rule-hyp-ok, add-step-ok, add-apply-ok, add-induct-ok, add-induct-with-ok, add-invert-ok}
 

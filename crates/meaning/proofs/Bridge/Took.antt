@@ -15,11 +15,11 @@ use Rattle.meaning.specs.Trees.Tree.{Occ, In, Among}
 use Rattle.meaning.specs.Unification.Acts.{Ok, done as fine, stopped as over, of_ok}
 use Rattle.meaning.specs.Sets.{Sets}
 use Rattle.meaning.specs.Truth.{At, Plain}
-use Rattle.meaning.proofs.Lemmas.Forms.{grown, Ref as RefForm, Form}
-use Rattle.meaning.proofs.Lemmas.Run.{at_split}
-use Rattle.meaning.proofs.Bridge.Well.{Typed, WellFact, Agree, Extends, Well, typed_more, fact_more, extends_length}
+use Rattle.meaning.specs.Lemmas.Forms.{grown, Ref as RefForm, Form}
+use Rattle.meaning.specs.Lemmas.Run.{at_split}
+use Rattle.meaning.specs.Bridge.Well.{Typed, WellFact, Agree, Extends, Well, typed_more, fact_more, extends_length}
 use Rattle.meaning.proofs.Bridge.Step.{Fine}
-use Rattle.meaning.proofs.Bridge.Ends.{Ends, done, keeping, keeps_room}
+use Rattle.meaning.specs.Bridge.Ends.{Ends, done, keeping, keeps_room}
 
 -- Definitions -----------------------------------------------------------------------------------------------------------------------
 

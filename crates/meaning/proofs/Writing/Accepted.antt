@@ -7,19 +7,19 @@ use Rattle.std.proofs.Math.Bool.{true, false}
 use mathlib.Core.List.{List, []}
 use Rattle.rules.specs.Text.{short, plain}
 use Rattle.rules.specs.Sexp.{read}
-use Rattle.rules.proofs.Laws.Theory.{WellFormed}
-use Rattle.rules.proofs.Laws.Name.{Named, theory_named}
-use Rattle.rules.proofs.Laws.Declare.{reached, theory_formed}
+use Rattle.rules.specs.Laws.Theory.{WellFormed}
+use Rattle.rules.specs.Laws.Name.{Named, theory_named}
+use Rattle.rules.specs.Laws.Declare.{reached, theory_formed}
 use Rattle.rules.specs.State.{begin}
 use Rattle.rules.specs.Forms.{take_goal}
 use Rattle.rules.specs.Loop.{whole}
 use Rattle.rules.specs.Check.{Report, Refusal, accepts, refuses, refused_in, after_goals, after_theory, first_failing, readable, fitting, check}
 use Rattle.meaning.specs.Trees.Tests.{true_false}
 use Rattle.meaning.specs.Written.{Names, goal_forms, proof_forms, Written, fits, inside, steps_alone, Verdict}
-use Rattle.meaning.proofs.Writing.Read.{text_read}
-use Rattle.meaning.proofs.Writing.Node.{Concludes}
-use Rattle.meaning.proofs.Writing.Step.{and_false}
-use Rattle.meaning.proofs.Writing.Run.{nodes_conclude, out, moved, and_on}
+use Rattle.meaning.specs.Writing.Read.{text_read}
+use Rattle.meaning.specs.Writing.Node.{Concludes}
+use Rattle.meaning.specs.Writing.Step.{and_false}
+use Rattle.meaning.specs.Writing.Run.{nodes_conclude, out, moved, and_on}
 use Rattle.meaning.proofs.Writing.Texts.{goals_read, Passed, passed, failed, all_pass, passing}
 
 -- question 2, whatever the texts

@@ -13,20 +13,20 @@ use Rattle.rules.specs.Text.{bytes, short, plain}
 use Rattle.rules.specs.Sexp.{read}
 use Rattle.rules.specs.Tree.{Tree}
 use Rattle.rules.specs.Theory.{Theory, no_theory}
-use Rattle.rules.proofs.Laws.Theory.{WellFormed}
-use Rattle.rules.proofs.Laws.Name.{Spelled}
+use Rattle.rules.specs.Laws.Theory.{WellFormed}
+use Rattle.rules.specs.Laws.Name.{Spelled}
 use Rattle.rules.specs.Declare.{declare}
-use Rattle.rules.proofs.Laws.Declare.{reached, theory_formed}
+use Rattle.rules.specs.Laws.Declare.{reached, theory_formed}
 use Rattle.rules.specs.Loop.{done, whole}
 use Rattle.rules.specs.Check.{Refusal, refuses, check}
 use Rattle.meaning.specs.Derivation.{Derivable}
-use Rattle.meaning.proofs.Writing.Decimal.{decimal}
+use Rattle.meaning.specs.Writing.Decimal.{decimal}
 use Rattle.meaning.specs.Written.{Form, Forms, name, group, nil, cons, Step, step_form, goal_forms, proof_forms, Written, fits, inside, Verdict}
-use Rattle.meaning.proofs.Writing.Step.{and_false}
-use Rattle.meaning.proofs.Writing.Run.{nodes_conclude, out, and_off}
-use Rattle.meaning.proofs.Writing.Tree.{below, postorder, postorder_length, postorder_nodes, tree_written}
-use Rattle.meaning.proofs.Writing.Spelling.{Word, AllWorded, spell, spells, spelled_writes, spelled_plain}
-use Rattle.meaning.proofs.Writing.Words.{theory_words, goal_word, goal_words, proof_words, postorder_words, decimal_word}
+use Rattle.meaning.specs.Writing.Step.{and_false}
+use Rattle.meaning.specs.Writing.Run.{nodes_conclude, out, and_off}
+use Rattle.meaning.specs.Writing.Tree.{below, postorder, postorder_length, postorder_nodes, tree_written}
+use Rattle.meaning.specs.Writing.Spelling.{Word, AllWorded, spell, spells, spelled_writes, spelled_plain}
+use Rattle.meaning.specs.Writing.Words.{theory_words, goal_word, goal_words, proof_words, postorder_words, decimal_word}
 use Rattle.meaning.proofs.Writing.Accepted.{too_long, derivation_accepted}
 
 -- the forms of a derivation: its goal, by the name "goal" and with or without an empty list, and its nodes in post-order, by their indices

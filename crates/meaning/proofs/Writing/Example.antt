@@ -7,7 +7,7 @@ use Rattle.rules.specs.Sexp.{read}
 use Rattle.rules.specs.Tree.{Tree, app, none, more}
 use Rattle.rules.specs.Theory.{Theory, no_theory, rule}
 use Rattle.rules.specs.Declare.{declare}
-use Rattle.rules.proofs.Laws.Declare.{reached}
+use Rattle.rules.specs.Laws.Declare.{reached}
 use Rattle.rules.specs.Loop.{whole}
 use Rattle.rules.specs.Check.{accepts, check, checking}
 use Rattle.rules.specs.Examples.{theory}

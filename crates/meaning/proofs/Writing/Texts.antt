@@ -12,19 +12,19 @@ use Rattle.rules.specs.Sexp.{Sexp, atom, list, Text, ends, fails, more as moreáµ
 use Rattle.rules.specs.Tree.{Tree, more}
 use Rattle.rules.specs.Store.{Made, make, makes}
 use Rattle.rules.specs.Theory.{Theory}
-use Rattle.rules.proofs.Laws.Theory.{WellFormed}
-use Rattle.rules.proofs.Laws.Name.{Named}
+use Rattle.rules.specs.Laws.Theory.{WellFormed}
+use Rattle.rules.specs.Laws.Name.{Named}
 use Rattle.rules.specs.State.{begin}
 use Rattle.rules.specs.Forms.{take_goal}
 use Rattle.rules.specs.Loop.{through, unread, whole}
 use Rattle.rules.specs.Check.{refused_in, after_goals, first_failing}
 use Rattle.meaning.specs.Written.{shallows, Step, conclusions, Names, Nodes, goal_forms, proof_forms, trees_of, roomy, Verdict}
-use Rattle.meaning.proofs.Writing.Gather.{answers, makes_few}
-use Rattle.meaning.proofs.Writing.Read.{Reads}
-use Rattle.meaning.proofs.Writing.Node.{Concludes, Recorded}
-use Rattle.meaning.proofs.Writing.Step.{and_false}
-use Rattle.meaning.proofs.Writing.Forms.{state_of, awaited, GoalTook, goal_taken}
-use Rattle.meaning.proofs.Writing.Run.{out, moved, through_ok, through_off, makes_on, makes_off, and_off, run}
+use Rattle.meaning.specs.Writing.Gather.{answers, makes_few}
+use Rattle.meaning.specs.Writing.Read.{Reads}
+use Rattle.meaning.specs.Writing.Node.{Concludes, Recorded}
+use Rattle.meaning.specs.Writing.Step.{and_false}
+use Rattle.meaning.specs.Writing.Forms.{state_of, awaited, GoalTook, goal_taken}
+use Rattle.meaning.specs.Writing.Run.{out, moved, through_ok, through_off, makes_on, makes_off, and_off, run}
 
 -- The goals text ------------------------------------------------------------------------------------------------------------------
 

@@ -12,10 +12,10 @@ use Rattle.rules.specs.Find.{Set, has, union, rising_from}
 use Rattle.rules.specs.Sexp.{Sexp, Sexps, atom, list, nil, cons, items}
 use Rattle.rules.specs.State.{State, Var, no_var, var_named}
 use Rattle.rules.specs.Read.{others, vars_list}
-use Rattle.rules.proofs.Laws.Theory.{All, empty, both, all_snoc}
-use Rattle.rules.proofs.Laws.Find.{first_some}
-use Rattle.rules.proofs.Laws.Set.{or_right, rising_from_agree, rising_from_none}
-use Rattle.rules.proofs.Laws.Members.{has_append}
+use Rattle.rules.specs.Laws.Theory.{All, empty, both, all_snoc}
+use Rattle.rules.specs.Laws.Find.{first_some}
+use Rattle.rules.specs.Laws.Set.{or_right, rising_from_agree, rising_from_none}
+use Rattle.rules.specs.Laws.Members.{has_append}
 use Rattle.sexp.specs.Never.{never}
 use Rattle.terms.specs.Sets.{plus}
 use Rattle.terms.specs.Laws.Sets.{or_false, plus_has}

@@ -10,12 +10,13 @@ use Rattle.rules.specs.Unify.{Binding, insert}
 use Rattle.rules.specs.State.{State}
 use Rattle.rules.specs.Read.{term, terms, term_of, judgment, judgments}
 use Rattle.rules.specs.Reference.{binding, is_bound, bindings}
-use Rattle.rules.proofs.Laws.Theory.{empty}
-use Rattle.rules.proofs.Laws.Keeping.{Grows, Keeps}
-use Rattle.rules.proofs.Laws.Made.{sound}
-use Rattle.rules.proofs.Laws.MakingWalk.{Values}
-use Rattle.rules.proofs.Laws.Store.{then_ok, then_refuse}
-use Rattle.rules.proofs.Laws.ReadWalk.{Ready, term_keeps, terms_keeps, term_of_keeps, judgment_keeps, judgments_keeps, bindings_keeps}
+use Rattle.rules.specs.Laws.Theory.{empty}
+use Rattle.rules.specs.Laws.Keeping.{Grows, Keeps}
+use Rattle.rules.specs.Laws.Sound.{sound}
+use Rattle.rules.specs.Laws.Ready.{Values}
+use Rattle.rules.specs.Laws.Store.{then_ok, then_refuse}
+use Rattle.rules.proofs.Laws.ReadWalk.{term_keeps, terms_keeps, term_of_keeps, judgment_keeps, judgments_keeps, bindings_keeps}
+use Rattle.rules.specs.Laws.Ready.{Ready}
 use Rattle.sexp.specs.Items.{Holds}
 use Rattle.terms.specs.declared.store.Mark.{Mark}
 use Rattle.terms.specs.Table.{made, Good}

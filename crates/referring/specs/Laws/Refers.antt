@@ -14,10 +14,11 @@ use Rattle.rules.specs.Unify.{Binding}
 use Rattle.rules.specs.State.{State, Fact}
 use Rattle.rules.specs.Read.{term, term_of, judgment, judgments}
 use Rattle.rules.specs.Reference.{Ref, fact_at, bindings, reference}
-use Rattle.rules.proofs.Laws.Theory.{empty}
-use Rattle.rules.proofs.Laws.Keeping.{Grows, Keeps}
-use Rattle.rules.proofs.Laws.Made.{sound}
-use Rattle.rules.proofs.Laws.ReadWalk.{Ready, term_keeps, term_of_keeps, judgment_keeps, judgments_keeps, bindings_keeps, reference_keeps}
+use Rattle.rules.specs.Laws.Theory.{empty}
+use Rattle.rules.specs.Laws.Keeping.{Grows, Keeps}
+use Rattle.rules.specs.Laws.Sound.{sound}
+use Rattle.rules.proofs.Laws.ReadWalk.{term_keeps, term_of_keeps, judgment_keeps, judgments_keeps, bindings_keeps, reference_keeps}
+use Rattle.rules.specs.Laws.Ready.{Ready}
 use Rattle.sexp.specs.Items.{Holds}
 use Rattle.terms.specs.declared.store.Mark.{Mark}
 use Rattle.terms.specs.Table.{made, Good}

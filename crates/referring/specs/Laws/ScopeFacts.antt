@@ -7,8 +7,8 @@ use Rattle.rules.specs.Find.{Set, union}
 use Rattle.rules.specs.Tree.{Tree, variables, variables_of}
 use Rattle.rules.specs.State.{mentioned}
 use Rattle.rules.specs.StateTables.{numbers}
-use Rattle.rules.proofs.Laws.Theory.{All, all_at}
-use Rattle.rules.proofs.Laws.Set.{union_assoc}
+use Rattle.rules.specs.Laws.Theory.{All, all_at}
+use Rattle.rules.specs.Laws.Set.{union_assoc}
 use Rattle.terms.specs.declared.store.Mark.{Mark}
 use Rattle.terms.specs.Table.{args_of, made, tree}
 use Rattle.terms.specs.Collect.{Readable, Visited}

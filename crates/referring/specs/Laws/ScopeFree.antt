@@ -6,8 +6,8 @@ use mathlib.Core.List.{List, []}
 use Rattle.rules.specs.Limits.{VARIABLEWORDS}
 use Rattle.rules.specs.Find.{Set, empty, has, union, minus}
 use Rattle.rules.specs.State.{mentioned, free}
-use Rattle.rules.proofs.Laws.Theory.{All, all_at}
-use Rattle.rules.proofs.Laws.Members.{minus_empty}
+use Rattle.rules.specs.Laws.Theory.{All, all_at}
+use Rattle.rules.specs.Laws.Members.{minus_empty}
 use Rattle.terms.specs.declared.store.Mark.{Mark}
 use Rattle.terms.specs.Sets.{holds}
 use Rattle.terms.specs.Collect.{Seen}

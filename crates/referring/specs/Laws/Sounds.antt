@@ -3,9 +3,9 @@ use Rattle.std.specs.Prelude.{◌≡◌, refl, List, [], ◌∷◌, ℕ, zero, s
 use Rattle.std.proofs.Common.{sym, subst, inl, inr, arith}
 use Rattle.rules.specs.Tree.{Tree, var}
 use Rattle.rules.specs.Store.{Made}
-use Rattle.rules.proofs.Laws.Keeping.{Each, Arguments, Grows}
-use Rattle.rules.proofs.Laws.Made.{In, Distinct, ClosedBehind, Closed, sound, closed_snoc}
-use Rattle.rules.proofs.Laws.Store.{Apart}
+use Rattle.rules.specs.Laws.Keeping.{Each, Arguments, Grows}
+use Rattle.rules.specs.Laws.Sound.{In, Distinct, ClosedBehind, Closed, sound, closed_snoc}
+use Rattle.rules.specs.Laws.Store.{Apart}
 use Rattle.terms.specs.declared.store.Mark.{Mark}
 use Rattle.terms.specs.Table.{trees, made, tree_at, args_of, node_at, Shaped, is_var, is_app, Good, Grown}
 use Rattle.terms.specs.Laws.Tables.{length_trees, tree_app, tree_var, made_words}

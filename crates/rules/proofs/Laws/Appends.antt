@@ -14,12 +14,12 @@ use Rattle.rules.specs.Theory.{Theory, Symbol, Rule, sort_named, constructor_nam
 use Rattle.rules.specs.Declare.{is_new, proper_name, sort, sorts, add_sort, add_symbol, add_ctor, add_pred, add_rule, declare_as, declare}
 use Rattle.rules.specs.State.{State, Goal, Counts}
 use Rattle.rules.specs.Forms.{take_goal, take_form, taken_goal}
-use Rattle.rules.proofs.Laws.Out.{Ok, fine, of_ok, by_items, by_name, by_found, by_ask}
-use Rattle.rules.proofs.Laws.Theory.{All, empty, both}
-use Rattle.rules.proofs.Laws.Keeping.{Each, Invariant, Still, answers}
+use Rattle.rules.specs.Laws.Out.{Ok, fine, of_ok, by_items, by_name, by_found, by_ask}
+use Rattle.rules.specs.Laws.Theory.{All, empty, both}
+use Rattle.rules.specs.Laws.Keeping.{Each, Invariant, Still, answers}
 use Rattle.rules.proofs.Laws.Still.{still_then, still_ask, still_room, name_still, items_still, found_still}
-use Rattle.rules.proofs.Laws.ReadWalk.{Ready}
-use Rattle.rules.proofs.Laws.Shape.{past}
+use Rattle.rules.specs.Laws.Ready.{Ready}
+use Rattle.rules.specs.Laws.Shape.{past}
 use Rattle.rules.proofs.Laws.Form.{Posed, posed_var, posed_goal, Taken, new_var, new_def, new_fact, got_result, take_goal_takes, take_form_takes, from_still, go_on}
 
 -- ys is xs and what has come behind it

@@ -15,8 +15,8 @@ use Rattle.rules.specs.Tree.{Tree, Trees, var, app, none, more, same_tree, sub, 
 use Rattle.rules.specs.Store.{Made, stored, words, keep, make, makes, substitute, substitutes}
 use Rattle.rules.specs.Match.{Bound, build, builds}
 use Rattle.rules.specs.Unify.{Binding, along, insert, replace, Pair, Look, agree, clash, binds, parts, bind_or_clash, differ, look, push, Found, finished, clashed, bound, onward, peel, weight, outcome, solve, unify}
-use Rattle.rules.proofs.Laws.Theory.{All, empty, both, all_snoc, all_map}
-use Rattle.rules.proofs.Laws.Keeping.{Each, Still, answers, refuses}
+use Rattle.rules.specs.Laws.Theory.{All, empty, both, all_snoc, all_map}
+use Rattle.rules.specs.Laws.Keeping.{Each, Still, answers, refuses}
 
 -- Trees below a number --------------------------------------------------------------------------------------------------------------
 

@@ -20,13 +20,13 @@ use Rattle.rules.specs.Read.{variable}
 use Rattle.rules.specs.Reference.{hyp_list, judgments_at}
 use Rattle.rules.specs.Induct.{Motive, motive_vars, case_vars, keep_vars, hypothesis_at, hypotheses, allowed_hyp, induct_case, induct_cases, induct_on, induct, induct_with}
 use Rattle.rules.specs.Invert.{Case, case_named, Inversion, taken_vars, Names, suit, make_vars, up_from, renamed, renaming, rule_premises, without, clear, context_fact, context_facts, allowed_in, invert_case, case_or_not, invert_rule, invert_rules, predicate_of, invert}
-use Rattle.rules.proofs.Laws.Out.{Ok, of_ok}
-use Rattle.rules.proofs.Laws.Out as outs
-use Rattle.rules.proofs.Laws.Theory.{All, empty, both, all_map, all_snoc, all_at, Sorted, Sorteds, Judgment, Judgments, RuleFormed, WellFormed}
-use Rattle.rules.proofs.Laws.Rising.{rising_all_of}
+use Rattle.rules.specs.Laws.Out.{Ok, of_ok}
+use Rattle.rules.specs.Laws.Out as outs
+use Rattle.rules.specs.Laws.Theory.{All, empty, both, all_map, all_snoc, all_at, Sorted, Sorteds, Judgment, Judgments, RuleFormed, WellFormed}
+use Rattle.rules.specs.Laws.Rising.{rising_all_of}
 use Rattle.rules.proofs.Laws.Still.{items_still, index_still, variable_still, fact_at_still, hyp_list_still, case_vars_still, read_cases_still, renamed_still}
 use Rattle.rules.proofs.Laws.CaseWalk.{Longer, same_vars, longer_on, make_vars_longer}
-use Rattle.rules.proofs.Laws.Shape.{past}
+use Rattle.rules.specs.Laws.Shape.{past}
 use Rattle.rules.proofs.Laws.Below.{Below, Belows, MadeBelow, ValuesBelow, UnifierBelow, Leaves, Bounds, fine, off, below_up, made_up, sub_below, along_below, single_below, weaken}
 use Rattle.rules.proofs.Laws.Below.{by_then, by_still, by_ask, by_either, keep_below, instance_below, substitute_below, substitutes_below, unify_below}
 use Rattle.rules.proofs.Laws.BelowRead.{FactBelow, StateBelow, state_up, var_named_below, judgments_at_below, fact_below, judgment_below}

@@ -22,9 +22,9 @@ use Rattle.rules.specs.Read.{named, term, compound, terms, term_of, judgment, ju
 use Rattle.rules.specs.Reference.{fact_at, binding, is_bound, bindings, instance, reference, judgment_of, judgments_at}
 use Rattle.rules.specs.Step.{Items, no_items, references, bind_item, state_item, read_item, read_items, match_stated, conclude, step}
 use Rattle.rules.specs.Apply.{plain_at, applied, discharge, apply}
-use Rattle.rules.proofs.Laws.Theory.{All, empty, both, all_map}
-use Rattle.rules.proofs.Laws.Find.{first_some}
-use Rattle.rules.proofs.Laws.Entry.{all_entry, entry_below, fact_entry}
+use Rattle.rules.specs.Laws.Theory.{All, empty, both, all_map}
+use Rattle.rules.specs.Laws.Find.{first_some}
+use Rattle.rules.specs.Laws.Entry.{all_entry, entry_below, fact_entry}
 use Rattle.rules.proofs.Laws.Still.{name_still, items_still, index_still, variable_still, fact_at_still, scoped_still}
 use Rattle.rules.proofs.Laws.ReadWalk.{abbreviated_has}
 use Rattle.rules.proofs.Laws.StepWalk.{Bounded, bounded, bind_bounded, match_all_bounded, match_stated_bounded}

@@ -25,17 +25,17 @@ use Rattle.rules.specs.Loop.{through, whole}
 use Rattle.rules.specs.Forms.{with_made, with_vars, with_defs, with_goals, making, add_def, add_goal, goal, take_goal, add_fact, one_hypothesis, one_induction, one_inversion}
 use Rattle.rules.specs.Forms.{some_instances, add_hyp, add_rule_hyp, add_step, add_apply, add_induct, add_induct_with, add_invert, listed, taken_goal, result, perform, take_form}
 use Rattle.rules.specs.Check.{check}
-use Rattle.rules.proofs.Laws.Out.{Ok, fine, off, by_name, by_items, by_ask, by_room, by_found}
-use Rattle.rules.proofs.Laws.Theory.{empty, both, all_snoc, all_map, WellFormed}
-use Rattle.rules.proofs.Laws.Entry.{change_all}
-use Rattle.rules.proofs.Laws.Keeping.{Each}
+use Rattle.rules.specs.Laws.Out.{Ok, fine, off, by_name, by_items, by_ask, by_room, by_found}
+use Rattle.rules.specs.Laws.Theory.{empty, both, all_snoc, all_map, WellFormed}
+use Rattle.rules.specs.Laws.Entry.{change_all}
+use Rattle.rules.specs.Laws.Keeping.{Each}
 use Rattle.rules.proofs.Laws.Still.{vars_list_still}
-use Rattle.rules.proofs.Laws.ReadWalk.{Ready}
-use Rattle.rules.proofs.Laws.Made.{In, sound}
+use Rattle.rules.specs.Laws.Ready.{Ready}
+use Rattle.rules.specs.Laws.Sound.{In, sound}
 use Rattle.rules.proofs.Laws.CaseWalk.{Longer, same_vars}
 use Rattle.rules.proofs.Laws.Form.{grown, entries_so_far, go_on, from_still, next_still, add_var_takes}
 use Rattle.rules.proofs.Laws.Appends.{take_goal_appends, take_form_appends}
-use Rattle.rules.proofs.Laws.Reached.{end_of, through_reaches, whole_reaches, check_reaches_formed}
+use Rattle.rules.specs.Laws.Reached.{end_of, through_reaches, whole_reaches, check_reaches_formed}
 use Rattle.rules.proofs.Laws.Below.{Below, Belows, MadeBelow, Leaves, made_up}
 use Rattle.rules.proofs.Laws.Below as below
 use Rattle.rules.proofs.Laws.BelowRead.{FactBelow, GoalBelow, StateBelow, state_up, term_below, judgment_below, judgments_below, reference_below, step_below, apply_below}

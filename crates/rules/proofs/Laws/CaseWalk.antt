@@ -15,12 +15,14 @@ use Rattle.rules.specs.State.{State, Var, Fact, sort_of_var, is_plain}
 use Rattle.rules.specs.Reference.{judgments_at}
 use Rattle.rules.specs.Induct.{Motive, motive_vars, keep_vars, hypothesis_at, hypotheses, allowed_hyp, induct_case, induct_cases, induct_on, induct, induct_with}
 use Rattle.rules.specs.Invert.{Case, case_named, Inversion, taken_vars, Names, suit, make_vars, renamed, renaming, rule_premises, without, clear, context_fact, context_facts, allowed_in, invert_case, case_or_not, invert_rule, invert_rules, predicate_of, invert}
-use Rattle.rules.proofs.Laws.Out.{Ok, of_ok}
-use Rattle.rules.proofs.Laws.Out as outs
-use Rattle.rules.proofs.Laws.Keeping.{Each, Arguments, Invariant, Keeps, fine, off, stays, has_on, weaken, by_then, by_still, by_ask, by_either}
-use Rattle.rules.proofs.Laws.MakingWalk.{Knowns, keep_keeps, substitute_keeps, substitutes_keeps, unify_keeps}
+use Rattle.rules.specs.Laws.Out.{Ok, of_ok}
+use Rattle.rules.specs.Laws.Out as outs
+use Rattle.rules.specs.Laws.Keeping.{Each, Arguments, Invariant, Keeps, fine, off, stays, has_on, weaken, by_then, by_still, by_ask, by_either}
+use Rattle.rules.proofs.Laws.MakingWalk.{keep_keeps, substitute_keeps, substitutes_keeps, unify_keeps}
+use Rattle.rules.specs.Laws.Ready.{Knowns}
 use Rattle.rules.proofs.Laws.Still.{items_still, index_still, variable_still, fact_at_still, hyp_list_still, case_vars_still, read_cases_still, renamed_still}
-use Rattle.rules.proofs.Laws.ReadWalk.{FactIn, Ready, judgment_keeps}
+use Rattle.rules.proofs.Laws.ReadWalk.{judgment_keeps}
+use Rattle.rules.specs.Laws.Ready.{FactIn, Ready}
 
 -- Variables made ------------------------------------------------------------------------------------------------------------------
 

@@ -13,12 +13,12 @@ use Rattle.rules.specs.Loop.{Judged, done, refused, through, whole}
 use Rattle.rules.specs.State.{State, Counts, no_counts, begin}
 use Rattle.rules.specs.Forms.{take_goal, take_form, plus}
 use Rattle.rules.specs.Check.{Report, accepts, Outcome, refused_in, count_open, report, missing, ended, after_proof, after_goals, after_theory, first_failing, readable, fitting, check}
-use Rattle.rules.proofs.Laws.Out.{Ok, fine, off, weaken}
-use Rattle.rules.proofs.Laws.Theory.{All, empty, both, all_map}
-use Rattle.rules.proofs.Laws.Tally.{counted_form}
+use Rattle.rules.specs.Laws.Out.{Ok, fine, off, weaken}
+use Rattle.rules.specs.Laws.Theory.{All, empty, both, all_map}
+use Rattle.rules.specs.Laws.Tally.{counted_form}
 use Rattle.rules.proofs.Laws.Form.{Posed, posed_var, posed_goal, Taken, new_var, new_def, new_fact, got_result, take_goal_takes, take_form_takes}
 use Rattle.rules.proofs.Laws.Appends.{anything, ready_any}
-use Rattle.rules.proofs.Laws.Reached.{end_of, whole_reaches}
+use Rattle.rules.specs.Laws.Reached.{end_of, whole_reaches}
 use Rattle.rules.proofs.Laws.Fact.{assumed_in, facts_right}
 
 -- the sum over the forms of a text

@@ -10,11 +10,11 @@ use Rattle.rules.specs.Theory.{Theory}
 use Rattle.rules.specs.State.{State, Fact, Counts, begin}
 use Rattle.rules.specs.Forms.{take_goal, take_form, plus}
 use Rattle.rules.specs.Check.{check}
-use Rattle.rules.proofs.Laws.Out.{Ok, weaken}
-use Rattle.rules.proofs.Laws.Shape.{ShapedIn, all_shaped_snoc}
+use Rattle.rules.specs.Laws.Out.{Ok, weaken}
+use Rattle.rules.specs.Laws.Shape.{ShapedIn, all_shaped_snoc}
 use Rattle.rules.proofs.Laws.Form.{assumed_one, Posed, posed_var, posed_goal, Taken, new_var, new_def, new_fact, got_result, take_goal_takes, take_form_takes}
 use Rattle.rules.proofs.Laws.Appends.{anything, ready_any}
-use Rattle.rules.proofs.Laws.Reached.{check_reaches}
+use Rattle.rules.specs.Laws.Reached.{check_reaches}
 
 -- the number of assumed facts
 unfoldable pub assumed_in : List Fact → ℕ

@@ -32,13 +32,13 @@ use Rattle.rules.specs.Apply.{discharge, apply}
 use Rattle.rules.specs.Induct.{induct_on, induct, induct_with}
 use Rattle.rules.specs.Invert.{invert}
 use Rattle.rules.specs.Forms.{with_made, with_vars, making, add_def, add_fact, one_induction, one_inversion, some_instances, hypothesis, add_hyp, add_rule_hyp, add_step, add_apply, add_induct, add_induct_with, add_invert, listed, result, perform, take_form}
-use Rattle.rules.proofs.Laws.Out.{Ok, fine, off, of_ok, weaken, by_then, by_name, by_items, by_ask, by_room, by_found}
-use Rattle.rules.proofs.Laws.Set.{rising_agree, rising_from_none}
-use Rattle.rules.proofs.Laws.Tally.{tag_of, items_of, tag_is}
-use Rattle.rules.proofs.Laws.Shape.{ShapedIn, past}
-use Rattle.rules.proofs.Laws.Find.{first_some}
-use Rattle.rules.proofs.Laws.Rising.{has_all, or_cases, rising_has}
-use Rattle.rules.proofs.Laws.Entry.{fact_entry}
+use Rattle.rules.specs.Laws.Out.{Ok, fine, off, of_ok, weaken, by_then, by_name, by_items, by_ask, by_room, by_found}
+use Rattle.rules.specs.Laws.Set.{rising_agree, rising_from_none}
+use Rattle.rules.specs.Laws.Tally.{tag_of, items_of, tag_is}
+use Rattle.rules.specs.Laws.Shape.{ShapedIn, past}
+use Rattle.rules.specs.Laws.Find.{first_some}
+use Rattle.rules.specs.Laws.Rising.{has_all, or_cases, rising_has}
+use Rattle.rules.specs.Laws.Entry.{fact_entry}
 use Rattle.rules.proofs.Laws.Still.{vars_list_still}
 use Rattle.rules.proofs.Laws.Form.{go_on, from_still, next_still, add_var_takes}
 

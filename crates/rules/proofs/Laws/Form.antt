@@ -24,15 +24,16 @@ use Rattle.rules.specs.Induct.{induct, induct_with}
 use Rattle.rules.specs.Invert.{invert}
 use Rattle.rules.specs.Forms.{with_made, with_vars, with_defs, with_goals, with_facts, making, add_var, add_def, add_goal, goal, take_goal, plus, add_fact, hypothesis, one_hypothesis}
 use Rattle.rules.specs.Forms.{one_induction, one_inversion, some_instances, add_hyp, add_rule_hyp, add_step, add_apply, add_induct, add_induct_with, add_invert, listed, taken_goal, result, next, perform, take_form}
-use Rattle.rules.proofs.Laws.Out.{Ok, fine, off, of_ok, by_name, by_items, by_ask, by_room, by_found}
-use Rattle.rules.proofs.Laws.Keeping.{Each, Invariant, Grows, each_on, Still, answers, refuses}
-use Rattle.rules.proofs.Laws.Keeping as keeping
+use Rattle.rules.specs.Laws.Out.{Ok, fine, off, of_ok, by_name, by_items, by_ask, by_room, by_found}
+use Rattle.rules.specs.Laws.Keeping.{Each, Invariant, Grows, each_on, Still, answers, refuses}
+use Rattle.rules.specs.Laws.Keeping as keeping
 use Rattle.rules.proofs.Laws.Still.{still_then, index_still, vars_list_still}
-use Rattle.rules.proofs.Laws.ReadWalk.{FactIn, GoalIn, Ready, ready_on, term_keeps, judgment_keeps, judgments_keeps, reference_keeps}
+use Rattle.rules.proofs.Laws.ReadWalk.{ready_on, term_keeps, judgment_keeps, judgments_keeps, reference_keeps}
+use Rattle.rules.specs.Laws.Ready.{FactIn, GoalIn, Ready}
 use Rattle.rules.proofs.Laws.StepWalk.{step_keeps, apply_keeps}
 use Rattle.rules.proofs.Laws.CaseWalk.{Longer, same_vars, induct_keeps, induct_with_keeps, invert_keeps}
-use Rattle.rules.proofs.Laws.Shape.{ShapedIn, DerivedIn, Shape, stated, derived, step_shape, apply_shape, induct_shape, induct_with_shape, invert_shape}
-use Rattle.rules.proofs.Laws.Tally.{counted, counted_form, counted_form_lem, brackets_in, step_counts}
+use Rattle.rules.specs.Laws.Shape.{ShapedIn, DerivedIn, Shape, stated, derived, step_shape, apply_shape, induct_shape, induct_with_shape, invert_shape}
+use Rattle.rules.specs.Laws.Tally.{counted, counted_form, counted_form_lem, brackets_in, step_counts}
 
 -- What a form does ----------------------------------------------------------------------------------------------------------------
 

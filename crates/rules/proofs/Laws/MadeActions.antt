@@ -14,12 +14,13 @@ use Rattle.rules.specs.Step.{step}
 use Rattle.rules.specs.Apply.{apply}
 use Rattle.rules.specs.Induct.{induct, induct_with}
 use Rattle.rules.specs.Invert.{invert}
-use Rattle.rules.proofs.Laws.Keeping.{Each, Arguments, Keeps}
+use Rattle.rules.specs.Laws.Keeping.{Each, Arguments, Keeps}
 use Rattle.rules.proofs.Laws.MakingWalk.{Unifier, keep_keeps, make_keeps, substitute_keeps, substitutes_keeps, build_keeps, unify_keeps}
-use Rattle.rules.proofs.Laws.ReadWalk.{FactIn, Ready, term_keeps, judgment_keeps, judgments_keeps, reference_keeps}
+use Rattle.rules.proofs.Laws.ReadWalk.{term_keeps, judgment_keeps, judgments_keeps, reference_keeps}
+use Rattle.rules.specs.Laws.Ready.{FactIn, Ready}
 use Rattle.rules.proofs.Laws.StepWalk.{step_keeps, apply_keeps}
 use Rattle.rules.proofs.Laws.CaseWalk.{Longer, induct_keeps, induct_with_keeps, invert_keeps}
-use Rattle.rules.proofs.Laws.Made.{In, Sound, sound}
+use Rattle.rules.specs.Laws.Sound.{In, Sound, sound}
 
 module _ (m : Made) where
   pub keep_sound : (t : Tree) → Sound m → Arguments (λ u. In u m) t → Keeps sound m (λ a u. In a u) (keep t m)

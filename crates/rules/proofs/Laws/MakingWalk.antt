@@ -14,19 +14,9 @@ use Rattle.rules.specs.Tree.{Tree, Trees, var, app, none, more, same_tree, sub, 
 use Rattle.rules.specs.Store.{Made, stored, words, keep, make, makes, substitute, substitutes}
 use Rattle.rules.specs.Match.{Bound, build, builds}
 use Rattle.rules.specs.Unify.{Binding, along, insert, replace, Pair, Look, agree, clash, binds, parts, bind_or_clash, differ, look, push, Found, finished, clashed, bound, onward, peel, weight, outcome, solve, unify}
-use Rattle.rules.proofs.Laws.Theory.{All, empty, both, all_map}
-use Rattle.rules.proofs.Laws.Keeping.{Each, Arguments, Invariant, Grows, Keeps, fine, off, stays, has_on, weaken, by_then, by_room}
-
--- the answered tree is stored
-abbrev pub Known : Invariant → Tree → Made → Type 0
-Known K t u = K.Has u t
-
-abbrev pub Knowns : Invariant → Trees → Made → Type 0
-Knowns K ts u = Each (K.Has u) ts
-
--- every value is stored
-abbrev pub Values : Invariant → List Binding → Made → Type 0
-Values K θ u = All (λ b. K.Has u b.value) θ
+use Rattle.rules.specs.Laws.Theory.{empty, both, all_map}
+use Rattle.rules.specs.Laws.Keeping.{Each, Arguments, Invariant, Grows, Keeps, fine, off, stays, has_on, weaken, by_then, by_room}
+use Rattle.rules.specs.Laws.Ready.{Known, Knowns, Values}
 
 module _ (K : Invariant) where
   pub insert_values : (b : Binding) (θ : List Binding) (m : Made) → K.Has m b.value → Values K θ m → Values K (insert b θ) m

@@ -14,28 +14,14 @@ use Rattle.rules.specs.Unify.{Binding, along, insert}
 use Rattle.rules.specs.State.{State, Def, Goal, Fact, sort_of, sort_of_var, fit, var_named, abbreviated, is_empty}
 use Rattle.rules.specs.Read.{named, term, compound, terms, term_of, judgment, judgment_each, judgments}
 use Rattle.rules.specs.Reference.{fact_at, binding, is_bound, bindings, instance, reference}
-use Rattle.rules.proofs.Laws.Theory.{All, empty, both, all_map}
-use Rattle.rules.proofs.Laws.Entry.{all_entry, fact_entry}
-use Rattle.rules.proofs.Laws.Keeping.{Each, Arguments, Invariant, Grows, Keeps, fine, off, stays, has_on, each_on, by_then, by_still, by_ask, by_found, by_either, by_given}
-use Rattle.rules.proofs.Laws.MakingWalk.{Known, Knowns, Values, keep_keeps, found_keeps, substitute_keeps, values_on, insert_values}
+use Rattle.rules.specs.Laws.Theory.{All, empty, both, all_map}
+use Rattle.rules.specs.Laws.Entry.{all_entry, fact_entry}
+use Rattle.rules.specs.Laws.Keeping.{Each, Arguments, Invariant, Grows, Keeps, fine, off, stays, has_on, each_on, by_then, by_still, by_ask, by_found, by_either, by_given}
+use Rattle.rules.proofs.Laws.MakingWalk.{keep_keeps, found_keeps, substitute_keeps, values_on, insert_values}
 use Rattle.rules.proofs.Laws.Still.{name_still, items_still, index_still, variable_still, fact_at_still}
+use Rattle.rules.specs.Laws.Ready.{Known, Knowns, Values, FactIn, GoalIn, Ready}
 
 -- States whose trees are there --------------------------------------------------------------------------------------------------
-
-pub record FactIn (K : Invariant) (m : Made) (f : Fact) : Type 0 where
-  pub judgment : K.Has m f.judgment
-  pub premises : Each (K.Has m) f.premises
-
-pub record GoalIn (K : Invariant) (m : Made) (g : Goal) : Type 0 where
-  pub judgment : K.Has m g.judgment
-  pub hyps : Each (K.Has m) g.hyps
-
--- the made trees m are good, and those of abbreviations, goals and facts are among them
-pub record Ready (K : Invariant) (S : State) (m : Made) : Type 0 where
-  pub good : K.Good m
-  pub defs : All (λ d. K.Has m d.term) S.defs
-  pub goals : All (GoalIn K m) S.goals
-  pub facts : All (FactIn K m) S.facts
 
 pub abbreviated_has : (P : Tree → Type 0) (ds : List Def) (n : List ℕ) → All (λ d. P d.term) ds → (t : Tree) → abbreviated ds n ≡ some t → P t
 unfolding abbreviated

@@ -10,11 +10,11 @@ use Rattle.rules.specs.Theory.{Theory}
 use Rattle.rules.specs.State.{State, Goal, Fact, Counts, begin, goal_entries, fact_entries, all_entries, entries}
 use Rattle.rules.specs.Forms.{take_goal, take_form, taken_goal}
 use Rattle.rules.specs.Check.{check}
-use Rattle.rules.proofs.Laws.Out.{Ok, weaken}
-use Rattle.rules.proofs.Laws.Entry.{change_length}
+use Rattle.rules.specs.Laws.Out.{Ok, weaken}
+use Rattle.rules.specs.Laws.Entry.{change_length}
 use Rattle.rules.proofs.Laws.Form.{Posed, posed_var, posed_goal, Taken, new_var, new_def, new_fact, got_result, take_goal_takes, take_form_takes}
 use Rattle.rules.proofs.Laws.Appends.{anything, ready_any}
-use Rattle.rules.proofs.Laws.Reached.{check_reaches}
+use Rattle.rules.specs.Laws.Reached.{check_reaches}
 
 pub record Rows (S : State) : Type 0 where
   pub row7 : length S.vars ≤ VARIABLES

@@ -21,11 +21,13 @@ use Rattle.rules.specs.State.{State, Fact}
 use Rattle.rules.specs.Reference.{judgments_at}
 use Rattle.rules.specs.Step.{references, Items, no_items, bind_item, state_item, read_item, read_items, match_stated, conclude, step}
 use Rattle.rules.specs.Apply.{Applied, plain_at, applied, discharge, apply}
-use Rattle.rules.proofs.Laws.Theory.{empty}
-use Rattle.rules.proofs.Laws.Keeping.{Each, Invariant, Grows, Keeps, fine, stays, has_on, each_on, by_then, by_still, by_ask, by_found, by_either, Still, answers}
-use Rattle.rules.proofs.Laws.MakingWalk.{Known, substitute_keeps, build_keeps}
+use Rattle.rules.specs.Laws.Theory.{empty}
+use Rattle.rules.specs.Laws.Keeping.{Each, Invariant, Grows, Keeps, fine, stays, has_on, each_on, by_then, by_still, by_ask, by_found, by_either, Still, answers}
+use Rattle.rules.proofs.Laws.MakingWalk.{substitute_keeps, build_keeps}
+use Rattle.rules.specs.Laws.Ready.{Known}
 use Rattle.rules.proofs.Laws.Still.{name_still, items_still, index_still, fact_at_still, scoped_still, still_ask}
-use Rattle.rules.proofs.Laws.ReadWalk.{FactIn, Ready, ready_on, term_of_keeps, judgment_keeps, bindings_keeps, reference_keeps}
+use Rattle.rules.proofs.Laws.ReadWalk.{ready_on, term_of_keeps, judgment_keeps, bindings_keeps, reference_keeps}
+use Rattle.rules.specs.Laws.Ready.{FactIn, Ready}
 
 -- Matching ----------------------------------------------------------------------------------------------------------------------
 

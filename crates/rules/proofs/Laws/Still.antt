@@ -19,7 +19,7 @@ use Rattle.rules.specs.Reference.{fact_at, hyp_each, hyp_list, outside, scoped}
 use Rattle.rules.specs.Store.{Made}
 use Rattle.rules.specs.Induct.{Motive, motive_vars, case_vars}
 use Rattle.rules.specs.Invert.{Case, read_case, read_cases, Inversion, taken_vars, Names, suit, make_vars, renamed}
-use Rattle.rules.proofs.Laws.Keeping.{Still, answers, refuses}
+use Rattle.rules.specs.Laws.Keeping.{Still, answers, refuses}
 
 module _ {S : Type 0} {s : S} where
   pub still_then : {A B : Type 0} (o : Out S A) (f : A → S → Out S B) → Still s o → ((a : A) → Still s (f a s)) → Still s (then o f)

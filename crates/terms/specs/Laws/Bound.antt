@@ -15,8 +15,8 @@ use Rattle.rules.specs.Limits.{RULEVARS}
 use Rattle.rules.specs.Tree.{Tree, Trees, var, variables, variables_of}
 use Rattle.rules.specs.Store.{Made, number, substitute, substitutes}
 use Rattle.rules.specs.Match.{unbound, bind, build, builds}
-use Rattle.rules.proofs.Laws.Store.{Apart, number_of_lem}
-use Rattle.rules.proofs.Laws.Build.{build_substitutes, builds_substitutes}
+use Rattle.rules.specs.Laws.Store.{Apart, number_of_lem}
+use Rattle.rules.specs.Laws.Build.{build_substitutes, builds_substitutes}
 use Rattle.terms.specs.declared.store.Mark.{Mark}
 use Rattle.terms.specs.Table.{made, Good, Grown}
 use Rattle.terms.specs.Patterns.{tree_in, bound_of, Cells}

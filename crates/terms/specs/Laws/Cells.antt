@@ -11,7 +11,7 @@ use Rattle.std.proofs.Math.Seq.{take-add}
 use Rattle.rules.specs.Limits.{SYMBOLS, TERMS, WORDS}
 use Rattle.rules.specs.Tree.{Tree, node}
 use Rattle.rules.specs.Store.{Made, words}
-use Rattle.rules.proofs.Laws.Store.{Apart, words_more}
+use Rattle.rules.specs.Laws.Store.{Apart, words_more}
 use Rattle.rules.specs.TheoryTables.{filled}
 use Rattle.rules.specs.StateTables.{node_cells, word_cells, end_cells}
 use Rattle.terms.specs.declared.store.Mark.{Mark}

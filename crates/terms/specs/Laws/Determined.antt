@@ -11,7 +11,7 @@ use Rattle.std.proofs.Math.ListN.{length, get_or}
 use Rattle.rules.specs.Limits.{TERMS}
 use Rattle.rules.specs.Tree.{var, is_open}
 use Rattle.rules.specs.Store.{Made}
-use Rattle.rules.proofs.Laws.Store.{Apart}
+use Rattle.rules.specs.Laws.Store.{Apart}
 use Rattle.rules.specs.Match.{Bound}
 use Rattle.terms.specs.declared.store.Mark.{Mark}
 use Rattle.terms.specs.Table.{CHAINS, FLAGS, HEADS, INDEX, BUCKETS, start, node_at, tree_at, made, hash, bucket, latest, flag, Shaped, Good}

@@ -3,7 +3,7 @@ use Rattle.std.specs.Prelude.{◌≡◌, refl, List, [], ℕ, ◌+◌, replicate
 use Rattle.std.proofs.Common.{arith, not-suc-le-zero}
 use Rattle.std.proofs.lemmas.List.{length-replicate}
 use Rattle.rules.specs.Limits.{WORDS}
-use Rattle.rules.proofs.Laws.Store.{Apart}
+use Rattle.rules.specs.Laws.Store.{Apart}
 use Rattle.terms.specs.declared.store.Mark.{Mark}
 use Rattle.terms.specs.Table.{CHAINS, FLAGS, HEADS, INDEX, start, trees, made, latest, Good}
 use Rattle.terms.specs.Laws.Zeros.{get_d_zeros}

@@ -10,8 +10,8 @@ use Rattle.rules.specs.Out.{Out, ok}
 use Rattle.rules.specs.Tree.{Tree, Trees, var, app, same_tree, same_trees}
 use Rattle.rules.specs.Store.{Made, stored, number, make}
 use Rattle.rules.specs.StateTables.{numbers}
-use Rattle.rules.proofs.Laws.Tree.{same_self, not_same}
-use Rattle.rules.proofs.Laws.Store.{Apart, Closed, Ins, number_le, number_is, number_of_lem, stored_true, stored_false, make_old}
+use Rattle.rules.specs.Laws.Tree.{same_self, not_same}
+use Rattle.rules.specs.Laws.Store.{Apart, Closed, Ins, number_le, number_is, number_of_lem, stored_true, stored_false, make_old}
 use Rattle.terms.specs.declared.store.Mark.{Mark}
 use Rattle.terms.specs.Table.{args_of, tree_at, made, Shaped, is_var, is_app, Good, Grown, Stored, tree}
 use Rattle.terms.specs.Node.{same_words}

@@ -4,7 +4,7 @@ use Rattle.std.proofs.Common.{sym, ap, ◌∙◌, subst, append_assoc, arith, le
 use Rattle.rules.specs.Limits.{SYMBOLS}
 use Rattle.rules.specs.Tree.{Tree, Trees, var, app, none, more, size, sizes, count_trees}
 use Rattle.rules.specs.TheoryTables.{prefix, prefixes}
-use Rattle.rules.proofs.Laws.Prefix.{prefix_length}
+use Rattle.rules.specs.Laws.Prefix.{prefix_length}
 use Rattle.terms.specs.Patterns.{Stands, Standing, Fits, FitsAll, Skipped}
 
 -- the word at a place, and what stands behind it

@@ -4,8 +4,8 @@ use Rattle.std.proofs.Common.{sym, ap, ◌∙◌, true≢false, arith}
 use Rattle.rules.specs.Find.{Set, empty, union}
 use Rattle.rules.specs.Tree.{Tree, Trees, var, app, none, more, is_open, are_open, variables}
 use Rattle.rules.specs.Store.{Made, number}
-use Rattle.rules.proofs.Laws.Set.{or_left}
-use Rattle.rules.proofs.Laws.Store.{Ins, Closed, stored_true}
+use Rattle.rules.specs.Laws.Set.{or_left}
+use Rattle.rules.specs.Laws.Store.{Ins, Closed, stored_true}
 use Rattle.terms.specs.declared.store.Mark.{Mark}
 use Rattle.terms.specs.Sets.{holds}
 use Rattle.terms.specs.Table.{made, tree, Grown}

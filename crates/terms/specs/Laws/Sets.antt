@@ -8,8 +8,8 @@ use Rattle.std.proofs.Math.ListN.{get_or-eq_default}
 use Rattle.rules.specs.Find.{empty, Set, has, union, rising}
 use Rattle.rules.specs.Limits.{RULES, RULEWORDS}
 use Rattle.rules.specs.StateTables.{bit_word}
-use Rattle.rules.proofs.Laws.Rising.{RisesFrom, Rises, rising_rises}
-use Rattle.rules.proofs.Laws.Members.{has_rising_all}
+use Rattle.rules.specs.Laws.Rising.{RisesFrom, Rises, rising_rises}
+use Rattle.rules.specs.Laws.Members.{has_rising_all}
 use Rattle.terms.specs.Sets.{digit, holds, plus}
 use Rattle.terms.specs.Laws.Digits.{digit_of_zero, digits_one, digits_small, digit_add}
 use Rattle.terms.specs.Laws.Zeros.{get_d_zeros}

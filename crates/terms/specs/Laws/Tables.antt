@@ -9,7 +9,7 @@ use Rattle.std.proofs.Math.ListN.{get_or-append}
 use Rattle.rules.specs.Limits.{SYMBOLS}
 use Rattle.rules.specs.Tree.{Trees, var, app, more, count_trees, node}
 use Rattle.rules.specs.Store.{Made, number, words}
-use Rattle.rules.proofs.Laws.Store.{Apart, length_snoc, get_d_last, number_none, number_of_lem, words_more}
+use Rattle.rules.specs.Laws.Store.{Apart, length_snoc, get_d_last, number_none, number_of_lem, words_more}
 use Rattle.terms.specs.declared.store.Mark.{Mark}
 use Rattle.terms.specs.Table.{start, node_at, args_of, tree_at, trees, made, Shaped, is_var, is_app, Good}
 use Rattle.terms.specs.Laws.Runs.{run_length}

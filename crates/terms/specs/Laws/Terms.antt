@@ -8,7 +8,7 @@ use Rattle.rules.specs.Limits.{SYMBOLS, VARIABLES, NODE}
 use Rattle.rules.specs.Tree.{var, app, none, more, is_open, Tree, variables, variables_of}
 use Rattle.rules.specs.Store.{Made}
 use Rattle.rules.specs.Find.{Set}
-use Rattle.rules.proofs.Laws.Tree.{variables_var, variables_app}
+use Rattle.rules.specs.Laws.Tree.{variables_var, variables_app}
 use Rattle.terms.specs.declared.store.Mark.{Mark}
 use Rattle.terms.specs.Table.{FLAGS, run, start, node_at, args_of, tree_at, made, flag, Shaped, is_var, is_app, Good}
 use Rattle.terms.specs.Node.{head_of}

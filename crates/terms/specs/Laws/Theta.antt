@@ -11,7 +11,7 @@ use Rattle.rules.specs.Store.{Made}
 use Rattle.rules.specs.Unify.{Binding, insert, along}
 use Rattle.rules.specs.Find.{any}
 use Rattle.rules.specs.Reference.{is_bound}
-use Rattle.rules.proofs.Laws.Store.{Apart}
+use Rattle.rules.specs.Laws.Store.{Apart}
 use Rattle.terms.specs.declared.store.Mark.{Mark}
 use Rattle.terms.specs.Theta.{bindings, Theta, Zeros}
 use Rattle.terms.specs.Table.{made, Grown}

@@ -1,6 +1,6 @@
 use mathlib.Core.Path.{refl, sym, ◌∙◌}
 use native.Mathlib.Omega.{arith}
-use Rattle.rules.proofs.Laws.Text.{same_lengths, same_on, same_off, same_over}
+use Rattle.rules.specs.Laws.Text.{same_lengths, same_on, same_off, same_over}
 use Rattle.casework.proofs.context.same_cells.Goals as goal
 
 pub returns-then-a-b : goal.returns-then-a-b

@@ -1,7 +1,7 @@
 use mathlib.Core.Path.{refl, sym, subst}
 use native.Mathlib.Omega.{arith}
 use Rattle.rules.specs.Sexp.{item}
-use Rattle.rules.proofs.Laws.Declaring.{ctor_unnamed}
+use Rattle.rules.specs.Laws.Declaring.{ctor_unnamed}
 use Rattle.sexp.specs.Items.{place}
 use Rattle.sexp.specs.WalkLaws.{spells_item}
 use Rattle.kernel.specs.Held.{SymbolAdded}

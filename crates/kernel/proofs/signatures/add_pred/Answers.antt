@@ -1,6 +1,6 @@
 use mathlib.Core.Path.{refl, sym, subst}
 use native.Mathlib.Omega.{arith}
-use Rattle.rules.proofs.Laws.Declaring.{pred_unnamed}
+use Rattle.rules.specs.Laws.Declaring.{pred_unnamed}
 use Rattle.kernel.specs.Held.{SymbolAdded}
 use Rattle.kernel.proofs.Spellings.{proper_here, proper_nowhere}
 use Rattle.kernel.specs.SignatureRows.{symbols_rows}

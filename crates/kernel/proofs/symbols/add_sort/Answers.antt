@@ -1,6 +1,6 @@
 use mathlib.Core.Path.{refl}
 use native.Mathlib.Omega.{arith}
-use Rattle.rules.proofs.Laws.Declaring.{add_sort_unnamed}
+use Rattle.rules.specs.Laws.Declaring.{add_sort_unnamed}
 use Rattle.kernel.proofs.Spellings.{proper_here, proper_nowhere}
 use Rattle.kernel.proofs.Holding.{sort_fits, sort_twice, sort_full, sort_stored}
 use Rattle.kernel.specs.SignatureRows.{sorts_rows}

@@ -6,7 +6,7 @@ use Rattle.rules.specs.Limits.{ARGUMENTS}
 use Rattle.rules.specs.Sexp.{list}
 use Rattle.rules.specs.TheoryTables.{prefix}
 use Rattle.rules.specs.Declare.{pattern}
-use Rattle.rules.proofs.Laws.PatternSteps.{worded}
+use Rattle.rules.specs.Laws.PatternSteps.{worded}
 use Rattle.sexp.specs.WalkLaws.{walk_start, walk_list, part_shorter}
 use Rattle.kernel.specs.Reading.{PatternRead}
 use Rattle.kernel.specs.SignatureRows.{input_cell}

@@ -1,6 +1,6 @@
 use native.Mathlib.Omega.{arith}
 use Rattle.rules.specs.Declare.{predicated}
-use Rattle.rules.proofs.Laws.PatternSteps.{worded}
+use Rattle.rules.specs.Laws.PatternSteps.{worded}
 use Rattle.kernel.proofs.Trees.{list_read, opened_reads, opened_placed, list_stopped, list_opened, head_opened, arguing_inner}
 use Rattle.kernel.proofs.terms.judgment.Goals as goal
 

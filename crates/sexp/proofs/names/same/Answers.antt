@@ -1,6 +1,6 @@
 use mathlib.Core.Path.{refl, sym}
 use native.Mathlib.Omega.{arith}
-use Rattle.rules.proofs.Laws.Text.{same_lengths}
+use Rattle.rules.specs.Laws.Text.{same_lengths}
 use Rattle.sexp.proofs.ByteLaws.{same_differs, same_end, same_before, same_whole}
 use Rattle.sexp.proofs.names.same.Goals as goal
 
