@@ -1,7 +1,7 @@
 -- The loops over the cases of `invert`: the case of a name, and all of them, one a name. Assumes nothing.
 use mathlib.Core.Path.{◌≡◌, refl, sym, ap, ◌∙◌, subst}
 use mathlib.Core.Bool.{Bool, true, false, not}
-use mathlib.Core.Option.{Option, some, none as nothing}
+use Rattle.std.specs.Prelude.{Option, Some as some, None as nothing}
 use mathlib.Core.List.{List, [], ◌∷◌, ◌++◌}
 use Prim.Native.Nat.{ℕ, zero, suc, ◌+◌, ◌-◌, ◌<◌, ◌≤◌}
 use native.Mathlib.Omega.{arith}
@@ -22,8 +22,6 @@ use Rattle.sexp.specs.Items.{Holds, item_at, behind}
 use Rattle.sexp.specs.ItemLaws.{at_room, some_cells}
 use Rattle.sexp.specs.Never.{never}
 use Rattle.sexp.specs.WalkLaws.{Walk, walk_start, walk_over, walk_rest}
-use Rattle.sexp.specs.declared.names.Found.{Found}
-use Rattle.sexp.specs.declared.names.Found.TheVariants.{At, Missing}
 use Rattle.reading.specs.Laws.Walks.{Here, here, go_on}
 use Rattle.casework.specs.Cases.{no_case, CaseItem, CaseFirst, CasesFirst, CaseHere, CaseFound, Kept, Naming, CasesAre}
 
@@ -252,11 +250,11 @@ module _ {S : State} {xs : Sexps} {text cells places links : List ℕ} {at k : �
 
 -- What `is_among` learns --------------------------------------------------------------------------------------------------------------------------
 
-module _ {text cells : List ℕ} {many : ℕ} (g : CasesFirst text cells many) (name : List ℕ) (r : Found) (f : CaseFound g.vs text cells g.cs name r) where
-  pub found_there : {p : ℕ} → r ≡ At p → true ≡ any (λ (d : Case). same d.name name) g.cs
+module _ {text cells : List ℕ} {many : ℕ} (g : CasesFirst text cells many) (name : List ℕ) (r : Option ℕ) (f : CaseFound g.vs text cells g.cs name r) where
+  pub found_there : {p : ℕ} → r ≡ some p → true ≡ any (λ (d : Case). same d.name name) g.cs
   found_there {p} e =
-      let h : CaseHere g.vs text cells g.cs name p = subst (λ (z : Found). CaseFound g.vs text cells g.cs name z) e f in
+      let h : CaseHere g.vs text cells g.cs name p = subst (λ (z : Option ℕ). CaseFound g.vs text cells g.cs name z) e f in
       any_there g.cs name h.c h.is
 
-  pub found_nowhere : r ≡ Missing → false ≡ any (λ (d : Case). same d.name name) g.cs
-  found_nowhere e = any_nowhere g.cs name (subst (λ (z : Found). CaseFound g.vs text cells g.cs name z) e f)
+  pub found_nowhere : r ≡ nothing → false ≡ any (λ (d : Case). same d.name name) g.cs
+  found_nowhere e = any_nowhere g.cs name (subst (λ (z : Option ℕ). CaseFound g.vs text cells g.cs name z) e f)

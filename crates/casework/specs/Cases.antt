@@ -1,6 +1,5 @@
 -- The cases of `invert` as items of a form: which item is which case, and what their readers answer. Assumes nothing.
-use Rattle.std.specs.Prelude.{◌≡◌, Bool, false, List, [], ◌∷◌, ◌++◌, ℕ, ◌+◌, ◌*◌, ◌<◌, ◌≤◌, length, get_or, drop}
-use Rattle.std.proofs.Math.Option.{some, none as nothing}
+use Rattle.std.specs.Prelude.{◌≡◌, Bool, false, List, [], ◌∷◌, ◌++◌, ℕ, ◌+◌, ◌*◌, ◌<◌, ◌≤◌, length, get_or, drop, Some as some, None as nothing, Option}
 use Rattle.rules.specs.Limits.{LENGTH, VARIABLES}
 use Rattle.rules.specs.Out.{ok, refuse}
 use Rattle.rules.specs.Lex.{letters}
@@ -13,8 +12,6 @@ use Rattle.rules.specs.TheoryTables.{filled}
 use Rattle.rules.specs.Invert.{Case, case_named, read_case, read_cases}
 use Rattle.sexp.specs.Items.{Holds}
 use Rattle.sexp.specs.WalkLaws.{Walk}
-use Rattle.sexp.specs.declared.names.Found.{Found}
-use Rattle.sexp.specs.declared.names.Found.TheVariants.{At, Missing}
 use Rattle.reading.specs.Items.{index_in, vars_in}
 use Rattle.reading.specs.declared.hyps.Listed.{Listed}
 use Rattle.reading.specs.declared.hyps.Listed.TheVariants as listed
@@ -84,9 +81,9 @@ pub record CaseHere (vs : List Var) (text cells : List ℕ) (cs : List Case) (na
   pub there : p < length cells
   pub case : CaseItem vs x c
 
-abbrev pub CaseFound : List Var → List ℕ → List ℕ → List Case → List ℕ → Found → Type 0
-CaseFound vs text cells cs name (At p) = CaseHere vs text cells cs name p
-CaseFound vs text cells cs name Missing = case_named cs name ≡ nothing
+abbrev pub CaseFound : List Var → List ℕ → List ℕ → List Case → List ℕ → Option ℕ → Type 0
+CaseFound vs text cells cs name (some p) = CaseHere vs text cells cs name p
+CaseFound vs text cells cs name nothing = case_named cs name ≡ nothing
 
 -- All cases ------------------------------------------------------------------------------------------------------------------------
 

@@ -1,7 +1,6 @@
 -- What a case of `invert` may rest on, by numbers of terms: the allowed facts without premises and generalised variables are a set of their
 -- judgments, the others are compared with the facts that the case rests on, one by one. Assumes nothing.
-use Rattle.std.specs.Prelude.{◌≡◌, Bool, true, false, ◌&&◌, List, [], ◌∷◌, ℕ, ◌-◌, ◌<◌, ◌≤◌, length, get_or, take, replicate}
-use Rattle.std.proofs.Math.Option.{some}
+use Rattle.std.specs.Prelude.{◌≡◌, Bool, true, false, ◌&&◌, List, [], ◌∷◌, ℕ, ◌-◌, ◌<◌, ◌≤◌, length, get_or, take, replicate, Some as some}
 use Rattle.rules.specs.Limits.{TERMS}
 use Rattle.rules.specs.Out.{Out, Act, ◌>>=◌, pure}
 use Rattle.rules.specs.Find.{Set, union, has, any}

@@ -14,7 +14,7 @@ use reading::lists::vars_list;
 use reading::names::index as index_in;
 use rules::{LENGTH, VARIABLES};
 use sexp::items::Item;
-use sexp::names::{Found, same};
+use sexp::names::same;
 use sexp::{items, lex};
 
 // Up to so many cases are compared by pairs.
@@ -54,11 +54,11 @@ pub fn read_case(
         return CaseRead::No(41);
     };
     let second = items::place(inner, 1);
-    let Found::At(i) = index_in(text, &inner[second..]) else {
+    let Some(i) = index_in(text, &inner[second..]) else {
         return CaseRead::No(41);
     };
     let third = items::place(inner, 2);
-    let Found::At(many) = vars_list(goals, text, vars, count, &inner[third..], out) else {
+    let Some(many) = vars_list(goals, text, vars, count, &inner[third..], out) else {
         return CaseRead::No(42);
     };
     CaseRead::Ok(start, i, many)
@@ -80,7 +80,7 @@ fn is_named(text: &[u8], cells: &[u32], name: &[u8]) -> bool
 }
 
 // The first of so many cases with that name, by its place.
-pub fn find_case(text: &[u8], cells: &[u32], many: usize, name: &[u8]) -> Found
+pub fn find_case(text: &[u8], cells: &[u32], many: usize, name: &[u8]) -> Option<usize>
     requires { CasesFirst text.now cells.now many }
     ensures { (g : CasesFirst text.now cells.now many) →
         CaseFound g.vs text.now cells.now g.cs name.now result }
@@ -89,12 +89,12 @@ pub fn find_case(text: &[u8], cells: &[u32], many: usize, name: &[u8]) -> Found
     let mut k = 0;
     while k < many {
         if is_named(text, &cells[at..], name) {
-            return Found::At(at);
+            return Some(at);
         }
         at = items::after(cells, at);
         k += 1;
     }
-    Found::Missing
+    None
 }
 
 // Whether one of so many cases has that name, each looked at.
@@ -104,8 +104,8 @@ fn is_among(text: &[u8], cells: &[u32], many: usize, name: &[u8]) -> bool
         result ≡ any (λ (d : Case). same d.name name.now) g.cs }
 {
     match find_case(text, cells, many, name) {
-        Found::At(_) => true,
-        Found::Missing => false,
+        Some(_) => true,
+        None => false,
     }
 }
 

@@ -12,9 +12,8 @@
 --
 -- That unification fails only where no unifier exists (demand 2) is `inversions_complete` of meaning/proofs/Theorems: it speaks of the definition, whose every
 -- answer the code gives. Assumes nothing.
-use Rattle.std.specs.Prelude.{ℕ, ◌<◌, ◌≡◌, refl, true, List, length, get_or}
+use Rattle.std.specs.Prelude.{ℕ, ◌<◌, ◌≡◌, refl, true, List, length, get_or, Some as some}
 use Rattle.std.proofs.Common.{sym, ap, ◌∙◌, subst}
-use Rattle.std.proofs.Math.Option.{some}
 use Rattle.rules.specs.Find.{entry}
 use Rattle.rules.specs.State.{State, Goal}
 use Rattle.rules.specs.Check.{Answer, refuses, check}

@@ -1,9 +1,8 @@
 -- What the reader reads is what stands there: terms, goals and facts of the state. Assumes nothing.
-use Rattle.std.specs.Prelude.{◌≡◌, length, get_or, take, drop}
+use Rattle.std.specs.Prelude.{◌≡◌, length, get_or, take, drop, Some as some}
 use Rattle.std.proofs.Math.Path.{refl, sym}
 use Rattle.std.proofs.Common.{ap, ◌∙◌, subst, arith, take-suc}
 use Prim.Native.Nat.{ℕ, zero, suc, ◌*◌, ◌<◌, ◌≤◌}
-use Rattle.std.proofs.Math.Option.{some}
 use mathlib.Core.List.{List, [], ◌∷◌, ◌++◌}
 use Rattle.std.proofs.Math.Seq.{take-length}
 use Rattle.rules.specs.Limits.{RULES, TERMS, WORDS, FACTS}

@@ -1,4 +1,5 @@
 -- The form `apply` from its index on: what each part of it answers, and what the next part is given. Assumes nothing.
+use Rattle.std.specs.Prelude.{Some as some, None as nothing, Option}
 use mathlib.Core.Path.{◌≡◌, refl, sym, ap, ◌∙◌, subst}
 use mathlib.Core.Bool.{Bool, true, false, not}
 use mathlib.Core.List.{List, []}
@@ -21,12 +22,9 @@ use Rattle.sexp.specs.Encode.{encodes}
 use Rattle.sexp.specs.Items.{Holds, item_of, place}
 use Rattle.sexp.specs.WalkLaws.{ListIs, nth_atom}
 use Rattle.sexp.specs.NthItem.{nth_part, place_high, rest_holds}
-use Rattle.sexp.specs.NameRows.{found_of}
 use Rattle.sexp.specs.FoundLaws.{found_at, found_missing}
 use Rattle.sexp.specs.declared.items.Item.{Item}
 use Rattle.sexp.specs.declared.items.Item.TheVariants.{Atom, List as Part}
-use Rattle.sexp.specs.declared.names.Found.{Found}
-use Rattle.sexp.specs.declared.names.Found.TheVariants as found
 use Rattle.terms.specs.declared.store.Mark.{Mark}
 use Rattle.terms.specs.declared.store.Kept.{Kept}
 use Rattle.terms.specs.declared.store.Kept.TheVariants as kept
@@ -242,11 +240,11 @@ module _ {K : Names} {facts footings lists : List ℕ} {n : Sizes} {I W : List �
     index_given = record { x = item g.xs 2; ys = rest g.xs 3; holds = index_holds }
 
     -- r: what `index` answers
-    module _ {r : Found} (h : (x : Sexp) (ys : Sexps) → Holds K.text (take (length cells - at) (drop at cells)) (cons x ys) → r ≡ found_of (index_in x)) where
-      pub index_missing : r ≡ found.Missing → Stopped I W I W m form_all 34 0 m
+    module _ {r : Option ℕ} (h : (x : Sexp) (ys : Sexps) → Holds K.text (take (length cells - at) (drop at cells)) (cons x ys) → r ≡ (index_in x)) where
+      pub index_missing : r ≡ nothing → Stopped I W I W m form_all 34 0 m
       index_missing e = on_found_none _ 34 on_begin (found_missing (index_in (item g.xs 2)) r (h (item g.xs 2) (rest g.xs 3) index_holds) e)
 
-      module _ {i : ℕ} (e : r ≡ found.At i) where
+      module _ {i : ℕ} (e : r ≡ some i) where
         on_index : On I W m form_all I W m (behind_index g.S g.xs i (made I W m))
         on_index = on_found_some _ 34 on_begin (found_at (index_in (item g.xs 2)) r i (h (item g.xs 2) (rest g.xs 3) index_holds) e)
 

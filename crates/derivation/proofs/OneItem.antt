@@ -2,7 +2,7 @@
 use mathlib.Core.Path.{◌≡◌, refl, sym, ap, ◌∙◌, subst}
 use mathlib.Core.Bool.{Bool, true, false, ◌&&◌}
 use mathlib.Core.List.{List}
-use mathlib.Core.Option.{Option}
+use Rattle.std.specs.Prelude.{Option, Some as some, None as nothing}
 use Prim.Native.Nat.{ℕ, ◌+◌, ◌-◌, ◌^◌, ◌<◌, ◌≤◌}
 use native.Mathlib.Omega.{arith}
 use lib.Dec.{eqb}
@@ -28,12 +28,9 @@ use Rattle.sexp.specs.ItemLaws.{More, at_inside}
 use Rattle.sexp.specs.WalkLaws.{ListIs, walk_start, walk_atom, walk_list}
 use Rattle.sexp.specs.AtomText.{atom_part}
 use Rattle.sexp.specs.FirstItem.{AtomFirst, none_left, atom_first, list_first}
-use Rattle.sexp.specs.NameRows.{found_of}
 use Rattle.sexp.specs.FoundLaws.{found_at, found_missing, found_entry}
 use Rattle.sexp.specs.declared.items.Item.{Item}
 use Rattle.sexp.specs.declared.items.Item.TheVariants.{Atom, List as Part}
-use Rattle.sexp.specs.declared.names.Found.{Found}
-use Rattle.sexp.specs.declared.names.Found.TheVariants as found
 use Rattle.kernel.specs.HeldRules.{RulesHeld}
 use Rattle.kernel.specs.Readers.{KnownRule, KnownVar, NamedVars}
 use Rattle.kernel.specs.Entries.{known_rule, known_var, named_vars}
@@ -100,23 +97,23 @@ module _ {K : Names} {rules rulevars : List ℕ} {n : Sizes} {I W : List ℕ} {m
     bind_names = named_vars g.S.theory g.ruled.held g.known many_are
 
     -- what its name finds among them
-    module _ {start end : ℕ} (inside : start < length K.text) (ends : end ≡ start + length (letters (drop start K.text))) {o : Found}
+    module _ {start end : ℕ} (inside : start < length K.text) (ends : end ≡ start + length (letters (drop start K.text))) {o : Option ℕ}
         (h : (T : Theory) (rows patterns : List ℕ) (known words : ℕ) → RulesHeld K.theory rows rulevars patterns known words T.rules → r < known →
-        many ≡ length (rule T r).vars → o ≡ found_of (first (λ v. same v.name.bytes (take (end - start) (drop start K.text))) (rule T r).vars 0)) where
-      answer : o ≡ found_of (first (λ v. same v.name.bytes (letters (drop start K.text))) (rule g.S.theory r).vars 0)
+        many ≡ length (rule T r).vars → o ≡ (first (λ v. same v.name.bytes (take (end - start) (drop start K.text))) (rule T r).vars 0)) where
+      answer : o ≡ (first (λ v. same v.name.bytes (letters (drop start K.text))) (rule g.S.theory r).vars 0)
       answer =
           h g.S.theory rules g.patterns n.rules g.ruled.words g.ruled.held g.known many_are
-          ∙ ap (λ (bs : List ℕ). found_of (first (λ v. same v.name.bytes bs) (rule g.S.theory r).vars 0)) (atom_part K.text start end inside ends)
+          ∙ ap (λ (bs : List ℕ). (first (λ v. same v.name.bytes bs) (rule g.S.theory r).vars 0)) (atom_part K.text start end inside ends)
 
       on_bind : On I W m (bind_item g.S (rule g.S.theory r) (letters (drop start K.text)) g.x g.it (made I W m)) I W m
           (then (find 36 (looked (rule g.S.theory r) (letters (drop start K.text))) (made I W m)) (bind_from g.S (rule g.S.theory r) g.x g.it))
       on_bind = on_is (on_start g.reads.good) (bind_is g.S (rule g.S.theory r) (letters (drop start K.text)) g.x g.it (made I W m))
 
-      pub bind_unnamed : o ≡ found.Missing →
+      pub bind_unnamed : o ≡ nothing →
           Stopped I W I W m (bind_item g.S (rule g.S.theory r) (letters (drop start K.text)) g.x g.it (made I W m)) 36 0 m
       bind_unnamed f = on_found_none _ 36 on_bind (found_missing (looked (rule g.S.theory r) (letters (drop start K.text))) o answer f)
 
-      module _ {v : ℕ} (f : o ≡ found.At v) where
+      module _ {v : ℕ} (f : o ≡ some v) where
         bind_inside : v < length (rule g.S.theory r).vars
         bind_inside =
             (found_entry (λ (u : RuleVar). same u.name.bytes (letters (drop start K.text))) (rule g.S.theory r).vars no_rule_var o v answer f).inside

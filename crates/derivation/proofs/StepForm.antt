@@ -1,6 +1,6 @@
 -- The rule that a step names, and then the step by it. Assumes nothing.
 use mathlib.Core.Path.{◌≡◌, ap, ◌∙◌}
-use mathlib.Core.Option.{some}
+use Rattle.std.specs.Prelude.{Some as some, None as nothing, Option}
 use mathlib.Core.List.{List}
 use Prim.Native.Nat.{ℕ, ◌+◌, ◌-◌, ◌<◌, ◌≤◌}
 use native.Mathlib.Omega.{arith}
@@ -19,12 +19,9 @@ use Rattle.sexp.specs.Encode.{encodes}
 use Rattle.sexp.specs.Items.{Reaches, item_of, place}
 use Rattle.sexp.specs.NthItem.{reaches, nth_text, nth_part}
 use Rattle.sexp.specs.AtomText.{AtomText, name_from, atom_part, atom_high}
-use Rattle.sexp.specs.NameRows.{found_of}
 use Rattle.sexp.specs.FoundLaws.{found_at, found_missing}
 use Rattle.sexp.specs.declared.items.Item.{Item}
 use Rattle.sexp.specs.declared.items.Item.TheVariants.{Atom, List as Part}
-use Rattle.sexp.specs.declared.names.Found.{Found}
-use Rattle.sexp.specs.declared.names.Found.TheVariants as found
 use Rattle.kernel.specs.HeldRules.{RulesHeld}
 use Rattle.kernel.specs.Readers.{NamedRules}
 use Rattle.terms.specs.declared.store.Mark.{Mark}
@@ -84,17 +81,17 @@ module _ {K : Names} {rules rulevars patterns facts footings lists : List ℕ} {
         pub step_high : end ≤ length K.text
         step_high = atom_high K.text p end step_start e
 
-        module _ {r : Found} (h : (T : Theory) (vars patterns : List ℕ) (words : ℕ) → RulesHeld K.theory rules vars patterns n.rules words T.rules →
-            r ≡ found_of (rule_named T (take (end - p) (drop p K.text)))) where
-          answer : r ≡ found_of (rule_named g.S.theory (letters (drop p K.text)))
+        module _ {r : Option ℕ} (h : (T : Theory) (vars patterns : List ℕ) (words : ℕ) → RulesHeld K.theory rules vars patterns n.rules words T.rules →
+            r ≡ (rule_named T (take (end - p) (drop p K.text)))) where
+          answer : r ≡ (rule_named g.S.theory (letters (drop p K.text)))
           answer =
               h g.S.theory rulevars patterns g.ruled.words g.ruled.held
-              ∙ ap (λ (bs : List ℕ). found_of (rule_named g.S.theory bs)) (atom_part K.text p end step_start e)
+              ∙ ap (λ (bs : List ℕ). (rule_named g.S.theory bs)) (atom_part K.text p end step_start e)
 
-          pub step_unnamed : r ≡ found.Missing → Stopped I W I W m whole 33 0 m
+          pub step_unnamed : r ≡ nothing → Stopped I W I W m whole 33 0 m
           step_unnamed q = on_found_none third 33 on_second (found_missing (rule_named g.S.theory (letters (drop p K.text))) r answer q)
 
-          module _ {i : ℕ} (q : r ≡ found.At i) where
+          module _ {i : ℕ} (q : r ≡ some i) where
             is_found : rule_named g.S.theory (letters (drop p K.text)) ≡ some i
             is_found = found_at (rule_named g.S.theory (letters (drop p K.text))) r i answer q
 

@@ -1,6 +1,5 @@
 -- The parts of a step behind its references: what the definition says of each, what they are given and what they answer. Assumes nothing.
-use Rattle.std.specs.Prelude.{◌≡◌, false, List, [], ◌∷◌, ℕ, ◌*◌, ◌<◌, ◌≤◌, eqb, length, get_or}
-use Rattle.std.proofs.Math.Option.{Option}
+use Rattle.std.specs.Prelude.{◌≡◌, false, List, [], ◌∷◌, ℕ, ◌*◌, ◌<◌, ◌≤◌, eqb, length, get_or, Option}
 use Rattle.rules.specs.Limits.{SYMBOLS, FACTWORDS}
 use Rattle.rules.specs.Out.{Out, Act, ◌>>=◌, pure, ask, found}
 use Rattle.rules.specs.Find.{Set, has, union, rising}

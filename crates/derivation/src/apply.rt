@@ -25,7 +25,6 @@ use referring::scope::{outside, visit_cells};
 use rules::{TERMWORDS, VARIABLEWORDS};
 use sexp::items;
 use sexp::items::Item;
-use sexp::names::Found;
 use state::facts::{general, hyps as hyps_of, is_assumed, is_fact, is_plain, judgment, premises};
 use state::sizes::Sizes;
 use terms::sets::{has, insert};
@@ -373,7 +372,7 @@ pub fn apply(
     ensures map_unchanged { (map.new ≡ map.old) × (memo.new ≡ memo.old) × (bound.new ≡ bound.old) }
 {
     let at = items::place(cells, 2);
-    let Found::At(i) = index_in(text, &cells[at..]) else {
+    let Some(i) = index_in(text, &cells[at..]) else {
         return Derived::No(34, 0, mark);
     };
     let Item::List(a, b) = items::nth(cells, 3) else {

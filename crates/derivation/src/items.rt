@@ -17,7 +17,6 @@ use kernel::atoms::marked;
 use kernel::rule_readers::{rule_var_named, variable_sort, variables};
 use reading::term::{Out, judgment, term_of};
 use sexp::items::Item;
-use sexp::names::Found;
 use sexp::{items, lex};
 use state::sizes::Sizes;
 use terms::store::Mark;
@@ -59,7 +58,7 @@ fn bind_item(
         ItemsAs index.old words.old index.new words.new mark (bind_item g.S (rule g.S.theory r) (letters (drop start text.now)) g.x g.it (made index.old words.old mark)) bound.new result }
 {
     let end = lex::atom_end(text, start);
-    let Found::At(i) = rule_var_named(theory, rulevars, r, variables(rules, r), &text[start..end])
+    let Some(i) = rule_var_named(theory, rulevars, r, variables(rules, r), &text[start..end])
     else {
         return Out::No(36, 0, mark);
     };

@@ -25,7 +25,6 @@ use referring::references::{Referred, join, reference};
 use referring::scope::{outside, visit_all, visit_cells};
 use rules::{RULEVARS, TERMWORDS, VARIABLEWORDS};
 use sexp::items::Item;
-use sexp::names::Found;
 use sexp::{items, lex};
 use state::sizes::Sizes;
 use terms::patterns::{Built, build, match_all, matches};
@@ -239,7 +238,7 @@ pub fn step(
         return Derived::No(33, 0, mark);
     };
     let end = lex::atom_end(text, start);
-    let Found::At(r) = rule_named(theory, rules, n.rules, &text[start..end]) else {
+    let Some(r) = rule_named(theory, rules, n.rules, &text[start..end]) else {
         return Derived::No(33, 0, mark);
     };
     let few = premises(rules, r);

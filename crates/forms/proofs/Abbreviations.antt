@@ -1,4 +1,5 @@
 -- What `add_def` answers, question by question, and what the code finds. Assumes nothing.
+use Rattle.std.specs.Prelude.{Some as some, None as nothing, Option}
 use mathlib.Core.Path.{◌≡◌, sym, ap, ◌∙◌, subst}
 use mathlib.Core.Bool.{Bool, true, false, ◌&&◌}
 use mathlib.Core.List.{List, [], ◌∷◌, ◌++◌}
@@ -23,8 +24,6 @@ use Rattle.sexp.specs.Encode.{encodes}
 use Rattle.sexp.specs.Items.{item_of, place}
 use Rattle.sexp.specs.NthItem.{nth_text, nth_part}
 use Rattle.sexp.specs.AtomText.{AtomText, atom_part, atom_high, atom_named}
-use Rattle.sexp.specs.declared.names.Found.{Found}
-use Rattle.sexp.specs.declared.names.Found.TheVariants.{At, Missing}
 use Rattle.sexp.specs.declared.items.Item.{Item}
 use Rattle.sexp.specs.declared.items.Item.TheVariants.{Atom, List as Part}
 use Rattle.terms.specs.declared.store.Mark.{Mark}
@@ -169,22 +168,22 @@ module _ {K : Names} {n : Sizes} {I W : List ℕ} {m : Mark} {cells : List ℕ} 
                 pub def_defs : SomeDefs K.text K.defs n.defs
                 def_defs = (made J X new, g.S.defs, def_reads.spelling.defs)
 
-                module _ (q : Found) (w : (M : Made) (ds : List Def) → DefsHeld K.text K.defs n.defs M ds →
+                module _ (q : Option ℕ) (w : (M : Made) (ds : List Def) → DefsHeld K.text K.defs n.defs M ds →
                     DefFound M ds (take (end - start) (drop start K.text)) q) where
                   found_told : DefFound (made J X new) g.S.defs (letters (drop start K.text)) q
                   found_told =
                       subst (λ bs. DefFound (made J X new) g.S.defs bs q) (atom_part K.text start end def_name.inside d)
                       (w (made J X new) g.S.defs def_reads.spelling.defs)
 
-                  pub def_again : {i : ℕ} → q ≡ At i → Halts I W J X m g.S (add_def g.xs g.S) 33 0 new
+                  pub def_again : {i : ℕ} → q ≡ some i → Halts I W J X m g.S (add_def g.xs g.S) 33 0 new
                   def_again {i} u =
-                      let z : DefFound (made J X new) g.S.defs (letters (drop start K.text)) (At i) =
+                      let z : DefFound (made J X new) g.S.defs (letters (drop start K.text)) (some i) =
                       subst (DefFound (made J X new) g.S.defs (letters (drop start K.text))) u found_told in
                       reached_halts came
                       (def_end_twice the_name (tree J X new t) (with_made g.S (made J X new)) (ltb (length g.S.defs) DEFS)
                       (not_new (abbreviated g.S.defs (letters (drop start K.text))) z.0))
 
-                  module _ (u : q ≡ Missing) where
+                  module _ (u : q ≡ nothing) where
                     is_free : is_new (abbreviated g.S.defs (letters (drop start K.text))) ≡ true
                     is_free =
                         is_new_lem (abbreviated g.S.defs (letters (drop start K.text)))

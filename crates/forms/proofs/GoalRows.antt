@@ -1,7 +1,7 @@
 -- What `add_goal` answers, question by question, and what the code finds for it: the name, rows 11 and 13. Assumes nothing.
 use mathlib.Core.Path.{◌≡◌, ap, ◌∙◌}
 use mathlib.Core.Bool.{Bool, true, false}
-use mathlib.Core.Option.{Option, some, none as nothing}
+use Rattle.std.specs.Prelude.{Option, Some as some, None as nothing}
 use mathlib.Core.List.{List, [], ◌∷◌, ◌++◌}
 use Prim.Native.Nat.{ℕ, ◌+◌, ◌-◌, ◌*◌, ◌^◌, ◌<◌, ◌≤◌}
 use native.Mathlib.Omega.{arith}
@@ -22,10 +22,7 @@ use Rattle.sexp.specs.Encode.{encodes}
 use Rattle.sexp.specs.Items.{item_of, place}
 use Rattle.sexp.specs.NthItem.{nth_text, nth_part}
 use Rattle.sexp.specs.AtomText.{AtomText, name_from, atom_part, atom_high, atom_named}
-use Rattle.sexp.specs.NameRows.{found_of}
 use Rattle.sexp.specs.FoundLaws.{found_at, found_missing}
-use Rattle.sexp.specs.declared.names.Found.{Found}
-use Rattle.sexp.specs.declared.names.Found.TheVariants.{At, Missing}
 use Rattle.sexp.specs.declared.items.Item.{Item}
 use Rattle.sexp.specs.declared.items.Item.TheVariants.{Atom, List as Part}
 use Rattle.state.specs.declared.sizes.Sizes.{Sizes}
@@ -117,16 +114,16 @@ module _ {goals rows : List ℕ} {n : Sizes} {cells : List ℕ} (g : GoalPlace g
         pub place_high : end ≤ length goals
         place_high = atom_high goals start end place_text.inside f
 
-        module _ {r : Found} (b : (M : Made) (gs : List Goal) → GoalsHeld goals rows n.goals M gs → r ≡ found_of (goal_named gs (take (end - start) (drop start goals)))) where
-          looked : r ≡ found_of (goal_named g.S.goals (letters (drop start goals)))
+        module _ {r : Option ℕ} (b : (M : Made) (gs : List Goal) → GoalsHeld goals rows n.goals M gs → r ≡ (goal_named gs (take (end - start) (drop start goals)))) where
+          looked : r ≡ (goal_named g.S.goals (letters (drop start goals)))
           looked = b g.trees g.S.goals g.held
-              ∙ ap (λ (z : List ℕ). found_of (goal_named g.S.goals z)) (atom_part goals start end place_text.inside f)
+              ∙ ap (λ (z : List ℕ). (goal_named g.S.goals z)) (atom_part goals start end place_text.inside f)
 
-          pub place_twice : {k : ℕ} → r ≡ At k → (hs : Trees) (j : Tree) → add_goal (item g.xs 1) hs j g.S ≡ refuse 24 0 g.S
+          pub place_twice : {k : ℕ} → r ≡ some k → (hs : Trees) (j : Tree) → add_goal (item g.xs 1) hs j g.S ≡ refuse 24 0 g.S
           place_twice {k} q hs j =
               goal_twice_lem (item g.xs 1) hs j g.S place_text.is (found_at (goal_named g.S.goals (letters (drop start goals))) r k looked q)
 
-          module _ (q : r ≡ Missing) where
+          module _ (q : r ≡ nothing) where
             fresh : goal_named g.S.goals (letters (drop start goals)) ≡ nothing
             fresh = found_missing (goal_named g.S.goals (letters (drop start goals))) r looked q
 

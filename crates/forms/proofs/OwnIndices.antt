@@ -1,6 +1,6 @@
 -- The index that a form gives its own fact: what the code's tests say of the definition's `next`. Assumes nothing.
 use mathlib.Core.Path.{◌≡◌, sym, ap, ◌∙◌}
-use mathlib.Core.Option.{some, none as nothing}
+use Rattle.std.specs.Prelude.{Some as some, None as nothing, Option}
 use mathlib.Core.List.{List}
 use Prim.Native.Nat.{ℕ, ◌-◌}
 use lib.Dec.{eqb}
@@ -12,10 +12,7 @@ use Rattle.rules.specs.State.{State}
 use Rattle.rules.specs.Forms.{next}
 use Rattle.sexp.specs.Encode.{encodes}
 use Rattle.sexp.specs.Items.{Holds, place}
-use Rattle.sexp.specs.NameRows.{found_of}
 use Rattle.sexp.specs.FoundLaws.{found_at, found_missing}
-use Rattle.sexp.specs.declared.names.Found.{Found}
-use Rattle.sexp.specs.declared.names.Found.TheVariants.{At, Missing}
 use Rattle.state.specs.declared.sizes.Sizes.{Sizes}
 use Rattle.reading.specs.Items.{FirstItem, index_in, index_found}
 use Rattle.forms.specs.Next.{OwnIndex}
@@ -41,11 +38,11 @@ module _ {text cells : List ℕ} {n : Sizes} (g : OwnIndex text cells n) {at : �
   pub own_item : FirstItem text (take (length cells - at) (drop at cells))
   own_item = record { x = item g.xs 1; ys = rest g.xs 2; holds = own_holds }
 
-  module _ {r : Found} (f : (x : Sexp) (ys : Sexps) → Holds text (take (length cells - at) (drop at cells)) (cons x ys) → r ≡ found_of (index_in x)) where
-    pub own_missing : r ≡ Missing → next g.xs g.S ≡ refuse 31 0 g.S
+  module _ {r : Option ℕ} (f : (x : Sexp) (ys : Sexps) → Holds text (take (length cells - at) (drop at cells)) (cons x ys) → r ≡ (index_in x)) where
+    pub own_missing : r ≡ nothing → next g.xs g.S ≡ refuse 31 0 g.S
     own_missing e = next_none g.xs g.S (found_missing (index_in (item g.xs 1)) r (f _ _ own_holds) e)
 
-    module _ {i : ℕ} (e : r ≡ At i) where
+    module _ {i : ℕ} (e : r ≡ some i) where
       own_some : next g.xs g.S ≡ ask 32 (eqb i (length g.S.facts)) g.S
       own_some = next_some g.xs g.S (found_at (index_in (item g.xs 1)) r i (f _ _ own_holds) e)
 

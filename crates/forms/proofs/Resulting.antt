@@ -1,7 +1,7 @@
 -- What `result` answers, question by question, and what the code finds for it. Assumes nothing.
 use mathlib.Core.Path.{◌≡◌, sym, ap, ◌∙◌, subst}
 use mathlib.Core.Bool.{Bool, true, false, not}
-use mathlib.Core.Option.{Option, some, none as nothing}
+use Rattle.std.specs.Prelude.{Option, Some as some, None as nothing}
 use mathlib.Core.List.{List}
 use Prim.Native.Nat.{ℕ, ◌+◌, ◌-◌, ◌*◌, ◌<◌, ◌≤◌}
 use native.Mathlib.Omega.{arith}
@@ -25,10 +25,7 @@ use Rattle.sexp.specs.Encode.{encodes}
 use Rattle.sexp.specs.Items.{item_of, place}
 use Rattle.sexp.specs.NthItem.{nth_text, nth_part, place_high}
 use Rattle.sexp.specs.AtomText.{AtomText, atom_part, atom_high}
-use Rattle.sexp.specs.NameRows.{found_of}
 use Rattle.sexp.specs.FoundLaws.{found_at, found_missing}
-use Rattle.sexp.specs.declared.names.Found.{Found}
-use Rattle.sexp.specs.declared.names.Found.TheVariants.{At, Missing}
 use Rattle.sexp.specs.declared.items.Item.{Item}
 use Rattle.sexp.specs.declared.items.Item.TheVariants.{Atom, List as Part}
 use Rattle.terms.specs.declared.store.Mark.{Mark}
@@ -148,17 +145,17 @@ module _ {K : Names} {rows facts lists : List ℕ} {n : Sizes} {I W : List ℕ} 
         pub name_high : end ≤ length K.text
         name_high = atom_high K.text start end name_text.inside f
 
-        module _ {r : Found}
-            (b : (M : Made) (gs : List Goal) → GoalsHeld K.goals rows n.goals M gs → r ≡ found_of (goal_named gs (take (end - start) (drop start K.text)))) where
-          looked : r ≡ found_of (goal_named g.S.goals (letters (drop start K.text)))
+        module _ {r : Option ℕ}
+            (b : (M : Made) (gs : List Goal) → GoalsHeld K.goals rows n.goals M gs → r ≡ (goal_named gs (take (end - start) (drop start K.text)))) where
+          looked : r ≡ (goal_named g.S.goals (letters (drop start K.text)))
           looked = b (made I W m) g.S.goals g.held
-              ∙ ap (λ (z : List ℕ). found_of (goal_named g.S.goals z)) (atom_part K.text start end name_text.inside f)
+              ∙ ap (λ (z : List ℕ). (goal_named g.S.goals z)) (atom_part K.text start end name_text.inside f)
 
-          pub no_goal_lem : r ≡ Missing → Halts I W I W m g.S (result g.xs g.S) 50 0 m
+          pub no_goal_lem : r ≡ nothing → Halts I W I W m g.S (result g.xs g.S) 50 0 m
           no_goal_lem q =
               first_halts (result_unknown_lem g.xs g.S name_text.is (found_missing (goal_named g.S.goals (letters (drop start K.text))) r looked q))
 
-          module _ {k : ℕ} (q : r ≡ At k) where
+          module _ {k : ℕ} (q : r ≡ some k) where
             is_goal : goal_named g.S.goals (letters (drop start K.text)) ≡ some k
             is_goal = found_at (goal_named g.S.goals (letters (drop start K.text))) r k looked q
 

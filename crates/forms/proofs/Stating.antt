@@ -1,6 +1,6 @@
 -- What the forms of hypotheses read, item by item. Assumes nothing.
 use mathlib.Core.Path.{◌≡◌, refl, sym, ap, ◌∙◌, subst}
-use mathlib.Core.Option.{Option, none as nothing}
+use Rattle.std.specs.Prelude.{Option, None as nothing, Some as some}
 use mathlib.Core.List.{List, []}
 use Prim.Native.Nat.{ℕ, ◌-◌}
 use native.Mathlib.Omega.{arith}
@@ -17,8 +17,6 @@ use Rattle.rules.specs.Laws.Sound.{sound}
 use Rattle.rules.proofs.Laws.ReadWalk.{judgment_keeps, judgments_keeps}
 use Rattle.sexp.specs.Encode.{encodes}
 use Rattle.sexp.specs.Items.{place}
-use Rattle.sexp.specs.declared.names.Found.{Found}
-use Rattle.sexp.specs.declared.names.Found.TheVariants.{At, Missing}
 use Rattle.terms.specs.declared.store.Mark.{Mark}
 use Rattle.terms.specs.Table.{made, tree}
 use Rattle.state.specs.declared.sizes.Sizes.{Sizes}
@@ -182,18 +180,18 @@ module _ {K : Names} {n : Sizes} {I W : List ℕ} {m : Mark} {cells : List ℕ} 
                     holds = item_holds g.holds 4 (omega (arith, g.many)) b;
                   }
 
-              module _ (zeros general : List ℕ) (q : Found) (t : (k : VarsItem K.goals K.text K.vars n.vars (take (length cells - last) (drop last cells))) →
+              module _ (zeros general : List ℕ) (q : Option ℕ) (t : (k : VarsItem K.goals K.text K.vars n.vars (take (length cells - last) (drop last cells))) →
                   VarsAs k.S.vars k.x zeros general q) where
                 vars_told : VarsAs g.S.vars (item g.xs 4) zeros general q
                 vars_told = t vars_item
 
-                pub vars_no : q ≡ Missing → Halts I W Y Z m g.S (add_rule_hyp g.xs g.S) 36 0 now
+                pub vars_no : q ≡ nothing → Halts I W Y Z m g.S (add_rule_hyp g.xs g.S) 36 0 now
                 unfolding then
                 vars_no u =
                     let z : (vars_in g.S.vars (item g.xs 4) ≡ nothing) × (general ≡ zeros) = subst (VarsAs g.S.vars (item g.xs 4) zeros general) u vars_told in
                     reached_halts stated_came (ends_are z.0)
 
-                pub vars_ok : {few : ℕ} → q ≡ At few → PartsRead I W Y Z m g.S (add_rule_hyp g.xs g.S) out general j many few now
+                pub vars_ok : {few : ℕ} → q ≡ some few → PartsRead I W Y Z m g.S (add_rule_hyp g.xs g.S) out general j many few now
                 unfolding then
                 vars_ok {few} u =
                     let z : VarsRead g.S.vars (item g.xs 4) general few = subst (VarsAs g.S.vars (item g.xs 4) zeros general) u vars_told in

@@ -1,7 +1,7 @@
 -- What `add_var` answers, question by question, and what the code finds. Assumes nothing.
 use mathlib.Core.Path.{◌≡◌, refl, sym, ap, ◌∙◌}
 use mathlib.Core.Bool.{Bool, true, false, not, ◌&&◌}
-use mathlib.Core.Option.{Option, some, none as nothing}
+use Rattle.std.specs.Prelude.{Option, Some as some, None as nothing}
 use mathlib.Core.List.{List, [], ◌∷◌, ◌++◌}
 use Prim.Native.Nat.{ℕ, ◌+◌, ◌-◌, ◌*◌, ◌^◌, ◌<◌, ◌≤◌}
 use native.Mathlib.Omega.{arith}
@@ -21,12 +21,9 @@ use Rattle.rules.specs.Forms.{with_vars, add_var}
 use Rattle.rules.specs.Laws.Find.{first_some}
 use Rattle.sexp.specs.Encode.{encodes}
 use Rattle.sexp.specs.Items.{item_of, place}
-use Rattle.sexp.specs.NameRows.{found_of}
 use Rattle.sexp.specs.FoundLaws.{found_at, found_missing}
 use Rattle.sexp.specs.NthItem.{nth_text, nth_part}
 use Rattle.sexp.specs.AtomText.{AtomText, atom_part, atom_high, atom_named}
-use Rattle.sexp.specs.declared.names.Found.{Found}
-use Rattle.sexp.specs.declared.names.Found.TheVariants.{At, Missing}
 use Rattle.sexp.specs.declared.items.Item.{Item}
 use Rattle.sexp.specs.declared.items.Item.TheVariants.{Atom, List as Part}
 use Rattle.kernel.specs.Held.{SortsHeld, SymbolsHeld}
@@ -51,24 +48,24 @@ module _ (a b d : Option ℕ) where
   abbrev unused : Bool
   unused = is_new a && (is_new b && is_new d)
 
-  pub used_first : (q : Found) {i : ℕ} → q ≡ found_of a → q ≡ At i → false ≡ unused
+  pub used_first : (q : Option ℕ) {i : ℕ} → q ≡ a → q ≡ some i → false ≡ unused
   used_first q {i} e f = sym (ap (λ (z : Bool). z && (is_new b && is_new d)) (not_new a (found_at a q i e f)))
 
-  module _ (p : Found) (e : p ≡ found_of a) (f : p ≡ Missing) where
+  module _ (p : Option ℕ) (e : p ≡ a) (f : p ≡ nothing) where
     past_first : unused ≡ (is_new b && is_new d)
     past_first = ap (λ (z : Bool). z && (is_new b && is_new d)) (is_new_lem a (found_missing a p e f))
 
-    pub used_second : (q : Found) {i : ℕ} → q ≡ found_of b → q ≡ At i → false ≡ unused
+    pub used_second : (q : Option ℕ) {i : ℕ} → q ≡ b → q ≡ some i → false ≡ unused
     used_second q {i} g h = sym (past_first ∙ ap (λ (z : Bool). z && is_new d) (not_new b (found_at b q i g h)))
 
-    module _ (q : Found) (g : q ≡ found_of b) (h : q ≡ Missing) where
+    module _ (q : Option ℕ) (g : q ≡ b) (h : q ≡ nothing) where
       past_second : unused ≡ is_new d
       past_second = past_first ∙ ap (λ (z : Bool). z && is_new d) (is_new_lem b (found_missing b q g h))
 
-      pub used_third : (r : Found) {i : ℕ} → r ≡ found_of d → r ≡ At i → false ≡ unused
+      pub used_third : (r : Option ℕ) {i : ℕ} → r ≡ d → r ≡ some i → false ≡ unused
       used_third r {i} k l = sym (past_second ∙ not_new d (found_at d r i k l))
 
-      pub used_nowhere : (r : Found) → r ≡ found_of d → r ≡ Missing → true ≡ unused
+      pub used_nowhere : (r : Option ℕ) → r ≡ d → r ≡ nothing → true ≡ unused
       used_nowhere r k l = sym (past_second ∙ is_new_lem d (found_missing d r k l))
 
 -- The definition --------------------------------------------------------------------------------------------------------------------
@@ -144,8 +141,8 @@ module _ (which : ℕ) (xs : Sexps) (S : State) where
 -- The code --------------------------------------------------------------------------------------------------------------------------
 
 -- the number of a sort fits into a cell
-pub sort_small : (T : Theory) {text sorts : List ℕ} {known : ℕ} → SortsHeld text sorts known T.sorts → (bs : List ℕ) (r : Found) {k : ℕ} →
-    r ≡ found_of (sort_named T bs) → r ≡ At k → k ≤ SORTS
+pub sort_small : (T : Theory) {text sorts : List ℕ} {known : ℕ} → SortsHeld text sorts known T.sorts → (bs : List ℕ) (r : Option ℕ) {k : ℕ} →
+    r ≡ (sort_named T bs) → r ≡ some k → k ≤ SORTS
 unfolding sort_named
 sort_small T h bs r {k} e f =
     let s = first_some (λ (n : Name). same n.bytes bs) T.sorts 1 k no_name (found_at (sort_named T bs) r k e f) in
@@ -170,17 +167,17 @@ module _ {theory goals text sorts symbols vars : List ℕ} {n : Sizes} {which : 
           pub var_sort_text : AtomText text (item g.xs 2) from
           var_sort_text = nth_text g.holds 2 b f
 
-          module _ {last : ℕ} (l : last ≡ from + length (letters (drop from text))) {r : Found}
-              (s : (T : Theory) → SortsHeld theory sorts n.sorts T.sorts → r ≡ found_of (sort_named T (take (last - from) (drop from text)))) where
-            sort_told : r ≡ found_of (sort_named g.S.theory (letters (drop from text)))
-            sort_told = s g.S.theory g.sorts_are ∙ ap (λ bs. found_of (sort_named g.S.theory bs)) (atom_part text from last var_sort_text.inside l)
+          module _ {last : ℕ} (l : last ≡ from + length (letters (drop from text))) {r : Option ℕ}
+              (s : (T : Theory) → SortsHeld theory sorts n.sorts T.sorts → r ≡ (sort_named T (take (last - from) (drop from text)))) where
+            sort_told : r ≡ (sort_named g.S.theory (letters (drop from text)))
+            sort_told = s g.S.theory g.sorts_are ∙ ap (λ bs. (sort_named g.S.theory bs)) (atom_part text from last var_sort_text.inside l)
 
-            pub var_sort_missing : r ≡ Missing → add_var which g.xs g.S ≡ refuse 21 0 g.S
+            pub var_sort_missing : r ≡ nothing → add_var which g.xs g.S ≡ refuse 21 0 g.S
             var_sort_missing c =
                 var_unsorted which g.xs g.S var_name_lem.is var_sort_text.is
                 (found_missing (sort_named g.S.theory (letters (drop from text))) r sort_told c)
 
-            module _ {k : ℕ} (c : r ≡ At k) where
+            module _ {k : ℕ} (c : r ≡ some k) where
               sort_is : sort_named g.S.theory (letters (drop from text)) ≡ some k
               sort_is = found_at (sort_named g.S.theory (letters (drop from text))) r k sort_told c
 

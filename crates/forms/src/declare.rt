@@ -16,7 +16,6 @@ use kernel::readers::{constructor_named, predicate_named, sort_named};
 use reading::term::{Typed, term};
 use rules::{DEFS, VARIABLES};
 use sexp::items::Item;
-use sexp::names::Found;
 use sexp::{items, lex};
 use state::defs::{def_named, put_def};
 use state::sizes::Sizes;
@@ -52,13 +51,13 @@ fn is_unused(
         VarsHeld goals.now text.now vars.now n.vars S.vars →
         result ≡ is_new (constructor_named S.theory name.now) && (is_new (predicate_named S.theory name.now) && is_new (var_named S.vars name.now)) }
 {
-    let Found::Missing = constructor_named(theory, symbols, n.symbols, name) else {
+    let None = constructor_named(theory, symbols, n.symbols, name) else {
         return false;
     };
-    let Found::Missing = predicate_named(theory, symbols, n.symbols, name) else {
+    let None = predicate_named(theory, symbols, n.symbols, name) else {
         return false;
     };
-    let Found::Missing = var_named(goals, text, vars, n.vars, name) else {
+    let None = var_named(goals, text, vars, n.vars, name) else {
         return false;
     };
     true
@@ -87,7 +86,7 @@ pub fn add_var(
         return Declared::No(21, 0);
     };
     let last = lex::atom_end(text, from);
-    let Found::At(sort) = sort_named(theory, sorts, n.sorts, &text[from..last]) else {
+    let Some(sort) = sort_named(theory, sorts, n.sorts, &text[from..last]) else {
         return Declared::No(21, 0);
     };
     if marked(text, start) {
@@ -150,7 +149,7 @@ pub fn add_def(
         0,
     ) {
         Typed::Term(t, _, new) => {
-            let Found::Missing = def_named(text, defs, n.defs, &text[start..end]) else {
+            let None = def_named(text, defs, n.defs, &text[start..end]) else {
                 return Defined::No(33, 0, new);
             };
             if n.defs >= DEFS {

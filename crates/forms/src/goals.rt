@@ -14,7 +14,6 @@ use reading::lists::judgments;
 use reading::term::{Out, judgment};
 use rules::{ENTRIES, GOALS};
 use sexp::items::Item;
-use sexp::names::Found;
 use sexp::{items, lex};
 use state::goals::{goal_named, put_goal};
 use state::sizes::Sizes;
@@ -59,7 +58,7 @@ fn place_goal(
         return Placed::No(24, 0);
     };
     let end = lex::atom_end(goals, start);
-    let Found::Missing = goal_named(goals, rows, n.goals, &goals[start..end]) else {
+    let None = goal_named(goals, rows, n.goals, &goals[start..end]) else {
         return Placed::No(24, 0);
     };
     if n.goals >= GOALS {

@@ -12,7 +12,6 @@ use reading::lists::{judgments, vars_list};
 use reading::term::{Out, judgment};
 use rules::{ENTRIES, FACTS, VARIABLES};
 use sexp::items;
-use sexp::names::Found;
 use state::facts::{Put, put_hypothesis};
 use state::sizes::Sizes;
 use terms::store::Mark;
@@ -133,7 +132,7 @@ fn rule_parts(
             ) {
                 Out::Ok(j, new) => {
                     let last = items::place(cells, 4);
-                    let Found::At(k) = vars_list(goals, text, vars, n.vars, &cells[last..], general)
+                    let Some(k) = vars_list(goals, text, vars, n.vars, &cells[last..], general)
                     else {
                         clear(out);
                         return Stated::No(36, 0, new);

@@ -4,7 +4,6 @@ ghost use Rattle.forms.specs.Next.{OwnIndex, NextAs};
 
 use reading::names::index;
 use sexp::items;
-use sexp::names::Found;
 use state::sizes::Sizes;
 
 // It is the next; or the question that is left.
@@ -20,7 +19,7 @@ pub fn is_next(text: &[u8], cells: &[u32], n: Sizes) -> Numbered
     ensures { (g : OwnIndex text.now cells.now n) → NextAs g.S (next g.xs g.S) result }
 {
     let at = items::place(cells, 1);
-    let Found::At(i) = index(text, &cells[at..]) else {
+    let Some(i) = index(text, &cells[at..]) else {
         return Numbered::No(31);
     };
     if i != n.facts {

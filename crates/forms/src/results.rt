@@ -16,7 +16,6 @@ ghost use Rattle.forms.specs.Results.{goal_of, ListsHyps, Covers, TakesResult, R
 use referring::references::{Referred, insert_all, reference};
 use rules::TERMWORDS;
 use sexp::items::Item;
-use sexp::names::Found;
 use sexp::{items, lex};
 use state::facts::{hyps as hyps_of, is_plain, judgment};
 use state::goals::{goal_hyps, goal_judgment, goal_named, is_taken, take_goal};
@@ -108,7 +107,7 @@ pub fn result(
         return Resulted::No(50, 0, mark);
     };
     let end = lex::atom_end(text, start);
-    let Found::At(k) = goal_named(goals, rows, n.goals, &text[start..end]) else {
+    let Some(k) = goal_named(goals, rows, n.goals, &text[start..end]) else {
         return Resulted::No(50, 0, mark);
     };
     if is_taken(rows, k) {

@@ -1,7 +1,7 @@
 -- The loop over the cases of an induction, and the questions before it. Assumes nothing.
 use mathlib.Core.Path.{◌≡◌, refl, sym, ap, ◌∙◌, subst}
 use mathlib.Core.Bool.{Bool, true, false}
-use mathlib.Core.Option.{some, none as nothing}
+use Rattle.std.specs.Prelude.{Some as some, None as nothing, Option}
 use mathlib.Core.List.{List, [], ◌∷◌}
 use Prim.Native.Nat.{ℕ, ◌+◌, ◌-◌, ◌*◌, ◌<◌, ◌≤◌}
 use native.Mathlib.Omega.{arith}
@@ -20,10 +20,7 @@ use Rattle.sexp.specs.Encode.{encodes}
 use Rattle.sexp.specs.Items.{Items, item_at, behind}
 use Rattle.sexp.specs.ItemLaws.{More}
 use Rattle.sexp.specs.WalkLaws.{Walk, walk_start, walk_more, walk_over, walk_rest}
-use Rattle.sexp.specs.NameRows.{found_of}
 use Rattle.sexp.specs.FoundLaws.{found_at, found_missing}
-use Rattle.sexp.specs.declared.names.Found.{Found}
-use Rattle.sexp.specs.declared.names.Found.TheVariants as look
 use Rattle.kernel.specs.Held.{SymbolsHeld}
 use Rattle.kernel.specs.Readers.{CountedSymbols}
 use Rattle.kernel.specs.SignatureRows.{symbols_few}
@@ -130,11 +127,11 @@ module _ {goals text symbols ins vars facts lists : List ℕ} {n : Sizes} {I W :
     pub cases_less : {next : ℕ} → next ≡ behind at (item_at cells at) → at < next
     cases_less e = walk_further here e
 
-    module _ {r : Found} (a : (T : Theory) (text ins : List ℕ) → SymbolsHeld text symbols ins n.symbols T.symbols → r ≡ found_of (next_constructor T sort from)) where
-      told : r ≡ found_of (next_constructor g.S.theory sort from)
+    module _ {r : Option ℕ} (a : (T : Theory) (text ins : List ℕ) → SymbolsHeld text symbols ins n.symbols T.symbols → r ≡ (next_constructor T sort from)) where
+      told : r ≡ (next_constructor g.S.theory sort from)
       told = a g.S.theory g.theory ins g.refers.reads.spelling.held
 
-      pub cases_over : r ≡ look.Missing →
+      pub cases_over : r ≡ nothing →
           Went I W J X old (induct_cases g.S (motive_in (made I W old) x sort j premises) g.xs (constructors g.S.theory sort) (made I W old)) tt now
       unfolding induct_cases
       cases_over e =
@@ -142,7 +139,7 @@ module _ {goals text symbols ins vars facts lists : List ℕ} {n : Sizes} {I W :
           (λ i. induct_cases g.S (motive_in (made I W old) x sort j premises) (one.is i)
           (onward_none g.S.theory sort from (found_missing (next_constructor g.S.theory sort from) r told e) i) (made J X now)))
 
-      module _ {c : ℕ} (e : r ≡ look.At c) where
+      module _ {c : ℕ} (e : r ≡ some c) where
         found : next_constructor g.S.theory sort from ≡ some c
         found = found_at (next_constructor g.S.theory sort from) r c told e
 

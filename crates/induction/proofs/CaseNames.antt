@@ -1,7 +1,7 @@
 -- The variables that a case names: of the sorts, new to the motive and to each other. Assumes nothing.
 use mathlib.Core.Path.{◌≡◌, refl, sym, ap, ◌∙◌, subst}
 use mathlib.Core.Bool.{Bool, true, false, ◌&&◌, ◌||◌, not, false≢true}
-use mathlib.Core.Option.{Option, some}
+use Rattle.std.specs.Prelude.{Option, Some as some, None as nothing}
 use mathlib.Core.List.{List, [], ◌∷◌, ◌++◌}
 use Prim.Native.Nat.{ℕ, suc, ◌+◌, ◌-◌, ◌*◌, ◌<◌, ◌≤◌}
 use native.Mathlib.Omega.{arith}
@@ -23,11 +23,8 @@ use Rattle.sexp.specs.Items.{Holds, item_at, behind}
 use Rattle.sexp.specs.ItemLaws.{More, At, at_next, item_here, behind_item, some_cells}
 use Rattle.sexp.specs.Encode.{encode}
 use Rattle.sexp.specs.WalkLaws.{Walk, walk_start, walk_more, walk_over, walk_rest}
-use Rattle.sexp.specs.NameRows.{found_of}
 use Rattle.sexp.specs.FoundLaws.{found_at, found_missing}
 use Rattle.sexp.specs.Never.{never}
-use Rattle.sexp.specs.declared.names.Found.{Found}
-use Rattle.sexp.specs.declared.names.Found.TheVariants as look
 use Rattle.terms.specs.Sets.{holds, plus}
 use Rattle.terms.specs.Laws.Sets.{holds_zero}
 use Rattle.state.specs.Held.{VarsHeld}
@@ -151,12 +148,12 @@ module _ {goals text vars : List ℕ} {n : ℕ} {sorts used cells : List ℕ} (g
         ∙ (λ i. case_vars g.S M (item.is i) (drop-cons sorts k 0 names_place i) (take k out) U)
         ∙ step g.S M item.first item.others (get_or sorts k 0) (drop (suc k) sorts) (take k out) U
 
-    module _ {r : Found} (a : (vs : List Var) (x : Sexp) (ys : Sexps) → VarsHeld goals text vars n vs → Holds text (take (length cells - at) (drop at cells)) (cons x ys) →
-        r ≡ found_of (variable_in vs x)) where
-      answer : r ≡ found_of (variable_in g.S.vars item.first)
+    module _ {r : Option ℕ} (a : (vs : List Var) (x : Sexp) (ys : Sexps) → VarsHeld goals text vars n vs → Holds text (take (length cells - at) (drop at cells)) (cons x ys) →
+        r ≡ (variable_in vs x)) where
+      answer : r ≡ (variable_in g.S.vars item.first)
       answer = a g.S.vars item.first item.others g.held (walk_rest here)
 
-      pub names_unknown : r ≡ look.Missing → (M : Motive) → holds used ≡ motive_vars M → (U : Made) → case_vars g.S M g.xs sorts [] U ≡ refuse 42 0 U
+      pub names_unknown : r ≡ nothing → (M : Motive) → holds used ≡ motive_vars M → (U : Made) → case_vars g.S M g.xs sorts [] U ≡ refuse 42 0 U
       unfolding then
       names_unknown e M q U =
           split M q U
@@ -164,7 +161,7 @@ module _ {goals text vars : List ℕ} {n : ℕ} {sorts used cells : List ℕ} (g
           (λ v N. then (ask 42 (asks g.S M (get_or sorts k 0) (take k out) v) N) (λ z B. case_vars g.S M item.others (drop (suc k) sorts) (take k out ++ (v ∷ [])) B)))
           (found_missing (variable_in g.S.vars item.first) r answer e)
 
-      module _ {v : ℕ} (e : r ≡ look.At v) where
+      module _ {v : ℕ} (e : r ≡ some v) where
         named : variable_in g.S.vars item.first ≡ some v
         named = found_at (variable_in g.S.vars item.first) r v answer e
 

@@ -1,7 +1,7 @@
 -- One case as it is spelled, and the loop over cases, each with a constructor of the sort. Assumes nothing.
 use mathlib.Core.Path.{◌≡◌, refl, sym, ap, ◌∙◌, subst}
 use mathlib.Core.Bool.{Bool, true, false}
-use mathlib.Core.Option.{Option}
+use Rattle.std.specs.Prelude.{Option, Some as some, None as nothing}
 use mathlib.Core.List.{List, []}
 use Prim.Native.Nat.{ℕ, suc, ◌+◌, ◌-◌, ◌*◌, ◌<◌, ◌≤◌}
 use native.Mathlib.Omega.{arith}
@@ -24,12 +24,9 @@ use Rattle.sexp.specs.Items.{Holds, Items, item_at, behind}
 use Rattle.sexp.specs.ItemLaws.{More, at_inside}
 use Rattle.sexp.specs.FirstItem.{none_left}
 use Rattle.sexp.specs.WalkLaws.{Walk, ListIs, walk_start, walk_more, walk_rest, walk_atom, walk_list}
-use Rattle.sexp.specs.NameRows.{found_of}
 use Rattle.sexp.specs.FoundLaws.{found_at, found_missing}
 use Rattle.sexp.specs.declared.items.Item.{Item}
 use Rattle.sexp.specs.declared.items.Item.TheVariants.{Atom, List as Part}
-use Rattle.sexp.specs.declared.names.Found.{Found}
-use Rattle.sexp.specs.declared.names.Found.TheVariants as look
 use Rattle.kernel.specs.Held.{SymbolsHeld}
 use Rattle.kernel.specs.Readers.{KnownSymbol}
 use Rattle.kernel.specs.SignatureRows.{symbols_few, argument_cell}
@@ -136,14 +133,14 @@ module _ {goals text symbols ins vars facts lists : List ℕ} {n : Sizes} {I W :
         pub case_first : FirstItem text (take (b - a) (drop a cells))
         case_first = record { x = begins.first; ys = begins.others; holds = holds_some }
 
-        module _ {r : Found} (h : (z : Sexp) (zs : Sexps) → Holds text (take (b - a) (drop a cells)) (cons z zs) → r ≡ found_of (index_in z)) where
-          told : r ≡ found_of (index_in (item case_list.items 0))
-          told = h begins.first begins.others holds_some ∙ ap (λ (z : Sexp). found_of (index_in z)) (sym (ap (λ (zs : Sexps). item zs 0) begins.is ∙ first_of begins.first begins.others))
+        module _ {r : Option ℕ} (h : (z : Sexp) (zs : Sexps) → Holds text (take (b - a) (drop a cells)) (cons z zs) → r ≡ (index_in z)) where
+          told : r ≡ (index_in (item case_list.items 0))
+          told = h begins.first begins.others holds_some ∙ ap (λ (z : Sexp). (index_in z)) (sym (ap (λ (zs : Sexps). item zs 0) begins.is ∙ first_of begins.first begins.others))
 
-          pub case_unread : r ≡ look.Missing → Stopped I W I W m (induct_case g.S (motive_in (made I W m) x sort j premises) g.y c (made I W m)) 41 0 m
+          pub case_unread : r ≡ nothing → Stopped I W I W m (induct_case g.S (motive_in (made I W m) x sort j premises) g.y c (made I W m)) 41 0 m
           case_unread q = on_stop _ on_list (ap (λ (o : Option ℕ). found 41 o (made I W m)) (found_missing (index_in (item case_list.items 0)) r told q))
 
-          module _ {i : ℕ} (q : r ≡ look.At i) (known : c < n.symbols) where
+          module _ {i : ℕ} (q : r ≡ some i) (known : c < n.symbols) where
             on_index : On I W m (induct_case g.S (motive_in (made I W m) x sort j premises) g.y c (made I W m)) I W m
                 (then (ask 41 (eqb (count case_list.items) (suc (length (inputs g.S.theory c)))) (made I W m))
                 (λ z D. then (case_vars g.S (motive_in (made I W m) x sort j premises) (rest case_list.items 1) (inputs g.S.theory c) [] D)

@@ -1,7 +1,7 @@
 -- The two spellings of `induct`: with hypotheses and without. Assumes nothing.
 use mathlib.Core.Path.{◌≡◌, sym, ap, ◌∙◌, subst}
 use mathlib.Core.Bool.{true, false, false≢true}
-use mathlib.Core.Option.{some}
+use Rattle.std.specs.Prelude.{Some as some, None as nothing, Option}
 use mathlib.Core.List.{List, []}
 use Prim.Native.Nat.{ℕ, ◌-◌, ◌<◌, ◌≤◌}
 use native.Mathlib.Omega.{arith}
@@ -21,11 +21,8 @@ use Rattle.sexp.specs.Encode.{encodes}
 use Rattle.sexp.specs.Items.{Holds, Items, item_at, behind, place}
 use Rattle.sexp.specs.ItemLaws.{at_inside}
 use Rattle.sexp.specs.WalkLaws.{Walk, walk_rest, rest_walk}
-use Rattle.sexp.specs.NameRows.{found_of}
 use Rattle.sexp.specs.FoundLaws.{found_at, found_missing}
 use Rattle.sexp.specs.Never.{never}
-use Rattle.sexp.specs.declared.names.Found.{Found}
-use Rattle.sexp.specs.declared.names.Found.TheVariants as look
 use Rattle.terms.specs.declared.store.Mark.{Mark}
 use Rattle.terms.specs.Table.{made}
 use Rattle.terms.specs.Sets.{holds}
@@ -95,9 +92,9 @@ module _ {theory goals text symbols ins vars defs facts footings lists : List �
     variable_asks =
         (record { x = item g.xs 2; ys = rest g.xs 3; holds = walk_rest at_variable }, (g.S.vars, g.refers.reads.spelling.vars))
 
-    module _ {r : Found} (b : (vs : List Var) (x : Sexp) (ys : Sexps) → VarsHeld goals text vars n.vars vs → Holds text (take (length cells - at) (drop at cells)) (cons x ys) →
-        r ≡ found_of (variable_in vs x)) where
-      told : r ≡ found_of (variable_in g.S.vars (item g.xs 2))
+    module _ {r : Option ℕ} (b : (vs : List Var) (x : Sexp) (ys : Sexps) → VarsHeld goals text vars n.vars vs → Holds text (take (length cells - at) (drop at cells)) (cons x ys) →
+        r ≡ (variable_in vs x)) where
+      told : r ≡ (variable_in g.S.vars (item g.xs 2))
       told = b g.S.vars (item g.xs 2) (rest g.xs 3) g.refers.reads.spelling.vars (walk_rest at_variable)
 
       begin : On I W m (induct g.S g.xs (made I W m)) I W m
@@ -116,13 +113,13 @@ module _ {theory goals text symbols ins vars defs facts footings lists : List �
           (ap (λ (o : Out Made ℕ). then o (λ x U. then (hyp_list is_plain g.S (item g.xs 3) U) (λ hs N. induct_on g.S x hs (item g.xs 4) (item g.xs 5) N)))
           (variable_found 36 g.S (item g.xs 2) (made I W m)))
 
-      pub spelled_unknown : r ≡ look.Missing → Stopped I W I W m (induct g.S g.xs (made I W m)) 36 0 m
+      pub spelled_unknown : r ≡ nothing → Stopped I W I W m (induct g.S g.xs (made I W m)) 36 0 m
       spelled_unknown e = on_found_none _ 36 begin (found_missing (variable_in g.S.vars (item g.xs 2)) r told e)
 
-      pub spelled_unknown_with : r ≡ look.Missing → Stopped I W I W m (induct_with g.S g.xs (made I W m)) 36 0 m
+      pub spelled_unknown_with : r ≡ nothing → Stopped I W I W m (induct_with g.S g.xs (made I W m)) 36 0 m
       spelled_unknown_with e = on_found_none _ 36 begin_with (found_missing (variable_in g.S.vars (item g.xs 2)) r told e)
 
-      module _ {x : ℕ} (e : r ≡ look.At x) where
+      module _ {x : ℕ} (e : r ≡ some x) where
         named : variable_in g.S.vars (item g.xs 2) ≡ some x
         named = found_at (variable_in g.S.vars (item g.xs 2)) r x told e
 

@@ -22,7 +22,6 @@ use referring::scope::visit_all;
 use rules::{ARGUMENTS, FACTS, TERMWORDS, VARIABLEWORDS};
 use sexp::items;
 use sexp::items::Item;
-use sexp::names::Found;
 use state::facts::judgment as judgment_of;
 use state::sizes::Sizes;
 use state::vars::var_sort;
@@ -257,7 +256,7 @@ pub fn induct(
     ensures map_unchanged { (map.new ≡ map.old) × (memo.new ≡ memo.old) × (ids.new ≡ ids.old) }
 {
     let at = items::place(cells, 2);
-    let Found::At(x) = variable(goals, text, vars, n.vars, &cells[at..]) else {
+    let Some(x) = variable(goals, text, vars, n.vars, &cells[at..]) else {
         return Derived::No(36, 0, mark);
     };
     let next = items::after(cells, at);
@@ -314,7 +313,7 @@ pub fn induct_with(
     ensures map_unchanged { (map.new ≡ map.old) × (memo.new ≡ memo.old) × (ids.new ≡ ids.old) }
 {
     let at = items::place(cells, 2);
-    let Found::At(x) = variable(goals, text, vars, n.vars, &cells[at..]) else {
+    let Some(x) = variable(goals, text, vars, n.vars, &cells[at..]) else {
         return Derived::No(36, 0, mark);
     };
     let third = items::after(cells, at);

@@ -17,7 +17,6 @@ use referring::references::insert_all;
 use rules::{ARGUMENTS, TERMWORDS, VARIABLEWORDS};
 use sexp::items;
 use sexp::items::Item;
-use sexp::names::Found;
 use state::sizes::Sizes;
 use state::vars::var_sort;
 use terms::sets::{has, insert};
@@ -45,7 +44,7 @@ fn case_vars(
     let mut k = 0;
     let mut at = 0;
     while at < cells.len() {
-        let Found::At(v) = variable(goals, text, vars, count, &cells[at..]) else {
+        let Some(v) = variable(goals, text, vars, count, &cells[at..]) else {
             return false;
         };
         if var_sort(vars, v) != sorts[k] as usize {
@@ -195,7 +194,7 @@ fn induct_case(
     if inner.len() == 0 {
         return Out::No(41, 0, mark);
     }
-    let Found::At(i) = index_in(text, inner) else {
+    let Some(i) = index_in(text, inner) else {
         return Out::No(41, 0, mark);
     };
     let many = arity(symbols, c);
@@ -274,7 +273,7 @@ pub fn induct_cases(
     let mut from = 0;
     let mut at = 0;
     while at < cells.len() {
-        let Found::At(c) = next_constructor(symbols, n.symbols, sort, from) else {
+        let Some(c) = next_constructor(symbols, n.symbols, sort, from) else {
             return Out::Ok(0, m);
         };
         match induct_case(

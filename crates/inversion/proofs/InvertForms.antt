@@ -1,4 +1,5 @@
 -- The form `invert`: its hypothesis, its context and its judgment, and the fact that it gives. Assumes nothing.
+use Rattle.std.specs.Prelude.{Some as some, None as nothing, Option}
 use mathlib.Core.Path.{◌≡◌, refl, sym, ap, ◌∙◌, subst}
 use mathlib.Core.Bool.{Bool, true, false, not, ◌||◌, false≢true}
 use mathlib.Core.Logic.{inl, inr}
@@ -32,10 +33,7 @@ use Rattle.sexp.specs.Encode.{encodes}
 use Rattle.sexp.specs.Items.{Holds, Items, place}
 use Rattle.sexp.specs.Never.{never}
 use Rattle.sexp.specs.NthItem.{has_items, place_high, rest_holds}
-use Rattle.sexp.specs.NameRows.{found_of}
 use Rattle.sexp.specs.FoundLaws.{found_at, found_missing}
-use Rattle.sexp.specs.declared.names.Found.{Found}
-use Rattle.sexp.specs.declared.names.Found.TheVariants as look
 use Rattle.terms.specs.declared.store.Mark.{Mark}
 use Rattle.terms.specs.Table.{made, tree}
 use Rattle.terms.specs.Sets.{holds, plus}
@@ -199,14 +197,14 @@ module _ {theory goals text symbols ins vars defs rules rulevars patterns facts 
     pub form_index : FirstItem text (take (length cells - at) (drop at cells))
     form_index = record { x = item g.xs 2; ys = rest g.xs 3; holds = form_item 2 (omega arith) a }
 
-    module _ {r : Found} (b : (x : Sexp) (ys : Sexps) → Holds text (take (length cells - at) (drop at cells)) (cons x ys) → r ≡ found_of (index_in x)) where
-      told : r ≡ found_of (index_in (item g.xs 2))
+    module _ {r : Option ℕ} (b : (x : Sexp) (ys : Sexps) → Holds text (take (length cells - at) (drop at cells)) (cons x ys) → r ≡ (index_in x)) where
+      told : r ≡ (index_in (item g.xs 2))
       told = b (item g.xs 2) (rest g.xs 3) (form_item 2 (omega arith) a)
 
-      pub form_no_index : r ≡ look.Missing → Stopped I W I W m whole 34 0 m
+      pub form_no_index : r ≡ nothing → Stopped I W I W m whole 34 0 m
       form_no_index e = on_found_none _ 34 started (found_missing (index_in (item g.xs 2)) r told e)
 
-      module _ {i : ℕ} (e : r ≡ look.At i) {t : Bool} (is : t ≡ ltb i n.facts) where
+      module _ {i : ℕ} (e : r ≡ some i) {t : Bool} (is : t ≡ ltb i n.facts) where
         indexed : On I W m whole I W m (then (fact_at S i (made I W m)) (λ k B. after_fact i k B))
         indexed = on_found_some _ 34 started (found_at (index_in (item g.xs 2)) r i told e)
 

@@ -1,7 +1,7 @@
 -- A case of `invert` is judged under the unifier: what it may rest on, then its fact; and a rule with a case. Assumes nothing.
 use mathlib.Core.Path.{◌≡◌, refl, sym, ap, ◌∙◌, subst}
 use mathlib.Core.Bool.{Bool, true, false}
-use mathlib.Core.Option.{Option, none as nothing}
+use Rattle.std.specs.Prelude.{Option, None as nothing}
 use mathlib.Core.List.{List, ◌++◌}
 use Prim.Native.Nat.{ℕ, ◌*◌, ◌<◌, ◌≤◌}
 use native.Mathlib.Omega.{arith}

@@ -1,6 +1,6 @@
 -- A rule without a case: variables are made for it, and its conclusion over them must not unify with the hypothesis. Assumes nothing.
 use mathlib.Core.Path.{◌≡◌, sym, ap, ◌∙◌, subst}
-use mathlib.Core.Option.{Option, some, none as nothing}
+use Rattle.std.specs.Prelude.{Option, Some as some, None as nothing}
 use mathlib.Core.List.{List}
 use Prim.Native.Nat.{ℕ, zero, suc, ◌+◌, ◌<◌, ◌≤◌}
 use native.Mathlib.Omega.{arith}
@@ -14,8 +14,6 @@ use Rattle.rules.specs.Theory.{Theory, Rule, rule}
 use Rattle.rules.specs.State.{Var}
 use Rattle.rules.specs.Invert.{up_from}
 use Rattle.rules.proofs.Laws.Below.{below_up}
-use Rattle.sexp.specs.declared.names.Found.{Found}
-use Rattle.sexp.specs.declared.names.Found.TheVariants.{At, Missing}
 use Rattle.terms.specs.declared.store.Mark.{Mark}
 use Rattle.unification.specs.declared.unify.Unified.{Unified}
 use Rattle.unification.specs.declared.unify.Unified.TheVariants as unified
@@ -59,15 +57,15 @@ module _ {symbols rules rulevars patterns : List ℕ} {n : Sizes} {I W : List �
   abbrev K : Out Made (List Var)
   K = lacks (vars_with g.vs sorts count) (tree I W m s) R (made I W m)
 
-  module _ (sorts' list : List ℕ) (a : Found)
+  module _ (sorts' list : List ℕ) (a : Option ℕ)
       (f : (h : RuleVarsGiven rulevars r need) (vs : List Var) → length vs ≤ count → MadeAs vs (rule h.T r).vars sorts sorts' count list a) where
     said : MadeAs g.vs R.vars sorts sorts' count list a
     said = subst (λ (T : Theory). MadeAs g.vs (rule T r).vars sorts sorts' count list a) g.theory (f lack_vars g.vs g.more)
 
-    pub lack_full : a ≡ Missing → Stopped I W I W m K 60 7 m
+    pub lack_full : a ≡ nothing → Stopped I W I W m K 60 7 m
     lack_full e = on_stop _ (on_start g.good) (subst (MadeAs g.vs R.vars sorts sorts' count list) e said (made I W m))
 
-    module _ {k : ℕ} (e : a ≡ At k) (long : length sorts' ≡ length sorts) (room : length list ≡ RULEVARS) where
+    module _ {k : ℕ} (e : a ≡ some k) (long : length sorts' ≡ length sorts) (room : length list ≡ RULEVARS) where
       pub are : VarsMade g.vs R.vars sorts sorts' count list k
       are = subst (MadeAs g.vs R.vars sorts sorts' count list) e said
 

@@ -1,6 +1,6 @@
 -- The loop over the rules of a predicate: what is carried from rule to rule, and what is left. Assumes nothing.
 use mathlib.Core.Path.{◌≡◌, refl, sym, ap, ◌∙◌, subst}
-use mathlib.Core.Option.{some, none as nothing}
+use Rattle.std.specs.Prelude.{Some as some, None as nothing, Option}
 use mathlib.Core.List.{List, [], ◌∷◌}
 use Prim.Native.Nat.{ℕ, ◌+◌, ◌<◌, ◌≤◌}
 use native.Mathlib.Omega.{arith}
@@ -14,10 +14,7 @@ use Rattle.rules.specs.Theory.{Theory, Rule, no_rule, head_is, rule, rules_of}
 use Rattle.rules.specs.State.{State}
 use Rattle.rules.specs.Invert.{Inversion, Names, taken_vars, predicate_of, invert_rule, invert_rules}
 use Rattle.rules.specs.Laws.Find.{first_some}
-use Rattle.sexp.specs.NameRows.{found_of}
 use Rattle.sexp.specs.FoundLaws.{found_at, found_missing}
-use Rattle.sexp.specs.declared.names.Found.{Found}
-use Rattle.sexp.specs.declared.names.Found.TheVariants as look
 use Rattle.kernel.specs.Readers.{FormedRules, SomeFormedRules}
 use Rattle.kernel.specs.Listing.{next_rule, with_rest, every_first}
 use Rattle.terms.specs.declared.store.Mark.{Mark}
@@ -133,11 +130,11 @@ module _ {theory goals text symbols ins vars defs rules rulevars patterns facts 
       }
 
   module _ {J X : List ℕ} {now : Mark} {taken sorts : List ℕ} {count p from : ℕ} (h : RulesLeft g.S g.inversion I W m whole J X now taken sorts base count p from)
-      {q : Found} (a : (T : Theory) → FormedRules symbols rules patterns n.rules T → q ≡ found_of (next_rule T p from)) where
-    told : q ≡ found_of (next_rule g.S.theory p from)
+      {q : Option ℕ} (a : (T : Theory) → FormedRules symbols rules patterns n.rules T → q ≡ (next_rule T p from)) where
+    told : q ≡ (next_rule g.S.theory p from)
     told = a g.S.theory formed
 
-    pub rounds_over : q ≡ look.Missing → Turned I W J X m g.S g.inversion whole taken sorts base count now
+    pub rounds_over : q ≡ nothing → Turned I W J X m g.S g.inversion whole taken sorts base count now
     unfolding invert_rules
     rounds_over e =
         record {
@@ -151,7 +148,7 @@ module _ {theory goals text symbols ins vars defs rules rulevars patterns facts 
           few = h.few;
         }
 
-    module _ {r : ℕ} (e : q ≡ look.At r) where
+    module _ {r : ℕ} (e : q ≡ some r) where
       next : next_rule g.S.theory p from ≡ some r
       next = found_at (next_rule g.S.theory p from) q r told e
 

@@ -1,7 +1,7 @@
 -- One rule of `invert` in the tables: what its functions ask, and what their answers make of it. Assumes nothing.
 use mathlib.Core.Path.{◌≡◌, refl, sym, ap, ◌∙◌, subst}
 use mathlib.Core.Bool.{Bool, true, false, ◌&&◌, not}
-use mathlib.Core.Option.{none as nothing}
+use Rattle.std.specs.Prelude.{None as nothing, Some as some, Option}
 use mathlib.Core.List.{List, ◌++◌}
 use Prim.Native.Nat.{ℕ, ◌-◌, ◌<◌, ◌≤◌}
 use native.Mathlib.Omega.{arith}
@@ -15,8 +15,6 @@ use Rattle.rules.specs.Invert.{Case, case_named, suit, taken_vars, invert_rule}
 use Rattle.rules.specs.Laws.Theory.{RuleFormed, all_at, all_map}
 use Rattle.rules.proofs.Laws.Below.{Below, below_up}
 use Rattle.sexp.specs.AtomText.{Spans, spans_low, spans_high, spans_part}
-use Rattle.sexp.specs.declared.names.Found.{Found}
-use Rattle.sexp.specs.declared.names.Found.TheVariants.{At, Missing}
 use Rattle.kernel.specs.HeldRules.{RulesHeld}
 use Rattle.kernel.specs.Readers.{KnownRule, FormedRules}
 use Rattle.kernel.specs.Entries.{rule_formed}
@@ -142,13 +140,13 @@ module _ {theory goals text symbols ins vars defs rules rulevars patterns facts 
     pub turn_high : a.end ≤ length theory
     turn_high = spans_high spans
 
-    module _ (q : Found) (h : (w : CasesFirst text cells many) → CaseFound w.vs text cells w.cs (take (a.end - a.from) (drop a.from theory)) q) where
+    module _ (q : Option ℕ) (h : (w : CasesFirst text cells many) → CaseFound w.vs text cells w.cs (take (a.end - a.from) (drop a.from theory)) q) where
       pub looked : CaseFound g.S.vars text cells g.inversion.cases R.name.bytes q
       looked = subst (λ (b : List ℕ). CaseFound g.S.vars text cells g.inversion.cases b q) (spans_part spans) (h turn_cases)
 
-      module _ (e : q ≡ Missing) where
+      module _ (e : q ≡ nothing) where
         none_named : case_named g.inversion.cases R.name.bytes ≡ nothing
-        none_named = subst (λ (z : Found). CaseFound g.S.vars text cells g.inversion.cases R.name.bytes z) e looked
+        none_named = subst (λ (z : Option ℕ). CaseFound g.S.vars text cells g.inversion.cases R.name.bytes z) e looked
 
         lacking : On I W m (invert_rule g.S g.inversion R g.names (made I W m)) I W m
             (then (lacks (vars_with g.S.vars sorts count) (tree I W m s) R (made I W m)) (λ us E. ok (record { vars = us; seen = g.names.seen }) E))
@@ -173,9 +171,9 @@ module _ {theory goals text symbols ins vars defs rules rulevars patterns facts 
 
       -- With a case ------------------------------------------------------------------------------------------------------------------------
 
-      module _ {p : ℕ} (e : q ≡ At p) where
+      module _ {p : ℕ} (e : q ≡ some p) where
         pub here : CaseHere g.S.vars text cells g.inversion.cases R.name.bytes p
-        here = subst (λ (z : Found). CaseFound g.S.vars text cells g.inversion.cases R.name.bytes z) e looked
+        here = subst (λ (z : Option ℕ). CaseFound g.S.vars text cells g.inversion.cases R.name.bytes z) e looked
 
         abbrev pub c : Case
         c = here.c
@@ -208,13 +206,13 @@ module _ {theory goals text symbols ins vars defs rules rulevars patterns facts 
           news : all (λ v. not (holds taken v)) c.vars ≡ all (λ v. not (taken_vars g.S g.inversion v) && not (has g.names.seen v)) c.vars
           news = new_is (holds taken) (taken_vars g.S g.inversion) (has g.names.seen) c.vars g.taken_is
 
-          module _ (new-taken list : List ℕ) (f : Found)
+          module _ (new-taken list : List ℕ) (f : Option ℕ)
               (u : (h : CaseVarsGiven goals text vars rulevars n.vars cells p r need) → CaseVarsAs h.S (rule h.S.theory r).vars h.c taken new-taken list f) where
-            pub turn_missing : f ≡ Missing → Stopped I W I W m (invert_rule g.S g.inversion R g.names (made I W m)) 42 0 m
+            pub turn_missing : f ≡ nothing → Stopped I W I W m (invert_rule g.S g.inversion R g.names (made I W m)) 42 0 m
             turn_missing z =
                 pure_stopped g.refers.reads.good
                 (decide (suit g.S.vars c.vars R.vars) refl (all (λ v. not (holds taken v)) c.vars) refl
-                (subst (λ (z : Found). CaseVarsAs g.S R.vars c taken new-taken list z) z (u turn_case)))
+                (subst (λ (z : Option ℕ). CaseVarsAs g.S R.vars c taken new-taken list z) z (u turn_case)))
               where
                 decide : (a : Bool) → suit g.S.vars c.vars R.vars ≡ a → (b : Bool) → all (λ v. not (holds taken v)) c.vars ≡ b →
                     suit g.S.vars c.vars R.vars && all (λ v. not (holds taken v)) c.vars ≡ false →
@@ -224,9 +222,9 @@ module _ {theory goals text symbols ins vars defs rules rulevars patterns facts 
                     turn_taken g.S g.inversion R g.names (made I W m) c here.is y
                     (sym news ∙ sym (and_true (suit g.S.vars c.vars R.vars) (all (λ v. not (holds taken v)) c.vars) y) ∙ k)
 
-            module _ {fact : ℕ} (z : f ≡ At fact) where
+            module _ {fact : ℕ} (z : f ≡ some fact) where
               pub are : CaseVarsAre g.S R.vars c taken new-taken list fact
-              are = subst (λ (z : Found). CaseVarsAs g.S R.vars c taken new-taken list z) z (u turn_case)
+              are = subst (λ (z : Option ℕ). CaseVarsAs g.S R.vars c taken new-taken list z) z (u turn_case)
 
               pub list_is : take need list ≡ c.vars
               list_is = ap (λ (k : ℕ). take k list) need_is ∙ are.numbers

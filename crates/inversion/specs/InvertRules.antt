@@ -1,7 +1,6 @@
 -- One rule of `invert`: its renaming, its unification, its case; and what is carried from rule to rule. Variables that are made come into a table of
 -- sorts, from which their rows are written at the end. Assumes nothing.
-use Rattle.std.specs.Prelude.{◌≡◌, true, false, ◌&&◌, not, List, [], ◌∷◌, ◌++◌, ℕ, ◌+◌, ◌-◌, ◌*◌, ◌^◌, ◌<◌, ◌≤◌, ltb, length, get_or, take, drop, replicate}
-use Rattle.std.proofs.Math.Option.{Option, some, none as nothing}
+use Rattle.std.specs.Prelude.{◌≡◌, true, false, ◌&&◌, not, List, [], ◌∷◌, ◌++◌, ℕ, ◌+◌, ◌-◌, ◌*◌, ◌^◌, ◌<◌, ◌≤◌, ltb, length, get_or, take, drop, replicate, Option, Some as some, None as nothing}
 use Rattle.rules.specs.Limits.{VARIABLES, RULEVARS, TERMS, PAIRS, VARIABLEWORDS}
 use Rattle.rules.specs.Out.{Out, ok, refuse, Act, ◌>>=◌, pure, stop, ask}
 use Rattle.rules.specs.Sexp.{Sexp, Sexps, cons, count as count_items, item}
@@ -18,8 +17,6 @@ use Rattle.rules.specs.Laws.Theory.{All}
 use Rattle.rules.proofs.Laws.Below.{Below}
 use Rattle.sexp.specs.Items.{Holds}
 use Rattle.sexp.specs.WalkLaws.{Walk}
-use Rattle.sexp.specs.declared.names.Found.{Found}
-use Rattle.sexp.specs.declared.names.Found.TheVariants.{At, Missing}
 use Rattle.terms.specs.declared.store.Mark.{Mark}
 use Rattle.unification.specs.declared.unify.Unified.{Unified}
 use Rattle.unification.specs.declared.unify.Unified.TheVariants as unified
@@ -74,9 +71,9 @@ pub record VarsMade (vs : List Var) (rs : List RuleVar) (sorts sorts' : List ℕ
   pub few : new ≤ VARIABLES
   pub numbers : take (length rs) list ≡ up_from old (length rs)
 
-abbrev pub MadeAs : List Var → List RuleVar → List ℕ → List ℕ → ℕ → List ℕ → Found → Type 0
-MadeAs vs rs sorts sorts' old list (At new) = VarsMade vs rs sorts sorts' old list new
-MadeAs vs rs sorts sorts' old list Missing = (M : Made) → make_vars rs (vars_with vs sorts old) M ≡ refuse 60 7 M
+abbrev pub MadeAs : List Var → List RuleVar → List ℕ → List ℕ → ℕ → List ℕ → Option ℕ → Type 0
+MadeAs vs rs sorts sorts' old list (some new) = VarsMade vs rs sorts sorts' old list new
+MadeAs vs rs sorts sorts' old list nothing = (M : Made) → make_vars rs (vars_with vs sorts old) M ≡ refuse 60 7 M
 
 -- the case at a place, and the rule that it is of
 pub record CaseVarsGiven (goals text vars rulevars : List ℕ) (count : ℕ) (cells : List ℕ) (p r need : ℕ) : Type 0 where
@@ -101,9 +98,9 @@ pub record CaseVarsAre (S : State) (rs : List RuleVar) (c : Case) (taken taken' 
   pub numbers : take (length rs) list ≡ c.vars
   pub takes : holds taken' ≡ union (holds taken) (has c.vars)
 
-abbrev pub CaseVarsAs : State → List RuleVar → Case → List ℕ → List ℕ → List ℕ → Found → Type 0
-CaseVarsAs S rs c taken taken' list (At fact) = CaseVarsAre S rs c taken taken' list fact
-CaseVarsAs S rs c taken taken' list Missing = suit S.vars c.vars rs && all (λ v. not (holds taken v)) c.vars ≡ false
+abbrev pub CaseVarsAs : State → List RuleVar → Case → List ℕ → List ℕ → List ℕ → Option ℕ → Type 0
+CaseVarsAs S rs c taken taken' list (some fact) = CaseVarsAre S rs c taken taken' list fact
+CaseVarsAs S rs c taken taken' list nothing = suit S.vars c.vars rs && all (λ v. not (holds taken v)) c.vars ≡ false
 
 -- variables as terms, in cells
 pub record VarsKept (I W J X : List ℕ) (old : Mark) (list bound : List ℕ) (new : Mark) : Type 0 where

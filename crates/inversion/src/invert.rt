@@ -25,7 +25,6 @@ use referring::scope::mention;
 use rules::{FACTS, SYMBOLS, TERMWORDS, VARIABLES, VARIABLEWORDS};
 use sexp::items;
 use sexp::items::Item;
-use sexp::names::Found;
 use state::facts::{is_fact, is_plain, judgment as judgment_of};
 use state::sizes::Sizes;
 use state::vars::put_var;
@@ -145,7 +144,7 @@ fn invert_rules(
     let mut count = n.vars;
     let mut from = 0;
     loop {
-        let Found::At(r) = next_rule(rules, patterns, symbols, n.rules, predicate, from) else {
+        let Some(r) = next_rule(rules, patterns, symbols, n.rules, predicate, from) else {
             return Out::Ok(count, m);
         };
         match invert_rule(
@@ -301,7 +300,7 @@ pub fn invert(
     ensures map_unchanged { (map.new ≡ map.old) × (memo.new ≡ memo.old) × (theta.new ≡ theta.old) × (pairs.new ≡ pairs.old) × (ids.new ≡ ids.old) }
 {
     let at = items::place(cells, 2);
-    let Found::At(i) = index_in(text, &cells[at..]) else {
+    let Some(i) = index_in(text, &cells[at..]) else {
         return Inverted::No(34, 0, mark);
     };
     if !is_fact(n, i) {

@@ -24,7 +24,6 @@ use reading::bindings::Bound;
 use reading::term::Out;
 use referring::references::insert_all;
 use rules::{FACTWORDS, RULEVARS, SYMBOLS, TERMWORDS, VARIABLES};
-use sexp::names::Found;
 use state::facts::{Span, hyps as hyps_of, is_fact, judgment};
 use state::sizes::Sizes;
 use state::vars::var_sort;
@@ -80,7 +79,7 @@ fn make_vars(
     sorts: &mut [u32],
     count: usize,
     list: &mut [u32],
-) -> Found
+) -> Option<usize>
     requires { RuleVarsGiven rulevars.now r need × (need ≤ length list.old) × (length sorts.old ≡ VARIABLES) × (count ≤ VARIABLES) }
     ensures { (g : RuleVarsGiven rulevars.now r need) (vs : List Var) → length vs ≤ count →
         MadeAs vs (rule g.T r).vars sorts.old sorts.new count list.new result }
@@ -89,14 +88,14 @@ fn make_vars(
     let mut k = 0;
     while k < need {
         if v >= VARIABLES {
-            return Found::Missing;
+            return None;
         }
         sorts[v] = variable_sort(rulevars, r, k) as u32;
         list[k] = v as u32;
         v += 1;
         k += 1;
     }
-    Found::At(v)
+    Some(v)
 }
 
 // The variables of the case at a place, which must suit the rule and be new (question 42), come into the list, and join the set. What is answered is the
@@ -113,7 +112,7 @@ fn case_vars(
     need: usize,
     taken: &mut [u64],
     list: &mut [u32],
-) -> Found
+) -> Option<usize>
     requires { CaseVarsGiven goals.now text.now vars.now rulevars.now count cells.now p r need × (length taken.old ≡ VARIABLEWORDS) × (length list.old ≡ RULEVARS) }
     ensures { (g : CaseVarsGiven goals.now text.now vars.now rulevars.now count cells.now p r need) →
         CaseVarsAs g.S (rule g.S.theory r).vars g.c taken.old taken.new list.new result }
@@ -123,16 +122,16 @@ fn case_vars(
         CaseRead::Ok(_, i, many) => {
             let own = &out[..many];
             if !suits(vars, rulevars, r, need, own) {
-                return Found::Missing;
+                return None;
             }
             if !all_new(own, taken) {
-                return Found::Missing;
+                return None;
             }
             insert_all(own, taken);
             write(list, own);
-            Found::At(i)
+            Some(i)
         }
-        CaseRead::No(_) => Found::Missing,
+        CaseRead::No(_) => None,
     }
 }
 
@@ -371,7 +370,7 @@ fn without_case(
     let mut list = [0u32; RULEVARS];
     let mut bound = [0u32; RULEVARS];
     let need = variables(rules, r);
-    let Found::At(k) = make_vars(rulevars, r, need, sorts, count, &mut list) else {
+    let Some(k) = make_vars(rulevars, r, need, sorts, count, &mut list) else {
         return Out::No(60, 7, mark);
     };
     match meet(
@@ -492,7 +491,7 @@ pub fn invert_rule(
     let span = rule_name(rules, r);
     let from = span.from;
     let end = span.end;
-    let Found::At(p) = find_case(text, cells, many, &theory[from..end]) else {
+    let Some(p) = find_case(text, cells, many, &theory[from..end]) else {
         return without_case(
             symbols, rules, rulevars, patterns, n, index, words, mark, r, s, sorts, count, map,
             memo, theta, pairs,
@@ -500,7 +499,7 @@ pub fn invert_rule(
     };
     let mut list = [0u32; RULEVARS];
     let need = variables(rules, r);
-    let Found::At(i) = case_vars(
+    let Some(i) = case_vars(
         goals, text, vars, rulevars, n.vars, cells, p, r, need, taken, &mut list,
     ) else {
         return Out::No(42, 0, mark);

@@ -1,7 +1,7 @@
 -- The argument sorts of a declaration, an item at a time. Assumes nothing.
 use mathlib.Core.Path.{◌≡◌, refl, sym, ap, ◌∙◌}
 use Prim.Native.Nat.{ℕ, zero, suc, ◌+◌, ◌-◌, ◌<◌, ◌≤◌}
-use mathlib.Core.Option.{Option, some, none as nothing}
+use Rattle.std.specs.Prelude.{Option, Some as some, None as nothing}
 use mathlib.Core.List.{List, [], ◌∷◌, ◌++◌}
 use native.Mathlib.Omega.{arith}
 use native.Mathlib.Numerals.{add-one}
@@ -22,10 +22,8 @@ use Rattle.sexp.specs.Items.{Holds, item_of}
 use Rattle.sexp.specs.Spelt.{Spelt}
 use Rattle.sexp.specs.WalkLaws.{ListIs, AtomIs}
 use Rattle.sexp.specs.declared.items.Item.{Item}
-use Rattle.sexp.specs.NameRows.{NameRows, found_of}
+use Rattle.sexp.specs.NameRows.{NameRows}
 use Rattle.kernel.specs.Held.{SortsHeld, SomeSorts, Gathering, ArgumentsRead}
-use Rattle.sexp.specs.declared.names.Found.{Found}
-use Rattle.sexp.specs.declared.names.Found.TheVariants.{At, Missing}
 use Rattle.kernel.specs.declared.symbols.Added.{Added}
 use Rattle.kernel.specs.declared.symbols.Added.TheVariants.{Ok, No}
 use Rattle.sexp.specs.FoundLaws.{found_at, found_missing}
@@ -33,27 +31,27 @@ use Rattle.kernel.specs.SignatureRows.{sorts_rows, sorts_few}
 use Rattle.sexp.specs.FirstItem.{ItemFirst, none_left}
 
 -- what `sort` ensures
-abbrev pub SortTold : List ℕ → List ℕ → ℕ → Item → Found → Type 0
+abbrev pub SortTold : List ℕ → List ℕ → ℕ → Item → Option ℕ → Type 0
 SortTold text sorts known item r =
-    (x : Sexp) (at : ℕ) → item ≡ item_of at x → Spelt text x → (ns : List Name) → NameRows text sorts 2 0 known ns → r ≡ found_of (sort_of ns x)
+    (x : Sexp) (at : ℕ) → item ≡ item_of at x → Spelt text x → (ns : List Name) → NameRows text sorts 2 0 known ns → r ≡ (sort_of ns x)
 
 sort_inside : (ns : List Name) (o : Option Name) (s : ℕ) → sort_of_name ns o ≡ some s → s ≤ length ns
 unfolding sort_of_name
 sort_inside ns nothing s e = absurd (let z : ◌≡◌ {A = ℕ} 0 1 = cc in omega arith)
 sort_inside ns (some n) s e = let f = first_some (λ (m : Name). same m.bytes n.bytes) ns 1 s no_name e in omega (arith, f.is, f.inside)
 
-module _ {text sorts : List ℕ} {known : ℕ} {item : Item} {r : Found} (told : SortTold text sorts known item r) where
+module _ {text sorts : List ℕ} {known : ℕ} {item : Item} {r : Option ℕ} (told : SortTold text sorts known item r) where
   -- a sort's number is small
-  pub sort_small : (s : ℕ) → r ≡ At s → SomeSorts text sorts known → (x : Sexp) (at : ℕ) → item ≡ item_of at x → Spelt text x → s ≤ SORTS
+  pub sort_small : (s : ℕ) → r ≡ some s → SomeSorts text sorts known → (x : Sexp) (at : ℕ) → item ≡ item_of at x → Spelt text x → s ≤ SORTS
   unfolding sort_of
   sort_small s a h x at e k =
       omega (arith, sort_inside h.0 (proper x) s (found_at (sort_of h.0 x) r s (told x at e k h.0 (sorts_rows h.1)) a), h.1.many, sorts_few h.1)
 
   module _ (T : Theory) (h : SortsHeld text sorts known T.sorts) (x : Sexp) (at : ℕ) (e : item ≡ item_of at x) (k : Spelt text x) where
-    pub sort_known : (s : ℕ) → r ≡ At s → sort_of T.sorts x ≡ some s
+    pub sort_known : (s : ℕ) → r ≡ some s → sort_of T.sorts x ≡ some s
     sort_known s a = found_at (sort_of T.sorts x) r s (told x at e k T.sorts (sorts_rows h)) a
 
-    pub sort_unknown : r ≡ Missing → sort_of T.sorts x ≡ nothing
+    pub sort_unknown : r ≡ nothing → sort_of T.sorts x ≡ nothing
     sort_unknown a = found_missing (sort_of T.sorts x) r (told x at e k T.sorts (sorts_rows h)) a
 
 pub arguments_none : (text cells row : List ℕ) (count : ℕ) (T : Theory) (xs : Sexps) → Holds text cells xs → length cells ≡ 0 → count ≤ ARGUMENTS →
@@ -68,15 +66,15 @@ arguments_none text cells row count T xs h e l =
     }
 
 -- the sort that the first item names
-module _ {text table cells : List ℕ} {known next : ℕ} {item : Item} {r : Found} (told : SortTold text table known item r) {xs : Sexps} (f : ItemFirst text cells xs item next) where
-  pub first_small : (s : ℕ) → r ≡ At s → SomeSorts text table known → s ≤ SORTS
+module _ {text table cells : List ℕ} {known next : ℕ} {item : Item} {r : Option ℕ} (told : SortTold text table known item r) {xs : Sexps} (f : ItemFirst text cells xs item next) where
+  pub first_small : (s : ℕ) → r ≡ some s → SomeSorts text table known → s ≤ SORTS
   first_small s a h = sort_small told s a h f.x 0 f.at f.spelt
 
   module _ (T : Theory) (count : ℕ) (h : SortsHeld text table known T.sorts) where
-    pub arguments_unknown : r ≡ Missing → sorts T xs count (tt {0}) ≡ refuse 11 0 (tt {0})
+    pub arguments_unknown : r ≡ nothing → sorts T xs count (tt {0}) ≡ refuse 11 0 (tt {0})
     arguments_unknown a = ap (λ z. sorts T z count (tt {0})) f.is ∙ sorts_unknown T f.x f.ys count (tt {0}) (sort_unknown told T h f.x 0 f.at f.spelt a)
 
-    module _ (s : ℕ) (a : r ≡ At s) where
+    module _ (s : ℕ) (a : r ≡ some s) where
       pub arguments_full : ARGUMENTS ≤ count → sorts T xs count (tt {0}) ≡ refuse 60 3 (tt {0})
       arguments_full l =
           ap (λ z. sorts T z count (tt {0})) f.is ∙ sorts_full T f.x f.ys count (tt {0}) s (sort_known told T h f.x 0 f.at f.spelt s a) l

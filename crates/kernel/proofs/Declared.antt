@@ -2,7 +2,7 @@
 use mathlib.Core.Path.{◌≡◌, refl, sym, ap, ◌∙◌, subst}
 use Prim.Native.Nat.{ℕ, ◌-◌, ◌<◌, ◌≤◌}
 use mathlib.Core.Bool.{true, false}
-use mathlib.Core.Option.{some, none as nothing}
+use Rattle.std.specs.Prelude.{Some as some, None as nothing, Option}
 use mathlib.Core.List.{List, []}
 use native.Mathlib.Omega.{arith}
 use lib.ListN.{length, take, drop, replicate}
@@ -15,11 +15,8 @@ use Rattle.rules.specs.Theory.{Theory, Symbol, constructor_named, predicate_name
 use Rattle.rules.specs.Declare.{add_ctor, add_pred, add_symbol}
 use Rattle.rules.specs.Laws.Declaring.{sort_of, arguments_of, constructor_of, ctor_arguments, pred_arguments, ctor_unsorted, ctor_twice, ctor_new, pred_twice, pred_new}
 use Rattle.kernel.specs.Named.{called, of_kind}
-use Rattle.sexp.specs.NameRows.{found_of}
 use Rattle.kernel.specs.Spelled.{Reaching}
 use Rattle.kernel.specs.Held.{Form, ArgumentsStored, ArgumentsRead, SymbolsHeld, SymbolFits, SymbolIs, SymbolAdded}
-use Rattle.sexp.specs.declared.names.Found.{Found}
-use Rattle.sexp.specs.declared.names.Found.TheVariants.{At, Missing}
 use Rattle.kernel.specs.declared.symbols.Added.{Added}
 use Rattle.kernel.specs.declared.symbols.Added.TheVariants.{Ok, No}
 use Rattle.kernel.proofs.Spellings.{Proper}
@@ -51,31 +48,31 @@ module _ {text : List ℕ} (T : Theory) (xs : Sexps) {s e : ℕ} (p : Proper tex
   pub ctor_no_sort : sort_of T.sorts (item xs 3) ≡ nothing → add_ctor xs T ≡ refuse 11 0 T
   ctor_no_sort g = ctor_unsorted T xs p.name p.is stored.sorts stored.is g
 
-  module _ {q : Found} where
+  module _ {q : Option ℕ} where
     module _ {o : ℕ} (g : sort_of T.sorts (item xs 3) ≡ some o)
-        (f : q ≡ found_of (first (called false (take (e - s) (drop s text))) T.symbols 0)) where
+        (f : q ≡ (first (called false (take (e - s) (drop s text))) T.symbols 0)) where
       found_so : constructor_named T p.name.bytes ≡ first (called false (take (e - s) (drop s text))) T.symbols 0
       unfolding constructor_named of_kind
       found_so = ap (λ l. first (called false l) T.symbols 0) (sym p.part)
 
-      pub ctor_again : {i : ℕ} → q ≡ At i → add_ctor xs T ≡ refuse 11 0 T
+      pub ctor_again : {i : ℕ} → q ≡ some i → add_ctor xs T ≡ refuse 11 0 T
       ctor_again {i} c =
           ctor_twice T xs p.name p.is stored.sorts stored.is o i g (found_so ∙ found_at (first (called false (take (e - s) (drop s text))) T.symbols 0) q i f c)
 
-      pub ctor_is_new : q ≡ Missing → add_ctor xs T ≡ add_symbol (constructor_of p.name stored.sorts o) T
+      pub ctor_is_new : q ≡ nothing → add_ctor xs T ≡ add_symbol (constructor_of p.name stored.sorts o) T
       ctor_is_new c =
           ctor_new T xs p.name p.is stored.sorts stored.is o g (found_so ∙ found_missing (first (called false (take (e - s) (drop s text))) T.symbols 0) q f c)
 
-    module _ (f : q ≡ found_of (first (called true (take (e - s) (drop s text))) T.symbols 0)) where
+    module _ (f : q ≡ (first (called true (take (e - s) (drop s text))) T.symbols 0)) where
       found_too : predicate_named T p.name.bytes ≡ first (called true (take (e - s) (drop s text))) T.symbols 0
       unfolding predicate_named of_kind
       found_too = ap (λ l. first (called true l) T.symbols 0) (sym p.part)
 
-      pub pred_again : {i : ℕ} → q ≡ At i → add_pred xs T ≡ refuse 11 0 T
+      pub pred_again : {i : ℕ} → q ≡ some i → add_pred xs T ≡ refuse 11 0 T
       pred_again {i} c =
           pred_twice T xs p.name p.is stored.sorts stored.is i (found_too ∙ found_at (first (called true (take (e - s) (drop s text))) T.symbols 0) q i f c)
 
-      pub pred_is_new : q ≡ Missing → add_pred xs T ≡ add_symbol (constructor_of p.name stored.sorts 0) T
+      pub pred_is_new : q ≡ nothing → add_pred xs T ≡ add_symbol (constructor_of p.name stored.sorts 0) T
       pred_is_new c =
           pred_new T xs p.name p.is stored.sorts stored.is (found_too ∙ found_missing (first (called true (take (e - s) (drop s text))) T.symbols 0) q f c)
 

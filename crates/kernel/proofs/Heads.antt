@@ -1,4 +1,5 @@
 -- The heads of the rules' conclusions, and the rules of a predicate one after the other. Assumes nothing.
+use Rattle.std.specs.Prelude.{Some as some, None as nothing}
 use mathlib.Core.Path.{◌≡◌, refl, sym, ap, ◌∙◌}
 use Prim.Native.Nat.{ℕ, suc, ◌+◌, ◌<◌, ◌≤◌}
 use mathlib.Core.Bool.{Bool, true, false}
@@ -13,13 +14,11 @@ use Rattle.rules.specs.Theory.{Theory, Rule, no_rule, rule, head_is}
 use Rattle.rules.specs.Laws.Theory.{Judgment, all_at}
 use Rattle.rules.specs.TheoryTables.{prefix, prefixes, pattern_row, pattern_cells}
 use Rattle.rules.specs.Laws.Row.{append_assoc}
-use Rattle.sexp.specs.NameRows.{found_of}
 use Rattle.kernel.specs.Readers.{words_before, conclusion_at, FormedRules, SomeFormedRules, KnownFormedRule}
 use Rattle.kernel.specs.Entries.{formed_rule}
 use Rattle.kernel.specs.Listing.{next_rule}
 use Rattle.kernel.specs.RuleRows.{words_here}
 use Rattle.kernel.proofs.Conclusions.{begins}
-use Rattle.sexp.specs.declared.names.Found.TheVariants.{At, Missing}
 
 -- One rule -----------------------------------------------------------------------------------------------------------------------
 
@@ -83,10 +82,9 @@ module _ {symbols rules patterns : List ℕ} {count predicate from i : ℕ} (k :
 
   module _ (l : i < count) (b : Bool)
       (a : (T : Theory) (n : ℕ) → FormedRules symbols rules patterns n T → i < n → b ≡ head_is predicate (rule T i).conclusion) where
-    pub scanning_here : b ≡ true → (T : Theory) → FormedRules symbols rules patterns count T → At i ≡ found_of (next_rule T predicate from)
+    pub scanning_here : b ≡ true → (T : Theory) → FormedRules symbols rules patterns count T → some i ≡ (next_rule T predicate from)
     unfolding next_rule rule
     scanning_here e T f =
-        ap found_of
         (sym
         (k.same T f
         ∙ first_here (λ (r : Rule). head_is predicate r.conclusion) T.rules i no_rule (omega (arith, l, f.held.many)) (sym (a T count f l) ∙ e)))
@@ -100,7 +98,7 @@ module _ {symbols rules patterns : List ℕ} {count predicate from i : ℕ} (k :
               ∙ first_later (λ (r : Rule). head_is predicate r.conclusion) T.rules i no_rule (omega (arith, l, f.held.many)) (sym (a T count f l) ∙ e);
         }
 
-  pub scanning_over : count ≤ i → (T : Theory) → FormedRules symbols rules patterns count T → Missing ≡ found_of (next_rule T predicate from)
+  pub scanning_over : count ≤ i → (T : Theory) → FormedRules symbols rules patterns count T → nothing ≡ (next_rule T predicate from)
   unfolding next_rule
   scanning_over l T f =
-      ap found_of (sym (k.same T f ∙ first_over (λ (r : Rule). head_is predicate r.conclusion) T.rules i (omega (arith, l, f.held.many))))
+      (sym (k.same T f ∙ first_over (λ (r : Rule). head_is predicate r.conclusion) T.rules i (omega (arith, l, f.held.many))))

@@ -1,7 +1,7 @@
 -- Tables that hold sorts and symbols: their rows as the look-ups read them, and one more. Assumes nothing.
 use mathlib.Core.Path.{◌≡◌, sym, ap, ◌∙◌, subst}
 use Prim.Native.Nat.{ℕ, suc, ◌+◌, ◌-◌, ◌*◌, ◌<◌, ◌≤◌}
-use mathlib.Core.Option.{none as nothing}
+use Rattle.std.specs.Prelude.{None as nothing, Some as some, Option}
 use mathlib.Core.List.{List, [], ◌∷◌, ◌++◌}
 use native.Mathlib.Omega.{arith}
 use native.Mathlib.Numerals.{add-one}
@@ -19,13 +19,11 @@ use Rattle.rules.specs.TheoryTables.{name_cells, rows, symbol_row, input_row}
 use Rattle.rules.specs.Laws.Row.{append-nil, append_assoc, rows_snoc, length_filled}
 use Rattle.rules.specs.Declare.{add_sort, add_symbol}
 use Rattle.rules.specs.Laws.Declaring.{add_sort_known, add_sort_full, add_sort_new, add_symbol_full, add_symbol_new}
-use Rattle.sexp.specs.NameRows.{NameIn, found_of}
+use Rattle.sexp.specs.NameRows.{NameIn}
 use Rattle.kernel.specs.SignatureRows.{sorts_cells, symbols_cells, inputs_cells}
 use Rattle.kernel.specs.Held.{Front, NameFits, SortsHeld, SortStored, SymbolsHeld, SymbolIs, SymbolStored}
 use Rattle.kernel.proofs.Spellings.{Proper}
 use Rattle.sexp.specs.FoundLaws.{found_at, found_missing}
-use Rattle.sexp.specs.declared.names.Found.{Found}
-use Rattle.sexp.specs.declared.names.Found.TheVariants.{At, Missing}
 
 -- the first cells, and more written behind them
 pub front_write : (table xs vs : List ℕ) (i : ℕ) → Front table xs → length xs ≡ i → i + length vs ≤ length table → Front (sets table i vs) (xs ++ vs)
@@ -65,19 +63,19 @@ module _ {text table : List ℕ} {count : ℕ} {ns : List Name} (h : SortsHeld t
 
 -- the answers of `add_sort`
 module _ {text table : List ℕ} {count : ℕ} (T : Theory) (xs : Sexps) (h : SortsHeld text table count T.sorts) (s e : ℕ)
-    (p : Proper text (item xs 1) s e) (r : Found)
-    (a : r ≡ found_of (first (λ n. same n.bytes (take (e - s) (drop s text))) T.sorts 0)) where
+    (p : Proper text (item xs 1) s e) (r : Option ℕ)
+    (a : r ≡ (first (λ n. same n.bytes (take (e - s) (drop s text))) T.sorts 0)) where
   named_so : sort_named T p.name.bytes ≡ next (first (λ n. same n.bytes (take (e - s) (drop s text))) T.sorts 0)
   unfolding sort_named
   named_so =
       ap (λ l. first (λ (n : Name). same n.bytes l) T.sorts 1) (sym p.part)
       ∙ first_next (λ (n : Name). same n.bytes (take (e - s) (drop s text))) T.sorts 0
 
-  pub sort_twice : (i : ℕ) → r ≡ At i → add_sort xs T ≡ refuse 11 0 T
+  pub sort_twice : (i : ℕ) → r ≡ some i → add_sort xs T ≡ refuse 11 0 T
   unfolding next
   sort_twice i b = add_sort_known T xs p.name p.is (suc i) (named_so ∙ ap next (found_at (first (λ (n : Name). same n.bytes (take (e - s) (drop s text))) T.sorts 0) r i a b))
 
-  module _ (b : r ≡ Missing) where
+  module _ (b : r ≡ nothing) where
     sort_fresh : sort_named T p.name.bytes ≡ nothing
     unfolding next
     sort_fresh = named_so ∙ ap next (found_missing (first (λ (n : Name). same n.bytes (take (e - s) (drop s text))) T.sorts 0) r a b)

@@ -2,7 +2,7 @@
 use mathlib.Core.Path.{◌≡◌, refl, sym, ap, ◌∙◌}
 use Prim.Native.Nat.{ℕ, ◌+◌, ◌-◌, ◌*◌, ◌<◌, ◌≤◌}
 use mathlib.Core.Bool.{true}
-use mathlib.Core.Option.{some}
+use Rattle.std.specs.Prelude.{Some as some, None as nothing, Option}
 use mathlib.Core.List.{List}
 use native.Mathlib.Omega.{arith}
 use lib.ListN.{length, get_or, take, drop, set, length-set}
@@ -18,11 +18,8 @@ use Rattle.rules.specs.Declare.{Reading, word, head, pattern, patterns, predicat
 use Rattle.rules.specs.Laws.PatternSteps.{word_full, word_more, pattern_empty, pattern_headless, pattern_lone, pattern_asks, predicated_empty, predicated_headless, predicated_unknown, predicated_count, predicated_asks}
 use Rattle.sexp.specs.Items.{Holds}
 use Rattle.kernel.specs.Named.{called, of_kind, SymbolRows}
-use Rattle.sexp.specs.NameRows.{found_of}
 use Rattle.kernel.specs.Held.{SymbolsHeld}
 use Rattle.kernel.specs.Reading.{Stopped, HeadRead, Opened, OpenedRead}
-use Rattle.sexp.specs.declared.names.Found.{Found}
-use Rattle.sexp.specs.declared.names.Found.TheVariants.{At, Missing}
 use Rattle.kernel.specs.declared.patterns.Reply.{Reply}
 use Rattle.kernel.specs.declared.patterns.Reply.TheVariants.{Ok, No}
 use Rattle.sexp.specs.FoundLaws.{found_at, found_missing}
@@ -92,8 +89,8 @@ module _ (T : Theory) (R : Reading) {text cells : List ℕ} {zs : Sexps} (P : Li
   judgment_empty h l = stopped R 11 0 (ap (λ z. predicated T z R) (none_left h l) ∙ predicated_empty R T)
 
   module _ {p : ℕ} (f : AtomFirst text cells zs p) (end : ℕ) (e : end ≡ p + length (letters (drop p text))) {symbols ins : List ℕ} {known : ℕ}
-      (h : SymbolsHeld text symbols ins known T.symbols) (r : Found)
-      (a : (ss : List Symbol) → SymbolRows text symbols known ss → r ≡ found_of (first (called true (take (end - p) (drop p text))) ss 0)) where
+      (h : SymbolsHeld text symbols ins known T.symbols) (r : Option ℕ)
+      (a : (ss : List Symbol) → SymbolRows text symbols known ss → r ≡ (first (called true (take (end - p) (drop p text))) ss 0)) where
     named_so : predicate_named T (letters (drop p text)) ≡ first (called true (take (end - p) (drop p text))) T.symbols 0
     unfolding predicate_named of_kind
     named_so = ap (λ z. first (called true z) T.symbols 0) (sym (atom_span text p end f.inside e).part)
@@ -101,12 +98,12 @@ module _ (T : Theory) (R : Reading) {text cells : List ℕ} {zs : Sexps} (P : Li
     begins : predicated T zs R ≡ predicated T (cons (atom p (letters (drop p text))) f.others) R
     begins = ap (λ z. predicated T z R) f.is
 
-    pub judgment_unknown : r ≡ Missing → Stopped P P used (predicated T zs R) 11 0
+    pub judgment_unknown : r ≡ nothing → Stopped P P used (predicated T zs R) 11 0
     judgment_unknown b =
         stopped R 11 0 (begins ∙ predicated_unknown R T p (letters (drop p text)) f.others
         (named_so ∙ found_missing (first (called true (take (end - p) (drop p text))) T.symbols 0) r (a T.symbols (symbols_rows h)) b))
 
-    module _ (c : ℕ) (b : r ≡ At c) (many : ℕ) (m : many ≡ count zs) where
+    module _ (c : ℕ) (b : r ≡ some c) (many : ℕ) (m : many ≡ count zs) where
       known_so : predicate_named T (letters (drop p text)) ≡ some c
       known_so = named_so ∙ found_at (first (called true (take (end - p) (drop p text))) T.symbols 0) r c (a T.symbols (symbols_rows h)) b
 

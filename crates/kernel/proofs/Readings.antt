@@ -2,7 +2,7 @@
 use mathlib.Core.Path.{◌≡◌, refl, sym, ap, ◌∙◌}
 use Prim.Native.Nat.{ℕ, suc, ◌+◌, ◌*◌, ◌<◌, ◌≤◌}
 use mathlib.Core.Bool.{true, false}
-use mathlib.Core.Option.{some}
+use Rattle.std.specs.Prelude.{Some as some, None as nothing, Option}
 use mathlib.Core.List.{List, []}
 use native.Mathlib.Omega.{arith}
 use native.Mathlib.Numerals.{add-one}
@@ -15,7 +15,7 @@ use Rattle.rules.specs.Find.{first, every}
 use Rattle.rules.specs.Laws.Find.{next, first_next, first_some, first_here, first_later, first_over}
 use Rattle.rules.specs.Sexp.{Name}
 use Rattle.rules.specs.Theory.{Theory, Symbol, no_symbol, output, constructors, sort_named, constructor_named, predicate_named}
-use Rattle.sexp.specs.NameRows.{NameRows, SomeNames, found_of}
+use Rattle.sexp.specs.NameRows.{NameRows, SomeNames}
 use Rattle.kernel.specs.Named.{of_kind, SymbolRows, SomeSymbols, called}
 use Rattle.kernel.specs.Held.{SortsHeld, SomeSorts, SymbolsHeld}
 use Rattle.kernel.specs.Readers.{KnownSymbol, KnownInput, NamedSymbols, CountedSymbols}
@@ -23,8 +23,6 @@ use Rattle.kernel.specs.Entries.{known_symbol}
 use Rattle.kernel.specs.Listing.{next_constructor, with_rest, every_first}
 use Rattle.kernel.specs.SignatureRows.{sorts_rows, sorts_few, symbols_rows, symbols_few, input_place}
 use Rattle.sexp.specs.FoundLaws.{found_at, found_missing, found_inside}
-use Rattle.sexp.specs.declared.names.Found.{Found}
-use Rattle.sexp.specs.declared.names.Found.TheVariants.{At, Missing}
 
 -- Symbols by number --------------------------------------------------------------------------------------------------------------
 
@@ -40,39 +38,39 @@ pub some_names : {text sorts : List ℕ} {count : ℕ} → SomeSorts text sorts 
 some_names s = (s.0, sorts_rows s.1)
 
 -- the number of a sort is small
-pub sort_inside : {text sorts : List ℕ} {count : ℕ} → SomeSorts text sorts count → (name : List ℕ) (r : Found) (i : ℕ) →
-    ((ns : List Name) → NameRows text sorts 2 0 count ns → r ≡ found_of (first (λ n. same n.bytes name) ns 0)) → r ≡ At i → i < SORTS
+pub sort_inside : {text sorts : List ℕ} {count : ℕ} → SomeSorts text sorts count → (name : List ℕ) (r : Option ℕ) (i : ℕ) →
+    ((ns : List Name) → NameRows text sorts 2 0 count ns → r ≡ (first (λ n. same n.bytes name) ns 0)) → r ≡ some i → i < SORTS
 sort_inside s name r i a e =
     omega (arith, found_inside name s.0 r i (a s.0 (sorts_rows s.1)) e, s.1.many, sorts_few s.1)
 
-module _ (T : Theory) {text sorts : List ℕ} {count : ℕ} (h : SortsHeld text sorts count T.sorts) (name : List ℕ) (r : Found)
-    (a : (ns : List Name) → NameRows text sorts 2 0 count ns → r ≡ found_of (first (λ n. same n.bytes name) ns 0)) where
+module _ (T : Theory) {text sorts : List ℕ} {count : ℕ} (h : SortsHeld text sorts count T.sorts) (name : List ℕ) (r : Option ℕ)
+    (a : (ns : List Name) → NameRows text sorts 2 0 count ns → r ≡ (first (λ n. same n.bytes name) ns 0)) where
   sort_after : sort_named T name ≡ next (first (λ n. same n.bytes name) T.sorts 0)
   unfolding sort_named
   sort_after = first_next (λ (n : Name). same n.bytes name) T.sorts 0
 
-  pub sort_missing : r ≡ Missing → Missing ≡ found_of (sort_named T name)
+  pub sort_missing : r ≡ nothing → nothing ≡ (sort_named T name)
   unfolding next
   sort_missing e =
-      ap found_of (sym (sort_after ∙ ap next (found_missing (first (λ (n : Name). same n.bytes name) T.sorts 0) r (a T.sorts (sorts_rows h)) e)))
+      (sym (sort_after ∙ ap next (found_missing (first (λ (n : Name). same n.bytes name) T.sorts 0) r (a T.sorts (sorts_rows h)) e)))
 
-  pub sort_found : (i : ℕ) → r ≡ At i → At (i + 1) ≡ found_of (sort_named T name)
+  pub sort_found : (i : ℕ) → r ≡ some i → some (i + 1) ≡ (sort_named T name)
   unfolding next
   sort_found i e =
-      ap At (add-one i)
-      ∙ ap found_of (sym (sort_after ∙ ap next (found_at (first (λ (n : Name). same n.bytes name) T.sorts 0) r i (a T.sorts (sorts_rows h)) e)))
+      ap some (add-one i)
+      ∙ (sym (sort_after ∙ ap next (found_at (first (λ (n : Name). same n.bytes name) T.sorts 0) r i (a T.sorts (sorts_rows h)) e)))
 
 pub some_rows : {text symbols : List ℕ} {count : ℕ} → NamedSymbols text symbols count → SomeSymbols text symbols count
 some_rows s = (s.1.0, symbols_rows s.1.1)
 
-module _ (T : Theory) {text symbols ins : List ℕ} {count : ℕ} (h : SymbolsHeld text symbols ins count T.symbols) (name : List ℕ) (r : Found) where
-  pub constructor_is : ((ss : List Symbol) → SymbolRows text symbols count ss → r ≡ found_of (first (called false name) ss 0)) →
-      r ≡ found_of (constructor_named T name)
+module _ (T : Theory) {text symbols ins : List ℕ} {count : ℕ} (h : SymbolsHeld text symbols ins count T.symbols) (name : List ℕ) (r : Option ℕ) where
+  pub constructor_is : ((ss : List Symbol) → SymbolRows text symbols count ss → r ≡ (first (called false name) ss 0)) →
+      r ≡ (constructor_named T name)
   unfolding constructor_named of_kind
   constructor_is a = a T.symbols (symbols_rows h)
 
-  pub predicate_is : ((ss : List Symbol) → SymbolRows text symbols count ss → r ≡ found_of (first (called true name) ss 0)) →
-      r ≡ found_of (predicate_named T name)
+  pub predicate_is : ((ss : List Symbol) → SymbolRows text symbols count ss → r ≡ (first (called true name) ss 0)) →
+      r ≡ (predicate_named T name)
   unfolding predicate_named of_kind
   predicate_is a = a T.symbols (symbols_rows h)
 
@@ -92,10 +90,9 @@ module _ {symbols : List ℕ} {count sort from i : ℕ} (k : Scanning symbols co
 
   module _ (l : i < count) (r : ℕ)
       (a : (T : Theory) (text inputs : List ℕ) (n : ℕ) → SymbolsHeld text symbols inputs n T.symbols → i < n → r ≡ output T i) where
-    pub scanning_here : r ≡ sort → (T : Theory) (text ins : List ℕ) → SymbolsHeld text symbols ins count T.symbols → At i ≡ found_of (next_constructor T sort from)
+    pub scanning_here : r ≡ sort → (T : Theory) (text ins : List ℕ) → SymbolsHeld text symbols ins count T.symbols → some i ≡ (next_constructor T sort from)
     unfolding next_constructor output
     scanning_here e T text ins h =
-        ap found_of
         (sym
         (k.same T text ins h
         ∙ first_here (λ (c : Symbol). eqb c.output sort) T.symbols i no_symbol (omega (arith, l, h.many)) (eq-eqb _ _ (sym (a T text ins count h l) ∙ e))))
@@ -109,10 +106,10 @@ module _ {symbols : List ℕ} {count sort from i : ℕ} (k : Scanning symbols co
               ∙ first_later (λ (c : Symbol). eqb c.output sort) T.symbols i no_symbol (omega (arith, l, h.many)) (ne_eqb _ _ (λ q. e (a T text ins count h l ∙ q)));
         }
 
-  pub scanning_over : count ≤ i → (T : Theory) (text ins : List ℕ) → SymbolsHeld text symbols ins count T.symbols → Missing ≡ found_of (next_constructor T sort from)
+  pub scanning_over : count ≤ i → (T : Theory) (text ins : List ℕ) → SymbolsHeld text symbols ins count T.symbols → nothing ≡ (next_constructor T sort from)
   unfolding next_constructor
   scanning_over l T text ins h =
-      ap found_of (sym (k.same T text ins h ∙ first_over (λ (c : Symbol). eqb c.output sort) T.symbols i (omega (arith, l, h.many))))
+      (sym (k.same T text ins h ∙ first_over (λ (c : Symbol). eqb c.output sort) T.symbols i (omega (arith, l, h.many))))
 
 -- How many there are ----------------------------------------------------------------------------------------------------------------
 
@@ -128,14 +125,14 @@ pub counting_start : (symbols : List ℕ) (count sort : ℕ) → CountedSymbols 
 unfolding constructors
 counting_start symbols count sort s = record { counted = s; low = omega arith; high = omega arith; same = λ T text ins h. omega arith }
 
-module _ {symbols : List ℕ} {count sort n from : ℕ} (k : Counting symbols count sort n from) (r : Found)
-    (a : (T : Theory) (text inputs : List ℕ) → SymbolsHeld text symbols inputs count T.symbols → r ≡ found_of (next_constructor T sort from)) where
+module _ {symbols : List ℕ} {count sort n from : ℕ} (k : Counting symbols count sort n from) (r : Option ℕ)
+    (a : (T : Theory) (text inputs : List ℕ) → SymbolsHeld text symbols inputs count T.symbols → r ≡ (next_constructor T sort from)) where
   module _ (T : Theory) {text ins : List ℕ} (h : SymbolsHeld text symbols ins count T.symbols) where
     left : every (λ c. eqb c.output sort) (drop from T.symbols) from ≡ with_rest (λ c. eqb c.output sort) T.symbols no_symbol (next_constructor T sort from)
     unfolding next_constructor
     left = every_first (λ (c : Symbol). eqb c.output sort) T.symbols no_symbol from
 
-    module _ {i : ℕ} (e : r ≡ At i) where
+    module _ {i : ℕ} (e : r ≡ some i) where
       next_is : next_constructor T sort from ≡ some i
       next_is = found_at (next_constructor T sort from) r i (a T text ins h) e
 
@@ -153,10 +150,10 @@ module _ {symbols : List ℕ} {count sort n from : ℕ} (k : Counting symbols co
       unfolding with_rest
       rest_is = ap length (left ∙ ap (with_rest (λ (c : Symbol). eqb c.output sort) T.symbols no_symbol) next_is)
 
-  pub counting_inside : {i : ℕ} → r ≡ At i → (from ≤ i) × (i < count)
+  pub counting_inside : {i : ℕ} → r ≡ some i → (from ≤ i) × (i < count)
   counting_inside e = let s = k.counted.1.1 in let T : Theory = record { sorts = []; symbols = s.0; rules = [] } in (next_on T s.1 e, next_inside T s.1 e)
 
-  pub counting_on : {i : ℕ} → r ≡ At i → Counting symbols count sort (n + 1) (i + 1)
+  pub counting_on : {i : ℕ} → r ≡ some i → Counting symbols count sort (n + 1) (i + 1)
   counting_on {i} e =
       let w = counting_inside e in
       record {
@@ -166,7 +163,7 @@ module _ {symbols : List ℕ} {count sort n from : ℕ} (k : Counting symbols co
         same = λ T text ins h. omega (arith, k.same T text ins h, rest_is T h e);
       }
 
-  pub counting_over : r ≡ Missing → (T : Theory) (text ins : List ℕ) → SymbolsHeld text symbols ins count T.symbols → n ≡ length (constructors T sort)
+  pub counting_over : r ≡ nothing → (T : Theory) (text ins : List ℕ) → SymbolsHeld text symbols ins count T.symbols → n ≡ length (constructors T sort)
   unfolding with_rest
   counting_over e T text ins h =
       let z : length (every (λ (c : Symbol). eqb c.output sort) (drop from T.symbols) from) ≡ 0 =

@@ -1,4 +1,5 @@
 -- Symbols in rows of a table, as the look-ups read them. Assumes nothing.
+use Rattle.std.specs.Prelude.{Some as some, None as nothing}
 use mathlib.Core.Path.{◌≡◌, refl, sym, ap, ◌∙◌}
 use Prim.Native.Nat.{ℕ, ◌+◌, ◌-◌, ◌*◌, ◌<◌, ◌≤◌}
 use mathlib.Core.Bool.{Bool, true, false, ◌&&◌, not}
@@ -12,8 +13,6 @@ use Rattle.rules.specs.Laws.Find.{first_here, first_later, first_over}
 use Rattle.rules.specs.Theory.{Symbol, no_symbol, is_predicate}
 use Rattle.sexp.specs.RowLaws.{name_bytes}
 use Rattle.kernel.specs.Named.{kind_of, of_kind, SymbolAt, SomeSymbol, SymbolRows, SomeSymbols, called}
-use Rattle.sexp.specs.NameRows.{found_of}
-use Rattle.sexp.specs.declared.names.Found.TheVariants.{At, Missing}
 
 -- Symbols ------------------------------------------------------------------------------------------------------------------------
 
@@ -55,10 +54,10 @@ module _ {text table name : List ℕ} {b : Bool} {count i : ℕ} (k : Seeking te
   seeking_row h = (get_or k.some.0 i no_symbol, k.some.1.row i (omega (arith, h, k.some.1.many)))
 
   module _ (h : i < count) (t : Bool) (f : (s : Symbol) → SymbolAt text table i s → t ≡ called b name s) where
-    pub seeking_here : t ≡ true → (ss : List Symbol) → SymbolRows text table count ss → At i ≡ found_of (first (called b name) ss 0)
+    pub seeking_here : t ≡ true → (ss : List Symbol) → SymbolRows text table count ss → some i ≡ (first (called b name) ss 0)
     seeking_here e ss r =
         let l : i < length ss = omega (arith, h, r.many) in
-        ap found_of (sym (k.same ss r ∙ first_here (called b name) ss i no_symbol l (sym (f _ (r.row i l)) ∙ e)))
+        (sym (k.same ss r ∙ first_here (called b name) ss i no_symbol l (sym (f _ (r.row i l)) ∙ e)))
 
     pub seeking_on : t ≡ false → Seeking text table name b count (i + 1)
     seeking_on e =
@@ -70,5 +69,5 @@ module _ {text table name : List ℕ} {b : Bool} {count i : ℕ} (k : Seeking te
               k.same ss r ∙ first_later (called b name) ss i no_symbol l (sym (f _ (r.row i l)) ∙ e);
         }
 
-  pub seeking_over : count ≤ i → (ss : List Symbol) → SymbolRows text table count ss → Missing ≡ found_of (first (called b name) ss 0)
-  seeking_over h ss r = ap found_of (sym (k.same ss r ∙ first_over (called b name) ss i (omega (arith, h, r.many))))
+  pub seeking_over : count ≤ i → (ss : List Symbol) → SymbolRows text table count ss → nothing ≡ (first (called b name) ss 0)
+  seeking_over h ss r = (sym (k.same ss r ∙ first_over (called b name) ss i (omega (arith, h, r.many))))

@@ -1,7 +1,7 @@
 -- The answers of `add_rule`, question by question. Assumes nothing.
 use mathlib.Core.Path.{◌≡◌, refl, sym, ap, ◌∙◌, subst}
 use Prim.Native.Nat.{ℕ, ◌-◌, ◌*◌, ◌≤◌}
-use mathlib.Core.Option.{none as nothing}
+use Rattle.std.specs.Prelude.{None as nothing, Some as some, Option}
 use mathlib.Core.List.{List, [], ◌++◌}
 use native.Mathlib.Omega.{arith}
 use lib.ListN.{length, take, drop, replicate, length-append}
@@ -18,9 +18,7 @@ use Rattle.rules.specs.TheoryTables.{rows, prefix, prefixes, pattern_row, rule_v
 use Rattle.rules.specs.Declare.{Reading, schema, add_rule}
 use Rattle.rules.specs.Laws.Declaring.{proper}
 use Rattle.sexp.specs.Items.{Holds}
-use Rattle.sexp.specs.NameRows.{NameRows, found_of}
-use Rattle.sexp.specs.declared.names.Found.{Found}
-use Rattle.sexp.specs.declared.names.Found.TheVariants.{At, Missing}
+use Rattle.sexp.specs.NameRows.{NameRows}
 use Rattle.kernel.specs.Held.{Form, SomeSymbolsHeld}
 use Rattle.kernel.specs.Reading.{VarsHeld, ReadSoFar, Written, Stopped, PatternRead}
 use Rattle.kernel.specs.HeldRules.{schema_cells, Beginning, RulesHeld, SomeRules, RuleFits, RuleIs, RulePut, RuleRefused, RuleAdded}
@@ -80,14 +78,14 @@ module _ {text rules vars P table M : List ℕ} {count used variables last : ℕ
     abbrev pub rule_now : Rule
     rule_now = rule_of p.name w.now w.tree
 
-    module _ {q : Found}
-        (a : (ns : List Name) → NameRows text rules 6 0 count ns → q ≡ found_of (first (λ n. same n.bytes (take (e - s) (drop s text))) ns 0)) where
+    module _ {q : Option ℕ}
+        (a : (ns : List Name) → NameRows text rules 6 0 count ns → q ≡ (first (λ n. same n.bytes (take (e - s) (drop s text))) ns 0)) where
       found_so : rule_named T p.name.bytes ≡ first (λ n. same n.bytes (take (e - s) (drop s text))) (names_of rule_name T.rules) 0
       unfolding rule_named
       found_so =
           ap (λ l. first (λ (r : Rule). same r.name.bytes l) T.rules 0) (sym p.part) ∙ first_name rule_name T.rules (take (e - s) (drop s text)) 0
 
-      pub rule_again : {i : ℕ} → q ≡ At i → RuleRefused text rules vars M T (add_rule xs T) count used 11 0
+      pub rule_again : {i : ℕ} → q ≡ some i → RuleRefused text rules vars M T (add_rule xs T) count used 11 0
       rule_again {i} c =
           record {
             is = rule_twice T xs w.tree w.now w.is p.name p.is i
@@ -95,7 +93,7 @@ module _ {text rules vars P table M : List ℕ} {count used variables last : ℕ
             held = held_still;
           }
 
-      module _ (c : q ≡ Missing) where
+      module _ (c : q ≡ nothing) where
         fresh : rule_named T p.name.bytes ≡ nothing
         fresh = found_so ∙ found_missing (first (λ (n : Name). same n.bytes (take (e - s) (drop s text))) (names_of rule_name T.rules) 0) q (a (names_of rule_name T.rules) (rules_rows h)) c
 

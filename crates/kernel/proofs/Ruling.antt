@@ -1,7 +1,7 @@
 -- The questions of a rule's declaration one at a time, as code puts them, and how many premises it has. Assumes nothing.
 use mathlib.Core.Path.{◌≡◌, refl, sym, ap, ◌∙◌}
 use Prim.Native.Nat.{ℕ, suc, ◌<◌, ◌≤◌}
-use mathlib.Core.Option.{some, none as nothing}
+use Rattle.std.specs.Prelude.{Some as some, None as nothing}
 use mathlib.Core.List.{[]}
 use lib.Dec.{ltb}
 use lib.ListN.{length}

@@ -2,7 +2,7 @@
 use mathlib.Core.Path.{◌≡◌, refl, sym, ap, ◌∙◌}
 use Prim.Native.Nat.{ℕ, ◌+◌, ◌-◌, ◌≤◌}
 use mathlib.Core.Bool.{Bool, true, false}
-use mathlib.Core.Option.{Option, some, none as nothing}
+use Rattle.std.specs.Prelude.{Option, Some as some, None as nothing}
 use mathlib.Core.List.{List}
 use native.Mathlib.Omega.{arith}
 use native.Mathlib.Numerals.{add-one}
@@ -22,9 +22,7 @@ use Rattle.rules.specs.Laws.Declaring.{proper, sort_of, sort_of_name}
 use Rattle.sexp.specs.Never.{never}
 use Rattle.sexp.specs.AtomText.{atom_text}
 use Rattle.sexp.specs.FoundLaws.{found_at, found_missing}
-use Rattle.sexp.specs.NameRows.{NameIn, found_of}
-use Rattle.sexp.specs.declared.names.Found.{Found}
-use Rattle.sexp.specs.declared.names.Found.TheVariants.{At, Missing}
+use Rattle.sexp.specs.NameRows.{NameIn}
 use Rattle.kernel.specs.declared.symbols.Spelling.{Spelling}
 use Rattle.kernel.specs.declared.symbols.Spelling.TheVariants.{Name as NameAt, Refused}
 
@@ -95,25 +93,25 @@ proper_missing x r a b = go (proper x) (sym b ∙ a)
     go (some n) e = never cc
 
 -- the answers of `sort`
-pub sort_unnamed : (ns : List Name) (x : Sexp) → proper x ≡ nothing → Missing ≡ found_of (sort_of ns x)
+pub sort_unnamed : (ns : List Name) (x : Sexp) → proper x ≡ nothing → nothing ≡ (sort_of ns x)
 unfolding sort_of sort_of_name
 sort_unnamed ns x e = rw e
 
-module _ (text : List ℕ) (ns : List Name) (x : Sexp) (s e : ℕ) (k : Proper text x s e) (r : Found)
-    (a : r ≡ found_of (first (λ n. same n.bytes (take (e - s) (drop s text))) ns 0)) where
+module _ (text : List ℕ) (ns : List Name) (x : Sexp) (s e : ℕ) (k : Proper text x s e) (r : Option ℕ)
+    (a : r ≡ (first (λ n. same n.bytes (take (e - s) (drop s text))) ns 0)) where
   sort_is : sort_of ns x ≡ next (first (λ n. same n.bytes (take (e - s) (drop s text))) ns 0)
   unfolding sort_of sort_of_name
   sort_is =
       ap (sort_of_name ns) k.is ∙ ap (λ l. first (λ (n : Name). same n.bytes l) ns 1) (sym k.part)
       ∙ first_next (λ (n : Name). same n.bytes (take (e - s) (drop s text))) ns 0
 
-  pub sort_found : (i : ℕ) → r ≡ At i → At (i + 1) ≡ found_of (sort_of ns x)
+  pub sort_found : (i : ℕ) → r ≡ some i → some (i + 1) ≡ (sort_of ns x)
   unfolding next
-  sort_found i b = ap At (add-one i) ∙ ap found_of (sym (sort_is ∙ ap next (found_at (first (λ (n : Name). same n.bytes (take (e - s) (drop s text))) ns 0) r i a b)))
+  sort_found i b = ap some (add-one i) ∙ (sym (sort_is ∙ ap next (found_at (first (λ (n : Name). same n.bytes (take (e - s) (drop s text))) ns 0) r i a b)))
 
-  pub sort_missing : r ≡ Missing → Missing ≡ found_of (sort_of ns x)
+  pub sort_missing : r ≡ nothing → nothing ≡ (sort_of ns x)
   unfolding next
-  sort_missing b = ap found_of (sym (sort_is ∙ ap next (found_missing (first (λ (n : Name). same n.bytes (take (e - s) (drop s text))) ns 0) r a b)))
+  sort_missing b = (sym (sort_is ∙ ap next (found_missing (first (λ (n : Name). same n.bytes (take (e - s) (drop s text))) ns 0) r a b)))
 
 -- the answers of `proper_at`
 module _ {text words : List ℕ} (k : ℕ) {r : Spelling} where

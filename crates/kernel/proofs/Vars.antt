@@ -2,7 +2,7 @@
 use mathlib.Core.Path.{◌≡◌, refl, sym, ap, ◌∙◌, subst}
 use Prim.Native.Nat.{ℕ, suc, ◌+◌, ◌-◌, ◌*◌, ◌<◌, ◌≤◌}
 use mathlib.Core.Bool.{true, false}
-use mathlib.Core.Option.{some, none as nothing}
+use Rattle.std.specs.Prelude.{Some as some, None as nothing, Option}
 use mathlib.Core.List.{List, [], ◌∷◌, ◌++◌}
 use native.Mathlib.Omega.{arith}
 use native.Mathlib.Numerals.{add-one}
@@ -21,12 +21,10 @@ use Rattle.rules.specs.TheoryTables.{name_cells, rows, var_row, filled}
 use Rattle.rules.specs.Laws.Row.{length_rows, row_cell, filled_fits}
 use Rattle.rules.specs.Declare.{Reading, no_rule_var, met_or_new}
 use Rattle.rules.specs.Laws.PatternSteps.{var_named, with_var, met_other, met_same, new_full, new_more}
-use Rattle.sexp.specs.NameRows.{NameAt, NameRows, found_of}
+use Rattle.sexp.specs.NameRows.{NameAt, NameRows}
 use Rattle.kernel.specs.Held.{Front, NameFits}
 use Rattle.kernel.specs.Reading.{VarsHeld, Meeting, Met}
 use Rattle.sexp.specs.AtomText.{Spans, spans_part}
-use Rattle.sexp.specs.declared.names.Found.{Found}
-use Rattle.sexp.specs.declared.names.Found.TheVariants.{At, Missing}
 use Rattle.sexp.specs.FoundLaws.{found_at, found_missing, found_inside, names_of, length_names, name_of, first_name}
 use Rattle.kernel.specs.RuleRows.{var_name, var_row_three}
 use Rattle.kernel.proofs.Holding.{front_row}
@@ -68,7 +66,7 @@ module _ {text table : List ℕ} {count : ℕ} {vs : List RuleVar} (h : VarsHeld
   var_sort_lem i l = var_cell i 0 (3 * i) (omega (arith, l, h.many)) (omega arith) (omega arith)
 
   -- the row of what is found is inside
-  pub var_inside : (name : List ℕ) (r : Found) (i : ℕ) → ((ns : List Name) → NameRows text table 3 1 count ns → r ≡ found_of (first (λ n. same n.bytes name) ns 0)) → r ≡ At i → i < count
+  pub var_inside : (name : List ℕ) (r : Option ℕ) (i : ℕ) → ((ns : List Name) → NameRows text table 3 1 count ns → r ≡ (first (λ n. same n.bytes name) ns 0)) → r ≡ some i → i < count
   var_inside name r i a b = omega (arith, found_inside name (names_of var_name vs) r i (a (names_of var_name vs) vars_rows) b, length_names var_name vs, h.many)
 
   pub var_place : (i : ℕ) → i < count → 3 * i < length table
@@ -123,13 +121,13 @@ var_fits {table = table} {sort = sort} {count = count} m l =
 
 -- The answers of `met_or_new` ------------------------------------------------------------------------------------------------------
 
-module _ (sort : ℕ) {text table : List ℕ} {count start end : ℕ} (R : Reading) (n : Name) (h : VarsHeld text table count R.vars) (k : Spans text n start end) (r : Found)
-    (a : (ns : List Name) → NameRows text table 3 1 count ns → r ≡ found_of (first (λ m. same m.bytes (take (end - start) (drop start text))) ns 0)) where
+module _ (sort : ℕ) {text table : List ℕ} {count start end : ℕ} (R : Reading) (n : Name) (h : VarsHeld text table count R.vars) (k : Spans text n start end) (r : Option ℕ)
+    (a : (ns : List Name) → NameRows text table 3 1 count ns → r ≡ (first (λ m. same m.bytes (take (end - start) (drop start text))) ns 0)) where
   found_so : var_named R.vars n.bytes ≡ first (λ m. same m.bytes (take (end - start) (drop start text))) (names_of var_name R.vars) 0
   found_so =
       ap (λ l. first (λ (v : RuleVar). same v.name.bytes l) R.vars 0) (sym (spans_part k)) ∙ first_name var_name R.vars (take (end - start) (drop start text)) 0
 
-  module _ (i : ℕ) (b : r ≡ At i) where
+  module _ (i : ℕ) (b : r ≡ some i) where
     so : met_or_new n sort (var_named R.vars n.bytes) R ≡ met_or_new n sort (some i) R
     so = ap (λ o. met_or_new n sort o R) (found_so ∙ found_at (first (λ (m : Name). same m.bytes (take (end - start) (drop start text))) (names_of var_name R.vars) 0) r i (a (names_of var_name R.vars) (vars_rows h)) b)
 
@@ -149,7 +147,7 @@ module _ (sort : ℕ) {text table : List ℕ} {count start end : ℕ} (R : Readi
     pub met_wrongly : eqb (get_or table (3 * i) 0) sort ≡ false → met_or_new n sort (var_named R.vars n.bytes) R ≡ refuse 12 0 R
     met_wrongly e = so ∙ met_other R n sort i (λ f. eqb-false (get_or table (3 * i) 0) sort e (var_sort_lem h i inside ∙ f))
 
-  module _ (b : r ≡ Missing) where
+  module _ (b : r ≡ nothing) where
     none_so : met_or_new n sort (var_named R.vars n.bytes) R ≡ met_or_new n sort nothing R
     none_so = ap (λ o. met_or_new n sort o R) (found_so ∙ found_missing (first (λ (m : Name). same m.bytes (take (end - start) (drop start text))) (names_of var_name R.vars) 0) r (a (names_of var_name R.vars) (vars_rows h)) b)
 

@@ -2,7 +2,7 @@
 use mathlib.Core.Path.{◌≡◌, refl, sym, ap, ◌∙◌, subst}
 use Prim.Native.Nat.{ℕ, suc, ◌+◌, ◌-◌, ◌*◌, ◌<◌, ◌≤◌}
 use mathlib.Core.Bool.{Bool, true, false}
-use mathlib.Core.Option.{some}
+use Rattle.std.specs.Prelude.{Some as some, None as nothing, Option}
 use mathlib.Core.List.{List, [], ◌∷◌, ◌++◌}
 use native.Mathlib.Omega.{arith}
 use native.Mathlib.Numerals.{add-one}
@@ -23,11 +23,8 @@ use Rattle.rules.specs.Declare.{Reading, word, met_or_new, variable, head, patte
 use Rattle.rules.specs.Laws.PatternSteps.{var_named, worded, word_full, word_more, variable_short, variable_asks, head_unknown, head_sort, head_count, head_asks, pattern_marked, pattern_atom}
 use Rattle.sexp.specs.AtomText.{name_from, atom_span}
 use Rattle.kernel.specs.Named.{called, of_kind, SymbolRows}
-use Rattle.sexp.specs.NameRows.{found_of}
 use Rattle.kernel.specs.Held.{SymbolsHeld}
 use Rattle.kernel.specs.Reading.{WordPut, Meeting, Met, MetRead, ReadSoFar, AtomReading, Written, Stopped, PatternRead, Head, HeadRead}
-use Rattle.sexp.specs.declared.names.Found.{Found}
-use Rattle.sexp.specs.declared.names.Found.TheVariants.{At, Missing}
 use Rattle.kernel.specs.declared.patterns.Reply.{Reply}
 use Rattle.kernel.specs.declared.patterns.Reply.TheVariants.{Ok, No}
 use Rattle.sexp.specs.FoundLaws.{found_at, found_missing}
@@ -106,13 +103,13 @@ module _ (text : List ℕ) (start end sort : ℕ) (e : end ≡ start + length (l
 -- The answers of `constructor` ---------------------------------------------------------------------------------------------------
 
 module _ (text : List ℕ) (start end sort arity : ℕ) (e : end ≡ start + length (letters (drop start text))) (l : start < length text) {symbols ins : List ℕ} {count : ℕ} (T : Theory) (R : Reading)
-    (h : SymbolsHeld text symbols ins count T.symbols) (r : Found)
-    (a : (ss : List Symbol) → SymbolRows text symbols count ss → r ≡ found_of (first (called false (take (end - start) (drop start text))) ss 0)) where
+    (h : SymbolsHeld text symbols ins count T.symbols) (r : Option ℕ)
+    (a : (ss : List Symbol) → SymbolRows text symbols count ss → r ≡ (first (called false (take (end - start) (drop start text))) ss 0)) where
   named_so : constructor_named T (letters (drop start text)) ≡ first (called false (take (end - start) (drop start text))) T.symbols 0
   unfolding constructor_named of_kind
   named_so = ap (λ z. first (called false z) T.symbols 0) (sym (atom_span text start end l e).part)
 
-  pub head_missing : {P : List ℕ} {used : ℕ} → r ≡ Missing → Stopped P P used (head T sort arity (letters (drop start text)) R) 11 0
+  pub head_missing : {P : List ℕ} {used : ℕ} → r ≡ nothing → Stopped P P used (head T sort arity (letters (drop start text)) R) 11 0
   head_missing b =
       record {
         now = R;
@@ -121,7 +118,7 @@ module _ (text : List ℕ) (start end sort arity : ℕ) (e : end ≡ start + len
         long = refl;
       }
 
-  module _ (c : ℕ) (b : r ≡ At c) where
+  module _ (c : ℕ) (b : r ≡ some c) where
     known_so : constructor_named T (letters (drop start text)) ≡ some c
     known_so = named_so ∙ found_at (first (called false (take (end - start) (drop start text))) T.symbols 0) r c (a T.symbols (symbols_rows h)) b
 
@@ -178,8 +175,8 @@ module _ (text : List ℕ) (start end sort arity : ℕ) (e : end ≡ start + len
             }
 
 -- a symbol's number is small, and its row inside
-pub head_row : {text symbols ins : List ℕ} {count : ℕ} {ss : List Symbol} (name : List ℕ) (b : Bool) (r : Found) (c : ℕ) → SymbolsHeld text symbols ins count ss →
-    ((ss : List Symbol) → SymbolRows text symbols count ss → r ≡ found_of (first (called b name) ss 0)) → r ≡ At c → (4 * c + 3 < length symbols) × (c < SYMBOLS)
+pub head_row : {text symbols ins : List ℕ} {count : ℕ} {ss : List Symbol} (name : List ℕ) (b : Bool) (r : Option ℕ) (c : ℕ) → SymbolsHeld text symbols ins count ss →
+    ((ss : List Symbol) → SymbolRows text symbols count ss → r ≡ (first (called b name) ss 0)) → r ≡ some c → (4 * c + 3 < length symbols) × (c < SYMBOLS)
 head_row {ss = ss} name b r c h a e =
     let f = first_some (called b name) ss 0 c no_symbol (found_at (first (called b name) ss 0) r c (a ss (symbols_rows h)) e) in
     (omega (arith, f.is, f.inside, h.many, symbols_few h, h.long), omega (arith, f.is, f.inside, h.many, symbols_few h))

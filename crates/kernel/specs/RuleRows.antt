@@ -1,6 +1,6 @@
 -- The tables of rules as rows: where each entry and its words stand, for the readers and for laws that speak of these tables. Assumes
 -- nothing.
-use Rattle.std.specs.Prelude.{◌≡◌, ℕ, zero, suc, ◌+◌, ◌-◌, ◌*◌, ◌<◌, ◌≤◌, take, drop, replicate}
+use Rattle.std.specs.Prelude.{◌≡◌, ℕ, zero, suc, ◌+◌, ◌-◌, ◌*◌, ◌<◌, ◌≤◌, take, drop, replicate, Option}
 use Rattle.std.proofs.Math.Path.{refl, sym, ap, subst}
 use Rattle.std.proofs.Common.{◌∙◌, get_or-append-add}
 use mathlib.Core.List.{List, [], ◌∷◌, ◌++◌}
@@ -19,11 +19,10 @@ use Rattle.rules.specs.Laws.Theory.{all_at}
 use Rattle.rules.specs.TheoryTables.{name_cells, rows, var_row, var_rows, rule_var_row, rule_row, rule_cells, pattern_row, pattern_cells}
 use Rattle.rules.specs.Laws.Row.{append_assoc, length_rows, row_cell, length_filled, filled_fits}
 use Rattle.sexp.specs.AtomText.{Spans}
-use Rattle.sexp.specs.NameRows.{NameAt, NameRows, SomeNames, found_of}
+use Rattle.sexp.specs.NameRows.{NameAt, NameRows, SomeNames}
 use Rattle.kernel.specs.HeldRules.{RulesHeld}
 use Rattle.kernel.specs.Readers.{KnownRule, KnownVar, NamedRules, NamedVars, words_before, WordsAt}
 use Rattle.sexp.specs.FoundLaws.{names_of, length_names, name_of, first_name, named_so}
-use Rattle.sexp.specs.declared.names.Found.{Found}
 
 -- The variables of a rule ------------------------------------------------------------------------------------------------------------
 
@@ -144,10 +143,10 @@ var_place {vars} {r} {i} k =
 
 -- the answers of the readers
 module _ (T : Theory) {text rules vars patterns : List ℕ} {count words : ℕ} (h : RulesHeld text rules vars patterns count words T.rules) where
-  pub rule_is : (name : List ℕ) (a : Found) → ((ns : List Name) → NameRows text rules 6 0 count ns → a ≡ found_of (first (λ n. same n.bytes name) ns 0)) →
-      a ≡ found_of (rule_named T name)
+  pub rule_is : (name : List ℕ) (a : Option ℕ) → ((ns : List Name) → NameRows text rules 6 0 count ns → a ≡ (first (λ n. same n.bytes name) ns 0)) →
+      a ≡ (rule_named T name)
   unfolding rule_named
-  rule_is name a e = e (names_of rule_name T.rules) (rules_rows h) ∙ ap found_of (sym (first_name rule_name T.rules name 0))
+  rule_is name a e = e (names_of rule_name T.rules) (rules_rows h) ∙ (sym (first_name rule_name T.rules name 0))
 
   module _ (r : ℕ) (l : r < count) where
     there : r < length T.rules
@@ -257,9 +256,9 @@ pub named_few : {text vars : List ℕ} {r many : ℕ} → NamedVars text vars r 
 named_few k = omega (arith, k.known, rules_few k.held.1)
 
 pub var_is : (T : Theory) {text rules vars patterns : List ℕ} {count words : ℕ} → RulesHeld text rules vars patterns count words T.rules →
-    (r : ℕ) → r < count → {many : ℕ} → many ≡ length (rule T r).vars → (name : List ℕ) (a : Found) →
-    ((ns : List Name) → NameRows text vars 3 (3 * RULEVARS * r + 1) many ns → a ≡ found_of (first (λ n. same n.bytes name) ns 0)) →
-    a ≡ found_of (first (λ v. same v.name.bytes name) (rule T r).vars 0)
+    (r : ℕ) → r < count → {many : ℕ} → many ≡ length (rule T r).vars → (name : List ℕ) (a : Option ℕ) →
+    ((ns : List Name) → NameRows text vars 3 (3 * RULEVARS * r + 1) many ns → a ≡ (first (λ n. same n.bytes name) ns 0)) →
+    a ≡ (first (λ v. same v.name.bytes name) (rule T r).vars 0)
 var_is T {text} {vars = vars} h r l {many} m name a e =
     named_so var_name (rule T r).vars name a e
     (subst (λ (n : ℕ). NameRows text vars 3 (3 * RULEVARS * r + 1) n (names_of var_name (rule T r).vars)) (sym m) (vars_rows T h r l))

@@ -1,6 +1,5 @@
 -- What the readers of names cite. Assumes nothing.
-use Rattle.std.specs.Prelude.{ℕ, ◌+◌, ◌<◌, List, length}
-use Rattle.std.proofs.Math.Option.{Option, some, none as nothing}
+use Rattle.std.specs.Prelude.{ℕ, ◌+◌, ◌<◌, List, length, Option, Some as some, None as nothing}
 use Rattle.rules.specs.Sexp.{Sexps, Name, count}
 use Rattle.sexp.specs.Items.{Holds}
 use Rattle.kernel.specs.declared.symbols.Spelling.{Spelling}

@@ -4,9 +4,8 @@ ghost use Rattle.rules.specs.Text.{same};
 ghost use Rattle.rules.specs.Find.{first};
 ghost use Rattle.rules.specs.Theory.{Symbol};
 ghost use Rattle.kernel.specs.Named.{SymbolAt, SomeSymbol, SymbolRows, SomeSymbols, kind_of, called};
-ghost use Rattle.sexp.specs.NameRows.{found_of};
 
-use sexp::names::{Found, same};
+use sexp::names::same;
 
 // Whether a symbol with that output is a predicate, or is none.
 fn is_kind(output: u32, predicate: bool) -> bool
@@ -40,17 +39,17 @@ pub fn symbol_named(
     count: usize,
     predicate: bool,
     name: &[u8],
-) -> Found
+) -> Option<usize>
     requires { SomeSymbols text.now symbols.now count }
     ensures { (ss : List Symbol) → SymbolRows text.now symbols.now count ss →
-        result ≡ found_of (first (called predicate name.now) ss 0) }
+        result ≡ first (called predicate name.now) ss 0 }
 {
     let mut i: usize = 0;
     while i < count {
         if is_symbol(text, symbols, i, predicate, name) {
-            return Found::At(i);
+            return Some(i);
         }
         i += 1;
     }
-    Found::Missing
+    None
 }

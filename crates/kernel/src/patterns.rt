@@ -14,7 +14,7 @@ use crate::atoms::{marked, put_name};
 use crate::names::symbol_named;
 use crate::readers::same_sort;
 use sexp::lex;
-use sexp::names::{Found, named};
+use sexp::names::named;
 
 // Two numbers of what is there now, or a refusal by number and detail.
 #[derive(Clone, Copy)]
@@ -49,14 +49,14 @@ fn met_or_new(
         MetRead text.now vars.new R (met_or_new n sort (var_named R.vars n.bytes) R) result }
 {
     match named(text, vars, 3, 1, count, &text[start..end]) {
-        Found::At(i) => {
+        Some(i) => {
             let had = vars[3 * i] as usize;
             if same_sort(had, sort) {
                 return Reply::Ok(i, count);
             }
             Reply::No(12, 0)
         }
-        Found::Missing => {
+        None => {
             if count >= rules::RULEVARS {
                 return Reply::No(60, 5);
             }
@@ -113,7 +113,7 @@ pub fn constructor(
         HeadRead patterns.old patterns.new used T R arity (head T sort arity (letters (drop start text.now)) R) result }
 {
     let end = lex::atom_end(text, start);
-    let Found::At(c) = symbol_named(text, symbols, count, false, &text[start..end]) else {
+    let Some(c) = symbol_named(text, symbols, count, false, &text[start..end]) else {
         return Reply::No(11, 0);
     };
     let at = 4 * c;

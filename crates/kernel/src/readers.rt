@@ -2,13 +2,12 @@
 // constructors of a sort one after the other, or how many.
 ghost use Rattle.std.specs.Prelude.{◌≡◌, ℕ, ◌<◌, List, eqb, length, get_or};
 ghost use Rattle.rules.specs.Theory.{Theory, inputs as inputs_of, output as output_of, constructors as constructors_of, sort_named, constructor_named, predicate_named};
-ghost use Rattle.sexp.specs.NameRows.{found_of};
 ghost use Rattle.kernel.specs.Held.{SortsHeld, SomeSorts, SymbolsHeld};
 ghost use Rattle.kernel.specs.Readers.{KnownSymbol, KnownInput, NamedSymbols, CountedSymbols};
 ghost use Rattle.kernel.specs.Listing.{next_constructor};
 
 use crate::names::symbol_named;
-use sexp::names::{Found, named};
+use sexp::names::named;
 
 // Whether two sorts are the same.
 pub fn same_sort(a: usize, b: usize) -> bool
@@ -45,48 +44,48 @@ pub fn input(inputs: &[u32], c: usize, k: usize) -> usize
 }
 
 // The sort with these bytes for a name; sorts are numbered from 1.
-pub fn sort_named(text: &[u8], sorts: &[u32], count: usize, name: &[u8]) -> Found
+pub fn sort_named(text: &[u8], sorts: &[u32], count: usize, name: &[u8]) -> Option<usize>
     requires { SomeSorts text.now sorts.now count }
-    ensures { (T : Theory) → SortsHeld text.now sorts.now count T.sorts → result ≡ found_of (sort_named T name.now) }
+    ensures { (T : Theory) → SortsHeld text.now sorts.now count T.sorts → result ≡ sort_named T name.now }
 {
-    let Found::At(i) = named(text, sorts, 2, 0, count, name) else {
-        return Found::Missing;
+    let Some(i) = named(text, sorts, 2, 0, count, name) else {
+        return None;
     };
-    Found::At(i + 1)
+    Some(i + 1)
 }
 
 // The constructor with these bytes for a name.
-pub fn constructor_named(text: &[u8], symbols: &[u32], count: usize, name: &[u8]) -> Found
+pub fn constructor_named(text: &[u8], symbols: &[u32], count: usize, name: &[u8]) -> Option<usize>
     requires { NamedSymbols text.now symbols.now count }
     ensures { (T : Theory) (inputs : List ℕ) → SymbolsHeld text.now symbols.now inputs count T.symbols →
-        result ≡ found_of (constructor_named T name.now) }
+        result ≡ constructor_named T name.now }
 {
     symbol_named(text, symbols, count, false, name)
 }
 
 // The predicate with these bytes for a name.
-pub fn predicate_named(text: &[u8], symbols: &[u32], count: usize, name: &[u8]) -> Found
+pub fn predicate_named(text: &[u8], symbols: &[u32], count: usize, name: &[u8]) -> Option<usize>
     requires { NamedSymbols text.now symbols.now count }
     ensures { (T : Theory) (inputs : List ℕ) → SymbolsHeld text.now symbols.now inputs count T.symbols →
-        result ≡ found_of (predicate_named T name.now) }
+        result ≡ predicate_named T name.now }
 {
     symbol_named(text, symbols, count, true, name)
 }
 
 // The first constructor of that sort whose number is `from` or greater.
-pub fn next_constructor(symbols: &[u32], count: usize, sort: usize, from: usize) -> Found
+pub fn next_constructor(symbols: &[u32], count: usize, sort: usize, from: usize) -> Option<usize>
     requires { CountedSymbols symbols.now count }
     ensures { (T : Theory) (text inputs : List ℕ) → SymbolsHeld text symbols.now inputs count T.symbols →
-        result ≡ found_of (next_constructor T sort from) }
+        result ≡ next_constructor T sort from }
 {
     let mut i = from;
     while i < count {
         if same_sort(output(symbols, i), sort) {
-            return Found::At(i);
+            return Some(i);
         }
         i += 1;
     }
-    Found::Missing
+    None
 }
 
 // How many constructors that sort has.
@@ -98,7 +97,7 @@ pub fn constructors(symbols: &[u32], count: usize, sort: usize) -> usize
     let mut n = 0;
     let mut from = 0;
     loop {
-        let Found::At(i) = next_constructor(symbols, count, sort, from) else {
+        let Some(i) = next_constructor(symbols, count, sort, from) else {
             return n;
         };
         n += 1;

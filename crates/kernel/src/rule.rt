@@ -17,7 +17,7 @@ use crate::terms::judgment;
 use rules::RULES;
 use sexp::items;
 use sexp::items::Item;
-use sexp::names::{Found, named};
+use sexp::names::named;
 
 // The words of the premises, then those of the conclusion, and the variables into an empty row.
 fn schema(
@@ -140,7 +140,7 @@ pub fn add_rule(
     let Spelling::Name(start, end) = proper_at(text, form, 1) else {
         return Reply::No(11, 0);
     };
-    let Found::Missing = named(text, rules, 6, 0, count, &text[start..end]) else {
+    let None = named(text, rules, 6, 0, count, &text[start..end]) else {
         return Reply::No(11, 0);
     };
     let premises = premise_count(form);

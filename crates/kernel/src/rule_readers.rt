@@ -7,7 +7,6 @@ ghost use Rattle.rules.specs.Find.{first};
 ghost use Rattle.rules.specs.Tree.{count_trees};
 ghost use Rattle.rules.specs.Theory.{Theory, rule, rule_named, head_is};
 ghost use Rattle.rules.specs.Declare.{no_rule_var};
-ghost use Rattle.sexp.specs.NameRows.{found_of};
 ghost use Rattle.sexp.specs.AtomText.{Spans};
 ghost use Rattle.kernel.specs.Held.{SymbolsHeld};
 ghost use Rattle.kernel.specs.HeldRules.{RulesHeld};
@@ -15,7 +14,7 @@ ghost use Rattle.kernel.specs.Readers.{KnownRule, KnownVar, NamedRules, NamedVar
 ghost use Rattle.kernel.specs.Listing.{next_rule};
 
 use crate::readers::arity;
-use sexp::names::{Found, named};
+use sexp::names::named;
 
 // A part of the words of patterns, or of the text: the first place, and the place behind the last.
 #[derive(Clone, Copy)]
@@ -25,10 +24,10 @@ pub struct Span {
 }
 
 // The rule with these bytes for a name.
-pub fn rule_named(text: &[u8], rules: &[u32], count: usize, name: &[u8]) -> Found
+pub fn rule_named(text: &[u8], rules: &[u32], count: usize, name: &[u8]) -> Option<usize>
     requires { NamedRules text.now rules.now count }
     ensures { (T : Theory) (vars patterns : List ℕ) (words : ℕ) → RulesHeld text.now rules.now vars patterns count words T.rules →
-        result ≡ found_of (rule_named T name.now) }
+        result ≡ rule_named T name.now }
 {
     named(text, rules, 6, 0, count, name)
 }
@@ -87,10 +86,10 @@ pub fn variable_sort(vars: &[u32], r: usize, i: usize) -> usize
 }
 
 // The variable of rule r with these bytes for a name; `count` is how many it has.
-pub fn rule_var_named(text: &[u8], vars: &[u32], r: usize, count: usize, name: &[u8]) -> Found
+pub fn rule_var_named(text: &[u8], vars: &[u32], r: usize, count: usize, name: &[u8]) -> Option<usize>
     requires { NamedVars text.now vars.now r count }
     ensures { (T : Theory) (rules patterns : List ℕ) (known words : ℕ) → RulesHeld text.now rules vars.now patterns known words T.rules →
-        r < known → count ≡ length (rule T r).vars → result ≡ found_of (first (λ v. same v.name.bytes name.now) (rule T r).vars 0) }
+        r < known → count ≡ length (rule T r).vars → result ≡ first (λ v. same v.name.bytes name.now) (rule T r).vars 0 }
 {
     named(text, vars, 3, 3 * rules::RULEVARS * r + 1, count, name)
 }
@@ -142,16 +141,16 @@ pub fn next_rule(
     count: usize,
     predicate: usize,
     from: usize,
-) -> Found
+) -> Option<usize>
     requires { SomeFormedRules symbols.now rules.now patterns.now count }
-    ensures { (T : Theory) → FormedRules symbols.now rules.now patterns.now count T → result ≡ found_of (next_rule T predicate from) }
+    ensures { (T : Theory) → FormedRules symbols.now rules.now patterns.now count T → result ≡ next_rule T predicate from }
 {
     let mut i = from;
     while i < count {
         if concludes(patterns, rules, symbols, i, predicate) {
-            return Found::At(i);
+            return Some(i);
         }
         i += 1;
     }
-    Found::Missing
+    None
 }

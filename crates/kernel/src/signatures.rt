@@ -15,7 +15,6 @@ use crate::names::symbol_named;
 use crate::symbols::{Added, Spelling, proper_at, sort};
 use sexp::items;
 use sexp::items::Item;
-use sexp::names::Found;
 
 // The sorts that the items name, into a row that has `count` of them.
 fn argument_sorts(
@@ -34,7 +33,7 @@ fn argument_sorts(
         return Added::Ok(count);
     }
     let item = items::item_at(cells, 0);
-    let Found::At(s) = sort(text, item, sorts, known) else {
+    let Some(s) = sort(text, item, sorts, known) else {
         return Added::No(11, 0);
     };
     if count >= rules::ARGUMENTS {
@@ -120,10 +119,10 @@ pub fn add_ctor(
         return r;
     };
     let result = items::nth(form, 3);
-    let Found::At(output) = sort(text, result, sorts, known) else {
+    let Some(output) = sort(text, result, sorts, known) else {
         return Added::No(11, 0);
     };
-    let Found::Missing = symbol_named(text, symbols, count, false, &text[start..end]) else {
+    let None = symbol_named(text, symbols, count, false, &text[start..end]) else {
         return Added::No(11, 0);
     };
     store(symbols, inputs, count, output, arity, start, end, &row)
@@ -154,7 +153,7 @@ pub fn add_pred(
     let Added::Ok(arity) = r else {
         return r;
     };
-    let Found::Missing = symbol_named(text, symbols, count, true, &text[start..end]) else {
+    let None = symbol_named(text, symbols, count, true, &text[start..end]) else {
         return Added::No(11, 0);
     };
     store(symbols, inputs, count, 0, arity, start, end, &row)

@@ -8,12 +8,12 @@ ghost use Rattle.sexp.specs.Items.{item_of, Holds};
 ghost use Rattle.rules.specs.Laws.Declaring.{proper, sort_of};
 ghost use Rattle.kernel.specs.Spelled.{Reaching, name_of};
 ghost use Rattle.sexp.specs.FirstItem.{SomeItem};
-ghost use Rattle.sexp.specs.NameRows.{NameRows, SomeNames, found_of};
+ghost use Rattle.sexp.specs.NameRows.{NameRows, SomeNames};
 ghost use Rattle.kernel.specs.Held.{Form, SortsHeld, SomeSorts, SortAdded};
 
 use crate::atoms::{marked, put_name};
 use sexp::items::Item;
-use sexp::names::{Found, named};
+use sexp::names::named;
 use sexp::{items, lex};
 
 #[derive(Clone, Copy)]
@@ -55,19 +55,19 @@ pub fn proper_at(text: &[u8], form: &[u32], number: usize) -> Spelling
 }
 
 // The number of the sort that an item names, from 1 on.
-pub fn sort(text: &[u8], item: Item, sorts: &[u32], count: usize) -> Found
+pub fn sort(text: &[u8], item: Item, sorts: &[u32], count: usize) -> Option<usize>
     requires some_item { SomeItem text.now item }
     requires some_names { SomeNames text.now sorts.now 2 0 count }
     ensures { (x : Sexp) (at : ℕ) → item ≡ item_of at x → Spelt text.now x →
-        (ns : List Name) → NameRows text.now sorts.now 2 0 count ns → result ≡ found_of (sort_of ns x) }
+        (ns : List Name) → NameRows text.now sorts.now 2 0 count ns → result ≡ sort_of ns x }
 {
     let Spelling::Name(start, end) = proper(text, item) else {
-        return Found::Missing;
+        return None;
     };
-    let Found::At(i) = named(text, sorts, 2, 0, count, &text[start..end]) else {
-        return Found::Missing;
+    let Some(i) = named(text, sorts, 2, 0, count, &text[start..end]) else {
+        return None;
     };
-    Found::At(i + 1)
+    Some(i + 1)
 }
 
 // `(sort NAME)`, given the items of the form; `count` sorts are there.
@@ -80,7 +80,7 @@ pub fn add_sort(text: &[u8], form: &[u32], sorts: &mut [u32], count: usize) -> A
     let Spelling::Name(start, end) = proper_at(text, form, 1) else {
         return Added::No(11, 0);
     };
-    let Found::Missing = named(text, sorts, 2, 0, count, &text[start..end]) else {
+    let None = named(text, sorts, 2, 0, count, &text[start..end]) else {
         return Added::No(11, 0);
     };
     if count >= rules::SORTS {

@@ -11,7 +11,6 @@ ghost use Rattle.kernel.specs.Reading.{ReadSoFar, PatternRead, OpenedRead, Openi
 use crate::names::symbol_named;
 use crate::patterns::{Reply, atomic, constructor, put_word};
 use sexp::items::Item;
-use sexp::names::Found;
 use sexp::{items, lex};
 
 // The constructor that a list of a term begins with, and its word; a list of one is refused before its name is looked up.
@@ -63,7 +62,7 @@ fn open_judgment(
         return Reply::No(11, 0);
     };
     let end = lex::atom_end(text, start);
-    let Found::At(p) = symbol_named(text, symbols, known, true, &text[start..end]) else {
+    let Some(p) = symbol_named(text, symbols, known, true, &text[start..end]) else {
         return Reply::No(11, 0);
     };
     let arity = symbols[4 * p + 1] as usize;

@@ -1,8 +1,7 @@
 -- Tests that compute for the premise of the theorems, and for what sets of rules must respect: the facts that a form names or cites, and the
 -- rule that it names, as lists. A run that passes is calm, or respects the sets; TheoremsHold has such runs. Assumes nothing.
-use Rattle.std.specs.Prelude.{ℕ, ◌≡◌, refl, Bool, true, false, ◌&&◌, List, [], ◌∷◌, ◌++◌, length}
+use Rattle.std.specs.Prelude.{ℕ, ◌≡◌, refl, Bool, true, false, ◌&&◌, List, [], ◌∷◌, ◌++◌, length, Option, Some as some, None as nothing}
 use Rattle.std.proofs.Common.{sym, subst, inl, inr}
-use Rattle.std.proofs.Math.Option.{Option, some, none as nothing}
 use Rattle.rules.specs.Out.{Out, ok, refuse}
 use Rattle.rules.specs.Text.{same}
 use Rattle.rules.specs.Sexp.{Sexp, Sexps, atom, list, nil, cons, count, item, Text, ends, fails, more}

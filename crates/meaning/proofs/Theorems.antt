@@ -18,9 +18,8 @@
 --     derivation_accepted, tree_accepted   (Writing) a written derivation is accepted, unless 2, 5 or 60 refuses it
 --     unify_general, unify_sorted          (Unification/Right) what unification finds is most general and well-sorted
 --     examples                             (Examples of `rules`) the worked examples hold
-use Rattle.std.specs.Prelude.{ℕ, ◌≡◌, refl, true, List}
+use Rattle.std.specs.Prelude.{ℕ, ◌≡◌, refl, true, List, Some as some, None as nothing}
 use Rattle.std.proofs.Common.{sym, ◌∙◌, subst, inl, inr}
-use Rattle.std.proofs.Math.Option.{some, none as nothing}
 use Rattle.rules.specs.Out.{ok}
 use Rattle.rules.specs.Sexp.{Sexps, Text}
 use Rattle.rules.specs.Find.{entry}

@@ -3,9 +3,8 @@
 -- though the goal `Bad first` is not derivable, so the premise of the theorems is needed; it does not hold of G, and the hypothesis that G
 -- names is not true itself. A run that is calm although rule hypotheses with premises stand in places that do not count. Example I:
 -- a unification that finds nothing. Assumes nothing.
-use Rattle.std.specs.Prelude.{ℕ, zero, suc, ◌≡◌, refl, ◌⊎◌, true, false, List, [], ◌∷◌, ◌++◌}
+use Rattle.std.specs.Prelude.{ℕ, zero, suc, ◌≡◌, refl, ◌⊎◌, true, false, List, [], ◌∷◌, ◌++◌, Some as some, None as nothing}
 use Rattle.std.proofs.Common.{arith, sym, ◌∙◌, ap, subst, inl, inr}
-use Rattle.std.proofs.Math.Option.{some, none as nothing}
 use Rattle.rules.specs.Out.{ok}
 use Rattle.rules.specs.Text.{bytes}
 use Rattle.rules.specs.Sexp.{Sexps, atom, list, nil, Text, ends, fails, more, read}

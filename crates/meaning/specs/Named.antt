@@ -1,8 +1,7 @@
 -- The premise of demand 3: which facts a form of the proof names by a reference or by a case, and that none of them is a rule hypothesis
 -- with premises. "The first place of `apply`, the context list of `invert` and ignored cases do not count as references or cases."
 -- Then what a `result` names. Definitions only.
-use Rattle.std.specs.Prelude.{ℕ, ◌≡◌, ◌⊎◌, true, List}
-use Rattle.std.proofs.Math.Option.{Option, some, none as nothing}
+use Rattle.std.specs.Prelude.{ℕ, ◌≡◌, ◌⊎◌, true, List, Option, Some as some, None as nothing}
 use Rattle.rules.specs.Text.{same}
 use Rattle.rules.specs.Sexp.{Sexp, Sexps, atom, list, nil, cons, count, item}
 use Rattle.rules.specs.Index.{index_of}

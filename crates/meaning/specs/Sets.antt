@@ -1,8 +1,7 @@
 -- Two sets of rules for each fact: those on which it rests, and those that it tolerates. What a choice of such sets must respect of every
 -- form: a fact rests on the rule that it names and on what the facts rest on that it cites, and tolerates what all of these tolerate.
 -- The theory's rules for both are one choice; footings are another. Definitions only.
-use Rattle.std.specs.Prelude.{ℕ, ◌≡◌, ◌⊎◌, length}
-use Rattle.std.proofs.Math.Option.{some}
+use Rattle.std.specs.Prelude.{ℕ, ◌≡◌, ◌⊎◌, length, Some as some}
 use Rattle.rules.specs.Sexp.{Sexp, Sexps, atom, list, count, item}
 use Rattle.rules.specs.Tags.{Tag, a_var, a_def, a_step, a_hyp, a_rule_hyp, an_induct, an_induct_with, an_apply, an_invert, a_result}
 use Rattle.rules.specs.Theory.{Theory, rule_named}

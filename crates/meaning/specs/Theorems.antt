@@ -1,7 +1,6 @@
 -- The words of what is claimed of the definition; the claims, proved, stand in proofs/Theorems. The other words are defined in Signature (ground
 -- terms), Derivation, Truth, Named (the premise, and what a result names), Sets, Runs (a list of forms gone through) and Inversions.
-use Rattle.std.specs.Prelude.{ℕ, ◌≡◌, ◌⊎◌, true}
-use Rattle.std.proofs.Math.Option.{some}
+use Rattle.std.specs.Prelude.{ℕ, ◌≡◌, ◌⊎◌, true, Some as some}
 use Rattle.rules.specs.Sexp.{Text}
 use Rattle.rules.specs.Find.{entry}
 use Rattle.rules.specs.Tree.{Tree, sub}

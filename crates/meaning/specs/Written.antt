@@ -4,8 +4,7 @@
 -- index and the conclusion; last comes the `result` with the root's index, and there is no other form."
 -- Here a step may also be the child of several others, or of none: AcceptedTree has how the nodes of any derivation are such steps, and
 -- Writing/Tree that only what is derivable is written.
-use Rattle.std.specs.Prelude.{ℕ, suc, ◌<◌, ◌≡◌, ◌⊎◌, Bool, true, false, ◌&&◌, List, [], ◌∷◌, ◌++◌, leb, length, get_or}
-use Rattle.std.proofs.Math.Option.{some}
+use Rattle.std.specs.Prelude.{ℕ, suc, ◌<◌, ◌≡◌, ◌⊎◌, Bool, true, false, ◌&&◌, List, [], ◌∷◌, ◌++◌, leb, length, get_or, Some as some}
 use Rattle.rules.specs.Limits.{DEPTH, TERMS, WORDS, FACTS}
 use Rattle.rules.specs.Text.{bytes, short, plain}
 use Rattle.rules.specs.Lex.{Token, opens, closes, word, between, tokens}

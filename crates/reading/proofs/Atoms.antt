@@ -1,6 +1,6 @@
 -- An item that is an atom, by its bytes: the index that it spells, the variable that it names. Assumes nothing.
 use mathlib.Core.Path.{◌≡◌, refl, sym, ap, ◌∙◌}
-use mathlib.Core.Option.{Option, some, none as nothing}
+use Rattle.std.specs.Prelude.{Option, Some as some, None as nothing}
 use mathlib.Core.List.{List}
 use Prim.Native.Nat.{ℕ, ◌+◌, ◌-◌, ◌<◌, ◌≤◌}
 use native.Mathlib.Omega.{arith}
@@ -13,16 +13,10 @@ use Rattle.sexp.specs.Never.{never}
 use Rattle.sexp.specs.Encode.{encode, encodes}
 use Rattle.sexp.specs.Items.{Holds, item_at}
 use Rattle.sexp.specs.ItemLaws.{some_cells}
-use Rattle.sexp.specs.Names.{spelling}
-use Rattle.sexp.specs.NameRows.{found_of}
 use Rattle.sexp.specs.AtomText.{AtomText, atom_part, atom_high}
 use Rattle.sexp.specs.FirstItem.{atom_first, list_first, cons_first}
 use Rattle.sexp.specs.declared.items.Item.{Item}
 use Rattle.sexp.specs.declared.items.Item.TheVariants.{Atom, List as Part}
-use Rattle.sexp.specs.declared.names.Found.{Found}
-use Rattle.sexp.specs.declared.names.Found.TheVariants.{At, Missing}
-use Rattle.sexp.specs.declared.names.Index.{Index}
-use Rattle.sexp.specs.declared.names.Index.TheVariants.{Number, Unreadable}
 use Rattle.reading.specs.Items.{FirstItem, index_in, variable_in}
 
 -- The first item --------------------------------------------------------------------------------------------------------------------
@@ -62,15 +56,15 @@ atom_bytes {text} {p = p} end a e = a.is ∙ ap (atom p) (sym (atom_part text p 
 
 -- An index --------------------------------------------------------------------------------------------------------------------------
 
-pub no_index : (x : Sexp) → ((xs : Sexps) × (x ≡ list xs)) → Missing ≡ found_of (index_in x)
+pub no_index : (x : Sexp) → ((xs : Sexps) × (x ≡ list xs)) → nothing ≡ (index_in x)
 unfolding index_in
-no_index x l = ap (λ y. found_of (index_in y)) (sym l.1)
+no_index x l = ap (λ y. (index_in y)) (sym l.1)
 
-spelt_number : (o : Option ℕ) (r : Index) (i : ℕ) → r ≡ spelling o → r ≡ Number i → At i ≡ found_of o
+spelt_number : (o : Option ℕ) (r : Option ℕ) (i : ℕ) → r ≡ o → r ≡ some i → some i ≡ o
 spelt_number nothing r i a b = never cc
-spelt_number (some k) r i a b = let q : i ≡ k = cc in ap At q
+spelt_number (some k) r i a b = let q : i ≡ k = cc in ap some q
 
-spelt_none : (o : Option ℕ) (r : Index) → r ≡ spelling o → r ≡ Unreadable → Missing ≡ found_of o
+spelt_none : (o : Option ℕ) (r : Option ℕ) → r ≡ o → r ≡ nothing → nothing ≡ o
 spelt_none nothing r a b = refl
 spelt_none (some k) r a b = never cc
 
@@ -79,18 +73,18 @@ module _ {text : List ℕ} {x : Sexp} {p : ℕ} (end : ℕ) (a : AtomText text x
   unfolding index_in
   index_of_bytes = ap index_in (sym (atom_bytes end a e))
 
-  pub index_number : {r : Index} {i : ℕ} → r ≡ spelling (index_of (take (end - p) (drop p text))) → r ≡ Number i → At i ≡ found_of (index_in x)
-  index_number {r} {i} s f = spelt_number (index_of (take (end - p) (drop p text))) r i s f ∙ ap found_of index_of_bytes
+  pub index_number : {r : Option ℕ} {i : ℕ} → r ≡ (index_of (take (end - p) (drop p text))) → r ≡ some i → some i ≡ (index_in x)
+  index_number {r} {i} s f = spelt_number (index_of (take (end - p) (drop p text))) r i s f ∙ index_of_bytes
 
-  pub index_none : {r : Index} → r ≡ spelling (index_of (take (end - p) (drop p text))) → r ≡ Unreadable → Missing ≡ found_of (index_in x)
-  index_none {r} s f = spelt_none (index_of (take (end - p) (drop p text))) r s f ∙ ap found_of index_of_bytes
+  pub index_none : {r : Option ℕ} → r ≡ (index_of (take (end - p) (drop p text))) → r ≡ nothing → nothing ≡ (index_in x)
+  index_none {r} s f = spelt_none (index_of (take (end - p) (drop p text))) r s f ∙ index_of_bytes
 
   -- A variable ----------------------------------------------------------------------------------------------------------------------
 
-  pub variable_named : {r : Found} (vs : List Var) → r ≡ found_of (var_named vs (take (end - p) (drop p text))) → r ≡ found_of (variable_in vs x)
+  pub variable_named : {r : Option ℕ} (vs : List Var) → r ≡ (var_named vs (take (end - p) (drop p text))) → r ≡ (variable_in vs x)
   unfolding variable_in
-  variable_named vs s = s ∙ ap (λ y. found_of (variable_in vs y)) (sym (atom_bytes end a e))
+  variable_named vs s = s ∙ ap (λ y. (variable_in vs y)) (sym (atom_bytes end a e))
 
-pub no_variable : (vs : List Var) (x : Sexp) → ((xs : Sexps) × (x ≡ list xs)) → Missing ≡ found_of (variable_in vs x)
+pub no_variable : (vs : List Var) (x : Sexp) → ((xs : Sexps) × (x ≡ list xs)) → nothing ≡ (variable_in vs x)
 unfolding variable_in
-no_variable vs x l = ap (λ y. found_of (variable_in vs y)) (sym l.1)
+no_variable vs x l = ap (λ y. (variable_in vs y)) (sym l.1)

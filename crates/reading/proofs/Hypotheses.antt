@@ -1,7 +1,7 @@
 -- The loop over a list of hypotheses: each an earlier fact that passes the test. Assumes nothing.
 use mathlib.Core.Path.{◌≡◌, refl, sym, ap, ◌∙◌, subst}
 use mathlib.Core.Bool.{Bool, true, false, not, true≢false, false≢true}
-use mathlib.Core.Option.{Option, some, none as nothing}
+use Rattle.std.specs.Prelude.{Option, Some as some, None as nothing}
 use mathlib.Core.List.{List, [], ◌∷◌, ◌++◌, append-nil, append_assoc}
 use Prim.Native.Nat.{ℕ, zero, suc, ◌-◌, ◌*◌, ◌<◌, ◌≤◌}
 use native.Mathlib.Omega.{arith}
@@ -23,10 +23,7 @@ use Rattle.rules.specs.Laws.Rising.{has_all}
 use Rattle.rules.specs.Laws.Members.{has_rising_all}
 use Rattle.sexp.specs.Items.{Holds, item_at, behind}
 use Rattle.sexp.specs.WalkLaws.{Walk, walk_start, walk_over, ListIs}
-use Rattle.sexp.specs.NameRows.{found_of}
 use Rattle.sexp.specs.FoundLaws.{found_at, found_missing}
-use Rattle.sexp.specs.declared.names.Found.{Found}
-use Rattle.sexp.specs.declared.names.Found.TheVariants.{At, Missing}
 use Rattle.terms.specs.Sets.{holds, plus}
 use Rattle.terms.specs.Laws.Sets.{holds_zero}
 use Rattle.state.specs.declared.sizes.Sizes.{Sizes}
@@ -114,8 +111,8 @@ hyping_start p S {xs} h e =
     }
 
 -- what `index` answers of the item at a place
-abbrev pub Spelled : List ℕ → List ℕ → ℕ → Found → Type 0
-Spelled text cells at r = (x : Sexp) (ys : Sexps) → Holds text (take (length cells - at) (drop at cells)) (cons x ys) → r ≡ found_of (index_in x)
+abbrev pub Spelled : List ℕ → List ℕ → ℕ → Option ℕ → Type 0
+Spelled text cells at r = (x : Sexp) (ys : Sexps) → Holds text (take (length cells - at) (drop at cells)) (cons x ys) → r ≡ (index_in x)
 
 module _ {p : Fact → Bool} {S : State} {xs : Sexps} {text cells set : List ℕ} {at : ℕ} (h : Hyping p S xs text cells set at) where
   -- nothing is left
@@ -144,13 +141,13 @@ module _ {p : Fact → Bool} {S : State} {xs : Sexps} {text cells set : List ℕ
         list_refuses p S xs M q
         (h.whole M ∙ then_refuse (hyp_each p S h.left M) q 0 M _ (ap (λ (z : Sexps). hyp_each p S z M) hyping_here.is ∙ e M))
 
-    module _ {r : Found} (w : Spelled text cells at r) where
-      pub hyping_none : r ≡ Missing → (M : Made) → hyp_list p S (list xs) M ≡ refuse 34 0 M
+    module _ {r : Option ℕ} (w : Spelled text cells at r) where
+      pub hyping_none : r ≡ nothing → (M : Made) → hyp_list p S (list xs) M ≡ refuse 34 0 M
       hyping_none e =
           let k = hyping_here in
           stops 34 (λ M. each_none p S k.x k.ys M (found_missing (index_in k.x) r (w k.x k.ys k.holds) e))
 
-      module _ {i : ℕ} (e : r ≡ At i) where
+      module _ {i : ℕ} (e : r ≡ some i) where
         is_index : index_in hyping_here.x ≡ some i
         is_index = let k = hyping_here in found_at (index_in k.x) r i (w k.x k.ys k.holds) e
 

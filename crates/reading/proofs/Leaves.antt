@@ -2,7 +2,7 @@
 -- Assumes nothing.
 use mathlib.Core.Path.{◌≡◌, refl, sym, ap, ◌∙◌, subst}
 use mathlib.Core.Bool.{Bool, true, false}
-use mathlib.Core.Option.{Option, some, none as nothing}
+use Rattle.std.specs.Prelude.{Option, Some as some, None as nothing}
 use mathlib.Core.List.{List, [], ◌∷◌, ◌++◌}
 use Prim.Native.Nat.{ℕ, ◌+◌, ◌-◌, ◌*◌, ◌<◌, ◌≤◌}
 use native.Mathlib.Omega.{arith}
@@ -22,10 +22,7 @@ use Rattle.rules.specs.Read.{named}
 use Rattle.rules.specs.TheoryTables.{filled, rows, name_cells, symbol_row, symbol_table}
 use Rattle.rules.specs.Laws.Row.{length_filled, length_rows, row_cell, append-nil}
 use Rattle.rules.specs.Laws.Store.{then_ok, then_refuse}
-use Rattle.sexp.specs.NameRows.{found_of}
 use Rattle.sexp.specs.FoundLaws.{found_at, found_missing, found_entry}
-use Rattle.sexp.specs.declared.names.Found.{Found}
-use Rattle.sexp.specs.declared.names.Found.TheVariants.{At, Missing}
 use Rattle.kernel.specs.Held.{SymbolsHeld}
 use Rattle.kernel.specs.Readers.{KnownSymbol}
 use Rattle.kernel.specs.SignatureRows.{symbols_few}
@@ -125,19 +122,19 @@ kept_typed {I} {W} {J} {X} {old} {new} {t} {K} {n} {sort} {expected} S s e f =
 
 -- Abbreviations -------------------------------------------------------------------------------------------------------------------------
 
-module _ (M : Made) (ds : List Def) (name : List ℕ) (r : Found) (d : DefFound M ds name r) where
-  def_found : {t : ℕ} → r ≡ At t → (abbreviated ds name ≡ some (get_or M t (var 0))) × (t < length M)
+module _ (M : Made) (ds : List Def) (name : List ℕ) (r : Option ℕ) (d : DefFound M ds name r) where
+  def_found : {t : ℕ} → r ≡ some t → (abbreviated ds name ≡ some (get_or M t (var 0))) × (t < length M)
   def_found e = subst (DefFound M ds name) e d
 
-  def_missing : r ≡ Missing → abbreviated ds name ≡ nothing
+  def_missing : r ≡ nothing → abbreviated ds name ≡ nothing
   def_missing e = subst (DefFound M ds name) e d
 
 module _ {text symbols vars defs : List ℕ} {n : Sizes} {I W : List ℕ} {m : Mark} (g : ReadsDefs text symbols vars defs n I W m)
-    (name : List ℕ) (r : Found) (d : DefFound (made I W m) g.S.defs name r) where
-  pub found_def : {t : ℕ} → r ≡ At t → (abbreviated g.S.defs name ≡ some (tree I W m t)) × (t < length (made I W m))
+    (name : List ℕ) (r : Option ℕ) (d : DefFound (made I W m) g.S.defs name r) where
+  pub found_def : {t : ℕ} → r ≡ some t → (abbreviated g.S.defs name ≡ some (tree I W m t)) × (t < length (made I W m))
   found_def e = def_found (made I W m) g.S.defs name r d e
 
-  abbrev pub def_known : {t : ℕ} → r ≡ At t → ReadsTerm symbols vars I W t
+  abbrev pub def_known : {t : ℕ} → r ≡ some t → ReadsTerm symbols vars I W t
   def_known e =
       record {
         S = g.S;
@@ -149,7 +146,7 @@ module _ {text symbols vars defs : List ℕ} {n : Sizes} {I W : List ℕ} {m : M
         there = omega (arith, (found_def e).1, made_length I W m);
       }
 
-  pub def_typed : {t sort expected : ℕ} {right : Bool} → r ≡ At t → sort ≡ sort_of g.S.theory g.S.vars (tree I W m t) → right ≡ eqb sort expected →
+  pub def_typed : {t sort expected : ℕ} {right : Bool} → r ≡ some t → sort ≡ sort_of g.S.theory g.S.vars (tree I W m t) → right ≡ eqb sort expected →
       TypedRead I W I W m g.S expected (found 22 (abbreviated g.S.defs name) (made I W m)) t right m
   def_typed {expected = expected} e s f =
       record {
@@ -160,7 +157,7 @@ module _ {text symbols vars defs : List ℕ} {n : Sizes} {I W : List ℕ} {m : M
         fits = f ∙ ap (λ k. eqb k expected) s;
       }
 
-  pub def_none : r ≡ Missing → Stopped I W I W m (found 22 (abbreviated g.S.defs name) (made I W m)) 22 0 m
+  pub def_none : r ≡ nothing → Stopped I W I W m (found 22 (abbreviated g.S.defs name) (made I W m)) 22 0 m
   def_none e = pure_stopped g.good (ap (λ (o : Option Tree). found 22 o (made I W m)) (def_missing (made I W m) g.S.defs name r d e))
 
 -- Names -----------------------------------------------------------------------------------------------------------------------------------
@@ -220,8 +217,8 @@ app_node n c l = record { narrow = omega arith; shaped = is_app {h = c} {xs = []
 module _ {theory goals text symbols vars : List ℕ} {n : Sizes} {I W : List ℕ} {m : Mark} (g : ReadsNames theory goals text symbols vars n I W m)
     (name : List ℕ) where
   -- The variable of that name
-  module _ {r : Found} (a : r ≡ found_of (var_named g.S.vars name)) where
-    module _ (v : ℕ) (e : r ≡ At v) where
+  module _ {r : Option ℕ} (a : r ≡ (var_named g.S.vars name)) where
+    module _ (v : ℕ) (e : r ≡ some v) where
       pub var_small : v < VARIABLES
       unfolding var_named
       var_small = omega (arith, (found_entry _ g.S.vars no_var r v a e).inside, g.vars_are.stand.many, g.vars_are.stand.few)
@@ -246,14 +243,14 @@ module _ {theory goals text symbols vars : List ℕ} {n : Sizes} {I W : List ℕ
           subst (λ (K : Out Made Tree). TypedAs I W J X m g.S sort K q) (sym (named_var g.S name (made I W m) v (found_at _ r v a e))) t
 
     -- The constructor of that name
-    module _ (e : r ≡ Missing) {k : Found} (b : k ≡ found_of (constructor_named g.S.theory name)) where
+    module _ (e : r ≡ nothing) {k : Option ℕ} (b : k ≡ (constructor_named g.S.theory name)) where
       no_var_lem : var_named g.S.vars name ≡ nothing
       no_var_lem = found_missing _ r a e
 
-      pub name_unknown : k ≡ Missing → Stopped I W I W m (named g.S name (made I W m)) 22 0 m
+      pub name_unknown : k ≡ nothing → Stopped I W I W m (named g.S name (made I W m)) 22 0 m
       name_unknown f = pure_stopped g.good (named_unknown g.S name (made I W m) no_var_lem (found_missing _ k b f))
 
-      module _ (c : ℕ) (f : k ≡ At c) where
+      module _ (c : ℕ) (f : k ≡ some c) where
         constant_there : c < n.symbols
         unfolding constructor_named
         constant_there = omega (arith, (found_entry _ g.S.theory.symbols no_symbol k c b f).inside, g.held.many)

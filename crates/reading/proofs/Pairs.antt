@@ -1,6 +1,6 @@
 -- One binding, `(VAR TERM)`: what the item is for each answer, and what its parts are given. Assumes nothing.
 use mathlib.Core.Path.{◌≡◌, sym, ap, ◌∙◌, subst}
-use mathlib.Core.Option.{some}
+use Rattle.std.specs.Prelude.{Some as some, None as nothing, Option}
 use mathlib.Core.List.{List}
 use Prim.Native.Nat.{ℕ, ◌-◌, ◌*◌, ◌<◌, ◌≤◌}
 use native.Mathlib.Omega.{arith}
@@ -20,13 +20,10 @@ use Rattle.sexp.specs.Encode.{encodes}
 use Rattle.sexp.specs.Items.{Holds, item_at, behind}
 use Rattle.sexp.specs.ItemLaws.{at_inside}
 use Rattle.sexp.specs.WalkLaws.{Walk, ListIs, walk_start, walk_atom, walk_list, walk_rest}
-use Rattle.sexp.specs.NameRows.{found_of}
 use Rattle.sexp.specs.FoundLaws.{found_at, found_missing}
 use Rattle.sexp.specs.Never.{never}
 use Rattle.sexp.specs.declared.items.Item.{Item}
 use Rattle.sexp.specs.declared.items.Item.TheVariants.{Atom, List as Part}
-use Rattle.sexp.specs.declared.names.Found.{Found}
-use Rattle.sexp.specs.declared.names.Found.TheVariants as found
 use Rattle.terms.specs.declared.store.Mark.{Mark}
 use Rattle.terms.specs.Table.{made}
 use Rattle.terms.specs.On.{On, Stopped, on_start, on_is, on_ok, on_no, on_pure, on_stop, on_done, on_ask_no, on_found_some, on_found_none}
@@ -116,15 +113,15 @@ module _ {K : Names} {n : Sizes} {I W : List ℕ} {m : Mark} {cells : List ℕ} 
     on_two =
         on_is (on_start g.reads.good) (ap (λ (z : Sexp). binding g.S z (made I W m)) p.is ∙ binding_two_is g.S p.first p.second (made I W m))
 
-    module _ {r : Found} (h : (vs : List Var) (x : Sexp) (ys : Sexps) → VarsHeld K.goals K.text K.vars n.vars vs →
-        Holds K.text (take (b - a) (drop a cells)) (cons x ys) → r ≡ found_of (variable_in vs x)) where
-      answer : r ≡ found_of (variable_in g.S.vars p.first)
+    module _ {r : Option ℕ} (h : (vs : List Var) (x : Sexp) (ys : Sexps) → VarsHeld K.goals K.text K.vars n.vars vs →
+        Holds K.text (take (b - a) (drop a cells)) (cons x ys) → r ≡ (variable_in vs x)) where
+      answer : r ≡ (variable_in g.S.vars p.first)
       answer = h g.S.vars p.first (cons p.second nil) g.reads.spelling.vars p.holds
 
-      pub binding_unnamed : r ≡ found.Missing → Stopped I W I W m (binding g.S g.x (made I W m)) 36 0 m
+      pub binding_unnamed : r ≡ nothing → Stopped I W I W m (binding g.S g.x (made I W m)) 36 0 m
       binding_unnamed e = on_found_none _ 36 on_two (found_missing (variable_in g.S.vars p.first) r answer e)
 
-      module _ {v : ℕ} (e : r ≡ found.At v) where
+      module _ {v : ℕ} (e : r ≡ some v) where
         is_found : variable_in g.S.vars p.first ≡ some v
         is_found = found_at (variable_in g.S.vars p.first) r v answer e
 

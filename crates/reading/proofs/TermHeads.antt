@@ -1,7 +1,7 @@
 -- The symbol that a list begins with: what the definition makes of the items, from what was found of the first. Assumes nothing.
 use mathlib.Core.Path.{◌≡◌, refl, ap, ◌∙◌}
 use mathlib.Core.Bool.{Bool}
-use mathlib.Core.Option.{Option, some, none as nothing}
+use Rattle.std.specs.Prelude.{Option, Some as some, None as nothing}
 use mathlib.Core.List.{List}
 use Prim.Native.Nat.{ℕ, ◌+◌, ◌-◌, ◌≤◌, ◌<◌}
 use native.Mathlib.Omega.{arith}
@@ -22,11 +22,8 @@ use Rattle.sexp.specs.Items.{item_at}
 use Rattle.sexp.specs.AtomText.{atom_part}
 use Rattle.sexp.specs.FirstItem.{AtomFirst, atom_first, list_first, none_left, first_item, first_count}
 use Rattle.sexp.specs.FoundLaws.{found_at, found_missing}
-use Rattle.sexp.specs.NameRows.{found_of}
 use Rattle.sexp.specs.declared.items.Item.{Item}
 use Rattle.sexp.specs.declared.items.Item.TheVariants.{Atom, List as Part}
-use Rattle.sexp.specs.declared.names.Found.{Found}
-use Rattle.sexp.specs.declared.names.Found.TheVariants.{At, Missing}
 use Rattle.kernel.specs.Held.{SymbolsHeld}
 use Rattle.kernel.specs.Readers.{NamedSymbols}
 use Rattle.reading.specs.Heads.{Opens, Opened, finish}
@@ -159,15 +156,15 @@ module _ {theory text symbols : List ℕ} {known : ℕ} {cells : List ℕ} (g : 
         name_is = atom_part text p end head.inside d
 
         -- a constructor's name
-        module _ {q : Found} (a : (T : Theory) (ins : List ℕ) → SymbolsHeld theory symbols ins known T.symbols →
-            q ≡ found_of (constructor_named T (take (end - p) (drop p text)))) where
-          constructor_so : q ≡ found_of (constructor_named g.S.theory (letters (drop p text)))
-          constructor_so = a g.S.theory g.ins g.held ∙ ap (λ (bs : List ℕ). found_of (constructor_named g.S.theory bs)) name_is
+        module _ {q : Option ℕ} (a : (T : Theory) (ins : List ℕ) → SymbolsHeld theory symbols ins known T.symbols →
+            q ≡ (constructor_named T (take (end - p) (drop p text)))) where
+          constructor_so : q ≡ (constructor_named g.S.theory (letters (drop p text)))
+          constructor_so = a g.S.theory g.ins g.held ∙ ap (λ (bs : List ℕ). (constructor_named g.S.theory bs)) name_is
 
-          pub compound_missing : q ≡ Missing → (M : Made) → compound g.S g.xs M ≡ refuse 22 0 M
+          pub compound_missing : q ≡ nothing → (M : Made) → compound g.S g.xs M ≡ refuse 22 0 M
           compound_missing w M = compound_unknown g.S M g.xs head.is (found_missing _ q constructor_so w)
 
-          module _ {c : ℕ} (w : q ≡ At c) where
+          module _ {c : ℕ} (w : q ≡ some c) where
             pub compound_single : length cells ≡ 1 → (M : Made) → compound g.S g.xs M ≡ refuse 23 0 M
             compound_single o M = compound_alone g.S M g.xs head.is (found_at _ q _ constructor_so w) (alone head o)
 
@@ -182,15 +179,15 @@ module _ {theory text symbols : List ℕ} {known : ℕ} {cells : List ℕ} (g : 
                 }
 
         -- a predicate's
-        module _ {q : Found} (a : (T : Theory) (ins : List ℕ) → SymbolsHeld theory symbols ins known T.symbols →
-            q ≡ found_of (predicate_named T (take (end - p) (drop p text)))) where
-          predicate_so : q ≡ found_of (predicate_named g.S.theory (letters (drop p text)))
-          predicate_so = a g.S.theory g.ins g.held ∙ ap (λ (bs : List ℕ). found_of (predicate_named g.S.theory bs)) name_is
+        module _ {q : Option ℕ} (a : (T : Theory) (ins : List ℕ) → SymbolsHeld theory symbols ins known T.symbols →
+            q ≡ (predicate_named T (take (end - p) (drop p text)))) where
+          predicate_so : q ≡ (predicate_named g.S.theory (letters (drop p text)))
+          predicate_so = a g.S.theory g.ins g.held ∙ ap (λ (bs : List ℕ). (predicate_named g.S.theory bs)) name_is
 
-          pub judgment_missing : q ≡ Missing → (M : Made) → judgment g.S (list g.xs) M ≡ refuse 22 0 M
+          pub judgment_missing : q ≡ nothing → (M : Made) → judgment g.S (list g.xs) M ≡ refuse 22 0 M
           judgment_missing w M = judgment_unknown g.S M g.xs head.is (found_missing _ q predicate_so w)
 
-          pub judgment_opened : {c : ℕ} → q ≡ At c → Opened text cells known g.S (judgment g.S (list g.xs)) c
+          pub judgment_opened : {c : ℕ} → q ≡ some c → Opened text cells known g.S (judgment g.S (list g.xs)) c
           judgment_opened {c} w =
               record {
                 others = head.others;

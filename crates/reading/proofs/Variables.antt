@@ -1,7 +1,7 @@
 -- The loop over a list of variables, each given once. Assumes nothing.
 use mathlib.Core.Path.{◌≡◌, refl, sym, ap, ◌∙◌, subst}
 use mathlib.Core.Bool.{Bool, true, false}
-use mathlib.Core.Option.{some, none as nothing}
+use Rattle.std.specs.Prelude.{Some as some, None as nothing, Option}
 use mathlib.Core.List.{List, [], ◌∷◌, ◌++◌}
 use Prim.Native.Nat.{ℕ, ◌+◌, ◌-◌, ◌<◌, ◌≤◌}
 use native.Mathlib.Omega.{arith}
@@ -13,10 +13,7 @@ use Rattle.rules.specs.State.{Var}
 use Rattle.rules.specs.TheoryTables.{filled}
 use Rattle.sexp.specs.Items.{Holds, item_at, behind}
 use Rattle.sexp.specs.WalkLaws.{Walk, walk_start, walk_over, ListIs}
-use Rattle.sexp.specs.NameRows.{found_of}
 use Rattle.sexp.specs.FoundLaws.{found_at, found_missing}
-use Rattle.sexp.specs.declared.names.Found.{Found}
-use Rattle.sexp.specs.declared.names.Found.TheVariants.{At, Missing}
 use Rattle.terms.specs.Sets.{holds, plus}
 use Rattle.terms.specs.Laws.Sets.{holds_zero}
 use Rattle.state.specs.Held.{VarsHeld}
@@ -60,8 +57,8 @@ varing_start vs {xs} h o s =
     }
 
 -- what `variable` answers of the item at a place
-abbrev pub Named : List Var → List ℕ → List ℕ → ℕ → Found → Type 0
-Named vs text cells at r = (x : Sexp) (ys : Sexps) → Holds text (take (length cells - at) (drop at cells)) (cons x ys) → r ≡ found_of (variable_in vs x)
+abbrev pub Named : List Var → List ℕ → List ℕ → ℕ → Option ℕ → Type 0
+Named vs text cells at r = (x : Sexp) (ys : Sexps) → Holds text (take (length cells - at) (drop at cells)) (cons x ys) → r ≡ (variable_in vs x)
 
 module _ {vs : List Var} {xs : Sexps} {text cells out seen : List ℕ} {k at : ℕ} (h : Varing vs xs text cells out seen k at) where
   -- nothing is left
@@ -87,13 +84,13 @@ module _ {vs : List Var} {xs : Sexps} {text cells out seen : List ℕ} {k at : �
     whole_here : vars_in vs (list xs) ≡ others_in vs (cons varing_here.x varing_here.ys) h.us
     whole_here = h.whole ∙ ap (λ (z : Sexps). others_in vs z h.us) varing_here.is
 
-    module _ {r : Found} (w : Named vs text cells at r) where
-      pub varing_none : r ≡ Missing → vars_in vs (list xs) ≡ nothing
+    module _ {r : Option ℕ} (w : Named vs text cells at r) where
+      pub varing_none : r ≡ nothing → vars_in vs (list xs) ≡ nothing
       varing_none e =
           let y = varing_here in
           whole_here ∙ others_none vs y.x y.ys h.us (found_missing (variable_in vs y.x) r (w y.x y.ys y.holds) e)
 
-      module _ {v : ℕ} (e : r ≡ At v) where
+      module _ {v : ℕ} (e : r ≡ some v) where
         is_variable : variable_in vs varing_here.x ≡ some v
         is_variable = let y = varing_here in found_at (variable_in vs y.x) r v (w y.x y.ys y.holds) e
 
@@ -138,9 +135,9 @@ module _ {goals text vars cells : List ℕ} {count : ℕ} (g : VarsItems goals t
   pub vars_few : length g.S.vars ≤ VARIABLES
   vars_few = let s = g.vars_are.stand in omega (arith, s.many, s.few)
 
-  pub named : (at : ℕ) {r : Found} →
+  pub named : (at : ℕ) {r : Option ℕ} →
       ((vs : List Var) (x : Sexp) (ys : Sexps) → VarsHeld goals text vars count vs → Holds text (take (length cells - at) (drop at cells)) (cons x ys) →
-      r ≡ found_of (variable_in vs x)) → Named g.S.vars text cells at r
+      r ≡ (variable_in vs x)) → Named g.S.vars text cells at r
   named at f x ys h = f g.S.vars x ys g.vars_are h
 
 -- A list among items -----------------------------------------------------------------------------------------------------------------------
@@ -149,7 +146,7 @@ module _ {goals text vars cells : List ℕ} {count : ℕ} (g : VarsItem goals te
   pub items_inside : VarsItems goals text vars count (take (b - a) (drop a cells))
   items_inside = record { S = g.S; xs = l.items; vars_are = g.vars_are; holds = l.holds }
 
-  pub vars_inside : (before out : List ℕ) (r : Found) →
+  pub vars_inside : (before out : List ℕ) (r : Option ℕ) →
       ((k : VarsItems goals text vars count (take (b - a) (drop a cells))) → VarsAs k.S.vars (list k.xs) before out r) →
       VarsAs g.S.vars g.x before out r
   unfolding items_inside

@@ -1,6 +1,5 @@
 -- What the functions of this crate answer, beside what the definition answers: K. Assumes nothing.
-use Rattle.std.specs.Prelude.{◌≡◌, Bool, true, false, List, ℕ, ◌+◌, ◌<◌, eqb, length, take}
-use Rattle.std.proofs.Math.Option.{some, none as nothing}
+use Rattle.std.specs.Prelude.{◌≡◌, Bool, true, false, List, ℕ, ◌+◌, ◌<◌, eqb, length, take, Some as some, None as nothing, Option}
 use Rattle.rules.specs.Limits.{VARIABLES}
 use Rattle.rules.specs.Out.{Out, ok, refuse}
 use Rattle.rules.specs.Find.{has}
@@ -13,8 +12,6 @@ use Rattle.rules.specs.State.{State, Var, Fact, sort_of, fit, is_plain}
 use Rattle.rules.specs.Reference.{hyp_list}
 use Rattle.rules.specs.TheoryTables.{filled}
 use Rattle.rules.specs.StateTables.{numbers}
-use Rattle.sexp.specs.declared.names.Found.{Found}
-use Rattle.sexp.specs.declared.names.Found.TheVariants.{At, Missing}
 use Rattle.terms.specs.declared.store.Mark.{Mark}
 use Rattle.terms.specs.Table.{made, tree, tree_at, Node}
 use Rattle.terms.specs.Sets.{holds}
@@ -85,9 +82,9 @@ pub record VarsRead (vs : List Var) (x : Sexp) (cells : List ℕ) (many : ℕ) :
   pub count : many ≡ length vars
   pub cells_are : cells ≡ filled VARIABLES vars
 
-abbrev pub VarsAs : List Var → Sexp → List ℕ → List ℕ → Found → Type 0
-VarsAs vs x before cells (At many) = VarsRead vs x cells many
-VarsAs vs x before cells Missing = (vars_in vs x ≡ nothing) × (cells ≡ before)
+abbrev pub VarsAs : List Var → Sexp → List ℕ → List ℕ → Option ℕ → Type 0
+VarsAs vs x before cells (some many) = VarsRead vs x cells many
+VarsAs vs x before cells nothing = (vars_in vs x ≡ nothing) × (cells ≡ before)
 
 -- the test of a list of hypotheses: plain ones, or any
 unfoldable pub tests : Bool → Fact → Bool

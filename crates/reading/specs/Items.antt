@@ -1,6 +1,5 @@
 -- What one item spells, whatever the question: an index, a variable, a list of variables; the definition's actions answer just this. Assumes nothing.
-use Rattle.std.specs.Prelude.{◌≡◌, refl, true, false, List, [], ◌∷◌, ◌++◌, ℕ}
-use Rattle.std.proofs.Math.Option.{Option, some, none as nothing}
+use Rattle.std.specs.Prelude.{◌≡◌, refl, true, false, List, [], ◌∷◌, ◌++◌, ℕ, Option, Some as some, None as nothing}
 use Rattle.rules.specs.Out.{then, found}
 use Rattle.rules.specs.Sexp.{Sexp, Sexps, atom, list, nil, cons, name}
 use Rattle.rules.specs.Index.{index_of}

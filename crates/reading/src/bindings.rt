@@ -12,7 +12,6 @@ use crate::term::{Out, term_of};
 use cells::clear;
 use sexp::items;
 use sexp::items::Item;
-use sexp::names::Found;
 use state::sizes::Sizes;
 use state::vars::var_sort;
 use terms::store::Mark;
@@ -57,7 +56,7 @@ fn binding(
     if items::count(inner) != 2 {
         return Pair::No(36, 0, mark);
     }
-    let Found::At(v) = variable(goals, text, vars, n.vars, inner) else {
+    let Some(v) = variable(goals, text, vars, n.vars, inner) else {
         return Pair::No(36, 0, mark);
     };
     let next = items::after(inner, 0);

@@ -11,7 +11,6 @@ use crate::names::index;
 use cells::clear_words;
 use sexp::items;
 use sexp::items::Item;
-use sexp::names::Found;
 use state::facts::{is_assumed, is_fact, is_plain};
 use state::sizes::Sizes;
 use terms::sets::insert;
@@ -49,7 +48,7 @@ fn hyp_each(
 {
     let mut at = 0;
     while at < cells.len() {
-        let Found::At(i) = index(text, &cells[at..]) else {
+        let Some(i) = index(text, &cells[at..]) else {
             clear_words(set);
             return Listed::No(34);
         };

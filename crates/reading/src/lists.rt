@@ -14,7 +14,6 @@ use cells::clear;
 use rules::VARIABLEWORDS;
 use sexp::items;
 use sexp::items::Item;
-use sexp::names::Found;
 use state::sizes::Sizes;
 use terms::sets::{has, insert};
 use terms::store::Mark;
@@ -27,7 +26,7 @@ fn vars_each(
     count: usize,
     cells: &[u32],
     out: &mut [u32],
-) -> Found
+) -> Option<usize>
     requires { VarsItems goals.now text.now vars.now count cells.now × (out.old ≡ replicate VARIABLES 0) }
     ensures { (g : VarsItems goals.now text.now vars.now count cells.now) →
         VarsAs g.S.vars (list g.xs) out.old out.new result }
@@ -36,20 +35,20 @@ fn vars_each(
     let mut k = 0;
     let mut at = 0;
     while at < cells.len() {
-        let Found::At(v) = variable(goals, text, vars, count, &cells[at..]) else {
+        let Some(v) = variable(goals, text, vars, count, &cells[at..]) else {
             clear(out);
-            return Found::Missing;
+            return None;
         };
         if has(&seen, v) {
             clear(out);
-            return Found::Missing;
+            return None;
         }
         insert(&mut seen, v);
         out[k] = v as u32;
         k += 1;
         at = items::after(cells, at);
     }
-    Found::At(k)
+    Some(k)
 }
 
 // The variables that the first item lists come into the cells, which are zero before; what is answered is how many they are.
@@ -60,13 +59,13 @@ pub fn vars_list(
     count: usize,
     cells: &[u32],
     out: &mut [u32],
-) -> Found
+) -> Option<usize>
     requires { VarsItem goals.now text.now vars.now count cells.now × (out.old ≡ replicate VARIABLES 0) }
     ensures { (g : VarsItem goals.now text.now vars.now count cells.now) →
         VarsAs g.S.vars g.x out.old out.new result }
 {
     let Item::List(a, b) = items::item_at(cells, 0) else {
-        return Found::Missing;
+        return None;
     };
     vars_each(goals, text, vars, count, &cells[a..b], out)
 }

@@ -3,39 +3,38 @@ ghost use Rattle.std.specs.Prelude.{◌≡◌, List};
 ghost use Rattle.rules.specs.Sexp.{Sexp, Sexps, cons};
 ghost use Rattle.rules.specs.State.{Var};
 ghost use Rattle.sexp.specs.Items.{Holds};
-ghost use Rattle.sexp.specs.NameRows.{found_of};
 ghost use Rattle.state.specs.Held.{VarsHeld};
 ghost use Rattle.state.specs.Rows.{SomeVars};
 ghost use Rattle.reading.specs.Items.{FirstItem, index_in, variable_in};
 
 use sexp::items::Item;
-use sexp::names::{Found, Index, index_of};
+use sexp::names::index_of;
 use sexp::{items, lex};
 use state::vars::var_named;
 
 // The index that the first item spells.
-pub fn index(text: &[u8], cells: &[u32]) -> Found
+pub fn index(text: &[u8], cells: &[u32]) -> Option<usize>
     requires { FirstItem text.now cells.now }
-    ensures { (x : Sexp) (ys : Sexps) → Holds text.now cells.now (cons x ys) → result ≡ found_of (index_in x) }
+    ensures { (x : Sexp) (ys : Sexps) → Holds text.now cells.now (cons x ys) → result ≡ index_in x }
 {
     let Item::Atom(start) = items::item_at(cells, 0) else {
-        return Found::Missing;
+        return None;
     };
     let end = lex::atom_end(text, start);
     match index_of(&text[start..end]) {
-        Index::Number(i) => Found::At(i),
-        Index::Unreadable => Found::Missing,
+        Some(i) => Some(i),
+        None => None,
     }
 }
 
 // The variable that the first item names.
-pub fn variable(goals: &[u8], text: &[u8], vars: &[u32], count: usize, cells: &[u32]) -> Found
+pub fn variable(goals: &[u8], text: &[u8], vars: &[u32], count: usize, cells: &[u32]) -> Option<usize>
     requires { FirstItem text.now cells.now × SomeVars goals.now text.now vars.now count }
     ensures { (vs : List Var) (x : Sexp) (ys : Sexps) → VarsHeld goals.now text.now vars.now count vs →
-        Holds text.now cells.now (cons x ys) → result ≡ found_of (variable_in vs x) }
+        Holds text.now cells.now (cons x ys) → result ≡ variable_in vs x }
 {
     let Item::Atom(start) = items::item_at(cells, 0) else {
-        return Found::Missing;
+        return None;
     };
     let end = lex::atom_end(text, start);
     var_named(goals, text, vars, count, &text[start..end])

@@ -18,7 +18,6 @@ use kernel::atoms::marked;
 use kernel::readers::{arity, constructor_named, output, predicate_named, same_sort};
 use rules::{NODE, SYMBOLS};
 use sexp::items::Item;
-use sexp::names::Found;
 use sexp::{items, lex};
 use state::defs::def_named;
 use state::sizes::Sizes;
@@ -95,7 +94,7 @@ fn abbreviation(
     ensures { (g : ReadsDefs text.now symbols.now vars.now defs.now n index.now words.now mark) →
         TypedAs index.now words.now index.now words.now mark g.S sort (found 22 (abbreviated g.S.defs name.now) (made index.now words.now mark)) result }
 {
-    let Found::At(t) = def_named(text, defs, n.defs, name) else {
+    let Some(t) = def_named(text, defs, n.defs, name) else {
         return Typed::No(22, 0, mark);
     };
     Typed::Term(
@@ -125,12 +124,12 @@ fn named(
 {
     let mut node = [0u32; 1];
     match var_named(goals, text, vars, n.vars, name) {
-        Found::At(v) => {
+        Some(v) => {
             node[0] = (SYMBOLS + v) as u32;
             keep_typed(index, words, mark, &node, var_sort(vars, v), sort)
         }
-        Found::Missing => {
-            let Found::At(c) = constructor_named(theory, symbols, n.symbols, name) else {
+        None => {
+            let Some(c) = constructor_named(theory, symbols, n.symbols, name) else {
                 return Typed::No(22, 0, mark);
             };
             if arity(symbols, c) != 0 {
@@ -233,7 +232,7 @@ fn constructor_first(
         return Opening::No(22);
     };
     let end = lex::atom_end(text, start);
-    let Found::At(c) = constructor_named(theory, symbols, count, &text[start..end]) else {
+    let Some(c) = constructor_named(theory, symbols, count, &text[start..end]) else {
         return Opening::No(22);
     };
     if cells.len() == 1 {
@@ -261,7 +260,7 @@ fn predicate_first(
         return Opening::No(22);
     };
     let end = lex::atom_end(text, start);
-    let Found::At(p) = predicate_named(theory, symbols, count, &text[start..end]) else {
+    let Some(p) = predicate_named(theory, symbols, count, &text[start..end]) else {
         return Opening::No(22);
     };
     Opening::Symbol(p)

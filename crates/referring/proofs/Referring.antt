@@ -1,7 +1,7 @@
 -- A reference, bare or with bindings: what the item is for each answer, and what its parts are given. Assumes nothing.
 use mathlib.Core.Path.{◌≡◌, refl, sym, ap, ◌∙◌, subst}
 use mathlib.Core.Bool.{true, false}
-use mathlib.Core.Option.{Option, some, none as nothing}
+use Rattle.std.specs.Prelude.{Option, Some as some, None as nothing}
 use mathlib.Core.List.{List, [], ◌∷◌}
 use Prim.Native.Nat.{ℕ, ◌-◌, ◌*◌, ◌<◌, ◌≤◌}
 use native.Mathlib.Omega.{arith}
@@ -19,12 +19,9 @@ use Rattle.sexp.specs.Items.{Holds, item_at, behind}
 use Rattle.sexp.specs.ItemLaws.{at_inside}
 use Rattle.sexp.specs.WalkLaws.{ListIs, walk_start, walk_atom, walk_list}
 use Rattle.sexp.specs.FirstItem.{ItemFirst, none_left, first_of, first_item, holds_first}
-use Rattle.sexp.specs.NameRows.{found_of}
 use Rattle.sexp.specs.FoundLaws.{found_at, found_missing}
 use Rattle.sexp.specs.declared.items.Item.{Item}
 use Rattle.sexp.specs.declared.items.Item.TheVariants.{Atom, List as Part}
-use Rattle.sexp.specs.declared.names.Found.{Found}
-use Rattle.sexp.specs.declared.names.Found.TheVariants.{At, Missing}
 use Rattle.terms.specs.declared.store.Mark.{Mark}
 use Rattle.terms.specs.declared.store.Kept.{Kept}
 use Rattle.terms.specs.declared.store.Kept.TheVariants.{Term, Full}
@@ -88,17 +85,17 @@ empty_not (x ∷ xs) e = refl
 -- A fact by its number ---------------------------------------------------------------------------------------------------------------------
 
 module _ {text facts : List ℕ} {n : Sizes} {m : Mark} {cells : List ℕ} (g : BareItem text facts n m cells) where
-  module _ (p : ℕ) (bs : List ℕ) (x : g.x ≡ atom p bs) {r : Found} (a : (x : Sexp) (ys : Sexps) → Holds text cells (cons x ys) → r ≡ found_of (index_in x)) where
-    bare_answer : r ≡ found_of (index_in (atom p bs))
-    bare_answer = a g.x g.ys g.holds ∙ ap (λ (z : Sexp). found_of (index_in z)) x
+  module _ (p : ℕ) (bs : List ℕ) (x : g.x ≡ atom p bs) {r : Option ℕ} (a : (x : Sexp) (ys : Sexps) → Holds text cells (cons x ys) → r ≡ (index_in x)) where
+    bare_answer : r ≡ (index_in (atom p bs))
+    bare_answer = a g.x g.ys g.holds ∙ ap (λ (z : Sexp). (index_in z)) x
 
-    pub bare_missing : r ≡ Missing → Stopped g.index g.words g.index g.words m (reference g.S g.x (made g.index g.words m)) 34 0 m
+    pub bare_missing : r ≡ nothing → Stopped g.index g.words g.index g.words m (reference g.S g.x (made g.index g.words m)) 34 0 m
     unfolding reference
     bare_missing e =
         subst (λ (z : Sexp). Stopped g.index g.words g.index g.words m (reference g.S z (made g.index g.words m)) 34 0 m) (sym x)
         (on_stop _ (on_start g.good) (index_not 34 (atom p bs) (made g.index g.words m) (found_missing (index_in (atom p bs)) r bare_answer e)))
 
-    module _ {i : ℕ} (e : r ≡ At i) where
+    module _ {i : ℕ} (e : r ≡ some i) where
       bare_index : index 34 (atom p bs) (made g.index g.words m) ≡ ok i (made g.index g.words m)
       bare_index = index_is 34 (atom p bs) i (made g.index g.words m) (found_at (index_in (atom p bs)) r i bare_answer e)
 
@@ -180,17 +177,17 @@ module _ {K : Names} {facts : List ℕ} {n : Sizes} {I W : List ℕ} {m : Mark} 
       abbrev pub rest_given : ReadsItems K n I W m (take (length cells - next) (drop next cells))
       rest_given = record { S = g.S; xs = rest g.xs 1; reads = g.refers.reads; holds = rest_holds }
 
-    module _ {r : Found} (a : (x : Sexp) (ys : Sexps) → Holds K.text cells (cons x ys) → r ≡ found_of (index_in x)) where
-      instance_answer : r ≡ found_of (index_in (item g.xs 0))
+    module _ {r : Option ℕ} (a : (x : Sexp) (ys : Sexps) → Holds K.text cells (cons x ys) → r ≡ (index_in x)) where
+      instance_answer : r ≡ (index_in (item g.xs 0))
       unfolding item
       instance_answer =
           let f = first_item (item_at cells 0) g.holds l refl in
-          a f.x f.ys (holds_first f g.holds) ∙ ap (λ (zs : Sexps). found_of (index_in (item zs 0))) (sym f.is)
+          a f.x f.ys (holds_first f g.holds) ∙ ap (λ (zs : Sexps). (index_in (item zs 0))) (sym f.is)
 
-      pub instance_missing : r ≡ Missing → Stopped I W I W m (instance g.S g.xs (made I W m)) 34 0 m
+      pub instance_missing : r ≡ nothing → Stopped I W I W m (instance g.S g.xs (made I W m)) 34 0 m
       instance_missing e = instance_unread (found_missing (index_in (item g.xs 0)) r instance_answer e)
 
-      module _ {i : ℕ} (e : r ≡ At i) where
+      module _ {i : ℕ} (e : r ≡ some i) where
         instance_index : index 34 (item g.xs 0) (made I W m) ≡ ok i (made I W m)
         instance_index = index_is 34 (item g.xs 0) i (made I W m) (found_at (index_in (item g.xs 0)) r i instance_answer e)
 

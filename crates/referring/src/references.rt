@@ -15,7 +15,6 @@ use reading::bindings::{Bound, bindings};
 use reading::names::index as index_in;
 use sexp::items;
 use sexp::items::Item;
-use sexp::names::Found;
 use state::facts::{hyps as hyps_of, is_fact, join_footing, judgment};
 use state::sizes::Sizes;
 use terms::sets::insert;
@@ -36,7 +35,7 @@ fn bare(text: &[u8], facts: &[u32], n: Sizes, mark: Mark, cells: &[u32]) -> Refe
     ensures { (g : BareItem text.now facts.now n mark cells.now) → (p : ℕ) (bs : List ℕ) → g.x ≡ atom p bs →
         ReferredAs g.index g.words g.index g.words mark g.S (reference g.S g.x (made g.index g.words mark)) result }
 {
-    let Found::At(i) = index_in(text, cells) else {
+    let Some(i) = index_in(text, cells) else {
         return Referred::No(34, 0, mark);
     };
     if !is_fact(n, i) {
@@ -72,7 +71,7 @@ fn instance(
     if cells.len() == 0 {
         return Referred::No(34, 0, mark);
     }
-    let Found::At(i) = index_in(text, cells) else {
+    let Some(i) = index_in(text, cells) else {
         return Referred::No(34, 0, mark);
     };
     if !is_fact(n, i) {

@@ -1,7 +1,6 @@
 -- `(apply N M (BINDING...) (REF...))`: fact M as a rule. An assumed M binds its generalised variables and has its premises; of another M the
 -- hypotheses, all plain, are the premises, by rising index. Assumes nothing.
-use Rattle.std.specs.Prelude.{ℕ, Bool, true, false, ◌||◌, List, [], ◌∷◌, eqb, length}
-use Rattle.std.proofs.Math.Option.{some, none as nothing}
+use Rattle.std.specs.Prelude.{ℕ, Bool, true, false, ◌||◌, List, [], ◌∷◌, eqb, length, Some as some, None as nothing}
 use Rattle.rules.specs.Out.{Act, ◌>>=◌, pure, ask}
 use Rattle.rules.specs.Sexp.{Sexps, nil, cons, count, item, items}
 use Rattle.rules.specs.Find.{Set, entry, all, has, union, rising}

@@ -1,6 +1,5 @@
 -- The declarations of a theory: questions 10, 11 and 12, and rows 1 to 6 of question 60 as each thing is stored. Assumes nothing.
-use Rattle.std.specs.Prelude.{ℕ, suc, Bool, true, false, ◌&&◌, not, List, [], ◌∷◌, ◌++◌, eqb, leb, ltb, length, get_or}
-use Rattle.std.proofs.Math.Option.{Option, some, none as nothing}
+use Rattle.std.specs.Prelude.{ℕ, suc, Bool, true, false, ◌&&◌, not, List, [], ◌∷◌, ◌++◌, eqb, leb, ltb, length, get_or, Option, Some as some, None as nothing}
 use Rattle.rules.specs.Limits.{SORTS, SYMBOLS, ARGUMENTS, RULES, RULEVARS, PATTERNS}
 use Rattle.rules.specs.Out.{then, Act, ◌>>=◌, pure, stop, ask, room, found, get, put, beside}
 use Rattle.rules.specs.Text.{same}

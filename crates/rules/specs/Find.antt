@@ -1,6 +1,5 @@
 -- Looking things up in lists, and sets of numbers. Assumes nothing.
-use Rattle.std.specs.Prelude.{ℕ, zero, suc, Bool, true, false, ◌&&◌, ◌||◌, not, List, [], ◌∷◌, eqb}
-use Rattle.std.proofs.Math.Option.{Option, some, none as nothing}
+use Rattle.std.specs.Prelude.{ℕ, zero, suc, Bool, true, false, ◌&&◌, ◌||◌, not, List, [], ◌∷◌, eqb, Option, Some as some, None as nothing}
 
 -- the number of the first entry that passes the test, where the list's first entry has number k
 unfoldable pub first : {A : Type 0} → (A → Bool) → List A → ℕ → Option ℕ

@@ -1,7 +1,6 @@
 -- The forms of goals and proof, each as an action on the state: `var`, `def`, `goal`, `hyp` and `result` here, the others by the files before.
 -- A form stores at its end, when every question was put. Assumes nothing.
-use Rattle.std.specs.Prelude.{ℕ, ◌+◌, Bool, true, false, ◌&&◌, not, List, [], ◌∷◌, ◌++◌, eqb, leb, ltb, length}
-use Rattle.std.proofs.Math.Option.{Option, some, none as nothing}
+use Rattle.std.specs.Prelude.{ℕ, ◌+◌, Bool, true, false, ◌&&◌, not, List, [], ◌∷◌, ◌++◌, eqb, leb, ltb, length, Option, Some as some, None as nothing}
 use Rattle.rules.specs.Limits.{VARIABLES, DEFS, GOALS, FACTS, ENTRIES}
 use Rattle.rules.specs.Out.{ok, refuse, Act, ◌>>=◌, ask, room, found, get, put}
 use Rattle.rules.specs.Sexp.{Sexp, Sexps, count, item, name, items, marked}

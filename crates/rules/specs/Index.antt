@@ -1,6 +1,5 @@
 -- An index as Rust's `usize` reads one: a `+` or none, then digits, at least one, of a value below 2 ^ 64. Assumes nothing.
-use Rattle.std.specs.Prelude.{ℕ, ◌+◌, ◌-◌, ◌*◌, ◌^◌, ◌≡◌, refl, Bool, true, false, ◌&&◌, List, [], ◌∷◌, leb, ltb, eqb}
-use Rattle.std.proofs.Math.Option.{Option, some, none as nothing}
+use Rattle.std.specs.Prelude.{ℕ, ◌+◌, ◌-◌, ◌*◌, ◌^◌, ◌≡◌, refl, Bool, true, false, ◌&&◌, List, [], ◌∷◌, leb, ltb, eqb, Option, Some as some, None as nothing}
 use Rattle.rules.specs.Text.{bytes}
 
 unfoldable pub digit : ℕ → Bool

@@ -1,7 +1,6 @@
 -- `(induct N X (HYP...) JUDGMENT (CASE...))`, HYPs or none: structural induction on the variable X. One case a constructor of its sort, in
 -- order: `(INDEX VAR...)`, a fact that concludes the judgment at the constructor over the case's variables. Assumes nothing.
-use Rattle.std.specs.Prelude.{ℕ, suc, Bool, true, false, ◌&&◌, ◌||◌, not, List, [], ◌∷◌, ◌++◌, eqb, length}
-use Rattle.std.proofs.Math.Option.{Option, some, none as nothing}
+use Rattle.std.specs.Prelude.{ℕ, suc, Bool, true, false, ◌&&◌, ◌||◌, not, List, [], ◌∷◌, ◌++◌, eqb, length, Option, Some as some, None as nothing}
 use Rattle.rules.specs.Out.{Act, ◌>>=◌, pure, ask}
 use Rattle.rules.specs.Sexp.{Sexp, Sexps, nil, cons, count, item, rest, items}
 use Rattle.rules.specs.Find.{Set, entry, any, all, has, union}

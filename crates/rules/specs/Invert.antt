@@ -1,8 +1,7 @@
 -- `(invert N K (HYP...) JUDGMENT (CASE...))`: the plain hypothesis K was derived by some rule of its predicate. For each rule whose conclusion
 -- unifies with K there is a case `(RULE INDEX (VAR...))`, a fact that concludes the judgment under the unifier, the rule renamed to the case's
 -- variables. Cases that name no rule of the predicate are read and ignored. Assumes nothing.
-use Rattle.std.specs.Prelude.{ℕ, zero, suc, Bool, true, false, ◌&&◌, ◌||◌, not, List, [], ◌∷◌, ◌++◌, eqb, ltb, length, get_or}
-use Rattle.std.proofs.Math.Option.{Option, some, none as nothing}
+use Rattle.std.specs.Prelude.{ℕ, zero, suc, Bool, true, false, ◌&&◌, ◌||◌, not, List, [], ◌∷◌, ◌++◌, eqb, ltb, length, get_or, Option, Some as some, None as nothing}
 use Rattle.rules.specs.Limits.{VARIABLES}
 use Rattle.rules.specs.Text.{same}
 use Rattle.rules.specs.Out.{Act, ◌>>=◌, pure, stop, ask, room}

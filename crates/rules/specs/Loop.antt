@@ -1,7 +1,6 @@
 -- Going through a text form by form: the state before the first refused form, the forms before it and the refusal, or the state behind
 -- the last. Assumes nothing.
-use Rattle.std.specs.Prelude.{ℕ, suc}
-use Rattle.std.proofs.Math.Option.{Option, some, none as nothing}
+use Rattle.std.specs.Prelude.{ℕ, suc, Option, Some as some, None as nothing}
 use Rattle.rules.specs.Out.{ok, refuse, Act}
 use Rattle.rules.specs.Sexp.{Sexp, atom, list, Text, ends, fails, more}
 

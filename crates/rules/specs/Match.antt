@@ -1,6 +1,5 @@
 -- Matching a rule's pattern with a tree, and building a tree from a pattern. Assumes nothing.
-use Rattle.std.specs.Prelude.{ℕ, true, false, eqb}
-use Rattle.std.proofs.Math.Option.{Option, some, none as nothing}
+use Rattle.std.specs.Prelude.{ℕ, true, false, eqb, Option, Some as some, None as nothing}
 use Rattle.rules.specs.Out.{Act, ◌>>=◌, pure, found}
 use Rattle.rules.specs.Tree.{Tree, Trees, var, app, none, more, same_tree}
 use Rattle.rules.specs.Store.{Made, keep, storing}

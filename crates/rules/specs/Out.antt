@@ -1,8 +1,7 @@
 -- An answer or a refusal, and how questions follow each other: what stands behind a refusal is not looked at.
 -- An action goes from a state to its answer and the new state. A refusal has the state of the moment too, so that it can be said what was made
 -- until then; what the tables hold after a refused form, the state before it, is `through`'s rule (Loop). Assumes nothing.
-use Rattle.std.specs.Prelude.{ℕ, Bool, true, false}
-use Rattle.std.proofs.Math.Option.{Option, some, none as nothing}
+use Rattle.std.specs.Prelude.{ℕ, Bool, true, false, Option, Some as some, None as nothing}
 
 -- a refusal has its number and its detail
 pub data Out (S A : Type 0) : Type 0 where

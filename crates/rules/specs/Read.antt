@@ -1,7 +1,6 @@
 -- Reading terms, judgments, variables and indices of goals and proof: questions 22 and 23, and the number of whoever asks. What is read is
 -- made on the way, each argument before the term. Assumes nothing.
-use Rattle.std.specs.Prelude.{ℕ, true, false, not, List, [], ◌∷◌, ◌++◌, eqb, leb}
-use Rattle.std.proofs.Math.Option.{some, none as nothing}
+use Rattle.std.specs.Prelude.{ℕ, true, false, not, List, [], ◌∷◌, ◌++◌, eqb, leb, Some as some, None as nothing}
 use Rattle.rules.specs.Out.{then, Act, ◌>>=◌, pure, stop, ask, found}
 use Rattle.rules.specs.Sexp.{Sexp, Sexps, atom, list, nil, cons, count, item, rest, name, items, marked, reading}
 use Rattle.rules.specs.Index.{index_of, indexing}

@@ -1,6 +1,5 @@
 -- Naming facts: by index, or as an instance with bindings; lists of hypotheses; and question 39. Assumes nothing.
-use Rattle.std.specs.Prelude.{ℕ, zero, suc, Bool, not, List, [], ◌∷◌, eqb, length}
-use Rattle.std.proofs.Math.Option.{Option, some, none as nothing}
+use Rattle.std.specs.Prelude.{ℕ, zero, suc, Bool, not, List, [], ◌∷◌, eqb, length, Option, Some as some, None as nothing}
 use Rattle.rules.specs.Out.{refuse, Act, ◌>>=◌, pure, ask, found}
 use Rattle.rules.specs.Sexp.{Sexp, Sexps, atom, list, nil, cons, count, item, rest, items}
 use Rattle.rules.specs.Find.{Set, entry, any, has, union, minus, rising, least}

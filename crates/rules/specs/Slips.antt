@@ -1,8 +1,7 @@
 -- The slips that a checker of such proofs is prone to, those that 01 names among them: for each a proof, or a theory, that the slip would take
 -- and that 01 refuses, and a unification that it would do otherwise. Rows has more, clause by clause. Assumes nothing.
-use Rattle.std.specs.Prelude.{ℕ, ◌≡◌, refl, List, [], ◌∷◌, ◌++◌}
+use Rattle.std.specs.Prelude.{ℕ, ◌≡◌, refl, List, [], ◌∷◌, ◌++◌, Some as some}
 use Prim.Native.String.{String}
-use Rattle.std.proofs.Math.Option.{some}
 use Rattle.rules.specs.Text.{bytes}
 use Rattle.rules.specs.Out.{ok}
 use Rattle.rules.specs.Tree.{Tree, var, app, none, more}

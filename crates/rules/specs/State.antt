@@ -1,6 +1,5 @@
 -- What a check has so far: the theory, variables, made trees, abbreviations, goals and facts, and the running counts. Assumes nothing.
-use Rattle.std.specs.Prelude.{ℕ, ◌+◌, Bool, true, false, ◌&&◌, ◌||◌, List, [], ◌∷◌, eqb, length, get_or}
-use Rattle.std.proofs.Math.Option.{Option, some, none as nothing}
+use Rattle.std.specs.Prelude.{ℕ, ◌+◌, Bool, true, false, ◌&&◌, ◌||◌, List, [], ◌∷◌, eqb, length, get_or, Option, Some as some, None as nothing}
 use Rattle.rules.specs.Text.{same}
 use Rattle.rules.specs.Sexp.{Name}
 use Rattle.rules.specs.Find.{Set, first, entry, has, union, minus}

@@ -1,7 +1,6 @@
 -- `(step N RULE (REF...) ITEM...)`: an instance of a rule, from earlier facts. An item is a binding of a rule variable, or the conclusion.
 -- Assumes nothing.
-use Rattle.std.specs.Prelude.{ℕ, ◌+◌, true, false, ◌&&◌, List, [], ◌∷◌, eqb, length, get_or}
-use Rattle.std.proofs.Math.Option.{Option, some, none as nothing}
+use Rattle.std.specs.Prelude.{ℕ, ◌+◌, true, false, ◌&&◌, List, [], ◌∷◌, eqb, length, get_or, Option, Some as some, None as nothing}
 use Rattle.rules.specs.Text.{same}
 use Rattle.rules.specs.Out.{Act, ◌>>=◌, pure, ask, found}
 use Rattle.rules.specs.Sexp.{Sexp, Sexps, nil, cons, count, item, rest, name, items, marked}

@@ -1,7 +1,6 @@
 -- The tags of forms: by the name that a form begins with and its number of items, the name counted. One table each for the theory, the
 -- goals and the proof; a proof's form whose tag has a place for it has the index of its fact there. Assumes nothing.
-use Rattle.std.specs.Prelude.{ℕ, ◌≡◌, refl, Bool, true, false, ◌&&◌, List, [], ◌∷◌, leb}
-use Rattle.std.proofs.Math.Option.{Option, some, none as nothing}
+use Rattle.std.specs.Prelude.{ℕ, ◌≡◌, refl, Bool, true, false, ◌&&◌, List, [], ◌∷◌, leb, Option, Some as some, None as nothing}
 use Rattle.rules.specs.Text.{bytes, same, texts}
 
 -- a proof's forms

@@ -1,7 +1,6 @@
 -- A theory, and the questions put to it. Sorts are numbered from 1 in order of declaration; 0 stands where a judgment does and a term
 -- of some sort could. Symbols (constructors and predicates together) and rules are numbered from 0. Assumes nothing.
-use Rattle.std.specs.Prelude.{ℕ, ◌+◌, Bool, false, ◌&&◌, not, List, [], ◌∷◌, eqb, get_or}
-use Rattle.std.proofs.Math.Option.{Option}
+use Rattle.std.specs.Prelude.{ℕ, ◌+◌, Bool, false, ◌&&◌, not, List, [], ◌∷◌, eqb, get_or, Option}
 use Rattle.rules.specs.Text.{same}
 use Rattle.rules.specs.Find.{first, every, finding}
 use Rattle.rules.specs.Tree.{Tree, Trees, var, app, none, size, sizes, treeing}

@@ -2,8 +2,7 @@
 -- put there is taken first; a replacement found is applied to those before it at once, by rising variable. Row 14 of question 60 bounds
 -- the pairs. Two numbers of steps bound the recursion; that they suffice, so that `nothing` means that no replacement exists, is proved
 -- of the definition. Assumes nothing.
-use Rattle.std.specs.Prelude.{ℕ, zero, suc, ◌+◌, true, false, List, [], ◌∷◌, eqb, leb, ltb, length}
-use Rattle.std.proofs.Math.Option.{Option, some, none as nothing}
+use Rattle.std.specs.Prelude.{ℕ, zero, suc, ◌+◌, true, false, List, [], ◌∷◌, eqb, leb, ltb, length, Option, Some as some, None as nothing}
 use Rattle.rules.specs.Limits.{PAIRS}
 use Rattle.rules.specs.Out.{Act, ◌>>=◌, pure, room}
 use Rattle.rules.specs.Tree.{Tree, Trees, var, app, none, more, same_tree, sub, single, variables, count_trees, size}

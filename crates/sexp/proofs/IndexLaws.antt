@@ -1,7 +1,7 @@
 -- An index, a digit at a time. Assumes nothing.
 use mathlib.Core.Path.{◌≡◌, refl, sym, ap, ◌∙◌}
 use mathlib.Core.Bool.{Bool, true, false, ◌&&◌}
-use mathlib.Core.Option.{Option, some, none as nothing}
+use Rattle.std.specs.Prelude.{Option, Some as some, None as nothing}
 use mathlib.Core.List.{List, [], ◌∷◌}
 use Prim.Native.Nat.{ℕ, ◌+◌, ◌-◌, ◌*◌, ◌/◌, ◌^◌, ◌≤◌, ◌<◌}
 use native.Mathlib.Omega.{arith}
@@ -11,8 +11,6 @@ use lib.Dec.{ltb, leb}
 use borrow.Author.Tests.{eq-eqb, ne_eqb, le-leb, lt-leb, lt-ltb, le-ltb}
 use Rattle.rules.specs.Index.{digit, digits, value, unsigned, index_of}
 use Rattle.rules.specs.Laws.Lex.{drop_at}
-use Rattle.sexp.specs.Names.{spelling}
-use Rattle.sexp.specs.declared.names.Index.TheVariants.{Number, Unreadable}
 
 and_not : (a : Bool) → a && false ≡ false
 and_not true = refl
@@ -48,7 +46,7 @@ is_unsigned (b ∷ D) n s e v h =
     unsigned_cons b D ∙ ap (λ x. checked (x && ltb (value 0 (b ∷ D)) (2 ^ 64)) (value 0 (b ∷ D))) e
     ∙ ap (λ k. checked (ltb k (2 ^ 64)) k) v ∙ ap (λ x. checked x n) (lt-ltb n (2 ^ 64) h)
 
-pub none_there : (D : List ℕ) → length D ≡ 0 → Unreadable ≡ spelling (unsigned D)
+pub none_there : (D : List ℕ) → length D ≡ 0 → nothing ≡ (unsigned D)
 unfolding unsigned
 none_there [] e = refl
 none_there (b ∷ D) e = absurd (omega arith)
@@ -72,24 +70,24 @@ pub start : (D : List ℕ) → Reading D 0 0
 start D = record { inside = omega arith; fits = omega arith; all = refl; worth = refl }
 
 module _ {D : List ℕ} {n at : ℕ} (r : Reading D n at) where
-  pub all_read : (length D ≡ 0 → ⊥) → length D ≤ at → Number n ≡ spelling (unsigned D)
+  pub all_read : (length D ≡ 0 → ⊥) → length D ≤ at → some n ≡ (unsigned D)
   unfolding digits value
   all_read s h =
       let e = drop_of_length-le D {i = at} h in
-      sym (ap spelling (is_unsigned D n s (r.all ∙ ap digits e) (r.worth ∙ ap (value n) e) r.fits))
+      sym ((is_unsigned D n s (r.all ∙ ap digits e) (r.worth ∙ ap (value n) e) r.fits))
 
   module _ (h : at < length D) {b : ℕ} (is : b ≡ get_or D at 0) where
     here : drop at D ≡ b ∷ drop (at + 1) D
     here = drop_at D at h ∙ ap (λ x. x ∷ drop (at + 1) D) (sym is)
 
-    no_digit : digit b ≡ false → Unreadable ≡ spelling (unsigned D)
-    no_digit e = sym (ap spelling (no_digits D (r.all ∙ ap digits here ∙ digits_off b (drop (at + 1) D) e)))
+    no_digit : digit b ≡ false → nothing ≡ (unsigned D)
+    no_digit e = sym ((no_digits D (r.all ∙ ap digits here ∙ digits_off b (drop (at + 1) D) e)))
 
-    pub too_low : b < 48 → Unreadable ≡ spelling (unsigned D)
+    pub too_low : b < 48 → nothing ≡ (unsigned D)
     unfolding digit
     too_low l = no_digit (rw (lt-leb 48 b l))
 
-    pub too_high : 57 < b → Unreadable ≡ spelling (unsigned D)
+    pub too_high : 57 < b → nothing ≡ (unsigned D)
     unfolding digit
     too_high l = no_digit (rw (lt-leb b 57 l) (and_not (leb 48 b)))
 
@@ -97,8 +95,8 @@ module _ {D : List ℕ} {n at : ℕ} (r : Reading D n at) where
     unfolding value
     next_value = r.worth ∙ ap (value n) here
 
-    pub overflows : (18446744073709551615 - (b - 48)) / 10 < n → Unreadable ≡ spelling (unsigned D)
-    overflows o = sym (ap spelling (too_big D (omega (arith, next_value, value_more (n * 10 + (b - 48)) (drop (at + 1) D)))))
+    pub overflows : (18446744073709551615 - (b - 48)) / 10 < n → nothing ≡ (unsigned D)
+    overflows o = sym ((too_big D (omega (arith, next_value, value_more (n * 10 + (b - 48)) (drop (at + 1) D)))))
 
     pub more : 48 ≤ b → b ≤ 57 → n ≤ (18446744073709551615 - (b - 48)) / 10 → Reading D (n * 10 + (b - 48)) (at + 1)
     unfolding digit
@@ -111,7 +109,7 @@ module _ {D : List ℕ} {n at : ℕ} (r : Reading D n at) where
         }
 
 -- the sign
-pub no_name : (D : List ℕ) → length D ≡ 0 → Unreadable ≡ spelling (index_of D)
+pub no_name : (D : List ℕ) → length D ≡ 0 → nothing ≡ (index_of D)
 unfolding index_of
 no_name [] e = refl
 no_name (b ∷ D) e = absurd (omega arith)
@@ -124,10 +122,10 @@ index_unsigned : (b : ℕ) (D : List ℕ) → (b ≡ 43 → ⊥) → index_of (b
 unfolding index_of
 index_unsigned b D e = rw (ne_eqb b 43 e, index_of)
 
-pub with_sign : (D : List ℕ) → (length D ≡ 0 → ⊥) → get_or D 0 0 ≡ 43 → spelling (unsigned (take (length D - 1) (drop 1 D))) ≡ spelling (index_of D)
+pub with_sign : (D : List ℕ) → (length D ≡ 0 → ⊥) → get_or D 0 0 ≡ 43 → (unsigned (take (length D - 1) (drop 1 D))) ≡ (index_of D)
 with_sign [] s e = absurd (s refl)
-with_sign (b ∷ D) s e = ap (λ l. spelling (unsigned l)) (take_all (length (b ∷ D) - 1) D (omega arith)) ∙ ap spelling (sym (index_signed b D e))
+with_sign (b ∷ D) s e = ap (λ l. (unsigned l)) (take_all (length (b ∷ D) - 1) D (omega arith)) ∙ (sym (index_signed b D e))
 
-pub without_sign : (D : List ℕ) → (length D ≡ 0 → ⊥) → (get_or D 0 0 ≡ 43 → ⊥) → spelling (unsigned D) ≡ spelling (index_of D)
+pub without_sign : (D : List ℕ) → (length D ≡ 0 → ⊥) → (get_or D 0 0 ≡ 43 → ⊥) → (unsigned D) ≡ (index_of D)
 without_sign [] s e = absurd (s refl)
-without_sign (b ∷ D) s e = ap spelling (sym (index_unsigned b D e))
+without_sign (b ∷ D) s e = (sym (index_unsigned b D e))

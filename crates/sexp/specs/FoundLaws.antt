@@ -2,40 +2,34 @@
 use Rattle.std.proofs.Math.Path.{◌≡◌, refl, sym, ap}
 use Rattle.std.proofs.Common.{◌∙◌, arith}
 use Prim.Native.Nat.{ℕ, zero, suc, ◌<◌}
-use Rattle.std.specs.Prelude.{Bool, length, get_or}
+use Rattle.std.specs.Prelude.{Bool, length, get_or, Option, Some as some, None as nothing}
 use Rattle.std.proofs.Math.Bool.{true, false}
-use Rattle.std.proofs.Math.Option.{Option, some, none as nothing}
 use mathlib.Core.List.{List, [], ◌∷◌}
 use Rattle.rules.specs.Text.{same}
 use Rattle.rules.specs.Find.{first}
 use Rattle.rules.specs.Laws.Find.{first_some}
 use Rattle.rules.specs.Sexp.{Name}
 use Rattle.rules.specs.Theory.{no_name}
-use Rattle.sexp.specs.Never.{never}
-use Rattle.sexp.specs.NameRows.{NameRows, found_of}
-use Rattle.sexp.specs.declared.names.Found.{Found}
-use Rattle.sexp.specs.declared.names.Found.TheVariants.{At, Missing}
+use Rattle.sexp.specs.NameRows.{NameRows}
 
-pub found_at : (o : Option ℕ) (r : Found) (k : ℕ) → r ≡ found_of o → r ≡ At k → o ≡ some k
-found_at nothing r k a b = never cc
-found_at (some i) r k a b = let q : i ≡ k = cc in ap some q
+pub found_at : (o : Option ℕ) (r : Option ℕ) (k : ℕ) → r ≡ o → r ≡ some k → o ≡ some k
+found_at o r k a b = sym a ∙ b
 
-pub found_missing : (o : Option ℕ) (r : Found) → r ≡ found_of o → r ≡ Missing → o ≡ nothing
-found_missing nothing r a b = refl
-found_missing (some i) r a b = never cc
+pub found_missing : (o : Option ℕ) (r : Option ℕ) → r ≡ o → r ≡ nothing → o ≡ nothing
+found_missing o r a b = sym a ∙ b
 
 -- what is found is one of the entries, and passes
 pub record FoundEntry {A : Type 0} (p : A → Bool) (xs : List A) (i : ℕ) (d : A) : Type 0 where
   pub inside : i < length xs
   pub passes : p (get_or xs i d) ≡ true
 
-pub found_entry : {A : Type 0} (p : A → Bool) (xs : List A) (d : A) (r : Found) (i : ℕ) → r ≡ found_of (first p xs 0) → r ≡ At i → FoundEntry p xs i d
+pub found_entry : {A : Type 0} (p : A → Bool) (xs : List A) (d : A) (r : Option ℕ) (i : ℕ) → r ≡ (first p xs 0) → r ≡ some i → FoundEntry p xs i d
 found_entry p xs d r i a b =
     let f = first_some p xs 0 i d (found_at (first p xs 0) r i a b) in
     let z : f.place ≡ i = omega (arith, f.is) in
     record { inside = omega (arith, z, f.inside); passes = rw z at f.passes }
 
-pub found_inside : (name : List ℕ) (ns : List Name) (r : Found) (i : ℕ) → r ≡ found_of (first (λ n. same n.bytes name) ns 0) → r ≡ At i → i < length ns
+pub found_inside : (name : List ℕ) (ns : List Name) (r : Option ℕ) (i : ℕ) → r ≡ (first (λ n. same n.bytes name) ns 0) → r ≡ some i → i < length ns
 found_inside name ns r i a b = (found_entry (λ (n : Name). same n.bytes name) ns no_name r i a b).inside
 
 -- The names of things in a list -----------------------------------------------------------------------------------------------------
@@ -68,8 +62,8 @@ module _ {A : Type 0} (f : A → Name) where
       go false e = e
 
 -- what `named` answers, of things by their names
-pub named_so : {A : Type 0} (f : A → Name) (xs : List A) {text table : List ℕ} {w o count : ℕ} (name : List ℕ) (r : Found) →
-    ((ns : List Name) → NameRows text table w o count ns → r ≡ found_of (first (λ n. same n.bytes name) ns 0)) →
+pub named_so : {A : Type 0} (f : A → Name) (xs : List A) {text table : List ℕ} {w o count : ℕ} (name : List ℕ) (r : Option ℕ) →
+    ((ns : List Name) → NameRows text table w o count ns → r ≡ (first (λ n. same n.bytes name) ns 0)) →
     NameRows text table w o count (names_of f xs) →
-    r ≡ found_of (first (λ x. same (f x).bytes name) xs 0)
-named_so f xs name r a h = a (names_of f xs) h ∙ ap found_of (sym (first_name f xs name 0))
+    r ≡ (first (λ x. same (f x).bytes name) xs 0)
+named_so f xs name r a h = a (names_of f xs) h ∙ (sym (first_name f xs name 0))

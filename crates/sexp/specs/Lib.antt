@@ -10,7 +10,6 @@ pub mod WalkLaws
 pub mod ReadLaws
 pub mod Whole
 pub mod Through
-pub mod Names
 pub mod NameRows
 pub mod RowLaws
 pub mod Never

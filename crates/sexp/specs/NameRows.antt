@@ -1,15 +1,7 @@
 -- What the look-up of a name cites: rows of a table that hold names of a text. Assumes nothing.
 use Rattle.std.specs.Prelude.{◌≡◌, ℕ, ◌+◌, ◌*◌, ◌<◌, ◌≤◌, List, length, get_or, take, drop}
-use Rattle.std.proofs.Math.Option.{Option, some, none as nothing}
 use Rattle.rules.specs.Sexp.{Name}
 use Rattle.rules.specs.Theory.{no_name}
-use Rattle.sexp.specs.declared.names.Found.{Found}
-use Rattle.sexp.specs.declared.names.Found.TheVariants.{At, Missing}
-
--- the answer for what the definition finds
-abbrev pub found_of : Option ℕ → Found
-found_of (some k) = At k
-found_of nothing = Missing
 
 -- the name's bytes stand in the text where it says
 pub record NameIn (text : List ℕ) (n : Name) : Type 0 where

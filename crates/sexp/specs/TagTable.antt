@@ -1,7 +1,6 @@
 -- What the contracts of `tags` cite: the definition's three tables one behind the other, as rows of one table without their tags, and
 -- the answers for the definition's tags. Assumes nothing.
-use Rattle.std.specs.Prelude.{ℕ, zero, suc, Bool, true, false, ◌&&◌, List, [], ◌∷◌, ◌++◌, leb, get_or}
-use Rattle.std.proofs.Math.Option.{Option, some, none as nothing}
+use Rattle.std.specs.Prelude.{ℕ, zero, suc, Bool, true, false, ◌&&◌, List, [], ◌∷◌, ◌++◌, leb, get_or, Option, Some as some, None as nothing}
 use Rattle.rules.specs.Text.{same}
 use Rattle.rules.specs.Tags.{Row, Tag, a_var, a_def, a_step, a_hyp, a_rule_hyp, an_induct, an_induct_with, an_apply, an_invert, a_result, Declaration, a_sort, a_ctor, a_pred, a_rule, GoalForm, a_variable, a_goal, a_goal_with, proof_tags, theory_tags, goal_tags, within}
 use Rattle.sexp.specs.declared.tags.Tag.{Tag as TagAnswer}

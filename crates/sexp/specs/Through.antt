@@ -1,9 +1,8 @@
 -- Laws for those who go through a text form by form (`through` of rules/specs/Loop) with `read_form`, after `read_all` or not: what each
 -- answer says of the whole, the form taken, the form refused. Assumes nothing.
-use Rattle.std.specs.Prelude.{◌≡◌, ℕ, suc, ◌+◌, ◌≤◌, List, ◌++◌, length, take, drop, replicate}
+use Rattle.std.specs.Prelude.{◌≡◌, ℕ, suc, ◌+◌, ◌≤◌, List, ◌++◌, length, take, drop, replicate, Option, Some as some, None as nothing}
 use Rattle.std.proofs.Math.Path.{refl, ap}
 use Rattle.std.proofs.Common.{sym, ◌∙◌, arith, add-one, length-take-le}
-use Rattle.std.proofs.Math.Option.{Option, some, none as nothing}
 use Rattle.rules.specs.Limits.{LENGTH}
 use Rattle.rules.specs.Out.{Out, ok, refuse, Act}
 use Rattle.rules.specs.Sexp.{Sexp, atom, list, Text, ends, fails, more, read, read_from}

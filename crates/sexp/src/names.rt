@@ -2,17 +2,9 @@
 ghost use Rattle.std.specs.Prelude.{◌≡◌, ◌<◌, List};
 ghost use Rattle.rules.specs.Text.{same};
 ghost use Rattle.rules.specs.Index.{unsigned, index_of};
-ghost use Rattle.sexp.specs.Names.{spelling};
 ghost use Rattle.rules.specs.Find.{first};
 ghost use Rattle.rules.specs.Sexp.{Name};
-ghost use Rattle.sexp.specs.NameRows.{NameRows, SomeNames, found_of};
-
-// What a name spells, read as an index.
-#[derive(Clone, Copy)]
-pub enum Index {
-    Number(usize),
-    Unreadable,
-}
+ghost use Rattle.sexp.specs.NameRows.{NameRows, SomeNames};
 
 // Whether two names have the same bytes. Names of one tariff often share their beginnings, so the last bytes are looked at first.
 pub fn same(s: &[u8], t: &[u8]) -> bool
@@ -39,50 +31,43 @@ fn widen(b: u8) -> usize
 }
 
 // The value of an index without a sign: digits, at least one, of a value that fits.
-fn unsigned(digits: &[u8]) -> Index
-    ensures { result ≡ spelling (unsigned digits.now) }
+fn unsigned(digits: &[u8]) -> Option<usize>
+    ensures { result ≡ unsigned digits.now }
 {
     if digits.len() == 0 {
-        return Index::Unreadable;
+        return None;
     }
     let mut n = 0;
     let mut at = 0;
     while at < digits.len() {
         let b = widen(digits[at]);
         if b < 48 {
-            return Index::Unreadable;
+            return None;
         }
         if 57 < b {
-            return Index::Unreadable;
+            return None;
         }
         let d = b - 48;
         if (0xffff_ffff_ffff_ffff - d) / 10 < n {
-            return Index::Unreadable;
+            return None;
         }
         n = n * 10 + d;
         at += 1;
     }
-    Index::Number(n)
+    Some(n)
 }
 
 // The index that a name spells, after a `+` or not.
-pub fn index_of(name: &[u8]) -> Index
-    ensures { result ≡ spelling (index_of name.now) }
+pub fn index_of(name: &[u8]) -> Option<usize>
+    ensures { result ≡ index_of name.now }
 {
     if name.len() == 0 {
-        return Index::Unreadable;
+        return None;
     }
     if name[0] == b'+' {
         return unsigned(&name[1..]);
     }
     unsigned(name)
-}
-
-// A row by its number.
-#[derive(Clone, Copy)]
-pub enum Found {
-    At(usize),
-    Missing,
 }
 
 // The number of the first of `count` rows whose name has these bytes: rows of `width` cells with the name from `place` on.
@@ -93,10 +78,10 @@ pub fn named(
     place: usize,
     count: usize,
     name: &[u8],
-) -> Found
+) -> Option<usize>
     requires { SomeNames text.now table.now width place count }
     ensures { (ns : List Name) → NameRows text.now table.now width place count ns →
-        result ≡ found_of (first (λ n. same n.bytes name.now) ns 0) }
+        result ≡ first (λ n. same n.bytes name.now) ns 0 }
 {
     let mut i: usize = 0;
     while i < count {
@@ -104,9 +89,9 @@ pub fn named(
         let start = table[at] as usize;
         let end = table[at + 1] as usize;
         if same(&text[start..end], name) {
-            return Found::At(i);
+            return Some(i);
         }
         i += 1;
     }
-    Found::Missing
+    None
 }

@@ -2,7 +2,7 @@
 use mathlib.Core.Path.{◌≡◌, refl, sym, ap, ◌∙◌, subst}
 use Prim.Native.Nat.{ℕ, suc, ◌+◌, ◌-◌, ◌*◌, ◌<◌, ◌≤◌}
 use mathlib.Core.Bool.{Bool, true, false}
-use mathlib.Core.Option.{Option, some, none as nothing}
+use Rattle.std.specs.Prelude.{Option, Some as some, None as nothing}
 use mathlib.Core.List.{List, [], ◌∷◌, map}
 use native.Mathlib.Omega.{arith}
 use lib.ListN.{length, get_or, take, drop, length-map, get_or-map}
@@ -17,9 +17,7 @@ use Rattle.rules.specs.State.{Var, Def, Goal, no_var, var_named, abbreviated, go
 use Rattle.rules.specs.TheoryTables.{name_cells}
 use Rattle.rules.specs.Laws.Theory.{All, all_at}
 use Rattle.rules.specs.Laws.Find.{first_here, first_later, first_over}
-use Rattle.sexp.specs.NameRows.{NameIn, NameRows, SomeNames, found_of}
-use Rattle.sexp.specs.declared.names.Found.{Found}
-use Rattle.sexp.specs.declared.names.Found.TheVariants.{At, Missing}
+use Rattle.sexp.specs.NameRows.{NameIn, NameRows, SomeNames}
 use Rattle.state.specs.Held.{text_of, VarsHeld, DefsHeld, GoalsHeld}
 use Rattle.state.specs.Rows.{SomeVars, SomeDefs, SomeGoals}
 use Rattle.state.specs.RowCells.{var_row, def_row, goal_row, no_def, no_goal}
@@ -66,10 +64,10 @@ module _ {text goals : List ℕ} {count : ℕ} {M : Made} {gs : List Goal} (h : 
       name_rows (λ g. g.name) text goals 6 count gs no_goal refl h.many (λ k l. omega (arith, goals_long h, h.few))
       (λ k l. goal_at h k 0 l (omega arith)) (λ k l. goal_at h k 1 l (omega arith)) h.names
 
-  pub goal_found : (name : List ℕ) {r : Found} → ((ns : List Name) → NameRows text goals 6 0 count ns → r ≡ found_of (first (λ n. same n.bytes name) ns 0)) →
-      r ≡ found_of (goal_named gs name)
+  pub goal_found : (name : List ℕ) {r : Option ℕ} → ((ns : List Name) → NameRows text goals 6 0 count ns → r ≡ (first (λ n. same n.bytes name) ns 0)) →
+      r ≡ (goal_named gs name)
   unfolding goal_named
-  goal_found name k = k (map (λ g. g.name) gs) goal_names ∙ ap found_of (first_names_lem (λ g. g.name) (λ n. same n.bytes name) gs 0)
+  goal_found name k = k (map (λ g. g.name) gs) goal_names ∙ (first_names_lem (λ g. g.name) (λ n. same n.bytes name) gs 0)
 
 pub some_goals : {text goals : List ℕ} {count : ℕ} → SomeGoals text goals count → SomeNames text goals 6 0 count
 some_goals s = (map (λ g. g.name) s.1, goal_names s.2)
@@ -106,11 +104,11 @@ def_none (d ∷ ds) name k e = go (same d.name.bytes name) e (def_none ds name (
     go true e f = absurd (let z : ◌≡◌ {A = ℕ} 0 1 = cc in omega arith)
     go false e f = f e
 
-found_at : (o : Option ℕ) (i : ℕ) → At i ≡ found_of o → o ≡ some i
+found_at : (o : Option ℕ) (i : ℕ) → some i ≡ o → o ≡ some i
 found_at (some k) i e = cc
 found_at nothing i e = absurd (let z : ◌≡◌ {A = ℕ} 0 1 = cc in omega arith)
 
-found_none : (o : Option ℕ) → Missing ≡ found_of o → o ≡ nothing
+found_none : (o : Option ℕ) → nothing ≡ o → o ≡ nothing
 found_none (some k) e = absurd (let z : ◌≡◌ {A = ℕ} 0 1 = cc in omega arith)
 found_none nothing e = refl
 
@@ -121,20 +119,20 @@ module _ {text defs : List ℕ} {count : ℕ} {M : Made} {ds : List Def} (h : De
       name_rows (λ d. d.name) text defs 3 count ds no_def refl h.many (λ k l. omega (arith, defs_long h, h.few))
       (λ k l. def_at h k 0 l (omega arith)) (λ k l. def_at h k 1 l (omega arith)) h.names
 
-  module _ (name : List ℕ) {r : Found} (k : (ns : List Name) → NameRows text defs 3 0 count ns → r ≡ found_of (first (λ n. same n.bytes name) ns 0)) where
-    def_is : r ≡ found_of (first (λ d. same d.name.bytes name) ds 0)
-    def_is = k (map (λ d. d.name) ds) def_names ∙ ap found_of (first_names_lem (λ d. d.name) (λ n. same n.bytes name) ds 0)
+  module _ (name : List ℕ) {r : Option ℕ} (k : (ns : List Name) → NameRows text defs 3 0 count ns → r ≡ (first (λ n. same n.bytes name) ns 0)) where
+    def_is : r ≡ (first (λ d. same d.name.bytes name) ds 0)
+    def_is = k (map (λ d. d.name) ds) def_names ∙ (first_names_lem (λ d. d.name) (λ n. same n.bytes name) ds 0)
 
-    pub def_nowhere : r ≡ Missing → abbreviated ds name ≡ nothing
+    pub def_nowhere : r ≡ nothing → abbreviated ds name ≡ nothing
     def_nowhere e = def_none ds name 0 (found_none _ (sym e ∙ def_is))
 
-    place_of : (i : ℕ) → r ≡ At i → FirstDef ds name 0 i
+    place_of : (i : ℕ) → r ≡ some i → FirstDef ds name 0 i
     place_of i e = def_first ds name 0 i (found_at _ i (sym e ∙ def_is))
 
-    pub def_below : (i : ℕ) → r ≡ At i → i < count
+    pub def_below : (i : ℕ) → r ≡ some i → i < count
     def_below i e = let p = place_of i e in omega (arith, p.is, p.inside, h.many)
 
-    pub def_here : (i : ℕ) → r ≡ At i →
+    pub def_here : (i : ℕ) → r ≡ some i →
         (abbreviated ds name ≡ some (get_or M (get_or defs (3 * i + 2) 0) (var 0))) × (get_or defs (3 * i + 2) 0 < length M)
     def_here i e =
         let p = place_of i e in
@@ -146,8 +144,8 @@ pub some_defs : {text defs : List ℕ} {count : ℕ} → SomeDefs text defs coun
 some_defs s = (map (λ d. d.name) s.1, def_names s.2)
 
 -- the row that was found lies in the table
-pub def_inside : {text defs : List ℕ} {count : ℕ} (name : List ℕ) (i : ℕ) {r : Found} → SomeDefs text defs count →
-    ((ns : List Name) → NameRows text defs 3 0 count ns → r ≡ found_of (first (λ n. same n.bytes name) ns 0)) → r ≡ At i → 3 * i + 2 < length defs
+pub def_inside : {text defs : List ℕ} {count : ℕ} (name : List ℕ) (i : ℕ) {r : Option ℕ} → SomeDefs text defs count →
+    ((ns : List Name) → NameRows text defs 3 0 count ns → r ≡ (first (λ n. same n.bytes name) ns 0)) → r ≡ some i → 3 * i + 2 < length defs
 def_inside name i s k e = let l = def_below s.2 name k i e in omega (arith, defs_long s.2, s.2.few)
 
 -- Variables ------------------------------------------------------------------------------------------------------------------------
@@ -217,9 +215,9 @@ seeking_begins goals text vars name count s = record { some = s; low = omega ari
 
 module _ {goals text vars name : List ℕ} {count i : ℕ} (k : Seeking goals text vars name count i) where
   module _ (l : i < count) {r : Bool} (f : (vs : List Var) → VarsHeld goals text vars count vs → r ≡ same (get_or vs i no_var).name.bytes name) where
-    pub seeking_here : r ≡ true → (vs : List Var) → VarsHeld goals text vars count vs → At i ≡ found_of (var_named vs name)
+    pub seeking_here : r ≡ true → (vs : List Var) → VarsHeld goals text vars count vs → some i ≡ (var_named vs name)
     seeking_here e vs h =
-        ap found_of (sym (k.same vs h ∙ first_here (λ (v : Var). same v.name.bytes name) vs i no_var (omega (arith, h.stand.many)) (sym (f vs h) ∙ e)))
+        (sym (k.same vs h ∙ first_here (λ (v : Var). same v.name.bytes name) vs i no_var (omega (arith, h.stand.many)) (sym (f vs h) ∙ e)))
 
     pub seeking_on : r ≡ false → Seeking goals text vars name count (i + 1)
     seeking_on e =
@@ -229,6 +227,6 @@ module _ {goals text vars name : List ℕ} {count i : ℕ} (k : Seeking goals te
           same = λ vs h. k.same vs h ∙ first_later (λ (v : Var). same v.name.bytes name) vs i no_var (omega (arith, h.stand.many)) (sym (f vs h) ∙ e);
         }
 
-  pub seeking_over : count ≤ i → (vs : List Var) → VarsHeld goals text vars count vs → Missing ≡ found_of (var_named vs name)
+  pub seeking_over : count ≤ i → (vs : List Var) → VarsHeld goals text vars count vs → nothing ≡ (var_named vs name)
   seeking_over l vs h =
-      ap found_of (sym (k.same vs h ∙ first_over (λ (v : Var). same v.name.bytes name) vs i (omega (arith, h.stand.many))))
+      (sym (k.same vs h ∙ first_over (λ (v : Var). same v.name.bytes name) vs i (omega (arith, h.stand.many))))

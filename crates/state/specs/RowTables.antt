@@ -1,9 +1,8 @@
 -- Tables of rows, count of them in use: a cell, a row more, rows less, and what stands in a span of the lists. Assumes nothing.
-use Rattle.std.specs.Prelude.{◌≡◌, length, get_or, take, set, replicate}
+use Rattle.std.specs.Prelude.{◌≡◌, length, get_or, take, set, replicate, Some as some}
 use Rattle.std.proofs.Math.Path.{refl}
 use Rattle.std.proofs.Common.{sym, ap, ◌∙◌, arith, mul-le-mul_left, mul-suc, length-append}
 use Prim.Native.Nat.{ℕ, zero, suc, ◌+◌, ◌-◌, ◌*◌, ◌<◌, ◌≤◌}
-use Rattle.std.proofs.Math.Option.{some}
 use mathlib.Core.List.{List, [], ◌∷◌, ◌++◌}
 use Rattle.std.proofs.Math.ListN.{get_or-eq_default}
 use Rattle.std.proofs.lemmas.List.Edits.{sets}

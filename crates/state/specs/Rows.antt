@@ -1,13 +1,10 @@
 -- What the readers and writers of rows cite: cells of a row, spans of lists, a row more. Assumes nothing.
-use Rattle.std.specs.Prelude.{◌≡◌, ℕ, ◌+◌, ◌*◌, ◌^◌, ◌<◌, ◌≤◌, Bool, true, false, not, ◌&&◌, List, eqb, ltb, length, get_or}
-use Rattle.std.proofs.Math.Option.{some, none as nothing}
+use Rattle.std.specs.Prelude.{◌≡◌, ℕ, ◌+◌, ◌*◌, ◌^◌, ◌<◌, ◌≤◌, Bool, true, false, not, ◌&&◌, List, eqb, ltb, length, get_or, Some as some, None as nothing, Option}
 use Rattle.std.proofs.lemmas.List.Edits.{sets}
 use Rattle.rules.specs.Limits.{FACTS, ENTRIES}
 use Rattle.rules.specs.Tree.{var}
 use Rattle.rules.specs.Store.{Made}
 use Rattle.rules.specs.State.{Var, Def, Goal, abbreviated}
-use Rattle.sexp.specs.declared.names.Found.{Found}
-use Rattle.sexp.specs.declared.names.Found.TheVariants.{At, Missing}
 use Rattle.state.specs.Held.{VarsHeld, DefsHeld, GoalsHeld, Records}
 use Rattle.state.specs.declared.sizes.Sizes.{Sizes}
 use Rattle.state.specs.declared.facts.Span.{Span}
@@ -36,9 +33,9 @@ abbrev pub SomeDefs : List ℕ → List ℕ → ℕ → Type 0
 SomeDefs text defs count = (M : Made) × (ds : List Def) × DefsHeld text defs count M ds
 
 -- the term that a name abbreviates, by its number
-abbrev pub DefFound : Made → List Def → List ℕ → Found → Type 0
-DefFound M ds name (At t) = (abbreviated ds name ≡ some (get_or M t (var 0))) × (t < length M)
-DefFound M ds name Missing = abbreviated ds name ≡ nothing
+abbrev pub DefFound : Made → List Def → List ℕ → Option ℕ → Type 0
+DefFound M ds name (some t) = (abbreviated ds name ≡ some (get_or M t (var 0))) × (t < length M)
+DefFound M ds name nothing = abbreviated ds name ≡ nothing
 
 -- Goals ----------------------------------------------------------------------------------------------------------------------------
 

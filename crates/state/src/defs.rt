@@ -7,17 +7,17 @@ ghost use Rattle.rules.specs.State.{Def};
 ghost use Rattle.state.specs.Held.{DefsHeld};
 ghost use Rattle.state.specs.Rows.{Fits4, SomeDefs, DefFound};
 
-use sexp::names::{Found, named};
+use sexp::names::named;
 
 // The term that these bytes abbreviate.
-pub fn def_named(text: &[u8], defs: &[u32], count: usize, name: &[u8]) -> Found
+pub fn def_named(text: &[u8], defs: &[u32], count: usize, name: &[u8]) -> Option<usize>
     requires { SomeDefs text.now defs.now count }
     ensures { (M : Made) (ds : List Def) → DefsHeld text.now defs.now count M ds → DefFound M ds name.now result }
 {
-    let Found::At(i) = named(text, defs, 3, 0, count, name) else {
-        return Found::Missing;
+    let Some(i) = named(text, defs, 3, 0, count, name) else {
+        return None;
     };
-    Found::At(defs[3 * i + 2] as usize)
+    Some(defs[3 * i + 2] as usize)
 }
 
 // The row of abbreviation d.

@@ -4,17 +4,16 @@ ghost use Rattle.std.proofs.lemmas.List.Edits.{sets};
 ghost use Rattle.rules.specs.Limits.{GOALS};
 ghost use Rattle.rules.specs.Store.{Made};
 ghost use Rattle.rules.specs.State.{Goal, goal_named};
-ghost use Rattle.sexp.specs.NameRows.{found_of};
 ghost use Rattle.state.specs.Held.{GoalsHeld};
 ghost use Rattle.state.specs.Rows.{cell, Fits4, SomeGoals, list_span};
 
 use crate::facts::Span;
-use sexp::names::{Found, named};
+use sexp::names::named;
 
 // The goal with these bytes for a name.
-pub fn goal_named(text: &[u8], goals: &[u32], count: usize, name: &[u8]) -> Found
+pub fn goal_named(text: &[u8], goals: &[u32], count: usize, name: &[u8]) -> Option<usize>
     requires { SomeGoals text.now goals.now count }
-    ensures { (M : Made) (gs : List Goal) → GoalsHeld text.now goals.now count M gs → result ≡ found_of (goal_named gs name.now) }
+    ensures { (M : Made) (gs : List Goal) → GoalsHeld text.now goals.now count M gs → result ≡ goal_named gs name.now }
 {
     named(text, goals, 6, 0, count, name)
 }

@@ -5,11 +5,10 @@ ghost use Rattle.std.proofs.lemmas.List.Edits.{sets};
 ghost use Rattle.rules.specs.Limits.{VARIABLES};
 ghost use Rattle.rules.specs.Text.{same};
 ghost use Rattle.rules.specs.State.{Var, var_named, no_var};
-ghost use Rattle.sexp.specs.NameRows.{found_of};
 ghost use Rattle.state.specs.Held.{VarsHeld};
 ghost use Rattle.state.specs.Rows.{cell, Fits4, SomeVars};
 
-use sexp::names::{Found, same};
+use sexp::names::same;
 
 // Whether variable i has these bytes for a name.
 fn is_var(goals: &[u8], text: &[u8], vars: &[u32], count: usize, i: usize, name: &[u8]) -> bool
@@ -26,18 +25,18 @@ fn is_var(goals: &[u8], text: &[u8], vars: &[u32], count: usize, i: usize, name:
 }
 
 // The variable with these bytes for a name.
-pub fn var_named(goals: &[u8], text: &[u8], vars: &[u32], count: usize, name: &[u8]) -> Found
+pub fn var_named(goals: &[u8], text: &[u8], vars: &[u32], count: usize, name: &[u8]) -> Option<usize>
     requires { SomeVars goals.now text.now vars.now count }
-    ensures { (vs : List Var) → VarsHeld goals.now text.now vars.now count vs → result ≡ found_of (var_named vs name.now) }
+    ensures { (vs : List Var) → VarsHeld goals.now text.now vars.now count vs → result ≡ var_named vs name.now }
 {
     let mut i: usize = 0;
     while i < count {
         if is_var(goals, text, vars, count, i, name) {
-            return Found::At(i);
+            return Some(i);
         }
         i += 1;
     }
-    Found::Missing
+    None
 }
 
 // The sort of variable v; 0 where there is none.

@@ -1,6 +1,5 @@
 -- The tag of a form, by its items, and what the definition answers for it. Assumes nothing.
-use Rattle.std.specs.Prelude.{ℕ, List}
-use Rattle.std.proofs.Math.Option.{Option, some, none as nothing}
+use Rattle.std.specs.Prelude.{ℕ, List, Option, Some as some, None as nothing}
 use Rattle.rules.specs.Out.{Out, refuse, Act}
 use Rattle.rules.specs.Sexp.{Sexp, Sexps, atom, list, item, count}
 use Rattle.rules.specs.State.{State}

@@ -1,7 +1,7 @@
 -- What the match of one pattern with one term leaves, at each of its returns and in its loop over the arguments. Assumes nothing.
 use mathlib.Core.Path.{◌≡◌, refl, sym, ap, ◌∙◌, subst}
 use mathlib.Core.List.{List, ◌∷◌}
-use mathlib.Core.Option.{none as nothing}
+use Rattle.std.specs.Prelude.{None as nothing}
 use Prim.Native.Nat.{ℕ, zero, suc, ◌+◌, ◌-◌, ◌≤◌, ◌<◌}
 use native.Mathlib.Omega.{arith}
 use lib.ListN.{length, get_or, set}

@@ -4,9 +4,8 @@
 -- makes us, with g the tables' Good, p and d what the two calls did, q the test's answer and e what was found, the whole is
 --     on_done (on_ok _ (on_found_some _ _ (on_ask_yes _ _ (on_ok _ (on_start g) p) q) e) d)
 -- (the block shows each `_`). Assumes nothing.
-use Rattle.std.specs.Prelude.{◌≡◌, refl, Bool, true, false, List, ℕ}
+use Rattle.std.specs.Prelude.{◌≡◌, refl, Bool, true, false, List, ℕ, Option, Some as some, None as nothing}
 use Rattle.std.proofs.Common.{ap, ◌∙◌}
-use Rattle.std.proofs.Math.Option.{Option, some, none as nothing}
 use Rattle.rules.specs.Out.{Out, ok, refuse, then, ask, room, found}
 use Rattle.rules.specs.Tree.{Tree}
 use Rattle.rules.specs.Store.{Made}

@@ -1,7 +1,6 @@
 -- Rules' patterns over the store: how pattern words stand for a pattern, how cells stand for what a rule's variables are bound to, and
 -- what matching and building answer. Assumes nothing.
-use Rattle.std.specs.Prelude.{◌≡◌, ℕ, zero, suc, ◌+◌, ◌*◌, ◌≤◌, ◌<◌, Bool, true, false, List, length, get_or, ltb}
-use Rattle.std.proofs.Math.Option.{Option, some, none as nothing}
+use Rattle.std.specs.Prelude.{◌≡◌, ℕ, zero, suc, ◌+◌, ◌*◌, ◌≤◌, ◌<◌, Bool, true, false, List, length, get_or, ltb, Option, Some as some, None as nothing}
 use Rattle.rules.specs.Limits.{SYMBOLS, ARGUMENTS, RULEVARS}
 use Rattle.rules.specs.Out.{Out, ok, refuse}
 use Rattle.rules.specs.Tree.{Tree, Trees, var, app, none, more, size, sizes, count_trees}

@@ -1,6 +1,6 @@
 -- Unification: the loop over rounds, the two terms with which it begins, and the scratch set back to zero. Assumes nothing.
 use mathlib.Core.Path.{◌≡◌, refl, sym, ap, ◌∙◌, subst}
-use mathlib.Core.Option.{Option}
+use Rattle.std.specs.Prelude.{Option}
 use mathlib.Core.List.{List, [], ◌∷◌}
 use Prim.Native.Nat.{ℕ, suc, ◌-◌, ◌*◌, ◌<◌}
 use native.Mathlib.Omega.{arith}

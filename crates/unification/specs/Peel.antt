@@ -1,7 +1,6 @@
 -- Unification in the tables, pair by pair: what the contracts of the functions cite that take pairs until one binds a variable, and that
 -- bind one variable after the other. Assumes nothing.
-use Rattle.std.specs.Prelude.{◌≡◌, ℕ, suc, ◌+◌, ◌*◌, ◌≤◌, ◌<◌, List, length, get_or}
-use Rattle.std.proofs.Math.Option.{Option}
+use Rattle.std.specs.Prelude.{◌≡◌, ℕ, suc, ◌+◌, ◌*◌, ◌≤◌, ◌<◌, List, length, get_or, Option}
 use Rattle.rules.specs.Limits.{VARIABLES, TERMS, PAIRS}
 use Rattle.rules.specs.Out.{Out, ok, refuse, then}
 use Rattle.rules.specs.Tree.{Tree, Trees, count_trees}

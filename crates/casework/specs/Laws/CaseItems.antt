@@ -1,8 +1,7 @@
 -- One case of `invert`: what the definition reads of its item, and what the cells say of it. Assumes nothing.
-use Rattle.std.specs.Prelude.{◌≡◌, refl, Bool, List, ℕ, suc, ◌-◌, ◌<◌, ◌≤◌, eqb, length, take, drop}
+use Rattle.std.specs.Prelude.{◌≡◌, refl, Bool, List, ℕ, suc, ◌-◌, ◌<◌, ◌≤◌, eqb, length, take, drop, Option, Some as some, None as nothing}
 use Rattle.std.proofs.Common.{sym, ◌∙◌, subst, arith, eq-eqb, ne_eqb}
 use Rattle.std.proofs.Math.Path.{ap}
-use Rattle.std.proofs.Math.Option.{Option, some, none as nothing}
 use Rattle.rules.specs.Out.{ok, refuse, then, ask, found}
 use Rattle.rules.specs.Lex.{letters}
 use Rattle.rules.specs.Sexp.{Sexp, Sexps, Name, atom, list, nil, cons, count, item, rest, name, items}
@@ -18,12 +17,9 @@ use Rattle.sexp.specs.Never.{never}
 use Rattle.sexp.specs.AtomText.{AtomText, text_of}
 use Rattle.sexp.specs.NthItem.{place_high, rest_holds}
 use Rattle.sexp.specs.WalkLaws.{ListIs}
-use Rattle.sexp.specs.NameRows.{found_of}
 use Rattle.sexp.specs.FoundLaws.{found_at, found_missing}
 use Rattle.sexp.specs.declared.items.Item.{Item}
 use Rattle.sexp.specs.declared.items.Item.TheVariants.{Atom, List as Part}
-use Rattle.sexp.specs.declared.names.Found.{Found}
-use Rattle.sexp.specs.declared.names.Found.TheVariants.{At, Missing}
 use Rattle.reading.specs.Items.{FirstItem, index_in, vars_in, index_found}
 use Rattle.reading.specs.Given.{VarsItem}
 use Rattle.reading.specs.Answers.{VarsAs}
@@ -172,17 +168,17 @@ module _ {goals text vars cells : List ℕ} {count' : ℕ} (g : VarsItem goals t
             abbrev pub name_text : AtomText text (item within.items 0) p
             name_text = text_of (first_atom (inner_first within.holds three) e2 k)
 
-            module _ {at : ℕ} (pl : (zs : Sexps) → inside ≡ encodes zs → at ≡ place zs 1) {r : Found}
-                (ix : (x : Sexp) (ys : Sexps) → Holds text (take (length inside - at) (drop at inside)) (cons x ys) → r ≡ found_of (index_in x)) where
-              index_is : r ≡ found_of (index_in (item within.items 1))
+            module _ {at : ℕ} (pl : (zs : Sexps) → inside ≡ encodes zs → at ≡ place zs 1) {r : Option ℕ}
+                (ix : (x : Sexp) (ys : Sexps) → Holds text (take (length inside - at) (drop at inside)) (cons x ys) → r ≡ (index_in x)) where
+              index_is : r ≡ (index_in (item within.items 1))
               index_is = ix (item within.items 1) (rest within.items 2) (inner_rest within.holds three 1 (omega arith) pl)
 
-              pub vars_no_index : r ≡ Missing → (M : Made) → read_case g.S g.x M ≡ refuse 41 0 M
+              pub vars_no_index : r ≡ nothing → (M : Made) → read_case g.S g.x M ≡ refuse 41 0 M
               vars_no_index z M =
                   case_no_index_lem g.S g.x M within.items within.is three p _ name_text.is
                   (found_missing (index_in (item within.items 1)) r index_is z)
 
-              module _ {i : ℕ} (z : r ≡ At i) {at2 : ℕ} (pl2 : (zs : Sexps) → inside ≡ encodes zs → at2 ≡ place zs 2) where
+              module _ {i : ℕ} (z : r ≡ some i) {at2 : ℕ} (pl2 : (zs : Sexps) → inside ≡ encodes zs → at2 ≡ place zs 2) where
                 abbrev pub vars_item : VarsItem goals text vars count' (take (length inside - at2) (drop at2 inside))
                 vars_item = record {
                   S = g.S;
@@ -195,18 +191,18 @@ module _ {goals text vars cells : List ℕ} {count' : ℕ} (g : VarsItem goals t
                 found_index : index_in (item within.items 1) ≡ some i
                 found_index = found_at (index_in (item within.items 1)) r i index_is z
 
-                module _ (before out : List ℕ) (s : Found)
+                module _ (before out : List ℕ) (s : Option ℕ)
                     (w : (k : VarsItem goals text vars count' (take (length inside - at2) (drop at2 inside))) → VarsAs k.S.vars k.x before out s) where
-                  pub vars_no_vars : s ≡ Missing → ((M : Made) → read_case g.S g.x M ≡ refuse 42 0 M) × (out ≡ before)
+                  pub vars_no_vars : s ≡ nothing → ((M : Made) → read_case g.S g.x M ≡ refuse 42 0 M) × (out ≡ before)
                   vars_no_vars q =
-                      let v : VarsAs g.S.vars (item within.items 2) before out Missing =
-                      subst (λ (u : Found). VarsAs g.S.vars (item within.items 2) before out u) q (w vars_item) in
+                      let v : VarsAs g.S.vars (item within.items 2) before out nothing =
+                      subst (λ (u : Option ℕ). VarsAs g.S.vars (item within.items 2) before out u) q (w vars_item) in
                       (λ M. case_no_vars g.S g.x M within.items within.is three p _ name_text.is i found_index v.0, v.1)
 
-                  pub vars_read : {many : ℕ} → s ≡ At many → CaseIs g.S text g.x out p i many
+                  pub vars_read : {many : ℕ} → s ≡ some many → CaseIs g.S text g.x out p i many
                   vars_read {many} q =
-                      let v : VarsAs g.S.vars (item within.items 2) before out (At many) =
-                      subst (λ (u : Found). VarsAs g.S.vars (item within.items 2) before out u) q (w vars_item) in
+                      let v : VarsAs g.S.vars (item within.items 2) before out (some many) =
+                      subst (λ (u : Option ℕ). VarsAs g.S.vars (item within.items 2) before out u) q (w vars_item) in
                       record {
                         c = record { name = letters (drop p text); fact = i; vars = v.vars };
                         read = λ M. case_read g.S g.x M within.items within.is three p _ name_text.is i found_index v.vars v.are;

@@ -1,12 +1,11 @@
 -- `apply`, on a hypothesis and on another fact: the fact that the definition takes is well-sorted, and satisfies what the form's lemma
 -- asks. Of a well state.
-use Rattle.std.specs.Prelude.{ℕ, suc, ◌<◌, ◌≡◌, refl, Bool, false, ◌&&◌, ◌||◌, eqb}
+use Rattle.std.specs.Prelude.{ℕ, suc, ◌<◌, ◌≡◌, refl, Bool, false, ◌&&◌, ◌||◌, eqb, Option, Some as some, None as nothing}
 use native.Mathlib.Omega.{arith}
 use Rattle.std.proofs.Math.Path.{sym, ap₂, subst}
 use Rattle.std.proofs.Common.{◌∙◌, ap, eqb-true}
 use Rattle.std.proofs.Math.Logic.{inl, inr}
 use Rattle.std.proofs.Math.Bool.{true}
-use Rattle.std.proofs.Math.Option.{Option, some, none as nothing}
 use mathlib.Core.List.{List, [], ◌∷◌}
 use Rattle.std.proofs.Math.ListN.{length}
 use Rattle.rules.specs.Sexp.{Sexp, Sexps, nil, cons, count, item}

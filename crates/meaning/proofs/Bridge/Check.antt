@@ -2,10 +2,9 @@
 -- taken. Assumes nothing.
 use Prim.Native.Nat.{ℕ, zero, suc}
 use Rattle.std.proofs.Common.{arith, sym, ◌∙◌, ap, subst, inl, inr}
-use Rattle.std.specs.Prelude.{◌≡◌, Bool, not, eqb, length}
+use Rattle.std.specs.Prelude.{◌≡◌, Bool, not, eqb, length, Option, Some as some, None as nothing}
 use Rattle.std.proofs.Math.Path.{refl}
 use Rattle.std.proofs.Math.Bool.{true, false}
-use Rattle.std.proofs.Math.Option.{Option, some, none as nothing}
 use mathlib.Core.List.{List, [], ◌∷◌}
 use Rattle.rules.specs.Text.{short, plain}
 use Rattle.rules.specs.Out.{Out, ok, refuse}

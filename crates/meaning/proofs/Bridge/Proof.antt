@@ -1,7 +1,6 @@
 -- Every form of the proof, as an action on the state, does to it what `Took` says. Of a well state.
-use Rattle.std.specs.Prelude.{ℕ, ◌≡◌, refl, ◌⊎◌, Bool, true, false, ◌&&◌, not, List, [], ◌∷◌, ◌++◌, ltb, leb, length}
+use Rattle.std.specs.Prelude.{ℕ, ◌≡◌, refl, ◌⊎◌, Bool, true, false, ◌&&◌, not, List, [], ◌∷◌, ◌++◌, ltb, leb, length, Option, Some as some, None as nothing}
 use Rattle.std.proofs.Common.{arith, sym, subst, inl, inr}
-use Rattle.std.proofs.Math.Option.{Option, some, none as nothing}
 use Rattle.rules.specs.Limits.{VARIABLES, DEFS}
 use Rattle.rules.specs.Out.{Out, then}
 use Rattle.rules.specs.Text.{same}

@@ -1,10 +1,9 @@
 -- Going through a proof: every state reached from a good one is good, so every fact is true and every goal that was taken is derivable.
 -- Definitions of what is said of a run first, then the induction.
-use Rattle.std.specs.Prelude.{ℕ, suc, ◌≡◌, ◌⊎◌, true, List, length}
+use Rattle.std.specs.Prelude.{ℕ, suc, ◌≡◌, ◌⊎◌, true, List, length, Some as some}
 use Rattle.std.proofs.Common.{sym, ◌∙◌, inr}
 use Rattle.std.proofs.Math.Path.{subst}
 use Rattle.std.proofs.Math.Logic.{inl}
-use Rattle.std.proofs.Math.Option.{some}
 use Rattle.rules.specs.Out.{Out, ok, refuse, Act}
 use Rattle.rules.specs.Sexp.{Sexp, Text, ends, fails, more}
 use Rattle.rules.specs.Find.{entry}

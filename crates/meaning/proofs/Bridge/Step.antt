@@ -1,9 +1,8 @@
 -- `step`: the fact that the definition takes is well-sorted, and satisfies what the form's lemma asks. Of a well state.
-use Rattle.std.specs.Prelude.{ℕ, suc, ◌<◌, ◌≡◌, false, ◌&&◌, List, [], length, get_or}
+use Rattle.std.specs.Prelude.{ℕ, suc, ◌<◌, ◌≡◌, false, ◌&&◌, List, [], length, get_or, Option, Some as some, None as nothing}
 use Rattle.std.proofs.Common.{arith, ◌∙◌, ap}
 use Rattle.std.proofs.Math.Path.{refl, sym, subst}
 use Rattle.std.proofs.Math.Logic.{inl, inr}
-use Rattle.std.proofs.Math.Option.{Option, some, none as nothing}
 use Rattle.std.proofs.Math.Dec.{eqb}
 use Rattle.rules.specs.Text.{same}
 use Rattle.rules.specs.Sexp.{Sexp, Sexps, nil, cons, count, item, rest, name, marked}

@@ -1,7 +1,6 @@
 -- A form of the proof by its tag: `result`, the dispatch, and the whole form. Of a well state.
-use Rattle.std.specs.Prelude.{ℕ, zero, suc, ◌≡◌, refl, ◌⊎◌, true, false, not, List, [], ◌∷◌, eqb, length}
+use Rattle.std.specs.Prelude.{ℕ, zero, suc, ◌≡◌, refl, ◌⊎◌, true, false, not, List, [], ◌∷◌, eqb, length, Option, Some as some, None as nothing}
 use Rattle.std.proofs.Common.{sym, ◌∙◌, ap, subst, inl, inr}
-use Rattle.std.proofs.Math.Option.{Option, some, none as nothing}
 use Rattle.rules.specs.Out.{then}
 use Rattle.rules.specs.Sexp.{Sexp, Sexps, atom, list, count, item}
 use Rattle.rules.specs.Find.{entry, all, change}

@@ -1,8 +1,7 @@
 -- What one form of the proof does to the state: the theory stays, variables are added at the end, at most one fact is added, by a form whose
 -- tests held, and a goal is taken by a reference that gives it. Definitions, and the changes that storing makes.
-use Rattle.std.specs.Prelude.{ℕ, suc, ◌+◌, ◌<◌, ◌≤◌, ◌≡◌, refl, ◌⊎◌, true, false, List, [], ◌∷◌, ltb, leb, length}
+use Rattle.std.specs.Prelude.{ℕ, suc, ◌+◌, ◌<◌, ◌≤◌, ◌≡◌, refl, ◌⊎◌, true, false, List, [], ◌∷◌, ltb, leb, length, Some as some}
 use Rattle.std.proofs.Common.{arith, sym, ◌∙◌, subst, inl, inr, length-append}
-use Rattle.std.proofs.Math.Option.{some}
 use Rattle.rules.specs.Limits.{FACTS, ENTRIES}
 use Rattle.rules.specs.Out.{Out, ok, refuse, then}
 use Rattle.rules.specs.Find.{entry}

@@ -1,8 +1,7 @@
 -- What an answer of the definition's small parts says: questions that were passed, names and items that were read, look-ups in lists, and
 -- sets of numbers. Assumes nothing.
-use Rattle.std.specs.Prelude.{ℕ, zero, suc, ◌+◌, ◌<◌, ◌≤◌, ◌≡◌, refl, ◌⊎◌, Bool, true, false, ◌&&◌, ◌||◌, not, List, [], ◌∷◌, eqb, length, get_or}
+use Rattle.std.specs.Prelude.{ℕ, zero, suc, ◌+◌, ◌<◌, ◌≤◌, ◌≡◌, refl, ◌⊎◌, Bool, true, false, ◌&&◌, ◌||◌, not, List, [], ◌∷◌, eqb, length, get_or, Option, Some as some, None as nothing}
 use Rattle.std.proofs.Common.{arith, sym, ◌∙◌, ap, subst, inl, inr, eqb-true}
-use Rattle.std.proofs.Math.Option.{Option, some, none as nothing}
 use Rattle.std.proofs.lemmas.Bool.{eqb-false}
 use Rattle.rules.specs.Out.{Out, ok, refuse, then, Act, ask, room, found}
 use Rattle.rules.specs.Sexp.{Sexp, atom, list, name, items}

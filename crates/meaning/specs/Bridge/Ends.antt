@@ -1,8 +1,7 @@
 -- Actions on the whole state: what an answer says of the value and of the state behind it. Most questions keep the state; an action on the
 -- made trees changes those alone. Assumes nothing.
-use Rattle.std.specs.Prelude.{ℕ, ◌≡◌, refl, Bool, true, false, not, List, [], ◌∷◌, ◌++◌}
+use Rattle.std.specs.Prelude.{ℕ, ◌≡◌, refl, Bool, true, false, not, List, [], ◌∷◌, ◌++◌, Option, Some as some, None as nothing}
 use Rattle.std.proofs.Common.{sym, subst}
-use Rattle.std.proofs.Math.Option.{Option, some, none as nothing}
 use Rattle.rules.specs.Out.{Out, ok, refuse, then, Act, ask, room, found}
 use Rattle.rules.specs.Sexp.{Sexp, Sexps, atom, list, nil, cons, name, items}
 use Rattle.rules.specs.Index.{index_of}

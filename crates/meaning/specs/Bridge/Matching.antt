@@ -1,9 +1,8 @@
 -- What the success of `matches` and `build` says: the bindings make the pattern the tree, every variable of the pattern is bound, and
 -- nothing else is newly bound. Assumes nothing.
-use Rattle.std.specs.Prelude.{ℕ, ◌≡◌, refl, ◌⊎◌, Bool, true, false, eqb}
+use Rattle.std.specs.Prelude.{ℕ, ◌≡◌, refl, ◌⊎◌, Bool, true, false, eqb, Option, Some as some, None as nothing}
 use Rattle.std.proofs.Math.Decide.{ℕ_discrete}
 use Rattle.std.proofs.Common.{sym, ◌∙◌, ap, ap₂, subst, inl, inr, eqb-true, eq-eqb, ne_eqb}
-use Rattle.std.proofs.Math.Option.{Option, some, none as nothing}
 use Rattle.rules.specs.Tree.{Tree, Trees, var, app, none, more, same_tree, sub, subs}
 use Rattle.rules.specs.Store.{Made}
 use Rattle.rules.specs.Match.{Bound, bind, match_var, and_then, matches, match_all, build, builds}

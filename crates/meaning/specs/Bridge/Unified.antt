@@ -1,8 +1,7 @@
 -- Every unification that an inversion comes to is over variables that are there, whatever the texts: of states as `Bounded` of `rules` has
 -- them. Assumes nothing.
-use Rattle.std.specs.Prelude.{ℕ, ◌≤◌, ◌≡◌, List, [], ◌∷◌, length}
+use Rattle.std.specs.Prelude.{ℕ, ◌≤◌, ◌≡◌, List, [], ◌∷◌, length, None as nothing}
 use Rattle.std.proofs.Common.{arith, sym, subst, inl, inr}
-use Rattle.std.proofs.Math.Option.{none as nothing}
 use Rattle.rules.specs.Out.{ok}
 use Rattle.rules.specs.Sexp.{Sexps}
 use Rattle.rules.specs.Tree.{Tree, sub}

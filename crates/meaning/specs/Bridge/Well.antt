@@ -1,10 +1,9 @@
 -- What every reached theory and state satisfies: rules, made trees, facts and goals are well-sorted, over variables that are there; a fact
 -- rests on facts that are there; only a hypothesis has premises. The sorts of the variables are those of the last state reached, which
 -- agree with the sorts of every state before. Definitions, and that more of everything keeps them.
-use Rattle.std.specs.Prelude.{ℕ, ◌<◌, ◌≤◌, ◌≡◌, refl, ◌⊎◌, false, List, [], ◌∷◌, ◌++◌, length, get_or}
+use Rattle.std.specs.Prelude.{ℕ, ◌<◌, ◌≤◌, ◌≡◌, refl, ◌⊎◌, false, List, [], ◌∷◌, ◌++◌, length, get_or, Some as some}
 use Rattle.std.proofs.Common.{arith, sym, ◌∙◌, ap, inl, inr, append_assoc, append-nil, length-append}
 use Rattle.std.proofs.Math.Path.{subst}
-use Rattle.std.proofs.Math.Option.{some}
 use Rattle.std.proofs.Math.ListN.{get_or-append}
 use Rattle.rules.specs.Tree.{Tree, Trees, var, app, none, more, sub, subs}
 use Rattle.rules.specs.Theory.{Theory, Rule, rule}

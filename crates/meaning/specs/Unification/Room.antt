@@ -1,8 +1,7 @@
 -- Room for a unification: it adds made trees at the end, and its refusals are question 60, in the store's rows or in the row of the
 -- waiting pairs. Of all trees, whatever their variables. Assumes nothing.
-use Rattle.std.specs.Prelude.{◌≡◌, refl, ◌⊎◌, List, [], ◌∷◌, ℕ, zero, suc, ◌+◌, leb, length}
+use Rattle.std.specs.Prelude.{◌≡◌, refl, ◌⊎◌, List, [], ◌∷◌, ℕ, zero, suc, ◌+◌, leb, length, Option}
 use Rattle.std.proofs.Common.{inl, inr}
-use Rattle.std.proofs.Math.Option.{Option}
 use Rattle.rules.specs.Limits.{PAIRS}
 use Rattle.rules.specs.Out.{Act}
 use Rattle.rules.specs.Tree.{Tree, count_trees}

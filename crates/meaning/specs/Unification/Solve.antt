@@ -1,10 +1,9 @@
 -- Binding one variable after the other: what `solve` answers is a most general unifier of the pairs, or rightly that there is none, and
 -- the number of bindings suffices. Assumes nothing.
-use Rattle.std.specs.Prelude.{◌≡◌, List, length}
+use Rattle.std.specs.Prelude.{◌≡◌, List, length, Option, Some as some, None as nothing}
 use Rattle.std.proofs.Math.Path.{refl, sym, ap, subst}
 use Rattle.std.proofs.Common.{◌∙◌}
 use Rattle.std.proofs.Math.Logic.{inl, inr}
-use Rattle.std.proofs.Math.Option.{Option, some, none as nothing}
 use Prim.Native.Nat.{ℕ, zero, suc, ◌+◌, ◌<◌}
 use native.Mathlib.Omega.{arith}
 use Rattle.rules.specs.Out.{Out, Act}

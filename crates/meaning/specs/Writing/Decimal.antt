@@ -1,7 +1,6 @@
 -- Numbers in decimal digits, and that they are read back as indices. Assumes nothing.
-use Rattle.std.specs.Prelude.{ℕ, zero, suc, ◌+◌, ◌-◌, ◌*◌, ◌^◌, ◌≤◌, ◌<◌, ◌≡◌, refl, Bool, true, false, ◌&&◌, List, [], ◌∷◌, leb, ltb, length}
+use Rattle.std.specs.Prelude.{ℕ, zero, suc, ◌+◌, ◌-◌, ◌*◌, ◌^◌, ◌≤◌, ◌<◌, ◌≡◌, refl, Bool, true, false, ◌&&◌, List, [], ◌∷◌, leb, ltb, length, Option, Some as some, None as nothing}
 use Rattle.std.proofs.Common.{arith, sym, ◌∙◌, ap, ap₂, subst, ltb-true, ltb-false, leb-true, le-leb, lt-ltb, ne_eqb}
-use Rattle.std.proofs.Math.Option.{Option, some, none as nothing}
 use Rattle.rules.specs.Text.{bytes}
 use Rattle.rules.specs.Index.{digit, digits, value, unsigned, index_of}
 use Rattle.meaning.specs.Trees.Tests.{and_true}

@@ -1,10 +1,9 @@
 -- The forms of a written derivation as a check takes them: the goal, a step, the result. A goal or step is taken where its judgment can be
 -- made and stored, and refused by question 60 elsewhere; the result is taken. Assumes nothing.
-use Rattle.std.specs.Prelude.{ℕ, ◌+◌, ◌≡◌, Bool, List, [], ◌∷◌, ◌++◌, leb, ltb, length}
+use Rattle.std.specs.Prelude.{ℕ, ◌+◌, ◌≡◌, Bool, List, [], ◌∷◌, ◌++◌, leb, ltb, length, Option, Some as some, None as nothing}
 use Rattle.std.proofs.Common.{arith, sym, ◌∙◌, ap₂}
 use Rattle.std.proofs.Math.Path.{refl, ap, subst}
 use Rattle.std.proofs.Math.Bool.{true, false}
-use Rattle.std.proofs.Math.Option.{Option, some, none as nothing}
 use borrow.Author.Tests.{eq-eqb, le-leb}
 use Rattle.rules.specs.Limits.{FACTS, ENTRIES}
 use Rattle.rules.specs.Text.{bytes}

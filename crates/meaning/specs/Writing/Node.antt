@@ -1,12 +1,11 @@
 -- One node of a written derivation: its conclusion is a ground judgment, its rule matches, its children are found, and so its step is taken
 -- as soon as the conclusion is made. Assumes nothing.
 use Prim.Native.Nat.{ℕ, zero, suc, ◌+◌, ◌<◌}
-use Rattle.std.specs.Prelude.{◌≡◌, ◌||◌, length}
+use Rattle.std.specs.Prelude.{◌≡◌, ◌||◌, length, Option, Some as some, None as nothing}
 use Rattle.std.proofs.Math.Path.{refl, ap, ap₂}
 use Rattle.std.proofs.Common.{sym, ◌∙◌, subst, eq-eqb}
 use Rattle.std.proofs.Math.Logic.{inl, inr}
 use Rattle.std.proofs.Math.Bool.{true, false}
-use Rattle.std.proofs.Math.Option.{Option, some, none as nothing}
 use mathlib.Core.List.{List, [], ◌∷◌, ◌++◌}
 use Rattle.rules.specs.Out.{ok, then}
 use Rattle.rules.specs.Sexp.{Sexp, Sexps, name as nameˢ}

@@ -2,11 +2,10 @@
 -- one for each node; and what a written derivation concludes is derivable. Assumes nothing.
 use Prim.Native.Nat.{ℕ, zero, suc, ◌+◌, ◌^◌, ◌≤◌, ◌<◌}
 use native.Mathlib.Omega.{arith}
-use Rattle.std.specs.Prelude.{◌≡◌, ◌⊎◌, Bool, true, length}
+use Rattle.std.specs.Prelude.{◌≡◌, ◌⊎◌, Bool, true, length, Some as some}
 use Rattle.std.proofs.Math.Path.{refl, subst}
 use Rattle.std.proofs.Common.{sym, ◌∙◌, ap, ap₂, length-append}
 use Rattle.std.proofs.Math.Logic.{inl, inr}
-use Rattle.std.proofs.Math.Option.{some}
 use mathlib.Core.List.{List, [], ◌∷◌, ◌++◌, append_assoc, append-nil}
 use Rattle.rules.specs.Find.{entry}
 use Rattle.rules.specs.Laws.Entry.{entry_front}

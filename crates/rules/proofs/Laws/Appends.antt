@@ -1,8 +1,7 @@
 -- Every form only appends: nothing that stands in the state is changed or lost, except that a goal is marked as taken, once. A form that
 -- overwrote a fact, dropped a variable, put a tree in front of others or took a goal's mark away would not have this. Assumes nothing.
-use Rattle.std.specs.Prelude.{ℕ, zero, suc, ◌≡◌, refl, false, not, List, [], ◌∷◌, ◌++◌, ltb}
+use Rattle.std.specs.Prelude.{ℕ, zero, suc, ◌≡◌, refl, false, not, List, [], ◌∷◌, ◌++◌, ltb, Some as some}
 use Rattle.std.proofs.Common.{subst, sym, append-nil}
-use Rattle.std.proofs.Math.Option.{some}
 use Rattle.rules.specs.Limits.{ARGUMENTS}
 use Rattle.rules.specs.Out.{ok}
 use Rattle.rules.specs.Sexp.{Sexp, Sexps, nil, cons, count, item, Name, marked}

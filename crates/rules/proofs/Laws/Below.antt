@@ -2,12 +2,11 @@
 -- action, then through the store, building and unification. `Keeping` cannot say it: there a variable is kept whatever its number.
 -- BelowRead, BelowCases and Bounded go on to the forms. Assumes nothing.
 use Prim.Native.Nat.{ℕ, zero, suc, ◌+◌, ◌≤◌, ◌<◌}
-use Rattle.std.specs.Prelude.{◌≡◌, Bool, eqb, leb, ltb, length}
+use Rattle.std.specs.Prelude.{◌≡◌, Bool, eqb, leb, ltb, length, Option, Some as some, None as nothing}
 use Rattle.std.proofs.Math.Path.{refl}
 use Rattle.std.proofs.Common.{sym, subst, arith, eqb-true, eq-eqb}
 use Rattle.std.proofs.Math.Bool.{true, false}
 use Rattle.std.proofs.lemmas.Bool.{false≢true}
-use Rattle.std.proofs.Math.Option.{Option, some, none as nothing}
 use mathlib.Core.List.{List, [], ◌∷◌, ◌++◌}
 use Rattle.rules.specs.Limits.{TERMS, WORDS, PAIRS}
 use Rattle.rules.specs.Out.{Out, ok, refuse, then, Act, ask, room, found}

@@ -2,13 +2,12 @@
 -- reference list. Hypotheses have none." `footing` says this of a form's text and the facts there are, and the laws say that each fact that a taken
 -- form records has it. A step without the footings of its references, an instance or an application with an empty one, an application that took
 -- over the footing of the applied fact, or an induction or inversion with any, would be refused here. Assumes nothing.
-use Rattle.std.specs.Prelude.{ℕ, ◌+◌, ◌<◌, Bool, ◌&&◌, not, eqb, leb, ltb}
+use Rattle.std.specs.Prelude.{ℕ, ◌+◌, ◌<◌, Bool, ◌&&◌, not, eqb, leb, ltb, Option, Some as some, None as nothing}
 use Rattle.std.proofs.Math.Path.{◌≡◌, refl, ap₂}
 use Rattle.std.proofs.Common.{sym, subst, ap, ◌∙◌, arith}
 use Rattle.std.proofs.Math.Bool.{true, false, ◌||◌}
 use Rattle.std.proofs.lemmas.Bool.{false≢true}
 use Rattle.std.proofs.Math.Logic.{inl, inr}
-use Rattle.std.proofs.Math.Option.{Option, some, none as nothing}
 use mathlib.Core.List.{List, [], ◌∷◌, ◌++◌}
 use borrow.Author.Tests.{eqb-true}
 use Rattle.std.proofs.Math.ListN.{length}

@@ -1,7 +1,6 @@
 -- Every action on made trees, at the invariant `sound`: from sound trees, and a state whose trees are among them, it only appends and leaves sound
 -- trees, whether it answers or refuses, and what it answers is among them. Assumes nothing.
-use Rattle.std.specs.Prelude.{ℕ, ◌≡◌}
-use Rattle.std.proofs.Math.Option.{some}
+use Rattle.std.specs.Prelude.{ℕ, ◌≡◌, Some as some}
 use Rattle.rules.specs.Sexp.{Sexp, Sexps}
 use Rattle.rules.specs.Tree.{Tree, Trees}
 use Rattle.rules.specs.Store.{Made, keep, make, substitute, substitutes}

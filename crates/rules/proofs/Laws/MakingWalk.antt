@@ -1,10 +1,9 @@
 -- The walk of Keeping through the store, building and unification: whatever is kept by storing one new tree whose arguments are there is
 -- kept by all of these, and what they answer is stored. Assumes nothing.
 use Prim.Native.Nat.{ℕ, zero, suc, ◌+◌}
-use Rattle.std.specs.Prelude.{◌≡◌, Bool, eqb, length}
+use Rattle.std.specs.Prelude.{◌≡◌, Bool, eqb, length, Option, Some as some, None as nothing}
 use Rattle.std.proofs.Math.Path.{refl}
 use Rattle.std.proofs.Math.Bool.{true, false}
-use Rattle.std.proofs.Math.Option.{Option, some, none as nothing}
 use mathlib.Core.List.{List, [], ◌∷◌, ◌++◌}
 use Rattle.std.proofs.Common.{ltb-true, leb-true}
 use Rattle.std.proofs.Math.Dec.{leb, ltb}

@@ -1,8 +1,7 @@
 -- The walk of Keeping through reading: terms, judgments, bindings and references, over a state whose trees are among the made ones.
 -- Assumes nothing.
-use Rattle.std.specs.Prelude.{ℕ, ◌≡◌, Bool, true, false, not, leb, eqb}
+use Rattle.std.specs.Prelude.{ℕ, ◌≡◌, Bool, true, false, not, leb, eqb, Some as some}
 use Rattle.std.proofs.Common.{subst, arith}
-use Rattle.std.proofs.Math.Option.{some}
 use mathlib.Core.List.{List, [], ◌∷◌}
 use Rattle.rules.specs.Out.{ok}
 use Rattle.rules.specs.Text.{same}

@@ -1,9 +1,8 @@
 -- The questions that leave the state as it is, whether they are answered or refused: names, indices, variables, hypotheses by number, cases
 -- as given. Assumes nothing.
 use Prim.Native.Nat.{ℕ, zero, suc}
-use Rattle.std.specs.Prelude.{Bool, ◌&&◌, eqb, ltb, length}
+use Rattle.std.specs.Prelude.{Bool, ◌&&◌, eqb, ltb, length, Option, Some as some, None as nothing}
 use Rattle.std.proofs.Math.Bool.{true, false, not}
-use Rattle.std.proofs.Math.Option.{Option, some, none as nothing}
 use mathlib.Core.List.{List, [], ◌∷◌, ◌++◌}
 use Rattle.rules.specs.Limits.{VARIABLES}
 use Rattle.rules.specs.Out.{Out, ok, refuse, then, ask, room, found}

@@ -1,7 +1,6 @@
 -- Each declaration keeps a theory well-formed. Assumes nothing.
-use Rattle.std.specs.Prelude.{ℕ, suc, ◌+◌, ◌<◌, ◌≤◌, ◌≡◌, refl, not, List, [], ◌∷◌, ◌++◌, ltb, length}
+use Rattle.std.specs.Prelude.{ℕ, suc, ◌+◌, ◌<◌, ◌≤◌, ◌≡◌, refl, not, List, [], ◌∷◌, ◌++◌, ltb, length, Option, Some as some, None as nothing}
 use Rattle.std.proofs.Common.{sym, ap, ◌∙◌, subst, arith, ltb-true, length-append}
-use Rattle.std.proofs.Math.Option.{Option, some, none as nothing}
 use Rattle.rules.specs.Limits.{SORTS, SYMBOLS, ARGUMENTS, RULES}
 use Rattle.rules.specs.Text.{same}
 use Rattle.rules.specs.Out.{Out, ok, refuse, then, ask, room}

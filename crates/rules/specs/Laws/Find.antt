@@ -1,9 +1,8 @@
 -- What `first` finds, and the entries of a list that has grown. Assumes nothing.
 use Prim.Native.Nat.{ℕ, zero, suc, ◌+◌, ◌<◌, ◌≤◌}
 use Rattle.std.proofs.Math.Path.{◌≡◌, refl}
-use Rattle.std.specs.Prelude.{Bool, length, get_or, drop}
+use Rattle.std.specs.Prelude.{Bool, length, get_or, drop, Option, Some as some, None as nothing}
 use Rattle.std.proofs.Math.Bool.{true, false}
-use Rattle.std.proofs.Math.Option.{Option, some, none as nothing}
 use mathlib.Core.List.{List, [], ◌∷◌, ◌++◌}
 use Rattle.std.proofs.Common.{arith, add-one, drop_of_length-le, drop-cons}
 use Rattle.rules.specs.Find.{first}

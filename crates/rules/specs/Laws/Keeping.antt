@@ -1,10 +1,9 @@
 -- What an action on the made trees keeps: how it goes through the questions of an action, where they are answered and where they are refused.
 -- The invariant is left open, so that one walk through the definition (MakingWalk and on) serves every invariant. Assumes nothing.
-use Rattle.std.specs.Prelude.{ℕ, ◌+◌, ◌≤◌, ◌<◌, ◌≡◌, Bool, [], ◌∷◌, ◌++◌, length}
+use Rattle.std.specs.Prelude.{ℕ, ◌+◌, ◌≤◌, ◌<◌, ◌≡◌, Bool, [], ◌∷◌, ◌++◌, length, Option, Some as some, None as nothing}
 use Rattle.std.proofs.Math.Path.{refl}
 use Rattle.std.proofs.Common.{sym, subst, append_assoc, append-nil}
 use Rattle.std.proofs.Math.Bool.{true, false}
-use Rattle.std.proofs.Math.Option.{Option, some, none as nothing}
 use Rattle.rules.specs.Limits.{TERMS, WORDS}
 use Rattle.rules.specs.Out.{Out, ok, refuse, then, Act, ask, room, found}
 use Rattle.rules.specs.Tree.{Tree, Trees, var, app, none, more, node}

@@ -2,10 +2,9 @@
 -- among rules, and none starts with `?`. A name has every property that all atoms of the text have. Assumes nothing.
 use Prim.Native.Nat.{ℕ, zero, suc, ◌+◌, ◌<◌, ◌≤◌}
 use Rattle.std.proofs.Math.Path.{◌≡◌, ap, subst}
-use Rattle.std.specs.Prelude.{refl, Bool, ◌&&◌, not, ◌⊎◌, ltb, get_or}
+use Rattle.std.specs.Prelude.{refl, Bool, ◌&&◌, not, ◌⊎◌, ltb, get_or, Option, Some as some, None as nothing}
 use Rattle.std.proofs.Common.{sym, ◌∙◌, inl, inr, length-append}
 use Rattle.std.proofs.Math.Bool.{true, false}
-use Rattle.std.proofs.Math.Option.{Option, some, none as nothing}
 use mathlib.Core.List.{List, [], ◌∷◌, ◌++◌}
 use native.Mathlib.Omega.{arith}
 use Rattle.std.proofs.Math.Decide.{dec_lt}

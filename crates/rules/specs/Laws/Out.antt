@@ -1,9 +1,8 @@
 -- How a property of what is answered goes through the questions of an action, one law for each kind of question. Assumes nothing.
-use Rattle.std.specs.Prelude.{ℕ, ◌≡◌, Bool}
+use Rattle.std.specs.Prelude.{ℕ, ◌≡◌, Bool, Option, Some as some, None as nothing}
 use Rattle.std.proofs.Math.Path.{refl}
 use Rattle.std.proofs.Common.{sym, subst, arith}
 use Rattle.std.proofs.Math.Bool.{true, false}
-use Rattle.std.proofs.Math.Option.{Option, some, none as nothing}
 use Rattle.rules.specs.Out.{Out, ok, refuse, then, ask, room, found, beside}
 use Rattle.rules.specs.Sexp.{Sexp, Sexps, atom, list, Name, name, items}
 

@@ -1,9 +1,8 @@
 -- What holds at the beginning and is kept by every form of goals and proof holds in every state that a check reaches: of the state that its
 -- answer is given in, whatever the answer. The beginning is over a theory that was declared. Assumes nothing.
 use Prim.Native.Nat.{ℕ, zero, suc}
-use Rattle.std.specs.Prelude.{Bool, eqb, length}
+use Rattle.std.specs.Prelude.{Bool, eqb, length, Option, Some as some, None as nothing}
 use Rattle.std.proofs.Math.Bool.{true, false}
-use Rattle.std.proofs.Math.Option.{Option, some, none as nothing}
 use mathlib.Core.List.{List, [], ◌∷◌}
 use Rattle.rules.specs.Out.{Out, ok, refuse, Act}
 use Rattle.rules.specs.Sexp.{Sexp, Text, ends, fails, more, read}

@@ -2,12 +2,11 @@
 -- alone; a fact that is not assumed has no premises and generalises nothing; a footing names rules of the theory, rising. A form that let a
 -- fact rest on a later one or on one that is not assumed, that repeated a number or left the order, or gave premises to a fact that is not
 -- assumed, would not have it. Assumes nothing.
-use Rattle.std.specs.Prelude.{ℕ, ◌≤◌, ◌<◌, ◌≡◌, Bool, ◌&&◌, length}
+use Rattle.std.specs.Prelude.{ℕ, ◌≤◌, ◌<◌, ◌≡◌, Bool, ◌&&◌, length, Some as some}
 use Rattle.std.proofs.Math.Path.{refl}
 use Rattle.std.proofs.Common.{subst, sym, ◌∙◌, inl, inr, arith}
 use Rattle.std.proofs.Math.Bool.{true, false}
 use Rattle.std.proofs.lemmas.Bool.{false≢true}
-use Rattle.std.proofs.Math.Option.{some}
 use mathlib.Core.List.{List, [], ◌∷◌, ◌++◌}
 use Rattle.rules.specs.Out.{Out, ok, refuse, then, Act, ask}
 use Rattle.rules.specs.Sexp.{Sexp, Sexps, atom, list, nil, cons, item}

@@ -1,9 +1,8 @@
 -- The made trees, the property that every action on them keeps: no tree stands twice, the arguments of a tree stand before it, rows 8 and 9
 -- hold. `sound` is that property as an invariant; proofs/Laws/Made has that every state that a check reaches has it. Assumes nothing.
-use Rattle.std.specs.Prelude.{ℕ, zero, suc, ◌+◌, ◌≤◌, ◌<◌, ◌≡◌, refl, Bool, true, false, ◌⊎◌, [], ◌∷◌, ◌++◌, length}
+use Rattle.std.specs.Prelude.{ℕ, zero, suc, ◌+◌, ◌≤◌, ◌<◌, ◌≡◌, refl, Bool, true, false, ◌⊎◌, [], ◌∷◌, ◌++◌, length, Some as some}
 use Rattle.std.proofs.Common.{subst, sym, ◌∙◌, ap, true≢false, inl, inr, append_assoc, append-nil, arith, length-append}
 use Rattle.std.proofs.lemmas.Bool.{false≢true}
-use Rattle.std.proofs.Math.Option.{some}
 use Rattle.rules.specs.Limits.{TERMS, WORDS}
 use Rattle.rules.specs.Find.{entry}
 use Rattle.rules.specs.Tree.{Tree, Trees, app, same_tree}

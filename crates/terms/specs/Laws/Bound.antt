@@ -1,10 +1,9 @@
 -- The cells of a rule's variables: what they bind, one that gets a tree, that trees made later do not change them; and that a pattern whose
 -- variables are all bound is built as its substitution is. Assumes nothing.
-use Rattle.std.specs.Prelude.{◌≡◌, Bool, List, length, set, replicate}
+use Rattle.std.specs.Prelude.{◌≡◌, Bool, List, length, set, replicate, Some as some, None as nothing}
 use Rattle.std.proofs.Math.Path.{refl, sym, ap}
 use Rattle.std.proofs.Common.{◌∙◌, length-set, get_or-set_other, eq-eqb, ne_eqb}
 use Rattle.std.proofs.Math.Bool.{true, false}
-use Rattle.std.proofs.Math.Option.{some, none as nothing}
 use Prim.Native.Nat.{ℕ, zero, suc, ◌+◌, ◌≤◌, ◌<◌}
 use native.Mathlib.Omega.{arith}
 use Rattle.std.proofs.Math.Decide.{ℕ_discrete}

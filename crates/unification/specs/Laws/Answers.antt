@@ -1,7 +1,6 @@
 -- What the answer of `unify` says, once a caller has seen which one it is, and what the call did to the store then (`Went`). Assumes nothing.
-use Rattle.std.specs.Prelude.{◌≡◌, List, ℕ, length}
+use Rattle.std.specs.Prelude.{◌≡◌, List, ℕ, length, Option, Some as some, None as nothing}
 use Rattle.std.proofs.Common.{subst}
-use Rattle.std.proofs.Math.Option.{Option, some, none as nothing}
 use Rattle.rules.specs.Limits.{VARIABLES}
 use Rattle.rules.specs.Out.{Out}
 use Rattle.rules.specs.Store.{Made}

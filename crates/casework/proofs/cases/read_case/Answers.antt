@@ -97,16 +97,16 @@ slice_bounds-vars_list-start c = inner_high (within c.requires.0 c.item_at.ensur
 pub vars_list-requires : goal.vars_list-requires
 vars_list-requires c = (
   vars_item c.requires.0 c.item_at.ensures c.in-List.is c.count.ensures c.if-count-ne3.false c.item_at-2.ensures c.in-Atom.is c.place-second.ensures
-      c.index.ensures c.in-At.is c.place-third.ensures,
+      c.index.ensures c.in-Some.is c.place-third.ensures,
   c.requires.1,
 )
 
 pub returns-in_default-vars_list : goal.returns-in_default-vars_list
 returns-in_default-vars_list c = λ g. vars_no_vars g c.item_at.ensures c.in-List.is c.count.ensures c.if-count-ne3.false c.item_at-2.ensures c.in-Atom.is c.place-second.ensures
-    c.index.ensures c.in-At.is c.place-third.ensures c.args.out.now c.vars_list.new.out c.vars_list.result
+    c.index.ensures c.in-Some.is c.place-third.ensures c.args.out.now c.vars_list.new.out c.vars_list.result
     c.vars_list.ensures c.in_default-vars_list.is
 
 pub returns : goal.returns
 returns c = λ g. vars_read g c.item_at.ensures c.in-List.is c.count.ensures c.if-count-ne3.false c.item_at-2.ensures c.in-Atom.is c.place-second.ensures
-    c.index.ensures c.in-At.is c.place-third.ensures c.args.out.now c.vars_list.new.out c.vars_list.result
-    c.vars_list.ensures c.in-At-vars_list.is
+    c.index.ensures c.in-Some.is c.place-third.ensures c.args.out.now c.vars_list.new.out c.vars_list.result
+    c.vars_list.ensures c.in-Some-vars_list.is

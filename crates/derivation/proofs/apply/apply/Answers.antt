@@ -24,37 +24,37 @@ pub nth-requires : goal.nth-requires
 nth-requires c = reaches c.requires.fact_form.holds (omega (arith, c.requires.fact_form.many))
 
 pub returns-in_default-nth : goal.returns-in_default-nth
-returns-in_default-nth c = record { derived_as = λ g. form_atom_lem g c.place-at.ensures c.index.ensures c.in-At.is c.nth.ensures c.in_default-nth.is; map_unchanged = (refl, refl, refl) }
+returns-in_default-nth c = record { derived_as = λ g. form_atom_lem g c.place-at.ensures c.index.ensures c.in-Some.is c.nth.ensures c.in_default-nth.is; map_unchanged = (refl, refl, refl) }
 
 pub offset_bounds-cells-a : goal.offset_bounds-cells-a
 offset_bounds-cells-a c = omega (
   arith,
-  (form_list c.requires.fact_form c.place-at.ensures c.index.ensures c.in-At.is c.nth.ensures c.in-List.is).low,
+  (form_list c.requires.fact_form c.place-at.ensures c.index.ensures c.in-Some.is c.nth.ensures c.in-List.is).low,
   (form_list c.requires.fact_form
-      c.place-at.ensures c.index.ensures c.in-At.is c.nth.ensures c.in-List.is).high,
+      c.place-at.ensures c.index.ensures c.in-Some.is c.nth.ensures c.in-List.is).high,
   c.well_formed.1.1.1.1.1.1.1.1.1.1.1.1.1.1.0,
 )
 
 pub slice_bounds-bindings-count : goal.slice_bounds-bindings-count
-slice_bounds-bindings-count c = (form_list c.requires.fact_form c.place-at.ensures c.index.ensures c.in-At.is c.nth.ensures c.in-List.is).low
+slice_bounds-bindings-count c = (form_list c.requires.fact_form c.place-at.ensures c.index.ensures c.in-Some.is c.nth.ensures c.in-List.is).low
 
 pub slice_bounds-bindings-start : goal.slice_bounds-bindings-start
-slice_bounds-bindings-start c = (form_list c.requires.fact_form c.place-at.ensures c.index.ensures c.in-At.is c.nth.ensures c.in-List.is).low
+slice_bounds-bindings-start c = (form_list c.requires.fact_form c.place-at.ensures c.index.ensures c.in-Some.is c.nth.ensures c.in-List.is).low
 
 pub slice_bounds-bindings-end : goal.slice_bounds-bindings-end
-slice_bounds-bindings-end c = (form_list c.requires.fact_form c.place-at.ensures c.index.ensures c.in-At.is c.nth.ensures c.in-List.is).high
+slice_bounds-bindings-end c = (form_list c.requires.fact_form c.place-at.ensures c.index.ensures c.in-Some.is c.nth.ensures c.in-List.is).high
 
 pub bindings-requires : goal.bindings-requires
-bindings-requires c = record { reads_items = bindings_given c.requires.fact_form c.place-at.ensures c.index.ensures c.in-At.is c.nth.ensures c.in-List.is; map_value = c.requires.blank.1 }
+bindings-requires c = record { reads_items = bindings_given c.requires.fact_form c.place-at.ensures c.index.ensures c.in-Some.is c.nth.ensures c.in-List.is; map_value = c.requires.blank.1 }
 
 pub apply_on-r-requires : goal.apply_on-r-requires
 apply_on-r-requires c = record {
-  fact_form = form_given c.requires.fact_form c.place-at.ensures c.index.ensures c.in-At.is c.nth.ensures c.in-List.is
+  fact_form = form_given c.requires.fact_form c.place-at.ensures c.index.ensures c.in-Some.is c.nth.ensures c.in-List.is
       c.bindings.new.index c.bindings.new.words _
       c.bindings.new.map c.bindings.result c.bindings.ensures c.in-Ok.is;
   blank = (
     c.requires.blank.0,
-    (form_read c.requires.fact_form c.place-at.ensures c.index.ensures c.in-At.is c.nth.ensures c.in-List.is
+    (form_read c.requires.fact_form c.place-at.ensures c.index.ensures c.in-Some.is c.nth.ensures c.in-List.is
         c.bindings.new.index c.bindings.new.words _
         c.bindings.new.map c.bindings.result c.bindings.ensures c.in-Ok.is).cells,
   );
@@ -65,7 +65,7 @@ shape_of-index-in-Ok c = c.apply_on-r.auto.index ∙ c.bindings.auto.index
 
 pub returns-in-Ok : goal.returns-in-Ok
 returns-in-Ok c = record {
-  derived_as = λ g. form_answers g c.place-at.ensures c.index.ensures c.in-At.is c.nth.ensures c.in-List.is
+  derived_as = λ g. form_answers g c.place-at.ensures c.index.ensures c.in-Some.is c.nth.ensures c.in-List.is
       c.bindings.new.index c.bindings.new.words _
       c.bindings.new.map c.bindings.result c.bindings.ensures c.in-Ok.is
       c.apply_on-r.new.index c.apply_on-r.new.words
@@ -75,7 +75,7 @@ returns-in-Ok c = record {
     c.apply_on-r.ensures.map_unchanged.0,
     c.apply_on-r.ensures.map_unchanged.1,
     cleared
-        (form_read c.requires.fact_form c.place-at.ensures c.index.ensures c.in-At.is c.nth.ensures c.in-List.is
+        (form_read c.requires.fact_form c.place-at.ensures c.index.ensures c.in-Some.is c.nth.ensures c.in-List.is
         c.bindings.new.index c.bindings.new.words _
         c.bindings.new.map c.bindings.result c.bindings.ensures c.in-Ok.is).cells
         c.requires.blank.1 c.clear.ensures,
@@ -84,13 +84,13 @@ returns-in-Ok c = record {
 
 pub returns-in-No : goal.returns-in-No
 returns-in-No c = record {
-  derived_as = λ g. (form_refused g c.place-at.ensures c.index.ensures c.in-At.is c.nth.ensures c.in-List.is
+  derived_as = λ g. (form_refused g c.place-at.ensures c.index.ensures c.in-Some.is c.nth.ensures c.in-List.is
       c.bindings.new.index c.bindings.new.words _
       c.bindings.new.map c.bindings.result c.bindings.ensures c.in-No.is).0;
   map_unchanged = (
     refl,
     refl,
-    (form_refused c.requires.fact_form c.place-at.ensures c.index.ensures c.in-At.is c.nth.ensures c.in-List.is
+    (form_refused c.requires.fact_form c.place-at.ensures c.index.ensures c.in-Some.is c.nth.ensures c.in-List.is
         c.bindings.new.index c.bindings.new.words _
         c.bindings.new.map c.bindings.result c.bindings.ensures c.in-No.is).1,
   );

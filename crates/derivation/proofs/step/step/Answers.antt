@@ -32,31 +32,31 @@ pub returns-in_default-rule_named : goal.returns-in_default-rule_named
 returns-in_default-rule_named c = record { derived_as = λ g. step_unnamed g c.nth.ensures c.in-Atom.is c.atom_end-end.ensures c.rule_named.ensures c.in_default-rule_named.is; map_unchanged = (refl, refl, refl) }
 
 pub premises-few-requires : goal.premises-few-requires
-premises-few-requires c = by_there c.requires.rule_form (step_known c.requires.rule_form c.nth.ensures c.in-Atom.is c.atom_end-end.ensures c.rule_named.ensures c.in-At.is)
+premises-few-requires c = by_there c.requires.rule_form (step_known c.requires.rule_form c.nth.ensures c.in-Atom.is c.atom_end-end.ensures c.rule_named.ensures c.in-Some.is)
 
 pub slice_bounds-step_by-end : goal.slice_bounds-step_by-end
-slice_bounds-step_by-end c = front_room PATTERNS c.requires.blank.1 c.premises-few.result (step_most c.requires.rule_form c.nth.ensures c.in-Atom.is c.atom_end-end.ensures c.rule_named.ensures c.in-At.is c.premises-few.ensures)
+slice_bounds-step_by-end c = front_room PATTERNS c.requires.blank.1 c.premises-few.result (step_most c.requires.rule_form c.nth.ensures c.in-Atom.is c.atom_end-end.ensures c.rule_named.ensures c.in-Some.is c.premises-few.ensures)
 
 pub slice_bounds-step_by-end-2 : goal.slice_bounds-step_by-end-2
-slice_bounds-step_by-end-2 c = front_count PATTERNS c.requires.blank.1 c.premises-few.result (step_most c.requires.rule_form c.nth.ensures c.in-Atom.is c.atom_end-end.ensures c.rule_named.ensures c.in-At.is c.premises-few.ensures)
+slice_bounds-step_by-end-2 c = front_count PATTERNS c.requires.blank.1 c.premises-few.result (step_most c.requires.rule_form c.nth.ensures c.in-Atom.is c.atom_end-end.ensures c.rule_named.ensures c.in-Some.is c.premises-few.ensures)
 
 pub step_by-answer-requires : goal.step_by-answer-requires
 step_by-answer-requires c = record {
   rule_form = c.requires.rule_form;
   r_lt_rules = (
-    step_known c.requires.rule_form c.nth.ensures c.in-Atom.is c.atom_end-end.ensures c.rule_named.ensures c.in-At.is,
+    step_known c.requires.rule_form c.nth.ensures c.in-Atom.is c.atom_end-end.ensures c.rule_named.ensures c.in-Some.is,
     c.requires.blank.0,
     premises_cells c.premises-few.ensures
-        (front_count PATTERNS c.requires.blank.1 c.premises-few.result (step_most c.requires.rule_form c.nth.ensures c.in-Atom.is c.atom_end-end.ensures c.rule_named.ensures c.in-At.is c.premises-few.ensures)),
+        (front_count PATTERNS c.requires.blank.1 c.premises-few.result (step_most c.requires.rule_form c.nth.ensures c.in-Atom.is c.atom_end-end.ensures c.rule_named.ensures c.in-Some.is c.premises-few.ensures)),
   );
 }
 
 pub slice_bounds-clear-end : goal.slice_bounds-clear-end
-slice_bounds-clear-end c = back_room PATTERNS c.requires.blank.1 c.premises-few.result (step_most c.requires.rule_form c.nth.ensures c.in-Atom.is c.atom_end-end.ensures c.rule_named.ensures c.in-At.is c.premises-few.ensures)
+slice_bounds-clear-end c = back_room PATTERNS c.requires.blank.1 c.premises-few.result (step_most c.requires.rule_form c.nth.ensures c.in-Atom.is c.atom_end-end.ensures c.rule_named.ensures c.in-Some.is c.premises-few.ensures)
     c.step_by-answer.new.ids c.step_by-answer.auto.ids
 
 pub slice_bounds-clear-end-2 : goal.slice_bounds-clear-end-2
-slice_bounds-clear-end-2 c = back_count PATTERNS c.requires.blank.1 c.premises-few.result (step_most c.requires.rule_form c.nth.ensures c.in-Atom.is c.atom_end-end.ensures c.rule_named.ensures c.in-At.is c.premises-few.ensures)
+slice_bounds-clear-end-2 c = back_count PATTERNS c.requires.blank.1 c.premises-few.result (step_most c.requires.rule_form c.nth.ensures c.in-Atom.is c.atom_end-end.ensures c.rule_named.ensures c.in-Some.is c.premises-few.ensures)
     c.step_by-answer.new.ids c.step_by-answer.auto.ids
 
 pub shape_of-index : goal.shape_of-index
@@ -72,7 +72,7 @@ pub shape_of-memo : goal.shape_of-memo
 shape_of-memo c = c.step_by-answer.auto.memo
 
 pub shape_of-ids : goal.shape_of-ids
-shape_of-ids c = ap length (front_cleared PATTERNS c.requires.blank.1 c.premises-few.result (step_most c.requires.rule_form c.nth.ensures c.in-Atom.is c.atom_end-end.ensures c.rule_named.ensures c.in-At.is c.premises-few.ensures)
+shape_of-ids c = ap length (front_cleared PATTERNS c.requires.blank.1 c.premises-few.result (step_most c.requires.rule_form c.nth.ensures c.in-Atom.is c.atom_end-end.ensures c.rule_named.ensures c.in-Some.is c.premises-few.ensures)
     c.step_by-answer.new.ids c.step_by-answer.auto.ids c.clear.new.cells c.clear.ensures)
 
 pub shape_of-hyps : goal.shape_of-hyps
@@ -83,7 +83,7 @@ shape_of-footing c = c.step_by-answer.auto.footing
 
 pub returns : goal.returns
 returns c = record {
-  derived_as = λ g. step_answer g c.nth.ensures c.in-Atom.is c.atom_end-end.ensures c.rule_named.ensures c.in-At.is
+  derived_as = λ g. step_answer g c.nth.ensures c.in-Atom.is c.atom_end-end.ensures c.rule_named.ensures c.in-Some.is
       c.step_by-answer.new.index c.step_by-answer.new.words
       c.step_by-answer.new.hyps
       c.step_by-answer.new.footing c.step_by-answer.result
@@ -92,7 +92,7 @@ returns c = record {
     c.step_by-answer.ensures.map_unchanged.0,
     c.step_by-answer.ensures.map_unchanged.1,
     front_cleared PATTERNS c.requires.blank.1 c.premises-few.result
-        (step_most c.requires.rule_form c.nth.ensures c.in-Atom.is c.atom_end-end.ensures c.rule_named.ensures c.in-At.is c.premises-few.ensures)
+        (step_most c.requires.rule_form c.nth.ensures c.in-Atom.is c.atom_end-end.ensures c.rule_named.ensures c.in-Some.is c.premises-few.ensures)
         c.step_by-answer.new.ids c.step_by-answer.auto.ids c.clear.new.cells c.clear.ensures,
   );
 }

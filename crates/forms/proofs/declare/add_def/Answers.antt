@@ -65,19 +65,19 @@ pub returns-then-n-ge-DEFS : goal.returns-then-n-ge-DEFS
 returns-then-n-ge-DEFS c = λ g. (
   def_full g c.nth.ensures c.in-Atom.is c.marked.ensures (not-false _ (ap not c.if-not-marked.false)) c.atom_end-end.ensures c.if-end-start.false
       c.place-at.ensures c.term.new.index c.term.new.words c.term.result
-      c.term.ensures c.in-Term.is c.def_named.result c.def_named.ensures c.in-Missing.is c.if-n-ge-DEFS.true,
+      c.term.ensures c.in-Term.is c.def_named.result c.def_named.ensures c.in-None.is c.if-n-ge-DEFS.true,
   refl,
 )
 
 pub put_def-requires : goal.put_def-requires
 put_def-requires c = def_fits c.requires c.nth.ensures c.in-Atom.is c.marked.ensures (not-false _ (ap not c.if-not-marked.false)) c.atom_end-end.ensures c.if-end-start.false
     c.place-at.ensures c.term.new.index c.term.new.words c.term.result c.term.ensures
-    c.in-Term.is c.def_named.result c.def_named.ensures c.in-Missing.is c.if-n-ge-DEFS.false
+    c.in-Term.is c.def_named.result c.def_named.ensures c.in-None.is c.if-n-ge-DEFS.false
 
 pub returns-else-n-ge-DEFS : goal.returns-else-n-ge-DEFS
 returns-else-n-ge-DEFS c = λ g. def_is_added g c.nth.ensures c.in-Atom.is c.marked.ensures (not-false _ (ap not c.if-not-marked.false)) c.atom_end-end.ensures c.if-end-start.false
     c.place-at.ensures c.term.new.index c.term.new.words c.term.result c.term.ensures
-    c.in-Term.is c.def_named.result c.def_named.ensures c.in-Missing.is c.if-n-ge-DEFS.false c.put_def.ensures
+    c.in-Term.is c.def_named.result c.def_named.ensures c.in-None.is c.if-n-ge-DEFS.false c.put_def.ensures
 
 pub returns-in-No : goal.returns-in-No
 returns-in-No c = λ g. (

@@ -36,7 +36,7 @@ marked-requires c = (var_name_lem c.requires c.nth.ensures c.in-Atom.is).inside
 pub returns-then-marked : goal.returns-then-marked
 returns-then-marked c = λ g. (
   var_is_marked g c.nth.ensures c.in-Atom.is c.nth-2.ensures c.in-Atom-nth.is c.atom_end-last.ensures c.sort_named.ensures
-      c.in-At.is c.marked.ensures c.if-marked.true,
+      c.in-Some.is c.marked.ensures c.if-marked.true,
   refl,
 )
 
@@ -52,23 +52,23 @@ is_unused-requires c = ((c.requires.inputs, (c.requires.S.theory.symbols, c.requ
 pub returns-then-not-is_unused : goal.returns-then-not-is_unused
 returns-then-not-is_unused c = λ g. (
   var_is_used g c.nth.ensures c.in-Atom.is c.nth-2.ensures c.in-Atom-nth.is c.atom_end-last.ensures c.sort_named.ensures
-      c.in-At.is c.marked.ensures c.if-marked.false c.atom_end-end.ensures c.is_unused.ensures (not-true _ (ap not c.if-not-is_unused.true)),
+      c.in-Some.is c.marked.ensures c.if-marked.false c.atom_end-end.ensures c.is_unused.ensures (not-true _ (ap not c.if-not-is_unused.true)),
   refl,
 )
 
 pub returns-then-n-ge-VARIABLES : goal.returns-then-n-ge-VARIABLES
 returns-then-n-ge-VARIABLES c = λ g. (
   var_no_room g c.nth.ensures c.in-Atom.is c.nth-2.ensures c.in-Atom-nth.is c.atom_end-last.ensures c.sort_named.ensures
-      c.in-At.is c.marked.ensures c.if-marked.false c.atom_end-end.ensures c.is_unused.ensures (not-false _ (ap not c.if-not-is_unused.false))
+      c.in-Some.is c.marked.ensures c.if-marked.false c.atom_end-end.ensures c.is_unused.ensures (not-false _ (ap not c.if-not-is_unused.false))
       c.if-n-ge-VARIABLES.true,
   refl,
 )
 
 pub put_var-requires : goal.put_var-requires
 put_var-requires c = var_fits c.requires c.nth.ensures c.in-Atom.is c.nth-2.ensures c.in-Atom-nth.is c.atom_end-last.ensures c.sort_named.ensures
-    c.in-At.is c.marked.ensures c.if-marked.false c.atom_end-end.ensures c.is_unused.ensures (not-false _ (ap not c.if-not-is_unused.false)) c.if-n-ge-VARIABLES.false
+    c.in-Some.is c.marked.ensures c.if-marked.false c.atom_end-end.ensures c.is_unused.ensures (not-false _ (ap not c.if-not-is_unused.false)) c.if-n-ge-VARIABLES.false
 
 pub returns : goal.returns
 returns c = λ g. var_is_added g c.nth.ensures c.in-Atom.is c.nth-2.ensures c.in-Atom-nth.is c.atom_end-last.ensures c.sort_named.ensures
-    c.in-At.is c.marked.ensures c.if-marked.false c.atom_end-end.ensures c.is_unused.ensures (not-false _ (ap not c.if-not-is_unused.false)) c.if-n-ge-VARIABLES.false
+    c.in-Some.is c.marked.ensures c.if-marked.false c.atom_end-end.ensures c.is_unused.ensures (not-false _ (ap not c.if-not-is_unused.false)) c.if-n-ge-VARIABLES.false
     c.put_var.ensures

@@ -18,14 +18,14 @@ returns-in_default-goal_named c = λ g hs j e.
 
 pub returns-then-n-ge-GOALS : goal.returns-then-n-ge-GOALS
 returns-then-n-ge-GOALS c = λ g hs j e. (
-  place_11 g c.nth.ensures c.in-Atom.is c.atom_end-end.ensures c.goal_named.ensures c.in-Missing.is c.if-n-ge-GOALS.true hs
+  place_11 g c.nth.ensures c.in-Atom.is c.atom_end-end.ensures c.goal_named.ensures c.in-None.is c.if-n-ge-GOALS.true hs
       j,
   refl,
 )
 
 pub returns-then-room-hyps : goal.returns-then-room-hyps
 returns-then-room-hyps c = λ g hs j e. (
-  place_13 g c.nth.ensures c.in-Atom.is c.atom_end-end.ensures c.goal_named.ensures c.in-Missing.is c.if-n-ge-GOALS.false hs j e
+  place_13 g c.nth.ensures c.in-Atom.is c.atom_end-end.ensures c.goal_named.ensures c.in-None.is c.if-n-ge-GOALS.false hs j e
       c.if-room-hyps.true,
   refl,
 )
@@ -35,5 +35,5 @@ put_goal-requires c = row_asks c.requires.0 (place_high c.requires.0 c.nth.ensur
     c.if-n-ge-GOALS.false c.if-room-hyps.false
 
 pub returns : goal.returns
-returns c = λ g hs j e. place_added g c.nth.ensures c.in-Atom.is c.atom_end-end.ensures c.goal_named.ensures c.in-Missing.is c.if-n-ge-GOALS.false
+returns c = λ g hs j e. place_added g c.nth.ensures c.in-Atom.is c.atom_end-end.ensures c.goal_named.ensures c.in-None.is c.if-n-ge-GOALS.false
     hs j e c.args.judgment _ c.if-room-hyps.false c.put_goal.ensures

@@ -76,21 +76,21 @@ returns-in_default c = λ g. (
       c.clear.ensures,
 )
 
-pub shape_of-index-in-At : goal.shape_of-index-in-At
-shape_of-index-in-At c = c.judgment.auto.index ∙ c.judgments.auto.index
+pub shape_of-index-in-Some : goal.shape_of-index-in-Some
+shape_of-index-in-Some c = c.judgment.auto.index ∙ c.judgments.auto.index
 
-pub shape_of-words-in-At : goal.shape_of-words-in-At
-shape_of-words-in-At c = c.judgment.auto.words ∙ c.judgments.auto.words
+pub shape_of-words-in-Some : goal.shape_of-words-in-Some
+shape_of-words-in-Some c = c.judgment.auto.words ∙ c.judgments.auto.words
 
-pub shape_of-out-in-At : goal.shape_of-out-in-At
-shape_of-out-in-At c = c.judgments.auto.out
+pub shape_of-out-in-Some : goal.shape_of-out-in-Some
+shape_of-out-in-Some c = c.judgments.auto.out
 
-pub returns-in-At : goal.returns-in-At
-returns-in-At c = λ g. vars_ok g c.place-at.ensures c.judgments.new.index c.judgments.new.words
+pub returns-in-Some : goal.returns-in-Some
+returns-in-Some c = λ g. vars_ok g c.place-at.ensures c.judgments.new.index c.judgments.new.words
     c.args.out.now c.judgments.new.out c.judgments.result c.judgments.ensures c.in-Ok.is
     c.place-next.ensures c.judgment.new.index c.judgment.new.words c.judgment.result
     c.judgment.ensures c.in-Ok-judgment.is c.place-last.ensures c.args.general.now c.vars_list.new.out c.vars_list.result
-    c.vars_list.ensures c.in-At.is
+    c.vars_list.ensures c.in-Some.is
 
 pub shape_of-index-in-No-judgment : goal.shape_of-index-in-No-judgment
 shape_of-index-in-No-judgment c = c.judgment.auto.index ∙ c.judgments.auto.index

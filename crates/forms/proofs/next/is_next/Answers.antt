@@ -19,7 +19,7 @@ pub returns-in_default : goal.returns-in_default
 returns-in_default c = λ g. own_missing g c.place-at.ensures c.index.ensures c.in_default.is
 
 pub returns-then-i-n : goal.returns-then-i-n
-returns-then-i-n c = λ g. own_other g c.place-at.ensures c.index.ensures c.in-At.is c.if-i-n.true
+returns-then-i-n c = λ g. own_other g c.place-at.ensures c.index.ensures c.in-Some.is c.if-i-n.true
 
 pub returns : goal.returns
-returns c = λ g. own_next g c.place-at.ensures c.index.ensures c.in-At.is c.if-i-n.false
+returns c = λ g. own_next g c.place-at.ensures c.index.ensures c.in-Some.is c.if-i-n.false

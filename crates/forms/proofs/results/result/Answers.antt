@@ -22,12 +22,12 @@ pub returns-in_default-goal_named : goal.returns-in_default-goal_named
 returns-in_default-goal_named c = record { fact = λ g. (no_goal_lem g c.nth.ensures c.in-Atom.is c.atom_end-end.ensures c.goal_named.ensures c.in_default-goal_named.is, refl); fact_2 = (refl, refl) }
 
 pub is_taken-requires : goal.is_taken-requires
-is_taken-requires c = goal_asks c.requires.takes_result c.nth.ensures c.in-Atom.is c.atom_end-end.ensures c.goal_named.ensures c.in-At.is
+is_taken-requires c = goal_asks c.requires.takes_result c.nth.ensures c.in-Atom.is c.atom_end-end.ensures c.goal_named.ensures c.in-Some.is
 
 pub returns-then-is_taken : goal.returns-then-is_taken
 returns-then-is_taken c = record {
   fact = λ g. (
-    goal_taken g c.nth.ensures c.in-Atom.is c.atom_end-end.ensures c.goal_named.ensures c.in-At.is c.is_taken.ensures
+    goal_taken g c.nth.ensures c.in-Atom.is c.atom_end-end.ensures c.goal_named.ensures c.in-Some.is c.is_taken.ensures
         c.if-is_taken.true,
     refl,
   );
@@ -51,7 +51,7 @@ reference-requires c = record { refers_item = ref_given c.requires.takes_result 
 
 pub covers-requires : goal.covers-requires
 covers-requires c = ref_covers c.requires.takes_result c.place-at.ensures
-    (goal_open c.requires.takes_result c.nth.ensures c.in-Atom.is c.atom_end-end.ensures c.goal_named.ensures c.in-At.is c.is_taken.ensures
+    (goal_open c.requires.takes_result c.nth.ensures c.in-Atom.is c.atom_end-end.ensures c.goal_named.ensures c.in-Some.is c.is_taken.ensures
     c.if-is_taken.false) c.reference.new.index c.reference.new.words
     c.reference.result c.reference.ensures.referred_as c.in-To.is
 
@@ -59,7 +59,7 @@ pub returns-then-not-covers : goal.returns-then-not-covers
 returns-then-not-covers c = record {
   fact = λ g. (
     not_covered g c.place-at.ensures
-        (goal_open g c.nth.ensures c.in-Atom.is c.atom_end-end.ensures c.goal_named.ensures c.in-At.is c.is_taken.ensures
+        (goal_open g c.nth.ensures c.in-Atom.is c.atom_end-end.ensures c.goal_named.ensures c.in-Some.is c.is_taken.ensures
         c.if-is_taken.false) c.reference.new.index c.reference.new.words
         c.reference.result c.reference.ensures.referred_as c.in-To.is c.covers.ensures (ap not c.if-not-covers.true),
     refl,
@@ -68,13 +68,13 @@ returns-then-not-covers c = record {
 }
 
 pub goal_judgment-requires : goal.goal_judgment-requires
-goal_judgment-requires c = goal_asks c.requires.takes_result c.nth.ensures c.in-Atom.is c.atom_end-end.ensures c.goal_named.ensures c.in-At.is
+goal_judgment-requires c = goal_asks c.requires.takes_result c.nth.ensures c.in-Atom.is c.atom_end-end.ensures c.goal_named.ensures c.in-Some.is
 
 pub returns-then-t-goal_judgment : goal.returns-then-t-goal_judgment
 returns-then-t-goal_judgment c = record {
   fact = λ g. (
     other_judgment_lem g c.place-at.ensures
-        (goal_open g c.nth.ensures c.in-Atom.is c.atom_end-end.ensures c.goal_named.ensures c.in-At.is c.is_taken.ensures
+        (goal_open g c.nth.ensures c.in-Atom.is c.atom_end-end.ensures c.goal_named.ensures c.in-Some.is c.is_taken.ensures
         c.if-is_taken.false) c.reference.new.index c.reference.new.words
         c.reference.result c.reference.ensures.referred_as c.in-To.is c.covers.ensures (ap not c.if-not-covers.false) c.goal_judgment.ensures
         c.if-t-goal_judgment.true,
@@ -84,12 +84,12 @@ returns-then-t-goal_judgment c = record {
 }
 
 pub take_goal-requires : goal.take_goal-requires
-take_goal-requires c = goal_asks c.requires.takes_result c.nth.ensures c.in-Atom.is c.atom_end-end.ensures c.goal_named.ensures c.in-At.is
+take_goal-requires c = goal_asks c.requires.takes_result c.nth.ensures c.in-Atom.is c.atom_end-end.ensures c.goal_named.ensures c.in-Some.is
 
 pub returns-else-t-goal_judgment : goal.returns-else-t-goal_judgment
 returns-else-t-goal_judgment c = record {
   fact = λ g. result_comes g c.place-at.ensures
-      (goal_open g c.nth.ensures c.in-Atom.is c.atom_end-end.ensures c.goal_named.ensures c.in-At.is c.is_taken.ensures
+      (goal_open g c.nth.ensures c.in-Atom.is c.atom_end-end.ensures c.goal_named.ensures c.in-Some.is c.is_taken.ensures
       c.if-is_taken.false) c.reference.new.index c.reference.new.words
       c.reference.result c.reference.ensures.referred_as c.in-To.is c.covers.ensures (ap not c.if-not-covers.false) c.goal_judgment.ensures c.if-t-goal_judgment.false _
       c.take_goal.ensures;
@@ -100,7 +100,7 @@ pub returns-in-No : goal.returns-in-No
 returns-in-No c = record {
   fact = λ g. (
     ref_stops g c.place-at.ensures
-        (goal_open g c.nth.ensures c.in-Atom.is c.atom_end-end.ensures c.goal_named.ensures c.in-At.is c.is_taken.ensures
+        (goal_open g c.nth.ensures c.in-Atom.is c.atom_end-end.ensures c.goal_named.ensures c.in-Some.is c.is_taken.ensures
         c.if-is_taken.false) c.reference.new.index c.reference.new.words
         c.reference.result c.reference.ensures.referred_as c.in-No.is,
     refl,

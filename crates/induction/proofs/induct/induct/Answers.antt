@@ -27,18 +27,18 @@ after-next-requires c = variable_cell c.requires.fact_form (omega arith) c.place
 pub offset_bounds-cells-next : goal.offset_bounds-cells-next
 offset_bounds-cells-next c = omega (
   arith,
-  fourth_high c.requires.fact_form (omega arith) c.place-at.ensures c.variable.ensures c.in-At.is c.after-next.ensures,
+  fourth_high c.requires.fact_form (omega arith) c.place-at.ensures c.variable.ensures c.in-Some.is c.after-next.ensures,
   c.well_formed.1.1.1.1.1.1.1.1.1.1.1.1.1.1.0.1,
 )
 
 pub slice_bounds-induct_on-count : goal.slice_bounds-induct_on-count
-slice_bounds-induct_on-count c = fourth_high c.requires.fact_form (omega arith) c.place-at.ensures c.variable.ensures c.in-At.is c.after-next.ensures
+slice_bounds-induct_on-count c = fourth_high c.requires.fact_form (omega arith) c.place-at.ensures c.variable.ensures c.in-Some.is c.after-next.ensures
 
 pub slice_bounds-induct_on-start : goal.slice_bounds-induct_on-start
-slice_bounds-induct_on-start c = fourth_high c.requires.fact_form (omega arith) c.place-at.ensures c.variable.ensures c.in-At.is c.after-next.ensures
+slice_bounds-induct_on-start c = fourth_high c.requires.fact_form (omega arith) c.place-at.ensures c.variable.ensures c.in-Some.is c.after-next.ensures
 
 pub induct_on-requires : goal.induct_on-requires
-induct_on-requires c = record { induct_form = plain_form c.requires.fact_form (omega arith) c.place-at.ensures c.variable.ensures c.in-At.is c.after-next.ensures c.requires.blank.0.no_hyps; scratch = blank_scratch c.args.ids.now c.requires.blank }
+induct_on-requires c = record { induct_form = plain_form c.requires.fact_form (omega arith) c.place-at.ensures c.variable.ensures c.in-Some.is c.after-next.ensures c.requires.blank.0.no_hyps; scratch = blank_scratch c.args.ids.now c.requires.blank }
 
 pub shape_of-index : goal.shape_of-index
 shape_of-index c = c.induct_on.auto.index
@@ -57,10 +57,10 @@ shape_of-ids c = c.induct_on.auto.ids
 
 pub returns : goal.returns
 returns c = record {
-  derived_as = λ g. spelled_derived g (omega arith) c.place-at.ensures c.variable.ensures c.in-At.is c.after-next.ensures c.requires.blank.0.no_hyps
+  derived_as = λ g. spelled_derived g (omega arith) c.place-at.ensures c.variable.ensures c.in-Some.is c.after-next.ensures c.requires.blank.0.no_hyps
       c.induct_on.new.index c.induct_on.new.words _ c.induct_on.result
       c.requires.blank.0.no_footing
       (c.induct_on.ensures.derived_as
-      (plain_form g (omega arith) c.place-at.ensures c.variable.ensures c.in-At.is c.after-next.ensures c.requires.blank.0.no_hyps));
+      (plain_form g (omega arith) c.place-at.ensures c.variable.ensures c.in-Some.is c.after-next.ensures c.requires.blank.0.no_hyps));
   map_unchanged = c.induct_on.ensures.map_unchanged;
 }

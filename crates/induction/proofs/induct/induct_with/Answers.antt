@@ -30,42 +30,42 @@ after-third-requires c = variable_cell c.requires.fact_form (omega arith) c.plac
 pub offset_bounds-cells-third : goal.offset_bounds-cells-third
 offset_bounds-cells-third c = omega (
   arith,
-  fourth_high c.requires.fact_form (omega arith) c.place-at.ensures c.variable.ensures c.in-At.is c.after-third.ensures,
+  fourth_high c.requires.fact_form (omega arith) c.place-at.ensures c.variable.ensures c.in-Some.is c.after-third.ensures,
   c.well_formed.1.1.1.1.1.1.1.1.1.1.1.1.1.1.0.1,
 )
 
 pub slice_bounds-plain_hyps-count : goal.slice_bounds-plain_hyps-count
-slice_bounds-plain_hyps-count c = fourth_high c.requires.fact_form (omega arith) c.place-at.ensures c.variable.ensures c.in-At.is c.after-third.ensures
+slice_bounds-plain_hyps-count c = fourth_high c.requires.fact_form (omega arith) c.place-at.ensures c.variable.ensures c.in-Some.is c.after-third.ensures
 
 pub slice_bounds-plain_hyps-start : goal.slice_bounds-plain_hyps-start
-slice_bounds-plain_hyps-start c = fourth_high c.requires.fact_form (omega arith) c.place-at.ensures c.variable.ensures c.in-At.is c.after-third.ensures
+slice_bounds-plain_hyps-start c = fourth_high c.requires.fact_form (omega arith) c.place-at.ensures c.variable.ensures c.in-Some.is c.after-third.ensures
 
 pub plain_hyps-requires : goal.plain_hyps-requires
-plain_hyps-requires c = (hyps_asked c.requires.fact_form (omega arith) c.place-at.ensures c.variable.ensures c.in-At.is c.after-third.ensures, c.requires.blank.0.no_hyps)
+plain_hyps-requires c = (hyps_asked c.requires.fact_form (omega arith) c.place-at.ensures c.variable.ensures c.in-Some.is c.after-third.ensures, c.requires.blank.0.no_hyps)
 
 pub after-next-requires : goal.after-next-requires
-after-next-requires c = fourth_cell c.requires.fact_form (omega arith) c.place-at.ensures c.variable.ensures c.in-At.is c.after-third.ensures
+after-next-requires c = fourth_cell c.requires.fact_form (omega arith) c.place-at.ensures c.variable.ensures c.in-Some.is c.after-third.ensures
 
 pub offset_bounds-cells-next : goal.offset_bounds-cells-next
 offset_bounds-cells-next c = omega (
   arith,
-  fifth_high c.requires.fact_form (omega arith) c.place-at.ensures c.variable.ensures c.in-At.is c.after-third.ensures c.args.hyps.now
+  fifth_high c.requires.fact_form (omega arith) c.place-at.ensures c.variable.ensures c.in-Some.is c.after-third.ensures c.args.hyps.now
       c.plain_hyps.new.set c.plain_hyps.result c.plain_hyps.ensures c.in-Ok.is (omega arith)
       c.after-next.ensures,
   c.well_formed.1.1.1.1.1.1.1.1.1.1.1.1.1.1.0.1,
 )
 
 pub slice_bounds-induct_on-count : goal.slice_bounds-induct_on-count
-slice_bounds-induct_on-count c = fifth_high c.requires.fact_form (omega arith) c.place-at.ensures c.variable.ensures c.in-At.is c.after-third.ensures c.args.hyps.now
+slice_bounds-induct_on-count c = fifth_high c.requires.fact_form (omega arith) c.place-at.ensures c.variable.ensures c.in-Some.is c.after-third.ensures c.args.hyps.now
     c.plain_hyps.new.set c.plain_hyps.result c.plain_hyps.ensures c.in-Ok.is (omega arith) c.after-next.ensures
 
 pub slice_bounds-induct_on-start : goal.slice_bounds-induct_on-start
-slice_bounds-induct_on-start c = fifth_high c.requires.fact_form (omega arith) c.place-at.ensures c.variable.ensures c.in-At.is c.after-third.ensures c.args.hyps.now
+slice_bounds-induct_on-start c = fifth_high c.requires.fact_form (omega arith) c.place-at.ensures c.variable.ensures c.in-Some.is c.after-third.ensures c.args.hyps.now
     c.plain_hyps.new.set c.plain_hyps.result c.plain_hyps.ensures c.in-Ok.is (omega arith) c.after-next.ensures
 
 pub induct_on-requires : goal.induct_on-requires
 induct_on-requires c = record {
-  induct_form = with_form c.requires.fact_form (omega arith) c.place-at.ensures c.variable.ensures c.in-At.is c.after-third.ensures c.args.hyps.now
+  induct_form = with_form c.requires.fact_form (omega arith) c.place-at.ensures c.variable.ensures c.in-Some.is c.after-third.ensures c.args.hyps.now
       c.plain_hyps.new.set c.plain_hyps.result c.plain_hyps.ensures c.in-Ok.is (omega arith) c.after-next.ensures
       (c.plain_hyps.auto.set ∙ (ap length c.requires.blank.0.no_hyps ∙ length-replicate {A = ℕ} FACTWORDS 0));
   scratch = blank_scratch
@@ -92,12 +92,12 @@ shape_of-hyps-in-Ok c = c.plain_hyps.auto.set
 
 pub returns-in-Ok : goal.returns-in-Ok
 returns-in-Ok c = record {
-  derived_as = λ g. with_derived g (omega arith) c.place-at.ensures c.variable.ensures c.in-At.is c.after-third.ensures c.args.hyps.now
+  derived_as = λ g. with_derived g (omega arith) c.place-at.ensures c.variable.ensures c.in-Some.is c.after-third.ensures c.args.hyps.now
       c.plain_hyps.new.set c.plain_hyps.result c.plain_hyps.ensures c.in-Ok.is (omega arith) c.after-next.ensures
       c.induct_on.new.index c.induct_on.new.words _ c.induct_on.result
       c.requires.blank.0.no_footing
       (c.induct_on.ensures.derived_as
-      (with_form g (omega arith) c.place-at.ensures c.variable.ensures c.in-At.is c.after-third.ensures c.args.hyps.now
+      (with_form g (omega arith) c.place-at.ensures c.variable.ensures c.in-Some.is c.after-third.ensures c.args.hyps.now
       c.plain_hyps.new.set c.plain_hyps.result c.plain_hyps.ensures c.in-Ok.is (omega arith)
       c.after-next.ensures
       (c.plain_hyps.auto.set ∙ (ap length c.requires.blank.0.no_hyps ∙ length-replicate {A = ℕ} FACTWORDS 0))));
@@ -109,7 +109,7 @@ shape_of-hyps-in-No c = c.plain_hyps.auto.set
 
 pub returns-in-No : goal.returns-in-No
 returns-in-No c = record {
-  derived_as = λ g. hyps_refused g (omega arith) c.place-at.ensures c.variable.ensures c.in-At.is c.after-third.ensures c.args.hyps.now
+  derived_as = λ g. hyps_refused g (omega arith) c.place-at.ensures c.variable.ensures c.in-Some.is c.after-third.ensures c.args.hyps.now
       c.plain_hyps.new.set c.plain_hyps.result c.plain_hyps.ensures c.in-No.is;
   map_unchanged = (refl, refl, refl);
 }

@@ -50,13 +50,13 @@ count-requires c = case_items c.args.c c.requires.case_item.0 c.item_at.ensures 
 pub overflow_add-many : goal.overflow_add-many
 overflow_add-many c = omega (
   arith,
-  many_few c.args.c c.requires.case_item.0 c.item_at.ensures c.in-List.is c.if-inner-eq0.false c.index.ensures c.in-At.is c.requires.case_item.1
+  many_few c.args.c c.requires.case_item.0 c.item_at.ensures c.in-List.is c.if-inner-eq0.false c.index.ensures c.in-Some.is c.requires.case_item.1
       c.arity-many.ensures c.count.ensures,
 )
 
 pub returns-then-count-many : goal.returns-then-count-many
 returns-then-count-many c = record {
-  passed_as = λ g. case_count c.args.c g c.item_at.ensures c.in-List.is c.if-inner-eq0.false c.index.ensures c.in-At.is c.requires.case_item.1 c.arity-many.ensures
+  passed_as = λ g. case_count c.args.c g c.item_at.ensures c.in-List.is c.if-inner-eq0.false c.index.ensures c.in-Some.is c.requires.case_item.1 c.arity-many.ensures
       c.count.ensures c.if-count-many.true;
   map_unchanged = (refl, refl);
 }
@@ -67,14 +67,14 @@ after-next-requires c = omega (arith, c.if-inner-eq0.false)
 pub overflow_mul-from : goal.overflow_mul-from
 overflow_mul-from c = omega (
   arith,
-  case_symbol c.args.c c.requires.case_item.0 c.item_at.ensures c.in-List.is c.if-inner-eq0.false c.index.ensures c.in-At.is c.requires.case_item.1
+  case_symbol c.args.c c.requires.case_item.0 c.item_at.ensures c.in-List.is c.if-inner-eq0.false c.index.ensures c.in-Some.is c.requires.case_item.1
       c.arity-many.ensures c.count.ensures,
 )
 
 pub overflow_add-end : goal.overflow_add-end
 overflow_add-end c = omega (
   arith,
-  inputs_room c.args.c c.requires.case_item.0 c.item_at.ensures c.in-List.is c.if-inner-eq0.false c.index.ensures c.in-At.is c.requires.case_item.1
+  inputs_room c.args.c c.requires.case_item.0 c.item_at.ensures c.in-List.is c.if-inner-eq0.false c.index.ensures c.in-Some.is c.requires.case_item.1
       c.arity-many.ensures c.count.ensures,
   c.well_formed.1.1.1.0.0,
 )
@@ -82,7 +82,7 @@ overflow_add-end c = omega (
 pub offset_bounds-inputs-from : goal.offset_bounds-inputs-from
 offset_bounds-inputs-from c = omega (
   arith,
-  inputs_room c.args.c c.requires.case_item.0 c.item_at.ensures c.in-List.is c.if-inner-eq0.false c.index.ensures c.in-At.is c.requires.case_item.1
+  inputs_room c.args.c c.requires.case_item.0 c.item_at.ensures c.in-List.is c.if-inner-eq0.false c.index.ensures c.in-Some.is c.requires.case_item.1
       c.arity-many.ensures c.count.ensures,
   c.well_formed.1.1.1.0.1,
 )
@@ -94,35 +94,35 @@ pub slice_bounds-sorts-start : goal.slice_bounds-sorts-start
 slice_bounds-sorts-start c = omega arith
 
 pub slice_bounds-sorts-end : goal.slice_bounds-sorts-end
-slice_bounds-sorts-end c = inputs_room c.args.c c.requires.case_item.0 c.item_at.ensures c.in-List.is c.if-inner-eq0.false c.index.ensures c.in-At.is c.requires.case_item.1
+slice_bounds-sorts-end c = inputs_room c.args.c c.requires.case_item.0 c.item_at.ensures c.in-List.is c.if-inner-eq0.false c.index.ensures c.in-Some.is c.requires.case_item.1
     c.arity-many.ensures c.count.ensures
 
 pub offset_bounds-inner-next : goal.offset_bounds-inner-next
 offset_bounds-inner-next c = omega (
   arith,
-  behind_near c.args.c c.requires.case_item.0 c.item_at.ensures c.in-List.is c.if-inner-eq0.false c.index.ensures c.in-At.is c.requires.case_item.1
+  behind_near c.args.c c.requires.case_item.0 c.item_at.ensures c.in-List.is c.if-inner-eq0.false c.index.ensures c.in-Some.is c.requires.case_item.1
       c.arity-many.ensures c.count.ensures c.if-count-many.false c.after-next.ensures,
   c.well_formed.1.1.1.1.1.1.1.1.1.1.1.0.1,
 )
 
 pub slice_bounds-case_vars-count : goal.slice_bounds-case_vars-count
-slice_bounds-case_vars-count c = behind_high c.args.c c.requires.case_item.0 c.item_at.ensures c.in-List.is c.if-inner-eq0.false c.index.ensures c.in-At.is c.requires.case_item.1
+slice_bounds-case_vars-count c = behind_high c.args.c c.requires.case_item.0 c.item_at.ensures c.in-List.is c.if-inner-eq0.false c.index.ensures c.in-Some.is c.requires.case_item.1
     c.arity-many.ensures c.count.ensures c.if-count-many.false c.after-next.ensures
 
 pub slice_bounds-case_vars-start : goal.slice_bounds-case_vars-start
-slice_bounds-case_vars-start c = behind_high c.args.c c.requires.case_item.0 c.item_at.ensures c.in-List.is c.if-inner-eq0.false c.index.ensures c.in-At.is c.requires.case_item.1
+slice_bounds-case_vars-start c = behind_high c.args.c c.requires.case_item.0 c.item_at.ensures c.in-List.is c.if-inner-eq0.false c.index.ensures c.in-Some.is c.requires.case_item.1
     c.arity-many.ensures c.count.ensures c.if-count-many.false c.after-next.ensures
 
 pub case_vars-requires : goal.case_vars-requires
 case_vars-requires c = (
-  named c.args.c c.requires.case_item.0 c.item_at.ensures c.in-List.is c.if-inner-eq0.false c.index.ensures c.in-At.is c.requires.case_item.1 c.arity-many.ensures
+  named c.args.c c.requires.case_item.0 c.item_at.ensures c.in-List.is c.if-inner-eq0.false c.index.ensures c.in-Some.is c.requires.case_item.1 c.arity-many.ensures
       c.count.ensures c.if-count-many.false c.after-next.ensures,
   refl,
 )
 
 pub returns-then-not-case_vars : goal.returns-then-not-case_vars
 returns-then-not-case_vars c = record {
-  passed_as = λ g. case_unnamed c.args.c g c.item_at.ensures c.in-List.is c.if-inner-eq0.false c.index.ensures c.in-At.is c.requires.case_item.1 c.arity-many.ensures
+  passed_as = λ g. case_unnamed c.args.c g c.item_at.ensures c.in-List.is c.if-inner-eq0.false c.index.ensures c.in-Some.is c.requires.case_item.1 c.arity-many.ensures
       c.count.ensures c.if-count-many.false c.after-next.ensures c.case_vars.new.out c.case_vars.result c.case_vars.ensures.sorts_value
       (not-true _ (ap not c.if-not-case_vars.true));
   map_unchanged = (refl, refl);
@@ -131,7 +131,7 @@ returns-then-not-case_vars c = record {
 pub slice_bounds-own-end : goal.slice_bounds-own-end
 slice_bounds-own-end c = omega (
   arith,
-  many_few c.args.c c.requires.case_item.0 c.item_at.ensures c.in-List.is c.if-inner-eq0.false c.index.ensures c.in-At.is c.requires.case_item.1
+  many_few c.args.c c.requires.case_item.0 c.item_at.ensures c.in-List.is c.if-inner-eq0.false c.index.ensures c.in-Some.is c.requires.case_item.1
       c.arity-many.ensures c.count.ensures,
   c.case_vars.auto.out,
 )
@@ -141,14 +141,14 @@ slice_bounds-case_terms-end c = sym
     (length-take-le _ _
     (omega (
       arith,
-      many_few c.args.c c.requires.case_item.0 c.item_at.ensures c.in-List.is c.if-inner-eq0.false c.index.ensures c.in-At.is
+      many_few c.args.c c.requires.case_item.0 c.item_at.ensures c.in-List.is c.if-inner-eq0.false c.index.ensures c.in-Some.is
           c.requires.case_item.1 c.arity-many.ensures c.count.ensures,
       c.case_vars.auto.out,
     )))
 
 pub case_terms-requires : goal.case_terms-requires
 case_terms-requires c = record {
-  in_case = terms_given c.args.c c.requires.case_item.0 c.item_at.ensures c.in-List.is c.if-inner-eq0.false c.index.ensures c.in-At.is c.requires.case_item.1
+  in_case = terms_given c.args.c c.requires.case_item.0 c.item_at.ensures c.in-List.is c.if-inner-eq0.false c.index.ensures c.in-Some.is c.requires.case_item.1
       c.arity-many.ensures c.count.ensures c.if-count-many.false c.after-next.ensures c.case_vars.new.out
       c.case_vars.auto.out (c.case_vars.ensures.below (not-false _ (ap not c.if-not-case_vars.false)));
   scratch = c.requires.scratch;
@@ -172,11 +172,11 @@ shape_of-ids c = c.case_terms.auto.ids
 pub returns : goal.returns
 returns c = record {
   passed_as = λ g. passed_on c.case_terms.new.index c.case_terms.new.words c.case_terms.result
-      (case_named_lem c.args.c g c.item_at.ensures c.in-List.is c.if-inner-eq0.false c.index.ensures c.in-At.is c.requires.case_item.1 c.arity-many.ensures
+      (case_named_lem c.args.c g c.item_at.ensures c.in-List.is c.if-inner-eq0.false c.index.ensures c.in-Some.is c.requires.case_item.1 c.arity-many.ensures
       c.count.ensures c.if-count-many.false c.after-next.ensures c.case_vars.new.out c.case_vars.result
       c.case_vars.ensures.sorts_value (not-false _ (ap not c.if-not-case_vars.false)))
       (c.case_terms.ensures.passed_as
-      (in_case c.args.c g c.item_at.ensures c.in-List.is c.if-inner-eq0.false c.index.ensures c.in-At.is c.requires.case_item.1 c.arity-many.ensures
+      (in_case c.args.c g c.item_at.ensures c.in-List.is c.if-inner-eq0.false c.index.ensures c.in-Some.is c.requires.case_item.1 c.arity-many.ensures
       c.count.ensures c.if-count-many.false c.after-next.ensures));
   map_unchanged = c.case_terms.ensures.map_unchanged;
 }

@@ -40,12 +40,12 @@ slice_bounds-induct_case-start c = omega (arith, c.loop-at-test.true)
 pub induct_case-requires : goal.induct_case-requires
 induct_case-requires c = record {
   case_item = (
-    cases_given c.requires.case_items (c.loop-at.invariant c.requires.case_items) c.loop-at-test.true c.next_constructor.ensures c.in-At.is,
+    cases_given c.requires.case_items (c.loop-at.invariant c.requires.case_items) c.loop-at-test.true c.next_constructor.ensures c.in-Some.is,
     cases_known c.requires.case_items
-        (c.loop-at.invariant c.requires.case_items) c.loop-at-test.true c.next_constructor.ensures c.in-At.is,
+        (c.loop-at.invariant c.requires.case_items) c.loop-at-test.true c.next_constructor.ensures c.in-Some.is,
   );
   scratch = cases_scratch c.requires.case_items (c.loop-at.invariant c.requires.case_items)
-      c.loop-at-test.true c.next_constructor.ensures c.in-At.is c.requires.scratch;
+      c.loop-at-test.true c.next_constructor.ensures c.in-Some.is c.requires.scratch;
 }
 
 pub shape_of-index-in-No : goal.shape_of-index-in-No
@@ -65,14 +65,14 @@ shape_of-ids-in-No c = c.induct_case.auto.ids ∙ (c.loop-at.invariant c.require
 
 pub returns-in-No : goal.returns-in-No
 returns-in-No c = record {
-  passed_as = λ g. cases_stopped g (c.loop-at.invariant g) c.loop-at-test.true c.next_constructor.ensures c.in-At.is
+  passed_as = λ g. cases_stopped g (c.loop-at.invariant g) c.loop-at-test.true c.next_constructor.ensures c.in-Some.is
       c.induct_case.new.index c.induct_case.new.words c.induct_case.result
       c.induct_case.ensures.passed_as c.in-No.is;
   map_unchanged = (c.induct_case.ensures.map_unchanged.0 ∙ (c.loop-at.invariant c.requires.case_items).map_same, c.induct_case.ensures.map_unchanged.1 ∙ (c.loop-at.invariant c.requires.case_items).memo_same);
 }
 
 pub overflow_add-from : goal.overflow_add-from
-overflow_add-from c = omega (arith, cases_small c.requires.case_items (c.loop-at.invariant c.requires.case_items) c.loop-at-test.true c.next_constructor.ensures c.in-At.is)
+overflow_add-from c = omega (arith, cases_small c.requires.case_items (c.loop-at.invariant c.requires.case_items) c.loop-at-test.true c.next_constructor.ensures c.in-Some.is)
 
 pub after-at-requires : goal.after-at-requires
 after-at-requires c = c.loop-at-test.true
@@ -81,7 +81,7 @@ pub loop-at-smaller : goal.loop-at-smaller
 loop-at-smaller c = omega (arith, c.loop-at-test.true, cases_less c.requires.case_items (c.loop-at.invariant c.requires.case_items) c.loop-at-test.true c.after-at.ensures)
 
 pub loop-at-preserved : goal.loop-at-preserved
-loop-at-preserved c = λ g. cases_again g (c.loop-at.invariant g) c.loop-at-test.true c.next_constructor.ensures c.in-At.is
+loop-at-preserved c = λ g. cases_again g (c.loop-at.invariant g) c.loop-at-test.true c.next_constructor.ensures c.in-Some.is
     c.induct_case.new.index c.induct_case.new.words c.induct_case.result
     c.induct_case.ensures.passed_as c.in-Ok.is c.induct_case.new.map
     c.induct_case.new.memo

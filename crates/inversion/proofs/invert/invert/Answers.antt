@@ -26,15 +26,15 @@ pub returns-in_default : goal.returns-in_default
 returns-in_default c = record { inverted_as = λ g. (form_no_index g c.place-at.ensures c.index.ensures c.in_default.is, refl); map_unchanged = (refl, refl, refl, refl, refl) }
 
 pub returns-then-not-is_fact : goal.returns-then-not-is_fact
-returns-then-not-is_fact c = record { inverted_as = λ g. (form_no_fact g c.place-at.ensures c.index.ensures c.in-At.is c.is_fact.ensures (ap not c.if-not-is_fact.true), refl); map_unchanged = (refl, refl, refl, refl, refl) }
+returns-then-not-is_fact c = record { inverted_as = λ g. (form_no_fact g c.place-at.ensures c.index.ensures c.in-Some.is c.is_fact.ensures (ap not c.if-not-is_fact.true), refl); map_unchanged = (refl, refl, refl, refl, refl) }
 
 pub is_plain-requires : goal.is_plain-requires
-is_plain-requires c = form_fact c.requires.invert_form c.place-at.ensures c.index.ensures c.in-At.is c.is_fact.ensures (ap not c.if-not-is_fact.false)
+is_plain-requires c = form_fact c.requires.invert_form c.place-at.ensures c.index.ensures c.in-Some.is c.is_fact.ensures (ap not c.if-not-is_fact.false)
 
 pub returns-then-not-is_plain : goal.returns-then-not-is_plain
 returns-then-not-is_plain c = record {
   inverted_as = λ g. (
-    form_not_plain g c.place-at.ensures c.index.ensures c.in-At.is c.is_fact.ensures (ap not c.if-not-is_fact.false) c.is_plain.ensures
+    form_not_plain g c.place-at.ensures c.index.ensures c.in-Some.is c.is_fact.ensures (ap not c.if-not-is_fact.false) c.is_plain.ensures
         (ap not c.if-not-is_plain.true),
     refl,
   );
@@ -55,7 +55,7 @@ slice_bounds-any_hyps-start c = form_high c.requires.invert_form 3 (omega arith)
 
 pub any_hyps-requires : goal.any_hyps-requires
 any_hyps-requires c = (
-  form_hyps c.requires.invert_form c.place-at.ensures c.index.ensures c.in-At.is c.is_fact.ensures (ap not c.if-not-is_fact.false) c.is_plain.ensures (ap not c.if-not-is_plain.false)
+  form_hyps c.requires.invert_form c.place-at.ensures c.index.ensures c.in-Some.is c.is_fact.ensures (ap not c.if-not-is_fact.false) c.is_plain.ensures (ap not c.if-not-is_plain.false)
       c.place-third.ensures,
   c.requires.blank.0.no_hyps,
 )
@@ -66,7 +66,7 @@ shape_of-hyps-in-No c = c.any_hyps.auto.set
 pub returns-in-No : goal.returns-in-No
 returns-in-No c = record {
   inverted_as = λ g. (
-    form_no_hyps g c.place-at.ensures c.index.ensures c.in-At.is c.is_fact.ensures (ap not c.if-not-is_fact.false) c.is_plain.ensures (ap not c.if-not-is_plain.false)
+    form_no_hyps g c.place-at.ensures c.index.ensures c.in-Some.is c.is_fact.ensures (ap not c.if-not-is_fact.false) c.is_plain.ensures (ap not c.if-not-is_plain.false)
         c.place-third.ensures c.args.hyps.now c.any_hyps.new.set c.any_hyps.result c.any_hyps.ensures c.in-No.is,
     refl,
   );
@@ -86,16 +86,16 @@ pub slice_bounds-judgment-start : goal.slice_bounds-judgment-start
 slice_bounds-judgment-start c = form_high c.requires.invert_form 4 (omega arith) c.place-fourth.ensures
 
 pub judgment-requires : goal.judgment-requires
-judgment-requires c = form_judgment c.requires.invert_form c.place-at.ensures c.index.ensures c.in-At.is c.is_fact.ensures (ap not c.if-not-is_fact.false) c.is_plain.ensures (ap not c.if-not-is_plain.false)
+judgment-requires c = form_judgment c.requires.invert_form c.place-at.ensures c.index.ensures c.in-Some.is c.is_fact.ensures (ap not c.if-not-is_fact.false) c.is_plain.ensures (ap not c.if-not-is_plain.false)
     c.place-third.ensures c.args.hyps.now c.any_hyps.new.set c.any_hyps.result c.any_hyps.ensures c.in-Ok.is
     c.place-fourth.ensures
 
 pub judgment-s-requires : goal.judgment-s-requires
-judgment-s-requires c = form_fact c.requires.invert_form c.place-at.ensures c.index.ensures c.in-At.is c.is_fact.ensures (ap not c.if-not-is_fact.false)
+judgment-s-requires c = form_fact c.requires.invert_form c.place-at.ensures c.index.ensures c.in-Some.is c.is_fact.ensures (ap not c.if-not-is_fact.false)
 
 pub invert_on-requires : goal.invert_on-requires
 invert_on-requires c = record {
-  inverting_on = form_on c.requires.invert_form c.place-at.ensures c.index.ensures c.in-At.is c.is_fact.ensures (ap not c.if-not-is_fact.false) c.is_plain.ensures (ap not c.if-not-is_plain.false)
+  inverting_on = form_on c.requires.invert_form c.place-at.ensures c.index.ensures c.in-Some.is c.is_fact.ensures (ap not c.if-not-is_fact.false) c.is_plain.ensures (ap not c.if-not-is_plain.false)
       c.place-third.ensures c.args.hyps.now c.any_hyps.new.set c.any_hyps.result c.any_hyps.ensures c.in-Ok.is
       c.place-fourth.ensures c.judgment.new.index c.judgment.new.words c.judgment.result
       c.judgment.ensures c.in-Ok-judgment.is c.judgment-s.ensures
@@ -107,7 +107,7 @@ invert_on-requires c = record {
 pub insert-requires : goal.insert-requires
 insert-requires c = omega (
   arith,
-  (form_fact c.requires.invert_form c.place-at.ensures c.index.ensures c.in-At.is c.is_fact.ensures (ap not c.if-not-is_fact.false)).1,
+  (form_fact c.requires.invert_form c.place-at.ensures c.index.ensures c.in-Some.is c.is_fact.ensures (ap not c.if-not-is_fact.false)).1,
   (c.any_hyps.auto.set ∙ ap length c.requires.blank.0.no_hyps ∙ length-replicate {A = ℕ} FACTWORDS 0),
 )
 
@@ -140,7 +140,7 @@ shape_of-hyps-in-Ok-invert_on c = c.insert.auto.set ∙ c.any_hyps.auto.set
 
 pub returns-in-Ok-invert_on : goal.returns-in-Ok-invert_on
 returns-in-Ok-invert_on c = record {
-  inverted_as = λ g. form_read g c.place-at.ensures c.index.ensures c.in-At.is c.is_fact.ensures (ap not c.if-not-is_fact.false) c.is_plain.ensures (ap not c.if-not-is_plain.false)
+  inverted_as = λ g. form_read g c.place-at.ensures c.index.ensures c.in-Some.is c.is_fact.ensures (ap not c.if-not-is_fact.false) c.is_plain.ensures (ap not c.if-not-is_plain.false)
       c.place-third.ensures c.args.hyps.now c.any_hyps.new.set c.any_hyps.result c.any_hyps.ensures c.in-Ok.is
       c.place-fourth.ensures c.judgment.new.index c.judgment.new.words c.judgment.result
       c.judgment.ensures c.in-Ok-judgment.is c.judgment-s.ensures
@@ -184,7 +184,7 @@ shape_of-hyps-in-No-invert_on c = c.any_hyps.auto.set
 
 pub returns-in-No-invert_on : goal.returns-in-No-invert_on
 returns-in-No-invert_on c = record {
-  inverted_as = λ g. form_refused g c.place-at.ensures c.index.ensures c.in-At.is c.is_fact.ensures (ap not c.if-not-is_fact.false) c.is_plain.ensures (ap not c.if-not-is_plain.false)
+  inverted_as = λ g. form_refused g c.place-at.ensures c.index.ensures c.in-Some.is c.is_fact.ensures (ap not c.if-not-is_fact.false) c.is_plain.ensures (ap not c.if-not-is_plain.false)
       c.place-third.ensures c.args.hyps.now c.any_hyps.new.set c.any_hyps.result c.any_hyps.ensures c.in-Ok.is
       c.place-fourth.ensures c.judgment.new.index c.judgment.new.words c.judgment.result
       c.judgment.ensures c.in-Ok-judgment.is c.judgment-s.ensures
@@ -213,7 +213,7 @@ shape_of-hyps-in-No-judgment c = c.any_hyps.auto.set
 pub returns-in-No-judgment : goal.returns-in-No-judgment
 returns-in-No-judgment c = record {
   inverted_as = λ g. (
-    form_no_judgment g c.place-at.ensures c.index.ensures c.in-At.is c.is_fact.ensures (ap not c.if-not-is_fact.false) c.is_plain.ensures (ap not c.if-not-is_plain.false)
+    form_no_judgment g c.place-at.ensures c.index.ensures c.in-Some.is c.is_fact.ensures (ap not c.if-not-is_fact.false) c.is_plain.ensures (ap not c.if-not-is_plain.false)
         c.place-third.ensures c.args.hyps.now c.any_hyps.new.set c.any_hyps.result c.any_hyps.ensures
         c.in-Ok.is c.place-fourth.ensures c.judgment.new.index
         c.judgment.new.words c.judgment.result c.judgment.ensures c.in-No-judgment.is,

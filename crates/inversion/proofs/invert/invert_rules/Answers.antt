@@ -45,10 +45,10 @@ returns-in_default c = record { turned_as = λ g. rounds_over g (c.loop-r.invari
 
 pub invert_rule-requires : goal.invert_rule-requires
 invert_rule-requires c = record {
-  turning = rounds_turning c.requires.turning (c.loop-r.invariant.0 c.requires.turning) c.next_rule.ensures c.in-At.is (c.loop-r.invariant.4 ∙ c.requires.turning.taken_long)
+  turning = rounds_turning c.requires.turning (c.loop-r.invariant.0 c.requires.turning) c.next_rule.ensures c.in-Some.is (c.loop-r.invariant.4 ∙ c.requires.turning.taken_long)
       (c.loop-r.invariant.5 ∙ c.requires.turning.sorts_long);
   r_lt_rules = (
-    rounds_known c.requires.turning (c.loop-r.invariant.0 c.requires.turning) c.next_rule.ensures c.in-At.is,
+    rounds_known c.requires.turning (c.loop-r.invariant.0 c.requires.turning) c.next_rule.ensures c.in-Some.is,
     c.loop-r.invariant.1,
     c.loop-r.invariant.6 ∙ c.requires.empty.1,
   );
@@ -87,7 +87,7 @@ shape_of-ids-in-No c = c.invert_rule.auto.ids ∙ ap length c.loop-r.invariant.6
 
 pub returns-in-No : goal.returns-in-No
 returns-in-No c = record {
-  turned_as = λ g. rounds_stopped g (c.loop-r.invariant.0 g) c.next_rule.ensures c.in-At.is (c.loop-r.invariant.4 ∙ c.requires.turning.taken_long)
+  turned_as = λ g. rounds_stopped g (c.loop-r.invariant.0 g) c.next_rule.ensures c.in-Some.is (c.loop-r.invariant.4 ∙ c.requires.turning.taken_long)
       (c.loop-r.invariant.5 ∙ c.requires.turning.sorts_long) c.invert_rule.new.index
       c.invert_rule.new.words
       c.invert_rule.new.taken
@@ -99,7 +99,7 @@ returns-in-No c = record {
 pub overflow_add-from : goal.overflow_add-from
 overflow_add-from c = omega (
   arith,
-  rounds_known c.requires.turning (c.loop-r.invariant.0 c.requires.turning) c.next_rule.ensures c.in-At.is,
+  rounds_known c.requires.turning (c.loop-r.invariant.0 c.requires.turning) c.next_rule.ensures c.in-Some.is,
   c.requires.turning.ruled.held.many,
   c.requires.turning.refers.reads.spelling.formed.row4,
 )
@@ -107,14 +107,14 @@ overflow_add-from c = omega (
 pub loop-r-smaller : goal.loop-r-smaller
 loop-r-smaller c = omega (
   arith,
-  rounds_known c.requires.turning (c.loop-r.invariant.0 c.requires.turning) c.next_rule.ensures c.in-At.is,
+  rounds_known c.requires.turning (c.loop-r.invariant.0 c.requires.turning) c.next_rule.ensures c.in-Some.is,
   rounds_high c.requires.turning
-      (c.loop-r.invariant.0 c.requires.turning) c.next_rule.ensures c.in-At.is,
+      (c.loop-r.invariant.0 c.requires.turning) c.next_rule.ensures c.in-Some.is,
 )
 
 pub loop-r-preserved : goal.loop-r-preserved
 loop-r-preserved c = (
-  λ g. rounds_again g (c.loop-r.invariant.0 g) c.next_rule.ensures c.in-At.is (c.loop-r.invariant.4 ∙ c.requires.turning.taken_long)
+  λ g. rounds_again g (c.loop-r.invariant.0 g) c.next_rule.ensures c.in-Some.is (c.loop-r.invariant.4 ∙ c.requires.turning.taken_long)
       (c.loop-r.invariant.5 ∙ c.requires.turning.sorts_long) c.invert_rule.new.index
       c.invert_rule.new.words
       c.invert_rule.new.taken

@@ -57,7 +57,7 @@ variables-need-requires c = turn_known c.requires.turning c.requires.r_lt_rules.
 
 pub case_vars-requires : goal.case_vars-requires
 case_vars-requires c = (
-  turn_case c.requires.turning c.requires.r_lt_rules.0 c.rule_name-span.result c.rule_name-span.ensures c.find_case.result c.find_case.ensures c.in-At.is
+  turn_case c.requires.turning c.requires.r_lt_rules.0 c.rule_name-span.result c.rule_name-span.ensures c.find_case.result c.find_case.ensures c.in-Some.is
       c.variables-need.ensures,
   c.requires.turning.taken_long,
   refl,
@@ -68,7 +68,7 @@ shape_of-taken-in_default-case_vars c = c.case_vars.auto.taken
 
 pub returns-in_default-case_vars : goal.returns-in_default-case_vars
 returns-in_default-case_vars c = record {
-  turned_as = λ g. turn_missing g c.requires.r_lt_rules.0 c.rule_name-span.result c.rule_name-span.ensures c.find_case.result c.find_case.ensures c.in-At.is
+  turned_as = λ g. turn_missing g c.requires.r_lt_rules.0 c.rule_name-span.result c.rule_name-span.ensures c.find_case.result c.find_case.ensures c.in-Some.is
       c.variables-need.ensures c.case_vars.new.taken c.case_vars.new.list
       c.case_vars.result c.case_vars.ensures c.in_default-case_vars.is;
   empty = (c.requires.r_lt_rules.1, refl);
@@ -78,7 +78,7 @@ pub slice_bounds-list-end : goal.slice_bounds-list-end
 slice_bounds-list-end c = omega (
   arith,
   turn_few c.requires.turning c.requires.r_lt_rules.0 c.rule_name-span.result c.rule_name-span.ensures c.find_case.result c.find_case.ensures
-      c.in-At.is c.variables-need.ensures,
+      c.in-Some.is c.variables-need.ensures,
   c.case_vars.auto.list,
 )
 
@@ -88,15 +88,15 @@ slice_bounds-with_case-end c = sym
     (omega (
       arith,
       turn_few c.requires.turning c.requires.r_lt_rules.0 c.rule_name-span.result c.rule_name-span.ensures c.find_case.result c.find_case.ensures
-          c.in-At.is c.variables-need.ensures,
+          c.in-Some.is c.variables-need.ensures,
       c.case_vars.auto.list,
     )))
 
 pub with_case-requires : goal.with_case-requires
 with_case-requires c = (
-  turn_having c.requires.turning c.requires.r_lt_rules.0 c.rule_name-span.result c.rule_name-span.ensures c.find_case.result c.find_case.ensures c.in-At.is
+  turn_having c.requires.turning c.requires.r_lt_rules.0 c.rule_name-span.result c.rule_name-span.ensures c.find_case.result c.find_case.ensures c.in-Some.is
       c.variables-need.ensures c.case_vars.new.taken c.case_vars.new.list
-      c.case_vars.result c.case_vars.ensures c.in-At-case_vars.is c.requires.r_lt_rules.2,
+      c.case_vars.result c.case_vars.ensures c.in-Some-case_vars.is c.requires.r_lt_rules.2,
   c.requires.r_lt_rules.1,
 )
 
@@ -126,14 +126,14 @@ shape_of-ids-in-Ok c = c.with_case.auto.ids
 
 pub returns-in-Ok : goal.returns-in-Ok
 returns-in-Ok c = record {
-  turned_as = λ g. turn_judged g c.requires.r_lt_rules.0 c.rule_name-span.result c.rule_name-span.ensures c.find_case.result c.find_case.ensures c.in-At.is
+  turned_as = λ g. turn_judged g c.requires.r_lt_rules.0 c.rule_name-span.result c.rule_name-span.ensures c.find_case.result c.find_case.ensures c.in-Some.is
       c.variables-need.ensures c.case_vars.new.taken c.case_vars.new.list
-      c.case_vars.result c.case_vars.ensures c.in-At-case_vars.is c.with_case.new.index
+      c.case_vars.result c.case_vars.ensures c.in-Some-case_vars.is c.with_case.new.index
       c.with_case.new.words c.with_case.result
       (c.with_case.ensures.judged_as
-      (turn_having g c.requires.r_lt_rules.0 c.rule_name-span.result c.rule_name-span.ensures c.find_case.result c.find_case.ensures c.in-At.is
+      (turn_having g c.requires.r_lt_rules.0 c.rule_name-span.result c.rule_name-span.ensures c.find_case.result c.find_case.ensures c.in-Some.is
       c.variables-need.ensures c.case_vars.new.taken c.case_vars.new.list
-      c.case_vars.result c.case_vars.ensures c.in-At-case_vars.is c.requires.r_lt_rules.2)) c.in-Ok.is;
+      c.case_vars.result c.case_vars.ensures c.in-Some-case_vars.is c.requires.r_lt_rules.2)) c.in-Ok.is;
   empty = c.with_case.ensures.empty;
 }
 
@@ -163,13 +163,13 @@ shape_of-ids-in-No c = c.with_case.auto.ids
 
 pub returns-in-No : goal.returns-in-No
 returns-in-No c = record {
-  turned_as = λ g. turn_refused g c.requires.r_lt_rules.0 c.rule_name-span.result c.rule_name-span.ensures c.find_case.result c.find_case.ensures c.in-At.is
+  turned_as = λ g. turn_refused g c.requires.r_lt_rules.0 c.rule_name-span.result c.rule_name-span.ensures c.find_case.result c.find_case.ensures c.in-Some.is
       c.variables-need.ensures c.case_vars.new.taken c.case_vars.new.list
-      c.case_vars.result c.case_vars.ensures c.in-At-case_vars.is c.with_case.new.index
+      c.case_vars.result c.case_vars.ensures c.in-Some-case_vars.is c.with_case.new.index
       c.with_case.new.words c.with_case.result
       (c.with_case.ensures.judged_as
-      (turn_having g c.requires.r_lt_rules.0 c.rule_name-span.result c.rule_name-span.ensures c.find_case.result c.find_case.ensures c.in-At.is
+      (turn_having g c.requires.r_lt_rules.0 c.rule_name-span.result c.rule_name-span.ensures c.find_case.result c.find_case.ensures c.in-Some.is
       c.variables-need.ensures c.case_vars.new.taken c.case_vars.new.list
-      c.case_vars.result c.case_vars.ensures c.in-At-case_vars.is c.requires.r_lt_rules.2)) c.in-No.is;
+      c.case_vars.result c.case_vars.ensures c.in-Some-case_vars.is c.requires.r_lt_rules.2)) c.in-No.is;
   empty = c.with_case.ensures.empty;
 }

@@ -31,18 +31,18 @@ returns-in_default c = record {
 
 pub slice_bounds-list-end : goal.slice_bounds-list-end
 slice_bounds-list-end c = lack_room c.requires.0 (c.variables-need.ensures c.requires.0.T _ _ _ _ _ c.requires.0.formed.held c.requires.0.known) c.make_vars.new.sorts
-    c.make_vars.new.list c.make_vars.result c.make_vars.ensures c.in-At.is c.make_vars.auto.sorts
+    c.make_vars.new.list c.make_vars.result c.make_vars.ensures c.in-Some.is c.make_vars.auto.sorts
     (c.make_vars.auto.list ∙ length-replicate {A = ℕ} RULEVARS 0)
 
 pub slice_bounds-meet-end : goal.slice_bounds-meet-end
 slice_bounds-meet-end c = lack_part c.requires.0 (c.variables-need.ensures c.requires.0.T _ _ _ _ _ c.requires.0.formed.held c.requires.0.known) c.make_vars.new.sorts
-    c.make_vars.new.list c.make_vars.result c.make_vars.ensures c.in-At.is c.make_vars.auto.sorts
+    c.make_vars.new.list c.make_vars.result c.make_vars.ensures c.in-Some.is c.make_vars.auto.sorts
     (c.make_vars.auto.list ∙ length-replicate {A = ℕ} RULEVARS 0)
 
 pub meet-requires : goal.meet-requires
 meet-requires c = (
   lack_meeting c.requires.0 (c.variables-need.ensures c.requires.0.T _ _ _ _ _ c.requires.0.formed.held c.requires.0.known)
-      c.make_vars.new.sorts c.make_vars.new.list c.make_vars.result c.make_vars.ensures c.in-At.is
+      c.make_vars.new.sorts c.make_vars.new.list c.make_vars.result c.make_vars.ensures c.in-Some.is
       c.make_vars.auto.sorts (c.make_vars.auto.list ∙ length-replicate {A = ℕ} RULEVARS 0),
   c.requires.1,
 )
@@ -53,7 +53,7 @@ shape_of-sorts-in-Found c = c.make_vars.auto.sorts
 pub returns-in-Found : goal.returns-in-Found
 returns-in-Found c = record {
   lacked_as = λ g. lack_found g (c.variables-need.ensures g.T _ _ _ _ _ g.formed.held g.known) c.make_vars.new.sorts
-      c.make_vars.new.list c.make_vars.result c.make_vars.ensures c.in-At.is c.make_vars.auto.sorts
+      c.make_vars.new.list c.make_vars.result c.make_vars.ensures c.in-Some.is c.make_vars.auto.sorts
       (c.make_vars.auto.list ∙ length-replicate {A = ℕ} RULEVARS 0) c.meet.new.index
       c.meet.new.words c.meet.new.bound c.meet.new.theta
       c.meet.result c.meet.ensures.met_as c.in-Found.is;
@@ -70,13 +70,13 @@ returns-in-Found c = record {
 pub returns-in-Apart : goal.returns-in-Apart
 returns-in-Apart c = record {
   lacked_as = λ g. lack_apart g (c.variables-need.ensures g.T _ _ _ _ _ g.formed.held g.known) c.make_vars.new.sorts
-      c.make_vars.new.list c.make_vars.result c.make_vars.ensures c.in-At.is c.make_vars.auto.sorts
+      c.make_vars.new.list c.make_vars.result c.make_vars.ensures c.in-Some.is c.make_vars.auto.sorts
       (c.make_vars.auto.list ∙ length-replicate {A = ℕ} RULEVARS 0) c.meet.new.index
       c.meet.new.words c.meet.new.bound c.meet.new.theta
       c.meet.result c.meet.ensures.met_as c.in-Apart.is;
   empty = record {
     thetas = lack_zero c.requires.0 (c.variables-need.ensures c.requires.0.T _ _ _ _ _ c.requires.0.formed.held c.requires.0.known)
-        c.make_vars.new.sorts c.make_vars.new.list c.make_vars.result c.make_vars.ensures c.in-At.is
+        c.make_vars.new.sorts c.make_vars.new.list c.make_vars.result c.make_vars.ensures c.in-Some.is
         c.make_vars.auto.sorts (c.make_vars.auto.list ∙ length-replicate {A = ℕ} RULEVARS 0)
         c.meet.new.index c.meet.new.words c.meet.new.bound
         c.meet.new.theta c.meet.result c.meet.ensures.met_as c.in-Apart.is;
@@ -89,13 +89,13 @@ returns-in-Apart c = record {
 pub returns-in-Full : goal.returns-in-Full
 returns-in-Full c = record {
   lacked_as = λ g. lack_stopped g (c.variables-need.ensures g.T _ _ _ _ _ g.formed.held g.known) c.make_vars.new.sorts
-      c.make_vars.new.list c.make_vars.result c.make_vars.ensures c.in-At.is c.make_vars.auto.sorts
+      c.make_vars.new.list c.make_vars.result c.make_vars.ensures c.in-Some.is c.make_vars.auto.sorts
       (c.make_vars.auto.list ∙ length-replicate {A = ℕ} RULEVARS 0) c.meet.new.index
       c.meet.new.words c.meet.new.bound c.meet.new.theta
       c.meet.result c.meet.ensures.met_as c.in-Full.is;
   empty = record {
     thetas = lack_zero_full c.requires.0 (c.variables-need.ensures c.requires.0.T _ _ _ _ _ c.requires.0.formed.held c.requires.0.known)
-        c.make_vars.new.sorts c.make_vars.new.list c.make_vars.result c.make_vars.ensures c.in-At.is
+        c.make_vars.new.sorts c.make_vars.new.list c.make_vars.result c.make_vars.ensures c.in-Some.is
         c.make_vars.auto.sorts (c.make_vars.auto.list ∙ length-replicate {A = ℕ} RULEVARS 0)
         c.meet.new.index c.meet.new.words c.meet.new.bound
         c.meet.new.theta c.meet.result c.meet.ensures.met_as c.in-Full.is;

@@ -19,36 +19,36 @@ returns-in_default c = λ T R ins h w.
     c.symbol_named.ensures c.in_default.is
 
 pub overflow_mul-at : goal.overflow_mul-at
-overflow_mul-at c = omega (arith, (head_row _ false _ _ c.requires.held.1 c.symbol_named.ensures c.in-At.is).0, c.well_formed)
+overflow_mul-at c = omega (arith, (head_row _ false _ _ c.requires.held.1 c.symbol_named.ensures c.in-Some.is).0, c.well_formed)
 
 pub offset_bounds-symbols-at : goal.offset_bounds-symbols-at
-offset_bounds-symbols-at c = omega (arith, (head_row _ false _ _ c.requires.held.1 c.symbol_named.ensures c.in-At.is).0, c.well_formed)
+offset_bounds-symbols-at c = omega (arith, (head_row _ false _ _ c.requires.held.1 c.symbol_named.ensures c.in-Some.is).0, c.well_formed)
 
 pub bounds-symbols-at : goal.bounds-symbols-at
-bounds-symbols-at c = omega (arith, (head_row _ false _ _ c.requires.held.1 c.symbol_named.ensures c.in-At.is).0)
+bounds-symbols-at c = omega (arith, (head_row _ false _ _ c.requires.held.1 c.symbol_named.ensures c.in-Some.is).0)
 
 pub overflow_cast-output : goal.overflow_cast-output
-overflow_cast-output c = omega (arith, c.shared_slice_known-3-1.given (4 * c.in-At.c))
+overflow_cast-output c = omega (arith, c.shared_slice_known-3-1.given (4 * c.in-Some.c))
 
 pub overflow_add-many : goal.overflow_add-many
-overflow_add-many c = omega (arith, (head_row _ false _ _ c.requires.held.1 c.symbol_named.ensures c.in-At.is).0, c.well_formed)
+overflow_add-many c = omega (arith, (head_row _ false _ _ c.requires.held.1 c.symbol_named.ensures c.in-Some.is).0, c.well_formed)
 
 pub offset_bounds-symbols-at-then-same_sort : goal.offset_bounds-symbols-at-then-same_sort
-offset_bounds-symbols-at-then-same_sort c = omega (arith, (head_row _ false _ _ c.requires.held.1 c.symbol_named.ensures c.in-At.is).0, c.well_formed)
+offset_bounds-symbols-at-then-same_sort c = omega (arith, (head_row _ false _ _ c.requires.held.1 c.symbol_named.ensures c.in-Some.is).0, c.well_formed)
 
 pub bounds-symbols-at-then-same_sort : goal.bounds-symbols-at-then-same_sort
-bounds-symbols-at-then-same_sort c = omega (arith, (head_row _ false _ _ c.requires.held.1 c.symbol_named.ensures c.in-At.is).0)
+bounds-symbols-at-then-same_sort c = omega (arith, (head_row _ false _ _ c.requires.held.1 c.symbol_named.ensures c.in-Some.is).0)
 
 pub overflow_cast-many : goal.overflow_cast-many
-overflow_cast-many c = omega (arith, c.shared_slice_known-then-same_sort-1.given (4 * c.in-At.c + 1))
+overflow_cast-many c = omega (arith, c.shared_slice_known-then-same_sort-1.given (4 * c.in-Some.c + 1))
 
 pub returns-then-many-arity : goal.returns-then-many-arity
 returns-then-many-arity c = λ T R ins h w.
     head_wrong_count c.args.text.now c.args.start _ c.args.sort c.args.arity c.atom_end-end.ensures c.requires.inside T R h _
-    c.symbol_named.ensures _ c.in-At.is (sym c.same_sort.ensures ∙ c.if-same_sort.true) c.if-many-arity.true
+    c.symbol_named.ensures _ c.in-Some.is (sym c.same_sort.ensures ∙ c.if-same_sort.true) c.if-many-arity.true
 
 pub put_word-requires : goal.put_word-requires
-put_word-requires c = record { long = c.requires.long; small = omega (arith, (head_row _ false _ _ c.requires.held.1 c.symbol_named.ensures c.in-At.is).1) }
+put_word-requires c = record { long = c.requires.long; small = omega (arith, (head_row _ false _ _ c.requires.held.1 c.symbol_named.ensures c.in-Some.is).1) }
 
 pub overflow_add-result : goal.overflow_add-result
 overflow_add-result c = omega (arith, (put_yes _ _ _ _ c.put_word.result c.put_word.ensures c.if-put_word.true).0)
@@ -56,16 +56,16 @@ overflow_add-result c = omega (arith, (put_yes _ _ _ _ c.put_word.result c.put_w
 pub returns-then-put_word : goal.returns-then-put_word
 returns-then-put_word c = λ T R ins h w.
     head_written c.args.text.now c.args.start _ c.args.sort c.args.arity c.atom_end-end.ensures c.requires.inside T R h _
-    c.symbol_named.ensures _ c.in-At.is (sym c.same_sort.ensures ∙ c.if-same_sort.true) c.if-many-arity.false _ _ w c.requires.long
+    c.symbol_named.ensures _ c.in-Some.is (sym c.same_sort.ensures ∙ c.if-same_sort.true) c.if-many-arity.false _ _ w c.requires.long
     (put_yes _ _ _ _ c.put_word.result c.put_word.ensures c.if-put_word.true)
 
 pub returns-then-same_sort : goal.returns-then-same_sort
 returns-then-same_sort c = λ T R ins h w.
     head_full c.args.text.now c.args.start _ c.args.sort c.args.arity c.atom_end-end.ensures c.requires.inside T R h _ c.symbol_named.ensures
-    _ c.in-At.is (sym c.same_sort.ensures ∙ c.if-same_sort.true) c.if-many-arity.false _ _ w
+    _ c.in-Some.is (sym c.same_sort.ensures ∙ c.if-same_sort.true) c.if-many-arity.false _ _ w
     (put_no _ _ _ _ c.put_word.result c.put_word.ensures c.if-put_word.false)
 
 pub returns : goal.returns
 returns c = λ T R ins h w.
     head_wrong_sort c.args.text.now c.args.start _ c.args.sort c.args.arity c.atom_end-end.ensures c.requires.inside T R h _
-    c.symbol_named.ensures _ c.in-At.is (sym c.same_sort.ensures ∙ c.if-same_sort.false)
+    c.symbol_named.ensures _ c.in-Some.is (sym c.same_sort.ensures ∙ c.if-same_sort.false)

@@ -11,31 +11,31 @@ pub named-requires : goal.named-requires
 named-requires c = (names_of var_name c.requires.vs, vars_rows c.requires.held)
 
 pub overflow_mul-had : goal.overflow_mul-had
-overflow_mul-had c = omega (arith, var_place c.requires.held _ (var_inside c.requires.held _ _ _ c.named.ensures c.in-At.is), c.well_formed)
+overflow_mul-had c = omega (arith, var_place c.requires.held _ (var_inside c.requires.held _ _ _ c.named.ensures c.in-Some.is), c.well_formed)
 
 pub offset_bounds-vars-i : goal.offset_bounds-vars-i
-offset_bounds-vars-i c = omega (arith, var_place c.requires.held _ (var_inside c.requires.held _ _ _ c.named.ensures c.in-At.is), c.well_formed)
+offset_bounds-vars-i c = omega (arith, var_place c.requires.held _ (var_inside c.requires.held _ _ _ c.named.ensures c.in-Some.is), c.well_formed)
 
 pub bounds-vars-i : goal.bounds-vars-i
-bounds-vars-i c = var_place c.requires.held _ (var_inside c.requires.held _ _ _ c.named.ensures c.in-At.is)
+bounds-vars-i c = var_place c.requires.held _ (var_inside c.requires.held _ _ _ c.named.ensures c.in-Some.is)
 
 pub overflow_cast-had : goal.overflow_cast-had
-overflow_cast-had c = omega (arith, c.slice_known-in-At-1.given (3 * c.in-At.i))
+overflow_cast-had c = omega (arith, c.slice_known-in-Some-1.given (3 * c.in-Some.i))
 
 pub returns-then-same_sort : goal.returns-then-same_sort
-returns-then-same_sort c = λ R n h k. met_again c.args.sort R n h k _ c.named.ensures _ c.in-At.is (sym c.same_sort.ensures ∙ c.if-same_sort.true)
+returns-then-same_sort c = λ R n h k. met_again c.args.sort R n h k _ c.named.ensures _ c.in-Some.is (sym c.same_sort.ensures ∙ c.if-same_sort.true)
 
 pub returns-then-count-ge-RULEVARS : goal.returns-then-count-ge-RULEVARS
-returns-then-count-ge-RULEVARS c = λ R n h k. met_full c.args.sort R n h k _ c.named.ensures c.in-Missing.is c.if-count-ge-RULEVARS.true
+returns-then-count-ge-RULEVARS c = λ R n h k. met_full c.args.sort R n h k _ c.named.ensures c.in-None.is c.if-count-ge-RULEVARS.true
 
 pub put_name-requires : goal.put_name-requires
 put_name-requires c = var_fits (c.requires) c.if-count-ge-RULEVARS.false
 
 pub returns-else-same_sort : goal.returns-else-same_sort
-returns-else-same_sort c = λ R n h k. met_wrongly c.args.sort R n h k _ c.named.ensures _ c.in-At.is (sym c.same_sort.ensures ∙ c.if-same_sort.false)
+returns-else-same_sort c = λ R n h k. met_wrongly c.args.sort R n h k _ c.named.ensures _ c.in-Some.is (sym c.same_sort.ensures ∙ c.if-same_sort.false)
 
 pub shape_of-vars-else-count-ge-RULEVARS : goal.shape_of-vars-else-count-ge-RULEVARS
 shape_of-vars-else-count-ge-RULEVARS c = c.put_name.auto.table ∙ length-set c.args.vars.now (3 * c.args.count) c.args.sort
 
 pub returns-else-count-ge-RULEVARS : goal.returns-else-count-ge-RULEVARS
-returns-else-count-ge-RULEVARS c = λ R n h k. rw c.put_name.ensures (met_new c.args.sort R n h k _ c.named.ensures c.in-Missing.is c.if-count-ge-RULEVARS.false)
+returns-else-count-ge-RULEVARS c = λ R n h k. rw c.put_name.ensures (met_new c.args.sort R n h k _ c.named.ensures c.in-None.is c.if-count-ge-RULEVARS.false)

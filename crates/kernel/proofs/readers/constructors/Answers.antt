@@ -9,13 +9,13 @@ pub returns-in_default : goal.returns-in_default
 returns-in_default c = counting_over c.loop-i.invariant _ c.next_constructor.ensures c.in_default.is
 
 pub overflow_add-n : goal.overflow_add-n
-overflow_add-n c = omega (arith, counting_inside c.loop-i.invariant _ c.next_constructor.ensures c.in-At.is, c.loop-i.invariant, c.ranges)
+overflow_add-n c = omega (arith, counting_inside c.loop-i.invariant _ c.next_constructor.ensures c.in-Some.is, c.loop-i.invariant, c.ranges)
 
 pub overflow_add-from : goal.overflow_add-from
-overflow_add-from c = omega (arith, counting_inside c.loop-i.invariant _ c.next_constructor.ensures c.in-At.is, c.ranges)
+overflow_add-from c = omega (arith, counting_inside c.loop-i.invariant _ c.next_constructor.ensures c.in-Some.is, c.ranges)
 
 pub loop-i-smaller : goal.loop-i-smaller
-loop-i-smaller c = omega (arith, counting_inside c.loop-i.invariant _ c.next_constructor.ensures c.in-At.is)
+loop-i-smaller c = omega (arith, counting_inside c.loop-i.invariant _ c.next_constructor.ensures c.in-Some.is)
 
 pub loop-i-preserved : goal.loop-i-preserved
-loop-i-preserved c = counting_on c.loop-i.invariant _ c.next_constructor.ensures c.in-At.is
+loop-i-preserved c = counting_on c.loop-i.invariant _ c.next_constructor.ensures c.in-Some.is

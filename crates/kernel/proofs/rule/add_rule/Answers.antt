@@ -61,6 +61,6 @@ returns c = λ T xs s h k n.
     schema_of c.args.text.now c.schema-r.new.row c.args.patterns.now c.schema-r.new.patterns
     c.args.used (schema T _ (begun T)) c.schema-r.result (c.schema-r.ensures T (begun T) _ s (reads_none T _ refl h) k n)
     c.in-Ok.is in
-    rule_put T xs h said name c.named.ensures c.in-Missing.is c.store.new.rules c.store.new.vars c.store.result
+    rule_put T xs h said name c.named.ensures c.in-None.is c.store.new.rules c.store.new.vars c.store.result
     (c.store.ensures c.args.text.now c.schema-r.new.patterns T.rules _ (held_still T xs h said)
     (rule_is T xs h said name k n c.premise_count-premises.ensures))

@@ -20,10 +20,10 @@ pub returns-in_default : goal.returns-in_default
 returns-in_default t c = λ T xs h k. arguments_unknown c.sort.ensures (first_item _ k c.if-cells-eq0.false c.item_at-item.ensures) T _ h c.in_default.is
 
 pub returns-then-count-ge-ARGUMENTS : goal.returns-then-count-ge-ARGUMENTS
-returns-then-count-ge-ARGUMENTS t c = λ T xs h k. arguments_full c.sort.ensures (first_item _ k c.if-cells-eq0.false c.item_at-item.ensures) T _ h _ c.in-At.is c.if-count-ge-ARGUMENTS.true
+returns-then-count-ge-ARGUMENTS t c = λ T xs h k. arguments_full c.sort.ensures (first_item _ k c.if-cells-eq0.false c.item_at-item.ensures) T _ h _ c.in-Some.is c.if-count-ge-ARGUMENTS.true
 
 pub overflow_cast-row : goal.overflow_cast-row
-overflow_cast-row t c = omega (arith, first_small c.sort.ensures (first_item _ c.requires.holds c.if-cells-eq0.false c.item_at-item.ensures) _ c.in-At.is c.requires.held)
+overflow_cast-row t c = omega (arith, first_small c.sort.ensures (first_item _ c.requires.holds c.if-cells-eq0.false c.item_at-item.ensures) _ c.in-Some.is c.requires.held)
 
 pub offset_bounds-row-count : goal.offset_bounds-row-count
 offset_bounds-row-count t c = search rules
@@ -61,5 +61,5 @@ shape_of-row t c = c.argument_sorts.auto.row ∙ length-set c.args.row.now c.arg
 pub returns : goal.returns
 returns t c = λ T xs h k.
     let first = first_of _ _ k c.if-cells-eq0.false c.item_at-item.ensures c.after-next.ensures in
-    arguments_more c.sort.ensures first T _ h _ c.in-At.is c.args.row.now c.argument_sorts.new.row
+    arguments_more c.sort.ensures first T _ h _ c.in-Some.is c.args.row.now c.argument_sorts.new.row
     c.argument_sorts.result c.if-count-ge-ARGUMENTS.false (c.argument_sorts.ensures T _ h first.rest)

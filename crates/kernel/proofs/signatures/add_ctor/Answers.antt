@@ -59,7 +59,7 @@ returns-in_default-symbol_named c = λ T xs h s k n. (
   ctor_again T xs (proper_here 1 xs c.proper_at.ensures c.in-Name.is k)
       (stored_of _ c.arguments_at-r.new.row _ c.arguments_at-r.result (c.arguments_at-r.ensures T xs h k (omega (arith, n)))
       c.in-Ok.is)
-      (sort_known c.sort.ensures T h (item xs 3) (place xs 3) (c.nth-result.ensures xs k.cells) (spells_item k 3) _ c.in-At.is)
+      (sort_known c.sort.ensures T h (item xs 3) (place xs 3) (c.nth-result.ensures xs k.cells) (spells_item k 3) _ c.in-Some.is)
       (c.symbol_named.ensures T.symbols (symbols_rows s)) c.in_default-symbol_named.is,
   refl,
   refl,
@@ -67,7 +67,7 @@ returns-in_default-symbol_named c = λ T xs h s k n. (
 
 pub store-requires : goal.store-requires
 store-requires c = symbol_fits c.requires.some_symbols_held.1 (proper_here 1 c.requires.form.xs c.proper_at.ensures c.in-Name.is c.requires.form.holds) c.requires.form.short
-    (sort_small c.sort.ensures _ c.in-At.is c.requires.some_sorts (item c.requires.form.xs 3) (place c.requires.form.xs 3)
+    (sort_small c.sort.ensures _ c.in-Some.is c.requires.some_sorts (item c.requires.form.xs 3) (place c.requires.form.xs 3)
     (c.nth-result.ensures c.requires.form.xs c.requires.form.holds.cells) (spells_item c.requires.form.holds 3))
     (stored_of _ c.arguments_at-r.new.row _ c.arguments_at-r.result
     (c.arguments_at-r.ensures (theory_of_lem c.requires.some_sorts.0) c.requires.form.xs c.requires.some_sorts.1 c.requires.form.holds (omega (arith, c.requires.form.many)))
@@ -85,5 +85,5 @@ returns c = λ T xs h s k n.
     (sym
     (ctor_is_new T xs name stored
     (sort_known c.sort.ensures T h (item xs 3) (place xs 3) (c.nth-result.ensures xs k.cells) (spells_item k 3) _
-    c.in-At.is) (c.symbol_named.ensures T.symbols (symbols_rows s)) c.in-Missing.is))
+    c.in-Some.is) (c.symbol_named.ensures T.symbols (symbols_rows s)) c.in-None.is))
     (c.store.ensures c.args.text.now T _ s (symbol_cells_lem T xs name stored _ refl))

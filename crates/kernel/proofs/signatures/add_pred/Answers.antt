@@ -58,5 +58,5 @@ returns c = λ T xs h s k n.
     subst
     (λ z.
     SymbolAdded c.args.text.now c.args.symbols.now c.args.inputs.now c.store.new.symbols c.store.new.inputs T z c.store.result)
-    (sym (pred_is_new T xs name stored (c.symbol_named.ensures T.symbols (symbols_rows s)) c.in-Missing.is))
+    (sym (pred_is_new T xs name stored (c.symbol_named.ensures T.symbols (symbols_rows s)) c.in-None.is))
     (c.store.ensures c.args.text.now T _ s (symbol_cells_lem T xs name stored _ refl))

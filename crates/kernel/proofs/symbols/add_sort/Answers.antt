@@ -34,7 +34,7 @@ returns-in_default-named c = λ T xs h k. (
 pub returns-then-count-ge-SORTS : goal.returns-then-count-ge-SORTS
 returns-then-count-ge-SORTS c = λ T xs h k. (
   sort_full T xs h _ _ (proper_here 1 xs c.proper_at.ensures c.in-Name.is k) _ (c.named.ensures T.sorts (sorts_rows h))
-      c.in-Missing.is c.if-count-ge-SORTS.true,
+      c.in-None.is c.if-count-ge-SORTS.true,
   refl,
 )
 
@@ -45,4 +45,4 @@ put_name-requires c = sort_fits c.requires.some_sorts.1 _ _ _ (proper_here 1 c.r
 pub returns : goal.returns
 returns c = λ T xs h k. rw c.put_name.ensures
     (sort_stored T xs h _ _ (proper_here 1 xs c.proper_at.ensures c.in-Name.is k) _ (c.named.ensures T.sorts (sorts_rows h))
-    c.in-Missing.is c.if-count-ge-SORTS.false)
+    c.in-None.is c.if-count-ge-SORTS.false)

@@ -30,8 +30,8 @@ returns-in_default-named c = λ x at e s ns k. sort_missing c.args.text.now ns x
     c.in_default-named.is
 
 pub overflow_add-result : goal.overflow_add-result
-overflow_add-result c = omega (arith, found_inside _ c.requires.some_names.0 _ _ (c.named.ensures c.requires.some_names.0 c.requires.some_names.1) c.in-At.is, c.requires.some_names.1.many, c.ranges.count)
+overflow_add-result c = omega (arith, found_inside _ c.requires.some_names.0 _ _ (c.named.ensures c.requires.some_names.0 c.requires.some_names.1) c.in-Some.is, c.requires.some_names.1.many, c.ranges.count)
 
 pub returns : goal.returns
 returns c = λ x at e s ns k. sort_found c.args.text.now ns x _ _
-    (proper_found c.args.text.now x _ _ _ s (c.proper.ensures x at e s) c.in-Name.is) _ (c.named.ensures ns k) _ c.in-At.is
+    (proper_found c.args.text.now x _ _ _ s (c.proper.ensures x at e s) c.in-Name.is) _ (c.named.ensures ns k) _ c.in-Some.is

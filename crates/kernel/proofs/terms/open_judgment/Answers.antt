@@ -29,39 +29,39 @@ returns-in_default-symbol_named c = λ T R ins zs h w k. judgment_unknown T R _ 
     c.symbol_named.ensures c.in_default-symbol_named.is
 
 pub overflow_mul-arity : goal.overflow_mul-arity
-overflow_mul-arity c = omega (arith, (head_row _ true _ _ c.requires.held.1 c.symbol_named.ensures c.in-At.is).0, c.well_formed)
+overflow_mul-arity c = omega (arith, (head_row _ true _ _ c.requires.held.1 c.symbol_named.ensures c.in-Some.is).0, c.well_formed)
 
 pub overflow_add-arity : goal.overflow_add-arity
-overflow_add-arity c = omega (arith, (head_row _ true _ _ c.requires.held.1 c.symbol_named.ensures c.in-At.is).0, c.well_formed)
+overflow_add-arity c = omega (arith, (head_row _ true _ _ c.requires.held.1 c.symbol_named.ensures c.in-Some.is).0, c.well_formed)
 
 pub offset_bounds-symbols-p : goal.offset_bounds-symbols-p
-offset_bounds-symbols-p c = omega (arith, (head_row _ true _ _ c.requires.held.1 c.symbol_named.ensures c.in-At.is).0, c.well_formed)
+offset_bounds-symbols-p c = omega (arith, (head_row _ true _ _ c.requires.held.1 c.symbol_named.ensures c.in-Some.is).0, c.well_formed)
 
 pub bounds-symbols-p : goal.bounds-symbols-p
-bounds-symbols-p c = omega (arith, (head_row _ true _ _ c.requires.held.1 c.symbol_named.ensures c.in-At.is).0)
+bounds-symbols-p c = omega (arith, (head_row _ true _ _ c.requires.held.1 c.symbol_named.ensures c.in-Some.is).0)
 
 pub overflow_cast-arity : goal.overflow_cast-arity
-overflow_cast-arity c = omega (arith, c.shared_slice_known-4-1.given (4 * c.in-At.p + 1))
+overflow_cast-arity c = omega (arith, c.shared_slice_known-4-1.given (4 * c.in-Some.p + 1))
 
 pub overflow_add-arity-2 : goal.overflow_add-arity-2
-overflow_add-arity-2 c = omega (arith, c.shared_slice_known-4-1.given (4 * c.in-At.p + 1))
+overflow_add-arity-2 c = omega (arith, c.shared_slice_known-4-1.given (4 * c.in-Some.p + 1))
 
 pub returns-then-arity-many : goal.returns-then-arity-many
 returns-then-arity-many c = λ T R ins zs h w k. judgment_count T R _ _ (atom_first k c.if-cells-eq0.false c.item_at.ensures c.in-Atom.is) _ c.atom_end-end.ensures h _
-    c.symbol_named.ensures _ c.in-At.is _ (c.count-many.ensures zs k.cells) c.if-arity-many.true
+    c.symbol_named.ensures _ c.in-Some.is _ (c.count-many.ensures zs k.cells) c.if-arity-many.true
 
 pub put_word-requires : goal.put_word-requires
-put_word-requires c = record { long = c.requires.long; small = omega (arith, (head_row _ true _ _ c.requires.held.1 c.symbol_named.ensures c.in-At.is).1) }
+put_word-requires c = record { long = c.requires.long; small = omega (arith, (head_row _ true _ _ c.requires.held.1 c.symbol_named.ensures c.in-Some.is).1) }
 
 pub overflow_add-result : goal.overflow_add-result
 overflow_add-result c = omega (arith, (put_yes _ _ _ _ c.put_word.result c.put_word.ensures c.if-put_word.true).0)
 
 pub returns-then-put_word : goal.returns-then-put_word
 returns-then-put_word c = λ T R ins zs h w k. judgment_opened T R _ _ (atom_first k c.if-cells-eq0.false c.item_at.ensures c.in-Atom.is) _ c.atom_end-end.ensures h _
-    c.symbol_named.ensures _ c.in-At.is _ (c.count-many.ensures zs k.cells) c.if-arity-many.false _ w c.requires.long
+    c.symbol_named.ensures _ c.in-Some.is _ (c.count-many.ensures zs k.cells) c.if-arity-many.false _ w c.requires.long
     (put_yes _ _ _ _ c.put_word.result c.put_word.ensures c.if-put_word.true)
 
 pub returns : goal.returns
 returns c = λ T R ins zs h w k. judgment_full T R _ _ (atom_first k c.if-cells-eq0.false c.item_at.ensures c.in-Atom.is) _ c.atom_end-end.ensures h _
-    c.symbol_named.ensures _ c.in-At.is _ (c.count-many.ensures zs k.cells) c.if-arity-many.false _ w
+    c.symbol_named.ensures _ c.in-Some.is _ (c.count-many.ensures zs k.cells) c.if-arity-many.false _ w
     (put_no _ _ _ _ c.put_word.result c.put_word.ensures c.if-put_word.false)

@@ -46,31 +46,31 @@ pub offset_bounds-inner-next : goal.offset_bounds-inner-next
 offset_bounds-inner-next c = omega (
   arith,
   second_near c.requires (binding_two c.requires c.item_at.ensures c.in-List.is c.count.ensures c.if-count-ne2.false) c.variable.ensures
-      c.in-At.is c.after-next.ensures,
+      c.in-Some.is c.after-next.ensures,
   c.well_formed.1.1.1.1.1.1.1.1.1.1.1.0,
 )
 
 pub slice_bounds-term_of-count : goal.slice_bounds-term_of-count
-slice_bounds-term_of-count c = second_high c.requires (binding_two c.requires c.item_at.ensures c.in-List.is c.count.ensures c.if-count-ne2.false) c.variable.ensures c.in-At.is
+slice_bounds-term_of-count c = second_high c.requires (binding_two c.requires c.item_at.ensures c.in-List.is c.count.ensures c.if-count-ne2.false) c.variable.ensures c.in-Some.is
     c.after-next.ensures
 
 pub slice_bounds-term_of-start : goal.slice_bounds-term_of-start
-slice_bounds-term_of-start c = second_high c.requires (binding_two c.requires c.item_at.ensures c.in-List.is c.count.ensures c.if-count-ne2.false) c.variable.ensures c.in-At.is
+slice_bounds-term_of-start c = second_high c.requires (binding_two c.requires c.item_at.ensures c.in-List.is c.count.ensures c.if-count-ne2.false) c.variable.ensures c.in-Some.is
     c.after-next.ensures
 
 pub var_sort-requires : goal.var_sort-requires
-var_sort-requires c = sort_given c.requires (binding_two c.requires c.item_at.ensures c.in-List.is c.count.ensures c.if-count-ne2.false) c.variable.ensures c.in-At.is
+var_sort-requires c = sort_given c.requires (binding_two c.requires c.item_at.ensures c.in-List.is c.count.ensures c.if-count-ne2.false) c.variable.ensures c.in-Some.is
 
 pub term_of-requires : goal.term_of-requires
-term_of-requires c = second_given c.requires (binding_two c.requires c.item_at.ensures c.in-List.is c.count.ensures c.if-count-ne2.false) c.variable.ensures c.in-At.is
+term_of-requires c = second_given c.requires (binding_two c.requires c.item_at.ensures c.in-List.is c.count.ensures c.if-count-ne2.false) c.variable.ensures c.in-Some.is
     c.after-next.ensures
 
 pub returns-in-Ok : goal.returns-in-Ok
-returns-in-Ok c = λ g. binding_read g (binding_two g c.item_at.ensures c.in-List.is c.count.ensures c.if-count-ne2.false) c.variable.ensures c.in-At.is
+returns-in-Ok c = λ g. binding_read g (binding_two g c.item_at.ensures c.in-List.is c.count.ensures c.if-count-ne2.false) c.variable.ensures c.in-Some.is
     c.after-next.ensures c.var_sort.ensures c.term_of.new.index c.term_of.new.words
     c.term_of.result c.term_of.ensures c.in-Ok.is
 
 pub returns-in-No : goal.returns-in-No
-returns-in-No c = λ g. binding_refused g (binding_two g c.item_at.ensures c.in-List.is c.count.ensures c.if-count-ne2.false) c.variable.ensures c.in-At.is
+returns-in-No c = λ g. binding_refused g (binding_two g c.item_at.ensures c.in-List.is c.count.ensures c.if-count-ne2.false) c.variable.ensures c.in-Some.is
     c.after-next.ensures c.var_sort.ensures c.term_of.new.index c.term_of.new.words
     c.term_of.result c.term_of.ensures c.in-No.is

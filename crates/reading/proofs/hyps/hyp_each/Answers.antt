@@ -34,8 +34,8 @@ shape_of-set-then-not-is_fact c = ap length (cleared c.loop-at.set c.requires.1 
 
 pub returns-then-not-is_fact : goal.returns-then-not-is_fact
 returns-then-not-is_fact c = λ g. (
-  hyping_late (c.loop-at.invariant.1 g) c.loop-at-test.true c.index.ensures c.in-At.is
-      (omega (arith, facts_many g, is_late c.in-At.i c.args.n.facts c.is_fact.result c.is_fact.ensures (ap not c.if-not-is_fact.true))),
+  hyping_late (c.loop-at.invariant.1 g) c.loop-at-test.true c.index.ensures c.in-Some.is
+      (omega (arith, facts_many g, is_late c.in-Some.i c.args.n.facts c.is_fact.result c.is_fact.ensures (ap not c.if-not-is_fact.true))),
   cleared
       c.loop-at.set c.requires.1 c.loop-at.invariant.0 c.clear_words-then-not-is_fact.ensures,
 )
@@ -44,22 +44,22 @@ pub passes-requires : goal.passes-requires
 passes-requires c = (
   facts_long c.requires.0,
   omega
-      (arith, facts_few c.requires.0, not_late c.in-At.i c.args.n.facts c.is_fact.result c.is_fact.ensures (ap not c.if-not-is_fact.false)),
+      (arith, facts_few c.requires.0, not_late c.in-Some.i c.args.n.facts c.is_fact.result c.is_fact.ensures (ap not c.if-not-is_fact.false)),
 )
 
 pub shape_of-set-then-not-passes : goal.shape_of-set-then-not-passes
 shape_of-set-then-not-passes c = ap length (cleared c.loop-at.set c.requires.1 c.loop-at.invariant.0 c.clear_words-then-not-passes.ensures)
 
 pub returns-then-not-passes : goal.returns-then-not-passes
-returns-then-not-passes c = λ g. let p = passing g c.args.plain c.in-At.i (not_late _ _ _ c.is_fact.ensures (ap not c.if-not-is_fact.false)) in (
-  hyping_fails (c.loop-at.invariant.1 g) c.loop-at-test.true c.index.ensures c.in-At.is p.is
+returns-then-not-passes c = λ g. let p = passing g c.args.plain c.in-Some.i (not_late _ _ _ c.is_fact.ensures (ap not c.if-not-is_fact.false)) in (
+  hyping_fails (c.loop-at.invariant.1 g) c.loop-at-test.true c.index.ensures c.in-Some.is p.is
       (sym p.test ∙ sym c.passes.ensures ∙ not-true c.passes.result (ap not c.if-not-passes.true)),
   cleared c.loop-at.set c.requires.1 c.loop-at.invariant.0
       c.clear_words-then-not-passes.ensures,
 )
 
 pub insert-requires : goal.insert-requires
-insert-requires c = let early = not_late c.in-At.i c.args.n.facts c.is_fact.result c.is_fact.ensures (ap not c.if-not-is_fact.false) in omega
+insert-requires c = let early = not_late c.in-Some.i c.args.n.facts c.is_fact.result c.is_fact.ensures (ap not c.if-not-is_fact.false) in omega
     (arith, early, facts_few c.requires.0, c.loop-at.invariant.0)
 
 pub loop-at-smaller : goal.loop-at-smaller
@@ -68,8 +68,8 @@ loop-at-smaller c = omega (arith, (go_on (hyping_here (c.loop-at.invariant.1 c.r
 pub loop-at-preserved : goal.loop-at-preserved
 loop-at-preserved c = (
   c.insert.auto.set ∙ c.loop-at.invariant.0,
-  λ g. let p = passing g c.args.plain c.in-At.i (not_late _ _ _ c.is_fact.ensures (ap not c.if-not-is_fact.false)) in hyping_more
-      (c.loop-at.invariant.1 g) c.loop-at-test.true c.index.ensures c.in-At.is p.is
+  λ g. let p = passing g c.args.plain c.in-Some.i (not_late _ _ _ c.is_fact.ensures (ap not c.if-not-is_fact.false)) in hyping_more
+      (c.loop-at.invariant.1 g) c.loop-at-test.true c.index.ensures c.in-Some.is p.is
       (sym p.test ∙ sym c.passes.ensures ∙ not-false c.passes.result (ap not c.if-not-passes.false)) c.insert.ensures c.after-at.ensures,
 )
 

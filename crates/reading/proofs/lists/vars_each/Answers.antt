@@ -26,7 +26,7 @@ returns-in_default c = λ g. (
 pub has-requires : goal.has-requires
 has-requires c = omega (
   arith,
-  varing_below (c.loop-at.invariant.2 c.requires.0) c.loop-at-test.true (named c.requires.0 c.loop-at.at c.variable.ensures) c.in-At.is,
+  varing_below (c.loop-at.invariant.2 c.requires.0) c.loop-at-test.true (named c.requires.0 c.loop-at.at c.variable.ensures) c.in-Some.is,
   vars_few c.requires.0,
   c.loop-at.invariant.1,
 )
@@ -36,7 +36,7 @@ shape_of-out-then-has c = ap length (cleared c.loop-at.out c.requires.1 c.loop-a
 
 pub returns-then-has : goal.returns-then-has
 returns-then-has c = λ g. (
-  varing_twice (c.loop-at.invariant.2 g) c.loop-at-test.true (named g c.loop-at.at c.variable.ensures) c.in-At.is c.has.ensures
+  varing_twice (c.loop-at.invariant.2 g) c.loop-at-test.true (named g c.loop-at.at c.variable.ensures) c.in-Some.is c.has.ensures
       c.if-has.true,
   cleared c.loop-at.out c.requires.1 c.loop-at.invariant.0 c.clear-then-has.ensures,
 )
@@ -44,7 +44,7 @@ returns-then-has c = λ g. (
 pub insert-requires : goal.insert-requires
 insert-requires c = omega (
   arith,
-  varing_below (c.loop-at.invariant.2 c.requires.0) c.loop-at-test.true (named c.requires.0 c.loop-at.at c.variable.ensures) c.in-At.is,
+  varing_below (c.loop-at.invariant.2 c.requires.0) c.loop-at-test.true (named c.requires.0 c.loop-at.at c.variable.ensures) c.in-Some.is,
   vars_few c.requires.0,
   c.loop-at.invariant.1,
 )
@@ -52,21 +52,21 @@ insert-requires c = omega (
 pub overflow_cast-out : goal.overflow_cast-out
 overflow_cast-out c = omega (
   arith,
-  varing_below (c.loop-at.invariant.2 c.requires.0) c.loop-at-test.true (named c.requires.0 c.loop-at.at c.variable.ensures) c.in-At.is,
+  varing_below (c.loop-at.invariant.2 c.requires.0) c.loop-at-test.true (named c.requires.0 c.loop-at.at c.variable.ensures) c.in-Some.is,
   vars_few c.requires.0,
 )
 
 pub offset_bounds-out-k : goal.offset_bounds-out-k
 offset_bounds-out-k c = omega (
   arith,
-  varing_room (c.loop-at.invariant.2 c.requires.0) c.loop-at-test.true (named c.requires.0 c.loop-at.at c.variable.ensures) c.in-At.is
+  varing_room (c.loop-at.invariant.2 c.requires.0) c.loop-at-test.true (named c.requires.0 c.loop-at.at c.variable.ensures) c.in-Some.is
       c.has.ensures c.if-has.false (vars_few c.requires.0),
 )
 
 pub bounds-out-k : goal.bounds-out-k
 bounds-out-k c = omega (
   arith,
-  varing_room (c.loop-at.invariant.2 c.requires.0) c.loop-at-test.true (named c.requires.0 c.loop-at.at c.variable.ensures) c.in-At.is
+  varing_room (c.loop-at.invariant.2 c.requires.0) c.loop-at-test.true (named c.requires.0 c.loop-at.at c.variable.ensures) c.in-Some.is
       c.has.ensures c.if-has.false (vars_few c.requires.0),
   c.loop-at.invariant.0,
 )
@@ -74,7 +74,7 @@ bounds-out-k c = omega (
 pub overflow_add-k : goal.overflow_add-k
 overflow_add-k c = omega (
   arith,
-  varing_room (c.loop-at.invariant.2 c.requires.0) c.loop-at-test.true (named c.requires.0 c.loop-at.at c.variable.ensures) c.in-At.is
+  varing_room (c.loop-at.invariant.2 c.requires.0) c.loop-at-test.true (named c.requires.0 c.loop-at.at c.variable.ensures) c.in-Some.is
       c.has.ensures c.if-has.false (vars_few c.requires.0),
 )
 
@@ -83,10 +83,10 @@ loop-at-smaller c = omega (arith, (go_on (varing_here (c.loop-at.invariant.2 c.r
 
 pub loop-at-preserved : goal.loop-at-preserved
 loop-at-preserved c = (
-  length-set c.loop-at.out c.loop-at.k c.in-At.v ∙ c.loop-at.invariant.0,
+  length-set c.loop-at.out c.loop-at.k c.in-Some.v ∙ c.loop-at.invariant.0,
   c.insert.auto.set ∙ c.loop-at.invariant.1,
   λ g. varing_more (c.loop-at.invariant.2 g)
-      c.loop-at-test.true (named g c.loop-at.at c.variable.ensures) c.in-At.is c.has.ensures c.if-has.false c.insert.ensures
+      c.loop-at-test.true (named g c.loop-at.at c.variable.ensures) c.in-Some.is c.has.ensures c.if-has.false c.insert.ensures
       c.after-at.ensures,
 )
 

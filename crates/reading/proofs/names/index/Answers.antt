@@ -14,9 +14,9 @@ atom_end-end-requires c = omega (arith, first_inside c.requires c.item_at.ensure
 pub slice_bounds-index_of-end : goal.slice_bounds-index_of-end
 slice_bounds-index_of-end c = first_high c.requires _ c.item_at.ensures c.in-Atom.is c.atom_end-end.ensures
 
-pub returns-in-Number : goal.returns-in-Number
-returns-in-Number c = λ x ys h. index_number _ (item_atom_lem h c.item_at.ensures c.in-Atom.is) c.atom_end-end.ensures c.index_of.ensures c.in-Number.is
+pub returns-in-Some : goal.returns-in-Some
+returns-in-Some c = λ x ys h. index_number _ (item_atom_lem h c.item_at.ensures c.in-Atom.is) c.atom_end-end.ensures c.index_of.ensures c.in-Some.is
 
-pub returns-in-Unreadable : goal.returns-in-Unreadable
-returns-in-Unreadable c = λ x ys h. index_none _ (item_atom_lem h c.item_at.ensures c.in-Atom.is) c.atom_end-end.ensures c.index_of.ensures
-    c.in-Unreadable.is
+pub returns-in-None : goal.returns-in-None
+returns-in-None c = λ x ys h. index_none _ (item_atom_lem h c.item_at.ensures c.in-Atom.is) c.atom_end-end.ensures c.index_of.ensures
+    c.in-None.is

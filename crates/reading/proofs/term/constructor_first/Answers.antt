@@ -24,9 +24,9 @@ returns-in_default-constructor_named c = λ g. compound_missing g c.if-cells-eq0
     c.in_default-constructor_named.is
 
 pub returns-then-cells-eq1 : goal.returns-then-cells-eq1
-returns-then-cells-eq1 c = λ g. compound_single g c.if-cells-eq0.false c.item_at.ensures c.in-Atom.is c.atom_end-end.ensures c.constructor_named.ensures c.in-At.is
+returns-then-cells-eq1 c = λ g. compound_single g c.if-cells-eq0.false c.item_at.ensures c.in-Atom.is c.atom_end-end.ensures c.constructor_named.ensures c.in-Some.is
     c.if-cells-eq1.true
 
 pub returns : goal.returns
-returns c = λ g. compound_opened g c.if-cells-eq0.false c.item_at.ensures c.in-Atom.is c.atom_end-end.ensures c.constructor_named.ensures c.in-At.is
+returns c = λ g. compound_opened g c.if-cells-eq0.false c.item_at.ensures c.in-Atom.is c.atom_end-end.ensures c.constructor_named.ensures c.in-Some.is
     c.if-cells-eq1.false

@@ -3,57 +3,57 @@ use Rattle.reading.proofs.Leaves.{var_small, var_asks, var_kept, var_sorted, var
 use Rattle.reading.proofs.term.named.Goals as goal
 
 pub overflow_add-node : goal.overflow_add-node
-overflow_add-node c = omega (arith, var_small c.requires c.args.name.now (c.var_named.ensures _ c.requires.vars_are) c.in-At.v c.in-At.is)
+overflow_add-node c = omega (arith, var_small c.requires c.args.name.now (c.var_named.ensures _ c.requires.vars_are) c.in-Some.v c.in-Some.is)
 
 pub overflow_cast-node : goal.overflow_cast-node
-overflow_cast-node c = omega (arith, var_small c.requires c.args.name.now (c.var_named.ensures _ c.requires.vars_are) c.in-At.v c.in-At.is)
+overflow_cast-node c = omega (arith, var_small c.requires c.args.name.now (c.var_named.ensures _ c.requires.vars_are) c.in-Some.v c.in-Some.is)
 
 pub var_sort-requires : goal.var_sort-requires
-var_sort-requires c = var_asks c.requires c.args.name.now (c.var_named.ensures _ c.requires.vars_are) c.in-At.v c.in-At.is
+var_sort-requires c = var_asks c.requires c.args.name.now (c.var_named.ensures _ c.requires.vars_are) c.in-Some.v c.in-Some.is
 
 pub keep_typed-requires : goal.keep_typed-requires
-keep_typed-requires c = var_kept c.requires c.args.name.now (c.var_named.ensures _ c.requires.vars_are) c.in-At.v c.in-At.is
+keep_typed-requires c = var_kept c.requires c.args.name.now (c.var_named.ensures _ c.requires.vars_are) c.in-Some.v c.in-Some.is
 
 pub constructor_named-requires : goal.constructor_named-requires
 constructor_named-requires c = (c.requires.inputs, (c.requires.S.theory.symbols, c.requires.held))
 
 pub returns-in_default : goal.returns-in_default
-returns-in_default c = λ g. name_unknown g c.args.name.now (c.var_named.ensures _ g.vars_are) c.in-Missing.is
+returns-in_default c = λ g. name_unknown g c.args.name.now (c.var_named.ensures _ g.vars_are) c.in-None.is
     (c.constructor_named.ensures g.S.theory _ g.held) c.in_default.is
 
 pub arity-requires : goal.arity-requires
-arity-requires c = constant_known c.requires c.args.name.now (c.var_named.ensures _ c.requires.vars_are) c.in-Missing.is
-    (c.constructor_named.ensures c.requires.S.theory _ c.requires.held) c.in-At-constructor_named.c c.in-At-constructor_named.is
+arity-requires c = constant_known c.requires c.args.name.now (c.var_named.ensures _ c.requires.vars_are) c.in-None.is
+    (c.constructor_named.ensures c.requires.S.theory _ c.requires.held) c.in-Some-constructor_named.c c.in-Some-constructor_named.is
 
 pub returns-then-arity-ne0 : goal.returns-then-arity-ne0
-returns-then-arity-ne0 c = λ g. name_many g c.args.name.now (c.var_named.ensures _ g.vars_are) c.in-Missing.is
-    (c.constructor_named.ensures g.S.theory _ g.held) c.in-At-constructor_named.c c.in-At-constructor_named.is c.arity.ensures c.if-arity-ne0.true
+returns-then-arity-ne0 c = λ g. name_many g c.args.name.now (c.var_named.ensures _ g.vars_are) c.in-None.is
+    (c.constructor_named.ensures g.S.theory _ g.held) c.in-Some-constructor_named.c c.in-Some-constructor_named.is c.arity.ensures c.if-arity-ne0.true
 
-pub overflow_cast-node-in-Missing : goal.overflow_cast-node-in-Missing
-overflow_cast-node-in-Missing c = omega (
+pub overflow_cast-node-in-None : goal.overflow_cast-node-in-None
+overflow_cast-node-in-None c = omega (
   arith,
-  constant_small c.requires c.args.name.now (c.var_named.ensures _ c.requires.vars_are) c.in-Missing.is
-      (c.constructor_named.ensures c.requires.S.theory _ c.requires.held) c.in-At-constructor_named.c c.in-At-constructor_named.is,
+  constant_small c.requires c.args.name.now (c.var_named.ensures _ c.requires.vars_are) c.in-None.is
+      (c.constructor_named.ensures c.requires.S.theory _ c.requires.held) c.in-Some-constructor_named.c c.in-Some-constructor_named.is,
 )
 
 pub output-requires : goal.output-requires
-output-requires c = constant_known c.requires c.args.name.now (c.var_named.ensures _ c.requires.vars_are) c.in-Missing.is
-    (c.constructor_named.ensures c.requires.S.theory _ c.requires.held) c.in-At-constructor_named.c c.in-At-constructor_named.is
+output-requires c = constant_known c.requires c.args.name.now (c.var_named.ensures _ c.requires.vars_are) c.in-None.is
+    (c.constructor_named.ensures c.requires.S.theory _ c.requires.held) c.in-Some-constructor_named.c c.in-Some-constructor_named.is
 
-pub keep_typed-requires-in-Missing : goal.keep_typed-requires-in-Missing
-keep_typed-requires-in-Missing c = constant_kept c.requires c.args.name.now (c.var_named.ensures _ c.requires.vars_are) c.in-Missing.is
-    (c.constructor_named.ensures c.requires.S.theory _ c.requires.held) c.in-At-constructor_named.c c.in-At-constructor_named.is
+pub keep_typed-requires-in-None : goal.keep_typed-requires-in-None
+keep_typed-requires-in-None c = constant_kept c.requires c.args.name.now (c.var_named.ensures _ c.requires.vars_are) c.in-None.is
+    (c.constructor_named.ensures c.requires.S.theory _ c.requires.held) c.in-Some-constructor_named.c c.in-Some-constructor_named.is
 
-pub returns-in-At : goal.returns-in-At
-returns-in-At c = λ g. var_named_typed g c.args.name.now (c.var_named.ensures _ g.vars_are) c.in-At.v c.in-At.is c.keep_typed.new.index
+pub returns-in-Some : goal.returns-in-Some
+returns-in-Some c = λ g. var_named_typed g c.args.name.now (c.var_named.ensures _ g.vars_are) c.in-Some.v c.in-Some.is c.keep_typed.new.index
     c.keep_typed.new.words c.args.sort c.keep_typed.result
     (c.keep_typed.ensures g.S
-    (var_sorted g c.args.name.now (c.var_named.ensures _ g.vars_are) c.in-At.v c.in-At.is c.var_sort.ensures))
+    (var_sorted g c.args.name.now (c.var_named.ensures _ g.vars_are) c.in-Some.v c.in-Some.is c.var_sort.ensures))
 
 pub returns-else-arity-ne0 : goal.returns-else-arity-ne0
-returns-else-arity-ne0 c = λ g. constant_typed g c.args.name.now (c.var_named.ensures _ g.vars_are) c.in-Missing.is
-    (c.constructor_named.ensures g.S.theory _ g.held) c.in-At-constructor_named.c c.in-At-constructor_named.is c.arity.ensures c.if-arity-ne0.false
-    c.keep_typed-in-Missing.new.index c.keep_typed-in-Missing.new.words c.args.sort c.keep_typed-in-Missing.result
-    (c.keep_typed-in-Missing.ensures g.S
-    (constant_sorted g c.args.name.now (c.var_named.ensures _ g.vars_are) c.in-Missing.is
-    (c.constructor_named.ensures g.S.theory _ g.held) c.in-At-constructor_named.c c.in-At-constructor_named.is c.output.ensures))
+returns-else-arity-ne0 c = λ g. constant_typed g c.args.name.now (c.var_named.ensures _ g.vars_are) c.in-None.is
+    (c.constructor_named.ensures g.S.theory _ g.held) c.in-Some-constructor_named.c c.in-Some-constructor_named.is c.arity.ensures c.if-arity-ne0.false
+    c.keep_typed-in-None.new.index c.keep_typed-in-None.new.words c.args.sort c.keep_typed-in-None.result
+    (c.keep_typed-in-None.ensures g.S
+    (constant_sorted g c.args.name.now (c.var_named.ensures _ g.vars_are) c.in-None.is
+    (c.constructor_named.ensures g.S.theory _ g.held) c.in-Some-constructor_named.c c.in-Some-constructor_named.is c.output.ensures))

@@ -24,4 +24,4 @@ returns-in_default-predicate_named c = λ g. judgment_missing g c.if-cells-eq0.f
     c.in_default-predicate_named.is
 
 pub returns : goal.returns
-returns c = λ g. judgment_opened g c.if-cells-eq0.false c.item_at.ensures c.in-Atom.is c.atom_end-end.ensures c.predicate_named.ensures c.in-At.is
+returns c = λ g. judgment_opened g c.if-cells-eq0.false c.item_at.ensures c.in-Atom.is c.atom_end-end.ensures c.predicate_named.ensures c.in-Some.is

@@ -13,32 +13,32 @@ returns-in_default c = λ M ds h. def_nowhere h c.args.name.now c.named.ensures
 pub overflow_mul-result : goal.overflow_mul-result
 overflow_mul-result c = omega (
   arith,
-  def_inside c.args.name.now _ c.requires c.named.ensures c.in-At.is,
+  def_inside c.args.name.now _ c.requires c.named.ensures c.in-Some.is,
   c.well_formed,
 )
 
 pub overflow_add-result : goal.overflow_add-result
 overflow_add-result c = omega (
   arith,
-  def_inside c.args.name.now _ c.requires c.named.ensures c.in-At.is,
+  def_inside c.args.name.now _ c.requires c.named.ensures c.in-Some.is,
   c.well_formed,
 )
 
 pub offset_bounds-defs-i : goal.offset_bounds-defs-i
 offset_bounds-defs-i c = omega (
   arith,
-  def_inside c.args.name.now _ c.requires c.named.ensures c.in-At.is,
+  def_inside c.args.name.now _ c.requires c.named.ensures c.in-Some.is,
   c.well_formed,
 )
 
 pub bounds-defs-i : goal.bounds-defs-i
 bounds-defs-i c = def_inside c.args.name.now _
     c.requires c.named.ensures
-    c.in-At.is
+    c.in-Some.is
 
 pub overflow_cast-result : goal.overflow_cast-result
-overflow_cast-result c = omega (arith, c.shared_slice_known-4-1.given (3 * c.in-At.i + 2))
+overflow_cast-result c = omega (arith, c.shared_slice_known-4-1.given (3 * c.in-Some.i + 2))
 
 pub returns : goal.returns
 returns c = λ M ds h. def_here h c.args.name.now
-    c.named.ensures _ c.in-At.is
+    c.named.ensures _ c.in-Some.is

@@ -1,0 +1,177 @@
+// The questions put to the texts of a check, by name. A question that is answered by no ends the check: it is the error of every function that puts one,
+// and its number and detail are what the caller of a check reads.
+#![tactic(auto)]
+
+ghost use Rattle.std.specs.Prelude.{◌≡◌};
+ghost use Rattle.questions.specs.Numbers.{row_number, number_of, detail_of};
+ghost use Rattle.questions.specs.declared.Question.TheVariants.{Room};
+
+// What has no room: the rows of question 60.
+#[derive(Clone, Copy, Debug, PartialEq, Eq)]
+pub enum Row {
+    Sorts,
+    Symbols,
+    Arguments,
+    Rules,
+    RuleVariables,
+    PatternWords,
+    Variables,
+    Terms,
+    TermWords,
+    Abbreviations,
+    Goals,
+    Facts,
+    Entries,
+    Pairs,
+}
+
+// Those of the call and of the texts as such, of the theory, of goals, of the proof and its forms, of results, and of the room for what is stored.
+#[derive(Clone, Copy, Debug, PartialEq, Eq)]
+pub enum Question {
+    // are all work tables long enough?
+    Tables,
+    // is each text short enough, and every byte allowed?
+    Length,
+    Bytes,
+    // do the brackets pair, and are not too many open at once?
+    Brackets,
+    Depth,
+    // a theory's form by its tag and length; its names, new or known as needed; sorts and argument counts
+    Declaration,
+    Declared,
+    Signature,
+    // a form of the goals by its tag and length; the name and sort of a variable
+    GoalForm,
+    Variable,
+    // a judgment or a term: spelled from known names, and with the right sorts and counts
+    Spelling,
+    Sorting,
+    // a goal's name; whether there is a goal
+    GoalName,
+    NoGoal,
+    // a form of the proof by its tag and length; its index, readable and the next; the name of an abbreviation or a rule
+    ProofForm,
+    Index,
+    NextIndex,
+    Defined,
+    // a fact that is named; an instance of one with hypotheses; a binding
+    Earlier,
+    Instance,
+    Binding,
+    // the premises of a step; conclusion and premises against its rule; the lowest variable that is in neither the conclusion nor the hypotheses, counted
+    // from 1
+    Premises,
+    Matching,
+    Scope(usize),
+    // a hypothesis of the right kind
+    Hypothesis,
+    // the cases of an induction or an inversion: their shape and number, variables, judgment and hypotheses; the variable of an induction; a rule
+    // that cannot conclude, a case that is missing, a generalised variable that is captured
+    Cases,
+    CaseVariables,
+    CaseJudgment,
+    CaseHypotheses,
+    InductionVariable,
+    CannotConclude,
+    MissingCase,
+    Captured,
+    // a result: its name, hypotheses and judgment; how many goals have none
+    ResultName,
+    ResultHypotheses,
+    ResultJudgment,
+    MissingResults(usize),
+    // is there room for what is stored?
+    Room(Row),
+}
+
+impl Row {
+    // Its number among the rows.
+    pub fn number(self) -> usize
+        ensures { result ≡ row_number self }
+    {
+        match self {
+            Row::Sorts => 1,
+            Row::Symbols => 2,
+            Row::Arguments => 3,
+            Row::Rules => 4,
+            Row::RuleVariables => 5,
+            Row::PatternWords => 6,
+            Row::Variables => 7,
+            Row::Terms => 8,
+            Row::TermWords => 9,
+            Row::Abbreviations => 10,
+            Row::Goals => 11,
+            Row::Facts => 12,
+            Row::Entries => 13,
+            Row::Pairs => 14,
+        }
+    }
+}
+
+impl From<Row> for Question {
+    ghost from_gives = { λ row question. question ≡ Room row };
+
+    fn from(row: Row) -> Question {
+        Question::Room(row)
+    }
+}
+
+impl Question {
+    // Its number.
+    pub fn number(self) -> usize
+        ensures { result ≡ number_of self }
+    {
+        match self {
+            Question::Tables => 1,
+            Question::Length => 2,
+            Question::Bytes => 3,
+            Question::Brackets => 4,
+            Question::Depth => 5,
+            Question::Declaration => 10,
+            Question::Declared => 11,
+            Question::Signature => 12,
+            Question::GoalForm => 20,
+            Question::Variable => 21,
+            Question::Spelling => 22,
+            Question::Sorting => 23,
+            Question::GoalName => 24,
+            Question::NoGoal => 25,
+            Question::ProofForm => 30,
+            Question::Index => 31,
+            Question::NextIndex => 32,
+            Question::Defined => 33,
+            Question::Earlier => 34,
+            Question::Instance => 35,
+            Question::Binding => 36,
+            Question::Premises => 37,
+            Question::Matching => 38,
+            Question::Scope(_) => 39,
+            Question::Hypothesis => 40,
+            Question::Cases => 41,
+            Question::CaseVariables => 42,
+            Question::CaseJudgment => 43,
+            Question::CaseHypotheses => 44,
+            Question::InductionVariable => 45,
+            Question::CannotConclude => 46,
+            Question::MissingCase => 47,
+            Question::Captured => 48,
+            Question::ResultName => 50,
+            Question::ResultHypotheses => 51,
+            Question::ResultJudgment => 52,
+            Question::MissingResults(_) => 53,
+            Question::Room(_) => 60,
+        }
+    }
+
+    // What is told beside it: a variable, a count, the number of a row; 0 for the others.
+    pub fn detail(self) -> usize
+        ensures { result ≡ detail_of self }
+    {
+        match self {
+            Question::Scope(variable) => variable,
+            Question::MissingResults(count) => count,
+            Question::Room(row) => row.number(),
+            _ => 0,
+        }
+    }
+}
