@@ -1,5 +1,5 @@
 use Rattle.terms.specs.Laws.Tables.{start_first, start_later}
-use Rattle.terms.proofs.store.start_of.Goals as goal
+use Rattle.terms.proofs.store.Terms.start_of.Goals as goal
 
 pub returns-then-id-eq0 : goal.returns-then-id-eq0
 returns-then-id-eq0 c = start_first _ _ c.if-id-eq0.true
