@@ -41,7 +41,7 @@ arg_in n (suc i) (is_app {xs = xs} p b) l f k = b i (omega arith)
 pub record Flagging (M : Made) (w args : List ℕ) (i : ℕ) : Type 0 where
   pub left : is_open (tree_at M w) ≡ are_open (args_of M (drop i args))
 
-behind_head : (w : List ℕ) → take (length w - 1) (drop 1 w) ≡ drop 1 w
+pub behind_head : (w : List ℕ) → take (length w - 1) (drop 1 w) ≡ drop 1 w
 behind_head w = take_all (length w - 1) (drop 1 w) (let l = length-drop 1 w in omega arith)
 
 pub flagging_begins : (M : Made) (w : List ℕ) → 0 < length w → get_or w 0 0 < SYMBOLS → Flagging M w (take (length w - 1) (drop 1 w)) 0
