@@ -4,6 +4,7 @@ pub mod Hash
 pub mod Finds
 pub mod Nodes
 pub mod Keeps
+pub mod Arguments
 pub mod Visits
 pub mod Gathers
 pub mod Substs
