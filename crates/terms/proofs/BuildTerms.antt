@@ -14,7 +14,7 @@ use Rattle.rules.specs.Store.{Made, keep}
 use Rattle.rules.specs.Laws.Store.{number_is}
 use Rattle.rules.specs.Match.{Bound, build}
 use Rattle.terms.specs.declared.store.Mark.{Mark}
-use Rattle.std.proofs.Common.{Result, Ok, Err}
+use Rattle.std.proofs.Common.{Ok, Err}
 use Rattle.questions.specs.Numbers.{row_number, number_of, detail_of}
 use Rattle.questions.specs.declared.Row.{Row}
 use Rattle.questions.specs.declared.Question.{Question}

@@ -16,7 +16,7 @@ use Rattle.rules.specs.Tree.{Tree, Trees, var, app, size, sizes, count_trees}
 use Rattle.rules.specs.Store.{Made}
 use Rattle.rules.specs.Match.{matches}
 use Rattle.terms.specs.declared.store.Mark.{Mark}
-use Rattle.terms.specs.Table.{run, start, node_at, args_of, tree_at, made, Shaped, is_var, is_app, Good}
+use Rattle.terms.specs.Table.{node_at, args_of, tree_at, made, Shaped, is_var, is_app, Good}
 use Rattle.terms.specs.Patterns.{arity, Stands, bound_of, Cells, Matchable, Tried, hit, miss, TriedAt}
 use Rattle.terms.specs.Laws.Tables.{length_trees, tree_here, shaped_some, args_count}
 use Rattle.terms.proofs.Nodes.{behind_head}

@@ -11,7 +11,7 @@ use borrow.Rule.Slice.PartMut.{put_mid}
 use Rattle.std.specs.Int.{from_bool}
 use lib.Dec.{eqb}
 use Rattle.rules.specs.Limits.{SYMBOLS, TERMS, WORDS}
-use Rattle.rules.specs.Tree.{Tree, var, is_open, are_open}
+use Rattle.rules.specs.Tree.{var, is_open, are_open}
 use Rattle.rules.specs.Store.{Made}
 use Rattle.terms.specs.declared.store.Mark.{Mark}
 use Rattle.terms.specs.Table.{CHAINS, FLAGS, HEADS, INDEX, BUCKETS, args_of, tree_at, made, flag, Shaped, is_var, is_app, Good, start, run, node_at}

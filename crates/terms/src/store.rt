@@ -79,7 +79,11 @@ impl Terms<'_> {
         requires { id ≤ length self.now.index.now }
         ensures { result ≡ start self.now.index.now id }
     {
-        if id == 0 { 0 } else { self.index[id - 1] as usize }
+        if id == 0 {
+            0
+        } else {
+            self.index[id - 1] as usize
+        }
     }
 
     // The words of the term `id`.
@@ -184,7 +188,10 @@ impl Store<'_> {
         ensures same_tables { SameTables self.old self.new }
         ensures kept { let t = tree_at (made_of self.old) node.now in KeptAs self.old self.new t (keep t (made_of self.old)) result }
     {
-        let Mark { terms: id, words: start } = self.mark;
+        let Mark {
+            terms: id,
+            words: start,
+        } = self.mark;
         let bucket = bucket_of(node);
         let terms = self.terms();
         if let Some(found) = terms.find(node, bucket) {
