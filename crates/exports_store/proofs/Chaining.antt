@@ -5,14 +5,14 @@ use mathlib.Core.List.{List, [], ◌∷◌}
 use native.Mathlib.Omega.{arith}
 use native.Mathlib.Decide.{ℕ_discrete}
 use native.Mathlib.Numerals.{add-one}
-use lib.ListN.{length, get_or}
+use lib.ListN.{get_or}
 use Rattle.rules.specs.Limits.{TERMS}
 use Rattle.rules.specs.Out.{Out, ok, refuse, then}
 use Rattle.rules.specs.Tree.{Tree, var, app, none, more}
 use Rattle.rules.specs.Store.{Made, keep}
 use Rattle.rules.specs.Laws.Store.{number_of_lem}
 use Rattle.terms.specs.declared.store.Mark.{Mark}
-use Rattle.std.proofs.Common.{Result, Ok, Err}
+use Rattle.std.proofs.Common.{Result}
 use Rattle.std.specs.Result.{result_unwrap_or}
 use Rattle.questions.specs.declared.Row.{Row}
 use Rattle.terms.specs.Table.{args_of, tree_at, made, is_app, Node, Good, Stored, Refused, After}
