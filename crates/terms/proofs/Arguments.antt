@@ -1,9 +1,7 @@
 -- The words of a term, as a slice of them says: its head, and its arguments behind. Assumes nothing.
 use Rattle.std.specs.Prelude.{◌≡◌, ℕ, ◌+◌, ◌-◌, ◌<◌, List, ◌∷◌, length, get_or, take, drop}
 use Rattle.std.proofs.Common.{refl, ap, ◌∙◌, arith}
-use Rattle.std.proofs.Math.ListN.{length-drop}
 use Rattle.std.proofs.Math.Seq.{take-length}
-use Rattle.rules.specs.Limits.{NODE}
 use Rattle.terms.specs.declared.store.Mark.{Mark}
 use Rattle.terms.specs.Table.{run, start, node_at, Good}
 use Rattle.terms.specs.Laws.Runs.{run_more, run_at, run_length}

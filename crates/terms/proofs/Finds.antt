@@ -2,11 +2,11 @@
 use mathlib.Core.Path.{◌≡◌, refl, sym, ap, ◌∙◌, subst}
 use mathlib.Core.Bool.{Bool, true, false}
 use mathlib.Core.List.{List}
-use Prim.Native.Nat.{ℕ, suc, ◌+◌, ◌-◌, ◌≤◌, ◌<◌}
+use Prim.Native.Nat.{ℕ, ◌+◌, ◌-◌, ◌≤◌, ◌<◌}
 use native.Mathlib.Omega.{arith}
 use native.Mathlib.Decide.{dec_lt, ℕ_discrete}
 use lib.ListN.{length, get_or}
-use Rattle.std.proofs.Common.{Option, Some as some, None as nothing}
+use Rattle.std.proofs.Common.{Some as some, None as nothing}
 use Rattle.rules.specs.Tree.{Tree}
 use Rattle.rules.specs.Store.{Made, number}
 use Rattle.rules.specs.Laws.Store.{stored_true, stored_false, number_le}

@@ -18,7 +18,7 @@ use Rattle.terms.specs.Node.{Unlinked, Held}
 use borrow.Rule.Slice.PartMut.{put_mid}
 use Rattle.terms.specs.Laws.Runs.{run_same, run_length}
 use Rattle.terms.specs.Laws.Chains.{hash_small, latest_agree, latest_other}
-use Rattle.terms.specs.Laws.Tables.{rising, length_trees, get_d_trees, trees_same, end_within}
+use Rattle.terms.specs.Laws.Tables.{rising, length_trees, get_d_trees, trees_same}
 
 -- The index ------------------------------------------------------------------------------------------------------------------------
 

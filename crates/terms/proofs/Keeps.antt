@@ -1,13 +1,13 @@
 -- What `keep` leaves, in each of its four answers. Assumes nothing.
 use mathlib.Core.Path.{◌≡◌, refl, sym, ap, ◌∙◌, subst}
-use mathlib.Core.List.{List, [], ◌∷◌, ◌++◌, append-nil}
+use mathlib.Core.List.{List, [], ◌∷◌, ◌++◌}
 use mathlib.Core.Logic.{⊎_elim}
 use Prim.Native.Nat.{ℕ, ◌+◌, ◌-◌, ◌≤◌, ◌<◌}
 use native.Mathlib.Omega.{arith}
 use native.Mathlib.Decide.{ℕ_discrete}
 use native.Mathlib.Numerals.{add-one}
-use lib.ListN.{length, get_or, take, drop, length-append, length-drop, get_or-append, drop_of_length-le}
-use lib.Seq.{length-take-le, take_all, take_at, drop_at, drop-drop, get_or-take, get_or-drop, get_or-append-add}
+use lib.ListN.{length, get_or, take, drop, length-append, length-drop, get_or-append}
+use lib.Seq.{length-take-le, take_at, drop_at, drop-drop, get_or-take, get_or-drop, get_or-append-add}
 use Rattle.rules.specs.Limits.{TERMS, WORDS, NODE}
 use Rattle.rules.specs.Out.{ok}
 use Rattle.rules.specs.Tree.{Tree, var, is_open}
@@ -17,7 +17,7 @@ use Rattle.terms.specs.declared.store.Mark.{Mark}
 use Rattle.terms.specs.Table.{CHAINS, FLAGS, HEADS, INDEX, BUCKETS, run, start, node_at, tree_at, trees, made, hash, bucket, latest, flag}
 use Rattle.terms.specs.Table.{Shaped, Node, Good, Same, Stored, Refused}
 use borrow.Rule.Slice.PartMut.{put_mid}
-use Rattle.std.proofs.Common.{Bool, Option, Some as some, None as nothing}
+use Rattle.std.proofs.Common.{Bool, Some as some, None as nothing}
 use Rattle.terms.specs.Node.{seek, Linked}
 use Rattle.terms.specs.Laws.Chains.{hash_small, latest_agree, latest_here, latest_other}
 use Rattle.terms.specs.Laws.Tables.{last_or, start_next, length_trees, tree_node, shaped_some, made_words}

@@ -1,6 +1,5 @@
 pub mod SetWords
 pub mod SetsOut
-pub mod Words
 pub mod Hash
 pub mod Finds
 pub mod Nodes

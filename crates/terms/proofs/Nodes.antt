@@ -11,7 +11,7 @@ use borrow.Rule.Slice.PartMut.{put_mid}
 use Rattle.std.specs.Int.{from_bool}
 use lib.Dec.{eqb}
 use Rattle.rules.specs.Limits.{SYMBOLS, TERMS, WORDS}
-use Rattle.rules.specs.Tree.{Tree, var, is_open, are_open}
+use Rattle.rules.specs.Tree.{var, is_open, are_open}
 use Rattle.rules.specs.Store.{Made}
 use Rattle.terms.specs.declared.store.Mark.{Mark}
 use Rattle.terms.specs.Table.{CHAINS, FLAGS, HEADS, INDEX, BUCKETS, args_of, tree_at, made, flag, Shaped, is_var, is_app, Good, start, run, node_at}
@@ -41,7 +41,7 @@ arg_in n (suc i) (is_app {xs = xs} p b) l f k = b i (omega arith)
 pub record Flagging (M : Made) (w args : List ℕ) (i : ℕ) : Type 0 where
   pub left : is_open (tree_at M w) ≡ are_open (args_of M (drop i args))
 
-behind_head : (w : List ℕ) → take (length w - 1) (drop 1 w) ≡ drop 1 w
+pub behind_head : (w : List ℕ) → take (length w - 1) (drop 1 w) ≡ drop 1 w
 behind_head w = take_all (length w - 1) (drop 1 w) (let l = length-drop 1 w in omega arith)
 
 pub flagging_begins : (M : Made) (w : List ℕ) → 0 < length w → get_or w 0 0 < SYMBOLS → Flagging M w (take (length w - 1) (drop 1 w)) 0

@@ -18,7 +18,7 @@ use Rattle.terms.specs.Table.{start, made, Grown, tree}
 use Rattle.terms.specs.Subst.{replacement, image, Knows, substituted, Replacing, Done}
 use Rattle.terms.specs.Laws.Tables.{length_trees}
 use Rattle.terms.specs.Laws.Growth.{grown_tree}
-use Rattle.terms.specs.Laws.Terms.{no_variable, term_var}
+use Rattle.terms.specs.Laws.Terms.{term_var}
 use Rattle.terms.specs.Laws.Numbers.{there_stored}
 
 -- The memo -------------------------------------------------------------------------------------------------------------------------------

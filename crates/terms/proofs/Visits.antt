@@ -16,11 +16,10 @@ use Rattle.rules.specs.Laws.Tree.{closed_empty, variables_var, variables_app, va
 use Rattle.rules.specs.Store.{Made, number}
 use Rattle.terms.specs.declared.store.Mark.{Mark}
 use Rattle.terms.specs.Sets.{holds, plus}
-use Rattle.terms.specs.Table.{FLAGS, run, start, args_of, made, Good, tree}
+use Rattle.terms.specs.Table.{run, start, args_of, made, Good, tree}
 use Rattle.terms.specs.Collect.{Seen, Readable, open_nodes, open_nodes_of, Visited}
 use Rattle.terms.specs.Laws.Sets.{holds_zero}
-use Rattle.terms.specs.Laws.Terms.{args_more, args_none, no_variable, node_rise, node_inside, term_app, term_var, variable_small, args_below}
-use Rattle.terms.specs.Laws.Terms.{flag_open}
+use Rattle.terms.specs.Laws.Terms.{args_more, args_none, node_rise, node_inside, term_app, term_var, variable_small, args_below}
 use Rattle.terms.specs.Laws.Seen.{closed_nodes, var_nodes, open_nodes_lem, nodes_none, nodes_more, seen_wider}
 use Rattle.terms.specs.Laws.Numbers.{tree_number}
 

@@ -4,7 +4,6 @@ use Rattle.rules.specs.Out.{Out}
 use Rattle.rules.specs.Tree.{Tree}
 use Rattle.rules.specs.Store.{Made}
 use Rattle.questions.specs.declared.Row.{Row}
-use Rattle.terms.specs.declared.store.Mark.{Mark}
 use Rattle.terms.specs.declared.store.Terms.{Terms}
 use Rattle.terms.specs.declared.store.Store.{Store}
 use Rattle.terms.specs.Table.{Good, made, After}

@@ -155,11 +155,6 @@ AfterAs I W J X old new t K (Err row) = Refused Tree I W J X old K (row_number r
 pub record After (I W J X : List ℕ) (old new : Mark) (t : Tree) (K : Out Made Tree) (r : Result ℕ Row) : Type 0 where
   pub says : AfterAs I W J X old new t K r
 
--- a term's number, or the number of all terms, which no term has
-unfoldable pub number_or_all : Result ℕ Row → ℕ
-number_or_all (Ok n) = n
-number_or_all (Err row) = TERMS
-
 -- After a check ------------------------------------------------------------------------------------------------------------------------
 
 -- the index without its look-up part: where each term's words end, and zero behind

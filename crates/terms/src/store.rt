@@ -1,6 +1,7 @@
 // The store: the distinct terms made so far, numbered in the order made, in two tables (specs/Table.antt says how they stand for trees).
 // A node is gathered by the caller, looked up by its bucket, and only a new one is written, behind the words that are used.
 ghost use Rattle.std.specs.Prelude.{◌≡◌, ◌++◌, ℕ, ◌+◌, ◌-◌, ◌≤◌, ◌<◌, length, get_or, drop, replicate};
+ghost use Rattle.std.specs.Bool.{Decides};
 ghost use Rattle.rules.specs.Limits.{TERMS, WORDS};
 ghost use Rattle.rules.specs.Tree.{is_open};
 ghost use Rattle.rules.specs.Store.{keep};
@@ -55,13 +56,34 @@ fn bucket_of(node: &[u32]) -> usize
     h / SPREAD
 }
 
+// Whether the words are those of the node: so few that `==` of slices, a call, takes longer.
+fn is_node(words: &[u32], node: &[u32]) -> bool
+    ensures { Decides result (words.now ≡ node.now) }
+{
+    words.len() == node.len() && words.iter().zip(node).all(|(a, b)| a == b)
+}
+
+// The words of the node come into the cells: so few that `copy_from_slice` takes longer.
+fn write_node(cells: &mut [u32], node: &[u32])
+    requires { length cells.old ≡ length node.now }
+    ensures { cells.new ≡ node.now }
+{
+    for (i, word) in node.iter().enumerate() {
+        cells[i] = *word;
+    }
+}
+
 impl Terms<'_> {
     // Where the words of the term `id` start.
     pub fn start_of(&self, id: usize) -> usize
         requires { id ≤ length self.now.index.now }
         ensures { result ≡ start self.now.index.now id }
     {
-        if id == 0 { 0 } else { self.index[id - 1] as usize }
+        if id == 0 {
+            0
+        } else {
+            self.index[id - 1] as usize
+        }
     }
 
     // The words of the term `id`.
@@ -99,7 +121,7 @@ impl Terms<'_> {
         // from term to term of the bucket, which is no count
         while at != 0 {
             let id = at - 1;
-            if self.node(id) == node {
+            if is_node(self.node(id), node) {
                 return Some(id);
             }
             at = self.index[CHAINS + id] as usize;
@@ -166,7 +188,10 @@ impl Store<'_> {
         ensures same_tables { SameTables self.old self.new }
         ensures kept { let t = tree_at (made_of self.old) node.now in KeptAs self.old self.new t (keep t (made_of self.old)) result }
     {
-        let Mark { terms: id, words: start } = self.mark;
+        let Mark {
+            terms: id,
+            words: start,
+        } = self.mark;
         let bucket = bucket_of(node);
         let terms = self.terms();
         if let Some(found) = terms.find(node, bucket) {
@@ -181,7 +206,7 @@ impl Store<'_> {
         }
         let has_variable = terms.has_variable(node);
         link(self.index, id, bucket, end, has_variable);
-        self.words[start..end].copy_from_slice(node);
+        write_node(&mut self.words[start..end], node);
         self.mark = Mark {
             terms: id + 1,
             words: end,

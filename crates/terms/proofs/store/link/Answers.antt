@@ -1,4 +1,3 @@
-use Rattle.std.proofs.Common.{◌∙◌}
 use Rattle.terms.proofs.Nodes.{flag_byte, linked}
 use Rattle.terms.proofs.store.link.Goals as goal
 

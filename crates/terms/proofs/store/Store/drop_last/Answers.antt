@@ -1,5 +1,5 @@
 use native.Mathlib.Omega.{arith}
-use Rattle.terms.proofs.Forgets.{last_held, last_fits, last_unlinks, last_gone}
+use Rattle.terms.proofs.Forgets.{last_fits, last_unlinks, last_gone}
 use Rattle.terms.proofs.store.Store.drop_last.Goals as goal
 
 pub unlink-requires : goal.unlink-requires

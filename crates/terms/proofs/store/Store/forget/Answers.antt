@@ -1,5 +1,5 @@
 use Rattle.std.proofs.Common.{refl}
-use Rattle.terms.proofs.Forgets.{going_begins, going_last, going_on, going_there, going_ends}
+use Rattle.terms.proofs.Forgets.{going_there, going_ends}
 use Rattle.terms.proofs.store.Store.forget.Goals as goal
 
 pub returns-clause-back : goal.returns-clause-back

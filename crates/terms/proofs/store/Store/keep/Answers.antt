@@ -15,4 +15,4 @@ pub link-requires : goal.link-requires
 link-requires c = keep_links c.args.self.now.index.now c.args.self.now.words.now c.args.self.now.mark c.args.node.now c.requires.good _ c.bucket_of-bucket.ensures c.if-id-ge-TERMS.false (rw c.terms-terms.ensures at c.if-terms-end.false)
 
 pub returns-clause-kept : goal.returns-clause-kept
-returns-clause-kept c = record { says = keep_made c.args.self.now.index.now c.args.self.now.words.now c.args.self.now.mark c.args.node.now c.requires.good c.requires.node _ c.bucket_of-bucket.ensures (sym c.in_default.is ∙ (rw c.terms-terms.ensures at c.find.ensures)) c.if-id-ge-TERMS.false (rw c.terms-terms.ensures at c.if-terms-end.false) _ (rw c.terms-terms.ensures at c.has_variable-has_variable.ensures) _ c.link.ensures _ c.copy_from_slice.ensures.after }
+returns-clause-kept c = record { says = keep_made c.args.self.now.index.now c.args.self.now.words.now c.args.self.now.mark c.args.node.now c.requires.good c.requires.node _ c.bucket_of-bucket.ensures (sym c.in_default.is ∙ (rw c.terms-terms.ensures at c.find.ensures)) c.if-id-ge-TERMS.false (rw c.terms-terms.ensures at c.if-terms-end.false) _ (rw c.terms-terms.ensures at c.has_variable-has_variable.ensures) _ c.link.ensures _ c.write_node.ensures }

@@ -1,7 +1,5 @@
 use native.Mathlib.Omega.{arith}
 use Rattle.std.proofs.Common.{◌∙◌, sym, true≢false}
-use Rattle.std.proofs.lemmas.Bool.Decides.{Decides-eqb}
-use Rattle.std.proofs.lemmas.Slice.Eq.{slice_eq-Decides}
 use Rattle.terms.proofs.Finds.{head_in, seeking_begins, seeking_hit, seeking_on, seeking_falls, seeking_none}
 use Rattle.terms.proofs.store.Terms.find.Goals as goal
 
@@ -17,14 +15,14 @@ offset_bounds-self-bucket c = omega (arith, head_in _ _ _ _ _ c.requires.good c.
 pub loop-at-init : goal.loop-at-init
 loop-at-init c = seeking_begins _ _ _ _ _ c.requires.good c.requires.shaped c.requires.bucket_value
 
-pub returns-then-eq : goal.returns-then-eq
-returns-then-eq c = seeking_hit _ _ _ _ _ c.loop-at.invariant c.loop-at-test.true (sym c.node.ensures ∙ (slice_eq-Decides Decides-eqb _ _ _ c.eq.ensures).0 c.if-eq.true)
+pub returns-then-is_node : goal.returns-then-is_node
+returns-then-is_node c = seeking_hit _ _ _ _ _ c.loop-at.invariant c.loop-at-test.true (sym c.node.ensures ∙ c.is_node.ensures.0 c.if-is_node.true)
 
 pub loop-at-smaller : goal.loop-at-smaller
 loop-at-smaller c = seeking_falls _ _ _ _ _ c.loop-at.invariant c.loop-at-test.true
 
 pub loop-at-preserved : goal.loop-at-preserved
-loop-at-preserved c = seeking_on _ _ _ _ _ c.loop-at.invariant c.loop-at-test.true (λ e. true≢false (sym ((slice_eq-Decides Decides-eqb _ _ _ c.eq.ensures).1 (c.node.ensures ∙ e)) ∙ c.if-eq.false))
+loop-at-preserved c = seeking_on _ _ _ _ _ c.loop-at.invariant c.loop-at-test.true (λ e. true≢false (sym (c.is_node.ensures.1 (c.node.ensures ∙ e)) ∙ c.if-is_node.false))
 
 pub returns : goal.returns
 returns c = seeking_none _ _ _ _ _ c.loop-at.invariant c.loop-at-test.false

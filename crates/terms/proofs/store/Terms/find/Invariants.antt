@@ -1,5 +1,3 @@
-use Rattle.terms.specs.declared.store.Mark.{Mark}
-use Rattle.terms.specs.Table.{Good, Shaped}
 use Rattle.terms.proofs.Finds.{Seeking}
 use Rattle.terms.proofs.store.Terms.find.Given as goal
 
