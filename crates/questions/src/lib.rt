@@ -84,6 +84,13 @@ pub enum Question {
     Room(Row),
 }
 
+// The question answered by no, and how many complete forms stand before.
+#[derive(Clone, Copy, Debug, PartialEq, Eq)]
+pub struct Refused {
+    pub question: Question,
+    pub form: usize,
+}
+
 impl Row {
     // Its number among the rows.
     pub fn number(self) -> usize

@@ -12,9 +12,11 @@ use Rattle.rules.specs.Sexp.{Sexp, Sexps, atom, list, nil, snoc, Text, ends as e
 use Rattle.rules.specs.Laws.Sexp.{forms_opens, forms_deep, forms_stray, forms_closes, forms_closed, forms_word, forms_bare, forms_ends, forms_open_end}
 use Rattle.sexp.specs.Lexed.{from, Skipped}
 use Rattle.sexp.specs.Encode.{encode, encodes}
-use Rattle.sexp.specs.Reads.{Clear, answer, written, Behind, ReadRight}
-use Rattle.sexp.specs.declared.sexp.Read.{Read}
-use Rattle.sexp.specs.declared.sexp.Read.TheVariants.{End, Form, Refused}
+use Rattle.std.specs.Prelude.{Option, Some as some, None as nothing, Result, Ok, Err}
+use Rattle.questions.specs.declared.Question.{Question}
+use Rattle.questions.specs.declared.Question.TheVariants.{Brackets}
+use Rattle.sexp.specs.Reads.{Clear, Asks, Answers, written, Behind, ReadRight}
+use Rattle.sexp.specs.declared.sexp.Form.{Form}
 use Rattle.sexp.proofs.CellLaws.{stored, laid_length, zeros_behind, cleared}
 use Rattle.sexp.proofs.OpenLists.{layout, top, layout_open, layout_snoc, top_snoc, layout_length, top_room, top_low, around, counted, Stands, snoc_spelt}
 
@@ -55,8 +57,12 @@ started text start w h z =
       stands = tt;
     }
 
+-- question 4
+pub brackets : Asks 4 Brackets
+brackets = record { number = refl; detail = refl }
+
 -- the answer is right, by what the definition reads
-pub finish : {text : List ℕ} {start : ℕ} {w v : List ℕ} {r : Read} (n : Text) → read_from text start ≡ n → r ≡ answer n → v ≡ written n (length w) → Behind text start n → ReadRight text start w v r
+pub finish : {text : List ℕ} {start : ℕ} {w v : List ℕ} {r : Result (Option Form) Question} (n : Text) → read_from text start ≡ n → Answers n r → v ≡ written n (length w) → Behind text start n → ReadRight text start w v r
 finish n e a b c = record { answers = rw e a; cells = rw e b; behind = rw e c }
 
 module _ {text : List ℕ} {start : ℕ} {w₀ w : List ℕ} {at used depth op : ℕ} (s : State text start w₀ w at used depth op) where
@@ -100,9 +106,9 @@ module _ {text : List ℕ} {start : ℕ} {w₀ w : List ℕ} {at used depth op :
   room_close d = (omega (arith, head_used d, used_most.1), omega (arith, used_most.0))
 
   -- the text is refused: the cells are set back
-  pub refused : (n : ℕ) → read_from text start ≡ fails n → (v : List ℕ) → v ≡ replicate used 0 ++ drop used w → ReadRight text start w₀ v (Refused n)
-  refused n e v f =
-      finish (fails n) e refl
+  pub refused : {n : ℕ} (q : Question) → Asks n q → read_from text start ≡ fails n → (v : List ℕ) → v ≡ replicate used 0 ++ drop used w → ReadRight text start w₀ v (Err q)
+  refused {n} q k e v f =
+      finish (fails n) e (q, refl, k)
       (f ∙ cleared (layout s.st) w₀ w used s.begun.clear s.laid (sym s.uses) (omega (arith, s.few, s.high, s.begun.room))) tt
 
   -- with nothing open nothing is stored
@@ -112,10 +118,10 @@ module _ {text : List ℕ} {start : ℕ} {w₀ w : List ℕ} {at used depth op :
       let u : used ≡ 0 = s.uses ∙ ap (λ x. length (layout x)) e in
       s.laid ∙ rw (e, u) s.begun.clear
 
-  pub ends : length text ≤ at → depth ≡ 0 → ReadRight text start w₀ w End
+  pub ends : length text ≤ at → depth ≡ 0 → ReadRight text start w₀ w (Ok nothing)
   ends i d = go s.st refl
     where
-      go : (st : List Sexps) → s.st ≡ st → ReadRight text start w₀ w End
+      go : (st : List Sexps) → s.st ≡ st → ReadRight text start w₀ w (Ok nothing)
       go [] e = finish ended (s.same ∙ rw (e, at_end between text at i) forms_ends) refl (unused e) tt
       go (xs ∷ st) e = absurd (omega (arith, s.deep, ap length e))
 
@@ -143,11 +149,11 @@ module _ {text : List ℕ} {start : ℕ} {w₀ w : List ℕ} {at used depth op :
           stands = (tt, s.stands);
         }
 
-    pub stray : get_or text at 0 ≡ 41 → depth ≡ 0 → ReadRight text start w₀ w (Refused 4)
+    pub stray : get_or text at 0 ≡ 41 → depth ≡ 0 → ReadRight text start w₀ w (Err Brackets)
     stray b d = go s.st refl
       where
-        go : (st : List Sexps) → s.st ≡ st → ReadRight text start w₀ w (Refused 4)
-        go [] e = finish (fails 4) (s.same ∙ rw e (ap (forms []) (place_right text at i (kind_right _ b)) ∙ forms_stray at _)) refl (unused e) tt
+        go : (st : List Sexps) → s.st ≡ st → ReadRight text start w₀ w (Err Brackets)
+        go [] e = finish (fails 4) (s.same ∙ rw e (ap (forms []) (place_right text at i (kind_right _ b)) ∙ forms_stray at _)) (Brackets, refl, brackets) (unused e) tt
         go (xs ∷ st) e = absurd (omega (arith, s.deep, ap length e))
 
     -- the number of cells of the list that is closed
@@ -185,11 +191,11 @@ module _ {text : List ℕ} {start : ℕ} {w₀ w : List ℕ} {at used depth op :
               stands = (snoc_spelt text ys (list xs) k.1.0 k.0, k.1.1);
             }
 
-    pub closes_last : get_or text at 0 ≡ 41 → (depth ≡ 0 → ⊥) → depth - 1 ≡ 0 → ReadRight text start w₀ (set w op (2 * (used - op - 1))) (Form (at + 1) used)
+    pub closes_last : get_or text at 0 ≡ 41 → (depth ≡ 0 → ⊥) → depth - 1 ≡ 0 → ReadRight text start w₀ (set w op (2 * (used - op - 1))) (Ok (some (record { end = at + 1; cells = used })))
     unfolding layout read_from
     closes_last b d d' = go s.st refl
       where
-        go : (st : List Sexps) → s.st ≡ st → ReadRight text start w₀ (set w op (2 * (used - op - 1))) (Form (at + 1) used)
+        go : (st : List Sexps) → s.st ≡ st → ReadRight text start w₀ (set w op (2 * (used - op - 1))) (Ok (some (record { end = at + 1; cells = used })))
         go [] e = absurd (d (s.deep ∙ ap length e))
         go (xs ∷ ys ∷ st) e = absurd (omega (arith, s.deep, ap length e, d'))
         go (xs ∷ []) e =
@@ -197,7 +203,7 @@ module _ {text : List ℕ} {start : ℕ} {w₀ w : List ℕ} {at used depth op :
             let k : Stands text (xs ∷ []) = rw e at s.stands in
             finish (more (list xs) (suc at) (read_from text (at + 1)))
             (s.same ∙ rw e (ap (forms (xs ∷ [])) (place_right text at i (kind_right _ b)) ∙ forms_closed xs at _))
-            (cc (add-one at))
+            (rw (u, add-one at))
             (closed_laid xs [] e ∙ rw (zeros_behind w₀ used s.begun.clear (omega (arith, s.few, s.begun.room)), u))
             (record { follows = ap (read_from text) (add-one at); on = omega (arith, s.few); within = i; spelt = k.0; few = omega (arith, s.few, u) })
 
@@ -235,11 +241,11 @@ module _ {text : List ℕ} {start : ℕ} {w₀ w : List ℕ} {at used depth op :
                 stands = (snoc_spelt text xs y k.0 (record { inside = i; bytes = refl }), k.1);
               }
 
-      pub word_last : depth ≡ 0 → ReadRight text start w₀ (set w used (2 * at + 1)) (Form end (used + 1))
+      pub word_last : depth ≡ 0 → ReadRight text start w₀ (set w used (2 * at + 1)) (Ok (some (record { end = end; cells = used + 1 })))
       unfolding layout encode read_from
       word_last d = go s.st refl
         where
-          go : (st : List Sexps) → s.st ≡ st → ReadRight text start w₀ (set w used (2 * at + 1)) (Form end (used + 1))
+          go : (st : List Sexps) → s.st ≡ st → ReadRight text start w₀ (set w used (2 * at + 1)) (Ok (some (record { end = end; cells = used + 1 })))
           go (xs ∷ st) e = absurd (omega (arith, s.deep, ap length e, d))
           go [] e =
               let bs : List ℕ = letters (drop at text) in
@@ -263,7 +269,7 @@ pub opened :
 opened text start w h k = rw (zero_again w k.2) at (opens_on (started text start w (omega arith, k.0, k.1) k.2) h.0 h.1 (λ e. omega arith))
 
 -- what was read from the place of the first token was read from before it
-pub from_before : {text : List ℕ} {start at : ℕ} {w v : List ℕ} {r : Read} → Skipped text start at → ReadRight text at w v r → ReadRight text start w v r
+pub from_before : {text : List ℕ} {start at : ℕ} {w v : List ℕ} {r : Result (Option Form) Question} → Skipped text start at → ReadRight text at w v r → ReadRight text start w v r
 unfolding read_from
 from_before {text} {start} {at} {w} {v} {r} k d = finish (read_from text at) e d.answers d.cells (go (read_from text at) d.behind)
   where

@@ -7,16 +7,10 @@ use Prim.Native.Nat.{ℕ, zero, suc, ◌+◌, ◌-◌, ◌≤◌, ◌<◌}
 use native.Mathlib.Nat.{zero-add}
 use native.Mathlib.Omega.{arith}
 use native.Mathlib.Numerals.{add-one}
-use lib.Dec.{eqb}
 use lib.ListN.{length, get_or, take, drop}
 use lib.Seq.{drop-cons}
-use borrow.Author.Tests.{eqb-true}
 use Rattle.rules.specs.Tags.{Row, Tag, proof_tags, theory_tags, goal_tags, fits, tag_in, proof_tag, declaration, goal_form, index_in, index_place, tagging}
-use Rattle.sexp.specs.TagTable.{Shape, shape, shapes_of, shapes, no_shape, shape_at, suits, first_row, tag_at, tag_answer, declaration_answer, goal_answer, place_answer}
-use Rattle.sexp.specs.declared.tags.Tag.TheVariants.{Unknown}
-use Rattle.sexp.specs.declared.tags.Declaration.TheVariants.{Unknown as UnknownDeclaration}
-use Rattle.sexp.specs.declared.tags.GoalForm.TheVariants.{Unknown as UnknownGoal}
-use Rattle.sexp.proofs.TableLaws.{at}
+use Rattle.sexp.specs.TagTable.{Shape, shape, shapes_of, shapes, no_shape, shape_at, suits, first_row, tag_at, tag_answer, declaration_answer, goal_answer}
 use Rattle.sexp.proofs.TagRows.{indexes}
 
 -- The search ------------------------------------------------------------------------------------------------------------------
@@ -109,7 +103,7 @@ pub proof_row : (r : ℕ) (x : List ℕ) (n : ℕ) → r ≡ 0 + first_row (take
 unfolding proof_tag
 proof_row r x n e = tag_found proof_tags x n ∙ ap (tag_at proof_tags) (sym (e ∙ zero-add _ ∙ proof_rows x n))
 
-pub proof_none : (r : ℕ) → 10 ≤ r → Unknown ≡ tag_answer (tag_at proof_tags r)
+pub proof_none : (r : ℕ) → 10 ≤ r → nothing ≡ tag_answer (tag_at proof_tags r)
 unfolding tagging
 proof_none r h = sym (ap tag_answer (tag_over proof_tags r h))
 
@@ -129,7 +123,7 @@ module _ (r : ℕ) (x : List ℕ) (n : ℕ) (e : r ≡ 10 + first_row (take (14 
   pub theory_arm : (k : ℕ) → r ≡ k → declaration_answer (tag_at theory_tags (k - 10)) ≡ declaration_answer (declaration x n)
   theory_arm k h = sym (ap declaration_answer (theory_row r x n e) ∙ ap (λ j. declaration_answer (tag_at theory_tags (j - 10))) h)
 
-  pub theory_none : (r ≡ 10 → ⊥) → (r ≡ 11 → ⊥) → (r ≡ 12 → ⊥) → (r ≡ 13 → ⊥) → UnknownDeclaration ≡ declaration_answer (declaration x n)
+  pub theory_none : (r ≡ 10 → ⊥) → (r ≡ 11 → ⊥) → (r ≡ 12 → ⊥) → (r ≡ 13 → ⊥) → nothing ≡ declaration_answer (declaration x n)
   unfolding tagging
   theory_none a b c d = sym (ap declaration_answer (theory_row r x n e ∙ tag_over theory_tags (r - 10) (omega arith)))
 
@@ -149,7 +143,7 @@ module _ (r : ℕ) (x : List ℕ) (n : ℕ) (e : r ≡ 14 + first_row (take (17 
   pub goal_arm : (k : ℕ) → r ≡ k → goal_answer (tag_at goal_tags (k - 14)) ≡ goal_answer (goal_form x n)
   goal_arm k h = sym (ap goal_answer (goal_row_lem r x n e) ∙ ap (λ j. goal_answer (tag_at goal_tags (j - 14))) h)
 
-  pub goal_none : (r ≡ 14 → ⊥) → (r ≡ 15 → ⊥) → (r ≡ 16 → ⊥) → UnknownGoal ≡ goal_answer (goal_form x n)
+  pub goal_none : (r ≡ 14 → ⊥) → (r ≡ 15 → ⊥) → (r ≡ 16 → ⊥) → nothing ≡ goal_answer (goal_form x n)
   unfolding tagging
   goal_none a b c = sym (ap goal_answer (goal_row_lem r x n e ∙ tag_over goal_tags (r - 14) (omega arith)))
 
@@ -187,14 +181,24 @@ index_row : (r : ℕ) (x : List ℕ) (n : ℕ) → r ≡ 0 + first_row (take (10
 unfolding index_place
 index_row r x n e = index_found proof_tags x n ∙ ap (index_at proof_tags) (sym (e ∙ zero-add _ ∙ proof_rows x n))
 
-index_is : (i : ℕ) → i < 10 → get_or indexes i 0 ≡ place_answer (index_at proof_tags i)
-unfolding index_at tagging
-index_is i h = eqb-true (get_or indexes i 0) (place_answer (index_at proof_tags i)) (at 10 (λ k. eqb (get_or indexes k 0) (place_answer (index_at proof_tags k))) refl i h)
+index_column : List (Row Tag) → List (Option ℕ)
+index_column [] = []
+index_column (r ∷ rows) = r.index ∷ index_column rows
+
+column_at : (rows : List (Row Tag)) (i : ℕ) → get_or (index_column rows) i nothing ≡ index_at rows i
+unfolding index_column index_at
+column_at [] i = refl
+column_at (r ∷ rows) zero = refl
+column_at (r ∷ rows) (suc i) = column_at rows i
+
+index_is : (i : ℕ) → get_or indexes i nothing ≡ index_at proof_tags i
+unfolding index_column tagging
+index_is i = column_at proof_tags i
 
 module _ (r : ℕ) (x : List ℕ) (n : ℕ) (e : r ≡ 0 + first_row (take (10 - 0) (drop 0 shapes)) x n) where
-  pub index_there : r < 10 → get_or indexes r 0 ≡ place_answer (index_place x n)
-  index_there h = index_is r h ∙ sym (ap place_answer (index_row r x n e))
+  pub index_there : r < 10 → get_or indexes r nothing ≡ index_place x n
+  index_there h = index_is r ∙ sym (index_row r x n e)
 
-  pub index_none : 10 ≤ r → 0 ≡ place_answer (index_place x n)
+  pub index_none : 10 ≤ r → nothing ≡ index_place x n
   unfolding tagging
-  index_none h = sym (ap place_answer (index_row r x n e ∙ index_over proof_tags r h))
+  index_none h = sym (index_row r x n e ∙ index_over proof_tags r h)

@@ -31,9 +31,9 @@ abbrev pub mosts : List ℕ
 mosts =
     3 ∷ 3 ∷ 18446744073709551615 ∷ 3 ∷ 5 ∷ 5 ∷ 6 ∷ 5 ∷ 6 ∷ 3 ∷ 2 ∷ 4 ∷ 3 ∷ 4 ∷ 3 ∷ 3 ∷ 4 ∷ []
 
-abbrev pub indexes : List ℕ
+abbrev pub indexes : List (Option ℕ)
 indexes =
-    0 ∷ 0 ∷ 1 ∷ 1 ∷ 1 ∷ 1 ∷ 1 ∷ 1 ∷ 1 ∷ 0 ∷ []
+    nothing ∷ nothing ∷ some 1 ∷ some 1 ∷ some 1 ∷ some 1 ∷ some 1 ∷ some 1 ∷ some 1 ∷ nothing ∷ []
 
 abbrev name_at : ℕ → List ℕ
 name_at i = take ((6 * i + get_or sizes i 0) - 6 * i) (drop (6 * i) names)

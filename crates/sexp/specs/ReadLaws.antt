@@ -1,17 +1,15 @@
 -- Laws for those who call `read_form`: what each answer says of the text, of the form and of the cells. Assumes nothing.
-use Rattle.std.specs.Prelude.{◌≡◌, refl, ℕ, ◌+◌, ◌-◌, ◌≤◌, ◌<◌, List, ◌++◌, length, take, drop, replicate}
+use Rattle.std.specs.Prelude.{◌≡◌, refl, ℕ, ◌+◌, ◌-◌, ◌≤◌, ◌<◌, List, ◌++◌, length, take, drop, replicate, Option, Some as some, None as nothing, Result, Ok, Err}
 use Rattle.std.proofs.Common.{sym, ap, ◌∙◌, append-nil, arith}
 use Rattle.std.proofs.lemmas.List.{replicate-append-replicate}
 use Rattle.std.proofs.Math.Seq.{take-append_seam, drop-append_seam}
 use Rattle.rules.specs.Sexp.{Sexp, nil, cons, Text, ends, fails, more, read, read_from}
 use Rattle.sexp.specs.Encode.{encode, encodes}
 use Rattle.sexp.specs.Items.{Holds}
-use Rattle.sexp.specs.Reads.{answer, written, Next, Behind, ReadRight}
-use Rattle.sexp.specs.declared.sexp.Read.{Read}
-use Rattle.sexp.specs.declared.sexp.Read.TheVariants.{End, Form, Refused}
-
-clash : {A : Type 0} → ◌≡◌ {A = ℕ} 0 1 → A
-clash z = absurd (omega arith)
+use Rattle.questions.specs.declared.Question.{Question}
+use Rattle.questions.specs.Numbers.{number_of, detail_of}
+use Rattle.sexp.specs.Reads.{Answers, written, Next, Behind, ReadRight}
+use Rattle.sexp.specs.declared.sexp.Form.{Form}
 
 pub read_first : (text : List ℕ) → read text ≡ read_from text 0
 unfolding read read_from
@@ -32,49 +30,48 @@ encode_alone : (f : Sexp) → encode f ≡ encodes (cons f nil)
 unfolding encode
 encode_alone f = sym (append-nil (encode f))
 
-module _ {text : List ℕ} {at : ℕ} {w v : List ℕ} {r : Read} where
-  pub at_end : ReadRight text at w v r → r ≡ End → (read_from text at ≡ ends) × (v ≡ replicate (length w) 0)
-  at_end k e = go (read_from text at) refl
+module _ {text : List ℕ} {at : ℕ} {w v : List ℕ} {r : Result (Option Form) Question} where
+  pub at_end : ReadRight text at w v r → r ≡ Ok nothing → (read_from text at ≡ ends) × (v ≡ replicate (length w) 0)
+  at_end k e = go (read_from text at) refl k.answers
     where
-      go : (t : Text) → read_from text at ≡ t → (read_from text at ≡ ends) × (v ≡ replicate (length w) 0)
-      go ends f = (f, k.cells ∙ ap (λ t. written t (length w)) f)
-      go (fails j) f = let g : End ≡ answer (fails j) = sym e ∙ k.answers ∙ ap answer f in clash cc
-      go (more x p t) f = let g : End ≡ answer (more x p t) = sym e ∙ k.answers ∙ ap answer f in clash cc
+      go : (t : Text) → read_from text at ≡ t → Answers t r → (read_from text at ≡ ends) × (v ≡ replicate (length w) 0)
+      go ends f a = (f, k.cells ∙ ap (λ t. written t (length w)) f)
+      go (fails j) f a = cc (a.1, e)
+      go (more x p t) f a = cc (a, e)
 
-  pub at_refused : {j : ℕ} → ReadRight text at w v r → r ≡ Refused j → (read_from text at ≡ fails j) × (v ≡ replicate (length w) 0)
-  at_refused {j} k e = go (read_from text at) refl
+  pub at_refused : {q : Question} → ReadRight text at w v r → r ≡ Err q → (read_from text at ≡ fails (number_of q)) × (detail_of q ≡ 0) × (v ≡ replicate (length w) 0)
+  at_refused {q} k e = go (read_from text at) refl k.answers
     where
-      go : (t : Text) → read_from text at ≡ t → (read_from text at ≡ fails j) × (v ≡ replicate (length w) 0)
-      go ends f = let g : Refused j ≡ answer ends = sym e ∙ k.answers ∙ ap answer f in clash cc
-      go (fails i) f =
-          let g : Refused j ≡ answer (fails i) = sym e ∙ k.answers ∙ ap answer f in
-          let h : i ≡ j = cc in
-          (f ∙ ap fails h, k.cells ∙ ap (λ t. written t (length w)) f)
-      go (more x p t) f = let g : Refused j ≡ answer (more x p t) = sym e ∙ k.answers ∙ ap answer f in clash cc
+      go : (t : Text) → read_from text at ≡ t → Answers t r → (read_from text at ≡ fails (number_of q)) × (detail_of q ≡ 0) × (v ≡ replicate (length w) 0)
+      go ends f a = cc (a, e)
+      go (fails i) f a =
+          let h : a.0 ≡ q = cc (a.1, e) in
+          (f ∙ ap fails (sym a.2.number ∙ ap number_of h), ap detail_of (sym h) ∙ a.2.detail, k.cells ∙ ap (λ t. written t (length w)) f)
+      go (more x p t) f a = cc (a, e)
 
-  pub at_form : {p n : ℕ} → ReadRight text at w v r → length text ≤ length w → r ≡ Form p n → FormIs text at w v p n
-  at_form {p} {n} k l e = go (read_from text at) refl k.behind
+  pub at_form : {form : Form} → ReadRight text at w v r → length text ≤ length w → r ≡ Ok (some form) → FormIs text at w v form.end form.cells
+  at_form {form} k l e = go (read_from text at) refl k.answers k.behind
     where
-      go : (t : Text) → read_from text at ≡ t → Behind text at (read_from text at) → FormIs text at w v p n
-      go ends f b = let g : Form p n ≡ answer ends = sym e ∙ k.answers ∙ ap answer f in clash cc
-      go (fails i) f b = let g : Form p n ≡ answer (fails i) = sym e ∙ k.answers ∙ ap answer f in clash cc
-      go (more x q t) f b =
-          let g : Form p n ≡ answer (more x q t) = sym e ∙ k.answers ∙ ap answer f in
-          let hq : q ≡ p = cc in
-          let hn : n ≡ length (encode x) = cc in
-          let c : v ≡ encode x ++ replicate (length w - n) 0 = k.cells ∙ ap (λ y. written y (length w)) f ∙ ap (λ m. encode x ++ replicate (length w - m) 0) (sym hn) in
+      go : (t : Text) → read_from text at ≡ t → Answers t r → Behind text at (read_from text at) → FormIs text at w v form.end form.cells
+      go ends f a b = cc (a, e)
+      go (fails i) f a b = cc (a.1, e)
+      go (more x q t) f a b =
+          let g : form ≡ record { end = q; cells = length (encode x) } = cc (a, e) in
+          let hq : q ≡ form.end = sym (ap (λ (y : Form). y.end) g) in
+          let hn : form.cells ≡ length (encode x) = ap (λ (y : Form). y.cells) g in
+          let c : v ≡ encode x ++ replicate (length w - form.cells) 0 = k.cells ∙ ap (λ y. written y (length w)) f ∙ ap (λ m. encode x ++ replicate (length w - m) 0) (sym hn) in
           let nx : Next text at x q t = rw f at b in
           record {
             form = x;
             reads = f ∙ ap (more x q) nx.follows ∙ ap (λ m. more x m (read_from text m)) hq;
-            on = omega (arith, nx.on);
-            within = omega (arith, nx.within);
+            on = omega (arith, nx.on, hq);
+            within = omega (arith, nx.within, hq);
             size = hn;
-            room = omega (arith, nx.few, nx.within);
+            room = omega (arith, nx.few, nx.within, hn);
             cells = c;
             holds =
                 record {
-                  cells = ap (λ m. take m v) hn ∙ ap (take (length (encode x))) c ∙ take-append_seam (encode x) (replicate (length w - n) 0) ∙ encode_alone x;
+                  cells = ap (λ m. take m v) hn ∙ ap (take (length (encode x))) c ∙ take-append_seam (encode x) (replicate (length w - form.cells) 0) ∙ encode_alone x;
                   spelt = (nx.spelt, tt);
                 };
           }

@@ -4,44 +4,39 @@ use Rattle.std.specs.Prelude.{ℕ, zero, suc, Bool, true, false, ◌&&◌, List,
 use Rattle.rules.specs.Text.{same}
 use Rattle.rules.specs.Tags.{Row, Tag, a_var, a_def, a_step, a_hyp, a_rule_hyp, an_induct, an_induct_with, an_apply, an_invert, a_result, Declaration, a_sort, a_ctor, a_pred, a_rule, GoalForm, a_variable, a_goal, a_goal_with, proof_tags, theory_tags, goal_tags, within}
 use Rattle.sexp.specs.declared.tags.Tag.{Tag as TagAnswer}
-use Rattle.sexp.specs.declared.tags.Tag.TheVariants.{Var, Def, Step, Hyp, RuleHyp, Induct, InductWith, Apply, Invert, Outcome, Unknown}
+use Rattle.sexp.specs.declared.tags.Tag.TheVariants.{Var, Def, Step, Hyp, RuleHyp, Induct, InductWith, Apply, Invert, Outcome}
 use Rattle.sexp.specs.declared.tags.Declaration.{Declaration as DeclarationAnswer}
-use Rattle.sexp.specs.declared.tags.Declaration.TheVariants.{Sort, Ctor, Pred, Rule, Unknown as UnknownDeclaration}
+use Rattle.sexp.specs.declared.tags.Declaration.TheVariants.{Sort, Ctor, Pred, Rule}
 use Rattle.sexp.specs.declared.tags.GoalForm.{GoalForm as GoalAnswer}
-use Rattle.sexp.specs.declared.tags.GoalForm.TheVariants.{Variable, Goal, GoalWith, Unknown as UnknownGoal}
+use Rattle.sexp.specs.declared.tags.GoalForm.TheVariants.{Variable, Goal, GoalWith}
 
 -- the answers
 
-abbrev pub tag_answer : Option Tag → TagAnswer
-tag_answer nothing = Unknown
-tag_answer (some a_var) = Var
-tag_answer (some a_def) = Def
-tag_answer (some a_step) = Step
-tag_answer (some a_hyp) = Hyp
-tag_answer (some a_rule_hyp) = RuleHyp
-tag_answer (some an_induct) = Induct
-tag_answer (some an_induct_with) = InductWith
-tag_answer (some an_apply) = Apply
-tag_answer (some an_invert) = Invert
-tag_answer (some a_result) = Outcome
+abbrev pub tag_answer : Option Tag → Option TagAnswer
+tag_answer nothing = nothing
+tag_answer (some a_var) = some Var
+tag_answer (some a_def) = some Def
+tag_answer (some a_step) = some Step
+tag_answer (some a_hyp) = some Hyp
+tag_answer (some a_rule_hyp) = some RuleHyp
+tag_answer (some an_induct) = some Induct
+tag_answer (some an_induct_with) = some InductWith
+tag_answer (some an_apply) = some Apply
+tag_answer (some an_invert) = some Invert
+tag_answer (some a_result) = some Outcome
 
-abbrev pub declaration_answer : Option Declaration → DeclarationAnswer
-declaration_answer nothing = UnknownDeclaration
-declaration_answer (some a_sort) = Sort
-declaration_answer (some a_ctor) = Ctor
-declaration_answer (some a_pred) = Pred
-declaration_answer (some a_rule) = Rule
+abbrev pub declaration_answer : Option Declaration → Option DeclarationAnswer
+declaration_answer nothing = nothing
+declaration_answer (some a_sort) = some Sort
+declaration_answer (some a_ctor) = some Ctor
+declaration_answer (some a_pred) = some Pred
+declaration_answer (some a_rule) = some Rule
 
-abbrev pub goal_answer : Option GoalForm → GoalAnswer
-goal_answer nothing = UnknownGoal
-goal_answer (some a_variable) = Variable
-goal_answer (some a_goal) = Goal
-goal_answer (some a_goal_with) = GoalWith
-
--- 0 where a form has no index: no index stands first
-abbrev pub place_answer : Option ℕ → ℕ
-place_answer nothing = 0
-place_answer (some k) = k
+abbrev pub goal_answer : Option GoalForm → Option GoalAnswer
+goal_answer nothing = nothing
+goal_answer (some a_variable) = some Variable
+goal_answer (some a_goal) = some Goal
+goal_answer (some a_goal_with) = some GoalWith
 
 -- the rows
 

@@ -2,25 +2,17 @@
 ghost use Rattle.std.specs.Prelude.{◌≡◌, ◌++◌, ◌+◌, ◌*◌, ◌-◌, ◌^◌, ◌≤◌, ◌<◌, length, get_or, set, drop, replicate};
 ghost use Rattle.rules.specs.Limits.{LENGTH};
 ghost use Rattle.rules.specs.Sexp.{read};
-ghost use Rattle.sexp.specs.Reads.{Clear, ReadRight};
-ghost use Rattle.sexp.specs.Whole.{whole_of};
-ghost use Rattle.sexp.specs.declared.sexp.Read.TheVariants.{Refused};
+ghost use Rattle.sexp.specs.Reads.{Clear, ReadRight, found};
+ghost use Rattle.sexp.specs.Whole.{EndsAs};
 
 use crate::lex::{atom_end, skip};
+use questions::{Question, Refused};
 
-// What stands in front: nothing, a form with the place behind it and the number of its cells, or a refusal by its number.
-#[derive(Clone, Copy)]
-pub enum Read {
-    End,
-    Form(usize, usize),
-    Refused(usize),
-}
-
-// How a text ends: the number of its bracketed forms, or a refusal by its number, with that of the bracketed forms before it.
-#[derive(Clone, Copy)]
-pub enum Whole {
-    Forms(usize),
-    Refused(usize, usize),
+// A form that was read: the place behind it in the text, and the number of its cells.
+#[derive(Clone, Copy, Debug, PartialEq, Eq)]
+pub struct Form {
+    pub end: usize,
+    pub cells: usize,
 }
 
 // Sets the first cells back to zero.
@@ -28,11 +20,7 @@ pub fn clear(words: &mut [u32], count: usize)
     requires { count ≤ length words.old }
     ensures { words.new ≡ replicate count 0 ++ drop count words.old }
 {
-    let mut i = 0;
-    while i < count {
-        words[i] = 0;
-        i += 1;
-    }
+    words[..count].fill(0);
 }
 
 // Stores a number that fits a cell.
@@ -53,20 +41,11 @@ fn close_list(words: &mut [u32], head: usize, count: usize) -> usize
     around
 }
 
-// The cells are set back, and the text is refused.
-fn refused(words: &mut [u32], used: usize, number: usize) -> Read
-    requires { used ≤ length words.old }
-    ensures { (result ≡ Refused number) × (words.new ≡ replicate used 0 ++ drop used words.old) }
-{
-    clear(words, used);
-    Read::Refused(number)
-}
-
 // Reads the list whose bracket is at a place.
-fn read_list(text: &[u8], from: usize, words: &mut [u32]) -> Read
+fn read_list(text: &[u8], from: usize, words: &mut [u32]) -> Result<Form, Question>
     requires from_in_bounds { (from < length text.now) × (get_or text.now from 0 ≡ 40) }
     requires text_len_bound { (length text.now ≤ LENGTH) × (length text.now ≤ length words.old) × Clear words.old }
-    ensures { ReadRight text.now from words.old words.new result }
+    ensures { ReadRight text.now from words.old words.new (found result) }
 {
     // the outermost list has the first cell, which is zero already
     let mut at = from + 1;
@@ -77,12 +56,14 @@ fn read_list(text: &[u8], from: usize, words: &mut [u32]) -> Read
     loop {
         at = skip(text, at);
         if at >= text.len() {
-            return refused(words, used, 4);
+            clear(words, used);
+            return Err(Question::Brackets);
         }
         let b = text[at];
         if b == b'(' {
             if depth == rules::DEPTH {
-                return refused(words, used, 5);
+                clear(words, used);
+                return Err(Question::Depth);
             }
             put(words, used, open);
             open = used;
@@ -94,7 +75,10 @@ fn read_list(text: &[u8], from: usize, words: &mut [u32]) -> Read
             depth -= 1;
             at += 1;
             if depth == 0 {
-                return Read::Form(at, used);
+                return Ok(Form {
+                    end: at,
+                    cells: used,
+                });
             }
         } else {
             put(words, used, 2 * at + 1);
@@ -105,29 +89,33 @@ fn read_list(text: &[u8], from: usize, words: &mut [u32]) -> Read
 }
 
 // Reads one form, from a place of the text on, into cells that are zero; they stay zero behind the form, and where none was read.
-pub fn read_form(text: &[u8], from: usize, words: &mut [u32]) -> Read
+pub fn read_form(text: &[u8], from: usize, words: &mut [u32]) -> Result<Option<Form>, Question>
     requires from_in_bounds { (from ≤ length text.now) × (length text.now ≤ LENGTH) × (length text.now ≤ length words.old) }
     requires clear { Clear words.old }
     ensures { ReadRight text.now from words.old words.new result }
 {
     let at = skip(text, from);
     if at >= text.len() {
-        return Read::End;
+        return Ok(None);
     }
     let b = text[at];
     if b == b'(' {
-        return read_list(text, at, words);
+        let form = read_list(text, at, words)?;
+        return Ok(Some(form));
     }
     if b == b')' {
-        return Read::Refused(4);
+        return Err(Question::Brackets);
     }
     put(words, 0, 2 * at + 1);
-    Read::Form(atom_end(text, at), 1)
+    Ok(Some(Form {
+        end: atom_end(text, at),
+        cells: 1,
+    }))
 }
 
-// Reads a text to its end or to a refusal, without a look at its forms and without cells.
-pub fn read_all(text: &[u8]) -> Whole
-    ensures { result ≡ whole_of (read text.now) 0 }
+// How many bracketed forms a text has, without a look at them and without cells; of a text that is refused, how many stand before.
+pub fn read_all(text: &[u8]) -> Result<usize, Refused>
+    ensures { EndsAs (read text.now) 0 result }
 {
     let mut at = 0;
     let mut depth = 0;
@@ -136,20 +124,29 @@ pub fn read_all(text: &[u8]) -> Whole
         at = skip(text, at);
         if at >= text.len() {
             if depth == 0 {
-                return Whole::Forms(forms);
+                return Ok(forms);
             }
-            return Whole::Refused(4, forms);
+            return Err(Refused {
+                question: Question::Brackets,
+                form: forms,
+            });
         }
         let b = text[at];
         if b == b'(' {
             if depth == rules::DEPTH {
-                return Whole::Refused(5, forms);
+                return Err(Refused {
+                    question: Question::Depth,
+                    form: forms,
+                });
             }
             depth += 1;
             at += 1;
         } else if b == b')' {
             if depth == 0 {
-                return Whole::Refused(4, forms);
+                return Err(Refused {
+                    question: Question::Brackets,
+                    form: forms,
+                });
             }
             depth -= 1;
             at += 1;

@@ -1,12 +1,12 @@
 // The tags of forms, in one fixed table: the proof's ten rows, then the theory's four and the goals' three.
 ghost use Rattle.std.specs.Prelude.{◌≡◌, ◌+◌, ◌-◌, ◌*◌, ◌≤◌, ◌<◌, take, drop};
 ghost use Rattle.rules.specs.Tags.{proof_tags, proof_tag, declaration, goal_form, index_place};
-ghost use Rattle.sexp.specs.TagTable.{tag_answer, declaration_answer, goal_answer, place_answer, shapes, shape_at, suits, first_row, tag_at};
+ghost use Rattle.sexp.specs.TagTable.{tag_answer, declaration_answer, goal_answer, shapes, shape_at, suits, first_row, tag_at};
 
 use crate::names::same;
 
 // Of a proof's form; `Hyp` and `RuleHyp` are `hyp` without and with premises, `InductWith` has a list of hypotheses.
-#[derive(Clone, Copy)]
+#[derive(Clone, Copy, Debug, PartialEq, Eq)]
 pub enum Tag {
     Var,
     Def,
@@ -18,32 +18,29 @@ pub enum Tag {
     Apply,
     Invert,
     Outcome,
-    Unknown,
 }
 
 // Of a theory's form.
-#[derive(Clone, Copy)]
+#[derive(Clone, Copy, Debug, PartialEq, Eq)]
 pub enum Declaration {
     Sort,
     Ctor,
     Pred,
     Rule,
-    Unknown,
 }
 
 // Of the goals' form; `GoalWith` lists hypotheses.
-#[derive(Clone, Copy)]
+#[derive(Clone, Copy, Debug, PartialEq, Eq)]
 pub enum GoalForm {
     Variable,
     Goal,
     GoalWith,
-    Unknown,
 }
 
 // No form has more items than this.
 const MANY: usize = 0xffff_ffff_ffff_ffff;
 
-// Names, six bytes a row; their lengths; the least and the most items; the place of the index, or 0.
+// Names, six bytes a row; their lengths; the least and the most items; the place of the index.
 const NAMES: [u8; 102] =
     *b"var   def   step  hyp   hyp   inductinductapply invertresultsort  ctor  pred  rule  var   goal  goal  ";
 
@@ -53,7 +50,18 @@ const LEAST: [usize; 17] = [3, 3, 4, 3, 5, 5, 6, 5, 6, 3, 2, 4, 3, 4, 3, 3, 4];
 
 const MOST: [usize; 17] = [3, 3, MANY, 3, 5, 5, 6, 5, 6, 3, 2, 4, 3, 4, 3, 3, 4];
 
-const INDEX: [usize; 10] = [0, 0, 1, 1, 1, 1, 1, 1, 1, 0];
+const INDEX: [Option<usize>; 10] = [
+    None,
+    None,
+    Some(1),
+    Some(1),
+    Some(1),
+    Some(1),
+    Some(1),
+    Some(1),
+    Some(1),
+    None,
+];
 
 // Whether a row is for that name and so many items.
 fn fits_row(row: usize, name: &[u8], items: usize) -> bool
@@ -87,63 +95,63 @@ fn first_row(from: usize, to: usize, name: &[u8], items: usize) -> usize
 }
 
 // The tag of a proof's row.
-fn tag_at(row: usize) -> Tag
+fn tag_at(row: usize) -> Option<Tag>
     ensures { result ≡ tag_answer (tag_at proof_tags row) }
 {
     match row {
-        0 => Tag::Var,
-        1 => Tag::Def,
-        2 => Tag::Step,
-        3 => Tag::Hyp,
-        4 => Tag::RuleHyp,
-        5 => Tag::Induct,
-        6 => Tag::InductWith,
-        7 => Tag::Apply,
-        8 => Tag::Invert,
-        9 => Tag::Outcome,
-        _ => Tag::Unknown,
+        0 => Some(Tag::Var),
+        1 => Some(Tag::Def),
+        2 => Some(Tag::Step),
+        3 => Some(Tag::Hyp),
+        4 => Some(Tag::RuleHyp),
+        5 => Some(Tag::Induct),
+        6 => Some(Tag::InductWith),
+        7 => Some(Tag::Apply),
+        8 => Some(Tag::Invert),
+        9 => Some(Tag::Outcome),
+        _ => None,
     }
 }
 
 // The tag of a proof's form that begins with that name and has so many items.
-pub fn proof_tag(name: &[u8], items: usize) -> Tag
+pub fn proof_tag(name: &[u8], items: usize) -> Option<Tag>
     ensures { result ≡ tag_answer (proof_tag name.now items) }
 {
     tag_at(first_row(0, 10, name, items))
 }
 
-// Where the index of such a form stands among its items; 0 where it has none.
-pub fn index_place(name: &[u8], items: usize) -> usize
-    ensures { result ≡ place_answer (index_place name.now items) }
+// Where the index of such a form stands among its items.
+pub fn index_place(name: &[u8], items: usize) -> Option<usize>
+    ensures { result ≡ index_place name.now items }
 {
     let row = first_row(0, 10, name, items);
     if row < 10 {
         return INDEX[row];
     }
-    0
+    None
 }
 
 // The same for a theory's form.
-pub fn theory_tag(name: &[u8], items: usize) -> Declaration
+pub fn theory_tag(name: &[u8], items: usize) -> Option<Declaration>
     ensures { result ≡ declaration_answer (declaration name.now items) }
 {
     match first_row(10, 14, name, items) {
-        10 => Declaration::Sort,
-        11 => Declaration::Ctor,
-        12 => Declaration::Pred,
-        13 => Declaration::Rule,
-        _ => Declaration::Unknown,
+        10 => Some(Declaration::Sort),
+        11 => Some(Declaration::Ctor),
+        12 => Some(Declaration::Pred),
+        13 => Some(Declaration::Rule),
+        _ => None,
     }
 }
 
 // The same for the goals'.
-pub fn goal_tag(name: &[u8], items: usize) -> GoalForm
+pub fn goal_tag(name: &[u8], items: usize) -> Option<GoalForm>
     ensures { result ≡ goal_answer (goal_form name.now items) }
 {
     match first_row(14, 17, name, items) {
-        14 => GoalForm::Variable,
-        15 => GoalForm::Goal,
-        16 => GoalForm::GoalWith,
-        _ => GoalForm::Unknown,
+        14 => Some(GoalForm::Variable),
+        15 => Some(GoalForm::Goal),
+        16 => Some(GoalForm::GoalWith),
+        _ => None,
     }
 }

@@ -15,8 +15,9 @@ use Rattle.sexp.specs.Reads.{Clear, ReadRight}
 use Rattle.sexp.specs.ReadLaws.{FormIs, at_form, form_cleared}
 use Rattle.sexp.specs.declared.items.Item.{Item}
 use Rattle.sexp.specs.declared.items.Item.TheVariants.{Atom, List as Part}
-use Rattle.sexp.specs.declared.sexp.Read.{Read}
-use Rattle.sexp.specs.declared.sexp.Read.TheVariants.{Form}
+use Rattle.std.specs.Prelude.{Option, Some as some, Result, Ok}
+use Rattle.questions.specs.declared.Question.{Question}
+use Rattle.sexp.specs.declared.sexp.Form.{Form}
 
 -- some items are left
 pub record Showing (text words : List ℕ) (at : ℕ) : Type 0 where
@@ -74,25 +75,25 @@ module _ {text w₀ w : List ℕ} {at : ℕ} (s : Forms text w₀ w at) where
   pub asks : ((at ≤ length text) × (length text ≤ LENGTH) × (length text ≤ length w)) × Clear w
   asks = ((s.high, s.short, omega (arith, s.room, s.size)), s.clear)
 
-  module _ {v : List ℕ} {r : Read} {p n : ℕ} (k : ReadRight text at w v r) (e : r ≡ Form p n) where
-    pub form : FormIs text at w v p n
-    form = at_form k (omega (arith, s.room, s.size)) e
+  module _ {v : List ℕ} {r : Result (Option Form) Question} {f : Form} (k : ReadRight text at w v r) (e : r ≡ Ok (some f)) where
+    pub form_is : FormIs text at w v f.end f.cells
+    form_is = at_form k (omega (arith, s.room, s.size)) e
 
-    pub inside : length v ≡ length w → n ≤ length v
-    inside b = omega (arith, form.room)
+    pub inside : length v ≡ length w → f.cells ≤ length v
+    inside b = omega (arith, form_is.room)
 
-    pub prefix : length v ≡ length w → n ≡ length (take n v)
-    prefix b = sym (length-take-le n v (inside b))
+    pub prefix : length v ≡ length w → f.cells ≡ length (take f.cells v)
+    prefix b = sym (length-take-le f.cells v (inside b))
 
-    pub held : Held text (take n v)
-    held = (cons form.form nil, form.holds)
+    pub held : Held text (take f.cells v)
+    held = (cons form_is.form nil, form_is.holds)
 
-    pub next : {u : List ℕ} → length u ≡ length v → length v ≡ length w → u ≡ replicate n 0 ++ drop n v → Forms text w₀ u p
+    pub next : {u : List ℕ} → length u ≡ length v → length v ≡ length w → u ≡ replicate f.cells 0 ++ drop f.cells v → Forms text w₀ u f.end
     next {u} a b c =
         record {
           short = s.short;
           room = s.room;
           size = a ∙ b ∙ s.size;
-          clear = form_cleared form u c ∙ ap (λ m. replicate m 0) (sym (a ∙ b));
-          high = form.within;
+          clear = form_cleared form_is u c ∙ ap (λ m. replicate m 0) (sym (a ∙ b));
+          high = form_is.within;
         }

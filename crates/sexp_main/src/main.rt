@@ -7,7 +7,7 @@ ghost use Rattle.sexp.specs.Items.{Held};
 ghost use Rattle.sexp.specs.Reads.{Clear};
 
 use sexp::items::Item;
-use sexp::sexp::Read;
+use sexp::sexp::{clear, read_form};
 
 // Writes the items of a list.
 fn show(text: &[u8], words: &[u32])
@@ -41,23 +41,20 @@ fn show_all(text: &[u8], words: &mut [u32])
 {
     let mut at = 0;
     loop {
-        match sexp::sexp::read_form(text, at, words) {
-            Read::End => {
-                return;
-            }
-            Read::Refused(number) => {
+        let form = match read_form(text, at, words) {
+            Ok(Some(form)) => form,
+            Ok(None) => return,
+            Err(question) => {
                 io::write_all(1, b"refused ");
-                io::print_decimal(1, number as u64);
+                io::print_decimal(1, question.number() as u64);
                 io::write_all(1, b"\n");
                 return;
             }
-            Read::Form(next, used) => {
-                show(text, &words[..used]);
-                io::write_all(1, b"\n");
-                sexp::sexp::clear(words, used);
-                at = next;
-            }
-        }
+        };
+        show(text, &words[..form.cells]);
+        io::write_all(1, b"\n");
+        clear(words, form.cells);
+        at = form.end;
     }
 }
 

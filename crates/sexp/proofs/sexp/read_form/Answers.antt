@@ -1,3 +1,4 @@
+use Rattle.std.proofs.lemmas.Result.{err_from_is_err_and}
 use mathlib.Core.Path.{refl}
 use Rattle.sexp.proofs.ByteLaws.{letter_here}
 use Rattle.sexp.proofs.States as states
@@ -9,7 +10,12 @@ returns-then-at-text c = let here : State c.args.text.now c.args.from c.args.wor
     states.ends here c.if-at-text.true refl
 
 pub returns-then-b-eq40 : goal.returns-then-b-eq40
-returns-then-b-eq40 c = states.from_before c.skip-at.ensures c.read_list.ensures
+returns-then-b-eq40 c = states.from_before c.skip-at.ensures c.in_ok-form.ensures
+
+pub returns-in_err-form : goal.returns-in_err-form
+returns-in_err-form c =
+    let p = err_from_is_err_and c.from_residual.result c.from_residual.ensures.1 in
+    rw (p.1, p.2) (states.from_before c.skip-at.ensures c.in_err-form.ensures)
 
 pub returns-then-b-eq41 : goal.returns-then-b-eq41
 returns-then-b-eq41 c = let here : State c.args.text.now c.args.from c.args.words.now c.args.words.now c.skip-at.result 0 0 0 = states.skipped (states.started _ _ _ c.requires.from_in_bounds c.requires.clear) _ c.skip-at.ensures in

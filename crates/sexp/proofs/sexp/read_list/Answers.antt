@@ -1,7 +1,8 @@
-use mathlib.Core.Path.{◌≡◌, ◌∙◌}
+use mathlib.Core.Path.{◌≡◌, refl, ◌∙◌}
 use lib.ListN.{get_or}
 use native.Mathlib.Omega.{arith}
 use Rattle.rules.specs.Lex.{kind, letter}
+use Rattle.questions.specs.declared.Question.TheVariants.{Brackets, Depth}
 use Rattle.sexp.proofs.ByteLaws.{letter_here}
 use Rattle.sexp.proofs.States as states
 use Rattle.sexp.proofs.States.{State}
@@ -16,35 +17,33 @@ loop-at-init c = (states.opened _ _ _ c.requires.from_in_bounds c.requires.text_
 pub skip-at-requires : goal.skip-at-requires
 skip-at-requires c = c.loop-at.invariant.0.high
 
-pub refused-requires : goal.refused-requires
-refused-requires c = let here : State c.args.text.now c.args.from c.args.words.now c.loop-at.words c.skip-at.result c.loop-at.used c.loop-at.depth c.loop-at.«open» = states.skipped c.loop-at.invariant.0 _ c.skip-at.ensures in
+pub clear-requires : goal.clear-requires
+clear-requires c = let here : State c.args.text.now c.args.from c.args.words.now c.loop-at.words c.skip-at.result c.loop-at.used c.loop-at.depth c.loop-at.«open» = states.skipped c.loop-at.invariant.0 _ c.skip-at.ensures in
     (states.used_most here).1
 
 pub shape_of-words-then-at-text : goal.shape_of-words-then-at-text
 shape_of-words-then-at-text c = let here : State c.args.text.now c.args.from c.args.words.now c.loop-at.words c.skip-at.result c.loop-at.used c.loop-at.depth c.loop-at.«open» = states.skipped c.loop-at.invariant.0 _ c.skip-at.ensures in
-    c.refused.auto.words ∙ states.same_length here
+    c.clear.auto.words ∙ states.same_length here
 
 pub returns-then-at-text : goal.returns-then-at-text
 returns-then-at-text c = let here : State c.args.text.now c.args.from c.args.words.now c.loop-at.words c.skip-at.result c.loop-at.used c.loop-at.depth c.loop-at.«open» = states.skipped c.loop-at.invariant.0 _ c.skip-at.ensures in
-    rw c.refused.ensures.0
-    (states.refused here 4 (states.unclosed here c.if-at-text.true c.loop-at.invariant.1) _ c.refused.ensures.1)
+    states.refused here Brackets states.brackets (states.unclosed here c.if-at-text.true c.loop-at.invariant.1) _ c.clear.ensures
 
 pub bounds-text-at : goal.bounds-text-at
 bounds-text-at c = c.if-at-text.false
 
-pub refused-requires-then-depth-eq-DEPTH : goal.refused-requires-then-depth-eq-DEPTH
-refused-requires-then-depth-eq-DEPTH c = let here : State c.args.text.now c.args.from c.args.words.now c.loop-at.words c.skip-at.result c.loop-at.used c.loop-at.depth c.loop-at.«open» = states.skipped c.loop-at.invariant.0 _ c.skip-at.ensures in
+pub clear-requires-then-depth-eq-DEPTH : goal.clear-requires-then-depth-eq-DEPTH
+clear-requires-then-depth-eq-DEPTH c = let here : State c.args.text.now c.args.from c.args.words.now c.loop-at.words c.skip-at.result c.loop-at.used c.loop-at.depth c.loop-at.«open» = states.skipped c.loop-at.invariant.0 _ c.skip-at.ensures in
     (states.used_most here).1
 
 pub shape_of-words-then-depth-eq-DEPTH : goal.shape_of-words-then-depth-eq-DEPTH
 shape_of-words-then-depth-eq-DEPTH c = let here : State c.args.text.now c.args.from c.args.words.now c.loop-at.words c.skip-at.result c.loop-at.used c.loop-at.depth c.loop-at.«open» = states.skipped c.loop-at.invariant.0 _ c.skip-at.ensures in
-    c.refused-then-depth-eq-DEPTH.auto.words ∙ states.same_length here
+    c.clear-then-depth-eq-DEPTH.auto.words ∙ states.same_length here
 
 pub returns-then-depth-eq-DEPTH : goal.returns-then-depth-eq-DEPTH
 returns-then-depth-eq-DEPTH c = let here : State c.args.text.now c.args.from c.args.words.now c.loop-at.words c.skip-at.result c.loop-at.used c.loop-at.depth c.loop-at.«open» = states.skipped c.loop-at.invariant.0 _ c.skip-at.ensures in
-    rw c.refused-then-depth-eq-DEPTH.ensures.0
-    (states.refused here 5 (states.too_deep here c.if-at-text.false c.if-b-eq40.true c.if-depth-eq-DEPTH.true) _
-    c.refused-then-depth-eq-DEPTH.ensures.1)
+    states.refused here Depth (record { number = refl; detail = refl }) (states.too_deep here c.if-at-text.false c.if-b-eq40.true c.if-depth-eq-DEPTH.true) _
+    c.clear-then-depth-eq-DEPTH.ensures
 
 pub put-requires : goal.put-requires
 put-requires c = let here : State c.args.text.now c.args.from c.args.words.now c.loop-at.words c.skip-at.result c.loop-at.used c.loop-at.depth c.loop-at.«open» = states.skipped c.loop-at.invariant.0 _ c.skip-at.ensures in
