@@ -30,8 +30,8 @@ use Rattle.kernel.specs.HeldRules.{RuleAdded}
 use Rattle.kernel.specs.Parsed.{TheoryLists, theory_lists, TheoryHeld, Formed, ItemsDeclaring, DeclaredAs, headed, tagged, taken, sorts_now, symbols_now, rules_now}
 use Rattle.kernel.specs.declared.symbols.Added.{Added}
 use Rattle.kernel.specs.declared.symbols.Added.TheVariants.{Ok as AddedOk, No as AddedNo}
-use Rattle.kernel.specs.declared.patterns.Reply.{Reply}
-use Rattle.kernel.specs.declared.patterns.Reply.TheVariants.{Ok as ReplyOk, No as ReplyNo}
+use Rattle.std.specs.Prelude.{Result, Ok, Err}
+use Rattle.questions.specs.declared.Question.{Question}
 use Rattle.kernel.specs.declared.parse.Counts.{Counts}
 use Rattle.kernel.specs.declared.declare.Declared.{Declared}
 use Rattle.kernel.specs.declared.declare.Declared.TheVariants.{No}
@@ -219,17 +219,17 @@ module _ {text : List ℕ} (t : TheoryLists) (n : Counts) (T : Theory) (xs : Sex
     abbrev with_rules : TheoryLists
     with_rules = theory_lists t.sorts t.symbols t.inputs u w p
 
-    rule_step : (r : Reply) → RuleAdded text u w p T (add_rule xs T) n.rules n.words r → DeclaredAs text with_rules n T (declare_as a_rule xs T) (rules_now n r)
+    rule_step : (r : Result ℕ Question) → RuleAdded text u w p T (add_rule xs T) n.rules n.words r → DeclaredAs text with_rules n T (declare_as a_rule xs T) (rules_now n r)
     unfolding declare_as
-    rule_step (ReplyOk k m) a =
+    rule_step (Ok m) a =
         record {
           now = _;
           is = a.is;
           held = record { sorts = h.sorts; symbols = h.symbols; rules = a.held };
         }
-    rule_step (ReplyNo b d) a = (a.is, record { sorts = h.sorts; symbols = h.symbols; rules = a.held })
+    rule_step (Err e) a = (a.is, record { sorts = h.sorts; symbols = h.symbols; rules = a.held })
 
-    pub rule_taken : tagged xs ≡ some a_rule → (r : Reply) (d : Declared) → RuleAdded text u w p T (add_rule xs T) n.rules n.words r → d ≡ rules_now n r →
+    pub rule_taken : tagged xs ≡ some a_rule → (r : Result ℕ Question) (d : Declared) → RuleAdded text u w p T (add_rule xs T) n.rules n.words r → d ≡ rules_now n r →
         DeclaredAs text with_rules n T (taken (tagged xs) xs T) d
     rule_taken e r d a f = subst (λ z. DeclaredAs text with_rules n T (taken (tagged xs) xs T) z) (sym f) (given_as with_rules (rules_now n r) e (rule_step r a))
 

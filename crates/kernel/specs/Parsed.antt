@@ -1,6 +1,6 @@
 -- What the contract of `parse` cites: all tables of a theory, what they hold while declarations are taken, and what they are when a text
 -- is judged. Assumes nothing.
-use Rattle.std.specs.Prelude.{◌≡◌, ℕ, ◌-◌, ◌*◌, ◌≤◌, List, ◌++◌, length, take, replicate, Option, Some as some, None as nothing}
+use Rattle.std.specs.Prelude.{◌≡◌, ℕ, ◌+◌, ◌-◌, ◌*◌, ◌≤◌, List, ◌++◌, Result, Ok as kept, Err as missed, length, take, replicate, Option, Some as some, None as nothing}
 use Rattle.rules.specs.Limits.{LENGTH, SORTS, SYMBOLS, ARGUMENTS, RULES, RULEVARS, PATTERNS}
 use Rattle.rules.specs.Out.{Out, ok, refuse}
 use Rattle.rules.specs.Sexp.{Sexp, Sexps, atom, list, item, count, read}
@@ -17,8 +17,8 @@ use Rattle.kernel.specs.Held.{SortsHeld, SymbolsHeld}
 use Rattle.kernel.specs.HeldRules.{RulesHeld}
 use Rattle.kernel.specs.declared.symbols.Added.{Added}
 use Rattle.kernel.specs.declared.symbols.Added.TheVariants.{Ok as AddedOk, No as AddedNo}
-use Rattle.kernel.specs.declared.patterns.Reply.{Reply}
-use Rattle.kernel.specs.declared.patterns.Reply.TheVariants.{Ok as ReplyOk, No as ReplyNo}
+use Rattle.questions.specs.declared.Question.{Question}
+use Rattle.questions.specs.Numbers.{number_of, detail_of}
 use Rattle.kernel.specs.declared.parse.Counts.{Counts}
 use Rattle.kernel.specs.declared.declare.Declared.{Declared}
 use Rattle.kernel.specs.declared.declare.Declared.TheVariants.{Ok, No}
@@ -88,9 +88,9 @@ abbrev pub symbols_now : Counts → Added → Declared
 symbols_now n (AddedOk k) = Ok (record { sorts = n.sorts; symbols = k; rules = n.rules; words = n.words })
 symbols_now n (AddedNo a d) = No a d
 
-abbrev pub rules_now : Counts → Reply → Declared
-rules_now n (ReplyOk k w) = Ok (record { sorts = n.sorts; symbols = n.symbols; rules = k; words = w })
-rules_now n (ReplyNo a d) = No a d
+abbrev pub rules_now : Counts → Result ℕ Question → Declared
+rules_now n (kept w) = Ok (record { sorts = n.sorts; symbols = n.symbols; rules = n.rules + 1; words = w })
+rules_now n (missed e) = No (number_of e) (detail_of e)
 
 -- the form is taken: what the definition gives is held now
 pub record Taken (text : List ℕ) (t : TheoryLists) (given : Out Theory (Unit {0})) (n : Counts) : Type 0 where

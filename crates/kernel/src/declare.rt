@@ -1,5 +1,6 @@
 // One declaration: its tag says which of the four it is.
-ghost use Rattle.std.specs.Prelude.{◌≡◌};
+ghost use Rattle.std.specs.Prelude.{◌≡◌, ◌≤◌};
+ghost use Rattle.rules.specs.Limits.{RULES};
 ghost use Rattle.rules.specs.Sexp.{Sexp, Sexps};
 ghost use Rattle.rules.specs.Theory.{Theory};
 ghost use Rattle.rules.specs.Declare.{declare};
@@ -8,10 +9,11 @@ ghost use Rattle.sexp.specs.TagTable.{declaration_answer};
 ghost use Rattle.kernel.specs.Parsed.{theory_lists, TheoryHeld, Formed, Declaring, DeclaredAs, tagged, ItemsDeclaring, taken, sorts_now, symbols_now, rules_now};
 
 use crate::parse::Counts;
-use crate::patterns::Reply;
+use crate::patterns::SymbolTable;
 use crate::rule::add_rule;
 use crate::signatures::{add_ctor, add_pred};
 use crate::symbols::{Added, add_sort};
+use questions::Question;
 use sexp::items::Item;
 use sexp::tags::{Declaration, theory_tag};
 use sexp::{items, lex};
@@ -68,18 +70,19 @@ fn symbols_now(held: Counts, r: Added) -> Declared
     }
 }
 
-// When a rule is.
-fn rules_now(held: Counts, r: Reply) -> Declared
+// When a rule is, with the number of words then.
+fn rules_now(held: Counts, r: Result<usize, Question>) -> Declared
+    requires { held.rules ≤ RULES }
     ensures { result ≡ rules_now held r }
 {
     match r {
-        Reply::Ok(n, words) => Declared::Ok(Counts {
+        Ok(words) => Declared::Ok(Counts {
             sorts: held.sorts,
             symbols: held.symbols,
-            rules: n,
-            words: words,
+            rules: held.rules + 1,
+            words,
         }),
-        Reply::No(number, detail) => Declared::No(number, detail),
+        Err(question) => Declared::No(question.number(), question.detail()),
     }
 }
 
@@ -117,9 +120,13 @@ fn declare_items(
             symbols_now(held, r)
         }
         Declaration::Rule => {
-            let r = add_rule(
-                text, items, symbols, inputs, count, rules, vars, patterns, held.rules, held.words,
-            );
+            let table = SymbolTable {
+                text,
+                rows: symbols,
+                inputs,
+                count,
+            };
+            let r = add_rule(&table, items, rules, vars, patterns, held.rules, held.words);
             rules_now(held, r)
         }
         Declaration::Unknown => Declared::No(10, 0),

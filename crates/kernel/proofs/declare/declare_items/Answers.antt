@@ -3,6 +3,7 @@ use Rattle.rules.specs.Tags.{a_sort, a_ctor, a_pred, a_rule}
 use Rattle.sexp.specs.declared.tags.Declaration.TheVariants.{Sort, Ctor, Pred, Rule, Unknown}
 use Rattle.kernel.specs.Parsed.{theory_lists}
 use Rattle.kernel.proofs.Tagged.{told, item_many, form_of, no_tag, sort_taken, ctor_taken, pred_taken, rule_taken}
+use Rattle.kernel.specs.RuleRows.{rules_few}
 use Rattle.kernel.proofs.declare.declare_items.Goals as goal
 
 pub tag_of-requires : goal.tag_of-requires
@@ -16,6 +17,9 @@ add_ctor-r-requires c = record { form = form_of c.requires a_ctor (told Ctor (c.
 
 pub add_pred-r-requires : goal.add_pred-r-requires
 add_pred-r-requires c = record { form = form_of c.requires a_pred (told Pred (c.tag_of.ensures c.requires.xs c.requires.holds) c.in-Pred.is); some_sorts = (c.requires.T.sorts, c.requires.held.sorts); some_symbols_held = (c.requires.T.symbols, c.requires.held.symbols) }
+
+pub rules_now-requires : goal.rules_now-requires
+rules_now-requires c = rules_few c.requires.held.rules
 
 pub add_rule-r-requires : goal.add_rule-r-requires
 add_rule-r-requires c = record { form = form_of c.requires a_rule (told Rule (c.tag_of.ensures c.requires.xs c.requires.holds) c.in-Rule.is); some_symbols_held = (c.requires.T.symbols, c.requires.held.symbols); some_rules = (c.requires.T.rules, c.requires.held.rules) }

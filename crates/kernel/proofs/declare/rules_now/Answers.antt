@@ -4,6 +4,3 @@ use Rattle.kernel.proofs.declare.rules_now.Goals as goal
 
 pub returns-in-Ok : goal.returns-in-Ok
 returns-in-Ok c = ap (rules_now c.args.held) (sym c.in-Ok.is)
-
-pub returns-in-No : goal.returns-in-No
-returns-in-No c = ap (rules_now c.args.held) (sym c.in-No.is)

@@ -1,6 +1,6 @@
 use Prim.Native.Nat.{◌+◌, ◌*◌}
 use lib.ListN.{length}
-use Rattle.kernel.proofs.terms.+arguments_term.Given as goal
+use Rattle.kernel.proofs.patterns.RuleReader.+arguments_term.Given as goal
 
 abbrev pub decreases-arguments : goal.decreases-arguments
 decreases-arguments l = 2 * length l.cells.now + 1
