@@ -21,7 +21,7 @@ use Rattle.rules.specs.StateTables.{numbers}
 use Rattle.rules.specs.Reference.{fact_at}
 use Rattle.rules.specs.Induct.{motive_vars, Hyp, allowed_plain, allowed_rule, allowed_hyp}
 use Rattle.rules.specs.Laws.Theory.{All, both, all_at}
-use Rattle.terms.specs.Table.{run, made, tree}
+use Rattle.terms.specs.Table.{made, tree}
 use Rattle.terms.specs.Sets.{holds}
 use Rattle.terms.specs.Laws.Growth.{made_length}
 use Rattle.terms.specs.Laws.Numbers.{same_number}

@@ -1,5 +1,4 @@
 use Rattle.induction.proofs.Casings.{Keeping}
-use lib.ListN.{length}
 use Rattle.induction.proofs.cases.keep_case.Given as goal
 
 abbrev pub invariant-loop-k : goal.invariant-loop-k

@@ -1,5 +1,4 @@
 use Rattle.induction.proofs.Supposes.{Nexting}
-use lib.ListN.{length}
 use Rattle.induction.proofs.cases.next_of.Given as goal
 
 abbrev pub invariant-loop-k : goal.invariant-loop-k

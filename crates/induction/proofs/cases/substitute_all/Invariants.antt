@@ -1,5 +1,4 @@
 use Rattle.induction.proofs.Moves.{Moving}
-use lib.ListN.{length}
 use Rattle.induction.proofs.cases.substitute_all.Given as goal
 
 abbrev pub invariant-loop-k : goal.invariant-loop-k

@@ -1,4 +1,4 @@
-use Rattle.induction.proofs.Allowed.{rest_facts, hyps_low, hyps_high, allows_start, allowing_here, allowing_not, allowing_again, allowing_done}
+use Rattle.induction.proofs.Allowed.{rest_facts, hyps_high, allows_start, allowing_here, allowing_not, allowing_again, allowing_done}
 use borrow.Author.Tests.{not-true, not-false}
 use mathlib.Core.Path.{ap}
 use mathlib.Core.Bool.{not}

@@ -1,6 +1,5 @@
 use Rattle.induction.proofs.Rests.{Generalising}
 use Rattle.terms.specs.Sets.{holds}
-use lib.ListN.{length}
 use Rattle.induction.proofs.resting.generalises.Given as goal
 
 abbrev pub invariant-loop-v : goal.invariant-loop-v
