@@ -3,6 +3,7 @@ use mathlib.Core.Path.{◌≡◌, refl, sym, ap, ◌∙◌, subst}
 use mathlib.Core.Bool.{Bool, true, false, not}
 use Rattle.std.specs.Prelude.{Option, Some as some, None as nothing}
 use mathlib.Core.List.{List, [], ◌∷◌, ◌++◌}
+use Rattle.std.specs.Option.{is_some as is_there}
 use Prim.Native.Nat.{ℕ, zero, suc, ◌+◌, ◌-◌, ◌<◌, ◌≤◌}
 use native.Mathlib.Omega.{arith}
 use native.Mathlib.Numerals.{add-one}
@@ -251,10 +252,11 @@ module _ {S : State} {xs : Sexps} {text cells places links : List ℕ} {at k : �
 -- What `is_among` learns --------------------------------------------------------------------------------------------------------------------------
 
 module _ {text cells : List ℕ} {many : ℕ} (g : CasesFirst text cells many) (name : List ℕ) (r : Option ℕ) (f : CaseFound g.vs text cells g.cs name r) where
-  pub found_there : {p : ℕ} → r ≡ some p → true ≡ any (λ (d : Case). same d.name name) g.cs
-  found_there {p} e =
-      let h : CaseHere g.vs text cells g.cs name p = subst (λ (z : Option ℕ). CaseFound g.vs text cells g.cs name z) e f in
-      any_there g.cs name h.c h.is
-
-  pub found_nowhere : r ≡ nothing → false ≡ any (λ (d : Case). same d.name name) g.cs
-  found_nowhere e = any_nowhere g.cs name (subst (λ (z : Option ℕ). CaseFound g.vs text cells g.cs name z) e f)
+  pub found_is : {b : Bool} → b ≡ is_there r → b ≡ any (λ (d : Case). same d.name name) g.cs
+  found_is e = e ∙ go r refl
+    where
+      go : (o : Option ℕ) → r ≡ o → is_there o ≡ any (λ (d : Case). same d.name name) g.cs
+      go (some p) q =
+          let h : CaseHere g.vs text cells g.cs name p = subst (λ (z : Option ℕ). CaseFound g.vs text cells g.cs name z) q f in
+          any_there g.cs name h.c h.is
+      go nothing q = any_nowhere g.cs name (subst (λ (z : Option ℕ). CaseFound g.vs text cells g.cs name z) q f)

@@ -86,13 +86,11 @@ pub fn find_case(text: &[u8], cells: &[u32], many: usize, name: &[u8]) -> Option
         CaseFound g.vs text.now cells.now g.cs name.now result }
 {
     let mut at = 0;
-    let mut k = 0;
-    while k < many {
+    for _ in 0..many {
         if is_named(text, &cells[at..], name) {
             return Some(at);
         }
         at = items::after(cells, at);
-        k += 1;
     }
     None
 }
@@ -103,10 +101,7 @@ fn is_among(text: &[u8], cells: &[u32], many: usize, name: &[u8]) -> bool
     ensures { (g : CasesFirst text.now cells.now many) →
         result ≡ any (λ (d : Case). same d.name name.now) g.cs }
 {
-    match find_case(text, cells, many, name) {
-        Some(_) => true,
-        None => false,
-    }
+    find_case(text, cells, many, name).is_some()
 }
 
 // Whether one of so many cases has the name between two places; if not, it comes into the tree of their names, where that has room.

@@ -26,23 +26,6 @@ use terms::sets::{has, insert};
 use terms::store::{Kept, Mark};
 use terms::substitute::substitute;
 
-// Whether the cells are the same.
-fn same_cells(a: &[u32], b: &[u32]) -> bool
-    ensures { result ≡ same a.now b.now }
-{
-    if a.len() != b.len() {
-        return false;
-    }
-    let mut k = 0;
-    while k < a.len() {
-        if a[k] != b[k] {
-            return false;
-        }
-        k += 1;
-    }
-    true
-}
-
 // Whether fact h has that judgment, those premises and generalised variables.
 fn is_row(
     facts: &[u32],
@@ -66,13 +49,13 @@ fn is_row(
     let own = premises(facts, h);
     let from = own.from;
     let end = own.end;
-    if !same_cells(ids, &lists[from..end]) {
+    if ids != &lists[from..end] {
         return false;
     }
     let bound = general(facts, h);
     let first = bound.from;
     let last = bound.end;
-    same_cells(variables, &lists[first..last])
+    variables == &lists[first..last]
 }
 
 // Fact h joins the set where it has that judgment, those premises and generalised variables.
@@ -93,10 +76,9 @@ fn mark_one(
     ensures { (g : Recalls facts.now lists.now n index.now words.now mark) →
         OneMarked (is_allowed (fact_of g.S h) (allowed_of (made index.now words.now mark) ids.now j variables.now)) h fine.old fine.new }
 {
-    if !is_row(facts, lists, n, index, words, mark, h, j, ids, variables) {
-        return;
+    if is_row(facts, lists, n, index, words, mark, h, j, ids, variables) {
+        insert(fine, h);
     }
-    insert(fine, h);
 }
 
 // Those of the facts `own` that have that judgment, those premises and generalised variables join the set.
@@ -117,8 +99,7 @@ fn mark_rests(
     ensures { (g : Recalls facts.now lists.now n index.now words.now mark) →
         MarkedAs g.S own.now (allowed_of (made index.now words.now mark) ids.now j variables.now) fine.old fine.new }
 {
-    let mut k = 0;
-    while k < own.len() {
+    for h in own {
         mark_one(
             facts,
             lists,
@@ -126,13 +107,12 @@ fn mark_rests(
             index,
             words,
             mark,
-            own[k] as usize,
+            *h as usize,
             j,
             ids,
             variables,
             fine,
         );
-        k += 1;
     }
 }
 
@@ -151,9 +131,8 @@ fn substitute_all(
     ensures memo_unchanged { memo.new ≡ memo.old }
 {
     let mut m = mark;
-    let mut k = 0;
-    while k < ids.len() {
-        match substitute(index, words, m, map, memo, ids[k] as usize) {
+    for (k, id) in ids.iter().enumerate() {
+        match substitute(index, words, m, map, memo, *id as usize) {
             Kept::Term(t, new) => {
                 out[k] = t as u32;
                 m = new;
@@ -162,7 +141,6 @@ fn substitute_all(
                 return Bound::No(60, row, new);
             }
         }
-        k += 1;
     }
     Bound::Ok(m)
 }
@@ -322,11 +300,8 @@ fn unbind(variables: &[u32], map: &mut [u32])
     requires { There (length map.old) variables.now }
     ensures { UnboundAs variables.now map.old map.new }
 {
-    let mut k = 0;
-    while k < variables.len() {
-        let v = variables[k] as usize;
-        map[v] = 0;
-        k += 1;
+    for v in variables {
+        map[*v as usize] = 0;
     }
 }
 
@@ -338,12 +313,10 @@ fn is_clear(index: &[u32], words: &[u32], mark: Mark, map: &[u32], variables: &[
     let mut seen = [0u64; TERMWORDS];
     let mut inside = [0u64; VARIABLEWORDS];
     visit_cells(index, words, mark, map, &mut seen, &mut inside);
-    let mut k = 0;
-    while k < variables.len() {
-        if has(&inside, variables[k] as usize) {
+    for v in variables {
+        if has(&inside, *v as usize) {
             return false;
         }
-        k += 1;
     }
     true
 }
@@ -414,8 +387,7 @@ pub fn context_facts(
     ensures memo_unchanged { (memo.new ≡ memo.old) × (ids.new ≡ ids.old) }
 {
     let mut m = mark;
-    let mut k = 0;
-    while k < context.len() {
+    for h in context {
         match context_fact(
             facts,
             lists,
@@ -425,7 +397,7 @@ pub fn context_facts(
             m,
             theta,
             memo,
-            context[k] as usize,
+            *h as usize,
             own,
             ids,
             plain,
@@ -438,7 +410,6 @@ pub fn context_facts(
                 return Bound::No(q, d, new);
             }
         }
-        k += 1;
     }
     Bound::Ok(m)
 }
@@ -468,9 +439,9 @@ pub fn rule_premises(
 {
     let span = rule_words(rules, r);
     let mut place = span.from;
-    let mut left = premises_of(rules, r);
+    let many = premises_of(rules, r);
     let mut m = mark;
-    while left != 0 {
+    for _ in 0..many {
         match build(symbols, patterns, index, words, m, bound, place) {
             Built::Term(p, next, mid) => match substitute(index, words, mid, theta, memo, p) {
                 Kept::Term(t, new) => {
@@ -486,7 +457,6 @@ pub fn rule_premises(
                 return Bound::No(q, d, new);
             }
         }
-        left -= 1;
     }
     Bound::Ok(m)
 }
@@ -499,10 +469,7 @@ fn rests_on(facts: &[u32], n: Sizes, h: usize, plain: &[u64], fine: &[u64]) -> b
     if is_plain(facts, h) {
         return has(plain, judgment(facts, h));
     }
-    if !is_assumed(facts, h) {
-        return false;
-    }
-    has(fine, h)
+    is_assumed(facts, h) && has(fine, h)
 }
 
 // Question 44: whether the case may rest on all of the facts.
@@ -510,12 +477,10 @@ pub fn rests_on_all(facts: &[u32], n: Sizes, own: &[u32], plain: &[u64], fine: &
     requires { RestsGiven facts.now n × There n.facts own.now × (length plain.now ≡ TERMWORDS) × (length fine.now ≡ FACTWORDS) }
     ensures { (g : RestsGiven facts.now n) → result ≡ all (λ h. rests_by g.trees (fact_of g.S h) h (holds plain.now) (holds fine.now)) own.now }
 {
-    let mut k = 0;
-    while k < own.len() {
-        if !rests_on(facts, n, own[k] as usize, plain, fine) {
+    for h in own {
+        if !rests_on(facts, n, *h as usize, plain, fine) {
             return false;
         }
-        k += 1;
     }
     true
 }

@@ -3,11 +3,11 @@ use mathlib.Core.Path.{◌≡◌, refl, sym, ap, ◌∙◌, subst}
 use mathlib.Core.Bool.{Bool, true, false, not}
 use Rattle.std.specs.Prelude.{Option, Some as some, None as nothing}
 use mathlib.Core.List.{List, [], ◌∷◌}
-use Prim.Native.Nat.{ℕ, zero, suc, ◌+◌, ◌-◌, ◌*◌, ◌<◌, ◌≤◌}
+use Prim.Native.Nat.{ℕ, suc, ◌+◌, ◌*◌, ◌<◌, ◌≤◌}
 use native.Mathlib.Omega.{arith}
 use native.Mathlib.Numerals.{add-one}
 use lib.Dec.{eqb}
-use lib.ListN.{length, get_or, take, drop, replicate}
+use lib.ListN.{length, get_or, drop, replicate, drop_of_length-le}
 use lib.Seq.{drop-cons}
 use borrow.Author.Tests.{not-true, not-false}
 use Rattle.rules.specs.Limits.{VARIABLES, FACTS, ENTRIES, VARIABLEWORDS}
@@ -26,7 +26,7 @@ use Rattle.terms.specs.Laws.Theta.{binding, bindings_zero, bindings_some}
 use Rattle.state.specs.declared.facts.Span.{Span}
 use Rattle.state.specs.Held.{records}
 use Rattle.state.specs.Rows.{cell, hyps_span, premises_span, general_span, plain_row}
-use Rattle.state.specs.Entries.{part, part_more, part_none}
+use Rattle.state.specs.Entries.{part}
 use Rattle.state.specs.FactLaws.{FactRow, fact_row_lem, lists_long}
 use Rattle.referring.specs.Recall.{fact_of}
 use Rattle.referring.specs.Laws.Refers.{fact_asks}
@@ -105,12 +105,6 @@ general_begins facts lists i bound zeros own s e z h =
       decides = λ g M. refl;
     }
 
-nothing_left : (cs : List ℕ) (w : ℕ) → length cs ≤ w → drop w cs ≡ []
-nothing_left [] zero k = refl
-nothing_left [] (suc w) k = refl
-nothing_left (c ∷ cs) zero k = absurd (omega arith)
-nothing_left (c ∷ cs) (suc w) k = nothing_left cs w (omega arith)
-
 module _ {facts lists : List ℕ} {i : ℕ} {bound own : List ℕ} {v : ℕ} (h : GeneralLeft facts lists i bound own v) where
   module _ (l : v < length bound) (g : RuleFact facts lists i) (M : Made) where
     general_next : all (among (fact_of g.S i).general) (bindings M bound 0)
@@ -149,27 +143,32 @@ module _ {facts lists : List ℕ} {i : ℕ} {bound own : List ℕ} {v : ℕ} (h 
   pub general_done : length bound ≤ v → (g : RuleFact facts lists i) (M : Made) → true ≡ all (among (fact_of g.S i).general) (bindings M bound 0)
   unfolding bindings
   general_done l g M =
-      sym (h.decides g M ∙ ap (λ (cs : List ℕ). all (among (fact_of g.S i).general) (bindings M cs v)) (nothing_left bound v l)
+      sym (h.decides g M ∙ ap (λ (cs : List ℕ). all (among (fact_of g.S i).general) (bindings M cs v)) (drop_of_length-le bound l)
       ∙ all_none (among (fact_of g.S i).general))
 
 -- Hypotheses ------------------------------------------------------------------------------------------------------------------------
 
 -- those from a place on decide
-pub record HypsLeft (facts lists : List ℕ) (i end at : ℕ) : Type 0 where
-  pub high : RuleFact facts lists i → end ≤ length lists
-  pub below : (g : RuleFact facts lists i) → All (λ h. h < g.n.facts) (take (end - at) (drop at lists))
-  pub decides : (g : RuleFact facts lists i) → all (plain_at g.S.facts) (fact_of g.S i).hyps ≡ all (plain_at g.S.facts) (take (end - at) (drop at lists))
+pub record HypsLeft (facts lists : List ℕ) (i : ℕ) (hs : List ℕ) (k : ℕ) : Type 0 where
+  pub below : (g : RuleFact facts lists i) → All (λ h. h < g.n.facts) (drop k hs)
+  pub decides : (g : RuleFact facts lists i) → all (plain_at g.S.facts) (fact_of g.S i).hyps ≡ all (plain_at g.S.facts) (drop k hs)
 
-pub hyps_begin : (facts lists : List ℕ) (i : ℕ) (s : Span) → s ≡ hyps_span facts i → HypsLeft facts lists i s.end s.from
-hyps_begin facts lists i s e =
+pub hyps_begin : {facts lists : List ℕ} {i : ℕ} {s : Span} → s ≡ hyps_span facts i → HypsLeft facts lists i (part lists s) 0
+hyps_begin {facts} {lists} {i} {s} e =
     record {
-      high = λ g. let b = ap (λ (z : Span). z.end) e in omega (arith, (hyps_ends g).1);
       below = λ g. subst (λ (l : List ℕ). All (λ h. h < g.n.facts) l) (sym (are g)) (rule_row_lem g).hyps_below;
       decides = λ g. ap (all (plain_at g.S.facts)) (sym (are g));
     }
   where
     are : (g : RuleFact facts lists i) → part lists s ≡ (fact_of g.S i).hyps
     are g = ap (part lists) e ∙ (rule_row_lem g).hyps
+
+module _ {facts lists : List ℕ} {i : ℕ} (g : RuleFact facts lists i) {s : Span} (e : s ≡ hyps_span facts i) where
+  pub hyps_low : s.from ≤ s.end
+  hyps_low = let a = ap (λ (z : Span). z.from) e in let b = ap (λ (z : Span). z.end) e in omega arith
+
+  pub hyps_high : s.end ≤ length lists
+  hyps_high = let b = ap (λ (z : Span). z.end) e in omega (arith, (hyps_ends g).1)
 
 plain_row_lem : {facts lists : List ℕ} {i : ℕ} (g : RuleFact facts lists i) (h : ℕ) → h < g.n.facts → plain_at g.S.facts h ≡ plain_row facts h
 unfolding plain_at
@@ -183,40 +182,33 @@ all_head (both h a) = h
 all_tail : {P : ℕ → Type 0} {x : ℕ} {xs : List ℕ} → All P (x ∷ xs) → All P xs
 all_tail (both h a) = a
 
-module _ {facts lists : List ℕ} {i end at : ℕ} (k : HypsLeft facts lists i end at) (l : at < end) where
+module _ {facts lists : List ℕ} {i : ℕ} {hs : List ℕ} {k : ℕ} (h : HypsLeft facts lists i hs k) (l : k < length hs) where
   module _ (g : RuleFact facts lists i) where
-    hyps_split : take (end - at) (drop at lists) ≡ get_or lists at 0 ∷ take (end - (at + 1)) (drop (at + 1) lists)
-    hyps_split = part_more lists at end l (k.high g)
+    hyps_two : All (λ h. h < g.n.facts) (get_or hs k 0 ∷ drop (suc k) hs)
+    hyps_two = subst (λ (l : List ℕ). All (λ h. h < g.n.facts) l) (drop-cons hs k 0 l) (h.below g)
 
-    hyps_two : All (λ h. h < g.n.facts) (get_or lists at 0 ∷ take (end - (at + 1)) (drop (at + 1) lists))
-    hyps_two = subst (λ (l : List ℕ). All (λ h. h < g.n.facts) l) hyps_split (k.below g)
-
-    pub hyp_inside : at < length lists
-    hyp_inside = omega (arith, k.high g)
-
-    pub hyp_asks : (length facts ≡ 6 * FACTS) × (get_or lists at 0 < FACTS)
+    pub hyp_asks : (length facts ≡ 6 * FACTS) × (get_or hs k 0 < FACTS)
     hyp_asks = fact_asks g.recorded (all_head hyps_two)
 
-    hyps_next : all (plain_at g.S.facts) (fact_of g.S i).hyps
-        ≡ all (plain_at g.S.facts) (get_or lists at 0 ∷ take (end - (at + 1)) (drop (at + 1) lists))
-    hyps_next = k.decides g ∙ ap (all (plain_at g.S.facts)) hyps_split
+    hyps_next : all (plain_at g.S.facts) (fact_of g.S i).hyps ≡ all (plain_at g.S.facts) (get_or hs k 0 ∷ drop (suc k) hs)
+    hyps_next = h.decides g ∙ ap (all (plain_at g.S.facts)) (drop-cons hs k 0 l)
 
-    pub hyp_other : {b : Bool} → b ≡ plain_row facts (get_or lists at 0) → not b ≡ true → false ≡ all (plain_at g.S.facts) (fact_of g.S i).hyps
+    pub hyp_other : {b : Bool} → b ≡ plain_row facts (get_or hs k 0) → not b ≡ true → false ≡ all (plain_at g.S.facts) (fact_of g.S i).hyps
     hyp_other {b} e f =
-        sym (hyps_next ∙ all_no (plain_at g.S.facts) _ _ (plain_row_lem g (get_or lists at 0) (all_head hyps_two) ∙ sym e ∙ not-true b f))
+        sym (hyps_next ∙ all_no (plain_at g.S.facts) _ _ (plain_row_lem g (get_or hs k 0) (all_head hyps_two) ∙ sym e ∙ not-true b f))
 
-  pub hyps_again : {b : Bool} → b ≡ plain_row facts (get_or lists at 0) → not b ≡ false → HypsLeft facts lists i end (at + 1)
+  pub hyps_again : {b : Bool} → b ≡ plain_row facts (get_or hs k 0) → not b ≡ false → HypsLeft facts lists i hs (k + 1)
   hyps_again {b} e f =
       record {
-        high = k.high;
-        below = λ g. all_tail (hyps_two g);
-        decides = λ g. hyps_next g ∙ all_yes (plain_at g.S.facts) _ _ (plain_row_lem g (get_or lists at 0) (all_head (hyps_two g)) ∙ sym e ∙ not-false b f);
+        below = λ g. subst (λ (w : ℕ). All (λ h. h < g.n.facts) (drop w hs)) (sym (add-one k)) (all_tail (hyps_two g));
+        decides = λ g. hyps_next g ∙ all_yes (plain_at g.S.facts) _ _ (plain_row_lem g (get_or hs k 0) (all_head (hyps_two g)) ∙ sym e ∙ not-false b f)
+            ∙ ap (λ (w : ℕ). all (plain_at g.S.facts) (drop w hs)) (sym (add-one k));
       }
 
-pub hyps_done : {facts lists : List ℕ} {i end at : ℕ} → HypsLeft facts lists i end at → end ≤ at → (g : RuleFact facts lists i) →
+pub hyps_done : {facts lists : List ℕ} {i : ℕ} {hs : List ℕ} {k : ℕ} → HypsLeft facts lists i hs k → length hs ≤ k → (g : RuleFact facts lists i) →
     true ≡ all (plain_at g.S.facts) (fact_of g.S i).hyps
-hyps_done {lists = lists} {end = end} {at} k l g =
-    sym (k.decides g ∙ ap (all (plain_at g.S.facts)) (part_none lists at end l) ∙ all_none (plain_at g.S.facts))
+hyps_done {hs = hs} h l g =
+    sym (h.decides g ∙ ap (all (plain_at g.S.facts)) (drop_of_length-le hs l) ∙ all_none (plain_at g.S.facts))
 
 -- Whether it can be used ---------------------------------------------------------------------------------------------------------------
 

@@ -42,14 +42,10 @@ fn binds_general(facts: &[u32], lists: &[u32], i: usize, bound: &[u32]) -> bool
     let from = span.from;
     let end = span.end;
     insert_all(&lists[from..end], &mut own);
-    let mut v = 0;
-    while v < bound.len() {
-        if bound[v] != 0 {
-            if !has(&own, v) {
-                return false;
-            }
+    for (v, cell) in bound.iter().enumerate() {
+        if *cell != 0 && !has(&own, v) {
+            return false;
         }
-        v += 1;
     }
     true
 }
@@ -60,13 +56,12 @@ fn rests_on_plain(facts: &[u32], lists: &[u32], i: usize) -> bool
     ensures { (g : RuleFact facts.now lists.now i) → result ≡ all (plain_at g.S.facts) (fact_of g.S i).hyps }
 {
     let span = hyps_of(facts, i);
-    let mut at = span.from;
+    let from = span.from;
     let end = span.end;
-    while at < end {
-        if !is_plain(facts, lists[at] as usize) {
+    for h in &lists[from..end] {
+        if !is_plain(facts, *h as usize) {
             return false;
         }
-        at += 1;
     }
     true
 }

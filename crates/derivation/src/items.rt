@@ -58,8 +58,7 @@ fn bind_item(
         ItemsAs index.old words.old index.new words.new mark (bind_item g.S (rule g.S.theory r) (letters (drop start text.now)) g.x g.it (made index.old words.old mark)) bound.new result }
 {
     let end = lex::atom_end(text, start);
-    let Some(i) = rule_var_named(theory, rulevars, r, variables(rules, r), &text[start..end])
-    else {
+    let Some(i) = rule_var_named(theory, rulevars, r, variables(rules, r), &text[start..end]) else {
         return Out::No(36, 0, mark);
     };
     match term_of(

@@ -39,14 +39,6 @@ use Rattle.forms.specs.Results.{goal_of, ListsHyps, Covers}
 use Rattle.referring.specs.Laws.Refers.{fact_asks}
 use Rattle.referring.specs.Laws.ScopeFree.{from_zeros}
 
--- Two tests ---------------------------------------------------------------------------------------------------------------------------
-
-pub first_fails : (p q b : Bool) → b ≡ p → not b ≡ true → false ≡ p && q
-first_fails p q b e t = ap (λ (z : Bool). z && q) (sym (sym e ∙ not-true b t))
-
-pub first_holds : (p q b r : Bool) → b ≡ p → not b ≡ false → r ≡ q → r ≡ p && q
-first_holds p q b r e t f = f ∙ ap (λ (z : Bool). z && q) (sym (sym e ∙ not-false b t))
-
 -- Trees by their numbers ----------------------------------------------------------------------------------------------------------------
 
 same_numbered : (M : Made) (u t : Tree) → In u M → In t M → same_tree u t ≡ eqb (number M t) (number M u)

@@ -35,10 +35,7 @@ fn is_listed(facts: &[u32], h: usize, terms: &[u64]) -> bool
     requires { (length facts.now ≡ 6 * FACTS) × (h < FACTS) × (cell 6 facts.now h 0 < 64 * length terms.now) }
     ensures { result ≡ plain_row facts.now h && holds terms.now (cell 6 facts.now h 0) }
 {
-    if !is_plain(facts, h) {
-        return false;
-    }
-    has(terms, judgment(facts, h))
+    is_plain(facts, h) && has(terms, judgment(facts, h))
 }
 
 // Whether each of the hypotheses is plain, with a judgment of the set.
@@ -47,12 +44,10 @@ fn all_listed(facts: &[u32], hyps: &[u32], terms: &[u64]) -> bool
     ensures { ((g : ListsHyps facts.now hyps.now terms.now) (hs : Trees) → Each (sound.Has g.trees) hs →
         holds terms.now ≡ has (numbers g.trees hs) → result ≡ all (λ h. listed hs (entry g.S.facts h)) hyps.now) }
 {
-    let mut k = 0;
-    while k < hyps.len() {
-        if !is_listed(facts, hyps[k] as usize, terms) {
+    for h in hyps {
+        if !is_listed(facts, *h as usize, terms) {
             return false;
         }
-        k += 1;
     }
     true
 }

@@ -6,7 +6,10 @@ use mathlib.Core.List.{List, [], ◌∷◌}
 use Prim.Native.Nat.{ℕ, zero, suc, ◌+◌, ◌-◌, ◌*◌, ◌<◌, ◌≤◌}
 use native.Mathlib.Omega.{arith}
 use lib.Dec.{eqb, ltb}
-use lib.ListN.{length, get_or, take, drop}
+use native.Mathlib.Numerals.{add-one}
+use lib.ListN.{length, get_or, take, drop, drop_of_length-le}
+use lib.Seq.{drop-cons}
+use Rattle.state.specs.Entries.{part}
 use borrow.Author.Tests.{eq-eqb, ne_eqb, ltb-false}
 use Rattle.rules.specs.Limits.{FACTS}
 use Rattle.rules.specs.Out.{Out, then, found, ask}
@@ -18,9 +21,8 @@ use Rattle.rules.specs.StateTables.{numbers}
 use Rattle.rules.specs.Reference.{fact_at}
 use Rattle.rules.specs.Induct.{motive_vars, Hyp, allowed_plain, allowed_rule, allowed_hyp}
 use Rattle.rules.specs.Laws.Theory.{All, both, all_at}
-use Rattle.terms.specs.Table.{run, made, tree}
+use Rattle.terms.specs.Table.{made, tree}
 use Rattle.terms.specs.Sets.{holds}
-use Rattle.terms.specs.Laws.Runs.{run_more, run_none}
 use Rattle.terms.specs.Laws.Growth.{made_length}
 use Rattle.terms.specs.Laws.Numbers.{same_number}
 use Rattle.state.specs.declared.sizes.Sizes.{Sizes}
@@ -141,40 +143,36 @@ module _ {facts lists : List ℕ} {n : Sizes} {plain used : List ℕ} {x w : ℕ
 
 -- All hypotheses of a fact ----------------------------------------------------------------------------------------------------------------------
 
--- these are left of the list
-pub record Allowing (p : ℕ → Bool) (n : Sizes) (hs lists : List ℕ) (end at : ℕ) : Type 0 where
-  pub on : all p hs ≡ all p (run lists at (end - at))
-  pub each : All (λ h. h < n.facts) (run lists at (end - at))
-  pub inside : end ≤ length lists
+-- these are left of the list, and the rest of its cells
+pub record Allowing (p : ℕ → Bool) (n : Sizes) (hs cells : List ℕ) (k : ℕ) : Type 0 where
+  pub on : all p hs ≡ all p (drop k cells)
+  pub each : All (λ h. h < n.facts) (drop k cells)
 
-module _ {p : ℕ → Bool} {n : Sizes} {hs lists : List ℕ} {end at : ℕ} (h : Allowing p n hs lists end at) where
-  pub allowing_done : end ≤ at → true ≡ all p hs
+module _ {p : ℕ → Bool} {n : Sizes} {hs cells : List ℕ} {k : ℕ} (h : Allowing p n hs cells k) where
+  pub allowing_done : length cells ≤ k → true ≡ all p hs
   unfolding all
-  allowing_done l = sym (h.on ∙ ap (all p) (run_none lists at end l))
+  allowing_done l = sym (h.on ∙ ap (all p) (drop_of_length-le cells l))
 
-  module _ (l : at < end) where
-    split : run lists at (end - at) ≡ get_or lists at 0 ∷ run lists (at + 1) (end - (at + 1))
-    split = run_more lists at end l h.inside
+  module _ (l : k < length cells) where
+    each_split : All (λ h. h < n.facts) (get_or cells k 0 ∷ drop (suc k) cells)
+    each_split = subst (All (λ h. h < n.facts)) (drop-cons cells k 0 l) h.each
 
-    each_split : All (λ h. h < n.facts) (get_or lists at 0 ∷ run lists (at + 1) (end - (at + 1)))
-    each_split = subst (All (λ h. h < n.facts)) split h.each
+    pub allowing_here : get_or cells k 0 < n.facts
+    allowing_here = all_at (get_or cells k 0 ∷ drop (suc k) cells) 0 0 each_split (omega arith)
 
-    pub allowing_here : get_or lists at 0 < n.facts
-    allowing_here = all_at (get_or lists at 0 ∷ run lists (at + 1) (end - (at + 1))) 0 0 each_split (omega arith)
-
-    allowing_step : all p hs ≡ elim (p (get_or lists at 0)) [ true ↦ all p (run lists (at + 1) (end - (at + 1))) | false ↦ false ]
+    allowing_step : all p hs ≡ elim (p (get_or cells k 0)) [ true ↦ all p (drop (suc k) cells) | false ↦ false ]
     unfolding all
-    allowing_step = h.on ∙ ap (all p) split
+    allowing_step = h.on ∙ ap (all p) (drop-cons cells k 0 l)
 
-    pub allowing_not : (r : Bool) → r ≡ p (get_or lists at 0) → r ≡ false → false ≡ all p hs
-    allowing_not r e f = sym (allowing_step ∙ ap (λ (b : Bool). elim b [ true ↦ all p (run lists (at + 1) (end - (at + 1))) | false ↦ false ]) (sym e ∙ f))
+    pub allowing_not : (r : Bool) → r ≡ p (get_or cells k 0) → r ≡ false → false ≡ all p hs
+    allowing_not r e f = sym (allowing_step ∙ ap (λ (b : Bool). elim b [ true ↦ all p (drop (suc k) cells) | false ↦ false ]) (sym e ∙ f))
 
-    pub allowing_again : (r : Bool) → r ≡ p (get_or lists at 0) → r ≡ true → Allowing p n hs lists end (at + 1)
+    pub allowing_again : (r : Bool) → r ≡ p (get_or cells k 0) → r ≡ true → Allowing p n hs cells (k + 1)
     allowing_again r e f =
         record {
-          on = allowing_step ∙ ap (λ (b : Bool). elim b [ true ↦ all p (run lists (at + 1) (end - (at + 1))) | false ↦ false ]) (sym e ∙ f);
-          each = rest_each each_split;
-          inside = h.inside;
+          on = allowing_step ∙ ap (λ (b : Bool). elim b [ true ↦ all p (drop (suc k) cells) | false ↦ false ]) (sym e ∙ f)
+              ∙ ap (λ (w : ℕ). all p (drop w cells)) (sym (add-one k));
+          each = subst (λ (w : ℕ). All (λ h. h < n.facts) (drop w cells)) (sym (add-one k)) (rest_each each_split);
         }
       where
         rest_each : {x : ℕ} {xs : List ℕ} → All (λ h. h < n.facts) (x ∷ xs) → All (λ h. h < n.facts) xs
@@ -186,25 +184,24 @@ module _ {facts lists : List ℕ} {n : Sizes} {plain used : List ℕ} {x w : ℕ
   abbrev pub asked : ℕ → Bool
   asked h = allowed_hyp g.M g.ps (hyps_in (made g.I g.W g.m) w many ids) (entry g.S.facts h)
 
-  pub hyps_inside : (hyps_span facts i).end ≤ length lists
-  hyps_inside = omega (arith, rest_lists g i l)
+  pub hyps_low : (own : Span) → own ≡ hyps_span facts i → own.from ≤ own.end
+  hyps_low own e = let a = ap (λ (z : Span). z.from) e in let b = ap (λ (z : Span). z.end) e in omega arith
 
-  pub allowing_start : Allowing asked n (fact_of g.S i).hyps lists (hyps_span facts i).end (hyps_span facts i).from
+  pub hyps_high : (own : Span) → own ≡ hyps_span facts i → own.end ≤ length lists
+  hyps_high own e = let b = ap (λ (z : Span). z.end) e in omega (arith, rest_lists g i l)
+
+  allowing_start : Allowing asked n (fact_of g.S i).hyps (part lists (hyps_span facts i)) 0
   allowing_start =
-      record {
-        on = ap (all asked) (sym (row g i l).hyps);
-        each = subst (All (λ h. h < n.facts)) (sym (row g i l).hyps) (row g i l).hyps_below;
-        inside = hyps_inside;
-      }
+      record { on = ap (all asked) (sym (row g i l).hyps); each = subst (All (λ h. h < n.facts)) (sym (row g i l).hyps) (row g i l).hyps_below }
 
 -- of whatever the tables stand for
-abbrev pub Allows : (facts lists : List ℕ) (n : Sizes) (i : ℕ) (plain used : List ℕ) (x w : ℕ) (ids : List ℕ) (many end at : ℕ) → Type 0
-Allows facts lists n i plain used x w ids many end at =
-    (g : Resting facts lists n plain used x w ids many) (l : i < n.facts) → Allowing (asked g i l) n (fact_of g.S i).hyps lists end at
+abbrev pub Allows : (facts lists : List ℕ) (n : Sizes) (i : ℕ) (plain used : List ℕ) (x w : ℕ) (ids : List ℕ) (many : ℕ) (cells : List ℕ) (k : ℕ) → Type 0
+Allows facts lists n i plain used x w ids many cells k =
+    (g : Resting facts lists n plain used x w ids many) (l : i < n.facts) → Allowing (asked g i l) n (fact_of g.S i).hyps cells k
 
 pub allows_start : {facts lists : List ℕ} {n : Sizes} {i : ℕ} {plain used : List ℕ} {x w : ℕ} {ids : List ℕ} {many : ℕ} (own : Span) → own ≡ hyps_span facts i →
-    Allows facts lists n i plain used x w ids many own.end own.from
-allows_start {lists = lists} {n} {i} own e g l = subst (λ (z : Span). Allowing (asked g i l) n (fact_of g.S i).hyps lists z.end z.from) (sym e) (allowing_start g i l)
+    Allows facts lists n i plain used x w ids many (part lists own) 0
+allows_start {lists = lists} {n} {i} own e g l = subst (λ (z : Span). Allowing (asked g i l) n (fact_of g.S i).hyps (part lists z) 0) (sym e) (allowing_start g i l)
 
 -- Questions 34, 43 and 44 -------------------------------------------------------------------------------------------------------------------------
 

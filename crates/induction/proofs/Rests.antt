@@ -8,6 +8,7 @@ use native.Mathlib.Nat.{suc-mul}
 use native.Mathlib.Numerals.{add-one}
 use lib.Dec.{eqb}
 use lib.ListN.{length, get_or, take, drop, length-drop, length-take, drop_of_length-le}
+use lib.Pointwise.{pointwise}
 use lib.Seq.{drop-cons, get_or-drop, get_or-take, drop-drop, length-take-le}
 use borrow.Author.Tests.{eq-eqb, ne_eqb}
 use Rattle.rules.specs.Find.{Set, any, all}
@@ -20,46 +21,16 @@ use Rattle.induction.specs.Inducing.{Below, hyps_in, row_among}
 
 -- Cells compared ------------------------------------------------------------------------------------------------------------------------
 
-pub record Comparing (a b : List ℕ) (k : ℕ) : Type 0 where
-  pub on : same_words a b ≡ same_words (drop k a) (drop k b)
-  pub long : length a ≡ length b
-  pub near : k ≤ length a
-
-pub comparing_start : (a b : List ℕ) → length a ≡ length b → Comparing a b 0
-comparing_start a b e = record { on = refl; long = e; near = omega arith }
-
-pub comparing_lengths : (a b : List ℕ) → (length a ≡ length b → ⊥) → false ≡ same_words a b
+pub slices_same : (a b : List ℕ) → pointwise eqb a b ≡ same_words a b
 unfolding same_words
-comparing_lengths [] [] q = absurd (q refl)
-comparing_lengths [] (y ∷ ys) q = refl
-comparing_lengths (x ∷ xs) [] q = refl
-comparing_lengths (x ∷ xs) (y ∷ ys) q = go (eqb x y) (comparing_lengths xs ys (λ e. q (ap suc e)))
+slices_same [] [] = refl
+slices_same [] (y ∷ ys) = refl
+slices_same (x ∷ xs) [] = refl
+slices_same (x ∷ xs) (y ∷ ys) = go (eqb x y) (slices_same xs ys)
   where
-    go : (b : Bool) → false ≡ same_words xs ys → false ≡ elim b [ true ↦ same_words xs ys | false ↦ false ]
+    go : (b : Bool) → pointwise eqb xs ys ≡ same_words xs ys → (b && pointwise eqb xs ys) ≡ elim b [ true ↦ same_words xs ys | false ↦ false ]
     go true e = e
     go false e = refl
-
-module _ {a b : List ℕ} {k : ℕ} (h : Comparing a b k) where
-  comparing_step : k < length a → same_words a b ≡ elim (eqb (get_or a k 0) (get_or b k 0)) [ true ↦ same_words (drop (suc k) a) (drop (suc k) b) | false ↦ false ]
-  unfolding same_words
-  comparing_step l = h.on ∙ (λ i. same_words (drop-cons a k 0 l i) (drop-cons b k 0 (omega (arith, h.long, l)) i))
-
-  pub comparing_other : k < length a → (get_or a k 0 ≡ get_or b k 0 → ⊥) → false ≡ same_words a b
-  comparing_other l q =
-      sym (comparing_step l ∙ ap (λ (t : Bool). elim t [ true ↦ same_words (drop (suc k) a) (drop (suc k) b) | false ↦ false ]) (ne_eqb (get_or a k 0) (get_or b k 0) q))
-
-  pub comparing_again : k < length a → get_or a k 0 ≡ get_or b k 0 → Comparing a b (k + 1)
-  comparing_again l e =
-      record {
-        on = comparing_step l ∙ ap (λ (t : Bool). elim t [ true ↦ same_words (drop (suc k) a) (drop (suc k) b) | false ↦ false ]) (eq-eqb (get_or a k 0) (get_or b k 0) e)
-            ∙ ap (λ (i : ℕ). same_words (drop i a) (drop i b)) (sym (add-one k));
-        long = h.long;
-        near = omega arith;
-      }
-
-  pub comparing_done : length a ≤ k → true ≡ same_words a b
-  unfolding same_words
-  comparing_done l = sym (h.on ∙ (λ i. same_words (drop_of_length-le a l i) (drop_of_length-le b {i = k} (omega (arith, h.long)) i)))
 
 -- Variables generalised --------------------------------------------------------------------------------------------------------------------
 
@@ -102,62 +73,54 @@ module _ {own : List ℕ} {used : Set} {x k : ℕ} (h : Generalising own used x 
 
 -- Rows of induction hypotheses --------------------------------------------------------------------------------------------------------------
 
--- so many rows are left from a place on
-pub record Rowing (own : List ℕ) (j w : ℕ) (ids : List ℕ) (many left at : ℕ) : Type 0 where
-  pub on : row_among w many ids own j ≡ row_among w left (drop at ids) own j
-  pub room : at + left * suc w ≤ length ids
+-- those behind the first k rows are left, from a place on
+pub record Rowing (own : List ℕ) (j w : ℕ) (ids : List ℕ) (many k at : ℕ) : Type 0 where
+  pub on : row_among w many ids own j ≡ row_among w (many - k) (drop at ids) own j
+  pub room : at + (many - k) * suc w ≤ length ids
 
-pub rowing_start : (own : List ℕ) (j w : ℕ) (ids : List ℕ) (many : ℕ) → many * suc w ≤ length ids → Rowing own j w ids many many 0
-rowing_start own j w ids many l = record { on = refl; room = omega (arith, l) }
+pub rowing_start : (own : List ℕ) (j w : ℕ) (ids : List ℕ) (many : ℕ) → many * suc w ≤ length ids → Rowing own j w ids many 0 0
+rowing_start own j w ids many l =
+    let e : many ≡ many - 0 = omega arith in
+    record { on = ap (λ (n : ℕ). row_among w n ids own j) e; room = omega (arith, subst (λ (n : ℕ). n * suc w ≤ length ids) e l) }
 
-module _ {own : List ℕ} {j w : ℕ} {ids : List ℕ} {many left at : ℕ} (h : Rowing own j w ids many left at) where
-  pub rowing_done : left ≤ 0 → false ≡ row_among w many ids own j
+module _ {own : List ℕ} {j w : ℕ} {ids : List ℕ} {many k at : ℕ} (h : Rowing own j w ids many k at) where
+  pub rowing_done : many ≤ k → false ≡ row_among w many ids own j
   unfolding row_among
-  rowing_done l = let e : left ≡ 0 = omega arith in sym (h.on ∙ ap (λ (n : ℕ). row_among w n (drop at ids) own j) e)
+  rowing_done l = let e : many - k ≡ 0 = omega arith in sym (h.on ∙ ap (λ (n : ℕ). row_among w n (drop at ids) own j) e)
 
-  module _ (l : 0 < left) where
-    more_left : left ≡ suc (left - 1)
+  module _ (l : k < many) where
+    more_left : many - k ≡ suc (many - (k + 1))
     more_left = omega arith
 
-    room_left : at + (suc w + (left - 1) * suc w) ≤ length ids
-    room_left = omega (arith, h.room, ap (λ (n : ℕ). n * suc w) more_left, suc-mul (left - 1) (suc w))
+    room_left : at + (suc w + (many - (k + 1)) * suc w) ≤ length ids
+    room_left = omega (arith, h.room, ap (λ (n : ℕ). n * suc w) more_left, suc-mul (many - (k + 1)) (suc w))
 
     pub rowing_high : at + w < length ids
     rowing_high = omega (arith, room_left)
 
     step : row_among w many ids own j
-        ≡ (same_words (take (at + w - at) (drop at ids)) own && eqb (get_or ids (at + w) 0) j) || row_among w (left - 1) (drop (at + w + 1) ids) own j
+        ≡ (same_words (take (at + w - at) (drop at ids)) own && eqb (get_or ids (at + w) 0) j) || row_among w (many - (k + 1)) (drop (at + w + 1) ids) own j
     unfolding row_among
     step =
         let e : w ≡ at + w - at = omega arith in
         let p : at + suc w ≡ at + w + 1 = omega arith in
         h.on ∙ ap (λ (n : ℕ). row_among w n (drop at ids) own j) more_left
-        ∙ (λ i. (same_words (take (e i) (drop at ids)) own && eqb (get_or-drop at ids w 0 i) j) || row_among w (left - 1) ((drop-drop (suc w) at ids ∙ ap (λ (n : ℕ). drop n ids) p) i) own j)
-
-    again : (same_words (take (at + w - at) (drop at ids)) own && eqb (get_or ids (at + w) 0) j) ≡ false → Rowing own j w ids many (left - 1) (at + w + 1)
-    again e =
-        record {
-          on = step ∙ ap (λ (b : Bool). b || row_among w (left - 1) (drop (at + w + 1) ids) own j) e;
-          room = omega (arith, room_left);
-        }
+        ∙ (λ i. (same_words (take (e i) (drop at ids)) own && eqb (get_or-drop at ids w 0 i) j) || row_among w (many - (k + 1)) ((drop-drop (suc w) at ids ∙ ap (λ (n : ℕ). drop n ids) p) i) own j)
 
     module _ {t : Bool} (e : t ≡ same_words (take (at + w - at) (drop at ids)) own && eqb (get_or ids (at + w) 0) j) where
-      pub rowing_else : t ≡ false → Rowing own j w ids many (left - 1) (at + w + 1)
-      rowing_else f = again (sym e ∙ f)
+      pub rowing_else : t ≡ false → Rowing own j w ids many (k + 1) (at + w + 1)
+      rowing_else f =
+          record {
+            on = step ∙ ap (λ (b : Bool). b || row_among w (many - (k + 1)) (drop (at + w + 1) ids) own j) (sym e ∙ f);
+            room = omega (arith, room_left);
+          }
 
       pub rowing_found : t ≡ true → true ≡ row_among w many ids own j
-      rowing_found f = sym (step ∙ ap (λ (b : Bool). b || row_among w (left - 1) (drop (at + w + 1) ids) own j) (sym e ∙ f))
+      rowing_found f = sym (step ∙ ap (λ (b : Bool). b || row_among w (many - (k + 1)) (drop (at + w + 1) ids) own j) (sym e ∙ f))
 
 -- a row compared
-pub row_other : (cells own : List ℕ) (a j : ℕ) → (a ≡ j → ⊥) → false ≡ (same_words cells own && eqb a j)
-row_other cells own a j q = sym (ap (λ (b : Bool). same_words cells own && b) (ne_eqb a j q) ∙ and_no (same_words cells own))
-  where
-    and_no : (b : Bool) → (b && false) ≡ false
-    and_no true = refl
-    and_no false = refl
-
-pub row_same : (cells own : List ℕ) (a j : ℕ) {t : Bool} → a ≡ j → t ≡ same_words cells own → t ≡ (same_words cells own && eqb a j)
-row_same cells own a j {t} q e = e ∙ sym (ap (λ (b : Bool). same_words cells own && b) (eq-eqb a j q) ∙ and_yes (same_words cells own))
+pub row_same : (cells own : List ℕ) (a j : ℕ) {t : Bool} → a ≡ j → t ≡ pointwise eqb cells own → t ≡ (same_words cells own && eqb a j)
+row_same cells own a j {t} q e = e ∙ slices_same cells own ∙ sym (ap (λ (b : Bool). same_words cells own && b) (eq-eqb a j q) ∙ and_yes (same_words cells own))
   where
     and_yes : (b : Bool) → (b && true) ≡ b
     and_yes true = refl

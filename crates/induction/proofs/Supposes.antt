@@ -47,8 +47,8 @@ module _ {sorts : List ℕ} {sort from k : ℕ} (h : Nexting sorts sort from k) 
   pub nexting_here : k < length sorts → get_or sorts k 0 ≡ sort → NextOf sorts sort from k
   nexting_here l e = record { low = h.low; high = h.high; skipped = h.skipped; stops = λ p. e }
 
-  pub nexting_none : length sorts ≤ k → NextOf sorts sort from k
-  nexting_none l = record { low = h.low; high = h.high; skipped = h.skipped; stops = λ p. absurd (omega arith) }
+  pub nexting_none : length sorts ≤ k → NextOf sorts sort from (length sorts)
+  nexting_none l = record { low = omega (arith, h.low, h.high); high = omega arith; skipped = λ i a b. h.skipped i a (omega (arith, h.high)); stops = λ p. absurd (omega arith) }
 
 -- Rows in the cells -------------------------------------------------------------------------------------------------------------------------
 

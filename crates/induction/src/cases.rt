@@ -31,12 +31,10 @@ fn keep_case(index: &mut [u32], words: &mut [u32], mark: Mark, c: usize, own: &[
     let mut node = [0u32; NODE];
     node[0] = c as u32;
     let mut m = mark;
-    let mut k = 0;
-    while k < own.len() {
-        match keep_var(index, words, m, own[k] as usize) {
+    for (k, v) in own.iter().enumerate() {
+        match keep_var(index, words, m, *v as usize) {
             Kept::Term(t, new) => {
-                k += 1;
-                node[k] = t as u32;
+                node[k + 1] = t as u32;
                 m = new;
             }
             Kept::Full(row, new) => {
@@ -63,9 +61,8 @@ fn substitute_all(
     ensures memo_unchanged { memo.new ≡ memo.old }
 {
     let mut m = mark;
-    let mut k = 0;
-    while k < premises.len() {
-        match substitute(index, words, m, map, memo, premises[k] as usize) {
+    for (k, premise) in premises.iter().enumerate() {
+        match substitute(index, words, m, map, memo, *premise as usize) {
             Kept::Term(t, new) => {
                 out[k] = t as u32;
                 m = new;
@@ -74,9 +71,8 @@ fn substitute_all(
                 return Out::No(60, row, new);
             }
         }
-        k += 1;
     }
-    Out::Ok(k, m)
+    Out::Ok(premises.len(), m)
 }
 
 // The judgment under the substitution, then the premises; what is answered is the judgment's number.
@@ -191,14 +187,13 @@ fn next_of(sorts: &[u32], sort: usize, from: usize) -> usize
     requires { from ≤ length sorts.now }
     ensures { NextOf sorts.now sort from result }
 {
-    let mut k = from;
-    while k < sorts.len() {
+    let end = sorts.len();
+    for k in from..end {
         if sorts[k] as usize == sort {
             return k;
         }
-        k += 1;
     }
-    k
+    end
 }
 
 // One for each variable of the motive's own sort, one behind the other in `ids`: the premises, then the judgment. What is answered is how many.

@@ -38,10 +38,8 @@ fn judgments_of(facts: &[u32], hyps: &[u64], out: &mut [u32]) -> usize
     ensures { (result ≤ FACTS) × (take result out.new ≡ judgment_cells facts.now (rising FACTS (holds hyps.now))) }
 {
     let count = write_out(hyps, out);
-    let mut k = 0;
-    while k < count {
+    for k in 0..count {
         out[k] = judgment_of(facts, out[k] as usize) as u32;
-        k += 1;
     }
     count
 }

@@ -15,38 +15,16 @@ use state::facts::{
 use state::sizes::Sizes;
 use terms::sets::has;
 
-// Whether the cells are the same.
-fn same_cells(a: &[u32], b: &[u32]) -> bool
-    ensures { result ≡ same_words a.now b.now }
-{
-    if a.len() != b.len() {
-        return false;
-    }
-    let mut k = 0;
-    while k < a.len() {
-        if a[k] != b[k] {
-            return false;
-        }
-        k += 1;
-    }
-    true
-}
-
 // Whether these variables are all in the set, and none is x.
 fn generalises(own: &[u32], used: &[u64], x: usize) -> bool
     requires { Below (64 * length used.now) own.now }
     ensures { result ≡ all (λ g. holds used.now g && not (eqb g x)) own.now }
 {
-    let mut k = 0;
-    while k < own.len() {
-        let v = own[k] as usize;
-        if !has(used, v) {
+    for v in own {
+        let v = *v as usize;
+        if !has(used, v) || v == x {
             return false;
         }
-        if v == x {
-            return false;
-        }
-        k += 1;
     }
     true
 }
@@ -55,10 +33,7 @@ fn generalises(own: &[u32], used: &[u64], x: usize) -> bool
 fn is_row(cells: &[u32], last: usize, own: &[u32], judgment: usize) -> bool
     ensures { result ≡ same_words cells.now own.now && eqb last judgment }
 {
-    if last != judgment {
-        return false;
-    }
-    same_cells(cells, own)
+    last == judgment && cells == own
 }
 
 // Whether some of the induction hypotheses, `many` rows of `width` premises and a judgment, has these premises and this judgment.
@@ -66,15 +41,13 @@ fn is_hypothesis(own: &[u32], judgment: usize, width: usize, ids: &[u32], many: 
     requires { many * suc width ≤ length ids.now }
     ensures { result ≡ row_among width many ids.now own.now judgment }
 {
-    let mut left = many;
     let mut at = 0;
-    while 0 < left {
+    for _ in 0..many {
         let end = at + width;
         if is_row(&ids[at..end], ids[end] as usize, own, judgment) {
             return true;
         }
         at = end + 1;
-        left -= 1;
     }
     false
 }
@@ -152,14 +125,23 @@ fn all_allowed(
         result ≡ all (λ h. allowed_hyp g.M g.ps (hyps_in (made g.I g.W g.m) width many ids.now) (entry g.S.facts h)) (fact_of g.S i).hyps }
 {
     let own = hyps_of(facts, i);
-    let mut at = own.from;
+    let from = own.from;
     let end = own.end;
-    while at < end {
-        let h = lists[at] as usize;
-        if !allowed(facts, lists, n, h, plain, used, x, width, ids, many) {
+    for h in &lists[from..end] {
+        if !allowed(
+            facts,
+            lists,
+            n,
+            *h as usize,
+            plain,
+            used,
+            x,
+            width,
+            ids,
+            many,
+        ) {
             return false;
         }
-        at += 1;
     }
     true
 }

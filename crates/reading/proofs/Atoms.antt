@@ -1,6 +1,6 @@
 -- An item that is an atom, by its bytes: the index that it spells, the variable that it names. Assumes nothing.
-use mathlib.Core.Path.{◌≡◌, refl, sym, ap, ◌∙◌}
-use Rattle.std.specs.Prelude.{Option, Some as some, None as nothing}
+use mathlib.Core.Path.{◌≡◌, sym, ap, ◌∙◌}
+use Rattle.std.specs.Prelude.{Option, None as nothing}
 use mathlib.Core.List.{List}
 use Prim.Native.Nat.{ℕ, ◌+◌, ◌-◌, ◌<◌, ◌≤◌}
 use native.Mathlib.Omega.{arith}
@@ -9,7 +9,6 @@ use Rattle.rules.specs.Lex.{letters}
 use Rattle.rules.specs.Sexp.{Sexp, Sexps, atom, list, cons}
 use Rattle.rules.specs.Index.{index_of}
 use Rattle.rules.specs.State.{Var, var_named}
-use Rattle.sexp.specs.Never.{never}
 use Rattle.sexp.specs.Encode.{encode, encodes}
 use Rattle.sexp.specs.Items.{Holds, item_at}
 use Rattle.sexp.specs.ItemLaws.{some_cells}
@@ -60,24 +59,13 @@ pub no_index : (x : Sexp) → ((xs : Sexps) × (x ≡ list xs)) → nothing ≡ 
 unfolding index_in
 no_index x l = ap (λ y. (index_in y)) (sym l.1)
 
-spelt_number : (o : Option ℕ) (r : Option ℕ) (i : ℕ) → r ≡ o → r ≡ some i → some i ≡ o
-spelt_number nothing r i a b = never cc
-spelt_number (some k) r i a b = let q : i ≡ k = cc in ap some q
-
-spelt_none : (o : Option ℕ) (r : Option ℕ) → r ≡ o → r ≡ nothing → nothing ≡ o
-spelt_none nothing r a b = refl
-spelt_none (some k) r a b = never cc
-
 module _ {text : List ℕ} {x : Sexp} {p : ℕ} (end : ℕ) (a : AtomText text x p) (e : end ≡ p + length (letters (drop p text))) where
   index_of_bytes : index_of (take (end - p) (drop p text)) ≡ index_in x
   unfolding index_in
   index_of_bytes = ap index_in (sym (atom_bytes end a e))
 
-  pub index_number : {r : Option ℕ} {i : ℕ} → r ≡ (index_of (take (end - p) (drop p text))) → r ≡ some i → some i ≡ (index_in x)
-  index_number {r} {i} s f = spelt_number (index_of (take (end - p) (drop p text))) r i s f ∙ index_of_bytes
-
-  pub index_none : {r : Option ℕ} → r ≡ (index_of (take (end - p) (drop p text))) → r ≡ nothing → nothing ≡ (index_in x)
-  index_none {r} s f = spelt_none (index_of (take (end - p) (drop p text))) r s f ∙ index_of_bytes
+  pub index_spelt : {r : Option ℕ} → r ≡ index_of (take (end - p) (drop p text)) → r ≡ index_in x
+  index_spelt s = s ∙ index_of_bytes
 
   -- A variable ----------------------------------------------------------------------------------------------------------------------
 

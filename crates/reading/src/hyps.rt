@@ -28,9 +28,10 @@ fn passes(facts: &[u32], i: usize, plain: bool) -> bool
     ensures { result ≡ elim plain [ true ↦ plain_row facts.now i | false ↦ not (eqb (cell 6 facts.now i 1) 0) ] }
 {
     if plain {
-        return is_plain(facts, i);
+        is_plain(facts, i)
+    } else {
+        is_assumed(facts, i)
     }
-    is_assumed(facts, i)
 }
 
 // The facts whose numbers the items spell come into the set, which is empty before: plain hypotheses, or any.

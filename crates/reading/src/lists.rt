@@ -75,10 +75,9 @@ fn put_within(out: &mut [u32], k: usize, t: usize)
     requires { t < 2 ^ 32 }
     ensures { out.new ≡ set out.old k t }
 {
-    if k >= out.len() {
-        return;
+    if k < out.len() {
+        out[k] = t as u32;
     }
-    out[k] = t as u32;
 }
 
 // The judgments that the items spell: their numbers come into the cells, which are zero before, as far as there are cells. What is answered is how

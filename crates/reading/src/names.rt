@@ -21,14 +21,17 @@ pub fn index(text: &[u8], cells: &[u32]) -> Option<usize>
         return None;
     };
     let end = lex::atom_end(text, start);
-    match index_of(&text[start..end]) {
-        Some(i) => Some(i),
-        None => None,
-    }
+    index_of(&text[start..end])
 }
 
 // The variable that the first item names.
-pub fn variable(goals: &[u8], text: &[u8], vars: &[u32], count: usize, cells: &[u32]) -> Option<usize>
+pub fn variable(
+    goals: &[u8],
+    text: &[u8],
+    vars: &[u32],
+    count: usize,
+    cells: &[u32],
+) -> Option<usize>
     requires { FirstItem text.now cells.now × SomeVars goals.now text.now vars.now count }
     ensures { (vs : List Var) (x : Sexp) (ys : Sexps) → VarsHeld goals.now text.now vars.now count vs →
         Holds text.now cells.now (cons x ys) → result ≡ variable_in vs x }

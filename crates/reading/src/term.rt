@@ -343,20 +343,9 @@ fn put_argument(node: &mut [u32], k: usize, t: usize)
     requires { (length node.old ≡ NODE) × (t < TERMS) }
     ensures { node.new ≡ elim (ltb k ARGUMENTS) [ true ↦ set node.old (k + 1) t | false ↦ node.old ] }
 {
-    if k >= rules::ARGUMENTS {
-        return;
+    if k < rules::ARGUMENTS {
+        node[k + 1] = t as u32;
     }
-    node[k + 1] = t as u32;
-}
-
-// Whether both are so.
-fn both(a: bool, b: bool) -> bool
-    ensures { result ≡ a && b }
-{
-    if a {
-        return b;
-    }
-    false
 }
 
 // The terms that the items spell, as the arguments of symbol c: the node over them, where they are as many as its inputs and each of its sort. What is
@@ -407,7 +396,7 @@ fn arguments(
         ) {
             Typed::Term(t, right, new) => {
                 put_argument(node, k, t);
-                fits = both(fits, right);
+                fits &= right;
                 m = new;
             }
             Typed::No(q, d, new) => {
@@ -417,8 +406,7 @@ fn arguments(
         at = items::after(cells, at);
         k += 1;
     }
-    let all = k == count;
-    Typed::Term(k + 1, both(fits, all), m)
+    Typed::Term(k + 1, fits & (k == count), m)
 }
 
 // The term of that sort that the first item spells.

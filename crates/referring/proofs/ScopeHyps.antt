@@ -6,8 +6,9 @@ use Rattle.std.specs.Prelude.{Option}
 use Prim.Native.Nat.{ℕ, ◌+◌, ◌*◌, ◌≤◌, ◌<◌}
 use native.Mathlib.Omega.{arith}
 use native.Mathlib.Numerals.{add-one}
-use lib.ListN.{length, get_or, drop, replicate, drop_of_length-le, get_or-append}
+use lib.ListN.{length, get_or, take, drop, replicate, drop_of_length-le}
 use lib.Seq.{sets, sets-eq, drop-cons}
+use Rattle.std.proofs.lemmas.List.{take_at}
 use Rattle.rules.specs.Limits.{FACTS, FACTWORDS, TERMWORDS, VARIABLEWORDS}
 use Rattle.rules.specs.Find.{Set, empty, union, rising}
 use Rattle.rules.specs.State.{Fact, free, free_at, hyp_vars}
@@ -26,8 +27,13 @@ use Rattle.referring.specs.Referral.{Gathered}
 
 -- The members written out ------------------------------------------------------------------------------------------------------------
 
-written : (l vs : List ℕ) (k : ℕ) → length vs ≤ length l → k < length vs → get_or (sets l 0 vs) k 0 ≡ get_or vs k 0
-written l vs k p h = ap (λ (t : List ℕ). get_or t k 0) (sets-eq vs l 0 (omega arith)) ∙ get_or-append vs (drop (0 + length vs) l) 0 k h
+written : (l vs : List ℕ) (n : ℕ) → n ≡ length vs → n ≤ length l → take n (sets l 0 vs) ≡ vs
+written l vs n e p = ap (take n) (sets-eq vs l 0 (omega arith)) ∙ take_at vs (drop (0 + length vs) l) n (sym e)
+
+pub members_out : (hyps : List ℕ) {out : List ℕ} {count : ℕ} → length hyps ≡ FACTWORDS → count ≡ length (rising (64 * length hyps) (holds hyps)) →
+    out ≡ sets (replicate FACTS 0) 0 (rising (64 * length hyps) (holds hyps)) → take count out ≡ rising (64 * length hyps) (holds hyps)
+members_out hyps {out} {count} f c w =
+    ap (take count) w ∙ written (replicate FACTS 0) (rising (64 * length hyps) (holds hyps)) count c (omega (arith, rising_few (64 * length hyps) (holds hyps)))
 
 -- Facts ------------------------------------------------------------------------------------------------------------------------------
 
@@ -46,15 +52,12 @@ module _ {facts lists : List ℕ} {n : Sizes} {I W : List ℕ} {m : Mark} (g : R
   pub members_are : rising (64 * length hyps) (holds hyps) ≡ members
   members_are = rising_under n.facts (64 * length hyps) (holds hyps) (omega (arith, g.recorded.many, g.recorded.rows.row12)) u
 
-  module _ {ids : List ℕ} {count k : ℕ} (c : count ≡ length (rising (64 * length hyps) (holds hyps)))
-      (w : ids ≡ sets (replicate FACTS 0) 0 (rising (64 * length hyps) (holds hyps))) (h : k < count) where
+  module _ {ids : List ℕ} {k : ℕ} (w : ids ≡ rising (64 * length hyps) (holds hyps)) (h : k < length ids) where
     few : k < length members
-    few = omega (arith, ap length members_are)
+    few = omega (arith, ap length (w ∙ members_are))
 
     pub member_is : get_or ids k 0 ≡ get_or members k 0
-    member_is =
-        ap (λ (l : List ℕ). get_or l k 0) (w ∙ ap (sets (replicate FACTS 0) 0) members_are)
-        ∙ written (replicate FACTS 0) members k (omega (arith, rising_few n.facts (holds hyps), g.recorded.many, g.recorded.rows.row12)) few
+    member_is = ap (λ (l : List ℕ). get_or l k 0) (w ∙ members_are)
 
     pub member_below : get_or ids k 0 < n.facts
     member_below =
@@ -73,33 +76,33 @@ pub joining_begins : {facts lists : List ℕ} {n : Sizes} {I W : List ℕ} {m : 
 joining_begins s = record { left = λ g. refl; visits = s; long_seen = refl; long_set = refl }
 
 module _ {facts lists : List ℕ} {n : Sizes} {I W : List ℕ} {m : Mark} {hyps seen₀ set₀ seen set : List ℕ} {k : ℕ} (v : Joining facts lists n I W m hyps seen₀ set₀ seen set k)
-    (p : Recalls facts lists n I W m) (u : Under n.facts (holds hyps)) (f : length hyps ≡ FACTWORDS) {count : ℕ}
-    (c : count ≡ length (rising (64 * length hyps) (holds hyps))) where
-  pub joining_ready : {ids : List ℕ} → length seen₀ ≡ TERMWORDS → length set₀ ≡ VARIABLEWORDS → ids ≡ sets (replicate FACTS 0) 0 (rising (64 * length hyps) (holds hyps)) → k < count
+    (p : Recalls facts lists n I W m) (u : Under n.facts (holds hyps)) (f : length hyps ≡ FACTWORDS) {ids : List ℕ}
+    (w : ids ≡ rising (64 * length hyps) (holds hyps)) where
+  pub joining_ready : length seen₀ ≡ TERMWORDS → length set₀ ≡ VARIABLEWORDS → k < length ids
       → Recalls facts lists n I W m × (get_or ids k 0 < n.facts) × (length seen ≡ TERMWORDS) × (length set ≡ VARIABLEWORDS)
-  joining_ready a b w h = (p, member_below p hyps u f c w h, v.long_seen ∙ a, v.long_set ∙ b)
+  joining_ready a b h = (p, member_below p hyps u f w h, v.long_seen ∙ a, v.long_set ∙ b)
 
-  pub joining_on : {ids seen' set' : List ℕ} → ids ≡ sets (replicate FACTS 0) 0 (rising (64 * length hyps) (holds hyps)) → k < count → length seen' ≡ length seen → length set' ≡ length set
+  pub joining_on : {seen' set' : List ℕ} → k < length ids → length seen' ≡ length seen → length set' ≡ length set
       → ((g : Recalls facts lists n I W m) → Gathered I W m (free (fact_of g.S (get_or ids k 0))) (holds set) (holds seen') (holds set'))
       → Joining facts lists n I W m hyps seen₀ set₀ seen' set' (k + 1)
-  joining_on {ids} {seen'} {set'} w h x y j = record { left = left; visits = (j p).visits; long_seen = x ∙ v.long_seen; long_set = y ∙ v.long_set }
+  joining_on {seen'} {set'} h x y j = record { left = left; visits = (j p).visits; long_seen = x ∙ v.long_seen; long_set = y ∙ v.long_set }
     where
       left : (g : Recalls facts lists n I W m)
           → union (holds set') (hyp_vars g.S.facts (drop (k + 1) (rising n.facts (holds hyps)))) ≡ union (holds set₀) (hyp_vars g.S.facts (rising n.facts (holds hyps)))
       left g =
           let xs = rising n.facts (holds hyps) in
           let fs = g.S.facts in
-          let z : k < length xs = omega (arith, ap length (members_are g hyps u f)) in
-          let b = member_below g hyps u f c w h in
+          let z : k < length xs = omega (arith, ap length (w ∙ members_are g hyps u f)) in
+          let b = member_below g hyps u f w h in
           let s : hyp_vars fs (drop k xs) ≡ union (free (get_or fs (get_or ids k 0) no_fact)) (hyp_vars fs (drop (k + 1) xs)) =
-          ap (hyp_vars fs) (drop-cons xs k 0 z ∙ (λ i. sym (member_is g hyps u f c w h) i ∷ drop (sym (add-one k) i) xs))
+          ap (hyp_vars fs) (drop-cons xs k 0 z ∙ (λ i. sym (member_is g hyps u f w h) i ∷ drop (sym (add-one k) i) xs))
           ∙ hyp_next fs (get_or ids k 0) (drop (k + 1) xs) (omega (arith, g.recorded.many)) in
           ap (λ (a : Set). union a (hyp_vars fs (drop (k + 1) xs))) (j g).set
           ∙ union_assoc (holds set) (free (get_or fs (get_or ids k 0) no_fact)) (hyp_vars fs (drop (k + 1) xs))
           ∙ ap (union (holds set)) (sym s) ∙ v.left g
 
-  pub joining_ends : count ≤ k → (g : Recalls facts lists n I W m) → holds set ≡ union (holds set₀) (hyp_vars g.S.facts (rising n.facts (holds hyps)))
+  pub joining_ends : length ids ≤ k → (g : Recalls facts lists n I W m) → holds set ≡ union (holds set₀) (hyp_vars g.S.facts (rising n.facts (holds hyps)))
   joining_ends h g =
       let xs = rising n.facts (holds hyps) in
-      let z : length xs ≤ k = omega (arith, ap length (members_are g hyps u f)) in
+      let z : length xs ≤ k = omega (arith, ap length (w ∙ members_are g hyps u f)) in
       sym (union_empty (holds set)) ∙ ap (union (holds set)) (sym (ap (hyp_vars g.S.facts) (drop_of_length-le xs z) ∙ hyp_none g.S.facts)) ∙ v.left g

@@ -160,10 +160,8 @@ pub fn insert_all(ids: &[u32], set: &mut [u64])
     requires { (k : ℕ) → k < length ids.now → get_or ids.now k 0 < 64 * length set.old }
     ensures { holds set.new ≡ union (holds set.old) (has ids.now) }
 {
-    let mut k = 0;
-    while k < ids.len() {
-        insert(set, ids[k] as usize);
-        k += 1;
+    for id in ids {
+        insert(set, *id as usize);
     }
 }
 

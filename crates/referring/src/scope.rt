@@ -34,10 +34,8 @@ pub fn visit_all(
     requires seen { Seen index.now words.now mark (holds seen.old) (holds set.old) }
     ensures { Gathered index.now words.now mark (variables_of (args_of (made index.now words.now mark) ids.now)) (holds set.old) (holds seen.new) (holds set.new) }
 {
-    let mut k = 0;
-    while k < ids.len() {
-        visit(index, words, mark, ids[k] as usize, seen, set);
-        k += 1;
+    for id in ids {
+        visit(index, words, mark, *id as usize, seen, set);
     }
 }
 
@@ -137,20 +135,8 @@ fn join_hyps(
 {
     let mut ids = [0u32; FACTS];
     let count = write_out(hyps, &mut ids);
-    let mut k = 0;
-    while k < count {
-        join_free(
-            facts,
-            lists,
-            n,
-            index,
-            words,
-            mark,
-            ids[k] as usize,
-            seen,
-            set,
-        );
-        k += 1;
+    for id in &ids[..count] {
+        join_free(facts, lists, n, index, words, mark, *id as usize, seen, set);
     }
 }
 
@@ -248,9 +234,7 @@ pub fn visit_cells(
     requires seen { Seen index.now words.now mark (holds seen.old) (holds set.old) }
     ensures { Gathered index.now words.now mark (cell_vars (made index.now words.now mark) cells.now) (holds set.old) (holds seen.new) (holds set.new) }
 {
-    let mut k = 0;
-    while k < cells.len() {
-        visit_cell(index, words, mark, cells[k] as usize, seen, set);
-        k += 1;
+    for cell in cells {
+        visit_cell(index, words, mark, *cell as usize, seen, set);
     }
 }

@@ -45,13 +45,11 @@ fn list_missing(rows: &[u32], count: usize, missing: &mut [u32]) -> usize
     ensures { (g : GoalRows rows.now count) → (result ≡ length (unproved g.gs)) × (missing.new ≡ filled GOALS (unproved g.gs)) }
 {
     let mut many = 0;
-    let mut k = 0;
-    while k < count {
+    for k in 0..count {
         if !is_taken(rows, k) {
             missing[many] = (k + 1) as u32;
             many += 1;
         }
-        k += 1;
     }
     many
 }
@@ -62,12 +60,10 @@ fn count_open(rows: &[u32], index: &[u32], count: usize) -> usize
     ensures { (g : OpenRows rows.now index.now count) → result ≡ count_open g.gs }
 {
     let mut many = 0;
-    let mut k = 0;
-    while k < count {
+    for k in 0..count {
         if is_open(index, goal_judgment(rows, k)) {
             many += 1;
         }
-        k += 1;
     }
     many
 }
@@ -92,7 +88,7 @@ fn counted(s: Run, c: Counts, open_goals: usize) -> Answer
     Answer::Accepted(Report {
         steps: n.facts,
         goals: n.goals,
-        open_goals: open_goals,
+        open_goals,
         hypotheses: c.hypotheses,
         inductions: c.inductions,
         inversions: c.inversions,

@@ -70,11 +70,11 @@ pub fn stopped(n: Sizes, mark: Mark, number: usize, text: usize, form: usize, de
         at: 0,
         forms: 0,
         sizes: n,
-        mark: mark,
-        number: number,
-        text: text,
-        form: form,
-        detail: detail,
+        mark,
+        number,
+        text,
+        form,
+        detail,
     }
 }
 
@@ -88,7 +88,7 @@ pub fn started(n: Sizes, mark: Mark) -> Run
         at: 0,
         forms: 0,
         sizes: n,
-        mark: mark,
+        mark,
         number: 0,
         text: 0,
         form: 0,
@@ -104,10 +104,10 @@ pub fn moved(s: Run, at: usize, n: Sizes, mark: Mark) -> Run
     Run {
         fit: s.fit,
         going: true,
-        at: at,
+        at,
         forms: s.forms + 1,
         sizes: n,
-        mark: mark,
+        mark,
         number: 0,
         text: 0,
         form: 0,
@@ -119,19 +119,13 @@ pub fn moved(s: Run, at: usize, n: Sizes, mark: Mark) -> Run
 pub fn ended(s: Run) -> Run
     ensures { result ≡ ended_run s }
 {
-    let n = s.sizes;
-    let mark = s.mark;
     Run {
-        fit: s.fit,
         going: false,
-        at: s.at,
-        forms: s.forms,
-        sizes: n,
-        mark: mark,
         number: 0,
         text: 0,
         form: 0,
         detail: 0,
+        ..s
     }
 }
 
@@ -139,19 +133,13 @@ pub fn ended(s: Run) -> Run
 pub fn refused(s: Run, number: usize, detail: usize) -> Run
     ensures { result ≡ refused_run s number detail }
 {
-    let n = s.sizes;
-    let mark = s.mark;
     Run {
-        fit: s.fit,
         going: false,
-        at: s.at,
-        forms: s.forms,
-        sizes: n,
-        mark: mark,
-        number: number,
+        number,
         text: 3,
         form: s.forms,
-        detail: detail,
+        detail,
+        ..s
     }
 }
 

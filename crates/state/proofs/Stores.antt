@@ -1,15 +1,14 @@
--- Rows that are written cell by cell, and cells that are read as flags. Assumes nothing.
+-- Rows that are written cell by cell or as a whole. Assumes nothing.
 use mathlib.Core.Path.{◌≡◌, refl, sym, ap, ◌∙◌}
 use Prim.Native.Nat.{ℕ, suc, ◌+◌, ◌-◌, ◌*◌, ◌≤◌}
-use mathlib.Core.Bool.{false, not, ◌&&◌}
 use mathlib.Core.List.{List, [], ◌∷◌, ◌++◌, append-nil, append_assoc}
 use native.Mathlib.Omega.{arith}
 use native.Mathlib.Numerals.{add-one, add-two}
-use lib.Dec.{eqb}
 use lib.ListN.{length, get_or, take, drop, set, length-drop, drop_of_length-le}
 use lib.Seq.{sets, sets-eq, take_all, drop-drop}
-use borrow.Author.Tests.{eq-eqb, ne_eqb}
-use Rattle.state.specs.Rows.{plain_row}
+use borrow.Rule.Slice.PartMut.{put_mid}
+use Rattle.std.proofs.lemmas.Slice.{put_mid-paste}
+use Rattle.std.proofs.lemmas.List.Edits.{paste_all}
 
 -- the first cell of a row
 pub first_cell : (l : List ℕ) (i : ℕ) → get_or l i 0 ≡ get_or l (i + 0) 0
@@ -31,14 +30,11 @@ stores6 l i a b c d e f =
     let five : i + 5 ≡ suc (suc (suc (suc (suc i)))) = omega arith in
     rw (add-one i, add-two i, three i, four, five)
 
--- four words
-pub words4 : (l : List ℕ) → length l ≡ 4 → get_or l 0 0 ∷ get_or l 1 0 ∷ get_or l 2 0 ∷ get_or l 3 0 ∷ [] ≡ l
-words4 (a ∷ b ∷ c ∷ d ∷ []) e = refl
-words4 [] e = absurd (omega arith)
-words4 (a ∷ []) e = absurd (omega arith)
-words4 (a ∷ b ∷ []) e = absurd (omega arith)
-words4 (a ∷ b ∷ c ∷ []) e = absurd (omega arith)
-words4 (a ∷ b ∷ c ∷ d ∷ x ∷ l) e = absurd (omega arith)
+-- a part that is copied over whole
+pub stored_part : (l part vs : List ℕ) (at n : ℕ) → part ≡ vs → n ≡ length vs → at + length vs ≤ length l → put_mid at n l part ≡ sets l at vs
+stored_part l part vs at n e f h =
+    put_mid-paste at n l part vs n e refl f ∙ paste_all l at vs n f ∙ ap (λ k. take at l ++ (vs ++ drop (at + k) l)) f
+    ∙ sym (append_assoc (take at l) vs (drop (at + length vs) l)) ∙ sym (sets-eq vs l at h)
 
 -- the fourth row of four words
 pub row4 : (l : List ℕ) (i : ℕ) → take (4 * i + 4 - 4 * i) (drop (4 * i) l) ≡ take 4 (drop (4 * i) l)
@@ -56,22 +52,3 @@ tail_sets l at tail vs h e =
     ∙ ap (λ t. take at l ++ ((vs ++ drop (at + length vs) l) ++ t)) (drop_of_length-le (drop at l) {i = length l - at} (omega arith))
     ∙ ap (λ t. take at l ++ t) (append-nil (vs ++ drop (at + length vs) l))
     ∙ sym (append_assoc (take at l) vs (drop (at + length vs) l)) ∙ sym (sets-eq vs l at h)
-
--- A plain hypothesis -------------------------------------------------------------------------------------------------------------
-
-pub plain_not : (facts : List ℕ) (i : ℕ) → get_or facts (6 * i + 1) 0 ≡ 0 → false ≡ plain_row facts i
-plain_not facts i e =
-    sym (ap (λ b. not b && (eqb (get_or facts (6 * i + 4) 0) 0 && eqb (get_or facts (6 * i + 5) 0) 0)) (eq-eqb (get_or facts (6 * i + 1) 0) 0 e))
-
-assumed_row : (facts : List ℕ) (i : ℕ) → (get_or facts (6 * i + 1) 0 ≡ 0 → ⊥) →
-    eqb (get_or facts (6 * i + 4) 0) 0 && eqb (get_or facts (6 * i + 5) 0) 0 ≡ plain_row facts i
-assumed_row facts i h =
-    sym (ap (λ b. not b && (eqb (get_or facts (6 * i + 4) 0) 0 && eqb (get_or facts (6 * i + 5) 0) 0)) (ne_eqb (get_or facts (6 * i + 1) 0) 0 h))
-
-pub plain_premised : (facts : List ℕ) (i : ℕ) → (get_or facts (6 * i + 1) 0 ≡ 0 → ⊥) → (get_or facts (6 * i + 4) 0 ≡ 0 → ⊥) → false ≡ plain_row facts i
-plain_premised facts i h k =
-    sym (ap (λ b. b && eqb (get_or facts (6 * i + 5) 0) 0) (ne_eqb (get_or facts (6 * i + 4) 0) 0 k)) ∙ assumed_row facts i h
-
-pub plain_last : (facts : List ℕ) (i : ℕ) → (get_or facts (6 * i + 1) 0 ≡ 0 → ⊥) → get_or facts (6 * i + 4) 0 ≡ 0 →
-    eqb (get_or facts (6 * i + 5) 0) 0 ≡ plain_row facts i
-plain_last facts i h e = sym (ap (λ b. b && eqb (get_or facts (6 * i + 5) 0) 0) (eq-eqb (get_or facts (6 * i + 4) 0) 0 e)) ∙ assumed_row facts i h

@@ -12,14 +12,14 @@ use crate::sizes::Sizes;
 use terms::sets::{count, union_into, write_out};
 
 // Entries of the lists: the first place, and the place behind the last.
-#[derive(Clone, Copy)]
+#[derive(Clone, Copy, Debug, PartialEq, Eq)]
 pub struct Span {
     pub from: usize,
     pub end: usize,
 }
 
 // The number of entries in use then, or the row of question 60 that has no room.
-#[derive(Clone, Copy)]
+#[derive(Clone, Copy, Debug, PartialEq, Eq)]
 pub enum Put {
     Stored(usize),
     Full(usize),
@@ -54,13 +54,7 @@ pub fn is_plain(facts: &[u32], i: usize) -> bool
     ensures { result ≡ plain_row facts.now i }
 {
     let at = 6 * i;
-    if facts[at + 1] == 0 {
-        return false;
-    }
-    if facts[at + 4] != 0 {
-        return false;
-    }
-    facts[at + 5] == 0
+    facts[at + 1] != 0 && facts[at + 4] == 0 && facts[at + 5] == 0
 }
 
 // The entries of fact i's hypotheses.
@@ -71,7 +65,7 @@ pub fn hyps(facts: &[u32], i: usize) -> Span
     let at = 6 * i;
     let from = facts[at + 2] as usize;
     Span {
-        from: from,
+        from,
         end: from + facts[at + 3] as usize,
     }
 }
@@ -84,7 +78,7 @@ pub fn premises(facts: &[u32], i: usize) -> Span
     let at = 6 * i;
     let from = facts[at + 2] as usize + facts[at + 3] as usize;
     Span {
-        from: from,
+        from,
         end: from + facts[at + 4] as usize,
     }
 }
@@ -97,7 +91,7 @@ pub fn general(facts: &[u32], i: usize) -> Span
     let at = 6 * i;
     let from = facts[at + 2] as usize + facts[at + 3] as usize + facts[at + 4] as usize;
     Span {
-        from: from,
+        from,
         end: from + facts[at + 5] as usize,
     }
 }
@@ -141,10 +135,8 @@ fn put_footing(footings: &mut [u64], i: usize, footing: &[u64])
     ensures { footings.new ≡ sets footings.old (4 * i) footing.now }
 {
     let at = 4 * i;
-    footings[at] = footing[0];
-    footings[at + 1] = footing[1];
-    footings[at + 2] = footing[2];
-    footings[at + 3] = footing[3];
+    let end = at + 4;
+    footings[at..end].copy_from_slice(footing);
 }
 
 // A derived fact behind the others: its row, its hypotheses by rising number, its footing.

@@ -34,7 +34,7 @@ pub fn goal_hyps(goals: &[u32], k: usize) -> Span
     let at = 6 * k;
     let from = goals[at + 3] as usize;
     Span {
-        from: from,
+        from,
         end: from + goals[at + 4] as usize,
     }
 }

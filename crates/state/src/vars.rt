@@ -25,16 +25,20 @@ fn is_var(goals: &[u8], text: &[u8], vars: &[u32], count: usize, i: usize, name:
 }
 
 // The variable with these bytes for a name.
-pub fn var_named(goals: &[u8], text: &[u8], vars: &[u32], count: usize, name: &[u8]) -> Option<usize>
+pub fn var_named(
+    goals: &[u8],
+    text: &[u8],
+    vars: &[u32],
+    count: usize,
+    name: &[u8],
+) -> Option<usize>
     requires { SomeVars goals.now text.now vars.now count }
     ensures { (vs : List Var) → VarsHeld goals.now text.now vars.now count vs → result ≡ var_named vs name.now }
 {
-    let mut i: usize = 0;
-    while i < count {
+    for i in 0..count {
         if is_var(goals, text, vars, count, i, name) {
             return Some(i);
         }
-        i += 1;
     }
     None
 }

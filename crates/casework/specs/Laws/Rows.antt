@@ -6,6 +6,7 @@ use Rattle.std.proofs.Math.Bool.{true, false}
 use Rattle.std.proofs.lemmas.Bool.{false≢true, not-true, not-false}
 use mathlib.Core.List.{List, [], ◌∷◌}
 use Rattle.std.proofs.Math.Dec.{eqb}
+use lib.Pointwise.{pointwise}
 use Rattle.rules.specs.Limits.{FACTS, ENTRIES}
 use Rattle.rules.specs.Text.{same}
 use Rattle.rules.specs.Find.{Set, union, has}
@@ -55,6 +56,17 @@ words_same [] [] = refl
 words_same [] (y ∷ ys) = refl
 words_same (x ∷ xs) [] = refl
 words_same (x ∷ xs) (y ∷ ys) = ap (λ (b : Bool). elim (eqb x y) [ true ↦ b | false ↦ false ]) (words_same xs ys)
+
+pub cells_same : (xs ys : List ℕ) → pointwise eqb xs ys ≡ same xs ys
+unfolding same
+cells_same [] [] = refl
+cells_same [] (y ∷ ys) = refl
+cells_same (x ∷ xs) [] = refl
+cells_same (x ∷ xs) (y ∷ ys) = go (eqb x y) (cells_same xs ys)
+  where
+    go : (b : Bool) → pointwise eqb xs ys ≡ same xs ys → (b && pointwise eqb xs ys) ≡ elim b [ true ↦ same xs ys | false ↦ false ]
+    go true e = e
+    go false e = refl
 
 -- What is asked of the tables ----------------------------------------------------------------------------------------------------------------
 
@@ -134,17 +146,18 @@ module _ {facts lists : List ℕ} {n : Sizes} {I W : List ℕ} {m : Mark} (g : R
       pub row_other : (r : ℕ) → r ≡ cell 6 facts h 0 → (r ≡ j → ⊥) → false ≡ is_allowed (fact_of g.S h) (allowed_of (made I W m) ids j gs)
       row_other r e q = sym (row_is ∙ and_mid_false (same ids (part lists (premises_span facts h))) (eqb j (cell 6 facts h 0)) (same gs (part lists (general_span facts h))) (ne_eqb j (cell 6 facts h 0) (λ z. q (e ∙ sym z))))
 
-      pub row_else : (p : Span) → p ≡ premises_span facts h → (b : Bool) → b ≡ same ids (part lists p) → not b ≡ true →
+      pub row_else : (p : Span) → p ≡ premises_span facts h → {b : Bool} → b ≡ not (pointwise eqb ids (part lists p)) → b ≡ true →
           false ≡ is_allowed (fact_of g.S h) (allowed_of (made I W m) ids j gs)
-      row_else p d b e q =
-          sym (row_is ∙ and_false (same ids (part lists (premises_span facts h))) (eqb j (cell 6 facts h 0) && same gs (part lists (general_span facts h))) (ap (λ (s : Span). same ids (part lists s)) (sym d) ∙ sym e ∙ not-true b q))
+      row_else p d e q =
+          sym (row_is ∙ and_false (same ids (part lists (premises_span facts h))) (eqb j (cell 6 facts h 0) && same gs (part lists (general_span facts h)))
+          (ap (λ (s : Span). same ids (part lists s)) (sym d) ∙ sym (cells_same ids (part lists p)) ∙ not-true (pointwise eqb ids (part lists p)) (sym e ∙ q)))
 
-      pub row_so : (r : ℕ) → r ≡ cell 6 facts h 0 → r ≡ j → (p : Span) → p ≡ premises_span facts h → (b : Bool) → b ≡ same ids (part lists p) → not b ≡ false →
-          (s : Span) → s ≡ general_span facts h → (c : Bool) → c ≡ same gs (part lists s) → c ≡ is_allowed (fact_of g.S h) (allowed_of (made I W m) ids j gs)
-      row_so r e f p d b y q s z c w =
+      pub row_so : (r : ℕ) → r ≡ cell 6 facts h 0 → r ≡ j → (p : Span) → p ≡ premises_span facts h → {b : Bool} → b ≡ not (pointwise eqb ids (part lists p)) → b ≡ false →
+          (s : Span) → s ≡ general_span facts h → {c : Bool} → c ≡ pointwise eqb gs (part lists s) → c ≡ is_allowed (fact_of g.S h) (allowed_of (made I W m) ids j gs)
+      row_so r e f p d y q s z {c} w =
           sym (row_is ∙ and_both (same ids (part lists (premises_span facts h))) (eqb j (cell 6 facts h 0)) (same gs (part lists (general_span facts h))) c
-          (ap (λ (u : Span). same ids (part lists u)) (sym d) ∙ sym y ∙ not-false b q) (eq-eqb j (cell 6 facts h 0) (sym f ∙ e))
-          (w ∙ ap (λ (u : Span). same gs (part lists u)) z))
+          (ap (λ (u : Span). same ids (part lists u)) (sym d) ∙ sym (cells_same ids (part lists p)) ∙ not-false (pointwise eqb ids (part lists p)) (sym y ∙ q)) (eq-eqb j (cell 6 facts h 0) (sym f ∙ e))
+          (w ∙ cells_same gs (part lists s) ∙ ap (λ (u : Span). same gs (part lists u)) z))
 
 -- what `mark_one` did
 pub mark_none : {b p : Bool} (h : ℕ) (fine : List ℕ) → b ≡ p → not b ≡ true → OneMarked p h fine fine

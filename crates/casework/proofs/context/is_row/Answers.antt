@@ -1,8 +1,6 @@
-use mathlib.Core.Path.{ap}
 use native.Mathlib.Omega.{arith}
 use Rattle.casework.specs.Laws.Rows.{facts_asked, premises_low, premises_high, general_low, general_high, row_other, row_else, row_so}
 use Rattle.casework.specs.Laws.Rows.{lists_are}
-use mathlib.Core.Bool.{not}
 use Rattle.casework.proofs.context.is_row.Goals as goal
 
 pub judgment-requires : goal.judgment-requires
@@ -23,19 +21,6 @@ offset_bounds-lists-from c = omega (
       c.requires.0,
 )
 
-pub slice_bounds-same_cells-count : goal.slice_bounds-same_cells-count
-slice_bounds-same_cells-count c = premises_low c.requires.0 c.requires.1 c.premises-own.ensures
-
-pub slice_bounds-same_cells-start : goal.slice_bounds-same_cells-start
-slice_bounds-same_cells-start c = premises_low c.requires.0 c.requires.1 c.premises-own.ensures
-
-pub slice_bounds-same_cells-end : goal.slice_bounds-same_cells-end
-slice_bounds-same_cells-end c = premises_high c.requires.0 c.requires.1 c.premises-own.ensures
-
-pub returns-then-not-same_cells : goal.returns-then-not-same_cells
-returns-then-not-same_cells c = λ g. row_else g c.requires.1 _ _ c.requires.2 c.requires.3 c.premises-own.result c.premises-own.ensures c.same_cells.result c.same_cells.ensures
-    (ap not c.if-not-same_cells.true)
-
 pub general-bound-requires : goal.general-bound-requires
 general-bound-requires c = facts_asked c.requires.0 c.requires.1
 
@@ -48,16 +33,15 @@ offset_bounds-lists-first c = omega (
       c.requires.0,
 )
 
-pub slice_bounds-same_cells-count-2 : goal.slice_bounds-same_cells-count-2
-slice_bounds-same_cells-count-2 c = general_low c.requires.0 c.requires.1 c.general-bound.ensures
+pub slice_bounds-ne-end : goal.slice_bounds-ne-end
+slice_bounds-ne-end c = premises_high c.requires.0 c.requires.1 c.premises-own.ensures
 
-pub slice_bounds-same_cells-start-2 : goal.slice_bounds-same_cells-start-2
-slice_bounds-same_cells-start-2 c = general_low c.requires.0 c.requires.1 c.general-bound.ensures
+pub slice_bounds-eq-end : goal.slice_bounds-eq-end
+slice_bounds-eq-end c = general_high c.requires.0 c.requires.1 c.general-bound.ensures
 
-pub slice_bounds-same_cells-end-2 : goal.slice_bounds-same_cells-end-2
-slice_bounds-same_cells-end-2 c = general_high c.requires.0 c.requires.1 c.general-bound.ensures
+pub returns-then-ne : goal.returns-then-ne
+returns-then-ne c = λ g. row_else g c.requires.1 _ _ c.requires.2 c.requires.3 c.premises-own.result c.premises-own.ensures c.ne.ensures c.if-ne.true
 
 pub returns : goal.returns
 returns c = λ g. row_so g c.requires.1 _ _ c.requires.2 c.requires.3 c.judgment.result c.judgment.ensures c.if-judgment-j.false c.premises-own.result c.premises-own.ensures
-    c.same_cells.result c.same_cells.ensures (ap not c.if-not-same_cells.false) c.general-bound.result c.general-bound.ensures c.same_cells-2.result
-    c.same_cells-2.ensures
+    c.ne.ensures c.if-ne.false c.general-bound.result c.general-bound.ensures c.eq.ensures

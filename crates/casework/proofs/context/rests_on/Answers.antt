@@ -1,6 +1,6 @@
-use mathlib.Core.Path.{ap}
+use mathlib.Core.Path.{ap, ◌∙◌}
 use native.Mathlib.Omega.{arith}
-use Rattle.casework.specs.Laws.Loops.{rests_few, rests_asked, rests_small, rests_plain, rests_none, rests_fine}
+use Rattle.casework.specs.Laws.Loops.{rests_asked, rests_small, rests_plain, rests_none, rests_fine}
 use mathlib.Core.Bool.{not}
 use Rattle.casework.proofs.context.rests_on.Goals as goal
 
@@ -20,13 +20,10 @@ returns-then-is_plain c = λ g. rests_plain g c.requires.1 _ _ c.is_plain.result
 pub is_assumed-requires : goal.is_assumed-requires
 is_assumed-requires c = rests_asked c.requires.0 c.requires.1
 
-pub returns-then-not-is_assumed : goal.returns-then-not-is_assumed
-returns-then-not-is_assumed c = λ g. rests_none g c.requires.1 _ _ c.is_plain.result c.is_plain.ensures c.if-is_plain.false c.is_assumed.result c.is_assumed.ensures
-    (ap not c.if-not-is_assumed.true)
+pub returns-then-is_assumed : goal.returns-then-is_assumed
+returns-then-is_assumed c = λ g. rests_fine g c.requires.1 _ _ c.is_plain.result c.is_plain.ensures c.if-is_plain.false c.is_assumed.result c.is_assumed.ensures
+    c.has-then-is_assumed.result (ap not c.if-is_assumed.true) c.has-then-is_assumed.ensures
 
-pub has-requires-2 : goal.has-requires-2
-has-requires-2 c = omega (arith, c.requires.1, rests_few c.requires.0, c.requires.3)
-
-pub returns : goal.returns
-returns c = λ g. rests_fine g c.requires.1 _ _ c.is_plain.result c.is_plain.ensures c.if-is_plain.false c.is_assumed.result c.is_assumed.ensures
-    c.has-2.result (ap not c.if-not-is_assumed.false) c.has-2.ensures
+pub returns-else-is_assumed : goal.returns-else-is_assumed
+returns-else-is_assumed c = λ g. c.if-is_assumed.false ∙ rests_none g c.requires.1 _ _ c.is_plain.result c.is_plain.ensures c.if-is_plain.false c.is_assumed.result c.is_assumed.ensures
+    (ap not c.if-is_assumed.false)

@@ -1,5 +1,5 @@
 use mathlib.Core.Path.{◌≡◌}
-use Prim.Native.Nat.{◌-◌, ◌≤◌}
+use Prim.Native.Nat.{◌≤◌}
 use lib.ListN.{length, drop}
 use Rattle.rules.specs.Find.{all}
 use Rattle.terms.specs.Sets.{holds}
@@ -7,8 +7,5 @@ use Rattle.referring.specs.Recall.{fact_of}
 use Rattle.casework.specs.Context.{RestsGiven, rests_by}
 use Rattle.casework.proofs.context.rests_on_all.Given as goal
 
-abbrev pub invariant-loop-k : goal.invariant-loop-k
-invariant-loop-k l = (l.k ≤ length l.own) × ((g : RestsGiven l.facts l.n) → all (λ h. rests_by g.trees (fact_of g.S h) h (holds l.plain) (holds l.fine)) l.own ≡ all (λ h. rests_by g.trees (fact_of g.S h) h (holds l.plain) (holds l.fine)) (drop l.k l.own))
-
-abbrev pub decreases-loop-k : goal.decreases-loop-k
-decreases-loop-k l = length l.own - l.k
+abbrev pub invariant-loop-h : goal.invariant-loop-h
+invariant-loop-h l = (l.h-index ≤ length l.own) × ((g : RestsGiven l.facts l.n) → all (λ h. rests_by g.trees (fact_of g.S h) h (holds l.plain) (holds l.fine)) l.own ≡ all (λ h. rests_by g.trees (fact_of g.S h) h (holds l.plain) (holds l.fine)) (drop l.h-index l.own))

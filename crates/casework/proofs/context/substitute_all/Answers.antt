@@ -11,9 +11,6 @@ loop-k-init c = (omega arith, refl, refl, substituting_start c.requires)
 pub bounds-ids-k : goal.bounds-ids-k
 bounds-ids-k c = omega arith
 
-pub overflow_cast-ids : goal.overflow_cast-ids
-overflow_cast-ids c = omega (arith, c.type_inv.map c.loop-k.k, c.type_inv.ids c.loop-k.k, c.type_inv.ids c.loop-k.k)
-
 pub substitute-requires : goal.substitute-requires
 substitute-requires c = record {
   replaceable = replaceable_now c.loop-k.invariant.3.on.grown c.args.map.now c.requires.within (c.requires.there c.loop-k.k c.loop-k-test.true);
@@ -50,9 +47,6 @@ returns-in-Full c = record {
       c.substitute.ensures.after c.in-Full.is);
   memo_unchanged = c.substitute.ensures.memo_unchanged ∙ c.loop-k.invariant.2;
 }
-
-pub overflow_add-k : goal.overflow_add-k
-overflow_add-k c = omega arith
 
 pub loop-k-smaller : goal.loop-k-smaller
 loop-k-smaller c = omega arith

@@ -4,7 +4,7 @@ use mathlib.Core.Path.{refl, sym}
 use mathlib.Core.Path.{ap}
 use mathlib.Core.Bool.{not}
 use Rattle.derivation.proofs.apply.binds_general.Goals as goal
-use Rattle.derivation.proofs.apply.binds_general.Goals.{then-bound-v-ne0+else-not-has, else-bound-v-ne0}
+use Rattle.derivation.proofs.apply.binds_general.Goals.{else-cell-ne0-via-then-cell-ne0+else-not-has, else-cell-ne0-via-else-cell-ne0}
 
 pub general-span-requires : goal.general-span-requires
 general-span-requires c = rule_asks c.requires.0
@@ -30,12 +30,6 @@ insert_all-requires c = general_small c.requires.0 c.general-span.ensures
 pub loop-v-init : goal.loop-v-init
 loop-v-init c = (c.insert_all.auto.set, c.requires.1, general_begins _ _ _ _ _ _ _ c.general-span.ensures refl c.insert_all.ensures)
 
-pub offset_bounds-bound-v : goal.offset_bounds-bound-v
-offset_bounds-bound-v c = omega (arith, c.loop-v-test.true, c.requires.1)
-
-pub bounds-bound-v : goal.bounds-bound-v
-bounds-bound-v c = c.loop-v-test.true
-
 pub slice_bounds-has-end : goal.slice_bounds-has-end
 slice_bounds-has-end c = sym c.loop-v.invariant.0
 
@@ -43,10 +37,7 @@ pub has-requires : goal.has-requires
 has-requires c = omega (arith, c.loop-v-test.true, c.loop-v.invariant.0, c.requires.1)
 
 pub returns-then-not-has : goal.returns-then-not-has
-returns-then-not-has c = λ g M. general_out c.loop-v.invariant.2 c.loop-v-test.true g M c.if-bound-v-ne0.true c.has.ensures (ap not c.if-not-has.true)
-
-pub overflow_add-v : goal.overflow_add-v
-overflow_add-v c = omega (arith, c.loop-v-test.true, c.requires.1)
+returns-then-not-has c = λ g M. general_out c.loop-v.invariant.2 c.loop-v-test.true g M c.if-cell-ne0.true c.has.ensures (ap not c.if-not-has.true)
 
 pub loop-v-smaller : goal.loop-v-smaller
 loop-v-smaller c = omega (arith, c.loop-v-test.true)
@@ -55,9 +46,9 @@ pub loop-v-preserved : goal.loop-v-preserved
 loop-v-preserved c = (
   c.loop-v.invariant.0,
   c.loop-v.invariant.1,
-  elim c.if-bound-v-ne0.branch [
-    | then-bound-v-ne0+else-not-has w ↦ general_in c.loop-v.invariant.2 c.loop-v-test.true w.if-bound-v-ne0.true w.has.ensures (ap not w.if-not-has.false)
-    | else-bound-v-ne0 w ↦ general_skip c.loop-v.invariant.2 c.loop-v-test.true w.if-bound-v-ne0.false
+  elim c.else-cell-ne0.branch [
+    | else-cell-ne0-via-then-cell-ne0+else-not-has w ↦ general_in c.loop-v.invariant.2 c.loop-v-test.true w.if-cell-ne0.true w.has.ensures (ap not w.if-not-has.false)
+    | else-cell-ne0-via-else-cell-ne0 w ↦ general_skip c.loop-v.invariant.2 c.loop-v-test.true w.if-cell-ne0.false
   ],
 )
 

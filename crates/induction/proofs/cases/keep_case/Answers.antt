@@ -16,14 +16,8 @@ offset_bounds-own-k c = omega (arith, c.loop-k-test.true, c.well_formed.1.1.1.1.
 pub bounds-own-k : goal.bounds-own-k
 bounds-own-k c = c.loop-k-test.true
 
-pub overflow_cast-own : goal.overflow_cast-own
-overflow_cast-own c = omega (arith, c.type_inv.own c.loop-k.k)
-
 pub keep_var-requires : goal.keep_var-requires
 keep_var-requires c = keeping_var c.requires c.loop-k.invariant c.loop-k-test.true
-
-pub overflow_add-k : goal.overflow_add-k
-overflow_add-k c = omega (arith, c.loop-k-test.true, c.well_formed.1.1.1.1.0.0)
 
 pub overflow_cast-node-in-Term : goal.overflow_cast-node-in-Term
 overflow_cast-node-in-Term c = omega (

@@ -1,10 +1,5 @@
 use Rattle.induction.proofs.Casings.{Keeping}
-use lib.ListN.{length}
-use Prim.Native.Nat.{◌-◌}
 use Rattle.induction.proofs.cases.keep_case.Given as goal
 
 abbrev pub invariant-loop-k : goal.invariant-loop-k
 invariant-loop-k l = Keeping l.initial.index l.initial.words l.initial.m l.c l.own l.index l.words l.node l.m l.k
-
-abbrev pub decreases-loop-k : goal.decreases-loop-k
-decreases-loop-k l = length l.own - l.k

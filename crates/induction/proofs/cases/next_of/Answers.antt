@@ -17,9 +17,6 @@ overflow_cast-sorts c = omega (arith, c.type_inv.sorts c.loop-k.k)
 pub returns-then-sorts-k : goal.returns-then-sorts-k
 returns-then-sorts-k c = nexting_here c.loop-k.invariant c.loop-k-test.true c.if-sorts-k.true
 
-pub overflow_add-k : goal.overflow_add-k
-overflow_add-k c = omega (arith, c.loop-k-test.true, c.well_formed.0.0)
-
 pub loop-k-smaller : goal.loop-k-smaller
 loop-k-smaller c = omega (arith, c.loop-k-test.true)
 

@@ -13,9 +13,6 @@ offset_bounds-premises-k c = omega (arith, c.loop-k-test.true, c.well_formed.1.1
 pub bounds-premises-k : goal.bounds-premises-k
 bounds-premises-k c = c.loop-k-test.true
 
-pub overflow_cast-premises : goal.overflow_cast-premises
-overflow_cast-premises c = omega (arith, c.type_inv.premises c.loop-k.k)
-
 pub substitute-requires : goal.substitute-requires
 substitute-requires c = record { replaceable = moving_replaceable c.requires c.loop-k.invariant c.loop-k-test.true; id_in_bounds = moving_memo c.requires c.loop-k.invariant c.loop-k-test.true }
 
@@ -50,9 +47,6 @@ returns-in-Full c = record {
       c.substitute.ensures.after c.in-Full.is;
   memo_unchanged = c.substitute.ensures.memo_unchanged ∙ c.loop-k.invariant.blank;
 }
-
-pub overflow_add-k : goal.overflow_add-k
-overflow_add-k c = omega (arith, c.loop-k-test.true, c.well_formed.1.1.1.1.1.0.0)
 
 pub loop-k-smaller : goal.loop-k-smaller
 loop-k-smaller c = omega (arith, c.loop-k-test.true)

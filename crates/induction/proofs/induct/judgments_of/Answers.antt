@@ -32,9 +32,6 @@ offset_bounds-out-k-in-loop-k c = omega (arith, judged_place c.args.hyps.now c.l
 pub bounds-out-k-in-loop-k : goal.bounds-out-k-in-loop-k
 bounds-out-k-in-loop-k c = judged_place c.args.hyps.now c.loop-k.invariant c.loop-k-test.true
 
-pub overflow_add-k : goal.overflow_add-k
-overflow_add-k c = omega (arith, judged_place c.args.hyps.now c.loop-k.invariant c.loop-k-test.true, c.loop-k.invariant.long)
-
 pub loop-k-smaller : goal.loop-k-smaller
 loop-k-smaller c = omega (arith, c.loop-k-test.true)
 

@@ -2,11 +2,7 @@ use Rattle.induction.proofs.Inducts.{Judged}
 use Rattle.terms.specs.Sets.{holds}
 use Rattle.rules.specs.Find.{rising}
 use Rattle.rules.specs.Limits.{FACTS}
-use Prim.Native.Nat.{◌-◌}
 use Rattle.induction.proofs.induct.judgments_of.Given as goal
 
 abbrev pub invariant-loop-k : goal.invariant-loop-k
 invariant-loop-k l = Judged l.facts (rising FACTS (holds l.hyps)) l.out l.count l.k
-
-abbrev pub decreases-loop-k : goal.decreases-loop-k
-decreases-loop-k l = l.count - l.k

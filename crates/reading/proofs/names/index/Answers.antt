@@ -1,5 +1,5 @@
 use native.Mathlib.Omega.{arith}
-use Rattle.reading.proofs.Atoms.{item_atom_lem, item_list, first_there, first_inside, first_high, no_index, index_number, index_none}
+use Rattle.reading.proofs.Atoms.{item_atom_lem, item_list, first_there, first_inside, first_high, no_index, index_spelt}
 use Rattle.reading.proofs.names.index.Goals as goal
 
 pub item_at-requires : goal.item_at-requires
@@ -14,9 +14,5 @@ atom_end-end-requires c = omega (arith, first_inside c.requires c.item_at.ensure
 pub slice_bounds-index_of-end : goal.slice_bounds-index_of-end
 slice_bounds-index_of-end c = first_high c.requires _ c.item_at.ensures c.in-Atom.is c.atom_end-end.ensures
 
-pub returns-in-Some : goal.returns-in-Some
-returns-in-Some c = λ x ys h. index_number _ (item_atom_lem h c.item_at.ensures c.in-Atom.is) c.atom_end-end.ensures c.index_of.ensures c.in-Some.is
-
-pub returns-in-None : goal.returns-in-None
-returns-in-None c = λ x ys h. index_none _ (item_atom_lem h c.item_at.ensures c.in-Atom.is) c.atom_end-end.ensures c.index_of.ensures
-    c.in-None.is
+pub returns : goal.returns
+returns c = λ x ys h. index_spelt _ (item_atom_lem h c.item_at.ensures c.in-Atom.is) c.atom_end-end.ensures c.index_of.ensures

@@ -42,9 +42,6 @@ pub arguments-put_argument-requires : goal.arguments-put_argument-requires
 arguments-put_argument-requires t c = going_put (c.loop-at.invariant c.requires.0) c.loop-at-test.true c.term.new.index c.term.new.words
     c.input_or_none-sort.result c.term.result c.term.ensures c.in-Term.is
 
-pub arguments-both-fits-requires : goal.arguments-both-fits-requires
-arguments-both-fits-requires t c = search rules
-
 pub arguments-shape_of-index-in-No : goal.arguments-shape_of-index-in-No
 arguments-shape_of-index-in-No t c = c.term.auto.index ∙ (c.loop-at.invariant c.requires.0).on.grown.same.long_index
 
@@ -70,13 +67,10 @@ arguments-loop-at-smaller t c = omega (arith, going_past (c.loop-at.invariant c.
 pub arguments-loop-at-preserved : goal.arguments-loop-at-preserved
 arguments-loop-at-preserved t c = λ g. going_on (c.loop-at.invariant g) c.loop-at-test.true c.term.new.index c.term.new.words
     c.input_or_none-sort.result c.term.result c.term.ensures c.in-Term.is c.input_or_none-sort.ensures c.put_argument.new.node
-    c.put_argument.ensures c.both-fits.ensures c.after-at.ensures
+    c.put_argument.ensures refl c.after-at.ensures
 
 pub arguments-overflow_add-result : goal.arguments-overflow_add-result
 arguments-overflow_add-result t c = omega (arith, going_high (c.loop-at.invariant c.requires.0), c.well_formed.1.1.1.1.1.1.1.1.1.1.1.0)
-
-pub arguments-both-requires : goal.arguments-both-requires
-arguments-both-requires t c = search rules
 
 pub arguments-shape_of-index : goal.arguments-shape_of-index
 arguments-shape_of-index t c = (c.loop-at.invariant c.requires.0).on.grown.same.long_index
@@ -88,7 +82,7 @@ pub arguments-shape_of-node : goal.arguments-shape_of-node
 arguments-shape_of-node t c = (c.loop-at.invariant c.requires.0).long ∙ sym c.requires.2
 
 pub arguments-returns : goal.arguments-returns
-arguments-returns t c = λ g. going_ends (c.loop-at.invariant g) (omega (arith, c.loop-at-test.false)) c.both.ensures
+arguments-returns t c = λ g. going_ends (c.loop-at.invariant g) (omega (arith, c.loop-at-test.false)) refl
 
 pub compound-constructor_first-requires : goal.compound-constructor_first-requires
 compound-constructor_first-requires t c = opens c.requires

@@ -1,3 +1,4 @@
+use mathlib.Core.Path.{refl}
 use native.Mathlib.Omega.{arith}
 use Rattle.referring.proofs.ScopeHyps.{joining_begins, joining_ends}
 use Rattle.referring.proofs.scope.hyp_vars.Goals as goal
@@ -6,7 +7,8 @@ pub count-requires : goal.count-requires
 count-requires c = omega (arith, c.requires.hyps_len.0)
 
 pub returns-then-count-eq0 : goal.returns-then-count-eq0
-returns-then-count-eq0 c = joining_ends (joining_begins c.requires.seen) c.requires.recalls.0 c.requires.recalls.1 c.requires.hyps_len.0 c.count.ensures (omega (arith, c.if-count-eq0.true))
+returns-then-count-eq0 c = joining_ends (joining_begins c.requires.seen) c.requires.recalls.0 c.requires.recalls.1 c.requires.hyps_len.0
+    refl (omega (arith, c.count.ensures))
 
 pub join_hyps-requires : goal.join_hyps-requires
 join_hyps-requires c = record { recalls = c.requires.recalls; hyps_len = c.requires.hyps_len; seen = c.requires.seen }

@@ -1,4 +1,3 @@
-use native.Mathlib.Omega.{arith}
 use Rattle.state.proofs.Named.{seeking_begins, seeking_here, seeking_on, seeking_over}
 use Rattle.state.proofs.vars.var_named.Goals as goal
 
@@ -7,17 +6,8 @@ loop-i-init c = seeking_begins c.args.goals.now c.args.text.now
     c.args.vars.now c.args.name.now
     c.args.count c.requires
 
-pub is_var-requires : goal.is_var-requires
-is_var-requires c = (c.loop-i.invariant.some, c.loop-i-test.true)
-
 pub returns-then-is_var : goal.returns-then-is_var
 returns-then-is_var c = seeking_here c.loop-i.invariant c.loop-i-test.true c.is_var.ensures c.if-is_var.true
-
-pub overflow_add-i : goal.overflow_add-i
-overflow_add-i c = omega arith
-
-pub loop-i-smaller : goal.loop-i-smaller
-loop-i-smaller c = omega arith
 
 pub loop-i-preserved : goal.loop-i-preserved
 loop-i-preserved c = seeking_on c.loop-i.invariant c.loop-i-test.true c.is_var.ensures c.if-is_var.false
