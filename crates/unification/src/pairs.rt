@@ -15,8 +15,15 @@ use terms::variables::occurs;
 pub enum Asks {
     Nothing,
     Clash,
-    Binds { variable: usize, term: usize },
-    Parts { left: usize, right: usize, count: usize },
+    Binds {
+        variable: usize,
+        term: usize,
+    },
+    Parts {
+        left: usize,
+        right: usize,
+        count: usize,
+    },
 }
 
 // The pairs that wait, the last one first.

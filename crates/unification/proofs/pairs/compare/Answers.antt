@@ -29,14 +29,14 @@ bind-requires-then-other-ge-SYMBOLS c = right_asks _ _ _ _ _ _ c.requires c.if-s
 
 pub returns-then-other-ge-SYMBOLS-clause-answered : goal.returns-then-other-ge-SYMBOLS-clause-answered
 returns-then-other-ge-SYMBOLS-clause-answered c = right_binds _ _ _ _ _ _ c.requires c.if-s-t.false _ c.start_of-left.ensures c.if-head-ge-SYMBOLS.false _ c.start_of-right.ensures c.if-other-ge-SYMBOLS.true c.bind-then-other-ge-SYMBOLS.result
-      c.bind-then-other-ge-SYMBOLS.ensures.answered
+    c.bind-then-other-ge-SYMBOLS.ensures.answered
 
 pub returns-then-head-other-clause-answered : goal.returns-then-head-other-clause-answered
 returns-then-head-other-clause-answered c = heads_clash _ _ _ _ _ _ c.requires c.if-s-t.false _ c.start_of-left.ensures c.if-head-ge-SYMBOLS.false _ c.start_of-right.ensures c.if-other-ge-SYMBOLS.false c.if-head-other.true
 
 pub returns-then-terms-t-clause-answered : goal.returns-then-terms-t-clause-answered
 returns-then-terms-t-clause-answered c = counts_clash _ _ _ _ _ _ c.requires c.if-s-t.false _ c.start_of-left.ensures c.if-head-ge-SYMBOLS.false _ c.start_of-right.ensures c.if-other-ge-SYMBOLS.false c.if-head-other.false
-      c.if-terms-t.true
+    c.if-terms-t.true
 
 pub returns-clause-answered : goal.returns-clause-answered
 returns-clause-answered c = parts_at _ _ _ _ _ _ c.requires c.if-s-t.false _ c.start_of-left.ensures c.if-head-ge-SYMBOLS.false _ c.start_of-right.ensures c.if-other-ge-SYMBOLS.false c.if-head-other.false c.if-terms-t.false
