@@ -19,15 +19,17 @@ use Rattle.rules.specs.Invert.{Allowed, renaming, rule_premises}
 use Rattle.rules.specs.Laws.Theory.{Sorted, Sorteds, Judgment, Judgments, empty, both}
 use Rattle.rules.specs.Laws.Out.{then_then}
 use Rattle.terms.specs.declared.store.Mark.{Mark}
-use Rattle.terms.specs.declared.store.Kept.{Kept}
-use Rattle.terms.specs.declared.store.Kept.TheVariants.{Term, Full}
-use Rattle.terms.specs.declared.patterns.Built.{Built}
-use Rattle.terms.specs.declared.patterns.Built.TheVariants as built
-use Rattle.terms.specs.Table.{made, tree, Good, Grown, After}
+use Rattle.terms.specs.declared.apart.Kept.{Kept}
+use Rattle.terms.specs.declared.apart.Kept.TheVariants.{Term, Full}
+use Rattle.terms.specs.declared.apart.Built.{Built}
+use Rattle.terms.specs.declared.apart.Built.TheVariants as built
+use Rattle.terms.specs.Table.{made, tree, Good, Grown}
+use Rattle.terms.specs.Apart.{After}
 use Rattle.terms.specs.Sets.{holds, plus}
 use Rattle.terms.specs.Subst.{replacement, substituted, Replaceable}
 use Rattle.terms.specs.Theta.{bindings, Theta}
-use Rattle.terms.specs.Patterns.{bound_of, Stands, Standing, Buildable, Builds, Stops, BuiltAs, BuiltAt}
+use Rattle.terms.specs.Patterns.{bound_of, Stands, Standing, Buildable, Builds, Stops}
+use Rattle.terms.specs.Apart.{BuiltAs, BuiltAt}
 use Rattle.terms.specs.On.{Went, Stopped, On, on_start, on_is, on_ok, on_no, on_done}
 use Rattle.terms.specs.Laws.Growth.{made_length, grown_refl, grown_trans}
 use Rattle.terms.specs.Laws.Bound.{bound_grown, cells_grown, build_is}

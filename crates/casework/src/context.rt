@@ -21,10 +21,9 @@ use referring::scope::visit_cells;
 use rules::{TERMWORDS, VARIABLES, VARIABLEWORDS};
 use state::facts::{general, is_assumed, is_plain, judgment, premises};
 use state::sizes::Sizes;
-use terms::patterns::{Built, build};
+use terms::apart::{Built, Kept, build, substitute};
 use terms::sets::{has, insert};
-use terms::store::{Kept, Mark};
-use terms::substitute::substitute;
+use terms::store::Mark;
 
 // Whether fact h has that judgment, those premises and generalised variables.
 fn is_row(

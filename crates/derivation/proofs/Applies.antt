@@ -26,13 +26,14 @@ use Rattle.sexp.specs.FoundLaws.{found_at, found_missing}
 use Rattle.sexp.specs.declared.items.Item.{Item}
 use Rattle.sexp.specs.declared.items.Item.TheVariants.{Atom, List as Part}
 use Rattle.terms.specs.declared.store.Mark.{Mark}
-use Rattle.terms.specs.declared.store.Kept.{Kept}
-use Rattle.terms.specs.declared.store.Kept.TheVariants as kept
-use Rattle.terms.specs.Table.{made, tree, After, Stored}
+use Rattle.terms.specs.declared.apart.Kept.{Kept}
+use Rattle.terms.specs.declared.apart.Kept.TheVariants as kept
+use Rattle.terms.specs.Table.{made, tree, Stored}
+use Rattle.terms.specs.Apart.{After}
 use Rattle.terms.specs.Subst.{replacement, substituted, Replaceable}
 use Rattle.terms.specs.Theta.{Theta, bindings}
 use Rattle.terms.specs.On.{On, Stopped, stored_went, refused_stopped, on_start, on_is, on_ok, on_no, on_pure, on_stop, on_went, on_stopped, on_ask_yes, on_ask_no, on_found_some, on_found_none}
-use Rattle.terms.specs.Laws.Answers.{after_term, after_full}
+use Rattle.terms.specs.Apart.{after_term, after_full}
 use Rattle.terms.specs.Laws.Growth.{made_length}
 use Rattle.terms.specs.Laws.Numbers.{stored_is}
 use Rattle.terms.specs.Laws.Theta.{bindings_grown, theta_grown}

@@ -15,13 +15,14 @@ use Rattle.rules.specs.Unify.{along}
 use Rattle.rules.specs.Reference.{Ref, reference}
 use Rattle.rules.proofs.Laws.MakingWalk.{substitute_keeps}
 use Rattle.terms.specs.declared.store.Mark.{Mark}
-use Rattle.terms.specs.declared.store.Kept.{Kept}
-use Rattle.terms.specs.declared.store.Kept.TheVariants as kept
-use Rattle.terms.specs.Table.{made, tree, After, Stored}
+use Rattle.terms.specs.declared.apart.Kept.{Kept}
+use Rattle.terms.specs.declared.apart.Kept.TheVariants as kept
+use Rattle.terms.specs.Table.{made, tree, Stored}
+use Rattle.terms.specs.Apart.{After}
 use Rattle.terms.specs.Subst.{replacement, substituted, Replaceable}
 use Rattle.terms.specs.Theta.{Theta, bindings}
 use Rattle.terms.specs.On.{On, Stopped, stored_went, refused_stopped, on_start, on_ok, on_no, on_done, on_ask_yes, on_ask_no}
-use Rattle.terms.specs.Laws.Answers.{after_term, after_full}
+use Rattle.terms.specs.Apart.{after_term, after_full}
 use Rattle.terms.specs.Laws.Growth.{grown_tree, grown_there}
 use Rattle.terms.specs.Laws.Numbers.{stored_is, same_number}
 use Rattle.state.specs.declared.sizes.Sizes.{Sizes}

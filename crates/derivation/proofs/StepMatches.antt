@@ -12,12 +12,13 @@ use Rattle.rules.specs.Store.{Made}
 use Rattle.rules.specs.Match.{Bound, matches, match_all, build}
 use Rattle.rules.specs.Step.{match_stated, conclude}
 use Rattle.terms.specs.declared.store.Mark.{Mark}
-use Rattle.terms.specs.declared.patterns.Built.{Built}
-use Rattle.terms.specs.declared.patterns.Built.TheVariants as built
+use Rattle.terms.specs.declared.apart.Built.{Built}
+use Rattle.terms.specs.declared.apart.Built.TheVariants as built
 use Rattle.terms.specs.Table.{made, tree, args_of}
-use Rattle.terms.specs.Patterns.{tree_in, bound_of, Cells, Matchable, AllMatchable, Buildable, Matched, matched, other, AllMatched, all, not_all, MatchedAt, MatchedAll, BuiltAt}
+use Rattle.terms.specs.Patterns.{tree_in, bound_of, Cells, Matchable, AllMatchable, Buildable, Matched, matched, other, AllMatched, all, not_all, MatchedAt, MatchedAll}
+use Rattle.terms.specs.Apart.{BuiltAt}
 use Rattle.terms.specs.On.{On, Stopped, on_start, on_is, on_done, on_went, on_stopped, on_found_some, on_found_none, builds_went, stops_stopped}
-use Rattle.terms.specs.Laws.Answers.{built_term, built_no}
+use Rattle.terms.specs.Apart.{built_term, built_no}
 use Rattle.terms.specs.Laws.Growth.{made_length}
 use Rattle.terms.specs.Laws.Patterns.{size_some}
 use Rattle.reading.specs.Answers.{TermRead}

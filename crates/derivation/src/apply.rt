@@ -28,9 +28,8 @@ use sexp::items::Item;
 use state::facts::{general, hyps as hyps_of, is_assumed, is_fact, is_plain, judgment, premises};
 use state::sizes::Sizes;
 use terms::sets::{has, insert};
-use terms::store::{Kept, Mark};
-use terms::substitute::substitute;
-use terms::variables::visit;
+use terms::apart::{Kept, substitute, visit};
+use terms::store::Mark;
 
 // Whether the map binds no variable but those that fact i generalises.
 fn binds_general(facts: &[u32], lists: &[u32], i: usize, bound: &[u32]) -> bool

@@ -27,10 +27,9 @@ use rules::{RULEVARS, TERMWORDS, VARIABLEWORDS};
 use sexp::items::Item;
 use sexp::{items, lex};
 use state::sizes::Sizes;
-use terms::patterns::{Built, build, match_all, matches};
+use terms::apart::{Built, build, match_all, matches, visit};
 use terms::sets::insert;
 use terms::store::Mark;
-use terms::variables::visit;
 
 // The number of instances that a reference is.
 fn instances(bare: bool) -> usize

@@ -13,12 +13,13 @@ use Rattle.rules.specs.Store.{Made, keep}
 use Rattle.rules.specs.Induct.{Hyp, keep_vars, hypothesis_at}
 use Rattle.rules.specs.Laws.Out.{then_then}
 use Rattle.terms.specs.declared.store.Mark.{Mark}
-use Rattle.terms.specs.declared.store.Kept.{Kept}
-use Rattle.terms.specs.declared.store.Kept.TheVariants.{Term, Full}
-use Rattle.terms.specs.Table.{made, tree, tree_at, args_of, Good, Node, Shaped, is_app, Stored, After}
+use Rattle.terms.specs.declared.apart.Kept.{Kept}
+use Rattle.terms.specs.declared.apart.Kept.TheVariants.{Term, Full}
+use Rattle.terms.specs.Table.{made, tree, tree_at, args_of, Good, Node, Shaped, is_app, Stored}
+use Rattle.terms.specs.Apart.{After}
 use Rattle.terms.specs.Subst.{replacement}
 use Rattle.terms.specs.On.{Stopped, On, on_start, on_is, on_ok, on_no, stored_went, refused_stopped}
-use Rattle.terms.specs.Laws.Answers.{after_term, after_full}
+use Rattle.terms.specs.Apart.{after_term, after_full}
 use Rattle.terms.specs.Laws.Growth.{grown_tree, grown_args, grown_there, grown_trans}
 use Rattle.terms.specs.Laws.Numbers.{stored_is}
 use Rattle.terms.specs.Laws.Tables.{tree_app}

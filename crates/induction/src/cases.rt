@@ -10,8 +10,8 @@ ghost use Rattle.induction.specs.Inducing.{Below, motive_in, Motived, judgment_f
 
 use reading::term::Out;
 use rules::{NODE, SYMBOLS};
-use terms::store::{Kept, Mark, keep};
-use terms::substitute::substitute;
+use terms::apart::{Kept, keep, substitute};
+use terms::store::Mark;
 
 // A variable as a term.
 fn keep_var(index: &mut [u32], words: &mut [u32], mark: Mark, v: usize) -> Kept

@@ -17,8 +17,8 @@ use Rattle.rules.specs.Theory.{Theory, rule}
 use Rattle.rules.specs.Invert.{Allowed, renaming, rule_premises, context_facts}
 use Rattle.rules.specs.Laws.Theory.{all_at}
 use Rattle.terms.specs.declared.store.Mark.{Mark}
-use Rattle.unification.specs.declared.unify.Unified.{Unified}
-use Rattle.unification.specs.declared.unify.Unified.TheVariants as unified
+use Rattle.unification.specs.declared.apart.Unified.{Unified}
+use Rattle.unification.specs.declared.apart.Unified.TheVariants as unified
 use Rattle.terms.specs.Table.{made, tree, Grown}
 use Rattle.terms.specs.Sets.{holds}
 use Rattle.terms.specs.Subst.{replacement}

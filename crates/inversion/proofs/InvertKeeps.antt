@@ -16,12 +16,13 @@ use Rattle.rules.specs.Induct.{keep_vars}
 use Rattle.rules.specs.Invert.{renaming}
 use Rattle.rules.specs.Laws.Out.{then_then}
 use Rattle.terms.specs.declared.store.Mark.{Mark}
-use Rattle.terms.specs.declared.store.Kept.{Kept}
-use Rattle.terms.specs.declared.store.Kept.TheVariants.{Term, Full}
-use Rattle.terms.specs.Table.{made, Good, Stored, After}
+use Rattle.terms.specs.declared.apart.Kept.{Kept}
+use Rattle.terms.specs.declared.apart.Kept.TheVariants.{Term, Full}
+use Rattle.terms.specs.Table.{made, Good, Stored}
+use Rattle.terms.specs.Apart.{After}
 use Rattle.terms.specs.Patterns.{tree_in, bound_of, Cells}
 use Rattle.terms.specs.On.{Stopped, On, on_start, on_is, on_ok, on_no, on_done, stored_went, refused_stopped}
-use Rattle.terms.specs.Laws.Answers.{after_term, after_full}
+use Rattle.terms.specs.Apart.{after_term, after_full}
 use Rattle.terms.specs.Laws.Bound.{bound_some, bound_grown, cells_grown, cells_set}
 use Rattle.terms.specs.Laws.Growth.{made_length}
 use Rattle.terms.specs.Laws.Numbers.{stored_is}

@@ -15,8 +15,8 @@ use Rattle.rules.specs.State.{Var}
 use Rattle.rules.specs.Invert.{up_from}
 use Rattle.rules.proofs.Laws.Below.{below_up}
 use Rattle.terms.specs.declared.store.Mark.{Mark}
-use Rattle.unification.specs.declared.unify.Unified.{Unified}
-use Rattle.unification.specs.declared.unify.Unified.TheVariants as unified
+use Rattle.unification.specs.declared.apart.Unified.{Unified}
+use Rattle.unification.specs.declared.apart.Unified.TheVariants as unified
 use Rattle.terms.specs.Table.{made, tree}
 use Rattle.terms.specs.On.{Stopped, On, on_start, on_is, on_ok, on_no, on_pure, on_stop, on_done, on_refused}
 use Rattle.terms.specs.Laws.Bound.{cells_zeros}

@@ -21,17 +21,20 @@ use Rattle.rules.proofs.Laws.Below.{Below, below_variables}
 use Rattle.rules.proofs.Laws.BelowCases.{pattern_below, conclusion_below}
 use Rattle.sexp.specs.Never.{never}
 use Rattle.terms.specs.declared.store.Mark.{Mark}
-use Rattle.terms.specs.declared.patterns.Built.{Built}
-use Rattle.terms.specs.declared.patterns.Built.TheVariants as built
-use Rattle.unification.specs.declared.unify.Unified.{Unified}
-use Rattle.unification.specs.declared.unify.Unified.TheVariants as unified
+use Rattle.terms.specs.declared.apart.Built.{Built}
+use Rattle.terms.specs.declared.apart.Built.TheVariants as built
+use Rattle.unification.specs.declared.apart.Unified.{Unified}
+use Rattle.unification.specs.declared.apart.Unified.TheVariants as unified
 use Rattle.terms.specs.Table.{made, tree, Good, Grown}
 use Rattle.terms.specs.Theta.{Zeros}
-use Rattle.terms.specs.Patterns.{Stands, Buildable, BuiltAt, Builds, bound_of, Cells}
-use Rattle.unification.specs.Unify.{Unifiable, UnifiedBy, Scratch}
+use Rattle.terms.specs.Patterns.{Stands, Buildable, Builds, bound_of, Cells}
+use Rattle.terms.specs.Apart.{BuiltAt}
+use Rattle.unification.specs.Unify.{Unifiable, Scratch}
+use Rattle.unification.specs.Apart.{UnifiedBy}
 use Rattle.terms.specs.On.{On, on_start, on_is, on_ok, on_no, on_went, on_stopped, refused_stopped}
-use Rattle.terms.specs.Laws.Answers.{built_term, built_no}
-use Rattle.unification.specs.Laws.Answers.{unified_found, unified_apart, unified_full, solved_went, unsolved_went}
+use Rattle.terms.specs.Apart.{built_term, built_no}
+use Rattle.unification.specs.Laws.Answers.{solved_went, unsolved_went}
+use Rattle.unification.specs.Apart.{unified_found, unified_apart, unified_full}
 use Rattle.terms.specs.Laws.Bound.{build_is, bound_grown, cells_grown}
 use Rattle.terms.specs.Laws.Growth.{grown_tree, grown_there, grown_trans}
 use Rattle.terms.specs.Laws.Numbers.{made_closed}

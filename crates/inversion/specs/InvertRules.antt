@@ -18,8 +18,8 @@ use Rattle.rules.proofs.Laws.Below.{Below}
 use Rattle.sexp.specs.Items.{Holds}
 use Rattle.sexp.specs.WalkLaws.{Walk}
 use Rattle.terms.specs.declared.store.Mark.{Mark}
-use Rattle.unification.specs.declared.unify.Unified.{Unified}
-use Rattle.unification.specs.declared.unify.Unified.TheVariants as unified
+use Rattle.unification.specs.declared.apart.Unified.{Unified}
+use Rattle.unification.specs.declared.apart.Unified.TheVariants as unified
 use Rattle.terms.specs.Table.{made, tree, Good}
 use Rattle.terms.specs.Sets.{holds}
 use Rattle.terms.specs.Theta.{bindings, Theta}

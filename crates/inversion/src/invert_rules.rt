@@ -27,11 +27,10 @@ use rules::{FACTWORDS, RULEVARS, SYMBOLS, TERMWORDS, VARIABLES};
 use state::facts::{Span, hyps as hyps_of, is_fact, judgment};
 use state::sizes::Sizes;
 use state::vars::var_sort;
-use terms::patterns::{Built, build};
+use terms::apart::{Built, Kept, build, keep, substitute};
 use terms::sets::has;
-use terms::store::{Kept, Mark, keep};
-use terms::substitute::substitute;
-use unification::unify::{Unified, unify};
+use terms::store::Mark;
+use unification::apart::{Unified, unify};
 
 // Whether the variables are as many as the rule has, each of its sort.
 fn suits(vars: &[u32], rulevars: &[u32], r: usize, need: usize, list: &[u32]) -> bool

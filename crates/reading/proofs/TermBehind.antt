@@ -14,11 +14,12 @@ use Rattle.rules.specs.Theory.{inputs, output}
 use Rattle.rules.specs.State.{State, sort_of}
 use Rattle.rules.specs.Read.{terms}
 use Rattle.terms.specs.declared.store.Mark.{Mark}
-use Rattle.terms.specs.declared.store.Kept.{Kept}
-use Rattle.terms.specs.declared.store.Kept.TheVariants.{Term, Full}
-use Rattle.terms.specs.Table.{made, tree_at, Node, Good, Stored, After}
+use Rattle.terms.specs.declared.apart.Kept.{Kept}
+use Rattle.terms.specs.declared.apart.Kept.TheVariants.{Term, Full}
+use Rattle.terms.specs.Table.{made, tree_at, Node, Good, Stored}
+use Rattle.terms.specs.Apart.{After}
 use Rattle.terms.specs.On.{Stopped, On, on_start, on_is, on_ok, on_no, on_ask_yes, on_ask_no, on_went, on_stopped, pure_stopped, refused_stopped}
-use Rattle.terms.specs.Laws.Answers.{after_term, after_full}
+use Rattle.terms.specs.Apart.{after_term, after_full}
 use Rattle.terms.specs.Laws.Numbers.{stored_is}
 use Rattle.state.specs.declared.sizes.Sizes.{Sizes}
 use Rattle.state.specs.Held.{Names}

@@ -22,7 +22,8 @@ use sexp::{items, lex};
 use state::defs::def_named;
 use state::sizes::Sizes;
 use state::vars::{var_named, var_sort};
-use terms::store::{Kept, Mark, head, keep};
+use terms::apart::{Kept, head, keep};
+use terms::store::Mark;
 
 // A term's number, or a question and its detail; and what is used of the store then.
 #[derive(Clone, Copy)]

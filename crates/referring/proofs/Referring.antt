@@ -23,15 +23,16 @@ use Rattle.sexp.specs.FoundLaws.{found_at, found_missing}
 use Rattle.sexp.specs.declared.items.Item.{Item}
 use Rattle.sexp.specs.declared.items.Item.TheVariants.{Atom, List as Part}
 use Rattle.terms.specs.declared.store.Mark.{Mark}
-use Rattle.terms.specs.declared.store.Kept.{Kept}
-use Rattle.terms.specs.declared.store.Kept.TheVariants.{Term, Full}
-use Rattle.terms.specs.Table.{made, tree, After, Stored}
+use Rattle.terms.specs.declared.apart.Kept.{Kept}
+use Rattle.terms.specs.declared.apart.Kept.TheVariants.{Term, Full}
+use Rattle.terms.specs.Table.{made, tree, Stored}
+use Rattle.terms.specs.Apart.{After}
 use Rattle.terms.specs.Subst.{replacement, substituted, Replaceable}
 use Rattle.terms.specs.Theta.{bindings as in_cells}
 use Rattle.terms.specs.On.{On, Went, Stopped, on_start, on_ok, on_no, on_pure, on_stop, on_done, on_ask_yes, on_ask_no, stored_went, refused_stopped}
 use Rattle.terms.specs.Laws.Growth.{made_length, grown_tree, grown_there}
 use Rattle.terms.specs.Laws.Numbers.{stored_is}
-use Rattle.terms.specs.Laws.Answers.{after_term, after_full}
+use Rattle.terms.specs.Apart.{after_term, after_full}
 use Rattle.state.specs.declared.sizes.Sizes.{Sizes}
 use Rattle.state.specs.declared.facts.Span.{Span}
 use Rattle.state.specs.Held.{Names, records, Recorded}

@@ -19,7 +19,7 @@ use state::facts::{general, judgment, premises};
 use state::sizes::Sizes;
 use terms::sets::{count, lowest_outside, minus_from, union_into, write_out};
 use terms::store::Mark;
-use terms::variables::visit;
+use terms::apart::visit;
 
 // The variables of the terms join the set.
 pub fn visit_all(

@@ -10,7 +10,7 @@ ghost use Rattle.running.specs.Finished.{unproved, GoalRows, OpenRows, FinishGiv
 use crate::run::Run;
 use counts::Counts;
 use state::goals::{goal_judgment, is_taken};
-use terms::store::{is_open, settle};
+use terms::apart::{is_open, settle};
 
 // Facts; goals, those with variables; hypotheses, inductions, inversions, instances.
 #[derive(Clone, Copy)]

@@ -25,7 +25,8 @@ use sexp::items;
 use sexp::items::Item;
 use sexp::tags::{GoalForm, Tag};
 use state::sizes::Sizes;
-use terms::store::{Mark, forget};
+use terms::apart::forget;
+use terms::store::Mark;
 
 // The form is taken: what is used of the tables and of the store then, and what it counts; or a question and its detail.
 #[derive(Clone, Copy)]

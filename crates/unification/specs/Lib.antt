@@ -1,3 +1,4 @@
+pub mod Apart
 pub mod Pairs
 pub mod Extend
 pub mod Unify

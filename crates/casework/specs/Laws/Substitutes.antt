@@ -14,14 +14,15 @@ use Rattle.rules.specs.Store.{Made, substitute, substitutes}
 use Rattle.rules.specs.Laws.Theory.{All, empty, both, all_snoc, all_map, all_at}
 use Rattle.rules.specs.Laws.Out.{then_then}
 use Rattle.terms.specs.declared.store.Mark.{Mark}
-use Rattle.terms.specs.declared.store.Kept.{Kept}
-use Rattle.terms.specs.declared.store.Kept.TheVariants.{Term, Full}
-use Rattle.terms.specs.Table.{made, tree, args_of, Good, Grown, After}
+use Rattle.terms.specs.declared.apart.Kept.{Kept}
+use Rattle.terms.specs.declared.apart.Kept.TheVariants.{Term, Full}
+use Rattle.terms.specs.Table.{made, tree, args_of, Good, Grown}
+use Rattle.terms.specs.Apart.{After}
 use Rattle.terms.specs.Subst.{replacement, substituted, Replaceable}
 use Rattle.terms.specs.On.{Went, Stopped, On, on_start, on_is, on_ok, on_no, on_done}
 use Rattle.terms.specs.Laws.Growth.{grown_tree, grown_there}
 use Rattle.terms.specs.Laws.Numbers.{stored_is}
-use Rattle.terms.specs.Laws.Answers.{after_term, after_full}
+use Rattle.terms.specs.Apart.{after_term, after_full}
 use Rattle.terms.specs.Laws.Theta.{replacement_grown}
 use Rattle.reading.specs.Laws.Walks.{then_same}
 use Rattle.casework.specs.Context.{There, Replaceables, Replaced}

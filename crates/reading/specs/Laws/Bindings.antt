@@ -8,8 +8,9 @@ use Rattle.rules.specs.Tree.{Tree, sub}
 use Rattle.rules.specs.Store.{Made, substitute}
 use Rattle.rules.specs.Unify.{Binding, along}
 use Rattle.terms.specs.declared.store.Mark.{Mark}
-use Rattle.terms.specs.declared.store.Kept.{Kept}
-use Rattle.terms.specs.Table.{made, tree, After}
+use Rattle.terms.specs.declared.apart.Kept.{Kept}
+use Rattle.terms.specs.Table.{made, tree}
+use Rattle.terms.specs.Apart.{After}
 use Rattle.terms.specs.Subst.{replacement, substituted, Replaceable}
 use Rattle.terms.specs.Theta.{bindings, Theta}
 use Rattle.terms.specs.Laws.Theta.{along_is}

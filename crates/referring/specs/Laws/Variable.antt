@@ -5,8 +5,9 @@ use Rattle.rules.specs.Limits.{SYMBOLS, VARIABLES}
 use Rattle.rules.specs.Tree.{Tree, var}
 use Rattle.rules.specs.Store.{keep}
 use Rattle.terms.specs.declared.store.Mark.{Mark}
-use Rattle.terms.specs.declared.store.Kept.{Kept}
-use Rattle.terms.specs.Table.{made, tree_at, Node, is_var, After}
+use Rattle.terms.specs.declared.apart.Kept.{Kept}
+use Rattle.terms.specs.Table.{made, tree_at, Node, is_var}
+use Rattle.terms.specs.Apart.{After}
 use Rattle.terms.specs.Laws.Tables.{tree_var}
 
 pub var_node : (n v : ℕ) → v < VARIABLES → Node n ((SYMBOLS + v) ∷ [])

@@ -1,5 +1,5 @@
 use Rattle.terms.specs.On.{refused_stopped}
-use Rattle.terms.specs.Laws.Answers.{after_term, after_full}
+use Rattle.terms.specs.Apart.{after_term, after_full}
 use Rattle.reading.proofs.Leaves.{kept_typed}
 use Rattle.reading.proofs.term.keep_typed.Goals as goal
 
