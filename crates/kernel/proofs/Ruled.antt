@@ -9,19 +9,19 @@ use lib.Seq.{length-take-le}
 use Rattle.rules.specs.Limits.{LENGTH, RULES, RULEVARS, PATTERNS}
 use Rattle.rules.specs.Text.{same}
 use Rattle.rules.specs.Find.{first}
-use Rattle.rules.specs.Out.{Out, refuse}
+use Rattle.rules.specs.Out.{refuse}
 use Rattle.rules.specs.Sexp.{Sexps, list, item, count as item_count, Name}
-use Rattle.rules.specs.Tree.{Tree, Trees, count_trees}
+use Rattle.rules.specs.Tree.{count_trees}
 use Rattle.rules.specs.Theory.{Theory, Symbol, Rule, rule_named}
 use Rattle.rules.specs.Laws.Theory.{empty}
 use Rattle.rules.specs.TheoryTables.{rows, prefix, prefixes, pattern_row, rule_var_row}
-use Rattle.rules.specs.Declare.{Reading, schema, add_rule}
+use Rattle.rules.specs.Declare.{schema, add_rule}
 use Rattle.rules.specs.Laws.Declaring.{proper}
 use Rattle.sexp.specs.Items.{Holds}
 use Rattle.sexp.specs.NameRows.{NameRows}
 use Rattle.kernel.specs.Held.{Form, SomeSymbolsHeld}
-use Rattle.kernel.specs.Reading.{VarsHeld, ReadSoFar, Written, Stopped, PatternRead}
-use Rattle.kernel.specs.HeldRules.{schema_cells, Beginning, RulesHeld, SomeRules, RuleFits, RuleIs, RulePut, RuleStored, RuleRefused}
+use Rattle.kernel.specs.Reading.{VarsHeld, ReadSoFar, Written, Stopped}
+use Rattle.kernel.specs.HeldRules.{schema_cells, Beginning, RulesHeld, SomeRules, RuleFits, RuleIs, RuleStored, RuleRefused}
 use Rattle.questions.specs.declared.Row.{Row}
 use Rattle.questions.specs.declared.Row.TheVariants.{Rules}
 use Rattle.questions.specs.declared.Question.TheVariants.{Room}

@@ -2,7 +2,7 @@
 use mathlib.Core.Path.{◌≡◌, refl, sym, ap, ◌∙◌, subst}
 use Prim.Native.Nat.{ℕ, suc, ◌+◌, ◌-◌, ◌*◌, ◌<◌, ◌≤◌}
 use mathlib.Core.Bool.{Bool, true, false}
-use Rattle.std.specs.Prelude.{Some as some, None as nothing, Option, Result, Ok, Err}
+use Rattle.std.specs.Prelude.{Some as some, None as nothing, Option, Result}
 use mathlib.Core.List.{List, [], ◌∷◌, ◌++◌}
 use native.Mathlib.Omega.{arith}
 use native.Mathlib.Numerals.{add-one}
@@ -24,7 +24,7 @@ use Rattle.rules.specs.Laws.PatternSteps.{var_named, worded, word_full, word_mor
 use Rattle.sexp.specs.AtomText.{name_from, atom_span}
 use Rattle.kernel.specs.Named.{called, of_kind, SymbolRows}
 use Rattle.kernel.specs.Held.{SymbolsHeld}
-use Rattle.kernel.specs.Reading.{WordPut, Meeting, Met, MetRead, ReadSoFar, AtomReading, Written, Stopped, PatternRead, Head, HeadRead}
+use Rattle.kernel.specs.Reading.{Meeting, Met, ReadSoFar, AtomReading, Written, Stopped, PatternRead, Head}
 use Rattle.questions.specs.declared.Question.{Question}
 use Rattle.questions.specs.Numbers.{number_of, detail_of}
 use Rattle.questions.specs.declared.Row.{Row}
