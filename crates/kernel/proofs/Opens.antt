@@ -1,7 +1,6 @@
 -- Lists that begin with a symbol: what the readers of heads answer. Assumes nothing.
 use mathlib.Core.Path.{◌≡◌, refl, sym, ap, ◌∙◌}
 use Prim.Native.Nat.{ℕ, ◌+◌, ◌-◌, ◌*◌, ◌<◌, ◌≤◌}
-use mathlib.Core.Bool.{true}
 use Rattle.std.specs.Prelude.{Some as some, None as nothing, Option, Result, Ok, Err}
 use mathlib.Core.List.{List}
 use native.Mathlib.Omega.{arith}
@@ -17,6 +16,7 @@ use Rattle.rules.specs.Theory.{Theory, Symbol, no_symbol, inputs, predicate_name
 use Rattle.rules.specs.Declare.{Reading, word, head, pattern, patterns, predicated}
 use Rattle.rules.specs.Laws.PatternSteps.{word_full, word_more, pattern_empty, pattern_headless, pattern_lone, pattern_asks, predicated_empty, predicated_headless, predicated_unknown, predicated_count, predicated_asks}
 use Rattle.sexp.specs.Items.{Holds}
+use Rattle.kernel.specs.declared.names.Kind.TheVariants.{Predicate}
 use Rattle.kernel.specs.Named.{called, of_kind, SymbolRows}
 use Rattle.kernel.specs.Held.{SymbolsHeld}
 use Rattle.kernel.specs.Reading.{Stopped, HeadRead, Opened, OpenedRead}
@@ -94,10 +94,10 @@ module _ (T : Theory) (R : Reading) {text cells : List ℕ} {zs : Sexps} (P : Li
 
   module _ {p : ℕ} (f : AtomFirst text cells zs p) (end : ℕ) (e : end ≡ p + length (letters (drop p text))) {symbols ins : List ℕ} {known : ℕ}
       (h : SymbolsHeld text symbols ins known T.symbols) (r : Option ℕ)
-      (a : (ss : List Symbol) → SymbolRows text symbols known ss → r ≡ (first (called true (take (end - p) (drop p text))) ss 0)) where
-    named_so : predicate_named T (letters (drop p text)) ≡ first (called true (take (end - p) (drop p text))) T.symbols 0
+      (a : (ss : List Symbol) → SymbolRows text symbols known ss → r ≡ (first (called Predicate (take (end - p) (drop p text))) ss 0)) where
+    named_so : predicate_named T (letters (drop p text)) ≡ first (called Predicate (take (end - p) (drop p text))) T.symbols 0
     unfolding predicate_named of_kind
-    named_so = ap (λ z. first (called true z) T.symbols 0) (sym (atom_span text p end f.inside e).part)
+    named_so = ap (λ z. first (called Predicate z) T.symbols 0) (sym (atom_span text p end f.inside e).part)
 
     begins : predicated T zs R ≡ predicated T (cons (atom p (letters (drop p text))) f.others) R
     begins = ap (λ z. predicated T z R) f.is
@@ -105,15 +105,15 @@ module _ (T : Theory) (R : Reading) {text cells : List ℕ} {zs : Sexps} (P : Li
     pub judgment_unknown : r ≡ nothing → Stopped P P used (predicated T zs R) 11 0
     judgment_unknown b =
         stopped R 11 0 (begins ∙ predicated_unknown R T p (letters (drop p text)) f.others
-        (named_so ∙ found_missing (first (called true (take (end - p) (drop p text))) T.symbols 0) r (a T.symbols (symbols_rows h)) b))
+        (named_so ∙ found_missing (first (called Predicate (take (end - p) (drop p text))) T.symbols 0) r (a T.symbols (symbols_rows h)) b))
 
     module _ (c : ℕ) (b : r ≡ some c) (many : ℕ) (m : many ≡ count zs) where
       known_so : predicate_named T (letters (drop p text)) ≡ some c
-      known_so = named_so ∙ found_at (first (called true (take (end - p) (drop p text))) T.symbols 0) r c (a T.symbols (symbols_rows h)) b
+      known_so = named_so ∙ found_at (first (called Predicate (take (end - p) (drop p text))) T.symbols 0) r c (a T.symbols (symbols_rows h)) b
 
       declared : c < length T.symbols
       declared =
-          let g = first_some (called true (take (end - p) (drop p text))) T.symbols 0 c no_symbol (sym named_so ∙ known_so) in
+          let g = first_some (called Predicate (take (end - p) (drop p text))) T.symbols 0 c no_symbol (sym named_so ∙ known_so) in
           omega (arith, g.is, g.inside)
 
       arity_is : get_or symbols (4 * c + 1) 0 ≡ length (inputs T c)

@@ -9,24 +9,24 @@ use lib.Seq.{length-take-le}
 use Rattle.rules.specs.Limits.{LENGTH, RULES, RULEVARS, PATTERNS}
 use Rattle.rules.specs.Text.{same}
 use Rattle.rules.specs.Find.{first}
-use Rattle.rules.specs.Out.{Out, refuse}
+use Rattle.rules.specs.Out.{refuse}
 use Rattle.rules.specs.Sexp.{Sexps, list, item, count as item_count, Name}
-use Rattle.rules.specs.Tree.{Tree, Trees, count_trees}
+use Rattle.rules.specs.Tree.{count_trees}
 use Rattle.rules.specs.Theory.{Theory, Symbol, Rule, rule_named}
 use Rattle.rules.specs.Laws.Theory.{empty}
 use Rattle.rules.specs.TheoryTables.{rows, prefix, prefixes, pattern_row, rule_var_row}
-use Rattle.rules.specs.Declare.{Reading, schema, add_rule}
-use Rattle.rules.specs.Laws.Declaring.{proper}
+use Rattle.rules.specs.Declare.{schema, add_rule}
 use Rattle.sexp.specs.Items.{Holds}
 use Rattle.sexp.specs.NameRows.{NameRows}
 use Rattle.kernel.specs.Held.{Form, SomeSymbolsHeld}
-use Rattle.kernel.specs.Reading.{VarsHeld, ReadSoFar, Written, Stopped, PatternRead}
-use Rattle.kernel.specs.HeldRules.{schema_cells, Beginning, RulesHeld, SomeRules, RuleFits, RuleIs, RulePut, RuleStored, RuleRefused}
+use Rattle.kernel.specs.Reading.{VarsHeld, ReadSoFar, Written, Stopped}
+use Rattle.kernel.specs.HeldRules.{schema_cells, Beginning, RulesHeld, SomeRules, RuleFits, RuleIs, RuleStored, RuleRefused}
 use Rattle.questions.specs.declared.Row.{Row}
 use Rattle.questions.specs.declared.Row.TheVariants.{Rules}
 use Rattle.questions.specs.declared.Question.TheVariants.{Room}
+use Rattle.questions.specs.declared.Question.{Question}
 use Rattle.questions.specs.Numbers.{number_of, detail_of}
-use Rattle.kernel.proofs.Spellings.{Proper}
+use Rattle.kernel.proofs.Spellings.{Proper, Nameless}
 use Rattle.sexp.specs.FoundLaws.{found_at, found_missing, names_of, first_name}
 use Rattle.kernel.proofs.Vars.{vars_few, vars_filled}
 use Rattle.kernel.proofs.Schemas.{written_kept}
@@ -66,8 +66,8 @@ module _ {text rules vars P table M : List ℕ} {count used variables last : ℕ
   pub held_still : RulesHeld text rules vars M count used T.rules
   held_still = rules_kept h M kept w.long
 
-  pub rule_no_name : proper (item xs 1) ≡ nothing → RuleRefused text rules vars M T (add_rule xs T) count used 11 0
-  rule_no_name f = record { is = rule_unnamed T xs w.tree w.now w.is f; held = held_still }
+  pub rule_no_name : {q : Question} → Nameless (item xs 1) q → RuleRefused text rules vars M T (add_rule xs T) count used (number_of q) (detail_of q)
+  rule_no_name f = rw f.error (record { is = rule_unnamed T xs w.tree w.now w.is f.is; held = held_still })
 
   module _ {s e : ℕ} (p : Proper text (item xs 1) s e) where
     abbrev pub rule_now : Rule

@@ -1,5 +1,5 @@
 -- The premises and the conclusion of a rule, one behind the other: what their reader answers. Assumes nothing.
-use mathlib.Core.Path.{◌≡◌, refl, sym, ap, ◌∙◌, subst}
+use mathlib.Core.Path.{◌≡◌, refl, ap, ◌∙◌}
 use Prim.Native.Nat.{ℕ, ◌-◌, ◌<◌, ◌≤◌}
 use mathlib.Core.List.{List, ◌++◌}
 use native.Mathlib.Omega.{arith}
@@ -23,7 +23,6 @@ use Rattle.kernel.specs.Reading.{Written, Stopped, PatternRead, Patterning}
 use Rattle.kernel.specs.HeldRules.{schema_cells, Beginning}
 use Rattle.std.specs.Prelude.{Result, Ok, Err}
 use Rattle.questions.specs.declared.Question.{Question}
-use Rattle.questions.specs.Numbers.{number_of, detail_of}
 use Rattle.sexp.specs.Never.{never}
 use Rattle.kernel.proofs.Trees.{kept_front, longer}
 

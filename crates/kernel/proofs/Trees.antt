@@ -1,5 +1,5 @@
 -- A term from its parts: what the readers of terms, arguments and judgments answer. Assumes nothing.
-use mathlib.Core.Path.{◌≡◌, refl, sym, ap, ◌∙◌, subst}
+use mathlib.Core.Path.{◌≡◌, refl, sym, ap, ◌∙◌}
 use Prim.Native.Nat.{ℕ, suc, ◌+◌, ◌-◌, ◌*◌, ◌<◌, ◌≤◌}
 use mathlib.Core.List.{List, [], ◌∷◌, ◌++◌}
 use native.Mathlib.Omega.{arith}
@@ -18,11 +18,10 @@ use Rattle.rules.specs.Laws.PatternSteps.{worded, patterns_none, patterns_more}
 use Rattle.sexp.specs.Items.{Holds}
 use Rattle.sexp.specs.declared.items.Item.{Item}
 use Rattle.kernel.specs.Held.{SymbolsHeld}
-use Rattle.kernel.specs.Reading.{ReadSoFar, Written, Stopped, PatternRead, Opened, OpenedRead, Patterning, Placed, Arguing}
+use Rattle.kernel.specs.Reading.{ReadSoFar, Written, Stopped, PatternRead, Opened, Placed, Arguing}
 use Rattle.kernel.specs.SignatureRows.{input_place}
 use Rattle.std.specs.Prelude.{Result, Ok, Err}
 use Rattle.questions.specs.declared.Question.{Question}
-use Rattle.questions.specs.Numbers.{number_of, detail_of}
 use Rattle.sexp.specs.FirstItem.{ItemFirst, first_item, none_left}
 
 -- some theory with these symbols

@@ -1,8 +1,8 @@
 -- Words of patterns behind those that are there: one more, and what the readers of atoms and heads answer. Assumes nothing.
 use mathlib.Core.Path.{◌≡◌, refl, sym, ap, ◌∙◌, subst}
 use Prim.Native.Nat.{ℕ, suc, ◌+◌, ◌-◌, ◌*◌, ◌<◌, ◌≤◌}
-use mathlib.Core.Bool.{Bool, true, false}
-use Rattle.std.specs.Prelude.{Some as some, None as nothing, Option, Result, Ok, Err}
+use mathlib.Core.Bool.{true, false}
+use Rattle.std.specs.Prelude.{Some as some, None as nothing, Option, Result}
 use mathlib.Core.List.{List, [], ◌∷◌, ◌++◌}
 use native.Mathlib.Omega.{arith}
 use native.Mathlib.Numerals.{add-one}
@@ -22,9 +22,11 @@ use Rattle.rules.specs.TheoryTables.{prefix}
 use Rattle.rules.specs.Declare.{Reading, word, met_or_new, variable, head, pattern}
 use Rattle.rules.specs.Laws.PatternSteps.{var_named, worded, word_full, word_more, variable_short, variable_asks, head_unknown, head_sort, head_count, head_asks, pattern_marked, pattern_atom}
 use Rattle.sexp.specs.AtomText.{name_from, atom_span}
+use Rattle.kernel.specs.declared.names.Kind.{Kind}
+use Rattle.kernel.specs.declared.names.Kind.TheVariants.{Constructor}
 use Rattle.kernel.specs.Named.{called, of_kind, SymbolRows}
 use Rattle.kernel.specs.Held.{SymbolsHeld}
-use Rattle.kernel.specs.Reading.{WordPut, Meeting, Met, MetRead, ReadSoFar, AtomReading, Written, Stopped, PatternRead, Head, HeadRead}
+use Rattle.kernel.specs.Reading.{Meeting, Met, ReadSoFar, AtomReading, Written, Stopped, PatternRead, Head}
 use Rattle.questions.specs.declared.Question.{Question}
 use Rattle.questions.specs.Numbers.{number_of, detail_of}
 use Rattle.questions.specs.declared.Row.{Row}
@@ -98,27 +100,27 @@ module _ (text : List ℕ) (start end sort : ℕ) (e : end ≡ start + length (l
 
 module _ (text : List ℕ) (start end sort arity : ℕ) (e : end ≡ start + length (letters (drop start text))) (l : start < length text) {symbols ins : List ℕ} {count : ℕ} (T : Theory) (R : Reading)
     (h : SymbolsHeld text symbols ins count T.symbols) (r : Option ℕ)
-    (a : (ss : List Symbol) → SymbolRows text symbols count ss → r ≡ (first (called false (take (end - start) (drop start text))) ss 0)) where
-  named_so : constructor_named T (letters (drop start text)) ≡ first (called false (take (end - start) (drop start text))) T.symbols 0
+    (a : (ss : List Symbol) → SymbolRows text symbols count ss → r ≡ (first (called Constructor (take (end - start) (drop start text))) ss 0)) where
+  named_so : constructor_named T (letters (drop start text)) ≡ first (called Constructor (take (end - start) (drop start text))) T.symbols 0
   unfolding constructor_named of_kind
-  named_so = ap (λ z. first (called false z) T.symbols 0) (sym (atom_span text start end l e).part)
+  named_so = ap (λ z. first (called Constructor z) T.symbols 0) (sym (atom_span text start end l e).part)
 
   pub head_missing : {P : List ℕ} {used : ℕ} → r ≡ nothing → Stopped P P used (head T sort arity (letters (drop start text)) R) 11 0
   head_missing b =
       record {
         now = R;
-        is = head_unknown R T sort arity (letters (drop start text)) (named_so ∙ found_missing (first (called false (take (end - start) (drop start text))) T.symbols 0) r (a T.symbols (symbols_rows h)) b);
+        is = head_unknown R T sort arity (letters (drop start text)) (named_so ∙ found_missing (first (called Constructor (take (end - start) (drop start text))) T.symbols 0) r (a T.symbols (symbols_rows h)) b);
         words = refl;
         long = refl;
       }
 
   module _ (c : ℕ) (b : r ≡ some c) where
     known_so : constructor_named T (letters (drop start text)) ≡ some c
-    known_so = named_so ∙ found_at (first (called false (take (end - start) (drop start text))) T.symbols 0) r c (a T.symbols (symbols_rows h)) b
+    known_so = named_so ∙ found_at (first (called Constructor (take (end - start) (drop start text))) T.symbols 0) r c (a T.symbols (symbols_rows h)) b
 
     declared : c < length T.symbols
     declared =
-        let f = first_some (called false (take (end - start) (drop start text))) T.symbols 0 c no_symbol (sym named_so ∙ known_so) in
+        let f = first_some (called Constructor (take (end - start) (drop start text))) T.symbols 0 c no_symbol (sym named_so ∙ known_so) in
         omega (arith, f.is, f.inside)
 
     output_is : get_or symbols (4 * c) 0 ≡ output T c
@@ -171,7 +173,7 @@ module _ (text : List ℕ) (start end sort arity : ℕ) (e : end ≡ start + len
             }
 
 -- a symbol's number is small, and its row inside
-pub head_row : {text symbols ins : List ℕ} {count : ℕ} {ss : List Symbol} (name : List ℕ) (b : Bool) (r : Option ℕ) (c : ℕ) → SymbolsHeld text symbols ins count ss →
+pub head_row : {text symbols ins : List ℕ} {count : ℕ} {ss : List Symbol} (name : List ℕ) (b : Kind) (r : Option ℕ) (c : ℕ) → SymbolsHeld text symbols ins count ss →
     ((ss : List Symbol) → SymbolRows text symbols count ss → r ≡ (first (called b name) ss 0)) → r ≡ some c → (4 * c + 3 < length symbols) × (c < SYMBOLS)
 head_row {ss = ss} name b r c h a e =
     let f = first_some (called b name) ss 0 c no_symbol (found_at (first (called b name) ss 0) r c (a ss (symbols_rows h)) e) in

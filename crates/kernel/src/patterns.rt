@@ -13,7 +13,7 @@ ghost use Rattle.sexp.specs.AtomText.{Spans};
 ghost use Rattle.sexp.specs.NameRows.{NameRows, SomeNames};
 
 use crate::atoms::{marked, put_name};
-use crate::names::symbol_named;
+use crate::names::{Kind, symbol_named};
 use crate::readers::same_sort;
 use questions::{Question, Row};
 use sexp::lex;
@@ -126,7 +126,8 @@ impl RuleReader<'_, '_> {
         let known = self.known;
         let end = lex::atom_end(known.text, start);
         let name = &known.text[start..end];
-        let Some(c) = symbol_named(known.text, known.rows, known.count, false, name) else {
+        let Some(c) = symbol_named(known.text, known.rows, known.count, Kind::Constructor, name)
+        else {
             return Err(Question::Declared);
         };
         let at = 4 * c;

@@ -4,14 +4,15 @@ ghost use Rattle.rules.specs.Sexp.{Sexps, list, item, count as items};
 ghost use Rattle.rules.specs.Theory.{Theory, Rule};
 ghost use Rattle.rules.specs.Declare.{Reading, schema, add_rule};
 ghost use Rattle.sexp.specs.Items.{Holds};
-ghost use Rattle.kernel.specs.Held.{Form, SomeSymbolsHeld};
+ghost use Rattle.kernel.specs.Held.{Form, SymbolsHeld, SomeSymbolsHeld};
 ghost use Rattle.kernel.specs.Reading.{SameTables, Knows, ReadTo, ReadSoFar, PartRead};
 ghost use Rattle.kernel.specs.HeldRules.{schema_cells, Beginning, BeginningAt, SchemaRead, SomeForm, RulesHeld, SomeRules, RuleFits, RuleIs, RulePut, RuleAdded};
 
 use crate::atoms::put_name;
 use crate::patterns::{RuleReader, SymbolTable};
 use crate::signatures::put_row;
-use crate::symbols::{Spelling, proper_at};
+use crate::symbols::proper_at;
+use crate::tables::Counts;
 use questions::{Question, Row};
 use sexp::items;
 use sexp::items::Item;
@@ -119,41 +120,46 @@ fn store(
     Ok(())
 }
 
-// `(rule NAME (JUDGMENT...) JUDGMENT)`, given the items of the form; `count` rules with `used` words are there. The number of words that are
-// used with the new rule; those of a rule that is refused stay behind them.
+// `(rule NAME (JUDGMENT...) JUDGMENT)`, given the items of the form; `held` is there. The number of words that are used with the new rule;
+// those of a rule that is refused stay behind them. The tables are lent one by one: in a struct of other tables' slices the check loses them.
 pub fn add_rule(
-    known: &SymbolTable<'_>,
+    text: &[u8],
     form: &[u32],
+    symbols: &[u32],
+    inputs: &[u32],
     rules: &mut [u32],
     vars: &mut [u32],
     patterns: &mut [u32],
-    count: usize,
-    used: usize,
+    held: Counts,
 ) -> Result<usize, Question>
-    requires form { Form known.now.text.now form.now 4 }
-    requires some_symbols_held { SomeSymbolsHeld known.now.text.now known.now.rows.now known.now.inputs.now known.now.count }
-    requires some_rules { SomeRules known.now.text.now rules.old vars.old patterns.old count used }
-    ensures { (T : Theory) (xs : Sexps) → Knows known.now T.symbols →
-        RulesHeld known.now.text.now rules.old vars.old patterns.old count used T.rules →
-        Holds known.now.text.now form.now xs → 4 ≡ items xs →
-        RuleAdded known.now.text.now rules.new vars.new patterns.new T (add_rule xs T) count used result }
+    requires form { Form text.now form.now 4 }
+    requires some_symbols_held { SomeSymbolsHeld text.now symbols.now inputs.now held.symbols }
+    requires some_rules { SomeRules text.now rules.old vars.old patterns.old held.rules held.words }
+    ensures { (T : Theory) (xs : Sexps) → SymbolsHeld text.now symbols.now inputs.now held.symbols T.symbols →
+        RulesHeld text.now rules.old vars.old patterns.old held.rules held.words T.rules →
+        Holds text.now form.now xs → 4 ≡ items xs →
+        RuleAdded text.now rules.new vars.new patterns.new T (add_rule xs T) held.rules held.words result }
 {
-    let mut row = [0u32; 3 * rules::RULEVARS];
-    let size = read_rule(known, form, &mut row, patterns, used)?;
-    let Spelling::Name(start, end) = proper_at(known.text, form, 1) else {
-        return Err(Question::Declared);
+    let known = SymbolTable {
+        text,
+        rows: symbols,
+        inputs,
+        count: held.symbols,
     };
-    let None = named(known.text, rules, 6, 0, count, &known.text[start..end]) else {
+    let mut row = [0u32; 3 * rules::RULEVARS];
+    let size = read_rule(&known, form, &mut row, patterns, held.words)?;
+    let name = proper_at(text, form, 1)?;
+    let None = named(text, rules, 6, 0, held.rules, &text[name.from..name.end]) else {
         return Err(Question::Declared);
     };
     let entry = RuleRow {
-        start,
-        end,
+        start: name.from,
+        end: name.end,
         variables: size.variables,
         premises: premise_count(form),
-        first: used,
+        first: held.words,
         last: size.words,
     };
-    store(rules, vars, count, entry, &row)?;
+    store(rules, vars, held.rules, entry, &row)?;
     Ok(size.words)
 }
