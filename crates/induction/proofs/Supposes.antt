@@ -22,33 +22,8 @@ use Rattle.terms.specs.On.{Stopped, On, on_start, on_is, on_ok, on_no, on_done}
 use Rattle.terms.specs.Laws.Growth.{grown_tree, grown_args, grown_there}
 use Rattle.reading.specs.declared.term.Out.{Out as Answer}
 use Rattle.reading.specs.declared.term.Out.TheVariants.{Ok, No}
-use Rattle.induction.specs.Inducing.{Below, motive_in, Motived, Moved, MovedAs, Scratch, NextOf, hyp_in, hyps_in, HypsMade}
+use Rattle.induction.specs.Inducing.{Below, motive_in, Motived, Moved, MovedAs, Scratch, hyp_in, hyps_in, HypsMade}
 use Rattle.induction.proofs.Moves.{then_same, below_grown}
-
--- The next place of a sort -----------------------------------------------------------------------------------------------------------------
-
-pub record Nexting (sorts : List ℕ) (sort from k : ℕ) : Type 0 where
-  pub low : from ≤ k
-  pub high : k ≤ length sorts
-  pub skipped : (i : ℕ) → from ≤ i → i < k → get_or sorts i 0 ≡ sort → ⊥
-
-pub nexting_start : (sorts : List ℕ) (sort from : ℕ) → from ≤ length sorts → Nexting sorts sort from from
-nexting_start sorts sort from l = record { low = omega arith; high = l; skipped = λ i a b e. omega arith }
-
-module _ {sorts : List ℕ} {sort from k : ℕ} (h : Nexting sorts sort from k) where
-  pub nexting_again : k < length sorts → (get_or sorts k 0 ≡ sort → ⊥) → Nexting sorts sort from (k + 1)
-  nexting_again l q =
-      record {
-        low = omega (arith, h.low);
-        high = omega arith;
-        skipped = λ i a b e. elim (dec_lt i k) [ yes p ↦ h.skipped i a p e | no n ↦ let z : i ≡ k = omega arith in q (subst (λ (y : ℕ). get_or sorts y 0 ≡ sort) z e) ];
-      }
-
-  pub nexting_here : k < length sorts → get_or sorts k 0 ≡ sort → NextOf sorts sort from k
-  nexting_here l e = record { low = h.low; high = h.high; skipped = h.skipped; stops = λ p. e }
-
-  pub nexting_none : length sorts ≤ k → NextOf sorts sort from (length sorts)
-  nexting_none l = record { low = omega (arith, h.low, h.high); high = omega arith; skipped = λ i a b. h.skipped i a (omega (arith, h.high)); stops = λ p. absurd (omega arith) }
 
 -- Rows in the cells -------------------------------------------------------------------------------------------------------------------------
 
@@ -162,22 +137,16 @@ below_row n a w cells r before row last k l =
 
 -- The loop ------------------------------------------------------------------------------------------------------------------------------------
 
--- those of the sort are skipped to
-skip_hyps : (M : Motive) (own sorts : List ℕ) (n from place : ℕ) → length sorts ≡ length own → place ≤ n + from → NextOf sorts M.sort from place → (U : Made) →
-    hypotheses M (drop from own) (drop from sorts) U ≡ hypotheses M (drop place own) (drop place sorts) U
+-- one of another sort
+skip_hyps : (M : Motive) (own sorts : List ℕ) (k : ℕ) → length sorts ≡ length own → k < length own → (get_or sorts k 0 ≡ M.sort → ⊥) → (U : Made) →
+    hypotheses M (drop k own) (drop k sorts) U ≡ hypotheses M (drop (suc k) own) (drop (suc k) sorts) U
 unfolding hypotheses
-skip_hyps M own sorts zero from place e l h U = let z : from ≡ place = omega (arith, h.low) in ap (λ (i : ℕ). hypotheses M (drop i own) (drop i sorts) U) z
-skip_hyps M own sorts (suc n) from place e l h U = elim (dec_lt from place) [
-  | no q ↦ let z : from ≡ place = omega (arith, h.low) in ap (λ (i : ℕ). hypotheses M (drop i own) (drop i sorts) U) z
-  | yes p ↦
-      (λ i. hypotheses M (drop-cons own from 0 (omega (arith, h.high, e)) i) (drop-cons sorts from 0 (omega (arith, h.high)) i) U)
-      ∙ ap (λ (b : Bool). (elim b as (λ (z : Bool). Act Made (List Hyp)) [
-        | true ↦ λ B. then (hypothesis_at M (get_or own from 0) B) (λ y A. then (hypotheses M (drop (suc from) own) (drop (suc from) sorts) A) (λ ys B. ok (y ∷ ys) B))
-        | false ↦ hypotheses M (drop (suc from) own) (drop (suc from) sorts)
-      ]) U) (ne_eqb (get_or sorts from 0) M.sort (h.skipped from (omega arith) p))
-      ∙ skip_hyps M own sorts n (suc from) place e (omega arith)
-      (record { low = omega arith; high = h.high; skipped = λ i a b. h.skipped i (omega arith) b; stops = h.stops }) U
-]
+skip_hyps M own sorts k e l q U =
+    (λ i. hypotheses M (drop-cons own k 0 l i) (drop-cons sorts k 0 (omega (arith, e, l)) i) U)
+    ∙ ap (λ (b : Bool). (elim b as (λ (z : Bool). Act Made (List Hyp)) [
+      | true ↦ λ B. then (hypothesis_at M (get_or own k 0) B) (λ y A. then (hypotheses M (drop (suc k) own) (drop (suc k) sorts) A) (λ ys B. ok (y ∷ ys) B))
+      | false ↦ hypotheses M (drop (suc k) own) (drop (suc k) sorts)
+    ]) U) (ne_eqb (get_or sorts k 0) M.sort q)
 
 -- one of the sort
 step_hyps : (M : Motive) (own sorts : List ℕ) (k : ℕ) → length sorts ≡ length own → k < length own → get_or sorts k 0 ≡ M.sort → (U : Made) →
@@ -203,24 +172,21 @@ pub record Supposing (I W : List ℕ) (old : Mark) (x sort j : ℕ) (premises ow
   pub place : at ≡ many * suc (length premises)
   pub few : many ≤ k
   pub near : k ≤ length own
-  pub stops : k < length sorts → get_or sorts k 0 ≡ sort
   pub long : length ids ≡ length ids₀
   pub map_same : map ≡ map₀
   pub memo_same : memo ≡ memo₀
 
 module _ {I W : List ℕ} {old : Mark} {x j : ℕ} {premises own sorts map₀ memo₀ ids₀ : List ℕ} (sort : ℕ) (g : Motived I W old x j premises × Scratch map₀ memo₀)
     (s : Below VARIABLES own × (length sorts ≡ length own) × (length own * suc (length premises) ≤ length ids₀)) where
-  pub supposing_start : {k : ℕ} → NextOf sorts sort 0 k → Supposing I W old x sort j premises own sorts map₀ memo₀ ids₀ I W map₀ memo₀ ids₀ old 0 0 k
+  pub supposing_start : Supposing I W old x sort j premises own sorts map₀ memo₀ ids₀ I W map₀ memo₀ ids₀ old 0 0 0
   unfolding hyps_in
-  supposing_start {k} h =
+  supposing_start =
       record {
-        on = on_is (on_start g.0.good)
-            (skip_hyps (motive_in (made I W old) x sort j premises) own sorts k 0 k s.1 (omega arith) h (made I W old) ∙ then_same (hypotheses (motive_in (made I W old) x sort j premises) (drop k own) (drop k sorts) (made I W old)));
+        on = on_is (on_start g.0.good) (then_same (hypotheses (motive_in (made I W old) x sort j premises) own sorts (made I W old)));
         known = λ i l. absurd (let z : 0 * suc (length premises) ≡ 0 = omega arith in omega (arith, l, ap (λ (n : ℕ). length (take n ids₀)) z));
         place = omega arith;
         few = omega arith;
-        near = omega (arith, h.high, s.1);
-        stops = h.stops;
+        near = omega arith;
         long = refl;
         map_same = refl;
         memo_same = refl;
@@ -240,6 +206,22 @@ module _ {I W : List ℕ} {old : Mark} {x j : ℕ} {premises own sorts map₀ me
         }
 
     module _ (l : k < length own) where
+      pub supposing_skip : (get_or sorts k 0 ≡ sort → ⊥) → Supposing I W old x sort j premises own sorts map₀ memo₀ ids₀ J X map memo ids now many at (k + 1)
+      supposing_skip q =
+          record {
+            on = on_is h.on
+                (ap (λ (o : Out Made (List Hyp)). then o (behind_hyps (hyps_in (made J X now) (length premises) many ids)))
+                (skip_hyps (motive_in (made I W old) x sort j premises) own sorts k s.1 l q (made J X now)
+                ∙ ap (λ (n : ℕ). hypotheses (motive_in (made I W old) x sort j premises) (drop n own) (drop n sorts) (made J X now)) (sym (add-one k))));
+            known = h.known;
+            place = h.place;
+            few = omega (arith, h.few);
+            near = omega arith;
+            long = h.long;
+            map_same = h.map_same;
+            memo_same = h.memo_same;
+          }
+
       roomy : suc many * suc (length premises) ≤ length own * suc (length premises)
       roomy = mul_mono (suc many) (length own) (suc (length premises)) (omega (arith, h.few, l))
         where
@@ -273,22 +255,22 @@ module _ {I W : List ℕ} {old : Mark} {x j : ℕ} {premises own sorts map₀ me
       motive_same : motive_in (made J X now) x sort j premises ≡ (motive_in (made I W old) x sort j premises)
       motive_same = λ i. record { variable = x; sort = sort; judgment = grown_tree h.on.grown j g.0.there i; premises = grown_args h.on.grown premises g.0.known i }
 
-      split : On I W old (hypotheses (motive_in (made I W old) x sort j premises) own sorts (made I W old)) J X now
+      split : get_or sorts k 0 ≡ sort → On I W old (hypotheses (motive_in (made I W old) x sort j premises) own sorts (made I W old)) J X now
           (then (hypothesis_at (motive_in (made J X now) x sort j premises) (get_or own k 0) (made J X now))
           (λ y A. then (hypotheses (motive_in (made I W old) x sort j premises) (drop (suc k) own) (drop (suc k) sorts) A) (λ ys B. ok (hyps_in (made J X now) (length premises) many ids ++ (y ∷ ys)) B)))
       unfolding then
-      split =
+      split is =
           on_is h.on
           (ap (λ (o : Out Made (List Hyp)). then o (behind_hyps (hyps_in (made J X now) (length premises) many ids)))
-          (step_hyps (motive_in (made I W old) x sort j premises) own sorts k s.1 l (h.stops (omega (arith, s.1, l))) (made J X now))
+          (step_hyps (motive_in (made I W old) x sort j premises) own sorts k s.1 l is (made J X now))
           ∙ then_then (hypothesis_at (motive_in (made I W old) x sort j premises) (get_or own k 0) (made J X now)) _ _
           ∙ (λ i. then (hypothesis_at (sym motive_same i) (get_or own k 0) (made J X now))
           (λ y A. then_then (hypotheses (motive_in (made I W old) x sort j premises) (drop (suc k) own) (drop (suc k) sorts) A) (λ ys B. ok (y ∷ ys) B) (behind_hyps (hyps_in (made J X now) (length premises) many ids)) i)))
 
-      module _ (Y Z last : List ℕ) (r : Answer)
+      module _ (is : get_or sorts k 0 ≡ sort) (Y Z last : List ℕ) (r : Answer)
           (a : (sort : ℕ) → MovedAs J X Y Z now (hypothesis_at (motive_in (made J X now) x sort j premises) (get_or own k 0) (made J X now)) last r) where
         pub supposing_stopped : {q d : ℕ} {new : Mark} → r ≡ No q d new → Stopped I W Y Z old (hypotheses (motive_in (made I W old) x sort j premises) own sorts (made I W old)) q d new
-        supposing_stopped e = on_no _ split (subst (MovedAs J X Y Z now (hypothesis_at (motive_in (made J X now) x sort j premises) (get_or own k 0) (made J X now)) last) e (a sort))
+        supposing_stopped e = on_no _ (split is) (subst (MovedAs J X Y Z now (hypothesis_at (motive_in (made J X now) x sort j premises) (get_or own k 0) (made J X now)) last) e (a sort))
 
         module _ {t : ℕ} {new : Mark} (e : r ≡ Ok t new) (longs : length last ≡ length (take (at + length premises - at) (drop at ids))) where
           moved : Moved J X Y Z now (hypothesis_at (motive_in (made J X now) x sort j premises) (get_or own k 0) (made J X now)) last t new
@@ -328,24 +310,22 @@ module _ {I W : List ℕ} {old : Mark} {x j : ℕ} {premises own sorts map₀ me
               (subst (Below new.terms) (sym (written_row ids last at w t supposing_room longs)) moved.known)
               (subst (λ (v : ℕ). v < new.terms) (sym (written_last ids last at w t supposing_room longs)) moved.there))
 
-          pub supposing_again : (map' memo' : List ℕ) → (map' ≡ map) × (memo' ≡ memo) → {next : ℕ} → NextOf sorts sort (k + 1) next →
+          pub supposing_again : (map' memo' : List ℕ) → (map' ≡ map) × (memo' ≡ memo) →
               Supposing I W old x sort j premises own sorts map₀ memo₀ ids₀ Y Z map' memo' (written ids last at (length premises) t supposing_room longs) new (many + 1)
-              (at + length premises + 1) next
-          supposing_again map' memo' same f =
+              (at + length premises + 1) (k + 1)
+          supposing_again map' memo' same =
               let ids' = written ids last at (length premises) t supposing_room longs in
               record {
-                on = on_is (on_ok _ split moved.went)
+                on = on_is (on_ok _ (split is) moved.went)
                     (ap (λ (f : List Hyp → Made → Out Made (List Hyp)). then (hypotheses (motive_in (made I W old) x sort j premises) (drop (suc k) own) (drop (suc k) sorts) (made Y Z new)) f)
                     (λ i ys B. ok ((sym (append_assoc (hyps_in (made J X now) (length premises) many ids) (hyp_in (made Y Z new) t last ∷ []) ys)
                     ∙ ap (λ (hs : List Hyp). hs ++ ys) (sym rows)) i) B)
                     ∙ ap (λ (o : Out Made (List Hyp)). then o (behind_hyps (hyps_in (made Y Z new) (length premises) (many + 1) ids')))
-                    (ap (λ (n : ℕ). hypotheses (motive_in (made I W old) x sort j premises) (drop n own) (drop n sorts) (made Y Z new)) (sym (add-one k))
-                    ∙ skip_hyps (motive_in (made I W old) x sort j premises) own sorts (length sorts) (k + 1) _ s.1 (omega (arith, f.high)) f (made Y Z new)));
+                    (ap (λ (n : ℕ). hypotheses (motive_in (made I W old) x sort j premises) (drop n own) (drop n sorts) (made Y Z new)) (sym (add-one k))));
                 known = known_again;
                 place = omega (arith, h.place, rows_suc many (length premises), ap (λ (n : ℕ). n * suc (length premises)) (add-one many));
-                few = omega (arith, h.few, f.low);
-                near = omega (arith, f.high, s.1);
-                stops = f.stops;
+                few = omega (arith, h.few);
+                near = omega arith;
                 long = written_long ids last at (length premises) t supposing_room longs ∙ h.long;
                 map_same = same.0 ∙ h.map_same;
                 memo_same = same.1 ∙ h.memo_same;

@@ -139,13 +139,6 @@ pub record Scratch (map memo : List ℕ) : Type 0 where
 
 -- Induction hypotheses ---------------------------------------------------------------------------------------------------------------
 
--- the first place from there on with that sort, or the place behind all
-pub record NextOf (sorts : List ℕ) (sort from place : ℕ) : Type 0 where
-  pub low : from ≤ place
-  pub high : place ≤ length sorts
-  pub skipped : (i : ℕ) → from ≤ i → i < place → get_or sorts i 0 ≡ sort → ⊥
-  pub stops : place < length sorts → get_or sorts place 0 ≡ sort
-
 -- so many in the cells: each has k premises, and its judgment behind them
 unfoldable pub hyps_in : Made → ℕ → ℕ → List ℕ → List Hyp
 hyps_in M k zero cells = []

@@ -6,7 +6,7 @@ ghost use Rattle.rules.specs.Store.{keep, substitutes};
 ghost use Rattle.rules.specs.Induct.{hypothesis_at, hypotheses};
 ghost use Rattle.terms.specs.Table.{made, tree, args_of, Good, After};
 ghost use Rattle.terms.specs.Subst.{replacement};
-ghost use Rattle.induction.specs.Inducing.{Below, motive_in, Motived, judgment_first, premises_first, Movable, MovedAllAs, MovedAs, var_trees, keep_case, Casing, at_constructor, Scratch, NextOf, HypsMadeAs};
+ghost use Rattle.induction.specs.Inducing.{Below, motive_in, Motived, judgment_first, premises_first, Movable, MovedAllAs, MovedAs, var_trees, keep_case, Casing, at_constructor, Scratch, HypsMadeAs};
 
 use reading::term::Out;
 use rules::{NODE, SYMBOLS};
@@ -182,20 +182,6 @@ fn hypothesis_at(
     }
 }
 
-// The first place from there on with that sort, or the place behind all.
-fn next_of(sorts: &[u32], sort: usize, from: usize) -> usize
-    requires { from ≤ length sorts.now }
-    ensures { NextOf sorts.now sort from result }
-{
-    let end = sorts.len();
-    for k in from..end {
-        if sorts[k] as usize == sort {
-            return k;
-        }
-    }
-    end
-}
-
 // One for each variable of the motive's own sort, one behind the other in `ids`: the premises, then the judgment. What is answered is how many.
 pub fn hypotheses(
     index: &mut [u32],
@@ -219,10 +205,11 @@ pub fn hypotheses(
     let mut m = mark;
     let mut many = 0;
     let mut at = 0;
-    let mut k = next_of(sorts, sort, 0);
-    while k < own.len() {
+    for (k, v) in own.iter().enumerate() {
+        if sorts[k] as usize != sort {
+            continue;
+        }
         let end = at + premises.len();
-        let v = own[k] as usize;
         match hypothesis_at(
             index,
             words,
@@ -230,7 +217,7 @@ pub fn hypotheses(
             x,
             judgment,
             premises,
-            v,
+            *v as usize,
             map,
             memo,
             &mut ids[at..end],
@@ -245,7 +232,6 @@ pub fn hypotheses(
                 return Out::No(q, d, new);
             }
         }
-        k = next_of(sorts, sort, k + 1);
     }
     Out::Ok(many, m)
 }

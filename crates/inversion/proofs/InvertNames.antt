@@ -133,16 +133,19 @@ pub record Making (vs : List Var) (rs : List RuleVar) (first sorts : List ℕ) (
   pub makes : (M : Made) → make_vars rs (vars_with vs first count) M ≡ make_vars (drop k rs) (vars_with vs sorts v) M
   pub numbers : take k list ≡ up_from count k
 
-pub making_start : (vs : List Var) (rs : List RuleVar) (first : List ℕ) (count : ℕ) (list : List ℕ) → Making vs rs first first count list count 0
+pub making_start : (vs : List Var) (rs : List RuleVar) (first : List ℕ) (count : ℕ) (list : List ℕ) → Making vs rs first first count list (count + 0) 0
 unfolding up_from
-making_start vs rs first count list = record { makes = λ M. refl; numbers = refl }
+making_start vs rs first count list =
+    let z : count ≡ count + 0 = omega arith in
+    record { makes = λ M. ap (λ (w : ℕ). make_vars rs (vars_with vs first w) M) z; numbers = refl }
 
 module _ {vs : List Var} {rs : List RuleVar} {first sorts : List ℕ} {count : ℕ} {list : List ℕ} {v k : ℕ} (h : Making vs rs first sorts count list v k)
     (lv : length vs ≤ v) (ls : length sorts ≡ VARIABLES) (e : v ≡ count + k) where
-  pub making_over : length rs ≤ k → k ≤ length rs → v ≤ VARIABLES → VarsMade vs rs first sorts count list v
+  pub making_over : length rs ≤ k → k ≤ length rs → v ≤ VARIABLES → {w : ℕ} → w ≡ v → VarsMade vs rs first sorts count list w
   unfolding make_vars
-  making_over l m f =
+  making_over l m f q =
       let z : k ≡ length rs = omega arith in
+      subst (λ (w : ℕ). VarsMade vs rs first sorts count list w) (sym q)
       record {
         makes = λ M. h.makes M ∙ ap (λ (ss : List RuleVar). make_vars ss (vars_with vs sorts v) M) (drop_of_length-le rs l);
         many = omega arith;
@@ -161,14 +164,15 @@ module _ {vs : List Var} {rs : List RuleVar} {first sorts : List ℕ} {count : �
     making_full f w M =
         opened M ∙ then_refuse _ 60 7 M _ (ap (λ (b : Bool). room 7 b M) (le-ltb (length (vars_with vs sorts v)) VARIABLES (omega (arith, with_length vs sorts v lv (omega (arith, ls, w)), f))))
 
-    pub making_more : {s : ℕ} → v < VARIABLES → k < length list → s ≡ (get_or rs k no_rule_var).sort → Making vs rs first (set sorts v s) count (set list k v) (v + 1) (k + 1)
+    pub making_more : {s : ℕ} → v < VARIABLES → k < length list → s ≡ (get_or rs k no_rule_var).sort → {u : ℕ} → u ≡ v + 1 → Making vs rs first (set sorts v s) count (set list k v) u (k + 1)
     unfolding make_vars
-    making_more {s} f w q =
+    making_more {s} f w q z =
         record {
           makes = λ M. opened M
               ∙ then_ok _ tt M _ (ap (λ (b : Bool). room 7 b M) (lt-ltb (length (vars_with vs sorts v)) VARIABLES (omega (arith, with_length vs sorts v lv (omega (arith, ls, f)), f))))
               ∙ ap (λ (us : List Var). make_vars (drop (k + 1) rs) us M)
-              (ap (λ (a : ℕ). vars_with vs sorts v ++ (made_var a ∷ [])) (sym q) ∙ sym (with_set vs sorts v s lv (omega (arith, ls, f))));
+              (ap (λ (a : ℕ). vars_with vs sorts v ++ (made_var a ∷ [])) (sym q) ∙ sym (with_set vs sorts v s lv (omega (arith, ls, f))))
+              ∙ ap (λ (a : ℕ). make_vars (drop (k + 1) rs) (vars_with vs (set sorts v s) a) M) (sym z);
           numbers = put_next list k v w ∙ (λ i. h.numbers i ++ (e i ∷ [])) ∙ sym (up_snoc count k) ∙ ap (up_from count) (sym (add-one k));
         }
 

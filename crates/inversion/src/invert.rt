@@ -60,8 +60,7 @@ fn taken_vars(
     let mut seen = [0u64; TERMWORDS];
     visit(index, words, mark, s, &mut seen, set);
     visit(index, words, mark, j, &mut seen, set);
-    let mut k = 0;
-    while k < context.len() {
+    for h in context {
         mention(
             facts,
             lists,
@@ -69,11 +68,10 @@ fn taken_vars(
             index,
             words,
             mark,
-            context[k] as usize,
+            *h as usize,
             &mut seen,
             set,
         );
-        k += 1;
     }
 }
 
@@ -82,10 +80,8 @@ fn put_made(vars: &mut [u32], sorts: &[u32], count: usize, end: usize)
     requires { ((goals : List ℕ) × (text : List ℕ) × (vs : List Var) × VarsHeld goals text vars.old count vs) × (count ≤ end) × (end ≤ VARIABLES) × (length sorts.now ≡ VARIABLES) }
     ensures { (goals text : List ℕ) (vs : List Var) → VarsHeld goals text vars.old count vs → VarsHeld goals text vars.new end (vars_with vs sorts.now end) }
 {
-    let mut v = count;
-    while v < end {
+    for v in count..end {
         put_var(vars, v, sorts[v] as usize, 0, 0, 0);
-        v += 1;
     }
 }
 
@@ -143,10 +139,7 @@ fn invert_rules(
     let mut m = mark;
     let mut count = n.vars;
     let mut from = 0;
-    loop {
-        let Some(r) = next_rule(rules, patterns, symbols, n.rules, predicate, from) else {
-            return Out::Ok(count, m);
-        };
+    while let Some(r) = next_rule(rules, patterns, symbols, n.rules, predicate, from) {
         match invert_rule(
             theory, goals, text, symbols, inputs, rules, rulevars, patterns, vars, defs, facts,
             lists, n, index, words, m, cells, many, s, j, context, r, taken, sorts, count, map,
@@ -162,6 +155,7 @@ fn invert_rules(
         }
         from = r + 1;
     }
+    Out::Ok(count, m)
 }
 
 // The rest of the form behind its judgment j; s: the hypothesis.

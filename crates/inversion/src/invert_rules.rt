@@ -41,15 +41,10 @@ fn suits(vars: &[u32], rulevars: &[u32], r: usize, need: usize, list: &[u32]) ->
     if list.len() != need {
         return false;
     }
-    let mut k = 0;
-    while k < list.len() {
-        if !same_sort(
-            var_sort(vars, list[k] as usize),
-            variable_sort(rulevars, r, k),
-        ) {
+    for (k, v) in list.iter().enumerate() {
+        if !same_sort(var_sort(vars, *v as usize), variable_sort(rulevars, r, k)) {
             return false;
         }
-        k += 1;
     }
     true
 }
@@ -59,12 +54,10 @@ fn all_new(list: &[u32], taken: &[u64]) -> bool
     requires { There (64 * length taken.now) list.now }
     ensures { result ≡ all (λ v. not (holds taken.now v)) list.now }
 {
-    let mut k = 0;
-    while k < list.len() {
-        if has(taken, list[k] as usize) {
+    for v in list {
+        if has(taken, *v as usize) {
             return false;
         }
-        k += 1;
     }
     true
 }
@@ -83,18 +76,15 @@ fn make_vars(
     ensures { (g : RuleVarsGiven rulevars.now r need) (vs : List Var) → length vs ≤ count →
         MadeAs vs (rule g.T r).vars sorts.old sorts.new count list.new result }
 {
-    let mut v = count;
-    let mut k = 0;
-    while k < need {
+    for k in 0..need {
+        let v = count + k;
         if v >= VARIABLES {
             return None;
         }
         sorts[v] = variable_sort(rulevars, r, k) as u32;
         list[k] = v as u32;
-        v += 1;
-        k += 1;
     }
-    Some(v)
+    Some(count + need)
 }
 
 // The variables of the case at a place, which must suit the rule and be new (question 42), come into the list, and join the set. What is answered is the
@@ -120,10 +110,7 @@ fn case_vars(
     match read_case(goals, text, vars, count, &cells[p..], &mut out) {
         CaseRead::Ok(_, i, many) => {
             let own = &out[..many];
-            if !suits(vars, rulevars, r, need, own) {
-                return None;
-            }
-            if !all_new(own, taken) {
+            if !suits(vars, rulevars, r, need, own) || !all_new(own, taken) {
                 return None;
             }
             insert_all(own, taken);
@@ -146,10 +133,8 @@ fn keep_vars(
     ensures { KeptAs index.old words.old index.new words.new mark list.now bound.new result }
 {
     let mut m = mark;
-    let mut k = 0;
-    while k < list.len() {
-        let mut node = [0u32; 1];
-        node[0] = (SYMBOLS + list[k] as usize) as u32;
+    for (k, v) in list.iter().enumerate() {
+        let node = [(SYMBOLS + *v as usize) as u32];
         match keep(index, words, m, &node) {
             Kept::Term(t, new) => {
                 bound[k] = (t + 1) as u32;
@@ -159,7 +144,6 @@ fn keep_vars(
                 return Bound::No(60, row, new);
             }
         }
-        k += 1;
     }
     Bound::Ok(m)
 }

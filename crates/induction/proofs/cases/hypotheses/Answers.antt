@@ -1,14 +1,8 @@
-use Rattle.induction.proofs.Supposes.{supposing_start, supposing_done, supposing_room, supposing_given, supposing_stopped, supposing_small, supposing_again, lent_as_long}
+use Rattle.induction.proofs.Supposes.{supposing_start, supposing_skip, supposing_done, supposing_room, supposing_given, supposing_stopped, supposing_small, supposing_again, lent_as_long}
 use lib.ListN.{length}
 use mathlib.Core.Path.{◌∙◌, ap}
 use native.Mathlib.Omega.{arith}
 use Rattle.induction.proofs.cases.hypotheses.Goals as goal
-
-pub next_of-k-requires : goal.next_of-k-requires
-next_of-k-requires c = omega arith
-
-pub loop-k-init : goal.loop-k-init
-loop-k-init c = supposing_start _ c.requires.motived c.requires.below c.next_of-k.ensures
 
 pub overflow_add-end : goal.overflow_add-end
 overflow_add-end c = omega (
@@ -17,15 +11,6 @@ overflow_add-end c = omega (
   c.loop-k.invariant.long,
   c.well_formed.1.1.1.1.1.1.1.1.1.1.1.0.0,
 )
-
-pub offset_bounds-own-k : goal.offset_bounds-own-k
-offset_bounds-own-k c = omega (arith, c.loop-k-test.true, c.well_formed.1.1.1.0.0)
-
-pub bounds-own-k : goal.bounds-own-k
-bounds-own-k c = c.loop-k-test.true
-
-pub overflow_cast-v : goal.overflow_cast-v
-overflow_cast-v c = omega (arith, c.type_inv.own c.loop-k.k)
 
 pub offset_bounds-ids-at : goal.offset_bounds-ids-at
 offset_bounds-ids-at c = omega (
@@ -50,7 +35,7 @@ hypothesis_at-requires c = record { motived = (supposing_given _ c.requires.moti
 pub overflow_cast-ids : goal.overflow_cast-ids
 overflow_cast-ids c = omega (
   arith,
-  supposing_small _ c.requires.motived c.requires.below c.loop-k.invariant c.loop-k-test.true c.hypothesis_at.new.index c.hypothesis_at.new.words
+  supposing_small _ c.requires.motived c.requires.below c.loop-k.invariant c.loop-k-test.true c.if-sorts-k.false c.hypothesis_at.new.index c.hypothesis_at.new.words
       c.hypothesis_at.new.out c.hypothesis_at.result c.hypothesis_at.ensures.by_index c.in-Ok.is
       c.hypothesis_at.auto.out,
 )
@@ -104,25 +89,16 @@ shape_of-ids-in-No c = lent_as_long c.loop-k.ids c.hypothesis_at.new.out c.loop-
 
 pub returns-in-No : goal.returns-in-No
 returns-in-No c = record {
-  hyps_made_as = supposing_stopped _ c.requires.motived c.requires.below c.loop-k.invariant c.loop-k-test.true c.hypothesis_at.new.index c.hypothesis_at.new.words
+  hyps_made_as = supposing_stopped _ c.requires.motived c.requires.below c.loop-k.invariant c.loop-k-test.true c.if-sorts-k.false c.hypothesis_at.new.index c.hypothesis_at.new.words
       c.hypothesis_at.new.out c.hypothesis_at.result c.hypothesis_at.ensures.by_index c.in-No.is;
   map_unchanged = (c.hypothesis_at.ensures.map_unchanged.0 ∙ c.loop-k.invariant.map_same, c.hypothesis_at.ensures.map_unchanged.1 ∙ c.loop-k.invariant.memo_same);
 }
 
-pub overflow_add-k : goal.overflow_add-k
-overflow_add-k c = omega (arith, c.loop-k-test.true, c.well_formed.1.1.1.0.0)
-
-pub next_of-k-requires-in-loop-k : goal.next_of-k-requires-in-loop-k
-next_of-k-requires-in-loop-k c = omega (arith, c.loop-k-test.true, c.requires.below.1)
-
-pub loop-k-smaller : goal.loop-k-smaller
-loop-k-smaller c = omega (arith, c.loop-k-test.true, c.next_of-k-in-loop-k.ensures.low)
-
 pub loop-k-preserved : goal.loop-k-preserved
-loop-k-preserved c = supposing_again _ c.requires.motived c.requires.below c.loop-k.invariant c.loop-k-test.true c.hypothesis_at.new.index c.hypothesis_at.new.words
+loop-k-preserved c = supposing_again _ c.requires.motived c.requires.below c.loop-k.invariant c.loop-k-test.true c.if-sorts-k.false c.hypothesis_at.new.index c.hypothesis_at.new.words
     c.hypothesis_at.new.out c.hypothesis_at.result c.hypothesis_at.ensures.by_index c.in-Ok.is
     c.hypothesis_at.auto.out c.hypothesis_at.new.map
-    c.hypothesis_at.new.memo c.hypothesis_at.ensures.map_unchanged c.next_of-k-in-loop-k.ensures
+    c.hypothesis_at.new.memo c.hypothesis_at.ensures.map_unchanged
 
 pub shape_of-index : goal.shape_of-index
 shape_of-index c = c.loop-k.invariant.on.grown.same.long_index
@@ -141,3 +117,9 @@ shape_of-ids c = c.loop-k.invariant.long
 
 pub returns : goal.returns
 returns c = record { hyps_made_as = supposing_done _ c.requires.motived c.requires.below c.loop-k.invariant c.loop-k-test.false; map_unchanged = (c.loop-k.invariant.map_same, c.loop-k.invariant.memo_same) }
+
+pub loop-k-init : goal.loop-k-init
+loop-k-init c = supposing_start _ c.requires.motived c.requires.below
+
+pub loop-k-preserved-then-sorts-k : goal.loop-k-preserved-then-sorts-k
+loop-k-preserved-then-sorts-k c = supposing_skip _ c.requires.motived c.requires.below c.loop-k.invariant c.loop-k-test.true c.if-sorts-k.true

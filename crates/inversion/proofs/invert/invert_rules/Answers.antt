@@ -13,36 +13,6 @@ loop-r-init c = (λ g. rounds_start g c.predicate_of-predicate.ensures, c.requir
 pub next_rule-requires : goal.next_rule-requires
 next_rule-requires c = rounds_rules c.requires.turning
 
-pub shape_of-index-in_default : goal.shape_of-index-in_default
-shape_of-index-in_default c = c.loop-r.invariant.2
-
-pub shape_of-words-in_default : goal.shape_of-words-in_default
-shape_of-words-in_default c = c.loop-r.invariant.3
-
-pub shape_of-taken-in_default : goal.shape_of-taken-in_default
-shape_of-taken-in_default c = c.loop-r.invariant.4
-
-pub shape_of-sorts-in_default : goal.shape_of-sorts-in_default
-shape_of-sorts-in_default c = c.loop-r.invariant.5
-
-pub shape_of-map-in_default : goal.shape_of-map-in_default
-shape_of-map-in_default c = ap length (c.loop-r.invariant.1.maps ∙ sym c.requires.empty.0.maps)
-
-pub shape_of-memo-in_default : goal.shape_of-memo-in_default
-shape_of-memo-in_default c = ap length (c.loop-r.invariant.1.memos ∙ sym c.requires.empty.0.memos)
-
-pub shape_of-theta-in_default : goal.shape_of-theta-in_default
-shape_of-theta-in_default c = ap length (c.loop-r.invariant.1.thetas ∙ sym c.requires.empty.0.thetas)
-
-pub shape_of-pairs-in_default : goal.shape_of-pairs-in_default
-shape_of-pairs-in_default c = ap length (c.loop-r.invariant.1.many ∙ sym c.requires.empty.0.many)
-
-pub shape_of-ids-in_default : goal.shape_of-ids-in_default
-shape_of-ids-in_default c = ap length c.loop-r.invariant.6
-
-pub returns-in_default : goal.returns-in_default
-returns-in_default c = record { turned_as = λ g. rounds_over g (c.loop-r.invariant.0 g) c.next_rule.ensures c.in_default.is; empty_2 = (c.loop-r.invariant.1, c.loop-r.invariant.6) }
-
 pub invert_rule-requires : goal.invert_rule-requires
 invert_rule-requires c = record {
   turning = rounds_turning c.requires.turning (c.loop-r.invariant.0 c.requires.turning) c.next_rule.ensures c.in-Some.is (c.loop-r.invariant.4 ∙ c.requires.turning.taken_long)
@@ -128,3 +98,6 @@ loop-r-preserved c = (
   c.invert_rule.auto.sorts ∙ c.loop-r.invariant.5,
   c.invert_rule.ensures.empty.1 ∙ c.loop-r.invariant.6,
 )
+
+pub returns-clause-turned_as : goal.returns-clause-turned_as
+returns-clause-turned_as c = λ g. rounds_over g (c.loop-r.invariant.0 g) c.next_rule.ensures c.in_default.is

@@ -25,9 +25,6 @@ put_var-requires c = (
   },
 )
 
-pub overflow_add-v : goal.overflow_add-v
-overflow_add-v c = omega (arith, c.loop-v-test.true, c.requires.2)
-
 pub loop-v-smaller : goal.loop-v-smaller
 loop-v-smaller c = omega (arith, c.loop-v-test.true)
 

@@ -17,28 +17,19 @@ visit-requires-2 c = record {
   seen = c.visit.ensures.visits;
 }
 
-pub loop-k-init : goal.loop-k-init
-loop-k-init c = taking_begins c.requires.4 c.visit.ensures c.visit-2.ensures (c.visit-2.auto.seen ∙ c.visit.auto.seen)
+pub loop-h-init : goal.loop-h-init
+loop-h-init c = taking_begins c.requires.4 c.visit.ensures c.visit-2.ensures (c.visit-2.auto.seen ∙ c.visit.auto.seen)
     (c.visit-2.auto.set ∙ (c.visit.auto.set ∙ (ap length c.requires.4 ∙ length-replicate {A = ℕ} VARIABLEWORDS 0)))
 
-pub offset_bounds-context-k : goal.offset_bounds-context-k
-offset_bounds-context-k c = omega (arith, c.well_formed.1.1.1.1.1.1.1.1.0.0, c.well_formed.1.1.1.1.1.1.1.1.0.1, c.loop-k-test.true)
-
-pub overflow_cast-context : goal.overflow_cast-context
-overflow_cast-context c = omega (arith, c.requires.3 _ c.loop-k-test.true, c.requires.0.recorded.many, c.requires.0.recorded.rows.row12)
-
 pub mention-requires : goal.mention-requires
-mention-requires c = record { recalls = (c.requires.0, c.requires.3 _ c.loop-k-test.true, c.loop-k.invariant.long_seen, c.loop-k.invariant.long_set); seen = c.loop-k.invariant.visits }
+mention-requires c = record { recalls = (c.requires.0, c.requires.3 _ c.loop-h-test.true, c.loop-h.invariant.long_seen, c.loop-h.invariant.long_set); seen = c.loop-h.invariant.visits }
 
-pub overflow_add-k : goal.overflow_add-k
-overflow_add-k c = omega (arith, c.well_formed.1.1.1.1.1.1.1.1.0.0, c.loop-k-test.true)
-
-pub loop-k-preserved : goal.loop-k-preserved
-loop-k-preserved c = taking_on c.loop-k.invariant c.requires.0 c.requires.3 c.loop-k-test.true c.mention.auto.seen
+pub loop-h-preserved : goal.loop-h-preserved
+loop-h-preserved c = taking_on c.loop-h.invariant c.requires.0 c.requires.3 c.loop-h-test.true c.mention.auto.seen
     c.mention.auto.set c.mention.ensures
 
 pub shape_of-set : goal.shape_of-set
-shape_of-set c = c.loop-k.invariant.long_set ∙ sym (ap length c.requires.4 ∙ length-replicate {A = ℕ} VARIABLEWORDS 0)
+shape_of-set c = c.loop-h.invariant.long_set ∙ sym (ap length c.requires.4 ∙ length-replicate {A = ℕ} VARIABLEWORDS 0)
 
 pub returns : goal.returns
-returns c = taking_ends c.loop-k.invariant (omega (arith, c.loop-k-test.false))
+returns c = taking_ends c.loop-h.invariant (omega (arith, c.loop-h-test.false))

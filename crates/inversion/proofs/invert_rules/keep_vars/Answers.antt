@@ -53,9 +53,6 @@ pub returns-in-Full : goal.returns-in-Full
 returns-in-Full c = vars_full c.loop-k.invariant c.requires.2 c.loop-k-test.true c.keep.new.index c.keep.new.words c.keep.result (var_after _ _ _ c.keep.ensures)
     c.in-Full.is
 
-pub overflow_add-k : goal.overflow_add-k
-overflow_add-k c = omega (arith, c.loop-k-test.true, c.requires.2)
-
 pub loop-k-smaller : goal.loop-k-smaller
 loop-k-smaller c = omega (arith, c.loop-k-test.true)
 

@@ -1,6 +1,6 @@
 use mathlib.Core.Path.{◌≡◌}
 use mathlib.Core.List.{List}
-use Prim.Native.Nat.{◌+◌, ◌-◌, ◌≤◌}
+use Prim.Native.Nat.{◌+◌, ◌≤◌}
 use lib.ListN.{length}
 use Rattle.rules.specs.Limits.{VARIABLES}
 use Rattle.rules.specs.Theory.{rule}
@@ -10,7 +10,4 @@ use Rattle.inversion.proofs.InvertNames.{Making}
 use Rattle.inversion.proofs.invert_rules.make_vars.Given as goal
 
 abbrev pub invariant-loop-k : goal.invariant-loop-k
-invariant-loop-k l = (l.k ≤ l.need) × (l.v ≡ l.count + l.k) × (l.v ≤ VARIABLES) × (length l.sorts ≡ VARIABLES) × (length l.list ≡ length l.initial.list) × ((g : RuleVarsGiven l.rulevars l.r l.need) (vs : List Var) → length vs ≤ l.count → Making vs (rule g.T l.r).vars l.initial.sorts l.sorts l.count l.list l.v l.k)
-
-abbrev pub decreases-loop-k : goal.decreases-loop-k
-decreases-loop-k l = l.need - l.k
+invariant-loop-k l = (l.k ≤ l.need) × (l.count + l.k ≤ VARIABLES) × (length l.sorts ≡ VARIABLES) × (length l.list ≡ length l.initial.list) × ((g : RuleVarsGiven l.rulevars l.r l.need) (vs : List Var) → length vs ≤ l.count → Making vs (rule g.T l.r).vars l.initial.sorts l.sorts l.count l.list (l.count + l.k) l.k)

@@ -12,9 +12,6 @@ returns-then-list-need c = λ g vs count h. suit_none vs _ _ g.many c.if-list-ne
 pub loop-k-init : goal.loop-k-init
 loop-k-init c = (omega arith, c.if-list-need.false, λ g vs count h. refl)
 
-pub overflow_cast-list : goal.overflow_cast-list
-overflow_cast-list c = omega (arith, c.type_inv.list c.loop-k.k)
-
 pub var_sort-requires : goal.var_sort-requires
 var_sort-requires c = (vars_long c.requires.1.2, c.requires.2 c.loop-k.k c.loop-k-test.true)
 

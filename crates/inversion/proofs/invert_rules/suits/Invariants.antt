@@ -1,6 +1,6 @@
 use mathlib.Core.Path.{◌≡◌}
 use mathlib.Core.List.{List}
-use Prim.Native.Nat.{ℕ, ◌-◌, ◌≤◌}
+use Prim.Native.Nat.{ℕ, ◌≤◌}
 use lib.ListN.{length, drop}
 use Rattle.rules.specs.Theory.{rule}
 use Rattle.rules.specs.State.{Var}
@@ -11,6 +11,3 @@ use Rattle.inversion.proofs.invert_rules.suits.Given as goal
 
 abbrev pub invariant-loop-k : goal.invariant-loop-k
 invariant-loop-k l = (l.k ≤ length l.list) × (length l.list ≡ l.need) × ((g : RuleVarsGiven l.rulevars l.r l.need) (vs : List Var) (count : ℕ) → VarCells l.vars count vs → suit vs l.list (rule g.T l.r).vars ≡ suit vs (drop l.k l.list) (drop l.k (rule g.T l.r).vars))
-
-abbrev pub decreases-loop-k : goal.decreases-loop-k
-decreases-loop-k l = length l.list - l.k
