@@ -34,9 +34,6 @@ pub bounds-map-v : goal.bounds-map-v
 bounds-map-v c = left_small (c.loop-at.invariant c.requires.reads_items) c.loop-at-test.true c.binding.new.index
     c.binding.new.words c.binding.result c.binding.ensures c.in-Of.is
 
-pub clear-requires : goal.clear-requires
-clear-requires c = tt
-
 pub shape_of-index-then-map-v-ne0 : goal.shape_of-index-then-map-v-ne0
 shape_of-index-then-map-v-ne0 c = c.binding.auto.index ∙ (c.loop-at.invariant c.requires.reads_items).on.grown.same.long_index
 
@@ -79,9 +76,6 @@ offset_bounds-map-v-in-Of c = omega (
 pub bounds-map-v-in-Of : goal.bounds-map-v-in-Of
 bounds-map-v-in-Of c = left_small (c.loop-at.invariant c.requires.reads_items) c.loop-at-test.true c.binding.new.index
     c.binding.new.words c.binding.result c.binding.ensures c.in-Of.is
-
-pub clear-requires-in-No : goal.clear-requires-in-No
-clear-requires-in-No c = tt
 
 pub shape_of-index-in-No : goal.shape_of-index-in-No
 shape_of-index-in-No c = c.binding.auto.index ∙ (c.loop-at.invariant c.requires.reads_items).on.grown.same.long_index
