@@ -23,14 +23,7 @@ pub fn short(text: &[u8]) -> bool
 pub fn plain(text: &[u8]) -> bool
     ensures { result ≡ plain text.now }
 {
-    let mut at = 0;
-    while at < text.len() {
-        if 127 < text[at] {
-            return false;
-        }
-        at += 1;
-    }
-    true
+    text.iter().all(|b| *b <= 127)
 }
 
 // How many bytes of white space stand at a place; 0 where there is none.
