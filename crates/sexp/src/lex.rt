@@ -184,6 +184,7 @@ pub(crate) fn skip(text: &[u8], from: usize) -> usize
     ensures { Skipped text.now from result }
 {
     let mut at = from;
+    // steps are of different widths
     while at < text.len() {
         let w = white(text, at);
         if w != 0 {
