@@ -9,7 +9,7 @@ ghost use Rattle.terms.specs.Collect.{Seen, Readable, Visited};
 
 use crate::sets::{has, insert};
 use crate::store::{FLAGS, Mark, start_of};
-use cells::clear_words;
+use cells::clear;
 use rules::{SYMBOLS, VARIABLEWORDS};
 
 // The variables of the term `id` join the set, and its open nodes those that were visited; a term that was visited has its own there already,
@@ -55,7 +55,7 @@ pub fn variables(
     ensures { (holds set.new ≡ union (holds set.old) (variables_in (tree index.now words.now mark id))) × (seen.new ≡ seen.old) }
 {
     visit(index, words, mark, id, seen, set);
-    clear_words(seen);
+    clear(seen);
 }
 
 // Whether the variable `x` occurs in the term `id`. `seen` is scratch: zero before and after.

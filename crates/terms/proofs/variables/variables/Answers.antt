@@ -6,4 +6,4 @@ pub visit-requires : goal.visit-requires
 visit-requires c = record { readable = c.requires.readable; seen = seen_none _ _ _ _ _ c.requires.seen_value }
 
 pub returns : goal.returns
-returns c = (c.visit.ensures.set, cleared _ c.visit.new.seen _ c.requires.seen_value c.visit.auto.seen c.clear_words.ensures)
+returns c = (c.visit.ensures.set, cleared _ c.visit.new.seen _ c.requires.seen_value c.visit.auto.seen c.clear.ensures)
