@@ -90,7 +90,7 @@ pub fn parse_exact(
     result
 }
 
-// The same of the tables' slices.
+// The same, the tables lent one by one: a struct of parts of slices that lie in another struct is more than the check follows.
 fn parse_parts(
     text: &[u8],
     cells: &mut [u32],

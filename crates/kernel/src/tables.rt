@@ -21,6 +21,7 @@ impl Counts {
     };
 }
 
+// The six tables. One that is only read is taken as `&mut *` of its field, so that what it holds stays known.
 #[derive(Drop)]
 pub struct Tables<'a> {
     pub sorts: &'a mut [u32],
