@@ -33,6 +33,7 @@ fn seek(text: &[u8], name: &[u8], places: &[u32], links: &[u32]) -> Spot
 {
     let mut cell = 0;
     let mut depth = 0;
+    // no count: it goes from node to node, as deep as the tree is
     loop {
         let node = links[cell] as usize;
         if node == 0 {
