@@ -55,6 +55,7 @@ fn take_goals(
     let mut mark = Mark { terms: 0, words: 0 };
     let mut forms = 0;
     let mut at = 0;
+    // no count: forms are as long as they are, and the text may end in a refusal
     loop {
         let form = match read_form(goals, at, cells) {
             Ok(Some(form)) => form,

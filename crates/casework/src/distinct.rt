@@ -7,7 +7,7 @@ ghost use Rattle.casework.specs.Distinct.{turn_of, between, Tree, SpotAs, Entere
 use sexp::names::same;
 
 // What a name comes to in the tree: itself, or a cell where it can come in.
-#[derive(Clone, Copy)]
+#[derive(Clone, Copy, Debug, PartialEq, Eq)]
 pub enum Spot {
     Met,
     Free(usize),
@@ -21,7 +21,7 @@ fn turn(name: &[u8], depth: usize) -> usize
     if at >= name.len() {
         return 0;
     }
-    let letter = name[at] as usize;
+    let letter = usize::from(name[at]);
     (letter >> (depth % 8)) % 2
 }
 
@@ -33,6 +33,7 @@ fn seek(text: &[u8], name: &[u8], places: &[u32], links: &[u32]) -> Spot
 {
     let mut cell = 0;
     let mut depth = 0;
+    // no count: it goes from node to node, as deep as the tree is
     loop {
         let node = links[cell] as usize;
         if node == 0 {

@@ -139,6 +139,7 @@ fn invert_rules(
     let mut m = mark;
     let mut count = n.vars;
     let mut from = 0;
+    // no count: it jumps to the next rule of the predicate
     while let Some(r) = next_rule(rules, patterns, symbols, n.rules, predicate, from) {
         match invert_rule(
             theory, goals, text, symbols, inputs, rules, rulevars, patterns, vars, defs, facts,

@@ -13,7 +13,7 @@ use state::goals::{goal_judgment, is_taken};
 use terms::apart::{is_open, settle};
 
 // Facts; goals, those with variables; hypotheses, inductions, inversions, instances.
-#[derive(Clone, Copy)]
+#[derive(Clone, Copy, Debug, PartialEq, Eq)]
 pub struct Report {
     pub steps: usize,
     pub goals: usize,
@@ -25,7 +25,7 @@ pub struct Report {
 }
 
 // Number; text: 0 none, 1 theory, 2 goals, 3 proof; complete forms before it; detail.
-#[derive(Clone, Copy)]
+#[derive(Clone, Copy, Debug, PartialEq, Eq)]
 pub struct Refusal {
     pub number: usize,
     pub text: usize,
@@ -33,7 +33,7 @@ pub struct Refusal {
     pub detail: usize,
 }
 
-#[derive(Clone, Copy)]
+#[derive(Clone, Copy, Debug, PartialEq, Eq)]
 pub enum Answer {
     Accepted(Report),
     Refused(Refusal),

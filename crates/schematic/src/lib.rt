@@ -104,6 +104,7 @@ fn run(
         kept.new feet.new cells.new ids.new memo.new s result facts.old facts.new counts.new }
 {
     let mut st = s;
+    // no count: until the proof ends or is refused
     while running::run::is_going(st) {
         let next = turn(
             theory, goals, proof, st, sorts, symbols, inputs, rules, rulevars, patterns, vars,
