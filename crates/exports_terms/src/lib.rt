@@ -16,7 +16,7 @@ use questions::Row;
 use terms::store::{Mark, Store, Terms};
 use terms::substitute::substitute;
 use terms::variables::variables;
-use unification::unify::unify;
+use unification::unify::{Scratch, unify};
 
 // The number of a node's term, which comes into the store if it is new; the number of terms that fit where it does not. The node is the
 // first parameter, since a slice that is passed on the stack is read there before it is quite written, for which the processor waits.
@@ -124,5 +124,11 @@ pub extern "C" fn tariff_unify(
         words: used,
     };
     let mut store = Store { index, words, mark };
-    number_of(unify(&mut store, variables, s, t, theta, map, memo, pairs, seen))
+    let mut scratch = Scratch {
+        map,
+        memo,
+        pairs,
+        seen,
+    };
+    number_of(unify(&mut store, variables, s, t, theta, &mut scratch))
 }

@@ -15,7 +15,7 @@ use Rattle.rules.specs.Limits.{NODE}
 use Rattle.terms.specs.declared.store.Mark.{Mark}
 use Rattle.questions.specs.declared.Row.{Row}
 use Rattle.terms.specs.Table.{run, args_of, tree_at, made, Shaped, Node, After}
-use Rattle.terms.specs.Subst.{image, Known, renumbered, rebuilt, Rebuildable}
+use Rattle.terms.specs.Subst.{image, renumbered, rebuilt, Rebuildable}
 use Rattle.terms.specs.Laws.Runs.{run_length, run_more, run_none}
 
 -- image_of ---------------------------------------------------------------------------------------------------------------------------
@@ -77,23 +77,7 @@ pub record Gathering (W memo l now : List ℕ) (s e at : ℕ) : Type 0 where
   pub long : length now ≡ length l
   pub left : sets now (at - s) (renumbered memo (run W at (e - at))) ≡ sets l 1 (renumbered memo (run W (s + 1) (e - (s + 1))))
 
-pub gathering_begins : (W memo l : List ℕ) (h s e : ℕ) → Rebuildable W memo s e → NODE ≤ length l → Gathering W memo (set l 0 h) (set l 0 h) s e (s + 1)
-gathering_begins W memo l h s e r k =
-    let a = r.some in
-    let z : s + 1 - s ≡ 1 = omega arith in
-    let b = length-set l 0 h in
-    record { ready = r; room = omega arith; from = omega arith; upto = omega arith; long = refl; left = ap (λ (j : ℕ). sets (set l 0 h) j (renumbered memo (run W (s + 1) (e - (s + 1))))) z }
-
 module _ (W memo l now : List ℕ) (s e at : ℕ) (g : Gathering W memo l now s e at) (h : at < e) where
-  pub gathering_word : at < length W
-  gathering_word = let a = g.ready.fits in omega arith
-
-  pub gathering_known : Known memo (get_or W at 0)
-  gathering_known = g.ready.known at g.from h
-
-  pub gathering_room : at - s < length now
-  gathering_room = let a = g.ready.narrow in let b = g.room in let d = g.long in let f = g.from in omega arith
-
   pub gathering_on : Gathering W memo l (set now (at - s) (get_or memo (get_or W at 0) 0 - 1)) s e (at + 1)
   gathering_on =
       let f = g.from in
@@ -133,6 +117,3 @@ module _ (W memo : List ℕ) (s e : ℕ) (r : Rebuildable W memo s e) (l now : L
   pub rebuild_done : (I X J Y : List ℕ) (m new : Mark) (k : Result ℕ Row) → After I X J Y m new (tree_at (made I X m) (take (e - s) now)) (keep (tree_at (made I X m) (take (e - s) now)) (made I X m)) k
       → After I X J Y m new (tree_at (made I X m) (rebuilt W memo s e)) (keep (tree_at (made I X m) (rebuilt W memo s e)) (made I X m)) k
   rebuild_done I X J Y m new k d = subst (λ (w : List ℕ). After I X J Y m new (tree_at (made I X m) w) (keep (tree_at (made I X m) w) (made I X m)) k) gathered d
-
-  pub gathered_long : e - s ≡ length (take (e - s) now)
-  gathered_long = sym (ap length gathered ∙ rebuilt_length W memo s e r)

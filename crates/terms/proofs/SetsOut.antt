@@ -29,12 +29,6 @@ pub record Laying (all out₀ out : List ℕ) (n base left at k : ℕ) : Type 0 
   pub count : k + length (rising_from at (base + 64 - at) (shifted at left)) ≡ n + length all
   pub cells : sets out k (rising_from at (base + 64 - at) (shifted at left)) ≡ sets out₀ n all
 
-pub laying_begins : (out : List ℕ) (n base word : ℕ) → (base + 64 ≤ TERMS) × (n + length (rising_from base 64 (shifted base word)) ≤ length out) → word < 2 ^ 64
-    → Laying (rising_from base 64 (shifted base word)) out out n base word base n
-laying_begins out n base word p l =
-    let e : base + 64 - base ≡ 64 = omega arith in
-    record { low = omega arith; base_small = p.0; high = omega arith; word = l; small = rw e l; room = rw e p.1; long = refl; count = rw e; cells = rw e }
-
 module _ (all out₀ out : List ℕ) (n base left at k : ℕ) (y : Laying all out₀ out n base left at k) (some : left ≡ 0 → ⊥) where
   found : Lowest 64 left (count_trailing_zeros 64 left)
   found = lowest 64 left some y.word

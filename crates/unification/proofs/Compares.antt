@@ -4,10 +4,10 @@ use mathlib.Core.Bool.{Bool, true, false}
 use mathlib.Core.List.{List}
 use Prim.Native.Nat.{ℕ, ◌+◌, ◌-◌, ◌≤◌, ◌<◌}
 use native.Mathlib.Omega.{arith}
-use lib.ListN.{get_or, replicate}
+use lib.ListN.{get_or}
 use lib.Dec.{eqb}
 use borrow.Author.Tests.{eq-eqb, ne_eqb}
-use Rattle.rules.specs.Limits.{SYMBOLS, VARIABLES, VARIABLEWORDS}
+use Rattle.rules.specs.Limits.{SYMBOLS, VARIABLES}
 use Rattle.rules.specs.Tree.{Tree, Trees, var, app, variables, count_trees}
 use Rattle.rules.specs.Laws.Tree.{same_eq, not_same}
 use Rattle.rules.specs.Laws.Store.{Apart}
@@ -15,7 +15,6 @@ use Rattle.rules.specs.Unify.{Look, agree, clash, binds, parts, bind_or_clash, d
 use Rattle.terms.specs.declared.store.Mark.{Mark}
 use Rattle.unification.specs.declared.pairs.Asks.{Asks}
 use Rattle.terms.specs.Table.{run, start, args_of, made, Good, tree}
-use Rattle.terms.specs.Collect.{Readable}
 use Rattle.unification.specs.Pairs.{Searchable, Comparable, BindsTo, PartsAt, Answered}
 use Rattle.terms.specs.Laws.Runs.{run_length}
 use Rattle.terms.specs.Laws.Tables.{length_trees, args_count}
@@ -70,9 +69,6 @@ unfolding bind_or_clash
 bind_binds t x r e z = ap (λ (b : Bool). elim b [ true ↦ clash | false ↦ binds x t ]) (sym e ∙ z)
 
 module _ (I W : List ℕ) (m : Mark) (seen : List ℕ) (x id : ℕ) (q : Searchable I W m seen id) where
-  pub searches : Readable I W m id seen (replicate VARIABLEWORDS 0)
-  searches = record { good = q.good; there = q.there; wide = q.wide; broad = omega arith }
-
   pub bind_to : x < VARIABLES → (r : Bool) → r ≡ variables (tree I W m id) x → r ≡ false → BindsTo I W m (bind_or_clash x (tree I W m id)) x id
   bind_to h r e z = record { asks = bind_binds _ _ r e z; small = h; there = q.there }
 

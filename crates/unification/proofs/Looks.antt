@@ -107,9 +107,6 @@ module _ (I W : List ℕ) (m : Mark) (P seen : List ℕ) (w s t : ℕ) (q : Look
     look_crowd h = let z = count in record { lefts = _; rights = _; asks = asks.asks; full = omega arith }
 
     module _ (h : w + n ≤ PAIRS) where
-      pub push_asks : (a + n ≤ length W) × (b + n ≤ length W) × (2 * (w + n) ≤ length P)
-      push_asks = (left_in, right_in, let z = q.many in omega arith)
-
       pub look_more : (P' : List ℕ) → P' ≡ piled W a b P w n → OntoPairs I W m P P' w (w + n) L
       look_more P' f =
           let z = q.many in

@@ -21,7 +21,7 @@ use Rattle.unification.specs.declared.peel.Step.TheVariants as step
 use Rattle.terms.specs.Table.{made, Grown, Refused, tree}
 use Rattle.terms.specs.Subst.{Knows}
 use Rattle.unification.specs.Pairs.{waits}
-use Rattle.unification.specs.Peel.{theta_of, pairs_of, Sideable, sided, BothSides, NoSides, Sided, Lookable, Onto, same, more, OntoPairs, Crowded}
+use Rattle.unification.specs.Peel.{theta_of, pairs_of, sided, BothSides, NoSides, Sided, Lookable, Onto, same, more, OntoPairs, Crowded}
 use Rattle.unification.specs.Peel.{BindsHere, Looked, Turned, Peelable, weighs, peels, Lighter, Results, Clashes, BindsOne}
 use Rattle.terms.specs.Laws.Tables.{length_trees}
 use Rattle.terms.specs.Laws.Theta.{replacement_grown, along_is, bindings_grown, theta_grown}
@@ -75,18 +75,6 @@ module _ (I W : List ℕ) (m : Mark) (theta memo P seen : List ℕ) (w : ℕ) (q
 
   right_there : t < m.terms
   right_there = let h = q.1 in q.0.there (2 * (w - 1) + 1) (omega arith)
-
-  pub pair_sideable : Sideable I W m theta memo s t
-  pair_sideable =
-      let a = left_there in
-      let b = right_there in
-      let c = q.0.memos in
-      let d = q.0.good.room in
-      record {
-        left = record { good = q.0.good; bound = q.0.cells.bound; there = a; inside = omega arith; knows = q.0.knows };
-        there = b;
-        inside = omega arith;
-      }
 
   -- the definition's step
   stepped : (k : ℕ) → peels (suc k) I W m theta P w ≡ sided I W m theta s t (λ u v o. onward (λ z. peel k θ z) ps (look u v) o)

@@ -140,9 +140,6 @@ module _ (I W : List ℕ) (m : Mark) (count s t : ℕ) (theta map memo P seen : 
 
   -- The end ------------------------------------------------------------------------------------------------------------------------------
 
-  pub pairs_back : (used now : List ℕ) → length used ≡ length P₁ → now ≡ replicate (length used) 0 → now ≡ P
-  pairs_back used now l e = e ∙ ap (λ (n : ℕ). replicate n 0) (l ∙ length-set (set P 0 s) 1 t ∙ length-set P 0 s) ∙ sym q.scratch.no_pairs
-
   theta_back : (used now : List ℕ) → length used ≡ length theta → now ≡ replicate (length used) 0 → (length now ≡ VARIABLES) × Zeros now
   theta_back used now l e =
       let k : length now ≡ length used = ap length e ∙ length-replicate {A = ℕ} (length used) 0 in

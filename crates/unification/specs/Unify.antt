@@ -6,6 +6,7 @@ use Rattle.rules.specs.Tree.{variables}
 use Rattle.rules.specs.Store.{Made}
 use Rattle.rules.specs.Unify.{Binding}
 use Rattle.terms.specs.declared.store.Mark.{Mark}
+use Rattle.unification.specs.declared.unify.Scratch.{Scratch as Tables}
 use Rattle.questions.specs.Numbers.{row_number}
 use Rattle.questions.specs.declared.Row.{Row}
 use Rattle.terms.specs.Table.{made, Good, Grown, Refused, tree}
@@ -23,6 +24,10 @@ pub record Scratch (theta map memo pairs seen : List ℕ) : Type 0 where
   pub no_pairs : Zeros pairs
   pub wide : TERMS ≤ 64 * length seen
   pub no_seen : Zeros seen
+
+-- the references are those that were lent
+abbrev pub SameScratch : Tables → Tables → Type 0
+SameScratch x y = (y.map.ghost_name ≡ x.map.ghost_name) × (y.memo.ghost_name ≡ x.memo.ghost_name) × (y.pairs.ghost_name ≡ x.pairs.ghost_name) × (y.seen.ghost_name ≡ x.seen.ghost_name)
 
 -- two terms whose variables are below the count: so many can be bound, and that is enough for every unifier
 pub record Unifiable (I W : List ℕ) (m : Mark) (count s t : ℕ) (theta map memo pairs seen : List ℕ) : Type 0 where

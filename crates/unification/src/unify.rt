@@ -3,7 +3,7 @@ ghost use Rattle.std.specs.Prelude.{◌≡◌, ℕ, suc, length, replicate};
 ghost use Rattle.rules.specs.Unify.{unify};
 ghost use Rattle.terms.specs.Table.{tree};
 ghost use Rattle.terms.specs.Lent.{SameTables, made_of};
-ghost use Rattle.unification.specs.Unify.{Unifiable, UnifiedBy};
+ghost use Rattle.unification.specs.Unify.{Unifiable, UnifiedBy, SameScratch};
 ghost use Rattle.unification.specs.Pairs.{SameCells};
 ghost use Rattle.unification.specs.Peel.{Results, Solvable, Rounded, solves, SolvedAs};
 
@@ -13,6 +13,15 @@ use crate::theta::extend;
 use cells::clear;
 use questions::Row;
 use terms::store::{Mark, Store};
+
+// The tables beside the store and the bindings: zero before and after.
+#[derive(Drop)]
+pub struct Scratch<'a> {
+    pub map: &'a mut [u32],
+    pub memo: &'a mut [u32],
+    pub pairs: &'a mut [u32],
+    pub seen: &'a mut [u64],
+}
 
 // A memo of results becomes zero: only terms that are there have one.
 fn clear_memo(memo: &mut [u32], mark: Mark)
@@ -83,32 +92,38 @@ fn solve(
 }
 
 // Whether two terms have a unifier, where their variables are below `count`. The bindings found are in `theta`; it is zero before, and where
-// none are found. `map`, `memo`, `pairs` and `seen` are scratch: zero before and after.
+// none are found.
 pub fn unify(
     store: &mut Store<'_>,
     count: usize,
     s: usize,
     t: usize,
     theta: &mut [u32],
-    map: &mut [u32],
-    memo: &mut [u32],
-    pairs: &mut [u32],
-    seen: &mut [u64],
+    scratch: &mut Scratch<'_>,
 ) -> Result<bool, Row>
-    requires { let m = store.old in Unifiable m.index.now m.words.now m.mark count s t theta.old map.old memo.old pairs.old seen.old }
+    requires { let m = store.old in let x = scratch.old in Unifiable m.index.now m.words.now m.mark count s t theta.old x.map.now x.memo.now x.pairs.now x.seen.now }
     ensures same_tables { SameTables store.old store.new }
     ensures unified_by { let m = store.old in let n = store.new in UnifiedBy m.index.now m.words.now n.index.now n.words.now m.mark n.mark theta.new
         (unify count (tree m.index.now m.words.now m.mark s) (tree m.index.now m.words.now m.mark t) (made_of m)) result }
-    ensures map_unchanged { (map.new ≡ map.old) × (memo.new ≡ memo.old) × (pairs.new ≡ pairs.old) × (seen.new ≡ seen.old) }
+    ensures same_scratch { SameScratch scratch.old scratch.new }
+    ensures scratch_unchanged { let x = scratch.old in let y = scratch.new in (y.map.now ≡ x.map.now) × (y.memo.now ≡ x.memo.now) × (y.pairs.now ≡ x.pairs.now) × (y.seen.now ≡ x.seen.now) }
 {
-    pairs[0] = s as u32;
-    pairs[1] = t as u32;
-    let mut waiting = Pairs {
-        cells: pairs,
+    scratch.pairs[0] = s as u32;
+    scratch.pairs[1] = t as u32;
+    let mut pairs = Pairs {
+        cells: scratch.pairs,
         waiting: 1,
     };
-    let result = solve(store, count, theta, map, memo, &mut waiting, seen);
-    clear(pairs);
+    let result = solve(
+        store,
+        count,
+        theta,
+        scratch.map,
+        scratch.memo,
+        &mut pairs,
+        scratch.seen,
+    );
+    clear(scratch.pairs);
     if result.unwrap_or(false) {
         return result;
     }

@@ -10,8 +10,5 @@ write_word-n-requires c = all_asks _ _ _ _ _ c.loop-i.invariant c.loop-i-test.tr
 pub loop-i-preserved : goal.loop-i-preserved
 loop-i-preserved c = all_on _ _ _ _ _ c.loop-i.invariant c.loop-i-test.true _ _ c.write_word-n.auto.out c.write_word-n.ensures
 
-pub shape_of-out : goal.shape_of-out
-shape_of-out c = c.loop-i.invariant.long
-
 pub returns : goal.returns
 returns c = all_done _ _ _ _ _ c.loop-i.invariant c.loop-i-test.false
