@@ -16,18 +16,11 @@ use state::sizes::Sizes;
 use state::vars::var_sort;
 use terms::store::Mark;
 
-// A variable and a term's number, or a question and its detail; and what is used of the store then.
-#[derive(Clone, Copy)]
-pub enum Pair {
-    Of(usize, usize, Mark),
-    No(usize, usize, Mark),
-}
-
-// The bindings are in the map, or a question and its detail; and what is used of the store then.
-#[derive(Clone, Copy)]
-pub enum Bound {
-    Ok(Mark),
-    No(usize, usize, Mark),
+// A variable and the number of the term to which it is bound.
+#[derive(Clone, Copy, Debug, PartialEq, Eq)]
+pub struct Pair {
+    pub variable: usize,
+    pub term: usize,
 }
 
 // The binding that the first item spells.

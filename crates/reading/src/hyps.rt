@@ -15,13 +15,6 @@ use state::facts::{is_assumed, is_fact, is_plain};
 use state::sizes::Sizes;
 use terms::sets::insert;
 
-// The list is read, or a question.
-#[derive(Clone, Copy)]
-pub enum Listed {
-    Ok,
-    No(usize),
-}
-
 // Whether fact i passes: it is a plain hypothesis, or a hypothesis.
 fn passes(facts: &[u32], i: usize, plain: bool) -> bool
     requires { (length facts.now ≡ 6 * FACTS) × (i < FACTS) }

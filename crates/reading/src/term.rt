@@ -25,25 +25,18 @@ use state::vars::{var_named, var_sort};
 use terms::apart::{Kept, head, keep};
 use terms::store::Mark;
 
-// A term's number, or a question and its detail; and what is used of the store then.
-#[derive(Clone, Copy)]
-pub enum Out {
-    Ok(usize, Mark),
-    No(usize, usize, Mark),
+// A term's number, and whether it is of the sort that was expected.
+#[derive(Clone, Copy, Debug, PartialEq, Eq)]
+pub struct Typed {
+    pub term: usize,
+    pub fits: bool,
 }
 
-// The same, with the answer to whether the term is of the sort that was expected.
-#[derive(Clone, Copy)]
-pub enum Typed {
-    Term(usize, bool, Mark),
-    No(usize, usize, Mark),
-}
-
-// The symbol that a list begins with, or a question.
-#[derive(Clone, Copy)]
-pub enum Opening {
-    Symbol(usize),
-    No(usize),
+// The length of the node over some arguments, and whether they are those that its symbol takes.
+#[derive(Clone, Copy, Debug, PartialEq, Eq)]
+pub struct Arguments {
+    pub len: usize,
+    pub fits: bool,
 }
 
 // The sort of a term of the store; 0 for a judgment.
