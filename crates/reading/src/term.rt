@@ -220,11 +220,11 @@ impl Reader<'_> {
     {
         let c = self.constructor_first(cells)?;
         let mut node = [0u32; NODE];
-        let read = self.arguments(store, &cells[1..], c, &mut node)?;
-        if !read.fits {
+        let args = self.arguments(store, &cells[1..], c, &mut node)?;
+        if !args.fits {
             return Err(Question::Sorting);
         }
-        keep_typed(store, &node[..read.len], output(self.symbols, c), sort)
+        keep_typed(store, &node[..args.len], output(self.symbols, c), sort)
     }
 
     // The terms that the items spell, as the arguments of symbol c: the node over them, where they are as many as its inputs and each of its sort.

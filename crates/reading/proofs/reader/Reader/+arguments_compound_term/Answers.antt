@@ -70,35 +70,35 @@ pub compound-arguments-requires : goal.compound-arguments-requires
 compound-arguments-requires t c = let o = c.in_ok-c.ensures (opens c.requires) in
     (omega (arith, rest_fewer c.args.cells.now o.some, c.decreases), (rest_items c.requires.reads o, o.known, refl))
 
-pub compound-returns-in_err-read-clause-typed : goal.compound-returns-in_err-read-clause-typed
-compound-returns-in_err-read-clause-typed t c = λ g. let p = err_from_is_err_and c.from_residual-in_err-read.result c.from_residual-in_err-read.ensures.1 in
-    rw (p.1, p.2) (behind_stops g.reads (c.in_ok-c.ensures (opens g)) _ _ _ _ _ c.in_err-read.ensures.arguments)
+pub compound-returns-in_err-args-clause-typed : goal.compound-returns-in_err-args-clause-typed
+compound-returns-in_err-args-clause-typed t c = λ g. let p = err_from_is_err_and c.from_residual-in_err-args.result c.from_residual-in_err-args.ensures.1 in
+    rw (p.1, p.2) (behind_stops g.reads (c.in_ok-c.ensures (opens g)) _ _ _ _ _ c.in_err-args.ensures.arguments)
 
-pub compound-returns-then-not-read-clause-typed : goal.compound-returns-then-not-read-clause-typed
-compound-returns-then-not-read-clause-typed t c = λ g. behind_misfits g.reads (c.in_ok-c.ensures (opens g)) _ _ _ _ _ _ c.in_ok-read.ensures.arguments
-    c.if-not-read.true
+pub compound-returns-then-not-args-clause-typed : goal.compound-returns-then-not-args-clause-typed
+compound-returns-then-not-args-clause-typed t c = λ g. behind_misfits g.reads (c.in_ok-c.ensures (opens g)) _ _ _ _ _ _ c.in_ok-args.ensures.arguments
+    c.if-not-args.true
 
 pub compound-slice_bounds-node-end : goal.compound-slice_bounds-node-end
 compound-slice_bounds-node-end t c = omega (
   arith,
-  behind_narrow c.requires.reads (c.in_ok-c.ensures (opens c.requires)) _ _ _ _ _ _ c.in_ok-read.ensures.arguments c.if-not-read.false,
+  behind_narrow c.requires.reads (c.in_ok-c.ensures (opens c.requires)) _ _ _ _ _ _ c.in_ok-args.ensures.arguments c.if-not-args.false,
   c.arguments.auto.node,
 )
 
 pub compound-slice_bounds-keep_typed-end : goal.compound-slice_bounds-keep_typed-end
-compound-slice_bounds-keep_typed-end t c = behind_length c.requires.reads (c.in_ok-c.ensures (opens c.requires)) _ _ _ _ _ _ c.in_ok-read.ensures.arguments
-    c.if-not-read.false c.arguments.auto.node
+compound-slice_bounds-keep_typed-end t c = behind_length c.requires.reads (c.in_ok-c.ensures (opens c.requires)) _ _ _ _ _ _ c.in_ok-args.ensures.arguments
+    c.if-not-args.false c.arguments.auto.node
 
 pub compound-output-requires : goal.compound-output-requires
 compound-output-requires t c = known_symbol c.requires.reads (c.in_ok-c.ensures (opens c.requires)).known
 
 pub compound-keep_typed-requires : goal.compound-keep_typed-requires
-compound-keep_typed-requires t c = behind_node c.requires.reads (c.in_ok-c.ensures (opens c.requires)) _ _ _ _ _ _ c.in_ok-read.ensures.arguments
-    c.if-not-read.false
+compound-keep_typed-requires t c = behind_node c.requires.reads (c.in_ok-c.ensures (opens c.requires)) _ _ _ _ _ _ c.in_ok-args.ensures.arguments
+    c.if-not-args.false
 
 pub compound-returns-clause-typed : goal.compound-returns-clause-typed
 compound-returns-clause-typed t c = λ g. let o = c.in_ok-c.ensures (opens g) in
-    behind_typed g.reads o _ _ _ _ _ _ c.in_ok-read.ensures.arguments c.if-not-read.false _ _ _ c.output.result c.args.sort c.keep_typed.result
+    behind_typed g.reads o _ _ _ _ _ _ c.in_ok-args.ensures.arguments c.if-not-args.false _ _ _ c.output.result c.args.sort c.keep_typed.result
     (c.output.ensures g.S.theory _ _ _ g.reads.spelling.held o.known) c.keep_typed.ensures.typed
 
 pub term-item_at-requires : goal.term-item_at-requires
