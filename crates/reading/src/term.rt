@@ -49,7 +49,7 @@ fn keep_typed(
 ) -> Result<Typed, Question>
     requires { GoodStore store.old × Node store.old.mark.terms node.now }
     ensures same_tables { SameTables store.old store.new }
-    ensures typed { (S : State) → sort ≡ sort_of S.theory S.vars (tree_at (made_of store.old) node.now) →
+    ensures typed_as { (S : State) → sort ≡ sort_of S.theory S.vars (tree_at (made_of store.old) node.now) →
         TypedAs store.old store.new S expected (keep (tree_at (made_of store.old) node.now) (made_of store.old)) result }
 {
     let term = store.keep(node)?;
@@ -121,7 +121,7 @@ impl Reader<'_> {
     fn named(&self, store: &mut Store<'_>, name: &[u8], sort: usize) -> Result<Typed, Question>
         requires { ReadsNames self.now.theory.now self.now.goals.now self.now.text.now self.now.symbols.now self.now.vars.now self.now.n store.old.index.now store.old.words.now store.old.mark }
         ensures same_tables { SameTables store.old store.new }
-        ensures typed { (g : ReadsNames self.now.theory.now self.now.goals.now self.now.text.now self.now.symbols.now self.now.vars.now self.now.n store.old.index.now store.old.words.now store.old.mark) →
+        ensures typed_as { (g : ReadsNames self.now.theory.now self.now.goals.now self.now.text.now self.now.symbols.now self.now.vars.now self.now.n store.old.index.now store.old.words.now store.old.mark) →
             TypedAs store.old store.new g.S sort (named g.S name.now (made_of store.old)) result }
     {
         if let Some(v) = var_named(self.goals, self.text, self.vars, self.n.vars, name) {
@@ -142,7 +142,7 @@ impl Reader<'_> {
     fn atomic(&self, store: &mut Store<'_>, start: usize, sort: usize) -> Result<Typed, Question>
         requires { ReadsAtom (names_of self.now) self.now.n store.old.index.now store.old.words.now store.old.mark start }
         ensures same_tables { SameTables store.old store.new }
-        ensures typed { (g : ReadsAtom (names_of self.now) self.now.n store.old.index.now store.old.words.now store.old.mark start) →
+        ensures typed_as { (g : ReadsAtom (names_of self.now) self.now.n store.old.index.now store.old.words.now store.old.mark start) →
             TypedAs store.old store.new g.S sort (term g.S (atom start (letters (drop start self.now.text.now))) (made_of store.old)) result }
     {
         let end = lex::atom_end(self.text, start);
@@ -158,7 +158,7 @@ impl Reader<'_> {
     pub fn term(&self, store: &mut Store<'_>, cells: &[u32], sort: usize) -> Result<Typed, Question>
         requires { ReadsItem (names_of self.now) self.now.n store.old.index.now store.old.words.now store.old.mark cells.now }
         ensures same_tables { SameTables store.old store.new }
-        ensures typed { (g : ReadsItem (names_of self.now) self.now.n store.old.index.now store.old.words.now store.old.mark cells.now) →
+        ensures typed_as { (g : ReadsItem (names_of self.now) self.now.n store.old.index.now store.old.words.now store.old.mark cells.now) →
             TypedAs store.old store.new g.S sort (term g.S g.x (made_of store.old)) result }
     {
         match items::item_at(cells, 0) {
@@ -215,7 +215,7 @@ impl Reader<'_> {
     fn compound(&self, store: &mut Store<'_>, cells: &[u32], sort: usize) -> Result<Typed, Question>
         requires { ReadsItems (names_of self.now) self.now.n store.old.index.now store.old.words.now store.old.mark cells.now }
         ensures same_tables { SameTables store.old store.new }
-        ensures typed { (g : ReadsItems (names_of self.now) self.now.n store.old.index.now store.old.words.now store.old.mark cells.now) →
+        ensures typed_as { (g : ReadsItems (names_of self.now) self.now.n store.old.index.now store.old.words.now store.old.mark cells.now) →
             TypedAs store.old store.new g.S sort (compound g.S g.xs (made_of store.old)) result }
     {
         let c = self.constructor_first(cells)?;
@@ -238,7 +238,7 @@ impl Reader<'_> {
     ) -> Result<Arguments, Question>
         requires { ReadsItems (names_of self.now) self.now.n store.old.index.now store.old.words.now store.old.mark cells.now × (c < self.now.n.symbols) × (length node.old ≡ NODE) }
         ensures same_tables { SameTables store.old store.new }
-        ensures arguments { (g : ReadsItems (names_of self.now) self.now.n store.old.index.now store.old.words.now store.old.mark cells.now) →
+        ensures arguments_as { (g : ReadsItems (names_of self.now) self.now.n store.old.index.now store.old.words.now store.old.mark cells.now) →
             ArgumentsAs store.old store.new g.S c node.new (terms g.S g.xs (made_of store.old)) result }
     {
         let count = arity(self.symbols, c);
@@ -270,7 +270,7 @@ impl Reader<'_> {
     ) -> Result<usize, Question>
         requires { ReadsItem (names_of self.now) self.now.n store.old.index.now store.old.words.now store.old.mark cells.now }
         ensures same_tables { SameTables store.old store.new }
-        ensures read { (g : ReadsItem (names_of self.now) self.now.n store.old.index.now store.old.words.now store.old.mark cells.now) →
+        ensures read_as { (g : ReadsItem (names_of self.now) self.now.n store.old.index.now store.old.words.now store.old.mark cells.now) →
             ReadAs store.old store.new (term_of g.S g.x sort (made_of store.old)) result }
     {
         let typed = self.term(store, cells, sort)?;
@@ -284,7 +284,7 @@ impl Reader<'_> {
     pub fn judgment(&self, store: &mut Store<'_>, cells: &[u32]) -> Result<usize, Question>
         requires { ReadsItem (names_of self.now) self.now.n store.old.index.now store.old.words.now store.old.mark cells.now }
         ensures same_tables { SameTables store.old store.new }
-        ensures read { (g : ReadsItem (names_of self.now) self.now.n store.old.index.now store.old.words.now store.old.mark cells.now) →
+        ensures read_as { (g : ReadsItem (names_of self.now) self.now.n store.old.index.now store.old.words.now store.old.mark cells.now) →
             ReadAs store.old store.new (judgment g.S g.x (made_of store.old)) result }
     {
         let Item::List(a, b) = items::item_at(cells, 0) else {

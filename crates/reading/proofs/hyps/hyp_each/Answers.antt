@@ -1,10 +1,9 @@
-use mathlib.Core.Path.{sym, ap, ◌∙◌}
+use mathlib.Core.Path.{refl, sym, ap, ◌∙◌}
 use native.Mathlib.Omega.{arith}
-use lib.ListN.{length}
 use Rattle.rules.specs.Limits.{FACTWORDS}
 use Rattle.state.specs.Looking.{is_late, not_late}
 use Rattle.reading.proofs.Hypotheses.{hyping_start, hyping_here, hyping_first, hyping_none, hyping_late, hyping_fails, hyping_more, hyping_over, facts_long, facts_few, facts_many, passing}
-use Rattle.reading.proofs.Filling.{as_long, cleared, zeros_long}
+use Rattle.reading.proofs.Filling.{zeros_long}
 use Rattle.reading.specs.Laws.Walks.{go_on}
 use borrow.Author.Tests.{not-true, not-false}
 use mathlib.Core.Bool.{not}
@@ -16,28 +15,20 @@ loop-at-init c = (zeros_long FACTWORDS c.requires.1, λ g. hyping_start _ g.S g.
 pub index-requires : goal.index-requires
 index-requires c = hyping_first (c.loop-at.invariant.1 c.requires.0) c.loop-at-test.true
 
-pub shape_of-set-in_default : goal.shape_of-set-in_default
-shape_of-set-in_default c = ap length (cleared c.loop-at.set c.requires.1 c.loop-at.invariant.0 c.clear.ensures)
-
 pub returns-in_default : goal.returns-in_default
 returns-in_default c = λ g. (
   hyping_none (c.loop-at.invariant.1 g) c.loop-at-test.true c.index.ensures c.in_default.is,
-  cleared c.loop-at.set c.requires.1
-      c.loop-at.invariant.0 c.clear.ensures,
+  (refl, refl),
 )
 
 pub is_fact-requires : goal.is_fact-requires
 is_fact-requires c = tt
 
-pub shape_of-set-then-not-is_fact : goal.shape_of-set-then-not-is_fact
-shape_of-set-then-not-is_fact c = ap length (cleared c.loop-at.set c.requires.1 c.loop-at.invariant.0 c.clear-then-not-is_fact.ensures)
-
 pub returns-then-not-is_fact : goal.returns-then-not-is_fact
 returns-then-not-is_fact c = λ g. (
   hyping_late (c.loop-at.invariant.1 g) c.loop-at-test.true c.index.ensures c.in-Some.is
       (omega (arith, facts_many g, is_late c.in-Some.i c.args.n.facts c.is_fact.result c.is_fact.ensures (ap not c.if-not-is_fact.true))),
-  cleared
-      c.loop-at.set c.requires.1 c.loop-at.invariant.0 c.clear-then-not-is_fact.ensures,
+  (refl, refl),
 )
 
 pub passes-requires : goal.passes-requires
@@ -47,15 +38,11 @@ passes-requires c = (
       (arith, facts_few c.requires.0, not_late c.in-Some.i c.args.n.facts c.is_fact.result c.is_fact.ensures (ap not c.if-not-is_fact.false)),
 )
 
-pub shape_of-set-then-not-passes : goal.shape_of-set-then-not-passes
-shape_of-set-then-not-passes c = ap length (cleared c.loop-at.set c.requires.1 c.loop-at.invariant.0 c.clear-then-not-passes.ensures)
-
 pub returns-then-not-passes : goal.returns-then-not-passes
 returns-then-not-passes c = λ g. let p = passing g c.args.plain c.in-Some.i (not_late _ _ _ c.is_fact.ensures (ap not c.if-not-is_fact.false)) in (
   hyping_fails (c.loop-at.invariant.1 g) c.loop-at-test.true c.index.ensures c.in-Some.is p.is
       (sym p.test ∙ sym c.passes.ensures ∙ not-true c.passes.result (ap not c.if-not-passes.true)),
-  cleared c.loop-at.set c.requires.1 c.loop-at.invariant.0
-      c.clear-then-not-passes.ensures,
+  (refl, refl),
 )
 
 pub insert-requires : goal.insert-requires
@@ -72,9 +59,6 @@ loop-at-preserved c = (
       (c.loop-at.invariant.1 g) c.loop-at-test.true c.index.ensures c.in-Some.is p.is
       (sym p.test ∙ sym c.passes.ensures ∙ not-false c.passes.result (ap not c.if-not-passes.false)) c.insert.ensures c.after-at.ensures,
 )
-
-pub shape_of-set : goal.shape_of-set
-shape_of-set c = as_long c.loop-at.set c.requires.1 c.loop-at.invariant.0
 
 pub returns : goal.returns
 returns c = λ g. hyping_over (c.loop-at.invariant.1 g) c.loop-at-test.false

@@ -16,13 +16,13 @@ marked-requires c = c.requires.inside
 pub abbreviation-requires : goal.abbreviation-requires
 abbreviation-requires c = rw c.terms.ensures (reads_defs c.requires.reads)
 
-pub returns-then-marked-clause-typed : goal.returns-then-marked-clause-typed
-returns-then-marked-clause-typed c = λ g. atom_abbreviates g c.atom_end-end.ensures c.marked.ensures c.if-marked.true c.args.sort c.abbreviation.result
+pub returns-then-marked-clause-typed_as : goal.returns-then-marked-clause-typed_as
+returns-then-marked-clause-typed_as c = λ g. atom_abbreviates g c.atom_end-end.ensures c.marked.ensures c.if-marked.true c.args.sort c.abbreviation.result
     (rw c.terms.ensures at c.abbreviation.ensures)
 
 pub named-requires : goal.named-requires
 named-requires c = reads_names c.requires.reads
 
-pub returns-clause-typed : goal.returns-clause-typed
-returns-clause-typed c = λ g. atom_names g c.atom_end-end.ensures c.marked.ensures c.if-marked.false c.named.new.store.index.now
-    c.named.new.store.words.now c.named.new.store.mark c.args.sort c.named.result c.named.ensures.typed
+pub returns-clause-typed_as : goal.returns-clause-typed_as
+returns-clause-typed_as c = λ g. atom_names g c.atom_end-end.ensures c.marked.ensures c.if-marked.false c.named.new.store.index.now
+    c.named.new.store.words.now c.named.new.store.mark c.args.sort c.named.result c.named.ensures.typed_as

@@ -1,21 +1,14 @@
 use native.Mathlib.Omega.{arith}
 use Rattle.sexp.specs.NthItem.{has_items}
+use Rattle.kernel.proofs.Handed.{handed}
 use Rattle.reading.proofs.Pairs.{binding_cell, binding_atom_lem, binding_list, binding_count, binding_two, first_given, first_cell, binding_unnamed, sort_given, second_high, second_near, second_given, binding_read, binding_refused}
-use Rattle.reading.proofs.bindings.binding.Goals as goal
+use Rattle.reading.proofs.reader.Reader.binding.Goals as goal
 
 pub item_at-requires : goal.item_at-requires
 item_at-requires c = binding_cell (c.requires)
 
-pub returns-in_default : goal.returns-in_default
-returns-in_default c = λ g. binding_atom_lem g c.item_at.ensures c.in_default.is
-
-pub offset_bounds-cells-a : goal.offset_bounds-cells-a
-offset_bounds-cells-a c = omega (
-  arith,
-  (binding_list c.requires c.item_at.ensures c.in-List.is).low,
-  (binding_list c.requires c.item_at.ensures c.in-List.is).high,
-  c.well_formed.1.1.1.1.1.1.1.1.1.1.1.0,
-)
+pub returns-in_default-clause-pair_as : goal.returns-in_default-clause-pair_as
+returns-in_default-clause-pair_as c = λ g. binding_atom_lem g c.item_at.ensures c.in_default.is
 
 pub slice_bounds-inner-count : goal.slice_bounds-inner-count
 slice_bounds-inner-count c = (binding_list (c.requires) c.item_at.ensures c.in-List.is).low
@@ -29,26 +22,18 @@ slice_bounds-inner-end c = (binding_list (c.requires) c.item_at.ensures c.in-Lis
 pub count-requires : goal.count-requires
 count-requires c = has_items (binding_list (c.requires) c.item_at.ensures c.in-List.is).holds
 
-pub returns-then-count-ne2 : goal.returns-then-count-ne2
-returns-then-count-ne2 c = λ g. binding_count g c.item_at.ensures c.in-List.is c.count.ensures c.if-count-ne2.true
+pub returns-then-count-ne2-clause-pair_as : goal.returns-then-count-ne2-clause-pair_as
+returns-then-count-ne2-clause-pair_as c = λ g. binding_count g c.item_at.ensures c.in-List.is c.count.ensures c.if-count-ne2.true
 
 pub variable-requires : goal.variable-requires
 variable-requires c = first_given c.requires (binding_two c.requires c.item_at.ensures c.in-List.is c.count.ensures c.if-count-ne2.false)
 
-pub returns-in_default-variable : goal.returns-in_default-variable
-returns-in_default-variable c = λ g. binding_unnamed g (binding_two g c.item_at.ensures c.in-List.is c.count.ensures c.if-count-ne2.false) c.variable.ensures
+pub returns-in_default-variable-clause-pair_as : goal.returns-in_default-variable-clause-pair_as
+returns-in_default-variable-clause-pair_as c = λ g. binding_unnamed g (binding_two g c.item_at.ensures c.in-List.is c.count.ensures c.if-count-ne2.false) c.variable.ensures
     c.in_default-variable.is
 
 pub after-next-requires : goal.after-next-requires
 after-next-requires c = first_cell c.requires (binding_two c.requires c.item_at.ensures c.in-List.is c.count.ensures c.if-count-ne2.false)
-
-pub offset_bounds-inner-next : goal.offset_bounds-inner-next
-offset_bounds-inner-next c = omega (
-  arith,
-  second_near c.requires (binding_two c.requires c.item_at.ensures c.in-List.is c.count.ensures c.if-count-ne2.false) c.variable.ensures
-      c.in-Some.is c.after-next.ensures,
-  c.well_formed.1.1.1.1.1.1.1.1.1.1.1.0,
-)
 
 pub slice_bounds-term_of-count : goal.slice_bounds-term_of-count
 slice_bounds-term_of-count c = second_high c.requires (binding_two c.requires c.item_at.ensures c.in-List.is c.count.ensures c.if-count-ne2.false) c.variable.ensures c.in-Some.is
@@ -65,12 +50,27 @@ pub term_of-requires : goal.term_of-requires
 term_of-requires c = second_given c.requires (binding_two c.requires c.item_at.ensures c.in-List.is c.count.ensures c.if-count-ne2.false) c.variable.ensures c.in-Some.is
     c.after-next.ensures
 
-pub returns-in-Ok : goal.returns-in-Ok
-returns-in-Ok c = λ g. binding_read g (binding_two g c.item_at.ensures c.in-List.is c.count.ensures c.if-count-ne2.false) c.variable.ensures c.in-Some.is
-    c.after-next.ensures c.var_sort.ensures c.term_of.new.index c.term_of.new.words
-    c.term_of.result c.term_of.ensures c.in-Ok.is
+pub returns-in_err-term-clause-pair_as : goal.returns-in_err-term-clause-pair_as
+returns-in_err-term-clause-pair_as c = λ g. rw (handed c.from_residual.result c.from_residual.ensures)
+    (binding_refused g (binding_two g c.item_at.ensures c.in-List.is c.count.ensures c.if-count-ne2.false) c.variable.ensures c.in-Some.is
+    c.after-next.ensures c.var_sort.ensures _ _ _ _ c.term_of.ensures.read_as c.in_err-term.was)
 
-pub returns-in-No : goal.returns-in-No
-returns-in-No c = λ g. binding_refused g (binding_two g c.item_at.ensures c.in-List.is c.count.ensures c.if-count-ne2.false) c.variable.ensures c.in-Some.is
-    c.after-next.ensures c.var_sort.ensures c.term_of.new.index c.term_of.new.words
-    c.term_of.result c.term_of.ensures c.in-No.is
+pub returns-clause-pair_as : goal.returns-clause-pair_as
+returns-clause-pair_as c = λ g. binding_read g (binding_two g c.item_at.ensures c.in-List.is c.count.ensures c.if-count-ne2.false) c.variable.ensures c.in-Some.is
+    c.after-next.ensures c.var_sort.ensures _ _ _ _ c.term_of.ensures.read_as c.in_ok-term.was
+
+pub offset_bounds-cells-a : goal.offset_bounds-cells-a
+offset_bounds-cells-a c = omega (
+  arith,
+  (binding_list c.requires c.item_at.ensures c.in-List.is).low,
+  (binding_list c.requires c.item_at.ensures c.in-List.is).high,
+  c.well_formed.1.1.0,
+)
+
+pub offset_bounds-inner-next : goal.offset_bounds-inner-next
+offset_bounds-inner-next c = omega (
+  arith,
+  second_near c.requires (binding_two c.requires c.item_at.ensures c.in-List.is c.count.ensures c.if-count-ne2.false) c.variable.ensures
+      c.in-Some.is c.after-next.ensures,
+  c.well_formed.1.1.0,
+)
