@@ -9,8 +9,7 @@ ghost use Rattle.casework.specs.Cases.{CaseFirst, CasesFirst, CaseAs, CaseFound,
 ghost use Rattle.casework.specs.Distinct.{between};
 
 use crate::distinct::enter;
-use reading::hyps::Listed;
-use reading::lists::vars_list;
+use reading::apart::{Listed, vars_list};
 use reading::names::index as index_in;
 use rules::{LENGTH, VARIABLES};
 use sexp::items::Item;

@@ -16,9 +16,8 @@ ghost use Rattle.referring.specs.Derived.{FactForm, Blank, DerivedAs, alone};
 ghost use Rattle.derivation.specs.Applying.{RuleFact, rule_of, ApplicableAs, premise_numbers, met_by, apply_to, apply_on, RuleUse, DischargedAs};
 
 use cells::clear;
-use reading::bindings::{Bound, bindings};
+use reading::apart::{Bound, Out, bindings};
 use reading::names::index as index_in;
-use reading::term::Out;
 use referring::derived::Derived;
 use referring::references::{Referred, insert_all, join, reference};
 use referring::scope::{outside, visit_cells};

@@ -10,8 +10,7 @@ ghost use Rattle.forms.specs.Halted.{ReadsForm};
 ghost use Rattle.forms.specs.Goals.{GoalPlace, AddsGoal, PlacedAs, AimsAs, AimedAs};
 
 use cells::clear;
-use reading::lists::judgments;
-use reading::term::{Out, judgment};
+use reading::apart::{Out, judgment, judgments};
 use rules::{ENTRIES, GOALS};
 use sexp::items::Item;
 use sexp::{items, lex};
