@@ -8,15 +8,34 @@ use lib.Dec.{eqb}
 use lib.ListN.{length, get_or, drop, replicate, length-append, length-replicate}
 use borrow.Author.Tests.{eq-eqb, ne_eqb}
 use Rattle.rules.specs.Limits.{LENGTH}
-use Rattle.rules.specs.Sexp.{Sexp, Sexps, atom, list, more, read, read_from}
+use Rattle.rules.specs.Sexp.{Sexp, Sexps, atom, list, Text, ends, fails, more, read, read_from}
 use Rattle.sexp.specs.Encode.{encode, encodes}
 use Rattle.sexp.specs.ItemLaws.{some_cells}
 use Rattle.sexp.specs.Reads.{Clear, ReadRight}
 use Rattle.sexp.specs.ReadLaws.{read_first, FormIs, at_end, at_refused, at_form, form_cleared}
-use Rattle.sexp.specs.Whole.{whole_of}
-use Rattle.sexp.specs.declared.sexp.Read.{Read}
-use Rattle.sexp.specs.declared.sexp.Read.TheVariants.{End, Form, Refused}
+use Rattle.std.specs.Prelude.{Option, Some as some, None as nothing, Result, Ok, Err}
+use Rattle.questions.specs.declared.Question.{Question}
+use Rattle.questions.specs.declared.Refused.{Refused}
+use Rattle.sexp.specs.Whole.{EndsAs}
+use Rattle.sexp.specs.declared.sexp.Form.{Form}
 use Rattle.exports.specs.Counts.{forms_of}
+
+-- what `read_all` says
+pub forms_are : (t : Text) (n : ℕ) (k : ℕ) → EndsAs t n (Ok k) → k ≡ forms_of t n
+unfolding EndsAs forms_of
+forms_are ends n k e = cc
+forms_are (fails j) n k e = cc (e.1)
+forms_are (more (atom p bs) q t) n k e = forms_are t n k e
+forms_are (more (list xs) q t) n k e = forms_are t (n + 1) k e
+
+pub forms_before : (t : Text) (n : ℕ) (r : Refused) → EndsAs t n (Err r) → r.form ≡ forms_of t n
+unfolding EndsAs forms_of
+forms_before ends n r e = cc
+forms_before (fails j) n r e =
+    let h : r ≡ record { question = e.0; form = n } = cc (e.1) in
+    ap (λ (x : Refused). x.form) h
+forms_before (more (atom p bs) q t) n r e = forms_before t n r e
+forms_before (more (list xs) q t) n r e = forms_before t (n + 1) r e
 
 -- what the text reads as from here, with n bracketed forms before, is what it reads as from the start
 pub record Turning (text w₀ w : List ℕ) (at n : ℕ) : Type 0 where
@@ -26,7 +45,7 @@ pub record Turning (text w₀ w : List ℕ) (at n : ℕ) : Type 0 where
   pub cells : w ≡ w₀
   pub high : at ≤ length text
   pub few : n ≤ at
-  pub same : whole_of (read text) 0 ≡ whole_of (read_from text at) n
+  pub same : forms_of (read text) 0 ≡ forms_of (read_from text at) n
 
 pub begin : (text w : List ℕ) → (length text ≤ LENGTH) × (length text ≤ length w) → Clear w → Turning text w w 0 0
 begin text w h z =
@@ -37,7 +56,7 @@ begin text w h z =
       cells = refl;
       high = omega arith;
       few = omega arith;
-      same = ap (λ t. whole_of t 0) (read_first text);
+      same = ap (λ t. forms_of t 0) (read_first text);
     }
 
 -- whether a form is a list shows in its first cell
@@ -56,40 +75,40 @@ module _ {text w₀ w : List ℕ} {at n : ℕ} (t : Turning text w₀ w at n) wh
   back : {v : List ℕ} → v ≡ replicate (length w) 0 → v ≡ w₀
   back e = e ∙ ap (λ x. replicate (length x) 0) t.cells ∙ sym t.clear
 
-  module _ {v : List ℕ} {r : Read} (k : ReadRight text at w v r) where
-    pub ended : r ≡ End → (n ≡ forms_of (whole_of (read text) 0)) × (v ≡ w₀)
-    unfolding whole_of
-    ended e = (ap forms_of (sym (t.same ∙ ap (λ x. whole_of x n) (at_end k e).0)), back (at_end k e).1)
+  module _ {v : List ℕ} {r : Result (Option Form) Question} (k : ReadRight text at w v r) where
+    pub ended : r ≡ Ok nothing → (n ≡ forms_of (read text) 0) × (v ≡ w₀)
+    unfolding forms_of
+    ended e = (sym (t.same ∙ ap (λ y. forms_of y n) (at_end k e).0), back (at_end k e).1)
 
-    pub refused : {j : ℕ} → r ≡ Refused j → (n ≡ forms_of (whole_of (read text) 0)) × (v ≡ w₀)
-    unfolding whole_of
-    refused e = (ap forms_of (sym (t.same ∙ ap (λ x. whole_of x n) (at_refused k e).0)), back (at_refused k e).1)
+    pub refused : {q : Question} → r ≡ Err q → (n ≡ forms_of (read text) 0) × (v ≡ w₀)
+    unfolding forms_of
+    refused e = (sym (t.same ∙ ap (λ y. forms_of y n) (at_refused k e).0), back (at_refused k e).2)
 
-    module _ {p m : ℕ} (e : r ≡ Form p m) where
-      here : FormIs text at w v p m
+    module _ {f : Form} (e : r ≡ Ok (some f)) where
+      here : FormIs text at w v f.end f.cells
       here = at_form k (rw t.cells t.room) e
 
-      pub on : (at < p) × (p ≤ length text)
+      pub on : (at < f.end) × (f.end ≤ length text)
       on = (here.on, here.within)
 
-      pub cells_there : (0 < length v) × (m ≤ length v)
+      pub cells_there : (0 < length v) × (f.cells ≤ length v)
       cells_there =
-          let l : length v ≡ length (encode here.form) + (length w - m) = ap length here.cells ∙ length-append (encode here.form) (replicate (length w - m) 0) ∙ ap (λ j. length (encode here.form) + j) (length-replicate (length w - m) 0) in
+          let l : length v ≡ length (encode here.form) + (length w - f.cells) = ap length here.cells ∙ length-append (encode here.form) (replicate (length w - f.cells) 0) ∙ ap (λ j. length (encode here.form) + j) (length-replicate (length w - f.cells) 0) in
           (omega (arith, some_cells here.form, l), omega (arith, here.size, l))
 
-      whole_list : (f : Sexp) → eqb (get_or (encode f ++ replicate (length w - m) 0) 0 0 % 2) 0 ≡ true → whole_of (more f p (read_from text p)) n ≡ whole_of (read_from text p) (n + 1)
-      unfolding whole_of
-      whole_list (atom q bs) b = let z = first_atom q bs (replicate (length w - m) 0) in cc
+      whole_list : (x : Sexp) → eqb (get_or (encode x ++ replicate (length w - f.cells) 0) 0 0 % 2) 0 ≡ true → forms_of (more x f.end (read_from text f.end)) n ≡ forms_of (read_from text f.end) (n + 1)
+      unfolding forms_of
+      whole_list (atom q bs) b = let z = first_atom q bs (replicate (length w - f.cells) 0) in cc
       whole_list (list xs) b = refl
 
-      whole_atom : (f : Sexp) → eqb (get_or (encode f ++ replicate (length w - m) 0) 0 0 % 2) 0 ≡ false → whole_of (more f p (read_from text p)) n ≡ whole_of (read_from text p) n
-      unfolding whole_of
+      whole_atom : (x : Sexp) → eqb (get_or (encode x ++ replicate (length w - f.cells) 0) 0 0 % 2) 0 ≡ false → forms_of (more x f.end (read_from text f.end)) n ≡ forms_of (read_from text f.end) n
+      unfolding forms_of
       whole_atom (atom q bs) b = refl
-      whole_atom (list xs) b = let z = first_list xs (replicate (length w - m) 0) in cc
+      whole_atom (list xs) b = let z = first_list xs (replicate (length w - f.cells) 0) in cc
 
       -- on from a list, and from an atom
-      module _ {u : List ℕ} (c : u ≡ replicate m 0 ++ drop m v) where
-        pub past_list : eqb (get_or v 0 0 % 2) 0 ≡ true → Turning text w₀ u p (n + 1)
+      module _ {u : List ℕ} (c : u ≡ replicate f.cells 0 ++ drop f.cells v) where
+        pub past_list : eqb (get_or v 0 0 % 2) 0 ≡ true → Turning text w₀ u f.end (n + 1)
         past_list b =
             record {
               short = t.short;
@@ -98,10 +117,10 @@ module _ {text w₀ w : List ℕ} {at n : ℕ} (t : Turning text w₀ w at n) wh
               cells = back (form_cleared here u c);
               high = here.within;
               few = omega (arith, t.few, here.on);
-              same = t.same ∙ ap (λ x. whole_of x n) here.reads ∙ whole_list here.form (rw here.cells at b);
+              same = t.same ∙ ap (λ y. forms_of y n) here.reads ∙ whole_list here.form (rw here.cells at b);
             }
 
-        pub past_atom : eqb (get_or v 0 0 % 2) 0 ≡ false → Turning text w₀ u p n
+        pub past_atom : eqb (get_or v 0 0 % 2) 0 ≡ false → Turning text w₀ u f.end n
         past_atom b =
             record {
               short = t.short;
@@ -110,5 +129,5 @@ module _ {text w₀ w : List ℕ} {at n : ℕ} (t : Turning text w₀ w at n) wh
               cells = back (form_cleared here u c);
               high = here.within;
               few = omega (arith, t.few, here.on);
-              same = t.same ∙ ap (λ x. whole_of x n) here.reads ∙ whole_atom here.form (rw here.cells at b);
+              same = t.same ∙ ap (λ y. forms_of y n) here.reads ∙ whole_atom here.form (rw here.cells at b);
             }

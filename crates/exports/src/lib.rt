@@ -5,23 +5,22 @@ ghost use Rattle.std.specs.Prelude.{◌≡◌, ◌%◌, ◌≤◌, ◌<◌, eqb,
 ghost use Rattle.rules.specs.Limits.{LENGTH};
 ghost use Rattle.rules.specs.Sexp.{read};
 ghost use Rattle.sexp.specs.Reads.{Clear};
-ghost use Rattle.sexp.specs.Whole.{whole_of};
 ghost use Rattle.kernel.specs.Parsed.{theory_lists, Roomy, judged_of, theory_of, verdict, laid_theory};
 ghost use Rattle.sexp.specs.Through.{Legible};
 ghost use Rattle.exports.specs.Counts.{forms_of, rules_of};
 
 use kernel::parse::Judged;
 use rules::RULES;
-use sexp::sexp::{Read, Whole};
+use sexp::sexp::{clear, read_all, read_form};
 
 // The number of a text's bracketed forms before its end or a refusal, by its tokens alone.
 #[unsafe(no_mangle)]
 pub extern "C" fn tariff_scan(text: &[u8]) -> usize
-    ensures { result ≡ forms_of (whole_of (read text.now) 0) }
+    ensures { result ≡ forms_of (read text.now) 0 }
 {
-    match sexp::sexp::read_all(text) {
-        Whole::Forms(n) => n,
-        Whole::Refused(_, n) => n,
+    match read_all(text) {
+        Ok(forms) => forms,
+        Err(refused) => refused.form,
     }
 }
 
@@ -38,26 +37,21 @@ fn bracketed(words: &[u32]) -> bool
 pub extern "C" fn tariff_read(text: &[u8], words: &mut [u32]) -> usize
     requires text_len_bound { (length text.now ≤ LENGTH) × (length text.now ≤ length words.old) }
     requires clear { Clear words.old }
-    ensures { (result ≡ forms_of (whole_of (read text.now) 0)) × (words.new ≡ words.old) }
+    ensures { (result ≡ forms_of (read text.now) 0) × (words.new ≡ words.old) }
 {
     let mut at = 0;
     let mut forms = 0;
     loop {
-        match sexp::sexp::read_form(text, at, words) {
-            Read::End => {
-                return forms;
-            }
-            Read::Refused(_) => {
-                return forms;
-            }
-            Read::Form(next, used) => {
-                if bracketed(words) {
-                    forms += 1;
-                }
-                sexp::sexp::clear(words, used);
-                at = next;
-            }
+        let form = match read_form(text, at, words) {
+            Ok(Some(form)) => form,
+            Ok(None) => return forms,
+            Err(_) => return forms,
+        };
+        if bracketed(words) {
+            forms += 1;
         }
+        clear(words, form.cells);
+        at = form.end;
     }
 }
 
