@@ -12,10 +12,11 @@ ghost use Rattle.unification.specs.Unify.{Unifiable};
 ghost use Rattle.exports_terms.specs.Keeps.{Keeps, Replaces};
 ghost use Rattle.exports_terms.specs.Unifies.{found_of, Unifies};
 
-use terms::store::{Kept, Mark, keep};
+use questions::Row;
+use terms::store::{Mark, Store, Terms};
 use terms::substitute::substitute;
 use terms::variables::variables;
-use unification::unify::{Unified, unify};
+use unification::unify::unify;
 
 // The number of a node's term, which comes into the store if it is new; the number of terms that fit where it does not. The node is the
 // first parameter, since a slice that is passed on the stack is read there before it is quite written, for which the processor waits.
@@ -35,10 +36,8 @@ pub extern "C" fn tariff_keep(
         terms: count,
         words: used,
     };
-    match keep(index, words, mark, node) {
-        Kept::Term(n, _) => n,
-        Kept::Full(_, _) => rules::TERMS,
-    }
+    let mut store = Store { index, words, mark };
+    store.keep(node).unwrap_or(rules::TERMS)
 }
 
 // The variables of a term join the set; `seen` is scratch.
@@ -60,7 +59,8 @@ pub extern "C" fn tariff_variables(
         terms: count,
         words: used,
     };
-    variables(index, words, mark, id, seen, set);
+    let terms = Terms { index, words, mark };
+    variables(&terms, id, seen, set);
 }
 
 // The number of a term under a replacement: for a variable the map has a term's number and 1, or 0 where the variable stays. `memo` is
@@ -84,20 +84,17 @@ pub extern "C" fn tariff_substitute(
         terms: count,
         words: used,
     };
-    match substitute(index, words, mark, map, memo, id) {
-        Kept::Term(n, _) => n,
-        Kept::Full(_, _) => rules::TERMS,
-    }
+    let mut store = Store { index, words, mark };
+    substitute(&mut store, map, memo, id).unwrap_or(rules::TERMS)
 }
 
 // An answer of unification as a number: 1 where bindings are found, 0 where there are none, 2 where a table has no room.
-fn number_of(answer: Unified) -> usize
+fn number_of(answer: Result<bool, Row>) -> usize
     ensures { result ≡ found_of answer }
 {
     match answer {
-        Unified::Found(_) => 1,
-        Unified::Apart(_) => 0,
-        Unified::Full(_, _) => 2,
+        Ok(exists) => usize::from(exists),
+        Err(_) => 2,
     }
 }
 
@@ -126,8 +123,6 @@ pub extern "C" fn tariff_unify(
         terms: count,
         words: used,
     };
-    let answer = unify(
-        index, words, mark, variables, s, t, theta, map, memo, pairs, seen,
-    );
-    number_of(answer)
+    let mut store = Store { index, words, mark };
+    number_of(unify(&mut store, variables, s, t, theta, map, memo, pairs, seen))
 }

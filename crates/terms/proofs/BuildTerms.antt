@@ -14,16 +14,17 @@ use Rattle.rules.specs.Store.{Made, keep}
 use Rattle.rules.specs.Laws.Store.{number_is}
 use Rattle.rules.specs.Match.{Bound, build}
 use Rattle.terms.specs.declared.store.Mark.{Mark}
-use Rattle.terms.specs.declared.store.Kept.{Kept}
-use Rattle.terms.specs.declared.store.Kept.TheVariants.{Term as KeptTerm, Full}
+use Rattle.std.proofs.Common.{Ok, Err}
+use Rattle.questions.specs.Numbers.{row_number, number_of, detail_of}
+use Rattle.questions.specs.declared.Row.{Row}
+use Rattle.questions.specs.declared.Question.{Question}
+use Rattle.questions.specs.declared.Question.TheVariants.{Matching, Room}
 use Rattle.terms.specs.declared.patterns.Built.{Built}
-use Rattle.terms.specs.declared.patterns.Built.TheVariants.{Term, No}
-use Rattle.terms.specs.Table.{run, args_of, tree_at, made, Shaped, is_app, Node, Grown, Stored, Refused, After}
-use Rattle.terms.specs.Patterns.{arity, Stands, PatternAt, bound_of, Buildable, Builds, Stops, BuiltAt}
+use Rattle.terms.specs.Table.{run, args_of, tree_at, made, Shaped, is_app, Node, Grown, Stored, Refused}
+use Rattle.terms.specs.Patterns.{arity, Stands, PatternAt, bound_of, Buildable, Builds, BuiltAt}
 use Rattle.terms.specs.Laws.Runs.{run_same, run_length, run_at}
 use Rattle.terms.specs.Laws.Tables.{length_trees, tree_app}
 use Rattle.terms.specs.Laws.Growth.{grown_refl, grown_trans, grown_tree}
-use Rattle.terms.specs.Laws.Answers.{after_term, after_full, built_term, built_no}
 use Rattle.terms.specs.Laws.Bound.{bound_grown}
 use Rattle.terms.proofs.Matches.{stands_var, stands_app, reads_in, reads_var}
 use Rattle.terms.proofs.Builds.{onto, onto_snoc, onto_agree, build_none, build_some, Remaining, remaining_begins, remaining_reads}
@@ -35,7 +36,7 @@ module _ (S P I W : List ℕ) (m : Mark) (B : List ℕ) (at : ℕ) (q : Buildabl
   pub cell_there : SYMBOLS ≤ get_or P at 0 → get_or P at 0 - SYMBOLS < length B
   cell_there l = let a = reads_var S P at q.reads l in let b = q.cells.long in omega arith
 
-  pub build_unbound : SYMBOLS ≤ get_or P at 0 → get_or B (get_or P at 0 - SYMBOLS) 0 ≡ 0 → BuiltAt S P I W I W m B at (No 38 0 m)
+  pub build_unbound : SYMBOLS ≤ get_or P at 0 → get_or B (get_or P at 0 - SYMBOLS) 0 ≡ 0 → BuiltAt S P I W I W m m B at (Err Matching)
   build_unbound l e p st =
       let v = stands_var S P at p st l in
       record {
@@ -45,7 +46,7 @@ module _ (S P I W : List ℕ) (m : Mark) (B : List ℕ) (at : ℕ) (q : Buildabl
         };
       }
 
-  pub build_bound : SYMBOLS ≤ get_or P at 0 → (get_or B (get_or P at 0 - SYMBOLS) 0 ≡ 0 → ⊥) → BuiltAt S P I W I W m B at (Term (get_or B (get_or P at 0 - SYMBOLS) 0 - 1) (at + 1) m)
+  pub build_bound : SYMBOLS ≤ get_or P at 0 → (get_or B (get_or P at 0 - SYMBOLS) 0 ≡ 0 → ⊥) → BuiltAt S P I W I W m m B at (Ok (record { term = get_or B (get_or P at 0 - SYMBOLS) 0 - 1; end = at + 1 }))
   unfolding size
   build_bound l n p st =
       let v = stands_var S P at p st l in
@@ -123,32 +124,33 @@ module _ (S P I W : List ℕ) (m : Mark) (B : List ℕ) (at c count : ℕ) (J X 
   pub building_falls : k < count → length P - place < length P - at
   building_falls h = let a = reads_in S P place (building_reads h) in let d = q.beyond in omega arith
 
-  module _ (h : k < count) (L Y : List ℕ) (r : Built) (f : BuiltAt S P J X L Y new B place r) where
-    pub building_stops : (n d : ℕ) (k' : Mark) → r ≡ No n d k' → BuiltAt S P I W L Y m B at (No n d k')
-    building_stops n d k' e p st =
-        let t : (p : Tree) → Stands S P place p → Stops J X L Y new (build p (bound_of (made J X new) B) (made J X new)) n d k' =
-        λ p' st'. built_no (f p' st') e in
+  module _ (h : k < count) (L Y : List ℕ) (k' : Mark) where
+    pub building_stops : (e : Question) → BuiltAt S P J X L Y new k' B place (Err e) → BuiltAt S P I W L Y m k' B at (Err e)
+    building_stops e f p st =
         let o = building_reads h in
         record {
           says = record {
-            grown = grown_trans q.grown (t o.tree o.stands).grown;
-            makes = remaining_stops S P b _ _ c count (made J X new) place k (run w 1 k) (q.going p st) h n d (made L Y k')
-                (λ p' st'. ap (λ (x : Bound). build p' x (made J X new)) same_bound ∙ (t p' st').makes);
+            grown = grown_trans q.grown (f o.tree o.stands).says.grown;
+            makes = remaining_stops S P b _ _ c count (made J X new) place k (run w 1 k) (q.going p st) h (number_of e) (detail_of e) (made L Y k')
+                (λ p' st'. ap (λ (x : Bound). build p' x (made J X new)) same_bound ∙ (f p' st').says.makes);
           };
         }
 
-    module _ (n next : ℕ) (k' : Mark) (e : r ≡ Term n next k') where
+    module _ (r : Built) (f : BuiltAt S P J X L Y new k' B place (Ok r)) where
+      abbrev n : ℕ
+      n = r.term
+
+      abbrev next : ℕ
+      next = r.end
+
       built : (p : Tree) → Stands S P place p → Builds J X L Y new (build p (bound_of (made J X new) B) (made J X new)) (place + size p) n next k'
-      built p st = built_term (f p st) e
+      built p st = (f p st).says
 
       of_next : Builds J X L Y new (build (building_reads h).tree (bound_of (made J X new) B) (made J X new)) (place + size (building_reads h).tree) n next k'
       of_next = built (building_reads h).tree (building_reads h).stands
 
-      pub built_there : n < k'.terms
-      built_there = of_next.there
-
-      pub built_room : k'.terms ≤ TERMS
-      built_room = of_next.grown.good.room
+      pub built_there : (n < k'.terms) × (k'.terms ≤ TERMS)
+      built_there = (of_next.there, of_next.grown.good.room)
 
       run_old : run (set w (1 + k) n) 1 k ≡ run w 1 k
       run_old =
@@ -233,19 +235,17 @@ module _ (S P I W : List ℕ) (m : Mark) (B : List ℕ) (at c count : ℕ) (J X 
     node_tree : tree_at (made J X new) (take (count + 1) w) ≡ app c (args_of (made J X new) (run w 1 k))
     node_tree = ap (tree_at (made J X new)) node_is ∙ tree_app (made J X new) c (run w 1 k) q.small
 
-    module _ (L Y : List ℕ) (r : Kept) (f : After J X L Y new (tree_at (made J X new) (take (count + 1) w)) (keep (tree_at (made J X new) (take (count + 1) w)) (made J X new)) r) where
-      abbrev kept : Out Made Tree
-      kept = keep (tree_at (made J X new) (take (count + 1) w)) (made J X new)
+    abbrev kept : Out Made Tree
+    kept = keep (tree_at (made J X new) (take (count + 1) w)) (made J X new)
 
-      to_keep : (p : Tree) → Stands S P at p → (build p b (made I W m) ≡ kept) × (place ≡ at + size p)
-      to_keep p st =
-          let a = remaining_ends S P b _ _ c count (made J X new) place k (run w 1 k) (q.going p st) h in
-          (a.0 ∙ ap (λ (t : Tree). keep t (made J X new)) (sym node_tree), a.1)
+    to_keep : (p : Tree) → Stands S P at p → (build p b (made I W m) ≡ kept) × (place ≡ at + size p)
+    to_keep p st =
+        let a = remaining_ends S P b _ _ c count (made J X new) place k (run w 1 k) (q.going p st) h in
+        (a.0 ∙ ap (λ (t : Tree). keep t (made J X new)) (sym node_tree), a.1)
 
-      pub building_done : (n : ℕ) (k' : Mark) → r ≡ KeptTerm n k' → BuiltAt S P I W L Y m B at (Term n place k')
-      building_done n k' e p st =
-          let t : Stored J X L Y new (tree_at (made J X new) (take (count + 1) w)) kept n k' =
-          after_term f e in
+    module _ (L Y : List ℕ) (k' : Mark) where
+      pub building_done : (n : ℕ) → Stored J X L Y new (tree_at (made J X new) (take (count + 1) w)) kept n k' → BuiltAt S P I W L Y m k' B at (Ok (record { term = n; end = place }))
+      building_done n t p st =
           let a = to_keep p st in
           let d = length_trees L Y k'.terms in
           let v = t.numbered in
@@ -261,7 +261,5 @@ module _ (S P I W : List ℕ) (m : Mark) (B : List ℕ) (at c count : ℕ) (J X 
             };
           }
 
-      pub building_full : (n : ℕ) (k' : Mark) → r ≡ Full n k' → BuiltAt S P I W L Y m B at (No 60 n k')
-      building_full n k' e p st =
-          let t : Refused Tree J X L Y new kept n k' = after_full f e in
-          record { says = record { grown = grown_trans q.grown t.grown; makes = (to_keep p st).0 ∙ t.makes } }
+      pub building_full : (row : Row) → Refused Tree J X L Y new kept (row_number row) k' → BuiltAt S P I W L Y m k' B at (Err (Room row))
+      building_full row t p st = record { says = record { grown = grown_trans q.grown t.grown; makes = (to_keep p st).0 ∙ t.makes } }

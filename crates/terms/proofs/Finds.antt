@@ -1,40 +1,39 @@
 -- The look-up of a node along the chain of its bucket. Assumes nothing.
 use mathlib.Core.Path.{◌≡◌, refl, sym, ap, ◌∙◌, subst}
-use mathlib.Core.Bool.{Bool, true, false, true≢false}
+use mathlib.Core.Bool.{Bool, true, false}
 use mathlib.Core.List.{List}
-use Prim.Native.Nat.{ℕ, suc, ◌+◌, ◌-◌, ◌≤◌, ◌<◌}
+use Prim.Native.Nat.{ℕ, ◌+◌, ◌-◌, ◌≤◌, ◌<◌}
 use native.Mathlib.Omega.{arith}
 use native.Mathlib.Decide.{dec_lt, ℕ_discrete}
 use lib.ListN.{length, get_or}
+use Rattle.std.proofs.Common.{Some as some, None as nothing}
 use Rattle.rules.specs.Tree.{Tree}
 use Rattle.rules.specs.Store.{Made, number}
 use Rattle.rules.specs.Laws.Store.{stored_true, stored_false, number_le}
 use Rattle.terms.specs.declared.store.Mark.{Mark}
-use Rattle.terms.specs.Table.{CHAINS, HEADS, run, start, node_at, tree_at, made, hash, bucket, latest, Shaped, Good}
-use Rattle.terms.specs.Node.{same_words, seek}
+use Rattle.terms.specs.Table.{CHAINS, HEADS, node_at, tree_at, made, hash, bucket, latest, Shaped, Good}
+use Rattle.terms.specs.Node.{seek, Held}
 use Rattle.terms.specs.Laws.Chains.{hash_small, latest_le, latest_key, latest_skip}
-use Rattle.terms.specs.Laws.Tables.{length_trees, number_here, number_nowhere, end_within}
-use Rattle.terms.proofs.Words.{same_refl, same_true}
+use Rattle.terms.specs.Laws.Tables.{length_trees, number_here, number_nowhere}
 
-pub seek_here : (M : Made) (t : Tree) (i : ℕ) → number M t ≡ i → i < length M → suc i ≡ seek M t
+pub seek_here : (M : Made) (t : Tree) (i : ℕ) → number M t ≡ i → i < length M → some i ≡ seek M t
 unfolding seek
-seek_here M t i e h = ap suc (sym e) ∙ sym (ap (λ (b : Bool). elim b [ true ↦ suc (number M t) | false ↦ 0 ]) (stored_true M t (omega arith)))
+seek_here M t i e h = ap (λ (n : ℕ). some n) (sym e) ∙ sym (ap (λ (b : Bool). elim b [ true ↦ some (number M t) | false ↦ nothing ]) (stored_true M t (omega arith)))
 
-pub seek_none : (M : Made) (t : Tree) → number M t ≡ length M → 0 ≡ seek M t
+pub seek_none : (M : Made) (t : Tree) → number M t ≡ length M → nothing ≡ seek M t
 unfolding seek
-seek_none M t e = sym (ap (λ (b : Bool). elim b [ true ↦ suc (number M t) | false ↦ 0 ]) (stored_false M t e))
+seek_none M t e = sym (ap (λ (b : Bool). elim b [ true ↦ some (number M t) | false ↦ nothing ]) (stored_false M t e))
 
 -- what the answer says
-pub seek_number : (M : Made) (t : Tree) (r : ℕ) → r ≡ seek M t → (r ≡ 0 → ⊥) → (number M t ≡ r - 1) × (number M t < length M)
-unfolding seek
-seek_number M t r e n = elim (dec_lt (number M t) (length M)) [
-  | yes p ↦ let z = e ∙ sym (seek_here M t (number M t) refl p) in (omega arith, p)
-  | no q ↦ let l = number_le M t in absurd (n (e ∙ sym (seek_none M t (omega arith))))
+pub seek_number : (M : Made) (t : Tree) (i : ℕ) → some i ≡ seek M t → (number M t ≡ i) × (number M t < length M)
+seek_number M t i e = elim (dec_lt (number M t) (length M)) [
+  | yes p ↦ let z : some i ≡ some (number M t) = e ∙ sym (seek_here M t (number M t) refl p) in ((cc), p)
+  | no q ↦ let l = number_le M t in let z : some i ≡ nothing = e ∙ sym (seek_none M t (omega arith)) in absurd (cc)
 ]
 
-pub seek_nowhere : (M : Made) (t : Tree) (r : ℕ) → r ≡ seek M t → r ≡ 0 → number M t ≡ length M
-seek_nowhere M t r e z = elim (dec_lt (number M t) (length M)) [
-  | yes p ↦ let y = e ∙ sym (seek_here M t (number M t) refl p) in absurd (omega arith)
+pub seek_nowhere : (M : Made) (t : Tree) → nothing ≡ seek M t → number M t ≡ length M
+seek_nowhere M t e = elim (dec_lt (number M t) (length M)) [
+  | yes p ↦ let z : nothing ≡ some (number M t) = e ∙ sym (seek_here M t (number M t) refl p) in absurd (cc)
   | no q ↦ let l = number_le M t in omega arith
 ]
 
@@ -62,34 +61,24 @@ seeking_begins I W m w b g s e =
       none = λ k l h q. latest_skip (bucket I W) (hash w) m.terms k l h (ap hash q);
     })
 
-module _ (I W : List ℕ) (m : Mark) (w : List ℕ) (at : ℕ) (q : Seeking I W m w at) (some : at ≡ 0 → ⊥) where
+module _ (I W : List ℕ) (m : Mark) (w : List ℕ) (at : ℕ) (q : Seeking I W m w at) (ne : at ≡ 0 → ⊥) where
   pub seeking_in : at - 1 < m.terms
   seeking_in = let a = q.in_terms in omega arith
 
   pub seeking_chain : CHAINS + (at - 1) < length I
   seeking_chain = let a = seeking_in in let b = q.good.room in let d = q.good.index in omega arith
 
-  pub seeking_asks : (s : ℕ) → s ≡ start I (at - 1) → (s ≤ get_or I (at - 1) 0) × (get_or I (at - 1) 0 ≤ length W)
-  seeking_asks s e =
-      let a = q.good.rise (at - 1) seeking_in in
-      let b = end_within I W m q.good (at - 1) seeking_in in
-      let d = q.good.within in
-      let f = q.good.words in
-      (omega arith, omega arith)
+  pub seeking_held : Held I W (at - 1)
+  seeking_held = record { mark = m; good = q.good; there = seeking_in }
 
-  node_is : (s : ℕ) → s ≡ start I (at - 1) → node_at I W (at - 1) ≡ run W s (get_or I (at - 1) 0 - s)
-  unfolding node_at
-  node_is s e = ap (λ (k : ℕ). run W k (get_or I (at - 1) 0 - k)) (sym e)
-
-  pub seeking_hit : (s : ℕ) → s ≡ start I (at - 1) → (r : Bool) → r ≡ same_words (run W s (get_or I (at - 1) 0 - s)) w → r ≡ true → at ≡ seek (made I W m) (tree_at (made I W m) w)
-  seeking_hit s e r f t =
-      let z : suc (at - 1) ≡ at = omega arith in
-      sym z ∙ seek_here (made I W m) _ (at - 1)
-      (number_here I W m q.good w (at - 1) seeking_in (node_is s e ∙ same_true _ _ (sym f ∙ t)))
+  pub seeking_hit : node_at I W (at - 1) ≡ w → some (at - 1) ≡ seek (made I W m) (tree_at (made I W m) w)
+  seeking_hit e =
+      seek_here (made I W m) _ (at - 1)
+      (number_here I W m q.good w (at - 1) seeking_in e)
       (let a = seeking_in in let b = length_trees I W m.terms in omega arith)
 
-  pub seeking_on : (s : ℕ) → s ≡ start I (at - 1) → (r : Bool) → r ≡ same_words (run W s (get_or I (at - 1) 0 - s)) w → r ≡ false → Seeking I W m w (get_or I (CHAINS + (at - 1)) 0)
-  seeking_on s e r f t =
+  pub seeking_on : (node_at I W (at - 1) ≡ w → ⊥) → Seeking I W m w (get_or I (CHAINS + (at - 1)) 0)
+  seeking_on n =
       let l = seeking_in in
       let z : get_or I (CHAINS + (at - 1)) 0 ≡ latest (bucket I W) (hash w) (at - 1) =
       q.good.chains (at - 1) seeking_in ∙ ap (λ (b : ℕ). latest (bucket I W) b (at - 1)) (q.key (omega arith)) in
@@ -102,7 +91,7 @@ module _ (I W : List ℕ) (m : Mark) (w : List ℕ) (at : ℕ) (q : Seeking I W 
         none = λ k x h p. elim (dec_lt k (at - 1)) [
           | yes y ↦ latest_skip (bucket I W) (hash w) (at - 1) k x y (ap hash p)
           | no y ↦ elim (ℕ_discrete k (at - 1)) [
-            | yes c ↦ true≢false (sym (ap (λ (v : List ℕ). same_words v w) (sym (node_is s e) ∙ ap (node_at I W) (sym c) ∙ p) ∙ same_refl w) ∙ sym f ∙ t)
+            | yes c ↦ n (ap (node_at I W) (sym c) ∙ p)
             | no c ↦ q.none k (omega arith) h p
           ]
         ];
@@ -114,6 +103,6 @@ module _ (I W : List ℕ) (m : Mark) (w : List ℕ) (at : ℕ) (q : Seeking I W 
       let b = q.good.chains (at - 1) seeking_in in
       omega arith
 
-pub seeking_none : (I W : List ℕ) (m : Mark) (w : List ℕ) (at : ℕ) → Seeking I W m w at → at ≡ 0 → 0 ≡ seek (made I W m) (tree_at (made I W m) w)
+pub seeking_none : (I W : List ℕ) (m : Mark) (w : List ℕ) (at : ℕ) → Seeking I W m w at → at ≡ 0 → nothing ≡ seek (made I W m) (tree_at (made I W m) w)
 seeking_none I W m w at q z =
     seek_none (made I W m) _ (number_nowhere I W m q.good w q.shaped (λ k h. q.none k (omega arith) h) ∙ sym (length_trees I W m.terms))

@@ -13,11 +13,12 @@ use Rattle.rules.specs.Store.{Made}
 use Rattle.rules.specs.Laws.Store.{Apart}
 use Rattle.terms.specs.declared.store.Mark.{Mark}
 use Rattle.terms.specs.Table.{CHAINS, FLAGS, HEADS, INDEX, BUCKETS, run, start, node_at, trees, hash, bucket, latest, flag, Shaped, Good, Same}
-use Rattle.terms.specs.Table.{Part, Back, lower}
-use Rattle.terms.specs.Node.{Unlinked}
+use Rattle.terms.specs.Table.{Part, Back}
+use Rattle.terms.specs.Node.{Unlinked, Held}
+use borrow.Rule.Slice.PartMut.{put_mid}
 use Rattle.terms.specs.Laws.Runs.{run_same, run_length}
 use Rattle.terms.specs.Laws.Chains.{hash_small, latest_agree, latest_other}
-use Rattle.terms.specs.Laws.Tables.{rising, length_trees, get_d_trees, trees_same, end_within}
+use Rattle.terms.specs.Laws.Tables.{rising, length_trees, get_d_trees, trees_same}
 
 -- The index ------------------------------------------------------------------------------------------------------------------------
 
@@ -196,37 +197,48 @@ module _ (I W : List ℕ) (m : Mark) (g : Good I W m) (n s b : ℕ) (last : m.te
         no_words = λ i l. elim (dec_lt i (get_or I n 0)) [ yes p ↦ x.here i l p | no q ↦ x.behind i (omega arith) ∙ g.no_words i (omega arith) ];
       }
 
-  pub back_one : Back I W J X less × (s ≤ m.words)
-  back_one = (record { good = good_less; same = same }, let t = g.rise n (omega arith) in let v = end_is in omega arith)
+  pub back_one : Back I W J X less
+  back_one = record { good = good_less; same = same }
 
 -- what the last term's words are
-module _ (I W : List ℕ) (m : Mark) (g : Good I W m × (0 < m.terms)) (s : ℕ) (es : s ≡ start I (m.terms - 1)) where
-  pub last_fits : (s < get_or I (m.terms - 1) 0) × (get_or I (m.terms - 1) 0 ≤ length W) × (m.terms - 1 < length I)
-  last_fits =
-      let h = g.1 in
-      let a = g.0.rise (m.terms - 1) (omega arith) in
-      let b = end_within I W m g.0 (m.terms - 1) (omega arith) in
-      let c = g.0.within in
-      let d = g.0.words in
-      let e = g.0.index in
-      let f = g.0.room in
-      (omega arith, omega arith, omega arith)
+module _ (I W : List ℕ) (m : Mark) (g : Good I W m × (0 < m.terms)) where
+  pub last_held : Held I W (m.terms - 1)
+  last_held = let h = g.1 in record { mark = m; good = g.0; there = omega arith }
 
-  pub last_unlinks : (b : ℕ) → b ≡ hash (run W s (get_or I (m.terms - 1) 0 - s)) → (length I ≡ INDEX) × (m.terms - 1 < TERMS) × (b < BUCKETS)
+  last_end : get_or I (m.terms - 1) 0 ≡ m.words
+  unfolding start
+  last_end = let h = g.1 in let e : m.terms ≡ suc (m.terms - 1) = omega arith in sym (g.0.ends ∙ ap (start I) e)
+
+  pub last_unlinks : (b : ℕ) → b ≡ hash (node_at I W (m.terms - 1)) → (length I ≡ INDEX) × (m.terms - 1 < TERMS) × (b < BUCKETS)
   last_unlinks b e =
-      let z = hash_small (run W s (get_or I (m.terms - 1) 0 - s)) in
+      let z = hash_small (node_at I W (m.terms - 1)) in
       let f = g.0.room in
       let h = g.1 in
       (g.0.index, omega arith, omega arith)
 
-  pub last_gone : (b : ℕ) → b ≡ hash (run W s (get_or I (m.terms - 1) 0 - s)) → (J : List ℕ) → Unlinked I J (m.terms - 1) b
-      → (ys : List ℕ) → ys ≡ replicate (length (run W s (get_or I (m.terms - 1) 0 - s))) 0
-      → Back I W J (take s W ++ (ys ++ drop (get_or I (m.terms - 1) 0 - s) (drop s W))) (lower m s) × (s ≤ m.words)
-  last_gone b e J u ys q =
-      let h = g.1 in
-      let f = last_fits in
-      let f0 = f.0 in
-      back_one I W m g.0 (m.terms - 1) s b (omega arith) es e J _ u (wiped W s (get_or I (m.terms - 1) 0) (omega arith) f.1 ys q)
+  module _ (s : ℕ) (es : s ≡ start I (m.terms - 1)) where
+    pub last_fits : (s < m.words) × (m.words ≤ length W)
+    last_fits =
+        let h = g.1 in
+        let a = g.0.rise (m.terms - 1) (omega arith) in
+        let b = last_end in
+        let c = g.0.within in
+        let d = g.0.words in
+        (omega arith, omega arith)
+
+    pub last_gone : (b : ℕ) → b ≡ hash (node_at I W (m.terms - 1)) → (J : List ℕ) → Unlinked I J (m.terms - 1) b
+        → (ys : List ℕ) → ys ≡ replicate (length (run W s (m.words - s))) 0
+        → Back I W J (put_mid s (m.words - s) W ys) (record { terms = m.terms - 1; words = s })
+    unfolding node_at
+    last_gone b e J u ys q =
+        let h = g.1 in
+        let f = last_fits in
+        let f0 = f.0 in
+        let d = last_end in
+        let P : ℕ → Type 0 = λ (k : ℕ). Back I W J (put_mid s (k - s) W ys) (record { terms = m.terms - 1; words = s }) in
+        subst P last_end
+        (back_one I W m g.0 (m.terms - 1) s b (omega arith) es (e ∙ ap (λ (k : ℕ). hash (run W k (get_or I (m.terms - 1) 0 - k))) (sym es)) J _ u
+        (wiped W s (get_or I (m.terms - 1) 0) (omega arith) (omega arith) ys (q ∙ ap (λ (k : ℕ). replicate (length (run W s (k - s))) 0) (sym last_end))))
 
 -- Down to the mark ---------------------------------------------------------------------------------------------------------------------
 
@@ -240,13 +252,17 @@ going_begins I W m old p =
     record { good = p.good; same = record { ends = λ i h. refl; words = λ i h. refl; long_index = refl; long_words = refl }; from = p.fewer }
 
 module _ (I W : List ℕ) (least : ℕ) (J X : List ℕ) (k : Mark) (q : Going I W least J X k) where
-  pub going_on : least < k.terms → (L Y : List ℕ) (e : ℕ) → Back J X L Y (lower k e) × (e ≤ k.words) → Going I W least L Y (lower k e)
-  going_on h L Y e b =
-      let l = b.1 in
-      let v = b.0.same in
+  pub going_last : least < k.terms → Good J X k × (0 < k.terms)
+  going_last h = (q.good, omega arith)
+
+  pub going_on : least < k.terms → (L Y : List ℕ) (j : Mark) → Back J X L Y j → (j.terms ≡ k.terms - 1) × (j.words ≤ k.words) → Going I W least L Y j
+  going_on h L Y j b e =
+      let e0 = e.0 in
+      let e1 = e.1 in
+      let v = b.same in
       let w = q.same in
       record {
-        good = b.0.good;
+        good = b.good;
         same = record {
           ends = λ i p. v.ends i p ∙ w.ends i (omega arith);
           words = λ i p. v.words i p ∙ w.words i (omega arith);
@@ -261,10 +277,13 @@ module _ (I W : List ℕ) (least : ℕ) (J X : List ℕ) (k : Mark) (q : Going I
   start_there zero h = refl
   start_there (suc i) h = q.same.ends i h
 
-  pub going_ends : k.terms ≤ least → (old : Mark) → least ≡ old.terms → old.words ≡ start I old.terms → Back I W J X old
-  going_ends h old e w =
-      let f = q.from in
-      let t : k.terms ≡ old.terms = omega arith in
-      let s : k.words ≡ old.words = q.good.ends ∙ ap (start J) t ∙ start_there old.terms (omega arith) ∙ sym w in
-      let z : k ≡ old = λ i. record { terms = t i; words = s i } in
-      subst (Back I W J X) z (record { good = q.good; same = q.same })
+  module _ (h : k.terms ≤ least) (old : Mark) (e : least ≡ old.terms) (w : old.words ≡ start I old.terms) where
+    pub going_there : k ≡ old
+    going_there =
+        let f = q.from in
+        let t : k.terms ≡ old.terms = omega arith in
+        let s : k.words ≡ old.words = q.good.ends ∙ ap (start J) t ∙ start_there old.terms (omega arith) ∙ sym w in
+        λ i. record { terms = t i; words = s i }
+
+    pub going_ends : Back I W J X old
+    going_ends = subst (Back I W J X) going_there (record { good = q.good; same = q.same })

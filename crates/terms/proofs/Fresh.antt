@@ -6,8 +6,8 @@ use native.Mathlib.Omega.{arith}
 use lib.ListN.{length, take, replicate}
 use Rattle.rules.specs.Store.{substitute}
 use Rattle.terms.specs.declared.store.Mark.{Mark}
-use Rattle.terms.specs.declared.store.Kept.{Kept}
-use Rattle.terms.specs.declared.store.Kept.TheVariants.{Term, Full}
+use Rattle.questions.specs.declared.Row.{Row}
+use Rattle.std.specs.Prelude.{Result, Ok, Err}
 use Rattle.terms.specs.Table.{made, After, tree}
 use Rattle.terms.specs.Subst.{replacement, substituted, Replaceable, Replacing, Substituted}
 use Rattle.terms.specs.Laws.Zeros.{part_long, part_none}
@@ -27,8 +27,8 @@ fresh_ready I W m map memo id r p =
       knows = λ i q. absurd (let z = part_none memo (id + 1) (omega arith) p.1 i in omega arith);
     }
 
-pub fresh_done : (I W J X : List ℕ) (m : Mark) (map memo memo' : List ℕ) (id : ℕ) (r : Kept) → Substituted I W J X m map memo memo' id r
-    → After I W J X m (substituted I W m map id) (substitute (replacement (made I W m) map) (tree I W m id) (made I W m)) r
+pub fresh_done : (I W J X : List ℕ) (m new : Mark) (map memo memo' : List ℕ) (id : ℕ) (r : Result ℕ Row) → Substituted I W J X m new map memo memo' id r
+    → After I W J X m new (substituted I W m map id) (substitute (replacement (made I W m) map) (tree I W m id) (made I W m)) r
 unfolding substitute
-fresh_done I W J X m map memo memo' id (Term n new) d = record { says = d.stored }
-fresh_done I W J X m map memo memo' id (Full r new) d = record { says = d }
+fresh_done I W J X m new map memo memo' id (Ok n) d = record { says = d.stored }
+fresh_done I W J X m new map memo memo' id (Err row) d = record { says = d }

@@ -1,6 +1,7 @@
 -- A node gathered anew, with its arguments as the memo has them. Assumes nothing.
 use mathlib.Core.Path.{◌≡◌, refl, sym, ap, ◌∙◌, subst}
 use mathlib.Core.Bool.{Bool, true, false}
+use Rattle.std.specs.Prelude.{Result}
 use mathlib.Core.List.{List, [], ◌∷◌, ◌++◌}
 use Prim.Native.Nat.{ℕ, zero, suc, ◌+◌, ◌-◌, ◌≤◌, ◌<◌, suc-le-suc}
 use native.Mathlib.Omega.{arith}
@@ -12,7 +13,7 @@ use Rattle.rules.specs.Tree.{Tree, var, more, sub, subs}
 use Rattle.rules.specs.Store.{Made, keep}
 use Rattle.rules.specs.Limits.{NODE}
 use Rattle.terms.specs.declared.store.Mark.{Mark}
-use Rattle.terms.specs.declared.store.Kept.{Kept}
+use Rattle.questions.specs.declared.Row.{Row}
 use Rattle.terms.specs.Table.{run, args_of, tree_at, made, Shaped, Node, After}
 use Rattle.terms.specs.Subst.{image, Known, renumbered, rebuilt, Rebuildable}
 use Rattle.terms.specs.Laws.Runs.{run_length, run_more, run_none}
@@ -129,9 +130,9 @@ module _ (W memo : List ℕ) (s e : ℕ) (r : Rebuildable W memo s e) (l now : L
       let b = r.narrow in
       subst (Node n) (sym gathered) (record { narrow = omega arith; shaped = c })
 
-  pub rebuild_done : (I X J Y : List ℕ) (m : Mark) (k : Kept) → After I X J Y m (tree_at (made I X m) (take (e - s) now)) (keep (tree_at (made I X m) (take (e - s) now)) (made I X m)) k
-      → After I X J Y m (tree_at (made I X m) (rebuilt W memo s e)) (keep (tree_at (made I X m) (rebuilt W memo s e)) (made I X m)) k
-  rebuild_done I X J Y m k d = subst (λ (w : List ℕ). After I X J Y m (tree_at (made I X m) w) (keep (tree_at (made I X m) w) (made I X m)) k) gathered d
+  pub rebuild_done : (I X J Y : List ℕ) (m new : Mark) (k : Result ℕ Row) → After I X J Y m new (tree_at (made I X m) (take (e - s) now)) (keep (tree_at (made I X m) (take (e - s) now)) (made I X m)) k
+      → After I X J Y m new (tree_at (made I X m) (rebuilt W memo s e)) (keep (tree_at (made I X m) (rebuilt W memo s e)) (made I X m)) k
+  rebuild_done I X J Y m new k d = subst (λ (w : List ℕ). After I X J Y m new (tree_at (made I X m) w) (keep (tree_at (made I X m) w) (made I X m)) k) gathered d
 
   pub gathered_long : e - s ≡ length (take (e - s) now)
   gathered_long = sym (ap length gathered ∙ rebuilt_length W memo s e r)

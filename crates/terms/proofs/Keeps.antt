@@ -1,13 +1,13 @@
 -- What `keep` leaves, in each of its four answers. Assumes nothing.
 use mathlib.Core.Path.{◌≡◌, refl, sym, ap, ◌∙◌, subst}
-use mathlib.Core.List.{List, [], ◌∷◌, ◌++◌, append-nil}
+use mathlib.Core.List.{List, [], ◌∷◌, ◌++◌}
 use mathlib.Core.Logic.{⊎_elim}
 use Prim.Native.Nat.{ℕ, ◌+◌, ◌-◌, ◌≤◌, ◌<◌}
 use native.Mathlib.Omega.{arith}
 use native.Mathlib.Decide.{ℕ_discrete}
 use native.Mathlib.Numerals.{add-one}
-use lib.ListN.{length, get_or, take, drop, length-append, length-drop, get_or-append, drop_of_length-le}
-use lib.Seq.{length-take-le, take_all, take_at, drop_at, drop-drop, get_or-take, get_or-drop, get_or-append-add}
+use lib.ListN.{length, get_or, take, drop, length-append, length-drop, get_or-append}
+use lib.Seq.{length-take-le, take_at, drop_at, drop-drop, get_or-take, get_or-drop, get_or-append-add}
 use Rattle.rules.specs.Limits.{TERMS, WORDS, NODE}
 use Rattle.rules.specs.Out.{ok}
 use Rattle.rules.specs.Tree.{Tree, var, is_open}
@@ -16,10 +16,11 @@ use Rattle.rules.specs.Laws.Store.{Apart, get_d_last, apart_more, number_of_lem,
 use Rattle.terms.specs.declared.store.Mark.{Mark}
 use Rattle.terms.specs.Table.{CHAINS, FLAGS, HEADS, INDEX, BUCKETS, run, start, node_at, tree_at, trees, made, hash, bucket, latest, flag}
 use Rattle.terms.specs.Table.{Shaped, Node, Good, Same, Stored, Refused}
+use borrow.Rule.Slice.PartMut.{put_mid}
+use Rattle.std.proofs.Common.{Bool, Some as some, None as nothing}
 use Rattle.terms.specs.Node.{seek, Linked}
 use Rattle.terms.specs.Laws.Chains.{hash_small, latest_agree, latest_here, latest_other}
 use Rattle.terms.specs.Laws.Tables.{last_or, start_next, length_trees, tree_node, shaped_some, made_words}
-use Rattle.terms.specs.Laws.Terms.{flag_small}
 use Rattle.terms.specs.Laws.Growth.{grown_refl, start_same, node_same, made_same}
 use Rattle.terms.proofs.Finds.{seek_number, seek_nowhere}
 
@@ -48,38 +49,36 @@ module _ (W w : List ℕ) (used : ℕ) (h : used + length w ≤ length W) where
             ∙ get_or-drop (used + length w) W (i - used - length w) 0 ∙ ap (λ (k : ℕ). get_or W k 0) f;
       }
 
-  pub written : (ys : List ℕ) → ys ≡ w ++ drop (length w) (take (length W - used) (drop used W)) → Written W (take used W ++ (ys ++ drop (length W - used) (drop used W))) used w
+  pub written : (ys : List ℕ) → ys ≡ w → Written W (take used W ++ (ys ++ drop (used + length w - used) (drop used W))) used w
   written ys e =
-      let l : length (drop used W) ≤ length W - used = simp length-drop (omega arith) in
-      let a : take (length W - used) (drop used W) ≡ drop used W = take_all (length W - used) (drop used W) l in
-      let b : drop (length W - used) (drop used W) ≡ [] = drop_of_length-le (drop used W) {i = length W - used} l in
-      let d : ys ≡ w ++ drop (used + length w) W = e ∙ ap (λ (r : List ℕ). w ++ drop (length w) r) a ∙ ap (λ (r : List ℕ). w ++ r) (drop-drop (length w) used W) in
-      let f : ys ++ drop (length W - used) (drop used W) ≡ w ++ drop (used + length w) W = ap (λ (r : List ℕ). ys ++ r) b ∙ append-nil ys ∙ d in
-      subst (λ (r : List ℕ). Written W (take used W ++ r) used w) (sym f) laid
+      let z : used + length w - used ≡ length w = omega arith in
+      subst (λ (r : List ℕ). Written W (take used W ++ r) used w)
+      (sym ((λ i. e i ++ drop (z i) (drop used W)) ∙ ap (λ (r : List ℕ). w ++ r) (drop-drop (length w) used W))) laid
 
 -- A term that is there, and no room ---------------------------------------------------------------------------------------------------
 
-module _ (I W : List ℕ) (m : Mark) (w : List ℕ) (g : Good I W m) (c : Node m.terms w) (r : ℕ) (f : r ≡ seek (made I W m) (tree_at (made I W m) w)) where
-  pub keep_there : (r ≡ 0 → ⊥) → Stored I W I W m (tree_at (made I W m) w) (keep (tree_at (made I W m) w) (made I W m)) (r - 1) m
-  keep_there n =
-      let p = seek_number (made I W m) (tree_at (made I W m) w) r f n in
+module _ (I W : List ℕ) (m : Mark) (w : List ℕ) (g : Good I W m) (c : Node m.terms w) where
+  pub keep_there : (i : ℕ) → some i ≡ seek (made I W m) (tree_at (made I W m) w) → Stored I W I W m (tree_at (made I W m) w) (keep (tree_at (made I W m) w) (made I W m)) i m
+  keep_there i f =
+      let p = seek_number (made I W m) (tree_at (made I W m) w) i f in
       let z = length_trees I W m.terms in
       let l = p.1 in
       let e = p.0 in
       record { grown = grown_refl g; makes = keep_old (made I W m) _ l; numbered = sym e; there = omega arith }
 
-  pub keep_row_8 : r ≡ 0 → TERMS ≤ m.terms → Refused Tree I W I W m (keep (tree_at (made I W m) w) (made I W m)) 8 m
-  keep_row_8 n h =
-      let z = length_trees I W m.terms in
-      record { grown = grown_refl g; makes = keep_8 (made I W m) _ (seek_nowhere (made I W m) _ r f n) (omega arith) }
+  module _ (f : nothing ≡ seek (made I W m) (tree_at (made I W m) w)) where
+    pub keep_row_8 : TERMS ≤ m.terms → Refused Tree I W I W m (keep (tree_at (made I W m) w) (made I W m)) 8 m
+    keep_row_8 h =
+        let z = length_trees I W m.terms in
+        record { grown = grown_refl g; makes = keep_8 (made I W m) _ (seek_nowhere (made I W m) _ f) (omega arith) }
 
-  pub keep_row_9 : r ≡ 0 → m.terms < TERMS → length W < m.words + length w → Refused Tree I W I W m (keep (tree_at (made I W m) w) (made I W m)) 9 m
-  keep_row_9 n h l =
-      let z = length_trees I W m.terms in
-      let a = made_words I W m g in
-      let b = tree_node (made I W m) m.terms c.shaped in
-      let d = g.words in
-      record { grown = grown_refl g; makes = keep_9 (made I W m) _ (seek_nowhere (made I W m) _ r f n) (omega arith) (omega arith) }
+    pub keep_row_9 : m.terms < TERMS → length W < m.words + length w → Refused Tree I W I W m (keep (tree_at (made I W m) w) (made I W m)) 9 m
+    keep_row_9 h l =
+        let z = length_trees I W m.terms in
+        let a = made_words I W m g in
+        let b = tree_node (made I W m) m.terms c.shaped in
+        let d = g.words in
+        record { grown = grown_refl g; makes = keep_9 (made I W m) _ (seek_nowhere (made I W m) _ f) (omega arith) (omega arith) }
 
 -- A new term --------------------------------------------------------------------------------------------------------------------------
 
@@ -207,20 +206,19 @@ module _ (I W : List ℕ) (m : Mark) (w : List ℕ) (g : Good I W m) (c : Node m
       }
 
 -- the same, from the calls' answers
-pub keep_made : (I W : List ℕ) (m : Mark) (w : List ℕ) → Good I W m → Node m.terms w → (b : ℕ) → b ≡ hash w → (r : ℕ) → r ≡ seek (made I W m) (tree_at (made I W m) w) → r ≡ 0
-    → m.terms < TERMS → m.words + length w ≤ length W → (o : ℕ) → o ≡ flag (is_open (tree_at (made I W m) w))
-    → (J : List ℕ) → Linked I J m.terms b (m.words + length w) o → (ys : List ℕ) → ys ≡ w ++ drop (length w) (take (length W - m.words) (drop m.words W))
-    → Stored I W J (take m.words W ++ (ys ++ drop (length W - m.words) (drop m.words W))) m (tree_at (made I W m) w) (keep (tree_at (made I W m) w) (made I W m)) m.terms (record { terms = m.terms + 1; words = m.words + length w })
-keep_made I W m w g c b eb r er z h l o eo J k ys ey =
-    keep_fresh I W m w g c (seek_nowhere (made I W m) _ r er z) h l J _
+pub keep_made : (I W : List ℕ) (m : Mark) (w : List ℕ) → Good I W m → Node m.terms w → (b : ℕ) → b ≡ hash w → nothing ≡ seek (made I W m) (tree_at (made I W m) w)
+    → m.terms < TERMS → m.words + length w ≤ length W → (o : Bool) → o ≡ is_open (tree_at (made I W m) w)
+    → (J : List ℕ) → Linked I J m.terms b (m.words + length w) (flag o) → (ys : List ℕ) → ys ≡ w
+    → Stored I W J (put_mid m.words (m.words + length w - m.words) W ys) m (tree_at (made I W m) w) (keep (tree_at (made I W m) w) (made I W m)) m.terms (record { terms = m.terms + 1; words = m.words + length w })
+keep_made I W m w g c b eb f h l o eo J k ys ey =
+    keep_fresh I W m w g c (seek_nowhere (made I W m) _ f) h l J _
     (subst (λ (b : ℕ). Linked I J m.terms b (m.words + length w) (flag (is_open (tree_at (made I W m) w)))) eb
-    (subst (Linked I J m.terms b (m.words + length w)) eo k))
+    (subst (λ (o : Bool). Linked I J m.terms b (m.words + length w) (flag o)) eo k))
     (written W w m.words l ys ey)
 
-pub keep_links : (I W : List ℕ) (m : Mark) (w : List ℕ) → Good I W m → (b : ℕ) → b ≡ hash w → m.terms < TERMS → m.words + length w ≤ length W → (o : ℕ) (t : Tree) → o ≡ flag (is_open t)
-    → (length I ≡ INDEX) × (m.terms < TERMS) × (b < BUCKETS) × (m.words + length w ≤ WORDS) × (o ≤ 1)
-keep_links I W m w g b e h l o t f =
+pub keep_links : (I W : List ℕ) (m : Mark) (w : List ℕ) → Good I W m → (b : ℕ) → b ≡ hash w → m.terms < TERMS → m.words + length w ≤ length W
+    → (length I ≡ INDEX) × (m.terms < TERMS) × (b < BUCKETS) × (m.words + length w ≤ WORDS)
+keep_links I W m w g b e h l =
     let a = hash_small w in
     let d = g.words in
-    let j = flag_small (is_open t) in
-    (g.index, h, omega arith, omega arith, omega arith)
+    (g.index, h, omega arith, omega arith)

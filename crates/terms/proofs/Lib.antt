@@ -1,10 +1,10 @@
 pub mod SetWords
 pub mod SetsOut
-pub mod Words
 pub mod Hash
 pub mod Finds
 pub mod Nodes
 pub mod Keeps
+pub mod Arguments
 pub mod Visits
 pub mod Gathers
 pub mod Substs

@@ -1,12 +1,14 @@
 -- Patterns against a list of terms; and what a match answers once the cells are put back where there was none. Assumes nothing.
 use mathlib.Core.Path.{◌≡◌, refl, sym, ap, ◌∙◌, subst}
 use mathlib.Core.Bool.{Bool, true, false, true≢false}
-use mathlib.Core.List.{List, ◌∷◌, ◌++◌, append-nil}
+use mathlib.Core.List.{List, ◌∷◌}
+use Rattle.std.proofs.Common.{Option, Some as some, None as nothing}
+use Rattle.std.specs.Option.{is_some}
 use Prim.Native.Nat.{ℕ, suc, ◌+◌, ◌≤◌, ◌<◌}
 use native.Mathlib.Omega.{arith}
 use native.Mathlib.Numerals.{add-one}
 use lib.ListN.{length, get_or, drop, drop_of_length-le}
-use lib.Seq.{drop-cons, drop-length}
+use lib.Seq.{drop-cons}
 use Rattle.rules.specs.Tree.{Trees, var, size, sizes, count_trees}
 use Rattle.rules.specs.Store.{Made}
 use Rattle.rules.specs.Match.{matches, match_all}
@@ -15,7 +17,6 @@ use Rattle.terms.specs.Table.{args_of, made}
 use Rattle.terms.specs.Patterns.{Standing, bound_of, Matchable, AllMatchable, Tried, hit, miss, AllTried, hits, misses, Matched, matched, other}
 use Rattle.terms.specs.Patterns.{AllMatched, all, not_all, TriedAt, TriedAll, MatchedAt, MatchedAll}
 use Rattle.terms.specs.Laws.Tables.{length_trees}
-use Rattle.terms.specs.Laws.Patterns.{size_some}
 use Rattle.terms.proofs.Matches.{Matching, matching_reads, matching_on, matching_miss, matching_ends}
 
 -- terms from k on are left
@@ -62,18 +63,18 @@ module _ (S P I W : List ℕ) (m : Mark) (B : List ℕ) (at : ℕ) (xs C : List 
         there = q.asked.there k h;
       }
 
-  pub listing_miss : k < length xs → (D : List ℕ) (r : ℕ) → TriedAt S P I W m C D place (get_or xs k 0) r → r ≡ 0 → TriedAll S P I W m B D at xs false
-  listing_miss h D r c z ps st n = let a = matching_miss S P M _ _ C place _ _ D r (next h ps st n) c z in misses a.0 a.1 refl
+  pub listing_miss : k < length xs → (D : List ℕ) {r : Option ℕ} → TriedAt S P I W m C D place (get_or xs k 0) r → r ≡ nothing → TriedAll S P I W m B D at xs false
+  listing_miss h D c z ps st n = let a = matching_miss S P M _ _ C place _ _ D (next h ps st n) c z in misses a.0 a.1 refl
 
-  pub listing_on : k < length xs → (D : List ℕ) (r : ℕ) → TriedAt S P I W m C D place (get_or xs k 0) r → (r ≡ 0 → ⊥) → length D ≡ length C → Listing S P I W m B at xs D r (k + 1)
-  listing_on h D r c n l =
+  pub listing_on : k < length xs → (D : List ℕ) {r : Option ℕ} → TriedAt S P I W m C D place (get_or xs k 0) r → (next : ℕ) → r ≡ some next → length D ≡ length C → Listing S P I W m B at xs D next (k + 1)
+  listing_on h D c r e l =
       record {
         asked = q.asked;
         upto = omega arith;
         long = l ∙ q.long;
         going = λ ps st d.
             subst (λ (j : ℕ). Matching S P M (match_all ps (args_of M xs) (bound_of M B)) (at + sizes ps) D r (drop j xs)) (sym (add-one k))
-            (matching_on S P M _ _ C place _ _ D r (next h ps st d) c n);
+            (matching_on S P M _ _ C place _ _ D (next h ps st d) c r e);
       }
 
   pub listing_ends : length xs ≤ k → TriedAll S P I W m B C at xs true
@@ -83,30 +84,22 @@ module _ (S P I W : List ℕ) (m : Mark) (B : List ℕ) (at : ℕ) (xs C : List 
 
 -- The cells, and their copy --------------------------------------------------------------------------------------------------------
 
--- a table that another, as long, was written into
-whole : (l w now : List ℕ) → length l ≡ length w → now ≡ w ++ drop (length w) l → now ≡ w
-whole l w now e d = d ∙ ap (λ (k : ℕ). w ++ drop k l) (sym e) ∙ ap (λ (r : List ℕ). w ++ r) (drop-length l) ∙ append-nil w
-
--- the cells B were written to A, over O, and A back over what the cells had become
-pub rewritten : (B O A C D : List ℕ) → length O ≡ length B → length C ≡ length B → A ≡ B ++ drop (length B) O → D ≡ A ++ drop (length A) C → D ≡ B
-rewritten B O A C D o c a d = let e : A ≡ B = whole O B A o a in whole C A D (c ∙ ap length (sym e)) d ∙ e
-
 module _ (S P I W : List ℕ) (m : Mark) (B C : List ℕ) (at : ℕ) where
-  pub match_stays : (id r : ℕ) → TriedAt S P I W m B C at id r → r ≡ 0 → (D : List ℕ) → D ≡ B → MatchedAt S P I W m B D at id 0
-  match_stays id r t z D d p st = go (t p st)
+  pub match_stays : (id : ℕ) {r : Option ℕ} → TriedAt S P I W m B C at id r → is_some r ≡ false → (D : List ℕ) → D ≡ B → MatchedAt S P I W m B D at id r
+  match_stays id {r} t z D d p st = go (t p st)
     where
       go : Tried (made I W m) C (matches p (get_or (made I W m) id (var 0)) (bound_of (made I W m) B)) (at + size p) r
-          → Matched (made I W m) B D (matches p (get_or (made I W m) id (var 0)) (bound_of (made I W m) B)) (at + size p) 0
-      go (hit k c b) = let some = size_some p in absurd (omega arith)
-      go (miss k c b) = other k d refl
+          → Matched (made I W m) B D (matches p (get_or (made I W m) id (var 0)) (bound_of (made I W m) B)) (at + size p) r
+      go (hit k c b) = absurd (true≢false (sym (ap is_some b) ∙ z))
+      go (miss k c b) = other k d b
 
-  pub match_hits : (id r : ℕ) → TriedAt S P I W m B C at id r → (r ≡ 0 → ⊥) → MatchedAt S P I W m B C at id r
-  match_hits id r t n p st = go (t p st)
+  pub match_hits : (id : ℕ) {r : Option ℕ} → TriedAt S P I W m B C at id r → is_some r ≡ true → MatchedAt S P I W m B C at id r
+  match_hits id {r} t n p st = go (t p st)
     where
       go : Tried (made I W m) C (matches p (get_or (made I W m) id (var 0)) (bound_of (made I W m) B)) (at + size p) r
           → Matched (made I W m) B C (matches p (get_or (made I W m) id (var 0)) (bound_of (made I W m) B)) (at + size p) r
       go (hit k c b) = matched k c b
-      go (miss k c b) = absurd (n b)
+      go (miss k c b) = absurd (true≢false (sym n ∙ ap is_some b))
 
   pub all_stays : (xs : List ℕ) (r : Bool) → TriedAll S P I W m B C at xs r → r ≡ false → (D : List ℕ) → D ≡ B → MatchedAll S P I W m B D at xs false
   all_stays xs r t z D d ps st n = go (t ps st n)

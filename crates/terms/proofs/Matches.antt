@@ -18,7 +18,7 @@ use Rattle.rules.specs.Match.{Bound, match_var, and_then, matches, match_all}
 use Rattle.terms.specs.Table.{args_of, tree_at}
 use Rattle.terms.specs.Patterns.{arity, Stands, Standing, PatternAt, tree_in, bound_of, Cells, Tried, hit, miss}
 use Rattle.terms.specs.Laws.Tables.{tree_app, tree_var}
-use Rattle.terms.specs.Laws.Patterns.{stands_in, size_some}
+use Rattle.terms.specs.Laws.Patterns.{stands_in}
 use Rattle.terms.specs.Laws.Bound.{bound_set, cells_set}
 
 -- Patterns in words ------------------------------------------------------------------------------------------------------------
@@ -60,11 +60,11 @@ module _ (M : Made) (B : List ℕ) (v id : ℕ) (c : Cells (length M) B) (l : v 
   meets : ℕ → Option Bound
   meets x = match_var v (get_or M id (var 0)) (bound_of M B) (tree_in M x)
 
-  pub var_new : get_or B v 0 ≡ 0 → (at : ℕ) → Tried M (set B v (id + 1)) (matches (var v) (get_or M id (var 0)) (bound_of M B)) (at + size (var v)) (at + 1)
+  pub var_new : get_or B v 0 ≡ 0 → (at : ℕ) → Tried M (set B v (id + 1)) (matches (var v) (get_or M id (var 0)) (bound_of M B)) (at + size (var v)) (some (at + 1))
   unfolding matches match_var bound_of tree_in size meets
   var_new e at = hit (ap meets e ∙ ap some (sym (bound_set M B v id c l h))) (cells_set M B v id c l h) refl
 
-  pub var_same : get_or B v 0 ≡ id + 1 → (at : ℕ) → Tried M B (matches (var v) (get_or M id (var 0)) (bound_of M B)) (at + size (var v)) (at + 1)
+  pub var_same : get_or B v 0 ≡ id + 1 → (at : ℕ) → Tried M B (matches (var v) (get_or M id (var 0)) (bound_of M B)) (at + size (var v)) (some (at + 1))
   unfolding matches match_var bound_of tree_in size meets
   var_same e at =
       hit (ap meets (e ∙ add-one id) ∙ ap (λ (b : Bool). elim b [ true ↦ some (bound_of M B) | false ↦ nothing ]) (same_self (get_or M id (var 0)))) c refl
@@ -76,7 +76,7 @@ module _ (M : Made) (B : List ℕ) (v id : ℕ) (c : Cells (length M) B) (l : v 
       ap (λ (b : Bool). elim b [ true ↦ some (bound_of M B) | false ↦ nothing ])
       (not_same (get_or M x (var 0)) (get_or M id (var 0)) (λ e. let z = a x id (omega arith) h e in q (omega arith)))
 
-  pub var_other : Apart M → (get_or B v 0 ≡ 0 → ⊥) → (get_or B v 0 ≡ id + 1 → ⊥) → (at : ℕ) → Tried M B (matches (var v) (get_or M id (var 0)) (bound_of M B)) (at + size (var v)) 0
+  pub var_other : Apart M → (get_or B v 0 ≡ 0 → ⊥) → (get_or B v 0 ≡ id + 1 → ⊥) → (at : ℕ) → Tried M B (matches (var v) (get_or M id (var 0)) (bound_of M B)) (at + size (var v)) nothing
   unfolding matches bound_of meets
   var_other a n q at = miss (other_cell a (get_or B v 0) (c.within v) n q) c.long refl
 
@@ -130,30 +130,31 @@ module _ (S P : List ℕ) (M : Made) (K : Option Bound) (behind : ℕ) (C : List
       go none s e = absurd (omega arith)
       go (more p ps) s e = record { tree = p; stands = s.0 }
 
-  module _ (x : ℕ) (xs D : List ℕ) (r : ℕ) (q : Matching S P M K behind C place (x ∷ xs))
+  module _ (x : ℕ) (xs D : List ℕ) {r : Option ℕ} (q : Matching S P M K behind C place (x ∷ xs))
       (called : (p : Tree) → Stands S P place p → Tried M D (matches p (get_or M x (var 0)) (bound_of M C)) (place + size p) r) where
-    pub matching_on : (r ≡ 0 → ⊥) → Matching S P M K behind D r xs
+    pub matching_on : (next : ℕ) → r ≡ some next → Matching S P M K behind D next xs
     unfolding Stands count_trees size matches args_of and_then
-    matching_on n = go q.patterns q.stands q.count q.ends q.left
+    matching_on next n = go q.patterns q.stands q.count q.ends q.left
       where
         go : (ps : Trees) → Standing S P place ps → count_trees ps ≡ suc (length xs) → place + sizes ps ≡ behind → K ≡ match_all ps (args_of M (x ∷ xs)) (bound_of M C)
-            → Matching S P M K behind D r xs
+            → Matching S P M K behind D next xs
         go none s e f k = absurd (omega arith)
         go (more p ps) s e f k = done (called p s.0)
           where
-            done : Tried M D (matches p (get_or M x (var 0)) (bound_of M C)) (place + size p) r → Matching S P M K behind D r xs
+            done : Tried M D (matches p (get_or M x (var 0)) (bound_of M C)) (place + size p) r → Matching S P M K behind D next xs
             done (hit a cs b) =
+                let y : next ≡ place + size p = (cc) in
                 record {
                   patterns = ps;
-                  stands = subst (λ (j : ℕ). Standing S P j ps) (sym b) s.1;
+                  stands = subst (λ (j : ℕ). Standing S P j ps) (sym y) s.1;
                   count = omega arith;
                   ends = omega arith;
                   cells = cs;
                   left = k ∙ ap (λ (o : Option Bound). and_then o (λ c. match_all ps (args_of M xs) c)) a;
                 }
-            done (miss a cs b) = absurd (n b)
+            done (miss a cs b) = absurd (cc)
 
-    pub matching_miss : r ≡ 0 → (K ≡ nothing) × (length D ≡ RULEVARS)
+    pub matching_miss : r ≡ nothing → (K ≡ nothing) × (length D ≡ RULEVARS)
     unfolding Stands count_trees size matches args_of and_then
     matching_miss z = go q.patterns q.stands q.count q.left
       where
@@ -162,7 +163,7 @@ module _ (S P : List ℕ) (M : Made) (K : Option Bound) (behind : ℕ) (C : List
         go (more p ps) s e k = done (called p s.0)
           where
             done : Tried M D (matches p (get_or M x (var 0)) (bound_of M C)) (place + size p) r → (K ≡ nothing) × (length D ≡ RULEVARS)
-            done (hit a cs b) = let some = size_some p in absurd (omega arith)
+            done (hit a cs b) = absurd (cc)
             done (miss a cs b) = (k ∙ ap (λ (o : Option Bound). and_then o (λ c. match_all ps (args_of M xs) c)) a, cs)
 
   pub matching_ends : Matching S P M K behind C place [] → (K ≡ some (bound_of M C)) × Cells (length M) C × (place ≡ behind)

@@ -1,22 +1,23 @@
 -- A new node: its flag, and its place in the index. Assumes nothing.
-use mathlib.Core.Path.{◌≡◌, sym, ap, ◌∙◌}
+use mathlib.Core.Path.{◌≡◌, refl, sym, ap, ◌∙◌}
 use mathlib.Core.Bool.{Bool, true, false, not}
 use mathlib.Core.List.{List, [], ◌∷◌, ◌++◌, append-nil}
 use Prim.Native.Nat.{ℕ, zero, suc, ◌+◌, ◌≤◌, ◌<◌, ◌-◌, ◌*◌}
 use native.Mathlib.Omega.{arith}
 use native.Mathlib.Numerals.{add-one}
-use native.Mathlib.Nat.{not-suc-le-zero}
 use lib.ListN.{length, get_or, set, drop, length-set, drop_of_length-le, take, replicate, length-drop}
-use lib.Seq.{get_or-set_same, get_or-set_other, drop-cons}
+use lib.Seq.{get_or-set_same, get_or-set_other, get_or-drop, drop-cons, take_all}
+use borrow.Rule.Slice.PartMut.{put_mid}
+use Rattle.std.specs.Int.{from_bool}
 use lib.Dec.{eqb}
 use Rattle.rules.specs.Limits.{SYMBOLS, TERMS, WORDS}
-use Rattle.rules.specs.Tree.{Tree, var, is_open, are_open}
+use Rattle.rules.specs.Tree.{var, is_open, are_open}
 use Rattle.rules.specs.Store.{Made}
 use Rattle.terms.specs.declared.store.Mark.{Mark}
-use Rattle.terms.specs.Table.{CHAINS, FLAGS, HEADS, INDEX, BUCKETS, args_of, tree_at, made, flag, Shaped, is_var, is_app, Good, start, run}
+use Rattle.terms.specs.Table.{CHAINS, FLAGS, HEADS, INDEX, BUCKETS, args_of, tree_at, made, flag, Shaped, is_var, is_app, Good, start, run, node_at}
 use Rattle.terms.specs.Table.{settled}
 use Rattle.terms.specs.Node.{Linked, Held, HeldIn, HeadIs, OpenIs}
-use Rattle.terms.specs.Laws.Tables.{tree_app, tree_var, shaped_some}
+use Rattle.terms.specs.Laws.Tables.{tree_app, tree_var, end_within}
 use Rattle.terms.specs.Laws.Terms.{flag_open, flag_closed, flag_in, start_in, head_tree}
 use Rattle.terms.specs.Laws.Runs.{run_length}
 
@@ -26,66 +27,73 @@ open_app : (M : Made) (h : ℕ) (xs : List ℕ) → h < SYMBOLS → is_open (tre
 unfolding is_open
 open_app M h xs p = ap is_open (tree_app M h xs p)
 
-pub flag_var : (M : Made) (n : ℕ) (w : List ℕ) → Shaped n w → SYMBOLS ≤ get_or w 0 0 → 1 ≡ flag (is_open (tree_at M w))
-unfolding flag is_open
-flag_var M n [] s h = absurd (omega arith)
-flag_var M n (x ∷ xs) s h = sym (ap (λ (t : Tree). flag (is_open t)) (tree_var M x xs h))
-
--- what is left of the arguments decides
-pub record Flagging (I W w : List ℕ) (m : Mark) (i : ℕ) : Type 0 where
-  pub good : Good I W m
-  pub shaped : Shaped m.terms w
-  pub from : 1 ≤ i
-  pub inside : i ≤ length w
-  pub small : get_or w 0 0 < SYMBOLS
-  pub left : is_open (tree_at (made I W m) w) ≡ are_open (args_of (made I W m) (drop i w))
-
-pub flagging_begins : (I W w : List ℕ) (m : Mark) → Good I W m → Shaped m.terms w → get_or w 0 0 < SYMBOLS → Flagging I W w m 1
-flagging_begins I W [] m g s h = absurd (not-suc-le-zero (shaped_some m.terms s))
-flagging_begins I W (x ∷ xs) m g s h = record { good = g; shaped = s; from = omega arith; inside = omega arith; small = h; left = open_app (made I W m) x xs h }
+pub open_var : (M : Made) (w : List ℕ) → 0 < length w → SYMBOLS ≤ get_or w 0 0 → true ≡ is_open (tree_at M w)
+unfolding is_open
+open_var M [] s h = absurd (omega arith)
+open_var M (x ∷ xs) s h = sym (ap is_open (tree_var M x xs h))
 
 arg_in : (n : ℕ) {w : List ℕ} (i : ℕ) → Shaped n w → get_or w 0 0 < SYMBOLS → 1 ≤ i → i < length w → get_or w i 0 < n
 arg_in n i (is_var {h = h} p u) l f b = absurd (omega arith)
 arg_in n zero (is_app {xs = xs} p b) l f k = absurd (omega arith)
 arg_in n (suc i) (is_app {xs = xs} p b) l f k = b i (omega arith)
 
-module _ (I W w : List ℕ) (m : Mark) (i : ℕ) (q : Flagging I W w m i) (h : i < length w) where
-  pub flagging_arg : get_or w i 0 < m.terms
-  flagging_arg = arg_in m.terms i q.shaped q.small q.from h
+-- what is left of the arguments decides
+pub record Flagging (M : Made) (w args : List ℕ) (i : ℕ) : Type 0 where
+  pub left : is_open (tree_at M w) ≡ are_open (args_of M (drop i args))
 
-  pub flagging_in : FLAGS + get_or w i 0 < length I
-  flagging_in = let a = flagging_arg in let b = q.good.room in let d = q.good.index in omega arith
+pub behind_head : (w : List ℕ) → take (length w - 1) (drop 1 w) ≡ drop 1 w
+behind_head w = take_all (length w - 1) (drop 1 w) (let l = length-drop 1 w in omega arith)
 
-  step : are_open (args_of (made I W m) (drop i w)) ≡ elim (is_open (get_or (made I W m) (get_or w i 0) (var 0))) [ true ↦ true | false ↦ are_open (args_of (made I W m) (drop (suc i) w)) ]
-  unfolding args_of is_open
-  step = ap (λ (l : List ℕ). are_open (args_of (made I W m) l)) (drop-cons w i 0 h)
+pub flagging_begins : (M : Made) (w : List ℕ) → 0 < length w → get_or w 0 0 < SYMBOLS → Flagging M w (take (length w - 1) (drop 1 w)) 0
+flagging_begins M [] l h = absurd (omega arith)
+flagging_begins M (x ∷ xs) l h = record { left = open_app M x xs h ∙ ap (λ (l : List ℕ). are_open (args_of M l)) (sym (behind_head (x ∷ xs))) }
 
-  pub flagging_hit : (get_or I (FLAGS + get_or w i 0) 0 ≡ 0 → ⊥) → 1 ≡ flag (is_open (tree_at (made I W m) w))
-  unfolding flag
-  flagging_hit n =
-      let e = flag_open (is_open (get_or (made I W m) (get_or w i 0) (var 0))) _ (q.good.flags (get_or w i 0) flagging_arg) n in
-      sym (ap flag (q.left ∙ step ∙ ap (λ (b : Bool). elim b [ true ↦ true | false ↦ are_open (args_of (made I W m) (drop (suc i) w)) ]) e))
+module _ (I W : List ℕ) (m : Mark) (g : Good I W m) (w : List ℕ) (s : Shaped m.terms w) (small : get_or w 0 0 < SYMBOLS) where
+  abbrev args : List ℕ
+  args = take (length w - 1) (drop 1 w)
 
-  pub flagging_on : get_or I (FLAGS + get_or w i 0) 0 ≡ 0 → Flagging I W w m (i + 1)
-  flagging_on z =
-      let e = flag_closed (is_open (get_or (made I W m) (get_or w i 0) (var 0))) _ (q.good.flags (get_or w i 0) flagging_arg) z in
-      let f = q.from in
-      record {
-        good = q.good;
-        shaped = q.shaped;
-        from = omega arith;
-        inside = omega arith;
-        small = q.small;
-        left = q.left ∙ step ∙ ap (λ (b : Bool). elim b [ true ↦ true | false ↦ are_open (args_of (made I W m) (drop (suc i) w)) ]) e ∙ ap (λ (k : ℕ). are_open (args_of (made I W m) (drop k w))) (sym (add-one i));
-      }
+  module _ (i : ℕ) (h : i < length args) where
+    pub arg_below : get_or args i 0 < m.terms
+    arg_below =
+        let l : length args ≡ length w - 1 = ap length (behind_head w) ∙ length-drop 1 w in
+        let e : get_or args i 0 ≡ get_or w (1 + i) 0 = ap (λ (l : List ℕ). get_or l i 0) (behind_head w) ∙ get_or-drop 1 w i 0 in
+        let a = arg_in m.terms (1 + i) s small (omega arith) (omega arith) in
+        omega arith
 
-pub flagging_ends : (I W w : List ℕ) (m : Mark) (i : ℕ) → Flagging I W w m i → length w ≤ i → 0 ≡ flag (is_open (tree_at (made I W m) w))
-unfolding flag args_of is_open
-flagging_ends I W w m i q h = sym (ap flag (q.left ∙ ap (λ (l : List ℕ). are_open (args_of (made I W m) l)) (drop_of_length-le w {i = i} h)))
+    pub flagging_in : FLAGS + get_or args i 0 < length I
+    flagging_in = let a = arg_below in let b = g.room in let d = g.index in omega arith
+
+    module _ (q : Flagging (made I W m) w args i) where
+      step : are_open (args_of (made I W m) (drop i args))
+          ≡ elim (is_open (get_or (made I W m) (get_or args i 0) (var 0))) [ true ↦ true | false ↦ are_open (args_of (made I W m) (drop (suc i) args)) ]
+      unfolding args_of is_open
+      step = ap (λ (l : List ℕ). are_open (args_of (made I W m) l)) (drop-cons args i 0 h)
+
+      pub flagging_hit : (get_or I (FLAGS + get_or args i 0) 0 ≡ 0 → ⊥) → true ≡ is_open (tree_at (made I W m) w)
+      flagging_hit n =
+          let e = flag_open (is_open (get_or (made I W m) (get_or args i 0) (var 0))) _ (g.flags (get_or args i 0) arg_below) n in
+          sym (q.left ∙ step ∙ ap (λ (b : Bool). elim b [ true ↦ true | false ↦ are_open (args_of (made I W m) (drop (suc i) args)) ]) e)
+
+      pub flagging_on : get_or I (FLAGS + get_or args i 0) 0 ≡ 0 → Flagging (made I W m) w args (i + 1)
+      flagging_on z =
+          let e = flag_closed (is_open (get_or (made I W m) (get_or args i 0) (var 0))) _ (g.flags (get_or args i 0) arg_below) z in
+          record {
+            left = q.left ∙ step ∙ ap (λ (b : Bool). elim b [ true ↦ true | false ↦ are_open (args_of (made I W m) (drop (suc i) args)) ]) e
+                ∙ ap (λ (k : ℕ). are_open (args_of (made I W m) (drop k args))) (sym (add-one i));
+          }
+
+pub flagging_ends : (M : Made) (w args : List ℕ) (i : ℕ) → Flagging M w args i → length args ≤ i → false ≡ is_open (tree_at M w)
+unfolding args_of is_open
+flagging_ends M w args i q h = sym (q.left ∙ ap (λ (l : List ℕ). are_open (args_of M l)) (drop_of_length-le args {i = i} h))
+
+pub flag_byte : (b : Bool) → from_bool b ≡ flag b
+unfolding flag
+flag_byte true = refl
+flag_byte false = refl
 
 -- The index ------------------------------------------------------------------------------------------------------------------------
 
-module _ (I : List ℕ) (n b e o : ℕ) (h : (length I ≡ INDEX) × (n < TERMS) × (b < BUCKETS) × (e ≤ WORDS) × (o ≤ 1)) where
+module _ (I : List ℕ) (n b e o : ℕ) (h : (length I ≡ INDEX) × (n < TERMS) × (b < BUCKETS) × (e ≤ WORDS)) where
   abbrev one : List ℕ
   one = set I (CHAINS + n) (get_or I (HEADS + b) 0)
 
@@ -142,8 +150,20 @@ module _ (I W : List ℕ) (id : ℕ) (h : Held I W id) (s : ℕ) (b : s ≡ star
   pub head_is_lem : HeadIs I W id (get_or W s 0)
   head_is_lem m g l = head_tree I W m g id l s b
 
+  pub node_fits : (s ≤ get_or I id 0) × (get_or I id 0 ≤ length W)
+  node_fits =
+      let r = h.good.rise id h.there in
+      let e = end_within I W h.mark h.good id h.there in
+      let w = h.good.within in
+      let l = h.good.words in
+      (omega arith, omega arith)
+
+pub node_is : (I W : List ℕ) (id s : ℕ) → s ≡ start I id → run W s (get_or I id 0 - s) ≡ node_at I W id
+unfolding node_at
+node_is I W id s e = λ i. run W (e i) (get_or I id 0 - e i)
+
 -- the look-up part is cleared
-pub settling : (I ys : List ℕ) → length I ≡ INDEX → ys ≡ replicate (length (run I CHAINS (length I - CHAINS))) 0 → take CHAINS I ++ (ys ++ drop (length I - CHAINS) (drop CHAINS I)) ≡ settled I
+pub settling : (I ys : List ℕ) → length I ≡ INDEX → ys ≡ replicate (length (run I CHAINS (length I - CHAINS))) 0 → put_mid CHAINS (length I - CHAINS) I ys ≡ settled I
 settling I ys l e =
     let a = run_length I CHAINS (length I - CHAINS) (omega arith) in
     let b : length (run I CHAINS (length I - CHAINS)) ≡ 3 * TERMS = omega arith in

@@ -10,8 +10,10 @@ use native.Mathlib.Numerals.{add-one}
 use lib.Dec.{eqb, lit<}
 use lib.Pow.{shl_exact}
 use lib.Arith.{lt-one}
-use lib.ListN.{length, get_or, set, length-set, length-append, get_or-eq_default}
-use lib.Seq.{get_or-set_same, get_or-set_other}
+use lib.ListN.{length, get_or, set, take, length-set, length-append, get_or-eq_default}
+use Rattle.std.specs.List.{sum_by}
+use Rattle.std.proofs.lemmas.List.Sums.{sum_by_more}
+use lib.Seq.{get_or-set_same, get_or-set_other, take-length}
 use lib.Bits.{bit_and, bit_or, and_le_l, and_mask}
 use lib.Count.{count_trailing_zeros, ones, ones_step}
 use borrow.Author.Count.{below_more}
@@ -154,12 +156,11 @@ module _ (a b : List ℕ) (i : ℕ) (ha : get_or a i 0 < 2 ^ 64) (hb : get_or b 
       let q : w % 64 ≡ t = omega arith in
       ap (digit (outside a b i hb)) (sym q) ∙ outside_digit a b i hb w p
 
-  pub lowest_at : i * 64 + count_trailing_zeros 64 (outside a b i hb) + 1 ≡ least (64 * length a) (minus (holds a) (holds b))
+  pub lowest_at : suc (i * 64 + count_trailing_zeros 64 (outside a b i hb)) ≡ least (64 * length a) (minus (holds a) (holds b))
   lowest_at =
       let f = found in
       let l = f.low in
-      add-one (i * 64 + count_trailing_zeros 64 (outside a b i hb))
-      ∙ sym (least_here (64 * length a) (minus (holds a) (holds b)) (i * 64 + count_trailing_zeros 64 (outside a b i hb)) (omega arith) (sym (at _ _ (omega arith) l) ∙ f.here) below)
+      sym (least_here (64 * length a) (minus (holds a) (holds b)) (i * 64 + count_trailing_zeros 64 (outside a b i hb)) (omega arith) (sym (at _ _ (omega arith) l) ∙ f.here) below)
     where
       below : (w : ℕ) → w < i * 64 + count_trailing_zeros 64 (outside a b i hb) → minus (holds a) (holds b) w ≡ false
       below w k = elim (dec_lt w (64 * i)) [
@@ -188,17 +189,17 @@ low_first k n = go (digit n 0) refl
     go true e = let x = bit true e in omega (arith, rest)
     go false e = let x = bit false e in omega (arith, rest)
 
-pub ones_rising : (k n : ℕ) → n < 2 ^ k → ones n ≡ length (rising k (digit n))
+ones_rising : (k n : ℕ) → n < 2 ^ k → ones n ≡ length (rising k (digit n))
 unfolding ones
 ones_rising zero n h = ap ones (lt-one h) ∙ sym (ap length (rising_none (digit n)))
 ones_rising (suc k) n h =
     let p = pow-suc 2 k in
     ones_step n ∙ ap (λ (m : ℕ). n % 2 + m) (ones_rising k (n / 2) (omega arith)) ∙ sym (low_first k n)
 
-pub count_none : (s : List ℕ) → 0 ≡ length (rising (64 * 0) (holds s))
+count_none : (s : List ℕ) → 0 ≡ length (rising (64 * 0) (holds s))
 count_none s = sym (ap length (rising_none (holds s)))
 
-pub count_more : (s : List ℕ) (i n o : ℕ) → n ≡ length (rising (64 * i) (holds s)) → o ≡ length (rising 64 (digit (get_or s i 0))) → n + o ≡ length (rising (64 * (i + 1)) (holds s))
+count_more : (s : List ℕ) (i n o : ℕ) → n ≡ length (rising (64 * i) (holds s)) → o ≡ length (rising 64 (digit (get_or s i 0))) → n + o ≡ length (rising (64 * (i + 1)) (holds s))
 count_more s i n o e f =
     let z : 64 * (i + 1) ≡ 64 * i + 64 = omega arith in
     let y : length (rising_from (64 * i) 64 (holds s)) ≡ length (rising 64 (digit (get_or s i 0))) =
@@ -208,5 +209,14 @@ count_more s i n o e f =
     ap (λ (j : ℕ). length (rising j (holds s))) z ∙ ap length (rising_split (64 * i) 64 (holds s)) in
     omega arith
 
-pub count_all : (s : List ℕ) (i n : ℕ) → i ≤ length s → length s ≤ i → n ≡ length (rising (64 * i) (holds s)) → n ≡ length (rising (64 * length s) (holds s))
-count_all s i n h k e = let z : i ≡ length s = omega arith in e ∙ ap (λ (j : ℕ). length (rising (64 * j) (holds s))) z
+count_up : (s : List ℕ) → ((i : ℕ) → get_or s i 0 < 2 ^ 64) → (k : ℕ) → k ≤ length s → sum_by ones (take k s) ≡ length (rising (64 * k) (holds s))
+count_up s fits zero h = count_none s
+count_up s fits (suc k) h =
+    let e : k + 1 ≡ suc k = add-one k in
+    ap (λ (j : ℕ). sum_by ones (take j s)) (sym e)
+    ∙ sum_by_more ones s k 0 (omega arith)
+    ∙ count_more s k _ _ (count_up s fits k (omega arith)) (ones_rising 64 (get_or s k 0) (fits k))
+    ∙ ap (λ (j : ℕ). length (rising (64 * j) (holds s))) e
+
+pub count_law : (s : List ℕ) → ((i : ℕ) → get_or s i 0 < 2 ^ 64) → sum_by ones s ≡ length (rising (64 * length s) (holds s))
+count_law s fits = ap (sum_by ones) (sym (take-length s)) ∙ count_up s fits (length s) (omega arith)

@@ -1,6 +1,7 @@
 -- Substitution: the loop over a term's arguments, and the node made of their results. Assumes nothing.
 use mathlib.Core.Path.{◌≡◌, refl, sym, ap, ◌∙◌, subst}
 use mathlib.Core.List.{List, ◌∷◌}
+use Rattle.std.specs.Prelude.{Result, Ok, Err}
 use mathlib.Core.Logic.{⊎_elim}
 use Prim.Native.Nat.{ℕ, ◌+◌, ◌-◌, ◌≤◌, ◌<◌}
 use native.Mathlib.Omega.{arith}
@@ -11,8 +12,8 @@ use Rattle.rules.specs.Tree.{Tree, Trees, var, app, more, sub, subs}
 use Rattle.rules.specs.Store.{number, keep, make, makes}
 use Rattle.rules.specs.Laws.Store.{number_is, make_app, makes_none, makes_more, makes_stop}
 use Rattle.terms.specs.declared.store.Mark.{Mark}
-use Rattle.terms.specs.declared.store.Kept.{Kept}
-use Rattle.terms.specs.declared.store.Kept.TheVariants.{Term, Full}
+use Rattle.questions.specs.declared.Row.{Row}
+use Rattle.questions.specs.Numbers.{row_number}
 use Rattle.terms.specs.Table.{run, start, args_of, tree_at, made, Shaped, is_app, Grown, Stored, Refused, After}
 use Rattle.terms.specs.Subst.{replacement, Known, renumbered, rebuilt, Rebuildable, Knows, substituted, asked, Replacing, Done, Substituted}
 use Rattle.terms.specs.Laws.Runs.{run_length, run_at, run_same}
@@ -151,13 +152,12 @@ module _ (I W : List ℕ) (old : Mark) (map memo : List ℕ) (id s e : ℕ) (J X
         }
 
     -- from the call's answer and the arm that took it apart
-    pub arm_term : (K Y memo'' : List ℕ) (r : Kept) → Substituted J X K Y m map memo' memo'' (get_or X at 0) r → length memo'' ≡ length memo' → (n : ℕ) (new : Mark) → r ≡ Term n new
-        → Looping I W old map memo id s e K Y memo'' new (at + 1)
-    arm_term K Y memo'' r d q n new p = looping_on K Y memo'' n new q (subst (Substituted J X K Y m map memo' memo'' (get_or X at 0)) p d)
+    module _ (K Y memo'' : List ℕ) (new : Mark) (r : Result ℕ Row) (d : Substituted J X K Y m new map memo' memo'' (get_or X at 0) r) where
+      pub arm_ok : length memo'' ≡ length memo' → (n : ℕ) → r ≡ Ok n → Looping I W old map memo id s e K Y memo'' new (at + 1)
+      arm_ok q n p = looping_on K Y memo'' n new q (subst (Substituted J X K Y m new map memo' memo'' (get_or X at 0)) p d)
 
-    pub arm_full : (K Y memo'' : List ℕ) (r : Kept) → Substituted J X K Y m map memo' memo'' (get_or X at 0) r → (row : ℕ) (new : Mark) → r ≡ Full row new
-        → Refused Tree I W K Y old (asked I W old map id) row new
-    arm_full K Y memo'' r d row new p = looping_full K Y row new (subst (Substituted J X K Y m map memo' memo'' (get_or X at 0)) p d)
+      pub arm_err : (row : Row) → r ≡ Err row → Refused Tree I W K Y old (asked I W old map id) (row_number row) new
+      arm_err row p = looping_full K Y (row_number row) new (subst (Substituted J X K Y m new map memo' memo'' (get_or X at 0)) p d)
 
   -- after the loop
   module _ (over : e ≤ at) where
@@ -227,14 +227,14 @@ module _ (I W : List ℕ) (old : Mark) (map memo : List ℕ) (id s e : ℕ) (J X
         ∙ makes_none (made J X m) (λ n. keep (substituted I W old map id) n)
         ∙ ap (λ (u : Tree). keep u (made J X m)) (sym tree_rebuilt)
 
-    module _ (K Y : List ℕ) (r : Kept) (d : After J X K Y m (tree_at (made J X m) (rebuilt X memo' s e)) (keep (tree_at (made J X m) (rebuilt X memo' s e)) (made J X m)) r) where
-      pub end_full : (row : ℕ) (new : Mark) → r ≡ Full row new → Refused Tree I W K Y old (asked I W old map id) row new
-      end_full row new p =
-          let f : Refused Tree J X K Y m (keep (tree_at (made J X m) (rebuilt X memo' s e)) (made J X m)) row new = after_full d p in
+    module _ (K Y : List ℕ) (new : Mark) (r : Result ℕ Row) (d : After J X K Y m new (tree_at (made J X m) (rebuilt X memo' s e)) (keep (tree_at (made J X m) (rebuilt X memo' s e)) (made J X m)) r) where
+      pub end_err : (row : Row) → r ≡ Err row → Refused Tree I W K Y old (asked I W old map id) (row_number row) new
+      end_err row p =
+          let f : Refused Tree J X K Y m (keep (tree_at (made J X m) (rebuilt X memo' s e)) (made J X m)) (row_number row) new = after_full d p in
           record { grown = grown_trans l.grown f.grown; makes = asked_keeps ∙ f.makes }
 
-      pub end_term : (n : ℕ) (new : Mark) → r ≡ Term n new → Done I W K Y old map memo (set memo' id (n + 1)) id n new
-      end_term n new p =
+      pub end_ok : (n : ℕ) → r ≡ Ok n → Done I W K Y old map memo (set memo' id (n + 1)) id n new
+      end_ok n p =
           let f : Stored J X K Y m (tree_at (made J X m) (rebuilt X memo' s e)) (keep (tree_at (made J X m) (rebuilt X memo' s e)) (made J X m)) n new = after_term d p in
           let z = length_trees K Y new.terms in
           let there = f.there in

@@ -10,15 +10,15 @@ use lib.Seq.{get_or-set_same, get_or-set_other}
 use lib.Dec.{eqb}
 use borrow.Author.Tests.{eqb-false}
 use Rattle.rules.specs.Limits.{SYMBOLS}
-use Rattle.rules.specs.Tree.{Tree, var, sub}
+use Rattle.rules.specs.Tree.{Tree, var, sub, is_open}
 use Rattle.rules.specs.Laws.Tree.{sub_closed}
 use Rattle.rules.specs.Store.{Made}
 use Rattle.terms.specs.declared.store.Mark.{Mark}
-use Rattle.terms.specs.Table.{FLAGS, start, made, Grown}
+use Rattle.terms.specs.Table.{start, made, Grown, tree}
 use Rattle.terms.specs.Subst.{replacement, image, Knows, substituted, Replacing, Done}
 use Rattle.terms.specs.Laws.Tables.{length_trees}
 use Rattle.terms.specs.Laws.Growth.{grown_tree}
-use Rattle.terms.specs.Laws.Terms.{no_variable, term_var}
+use Rattle.terms.specs.Laws.Terms.{term_var}
 use Rattle.terms.specs.Laws.Numbers.{there_stored}
 
 -- The memo -------------------------------------------------------------------------------------------------------------------------------
@@ -82,8 +82,8 @@ module _ (I W : List ℕ) (m : Mark) (map memo : List ℕ) (id : ℕ) (r : Repla
         keeps = keeps_set memo id v r.inside;
       }
 
-  pub sub_none : get_or I (FLAGS + id) 0 ≡ 0 → Done I W I W m map memo (set memo id (id + 1)) id id m
-  sub_none e = sub_at id r.there (sym (sub_closed (replacement (made I W m) map) _ (no_variable I W m r.good id r.there e)))
+  pub sub_none : is_open (tree I W m id) ≡ false → Done I W I W m map memo (set memo id (id + 1)) id id m
+  sub_none e = sub_at id r.there (sym (sub_closed (replacement (made I W m) map) _ e))
 
   image_is : (v : ℕ) → get_or (made I W m) id (var 0) ≡ var v → (image map v id < m.terms) × (get_or (made I W m) (image map v id) (var 0) ≡ replacement (made I W m) map v)
   unfolding replacement image

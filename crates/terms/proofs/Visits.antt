@@ -16,11 +16,10 @@ use Rattle.rules.specs.Laws.Tree.{closed_empty, variables_var, variables_app, va
 use Rattle.rules.specs.Store.{Made, number}
 use Rattle.terms.specs.declared.store.Mark.{Mark}
 use Rattle.terms.specs.Sets.{holds, plus}
-use Rattle.terms.specs.Table.{FLAGS, run, start, args_of, made, Good, tree}
+use Rattle.terms.specs.Table.{run, start, args_of, made, Good, tree}
 use Rattle.terms.specs.Collect.{Seen, Readable, open_nodes, open_nodes_of, Visited}
 use Rattle.terms.specs.Laws.Sets.{holds_zero}
-use Rattle.terms.specs.Laws.Terms.{args_more, args_none, no_variable, node_rise, node_inside, term_app, term_var, variable_small, args_below}
-use Rattle.terms.specs.Laws.Terms.{flag_open}
+use Rattle.terms.specs.Laws.Terms.{args_more, args_none, node_rise, node_inside, term_app, term_var, variable_small, args_below}
 use Rattle.terms.specs.Laws.Seen.{closed_nodes, var_nodes, open_nodes_lem, nodes_none, nodes_more, seen_wider}
 use Rattle.terms.specs.Laws.Numbers.{tree_number}
 
@@ -41,9 +40,8 @@ module _ (I W : List ℕ) (m : Mark) (id : ℕ) where
   nodes = open_nodes (made I W m) (tree I W m id)
 
   -- a term without variables adds none
-  pub closed_done : (seen a : Set) → Good I W m → id < m.terms → Seen I W m seen a → get_or I (FLAGS + id) 0 ≡ 0 → Visited I W m id seen a seen a
-  closed_done seen a g h s e =
-      let o = no_variable I W m g id h e in
+  pub closed_done : (seen a : Set) → Seen I W m seen a → is_open (tree I W m id) ≡ false → Visited I W m id seen a seen a
+  closed_done seen a s o =
       record {
         set = union_inside a (variables (tree I W m id)) (λ v t. absurd (true≢false (sym t ∙ closed_empty (tree I W m id) o v)));
         nodes = sym (union_empty seen) ∙ ap (union seen) (sym (closed_nodes (made I W m) (tree I W m id) o));
@@ -114,7 +112,7 @@ pub record Looping (I W : List ℕ) (m : Mark) (id s e : ℕ) (set₀ seen₀ se
   pub long_set : length set ≡ length set₀
   pub long_seen : length seen ≡ length seen₀
 
-pub looping_begins : (I W : List ℕ) (m : Mark) (id s : ℕ) (set seen : List ℕ) → Readable I W m id seen set → Seen I W m (holds seen) (holds set) → (get_or I (FLAGS + id) 0 ≡ 0 → ⊥)
+pub looping_begins : (I W : List ℕ) (m : Mark) (id s : ℕ) (set seen : List ℕ) → Readable I W m id seen set → Seen I W m (holds seen) (holds set) → is_open (tree I W m id) ≡ true
     → s ≡ start I id → get_or W s 0 < SYMBOLS → Looping I W m id s (get_or I id 0) set seen set seen (s + 1)
 looping_begins I W m id s set seen r k o b q =
     let t : variables (tree I W m id) ≡ variables_of (args_of (made I W m) (run W (s + 1) (get_or I id 0 - (s + 1)))) =
@@ -125,7 +123,7 @@ looping_begins I W m id s set seen r k o b q =
       begins = b;
       ends = refl;
       small = q;
-      has_variable = flag_open _ _ (r.good.flags id r.there) o;
+      has_variable = o;
       from = omega arith;
       upto = omega arith;
       left = ap (union (holds set)) (sym t);

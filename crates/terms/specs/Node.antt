@@ -1,5 +1,5 @@
 -- What the functions of the store that look at one node answer. Assumes nothing.
-use Rattle.std.specs.Prelude.{◌≡◌, ℕ, suc, ◌+◌, ◌<◌, Bool, true, false, List, [], ◌∷◌, length, get_or, eqb}
+use Rattle.std.specs.Prelude.{◌≡◌, ℕ, suc, ◌+◌, ◌<◌, Bool, true, false, List, [], ◌∷◌, length, get_or, eqb, Option, Some as some, None as nothing}
 use Rattle.rules.specs.Limits.{SYMBOLS}
 use Rattle.rules.specs.Tree.{Tree, var, app, is_open}
 use Rattle.rules.specs.Store.{Made, stored, number}
@@ -12,9 +12,9 @@ same_words [] (y ∷ ys) = false
 same_words (x ∷ xs) [] = false
 same_words (x ∷ xs) (y ∷ ys) = elim (eqb x y) [ true ↦ same_words xs ys | false ↦ false ]
 
--- a tree's number with 1 added; 0 where it is not there
-unfoldable pub seek : Made → Tree → ℕ
-seek M t = elim (stored M t) [ true ↦ suc (number M t) | false ↦ 0 ]
+-- a tree's number, if it is there
+unfoldable pub seek : Made → Tree → Option ℕ
+seek M t = elim (stored M t) [ true ↦ some (number M t) | false ↦ nothing ]
 
 -- term n came into the index: its end e, its flag o, at the head of bucket b
 pub record Linked (I J : List ℕ) (n b e o : ℕ) : Type 0 where

@@ -1,6 +1,6 @@
 -- Rules' patterns over the store: how pattern words stand for a pattern, how cells stand for what a rule's variables are bound to, and
 -- what matching and building answer. Assumes nothing.
-use Rattle.std.specs.Prelude.{◌≡◌, ℕ, zero, suc, ◌+◌, ◌*◌, ◌≤◌, ◌<◌, Bool, true, false, List, length, get_or, ltb, Option, Some as some, None as nothing}
+use Rattle.std.specs.Prelude.{◌≡◌, ℕ, zero, suc, ◌+◌, ◌*◌, ◌≤◌, ◌<◌, Bool, true, false, List, length, get_or, ltb, Option, Some as some, None as nothing, Result, Ok, Err}
 use Rattle.rules.specs.Limits.{SYMBOLS, ARGUMENTS, RULEVARS}
 use Rattle.rules.specs.Out.{Out, ok, refuse}
 use Rattle.rules.specs.Tree.{Tree, Trees, var, app, none, more, size, sizes, count_trees}
@@ -8,7 +8,8 @@ use Rattle.rules.specs.Store.{Made}
 use Rattle.rules.specs.Match.{Bound, matches, match_all, build}
 use Rattle.terms.specs.declared.store.Mark.{Mark}
 use Rattle.terms.specs.declared.patterns.Built.{Built}
-use Rattle.terms.specs.declared.patterns.Built.TheVariants.{Term, No}
+use Rattle.questions.specs.Numbers.{number_of, detail_of}
+use Rattle.questions.specs.declared.Question.{Question}
 use Rattle.terms.specs.Table.{made, args_of, Good, Grown}
 
 -- Patterns in words ------------------------------------------------------------------------------------------------------------
@@ -97,10 +98,10 @@ pub record AllMatchable (S P I W : List ℕ) (m : Mark) (B : List ℕ) (at : ℕ
   pub cells : Cells m.terms B
   pub there : (k : ℕ) → k < length xs → get_or xs k 0 < m.terms
 
--- K is the definition's answer, r the place behind the words and C the cells; without a match r is 0, and of the cells nothing is said
-pub data Tried (M : Made) (C : List ℕ) (K : Option Bound) (behind r : ℕ) : Type 0 where
-  hit : K ≡ some (bound_of M C) → Cells (length M) C → r ≡ behind → Tried M C K behind r
-  miss : K ≡ nothing → length C ≡ RULEVARS → r ≡ 0 → Tried M C K behind r
+-- K is the definition's answer, r the place behind the words and C the cells; without a match nothing is said of the cells
+pub data Tried (M : Made) (C : List ℕ) (K : Option Bound) (behind : ℕ) (r : Option ℕ) : Type 0 where
+  hit : K ≡ some (bound_of M C) → Cells (length M) C → r ≡ some behind → Tried M C K behind r
+  miss : K ≡ nothing → length C ≡ RULEVARS → r ≡ nothing → Tried M C K behind r
 
 -- the same for many patterns, with a yes or no
 pub data AllTried (M : Made) (C : List ℕ) (K : Option Bound) (r : Bool) : Type 0 where
@@ -108,20 +109,20 @@ pub data AllTried (M : Made) (C : List ℕ) (K : Option Bound) (r : Bool) : Type
   misses : K ≡ nothing → length C ≡ RULEVARS → r ≡ false → AllTried M C K r
 
 -- what is answered: without a match the cells are as they were, B
-pub data Matched (M : Made) (B C : List ℕ) (K : Option Bound) (behind r : ℕ) : Type 0 where
-  matched : K ≡ some (bound_of M C) → Cells (length M) C → r ≡ behind → Matched M B C K behind r
-  other : K ≡ nothing → C ≡ B → r ≡ 0 → Matched M B C K behind r
+pub data Matched (M : Made) (B C : List ℕ) (K : Option Bound) (behind : ℕ) (r : Option ℕ) : Type 0 where
+  matched : K ≡ some (bound_of M C) → Cells (length M) C → r ≡ some behind → Matched M B C K behind r
+  other : K ≡ nothing → C ≡ B → r ≡ nothing → Matched M B C K behind r
 
 pub data AllMatched (M : Made) (B C : List ℕ) (K : Option Bound) (r : Bool) : Type 0 where
   all : K ≡ some (bound_of M C) → Cells (length M) C → r ≡ true → AllMatched M B C K r
   not_all : K ≡ nothing → C ≡ B → r ≡ false → AllMatched M B C K r
 
 -- whatever pattern stands there
-abbrev pub TriedAt : List ℕ → List ℕ → List ℕ → List ℕ → Mark → List ℕ → List ℕ → ℕ → ℕ → ℕ → Type 0
+abbrev pub TriedAt : List ℕ → List ℕ → List ℕ → List ℕ → Mark → List ℕ → List ℕ → ℕ → ℕ → Option ℕ → Type 0
 TriedAt S P I W m B C at id r =
     (p : Tree) → Stands S P at p → Tried (made I W m) C (matches p (get_or (made I W m) id (var 0)) (bound_of (made I W m) B)) (at + size p) r
 
-abbrev pub MatchedAt : List ℕ → List ℕ → List ℕ → List ℕ → Mark → List ℕ → List ℕ → ℕ → ℕ → ℕ → Type 0
+abbrev pub MatchedAt : List ℕ → List ℕ → List ℕ → List ℕ → Mark → List ℕ → List ℕ → ℕ → ℕ → Option ℕ → Type 0
 MatchedAt S P I W m B C at id r =
     (p : Tree) → Stands S P at p → Matched (made I W m) B C (matches p (get_or (made I W m) id (var 0)) (bound_of (made I W m) B)) (at + size p) r
 
@@ -155,14 +156,14 @@ pub record Stops (I W J X : List ℕ) (old : Mark) (K : Out Made Tree) (q d : �
   pub grown : Grown I W J X old new
   pub makes : K ≡ refuse q d (made J X new)
 
-abbrev pub BuiltAs : List ℕ → List ℕ → List ℕ → List ℕ → Mark → Out Made Tree → ℕ → Built → Type 0
-BuiltAs I W J X old K behind (Term n place new) = Builds I W J X old K behind n place new
-BuiltAs I W J X old K behind (No q d new) = Stops I W J X old K q d new
+abbrev pub BuiltAs : List ℕ → List ℕ → List ℕ → List ℕ → Mark → Mark → Out Made Tree → ℕ → Result Built Question → Type 0
+BuiltAs I W J X old new K behind (Ok b) = Builds I W J X old K behind b.term b.end new
+BuiltAs I W J X old new K behind (Err e) = Stops I W J X old K (number_of e) (detail_of e) new
 
-pub record BuiltBy (I W J X : List ℕ) (old : Mark) (K : Out Made Tree) (behind : ℕ) (r : Built) : Type 0 where
-  pub says : BuiltAs I W J X old K behind r
+pub record BuiltBy (I W J X : List ℕ) (old new : Mark) (K : Out Made Tree) (behind : ℕ) (r : Result Built Question) : Type 0 where
+  pub says : BuiltAs I W J X old new K behind r
 
 -- whatever pattern stands there
-abbrev pub BuiltAt : List ℕ → List ℕ → List ℕ → List ℕ → List ℕ → List ℕ → Mark → List ℕ → ℕ → Built → Type 0
-BuiltAt S P I W J X m B at r =
-    (p : Tree) → Stands S P at p → BuiltBy I W J X m (build p (bound_of (made I W m) B) (made I W m)) (at + size p) r
+abbrev pub BuiltAt : List ℕ → List ℕ → List ℕ → List ℕ → List ℕ → List ℕ → Mark → Mark → List ℕ → ℕ → Result Built Question → Type 0
+BuiltAt S P I W J X old new B at r =
+    (p : Tree) → Stands S P at p → BuiltBy I W J X old new (build p (bound_of (made I W old) B) (made I W old)) (at + size p) r

@@ -1,13 +1,13 @@
 -- Substitution in the tables: the replacement that a map stands for, and a memo of results. In both a cell has a term's number with 1
 -- added; 0 leaves the variable, or is not known. Assumes nothing.
-use Rattle.std.specs.Prelude.{◌≡◌, ℕ, ◌+◌, ◌-◌, ◌≤◌, ◌<◌, true, false, List, [], ◌∷◌, length, get_or, eqb}
+use Rattle.std.specs.Prelude.{◌≡◌, ℕ, ◌+◌, ◌-◌, ◌≤◌, ◌<◌, true, false, List, [], ◌∷◌, length, get_or, eqb, Result, Ok, Err}
 use Rattle.rules.specs.Limits.{NODE}
 use Rattle.rules.specs.Out.{Out}
 use Rattle.rules.specs.Tree.{Tree, var, sub}
 use Rattle.rules.specs.Store.{Made, make}
 use Rattle.terms.specs.declared.store.Mark.{Mark}
-use Rattle.terms.specs.declared.store.Kept.{Kept}
-use Rattle.terms.specs.declared.store.Kept.TheVariants.{Term, Full}
+use Rattle.questions.specs.Numbers.{row_number}
+use Rattle.questions.specs.declared.Row.{Row}
 use Rattle.terms.specs.Table.{run, made, Good, Stored, Refused}
 
 -- the replacement that a map stands for, over the trees made
@@ -69,6 +69,6 @@ pub record Done (I W J X : List ℕ) (old : Mark) (map memo memo' : List ℕ) (i
   pub known : 0 < get_or memo' id 0
   pub keeps : (i : ℕ) → 0 < get_or memo i 0 → 0 < get_or memo' i 0
 
-abbrev pub Substituted : List ℕ → List ℕ → List ℕ → List ℕ → Mark → List ℕ → List ℕ → List ℕ → ℕ → Kept → Type 0
-Substituted I W J X old map memo memo' id (Term n new) = Done I W J X old map memo memo' id n new
-Substituted I W J X old map memo memo' id (Full r new) = Refused Tree I W J X old (asked I W old map id) r new
+abbrev pub Substituted : List ℕ → List ℕ → List ℕ → List ℕ → Mark → Mark → List ℕ → List ℕ → List ℕ → ℕ → Result ℕ Row → Type 0
+Substituted I W J X old new map memo memo' id (Ok n) = Done I W J X old map memo memo' id n new
+Substituted I W J X old new map memo memo' id (Err row) = Refused Tree I W J X old (asked I W old map id) (row_number row) new

@@ -2,15 +2,15 @@
 -- below SYMBOLS is a symbol, from there on a variable. `index` has four parts: where each term's words end; the next term of its bucket with
 -- a lower number; whether it has a variable; and for each bucket the term with the highest number. A term stands there with 1 added,
 -- 0 is none. Behind the mark everything is zero, so the trees made determine every cell. Assumes nothing.
-use Rattle.std.specs.Prelude.{◌≡◌, ℕ, zero, suc, ◌+◌, ◌-◌, ◌*◌, ◌/◌, ◌%◌, ◌≤◌, ◌<◌, Bool, true, false, List, [], ◌∷◌, ◌++◌, length, get_or, take, drop, replicate, ltb, eqb}
+use Rattle.std.specs.Prelude.{◌≡◌, ℕ, zero, suc, ◌+◌, ◌-◌, ◌*◌, ◌/◌, ◌%◌, ◌≤◌, ◌<◌, Bool, true, false, List, [], ◌∷◌, ◌++◌, length, get_or, take, drop, replicate, ltb, eqb, Result, Ok, Err}
 use Rattle.rules.specs.Limits.{SYMBOLS, VARIABLES, TERMS, WORDS, NODE}
 use Rattle.rules.specs.Out.{Out, ok, refuse}
 use Rattle.rules.specs.Tree.{Tree, Trees, var, app, none, more, is_open}
 use Rattle.rules.specs.Store.{Made, number}
 use Rattle.rules.specs.Laws.Store.{Apart}
 use Rattle.terms.specs.declared.store.Mark.{Mark}
-use Rattle.terms.specs.declared.store.Kept.{Kept}
-use Rattle.terms.specs.declared.store.Kept.TheVariants.{Term, Full}
+use Rattle.questions.specs.Numbers.{row_number}
+use Rattle.questions.specs.declared.Row.{Row}
 
 -- Places in the index ----------------------------------------------------------------------------------------------------------
 
@@ -147,18 +147,13 @@ pub record Refused (A : Type 0) (I W J X : List ℕ) (old : Mark) (K : Out Made 
   pub grown : Grown I W J X old new
   pub makes : K ≡ refuse 60 r (made J X new)
 
-abbrev pub AfterAs : List ℕ → List ℕ → List ℕ → List ℕ → Mark → Tree → Out Made Tree → Kept → Type 0
-AfterAs I W J X old t K (Term n new) = Stored I W J X old t K n new
-AfterAs I W J X old t K (Full r new) = Refused Tree I W J X old K r new
+abbrev pub AfterAs : List ℕ → List ℕ → List ℕ → List ℕ → Mark → Mark → Tree → Out Made Tree → Result ℕ Row → Type 0
+AfterAs I W J X old new t K (Ok n) = Stored I W J X old t K n new
+AfterAs I W J X old new t K (Err row) = Refused Tree I W J X old K (row_number row) new
 
 -- what a call that puts a tree into the store promises of its answer; a record, so that laws find its arguments
-pub record After (I W J X : List ℕ) (old : Mark) (t : Tree) (K : Out Made Tree) (r : Kept) : Type 0 where
-  pub says : AfterAs I W J X old t K r
-
--- a term's number, or the number of all terms, which no term has
-unfoldable pub number_of : Kept → ℕ
-number_of (Term n m) = n
-number_of (Full r m) = TERMS
+pub record After (I W J X : List ℕ) (old new : Mark) (t : Tree) (K : Out Made Tree) (r : Result ℕ Row) : Type 0 where
+  pub says : AfterAs I W J X old new t K r
 
 -- After a check ------------------------------------------------------------------------------------------------------------------------
 
@@ -178,7 +173,3 @@ pub record Part (I W : List ℕ) (m old : Mark) : Type 0 where
 pub record Back (I W J X : List ℕ) (old : Mark) : Type 0 where
   pub good : Good J X old
   pub same : Same I W J X old
-
--- the mark with one term less, whose words end at e
-abbrev pub lower : Mark → ℕ → Mark
-lower m e = record { terms = m.terms - 1; words = e }

@@ -2,17 +2,18 @@
 // prefix notation from a place on, and each function finds the place behind it on the way.
 ghost use Rattle.std.specs.Prelude.{◌≡◌, ℕ, ◌+◌, ◌*◌, ◌≤◌, ◌<◌, length};
 ghost use Rattle.rules.specs.Limits.{SYMBOLS};
+ghost use Rattle.terms.specs.Lent.{SameTables};
 ghost use Rattle.terms.specs.Patterns.{arity, Skippable, Skipped, args_by_table, Matchable, AllMatchable, TriedAt, TriedAll, MatchedAt, MatchedAll, Buildable, BuiltAt};
 
-use crate::store::{Kept, Mark, keep, start_of};
-use cells::write;
+use crate::store::{Store, Terms};
+use questions::Question;
 use rules::{NODE, RULEVARS, SYMBOLS};
 
-// A term's number, the place behind the pattern's words and the mark; or the question that refuses, its detail and the mark of the moment.
-#[derive(Clone, Copy)]
-pub enum Built {
-    Term(usize, usize, Mark),
-    No(usize, usize, Mark),
+// A term's number, and the place behind the pattern's words.
+#[derive(Clone, Copy, Debug, PartialEq, Eq)]
+pub struct Built {
+    pub term: usize,
+    pub end: usize,
 }
 
 // How many arguments the symbol takes.
@@ -41,6 +42,7 @@ pub fn skip(symbols: &[u32], patterns: &[u32], at: usize, n: usize) -> usize
 {
     let mut place = at;
     let mut left = n;
+    // a work list: a word may bring patterns along
     while left != 0 {
         let args = args_of(symbols, patterns[place] as usize);
         left = left - 1 + args;
@@ -49,19 +51,17 @@ pub fn skip(symbols: &[u32], patterns: &[u32], at: usize, n: usize) -> usize
     place
 }
 
-// The pattern at `at` meets the term `id`: the place behind its words, or 0 where it is no match; then the cells are of no use.
+// The place behind the words of the pattern at `at`, if it meets the term `id`; if it is no match, the cells are of no use.
 fn match_term(
     symbols: &[u32],
     patterns: &[u32],
-    index: &[u32],
-    words: &[u32],
-    mark: Mark,
+    terms: &Terms<'_>,
     bound: &mut [u32],
     at: usize,
     id: usize,
-) -> usize
-    requires { Matchable symbols.now patterns.now index.now words.now mark bound.old at id }
-    ensures { TriedAt symbols.now patterns.now index.now words.now mark bound.old bound.new at id result }
+) -> Option<usize>
+    requires { Matchable symbols.now patterns.now terms.now.index.now terms.now.words.now terms.now.mark bound.old at id }
+    ensures { TriedAt symbols.now patterns.now terms.now.index.now terms.now.words.now terms.now.mark bound.old bound.new at id result }
 {
     let head = patterns[at] as usize;
     if SYMBOLS <= head {
@@ -69,97 +69,64 @@ fn match_term(
         let cell = bound[v] as usize;
         if cell == 0 {
             bound[v] = (id + 1) as u32;
-            return at + 1;
+            return Some(at + 1);
         }
-        if cell == id + 1 {
-            return at + 1;
-        }
-        return 0;
+        return (cell == id + 1).then_some(at + 1);
     }
-    let start = start_of(index, id);
-    let end = index[id] as usize;
-    if words[start] as usize != head {
-        return 0;
+    let node = terms.node(id);
+    if node[0] as usize != head {
+        return None;
     }
-    if end - start - 1 != arity_of(symbols, head) {
-        return 0;
+    let args = &node[1..];
+    if args.len() != arity_of(symbols, head) {
+        return None;
     }
     let mut place = at + 1;
-    let mut k = start + 1;
-    while k < end {
-        place = match_term(
-            symbols,
-            patterns,
-            index,
-            words,
-            mark,
-            bound,
-            place,
-            words[k] as usize,
-        );
-        if place == 0 {
-            return 0;
-        }
-        k += 1;
+    for arg in args {
+        place = match_term(symbols, patterns, terms, bound, place, *arg as usize)?;
     }
-    place
+    Some(place)
 }
 
-// Patterns from `at` on meet the terms one by one.
+// Whether patterns from `at` on meet the terms one by one.
 fn match_terms(
     symbols: &[u32],
     patterns: &[u32],
-    index: &[u32],
-    words: &[u32],
-    mark: Mark,
+    terms: &Terms<'_>,
     bound: &mut [u32],
     at: usize,
     ids: &[u32],
 ) -> bool
-    requires { AllMatchable symbols.now patterns.now index.now words.now mark bound.old at ids.now }
-    ensures { TriedAll symbols.now patterns.now index.now words.now mark bound.old bound.new at ids.now result }
+    requires { AllMatchable symbols.now patterns.now terms.now.index.now terms.now.words.now terms.now.mark bound.old at ids.now }
+    ensures { TriedAll symbols.now patterns.now terms.now.index.now terms.now.words.now terms.now.mark bound.old bound.new at ids.now result }
 {
     let mut place = at;
-    let mut k = 0;
-    while k < ids.len() {
-        place = match_term(
-            symbols,
-            patterns,
-            index,
-            words,
-            mark,
-            bound,
-            place,
-            ids[k] as usize,
-        );
-        if place == 0 {
+    for id in ids {
+        let Some(next) = match_term(symbols, patterns, terms, bound, place, *id as usize) else {
             return false;
-        }
-        k += 1;
+        };
+        place = next;
     }
     true
 }
 
-// The pattern at `at` against the term `id`: the place behind the pattern's words, or 0 and the cells as they were.
+// The pattern at `at` against the term `id`: the place behind the pattern's words; if it is no match, the cells are as they were.
 pub fn matches(
     symbols: &[u32],
     patterns: &[u32],
-    index: &[u32],
-    words: &[u32],
-    mark: Mark,
+    terms: &Terms<'_>,
     bound: &mut [u32],
     at: usize,
     id: usize,
-) -> usize
-    requires { Matchable symbols.now patterns.now index.now words.now mark bound.old at id }
-    ensures { MatchedAt symbols.now patterns.now index.now words.now mark bound.old bound.new at id result }
+) -> Option<usize>
+    requires { Matchable symbols.now patterns.now terms.now.index.now terms.now.words.now terms.now.mark bound.old at id }
+    ensures { MatchedAt symbols.now patterns.now terms.now.index.now terms.now.words.now terms.now.mark bound.old bound.new at id result }
 {
     let mut old = [0u32; RULEVARS];
-    write(&mut old, bound);
-    let place = match_term(symbols, patterns, index, words, mark, bound, at, id);
-    if place == 0 {
-        write(bound, &old);
-        return 0;
+    old.copy_from_slice(bound);
+    let place = match_term(symbols, patterns, terms, bound, at, id);
+    if place.is_none() {
+        bound.copy_from_slice(&old);
     }
     place
 }
@@ -168,69 +135,56 @@ pub fn matches(
 pub fn match_all(
     symbols: &[u32],
     patterns: &[u32],
-    index: &[u32],
-    words: &[u32],
-    mark: Mark,
+    terms: &Terms<'_>,
     bound: &mut [u32],
     at: usize,
     ids: &[u32],
 ) -> bool
-    requires { AllMatchable symbols.now patterns.now index.now words.now mark bound.old at ids.now }
-    ensures { MatchedAll symbols.now patterns.now index.now words.now mark bound.old bound.new at ids.now result }
+    requires { AllMatchable symbols.now patterns.now terms.now.index.now terms.now.words.now terms.now.mark bound.old at ids.now }
+    ensures { MatchedAll symbols.now patterns.now terms.now.index.now terms.now.words.now terms.now.mark bound.old bound.new at ids.now result }
 {
     let mut old = [0u32; RULEVARS];
-    write(&mut old, bound);
-    if match_terms(symbols, patterns, index, words, mark, bound, at, ids) {
+    old.copy_from_slice(bound);
+    if match_terms(symbols, patterns, terms, bound, at, ids) {
         return true;
     }
-    write(bound, &old);
+    bound.copy_from_slice(&old);
     false
 }
 
-// The pattern at `at` under the bindings comes into the store, arguments first: question 38 at a variable that is bound to nothing, and
-// question 60 where there is no room.
+// The pattern at `at` under the bindings comes into the store, arguments first, if each of its variables is bound and there is room.
 pub fn build(
     symbols: &[u32],
     patterns: &[u32],
-    index: &mut [u32],
-    words: &mut [u32],
-    mark: Mark,
+    store: &mut Store<'_>,
     bound: &[u32],
     at: usize,
-) -> Built
-    requires { Buildable symbols.now patterns.now index.old words.old mark bound.now at }
-    ensures { BuiltAt symbols.now patterns.now index.old words.old index.new words.new mark bound.now at result }
+) -> Result<Built, Question>
+    requires { Buildable symbols.now patterns.now store.old.index.now store.old.words.now store.old.mark bound.now at }
+    ensures same_tables { SameTables store.old store.new }
+    ensures built { BuiltAt symbols.now patterns.now store.old.index.now store.old.words.now store.new.index.now store.new.words.now store.old.mark store.new.mark bound.now at result }
 {
     let head = patterns[at] as usize;
     if SYMBOLS <= head {
         let cell = bound[head - SYMBOLS] as usize;
         if cell == 0 {
-            return Built::No(38, 0, mark);
+            return Err(Question::Matching);
         }
-        return Built::Term(cell - 1, at + 1, mark);
+        return Ok(Built {
+            term: cell - 1,
+            end: at + 1,
+        });
     }
     let count = arity_of(symbols, head);
     let mut node = [0u32; NODE];
     node[0] = head as u32;
-    let mut m = mark;
     let mut place = at + 1;
-    let mut k = 0;
-    while k < count {
-        match build(symbols, patterns, index, words, m, bound, place) {
-            Built::Term(n, next, new) => {
-                node[1 + k] = n as u32;
-                place = next;
-                m = new;
-            }
-            Built::No(q, d, new) => {
-                return Built::No(q, d, new);
-            }
-        }
-        k += 1;
+    for k in 0..count {
+        let arg = build(symbols, patterns, store, bound, place)?;
+        node[1 + k] = arg.term as u32;
+        place = arg.end;
     }
     let len = count + 1;
-    match keep(index, words, m, &node[..len]) {
-        Kept::Term(n, new) => Built::Term(n, place, new),
-        Kept::Full(row, new) => Built::No(60, row, new),
-    }
+    let term = store.keep(&node[..len])?;
+    Ok(Built { term, end: place })
 }

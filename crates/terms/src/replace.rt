@@ -3,10 +3,12 @@
 ghost use Rattle.std.specs.Prelude.{◌≡◌, ◌++◌, ℕ, ◌+◌, ◌-◌, ◌≤◌, ◌<◌, length, drop};
 ghost use Rattle.rules.specs.Limits.{NODE};
 ghost use Rattle.rules.specs.Store.{keep as keep_tree};
-ghost use Rattle.terms.specs.Table.{tree_at, made, Good, Shaped, After};
+ghost use Rattle.terms.specs.Table.{tree_at, Shaped};
+ghost use Rattle.terms.specs.Lent.{GoodStore, SameTables, KeptAs, made_of};
 ghost use Rattle.terms.specs.Subst.{image, rebuilt, Rebuildable, Replacing, Substituted};
 
-use crate::store::{FLAGS, Kept, Mark, keep, start_of};
+use crate::store::Store;
+use questions::Row;
 use rules::{NODE, SYMBOLS};
 
 // The number that the map gives the variable `v`, or `id` where it leaves the variable.
@@ -27,80 +29,57 @@ fn gather(words: &[u32], memo: &[u32], start: usize, end: usize, node: &mut [u32
     ensures { node.new ≡ rebuilt words.now memo.now start end ++ drop (end - start) node.old }
 {
     node[0] = words[start];
-    let mut at = start + 1;
-    while at < end {
+    for at in start + 1..end {
         node[at - start] = memo[words[at] as usize] - 1;
-        at += 1;
     }
 }
 
 // The node that stands from `start` to `end`, with its arguments as the memo has them, comes into the store.
-fn rebuild(
-    index: &mut [u32],
-    words: &mut [u32],
-    mark: Mark,
-    memo: &[u32],
-    start: usize,
-    end: usize,
-) -> Kept
-    requires good { Good index.old words.old mark }
-    requires rebuildable { Rebuildable words.old memo.now start end }
-    requires shaped { Shaped mark.terms (rebuilt words.old memo.now start end) }
-    ensures { After index.old words.old index.new words.new mark (tree_at (made index.old words.old mark) (rebuilt words.old memo.now start end)) (keep_tree (tree_at (made index.old words.old mark) (rebuilt words.old memo.now start end)) (made index.old words.old mark)) result }
+fn rebuild(store: &mut Store<'_>, memo: &[u32], start: usize, end: usize) -> Result<usize, Row>
+    requires good { GoodStore store.old }
+    requires rebuildable { Rebuildable store.old.words.now memo.now start end }
+    requires shaped { Shaped store.old.mark.terms (rebuilt store.old.words.now memo.now start end) }
+    ensures same_tables { SameTables store.old store.new }
+    ensures kept { let t = tree_at (made_of store.old) (rebuilt store.old.words.now memo.now start end) in KeptAs store.old store.new t (keep_tree t (made_of store.old)) result }
 {
     let mut node = [0u32; NODE];
-    let len = end - start;
-    gather(words, memo, start, end, &mut node);
-    keep(index, words, mark, &node[..len])
+    gather(store.terms().words, memo, start, end, &mut node);
+    store.keep(&node[..end - start])
 }
 
 // The term `id` under the substitution `map`, with the results that the memo has.
 pub fn replace(
-    index: &mut [u32],
-    words: &mut [u32],
-    mark: Mark,
+    store: &mut Store<'_>,
     map: &[u32],
     memo: &mut [u32],
     id: usize,
-) -> Kept
-    requires { Replacing index.old words.old mark map.now memo.old id }
-    ensures { Substituted index.old words.old index.new words.new mark map.now memo.old memo.new id result }
+) -> Result<usize, Row>
+    requires { let s = store.old in Replacing s.index.now s.words.now s.mark map.now memo.old id }
+    ensures same_tables { SameTables store.old store.new }
+    ensures substituted { let s = store.old in let t = store.new in Substituted s.index.now s.words.now t.index.now t.words.now s.mark t.mark map.now memo.old memo.new id result }
 {
     let known = memo[id] as usize;
     if known != 0 {
-        return Kept::Term(known - 1, mark);
+        return Ok(known - 1);
     }
-    if index[FLAGS + id] == 0 {
+    let terms = store.terms();
+    if !terms.is_open(id) {
         memo[id] = (id + 1) as u32;
-        return Kept::Term(id, mark);
+        return Ok(id);
     }
-    let start = start_of(index, id);
-    let end = index[id] as usize;
-    let head = words[start] as usize;
+    let start = terms.start_of(id);
+    let end = terms.index[id] as usize;
+    let head = terms.words[start] as usize;
     if SYMBOLS <= head {
         let value = image_of(map, head - SYMBOLS, id);
         memo[id] = (value + 1) as u32;
-        return Kept::Term(value, mark);
+        return Ok(value);
     }
-    let mut m = mark;
-    let mut at = start + 1;
-    while at < end {
-        let arg = words[at] as usize;
-        match replace(index, words, m, map, memo, arg) {
-            Kept::Term(_, next) => {
-                m = next;
-            }
-            Kept::Full(row, last) => {
-                return Kept::Full(row, last);
-            }
-        }
-        at += 1;
+    for at in start + 1..end {
+        let arg = store.words[at] as usize;
+        replace(store, map, memo, arg)?;
     }
-    match rebuild(index, words, m, memo, start, end) {
-        Kept::Term(n, next) => {
-            memo[id] = (n + 1) as u32;
-            Kept::Term(n, next)
-        }
-        Kept::Full(row, last) => Kept::Full(row, last),
-    }
+    let kept = rebuild(store, memo, start, end)?;
+    memo[id] = (kept + 1) as u32;
+    Ok(kept)
 }

@@ -4,15 +4,14 @@ ghost use Rattle.std.specs.Prelude.{◌≡◌, ℕ, ◌+◌, ◌*◌, ◌≤◌,
 ghost use Rattle.std.proofs.lemmas.List.Edits.{sets};
 ghost use Rattle.rules.specs.Limits.{TERMS, TERMWORDS};
 ghost use Rattle.rules.specs.Find.{union, minus, least, rising, rising_from};
-ghost use Rattle.terms.specs.Sets.{digit, holds, plus, shifted};
+ghost use Rattle.terms.specs.Sets.{holds, plus, shifted, counted_from_1};
 
 // v joins the set.
 pub fn insert(set: &mut [u64], v: usize)
     requires { v < 64 * length set.old }
     ensures { holds set.new ≡ plus v (holds set.old) }
 {
-    let i = v / 64;
-    set[i] = set[i] | 1u64 << (v % 64);
+    set[v / 64] |= 1 << (v % 64);
 }
 
 // Whether v is in the set.
@@ -29,10 +28,8 @@ pub fn union_into(set: &mut [u64], other: &[u64])
     requires { length set.old ≡ length other.now }
     ensures { holds set.new ≡ union (holds set.old) (holds other.now) }
 {
-    let mut i = 0;
-    while i < set.len() {
-        set[i] = set[i] | other[i];
-        i += 1;
+    for (i, added) in other.iter().enumerate() {
+        set[i] |= added;
     }
 }
 
@@ -41,27 +38,23 @@ pub fn minus_from(set: &mut [u64], other: &[u64])
     requires { length set.old ≡ length other.now }
     ensures { holds set.new ≡ minus (holds set.old) (holds other.now) }
 {
-    let mut i = 0;
-    while i < set.len() {
-        set[i] = set[i] & !other[i];
-        i += 1;
+    for (i, removed) in other.iter().enumerate() {
+        set[i] &= !removed;
     }
 }
 
-// The lowest of a that is not in b, counted from 1; 0 where all of a is in b.
-pub fn lowest_outside(a: &[u64], b: &[u64]) -> usize
+// The lowest of a that is not in b; none where all of a is in b.
+pub fn lowest_outside(a: &[u64], b: &[u64]) -> Option<usize>
     requires { (length a.now ≡ length b.now) × (length a.now ≤ TERMWORDS) }
-    ensures { result ≡ least (64 * length a.now) (minus (holds a.now) (holds b.now)) }
+    ensures { counted_from_1 result ≡ least (64 * length a.now) (minus (holds a.now) (holds b.now)) }
 {
-    let mut i = 0;
-    while i < a.len() {
-        let d = a[i] & !b[i];
-        if d != 0 {
-            return i * 64 + u64::trailing_zeros(d) as usize + 1;
+    for (i, left) in a.iter().enumerate() {
+        let outside = left & !b[i];
+        if outside != 0 {
+            return Some(i * 64 + outside.trailing_zeros() as usize);
         }
-        i += 1;
     }
-    0
+    None
 }
 
 // Whether all of a is in b.
@@ -69,14 +62,7 @@ pub fn subset(a: &[u64], b: &[u64]) -> bool
     requires { (length a.now ≡ length b.now) × (length a.now ≤ TERMWORDS) }
     ensures { result ≡ eqb (least (64 * length a.now) (minus (holds a.now) (holds b.now))) 0 }
 {
-    lowest_outside(a, b) == 0
-}
-
-// How many bits of a word are set.
-fn ones_of(w: u64) -> usize
-    ensures { (result ≡ length (rising 64 (digit w))) × (result ≤ 64) }
-{
-    u64::count_ones(w) as usize
+    lowest_outside(a, b).is_none()
 }
 
 // How many members the set has.
@@ -84,13 +70,7 @@ pub fn count(set: &[u64]) -> usize
     requires { length set.now ≤ TERMWORDS }
     ensures { result ≡ length (rising (64 * length set.now) (holds set.now)) }
 {
-    let mut n = 0;
-    let mut i = 0;
-    while i < set.len() {
-        n += ones_of(set[i]);
-        i += 1;
-    }
-    n
+    set.iter().map(|word| word.count_ones() as usize).sum()
 }
 
 // The members of a word that stands from `base` on are written by rising number from cell `n` on; what comes back is where they end.
@@ -101,8 +81,9 @@ fn write_word(word: u64, base: usize, out: &mut [u32], n: usize) -> usize
     let mut left = word;
     let mut at = base;
     let mut k = n;
+    // No count: each turn goes on to the next bit that is set.
     while left != 0 {
-        let skip = u64::trailing_zeros(left);
+        let skip = left.trailing_zeros();
         at += skip as usize;
         out[k] = at as u32;
         k += 1;
@@ -119,10 +100,8 @@ pub fn write_out(set: &[u64], out: &mut [u32]) -> usize
     ensures { (result ≡ length (rising (64 * length set.now) (holds set.now))) × (out.new ≡ sets out.old 0 (rising (64 * length set.now) (holds set.now))) }
 {
     let mut n = 0;
-    let mut i = 0;
-    while i < set.len() {
-        n = write_word(set[i], i * 64, out, n);
-        i += 1;
+    for (i, word) in set.iter().enumerate() {
+        n = write_word(*word, i * 64, out, n);
     }
     n
 }

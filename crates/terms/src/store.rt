@@ -1,13 +1,15 @@
 // The store: the distinct terms made so far, numbered in the order made, in two tables (specs/Table.antt says how they stand for trees).
-// A node is gathered by the caller, looked up by its bucket, and only a new one is written: the unused tail of the words is lent to the writer.
+// A node is gathered by the caller, looked up by its bucket, and only a new one is written, behind the words that are used.
 ghost use Rattle.std.specs.Prelude.{◌≡◌, ◌++◌, ℕ, ◌+◌, ◌-◌, ◌≤◌, ◌<◌, length, get_or, drop, replicate};
+ghost use Rattle.std.specs.Bool.{Decides};
 ghost use Rattle.rules.specs.Limits.{TERMS, WORDS};
 ghost use Rattle.rules.specs.Tree.{is_open};
 ghost use Rattle.rules.specs.Store.{keep};
-ghost use Rattle.terms.specs.Table.{INDEX, BUCKETS, run, start, tree_at, made, hash, flag, Shaped, Node, Good, After, settled, Part, Back, lower};
-ghost use Rattle.terms.specs.Node.{same_words, seek, Linked, Unlinked, Held, HeldIn, HeadIs, OpenIs};
+ghost use Rattle.terms.specs.Table.{INDEX, BUCKETS, run, start, tree_at, node_at, hash, flag, Shaped, Node, Good, settled, Part, Back};
+ghost use Rattle.terms.specs.Node.{seek, Linked, Unlinked, Held, HeldIn, HeadIs, OpenIs};
+ghost use Rattle.terms.specs.Lent.{GoodTerms, GoodStore, terms_made, terms_of, made_of, SameTables, KeptAs};
 
-use cells::{clear, write};
+use questions::Row;
 use rules::{SYMBOLS, TERMS};
 
 // The four parts of the index: ends, chains, flags, heads.
@@ -21,17 +23,26 @@ const HEADS: usize = 3 * TERMS;
 const SPREAD: usize = 4294967296 / TERMS;
 
 // What is used of the tables.
-#[derive(Clone, Copy)]
+#[derive(Clone, Copy, Debug, PartialEq, Eq)]
 pub struct Mark {
     pub terms: usize,
     pub words: usize,
 }
 
-// A term's number, or the row of question 60 that has no room; and the mark of the moment.
+// The tables as they are read.
 #[derive(Clone, Copy)]
-pub enum Kept {
-    Term(usize, Mark),
-    Full(usize, Mark),
+pub struct Terms<'a> {
+    pub index: &'a [u32],
+    pub words: &'a [u32],
+    pub mark: Mark,
+}
+
+// The tables as terms are kept in them.
+#[derive(Drop)]
+pub struct Store<'a> {
+    pub index: &'a mut [u32],
+    pub words: &'a mut [u32],
+    pub mark: Mark,
 }
 
 // The bucket of a node.
@@ -39,142 +50,112 @@ fn bucket_of(node: &[u32]) -> usize
     ensures { result ≡ hash node.now }
 {
     let mut h = 0;
-    let mut i = 0;
-    while i < node.len() {
-        h = ((h + node[i] as usize) * 2015346805) % 4294967296;
-        i += 1;
+    for word in node {
+        h = ((h + *word as usize) * 2015346805) % 4294967296;
     }
     h / SPREAD
 }
 
-// Where the words of the term `id` start.
-pub fn start_of(index: &[u32], id: usize) -> usize
-    requires { id ≤ length index.now }
-    ensures { result ≡ start index.now id }
+// Whether the words are those of the node: so few that `==` of slices, a call, takes longer.
+fn is_node(words: &[u32], node: &[u32]) -> bool
+    ensures { Decides result (words.now ≡ node.now) }
 {
-    if id == 0 { 0 } else { index[id - 1] as usize }
+    words.len() == node.len() && words.iter().zip(node).all(|(a, b)| a == b)
 }
 
-// The head of the term `id`: a symbol, or SYMBOLS and a variable's number.
-pub fn head(index: &[u32], words: &[u32], id: usize) -> usize
-    requires { Held index.now words.now id }
-    ensures { HeadIs index.now words.now id result }
+// The words of the node come into the cells: so few that `copy_from_slice` takes longer.
+fn write_node(cells: &mut [u32], node: &[u32])
+    requires { length cells.old ≡ length node.now }
+    ensures { cells.new ≡ node.now }
 {
-    let start = start_of(index, id);
-    words[start] as usize
-}
-
-// Whether the term `id` has a variable.
-pub fn is_open(index: &[u32], id: usize) -> bool
-    requires { HeldIn index.now id }
-    ensures { OpenIs index.now id result }
-{
-    index[FLAGS + id] != 0
-}
-
-// Whether the words from `start` to `end` are those of the node.
-fn is_node(words: &[u32], start: usize, end: usize, node: &[u32]) -> bool
-    requires { (start ≤ end) × (end ≤ length words.now) }
-    ensures { result ≡ same_words (run words.now start (end - start)) node.now }
-{
-    if end - start != node.len() {
-        return false;
+    for (i, word) in node.iter().enumerate() {
+        cells[i] = *word;
     }
-    let mut i = 0;
-    while i < node.len() {
-        if words[start + i] != node[i] {
-            return false;
+}
+
+impl Terms<'_> {
+    // Where the words of the term `id` start.
+    pub fn start_of(&self, id: usize) -> usize
+        requires { id ≤ length self.now.index.now }
+        ensures { result ≡ start self.now.index.now id }
+    {
+        if id == 0 {
+            0
+        } else {
+            self.index[id - 1] as usize
         }
-        i += 1;
     }
-    true
-}
 
-// The number of the term whose words are the node's, with 1 added; 0 where there is none.
-fn find(index: &[u32], words: &[u32], mark: Mark, node: &[u32], bucket: usize) -> usize
-    requires good { Good index.now words.now mark }
-    requires shaped { Shaped mark.terms node.now }
-    requires bucket_value { bucket ≡ hash node.now }
-    ensures { result ≡ seek (made index.now words.now mark) (tree_at (made index.now words.now mark) node.now) }
-{
-    let mut at = index[HEADS + bucket] as usize;
-    while at != 0 {
-        let i = at - 1;
-        let start = start_of(index, i);
-        if is_node(words, start, index[i] as usize, node) {
-            return at;
-        }
-        at = index[CHAINS + i] as usize;
+    // The words of the term `id`.
+    pub fn node(&self, id: usize) -> &[u32]
+        requires { Held self.now.index.now self.now.words.now id }
+        ensures { result.now ≡ node_at self.now.index.now self.now.words.now id }
+    {
+        &self.words[self.start_of(id)..self.index[id] as usize]
     }
-    0
-}
 
-// Whether the node has a variable (1) or none (0), by the flags of its arguments.
-fn flag_of(index: &[u32], words: &[u32], mark: Mark, node: &[u32]) -> usize
-    requires good { Good index.now words.now mark }
-    requires shaped { Shaped mark.terms node.now }
-    ensures { result ≡ flag (is_open (tree_at (made index.now words.now mark) node.now)) }
-{
-    if SYMBOLS <= node[0] as usize {
-        return 1;
+    // The head of the term `id`: a symbol, or SYMBOLS and a variable's number.
+    pub fn head(&self, id: usize) -> usize
+        requires { Held self.now.index.now self.now.words.now id }
+        ensures { HeadIs self.now.index.now self.now.words.now id result }
+    {
+        self.words[self.start_of(id)] as usize
     }
-    let mut i = 1;
-    while i < node.len() {
-        if index[FLAGS + node[i] as usize] != 0 {
-            return 1;
+
+    // Whether the term `id` has a variable.
+    pub fn is_open(&self, id: usize) -> bool
+        requires { HeldIn self.now.index.now id }
+        ensures { OpenIs self.now.index.now id result }
+    {
+        self.index[FLAGS + id] != 0
+    }
+
+    // The number of the term whose words are the node's, looked for along the chain of its bucket.
+    fn find(&self, node: &[u32], bucket: usize) -> Option<usize>
+        requires good { GoodTerms self.now }
+        requires shaped { Shaped self.now.mark.terms node.now }
+        requires bucket_value { bucket ≡ hash node.now }
+        ensures { result ≡ seek (terms_made self.now) (tree_at (terms_made self.now) node.now) }
+    {
+        let mut at = self.index[HEADS + bucket] as usize;
+        // from term to term of the bucket, which is no count
+        while at != 0 {
+            let id = at - 1;
+            if is_node(self.node(id), node) {
+                return Some(id);
+            }
+            at = self.index[CHAINS + id] as usize;
         }
-        i += 1;
+        None
     }
-    0
+
+    // Whether the node has a variable, by the flags of its arguments.
+    fn has_variable(&self, node: &[u32]) -> bool
+        requires good { GoodTerms self.now }
+        requires shaped { Shaped self.now.mark.terms node.now }
+        ensures { result ≡ is_open (tree_at (terms_made self.now) node.now) }
+    {
+        if SYMBOLS <= node[0] as usize {
+            return true;
+        }
+        for arg in &node[1..] {
+            if self.index[FLAGS + *arg as usize] != 0 {
+                return true;
+            }
+        }
+        false
+    }
 }
 
 // Term n comes into the index, at the head of its bucket.
-fn link(index: &mut [u32], n: usize, bucket: usize, end: usize, flag: usize)
-    requires { (length index.old ≡ INDEX) × (n < TERMS) × (bucket < BUCKETS) × (end ≤ WORDS) × (flag ≤ 1) }
-    ensures { Linked index.old index.new n bucket end flag }
+fn link(index: &mut [u32], n: usize, bucket: usize, end: usize, has_variable: bool)
+    requires { (length index.old ≡ INDEX) × (n < TERMS) × (bucket < BUCKETS) × (end ≤ WORDS) }
+    ensures { Linked index.old index.new n bucket end (flag has_variable) }
 {
     index[CHAINS + n] = index[HEADS + bucket];
-    index[FLAGS + n] = flag as u32;
+    index[FLAGS + n] = u32::from(has_variable);
     index[HEADS + bucket] = (n + 1) as u32;
     index[n] = end as u32;
-}
-
-// The node comes into the store: a term that is there already, or a new one; rows 8 and 9 of question 60 where it does not fit.
-// The mark and the slice are taken apart once, and handed on only in copies, so that the compiler passes their words in registers.
-pub fn keep(index: &mut [u32], words: &mut [u32], mark: Mark, node: &[u32]) -> Kept
-    requires good { Good index.old words.old mark }
-    requires node { Node mark.terms node.now }
-    ensures { After index.old words.old index.new words.new mark (tree_at (made index.old words.old mark) node.now) (keep (tree_at (made index.old words.old mark) node.now) (made index.old words.old mark)) result }
-{
-    let terms = mark.terms;
-    let used = mark.words;
-    let old = Mark {
-        terms: terms,
-        words: used,
-    };
-    let own = &node[..];
-    let bucket = bucket_of(own);
-    let found = find(index, words, old, own, bucket);
-    if found != 0 {
-        return Kept::Term(found - 1, old);
-    }
-    if TERMS <= terms {
-        return Kept::Full(8, old);
-    }
-    let end = used + own.len();
-    if words.len() < end {
-        return Kept::Full(9, old);
-    }
-    let flag = flag_of(index, words, old, own);
-    link(index, terms, bucket, end, flag);
-    write(&mut words[used..], own);
-    Kept::Term(
-        terms,
-        Mark {
-            terms: terms + 1,
-            words: end,
-        },
-    )
 }
 
 // Term n, the last one, goes out of the index; its bucket starts with the next one of the chain.
@@ -188,45 +169,92 @@ fn unlink(index: &mut [u32], n: usize, bucket: usize)
     index[n] = 0;
 }
 
-// The last term is taken away; what comes back is where its words started.
-fn drop_last(index: &mut [u32], words: &mut [u32], mark: Mark) -> usize
-    requires { Good index.old words.old mark × (0 < mark.terms) }
-    ensures { Back index.old words.old index.new words.new (lower mark result) × (result ≤ mark.words) }
-{
-    let n = mark.terms - 1;
-    let start = start_of(index, n);
-    let end = index[n] as usize;
-    let bucket = bucket_of(&words[start..end]);
-    unlink(index, n, bucket);
-    clear(&mut words[start..end]);
-    start
-}
-
-// The tables go back to the old mark: the terms behind it are taken away, the highest first.
-pub fn forget(index: &mut [u32], words: &mut [u32], mark: Mark, old: Mark)
-    requires { Part index.old words.old mark old }
-    ensures { Back index.old words.old index.new words.new old }
-{
-    let least = old.terms;
-    let mut terms = mark.terms;
-    let mut used = mark.words;
-    while least < terms {
-        used = drop_last(
-            index,
-            words,
-            Mark {
-                terms: terms,
-                words: used,
-            },
-        );
-        terms -= 1;
+impl Store<'_> {
+    // The same tables, to be read.
+    pub fn terms(&self) -> Terms<'_>
+        ensures { result ≡ terms_of self.now }
+    {
+        Terms {
+            index: self.index,
+            words: self.words,
+            mark: self.mark,
+        }
     }
-}
 
-// The look-up part of the index becomes zero. So it is left after a check: where each term's words end, and nothing behind.
-pub fn settle(index: &mut [u32])
-    requires { length index.old ≡ INDEX }
-    ensures { index.new ≡ settled index.old }
-{
-    clear(&mut index[CHAINS..]);
+    // The node comes into the store: a term that is there already, or a new one, if there is room.
+    pub fn keep(&mut self, node: &[u32]) -> Result<usize, Row>
+        requires good { GoodStore self.old }
+        requires node { Node self.old.mark.terms node.now }
+        ensures same_tables { SameTables self.old self.new }
+        ensures kept { let t = tree_at (made_of self.old) node.now in KeptAs self.old self.new t (keep t (made_of self.old)) result }
+    {
+        let Mark {
+            terms: id,
+            words: start,
+        } = self.mark;
+        let bucket = bucket_of(node);
+        let terms = self.terms();
+        if let Some(found) = terms.find(node, bucket) {
+            return Ok(found);
+        }
+        if TERMS <= id {
+            return Err(Row::Terms);
+        }
+        let end = start + node.len();
+        if terms.words.len() < end {
+            return Err(Row::TermWords);
+        }
+        let has_variable = terms.has_variable(node);
+        link(self.index, id, bucket, end, has_variable);
+        write_node(&mut self.words[start..end], node);
+        self.mark = Mark {
+            terms: id + 1,
+            words: end,
+        };
+        Ok(id)
+    }
+
+    // The last term is taken away.
+    fn drop_last(&mut self)
+        requires { GoodStore self.old × (0 < self.old.mark.terms) }
+        ensures same_tables { SameTables self.old self.new }
+        ensures back { Back self.old.index.now self.old.words.now self.new.index.now self.new.words.now self.new.mark }
+        ensures mark { (self.new.mark.terms ≡ self.old.mark.terms - 1) × (self.new.mark.words ≤ self.old.mark.words) }
+    {
+        let n = self.mark.terms - 1;
+        let terms = self.terms();
+        let start = terms.start_of(n);
+        let bucket = bucket_of(terms.node(n));
+        let end = self.mark.words;
+        unlink(self.index, n, bucket);
+        self.words[start..end].fill(0);
+        self.mark = Mark {
+            terms: n,
+            words: start,
+        };
+    }
+
+    // The tables go back to the old mark: the terms behind it are taken away, the highest first.
+    pub fn forget(&mut self, old: Mark)
+        requires { Part self.old.index.now self.old.words.now self.old.mark old }
+        ensures same_tables { SameTables self.old self.new }
+        ensures back { Back self.old.index.now self.old.words.now self.new.index.now self.new.words.now old }
+        ensures mark { self.new.mark ≡ old }
+    {
+        // each round lowers the mark, which is no count
+        while old.terms < self.mark.terms {
+            self.drop_last();
+        }
+    }
+
+    // The look-up part of the index becomes zero. So it is left after a check: where each term's words end, and nothing behind.
+    pub fn settle(&mut self)
+        requires { length self.old.index.now ≡ INDEX }
+        ensures same_tables { SameTables self.old self.new }
+        ensures index { self.new.index.now ≡ settled self.old.index.now }
+        ensures words { self.new.words.now ≡ self.old.words.now }
+        ensures mark { self.new.mark ≡ self.old.mark }
+    {
+        self.index[CHAINS..].fill(0);
+    }
 }

@@ -8,70 +8,51 @@ ghost use Rattle.terms.specs.Sets.{holds};
 ghost use Rattle.terms.specs.Collect.{Seen, Readable, Visited};
 
 use crate::sets::{has, insert};
-use crate::store::{FLAGS, Mark, start_of};
+use crate::store::Terms;
 use cells::clear_words;
 use rules::{SYMBOLS, VARIABLEWORDS};
 
 // The variables of the term `id` join the set, and its open nodes those that were visited; a term that was visited has its own there already,
 // so that over many calls, too, a shared subterm is visited once.
-pub fn visit(index: &[u32], words: &[u32], mark: Mark, id: usize, seen: &mut [u64], set: &mut [u64])
-    requires readable { Readable index.now words.now mark id seen.old set.old }
-    requires seen { Seen index.now words.now mark (holds seen.old) (holds set.old) }
-    ensures { Visited index.now words.now mark id (holds seen.old) (holds set.old) (holds seen.new) (holds set.new) }
+pub fn visit(terms: &Terms<'_>, id: usize, seen: &mut [u64], set: &mut [u64])
+    requires readable { let t = terms.now in Readable t.index.now t.words.now t.mark id seen.old set.old }
+    requires seen { let t = terms.now in Seen t.index.now t.words.now t.mark (holds seen.old) (holds set.old) }
+    ensures { let t = terms.now in Visited t.index.now t.words.now t.mark id (holds seen.old) (holds set.old) (holds seen.new) (holds set.new) }
 {
-    if index[FLAGS + id] == 0 {
+    if !terms.is_open(id) || has(seen, id) {
         return;
     }
-    if has(seen, id) {
-        return;
-    }
-    let start = start_of(index, id);
-    let end = index[id] as usize;
-    let head = words[start] as usize;
+    let node = terms.node(id);
+    let head = node[0] as usize;
     if SYMBOLS <= head {
         insert(set, head - SYMBOLS);
         return;
     }
-    let mut at = start + 1;
-    while at < end {
-        let arg = words[at] as usize;
-        visit(index, words, mark, arg, seen, set);
-        at += 1;
+    for arg in &node[1..] {
+        visit(terms, *arg as usize, seen, set);
     }
     insert(seen, id);
 }
 
 // The variables of the term `id` join the set. `seen` is scratch: zero before and after.
-pub fn variables(
-    index: &[u32],
-    words: &[u32],
-    mark: Mark,
-    id: usize,
-    seen: &mut [u64],
-    set: &mut [u64],
-)
-    requires readable { Readable index.now words.now mark id seen.old set.old }
+pub fn variables(terms: &Terms<'_>, id: usize, seen: &mut [u64], set: &mut [u64])
+    requires readable { let t = terms.now in Readable t.index.now t.words.now t.mark id seen.old set.old }
     requires seen_value { seen.old ≡ replicate (length seen.old) 0 }
-    ensures { (holds set.new ≡ union (holds set.old) (variables_in (tree index.now words.now mark id))) × (seen.new ≡ seen.old) }
+    ensures joined { let t = terms.now in holds set.new ≡ union (holds set.old) (variables_in (tree t.index.now t.words.now t.mark id)) }
+    ensures seen_unchanged { seen.new ≡ seen.old }
 {
-    visit(index, words, mark, id, seen, set);
+    visit(terms, id, seen, set);
     clear_words(seen);
 }
 
 // Whether the variable `x` occurs in the term `id`. `seen` is scratch: zero before and after.
-pub fn occurs(
-    index: &[u32],
-    words: &[u32],
-    mark: Mark,
-    id: usize,
-    x: usize,
-    seen: &mut [u64],
-) -> bool
-    requires readable { Readable index.now words.now mark id seen.old (replicate VARIABLEWORDS 0) }
+pub fn occurs(terms: &Terms<'_>, id: usize, x: usize, seen: &mut [u64]) -> bool
+    requires readable { let t = terms.now in Readable t.index.now t.words.now t.mark id seen.old (replicate VARIABLEWORDS 0) }
     requires seen_value { (seen.old ≡ replicate (length seen.old) 0) × (x < VARIABLES) }
-    ensures { (result ≡ variables_in (tree index.now words.now mark id) x) × (seen.new ≡ seen.old) }
+    ensures occurs { let t = terms.now in result ≡ variables_in (tree t.index.now t.words.now t.mark id) x }
+    ensures seen_unchanged { seen.new ≡ seen.old }
 {
     let mut set = [0u64; VARIABLEWORDS];
-    variables(index, words, mark, id, seen, &mut set);
+    variables(terms, id, seen, &mut set);
     has(&set, x)
 }

@@ -12,8 +12,9 @@ use Rattle.rules.specs.Tree.{Tree, var, single}
 use Rattle.rules.specs.Store.{Made, substitute}
 use Rattle.rules.specs.Unify.{Binding, insert, replace}
 use Rattle.terms.specs.declared.store.Mark.{Mark}
-use Rattle.unification.specs.declared.theta.Grew.{Grew}
-use Rattle.unification.specs.declared.theta.Grew.TheVariants.{Ok, Full}
+use Rattle.std.specs.Prelude.{Result, Ok, Err}
+use Rattle.questions.specs.Numbers.{row_number}
+use Rattle.questions.specs.declared.Row.{Row}
 use Rattle.terms.specs.Table.{made, Refused, tree}
 use Rattle.terms.specs.Subst.{replacement}
 use Rattle.terms.specs.Theta.{bindings}
@@ -78,10 +79,10 @@ module _ (I W : List ℕ) (m : Mark) (theta map memo : List ℕ) (x u : ℕ) (e 
       ∙ ap (λ (σ : ℕ → Tree). in_values σ (bindings (made I W m) theta 0) (made I W m)) (single_map (made I W m) (length map) x u in_map)
       ∙ ap (λ (A : Act Made (List Binding)). A (made I W m)) (replace_values x (tree I W m u) (bindings (made I W m) theta 0))
 
-  module _ (J X theta' : List ℕ) (r : Grew) (d : ChangedAs I W J X m theta theta' (in_values (replacement (made I W m) one) (bindings (made I W m) theta 0) (made I W m)) r) where
-    pub extended_ok : (new : Mark) → r ≡ Ok new → Bound I W J X m (set theta' x (u + 1)) x u answer new
-    extended_ok new p =
-        let c : Changed I W J X m theta theta' (in_values (replacement (made I W m) one) (bindings (made I W m) theta 0) (made I W m)) new = subst (ChangedAs I W J X m theta theta' _) p d in
+  module _ (J X theta' : List ℕ) (new : Mark) (r : Result (Unit {0}) Row) (d : ChangedAs I W J X m new theta theta' (in_values (replacement (made I W m) one) (bindings (made I W m) theta 0) (made I W m)) r) where
+    pub extended_ok : (done : Unit {0}) → r ≡ Ok done → Bound I W J X m (set theta' x (u + 1)) x u answer new
+    extended_ok done p =
+        let c : Changed I W J X m theta theta' (in_values (replacement (made I W m) one) (bindings (made I W m) theta 0) (made I W m)) new = subst (ChangedAs I W J X m new theta theta' _) p d in
         let s = e.small in
         let l = c.cells.long in
         let h = e.there in
@@ -103,7 +104,7 @@ module _ (I W : List ℕ) (m : Mark) (theta map memo : List ℕ) (x u : ℕ) (e 
               ∙ ap (λ (t : Tree). insert (record { variable = x; value = t }) (bindings (made J X new) theta' 0)) (ap (λ (j : ℕ). get_or (made J X new) j (var 0)) q ∙ grown_tree c.grown u h);
         }
 
-    pub extended_full : (row : ℕ) (new : Mark) → r ≡ Full row new → length theta' ≡ length theta → Refused (List Binding) I W J X m answer row new × (length theta' ≡ VARIABLES)
-    extended_full row new p k =
-        let c : Refused (List Binding) I W J X m (in_values (replacement (made I W m) one) (bindings (made I W m) theta 0) (made I W m)) row new = subst (ChangedAs I W J X m theta theta' _) p d in
+    pub extended_err : (row : Row) → r ≡ Err row → length theta' ≡ length theta → Refused (List Binding) I W J X m answer (row_number row) new × (length theta' ≡ VARIABLES)
+    extended_err row p k =
+        let c : Refused (List Binding) I W J X m (in_values (replacement (made I W m) one) (bindings (made I W m) theta 0) (made I W m)) (row_number row) new = subst (ChangedAs I W J X m new theta theta' _) p d in
         (record { grown = c.grown; makes = sym one_answer ∙ c.makes }, k ∙ e.cells.long)

@@ -16,10 +16,10 @@ use Rattle.rules.specs.Store.{Made}
 use Rattle.rules.specs.Unify.{Pair, Look, agree, clash, binds, parts, push, Found, clashed, bound, onward}
 use Rattle.terms.specs.declared.store.Mark.{Mark}
 use Rattle.unification.specs.declared.pairs.Asks.{Asks}
-use Rattle.unification.specs.declared.pairs.Asks.TheVariants.{Nothing, Clash, Binds, Parts}
+use Rattle.unification.specs.declared.pairs.Asks.TheVariants.{Parts}
 use Rattle.terms.specs.Table.{run, args_of, made}
 use Rattle.unification.specs.Pairs.{PartsAt, Answered, waits, piled}
-use Rattle.unification.specs.Peel.{Lookable, same, more, OntoPairs, Crowded, BindsHere}
+use Rattle.unification.specs.Peel.{Lookable, more, OntoPairs, Crowded}
 use Rattle.terms.specs.Laws.Runs.{run_length}
 use Rattle.terms.specs.Laws.Tables.{args_count}
 use Rattle.unification.proofs.Waits.{waits_piled, length_piled}
@@ -90,15 +90,6 @@ piled_below W a b P w (suc n) l h p f g i q =
 -- The answers ------------------------------------------------------------------------------------------------------------------------
 
 module _ (I W : List ℕ) (m : Mark) (P seen : List ℕ) (w s t : ℕ) (q : Lookable I W m P seen w s t) (L : Look) (r : Asks) (d : Answered I W m L r) where
-  pub look_nothing : r ≡ Nothing → OntoPairs I W m P P w w L
-  look_nothing e = record { onto = same (subst (Answered I W m L) e d) refl; few = q.few; there = q.there }
-
-  pub look_clash : r ≡ Clash → L ≡ clash
-  look_clash e = subst (Answered I W m L) e d
-
-  pub look_binds : (x u : ℕ) → r ≡ Binds x u → BindsHere I W m P P L x u
-  look_binds x u e = record { binds = subst (Answered I W m L) e d; stays = refl }
-
   module _ (a b n : ℕ) (e : r ≡ Parts a b n) where
     asks : PartsAt I W m L a b n
     asks = subst (Answered I W m L) e d

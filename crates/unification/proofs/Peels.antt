@@ -9,11 +9,14 @@ use Rattle.rules.specs.Out.{Out}
 use Rattle.rules.specs.Store.{Made}
 use Rattle.rules.specs.Unify.{Found, peel}
 use Rattle.terms.specs.declared.store.Mark.{Mark}
-use Rattle.unification.specs.declared.peel.Turn.{Turn}
-use Rattle.unification.specs.declared.peel.Turn.TheVariants.{More, Clash, Binds, Full}
+use Rattle.std.specs.Prelude.{Ok, Err}
+use Rattle.questions.specs.Numbers.{row_number}
+use Rattle.questions.specs.declared.Row.{Row}
+use Rattle.unification.specs.declared.peel.Step.{Step}
+use Rattle.unification.specs.declared.peel.Step.TheVariants.{Done, Clash, Binds}
 use Rattle.terms.specs.Table.{Grown, Refused}
 use Rattle.unification.specs.Pairs.{waits}
-use Rattle.unification.specs.Peel.{Peelable, weighs, peels, Lighter, Clashes, BindsOne, Turned, Finishes}
+use Rattle.unification.specs.Peel.{Peelable, weighs, peels, Lighter, Turned, Finishes, PeeledAs}
 use Rattle.terms.specs.Laws.Tables.{length_trees}
 use Rattle.terms.specs.Laws.Growth.{grown_refl, grown_trans}
 
@@ -51,27 +54,19 @@ module _ (I W : List ℕ) (old : Mark) (theta memo P seen : List ℕ) (w : ℕ) 
         results = record { inside = omega arith; below = λ i h. let d = (l.peelable.knows i h).old in omega arith };
       }
 
-  module _ (G Y memo'' P'' : List ℕ) (r : Turn) (d : Turned J X G Y m theta memo'' P' P'' seen' v r) where
-    pub peeling_clash : (new : Mark) → r ≡ Clash new → Clashes I W G Y old memo'' K new
-    peeling_clash new e =
-        let f : (k : ℕ) → Clashes J X G Y m memo'' (peels (suc k) J X m theta P' v) new = subst (Turned J X G Y m theta memo'' P' P'' seen' v) e d in
-        record { grown = grown_trans l.grown (f 0).grown; makes = l.left ∙ (f l.steps).makes; results = (f 0).results }
+  module _ (G Y memo'' P'' : List ℕ) (new : Mark) (n : ℕ) where
+    pub peeling_err : (row : Row) → Turned J X G Y m new theta memo'' P' P'' seen' v n (Err row) → Refused Found I W G Y old K (row_number row) new
+    peeling_err row f = record { grown = grown_trans l.grown (f 0).grown; makes = l.left ∙ (f l.steps).makes }
 
-    pub peeling_full : (row : ℕ) (new : Mark) → r ≡ Full row new → Refused Found I W G Y old K row new
-    peeling_full row new e =
-        let f : (k : ℕ) → Refused Found J X G Y m (peels (suc k) J X m theta P' v) row new = subst (Turned J X G Y m theta memo'' P' P'' seen' v) e d in
-        record { grown = grown_trans l.grown (f 0).grown; makes = l.left ∙ (f l.steps).makes }
-
-    pub peeling_binds : (x u n : ℕ) (new : Mark) → r ≡ Binds x u n new → BindsOne I W G Y old memo'' P'' K x u n new
-    peeling_binds x u n new e =
-        let f : (k : ℕ) → BindsOne J X G Y m memo'' P'' (peels (suc k) J X m theta P' v) x u n new = subst (Turned J X G Y m theta memo'' P' P'' seen' v) e d in
+    -- a step that is not the last one's end
+    pub peeling_stops : (s : Step) → (s ≡ Done → ⊥) → Turned J X G Y m new theta memo'' P' P'' seen' v n (Ok s) → PeeledAs I W G Y old new memo'' P'' n K (Ok s)
+    peeling_stops Done h f = absurd (h refl)
+    peeling_stops Clash h f = record { grown = grown_trans l.grown (f 0).grown; makes = l.left ∙ (f l.steps).makes; results = (f 0).results }
+    peeling_stops (Binds x u) h f =
         let b = f l.steps in
         record { grown = grown_trans l.grown b.grown; makes = l.left ∙ b.makes; results = b.results; small = b.small; known = b.known; few = b.few; there = b.there }
 
-    module _ (n : ℕ) (new : Mark) (e : r ≡ More n new) where
-      lighter : Lighter J X G Y m theta memo'' P' P'' seen' v n new
-      lighter = subst (Turned J X G Y m theta memo'' P' P'' seen' v) e d
-
+    module _ (lighter : Lighter J X G Y m theta memo'' P' P'' seen' v n new) where
       pub peeling_less : weighs G Y new theta P'' n < weighs J X m theta P' v
       peeling_less = lighter.less
 

@@ -10,8 +10,9 @@ use Rattle.rules.specs.Store.{Made, make, substitute}
 use Rattle.rules.specs.Unify.{Found}
 use Rattle.rules.specs.Laws.Store.{then_ok, then_refuse}
 use Rattle.terms.specs.declared.store.Mark.{Mark}
-use Rattle.terms.specs.declared.store.Kept.{Kept}
-use Rattle.terms.specs.declared.store.Kept.TheVariants.{Term, Full}
+use Rattle.std.specs.Prelude.{Result, Ok, Err}
+use Rattle.questions.specs.Numbers.{row_number}
+use Rattle.questions.specs.declared.Row.{Row}
 use Rattle.terms.specs.Table.{made, Refused, tree}
 use Rattle.terms.specs.Subst.{replacement, Knows, substituted, asked, Replacing, Done, Substituted}
 use Rattle.unification.specs.Peel.{Sideable, sided, BothSides, NoSides}
@@ -19,19 +20,19 @@ use Rattle.terms.specs.Laws.Growth.{grown_trans, grown_tree}
 use Rattle.terms.specs.Laws.Theta.{replacement_grown}
 use Rattle.terms.specs.Laws.Numbers.{stored_is}
 
-module _ (I W : List ℕ) (old : Mark) (theta memo : List ℕ) (s t : ℕ) (q : Sideable I W old theta memo s t) (J X memo' : List ℕ) (r : Kept) (d : Substituted I W J X old theta memo memo' s r) where
+module _ (I W : List ℕ) (old : Mark) (theta memo : List ℕ) (s t : ℕ) (q : Sideable I W old theta memo s t) (J X memo' : List ℕ) (mid : Mark) (r : Result ℕ Row) (d : Substituted I W J X old mid theta memo memo' s r) where
   abbrev σ : ℕ → Tree
   σ = replacement (made I W old) theta
 
-  pub first_full : (row : ℕ) (new : Mark) → r ≡ Full row new → NoSides I W J X old theta s t row new
+  pub first_err : (row : Row) → r ≡ Err row → NoSides I W J X old theta s t (row_number row) mid
   unfolding substitute
-  first_full row new e =
-      let f : Refused Tree I W J X old (asked I W old theta s) row new = subst (Substituted I W J X old theta memo memo' s) e d in
-      record { grown = f.grown; makes = λ k. then_refuse _ 60 row (made J X new) _ f.makes }
+  first_err row e =
+      let f : Refused Tree I W J X old (asked I W old theta s) (row_number row) mid = subst (Substituted I W J X old mid theta memo memo' s) e d in
+      record { grown = f.grown; makes = λ k. then_refuse _ 60 (row_number row) (made J X mid) _ f.makes }
 
-  module _ (a : ℕ) (mid : Mark) (e : r ≡ Term a mid) where
+  module _ (a : ℕ) (e : r ≡ Ok a) where
     first : Done I W J X old theta memo memo' s a mid
-    first = subst (Substituted I W J X old theta memo memo' s) e d
+    first = subst (Substituted I W J X old mid theta memo memo' s) e d
 
     same_replacement : replacement (made J X mid) theta ≡ σ
     same_replacement = replacement_grown first.stored.grown theta q.left.bound
@@ -63,15 +64,15 @@ module _ (I W : List ℕ) (old : Mark) (theta memo : List ℕ) (s t : ℕ) (q : 
         then_ok _ (substituted I W old theta s) (made J X mid) (λ u n. then (substitute σ (tree I W old t) n) (λ v o. f u v o)) first.stored.makes
         ∙ ap (λ (u : Tree). then (make u (made J X mid)) (λ v o. f (substituted I W old theta s) v o)) (sym same_asked)
 
-    module _ (K Y memo'' : List ℕ) (p : Kept) (b : Substituted J X K Y mid theta memo' memo'' t p) where
-      pub second_full : (row : ℕ) (new : Mark) → p ≡ Full row new → NoSides I W K Y old theta s t row new
-      second_full row new z =
-          let f : Refused Tree J X K Y mid (asked J X mid theta t) row new = subst (Substituted J X K Y mid theta memo' memo'' t) z b in
-          record { grown = grown_trans first.stored.grown f.grown; makes = λ k. rest k ∙ then_refuse _ 60 row (made K Y new) _ f.makes }
+    module _ (K Y memo'' : List ℕ) (new : Mark) (p : Result ℕ Row) (b : Substituted J X K Y mid new theta memo' memo'' t p) where
+      pub second_err : (row : Row) → p ≡ Err row → NoSides I W K Y old theta s t (row_number row) new
+      second_err row z =
+          let f : Refused Tree J X K Y mid (asked J X mid theta t) (row_number row) new = subst (Substituted J X K Y mid new theta memo' memo'' t) z b in
+          record { grown = grown_trans first.stored.grown f.grown; makes = λ k. rest k ∙ then_refuse _ 60 (row_number row) (made K Y new) _ f.makes }
 
-      pub both_done : (c : ℕ) (new : Mark) → p ≡ Term c new → BothSides I W K Y old theta memo'' s t a c new
-      both_done c new z =
-          let f : Done J X K Y mid theta memo' memo'' t c new = subst (Substituted J X K Y mid theta memo' memo'' t) z b in
+      pub both_done : (c : ℕ) → p ≡ Ok c → BothSides I W K Y old theta memo'' s t a c new
+      both_done c z =
+          let f : Done J X K Y mid theta memo' memo'' t c new = subst (Substituted J X K Y mid new theta memo' memo'' t) z b in
           let l : tree K Y new a ≡ substituted I W old theta s = grown_tree f.stored.grown a first.stored.there ∙ stored_is first.stored in
           let r : tree K Y new c ≡ substituted I W old theta t = stored_is f.stored ∙ same_asked in
           let g = f.stored.grown.more in

@@ -2,7 +2,7 @@
 use mathlib.Core.Path.{◌≡◌, refl, sym, ap, ◌∙◌, subst}
 use mathlib.Core.Logic.{inl, inr}
 use mathlib.Core.Bool.{Bool, true, false}
-use Rattle.std.specs.Prelude.{Option, Some as some}
+use Rattle.std.specs.Prelude.{Option, Some as some, Ok, Err}
 use mathlib.Core.List.{List, [], ◌∷◌, ◌++◌}
 use Prim.Native.Nat.{ℕ, zero, suc, ◌+◌, ◌-◌}
 use native.Mathlib.Omega.{arith}
@@ -11,7 +11,6 @@ use lib.ListN.{length, get_or, take, drop, replicate, length-drop, replicate-app
 use lib.Seq.{length-take-le, get_or-drop}
 use lib.Dec.{eqb}
 use borrow.Author.Tests.{eqb-true}
-use Rattle.rules.specs.Limits.{VARIABLES}
 use Rattle.rules.specs.Out.{Out, ok, then}
 use Rattle.rules.specs.Tree.{Tree, var}
 use Rattle.rules.specs.Store.{Made}
@@ -21,10 +20,10 @@ use Rattle.meaning.specs.Unification.Acts.{of_ok}
 use Rattle.meaning.specs.Unification.List.{Bound as HasBinding, Settled, replaced, replace_ok, extended, settled_extended}
 use Rattle.meaning.specs.Unification.Peel.{Binds as BindsRightly, Peeled as PeeledRightly, peel_ok}
 use Rattle.terms.specs.declared.store.Mark.{Mark}
-use Rattle.unification.specs.declared.theta.Grew.{Grew}
-use Rattle.unification.specs.declared.theta.Grew.TheVariants.{Ok, Full as NoRoom}
-use Rattle.unification.specs.declared.peel.Peeled.{Peeled}
-use Rattle.unification.specs.declared.peel.Peeled.TheVariants.{Finished, Clash, Binds, Full}
+use Rattle.questions.specs.Numbers.{row_number}
+use Rattle.questions.specs.declared.Row.{Row}
+use Rattle.unification.specs.declared.peel.Step.{Step}
+use Rattle.unification.specs.declared.peel.Step.TheVariants.{Done, Clash, Binds}
 use Rattle.terms.specs.Table.{made, Refused, tree}
 use Rattle.terms.specs.Theta.{bindings, Theta}
 use Rattle.unification.specs.Extend.{Extendable, Bound, Extended}
@@ -95,43 +94,37 @@ module _ (I W : List ℕ) (m : Mark) (theta map memo P seen : List ℕ) (w : ℕ
   pub wiped_back : (used now : List ℕ) → length used ≡ length memo → now ≡ replicate (length used) 0 → now ≡ memo
   wiped_back used now l e = e ∙ ap (λ (n : ℕ). replicate n 0) l ∙ sym q.no_memos
 
-  module _ (J X memo' P' : List ℕ) (r : Peeled) (d : PeeledAs I W J X m memo' P' K r) where
+  pub peeled_results : (J X memo' P' : List ℕ) (new : Mark) (v : ℕ) (s : Step) → PeeledAs I W J X m new memo' P' v K (Ok s) → Results memo' new
+  peeled_results J X memo' P' new v Done d = d.results
+  peeled_results J X memo' P' new v Clash d = d.results
+  peeled_results J X memo' P' new v (Binds x u) d = d.results
+
+  module _ (J X memo' P' : List ℕ) (new : Mark) (v : ℕ) where
     peeled_to : (f : Found) (mid : Mark) → K ≡ ok f (made J X mid) → (n : ℕ) → solves (suc n) I W m theta P w ≡ outcome (λ ζ v. solve n ζ v) θ f (made J X mid)
     unfolding solve
     peeled_to f mid e n = then_ok K f (made J X mid) (λ g o. outcome (λ ζ v. solve n ζ v) θ g o) e
 
-    pub finished_results : (new : Mark) → r ≡ Finished new → Results memo' new
-    finished_results new e = let f : Finishes I W J X m memo' K new = subst (PeeledAs I W J X m memo' P' K) e d in f.results
-
-    pub clash_results : (new : Mark) → r ≡ Clash new → Results memo' new
-    clash_results new e = let f : Clashes I W J X m memo' K new = subst (PeeledAs I W J X m memo' P' K) e d in f.results
-
-    pub round_found : (new : Mark) → r ≡ Finished new → (n : ℕ) → Solved I W J X m theta (solves (suc n) I W m theta P w) new
+    pub round_found : Finishes I W J X m memo' K new → (n : ℕ) → Solved I W J X m theta (solves (suc n) I W m theta P w) new
     unfolding outcome
-    round_found new e n =
-        let f : Finishes I W J X m memo' K new = subst (PeeledAs I W J X m memo' P' K) e d in
+    round_found f n =
         record {
           grown = f.grown;
           makes = peeled_to finished new f.makes n ∙ ap (λ (ζ : List Binding). ok (some ζ) (made J X new)) (sym (bindings_grown f.grown q.peelable.cells));
           cells = theta_grown f.grown q.peelable.cells;
         }
 
-    pub round_apart : (new : Mark) → r ≡ Clash new → (n : ℕ) → Unsolved I W J X m theta (solves (suc n) I W m theta P w) new
+    pub round_apart : Clashes I W J X m memo' K new → (n : ℕ) → Unsolved I W J X m theta (solves (suc n) I W m theta P w) new
     unfolding outcome
-    round_apart new e n = let f : Clashes I W J X m memo' K new = subst (PeeledAs I W J X m memo' P' K) e d in record { grown = f.grown; makes = peeled_to clashed new f.makes n }
+    round_apart f n = record { grown = f.grown; makes = peeled_to clashed new f.makes n }
 
-    pub round_full : (row : ℕ) (new : Mark) → r ≡ Full row new → (n : ℕ) → Refused (Option (List Binding)) I W J X m (solves (suc n) I W m theta P w) row new
+    pub round_err : (row : Row) → Refused Found I W J X m K (row_number row) new → (n : ℕ) → Refused (Option (List Binding)) I W J X m (solves (suc n) I W m theta P w) (row_number row) new
     unfolding solve
-    round_full row new e n =
-        let f : Refused Found I W J X m K row new = subst (PeeledAs I W J X m memo' P' K) e d in
-        record { grown = f.grown; makes = then_refuse K 60 row (made J X new) _ f.makes }
+    round_err row f n =
+        record { grown = f.grown; makes = then_refuse K 60 (row_number row) (made J X new) _ f.makes }
 
-    module _ (x u v : ℕ) (mid : Mark) (e : r ≡ Binds x u v mid) where
-      one : BindsOne I W J X m memo' P' K x u v mid
-      one = subst (PeeledAs I W J X m memo' P' K) e d
-
-      pub one_results : Results memo' mid
-      one_results = one.results
+    module _ (x u : ℕ) (one : BindsOne I W J X m memo' P' K x u v new) where
+      abbrev mid : Mark
+      mid = new
 
       abbrev t : Tree
       t = tree J X mid u
@@ -166,31 +159,27 @@ module _ (I W : List ℕ) (m : Mark) (theta map memo P seen : List ℕ) (w : ℕ
           peeled_to (bound x t (pairs_of J X mid P' v)) mid one.makes n
           ∙ ap (λ (ζ : List Binding). then (replace x t ζ (made J X mid)) (λ ζ o. solve n (insert (record { variable = x; value = t }) ζ) (pairs_of J X mid P' v) o)) (sym same_theta)
 
-      module _ (G Y theta' : List ℕ) (g : Grew) (b : Extended J X G Y mid theta' x u (replace x t (theta_of J X mid theta) (made J X mid)) g) where
-        pub bind_full : (row : ℕ) (new : Mark) → g ≡ NoRoom row new → (n : ℕ) → Refused (Option (List Binding)) I W G Y m (solves (suc n) I W m theta P w) row new
-        bind_full row new z n =
-            let f : Refused (List Binding) J X G Y mid (replace x t (theta_of J X mid theta) (made J X mid)) row new × (length theta' ≡ VARIABLES) = subst (Extended J X G Y mid theta' x u _) z b in
-            record { grown = grown_trans one.grown f.0.grown; makes = left n ∙ then_refuse _ 60 row (made G Y new) _ f.0.makes }
+      module _ (G Y theta' : List ℕ) (last : Mark) where
+        pub bind_err : (row : Row) → Extended J X G Y mid last theta' x u (replace x t (theta_of J X mid theta) (made J X mid)) (Err row) → (n : ℕ) → Refused (Option (List Binding)) I W G Y m (solves (suc n) I W m theta P w) (row_number row) last
+        bind_err row f n =
+            record { grown = grown_trans one.grown f.0.grown; makes = left n ∙ then_refuse _ 60 (row_number row) (made G Y last) _ f.0.makes }
 
-        module _ (new : Mark) (z : g ≡ Ok new) where
-          grew : Bound J X G Y mid theta' x u (replace x t (theta_of J X mid theta) (made J X mid)) new
-          grew = subst (Extended J X G Y mid theta' x u _) z b
-
-          now_theta : theta_of G Y new theta' ≡ extended x t θ
+        module _ (grew : Bound J X G Y mid theta' x u (replace x t (theta_of J X mid theta) (made J X mid)) last) where
+          now_theta : theta_of G Y last theta' ≡ extended x t θ
           unfolding extended
           now_theta =
               grew.is
               ∙ ap (insert (record { variable = x; value = t })) (of_ok (replace_ok x t (theta_of J X mid theta) (made J X mid)) grew.makes ∙ ap (replaced x t) same_theta)
 
-          now_pairs : pairs_of G Y new P' v ≡ pairs_of J X mid P' v
+          now_pairs : pairs_of G Y last P' v ≡ pairs_of J X mid P' v
           now_pairs = pairs_grown grew.grown P' v one.there
 
-          goes : (n : ℕ) → solves (suc n) I W m theta P w ≡ solves n G Y new theta' P' v
+          goes : (n : ℕ) → solves (suc n) I W m theta P w ≡ solves n G Y last theta' P' v
           goes n =
-              left n ∙ then_ok _ grew.values (made G Y new) _ grew.makes
-              ∙ (λ i. solve n (sym grew.is i) (sym now_pairs i) (made G Y new))
+              left n ∙ then_ok _ grew.values (made G Y last) _ grew.makes
+              ∙ (λ i. solve n (sym grew.is i) (sym now_pairs i) (made G Y last))
 
-          pub bind_more : length P' ≡ length P → BoundMore I W G Y m theta theta' map memo P P' seen w v new
+          pub bind_more : length P' ≡ length P → BoundMore I W G Y m theta theta' map memo P P' seen w v last
           bind_more l =
               let a = grew.grown.more in
               record {

@@ -7,26 +7,27 @@ use lib.ListN.{length, get_or}
 use Rattle.rules.specs.Out.{then}
 use Rattle.rules.specs.Tree.{Tree, Trees, app, sub, count_trees, size}
 use Rattle.rules.specs.Store.{substitute}
-use Rattle.rules.specs.Unify.{Binding, Pair, along, Look, parts, look, push, Found, onward, peel, weight}
+use Rattle.rules.specs.Unify.{Binding, Pair, along, Look, clash, parts, look, push, Found, onward, peel, weight}
 use Rattle.meaning.specs.Trees.Tree.{size_pos}
 use Rattle.meaning.specs.Unification.List.{Settled, Each}
 use Rattle.meaning.specs.Unification.Pairs.{Saw, saw, WithinPairs}
 use Rattle.meaning.specs.Unification.Peel.{WithinBindings, lighter}
 use Rattle.terms.specs.declared.store.Mark.{Mark}
-use Rattle.unification.specs.declared.peel.Sides.{Sides}
-use Rattle.unification.specs.declared.peel.Next.{Next}
+use Rattle.std.specs.Prelude.{Result, Ok, Err}
+use Rattle.questions.specs.Numbers.{row_number}
+use Rattle.questions.specs.declared.Row.{Row}
+use Rattle.unification.specs.declared.peel.Step.{Step}
+use Rattle.unification.specs.declared.peel.Step.TheVariants as step
 use Rattle.terms.specs.Table.{made, Grown, Refused, tree}
 use Rattle.terms.specs.Subst.{Knows}
 use Rattle.unification.specs.Pairs.{waits}
 use Rattle.unification.specs.Peel.{theta_of, pairs_of, Sideable, sided, BothSides, NoSides, Sided, Lookable, Onto, same, more, OntoPairs, Crowded}
-use Rattle.unification.specs.Peel.{BindsHere, Looked, Peelable, weighs, peels, Lighter, Results, Clashes, BindsOne}
+use Rattle.unification.specs.Peel.{BindsHere, Looked, Turned, Peelable, weighs, peels, Lighter, Results, Clashes, BindsOne}
 use Rattle.terms.specs.Laws.Tables.{length_trees}
 use Rattle.terms.specs.Laws.Theta.{replacement_grown, along_is, bindings_grown, theta_grown}
 use Rattle.terms.specs.Laws.Growth.{grown_tree}
 use Rattle.unification.proofs.Waits.{waits_more}
 use Rattle.unification.proofs.Looks.{length_waits, onward_agree, onward_clash, onward_binds, onward_parts, onward_crowd}
-use Rattle.unification.specs.declared.peel.Sides.TheVariants as sides
-use Rattle.unification.specs.declared.peel.Next.TheVariants as next
 
 -- Any variable: the laws that are cited here ask which ones there can be -----------------------------------------------------------
 
@@ -95,15 +96,21 @@ module _ (I W : List ℕ) (m : Mark) (theta memo P seen : List ℕ) (w : ℕ) (q
       ∙ ap (λ (σ : ℕ → Tree). then (substitute σ (tree I W m s) (made I W m)) (λ u n. then (substitute σ (tree I W m t) n) (λ v o. onward (λ z. peel k θ z) ps (look u v) o)))
       (along_is (made I W m) theta)
 
-  module _ (J X memo' : List ℕ) (r : Sides) (d : Sided I W J X m theta memo' s t r) where
-    pub pair_full : (row : ℕ) (new : Mark) → r ≡ sides.Full row new → (k : ℕ) → Refused Found I W J X m (peels (suc k) I W m theta P w) row new
-    pair_full row new e k =
-        let f : NoSides I W J X m theta s t row new = subst (Sided I W J X m theta memo' s t) e d in
+  module _ (J X memo' : List ℕ) (new : Mark) (r : Result (ℕ × ℕ) Row) (d : Sided I W J X m new theta memo' s t r) where
+    pub pair_err : (row : Row) → r ≡ Err row → (k : ℕ) → Refused Found I W J X m (peels (suc k) I W m theta P w) (row_number row) new
+    pair_err row e k =
+        let f : NoSides I W J X m theta s t (row_number row) new = subst (Sided I W J X m new theta memo' s t) e d in
         record { grown = f.grown; makes = stepped k ∙ f.makes _ }
 
-    module _ (a b : ℕ) (new : Mark) (e : r ≡ sides.Both a b new) where
+    module _ (ab : ℕ × ℕ) (e : r ≡ Ok ab) where
+      abbrev a : ℕ
+      a = ab.0
+
+      abbrev b : ℕ
+      b = ab.1
+
       both : BothSides I W J X m theta memo' s t a b new
-      both = subst (Sided I W J X m theta memo' s t) e d
+      both = subst (Sided I W J X m new theta memo' s t) e d
 
       abbrev θ' : List Binding
       θ' = theta_of J X new theta
@@ -154,24 +161,22 @@ module _ (I W : List ℕ) (m : Mark) (theta memo P seen : List ℕ) (w : ℕ) (q
           let c = length_trees J X new.terms in
           record { inside = omega arith; below = λ i h. let d = (both.knows i h).old in omega arith }
 
-      module _ (P' : List ℕ) (x : Next) (n : Looked J X new P P' (w - 1) L x) where
-        pub pair_clash : length memo' ≡ length memo → x ≡ next.Clash → (k : ℕ) → Clashes I W J X m memo' (peels (suc k) I W m theta P w) new
-        pair_clash g z k =
-            record { grown = both.grown; makes = looked k ∙ onward_clash _ _ L (made J X new) (subst (Looked J X new P P' (w - 1) L) z n); results = results g }
+      module _ (P' : List ℕ) (v : ℕ) where
+        pair_clash : length memo' ≡ length memo → L ≡ clash → (k : ℕ) → Clashes I W J X m memo' (peels (suc k) I W m theta P w) new
+        pair_clash g c k = record { grown = both.grown; makes = looked k ∙ onward_clash _ _ L (made J X new) c; results = results g }
 
-        pub pair_crowd : x ≡ next.Crowd → (k : ℕ) → Refused Found I W J X m (peels (suc k) I W m theta P w) 14 new
-        pair_crowd z k =
-            let f : Crowded (w - 1) L = subst (Looked J X new P P' (w - 1) L) z n in
+        pair_crowd : Crowded (w - 1) L → (k : ℕ) → Refused Found I W J X m (peels (suc k) I W m theta P w) 14 new
+        pair_crowd f k =
             let l = length_waits (made J X new) P (w - 1) in
             let h = f.full in
             record { grown = both.grown; makes = looked k ∙ onward_crowd _ _ L (made J X new) f.lefts f.rights f.asks (omega arith) }
 
-        pub pair_binds : length memo' ≡ length memo → (v u : ℕ) → x ≡ next.Binds v u → (k : ℕ) → BindsOne I W J X m memo' P' (peels (suc k) I W m theta P w) v u (w - 1) new
-        pair_binds g v u z k =
-            let f : BindsHere J X new P P' L v u = subst (Looked J X new P P' (w - 1) L) z n in
+        pair_binds : length memo' ≡ length memo → (y u : ℕ) → BindsHere J X new P P' L y u × (v ≡ w - 1) → (k : ℕ) → BindsOne I W J X m memo' P' (peels (suc k) I W m theta P w) y u v new
+        pair_binds g y u c k =
+            let f = c.0 in
             let l = pair_lookable in
-            subst (λ (o : List ℕ). BindsOne I W J X m memo' o (peels (suc k) I W m theta P w) v u (w - 1) new) (sym f.stays)
-            record {
+            subst (λ (o : List ℕ). BindsOne I W J X m memo' o (peels (suc k) I W m theta P w) y u v new) (sym f.stays)
+            (subst (λ (j : ℕ). BindsOne I W J X m memo' P (peels (suc k) I W m theta P w) y u j new) (sym c.1) record {
               grown = both.grown;
               makes = looked k ∙ onward_binds _ _ L (made J X new) _ _ f.binds.asks;
               results = results g;
@@ -179,12 +184,9 @@ module _ (I W : List ℕ) (m : Mark) (theta memo P seen : List ℕ) (w : ℕ) (q
               known = f.binds.there;
               few = l.few;
               there = l.there;
-            }
+            })
 
-        module _ (v : ℕ) (z : x ≡ next.More v) where
-          got : OntoPairs J X new P P' (w - 1) v L
-          got = subst (Looked J X new P P' (w - 1) L) z n
-
+        module _ (got : OntoPairs J X new P P' (w - 1) v L) where
           abbrev qs : List Pair
           qs = pairs_of J X new P' v
 
@@ -219,7 +221,7 @@ module _ (I W : List ℕ) (m : Mark) (theta memo P seen : List ℕ) (w : ℕ) (q
               let g = lighter Any θ q.0.settled (any_bindings θ) (size (sub (along θ) (tree I W m s)) + weight θ ps) (tree I W m s) o.0 ts us ps o.1 (omega arith) in
               omega arith
 
-          pub pair_more : length P' ≡ length P → length memo' ≡ length memo → Lighter I W J X m theta memo' P P' seen w v new
+          pair_more : length P' ≡ length P → length memo' ≡ length memo → Lighter I W J X m theta memo' P P' seen w v new
           pair_more f g =
               let a = q.0.memos in
               record {
@@ -240,3 +242,10 @@ module _ (I W : List ℕ) (m : Mark) (theta memo P seen : List ℕ) (w : ℕ) (q
                 less = falls got.onto;
                 makes = goes got.onto;
               }
+
+      -- from the answer of what comes next
+      pub pair_turned : (P' : List ℕ) (v : ℕ) (x : Result Step Row) → Looked J X new P P' (w - 1) v L x → length P' ≡ length P → length memo' ≡ length memo → Turned I W J X m new theta memo' P P' seen w v x
+      pair_turned P' v (Ok step.Done) n f g = pair_more P' v n f g
+      pair_turned P' v (Ok step.Clash) n f g = pair_clash P' v g n
+      pair_turned P' v (Ok (step.Binds y u)) n f g = pair_binds P' v g y u n
+      pair_turned P' v (Err row) n f g = λ k. subst (λ (r : Row). Refused Found I W J X m (peels (suc k) I W m theta P w) (row_number r) new) (sym n.1) (pair_crowd P' v n.0 k)

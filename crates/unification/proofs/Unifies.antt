@@ -1,8 +1,10 @@
 -- Unification: the loop over rounds, the two terms with which it begins, and the scratch set back to zero. Assumes nothing.
 use mathlib.Core.Path.{◌≡◌, refl, sym, ap, ◌∙◌, subst}
-use Rattle.std.specs.Prelude.{Option}
+use Rattle.std.specs.Prelude.{Bool, true, false, Option, Some as some, Result, Ok, Err}
+use Rattle.std.specs.Result.{result_unwrap_or}
+use Rattle.std.proofs.lemmas.Bool.{false≢true}
 use mathlib.Core.List.{List, [], ◌∷◌}
-use Prim.Native.Nat.{ℕ, suc, ◌-◌, ◌*◌, ◌<◌}
+use Prim.Native.Nat.{ℕ, suc, ◌*◌, ◌<◌}
 use native.Mathlib.Omega.{arith}
 use native.Mathlib.Decide.{ℕ_discrete}
 use lib.ListN.{length, get_or, set, replicate, length-set, length-replicate}
@@ -14,81 +16,65 @@ use Rattle.rules.specs.Unify.{Binding, solve, unify}
 use Rattle.meaning.specs.Unification.List.{Settled, Each}
 use Rattle.meaning.specs.Unification.Pairs.{WithinPairs}
 use Rattle.terms.specs.declared.store.Mark.{Mark}
-use Rattle.unification.specs.declared.unify.Round.{Round}
-use Rattle.unification.specs.declared.unify.Unified.{Unified}
-use Rattle.unification.specs.declared.unify.Unified.TheVariants.{Found, Apart, Full}
+use Rattle.questions.specs.Numbers.{row_number}
+use Rattle.questions.specs.declared.Row.{Row}
 use Rattle.terms.specs.Table.{made, Grown, Refused, tree}
 use Rattle.unification.specs.Pairs.{waits}
 use Rattle.terms.specs.Theta.{bindings, Zeros}
-use Rattle.unification.specs.Unify.{Solved, Unsolved, Unifiable}
+use Rattle.unification.specs.Unify.{Unsolved, Unifiable, UnifiedBy}
 use Rattle.unification.specs.Peel.{theta_of, pairs_of, Solvable, solves, BoundMore, Rounded, SolvedAs}
 use Rattle.terms.specs.Laws.Growth.{grown_refl, grown_trans}
 use Rattle.terms.specs.Laws.Zeros.{get_d_zeros}
 use Rattle.terms.specs.Laws.Theta.{bindings_none}
-use Rattle.unification.specs.declared.unify.Round.TheVariants as round
 
 -- The rounds ---------------------------------------------------------------------------------------------------------------------------
 
--- so many rounds more and one say what is left
+-- so many rounds more say what is left
 pub record Solving (I W : List ℕ) (old : Mark) (count : ℕ) (theta map memo P seen : List ℕ) (w : ℕ) (J X theta' map' memo' P' seen' : List ℕ) (m : Mark) (v rounds : ℕ) : Type 0 where
   pub grown : Grown I W J X old m
   pub solvable : Solvable J X m theta' map' memo' P' seen' v
-  pub left : solves (suc count) I W old theta P w ≡ solves (suc rounds) J X m theta' P' v
+  pub left : solves (suc count) I W old theta P w ≡ solves rounds J X m theta' P' v
   pub long_theta : length theta' ≡ length theta
   pub long_pairs : length P' ≡ length P
   pub same_map : map' ≡ map
   pub same_memo : memo' ≡ memo
   pub same_seen : seen' ≡ seen
 
-pub solving_begins : (I W : List ℕ) (old : Mark) (count : ℕ) (theta map memo P seen : List ℕ) (w : ℕ) → Solvable I W old theta map memo P seen w
-    → Solving I W old count theta map memo P seen w I W theta map memo P seen old w count
-solving_begins I W old count theta map memo P seen w q =
-    record { grown = grown_refl q.peelable.good; solvable = q; left = refl; long_theta = refl; long_pairs = refl; same_map = refl; same_memo = refl; same_seen = refl }
+pub solving_begins : (I W : List ℕ) (old : Mark) (count : ℕ) (theta map memo P seen : List ℕ) (w : ℕ) → Solvable I W old theta map memo P seen w → (rounds : ℕ) → suc count ≡ rounds
+    → Solving I W old count theta map memo P seen w I W theta map memo P seen old w rounds
+solving_begins I W old count theta map memo P seen w q rounds e =
+    record { grown = grown_refl q.peelable.good; solvable = q; left = ap (λ (k : ℕ). solves k I W old theta P w) e; long_theta = refl; long_pairs = refl; same_map = refl; same_memo = refl; same_seen = refl }
 
 module _ (I W : List ℕ) (old : Mark) (count : ℕ) (theta map memo P seen : List ℕ) (w : ℕ) (J X theta' map' memo' P' seen' : List ℕ) (m : Mark) (v rounds : ℕ)
-    (l : Solving I W old count theta map memo P seen w J X theta' map' memo' P' seen' m v rounds)
-    (G Y theta'' P'' : List ℕ) (r : Round) (d : Rounded J X G Y m theta' theta'' map' memo' P' P'' seen' v r) where
+    (l : Solving I W old count theta map memo P seen w J X theta' map' memo' P' seen' m v rounds) where
   abbrev K : Out Made (Option (List Binding))
   K = solves (suc count) I W old theta P w
 
-  pub solving_found : (new : Mark) → r ≡ round.Found new → Solved I W G Y old theta'' K new
-  solving_found new e =
-      let f : (n : ℕ) → Solved J X G Y m theta'' (solves (suc n) J X m theta' P' v) new = subst (Rounded J X G Y m theta' theta'' map' memo' P' P'' seen' v) e d in
-      record { grown = grown_trans l.grown (f 0).grown; makes = l.left ∙ (f rounds).makes; cells = (f 0).cells }
+  -- the rounds are over
+  pub solving_ends : rounds ≡ 0 → Unsolved I W J X old theta' K m
+  unfolding solve
+  solving_ends z = record { grown = l.grown; makes = l.left ∙ ap (λ (k : ℕ). solves k J X m theta' P' v) z }
 
-  pub solving_apart : (new : Mark) → r ≡ round.Apart new → Unsolved I W G Y old theta'' K new
-  solving_apart new e =
-      let f : (n : ℕ) → Unsolved J X G Y m theta'' (solves (suc n) J X m theta' P' v) new = subst (Rounded J X G Y m theta' theta'' map' memo' P' P'' seen' v) e d in
-      record { grown = grown_trans l.grown (f 0).grown; makes = l.left ∙ (f rounds).makes }
+  module _ (rest : ℕ) (one : rounds ≡ suc rest) (G Y theta'' P'' : List ℕ) (new : Mark) (n : ℕ) where
+    left : K ≡ solves (suc rest) J X m theta' P' v
+    left = l.left ∙ ap (λ (k : ℕ). solves k J X m theta' P' v) one
 
-  pub solving_full : (row : ℕ) (new : Mark) → r ≡ round.Full row new → Refused (Option (List Binding)) I W G Y old K row new
-  solving_full row new e =
-      let f : (n : ℕ) → Refused (Option (List Binding)) J X G Y m (solves (suc n) J X m theta' P' v) row new = subst (Rounded J X G Y m theta' theta'' map' memo' P' P'' seen' v) e d in
-      record { grown = grown_trans l.grown (f 0).grown; makes = l.left ∙ (f rounds).makes }
+    pub solving_known : (b : Bool) → Rounded J X G Y m new theta' theta'' map' memo' P' P'' seen' v n (Ok (some b)) → SolvedAs I W G Y old new theta'' K (Ok b)
+    solving_known true f = record { grown = grown_trans l.grown (f 0).grown; makes = left ∙ (f rest).makes; cells = (f 0).cells }
+    solving_known false f = record { grown = grown_trans l.grown (f 0).grown; makes = left ∙ (f rest).makes }
 
-  module _ (n : ℕ) (new : Mark) (e : r ≡ round.More n new) where
-    more : BoundMore J X G Y m theta' theta'' map' memo' P' P'' seen' v n new
-    more = subst (Rounded J X G Y m theta' theta'' map' memo' P' P'' seen' v) e d
+    pub solving_err : (row : Row) → Rounded J X G Y m new theta' theta'' map' memo' P' P'' seen' v n (Err row) → Refused (Option (List Binding)) I W G Y old K (row_number row) new
+    solving_err row f = record { grown = grown_trans l.grown (f 0).grown; makes = left ∙ (f rest).makes }
 
-    -- the rounds are over
-    pub solving_ends : rounds ≡ 0 → Unsolved I W G Y old theta'' K new
-    unfolding solve
-    solving_ends z =
-        record {
-          grown = grown_trans l.grown more.grown;
-          makes = l.left ∙ more.makes rounds ∙ ap (λ (k : ℕ). solves k G Y new theta'' P'' n) z;
-        }
-
-    pub solving_on : (rounds ≡ 0 → ⊥) → (map'' memo'' seen'' : List ℕ) → (map'' ≡ map') × (memo'' ≡ memo') × (seen'' ≡ seen') → length theta'' ≡ length theta' → length P'' ≡ length P'
-        → Solving I W old count theta map memo P seen w G Y theta'' map'' memo'' P'' seen'' new n (rounds - 1)
-    solving_on z map'' memo'' seen'' s a b =
-        let c : rounds ≡ suc (rounds - 1) = omega arith in
+    pub solving_on : BoundMore J X G Y m theta' theta'' map' memo' P' P'' seen' v n new → (map'' memo'' seen'' : List ℕ) → (map'' ≡ map') × (memo'' ≡ memo') × (seen'' ≡ seen') → length theta'' ≡ length theta' → length P'' ≡ length P'
+        → Solving I W old count theta map memo P seen w G Y theta'' map'' memo'' P'' seen'' new n rest
+    solving_on more map'' memo'' seen'' s a b =
         record {
           grown = grown_trans l.grown more.grown;
           solvable =
               subst (λ (x : List ℕ). Solvable G Y new theta'' x memo'' P'' seen'' n) (sym s.0)
               (subst (λ (x : List ℕ). Solvable G Y new theta'' map' x P'' seen'' n) (sym s.1) (subst (λ (x : List ℕ). Solvable G Y new theta'' map' memo' P'' x n) (sym s.2) more.solvable));
-          left = l.left ∙ more.makes rounds ∙ ap (λ (k : ℕ). solves k G Y new theta'' P'' n) c;
+          left = left ∙ more.makes rest;
           long_theta = a ∙ l.long_theta;
           long_pairs = b ∙ l.long_pairs;
           same_map = s.0 ∙ l.same_map;
@@ -162,24 +148,19 @@ module _ (I W : List ℕ) (m : Mark) (count s t : ℕ) (theta map memo P seen : 
       let k : length now ≡ length used = ap length e ∙ length-replicate {A = ℕ} (length used) 0 in
       (k ∙ l ∙ q.scratch.thetas, e ∙ ap (λ (n : ℕ). replicate n 0) (sym k))
 
-  module _ (J X theta' : List ℕ) (r : Unified) (d : SolvedAs I W J X m theta' (solves (suc count) I W m theta P₁ 1) r) where
+  module _ (J X theta' : List ℕ) (new : Mark) where
     abbrev U : Out Made (Option (List Binding))
     U = unify count (tree I W m s) (tree I W m t) (made I W m)
 
-    pub unify_found : (new : Mark) → r ≡ Found new → Solved I W J X m theta' U new
-    unify_found new e =
-        let f : Solved I W J X m theta' (solves (suc count) I W m theta P₁ 1) new = subst (SolvedAs I W J X m theta' _) e d in
-        record { grown = f.grown; makes = sym solves_is ∙ f.makes; cells = f.cells }
+    abbrev S : Result Bool Row → Type 0
+    S = SolvedAs I W J X m new theta' (solves (suc count) I W m theta P₁ 1)
 
-    module _ (theta'' : List ℕ) (l : length theta' ≡ length theta) (z : theta'' ≡ replicate (length theta') 0) where
-      pub unify_apart : (new : Mark) → r ≡ Apart new → Unsolved I W J X m theta'' U new × (length theta'' ≡ VARIABLES) × Zeros theta''
-      unify_apart new e =
-          let f : Unsolved I W J X m theta' (solves (suc count) I W m theta P₁ 1) new = subst (SolvedAs I W J X m theta' _) e d in
-          let b = theta_back theta' theta'' l z in
-          (record { grown = f.grown; makes = sym solves_is ∙ f.makes }, b.0, b.1)
+    pub unify_found : (r : Result Bool Row) → result_unwrap_or r false ≡ true → S r → UnifiedBy I W J X m new theta' U r
+    unify_found (Ok true) e f = record { says = record { grown = f.grown; makes = sym solves_is ∙ f.makes; cells = f.cells } }
+    unify_found (Ok false) e f = absurd (false≢true e)
+    unify_found (Err row) e f = absurd (false≢true e)
 
-      pub unify_full : (row : ℕ) (new : Mark) → r ≡ Full row new → Refused (Option (List Binding)) I W J X m U row new × (length theta'' ≡ VARIABLES) × Zeros theta''
-      unify_full row new e =
-          let f : Refused (Option (List Binding)) I W J X m (solves (suc count) I W m theta P₁ 1) row new = subst (SolvedAs I W J X m theta' _) e d in
-          let b = theta_back theta' theta'' l z in
-          (record { grown = f.grown; makes = sym solves_is ∙ f.makes }, b.0, b.1)
+    pub unify_none : (theta'' : List ℕ) → length theta' ≡ length theta → theta'' ≡ replicate (length theta') 0 → (r : Result Bool Row) → result_unwrap_or r false ≡ false → S r → UnifiedBy I W J X m new theta'' U r
+    unify_none theta'' l z (Ok true) e f = absurd (false≢true (sym e))
+    unify_none theta'' l z (Ok false) e f = let b = theta_back theta' theta'' l z in record { says = (record { grown = f.grown; makes = sym solves_is ∙ f.makes }, b.0, b.1) }
+    unify_none theta'' l z (Err row) e f = let b = theta_back theta' theta'' l z in record { says = (record { grown = f.grown; makes = sym solves_is ∙ f.makes }, b.0, b.1) }

@@ -14,8 +14,9 @@ use Rattle.rules.specs.Laws.Out.{then_then}
 use Rattle.rules.specs.Laws.Store.{then_ok, then_refuse, number_is}
 use Rattle.rules.specs.Unify.{Binding}
 use Rattle.terms.specs.declared.store.Mark.{Mark}
-use Rattle.terms.specs.declared.store.Kept.{Kept}
-use Rattle.terms.specs.declared.store.Kept.TheVariants.{Term, Full}
+use Rattle.std.specs.Prelude.{Result, Ok, Err}
+use Rattle.questions.specs.Numbers.{row_number}
+use Rattle.questions.specs.declared.Row.{Row}
 use Rattle.terms.specs.Table.{made, Grown, Refused}
 use Rattle.terms.specs.Subst.{replacement, Knows, substituted, asked, Replacing, Done, Substituted}
 use Rattle.terms.specs.Theta.{bindings}
@@ -220,16 +221,16 @@ module _ (I W : List ℕ) (old : Mark) (theta map memo : List ℕ) (J X theta' m
             }
 
       -- from the call's answer and the arm that took it apart
-      pub value_term : (K Y memo'' : List ℕ) (r : Kept) → Substituted J X K Y m map memo' memo'' id r → length memo'' ≡ length memo' → (n : ℕ) (new : Mark) → r ≡ Term n new
+      pub value_ok : (K Y memo'' : List ℕ) (new : Mark) (r : Result ℕ Row) → Substituted J X K Y m new map memo' memo'' id r → length memo'' ≡ length memo' → (n : ℕ) → r ≡ Ok n
           → Changing I W old theta map memo K Y (set theta' v (n + 1)) memo'' new (v + 1)
-      value_term K Y memo'' r d q n new p = changing_on K Y memo'' n new q (subst (Substituted J X K Y m map memo' memo'' id) p d)
+      value_ok K Y memo'' new r d q n p = changing_on K Y memo'' n new q (subst (Substituted J X K Y m new map memo' memo'' id) p d)
 
-      pub value_full : (K Y memo'' : List ℕ) (r : Kept) → Substituted J X K Y m map memo' memo'' id r → (row : ℕ) (new : Mark) → r ≡ Full row new → Refused (List Binding) I W K Y old K₀ row new
-      value_full K Y memo'' r d row new p =
-          let f : Refused Tree J X K Y m (asked J X m map id) row new = subst (Substituted J X K Y m map memo' memo'' id) p d in
+      pub value_err : (K Y memo'' : List ℕ) (new : Mark) (r : Result ℕ Row) → Substituted J X K Y m new map memo' memo'' id r → (row : Row) → r ≡ Err row → Refused (List Binding) I W K Y old K₀ (row_number row) new
+      value_err K Y memo'' new r d row p =
+          let f : Refused Tree J X K Y m (asked J X m map id) (row_number row) new = subst (Substituted J X K Y m new map memo' memo'' id) p d in
           record {
             grown = grown_trans l.grown f.grown;
-            makes = left_split ∙ values_stop σ (binding (made I W old) v (get_or theta v 0)) (bindings (made I W old) (drop (suc v) theta) (suc v)) (made J X m) (λ ζ k. ok (bindings (made J X m) (take v theta') 0 ++ ζ) k) 60 row (made K Y new)
+            makes = left_split ∙ values_stop σ (binding (made I W old) v (get_or theta v 0)) (bindings (made I W old) (drop (suc v) theta) (suc v)) (made J X m) (λ ζ k. ok (bindings (made J X m) (take v theta') 0 ++ ζ) k) 60 (row_number row) (made K Y new)
                 (ap (λ (u : Tree). make u (made J X m)) (sym call_tree) ∙ f.makes);
           }
 

@@ -1,13 +1,13 @@
 -- A substitution that grows by one binding: what the contracts of `extend` and of its loop cite. Assumes nothing.
-use Rattle.std.specs.Prelude.{◌≡◌, ℕ, ◌≤◌, ◌<◌, List, [], ◌∷◌, length, get_or}
+use Rattle.std.specs.Prelude.{◌≡◌, ℕ, ◌≤◌, ◌<◌, List, [], ◌∷◌, length, get_or, Result, Ok, Err}
 use Rattle.rules.specs.Limits.{VARIABLES, TERMS}
 use Rattle.rules.specs.Out.{Out, ok, Act, ◌>>=◌, pure}
 use Rattle.rules.specs.Tree.{Tree}
 use Rattle.rules.specs.Store.{Made, substitute}
 use Rattle.rules.specs.Unify.{Binding, insert}
 use Rattle.terms.specs.declared.store.Mark.{Mark}
-use Rattle.unification.specs.declared.theta.Grew.{Grew}
-use Rattle.unification.specs.declared.theta.Grew.TheVariants.{Ok, Full}
+use Rattle.questions.specs.Numbers.{row_number}
+use Rattle.questions.specs.declared.Row.{Row}
 use Rattle.terms.specs.Table.{made, Good, Grown, Refused, tree}
 use Rattle.terms.specs.Theta.{bindings, Theta, Zeros}
 
@@ -37,9 +37,9 @@ pub record Changed (I W J X : List ℕ) (old : Mark) (theta theta' : List ℕ) (
   pub unbound : (v : ℕ) → get_or theta v 0 ≡ 0 → get_or theta' v 0 ≡ 0
 
 -- theta, theta': the cells before and afterwards
-abbrev pub ChangedAs : List ℕ → List ℕ → List ℕ → List ℕ → Mark → List ℕ → List ℕ → Out Made (List Binding) → Grew → Type 0
-ChangedAs I W J X old theta theta' K (Ok new) = Changed I W J X old theta theta' K new
-ChangedAs I W J X old theta theta' K (Full r new) = Refused (List Binding) I W J X old K r new
+abbrev pub ChangedAs : List ℕ → List ℕ → List ℕ → List ℕ → Mark → Mark → List ℕ → List ℕ → Out Made (List Binding) → Result (Unit {0}) Row → Type 0
+ChangedAs I W J X old new theta theta' K (Ok u) = Changed I W J X old theta theta' K new
+ChangedAs I W J X old new theta theta' K (Err row) = Refused (List Binding) I W J X old K (row_number row) new
 
 -- One binding more -------------------------------------------------------------------------------------------------------------------
 
@@ -64,6 +64,6 @@ pub record Bound (I W J X : List ℕ) (old : Mark) (theta : List ℕ) (x u : ℕ
   pub is : bindings (made J X new) theta 0 ≡ insert (record { variable = x; value = tree I W old u }) values
 
 -- theta: the cells afterwards
-abbrev pub Extended : List ℕ → List ℕ → List ℕ → List ℕ → Mark → List ℕ → ℕ → ℕ → Out Made (List Binding) → Grew → Type 0
-Extended I W J X old theta x u K (Ok new) = Bound I W J X old theta x u K new
-Extended I W J X old theta x u K (Full r new) = Refused (List Binding) I W J X old K r new × (length theta ≡ VARIABLES)
+abbrev pub Extended : List ℕ → List ℕ → List ℕ → List ℕ → Mark → Mark → List ℕ → ℕ → ℕ → Out Made (List Binding) → Result (Unit {0}) Row → Type 0
+Extended I W J X old new theta x u K (Ok done) = Bound I W J X old theta x u K new
+Extended I W J X old new theta x u K (Err row) = Refused (List Binding) I W J X old K (row_number row) new × (length theta ≡ VARIABLES)

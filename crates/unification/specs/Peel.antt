@@ -1,6 +1,6 @@
 -- Unification in the tables, pair by pair: what the contracts of the functions cite that take pairs until one binds a variable, and that
 -- bind one variable after the other. Assumes nothing.
-use Rattle.std.specs.Prelude.{◌≡◌, ℕ, suc, ◌+◌, ◌*◌, ◌≤◌, ◌<◌, List, length, get_or, Option}
+use Rattle.std.specs.Prelude.{◌≡◌, ℕ, suc, ◌+◌, ◌*◌, ◌≤◌, ◌<◌, Bool, true, false, List, length, get_or, Option, Some as some, None as nothing, Result, Ok, Err}
 use Rattle.rules.specs.Limits.{VARIABLES, TERMS, PAIRS}
 use Rattle.rules.specs.Out.{Out, ok, refuse, then}
 use Rattle.rules.specs.Tree.{Tree, Trees, count_trees}
@@ -8,18 +8,11 @@ use Rattle.rules.specs.Store.{Made, substitute}
 use Rattle.rules.specs.Unify.{Binding, Pair, Look, agree, clash, parts, push, Found, finished, clashed, bound, peel, weight, solve}
 use Rattle.meaning.specs.Unification.List.{Settled}
 use Rattle.terms.specs.declared.store.Mark.{Mark}
-use Rattle.unification.specs.declared.peel.Sides.{Sides}
-use Rattle.unification.specs.declared.peel.Sides.TheVariants as sides
-use Rattle.unification.specs.declared.peel.Next.{Next}
-use Rattle.unification.specs.declared.peel.Next.TheVariants as next
-use Rattle.unification.specs.declared.peel.Turn.{Turn}
-use Rattle.unification.specs.declared.peel.Turn.TheVariants as turn
-use Rattle.unification.specs.declared.peel.Peeled.{Peeled}
-use Rattle.unification.specs.declared.peel.Peeled.TheVariants as peeled
-use Rattle.unification.specs.declared.unify.Round.{Round}
-use Rattle.unification.specs.declared.unify.Round.TheVariants as round
-use Rattle.unification.specs.declared.unify.Unified.{Unified}
-use Rattle.unification.specs.declared.unify.Unified.TheVariants as unified
+use Rattle.questions.specs.Numbers.{row_number}
+use Rattle.questions.specs.declared.Row.{Row}
+use Rattle.questions.specs.declared.Row.TheVariants as rows
+use Rattle.unification.specs.declared.peel.Step.{Step}
+use Rattle.unification.specs.declared.peel.Step.TheVariants.{Done, Clash, Binds}
 use Rattle.terms.specs.Table.{made, Good, Grown, Refused, tree}
 use Rattle.terms.specs.Subst.{replacement, Knows, substituted, Replacing}
 use Rattle.unification.specs.Pairs.{waits, Comparable, BindsTo}
@@ -60,9 +53,9 @@ pub record NoSides (I W J X : List ℕ) (old : Mark) (theta : List ℕ) (s t : �
   pub grown : Grown I W J X old new
   pub makes : (f : Tree → Tree → Made → Out Made Found) → sided I W old theta s t f ≡ refuse 60 r (made J X new)
 
-abbrev pub Sided : List ℕ → List ℕ → List ℕ → List ℕ → Mark → List ℕ → List ℕ → ℕ → ℕ → Sides → Type 0
-Sided I W J X old theta memo' s t (sides.Both a b new) = BothSides I W J X old theta memo' s t a b new
-Sided I W J X old theta memo' s t (sides.Full r new) = NoSides I W J X old theta s t r new
+abbrev pub Sided : List ℕ → List ℕ → List ℕ → List ℕ → Mark → Mark → List ℕ → List ℕ → ℕ → ℕ → Result (ℕ × ℕ) Row → Type 0
+Sided I W J X old new theta memo' s t (Ok p) = BothSides I W J X old theta memo' s t p.0 p.1 new
+Sided I W J X old new theta memo' s t (Err row) = NoSides I W J X old theta s t (row_number row) new
 
 -- What two terms ask for is done -----------------------------------------------------------------------------------------------------
 
@@ -94,11 +87,11 @@ pub record BindsHere (I W : List ℕ) (m : Mark) (P P' : List ℕ) (L : Look) (x
   pub binds : BindsTo I W m L x u
   pub stays : P' ≡ P
 
-abbrev pub Looked : List ℕ → List ℕ → Mark → List ℕ → List ℕ → ℕ → Look → Next → Type 0
-Looked I W m P P' w L (next.More v) = OntoPairs I W m P P' w v L
-Looked I W m P P' w L next.Clash = L ≡ clash
-Looked I W m P P' w L (next.Binds x u) = BindsHere I W m P P' L x u
-Looked I W m P P' w L next.Crowd = Crowded w L
+abbrev pub Looked : List ℕ → List ℕ → Mark → List ℕ → List ℕ → ℕ → ℕ → Look → Result Step Row → Type 0
+Looked I W m P P' w v L (Ok Done) = OntoPairs I W m P P' w v L
+Looked I W m P P' w v L (Ok Clash) = L ≡ clash
+Looked I W m P P' w v L (Ok (Binds x u)) = BindsHere I W m P P' L x u × (v ≡ w)
+Looked I W m P P' w v L (Err row) = Crowded w L × (row ≡ rows.Pairs)
 
 -- One pair is taken ------------------------------------------------------------------------------------------------------------------
 
@@ -150,11 +143,11 @@ pub record BindsOne (I W J X : List ℕ) (old : Mark) (memo' P' : List ℕ) (K :
   pub few : v ≤ PAIRS
   pub there : (k : ℕ) → k < 2 * v → get_or P' k 0 < new.terms
 
-abbrev pub Turned : List ℕ → List ℕ → List ℕ → List ℕ → Mark → List ℕ → List ℕ → List ℕ → List ℕ → List ℕ → ℕ → Turn → Type 0
-Turned I W J X old theta memo' P P' seen w (turn.More v new) = Lighter I W J X old theta memo' P P' seen w v new
-Turned I W J X old theta memo' P P' seen w (turn.Clash new) = (k : ℕ) → Clashes I W J X old memo' (peels (suc k) I W old theta P w) new
-Turned I W J X old theta memo' P P' seen w (turn.Binds x u v new) = (k : ℕ) → BindsOne I W J X old memo' P' (peels (suc k) I W old theta P w) x u v new
-Turned I W J X old theta memo' P P' seen w (turn.Full r new) = (k : ℕ) → Refused Found I W J X old (peels (suc k) I W old theta P w) r new
+abbrev pub Turned : List ℕ → List ℕ → List ℕ → List ℕ → Mark → Mark → List ℕ → List ℕ → List ℕ → List ℕ → List ℕ → ℕ → ℕ → Result Step Row → Type 0
+Turned I W J X old new theta memo' P P' seen w v (Ok Done) = Lighter I W J X old theta memo' P P' seen w v new
+Turned I W J X old new theta memo' P P' seen w v (Ok Clash) = (k : ℕ) → Clashes I W J X old memo' (peels (suc k) I W old theta P w) new
+Turned I W J X old new theta memo' P P' seen w v (Ok (Binds x u)) = (k : ℕ) → BindsOne I W J X old memo' P' (peels (suc k) I W old theta P w) x u v new
+Turned I W J X old new theta memo' P P' seen w v (Err row) = (k : ℕ) → Refused Found I W J X old (peels (suc k) I W old theta P w) (row_number row) new
 
 -- Pairs are taken --------------------------------------------------------------------------------------------------------------------
 
@@ -163,11 +156,11 @@ pub record Finishes (I W J X : List ℕ) (old : Mark) (memo' : List ℕ) (K : Ou
   pub makes : K ≡ ok finished (made J X new)
   pub results : Results memo' new
 
-abbrev pub PeeledAs : List ℕ → List ℕ → List ℕ → List ℕ → Mark → List ℕ → List ℕ → Out Made Found → Peeled → Type 0
-PeeledAs I W J X old memo' P' K (peeled.Finished new) = Finishes I W J X old memo' K new
-PeeledAs I W J X old memo' P' K (peeled.Clash new) = Clashes I W J X old memo' K new
-PeeledAs I W J X old memo' P' K (peeled.Binds x u v new) = BindsOne I W J X old memo' P' K x u v new
-PeeledAs I W J X old memo' P' K (peeled.Full r new) = Refused Found I W J X old K r new
+abbrev pub PeeledAs : List ℕ → List ℕ → List ℕ → List ℕ → Mark → Mark → List ℕ → List ℕ → ℕ → Out Made Found → Result Step Row → Type 0
+PeeledAs I W J X old new memo' P' v K (Ok Done) = Finishes I W J X old memo' K new
+PeeledAs I W J X old new memo' P' v K (Ok Clash) = Clashes I W J X old memo' K new
+PeeledAs I W J X old new memo' P' v K (Ok (Binds x u)) = BindsOne I W J X old memo' P' K x u v new
+PeeledAs I W J X old new memo' P' v K (Err row) = Refused Found I W J X old K (row_number row) new
 
 -- One variable after the other -------------------------------------------------------------------------------------------------------
 
@@ -188,14 +181,14 @@ pub record BoundMore (I W J X : List ℕ) (old : Mark) (theta theta' map memo P 
   pub solvable : Solvable J X new theta' map memo P' seen v
   pub makes : (n : ℕ) → solves (suc n) I W old theta P w ≡ solves n J X new theta' P' v
 
-abbrev pub Rounded : List ℕ → List ℕ → List ℕ → List ℕ → Mark → List ℕ → List ℕ → List ℕ → List ℕ → List ℕ → List ℕ → List ℕ → ℕ → Round → Type 0
-Rounded I W J X old theta theta' map memo P P' seen w (round.More v new) = BoundMore I W J X old theta theta' map memo P P' seen w v new
-Rounded I W J X old theta theta' map memo P P' seen w (round.Found new) = (n : ℕ) → Solved I W J X old theta' (solves (suc n) I W old theta P w) new
-Rounded I W J X old theta theta' map memo P P' seen w (round.Apart new) = (n : ℕ) → Unsolved I W J X old theta' (solves (suc n) I W old theta P w) new
-Rounded I W J X old theta theta' map memo P P' seen w (round.Full r new) = (n : ℕ) → Refused (Option (List Binding)) I W J X old (solves (suc n) I W old theta P w) r new
+abbrev pub Rounded : List ℕ → List ℕ → List ℕ → List ℕ → Mark → Mark → List ℕ → List ℕ → List ℕ → List ℕ → List ℕ → List ℕ → List ℕ → ℕ → ℕ → Result (Option Bool) Row → Type 0
+Rounded I W J X old new theta theta' map memo P P' seen w v (Ok nothing) = BoundMore I W J X old theta theta' map memo P P' seen w v new
+Rounded I W J X old new theta theta' map memo P P' seen w v (Ok (some true)) = (n : ℕ) → Solved I W J X old theta' (solves (suc n) I W old theta P w) new
+Rounded I W J X old new theta theta' map memo P P' seen w v (Ok (some false)) = (n : ℕ) → Unsolved I W J X old theta' (solves (suc n) I W old theta P w) new
+Rounded I W J X old new theta theta' map memo P P' seen w v (Err row) = (n : ℕ) → Refused (Option (List Binding)) I W J X old (solves (suc n) I W old theta P w) (row_number row) new
 
 -- theta: the cells afterwards
-abbrev pub SolvedAs : List ℕ → List ℕ → List ℕ → List ℕ → Mark → List ℕ → Out Made (Option (List Binding)) → Unified → Type 0
-SolvedAs I W J X old theta K (unified.Found new) = Solved I W J X old theta K new
-SolvedAs I W J X old theta K (unified.Apart new) = Unsolved I W J X old theta K new
-SolvedAs I W J X old theta K (unified.Full r new) = Refused (Option (List Binding)) I W J X old K r new
+abbrev pub SolvedAs : List ℕ → List ℕ → List ℕ → List ℕ → Mark → Mark → List ℕ → Out Made (Option (List Binding)) → Result Bool Row → Type 0
+SolvedAs I W J X old new theta K (Ok true) = Solved I W J X old theta K new
+SolvedAs I W J X old new theta K (Ok false) = Unsolved I W J X old theta K new
+SolvedAs I W J X old new theta K (Err row) = Refused (Option (List Binding)) I W J X old K (row_number row) new

@@ -1,13 +1,13 @@
 -- What the contract of `unify` cites. Assumes nothing.
-use Rattle.std.specs.Prelude.{◌≡◌, ℕ, ◌*◌, ◌≤◌, ◌<◌, true, List, length, Option, Some as some, None as nothing}
+use Rattle.std.specs.Prelude.{◌≡◌, ℕ, ◌*◌, ◌≤◌, ◌<◌, Bool, true, false, List, length, Option, Some as some, None as nothing, Result, Ok, Err}
 use Rattle.rules.specs.Limits.{VARIABLES, TERMS, PAIRS}
 use Rattle.rules.specs.Out.{Out, ok}
 use Rattle.rules.specs.Tree.{variables}
 use Rattle.rules.specs.Store.{Made}
 use Rattle.rules.specs.Unify.{Binding}
 use Rattle.terms.specs.declared.store.Mark.{Mark}
-use Rattle.unification.specs.declared.unify.Unified.{Unified}
-use Rattle.unification.specs.declared.unify.Unified.TheVariants.{Found, Apart, Full}
+use Rattle.questions.specs.Numbers.{row_number}
+use Rattle.questions.specs.declared.Row.{Row}
 use Rattle.terms.specs.Table.{made, Good, Grown, Refused, tree}
 use Rattle.terms.specs.Theta.{bindings, Theta, Zeros}
 
@@ -46,10 +46,10 @@ pub record Unsolved (I W J X : List ℕ) (old : Mark) (theta : List ℕ) (K : Ou
   pub makes : K ≡ ok nothing (made J X new)
 
 -- theta: the cells afterwards, zero unless bindings were found
-abbrev pub UnifiedAs : List ℕ → List ℕ → List ℕ → List ℕ → Mark → List ℕ → Out Made (Option (List Binding)) → Unified → Type 0
-UnifiedAs I W J X old theta K (Found new) = Solved I W J X old theta K new
-UnifiedAs I W J X old theta K (Apart new) = Unsolved I W J X old theta K new × (length theta ≡ VARIABLES) × Zeros theta
-UnifiedAs I W J X old theta K (Full r new) = Refused (Option (List Binding)) I W J X old K r new × (length theta ≡ VARIABLES) × Zeros theta
+abbrev pub UnifiedAs : List ℕ → List ℕ → List ℕ → List ℕ → Mark → Mark → List ℕ → Out Made (Option (List Binding)) → Result Bool Row → Type 0
+UnifiedAs I W J X old new theta K (Ok true) = Solved I W J X old theta K new
+UnifiedAs I W J X old new theta K (Ok false) = Unsolved I W J X old theta K new × (length theta ≡ VARIABLES) × Zeros theta
+UnifiedAs I W J X old new theta K (Err row) = Refused (Option (List Binding)) I W J X old K (row_number row) new × (length theta ≡ VARIABLES) × Zeros theta
 
-pub record UnifiedBy (I W J X : List ℕ) (old : Mark) (theta : List ℕ) (K : Out Made (Option (List Binding))) (r : Unified) : Type 0 where
-  pub says : UnifiedAs I W J X old theta K r
+pub record UnifiedBy (I W J X : List ℕ) (old new : Mark) (theta : List ℕ) (K : Out Made (Option (List Binding))) (r : Result Bool Row) : Type 0 where
+  pub says : UnifiedAs I W J X old new theta K r

@@ -4,86 +4,97 @@ ghost use Rattle.std.specs.Prelude.{◌≡◌, ℕ, ◌+◌, ◌*◌, ◌≤◌,
 ghost use Rattle.rules.specs.Limits.{VARIABLES};
 ghost use Rattle.rules.specs.Unify.{bind_or_clash, look};
 ghost use Rattle.terms.specs.Table.{tree};
-ghost use Rattle.unification.specs.Pairs.{Searchable, Comparable, Answered, piled};
+ghost use Rattle.unification.specs.Pairs.{Searchable, Comparable, Answered, SameCells, piled};
 
 use rules::SYMBOLS;
-use terms::store::{Mark, start_of};
+use terms::store::Terms;
 use terms::variables::occurs;
 
-// What two terms ask for: nothing, as they are one; no unifier exists; a variable bound to a term; or the arguments pair by pair, where
-// the left ones stand, where the right ones stand, and how many there are.
-#[derive(Clone, Copy)]
+// What two terms ask for: nothing, as they are one; no unifier exists; a variable bound to a term; or their arguments, pair by pair.
+#[derive(Clone, Copy, Debug, PartialEq, Eq)]
 pub enum Asks {
     Nothing,
     Clash,
-    Binds(usize, usize),
-    Parts(usize, usize, usize),
+    Binds {
+        variable: usize,
+        term: usize,
+    },
+    Parts {
+        left: usize,
+        right: usize,
+        count: usize,
+    },
+}
+
+// The pairs that wait, the last one first.
+#[derive(Drop)]
+pub struct Pairs<'a> {
+    pub cells: &'a mut [u32],
+    pub waiting: usize,
 }
 
 // The variable `x` is bound to the term `id`, unless it occurs there. `seen` is scratch: zero before and after.
-fn bind(index: &[u32], words: &[u32], mark: Mark, x: usize, id: usize, seen: &mut [u64]) -> Asks
-    requires { Searchable index.now words.now mark seen.old id × (x < VARIABLES) }
-    ensures answered { Answered index.now words.now mark (bind_or_clash x (tree index.now words.now mark id)) result }
+fn bind(terms: &Terms<'_>, x: usize, id: usize, seen: &mut [u64]) -> Asks
+    requires { let t = terms.now in Searchable t.index.now t.words.now t.mark seen.old id × (x < VARIABLES) }
+    ensures answered { let t = terms.now in Answered t.index.now t.words.now t.mark (bind_or_clash x (tree t.index.now t.words.now t.mark id)) result }
     ensures seen_unchanged { seen.new ≡ seen.old }
 {
-    if !occurs(index, words, mark, id, x, seen) {
-        return Asks::Binds(x, id);
+    if !occurs(terms, id, x, seen) {
+        return Asks::Binds {
+            variable: x,
+            term: id,
+        };
     }
     Asks::Clash
 }
 
 // What the terms `s` and `t` ask for. `seen` is scratch: zero before and after.
-pub fn compare(
-    index: &[u32],
-    words: &[u32],
-    mark: Mark,
-    s: usize,
-    t: usize,
-    seen: &mut [u64],
-) -> Asks
-    requires { Comparable index.now words.now mark seen.old s t }
-    ensures answered { Answered index.now words.now mark (look (tree index.now words.now mark s) (tree index.now words.now mark t)) result }
+pub fn compare(terms: &Terms<'_>, s: usize, t: usize, seen: &mut [u64]) -> Asks
+    requires { let m = terms.now in Comparable m.index.now m.words.now m.mark seen.old s t }
+    ensures answered { let m = terms.now in Answered m.index.now m.words.now m.mark (look (tree m.index.now m.words.now m.mark s) (tree m.index.now m.words.now m.mark t)) result }
     ensures seen_unchanged { seen.new ≡ seen.old }
 {
     if s == t {
         return Asks::Nothing;
     }
-    let left = start_of(index, s);
-    let head = words[left] as usize;
+    let left = terms.start_of(s);
+    let head = terms.words[left] as usize;
     if SYMBOLS <= head {
-        return bind(index, words, mark, head - SYMBOLS, t, seen);
+        return bind(terms, head - SYMBOLS, t, seen);
     }
-    let right = start_of(index, t);
-    let other = words[right] as usize;
+    let right = terms.start_of(t);
+    let other = terms.words[right] as usize;
     if SYMBOLS <= other {
-        return bind(index, words, mark, other - SYMBOLS, s, seen);
+        return bind(terms, other - SYMBOLS, s, seen);
     }
     if head != other {
         return Asks::Clash;
     }
-    let count = index[s] as usize - left;
-    if index[t] as usize - right != count {
+    let count = terms.index[s] as usize - left;
+    if terms.index[t] as usize - right != count {
         return Asks::Clash;
     }
-    Asks::Parts(left + 1, right + 1, count - 1)
+    Asks::Parts {
+        left: left + 1,
+        right: right + 1,
+        count: count - 1,
+    }
 }
 
-// Pairs of `count` words from `left` on and from `right` on come onto those that wait.
-pub fn push(
-    words: &[u32],
-    left: usize,
-    right: usize,
-    count: usize,
-    pairs: &mut [u32],
-    waiting: usize,
-)
-    requires { (left + count ≤ length words.now) × (right + count ≤ length words.now) × (2 * (waiting + count) ≤ length pairs.old) }
-    ensures { pairs.new ≡ piled words.now left right pairs.old waiting count }
-{
-    let mut k = 0;
-    while k < count {
-        pairs[2 * (waiting + k)] = words[left + k];
-        pairs[2 * (waiting + k) + 1] = words[right + k];
-        k += 1;
+impl Pairs<'_> {
+    // Pairs of `count` words from `left` on and from `right` on come onto those that wait.
+    pub fn push(&mut self, words: &[u32], left: usize, right: usize, count: usize)
+        requires { (left + count ≤ length words.now) × (right + count ≤ length words.now) × (2 * (self.old.waiting + count) ≤ length self.old.cells.now) }
+        ensures same_cells { SameCells self.old self.new }
+        ensures cells { self.new.cells.now ≡ piled words.now left right self.old.cells.now self.old.waiting count }
+        ensures waiting { self.new.waiting ≡ self.old.waiting + count }
+    {
+        let from = self.waiting;
+        for k in 0..count {
+            let at = 2 * (from + k);
+            self.cells[at] = words[left + k];
+            self.cells[at + 1] = words[right + k];
+        }
+        self.waiting = from + count;
     }
 }

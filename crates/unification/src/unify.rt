@@ -1,131 +1,91 @@
 // Unification over the store: a most general replacement that makes two terms equal, one variable bound after the other.
 ghost use Rattle.std.specs.Prelude.{◌≡◌, ℕ, suc, length, replicate};
 ghost use Rattle.rules.specs.Unify.{unify};
-ghost use Rattle.terms.specs.Table.{made, tree};
+ghost use Rattle.terms.specs.Table.{tree};
+ghost use Rattle.terms.specs.Lent.{SameTables, made_of};
 ghost use Rattle.unification.specs.Unify.{Unifiable, UnifiedBy};
+ghost use Rattle.unification.specs.Pairs.{SameCells};
 ghost use Rattle.unification.specs.Peel.{Results, Solvable, Rounded, solves, SolvedAs};
 
-use crate::peel::{Peeled, peel};
-use crate::theta::{Grew, extend};
+use crate::pairs::Pairs;
+use crate::peel::{Step, peel};
+use crate::theta::extend;
 use cells::clear;
-use terms::store::Mark;
-
-// Bindings are found; no unifier exists; or the row of question 60 that has no room. What is used of the store then.
-#[derive(Clone, Copy)]
-pub enum Unified {
-    Found(Mark),
-    Apart(Mark),
-    Full(usize, Mark),
-}
-
-// One variable more is bound, and so many pairs wait; or as above.
-#[derive(Clone, Copy)]
-pub enum Round {
-    More(usize, Mark),
-    Found(Mark),
-    Apart(Mark),
-    Full(usize, Mark),
-}
+use questions::Row;
+use terms::store::{Mark, Store};
 
 // A memo of results becomes zero: only terms that are there have one.
 fn clear_memo(memo: &mut [u32], mark: Mark)
     requires { Results memo.old mark }
     ensures { memo.new ≡ replicate (length memo.old) 0 }
 {
-    let terms = mark.terms;
-    clear(&mut memo[..terms]);
+    clear(&mut memo[..mark.terms]);
 }
 
-// Pairs are taken until one binds a variable, and that comes into the bindings. `map`, `memo` and `seen` are scratch: zero before and after.
+// Pairs are taken until one binds a variable, and that comes into the bindings: whether a unifier exists, once that is known. `map`, `memo`
+// and `seen` are scratch: zero before and after.
 fn bind_next(
-    index: &mut [u32],
-    words: &mut [u32],
-    mark: Mark,
+    store: &mut Store<'_>,
     theta: &mut [u32],
     map: &mut [u32],
     memo: &mut [u32],
-    pairs: &mut [u32],
+    pairs: &mut Pairs<'_>,
     seen: &mut [u64],
-    waiting: usize,
-) -> Round
-    requires { Solvable index.old words.old mark theta.old map.old memo.old pairs.old seen.old waiting }
-    ensures rounded { Rounded index.old words.old index.new words.new mark theta.old theta.new map.old memo.old pairs.old pairs.new seen.old waiting result }
+) -> Result<Option<bool>, Row>
+    requires { let s = store.old in Solvable s.index.now s.words.now s.mark theta.old map.old memo.old pairs.old.cells.now seen.old pairs.old.waiting }
+    ensures same_tables { SameTables store.old store.new }
+    ensures same_cells { SameCells pairs.old pairs.new }
+    ensures rounded { let s = store.old in let t = store.new in Rounded s.index.now s.words.now t.index.now t.words.now s.mark t.mark theta.old theta.new map.old memo.old pairs.old.cells.now pairs.new.cells.now seen.old pairs.old.waiting pairs.new.waiting result }
     ensures map_unchanged { (map.new ≡ map.old) × (memo.new ≡ memo.old) × (seen.new ≡ seen.old) }
 {
-    match peel(index, words, mark, theta, memo, pairs, seen, waiting) {
-        Peeled::Finished(last) => {
-            clear_memo(memo, last);
-            Round::Found(last)
-        }
-        Peeled::Clash(last) => {
-            clear_memo(memo, last);
-            Round::Apart(last)
-        }
-        Peeled::Full(row, last) => {
+    let step = match peel(store, theta, memo, pairs, seen) {
+        Ok(step) => step,
+        Err(row) => {
             clear(memo);
-            Round::Full(row, last)
+            return Err(row);
         }
-        Peeled::Binds(x, u, left, next) => {
-            clear_memo(memo, next);
-            match extend(index, words, next, theta, map, memo, x, u) {
-                Grew::Ok(new) => Round::More(left, new),
-                Grew::Full(row, last) => Round::Full(row, last),
-            }
+    };
+    clear_memo(memo, store.mark);
+    match step {
+        Step::Done => Ok(Some(true)),
+        Step::Clash => Ok(Some(false)),
+        Step::Binds { variable, term } => {
+            extend(store, theta, map, memo, variable, term)?;
+            Ok(None)
         }
     }
 }
 
-// The pairs that wait, one variable bound after the other, at most `count` and one more. `map`, `memo` and `seen` are scratch: zero
-// before and after.
+// The pairs that wait, one variable bound after the other, at most `count` and one more: whether a unifier exists. `map`, `memo` and `seen`
+// are scratch: zero before and after.
 fn solve(
-    index: &mut [u32],
-    words: &mut [u32],
-    mark: Mark,
+    store: &mut Store<'_>,
     count: usize,
     theta: &mut [u32],
     map: &mut [u32],
     memo: &mut [u32],
-    pairs: &mut [u32],
+    pairs: &mut Pairs<'_>,
     seen: &mut [u64],
-    waiting: usize,
-) -> Unified
-    requires { Solvable index.old words.old mark theta.old map.old memo.old pairs.old seen.old waiting }
-    ensures solved_as { SolvedAs index.old words.old index.new words.new mark theta.new
-        (solves (suc count) index.old words.old mark theta.old pairs.old waiting) result }
+) -> Result<bool, Row>
+    requires { let s = store.old in Solvable s.index.now s.words.now s.mark theta.old map.old memo.old pairs.old.cells.now seen.old pairs.old.waiting }
+    ensures same_tables { SameTables store.old store.new }
+    ensures same_cells { SameCells pairs.old pairs.new }
+    ensures solved_as { let s = store.old in let t = store.new in SolvedAs s.index.now s.words.now t.index.now t.words.now s.mark t.mark theta.new
+        (solves (suc count) s.index.now s.words.now s.mark theta.old pairs.old.cells.now pairs.old.waiting) result }
     ensures map_unchanged { (map.new ≡ map.old) × (memo.new ≡ memo.old) × (seen.new ≡ seen.old) }
 {
-    let mut m = mark;
-    let mut w = waiting;
-    let mut rounds = count;
-    loop {
-        match bind_next(index, words, m, theta, map, memo, pairs, seen, w) {
-            Round::Found(last) => {
-                return Unified::Found(last);
-            }
-            Round::Apart(last) => {
-                return Unified::Apart(last);
-            }
-            Round::Full(row, last) => {
-                return Unified::Full(row, last);
-            }
-            Round::More(more, next) => {
-                m = next;
-                w = more;
-            }
+    for _round in 0..=count {
+        if let Some(exists) = bind_next(store, theta, map, memo, pairs, seen)? {
+            return Ok(exists);
         }
-        if rounds == 0 {
-            return Unified::Apart(m);
-        }
-        rounds -= 1;
     }
+    Ok(false)
 }
 
-// Two terms whose variables are below `count`, so that `Apart` says that no unifier exists. The bindings found are in `theta`; it is zero before, and where none are found. `map`,
-// `memo`, `pairs` and `seen` are scratch: zero before and after.
+// Whether two terms have a unifier, where their variables are below `count`. The bindings found are in `theta`; it is zero before, and where
+// none are found. `map`, `memo`, `pairs` and `seen` are scratch: zero before and after.
 pub fn unify(
-    index: &mut [u32],
-    words: &mut [u32],
-    mark: Mark,
+    store: &mut Store<'_>,
     count: usize,
     s: usize,
     t: usize,
@@ -134,25 +94,24 @@ pub fn unify(
     memo: &mut [u32],
     pairs: &mut [u32],
     seen: &mut [u64],
-) -> Unified
-    requires { Unifiable index.old words.old mark count s t theta.old map.old memo.old pairs.old seen.old }
-    ensures unified_by { UnifiedBy index.old words.old index.new words.new mark theta.new
-        (unify count (tree index.old words.old mark s) (tree index.old words.old mark t) (made index.old words.old mark)) result }
+) -> Result<bool, Row>
+    requires { let m = store.old in Unifiable m.index.now m.words.now m.mark count s t theta.old map.old memo.old pairs.old seen.old }
+    ensures same_tables { SameTables store.old store.new }
+    ensures unified_by { let m = store.old in let n = store.new in UnifiedBy m.index.now m.words.now n.index.now n.words.now m.mark n.mark theta.new
+        (unify count (tree m.index.now m.words.now m.mark s) (tree m.index.now m.words.now m.mark t) (made_of m)) result }
     ensures map_unchanged { (map.new ≡ map.old) × (memo.new ≡ memo.old) × (pairs.new ≡ pairs.old) × (seen.new ≡ seen.old) }
 {
     pairs[0] = s as u32;
     pairs[1] = t as u32;
-    let r = solve(index, words, mark, count, theta, map, memo, pairs, seen, 1);
+    let mut waiting = Pairs {
+        cells: pairs,
+        waiting: 1,
+    };
+    let result = solve(store, count, theta, map, memo, &mut waiting, seen);
     clear(pairs);
-    match r {
-        Unified::Found(last) => Unified::Found(last),
-        Unified::Apart(last) => {
-            clear(theta);
-            Unified::Apart(last)
-        }
-        Unified::Full(row, last) => {
-            clear(theta);
-            Unified::Full(row, last)
-        }
+    if result.unwrap_or(false) {
+        return result;
     }
+    clear(theta);
+    result
 }

@@ -1,13 +1,14 @@
 use Prim.Native.Nat.{◌-◌}
 use lib.ListN.{length}
+use Rattle.terms.specs.Lent.{SameTables}
 use Rattle.terms.proofs.BuildTerms.{Building}
 use Rattle.terms.proofs.patterns.+build.Given as goal
 
 abbrev pub invariant-loop-k : goal.invariant-loop-k
-invariant-loop-k l = Building l.symbols l.patterns l.initial.index l.initial.words l.initial.m l.bound l.at l.head l.count l.index l.words l.node l.m l.place l.k
-
-abbrev pub decreases-loop-k : goal.decreases-loop-k
-decreases-loop-k l = l.count - l.k
+invariant-loop-k l = record {
+  same : SameTables l.initial.store l.store;
+  building : Building l.symbols l.patterns l.initial.store.index.now l.initial.store.words.now l.initial.store.mark l.bound l.at l.head l.count l.store.index.now l.store.words.now l.node l.store.mark l.place l.k;
+}
 
 abbrev pub decreases-build : goal.decreases-build
 decreases-build l = length l.patterns.now - l.at

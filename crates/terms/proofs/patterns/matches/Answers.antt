@@ -1,15 +1,11 @@
-use Prim.Native.Nat.{ℕ}
-use native.Mathlib.Omega.{arith}
-use lib.ListN.{length-replicate}
-use Rattle.rules.specs.Limits.{RULEVARS}
-use Rattle.terms.proofs.MatchLists.{rewritten, match_stays, match_hits}
+use Rattle.std.proofs.Common.{◌∙◌, ap, not}
+use Rattle.terms.proofs.MatchLists.{match_stays, match_hits}
 use Rattle.terms.proofs.patterns.matches.Goals as goal
 
-pub returns-then-place-eq0 : goal.returns-then-place-eq0
-returns-then-place-eq0 c = match_stays _ _ _ _ c.args.mark _ _ _ _ _ c.match_term-place.ensures c.if-place-eq0.true _
-    (rewritten _ _ c.write.new.to c.match_term-place.new.bound _
-    (omega (arith, c.requires.cells.long, length-replicate {A = ℕ} RULEVARS 0)) c.match_term-place.auto.bound c.write.ensures
-    c.write-then-place-eq0.ensures)
+pub returns-then-is_none : goal.returns-then-is_none
+returns-then-is_none c =
+    match_stays _ _ _ _ c.args.terms.now.mark _ _ _ _ c.match_term-place.ensures (c.is_none.ensures ∙ ap not c.if-is_none.true) _
+    (c.copy_from_slice-then-is_none.ensures.after ∙ c.copy_from_slice.ensures.after)
 
-pub returns : goal.returns
-returns c = match_hits _ _ _ _ c.args.mark _ _ _ _ _ c.match_term-place.ensures c.if-place-eq0.false
+pub returns-else-is_none : goal.returns-else-is_none
+returns-else-is_none c = match_hits _ _ _ _ c.args.terms.now.mark _ _ _ _ c.match_term-place.ensures (c.is_none.ensures ∙ ap not c.if-is_none.false)

@@ -1,116 +1,71 @@
-use native.Mathlib.Omega.{arith}
-use Rattle.terms.specs.Laws.Terms.{flag_in, end_in, start_in}
+use Rattle.std.proofs.Common.{sym, ◌∙◌, refl, arith}
+use Rattle.std.proofs.lemmas.Result.{err_from_is_err_and}
+use Rattle.terms.specs.Laws.Terms.{start_in}
 use Rattle.terms.proofs.Substs.{sub_known, sub_none, sub_var}
-use Rattle.terms.proofs.SubstLoop.{looping_begins, arg_in, arg_falls, arg_ready, arm_term, arm_full, rebuildable, rebuilt_shaped, end_full, end_term}
+use Rattle.terms.proofs.SubstLoop.{looping_begins, arg_in, arg_falls, arg_ready, arm_ok, arm_err, rebuildable, rebuilt_shaped, end_err, end_ok}
 use Rattle.terms.proofs.replace.+replace.Goals as goal
 
-pub returns-then-known-ne0 : goal.returns-then-known-ne0
-returns-then-known-ne0 t c = sub_known _ _ _ _ _ _ c.requires c.if-known-ne0.true
+pub returns-then-known-ne0-clause-substituted : goal.returns-then-known-ne0-clause-substituted
+returns-then-known-ne0-clause-substituted t c = sub_known _ _ _ _ _ _ c.requires c.if-known-ne0.true
 
-pub overflow_add-id : goal.overflow_add-id
-overflow_add-id t c = omega (arith, flag_in _ _ _ c.requires.good _ c.requires.there, c.requires.good.index)
+pub returns-then-not-is_open-clause-substituted : goal.returns-then-not-is_open-clause-substituted
+returns-then-not-is_open-clause-substituted t c =
+    let closed = rw c.terms-terms.ensures at c.is_open.ensures in
+    sub_none _ _ _ _ _ _ c.requires (sym (closed _ _ c.requires.good c.requires.there) ∙ c.if-not-is_open.true)
 
-pub offset_bounds-index-id : goal.offset_bounds-index-id
-offset_bounds-index-id t c = omega (arith, flag_in _ _ _ c.requires.good _ c.requires.there, c.requires.good.index)
-
-pub bounds-index-id : goal.bounds-index-id
-bounds-index-id t c = flag_in _ _ _ c.requires.good _ c.requires.there
-
-pub overflow_add-memo : goal.overflow_add-memo
-overflow_add-memo t c = omega (arith, c.requires.there, c.requires.good.room)
-
-pub overflow_cast-memo : goal.overflow_cast-memo
-overflow_cast-memo t c = omega (arith, c.requires.there, c.requires.good.room)
-
-pub returns-then-index-id-eq0 : goal.returns-then-index-id-eq0
-returns-then-index-id-eq0 t c = sub_none _ _ _ _ _ _ c.requires c.if-index-id-eq0.true
-
-pub start_of-start-requires : goal.start_of-start-requires
-start_of-start-requires t c = omega (arith, end_in _ _ _ c.requires.good _ c.requires.there)
-
-pub offset_bounds-index-id-2 : goal.offset_bounds-index-id-2
-offset_bounds-index-id-2 t c = omega (arith, end_in _ _ _ c.requires.good _ c.requires.there, c.requires.good.index)
-
-pub bounds-index-id-2 : goal.bounds-index-id-2
-bounds-index-id-2 t c = end_in _ _ _ c.requires.good _ c.requires.there
-
-pub offset_bounds-words-start : goal.offset_bounds-words-start
-offset_bounds-words-start t c = omega (arith, start_in _ _ _ c.requires.good _ c.requires.there _ c.start_of-start.ensures, c.requires.good.words)
-
-pub bounds-words-start : goal.bounds-words-start
-bounds-words-start t c = start_in _ _ _ c.requires.good _ c.requires.there _ c.start_of-start.ensures
+pub bounds-terms-start : goal.bounds-terms-start
+bounds-terms-start t c =
+    rw c.terms-terms.ensures (start_in _ _ _ c.requires.good _ c.requires.there _ (rw c.terms-terms.ensures at c.start_of-start.ensures))
 
 pub overflow_add-memo-then-head-ge-SYMBOLS : goal.overflow_add-memo-then-head-ge-SYMBOLS
-overflow_add-memo-then-head-ge-SYMBOLS t c = omega (
-  arith,
-  (sub_var _ _ _ _ _ _ c.requires _ _ c.start_of-start.ensures c.if-head-ge-SYMBOLS.true c.image_of-value.ensures).stored.there,
-  c.requires.good.room,
-)
+overflow_add-memo-then-head-ge-SYMBOLS t c =
+    let d = sub_var _ _ _ _ _ _ c.requires _ _ (rw c.terms-terms.ensures at c.start_of-start.ensures) (rw c.terms-terms.ensures at c.if-head-ge-SYMBOLS.true) (rw c.terms-terms.ensures at c.image_of-value.ensures) in
+    omega (arith, d.stored.there, c.requires.good.room)
 
 pub overflow_cast-memo-then-head-ge-SYMBOLS : goal.overflow_cast-memo-then-head-ge-SYMBOLS
-overflow_cast-memo-then-head-ge-SYMBOLS t c = omega (
-  arith,
-  (sub_var _ _ _ _ _ _ c.requires _ _ c.start_of-start.ensures c.if-head-ge-SYMBOLS.true c.image_of-value.ensures).stored.there,
-  c.requires.good.room,
-)
+overflow_cast-memo-then-head-ge-SYMBOLS t c =
+    let d = sub_var _ _ _ _ _ _ c.requires _ _ (rw c.terms-terms.ensures at c.start_of-start.ensures) (rw c.terms-terms.ensures at c.if-head-ge-SYMBOLS.true) (rw c.terms-terms.ensures at c.image_of-value.ensures) in
+    omega (arith, d.stored.there, c.requires.good.room)
 
-pub returns-then-head-ge-SYMBOLS : goal.returns-then-head-ge-SYMBOLS
-returns-then-head-ge-SYMBOLS t c = sub_var _ _ _ _ _ _ c.requires _ _ c.start_of-start.ensures c.if-head-ge-SYMBOLS.true c.image_of-value.ensures
-
-pub overflow_add-at : goal.overflow_add-at
-overflow_add-at t c = omega (arith, start_in _ _ _ c.requires.good _ c.requires.there _ c.start_of-start.ensures, c.requires.good.words)
+pub returns-then-head-ge-SYMBOLS-clause-substituted : goal.returns-then-head-ge-SYMBOLS-clause-substituted
+returns-then-head-ge-SYMBOLS-clause-substituted t c = sub_var _ _ _ _ _ _ c.requires _ _ (rw c.terms-terms.ensures at c.start_of-start.ensures) (rw c.terms-terms.ensures at c.if-head-ge-SYMBOLS.true) (rw c.terms-terms.ensures at c.image_of-value.ensures)
 
 pub loop-at-init : goal.loop-at-init
-loop-at-init t c = looping_begins _ _ _ _ _ _ _ c.requires c.start_of-start.ensures c.if-head-ge-SYMBOLS.false
+loop-at-init t c = record {
+  tables = (refl, refl);
+  looping = rw c.terms-terms.ensures (looping_begins _ _ _ _ _ _ _ c.requires (rw c.terms-terms.ensures at c.start_of-start.ensures) (rw c.terms-terms.ensures at c.if-head-ge-SYMBOLS.false));
+}
 
-pub offset_bounds-words-at : goal.offset_bounds-words-at
-offset_bounds-words-at t c = omega (arith, arg_in _ _ _ _ _ _ _ _ _ _ _ _ _ c.loop-at.invariant c.loop-at-test.true, c.loop-at.invariant.grown.good.words)
-
-pub bounds-words-at : goal.bounds-words-at
-bounds-words-at t c = arg_in _ _ _ _ _ _ _ _ _ _ _ _ _ c.loop-at.invariant c.loop-at-test.true
+pub bounds-store-at : goal.bounds-store-at
+bounds-store-at t c = arg_in _ _ _ _ _ _ _ _ _ _ _ _ _ c.loop-at.invariant.looping c.loop-at-test.true
 
 pub replace-requires : goal.replace-requires
 replace-requires t c = (
-  omega (arith, arg_falls _ _ _ _ _ _ _ _ _ _ _ _ _ c.loop-at.invariant c.loop-at-test.true),
-  arg_ready _ _ _ _ _ _ _ _ _ _ _ _ _
-      c.loop-at.invariant c.loop-at-test.true,
+  omega (arith, arg_falls _ _ _ _ _ _ _ _ _ _ _ _ _ c.loop-at.invariant.looping c.loop-at-test.true),
+  arg_ready _ _ _ _ _ _ _ _ _ _ _ _ _ c.loop-at.invariant.looping c.loop-at-test.true,
 )
 
-pub returns-in-Full : goal.returns-in-Full
-returns-in-Full t c = arm_full _ _ _ _ _ _ _ _ _ _ _ _ _ c.loop-at.invariant c.loop-at-test.true _ _ c.replace.new.memo c.replace.result
-    c.replace.ensures _ _ c.in-Full.is
-
-pub overflow_add-at-in-loop-at : goal.overflow_add-at-in-loop-at
-overflow_add-at-in-loop-at t c = omega (arith, arg_in _ _ _ _ _ _ _ _ _ _ _ _ _ c.loop-at.invariant c.loop-at-test.true, c.loop-at.invariant.grown.good.words)
+pub returns-in_err-replace-clause-substituted : goal.returns-in_err-replace-clause-substituted
+returns-in_err-replace-clause-substituted t c =
+    let p = err_from_is_err_and c.from_residual.result c.from_residual.ensures.1 in
+    rw (p.1, p.2) (arm_err _ _ _ _ _ _ _ _ _ _ _ _ _ c.loop-at.invariant.looping c.loop-at-test.true _ _ _ _ c.replace.result c.replace.ensures.substituted _ c.in_err-replace.was)
 
 pub loop-at-preserved : goal.loop-at-preserved
-loop-at-preserved t c = arm_term _ _ _ _ _ _ _ _ _ _ _ _ _ c.loop-at.invariant c.loop-at-test.true _ _ _ c.replace.result c.replace.ensures
-    c.replace.auto.memo _ _ c.in-Term.is
-
-pub rebuild-requires : goal.rebuild-requires
-rebuild-requires t c = record {
-  good = c.loop-at.invariant.grown.good;
-  rebuildable = rebuildable _ _ _ _ _ _ _ _ _ _ _ _ _ c.loop-at.invariant c.loop-at-test.false;
-  shaped = rebuilt_shaped _ _ _ _ _ _ _ _ _ _ _ _ _ c.loop-at.invariant
-      c.loop-at-test.false;
+loop-at-preserved t c = record {
+  tables = (c.replace.ensures.same_tables.0 ∙ c.loop-at.invariant.tables.0, c.replace.ensures.same_tables.1 ∙ c.loop-at.invariant.tables.1);
+  looping = arm_ok _ _ _ _ _ _ _ _ _ _ _ _ _ c.loop-at.invariant.looping c.loop-at-test.true _ _ _ _ c.replace.result c.replace.ensures.substituted c.replace.auto.memo _ c.in_ok-replace.was;
 }
 
-pub overflow_add-memo-in-Term-rebuild : goal.overflow_add-memo-in-Term-rebuild
-overflow_add-memo-in-Term-rebuild t c = let d = end_term _ _ _ _ _ _ _ _ _ _ _ _ _ c.loop-at.invariant c.loop-at-test.false _ _ c.rebuild.result c.rebuild.ensures _ _ c.in-Term-rebuild.is in
-    omega (arith, d.stored.there, d.stored.grown.good.room)
+pub rebuild-requires-clause-rebuildable : goal.rebuild-requires-clause-rebuildable
+rebuild-requires-clause-rebuildable t c = rebuildable _ _ _ _ _ _ _ _ _ _ _ _ _ c.loop-at.invariant.looping c.loop-at-test.false
 
-pub overflow_cast-memo-in-Term-rebuild : goal.overflow_cast-memo-in-Term-rebuild
-overflow_cast-memo-in-Term-rebuild t c = let d = end_term _ _ _ _ _ _ _ _ _ _ _ _ _ c.loop-at.invariant c.loop-at-test.false _ _ c.rebuild.result c.rebuild.ensures _ _ c.in-Term-rebuild.is in
-    omega (arith, d.stored.there, d.stored.grown.good.room)
+pub rebuild-requires-clause-shaped : goal.rebuild-requires-clause-shaped
+rebuild-requires-clause-shaped t c = rebuilt_shaped _ _ _ _ _ _ _ _ _ _ _ _ _ c.loop-at.invariant.looping c.loop-at-test.false
 
-pub offset_bounds-memo-id-in-Term-rebuild : goal.offset_bounds-memo-id-in-Term-rebuild
-offset_bounds-memo-id-in-Term-rebuild t c = omega (arith, c.requires.there, c.requires.good.room)
+pub returns-in_err-kept-clause-substituted : goal.returns-in_err-kept-clause-substituted
+returns-in_err-kept-clause-substituted t c =
+    let p = err_from_is_err_and c.from_residual-in_err-kept.result c.from_residual-in_err-kept.ensures.1 in
+    rw (p.1, p.2) (end_err _ _ _ _ _ _ _ _ _ _ _ _ _ c.loop-at.invariant.looping c.loop-at-test.false _ _ _ _ c.rebuild.ensures.kept _ c.in_err-kept.was)
 
-pub bounds-memo-id-in-Term-rebuild : goal.bounds-memo-id-in-Term-rebuild
-bounds-memo-id-in-Term-rebuild t c = omega (arith, c.loop-at.invariant.ready.inside, c.loop-at.invariant.long)
-
-pub returns-in-Term-rebuild : goal.returns-in-Term-rebuild
-returns-in-Term-rebuild t c = end_term _ _ _ _ _ _ _ _ _ _ _ _ _ c.loop-at.invariant c.loop-at-test.false _ _ c.rebuild.result c.rebuild.ensures _ _ c.in-Term-rebuild.is
-
-pub returns-in-Full-rebuild : goal.returns-in-Full-rebuild
-returns-in-Full-rebuild t c = end_full _ _ _ _ _ _ _ _ _ _ _ _ _ c.loop-at.invariant c.loop-at-test.false _ _ c.rebuild.result c.rebuild.ensures _ _ c.in-Full-rebuild.is
+pub returns-clause-substituted : goal.returns-clause-substituted
+returns-clause-substituted t c = end_ok _ _ _ _ _ _ _ _ _ _ _ _ _ c.loop-at.invariant.looping c.loop-at-test.false _ _ _ _ c.rebuild.ensures.kept _ c.in_ok-kept.was

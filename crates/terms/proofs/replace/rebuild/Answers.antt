@@ -1,11 +1,12 @@
-use Rattle.terms.proofs.Gathers.{gathered_node, gathered_long, rebuild_done}
+use Rattle.terms.proofs.Gathers.{gathered_node, rebuild_done}
 use Rattle.terms.proofs.replace.rebuild.Goals as goal
 
-pub slice_bounds-keep-end : goal.slice_bounds-keep-end
-slice_bounds-keep-end c = gathered_long _ _ _ _ c.requires.rebuildable _ _ c.gather.ensures
+pub keep-requires-clause-node : goal.keep-requires-clause-node
+keep-requires-clause-node c =
+    let g = rw c.terms.ensures at c.gather.ensures in
+    gathered_node _ _ _ _ c.requires.rebuildable _ _ g _ c.requires.shaped
 
-pub keep-requires : goal.keep-requires
-keep-requires c = record { good = c.requires.good; node = gathered_node _ _ _ _ c.requires.rebuildable _ _ c.gather.ensures _ c.requires.shaped }
-
-pub returns : goal.returns
-returns c = rebuild_done _ _ _ _ c.requires.rebuildable _ _ c.gather.ensures _ _ c.keep.new.index c.keep.new.words _ c.keep.result c.keep.ensures
+pub returns-clause-kept : goal.returns-clause-kept
+returns-clause-kept c =
+    let g = rw c.terms.ensures at c.gather.ensures in
+    rebuild_done _ _ _ _ c.requires.rebuildable _ _ g _ _ _ _ _ _ _ c.keep.ensures.kept

@@ -1,81 +1,43 @@
-use mathlib.Core.Path.{sym, ◌∙◌}
-use native.Mathlib.Omega.{arith}
-use Rattle.terms.specs.Laws.Terms.{flag_in, end_in, start_in}
-use Rattle.terms.proofs.Visits.{closed_done, seen_done, var_fits, var_done, looping_begins, arg_in, arg_falls, arg_ready, looping_on, looping_ends}
+use Rattle.std.proofs.Common.{refl, sym, ◌∙◌, add-zero, add_assoc, arith}
+use Rattle.terms.proofs.Arguments.{word_head, word_count, word_arg}
+use Rattle.terms.proofs.Visits.{closed_done, seen_done, var_done, looping_begins, arg_falls, arg_ready, looping_on, looping_ends}
+use Rattle.terms.proofs.variables.+visit.Goals.{then-not-is_open-via-then-not-is_open, then-not-is_open-via-else-not-is_open+then-has}
 use Rattle.terms.proofs.variables.+visit.Goals as goal
 
-pub overflow_add-id : goal.overflow_add-id
-overflow_add-id t c = omega (arith, flag_in _ _ _ c.requires.readable.good _ c.requires.readable.there, c.requires.readable.good.index)
-
-pub offset_bounds-index-id : goal.offset_bounds-index-id
-offset_bounds-index-id t c = omega (arith, flag_in _ _ _ c.requires.readable.good _ c.requires.readable.there, c.requires.readable.good.index)
-
-pub bounds-index-id : goal.bounds-index-id
-bounds-index-id t c = flag_in _ _ _ c.requires.readable.good _ c.requires.readable.there
-
-pub returns-then-index-id-eq0 : goal.returns-then-index-id-eq0
-returns-then-index-id-eq0 t c = closed_done _ _ _ _ _ _ c.requires.readable.good c.requires.readable.there c.requires.seen c.if-index-id-eq0.true
-
-pub has-requires : goal.has-requires
-has-requires t c = omega (arith, c.requires.readable.there, c.requires.readable.good.room, c.requires.readable.wide)
-
-pub returns-then-has : goal.returns-then-has
-returns-then-has t c = seen_done _ _ _ _ _ _ c.requires.seen (sym c.if-has.true ∙ c.has.ensures)
-
-pub start_of-start-requires : goal.start_of-start-requires
-start_of-start-requires t c = omega (arith, end_in _ _ _ c.requires.readable.good _ c.requires.readable.there)
-
-pub offset_bounds-index-id-2 : goal.offset_bounds-index-id-2
-offset_bounds-index-id-2 t c = omega (arith, end_in _ _ _ c.requires.readable.good _ c.requires.readable.there, c.requires.readable.good.index)
-
-pub bounds-index-id-2 : goal.bounds-index-id-2
-bounds-index-id-2 t c = end_in _ _ _ c.requires.readable.good _ c.requires.readable.there
-
-pub offset_bounds-words-start : goal.offset_bounds-words-start
-offset_bounds-words-start t c = omega (arith, start_in _ _ _ c.requires.readable.good _ c.requires.readable.there _ c.start_of-start.ensures, c.requires.readable.good.words)
-
-pub bounds-words-start : goal.bounds-words-start
-bounds-words-start t c = start_in _ _ _ c.requires.readable.good _ c.requires.readable.there _ c.start_of-start.ensures
-
-pub insert-requires : goal.insert-requires
-insert-requires t c = var_fits _ _ _ _ _ _ c.requires.readable _ c.start_of-start.ensures c.if-head-ge-SYMBOLS.true
+pub returns-then-not-is_open : goal.returns-then-not-is_open
+returns-then-not-is_open t c = elim c.then-not-is_open.branch [
+  | then-not-is_open-via-then-not-is_open w ↦ closed_done _ _ _ _ _ _ c.requires.seen (sym (c.is_open.ensures _ _ c.requires.readable.good c.requires.readable.there) ∙ w.if-not-is_open.true)
+  | then-not-is_open-via-else-not-is_open+then-has w ↦ seen_done _ _ _ _ _ _ c.requires.seen (sym w.if-has.true ∙ w.has.ensures)
+]
 
 pub returns-then-head-ge-SYMBOLS : goal.returns-then-head-ge-SYMBOLS
-returns-then-head-ge-SYMBOLS t c = var_done _ _ _ _ c.requires.readable.good c.requires.readable.there _ c.start_of-start.ensures _ _ _ c.requires.seen c.if-head-ge-SYMBOLS.true c.insert.ensures
+returns-then-head-ge-SYMBOLS t c =
+    let w = word_head _ _ _ _ c.requires.readable.good c.requires.readable.there _ c.node-node.ensures in
+    var_done _ _ _ _ c.requires.readable.good c.requires.readable.there _ refl _ _ _ c.requires.seen (rw w at c.if-head-ge-SYMBOLS.true) (rw w at c.insert.ensures)
 
-pub overflow_add-at : goal.overflow_add-at
-overflow_add-at t c = omega (arith, start_in _ _ _ c.requires.readable.good _ c.requires.readable.there _ c.start_of-start.ensures, c.requires.readable.good.words)
-
-pub loop-at-init : goal.loop-at-init
-loop-at-init t c = looping_begins _ _ _ _ _ _ _ c.requires.readable c.requires.seen c.if-index-id-eq0.false c.start_of-start.ensures c.if-head-ge-SYMBOLS.false
-
-pub offset_bounds-words-at : goal.offset_bounds-words-at
-offset_bounds-words-at t c = omega (arith, arg_in _ _ _ _ _ _ _ _ _ _ _ c.loop-at.invariant c.loop-at-test.true, c.requires.readable.good.words)
-
-pub bounds-words-at : goal.bounds-words-at
-bounds-words-at t c = arg_in _ _ _ _ _ _ _ _ _ _ _ c.loop-at.invariant c.loop-at-test.true
+pub loop-arg-init : goal.loop-arg-init
+loop-arg-init t c =
+    let w = word_head _ _ _ _ c.requires.readable.good c.requires.readable.there _ c.node-node.ensures in
+    rw add-zero
+    (looping_begins _ _ _ _ _ _ _ c.requires.readable c.requires.seen (sym (c.is_open.ensures _ _ c.requires.readable.good c.requires.readable.there) ∙ c.if-not-is_open.false) refl (rw w at c.if-head-ge-SYMBOLS.false))
 
 pub visit-requires : goal.visit-requires
-visit-requires t c = (
-  omega (arith, arg_falls _ _ _ _ _ _ _ _ _ _ _ c.loop-at.invariant c.loop-at-test.true),
-  (arg_ready _ _ _ _ _ _ _ _ _ _ _ c.loop-at.invariant c.loop-at-test.true, c.loop-at.invariant.visits),
-)
+visit-requires t c =
+    let a = word_arg _ _ _ _ c.requires.readable.good c.requires.readable.there _ c.node-node.ensures _ c.loop-arg-test.true in
+    let n = word_count _ _ _ _ c.requires.readable.good c.requires.readable.there _ c.node-node.ensures in
+    rw a (
+      omega (arith, arg_falls _ _ _ _ _ _ _ _ _ _ _ c.loop-arg.invariant (omega arith)),
+      (arg_ready _ _ _ _ _ _ _ _ _ _ _ c.loop-arg.invariant (omega arith), c.loop-arg.invariant.visits),
+    )
 
-pub overflow_add-at-in-loop-at : goal.overflow_add-at-in-loop-at
-overflow_add-at-in-loop-at t c = omega (arith, arg_in _ _ _ _ _ _ _ _ _ _ _ c.loop-at.invariant c.loop-at-test.true, c.requires.readable.good.words)
-
-pub loop-at-preserved : goal.loop-at-preserved
-loop-at-preserved t c = looping_on _ _ _ _ _ _ _ _ _ _ _ c.loop-at.invariant c.loop-at-test.true _ _ c.visit.auto.set c.visit.auto.seen
-    c.visit.ensures
-
-pub insert-requires-2 : goal.insert-requires-2
-insert-requires-2 t c = omega (arith, c.loop-at.invariant.ready.there, c.loop-at.invariant.ready.good.room, c.loop-at.invariant.ready.wide, c.loop-at.invariant.long_seen)
-
-pub shape_of-seen : goal.shape_of-seen
-shape_of-seen t c = c.insert-2.auto.set ∙ c.loop-at.invariant.long_seen
-
-pub shape_of-set : goal.shape_of-set
-shape_of-set t c = c.loop-at.invariant.long_set
+pub loop-arg-preserved : goal.loop-arg-preserved
+loop-arg-preserved t c =
+    let a = word_arg _ _ _ _ c.requires.readable.good c.requires.readable.there _ c.node-node.ensures _ c.loop-arg-test.true in
+    let n = word_count _ _ _ _ c.requires.readable.good c.requires.readable.there _ c.node-node.ensures in
+    rw (← add_assoc)
+    (looping_on _ _ _ _ _ _ _ _ _ _ _ c.loop-arg.invariant (omega arith) _ _ c.visit.auto.set c.visit.auto.seen (rw a at c.visit.ensures))
 
 pub returns : goal.returns
-returns t c = looping_ends _ _ _ _ _ _ _ _ _ _ _ c.loop-at.invariant c.loop-at-test.false _ c.insert-2.ensures
+returns t c =
+    let n = word_count _ _ _ _ c.requires.readable.good c.requires.readable.there _ c.node-node.ensures in
+    looping_ends _ _ _ _ _ _ _ _ _ _ _ c.loop-arg.invariant (omega arith) _ c.insert-2.ensures

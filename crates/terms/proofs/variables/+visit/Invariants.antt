@@ -1,12 +1,12 @@
-use Prim.Native.Nat.{◌-◌}
-use Rattle.terms.proofs.Visits.{Looping}
 use Rattle.terms.proofs.variables.+visit.Given as goal
+use Rattle.std.proofs.Common.{◌+◌, get_or}
+use Rattle.terms.specs.Table.{start}
+use Rattle.terms.proofs.Visits.{Looping}
 
-abbrev pub invariant-loop-at : goal.invariant-loop-at
-invariant-loop-at l = Looping l.index l.words l.mark l.id l.start l.end l.initial.set l.initial.seen l.set l.seen l.at
-
-abbrev pub decreases-loop-at : goal.decreases-loop-at
-decreases-loop-at l = l.end - l.at
+abbrev pub invariant-loop-arg : goal.invariant-loop-arg
+invariant-loop-arg l =
+    let t = l.terms in
+    Looping t.index.now t.words.now t.mark l.id (start t.index.now l.id) (get_or t.index.now l.id 0) l.initial.set l.initial.seen l.set l.seen (start t.index.now l.id + 1 + l.arg-index)
 
 abbrev pub decreases-visit : goal.decreases-visit
 decreases-visit l = l.id

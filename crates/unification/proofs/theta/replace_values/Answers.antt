@@ -1,22 +1,27 @@
-use Rattle.unification.proofs.Values.{changing_begins, changing_skip, value_ready, value_term, value_full, changing_ends}
+use Rattle.std.proofs.Common.{refl, ◌∙◌, arith}
+use Rattle.std.proofs.lemmas.Result.{err_from_is_err_and}
+use Rattle.unification.proofs.Values.{changing_begins, changing_skip, value_ready, value_ok, value_err, changing_ends}
 use Rattle.unification.proofs.theta.replace_values.Goals as goal
 
 pub loop-v-init : goal.loop-v-init
-loop-v-init c = changing_begins _ _ _ _ _ _ c.requires
+loop-v-init c = record { tables = (refl, refl); changing = changing_begins _ _ _ _ _ _ c.requires }
 
 pub loop-v-preserved-then-bound-eq0 : goal.loop-v-preserved-then-bound-eq0
-loop-v-preserved-then-bound-eq0 c = changing_skip _ _ _ _ _ _ _ _ _ _ _ _ c.loop-v.invariant c.loop-v-test.true c.if-bound-eq0.true
+loop-v-preserved-then-bound-eq0 c = record { tables = c.loop-v.invariant.tables; changing = changing_skip _ _ _ _ _ _ _ _ _ _ _ _ c.loop-v.invariant.changing (omega arith) c.if-bound-eq0.true }
 
 pub replace-requires : goal.replace-requires
-replace-requires c = value_ready _ _ _ _ _ _ _ _ _ _ _ _ c.loop-v.invariant c.loop-v-test.true c.if-bound-eq0.false
+replace-requires c = value_ready _ _ _ _ _ _ _ _ _ _ _ _ c.loop-v.invariant.changing (omega arith) c.if-bound-eq0.false
 
-pub returns-in-Full : goal.returns-in-Full
-returns-in-Full c = value_full _ _ _ _ _ _ _ _ _ _ _ _ c.loop-v.invariant c.loop-v-test.true c.if-bound-eq0.false _ _ c.replace.new.memo c.replace.result
-    c.replace.ensures _ _ c.in-Full.is
+pub returns-in_err-value-clause-changed_as : goal.returns-in_err-value-clause-changed_as
+returns-in_err-value-clause-changed_as c =
+    let p = err_from_is_err_and c.from_residual.result c.from_residual.ensures.1 in
+    rw (p.1, p.2) (value_err _ _ _ _ _ _ _ _ _ _ _ _ c.loop-v.invariant.changing (omega arith) c.if-bound-eq0.false _ _ c.replace.new.memo _ c.replace.result c.replace.ensures.substituted _ c.in_err-value.was)
 
 pub loop-v-preserved : goal.loop-v-preserved
-loop-v-preserved c = value_term _ _ _ _ _ _ _ _ _ _ _ _ c.loop-v.invariant c.loop-v-test.true c.if-bound-eq0.false _ _ c.replace.new.memo c.replace.result
-    c.replace.ensures c.replace.auto.memo _ _ c.in-Term.is
+loop-v-preserved c = record {
+  tables = (c.replace.ensures.same_tables.0 ∙ c.loop-v.invariant.tables.0, c.replace.ensures.same_tables.1 ∙ c.loop-v.invariant.tables.1);
+  changing = value_ok _ _ _ _ _ _ _ _ _ _ _ _ c.loop-v.invariant.changing (omega arith) c.if-bound-eq0.false _ _ c.replace.new.memo _ c.replace.result c.replace.ensures.substituted c.replace.auto.memo _ c.in_ok-value.was;
+}
 
-pub returns : goal.returns
-returns c = changing_ends _ _ _ _ _ _ _ _ _ _ _ _ c.loop-v.invariant c.loop-v-test.false
+pub returns-clause-changed_as : goal.returns-clause-changed_as
+returns-clause-changed_as c = changing_ends _ _ _ _ _ _ _ _ _ _ _ _ c.loop-v.invariant.changing (omega arith)

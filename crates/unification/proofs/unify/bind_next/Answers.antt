@@ -1,74 +1,26 @@
-use mathlib.Core.Path.{refl, ◌∙◌}
-use Rattle.unification.proofs.Solves.{wiped_back, finished_results, clash_results, one_results, round_found, round_apart, round_full, round_extends, bind_full, bind_more}
+use Rattle.std.proofs.lemmas.Result.{err_from_is_err_and}
+use Rattle.unification.proofs.Solves.{wiped_back, peeled_results, round_found, round_apart, round_err, round_extends, bind_err, bind_more}
 use Rattle.unification.proofs.unify.bind_next.Goals as goal
 
 pub clear_memo-requires : goal.clear_memo-requires
-clear_memo-requires c = finished_results _ _ _ _ _ _ _ _ _ c.requires _ _ c.peel.new.memo c.peel.new.pairs c.peel.result c.peel.ensures.peeled_as
-    _ c.in-Finished.is
-
-pub clear_memo-requires-in-Clash : goal.clear_memo-requires-in-Clash
-clear_memo-requires-in-Clash c = clash_results _ _ _ _ _ _ _ _ _ c.requires _ _ c.peel.new.memo c.peel.new.pairs c.peel.result c.peel.ensures.peeled_as _
-    c.in-Clash.is
-
-pub clear_memo-requires-in-Binds : goal.clear_memo-requires-in-Binds
-clear_memo-requires-in-Binds c = one_results _ _ _ _ _ _ _ _ _ c.requires _ _ c.peel.new.memo c.peel.new.pairs c.peel.result c.peel.ensures.peeled_as _ _ _
-    _ c.in-Binds.is
+clear_memo-requires c = peeled_results _ _ _ _ _ _ _ _ _ c.requires _ _ c.peel.new.memo c.peel.new.pairs.cells.now _ c.peel.new.pairs.waiting c.in-Ok.step c.in-Ok.ensures.peeled_as
 
 pub extend-requires : goal.extend-requires
-extend-requires c = round_extends _ _ _ _ _ _ _ _ _ c.requires _ _ c.peel.new.memo c.peel.new.pairs c.peel.result c.peel.ensures.peeled_as _ _
-    _ _ c.in-Binds.is _
-    (wiped_back _ _ _ _ _ _ _ _ _ c.requires c.peel.new.memo _ c.peel.auto.memo c.clear_memo-in-Binds.ensures)
+extend-requires c = round_extends _ _ _ _ _ _ _ _ _ c.requires _ _ c.peel.new.memo c.peel.new.pairs.cells.now _ c.peel.new.pairs.waiting _ _ (rw c.in-Binds.is at c.in-Ok.ensures.peeled_as) _ (wiped_back _ _ _ _ _ _ _ _ _ c.requires c.peel.new.memo _ c.peel.auto.memo c.clear_memo.ensures)
 
-pub returns-in-Finished : goal.returns-in-Finished
-returns-in-Finished c = record {
-  rounded = round_found _ _ _ _ _ _ _ _ _ c.requires _ _ c.peel.new.memo c.peel.new.pairs c.peel.result c.peel.ensures.peeled_as _
-      c.in-Finished.is;
-  map_unchanged = (
-    refl,
-    wiped_back _ _ _ _ _ _ _ _ _ c.requires c.peel.new.memo _ c.peel.auto.memo c.clear_memo.ensures,
-    c.peel.ensures.seen_unchanged,
-  );
-}
+pub returns-in-Err-clause-rounded : goal.returns-in-Err-clause-rounded
+returns-in-Err-clause-rounded c = round_err _ _ _ _ _ _ _ _ _ c.requires _ _ c.peel.new.memo c.peel.new.pairs.cells.now _ c.peel.new.pairs.waiting _ c.in-Err.ensures.peeled_as
 
-pub returns-in-Clash : goal.returns-in-Clash
-returns-in-Clash c = record {
-  rounded = round_apart _ _ _ _ _ _ _ _ _ c.requires _ _ c.peel.new.memo c.peel.new.pairs c.peel.result c.peel.ensures.peeled_as _
-      c.in-Clash.is;
-  map_unchanged = (
-    refl,
-    wiped_back _ _ _ _ _ _ _ _ _ c.requires c.peel.new.memo _ c.peel.auto.memo c.clear_memo-in-Clash.ensures,
-    c.peel.ensures.seen_unchanged,
-  );
-}
+pub returns-in-Done-clause-rounded : goal.returns-in-Done-clause-rounded
+returns-in-Done-clause-rounded c = round_found _ _ _ _ _ _ _ _ _ c.requires _ _ c.peel.new.memo c.peel.new.pairs.cells.now _ c.peel.new.pairs.waiting (rw c.in-Done.is at c.in-Ok.ensures.peeled_as)
 
-pub returns-in-Full : goal.returns-in-Full
-returns-in-Full c = record {
-  rounded = round_full _ _ _ _ _ _ _ _ _ c.requires _ _ c.peel.new.memo c.peel.new.pairs c.peel.result c.peel.ensures.peeled_as _ _
-      c.in-Full.is;
-  map_unchanged = (refl, wiped_back _ _ _ _ _ _ _ _ _ c.requires c.peel.new.memo _ c.peel.auto.memo c.clear.ensures, c.peel.ensures.seen_unchanged);
-}
+pub returns-in-Clash-clause-rounded : goal.returns-in-Clash-clause-rounded
+returns-in-Clash-clause-rounded c = round_apart _ _ _ _ _ _ _ _ _ c.requires _ _ c.peel.new.memo c.peel.new.pairs.cells.now _ c.peel.new.pairs.waiting (rw c.in-Clash.is at c.in-Ok.ensures.peeled_as)
 
-pub returns-in-Ok : goal.returns-in-Ok
-returns-in-Ok c = record {
-  rounded = bind_more _ _ _ _ _ _ _ _ _ c.requires _ _ c.peel.new.memo c.peel.new.pairs c.peel.result c.peel.ensures.peeled_as _ _ _
-      _ c.in-Binds.is _ _ c.extend.new.theta c.extend.result c.extend.ensures.extended _ c.in-Ok.is
-      c.peel.auto.pairs;
-  map_unchanged = (
-    c.extend.ensures.map_unchanged.0,
-    c.extend.ensures.map_unchanged.1 ∙ wiped_back _ _ _ _ _ _ _ _ _ c.requires c.peel.new.memo _
-        c.peel.auto.memo c.clear_memo-in-Binds.ensures,
-    c.peel.ensures.seen_unchanged,
-  );
-}
+pub returns-in_err-extend-in-Binds-clause-rounded : goal.returns-in_err-extend-in-Binds-clause-rounded
+returns-in_err-extend-in-Binds-clause-rounded c =
+    let p = err_from_is_err_and c.from_residual.result c.from_residual.ensures.1 in
+    rw (p.1, p.2) (bind_err _ _ _ _ _ _ _ _ _ c.requires _ _ c.peel.new.memo c.peel.new.pairs.cells.now _ c.peel.new.pairs.waiting _ _ (rw c.in-Binds.is at c.in-Ok.ensures.peeled_as) _ _ c.extend.new.theta _ _ c.in_err-extend-in-Binds.ensures.extended)
 
-pub returns-in-Full-extend : goal.returns-in-Full-extend
-returns-in-Full-extend c = record {
-  rounded = bind_full _ _ _ _ _ _ _ _ _ c.requires _ _ c.peel.new.memo c.peel.new.pairs c.peel.result c.peel.ensures.peeled_as _ _ _
-      _ c.in-Binds.is _ _ c.extend.new.theta c.extend.result c.extend.ensures.extended _ _ c.in-Full-extend.is;
-  map_unchanged = (
-    c.extend.ensures.map_unchanged.0,
-    c.extend.ensures.map_unchanged.1 ∙ wiped_back _ _ _ _ _ _ _ _ _ c.requires c.peel.new.memo _
-        c.peel.auto.memo c.clear_memo-in-Binds.ensures,
-    c.peel.ensures.seen_unchanged,
-  );
-}
+pub returns-in_ok-extend-in-Binds-clause-rounded : goal.returns-in_ok-extend-in-Binds-clause-rounded
+returns-in_ok-extend-in-Binds-clause-rounded c = bind_more _ _ _ _ _ _ _ _ _ c.requires _ _ c.peel.new.memo c.peel.new.pairs.cells.now _ c.peel.new.pairs.waiting _ _ (rw c.in-Binds.is at c.in-Ok.ensures.peeled_as) _ _ c.extend.new.theta _ c.in_ok-extend-in-Binds.ensures.extended c.peel.ensures.same_cells.1

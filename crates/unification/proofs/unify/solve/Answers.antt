@@ -1,58 +1,24 @@
-use mathlib.Core.Path.{◌∙◌}
-use Rattle.unification.proofs.Unifies.{solving_begins, solving_found, solving_apart, solving_full, solving_ends, solving_on}
+use Rattle.std.proofs.Common.{◌-◌, refl, arith}
+use Rattle.std.proofs.lemmas.Result.{err_from_is_err_and}
+use Rattle.unification.proofs.Unifies.{solving_begins, solving_known, solving_err, solving_ends, solving_on}
 use Rattle.unification.proofs.unify.solve.Goals as goal
 
-pub loop-last-init : goal.loop-last-init
-loop-last-init c = solving_begins _ _ _ _ _ _ _ _ _ _ c.requires
+pub loop-round-init : goal.loop-round-init
+loop-round-init c = record { tables = (refl, refl); cells = (refl, refl); solving = solving_begins _ _ _ _ _ _ _ _ _ _ c.requires _ (omega arith) }
 
 pub bind_next-requires : goal.bind_next-requires
-bind_next-requires c = c.loop-last.invariant.solvable
+bind_next-requires c = c.loop-round.invariant.solving.solvable
 
-pub returns-in-Found : goal.returns-in-Found
-returns-in-Found c = record {
-  solved_as = solving_found _ _ _ _ _ _ _ _ _ _ _ _ _ _ _ _ _ _ _ _ c.loop-last.invariant _ _ c.bind_next.new.theta
-      c.bind_next.new.pairs c.bind_next.result c.bind_next.ensures.rounded _ c.in-Found.is;
-  map_unchanged = (
-    c.bind_next.ensures.map_unchanged.0 ∙ c.loop-last.invariant.same_map,
-    c.bind_next.ensures.map_unchanged.1 ∙ c.loop-last.invariant.same_memo,
-    c.bind_next.ensures.map_unchanged.2 ∙ c.loop-last.invariant.same_seen,
-  );
-}
+pub returns-in_err-exists-clause-solved_as : goal.returns-in_err-exists-clause-solved_as
+returns-in_err-exists-clause-solved_as c =
+    let p = err_from_is_err_and c.from_residual.result c.from_residual.ensures.1 in
+    rw (p.1, p.2) (solving_err _ _ _ _ _ _ _ _ _ _ _ _ _ _ _ _ _ _ _ _ c.loop-round.invariant.solving (c.args.count - c.loop-round._round) (omega arith) _ _ c.bind_next.new.theta c.bind_next.new.pairs.cells.now _ c.bind_next.new.pairs.waiting _ c.in_err-exists.ensures.rounded)
 
-pub returns-in-Apart : goal.returns-in-Apart
-returns-in-Apart c = record {
-  solved_as = solving_apart _ _ _ _ _ _ _ _ _ _ _ _ _ _ _ _ _ _ _ _ c.loop-last.invariant _ _ c.bind_next.new.theta
-      c.bind_next.new.pairs c.bind_next.result c.bind_next.ensures.rounded _ c.in-Apart.is;
-  map_unchanged = (
-    c.bind_next.ensures.map_unchanged.0 ∙ c.loop-last.invariant.same_map,
-    c.bind_next.ensures.map_unchanged.1 ∙ c.loop-last.invariant.same_memo,
-    c.bind_next.ensures.map_unchanged.2 ∙ c.loop-last.invariant.same_seen,
-  );
-}
+pub returns-in-Some-clause-solved_as : goal.returns-in-Some-clause-solved_as
+returns-in-Some-clause-solved_as c = solving_known _ _ _ _ _ _ _ _ _ _ _ _ _ _ _ _ _ _ _ _ c.loop-round.invariant.solving (c.args.count - c.loop-round._round) (omega arith) _ _ c.bind_next.new.theta c.bind_next.new.pairs.cells.now _ c.bind_next.new.pairs.waiting _ (rw c.in-Some.is at c.in_ok-exists.ensures.rounded)
 
-pub returns-in-Full : goal.returns-in-Full
-returns-in-Full c = record {
-  solved_as = solving_full _ _ _ _ _ _ _ _ _ _ _ _ _ _ _ _ _ _ _ _ c.loop-last.invariant _ _ c.bind_next.new.theta
-      c.bind_next.new.pairs c.bind_next.result c.bind_next.ensures.rounded _ _ c.in-Full.is;
-  map_unchanged = (
-    c.bind_next.ensures.map_unchanged.0 ∙ c.loop-last.invariant.same_map,
-    c.bind_next.ensures.map_unchanged.1 ∙ c.loop-last.invariant.same_memo,
-    c.bind_next.ensures.map_unchanged.2 ∙ c.loop-last.invariant.same_seen,
-  );
-}
-
-pub returns-then-rounds-eq0 : goal.returns-then-rounds-eq0
-returns-then-rounds-eq0 c = record {
-  solved_as = solving_ends _ _ _ _ _ _ _ _ _ _ _ _ _ _ _ _ _ _ _ _ c.loop-last.invariant _ _ c.bind_next.new.theta
-      c.bind_next.new.pairs c.bind_next.result c.bind_next.ensures.rounded _ _ c.in-More.is c.if-rounds-eq0.true;
-  map_unchanged = (
-    c.bind_next.ensures.map_unchanged.0 ∙ c.loop-last.invariant.same_map,
-    c.bind_next.ensures.map_unchanged.1 ∙ c.loop-last.invariant.same_memo,
-    c.bind_next.ensures.map_unchanged.2 ∙ c.loop-last.invariant.same_seen,
-  );
-}
-
-pub loop-last-preserved : goal.loop-last-preserved
-loop-last-preserved c = solving_on _ _ _ _ _ _ _ _ _ _ _ _ _ _ _ _ _ _ _ _ c.loop-last.invariant _ _ c.bind_next.new.theta c.bind_next.new.pairs
-    c.bind_next.result c.bind_next.ensures.rounded _ _ c.in-More.is c.if-rounds-eq0.false _ _ _ c.bind_next.ensures.map_unchanged
-    c.bind_next.auto.theta c.bind_next.auto.pairs
+pub returns-in_default-clause-solved_as : goal.returns-in_default-clause-solved_as
+returns-in_default-clause-solved_as c =
+    let more = rw c.in_default.is at c.in_ok-exists.ensures.rounded in
+    let s = solving_on _ _ _ _ _ _ _ _ _ _ _ _ _ _ _ _ _ _ _ _ c.loop-round.invariant.solving (c.args.count - c.loop-round._round) (omega arith) _ _ c.bind_next.new.theta c.bind_next.new.pairs.cells.now _ c.bind_next.new.pairs.waiting more _ _ _ c.bind_next.ensures.map_unchanged c.bind_next.auto.theta c.bind_next.ensures.same_cells.1 in
+    solving_ends _ _ _ _ _ _ _ _ _ _ _ _ _ _ _ _ _ _ _ _ s (omega arith)
