@@ -16,8 +16,10 @@ use Rattle.rules.specs.Forms.{plus, take_form}
 use Rattle.sexp.specs.Encode.{encode}
 use Rattle.sexp.specs.Reads.{Clear, ReadRight}
 use Rattle.sexp.specs.ReadLaws.{at_end, at_refused, at_form, form_cleared}
-use Rattle.sexp.specs.declared.sexp.Read.{Read}
-use Rattle.sexp.specs.declared.sexp.Read.TheVariants as read_as
+use Rattle.std.specs.Prelude.{Option, Some as some, None as nothing, Result, Ok, Err}
+use Rattle.questions.specs.declared.Question.{Question}
+use Rattle.questions.specs.Numbers.{number_of, detail_of}
+use Rattle.sexp.specs.declared.sexp.Form.{Form}
 use Rattle.kernel.specs.Parsed.{TheoryLists, Formed}
 use Rattle.terms.specs.declared.store.Mark.{Mark}
 use Rattle.state.specs.declared.sizes.Sizes.{Sizes}
@@ -167,22 +169,23 @@ module _ {theory goals proof : List ℕ} {T : TheoryLists} {B : Board} {cells id
   unmoved : RowsStay B.facts B.footings B.facts B.footings s.sizes.facts s.sizes.facts
   unmoved = unmoved_rows g.underway.stands g.underway.stands
 
-  module _ {v : List ℕ} {r : Read} (k : ReadRight proof s.at cells v r) where
-    pub at_the_end : {o : Advance} {t : Run} → r ≡ read_as.End → t ≡ ended_run s → o ≡ stays t → Stepped theory goals proof T B B v ids memo s g.S o
+  module _ {v : List ℕ} {r : Result (Option Form) Question} (k : ReadRight proof s.at cells v r) where
+    pub at_the_end : {o : Advance} {t : Run} → r ≡ Ok nothing → t ≡ ended_run s → o ≡ stays t → Stepped theory goals proof T B B v ids memo s g.S o
     at_the_end e p q =
         let a = at_end k e in
         subst (λ o. Stepped theory goals proof T B B v ids memo s g.S o) (sym (q ∙ ap stays p))
         (stepped_off g.underway (ended_run s) refl refl refl (over_ended g.underway a.0) unmoved (zeros_again a.1))
 
-    pub at_unread : {o : Advance} {t : Run} {n : ℕ} → r ≡ read_as.Refused n → t ≡ refused_run s n 0 → o ≡ stays t →
+    pub at_unread : {o : Advance} {t : Run} {q : Question} → r ≡ Err q → t ≡ refused_run s (number_of q) (detail_of q) → o ≡ stays t →
         Stepped theory goals proof T B B v ids memo s g.S o
-    at_unread {n = n} e p q =
+    at_unread {q = q} e p h =
         let a = at_refused k e in
-        subst (λ o. Stepped theory goals proof T B B v ids memo s g.S o) (sym (q ∙ ap stays p))
-        (stepped_off g.underway (refused_run s n 0) refl refl refl (over_unread g.underway n a.0) unmoved (zeros_again a.1))
+        let f : refused_run s (number_of q) (detail_of q) ≡ refused_run s (number_of q) 0 = ap (refused_run s (number_of q)) a.1 in
+        subst (λ o. Stepped theory goals proof T B B v ids memo s g.S o) (sym (h ∙ ap stays (p ∙ f)))
+        (stepped_off g.underway (refused_run s (number_of q) 0) refl refl refl (over_unread g.underway (number_of q) a.0) unmoved (zeros_again a.2))
 
     -- what `take_read` asks
-    abbrev pub at_a_form : {p n : ℕ} → r ≡ read_as.Form p n → AtForm theory goals proof T B v ids memo s p n
+    abbrev pub at_a_form : {f : Form} → r ≡ Ok (some f) → AtForm theory goals proof T B v ids memo s f.end f.cells
     at_a_form e =
         record {
           S = g.S;

@@ -12,7 +12,7 @@ use crate::advance::Advance;
 use counts::no_counts;
 use facts::{Fact, blank_fact};
 use running::run::{Run, ended, moved, refused};
-use sexp::sexp::{Read, clear, read_form};
+use sexp::sexp::{clear, read_form};
 use taking::take::{Taken, take_form};
 
 // Nothing is stored and nothing counted.
@@ -167,11 +167,11 @@ fn form_exact(
         Stepped theory.now goals.now proof.now (theory_lists sorts.now symbols.now inputs.now rules.now rulevars.now patterns.now) (board vars.old index.old words.old defs.old rows.old facts.old footings.old lists.old) (board vars.new index.new words.new defs.new rows.new facts.new footings.new lists.new) cells.new ids.new memo.new s g.S result }
 {
     match read_form(proof, s.at, cells) {
-        Read::End => stay(ended(s)),
-        Read::Refused(number) => stay(refused(s, number, 0)),
-        Read::Form(at, used) => take_read(
-            theory, goals, proof, s, at, used, sorts, symbols, inputs, rules, rulevars, patterns,
-            vars, index, words, defs, rows, lists, facts, footings, cells, ids, memo,
+        Ok(None) => stay(ended(s)),
+        Err(question) => stay(refused(s, question.number(), question.detail())),
+        Ok(Some(form)) => take_read(
+            theory, goals, proof, s, form.end, form.cells, sorts, symbols, inputs, rules, rulevars,
+            patterns, vars, index, words, defs, rows, lists, facts, footings, cells, ids, memo,
         ),
     }
 }

@@ -12,7 +12,7 @@ use Rattle.rules.specs.Laws.Theory.{empty, WellFormed}
 use Rattle.rules.specs.Laws.Declare.{nothing_formed}
 use Rattle.kernel.specs.Parsed.{TheoryLists, theory_lists, Exact, counts_of, theory_tables, LaidHeld}
 use Rattle.kernel.specs.Layout.{tables_exact}
-use Rattle.kernel.specs.declared.parse.Counts.{Counts}
+use Rattle.kernel.specs.declared.tables.Counts.{Counts}
 use Rattle.terms.specs.Laws.Empty.{good_empty, made_empty}
 use Rattle.state.specs.declared.sizes.Sizes.{Sizes}
 use Rattle.state.specs.Filled.{filled_none}

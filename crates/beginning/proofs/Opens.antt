@@ -15,11 +15,12 @@ use Rattle.rules.specs.Forms.{take_goal, take_form}
 use Rattle.rules.specs.Check.{Outcome, refused_in, after_proof, after_goals, after_theory, check}
 use Rattle.sexp.specs.ReadLaws.{read_first}
 use Rattle.sexp.specs.Through.{Legible}
-use Rattle.kernel.specs.Parsed.{TheoryLists, Exact, counts_of, judged_of, verdict, theory_tables, LaidHeld}
+use Rattle.kernel.specs.Parsed.{TheoryLists, Exact, counts_of, JudgedAs, verdict, theory_tables, LaidHeld}
 use Rattle.kernel.specs.Layout.{verdict_formed, judged_done, judged_refused}
-use Rattle.kernel.specs.declared.parse.Counts.{Counts}
-use Rattle.kernel.specs.declared.parse.Judged.{Judged as Answer}
-use Rattle.kernel.specs.declared.parse.Judged.TheVariants.{Done, Refused}
+use Rattle.kernel.specs.declared.tables.Counts.{Counts}
+use Rattle.std.specs.Prelude.{Result, Ok, Err}
+use Rattle.questions.specs.declared.Refused.{Refused}
+use Rattle.questions.specs.Numbers.{number_of, detail_of}
 use Rattle.terms.specs.declared.store.Mark.{Mark}
 use Rattle.state.specs.declared.sizes.Sizes.{Sizes}
 use Rattle.state.specs.Stands.{Texts, texts, Board, Stands, stands_proof}
@@ -70,26 +71,24 @@ module _ {theory goals proof : List ℕ} {T : TheoryLists} {B : Board} where
   texts_left o {q} {t} l e s b = stops (nothing_stands e o.none s) refl refl t l.some l.is b
 
   -- those put to the theory
-  module _ {cells : List ℕ} {T₀ : TheoryLists} (o : Opening T₀ B cells) (p : Plain theory goals proof) (a : Answer) (j : a ≡ judged_of (verdict theory))
-      (t : T ≡ theory_tables (theory_in theory)) (h : LaidHeld theory (theory_in theory)) where
-    stands : {n : Sizes} {c : Counts} → n ≡ theory_sizes c → c ≡ counts_of (theory_in theory) → Stands (texts theory goals goals) T B n no_mark (begin (theory_in theory))
-    stands = theory_stands (verdict_formed theory) h p.short_goals t o.none
+  module _ {cells : List ℕ} {T₀ : TheoryLists} (o : Opening T₀ B cells) (p : Plain theory goals proof) (a : Result ℕ Refused) (j : JudgedAs (verdict theory) a)
+      {c : Counts} (m : c ≡ counts_of (theory_in theory)) (t : T ≡ theory_tables (theory_in theory)) (h : LaidHeld theory (theory_in theory)) where
+    stands : {n : Sizes} → n ≡ theory_sizes c → Stands (texts theory goals goals) T B n no_mark (begin (theory_in theory))
+    stands s = theory_stands (verdict_formed theory) h p.short_goals t o.none s m
 
-    pub theory_left : {q d k : ℕ} {c : Counts} → a ≡ Refused q d k c → {n : Sizes} → n ≡ theory_sizes c → {r : Run} → r ≡ stopped_run n no_mark q 1 k d →
-        Opened theory goals proof T B r
+    pub theory_left : {e : Refused} → a ≡ Err e → {n : Sizes} → n ≡ theory_sizes c → {r : Run} →
+        r ≡ stopped_run n no_mark (number_of e.question) 1 e.form (detail_of e.question) → Opened theory goals proof T B r
     unfolding after_theory
-    theory_left {q} {d} {k} {c} f s b =
-        let v = judged_refused a (verdict theory) j f in
-        stops (stands s v.1) refl refl 1 (λ z. omega arith) (ap (after_theory goals proof) (sym v.0) ∙ p.is) b
+    theory_left f s b =
+        stops (stands s) refl refl 1 (λ z. omega arith) (ap (after_theory goals proof) (sym (judged_refused a (verdict theory) j f)) ∙ p.is) b
 
-    pub goals_given : {k : ℕ} {c : Counts} → a ≡ Done k c → {n : Sizes} → n ≡ theory_sizes c → {w : List ℕ} → w ≡ cells → Posing theory goals T B n w
-    goals_given f s e =
-        record { stands = stands s (judged_done a (verdict theory) j f).1; legible = legible p.short_goals (e ∙ o.cells_zero) }
+    pub goals_given : {n : Sizes} → n ≡ theory_sizes c → {w : List ℕ} → w ≡ cells → Posing theory goals T B n w
+    goals_given s e = record { stands = stands s; legible = legible p.short_goals (e ∙ o.cells_zero) }
 
     -- what the definition says of the goals decides
-    pub goals_next : {k : ℕ} {c : Counts} → a ≡ Done k c → after_goals proof (whole take_goal (read goals) (begin (theory_in theory))) ≡ check theory goals proof
+    pub goals_next : {k : ℕ} → a ≡ Ok k → after_goals proof (whole take_goal (read goals) (begin (theory_in theory))) ≡ check theory goals proof
     unfolding after_theory
-    goals_next f = ap (after_theory goals proof) (sym (judged_done a (verdict theory) j f).0) ∙ p.is
+    goals_next f = ap (after_theory goals proof) (sym (judged_done a (verdict theory) j f)) ∙ p.is
 
   -- The goals ------------------------------------------------------------------------------------------------------------------------
 

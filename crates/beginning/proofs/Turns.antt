@@ -16,11 +16,12 @@ use Rattle.sexp.specs.Encode.{encode}
 use Rattle.sexp.specs.Reads.{ReadRight}
 use Rattle.sexp.specs.ReadLaws.{FormIs}
 use Rattle.sexp.specs.Through.{Going, going_first, going_ends, going_fails, going_form, going_refused, going_taken, whole_refused, whole_forms}
-use Rattle.sexp.specs.Whole.{whole_of}
-use Rattle.sexp.specs.declared.sexp.Read.{Read}
-use Rattle.sexp.specs.declared.sexp.Read.TheVariants.{End, Form, Refused}
-use Rattle.sexp.specs.declared.sexp.Whole.{Whole}
-use Rattle.sexp.specs.declared.sexp.Whole.TheVariants.{Forms, Refused as Unreadable}
+use Rattle.std.specs.Prelude.{Option, Some as some, None as nothing, Result, Ok, Err}
+use Rattle.questions.specs.declared.Question.{Question}
+use Rattle.questions.specs.declared.Refused.{Refused}
+use Rattle.questions.specs.Numbers.{number_of, detail_of}
+use Rattle.sexp.specs.Whole.{EndsAs}
+use Rattle.sexp.specs.declared.sexp.Form.{Form}
 use Rattle.kernel.specs.Parsed.{TheoryLists, Formed}
 use Rattle.terms.specs.declared.store.Mark.{Mark}
 use Rattle.state.specs.declared.sizes.Sizes.{Sizes}
@@ -92,26 +93,26 @@ turn_first {theory} p =
     }
 
 module _ {theory goals w₀ w : List ℕ} {T : TheoryLists} {B : Board} {n : Sizes} {m : Mark} {forms at : ℕ} (g : Turn theory goals w₀ w T B n m forms at)
-    {v : List ℕ} {r : Read} (k : ReadRight goals at w v r) where
+    {v : List ℕ} {r : Result (Option Form) Question} (k : ReadRight goals at w v r) where
   abbrev J : Judged State
   J = through take_goal (read goals) 0 (begin (theory_in theory))
 
-  pub turn_ends : r ≡ End → {z : Run} → z ≡ behind_goals n m forms → Posed theory goals T B J z × (v ≡ w₀)
+  pub turn_ends : r ≡ Ok nothing → {z : Run} → z ≡ behind_goals n m forms → Posed theory goals T B J z × (v ≡ w₀)
   turn_ends e q = let a = going_ends g.going k e in (posed_done g.stands g.fresh a.0 q, a.1)
 
-  pub turn_fails : {j : ℕ} → r ≡ Refused j → {z : Run} → z ≡ stopped_run n m j 2 forms 0 → Posed theory goals T B J z × (v ≡ w₀)
+  pub turn_fails : {q : Question} → r ≡ Err q → {z : Run} → z ≡ stopped_run n m (number_of q) 2 forms (detail_of q) → Posed theory goals T B J z × (v ≡ w₀)
   turn_fails e q = let a = going_fails g.going k e in (posed_refused g.stands g.fresh a.0 q, a.1)
 
-  module _ {p many : ℕ} (e : r ≡ Form p many) where
-    abbrev form : FormIs goals at w v p many
+  module _ {f : Form} (e : r ≡ Ok (some f)) where
+    abbrev form : FormIs goals at w v f.end f.cells
     form = going_form g.going k e
 
-    pub formed : Formed goals (take many v) form.form
+    pub formed : Formed goals (take f.cells v) form.form
     unfolding encode
     formed = record { encoded = form.holds.cells ∙ append-nil (encode form.form); spelt = form.holds.spelt.0 }
 
     -- what `take_goal` asks
-    abbrev pub turn_takes : TakesGoal (texts theory goals goals) T B n m (take many v)
+    abbrev pub turn_takes : TakesGoal (texts theory goals goals) T B n m (take f.cells v)
     turn_takes =
         record {
           form = record { S = g.S; x = form.form; stands = g.stands; bounded = g.fresh.checked.bounded; formed = formed };
@@ -128,8 +129,8 @@ module _ {theory goals w₀ w : List ℕ} {T : TheoryLists} {B : Board} {n : Siz
           let s : Answers D (taken_as.No q d) = subst (Answers D) b t in
           posed_refused s.1 g.fresh (going_refused g.going k e s.0.is) a
 
-      pub turn_on : {used : Sizes} {new : Mark} {c : Counts} {u : List ℕ} → y ≡ taken_as.Ok used new c → u ≡ replicate many 0 ++ drop many v →
-          Turn theory goals w₀ u T D used new (forms + 1) p
+      pub turn_on : {used : Sizes} {new : Mark} {c : Counts} {u : List ℕ} → y ≡ taken_as.Ok used new c → u ≡ replicate f.cells 0 ++ drop f.cells v →
+          Turn theory goals w₀ u T D used new (forms + 1) f.end
       turn_on {used} {new} {c} b a =
           let s : Answers D (taken_as.Ok used new c) = subst (Answers D) b t in
           record {
@@ -141,12 +142,12 @@ module _ {theory goals w₀ w : List ℕ} {T : TheoryLists} {B : Board} {n : Siz
 
 -- A text that is read whole --------------------------------------------------------------------------------------------------------------
 
-module _ {theory goals : List ℕ} {T : TheoryLists} {B : Board} (r : Whole) (e : r ≡ whole_of (read goals) 0) where
-  pub goals_unread : {w : List ℕ} {n : Sizes} → Posing theory goals T B n w → {j k : ℕ} → r ≡ Unreadable j k → {z : Run} → z ≡ stopped_run n no_mark j 2 k 0 →
+module _ {theory goals : List ℕ} {T : TheoryLists} {B : Board} (r : Result ℕ Refused) (e : EndsAs (read goals) 0 r) where
+  pub goals_unread : {w : List ℕ} {n : Sizes} → Posing theory goals T B n w → {q : Refused} → r ≡ Err q → {z : Run} → z ≡ stopped_run n no_mark (number_of q.question) 2 q.form (detail_of q.question) →
       Posed theory goals T B (whole take_goal (read goals) (begin (theory_in theory))) z
   goals_unread p b q =
       posed_refused p.stands (fresh_first theory) (whole_refused take_goal (begin (theory_in theory)) (read goals) r e b) q
 
-  pub goals_read : {j : ℕ} → r ≡ Forms j → {z : Run} → Posed theory goals T B (through take_goal (read goals) 0 (begin (theory_in theory))) z →
+  pub goals_read : {j : ℕ} → r ≡ Ok j → {z : Run} → Posed theory goals T B (through take_goal (read goals) 0 (begin (theory_in theory))) z →
       Posed theory goals T B (whole take_goal (read goals) (begin (theory_in theory))) z
   goals_read b {z} p = subst (λ I. Posed theory goals T B I z) (sym (whole_forms take_goal (begin (theory_in theory)) (read goals) r e b)) p

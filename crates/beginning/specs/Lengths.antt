@@ -1,7 +1,7 @@
 -- Question 1 by numbers, tables of just their named lengths, and the tables of a check that has nothing but a theory. Assumes nothing.
 use Rattle.std.specs.Prelude.{◌≡◌, Bool, true, false, ℕ, ◌*◌, ◌≤◌, length, replicate}
 use Rattle.rules.specs.Limits.{SORTS, SYMBOLS, ARGUMENTS, RULES, RULEVARS, PATTERNS, VARIABLES, TERMS, WORDS, DEFS, GOALS, FACTS, ENTRIES}
-use Rattle.kernel.specs.declared.parse.Counts.{Counts}
+use Rattle.kernel.specs.declared.tables.Counts.{Counts}
 use Rattle.state.specs.declared.sizes.Sizes.{Sizes}
 use Rattle.running.specs.Lent.{Working, working}
 

@@ -12,7 +12,8 @@ ghost use Rattle.beginning.specs.Opened.{Opening, Lending, Opened};
 use crate::goals::pose;
 use crate::tables::{clear_theory, clear_working, fits, theory_sizes};
 use crate::texts::{Asked, ask};
-use kernel::parse::{Judged, parse_exact};
+use kernel::parse::parse_exact;
+use kernel::tables::{Counts, Tables};
 use running::run::{Run, no_sizes, stopped, unfit};
 use terms::store::Mark;
 
@@ -42,26 +43,35 @@ fn judge(
     ensures opened { Opened theory.now goals.now proof.now (theory_lists sorts.new symbols.new inputs.new rules.new rulevars.new patterns.new) (board vars.new index.new words.new defs.new rows.new facts.now footings.now lists.new) result }
     ensures cells_unchanged { cells.new ≡ cells.old }
 {
-    match parse_exact(
-        theory, cells, sorts, symbols, inputs, rules, rulevars, patterns,
-    ) {
-        Judged::Refused(number, detail, form, held) => stopped(
-            theory_sizes(held),
+    let mut tables = Tables {
+        sorts,
+        symbols,
+        inputs,
+        rules,
+        vars: rulevars,
+        patterns,
+        held: Counts::NONE,
+    };
+    let answer = parse_exact(theory, cells, &mut tables);
+    let sizes = theory_sizes(tables.held);
+    match answer {
+        Err(refused) => stopped(
+            sizes,
             Mark { terms: 0, words: 0 },
-            number,
+            refused.question.number(),
             1,
-            form,
-            detail,
+            refused.form,
+            refused.question.detail(),
         ),
-        Judged::Done(_, held) => pose(
+        Ok(_) => pose(
             theory,
             goals,
-            sorts,
-            symbols,
-            inputs,
-            rules,
-            rulevars,
-            patterns,
+            tables.sorts,
+            tables.symbols,
+            tables.inputs,
+            tables.rules,
+            tables.vars,
+            tables.patterns,
             vars,
             index,
             words,
@@ -71,7 +81,7 @@ fn judge(
             facts,
             footings,
             cells,
-            theory_sizes(held),
+            sizes,
         ),
     }
 }

@@ -9,7 +9,7 @@ ghost use Rattle.state.specs.Stands.{board};
 ghost use Rattle.beginning.specs.Posed.{theory_in, Posing, behind_goals, Posed};
 
 use running::run::{Run, started, stopped};
-use sexp::sexp::{Read, Whole, clear, read_all, read_form};
+use sexp::sexp::{clear, read_all, read_form};
 use state::sizes::Sizes;
 use taking::take::{Taken, take_goal};
 use terms::store::Mark;
@@ -56,46 +56,47 @@ fn take_goals(
     let mut forms = 0;
     let mut at = 0;
     loop {
-        match read_form(goals, at, cells) {
-            Read::End => return behind_goals(n, mark, forms),
+        let form = match read_form(goals, at, cells) {
+            Ok(Some(form)) => form,
+            Ok(None) => return behind_goals(n, mark, forms),
             // a text that was read whole before is not refused here
-            Read::Refused(number) => return stopped(n, mark, number, 2, forms, 0),
-            Read::Form(next, count) => {
-                let r = take_goal(
-                    theory,
-                    goals,
-                    sorts,
-                    symbols,
-                    inputs,
-                    rules,
-                    rulevars,
-                    patterns,
-                    vars,
-                    index,
-                    words,
-                    defs,
-                    rows,
-                    facts,
-                    footings,
-                    lists,
-                    n,
-                    mark,
-                    &cells[..count],
-                );
-                clear(cells, count);
-                match r {
-                    Taken::Ok(used, new, _) => {
-                        n = used;
-                        mark = new;
-                    }
-                    Taken::No(number, detail) => {
-                        return stopped(n, mark, number, 2, forms, detail);
-                    }
-                }
-                forms += 1;
-                at = next;
+            Err(question) => {
+                return stopped(n, mark, question.number(), 2, forms, question.detail());
+            }
+        };
+        let r = take_goal(
+            theory,
+            goals,
+            sorts,
+            symbols,
+            inputs,
+            rules,
+            rulevars,
+            patterns,
+            vars,
+            index,
+            words,
+            defs,
+            rows,
+            facts,
+            footings,
+            lists,
+            n,
+            mark,
+            &cells[..form.cells],
+        );
+        clear(cells, form.cells);
+        match r {
+            Taken::Ok(used, new, _) => {
+                n = used;
+                mark = new;
+            }
+            Taken::No(number, detail) => {
+                return stopped(n, mark, number, 2, forms, detail);
             }
         }
+        forms += 1;
+        at = form.end;
     }
 }
 
@@ -127,12 +128,20 @@ pub fn pose(
     ensures cells_unchanged { cells.new ≡ cells.old }
 {
     match read_all(goals) {
-        Whole::Refused(number, forms) => {
-            stopped(first, Mark { terms: 0, words: 0 }, number, 2, forms, 0)
-        }
-        Whole::Forms(_) => take_goals(
+        Ok(_) => take_goals(
             theory, goals, sorts, symbols, inputs, rules, rulevars, patterns, vars, index, words,
             defs, rows, lists, facts, footings, cells, first,
         ),
+        Err(refused) => {
+            let question = refused.question;
+            stopped(
+                first,
+                Mark { terms: 0, words: 0 },
+                question.number(),
+                2,
+                refused.form,
+                question.detail(),
+            )
+        }
     }
 }

@@ -7,7 +7,7 @@ ghost use Rattle.running.specs.Lent.{working};
 ghost use Rattle.beginning.specs.Lengths.{TheoryFits, WorkingFits, Fits, Decides, ExactWorking, no_working, theory_sizes};
 
 use cells::clear;
-use kernel::parse::Counts;
+use kernel::tables::Counts;
 use state::sizes::Sizes;
 
 // Whether the six tables of the theory are long enough, by their lengths.

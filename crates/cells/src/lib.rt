@@ -3,25 +3,32 @@
 
 ghost use Rattle.std.specs.Prelude.{◌≡◌, ◌++◌, ◌≤◌, length, drop, replicate};
 
-// Every cell becomes 0.
-pub fn clear(cells: &mut [u32])
-    ensures { cells.new ≡ replicate (length cells.old) 0 }
-{
-    let mut i = 0;
-    while i < cells.len() {
-        cells[i] = 0;
-        i += 1;
-    }
+// What a table is made of: a cell of it, or a word of a set.
+pub trait Cell: Copy {
+    ghost ZERO: { Self };
+
+    // in a table that holds nothing
+    const ZERO: Self;
 }
 
-// Every word becomes 0.
-pub fn clear_words(words: &mut [u64])
-    ensures { words.new ≡ replicate (length words.old) 0 }
+impl Cell for u32 {
+    ghost ZERO = { 0 };
+
+    const ZERO: u32 = 0;
+}
+
+impl Cell for u64 {
+    ghost ZERO = { 0 };
+
+    const ZERO: u64 = 0;
+}
+
+// Every cell becomes 0.
+pub fn clear<T: Cell>(cells: &mut [T])
+    ensures { cells.new ≡ replicate (length cells.old) T.ZERO }
 {
-    let mut i = 0;
-    while i < words.len() {
-        words[i] = 0;
-        i += 1;
+    for cell in cells.iter_mut() {
+        *cell = T::ZERO;
     }
 }
 
@@ -30,9 +37,5 @@ pub fn write(to: &mut [u32], from: &[u32])
     requires { length from.now ≤ length to.old }
     ensures { to.new ≡ from.now ++ drop (length from.now) to.old }
 {
-    let mut i = 0;
-    while i < from.len() {
-        to[i] = from[i];
-        i += 1;
-    }
+    to[..from.len()].copy_from_slice(from);
 }

@@ -5,7 +5,7 @@ ghost use Rattle.std.specs.Prelude.{◌≡◌};
 ghost use Rattle.counts.specs.Sum.{sum, Fits, none};
 
 // Hypotheses stated, inductions, inversions, and instances among the references of steps.
-#[derive(Clone, Copy)]
+#[derive(Clone, Copy, Debug, PartialEq, Eq)]
 pub struct Counts {
     pub hypotheses: usize,
     pub inductions: usize,

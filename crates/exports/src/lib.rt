@@ -5,11 +5,12 @@ ghost use Rattle.std.specs.Prelude.{◌≡◌, ◌%◌, ◌≤◌, ◌<◌, eqb,
 ghost use Rattle.rules.specs.Limits.{LENGTH};
 ghost use Rattle.rules.specs.Sexp.{read};
 ghost use Rattle.sexp.specs.Reads.{Clear};
-ghost use Rattle.kernel.specs.Parsed.{theory_lists, Roomy, judged_of, theory_of, verdict, laid_theory};
+ghost use Rattle.kernel.specs.Parsed.{theory_lists, Roomy, theory_of, verdict, laid_theory};
 ghost use Rattle.sexp.specs.Through.{Legible};
 ghost use Rattle.exports.specs.Counts.{forms_of, rules_of};
 
-use kernel::parse::Judged;
+use kernel::parse::parse;
+use kernel::tables::{Counts, Tables};
 use rules::RULES;
 use sexp::sexp::{clear, read_all, read_form};
 
@@ -70,13 +71,22 @@ pub extern "C" fn tariff_parse(
 ) -> usize
     requires legible { Legible text.now cells.old }
     requires roomy { Roomy (theory_lists sorts.old symbols.old inputs.old rules.old vars.old patterns.old) }
-    ensures value { result ≡ rules_of (judged_of (verdict text.now)) }
+    ensures value { result ≡ rules_of (verdict text.now) }
     ensures patterns_after { theory_lists sorts.new symbols.new inputs.new rules.new vars.new patterns.new
         ≡ laid_theory (theory_lists sorts.old symbols.old inputs.old rules.old vars.old patterns.old) (theory_of (verdict text.now)) }
     ensures cells_unchanged { cells.new ≡ cells.old }
 {
-    match kernel::parse::parse(text, cells, sorts, symbols, inputs, rules, vars, patterns) {
-        Judged::Done(_, counts) => counts.rules,
-        Judged::Refused(_, _, _, _) => RULES + 1,
+    let mut tables = Tables {
+        sorts,
+        symbols,
+        inputs,
+        rules,
+        vars,
+        patterns,
+        held: Counts::NONE,
+    };
+    match parse(text, cells, &mut tables) {
+        Ok(_) => tables.held.rules,
+        Err(_) => RULES + 1,
     }
 }

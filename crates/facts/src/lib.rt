@@ -2,13 +2,13 @@
 // takes it by value.
 #![tactic(auto)]
 
-ghost use Rattle.std.specs.Prelude.{◌≡◌, true, not, ◌<◌, ◌≤◌, ◌+◌, eqb, ltb, length, get_or, set};
+ghost use Rattle.std.specs.Prelude.{◌≡◌, true, not, ◌<◌, ◌≤◌, eqb, length, get_or, set};
 ghost use Rattle.facts.specs.Table.{blank, appended, zeroed};
 
 // The number of its judgment; 1 if it is assumed; the first entry of its lists; how many hypotheses, premises and generalised variables they
 // have; the rules that it rests on, a bit each. Programs in other languages lend such records, so that their layout is C's.
 #[repr(C)]
-#[derive(Clone, Copy)]
+#[derive(Clone, Copy, Debug, PartialEq, Eq)]
 pub struct Fact {
     pub judgment: u32,
     pub assumed: u32,
@@ -23,7 +23,6 @@ pub struct Fact {
 pub fn blank_fact() -> Fact
     ensures { result ≡ blank }
 {
-    let footing: [u64; 4] = [0; 4];
     Fact {
         judgment: 0,
         assumed: 0,
@@ -31,7 +30,7 @@ pub fn blank_fact() -> Fact
         hyps: 0,
         premises: 0,
         general: 0,
-        footing: footing,
+        footing: [0; 4],
     }
 }
 
@@ -76,28 +75,10 @@ pub fn append_if(facts: &mut [Fact], stored: bool, i: usize, f: Fact)
     }
 }
 
-fn before(i: usize, to: usize) -> bool
-    ensures { result ≡ ltb i to }
-{
-    i < to
-}
-
-fn after(i: usize, to: usize) -> usize
-    requires { i < to }
-    ensures { result ≡ i + 1 }
-{
-    i + 1
-}
-
-// The records from..to become blank. Every step is a call, since the table is lent on to `append`.
+// The records from..to become blank.
 pub fn zero_behind(facts: &mut [Fact], from: usize, to: usize)
     requires { (from ≤ to) × (to ≤ length facts.old) }
     ensures { facts.new ≡ zeroed facts.old from to }
 {
-    let mut i = from;
-    while before(i, to) {
-        append(facts, i, blank_fact());
-        let next = after(i, to);
-        i = next;
-    }
+    facts[from..to].fill(blank_fact());
 }

@@ -1,7 +1,7 @@
 -- The argument sorts of a declaration, an item at a time. Assumes nothing.
 use mathlib.Core.Path.{◌≡◌, refl, sym, ap, ◌∙◌}
 use Prim.Native.Nat.{ℕ, zero, suc, ◌+◌, ◌-◌, ◌<◌, ◌≤◌}
-use Rattle.std.specs.Prelude.{Option, Some as some, None as nothing}
+use Rattle.std.specs.Prelude.{Option, Some as some, None as nothing, Result, Ok, Err, ok_or}
 use mathlib.Core.List.{List, [], ◌∷◌, ◌++◌}
 use native.Mathlib.Omega.{arith}
 use native.Mathlib.Numerals.{add-one}
@@ -24,35 +24,56 @@ use Rattle.sexp.specs.WalkLaws.{ListIs, AtomIs}
 use Rattle.sexp.specs.declared.items.Item.{Item}
 use Rattle.sexp.specs.NameRows.{NameRows}
 use Rattle.kernel.specs.Held.{SortsHeld, SomeSorts, Gathering, ArgumentsRead}
-use Rattle.kernel.specs.declared.symbols.Added.{Added}
-use Rattle.kernel.specs.declared.symbols.Added.TheVariants.{Ok, No}
-use Rattle.sexp.specs.FoundLaws.{found_at, found_missing}
+use Rattle.questions.specs.declared.Question.{Question}
+use Rattle.questions.specs.declared.Question.TheVariants.{Declared}
+use Rattle.questions.specs.Numbers.{number_of, detail_of}
+use Rattle.sexp.specs.Never.{never}
 use Rattle.kernel.specs.SignatureRows.{sorts_rows, sorts_few}
 use Rattle.sexp.specs.FirstItem.{ItemFirst, none_left}
 
 -- what `sort` ensures
-abbrev pub SortTold : List ℕ → List ℕ → ℕ → Item → Option ℕ → Type 0
+abbrev pub SortTold : List ℕ → List ℕ → ℕ → Item → Result ℕ Question → Type 0
 SortTold text sorts known item r =
-    (x : Sexp) (at : ℕ) → item ≡ item_of at x → Spelt text x → (ns : List Name) → NameRows text sorts 2 0 known ns → r ≡ (sort_of ns x)
+    (x : Sexp) (at : ℕ) → item ≡ item_of at x → Spelt text x → (ns : List Name) → NameRows text sorts 2 0 known ns → r ≡ ok_or (sort_of ns x) Declared
+
+-- what its answer says
+sort_there : (o : Option ℕ) {r : Result ℕ Question} {s : ℕ} → r ≡ ok_or o Declared → r ≡ Ok s → o ≡ some s
+sort_there o {s = s} a b = go o (sym b ∙ a)
+  where
+    go : (o : Option ℕ) → ◌≡◌ {A = Result ℕ Question} (Ok s) (ok_or o Declared) → o ≡ some s
+    go nothing f = never cc
+    go (some k) f = cc
+
+-- no sort, which is question 11
+pub record Sortless (ns : List Name) (x : Sexp) (e : Question) : Type 0 where
+  pub is : sort_of ns x ≡ nothing
+  pub error : e ≡ Declared
+
+sort_nowhere : (ns : List Name) (x : Sexp) {r : Result ℕ Question} {e : Question} → r ≡ ok_or (sort_of ns x) Declared → r ≡ Err e → Sortless ns x e
+sort_nowhere ns x {e = e} a b = go (sort_of ns x) refl (sym b ∙ a)
+  where
+    go : (o : Option ℕ) → sort_of ns x ≡ o → ◌≡◌ {A = Result ℕ Question} (Err e) (ok_or o Declared) → Sortless ns x e
+    go nothing k f = record { is = k; error = cc }
+    go (some j) k f = never cc
 
 sort_inside : (ns : List Name) (o : Option Name) (s : ℕ) → sort_of_name ns o ≡ some s → s ≤ length ns
 unfolding sort_of_name
 sort_inside ns nothing s e = absurd (let z : ◌≡◌ {A = ℕ} 0 1 = cc in omega arith)
 sort_inside ns (some n) s e = let f = first_some (λ (m : Name). same m.bytes n.bytes) ns 1 s no_name e in omega (arith, f.is, f.inside)
 
-module _ {text sorts : List ℕ} {known : ℕ} {item : Item} {r : Option ℕ} (told : SortTold text sorts known item r) where
+module _ {text sorts : List ℕ} {known : ℕ} {item : Item} {r : Result ℕ Question} (told : SortTold text sorts known item r) where
   -- a sort's number is small
-  pub sort_small : (s : ℕ) → r ≡ some s → SomeSorts text sorts known → (x : Sexp) (at : ℕ) → item ≡ item_of at x → Spelt text x → s ≤ SORTS
+  pub sort_small : (s : ℕ) → r ≡ Ok s → SomeSorts text sorts known → (x : Sexp) (at : ℕ) → item ≡ item_of at x → Spelt text x → s ≤ SORTS
   unfolding sort_of
   sort_small s a h x at e k =
-      omega (arith, sort_inside h.0 (proper x) s (found_at (sort_of h.0 x) r s (told x at e k h.0 (sorts_rows h.1)) a), h.1.many, sorts_few h.1)
+      omega (arith, sort_inside h.0 (proper x) s (sort_there (sort_of h.0 x) (told x at e k h.0 (sorts_rows h.1)) a), h.1.many, sorts_few h.1)
 
   module _ (T : Theory) (h : SortsHeld text sorts known T.sorts) (x : Sexp) (at : ℕ) (e : item ≡ item_of at x) (k : Spelt text x) where
-    pub sort_known : (s : ℕ) → r ≡ some s → sort_of T.sorts x ≡ some s
-    sort_known s a = found_at (sort_of T.sorts x) r s (told x at e k T.sorts (sorts_rows h)) a
+    pub sort_known : (s : ℕ) → r ≡ Ok s → sort_of T.sorts x ≡ some s
+    sort_known s a = sort_there (sort_of T.sorts x) (told x at e k T.sorts (sorts_rows h)) a
 
-    pub sort_unknown : r ≡ nothing → sort_of T.sorts x ≡ nothing
-    sort_unknown a = found_missing (sort_of T.sorts x) r (told x at e k T.sorts (sorts_rows h)) a
+    pub sort_unknown : {q : Question} → r ≡ Err q → Sortless T.sorts x q
+    sort_unknown a = sort_nowhere T.sorts x (told x at e k T.sorts (sorts_rows h)) a
 
 pub arguments_none : (text cells row : List ℕ) (count : ℕ) (T : Theory) (xs : Sexps) → Holds text cells xs → length cells ≡ 0 → count ≤ ARGUMENTS →
     ArgumentsRead row row count (sorts T xs count (tt {0})) (Ok count)
@@ -66,15 +87,17 @@ arguments_none text cells row count T xs h e l =
     }
 
 -- the sort that the first item names
-module _ {text table cells : List ℕ} {known next : ℕ} {item : Item} {r : Option ℕ} (told : SortTold text table known item r) {xs : Sexps} (f : ItemFirst text cells xs item next) where
-  pub first_small : (s : ℕ) → r ≡ some s → SomeSorts text table known → s ≤ SORTS
+module _ {text table cells : List ℕ} {known next : ℕ} {item : Item} {r : Result ℕ Question} (told : SortTold text table known item r) {xs : Sexps} (f : ItemFirst text cells xs item next) where
+  pub first_small : (s : ℕ) → r ≡ Ok s → SomeSorts text table known → s ≤ SORTS
   first_small s a h = sort_small told s a h f.x 0 f.at f.spelt
 
   module _ (T : Theory) (count : ℕ) (h : SortsHeld text table known T.sorts) where
-    pub arguments_unknown : r ≡ nothing → sorts T xs count (tt {0}) ≡ refuse 11 0 (tt {0})
-    arguments_unknown a = ap (λ z. sorts T z count (tt {0})) f.is ∙ sorts_unknown T f.x f.ys count (tt {0}) (sort_unknown told T h f.x 0 f.at f.spelt a)
+    pub arguments_unknown : {q : Question} → r ≡ Err q → sorts T xs count (tt {0}) ≡ refuse (number_of q) (detail_of q) (tt {0})
+    arguments_unknown a =
+        let none = sort_unknown told T h f.x 0 f.at f.spelt a in
+        rw none.error (ap (λ z. sorts T z count (tt {0})) f.is ∙ sorts_unknown T f.x f.ys count (tt {0}) none.is)
 
-    module _ (s : ℕ) (a : r ≡ some s) where
+    module _ (s : ℕ) (a : r ≡ Ok s) where
       pub arguments_full : ARGUMENTS ≤ count → sorts T xs count (tt {0}) ≡ refuse 60 3 (tt {0})
       arguments_full l =
           ap (λ z. sorts T z count (tt {0})) f.is ∙ sorts_full T f.x f.ys count (tt {0}) s (sort_known told T h f.x 0 f.at f.spelt s a) l
@@ -84,7 +107,7 @@ module _ {text table cells : List ℕ} {known next : ℕ} {item : Item} {r : Opt
           ap (λ z. sorts T z count (tt {0})) f.is ∙ sorts_more T f.x f.ys count (tt {0}) s (sort_known told T h f.x 0 f.at f.spelt s a) l
           ∙ ap (λ (k : ℕ). then (sorts T f.ys k (tt {0})) (λ ss u. ok (s ∷ ss) u)) (sym (add-one count))
 
-      pub arguments_more : (row row' : List ℕ) (q : Added) → count < ARGUMENTS →
+      pub arguments_more : (row row' : List ℕ) (q : Result ℕ Question) → count < ARGUMENTS →
           ArgumentsRead (set row count s) row' (count + 1) (sorts T f.ys (count + 1) (tt {0})) q → ArgumentsRead row row' count (sorts T xs count (tt {0})) q
       unfolding then
       arguments_more row row' (Ok n) l k =
@@ -95,7 +118,7 @@ module _ {text table cells : List ℕ} {known next : ℕ} {item : Item} {r : Opt
             most = k.most;
             cells = k.cells ∙ ap (λ (i : ℕ). sets (set row count s) i k.sorts) (add-one count);
           }
-      arguments_more row row' (No x d) l k = so_far l ∙ ap (λ q. then q (λ ss u. ok (s ∷ ss) u)) k
+      arguments_more row row' (Err e) l k = so_far l ∙ ap (λ q. then q (λ ss u. ok (s ∷ ss) u)) k
 
 -- the items behind come next
 pub gathering_next : {text cells sorts : List ℕ} {known count next : ℕ} {xs : Sexps} {item : Item} (row : List ℕ) (s : ℕ) → ItemFirst text cells xs item next → SomeSorts text sorts known →

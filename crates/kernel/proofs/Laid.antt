@@ -14,7 +14,7 @@ use Rattle.rules.specs.Laws.Prefix.{words_counted}
 use Rattle.kernel.specs.Held.{Front}
 use Rattle.kernel.specs.Parsed.{TheoryLists, theory_lists, TheoryHeld, Roomy, Exact, CountsFit, zero_from, wiped, counts_of, theory_tables}
 use Rattle.kernel.proofs.Holding.{part_back}
-use Rattle.kernel.specs.declared.parse.Counts.{Counts}
+use Rattle.kernel.specs.declared.tables.Counts.{Counts}
 use Rattle.kernel.specs.RuleRows.{length_rule_cells, rule_var_row_long}
 
 -- one table: the cells that are used, and how many

@@ -1,8 +1,7 @@
 -- Lists that begin with a symbol: what the readers of heads answer. Assumes nothing.
 use mathlib.Core.Path.{◌≡◌, refl, sym, ap, ◌∙◌}
 use Prim.Native.Nat.{ℕ, ◌+◌, ◌-◌, ◌*◌, ◌<◌, ◌≤◌}
-use mathlib.Core.Bool.{true}
-use Rattle.std.specs.Prelude.{Some as some, None as nothing, Option}
+use Rattle.std.specs.Prelude.{Some as some, None as nothing, Option, Result, Ok, Err}
 use mathlib.Core.List.{List}
 use native.Mathlib.Omega.{arith}
 use lib.ListN.{length, get_or, take, drop, set, length-set}
@@ -17,11 +16,15 @@ use Rattle.rules.specs.Theory.{Theory, Symbol, no_symbol, inputs, predicate_name
 use Rattle.rules.specs.Declare.{Reading, word, head, pattern, patterns, predicated}
 use Rattle.rules.specs.Laws.PatternSteps.{word_full, word_more, pattern_empty, pattern_headless, pattern_lone, pattern_asks, predicated_empty, predicated_headless, predicated_unknown, predicated_count, predicated_asks}
 use Rattle.sexp.specs.Items.{Holds}
+use Rattle.kernel.specs.declared.names.Kind.TheVariants.{Predicate}
 use Rattle.kernel.specs.Named.{called, of_kind, SymbolRows}
 use Rattle.kernel.specs.Held.{SymbolsHeld}
 use Rattle.kernel.specs.Reading.{Stopped, HeadRead, Opened, OpenedRead}
-use Rattle.kernel.specs.declared.patterns.Reply.{Reply}
-use Rattle.kernel.specs.declared.patterns.Reply.TheVariants.{Ok, No}
+use Rattle.questions.specs.declared.Question.{Question}
+use Rattle.questions.specs.Numbers.{number_of, detail_of}
+use Rattle.questions.specs.declared.Row.{Row}
+use Rattle.questions.specs.declared.Row.TheVariants.{PatternWords}
+use Rattle.questions.specs.declared.Question.TheVariants.{Room}
 use Rattle.sexp.specs.FoundLaws.{found_at, found_missing}
 use Rattle.kernel.specs.SignatureRows.{symbols_rows}
 use Rattle.sexp.specs.FirstItem.{AtomFirst, ListFirst, count_first, none_left}
@@ -53,10 +56,11 @@ module _ (T : Theory) (R : Reading) (sort : ℕ) {text cells : List ℕ} {zs : S
           ap (λ z. pattern T (list z) sort R) f.is ∙ pattern_asks R T sort p (letters (drop p text)) f.others (omega (arith, k, l))
           ∙ ap (λ n. then (head T sort n (letters (drop p text)) R) (λ c U. then (patterns T f.others (inputs T c) U) (λ ts W. ok (app c ts) W))) k
 
-      pub term_opened : (Q : List ℕ) (r : Reply) → HeadRead P Q used T R (many - 1) (head T sort (many - 1) (letters (drop p text)) R) r →
-          OpenedRead text cells P Q used T R zs (pattern T (list zs) sort R) r
+      pub term_opened : (Q : List ℕ) (next : ℕ) (r : Result ℕ Question) →
+          HeadRead P Q used next T R (many - 1) (head T sort (many - 1) (letters (drop p text)) R) r →
+          OpenedRead text cells P Q used next T R zs (pattern T (list zs) sort R) r
       unfolding then
-      term_opened Q (Ok h next) k =
+      term_opened Q next (Ok h) k =
           record {
             first = atom p (letters (drop p text));
             others = f.others;
@@ -71,7 +75,7 @@ module _ (T : Theory) (R : Reading) (sort : ℕ) {text cells : List ℕ} {zs : S
             room = k.room;
             long = k.long;
           }
-      term_opened Q (No a d) k =
+      term_opened Q next (Err e) k =
           record {
             now = k.now;
             is = asks ∙ ap (λ z. then z (λ c U. then (patterns T f.others (inputs T c) U) (λ ts W. ok (app c ts) W))) k.is;
@@ -90,10 +94,10 @@ module _ (T : Theory) (R : Reading) {text cells : List ℕ} {zs : Sexps} (P : Li
 
   module _ {p : ℕ} (f : AtomFirst text cells zs p) (end : ℕ) (e : end ≡ p + length (letters (drop p text))) {symbols ins : List ℕ} {known : ℕ}
       (h : SymbolsHeld text symbols ins known T.symbols) (r : Option ℕ)
-      (a : (ss : List Symbol) → SymbolRows text symbols known ss → r ≡ (first (called true (take (end - p) (drop p text))) ss 0)) where
-    named_so : predicate_named T (letters (drop p text)) ≡ first (called true (take (end - p) (drop p text))) T.symbols 0
+      (a : (ss : List Symbol) → SymbolRows text symbols known ss → r ≡ (first (called Predicate (take (end - p) (drop p text))) ss 0)) where
+    named_so : predicate_named T (letters (drop p text)) ≡ first (called Predicate (take (end - p) (drop p text))) T.symbols 0
     unfolding predicate_named of_kind
-    named_so = ap (λ z. first (called true z) T.symbols 0) (sym (atom_span text p end f.inside e).part)
+    named_so = ap (λ z. first (called Predicate z) T.symbols 0) (sym (atom_span text p end f.inside e).part)
 
     begins : predicated T zs R ≡ predicated T (cons (atom p (letters (drop p text))) f.others) R
     begins = ap (λ z. predicated T z R) f.is
@@ -101,15 +105,15 @@ module _ (T : Theory) (R : Reading) {text cells : List ℕ} {zs : Sexps} (P : Li
     pub judgment_unknown : r ≡ nothing → Stopped P P used (predicated T zs R) 11 0
     judgment_unknown b =
         stopped R 11 0 (begins ∙ predicated_unknown R T p (letters (drop p text)) f.others
-        (named_so ∙ found_missing (first (called true (take (end - p) (drop p text))) T.symbols 0) r (a T.symbols (symbols_rows h)) b))
+        (named_so ∙ found_missing (first (called Predicate (take (end - p) (drop p text))) T.symbols 0) r (a T.symbols (symbols_rows h)) b))
 
     module _ (c : ℕ) (b : r ≡ some c) (many : ℕ) (m : many ≡ count zs) where
       known_so : predicate_named T (letters (drop p text)) ≡ some c
-      known_so = named_so ∙ found_at (first (called true (take (end - p) (drop p text))) T.symbols 0) r c (a T.symbols (symbols_rows h)) b
+      known_so = named_so ∙ found_at (first (called Predicate (take (end - p) (drop p text))) T.symbols 0) r c (a T.symbols (symbols_rows h)) b
 
       declared : c < length T.symbols
       declared =
-          let g = first_some (called true (take (end - p) (drop p text))) T.symbols 0 c no_symbol (sym named_so ∙ known_so) in
+          let g = first_some (called Predicate (take (end - p) (drop p text))) T.symbols 0 c no_symbol (sym named_so ∙ known_so) in
           omega (arith, g.is, g.inside)
 
       arity_is : get_or symbols (4 * c + 1) 0 ≡ length (inputs T c)
@@ -127,7 +131,8 @@ module _ (T : Theory) (R : Reading) {text cells : List ℕ} {zs : Sexps} (P : Li
         asks_so : predicated T zs R ≡ then (word R) (λ u U. then (patterns T f.others (inputs T c) U) (λ ts W. ok (app c ts) W))
         asks_so = begins ∙ predicated_asks R T p (letters (drop p text)) f.others c known_so many_so
 
-        pub judgment_opened : length P ≡ PATTERNS → (used < PATTERNS) × (Q ≡ set P used c) → Opened text cells P Q used T R zs (predicated T zs R) c (used + 1)
+        pub judgment_opened : {next : ℕ} → length P ≡ PATTERNS → (used < PATTERNS) × (Q ≡ set P used c) × (next ≡ used + 1) →
+            Opened text cells P Q used T R zs (predicated T zs R) c next
         unfolding then
         judgment_opened g k =
             record {
@@ -139,18 +144,20 @@ module _ (T : Theory) (R : Reading) {text cells : List ℕ} {zs : Sexps} (P : Li
               some = f.some;
               known = declared;
               many = many_so;
-              nexts = refl;
-              words = words_more P Q used c (omega (arith, g, k.0)) k.1;
-              room = omega (arith, k.0);
+              nexts = k.2;
+              words = words_more P Q used c (omega (arith, g, k.0)) k.1 k.2;
+              room = omega (arith, k.0, k.2);
               long = ap length k.1 ∙ length-set P used c;
             }
 
-        pub judgment_full : (PATTERNS ≤ used) × (Q ≡ P) → Stopped P Q used (predicated T zs R) 60 6
+        pub judgment_full : {e : Row} → (PATTERNS ≤ used) × (Q ≡ P) × (e ≡ PatternWords) →
+            Stopped P Q used (predicated T zs R) (number_of (Room e)) (detail_of (Room e))
         unfolding then
         judgment_full k =
             record {
               now = R;
-              is = asks_so ∙ ap (λ z. then z (λ u U. then (patterns T f.others (inputs T c) U) (λ ts W. ok (app c ts) W))) (word_full R (omega (arith, w, k.0)));
+              is = asks_so ∙ ap (λ z. then z (λ u U. then (patterns T f.others (inputs T c) U) (λ ts W. ok (app c ts) W))) (word_full R (omega (arith, w, k.0)))
+                  ∙ (λ i. refuse 60 (detail_of (Room (sym k.2 i))) R);
               words = ap (take used) k.1;
               long = ap length k.1;
             }

@@ -18,10 +18,13 @@ use Rattle.sexp.specs.WalkLaws.{Walk, walk_start, walk_more, walk_over, walk_ato
 use Rattle.sexp.specs.declared.items.Item.{Item}
 use Rattle.sexp.specs.declared.items.Item.TheVariants.{Atom, List as Part}
 use Rattle.kernel.specs.Held.{SymbolsHeld}
-use Rattle.kernel.specs.Reading.{ReadSoFar, Written, Stopped, PatternRead, Patterning}
-use Rattle.kernel.specs.declared.patterns.Reply.{Reply}
-use Rattle.kernel.specs.declared.patterns.Reply.TheVariants.{Ok, No}
-use Rattle.kernel.proofs.Trees.{symbolic, pair_stopped, pair_read, written_of}
+use Rattle.kernel.specs.Reading.{SameTables, ReadSoFar, Written, Stopped, PatternRead, Patterning}
+use Rattle.kernel.specs.declared.patterns.RuleReader.{RuleReader}
+use Rattle.std.specs.Prelude.{Result, Ok, Err}
+use Rattle.questions.specs.declared.Question.{Question}
+use Rattle.questions.specs.Numbers.{number_of, detail_of}
+use Rattle.questions.specs.declared.Question.TheVariants.{Declared}
+use Rattle.kernel.proofs.Trees.{symbolic, pair_stopped, pair_read}
 
 -- the next item is a list, and the others stand behind it
 pub record Next (text cells : List ℕ) (at : ℕ) (left : Sexps) (a b : ℕ) : Type 0 where
@@ -60,14 +63,15 @@ pub record Premising (text cells : List ℕ) (T : Theory) (R : Reading) (zs : Se
   pub now : Reading
   pub reads : ReadSoFar text table v w now
   pub long : length M ≡ length P
-  pub onward : (table' Q : List ℕ) (r : Reply) → PatternRead prefixes text table' M Q w (judgments T left now) r → PatternRead prefixes text table' P Q used (judgments T zs R) r
+  pub onward : (table' : List ℕ) (v' : ℕ) (Q : List ℕ) (w' : ℕ) (r : Result (Unit {0}) Question) → PatternRead prefixes text table' v' M Q w w' (judgments T left now) r →
+      PatternRead prefixes text table' v' P Q used w' (judgments T zs R) r
 
 module _ {text cells : List ℕ} {T : Theory} {R : Reading} {zs : Sexps} {P : List ℕ} {used : ℕ} {table M : List ℕ} {at v w : ℕ}
     (g : Premising text cells T R zs P used table M at v w) where
   pub going_over : length cells ≤ at → Written prefixes text table P M used (judgments T zs R) v w
   unfolding prefix
   going_over h =
-      g.onward table M (Ok v w)
+      g.onward table v M w (Ok tt)
       (record {
         tree = none;
         now = g.now;
@@ -81,7 +85,7 @@ module _ {text cells : List ℕ} {T : Theory} {R : Reading} {zs : Sexps} {P : Li
   going_atom {p = p} h e b =
       let m = walk_more g.walk h in
       let k = walk_atom (subst (λ z. Walk text cells at z) m.is g.walk) e b in
-      g.onward table M (No 11 0)
+      g.onward table v M w (Err Declared)
       (record {
         now = g.now;
         is = ap (λ z. judgments T z g.now) (m.is ∙ ap (λ x. cons x m.others) k.is) ∙ judgments_atom g.now T p k.bytes m.others;
@@ -96,10 +100,9 @@ module _ {text cells : List ℕ} {T : Theory} {R : Reading} {zs : Sexps} {P : Li
     low : w ≤ length M
     low = omega (arith, g.reads.room, g.long, long)
 
-    pub going_stops : (table' M' : List ℕ) (r : Reply) {x d : ℕ} → PatternRead prefix text table' M M' w (predicated T f.inner g.now) r → r ≡ No x d →
-        PatternRead prefixes text table' P M' used (judgments T zs R) r
-    going_stops table' M' r q e =
-        g.onward table' M' r (pair_stopped text (predicated T f.inner g.now) (λ U. judgments T f.others U) splits w M low table' M' r q e)
+    pub going_stops : {M' : List ℕ} (x : Question) → Stopped M M' w (predicated T f.inner g.now) (number_of x) (detail_of x) →
+        Stopped P M' used (judgments T zs R) (number_of x) (detail_of x)
+    going_stops {M'} x q = g.onward table v M' w (Err x) (pair_stopped text (predicated T f.inner g.now) (λ U. judgments T f.others U) splits w M low q)
 
     pub going_on : {table' M' : List ℕ} {n m : ℕ} → Written prefix text table' M M' w (predicated T f.inner g.now) n m → Premising text cells T R zs P used table' M' b n m
     going_on {M' = M'} {m = m} k =
@@ -110,7 +113,7 @@ module _ {text cells : List ℕ} {T : Theory} {R : Reading} {zs : Sexps} {P : Li
           now = k.now;
           reads = k.reads;
           long = k.long ∙ g.long;
-          onward = λ t Q r q. g.onward t Q r (pair_read text (predicated T f.inner g.now) (λ U. judgments T f.others U) splits w M low k high t Q r q);
+          onward = λ t v' Q w' r q. g.onward t v' Q w' r (pair_read text (predicated T f.inner g.now) (λ U. judgments T f.others U) splits w M low k high t v' Q w' r q);
         }
 
 -- The loop -------------------------------------------------------------------------------------------------------------------------
@@ -123,7 +126,7 @@ pub record Running (text cells symbols inputs : List ℕ) (known : ℕ) (table�
 pub running_start : (text cells symbols inputs : List ℕ) (known : ℕ) (table : List ℕ) (count : ℕ) (P : List ℕ) (used : ℕ) →
     Running text cells symbols inputs known table count P used table P 0 count used
 running_start text cells symbols inputs known table count P used =
-    record { goes = λ T R zs h r k. record { left = zs; walk = walk_start k; now = R; reads = r; long = refl; onward = λ t Q a q. q } }
+    record { goes = λ T R zs h r k. record { left = zs; walk = walk_start k; now = R; reads = r; long = refl; onward = λ t v' Q w' a q. q } }
 
 module _ {text cells symbols inputs : List ℕ} {known : ℕ} {table₀ : List ℕ} {count : ℕ} {P : List ℕ} {used : ℕ} {table M : List ℕ} {at v w : ℕ}
     (i : Running text cells symbols inputs known table₀ count P used table M at v w) (p : Patterning text cells symbols inputs known table₀ count (length P) used) where
@@ -150,21 +153,30 @@ module _ {text cells symbols inputs : List ℕ} {known : ℕ} {table₀ : List �
           long = here.long ∙ p.long;
         }
 
-    module _ (table' M' : List ℕ) (r : Reply)
-        (q : (T : Theory) (R : Reading) (zs : Sexps) → SymbolsHeld text symbols inputs known T.symbols → ReadSoFar text table v w R → Holds text (take (b - a) (drop a cells)) zs →
-        PatternRead prefix text table' M M' w (predicated T zs R) r) where
-      pub running_stops : {x d : ℕ} → r ≡ No x d → (T : Theory) (R : Reading) (zs : Sexps) → SymbolsHeld text symbols inputs known T.symbols → ReadSoFar text table₀ count used R →
-          Holds text cells zs → PatternRead prefixes text table' P M' used (judgments T zs R) r
-      running_stops c T R zs s y k =
-          let o = i.goes T R zs s y k in
-          let f = next_list o.walk h e g in
-          going_stops o p.long f table' M' r (q T o.now f.inner s o.reads f.holds) c
+    pub running_stops : (M' : List ℕ) (x : Question) → ((T : Theory) (R : Reading) (zs : Sexps) → SymbolsHeld text symbols inputs known T.symbols → ReadSoFar text table v w R →
+        Holds text (take (b - a) (drop a cells)) zs → Stopped M M' w (predicated T zs R) (number_of x) (detail_of x)) →
+        (T : Theory) (R : Reading) (zs : Sexps) → SymbolsHeld text symbols inputs known T.symbols → ReadSoFar text table₀ count used R →
+        Holds text cells zs → Stopped P M' used (judgments T zs R) (number_of x) (detail_of x)
+    running_stops M' x q T R zs s y k =
+        let o = i.goes T R zs s y k in
+        let f = next_list o.walk h e g in
+        going_stops o p.long f x (q T o.now f.inner s o.reads f.holds)
 
-      pub running_on : {n m : ℕ} → r ≡ Ok n m → Running text cells symbols inputs known table₀ count P used table' M' b n m
-      running_on c =
-          record {
-            goes = λ T R zs s y k.
-                let o = i.goes T R zs s y k in
-                let f = next_list o.walk h e g in
-                going_on o p.long f (written_of prefix text table' M M' w (predicated T f.inner o.now) r (q T o.now f.inner s o.reads f.holds) c);
-          }
+    pub running_on : {table' : List ℕ} {n : ℕ} {M' : List ℕ} {m : ℕ} → ((T : Theory) (R : Reading) (zs : Sexps) → SymbolsHeld text symbols inputs known T.symbols → ReadSoFar text table v w R →
+        Holds text (take (b - a) (drop a cells)) zs → Written prefix text table' M M' w (predicated T zs R) n m) →
+        Running text cells symbols inputs known table₀ count P used table' M' b n m
+    running_on q =
+        record {
+          goes = λ T R zs s y k.
+              let o = i.goes T R zs s y k in
+              let f = next_list o.walk h e g in
+              going_on o p.long f (q T o.now f.inner s o.reads f.holds);
+        }
+
+-- of the reader at the beginning and now
+pub record Underway (s t : RuleReader) (cells : List ℕ) (at : ℕ) : Type 0 where
+  pub same : SameTables s t
+  pub running : Running s.known.text.now cells s.known.rows.now s.known.inputs.now s.known.count s.vars.now s.count s.patterns.now s.used t.vars.now t.patterns.now at t.count t.used
+
+pub same_on : {s t u : RuleReader} → SameTables s t → SameTables t u → SameTables s u
+same_on a b = record { known = b.known ∙ a.known; vars = b.vars ∙ a.vars; patterns = b.patterns ∙ a.patterns }

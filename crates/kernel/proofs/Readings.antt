@@ -1,26 +1,28 @@
 -- The entries of the tables of sorts and symbols, as the readers read them. Assumes nothing.
 use mathlib.Core.Path.{◌≡◌, refl, sym, ap, ◌∙◌}
-use Prim.Native.Nat.{ℕ, suc, ◌+◌, ◌*◌, ◌<◌, ◌≤◌}
-use mathlib.Core.Bool.{true, false}
+use Prim.Native.Nat.{ℕ, ◌+◌, ◌*◌, ◌<◌, ◌≤◌}
+use mathlib.Core.Bool.{Bool, true, false}
 use Rattle.std.specs.Prelude.{Some as some, None as nothing, Option}
 use mathlib.Core.List.{List, []}
 use native.Mathlib.Omega.{arith}
 use native.Mathlib.Numerals.{add-one}
 use lib.Dec.{eqb}
-use lib.ListN.{length, drop, length-drop}
+use Rattle.std.proofs.Common.{drop_of_length-le, drop-cons}
+use lib.ListN.{length, drop, get_or}
 use borrow.Author.Tests.{eq-eqb, ne_eqb}
 use Rattle.rules.specs.Limits.{SORTS, ARGUMENTS}
 use Rattle.rules.specs.Text.{same}
 use Rattle.rules.specs.Find.{first, every}
-use Rattle.rules.specs.Laws.Find.{next, first_next, first_some, first_here, first_later, first_over}
+use Rattle.rules.specs.Laws.Find.{next, first_next, first_here, first_later, first_over}
 use Rattle.rules.specs.Sexp.{Name}
 use Rattle.rules.specs.Theory.{Theory, Symbol, no_symbol, output, constructors, sort_named, constructor_named, predicate_named}
 use Rattle.sexp.specs.NameRows.{NameRows, SomeNames}
+use Rattle.kernel.specs.declared.names.Kind.TheVariants.{Constructor, Predicate}
 use Rattle.kernel.specs.Named.{of_kind, SymbolRows, SomeSymbols, called}
 use Rattle.kernel.specs.Held.{SortsHeld, SomeSorts, SymbolsHeld}
 use Rattle.kernel.specs.Readers.{KnownSymbol, KnownInput, NamedSymbols, CountedSymbols}
 use Rattle.kernel.specs.Entries.{known_symbol}
-use Rattle.kernel.specs.Listing.{next_constructor, with_rest, every_first}
+use Rattle.kernel.specs.Listing.{next_constructor}
 use Rattle.kernel.specs.SignatureRows.{sorts_rows, sorts_few, symbols_rows, symbols_few, input_place}
 use Rattle.sexp.specs.FoundLaws.{found_at, found_missing, found_inside}
 
@@ -64,12 +66,12 @@ pub some_rows : {text symbols : List ℕ} {count : ℕ} → NamedSymbols text sy
 some_rows s = (s.1.0, symbols_rows s.1.1)
 
 module _ (T : Theory) {text symbols ins : List ℕ} {count : ℕ} (h : SymbolsHeld text symbols ins count T.symbols) (name : List ℕ) (r : Option ℕ) where
-  pub constructor_is : ((ss : List Symbol) → SymbolRows text symbols count ss → r ≡ (first (called false name) ss 0)) →
+  pub constructor_is : ((ss : List Symbol) → SymbolRows text symbols count ss → r ≡ (first (called Constructor name) ss 0)) →
       r ≡ (constructor_named T name)
   unfolding constructor_named of_kind
   constructor_is a = a T.symbols (symbols_rows h)
 
-  pub predicate_is : ((ss : List Symbol) → SymbolRows text symbols count ss → r ≡ (first (called true name) ss 0)) →
+  pub predicate_is : ((ss : List Symbol) → SymbolRows text symbols count ss → r ≡ (first (called Predicate name) ss 0)) →
       r ≡ (predicate_named T name)
   unfolding predicate_named of_kind
   predicate_is a = a T.symbols (symbols_rows h)
@@ -125,47 +127,51 @@ pub counting_start : (symbols : List ℕ) (count sort : ℕ) → CountedSymbols 
 unfolding constructors
 counting_start symbols count sort s = record { counted = s; low = omega arith; high = omega arith; same = λ T text ins h. omega arith }
 
-module _ {symbols : List ℕ} {count sort n from : ℕ} (k : Counting symbols count sort n from) (r : Option ℕ)
-    (a : (T : Theory) (text inputs : List ℕ) → SymbolsHeld text symbols inputs count T.symbols → r ≡ (next_constructor T sort from)) where
-  module _ (T : Theory) {text ins : List ℕ} (h : SymbolsHeld text symbols ins count T.symbols) where
-    left : every (λ c. eqb c.output sort) (drop from T.symbols) from ≡ with_rest (λ c. eqb c.output sort) T.symbols no_symbol (next_constructor T sort from)
-    unfolding next_constructor
-    left = every_first (λ (c : Symbol). eqb c.output sort) T.symbols no_symbol from
+-- a constructor more, or none
+counts_on : (p : Symbol → Bool) (ss : List Symbol) (i : ℕ) → i < length ss → (b : Bool) → p (get_or ss i no_symbol) ≡ b →
+    length (every p (drop i ss) i) ≡ elim b [ true ↦ 1 | false ↦ 0 ] + length (every p (drop (i + 1) ss) (i + 1))
+unfolding every
+counts_on p ss i l true e = rw (drop-cons ss i no_symbol l, every, e, add-one) (omega arith)
+counts_on p ss i l false e = rw (drop-cons ss i no_symbol l, every, e, add-one) (omega arith)
 
-    module _ {i : ℕ} (e : r ≡ some i) where
-      next_is : next_constructor T sort from ≡ some i
-      next_is = found_at (next_constructor T sort from) r i (a T text ins h) e
+module _ {symbols : List ℕ} {count sort n i : ℕ} (k : Counting symbols count sort n i) where
+  module _ (l : i < count) where
+    pub counting_known : KnownSymbol symbols i
+    counting_known = known_symbol k.counted.1.1.1 l
 
-      pub next_inside : i < count
-      unfolding next_constructor
-      next_inside =
-          let f = first_some (λ (c : Symbol). eqb c.output sort) (drop from T.symbols) from i no_symbol next_is in
-          omega (arith, f.is, f.inside, length-drop from T.symbols, h.many)
+    module _ (r : ℕ) (a : (T : Theory) (text inputs : List ℕ) (m : ℕ) → SymbolsHeld text symbols inputs m T.symbols → i < m → r ≡ output T i) where
+      pub counting_in : r ≡ sort → Counting symbols count sort (n + 1) (i + 1)
+      unfolding output
+      counting_in e =
+          record {
+            counted = k.counted;
+            low = omega (arith, k.low);
+            high = omega (arith, l);
+            same = λ T text ins h.
+                omega (
+                  arith,
+                  k.same T text ins h,
+                  counts_on (λ c. eqb c.output sort) T.symbols i (omega (arith, l, h.many)) true (eq-eqb _ _ (sym (a T text ins count h l) ∙ e)),
+                );
+          }
 
-      pub next_on : from ≤ i
-      unfolding next_constructor
-      next_on = let f = first_some (λ (c : Symbol). eqb c.output sort) (drop from T.symbols) from i no_symbol next_is in omega (arith, f.is)
+      pub counting_out : (r ≡ sort → ⊥) → Counting symbols count sort n (i + 1)
+      unfolding output
+      counting_out e =
+          record {
+            counted = k.counted;
+            low = omega (arith, k.low);
+            high = omega (arith, l);
+            same = λ T text ins h.
+                omega (
+                  arith,
+                  k.same T text ins h,
+                  counts_on (λ c. eqb c.output sort) T.symbols i (omega (arith, l, h.many)) false (ne_eqb _ _ (λ q. e (a T text ins count h l ∙ q))),
+                );
+          }
 
-      rest_is : length (every (λ c. eqb c.output sort) (drop from T.symbols) from) ≡ suc (length (every (λ c. eqb c.output sort) (drop (i + 1) T.symbols) (i + 1)))
-      unfolding with_rest
-      rest_is = ap length (left ∙ ap (with_rest (λ (c : Symbol). eqb c.output sort) T.symbols no_symbol) next_is)
-
-  pub counting_inside : {i : ℕ} → r ≡ some i → (from ≤ i) × (i < count)
-  counting_inside e = let s = k.counted.1.1 in let T : Theory = record { sorts = []; symbols = s.0; rules = [] } in (next_on T s.1 e, next_inside T s.1 e)
-
-  pub counting_on : {i : ℕ} → r ≡ some i → Counting symbols count sort (n + 1) (i + 1)
-  counting_on {i} e =
-      let w = counting_inside e in
-      record {
-        counted = k.counted;
-        low = omega (arith, w.0, k.low);
-        high = omega (arith, w.1);
-        same = λ T text ins h. omega (arith, k.same T text ins h, rest_is T h e);
-      }
-
-  pub counting_over : r ≡ nothing → (T : Theory) (text ins : List ℕ) → SymbolsHeld text symbols ins count T.symbols → n ≡ length (constructors T sort)
-  unfolding with_rest
-  counting_over e T text ins h =
-      let z : length (every (λ (c : Symbol). eqb c.output sort) (drop from T.symbols) from) ≡ 0 =
-      ap length (left T h ∙ ap (with_rest (λ (c : Symbol). eqb c.output sort) T.symbols no_symbol) (found_missing (next_constructor T sort from) r (a T text ins h) e)) in
-      omega (arith, z, k.same T text ins h)
+  pub counting_over : count ≤ i → (T : Theory) (text ins : List ℕ) → SymbolsHeld text symbols ins count T.symbols → n ≡ length (constructors T sort)
+  unfolding every
+  counting_over l T text ins h =
+      let z : drop i T.symbols ≡ [] = drop_of_length-le T.symbols (omega (arith, l, h.many)) in
+      omega (arith, ap (λ (ss : List Symbol). length (every (λ c. eqb c.output sort) ss i)) z, k.same T text ins h)

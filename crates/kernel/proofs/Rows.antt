@@ -12,26 +12,20 @@ use Rattle.rules.specs.Find.{first}
 use Rattle.rules.specs.Laws.Find.{first_here, first_later, first_over}
 use Rattle.rules.specs.Theory.{Symbol, no_symbol, is_predicate}
 use Rattle.sexp.specs.RowLaws.{name_bytes}
+use Rattle.kernel.specs.declared.names.Kind.{Kind}
+use Rattle.kernel.specs.declared.names.Kind.TheVariants.{Constructor, Predicate}
 use Rattle.kernel.specs.Named.{kind_of, of_kind, SymbolAt, SomeSymbol, SymbolRows, SomeSymbols, called}
 
 -- Symbols ------------------------------------------------------------------------------------------------------------------------
 
-pub kind_true : (b : Bool) (n : ℕ) → b ≡ true → eqb n 0 ≡ kind_of b n
-unfolding kind_of
-kind_true b n e = rw e
-
-pub kind_false : (b : Bool) (n : ℕ) → b ≡ false → not (eqb n 0) ≡ kind_of b n
-unfolding kind_of
-kind_false b n e = rw e
-
-module _ (name : List ℕ) (b : Bool) {text table : List ℕ} {k : ℕ} {s : Symbol} (a : SymbolAt text table k s) where
+module _ (name : List ℕ) (b : Kind) {text table : List ℕ} {k : ℕ} {s : Symbol} (a : SymbolAt text table k s) where
   kind_is : kind_of b (get_or table (4 * k) 0) ≡ of_kind b s
   unfolding kind_of of_kind is_predicate
   kind_is = go b
     where
-      go : (c : Bool) → kind_of c (get_or table (4 * k) 0) ≡ of_kind c s
-      go true = ap (λ n. eqb n 0) a.output
-      go false = ap (λ n. not (eqb n 0)) a.output
+      go : (c : Kind) → kind_of c (get_or table (4 * k) 0) ≡ of_kind c s
+      go Predicate = ap (λ n. eqb n 0) a.output
+      go Constructor = ap (λ n. not (eqb n 0)) a.output
 
   pub symbol_is : kind_of b (get_or table (4 * k) 0) ≡ true →
       same (take (get_or table (4 * k + 2 + 1) 0 - get_or table (4 * k + 2) 0) (drop (get_or table (4 * k + 2) 0) text)) name ≡ called b name s
@@ -41,15 +35,15 @@ module _ (name : List ℕ) (b : Bool) {text table : List ℕ} {k : ℕ} {s : Sym
   symbol_not e = sym (ap (λ c. c && same s.name.bytes name) (sym kind_is ∙ e))
 
 -- a look-up that stands at a row
-pub record Seeking (text table name : List ℕ) (b : Bool) (count i : ℕ) : Type 0 where
+pub record Seeking (text table name : List ℕ) (b : Kind) (count i : ℕ) : Type 0 where
   pub some : SomeSymbols text table count
   pub low : i ≤ count
   pub same : (ss : List Symbol) → SymbolRows text table count ss → first (called b name) ss 0 ≡ first (called b name) (drop i ss) i
 
-pub seeking_start : (text table name : List ℕ) (b : Bool) (count : ℕ) → SomeSymbols text table count → Seeking text table name b count 0
+pub seeking_start : (text table name : List ℕ) (b : Kind) (count : ℕ) → SomeSymbols text table count → Seeking text table name b count 0
 seeking_start text table name b count s = record { some = s; low = omega arith; same = λ ss r. refl }
 
-module _ {text table name : List ℕ} {b : Bool} {count i : ℕ} (k : Seeking text table name b count i) where
+module _ {text table name : List ℕ} {b : Kind} {count i : ℕ} (k : Seeking text table name b count i) where
   pub seeking_row : i < count → SomeSymbol text table i
   seeking_row h = (get_or k.some.0 i no_symbol, k.some.1.row i (omega (arith, h, k.some.1.many)))
 

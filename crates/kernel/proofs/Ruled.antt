@@ -1,30 +1,32 @@
 -- The answers of `add_rule`, question by question. Assumes nothing.
 use mathlib.Core.Path.{◌≡◌, refl, sym, ap, ◌∙◌, subst}
-use Prim.Native.Nat.{ℕ, ◌-◌, ◌*◌, ◌≤◌}
+use Prim.Native.Nat.{ℕ, ◌+◌, ◌-◌, ◌*◌, ◌<◌, ◌≤◌}
 use Rattle.std.specs.Prelude.{None as nothing, Some as some, Option}
-use mathlib.Core.List.{List, [], ◌++◌}
+use mathlib.Core.List.{List, [], ◌∷◌, ◌++◌}
 use native.Mathlib.Omega.{arith}
 use lib.ListN.{length, take, drop, replicate, length-append}
 use lib.Seq.{length-take-le}
-use Rattle.rules.specs.Limits.{LENGTH, RULEVARS, PATTERNS}
+use Rattle.rules.specs.Limits.{LENGTH, RULES, RULEVARS, PATTERNS}
 use Rattle.rules.specs.Text.{same}
 use Rattle.rules.specs.Find.{first}
-use Rattle.rules.specs.Out.{Out, refuse}
+use Rattle.rules.specs.Out.{refuse}
 use Rattle.rules.specs.Sexp.{Sexps, list, item, count as item_count, Name}
-use Rattle.rules.specs.Tree.{Tree, Trees, count_trees}
+use Rattle.rules.specs.Tree.{count_trees}
 use Rattle.rules.specs.Theory.{Theory, Symbol, Rule, rule_named}
 use Rattle.rules.specs.Laws.Theory.{empty}
 use Rattle.rules.specs.TheoryTables.{rows, prefix, prefixes, pattern_row, rule_var_row}
-use Rattle.rules.specs.Declare.{Reading, schema, add_rule}
-use Rattle.rules.specs.Laws.Declaring.{proper}
+use Rattle.rules.specs.Declare.{schema, add_rule}
 use Rattle.sexp.specs.Items.{Holds}
 use Rattle.sexp.specs.NameRows.{NameRows}
 use Rattle.kernel.specs.Held.{Form, SomeSymbolsHeld}
-use Rattle.kernel.specs.Reading.{VarsHeld, ReadSoFar, Written, Stopped, PatternRead}
-use Rattle.kernel.specs.HeldRules.{schema_cells, Beginning, RulesHeld, SomeRules, RuleFits, RuleIs, RulePut, RuleRefused, RuleAdded}
-use Rattle.kernel.specs.declared.patterns.Reply.{Reply}
-use Rattle.kernel.specs.declared.patterns.Reply.TheVariants.{Ok, No}
-use Rattle.kernel.proofs.Spellings.{Proper}
+use Rattle.kernel.specs.Reading.{VarsHeld, ReadSoFar, Written, Stopped}
+use Rattle.kernel.specs.HeldRules.{schema_cells, Beginning, RulesHeld, SomeRules, RuleFits, RuleIs, RuleStored, RuleRefused}
+use Rattle.questions.specs.declared.Row.{Row}
+use Rattle.questions.specs.declared.Row.TheVariants.{Rules}
+use Rattle.questions.specs.declared.Question.TheVariants.{Room}
+use Rattle.questions.specs.declared.Question.{Question}
+use Rattle.questions.specs.Numbers.{number_of, detail_of}
+use Rattle.kernel.proofs.Spellings.{Proper, Nameless}
 use Rattle.sexp.specs.FoundLaws.{found_at, found_missing, names_of, first_name}
 use Rattle.kernel.proofs.Vars.{vars_few, vars_filled}
 use Rattle.kernel.proofs.Schemas.{written_kept}
@@ -47,21 +49,14 @@ module _ {text rules vars P : List ℕ} {count used : ℕ} where
   reads_none T row e h = record { held = subst (λ z. VarsHeld text z 0 []) (sym e) (no_vars text); words = h.used; room = h.few }
 
   pub beginning : {form symbols inputs : List ℕ} {known : ℕ} (row : List ℕ) → row ≡ replicate (3 * RULEVARS) 0 → Form text form 4 → (s : SomeSymbolsHeld text symbols inputs known) →
-      (r : SomeRules text rules vars P count used) → Beginning text form symbols inputs known row (length P) used
+      (r : SomeRules text rules vars P count used) → Beginning text form symbols inputs known row 0 (length P) used
   beginning row e f s r =
       record { form = f; held = s; so_far = begun (ruled s.0 r.0); reads = reads_none (ruled s.0 r.0) row e r.1; long = r.1.room }
 
 -- where the judgments are refused
-pub rule_stops : (text rules vars P table M : List ℕ) {count used : ℕ} (T : Theory) (xs : Sexps) (r : Reply) {a d : ℕ} → RulesHeld text rules vars P count used T.rules →
-    PatternRead schema_cells text table P M used (schema T xs (begun T)) r → r ≡ No a d → RuleAdded text rules vars M T (add_rule xs T) count used r
-rule_stops text rules vars P table M {count} {used} T xs r {a} {d} h q b =
-    let w : Stopped P M used (schema T xs (begun T)) a d = subst (λ z. PatternRead schema_cells text table P M used (schema T xs (begun T)) z) b q in
-    subst (λ z. RuleAdded text rules vars M T (add_rule xs T) count used z) (sym b)
-    (record { is = rule_stopped T xs a d w.now w.is; held = rules_kept h M w.words w.long })
-
-pub schema_of : (text table P M : List ℕ) (used : ℕ) (given : Out Reading (Trees × Tree)) (r : Reply) {n m : ℕ} → PatternRead schema_cells text table P M used given r → r ≡ Ok n m →
-    Written schema_cells text table P M used given n m
-schema_of text table P M used given r q b = subst (λ z. PatternRead schema_cells text table P M used given z) b q
+pub rule_stops : {text rules vars P M : List ℕ} {count used a d : ℕ} (T : Theory) (xs : Sexps) → RulesHeld text rules vars P count used T.rules →
+    Stopped P M used (schema T xs (begun T)) a d → RuleRefused text rules vars M T (add_rule xs T) count used a d
+rule_stops {M = M} {a = a} {d = d} T xs h w = record { is = rule_stopped T xs a d w.now w.is; held = rules_kept h M w.words w.long }
 
 module _ {text rules vars P table M : List ℕ} {count used variables last : ℕ} (T : Theory) (xs : Sexps) (h : RulesHeld text rules vars P count used T.rules)
     (w : Written schema_cells text table P M used (schema T xs (begun T)) variables last) where
@@ -71,8 +66,8 @@ module _ {text rules vars P table M : List ℕ} {count used variables last : ℕ
   pub held_still : RulesHeld text rules vars M count used T.rules
   held_still = rules_kept h M kept w.long
 
-  pub rule_no_name : proper (item xs 1) ≡ nothing → RuleRefused text rules vars M T (add_rule xs T) count used 11 0
-  rule_no_name f = record { is = rule_unnamed T xs w.tree w.now w.is f; held = held_still }
+  pub rule_no_name : {q : Question} → Nameless (item xs 1) q → RuleRefused text rules vars M T (add_rule xs T) count used (number_of q) (detail_of q)
+  rule_no_name f = rw f.error (record { is = rule_unnamed T xs w.tree w.now w.is f.is; held = held_still })
 
   module _ {s e : ℕ} (p : Proper text (item xs 1) s e) where
     abbrev pub rule_now : Rule
@@ -97,14 +92,17 @@ module _ {text rules vars P table M : List ℕ} {count used variables last : ℕ
         fresh : rule_named T p.name.bytes ≡ nothing
         fresh = found_so ∙ found_missing (first (λ (n : Name). same n.bytes (take (e - s) (drop s text))) (names_of rule_name T.rules) 0) q (a (names_of rule_name T.rules) (rules_rows h)) c
 
-        pub rule_put : (rules' vars' : List ℕ) (r : Reply) → RulePut text rules vars rules' vars' M count T.rules rule_now r → RuleAdded text rules' vars' M T (add_rule xs T) count used r
-        rule_put rules' vars' (Ok n k) g =
-            record { rule = rule_now; is = rule_new T xs w.tree w.now w.is p.name p.is fresh (omega (arith, g.0, h.many)); held = g.1 }
-        rule_put rules' vars' (No x d) g =
+        pub rule_put : {rules' vars' : List ℕ} → (count < RULES) × RulesHeld text rules' vars' M (count + 1) last (T.rules ++ (rule_now ∷ [])) →
+            RuleStored text rules' vars' M T (add_rule xs T) (count + 1) last
+        rule_put k = record { rule = rule_now; is = rule_new T xs w.tree w.now w.is p.name p.is fresh (omega (arith, k.0, h.many)); held = k.1 }
+
+        pub rule_unput : {rules' vars' : List ℕ} {e : Row} → (RULES ≤ count) × (e ≡ Rules) × (rules' ≡ rules) × (vars' ≡ vars) →
+            RuleRefused text rules' vars' M T (add_rule xs T) count used (number_of (Room e)) (detail_of (Room e))
+        rule_unput {vars' = vars'} k =
             record {
-              is = rule_full T xs w.tree w.now w.is p.name p.is fresh (omega (arith, g.0, h.many)) ∙ (λ i. refuse (sym g.1 i) (sym g.2 i) T);
-              held = subst (λ z. RulesHeld text z vars' M count used T.rules) (sym g.3)
-                  (subst (λ z. RulesHeld text rules z M count used T.rules) (sym g.4) held_still);
+              is = rule_full T xs w.tree w.now w.is p.name p.is fresh (omega (arith, k.0, h.many)) ∙ (λ i. refuse 60 (detail_of (Room (sym k.1 i))) T);
+              held = subst (λ z. RulesHeld text z vars' M count used T.rules) (sym k.2)
+                  (subst (λ z. RulesHeld text rules z M count used T.rules) (sym k.3) held_still);
             }
 
     module _ {form : List ℕ} (k : Holds text form xs) (n : 4 ≡ item_count xs) {premises : ℕ}

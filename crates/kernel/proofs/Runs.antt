@@ -14,30 +14,24 @@ use Rattle.sexp.specs.Encode.{encode}
 use Rattle.sexp.specs.Reads.{ReadRight}
 use Rattle.sexp.specs.ReadLaws.{FormIs}
 use Rattle.sexp.specs.Through.{Legible, Going, going_first, going_ends, going_fails, going_form, going_refused, going_taken, whole_refused, whole_forms}
-use Rattle.sexp.specs.Whole.{whole_of}
-use Rattle.sexp.specs.declared.sexp.Read.{Read}
-use Rattle.sexp.specs.declared.sexp.Read.TheVariants.{End, Form, Refused as ReadRefused}
-use Rattle.sexp.specs.declared.sexp.Whole.{Whole}
-use Rattle.sexp.specs.declared.sexp.Whole.TheVariants.{Forms, Refused as Unreadable}
-use Rattle.kernel.specs.Parsed.{TheoryLists, TheoryHeld, Formed, Declaring, DeclaredAs, Taken, Exact, Run, counts_of, no_counts, counts_in, judged_of, theory_of, verdict, CountsFit, wiped, theory_tables}
-use Rattle.kernel.specs.declared.parse.Counts.{Counts}
-use Rattle.kernel.specs.declared.declare.Declared.{Declared}
-use Rattle.kernel.specs.declared.declare.Declared.TheVariants.{Ok, No}
-use Rattle.kernel.specs.declared.parse.Judged.{Judged}
-use Rattle.kernel.specs.declared.parse.Judged.TheVariants.{Done, Refused}
-use Rattle.kernel.proofs.Laid.{counts_are, within_of, laid_of}
+use Rattle.sexp.specs.Whole.{EndsAs}
+use Rattle.std.specs.Prelude.{Option, Some as some, None as nothing, Result, Ok, Err}
+use Rattle.questions.specs.declared.Question.{Question}
+use Rattle.questions.specs.declared.Refused.{Refused}
+use Rattle.questions.specs.Numbers.{number_of, detail_of}
+use Rattle.sexp.specs.declared.sexp.Form.{Form}
+use Rattle.kernel.specs.Parsed.{TheoryLists, TheoryHeld, Formed, Declaring, DeclaredAs, Taken, Exact, Run, counts_of, no_counts, theory_of, verdict, CountsFit, wiped, theory_tables}
+use Rattle.kernel.specs.declared.tables.Counts.{Counts}
+use Rattle.kernel.proofs.Laid.{counts_are, within_of, laid_of, laid_held}
 
 -- What is held at the end ----------------------------------------------------------------------------------------------------------
 
 module _ {text : List ℕ} {t : TheoryLists} {n : Counts} (T : Theory) (h : TheoryHeld text t n T) where
-  counted : TheoryHeld text t (counts_of T) T
-  counted = subst (λ m. TheoryHeld text t m T) (counts_are h) h
+  run_done : (J : Verdict Theory) (k : ℕ) → J ≡ done k T → Run text t n J (Ok k)
+  run_done J k e = subst (λ z. Run text t n z (Ok k)) (sym e) (record { answers = refl; held = h })
 
-  run_done : (J : Verdict Theory) (k : ℕ) → J ≡ done k T → Run text t J (Done k n)
-  run_done J k e = subst (λ z. Run text t z (Done k n)) (sym e) (record { answers = ap (Done k) (counts_are h); held = counted })
-
-  run_refused : (J : Verdict Theory) (a d k : ℕ) → J ≡ refused a d k T → Run text t J (Refused a d k n)
-  run_refused J a d k e = subst (λ z. Run text t z (Refused a d k n)) (sym e) (record { answers = ap (Refused a d k) (counts_are h); held = counted })
+  run_refused : (J : Verdict Theory) (q : Question) (k : ℕ) → J ≡ refused (number_of q) (detail_of q) k T → Run text t n J (Err (record { question = q; form = k }))
+  run_refused J q k e = subst (λ z. Run text t n z (Err (record { question = q; form = k }))) (sym e) (record { answers = refl; held = h })
 
 -- nothing is held in tables of any content
 pub held_none : (text : List ℕ) (t : TheoryLists) → Exact t → TheoryHeld text t no_counts no_theory
@@ -76,15 +70,15 @@ module _ (text : List ℕ) (t : TheoryLists) (x : Exact t) (c : Counts) (z : c �
   start_held : TheoryHeld text t c no_theory
   start_held = subst (λ m. TheoryHeld text t m no_theory) (sym z) (held_none text t x)
 
-  pub unread_refused : (r : Whole) → r ≡ whole_of (read text) 0 → {n k : ℕ} → r ≡ Unreadable n k → Run text t (verdict text) (Refused n 0 k c)
+  pub unread_refused : (r : Result ℕ Refused) → EndsAs (read text) 0 r → {q : Refused} → r ≡ Err q → Run text t c (verdict text) (Err q)
   unfolding verdict
-  unread_refused r e {n} {k} b = run_refused no_theory start_held (verdict text) n 0 k (whole_refused declare no_theory (read text) r e b)
+  unread_refused r e {q} b = run_refused no_theory start_held (verdict text) q.question q.form (whole_refused declare no_theory (read text) r e b)
 
-pub read_whole : (text : List ℕ) (t : TheoryLists) (r : Judged) (w : Whole) → w ≡ whole_of (read text) 0 → {n : ℕ} → w ≡ Forms n →
-    Run text t (through declare (read text) 0 no_theory) r →
-    Run text t (verdict text) r
+pub read_whole : (text : List ℕ) (t : TheoryLists) (n : Counts) (r w : Result ℕ Refused) → EndsAs (read text) 0 w → {k : ℕ} → w ≡ Ok k →
+    Run text t n (through declare (read text) 0 no_theory) r →
+    Run text t n (verdict text) r
 unfolding verdict
-read_whole text t r w e b k = subst (λ z. Run text t z r) (sym (whole_forms declare no_theory (read text) w e b)) k
+read_whole text t n r w e b k = subst (λ z. Run text t n z r) (sym (whole_forms declare no_theory (read text) w e b)) k
 
 -- The loop -------------------------------------------------------------------------------------------------------------------------
 
@@ -98,47 +92,53 @@ pub underway_first : (text cells : List ℕ) (t : TheoryLists) (x : Exact t) (c 
 underway_first text cells t x c z l = record { T = no_theory; theory = start_held text t x c z; going = going_first declare no_theory l }
 
 module _ {text w₀ w : List ℕ} {t : TheoryLists} {held : Counts} {forms at : ℕ} (g : Underway text w₀ w t held forms at)
-    {v : List ℕ} {r : Read} (k : ReadRight text at w v r) where
-  pub ended : r ≡ End → Run text t (through declare (read text) 0 no_theory) (Done forms held) × (v ≡ w₀)
+    {v : List ℕ} {r : Result (Option Form) Question} (k : ReadRight text at w v r) where
+  pub ended : r ≡ Ok nothing → Run text t held (through declare (read text) 0 no_theory) (Ok forms) × (v ≡ w₀)
   ended e = let a = going_ends g.going k e in (run_done g.T g.theory _ forms a.0, a.1)
 
-  pub failed : {j : ℕ} → r ≡ ReadRefused j → Run text t (through declare (read text) 0 no_theory) (Refused j 0 forms held) × (v ≡ w₀)
-  failed {j} e = let a = going_fails g.going k e in (run_refused g.T g.theory _ j 0 forms a.0, a.1)
+  pub failed : {q : Question} → r ≡ Err q → Run text t held (through declare (read text) 0 no_theory) (Err (record { question = q; form = forms })) × (v ≡ w₀)
+  failed {q} e = let a = going_fails g.going k e in (run_refused g.T g.theory _ q forms a.0, a.1)
 
-  module _ {p n : ℕ} (e : r ≡ Form p n) where
-    abbrev form : FormIs text at w v p n
-    form = going_form g.going k e
+  module _ {form : Form} (e : r ≡ Ok (some form)) where
+    abbrev pub it : FormIs text at w v form.end form.cells
+    it = going_form g.going k e
 
-    pub formed : Formed text (take n v) form.form
+    pub formed : Formed text (take form.cells v) it.form
     unfolding encode
-    formed = record { encoded = form.holds.cells ∙ append-nil (encode form.form); spelt = form.holds.spelt.0 }
+    formed = record { encoded = it.holds.cells ∙ append-nil (encode it.form); spelt = it.holds.spelt.0 }
 
-    pub declaring : Declaring text (take n v) t held
-    declaring = record { x = form.form; formed = formed; T = g.T; held = g.theory; short = g.going.legible.short }
+    pub declaring : Declaring text (take form.cells v) t held
+    declaring = record { x = it.form; formed = formed; T = g.T; held = g.theory; short = g.going.legible.short }
 
-    module _ (t' : TheoryLists) {q : Declared} (d : DeclaredAs text t' held g.T (declare form.form g.T) q) where
-      pub declared_no : {a b : ℕ} → q ≡ No a b → Run text t' (through declare (read text) 0 no_theory) (Refused a b forms held)
-      declared_no {a} {b} f =
-          let s : DeclaredAs text t' held g.T (declare form.form g.T) (No a b) = subst (DeclaredAs text t' held g.T (declare form.form g.T)) f d in
-          run_refused g.T s.1 _ a b forms (going_refused g.going k e s.0)
+    module _ (t' : TheoryLists) (m : Counts) {d : Result Unit Question} (s : DeclaredAs text t' m g.T (declare it.form g.T) d) where
+      pub declared_no : {q : Question} → d ≡ Err q → Run text t' m (through declare (read text) 0 no_theory) (Err (record { question = q; form = forms }))
+      declared_no {q} f =
+          let z : DeclaredAs text t' m g.T (declare it.form g.T) (Err q) = subst (DeclaredAs text t' m g.T (declare it.form g.T)) f s in
+          run_refused g.T z.1 _ q forms (going_refused g.going k e z.0)
 
-      pub declared_ok : {m : Counts} {u : List ℕ} → q ≡ Ok m → u ≡ replicate n 0 ++ drop n v → Underway text w₀ u t' m (forms + 1) p
-      declared_ok {m} f c =
-          let s : Taken text t' (declare form.form g.T) m = subst (DeclaredAs text t' held g.T (declare form.form g.T)) f d in
-          record { T = s.now; theory = s.held; going = going_taken g.going k e s.is c }
+      pub declared_ok : {y : Unit} {u : List ℕ} → d ≡ Ok y → u ≡ replicate form.cells 0 ++ drop form.cells v → Underway text w₀ u t' m (forms + 1) form.end
+      declared_ok {y} f c =
+          let z : Taken text t' (declare it.form g.T) m = subst (DeclaredAs text t' m g.T (declare it.form g.T)) f s in
+          record { T = z.now; theory = z.held; going = going_taken g.going k e z.is c }
+
+pub no_error : {E : Type 0} (r : Result Unit E) → ((e : E) → r ≡ Err e → ⊥) → r ≡ Ok tt
+no_error (Ok tt) n = refl
+no_error (Err e) n = absurd (n e refl)
 
 -- The answer of `parse_exact` ------------------------------------------------------------------------------------------------------------
 
-counts_in_lem : (J : Verdict Theory) → counts_in (judged_of J) ≡ counts_of (theory_of J)
-counts_in_lem (done k T) = refl
-counts_in_lem (refused a d k T) = refl
+module _ {text : List ℕ} (t : TheoryLists) (n : Counts) (J : Verdict Theory) {r : Result ℕ Refused} (k : Run text t n J r) where
+  pub run_counts : n ≡ counts_of (theory_of J)
+  run_counts = counts_are k.held
 
-module _ {text : List ℕ} (t : TheoryLists) (J : Verdict Theory) {r : Judged} (k : Run text t J r) {n : Counts} (e : n ≡ counts_in r) where
-  counts_so : n ≡ counts_of (theory_of J)
-  counts_so = e ∙ ap counts_in k.answers ∙ counts_in_lem J
+  counted : TheoryHeld text t (counts_of (theory_of J)) (theory_of J)
+  counted = subst (λ m. TheoryHeld text t m (theory_of J)) run_counts k.held
 
   pub run_within : CountsFit t n
-  run_within = subst (CountsFit t) (sym counts_so) (within_of (theory_of J) k.held)
+  run_within = subst (CountsFit t) (sym run_counts) (within_of (theory_of J) counted)
 
   pub run_laid : {u : TheoryLists} → u ≡ wiped t n → u ≡ theory_tables (theory_of J)
-  run_laid f = f ∙ ap (wiped t) counts_so ∙ laid_of (theory_of J) k.held
+  run_laid f = f ∙ ap (wiped t) run_counts ∙ laid_of (theory_of J) counted
+
+  pub run_held : TheoryHeld text (theory_tables (theory_of J)) (counts_of (theory_of J)) (theory_of J)
+  run_held = laid_held (theory_of J) counted

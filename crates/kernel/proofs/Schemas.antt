@@ -1,5 +1,5 @@
 -- The premises and the conclusion of a rule, one behind the other: what their reader answers. Assumes nothing.
-use mathlib.Core.Path.{◌≡◌, refl, sym, ap, ◌∙◌, subst}
+use mathlib.Core.Path.{◌≡◌, refl, ap, ◌∙◌}
 use Prim.Native.Nat.{ℕ, ◌-◌, ◌<◌, ◌≤◌}
 use mathlib.Core.List.{List, ◌++◌}
 use native.Mathlib.Omega.{arith}
@@ -21,8 +21,8 @@ use Rattle.sexp.specs.declared.items.Item.TheVariants.{List as Part}
 use Rattle.kernel.specs.Held.{Form}
 use Rattle.kernel.specs.Reading.{Written, Stopped, PatternRead, Patterning}
 use Rattle.kernel.specs.HeldRules.{schema_cells, Beginning}
-use Rattle.kernel.specs.declared.patterns.Reply.{Reply}
-use Rattle.kernel.specs.declared.patterns.Reply.TheVariants.{Ok, No}
+use Rattle.std.specs.Prelude.{Result, Ok, Err}
+use Rattle.questions.specs.declared.Question.{Question}
 use Rattle.sexp.specs.Never.{never}
 use Rattle.kernel.proofs.Trees.{kept_front, longer}
 
@@ -33,13 +33,13 @@ list_at f k l e g = nth_list f.holds k (e f.xs f.holds.cells) (omega (arith, l, 
 
 -- What callees are given ---------------------------------------------------------------------------------------------------------
 
-module _ {text items symbols inputs row : List ℕ} {known used : ℕ} (P : List ℕ) (k : Beginning text items symbols inputs known row (length P) used) {x : Sexp} {a b : ℕ}
+module _ {text items symbols inputs row : List ℕ} {known used : ℕ} {n : ℕ} (P : List ℕ) (k : Beginning text items symbols inputs known row n (length P) used) {x : Sexp} {a b : ℕ}
     (l : ListIs text items x a b) where
-  pub premising : Patterning text (take (b - a) (drop a items)) symbols inputs known row 0 (length P) used
+  pub premising : Patterning text (take (b - a) (drop a items)) symbols inputs known row n (length P) used
   premising = record { zs = l.items; holds = l.holds; held = k.held; so_far = k.so_far; reads = k.reads; short = k.form.short; long = k.long }
 
-  pub concluding : {table M : List ℕ} {n m : ℕ} {given : Out Reading Trees} → Written prefixes text table P M used given n m →
-      Patterning text (take (b - a) (drop a items)) symbols inputs known table n (length M) m
+  pub concluding : {table M : List ℕ} {v m : ℕ} {given : Out Reading Trees} → Written prefixes text table P M used given v m →
+      Patterning text (take (b - a) (drop a items)) symbols inputs known table v (length M) m
   concluding w =
       record { zs = l.items; holds = l.holds; held = k.held; so_far = w.now; reads = w.reads; short = k.form.short; long = w.long ∙ k.long }
 
@@ -57,12 +57,8 @@ module _ {text : List ℕ} (T : Theory) (R : Reading) (xs : Sexps) where
   schema_atom {p = p} f = record { now = R; is = schema_no_premises R T xs p f.bytes f.is; words = refl; long = refl }
 
   module _ {form : List ℕ} {a b : ℕ} (l : ListIs text form (item xs 2) a b) (used : ℕ) (P : List ℕ) where
-    pub schema_stops : (table M : List ℕ) (r : Reply) {x d : ℕ} → PatternRead prefixes text table P M used (judgments T l.items R) r → r ≡ No x d →
-        PatternRead schema_cells text table P M used (schema T xs R) r
-    schema_stops table M r {x} {d} q e =
-        let w : Stopped P M used (judgments T l.items R) x d = subst (λ z. PatternRead prefixes text table P M used (judgments T l.items R) z) e q in
-        subst (λ z. PatternRead schema_cells text table P M used (schema T xs R) z) (sym e)
-        (record { now = w.now; is = schema_stopped R T xs l.items l.is x d w.now w.is; words = w.words; long = w.long })
+    pub schema_stops : {M : List ℕ} {x d : ℕ} → Stopped P M used (judgments T l.items R) x d → Stopped P M used (schema T xs R) x d
+    schema_stops {x = x} {d = d} w = record { now = w.now; is = schema_stopped R T xs l.items l.is x d w.now w.is; words = w.words; long = w.long }
 
     module _ (u : used ≤ PATTERNS) (long : length P ≡ PATTERNS) {table M : List ℕ} {n m : ℕ} (w : Written prefixes text table P M used (judgments T l.items R) n m) where
       kept : take used M ≡ take used P
@@ -81,10 +77,11 @@ module _ {text : List ℕ} (T : Theory) (R : Reading) (xs : Sexps) where
         so_far : schema T xs R ≡ then (predicated T j.items w.now) (λ t W. ok (w.tree, t) W)
         so_far = schema_asks R T xs l.items l.is w.tree w.now w.is j.items j.is
 
-        pub schema_read : (table' Q : List ℕ) (r : Reply) → PatternRead prefix text table' M Q m (predicated T j.items w.now) r →
-            PatternRead schema_cells text table' P Q used (schema T xs R) r
+        pub schema_read : (table' : List ℕ) (v : ℕ) (Q : List ℕ) (y : ℕ) (r : Result (Unit {0}) Question) →
+            PatternRead prefix text table' v M Q m y (predicated T j.items w.now) r →
+            PatternRead schema_cells text table' v P Q used y (schema T xs R) r
         unfolding then
-        schema_read table' Q (Ok v y) q =
+        schema_read table' v Q y (Ok u) q =
             record {
               tree = (w.tree, q.tree);
               now = q.now;
@@ -93,13 +90,13 @@ module _ {text : List ℕ} (T : Theory) (R : Reading) (xs : Sexps) where
               words = q.words ∙ ap (λ z. z ++ prefix q.tree) w.words ∙ append_assoc (take used P) (prefixes w.tree) (prefix q.tree);
               long = q.long ∙ w.long;
             }
-        schema_read table' Q (No x y) q =
+        schema_read table' v Q y (Err e) q =
             let g : m ≤ length M = omega (arith, w.reads.room, w.long, long) in
-            let v : used ≤ length P = omega (arith, u, long) in
+            let o : used ≤ length P = omega (arith, u, long) in
             record {
               now = q.now;
               is = so_far ∙ ap (λ z. then z (λ t W. ok (w.tree, t) W)) q.is;
-              words = kept_front P M Q (prefixes w.tree) used m v w.words q.words (longer P M (prefixes w.tree) used m v g w.words);
+              words = kept_front P M Q (prefixes w.tree) used m o w.words q.words (longer P M (prefixes w.tree) used m o g w.words);
               long = q.long ∙ w.long;
             }
 

@@ -2,7 +2,7 @@
 use mathlib.Core.Path.{◌≡◌, refl, sym, ap, ◌∙◌}
 use Prim.Native.Nat.{ℕ, ◌+◌, ◌-◌, ◌≤◌}
 use mathlib.Core.Bool.{Bool, true, false}
-use Rattle.std.specs.Prelude.{Option, Some as some, None as nothing}
+use Rattle.std.specs.Prelude.{Option, Some as some, None as nothing, Result, Ok, Err, ok_or}
 use mathlib.Core.List.{List}
 use native.Mathlib.Omega.{arith}
 use native.Mathlib.Numerals.{add-one}
@@ -23,8 +23,9 @@ use Rattle.sexp.specs.Never.{never}
 use Rattle.sexp.specs.AtomText.{atom_text}
 use Rattle.sexp.specs.FoundLaws.{found_at, found_missing}
 use Rattle.sexp.specs.NameRows.{NameIn}
-use Rattle.kernel.specs.declared.symbols.Spelling.{Spelling}
-use Rattle.kernel.specs.declared.symbols.Spelling.TheVariants.{Name as NameAt, Refused}
+use Rattle.questions.specs.declared.Question.{Question}
+use Rattle.questions.specs.declared.Question.TheVariants.{Declared}
+use Rattle.kernel.specs.declared.rule_readers.Span.{Span as Place}
 
 pub proper_none : (p : ℕ) (bs : List ℕ) → marked bs ≡ true → proper (atom p bs) ≡ nothing
 unfolding proper
@@ -40,13 +41,15 @@ module _ (text : List ℕ) {item : Item} {p : ℕ} (f : item ≡ Atom p) where
     spelt_so : x ≡ atom p (letters (drop p text))
     spelt_so = (atom_text text at x s e f).is
 
-    pub proper_marked : marked (letters (drop p text)) ≡ true → Refused ≡ name_of (proper x)
+    pub proper_marked : marked (letters (drop p text)) ≡ true → Err Declared ≡ name_of (proper x)
     proper_marked m = ap name_of (sym (ap proper spelt_so ∙ proper_none p (letters (drop p text)) m))
 
-    pub proper_name_lem : marked (letters (drop p text)) ≡ false → (end : ℕ) → end ≡ p + length (letters (drop p text)) → NameAt p end ≡ name_of (proper x)
-    proper_name_lem m end q = ap (NameAt p) q ∙ ap name_of (sym (ap proper spelt_so ∙ proper_some p (letters (drop p text)) m))
+    pub proper_name_lem : marked (letters (drop p text)) ≡ false → (end : ℕ) → end ≡ p + length (letters (drop p text)) →
+        Ok (record { from = p; end = end }) ≡ name_of (proper x)
+    proper_name_lem m end q =
+        (let at : ℕ → Result Place Question = λ e. Ok (record { from = p; end = e }) in ap at q) ∙ ap name_of (sym (ap proper spelt_so ∙ proper_some p (letters (drop p text)) m))
 
-pub proper_list : {item : Item} {a b : ℕ} → item ≡ Part a b → (x : Sexp) (at : ℕ) → item ≡ item_of at x → Refused ≡ name_of (proper x)
+pub proper_list : {item : Item} {a b : ℕ} → item ≡ Part a b → (x : Sexp) (at : ℕ) → item ≡ item_of at x → Err Declared ≡ name_of (proper x)
 unfolding proper
 proper_list f (atom p bs) at e = never cc
 proper_list f (list xs) at e = refl
@@ -63,18 +66,20 @@ pub record Proper (text : List ℕ) (x : Sexp) (s e : ℕ) : Type 0 where
   pub part : take (e - s) (drop s text) ≡ name.bytes
   pub stands : NameIn text name
 
-pub proper_found : (text : List ℕ) (x : Sexp) (r : Spelling) (s e : ℕ) → Spelt text x → r ≡ name_of (proper x) → r ≡ NameAt s e → Proper text x s e
+pub proper_found : (text : List ℕ) (x : Sexp) (r : Result Place Question) (n : Place) → Spelt text x → r ≡ name_of (proper x) → r ≡ Ok n → Proper text x n.from n.end
 unfolding proper
-proper_found text (list xs) r s e k a b = never cc
-proper_found text (atom p bs) r s e k a b = go (marked bs) refl (sym b ∙ a)
+proper_found text (list xs) r n k a b = never cc
+proper_found text (atom p bs) r n k a b = go (marked bs) refl (sym b ∙ a)
   where
-    go : (m : Bool) → marked bs ≡ m → NameAt s e ≡ name_of (elim m [ true ↦ nothing | false ↦ some (record { start = p; bytes = bs }) ]) → Proper text (atom p bs) s e
+    go : (m : Bool) → marked bs ≡ m → ◌≡◌ {A = Result Place Question} (Ok n) (name_of (elim m [ true ↦ nothing | false ↦ some (record { start = p; bytes = bs }) ])) →
+        Proper text (atom p bs) n.from n.end
     go true f g = never cc
     go false f g =
-        let es : s ≡ p = cc in
-        let ee : e ≡ p + length bs = cc in
-        let w : Span text p e bs = span k (ee ∙ ap (λ l. p + length l) (sym k.bytes)) in
-        let n : e - p ≡ length bs = omega (arith, ee) in
+        let at : n ≡ record { from = p; end = p + length bs } = cc in
+        let es : n.from ≡ p = ap (λ (m : Place). m.from) at in
+        let ee : n.end ≡ p + length bs = ap (λ (m : Place). m.end) at in
+        let w : Span text p n.end bs = span k (ee ∙ ap (λ l. p + length l) (sym k.bytes)) in
+        let m : n.end - p ≡ length bs = omega (arith, ee) in
         record {
           name = record { start = p; bytes = bs };
           is = proper_some p bs f;
@@ -82,20 +87,25 @@ proper_found text (atom p bs) r s e k a b = go (marked bs) refl (sym b ∙ a)
           end = omega (arith, es, ee);
           high = w.high;
           part = rw es w.part;
-          stands = record { inside = omega (arith, w.high, ee); spelt = rw n at w.part };
+          stands = record { inside = omega (arith, w.high, ee); spelt = rw m at w.part };
         }
 
-pub proper_missing : (x : Sexp) (r : Spelling) → r ≡ name_of (proper x) → r ≡ Refused → proper x ≡ nothing
-proper_missing x r a b = go (proper x) (sym b ∙ a)
+-- no name, which is question 11
+pub record Nameless (x : Sexp) (e : Question) : Type 0 where
+  pub is : proper x ≡ nothing
+  pub error : e ≡ Declared
+
+pub proper_missing : (x : Sexp) (r : Result Place Question) {e : Question} → r ≡ name_of (proper x) → r ≡ Err e → Nameless x e
+proper_missing x r {e} a b = go (proper x) refl (sym b ∙ a)
   where
-    go : (o : Option Name) → Refused ≡ name_of o → o ≡ nothing
-    go nothing e = refl
-    go (some n) e = never cc
+    go : (o : Option Name) → proper x ≡ o → ◌≡◌ {A = Result Place Question} (Err e) (name_of o) → Nameless x e
+    go nothing k f = record { is = k; error = cc }
+    go (some n) k f = never cc
 
 -- the answers of `sort`
-pub sort_unnamed : (ns : List Name) (x : Sexp) → proper x ≡ nothing → nothing ≡ (sort_of ns x)
+pub sort_unnamed : (ns : List Name) (x : Sexp) {e : Question} → Nameless x e → Err e ≡ ok_or (sort_of ns x) Declared
 unfolding sort_of sort_of_name
-sort_unnamed ns x e = rw e
+sort_unnamed ns x k = rw (k.is, k.error)
 
 module _ (text : List ℕ) (ns : List Name) (x : Sexp) (s e : ℕ) (k : Proper text x s e) (r : Option ℕ)
     (a : r ≡ (first (λ n. same n.bytes (take (e - s) (drop s text))) ns 0)) where
@@ -105,20 +115,23 @@ module _ (text : List ℕ) (ns : List Name) (x : Sexp) (s e : ℕ) (k : Proper t
       ap (sort_of_name ns) k.is ∙ ap (λ l. first (λ (n : Name). same n.bytes l) ns 1) (sym k.part)
       ∙ first_next (λ (n : Name). same n.bytes (take (e - s) (drop s text))) ns 0
 
-  pub sort_found : (i : ℕ) → r ≡ some i → some (i + 1) ≡ (sort_of ns x)
+  pub sort_found : (i : ℕ) → r ≡ some i → Ok (i + 1) ≡ ok_or (sort_of ns x) Declared
   unfolding next
-  sort_found i b = ap some (add-one i) ∙ (sym (sort_is ∙ ap next (found_at (first (λ (n : Name). same n.bytes (take (e - s) (drop s text))) ns 0) r i a b)))
+  sort_found i b =
+      ap Ok (add-one i)
+      ∙ ap (λ o. ok_or o Declared) (sym (sort_is ∙ ap next (found_at (first (λ (n : Name). same n.bytes (take (e - s) (drop s text))) ns 0) r i a b)))
 
-  pub sort_missing : r ≡ nothing → nothing ≡ (sort_of ns x)
+  pub sort_missing : r ≡ nothing → Err Declared ≡ ok_or (sort_of ns x) Declared
   unfolding next
-  sort_missing b = (sym (sort_is ∙ ap next (found_missing (first (λ (n : Name). same n.bytes (take (e - s) (drop s text))) ns 0) r a b)))
+  sort_missing b =
+      ap (λ o. ok_or o Declared) (sym (sort_is ∙ ap next (found_missing (first (λ (n : Name). same n.bytes (take (e - s) (drop s text))) ns 0) r a b)))
 
 -- the answers of `proper_at`
-module _ {text words : List ℕ} (k : ℕ) {r : Spelling} where
-  pub proper_here : {s e : ℕ} (xs : Sexps) → ((ys : Sexps) → Holds text words ys → r ≡ name_of (proper (item ys k))) → r ≡ NameAt s e → Holds text words xs →
-      Proper text (item xs k) s e
-  proper_here {s} {e} xs a b h = proper_found text (item xs k) r s e (spells_item h k) (a xs h) b
+module _ {text words : List ℕ} (k : ℕ) {r : Result Place Question} where
+  pub proper_here : {n : Place} (xs : Sexps) → ((ys : Sexps) → Holds text words ys → r ≡ name_of (proper (item ys k))) → r ≡ Ok n → Holds text words xs →
+      Proper text (item xs k) n.from n.end
+  proper_here {n} xs a b h = proper_found text (item xs k) r n (spells_item h k) (a xs h) b
 
-  pub proper_nowhere : (xs : Sexps) → ((ys : Sexps) → Holds text words ys → r ≡ name_of (proper (item ys k))) → r ≡ Refused → Holds text words xs →
-      proper (item xs k) ≡ nothing
+  pub proper_nowhere : {e : Question} (xs : Sexps) → ((ys : Sexps) → Holds text words ys → r ≡ name_of (proper (item ys k))) → r ≡ Err e → Holds text words xs →
+      Nameless (item xs k) e
   proper_nowhere xs a b h = proper_missing (item xs k) r (a xs h) b

@@ -2,14 +2,14 @@
 use mathlib.Core.Path.{◌≡◌, refl, sym, ap, ◌∙◌, subst}
 use Prim.Native.Nat.{ℕ, ◌+◌, ◌-◌, ◌≤◌, ◌<◌}
 use mathlib.Core.Bool.{Bool, true, false, ◌&&◌}
-use Rattle.std.specs.Prelude.{Option, Some as some, None as nothing}
+use Rattle.std.specs.Prelude.{Option, Some as some, None as nothing, Result, Err}
 use mathlib.Core.List.{List, [], ◌∷◌, append-nil}
 use native.Mathlib.Omega.{arith}
 use lib.Dec.{leb}
 use lib.ListN.{length, take, drop}
 use borrow.Author.Tests.{leb-true}
 use Rattle.rules.specs.Lex.{letters}
-use Rattle.rules.specs.Out.{Out, refuse, then, found}
+use Rattle.rules.specs.Out.{refuse, then, found}
 use Rattle.rules.specs.Sexp.{Sexp, Sexps, atom, list, nil, cons, count, item, name, items}
 use Rattle.rules.specs.Tags.{Declaration, a_sort, a_ctor, a_pred, a_rule, Row, theory_tags, within, fits, tag_in, declaration}
 use Rattle.rules.specs.Theory.{Theory}
@@ -24,17 +24,12 @@ use Rattle.sexp.specs.TagTable.{declaration_answer}
 use Rattle.sexp.specs.declared.items.Item.{Item}
 use Rattle.sexp.specs.declared.items.Item.TheVariants.{Atom, List as Part}
 use Rattle.sexp.specs.declared.tags.Declaration.{Declaration as Tag}
-use Rattle.sexp.specs.declared.tags.Declaration.TheVariants.{Sort, Ctor, Pred, Rule, Unknown}
-use Rattle.kernel.specs.Held.{Form, SortAdded, SymbolAdded}
-use Rattle.kernel.specs.HeldRules.{RuleAdded}
-use Rattle.kernel.specs.Parsed.{TheoryLists, theory_lists, TheoryHeld, Formed, ItemsDeclaring, DeclaredAs, headed, tagged, taken, sorts_now, symbols_now, rules_now}
-use Rattle.kernel.specs.declared.symbols.Added.{Added}
-use Rattle.kernel.specs.declared.symbols.Added.TheVariants.{Ok as AddedOk, No as AddedNo}
-use Rattle.kernel.specs.declared.patterns.Reply.{Reply}
-use Rattle.kernel.specs.declared.patterns.Reply.TheVariants.{Ok as ReplyOk, No as ReplyNo}
-use Rattle.kernel.specs.declared.parse.Counts.{Counts}
-use Rattle.kernel.specs.declared.declare.Declared.{Declared}
-use Rattle.kernel.specs.declared.declare.Declared.TheVariants.{No}
+use Rattle.sexp.specs.declared.tags.Declaration.TheVariants.{Sort, Ctor, Pred, Rule}
+use Rattle.kernel.specs.Held.{Form}
+use Rattle.kernel.specs.Parsed.{TheoryLists, TheoryHeld, Formed, ItemsDeclaring, DeclaredAs, headed, tagged, taken}
+use Rattle.kernel.specs.declared.tables.Counts.{Counts}
+use Rattle.questions.specs.declared.Question.{Question}
+use Rattle.questions.specs.declared.Question.TheVariants.{Declaration as NoDeclaration}
 
 -- Tags ---------------------------------------------------------------------------------------------------------------------------
 
@@ -83,23 +78,32 @@ headed_many (atom p bs) n d e = declaration_many bs n d e
 headed_many (list xs) n d e = never cc
 
 -- the tag of an answer
-abbrev tag_of : Tag → Option Declaration
-tag_of Sort = some a_sort
-tag_of Ctor = some a_ctor
-tag_of Pred = some a_pred
-tag_of Rule = some a_rule
-tag_of Unknown = nothing
-
-tag_back : (o : Option Declaration) → tag_of (declaration_answer o) ≡ o
-tag_back nothing = refl
-tag_back (some a_sort) = refl
-tag_back (some a_ctor) = refl
-tag_back (some a_pred) = refl
-tag_back (some a_rule) = refl
+abbrev tag_of : Tag → Declaration
+tag_of Sort = a_sort
+tag_of Ctor = a_ctor
+tag_of Pred = a_pred
+tag_of Rule = a_rule
 
 -- what an answer says
-pub told : {o : Option Declaration} {r : Tag} (q : Tag) → r ≡ declaration_answer o → r ≡ q → o ≡ tag_of q
-told {o} q e f = sym (tag_back o) ∙ ap tag_of (sym e ∙ f)
+pub told : {o : Option Declaration} {r : Option Tag} {t : Tag} (q : Tag) → r ≡ declaration_answer o → r ≡ some t → t ≡ q → o ≡ some (tag_of q)
+told {o} {r} {t} q e f g = go o (sym e ∙ f ∙ ap some g)
+  where
+    go : (p : Option Declaration) → declaration_answer p ≡ some q → p ≡ some (tag_of q)
+    go nothing a = never cc
+    go (some a_sort) a = ap (λ z. some (tag_of z)) (let h : Sort ≡ q = cc in h)
+    go (some a_ctor) a = ap (λ z. some (tag_of z)) (let h : Ctor ≡ q = cc in h)
+    go (some a_pred) a = ap (λ z. some (tag_of z)) (let h : Pred ≡ q = cc in h)
+    go (some a_rule) a = ap (λ z. some (tag_of z)) (let h : Rule ≡ q = cc in h)
+
+pub untold : {o : Option Declaration} {r : Option Tag} → r ≡ declaration_answer o → r ≡ nothing → o ≡ nothing
+untold {o} e f = go o (sym e ∙ f)
+  where
+    go : (p : Option Declaration) → declaration_answer p ≡ nothing → p ≡ nothing
+    go nothing a = refl
+    go (some a_sort) a = never cc
+    go (some a_ctor) a = never cc
+    go (some a_pred) a = never cc
+    go (some a_rule) a = never cc
 
 -- The definition, by the tag -------------------------------------------------------------------------------------------------------
 
@@ -121,11 +125,11 @@ declare_list xs T = go (item xs 0)
 
 -- The answers of `tag_of` ----------------------------------------------------------------------------------------------------------
 
-untagged : (xs : Sexps) → item xs 0 ≡ list nil → Unknown ≡ declaration_answer (tagged xs)
+untagged : (xs : Sexps) → item xs 0 ≡ list nil → nothing ≡ declaration_answer (tagged xs)
 unfolding headed
 untagged xs e = sym (ap (λ x. declaration_answer (headed x (count xs))) e)
 
-pub tag_nil : {text words : List ℕ} (xs : Sexps) → Holds text words xs → length words ≡ 0 → Unknown ≡ declaration_answer (tagged xs)
+pub tag_nil : {text words : List ℕ} (xs : Sexps) → Holds text words xs → length words ≡ 0 → nothing ≡ declaration_answer (tagged xs)
 unfolding item
 tag_nil xs h e = untagged xs (ap (λ ys. item ys 0) (walk_over (walk_start h) (omega (arith, e))))
 
@@ -140,7 +144,7 @@ module _ {text words : List ℕ} (xs : Sexps) (h : Holds text words xs) (n : len
   unfolding item
   first_is = ap (λ ys. item ys 0) some_item.is
 
-  pub tag_list : {a b : ℕ} → r ≡ Part a b → Unknown ≡ declaration_answer (tagged xs)
+  pub tag_list : {a b : ℕ} → r ≡ Part a b → nothing ≡ declaration_answer (tagged xs)
   unfolding headed
   tag_list f = sym (ap (λ x. declaration_answer (headed x (count xs))) (first_is ∙ (walk_list first_here e f).is))
 
@@ -167,71 +171,29 @@ item_many xs d e = sym (headed_many (item xs 0) (count xs) d e)
 pub form_of : {text words : List ℕ} {t : TheoryLists} {n : Counts} (k : ItemsDeclaring text words t n) (d : Declaration) → tagged k.xs ≡ some d → Form text words (many d)
 form_of k d e = record { xs = k.xs; holds = k.holds; many = item_many k.xs d e; short = k.short }
 
-module _ {text : List ℕ} (t : TheoryLists) (n : Counts) (T : Theory) (xs : Sexps) (h : TheoryHeld text t n T) where
-  given_as : {d : Declaration} (u : TheoryLists) (r : Declared) → tagged xs ≡ some d → DeclaredAs text u n T (declare_as d xs T) r → DeclaredAs text u n T (taken (tagged xs) xs T) r
-  given_as u r e k = subst (λ o. DeclaredAs text u n T (taken o xs T) r) (sym e) k
+module _ (text : List ℕ) (t : TheoryLists) (n : Counts) (T : Theory) (xs : Sexps) where
+  pub no_tag : TheoryHeld text t n T → tagged xs ≡ nothing → DeclaredAs text t n T (taken (tagged xs) xs T) (Err NoDeclaration)
+  no_tag h e = (ap (λ o. taken o xs T) e, h)
 
-  pub no_tag : tagged xs ≡ nothing → DeclaredAs text t n T (taken (tagged xs) xs T) (No 10 0)
-  no_tag e = (ap (λ o. taken o xs T) e, h)
+  module _ (r : Result Unit Question) where
+    given_as : (d : Declaration) → tagged xs ≡ some d → DeclaredAs text t n T (declare_as d xs T) r → DeclaredAs text t n T (taken (tagged xs) xs T) r
+    given_as d e k = subst (λ o. DeclaredAs text t n T (taken o xs T) r) (sym e) k
 
-  module _ (s : List ℕ) where
-    abbrev with_sorts : TheoryLists
-    with_sorts = theory_lists s t.symbols t.inputs t.rules t.rule_vars t.patterns
-
-    sort_step : (r : Added) → SortAdded text t.sorts s T (add_sort xs T) r → DeclaredAs text with_sorts n T (declare_as a_sort xs T) (sorts_now n r)
+    pub sort_taken : tagged xs ≡ some a_sort → DeclaredAs text t n T (add_sort xs T) r → DeclaredAs text t n T (taken (tagged xs) xs T) r
     unfolding declare_as
-    sort_step (AddedOk k) a =
-        record {
-          now = _;
-          is = a.is;
-          held = record { sorts = a.held; symbols = h.symbols; rules = h.rules };
-        }
-    sort_step (AddedNo b d) a = (a.0, record { sorts = rw a.1 h.sorts; symbols = h.symbols; rules = h.rules })
+    sort_taken e k = given_as a_sort e k
 
-    pub sort_taken : tagged xs ≡ some a_sort → (r : Added) (d : Declared) → SortAdded text t.sorts s T (add_sort xs T) r → d ≡ sorts_now n r →
-        DeclaredAs text with_sorts n T (taken (tagged xs) xs T) d
-    sort_taken e r d a f = subst (λ z. DeclaredAs text with_sorts n T (taken (tagged xs) xs T) z) (sym f) (given_as with_sorts (sorts_now n r) e (sort_step r a))
-
-  module _ (y i : List ℕ) where
-    abbrev with_symbols : TheoryLists
-    with_symbols = theory_lists t.sorts y i t.rules t.rule_vars t.patterns
-
-    symbol_step : (g : Out Theory (Unit {0})) (r : Added) → SymbolAdded text t.symbols t.inputs y i T g r → DeclaredAs text with_symbols n T g (symbols_now n r)
-    symbol_step g (AddedOk k) a =
-        record {
-          now = _;
-          is = a.is;
-          held = record { sorts = h.sorts; symbols = a.held; rules = h.rules };
-        }
-    symbol_step g (AddedNo b d) a = (a.0, record { sorts = h.sorts; symbols = rw (a.1, a.2) h.symbols; rules = h.rules })
-
-    pub ctor_taken : tagged xs ≡ some a_ctor → (r : Added) (d : Declared) → SymbolAdded text t.symbols t.inputs y i T (add_ctor xs T) r → d ≡ symbols_now n r →
-        DeclaredAs text with_symbols n T (taken (tagged xs) xs T) d
+    pub ctor_taken : tagged xs ≡ some a_ctor → DeclaredAs text t n T (add_ctor xs T) r → DeclaredAs text t n T (taken (tagged xs) xs T) r
     unfolding declare_as
-    ctor_taken e r d a f = subst (λ z. DeclaredAs text with_symbols n T (taken (tagged xs) xs T) z) (sym f) (given_as with_symbols (symbols_now n r) e (symbol_step (add_ctor xs T) r a))
+    ctor_taken e k = given_as a_ctor e k
 
-    pub pred_taken : tagged xs ≡ some a_pred → (r : Added) (d : Declared) → SymbolAdded text t.symbols t.inputs y i T (add_pred xs T) r → d ≡ symbols_now n r →
-        DeclaredAs text with_symbols n T (taken (tagged xs) xs T) d
+    pub pred_taken : tagged xs ≡ some a_pred → DeclaredAs text t n T (add_pred xs T) r → DeclaredAs text t n T (taken (tagged xs) xs T) r
     unfolding declare_as
-    pred_taken e r d a f = subst (λ z. DeclaredAs text with_symbols n T (taken (tagged xs) xs T) z) (sym f) (given_as with_symbols (symbols_now n r) e (symbol_step (add_pred xs T) r a))
+    pred_taken e k = given_as a_pred e k
 
-  module _ (u w p : List ℕ) where
-    abbrev with_rules : TheoryLists
-    with_rules = theory_lists t.sorts t.symbols t.inputs u w p
-
-    rule_step : (r : Reply) → RuleAdded text u w p T (add_rule xs T) n.rules n.words r → DeclaredAs text with_rules n T (declare_as a_rule xs T) (rules_now n r)
+    pub rule_taken : tagged xs ≡ some a_rule → DeclaredAs text t n T (add_rule xs T) r → DeclaredAs text t n T (taken (tagged xs) xs T) r
     unfolding declare_as
-    rule_step (ReplyOk k m) a =
-        record {
-          now = _;
-          is = a.is;
-          held = record { sorts = h.sorts; symbols = h.symbols; rules = a.held };
-        }
-    rule_step (ReplyNo b d) a = (a.is, record { sorts = h.sorts; symbols = h.symbols; rules = a.held })
-
-    pub rule_taken : tagged xs ≡ some a_rule → (r : Reply) (d : Declared) → RuleAdded text u w p T (add_rule xs T) n.rules n.words r → d ≡ rules_now n r →
-        DeclaredAs text with_rules n T (taken (tagged xs) xs T) d
-    rule_taken e r d a f = subst (λ z. DeclaredAs text with_rules n T (taken (tagged xs) xs T) z) (sym f) (given_as with_rules (rules_now n r) e (rule_step r a))
+    rule_taken e k = given_as a_rule e k
 
 -- The answers of `declare` ---------------------------------------------------------------------------------------------------------
 

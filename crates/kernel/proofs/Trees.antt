@@ -1,5 +1,5 @@
 -- A term from its parts: what the readers of terms, arguments and judgments answer. Assumes nothing.
-use mathlib.Core.Path.{◌≡◌, refl, sym, ap, ◌∙◌, subst}
+use mathlib.Core.Path.{◌≡◌, refl, sym, ap, ◌∙◌}
 use Prim.Native.Nat.{ℕ, suc, ◌+◌, ◌-◌, ◌*◌, ◌<◌, ◌≤◌}
 use mathlib.Core.List.{List, [], ◌∷◌, ◌++◌}
 use native.Mathlib.Omega.{arith}
@@ -18,10 +18,10 @@ use Rattle.rules.specs.Laws.PatternSteps.{worded, patterns_none, patterns_more}
 use Rattle.sexp.specs.Items.{Holds}
 use Rattle.sexp.specs.declared.items.Item.{Item}
 use Rattle.kernel.specs.Held.{SymbolsHeld}
-use Rattle.kernel.specs.Reading.{ReadSoFar, Written, Stopped, PatternRead, Opened, OpenedRead, Patterning, Placed, Arguing}
+use Rattle.kernel.specs.Reading.{ReadSoFar, Written, Stopped, PatternRead, Opened, Placed, Arguing}
 use Rattle.kernel.specs.SignatureRows.{input_place}
-use Rattle.kernel.specs.declared.patterns.Reply.{Reply}
-use Rattle.kernel.specs.declared.patterns.Reply.TheVariants.{Ok, No}
+use Rattle.std.specs.Prelude.{Result, Ok, Err}
+use Rattle.questions.specs.declared.Question.{Question}
 use Rattle.sexp.specs.FirstItem.{ItemFirst, first_item, none_left}
 
 -- some theory with these symbols
@@ -44,10 +44,11 @@ longer P Q w used next l m e =
 
 module _ {text cells P M : List ℕ} {used : ℕ} {T : Theory} {R : Reading} {zs : Sexps} {given : Out Reading Tree} {c next : ℕ} (o : Opened text cells P M used T R zs given c next)
     (l : used ≤ length P) where
-  pub list_read : (table Q : List ℕ) (r : Reply) → PatternRead prefixes text table M Q next (patterns T o.others (inputs T c) (worded R)) r →
-      PatternRead prefix text table P Q used given r
+  pub list_read : (table : List ℕ) (n : ℕ) (Q : List ℕ) (m : ℕ) (r : Result (Unit {0}) Question) →
+      PatternRead prefixes text table n M Q next m (patterns T o.others (inputs T c) (worded R)) r →
+      PatternRead prefix text table n P Q used m given r
   unfolding then prefix
-  list_read table Q (Ok n m) k =
+  list_read table n Q m (Ok u) k =
       record {
         tree = app c k.tree;
         now = k.now;
@@ -56,7 +57,7 @@ module _ {text cells P M : List ℕ} {used : ℕ} {T : Theory} {R : Reading} {zs
         words = k.words ∙ ap (λ z. z ++ prefixes k.tree) o.words ∙ append_assoc (take used P) (c ∷ []) (prefixes k.tree);
         long = k.long ∙ o.long;
       }
-  list_read table Q (No a d) k =
+  list_read table n Q m (Err e) k =
       record {
         now = k.now;
         is = o.asks ∙ ap (λ z. then z (λ ts W. ok (app c ts) W)) k.is;
@@ -71,44 +72,23 @@ module _ {text cells P M : List ℕ} {used : ℕ} {T : Theory} {R : Reading} {zs
   unfolding inputs
   opened_placed = record { known = o.known; many = omega (arith, o.many) }
 
--- where the head is refused
-pub list_stopped : (text cells table P Q : List ℕ) (used : ℕ) (T : Theory) (R : Reading) (zs : Sexps) (given : Out Reading Tree) (r : Reply) {a d : ℕ} →
-    OpenedRead text cells P Q used T R zs given r → r ≡ No a d → PatternRead prefix text table P Q used given r
-list_stopped text cells table P Q used T R zs given r {a} {d} k b =
-    subst (λ z. PatternRead prefix text table P Q used given z) (sym b) (subst (λ z. OpenedRead text cells P Q used T R zs given z) b k)
-
-pub list_opened : (text cells P Q : List ℕ) (used : ℕ) (T : Theory) (R : Reading) (zs : Sexps) (given : Out Reading Tree) (r : Reply) {c next : ℕ} →
-    OpenedRead text cells P Q used T R zs given r → r ≡ Ok c next → Opened text cells P Q used T R zs given c next
-list_opened text cells P Q used T R zs given r k b = subst (λ z. OpenedRead text cells P Q used T R zs given z) b k
-
--- the head that a reader of terms opened, for a theory with the symbols that it is given
-pub head_opened : (given : Theory → Reading → Sexps → Out Reading Tree) (P Q : List ℕ) (r : Reply) {text cells symbols inputs table inner : List ℕ} {known n room used c next : ℕ} {zs : Sexps}
-    (p : Patterning text cells symbols inputs known table n room used) → Holds text inner zs →
-    ((T : Theory) (R : Reading) (ins : List ℕ) (zs : Sexps) → SymbolsHeld text symbols ins known T.symbols → R.words ≡ used → Holds text inner zs →
-    OpenedRead text inner P Q used T R zs (given T R zs) r) → r ≡ Ok c next →
-    Opened text inner P Q used (symbolic p.held.0) p.so_far zs (given (symbolic p.held.0) p.so_far zs) c next
-head_opened given P Q r {text} {inner = inner} {used = used} {zs = zs} p k e b =
-    let T = symbolic p.held.0 in
-    list_opened text inner P Q used T p.so_far zs (given T p.so_far zs) r (e T p.so_far _ zs p.held.1 p.reads.words k) b
-
 -- one tree and others behind it
 module _ (text : List ℕ) {given : Out Reading Trees} (this : Out Reading Tree) (others : Reading → Out Reading Trees)
     (splits : given ≡ then this (λ t U. then (others U) (λ ts W. ok (more t ts) W))) (used : ℕ) (P : List ℕ) (l : used ≤ length P) where
-  pub pair_stopped : (table M : List ℕ) (r : Reply) {a d : ℕ} → PatternRead prefix text table P M used this r → r ≡ No a d → PatternRead prefixes text table P M used given r
+  pub pair_stopped : {M : List ℕ} {a d : ℕ} → Stopped P M used this a d → Stopped P M used given a d
   unfolding then
-  pair_stopped table M r {a} {d} q b =
-      let w : Stopped P M used this a d = subst (λ z. PatternRead prefix text table P M used this z) b q in
-      subst (λ z. PatternRead prefixes text table P M used given z) (sym b)
-      (record { now = w.now; is = splits ∙ ap (λ z. then z (λ t U. then (others U) (λ ts W. ok (more t ts) W))) w.is; words = w.words; long = w.long })
+  pair_stopped w =
+      record { now = w.now; is = splits ∙ ap (λ z. then z (λ t U. then (others U) (λ ts W. ok (more t ts) W))) w.is; words = w.words; long = w.long }
 
   module _ {table M : List ℕ} {n m : ℕ} (w : Written prefix text table P M used this n m) (g : m ≤ length M) where
     so_far : given ≡ then (others w.now) (λ ts W. ok (more w.tree ts) W)
     unfolding then
     so_far = splits ∙ ap (λ z. then z (λ t U. then (others U) (λ ts W. ok (more t ts) W))) w.is
 
-    pub pair_read : (table' Q : List ℕ) (r : Reply) → PatternRead prefixes text table' M Q m (others w.now) r → PatternRead prefixes text table' P Q used given r
+    pub pair_read : (table' : List ℕ) (v : ℕ) (Q : List ℕ) (u : ℕ) (r : Result (Unit {0}) Question) → PatternRead prefixes text table' v M Q m u (others w.now) r →
+        PatternRead prefixes text table' v P Q used u given r
     unfolding then prefix
-    pair_read table' Q (Ok v u) q =
+    pair_read table' v Q u (Ok y) q =
         record {
           tree = more w.tree q.tree;
           now = q.now;
@@ -117,7 +97,7 @@ module _ (text : List ℕ) {given : Out Reading Trees} (this : Out Reading Tree)
           words = q.words ∙ ap (λ z. z ++ prefixes q.tree) w.words ∙ append_assoc (take used P) (prefix w.tree) (prefixes q.tree);
           long = q.long ∙ w.long;
         }
-    pair_read table' Q (No a d) q =
+    pair_read table' v Q u (Err e) q =
         record {
           now = q.now;
           is = so_far ∙ ap (λ z. then z (λ ts W. ok (more w.tree ts) W)) q.is;
@@ -168,17 +148,14 @@ module _ {text cells : List ℕ} {zs : Sexps} {item : Item} {next k c sort : ℕ
       ap (λ z. patterns T z (drop k (inputs T c)) R) f.is ∙ ap (λ z. patterns T (cons f.x f.ys) z R) d ∙ patterns_more R T f.x f.ys sort (drop (k + 1) (inputs T c))
 
   module _ (used : ℕ) (P : List ℕ) (l : used ≤ length P) where
-    pub arguments_stopped : (table M : List ℕ) (r : Reply) {a d : ℕ} → PatternRead prefix text table P M used (pattern T f.x sort R) r → r ≡ No a d →
-        PatternRead prefixes text table P M used (patterns T zs (drop k (inputs T c)) R) r
-    arguments_stopped = pair_stopped text (pattern T f.x sort R) (λ U. patterns T f.ys (drop (k + 1) (inputs T c)) U) splits used P l
+    pub arguments_stopped : {M : List ℕ} {a d : ℕ} → Stopped P M used (pattern T f.x sort R) a d → Stopped P M used (patterns T zs (drop k (inputs T c)) R) a d
+    arguments_stopped w = pair_stopped text (pattern T f.x sort R) (λ U. patterns T f.ys (drop (k + 1) (inputs T c)) U) splits used P l w
 
-    pub arguments_read : {table M : List ℕ} {n m : ℕ} (w : Written prefix text table P M used (pattern T f.x sort R) n m) → m ≤ length M → (table' Q : List ℕ) (r : Reply) →
-        PatternRead prefixes text table' M Q m (patterns T f.ys (drop (k + 1) (inputs T c)) w.now) r → PatternRead prefixes text table' P Q used (patterns T zs (drop k (inputs T c)) R) r
+    pub arguments_read : {table M : List ℕ} {n m : ℕ} (w : Written prefix text table P M used (pattern T f.x sort R) n m) → m ≤ length M →
+        (table' : List ℕ) (v : ℕ) (Q : List ℕ) (u : ℕ) (r : Result (Unit {0}) Question) →
+        PatternRead prefixes text table' v M Q m u (patterns T f.ys (drop (k + 1) (inputs T c)) w.now) r →
+        PatternRead prefixes text table' v P Q used u (patterns T zs (drop k (inputs T c)) R) r
     arguments_read w g = pair_read text (pattern T f.x sort R) (λ U. patterns T f.ys (drop (k + 1) (inputs T c)) U) splits used P l w g
-
-pub written_of : {A : Type 0} (cells : A → List ℕ) (text table P M : List ℕ) (used : ℕ) (given : Out Reading A) (r : Reply) {n m : ℕ} → PatternRead cells text table P M used given r → r ≡ Ok n m →
-    Written cells text table P M used given n m
-written_of cells text table P M used given r q b = subst (λ z. PatternRead cells text table P M used given z) b q
 
 -- What callees are given ---------------------------------------------------------------------------------------------------------
 

@@ -1,8 +1,8 @@
 -- Words of patterns behind those that are there: one more, and what the readers of atoms and heads answer. Assumes nothing.
 use mathlib.Core.Path.{◌≡◌, refl, sym, ap, ◌∙◌, subst}
 use Prim.Native.Nat.{ℕ, suc, ◌+◌, ◌-◌, ◌*◌, ◌<◌, ◌≤◌}
-use mathlib.Core.Bool.{Bool, true, false}
-use Rattle.std.specs.Prelude.{Some as some, None as nothing, Option}
+use mathlib.Core.Bool.{true, false}
+use Rattle.std.specs.Prelude.{Some as some, None as nothing, Option, Result}
 use mathlib.Core.List.{List, [], ◌∷◌, ◌++◌}
 use native.Mathlib.Omega.{arith}
 use native.Mathlib.Numerals.{add-one}
@@ -22,25 +22,24 @@ use Rattle.rules.specs.TheoryTables.{prefix}
 use Rattle.rules.specs.Declare.{Reading, word, met_or_new, variable, head, pattern}
 use Rattle.rules.specs.Laws.PatternSteps.{var_named, worded, word_full, word_more, variable_short, variable_asks, head_unknown, head_sort, head_count, head_asks, pattern_marked, pattern_atom}
 use Rattle.sexp.specs.AtomText.{name_from, atom_span}
+use Rattle.kernel.specs.declared.names.Kind.{Kind}
+use Rattle.kernel.specs.declared.names.Kind.TheVariants.{Constructor}
 use Rattle.kernel.specs.Named.{called, of_kind, SymbolRows}
 use Rattle.kernel.specs.Held.{SymbolsHeld}
-use Rattle.kernel.specs.Reading.{WordPut, Meeting, Met, MetRead, ReadSoFar, AtomReading, Written, Stopped, PatternRead, Head, HeadRead}
-use Rattle.kernel.specs.declared.patterns.Reply.{Reply}
-use Rattle.kernel.specs.declared.patterns.Reply.TheVariants.{Ok, No}
+use Rattle.kernel.specs.Reading.{Meeting, Met, ReadSoFar, AtomReading, Written, Stopped, PatternRead, Head}
+use Rattle.questions.specs.declared.Question.{Question}
+use Rattle.questions.specs.Numbers.{number_of, detail_of}
+use Rattle.questions.specs.declared.Row.{Row}
+use Rattle.questions.specs.declared.Row.TheVariants.{PatternWords}
+use Rattle.questions.specs.declared.Question.TheVariants.{Room}
 use Rattle.sexp.specs.FoundLaws.{found_at, found_missing}
 use Rattle.kernel.specs.SignatureRows.{symbols_rows, symbols_few}
 
 -- A word more --------------------------------------------------------------------------------------------------------------------
 
-pub put_yes : (P Q : List ℕ) (used cell : ℕ) (r : Bool) → WordPut P Q used cell r → r ≡ true → (used < PATTERNS) × (Q ≡ set P used cell)
-put_yes P Q used cell r a b = subst (λ z. WordPut P Q used cell z) b a
-
-pub put_no : (P Q : List ℕ) (used cell : ℕ) (r : Bool) → WordPut P Q used cell r → r ≡ false → (PATTERNS ≤ used) × (Q ≡ P)
-put_no P Q used cell r a b = subst (λ z. WordPut P Q used cell z) b a
-
 -- the words then
-pub words_more : (P Q : List ℕ) (used cell : ℕ) → used < length P → Q ≡ set P used cell → take (used + 1) Q ≡ take used P ++ (cell ∷ [])
-words_more P Q used cell l e = ap (λ (k : ℕ). take k Q) (add-one used) ∙ ap (take (suc used)) e ∙ take-suc-set P used cell l
+pub words_more : (P Q : List ℕ) (used cell : ℕ) {next : ℕ} → used < length P → Q ≡ set P used cell → next ≡ used + 1 → take next Q ≡ take used P ++ (cell ∷ [])
+words_more P Q used cell l e n = ap (λ (k : ℕ). take k Q) (n ∙ add-one used) ∙ ap (take (suc used)) e ∙ take-suc-set P used cell l
 
 -- An atom ------------------------------------------------------------------------------------------------------------------------
 
@@ -60,42 +59,39 @@ module _ (text : List ℕ) (start end sort : ℕ) (e : end ≡ start + length (l
     asks : variable (name_from text start) sort R ≡ then (met_or_new (name_from text start) sort (var_named R.vars (letters (drop start text))) R) (λ i U. then (word U) (λ u W. ok (var i) W))
     asks = variable_asks R (name_from text start) sort (omega (arith, e, l))
 
-    pub variable_unmet : (table P : List ℕ) (used : ℕ) (r : Reply) {a d : ℕ} → MetRead text table R (met_or_new (name_from text start) sort (var_named R.vars (letters (drop start text))) R) r → r ≡ No a d →
-        PatternRead prefix text table P P used (variable (name_from text start) sort R) r
+    pub variable_unmet : {P Q : List ℕ} (used a d : ℕ) → met_or_new (name_from text start) sort (var_named R.vars (letters (drop start text))) R ≡ refuse a d R → Q ≡ P →
+        Stopped P Q used (variable (name_from text start) sort R) a d
     unfolding then
-    variable_unmet table P used r {a} {d} m b =
-        let q : met_or_new (name_from text start) sort (var_named R.vars (letters (drop start text))) R ≡ refuse a d R = subst (λ z. MetRead text table R (met_or_new (name_from text start) sort (var_named R.vars (letters (drop start text))) R) z) b m in
-        subst (λ z. PatternRead prefix text table P P used (variable (name_from text start) sort R) z) (sym b)
-        (record { now = R; is = asks ∙ ap (λ z. then z (λ i U. then (word U) (λ u W. ok (var i) W))) q; words = refl; long = refl })
+    variable_unmet used a d q k =
+        record { now = R; is = asks ∙ ap (λ z. then z (λ i U. then (word U) (λ u W. ok (var i) W))) q; words = ap (take used) k; long = ap length k }
 
-    module _ (table : List ℕ) (r : Reply) {i now : ℕ} (m : MetRead text table R (met_or_new (name_from text start) sort (var_named R.vars (letters (drop start text))) R) r)
-        (b : r ≡ Ok i now) where
-      pub met : Met text table R (met_or_new (name_from text start) sort (var_named R.vars (letters (drop start text))) R) i now
-      met = subst (λ z. MetRead text table R (met_or_new (name_from text start) sort (var_named R.vars (letters (drop start text))) R) z) b m
-
+    module _ (table : List ℕ) (now : ℕ) {i : ℕ} (met : Met text table R (met_or_new (name_from text start) sort (var_named R.vars (letters (drop start text))) R) i now) where
       so : variable (name_from text start) sort R ≡ then (word met.now) (λ u W. ok (var i) W)
       unfolding then
       so = asks ∙ ap (λ z. then z (λ i U. then (word U) (λ u W. ok (var i) W))) met.is
 
-      pub variable_written : {used : ℕ} (P Q : List ℕ) → R.words ≡ used → length P ≡ PATTERNS → (used < PATTERNS) × (Q ≡ set P used (SYMBOLS + i)) →
-          Written prefix text table P Q used (variable (name_from text start) sort R) now (used + 1)
+      pub variable_written : {used next : ℕ} (P Q : List ℕ) → R.words ≡ used → length P ≡ PATTERNS →
+          (used < PATTERNS) × (Q ≡ set P used (SYMBOLS + i)) × (next ≡ used + 1) →
+          Written prefix text table P Q used (variable (name_from text start) sort R) now next
       unfolding then prefix
-      variable_written {used} P Q w g k =
+      variable_written {used} {next} P Q w g k =
           record {
             tree = var i;
             now = worded met.now;
             is = so ∙ ap (λ z. then z (λ u W. ok (var i) W)) (word_more met.now (omega (arith, met.words, w, k.0)));
-            reads = record { held = met.held; words = omega (arith, met.words, w); room = omega (arith, k.0) };
-            words = words_more P Q used (SYMBOLS + i) (omega (arith, g, k.0)) k.1;
+            reads = record { held = met.held; words = omega (arith, met.words, w, k.2); room = omega (arith, k.0, k.2) };
+            words = words_more P Q used (SYMBOLS + i) (omega (arith, g, k.0)) k.1 k.2;
             long = ap length k.1 ∙ length-set P used (SYMBOLS + i);
           }
 
-      pub variable_full : {used : ℕ} (P Q : List ℕ) → R.words ≡ used → (PATTERNS ≤ used) × (Q ≡ P) → Stopped P Q used (variable (name_from text start) sort R) 60 6
+      pub variable_full : {used : ℕ} (P Q : List ℕ) {e : Row} → R.words ≡ used → (PATTERNS ≤ used) × (Q ≡ P) × (e ≡ PatternWords) →
+          Stopped P Q used (variable (name_from text start) sort R) (number_of (Room e)) (detail_of (Room e))
       unfolding then
-      variable_full {used} P Q w k =
+      variable_full {used} P Q {e} w k =
           record {
             now = met.now;
-            is = so ∙ ap (λ z. then z (λ u W. ok (var i) W)) (word_full met.now (omega (arith, met.words, w, k.0)));
+            is = so ∙ ap (λ z. then z (λ u W. ok (var i) W)) (word_full met.now (omega (arith, met.words, w, k.0)))
+                ∙ (λ i. refuse 60 (detail_of (Room (sym k.2 i))) met.now);
             words = ap (take used) k.1;
             long = ap length k.1;
           }
@@ -104,27 +100,27 @@ module _ (text : List ℕ) (start end sort : ℕ) (e : end ≡ start + length (l
 
 module _ (text : List ℕ) (start end sort arity : ℕ) (e : end ≡ start + length (letters (drop start text))) (l : start < length text) {symbols ins : List ℕ} {count : ℕ} (T : Theory) (R : Reading)
     (h : SymbolsHeld text symbols ins count T.symbols) (r : Option ℕ)
-    (a : (ss : List Symbol) → SymbolRows text symbols count ss → r ≡ (first (called false (take (end - start) (drop start text))) ss 0)) where
-  named_so : constructor_named T (letters (drop start text)) ≡ first (called false (take (end - start) (drop start text))) T.symbols 0
+    (a : (ss : List Symbol) → SymbolRows text symbols count ss → r ≡ (first (called Constructor (take (end - start) (drop start text))) ss 0)) where
+  named_so : constructor_named T (letters (drop start text)) ≡ first (called Constructor (take (end - start) (drop start text))) T.symbols 0
   unfolding constructor_named of_kind
-  named_so = ap (λ z. first (called false z) T.symbols 0) (sym (atom_span text start end l e).part)
+  named_so = ap (λ z. first (called Constructor z) T.symbols 0) (sym (atom_span text start end l e).part)
 
   pub head_missing : {P : List ℕ} {used : ℕ} → r ≡ nothing → Stopped P P used (head T sort arity (letters (drop start text)) R) 11 0
   head_missing b =
       record {
         now = R;
-        is = head_unknown R T sort arity (letters (drop start text)) (named_so ∙ found_missing (first (called false (take (end - start) (drop start text))) T.symbols 0) r (a T.symbols (symbols_rows h)) b);
+        is = head_unknown R T sort arity (letters (drop start text)) (named_so ∙ found_missing (first (called Constructor (take (end - start) (drop start text))) T.symbols 0) r (a T.symbols (symbols_rows h)) b);
         words = refl;
         long = refl;
       }
 
   module _ (c : ℕ) (b : r ≡ some c) where
     known_so : constructor_named T (letters (drop start text)) ≡ some c
-    known_so = named_so ∙ found_at (first (called false (take (end - start) (drop start text))) T.symbols 0) r c (a T.symbols (symbols_rows h)) b
+    known_so = named_so ∙ found_at (first (called Constructor (take (end - start) (drop start text))) T.symbols 0) r c (a T.symbols (symbols_rows h)) b
 
     declared : c < length T.symbols
     declared =
-        let f = first_some (called false (take (end - start) (drop start text))) T.symbols 0 c no_symbol (sym named_so ∙ known_so) in
+        let f = first_some (called Constructor (take (end - start) (drop start text))) T.symbols 0 c no_symbol (sym named_so ∙ known_so) in
         omega (arith, f.is, f.inside)
 
     output_is : get_or symbols (4 * c) 0 ≡ output T c
@@ -151,31 +147,33 @@ module _ (text : List ℕ) (start end sort arity : ℕ) (e : end ≡ start + len
         head_so : head T sort arity (letters (drop start text)) R ≡ then (word R) (λ u W. ok c W)
         head_so = head_asks R T sort arity (letters (drop start text)) c known_so sort_so (sym arity_is ∙ g)
 
-        pub head_written : length P ≡ PATTERNS → (used < PATTERNS) × (Q ≡ set P used c) → Head P Q used T R arity (head T sort arity (letters (drop start text)) R) c (used + 1)
+        pub head_written : {next : ℕ} → length P ≡ PATTERNS → (used < PATTERNS) × (Q ≡ set P used c) × (next ≡ used + 1) →
+            Head P Q used T R arity (head T sort arity (letters (drop start text)) R) c next
         unfolding then
         head_written m k =
             record {
               is = head_so ∙ ap (λ z. then z (λ u W. ok c W)) (word_more R (omega (arith, w, k.0)));
               known = declared;
               many = sym arity_is ∙ g;
-              nexts = refl;
-              words = words_more P Q used c (omega (arith, m, k.0)) k.1;
-              room = omega (arith, k.0);
+              nexts = k.2;
+              words = words_more P Q used c (omega (arith, m, k.0)) k.1 k.2;
+              room = omega (arith, k.0, k.2);
               long = ap length k.1 ∙ length-set P used c;
             }
 
-        pub head_full : (PATTERNS ≤ used) × (Q ≡ P) → Stopped P Q used (head T sort arity (letters (drop start text)) R) 60 6
+        pub head_full : {e : Row} → (PATTERNS ≤ used) × (Q ≡ P) × (e ≡ PatternWords) →
+            Stopped P Q used (head T sort arity (letters (drop start text)) R) (number_of (Room e)) (detail_of (Room e))
         unfolding then
         head_full k =
             record {
               now = R;
-              is = head_so ∙ ap (λ z. then z (λ u W. ok c W)) (word_full R (omega (arith, w, k.0)));
+              is = head_so ∙ ap (λ z. then z (λ u W. ok c W)) (word_full R (omega (arith, w, k.0))) ∙ (λ i. refuse 60 (detail_of (Room (sym k.2 i))) R);
               words = ap (take used) k.1;
               long = ap length k.1;
             }
 
 -- a symbol's number is small, and its row inside
-pub head_row : {text symbols ins : List ℕ} {count : ℕ} {ss : List Symbol} (name : List ℕ) (b : Bool) (r : Option ℕ) (c : ℕ) → SymbolsHeld text symbols ins count ss →
+pub head_row : {text symbols ins : List ℕ} {count : ℕ} {ss : List Symbol} (name : List ℕ) (b : Kind) (r : Option ℕ) (c : ℕ) → SymbolsHeld text symbols ins count ss →
     ((ss : List Symbol) → SymbolRows text symbols count ss → r ≡ (first (called b name) ss 0)) → r ≡ some c → (4 * c + 3 < length symbols) × (c < SYMBOLS)
 head_row {ss = ss} name b r c h a e =
     let f = first_some (called b name) ss 0 c no_symbol (found_at (first (called b name) ss 0) r c (a ss (symbols_rows h)) e) in
@@ -183,30 +181,29 @@ head_row {ss = ss} name b r c h a e =
 
 -- The answers of `atomic` --------------------------------------------------------------------------------------------------------
 
-module _ (text : List ℕ) (start sort : ℕ) (T : Theory) (R : Reading) (table P Q : List ℕ) (used : ℕ) where
-  pub atomic_marked : marked (letters (drop start text)) ≡ true → (r : Reply) → PatternRead prefix text table P Q used (variable (name_from text start) sort R) r →
-      PatternRead prefix text table P Q used (pattern T (atom start (letters (drop start text))) sort R) r
-  atomic_marked m r k =
-      subst (λ z. PatternRead prefix text table P Q used z r) (sym (pattern_marked R T sort start (letters (drop start text)) m)) k
+module _ (text : List ℕ) (start sort : ℕ) (T : Theory) (R : Reading) where
+  pub atomic_marked : marked (letters (drop start text)) ≡ true → (table P Q : List ℕ) (count used next : ℕ) (r : Result (Unit {0}) Question) →
+      PatternRead prefix text table count P Q used next (variable (name_from text start) sort R) r →
+      PatternRead prefix text table count P Q used next (pattern T (atom start (letters (drop start text))) sort R) r
+  atomic_marked m table P Q count used next r k =
+      subst (λ z. PatternRead prefix text table count P Q used next z r) (sym (pattern_marked R T sort start (letters (drop start text)) m)) k
 
-  module _ (m : marked (letters (drop start text)) ≡ false) (r : Reply) (k : HeadRead P Q used T R 0 (head T sort 0 (letters (drop start text)) R) r) where
-    pub atomic_stopped : {a d : ℕ} → r ≡ No a d → PatternRead prefix text table P Q used (pattern T (atom start (letters (drop start text))) sort R) r
+  module _ (m : marked (letters (drop start text)) ≡ false) (P Q : List ℕ) (used : ℕ) where
+    pub atomic_stopped : {a d : ℕ} → Stopped P Q used (head T sort 0 (letters (drop start text)) R) a d →
+        Stopped P Q used (pattern T (atom start (letters (drop start text))) sort R) a d
     unfolding then
-    atomic_stopped {a} {d} b =
-        let q : Stopped P Q used (head T sort 0 (letters (drop start text)) R) a d = subst (λ z. HeadRead P Q used T R 0 (head T sort 0 (letters (drop start text)) R) z) b k in
-        subst (λ z. PatternRead prefix text table P Q used (pattern T (atom start (letters (drop start text))) sort R) z) (sym b)
-        (record {
+    atomic_stopped q =
+        record {
           now = q.now;
           is = pattern_atom R T sort start (letters (drop start text)) m ∙ ap (λ z. then z (λ c U. ok (app c none) U)) q.is;
           words = q.words;
           long = q.long;
-        })
+        }
 
-    pub atomic_made : {c next count : ℕ} → r ≡ Ok c next → ReadSoFar text table count used R →
+    pub atomic_made : {c next count : ℕ} {table : List ℕ} → Head P Q used T R 0 (head T sort 0 (letters (drop start text)) R) c next → ReadSoFar text table count used R →
         Written prefix text table P Q used (pattern T (atom start (letters (drop start text))) sort R) count next
     unfolding then prefix
-    atomic_made {c} {next} b h =
-        let q : Head P Q used T R 0 (head T sort 0 (letters (drop start text)) R) c next = subst (λ z. HeadRead P Q used T R 0 (head T sort 0 (letters (drop start text)) R) z) b k in
+    atomic_made {c} q h =
         record {
           tree = app c none;
           now = worded R;

@@ -12,7 +12,7 @@ use Rattle.kernel.specs.Held.{SymbolsHeld}
 use Rattle.kernel.specs.HeldRules.{RulesHeld}
 use Rattle.kernel.specs.Parsed.{TheoryLists, TheoryHeld}
 use Rattle.kernel.specs.Readers.{KnownSymbol, KnownInput, KnownRule, KnownVar, NamedVars, WordsAt, FormedRules, KnownFormedRule, conclusion_at}
-use Rattle.kernel.specs.declared.parse.Counts.{Counts}
+use Rattle.kernel.specs.declared.tables.Counts.{Counts}
 use Rattle.kernel.specs.declared.rule_readers.Span.{Span}
 
 -- Entries that are there ---------------------------------------------------------------------------------------------------------

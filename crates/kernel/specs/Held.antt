@@ -1,17 +1,16 @@
 -- Tables that hold a part of a theory in their first cells, and what the writers of declarations cite. Assumes nothing.
-use Rattle.std.specs.Prelude.{◌≡◌, ℕ, ◌+◌, ◌*◌, ◌^◌, ◌<◌, ◌≤◌, List, [], ◌∷◌, ◌++◌, length}
+use Rattle.std.specs.Prelude.{◌≡◌, ℕ, ◌+◌, ◌*◌, ◌^◌, ◌<◌, ◌≤◌, List, ◌++◌, length, Result, Ok, Err}
 use Rattle.std.proofs.lemmas.List.Edits.{sets}
 use Rattle.rules.specs.Limits.{LENGTH, SORTS, SYMBOLS, ARGUMENTS}
 use Rattle.rules.specs.Out.{Out, ok, refuse}
 use Rattle.rules.specs.Sexp.{Sexps, count, Name}
-use Rattle.rules.specs.Theory.{Theory, Symbol}
+use Rattle.rules.specs.Theory.{Symbol}
 use Rattle.rules.specs.Laws.Theory.{All}
 use Rattle.rules.specs.TheoryTables.{filled, sort_cells, symbol_cells, input_cells}
-use Rattle.rules.specs.Laws.Declaring.{with_sort, with_symbol}
 use Rattle.sexp.specs.Items.{Holds}
 use Rattle.sexp.specs.NameRows.{NameIn}
-use Rattle.kernel.specs.declared.symbols.Added.{Added}
-use Rattle.kernel.specs.declared.symbols.Added.TheVariants.{Ok, No}
+use Rattle.questions.specs.declared.Question.{Question}
+use Rattle.questions.specs.Numbers.{number_of, detail_of}
 
 -- the first cells of a table are these
 pub record Front (table xs : List ℕ) : Type 0 where
@@ -42,16 +41,6 @@ pub record SortsHeld (text table : List ℕ) (count : ℕ) (ns : List Name) : Ty
 abbrev pub SomeSorts : List ℕ → List ℕ → ℕ → Type 0
 SomeSorts text table count = (ns : List Name) × SortsHeld text table count ns
 
--- what the definition gives is a sort more, and n are held now
-pub record SortStored (text table : List ℕ) (T : Theory) (given : Out Theory (Unit {0})) (n : ℕ) : Type 0 where
-  pub name : Name
-  pub is : given ≡ ok tt (with_sort T name)
-  pub held : SortsHeld text table n (T.sorts ++ (name ∷ []))
-
-abbrev pub SortAdded : List ℕ → List ℕ → List ℕ → Theory → Out Theory (Unit {0}) → Added → Type 0
-SortAdded text before after T given (Ok n) = SortStored text after T given n
-SortAdded text before after T given (No a d) = (given ≡ refuse a d T) × (after ≡ before)
-
 -- Symbols ------------------------------------------------------------------------------------------------------------------------
 
 -- items that name argument sorts, beside a row for them
@@ -70,9 +59,9 @@ pub record ArgumentsStored (before after : List ℕ) (count : ℕ) (given : Out 
   pub most : n ≤ ARGUMENTS
   pub cells : after ≡ sets before count sorts
 
-abbrev pub ArgumentsRead : List ℕ → List ℕ → ℕ → Out (Unit {0}) (List ℕ) → Added → Type 0
+abbrev pub ArgumentsRead : List ℕ → List ℕ → ℕ → Out (Unit {0}) (List ℕ) → Result ℕ Question → Type 0
 ArgumentsRead before after count given (Ok n) = ArgumentsStored before after count given n
-ArgumentsRead before after count given (No a d) = given ≡ refuse a d tt
+ArgumentsRead before after count given (Err e) = given ≡ refuse (number_of e) (detail_of e) tt
 
 pub record SymbolsHeld (text symbols inputs : List ℕ) (count : ℕ) (ss : List Symbol) : Type 0 where
   pub many : length ss ≡ count
@@ -105,12 +94,3 @@ pub record SymbolIs (text : List ℕ) (s : Symbol) (output arity start end : ℕ
   pub starts : s.name.start ≡ start
   pub ends : start + length s.name.bytes ≡ end
   pub cells : filled ARGUMENTS s.inputs ≡ row
-
-pub record SymbolStored (text symbols inputs : List ℕ) (T : Theory) (given : Out Theory (Unit {0})) (n : ℕ) : Type 0 where
-  pub symbol : Symbol
-  pub is : given ≡ ok tt (with_symbol T symbol)
-  pub held : SymbolsHeld text symbols inputs n (T.symbols ++ (symbol ∷ []))
-
-abbrev pub SymbolAdded : List ℕ → List ℕ → List ℕ → List ℕ → List ℕ → Theory → Out Theory (Unit {0}) → Added → Type 0
-SymbolAdded text s i s' i' T given (Ok n) = SymbolStored text s' i' T given n
-SymbolAdded text s i s' i' T given (No a d) = (given ≡ refuse a d T) × (s' ≡ s) × (i' ≡ i)

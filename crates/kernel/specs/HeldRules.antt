@@ -1,5 +1,9 @@
 -- Tables that hold the rules of a theory in their first cells, and what the writer of a rule cites. Assumes nothing.
-use Rattle.std.specs.Prelude.{◌≡◌, ℕ, ◌+◌, ◌*◌, ◌^◌, ◌<◌, ◌≤◌, List, [], ◌∷◌, ◌++◌, length, take}
+use Rattle.std.specs.Prelude.{◌≡◌, ℕ, ◌+◌, ◌*◌, ◌^◌, ◌<◌, ◌≤◌, List, [], ◌∷◌, ◌++◌, Result, Ok, Err, length, take}
+use Rattle.questions.specs.declared.Row.{Row}
+use Rattle.questions.specs.declared.Row.TheVariants.{Rules}
+use Rattle.questions.specs.declared.Question.{Question}
+use Rattle.questions.specs.Numbers.{number_of, detail_of}
 use Rattle.rules.specs.Limits.{RULES, RULEVARS, PATTERNS}
 use Rattle.rules.specs.Out.{Out, ok, refuse}
 use Rattle.rules.specs.Tree.{Tree, Trees, count_trees}
@@ -9,9 +13,9 @@ use Rattle.rules.specs.TheoryTables.{prefix, prefixes, pattern_row, rule_var_row
 use Rattle.rules.specs.Declare.{Reading}
 use Rattle.sexp.specs.NameRows.{NameIn}
 use Rattle.kernel.specs.Held.{Front, Form, SomeSymbolsHeld}
-use Rattle.kernel.specs.Reading.{ReadSoFar}
-use Rattle.kernel.specs.declared.patterns.Reply.{Reply}
-use Rattle.kernel.specs.declared.patterns.Reply.TheVariants.{Ok, No}
+use Rattle.kernel.specs.Reading.{ReadSoFar, Written, Stopped}
+use Rattle.kernel.specs.declared.rule.RuleSize.{RuleSize}
+use Rattle.kernel.specs.declared.patterns.RuleReader.{RuleReader}
 
 -- Reading ------------------------------------------------------------------------------------------------------------------------
 
@@ -20,12 +24,21 @@ abbrev pub schema_cells : Trees × Tree → List ℕ
 schema_cells p = prefixes p.0 ++ prefix p.1
 
 -- what `schema` is given: a rule's form, and an empty row for its variables
-pub record Beginning (text items symbols inputs : List ℕ) (known : ℕ) (row : List ℕ) (room used : ℕ) : Type 0 where
+pub record Beginning (text items symbols inputs : List ℕ) (known : ℕ) (row : List ℕ) (count room used : ℕ) : Type 0 where
   pub form : Form text items 4
   pub held : SomeSymbolsHeld text symbols inputs known
   pub so_far : Reading
-  pub reads : ReadSoFar text row 0 used so_far
+  pub reads : ReadSoFar text row count used so_far
   pub long : room ≡ PATTERNS
+
+-- text, then the row of variables, the words before and after, and how many of them were used
+abbrev pub SchemaRead : List ℕ → List ℕ → List ℕ → List ℕ → ℕ → Out Reading (Trees × Tree) → Result RuleSize Question → Type 0
+SchemaRead text row before after used given (Ok s) = Written schema_cells text row before after used given s.variables s.words
+SchemaRead text row before after used given (Err e) = Stopped before after used given (number_of e) (detail_of e)
+
+abbrev pub BeginningAt : RuleReader → List ℕ → Type 0
+BeginningAt s form =
+    Beginning s.known.text.now form s.known.rows.now s.known.inputs.now s.known.count s.vars.now s.count (length s.patterns.now) s.used
 
 -- a rule's form, of whatever text
 abbrev pub SomeForm : List ℕ → Type 0
@@ -76,10 +89,11 @@ pub record RuleIs (text patterns : List ℕ) (r : Rule) (start end variables pre
   pub words : take last patterns ≡ take first patterns ++ pattern_row r
   pub room : last ≤ PATTERNS
 
--- what is stored, and what the lack of room leaves
-abbrev pub RulePut : List ℕ → List ℕ → List ℕ → List ℕ → List ℕ → List ℕ → ℕ → List Rule → Rule → Reply → Type 0
-RulePut text rules vars rules' vars' patterns count rs u (Ok n w) = (count < RULES) × RulesHeld text rules' vars' patterns n w (rs ++ (u ∷ []))
-RulePut text rules vars rules' vars' patterns count rs u (No a d) = (RULES ≤ count) × (a ≡ 60) × (d ≡ 4) × (rules' ≡ rules) × (vars' ≡ vars)
+-- what is stored, with so many words then, and what the lack of room leaves
+abbrev pub RulePut : List ℕ → List ℕ → List ℕ → List ℕ → List ℕ → List ℕ → ℕ → ℕ → List Rule → Rule → Result (Unit {0}) Row → Type 0
+RulePut text rules vars rules' vars' patterns count words rs u (Ok y) =
+    (count < RULES) × RulesHeld text rules' vars' patterns (count + 1) words (rs ++ (u ∷ []))
+RulePut text rules vars rules' vars' patterns count words rs u (Err e) = (RULES ≤ count) × (e ≡ Rules) × (rules' ≡ rules) × (vars' ≡ vars)
 
 abbrev pub with_rule : Theory → Rule → Theory
 with_rule T r = record { sorts = T.sorts; symbols = T.symbols; rules = T.rules ++ (r ∷ []) }
@@ -96,6 +110,6 @@ pub record RuleRefused (text rules vars patterns : List ℕ) (T : Theory) (given
   pub held : RulesHeld text rules vars patterns count words T.rules
 
 -- text, then the tables afterwards, and what was held before
-abbrev pub RuleAdded : List ℕ → List ℕ → List ℕ → List ℕ → Theory → Out Theory (Unit {0}) → ℕ → ℕ → Reply → Type 0
-RuleAdded text rules vars patterns T given count words (Ok n w) = RuleStored text rules vars patterns T given n w
-RuleAdded text rules vars patterns T given count words (No a d) = RuleRefused text rules vars patterns T given count words a d
+abbrev pub RuleAdded : List ℕ → List ℕ → List ℕ → List ℕ → Theory → Out Theory (Unit {0}) → ℕ → ℕ → Result ℕ Question → Type 0
+RuleAdded text rules vars patterns T given count words (Ok w) = RuleStored text rules vars patterns T given (count + 1) w
+RuleAdded text rules vars patterns T given count words (Err e) = RuleRefused text rules vars patterns T given count words (number_of e) (detail_of e)

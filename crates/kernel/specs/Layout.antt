@@ -1,5 +1,5 @@
 -- The tables of a theory among the tables of a check (rules/specs/StateTables), for callers of `parse` and `parse_exact`. Assumes nothing.
-use Rattle.std.specs.Prelude.{◌≡◌, refl, ℕ, ◌*◌, List, ◌++◌, length, drop}
+use Rattle.std.specs.Prelude.{◌≡◌, refl, ℕ, ◌*◌, List, ◌++◌, length, drop, Result, Ok, Err}
 use Rattle.std.proofs.Common.{sym, ap, ◌∙◌, subst}
 use Rattle.rules.specs.Limits.{SORTS, SYMBOLS, ARGUMENTS, RULES, RULEVARS, PATTERNS}
 use Rattle.rules.specs.Theory.{Theory}
@@ -9,11 +9,10 @@ use Rattle.rules.specs.StateTables.{Tables, Long, laid}
 use Rattle.rules.specs.Laws.Row.{length_filled}
 use Rattle.rules.specs.Laws.Theory.{WellFormed}
 use Rattle.rules.specs.Laws.Declare.{reached, theory_formed}
-use Rattle.sexp.specs.Never.{never}
-use Rattle.kernel.specs.Parsed.{TheoryLists, theory_lists, TheoryHeld, Roomy, Exact, counts_of, judged_of, theory_of, verdict, theory_tables, laid_theory, LaidHeld}
-use Rattle.kernel.specs.declared.parse.Counts.{Counts}
-use Rattle.kernel.specs.declared.parse.Judged.{Judged as Answer}
-use Rattle.kernel.specs.declared.parse.Judged.TheVariants.{Done, Refused}
+use Rattle.kernel.specs.Parsed.{TheoryLists, theory_lists, TheoryHeld, Roomy, Exact, counts_of, JudgedAs, theory_of, verdict, theory_tables, laid_theory, LaidHeld}
+use Rattle.kernel.specs.declared.tables.Counts.{Counts}
+use Rattle.questions.specs.declared.Refused.{Refused}
+use Rattle.questions.specs.Numbers.{number_of, detail_of}
 
 abbrev pub theory_part : Tables → TheoryLists
 theory_part B = theory_lists B.sorts B.symbols B.inputs B.rules B.rule_vars B.patterns
@@ -69,24 +68,12 @@ verdict_formed text = subst WellFormed (reached_is (verdict text)) (theory_forme
 
 -- The answers of `parse_exact` -----------------------------------------------------------------------------------------------------
 
-module _ (r : Answer) (J : Judged Theory) (a : r ≡ judged_of J) where
-  pub judged_done : {k : ℕ} {n : Counts} → r ≡ Done k n → (J ≡ done k (theory_of J)) × (n ≡ counts_of (theory_of J))
-  judged_done {k} {n} b = go J (sym b ∙ a)
-    where
-      go : (I : Judged Theory) → Done k n ≡ judged_of I → (I ≡ done k (theory_of I)) × (n ≡ counts_of (theory_of I))
-      go (done j T) e = (let z : j ≡ k = cc in ap (λ (m : ℕ). done m T) z, cc)
-      go (refused m d j T) e = never cc
+module _ (r : Result ℕ Refused) (J : Judged Theory) (a : JudgedAs J r) where
+  pub judged_done : {k : ℕ} → r ≡ Ok k → J ≡ done k (theory_of J)
+  judged_done b = subst (JudgedAs J) b a
 
-  pub judged_refused : {m d k : ℕ} {n : Counts} → r ≡ Refused m d k n → (J ≡ refused m d k (theory_of J)) × (n ≡ counts_of (theory_of J))
-  judged_refused {m} {d} {k} {n} b = go J (sym b ∙ a)
-    where
-      go : (I : Judged Theory) → Refused m d k n ≡ judged_of I → (I ≡ refused m d k (theory_of I)) × (n ≡ counts_of (theory_of I))
-      go (done j T) e = never cc
-      go (refused i c j T) e =
-          let x : i ≡ m = cc in
-          let y : c ≡ d = cc in
-          let z : j ≡ k = cc in
-          (λ u. refused (x u) (y u) (z u) T, cc)
+  pub judged_refused : {e : Refused} → r ≡ Err e → J ≡ refused (number_of e.question) (detail_of e.question) e.form (theory_of J)
+  judged_refused b = subst (JudgedAs J) b a
 
 -- the tables hold what was declared
 pub parsed_held : (text : List ℕ) (t : TheoryLists) (n : Counts) (T : Theory) → t ≡ theory_tables T → LaidHeld text T → n ≡ counts_of T →

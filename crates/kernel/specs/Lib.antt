@@ -4,6 +4,7 @@ pub mod Held
 pub mod Reading
 pub mod HeldRules
 pub mod Parsed
+pub mod Tables
 pub mod Layout
 pub mod SignatureRows
 pub mod Readers

@@ -1,18 +1,20 @@
 -- What the look-ups of symbols cite: rows of the table of symbols. Assumes nothing.
-use Rattle.std.specs.Prelude.{◌≡◌, ℕ, ◌+◌, ◌*◌, ◌<◌, Bool, true, false, not, ◌&&◌, List, eqb, length, get_or}
+use Rattle.std.specs.Prelude.{◌≡◌, ℕ, ◌+◌, ◌*◌, ◌<◌, Bool, not, ◌&&◌, List, eqb, length, get_or}
 use Rattle.rules.specs.Text.{same}
 use Rattle.rules.specs.Theory.{Symbol, no_symbol, is_predicate}
+use Rattle.kernel.specs.declared.names.Kind.{Kind}
+use Rattle.kernel.specs.declared.names.Kind.TheVariants.{Constructor, Predicate}
 use Rattle.sexp.specs.NameRows.{NameAt}
 
 -- a predicate or a constructor, by its output
-unfoldable pub kind_of : Bool → ℕ → Bool
-kind_of true n = eqb n 0
-kind_of false n = not (eqb n 0)
+abbrev pub kind_of : Kind → ℕ → Bool
+kind_of Predicate n = eqb n 0
+kind_of Constructor n = not (eqb n 0)
 
 -- a predicate or a constructor
-unfoldable pub of_kind : Bool → Symbol → Bool
-of_kind true s = is_predicate s
-of_kind false s = not (is_predicate s)
+unfoldable pub of_kind : Kind → Symbol → Bool
+of_kind Predicate s = is_predicate s
+of_kind Constructor s = not (is_predicate s)
 
 -- a row of the table of symbols
 pub record SymbolAt (text table : List ℕ) (k : ℕ) (s : Symbol) : Type 0 where
@@ -32,5 +34,5 @@ abbrev pub SomeSymbols : List ℕ → List ℕ → ℕ → Type 0
 SomeSymbols text table count = (ss : List Symbol) × SymbolRows text table count ss
 
 -- the symbols of a kind whose name has these bytes
-abbrev pub called : Bool → List ℕ → Symbol → Bool
-called b name s = of_kind b s && same s.name.bytes name
+abbrev pub called : Kind → List ℕ → Symbol → Bool
+called k name s = of_kind k s && same s.name.bytes name

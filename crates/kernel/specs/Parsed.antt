@@ -1,6 +1,6 @@
 -- What the contract of `parse` cites: all tables of a theory, what they hold while declarations are taken, and what they are when a text
 -- is judged. Assumes nothing.
-use Rattle.std.specs.Prelude.{◌≡◌, ℕ, ◌-◌, ◌*◌, ◌≤◌, List, ◌++◌, length, take, replicate, Option, Some as some, None as nothing}
+use Rattle.std.specs.Prelude.{◌≡◌, ℕ, ◌-◌, ◌*◌, ◌≤◌, List, ◌++◌, length, take, replicate, Option, Some as some, None as nothing, Result, Ok, Err}
 use Rattle.rules.specs.Limits.{LENGTH, SORTS, SYMBOLS, ARGUMENTS, RULES, RULEVARS, PATTERNS}
 use Rattle.rules.specs.Out.{Out, ok, refuse}
 use Rattle.rules.specs.Sexp.{Sexp, Sexps, atom, list, item, count, read}
@@ -15,15 +15,10 @@ use Rattle.sexp.specs.Spelt.{Spelt}
 use Rattle.sexp.specs.Items.{Holds}
 use Rattle.kernel.specs.Held.{SortsHeld, SymbolsHeld}
 use Rattle.kernel.specs.HeldRules.{RulesHeld}
-use Rattle.kernel.specs.declared.symbols.Added.{Added}
-use Rattle.kernel.specs.declared.symbols.Added.TheVariants.{Ok as AddedOk, No as AddedNo}
-use Rattle.kernel.specs.declared.patterns.Reply.{Reply}
-use Rattle.kernel.specs.declared.patterns.Reply.TheVariants.{Ok as ReplyOk, No as ReplyNo}
-use Rattle.kernel.specs.declared.parse.Counts.{Counts}
-use Rattle.kernel.specs.declared.declare.Declared.{Declared}
-use Rattle.kernel.specs.declared.declare.Declared.TheVariants.{Ok, No}
-use Rattle.kernel.specs.declared.parse.Judged.{Judged}
-use Rattle.kernel.specs.declared.parse.Judged.TheVariants.{Done, Refused}
+use Rattle.questions.specs.declared.Question.{Question}
+use Rattle.questions.specs.declared.Refused.{Refused}
+use Rattle.questions.specs.Numbers.{number_of, detail_of}
+use Rattle.kernel.specs.declared.tables.Counts.{Counts}
 
 -- the six tables of a theory
 pub record TheoryLists : Type 0 where
@@ -79,19 +74,6 @@ abbrev pub taken : Option Declaration → Sexps → Theory → Out Theory (Unit 
 taken nothing xs T = refuse 10 0 T
 taken (some d) xs T = declare_as d xs T
 
--- what is used when a sort, a symbol or a rule is added
-abbrev pub sorts_now : Counts → Added → Declared
-sorts_now n (AddedOk k) = Ok (record { sorts = k; symbols = n.symbols; rules = n.rules; words = n.words })
-sorts_now n (AddedNo a d) = No a d
-
-abbrev pub symbols_now : Counts → Added → Declared
-symbols_now n (AddedOk k) = Ok (record { sorts = n.sorts; symbols = k; rules = n.rules; words = n.words })
-symbols_now n (AddedNo a d) = No a d
-
-abbrev pub rules_now : Counts → Reply → Declared
-rules_now n (ReplyOk k w) = Ok (record { sorts = n.sorts; symbols = n.symbols; rules = k; words = w })
-rules_now n (ReplyNo a d) = No a d
-
 -- the form is taken: what the definition gives is held now
 pub record Taken (text : List ℕ) (t : TheoryLists) (given : Out Theory (Unit {0})) (n : Counts) : Type 0 where
   pub now : Theory
@@ -99,18 +81,14 @@ pub record Taken (text : List ℕ) (t : TheoryLists) (given : Out Theory (Unit {
   pub held : TheoryHeld text t n now
 
 -- the form is refused: what was held before is held still
-abbrev pub DeclaredAs : List ℕ → TheoryLists → Counts → Theory → Out Theory (Unit {0}) → Declared → Type 0
-DeclaredAs text t n T given (Ok m) = Taken text t given m
-DeclaredAs text t n T given (No a d) = (given ≡ refuse a d T) × TheoryHeld text t n T
+abbrev pub DeclaredAs : List ℕ → TheoryLists → Counts → Theory → Out Theory (Unit {0}) → Result Unit Question → Type 0
+DeclaredAs text t n T given (Ok u) = Taken text t given n
+DeclaredAs text t n T given (Err e) = (given ≡ refuse (number_of e) (detail_of e) T) × TheoryHeld text t n T
 
 -- The answer ---------------------------------------------------------------------------------------------------------------------
 
 abbrev pub counts_of : Theory → Counts
 counts_of T = record { sorts = length T.sorts; symbols = length T.symbols; rules = length T.rules; words = rule_words T.rules }
-
-abbrev pub judged_of : Verdict Theory → Judged
-judged_of (done k T) = Done k (counts_of T)
-judged_of (refused n d k T) = Refused n d k (counts_of T)
 
 -- what was declared before the end or the refusal
 abbrev pub theory_of : Verdict Theory → Theory
@@ -121,19 +99,19 @@ theory_of (refused n d k T) = T
 unfoldable pub verdict : List ℕ → Verdict Theory
 verdict text = whole declare (read text) no_theory
 
+-- the number of the text's forms, or the question that was answered by no, with the number of the forms before
+abbrev pub JudgedAs : Verdict Theory → Result ℕ Refused → Type 0
+JudgedAs J (Ok k) = J ≡ done k (theory_of J)
+JudgedAs J (Err e) = J ≡ refused (number_of e.question) (detail_of e.question) e.form (theory_of J)
+
 -- every declaration that was taken is held
-pub record Run (text : List ℕ) (t : TheoryLists) (J : Verdict Theory) (r : Judged) : Type 0 where
-  pub answers : r ≡ judged_of J
-  pub held : TheoryHeld text t (counts_of (theory_of J)) (theory_of J)
+pub record Run (text : List ℕ) (t : TheoryLists) (n : Counts) (J : Verdict Theory) (r : Result ℕ Refused) : Type 0 where
+  pub answers : JudgedAs J r
+  pub held : TheoryHeld text t n (theory_of J)
 
 -- nothing is used
 abbrev pub no_counts : Counts
 no_counts = record { sorts = 0; symbols = 0; rules = 0; words = 0 }
-
--- what an answer says is used
-abbrev pub counts_in : Judged → Counts
-counts_in (Done k n) = n
-counts_in (Refused a d k n) = n
 
 -- what is used lies inside the tables
 pub record CountsFit (t : TheoryLists) (n : Counts) : Type 0 where

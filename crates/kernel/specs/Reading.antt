@@ -1,6 +1,10 @@
 -- What the readers of a rule's patterns cite: the rule's variables in their row, and the words in prefix notation behind those of the
 -- rules before. Assumes nothing.
-use Rattle.std.specs.Prelude.{◌≡◌, ℕ, ◌+◌, ◌-◌, ◌*◌, ◌^◌, ◌<◌, ◌≤◌, Bool, true, false, List, [], ◌∷◌, ◌++◌, length, get_or, take, drop, set, replicate}
+use Rattle.std.specs.Prelude.{◌≡◌, ℕ, ◌+◌, ◌-◌, ◌*◌, ◌^◌, ◌<◌, ◌≤◌, List, [], ◌∷◌, ◌++◌, Result, Ok, Err, length, get_or, take, drop, set, replicate}
+use Rattle.questions.specs.declared.Row.{Row}
+use Rattle.questions.specs.declared.Row.TheVariants.{PatternWords}
+use Rattle.questions.specs.declared.Question.{Question}
+use Rattle.questions.specs.Numbers.{number_of, detail_of}
 use Rattle.rules.specs.Limits.{LENGTH, RULEVARS, PATTERNS}
 use Rattle.rules.specs.Out.{Out, ok, refuse, then}
 use Rattle.rules.specs.Sexp.{Sexp, Sexps, cons, count}
@@ -12,9 +16,31 @@ use Rattle.rules.specs.Declare.{Reading, patterns}
 use Rattle.rules.specs.Laws.PatternSteps.{worded}
 use Rattle.sexp.specs.Items.{Holds}
 use Rattle.sexp.specs.NameRows.{NameIn}
-use Rattle.kernel.specs.Held.{Front, SomeSymbolsHeld}
-use Rattle.kernel.specs.declared.patterns.Reply.{Reply}
-use Rattle.kernel.specs.declared.patterns.Reply.TheVariants.{Ok, No}
+use Rattle.kernel.specs.Held.{Front, SymbolsHeld, SomeSymbolsHeld}
+use Rattle.kernel.specs.declared.patterns.SymbolTable.{SymbolTable}
+use Rattle.kernel.specs.declared.patterns.RuleReader.{RuleReader}
+
+-- The reader ---------------------------------------------------------------------------------------------------------------------
+
+-- the same tables are lent, to read from and to write to
+pub record SameTables (s t : RuleReader) : Type 0 where
+  pub known : t.known ≡ s.known
+  pub vars : t.vars.ghost_name ≡ s.vars.ghost_name
+  pub patterns : t.patterns.ghost_name ≡ s.patterns.ghost_name
+
+-- no variable was met
+pub record SameVars (s t : RuleReader) : Type 0 where
+  pub vars : t.vars.now ≡ s.vars.now
+  pub count : t.count ≡ s.count
+
+-- no word was written
+pub record SameWords (s t : RuleReader) : Type 0 where
+  pub patterns : t.patterns.now ≡ s.patterns.now
+  pub used : t.used ≡ s.used
+
+-- these are the symbols of the table
+abbrev pub Knows : SymbolTable → List Symbol → Type 0
+Knows k ss = SymbolsHeld k.text.now k.rows.now k.inputs.now k.count ss
 
 -- Words --------------------------------------------------------------------------------------------------------------------------
 
@@ -22,9 +48,10 @@ pub record WordFits (room cell : ℕ) : Type 0 where
   pub long : room ≡ PATTERNS
   pub small : cell < 2 ^ 32
 
-abbrev pub WordPut : List ℕ → List ℕ → ℕ → ℕ → Bool → Type 0
-WordPut before after used cell true = (used < PATTERNS) × (after ≡ set before used cell)
-WordPut before after used cell false = (PATTERNS ≤ used) × (after ≡ before)
+-- the words before and after, and how many of them are used
+abbrev pub WordPut : List ℕ → List ℕ → ℕ → ℕ → ℕ → Result (Unit {0}) Row → Type 0
+WordPut before after used next cell (Ok u) = (used < PATTERNS) × (after ≡ set before used cell) × (next ≡ used + 1)
+WordPut before after used next cell (Err e) = (PATTERNS ≤ used) × (after ≡ before) × (e ≡ PatternWords)
 
 -- Variables ----------------------------------------------------------------------------------------------------------------------
 
@@ -45,6 +72,9 @@ pub record Meeting (text : List ℕ) (start end sort : ℕ) (table : List ℕ) (
   pub short : length text ≤ LENGTH
   pub small : sort < 2 ^ 32
 
+abbrev pub MeetingAt : RuleReader → ℕ → ℕ → ℕ → Type 0
+MeetingAt s start end sort = Meeting s.known.text.now start end sort s.vars.now s.count
+
 -- the variable's number, and the variables then
 pub record Met (text table : List ℕ) (R : Reading) (given : Out Reading ℕ) (i count : ℕ) : Type 0 where
   pub now : Reading
@@ -53,9 +83,9 @@ pub record Met (text table : List ℕ) (R : Reading) (given : Out Reading ℕ) (
   pub held : VarsHeld text table count now.vars
   pub small : i < RULEVARS
 
-abbrev pub MetRead : List ℕ → List ℕ → Reading → Out Reading ℕ → Reply → Type 0
-MetRead text table R given (Ok i count) = Met text table R given i count
-MetRead text table R given (No a d) = given ≡ refuse a d R
+abbrev pub MetRead : List ℕ → List ℕ → ℕ → Reading → Out Reading ℕ → Result ℕ Question → Type 0
+MetRead text table count R given (Ok i) = Met text table R given i count
+MetRead text table count R given (Err e) = given ≡ refuse (number_of e) (detail_of e) R
 
 -- Patterns -----------------------------------------------------------------------------------------------------------------------
 
@@ -65,6 +95,9 @@ pub record ReadSoFar (text table : List ℕ) (count used : ℕ) (R : Reading) : 
   pub words : R.words ≡ used
   pub room : used ≤ PATTERNS
 
+abbrev pub ReadTo : RuleReader → Reading → Type 0
+ReadTo s R = ReadSoFar s.known.text.now s.vars.now s.count s.used R
+
 -- what the readers of atoms are given
 pub record AtomReading (text : List ℕ) (start sort : ℕ) (table : List ℕ) (count room : ℕ) : Type 0 where
   pub vs : List RuleVar
@@ -73,6 +106,9 @@ pub record AtomReading (text : List ℕ) (start sort : ℕ) (table : List ℕ) (
   pub short : length text ≤ LENGTH
   pub small : sort < 2 ^ 32
   pub long : room ≡ PATTERNS
+
+abbrev pub AtomAt : RuleReader → ℕ → ℕ → Type 0
+AtomAt s start sort = AtomReading s.known.text.now start sort s.vars.now s.count (length s.patterns.now)
 
 -- what was read has its words behind those before
 pub record Written {A : Type 0} (cells : A → List ℕ) (text table before after : List ℕ) (used : ℕ) (given : Out Reading A) (count next : ℕ) : Type 0 where
@@ -90,17 +126,24 @@ pub record Stopped {A : Type 0} (before after : List ℕ) (used : ℕ) (given : 
   pub words : take used after ≡ take used before
   pub long : length after ≡ length before
 
-abbrev pub PatternRead : {A : Type 0} → (A → List ℕ) → List ℕ → List ℕ → List ℕ → List ℕ → ℕ → Out Reading A → Reply → Type 0
-PatternRead cells text table before after used given (Ok count next) = Written cells text table before after used given count next
-PatternRead cells text table before after used given (No a d) = Stopped before after used given a d
+-- text, then the variables, the words before and after, and how many of them are used
+abbrev pub PatternRead : {A : Type 0} → (A → List ℕ) → List ℕ → List ℕ → ℕ → List ℕ → List ℕ → ℕ → ℕ → Out Reading A → Result (Unit {0}) Question → Type 0
+PatternRead cells text table count before after used next given (Ok u) = Written cells text table before after used given count next
+PatternRead cells text table count before after used next given (Err e) = Stopped before after used given (number_of e) (detail_of e)
+
+-- of the reader before and after
+abbrev pub PartRead : {A : Type 0} → (A → List ℕ) → RuleReader → RuleReader → Out Reading A → Result (Unit {0}) Question → Type 0
+PartRead cells s t given r = PatternRead cells s.known.text.now t.vars.now t.count s.patterns.now t.patterns.now s.used t.used given r
 
 -- Heads --------------------------------------------------------------------------------------------------------------------------
 
-pub record Heading (text : List ℕ) (start : ℕ) (symbols : List ℕ) (count room : ℕ) : Type 0 where
-  pub inputs : List ℕ
+pub record Heading (text : List ℕ) (start : ℕ) (symbols inputs : List ℕ) (count room : ℕ) : Type 0 where
   pub held : SomeSymbolsHeld text symbols inputs count
   pub inside : start < length text
   pub long : room ≡ PATTERNS
+
+abbrev pub HeadAt : RuleReader → ℕ → Type 0
+HeadAt s start = Heading s.known.text.now start s.known.rows.now s.known.inputs.now s.known.count (length s.patterns.now)
 
 -- a symbol with so many arguments, and its word
 pub record Head (before after : List ℕ) (used : ℕ) (T : Theory) (R : Reading) (arity : ℕ) (given : Out Reading ℕ) (c next : ℕ) : Type 0 where
@@ -112,9 +155,9 @@ pub record Head (before after : List ℕ) (used : ℕ) (T : Theory) (R : Reading
   pub room : next ≤ PATTERNS
   pub long : length after ≡ length before
 
-abbrev pub HeadRead : List ℕ → List ℕ → ℕ → Theory → Reading → ℕ → Out Reading ℕ → Reply → Type 0
-HeadRead before after used T R arity given (Ok c next) = Head before after used T R arity given c next
-HeadRead before after used T R arity given (No a d) = Stopped before after used given a d
+abbrev pub HeadRead : List ℕ → List ℕ → ℕ → ℕ → Theory → Reading → ℕ → Out Reading ℕ → Result ℕ Question → Type 0
+HeadRead before after used next T R arity given (Ok c) = Head before after used T R arity given c next
+HeadRead before after used next T R arity given (Err e) = Stopped before after used given (number_of e) (detail_of e)
 
 -- a list that begins with a symbol: the word of the symbol is written, and its arguments are left
 pub record Opened (text cells before after : List ℕ) (used : ℕ) (T : Theory) (R : Reading) (zs : Sexps) (given : Out Reading Tree) (c next : ℕ) : Type 0 where
@@ -131,17 +174,23 @@ pub record Opened (text cells before after : List ℕ) (used : ℕ) (T : Theory)
   pub room : next ≤ PATTERNS
   pub long : length after ≡ length before
 
-abbrev pub OpenedRead : List ℕ → List ℕ → List ℕ → List ℕ → ℕ → Theory → Reading → Sexps → Out Reading Tree → Reply → Type 0
-OpenedRead text cells before after used T R zs given (Ok c next) = Opened text cells before after used T R zs given c next
-OpenedRead text cells before after used T R zs given (No a d) = Stopped before after used given a d
+abbrev pub OpenedRead : List ℕ → List ℕ → List ℕ → List ℕ → ℕ → ℕ → Theory → Reading → Sexps → Out Reading Tree → Result ℕ Question → Type 0
+OpenedRead text cells before after used next T R zs given (Ok c) = Opened text cells before after used T R zs given c next
+OpenedRead text cells before after used next T R zs given (Err e) = Stopped before after used given (number_of e) (detail_of e)
+
+-- of the reader before and after
+abbrev pub ListOpened : RuleReader → RuleReader → List ℕ → Theory → Reading → Sexps → Out Reading Tree → Result ℕ Question → Type 0
+ListOpened s t cells T R zs given r = OpenedRead s.known.text.now cells s.patterns.now t.patterns.now s.used t.used T R zs given r
 
 -- what the readers of lists are given
-pub record Opening (text cells symbols : List ℕ) (known room : ℕ) : Type 0 where
+pub record Opening (text cells symbols inputs : List ℕ) (known room : ℕ) : Type 0 where
   pub zs : Sexps
   pub holds : Holds text cells zs
-  pub inputs : List ℕ
   pub held : SomeSymbolsHeld text symbols inputs known
   pub long : room ≡ PATTERNS
+
+abbrev pub OpeningAt : RuleReader → List ℕ → Type 0
+OpeningAt s cells = Opening s.known.text.now cells s.known.rows.now s.known.inputs.now s.known.count (length s.patterns.now)
 
 -- what the readers of terms are given
 pub record Patterning (text cells symbols inputs : List ℕ) (known : ℕ) (table : List ℕ) (count room used : ℕ) : Type 0 where
@@ -153,6 +202,10 @@ pub record Patterning (text cells symbols inputs : List ℕ) (known : ℕ) (tabl
   pub short : length text ≤ LENGTH
   pub long : room ≡ PATTERNS
 
+abbrev pub PartAt : RuleReader → List ℕ → Type 0
+PartAt s cells =
+    Patterning s.known.text.now cells s.known.rows.now s.known.inputs.now s.known.count s.vars.now s.count (length s.patterns.now) s.used
+
 -- the arguments of a symbol from number k on
 pub record Placed (ss : List Symbol) (c k : ℕ) (zs : Sexps) : Type 0 where
   pub known : c < length ss
@@ -162,3 +215,7 @@ pub record Placed (ss : List Symbol) (c k : ℕ) (zs : Sexps) : Type 0 where
 pub record Arguing (text cells symbols inputs : List ℕ) (known : ℕ) (table : List ℕ) (count room used c k : ℕ) : Type 0 where
   pub given : Patterning text cells symbols inputs known table count room used
   pub placed : Placed given.held.0 c k given.zs
+
+abbrev pub ArgumentsAt : RuleReader → List ℕ → ℕ → ℕ → Type 0
+ArgumentsAt s cells c k =
+    Arguing s.known.text.now cells s.known.rows.now s.known.inputs.now s.known.count s.vars.now s.count (length s.patterns.now) s.used c k

@@ -1,9 +1,10 @@
 -- What the readers of names cite. Assumes nothing.
-use Rattle.std.specs.Prelude.{ℕ, ◌+◌, ◌<◌, List, length, Option, Some as some, None as nothing}
+use Rattle.std.specs.Prelude.{ℕ, ◌+◌, ◌<◌, List, length, Option, Some as some, None as nothing, Result, Ok, Err}
 use Rattle.rules.specs.Sexp.{Sexps, Name, count}
 use Rattle.sexp.specs.Items.{Holds}
-use Rattle.kernel.specs.declared.symbols.Spelling.{Spelling}
-use Rattle.kernel.specs.declared.symbols.Spelling.TheVariants.{Name as NameAt, Refused}
+use Rattle.questions.specs.declared.Question.{Question}
+use Rattle.questions.specs.declared.Question.TheVariants.{Declared}
+use Rattle.kernel.specs.declared.rule_readers.Span.{Span}
 
 -- the items of a list that has one with that number
 pub record Reaching (text words : List ℕ) (number : ℕ) : Type 0 where
@@ -11,6 +12,7 @@ pub record Reaching (text words : List ℕ) (number : ℕ) : Type 0 where
   pub holds : Holds text words xs
   pub there : number < count xs
 
-abbrev pub name_of : Option Name → Spelling
-name_of (some n) = NameAt n.start (n.start + length n.bytes)
-name_of nothing = Refused
+-- where a name stands in the text; question 11 where there is none
+abbrev pub name_of : Option Name → Result Span Question
+name_of (some n) = Ok (record { from = n.start; end = n.start + length n.bytes })
+name_of nothing = Err Declared

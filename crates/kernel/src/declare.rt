@@ -1,161 +1,88 @@
 // One declaration: its tag says which of the four it is.
 ghost use Rattle.std.specs.Prelude.{◌≡◌};
-ghost use Rattle.rules.specs.Sexp.{Sexp, Sexps};
+ghost use Rattle.rules.specs.Sexp.{Sexp, Sexps, count};
 ghost use Rattle.rules.specs.Theory.{Theory};
-ghost use Rattle.rules.specs.Declare.{declare};
+ghost use Rattle.rules.specs.Declare.{declare, add_rule};
 ghost use Rattle.sexp.specs.Items.{Held, Holds};
 ghost use Rattle.sexp.specs.TagTable.{declaration_answer};
-ghost use Rattle.kernel.specs.Parsed.{theory_lists, TheoryHeld, Formed, Declaring, DeclaredAs, tagged, ItemsDeclaring, taken, sorts_now, symbols_now, rules_now};
+ghost use Rattle.kernel.specs.Parsed.{Formed, Declaring, tagged, ItemsDeclaring, taken};
+ghost use Rattle.kernel.specs.Held.{Form};
+ghost use Rattle.kernel.specs.Tables.{lists_of, SameTables, Holding, HoldingSome, Leaving};
 
-use crate::parse::Counts;
-use crate::patterns::Reply;
 use crate::rule::add_rule;
 use crate::signatures::{add_ctor, add_pred};
-use crate::symbols::{Added, add_sort};
+use crate::symbols::add_sort;
+use crate::tables::{Counts, Tables};
+use questions::Question;
 use sexp::items::Item;
 use sexp::tags::{Declaration, theory_tag};
 use sexp::{items, lex};
 
-// A declaration is taken, and so much is used now; or it is refused, by number and detail.
-#[derive(Clone, Copy)]
-pub enum Declared {
-    Ok(Counts),
-    No(usize, usize),
-}
-
 // The tag of a form, by its items.
-fn tag_of(text: &[u8], items: &[u32]) -> Declaration
+fn tag_of(text: &[u8], items: &[u32]) -> Option<Declaration>
     requires { Held text.now items.now }
     ensures { (xs : Sexps) → Holds text.now items.now xs → result ≡ declaration_answer (tagged xs) }
 {
-    if items.len() == 0 {
-        return Declaration::Unknown;
+    if items.is_empty() {
+        return None;
     }
     let Item::Atom(start) = items::item_at(items, 0) else {
-        return Declaration::Unknown;
+        return None;
     };
     let end = lex::atom_end(text, start);
     theory_tag(&text[start..end], items::count(items))
 }
 
-// What is used when a sort is added.
-fn sorts_now(held: Counts, r: Added) -> Declared
-    ensures { result ≡ sorts_now held r }
+// A rule, as its items declare it.
+fn declare_rule(text: &[u8], items: &[u32], tables: &mut Tables<'_>) -> Result<(), Question>
+    requires form { Form text.now items.now 4 }
+    requires held { HoldingSome text.now tables.old }
+    ensures same_tables { SameTables tables.old tables.new }
+    ensures declared { (T : Theory) (xs : Sexps) → Holding text.now tables.old T → Holds text.now items.now xs →
+        4 ≡ count xs → Leaving text.now tables.new T (add_rule xs T) result }
 {
-    match r {
-        Added::Ok(n) => Declared::Ok(Counts {
-            sorts: n,
-            symbols: held.symbols,
-            rules: held.rules,
-            words: held.words,
-        }),
-        Added::No(number, detail) => Declared::No(number, detail),
-    }
-}
-
-// When a symbol is.
-fn symbols_now(held: Counts, r: Added) -> Declared
-    ensures { result ≡ symbols_now held r }
-{
-    match r {
-        Added::Ok(n) => Declared::Ok(Counts {
-            sorts: held.sorts,
-            symbols: n,
-            rules: held.rules,
-            words: held.words,
-        }),
-        Added::No(number, detail) => Declared::No(number, detail),
-    }
-}
-
-// When a rule is.
-fn rules_now(held: Counts, r: Reply) -> Declared
-    ensures { result ≡ rules_now held r }
-{
-    match r {
-        Reply::Ok(n, words) => Declared::Ok(Counts {
-            sorts: held.sorts,
-            symbols: held.symbols,
-            rules: n,
-            words: words,
-        }),
-        Reply::No(number, detail) => Declared::No(number, detail),
-    }
+    let held = tables.held;
+    let symbols = &mut *tables.symbols;
+    let inputs = &mut *tables.inputs;
+    let rules = &mut *tables.rules;
+    let vars = &mut *tables.vars;
+    let patterns = &mut *tables.patterns;
+    let words = add_rule(text, items, symbols, inputs, rules, vars, patterns, held)?;
+    tables.held = Counts {
+        rules: held.rules + 1,
+        words,
+        ..held
+    };
+    Ok(())
 }
 
 // The declaration that has these items.
-fn declare_items(
-    text: &[u8],
-    items: &[u32],
-    sorts: &mut [u32],
-    symbols: &mut [u32],
-    inputs: &mut [u32],
-    rules: &mut [u32],
-    vars: &mut [u32],
-    patterns: &mut [u32],
-    held: Counts,
-) -> Declared
-    requires { ItemsDeclaring text.now items.now (theory_lists sorts.old symbols.old inputs.old rules.old vars.old patterns.old) held }
-    ensures { (T : Theory) (xs : Sexps) →
-        TheoryHeld text.now (theory_lists sorts.old symbols.old inputs.old rules.old vars.old patterns.old) held T →
-        Holds text.now items.now xs →
-        DeclaredAs text.now (theory_lists sorts.new symbols.new inputs.new rules.new vars.new patterns.new) held T (taken (tagged xs) xs T) result }
+fn declare_items(text: &[u8], items: &[u32], tables: &mut Tables<'_>) -> Result<(), Question>
+    requires { ItemsDeclaring text.now items.now (lists_of tables.old) tables.old.held }
+    ensures same_tables { SameTables tables.old tables.new }
+    ensures declared { (T : Theory) (xs : Sexps) → Holding text.now tables.old T → Holds text.now items.now xs →
+        Leaving text.now tables.new T (taken (tagged xs) xs T) result }
 {
-    let known = held.sorts;
-    let count = held.symbols;
-    match tag_of(text, items) {
-        Declaration::Sort => {
-            let r = add_sort(text, items, sorts, known);
-            sorts_now(held, r)
-        }
-        Declaration::Ctor => {
-            let r = add_ctor(text, items, sorts, known, symbols, inputs, count);
-            symbols_now(held, r)
-        }
-        Declaration::Pred => {
-            let r = add_pred(text, items, sorts, known, symbols, inputs, count);
-            symbols_now(held, r)
-        }
-        Declaration::Rule => {
-            let r = add_rule(
-                text, items, symbols, inputs, count, rules, vars, patterns, held.rules, held.words,
-            );
-            rules_now(held, r)
-        }
-        Declaration::Unknown => Declared::No(10, 0),
+    let Some(tag) = tag_of(text, items) else {
+        return Err(Question::Declaration);
+    };
+    match tag {
+        Declaration::Sort => add_sort(text, items, tables),
+        Declaration::Ctor => add_ctor(text, items, tables),
+        Declaration::Pred => add_pred(text, items, tables),
+        Declaration::Rule => declare_rule(text, items, tables),
     }
 }
 
-// The declaration whose cells these are.
-pub fn declare(
-    text: &[u8],
-    cells: &[u32],
-    sorts: &mut [u32],
-    symbols: &mut [u32],
-    inputs: &mut [u32],
-    rules: &mut [u32],
-    vars: &mut [u32],
-    patterns: &mut [u32],
-    held: Counts,
-) -> Declared
-    requires { Declaring text.now cells.now (theory_lists sorts.old symbols.old inputs.old rules.old vars.old patterns.old) held }
-    ensures { (T : Theory) (x : Sexp) →
-        TheoryHeld text.now (theory_lists sorts.old symbols.old inputs.old rules.old vars.old patterns.old) held T →
-        Formed text.now cells.now x →
-        DeclaredAs text.now (theory_lists sorts.new symbols.new inputs.new rules.new vars.new patterns.new) held T (declare x T) result }
+// The declaration whose cells these are; where it is refused, the tables hold what they held.
+pub fn declare(text: &[u8], cells: &[u32], tables: &mut Tables<'_>) -> Result<(), Question>
+    requires { Declaring text.now cells.now (lists_of tables.old) tables.old.held }
+    ensures same_tables { SameTables tables.old tables.new }
+    ensures declared { (T : Theory) (x : Sexp) → Holding text.now tables.old T → Formed text.now cells.now x →
+        Leaving text.now tables.new T (declare x T) result }
 {
     let Item::List(a, b) = items::item_at(cells, 0) else {
-        return Declared::No(10, 0);
+        return Err(Question::Declaration);
     };
-    declare_items(
-        text,
-        &cells[a..b],
-        sorts,
-        symbols,
-        inputs,
-        rules,
-        vars,
-        patterns,
-        held,
-    )
+    declare_items(text, &cells[a..b], tables)
 }

@@ -12,4 +12,5 @@ mod rule;
 pub mod rule_readers;
 mod signatures;
 mod symbols;
+pub mod tables;
 mod terms;

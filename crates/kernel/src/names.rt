@@ -7,23 +7,31 @@ ghost use Rattle.kernel.specs.Named.{SymbolAt, SomeSymbol, SymbolRows, SomeSymbo
 
 use sexp::names::same;
 
-// Whether a symbol with that output is a predicate, or is none.
-fn is_kind(output: u32, predicate: bool) -> bool
-    ensures { result ≡ kind_of predicate output }
-{
-    if predicate {
-        return output == 0;
+#[derive(Clone, Copy, Debug, PartialEq, Eq)]
+pub enum Kind {
+    Constructor,
+    Predicate,
+}
+
+impl Kind {
+    // Whether a symbol with that output is of the kind: a predicate has no output.
+    fn has(self, output: u32) -> bool
+        ensures { result ≡ kind_of self output }
+    {
+        match self {
+            Kind::Constructor => output != 0,
+            Kind::Predicate => output == 0,
+        }
     }
-    output != 0
 }
 
 // Whether the symbol of a row is of the kind and has these bytes for a name.
-fn is_symbol(text: &[u8], symbols: &[u32], row: usize, predicate: bool, name: &[u8]) -> bool
+fn is_symbol(text: &[u8], symbols: &[u32], row: usize, kind: Kind, name: &[u8]) -> bool
     requires { SomeSymbol text.now symbols.now row }
-    ensures { (s : Symbol) → SymbolAt text.now symbols.now row s → result ≡ called predicate name.now s }
+    ensures { (s : Symbol) → SymbolAt text.now symbols.now row s → result ≡ called kind name.now s }
 {
     let first = 4 * row;
-    if is_kind(symbols[first], predicate) {
+    if kind.has(symbols[first]) {
         let at = first + 2;
         let start = symbols[at] as usize;
         let end = symbols[at + 1] as usize;
@@ -32,24 +40,22 @@ fn is_symbol(text: &[u8], symbols: &[u32], row: usize, predicate: bool, name: &[
     false
 }
 
-// The number of the first predicate, or of the first constructor, whose name has these bytes.
+// The number of the first symbol of the kind whose name has these bytes.
 pub fn symbol_named(
     text: &[u8],
     symbols: &[u32],
     count: usize,
-    predicate: bool,
+    kind: Kind,
     name: &[u8],
 ) -> Option<usize>
     requires { SomeSymbols text.now symbols.now count }
     ensures { (ss : List Symbol) → SymbolRows text.now symbols.now count ss →
-        result ≡ first (called predicate name.now) ss 0 }
+        result ≡ first (called kind name.now) ss 0 }
 {
-    let mut i: usize = 0;
-    while i < count {
-        if is_symbol(text, symbols, i, predicate, name) {
+    for i in 0..count {
+        if is_symbol(text, symbols, i, kind, name) {
             return Some(i);
         }
-        i += 1;
     }
     None
 }

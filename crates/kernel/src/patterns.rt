@@ -1,161 +1,160 @@
 // The patterns of a rule: read off items in prefix notation, a word at a time, with the rule's variables numbered as they are met.
-ghost use Rattle.std.specs.Prelude.{◌≡◌, List, ℕ, ◌+◌, ◌*◌, ◌<◌, length, drop};
+ghost use Rattle.std.specs.Prelude.{◌≡◌, List, length, drop};
+ghost use Rattle.rules.specs.Text.{same};
+ghost use Rattle.rules.specs.Find.{first};
 ghost use Rattle.rules.specs.Lex.{letters};
 ghost use Rattle.rules.specs.Sexp.{Name, atom};
 ghost use Rattle.rules.specs.Theory.{Theory};
 ghost use Rattle.rules.specs.Declare.{Reading, met_or_new, variable, head, pattern};
 ghost use Rattle.rules.specs.Laws.PatternSteps.{var_named};
 ghost use Rattle.rules.specs.TheoryTables.{prefix};
-ghost use Rattle.kernel.specs.Held.{SymbolsHeld};
-ghost use Rattle.kernel.specs.Reading.{WordFits, WordPut, VarsHeld, Meeting, MetRead, ReadSoFar, AtomReading, PatternRead, Heading, HeadRead};
+ghost use Rattle.kernel.specs.Reading.{WordFits, SameTables, SameVars, SameWords, WordPut, VarsHeld, MeetingAt, MetRead, Knows, ReadTo, AtomAt, PartRead, HeadAt, HeadRead};
 ghost use Rattle.sexp.specs.AtomText.{Spans};
+ghost use Rattle.sexp.specs.NameRows.{NameRows, SomeNames};
 
 use crate::atoms::{marked, put_name};
-use crate::names::symbol_named;
+use crate::names::{Kind, symbol_named};
 use crate::readers::same_sort;
+use questions::{Question, Row};
 use sexp::lex;
 use sexp::names::named;
 
-// Two numbers of what is there now, or a refusal by number and detail.
+// The symbols that are declared, and the text that spells their names.
 #[derive(Clone, Copy)]
-pub enum Reply {
-    Ok(usize, usize),
-    No(usize, usize),
+pub struct SymbolTable<'a> {
+    pub text: &'a [u8],
+    pub rows: &'a [u32],
+    pub inputs: &'a [u32],
+    pub count: usize,
 }
 
-// A word more, if there is room.
-pub fn put_word(patterns: &mut [u32], used: usize, cell: usize) -> bool
-    requires { WordFits (length patterns.old) cell }
-    ensures { WordPut patterns.old patterns.new used cell result }
-{
-    if used >= rules::PATTERNS {
-        return false;
+// A rule as far as it is read: the variables that were met, and its words behind those of the rules before.
+#[derive(Drop)]
+pub struct RuleReader<'t, 'a> {
+    pub known: SymbolTable<'t>,
+    pub vars: &'a mut [u32],
+    pub count: usize,
+    pub patterns: &'a mut [u32],
+    pub used: usize,
+}
+
+impl RuleReader<'_, '_> {
+    // A word more, if there is room.
+    pub fn word(&mut self, cell: usize) -> Result<(), Row>
+        requires { WordFits (length self.old.patterns.now) cell }
+        ensures same_tables { SameTables self.old self.new }
+        ensures same_vars { SameVars self.old self.new }
+        ensures put { WordPut self.old.patterns.now self.new.patterns.now self.old.used self.new.used cell result }
+    {
+        let at = self.used;
+        if at >= rules::PATTERNS {
+            return Err(Row::PatternWords);
+        }
+        self.patterns[at] = cell as u32;
+        self.used = at + 1;
+        Ok(())
     }
-    patterns[used] = cell as u32;
-    true
-}
 
-// The number of a variable that was met before, with the sort it had, or of a new one; and the number of variables then.
-fn met_or_new(
-    text: &[u8],
-    start: usize,
-    end: usize,
-    sort: usize,
-    vars: &mut [u32],
-    count: usize,
-) -> Reply
-    requires { Meeting text.now start end sort vars.old count }
-    ensures { (R : Reading) (n : Name) → VarsHeld text.now vars.old count R.vars → Spans text.now n start end →
-        MetRead text.now vars.new R (met_or_new n sort (var_named R.vars n.bytes) R) result }
-{
-    match named(text, vars, 3, 1, count, &text[start..end]) {
-        Some(i) => {
-            let had = vars[3 * i] as usize;
+    // The number of the variable that has these bytes for a name.
+    fn numbered(&self, name: &[u8]) -> Option<usize>
+        requires { SomeNames self.now.known.text.now self.now.vars.now 3 1 self.now.count }
+        ensures { (ns : List Name) → NameRows self.now.known.text.now self.now.vars.now 3 1 self.now.count ns →
+            result ≡ first (λ n. same n.bytes name.now) ns 0 }
+    {
+        named(self.known.text, self.vars, 3, 1, self.count, name)
+    }
+
+    // The number of a variable that was met before, with the sort it had, or of a new one.
+    fn met_or_new(&mut self, start: usize, end: usize, sort: usize) -> Result<usize, Question>
+        requires { MeetingAt self.old start end sort }
+        ensures same_tables { SameTables self.old self.new }
+        ensures same_words { SameWords self.old self.new }
+        ensures met { (R : Reading) (n : Name) → VarsHeld self.old.known.text.now self.old.vars.now self.old.count R.vars →
+            Spans self.old.known.text.now n start end →
+            MetRead self.old.known.text.now self.new.vars.now self.new.count R (met_or_new n sort (var_named R.vars n.bytes) R) result }
+    {
+        let text = self.known.text;
+        let count = self.count;
+        if let Some(i) = self.numbered(&text[start..end]) {
+            let had = self.vars[3 * i] as usize;
             if same_sort(had, sort) {
-                return Reply::Ok(i, count);
+                return Ok(i);
             }
-            Reply::No(12, 0)
+            return Err(Question::Signature);
         }
-        None => {
-            if count >= rules::RULEVARS {
-                return Reply::No(60, 5);
-            }
-            let at = 3 * count;
-            vars[at] = sort as u32;
-            put_name(vars, at + 1, start, end);
-            Reply::Ok(count, count + 1)
+        if count >= rules::RULEVARS {
+            return Err(Question::Room(Row::RuleVariables));
         }
+        let at = 3 * count;
+        self.vars[at] = sort as u32;
+        put_name(self.vars, at + 1, start, end);
+        self.count = count + 1;
+        Ok(count)
     }
-}
 
-// A variable of a sort, and its word.
-fn variable(
-    text: &[u8],
-    start: usize,
-    sort: usize,
-    vars: &mut [u32],
-    count: usize,
-    patterns: &mut [u32],
-    used: usize,
-) -> Reply
-    requires { AtomReading text.now start sort vars.old count (length patterns.old) }
-    ensures { (R : Reading) → ReadSoFar text.now vars.old count used R →
-        PatternRead prefix text.now vars.new patterns.old patterns.new used
-        (variable (record { start = start; bytes = letters (drop start text.now) }) sort R) result }
-{
-    let end = lex::atom_end(text, start);
-    if end - start < 2 {
-        return Reply::No(11, 0);
+    // A variable of a sort, and its word.
+    fn variable(&mut self, start: usize, sort: usize) -> Result<(), Question>
+        requires { AtomAt self.old start sort }
+        ensures same_tables { SameTables self.old self.new }
+        ensures read { (R : Reading) → ReadTo self.old R →
+            PartRead prefix self.old self.new
+            (variable (record { start = start; bytes = letters (drop start self.old.known.text.now) }) sort R) result }
+    {
+        let end = lex::atom_end(self.known.text, start);
+        if end - start < 2 {
+            return Err(Question::Declared);
+        }
+        let i = self.met_or_new(start, end, sort)?;
+        self.word(rules::SYMBOLS + i)?;
+        Ok(())
     }
-    let m = met_or_new(text, start, end, sort, vars, count);
-    let Reply::Ok(i, now) = m else {
-        return m;
-    };
-    if put_word(patterns, used, rules::SYMBOLS + i) {
-        return Reply::Ok(now, used + 1);
-    }
-    Reply::No(60, 6)
-}
 
-// A constructor of a sort with so many arguments, and its word.
-pub fn constructor(
-    text: &[u8],
-    start: usize,
-    sort: usize,
-    arity: usize,
-    symbols: &[u32],
-    count: usize,
-    patterns: &mut [u32],
-    used: usize,
-) -> Reply
-    requires { Heading text.now start symbols.now count (length patterns.old) }
-    ensures { (T : Theory) (R : Reading) (inputs : List ℕ) → SymbolsHeld text.now symbols.now inputs count T.symbols → R.words ≡ used →
-        HeadRead patterns.old patterns.new used T R arity (head T sort arity (letters (drop start text.now)) R) result }
-{
-    let end = lex::atom_end(text, start);
-    let Some(c) = symbol_named(text, symbols, count, false, &text[start..end]) else {
-        return Reply::No(11, 0);
-    };
-    let at = 4 * c;
-    let output = symbols[at] as usize;
-    if same_sort(output, sort) {
-        let many = symbols[at + 1] as usize;
+    // A constructor of a sort with so many arguments, and its word.
+    pub fn constructor(
+        &mut self,
+        start: usize,
+        sort: usize,
+        arity: usize,
+    ) -> Result<usize, Question>
+        requires { HeadAt self.old start }
+        ensures same_tables { SameTables self.old self.new }
+        ensures same_vars { SameVars self.old self.new }
+        ensures head { (T : Theory) (R : Reading) → Knows self.old.known T.symbols → R.words ≡ self.old.used →
+            HeadRead self.old.patterns.now self.new.patterns.now self.old.used self.new.used T R arity
+            (head T sort arity (letters (drop start self.old.known.text.now)) R) result }
+    {
+        let known = self.known;
+        let end = lex::atom_end(known.text, start);
+        let name = &known.text[start..end];
+        let Some(c) = symbol_named(known.text, known.rows, known.count, Kind::Constructor, name)
+        else {
+            return Err(Question::Declared);
+        };
+        let at = 4 * c;
+        let output = known.rows[at] as usize;
+        if !same_sort(output, sort) {
+            return Err(Question::Signature);
+        }
+        let many = known.rows[at + 1] as usize;
         if many != arity {
-            return Reply::No(12, 0);
+            return Err(Question::Signature);
         }
-        if put_word(patterns, used, c) {
-            return Reply::Ok(c, used + 1);
-        }
-        return Reply::No(60, 6);
+        self.word(c)?;
+        Ok(c)
     }
-    Reply::No(12, 0)
-}
 
-// A term of a sort that is an atom.
-pub fn atomic(
-    text: &[u8],
-    start: usize,
-    sort: usize,
-    symbols: &[u32],
-    known: usize,
-    vars: &mut [u32],
-    count: usize,
-    patterns: &mut [u32],
-    used: usize,
-) -> Reply
-    requires atom_reading { AtomReading text.now start sort vars.old count (length patterns.old) }
-    requires heading { Heading text.now start symbols.now known (length patterns.old) }
-    ensures { (T : Theory) (R : Reading) (inputs : List ℕ) → SymbolsHeld text.now symbols.now inputs known T.symbols →
-        ReadSoFar text.now vars.old count used R →
-        PatternRead prefix text.now vars.new patterns.old patterns.new used
-        (pattern T (atom start (letters (drop start text.now))) sort R) result }
-{
-    if marked(text, start) {
-        return variable(text, start, sort, vars, count, patterns, used);
+    // A term of a sort that is an atom.
+    pub fn atomic(&mut self, start: usize, sort: usize) -> Result<(), Question>
+        requires atom { AtomAt self.old start sort }
+        requires head { HeadAt self.old start }
+        ensures same_tables { SameTables self.old self.new }
+        ensures read { (T : Theory) (R : Reading) → Knows self.old.known T.symbols → ReadTo self.old R →
+            PartRead prefix self.old self.new (pattern T (atom start (letters (drop start self.old.known.text.now))) sort R) result }
+    {
+        if marked(self.known.text, start) {
+            return self.variable(start, sort);
+        }
+        self.constructor(start, sort, 0)?;
+        Ok(())
     }
-    let h = constructor(text, start, sort, 0, symbols, known, patterns, used);
-    let Reply::Ok(_, next) = h else {
-        return h;
-    };
-    Reply::Ok(count, next)
 }

@@ -6,7 +6,7 @@ ghost use Rattle.kernel.specs.Held.{SortsHeld, SomeSorts, SymbolsHeld};
 ghost use Rattle.kernel.specs.Readers.{KnownSymbol, KnownInput, NamedSymbols, CountedSymbols};
 ghost use Rattle.kernel.specs.Listing.{next_constructor};
 
-use crate::names::symbol_named;
+use crate::names::{Kind, symbol_named};
 use sexp::names::named;
 
 // Whether two sorts are the same.
@@ -48,9 +48,7 @@ pub fn sort_named(text: &[u8], sorts: &[u32], count: usize, name: &[u8]) -> Opti
     requires { SomeSorts text.now sorts.now count }
     ensures { (T : Theory) → SortsHeld text.now sorts.now count T.sorts → result ≡ sort_named T name.now }
 {
-    let Some(i) = named(text, sorts, 2, 0, count, name) else {
-        return None;
-    };
+    let i = named(text, sorts, 2, 0, count, name)?;
     Some(i + 1)
 }
 
@@ -60,7 +58,7 @@ pub fn constructor_named(text: &[u8], symbols: &[u32], count: usize, name: &[u8]
     ensures { (T : Theory) (inputs : List ℕ) → SymbolsHeld text.now symbols.now inputs count T.symbols →
         result ≡ constructor_named T name.now }
 {
-    symbol_named(text, symbols, count, false, name)
+    symbol_named(text, symbols, count, Kind::Constructor, name)
 }
 
 // The predicate with these bytes for a name.
@@ -69,7 +67,7 @@ pub fn predicate_named(text: &[u8], symbols: &[u32], count: usize, name: &[u8]) 
     ensures { (T : Theory) (inputs : List ℕ) → SymbolsHeld text.now symbols.now inputs count T.symbols →
         result ≡ predicate_named T name.now }
 {
-    symbol_named(text, symbols, count, true, name)
+    symbol_named(text, symbols, count, Kind::Predicate, name)
 }
 
 // The first constructor of that sort whose number is `from` or greater.
@@ -78,12 +76,10 @@ pub fn next_constructor(symbols: &[u32], count: usize, sort: usize, from: usize)
     ensures { (T : Theory) (text inputs : List ℕ) → SymbolsHeld text symbols.now inputs count T.symbols →
         result ≡ next_constructor T sort from }
 {
-    let mut i = from;
-    while i < count {
+    for i in from..count {
         if same_sort(output(symbols, i), sort) {
             return Some(i);
         }
-        i += 1;
     }
     None
 }
@@ -95,12 +91,10 @@ pub fn constructors(symbols: &[u32], count: usize, sort: usize) -> usize
         result ≡ length (constructors_of T sort) }
 {
     let mut n = 0;
-    let mut from = 0;
-    loop {
-        let Some(i) = next_constructor(symbols, count, sort, from) else {
-            return n;
-        };
-        n += 1;
-        from = i + 1;
+    for c in 0..count {
+        if same_sort(output(symbols, c), sort) {
+            n += 1;
+        }
     }
+    n
 }

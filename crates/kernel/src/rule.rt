@@ -5,67 +5,71 @@ ghost use Rattle.rules.specs.Theory.{Theory, Rule};
 ghost use Rattle.rules.specs.Declare.{Reading, schema, add_rule};
 ghost use Rattle.sexp.specs.Items.{Holds};
 ghost use Rattle.kernel.specs.Held.{Form, SymbolsHeld, SomeSymbolsHeld};
-ghost use Rattle.kernel.specs.Reading.{ReadSoFar, PatternRead};
-ghost use Rattle.kernel.specs.HeldRules.{schema_cells, Beginning, SomeForm, RulesHeld, SomeRules, RuleFits, RuleIs, RulePut, RuleAdded};
+ghost use Rattle.kernel.specs.Reading.{SameTables, Knows, ReadTo, ReadSoFar, PartRead};
+ghost use Rattle.kernel.specs.HeldRules.{schema_cells, Beginning, BeginningAt, SchemaRead, SomeForm, RulesHeld, SomeRules, RuleFits, RuleIs, RulePut, RuleAdded};
 
 use crate::atoms::put_name;
-use crate::patterns::Reply;
-use crate::premises::premises;
+use crate::patterns::{RuleReader, SymbolTable};
 use crate::signatures::put_row;
-use crate::symbols::{Spelling, proper_at};
-use crate::terms::judgment;
-use rules::RULES;
+use crate::symbols::proper_at;
+use crate::tables::Counts;
+use questions::{Question, Row};
 use sexp::items;
 use sexp::items::Item;
 use sexp::names::named;
 
-// The words of the premises, then those of the conclusion, and the variables into an empty row.
-fn schema(
-    text: &[u8],
+impl RuleReader<'_, '_> {
+    // The words of the premises, then those of the conclusion, and the variables into an empty row.
+    fn schema(&mut self, form: &[u32]) -> Result<(), Question>
+        requires { BeginningAt self.old form.now }
+        ensures same_tables { SameTables self.old self.new }
+        ensures read { (T : Theory) (R : Reading) (xs : Sexps) → Knows self.old.known T.symbols → ReadTo self.old R →
+            Holds self.old.known.text.now form.now xs → 4 ≡ items xs →
+            PartRead schema_cells self.old self.new (schema T xs R) result }
+    {
+        let Item::List(a, b) = items::nth(form, 2) else {
+            return Err(Question::Declared);
+        };
+        self.premises(&form[a..b])?;
+        let Item::List(a, b) = items::nth(form, 3) else {
+            return Err(Question::Declared);
+        };
+        self.judgment(&form[a..b])
+    }
+}
+
+// How many variables a rule has, and how many words are used with its own.
+#[derive(Clone, Copy)]
+pub struct RuleSize {
+    pub variables: usize,
+    pub words: usize,
+}
+
+// The same for an empty row and the words of the rules before.
+fn read_rule(
+    known: &SymbolTable<'_>,
     form: &[u32],
-    symbols: &[u32],
-    inputs: &[u32],
-    known: usize,
     row: &mut [u32],
     patterns: &mut [u32],
     used: usize,
-) -> Reply
-    requires { Beginning text.now form.now symbols.now inputs.now known row.old (length patterns.old) used }
-    ensures { (T : Theory) (R : Reading) (xs : Sexps) → SymbolsHeld text.now symbols.now inputs.now known T.symbols →
-        ReadSoFar text.now row.old 0 used R → Holds text.now form.now xs → 4 ≡ items xs →
-        PatternRead schema_cells text.now row.new patterns.old patterns.new used (schema T xs R) result }
+) -> Result<RuleSize, Question>
+    requires { Beginning known.now.text.now form.now known.now.rows.now known.now.inputs.now known.now.count row.old 0 (length patterns.old) used }
+    ensures { (T : Theory) (R : Reading) (xs : Sexps) → Knows known.now T.symbols → ReadSoFar known.now.text.now row.old 0 used R →
+        Holds known.now.text.now form.now xs → 4 ≡ items xs →
+        SchemaRead known.now.text.now row.new patterns.old patterns.new used (schema T xs R) result }
 {
-    let Item::List(a, b) = items::nth(form, 2) else {
-        return Reply::No(11, 0);
-    };
-    let r = premises(
-        text,
-        &form[a..b],
-        symbols,
-        inputs,
-        known,
-        row,
-        0,
+    let mut reader = RuleReader {
+        known: *known,
+        vars: row,
+        count: 0,
         patterns,
         used,
-    );
-    let Reply::Ok(v, w) = r else {
-        return r;
     };
-    let Item::List(a, b) = items::nth(form, 3) else {
-        return Reply::No(11, 0);
-    };
-    judgment(
-        text,
-        &form[a..b],
-        symbols,
-        inputs,
-        known,
-        row,
-        v,
-        patterns,
-        w,
-    )
+    reader.schema(form)?;
+    Ok(RuleSize {
+        variables: reader.count,
+        words: reader.used,
+    })
 }
 
 // The number of premises of a rule that was read.
@@ -79,72 +83,83 @@ fn premise_count(form: &[u32]) -> usize
     items::count(&form[a..b])
 }
 
-// Stores a rule, if there is room; its words stand from `first` to `last`.
+// What the row of a rule says: where its name stands, how many variables and premises it has, and where its words stand.
+#[derive(Clone, Copy)]
+pub struct RuleRow {
+    pub start: usize,
+    pub end: usize,
+    pub variables: usize,
+    pub premises: usize,
+    pub first: usize,
+    pub last: usize,
+}
+
+// Stores a rule, if there is room.
 fn store(
     rules: &mut [u32],
     vars: &mut [u32],
     count: usize,
-    start: usize,
-    end: usize,
-    variables: usize,
-    premises: usize,
-    first: usize,
-    last: usize,
-    row: &[u32],
-) -> Reply
-    requires { RuleFits (length rules.old) (length vars.old) start end variables premises first last (length row.now) }
-    ensures { (text patterns : List ℕ) (rs : List Rule) (u : Rule) → RulesHeld text rules.old vars.old patterns count first rs →
-        RuleIs text patterns u start end variables premises first last row.now →
-        RulePut text rules.old vars.old rules.new vars.new patterns count rs u result }
+    row: RuleRow,
+    names: &[u32],
+) -> Result<(), Row>
+    requires { RuleFits (length rules.old) (length vars.old) row.start row.end row.variables row.premises row.first row.last (length names.now) }
+    ensures { (text patterns : List ℕ) (rs : List Rule) (u : Rule) → RulesHeld text rules.old vars.old patterns count row.first rs →
+        RuleIs text patterns u row.start row.end row.variables row.premises row.first row.last names.now →
+        RulePut text rules.old vars.old rules.new vars.new patterns count row.last rs u result }
 {
-    if count >= RULES {
-        return Reply::No(60, 4);
+    if count >= rules::RULES {
+        return Err(Row::Rules);
     }
     let at = 6 * count;
-    put_name(rules, at, start, end);
-    rules[at + 2] = variables as u32;
-    rules[at + 3] = premises as u32;
-    rules[at + 4] = first as u32;
-    rules[at + 5] = last as u32;
-    put_row(vars, 3 * rules::RULEVARS * count, row);
-    Reply::Ok(count + 1, last)
+    put_name(rules, at, row.start, row.end);
+    rules[at + 2] = row.variables as u32;
+    rules[at + 3] = row.premises as u32;
+    rules[at + 4] = row.first as u32;
+    rules[at + 5] = row.last as u32;
+    put_row(vars, 3 * rules::RULEVARS * count, names);
+    Ok(())
 }
 
-// `(rule NAME (JUDGMENT...) JUDGMENT)`, given the items of the form; `count` rules with `used` words are there. The words of a rule that
-// is refused stay behind those that are used.
+// `(rule NAME (JUDGMENT...) JUDGMENT)`, given the items of the form; `held` is there. The number of words that are used with the new rule;
+// those of a rule that is refused stay behind them. The tables are lent one by one: in a struct of other tables' slices the check loses them.
 pub fn add_rule(
     text: &[u8],
     form: &[u32],
     symbols: &[u32],
     inputs: &[u32],
-    known: usize,
     rules: &mut [u32],
     vars: &mut [u32],
     patterns: &mut [u32],
-    count: usize,
-    used: usize,
-) -> Reply
+    held: Counts,
+) -> Result<usize, Question>
     requires form { Form text.now form.now 4 }
-    requires some_symbols_held { SomeSymbolsHeld text.now symbols.now inputs.now known }
-    requires some_rules { SomeRules text.now rules.old vars.old patterns.old count used }
-    ensures { (T : Theory) (xs : Sexps) → SymbolsHeld text.now symbols.now inputs.now known T.symbols →
-        RulesHeld text.now rules.old vars.old patterns.old count used T.rules →
+    requires some_symbols_held { SomeSymbolsHeld text.now symbols.now inputs.now held.symbols }
+    requires some_rules { SomeRules text.now rules.old vars.old patterns.old held.rules held.words }
+    ensures { (T : Theory) (xs : Sexps) → SymbolsHeld text.now symbols.now inputs.now held.symbols T.symbols →
+        RulesHeld text.now rules.old vars.old patterns.old held.rules held.words T.rules →
         Holds text.now form.now xs → 4 ≡ items xs →
-        RuleAdded text.now rules.new vars.new patterns.new T (add_rule xs T) count used result }
+        RuleAdded text.now rules.new vars.new patterns.new T (add_rule xs T) held.rules held.words result }
 {
+    let known = SymbolTable {
+        text,
+        rows: symbols,
+        inputs,
+        count: held.symbols,
+    };
     let mut row = [0u32; 3 * rules::RULEVARS];
-    let r = schema(text, form, symbols, inputs, known, &mut row, patterns, used);
-    let Reply::Ok(variables, last) = r else {
-        return r;
+    let size = read_rule(&known, form, &mut row, patterns, held.words)?;
+    let name = proper_at(text, form, 1)?;
+    let None = named(text, rules, 6, 0, held.rules, &text[name.from..name.end]) else {
+        return Err(Question::Declared);
     };
-    let Spelling::Name(start, end) = proper_at(text, form, 1) else {
-        return Reply::No(11, 0);
+    let entry = RuleRow {
+        start: name.from,
+        end: name.end,
+        variables: size.variables,
+        premises: premise_count(form),
+        first: held.words,
+        last: size.words,
     };
-    let None = named(text, rules, 6, 0, count, &text[start..end]) else {
-        return Reply::No(11, 0);
-    };
-    let premises = premise_count(form);
-    store(
-        rules, vars, count, start, end, variables, premises, used, last, &row,
-    )
+    store(rules, vars, held.rules, entry, &row)?;
+    Ok(size.words)
 }

@@ -1,6 +1,6 @@
 // Reading the tables of rules: a rule's name, variables, premises and words by its number, its number and that of a variable by name, and
 // the rules of a predicate one after the other.
-ghost use Rattle.std.specs.Prelude.{◌≡◌, ℕ, ◌<◌, List, length, get_or};
+ghost use Rattle.std.specs.Prelude.{◌≡◌, ℕ, ◌+◌, ◌<◌, List, length, get_or};
 ghost use Rattle.rules.specs.Limits.{SYMBOLS};
 ghost use Rattle.rules.specs.Text.{same};
 ghost use Rattle.rules.specs.Find.{first};
@@ -17,10 +17,21 @@ use crate::readers::arity;
 use sexp::names::named;
 
 // A part of the words of patterns, or of the text: the first place, and the place behind the last.
-#[derive(Clone, Copy)]
+#[derive(Clone, Copy, Debug, PartialEq, Eq)]
 pub struct Span {
     pub from: usize,
     pub end: usize,
+}
+
+// The part that two cells of a table give, the first of them at that place.
+fn span_at(table: &[u32], at: usize) -> Span
+    requires { at + 1 < length table.now }
+    ensures { result ≡ record { from = get_or table.now at 0; end = get_or table.now (at + 1) 0 } }
+{
+    Span {
+        from: table[at] as usize,
+        end: table[at + 1] as usize,
+    }
 }
 
 // The rule with these bytes for a name.
@@ -38,11 +49,7 @@ pub fn rule_name(rules: &[u32], r: usize) -> Span
     ensures { (T : Theory) (text vars patterns : List ℕ) (count words : ℕ) → RulesHeld text rules.now vars patterns count words T.rules → r < count →
         Spans text (rule T r).name result.from result.end }
 {
-    let first = 6 * r;
-    Span {
-        from: rules[first] as usize,
-        end: rules[first + 1] as usize,
-    }
+    span_at(rules, 6 * r)
 }
 
 // How many variables rule r has.
@@ -69,11 +76,7 @@ pub fn words(rules: &[u32], r: usize) -> Span
     ensures { (T : Theory) (text vars patterns : List ℕ) (count used : ℕ) → RulesHeld text rules.now vars patterns count used T.rules → r < count →
         WordsAt patterns T r result }
 {
-    let at = 6 * r + 4;
-    Span {
-        from: rules[at] as usize,
-        end: rules[at + 1] as usize,
-    }
+    span_at(rules, 6 * r + 4)
 }
 
 // The sort of variable i of rule r.
@@ -86,7 +89,13 @@ pub fn variable_sort(vars: &[u32], r: usize, i: usize) -> usize
 }
 
 // The variable of rule r with these bytes for a name; `count` is how many it has.
-pub fn rule_var_named(text: &[u8], vars: &[u32], r: usize, count: usize, name: &[u8]) -> Option<usize>
+pub fn rule_var_named(
+    text: &[u8],
+    vars: &[u32],
+    r: usize,
+    count: usize,
+    name: &[u8],
+) -> Option<usize>
     requires { NamedVars text.now vars.now r count }
     ensures { (T : Theory) (rules patterns : List ℕ) (known words : ℕ) → RulesHeld text.now rules vars.now patterns known words T.rules →
         r < known → count ≡ length (rule T r).vars → result ≡ first (λ v. same v.name.bytes name.now) (rule T r).vars 0 }
@@ -115,6 +124,7 @@ pub fn conclusion(patterns: &[u32], rules: &[u32], symbols: &[u32], r: usize) ->
     let span = words(rules, r);
     let mut place = span.from;
     let mut left = premises(rules, r);
+    // over the words of the premises, which is no count: each word leaves its arguments to read
     while left != 0 {
         let more = arguments_behind(symbols, patterns[place] as usize);
         left = left - 1 + more;
@@ -145,12 +155,10 @@ pub fn next_rule(
     requires { SomeFormedRules symbols.now rules.now patterns.now count }
     ensures { (T : Theory) → FormedRules symbols.now rules.now patterns.now count T → result ≡ next_rule T predicate from }
 {
-    let mut i = from;
-    while i < count {
+    for i in from..count {
         if concludes(patterns, rules, symbols, i, predicate) {
             return Some(i);
         }
-        i += 1;
     }
     None
 }

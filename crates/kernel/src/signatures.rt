@@ -8,11 +8,15 @@ ghost use Rattle.rules.specs.Declare.{sorts as argument_sorts, add_symbol, add_c
 ghost use Rattle.rules.specs.Laws.Declaring.{arguments_of};
 ghost use Rattle.sexp.specs.Items.{Holds};
 ghost use Rattle.kernel.specs.Spelled.{Reaching};
-ghost use Rattle.kernel.specs.Held.{Form, SortsHeld, SomeSorts, Gathering, ArgumentsRead, SymbolsHeld, SomeSymbolsHeld, SymbolFits, SymbolIs, SymbolAdded};
+ghost use Rattle.kernel.specs.Held.{Form, SortsHeld, SomeSorts, Gathering, ArgumentsRead, SymbolFits, SymbolIs};
+ghost use Rattle.kernel.specs.Tables.{SameTables, Holding, HoldingSome, Leaving};
 
 use crate::atoms::put_name;
-use crate::names::symbol_named;
-use crate::symbols::{Added, Spelling, proper_at, sort};
+use crate::names::{Kind, symbol_named};
+use crate::rule_readers::Span;
+use crate::symbols::{proper_at, sort};
+use crate::tables::Tables;
+use questions::{Question, Row};
 use sexp::items;
 use sexp::items::Item;
 
@@ -24,20 +28,18 @@ fn argument_sorts(
     known: usize,
     row: &mut [u32],
     count: usize,
-) -> Added
+) -> Result<usize, Question>
     requires { Gathering text.now cells.now sorts.now known (length row.old) count }
     ensures { (T : Theory) (xs : Sexps) → SortsHeld text.now sorts.now known T.sorts → Holds text.now cells.now xs →
         ArgumentsRead row.old row.new count (argument_sorts T xs count tt) result }
 {
-    if cells.len() == 0 {
-        return Added::Ok(count);
+    if cells.is_empty() {
+        return Ok(count);
     }
     let item = items::item_at(cells, 0);
-    let Some(s) = sort(text, item, sorts, known) else {
-        return Added::No(11, 0);
-    };
+    let s = sort(text, item, sorts, known)?;
     if count >= rules::ARGUMENTS {
-        return Added::No(60, 3);
+        return Err(Question::Room(Row::Arguments));
     }
     row[count] = s as u32;
     let next = items::after(cells, 0);
@@ -45,7 +47,13 @@ fn argument_sorts(
 }
 
 // The sorts that the items of a declaration's third item name, into an empty row.
-fn arguments_at(text: &[u8], form: &[u32], sorts: &[u32], known: usize, row: &mut [u32]) -> Added
+fn arguments_at(
+    text: &[u8],
+    form: &[u32],
+    sorts: &[u32],
+    known: usize,
+    row: &mut [u32],
+) -> Result<usize, Question>
     requires reaching { Reaching text.now form.now 2 }
     requires some_sorts { SomeSorts text.now sorts.now known }
     requires row_len { length row.old ≡ ARGUMENTS }
@@ -53,7 +61,7 @@ fn arguments_at(text: &[u8], form: &[u32], sorts: &[u32], known: usize, row: &mu
         ArgumentsRead row.old row.new 0 (arguments_of T (item xs 2)) result }
 {
     let Item::List(a, b) = items::nth(form, 2) else {
-        return Added::No(11, 0);
+        return Err(Question::Declared);
     };
     argument_sorts(text, &form[a..b], sorts, known, row, 0)
 }
@@ -68,93 +76,70 @@ pub fn put_row(table: &mut [u32], at: usize, row: &[u32])
 
 // Stores a symbol, if there is room.
 fn store(
-    symbols: &mut [u32],
-    inputs: &mut [u32],
-    count: usize,
+    tables: &mut Tables<'_>,
     output: usize,
     arity: usize,
-    start: usize,
-    end: usize,
+    name: Span,
     row: &[u32],
-) -> Added
-    requires { SymbolFits (length symbols.old) (length inputs.old) output arity start end (length row.now) }
-    ensures { (text : List ℕ) (T : Theory) (s : Symbol) → SymbolsHeld text symbols.old inputs.old count T.symbols →
-        SymbolIs text s output arity start end row.now →
-        SymbolAdded text symbols.old inputs.old symbols.new inputs.new T (add_symbol s T) result }
+) -> Result<(), Question>
+    requires { SymbolFits (length tables.old.symbols.now) (length tables.old.inputs.now) output arity name.from name.end (length row.now) }
+    ensures same_tables { SameTables tables.old tables.new }
+    ensures declared { (text : List ℕ) (T : Theory) (s : Symbol) → Holding text tables.old T →
+        SymbolIs text s output arity name.from name.end row.now → Leaving text tables.new T (add_symbol s T) result }
 {
+    let count = tables.held.symbols;
     if count >= rules::SYMBOLS {
-        return Added::No(60, 2);
+        return Err(Question::Room(Row::Symbols));
     }
     let at = 4 * count;
-    symbols[at] = output as u32;
-    symbols[at + 1] = arity as u32;
-    put_name(symbols, at + 2, start, end);
-    put_row(inputs, rules::ARGUMENTS * count, row);
-    Added::Ok(count + 1)
+    tables.symbols[at] = output as u32;
+    tables.symbols[at + 1] = arity as u32;
+    put_name(tables.symbols, at + 2, name.from, name.end);
+    put_row(tables.inputs, rules::ARGUMENTS * count, row);
+    tables.held.symbols = count + 1;
+    Ok(())
 }
 
 // `(ctor NAME (SORT...) SORT)`, given the items of the form.
-pub fn add_ctor(
-    text: &[u8],
-    form: &[u32],
-    sorts: &[u32],
-    known: usize,
-    symbols: &mut [u32],
-    inputs: &mut [u32],
-    count: usize,
-) -> Added
+pub fn add_ctor(text: &[u8], form: &[u32], tables: &mut Tables<'_>) -> Result<(), Question>
     requires form { Form text.now form.now 4 }
-    requires some_sorts { SomeSorts text.now sorts.now known }
-    requires some_symbols_held { SomeSymbolsHeld text.now symbols.old inputs.old count }
-    ensures { (T : Theory) (xs : Sexps) → SortsHeld text.now sorts.now known T.sorts →
-        SymbolsHeld text.now symbols.old inputs.old count T.symbols → Holds text.now form.now xs → 4 ≡ items xs →
-        SymbolAdded text.now symbols.old inputs.old symbols.new inputs.new T (add_ctor xs T) result }
+    requires held { HoldingSome text.now tables.old }
+    ensures same_tables { SameTables tables.old tables.new }
+    ensures declared { (T : Theory) (xs : Sexps) → Holding text.now tables.old T → Holds text.now form.now xs → 4 ≡ items xs →
+        Leaving text.now tables.new T (add_ctor xs T) result }
 {
-    let Spelling::Name(start, end) = proper_at(text, form, 1) else {
-        return Added::No(11, 0);
-    };
+    let name = proper_at(text, form, 1)?;
     let mut row = [0u32; rules::ARGUMENTS];
-    let r = arguments_at(text, form, sorts, known, &mut row);
-    let Added::Ok(arity) = r else {
-        return r;
-    };
+    let held = tables.held;
+    let sorts = &mut *tables.sorts;
+    let arity = arguments_at(text, form, sorts, held.sorts, &mut row)?;
     let result = items::nth(form, 3);
-    let Some(output) = sort(text, result, sorts, known) else {
-        return Added::No(11, 0);
+    let output = sort(text, result, sorts, held.sorts)?;
+    let symbols = &mut *tables.symbols;
+    let bytes = &text[name.from..name.end];
+    let None = symbol_named(text, symbols, held.symbols, Kind::Constructor, bytes) else {
+        return Err(Question::Declared);
     };
-    let None = symbol_named(text, symbols, count, false, &text[start..end]) else {
-        return Added::No(11, 0);
-    };
-    store(symbols, inputs, count, output, arity, start, end, &row)
+    store(tables, output, arity, name, &row)
 }
 
 // `(pred NAME (SORT...))`, given the items of the form.
-pub fn add_pred(
-    text: &[u8],
-    form: &[u32],
-    sorts: &[u32],
-    known: usize,
-    symbols: &mut [u32],
-    inputs: &mut [u32],
-    count: usize,
-) -> Added
+pub fn add_pred(text: &[u8], form: &[u32], tables: &mut Tables<'_>) -> Result<(), Question>
     requires form { Form text.now form.now 3 }
-    requires some_sorts { SomeSorts text.now sorts.now known }
-    requires some_symbols_held { SomeSymbolsHeld text.now symbols.old inputs.old count }
-    ensures { (T : Theory) (xs : Sexps) → SortsHeld text.now sorts.now known T.sorts →
-        SymbolsHeld text.now symbols.old inputs.old count T.symbols → Holds text.now form.now xs → 3 ≡ items xs →
-        SymbolAdded text.now symbols.old inputs.old symbols.new inputs.new T (add_pred xs T) result }
+    requires held { HoldingSome text.now tables.old }
+    ensures same_tables { SameTables tables.old tables.new }
+    ensures declared { (T : Theory) (xs : Sexps) → Holding text.now tables.old T → Holds text.now form.now xs → 3 ≡ items xs →
+        Leaving text.now tables.new T (add_pred xs T) result }
 {
-    let Spelling::Name(start, end) = proper_at(text, form, 1) else {
-        return Added::No(11, 0);
-    };
+    let name = proper_at(text, form, 1)?;
     let mut row = [0u32; rules::ARGUMENTS];
-    let r = arguments_at(text, form, sorts, known, &mut row);
-    let Added::Ok(arity) = r else {
-        return r;
+    let held = tables.held;
+    let sorts = &mut *tables.sorts;
+    let arity = arguments_at(text, form, sorts, held.sorts, &mut row)?;
+    let symbols = &mut *tables.symbols;
+    let bytes = &text[name.from..name.end];
+    let None = symbol_named(text, symbols, held.symbols, Kind::Predicate, bytes) else {
+        return Err(Question::Declared);
     };
-    let None = symbol_named(text, symbols, count, true, &text[start..end]) else {
-        return Added::No(11, 0);
-    };
-    store(symbols, inputs, count, 0, arity, start, end, &row)
+    store(tables, 0, arity, name, &row)
 }

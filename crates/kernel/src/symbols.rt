@@ -1,5 +1,6 @@
 // Sorts, constructors and predicates, from the items of their declarations to their rows.
-ghost use Rattle.std.specs.Prelude.{◌≡◌, ℕ, ◌+◌, List};
+ghost use Rattle.std.specs.Prelude.{◌≡◌, ℕ, ◌+◌, List, ok_or};
+ghost use Rattle.questions.specs.declared.Question.TheVariants.{Declared};
 ghost use Rattle.rules.specs.Sexp.{Sexp, Sexps, Name, marked, item};
 ghost use Rattle.rules.specs.Theory.{Theory};
 ghost use Rattle.rules.specs.Declare.{add_sort};
@@ -9,44 +10,34 @@ ghost use Rattle.rules.specs.Laws.Declaring.{proper, sort_of};
 ghost use Rattle.kernel.specs.Spelled.{Reaching, name_of};
 ghost use Rattle.sexp.specs.FirstItem.{SomeItem};
 ghost use Rattle.sexp.specs.NameRows.{NameRows, SomeNames};
-ghost use Rattle.kernel.specs.Held.{Form, SortsHeld, SomeSorts, SortAdded};
+ghost use Rattle.kernel.specs.Held.{Form};
+ghost use Rattle.kernel.specs.Tables.{SameTables, Holding, HoldingSome, Leaving};
 
 use crate::atoms::{marked, put_name};
+use crate::rule_readers::Span;
+use crate::tables::Tables;
+use questions::{Question, Row};
 use sexp::items::Item;
 use sexp::names::named;
 use sexp::{items, lex};
 
-#[derive(Clone, Copy)]
-pub enum Spelling {
-    Name(usize, usize),
-    Refused,
-}
-
-// A declaration is taken, with a number of things that are there now, or refused by number and detail.
-#[derive(Clone, Copy)]
-pub enum Added {
-    Ok(usize),
-    No(usize, usize),
-}
-
-// Question 11, `name`: an atom that does not start with `?`, by its first place and the place behind it.
-pub fn proper(text: &[u8], item: Item) -> Spelling
+// Question 11, `name`: an atom that does not start with `?`, by its place in the text.
+pub fn proper(text: &[u8], item: Item) -> Result<Span, Question>
     requires { SomeItem text.now item }
     ensures { (x : Sexp) (at : ℕ) → item ≡ item_of at x → Spelt text.now x → result ≡ name_of (proper x) }
 {
-    match item {
-        Item::Atom(start) => {
-            if marked(text, start) {
-                return Spelling::Refused;
-            }
-            Spelling::Name(start, lex::atom_end(text, start))
-        }
-        Item::List(_, _) => Spelling::Refused,
+    let Item::Atom(start) = item else {
+        return Err(Question::Declared);
+    };
+    if marked(text, start) {
+        return Err(Question::Declared);
     }
+    let end = lex::atom_end(text, start);
+    Ok(Span { from: start, end })
 }
 
 // The same of the item with that number.
-pub fn proper_at(text: &[u8], form: &[u32], number: usize) -> Spelling
+pub fn proper_at(text: &[u8], form: &[u32], number: usize) -> Result<Span, Question>
     requires { Reaching text.now form.now number }
     ensures { (xs : Sexps) → Holds text.now form.now xs → result ≡ name_of (proper (item xs number)) }
 {
@@ -55,37 +46,37 @@ pub fn proper_at(text: &[u8], form: &[u32], number: usize) -> Spelling
 }
 
 // The number of the sort that an item names, from 1 on.
-pub fn sort(text: &[u8], item: Item, sorts: &[u32], count: usize) -> Option<usize>
+pub fn sort(text: &[u8], item: Item, sorts: &[u32], count: usize) -> Result<usize, Question>
     requires some_item { SomeItem text.now item }
     requires some_names { SomeNames text.now sorts.now 2 0 count }
     ensures { (x : Sexp) (at : ℕ) → item ≡ item_of at x → Spelt text.now x →
-        (ns : List Name) → NameRows text.now sorts.now 2 0 count ns → result ≡ sort_of ns x }
+        (ns : List Name) → NameRows text.now sorts.now 2 0 count ns → result ≡ ok_or (sort_of ns x) Declared }
 {
-    let Spelling::Name(start, end) = proper(text, item) else {
-        return None;
+    let name = proper(text, item)?;
+    let Some(i) = named(text, sorts, 2, 0, count, &text[name.from..name.end]) else {
+        return Err(Question::Declared);
     };
-    let Some(i) = named(text, sorts, 2, 0, count, &text[start..end]) else {
-        return None;
-    };
-    Some(i + 1)
+    Ok(i + 1)
 }
 
-// `(sort NAME)`, given the items of the form; `count` sorts are there.
-pub fn add_sort(text: &[u8], form: &[u32], sorts: &mut [u32], count: usize) -> Added
+// `(sort NAME)`, given the items of the form.
+pub fn add_sort(text: &[u8], form: &[u32], tables: &mut Tables<'_>) -> Result<(), Question>
     requires form { Form text.now form.now 2 }
-    requires some_sorts { SomeSorts text.now sorts.old count }
-    ensures { (T : Theory) (xs : Sexps) → SortsHeld text.now sorts.old count T.sorts → Holds text.now form.now xs →
-        SortAdded text.now sorts.old sorts.new T (add_sort xs T) result }
+    requires held { HoldingSome text.now tables.old }
+    ensures same_tables { SameTables tables.old tables.new }
+    ensures declared { (T : Theory) (xs : Sexps) → Holding text.now tables.old T → Holds text.now form.now xs →
+        Leaving text.now tables.new T (add_sort xs T) result }
 {
-    let Spelling::Name(start, end) = proper_at(text, form, 1) else {
-        return Added::No(11, 0);
-    };
-    let None = named(text, sorts, 2, 0, count, &text[start..end]) else {
-        return Added::No(11, 0);
+    let name = proper_at(text, form, 1)?;
+    let sorts = &mut *tables.sorts;
+    let count = tables.held.sorts;
+    let None = named(text, sorts, 2, 0, count, &text[name.from..name.end]) else {
+        return Err(Question::Declared);
     };
     if count >= rules::SORTS {
-        return Added::No(60, 1);
+        return Err(Question::Room(Row::Sorts));
     }
-    put_name(sorts, 2 * count, start, end);
-    Added::Ok(count + 1)
+    put_name(sorts, 2 * count, name.from, name.end);
+    tables.held.sorts = count + 1;
+    Ok(())
 }

@@ -8,7 +8,7 @@ ghost use Rattle.reading.specs.Given.{FactsItem, FactsItems};
 ghost use Rattle.reading.specs.Answers.{HypsAs, tests};
 
 use crate::names::index;
-use cells::clear_words;
+use cells::clear;
 use sexp::items;
 use sexp::items::Item;
 use state::facts::{is_assumed, is_fact, is_plain};
@@ -49,15 +49,15 @@ fn hyp_each(
     let mut at = 0;
     while at < cells.len() {
         let Some(i) = index(text, &cells[at..]) else {
-            clear_words(set);
+            clear(set);
             return Listed::No(34);
         };
         if !is_fact(n, i) {
-            clear_words(set);
+            clear(set);
             return Listed::No(34);
         }
         if !passes(facts, i, plain) {
-            clear_words(set);
+            clear(set);
             return Listed::No(40);
         }
         insert(set, i);

@@ -5,11 +5,11 @@ use Prim.Native.Nat.{ℕ, ◌+◌, ◌-◌, ◌≤◌, ◌<◌}
 use mathlib.Core.List.{List}
 use native.Mathlib.Omega.{arith}
 use lib.Dec.{eqb}
-use lib.ListN.{length, get_or, drop, drop_of_length-le}
+use lib.ListN.{length, get_or, drop}
 use borrow.Author.Tests.{ne_eqb, le-leb, lt-leb}
-use Rattle.rules.specs.Text.{plain, same}
+use Rattle.rules.specs.Text.{same}
 use Rattle.rules.specs.Lex.{Kind, blank, left, right, semicolon, letter, white, kind, letters}
-use Rattle.rules.specs.Laws.Lex.{kind_blank, kind_left, kind_right, kind_semicolon, kind_letter, drop_at, place_letters_more, place_letters_none, letters_end}
+use Rattle.rules.specs.Laws.Lex.{kind_blank, kind_left, kind_right, kind_semicolon, kind_letter, place_letters_more, place_letters_none, letters_end}
 use Rattle.rules.specs.Laws.Text.{same_equal, same_on, same_over}
 use Rattle.sexp.specs.Lexed.{wide, is_letter}
 
@@ -106,19 +106,6 @@ letter_last b h l r = rw (h, ne_eqb b 40 l, ne_eqb b 41 r) (go (eqb b 59))
     go : (t : Bool) → not t ≡ is_letter (cond t semicolon letter)
     go true = refl
     go false = refl
-
--- `plain`, a byte at a time
-pub plain_more : (text : List ℕ) (p : ℕ) → p < length text → get_or text p 0 ≤ 127 → plain (drop p text) ≡ plain (drop (p + 1) text)
-unfolding plain
-plain_more text p h k = rw (drop_at text p h, le-leb (get_or text p 0) 127 k, plain)
-
-pub plain_not : (text : List ℕ) (p : ℕ) → p < length text → 127 < get_or text p 0 → plain (drop p text) ≡ false
-unfolding plain
-plain_not text p h k = rw (drop_at text p h, lt-leb (get_or text p 0) 127 k, plain)
-
-pub plain_end : (text : List ℕ) (p : ℕ) → length text ≤ p → plain (drop p text) ≡ true
-unfolding plain
-plain_end text p h = rw (drop_of_length-le text h)
 
 -- the letters from a place on, a byte at a time
 pub letters_on : (text : List ℕ) (p : ℕ) → p < length text → kind (get_or text p 0) ≡ letter → p + length (letters (drop p text)) ≡ p + 1 + length (letters (drop (p + 1) text))

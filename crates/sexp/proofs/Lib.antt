@@ -9,6 +9,4 @@ pub mod Tallies
 pub mod Turns
 pub mod Lookings
 pub mod IndexLaws
-pub mod TableLaws
-pub mod TagRows
 pub mod TagLaws

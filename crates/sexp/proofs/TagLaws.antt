@@ -1,204 +1,219 @@
--- The search of the rows, and the tag of the row that is found. Assumes nothing.
-use mathlib.Core.Path.{◌≡◌, refl, sym, ap, ◌∙◌}
-use mathlib.Core.Bool.{Bool, true, false}
+-- The tables of the code are the definition's, and the first row that fits is the same. Assumes nothing.
+use Rattle.std.proofs.Common.{◌≡◌, refl, sym, ap, ◌∙◌, ℕ, ◌≤◌, ◌<◌, Bool, true, false, ◌&&◌, List, [], ◌∷◌, ◌+◌, suc, leb, length, get_or, drop, add-one, drop-cons, arith}
+use Rattle.std.proofs.Math.Seq.{drop-length}
 use Rattle.std.specs.Prelude.{Option, Some as some, None as nothing}
-use mathlib.Core.List.{List, [], ◌∷◌}
-use Prim.Native.Nat.{ℕ, zero, suc, ◌+◌, ◌-◌, ◌≤◌, ◌<◌}
-use native.Mathlib.Nat.{zero-add}
-use native.Mathlib.Omega.{arith}
-use native.Mathlib.Numerals.{add-one}
-use lib.ListN.{length, get_or, take, drop}
-use lib.Seq.{drop-cons}
-use Rattle.rules.specs.Tags.{Row, Tag, proof_tags, theory_tags, goal_tags, fits, tag_in, proof_tag, declaration, goal_form, index_in, index_place, tagging}
-use Rattle.sexp.specs.TagTable.{Shape, shape, shapes_of, shapes, no_shape, shape_at, suits, first_row, tag_at, tag_answer, declaration_answer, goal_answer}
-use Rattle.sexp.proofs.TagRows.{indexes}
+use borrow.Author.Tests.{le-leb, lt-leb}
+use Rattle.rules.specs.Text.{same}
+use Rattle.rules.specs.Tags.{Row, Tag, a_var, a_def, a_step, a_hyp, a_rule_hyp, an_induct, an_induct_with, an_apply, an_invert, a_result, Declaration, a_sort, a_ctor, a_pred, a_rule, GoalForm, a_variable, a_goal, a_goal_with, proof_tags, theory_tags, goal_tags, within, fits, tag_in, proof_tag, declaration, goal_form, index_in, index_place}
+use Rattle.sexp.specs.declared.tags.Row.{Row as Listed}
+use Rattle.sexp.specs.declared.tags.Tag.{Tag as TagAnswer}
+use Rattle.sexp.specs.declared.tags.Tag.TheVariants.{Var, Def, Step, Hyp, RuleHyp, Induct, InductWith, Apply, Invert, Outcome}
+use Rattle.sexp.specs.declared.tags.Declaration.{Declaration as DeclarationAnswer}
+use Rattle.sexp.specs.declared.tags.Declaration.TheVariants.{Sort, Ctor, Pred, Rule}
+use Rattle.sexp.specs.declared.tags.GoalForm.{GoalForm as GoalAnswer}
+use Rattle.sexp.specs.declared.tags.GoalForm.TheVariants.{Variable, Goal, GoalWith}
+use Rattle.sexp.specs.Never.{never}
+use Rattle.sexp.specs.TagTable.{row_of, row_in, tag_answer, declaration_answer, goal_answer}
 
--- The search ------------------------------------------------------------------------------------------------------------------
+and_not : (a : Bool) → a && false ≡ false
+and_not true = refl
+and_not false = refl
 
-row_here : (s : Shape) (ss : List Shape) (x : List ℕ) (n : ℕ) → suits s x n ≡ true → first_row (s ∷ ss) x n ≡ 0
-unfolding first_row
-row_here s ss x n e = rw (e, first_row)
+and_yes : (a : Bool) → a && true ≡ a
+and_yes true = refl
+and_yes false = refl
 
-row_on : (s : Shape) (ss : List Shape) (x : List ℕ) (n : ℕ) → suits s x n ≡ false → first_row (s ∷ ss) x n ≡ suc (first_row ss x n)
-unfolding first_row
-row_on s ss x n e = rw (e, first_row)
+pub within_most : {o : Option ℕ} {m n : ℕ} → o ≡ some m → n ≤ m → within o n ≡ true
+unfolding within
+within_most {m = m} {n} e l = rw e (le-leb n m l)
 
--- what is left from `row` on decides
-pub record Searching (from to : ℕ) (x : List ℕ) (n row : ℕ) : Type 0 where
-  pub low : from ≤ row
-  pub high : row ≤ to
-  pub last : to ≤ 17
-  pub same : from + first_row (take (to - from) (drop from shapes)) x n ≡ row + first_row (take (to - row) (drop row shapes)) x n
+pub within_any : {o : Option ℕ} (n : ℕ) → o ≡ nothing → within o n ≡ true
+unfolding within
+within_any n e = rw e refl
 
-pub begin : (from to : ℕ) (x : List ℕ) (n : ℕ) → (from ≤ to) × (to ≤ 17) → Searching from to x n from
-begin from to x n h = record { low = omega arith; high = h.0; last = h.1; same = refl }
+module _ {T : Type 0} (r : Row T) (x : List ℕ) (n : ℕ) where
+  pub too_few : n < r.least → false ≡ fits r x n
+  unfolding fits
+  too_few l = rw (lt-leb r.least n l) (sym (and_not (same r.name x)))
 
-rows_are : (to row : ℕ) → row < to → to ≤ 17 → take (to - row) (drop row shapes) ≡ shape_at row ∷ take (to - (row + 1)) (drop (row + 1) shapes)
-unfolding shapes tagging
-rows_are to row h k =
-    let e : to - row ≡ suc (to - (row + 1)) = omega arith in
-    rw (e, drop-cons shapes row no_shape (omega arith), add-one row)
+  pub too_many : {m : ℕ} → r.most ≡ some m → m < n → false ≡ fits r x n
+  unfolding fits within
+  too_many {m} e l = rw (e, lt-leb n m l, and_not (leb r.least n)) (sym (and_not (same r.name x)))
 
-module _ {from to : ℕ} {x : List ℕ} {n row : ℕ} (s : Searching from to x n row) where
-  pub found : row < to → suits (shape_at row) x n ≡ true → row ≡ from + first_row (take (to - from) (drop from shapes)) x n
-  found h e = sym (s.same ∙ ap (λ l. row + first_row l x n) (rows_are to row h s.last) ∙ omega (arith, row_here (shape_at row) (take (to - (row + 1)) (drop (row + 1) shapes)) x n e))
+  pub by_name : within r.most n ≡ true → r.least ≤ n → same r.name x ≡ fits r x n
+  unfolding fits
+  by_name w l = rw (w, le-leb r.least n l) (sym (and_yes (same r.name x)))
 
-  pub next : row < to → suits (shape_at row) x n ≡ false → Searching from to x n (row + 1)
-  next h e =
-      record {
-        low = omega (arith, s.low);
-        high = omega arith;
-        last = s.last;
-        same =
-            s.same ∙ ap (λ l. row + first_row l x n) (rows_are to row h s.last)
-            ∙ omega (arith, row_on (shape_at row) (take (to - (row + 1)) (drop (row + 1) shapes)) x n e);
-      }
+-- The search -------------------------------------------------------------------------------------------------------------------
 
-  pub none_found : to ≤ row → row ≡ from + first_row (take (to - from) (drop from shapes)) x n
-  unfolding first_row
-  none_found h =
-      let e : to - row ≡ 0 = omega arith in
-      sym (s.same ∙ ap (λ k. row + first_row (take k (drop row shapes)) x n) e ∙ omega arith)
+module _ {T : Type 0} (x : List ℕ) (n : ℕ) where
+  row_here : (r : Listed T) (rs : List (Listed T)) → fits (row_of r) x n ≡ true → row_in (r ∷ rs) x n ≡ some r
+  unfolding row_in
+  row_here r rs e = rw (e, row_in)
 
--- The tag of the row found --------------------------------------------------------------------------------------------------
+  row_on : (r : Listed T) (rs : List (Listed T)) → fits (row_of r) x n ≡ false → row_in (r ∷ rs) x n ≡ row_in rs x n
+  unfolding row_in
+  row_on r rs e = rw (e, row_in)
 
-fits_suits : {T : Type 0} (r : Row T) (x : List ℕ) (n : ℕ) → fits r x n ≡ suits (shape r) x n
-unfolding fits suits
-fits_suits r x n = refl
+  module _ (rows : List (Listed T)) (i : ℕ) (s : row_in rows x n ≡ row_in (drop i rows) x n) where
+    -- r stands at i
+    module _ (r : Listed T) (h : i < length rows) (k : r ≡ get_or rows i r) where
+      here : drop i rows ≡ r ∷ drop (suc i) rows
+      here = drop-cons rows i r h ∙ ap (λ (y : Listed T). y ∷ drop (suc i) rows) (sym k)
 
-tag_here : {T : Type 0} (r : Row T) (rows : List (Row T)) (x : List ℕ) (n : ℕ) → fits r x n ≡ true → tag_in (r ∷ rows) x n ≡ some r.tag
-unfolding tag_in
-tag_here r rows x n e = rw (e, tag_in)
+      pub found : fits (row_of r) x n ≡ true → row_in rows x n ≡ some r
+      found e = s ∙ ap (λ (l : List (Listed T)). row_in l x n) here ∙ row_here r (drop (suc i) rows) e
 
-tag_on : {T : Type 0} (r : Row T) (rows : List (Row T)) (x : List ℕ) (n : ℕ) → fits r x n ≡ false → tag_in (r ∷ rows) x n ≡ tag_in rows x n
-unfolding tag_in
-tag_on r rows x n e = rw (e, tag_in)
+      pub next : fits (row_of r) x n ≡ false → row_in rows x n ≡ row_in (drop (i + 1) rows) x n
+      next e =
+          s ∙ ap (λ (l : List (Listed T)). row_in l x n) here ∙ row_on r (drop (suc i) rows) e
+          ∙ ap (λ (j : ℕ). row_in (drop j rows) x n) (sym (add-one i))
 
-tag_found : {T : Type 0} (rows : List (Row T)) (x : List ℕ) (n : ℕ) → tag_in rows x n ≡ tag_at rows (first_row (shapes_of rows) x n)
-unfolding tag_in tag_at
-tag_found [] x n = refl
-tag_found (r ∷ rows) x n = go (suits (shape r) x n) refl (tag_found rows x n)
-  where
-    go : (t : Bool) → suits (shape r) x n ≡ t → tag_in rows x n ≡ tag_at rows (first_row (shapes_of rows) x n) → tag_in (r ∷ rows) x n ≡ tag_at (r ∷ rows) (first_row (shapes_of (r ∷ rows)) x n)
-    go true e h = tag_here r rows x n (fits_suits r x n ∙ e) ∙ sym (ap (tag_at (r ∷ rows)) (row_here (shape r) (shapes_of rows) x n e))
-    go false e h = tag_on r rows x n (fits_suits r x n ∙ e) ∙ h ∙ sym (ap (tag_at (r ∷ rows)) (row_on (shape r) (shapes_of rows) x n e))
+    pub none_found : i ≤ length rows → length rows ≤ i → row_in rows x n ≡ nothing
+    unfolding row_in
+    none_found g h =
+        let e : i ≡ length rows = omega arith in
+        s ∙ ap (λ (j : ℕ). row_in (drop j rows) x n) e ∙ ap (λ (l : List (Listed T)). row_in l x n) (drop-length rows)
 
-tag_over : {T : Type 0} (rows : List (Row T)) (k : ℕ) → length rows ≤ k → tag_at rows k ≡ nothing
-unfolding tag_at
-tag_over [] k h = refl
-tag_over (r ∷ rows) zero h = absurd (omega arith)
-tag_over (r ∷ rows) (suc k) h = tag_over rows k (omega arith)
+-- The tag of the row found -----------------------------------------------------------------------------------------------------
 
--- one number more that it is not
-pub up : (k : ℕ) {n : ℕ} → k ≤ n → (n ≡ k → ⊥) → k + 1 ≤ n
-up k h e = omega arith
+abbrev pub rows_of : {T : Type 0} → List (Listed T) → List (Row T)
+rows_of [] = []
+rows_of (r ∷ rs) = row_of r ∷ rows_of rs
 
--- the proof's rows
+abbrev retag : {A B : Type 0} → (A → B) → Row A → Row B
+retag f r = record { name = r.name; least = r.least; most = r.most; tag = f r.tag; index = r.index }
 
-proof_rows : (x : List ℕ) (n : ℕ) → first_row (take (10 - 0) (drop 0 shapes)) x n ≡ first_row (shapes_of proof_tags) x n
-unfolding shapes tagging
-proof_rows x n = refl
+abbrev pub retagged : {A B : Type 0} → (A → B) → List (Row A) → List (Row B)
+retagged f [] = []
+retagged f (r ∷ rs) = retag f r ∷ retagged f rs
 
-pub proof_row : (r : ℕ) (x : List ℕ) (n : ℕ) → r ≡ 0 + first_row (take (10 - 0) (drop 0 shapes)) x n → proof_tag x n ≡ tag_at proof_tags r
+abbrev pub tag_of_row : {T : Type 0} → Option (Listed T) → Option T
+tag_of_row nothing = nothing
+tag_of_row (some r) = some r.tag
+
+abbrev pub index_of_row : {T : Type 0} → Option (Listed T) → Option ℕ
+index_of_row nothing = nothing
+index_of_row (some r) = r.index
+
+abbrev via : {A B : Type 0} → (A → B) → Option A → Option B
+via f nothing = nothing
+via f (some a) = some (f a)
+
+module _ (x : List ℕ) (n : ℕ) where
+  pub tag_found : {T : Type 0} (rows : List (Listed T)) → tag_of_row (row_in rows x n) ≡ tag_in (rows_of rows) x n
+  unfolding row_in tag_in
+  tag_found [] = refl
+  tag_found (r ∷ rs) = go (fits (row_of r) x n) (tag_found rs)
+    where
+      go : (b : Bool) → tag_of_row (row_in rs x n) ≡ tag_in (rows_of rs) x n →
+          tag_of_row (elim b [ true ↦ some r | false ↦ row_in rs x n ]) ≡ elim b [ true ↦ some r.tag | false ↦ tag_in (rows_of rs) x n ]
+      go true h = refl
+      go false h = h
+
+  pub tag_renamed : {A B : Type 0} (f : A → B) (rows : List (Row A)) → tag_in (retagged f rows) x n ≡ via f (tag_in rows x n)
+  unfolding tag_in fits
+  tag_renamed f [] = refl
+  tag_renamed {A} {B} f (r ∷ rs) = go (fits r x n) (tag_renamed f rs)
+    where
+      go : (b : Bool) → tag_in (retagged f rs) x n ≡ via f (tag_in rs x n) →
+          ◌≡◌ {A = Option B} (elim b [ true ↦ some (f r.tag) | false ↦ tag_in (retagged f rs) x n ]) (via f (elim b [ true ↦ some r.tag | false ↦ tag_in rs x n ]))
+      go true h = refl
+      go false h = h
+
+  -- f: the code's tag for one of the definition
+  tags_are : {A B : Type 0} (f : A → B) (rows : List (Listed B)) (table : List (Row A)) → rows_of rows ≡ retagged f table →
+      tag_of_row (row_in rows x n) ≡ via f (tag_in table x n)
+  tags_are {B = B} f rows table e = tag_found rows ∙ ap (λ (l : List (Row B)). tag_in l x n) e ∙ tag_renamed f table
+
+  -- the same for the place of the index
+  indexes_are : {B : Type 0} (f : Tag → B) (rows : List (Listed B)) (table : List (Row Tag)) → rows_of rows ≡ retagged f table →
+      index_of_row (row_in rows x n) ≡ index_in table x n
+  unfolding row_in index_in fits
+  indexes_are f [] [] e = refl
+  indexes_are f [] (t ∷ ts) e = never cc
+  indexes_are f (r ∷ rs) [] e = never cc
+  indexes_are {B} f (r ∷ rs) (t ∷ ts) e =
+      let head : row_of r ≡ retag f t = cc in
+      let tail : rows_of rs ≡ retagged f ts = cc in
+      let same_fit : fits (row_of r) x n ≡ fits t x n = ap (λ (q : Row B). fits q x n) head in
+      let same_index : r.index ≡ t.index = ap (λ (q : Row B). q.index) head in
+      go (fits (row_of r) x n) (fits t x n) same_fit same_index (indexes_are f rs ts tail)
+    where
+      go : (b c : Bool) → b ≡ c → r.index ≡ t.index → index_of_row (row_in rs x n) ≡ index_in ts x n →
+          index_of_row (elim b [ true ↦ some r | false ↦ row_in rs x n ]) ≡ elim c [ true ↦ t.index | false ↦ index_in ts x n ]
+      go true true k i h = i
+      go false false k i h = h
+      go true false k i h = never cc
+      go false true k i h = never cc
+
+-- The three tables ---------------------------------------------------------------------------------------------------------------
+
+abbrev pub code_tag : Tag → TagAnswer
+code_tag a_var = Var
+code_tag a_def = Def
+code_tag a_step = Step
+code_tag a_hyp = Hyp
+code_tag a_rule_hyp = RuleHyp
+code_tag an_induct = Induct
+code_tag an_induct_with = InductWith
+code_tag an_apply = Apply
+code_tag an_invert = Invert
+code_tag a_result = Outcome
+
+abbrev pub code_declaration : Declaration → DeclarationAnswer
+code_declaration a_sort = Sort
+code_declaration a_ctor = Ctor
+code_declaration a_pred = Pred
+code_declaration a_rule = Rule
+
+abbrev pub code_goal : GoalForm → GoalAnswer
+code_goal a_variable = Variable
+code_goal a_goal = Goal
+code_goal a_goal_with = GoalWith
+
+tag_via : (o : Option Tag) → via code_tag o ≡ tag_answer o
+tag_via nothing = refl
+tag_via (some a_var) = refl
+tag_via (some a_def) = refl
+tag_via (some a_step) = refl
+tag_via (some a_hyp) = refl
+tag_via (some a_rule_hyp) = refl
+tag_via (some an_induct) = refl
+tag_via (some an_induct_with) = refl
+tag_via (some an_apply) = refl
+tag_via (some an_invert) = refl
+tag_via (some a_result) = refl
+
+declaration_via : (o : Option Declaration) → via code_declaration o ≡ declaration_answer o
+declaration_via nothing = refl
+declaration_via (some a_sort) = refl
+declaration_via (some a_ctor) = refl
+declaration_via (some a_pred) = refl
+declaration_via (some a_rule) = refl
+
+goal_via : (o : Option GoalForm) → via code_goal o ≡ goal_answer o
+goal_via nothing = refl
+goal_via (some a_variable) = refl
+goal_via (some a_goal) = refl
+goal_via (some a_goal_with) = refl
+
+pub proof_is : (rows : List (Listed TagAnswer)) (x : List ℕ) (n : ℕ) {o : Option (Listed TagAnswer)} → row_in rows x n ≡ o →
+    rows_of rows ≡ retagged code_tag proof_tags → tag_of_row o ≡ tag_answer (proof_tag x n)
 unfolding proof_tag
-proof_row r x n e = tag_found proof_tags x n ∙ ap (tag_at proof_tags) (sym (e ∙ zero-add _ ∙ proof_rows x n))
+proof_is rows x n e k = ap tag_of_row (sym e) ∙ tags_are x n code_tag rows proof_tags k ∙ tag_via (tag_in proof_tags x n)
 
-pub proof_none : (r : ℕ) → 10 ≤ r → nothing ≡ tag_answer (tag_at proof_tags r)
-unfolding tagging
-proof_none r h = sym (ap tag_answer (tag_over proof_tags r h))
-
--- the theory's
-
-theory_rows : (x : List ℕ) (n : ℕ) → first_row (take (14 - 10) (drop 10 shapes)) x n ≡ first_row (shapes_of theory_tags) x n
-unfolding shapes tagging
-theory_rows x n = refl
-
-theory_row : (r : ℕ) (x : List ℕ) (n : ℕ) → r ≡ 10 + first_row (take (14 - 10) (drop 10 shapes)) x n → declaration x n ≡ tag_at theory_tags (r - 10)
-unfolding declaration
-theory_row r x n e =
-    let k : r - 10 ≡ first_row (shapes_of theory_tags) x n = omega (arith, e, theory_rows x n) in
-    tag_found theory_tags x n ∙ ap (tag_at theory_tags) (sym k)
-
-module _ (r : ℕ) (x : List ℕ) (n : ℕ) (e : r ≡ 10 + first_row (take (14 - 10) (drop 10 shapes)) x n) where
-  pub theory_arm : (k : ℕ) → r ≡ k → declaration_answer (tag_at theory_tags (k - 10)) ≡ declaration_answer (declaration x n)
-  theory_arm k h = sym (ap declaration_answer (theory_row r x n e) ∙ ap (λ j. declaration_answer (tag_at theory_tags (j - 10))) h)
-
-  pub theory_none : (r ≡ 10 → ⊥) → (r ≡ 11 → ⊥) → (r ≡ 12 → ⊥) → (r ≡ 13 → ⊥) → nothing ≡ declaration_answer (declaration x n)
-  unfolding tagging
-  theory_none a b c d = sym (ap declaration_answer (theory_row r x n e ∙ tag_over theory_tags (r - 10) (omega arith)))
-
--- the goals'
-
-goal_rows_lem : (x : List ℕ) (n : ℕ) → first_row (take (17 - 14) (drop 14 shapes)) x n ≡ first_row (shapes_of goal_tags) x n
-unfolding shapes tagging
-goal_rows_lem x n = refl
-
-goal_row_lem : (r : ℕ) (x : List ℕ) (n : ℕ) → r ≡ 14 + first_row (take (17 - 14) (drop 14 shapes)) x n → goal_form x n ≡ tag_at goal_tags (r - 14)
-unfolding goal_form
-goal_row_lem r x n e =
-    let k : r - 14 ≡ first_row (shapes_of goal_tags) x n = omega (arith, e, goal_rows_lem x n) in
-    tag_found goal_tags x n ∙ ap (tag_at goal_tags) (sym k)
-
-module _ (r : ℕ) (x : List ℕ) (n : ℕ) (e : r ≡ 14 + first_row (take (17 - 14) (drop 14 shapes)) x n) where
-  pub goal_arm : (k : ℕ) → r ≡ k → goal_answer (tag_at goal_tags (k - 14)) ≡ goal_answer (goal_form x n)
-  goal_arm k h = sym (ap goal_answer (goal_row_lem r x n e) ∙ ap (λ j. goal_answer (tag_at goal_tags (j - 14))) h)
-
-  pub goal_none : (r ≡ 14 → ⊥) → (r ≡ 15 → ⊥) → (r ≡ 16 → ⊥) → nothing ≡ goal_answer (goal_form x n)
-  unfolding tagging
-  goal_none a b c = sym (ap goal_answer (goal_row_lem r x n e ∙ tag_over goal_tags (r - 14) (omega arith)))
-
--- The place of the index -----------------------------------------------------------------------------------------------------
-
-unfoldable index_at : List (Row Tag) → ℕ → Option ℕ
-index_at [] k = nothing
-index_at (r ∷ rows) zero = r.index
-index_at (r ∷ rows) (suc k) = index_at rows k
-
-index_here : (r : Row Tag) (rows : List (Row Tag)) (x : List ℕ) (n : ℕ) → fits r x n ≡ true → index_in (r ∷ rows) x n ≡ r.index
-unfolding index_in
-index_here r rows x n e = rw (e, index_in)
-
-index_on : (r : Row Tag) (rows : List (Row Tag)) (x : List ℕ) (n : ℕ) → fits r x n ≡ false → index_in (r ∷ rows) x n ≡ index_in rows x n
-unfolding index_in
-index_on r rows x n e = rw (e, index_in)
-
-index_found : (rows : List (Row Tag)) (x : List ℕ) (n : ℕ) → index_in rows x n ≡ index_at rows (first_row (shapes_of rows) x n)
-unfolding index_in index_at
-index_found [] x n = refl
-index_found (r ∷ rows) x n = go (suits (shape r) x n) refl (index_found rows x n)
-  where
-    go : (t : Bool) → suits (shape r) x n ≡ t → index_in rows x n ≡ index_at rows (first_row (shapes_of rows) x n) → index_in (r ∷ rows) x n ≡ index_at (r ∷ rows) (first_row (shapes_of (r ∷ rows)) x n)
-    go true e h = index_here r rows x n (fits_suits r x n ∙ e) ∙ sym (ap (index_at (r ∷ rows)) (row_here (shape r) (shapes_of rows) x n e))
-    go false e h = index_on r rows x n (fits_suits r x n ∙ e) ∙ h ∙ sym (ap (index_at (r ∷ rows)) (row_on (shape r) (shapes_of rows) x n e))
-
-index_over : (rows : List (Row Tag)) (k : ℕ) → length rows ≤ k → index_at rows k ≡ nothing
-unfolding index_at
-index_over [] k h = refl
-index_over (r ∷ rows) zero h = absurd (omega arith)
-index_over (r ∷ rows) (suc k) h = index_over rows k (omega arith)
-
-index_row : (r : ℕ) (x : List ℕ) (n : ℕ) → r ≡ 0 + first_row (take (10 - 0) (drop 0 shapes)) x n → index_place x n ≡ index_at proof_tags r
+pub index_is : (rows : List (Listed TagAnswer)) (x : List ℕ) (n : ℕ) {o : Option (Listed TagAnswer)} → row_in rows x n ≡ o →
+    rows_of rows ≡ retagged code_tag proof_tags → index_of_row o ≡ index_place x n
 unfolding index_place
-index_row r x n e = index_found proof_tags x n ∙ ap (index_at proof_tags) (sym (e ∙ zero-add _ ∙ proof_rows x n))
+index_is rows x n e k = ap index_of_row (sym e) ∙ indexes_are x n code_tag rows proof_tags k
 
-index_column : List (Row Tag) → List (Option ℕ)
-index_column [] = []
-index_column (r ∷ rows) = r.index ∷ index_column rows
+pub theory_is : (rows : List (Listed DeclarationAnswer)) (x : List ℕ) (n : ℕ) {o : Option (Listed DeclarationAnswer)} → row_in rows x n ≡ o →
+    rows_of rows ≡ retagged code_declaration theory_tags → tag_of_row o ≡ declaration_answer (declaration x n)
+unfolding declaration
+theory_is rows x n e k = ap tag_of_row (sym e) ∙ tags_are x n code_declaration rows theory_tags k ∙ declaration_via (tag_in theory_tags x n)
 
-column_at : (rows : List (Row Tag)) (i : ℕ) → get_or (index_column rows) i nothing ≡ index_at rows i
-unfolding index_column index_at
-column_at [] i = refl
-column_at (r ∷ rows) zero = refl
-column_at (r ∷ rows) (suc i) = column_at rows i
-
-index_is : (i : ℕ) → get_or indexes i nothing ≡ index_at proof_tags i
-unfolding index_column tagging
-index_is i = column_at proof_tags i
-
-module _ (r : ℕ) (x : List ℕ) (n : ℕ) (e : r ≡ 0 + first_row (take (10 - 0) (drop 0 shapes)) x n) where
-  pub index_there : r < 10 → get_or indexes r nothing ≡ index_place x n
-  index_there h = index_is r ∙ sym (index_row r x n e)
-
-  pub index_none : 10 ≤ r → nothing ≡ index_place x n
-  unfolding tagging
-  index_none h = sym (index_row r x n e ∙ index_over proof_tags r h)
+pub goal_is : (rows : List (Listed GoalAnswer)) (x : List ℕ) (n : ℕ) {o : Option (Listed GoalAnswer)} → row_in rows x n ≡ o →
+    rows_of rows ≡ retagged code_goal goal_tags → tag_of_row o ≡ goal_answer (goal_form x n)
+unfolding goal_form
+goal_is rows x n e k = ap tag_of_row (sym e) ∙ tags_are x n code_goal rows goal_tags k ∙ goal_via (tag_in goal_tags x n)

@@ -5,7 +5,7 @@ ghost use Rattle.sexp.specs.Encode.{encodes};
 ghost use Rattle.sexp.specs.Items.{Items, Reaches, item_at, item_of, behind, place};
 
 // An atom by its place in the text, or a list by where its items' cells begin and end.
-#[derive(Clone, Copy)]
+#[derive(Clone, Copy, Debug, PartialEq, Eq)]
 pub enum Item {
     Atom(usize),
     List(usize, usize),
@@ -42,6 +42,7 @@ pub fn count(words: &[u32]) -> usize
 {
     let mut n = 0;
     let mut at = 0;
+    // items are of different widths
     while at < words.len() {
         at = after(words, at);
         n += 1;
@@ -56,6 +57,7 @@ pub fn place(words: &[u32], number: usize) -> usize
 {
     let mut at = 0;
     let mut left = number;
+    // items are of different widths
     while 0 < left {
         if at >= words.len() {
             return at;

@@ -23,14 +23,7 @@ pub fn short(text: &[u8]) -> bool
 pub fn plain(text: &[u8]) -> bool
     ensures { result ≡ plain text.now }
 {
-    let mut at = 0;
-    while at < text.len() {
-        if 127 < text[at] {
-            return false;
-        }
-        at += 1;
-    }
-    true
+    text.iter().all(|b| *b <= 127)
 }
 
 // How many bytes of white space stand at a place; 0 where there is none.
@@ -191,6 +184,7 @@ pub(crate) fn skip(text: &[u8], from: usize) -> usize
     ensures { Skipped text.now from result }
 {
     let mut at = from;
+    // steps are of different widths
     while at < text.len() {
         let w = white(text, at);
         if w != 0 {

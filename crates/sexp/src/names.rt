@@ -23,13 +23,6 @@ pub fn same(s: &[u8], t: &[u8]) -> bool
     true
 }
 
-// A byte as a number, with its range.
-fn widen(b: u8) -> usize
-    ensures { (result ≡ b) × (result < 256) }
-{
-    b as usize
-}
-
 // The value of an index without a sign: digits, at least one, of a value that fits.
 fn unsigned(digits: &[u8]) -> Option<usize>
     ensures { result ≡ unsigned digits.now }
@@ -38,9 +31,8 @@ fn unsigned(digits: &[u8]) -> Option<usize>
         return None;
     }
     let mut n = 0;
-    let mut at = 0;
-    while at < digits.len() {
-        let b = widen(digits[at]);
+    for digit in digits {
+        let b = usize::from(*digit);
         if b < 48 {
             return None;
         }
@@ -52,7 +44,6 @@ fn unsigned(digits: &[u8]) -> Option<usize>
             return None;
         }
         n = n * 10 + d;
-        at += 1;
     }
     Some(n)
 }
@@ -83,15 +74,13 @@ pub fn named(
     ensures { (ns : List Name) → NameRows text.now table.now width place count ns →
         result ≡ first (λ n. same n.bytes name.now) ns 0 }
 {
-    let mut i: usize = 0;
-    while i < count {
+    for i in 0..count {
         let at = width * i + place;
         let start = table[at] as usize;
         let end = table[at + 1] as usize;
         if same(&text[start..end], name) {
             return Some(i);
         }
-        i += 1;
     }
     None
 }

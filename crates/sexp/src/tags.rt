@@ -1,7 +1,7 @@
-// The tags of forms, in one fixed table: the proof's ten rows, then the theory's four and the goals' three.
-ghost use Rattle.std.specs.Prelude.{◌≡◌, ◌+◌, ◌-◌, ◌*◌, ◌≤◌, ◌<◌, take, drop};
-ghost use Rattle.rules.specs.Tags.{proof_tags, proof_tag, declaration, goal_form, index_place};
-ghost use Rattle.sexp.specs.TagTable.{tag_answer, declaration_answer, goal_answer, shapes, shape_at, suits, first_row, tag_at};
+// The tags of forms: one fixed table each for the proof, the theory and the goals.
+ghost use Rattle.std.specs.Prelude.{◌≡◌, Some, None, MatchOption};
+ghost use Rattle.rules.specs.Tags.{fits, proof_tag, declaration, goal_form, index_place};
+ghost use Rattle.sexp.specs.TagTable.{tag_answer, declaration_answer, goal_answer, row_of, row_in};
 
 use crate::names::same;
 
@@ -37,121 +37,199 @@ pub enum GoalForm {
     GoalWith,
 }
 
-// No form has more items than this.
-const MANY: usize = 0xffff_ffff_ffff_ffff;
+// A form by the name that it begins with and its number of items, the name counted: its tag, and the place of its index.
+struct Row<T> {
+    name: &'static [u8],
+    least: usize,
+    most: Option<usize>,
+    index: Option<usize>,
+    tag: T,
+}
 
-// Names, six bytes a row; their lengths; the least and the most items; the place of the index.
-const NAMES: [u8; 102] =
-    *b"var   def   step  hyp   hyp   inductinductapply invertresultsort  ctor  pred  rule  var   goal  goal  ";
-
-const SIZES: [usize; 17] = [3, 3, 4, 3, 3, 6, 6, 5, 6, 6, 4, 4, 4, 4, 3, 4, 4];
-
-const LEAST: [usize; 17] = [3, 3, 4, 3, 5, 5, 6, 5, 6, 3, 2, 4, 3, 4, 3, 3, 4];
-
-const MOST: [usize; 17] = [3, 3, MANY, 3, 5, 5, 6, 5, 6, 3, 2, 4, 3, 4, 3, 3, 4];
-
-const INDEX: [Option<usize>; 10] = [
-    None,
-    None,
-    Some(1),
-    Some(1),
-    Some(1),
-    Some(1),
-    Some(1),
-    Some(1),
-    Some(1),
-    None,
+const PROOF: [Row<Tag>; 10] = [
+    Row {
+        name: b"var",
+        least: 3,
+        most: Some(3),
+        index: None,
+        tag: Tag::Var,
+    },
+    Row {
+        name: b"def",
+        least: 3,
+        most: Some(3),
+        index: None,
+        tag: Tag::Def,
+    },
+    Row {
+        name: b"step",
+        least: 4,
+        most: None,
+        index: Some(1),
+        tag: Tag::Step,
+    },
+    Row {
+        name: b"hyp",
+        least: 3,
+        most: Some(3), // with premises it has five
+        index: Some(1),
+        tag: Tag::Hyp,
+    },
+    Row {
+        name: b"hyp",
+        least: 5,
+        most: Some(5),
+        index: Some(1),
+        tag: Tag::RuleHyp,
+    },
+    Row {
+        name: b"induct",
+        least: 5,
+        most: Some(5),
+        index: Some(1),
+        tag: Tag::Induct,
+    },
+    Row {
+        name: b"induct",
+        least: 6,
+        most: Some(6),
+        index: Some(1),
+        tag: Tag::InductWith,
+    },
+    Row {
+        name: b"apply",
+        least: 5,
+        most: Some(5),
+        index: Some(1),
+        tag: Tag::Apply,
+    },
+    Row {
+        name: b"invert",
+        least: 6,
+        most: Some(6),
+        index: Some(1),
+        tag: Tag::Invert,
+    },
+    Row {
+        name: b"result",
+        least: 3,
+        most: Some(3),
+        index: None,
+        tag: Tag::Outcome,
+    },
 ];
 
-// Whether a row is for that name and so many items.
-fn fits_row(row: usize, name: &[u8], items: usize) -> bool
-    requires { row < 17 }
-    ensures { result ≡ suits (shape_at row) name.now items }
-{
-    if items < LEAST[row] {
-        return false;
-    }
-    if MOST[row] < items {
-        return false;
-    }
-    let start = 6 * row;
-    let end = start + SIZES[row];
-    same(&NAMES[start..end], name)
-}
+const THEORY: [Row<Declaration>; 4] = [
+    Row {
+        name: b"sort",
+        least: 2,
+        most: Some(2),
+        index: None,
+        tag: Declaration::Sort,
+    },
+    Row {
+        name: b"ctor",
+        least: 4,
+        most: Some(4),
+        index: None,
+        tag: Declaration::Ctor,
+    },
+    Row {
+        name: b"pred",
+        least: 3,
+        most: Some(3),
+        index: None,
+        tag: Declaration::Pred,
+    },
+    Row {
+        name: b"rule",
+        least: 4,
+        most: Some(4),
+        index: None,
+        tag: Declaration::Rule,
+    },
+];
 
-// The first of some rows, from `from` up to `to`, that is; `to` where none is.
-fn first_row(from: usize, to: usize, name: &[u8], items: usize) -> usize
-    requires { (from ≤ to) × (to ≤ 17) }
-    ensures { result ≡ from + first_row (take (to - from) (drop from shapes)) name.now items }
-{
-    let mut row = from;
-    while row < to {
-        if fits_row(row, name, items) {
-            return row;
+const GOALS: [Row<GoalForm>; 3] = [
+    Row {
+        name: b"var",
+        least: 3,
+        most: Some(3),
+        index: None,
+        tag: GoalForm::Variable,
+    },
+    Row {
+        name: b"goal",
+        least: 3,
+        most: Some(3),
+        index: None,
+        tag: GoalForm::Goal,
+    },
+    Row {
+        name: b"goal",
+        least: 4,
+        most: Some(4),
+        index: None,
+        tag: GoalForm::GoalWith,
+    },
+];
+
+impl<T> Row<T> {
+    fn fits(&self, name: &[u8], items: usize) -> bool
+        ensures { result ≡ fits (row_of self.now) name.now items }
+    {
+        if items < self.least {
+            return false;
         }
-        row += 1;
+        if let Some(most) = self.most {
+            if most < items {
+                return false;
+            }
+        }
+        same(self.name, name)
     }
-    row
 }
 
-// The tag of a proof's row.
-fn tag_at(row: usize) -> Option<Tag>
-    ensures { result ≡ tag_answer (tag_at proof_tags row) }
+// The first row for that name and so many items.
+fn row_in<'a, T>(rows: &'a [Row<T>], name: &[u8], items: usize) -> Option<&'a Row<T>>
+    ensures { MatchOption result (row_in rows.now name.now items ≡ None) (λ row. row_in rows.now name.now items ≡ Some row.now) }
 {
-    match row {
-        0 => Some(Tag::Var),
-        1 => Some(Tag::Def),
-        2 => Some(Tag::Step),
-        3 => Some(Tag::Hyp),
-        4 => Some(Tag::RuleHyp),
-        5 => Some(Tag::Induct),
-        6 => Some(Tag::InductWith),
-        7 => Some(Tag::Apply),
-        8 => Some(Tag::Invert),
-        9 => Some(Tag::Outcome),
-        _ => None,
+    for row in rows {
+        if row.fits(name, items) {
+            return Some(row);
+        }
     }
+    None
 }
 
 // The tag of a proof's form that begins with that name and has so many items.
 pub fn proof_tag(name: &[u8], items: usize) -> Option<Tag>
     ensures { result ≡ tag_answer (proof_tag name.now items) }
 {
-    tag_at(first_row(0, 10, name, items))
+    let row = row_in(&PROOF, name, items)?;
+    Some(row.tag)
 }
 
 // Where the index of such a form stands among its items.
 pub fn index_place(name: &[u8], items: usize) -> Option<usize>
     ensures { result ≡ index_place name.now items }
 {
-    let row = first_row(0, 10, name, items);
-    if row < 10 {
-        return INDEX[row];
-    }
-    None
+    let form = row_in(&PROOF, name, items)?;
+    form.index
 }
 
 // The same for a theory's form.
 pub fn theory_tag(name: &[u8], items: usize) -> Option<Declaration>
     ensures { result ≡ declaration_answer (declaration name.now items) }
 {
-    match first_row(10, 14, name, items) {
-        10 => Some(Declaration::Sort),
-        11 => Some(Declaration::Ctor),
-        12 => Some(Declaration::Pred),
-        13 => Some(Declaration::Rule),
-        _ => None,
-    }
+    let row = row_in(&THEORY, name, items)?;
+    Some(row.tag)
 }
 
 // The same for the goals'.
 pub fn goal_tag(name: &[u8], items: usize) -> Option<GoalForm>
     ensures { result ≡ goal_answer (goal_form name.now items) }
 {
-    match first_row(14, 17, name, items) {
-        14 => Some(GoalForm::Variable),
-        15 => Some(GoalForm::Goal),
-        16 => Some(GoalForm::GoalWith),
-        _ => None,
-    }
+    let row = row_in(&GOALS, name, items)?;
+    Some(row.tag)
 }

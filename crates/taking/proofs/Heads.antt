@@ -24,9 +24,9 @@ use Rattle.sexp.specs.TagTable.{goal_answer, tag_answer}
 use Rattle.sexp.specs.declared.items.Item.{Item}
 use Rattle.sexp.specs.declared.items.Item.TheVariants.{Atom, List as Part}
 use Rattle.sexp.specs.declared.tags.Tag.{Tag as TagAnswer}
-use Rattle.sexp.specs.declared.tags.Tag.TheVariants.{Var, Def, Step, Hyp, RuleHyp, Induct, InductWith, Apply, Invert, Outcome, Unknown}
+use Rattle.sexp.specs.declared.tags.Tag.TheVariants.{Var, Def, Step, Hyp, RuleHyp, Induct, InductWith, Apply, Invert, Outcome}
 use Rattle.sexp.specs.declared.tags.GoalForm.{GoalForm as GoalAnswer}
-use Rattle.sexp.specs.declared.tags.GoalForm.TheVariants.{Variable, Goal, GoalWith, Unknown as UnknownGoal}
+use Rattle.sexp.specs.declared.tags.GoalForm.TheVariants.{Variable, Goal, GoalWith}
 use Rattle.kernel.specs.Parsed.{Formed}
 use Rattle.taking.specs.Tagged.{headed, tagged, chosen}
 
@@ -96,26 +96,28 @@ goal_many xs t e = goal_least (item xs 0) (count xs) t e
 
 -- What an answer says --------------------------------------------------------------------------------------------------------------
 
-abbrev tag_told : TagAnswer → Option Tag
-tag_told Var = some a_var
-tag_told Def = some a_def
-tag_told Step = some a_step
-tag_told Hyp = some a_hyp
-tag_told RuleHyp = some a_rule_hyp
-tag_told Induct = some an_induct
-tag_told InductWith = some an_induct_with
-tag_told Apply = some an_apply
-tag_told Invert = some an_invert
-tag_told Outcome = some a_result
-tag_told Unknown = nothing
+abbrev tag_told : TagAnswer → Tag
+tag_told Var = a_var
+tag_told Def = a_def
+tag_told Step = a_step
+tag_told Hyp = a_hyp
+tag_told RuleHyp = a_rule_hyp
+tag_told Induct = an_induct
+tag_told InductWith = an_induct_with
+tag_told Apply = an_apply
+tag_told Invert = an_invert
+tag_told Outcome = a_result
 
-abbrev goal_told : GoalAnswer → Option GoalForm
-goal_told Variable = some a_variable
-goal_told Goal = some a_goal
-goal_told GoalWith = some a_goal_with
-goal_told UnknownGoal = nothing
+abbrev goal_told : GoalAnswer → GoalForm
+goal_told Variable = a_variable
+goal_told Goal = a_goal
+goal_told GoalWith = a_goal_with
 
-tag_back : (o : Option Tag) → tag_told (tag_answer o) ≡ o
+abbrev told_by : {A B : Type 0} → (B → A) → Option B → Option A
+told_by f nothing = nothing
+told_by f (some q) = some (f q)
+
+tag_back : (o : Option Tag) → told_by tag_told (tag_answer o) ≡ o
 tag_back nothing = refl
 tag_back (some a_var) = refl
 tag_back (some a_def) = refl
@@ -128,17 +130,23 @@ tag_back (some an_apply) = refl
 tag_back (some an_invert) = refl
 tag_back (some a_result) = refl
 
-goal_back : (o : Option GoalForm) → goal_told (goal_answer o) ≡ o
+goal_back : (o : Option GoalForm) → told_by goal_told (goal_answer o) ≡ o
 goal_back nothing = refl
 goal_back (some a_variable) = refl
 goal_back (some a_goal) = refl
 goal_back (some a_goal_with) = refl
 
-pub told : {o : Option Tag} {r : TagAnswer} (q : TagAnswer) → r ≡ tag_answer o → r ≡ q → o ≡ tag_told q
-told {o} q e f = sym (tag_back o) ∙ ap tag_told (sym e ∙ f)
+pub told : {o : Option Tag} {r : TagAnswer} (q : TagAnswer) → some r ≡ tag_answer o → r ≡ q → o ≡ some (tag_told q)
+told {o} q e f = sym (tag_back o) ∙ ap (told_by tag_told) (sym e ∙ ap (λ (x : TagAnswer). some x) f)
 
-pub told_goal : {o : Option GoalForm} {r : GoalAnswer} (q : GoalAnswer) → r ≡ goal_answer o → r ≡ q → o ≡ goal_told q
-told_goal {o} q e f = sym (goal_back o) ∙ ap goal_told (sym e ∙ f)
+pub untold : {o : Option Tag} → nothing ≡ tag_answer o → o ≡ nothing
+untold {o} e = sym (tag_back o) ∙ ap (told_by tag_told) (sym e)
+
+pub told_goal : {o : Option GoalForm} {r : GoalAnswer} (q : GoalAnswer) → some r ≡ goal_answer o → r ≡ q → o ≡ some (goal_told q)
+told_goal {o} q e f = sym (goal_back o) ∙ ap (told_by goal_told) (sym e ∙ ap (λ (x : GoalAnswer). some x) f)
+
+pub untold_goal : {o : Option GoalForm} → nothing ≡ goal_answer o → o ≡ nothing
+untold_goal {o} e = sym (goal_back o) ∙ ap (told_by goal_told) (sym e)
 
 -- The definition, by the tag -------------------------------------------------------------------------------------------------------
 

@@ -11,30 +11,30 @@ use sexp::tags::{GoalForm, Tag, goal_tag, proof_tag};
 use sexp::{items, lex};
 
 // Of the goals.
-pub fn tag_of_goal(text: &[u8], items: &[u32]) -> GoalForm
+pub fn tag_of_goal(text: &[u8], items: &[u32]) -> Option<GoalForm>
     requires { Held text.now items.now }
     ensures { (xs : Sexps) → Holds text.now items.now xs → result ≡ goal_answer (tagged goal_form xs) }
 {
     if items.len() == 0 {
-        return GoalForm::Unknown;
+        return None;
     }
     let Item::Atom(start) = items::item_at(items, 0) else {
-        return GoalForm::Unknown;
+        return None;
     };
     let end = lex::atom_end(text, start);
     goal_tag(&text[start..end], items::count(items))
 }
 
 // Of the proof.
-pub fn tag_of(text: &[u8], items: &[u32]) -> Tag
+pub fn tag_of(text: &[u8], items: &[u32]) -> Option<Tag>
     requires { Held text.now items.now }
     ensures { (xs : Sexps) → Holds text.now items.now xs → result ≡ tag_answer (tagged proof_tag xs) }
 {
     if items.len() == 0 {
-        return Tag::Unknown;
+        return None;
     }
     let Item::Atom(start) = items::item_at(items, 0) else {
-        return Tag::Unknown;
+        return None;
     };
     let end = lex::atom_end(text, start);
     proof_tag(&text[start..end], items::count(items))

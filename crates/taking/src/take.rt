@@ -60,7 +60,10 @@ fn goal_items(
     ensures { (g : GoalItems (texts theory.now goals.now goals.now) (theory_lists sorts.now symbols.now inputs.now rules.now rulevars.now patterns.now) (board vars.old index.old words.old defs.now rows.old facts.now footings.now lists.old) n mark cells.now) →
         TriedAs (texts theory.now goals.now goals.now) (theory_lists sorts.now symbols.now inputs.now rules.now rulevars.now patterns.now) (board vars.old index.old words.old defs.now rows.old facts.now footings.now lists.old) (board vars.new index.new words.new defs.now rows.new facts.now footings.now lists.new) mark g.items.S (chosen 20 goal (tagged goal_form g.items.xs) g.items.xs g.items.S) result }
 {
-    match tag_of_goal(goals, cells) {
+    let Some(tag) = tag_of_goal(goals, cells) else {
+        return Tried::No(20, 0, mark);
+    };
+    match tag {
         GoalForm::Variable => {
             let r = add_var(theory, goals, goals, sorts, symbols, vars, n, 2, cells);
             declared(n, mark, r)
@@ -78,7 +81,6 @@ fn goal_items(
             );
             aimed(n, r)
         }
-        GoalForm::Unknown => Tried::No(20, 0, mark),
     }
 }
 
@@ -212,7 +214,10 @@ fn form_items(
         TriedAs (texts theory.now goals.now text.now) (theory_lists sorts.now symbols.now inputs.now rules.now rulevars.now patterns.now) (board vars.old index.old words.old defs.old rows.old facts.old footings.old lists.old) (board vars.new index.new words.new defs.new rows.new facts.new footings.new lists.new) mark g.S (chosen 30 perform (tagged proof_tag g.xs) g.xs g.S) result }
     ensures ids_unchanged { (ids.new ≡ ids.old) × (memo.new ≡ memo.old) }
 {
-    match tag_of(text, cells) {
+    let Some(tag) = tag_of(text, cells) else {
+        return Tried::No(30, 0, mark);
+    };
+    match tag {
         Tag::Var => {
             let r = add_var(theory, goals, text, sorts, symbols, vars, n, 3, cells);
             declared(n, mark, r)
@@ -276,7 +281,6 @@ fn form_items(
             );
             resulted(n, r)
         }
-        Tag::Unknown => Tried::No(30, 0, mark),
     }
 }
 

@@ -9,7 +9,7 @@ ghost use Rattle.terms.specs.Collect.{Seen, Readable, Visited};
 
 use crate::sets::{has, insert};
 use crate::store::Terms;
-use cells::clear_words;
+use cells::clear;
 use rules::{SYMBOLS, VARIABLEWORDS};
 
 // The variables of the term `id` join the set, and its open nodes those that were visited; a term that was visited has its own there already,
@@ -42,7 +42,7 @@ pub fn variables(terms: &Terms<'_>, id: usize, seen: &mut [u64], set: &mut [u64]
     ensures seen_unchanged { seen.new ≡ seen.old }
 {
     visit(terms, id, seen, set);
-    clear_words(seen);
+    clear(seen);
 }
 
 // Whether the variable `x` occurs in the term `id`. `seen` is scratch: zero before and after.

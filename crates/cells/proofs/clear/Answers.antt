@@ -1,11 +1,6 @@
-use Rattle.cells.proofs.Fronts.{clearing_begins, clearing_on, clearing_done}
+use Rattle.std.proofs.Common.{arith}
+use Rattle.cells.proofs.Fronts.{cleared_more}
 use Rattle.cells.proofs.clear.Goals as goal
 
-pub loop-i-init : goal.loop-i-init
-loop-i-init c = clearing_begins _
-
-pub loop-i-preserved : goal.loop-i-preserved
-loop-i-preserved c = clearing_on _ _ _ c.loop-i.invariant c.loop-i-test.true
-
-pub returns : goal.returns
-returns c = clearing_done _ _ _ c.loop-i.invariant c.loop-i-test.false
+pub loop-cell-preserved : goal.loop-cell-preserved
+loop-cell-preserved g c = rw (c.ZERO.ensures, c.loop-cell.invariant) (cleared_more g.T.Cell.ZERO c.args.cells.now c.loop-cell.cell-index (omega arith))

@@ -1,13 +1,23 @@
--- A turn takes the table a record further, and at the end no record is left to be made blank.
-use Rattle.std.proofs.Common.{sym}
-use Rattle.std.proofs.lemmas.Bool.{ltb-true, ltb-false}
-use Rattle.facts.proofs.Zeroing.{next, ended}
+use Rattle.std.proofs.Common.{◌≡◌, sym, ap, ◌∙◌, ℕ, ◌+◌, ◌-◌, List, ◌++◌, length, take, drop, replicate, arith, length-take-le, length-drop}
+use Rattle.std.proofs.lemmas.List.{length-replicate}
+use Rattle.std.proofs.lemmas.List.Edits.{paste_all}
+use Rattle.std.proofs.lemmas.Slice.{put_mid-paste}
+use Rattle.facts.specs.declared.Fact.{Fact}
+use Rattle.facts.specs.Table.{blank}
+use Rattle.facts.specs.Laws.{zeroed_is}
 use Rattle.facts.proofs.zero_behind.Goals as goal
 
-pub loop-facts-preserved : goal.loop-facts-preserved
-loop-facts-preserved c =
-    rw (c.append.ensures, c.blank_fact.ensures, c.after-next.ensures)
-    (next _ _ _ _ _ c.loop-facts.invariant (ltb-true _ _ (sym c.loop-facts-test.ensures)) c.requires.1)
-
 pub returns : goal.returns
-returns c = ended _ _ _ _ _ c.loop-facts.invariant (ltb-false _ _ (sym c.loop-facts-test.ensures))
+returns c =
+    let n : ℕ = c.args.to - c.args.from in
+    let blanks : List Fact = replicate n blank in
+    let room : length (take n (drop c.args.from c.args.facts.now)) ≡ n =
+    length-take-le n (drop c.args.from c.args.facts.now) (omega (arith, length-drop c.args.from c.args.facts.now)) in
+    let filled : c.fill.new.self ≡ blanks =
+    c.fill.ensures.after (λ y h. h) ∙ ap (λ (k : ℕ). replicate k c.blank_fact.result) room ∙ ap (λ (f : Fact). replicate n f) c.blank_fact.ensures in
+    let behind : c.args.from + n ≡ c.args.to = omega arith in
+    let size : n ≡ length blanks = sym (length-replicate n blank) in
+    put_mid-paste c.args.from n c.args.facts.now c.fill.new.self blanks n filled (omega arith) size
+    ∙ paste_all c.args.facts.now c.args.from blanks n size
+    ∙ ap (λ (k : ℕ). take c.args.from c.args.facts.now ++ (blanks ++ drop k c.args.facts.now)) behind
+    ∙ sym (zeroed_is c.args.facts.now c.args.from c.args.to)

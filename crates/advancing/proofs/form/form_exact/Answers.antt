@@ -6,19 +6,19 @@ pub read_form-requires : goal.read_form-requires
 read_form-requires c = record { from_in_bounds = (read_asks c.requires).0; clear = (read_asks c.requires).1 }
 
 pub take_read-requires : goal.take_read-requires
-take_read-requires c = at_a_form c.requires c.read_form.ensures c.in-Form.is
+take_read-requires c = at_a_form c.requires c.read_form.ensures (rw c.in-Ok-Some.field-0-is at c.in-Ok-Some.is)
 
-pub shape_of-cells-in-End : goal.shape_of-cells-in-End
-shape_of-cells-in-End c = c.read_form.auto.words
+pub shape_of-cells-in-Ok-None : goal.shape_of-cells-in-Ok-None
+shape_of-cells-in-Ok-None c = c.read_form.auto.words
 
-pub returns-in-End : goal.returns-in-End
-returns-in-End c = λ g. at_the_end g c.read_form.ensures c.in-End.is c.ended.ensures c.stay.ensures
+pub returns-in-Ok-None : goal.returns-in-Ok-None
+returns-in-Ok-None c = λ g. at_the_end g c.read_form.ensures (rw c.in-Ok-None.field-0-is at c.in-Ok-None.is) c.ended.ensures c.stay.ensures
 
-pub shape_of-cells-in-Refused : goal.shape_of-cells-in-Refused
-shape_of-cells-in-Refused c = c.read_form.auto.words
+pub shape_of-cells-in-Err : goal.shape_of-cells-in-Err
+shape_of-cells-in-Err c = c.read_form.auto.words
 
-pub returns-in-Refused : goal.returns-in-Refused
-returns-in-Refused c = λ g. at_unread g c.read_form.ensures c.in-Refused.is c.refused.ensures c.stay-in-Refused.ensures
+pub returns-in-Err : goal.returns-in-Err
+returns-in-Err c = λ g. at_unread g c.read_form.ensures c.in-Err.is (rw (c.number.ensures, c.detail.ensures) at c.refused.ensures) c.stay-in-Err.ensures
 
 pub shape_of-vars : goal.shape_of-vars
 shape_of-vars c = c.take_read.auto.vars
@@ -44,8 +44,8 @@ shape_of-facts c = c.take_read.auto.facts
 pub shape_of-footings : goal.shape_of-footings
 shape_of-footings c = c.take_read.auto.footings
 
-pub shape_of-cells-in-Form : goal.shape_of-cells-in-Form
-shape_of-cells-in-Form c = c.take_read.auto.cells ∙ c.read_form.auto.words
+pub shape_of-cells-in-Ok-Some : goal.shape_of-cells-in-Ok-Some
+shape_of-cells-in-Ok-Some c = c.take_read.auto.cells ∙ c.read_form.auto.words
 
 pub shape_of-ids : goal.shape_of-ids
 shape_of-ids c = c.take_read.auto.ids
@@ -53,5 +53,5 @@ shape_of-ids c = c.take_read.auto.ids
 pub shape_of-memo : goal.shape_of-memo
 shape_of-memo c = c.take_read.auto.memo
 
-pub returns-in-Form : goal.returns-in-Form
-returns-in-Form c = λ g. c.take_read.ensures (at_a_form g c.read_form.ensures c.in-Form.is)
+pub returns-in-Ok-Some : goal.returns-in-Ok-Some
+returns-in-Ok-Some c = λ g. c.take_read.ensures (at_a_form g c.read_form.ensures (rw c.in-Ok-Some.field-0-is at c.in-Ok-Some.is))

@@ -5,8 +5,8 @@ use Rattle.beginning.proofs.goals.pose.Goals as goal
 pub take_goals-requires : goal.take_goals-requires
 take_goals-requires c = c.requires
 
-pub returns-in-Refused : goal.returns-in-Refused
-returns-in-Refused c = record { posed = goals_unread _ c.read_all.ensures c.requires c.in-Refused.is c.stopped.ensures; cells_unchanged = refl }
+pub returns-in-Err : goal.returns-in-Err
+returns-in-Err c = record { posed = goals_unread _ c.read_all.ensures c.requires c.in-Err.is (rw (c.number.ensures, c.detail.ensures) at c.stopped.ensures); cells_unchanged = refl }
 
 pub shape_of-vars : goal.shape_of-vars
 shape_of-vars c = c.take_goals.auto.vars
@@ -26,5 +26,5 @@ shape_of-lists c = c.take_goals.auto.lists
 pub shape_of-cells : goal.shape_of-cells
 shape_of-cells c = c.take_goals.auto.cells
 
-pub returns-in-Forms : goal.returns-in-Forms
-returns-in-Forms c = record { posed = goals_read _ c.read_all.ensures c.in-Forms.is c.take_goals.ensures.posed; cells_unchanged = c.take_goals.ensures.cells_unchanged }
+pub returns-in-Ok : goal.returns-in-Ok
+returns-in-Ok c = record { posed = goals_read _ c.read_all.ensures c.in-Ok.is c.take_goals.ensures.posed; cells_unchanged = c.take_goals.ensures.cells_unchanged }

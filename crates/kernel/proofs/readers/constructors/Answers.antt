@@ -1,21 +1,20 @@
-use Rattle.kernel.proofs.Readings.{counting_start, counting_inside, counting_on, counting_over}
-use native.Mathlib.Omega.{arith}
+use mathlib.Core.Path.{sym, ◌∙◌}
+use borrow.Author.Tests.{eqb-true, eqb-false}
+use Rattle.kernel.proofs.Readings.{counting_start, counting_known, counting_in, counting_out, counting_over}
 use Rattle.kernel.proofs.readers.constructors.Goals as goal
+use Rattle.kernel.proofs.readers.constructors.Goals.{then-same_sort, else-same_sort}
 
-pub loop-i-init : goal.loop-i-init
-loop-i-init c = counting_start _ _ _ c.requires
+pub loop-c-init : goal.loop-c-init
+loop-c-init c = counting_start _ _ _ c.requires
 
-pub returns-in_default : goal.returns-in_default
-returns-in_default c = counting_over c.loop-i.invariant _ c.next_constructor.ensures c.in_default.is
+pub output-requires : goal.output-requires
+output-requires c = counting_known c.loop-c.invariant c.loop-c-test.true
 
-pub overflow_add-n : goal.overflow_add-n
-overflow_add-n c = omega (arith, counting_inside c.loop-i.invariant _ c.next_constructor.ensures c.in-Some.is, c.loop-i.invariant, c.ranges)
+pub loop-c-preserved : goal.loop-c-preserved
+loop-c-preserved c = elim c.if-same_sort.branch [
+  | then-same_sort w ↦ rw w.n-is (counting_in c.loop-c.invariant c.loop-c-test.true _ c.output.ensures (eqb-true _ _ (sym c.same_sort.ensures ∙ w.if-same_sort.true)))
+  | else-same_sort w ↦ rw w.n-is (counting_out c.loop-c.invariant c.loop-c-test.true _ c.output.ensures (eqb-false _ _ (sym c.same_sort.ensures ∙ w.if-same_sort.false)))
+]
 
-pub overflow_add-from : goal.overflow_add-from
-overflow_add-from c = omega (arith, counting_inside c.loop-i.invariant _ c.next_constructor.ensures c.in-Some.is, c.ranges)
-
-pub loop-i-smaller : goal.loop-i-smaller
-loop-i-smaller c = omega (arith, counting_inside c.loop-i.invariant _ c.next_constructor.ensures c.in-Some.is)
-
-pub loop-i-preserved : goal.loop-i-preserved
-loop-i-preserved c = counting_on c.loop-i.invariant _ c.next_constructor.ensures c.in-Some.is
+pub returns : goal.returns
+returns c = counting_over c.loop-c.invariant c.loop-c-test.false

@@ -1,6 +1,4 @@
 use native.Mathlib.Omega.{arith}
-use Prim.Native.Nat.{◌+◌, ◌*◌}
-use Rattle.rules.specs.Limits.{ARGUMENTS}
 use Rattle.kernel.proofs.Readings.{argument_place}
 use Rattle.kernel.specs.SignatureRows.{argument_cell}
 use Rattle.kernel.proofs.readers.input.Goals as goal
@@ -16,9 +14,6 @@ offset_bounds-inputs-c c = omega (arith, argument_place c.requires, c.well_forme
 
 pub bounds-inputs-c : goal.bounds-inputs-c
 bounds-inputs-c c = argument_place c.requires
-
-pub overflow_cast-result : goal.overflow_cast-result
-overflow_cast-result c = omega (arith, c.shared_slice_known-1.given (ARGUMENTS * c.args.c + c.args.k))
 
 pub returns : goal.returns
 returns c = λ T text syms count h l m. argument_cell T h _ l _ m

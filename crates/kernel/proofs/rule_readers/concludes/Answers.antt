@@ -8,8 +8,5 @@ offset_bounds-patterns-place c = omega (arith, place_inside c.requires _ c.concl
 pub bounds-patterns-place : goal.bounds-patterns-place
 bounds-patterns-place c = place_inside c.requires _ c.conclusion-place.ensures
 
-pub overflow_cast-result : goal.overflow_cast-result
-overflow_cast-result c = omega (arith, c.shared_slice_known-4-1.given c.conclusion-place.result)
-
 pub returns : goal.returns
 returns c = head_is_lem c.requires _ c.conclusion-place.ensures _

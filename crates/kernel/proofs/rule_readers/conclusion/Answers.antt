@@ -17,9 +17,6 @@ offset_bounds-patterns-place c = omega (arith, (passing_next c.loop-left.invaria
 pub bounds-patterns-place : goal.bounds-patterns-place
 bounds-patterns-place c = (passing_next c.loop-left.invariant c.loop-left-test.true).inside
 
-pub overflow_cast-patterns : goal.overflow_cast-patterns
-overflow_cast-patterns c = omega (arith, c.shared_slice_known-in-loop-left-1.given c.loop-left.place)
-
 pub arguments_behind-more-requires : goal.arguments_behind-more-requires
 arguments_behind-more-requires c = passing_word c.loop-left.invariant c.loop-left-test.true
 

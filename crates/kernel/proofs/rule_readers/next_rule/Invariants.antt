@@ -1,9 +1,5 @@
 use Rattle.kernel.proofs.Heads.{Scanning}
-use Prim.Native.Nat.{◌-◌}
 use Rattle.kernel.proofs.rule_readers.next_rule.Given as goal
 
 abbrev pub invariant-loop-i : goal.invariant-loop-i
 invariant-loop-i l = Scanning l.symbols l.rules l.patterns l.count l.predicate l.from l.i
-
-abbrev pub decreases-loop-i : goal.decreases-loop-i
-decreases-loop-i l = l.count - l.i

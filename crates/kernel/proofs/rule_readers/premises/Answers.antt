@@ -1,5 +1,4 @@
 use Rattle.kernel.specs.RuleRows.{rule_place, premises_cell}
-use Prim.Native.Nat.{◌+◌, ◌*◌}
 use native.Mathlib.Omega.{arith}
 use Rattle.kernel.proofs.rule_readers.premises.Goals as goal
 
@@ -14,9 +13,6 @@ offset_bounds-rules-r c = omega (arith, rule_place c.requires, c.well_formed.0)
 
 pub bounds-rules-r : goal.bounds-rules-r
 bounds-rules-r c = omega (arith, rule_place c.requires)
-
-pub overflow_cast-result : goal.overflow_cast-result
-overflow_cast-result c = omega (arith, c.shared_slice_known-1.given (6 * c.args.r + 3))
 
 pub returns : goal.returns
 returns c = λ T text vars patterns count words h l. premises_cell T h _ l

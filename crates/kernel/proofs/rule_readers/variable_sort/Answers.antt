@@ -1,6 +1,4 @@
-use Rattle.rules.specs.Limits.{RULEVARS}
 use Rattle.kernel.specs.RuleRows.{var_place, var_cell}
-use Prim.Native.Nat.{◌+◌, ◌*◌}
 use native.Mathlib.Omega.{arith}
 use Rattle.kernel.proofs.rule_readers.variable_sort.Goals as goal
 
@@ -18,9 +16,6 @@ offset_bounds-vars-r c = omega (arith, var_place c.requires, c.well_formed.0)
 
 pub bounds-vars-r : goal.bounds-vars-r
 bounds-vars-r c = var_place c.requires
-
-pub overflow_cast-result : goal.overflow_cast-result
-overflow_cast-result c = omega (arith, c.shared_slice_known-1.given (3 * (RULEVARS * c.args.r + c.args.i)))
 
 pub returns : goal.returns
 returns c = λ T text rules patterns count words h l m. var_cell T h _ l _ m

@@ -1,62 +1,57 @@
 use mathlib.Core.Path.{refl, sym, subst}
 use native.Mathlib.Omega.{arith}
-use Rattle.rules.specs.Laws.Declaring.{pred_unnamed}
-use Rattle.kernel.specs.Held.{SymbolAdded}
+use Rattle.kernel.specs.Parsed.{DeclaredAs}
+use Rattle.kernel.specs.Tables.{lists_of}
+use Rattle.kernel.proofs.Handed.{handed}
 use Rattle.kernel.proofs.Spellings.{proper_here, proper_nowhere}
 use Rattle.kernel.specs.SignatureRows.{symbols_rows}
-use Rattle.kernel.proofs.Declared.{reaching, theory_of_lem, refused_of, stored_of, pred_stops, pred_again, pred_is_new, symbol_cells_lem, symbol_fits}
+use Rattle.kernel.proofs.Declared.{reaching, stored_of, pred_nameless, pred_stops, pred_again, pred_is_new, symbol_cells_lem, symbol_fits}
 use Rattle.kernel.proofs.signatures.add_pred.Goals as goal
 
 pub proper_at-requires : goal.proper_at-requires
 proper_at-requires c = reaching 1 c.requires.form (omega arith)
 
-pub returns-in_default : goal.returns-in_default
-returns-in_default c = λ T xs h s k n. (pred_unnamed T xs (proper_nowhere 1 xs c.proper_at.ensures c.in_default.is k), refl, refl)
+pub returns-in_err-name-clause-declared : goal.returns-in_err-name-clause-declared
+returns-in_err-name-clause-declared c = λ T xs h k n. rw (handed c.from_residual.result c.from_residual.ensures) (pred_nameless T xs (proper_nowhere 1 xs c.proper_at.ensures c.in_err-name.was k), h)
 
-pub arguments_at-r-requires : goal.arguments_at-r-requires
-arguments_at-r-requires c = record { reaching = reaching 2 c.requires.form (omega arith); some_sorts = c.requires.some_sorts; row_len = refl }
+pub arguments_at-requires : goal.arguments_at-requires
+arguments_at-requires c = record { reaching = reaching 2 c.requires.form (omega arith); some_sorts = (c.requires.held.0.sorts, c.requires.held.1.sorts); row_len = refl }
 
-pub returns-in_default-r : goal.returns-in_default-r
-returns-in_default-r c = λ T xs h s k n. pred_stops T xs (proper_here 1 xs c.proper_at.ensures c.in-Name.is k)
-    (refused_of _ c.arguments_at-r.new.row _ c.arguments_at-r.result (c.arguments_at-r.ensures T xs h k (omega (arith, n)))
-    c.in_default-r.is) _ _ c.arguments_at-r.result c.in_default-r.is
+pub returns-in_err-arity-clause-declared : goal.returns-in_err-arity-clause-declared
+returns-in_err-arity-clause-declared c = λ T xs h k n. rw (handed c.from_residual-in_err-arity.result c.from_residual-in_err-arity.ensures) (
+  pred_stops T xs (proper_here 1 xs c.proper_at.ensures c.in_ok-name.was k) _ c.arguments_at.new.row c.arguments_at.result
+      (c.arguments_at.ensures T xs h.sorts k (omega (arith, n))) c.in_err-arity.was,
+  h,
+)
 
-pub slice_bounds-symbol_named-count : goal.slice_bounds-symbol_named-count
-slice_bounds-symbol_named-count c = omega (arith, (proper_here 1 c.requires.form.xs c.proper_at.ensures c.in-Name.is c.requires.form.holds).end)
-
-pub slice_bounds-symbol_named-start : goal.slice_bounds-symbol_named-start
-slice_bounds-symbol_named-start c = omega (arith, (proper_here 1 c.requires.form.xs c.proper_at.ensures c.in-Name.is c.requires.form.holds).end)
-
-pub slice_bounds-symbol_named-end : goal.slice_bounds-symbol_named-end
-slice_bounds-symbol_named-end c = (proper_here 1 c.requires.form.xs c.proper_at.ensures c.in-Name.is c.requires.form.holds).high
+pub slice_bounds-bytes-end : goal.slice_bounds-bytes-end
+slice_bounds-bytes-end c = (proper_here 1 c.requires.form.xs c.proper_at.ensures c.in_ok-name.was c.requires.form.holds).high
 
 pub symbol_named-requires : goal.symbol_named-requires
-symbol_named-requires c = (c.requires.some_symbols_held.0, symbols_rows c.requires.some_symbols_held.1)
+symbol_named-requires c = (c.requires.held.0.symbols, symbols_rows c.requires.held.1.symbols)
 
-pub returns-in_default-symbol_named : goal.returns-in_default-symbol_named
-returns-in_default-symbol_named c = λ T xs h s k n. (
-  pred_again T xs (proper_here 1 xs c.proper_at.ensures c.in-Name.is k)
-      (stored_of _ c.arguments_at-r.new.row _ c.arguments_at-r.result (c.arguments_at-r.ensures T xs h k (omega (arith, n)))
-      c.in-Ok.is) (c.symbol_named.ensures T.symbols (symbols_rows s)) c.in_default-symbol_named.is,
-  refl,
-  refl,
+pub returns-in_default-clause-declared : goal.returns-in_default-clause-declared
+returns-in_default-clause-declared c = λ T xs h k n. (
+  pred_again T xs (proper_here 1 xs c.proper_at.ensures c.in_ok-name.was k)
+      (stored_of _ c.arguments_at.new.row _ c.arguments_at.result (c.arguments_at.ensures T xs h.sorts k (omega (arith, n)))
+      c.in_ok-arity.was) (c.symbol_named.ensures T.symbols (symbols_rows h.symbols)) c.in_default.is,
+  h,
 )
 
 pub store-requires : goal.store-requires
-store-requires c = symbol_fits c.requires.some_symbols_held.1 (proper_here 1 c.requires.form.xs c.proper_at.ensures c.in-Name.is c.requires.form.holds) c.requires.form.short
+store-requires c = let held = c.requires.held in
+    let form = c.requires.form in
+    symbol_fits held.1.symbols (proper_here 1 form.xs c.proper_at.ensures c.in_ok-name.was form.holds) form.short
     (omega arith)
-    (stored_of _ c.arguments_at-r.new.row _ c.arguments_at-r.result
-    (c.arguments_at-r.ensures (theory_of_lem c.requires.some_sorts.0) c.requires.form.xs c.requires.some_sorts.1 c.requires.form.holds (omega (arith, c.requires.form.many)))
-    c.in-Ok.is).most _ c.arguments_at-r.auto.row
+    (stored_of _ c.arguments_at.new.row _ c.arguments_at.result (c.arguments_at.ensures held.0 form.xs held.1.sorts form.holds (omega (arith, form.many)))
+    c.in_ok-arity.was).most _ c.arguments_at.auto.row
 
-pub returns : goal.returns
-returns c = λ T xs h s k n.
-    let name = proper_here 1 xs c.proper_at.ensures c.in-Name.is k in
+pub returns-clause-declared : goal.returns-clause-declared
+returns-clause-declared c = λ T xs h k n.
+    let name = proper_here 1 xs c.proper_at.ensures c.in_ok-name.was k in
     let stored =
-    stored_of _ c.arguments_at-r.new.row _ c.arguments_at-r.result (c.arguments_at-r.ensures T xs h k (omega (arith, n)))
-    c.in-Ok.is in
-    subst
-    (λ z.
-    SymbolAdded c.args.text.now c.args.symbols.now c.args.inputs.now c.store.new.symbols c.store.new.inputs T z c.store.result)
-    (sym (pred_is_new T xs name stored (c.symbol_named.ensures T.symbols (symbols_rows s)) c.in-None.is))
-    (c.store.ensures c.args.text.now T _ s (symbol_cells_lem T xs name stored _ refl))
+    stored_of _ c.arguments_at.new.row _ c.arguments_at.result (c.arguments_at.ensures T xs h.sorts k (omega (arith, n)))
+    c.in_ok-arity.was in
+    subst (λ z. DeclaredAs c.args.text.now (lists_of c.store.new.tables) c.store.new.tables.held T z c.store.result)
+    (sym (pred_is_new T xs name stored (c.symbol_named.ensures T.symbols (symbols_rows h.symbols)) c.in-None.is))
+    (c.store.ensures.declared c.args.text.now T _ h (symbol_cells_lem T xs name stored _ refl))

@@ -16,12 +16,6 @@ pub offset_bounds-form-a : goal.offset_bounds-form-a
 offset_bounds-form-a c = let list = nth_list c.requires.reaching.holds 2 (c.nth.ensures c.requires.reaching.xs c.requires.reaching.holds.cells) c.requires.reaching.there c.in-List.is in
     omega (arith, list.low, list.high, c.well_formed)
 
-pub slice_bounds-argument_sorts-count : goal.slice_bounds-argument_sorts-count
-slice_bounds-argument_sorts-count c = (nth_list c.requires.reaching.holds 2 (c.nth.ensures c.requires.reaching.xs c.requires.reaching.holds.cells) c.requires.reaching.there c.in-List.is).low
-
-pub slice_bounds-argument_sorts-start : goal.slice_bounds-argument_sorts-start
-slice_bounds-argument_sorts-start c = (nth_list c.requires.reaching.holds 2 (c.nth.ensures c.requires.reaching.xs c.requires.reaching.holds.cells) c.requires.reaching.there c.in-List.is).low
-
 pub slice_bounds-argument_sorts-end : goal.slice_bounds-argument_sorts-end
 slice_bounds-argument_sorts-end c = (nth_list c.requires.reaching.holds 2 (c.nth.ensures c.requires.reaching.xs c.requires.reaching.holds.cells) c.requires.reaching.there c.in-List.is).high
 

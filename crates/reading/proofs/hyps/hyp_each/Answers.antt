@@ -17,27 +17,27 @@ pub index-requires : goal.index-requires
 index-requires c = hyping_first (c.loop-at.invariant.1 c.requires.0) c.loop-at-test.true
 
 pub shape_of-set-in_default : goal.shape_of-set-in_default
-shape_of-set-in_default c = ap length (cleared c.loop-at.set c.requires.1 c.loop-at.invariant.0 c.clear_words.ensures)
+shape_of-set-in_default c = ap length (cleared c.loop-at.set c.requires.1 c.loop-at.invariant.0 c.clear.ensures)
 
 pub returns-in_default : goal.returns-in_default
 returns-in_default c = λ g. (
   hyping_none (c.loop-at.invariant.1 g) c.loop-at-test.true c.index.ensures c.in_default.is,
   cleared c.loop-at.set c.requires.1
-      c.loop-at.invariant.0 c.clear_words.ensures,
+      c.loop-at.invariant.0 c.clear.ensures,
 )
 
 pub is_fact-requires : goal.is_fact-requires
 is_fact-requires c = tt
 
 pub shape_of-set-then-not-is_fact : goal.shape_of-set-then-not-is_fact
-shape_of-set-then-not-is_fact c = ap length (cleared c.loop-at.set c.requires.1 c.loop-at.invariant.0 c.clear_words-then-not-is_fact.ensures)
+shape_of-set-then-not-is_fact c = ap length (cleared c.loop-at.set c.requires.1 c.loop-at.invariant.0 c.clear-then-not-is_fact.ensures)
 
 pub returns-then-not-is_fact : goal.returns-then-not-is_fact
 returns-then-not-is_fact c = λ g. (
   hyping_late (c.loop-at.invariant.1 g) c.loop-at-test.true c.index.ensures c.in-Some.is
       (omega (arith, facts_many g, is_late c.in-Some.i c.args.n.facts c.is_fact.result c.is_fact.ensures (ap not c.if-not-is_fact.true))),
   cleared
-      c.loop-at.set c.requires.1 c.loop-at.invariant.0 c.clear_words-then-not-is_fact.ensures,
+      c.loop-at.set c.requires.1 c.loop-at.invariant.0 c.clear-then-not-is_fact.ensures,
 )
 
 pub passes-requires : goal.passes-requires
@@ -48,14 +48,14 @@ passes-requires c = (
 )
 
 pub shape_of-set-then-not-passes : goal.shape_of-set-then-not-passes
-shape_of-set-then-not-passes c = ap length (cleared c.loop-at.set c.requires.1 c.loop-at.invariant.0 c.clear_words-then-not-passes.ensures)
+shape_of-set-then-not-passes c = ap length (cleared c.loop-at.set c.requires.1 c.loop-at.invariant.0 c.clear-then-not-passes.ensures)
 
 pub returns-then-not-passes : goal.returns-then-not-passes
 returns-then-not-passes c = λ g. let p = passing g c.args.plain c.in-Some.i (not_late _ _ _ c.is_fact.ensures (ap not c.if-not-is_fact.false)) in (
   hyping_fails (c.loop-at.invariant.1 g) c.loop-at-test.true c.index.ensures c.in-Some.is p.is
       (sym p.test ∙ sym c.passes.ensures ∙ not-true c.passes.result (ap not c.if-not-passes.true)),
   cleared c.loop-at.set c.requires.1 c.loop-at.invariant.0
-      c.clear_words-then-not-passes.ensures,
+      c.clear-then-not-passes.ensures,
 )
 
 pub insert-requires : goal.insert-requires

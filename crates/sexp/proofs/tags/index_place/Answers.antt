@@ -1,8 +1,12 @@
-use Rattle.sexp.proofs.TagLaws.{index_there, index_none}
+use Rattle.std.proofs.Common.{refl, ◌∙◌}
+use Rattle.rules.specs.Tags.{tagging}
+use Rattle.sexp.proofs.TagLaws.{index_is}
 use Rattle.sexp.proofs.tags.index_place.Goals as goal
 
-pub returns-then-row-lt10 : goal.returns-then-row-lt10
-returns-then-row-lt10 c = index_there _ _ _ c.first_row-row.ensures c.if-row-lt10.true
+pub returns-in_err-form : goal.returns-in_err-form
+unfolding tagging
+returns-in_err-form c = c.from_residual.ensures ∙ index_is _ _ _ c.in_err-form.ensures refl
 
 pub returns : goal.returns
-returns c = index_none _ _ _ c.first_row-row.ensures c.if-row-lt10.false
+unfolding tagging
+returns c = index_is _ _ _ c.in_ok-form.ensures refl

@@ -1,7 +1,12 @@
-use mathlib.Core.Path.{sym, ap, ◌∙◌}
-use Rattle.sexp.specs.TagTable.{tag_answer}
-use Rattle.sexp.proofs.TagLaws.{proof_row}
+use Rattle.std.proofs.Common.{refl, ◌∙◌}
+use Rattle.rules.specs.Tags.{tagging}
+use Rattle.sexp.proofs.TagLaws.{proof_is}
 use Rattle.sexp.proofs.tags.proof_tag.Goals as goal
 
+pub returns-in_err-row : goal.returns-in_err-row
+unfolding tagging
+returns-in_err-row c = c.from_residual.ensures ∙ proof_is _ _ _ c.in_err-row.ensures refl
+
 pub returns : goal.returns
-returns c = c.tag_at.ensures ∙ ap tag_answer (sym (proof_row _ _ _ c.first_row.ensures))
+unfolding tagging
+returns c = proof_is _ _ _ c.in_ok-row.ensures refl

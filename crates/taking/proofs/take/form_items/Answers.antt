@@ -3,7 +3,7 @@ use native.Mathlib.Omega.{arith}
 use Rattle.rules.specs.Tags.{a_var, a_def, a_step, a_hyp, a_rule_hyp, an_induct, an_induct_with, an_apply, an_invert, a_result, proof_tag}
 use Rattle.taking.specs.Tagged.{tagged}
 use Rattle.rules.specs.Forms.{perform}
-use Rattle.sexp.specs.declared.tags.Tag.TheVariants.{Var, Def, Step, Hyp, RuleHyp, Induct, InductWith, Apply, Invert, Outcome, Unknown}
+use Rattle.sexp.specs.declared.tags.Tag.TheVariants.{Var, Def, Step, Hyp, RuleHyp, Induct, InductWith, Apply, Invert, Outcome}
 use Rattle.state.specs.Stands.{board}
 use Rattle.forms.specs.Laws.Declared.{gives_form, gives_var}
 use Rattle.forms.specs.Laws.Assumed.{gives_fact}
@@ -16,14 +16,14 @@ use Rattle.taking.proofs.take.form_items.Goals as goal
 
 pub add_var-r-requires : goal.add_var-r-requires
 add_var-r-requires c = gives_var c.requires.0.stands {which = 3} (omega arith) c.requires.0.holds
-    (form_many c.requires.0.xs a_var (told Var (c.tag_of.ensures c.requires.0.xs c.requires.0.holds) c.in-Var.is))
+    (form_many c.requires.0.xs a_var (told Var (c.in-Some.ensures c.requires.0.xs c.requires.0.holds) c.in-Var.is))
 
 pub declared-requires : goal.declared-requires
 declared-requires c = c.requires.0.stands.spelling.vars.stand.few
 
 pub add_def-r-requires : goal.add_def-r-requires
 add_def-r-requires c = gives_form c.requires.0.stands c.requires.0.holds
-    (form_many c.requires.0.xs a_def (told Def (c.tag_of.ensures c.requires.0.xs c.requires.0.holds) c.in-Def.is))
+    (form_many c.requires.0.xs a_def (told Def (c.in-Some.ensures c.requires.0.xs c.requires.0.holds) c.in-Def.is))
 
 pub defined-requires : goal.defined-requires
 defined-requires c = c.requires.0.stands.spelling.defs.few
@@ -31,7 +31,7 @@ defined-requires c = c.requires.0.stands.spelling.defs.few
 pub step_next-r-requires : goal.step_next-r-requires
 step_next-r-requires c = record {
   adds_instance = stands_instance c.requires.0.stands c.requires.0.holds
-      (form_many c.requires.0.xs a_step (told Step (c.tag_of.ensures c.requires.0.xs c.requires.0.holds) c.in-Step.is));
+      (form_many c.requires.0.xs a_step (told Step (c.in-Some.ensures c.requires.0.xs c.requires.0.holds) c.in-Step.is));
   spare = c.requires.1;
 }
 
@@ -40,14 +40,14 @@ entered-requires c = facts_few c.requires.0.stands
 
 pub hyp_next-r-requires : goal.hyp_next-r-requires
 hyp_next-r-requires c = gives_fact c.requires.0.stands c.requires.0.holds
-    (form_many c.requires.0.xs a_hyp (told Hyp (c.tag_of.ensures c.requires.0.xs c.requires.0.holds) c.in-Hyp.is))
+    (form_many c.requires.0.xs a_hyp (told Hyp (c.in-Some.ensures c.requires.0.xs c.requires.0.holds) c.in-Hyp.is))
 
 pub assumed-requires : goal.assumed-requires
 assumed-requires c = facts_few c.requires.0.stands
 
 pub rule_hyp_next-r-requires : goal.rule_hyp_next-r-requires
 rule_hyp_next-r-requires c = gives_fact c.requires.0.stands c.requires.0.holds
-    (form_many c.requires.0.xs a_rule_hyp (told RuleHyp (c.tag_of.ensures c.requires.0.xs c.requires.0.holds) c.in-RuleHyp.is))
+    (form_many c.requires.0.xs a_rule_hyp (told RuleHyp (c.in-Some.ensures c.requires.0.xs c.requires.0.holds) c.in-RuleHyp.is))
 
 pub assumed-requires-in-RuleHyp : goal.assumed-requires-in-RuleHyp
 assumed-requires-in-RuleHyp c = facts_few c.requires.0.stands
@@ -55,7 +55,7 @@ assumed-requires-in-RuleHyp c = facts_few c.requires.0.stands
 pub induct_next-r-requires : goal.induct_next-r-requires
 induct_next-r-requires c = record {
   adds_derived = stands_form c.requires.0.stands c.requires.0.holds
-      (form_many c.requires.0.xs an_induct (told Induct (c.tag_of.ensures c.requires.0.xs c.requires.0.holds) c.in-Induct.is));
+      (form_many c.requires.0.xs an_induct (told Induct (c.in-Some.ensures c.requires.0.xs c.requires.0.holds) c.in-Induct.is));
   spare = c.requires.1;
 }
 
@@ -65,7 +65,7 @@ entered-requires-in-Induct c = facts_few c.requires.0.stands
 pub induct_with_next-r-requires : goal.induct_with_next-r-requires
 induct_with_next-r-requires c = record {
   adds_derived = stands_form c.requires.0.stands c.requires.0.holds
-      (form_many c.requires.0.xs an_induct_with (told InductWith (c.tag_of.ensures c.requires.0.xs c.requires.0.holds) c.in-InductWith.is));
+      (form_many c.requires.0.xs an_induct_with (told InductWith (c.in-Some.ensures c.requires.0.xs c.requires.0.holds) c.in-InductWith.is));
   spare = c.requires.1;
 }
 
@@ -75,7 +75,7 @@ entered-requires-in-InductWith c = facts_few c.requires.0.stands
 pub apply_next-r-requires : goal.apply_next-r-requires
 apply_next-r-requires c = record {
   adds_derived = stands_form c.requires.0.stands c.requires.0.holds
-      (form_many c.requires.0.xs an_apply (told Apply (c.tag_of.ensures c.requires.0.xs c.requires.0.holds) c.in-Apply.is));
+      (form_many c.requires.0.xs an_apply (told Apply (c.in-Some.ensures c.requires.0.xs c.requires.0.holds) c.in-Apply.is));
   memo_value = c.requires.1.memo_zero;
 }
 
@@ -88,7 +88,7 @@ invert_items-requires c = record {
     c.args.sorts.now,
     c.args.rows.now,
     c.requires.0,
-    (form_many c.requires.0.xs an_invert (told Invert (c.tag_of.ensures c.requires.0.xs c.requires.0.holds) c.in-Invert.is)),
+    (form_many c.requires.0.xs an_invert (told Invert (c.in-Some.ensures c.requires.0.xs c.requires.0.holds) c.in-Invert.is)),
   );
   spare = c.requires.1;
 }
@@ -96,7 +96,7 @@ invert_items-requires c = record {
 pub outcome-r-requires : goal.outcome-r-requires
 outcome-r-requires c = record {
   takes_result = stands_result c.requires.0.stands c.requires.0.holds
-      (form_many c.requires.0.xs a_result (told Outcome (c.tag_of.ensures c.requires.0.xs c.requires.0.holds) c.in-Outcome.is));
+      (form_many c.requires.0.xs a_result (told Outcome (c.in-Some.ensures c.requires.0.xs c.requires.0.holds) c.in-Outcome.is));
   memo_value = c.requires.1.memo_zero;
 }
 
@@ -106,7 +106,7 @@ shape_of-vars-in-Var c = c.add_var-r.auto.vars
 pub returns-in-Var : goal.returns-in-Var
 returns-in-Var c = record {
   tried_as = λ g. var_arm g c.declared.result c.add_var-r.new.vars c.add_var-r.result
-      (told Var (c.tag_of.ensures g.xs g.holds) c.in-Var.is) c.add_var-r.ensures c.declared.ensures;
+      (told Var (c.in-Some.ensures g.xs g.holds) c.in-Var.is) c.add_var-r.ensures c.declared.ensures;
   ids_unchanged = (refl, refl);
 }
 
@@ -123,7 +123,7 @@ pub returns-in-Def : goal.returns-in-Def
 returns-in-Def c = record {
   tried_as = λ g. def_arm g c.defined.result c.add_def-r.new.defs c.add_def-r.new.index
       c.add_def-r.new.words c.add_def-r.result
-      (told Def (c.tag_of.ensures g.xs g.holds) c.in-Def.is) c.add_def-r.ensures c.defined.ensures;
+      (told Def (c.in-Some.ensures g.xs g.holds) c.in-Def.is) c.add_def-r.ensures c.defined.ensures;
   ids_unchanged = (refl, refl);
 }
 
@@ -150,7 +150,7 @@ shape_of-memo-in-Step c = c.step_next-r.auto.memo
 
 pub returns-in-Step : goal.returns-in-Step
 returns-in-Step c = record {
-  tried_as = λ g. step_arm g c.entered.result a_step (told Step (c.tag_of.ensures g.xs g.holds) c.in-Step.is)
+  tried_as = λ g. step_arm g c.entered.result a_step (told Step (c.in-Some.ensures g.xs g.holds) c.in-Step.is)
       c.step_next-r.new.facts c.step_next-r.new.footings
       c.step_next-r.new.lists c.step_next-r.new.index
       c.step_next-r.new.words c.step_next-r.result c.step_next-r.ensures.fact c.entered.ensures;
@@ -171,7 +171,7 @@ shape_of-lists-in-Hyp c = c.hyp_next-r.auto.lists
 
 pub returns-in-Hyp : goal.returns-in-Hyp
 returns-in-Hyp c = record {
-  tried_as = λ g. hyp_arm g c.assumed.result a_hyp (told Hyp (c.tag_of.ensures g.xs g.holds) c.in-Hyp.is)
+  tried_as = λ g. hyp_arm g c.assumed.result a_hyp (told Hyp (c.in-Some.ensures g.xs g.holds) c.in-Hyp.is)
       c.hyp_next-r.new.facts c.hyp_next-r.new.lists
       c.hyp_next-r.new.index c.hyp_next-r.new.words c.hyp_next-r.result
       c.hyp_next-r.ensures c.assumed.ensures;
@@ -192,7 +192,7 @@ shape_of-lists-in-RuleHyp c = c.rule_hyp_next-r.auto.lists
 
 pub returns-in-RuleHyp : goal.returns-in-RuleHyp
 returns-in-RuleHyp c = record {
-  tried_as = λ g. hyp_arm g c.assumed-in-RuleHyp.result a_rule_hyp (told RuleHyp (c.tag_of.ensures g.xs g.holds) c.in-RuleHyp.is)
+  tried_as = λ g. hyp_arm g c.assumed-in-RuleHyp.result a_rule_hyp (told RuleHyp (c.in-Some.ensures g.xs g.holds) c.in-RuleHyp.is)
       c.rule_hyp_next-r.new.facts c.rule_hyp_next-r.new.lists
       c.rule_hyp_next-r.new.index c.rule_hyp_next-r.new.words
       c.rule_hyp_next-r.result c.rule_hyp_next-r.ensures c.assumed-in-RuleHyp.ensures;
@@ -222,7 +222,7 @@ shape_of-memo-in-Induct c = c.induct_next-r.auto.memo
 
 pub returns-in-Induct : goal.returns-in-Induct
 returns-in-Induct c = record {
-  tried_as = λ g. induct_arm g c.entered-in-Induct.result an_induct (told Induct (c.tag_of.ensures g.xs g.holds) c.in-Induct.is)
+  tried_as = λ g. induct_arm g c.entered-in-Induct.result an_induct (told Induct (c.in-Some.ensures g.xs g.holds) c.in-Induct.is)
       c.induct_next-r.new.facts c.induct_next-r.new.footings
       c.induct_next-r.new.lists c.induct_next-r.new.index
       c.induct_next-r.new.words c.induct_next-r.result c.induct_next-r.ensures.fact c.entered-in-Induct.ensures;
@@ -252,7 +252,7 @@ shape_of-memo-in-InductWith c = c.induct_with_next-r.auto.memo
 
 pub returns-in-InductWith : goal.returns-in-InductWith
 returns-in-InductWith c = record {
-  tried_as = λ g. induct_arm g c.entered-in-InductWith.result an_induct_with (told InductWith (c.tag_of.ensures g.xs g.holds) c.in-InductWith.is)
+  tried_as = λ g. induct_arm g c.entered-in-InductWith.result an_induct_with (told InductWith (c.in-Some.ensures g.xs g.holds) c.in-InductWith.is)
       c.induct_with_next-r.new.facts c.induct_with_next-r.new.footings
       c.induct_with_next-r.new.lists c.induct_with_next-r.new.index
       c.induct_with_next-r.new.words c.induct_with_next-r.result c.induct_with_next-r.ensures.fact
@@ -280,7 +280,7 @@ shape_of-memo-in-Apply c = c.apply_next-r.auto.memo
 
 pub returns-in-Apply : goal.returns-in-Apply
 returns-in-Apply c = record {
-  tried_as = λ g. apply_arm g c.entered-in-Apply.result an_apply (told Apply (c.tag_of.ensures g.xs g.holds) c.in-Apply.is)
+  tried_as = λ g. apply_arm g c.entered-in-Apply.result an_apply (told Apply (c.in-Some.ensures g.xs g.holds) c.in-Apply.is)
       c.apply_next-r.new.facts c.apply_next-r.new.footings
       c.apply_next-r.new.lists c.apply_next-r.new.index
       c.apply_next-r.new.words c.apply_next-r.result c.apply_next-r.ensures.fact c.entered-in-Apply.ensures;
@@ -318,7 +318,7 @@ returns-in-Invert c = record {
       c.invert_items.new.words c.args.defs.now c.args.rows.now
       c.invert_items.new.facts c.invert_items.new.footings
       c.invert_items.new.lists)
-      (told Invert (c.tag_of.ensures g.xs g.holds) c.in-Invert.is)
+      (told Invert (c.in-Some.ensures g.xs g.holds) c.in-Invert.is)
       (c.invert_items.ensures.by_index_2 c.args.sorts.now c.args.rows.now g);
   ids_unchanged = c.invert_items.ensures.ids_unchanged;
 }
@@ -339,9 +339,9 @@ pub returns-in-Outcome : goal.returns-in-Outcome
 returns-in-Outcome c = record {
   tried_as = λ g. result_arm g c.resulted.result c.outcome-r.new.index
       c.outcome-r.new.words c.outcome-r.new.rows c.outcome-r.result
-      (told Outcome (c.tag_of.ensures g.xs g.holds) c.in-Outcome.is) c.outcome-r.ensures.fact c.resulted.ensures;
+      (told Outcome (c.in-Some.ensures g.xs g.holds) c.in-Outcome.is) c.outcome-r.ensures.fact c.resulted.ensures;
   ids_unchanged = (refl, c.outcome-r.ensures.memo_after);
 }
 
-pub returns-in-Unknown : goal.returns-in-Unknown
-returns-in-Unknown c = record { tried_as = λ g. none_tried g.stands 30 perform (tagged proof_tag g.xs) g.xs (told Unknown (c.tag_of.ensures g.xs g.holds) c.in-Unknown.is); ids_unchanged = (refl, refl) }
+pub returns-in_default : goal.returns-in_default
+returns-in_default c = record { tried_as = λ g. none_tried g.stands 30 perform (tagged proof_tag g.xs) g.xs (untold (c.in_default.ensures g.xs g.holds)); ids_unchanged = (refl, refl) }

@@ -8,5 +8,5 @@ visit-requires-clause-seen c = seen_none _ _ _ _ _ c.requires.seen_value
 pub returns : goal.returns
 returns c = record {
   joined = c.visit.ensures.set;
-  seen_unchanged = cleared _ c.visit.new.seen _ c.requires.seen_value c.visit.auto.seen c.clear_words.ensures;
+  seen_unchanged = cleared _ c.visit.new.seen _ c.requires.seen_value c.visit.auto.seen c.clear.ensures;
 }

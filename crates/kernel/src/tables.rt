@@ -1,0 +1,60 @@
+// The tables of a theory, lent together with what is used of them.
+ghost use Rattle.std.specs.Prelude.{◌≡◌, ◌≤◌, length};
+ghost use Rattle.kernel.specs.Parsed.{CountsFit, zero_from, wiped};
+ghost use Rattle.kernel.specs.Tables.{lists_of, SameTables};
+
+// What is used: sorts, symbols, rules, and words of the rules' patterns.
+#[derive(Clone, Copy, Debug, PartialEq, Eq)]
+pub struct Counts {
+    pub sorts: usize,
+    pub symbols: usize,
+    pub rules: usize,
+    pub words: usize,
+}
+
+impl Counts {
+    pub const NONE: Counts = Counts {
+        sorts: 0,
+        symbols: 0,
+        rules: 0,
+        words: 0,
+    };
+}
+
+// The six tables. One that is only read is taken as `&mut *` of its field, so that what it holds stays known.
+#[derive(Drop)]
+pub struct Tables<'a> {
+    pub sorts: &'a mut [u32],
+    pub symbols: &'a mut [u32],
+    pub inputs: &'a mut [u32],
+    pub rules: &'a mut [u32],
+    pub vars: &'a mut [u32],
+    pub patterns: &'a mut [u32],
+    pub held: Counts,
+}
+
+// Sets the cells from a place on to zero.
+fn wipe(table: &mut [u32], from: usize)
+    requires { from ≤ length table.old }
+    ensures { table.new ≡ zero_from from table.old }
+{
+    cells::clear(&mut table[from..]);
+}
+
+impl Tables<'_> {
+    // Sets the cells behind what is used to zero.
+    pub fn wipe_behind(&mut self)
+        requires { CountsFit (lists_of self.old) self.old.held }
+        ensures same_tables { SameTables self.old self.new }
+        ensures held_unchanged { self.new.held ≡ self.old.held }
+        ensures wiped { lists_of self.new ≡ wiped (lists_of self.old) self.old.held }
+    {
+        let held = self.held;
+        wipe(self.sorts, 2 * held.sorts);
+        wipe(self.symbols, 4 * held.symbols);
+        wipe(self.inputs, rules::ARGUMENTS * held.symbols);
+        wipe(self.rules, 6 * held.rules);
+        wipe(self.vars, 3 * rules::RULEVARS * held.rules);
+        wipe(self.patterns, held.words);
+    }
+}
