@@ -1,13 +1,12 @@
 // Reads up to 4,096 bytes of a theory from standard input and writes the answer, then the used rows of each table, a row a line.
 #![tactic(auto)]
 
-ghost use Rattle.std.specs.Prelude.{◌<◌, ◌≤◌, length, vec_len, IfOk};
+ghost use Rattle.std.specs.Prelude.{◌<◌, ◌≤◌, length};
 
 use kernel::parse::parse;
 use kernel::tables::{Counts, Tables};
 use questions::Refused;
 use rules::{ARGUMENTS, PATTERNS, RULES, RULEVARS, SORTS, SYMBOLS};
-use std::alloc::Global;
 use std::io::{self, BufWriter, Read, Write};
 
 // How much of the input is read.
@@ -77,20 +76,12 @@ fn show_tables<W: Write>(out: &mut W, tables: &Tables<'_>) -> io::Result<()>
     show_row(out, "patterns", &tables.patterns[..words])
 }
 
-// The standard input, up to so many bytes.
-fn read_input(rt: &impl Input, alloc: Global) -> io::Result<Vec<u8>>
-    ensures { IfOk result (λ text. vec_len text ≤ INPUT) }
-{
-    let mut text = Vec::new(alloc);
-    rt.reader().take(4096).read_to_end(&mut text)?;
-    // no clause says how much a reader gives
-    text.truncate(INPUT);
-    Ok(text)
-}
-
 fn main(rt: HostRuntime) -> io::Result<()> {
     let alloc = rt.alloc();
-    let text = read_input(&rt, alloc)?;
+    let mut text = Vec::new(alloc);
+    rt.reader().take(INPUT as u64).read_to_end(&mut text)?;
+    // no clause says how much a reader gives
+    text.truncate(INPUT);
     let mut cells = vec![in alloc; 0; text.len()]?;
     let mut sorts = vec![in alloc; 0; 2 * SORTS]?;
     let mut symbols = vec![in alloc; 0; 4 * SYMBOLS]?;

@@ -3,13 +3,12 @@
 
 mod items;
 
-ghost use Rattle.std.specs.Prelude.{◌≤◌, length, vec_len, IfOk};
+ghost use Rattle.std.specs.Prelude.{◌≤◌, length};
 ghost use Rattle.rules.specs.Limits.{LENGTH};
 ghost use Rattle.sexp.specs.Reads.{Clear};
 
 use crate::items::{Items, Part};
 use sexp::sexp::{clear, read_form};
-use std::alloc::Global;
 use std::io::{self, BufWriter, Read, Write};
 
 // How much of the input is read.
@@ -59,20 +58,12 @@ fn show_all<W: Write>(out: &mut W, text: &[u8], words: &mut [u32]) -> io::Result
     }
 }
 
-// The standard input, up to so many bytes.
-fn read_input(rt: &impl Input, alloc: Global) -> io::Result<Vec<u8>>
-    ensures { IfOk result (λ text. vec_len text ≤ INPUT) }
-{
-    let mut text = Vec::new(alloc);
-    rt.reader().take(4096).read_to_end(&mut text)?;
-    // no clause says how much a reader gives
-    text.truncate(INPUT);
-    Ok(text)
-}
-
 fn main(rt: HostRuntime) -> io::Result<()> {
     let alloc = rt.alloc();
-    let text = read_input(&rt, alloc)?;
+    let mut text = Vec::new(alloc);
+    rt.reader().take(INPUT as u64).read_to_end(&mut text)?;
+    // no clause says how much a reader gives
+    text.truncate(INPUT);
     let mut words = vec![in alloc; 0; text.len()]?;
     let mut out = BufWriter::new(alloc, io::writer(&rt))?;
     show_all(&mut out, &text, &mut words)?;
