@@ -12,14 +12,6 @@ use std::io::{self, BufWriter, Read, Write};
 // How much of the input is read.
 const INPUT: usize = 4096;
 
-// Nothing is used.
-const NONE: Counts = Counts {
-    sorts: 0,
-    symbols: 0,
-    rules: 0,
-    words: 0,
-};
-
 // Writes how many forms were taken, or the question that was answered by no and the forms before it.
 fn show_answer<W: Write>(out: &mut W, answer: Result<usize, Refused>) -> io::Result<()> {
     match answer {
@@ -96,7 +88,7 @@ fn main(rt: HostRuntime) -> io::Result<()> {
         rules: &mut rules,
         vars: &mut vars,
         patterns: &mut patterns,
-        held: NONE,
+        held: Counts::NONE,
     };
     let mut out = BufWriter::new(alloc, io::writer(&rt))?;
     show_answer(&mut out, parse(&text, &mut cells, &mut tables))?;
