@@ -13,7 +13,7 @@ fn run(rt: &HostRuntime) -> io::Result<()> {
     }
 }
 
-// The status tells nothing, and neither does a line that could not be written.
+// The status is 0 whatever comes, and what cannot be written is left out.
 fn main(rt: HostRuntime) {
     let _ = run(&rt);
 }

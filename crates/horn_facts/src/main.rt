@@ -9,7 +9,13 @@ use tabled::told::tell;
 
 fn write_facts(rt: &HostRuntime, texts: &Texts) -> io::Result<()> {
     let mut out = BufWriter::new(rt.alloc(), rt.stdout())?;
-    tell(rt.alloc(), &texts.theory, &texts.goals, &texts.proof, &mut out)?;
+    tell(
+        rt.alloc(),
+        &texts.theory,
+        &texts.goals,
+        &texts.proof,
+        &mut out,
+    )?;
     out.flush()
 }
 
@@ -20,7 +26,7 @@ fn run(rt: &HostRuntime) -> io::Result<()> {
     }
 }
 
-// The status tells nothing.
+// The status is 0 whatever comes.
 fn main(rt: HostRuntime) {
     if let Err(error) = run(&rt) {
         let _ = eprintln!(rt; "horn_facts: {error}");

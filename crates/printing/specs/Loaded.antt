@@ -1,5 +1,5 @@
 -- What is known of texts that were read. Assumes nothing.
-use Rattle.std.specs.Prelude.{ℕ, ◌≤◌, vec_len}
+use Rattle.std.specs.Prelude.{◌≤◌, vec_len}
 use Rattle.printing.specs.declared.load.Texts.{Texts}
 
 -- none is longer than a text may be, and one byte

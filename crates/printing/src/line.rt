@@ -13,15 +13,22 @@ impl fmt::Display for Line {
 
     fn fmt<W: fmt::Write>(&self, f: &mut fmt::Formatter<W>) -> fmt::Result {
         match self.0 {
-            Answer::Accepted(r) => {
-                write!(f, "(accepted {} {} {}", r.steps, r.goals, r.open_goals)?;
-                write!(f, " {} {}", r.hypotheses, r.inductions)?;
-                write!(f, " {} {})", r.inversions, r.instances)
-            }
-            Answer::Refused(r) => {
-                write!(f, "(refused {} {}", r.number, r.text)?;
-                write!(f, " {} {})", r.form, r.detail)
-            }
+            Answer::Accepted(r) => write!(
+                f,
+                "(accepted {} {} {} {} {} {} {})",
+                r.steps,
+                r.goals,
+                r.open_goals,
+                r.hypotheses,
+                r.inductions,
+                r.inversions,
+                r.instances
+            ),
+            Answer::Refused(r) => write!(
+                f,
+                "(refused {} {} {} {})",
+                r.number, r.text, r.form, r.detail
+            ),
         }
     }
 }

@@ -1,11 +1,10 @@
 // What is recorded, each on its line: facts `(fact INDEX JUDGMENT (HYPOTHESES...) ASSUMED (PREMISES...) (GENERALISED...))`, the rules that each rests on
 // `(footing INDEX RULE...)`, and 53's list, `(missing [N N ..])`.
 use crate::checked::Checked;
-use rules::SYMBOLS;
+use rules::{RULES, SYMBOLS};
 use std::alloc::Global;
-use std::fmt;
-use std::io;
 use std::io::Write;
+use std::{fmt, io};
 
 // What stands before item i of a list: one space between two of them.
 fn gap(i: usize) -> &'static str {
@@ -70,7 +69,7 @@ impl Checked<'_> {
     // A bit of the words is a rule.
     fn write_footing<W: Write>(&self, k: usize, words: &[u64; 4], out: &mut W) -> io::Result<()> {
         write!(out, "(footing {k}")?;
-        for r in 0..256usize {
+        for r in 0..RULES {
             if (words[r / 64] >> (r % 64)) & 1 == 1 {
                 write!(out, " {}", self.rule_name(r))?;
             }

@@ -5,10 +5,9 @@ ghost use Rattle.printing.specs.Loaded.{AreShort};
 use std::alloc::AllocError;
 use std::env::{Env, FillError};
 use std::fmt::InlineText;
-use std::fs;
-use std::io;
 use std::io::{Error, Read, Write};
 use std::rt::Files;
+use std::{fs, io};
 
 // Bytes that are read of a text: one more than it may have, so that a longer one is refused.
 const TEXT: usize = rules::LENGTH + 1;

@@ -37,13 +37,23 @@ pub fn is_as_expected(alloc: Global, case: &Case) -> io::Result<bool> {
     let mut wanted = Vec::from_slice(alloc, &case.answer)?;
     wanted.push(b'\n')?;
     if !is_stored(&case.recorded) {
-        let mut out = Expected { rest: &wanted, same: true };
-        writeln!(out, "{}", Line(answer(&case.theory, &case.goals, &case.proof)))?;
+        let mut out = Expected {
+            rest: &wanted,
+            same: true,
+        };
+        writeln!(
+            out,
+            "{}",
+            Line(answer(&case.theory, &case.goals, &case.proof))
+        )?;
         return Ok(out.same && out.rest.is_empty());
     }
     wanted.extend_from_slice(&case.recorded)?;
     wanted.extend_from_slice(b"(missing [")?;
-    let mut out = Expected { rest: &wanted, same: true };
+    let mut out = Expected {
+        rest: &wanted,
+        same: true,
+    };
     tell(alloc, &case.theory, &case.goals, &case.proof, &mut out)?;
     Ok(out.same && out.rest.is_empty())
 }

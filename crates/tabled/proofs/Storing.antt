@@ -1,9 +1,9 @@
 -- The loop that writes records as rows and words: the first i of them stand in front, and behind them is what was there. Assumes nothing.
-use mathlib.Core.Path.{◌≡◌, refl, sym, ap, ◌∙◌, subst}
+use mathlib.Core.Path.{◌≡◌, refl, ap, ◌∙◌, subst}
 use Prim.Native.Nat.{ℕ, ◌+◌, ◌*◌, ◌<◌, ◌≤◌}
 use native.Mathlib.Omega.{arith}
 use mathlib.Core.List.{List, ◌++◌}
-use lib.ListN.{length, get_or, take, drop, replicate, length-replicate}
+use lib.ListN.{length, get_or, take, drop, replicate}
 use lib.Seq.{sets, take_all}
 use Rattle.std.proofs.lemmas.List.{get_or_default}
 use Rattle.rules.specs.Limits.{FACTS}

@@ -20,3 +20,30 @@ pub fn tell<W: Write>(
         .view(theory, goals, proof, answer)
         .write_recorded(alloc, out)
 }
+
+#[cfg(test)]
+mod tests {
+    use super::tell;
+    use std::io;
+
+    const THEORY: &[u8] =
+        b"(sort Pass) (ctor first () Pass) (ctor renew (Pass) Pass) (pred Child (Pass)) \
+        (rule c0 () (Child first)) (rule c1 ((Child ?p)) (Child (renew ?p)))";
+
+    const GOALS: &[u8] = b"(var x Pass) (goal g (Child x))";
+
+    const PROOF: &[u8] = b"(var y Pass) (step 0 c0 ()) (hyp 1 (Child y)) (step 2 c1 (1)) \
+        (induct 3 x (Child x) ((0) (2 y))) (result g 3)";
+
+    #[test]
+    fn tells_facts(rt: HostRuntime) -> io::Result<()> {
+        let mut out = Vec::new(rt.alloc());
+        tell(rt.alloc(), THEORY, GOALS, PROOF, &mut out)?;
+        let said = str::from_utf8(&out).unwrap_or("");
+        let mut lines = said.lines();
+        assert_eq!(rt; lines.next(), Some("(accepted 4 1 1 1 1 0 0)"));
+        assert_eq!(rt; lines.next(), Some("(fact 0 (Child first) () 0 () ())"));
+        assert_eq!(rt; lines.last(), Some("(missing [])"));
+        Ok(())
+    }
+}
