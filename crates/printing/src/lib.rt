@@ -3,8 +3,8 @@
 
 pub mod checked;
 pub mod line;
-pub mod listing;
+mod listing;
 pub mod load;
-pub mod names;
-pub mod recorded;
-pub mod spelling;
+mod names;
+mod recorded;
+mod spelling;

@@ -39,7 +39,7 @@ impl From<AllocError> for LoadError {
 }
 
 impl LoadError {
-    // The message for standard error of the program of this name.
+    // The message for standard error of the program of this name. It is no `Display`, since a file's name may not be text.
     pub fn write<W: Write>(self, program: &str, out: &mut W) -> io::Result<()> {
         match self {
             LoadError::Usage => writeln!(out, "usage: {program} THEORY GOALS PROOF"),
@@ -86,7 +86,7 @@ fn read_named<R: Files + AllocGlobal>(rt: &R, name: Vec<u8>) -> Result<Vec<u8>, 
     }
 }
 
-// What argument i says.
+// What argument i says. It is bytes, since a name that is not UTF-8 is named in the message.
 fn argument<R: Env + AllocGlobal>(rt: &R, i: usize) -> Result<Vec<u8>, LoadError> {
     let mut name = [0u8; 4096];
     match rt.arg(i, &mut name) {

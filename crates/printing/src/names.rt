@@ -8,7 +8,7 @@ use std::fmt;
 
 // A name of a text, or the number of a variable that was made.
 #[derive(Clone, Copy)]
-pub enum Name<'a> {
+pub(crate) enum Name<'a> {
     Written(&'a str),
     Made(usize),
 }
@@ -33,7 +33,7 @@ fn part(text: &[u8], from: u32, to: u32) -> &str {
 }
 
 impl<'a> Checked<'a> {
-    pub fn rule_name(&self, rule: usize) -> &'a str {
+    pub(crate) fn rule_name(&self, rule: usize) -> &'a str {
         match self.rules.get(rule) {
             Some(row) => part(self.theory, row[0], row[1]),
             None => "?",
@@ -41,7 +41,7 @@ impl<'a> Checked<'a> {
     }
 
     // A head is a symbol's number, or SYMBOLS and a variable's.
-    pub fn head_name(&self, head: usize) -> Name<'a> {
+    pub(crate) fn head_name(&self, head: usize) -> Name<'a> {
         if head < SYMBOLS {
             return Name::Written(match self.symbols.get(head) {
                 Some(row) => part(self.theory, row[2], row[3]),
@@ -64,7 +64,7 @@ impl<'a> Checked<'a> {
         }
     }
 
-    pub fn is_predicate(&self, head: usize) -> bool {
+    pub(crate) fn is_predicate(&self, head: usize) -> bool {
         self.symbols.get(head).is_some_and(|row| row[0] == 0)
     }
 }

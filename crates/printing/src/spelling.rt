@@ -58,7 +58,12 @@ impl<'a> Checked<'a> {
         write!(out, "({name}")
     }
 
-    pub fn write_term<W: Write>(&self, alloc: Global, term: u32, out: &mut W) -> io::Result<()> {
+    pub(crate) fn write_term<W: Write>(
+        &self,
+        alloc: Global,
+        term: u32,
+        out: &mut W,
+    ) -> io::Result<()> {
         let mut waiting = Vec::new(alloc);
         let mut out = Counted { out, left: BYTES };
         self.open(term, &mut waiting, &mut out)?;

@@ -9,7 +9,7 @@ ghost use Rattle.running.specs.Lent.{working, fact_row, fact_foot, fact_rows, fa
 ghost use Rattle.tabled.specs.Tabled.{Tabled};
 
 pub mod answers;
-pub mod tables;
+mod tables;
 pub mod told;
 
 use facts::{Fact, blank_fact};

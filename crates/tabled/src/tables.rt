@@ -8,26 +8,26 @@ use printing::checked::Checked;
 use running::finish::Answer;
 
 #[derive(Drop)]
-pub struct Tables {
-    pub sorts: [u32; 2 * rules::SORTS],
-    pub symbols: [u32; 4 * rules::SYMBOLS],
-    pub inputs: [u32; rules::ARGUMENTS * rules::SYMBOLS],
-    pub rules: [u32; 6 * rules::RULES],
-    pub rulevars: [u32; 3 * rules::RULEVARS * rules::RULES],
-    pub patterns: [u32; rules::PATTERNS],
-    pub vars: [u32; 4 * rules::VARIABLES],
-    pub index: [u32; 4 * rules::TERMS],
-    pub words: [u32; rules::WORDS],
-    pub defs: [u32; 3 * rules::DEFS],
-    pub rows: [u32; 6 * rules::GOALS],
-    pub lists: [u32; rules::ENTRIES],
-    pub missing: [u32; rules::GOALS],
-    pub facts: [u32; 6 * rules::FACTS],
-    pub footings: [u64; 4 * rules::FACTS],
+pub(crate) struct Tables {
+    sorts: [u32; 2 * rules::SORTS],
+    symbols: [u32; 4 * rules::SYMBOLS],
+    inputs: [u32; rules::ARGUMENTS * rules::SYMBOLS],
+    rules: [u32; 6 * rules::RULES],
+    rulevars: [u32; 3 * rules::RULEVARS * rules::RULES],
+    patterns: [u32; rules::PATTERNS],
+    vars: [u32; 4 * rules::VARIABLES],
+    index: [u32; 4 * rules::TERMS],
+    words: [u32; rules::WORDS],
+    defs: [u32; 3 * rules::DEFS],
+    rows: [u32; 6 * rules::GOALS],
+    lists: [u32; rules::ENTRIES],
+    missing: [u32; rules::GOALS],
+    facts: [u32; 6 * rules::FACTS],
+    footings: [u64; 4 * rules::FACTS],
 }
 
 impl Tables {
-    pub fn new() -> Tables {
+    pub(crate) fn new() -> Tables {
         Tables {
             sorts: [0; 2 * rules::SORTS],
             symbols: [0; 4 * rules::SYMBOLS],
@@ -48,7 +48,7 @@ impl Tables {
     }
 
     // The answer is the definition's, whatever stood in the tables.
-    pub fn check(&mut self, theory: &[u8], goals: &[u8], proof: &[u8]) -> Answer
+    pub(crate) fn check(&mut self, theory: &[u8], goals: &[u8], proof: &[u8]) -> Answer
         ensures { answer_of result ≡ (check theory.now goals.now proof.now).answer }
     {
         check_rows(
@@ -73,7 +73,7 @@ impl Tables {
         )
     }
     // What a check of these texts left, with this answer.
-    pub fn view<'a>(
+    pub(crate) fn view<'a>(
         &'a self,
         theory: &'a [u8],
         goals: &'a [u8],
