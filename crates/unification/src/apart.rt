@@ -5,7 +5,7 @@ ghost use Rattle.terms.specs.Table.{made, tree};
 ghost use Rattle.unification.specs.Unify.{Unifiable};
 ghost use Rattle.unification.specs.Apart.{UnifiedBy};
 
-use crate::unify;
+use crate::unify::{self, Scratch};
 use terms::store::{Mark, Store};
 
 // Bindings are found; no unifier exists; or the row that has no room. What is used of the store then.
@@ -36,7 +36,13 @@ pub fn unify(
     ensures map_unchanged { (map.new ≡ map.old) × (memo.new ≡ memo.old) × (pairs.new ≡ pairs.old) × (seen.new ≡ seen.old) }
 {
     let mut store = Store { index, words, mark };
-    match unify::unify(&mut store, count, s, t, theta, map, memo, pairs, seen) {
+    let mut scratch = Scratch {
+        map,
+        memo,
+        pairs,
+        seen,
+    };
+    match unify::unify(&mut store, count, s, t, theta, &mut scratch) {
         Ok(true) => Unified::Found(store.mark),
         Ok(false) => Unified::Apart(store.mark),
         Err(row) => Unified::Full(row.number(), store.mark),

@@ -12,7 +12,7 @@ use Rattle.terms.specs.Theta.{bindings}
 use Rattle.unification.specs.Unify.{Unifiable, Solved, Unsolved}
 
 module _ {I W J X : List ℕ} {m new : Mark} {count s t : ℕ} {theta map memo pairs seen theta' : List ℕ} (q : Unifiable I W m count s t theta map memo pairs seen) where
-  -- where `unify` answers Apart, no replacement makes the terms equal
+  -- where `unify` answers `Ok(false)`, no replacement makes the terms equal
   pub apart_none : Unsolved I W J X m theta' (unify count (tree I W m s) (tree I W m t) (made I W m)) new → (σ : ℕ → Tree) → sub σ (tree I W m s) ≡ sub σ (tree I W m t) → ⊥
   apart_none u σ e =
       unify_complete count (tree I W m s) (tree I W m t) (made I W m) (made J X new)
