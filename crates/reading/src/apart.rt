@@ -3,7 +3,7 @@ ghost use Rattle.std.specs.Prelude.{◌≡◌, List, [], length, replicate};
 ghost use Rattle.rules.specs.Limits.{FACTWORDS, VARIABLES};
 ghost use Rattle.rules.specs.Sexp.{Sexp, Sexps, cons};
 ghost use Rattle.rules.specs.State.{Var, is_plain};
-ghost use Rattle.rules.specs.Read.{judgments};
+ghost use Rattle.rules.specs.Read.{term, term_of, judgment, judgments};
 ghost use Rattle.rules.specs.Reference.{bindings};
 ghost use Rattle.sexp.specs.Items.{Holds};
 ghost use Rattle.terms.specs.Table.{made};
@@ -12,7 +12,7 @@ ghost use Rattle.state.specs.Rows.{SomeVars};
 ghost use Rattle.reading.specs.Items.{FirstItem, variable_in};
 ghost use Rattle.reading.specs.Given.{FactsItem, VarsItem, ReadsItem, ReadsItems};
 ghost use Rattle.reading.specs.Answers.{VarsAs};
-ghost use Rattle.reading.specs.Apart.{JudgmentsAs, HypsAs, BindingsAs};
+ghost use Rattle.reading.specs.Apart.{ReadAs, TypedAs, JudgmentsAs, HypsAs, BindingsAs};
 
 use crate::hyps;
 use crate::reader::Reader;
@@ -45,6 +45,116 @@ pub enum Listed {
 pub enum Bound {
     Ok(Mark),
     No(usize, usize, Mark),
+}
+
+// The term that the first item spells.
+pub fn term(
+    theory: &[u8],
+    goals: &[u8],
+    text: &[u8],
+    symbols: &[u32],
+    inputs: &[u32],
+    vars: &[u32],
+    defs: &[u32],
+    n: Sizes,
+    index: &mut [u32],
+    words: &mut [u32],
+    mark: Mark,
+    cells: &[u32],
+    sort: usize,
+) -> Typed
+    requires { ReadsItem (names theory.now goals.now text.now symbols.now inputs.now vars.now defs.now) n index.old words.old mark cells.now }
+    ensures { (g : ReadsItem (names theory.now goals.now text.now symbols.now inputs.now vars.now defs.now) n index.old words.old mark cells.now) →
+        TypedAs index.old words.old index.new words.new mark g.S sort (term g.S g.x (made index.old words.old mark)) result }
+{
+    let reader = Reader {
+        theory,
+        goals,
+        text,
+        symbols,
+        inputs,
+        vars,
+        defs,
+        n,
+    };
+    let mut store = Store { index, words, mark };
+    match reader.term(&mut store, cells, sort) {
+        Ok(typed) => Typed::Term(typed.term, typed.fits, store.mark),
+        Err(question) => Typed::No(question.number(), question.detail(), store.mark),
+    }
+}
+
+// The term of that sort that the first item spells.
+pub fn term_of(
+    theory: &[u8],
+    goals: &[u8],
+    text: &[u8],
+    symbols: &[u32],
+    inputs: &[u32],
+    vars: &[u32],
+    defs: &[u32],
+    n: Sizes,
+    index: &mut [u32],
+    words: &mut [u32],
+    mark: Mark,
+    cells: &[u32],
+    sort: usize,
+) -> Out
+    requires { ReadsItem (names theory.now goals.now text.now symbols.now inputs.now vars.now defs.now) n index.old words.old mark cells.now }
+    ensures { (g : ReadsItem (names theory.now goals.now text.now symbols.now inputs.now vars.now defs.now) n index.old words.old mark cells.now) →
+        ReadAs index.old words.old index.new words.new mark (term_of g.S g.x sort (made index.old words.old mark)) result }
+{
+    let reader = Reader {
+        theory,
+        goals,
+        text,
+        symbols,
+        inputs,
+        vars,
+        defs,
+        n,
+    };
+    let mut store = Store { index, words, mark };
+    match reader.term_of(&mut store, cells, sort) {
+        Ok(id) => Out::Ok(id, store.mark),
+        Err(question) => Out::No(question.number(), question.detail(), store.mark),
+    }
+}
+
+// The judgment that the first item spells.
+pub fn judgment(
+    theory: &[u8],
+    goals: &[u8],
+    text: &[u8],
+    symbols: &[u32],
+    inputs: &[u32],
+    vars: &[u32],
+    defs: &[u32],
+    n: Sizes,
+    index: &mut [u32],
+    words: &mut [u32],
+    mark: Mark,
+    cells: &[u32],
+) -> Out
+    requires { ReadsItem (names theory.now goals.now text.now symbols.now inputs.now vars.now defs.now) n index.old words.old mark cells.now }
+    ensures { (g : ReadsItem (names theory.now goals.now text.now symbols.now inputs.now vars.now defs.now) n index.old words.old mark cells.now) →
+        ReadAs index.old words.old index.new words.new mark (judgment g.S g.x (made index.old words.old mark)) result }
+{
+    let reader = Reader {
+        theory,
+        goals,
+        text,
+        symbols,
+        inputs,
+        vars,
+        defs,
+        n,
+    };
+    let mut store = Store { index, words, mark };
+    match reader.judgment(&mut store, cells) {
+        Ok(id) => Out::Ok(id, store.mark),
+        Err(question) => Out::No(question.number(), question.detail(), store.mark),
+    }
 }
 
 const NONE: Sizes = Sizes {

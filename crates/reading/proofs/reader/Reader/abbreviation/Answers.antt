@@ -1,5 +1,5 @@
 use Rattle.reading.proofs.Leaves.{def_known, def_typed, def_none}
-use Rattle.reading.proofs.term.abbreviation.Goals as goal
+use Rattle.reading.proofs.reader.Reader.abbreviation.Goals as goal
 
 pub returns-in_default : goal.returns-in_default
 returns-in_default c = λ g. def_none g c.args.name.now c.def_named.result (c.def_named.ensures _ _ g.defs_are) c.in_default.is

@@ -1,7 +1,7 @@
 use native.Mathlib.Omega.{arith}
 use Rattle.sexp.specs.AtomText.{atom_high}
 use Rattle.reading.proofs.TermHeads.{head, symbols_named, compound_empty, compound_nested, compound_missing, compound_single, compound_opened}
-use Rattle.reading.proofs.term.constructor_first.Goals as goal
+use Rattle.reading.proofs.reader.Reader.constructor_first.Goals as goal
 
 pub returns-then-cells-eq0 : goal.returns-then-cells-eq0
 returns-then-cells-eq0 c = λ g. compound_empty g c.if-cells-eq0.true
@@ -12,8 +12,8 @@ returns-in_default c = λ g. compound_nested g c.if-cells-eq0.false c.item_at.en
 pub atom_end-end-requires : goal.atom_end-end-requires
 atom_end-end-requires c = omega (arith, (head c.requires c.if-cells-eq0.false c.item_at.ensures c.in-Atom.is).inside)
 
-pub slice_bounds-constructor_named-end : goal.slice_bounds-constructor_named-end
-slice_bounds-constructor_named-end c = atom_high c.args.text.now c.in-Atom.start c.atom_end-end.result
+pub slice_bounds-name-end : goal.slice_bounds-name-end
+slice_bounds-name-end c = atom_high c.args.self.now.text.now c.in-Atom.start c.atom_end-end.result
     (head c.requires c.if-cells-eq0.false c.item_at.ensures c.in-Atom.is).inside c.atom_end-end.ensures
 
 pub constructor_named-requires : goal.constructor_named-requires

@@ -1,13 +1,9 @@
-use Prim.Native.Nat.{◌*◌}
 use native.Mathlib.Omega.{arith}
 use Rattle.reading.proofs.Leaves.{sort_place, sort_app, sort_asks, sort_var}
-use Rattle.reading.proofs.term.sort_of.Goals as goal
+use Rattle.reading.proofs.reader.Reader.sort_of.Goals as goal
 
-pub bounds-symbols-word : goal.bounds-symbols-word
-bounds-symbols-word c = sort_place c.requires _ c.head-word.ensures c.if-word-lt-SYMBOLS.true
-
-pub overflow_cast-result : goal.overflow_cast-result
-overflow_cast-result c = omega (arith, c.type_inv.symbols (4 * c.head-word.result))
+pub bounds-self-word : goal.bounds-self-word
+bounds-self-word c = sort_place c.requires _ c.head-word.ensures c.if-word-lt-SYMBOLS.true
 
 pub returns-then-word-lt-SYMBOLS : goal.returns-then-word-lt-SYMBOLS
 returns-then-word-lt-SYMBOLS c = λ g. sort_app g _ c.head-word.ensures c.if-word-lt-SYMBOLS.true

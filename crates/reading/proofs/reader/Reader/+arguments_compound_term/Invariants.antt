@@ -1,9 +1,10 @@
 use Prim.Native.Nat.{◌+◌, ◌-◌, ◌*◌}
 use lib.ListN.{length}
-use Rattle.state.specs.Held.{names}
+use Rattle.terms.specs.Lent.{SameTables}
+use Rattle.reading.specs.Reader.{names_of}
 use Rattle.reading.specs.Given.{ReadsItems}
 use Rattle.reading.proofs.TermArguments.{Going}
-use Rattle.reading.proofs.term.+arguments_compound_term.Given as goal
+use Rattle.reading.proofs.reader.Reader.+arguments_compound_term.Given as goal
 
 abbrev pub decreases-arguments : goal.decreases-arguments
 decreases-arguments l = 2 * length l.cells.now + 1
@@ -15,8 +16,12 @@ abbrev pub decreases-term : goal.decreases-term
 decreases-term l = 2 * length l.cells.now
 
 abbrev pub invariant-arguments-loop-at : goal.invariant-arguments-loop-at
-invariant-arguments-loop-at l = (g : ReadsItems (names l.theory l.goals l.text l.symbols l.inputs l.vars l.defs) l.n l.initial.index l.initial.words l.initial.m l.cells) →
-    Going (names l.theory l.goals l.text l.symbols l.inputs l.vars l.defs) l.n l.initial.index l.initial.words l.initial.m l.cells l.c l.count g.S g.xs l.index l.words l.node l.m l.at l.k l.fits
+invariant-arguments-loop-at l = record {
+  same : SameTables l.initial.store l.store;
+  going : (g : ReadsItems (names_of l.self) l.self.n l.initial.store.index.now l.initial.store.words.now l.initial.store.mark l.cells) →
+      Going (names_of l.self) l.self.n l.initial.store.index.now l.initial.store.words.now l.initial.store.mark l.cells l.c l.count g.S g.xs
+      l.store.index.now l.store.words.now l.node l.store.mark l.at l.k l.fits;
+}
 
 abbrev pub decreases-arguments-loop-at : goal.decreases-arguments-loop-at
 decreases-arguments-loop-at l = length l.cells - l.at
