@@ -56,11 +56,11 @@ term_of-requires c = second_given c.requires (binding_two c.requires c.item_at.e
 pub returns-in_err-term-clause-pair_as : goal.returns-in_err-term-clause-pair_as
 returns-in_err-term-clause-pair_as c = λ g. rw (handed c.from_residual-in_err-term.result c.from_residual-in_err-term.ensures)
     (binding_refused g (binding_two g c.item_at.ensures c.in-List.is c.count.ensures c.if-count-ne2.false) c.variable.ensures (there _ _ c.ok_or.ensures.ok_part c.in_ok-variable.was)
-    c.after-next.ensures c.var_sort.ensures _ _ _ _ c.term_of.ensures.read c.in_err-term.was)
+    c.after-next.ensures c.var_sort.ensures _ _ _ _ c.term_of.ensures.read_as c.in_err-term.was)
 
 pub returns-clause-pair_as : goal.returns-clause-pair_as
 returns-clause-pair_as c = λ g. binding_read g (binding_two g c.item_at.ensures c.in-List.is c.count.ensures c.if-count-ne2.false) c.variable.ensures (there _ _ c.ok_or.ensures.ok_part c.in_ok-variable.was)
-    c.after-next.ensures c.var_sort.ensures _ _ _ _ c.term_of.ensures.read c.in_ok-term.was
+    c.after-next.ensures c.var_sort.ensures _ _ _ _ c.term_of.ensures.read_as c.in_ok-term.was
 
 pub offset_bounds-cells-a : goal.offset_bounds-cells-a
 offset_bounds-cells-a c = omega (

@@ -15,12 +15,12 @@ pub put_within-requires : goal.put_within-requires
 put_within-requires c = omega (
   arith,
   judging_small (c.loop-at.invariant.judging c.requires.reads_items) c.loop-at-test.true
-      (judging_ok (c.loop-at.invariant.judging c.requires.reads_items) c.loop-at-test.true _ _ _ _ c.judgment.ensures.read c.in_ok-t.was),
+      (judging_ok (c.loop-at.invariant.judging c.requires.reads_items) c.loop-at-test.true _ _ _ _ c.judgment.ensures.read_as c.in_ok-t.was),
 )
 
 pub returns-in_err-t-clause-judgments_as : goal.returns-in_err-t-clause-judgments_as
 returns-in_err-t-clause-judgments_as c = λ g. rw (handed c.from_residual.result c.from_residual.ensures)
-    (judging_err (c.loop-at.invariant.judging g) c.loop-at-test.true _ _ _ _ c.judgment.ensures.read c.in_err-t.was, refl)
+    (judging_err (c.loop-at.invariant.judging g) c.loop-at-test.true _ _ _ _ c.judgment.ensures.read_as c.in_err-t.was, refl)
 
 pub overflow_add-k : goal.overflow_add-k
 overflow_add-k c = omega (arith, (c.loop-at.invariant.judging c.requires.reads_items).short, c.loop-at-test.true)
@@ -33,7 +33,7 @@ loop-at-preserved c = record {
   tables = (c.judgment.ensures.same_tables.0 ∙ c.loop-at.invariant.tables.0, c.judgment.ensures.same_tables.1 ∙ c.loop-at.invariant.tables.1);
   long = c.put_within.auto.out ∙ c.loop-at.invariant.long;
   judging = λ g. judging_more (c.loop-at.invariant.judging g) c.loop-at-test.true
-      (judging_ok (c.loop-at.invariant.judging g) c.loop-at-test.true _ _ _ _ c.judgment.ensures.read c.in_ok-t.was) c.put_within.ensures c.after-at.ensures;
+      (judging_ok (c.loop-at.invariant.judging g) c.loop-at-test.true _ _ _ _ c.judgment.ensures.read_as c.in_ok-t.was) c.put_within.ensures c.after-at.ensures;
 }
 
 pub returns-clause-judgments_as : goal.returns-clause-judgments_as
