@@ -13,3 +13,4 @@ pub mod TermBehind
 pub mod TermItems
 pub mod TermSorted
 pub mod Numbered
+pub mod Missing

@@ -37,9 +37,7 @@ impl Reader<'_> {
         if items::count(inner) != 2 {
             return Err(Question::Binding);
         }
-        let Some(variable) = self.variable(inner) else {
-            return Err(Question::Binding);
-        };
+        let variable = self.variable(inner).ok_or(Question::Binding)?;
         let next = items::after(inner, 0);
         let term = self.term_of(store, &inner[next..], var_sort(self.vars, variable))?;
         Ok(Pair { variable, term })

@@ -44,9 +44,7 @@ fn hyp_each(
     // items are of different widths
     let mut at = 0;
     while at < cells.len() {
-        let Some(i) = index(text, &cells[at..]) else {
-            return Err(Question::Earlier);
-        };
+        let i = index(text, &cells[at..]).ok_or(Question::Earlier)?;
         if !is_fact(n, i) {
             return Err(Question::Earlier);
         }
