@@ -1,2 +1,2 @@
 -- Laws on which the proofs of the program stand.
-pub mod Rooms
+pub mod Words

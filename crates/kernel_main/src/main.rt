@@ -1,101 +1,97 @@
 // Reads up to 4,096 bytes of a theory from standard input and writes the answer, then the used rows of each table, a row a line.
 #![tactic(auto)]
 
-ghost use Rattle.kernel.specs.Parsed.{Roomy};
-ghost use Rattle.kernel.specs.Tables.{lists_of};
-ghost use Rattle.sexp.specs.Through.{Legible};
-ghost use Rattle.std.specs.Prelude.{◌<◌};
+ghost use Rattle.std.specs.Prelude.{◌<◌, ◌≤◌, length};
 
 use kernel::parse::parse;
 use kernel::tables::{Counts, Tables};
 use questions::Refused;
+use rules::{ARGUMENTS, PATTERNS, RULES, RULEVARS, SORTS, SYMBOLS};
+use std::io::{self, BufWriter, Read, Write};
 
-// Writes a space and a number.
-fn show_number(n: usize) {
-    io::write_all(1, b" ");
-    io::print_decimal(1, n as u64);
+// How much of the input is read.
+const INPUT: usize = 4096;
+
+// Writes how many forms were taken, or the question that was answered by no and the forms before it.
+fn show_answer<W: Write>(out: &mut W, answer: Result<usize, Refused>) -> io::Result<()> {
+    match answer {
+        Ok(forms) => write!(out, "done {forms}"),
+        Err(Refused { question, form }) => {
+            let number = question.number();
+            let detail = question.detail();
+            write!(out, "refused {number} {detail} {form}")
+        }
+    }
 }
 
-// Writes a name, the cells of a row behind it, and the end of the line.
-fn show_row(name: &[u8], row: &[u32]) {
-    io::write_all(1, name);
+// Writes a name and the cells of a row behind it.
+fn show_row<W: Write>(out: &mut W, name: &str, row: &[u32]) -> io::Result<()> {
+    write!(out, "{name}")?;
     for cell in row {
-        show_number(*cell as usize);
+        write!(out, " {cell}")?;
     }
-    io::write_all(1, b"\n");
+    writeln!(out)
 }
 
 // Writes the first rows of a table.
-fn show_rows(name: &[u8], table: &[u32], width: usize, count: usize)
+fn show_rows<W: Write>(
+    out: &mut W,
+    name: &str,
+    table: &[u32],
+    width: usize,
+    count: usize,
+) -> io::Result<()>
     requires { 0 < width }
 {
     for row in table.chunks_exact(width).take(count) {
-        show_row(name, row);
+        show_row(out, name, row)?;
     }
+    Ok(())
 }
 
-// Writes the number of forms, or the refusal.
-fn show_answer(answer: Result<usize, Refused>) {
-    match answer {
-        Ok(forms) => {
-            io::write_all(1, b"done");
-            show_number(forms);
-        }
-        Err(refused) => {
-            io::write_all(1, b"refused");
-            show_number(refused.question.number());
-            show_number(refused.question.detail());
-            show_number(refused.form);
-        }
-    }
-}
-
-// Writes what is used, and the end of the line.
-fn show_counts(held: Counts) {
-    show_number(held.sorts);
-    show_number(held.symbols);
-    show_number(held.rules);
-    show_number(held.words);
-    io::write_all(1, b"\n");
-}
-
-// Writes the used rows of the tables; the words of all patterns are one row.
-fn show_tables(tables: &Tables<'_>) {
-    let held = tables.held;
-    show_rows(b"sort", tables.sorts, 2, held.sorts);
-    show_rows(b"symbol", tables.symbols, 4, held.symbols);
-    show_rows(b"inputs", tables.inputs, rules::ARGUMENTS, held.symbols);
-    show_rows(b"rule", tables.rules, 6, held.rules);
-    show_rows(b"variables", tables.vars, 3 * rules::RULEVARS, held.rules);
-    if let Some(words) = tables.patterns.get(..held.words) {
-        show_row(b"patterns", words);
-    }
-}
-
-// Reads a theory into the tables and writes them.
-fn run(text: &[u8], cells: &mut [u32], tables: &mut Tables<'_>)
-    requires legible { Legible text.now cells.old }
-    requires roomy { Roomy (lists_of tables.old) }
+// Writes what is used of the tables; the words of all patterns are one row.
+fn show_tables<W: Write>(out: &mut W, tables: &Tables<'_>) -> io::Result<()>
+    requires { tables.now.held.words ≤ length tables.now.patterns.now }
 {
-    let answer = parse(text, cells, tables);
-    show_answer(answer);
-    show_counts(tables.held);
-    show_tables(tables);
+    let Counts {
+        sorts,
+        symbols,
+        rules,
+        words,
+    } = tables.held;
+    writeln!(out, " {sorts} {symbols} {rules} {words}")?;
+    show_rows(out, "sort", tables.sorts, 2, sorts)?;
+    show_rows(out, "symbol", tables.symbols, 4, symbols)?;
+    show_rows(out, "inputs", tables.inputs, ARGUMENTS, symbols)?;
+    show_rows(out, "rule", tables.rules, 6, rules)?;
+    show_rows(out, "variables", tables.vars, 3 * RULEVARS, rules)?;
+    show_row(out, "patterns", &tables.patterns[..words])
 }
 
-fn main() {
-    let mut text = io::buffer();
-    let n = io::read_full(0, &mut text);
-    // a cell for each byte of the buffer
-    let mut cells = [0u32; 4096];
+fn main(rt: HostRuntime) -> io::Result<()> {
+    let alloc = rt.alloc();
+    let mut text = Vec::new(alloc);
+    rt.reader().take(INPUT as u64).read_to_end(&mut text)?;
+    // no clause says how much a reader gives
+    text.truncate(INPUT);
+    let mut cells = vec![in alloc; 0; text.len()]?;
+    let mut sorts = vec![in alloc; 0; 2 * SORTS]?;
+    let mut symbols = vec![in alloc; 0; 4 * SYMBOLS]?;
+    let mut inputs = vec![in alloc; 0; ARGUMENTS * SYMBOLS]?;
+    let mut rules = vec![in alloc; 0; 6 * RULES]?;
+    let mut vars = vec![in alloc; 0; 3 * RULEVARS * RULES]?;
+    let mut patterns = vec![in alloc; 0; PATTERNS]?;
     let mut tables = Tables {
-        sorts: &mut [0u32; 2 * rules::SORTS],
-        symbols: &mut [0u32; 4 * rules::SYMBOLS],
-        inputs: &mut [0u32; rules::ARGUMENTS * rules::SYMBOLS],
-        rules: &mut [0u32; 6 * rules::RULES],
-        vars: &mut [0u32; 3 * rules::RULEVARS * rules::RULES],
-        patterns: &mut [0u32; rules::PATTERNS],
+        sorts: &mut sorts,
+        symbols: &mut symbols,
+        inputs: &mut inputs,
+        rules: &mut rules,
+        vars: &mut vars,
+        patterns: &mut patterns,
         held: Counts::NONE,
     };
-    run(&text[..n], &mut cells, &mut tables);
+    let mut out = BufWriter::new(alloc, io::writer(&rt))?;
+    show_answer(&mut out, parse(&text, &mut cells, &mut tables))?;
+    show_tables(&mut out, &tables)?;
+    out.flush()
 }

@@ -195,11 +195,13 @@ pub fn outside(
         &mut seen,
         &mut inside,
     );
-    let lowest = lowest_outside(used, &inside);
-    if n.vars < lowest {
+    let Some(lowest) = lowest_outside(used, &inside) else {
+        return 0;
+    };
+    if n.vars <= lowest {
         return 0;
     }
-    lowest
+    lowest + 1
 }
 
 // The variables of the term in a cell, a number with 1 added or 0, join the set.

@@ -1,2 +1,3 @@
 -- Laws on which the proofs of the program stand.
-pub mod Shows
+pub mod Forms
+pub mod Fronts

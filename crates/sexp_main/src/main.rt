@@ -1,66 +1,71 @@
 // Reads up to 4,096 bytes of forms from standard input and writes them back, a form a line, one space between items, without comments.
 #![tactic(auto)]
 
+mod items;
+
 ghost use Rattle.std.specs.Prelude.{◌≤◌, length};
 ghost use Rattle.rules.specs.Limits.{LENGTH};
-ghost use Rattle.sexp.specs.Items.{Held};
 ghost use Rattle.sexp.specs.Reads.{Clear};
 
-use sexp::items::Item;
+use crate::items::{Items, Part};
 use sexp::sexp::{clear, read_form};
+use std::io::{self, BufWriter, Read, Write};
+
+// How much of the input is read.
+const INPUT: usize = 4096;
 
 // Writes the items of a list.
-fn show(text: &[u8], words: &[u32])
-    requires { Held text.now words.now }
-{
-    let mut at = 0;
-    while at < words.len() {
-        if 0 < at {
-            io::write_all(1, b" ");
+fn show<W: Write>(out: &mut W, items: Items<'_>) -> io::Result<()> {
+    for (i, item) in items.enumerate() {
+        if 0 < i {
+            write!(out, " ")?;
         }
-        match sexp::items::item_at(words, at) {
-            Item::Atom(start) => {
-                let end = sexp::lex::atom_end(text, start);
-                io::write_all(1, &text[start..end]);
-                at += 1;
-            }
-            Item::List(start, end) => {
-                io::write_all(1, b"(");
-                show(text, &words[start..end]);
-                io::write_all(1, b")");
-                at = end;
+        match item {
+            Part::Atom(bytes) => out.write_all(bytes)?,
+            Part::List(items) => {
+                write!(out, "(")?;
+                show(out, items)?;
+                write!(out, ")")?;
             }
         }
     }
+    Ok(())
 }
 
 // Writes a text's forms, up to its end or to a refusal, whose number it writes.
-fn show_all(text: &[u8], words: &mut [u32])
+fn show_all<W: Write>(out: &mut W, text: &[u8], words: &mut [u32]) -> io::Result<()>
     requires text_len_bound { (length text.now ≤ LENGTH) × (length text.now ≤ length words.old) }
     requires clear { Clear words.old }
 {
     let mut at = 0;
     loop {
-        let form = match read_form(text, at, words) {
-            Ok(Some(form)) => form,
-            Ok(None) => return,
-            Err(question) => {
-                io::write_all(1, b"refused ");
-                io::print_decimal(1, question.number() as u64);
-                io::write_all(1, b"\n");
-                return;
+        match read_form(text, at, words) {
+            Ok(Some(form)) => {
+                show(
+                    out,
+                    Items {
+                        text,
+                        cells: &words[..form.cells],
+                    },
+                )?;
+                writeln!(out)?;
+                clear(words, form.cells);
+                at = form.end;
             }
-        };
-        show(text, &words[..form.cells]);
-        io::write_all(1, b"\n");
-        clear(words, form.cells);
-        at = form.end;
+            Ok(None) => return Ok(()),
+            Err(question) => return writeln!(out, "refused {}", question.number()),
+        }
     }
 }
 
-fn main() {
-    let mut text = io::buffer();
-    let mut words = [0u32; 4096];
-    let n = io::read_full(0, &mut text);
-    show_all(&text[..n], &mut words);
+fn main(rt: HostRuntime) -> io::Result<()> {
+    let alloc = rt.alloc();
+    let mut text = Vec::new(alloc);
+    rt.reader().take(INPUT as u64).read_to_end(&mut text)?;
+    // no clause says how much a reader gives
+    text.truncate(INPUT);
+    let mut words = vec![in alloc; 0; text.len()]?;
+    let mut out = BufWriter::new(alloc, io::writer(&rt))?;
+    show_all(&mut out, &text, &mut words)?;
+    out.flush()
 }

@@ -1,3 +1,5 @@
 -- Laws on which the proofs of the program stand.
-pub mod Places
-pub mod Rests
+pub mod Kept
+pub mod Nodes
+pub mod Tables
+pub mod Unifies

@@ -1,4 +1,4 @@
-// Unifies pairs of terms and writes what came of it. A term is given as bytes in prefix notation: `f` has two arguments, `a` and `b` have
+// Unifies pairs of terms and writes what came of it. A term is given as text in prefix notation: `f` has two arguments, `a` and `b` have
 // none, a digit is a variable; it is written with brackets. Of each pair the program writes the two terms, then the variables of the
 // first, then `apart`, or the bindings by rising variable and both terms under them, which are the same; then an empty line. The file
 // `stdout` follows from the definition: the last arguments are taken first, a variable is bound to the other side, and a value that was
@@ -6,240 +6,197 @@
 // (f (f x0 a) a) once x1 is bound; the third by the symbols a and b.
 #![tactic(auto)]
 
-ghost use Rattle.std.specs.Prelude.{◌+◌, ◌<◌};
-ghost use Rattle.rules.specs.Limits.{SYMBOLS, VARIABLES};
-ghost use Rattle.terms.specs.Table.{Good};
-ghost use Rattle.unification.specs.Unify.{Unifiable};
-ghost use Rattle.terms_main.specs.Parts.{none, Idle, ReadBy};
+ghost use Rattle.std.specs.Prelude.{◌≡◌, ◌≤◌, ◌<◌, ◌*◌, length, IfOk, OnOk, IfSome};
+ghost use Rattle.rules.specs.Limits.{TERMS, VARIABLEWORDS};
+ghost use Rattle.terms.specs.Lent.{GoodStore, GoodTerms, SameTables};
+ghost use Rattle.terms.specs.Theta.{Theta};
+ghost use Rattle.terms_main.specs.Placed.{Kept, Placed};
 
-mod show;
-
-use crate::show::{show_both, show_found};
-use cells::clear;
-use rules::{PAIRS, SYMBOLS, TERMS, TERMWORDS, VARIABLES, WORDS};
-use terms::store::{Kept, Mark, forget, keep};
-use unification::unify::{Unified, unify};
+use anyhow::{Context, Error, Result, anyhow, bail};
+use questions::Row;
+use rules::{PAIRS, SYMBOLS, TERMS, TERMWORDS, VARIABLES, VARIABLEWORDS, WORDS};
+use std::alloc::Global;
+use std::io::{self, BufWriter, Write};
+use terms::sets::has;
+use terms::store::{Mark, Store, Terms};
+use terms::substitute::substitute;
+use terms::variables::variables;
+use unification::unify::unify;
 
 // The symbols by their numbers.
-pub const A: usize = 0;
+const A: u32 = 0;
 
-pub const B: usize = 1;
+const B: u32 = 1;
 
-pub const F: usize = 2;
+const F: u32 = 2;
 
-// A term's number, the place behind it in the text, and what is used of the store; or the store has no room.
-#[derive(Clone, Copy)]
-enum Placed {
-    Term(usize, usize, Mark),
-    Full(Mark),
+fn no_room(row: Row) -> Error {
+    anyhow!("no room: {row:?}")
 }
 
-// Unifies two terms, and writes what came of it.
-fn solve(
-    index: &mut [u32],
-    words: &mut [u32],
-    mark: Mark,
-    s: usize,
-    t: usize,
-    theta: &mut [u32],
-    map: &mut [u32],
-    memo: &mut [u32],
-    pairs: &mut [u32],
-    seen: &mut [u64],
-) -> Mark
-    requires { Unifiable index.old words.old mark VARIABLES s t theta.old map.old memo.old pairs.old seen.old }
-    ensures { Idle index.new words.new theta.new map.new memo.new pairs.new seen.new result }
+// Takes a term off the front of the text and puts it into the store.
+fn read(text: &mut &[u8], store: &mut Store<'_>) -> Result<usize>
+    requires { GoodStore store.old }
+    ensures shorter { length text.new.now ≤ length text.old.now }
+    ensures same_tables { SameTables store.old store.new }
+    ensures placed { IfOk result (λ id. Placed store.old id store.new) }
 {
-    match unify(
-        index, words, mark, VARIABLES, s, t, theta, map, memo, pairs, seen,
-    ) {
-        Unified::Found(m) => {
-            let last = show_found(index, words, m, theta, memo, s, t);
-            clear(theta);
-            last
+    let (head, rest) = text.split_first().context("a term is missing")?;
+    *text = rest;
+    let kept = match *head {
+        b'a' => store.keep(&[A]),
+        b'b' => store.keep(&[B]),
+        b'f' => {
+            let left = read(text, store)?;
+            let right = read(text, store)?;
+            store.keep(&[F, left as u32, right as u32])
         }
-        Unified::Apart(m) => {
-            io::write_all(1, b"apart\n");
-            m
+        digit @ b'0'..=b'9' => store.keep(&[SYMBOLS as u32 + u32::from(digit - b'0')]),
+        _ => bail!("no term begins with {head}"),
+    };
+    kept.map_err(no_room)
+}
+
+// The bindings under which two terms are the same, if there are any.
+fn bindings(alloc: Global, store: &mut Store<'_>, s: usize, t: usize) -> Result<Option<Vec<u32>>>
+    requires { GoodStore store.old × (s < store.old.mark.terms) × (t < store.old.mark.terms) }
+    ensures same_tables { SameTables store.old store.new }
+    ensures kept { OnOk result (Kept store.old store.new) }
+    ensures bound { IfOk result (λ found. IfSome found (λ theta. Theta store.new.mark theta.items)) }
+{
+    let mut theta = vec![in alloc; 0; VARIABLES]?;
+    let mut map = vec![in alloc; 0; VARIABLES]?;
+    let mut memo = vec![in alloc; 0; TERMS]?;
+    let mut pairs = vec![in alloc; 0; 2 * PAIRS]?;
+    let mut seen = vec![in alloc; 0; TERMWORDS]?;
+    let found = unify(
+        store, VARIABLES, s, t, &mut theta, &mut map, &mut memo, &mut pairs, &mut seen,
+    )
+    .map_err(no_room)?;
+    if !found {
+        return Ok(None);
+    }
+    Ok(Some(theta))
+}
+
+// Writes the term `id`. No `Display`, since its `fmt` could not ask that the tables are good.
+fn show<W: Write>(out: &mut W, terms: &Terms<'_>, id: usize) -> io::Result<()>
+    requires { GoodTerms terms.now × (id < terms.now.mark.terms) }
+{
+    let node = terms.node(id);
+    let head = node[0] as usize;
+    if SYMBOLS <= head {
+        return write!(out, "x{}", head - SYMBOLS);
+    }
+    let name = match node[0] {
+        A => 'a',
+        B => 'b',
+        _ => 'f',
+    };
+    if node.len() == 1 {
+        return write!(out, "{name}");
+    }
+    write!(out, "({name}")?;
+    for arg in &node[1..] {
+        write!(out, " ")?;
+        show(out, terms, *arg as usize)?;
+    }
+    write!(out, ")")
+}
+
+// Writes a word, the term `id`, and the line's end.
+fn show_line<W: Write>(out: &mut W, word: &str, terms: &Terms<'_>, id: usize) -> io::Result<()>
+    requires { GoodTerms terms.now × (id < terms.now.mark.terms) }
+{
+    write!(out, "{word} ")?;
+    show(out, terms, id)?;
+    writeln!(out)
+}
+
+// Writes the variables of the term `id`.
+fn show_variables<W: Write>(
+    out: &mut W,
+    alloc: Global,
+    terms: &Terms<'_>,
+    id: usize,
+) -> io::Result<()>
+    requires { GoodTerms terms.now × (id < terms.now.mark.terms) }
+{
+    let mut seen = vec![in alloc; 0; TERMWORDS]?;
+    let mut set = [0; VARIABLEWORDS];
+    variables(terms, id, &mut seen, &mut set);
+    write!(out, "variables")?;
+    for v in (0..VARIABLES).filter(|v| has(&set, *v)) {
+        write!(out, " x{v}")?;
+    }
+    writeln!(out)
+}
+
+// Writes the bindings, one a line.
+fn show_bindings<W: Write>(out: &mut W, terms: &Terms<'_>, theta: &[u32]) -> io::Result<()>
+    requires { GoodTerms terms.now × Theta terms.now.mark theta.now }
+{
+    for (v, value) in theta.iter().enumerate() {
+        if *value != 0 {
+            write!(out, "x{v} = ")?;
+            show(out, terms, *value as usize - 1)?;
+            writeln!(out)?;
         }
-        Unified::Full(_, m) => {
-            io::write_all(1, b"no room\n");
-            m
-        }
     }
+    Ok(())
 }
 
-// A term without arguments comes into the store; `next` is the place behind its text.
-fn put_leaf(index: &mut [u32], words: &mut [u32], mark: Mark, head: usize, next: usize) -> Placed
-    requires { Good index.old words.old mark × (head < SYMBOLS + 10) }
-    ensures { ReadBy index.old words.old index.new words.new mark next result }
+// Writes the term `id` under the bindings.
+fn show_under<W: Write>(
+    out: &mut W,
+    word: &str,
+    alloc: Global,
+    store: &mut Store<'_>,
+    theta: &[u32],
+    id: usize,
+) -> Result<()>
+    requires good { GoodStore store.old × (id < store.old.mark.terms) }
+    requires bound { Theta store.old.mark theta.now }
+    ensures same_tables { SameTables store.old store.new }
+    ensures kept { OnOk result (Kept store.old store.new) }
+    ensures bound { OnOk result (Theta store.new.mark theta.now) }
 {
-    let node = [head as u32];
-    match keep(index, words, mark, &node) {
-        Kept::Term(n, m) => Placed::Term(n, next, m),
-        Kept::Full(_, m) => Placed::Full(m),
-    }
+    let mut memo = vec![in alloc; 0; TERMS]?;
+    let under = substitute(store, theta, &mut memo, id).map_err(no_room)?;
+    show_line(out, word, &store.terms(), under)?;
+    Ok(())
 }
 
-// `f` of two terms comes into the store.
-fn put_pair(
-    index: &mut [u32],
-    words: &mut [u32],
-    mark: Mark,
-    a: usize,
-    b: usize,
-    next: usize,
-) -> Placed
-    requires good { Good index.old words.old mark }
-    requires a_lt_terms { (a < mark.terms) × (b < mark.terms) }
-    ensures { ReadBy index.old words.old index.new words.new mark next result }
-{
-    let node = [F as u32, a as u32, b as u32];
-    match keep(index, words, mark, &node) {
-        Kept::Term(n, m) => Placed::Term(n, next, m),
-        Kept::Full(_, m) => Placed::Full(m),
-    }
+// Writes two terms, unifies them, and writes what came of it.
+fn solve<W: Write>(out: &mut W, alloc: Global, left: &str, right: &str) -> Result<()> {
+    let mut index = vec![in alloc; 0; 4 * TERMS]?;
+    let mut words = vec![in alloc; 0; WORDS]?;
+    let mut store = Store {
+        index: &mut index,
+        words: &mut words,
+        mark: Mark { terms: 0, words: 0 },
+    };
+    let s = read(&mut left.as_bytes(), &mut store)?;
+    let t = read(&mut right.as_bytes(), &mut store)?;
+    show_line(out, "first ", &store.terms(), s)?;
+    show_line(out, "second", &store.terms(), t)?;
+    show_variables(out, alloc, &store.terms(), s)?;
+    let Some(theta) = bindings(alloc, &mut store, s, t)? else {
+        writeln!(out, "apart")?;
+        return Ok(());
+    };
+    show_bindings(out, &store.terms(), &theta)?;
+    show_under(out, "first becomes", alloc, &mut store, &theta, s)?;
+    show_under(out, "second becomes", alloc, &mut store, &theta, t)
 }
 
-// The head that a byte stands for: a digit's variable, or a symbol, which is `b` where the byte stands for none.
-fn head_of(c: u8) -> usize
-    ensures { result < SYMBOLS + 10 }
-{
-    if c == b'a' {
-        return A;
+fn main(rt: HostRuntime) -> Result<()> {
+    let alloc = rt.alloc();
+    let mut out = BufWriter::new(alloc, io::writer(&rt))?;
+    for (left, right) in [("f0f10", "ffa1fb2"), ("f01", "ff1af0a"), ("f0a", "fbb")] {
+        solve(&mut out, alloc, left, right)?;
+        writeln!(out)?;
     }
-    if c == b'f' {
-        return F;
-    }
-    if c < b'0' {
-        return B;
-    }
-    if b'9' < c {
-        return B;
-    }
-    SYMBOLS + (c as usize - 48)
-}
-
-// The term that stands at a place of the text, read into the store; `b` stands behind the text's end.
-fn read(text: &[u8], at: usize, index: &mut [u32], words: &mut [u32], mark: Mark) -> Placed
-    requires { Good index.old words.old mark }
-    ensures { ReadBy index.old words.old index.new words.new mark at result }
-{
-    if text.len() <= at {
-        return put_leaf(index, words, mark, B, at);
-    }
-    let head = head_of(text[at]);
-    if head != F {
-        return put_leaf(index, words, mark, head, at + 1);
-    }
-    match read(text, at + 1, index, words, mark) {
-        Placed::Term(a, p, m) => match read(text, p, index, words, m) {
-            Placed::Term(b, q, k) => put_pair(index, words, k, a, b, q),
-            Placed::Full(k) => Placed::Full(k),
-        },
-        Placed::Full(m) => Placed::Full(m),
-    }
-}
-
-// Reads the second term, and unifies the two.
-fn solve_with(
-    right: &[u8],
-    index: &mut [u32],
-    words: &mut [u32],
-    mark: Mark,
-    s: usize,
-    theta: &mut [u32],
-    map: &mut [u32],
-    memo: &mut [u32],
-    pairs: &mut [u32],
-    seen: &mut [u64],
-) -> Mark
-    requires idle { Idle index.old words.old theta.old map.old memo.old pairs.old seen.old mark }
-    requires s_lt_terms { s < mark.terms }
-    ensures { Idle index.new words.new theta.new map.new memo.new pairs.new seen.new result }
-{
-    match read(right, 0, index, words, mark) {
-        Placed::Term(t, _, m) => {
-            show_both(index, words, m, s, t, seen);
-            solve(index, words, m, s, t, theta, map, memo, pairs, seen)
-        }
-        Placed::Full(m) => m,
-    }
-}
-
-// Reads both terms, and unifies them. What is used of the store then.
-fn solve_texts(
-    left: &[u8],
-    right: &[u8],
-    index: &mut [u32],
-    words: &mut [u32],
-    theta: &mut [u32],
-    map: &mut [u32],
-    memo: &mut [u32],
-    pairs: &mut [u32],
-    seen: &mut [u64],
-) -> Mark
-    requires { Idle index.old words.old theta.old map.old memo.old pairs.old seen.old none }
-    ensures { Idle index.new words.new theta.new map.new memo.new pairs.new seen.new result }
-{
-    match read(left, 0, index, words, Mark { terms: 0, words: 0 }) {
-        Placed::Term(s, _, m) => solve_with(
-            right, index, words, m, s, theta, map, memo, pairs, seen,
-        ),
-        Placed::Full(m) => m,
-    }
-}
-
-// One pair of terms; the store is empty before and after.
-fn pair(
-    left: &[u8],
-    right: &[u8],
-    index: &mut [u32],
-    words: &mut [u32],
-    theta: &mut [u32],
-    map: &mut [u32],
-    memo: &mut [u32],
-    pairs: &mut [u32],
-    seen: &mut [u64],
-)
-    requires { Idle index.old words.old theta.old map.old memo.old pairs.old seen.old none }
-    ensures { Idle index.new words.new theta.new map.new memo.new pairs.new seen.new none }
-{
-    let mark = solve_texts(left, right, index, words, theta, map, memo, pairs, seen);
-    forget(index, words, mark, Mark { terms: 0, words: 0 });
-    io::write_all(1, b"\n");
-}
-
-// The three pairs.
-fn all(
-    index: &mut [u32],
-    words: &mut [u32],
-    theta: &mut [u32],
-    map: &mut [u32],
-    memo: &mut [u32],
-    pairs: &mut [u32],
-    seen: &mut [u64],
-)
-    requires { Idle index.old words.old theta.old map.old memo.old pairs.old seen.old none }
-{
-    pair(
-        b"f0f10", b"ffa1fb2", index, words, theta, map, memo, pairs, seen,
-    );
-    pair(
-        b"f01", b"ff1af0a", index, words, theta, map, memo, pairs, seen,
-    );
-    pair(b"f0a", b"fbb", index, words, theta, map, memo, pairs, seen);
-}
-
-fn main() {
-    let mut index = [0u32; 4 * TERMS];
-    let mut words = [0u32; WORDS];
-    let mut theta = [0u32; VARIABLES];
-    let mut map = [0u32; VARIABLES];
-    let mut memo = [0u32; TERMS];
-    let mut pairs = [0u32; 2 * PAIRS];
-    let mut seen = [0u64; TERMWORDS];
-    all(
-        &mut index, &mut words, &mut theta, &mut map, &mut memo, &mut pairs, &mut seen,
-    );
+    out.flush()?;
+    Ok(())
 }

@@ -1,12 +1,7 @@
-use lib.ListN.{take}
-use native.Mathlib.Omega.{arith}
-use Rattle.kernel_main.proofs.Rooms.{legible, roomy, part_short}
+use Rattle.std.proofs.Common.{arith}
+use Rattle.kernel_main.proofs.Words.{words_fit}
 use Rattle.kernel_main.proofs.main.Goals as goal
 
-pub run-requires : goal.run-requires
-run-requires c = record {
-  legible = legible (take c.read_full-n.result c.read_full-n.new.buf)
-      (part_short c.read_full-n.result c.read_full-n.new.buf
-      (omega (arith, c.read_full-n.ensures, c.read_full-n.auto.buf, c.buffer-text.ensures)));
-  roomy = roomy;
-}
+pub show_tables-requires : goal.show_tables-requires
+show_tables-requires c =
+    words_fit _ c.parse.ensures.laid_held c.parse.ensures.held c.parse.ensures.patterns_after (omega (arith, c.deref_mut-6.ensures.len, c.in_ok-patterns.ensures.len))

@@ -1,14 +1,9 @@
--- The loop is that of `Showing` in proofs/Shows.antt; a list's cells are fewer, so the calls end.
-use Prim.Native.Nat.{◌-◌}
-use lib.ListN.{length}
-use Rattle.sexp_main.proofs.Shows.{Showing}
+-- A list's cells are fewer than those of the list around it.
+use Rattle.std.proofs.Common.{◌≤◌, length}
 use Rattle.sexp_main.proofs.+show.Given as goal
 
-abbrev pub invariant-loop-at : goal.invariant-loop-at
-invariant-loop-at l = Showing l.text l.words l.at
-
-abbrev pub decreases-loop-at : goal.decreases-loop-at
-decreases-loop-at l = length l.words - l.at
-
 abbrev pub decreases-show : goal.decreases-show
-decreases-show l = length l.words.now
+decreases-show g l = length l.items.cells.now
+
+abbrev pub invariant-loop-i : goal.invariant-loop-i
+invariant-loop-i g l = length l.i-iterator.iter.cells.now ≤ length l.initial.items.cells.now

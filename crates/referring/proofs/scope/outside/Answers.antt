@@ -1,3 +1,4 @@
+use Prim.Native.Nat.{◌+◌}
 use native.Mathlib.Omega.{arith}
 use mathlib.Core.Path.{refl}
 use Rattle.terms.specs.Laws.Seen.{seen_none}
@@ -10,10 +11,14 @@ visit-requires c = record { readable = record { good = c.requires.recalls.0.good
 pub hyp_vars-requires : goal.hyp_vars-requires
 hyp_vars-requires c = record { recalls = (c.requires.recalls.0, c.requires.recalls.1); hyps_len = (c.requires.hyps_len.0, c.visit.auto.seen, c.visit.auto.set); seen = c.visit.ensures.visits }
 
+pub returns-in_default : goal.returns-in_default
+returns-in_default c = λ g. outside_some c.args.used.now c.args.hyps.now c.requires.hyps_len.1 c.visit.ensures c.hyp_vars.ensures
+    (rw c.in_default.is at c.lowest_outside.ensures) g (omega arith)
+
 pub returns-then-n-lowest : goal.returns-then-n-lowest
-returns-then-n-lowest c = λ g. outside_none c.args.used.now c.args.hyps.now c.requires.hyps_len.1 c.visit.ensures c.hyp_vars.ensures c.lowest_outside-lowest.ensures g
-    c.if-n-lowest.true
+returns-then-n-lowest c = λ g. outside_none c.args.used.now c.args.hyps.now c.requires.hyps_len.1 c.visit.ensures c.hyp_vars.ensures
+    (rw c.in-Some.is at c.lowest_outside.ensures) g (omega (arith, c.if-n-lowest.true))
 
 pub returns : goal.returns
-returns c = λ g. outside_some c.args.used.now c.args.hyps.now c.requires.hyps_len.1 c.visit.ensures c.hyp_vars.ensures c.lowest_outside-lowest.ensures g
-    (omega (arith, c.if-n-lowest.false))
+returns c = λ g. outside_some c.args.used.now c.args.hyps.now {r = c.in-Some.lowest + 1} c.requires.hyps_len.1 c.visit.ensures c.hyp_vars.ensures
+    (omega (arith, rw c.in-Some.is at c.lowest_outside.ensures)) g (omega (arith, c.if-n-lowest.false))

@@ -1,0 +1,15 @@
+-- What a call does to a store that is good. Assumes nothing.
+use Rattle.std.specs.Prelude.{ℕ, ◌≤◌, ◌<◌}
+use Rattle.terms.specs.declared.store.Store.{Store}
+use Rattle.terms.specs.Lent.{GoodStore}
+
+-- it is good still, and the terms that were there are there
+pub record Kept (old new : Store) : Type 0 where
+  pub good : GoodStore new
+  pub more : old.mark.terms ≤ new.mark.terms
+
+-- the same, and the term is there too
+pub record Placed (old : Store) (id : ℕ) (new : Store) : Type 0 where
+  pub good : GoodStore new
+  pub more : old.mark.terms ≤ new.mark.terms
+  pub there : id < new.mark.terms
