@@ -14,7 +14,9 @@ use Rattle.sexp.specs.Items.{Holds}
 use Rattle.sexp.specs.AtomText.{atom_part}
 use Rattle.reading.specs.Given.{VarsItem, VarsItems}
 use Rattle.casework.specs.declared.cases.CaseRead.{CaseRead}
-use Rattle.casework.specs.declared.cases.CaseRead.TheVariants.{Ok, No}
+use Rattle.std.specs.Prelude.{Result, Ok, Err}
+use Rattle.questions.specs.declared.Question.{Question}
+use Rattle.questions.specs.Numbers.{number_of}
 use Rattle.casework.specs.Cases.{CaseIs, CaseAs, Naming, TakenAs}
 use Rattle.casework.proofs.Finding.{Casing, casing_here, casing_first}
 
@@ -24,13 +26,13 @@ module _ {goals text vars cells places links : List ℕ} {count at k : ℕ} (g :
   abbrev pub item_now : VarsItem goals text vars count (take (length cells - at) (drop at cells))
   item_now = record { S = g.S; x = (casing_here h l).x; ys = (casing_here h l).ys; vars_are = g.vars_are; holds = (casing_here h l).holds }
 
-  module _ (before out : List ℕ) (r : CaseRead)
+  module _ (before out : List ℕ) (r : Result CaseRead Question)
       (f : (w : VarsItem goals text vars count (take (length cells - at) (drop at cells))) → CaseAs w.S text w.x before out r) where
-    pub read_ok : {start fact many : ℕ} → r ≡ Ok start fact many → CaseIs g.S text (casing_here h l).x out start fact many
-    read_ok e = subst (λ (z : CaseRead). CaseAs g.S text (casing_here h l).x before out z) e (f item_now)
+    pub read_ok : {one : CaseRead} → r ≡ Ok one → CaseIs g.S text (casing_here h l).x out one.start one.fact one.variables
+    read_ok e = subst (λ (z : Result CaseRead Question). CaseAs g.S text (casing_here h l).x before out z) e (f item_now)
 
-    pub read_no : {q : ℕ} → r ≡ No q → (M : Made) → read_case g.S (casing_here h l).x M ≡ refuse q 0 M
-    read_no e = (subst (λ (z : CaseRead). CaseAs g.S text (casing_here h l).x before out z) e (f item_now)).0
+    pub read_no : {q : Question} → r ≡ Err q → (M : Made) → read_case g.S (casing_here h l).x M ≡ refuse (number_of q) 0 M
+    read_no e = (subst (λ (z : Result CaseRead Question). CaseAs g.S text (casing_here h l).x before out z) e (f item_now)).0
 
 -- its name, as the text has it
 pub bytes_are : {S : State} {text : List ℕ} {x : Sexp} {out : List ℕ} {start fact many : ℕ} (c : CaseIs S text x out start fact many) {end : ℕ} →

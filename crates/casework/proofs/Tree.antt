@@ -11,8 +11,7 @@ use lib.ListN.{length, get_or, set, length-set, get_or-eq_default}
 use lib.Seq.{get_or-set_same, get_or-set_other}
 use Rattle.rules.specs.Text.{same}
 use Rattle.rules.specs.Laws.Text.{same_self, same_equal}
-use Rattle.casework.specs.declared.distinct.Spot.{Spot}
-use Rattle.casework.specs.declared.distinct.Spot.TheVariants.{Met, Free}
+use Rattle.std.specs.Prelude.{Option, Some as some, None as nothing}
 use Rattle.casework.specs.Distinct.{turn_of, between, name_of, Way, done, on, Comes, Tree, IsMet, IsFree, SpotAs, Entered}
 
 -- Turns ------------------------------------------------------------------------------------------------------------------------------------------
@@ -136,12 +135,12 @@ module _ {text places links : List ℕ} {many : ℕ} (t : Tree text places links
 
 -- What `seek` answers ------------------------------------------------------------------------------------------------------------------------------
 
-module _ (text places links : List ℕ) (many : ℕ) (name : List ℕ) (r : Spot) (h : SpotAs text places links many name r) where
-  pub spot_met : r ≡ Met → IsMet text places many name
-  spot_met e = subst (λ (z : Spot). SpotAs text places links many name z) e h
+module _ (text places links : List ℕ) (many : ℕ) (name : List ℕ) (r : Option ℕ) (h : SpotAs text places links many name r) where
+  pub spot_met : r ≡ nothing → IsMet text places many name
+  spot_met e = subst (λ (z : Option ℕ). SpotAs text places links many name z) e h
 
-  pub spot_free : {cell : ℕ} → r ≡ Free cell → IsFree text places links many name cell
-  spot_free e = subst (λ (z : Spot). SpotAs text places links many name z) e h
+  pub spot_free : {cell : ℕ} → r ≡ some cell → IsFree text places links many name cell
+  spot_free e = subst (λ (z : Option ℕ). SpotAs text places links many name z) e h
 
 -- A name that comes in ---------------------------------------------------------------------------------------------------------------------------
 

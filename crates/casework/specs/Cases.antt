@@ -1,5 +1,5 @@
 -- The cases of `invert` as items of a form: which item is which case, and what their readers answer. Assumes nothing.
-use Rattle.std.specs.Prelude.{◌≡◌, Bool, false, List, [], ◌∷◌, ◌++◌, ℕ, ◌+◌, ◌*◌, ◌<◌, ◌≤◌, length, get_or, drop, Some as some, None as nothing, Option}
+use Rattle.std.specs.Prelude.{◌≡◌, Bool, false, List, [], ◌∷◌, ◌++◌, ℕ, ◌+◌, ◌*◌, ◌<◌, ◌≤◌, length, get_or, drop, Some as some, None as nothing, Option, Result, Ok, Err}
 use Rattle.rules.specs.Limits.{LENGTH, VARIABLES}
 use Rattle.rules.specs.Out.{ok, refuse}
 use Rattle.rules.specs.Lex.{letters}
@@ -17,7 +17,8 @@ use Rattle.reading.specs.declared.apart.Listed.{Listed}
 use Rattle.reading.specs.declared.apart.Listed.TheVariants as listed
 use Rattle.casework.specs.Distinct.{name_of, Tree}
 use Rattle.casework.specs.declared.cases.CaseRead.{CaseRead}
-use Rattle.casework.specs.declared.cases.CaseRead.TheVariants as cases
+use Rattle.questions.specs.declared.Question.{Question}
+use Rattle.questions.specs.Numbers.{number_of}
 
 -- where there is no case
 abbrev pub no_case : Case
@@ -65,9 +66,9 @@ pub record CaseIs (S : State) (text : List ℕ) (x : Sexp) (cells : List ℕ) (s
   pub count : many ≡ length c.vars
   pub cells_are : cells ≡ filled VARIABLES c.vars
 
-abbrev pub CaseAs : State → List ℕ → Sexp → List ℕ → List ℕ → CaseRead → Type 0
-CaseAs S text x before cells (cases.Ok start fact many) = CaseIs S text x cells start fact many
-CaseAs S text x before cells (cases.No q) = ((M : Made) → read_case S x M ≡ refuse q 0 M) × (cells ≡ before)
+abbrev pub CaseAs : State → List ℕ → Sexp → List ℕ → List ℕ → Result CaseRead Question → Type 0
+CaseAs S text x before cells (Ok r) = CaseIs S text x cells r.start r.fact r.variables
+CaseAs S text x before cells (Err e) = ((M : Made) → read_case S x M ≡ refuse (number_of e) 0 M) × (cells ≡ before)
 
 -- The case of a name ---------------------------------------------------------------------------------------------------------------
 

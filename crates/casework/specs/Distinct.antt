@@ -1,8 +1,6 @@
 -- Names of a text, told apart by a tree. Node n, counted from 1, is a name: two cells of `places` say where it begins and ends, two cells of `links` lead to the nodes below it,
 -- 0 where there is none; cell 0 leads to the first node. A name goes from node to node by its bits until it meets itself or a cell that is 0. Assumes nothing.
-use Rattle.std.specs.Prelude.{◌≡◌, Bool, true, false, List, ℕ, suc, ◌+◌, ◌-◌, ◌*◌, ◌/◌, ◌%◌, ◌^◌, ◌<◌, ◌≤◌, length, get_or, take, drop}
-use Rattle.casework.specs.declared.distinct.Spot.{Spot}
-use Rattle.casework.specs.declared.distinct.Spot.TheVariants.{Met, Free}
+use Rattle.std.specs.Prelude.{◌≡◌, Bool, true, false, List, ℕ, suc, ◌+◌, ◌-◌, ◌*◌, ◌/◌, ◌%◌, ◌^◌, ◌<◌, ◌≤◌, length, get_or, take, drop, Option, Some as some, None as nothing}
 
 -- which of two ways a name takes at a depth: the bits of its letters, the lowest first
 unfoldable pub turn_of : List ℕ → ℕ → ℕ
@@ -57,9 +55,9 @@ pub record IsFree (text places links : List ℕ) (many : ℕ) (name : List ℕ) 
   pub near : cell ≤ 2 * many + 1
   pub new : Unmet text places many name
 
-abbrev pub SpotAs : List ℕ → List ℕ → List ℕ → ℕ → List ℕ → Spot → Type 0
-SpotAs text places links many name Met = IsMet text places many name
-SpotAs text places links many name (Free cell) = IsFree text places links many name cell
+abbrev pub SpotAs : List ℕ → List ℕ → List ℕ → ℕ → List ℕ → Option ℕ → Type 0
+SpotAs text places links many name nothing = IsMet text places many name
+SpotAs text places links many name (some cell) = IsFree text places links many name cell
 
 -- the name came in as one more node; the others are as they were
 pub record Entered (text places places' links' : List ℕ) (many : ℕ) (name : List ℕ) : Type 0 where

@@ -9,6 +9,7 @@ ghost use Rattle.casework.specs.Cases.{CaseFirst, CasesFirst, CaseAs, CaseFound,
 ghost use Rattle.casework.specs.Distinct.{between};
 
 use crate::distinct::enter;
+use questions::Question;
 use reading::apart::{Listed, vars_list};
 use reading::names::index as index_in;
 use rules::{LENGTH, VARIABLES};
@@ -22,11 +23,12 @@ const FEW: usize = 16;
 // The cells of a tree for 8,191 names, two for each.
 const NAMECELLS: usize = 16384;
 
-// Where the case's name begins, the number of its fact, and how many variables it has; or a question.
-#[derive(Clone, Copy)]
-pub enum CaseRead {
-    Ok(usize, usize, usize),
-    No(usize),
+// Where the case's name begins, the number of its fact, and how many variables it has.
+#[derive(Clone, Copy, Debug, PartialEq, Eq)]
+pub struct CaseRead {
+    pub start: usize,
+    pub fact: usize,
+    pub variables: usize,
 }
 
 // The case that the first item spells; its variables come into the cells, which are zero before, and afterwards where it is refused.
@@ -37,30 +39,34 @@ pub fn read_case(
     count: usize,
     cells: &[u32],
     out: &mut [u32],
-) -> CaseRead
+) -> Result<CaseRead, Question>
     requires { VarsItem goals.now text.now vars.now count cells.now × (out.old ≡ replicate VARIABLES 0) }
     ensures { (g : VarsItem goals.now text.now vars.now count cells.now) →
         CaseAs g.S text.now g.x out.old out.new result }
 {
     let Item::List(a, b) = items::item_at(cells, 0) else {
-        return CaseRead::No(41);
+        return Err(Question::Cases);
     };
     let inner = &cells[a..b];
     if items::count(inner) != 3 {
-        return CaseRead::No(41);
+        return Err(Question::Cases);
     }
     let Item::Atom(start) = items::item_at(inner, 0) else {
-        return CaseRead::No(41);
+        return Err(Question::Cases);
     };
     let second = items::place(inner, 1);
-    let Some(i) = index_in(text, &inner[second..]) else {
-        return CaseRead::No(41);
+    let Some(fact) = index_in(text, &inner[second..]) else {
+        return Err(Question::Cases);
     };
     let third = items::place(inner, 2);
-    let Some(many) = vars_list(goals, text, vars, count, &inner[third..], out) else {
-        return CaseRead::No(42);
+    let Some(variables) = vars_list(goals, text, vars, count, &inner[third..], out) else {
+        return Err(Question::CaseVariables);
     };
-    CaseRead::Ok(start, i, many)
+    Ok(CaseRead {
+        start,
+        fact,
+        variables,
+    })
 }
 
 // Whether the case that the first item is has that name.
@@ -144,14 +150,14 @@ fn read_with(
     while at < cells.len() {
         let mut out = [0u32; VARIABLES];
         match read_case(goals, text, vars, count, &cells[at..], &mut out) {
-            CaseRead::Ok(start, _, _) => {
-                let end = lex::atom_end(text, start);
-                if is_taken(text, cells, k, start, end, places, links) {
+            Ok(case) => {
+                let end = lex::atom_end(text, case.start);
+                if is_taken(text, cells, k, case.start, end, places, links) {
                     return Listed::No(41);
                 }
             }
-            CaseRead::No(q) => {
-                return Listed::No(q);
+            Err(question) => {
+                return Listed::No(question.number());
             }
         }
         k += 1;

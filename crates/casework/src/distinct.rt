@@ -6,13 +6,6 @@ ghost use Rattle.casework.specs.Distinct.{turn_of, between, Tree, SpotAs, Entere
 
 use sexp::names::same;
 
-// What a name comes to in the tree: itself, or a cell where it can come in.
-#[derive(Clone, Copy, Debug, PartialEq, Eq)]
-pub enum Spot {
-    Met,
-    Free(usize),
-}
-
 // Which of two ways a name takes at a depth.
 fn turn(name: &[u8], depth: usize) -> usize
     ensures { (result ≡ turn_of name.now depth) × (result < 2) }
@@ -25,8 +18,8 @@ fn turn(name: &[u8], depth: usize) -> usize
     (letter >> (depth % 8)) % 2
 }
 
-// The name's way through the tree.
-fn seek(text: &[u8], name: &[u8], places: &[u32], links: &[u32]) -> Spot
+// The name's way through the tree: to a cell where it can come in; none where it meets itself.
+fn seek(text: &[u8], name: &[u8], places: &[u32], links: &[u32]) -> Option<usize>
     requires { (many : ℕ) × Tree text.now places.now links.now many }
     ensures { (many : ℕ) → Tree text.now places.now links.now many →
         SpotAs text.now places.now links.now many name.now result }
@@ -37,13 +30,13 @@ fn seek(text: &[u8], name: &[u8], places: &[u32], links: &[u32]) -> Spot
     loop {
         let node = links[cell] as usize;
         if node == 0 {
-            return Spot::Free(cell);
+            return Some(cell);
         }
         let row = 2 * node;
         let start = places[row] as usize;
         let end = places[row + 1] as usize;
         if same(&text[start..end], name) {
-            return Spot::Met;
+            return None;
         }
         cell = row + turn(name, depth);
         depth += 1;
@@ -63,7 +56,7 @@ pub fn enter(
     requires start_le_end { (start ≤ end) × (end ≤ length text.now) × (length text.now ≤ LENGTH) }
     ensures { EnteredAs text.now places.old places.new links.new many (between text.now start end) result }
 {
-    let Spot::Free(cell) = seek(text, &text[start..end], places, links) else {
+    let Some(cell) = seek(text, &text[start..end], places, links) else {
         return true;
     };
     let node = many + 1;

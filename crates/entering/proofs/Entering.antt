@@ -27,8 +27,9 @@ use Rattle.terms.specs.Table.{made, tree, Good}
 use Rattle.terms.specs.Sets.{holds}
 use Rattle.terms.specs.Laws.Numbers.{tree_number, tree_stored}
 use Rattle.state.specs.declared.sizes.Sizes.{Sizes}
-use Rattle.state.specs.declared.facts.Put.{Put}
-use Rattle.state.specs.declared.facts.Put.TheVariants.{Stored, Full}
+use Rattle.std.specs.Prelude.{Result, Ok as done, Err as refused}
+use Rattle.questions.specs.declared.Row.{Row}
+use Rattle.questions.specs.Numbers.{row_number}
 use Rattle.state.specs.Held.{Names, RuleLists, Records, records, Recorded}
 use Rattle.state.specs.Rows.{Putting}
 use Rattle.state.specs.Members.{Under, rising_under}
@@ -66,13 +67,13 @@ module _ {R : Records} {n : Sizes} {I W : List ℕ} {old : Mark} {S : State} (h 
   unfolding fact_entries count_trees
   needs = omega (arith, ap length (rising_under (length S.facts) FACTS (holds hyps) h.rows.row12 u))
 
-  entering_full : {Q : Records} {d : ℕ} → DerivedPut R Q n j hyps footing (Full d) → Halts I W J X old S K 60 d now × (Q ≡ R)
-  entering_full {Q} {d} p =
-      let z = put_full fact (count k) Q row (rising FACTS (holds hyps)) footing (length (rising FACTS (holds hyps))) (Full d) there p needs refl in
+  entering_full : {Q : Records} (d : Row) → DerivedPut R Q n j hyps footing (refused d) → Halts I W J X old S K 60 (row_number d) now × (Q ≡ R)
+  entering_full {Q} d p =
+      let z = put_full fact (count k) Q row (rising FACTS (holds hyps)) footing (length (rising FACTS (holds hyps))) (refused d) there p needs refl in
       (reached_halts o z.0, z.1)
 
   module _ (l : j < now.terms) (v : Under (length S.theory.rules) (holds footing)) (s : DerivedIn S fact) (w : length footing ≡ 4) (b : Words footing) where
-    entering_ok : {Q : Records} {e : ℕ} → DerivedPut R Q n j hyps footing (Stored e) → FactAdded R Q n I W J X old S K (count k) e now
+    entering_ok : {Q : Records} {e : ℕ} → DerivedPut R Q n j hyps footing (done e) → FactAdded R Q n I W J X old S K (count k) e now
     unfolding Each
     entering_ok {Q} {e} p =
         let good = o.makes.grown.good in
@@ -85,7 +86,7 @@ module _ {R : Records} {n : Sizes} {I W : List ℕ} {old : Mark} {S : State} (h 
           hyps = hyps;
           footing = footing;
           is = o.here
-              ∙ put_ok fact (count k) Q row (rising FACTS (holds hyps)) footing (length (rising FACTS (holds hyps))) (Stored e) there p needs refl;
+              ∙ put_ok fact (count k) Q row (rising FACTS (holds hyps)) footing (length (rising FACTS (holds hyps))) (done e) there p needs refl;
           derives = record {
             numbered = sym (tree_number good j l);
             assumed = refl;
@@ -107,8 +108,11 @@ module _ {R : Records} {n : Sizes} {I W : List ℕ} {old : Mark} {S : State} (h 
         subst (λ z. FactAdded R Q n I W J X old S K (count i) e z) (sym p.2)
         (subst (λ z. FactAdded R Q n I W J X old S K (count z) e now) (sym p.1) (entering_ok p.0))
     entered Q (entered_as.No q d m) p =
-        let z = entering_full p.0 in
-        (subst (λ z. Halts I W J X old S K q d z) (sym p.2) (subst (λ z. Halts I W J X old S K z d now) (sym p.1) z.0), z.1)
+        let z = entering_full p.0.0 p.0.1 in (
+          subst (λ z. Halts I W J X old S K q d z) (sym p.2)
+              (subst (λ z. Halts I W J X old S K z d now) (sym p.1) (subst (λ z. Halts I W J X old S K 60 z now) (sym p.0.2) z.0)),
+          z.1,
+        )
 
 -- What is put fits --------------------------------------------------------------------------------------------------------------------
 
@@ -299,9 +303,9 @@ module _ {N : Names} {facts footings lists : List ℕ} {n : Sizes} {I W : List �
 
 -- `enter` --------------------------------------------------------------------------------------------------------------------------------
 
-module _ (R Q : Records) (n : Sizes) (j k : ℕ) (m : Mark) (hyps footing : List ℕ) (r : Put) (p : DerivedPut R Q n j hyps footing r) where
-  pub enter_ok : {e : ℕ} → r ≡ Stored e → EnterAs R Q n j k m hyps footing (entered_as.Ok e k m)
+module _ (R Q : Records) (n : Sizes) (j k : ℕ) (m : Mark) (hyps footing : List ℕ) (r : Result ℕ Row) (p : DerivedPut R Q n j hyps footing r) where
+  pub enter_ok : {e : ℕ} → r ≡ done e → EnterAs R Q n j k m hyps footing (entered_as.Ok e k m)
   enter_ok q = (subst (DerivedPut R Q n j hyps footing) q p, refl, refl)
 
-  pub enter_full : {d : ℕ} → r ≡ Full d → EnterAs R Q n j k m hyps footing (entered_as.No 60 d m)
-  enter_full q = (subst (DerivedPut R Q n j hyps footing) q p, refl, refl)
+  pub enter_full : {d : Row} → r ≡ refused d → EnterAs R Q n j k m hyps footing (entered_as.No 60 (row_number d) m)
+  enter_full {d} q = ((d, subst (DerivedPut R Q n j hyps footing) q p, refl), refl, refl)

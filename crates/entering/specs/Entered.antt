@@ -1,5 +1,5 @@
 -- What the forms of derived facts are given and what they answer, beside what the definition answers: K. Assumes nothing.
-use Rattle.std.specs.Prelude.{◌≡◌, List, ℕ, ◌^◌, ◌<◌, get_or, replicate}
+use Rattle.std.specs.Prelude.{◌≡◌, List, ℕ, ◌^◌, ◌<◌, get_or, replicate, Ok, Err}
 use Rattle.rules.specs.Limits.{VARIABLES, TERMS}
 use Rattle.rules.specs.Out.{Out, ok}
 use Rattle.rules.specs.State.{State, Fact, Counts}
@@ -7,7 +7,8 @@ use Rattle.rules.specs.Forms.{with_made, plus}
 use Rattle.terms.specs.declared.store.Mark.{Mark}
 use Rattle.terms.specs.Table.{made}
 use Rattle.state.specs.declared.sizes.Sizes.{Sizes}
-use Rattle.state.specs.declared.facts.Put.TheVariants.{Stored, Full}
+use Rattle.questions.specs.declared.Row.{Row}
+use Rattle.questions.specs.Numbers.{row_number}
 use Rattle.state.specs.Held.{Names, RuleLists, Records}
 use Rattle.state.specs.Recording.{Valid, Derives, DerivedPut, with_fact}
 use Rattle.entering.specs.declared.derive.Entered.{Entered}
@@ -50,7 +51,7 @@ pub record FactAdded (R Q : Records) (n : Sizes) (I W J X : List ℕ) (old : Mar
   pub is : K ≡ ok tt (with_fact (with_made S (made J X now)) new (plus S.counts c))
   pub derives : Derives (made J X now) (with_made S (made J X now)) new judgment hyps footing
   pub valid : Valid (made J X now) (with_fact (with_made S (made J X now)) new (plus S.counts c))
-  pub stored : DerivedPut R Q n judgment hyps footing (Stored e)
+  pub stored : DerivedPut R Q n judgment hyps footing (Ok e)
 
 -- R, Q: the tables of facts before and afterwards; c: what the form counts, by its instances
 abbrev pub EnteredAs : Records → Records → Sizes → List ℕ → List ℕ → List ℕ → List ℕ → Mark → State → Out State (Unit {0}) → (ℕ → Counts) → Entered → Type 0
@@ -65,8 +66,8 @@ an_induction k = record { hypotheses = 0; inductions = 1; inversions = 0; instan
 
 -- rows 12 and 13 of question 60; the instances and what is used of the store as they were given
 abbrev pub EnterAs : Records → Records → Sizes → ℕ → ℕ → Mark → List ℕ → List ℕ → Entered → Type 0
-EnterAs R Q n judgment instances mark hyps footing (entered_as.Ok e k now) = DerivedPut R Q n judgment hyps footing (Stored e) × (k ≡ instances) × (now ≡ mark)
-EnterAs R Q n judgment instances mark hyps footing (entered_as.No q d now) = DerivedPut R Q n judgment hyps footing (Full d) × (q ≡ 60) × (now ≡ mark)
+EnterAs R Q n judgment instances mark hyps footing (entered_as.Ok e k now) = DerivedPut R Q n judgment hyps footing (Ok e) × (k ≡ instances) × (now ≡ mark)
+EnterAs R Q n judgment instances mark hyps footing (entered_as.No q d now) = ((row : Row) × DerivedPut R Q n judgment hyps footing (Err row) × (d ≡ row_number row)) × (q ≡ 60) × (now ≡ mark)
 
 -- words of 64 bits
 abbrev pub Words : List ℕ → Type 0

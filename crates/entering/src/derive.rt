@@ -15,7 +15,7 @@ use induction::induct::{induct, induct_with};
 use inversion::invert::{Inverted, invert};
 use referring::derived::Derived;
 use rules::{FACTWORDS, PAIRS, RULEWORDS, VARIABLES};
-use state::facts::{Put, put_derived};
+use state::facts::put_derived;
 use state::sizes::Sizes;
 use terms::store::Mark;
 
@@ -45,8 +45,8 @@ fn enter(
     ensures words { Words footing.now }
 {
     match put_derived(facts, footings, lists, n, judgment, hyps, footing) {
-        Put::Stored(e) => Entered::Ok(e, instances, mark),
-        Put::Full(row) => Entered::No(60, row, mark),
+        Ok(e) => Entered::Ok(e, instances, mark),
+        Err(row) => Entered::No(60, row.number(), mark),
     }
 }
 

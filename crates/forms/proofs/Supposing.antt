@@ -23,8 +23,9 @@ use Rattle.sexp.specs.Items.{place}
 use Rattle.terms.specs.declared.store.Mark.{Mark}
 use Rattle.terms.specs.Table.{made}
 use Rattle.state.specs.declared.sizes.Sizes.{Sizes}
-use Rattle.state.specs.declared.facts.Put.{Put}
-use Rattle.state.specs.declared.facts.Put.TheVariants.{Stored, Full}
+use Rattle.std.specs.Prelude.{Result, Ok as done, Err as refused}
+use Rattle.questions.specs.declared.Row.{Row}
+use Rattle.questions.specs.Numbers.{row_number}
 use Rattle.state.specs.Held.{Names, Records, records, listed, Recorded}
 use Rattle.state.specs.Rows.{Putting}
 use Rattle.state.specs.Filled.{filled_front}
@@ -66,23 +67,23 @@ module _ {K : Names} {facts lists : List ℕ} {n : Sizes} {I W : List ℕ} {m : 
       let t = hyp_read (form_of g) p J X r f c in
       putting g.refers.recorded (omega (arith, t.there, t.went.grown.good.room)) lists (lists_long g.refers.recorded)
 
-  module _ (Q : Records) (u : Put)
+  module _ (Q : Records) (u : Result ℕ Row)
       (w : (footings : List ℕ) → length footings ≡ 4 * FACTS → HypothesisPut (records facts footings lists) (records Q.facts footings Q.lists) n j 0 0 u) where
     put_here : HypothesisPut (records facts g.footings lists) (records Q.facts g.footings Q.lists) n j 0 0 u
     put_here = w g.footings (tabled_long (footings_tabled g.refers.recorded))
 
-    pub hyp_added : {e : ℕ} → u ≡ Stored e →
+    pub hyp_added : {e : ℕ} → u ≡ done e →
         HypAdded (records facts g.footings lists) (records Q.facts g.footings Q.lists) n I W J X m g.S (add_hyp g.xs g.S) e new
     unfolding Each count_trees numbers
     hyp_added q =
         adding_ok g.refers.recorded j none [] (hyp_came (form_of g) p J X r f c) refl refl (hyp_read (form_of g) p J X r f c).there tt empty lists refl
         (subst (HypothesisPut (records facts g.footings lists) (records Q.facts g.footings Q.lists) n j 0 0) q put_here)
 
-    pub hyp_full : {d : ℕ} → u ≡ Full d →
-        Halts I W J X m g.S (add_hyp g.xs g.S) 60 d new × (records Q.facts g.footings Q.lists ≡ records facts g.footings lists)
+    pub hyp_full : {d : Row} → u ≡ refused d →
+        Halts I W J X m g.S (add_hyp g.xs g.S) 60 (row_number d) new × (records Q.facts g.footings Q.lists ≡ records facts g.footings lists)
     unfolding count_trees
     hyp_full {d} q =
-        let z : HypothesisPut (records facts g.footings lists) (records Q.facts g.footings Q.lists) n j 0 0 (Full d) =
+        let z : HypothesisPut (records facts g.footings lists) (records Q.facts g.footings Q.lists) n j 0 0 (refused d) =
         subst (HypothesisPut (records facts g.footings lists) (records Q.facts g.footings Q.lists) n j 0 0) q put_here in
         (adding_full g.refers.recorded j none [] (hyp_came (form_of g) p J X r f c) refl refl z.1 z.2, z.0)
 
@@ -149,19 +150,19 @@ module _ {K : Names} {facts lists : List ℕ} {n : Sizes} {I W : List ℕ} {m : 
       rule_asks =
           putting rec (omega (arith, parts.there, parts.makes.grown.good.room)) (tailed lists from out) (tailed_as_long ∙ lists_long rec)
 
-      module _ (Q : Records) (u : Put) (w : (footings : List ℕ) → length footings ≡ 4 * FACTS →
+      module _ (Q : Records) (u : Result ℕ Row) (w : (footings : List ℕ) → length footings ≡ 4 * FACTS →
           RulePutAs (records facts footings (tailed lists from out)) (records Q.facts footings Q.lists) n j many (take few general) u) where
         put_there : RulePutAs (records facts g.footings (tailed lists from out)) (records Q.facts g.footings Q.lists) n j many (take few general) u
         put_there = w g.footings (tabled_long (footings_tabled rec))
 
-        pub rule_added : {end : ℕ} → u ≡ Stored end →
+        pub rule_added : {end : ℕ} → u ≡ done end →
             HypAdded (records facts g.footings lists) (records Q.facts g.footings Q.lists) n I W J X m g.S (add_rule_hyp g.xs g.S) end new
         rule_added {end} q =
             let M = made J X new in
             let L = sets (tailed lists from out) (n.entries + 1 + many) (take few general) in
-            let z : HypothesisPut (records facts g.footings L) (records Q.facts g.footings Q.lists) n j many (length (take few general)) (Stored end) =
+            let z : HypothesisPut (records facts g.footings L) (records Q.facts g.footings Q.lists) n j many (length (take few general)) (done end) =
             subst (RulePutAs (records facts g.footings (tailed lists from out)) (records Q.facts g.footings Q.lists) n j many (take few general)) q put_there in
-            let y = subst (λ i. HypothesisPut (records facts g.footings L) (records Q.facts g.footings Q.lists) n j many i (Stored end))
+            let y = subst (λ i. HypothesisPut (records facts g.footings L) (records Q.facts g.footings Q.lists) n j many i (done end))
             (ap length parts_vars ∙ sym parts.some_vars) z in
             let room : n.entries + (1 + many + few) ≤ ENTRIES = omega (arith, y.1, y.2) in
             let start : from ≡ n.entries + 1 = behind_is n.entries (length lists) e (omega (arith, lists_long rec, room)) in
@@ -176,11 +177,11 @@ module _ {K : Names} {facts lists : List ℕ} {n : Sizes} {I W : List ℕ} {m : 
             adding_ok rec j parts.premises parts.vars (record { makes = parts.makes; here = parts.is }) parts.count parts.some_vars parts.there parts.known
             parts.listed.below L behind y
 
-        pub rule_full : {d : ℕ} {last : List ℕ} → u ≡ Full d → last ≡ replicate (length (take (length Q.lists - from) (drop from Q.lists))) 0 →
-            Halts I W J X m g.S (add_rule_hyp g.xs g.S) 60 d new
+        pub rule_full : {d : Row} {last : List ℕ} → u ≡ refused d → last ≡ replicate (length (take (length Q.lists - from) (drop from Q.lists))) 0 →
+            Halts I W J X m g.S (add_rule_hyp g.xs g.S) 60 (row_number d) new
             × (records Q.facts g.footings (tailed Q.lists from last) ≡ records facts g.footings lists)
         rule_full {d} {last} q v =
-            let z : RulePutAs (records facts g.footings (tailed lists from out)) (records Q.facts g.footings Q.lists) n j many (take few general) (Full d) =
+            let z : RulePutAs (records facts g.footings (tailed lists from out)) (records Q.facts g.footings Q.lists) n j many (take few general) (refused d) =
             subst (RulePutAs (records facts g.footings (tailed lists from out)) (records Q.facts g.footings Q.lists) n j many (take few general)) q put_there in
             let long : length (take few general) ≡ few = ap length parts_vars ∙ sym parts.some_vars in
             let same-facts : Q.facts ≡ facts = ap (λ (x : Records). x.facts) z.0 in

@@ -1,5 +1,5 @@
 -- What the forms of hypotheses are given and what they answer, beside what the definition answers: K. Assumes nothing.
-use Rattle.std.specs.Prelude.{◌≡◌, true, false, List, ℕ, ◌+◌, ◌<◌, ◌≤◌, ltb, length}
+use Rattle.std.specs.Prelude.{◌≡◌, true, false, List, ℕ, ◌+◌, ◌<◌, ◌≤◌, ltb, length, Result, Ok, Err}
 use Rattle.std.proofs.lemmas.List.Edits.{sets}
 use Rattle.rules.specs.Limits.{VARIABLES, FACTS, ENTRIES}
 use Rattle.rules.specs.Out.{Out, ok}
@@ -15,8 +15,8 @@ use Rattle.sexp.specs.Items.{Holds}
 use Rattle.terms.specs.declared.store.Mark.{Mark}
 use Rattle.terms.specs.Table.{made, tree}
 use Rattle.state.specs.declared.sizes.Sizes.{Sizes}
-use Rattle.state.specs.declared.facts.Put.{Put}
-use Rattle.state.specs.declared.facts.Put.TheVariants.{Stored, Full}
+use Rattle.questions.specs.declared.Row.{Row}
+use Rattle.questions.specs.Numbers.{row_number}
 use Rattle.state.specs.Held.{Names, Records, records}
 use Rattle.state.specs.Recording.{Valid, Assumes, HypothesisPut, with_fact}
 use Rattle.reading.specs.Laws.Lists.{Listing}
@@ -53,7 +53,7 @@ pub record HypAdded (R Q : Records) (n : Sizes) (I W J X : List ℕ) (old : Mark
   pub is : K ≡ ok tt (with_fact (with_made S (made J X now)) new (plus S.counts one_hypothesis))
   pub assumes : Assumes (made J X now) (with_made S (made J X now)) new n judgment premises general R.lists behind
   pub valid : Valid (made J X now) (with_fact (with_made S (made J X now)) new (plus S.counts one_hypothesis))
-  pub stored : HypothesisPut (records R.facts R.footings behind) Q n judgment premises general (Stored e)
+  pub stored : HypothesisPut (records R.facts R.footings behind) Q n judgment premises general (Ok e)
 
 -- R, Q: the tables of facts before and afterwards
 abbrev pub AssumedAs : Records → Records → Sizes → List ℕ → List ℕ → List ℕ → List ℕ → Mark → State → Out State (Unit {0}) → Assumed → Type 0
@@ -84,8 +84,8 @@ PartsAs I W J X old S K before cells general (stated_as.No q d now) = Halts I W 
 -- What is stored last --------------------------------------------------------------------------------------------------------------
 
 -- rows 12 and 13 of question 60, with the variables behind the premises where there is room, and the tables as they were where there is none
-abbrev pub RulePutAs : Records → Records → Sizes → ℕ → ℕ → List ℕ → Put → Type 0
-RulePutAs R Q n judgment premises general (Stored e) =
-    HypothesisPut (records R.facts R.footings (sets R.lists (n.entries + 1 + premises) general)) Q n judgment premises (length general) (Stored e)
-RulePutAs R Q n judgment premises general (Full r) =
-    (Q ≡ R) × (r ≡ elim (ltb n.facts FACTS) [ true ↦ 13 | false ↦ 12 ]) × (n.facts < FACTS → ENTRIES < n.entries + (1 + premises + length general))
+abbrev pub RulePutAs : Records → Records → Sizes → ℕ → ℕ → List ℕ → Result ℕ Row → Type 0
+RulePutAs R Q n judgment premises general (Ok e) =
+    HypothesisPut (records R.facts R.footings (sets R.lists (n.entries + 1 + premises) general)) Q n judgment premises (length general) (Ok e)
+RulePutAs R Q n judgment premises general (Err r) =
+    (Q ≡ R) × (row_number r ≡ elim (ltb n.facts FACTS) [ true ↦ 13 | false ↦ 12 ]) × (n.facts < FACTS → ENTRIES < n.entries + (1 + premises + length general))

@@ -8,10 +8,11 @@ ghost use Rattle.forms.specs.Halted.{ReadsForm};
 ghost use Rattle.forms.specs.Assumed.{AddsFact, AssumedAs, PartsAs, RulePutAs};
 
 use cells::{clear, write};
+use questions::Row;
 use reading::apart::{Out, judgment, judgments, vars_list};
 use rules::{ENTRIES, FACTS, VARIABLES};
 use sexp::items;
-use state::facts::{Put, put_hypothesis};
+use state::facts::put_hypothesis;
 use state::sizes::Sizes;
 use terms::store::Mark;
 
@@ -67,8 +68,8 @@ pub fn add_hyp(
         &cells[at..],
     ) {
         Out::Ok(j, new) => match put_hypothesis(facts, lists, n, j, 0, 0) {
-            Put::Stored(e) => Assumed::Ok(e, new),
-            Put::Full(row) => Assumed::No(60, row, new),
+            Ok(e) => Assumed::Ok(e, new),
+            Err(row) => Assumed::No(60, row.number(), new),
         },
         Out::No(q, d, new) => Assumed::No(q, d, new),
     }
@@ -157,26 +158,26 @@ fn put_rule(
     judgment: usize,
     premises: usize,
     general: &[u32],
-) -> Put
+) -> Result<usize, Row>
     requires { (footings : List ℕ) × Putting (records facts.old footings lists.old) n judgment }
     ensures { (footings : List ℕ) → length footings ≡ 4 * FACTS →
         RulePutAs (records facts.old footings lists.old) (records facts.new footings lists.new) n judgment premises general.now result }
 {
     if n.facts >= FACTS {
-        return Put::Full(12);
+        return Err(Row::Facts);
     }
     let own = n.entries;
     if own >= ENTRIES {
-        return Put::Full(13);
+        return Err(Row::Entries);
     }
     let from = own + 1;
     let room = ENTRIES - from;
     if room < premises {
-        return Put::Full(13);
+        return Err(Row::Entries);
     }
     let many = general.len();
     if room - premises < many {
-        return Put::Full(13);
+        return Err(Row::Entries);
     }
     let at = from + premises;
     write(&mut lists[at..], general);
@@ -235,10 +236,10 @@ pub fn add_rule_hyp(
     ) {
         Stated::Ok(j, many, k, new) => {
             match put_rule(facts, lists, n, j, many, &general[..k]) {
-                Put::Stored(e) => Assumed::Ok(e, new),
-                Put::Full(row) => {
+                Ok(e) => Assumed::Ok(e, new),
+                Err(row) => {
                     clear(&mut lists[from..]);
-                    Assumed::No(60, row, new)
+                    Assumed::No(60, row.number(), new)
                 }
             }
         }

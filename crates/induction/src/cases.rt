@@ -4,7 +4,8 @@ ghost use Rattle.rules.specs.Limits.{VARIABLES};
 ghost use Rattle.rules.specs.Tree.{var, app};
 ghost use Rattle.rules.specs.Store.{keep, substitutes};
 ghost use Rattle.rules.specs.Induct.{hypothesis_at, hypotheses};
-ghost use Rattle.terms.specs.Table.{made, tree, args_of, Good, After};
+ghost use Rattle.terms.specs.Apart.{After};
+ghost use Rattle.terms.specs.Table.{made, tree, args_of, Good};
 ghost use Rattle.terms.specs.Subst.{replacement};
 ghost use Rattle.induction.specs.Inducing.{Below, motive_in, Motived, judgment_first, premises_first, Movable, MovedAllAs, MovedAs, var_trees, keep_case, Casing, at_constructor, Scratch, HypsMadeAs};
 

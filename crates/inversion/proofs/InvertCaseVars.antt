@@ -27,7 +27,9 @@ use Rattle.state.specs.Filled.{filled_front}
 use Rattle.reading.specs.Given.{VarsItem}
 use Rattle.reading.specs.Laws.Lists.{Listing, vars_listed, listing_few}
 use Rattle.casework.specs.declared.cases.CaseRead.{CaseRead}
-use Rattle.casework.specs.declared.cases.CaseRead.TheVariants.{Ok, No}
+use Rattle.std.specs.Prelude.{Result, Ok, Err}
+use Rattle.questions.specs.declared.Question.{Question}
+use Rattle.questions.specs.Numbers.{number_of}
 use Rattle.casework.specs.Cases.{CaseIs, CaseAs}
 use Rattle.casework.specs.Context.{There}
 use Rattle.inversion.specs.InvertRules.{RuleVarsGiven, CaseVarsGiven, CaseVarsAre}
@@ -56,24 +58,24 @@ module _ {goals text vars rulevars : List ℕ} {count : ℕ} {cells : List ℕ} 
   abbrev pub case_given : VarsItem goals text vars count (take (length cells - p) (drop p cells))
   case_given = record { S = g.S; x = g.x; ys = g.ys; vars_are = g.vars_are; holds = walk_rest g.walk }
 
-  module _ (before out : List ℕ) (a : CaseRead)
+  module _ (before out : List ℕ) (a : Result CaseRead Question)
       (f : (w : VarsItem goals text vars count (take (length cells - p) (drop p cells))) → CaseAs w.S text w.x before out a) where
-    pub case_never : {A : Type 0} {q : ℕ} → a ≡ No q → A
+    pub case_never : {A : Type 0} {q : Question} → a ≡ Err q → A
     case_never {A} {q} e =
-        no_answer g.c q 0 []
-        (sym (item_reads g.S g.x g.c g.case []) ∙ (subst (λ (z : CaseRead). CaseAs g.S text g.x before out z) e (f case_given)).0 [])
+        no_answer g.c (number_of q) 0 []
+        (sym (item_reads g.S g.x g.c g.case []) ∙ (subst (λ (z : Result CaseRead Question). CaseAs g.S text g.x before out z) e (f case_given)).0 [])
 
-    module _ {start fact many : ℕ} (e : a ≡ Ok start fact many) where
-      read : CaseIs g.S text g.x out start fact many
-      read = subst (λ (z : CaseRead). CaseAs g.S text g.x before out z) e (f case_given)
+    module _ {one : CaseRead} (e : a ≡ Ok one) where
+      read : CaseIs g.S text g.x out one.start one.fact one.variables
+      read = subst (λ (z : Result CaseRead Question). CaseAs g.S text g.x before out z) e (f case_given)
 
       same_case : read.c ≡ g.c
       same_case = one_answer read.c g.c [] (sym (read.read []) ∙ item_reads g.S g.x g.c g.case [])
 
-      fact_is : fact ≡ g.c.fact
+      fact_is : one.fact ≡ g.c.fact
       fact_is = read.number ∙ ap (λ (c : Case). c.fact) same_case
 
-      pub case_many : many ≡ length g.c.vars
+      pub case_many : one.variables ≡ length g.c.vars
       case_many = read.count ∙ ap (λ (c : Case). length c.vars) same_case
 
       listed : Listing (length g.S.vars) g.c.vars
@@ -88,7 +90,7 @@ module _ {goals text vars rulevars : List ℕ} {count : ℕ} {cells : List ℕ} 
       fits : length g.c.vars ≤ VARIABLES
       fits = omega (arith, listing_few listed, few_vars)
 
-      pub case_fits : many ≤ VARIABLES
+      pub case_fits : one.variables ≤ VARIABLES
       case_fits = omega (arith, case_many, fits)
 
       out_long : length out ≡ VARIABLES
@@ -97,33 +99,33 @@ module _ {goals text vars rulevars : List ℕ} {count : ℕ} {cells : List ℕ} 
           ap length (out_is ∙ filled_fits VARIABLES g.c.vars fits)
           ∙ omega (arith, length-append g.c.vars (replicate (VARIABLES - length g.c.vars) 0), length-replicate {A = ℕ} (VARIABLES - length g.c.vars) 0)
 
-      pub case_room : many ≤ length out
+      pub case_room : one.variables ≤ length out
       case_room = omega (arith, case_fits, out_long)
 
-      pub case_long : many ≡ length (take many out)
-      case_long = sym (length-take-le many out case_room)
+      pub case_long : one.variables ≡ length (take one.variables out)
+      case_long = sym (length-take-le one.variables out case_room)
 
-      own_is : take many out ≡ g.c.vars
+      own_is : take one.variables out ≡ g.c.vars
       own_is = ap (λ (k : ℕ). take k out) case_many ∙ ap (take (length g.c.vars)) out_is ∙ filled_front VARIABLES g.c.vars fits
 
-      pub case_there : There VARIABLES (take many out)
+      pub case_there : There VARIABLES (take one.variables out)
       case_there k l =
           let z = few_vars in
           subst (λ (xs : List ℕ). get_or xs k 0 < VARIABLES) (sym own_is)
           (omega (arith, all_at g.c.vars k 0 listed.below (subst (λ (xs : List ℕ). k < length xs) own_is l), z))
 
-      pub case_words : (taken : List ℕ) → length taken ≡ VARIABLEWORDS → There (64 * length taken) (take many out)
+      pub case_words : (taken : List ℕ) → length taken ≡ VARIABLEWORDS → There (64 * length taken) (take one.variables out)
       case_words taken t k l = omega (arith, case_there k l, t)
 
       -- what `suits` asks
-      pub case_suits : RuleVarsGiven rulevars r need × ((vs : List Var) × (count : ℕ) × VarCells vars count vs) × There VARIABLES (take many out)
+      pub case_suits : RuleVarsGiven rulevars r need × ((vs : List Var) × (count : ℕ) × VarCells vars count vs) × There VARIABLES (take one.variables out)
       case_suits = (g.rule_vars_lem, (g.S.vars, count, g.vars_are.stand), case_there)
 
       abbrev rs : List RuleVar
       rs = (rule g.S.theory r).vars
 
       module _ {b : Bool}
-          (s : (h : RuleVarsGiven rulevars r need) (vs : List Var) (count : ℕ) → VarCells vars count vs → b ≡ suit vs (take many out) (rule h.T r).vars) where
+          (s : (h : RuleVarsGiven rulevars r need) (vs : List Var) (count : ℕ) → VarCells vars count vs → b ≡ suit vs (take one.variables out) (rule h.T r).vars) where
         suits_is : b ≡ suit g.S.vars g.c.vars rs
         suits_is = s g.rule_vars_lem g.S.vars count g.vars_are.stand ∙ (λ i. suit g.S.vars (own_is i) (rule (g.theory i) r).vars)
 
@@ -140,10 +142,10 @@ module _ {goals text vars rulevars : List ℕ} {count : ℕ} {cells : List ℕ} 
           needed : need ≡ length rs
           needed = g.rule_vars_lem.many ∙ ap (λ (T : Theory). length (rule T r).vars) g.theory
 
-          pub case_short : (list : List ℕ) → length list ≡ RULEVARS → length (take many out) ≤ length list
+          pub case_short : (list : List ℕ) → length list ≡ RULEVARS → length (take one.variables out) ≤ length list
           case_short list n = omega (arith, n, g.few, needed, as_many, ap length own_is)
 
-          module _ (taken : List ℕ) {d : Bool} (n : d ≡ all (λ v. not (holds taken v)) (take many out)) where
+          module _ (taken : List ℕ) {d : Bool} (n : d ≡ all (λ v. not (holds taken v)) (take one.variables out)) where
             news : d ≡ all (λ v. not (holds taken v)) g.c.vars
             news = n ∙ ap (all (λ v. not (holds taken v))) own_is
 
@@ -151,14 +153,14 @@ module _ {goals text vars rulevars : List ℕ} {count : ℕ} {cells : List ℕ} 
             case_taken z =
                 and_true (suit g.S.vars g.c.vars rs) (all (λ v. not (holds taken v)) g.c.vars) suited ∙ sym news ∙ not-true d z
 
-            pub case_new : {taken' : List ℕ} (list : List ℕ) {list' : List ℕ} → not d ≡ false → holds taken' ≡ union (holds taken) (has (take many out)) →
-                list' ≡ take many out ++ drop (length (take many out)) list → CaseVarsAre g.S rs g.c taken taken' list' fact
+            pub case_new : {taken' : List ℕ} (list : List ℕ) {list' : List ℕ} → not d ≡ false → holds taken' ≡ union (holds taken) (has (take one.variables out)) →
+                list' ≡ take one.variables out ++ drop (length (take one.variables out)) list → CaseVarsAre g.S rs g.c taken taken' list' one.fact
             case_new list z u w =
                 record {
                   suits = suited;
                   new = sym news ∙ not-false d z;
                   fact_is = fact_is;
                   many = as_many;
-                  numbers = ap (take (length rs)) w ∙ take_front (take many out) (drop (length (take many out)) list) (length rs) (sym as_many ∙ sym (ap length own_is)) ∙ own_is;
+                  numbers = ap (take (length rs)) w ∙ take_front (take one.variables out) (drop (length (take one.variables out)) list) (length rs) (sym as_many ∙ sym (ap length own_is)) ∙ own_is;
                   takes = u ∙ ap (λ (xs : List ℕ). union (holds taken) (has xs)) own_is;
                 }

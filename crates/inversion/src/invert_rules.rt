@@ -15,7 +15,7 @@ ghost use Rattle.state.specs.Held.{VarCells, names, rule_lists};
 ghost use Rattle.casework.specs.Context.{There};
 ghost use Rattle.inversion.specs.InvertRules.{RuleVarsGiven, MadeAs, CaseVarsGiven, CaseVarsAs, KeptAs, Empty, Meeting, meets, MetAs, Judging, JudgedAs, judged, judges, own_span, Verdict, verdict_of, Lacking, LackedAs, lacks, vars_with, Having, has_case, Turning, TurnedAs};
 
-use casework::cases::{CaseRead, find_case, read_case};
+use casework::cases::{find_case, read_case};
 use casework::context::{context_facts, rests_on_all, rule_premises};
 use cells::{clear, write};
 use kernel::readers::same_sort;
@@ -107,16 +107,16 @@ fn case_vars(
 {
     let mut out = [0u32; VARIABLES];
     match read_case(goals, text, vars, count, &cells[p..], &mut out) {
-        CaseRead::Ok(_, i, many) => {
-            let own = &out[..many];
+        Ok(case) => {
+            let own = &out[..case.variables];
             if !suits(vars, rulevars, r, need, own) || !all_new(own, taken) {
                 return None;
             }
             insert_all(own, taken);
             write(list, own);
-            Some(i)
+            Some(case.fact)
         }
-        CaseRead::No(_) => None,
+        Err(_) => None,
     }
 }
 

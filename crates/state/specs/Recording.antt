@@ -1,5 +1,5 @@
 -- One fact more in the tables of facts: from what `put_derived` and `put_hypothesis` leave to the state with that fact. Assumes nothing.
-use Rattle.std.specs.Prelude.{◌≡◌, ℕ, ◌+◌, ◌*◌, ◌^◌, ◌<◌, ◌≤◌, true, false, get_or, Some as some}
+use Rattle.std.specs.Prelude.{◌≡◌, ℕ, ◌+◌, ◌*◌, ◌^◌, ◌<◌, ◌≤◌, true, false, get_or, Some as some, Result, Ok}
 use Rattle.std.proofs.Math.Path.{refl, sym, ap, subst}
 use Rattle.std.proofs.Common.{◌∙◌, arith}
 use mathlib.Core.List.{List, [], ◌∷◌, ◌++◌, append_assoc, append-nil}
@@ -21,9 +21,8 @@ use Rattle.rules.specs.Laws.Shape.{Shape, Shaped, ShapedIn, all_shaped_snoc}
 use Rattle.rules.proofs.Laws.StateRows.{Rows}
 use Rattle.terms.specs.Sets.{holds}
 use Rattle.state.specs.declared.sizes.Sizes.{Sizes}
-use Rattle.state.specs.declared.facts.Put.{Put}
-use Rattle.state.specs.declared.facts.Put.TheVariants.{Stored}
 use Rattle.state.specs.Held.{Records, records, listed, Recorded}
+use Rattle.questions.specs.declared.Row.{Row}
 use Rattle.state.specs.Rows.{PutAs}
 use Rattle.state.specs.Used.{facts_now}
 use Rattle.state.specs.Filled.{filled_more, filled_zeros}
@@ -41,12 +40,12 @@ abbrev pub with_fact : State → Fact → Counts → State
 with_fact S f c = with_facts S (S.facts ++ (f ∷ [])) c
 
 -- what `put_derived` ensures, and what `put_hypothesis` does
-abbrev pub DerivedPut : Records → Records → Sizes → ℕ → List ℕ → List ℕ → Put → Type 0
+abbrev pub DerivedPut : Records → Records → Sizes → ℕ → List ℕ → List ℕ → Result ℕ Row → Type 0
 DerivedPut R Q n judgment hyps footing r =
     PutAs R Q n (judgment ∷ 0 ∷ n.entries ∷ length (rising FACTS (holds hyps)) ∷ 0 ∷ 0 ∷ []) (rising FACTS (holds hyps)) footing
     (length (rising FACTS (holds hyps))) r
 
-abbrev pub HypothesisPut : Records → Records → Sizes → ℕ → ℕ → ℕ → Put → Type 0
+abbrev pub HypothesisPut : Records → Records → Sizes → ℕ → ℕ → ℕ → Result ℕ Row → Type 0
 HypothesisPut R Q n judgment premises general r =
     PutAs R Q n (judgment ∷ 1 ∷ n.entries ∷ 1 ∷ premises ∷ general ∷ []) (n.facts ∷ []) [] (1 + premises + general) r
 
@@ -153,7 +152,7 @@ module _ {R : Records} {n : Sizes} {M : Made} {S : State} {f : Fact} {judgment :
       footing_row_lem f h.rules derived_shaped.footing footing d.words d.fit
       (sym (ap has d.uses ∙ has_rising (length S.theory.rules) (holds footing) d.known))
 
-  pub recorded_derived : {Q : Records} (r : Put) → DerivedPut R Q n judgment hyps footing r → r ≡ Stored e →
+  pub recorded_derived : {Q : Records} (r : Result ℕ Row) → DerivedPut R Q n judgment hyps footing r → r ≡ Ok e →
       Recorded Q (facts_now n (n.facts + 1) e) M (with_fact S f c)
   unfolding fact_row fact_part fact_entries count_trees bit numbers
   recorded_derived {Q} r p q =
@@ -191,7 +190,7 @@ pub record Assumes (M : Made) (S : State) (f : Fact) (n : Sizes) (judgment premi
 
 module _ {R : Records} {n : Sizes} {M : Made} {S : State} {f : Fact} {judgment premises general : ℕ} {L : List ℕ} (c : Counts) (e : ℕ)
     (h : Recorded R n M S) (d : Assumes M S f n judgment premises general R.lists L) (v : Valid M (with_fact S f c)) where
-  pub recorded_hypothesis : {Q : Records} (r : Put) → HypothesisPut (records R.facts R.footings L) Q n judgment premises general r → r ≡ Stored e →
+  pub recorded_hypothesis : {Q : Records} (r : Result ℕ Row) → HypothesisPut (records R.facts R.footings L) Q n judgment premises general r → r ≡ Ok e →
       Recorded Q (facts_now n (n.facts + 1) e) M (with_fact S f c)
   unfolding fact_row fact_part fact_entries bit bit_word footing_row
   recorded_hypothesis {Q} r p q =

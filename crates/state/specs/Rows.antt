@@ -1,5 +1,5 @@
 -- What the readers and writers of rows cite: cells of a row, spans of lists, a row more. Assumes nothing.
-use Rattle.std.specs.Prelude.{◌≡◌, ℕ, ◌+◌, ◌*◌, ◌^◌, ◌<◌, ◌≤◌, Bool, true, false, not, ◌&&◌, List, eqb, ltb, length, get_or, Some as some, None as nothing, Option}
+use Rattle.std.specs.Prelude.{◌≡◌, ℕ, ◌+◌, ◌*◌, ◌^◌, ◌<◌, ◌≤◌, Bool, true, false, not, ◌&&◌, List, eqb, ltb, length, get_or, Some as some, None as nothing, Option, Result, Ok, Err}
 use Rattle.std.proofs.lemmas.List.Edits.{sets}
 use Rattle.rules.specs.Limits.{FACTS, ENTRIES}
 use Rattle.rules.specs.Tree.{var}
@@ -8,8 +8,8 @@ use Rattle.rules.specs.State.{Var, Def, Goal, abbreviated}
 use Rattle.state.specs.Held.{VarsHeld, DefsHeld, GoalsHeld, Records}
 use Rattle.state.specs.declared.sizes.Sizes.{Sizes}
 use Rattle.state.specs.declared.facts.Span.{Span}
-use Rattle.state.specs.declared.facts.Put.{Put}
-use Rattle.state.specs.declared.facts.Put.TheVariants.{Stored, Full}
+use Rattle.questions.specs.declared.Row.{Row}
+use Rattle.questions.specs.Numbers.{row_number}
 
 -- cell j of row i, of w cells a row
 abbrev pub cell : ℕ → List ℕ → ℕ → ℕ → ℕ
@@ -76,6 +76,6 @@ pub record RowPut (R Q : Records) (n : Sizes) (row hyps footing : List ℕ) : Ty
   pub room : n.facts < FACTS
 
 -- rows 12 and 13 of question 60: k entries more, of which the first are given
-abbrev pub PutAs : Records → Records → Sizes → List ℕ → List ℕ → List ℕ → ℕ → Put → Type 0
-PutAs R Q n row hyps footing k (Stored e) = RowPut R Q n row hyps footing × (e ≡ n.entries + k) × (e ≤ ENTRIES)
-PutAs R Q n row hyps footing k (Full r) = (Q ≡ R) × (r ≡ elim (ltb n.facts FACTS) [ true ↦ 13 | false ↦ 12 ]) × (n.facts < FACTS → ENTRIES < n.entries + k)
+abbrev pub PutAs : Records → Records → Sizes → List ℕ → List ℕ → List ℕ → ℕ → Result ℕ Row → Type 0
+PutAs R Q n row hyps footing k (Ok e) = RowPut R Q n row hyps footing × (e ≡ n.entries + k) × (e ≤ ENTRIES)
+PutAs R Q n row hyps footing k (Err r) = (Q ≡ R) × (row_number r ≡ elim (ltb n.facts FACTS) [ true ↦ 13 | false ↦ 12 ]) × (n.facts < FACTS → ENTRIES < n.entries + k)

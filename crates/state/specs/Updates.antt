@@ -1,6 +1,6 @@
 -- All tables stand for the new state behind each kind of form: a variable, an abbreviation, a goal or a fact more, a goal that is taken. A form
 -- first makes its trees (`stands_grown`), then stores. Assumes nothing.
-use Rattle.std.specs.Prelude.{◌≡◌, ℕ, ◌+◌, ◌*◌, ◌<◌, ◌≤◌, false, List, [], ◌∷◌, ◌++◌, length, set}
+use Rattle.std.specs.Prelude.{◌≡◌, ℕ, ◌+◌, ◌*◌, ◌<◌, ◌≤◌, false, List, [], ◌∷◌, ◌++◌, length, set, Result, Ok}
 use Rattle.std.proofs.Common.{sym, ◌∙◌, arith}
 use Rattle.std.proofs.Math.Path.{ap, subst}
 use Rattle.std.proofs.lemmas.List.Edits.{sets}
@@ -20,8 +20,7 @@ use Rattle.kernel.specs.Parsed.{TheoryLists}
 use Rattle.sexp.specs.NameRows.{NameIn}
 use Rattle.terms.specs.declared.store.Mark.{Mark}
 use Rattle.state.specs.declared.sizes.Sizes.{Sizes}
-use Rattle.state.specs.declared.facts.Put.{Put}
-use Rattle.state.specs.declared.facts.Put.TheVariants.{Stored}
+use Rattle.questions.specs.declared.Row.{Row}
 use Rattle.state.specs.Held.{text_of, VarsHeld, Records, records, Recorded}
 use Rattle.state.specs.Used.{vars_now, defs_now, goals_now, facts_now}
 use Rattle.state.specs.Numbered.{in_sound}
@@ -159,8 +158,8 @@ module _ {X : Texts} {T : TheoryLists} {B : Board} {n : Sizes} {m : Mark} {S : S
 
   -- `add_fact` of a derived fact, behind `put_derived`
   pub stands_derived : {Q : Records} {f : Fact} {judgment : ℕ} {hyps footing : List ℕ} (c : Counts) (e : ℕ) → Derives S.made S f judgment hyps footing →
-      Valid S.made (with_fact S f c) → (r : Put) →
-      DerivedPut (records B.facts B.footings B.lists) Q n judgment hyps footing r → r ≡ Stored e →
+      Valid S.made (with_fact S f c) → (r : Result ℕ Row) →
+      DerivedPut (records B.facts B.footings B.lists) Q n judgment hyps footing r → r ≡ Ok e →
       Stands X T (board B.vars B.index B.words B.defs B.goals Q.facts Q.footings Q.lists) (facts_now n (n.facts + 1) e) m
       (with_fact S f c)
   stands_derived {f = f} {judgment = judgment} {hyps = hyps} {footing = footing} c e d v r p q =
@@ -168,8 +167,8 @@ module _ {X : Texts} {T : TheoryLists} {B : Board} {n : Sizes} {m : Mark} {S : S
 
   -- `add_fact` of a hypothesis, behind `put_hypothesis`; L: the lists with its premises and generalised variables
   pub stands_hypothesis : {Q : Records} {f : Fact} {judgment premises general : ℕ} {L : List ℕ} (c : Counts) (e : ℕ) →
-      Assumes S.made S f n judgment premises general B.lists L → Valid S.made (with_fact S f c) → (r : Put) →
-      HypothesisPut (records B.facts B.footings L) Q n judgment premises general r → r ≡ Stored e →
+      Assumes S.made S f n judgment premises general B.lists L → Valid S.made (with_fact S f c) → (r : Result ℕ Row) →
+      HypothesisPut (records B.facts B.footings L) Q n judgment premises general r → r ≡ Ok e →
       Stands X T (board B.vars B.index B.words B.defs B.goals Q.facts Q.footings Q.lists) (facts_now n (n.facts + 1) e) m
       (with_fact S f c)
   stands_hypothesis {f = f} {judgment = judgment} {premises = premises} {general = general} {L = L} c e d v r p q =

@@ -9,6 +9,7 @@ ghost use Rattle.state.specs.Held.{records};
 ghost use Rattle.state.specs.Rows.{cell, hyps_span, premises_span, general_span, plain_row, Putting, PutAs};
 
 use crate::sizes::Sizes;
+use questions::Row;
 use terms::sets::{count, union_into, write_out};
 
 // Entries of the lists: the first place, and the place behind the last.
@@ -16,13 +17,6 @@ use terms::sets::{count, union_into, write_out};
 pub struct Span {
     pub from: usize,
     pub end: usize,
-}
-
-// The number of entries in use then, or the row of question 60 that has no room.
-#[derive(Clone, Copy, Debug, PartialEq, Eq)]
-pub enum Put {
-    Stored(usize),
-    Full(usize),
 }
 
 // Whether fact i is there: every look-up of a named fact asks this.
@@ -139,7 +133,7 @@ fn put_footing(footings: &mut [u64], i: usize, footing: &[u64])
     footings[at..end].copy_from_slice(footing);
 }
 
-// A derived fact behind the others: its row, its hypotheses by rising number, its footing.
+// A derived fact behind the others: its row, its hypotheses by rising number, its footing. The number of entries in use then, or the row that has no room.
 pub fn put_derived(
     facts: &mut [u32],
     footings: &mut [u64],
@@ -148,7 +142,7 @@ pub fn put_derived(
     judgment: usize,
     hyps: &[u64],
     footing: &[u64],
-) -> Put
+) -> Result<usize, Row>
     requires putting { Putting (records facts.old footings.old lists.old) n judgment }
     requires hyps_value { (64 * length hyps.now ≡ FACTS) × (length footing.now ≡ 4) }
     ensures { PutAs (records facts.old footings.old lists.old) (records facts.new footings.new lists.new) n
@@ -158,21 +152,21 @@ pub fn put_derived(
     let i = n.facts;
     let from = n.entries;
     if i >= rules::FACTS {
-        return Put::Full(12);
+        return Err(Row::Facts);
     }
     let many = count(hyps);
     let end = from + many;
     if rules::ENTRIES < end {
-        return Put::Full(13);
+        return Err(Row::Entries);
     }
     put_row(facts, i, judgment, 0, from, many, 0, 0);
     put_footing(footings, i, footing);
     write_out(hyps, &mut lists[from..]);
-    Put::Stored(end)
+    Ok(end)
 }
 
 // A hypothesis behind the others, which rests on itself; so many premises and generalised variables stand behind its own entry already, as far as
-// there is room.
+// there is room. The answer as there.
 pub fn put_hypothesis(
     facts: &mut [u32],
     lists: &mut [u32],
@@ -180,7 +174,7 @@ pub fn put_hypothesis(
     judgment: usize,
     premises: usize,
     general: usize,
-) -> Put
+) -> Result<usize, Row>
     requires { ((footings : List ℕ) × Putting (records facts.old footings lists.old) n judgment) × (premises + general < 2 ^ 32) }
     ensures { (footings : List ℕ) → length footings ≡ 4 * FACTS → PutAs (records facts.old footings lists.old) (records facts.new footings lists.new) n
         (judgment ∷ 1 ∷ n.entries ∷ 1 ∷ premises ∷ general ∷ []) (n.facts ∷ []) [] (1 + premises + general) result }
@@ -188,13 +182,13 @@ pub fn put_hypothesis(
     let i = n.facts;
     let from = n.entries;
     if i >= rules::FACTS {
-        return Put::Full(12);
+        return Err(Row::Facts);
     }
     let end = from + 1 + premises + general;
     if rules::ENTRIES < end {
-        return Put::Full(13);
+        return Err(Row::Entries);
     }
     put_row(facts, i, judgment, 1, from, 1, premises, general);
     lists[from] = i as u32;
-    Put::Stored(end)
+    Ok(end)
 }

@@ -1,5 +1,5 @@
 -- From the answers of `add_hyp` and `add_rule_hyp` to all tables at once: K is what the definition answers, `add_hyp` or `add_rule_hyp`. Assumes nothing.
-use Rattle.std.specs.Prelude.{◌≡◌, refl, List, ℕ, ◌+◌, ◌≤◌}
+use Rattle.std.specs.Prelude.{◌≡◌, refl, List, ℕ, ◌+◌, ◌≤◌, Ok}
 use Rattle.std.proofs.Common.{ap, subst}
 use Rattle.rules.specs.Out.{Out}
 use Rattle.rules.specs.Sexp.{Sexps, count}
@@ -10,7 +10,6 @@ use Rattle.kernel.specs.Parsed.{TheoryLists}
 use Rattle.terms.specs.declared.store.Mark.{Mark}
 use Rattle.terms.specs.Table.{made}
 use Rattle.state.specs.declared.sizes.Sizes.{Sizes}
-use Rattle.state.specs.declared.facts.Put.TheVariants.{Stored}
 use Rattle.state.specs.Held.{names, Records, records}
 use Rattle.state.specs.Used.{facts_now}
 use Rattle.state.specs.Recording.{with_fact}
@@ -50,7 +49,7 @@ module _ {X : Texts} {T : TheoryLists} {B : Board} {n : Sizes} {m : Mark} {S : S
         record {
           after = with_fact (with_made S (made J Y now)) z.new (plus S.counts one_hypothesis);
           is = z.is;
-          stands = stands_hypothesis (stands_makes h z.makes) (plus S.counts one_hypothesis) e z.assumes z.valid (Stored e) z.stored refl;
+          stands = stands_hypothesis (stands_makes h z.makes) (plus S.counts one_hypothesis) e z.assumes z.valid (Ok e) z.stored refl;
           counted = refl;
         }
 

@@ -51,16 +51,16 @@ returns-then-is_taken c = λ g. let ci =
     c.in-Ok.is) in casing_twice (c.loop-at.invariant.3 g) c.loop-at-test.true ci.c ci.read c.is_taken.result
     (taken_is (c.loop-at.invariant.3 g) g.holds ci.c (bytes_are ci c.atom_end-end.ensures) c.is_taken.ensures).is c.if-is_taken.true
 
-pub shape_of-places-in-No : goal.shape_of-places-in-No
-shape_of-places-in-No c = c.loop-at.invariant.0
+pub shape_of-places-in-Err : goal.shape_of-places-in-Err
+shape_of-places-in-Err c = c.loop-at.invariant.0
 
-pub shape_of-links-in-No : goal.shape_of-links-in-No
-shape_of-links-in-No c = c.loop-at.invariant.1
+pub shape_of-links-in-Err : goal.shape_of-links-in-Err
+shape_of-links-in-Err c = c.loop-at.invariant.1
 
-pub returns-in-No : goal.returns-in-No
-returns-in-No c = λ g. casing_no (c.loop-at.invariant.3 g) c.loop-at-test.true _
+pub returns-in-Err : goal.returns-in-Err
+returns-in-Err c = rw c.number.ensures (λ g. casing_no (c.loop-at.invariant.3 g) c.loop-at-test.true _
     (read_no g (c.loop-at.invariant.3 g) c.loop-at-test.true _ c.read_case.new.out c.read_case.result c.read_case.ensures
-    c.in-No.is)
+    c.in-Err.is))
 
 pub overflow_add-k : goal.overflow_add-k
 overflow_add-k c = omega (arith, c.loop-at.invariant.2, c.loop-at-test.true, c.well_formed.1.1.1.1.0)

@@ -61,7 +61,7 @@ pub offset_bounds-links-cell : goal.offset_bounds-links-cell
 offset_bounds-links-cell c = omega (
   arith,
   (spot_free c.args.text.now c.args.places.now c.args.links.now c.args.many _ c.seek.result
-      (c.seek.ensures _ c.requires.tree.0) c.in-Free.is).near,
+      (c.seek.ensures _ c.requires.tree.0) c.in-Some.is).near,
   c.requires.tree.1,
   c.requires.tree.0.even,
   c.well_formed.1.1.1.1.1.0,
@@ -71,7 +71,7 @@ pub bounds-links-cell : goal.bounds-links-cell
 bounds-links-cell c = omega (
   arith,
   (spot_free c.args.text.now c.args.places.now c.args.links.now c.args.many _ c.seek.result
-      (c.seek.ensures _ c.requires.tree.0) c.in-Free.is).near,
+      (c.seek.ensures _ c.requires.tree.0) c.in-Some.is).near,
   c.requires.tree.1,
   c.requires.tree.0.even,
 )
@@ -79,4 +79,4 @@ bounds-links-cell c = omega (
 pub returns : goal.returns
 returns c = entered c.requires.tree.0 c.requires.tree.1 c.requires.start_le_end.0 c.requires.start_le_end.1
     (spot_free c.args.text.now c.args.places.now c.args.links.now c.args.many _ c.seek.result (c.seek.ensures _ c.requires.tree.0)
-    c.in-Free.is)
+    c.in-Some.is)

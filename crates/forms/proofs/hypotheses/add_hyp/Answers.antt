@@ -28,15 +28,15 @@ put_hypothesis-requires c = (
   omega arith,
 )
 
-pub returns-in-Stored : goal.returns-in-Stored
-returns-in-Stored c = λ g. hyp_added g c.place-at.ensures c.judgment.new.index c.judgment.new.words
+pub returns-in-Ok-put_hypothesis : goal.returns-in-Ok-put_hypothesis
+returns-in-Ok-put_hypothesis c = λ g. hyp_added g c.place-at.ensures c.judgment.new.index c.judgment.new.words
     c.judgment.result c.judgment.ensures c.in-Ok.is (records c.put_hypothesis.new.facts g.footings c.put_hypothesis.new.lists)
-    c.put_hypothesis.result c.put_hypothesis.ensures c.in-Stored.is
+    c.put_hypothesis.result c.put_hypothesis.ensures c.in-Ok-put_hypothesis.is
 
-pub returns-in-Full : goal.returns-in-Full
-returns-in-Full c = λ g. hyp_full g c.place-at.ensures c.judgment.new.index c.judgment.new.words
+pub returns-in-Err : goal.returns-in-Err
+returns-in-Err c = rw c.number.ensures (λ g. hyp_full g c.place-at.ensures c.judgment.new.index c.judgment.new.words
     c.judgment.result c.judgment.ensures c.in-Ok.is (records c.put_hypothesis.new.facts g.footings c.put_hypothesis.new.lists)
-    c.put_hypothesis.result c.put_hypothesis.ensures c.in-Full.is
+    c.put_hypothesis.result c.put_hypothesis.ensures c.in-Err.is)
 
 pub returns-in-No : goal.returns-in-No
 returns-in-No c = λ g. (

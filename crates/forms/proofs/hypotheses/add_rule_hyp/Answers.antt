@@ -43,8 +43,8 @@ put_rule-requires c = (
       c.rule_parts.auto.out c.in-Ok.is,
 )
 
-pub offset_bounds-lists-from-in-Full : goal.offset_bounds-lists-from-in-Full
-offset_bounds-lists-from-in-Full c = omega (arith, from_high c.requires c.behind_own-from.ensures, c.well_formed.1.1.1.1.1.1.1.1.0)
+pub offset_bounds-lists-from-in-Err : goal.offset_bounds-lists-from-in-Err
+offset_bounds-lists-from-in-Err c = omega (arith, from_high c.requires c.behind_own-from.ensures, c.well_formed.1.1.1.1.1.1.1.1.0)
 
 pub slice_bounds-clear-count : goal.slice_bounds-clear-count
 slice_bounds-clear-count c = omega (
@@ -68,18 +68,18 @@ slice_bounds-clear-start c = omega (
       c.rule_parts.result c.rule_parts.ensures c.rule_parts.auto.out c.in-Ok.is,
 )
 
-pub returns-in-Stored : goal.returns-in-Stored
-returns-in-Stored c = λ g. rule_added g c.behind_own-from.ensures c.rule_parts.new.index c.rule_parts.new.words
+pub returns-in-Ok-put_rule : goal.returns-in-Ok-put_rule
+returns-in-Ok-put_rule c = λ g. rule_added g c.behind_own-from.ensures c.rule_parts.new.index c.rule_parts.new.words
     c.rule_parts.new.out c.rule_parts.new.general
     c.rule_parts.result c.rule_parts.ensures c.rule_parts.auto.out c.in-Ok.is
-    (records c.put_rule.new.facts g.footings c.put_rule.new.lists) c.put_rule.result c.put_rule.ensures c.in-Stored.is
+    (records c.put_rule.new.facts g.footings c.put_rule.new.lists) c.put_rule.result c.put_rule.ensures c.in-Ok-put_rule.is
 
-pub returns-in-Full : goal.returns-in-Full
-returns-in-Full c = λ g. rule_full g c.behind_own-from.ensures c.rule_parts.new.index c.rule_parts.new.words
+pub returns-in-Err : goal.returns-in-Err
+returns-in-Err c = rw c.number.ensures (λ g. rule_full g c.behind_own-from.ensures c.rule_parts.new.index c.rule_parts.new.words
     c.rule_parts.new.out c.rule_parts.new.general
     c.rule_parts.result c.rule_parts.ensures c.rule_parts.auto.out c.in-Ok.is
-    (records c.put_rule.new.facts g.footings c.put_rule.new.lists) c.put_rule.result c.put_rule.ensures c.in-Full.is
-    c.clear.ensures
+    (records c.put_rule.new.facts g.footings c.put_rule.new.lists) c.put_rule.result c.put_rule.ensures c.in-Err.is
+    c.clear.ensures)
 
 pub returns-in-No : goal.returns-in-No
 returns-in-No c = λ g. parts_no g c.behind_own-from.ensures c.rule_parts.new.index c.rule_parts.new.words

@@ -41,5 +41,5 @@ pub returns-else-not-all_new : goal.returns-else-not-all_new
 returns-else-not-all_new c = λ g. case_new g _ c.read_case.new.out c.read_case.result c.read_case.ensures c.in-Ok.is c.suits.ensures
     (ap not c.if-not-suits.false) c.args.taken.now c.all_new.ensures c.args.list.now (ap not c.if-not-all_new.false) c.insert_all.ensures c.write.ensures
 
-pub returns-in-No : goal.returns-in-No
-returns-in-No c = λ g. case_never g _ c.read_case.new.out c.read_case.result c.read_case.ensures c.in-No.is
+pub returns-in-Err : goal.returns-in-Err
+returns-in-Err c = λ g. case_never g _ c.read_case.new.out c.read_case.result c.read_case.ensures c.in-Err.is
