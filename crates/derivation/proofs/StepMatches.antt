@@ -11,6 +11,7 @@ use Rattle.rules.specs.Tree.{Tree, var}
 use Rattle.rules.specs.Store.{Made}
 use Rattle.rules.specs.Match.{Bound, matches, match_all, build}
 use Rattle.rules.specs.Step.{match_stated, conclude}
+use Rattle.sexp.specs.Never.{never}
 use Rattle.terms.specs.declared.store.Mark.{Mark}
 use Rattle.terms.specs.declared.apart.Built.{Built}
 use Rattle.terms.specs.declared.apart.Built.TheVariants as built
@@ -20,20 +21,19 @@ use Rattle.terms.specs.Apart.{BuiltAt}
 use Rattle.terms.specs.On.{On, Stopped, on_start, on_is, on_done, on_went, on_stopped, on_found_some, on_found_none, builds_went, stops_stopped}
 use Rattle.terms.specs.Apart.{built_term, built_no}
 use Rattle.terms.specs.Laws.Growth.{made_length}
-use Rattle.terms.specs.Laws.Patterns.{size_some}
 use Rattle.reading.specs.Answers.{TermRead}
 use Rattle.derivation.specs.Stepping.{Concludable, concluded}
 
 -- What a match says --------------------------------------------------------------------------------------------------------------------
 
 module _ {M : Made} {B C : List ℕ} {K : Option Bound} where
-  matched_yes : {behind r : ℕ} → Matched M B C K behind r → (r ≡ 0 → ⊥) → (K ≡ some (bound_of M C)) × Cells (length M) C
+  matched_yes : {behind k : ℕ} {r : Option ℕ} → Matched M B C K behind r → r ≡ some k → (K ≡ some (bound_of M C)) × Cells (length M) C
   matched_yes (matched e c f) q = (e, c)
-  matched_yes (other e c f) q = absurd (q f)
+  matched_yes (other e c f) q = never cc
 
-  matched_no : {behind r : ℕ} → 0 < behind → Matched M B C K behind r → r ≡ 0 → K ≡ nothing
-  matched_no l (matched e c f) q = absurd (omega (arith, l, f, q))
-  matched_no l (other e c f) q = e
+  matched_no : {behind : ℕ} {r : Option ℕ} → Matched M B C K behind r → r ≡ nothing → K ≡ nothing
+  matched_no (matched e c f) q = never cc
+  matched_no (other e c f) q = e
 
   all_yes : {r : Bool} → AllMatched M B C K r → r ≡ true → (K ≡ some (bound_of M C)) × Cells (length M) C
   all_yes (all e c f) q = (e, c)
@@ -101,13 +101,13 @@ module _ {S P I W : List ℕ} {m : Mark} {B : List ℕ} {first place : ℕ} {ids
     unfolding conclude
     last_is d s = ap (λ (o : Option Tree). conclude g.rule.conclusion o d s) (tree_in_some (made I W m) stated q)
 
-    module _ {C : List ℕ} {r : ℕ} (a : MatchedAt S P I W m B C place (stated - 1) r) where
-      pub stated_other : r ≡ 0 → Stopped I W I W m answer 38 0 m
+    module _ {C : List ℕ} {r : Option ℕ} (a : MatchedAt S P I W m B C place (stated - 1) r) where
+      pub stated_other : r ≡ nothing → Stopped I W I W m answer 38 0 m
       stated_other e =
           on_found_none second 38 on_first
-          (stated_is (bound_of (made I W m) B) ∙ matched_no (omega (arith, size_some g.rule.conclusion)) (a g.rule.conclusion g.conclusion) e)
+          (stated_is (bound_of (made I W m) B) ∙ matched_no (a g.rule.conclusion g.conclusion) e)
 
-      module _ (h : r ≡ 0 → ⊥) where
+      module _ {k : ℕ} (h : r ≡ some k) where
         hit : (matches g.rule.conclusion (tree I W m (stated - 1)) (bound_of (made I W m) B) ≡ some (bound_of (made I W m) C)) × Cells (length (made I W m)) C
         hit = matched_yes (a g.rule.conclusion g.conclusion) h
 

@@ -173,7 +173,7 @@ fn matched(
         ReadAs index.old words.old index.new words.new mark (concluded g.rule (args_of (made index.old words.old mark) ids.now) (tree_in (made index.old words.old mark) stated) (bound_of (made index.old words.old mark) bound.old) (made index.old words.old mark)) result }
 {
     if stated != 0 {
-        if matches(
+        let Some(_) = matches(
             symbols,
             patterns,
             index,
@@ -182,10 +182,9 @@ fn matched(
             bound,
             place,
             stated - 1,
-        ) == 0
-        {
+        ) else {
             return Out::No(38, 0, mark);
-        }
+        };
         if !match_all(symbols, patterns, index, words, mark, bound, first, ids) {
             return Out::No(38, 0, mark);
         }

@@ -7,17 +7,17 @@ use Rattle.derivation.proofs.step.matched.Goals as goal
 pub matches-requires : goal.matches-requires
 matches-requires c = stated_matchable c.requires c.if-stated-ne0.true
 
-pub returns-then-matches-eq0 : goal.returns-then-matches-eq0
-returns-then-matches-eq0 c = λ g. stated_other g c.if-stated-ne0.true c.matches.ensures c.if-matches-eq0.true
+pub returns-in_default : goal.returns-in_default
+returns-in_default c = λ g. stated_other g c.if-stated-ne0.true c.matches.ensures c.in_default.is
 
 pub match_all-requires : goal.match_all-requires
-match_all-requires c = stated_premises c.requires c.if-stated-ne0.true c.matches.ensures c.if-matches-eq0.false
+match_all-requires c = stated_premises c.requires c.if-stated-ne0.true c.matches.ensures c.in-Some.is
 
 pub returns-then-not-match_all : goal.returns-then-not-match_all
-returns-then-not-match_all c = λ g. stated_apart g c.if-stated-ne0.true c.matches.ensures c.if-matches-eq0.false c.match_all.ensures (not-true _ (ap not c.if-not-match_all.true))
+returns-then-not-match_all c = λ g. stated_apart g c.if-stated-ne0.true c.matches.ensures c.in-Some.is c.match_all.ensures (not-true _ (ap not c.if-not-match_all.true))
 
 pub returns-then-stated-ne0 : goal.returns-then-stated-ne0
-returns-then-stated-ne0 c = λ g. stated_done g c.if-stated-ne0.true c.matches.ensures c.if-matches-eq0.false c.match_all.ensures (not-false _ (ap not c.if-not-match_all.false))
+returns-then-stated-ne0 c = λ g. stated_done g c.if-stated-ne0.true c.matches.ensures c.in-Some.is c.match_all.ensures (not-false _ (ap not c.if-not-match_all.false))
 
 pub match_all-requires-2 : goal.match_all-requires-2
 match_all-requires-2 c = built_premises c.requires c.if-stated-ne0.false
