@@ -26,8 +26,8 @@ use sexp::items;
 use sexp::items::Item;
 use state::facts::{general, hyps as hyps_of, is_assumed, is_fact, is_plain, judgment, premises};
 use state::sizes::Sizes;
-use terms::sets::{has, insert};
 use terms::apart::{Kept, substitute, visit};
+use terms::sets::{has, insert};
 use terms::store::Mark;
 
 // Whether the map binds no variable but those that fact i generalises.
