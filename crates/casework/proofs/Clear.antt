@@ -32,7 +32,7 @@ use Rattle.state.specs.declared.sizes.Sizes.{Sizes}
 use Rattle.state.specs.declared.facts.Span.{Span}
 use Rattle.state.specs.Entries.{part, part_none}
 use Rattle.state.specs.Rows.{general_span}
-use Rattle.reading.specs.declared.bindings.Bound.{Bound}
+use Rattle.reading.specs.declared.apart.Bound.{Bound}
 use Rattle.referring.specs.Recall.{fact_of, Recalls}
 use Rattle.referring.specs.Referral.{Gathered}
 use Rattle.referring.specs.Derived.{cell_vars, ReadableCells}

@@ -23,8 +23,8 @@ use Rattle.state.specs.Rows.{cell, premises_span}
 use Rattle.state.specs.Growth.{grows_ok, recorded_on}
 use Rattle.rules.specs.Laws.Sound.{sound}
 use Rattle.rules.proofs.Laws.MakingWalk.{substitute_keeps, substitutes_keeps}
-use Rattle.reading.specs.declared.bindings.Bound.{Bound}
-use Rattle.reading.specs.declared.bindings.Bound.TheVariants as bound
+use Rattle.reading.specs.declared.apart.Bound.{Bound}
+use Rattle.reading.specs.declared.apart.Bound.TheVariants as bound
 use Rattle.referring.specs.Recall.{fact_of, Recalls}
 use Rattle.casework.specs.Context.{There, Replaceables, Replaced, ReplacedAs, allowed_of, Adds, ContextRead, one, under, width_of, ContextGiven}
 use Rattle.casework.specs.Laws.Rows.{premises_are, judgment_is, judgment_there, premises_there, premises_low, premises_high, lists_are}

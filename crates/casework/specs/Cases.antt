@@ -13,8 +13,8 @@ use Rattle.rules.specs.Invert.{Case, case_named, read_case, read_cases}
 use Rattle.sexp.specs.Items.{Holds}
 use Rattle.sexp.specs.WalkLaws.{Walk}
 use Rattle.reading.specs.Items.{index_in, vars_in}
-use Rattle.reading.specs.declared.hyps.Listed.{Listed}
-use Rattle.reading.specs.declared.hyps.Listed.TheVariants as listed
+use Rattle.reading.specs.declared.apart.Listed.{Listed}
+use Rattle.reading.specs.declared.apart.Listed.TheVariants as listed
 use Rattle.casework.specs.Distinct.{name_of, Tree}
 use Rattle.casework.specs.declared.cases.CaseRead.{CaseRead}
 use Rattle.questions.specs.declared.Question.{Question}

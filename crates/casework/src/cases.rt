@@ -10,8 +10,7 @@ ghost use Rattle.casework.specs.Distinct.{between};
 
 use crate::distinct::enter;
 use questions::Question;
-use reading::hyps::Listed;
-use reading::lists::vars_list;
+use reading::apart::{Listed, vars_list};
 use reading::names::index as index_in;
 use rules::{LENGTH, VARIABLES};
 use sexp::items::Item;

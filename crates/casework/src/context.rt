@@ -16,7 +16,7 @@ ghost use Rattle.casework.specs.Context.{There, Replaceables, ReplacedAs, allowe
 
 use cells::{clear, write};
 use kernel::rule_readers::{premises as premises_of, words as rule_words};
-use reading::bindings::Bound;
+use reading::apart::Bound;
 use referring::scope::visit_cells;
 use rules::{TERMWORDS, VARIABLES, VARIABLEWORDS};
 use state::facts::{general, is_assumed, is_plain, judgment, premises};

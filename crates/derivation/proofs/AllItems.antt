@@ -21,8 +21,8 @@ use Rattle.reading.specs.Given.{Reads}
 use Rattle.referring.specs.Derived.{RuleItems, ItemsRead, ItemsAs}
 use Rattle.derivation.specs.ItemsOf.{ItemsHeld, RuleItem}
 use Rattle.derivation.specs.Laws.ItemsOf.{held_none, items_read, read_held, reads_read_item}
-use Rattle.reading.specs.declared.term.Out.{Out as Answer}
-use Rattle.reading.specs.declared.term.Out.TheVariants.{Ok, No}
+use Rattle.reading.specs.declared.apart.Out.{Out as Answer}
+use Rattle.reading.specs.declared.apart.Out.TheVariants.{Ok, No}
 use Rattle.reading.specs.Laws.Walks.{walk_next, walk_on}
 
 -- zs are left in the cells from a place on

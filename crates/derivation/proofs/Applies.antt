@@ -41,13 +41,14 @@ use Rattle.state.specs.declared.sizes.Sizes.{Sizes}
 use Rattle.state.specs.Held.{Names, records}
 use Rattle.state.specs.Rows.{cell}
 use Rattle.state.specs.FactLaws.{FactRow, fact_row_lem}
-use Rattle.reading.specs.declared.bindings.Bound.{Bound}
-use Rattle.reading.specs.declared.bindings.Bound.TheVariants as bounds
+use Rattle.reading.specs.declared.apart.Bound.{Bound}
+use Rattle.reading.specs.declared.apart.Bound.TheVariants as bounds
 use Rattle.referring.specs.declared.derived.Derived.{Derived}
 use Rattle.referring.specs.declared.derived.Derived.TheVariants as derived
 use Rattle.reading.specs.Items.{FirstItem, index_in, index_found}
 use Rattle.reading.specs.Given.{ReadsItems}
-use Rattle.reading.specs.Answers.{BindingsRead, BindingsAs}
+use Rattle.reading.specs.Answers.{BindingsRead}
+use Rattle.reading.specs.Apart.{BindingsAs}
 use Rattle.referring.specs.Recall.{fact_of, Refers}
 use Rattle.referring.specs.Derived.{FactForm, DerivedAs, alone}
 use Rattle.derivation.specs.Applying.{RuleFact, rule_of, ApplicableAs, premise_numbers, apply_to, apply_on, RuleUse}

@@ -28,8 +28,8 @@ use Rattle.terms.specs.Laws.Theta.{bindings_grown, theta_grown}
 use Rattle.state.specs.declared.sizes.Sizes.{Sizes}
 use Rattle.state.specs.Held.{Names}
 use Rattle.state.specs.Members.{Under}
-use Rattle.reading.specs.declared.term.Out.{Out as Answer}
-use Rattle.reading.specs.declared.term.Out.TheVariants.{Ok, No}
+use Rattle.reading.specs.declared.apart.Out.{Out as Answer}
+use Rattle.reading.specs.declared.apart.Out.TheVariants.{Ok, No}
 use Rattle.referring.specs.Recall.{fact_of, Recalls, Refers}
 use Rattle.referring.specs.Referral.{Gathered}
 use Rattle.referring.specs.Derived.{cell_vars, ReadableCells, DerivedRead, alone}

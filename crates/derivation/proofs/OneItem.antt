@@ -40,12 +40,13 @@ use Rattle.terms.specs.On.{On, Stopped, on_start, on_is, on_ok, on_no, on_pure, 
 use Rattle.state.specs.declared.sizes.Sizes.{Sizes}
 use Rattle.state.specs.Held.{Names}
 use Rattle.reading.specs.Given.{ReadsItem}
-use Rattle.reading.specs.Answers.{TermRead, ReadAs}
+use Rattle.reading.specs.Answers.{TermRead}
+use Rattle.reading.specs.Apart.{ReadAs}
 use Rattle.referring.specs.Derived.{ItemsRead, ItemsAs}
 use Rattle.derivation.specs.ItemsOf.{ItemsHeld, RuleItem}
 use Rattle.derivation.specs.Laws.ItemsOf.{with_bound, held_grown, held_new, held_unstated, held_bound, held_stated, items_read}
-use Rattle.reading.specs.declared.term.Out.{Out as Answer}
-use Rattle.reading.specs.declared.term.Out.TheVariants.{Ok, No}
+use Rattle.reading.specs.declared.apart.Out.{Out as Answer}
+use Rattle.reading.specs.declared.apart.Out.TheVariants.{Ok, No}
 
 -- Whether it is a binding ------------------------------------------------------------------------------------------------------------
 

@@ -24,9 +24,9 @@ use Rattle.terms.specs.Laws.Seen.{seen_none}
 use Rattle.state.specs.declared.sizes.Sizes.{Sizes}
 use Rattle.state.specs.Held.{Names, rule_lists}
 use Rattle.state.specs.RuleWords.{conclusion_stands, premises_stand}
-use Rattle.reading.specs.declared.term.Out.{Out as Answer}
-use Rattle.reading.specs.declared.term.Out.TheVariants.{Ok, No}
-use Rattle.reading.specs.Answers.{ReadAs}
+use Rattle.reading.specs.declared.apart.Out.{Out as Answer}
+use Rattle.reading.specs.declared.apart.Out.TheVariants.{Ok, No}
+use Rattle.reading.specs.Apart.{ReadAs}
 use Rattle.referring.specs.Recall.{ReadableAll}
 use Rattle.referring.specs.Referral.{Gathered}
 use Rattle.referring.specs.Derived.{ReadableCells, RuleItems, ItemsRead, ItemsAs, cell_vars}

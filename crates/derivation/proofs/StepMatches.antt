@@ -1,7 +1,7 @@
 -- Question 38: a rule's patterns against what is stated and against the terms for its premises, and the conclusion. Assumes nothing.
 use mathlib.Core.Path.{◌≡◌, refl, sym, ap, ◌∙◌, subst}
 use mathlib.Core.Bool.{Bool, true, false, true≢false}
-use Rattle.std.specs.Prelude.{Option, Some as some, None as nothing, is_some}
+use Rattle.std.specs.Prelude.{Option, Some as some, None as nothing}
 use mathlib.Core.List.{List}
 use Prim.Native.Nat.{ℕ, zero, suc, ◌-◌, ◌<◌}
 use native.Mathlib.Omega.{arith}
@@ -11,6 +11,7 @@ use Rattle.rules.specs.Tree.{Tree, var}
 use Rattle.rules.specs.Store.{Made}
 use Rattle.rules.specs.Match.{Bound, matches, match_all, build}
 use Rattle.rules.specs.Step.{match_stated, conclude}
+use Rattle.sexp.specs.Never.{never}
 use Rattle.terms.specs.declared.store.Mark.{Mark}
 use Rattle.terms.specs.declared.apart.Built.{Built}
 use Rattle.terms.specs.declared.apart.Built.TheVariants as built
@@ -28,10 +29,10 @@ use Rattle.derivation.specs.Stepping.{Concludable, concluded}
 module _ {M : Made} {B C : List ℕ} {K : Option Bound} where
   matched_yes : {behind k : ℕ} {r : Option ℕ} → Matched M B C K behind r → r ≡ some k → (K ≡ some (bound_of M C)) × Cells (length M) C
   matched_yes (matched e c f) q = (e, c)
-  matched_yes (other e c f) q = absurd (true≢false (sym (ap is_some q) ∙ ap is_some f))
+  matched_yes (other e c f) q = never cc
 
   matched_no : {behind : ℕ} {r : Option ℕ} → Matched M B C K behind r → r ≡ nothing → K ≡ nothing
-  matched_no (matched e c f) q = absurd (true≢false (sym (ap is_some f) ∙ ap is_some q))
+  matched_no (matched e c f) q = never cc
   matched_no (other e c f) q = e
 
   all_yes : {r : Bool} → AllMatched M B C K r → r ≡ true → (K ≡ some (bound_of M C)) × Cells (length M) C

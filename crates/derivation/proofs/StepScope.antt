@@ -30,8 +30,8 @@ use Rattle.terms.specs.Laws.Numbers.{tree_stored}
 use Rattle.state.specs.declared.sizes.Sizes.{Sizes}
 use Rattle.state.specs.Held.{Names, rule_lists}
 use Rattle.state.specs.Members.{Under}
-use Rattle.reading.specs.declared.term.Out.{Out as Answer}
-use Rattle.reading.specs.declared.term.Out.TheVariants.{Ok, No}
+use Rattle.reading.specs.declared.apart.Out.{Out as Answer}
+use Rattle.reading.specs.declared.apart.Out.TheVariants.{Ok, No}
 use Rattle.reading.specs.Answers.{TermRead}
 use Rattle.referring.specs.Recall.{Refers, Recalls}
 use Rattle.derivation.specs.Stepping.{Concludes, Scopes, UsedRead, UsedAs, concluded, from_items, in_scope}

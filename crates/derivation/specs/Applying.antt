@@ -20,8 +20,8 @@ use Rattle.state.specs.Held.{Names, records, Recorded}
 use Rattle.state.specs.Rows.{cell, hyps_span, premises_span}
 use Rattle.state.specs.Entries.{part}
 use Rattle.state.specs.Members.{Under}
-use Rattle.reading.specs.declared.term.Out.{Out as Answer}
-use Rattle.reading.specs.declared.term.Out.TheVariants.{Ok, No}
+use Rattle.reading.specs.declared.apart.Out.{Out as Answer}
+use Rattle.reading.specs.declared.apart.Out.TheVariants.{Ok, No}
 use Rattle.referring.specs.Recall.{Refers}
 
 -- A fact as a rule ---------------------------------------------------------------------------------------------------------------

@@ -21,8 +21,8 @@ use Rattle.terms.specs.On.{Went, Stopped}
 use Rattle.state.specs.declared.sizes.Sizes.{Sizes}
 use Rattle.state.specs.Held.{Names, RuleLists, Ruled}
 use Rattle.state.specs.Members.{Under}
-use Rattle.reading.specs.declared.term.Out.{Out as Answer}
-use Rattle.reading.specs.declared.term.Out.TheVariants.{Ok, No}
+use Rattle.reading.specs.declared.apart.Out.{Out as Answer}
+use Rattle.reading.specs.declared.apart.Out.TheVariants.{Ok, No}
 use Rattle.referring.specs.declared.derived.Derived.{Derived}
 use Rattle.referring.specs.declared.derived.Derived.TheVariants as derived
 use Rattle.reading.specs.Answers.{TermRead}

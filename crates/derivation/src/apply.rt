@@ -16,9 +16,8 @@ ghost use Rattle.referring.specs.Derived.{FactForm, Blank, DerivedAs, alone};
 ghost use Rattle.derivation.specs.Applying.{RuleFact, rule_of, ApplicableAs, premise_numbers, met_by, apply_to, apply_on, RuleUse, DischargedAs};
 
 use cells::clear;
-use reading::bindings::{Bound, bindings};
+use reading::apart::{Bound, Out, bindings};
 use reading::names::index as index_in;
-use reading::term::Out;
 use referring::derived::Derived;
 use referring::references::{Referred, insert_all, join, reference};
 use referring::scope::{outside, visit_cells};
@@ -27,8 +26,8 @@ use sexp::items;
 use sexp::items::Item;
 use state::facts::{general, hyps as hyps_of, is_assumed, is_fact, is_plain, judgment, premises};
 use state::sizes::Sizes;
-use terms::sets::{has, insert};
 use terms::apart::{Kept, substitute, visit};
+use terms::sets::{has, insert};
 use terms::store::Mark;
 
 // Whether the map binds no variable but those that fact i generalises.

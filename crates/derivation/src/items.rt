@@ -15,7 +15,7 @@ ghost use Rattle.derivation.specs.ItemsOf.{ItemsHeld, RuleItem};
 
 use kernel::atoms::marked;
 use kernel::rule_readers::{rule_var_named, variable_sort, variables};
-use reading::term::{Out, judgment, term_of};
+use reading::apart::{Out, judgment, term_of};
 use sexp::items::Item;
 use sexp::{items, lex};
 use state::sizes::Sizes;

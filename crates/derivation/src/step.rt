@@ -11,7 +11,7 @@ ghost use Rattle.terms.specs.Sets.{holds};
 ghost use Rattle.terms.specs.Collect.{Seen};
 ghost use Rattle.terms.specs.Patterns.{tree_in, bound_of};
 ghost use Rattle.state.specs.Held.{names, rule_lists};
-ghost use Rattle.reading.specs.Answers.{ReadAs};
+ghost use Rattle.reading.specs.Apart.{ReadAs};
 ghost use Rattle.referring.specs.Referral.{instances_of, Gathered};
 ghost use Rattle.referring.specs.Derived.{FactForm, RuleForm, ReadableCells, FewItems, Blank, RefsAs, DerivedAs, cell_vars, with_instances};
 ghost use Rattle.derivation.specs.Stepping.{Concludable, Concludes, Scopes, PremisesOf, UsedAs, ScopedAs, concluded, from_items, in_scope, by_rule};
@@ -19,7 +19,7 @@ ghost use Rattle.derivation.specs.Stepping.{Concludable, Concludes, Scopes, Prem
 use crate::items::read_items;
 use cells::clear;
 use kernel::rule_readers::{conclusion, premises, rule_named, words as rule_words};
-use reading::term::Out;
+use reading::apart::Out;
 use referring::derived::Derived;
 use referring::references::{Referred, join, reference};
 use referring::scope::{outside, visit_all, visit_cells};

@@ -35,10 +35,11 @@ use Rattle.state.specs.Rows.{Fits4, SomeDefs, DefFound}
 use Rattle.state.specs.Growth.{grows_ok}
 use Rattle.state.specs.Numbered.{sound_in}
 use Rattle.state.specs.DefLaws.{defs_long}
-use Rattle.reading.specs.declared.term.Typed.{Typed}
-use Rattle.reading.specs.declared.term.Typed.TheVariants as typed
+use Rattle.reading.specs.declared.apart.Typed.{Typed}
+use Rattle.reading.specs.declared.apart.Typed.TheVariants as typed
 use Rattle.reading.specs.Given.{Reads, ReadsItem}
-use Rattle.reading.specs.Answers.{TypedAs, TypedRead}
+use Rattle.reading.specs.Answers.{TypedRead}
+use Rattle.reading.specs.Apart.{TypedAs}
 use Rattle.reading.specs.Laws.Reading.{reads_ready, reads_term}
 use Rattle.forms.specs.Halted.{ReadsForm, Halts}
 use Rattle.forms.specs.Declares.{DefAdded}

@@ -28,10 +28,11 @@ use Rattle.state.specs.declared.sizes.Sizes.{Sizes}
 use Rattle.state.specs.Held.{Names}
 use Rattle.state.specs.Growth.{grows_ok}
 use Rattle.state.specs.Numbered.{numbers_on}
-use Rattle.reading.specs.declared.term.Out.{Out as Answer}
-use Rattle.reading.specs.declared.term.Out.TheVariants.{Ok, No}
+use Rattle.reading.specs.declared.apart.Out.{Out as Answer}
+use Rattle.reading.specs.declared.apart.Out.TheVariants.{Ok, No}
 use Rattle.reading.specs.Given.{Reads, ReadsItem}
-use Rattle.reading.specs.Answers.{ReadAs, TermRead, JudgmentsAs, JudgmentsRead}
+use Rattle.reading.specs.Answers.{TermRead, JudgmentsRead}
+use Rattle.reading.specs.Apart.{ReadAs, JudgmentsAs}
 use Rattle.reading.specs.Laws.Reading.{reads_ready, reads_judgments, reads_item}
 use Rattle.std.specs.Prelude.{Result, Ok as done, Err as stopped}
 use Rattle.questions.specs.declared.Question.{Question}

@@ -23,11 +23,12 @@ use Rattle.state.specs.declared.sizes.Sizes.{Sizes}
 use Rattle.state.specs.Held.{Names}
 use Rattle.state.specs.Growth.{grows_ok}
 use Rattle.state.specs.Numbered.{numbers_on}
-use Rattle.reading.specs.declared.term.Out.{Out as Answer}
-use Rattle.reading.specs.declared.term.Out.TheVariants.{Ok, No}
+use Rattle.reading.specs.declared.apart.Out.{Out as Answer}
+use Rattle.reading.specs.declared.apart.Out.TheVariants.{Ok, No}
 use Rattle.reading.specs.Items.{vars_in}
 use Rattle.reading.specs.Given.{Reads, ReadsItem, VarsItem}
-use Rattle.reading.specs.Answers.{TermRead, ReadAs, JudgmentsRead, JudgmentsAs, VarsRead, VarsAs}
+use Rattle.reading.specs.Answers.{TermRead, JudgmentsRead, VarsRead, VarsAs}
+use Rattle.reading.specs.Apart.{ReadAs, JudgmentsAs}
 use Rattle.reading.specs.Laws.Reading.{reads_ready, reads_judgments}
 use Rattle.reading.specs.Laws.Lists.{vars_found, vars_listed}
 use Rattle.forms.specs.Halted.{ReadsForm, Makes, Halts}

@@ -34,10 +34,10 @@ use Rattle.state.specs.Numbered.{length_numbers}
 use Rattle.state.specs.Recording.{HypothesisPut}
 use Rattle.state.specs.FactLaws.{length_listed, entries_fit, footings_tabled}
 use Rattle.state.specs.RowTables.{tabled_long}
-use Rattle.reading.specs.declared.term.Out.{Out as Answer}
-use Rattle.reading.specs.declared.term.Out.TheVariants.{Ok}
+use Rattle.reading.specs.declared.apart.Out.{Out as Answer}
+use Rattle.reading.specs.declared.apart.Out.TheVariants.{Ok}
 use Rattle.reading.specs.Given.{ReadsItem}
-use Rattle.reading.specs.Answers.{ReadAs}
+use Rattle.reading.specs.Apart.{ReadAs}
 use Rattle.reading.specs.Laws.Lists.{listing_few}
 use Rattle.forms.specs.declared.hypotheses.Stated.{Stated}
 use Rattle.forms.specs.declared.hypotheses.Stated.TheVariants as stated_as

@@ -14,7 +14,7 @@ ghost use Rattle.forms.specs.Declares.{AddsVar, VarAs, DefAs};
 use kernel::atoms::marked;
 use kernel::readers::{constructor_named, predicate_named, sort_named};
 use questions::{Question, Row};
-use reading::term::{Typed, term};
+use reading::apart::{Typed, term};
 use rules::{DEFS, VARIABLES};
 use sexp::items::Item;
 use sexp::{items, lex};

@@ -11,8 +11,7 @@ ghost use Rattle.forms.specs.Goals.{GoalPlace, AddsGoal, PlacedAs, AimsAs, Aimed
 
 use cells::clear;
 use questions::{Question, Row};
-use reading::lists::judgments;
-use reading::term::{Out, judgment};
+use reading::apart::{Out, judgment, judgments};
 use rules::{ENTRIES, GOALS};
 use sexp::items::Item;
 use sexp::{items, lex};

@@ -9,8 +9,7 @@ ghost use Rattle.forms.specs.Assumed.{AddsFact, AssumedAs, PartsAs, RulePutAs};
 
 use cells::{clear, write};
 use questions::Row;
-use reading::lists::{judgments, vars_list};
-use reading::term::{Out, judgment};
+use reading::apart::{Out, judgment, judgments, vars_list};
 use rules::{ENTRIES, FACTS, VARIABLES};
 use sexp::items;
 use state::facts::put_hypothesis;

@@ -1,38 +1,19 @@
 // `horn THEORY GOALS PROOF` checks the proof in three files and writes the answer's line. Without arguments the files are called theory, goals, proof.
 #![tactic(auto)]
 
-ghost use Rattle.std.specs.Prelude.{◌≡◌, ◌≤◌, length};
-
-use printing::line::begin_line;
-use printing::load::{TEXTS, load_texts};
-use printing::pen::finish;
+use printing::line::Line;
+use printing::load::load_texts;
+use std::io;
 use tabled::answers::answer;
 
-// Room for the texts.
-fn room() -> [u8; TEXTS]
-    ensures { 196611 ≡ length result }
-{
-    [0; TEXTS]
-}
-
-// The answer's line for a text in which goals and proof begin at these places.
-fn write_answer(text: &[u8], goals: usize, proof: usize, end: usize)
-    requires { (goals ≤ proof) × (proof ≤ end) × (end ≤ length text.now) }
-{
-    let first = 0;
-    let a = answer(&text[first..goals], &text[goals..proof], &text[proof..end]);
-    let mut line = io::buffer();
-    let out: &mut [u8] = &mut line;
-    let p = begin_line(out, a);
-    finish(out, 1, p);
-}
-
-fn main(rt: HostRuntime) {
-    let mut buffer = room();
-    let text: &mut [u8] = &mut buffer;
-    let t = load_texts(&rt, b"usage: horn THEORY GOALS PROOF\n", text);
-    if !t.done {
-        return;
+fn run(rt: &HostRuntime) -> io::Result<()> {
+    match load_texts(rt) {
+        Ok(texts) => rt.println(Line(answer(&texts.theory, &texts.goals, &texts.proof))),
+        Err(error) => error.write("horn", &mut rt.stderr()),
     }
-    write_answer(text, t.goals, t.proof, t.end);
+}
+
+// The status is 0 whatever comes, and what cannot be written is left out.
+fn main(rt: HostRuntime) {
+    let _ = run(&rt);
 }

@@ -2,36 +2,33 @@
 // goals without a result that 53 lists.
 #![tactic(auto)]
 
-ghost use Rattle.std.specs.Prelude.{◌≡◌, ◌≤◌, length};
-
-use printing::load::{TEXTS, load_texts};
-use printing::pen::finish;
+use printing::load::{Texts, load_texts};
+use std::io;
+use std::io::{BufWriter, Write};
 use tabled::told::tell;
 
-// Room for the texts.
-fn room() -> [u8; TEXTS]
-    ensures { 196611 ≡ length result }
-{
-    [0; TEXTS]
+fn write_facts(rt: &HostRuntime, texts: &Texts) -> io::Result<()> {
+    let mut out = BufWriter::new(rt.alloc(), rt.stdout())?;
+    tell(
+        rt.alloc(),
+        &texts.theory,
+        &texts.goals,
+        &texts.proof,
+        &mut out,
+    )?;
+    out.flush()
 }
 
-// The line and what is recorded, of a text in which goals and proof begin at these places.
-fn write_facts(text: &[u8], goals: usize, proof: usize, end: usize)
-    requires { (goals ≤ proof) × (proof ≤ end) × (end ≤ length text.now) }
-{
-    let mut space = io::large_buffer();
-    let out: &mut [u8] = &mut space;
-    let first = 0;
-    let p = tell(&text[first..end], goals, proof, out, 1, true);
-    finish(out, 1, p);
-}
-
-fn main(rt: HostRuntime) {
-    let mut buffer = room();
-    let text: &mut [u8] = &mut buffer;
-    let t = load_texts(&rt, b"usage: horn_facts THEORY GOALS PROOF\n", text);
-    if !t.done {
-        return;
+fn run(rt: &HostRuntime) -> io::Result<()> {
+    match load_texts(rt) {
+        Ok(texts) => write_facts(rt, &texts),
+        Err(error) => error.write("horn_facts", &mut rt.stderr()),
     }
-    write_facts(text, t.goals, t.proof, t.end);
+}
+
+// The status is 0 whatever comes.
+fn main(rt: HostRuntime) {
+    if let Err(error) = run(&rt) {
+        let _ = eprintln!(rt; "horn_facts: {error}");
+    }
 }

@@ -23,8 +23,8 @@ use Rattle.terms.specs.Laws.Growth.{grown_tree, grown_args, grown_there, grown_t
 use Rattle.terms.specs.Laws.Sets.{holds_zero}
 use Rattle.state.specs.declared.sizes.Sizes.{Sizes}
 use Rattle.state.specs.Growth.{recorded_on}
-use Rattle.reading.specs.declared.term.Out.{Out as Answer}
-use Rattle.reading.specs.declared.term.Out.TheVariants.{Ok, No}
+use Rattle.reading.specs.declared.apart.Out.{Out as Answer}
+use Rattle.reading.specs.declared.apart.Out.TheVariants.{Ok, No}
 use Rattle.induction.specs.Inducing.{Roomy, Below, motive_in, Motived, Moved, MovedAs, Casing, at_constructor, Scratch, hyps_in, HypsMade, HypsMadeAs, BeforeRest, case_fact, question, case_terms, InCase}
 use Rattle.induction.proofs.Moves.{below_grown}
 use Rattle.induction.proofs.Inducts.{among_has}

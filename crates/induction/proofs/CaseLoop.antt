@@ -33,8 +33,8 @@ use Rattle.terms.specs.Laws.Growth.{grown_tree, grown_args, grown_there}
 use Rattle.state.specs.declared.sizes.Sizes.{Sizes}
 use Rattle.state.specs.Rows.{cell}
 use Rattle.state.specs.VarLaws.{vars_long, var_sort_is}
-use Rattle.reading.specs.declared.term.Out.{Out as Answer}
-use Rattle.reading.specs.declared.term.Out.TheVariants.{Ok, No}
+use Rattle.reading.specs.declared.apart.Out.{Out as Answer}
+use Rattle.reading.specs.declared.apart.Out.TheVariants.{Ok, No}
 use Rattle.referring.specs.Laws.Refers.{refers_on}
 use Rattle.induction.specs.Inducing.{Roomy, PassedAs, motive_in, Motived, Scratch, CaseItem, CaseItems, on_motive, MotiveItems}
 use Rattle.induction.proofs.Moves.{below_grown}

@@ -35,8 +35,8 @@ use Rattle.terms.specs.Table.{made}
 use Rattle.terms.specs.Sets.{holds}
 use Rattle.terms.specs.On.{Stopped, On, on_start, on_is, on_pure, on_stop, on_went, on_stopped, on_ask_yes, on_ask_no}
 use Rattle.state.specs.declared.sizes.Sizes.{Sizes}
-use Rattle.reading.specs.declared.term.Out.{Out as Answer}
-use Rattle.reading.specs.declared.term.Out.TheVariants.{Ok, No}
+use Rattle.reading.specs.declared.apart.Out.{Out as Answer}
+use Rattle.reading.specs.declared.apart.Out.TheVariants.{Ok, No}
 use Rattle.reading.specs.Items.{FirstItem, index_in, index_found}
 use Rattle.induction.specs.Inducing.{Below, PassedAs, motive_in, judgment_first, keep_case, Casing, at_constructor, case_fact, case_terms, InCase, CaseNames, case_named, CaseItem}
 use Rattle.induction.proofs.CaseNames.{walk_behind}

@@ -23,7 +23,7 @@ use Rattle.terms.specs.Apart.{after_term, after_full}
 use Rattle.terms.specs.Laws.Growth.{grown_tree, grown_args, grown_there, grown_trans}
 use Rattle.terms.specs.Laws.Numbers.{stored_is}
 use Rattle.terms.specs.Laws.Tables.{tree_app}
-use Rattle.reading.specs.declared.term.Out.{Out as Answer}
+use Rattle.reading.specs.declared.apart.Out.{Out as Answer}
 use Rattle.induction.specs.Inducing.{Below, motive_in, Motived, Movable, MovedAs, judgment_first, premises_first, var_trees, keep_case, Casing, at_constructor, Scratch}
 use Rattle.induction.proofs.Moves.{ahead, ahead_none, ahead_snoc, ahead_grown, below_snoc, below_grown, moved_on, one_cell, one_bound}
 

@@ -37,12 +37,13 @@ use Rattle.state.specs.Held.{names}
 use Rattle.state.specs.RowTables.{tabled_long}
 use Rattle.state.specs.FactLaws.{facts_tabled}
 use Rattle.state.specs.Members.{rising_under, rising_empty}
-use Rattle.reading.specs.declared.term.Out.{Out as Answer}
-use Rattle.reading.specs.declared.term.Out.TheVariants.{Ok, No}
+use Rattle.reading.specs.declared.apart.Out.{Out as Answer}
+use Rattle.reading.specs.declared.apart.Out.TheVariants.{Ok, No}
 use Rattle.referring.specs.declared.derived.Derived.{Derived}
 use Rattle.referring.specs.declared.derived.Derived.TheVariants as derived
 use Rattle.reading.specs.Given.{ReadsItem}
-use Rattle.reading.specs.Answers.{TermRead, ReadAs}
+use Rattle.reading.specs.Answers.{TermRead}
+use Rattle.reading.specs.Apart.{ReadAs}
 use Rattle.referring.specs.Derived.{DerivedRead, DerivedAs, alone}
 use Rattle.referring.specs.Laws.Refers.{refers_on}
 use Rattle.induction.specs.Inducing.{Below, PassedAs, motive_in, Motived, judgment_cells, on_motive, MotiveItems, InductForm}

@@ -33,11 +33,12 @@ use Rattle.state.specs.Held.{names, VarsHeld}
 use Rattle.state.specs.Rows.{SomeVars}
 use Rattle.state.specs.Members.{rising_empty, rises_rising}
 use Rattle.referring.specs.declared.derived.Derived.{Derived}
-use Rattle.reading.specs.declared.hyps.Listed.{Listed}
-use Rattle.reading.specs.declared.hyps.Listed.TheVariants as listed
+use Rattle.reading.specs.declared.apart.Listed.{Listed}
+use Rattle.reading.specs.declared.apart.Listed.TheVariants as listed
 use Rattle.reading.specs.Items.{FirstItem, variable_in, variable_found}
 use Rattle.reading.specs.Given.{FactsItem}
-use Rattle.reading.specs.Answers.{HypsRead, HypsAs}
+use Rattle.reading.specs.Answers.{HypsRead}
+use Rattle.reading.specs.Apart.{HypsAs}
 use Rattle.referring.specs.Derived.{FactForm, Blank, DerivedAs, alone}
 use Rattle.induction.specs.Inducing.{IDS, Scratch, InductForm}
 use Rattle.induction.proofs.CaseNames.{walk_behind, variable_below}

@@ -27,8 +27,8 @@ use Rattle.terms.specs.Laws.Growth.{grown_tree, grown_args, grown_there}
 use Rattle.terms.specs.Laws.Numbers.{stored_is}
 use Rattle.terms.specs.Laws.Theta.{replacement_grown, replacement_some, replacement_none}
 use Rattle.terms.specs.Laws.Zeros.{get_d_zeros}
-use Rattle.reading.specs.declared.term.Out.{Out as Answer}
-use Rattle.reading.specs.declared.term.Out.TheVariants.{Ok, No}
+use Rattle.reading.specs.declared.apart.Out.{Out as Answer}
+use Rattle.reading.specs.declared.apart.Out.TheVariants.{Ok, No}
 use Rattle.induction.specs.Inducing.{Below, Movable, MovedAll, MovedAllAs, Moved, MovedAs, judgment_first, premises_first}
 
 -- Trees by their numbers, ahead of others ---------------------------------------------------------------------------------------------

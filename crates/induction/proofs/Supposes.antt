@@ -20,8 +20,8 @@ use Rattle.terms.specs.declared.store.Mark.{Mark}
 use Rattle.terms.specs.Table.{made, Grown}
 use Rattle.terms.specs.On.{Stopped, On, on_start, on_is, on_ok, on_no, on_done}
 use Rattle.terms.specs.Laws.Growth.{grown_tree, grown_args, grown_there}
-use Rattle.reading.specs.declared.term.Out.{Out as Answer}
-use Rattle.reading.specs.declared.term.Out.TheVariants.{Ok, No}
+use Rattle.reading.specs.declared.apart.Out.{Out as Answer}
+use Rattle.reading.specs.declared.apart.Out.TheVariants.{Ok, No}
 use Rattle.induction.specs.Inducing.{Below, motive_in, Motived, Moved, MovedAs, Scratch, hyp_in, hyps_in, HypsMade}
 use Rattle.induction.proofs.Moves.{then_same, below_grown}
 

@@ -9,7 +9,7 @@ ghost use Rattle.terms.specs.Table.{made, tree, args_of, Good};
 ghost use Rattle.terms.specs.Subst.{replacement};
 ghost use Rattle.induction.specs.Inducing.{Below, motive_in, Motived, judgment_first, premises_first, Movable, MovedAllAs, MovedAs, var_trees, keep_case, Casing, at_constructor, Scratch, HypsMadeAs};
 
-use reading::term::Out;
+use reading::apart::Out;
 use rules::{NODE, SYMBOLS};
 use terms::apart::{Kept, keep, substitute};
 use terms::store::Mark;

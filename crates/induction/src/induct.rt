@@ -14,9 +14,7 @@ ghost use Rattle.induction.specs.Inducing.{IDS, Roomy, PassedAs, motive_in, Moti
 use crate::induct_cases::induct_cases;
 use cells::clear;
 use kernel::readers::constructors;
-use reading::hyps::{Listed, plain_hyps};
-use reading::names::variable;
-use reading::term::{Out, judgment};
+use reading::apart::{Listed, Out, judgment, plain_hyps, variable};
 use referring::derived::Derived;
 use referring::scope::visit_all;
 use rules::{ARGUMENTS, FACTS, TERMWORDS, VARIABLEWORDS};

@@ -11,8 +11,8 @@ ghost use Rattle.induction.specs.Inducing.{Roomy, Below, PassedAs, motive_in, Ca
 use crate::cases::{at_constructor, hypotheses};
 use crate::resting::case_fact;
 use kernel::readers::{arity, next_constructor};
-use reading::names::{index as index_in, variable};
-use reading::term::Out;
+use reading::apart::{Out, variable};
+use reading::names::index as index_in;
 use referring::references::insert_all;
 use rules::{ARGUMENTS, TERMWORDS, VARIABLEWORDS};
 use sexp::items;

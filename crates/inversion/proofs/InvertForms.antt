@@ -46,13 +46,14 @@ use Rattle.state.specs.Rows.{cell, plain_row}
 use Rattle.state.specs.FactLaws.{FactRow, fact_row_lem}
 use Rattle.state.specs.Looking.{not_late, is_late}
 use Rattle.state.specs.Members.{rising_empty, rises_rising}
-use Rattle.reading.specs.declared.term.Out.{Out as Answer}
-use Rattle.reading.specs.declared.term.Out.TheVariants as out
-use Rattle.reading.specs.declared.hyps.Listed.{Listed}
-use Rattle.reading.specs.declared.hyps.Listed.TheVariants as listed
+use Rattle.reading.specs.declared.apart.Out.{Out as Answer}
+use Rattle.reading.specs.declared.apart.Out.TheVariants as out
+use Rattle.reading.specs.declared.apart.Listed.{Listed}
+use Rattle.reading.specs.declared.apart.Listed.TheVariants as listed
 use Rattle.reading.specs.Items.{FirstItem, index_in, index_found}
 use Rattle.reading.specs.Given.{ReadsItem, FactsItem}
-use Rattle.reading.specs.Answers.{TermRead, ReadAs, HypsRead, HypsAs}
+use Rattle.reading.specs.Answers.{TermRead, HypsRead}
+use Rattle.reading.specs.Apart.{ReadAs, HypsAs}
 use Rattle.referring.specs.Recall.{fact_of}
 use Rattle.referring.specs.Derived.{Blank}
 use Rattle.referring.specs.Laws.Refers.{refers_on, refers_hyps, fact_found, fact_none, fact_asks}

@@ -33,8 +33,8 @@ use Rattle.state.specs.Rows.{hyps_span}
 use Rattle.state.specs.Entries.{part}
 use Rattle.state.specs.RowTables.{tabled_long}
 use Rattle.state.specs.FactLaws.{facts_tabled}
-use Rattle.reading.specs.declared.bindings.Bound.{Bound}
-use Rattle.reading.specs.declared.bindings.Bound.TheVariants as bound
+use Rattle.reading.specs.declared.apart.Bound.{Bound}
+use Rattle.reading.specs.declared.apart.Bound.TheVariants as bound
 use Rattle.referring.specs.Recall.{fact_of, Recalls}
 use Rattle.casework.specs.Context.{There, ContextGiven, ContextRead, all_of, PremisesRead, PremisesAs}
 use Rattle.inversion.specs.InvertRules.{Judging, judged, judges, own_span, Verdict, verdict_of, JudgedAs, Having, has_case, meets, Met, MetAs}

@@ -42,8 +42,8 @@ use Rattle.kernel.specs.Readers.{conclusion_at}
 use Rattle.kernel.specs.Entries.{rule_formed}
 use Rattle.state.specs.declared.sizes.Sizes.{Sizes}
 use Rattle.state.specs.RuleWords.{conclusion_stands}
-use Rattle.reading.specs.declared.bindings.Bound.{Bound}
-use Rattle.reading.specs.declared.bindings.Bound.TheVariants as bound
+use Rattle.reading.specs.declared.apart.Bound.{Bound}
+use Rattle.reading.specs.declared.apart.Bound.TheVariants as bound
 use Rattle.casework.specs.Context.{There}
 use Rattle.inversion.specs.InvertRules.{Meeting, Empty, meets, MetAs, KeptAs, VarsKept}
 

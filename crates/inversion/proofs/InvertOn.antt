@@ -29,10 +29,10 @@ use Rattle.terms.specs.Laws.Sets.{or_false}
 use Rattle.state.specs.declared.sizes.Sizes.{Sizes}
 use Rattle.state.specs.Held.{names, rule_lists, VarsHeld}
 use Rattle.state.specs.Members.{rising_under, rising_few}
-use Rattle.reading.specs.declared.term.Out.{Out as Answer}
-use Rattle.reading.specs.declared.term.Out.TheVariants as out
-use Rattle.reading.specs.declared.hyps.Listed.{Listed}
-use Rattle.reading.specs.declared.hyps.Listed.TheVariants as listed
+use Rattle.reading.specs.declared.apart.Out.{Out as Answer}
+use Rattle.reading.specs.declared.apart.Out.TheVariants as out
+use Rattle.reading.specs.declared.apart.Listed.{Listed}
+use Rattle.reading.specs.declared.apart.Listed.TheVariants as listed
 use Rattle.reading.specs.Given.{VarsItems}
 use Rattle.referring.specs.Recall.{Recalls}
 use Rattle.referring.specs.Laws.Refers.{refers_recalls}

@@ -26,8 +26,8 @@ use Rattle.terms.specs.Laws.Growth.{grown_tree, grown_there}
 use Rattle.terms.specs.Laws.Terms.{term_var, head_tree}
 use Rattle.state.specs.declared.sizes.Sizes.{Sizes}
 use Rattle.state.specs.Held.{names, rule_lists}
-use Rattle.reading.specs.declared.term.Out.{Out as Answer}
-use Rattle.reading.specs.declared.term.Out.TheVariants as out
+use Rattle.reading.specs.declared.apart.Out.{Out as Answer}
+use Rattle.reading.specs.declared.apart.Out.TheVariants as out
 use Rattle.referring.specs.Laws.Refers.{refers_on}
 use Rattle.referring.specs.Laws.Sounds.{grown_grows}
 use Rattle.inversion.specs.InvertRules.{vars_with, Turning, Turned, TurnedAs}

@@ -26,10 +26,10 @@ use Rattle.terms.specs.On.{Stopped, On, on_start, on_is, on_ok, on_no, on_done, 
 use Rattle.terms.specs.Laws.Bound.{cells_zeros}
 use Rattle.state.specs.declared.sizes.Sizes.{Sizes}
 use Rattle.state.specs.Held.{names, rule_lists}
-use Rattle.reading.specs.declared.term.Out.{Out as Answer}
-use Rattle.reading.specs.declared.term.Out.TheVariants as out
-use Rattle.reading.specs.declared.bindings.Bound.{Bound}
-use Rattle.reading.specs.declared.bindings.Bound.TheVariants as bound
+use Rattle.reading.specs.declared.apart.Out.{Out as Answer}
+use Rattle.reading.specs.declared.apart.Out.TheVariants as out
+use Rattle.reading.specs.declared.apart.Bound.{Bound}
+use Rattle.reading.specs.declared.apart.Bound.TheVariants as bound
 use Rattle.reading.specs.Laws.Lists.{vars_listed}
 use Rattle.referring.specs.Laws.Refers.{refers_recalls}
 use Rattle.casework.specs.Cases.{CasesFirst, CaseFound, CaseHere}

@@ -18,8 +18,8 @@ use Rattle.terms.specs.On.{Went, Stopped}
 use Rattle.state.specs.declared.sizes.Sizes.{Sizes}
 use Rattle.state.specs.Held.{Names, RuleLists, Ruled, VarsHeld}
 use Rattle.state.specs.Members.{Under}
-use Rattle.reading.specs.declared.term.Out.{Out as Answer}
-use Rattle.reading.specs.declared.term.Out.TheVariants as out
+use Rattle.reading.specs.declared.apart.Out.{Out as Answer}
+use Rattle.reading.specs.declared.apart.Out.TheVariants as out
 use Rattle.inversion.specs.declared.invert.Inverted.{Inverted}
 use Rattle.inversion.specs.declared.invert.Inverted.TheVariants as inverted
 use Rattle.referring.specs.Recall.{Refers}

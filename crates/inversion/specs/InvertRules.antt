@@ -32,10 +32,10 @@ use Rattle.state.specs.declared.facts.Span.{Span}
 use Rattle.state.specs.Rows.{hyps_span}
 use Rattle.state.specs.Entries.{part}
 use Rattle.state.specs.Held.{VarsHeld, Names as Texts, RuleLists, Ruled}
-use Rattle.reading.specs.declared.term.Out.{Out as Answer}
-use Rattle.reading.specs.declared.term.Out.TheVariants as out
-use Rattle.reading.specs.declared.bindings.Bound.{Bound}
-use Rattle.reading.specs.declared.bindings.Bound.TheVariants as bound
+use Rattle.reading.specs.declared.apart.Out.{Out as Answer}
+use Rattle.reading.specs.declared.apart.Out.TheVariants as out
+use Rattle.reading.specs.declared.apart.Bound.{Bound}
+use Rattle.reading.specs.declared.apart.Bound.TheVariants as bound
 use Rattle.referring.specs.Recall.{Refers, Recalls, fact_of}
 use Rattle.casework.specs.Cases.{CaseItem, no_case}
 use Rattle.casework.specs.Context.{There, RenamedRule, RestsGiven, rests_by}

@@ -18,9 +18,8 @@ ghost use Rattle.inversion.specs.Inversions.{InvertForm, InvertingOn, invert_on,
 use crate::invert_rules::invert_rule;
 use casework::cases::read_cases;
 use kernel::rule_readers::next_rule;
-use reading::hyps::{Listed, any_hyps};
+use reading::apart::{Listed, Out, any_hyps, judgment};
 use reading::names::index as index_in;
-use reading::term::{Out, judgment};
 use referring::scope::mention;
 use rules::{FACTS, SYMBOLS, TERMWORDS, VARIABLES, VARIABLEWORDS};
 use sexp::items;

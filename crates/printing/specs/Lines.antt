@@ -1,10 +1,10 @@
--- The line of an answer: a word, the numbers with a space before each, the bracket and the line's end. Assumes nothing.
-use Rattle.std.specs.Prelude.{ℕ, ◌≤◌, ◌≡◌, List, [], ◌∷◌, ◌++◌, take, length}
+-- The line of an answer, without its end: a word, the numbers with a space before each, the bracket. Assumes nothing.
+use Rattle.std.specs.Prelude.{ℕ, ⊤, ◌<◌, ◌^◌, ◌≡◌, List, [], ◌∷◌, ◌++◌}
+use Rattle.std.specs.Fmt.{decimal}
 use Rattle.running.specs.declared.finish.Answer.{Answer}
 use Rattle.running.specs.declared.finish.Answer.TheVariants as answered
-use Rattle.running.specs.declared.finish.Report.{Report}
-use Rattle.running.specs.declared.finish.Refusal.{Refusal}
-use Rattle.printing.specs.Written.{Decimal}
+use Rattle.printing.specs.Written.{Decimal, decimal_written}
+use mathlib.Core.Path.{refl}
 
 -- `(accepted` and `(refused`
 abbrev pub accepted : List ℕ
@@ -13,28 +13,41 @@ accepted = 40 ∷ 97 ∷ 99 ∷ 99 ∷ 101 ∷ 112 ∷ 116 ∷ 101 ∷ 100 ∷ [
 abbrev pub refused : List ℕ
 refused = 40 ∷ 114 ∷ 101 ∷ 102 ∷ 117 ∷ 115 ∷ 101 ∷ 100 ∷ []
 
-abbrev pub closing : List ℕ
-closing = 41 ∷ 10 ∷ []
+-- the word and the numbers of an answer
+abbrev pub word : Answer → List ℕ
+word (answered.Accepted r) = accepted
+word (answered.Refused r) = refused
 
--- the text is what stands already, then the numbers
-abbrev pub Fields : List ℕ → List ℕ → List ℕ → Type 0
-Fields front [] text = text ≡ front
-Fields front (n ∷ ns) text = (bytes : List ℕ) × Decimal n bytes × Fields (front ++ (32 ∷ bytes)) ns text
+abbrev pub numbers : Answer → List ℕ
+numbers (answered.Accepted r) = r.steps ∷ r.goals ∷ r.open_goals ∷ r.hypotheses ∷ r.inductions ∷ r.inversions ∷ r.instances ∷ []
+numbers (answered.Refused r) = r.number ∷ r.text ∷ r.form ∷ r.detail ∷ []
 
--- the first n bytes of the buffer are the line with this word and these numbers
-pub record Lined (word : List ℕ) (numbers : List ℕ) (out : List ℕ) (n : ℕ) : Type 0 where
-  pub text : List ℕ
-  pub fields : Fields word numbers text
-  pub line : take n out ≡ text ++ closing
-  pub room : n ≤ length out
+abbrev pub fields : List ℕ → List ℕ
+fields [] = 41 ∷ []
+fields (n ∷ ns) = 32 ∷ (decimal n ++ fields ns)
 
-abbrev pub Accepts : Report → List ℕ → ℕ → Type 0
-Accepts r =
-    Lined accepted (r.steps ∷ r.goals ∷ r.open_goals ∷ r.hypotheses ∷ r.inductions ∷ r.inversions ∷ r.instances ∷ [])
+-- what is printed
+abbrev pub line_text : Answer → List ℕ
+line_text a = word a ++ fields (numbers a)
 
-abbrev pub Refuses : Refusal → List ℕ → ℕ → Type 0
-Refuses r = Lined refused (r.number ∷ r.text ∷ r.form ∷ r.detail ∷ [])
+-- a space and a number's digits, for each of them, and the bracket
+abbrev pub Fields : List ℕ → List ℕ → Type 0
+Fields [] text = text ≡ 41 ∷ []
+Fields (n ∷ ns) text = (bytes : List ℕ) × (rest : List ℕ) × Decimal n bytes × Fields ns rest × (text ≡ 32 ∷ (bytes ++ rest))
 
-abbrev pub Line : Answer → List ℕ → ℕ → Type 0
-Line (answered.Accepted r) = Accepts r
-Line (answered.Refused r) = Refuses r
+-- numbers of 64 bits
+abbrev pub Small : List ℕ → Type 0
+Small [] = ⊤
+Small (n ∷ ns) = (n < 2 ^ 64) × Small ns
+
+-- the text is the line
+abbrev pub Line : Answer → List ℕ → Type 0
+Line a text = (rest : List ℕ) × Fields (numbers a) rest × (text ≡ word a ++ rest)
+
+fields_are : (ns : List ℕ) → Small ns → Fields ns (fields ns)
+fields_are [] h = refl
+fields_are (n ∷ ns) h = (decimal n, fields ns, decimal_written n h.0, fields_are ns h.1, refl)
+
+-- what is printed is the line
+pub line_is : (a : Answer) → Small (numbers a) → Line a (line_text a)
+line_is a h = (fields (numbers a), fields_are (numbers a) h, refl)

@@ -1,13 +1,10 @@
-// What the programs read and write: files, read into a buffer; bytes, numbers, names and terms, put into one. `text` and `line` put them where there is
-// room and say which they are; `pen` writes the buffer out when it is full, and all above it asks nothing of the tables that it reads.
+// What the programs read and write: texts, read from files; the line of an answer; what a check recorded, read off its tables, of which nothing is asked.
 #![tactic(auto)]
 
-pub mod footings;
+pub mod checked;
 pub mod line;
-pub mod listing;
+mod listing;
 pub mod load;
-pub mod names;
-pub mod pen;
-pub mod recorded;
-pub mod spelling;
-pub mod text;
+mod names;
+mod recorded;
+mod spelling;

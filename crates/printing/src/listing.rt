@@ -1,203 +1,96 @@
-// The recorded facts, each on its line: `(fact INDEX JUDGMENT (HYPOTHESES...) ASSUMED (PREMISES...) (GENERALISED...))`.
-ghost use Rattle.std.specs.Prelude.{◌≤◌, length};
+// What is recorded, each on its line: facts `(fact INDEX JUDGMENT (HYPOTHESES...) ASSUMED (PREMISES...) (GENERALISED...))`, the rules that each rests on
+// `(footing INDEX RULE...)`, and 53's list, `(missing [N N ..])`.
+use crate::checked::Checked;
+use rules::{RULES, SYMBOLS};
+use std::alloc::Global;
+use std::io::Write;
+use std::{fmt, io};
 
-use crate::names::{cell, cell_of, say_head};
-use crate::pen::{Pen, say, say_gap, say_number};
-use crate::spelling::say_term;
-use rules::SYMBOLS;
+// What stands before item i of a list: one space between two of them.
+fn gap(i: usize) -> &'static str {
+    if i == 0 { "" } else { " " }
+}
 
-// A fact's row, with the places at which the parts of its list begin and end.
+// Numbers of a list.
 #[derive(Clone, Copy)]
-pub struct Parts {
-    pub judgment: usize,
-    pub assumed: usize,
-    pub hyps: usize,
-    pub premises: usize,
-    pub general: usize,
-    pub end: usize,
-}
+struct Numbers<'a>(&'a [u32]);
 
-fn parts_of(facts: &[u32], k: usize) -> Parts {
-    let judgment = cell_of(facts, 6, k, 0);
-    let assumed = cell_of(facts, 6, k, 1);
-    let hyps = cell_of(facts, 6, k, 2);
-    let premises = hyps + cell_of(facts, 6, k, 3);
-    let general = premises + cell_of(facts, 6, k, 4);
-    let end = general + cell_of(facts, 6, k, 5);
-    Parts {
-        judgment: judgment,
-        assumed: assumed,
-        hyps: hyps,
-        premises: premises,
-        general: general,
-        end: end,
+impl fmt::Display for Numbers<'_> {
+    fn fmt<W: fmt::Write>(&self, f: &mut fmt::Formatter<W>) -> fmt::Result {
+        for (i, n) in self.0.iter().enumerate() {
+            write!(f, "{}{n}", gap(i))?;
+        }
+        Ok(())
     }
 }
 
-// Numbers of a list, one space between them, and what stands before and behind them.
-pub fn say_numbers(
-    out: &mut [u8],
-    fd: i32,
-    p: Pen,
-    before: &[u8],
-    behind: &[u8],
-    lists: &[u32],
-    from: usize,
-    end: usize,
-) -> Pen
-    requires { p.at ≤ length out.old }
-    ensures { result.at ≤ length out.old }
-{
-    let mut q = say(out, fd, p, before);
-    let mut i = from;
-    while i < end {
-        q = say_gap(out, fd, q, from, i);
-        q = say_number(out, fd, q, cell(lists, i));
-        i += 1;
+// The first so many entries, and those behind them.
+fn cut(entries: &[u32], many: u32) -> (&[u32], &[u32]) {
+    entries.split_at(entries.len().min(many as usize))
+}
+
+impl Checked<'_> {
+    fn write_terms<W: Write>(&self, alloc: Global, terms: &[u32], out: &mut W) -> io::Result<()> {
+        for (i, term) in terms.iter().enumerate() {
+            write!(out, "{}", gap(i))?;
+            self.write_term(alloc, *term, out)?;
+        }
+        Ok(())
     }
-    say(out, fd, q, behind)
-}
 
-// Terms of a list, in brackets.
-fn say_terms(
-    out: &mut [u8],
-    fd: i32,
-    p: Pen,
-    text: &[u8],
-    heads: &[usize],
-    index: &[u32],
-    words: &[u32],
-    stack: &mut [usize],
-    lists: &[u32],
-    from: usize,
-    end: usize,
-) -> Pen
-    requires { p.at ≤ length out.old }
-    ensures { result.at ≤ length out.old }
-{
-    let mut q = say(out, fd, p, b" (");
-    let mut i = from;
-    while i < end {
-        q = say_gap(out, fd, q, from, i);
-        q = say_term(out, fd, q, text, heads, index, words, stack, cell(lists, i));
-        i += 1;
+    fn write_variables<W: Write>(&self, variables: &[u32], out: &mut W) -> io::Result<()> {
+        for (i, v) in variables.iter().enumerate() {
+            write!(out, "{}{}", gap(i), self.head_name(SYMBOLS + *v as usize))?;
+        }
+        Ok(())
     }
-    say(out, fd, q, b")")
-}
 
-// Variables of a list, in brackets, and the end of a fact's line.
-fn say_variables(
-    out: &mut [u8],
-    fd: i32,
-    p: Pen,
-    text: &[u8],
-    heads: &[usize],
-    lists: &[u32],
-    from: usize,
-    end: usize,
-) -> Pen
-    requires { p.at ≤ length out.old }
-    ensures { result.at ≤ length out.old }
-{
-    let mut q = say(out, fd, p, b" (");
-    let mut i = from;
-    while i < end {
-        q = say_gap(out, fd, q, from, i);
-        q = say_head(out, fd, q, text, heads, SYMBOLS + cell(lists, i));
-        i += 1;
+    fn write_fact<W: Write>(
+        &self,
+        alloc: Global,
+        k: usize,
+        fact: &[u32; 6],
+        out: &mut W,
+    ) -> io::Result<()> {
+        let [judgment, assumed, first, hyps, premises, general] = *fact;
+        let entries = self.lists.get(first as usize..).unwrap_or(&[]);
+        let (hyps, entries) = cut(entries, hyps);
+        let (premises, entries) = cut(entries, premises);
+        let (general, _) = cut(entries, general);
+        write!(out, "(fact {k} ")?;
+        self.write_term(alloc, judgment, out)?;
+        write!(out, " ({}) {assumed} (", Numbers(hyps))?;
+        self.write_terms(alloc, premises, out)?;
+        write!(out, ") (")?;
+        self.write_variables(general, out)?;
+        writeln!(out, "))")
     }
-    say(out, fd, q, b"))\n")
-}
 
-// The beginning of a fact's line.
-fn say_index(out: &mut [u8], fd: i32, p: Pen, k: usize) -> Pen
-    requires { p.at ≤ length out.old }
-    ensures { result.at ≤ length out.old }
-{
-    let q = say(out, fd, p, b"(fact ");
-    let r = say_number(out, fd, q, k);
-    say(out, fd, r, b" ")
-}
-
-// Its hypotheses, and whether it is assumed.
-fn say_hyps(out: &mut [u8], fd: i32, p: Pen, lists: &[u32], f: Parts) -> Pen
-    requires { p.at ≤ length out.old }
-    ensures { result.at ≤ length out.old }
-{
-    let q = say_numbers(out, fd, p, b" (", b") ", lists, f.hyps, f.premises);
-    say_number(out, fd, q, f.assumed)
-}
-
-// Its premises and generalised variables.
-fn say_rest(
-    out: &mut [u8],
-    fd: i32,
-    p: Pen,
-    text: &[u8],
-    heads: &[usize],
-    index: &[u32],
-    words: &[u32],
-    stack: &mut [usize],
-    lists: &[u32],
-    f: Parts,
-) -> Pen
-    requires { p.at ≤ length out.old }
-    ensures { result.at ≤ length out.old }
-{
-    let q = say_terms(
-        out, fd, p, text, heads, index, words, stack, lists, f.premises, f.general,
-    );
-    say_variables(out, fd, q, text, heads, lists, f.general, f.end)
-}
-
-// Fact k.
-fn say_fact(
-    out: &mut [u8],
-    fd: i32,
-    p: Pen,
-    text: &[u8],
-    heads: &[usize],
-    index: &[u32],
-    words: &[u32],
-    stack: &mut [usize],
-    facts: &[u32],
-    lists: &[u32],
-    k: usize,
-) -> Pen
-    requires { p.at ≤ length out.old }
-    ensures { result.at ≤ length out.old }
-{
-    let f = parts_of(facts, k);
-    let a = say_index(out, fd, p, k);
-    let b = say_term(out, fd, a, text, heads, index, words, stack, f.judgment);
-    let c = say_hyps(out, fd, b, lists, f);
-    say_rest(out, fd, c, text, heads, index, words, stack, lists, f)
-}
-
-// The first facts, each on its line.
-pub fn say_facts(
-    out: &mut [u8],
-    fd: i32,
-    p: Pen,
-    text: &[u8],
-    heads: &[usize],
-    index: &[u32],
-    words: &[u32],
-    stack: &mut [usize],
-    facts: &[u32],
-    lists: &[u32],
-    many: usize,
-) -> Pen
-    requires { p.at ≤ length out.old }
-    ensures { result.at ≤ length out.old }
-{
-    let mut q = p;
-    let mut k = 0;
-    while k < many {
-        q = say_fact(
-            out, fd, q, text, heads, index, words, stack, facts, lists, k,
-        );
-        k += 1;
+    // A bit of the words is a rule.
+    fn write_footing<W: Write>(&self, k: usize, words: &[u64; 4], out: &mut W) -> io::Result<()> {
+        write!(out, "(footing {k}")?;
+        for r in 0..RULES {
+            if (words[r / 64] >> (r % 64)) & 1 == 1 {
+                write!(out, " {}", self.rule_name(r))?;
+            }
+        }
+        writeln!(out, ")")
     }
-    q
+
+    // The list ends with its first 0.
+    fn write_missing<W: Write>(&self, out: &mut W) -> io::Result<()> {
+        let goals = self.missing.split(|n| *n == 0).next().unwrap_or(&[]);
+        writeln!(out, "(missing [{}])", Numbers(goals))
+    }
+
+    pub fn write_recorded<W: Write>(&self, alloc: Global, out: &mut W) -> io::Result<()> {
+        let many = self.recorded();
+        for (k, fact) in self.facts.iter().take(many).enumerate() {
+            self.write_fact(alloc, k, fact, out)?;
+        }
+        for (k, words) in self.footings.iter().take(many).enumerate() {
+            self.write_footing(k, words, out)?;
+        }
+        self.write_missing(out)
+    }
 }

@@ -27,11 +27,14 @@ use Rattle.terms.specs.Laws.Theta.{bindings_none, bindings_bound, bindings_set, 
 use Rattle.state.specs.declared.sizes.Sizes.{Sizes}
 use Rattle.state.specs.Held.{Names}
 use Rattle.reading.specs.Given.{Reads, ReadsItem, ReadsItems}
-use Rattle.reading.specs.Answers.{PairRead, PairAs, BindingsRead}
+use Rattle.reading.specs.Answers.{PairRead, PairBy, BindingsRead, BindingsBy}
 use Rattle.reading.specs.Laws.Reading.{reads_binding}
 use Rattle.reading.specs.declared.bindings.Pair.{Pair}
-use Rattle.reading.specs.declared.bindings.Pair.TheVariants.{Of, No}
+use Rattle.std.specs.Prelude.{Result, Ok, Err}
+use Rattle.questions.specs.Numbers.{number_of, detail_of}
+use Rattle.questions.specs.declared.Question.{Question}
 use Rattle.reading.specs.Laws.Walks.{walk_next, walk_on}
+use Rattle.reading.proofs.Filling.{cleared}
 
 -- zs are left in the cells from a place on
 pub record Left (K : Names) (n : Sizes) (I W : List ℕ) (old : Mark) (cells : List ℕ) (S : State) (xs : Sexps) (J X : List ℕ) (now : Mark) (map : List ℕ) (at : ℕ) : Type 0 where
@@ -101,51 +104,64 @@ module _ {K : Names} {n : Sizes} {I W : List ℕ} {old : Mark} {cells : List ℕ
     on_one : On I W old (bindings S xs [] (made I W old)) J X now (bindings S (cons one.first one.others) (in_cells (made J X now) map 0) (made J X now))
     on_one = on_is l.on (ap (λ (z : Sexps). bindings S z (in_cells (made J X now) map 0) (made J X now)) one.is)
 
-    module _ (Y Z : List ℕ) (r : Pair) (p : (h : ReadsItem K n J X now (take (length cells - at) (drop at cells))) → PairAs J X Y Z now (binding h.S h.x (made J X now)) r) where
-      pub left_refused : {q d : ℕ} {new : Mark} → r ≡ No q d new → Stopped I W Y Z old (bindings S xs [] (made I W old)) q d new
+    module _ (Y Z : List ℕ) (new : Mark) (r : Result Pair Question) (p : (h : ReadsItem K n J X now (take (length cells - at) (drop at cells))) → PairBy J X Y Z now new (binding h.S h.x (made J X now)) r) where
+      pub left_refused : {q : Question} → r ≡ Err q → Stopped I W Y Z old (bindings S xs [] (made I W old)) (number_of q) (detail_of q) new
       unfolding bindings
-      left_refused e = on_no _ on_one (subst (λ (z : Pair). PairAs J X Y Z now (binding S one.first (made J X now)) z) e (p left_given))
+      left_refused e = on_no _ on_one (subst (λ z. PairBy J X Y Z now new (binding S one.first (made J X now)) z) e (p left_given))
 
-      module _ {v id : ℕ} {new : Mark} (e : r ≡ Of v id new) where
-        pub left_pair : PairRead J X Y Z now (binding S one.first (made J X now)) v id new
-        left_pair = subst (λ (z : Pair). PairAs J X Y Z now (binding S one.first (made J X now)) z) e (p left_given)
+      module _ {pair : Pair} (e : r ≡ Ok pair) where
+        pub left_pair : PairRead J X Y Z now (binding S one.first (made J X now)) pair.variable pair.term new
+        left_pair = subst (λ z. PairBy J X Y Z now new (binding S one.first (made J X now)) z) e (p left_given)
 
-        pub left_small : v < length map
+        pub left_small : pair.variable < length map
         left_small = omega (arith, left_pair.small, l.theta.long)
 
-        pub left_fits : id + 1 < 2 ^ 32
+        pub left_fits : pair.term + 1 < 2 ^ 32
         left_fits = omega (arith, left_pair.there, left_pair.went.grown.good.room)
 
         -- bound already
-        pub left_twice : (get_or map v 0 ≡ 0 → ⊥) → Stopped I W Y Z old (bindings S xs [] (made I W old)) 36 0 new
+        pub left_twice : (get_or map pair.variable 0 ≡ 0 → ⊥) → Stopped I W Y Z old (bindings S xs [] (made I W old)) 36 0 new
         unfolding bindings
         left_twice q =
             on_ask_no _ 36 (on_ok _ on_one left_pair.went)
-            (ap not (bindings_bound (made J X now) map v ∙ ap not (ne_eqb (get_or map v 0) 0 q)))
+            (ap not (bindings_bound (made J X now) map pair.variable ∙ ap not (ne_eqb (get_or map pair.variable 0) 0 q)))
 
-        module _ (q : get_or map v 0 ≡ 0) where
+        module _ (q : get_or map pair.variable 0 ≡ 0) where
           -- the bindings with this one
-          one_more_lem : insert (record { variable = v; value = tree Y Z new id }) (in_cells (made J X now) map 0) ≡ in_cells (made Y Z new) (set map v (id + 1)) 0
+          one_more_lem : insert (record { variable = pair.variable; value = tree Y Z new pair.term }) (in_cells (made J X now) map 0) ≡ in_cells (made Y Z new) (set map pair.variable (pair.term + 1)) 0
           one_more_lem =
-              ap (insert (record { variable = v; value = tree Y Z new id })) (sym (bindings_grown left_pair.went.grown l.theta))
-              ∙ sym (bindings_set (made Y Z new) map v (id + 1) id left_small q (add-one id))
+              ap (insert (record { variable = pair.variable; value = tree Y Z new pair.term })) (sym (bindings_grown left_pair.went.grown l.theta))
+              ∙ sym (bindings_set (made Y Z new) map pair.variable (pair.term + 1) pair.term left_small q (add-one pair.term))
 
-          on_more : On I W old (bindings S xs [] (made I W old)) Y Z new (bindings S one.others (in_cells (made Y Z new) (set map v (id + 1)) 0) (made Y Z new))
+          on_more : On I W old (bindings S xs [] (made I W old)) Y Z new (bindings S one.others (in_cells (made Y Z new) (set map pair.variable (pair.term + 1)) 0) (made Y Z new))
           unfolding bindings
           on_more =
               on_is
-              (on_ask_yes _ 36 (on_ok _ on_one left_pair.went) (ap not (bindings_bound (made J X now) map v ∙ ap not (eq-eqb (get_or map v 0) 0 q))))
+              (on_ask_yes _ 36 (on_ok _ on_one left_pair.went) (ap not (bindings_bound (made J X now) map pair.variable ∙ ap not (eq-eqb (get_or map pair.variable 0) 0 q))))
               (ap (λ (bs : List Binding). bindings S one.others bs (made Y Z new)) one_more_lem)
 
-          pub left_again : {next : ℕ} → next ≡ behind at (item_at cells at) → Left K n I W old cells S xs Y Z new (set map v (id + 1)) next
+          pub left_again : {next : ℕ} → next ≡ behind at (item_at cells at) → Left K n I W old cells S xs Y Z new (set map pair.variable (pair.term + 1)) next
           left_again f =
               record {
                 zs = one.others;
                 walk = walk_next one_walk f;
                 reads = reads_binding l.reads one.first left_pair.went;
                 on = on_more;
-                theta = theta_set v id (theta_grown left_pair.went.grown l.theta) left_pair.small left_pair.there;
+                theta = theta_set pair.variable pair.term (theta_grown left_pair.went.grown l.theta) left_pair.small left_pair.there;
               }
 
     pub left_less : {next : ℕ} → next ≡ behind at (item_at cells at) → (at < next) × (next ≤ length cells)
     left_less f = (walk_on one_walk f, (walk_next one_walk f).here.high)
+
+-- All of them are read, or one is refused: then the map, which was zero before, is cleared
+module _ {K : Names} {n : Sizes} {I W : List ℕ} {m : Mark} {cells : List ℕ} (J X map : List ℕ) (new : Mark) (r : Result (Unit {0}) Question)
+    (g : ReadsItems K n I W m cells)
+    (h : (k : ReadsItems K n I W m cells) → BindingsBy I W J X m new (bindings k.S k.xs [] (made I W m)) map map r) where
+  pub bindings_ok : (before : List ℕ) → r ≡ Ok tt → BindingsBy I W J X m new (bindings g.S g.xs [] (made I W m)) before map (Ok tt)
+  bindings_ok before e = subst (λ z. BindingsBy I W J X m new (bindings g.S g.xs [] (made I W m)) map map z) e (h g)
+
+  pub bindings_err : {before last : List ℕ} {q : Question} → r ≡ Err q → before ≡ replicate VARIABLES 0 → length map ≡ length before →
+      last ≡ replicate (length map) 0 → BindingsBy I W J X m new (bindings g.S g.xs [] (made I W m)) before last (Err q)
+  bindings_err e o s c =
+      let k = subst (λ z. BindingsBy I W J X m new (bindings g.S g.xs [] (made I W m)) map map z) e (h g) in
+      (k.0, cleared map o (s ∙ ap length o ∙ length-replicate {A = ℕ} VARIABLES 0) c)

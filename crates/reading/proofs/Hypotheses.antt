@@ -1,12 +1,12 @@
 -- The loop over a list of hypotheses: each an earlier fact that passes the test. Assumes nothing.
 use mathlib.Core.Path.{◌≡◌, refl, sym, ap, ◌∙◌, subst}
 use mathlib.Core.Bool.{Bool, true, false, not, true≢false, false≢true}
-use Rattle.std.specs.Prelude.{Option, Some as some, None as nothing}
+use Rattle.std.specs.Prelude.{Option, Some as some, None as nothing, Result, Ok, Err}
 use mathlib.Core.List.{List, [], ◌∷◌, ◌++◌, append-nil, append_assoc}
 use Prim.Native.Nat.{ℕ, zero, suc, ◌-◌, ◌*◌, ◌<◌, ◌≤◌}
 use native.Mathlib.Omega.{arith}
 use lib.Dec.{eqb}
-use lib.ListN.{length, take, drop, replicate}
+use lib.ListN.{length, take, drop, replicate, length-replicate}
 use Rattle.rules.specs.Limits.{FACTS, FACTWORDS}
 use Rattle.rules.specs.Out.{Out, ok, refuse, then, ask, found}
 use Rattle.rules.specs.Find.{has, entry, rising}
@@ -33,7 +33,8 @@ use Rattle.state.specs.FactLaws.{facts_tabled, fact_row_lem}
 use Rattle.reading.specs.Items.{FirstItem, index_in, index_found}
 use Rattle.reading.specs.Given.{FactsItem, FactsItems}
 use Rattle.reading.specs.Answers.{tests, HypsRead, HypsAs}
-use Rattle.reading.specs.declared.hyps.Listed.{Listed}
+use Rattle.questions.specs.declared.Question.{Question}
+use Rattle.reading.proofs.Filling.{cleared}
 use Rattle.reading.specs.Laws.Walks.{Here, here, go_on, then_same}
 use Rattle.reading.specs.Laws.Lists.{has_snoc}
 
@@ -214,13 +215,26 @@ module _ {text facts cells : List ℕ} {n : Sizes} (g : FactsItem text facts n c
         holds = l.holds;
       }
 
-  pub hyps_inside : (p : Fact → Bool) (before set : List ℕ) (r : Listed) →
+  pub hyps_inside : (p : Fact → Bool) (before set : List ℕ) (r : Result (Unit {0}) Question) →
       ((k : FactsItems text facts n (take (b - a) (drop a cells))) → HypsAs p k.S (list k.xs) before set r) → HypsAs p g.S g.x before set r
   unfolding facts_inside
   hyps_inside p before set r h = subst (λ (z : Sexp). HypsAs p g.S z before set r) (sym l.is) (h facts_inside)
 
+-- A list that is read, or that is refused: then the set, which was empty before, is cleared
+module _ {text facts cells : List ℕ} {n : Sizes} (g : FactsItem text facts n cells) {a b : ℕ} (l : ListIs text cells g.x a b) (p : Fact → Bool)
+    (set : List ℕ) (r : Result (Unit {0}) Question)
+    (h : (k : FactsItems text facts n (take (b - a) (drop a cells))) → HypsAs p k.S (list k.xs) set set r) where
+  pub hyps_ok : (before : List ℕ) → r ≡ Ok tt → HypsAs p g.S g.x before set (Ok tt)
+  hyps_ok before e = subst (λ z. HypsAs p g.S g.x set set z) e (hyps_inside g l p set set r h)
+
+  pub hyps_err : {before last : List ℕ} {q : Question} → r ≡ Err q → before ≡ replicate FACTWORDS 0 → length set ≡ length before → last ≡ replicate (length set) 0 →
+      HypsAs p g.S g.x before last (Err q)
+  hyps_err {before} e o s c =
+      let k = subst (λ z. HypsAs p g.S g.x set set z) e (hyps_inside g l p set set r h) in
+      (k.0, (cleared set o (s ∙ ap length o ∙ length-replicate {A = ℕ} FACTWORDS 0) c, k.1.1))
+
 -- by the name of the test
-module _ (S : State) (x : Sexp) (before set : List ℕ) (r : Listed) where
+module _ (S : State) (x : Sexp) (before set : List ℕ) (r : Result (Unit {0}) Question) where
   pub test_plain : HypsAs (tests true) S x before set r → HypsAs is_plain S x before set r
   unfolding tests
   test_plain h = h

@@ -25,13 +25,14 @@ use Rattle.terms.specs.Laws.Numbers.{numbers_args}
 use Rattle.state.specs.declared.sizes.Sizes.{Sizes}
 use Rattle.state.specs.Held.{Names}
 use Rattle.state.specs.Filled.{filled_none}
-use Rattle.reading.specs.declared.term.Out.{Out as Answer}
-use Rattle.reading.specs.declared.term.Out.TheVariants.{Ok, No}
+use Rattle.std.specs.Prelude.{Result, Ok, Err}
+use Rattle.questions.specs.Numbers.{number_of, detail_of}
+use Rattle.questions.specs.declared.Question.{Question}
 use Rattle.reading.specs.Given.{Reads, ReadsItem, ReadsItems}
-use Rattle.reading.specs.Answers.{TermRead, ReadAs, JudgmentsRead, JudgmentsAs}
+use Rattle.reading.specs.Answers.{TermRead, ReadBy, JudgmentsRead, JudgmentsBy}
 use Rattle.reading.specs.Laws.Reading.{reads_judgment, reads_item}
 use Rattle.reading.specs.Laws.Walks.{Here, here, go_on, then_same}
-use Rattle.reading.proofs.Filling.{length_snoc, put_more}
+use Rattle.reading.proofs.Filling.{length_snoc, put_more, cleared}
 
 -- an atom is no list
 pub atom_stops : (S : State) (x : Sexp) (k : ℕ) (bs : List ℕ) → x ≡ atom k bs → (M : Made) → judgments S x M ≡ refuse 22 0 M
@@ -137,22 +138,18 @@ module _ {K : Names} {n : Sizes} {I W : List ℕ} {old : Mark} {S : State} {xs :
         ∙ then_then (judgment S judging_here.x (made J X now)) _ _)
 
     -- what the call answers of it
-    module _ (Y Z : List ℕ) (r : Answer)
-        (f : (g : ReadsItem K n J X now (take (length cells - at) (drop at cells))) → ReadAs J X Y Z now (judgment g.S g.x (made J X now)) r) where
-      read_here : ReadAs J X Y Z now (judgment S judging_here.x (made J X now)) r
+    module _ (Y Z : List ℕ) (new : Mark) (r : Result ℕ Question)
+        (f : (g : ReadsItem K n J X now (take (length cells - at) (drop at cells))) → ReadBy J X Y Z now new (judgment g.S g.x (made J X now)) r) where
+      read_here : ReadBy J X Y Z now new (judgment S judging_here.x (made J X now)) r
       read_here = f (record { S = S; x = judging_here.x; ys = judging_here.ys; reads = h.reads; holds = judging_here.holds })
 
-      pub judging_ok : {t : ℕ} {new : Mark} → r ≡ Ok t new → TermRead J X Y Z now (judgment S judging_here.x (made J X now)) t new
-      judging_ok e = subst (λ z. ReadAs J X Y Z now (judgment S judging_here.x (made J X now)) z) e read_here
+      pub judging_ok : {t : ℕ} → r ≡ Ok t → TermRead J X Y Z now (judgment S judging_here.x (made J X now)) t new
+      judging_ok e = subst (λ z. ReadBy J X Y Z now new (judgment S judging_here.x (made J X now)) z) e read_here
 
-      pub judging_no : {q d : ℕ} {new : Mark} → r ≡ No q d new → Stopped J X Y Z now (judgment S judging_here.x (made J X now)) q d new
-      judging_no e = subst (λ z. ReadAs J X Y Z now (judgment S judging_here.x (made J X now)) z) e read_here
+      pub judging_err : {q : Question} → r ≡ Err q → Stopped I W Y Z old (judgments S (list xs) (made I W old)) (number_of q) (detail_of q) new
+      judging_err e = on_no _ split (subst (λ z. ReadBy J X Y Z now new (judgment S judging_here.x (made J X now)) z) e read_here)
 
     module _ {Y Z : List ℕ} where
-      pub judging_stops : {q d : ℕ} {new : Mark} → Stopped J X Y Z now (judgment S judging_here.x (made J X now)) q d new →
-          Stopped I W Y Z old (judgments S (list xs) (made I W old)) q d new
-      judging_stops s = on_no _ split s
-
       module _ {t : ℕ} {new : Mark} (w : TermRead J X Y Z now (judgment S judging_here.x (made J X now)) t new) where
         -- a term's number fits into a cell
         pub judging_small : t < TERMS
@@ -188,9 +185,18 @@ module _ {K : Names} {n : Sizes} {I W : List ℕ} {m : Mark} {cells : List ℕ} 
   pub reads_inside : ReadsItems K n I W m (take (b - a) (drop a cells))
   reads_inside = record { S = g.S; xs = l.items; reads = g.reads; holds = l.holds }
 
-  pub judgments_inside : (J X before out : List ℕ) (r : Answer) →
-      ((k : ReadsItems K n I W m (take (b - a) (drop a cells))) → JudgmentsAs I W J X m (judgments k.S (list k.xs) (made I W m)) before out r) →
-      JudgmentsAs I W J X m (judgments g.S g.x (made I W m)) before out r
-  unfolding reads_inside
-  judgments_inside J X before out r h =
-      subst (λ (z : Sexp). JudgmentsAs I W J X m (judgments g.S z (made I W m)) before out r) (sym l.is) (h reads_inside)
+  -- it is read, or refused: then the cells, which were zero before, are cleared
+  module _ (J X out : List ℕ) (new : Mark) (r : Result ℕ Question)
+      (h : (k : ReadsItems K n I W m (take (b - a) (drop a cells))) → JudgmentsBy I W J X m new (judgments k.S (list k.xs) (made I W m)) out out r) where
+    inside : JudgmentsBy I W J X m new (judgments g.S g.x (made I W m)) out out r
+    unfolding reads_inside
+    inside = subst (λ (z : Sexp). JudgmentsBy I W J X m new (judgments g.S z (made I W m)) out out r) (sym l.is) (h reads_inside)
+
+    pub judgments_ok : (before : List ℕ) {many : ℕ} → r ≡ Ok many → JudgmentsBy I W J X m new (judgments g.S g.x (made I W m)) before out (Ok many)
+    judgments_ok before e = subst (λ z. JudgmentsBy I W J X m new (judgments g.S g.x (made I W m)) out out z) e inside
+
+    pub judgments_err : {before last : List ℕ} {q : Question} → r ≡ Err q → before ≡ replicate (length before) 0 → length out ≡ length before →
+        last ≡ replicate (length out) 0 → JudgmentsBy I W J X m new (judgments g.S g.x (made I W m)) before last (Err q)
+    judgments_err e o s c =
+        let k = subst (λ z. JudgmentsBy I W J X m new (judgments g.S g.x (made I W m)) out out z) e inside in
+        (k.0, cleared out o s c)

@@ -2,7 +2,7 @@
 -- Assumes nothing.
 use mathlib.Core.Path.{◌≡◌, refl, sym, ap, ◌∙◌, subst}
 use mathlib.Core.Bool.{Bool, true, false}
-use Rattle.std.specs.Prelude.{Option, Some as some, None as nothing}
+use Rattle.std.specs.Prelude.{Option, Some as some, None as nothing, Result}
 use mathlib.Core.List.{List, [], ◌∷◌, ◌++◌}
 use Prim.Native.Nat.{ℕ, ◌+◌, ◌-◌, ◌*◌, ◌<◌, ◌≤◌}
 use native.Mathlib.Omega.{arith}
@@ -40,7 +40,8 @@ use Rattle.state.specs.VarLaws.{vars_long, var_sort_is}
 use Rattle.state.specs.declared.sizes.Sizes.{Sizes}
 use Rattle.reading.specs.declared.term.Typed.{Typed}
 use Rattle.reading.specs.Given.{ReadsTerm, ReadsDefs, ReadsNames}
-use Rattle.reading.specs.Answers.{TypedRead, TypedAs}
+use Rattle.questions.specs.declared.Question.{Question}
+use Rattle.reading.specs.Answers.{TypedRead, TypedBy}
 
 -- The table of symbols ----------------------------------------------------------------------------------------------------------------
 
@@ -236,11 +237,11 @@ module _ {theory goals text symbols vars : List ℕ} {n : Sizes} {I W : List ℕ
           f ∙ var_sort_is g.vars_are.stand v
           ∙ sym (ap (sort_of g.S.theory g.S.vars) (tree_var (made I W m) (SYMBOLS + v) [] (omega arith) ∙ ap var z))
 
-      pub var_named_typed : (J X : List ℕ) (sort : ℕ) (q : Typed) →
-          TypedAs I W J X m g.S sort (keep (tree_at (made I W m) ((SYMBOLS + v) ∷ [])) (made I W m)) q →
-          TypedAs I W J X m g.S sort (named g.S name (made I W m)) q
-      var_named_typed J X sort q t =
-          subst (λ (K : Out Made Tree). TypedAs I W J X m g.S sort K q) (sym (named_var g.S name (made I W m) v (found_at _ r v a e))) t
+      pub var_named_typed : (J X : List ℕ) (new : Mark) (sort : ℕ) (q : Result Typed Question) →
+          TypedBy I W J X m new g.S sort (keep (tree_at (made I W m) ((SYMBOLS + v) ∷ [])) (made I W m)) q →
+          TypedBy I W J X m new g.S sort (named g.S name (made I W m)) q
+      var_named_typed J X new sort q t =
+          subst (λ (K : Out Made Tree). TypedBy I W J X m new g.S sort K q) (sym (named_var g.S name (made I W m) v (found_at _ r v a e))) t
 
     -- The constructor of that name
     module _ (e : r ≡ nothing) {k : Option ℕ} (b : k ≡ (constructor_named g.S.theory name)) where
@@ -282,11 +283,11 @@ module _ {theory goals text symbols vars : List ℕ} {n : Sizes} {I W : List ℕ
               pure_stopped g.good
               (named_many g.S name (made I W m) no_var_lem c (found_at _ k c b f) (empty_some (inputs g.S.theory c) (λ z. q (arity_is ∙ z))))
 
-          pub constant_typed : s ≡ 0 → (J X : List ℕ) (sort : ℕ) (q : Typed) →
-              TypedAs I W J X m g.S sort (keep (tree_at (made I W m) (c ∷ [])) (made I W m)) q →
-              TypedAs I W J X m g.S sort (named g.S name (made I W m)) q
-          constant_typed z J X sort q t =
-              subst (λ (K : Out Made Tree). TypedAs I W J X m g.S sort K q)
+          pub constant_typed : s ≡ 0 → (J X : List ℕ) (new : Mark) (sort : ℕ) (q : Result Typed Question) →
+              TypedBy I W J X m new g.S sort (keep (tree_at (made I W m) (c ∷ [])) (made I W m)) q →
+              TypedBy I W J X m new g.S sort (named g.S name (made I W m)) q
+          constant_typed z J X new sort q t =
+              subst (λ (K : Out Made Tree). TypedBy I W J X m new g.S sort K q)
               (sym (named_app g.S name (made I W m) no_var_lem c (found_at _ k c b f) (empty_none (inputs g.S.theory c) (sym arity_is ∙ z)) constant_small)) t
 
 -- Below a number, or not ------------------------------------------------------------------------------------------------------------------

@@ -12,3 +12,5 @@ pub mod TermHeads
 pub mod TermBehind
 pub mod TermItems
 pub mod TermSorted
+pub mod Numbered
+pub mod Missing

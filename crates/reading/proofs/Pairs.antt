@@ -1,6 +1,6 @@
 -- One binding, `(VAR TERM)`: what the item is for each answer, and what its parts are given. Assumes nothing.
 use mathlib.Core.Path.{◌≡◌, sym, ap, ◌∙◌, subst}
-use Rattle.std.specs.Prelude.{Some as some, None as nothing, Option}
+use Rattle.std.specs.Prelude.{Some as some, None as nothing, Option, Result, Ok, Err}
 use mathlib.Core.List.{List}
 use Prim.Native.Nat.{ℕ, ◌-◌, ◌*◌, ◌<◌, ◌≤◌}
 use native.Mathlib.Omega.{arith}
@@ -33,11 +33,11 @@ use Rattle.state.specs.Rows.{SomeVars, cell}
 use Rattle.state.specs.VarLaws.{vars_long, var_sort_is}
 use Rattle.reading.specs.Items.{FirstItem, variable_in, variable_found}
 use Rattle.reading.specs.Given.{ReadsItem}
-use Rattle.reading.specs.Answers.{ReadAs, TermRead, PairRead}
+use Rattle.reading.specs.Answers.{ReadBy, TermRead, PairRead}
 use Rattle.reading.specs.Laws.Reading.{reads_vars}
 use Rattle.reading.specs.Laws.Walks.{walk_next}
-use Rattle.reading.specs.declared.term.Out.{Out as Answer}
-use Rattle.reading.specs.declared.term.Out.TheVariants.{Ok, No}
+use Rattle.questions.specs.Numbers.{number_of, detail_of}
+use Rattle.questions.specs.declared.Question.{Question}
 
 -- Two items --------------------------------------------------------------------------------------------------------------------------
 
@@ -153,15 +153,15 @@ module _ {K : Names} {n : Sizes} {I W : List ℕ} {m : Mark} {cells : List ℕ} 
                 (sym (sorted ∙ var_sort_is g.reads.spelling.vars.stand v)))
 
             -- o is the answer for the term
-            module _ (J X : List ℕ) (o : Answer)
+            module _ (J X : List ℕ) (new : Mark) (o : Result ℕ Question)
                 (t : (h : ReadsItem K n I W m (take (length (take (b - a) (drop a cells)) - next) (drop next (take (b - a) (drop a cells))))) →
-                ReadAs I W J X m (term_of h.S h.x s (made I W m)) o) where
-              pub binding_read : {id : ℕ} {new : Mark} → o ≡ Ok id new → PairRead I W J X m (binding g.S g.x (made I W m)) v id new
-              binding_read {id} {new} f =
+                ReadBy I W J X m new (term_of h.S h.x s (made I W m)) o) where
+              pub binding_read : {id : ℕ} → o ≡ Ok id → PairRead I W J X m (binding g.S g.x (made I W m)) v id new
+              binding_read {id} f =
                   let d : TermRead I W J X m (term_of g.S p.second s (made I W m)) id new =
-                  subst (λ (z : Answer). ReadAs I W J X m (term_of g.S p.second s (made I W m)) z) f (t second_given) in
+                  subst (λ z. ReadBy I W J X m new (term_of g.S p.second s (made I W m)) z) f (t second_given) in
                   record { went = on_done (on_ok _ on_found d.went); small = variable_small; there = d.there }
 
-              pub binding_refused : {k d : ℕ} {new : Mark} → o ≡ No k d new → Stopped I W J X m (binding g.S g.x (made I W m)) k d new
-              binding_refused {k} {d} {new} f =
-                  on_no _ on_found (subst (λ (z : Answer). ReadAs I W J X m (term_of g.S p.second s (made I W m)) z) f (t second_given))
+              pub binding_refused : {q : Question} → o ≡ Err q → Stopped I W J X m (binding g.S g.x (made I W m)) (number_of q) (detail_of q) new
+              binding_refused f =
+                  on_no _ on_found (subst (λ z. ReadBy I W J X m new (term_of g.S p.second s (made I W m)) z) f (t second_given))

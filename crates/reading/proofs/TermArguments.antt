@@ -32,10 +32,8 @@ use Rattle.terms.specs.Laws.Growth.{grown_args}
 use Rattle.terms.specs.Laws.Patterns.{before}
 use Rattle.state.specs.declared.sizes.Sizes.{Sizes}
 use Rattle.state.specs.Held.{Names}
-use Rattle.reading.specs.declared.term.Typed.{Typed}
-use Rattle.reading.specs.declared.term.Typed.TheVariants as typed
 use Rattle.reading.specs.Given.{Reads, ReadsItem}
-use Rattle.reading.specs.Answers.{TypedRead, TypedAs, ArgumentsRead}
+use Rattle.reading.specs.Answers.{TypedRead, ArgumentsRead}
 use Rattle.reading.specs.Laws.Reading.{reads_term}
 use Rattle.reading.specs.Laws.Walks.{walk_next, walk_on, then_same}
 use Rattle.reading.proofs.TermTrees.{below_snoc, more_below, before_none, before_args, fit_snoc, fit_count, fit_many}
@@ -137,14 +135,15 @@ module _ {K : Names} {n : Sizes} {I W : List ℕ} {old : Mark} {cells : List ℕ
         ∙ then_then (term S more_left.first (made J X m)) (λ t s. then (terms S more_left.others s) (λ ts u. ok (more t ts) u))
         (λ us s. ok (before (args_of (made J X m) g.ids) us) s))
 
-    module _ (Y Z : List ℕ) (sort : ℕ) (r : Typed)
-        (a : (h : ReadsItem K n J X m (take (length cells - at) (drop at cells))) → TypedAs J X Y Z m h.S sort (term h.S h.x (made J X m)) r) where
-      pub going_stops : {q d : ℕ} {new : Mark} → r ≡ typed.No q d new → Stopped I W Y Z old (terms S xs (made I W old)) q d new
-      going_stops e = on_no _ first_on (subst (TypedAs J X Y Z m S sort (term S more_left.first (made J X m))) e (a going_item))
+    module _ (Y Z : List ℕ) (new : Mark) where
+      pub going_stops : (q d : ℕ) → ((h : ReadsItem K n J X m (take (length cells - at) (drop at cells))) → Stopped J X Y Z m (term h.S h.x (made J X m)) q d new) →
+          Stopped I W Y Z old (terms S xs (made I W old)) q d new
+      going_stops q d a = on_no _ first_on (a going_item)
 
-      module _ {t : ℕ} {right : Bool} {new : Mark} (e : r ≡ typed.Term t right new) where
+      module _ (sort t : ℕ) (right : Bool)
+          (a : (h : ReadsItem K n J X m (take (length cells - at) (drop at cells))) → TypedRead J X Y Z m h.S sort (term h.S h.x (made J X m)) t right new) where
         read_so : TypedRead J X Y Z m S sort (term S more_left.first (made J X m)) t right new
-        read_so = subst (TypedAs J X Y Z m S sort (term S more_left.first (made J X m))) e (a going_item)
+        read_so = a going_item
 
         -- what `put_argument` asks
         pub going_put : (length node ≡ NODE) × (t < TERMS)

@@ -1,35 +1,30 @@
 -- A list that begins with a symbol, behind its arguments: their node is kept where they fit. Assumes nothing.
-use mathlib.Core.Path.{◌≡◌, refl, sym, ap, ◌∙◌, subst}
+use mathlib.Core.Path.{◌≡◌, refl, sym, ap, ◌∙◌}
 use mathlib.Core.Bool.{Bool, true, false, not}
 use mathlib.Core.List.{List}
+use Rattle.std.specs.Prelude.{Result, Ok, Err}
 use Prim.Native.Nat.{ℕ, ◌-◌, ◌≤◌}
 use native.Mathlib.Omega.{arith}
 use lib.ListN.{length, take, drop}
 use lib.Seq.{length-take-le}
 use Rattle.rules.specs.Limits.{NODE}
-use Rattle.rules.specs.Out.{Act, ok, refuse}
+use Rattle.rules.specs.Out.{Act, ok}
 use Rattle.rules.specs.Tree.{Tree, app}
 use Rattle.rules.specs.Store.{Made, keep}
 use Rattle.rules.specs.Theory.{inputs, output}
 use Rattle.rules.specs.State.{State, sort_of}
 use Rattle.rules.specs.Read.{terms}
 use Rattle.terms.specs.declared.store.Mark.{Mark}
-use Rattle.terms.specs.declared.apart.Kept.{Kept}
-use Rattle.terms.specs.declared.apart.Kept.TheVariants.{Term, Full}
-use Rattle.terms.specs.Table.{made, tree_at, Node, Good, Stored}
-use Rattle.terms.specs.Apart.{After}
-use Rattle.terms.specs.On.{Stopped, On, on_start, on_is, on_ok, on_no, on_ask_yes, on_ask_no, on_went, on_stopped, pure_stopped, refused_stopped}
-use Rattle.terms.specs.Apart.{after_term, after_full}
+use Rattle.questions.specs.declared.Question.{Question}
+use Rattle.terms.specs.Table.{made, tree_at, Node, Good, Stored, Refused}
+use Rattle.terms.specs.On.{Stopped, On, on_start, on_is, on_ok, on_no, on_ask_yes, on_ask_no, on_went, on_stopped, refused_stopped}
 use Rattle.terms.specs.Laws.Numbers.{stored_is}
 use Rattle.state.specs.declared.sizes.Sizes.{Sizes}
 use Rattle.state.specs.Held.{Names}
 use Rattle.reading.specs.declared.term.Typed.{Typed}
-use Rattle.reading.specs.declared.term.Typed.TheVariants as typed
-use Rattle.reading.specs.declared.term.Opening.{Opening}
-use Rattle.reading.specs.declared.term.Opening.TheVariants.{Symbol, No}
 use Rattle.reading.specs.Given.{Reads, ReadsItems}
-use Rattle.reading.specs.Answers.{TermRead, TypedAs, ArgumentsRead, ArgumentsAs}
-use Rattle.reading.specs.Heads.{Opens, Opened, OpenedAs, finish}
+use Rattle.reading.specs.Answers.{TermRead, TypedBy, ArgumentsRead}
+use Rattle.reading.specs.Heads.{Opens, Opened, finish}
 use Rattle.reading.proofs.TermTrees.{fit_many}
 use Rattle.reading.proofs.TermArguments.{inputs_few}
 
@@ -49,16 +44,6 @@ abbrev pub opens : {K : Names} {n : Sizes} {I W : List ℕ} {m : Mark} {cells : 
     Opens K.theory K.text K.symbols n.symbols cells
 opens {K} g = record { S = g.S; ins = K.inputs; xs = g.xs; held = g.reads.spelling.held; holds = g.holds }
 
-pub opened : {text cells : List ℕ} {count : ℕ} (S : State) (Q : Act Made Tree) (r : Opening) {c : ℕ} → OpenedAs text cells count S Q r → r ≡ Symbol c →
-    Opened text cells count S Q c
-opened {text} {cells} {count} S Q r a e = subst (OpenedAs text cells count S Q) e a
-
-pub unopened : {I W : List ℕ} {m : Mark} {q : ℕ} → Good I W m → (text cells : List ℕ) (count : ℕ) (S : State) (Q : Act Made Tree) (r : Opening) →
-    OpenedAs text cells count S Q r → r ≡ No q → Stopped I W I W m (Q (made I W m)) q 0 m
-unopened {I} {W} {m} {q} g text cells count S Q r a e =
-    let s : (M : Made) → Q M ≡ refuse q 0 M = subst (OpenedAs text cells count S Q) e a in
-    pure_stopped g (s (made I W m))
-
 -- Behind the arguments -----------------------------------------------------------------------------------------------------------------
 
 module _ {K : Names} {n : Sizes} {I W : List ℕ} {m : Mark} {S : State} (g : Reads K n I W m S) {cells : List ℕ} {Q : Act Made Tree} {c : ℕ}
@@ -67,17 +52,17 @@ module _ {K : Names} {n : Sizes} {I W : List ℕ} {m : Mark} {S : State} (g : Re
   abbrev pub rest_items : ReadsItems K n I W m (take (length cells - 1) (drop 1 cells))
   rest_items = record { S = S; xs = o.others; reads = g; holds = o.rest }
 
-  module _ (J X node : List ℕ) (r : Typed) (a : (h : ReadsItems K n I W m (take (length cells - 1) (drop 1 cells))) →
-      ArgumentsAs I W J X m h.S c node (terms h.S h.xs (made I W m)) r) where
+  module _ (J X : List ℕ) (new : Mark) where
     -- they are refused
-    pub behind_stops : {q d : ℕ} {new : Mark} → r ≡ typed.No q d new → Stopped I W J X m (Q (made I W m)) q d new
-    behind_stops e =
-        on_no (finish S c) (on_is (on_start g.good) (o.is (made I W m)))
-        (subst (ArgumentsAs I W J X m S c node (terms S o.others (made I W m))) e (a rest_items))
+    pub behind_stops : (q d : ℕ) →
+        ((h : ReadsItems K n I W m (take (length cells - 1) (drop 1 cells))) → Stopped I W J X m (terms h.S h.xs (made I W m)) q d new) →
+        Stopped I W J X m (Q (made I W m)) q d new
+    behind_stops q d a = on_no (finish S c) (on_is (on_start g.good) (o.is (made I W m))) (a rest_items)
 
-    module _ {len : ℕ} {right : Bool} {new : Mark} (e : r ≡ typed.Term len right new) where
+    module _ (node : List ℕ) (len : ℕ) (right : Bool)
+        (a : (h : ReadsItems K n I W m (take (length cells - 1) (drop 1 cells))) → ArgumentsRead I W J X m h.S c node (terms h.S h.xs (made I W m)) len right new) where
       so : ArgumentsRead I W J X m S c node (terms S o.others (made I W m)) len right new
-      so = subst (ArgumentsAs I W J X m S c node (terms S o.others (made I W m))) e (a rest_items)
+      so = a rest_items
 
       behind_on : On I W m (Q (made I W m)) J X new (finish S c so.trees (made J X new))
       behind_on = on_ok (finish S c) (on_is (on_start g.good) (o.is (made I W m))) so.went
@@ -108,26 +93,27 @@ module _ {K : Names} {n : Sizes} {I W : List ℕ} {m : Mark} {S : State} (g : Re
         unfolding sort_of
         sort_output x = x ∙ sym (ap (sort_of S.theory S.vars) (so.fills (turned_true right y)).0)
 
-        pub behind_typed : (Y Z : List ℕ) (out sort : ℕ) (s : Typed) → out ≡ output S.theory c →
+        pub behind_typed : (Y Z : List ℕ) (last : Mark) (out sort : ℕ) (s : Result Typed Question) → out ≡ output S.theory c →
             ((U : State) → out ≡ sort_of U.theory U.vars (tree_at (made J X new) (take len node)) →
-            TypedAs J X Y Z new U sort (keep (tree_at (made J X new) (take len node)) (made J X new)) s) →
-            TypedAs I W Y Z m S sort (Q (made I W m)) s
-        behind_typed Y Z out sort s x k = go s (k S (sort_output x))
+            TypedBy J X Y Z new last U sort (keep (tree_at (made J X new) (take len node)) (made J X new)) s) →
+            TypedBy I W Y Z m last S sort (Q (made I W m)) s
+        behind_typed Y Z last out sort s x k = go s (k S (sort_output x))
           where
-            go : (z : Typed) → TypedAs J X Y Z new S sort (keep (tree_at (made J X new) (take len node)) (made J X new)) z → TypedAs I W Y Z m S sort (Q (made I W m)) z
-            go (typed.Term id b last) w = record { read = record { went = on_went behind_keeps w.read.went; there = w.read.there }; fits = w.fits }
-            go (typed.No q d last) w = on_stopped behind_keeps w
+            go : (z : Result Typed Question) → TypedBy J X Y Z new last S sort (keep (tree_at (made J X new) (take len node)) (made J X new)) z → TypedBy I W Y Z m last S sort (Q (made I W m)) z
+            go (Ok kept) w = record { read = record { went = on_went behind_keeps w.read.went; there = w.read.there }; fits = w.fits }
+            go (Err q) w = on_stopped behind_keeps w
 
         -- as it is
-        module _ {Y Z : List ℕ} {s : Kept}
-            (x : After J X Y Z new (tree_at (made J X new) (take len node)) (keep (tree_at (made J X new) (take len node)) (made J X new)) s) where
-          pub behind_kept : {id : ℕ} {last : Mark} → s ≡ Term id last → TermRead I W Y Z m (Q (made I W m)) id last
-          behind_kept {id} {last} u =
-              let w : Stored J X Y Z new (tree_at (made J X new) (take len node)) (keep (tree_at (made J X new) (take len node)) (made J X new)) id last = after_term x u in
+        module _ {Y Z : List ℕ} {last : Mark} where
+          pub behind_kept : {id : ℕ} →
+              Stored J X Y Z new (tree_at (made J X new) (take len node)) (keep (tree_at (made J X new) (take len node)) (made J X new)) id last →
+              TermRead I W Y Z m (Q (made I W m)) id last
+          behind_kept w =
               record {
                 went = on_went behind_keeps (record { grown = w.grown; makes = w.makes ∙ ap (λ (t : Tree). ok t (made Y Z last)) (sym (stored_is w)) });
                 there = w.there;
               }
 
-          pub behind_full : {row : ℕ} {last : Mark} → s ≡ Full row last → Stopped I W Y Z m (Q (made I W m)) 60 row last
-          behind_full u = on_stopped behind_keeps (refused_stopped (after_full x u))
+          pub behind_full : {row : ℕ} → Refused Tree J X Y Z new (keep (tree_at (made J X new) (take len node)) (made J X new)) row last →
+              Stopped I W Y Z m (Q (made I W m)) 60 row last
+          behind_full w = on_stopped behind_keeps (refused_stopped w)

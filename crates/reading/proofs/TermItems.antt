@@ -2,6 +2,7 @@
 use mathlib.Core.Path.{◌≡◌, refl, sym, ap, ◌∙◌, subst}
 use mathlib.Core.Bool.{Bool, true, false}
 use mathlib.Core.List.{List}
+use Rattle.std.specs.Prelude.{Result}
 use Prim.Native.Nat.{ℕ, ◌+◌, ◌-◌, ◌<◌}
 use native.Mathlib.Omega.{arith}
 use lib.ListN.{length, take, drop}
@@ -25,10 +26,10 @@ use Rattle.terms.specs.On.{Stopped, pure_stopped}
 use Rattle.state.specs.declared.sizes.Sizes.{Sizes}
 use Rattle.state.specs.Held.{Names}
 use Rattle.reading.specs.declared.term.Typed.{Typed}
-use Rattle.reading.specs.declared.term.Opening.{Opening}
+use Rattle.questions.specs.declared.Question.{Question}
 use Rattle.reading.specs.Given.{ReadsItem, ReadsItems, ReadsDefs, ReadsNames}
-use Rattle.reading.specs.Answers.{TypedAs}
-use Rattle.reading.specs.Heads.{ReadsAtom, Opens, OpenedAs}
+use Rattle.reading.specs.Answers.{TypedBy}
+use Rattle.reading.specs.Heads.{ReadsAtom, Opens, Opened}
 use Rattle.reading.specs.Laws.Reading.{reads_defs, reads_names}
 use Rattle.reading.proofs.TermBehind.{opens}
 
@@ -61,26 +62,26 @@ module _ (S : State) (M : Made) where
 
 -- An atom --------------------------------------------------------------------------------------------------------------------------
 
-module _ {theory goals text symbols vars defs : List ℕ} {n : Sizes} {I W : List ℕ} {m : Mark} {p : ℕ}
-    (g : ReadsAtom theory goals text symbols vars defs n I W m p) {end : ℕ} (d : end ≡ p + length (letters (drop p text))) where
-  name_is : take (end - p) (drop p text) ≡ letters (drop p text)
-  name_is = atom_part text p end g.inside d
+module _ {K : Names} {n : Sizes} {I W : List ℕ} {m : Mark} {p : ℕ}
+    (g : ReadsAtom K n I W m p) {end : ℕ} (d : end ≡ p + length (letters (drop p K.text))) where
+  name_is : take (end - p) (drop p K.text) ≡ letters (drop p K.text)
+  name_is = atom_part K.text p end g.inside d
 
-  pub atom_abbreviates : {b : Bool} → b ≡ marked (letters (drop p text)) → b ≡ true → (sort : ℕ) (r : Typed) →
-      ((h : ReadsDefs text symbols vars defs n I W m) →
-      TypedAs I W I W m h.S sort (found 22 (abbreviated h.S.defs (take (end - p) (drop p text))) (made I W m)) r) →
-      TypedAs I W I W m g.S sort (term g.S (atom p (letters (drop p text))) (made I W m)) r
+  pub atom_abbreviates : {b : Bool} → b ≡ marked (letters (drop p K.text)) → b ≡ true → (sort : ℕ) (r : Result Typed Question) →
+      ((h : ReadsDefs K.text K.symbols K.vars K.defs n I W m) →
+      TypedBy I W I W m m h.S sort (found 22 (abbreviated h.S.defs (take (end - p) (drop p K.text))) (made I W m)) r) →
+      TypedBy I W I W m m g.S sort (term g.S (atom p (letters (drop p K.text))) (made I W m)) r
   atom_abbreviates k w sort r a =
-      subst (λ (z : Out Made Tree). TypedAs I W I W m g.S sort z r)
-      (ap (λ (bs : List ℕ). found 22 (abbreviated g.S.defs bs) (made I W m)) name_is ∙ sym (term_marked g.S (made I W m) p (letters (drop p text)) (sym k ∙ w)))
+      subst (λ (z : Out Made Tree). TypedBy I W I W m m g.S sort z r)
+      (ap (λ (bs : List ℕ). found 22 (abbreviated g.S.defs bs) (made I W m)) name_is ∙ sym (term_marked g.S (made I W m) p (letters (drop p K.text)) (sym k ∙ w)))
       (a (reads_defs g.reads))
 
-  pub atom_names : {b : Bool} → b ≡ marked (letters (drop p text)) → b ≡ false → (Y Z : List ℕ) (sort : ℕ) (r : Typed) →
-      ((h : ReadsNames theory goals text symbols vars n I W m) → TypedAs I W Y Z m h.S sort (named h.S (take (end - p) (drop p text)) (made I W m)) r) →
-      TypedAs I W Y Z m g.S sort (term g.S (atom p (letters (drop p text))) (made I W m)) r
-  atom_names k w Y Z sort r a =
-      subst (λ (z : Out Made Tree). TypedAs I W Y Z m g.S sort z r)
-      (ap (λ (bs : List ℕ). named g.S bs (made I W m)) name_is ∙ sym (term_plain g.S (made I W m) p (letters (drop p text)) (sym k ∙ w)))
+  pub atom_names : {b : Bool} → b ≡ marked (letters (drop p K.text)) → b ≡ false → (Y Z : List ℕ) (new : Mark) (sort : ℕ) (r : Result Typed Question) →
+      ((h : ReadsNames K.theory K.goals K.text K.symbols K.vars n I W m) → TypedBy I W Y Z m new h.S sort (named h.S (take (end - p) (drop p K.text)) (made I W m)) r) →
+      TypedBy I W Y Z m new g.S sort (term g.S (atom p (letters (drop p K.text))) (made I W m)) r
+  atom_names k w Y Z new sort r a =
+      subst (λ (z : Out Made Tree). TypedBy I W Y Z m new g.S sort z r)
+      (ap (λ (bs : List ℕ). named g.S bs (made I W m)) name_is ∙ sym (term_plain g.S (made I W m) p (letters (drop p K.text)) (sym k ∙ w)))
       (a (reads_names g.reads))
 
 -- By what it is --------------------------------------------------------------------------------------------------------------------
@@ -99,14 +100,14 @@ module _ {K : Names} {n : Sizes} {I W : List ℕ} {m : Mark} {cells : List ℕ} 
     atom_x : g.x ≡ atom p (letters (drop p K.text))
     atom_x = cons_first g.x (atom p (letters (drop p K.text))) g.ys item_atom_lem.others item_atom_lem.is
 
-    abbrev pub atom_given : ReadsAtom K.theory K.goals K.text K.symbols K.vars K.defs n I W m p
-    atom_given = record { S = g.S; inputs = K.inputs; reads = g.reads; inside = item_atom_lem.inside }
+    abbrev pub atom_given : ReadsAtom K n I W m p
+    atom_given = record { S = g.S; reads = g.reads; inside = item_atom_lem.inside }
 
-    pub term_atomic : (Y Z : List ℕ) (sort : ℕ) (r : Typed) →
-        ((h : ReadsAtom K.theory K.goals K.text K.symbols K.vars K.defs n I W m p) →
-        TypedAs I W Y Z m h.S sort (term h.S (atom p (letters (drop p K.text))) (made I W m)) r) →
-        TypedAs I W Y Z m g.S sort (term g.S g.x (made I W m)) r
-    term_atomic Y Z sort r a = subst (λ (z : Sexp). TypedAs I W Y Z m g.S sort (term g.S z (made I W m)) r) (sym atom_x) (a atom_given)
+    pub term_atomic : (Y Z : List ℕ) (new : Mark) (sort : ℕ) (r : Result Typed Question) →
+        ((h : ReadsAtom K n I W m p) →
+        TypedBy I W Y Z m new h.S sort (term h.S (atom p (letters (drop p K.text))) (made I W m)) r) →
+        TypedBy I W Y Z m new g.S sort (term g.S g.x (made I W m)) r
+    term_atomic Y Z new sort r a = subst (λ (z : Sexp). TypedBy I W Y Z m new g.S sort (term g.S z (made I W m)) r) (sym atom_x) (a atom_given)
 
     pub judgment_atom : Stopped I W I W m (judgment g.S g.x (made I W m)) 22 0 m
     judgment_atom = pure_stopped g.reads.good (ap (λ (z : Sexp). judgment g.S z (made I W m)) atom_x ∙ judgment_no g.S (made I W m) p (letters (drop p K.text)))
@@ -121,16 +122,22 @@ module _ {K : Names} {n : Sizes} {I W : List ℕ} {m : Mark} {cells : List ℕ} 
     abbrev pub list_items : ReadsItems K n I W m (take (b - a) (drop a cells))
     list_items = record { S = g.S; xs = item_list.inner; reads = g.reads; holds = item_list.holds }
 
-    pub term_compounds : (Y Z : List ℕ) (sort : ℕ) (r : Typed) →
-        ((h : ReadsItems K n I W m (take (b - a) (drop a cells))) → TypedAs I W Y Z m h.S sort (compound h.S h.xs (made I W m)) r) →
-        TypedAs I W Y Z m g.S sort (term g.S g.x (made I W m)) r
-    term_compounds Y Z sort r k =
-        subst (λ (z : Out Made Tree). TypedAs I W Y Z m g.S sort z r) (sym (term_list g.S (made I W m) g.x list_x)) (k list_items)
+    pub term_compounds : (Y Z : List ℕ) (new : Mark) (sort : ℕ) (r : Result Typed Question) →
+        ((h : ReadsItems K n I W m (take (b - a) (drop a cells))) → TypedBy I W Y Z m new h.S sort (compound h.S h.xs (made I W m)) r) →
+        TypedBy I W Y Z m new g.S sort (term g.S g.x (made I W m)) r
+    term_compounds Y Z new sort r k =
+        subst (λ (z : Out Made Tree). TypedBy I W Y Z m new g.S sort z r) (sym (term_list g.S (made I W m) g.x list_x)) (k list_items)
 
-    -- what `predicate_first` answers of the judgment
-    pub judgment_opening : (r : Opening) →
+    -- what `predicate_first` answers, said of the judgment
+    pub judgment_opens : {p : ℕ} →
         ((h : Opens K.theory K.text K.symbols n.symbols (take (b - a) (drop a cells))) →
-        OpenedAs K.text (take (b - a) (drop a cells)) n.symbols h.S (judgment h.S (list h.xs)) r) →
-        OpenedAs K.text (take (b - a) (drop a cells)) n.symbols g.S (judgment g.S g.x) r
-    judgment_opening r k =
-        subst (λ (z : Sexp). OpenedAs K.text (take (b - a) (drop a cells)) n.symbols g.S (judgment g.S z) r) (sym list_x) (k (opens list_items))
+        Opened K.text (take (b - a) (drop a cells)) n.symbols h.S (judgment h.S (list h.xs)) p) →
+        Opened K.text (take (b - a) (drop a cells)) n.symbols g.S (judgment g.S g.x) p
+    judgment_opens {p} k =
+        subst (λ (z : Sexp). Opened K.text (take (b - a) (drop a cells)) n.symbols g.S (judgment g.S z) p) (sym list_x) (k (opens list_items))
+
+    pub judgment_unopened : {q d : ℕ} →
+        ((h : Opens K.theory K.text K.symbols n.symbols (take (b - a) (drop a cells))) → (M : Made) → judgment h.S (list h.xs) M ≡ refuse q d M) →
+        Stopped I W I W m (judgment g.S g.x (made I W m)) q d m
+    judgment_unopened k =
+        pure_stopped g.reads.good (ap (λ (z : Sexp). judgment g.S z (made I W m)) list_x ∙ k (opens list_items) (made I W m))

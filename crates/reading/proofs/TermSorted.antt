@@ -1,5 +1,5 @@
 -- A term of a sort that is expected. Assumes nothing.
-use mathlib.Core.Path.{◌≡◌, sym, ◌∙◌, subst}
+use mathlib.Core.Path.{◌≡◌, sym, ◌∙◌}
 use mathlib.Core.Bool.{Bool, true, false, not}
 use mathlib.Core.List.{List}
 use Prim.Native.Nat.{ℕ}
@@ -13,13 +13,10 @@ use Rattle.rules.specs.Read.{term, term_of}
 use Rattle.terms.specs.declared.store.Mark.{Mark}
 use Rattle.terms.specs.Table.{made, tree, Good}
 use Rattle.terms.specs.On.{Stopped, On, on_start, on_ok, on_no, on_ask_yes, on_ask_no, on_done}
-use Rattle.reading.specs.declared.term.Typed.{Typed}
-use Rattle.reading.specs.declared.term.Typed.TheVariants as typed
-use Rattle.reading.specs.Answers.{TermRead, TypedRead, TypedAs}
+use Rattle.reading.specs.Answers.{TermRead, TypedRead}
 use Rattle.reading.proofs.TermBehind.{turned_false, turned_true}
 
-module _ {I W : List ℕ} {m : Mark} (g : Good I W m) (S : State) (x : Sexp) (sort : ℕ) (J X : List ℕ) (r : Typed)
-    (a : TypedAs I W J X m S sort (term S x (made I W m)) r) where
+module _ {I W : List ℕ} {m : Mark} (g : Good I W m) (S : State) (x : Sexp) (sort : ℕ) (J X : List ℕ) (new : Mark) where
   sorting : Tree → Made → Out Made Tree
   sorting t s = then (ask 23 (eqb (sort_of S.theory S.vars t) sort) s) (λ _ u. ok t u)
 
@@ -27,13 +24,10 @@ module _ {I W : List ℕ} {m : Mark} (g : Good I W m) (S : State) (x : Sexp) (so
   unfolding term_of sorting
   begun = on_start g
 
-  pub sorted_stops : {q d : ℕ} {new : Mark} → r ≡ typed.No q d new → Stopped I W J X m (term_of S x sort (made I W m)) q d new
-  sorted_stops e = on_no sorting begun (subst (TypedAs I W J X m S sort (term S x (made I W m))) e a)
+  pub sorted_stops : (q d : ℕ) → Stopped I W J X m (term S x (made I W m)) q d new → Stopped I W J X m (term_of S x sort (made I W m)) q d new
+  sorted_stops q d a = on_no sorting begun a
 
-  module _ {id : ℕ} {right : Bool} {new : Mark} (e : r ≡ typed.Term id right new) where
-    sorted_so : TypedRead I W J X m S sort (term S x (made I W m)) id right new
-    sorted_so = subst (TypedAs I W J X m S sort (term S x (made I W m))) e a
-
+  module _ (id : ℕ) (right : Bool) (sorted_so : TypedRead I W J X m S sort (term S x (made I W m)) id right new) where
     asked : On I W m (term_of S x sort (made I W m)) J X new
         (then (ask 23 (eqb (sort_of S.theory S.vars (tree J X new id)) sort) (made J X new)) (λ _ u. ok (tree J X new id) u))
     unfolding sorting

@@ -5,7 +5,7 @@ use Rattle.std.specs.Prelude.{Some as some, None as nothing, Option}
 use mathlib.Core.List.{List, [], ◌∷◌, ◌++◌}
 use Prim.Native.Nat.{ℕ, ◌+◌, ◌-◌, ◌<◌, ◌≤◌}
 use native.Mathlib.Omega.{arith}
-use lib.ListN.{length, take, drop, set, replicate}
+use lib.ListN.{length, take, drop, set, replicate, length-replicate}
 use Rattle.rules.specs.Limits.{VARIABLES, VARIABLEWORDS}
 use Rattle.rules.specs.Find.{Set, has}
 use Rattle.rules.specs.Sexp.{Sexp, Sexps, atom, list, cons}
@@ -23,7 +23,7 @@ use Rattle.reading.specs.Answers.{VarsRead, VarsAs}
 use Rattle.reading.specs.Given.{VarsItem, VarsItems}
 use Rattle.reading.specs.Laws.Walks.{Here, here, go_on}
 use Rattle.reading.specs.Laws.Lists.{Listing, listing_none, listing_few, listing_more, variable_below, others_none, others_twice, others_more, has_snoc}
-use Rattle.reading.proofs.Filling.{length_snoc, put_more}
+use Rattle.reading.proofs.Filling.{length_snoc, put_more, cleared}
 
 -- an atom is no list
 pub atom_none : (vs : List Var) (x : Sexp) (k : ℕ) (bs : List ℕ) → x ≡ atom k bs → vars_in vs x ≡ nothing
@@ -151,3 +151,14 @@ module _ {goals text vars cells : List ℕ} {count : ℕ} (g : VarsItem goals te
       VarsAs g.S.vars g.x before out r
   unfolding items_inside
   vars_inside before out r h = subst (λ (z : Sexp). VarsAs g.S.vars z before out r) (sym l.is) (h items_inside)
+
+  -- it is read, or refused: then the cells, which were zero before, are cleared
+  module _ (out : List ℕ) (r : Option ℕ) (h : (k : VarsItems goals text vars count (take (b - a) (drop a cells))) → VarsAs k.S.vars (list k.xs) out out r) where
+    pub vars_some : (before : List ℕ) {many : ℕ} → r ≡ some many → VarsAs g.S.vars g.x before out (some many)
+    vars_some before e = subst (λ z. VarsAs g.S.vars g.x out out z) e (vars_inside out out r h)
+
+    pub vars_none : {before last : List ℕ} → r ≡ nothing → before ≡ replicate VARIABLES 0 → length out ≡ length before → last ≡ replicate (length out) 0 →
+        VarsAs g.S.vars g.x before last nothing
+    vars_none e o s c =
+        let k = subst (λ z. VarsAs g.S.vars g.x out out z) e (vars_inside out out r h) in
+        (k.0, cleared out o (s ∙ ap length o ∙ length-replicate {A = ℕ} VARIABLES 0) c)

@@ -1,5 +1,6 @@
--- What the functions of this crate answer, beside what the definition answers: K. Assumes nothing.
-use Rattle.std.specs.Prelude.{◌≡◌, Bool, true, false, List, ℕ, ◌+◌, ◌<◌, eqb, length, take, Some as some, None as nothing, Option}
+-- What the functions of this crate answer, beside what the definition answers: K. Each relation is said over plain tables and marks (By), and of the
+-- store before and afterwards (As). Assumes nothing.
+use Rattle.std.specs.Prelude.{◌≡◌, Bool, true, false, List, ℕ, ◌+◌, ◌<◌, eqb, length, take, Some as some, None as nothing, Option, Result, Ok, Err}
 use Rattle.rules.specs.Limits.{VARIABLES}
 use Rattle.rules.specs.Out.{Out, ok, refuse}
 use Rattle.rules.specs.Find.{has}
@@ -17,16 +18,12 @@ use Rattle.terms.specs.Table.{made, tree, tree_at, Node}
 use Rattle.terms.specs.Sets.{holds}
 use Rattle.terms.specs.Theta.{bindings, Theta}
 use Rattle.terms.specs.On.{Went, Stopped}
-use Rattle.reading.specs.declared.term.Out.{Out as Answer}
-use Rattle.reading.specs.declared.term.Out.TheVariants.{Ok, No}
+use Rattle.questions.specs.Numbers.{number_of, detail_of}
+use Rattle.questions.specs.declared.Question.{Question}
+use Rattle.terms.specs.declared.store.Store.{Store}
 use Rattle.reading.specs.declared.term.Typed.{Typed}
-use Rattle.reading.specs.declared.term.Typed.TheVariants as typed
-use Rattle.reading.specs.declared.hyps.Listed.{Listed}
-use Rattle.reading.specs.declared.hyps.Listed.TheVariants as hyps
-use Rattle.reading.specs.declared.bindings.Bound.{Bound}
-use Rattle.reading.specs.declared.bindings.Bound.TheVariants as bound
+use Rattle.reading.specs.declared.term.Arguments.{Arguments}
 use Rattle.reading.specs.declared.bindings.Pair.{Pair}
-use Rattle.reading.specs.declared.bindings.Pair.TheVariants as pair
 use Rattle.reading.specs.Items.{vars_in}
 
 -- Terms --------------------------------------------------------------------------------------------------------------------------
@@ -36,18 +33,24 @@ pub record TermRead (I W J X : List ℕ) (old : Mark) (K : Out Made Tree) (id : 
   pub went : Went I W J X old K (tree J X new id) new
   pub there : id < new.terms
 
-abbrev pub ReadAs : List ℕ → List ℕ → List ℕ → List ℕ → Mark → Out Made Tree → Answer → Type 0
-ReadAs I W J X old K (Ok id new) = TermRead I W J X old K id new
-ReadAs I W J X old K (No q d new) = Stopped I W J X old K q d new
+abbrev pub ReadBy : List ℕ → List ℕ → List ℕ → List ℕ → Mark → Mark → Out Made Tree → Result ℕ Question → Type 0
+ReadBy I W J X old new K (Ok id) = TermRead I W J X old K id new
+ReadBy I W J X old new K (Err q) = Stopped I W J X old K (number_of q) (detail_of q) new
+
+abbrev pub ReadAs : Store → Store → Out Made Tree → Result ℕ Question → Type 0
+ReadAs s t K r = ReadBy s.index.now s.words.now t.index.now t.words.now s.mark t.mark K r
 
 -- and whether it is of that sort
 pub record TypedRead (I W J X : List ℕ) (old : Mark) (S : State) (sort : ℕ) (K : Out Made Tree) (id : ℕ) (right : Bool) (new : Mark) : Type 0 where
   pub read : TermRead I W J X old K id new
   pub fits : right ≡ eqb (sort_of S.theory S.vars (tree J X new id)) sort
 
-abbrev pub TypedAs : List ℕ → List ℕ → List ℕ → List ℕ → Mark → State → ℕ → Out Made Tree → Typed → Type 0
-TypedAs I W J X old S sort K (typed.Term id right new) = TypedRead I W J X old S sort K id right new
-TypedAs I W J X old S sort K (typed.No q d new) = Stopped I W J X old K q d new
+abbrev pub TypedBy : List ℕ → List ℕ → List ℕ → List ℕ → Mark → Mark → State → ℕ → Out Made Tree → Result Typed Question → Type 0
+TypedBy I W J X old new S sort K (Ok t) = TypedRead I W J X old S sort K t.term t.fits new
+TypedBy I W J X old new S sort K (Err q) = Stopped I W J X old K (number_of q) (detail_of q) new
+
+abbrev pub TypedAs : Store → Store → State → ℕ → Out Made Tree → Result Typed Question → Type 0
+TypedAs s t S sort K r = TypedBy s.index.now s.words.now t.index.now t.words.now s.mark t.mark S sort K r
 
 -- K answers terms; where they fit symbol c, the first cells of the node are that of c over them
 pub record ArgumentsRead (I W J X : List ℕ) (old : Mark) (S : State) (c : ℕ) (node : List ℕ) (K : Out Made Trees) (len : ℕ) (right : Bool) (new : Mark) : Type 0 where
@@ -57,9 +60,12 @@ pub record ArgumentsRead (I W J X : List ℕ) (old : Mark) (S : State) (c : ℕ)
   pub fits : right ≡ fit S.theory S.vars trees (inputs S.theory c)
   pub fills : right ≡ true → (tree_at (made J X new) (take len node) ≡ app c trees) × Node new.terms (take len node)
 
-abbrev pub ArgumentsAs : List ℕ → List ℕ → List ℕ → List ℕ → Mark → State → ℕ → List ℕ → Out Made Trees → Typed → Type 0
-ArgumentsAs I W J X old S c node K (typed.Term len right new) = ArgumentsRead I W J X old S c node K len right new
-ArgumentsAs I W J X old S c node K (typed.No q d new) = Stopped I W J X old K q d new
+abbrev pub ArgumentsBy : List ℕ → List ℕ → List ℕ → List ℕ → Mark → Mark → State → ℕ → List ℕ → Out Made Trees → Result Arguments Question → Type 0
+ArgumentsBy I W J X old new S c node K (Ok a) = ArgumentsRead I W J X old S c node K a.len a.fits new
+ArgumentsBy I W J X old new S c node K (Err q) = Stopped I W J X old K (number_of q) (detail_of q) new
+
+abbrev pub ArgumentsAs : Store → Store → State → ℕ → List ℕ → Out Made Trees → Result Arguments Question → Type 0
+ArgumentsAs s t S c node K r = ArgumentsBy s.index.now s.words.now t.index.now t.words.now s.mark t.mark S c node K r
 
 -- Lists --------------------------------------------------------------------------------------------------------------------------
 
@@ -71,9 +77,12 @@ pub record JudgmentsRead (I W J X : List ℕ) (old : Mark) (K : Out Made Trees) 
   pub cells_are : cells ≡ filled (length cells) (numbers (made J X new) trees)
 
 -- before, cells: those of the numbers before and afterwards
-abbrev pub JudgmentsAs : List ℕ → List ℕ → List ℕ → List ℕ → Mark → Out Made Trees → List ℕ → List ℕ → Answer → Type 0
-JudgmentsAs I W J X old K before cells (Ok many new) = JudgmentsRead I W J X old K cells many new
-JudgmentsAs I W J X old K before cells (No q d new) = Stopped I W J X old K q d new × (cells ≡ before)
+abbrev pub JudgmentsBy : List ℕ → List ℕ → List ℕ → List ℕ → Mark → Mark → Out Made Trees → List ℕ → List ℕ → Result ℕ Question → Type 0
+JudgmentsBy I W J X old new K before cells (Ok many) = JudgmentsRead I W J X old K cells many new
+JudgmentsBy I W J X old new K before cells (Err q) = Stopped I W J X old K (number_of q) (detail_of q) new × (cells ≡ before)
+
+abbrev pub JudgmentsAs : Store → Store → Out Made Trees → List ℕ → List ℕ → Result ℕ Question → Type 0
+JudgmentsAs s t K before cells r = JudgmentsBy s.index.now s.words.now t.index.now t.words.now s.mark t.mark K before cells r
 
 -- the variables that an item lists, so many, are in the cells
 pub record VarsRead (vs : List Var) (x : Sexp) (cells : List ℕ) (many : ℕ) : Type 0 where
@@ -97,9 +106,9 @@ pub record HypsRead (p : Fact → Bool) (S : State) (x : Sexp) (set : List ℕ) 
   pub are : (M : Made) → hyp_list p S x M ≡ ok hyps M
   pub set_is : holds set ≡ has hyps
 
-abbrev pub HypsAs : (Fact → Bool) → State → Sexp → List ℕ → List ℕ → Listed → Type 0
-HypsAs p S x before set hyps.Ok = HypsRead p S x set
-HypsAs p S x before set (hyps.No q) = ((M : Made) → hyp_list p S x M ≡ refuse q 0 M) × (set ≡ before)
+abbrev pub HypsAs : (Fact → Bool) → State → Sexp → List ℕ → List ℕ → Result (Unit {0}) Question → Type 0
+HypsAs p S x before set (Ok _) = HypsRead p S x set
+HypsAs p S x before set (Err q) = ((M : Made) → hyp_list p S x M ≡ refuse (number_of q) (detail_of q) M) × ((set ≡ before) × (detail_of q ≡ 0))
 
 -- Bindings -----------------------------------------------------------------------------------------------------------------------
 
@@ -109,15 +118,21 @@ pub record PairRead (I W J X : List ℕ) (old : Mark) (K : Out Made Binding) (v 
   pub small : v < VARIABLES
   pub there : id < new.terms
 
-abbrev pub PairAs : List ℕ → List ℕ → List ℕ → List ℕ → Mark → Out Made Binding → Pair → Type 0
-PairAs I W J X old K (pair.Of v id new) = PairRead I W J X old K v id new
-PairAs I W J X old K (pair.No q d new) = Stopped I W J X old K q d new
+abbrev pub PairBy : List ℕ → List ℕ → List ℕ → List ℕ → Mark → Mark → Out Made Binding → Result Pair Question → Type 0
+PairBy I W J X old new K (Ok p) = PairRead I W J X old K p.variable p.term new
+PairBy I W J X old new K (Err q) = Stopped I W J X old K (number_of q) (detail_of q) new
+
+abbrev pub PairAs : Store → Store → Out Made Binding → Result Pair Question → Type 0
+PairAs s t K r = PairBy s.index.now s.words.now t.index.now t.words.now s.mark t.mark K r
 
 -- K answers bindings, which are in the map
 pub record BindingsRead (I W J X : List ℕ) (old : Mark) (K : Out Made (List Binding)) (map : List ℕ) (new : Mark) : Type 0 where
   pub went : Went I W J X old K (bindings (made J X new) map 0) new
   pub cells : Theta new map
 
-abbrev pub BindingsAs : List ℕ → List ℕ → List ℕ → List ℕ → Mark → Out Made (List Binding) → List ℕ → List ℕ → Bound → Type 0
-BindingsAs I W J X old K before map (bound.Ok new) = BindingsRead I W J X old K map new
-BindingsAs I W J X old K before map (bound.No q d new) = Stopped I W J X old K q d new × (map ≡ before)
+abbrev pub BindingsBy : List ℕ → List ℕ → List ℕ → List ℕ → Mark → Mark → Out Made (List Binding) → List ℕ → List ℕ → Result (Unit {0}) Question → Type 0
+BindingsBy I W J X old new K before map (Ok _) = BindingsRead I W J X old K map new
+BindingsBy I W J X old new K before map (Err q) = Stopped I W J X old K (number_of q) (detail_of q) new × (map ≡ before)
+
+abbrev pub BindingsAs : Store → Store → Out Made (List Binding) → List ℕ → List ℕ → Result (Unit {0}) Question → Type 0
+BindingsAs s t K before map r = BindingsBy s.index.now s.words.now t.index.now t.words.now s.mark t.mark K before map r

@@ -1,5 +1,5 @@
 -- What the contracts of the steps of `term` and `judgment` cite: an atom by its place, and the symbol that a list begins with. Assumes nothing.
-use Rattle.std.specs.Prelude.{◌≡◌, List, ℕ, ◌-◌, ◌<◌, length, take, drop}
+use Rattle.std.specs.Prelude.{◌≡◌, List, ℕ, ◌-◌, ◌<◌, length, take, drop, Result, Ok, Err}
 use Rattle.rules.specs.Out.{Act, refuse, then, ask}
 use Rattle.rules.specs.Sexp.{Sexps}
 use Rattle.rules.specs.Tree.{Tree, Trees, app}
@@ -11,17 +11,16 @@ use Rattle.sexp.specs.Items.{Holds}
 use Rattle.kernel.specs.Held.{SymbolsHeld}
 use Rattle.terms.specs.declared.store.Mark.{Mark}
 use Rattle.state.specs.declared.sizes.Sizes.{Sizes}
-use Rattle.state.specs.Held.{names}
-use Rattle.reading.specs.declared.term.Opening.{Opening}
-use Rattle.reading.specs.declared.term.Opening.TheVariants.{Symbol, No}
+use Rattle.state.specs.Held.{Names}
+use Rattle.questions.specs.Numbers.{number_of, detail_of}
+use Rattle.questions.specs.declared.Question.{Question}
 use Rattle.reading.specs.Given.{Reads}
 
 -- texts and tables stand for a state, and an atom begins at a place of the text
-pub record ReadsAtom (theory goals text symbols vars defs : List ℕ) (n : Sizes) (I W : List ℕ) (m : Mark) (start : ℕ) : Type 0 where
+pub record ReadsAtom (K : Names) (n : Sizes) (I W : List ℕ) (m : Mark) (start : ℕ) : Type 0 where
   pub S : State
-  pub inputs : List ℕ
-  pub reads : Reads (names theory goals text symbols inputs vars defs) n I W m S
-  pub inside : start < length text
+  pub reads : Reads K n I W m S
+  pub inside : start < length K.text
 
 -- a table of symbols, and the cells hold some items
 pub record Opens (theory text symbols : List ℕ) (count : ℕ) (cells : List ℕ) : Type 0 where
@@ -43,6 +42,6 @@ pub record Opened (text cells : List ℕ) (count : ℕ) (S : State) (Q : Act Mad
   pub known : c < count
   pub is : (M : Made) → Q M ≡ then (terms S others M) (finish S c)
 
-abbrev pub OpenedAs : List ℕ → List ℕ → ℕ → State → Act Made Tree → Opening → Type 0
-OpenedAs text cells count S Q (Symbol c) = Opened text cells count S Q c
-OpenedAs text cells count S Q (No q) = (M : Made) → Q M ≡ refuse q 0 M
+abbrev pub OpenedAs : List ℕ → List ℕ → ℕ → State → Act Made Tree → Result ℕ Question → Type 0
+OpenedAs text cells count S Q (Ok c) = Opened text cells count S Q c
+OpenedAs text cells count S Q (Err q) = (M : Made) → Q M ≡ refuse (number_of q) (detail_of q) M

@@ -3,3 +3,5 @@ pub mod Given
 pub mod Answers
 pub mod Heads
 pub mod Laws
+pub mod Reader
+pub mod Apart

@@ -2,136 +2,92 @@
 ghost use Rattle.std.specs.Prelude.{◌≡◌, [], replicate};
 ghost use Rattle.rules.specs.Limits.{VARIABLES};
 ghost use Rattle.rules.specs.Reference.{binding, bindings};
-ghost use Rattle.terms.specs.Table.{made};
-ghost use Rattle.state.specs.Held.{names};
+ghost use Rattle.terms.specs.Lent.{SameTables, made_of};
+ghost use Rattle.reading.specs.Reader.{names_of};
 ghost use Rattle.reading.specs.Given.{ReadsItem, ReadsItems};
 ghost use Rattle.reading.specs.Answers.{PairAs, BindingsAs};
 
-use crate::names::variable;
-use crate::term::{Out, term_of};
+use crate::reader::Reader;
 use cells::clear;
+use questions::Question;
 use sexp::items;
 use sexp::items::Item;
-use state::sizes::Sizes;
 use state::vars::var_sort;
-use terms::store::Mark;
+use terms::store::Store;
 
-// A variable and a term's number, or a question and its detail; and what is used of the store then.
-#[derive(Clone, Copy)]
-pub enum Pair {
-    Of(usize, usize, Mark),
-    No(usize, usize, Mark),
+// A variable and the number of the term to which it is bound.
+#[derive(Clone, Copy, Debug, PartialEq, Eq)]
+pub struct Pair {
+    pub variable: usize,
+    pub term: usize,
 }
 
-// The bindings are in the map, or a question and its detail; and what is used of the store then.
-#[derive(Clone, Copy)]
-pub enum Bound {
-    Ok(Mark),
-    No(usize, usize, Mark),
-}
-
-// The binding that the first item spells.
-fn binding(
-    theory: &[u8],
-    goals: &[u8],
-    text: &[u8],
-    symbols: &[u32],
-    inputs: &[u32],
-    vars: &[u32],
-    defs: &[u32],
-    n: Sizes,
-    index: &mut [u32],
-    words: &mut [u32],
-    mark: Mark,
-    cells: &[u32],
-) -> Pair
-    requires { ReadsItem (names theory.now goals.now text.now symbols.now inputs.now vars.now defs.now) n index.old words.old mark cells.now }
-    ensures { (g : ReadsItem (names theory.now goals.now text.now symbols.now inputs.now vars.now defs.now) n index.old words.old mark cells.now) →
-        PairAs index.old words.old index.new words.new mark (binding g.S g.x (made index.old words.old mark)) result }
-{
-    let Item::List(a, b) = items::item_at(cells, 0) else {
-        return Pair::No(36, 0, mark);
-    };
-    let inner = &cells[a..b];
-    if items::count(inner) != 2 {
-        return Pair::No(36, 0, mark);
+impl Reader<'_> {
+    // The binding that the first item spells.
+    fn binding(&self, store: &mut Store<'_>, cells: &[u32]) -> Result<Pair, Question>
+        requires { ReadsItem (names_of self.now) self.now.n store.old.index.now store.old.words.now store.old.mark cells.now }
+        ensures same_tables { SameTables store.old store.new }
+        ensures pair_as { (g : ReadsItem (names_of self.now) self.now.n store.old.index.now store.old.words.now store.old.mark cells.now) →
+            PairAs store.old store.new (binding g.S g.x (made_of store.old)) result }
+    {
+        let Item::List(a, b) = items::item_at(cells, 0) else {
+            return Err(Question::Binding);
+        };
+        let inner = &cells[a..b];
+        if items::count(inner) != 2 {
+            return Err(Question::Binding);
+        }
+        let variable = self.variable(inner).ok_or(Question::Binding)?;
+        let next = items::after(inner, 0);
+        let term = self.term_of(store, &inner[next..], var_sort(self.vars, variable))?;
+        Ok(Pair { variable, term })
     }
-    let Some(v) = variable(goals, text, vars, n.vars, inner) else {
-        return Pair::No(36, 0, mark);
-    };
-    let next = items::after(inner, 0);
-    match term_of(
-        theory,
-        goals,
-        text,
-        symbols,
-        inputs,
-        vars,
-        defs,
-        n,
-        index,
-        words,
-        mark,
-        &inner[next..],
-        var_sort(vars, v),
-    ) {
-        Out::Ok(t, new) => Pair::Of(v, t, new),
-        Out::No(q, d, new) => Pair::No(q, d, new),
-    }
-}
 
-// The bindings that the items spell come into the map, which is zero before, and afterwards where they are refused.
-pub fn bindings(
-    theory: &[u8],
-    goals: &[u8],
-    text: &[u8],
-    symbols: &[u32],
-    inputs: &[u32],
-    vars: &[u32],
-    defs: &[u32],
-    n: Sizes,
-    index: &mut [u32],
-    words: &mut [u32],
-    mark: Mark,
-    cells: &[u32],
-    map: &mut [u32],
-) -> Bound
-    requires reads_items { ReadsItems (names theory.now goals.now text.now symbols.now inputs.now vars.now defs.now) n index.old words.old mark cells.now }
-    requires map_value { map.old ≡ replicate VARIABLES 0 }
-    ensures { (g : ReadsItems (names theory.now goals.now text.now symbols.now inputs.now vars.now defs.now) n index.old words.old mark cells.now) →
-        BindingsAs index.old words.old index.new words.new mark (bindings g.S g.xs [] (made index.old words.old mark)) map.old map.new result }
-{
-    let mut m = mark;
-    let mut at = 0;
-    while at < cells.len() {
-        match binding(
-            theory,
-            goals,
-            text,
-            symbols,
-            inputs,
-            vars,
-            defs,
-            n,
-            index,
-            words,
-            m,
-            &cells[at..],
-        ) {
-            Pair::Of(v, t, new) => {
-                if map[v] != 0 {
-                    clear(map);
-                    return Bound::No(36, 0, new);
-                }
-                map[v] = (t + 1) as u32;
-                m = new;
+    // The bindings that the items spell come into the map, which is zero before.
+    fn binding_each(
+        &self,
+        store: &mut Store<'_>,
+        cells: &[u32],
+        map: &mut [u32],
+    ) -> Result<(), Question>
+        requires reads_items { ReadsItems (names_of self.now) self.now.n store.old.index.now store.old.words.now store.old.mark cells.now }
+        requires map_value { map.old ≡ replicate VARIABLES 0 }
+        ensures same_tables { SameTables store.old store.new }
+        ensures bindings_as { (g : ReadsItems (names_of self.now) self.now.n store.old.index.now store.old.words.now store.old.mark cells.now) →
+            BindingsAs store.old store.new (bindings g.S g.xs [] (made_of store.old)) map.new map.new result }
+    {
+        // items are of different widths
+        let mut at = 0;
+        while at < cells.len() {
+            let pair = self.binding(store, &cells[at..])?;
+            if map[pair.variable] != 0 {
+                return Err(Question::Binding);
             }
-            Pair::No(q, d, new) => {
+            map[pair.variable] = (pair.term + 1) as u32;
+            at = items::after(cells, at);
+        }
+        Ok(())
+    }
+
+    // The same; where they are refused, the map is zero again.
+    pub fn bindings(
+        &self,
+        store: &mut Store<'_>,
+        cells: &[u32],
+        map: &mut [u32],
+    ) -> Result<(), Question>
+        requires reads_items { ReadsItems (names_of self.now) self.now.n store.old.index.now store.old.words.now store.old.mark cells.now }
+        requires map_value { map.old ≡ replicate VARIABLES 0 }
+        ensures same_tables { SameTables store.old store.new }
+        ensures bindings_as { (g : ReadsItems (names_of self.now) self.now.n store.old.index.now store.old.words.now store.old.mark cells.now) →
+            BindingsAs store.old store.new (bindings g.S g.xs [] (made_of store.old)) map.old map.new result }
+    {
+        match self.binding_each(store, cells, map) {
+            Ok(()) => Ok(()),
+            Err(question) => {
                 clear(map);
-                return Bound::No(q, d, new);
+                Err(question)
             }
         }
-        at = items::after(cells, at);
     }
-    Bound::Ok(m)
 }

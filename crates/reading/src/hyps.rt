@@ -9,18 +9,12 @@ ghost use Rattle.reading.specs.Answers.{HypsAs, tests};
 
 use crate::names::index;
 use cells::clear;
+use questions::Question;
 use sexp::items;
 use sexp::items::Item;
 use state::facts::{is_assumed, is_fact, is_plain};
 use state::sizes::Sizes;
 use terms::sets::insert;
-
-// The list is read, or a question.
-#[derive(Clone, Copy)]
-pub enum Listed {
-    Ok,
-    No(usize),
-}
 
 // Whether fact i passes: it is a plain hypothesis, or a hypothesis.
 fn passes(facts: &[u32], i: usize, plain: bool) -> bool
@@ -42,32 +36,28 @@ fn hyp_each(
     cells: &[u32],
     plain: bool,
     set: &mut [u64],
-) -> Listed
+) -> Result<(), Question>
     requires { FactsItems text.now facts.now n cells.now × (set.old ≡ replicate FACTWORDS 0) }
     ensures { (g : FactsItems text.now facts.now n cells.now) →
-        HypsAs (tests plain) g.S (list g.xs) set.old set.new result }
+        HypsAs (tests plain) g.S (list g.xs) set.new set.new result }
 {
+    // items are of different widths
     let mut at = 0;
     while at < cells.len() {
-        let Some(i) = index(text, &cells[at..]) else {
-            clear(set);
-            return Listed::No(34);
-        };
+        let i = index(text, &cells[at..]).ok_or(Question::Earlier)?;
         if !is_fact(n, i) {
-            clear(set);
-            return Listed::No(34);
+            return Err(Question::Earlier);
         }
         if !passes(facts, i, plain) {
-            clear(set);
-            return Listed::No(40);
+            return Err(Question::Hypothesis);
         }
         insert(set, i);
         at = items::after(cells, at);
     }
-    Listed::Ok
+    Ok(())
 }
 
-// The same of the facts that the first item lists.
+// The same of the facts that the first item lists; where it is refused, the set is empty again.
 fn hyp_list(
     text: &[u8],
     facts: &[u32],
@@ -75,19 +65,31 @@ fn hyp_list(
     cells: &[u32],
     plain: bool,
     set: &mut [u64],
-) -> Listed
+) -> Result<(), Question>
     requires { FactsItem text.now facts.now n cells.now × (set.old ≡ replicate FACTWORDS 0) }
     ensures { (g : FactsItem text.now facts.now n cells.now) →
         HypsAs (tests plain) g.S g.x set.old set.new result }
 {
     let Item::List(a, b) = items::item_at(cells, 0) else {
-        return Listed::No(34);
+        return Err(Question::Earlier);
     };
-    hyp_each(text, facts, n, &cells[a..b], plain, set)
+    match hyp_each(text, facts, n, &cells[a..b], plain, set) {
+        Ok(()) => Ok(()),
+        Err(question) => {
+            clear(set);
+            Err(question)
+        }
+    }
 }
 
 // Plain hypotheses.
-pub fn plain_hyps(text: &[u8], facts: &[u32], n: Sizes, cells: &[u32], set: &mut [u64]) -> Listed
+pub fn plain_hyps(
+    text: &[u8],
+    facts: &[u32],
+    n: Sizes,
+    cells: &[u32],
+    set: &mut [u64],
+) -> Result<(), Question>
     requires { FactsItem text.now facts.now n cells.now × (set.old ≡ replicate FACTWORDS 0) }
     ensures { (g : FactsItem text.now facts.now n cells.now) →
         HypsAs is_plain g.S g.x set.old set.new result }
@@ -96,7 +98,13 @@ pub fn plain_hyps(text: &[u8], facts: &[u32], n: Sizes, cells: &[u32], set: &mut
 }
 
 // Any hypotheses.
-pub fn any_hyps(text: &[u8], facts: &[u32], n: Sizes, cells: &[u32], set: &mut [u64]) -> Listed
+pub fn any_hyps(
+    text: &[u8],
+    facts: &[u32],
+    n: Sizes,
+    cells: &[u32],
+    set: &mut [u64],
+) -> Result<(), Question>
     requires { FactsItem text.now facts.now n cells.now × (set.old ≡ replicate FACTWORDS 0) }
     ensures { (g : FactsItem text.now facts.now n cells.now) →
         HypsAs (λ f. f.assumed) g.S g.x set.old set.new result }

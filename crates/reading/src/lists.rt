@@ -3,72 +3,19 @@ ghost use Rattle.std.specs.Prelude.{◌≡◌, ◌<◌, ◌^◌, length, set, re
 ghost use Rattle.rules.specs.Limits.{VARIABLES};
 ghost use Rattle.rules.specs.Sexp.{list};
 ghost use Rattle.rules.specs.Read.{judgments};
-ghost use Rattle.terms.specs.Table.{made};
-ghost use Rattle.state.specs.Held.{names};
+ghost use Rattle.terms.specs.Lent.{SameTables, made_of};
+ghost use Rattle.reading.specs.Reader.{names_of};
 ghost use Rattle.reading.specs.Given.{VarsItem, VarsItems, ReadsItem, ReadsItems};
 ghost use Rattle.reading.specs.Answers.{VarsAs, JudgmentsAs};
 
-use crate::names::variable;
-use crate::term::{Out, judgment};
+use crate::reader::Reader;
 use cells::clear;
+use questions::Question;
 use rules::VARIABLEWORDS;
 use sexp::items;
 use sexp::items::Item;
-use state::sizes::Sizes;
 use terms::sets::{has, insert};
-use terms::store::Mark;
-
-// The variables that the items name, each once, come into the cells, which are zero before; what is answered is how many they are.
-fn vars_each(
-    goals: &[u8],
-    text: &[u8],
-    vars: &[u32],
-    count: usize,
-    cells: &[u32],
-    out: &mut [u32],
-) -> Option<usize>
-    requires { VarsItems goals.now text.now vars.now count cells.now × (out.old ≡ replicate VARIABLES 0) }
-    ensures { (g : VarsItems goals.now text.now vars.now count cells.now) →
-        VarsAs g.S.vars (list g.xs) out.old out.new result }
-{
-    let mut seen = [0u64; VARIABLEWORDS];
-    let mut k = 0;
-    let mut at = 0;
-    while at < cells.len() {
-        let Some(v) = variable(goals, text, vars, count, &cells[at..]) else {
-            clear(out);
-            return None;
-        };
-        if has(&seen, v) {
-            clear(out);
-            return None;
-        }
-        insert(&mut seen, v);
-        out[k] = v as u32;
-        k += 1;
-        at = items::after(cells, at);
-    }
-    Some(k)
-}
-
-// The variables that the first item lists come into the cells, which are zero before; what is answered is how many they are.
-pub fn vars_list(
-    goals: &[u8],
-    text: &[u8],
-    vars: &[u32],
-    count: usize,
-    cells: &[u32],
-    out: &mut [u32],
-) -> Option<usize>
-    requires { VarsItem goals.now text.now vars.now count cells.now × (out.old ≡ replicate VARIABLES 0) }
-    ensures { (g : VarsItem goals.now text.now vars.now count cells.now) →
-        VarsAs g.S.vars g.x out.old out.new result }
-{
-    let Item::List(a, b) = items::item_at(cells, 0) else {
-        return None;
-    };
-    vars_each(goals, text, vars, count, &cells[a..b], out)
-}
+use terms::store::Store;
 
 // Cell k, as far as there is one.
 fn put_within(out: &mut [u32], k: usize, t: usize)
@@ -80,98 +27,98 @@ fn put_within(out: &mut [u32], k: usize, t: usize)
     }
 }
 
-// The judgments that the items spell: their numbers come into the cells, which are zero before, as far as there are cells. What is answered is how
-// many they are.
-fn judgment_each(
-    theory: &[u8],
-    goals: &[u8],
-    text: &[u8],
-    symbols: &[u32],
-    inputs: &[u32],
-    vars: &[u32],
-    defs: &[u32],
-    n: Sizes,
-    index: &mut [u32],
-    words: &mut [u32],
-    mark: Mark,
-    cells: &[u32],
-    out: &mut [u32],
-) -> Out
-    requires reads_items { ReadsItems (names theory.now goals.now text.now symbols.now inputs.now vars.now defs.now) n index.old words.old mark cells.now }
-    requires out_value { out.old ≡ replicate (length out.old) 0 }
-    ensures { (g : ReadsItems (names theory.now goals.now text.now symbols.now inputs.now vars.now defs.now) n index.old words.old mark cells.now) →
-        JudgmentsAs index.old words.old index.new words.new mark (judgments g.S (list g.xs) (made index.old words.old mark)) out.old out.new result }
-{
-    let mut m = mark;
-    let mut k = 0;
-    let mut at = 0;
-    while at < cells.len() {
-        match judgment(
-            theory,
-            goals,
-            text,
-            symbols,
-            inputs,
-            vars,
-            defs,
-            n,
-            index,
-            words,
-            m,
-            &cells[at..],
-        ) {
-            Out::Ok(t, new) => {
-                put_within(out, k, t);
-                m = new;
+impl Reader<'_> {
+    // The variables that the items name, each once, come into the cells, which are zero before; what is answered is how many they are.
+    fn vars_each(&self, cells: &[u32], out: &mut [u32]) -> Option<usize>
+        requires { VarsItems self.now.goals.now self.now.text.now self.now.vars.now self.now.n.vars cells.now × (out.old ≡ replicate VARIABLES 0) }
+        ensures { (g : VarsItems self.now.goals.now self.now.text.now self.now.vars.now self.now.n.vars cells.now) →
+            VarsAs g.S.vars (list g.xs) out.new out.new result }
+    {
+        let mut seen = [0u64; VARIABLEWORDS];
+        let mut k = 0;
+        // items are of different widths
+        let mut at = 0;
+        while at < cells.len() {
+            let v = self.variable(&cells[at..])?;
+            if has(&seen, v) {
+                return None;
             }
-            Out::No(q, d, new) => {
+            insert(&mut seen, v);
+            out[k] = v as u32;
+            k += 1;
+            at = items::after(cells, at);
+        }
+        Some(k)
+    }
+
+    // The variables that the first item lists come into the cells, which are zero before, and afterwards where they are none. What is answered is
+    // how many they are.
+    pub fn vars_list(&self, cells: &[u32], out: &mut [u32]) -> Option<usize>
+        requires { VarsItem self.now.goals.now self.now.text.now self.now.vars.now self.now.n.vars cells.now × (out.old ≡ replicate VARIABLES 0) }
+        ensures { (g : VarsItem self.now.goals.now self.now.text.now self.now.vars.now self.now.n.vars cells.now) →
+            VarsAs g.S.vars g.x out.old out.new result }
+    {
+        let Item::List(a, b) = items::item_at(cells, 0) else {
+            return None;
+        };
+        match self.vars_each(&cells[a..b], out) {
+            Some(count) => Some(count),
+            None => {
                 clear(out);
-                return Out::No(q, d, new);
+                None
             }
         }
-        k += 1;
-        at = items::after(cells, at);
     }
-    Out::Ok(k, m)
-}
 
-// The judgments that the first item lists: their numbers come into the cells as far as there are any, and their count is answered.
-pub fn judgments(
-    theory: &[u8],
-    goals: &[u8],
-    text: &[u8],
-    symbols: &[u32],
-    inputs: &[u32],
-    vars: &[u32],
-    defs: &[u32],
-    n: Sizes,
-    index: &mut [u32],
-    words: &mut [u32],
-    mark: Mark,
-    cells: &[u32],
-    out: &mut [u32],
-) -> Out
-    requires reads_item { ReadsItem (names theory.now goals.now text.now symbols.now inputs.now vars.now defs.now) n index.old words.old mark cells.now }
-    requires out_value { out.old ≡ replicate (length out.old) 0 }
-    ensures { (g : ReadsItem (names theory.now goals.now text.now symbols.now inputs.now vars.now defs.now) n index.old words.old mark cells.now) →
-        JudgmentsAs index.old words.old index.new words.new mark (judgments g.S g.x (made index.old words.old mark)) out.old out.new result }
-{
-    let Item::List(a, b) = items::item_at(cells, 0) else {
-        return Out::No(22, 0, mark);
-    };
-    judgment_each(
-        theory,
-        goals,
-        text,
-        symbols,
-        inputs,
-        vars,
-        defs,
-        n,
-        index,
-        words,
-        mark,
-        &cells[a..b],
-        out,
-    )
+    // The judgments that the items spell: their numbers come into the cells, which are zero before, as far as there are cells. What is answered is
+    // how many they are.
+    fn judgment_each(
+        &self,
+        store: &mut Store<'_>,
+        cells: &[u32],
+        out: &mut [u32],
+    ) -> Result<usize, Question>
+        requires reads_items { ReadsItems (names_of self.now) self.now.n store.old.index.now store.old.words.now store.old.mark cells.now }
+        requires out_value { out.old ≡ replicate (length out.old) 0 }
+        ensures same_tables { SameTables store.old store.new }
+        ensures judgments_as { (g : ReadsItems (names_of self.now) self.now.n store.old.index.now store.old.words.now store.old.mark cells.now) →
+            JudgmentsAs store.old store.new (judgments g.S (list g.xs) (made_of store.old)) out.new out.new result }
+    {
+        let mut k = 0;
+        // items are of different widths
+        let mut at = 0;
+        while at < cells.len() {
+            let t = self.judgment(store, &cells[at..])?;
+            put_within(out, k, t);
+            k += 1;
+            at = items::after(cells, at);
+        }
+        Ok(k)
+    }
+
+    // The judgments that the first item lists: their numbers come into the cells as far as there are any, and their count is answered. Where they
+    // are refused, the cells are zero again.
+    pub fn judgments(
+        &self,
+        store: &mut Store<'_>,
+        cells: &[u32],
+        out: &mut [u32],
+    ) -> Result<usize, Question>
+        requires reads_item { ReadsItem (names_of self.now) self.now.n store.old.index.now store.old.words.now store.old.mark cells.now }
+        requires out_value { out.old ≡ replicate (length out.old) 0 }
+        ensures same_tables { SameTables store.old store.new }
+        ensures judgments_as { (g : ReadsItem (names_of self.now) self.now.n store.old.index.now store.old.words.now store.old.mark cells.now) →
+            JudgmentsAs store.old store.new (judgments g.S g.x (made_of store.old)) out.old out.new result }
+    {
+        let Item::List(a, b) = items::item_at(cells, 0) else {
+            return Err(Question::Spelling);
+        };
+        match self.judgment_each(store, &cells[a..b], out) {
+            Ok(count) => Ok(count),
+            Err(question) => {
+                clear(out);
+                Err(question)
+            }
+        }
+    }
 }

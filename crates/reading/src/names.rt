@@ -7,6 +7,7 @@ ghost use Rattle.state.specs.Held.{VarsHeld};
 ghost use Rattle.state.specs.Rows.{SomeVars};
 ghost use Rattle.reading.specs.Items.{FirstItem, index_in, variable_in};
 
+use crate::reader::Reader;
 use sexp::items::Item;
 use sexp::names::index_of;
 use sexp::{items, lex};
@@ -24,21 +25,18 @@ pub fn index(text: &[u8], cells: &[u32]) -> Option<usize>
     index_of(&text[start..end])
 }
 
-// The variable that the first item names.
-pub fn variable(
-    goals: &[u8],
-    text: &[u8],
-    vars: &[u32],
-    count: usize,
-    cells: &[u32],
-) -> Option<usize>
-    requires { FirstItem text.now cells.now × SomeVars goals.now text.now vars.now count }
-    ensures { (vs : List Var) (x : Sexp) (ys : Sexps) → VarsHeld goals.now text.now vars.now count vs →
-        Holds text.now cells.now (cons x ys) → result ≡ variable_in vs x }
-{
-    let Item::Atom(start) = items::item_at(cells, 0) else {
-        return None;
-    };
-    let end = lex::atom_end(text, start);
-    var_named(goals, text, vars, count, &text[start..end])
+impl Reader<'_> {
+    // The variable that the first item names.
+    pub fn variable(&self, cells: &[u32]) -> Option<usize>
+        requires { FirstItem self.now.text.now cells.now × SomeVars self.now.goals.now self.now.text.now self.now.vars.now self.now.n.vars }
+        ensures { (vs : List Var) (x : Sexp) (ys : Sexps) → VarsHeld self.now.goals.now self.now.text.now self.now.vars.now self.now.n.vars vs →
+            Holds self.now.text.now cells.now (cons x ys) → result ≡ variable_in vs x }
+    {
+        let Item::Atom(start) = items::item_at(cells, 0) else {
+            return None;
+        };
+        let end = lex::atom_end(self.text, start);
+        let name = &self.text[start..end];
+        var_named(self.goals, self.text, self.vars, self.n.vars, name)
+    }
 }

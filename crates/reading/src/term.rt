@@ -1,6 +1,6 @@
 // Terms and judgments: questions 22 and 23. What is read comes into the store on the way, each argument before its term. The sort that is expected is
 // handed down; counts and sorts are asked behind the arguments, of which those beyond the sixteenth are made as well.
-ghost use Rattle.std.specs.Prelude.{◌≡◌, true, false, ◌&&◌, ◌+◌, ◌*◌, ◌<◌, ◌≤◌, ltb, length, get_or, set, drop};
+ghost use Rattle.std.specs.Prelude.{◌≡◌, true, false, ◌+◌, ◌*◌, ◌<◌, ◌≤◌, ltb, length, get_or, set, drop};
 ghost use Rattle.rules.specs.Limits.{SYMBOLS, ARGUMENTS, TERMS, NODE};
 ghost use Rattle.rules.specs.Lex.{letters};
 ghost use Rattle.rules.specs.Out.{found};
@@ -8,327 +8,55 @@ ghost use Rattle.rules.specs.Sexp.{atom, list};
 ghost use Rattle.rules.specs.Store.{keep};
 ghost use Rattle.rules.specs.State.{State, sort_of, abbreviated};
 ghost use Rattle.rules.specs.Read.{named, term, terms, compound, term_of, judgment};
-ghost use Rattle.terms.specs.Table.{made, tree, tree_at, Good, Node};
-ghost use Rattle.state.specs.Held.{names};
+ghost use Rattle.terms.specs.Table.{made, tree, tree_at, Node};
+ghost use Rattle.terms.specs.Lent.{GoodStore, SameTables, made_of, terms_made};
+ghost use Rattle.reading.specs.Reader.{names_of};
 ghost use Rattle.reading.specs.Given.{ReadsTerm, ReadsDefs, ReadsNames, ReadsItem, ReadsItems};
-ghost use Rattle.reading.specs.Answers.{ReadAs, TypedAs, ArgumentsAs};
+ghost use Rattle.reading.specs.Answers.{ReadAs, TypedBy, TypedAs, ArgumentsAs};
 ghost use Rattle.reading.specs.Heads.{ReadsAtom, Opens, OpenedAs};
 
+use crate::reader::Reader;
 use kernel::atoms::marked;
 use kernel::readers::{arity, constructor_named, output, predicate_named, same_sort};
+use questions::Question;
 use rules::{NODE, SYMBOLS};
 use sexp::items::Item;
 use sexp::{items, lex};
 use state::defs::def_named;
-use state::sizes::Sizes;
 use state::vars::{var_named, var_sort};
-use terms::apart::{Kept, head, keep};
-use terms::store::Mark;
+use terms::store::{Store, Terms};
 
-// A term's number, or a question and its detail; and what is used of the store then.
-#[derive(Clone, Copy)]
-pub enum Out {
-    Ok(usize, Mark),
-    No(usize, usize, Mark),
+// A term's number, and whether it is of the sort that was expected.
+#[derive(Clone, Copy, Debug, PartialEq, Eq)]
+pub struct Typed {
+    pub term: usize,
+    pub fits: bool,
 }
 
-// The same, with the answer to whether the term is of the sort that was expected.
-#[derive(Clone, Copy)]
-pub enum Typed {
-    Term(usize, bool, Mark),
-    No(usize, usize, Mark),
-}
-
-// The symbol that a list begins with, or a question.
-#[derive(Clone, Copy)]
-pub enum Opening {
-    Symbol(usize),
-    No(usize),
-}
-
-// The sort of a term of the store; 0 for a judgment.
-pub fn sort_of(symbols: &[u32], vars: &[u32], index: &[u32], words: &[u32], id: usize) -> usize
-    requires { ReadsTerm symbols.now vars.now index.now words.now id }
-    ensures { (g : ReadsTerm symbols.now vars.now index.now words.now id) →
-        result ≡ sort_of g.S.theory g.S.vars (tree index.now words.now g.mark id) }
-{
-    let word = head(index, words, id);
-    if word < SYMBOLS {
-        return symbols[4 * word] as usize;
-    }
-    var_sort(vars, word - SYMBOLS)
+// The length of the node over some arguments, and whether they are those that its symbol takes.
+#[derive(Clone, Copy, Debug, PartialEq, Eq)]
+pub struct Arguments {
+    pub len: usize,
+    pub fits: bool,
 }
 
 // The node comes into the store, as a term of the sort that is given, where another is expected.
 fn keep_typed(
-    index: &mut [u32],
-    words: &mut [u32],
-    mark: Mark,
+    store: &mut Store<'_>,
     node: &[u32],
     sort: usize,
     expected: usize,
-) -> Typed
-    requires { Good index.old words.old mark × Node mark.terms node.now }
-    ensures { (S : State) → sort ≡ sort_of S.theory S.vars (tree_at (made index.old words.old mark) node.now) →
-        TypedAs index.old words.old index.new words.new mark S expected (keep (tree_at (made index.old words.old mark) node.now) (made index.old words.old mark)) result }
+) -> Result<Typed, Question>
+    requires { GoodStore store.old × Node store.old.mark.terms node.now }
+    ensures same_tables { SameTables store.old store.new }
+    ensures typed_as { (S : State) → sort ≡ sort_of S.theory S.vars (tree_at (made_of store.old) node.now) →
+        TypedAs store.old store.new S expected (keep (tree_at (made_of store.old) node.now) (made_of store.old)) result }
 {
-    match keep(index, words, mark, node) {
-        Kept::Term(n, new) => Typed::Term(n, same_sort(sort, expected), new),
-        Kept::Full(row, new) => Typed::No(60, row, new),
-    }
-}
-
-// The term that a marked atom abbreviates.
-fn abbreviation(
-    text: &[u8],
-    symbols: &[u32],
-    vars: &[u32],
-    defs: &[u32],
-    n: Sizes,
-    index: &[u32],
-    words: &[u32],
-    mark: Mark,
-    name: &[u8],
-    sort: usize,
-) -> Typed
-    requires { ReadsDefs text.now symbols.now vars.now defs.now n index.now words.now mark }
-    ensures { (g : ReadsDefs text.now symbols.now vars.now defs.now n index.now words.now mark) →
-        TypedAs index.now words.now index.now words.now mark g.S sort (found 22 (abbreviated g.S.defs name.now) (made index.now words.now mark)) result }
-{
-    let Some(t) = def_named(text, defs, n.defs, name) else {
-        return Typed::No(22, 0, mark);
-    };
-    Typed::Term(
-        t,
-        same_sort(sort_of(symbols, vars, index, words, t), sort),
-        mark,
-    )
-}
-
-// The variable of that name, or else the constructor without arguments.
-fn named(
-    theory: &[u8],
-    goals: &[u8],
-    text: &[u8],
-    symbols: &[u32],
-    vars: &[u32],
-    n: Sizes,
-    index: &mut [u32],
-    words: &mut [u32],
-    mark: Mark,
-    name: &[u8],
-    sort: usize,
-) -> Typed
-    requires { ReadsNames theory.now goals.now text.now symbols.now vars.now n index.old words.old mark }
-    ensures { (g : ReadsNames theory.now goals.now text.now symbols.now vars.now n index.old words.old mark) →
-        TypedAs index.old words.old index.new words.new mark g.S sort (named g.S name.now (made index.old words.old mark)) result }
-{
-    let mut node = [0u32; 1];
-    match var_named(goals, text, vars, n.vars, name) {
-        Some(v) => {
-            node[0] = (SYMBOLS + v) as u32;
-            keep_typed(index, words, mark, &node, var_sort(vars, v), sort)
-        }
-        None => {
-            let Some(c) = constructor_named(theory, symbols, n.symbols, name) else {
-                return Typed::No(22, 0, mark);
-            };
-            if arity(symbols, c) != 0 {
-                return Typed::No(23, 0, mark);
-            }
-            node[0] = c as u32;
-            keep_typed(index, words, mark, &node, output(symbols, c), sort)
-        }
-    }
-}
-
-// The term that the atom at a place spells.
-fn atomic(
-    theory: &[u8],
-    goals: &[u8],
-    text: &[u8],
-    symbols: &[u32],
-    vars: &[u32],
-    defs: &[u32],
-    n: Sizes,
-    index: &mut [u32],
-    words: &mut [u32],
-    mark: Mark,
-    start: usize,
-    sort: usize,
-) -> Typed
-    requires { ReadsAtom theory.now goals.now text.now symbols.now vars.now defs.now n index.old words.old mark start }
-    ensures { (g : ReadsAtom theory.now goals.now text.now symbols.now vars.now defs.now n index.old words.old mark start) →
-        TypedAs index.old words.old index.new words.new mark g.S sort (term g.S (atom start (letters (drop start text.now))) (made index.old words.old mark)) result }
-{
-    let end = lex::atom_end(text, start);
-    let name = &text[start..end];
-    if marked(text, start) {
-        return abbreviation(text, symbols, vars, defs, n, index, words, mark, name, sort);
-    }
-    named(
-        theory, goals, text, symbols, vars, n, index, words, mark, name, sort,
-    )
-}
-
-// The term that the first item spells.
-#[cycle(arguments_compound_term)]
-pub fn term(
-    theory: &[u8],
-    goals: &[u8],
-    text: &[u8],
-    symbols: &[u32],
-    inputs: &[u32],
-    vars: &[u32],
-    defs: &[u32],
-    n: Sizes,
-    index: &mut [u32],
-    words: &mut [u32],
-    mark: Mark,
-    cells: &[u32],
-    sort: usize,
-) -> Typed
-    requires { ReadsItem (names theory.now goals.now text.now symbols.now inputs.now vars.now defs.now) n index.old words.old mark cells.now }
-    ensures { (g : ReadsItem (names theory.now goals.now text.now symbols.now inputs.now vars.now defs.now) n index.old words.old mark cells.now) →
-        TypedAs index.old words.old index.new words.new mark g.S sort (term g.S g.x (made index.old words.old mark)) result }
-{
-    match items::item_at(cells, 0) {
-        Item::Atom(start) => atomic(
-            theory, goals, text, symbols, vars, defs, n, index, words, mark, start, sort,
-        ),
-        Item::List(a, b) => compound(
-            theory,
-            goals,
-            text,
-            symbols,
-            inputs,
-            vars,
-            defs,
-            n,
-            index,
-            words,
-            mark,
-            &cells[a..b],
-            sort,
-        ),
-    }
-}
-
-// The constructor that the items of a list begin with; it has arguments.
-fn constructor_first(
-    theory: &[u8],
-    text: &[u8],
-    symbols: &[u32],
-    count: usize,
-    cells: &[u32],
-) -> Opening
-    requires { Opens theory.now text.now symbols.now count cells.now }
-    ensures { (g : Opens theory.now text.now symbols.now count cells.now) →
-        OpenedAs text.now cells.now count g.S (compound g.S g.xs) result }
-{
-    if cells.len() == 0 {
-        return Opening::No(22);
-    }
-    let Item::Atom(start) = items::item_at(cells, 0) else {
-        return Opening::No(22);
-    };
-    let end = lex::atom_end(text, start);
-    let Some(c) = constructor_named(theory, symbols, count, &text[start..end]) else {
-        return Opening::No(22);
-    };
-    if cells.len() == 1 {
-        return Opening::No(23);
-    }
-    Opening::Symbol(c)
-}
-
-// The predicate that the items of a list begin with.
-fn predicate_first(
-    theory: &[u8],
-    text: &[u8],
-    symbols: &[u32],
-    count: usize,
-    cells: &[u32],
-) -> Opening
-    requires { Opens theory.now text.now symbols.now count cells.now }
-    ensures { (g : Opens theory.now text.now symbols.now count cells.now) →
-        OpenedAs text.now cells.now count g.S (judgment g.S (list g.xs)) result }
-{
-    if cells.len() == 0 {
-        return Opening::No(22);
-    }
-    let Item::Atom(start) = items::item_at(cells, 0) else {
-        return Opening::No(22);
-    };
-    let end = lex::atom_end(text, start);
-    let Some(p) = predicate_named(theory, symbols, count, &text[start..end]) else {
-        return Opening::No(22);
-    };
-    Opening::Symbol(p)
-}
-
-// The constructor over its arguments that the items of a list spell.
-#[cycle(arguments_compound_term)]
-fn compound(
-    theory: &[u8],
-    goals: &[u8],
-    text: &[u8],
-    symbols: &[u32],
-    inputs: &[u32],
-    vars: &[u32],
-    defs: &[u32],
-    n: Sizes,
-    index: &mut [u32],
-    words: &mut [u32],
-    mark: Mark,
-    cells: &[u32],
-    sort: usize,
-) -> Typed
-    requires { ReadsItems (names theory.now goals.now text.now symbols.now inputs.now vars.now defs.now) n index.old words.old mark cells.now }
-    ensures { (g : ReadsItems (names theory.now goals.now text.now symbols.now inputs.now vars.now defs.now) n index.old words.old mark cells.now) →
-        TypedAs index.old words.old index.new words.new mark g.S sort (compound g.S g.xs (made index.old words.old mark)) result }
-{
-    match constructor_first(theory, text, symbols, n.symbols, cells) {
-        Opening::No(q) => Typed::No(q, 0, mark),
-        Opening::Symbol(c) => {
-            let mut node = [0u32; NODE];
-            match arguments(
-                theory,
-                goals,
-                text,
-                symbols,
-                inputs,
-                vars,
-                defs,
-                n,
-                index,
-                words,
-                mark,
-                &cells[1..],
-                c,
-                &mut node,
-            ) {
-                Typed::Term(len, fits, m) => {
-                    if !fits {
-                        return Typed::No(23, 0, m);
-                    }
-                    keep_typed(index, words, m, &node[..len], output(symbols, c), sort)
-                }
-                Typed::No(q, d, m) => Typed::No(q, d, m),
-            }
-        }
-    }
-}
-
-// The sort of argument k of symbol c, which takes `count`; 0 where it takes none there.
-fn input_or_none(inputs: &[u32], c: usize, k: usize, count: usize) -> usize
-    requires { (count ≤ ARGUMENTS) × (c < SYMBOLS) × (length inputs.now ≡ ARGUMENTS * SYMBOLS) }
-    ensures { result ≡ elim (ltb k count) [ true ↦ get_or inputs.now (ARGUMENTS * c + k) 0 | false ↦ 0 ] }
-{
-    if k >= count {
-        return 0;
-    }
-    inputs[rules::ARGUMENTS * c + k] as usize
+    let term = store.keep(node)?;
+    Ok(Typed {
+        term,
+        fits: same_sort(sort, expected),
+    })
 }
 
 // The head of a node.
@@ -349,154 +77,226 @@ fn put_argument(node: &mut [u32], k: usize, t: usize)
     }
 }
 
-// The terms that the items spell, as the arguments of symbol c: the node over them, where they are as many as its inputs and each of its sort. What is
-// answered is the length of the node, and whether they are.
-#[cycle(arguments_compound_term)]
-fn arguments(
-    theory: &[u8],
-    goals: &[u8],
-    text: &[u8],
-    symbols: &[u32],
-    inputs: &[u32],
-    vars: &[u32],
-    defs: &[u32],
-    n: Sizes,
-    index: &mut [u32],
-    words: &mut [u32],
-    mark: Mark,
-    cells: &[u32],
-    c: usize,
-    node: &mut [u32],
-) -> Typed
-    requires { ReadsItems (names theory.now goals.now text.now symbols.now inputs.now vars.now defs.now) n index.old words.old mark cells.now × (c < n.symbols) × (length node.old ≡ NODE) }
-    ensures { (g : ReadsItems (names theory.now goals.now text.now symbols.now inputs.now vars.now defs.now) n index.old words.old mark cells.now) →
-        ArgumentsAs index.old words.old index.new words.new mark g.S c node.new (terms g.S g.xs (made index.old words.old mark)) result }
+// The sort of argument k of symbol c, which takes `count`; 0 where it takes none there.
+fn input_or_none(inputs: &[u32], c: usize, k: usize, count: usize) -> usize
+    requires { (count ≤ ARGUMENTS) × (c < SYMBOLS) × (length inputs.now ≡ ARGUMENTS * SYMBOLS) }
+    ensures { result ≡ elim (ltb k count) [ true ↦ get_or inputs.now (ARGUMENTS * c + k) 0 | false ↦ 0 ] }
 {
-    let count = arity(symbols, c);
-    put_head(node, c);
-    let mut m = mark;
-    let mut at = 0;
-    let mut k = 0;
-    let mut fits = true;
-    while at < cells.len() {
-        let sort = input_or_none(inputs, c, k, count);
-        match term(
-            theory,
-            goals,
-            text,
-            symbols,
-            inputs,
-            vars,
-            defs,
-            n,
-            index,
-            words,
-            m,
-            &cells[at..],
-            sort,
-        ) {
-            Typed::Term(t, right, new) => {
-                put_argument(node, k, t);
-                fits &= right;
-                m = new;
-            }
-            Typed::No(q, d, new) => {
-                return Typed::No(q, d, new);
-            }
-        }
-        at = items::after(cells, at);
-        k += 1;
+    if k >= count {
+        return 0;
     }
-    Typed::Term(k + 1, fits & (k == count), m)
+    inputs[rules::ARGUMENTS * c + k] as usize
 }
 
-// The term of that sort that the first item spells.
-pub fn term_of(
-    theory: &[u8],
-    goals: &[u8],
-    text: &[u8],
-    symbols: &[u32],
-    inputs: &[u32],
-    vars: &[u32],
-    defs: &[u32],
-    n: Sizes,
-    index: &mut [u32],
-    words: &mut [u32],
-    mark: Mark,
-    cells: &[u32],
-    sort: usize,
-) -> Out
-    requires { ReadsItem (names theory.now goals.now text.now symbols.now inputs.now vars.now defs.now) n index.old words.old mark cells.now }
-    ensures { (g : ReadsItem (names theory.now goals.now text.now symbols.now inputs.now vars.now defs.now) n index.old words.old mark cells.now) →
-        ReadAs index.old words.old index.new words.new mark (term_of g.S g.x sort (made index.old words.old mark)) result }
-{
-    match term(
-        theory, goals, text, symbols, inputs, vars, defs, n, index, words, mark, cells, sort,
-    ) {
-        Typed::Term(t, fits, new) => {
-            if !fits {
-                return Out::No(23, 0, new);
-            }
-            Out::Ok(t, new)
+impl Reader<'_> {
+    // The sort of a term of the store; 0 for a judgment.
+    pub fn sort_of(&self, terms: &Terms<'_>, id: usize) -> usize
+        requires { ReadsTerm self.now.symbols.now self.now.vars.now terms.now.index.now terms.now.words.now id }
+        ensures { (g : ReadsTerm self.now.symbols.now self.now.vars.now terms.now.index.now terms.now.words.now id) →
+            result ≡ sort_of g.S.theory g.S.vars (tree terms.now.index.now terms.now.words.now g.mark id) }
+    {
+        let word = terms.head(id);
+        if word < SYMBOLS {
+            return self.symbols[4 * word] as usize;
         }
-        Typed::No(q, d, new) => Out::No(q, d, new),
+        var_sort(self.vars, word - SYMBOLS)
     }
-}
 
-// The judgment that the first item spells.
-pub fn judgment(
-    theory: &[u8],
-    goals: &[u8],
-    text: &[u8],
-    symbols: &[u32],
-    inputs: &[u32],
-    vars: &[u32],
-    defs: &[u32],
-    n: Sizes,
-    index: &mut [u32],
-    words: &mut [u32],
-    mark: Mark,
-    cells: &[u32],
-) -> Out
-    requires { ReadsItem (names theory.now goals.now text.now symbols.now inputs.now vars.now defs.now) n index.old words.old mark cells.now }
-    ensures { (g : ReadsItem (names theory.now goals.now text.now symbols.now inputs.now vars.now defs.now) n index.old words.old mark cells.now) →
-        ReadAs index.old words.old index.new words.new mark (judgment g.S g.x (made index.old words.old mark)) result }
-{
-    let Item::List(a, b) = items::item_at(cells, 0) else {
-        return Out::No(22, 0, mark);
-    };
-    let inner = &cells[a..b];
-    match predicate_first(theory, text, symbols, n.symbols, inner) {
-        Opening::No(q) => Out::No(q, 0, mark),
-        Opening::Symbol(p) => {
-            let mut node = [0u32; NODE];
-            match arguments(
-                theory,
-                goals,
-                text,
-                symbols,
-                inputs,
-                vars,
-                defs,
-                n,
-                index,
-                words,
-                mark,
-                &inner[1..],
-                p,
-                &mut node,
-            ) {
-                Typed::Term(len, fits, m) => {
-                    if !fits {
-                        return Out::No(23, 0, m);
-                    }
-                    match keep(index, words, m, &node[..len]) {
-                        Kept::Term(t, new) => Out::Ok(t, new),
-                        Kept::Full(row, new) => Out::No(60, row, new),
-                    }
-                }
-                Typed::No(q, d, m) => Out::No(q, d, m),
-            }
+    // The term that a marked atom abbreviates.
+    fn abbreviation(&self, terms: &Terms<'_>, name: &[u8], sort: usize) -> Result<Typed, Question>
+        requires { ReadsDefs self.now.text.now self.now.symbols.now self.now.vars.now self.now.defs.now self.now.n terms.now.index.now terms.now.words.now terms.now.mark }
+        ensures { (g : ReadsDefs self.now.text.now self.now.symbols.now self.now.vars.now self.now.defs.now self.now.n terms.now.index.now terms.now.words.now terms.now.mark) →
+            let t = terms.now in TypedBy t.index.now t.words.now t.index.now t.words.now t.mark t.mark g.S sort (found 22 (abbreviated g.S.defs name.now) (terms_made t)) result }
+    {
+        let Some(term) = def_named(self.text, self.defs, self.n.defs, name) else {
+            return Err(Question::Spelling);
+        };
+        Ok(Typed {
+            term,
+            fits: same_sort(self.sort_of(terms, term), sort),
+        })
+    }
+
+    // The variable of that name, or else the constructor without arguments.
+    fn named(&self, store: &mut Store<'_>, name: &[u8], sort: usize) -> Result<Typed, Question>
+        requires { ReadsNames self.now.theory.now self.now.goals.now self.now.text.now self.now.symbols.now self.now.vars.now self.now.n store.old.index.now store.old.words.now store.old.mark }
+        ensures same_tables { SameTables store.old store.new }
+        ensures typed_as { (g : ReadsNames self.now.theory.now self.now.goals.now self.now.text.now self.now.symbols.now self.now.vars.now self.now.n store.old.index.now store.old.words.now store.old.mark) →
+            TypedAs store.old store.new g.S sort (named g.S name.now (made_of store.old)) result }
+    {
+        if let Some(v) = var_named(self.goals, self.text, self.vars, self.n.vars, name) {
+            let node = [(SYMBOLS + v) as u32];
+            return keep_typed(store, &node, var_sort(self.vars, v), sort);
         }
+        let Some(c) = constructor_named(self.theory, self.symbols, self.n.symbols, name) else {
+            return Err(Question::Spelling);
+        };
+        if arity(self.symbols, c) != 0 {
+            return Err(Question::Sorting);
+        }
+        let node = [c as u32];
+        keep_typed(store, &node, output(self.symbols, c), sort)
+    }
+
+    // The term that the atom at a place spells.
+    fn atomic(&self, store: &mut Store<'_>, start: usize, sort: usize) -> Result<Typed, Question>
+        requires { ReadsAtom (names_of self.now) self.now.n store.old.index.now store.old.words.now store.old.mark start }
+        ensures same_tables { SameTables store.old store.new }
+        ensures typed_as { (g : ReadsAtom (names_of self.now) self.now.n store.old.index.now store.old.words.now store.old.mark start) →
+            TypedAs store.old store.new g.S sort (term g.S (atom start (letters (drop start self.now.text.now))) (made_of store.old)) result }
+    {
+        let end = lex::atom_end(self.text, start);
+        let name = &self.text[start..end];
+        if marked(self.text, start) {
+            return self.abbreviation(&store.terms(), name, sort);
+        }
+        self.named(store, name, sort)
+    }
+
+    // The term that the first item spells.
+    #[cycle(arguments_compound_term)]
+    pub fn term(&self, store: &mut Store<'_>, cells: &[u32], sort: usize) -> Result<Typed, Question>
+        requires { ReadsItem (names_of self.now) self.now.n store.old.index.now store.old.words.now store.old.mark cells.now }
+        ensures same_tables { SameTables store.old store.new }
+        ensures typed_as { (g : ReadsItem (names_of self.now) self.now.n store.old.index.now store.old.words.now store.old.mark cells.now) →
+            TypedAs store.old store.new g.S sort (term g.S g.x (made_of store.old)) result }
+    {
+        match items::item_at(cells, 0) {
+            Item::Atom(start) => self.atomic(store, start, sort),
+            Item::List(a, b) => self.compound(store, &cells[a..b], sort),
+        }
+    }
+
+    // The constructor that the items of a list begin with; it has arguments.
+    fn constructor_first(&self, cells: &[u32]) -> Result<usize, Question>
+        requires { Opens self.now.theory.now self.now.text.now self.now.symbols.now self.now.n.symbols cells.now }
+        ensures { (g : Opens self.now.theory.now self.now.text.now self.now.symbols.now self.now.n.symbols cells.now) →
+            OpenedAs self.now.text.now cells.now self.now.n.symbols g.S (compound g.S g.xs) result }
+    {
+        if cells.len() == 0 {
+            return Err(Question::Spelling);
+        }
+        let Item::Atom(start) = items::item_at(cells, 0) else {
+            return Err(Question::Spelling);
+        };
+        let end = lex::atom_end(self.text, start);
+        let name = &self.text[start..end];
+        let Some(c) = constructor_named(self.theory, self.symbols, self.n.symbols, name) else {
+            return Err(Question::Spelling);
+        };
+        if cells.len() == 1 {
+            return Err(Question::Sorting);
+        }
+        Ok(c)
+    }
+
+    // The predicate that the items of a list begin with.
+    fn predicate_first(&self, cells: &[u32]) -> Result<usize, Question>
+        requires { Opens self.now.theory.now self.now.text.now self.now.symbols.now self.now.n.symbols cells.now }
+        ensures { (g : Opens self.now.theory.now self.now.text.now self.now.symbols.now self.now.n.symbols cells.now) →
+            OpenedAs self.now.text.now cells.now self.now.n.symbols g.S (judgment g.S (list g.xs)) result }
+    {
+        if cells.len() == 0 {
+            return Err(Question::Spelling);
+        }
+        let Item::Atom(start) = items::item_at(cells, 0) else {
+            return Err(Question::Spelling);
+        };
+        let end = lex::atom_end(self.text, start);
+        let name = &self.text[start..end];
+        let Some(p) = predicate_named(self.theory, self.symbols, self.n.symbols, name) else {
+            return Err(Question::Spelling);
+        };
+        Ok(p)
+    }
+
+    // The constructor over its arguments that the items of a list spell.
+    #[cycle(arguments_compound_term)]
+    fn compound(&self, store: &mut Store<'_>, cells: &[u32], sort: usize) -> Result<Typed, Question>
+        requires { ReadsItems (names_of self.now) self.now.n store.old.index.now store.old.words.now store.old.mark cells.now }
+        ensures same_tables { SameTables store.old store.new }
+        ensures typed_as { (g : ReadsItems (names_of self.now) self.now.n store.old.index.now store.old.words.now store.old.mark cells.now) →
+            TypedAs store.old store.new g.S sort (compound g.S g.xs (made_of store.old)) result }
+    {
+        let c = self.constructor_first(cells)?;
+        let mut node = [0u32; NODE];
+        let args = self.arguments(store, &cells[1..], c, &mut node)?;
+        if !args.fits {
+            return Err(Question::Sorting);
+        }
+        keep_typed(store, &node[..args.len], output(self.symbols, c), sort)
+    }
+
+    // The terms that the items spell, as the arguments of symbol c: the node over them, where they are as many as its inputs and each of its sort.
+    #[cycle(arguments_compound_term)]
+    fn arguments(
+        &self,
+        store: &mut Store<'_>,
+        cells: &[u32],
+        c: usize,
+        node: &mut [u32],
+    ) -> Result<Arguments, Question>
+        requires { ReadsItems (names_of self.now) self.now.n store.old.index.now store.old.words.now store.old.mark cells.now × (c < self.now.n.symbols) × (length node.old ≡ NODE) }
+        ensures same_tables { SameTables store.old store.new }
+        ensures arguments_as { (g : ReadsItems (names_of self.now) self.now.n store.old.index.now store.old.words.now store.old.mark cells.now) →
+            ArgumentsAs store.old store.new g.S c node.new (terms g.S g.xs (made_of store.old)) result }
+    {
+        let count = arity(self.symbols, c);
+        put_head(node, c);
+        let mut at = 0;
+        let mut k = 0;
+        let mut fits = true;
+        // from item to item, which are of different widths
+        while at < cells.len() {
+            let sort = input_or_none(self.inputs, c, k, count);
+            let typed = self.term(store, &cells[at..], sort)?;
+            put_argument(node, k, typed.term);
+            fits &= typed.fits;
+            at = items::after(cells, at);
+            k += 1;
+        }
+        Ok(Arguments {
+            len: k + 1,
+            fits: fits & (k == count),
+        })
+    }
+
+    // The term of that sort that the first item spells.
+    pub fn term_of(
+        &self,
+        store: &mut Store<'_>,
+        cells: &[u32],
+        sort: usize,
+    ) -> Result<usize, Question>
+        requires { ReadsItem (names_of self.now) self.now.n store.old.index.now store.old.words.now store.old.mark cells.now }
+        ensures same_tables { SameTables store.old store.new }
+        ensures read_as { (g : ReadsItem (names_of self.now) self.now.n store.old.index.now store.old.words.now store.old.mark cells.now) →
+            ReadAs store.old store.new (term_of g.S g.x sort (made_of store.old)) result }
+    {
+        let typed = self.term(store, cells, sort)?;
+        if !typed.fits {
+            return Err(Question::Sorting);
+        }
+        Ok(typed.term)
+    }
+
+    // The judgment that the first item spells.
+    pub fn judgment(&self, store: &mut Store<'_>, cells: &[u32]) -> Result<usize, Question>
+        requires { ReadsItem (names_of self.now) self.now.n store.old.index.now store.old.words.now store.old.mark cells.now }
+        ensures same_tables { SameTables store.old store.new }
+        ensures read_as { (g : ReadsItem (names_of self.now) self.now.n store.old.index.now store.old.words.now store.old.mark cells.now) →
+            ReadAs store.old store.new (judgment g.S g.x (made_of store.old)) result }
+    {
+        let Item::List(a, b) = items::item_at(cells, 0) else {
+            return Err(Question::Spelling);
+        };
+        let inner = &cells[a..b];
+        let p = self.predicate_first(inner)?;
+        let mut node = [0u32; NODE];
+        let read = self.arguments(store, &inner[1..], p, &mut node)?;
+        if !read.fits {
+            return Err(Question::Sorting);
+        }
+        Ok(store.keep(&node[..read.len])?)
     }
 }

@@ -41,13 +41,14 @@ use Rattle.state.specs.Entries.{part_long}
 use Rattle.state.specs.FactLaws.{fact_row_lem, lists_long}
 use Rattle.reading.specs.Items.{FirstItem, index_in, index_found}
 use Rattle.reading.specs.Given.{ReadsItems}
-use Rattle.reading.specs.Answers.{BindingsRead, BindingsAs}
+use Rattle.reading.specs.Answers.{BindingsRead}
+use Rattle.reading.specs.Apart.{BindingsAs}
 use Rattle.referring.specs.Recall.{fact_of, BareItem, RefersItem, RefersItems}
 use Rattle.referring.specs.Referral.{rests_on, instances_of, ref_of, RefRead, ReferredAs}
 use Rattle.reading.specs.Laws.Bindings.{bindings_replaceable, substitute_along}
 use Rattle.referring.specs.Laws.Refers.{fact_here, fact_found, fact_none, fact_asks, refers_bare, refers_items}
-use Rattle.reading.specs.declared.bindings.Bound.{Bound}
-use Rattle.reading.specs.declared.bindings.Bound.TheVariants as bound
+use Rattle.reading.specs.declared.apart.Bound.{Bound}
+use Rattle.reading.specs.declared.apart.Bound.TheVariants as bound
 use Rattle.referring.specs.declared.references.Referred.{Referred}
 
 -- An index -------------------------------------------------------------------------------------------------------------------------------

@@ -11,7 +11,7 @@ ghost use Rattle.referring.specs.Recall.{RecallsFact, BareItem, RefersItem, Refe
 ghost use Rattle.referring.specs.Referral.{ReferredAs, rests_on};
 
 use cells::clear;
-use reading::bindings::{Bound, bindings};
+use reading::apart::{Bound, bindings};
 use reading::names::index as index_in;
 use sexp::items;
 use sexp::items::Item;

@@ -1,7 +1,7 @@
 // A check whose facts are answered as numbers, for callers that hold no table of records: six cells a fact, and its footing as four words.
 #![tactic(auto)]
 
-ghost use Rattle.std.specs.Prelude.{◌≡◌, ◌++◌, ◌+◌, ◌*◌, ◌<◌, ◌≤◌, ltb, length, take, drop};
+ghost use Rattle.std.specs.Prelude.{◌≡◌, ◌++◌, ◌+◌, ◌*◌, ◌≤◌, length, drop};
 ghost use Rattle.std.proofs.lemmas.List.Edits.{sets};
 ghost use Rattle.rules.specs.Limits.{FACTS};
 ghost use Rattle.kernel.specs.Parsed.{theory_lists};
@@ -9,36 +9,11 @@ ghost use Rattle.running.specs.Lent.{working, fact_row, fact_foot, fact_rows, fa
 ghost use Rattle.tabled.specs.Tabled.{Tabled};
 
 pub mod answers;
+mod tables;
 pub mod told;
 
-use facts::{Fact, blank_fact, fact_at};
+use facts::{Fact, blank_fact};
 use running::finish::Answer;
-
-// The numbers that the loop over the records begins and ends with.
-fn none() -> usize
-    ensures { result ≡ 0 }
-{
-    0
-}
-
-fn all() -> usize
-    ensures { result ≡ FACTS }
-{
-    rules::FACTS
-}
-
-fn before(i: usize, to: usize) -> bool
-    ensures { result ≡ ltb i to }
-{
-    i < to
-}
-
-fn after(i: usize, to: usize) -> usize
-    requires { i < to }
-    ensures { result ≡ i + 1 }
-{
-    i + 1
-}
 
 // The row of fact i.
 fn put_row(rows: &mut [u32], i: usize, f: Fact)
@@ -67,19 +42,15 @@ fn put_foot(feet: &mut [u64], i: usize, f: Fact)
     feet[at + 3] = words[3];
 }
 
-// Rows and footings of the records from..to. Every step is a call, since the records are lent on.
-fn store_rows(facts: &mut [Fact], from: usize, to: usize, rows: &mut [u32], feet: &mut [u64])
-    requires { (from ≡ 0) × (to ≤ length facts.old) × (6 * to ≤ length rows.old) × (4 * to ≤ length feet.old) }
-    ensures { (rows.new ≡ fact_rows (take to facts.old) ++ drop (6 * to) rows.old)
-        × (feet.new ≡ fact_feet (take to facts.old) ++ drop (4 * to) feet.old) }
+// Rows and footings of the records.
+fn store_rows(facts: &[Fact], rows: &mut [u32], feet: &mut [u64])
+    requires { (6 * length facts.now ≤ length rows.old) × (4 * length facts.now ≤ length feet.old) }
+    ensures rows { rows.new ≡ fact_rows facts.now ++ drop (6 * length facts.now) rows.old }
+    ensures feet { feet.new ≡ fact_feet facts.now ++ drop (4 * length facts.now) feet.old }
 {
-    let mut i = from;
-    while before(i, to) {
-        let f = fact_at(facts, i);
-        put_row(rows, i, f);
-        put_foot(feet, i, f);
-        let next = after(i, to);
-        i = next;
+    for (i, f) in facts.iter().enumerate() {
+        put_row(rows, i, *f);
+        put_foot(feet, i, *f);
     }
 }
 
@@ -132,8 +103,6 @@ pub fn check_rows(
         lists,
         missing,
     );
-    let from = none();
-    let to = all();
-    store_rows(&mut records, from, to, facts, footings);
+    store_rows(&records, facts, footings);
     r
 }

@@ -1,122 +1,49 @@
-// The answer to three texts and what is recorded with it, spelled into a buffer. The texts stand one behind the other: theory, goals, proof.
-ghost use Rattle.std.specs.Prelude.{◌≤◌, length};
+// The answer to three texts and what is recorded with it, written line by line.
+use crate::tables::Tables;
+use printing::checked::Checked;
+use printing::line::Line;
+use std::alloc::Global;
+use std::io;
+use std::io::Write;
 
-use crate::check_rows;
-use printing::footings::{say_footings, say_missing};
-use printing::line::begin_line;
-use printing::listing::say_facts;
-use printing::names::{HEADS, name_heads};
-use printing::pen::Pen;
-use printing::recorded::recorded;
-
-// What is recorded: the first facts, their footings, the goals without a result.
-fn tell_recorded(
-    text: &[u8],
-    goals: usize,
-    proof: usize,
-    symbols: &[u32],
-    rules: &[u32],
-    vars: &[u32],
-    index: &[u32],
-    words: &[u32],
-    lists: &[u32],
-    missing: &[u32],
-    facts: &[u32],
-    footings: &[u64],
-    many: usize,
-    out: &mut [u8],
-    fd: i32,
-    p: Pen,
-) -> Pen
-    requires { (many ≤ 65536) × (p.at ≤ length out.old) }
-    ensures { result.at ≤ length out.old }
-{
-    let mut names = [0usize; HEADS];
-    let heads: &mut [usize] = &mut names;
-    name_heads(heads, symbols, vars, goals, proof);
-    let mut waiting = [0usize; 2 * rules::TERMS];
-    let stack: &mut [usize] = &mut waiting;
-    let q = say_facts(
-        out, fd, p, text, heads, index, words, stack, facts, lists, many,
-    );
-    let r = say_footings(out, fd, q, text, rules, footings, many);
-    say_missing(out, fd, r, missing)
-}
-
-// The answer's line at the beginning of the buffer, and behind it, where all is asked for, what is recorded. The text has all three.
-fn tell_texts(
+pub fn tell<W: Write>(
+    alloc: Global,
     theory: &[u8],
     goals: &[u8],
     proof: &[u8],
-    text: &[u8],
-    second: usize,
-    third: usize,
-    out: &mut [u8],
-    fd: i32,
-    all: bool,
-) -> Pen
-    ensures { result.at ≤ length out.old }
-{
-    let mut sorts = [0u32; 2 * rules::SORTS];
-    let mut symbols = [0u32; 4 * rules::SYMBOLS];
-    let mut inputs = [0u32; rules::ARGUMENTS * rules::SYMBOLS];
-    let mut rules = [0u32; 6 * rules::RULES];
-    let mut rulevars = [0u32; 3 * rules::RULEVARS * rules::RULES];
-    let mut patterns = [0u32; rules::PATTERNS];
-    let mut vars = [0u32; 4 * rules::VARIABLES];
-    let mut index = [0u32; 4 * rules::TERMS];
-    let mut words = [0u32; rules::WORDS];
-    let mut defs = [0u32; 3 * rules::DEFS];
-    let mut rows = [0u32; 6 * rules::GOALS];
-    let mut lists = [0u32; rules::ENTRIES];
-    let mut missing = [0u32; rules::GOALS];
-    let mut facts = [0u32; 6 * rules::FACTS];
-    let mut footings = [0u64; 4 * rules::FACTS];
-    let a = check_rows(
-        theory,
-        goals,
-        proof,
-        &mut sorts,
-        &mut symbols,
-        &mut inputs,
-        &mut rules,
-        &mut rulevars,
-        &mut patterns,
-        &mut vars,
-        &mut index,
-        &mut words,
-        &mut defs,
-        &mut rows,
-        &mut lists,
-        &mut missing,
-        &mut facts,
-        &mut footings,
-    );
-    let p = begin_line(out, a);
-    if !all {
-        return p;
-    }
-    let many = recorded(a, &vars, &defs, &rows);
-    tell_recorded(
-        text, second, third, &symbols, &rules, &vars, &index, &words, &lists, &missing, &facts,
-        &footings, many, out, fd, p,
-    )
+    out: &mut W,
+) -> io::Result<()> {
+    let mut tables = Tables::new();
+    let answer = tables.check(theory, goals, proof);
+    writeln!(out, "{}", Line(answer))?;
+    tables
+        .view(theory, goals, proof, answer)
+        .write_recorded(alloc, out)
 }
 
-// The same of a text in which goals and proof begin at these places.
-pub fn tell(text: &[u8], goals: usize, proof: usize, out: &mut [u8], fd: i32, all: bool) -> Pen
-    requires { (goals ≤ proof) × (proof ≤ length text.now) }
-    ensures { result.at ≤ length out.old }
-{
-    tell_texts(
-        &text[..goals],
-        &text[goals..proof],
-        &text[proof..],
-        text,
-        goals,
-        proof,
-        out,
-        fd,
-        all,
-    )
+#[cfg(test)]
+mod tests {
+    use super::tell;
+    use std::io;
+
+    const THEORY: &[u8] =
+        b"(sort Pass) (ctor first () Pass) (ctor renew (Pass) Pass) (pred Child (Pass)) \
+        (rule c0 () (Child first)) (rule c1 ((Child ?p)) (Child (renew ?p)))";
+
+    const GOALS: &[u8] = b"(var x Pass) (goal g (Child x))";
+
+    const PROOF: &[u8] = b"(var y Pass) (step 0 c0 ()) (hyp 1 (Child y)) (step 2 c1 (1)) \
+        (induct 3 x (Child x) ((0) (2 y))) (result g 3)";
+
+    #[test]
+    fn tells_facts(rt: HostRuntime) -> io::Result<()> {
+        let mut out = Vec::new(rt.alloc());
+        tell(rt.alloc(), THEORY, GOALS, PROOF, &mut out)?;
+        let said = str::from_utf8(&out).unwrap_or("");
+        let mut lines = said.lines();
+        assert_eq!(rt; lines.next(), Some("(accepted 4 1 1 1 1 0 0)"));
+        assert_eq!(rt; lines.next(), Some("(fact 0 (Child first) () 0 () ())"));
+        assert_eq!(rt; lines.last(), Some("(missing [])"));
+        Ok(())
+    }
 }

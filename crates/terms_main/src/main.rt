@@ -21,7 +21,7 @@ use terms::sets::has;
 use terms::store::{Mark, Store, Terms};
 use terms::substitute::substitute;
 use terms::variables::variables;
-use unification::unify::unify;
+use unification::unify::{Scratch, unify};
 
 // The symbols by their numbers.
 const A: u32 = 0;
@@ -69,10 +69,13 @@ fn bindings(alloc: Global, store: &mut Store<'_>, s: usize, t: usize) -> Result<
     let mut memo = vec![in alloc; 0; TERMS]?;
     let mut pairs = vec![in alloc; 0; 2 * PAIRS]?;
     let mut seen = vec![in alloc; 0; TERMWORDS]?;
-    let found = unify(
-        store, VARIABLES, s, t, &mut theta, &mut map, &mut memo, &mut pairs, &mut seen,
-    )
-    .map_err(no_room)?;
+    let mut scratch = Scratch {
+        map: &mut map,
+        memo: &mut memo,
+        pairs: &mut pairs,
+        seen: &mut seen,
+    };
+    let found = unify(store, VARIABLES, s, t, &mut theta, &mut scratch).map_err(no_room)?;
     if !found {
         return Ok(None);
     }

@@ -26,8 +26,8 @@ use Rattle.terms.specs.Laws.Theta.{bindings_grown, theta_grown}
 use Rattle.state.specs.declared.sizes.Sizes.{Sizes}
 use Rattle.state.specs.Growth.{recorded_on}
 use Rattle.reading.specs.Laws.Walks.{then_same}
-use Rattle.reading.specs.declared.bindings.Bound.{Bound}
-use Rattle.reading.specs.declared.bindings.Bound.TheVariants as bound
+use Rattle.reading.specs.declared.apart.Bound.{Bound}
+use Rattle.reading.specs.declared.apart.Bound.TheVariants as bound
 use Rattle.referring.specs.Recall.{fact_of, Recalls}
 use Rattle.casework.specs.Context.{plainly, plains_of, others_of, trees_of, PlainAdds, matching, Adds, ContextRead, ContextAs, one, all_of, ContextGiven}
 use Rattle.referring.specs.Laws.Refers.{fact_found}

@@ -6,11 +6,11 @@ use Rattle.terms_main.proofs.bindings.Goals as goal
 
 pub unify-requires : goal.unify-requires
 unify-requires c =
-    unifiable c.requires.0 c.requires.1 c.requires.2 (c.deref_mut.ensures.value ∙ c.in_ok-theta.ensures.items_if_clones_equal (λ y e. search rules))
-    (c.deref_mut-2.ensures.value ∙ c.in_ok-map.ensures.items_if_clones_equal (λ y e. search rules))
-    (c.deref_mut-3.ensures.value ∙ c.in_ok-memo.ensures.items_if_clones_equal (λ y e. search rules))
-    (c.deref_mut-4.ensures.value ∙ c.in_ok-pairs.ensures.items_if_clones_equal (λ y e. search rules))
-    (c.deref_mut-5.ensures.value ∙ c.in_ok-seen.ensures.items_if_clones_equal (λ y e. search rules))
+    unifiable c.requires.0 c.requires.1 c.requires.2 (c.deref_mut-5.ensures.value ∙ c.in_ok-theta.ensures.items_if_clones_equal (λ y e. search rules))
+    (c.deref_mut.ensures.value ∙ c.in_ok-map.ensures.items_if_clones_equal (λ y e. search rules))
+    (c.deref_mut-2.ensures.value ∙ c.in_ok-memo.ensures.items_if_clones_equal (λ y e. search rules))
+    (c.deref_mut-3.ensures.value ∙ c.in_ok-pairs.ensures.items_if_clones_equal (λ y e. search rules))
+    (c.deref_mut-4.ensures.value ∙ c.in_ok-seen.ensures.items_if_clones_equal (λ y e. search rules))
 
 pub returns-then-not-found-clause-kept : goal.returns-then-not-found-clause-kept
 returns-then-not-found-clause-kept c =

@@ -1,13 +1,15 @@
-use mathlib.Core.Path.{sym, ap, ◌∙◌}
+use mathlib.Core.Path.{refl, sym, ap, ◌∙◌}
 use native.Mathlib.Omega.{arith}
-use lib.ListN.{length}
 use Rattle.rules.specs.Limits.{FACTWORDS}
 use Rattle.state.specs.Looking.{is_late, not_late}
 use Rattle.reading.proofs.Hypotheses.{hyping_start, hyping_here, hyping_first, hyping_none, hyping_late, hyping_fails, hyping_more, hyping_over, facts_long, facts_few, facts_many, passing}
-use Rattle.reading.proofs.Filling.{as_long, cleared, zeros_long}
+use Rattle.reading.proofs.Filling.{zeros_long}
 use Rattle.reading.specs.Laws.Walks.{go_on}
 use borrow.Author.Tests.{not-true, not-false}
 use mathlib.Core.Bool.{not}
+use Rattle.std.specs.Prelude.{Err}
+use Rattle.kernel.proofs.Handed.{handed}
+use Rattle.reading.proofs.Missing.{there, absent, question_is}
 use Rattle.reading.proofs.hyps.hyp_each.Goals as goal
 
 pub loop-at-init : goal.loop-at-init
@@ -16,50 +18,38 @@ loop-at-init c = (zeros_long FACTWORDS c.requires.1, λ g. hyping_start _ g.S g.
 pub index-requires : goal.index-requires
 index-requires c = hyping_first (c.loop-at.invariant.1 c.requires.0) c.loop-at-test.true
 
-pub shape_of-set-in_default : goal.shape_of-set-in_default
-shape_of-set-in_default c = ap length (cleared c.loop-at.set c.requires.1 c.loop-at.invariant.0 c.clear.ensures)
-
-pub returns-in_default : goal.returns-in_default
-returns-in_default c = λ g. (
-  hyping_none (c.loop-at.invariant.1 g) c.loop-at-test.true c.index.ensures c.in_default.is,
-  cleared c.loop-at.set c.requires.1
-      c.loop-at.invariant.0 c.clear.ensures,
+pub returns-in_err-i : goal.returns-in_err-i
+returns-in_err-i c = λ g. rw (handed c.from_residual.result c.from_residual.ensures ∙ ap Err (question_is _ _ c.ok_or.ensures.ok_part c.ok_or.ensures.value c.in_err-i.was)) (
+  hyping_none (c.loop-at.invariant.1 g) c.loop-at-test.true c.index.ensures (absent _ _ c.ok_or.ensures.ok_part c.in_err-i.was),
+  (refl, refl),
 )
 
 pub is_fact-requires : goal.is_fact-requires
 is_fact-requires c = tt
 
-pub shape_of-set-then-not-is_fact : goal.shape_of-set-then-not-is_fact
-shape_of-set-then-not-is_fact c = ap length (cleared c.loop-at.set c.requires.1 c.loop-at.invariant.0 c.clear-then-not-is_fact.ensures)
-
 pub returns-then-not-is_fact : goal.returns-then-not-is_fact
 returns-then-not-is_fact c = λ g. (
-  hyping_late (c.loop-at.invariant.1 g) c.loop-at-test.true c.index.ensures c.in-Some.is
-      (omega (arith, facts_many g, is_late c.in-Some.i c.args.n.facts c.is_fact.result c.is_fact.ensures (ap not c.if-not-is_fact.true))),
-  cleared
-      c.loop-at.set c.requires.1 c.loop-at.invariant.0 c.clear-then-not-is_fact.ensures,
+  hyping_late (c.loop-at.invariant.1 g) c.loop-at-test.true c.index.ensures (there _ _ c.ok_or.ensures.ok_part c.in_ok-i.was)
+      (omega (arith, facts_many g, is_late c.in_ok-i.i c.args.n.facts c.is_fact.result c.is_fact.ensures (ap not c.if-not-is_fact.true))),
+  (refl, refl),
 )
 
 pub passes-requires : goal.passes-requires
 passes-requires c = (
   facts_long c.requires.0,
   omega
-      (arith, facts_few c.requires.0, not_late c.in-Some.i c.args.n.facts c.is_fact.result c.is_fact.ensures (ap not c.if-not-is_fact.false)),
+      (arith, facts_few c.requires.0, not_late c.in_ok-i.i c.args.n.facts c.is_fact.result c.is_fact.ensures (ap not c.if-not-is_fact.false)),
 )
 
-pub shape_of-set-then-not-passes : goal.shape_of-set-then-not-passes
-shape_of-set-then-not-passes c = ap length (cleared c.loop-at.set c.requires.1 c.loop-at.invariant.0 c.clear-then-not-passes.ensures)
-
 pub returns-then-not-passes : goal.returns-then-not-passes
-returns-then-not-passes c = λ g. let p = passing g c.args.plain c.in-Some.i (not_late _ _ _ c.is_fact.ensures (ap not c.if-not-is_fact.false)) in (
-  hyping_fails (c.loop-at.invariant.1 g) c.loop-at-test.true c.index.ensures c.in-Some.is p.is
+returns-then-not-passes c = λ g. let p = passing g c.args.plain c.in_ok-i.i (not_late _ _ _ c.is_fact.ensures (ap not c.if-not-is_fact.false)) in (
+  hyping_fails (c.loop-at.invariant.1 g) c.loop-at-test.true c.index.ensures (there _ _ c.ok_or.ensures.ok_part c.in_ok-i.was) p.is
       (sym p.test ∙ sym c.passes.ensures ∙ not-true c.passes.result (ap not c.if-not-passes.true)),
-  cleared c.loop-at.set c.requires.1 c.loop-at.invariant.0
-      c.clear-then-not-passes.ensures,
+  (refl, refl),
 )
 
 pub insert-requires : goal.insert-requires
-insert-requires c = let early = not_late c.in-Some.i c.args.n.facts c.is_fact.result c.is_fact.ensures (ap not c.if-not-is_fact.false) in omega
+insert-requires c = let early = not_late c.in_ok-i.i c.args.n.facts c.is_fact.result c.is_fact.ensures (ap not c.if-not-is_fact.false) in omega
     (arith, early, facts_few c.requires.0, c.loop-at.invariant.0)
 
 pub loop-at-smaller : goal.loop-at-smaller
@@ -68,13 +58,10 @@ loop-at-smaller c = omega (arith, (go_on (hyping_here (c.loop-at.invariant.1 c.r
 pub loop-at-preserved : goal.loop-at-preserved
 loop-at-preserved c = (
   c.insert.auto.set ∙ c.loop-at.invariant.0,
-  λ g. let p = passing g c.args.plain c.in-Some.i (not_late _ _ _ c.is_fact.ensures (ap not c.if-not-is_fact.false)) in hyping_more
-      (c.loop-at.invariant.1 g) c.loop-at-test.true c.index.ensures c.in-Some.is p.is
+  λ g. let p = passing g c.args.plain c.in_ok-i.i (not_late _ _ _ c.is_fact.ensures (ap not c.if-not-is_fact.false)) in hyping_more
+      (c.loop-at.invariant.1 g) c.loop-at-test.true c.index.ensures (there _ _ c.ok_or.ensures.ok_part c.in_ok-i.was) p.is
       (sym p.test ∙ sym c.passes.ensures ∙ not-false c.passes.result (ap not c.if-not-passes.false)) c.insert.ensures c.after-at.ensures,
 )
-
-pub shape_of-set : goal.shape_of-set
-shape_of-set c = as_long c.loop-at.set c.requires.1 c.loop-at.invariant.0
 
 pub returns : goal.returns
 returns c = λ g. hyping_over (c.loop-at.invariant.1 g) c.loop-at-test.false

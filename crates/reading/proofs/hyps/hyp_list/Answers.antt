@@ -1,14 +1,14 @@
 use mathlib.Core.Path.{refl}
 use native.Mathlib.Omega.{arith}
 use Rattle.reading.specs.Laws.Walks.{first_some, first_atom, first_list}
-use Rattle.reading.proofs.Hypotheses.{atom_refuses, facts_inside, hyps_inside}
+use Rattle.reading.proofs.Hypotheses.{atom_refuses, facts_inside, hyps_ok, hyps_err}
 use Rattle.reading.proofs.hyps.hyp_list.Goals as goal
 
 pub item_at-requires : goal.item_at-requires
 item_at-requires c = first_some c.requires.0.holds
 
 pub returns-in_default : goal.returns-in_default
-returns-in_default c = λ g. (atom_refuses _ g.S g.x _ _ (first_atom g.holds c.item_at.ensures c.in_default.is).is, refl)
+returns-in_default c = λ g. (atom_refuses _ g.S g.x _ _ (first_atom g.holds c.item_at.ensures c.in_default.is).is, (refl, refl))
 
 pub offset_bounds-cells-a : goal.offset_bounds-cells-a
 offset_bounds-cells-a c = omega (
@@ -30,6 +30,8 @@ slice_bounds-hyp_each-end c = (first_list c.requires.0.holds c.item_at.ensures c
 pub hyp_each-requires : goal.hyp_each-requires
 hyp_each-requires c = (facts_inside c.requires.0 (first_list c.requires.0.holds c.item_at.ensures c.in-List.is), c.requires.1)
 
-pub returns : goal.returns
-returns c = λ g. hyps_inside g (first_list g.holds c.item_at.ensures c.in-List.is) _ c.args.set.now c.hyp_each.new.set
-    c.hyp_each.result c.hyp_each.ensures
+pub returns-in-Ok : goal.returns-in-Ok
+returns-in-Ok c = λ g. hyps_ok g (first_list g.holds c.item_at.ensures c.in-List.is) _ _ _ c.hyp_each.ensures c.args.set.now c.in-Ok.is
+
+pub returns-in-Err : goal.returns-in-Err
+returns-in-Err c = λ g. hyps_err g (first_list g.holds c.item_at.ensures c.in-List.is) _ _ _ c.hyp_each.ensures c.in-Err.is c.requires.1 c.hyp_each.auto.set c.clear.ensures

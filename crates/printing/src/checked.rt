@@ -1,0 +1,22 @@
+// A finished check, lent to be read: its texts, its answer and its tables, each as the rows that docs/TABLES.md has. A row that is not there, and a place
+// outside of a text, are read as none.
+use running::finish::Answer;
+
+#[derive(Clone, Copy)]
+pub struct Checked<'a> {
+    pub theory: &'a [u8],
+    pub goals: &'a [u8],
+    pub proof: &'a [u8],
+    pub answer: Answer,
+    pub symbols: &'a [[u32; 4]],
+    pub rules: &'a [[u32; 6]],
+    pub vars: &'a [[u32; 4]],
+    pub index: &'a [u32],
+    pub words: &'a [u32],
+    pub defs: &'a [[u32; 3]],
+    pub rows: &'a [[u32; 6]],
+    pub lists: &'a [u32],
+    pub missing: &'a [u32],
+    pub facts: &'a [[u32; 6]],
+    pub footings: &'a [[u64; 4]],
+}

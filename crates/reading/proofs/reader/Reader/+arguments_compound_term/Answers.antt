@@ -1,0 +1,132 @@
+use mathlib.Core.Path.{refl, ◌∙◌}
+use native.Mathlib.Omega.{arith}
+use Rattle.std.proofs.lemmas.Result.{err_from_is_err_and}
+use Rattle.terms.specs.On.{pure_stopped}
+use Rattle.reading.proofs.TermArguments.{known_symbol, symbol_small, going_begins, going_inputs, going_high, going_item, going_past, going_stops, going_put, going_on, going_ends, part_most}
+use Rattle.reading.proofs.TermHeads.{rest_fewer}
+use Rattle.reading.proofs.TermBehind.{opens, rest_items, behind_stops, behind_misfits, behind_narrow, behind_length, behind_node, behind_typed}
+use Rattle.reading.proofs.TermItems.{item_there, atom_given, term_atomic, item_list, list_items, term_compounds}
+use Rattle.reading.proofs.reader.Reader.+arguments_compound_term.Goals as goal
+
+pub arguments-arity-count-requires : goal.arguments-arity-count-requires
+arguments-arity-count-requires t c = known_symbol c.requires.0.reads c.requires.1
+
+pub arguments-put_head-requires : goal.arguments-put_head-requires
+arguments-put_head-requires t c = (c.requires.2, symbol_small c.requires.0.reads c.requires.1)
+
+pub arguments-loop-at-init : goal.arguments-loop-at-init
+arguments-loop-at-init t c = record {
+  same = (refl, refl);
+  going = λ g. going_begins g.reads g.holds c.args.c c.arity-count.result _ c.args.node.now c.requires.1 c.requires.2 c.put_head.ensures
+      (c.arity-count.ensures g.S.theory _ _ _ g.reads.spelling.held c.requires.1);
+}
+
+pub arguments-input_or_none-sort-requires : goal.arguments-input_or_none-sort-requires
+arguments-input_or_none-sort-requires t c = going_inputs (c.loop-at.invariant.going c.requires.0)
+
+pub arguments-term-requires : goal.arguments-term-requires
+arguments-term-requires t c = (omega (arith, part_most c.args.cells.now c.loop-at.at, c.decreases), going_item (c.loop-at.invariant.going c.requires.0) c.loop-at-test.true)
+
+pub arguments-returns-in_err-typed-clause-arguments_as : goal.arguments-returns-in_err-typed-clause-arguments_as
+arguments-returns-in_err-typed-clause-arguments_as t c = λ g. let p = err_from_is_err_and c.from_residual.result c.from_residual.ensures.1 in
+    rw (p.1, p.2) (going_stops (c.loop-at.invariant.going g) c.loop-at-test.true _ _ _ _ _ c.in_err-typed.ensures.typed_as)
+
+pub arguments-put_argument-requires : goal.arguments-put_argument-requires
+arguments-put_argument-requires t c = going_put (c.loop-at.invariant.going c.requires.0) c.loop-at-test.true _ _ _ c.input_or_none-sort.result _ _ c.in_ok-typed.ensures.typed_as
+
+pub arguments-overflow_add-k : goal.arguments-overflow_add-k
+arguments-overflow_add-k t c = omega (arith, going_high (c.loop-at.invariant.going c.requires.0), c.well_formed.1.1.0)
+
+pub arguments-loop-at-smaller : goal.arguments-loop-at-smaller
+arguments-loop-at-smaller t c = omega (arith, going_past (c.loop-at.invariant.going c.requires.0) c.loop-at-test.true c.after-at.ensures, c.loop-at-test.true)
+
+pub arguments-loop-at-preserved : goal.arguments-loop-at-preserved
+arguments-loop-at-preserved t c = record {
+  same = (c.term.ensures.same_tables.0 ∙ c.loop-at.invariant.same.0, c.term.ensures.same_tables.1 ∙ c.loop-at.invariant.same.1);
+  going = λ g. going_on (c.loop-at.invariant.going g) c.loop-at-test.true _ _ _ c.input_or_none-sort.result _ _ c.in_ok-typed.ensures.typed_as
+      c.input_or_none-sort.ensures c.put_argument.new.node c.put_argument.ensures refl c.after-at.ensures;
+}
+
+pub arguments-overflow_add-result : goal.arguments-overflow_add-result
+arguments-overflow_add-result t c = omega (arith, going_high (c.loop-at.invariant.going c.requires.0), c.well_formed.1.1.0)
+
+pub arguments-returns-clause-arguments_as : goal.arguments-returns-clause-arguments_as
+arguments-returns-clause-arguments_as t c = λ g. going_ends (c.loop-at.invariant.going g) (omega (arith, c.loop-at-test.false)) refl
+
+pub compound-constructor_first-requires : goal.compound-constructor_first-requires
+compound-constructor_first-requires t c = opens c.requires
+
+pub compound-returns-in_err-c-clause-typed_as : goal.compound-returns-in_err-c-clause-typed_as
+compound-returns-in_err-c-clause-typed_as t c = λ g. let p = err_from_is_err_and c.from_residual.result c.from_residual.ensures.1 in
+    rw (p.1, p.2) (pure_stopped g.reads.good (c.in_err-c.ensures (opens g) _))
+
+pub compound-slice_bounds-arguments-count : goal.compound-slice_bounds-arguments-count
+compound-slice_bounds-arguments-count t c = (c.in_ok-c.ensures (opens c.requires)).some
+
+pub compound-slice_bounds-arguments-start : goal.compound-slice_bounds-arguments-start
+compound-slice_bounds-arguments-start t c = (c.in_ok-c.ensures (opens c.requires)).some
+
+pub compound-arguments-requires : goal.compound-arguments-requires
+compound-arguments-requires t c = let o = c.in_ok-c.ensures (opens c.requires) in
+    (omega (arith, rest_fewer c.args.cells.now o.some, c.decreases), (rest_items c.requires.reads o, o.known, refl))
+
+pub compound-returns-in_err-args-clause-typed_as : goal.compound-returns-in_err-args-clause-typed_as
+compound-returns-in_err-args-clause-typed_as t c = λ g. let p = err_from_is_err_and c.from_residual-in_err-args.result c.from_residual-in_err-args.ensures.1 in
+    rw (p.1, p.2) (behind_stops g.reads (c.in_ok-c.ensures (opens g)) _ _ _ _ _ c.in_err-args.ensures.arguments_as)
+
+pub compound-returns-then-not-args-clause-typed_as : goal.compound-returns-then-not-args-clause-typed_as
+compound-returns-then-not-args-clause-typed_as t c = λ g. behind_misfits g.reads (c.in_ok-c.ensures (opens g)) _ _ _ _ _ _ c.in_ok-args.ensures.arguments_as
+    c.if-not-args.true
+
+pub compound-slice_bounds-node-end : goal.compound-slice_bounds-node-end
+compound-slice_bounds-node-end t c = omega (
+  arith,
+  behind_narrow c.requires.reads (c.in_ok-c.ensures (opens c.requires)) _ _ _ _ _ _ c.in_ok-args.ensures.arguments_as c.if-not-args.false,
+  c.arguments.auto.node,
+)
+
+pub compound-slice_bounds-keep_typed-end : goal.compound-slice_bounds-keep_typed-end
+compound-slice_bounds-keep_typed-end t c = behind_length c.requires.reads (c.in_ok-c.ensures (opens c.requires)) _ _ _ _ _ _ c.in_ok-args.ensures.arguments_as
+    c.if-not-args.false c.arguments.auto.node
+
+pub compound-output-requires : goal.compound-output-requires
+compound-output-requires t c = known_symbol c.requires.reads (c.in_ok-c.ensures (opens c.requires)).known
+
+pub compound-keep_typed-requires : goal.compound-keep_typed-requires
+compound-keep_typed-requires t c = behind_node c.requires.reads (c.in_ok-c.ensures (opens c.requires)) _ _ _ _ _ _ c.in_ok-args.ensures.arguments_as
+    c.if-not-args.false
+
+pub compound-returns-clause-typed_as : goal.compound-returns-clause-typed_as
+compound-returns-clause-typed_as t c = λ g. let o = c.in_ok-c.ensures (opens g) in
+    behind_typed g.reads o _ _ _ _ _ _ c.in_ok-args.ensures.arguments_as c.if-not-args.false _ _ _ c.output.result c.args.sort c.keep_typed.result
+    (c.output.ensures g.S.theory _ _ _ g.reads.spelling.held o.known) c.keep_typed.ensures.typed_as
+
+pub term-item_at-requires : goal.term-item_at-requires
+term-item_at-requires t c = item_there c.requires.holds
+
+pub term-atomic-requires : goal.term-atomic-requires
+term-atomic-requires t c = atom_given c.requires c.item_at.ensures c.in-Atom.is
+
+pub term-offset_bounds-cells-a : goal.term-offset_bounds-cells-a
+term-offset_bounds-cells-a t c = let l = item_list c.requires c.item_at.ensures c.in-List.is in omega (arith, l.low, l.high, c.well_formed.1.1.0)
+
+pub term-slice_bounds-compound-count : goal.term-slice_bounds-compound-count
+term-slice_bounds-compound-count t c = (item_list c.requires c.item_at.ensures c.in-List.is).low
+
+pub term-slice_bounds-compound-start : goal.term-slice_bounds-compound-start
+term-slice_bounds-compound-start t c = (item_list c.requires c.item_at.ensures c.in-List.is).low
+
+pub term-slice_bounds-compound-end : goal.term-slice_bounds-compound-end
+term-slice_bounds-compound-end t c = (item_list c.requires c.item_at.ensures c.in-List.is).high
+
+pub term-compound-requires : goal.term-compound-requires
+term-compound-requires t c = (
+  omega (arith, (item_list c.requires c.item_at.ensures c.in-List.is).shorter, c.decreases),
+  list_items c.requires c.item_at.ensures c.in-List.is,
+)
+
+pub term-returns-in-Atom-clause-typed_as : goal.term-returns-in-Atom-clause-typed_as
+term-returns-in-Atom-clause-typed_as t c = λ g. term_atomic g c.item_at.ensures c.in-Atom.is _ _ _ c.args.sort c.atomic.result c.atomic.ensures.typed_as
+
+pub term-returns-in-List-clause-typed_as : goal.term-returns-in-List-clause-typed_as
+term-returns-in-List-clause-typed_as t c = λ g. term_compounds g c.item_at.ensures c.in-List.is _ _ _ c.args.sort c.compound.result c.compound.ensures.typed_as
