@@ -23,8 +23,9 @@ use Rattle.state.specs.Filled.{filled_more}
 use Rattle.state.specs.Numbered.{length_numbers}
 use Rattle.forms.specs.declared.goals.Aims.{Aims}
 use Rattle.forms.specs.declared.goals.Aims.TheVariants as aims_as
-use Rattle.forms.specs.declared.goals.Placed.{Placed}
-use Rattle.forms.specs.declared.goals.Placed.TheVariants as placed_as
+use Rattle.std.specs.Prelude.{Result, Ok as done, Err as stopped}
+use Rattle.questions.specs.declared.Question.{Question}
+use Rattle.questions.specs.Numbers.{number_of, detail_of}
 use Rattle.forms.specs.Halted.{ReadsForm, Halts}
 use Rattle.forms.specs.Goals.{GoalPlace, AddsGoal, PlacedAs, AimsRead, AimsAs, GoalAdded}
 use Rattle.forms.proofs.GoalReads.{Named, named_halts, named_rows, named_room, named_added}
@@ -123,16 +124,16 @@ module _ {K : Names} {rows : List ℕ} {n : Sizes} {I W : List ℕ} {m : Mark} {
       with_named : Named K rows n I W m cells J X g.S g.xs (goal a_goal_with g.xs g.S) with_read.hyps j new
       with_named = record { reached = record { makes = with_read.makes; here = with_read.is }; there = with_read.there; known = with_read.known }
 
-      module _ (after : List ℕ) (p : Placed)
+      module _ (after : List ℕ) (p : Result ℕ Question)
           (c : (h : GoalPlace K.text rows n cells) (hs : Trees) (t : Tree) → many ≡ count_trees hs →
           PlacedAs K.text rows after n j h.S hs t (add_goal (item h.xs 1) hs t h.S) p) where
-        pub with_halts : {q d : ℕ} → p ≡ placed_as.No q d → Halts I W J X m g.S (goal a_goal_with g.xs g.S) q d new × (after ≡ rows)
+        pub with_halts : {q : Question} → p ≡ stopped q → Halts I W J X m g.S (goal a_goal_with g.xs g.S) (number_of q) (detail_of q) new × (after ≡ rows)
         with_halts f = (
           named_halts g (omega arith) with_named with_read.count after p c f,
           named_rows g (omega arith) with_named with_read.count after p c f,
         )
 
-        pub with_added : {e : ℕ} → p ≡ placed_as.Ok e → (lists : List ℕ) → length lists ≡ ENTRIES →
+        pub with_added : {e : ℕ} → p ≡ done e → (lists : List ℕ) → length lists ≡ ENTRIES →
             drop n.entries lists ≡ replicate (ENTRIES - n.entries) 0 → length out ≡ length (take (length lists - n.entries) (drop n.entries lists)) →
             GoalAdded K.text rows after lists (take n.entries lists ++ (out ++ drop (length lists - n.entries) (drop n.entries lists))) n I W J X m g.S
             (goal a_goal_with g.xs g.S) e new

@@ -34,8 +34,9 @@ use Rattle.reading.specs.Given.{Reads, ReadsItem}
 use Rattle.reading.specs.Answers.{TermRead, JudgmentsRead}
 use Rattle.reading.specs.Apart.{ReadAs, JudgmentsAs}
 use Rattle.reading.specs.Laws.Reading.{reads_ready, reads_judgments, reads_item}
-use Rattle.forms.specs.declared.goals.Placed.{Placed}
-use Rattle.forms.specs.declared.goals.Placed.TheVariants as placed_as
+use Rattle.std.specs.Prelude.{Result, Ok as done, Err as stopped}
+use Rattle.questions.specs.declared.Question.{Question}
+use Rattle.questions.specs.Numbers.{number_of, detail_of}
 use Rattle.forms.specs.Halted.{ReadsForm, Halts}
 use Rattle.forms.specs.Goals.{GoalPlace, AddsGoal, GoalPlaced, PlacedAs, AimsRead, GoalAdded}
 use Rattle.forms.specs.Laws.Making.{Reached, reached_start, reached_halts, reached_went, reached_stopped, item_holds}
@@ -87,26 +88,26 @@ module _ {K : Names} {rows : List ℕ} {n : Sizes} {I W : List ℕ} {m : Mark} {
       }
 
   module _ {J X : List ℕ} {Q : Out State (Unit {0})} {hs : Trees} {j hyps : ℕ} {now : Mark} (o : Named K rows n I W m cells J X g.S g.xs Q hs j now) (c : hyps ≡ count_trees hs)
-      (after : List ℕ) (p : Placed)
+      (after : List ℕ) (p : Result ℕ Question)
       (b : (h : GoalPlace K.text rows n cells) (hs : Trees) (t : Tree) → hyps ≡ count_trees hs →
       PlacedAs K.text rows after n j h.S hs t (add_goal (item h.xs 1) hs t h.S) p) where
     placed : PlacedAs K.text rows after n j (with_made g.S (made J X now)) hs (tree J X now j)
         (add_goal (item g.xs 1) hs (tree J X now j) (with_made g.S (made J X now))) p
     placed = b (place_given (made J X now)) hs (tree J X now j) c
 
-    refused : {q d : ℕ} → p ≡ placed_as.No q d →
-        (add_goal (item g.xs 1) hs (tree J X now j) (with_made g.S (made J X now)) ≡ refuse q d (with_made g.S (made J X now))) × (after ≡ rows)
+    refused : {q : Question} → p ≡ stopped q →
+        (add_goal (item g.xs 1) hs (tree J X now j) (with_made g.S (made J X now)) ≡ refuse (number_of q) (detail_of q) (with_made g.S (made J X now))) × (after ≡ rows)
     refused e =
         subst (PlacedAs K.text rows after n j (with_made g.S (made J X now)) hs (tree J X now j)
         (add_goal (item g.xs 1) hs (tree J X now j) (with_made g.S (made J X now)))) e placed
 
-    pub named_halts : {q d : ℕ} → p ≡ placed_as.No q d → Halts I W J X m g.S Q q d now
+    pub named_halts : {q : Question} → p ≡ stopped q → Halts I W J X m g.S Q (number_of q) (detail_of q) now
     named_halts e = reached_halts o.reached (refused e).0
 
-    pub named_rows : {q d : ℕ} → p ≡ placed_as.No q d → after ≡ rows
+    pub named_rows : {q : Question} → p ≡ stopped q → after ≡ rows
     named_rows e = (refused e).1
 
-    module _ {e : ℕ} (f : p ≡ placed_as.Ok e) where
+    module _ {e : ℕ} (f : p ≡ done e) where
       found : GoalPlaced K.text rows after n j (with_made g.S (made J X now)) hs (tree J X now j)
           (add_goal (item g.xs 1) hs (tree J X now j) (with_made g.S (made J X now))) e
       found =
@@ -186,13 +187,13 @@ module _ {K : Names} {rows : List ℕ} {n : Sizes} {I W : List ℕ} {m : Mark} {
             known = none_known (made J X new);
           }
 
-      module _ (after : List ℕ) (p : Placed)
+      module _ (after : List ℕ) (p : Result ℕ Question)
           (c : (h : GoalPlace K.text rows n cells) (hs : Trees) (t : Tree) → 0 ≡ count_trees hs →
           PlacedAs K.text rows after n j h.S hs t (add_goal (item h.xs 1) hs t h.S) p) where
-        pub plain_halts : {q d : ℕ} → p ≡ placed_as.No q d → Halts I W J X m g.S (goal a_goal g.xs g.S) q d new × (after ≡ rows)
+        pub plain_halts : {q : Question} → p ≡ stopped q → Halts I W J X m g.S (goal a_goal g.xs g.S) (number_of q) (detail_of q) new × (after ≡ rows)
         plain_halts f = (named_halts g (omega arith) plain_named none_count after p c f, named_rows g (omega arith) plain_named none_count after p c f)
 
-        pub plain_added : {e : ℕ} → p ≡ placed_as.Ok e → (lists : List ℕ) →
+        pub plain_added : {e : ℕ} → p ≡ done e → (lists : List ℕ) →
             GoalAdded K.text rows after lists lists n I W J X m g.S (goal a_goal g.xs g.S) e new
         plain_added f lists =
             named_added g (omega arith) plain_named none_count after p c f lists lists (no_numbers lists n.entries (made J X new))

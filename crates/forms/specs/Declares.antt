@@ -1,5 +1,5 @@
 -- What the forms that declare a variable or an abbreviation are given and what they answer, beside what the definition answers: K. Assumes nothing.
-use Rattle.std.specs.Prelude.{◌≡◌, List, [], ◌∷◌, ◌++◌, ℕ, ◌+◌, ◌*◌, ◌^◌, ◌<◌, ◌≤◌, length}
+use Rattle.std.specs.Prelude.{◌≡◌, List, [], ◌∷◌, ◌++◌, ℕ, ◌+◌, ◌*◌, ◌^◌, ◌<◌, ◌≤◌, length, Result, Ok, Err}
 use Rattle.std.proofs.lemmas.List.Edits.{sets}
 use Rattle.rules.specs.Limits.{LENGTH, VARIABLES, DEFS}
 use Rattle.rules.specs.Out.{Out, ok, refuse}
@@ -15,8 +15,8 @@ use Rattle.terms.specs.declared.store.Mark.{Mark}
 use Rattle.terms.specs.Table.{made}
 use Rattle.state.specs.declared.sizes.Sizes.{Sizes}
 use Rattle.state.specs.Held.{VarsHeld}
-use Rattle.forms.specs.declared.declare.Declared.{Declared}
-use Rattle.forms.specs.declared.declare.Declared.TheVariants as declared_as
+use Rattle.questions.specs.declared.Question.{Question}
+use Rattle.questions.specs.Numbers.{number_of, detail_of}
 use Rattle.forms.specs.declared.declare.Defined.{Defined}
 use Rattle.forms.specs.declared.declare.Defined.TheVariants as defined_as
 use Rattle.forms.specs.Halted.{Makes, Halts}
@@ -48,9 +48,9 @@ pub record VarAdded (text before after : List ℕ) (n : Sizes) (which : ℕ) (S 
   pub cells : after ≡ sets before (4 * n.vars) (new.sort ∷ new.text ∷ new.name.start ∷ end ∷ [])
 
 -- before, after: the table of variables
-abbrev pub VarAs : List ℕ → List ℕ → List ℕ → Sizes → ℕ → State → Out State (Unit {0}) → Declared → Type 0
-VarAs text before after n which S K declared_as.Ok = VarAdded text before after n which S K
-VarAs text before after n which S K (declared_as.No q d) = (K ≡ refuse q d S) × (after ≡ before)
+abbrev pub VarAs : List ℕ → List ℕ → List ℕ → Sizes → ℕ → State → Out State (Unit {0}) → Result (Unit {0}) Question → Type 0
+VarAs text before after n which S K (Ok u) = VarAdded text before after n which S K
+VarAs text before after n which S K (Err e) = (K ≡ refuse (number_of e) (detail_of e) S) × (after ≡ before)
 
 -- Abbreviations --------------------------------------------------------------------------------------------------------------------
 

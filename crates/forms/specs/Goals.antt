@@ -1,5 +1,5 @@
 -- What the forms of goals are given and what they answer, beside what the definition answers: K. Assumes nothing.
-use Rattle.std.specs.Prelude.{◌≡◌, false, List, [], ◌∷◌, ◌++◌, ℕ, ◌+◌, ◌*◌, ◌<◌, ◌≤◌, length}
+use Rattle.std.specs.Prelude.{◌≡◌, false, List, [], ◌∷◌, ◌++◌, ℕ, ◌+◌, ◌*◌, ◌<◌, ◌≤◌, length, Result, Ok, Err}
 use Rattle.std.proofs.lemmas.List.Edits.{sets}
 use Rattle.rules.specs.Limits.{LENGTH, GOALS, ENTRIES}
 use Rattle.rules.specs.Out.{Out, ok, refuse}
@@ -23,8 +23,8 @@ use Rattle.forms.specs.declared.goals.Aimed.{Aimed}
 use Rattle.forms.specs.declared.goals.Aimed.TheVariants as aimed_as
 use Rattle.forms.specs.declared.goals.Aims.{Aims}
 use Rattle.forms.specs.declared.goals.Aims.TheVariants as aims_as
-use Rattle.forms.specs.declared.goals.Placed.{Placed}
-use Rattle.forms.specs.declared.goals.Placed.TheVariants as placed_as
+use Rattle.questions.specs.declared.Question.{Question}
+use Rattle.questions.specs.Numbers.{number_of, detail_of}
 use Rattle.forms.specs.Halted.{Makes, Halts}
 
 -- Given ----------------------------------------------------------------------------------------------------------------------------
@@ -72,9 +72,9 @@ pub record GoalPlaced (goals before rows : List ℕ) (n : Sizes) (judgment : ℕ
   pub rows_are : rows ≡ sets before (6 * n.goals) (name.start ∷ end ∷ judgment ∷ n.entries ∷ count_trees hs ∷ 0 ∷ [])
 
 -- before, rows: the table of goals before and afterwards
-abbrev pub PlacedAs : List ℕ → List ℕ → List ℕ → Sizes → ℕ → State → Trees → Tree → Out State (Unit {0}) → Placed → Type 0
-PlacedAs goals before rows n judgment S hs j K (placed_as.Ok e) = GoalPlaced goals before rows n judgment S hs j K e
-PlacedAs goals before rows n judgment S hs j K (placed_as.No q d) = (K ≡ refuse q d S) × (rows ≡ before)
+abbrev pub PlacedAs : List ℕ → List ℕ → List ℕ → Sizes → ℕ → State → Trees → Tree → Out State (Unit {0}) → Result ℕ Question → Type 0
+PlacedAs goals before rows n judgment S hs j K (Ok e) = GoalPlaced goals before rows n judgment S hs j K e
+PlacedAs goals before rows n judgment S hs j K (Err e) = (K ≡ refuse (number_of e) (detail_of e) S) × (rows ≡ before)
 
 -- the hypotheses and the judgment of a goal are read, and K is to add the goal that x names: its judgment by number, its hypotheses' numbers in
 -- the cells as far as these go

@@ -1,12 +1,12 @@
 -- The index that a form gives its own fact. Assumes nothing.
-use Rattle.std.specs.Prelude.{◌≡◌, List, ℕ, ◌≤◌, length}
+use Rattle.std.specs.Prelude.{◌≡◌, List, ℕ, ◌≤◌, length, Result, Ok, Err}
 use Rattle.rules.specs.Out.{Out, ok, refuse}
 use Rattle.rules.specs.Sexp.{Sexps, count}
 use Rattle.rules.specs.State.{State}
 use Rattle.sexp.specs.Items.{Holds}
 use Rattle.state.specs.declared.sizes.Sizes.{Sizes}
-use Rattle.forms.specs.declared.next.Numbered.{Numbered}
-use Rattle.forms.specs.declared.next.Numbered.TheVariants as numbered_as
+use Rattle.questions.specs.declared.Question.{Question}
+use Rattle.questions.specs.Numbers.{number_of}
 
 -- the cells hold the items of a form, at least two, and so many facts are there
 pub record OwnIndex (text cells : List ℕ) (n : Sizes) : Type 0 where
@@ -17,6 +17,6 @@ pub record OwnIndex (text cells : List ℕ) (n : Sizes) : Type 0 where
   pub facts : n.facts ≡ length S.facts
 
 -- K answers, or refuses by that question; the state is as it was
-abbrev pub NextAs : State → Out State (Unit {0}) → Numbered → Type 0
-NextAs S K numbered_as.Next = K ≡ ok tt S
-NextAs S K (numbered_as.No q) = K ≡ refuse q 0 S
+abbrev pub NextAs : State → Out State (Unit {0}) → Result (Unit {0}) Question → Type 0
+NextAs S K (Ok u) = K ≡ ok tt S
+NextAs S K (Err e) = K ≡ refuse (number_of e) 0 S

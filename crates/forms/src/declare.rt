@@ -13,6 +13,7 @@ ghost use Rattle.forms.specs.Declares.{AddsVar, VarAs, DefAs};
 
 use kernel::atoms::marked;
 use kernel::readers::{constructor_named, predicate_named, sort_named};
+use questions::{Question, Row};
 use reading::apart::{Typed, term};
 use rules::{DEFS, VARIABLES};
 use sexp::items::Item;
@@ -21,13 +22,6 @@ use state::defs::{def_named, put_def};
 use state::sizes::Sizes;
 use state::vars::{put_var, var_named};
 use terms::store::Mark;
-
-// A variable is declared; or a question and its detail.
-#[derive(Clone, Copy)]
-pub enum Declared {
-    Ok,
-    No(usize, usize),
-}
 
 // An abbreviation is declared; or a question and its detail. What is used of the store then.
 #[derive(Clone, Copy)]
@@ -74,33 +68,33 @@ pub fn add_var(
     n: Sizes,
     which: usize,
     cells: &[u32],
-) -> Declared
+) -> Result<(), Question>
     requires { AddsVar theory.now goals.now text.now sorts.now symbols.now vars.old n which cells.now }
     ensures { (g : AddsVar theory.now goals.now text.now sorts.now symbols.now vars.old n which cells.now) →
         VarAs text.now vars.old vars.new n which g.S (add_var which g.xs g.S) result }
 {
     let Item::Atom(start) = items::nth(cells, 1) else {
-        return Declared::No(21, 0);
+        return Err(Question::Variable);
     };
     let Item::Atom(from) = items::nth(cells, 2) else {
-        return Declared::No(21, 0);
+        return Err(Question::Variable);
     };
     let last = lex::atom_end(text, from);
     let Some(sort) = sort_named(theory, sorts, n.sorts, &text[from..last]) else {
-        return Declared::No(21, 0);
+        return Err(Question::Variable);
     };
     if marked(text, start) {
-        return Declared::No(21, 0);
+        return Err(Question::Variable);
     }
     let end = lex::atom_end(text, start);
     if !is_unused(theory, goals, text, symbols, vars, n, &text[start..end]) {
-        return Declared::No(21, 0);
+        return Err(Question::Variable);
     }
     if n.vars >= VARIABLES {
-        return Declared::No(60, 7);
+        return Err(Question::Room(Row::Variables));
     }
     put_var(vars, n.vars, sort, which, start, end);
-    Declared::Ok
+    Ok(())
 }
 
 // `(def ?NAME TERM)`, by the items of the form. The name is compared behind the term.

@@ -10,6 +10,7 @@ ghost use Rattle.forms.specs.Halted.{ReadsForm};
 ghost use Rattle.forms.specs.Goals.{GoalPlace, AddsGoal, PlacedAs, AimsAs, AimedAs};
 
 use cells::clear;
+use questions::{Question, Row};
 use reading::apart::{Out, judgment, judgments};
 use rules::{ENTRIES, GOALS};
 use sexp::items::Item;
@@ -32,15 +33,8 @@ pub enum Aims {
     No(usize, usize, Mark),
 }
 
-// A goal has its row, and so many entries of the lists are used; or a question and its detail.
-#[derive(Clone, Copy)]
-pub enum Placed {
-    Ok(usize),
-    No(usize, usize),
-}
-
 // The name, rows 11 and 13, and the row, by the items of the form; the numbers of so many hypotheses stand behind the entries already, as far as there
-// is room.
+// is room. The number of entries in use then.
 fn place_goal(
     goals: &[u8],
     rows: &mut [u32],
@@ -48,27 +42,27 @@ fn place_goal(
     cells: &[u32],
     judgment: usize,
     hyps: usize,
-) -> Placed
+) -> Result<usize, Question>
     requires { GoalPlace goals.now rows.old n cells.now × (judgment < 2 ^ 32) }
     ensures { (g : GoalPlace goals.now rows.old n cells.now) (hs : Trees) (j : Tree) → hyps ≡ count_trees hs →
         PlacedAs goals.now rows.old rows.new n judgment g.S hs j (add_goal (item g.xs 1) hs j g.S) result }
 {
     let Item::Atom(start) = items::nth(cells, 1) else {
-        return Placed::No(24, 0);
+        return Err(Question::GoalName);
     };
     let end = lex::atom_end(goals, start);
     let None = goal_named(goals, rows, n.goals, &goals[start..end]) else {
-        return Placed::No(24, 0);
+        return Err(Question::GoalName);
     };
     if n.goals >= GOALS {
-        return Placed::No(60, 11);
+        return Err(Question::Room(Row::Goals));
     }
     let room = ENTRIES - n.entries;
     if room < hyps {
-        return Placed::No(60, 13);
+        return Err(Question::Room(Row::Entries));
     }
     put_goal(rows, n.goals, start, end, judgment, n.entries, hyps);
-    Placed::Ok(n.entries + hyps)
+    Ok(n.entries + hyps)
 }
 
 // `(goal NAME JUDGMENT)`, by the items of the form. The text that is read is that of the goals.
@@ -106,8 +100,8 @@ pub fn add_goal(
         &cells[at..],
     ) {
         Out::Ok(j, new) => match place_goal(goals, rows, n, cells, j, 0) {
-            Placed::Ok(e) => Aimed::Ok(e, new),
-            Placed::No(q, d) => Aimed::No(q, d, new),
+            Ok(e) => Aimed::Ok(e, new),
+            Err(question) => Aimed::No(question.number(), question.detail(), new),
         },
         Out::No(q, d, new) => Aimed::No(q, d, new),
     }
@@ -215,10 +209,10 @@ pub fn add_goal_with(
         &mut lists[from..],
     ) {
         Aims::Ok(j, many, new) => match place_goal(goals, rows, n, cells, j, many) {
-            Placed::Ok(e) => Aimed::Ok(e, new),
-            Placed::No(q, d) => {
+            Ok(e) => Aimed::Ok(e, new),
+            Err(question) => {
                 clear(&mut lists[from..]);
-                Aimed::No(q, d, new)
+                Aimed::No(question.number(), question.detail(), new)
             }
         },
         Aims::No(q, d, new) => Aimed::No(q, d, new),

@@ -2,28 +2,22 @@
 ghost use Rattle.rules.specs.Forms.{next};
 ghost use Rattle.forms.specs.Next.{OwnIndex, NextAs};
 
+use questions::Question;
 use reading::names::index;
 use sexp::items;
 use state::sizes::Sizes;
 
-// It is the next; or the question that is left.
-#[derive(Clone, Copy)]
-pub enum Numbered {
-    Next,
-    No(usize),
-}
-
 // Whether the index of the form, whose items the cells hold, is the next.
-pub fn is_next(text: &[u8], cells: &[u32], n: Sizes) -> Numbered
+pub fn is_next(text: &[u8], cells: &[u32], n: Sizes) -> Result<(), Question>
     requires { OwnIndex text.now cells.now n }
     ensures { (g : OwnIndex text.now cells.now n) → NextAs g.S (next g.xs g.S) result }
 {
     let at = items::place(cells, 1);
     let Some(i) = index(text, &cells[at..]) else {
-        return Numbered::No(31);
+        return Err(Question::Index);
     };
     if i != n.facts {
-        return Numbered::No(32);
+        return Err(Question::NextIndex);
     }
-    Numbered::Next
+    Ok(())
 }

@@ -14,7 +14,8 @@ use Rattle.terms.specs.declared.store.Mark.{Mark}
 use Rattle.state.specs.declared.sizes.Sizes.{Sizes}
 use Rattle.state.specs.Held.{text_of, names, records}
 use Rattle.state.specs.Stands.{Texts, texts, Board, board}
-use Rattle.forms.specs.declared.declare.Declared.{Declared}
+use Rattle.std.specs.Prelude.{Result}
+use Rattle.questions.specs.declared.Question.{Question}
 use Rattle.forms.specs.declared.declare.Defined.{Defined}
 use Rattle.forms.specs.declared.goals.Aimed.{Aimed}
 use Rattle.forms.specs.declared.hypotheses.Assumed.{Assumed}
@@ -69,7 +70,7 @@ module _ {X : Texts} {T : TheoryLists} {B : Board} {n : Sizes} {m : Mark} {cells
   abbrev Answers : Board → Type 0
   Answers D = TriedAs X T B D m g.S (chosen 30 perform (tagged proof_tag g.xs) g.xs g.S) t
 
-  pub var_arm : (vars : List ℕ) (r : Declared) → tagged proof_tag g.xs ≡ some a_var →
+  pub var_arm : (vars : List ℕ) (r : Result (Unit {0}) Question) → tagged proof_tag g.xs ≡ some a_var →
       ((k : AddsVar X.theory X.goals X.text T.sorts T.symbols B.vars n 3 cells) → VarAs X.text B.vars vars n 3 k.S (add_var 3 k.xs k.S) r) →
       t ≡ declared_tried n m r → Answers (board vars B.index B.words B.defs B.goals B.facts B.footings B.lists)
   var_arm vars r e a f =
@@ -137,7 +138,7 @@ module _ {theory goals : List ℕ} {T : TheoryLists} {B : Board} {n : Sizes} {m 
   abbrev Aims : Board → Type 0
   Aims D = TriedAs (texts theory goals goals) T B D m g.items.S (chosen 20 goal (tagged goal_form g.items.xs) g.items.xs g.items.S) t
 
-  pub goal_var_arm : (vars : List ℕ) (r : Declared) → tagged goal_form g.items.xs ≡ some a_variable →
+  pub goal_var_arm : (vars : List ℕ) (r : Result (Unit {0}) Question) → tagged goal_form g.items.xs ≡ some a_variable →
       ((k : AddsVar theory goals goals T.sorts T.symbols B.vars n 2 cells) → VarAs goals B.vars vars n 2 k.S (add_var 2 k.xs k.S) r) →
       t ≡ declared_tried n m r → Aims (board vars B.index B.words B.defs B.goals B.facts B.footings B.lists)
   goal_var_arm vars r e a f =

@@ -15,8 +15,9 @@ use Rattle.state.specs.Held.{records}
 use Rattle.state.specs.Stands.{Texts, Board, board}
 use Rattle.entering.specs.declared.derive.Entered.{Entered}
 use Rattle.entering.specs.declared.derive.Entered.TheVariants as entered_as
-use Rattle.forms.specs.declared.next.Numbered.{Numbered}
-use Rattle.forms.specs.declared.next.Numbered.TheVariants as numbered_as
+use Rattle.std.specs.Prelude.{Result, Ok as done, Err as stopped}
+use Rattle.questions.specs.declared.Question.{Question}
+use Rattle.questions.specs.Numbers.{number_of}
 use Rattle.forms.specs.Next.{OwnIndex, NextAs}
 use Rattle.entering.specs.Inverted.{AddsInversion, InversionAs}
 use Rattle.forms.specs.Laws.Making.{makes_none}
@@ -40,9 +41,9 @@ module _ {X : Texts} {T : TheoryLists} {B : Board} {n : Sizes} {m : Mark} {cells
   pub inverts_few : n.facts ≤ FACTS
   inverts_few = facts_few g.stands
 
-  module _ (w : Numbered) (a : NextAs g.S (next g.xs g.S) w) where
+  module _ (w : Result (Unit {0}) Question) (a : NextAs g.S (next g.xs g.S) w) where
     -- its index is the next: r is what `add_invert` answers, t what is made of it
-    pub inverts_tried : w ≡ numbered_as.Next → (vars J Y facts footings lists : List ℕ) (r : Entered) →
+    pub inverts_tried : {u : Unit {0}} → w ≡ done u → (vars J Y facts footings lists : List ℕ) (r : Entered) →
         InversionAs X.goals X.text (records_of B) (records facts footings lists) n B.index B.words J Y m g.S (add_invert g.xs g.S) B.vars vars r →
         (t : Tried) → t ≡ inverted_tried n r → TriedAs X T B (board vars J Y B.defs B.goals facts footings lists) m g.S (perform an_invert g.xs g.S) t
     inverts_tried e vars J Y facts footings lists r b t q =
@@ -59,7 +60,7 @@ module _ {X : Texts} {T : TheoryLists} {B : Board} {n : Sizes} {m : Mark} {cells
             inverted_left g.stands (add_invert g.xs g.S) J Y (records facts footings lists) vars (entered_as.No q d new) b refl
 
     -- it is not
-    pub inverts_not : {q : ℕ} → w ≡ numbered_as.No q → TriedAs X T B B m g.S (perform an_invert g.xs g.S) (No q 0 m)
+    pub inverts_not : {q : Question} → w ≡ stopped q → TriedAs X T B B m g.S (perform an_invert g.xs g.S) (No (number_of q) 0 m)
     inverts_not {q} e =
         record {
           until = g.S;

@@ -16,8 +16,8 @@ use Rattle.state.specs.declared.sizes.Sizes.{Sizes}
 use Rattle.state.specs.Held.{text_of, records}
 use Rattle.state.specs.Stands.{Texts, texts, Board, board, Stands}
 use Rattle.counts.specs.Sum.{none}
-use Rattle.forms.specs.declared.declare.Declared.{Declared}
-use Rattle.forms.specs.declared.declare.Declared.TheVariants as declared_as
+use Rattle.std.specs.Prelude.{Result, Ok as done, Err as stopped}
+use Rattle.questions.specs.declared.Question.{Question}
 use Rattle.forms.specs.declared.declare.Defined.{Defined}
 use Rattle.forms.specs.declared.declare.Defined.TheVariants as defined_as
 use Rattle.forms.specs.declared.goals.Aimed.{Aimed}
@@ -79,14 +79,14 @@ none_tried {S = S} h q act o xs e = record { until = S; is = ap (λ z. chosen q 
 -- By the answer --------------------------------------------------------------------------------------------------------------------
 
 module _ {X : Texts} {T : TheoryLists} (B : Board) {n : Sizes} {m : Mark} {S : State} (h : Stands X T B n m S) (K : Out State (Unit {0})) (t : Tried) where
-  pub var_tried : (which : ℕ) (vars : List ℕ) (r : Declared) → text_of X.goals X.text which ≡ X.text → VarAs X.text B.vars vars n which S K r →
+  pub var_tried : (which : ℕ) (vars : List ℕ) (r : Result (Unit {0}) Question) → text_of X.goals X.text which ≡ X.text → VarAs X.text B.vars vars n which S K r →
       t ≡ declared_tried n m r → TriedAs X T B (board vars B.index B.words B.defs B.goals B.facts B.footings B.lists) m S K t
   var_tried which vars r w a e = subst (TriedAs X T B (board vars B.index B.words B.defs B.goals B.facts B.footings B.lists) m S K) (sym e) (go r a)
     where
-      go : (r : Declared) → VarAs X.text B.vars vars n which S K r →
+      go : (r : Result (Unit {0}) Question) → VarAs X.text B.vars vars n which S K r →
           TriedAs X T B (board vars B.index B.words B.defs B.goals B.facts B.footings B.lists) m S K (declared_tried n m r)
-      go declared_as.Ok a = uncounted S.counts (var_taken h K which vars declared_as.Ok a w refl)
-      go (declared_as.No q d) a = var_left h K which vars (declared_as.No q d) a refl
+      go (done u) a = uncounted S.counts (var_taken h K which vars (done u) a w refl)
+      go (stopped q) a = var_left h K which vars (stopped q) a refl
 
   pub def_tried : (defs J Y : List ℕ) (r : Defined) → DefAs X.text B.defs defs n B.index B.words J Y m S K r →
       t ≡ defined_tried n r → TriedAs X T B (board B.vars J Y defs B.goals B.facts B.footings B.lists) m S K t

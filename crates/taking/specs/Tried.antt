@@ -1,6 +1,6 @@
 -- What the items of a form are tried on, and what a form that was tried answers: it is taken, or a question is left and the terms that it made are still
 -- there. And these answers by those of the functions that take a form. Assumes nothing.
-use Rattle.std.specs.Prelude.{◌≡◌, List, [], ℕ, ◌+◌}
+use Rattle.std.specs.Prelude.{◌≡◌, List, [], ℕ, ◌+◌, Result, Ok as done, Err as stopped}
 use Rattle.rules.specs.Out.{Out}
 use Rattle.rules.specs.Sexp.{Sexps}
 use Rattle.rules.specs.State.{State}
@@ -13,8 +13,8 @@ use Rattle.state.specs.declared.sizes.Sizes.{Sizes}
 use Rattle.state.specs.Used.{vars_now, defs_now, goals_now, facts_now}
 use Rattle.state.specs.Stands.{Texts, Board, Stands}
 use Rattle.counts.specs.Sum.{none}
-use Rattle.forms.specs.declared.declare.Declared.{Declared}
-use Rattle.forms.specs.declared.declare.Declared.TheVariants as declared_as
+use Rattle.questions.specs.declared.Question.{Question}
+use Rattle.questions.specs.Numbers.{number_of, detail_of}
 use Rattle.forms.specs.declared.declare.Defined.{Defined}
 use Rattle.forms.specs.declared.declare.Defined.TheVariants as defined_as
 use Rattle.forms.specs.declared.goals.Aimed.{Aimed}
@@ -52,9 +52,9 @@ abbrev pub TriedAs : Texts → TheoryLists → Board → Board → Mark → Stat
 TriedAs X T B D m S K (Ok k new c) = Moves X T D k new K (plus S.counts (counts_of c))
 TriedAs X T B D m S K (No q d new) = Left B D m K q d new
 
-abbrev pub declared_tried : Sizes → Mark → Declared → Tried
-declared_tried n m declared_as.Ok = Ok (vars_now n (n.vars + 1)) m none
-declared_tried n m (declared_as.No q d) = No q d m
+abbrev pub declared_tried : Sizes → Mark → Result (Unit {0}) Question → Tried
+declared_tried n m (done u) = Ok (vars_now n (n.vars + 1)) m none
+declared_tried n m (stopped e) = No (number_of e) (detail_of e) m
 
 abbrev pub defined_tried : Sizes → Defined → Tried
 defined_tried n (defined_as.Ok new) = Ok (defs_now n (n.defs + 1)) new none

@@ -5,10 +5,11 @@ ghost use Rattle.taking.specs.Tried.{declared_tried, defined_tried, aimed_tried,
 
 use counts::{Counts, no_counts};
 use entering::derive::Entered;
-use forms::declare::{Declared, Defined};
+use forms::declare::Defined;
 use forms::goals::Aimed;
 use forms::hypotheses::Assumed;
 use forms::results::Resulted;
+use questions::Question;
 use state::sizes::Sizes;
 use terms::store::Mark;
 
@@ -21,12 +22,12 @@ pub enum Tried {
 }
 
 // A variable more.
-pub fn declared(n: Sizes, mark: Mark, r: Declared) -> Tried
+pub fn declared(n: Sizes, mark: Mark, r: Result<(), Question>) -> Tried
     requires { n.vars ≤ VARIABLES }
     ensures { result ≡ declared_tried n mark r }
 {
     match r {
-        Declared::Ok => Tried::Ok(
+        Ok(()) => Tried::Ok(
             Sizes {
                 sorts: n.sorts,
                 symbols: n.symbols,
@@ -40,7 +41,7 @@ pub fn declared(n: Sizes, mark: Mark, r: Declared) -> Tried
             mark,
             no_counts(),
         ),
-        Declared::No(q, d) => Tried::No(q, d, mark),
+        Err(question) => Tried::No(question.number(), question.detail(), mark),
     }
 }
 

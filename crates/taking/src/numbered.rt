@@ -11,7 +11,7 @@ ghost use Rattle.forms.specs.Results.{TakesResult, ResultedAs};
 
 use entering::derive::{Entered, add_apply, add_induct, add_induct_with, add_step};
 use forms::hypotheses::{Assumed, add_hyp, add_rule_hyp};
-use forms::next::{Numbered, is_next};
+use forms::next::is_next;
 use forms::results::{Resulted, result};
 use rules::{PATTERNS, VARIABLES};
 use state::sizes::Sizes;
@@ -39,11 +39,11 @@ pub fn hyp_next(
         AssumedAs (records facts.old g.footings lists.old) (records facts.new g.footings lists.new) n index.old words.old index.new words.new mark g.S (perform a_hyp g.xs g.S) result) }
 {
     match is_next(text, cells, n) {
-        Numbered::Next => add_hyp(
+        Ok(()) => add_hyp(
             theory, goals, text, symbols, inputs, vars, defs, facts, lists, n, index, words, mark,
             cells,
         ),
-        Numbered::No(q) => Assumed::No(q, 0, mark),
+        Err(question) => Assumed::No(question.number(), 0, mark),
     }
 }
 
@@ -69,11 +69,11 @@ pub fn rule_hyp_next(
         AssumedAs (records facts.old g.footings lists.old) (records facts.new g.footings lists.new) n index.old words.old index.new words.new mark g.S (perform a_rule_hyp g.xs g.S) result) }
 {
     match is_next(text, cells, n) {
-        Numbered::Next => add_rule_hyp(
+        Ok(()) => add_rule_hyp(
             theory, goals, text, symbols, inputs, vars, defs, facts, lists, n, index, words, mark,
             cells,
         ),
-        Numbered::No(q) => Assumed::No(q, 0, mark),
+        Err(question) => Assumed::No(question.number(), 0, mark),
     }
 }
 
@@ -109,7 +109,7 @@ pub fn step_next(
     let mut map = [0u32; VARIABLES];
     let few = PATTERNS;
     match is_next(text, cells, n) {
-        Numbered::Next => add_step(
+        Ok(()) => add_step(
             theory,
             goals,
             text,
@@ -132,7 +132,7 @@ pub fn step_next(
             memo,
             &mut ids[..few],
         ),
-        Numbered::No(q) => Entered::No(q, 0, mark),
+        Err(question) => Entered::No(question.number(), 0, mark),
     }
 }
 
@@ -164,11 +164,11 @@ pub fn apply_next(
     let mut bound = [0u32; VARIABLES];
     let mut map = [0u32; VARIABLES];
     match is_next(text, cells, n) {
-        Numbered::Next => add_apply(
+        Ok(()) => add_apply(
             theory, goals, text, symbols, inputs, vars, defs, facts, footings, lists, n, index,
             words, mark, cells, &mut bound, &mut map, memo,
         ),
-        Numbered::No(q) => Entered::No(q, 0, mark),
+        Err(question) => Entered::No(question.number(), 0, mark),
     }
 }
 
@@ -200,11 +200,11 @@ pub fn induct_next(
 {
     let mut map = [0u32; VARIABLES];
     match is_next(text, cells, n) {
-        Numbered::Next => add_induct(
+        Ok(()) => add_induct(
             theory, goals, text, symbols, inputs, vars, defs, facts, footings, lists, n, index,
             words, mark, cells, &mut map, memo, ids,
         ),
-        Numbered::No(q) => Entered::No(q, 0, mark),
+        Err(question) => Entered::No(question.number(), 0, mark),
     }
 }
 
@@ -236,11 +236,11 @@ pub fn induct_with_next(
 {
     let mut map = [0u32; VARIABLES];
     match is_next(text, cells, n) {
-        Numbered::Next => add_induct_with(
+        Ok(()) => add_induct_with(
             theory, goals, text, symbols, inputs, vars, defs, facts, footings, lists, n, index,
             words, mark, cells, &mut map, memo, ids,
         ),
-        Numbered::No(q) => Entered::No(q, 0, mark),
+        Err(question) => Entered::No(question.number(), 0, mark),
     }
 }
 

@@ -20,7 +20,7 @@ use counts::Counts;
 use entering::derive::add_invert;
 use forms::declare::{add_def, add_var};
 use forms::goals::{add_goal, add_goal_with};
-use forms::next::{Numbered, is_next};
+use forms::next::is_next;
 use sexp::items;
 use sexp::items::Item;
 use sexp::tags::{GoalForm, Tag};
@@ -174,14 +174,14 @@ fn invert_items(
     ensures ids_unchanged { (ids.new ≡ ids.old) × (memo.new ≡ memo.old) }
 {
     match is_next(text, cells, n) {
-        Numbered::Next => {
+        Ok(()) => {
             let r = add_invert(
                 theory, goals, text, symbols, inputs, rules, rulevars, patterns, vars, defs, facts,
                 footings, lists, n, index, words, mark, cells, ids, memo,
             );
             inverted(n, r)
         }
-        Numbered::No(q) => Tried::No(q, 0, mark),
+        Err(question) => Tried::No(question.number(), 0, mark),
     }
 }
 

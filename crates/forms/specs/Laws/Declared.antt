@@ -1,6 +1,6 @@
 -- From the answers of `add_var` and `add_def` to all tables at once. Each law takes what the call is given from the tables, then its answer.
 -- Assumes nothing.
-use Rattle.std.specs.Prelude.{◌≡◌, refl, List, [], ◌∷◌, ◌++◌, ℕ, ◌+◌, ◌^◌, ◌<◌, ◌≤◌}
+use Rattle.std.specs.Prelude.{◌≡◌, refl, List, [], ◌∷◌, ◌++◌, ℕ, ◌+◌, ◌^◌, ◌<◌, ◌≤◌, Result, Ok, Err}
 use Rattle.std.proofs.Common.{sym, ap, ◌∙◌, subst}
 use Rattle.rules.specs.Out.{Out, refuse}
 use Rattle.rules.specs.Sexp.{Sexps, count}
@@ -16,8 +16,8 @@ use Rattle.state.specs.Held.{text_of, names}
 use Rattle.state.specs.Used.{vars_now, defs_now}
 use Rattle.state.specs.Stands.{Texts, Board, board, Stands}
 use Rattle.state.specs.Updates.{stands_var, stands_def}
-use Rattle.forms.specs.declared.declare.Declared.{Declared}
-use Rattle.forms.specs.declared.declare.Declared.TheVariants as declared_as
+use Rattle.questions.specs.declared.Question.{Question}
+use Rattle.questions.specs.Numbers.{number_of, detail_of}
 use Rattle.forms.specs.declared.declare.Defined.{Defined}
 use Rattle.forms.specs.declared.declare.Defined.TheVariants as defined_as
 use Rattle.forms.specs.Halted.{ReadsForm, Halts}
@@ -51,9 +51,9 @@ module _ {X : Texts} {T : TheoryLists} {B : Board} {n : Sizes} {m : Mark} {S : S
       }
 
   -- K: what the definition answers
-  module _ (K : Out State (Unit {0})) (which : ℕ) (vars : List ℕ) (r : Declared) (a : VarAs X.text B.vars vars n which S K r) where
+  module _ (K : Out State (Unit {0})) (which : ℕ) (vars : List ℕ) (r : Result (Unit {0}) Question) (a : VarAs X.text B.vars vars n which S K r) where
     -- the variable's text is the one that is read
-    pub var_taken : text_of X.goals X.text which ≡ X.text → r ≡ declared_as.Ok →
+    pub var_taken : text_of X.goals X.text which ≡ X.text → {u : Unit {0}} → r ≡ Ok u →
         Moves X T (board vars B.index B.words B.defs B.goals B.facts B.footings B.lists) (vars_now n (n.vars + 1)) m K S.counts
     var_taken t e =
         let z : VarAdded X.text B.vars vars n which S K = subst (VarAs X.text B.vars vars n which S K) e a in
@@ -68,10 +68,10 @@ module _ {X : Texts} {T : TheoryLists} {B : Board} {n : Sizes} {m : Mark} {S : S
           counted = refl;
         }
 
-    pub var_left : {q d : ℕ} → r ≡ declared_as.No q d →
-        Left B (board vars B.index B.words B.defs B.goals B.facts B.footings B.lists) m K q d m
-    var_left {q} {d} e =
-        let z : (K ≡ refuse q d S) × (vars ≡ B.vars) = subst (VarAs X.text B.vars vars n which S K) e a in
+    pub var_left : {q : Question} → r ≡ Err q →
+        Left B (board vars B.index B.words B.defs B.goals B.facts B.footings B.lists) m K (number_of q) (detail_of q) m
+    var_left {q} e =
+        let z : (K ≡ refuse (number_of q) (detail_of q) S) × (vars ≡ B.vars) = subst (VarAs X.text B.vars vars n which S K) e a in
         record {
           until = S;
           is = z.0;

@@ -28,10 +28,10 @@ returns-in-Ok-place_goal c = λ g lists. plain_added g c.place-at.ensures c.judg
     c.judgment.result c.judgment.ensures c.in-Ok.is c.place_goal.new.rows c.place_goal.result c.place_goal.ensures
     c.in-Ok-place_goal.is lists
 
-pub returns-in-No-place_goal : goal.returns-in-No-place_goal
-returns-in-No-place_goal c = λ g lists. let h = plain_halts g c.place-at.ensures c.judgment.new.index
+pub returns-in-Err : goal.returns-in-Err
+returns-in-Err c = rw (c.number.ensures, c.detail.ensures) (λ g lists. let h = plain_halts g c.place-at.ensures c.judgment.new.index
     c.judgment.new.words c.judgment.result c.judgment.ensures c.in-Ok.is c.place_goal.new.rows
-    c.place_goal.result c.place_goal.ensures c.in-No-place_goal.is in (h.0, h.1, refl)
+    c.place_goal.result c.place_goal.ensures c.in-Err.is in (h.0, h.1, refl))
 
 pub returns-in-No : goal.returns-in-No
 returns-in-No c = λ g lists. (

@@ -16,8 +16,8 @@ place_goal-requires c = (
       c.goal_parts.ensures c.in-Ok.is,
 )
 
-pub offset_bounds-lists-from-in-No-place_goal : goal.offset_bounds-lists-from-in-No-place_goal
-offset_bounds-lists-from-in-No-place_goal c = omega (
+pub offset_bounds-lists-from-in-Err : goal.offset_bounds-lists-from-in-Err
+offset_bounds-lists-from-in-Err c = omega (
   arith,
   tail_length c.args.lists.now c.args.n.entries c.requires.lists_len.0 c.requires.adds_goal.fits c.requires.lists_len.1
       c.goal_parts.new.out c.goal_parts.auto.out,
@@ -46,15 +46,15 @@ returns-in-Ok-place_goal c = λ g. with_added g c.goal_parts.new.index c.goal_pa
     c.place_goal.new.rows c.place_goal.result c.place_goal.ensures c.in-Ok-place_goal.is c.args.lists.now c.requires.lists_len.0 c.requires.lists_len.1
     c.goal_parts.auto.out
 
-pub returns-in-No-place_goal : goal.returns-in-No-place_goal
-returns-in-No-place_goal c = λ g. let h = with_halts g c.goal_parts.new.index c.goal_parts.new.words _
+pub returns-in-Err : goal.returns-in-Err
+returns-in-Err c = rw (c.number.ensures, c.detail.ensures) (λ g. let h = with_halts g c.goal_parts.new.index c.goal_parts.new.words _
     c.goal_parts.new.out c.goal_parts.result c.goal_parts.ensures c.in-Ok.is
-    c.place_goal.new.rows c.place_goal.result c.place_goal.ensures c.in-No-place_goal.is in (
+    c.place_goal.new.rows c.place_goal.result c.place_goal.ensures c.in-Err.is in (
       h.0,
       h.1,
       tail_cleared c.args.lists.now c.args.n.entries c.requires.lists_len.0 c.requires.adds_goal.fits c.requires.lists_len.1
           c.goal_parts.new.out c.goal_parts.auto.out c.clear.ensures,
-    )
+    ))
 
 pub returns-in-No : goal.returns-in-No
 returns-in-No c = λ g. let h = with_stop g c.goal_parts.new.index c.goal_parts.new.words _

@@ -9,5 +9,5 @@ pub returns-in-Ok : goal.returns-in-Ok
 returns-in-Ok c = ap (λ z. Ok (vars_now c.args.n (c.args.n.vars + 1)) c.args.mark z) c.no_counts.ensures
     ∙ sym (ap (declared_tried c.args.n c.args.mark) c.in-Ok.is)
 
-pub returns-in-No : goal.returns-in-No
-returns-in-No c = sym (ap (declared_tried c.args.n c.args.mark) c.in-No.is)
+pub returns-in-Err : goal.returns-in-Err
+returns-in-Err c = rw (c.number.ensures, c.detail.ensures) (sym (ap (declared_tried c.args.n c.args.mark) c.in-Err.is))

@@ -6,10 +6,10 @@ use Rattle.taking.proofs.numbered.hyp_next.Goals as goal
 pub is_next-requires : goal.is_next-requires
 is_next-requires c = fact_own (c.requires) (omega arith)
 
-pub returns-in-Next : goal.returns-in-Next
-returns-in-Next c = λ g. fact_next hyps g c.add_hyp.new.facts c.add_hyp.new.lists
+pub returns-in-Ok : goal.returns-in-Ok
+returns-in-Ok c = λ g. fact_next hyps g c.add_hyp.new.facts c.add_hyp.new.lists
     c.add_hyp.new.index c.add_hyp.new.words c.add_hyp.result
-    (c.is_next.ensures (fact_own g (omega arith))) c.in-Next.is c.add_hyp.ensures
+    (c.is_next.ensures (fact_own g (omega arith))) c.in-Ok.is c.add_hyp.ensures
 
-pub returns-in-No : goal.returns-in-No
-returns-in-No c = λ g. fact_not hyps g (c.is_next.ensures (fact_own g (omega arith))) c.in-No.is
+pub returns-in-Err : goal.returns-in-Err
+returns-in-Err c = rw c.number.ensures (λ g. fact_not hyps g (c.is_next.ensures (fact_own g (omega arith))) c.in-Err.is)

@@ -11,14 +11,14 @@ is_next-requires c = derived_own c.requires.adds_derived (omega arith)
 pub add_induct_with-requires : goal.add_induct_with-requires
 add_induct_with-requires c = record { adds_derived = c.requires.adds_derived; scratch = (record { map_zero = refl; memo_zero = c.requires.spare.memo_zero }, c.requires.spare.ids_zero) }
 
-pub returns-in-Next : goal.returns-in-Next
-returns-in-Next c = record {
+pub returns-in-Ok : goal.returns-in-Ok
+returns-in-Ok c = record {
   fact = λ g. derived_next inducts_with g c.add_induct_with.new.facts c.add_induct_with.new.footings
       c.add_induct_with.new.lists c.add_induct_with.new.index
       c.add_induct_with.new.words c.add_induct_with.result
-      (c.is_next.ensures (derived_own g (omega arith))) c.in-Next.is an_induction c.add_induct_with.ensures.entered_as;
+      (c.is_next.ensures (derived_own g (omega arith))) c.in-Ok.is an_induction c.add_induct_with.ensures.entered_as;
   fact_2 = (c.add_induct_with.ensures.map_unchanged.2, c.add_induct_with.ensures.map_unchanged.1);
 }
 
-pub returns-in-No : goal.returns-in-No
-returns-in-No c = record { fact = λ g. derived_not inducts_with g (c.is_next.ensures (derived_own g (omega arith))) c.in-No.is; fact_2 = (refl, refl) }
+pub returns-in-Err : goal.returns-in-Err
+returns-in-Err c = rw c.number.ensures (record { fact = λ g. derived_not inducts_with g (c.is_next.ensures (derived_own g (omega arith))) c.in-Err.is; fact_2 = (refl, refl) })

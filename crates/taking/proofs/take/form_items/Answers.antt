@@ -9,7 +9,7 @@ use Rattle.forms.specs.Laws.Declared.{gives_form, gives_var}
 use Rattle.forms.specs.Laws.Assumed.{gives_fact}
 use Rattle.entering.specs.Laws.Deriving.{stands_instance, stands_form}
 use Rattle.forms.specs.Laws.Results.{stands_result}
-use Rattle.taking.proofs.Heads.{told, form_many}
+use Rattle.taking.proofs.Heads.{told, untold, form_many}
 use Rattle.taking.proofs.Tries.{none_tried, facts_few}
 use Rattle.taking.proofs.Arms.{var_arm, def_arm, result_arm, hyp_arm, step_arm, apply_arm, induct_arm, invert_arm}
 use Rattle.taking.proofs.take.form_items.Goals as goal

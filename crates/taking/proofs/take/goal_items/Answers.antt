@@ -5,7 +5,7 @@ use Rattle.rules.specs.Forms.{goal}
 use Rattle.sexp.specs.declared.tags.GoalForm.TheVariants.{Variable, Goal, GoalWith}
 use Rattle.forms.specs.Laws.Declared.{gives_var}
 use Rattle.forms.specs.Laws.Goals.{stands_adds, stands_lists}
-use Rattle.taking.proofs.Heads.{told_goal, goal_many}
+use Rattle.taking.proofs.Heads.{told_goal, untold_goal, goal_many}
 use Rattle.taking.proofs.Tries.{none_tried}
 use Rattle.taking.proofs.Arms.{goal_var_arm, goal_arm, goal_with_arm}
 use Rattle.taking.proofs.take.goal_items.Goals as goal

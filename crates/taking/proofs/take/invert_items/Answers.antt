@@ -35,9 +35,9 @@ shape_of-ids c = c.add_invert-r.auto.ids
 pub shape_of-memo : goal.shape_of-memo
 shape_of-memo c = c.add_invert-r.auto.memo
 
-pub returns-in-Next : goal.returns-in-Next
-returns-in-Next c = record {
-  by_index_2 = λ sorts rows g l. inverts_tried g l c.is_next.result (c.is_next.ensures (inverts_own g l)) c.in-Next.is
+pub returns-in-Ok : goal.returns-in-Ok
+returns-in-Ok c = record {
+  by_index_2 = λ sorts rows g l. inverts_tried g l c.is_next.result (c.is_next.ensures (inverts_own g l)) c.in-Ok.is
       c.add_invert-r.new.vars c.add_invert-r.new.index
       c.add_invert-r.new.words c.add_invert-r.new.facts
       c.add_invert-r.new.footings c.add_invert-r.new.lists
@@ -45,5 +45,5 @@ returns-in-Next c = record {
   ids_unchanged = c.add_invert-r.ensures.ids_unchanged;
 }
 
-pub returns-in-No : goal.returns-in-No
-returns-in-No c = record { by_index_2 = λ sorts rows g l. inverts_not g l c.is_next.result (c.is_next.ensures (inverts_own g l)) c.in-No.is; ids_unchanged = (refl, refl) }
+pub returns-in-Err : goal.returns-in-Err
+returns-in-Err c = rw c.number.ensures (record { by_index_2 = λ sorts rows g l. inverts_not g l c.is_next.result (c.is_next.ensures (inverts_own g l)) c.in-Err.is; ids_unchanged = (refl, refl) })
