@@ -2,7 +2,8 @@
 // them the tables cleared. `begin` lends these parts of tables that may be longer.
 ghost use Rattle.std.specs.Prelude.{◌≡◌, ◌*◌, replicate};
 ghost use Rattle.rules.specs.Limits.{LENGTH, GOALS, FACTS};
-ghost use Rattle.kernel.specs.Parsed.{theory_lists};
+ghost use Rattle.kernel.specs.Parsed.{theory_lists, Exact, JudgedAs, LaidHeld, counts_of, theory_of, theory_tables, verdict};
+ghost use Rattle.sexp.specs.Through.{Legible};
 ghost use Rattle.state.specs.Stands.{board};
 ghost use Rattle.running.specs.Lent.{working};
 ghost use Rattle.running.specs.Between.{Begun};
@@ -14,8 +15,41 @@ use crate::tables::{clear_theory, clear_working, fits, theory_sizes};
 use crate::texts::{Asked, ask};
 use kernel::parse::parse_exact;
 use kernel::tables::{Counts, Tables};
+use questions::Refused;
 use running::run::{Run, no_sizes, stopped, unfit};
 use terms::store::Mark;
+
+// The theory, and how much of its tables it uses. They are one struct only here, since the goals want them one by one.
+fn judge_theory(
+    theory: &[u8],
+    sorts: &mut [u32],
+    symbols: &mut [u32],
+    inputs: &mut [u32],
+    rules: &mut [u32],
+    rulevars: &mut [u32],
+    patterns: &mut [u32],
+    cells: &mut [u32],
+) -> (Result<usize, Refused>, Counts)
+    requires legible { Legible theory.now cells.old }
+    requires exact { Exact (theory_lists sorts.old symbols.old inputs.old rules.old rulevars.old patterns.old) }
+    ensures value { JudgedAs (verdict theory.now) result.0 }
+    ensures held { result.1 ≡ counts_of (theory_of (verdict theory.now)) }
+    ensures patterns_after { theory_lists sorts.new symbols.new inputs.new rules.new rulevars.new patterns.new ≡ theory_tables (theory_of (verdict theory.now)) }
+    ensures cells_unchanged { cells.new ≡ cells.old }
+    ensures laid_held { LaidHeld theory.now (theory_of (verdict theory.now)) }
+{
+    let mut tables = Tables {
+        sorts,
+        symbols,
+        inputs,
+        rules,
+        vars: rulevars,
+        patterns,
+        held: Counts::NONE,
+    };
+    let answer = parse_exact(theory, cells, &mut tables);
+    (answer, tables.held)
+}
 
 // The theory, then the goals.
 fn judge(
@@ -43,17 +77,10 @@ fn judge(
     ensures opened { Opened theory.now goals.now proof.now (theory_lists sorts.new symbols.new inputs.new rules.new rulevars.new patterns.new) (board vars.new index.new words.new defs.new rows.new facts.now footings.now lists.new) result }
     ensures cells_unchanged { cells.new ≡ cells.old }
 {
-    let mut tables = Tables {
-        sorts,
-        symbols,
-        inputs,
-        rules,
-        vars: rulevars,
-        patterns,
-        held: Counts::NONE,
-    };
-    let answer = parse_exact(theory, cells, &mut tables);
-    let sizes = theory_sizes(tables.held);
+    let (answer, held) = judge_theory(
+        theory, sorts, symbols, inputs, rules, rulevars, patterns, cells,
+    );
+    let sizes = theory_sizes(held);
     match answer {
         Err(refused) => stopped(
             sizes,
@@ -64,24 +91,8 @@ fn judge(
             refused.question.detail(),
         ),
         Ok(_) => pose(
-            theory,
-            goals,
-            tables.sorts,
-            tables.symbols,
-            tables.inputs,
-            tables.rules,
-            tables.vars,
-            tables.patterns,
-            vars,
-            index,
-            words,
-            defs,
-            rows,
-            lists,
-            facts,
-            footings,
-            cells,
-            sizes,
+            theory, goals, sorts, symbols, inputs, rules, rulevars, patterns, vars, index, words,
+            defs, rows, lists, facts, footings, cells, sizes,
         ),
     }
 }

@@ -23,9 +23,9 @@ use sexp::items::Item;
 use state::facts::judgment as judgment_of;
 use state::sizes::Sizes;
 use state::vars::var_sort;
+use terms::apart::visit;
 use terms::sets::{has, write_out};
 use terms::store::Mark;
-use terms::apart::visit;
 
 // Cells for the numbers of the induction hypotheses' terms: a case has at most ARGUMENTS of them, of at most FACTS premises and a judgment each.
 pub const IDS: usize = 40960;

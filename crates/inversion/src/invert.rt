@@ -27,8 +27,8 @@ use sexp::items::Item;
 use state::facts::{is_fact, is_plain, judgment as judgment_of};
 use state::sizes::Sizes;
 use state::vars::put_var;
-use terms::sets::{insert, write_out};
 use terms::apart::{head, visit};
+use terms::sets::{insert, write_out};
 use terms::store::Mark;
 
 // The judgment's number and the number of variables then; or a question and its detail. What is used of the store then.

@@ -17,8 +17,8 @@ use sexp::items;
 use sexp::items::Item;
 use state::facts::{hyps as hyps_of, is_fact, join_footing, judgment};
 use state::sizes::Sizes;
-use terms::sets::insert;
 use terms::apart::{Kept, substitute};
+use terms::sets::insert;
 use terms::store::Mark;
 
 // A judgment by its number, the fact that it comes from, and whether the fact is named bare; or a question and its detail. What is used of the store

@@ -17,9 +17,9 @@ use crate::references::insert_all;
 use rules::{FACTS, TERMWORDS, VARIABLEWORDS};
 use state::facts::{general, judgment, premises};
 use state::sizes::Sizes;
+use terms::apart::visit;
 use terms::sets::{count, lowest_outside, minus_from, union_into, write_out};
 use terms::store::Mark;
-use terms::apart::visit;
 
 // The variables of the terms join the set.
 pub fn visit_all(
