@@ -16,6 +16,14 @@ ghost use Rattle.kernel.specs.Listing.{next_rule};
 use crate::readers::arity;
 use sexp::names::named;
 
+// The rows of rules, their variables, the words of their patterns.
+#[derive(Clone, Copy)]
+pub struct Rules<'a> {
+    pub rows: &'a [u32],
+    pub vars: &'a [u32],
+    pub patterns: &'a [u32],
+}
+
 // A part of the words of patterns, or of the text: the first place, and the place behind the last.
 #[derive(Clone, Copy, Debug, PartialEq, Eq)]
 pub struct Span {

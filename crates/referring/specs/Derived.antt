@@ -1,6 +1,6 @@
 -- What the forms of facts are given and what they answer: a derived fact by its judgment's number, its hypotheses and its footing as sets. Assumes nothing.
-use Rattle.std.specs.Prelude.{◌≡◌, true, false, ◌||◌, List, [], ◌∷◌, ℕ, ◌-◌, ◌<◌, ◌≤◌, eqb, length, get_or, take, replicate}
-use Rattle.rules.specs.Limits.{VARIABLES, TERMS, VARIABLEWORDS, FACTWORDS, RULEWORDS, TERMWORDS}
+use Rattle.std.specs.Prelude.{◌≡◌, true, false, ◌||◌, List, [], ◌∷◌, ℕ, ◌-◌, ◌<◌, ◌≤◌, eqb, length, get_or, take, Result, Ok, Err}
+use Rattle.rules.specs.Limits.{VARIABLEWORDS, TERMWORDS}
 use Rattle.rules.specs.Out.{Out}
 use Rattle.rules.specs.Find.{Set, rising}
 use Rattle.rules.specs.Sexp.{Sexps, count}
@@ -18,10 +18,11 @@ use Rattle.terms.specs.On.{Went, Stopped}
 use Rattle.state.specs.declared.sizes.Sizes.{Sizes}
 use Rattle.state.specs.Held.{Names, RuleLists, Ruled}
 use Rattle.state.specs.Members.{Under}
-use Rattle.reading.specs.declared.apart.Out.{Out as Answer}
-use Rattle.reading.specs.declared.apart.Out.TheVariants.{Ok, No}
-use Rattle.referring.specs.declared.derived.Derived.{Derived}
-use Rattle.referring.specs.declared.derived.Derived.TheVariants as derived
+use Rattle.questions.specs.declared.Question.{Question}
+use Rattle.questions.specs.Numbers.{number_of, detail_of}
+use Rattle.terms.specs.declared.store.Store.{Store}
+use Rattle.referring.specs.declared.support.Support.{Support}
+use Rattle.referring.specs.declared.support.Derived.{Derived}
 use Rattle.reading.specs.Given.{Reads}
 use Rattle.referring.specs.Recall.{Refers}
 
@@ -57,13 +58,6 @@ pub record RuleItems (K : Names) (P : RuleLists) (n : Sizes) (I W : List ℕ) (m
 abbrev pub FewItems : List ℕ → ℕ → Type 0
 FewItems cells most = (xs : Sexps) → cells ≡ encodes xs → count xs ≤ most
 
--- sets that nothing is in yet, of hypotheses and of a footing, and the scratch: zero before and after
-pub record Blank (map memo hyps footing : List ℕ) : Type 0 where
-  pub map_zero : map ≡ replicate VARIABLES 0
-  pub memo_zero : memo ≡ replicate TERMS 0
-  pub no_hyps : hyps ≡ replicate FACTWORDS 0
-  pub no_footing : footing ≡ replicate RULEWORDS 0
-
 -- All references of a form -----------------------------------------------------------------------------------------------------------
 
 -- K answers the references together: their judgments' numbers are the first cells of ids, what they bring is in the sets
@@ -78,9 +72,12 @@ pub record RefsRead (I W J X : List ℕ) (old : Mark) (S : State) (K : Out Made 
   pub known : Under (length S.theory.rules) (holds footing)
   pub counted : instances ≡ refs.instances
 
-abbrev pub RefsAs : List ℕ → List ℕ → List ℕ → List ℕ → Mark → State → Out Made Refs → List ℕ → List ℕ → List ℕ → ℕ → Answer → Type 0
-RefsAs I W J X old S K ids hyps footing many (Ok instances new) = RefsRead I W J X old S K ids hyps footing many instances new
-RefsAs I W J X old S K ids hyps footing many (No q d new) = Stopped I W J X old K q d new
+abbrev pub RefsBy : List ℕ → List ℕ → List ℕ → List ℕ → Mark → Mark → State → Out Made Refs → List ℕ → Support → ℕ → Result ℕ Question → Type 0
+RefsBy I W J X old new S K ids support many (Ok instances) = RefsRead I W J X old S K ids support.hyps support.footing many instances new
+RefsBy I W J X old new S K ids support many (Err q) = Stopped I W J X old K (number_of q) (detail_of q) new
+
+abbrev pub RefsAs : Store → Store → State → Out Made Refs → List ℕ → Support → ℕ → Result ℕ Question → Type 0
+RefsAs s t S K ids support many r = RefsBy s.index.now s.words.now t.index.now t.words.now s.mark t.mark S K ids support many r
 
 -- The items of a step ----------------------------------------------------------------------------------------------------------------
 
@@ -106,9 +103,12 @@ pub record ItemsRead (I W J X : List ℕ) (old : Mark) (K : Out Made Items) (bou
   pub states : items.stated ≡ tree_in (made J X new) stated
   pub there : stated ≤ new.terms
 
-abbrev pub ItemsAs : List ℕ → List ℕ → List ℕ → List ℕ → Mark → Out Made Items → List ℕ → Answer → Type 0
-ItemsAs I W J X old K bound (Ok stated new) = ItemsRead I W J X old K bound stated new
-ItemsAs I W J X old K bound (No q d new) = Stopped I W J X old K q d new
+abbrev pub ItemsBy : List ℕ → List ℕ → List ℕ → List ℕ → Mark → Mark → Out Made Items → List ℕ → Result ℕ Question → Type 0
+ItemsBy I W J X old new K bound (Ok stated) = ItemsRead I W J X old K bound stated new
+ItemsBy I W J X old new K bound (Err q) = Stopped I W J X old K (number_of q) (detail_of q) new
+
+abbrev pub ItemsAs : Store → Store → Out Made Items → List ℕ → Result ℕ Question → Type 0
+ItemsAs s t K bound r = ItemsBy s.index.now s.words.now t.index.now t.words.now s.mark t.mark K bound r
 
 -- A derived fact ---------------------------------------------------------------------------------------------------------------------
 
@@ -130,9 +130,12 @@ pub record DerivedRead (A : Type 0) (I W J X : List ℕ) (old : Mark) (S : State
   pub earlier : Under (length S.facts) (holds hyps)
   pub known : Under (length S.theory.rules) (holds footing)
 
-abbrev pub DerivedAs : (A : Type 0) → List ℕ → List ℕ → List ℕ → List ℕ → Mark → State → Out Made A → (Fact → ℕ → A) → List ℕ → List ℕ → Derived → Type 0
-DerivedAs A I W J X old S K answer hyps footing (derived.Ok j k new) = DerivedRead A I W J X old S K answer hyps footing j k new
-DerivedAs A I W J X old S K answer hyps footing (derived.No q d new) = Stopped I W J X old K q d new
+abbrev pub DerivedBy : (A : Type 0) → List ℕ → List ℕ → List ℕ → List ℕ → Mark → Mark → State → Out Made A → (Fact → ℕ → A) → Result Derived Question → Type 0
+DerivedBy A I W J X old new S K answer (Ok d) = DerivedRead A I W J X old S K answer d.support.hyps d.support.footing d.judgment d.instances new
+DerivedBy A I W J X old new S K answer (Err q) = Stopped I W J X old K (number_of q) (detail_of q) new
+
+abbrev pub DerivedAs : (A : Type 0) → Store → Store → State → Out Made A → (Fact → ℕ → A) → Result Derived Question → Type 0
+DerivedAs A s t S K answer r = DerivedBy A s.index.now s.words.now t.index.now t.words.now s.mark t.mark S K answer r
 
 -- a step's answer: the fact and its instances; the other forms' answer is the fact
 abbrev pub with_instances : Fact → ℕ → Fact × ℕ

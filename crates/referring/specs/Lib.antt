@@ -2,3 +2,4 @@ pub mod Derived
 pub mod Laws
 pub mod Recall
 pub mod Referral
+pub mod Sources

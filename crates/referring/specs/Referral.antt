@@ -1,5 +1,5 @@
 -- What the functions of this crate answer, beside what the definition answers: K. Assumes nothing.
-use Rattle.std.specs.Prelude.{◌≡◌, Bool, true, false, List, [], ℕ, ◌<◌, length}
+use Rattle.std.specs.Prelude.{◌≡◌, Bool, true, false, List, [], ℕ, ◌<◌, length, Result, Ok, Err}
 use Rattle.rules.specs.Out.{Out}
 use Rattle.rules.specs.Find.{Set, union}
 use Rattle.rules.specs.Tree.{Tree}
@@ -11,7 +11,9 @@ use Rattle.terms.specs.Table.{tree}
 use Rattle.terms.specs.Collect.{Seen}
 use Rattle.terms.specs.On.{Went, Stopped}
 use Rattle.referring.specs.declared.references.Referred.{Referred}
-use Rattle.referring.specs.declared.references.Referred.TheVariants as referred
+use Rattle.questions.specs.declared.Question.{Question}
+use Rattle.questions.specs.Numbers.{number_of, detail_of}
+use Rattle.terms.specs.declared.store.Store.{Store}
 use Rattle.referring.specs.Recall.{fact_of}
 
 -- References ---------------------------------------------------------------------------------------------------------------------
@@ -35,9 +37,12 @@ pub record RefRead (I W J X : List ℕ) (old : Mark) (S : State) (K : Out Made R
   pub there : t < new.terms
   pub earlier : i < length S.facts
 
-abbrev pub ReferredAs : List ℕ → List ℕ → List ℕ → List ℕ → Mark → State → Out Made Ref → Referred → Type 0
-ReferredAs I W J X old S K (referred.To t i bare new) = RefRead I W J X old S K t i bare new
-ReferredAs I W J X old S K (referred.No q d new) = Stopped I W J X old K q d new
+abbrev pub ReferredBy : List ℕ → List ℕ → List ℕ → List ℕ → Mark → Mark → State → Out Made Ref → Result Referred Question → Type 0
+ReferredBy I W J X old new S K (Ok r) = RefRead I W J X old S K r.judgment r.fact r.bare new
+ReferredBy I W J X old new S K (Err q) = Stopped I W J X old K (number_of q) (detail_of q) new
+
+abbrev pub ReferredAs : Store → Store → State → Out Made Ref → Result Referred Question → Type 0
+ReferredAs s t S K r = ReferredBy s.index.now s.words.now t.index.now t.words.now s.mark t.mark S K r
 
 -- Variables ------------------------------------------------------------------------------------------------------------------------
 

@@ -1,157 +1,107 @@
-// Naming facts: by index, or as an instance with bindings (questions 34 to 36); and what a reference brings along, its hypotheses and its footing.
+// Naming facts: by index, or as an instance with bindings (questions 34 to 36).
 ghost use Rattle.std.specs.Prelude.{◌≡◌, List, ℕ, ◌<◌, ◌*◌, length, get_or, replicate};
-ghost use Rattle.rules.specs.Limits.{VARIABLES, TERMS, FACTWORDS, RULEWORDS};
-ghost use Rattle.rules.specs.Sexp.{atom};
+ghost use Rattle.rules.specs.Limits.{TERMS};
 ghost use Rattle.rules.specs.Find.{union, has};
 ghost use Rattle.rules.specs.Reference.{reference, instance};
-ghost use Rattle.terms.specs.Table.{made};
+ghost use Rattle.terms.specs.Lent.{SameTables, made_of};
 ghost use Rattle.terms.specs.Sets.{holds};
-ghost use Rattle.state.specs.Held.{names};
-ghost use Rattle.referring.specs.Recall.{RecallsFact, BareItem, RefersItem, RefersItems, fact_of};
-ghost use Rattle.referring.specs.Referral.{ReferredAs, rests_on};
+ghost use Rattle.referring.specs.Referral.{ReferredAs};
+ghost use Rattle.referring.specs.Sources.{ReadsBare, ReferredBare, ReadsReference, ReadsReferences};
 
-use cells::clear;
-use reading::apart::{Bound, bindings};
+use crate::source::Source;
+use questions::Question;
 use reading::names::index as index_in;
+use rules::VARIABLES;
 use sexp::items;
 use sexp::items::Item;
-use state::facts::{hyps as hyps_of, is_fact, join_footing, judgment};
-use state::sizes::Sizes;
-use terms::apart::{Kept, substitute};
+use state::facts::{hyps as hyps_of, is_fact, judgment};
 use terms::sets::insert;
-use terms::store::Mark;
+use terms::store::Store;
+use terms::substitute::substitute;
 
-// A judgment by its number, the fact that it comes from, and whether the fact is named bare; or a question and its detail. What is used of the store
-// then.
-#[derive(Clone, Copy)]
-pub enum Referred {
-    To(usize, usize, bool, Mark),
-    No(usize, usize, Mark),
+// A judgment by its number, the fact that it comes from, and whether the fact is named bare.
+#[derive(Clone, Copy, Debug, PartialEq, Eq)]
+pub struct Referred {
+    pub judgment: usize,
+    pub fact: usize,
+    pub bare: bool,
 }
 
-// The fact that the first item numbers.
-fn bare(text: &[u8], facts: &[u32], n: Sizes, mark: Mark, cells: &[u32]) -> Referred
-    requires { BareItem text.now facts.now n mark cells.now }
-    ensures { (g : BareItem text.now facts.now n mark cells.now) → (p : ℕ) (bs : List ℕ) → g.x ≡ atom p bs →
-        ReferredAs g.index g.words g.index g.words mark g.S (reference g.S g.x (made g.index g.words mark)) result }
-{
-    let Some(i) = index_in(text, cells) else {
-        return Referred::No(34, 0, mark);
-    };
-    if !is_fact(n, i) {
-        return Referred::No(34, 0, mark);
-    }
-    Referred::To(judgment(facts, i), i, true, mark)
-}
-
-// The fact that the first of the items numbers, under the bindings behind it. `map` and `memo` are scratch: zero before and after.
-fn instance(
-    theory: &[u8],
-    goals: &[u8],
-    text: &[u8],
-    symbols: &[u32],
-    inputs: &[u32],
-    vars: &[u32],
-    defs: &[u32],
-    facts: &[u32],
-    n: Sizes,
-    index: &mut [u32],
-    words: &mut [u32],
-    mark: Mark,
-    cells: &[u32],
-    map: &mut [u32],
-    memo: &mut [u32],
-) -> Referred
-    requires refers_items { RefersItems (names theory.now goals.now text.now symbols.now inputs.now vars.now defs.now) facts.now n index.old words.old mark cells.now }
-    requires map_value { (map.old ≡ replicate VARIABLES 0) × (memo.old ≡ replicate TERMS 0) }
-    ensures referred_as { (g : RefersItems (names theory.now goals.now text.now symbols.now inputs.now vars.now defs.now) facts.now n index.old words.old mark cells.now) →
-        ReferredAs index.old words.old index.new words.new mark g.S (instance g.S g.xs (made index.old words.old mark)) result }
-    ensures map_unchanged { (map.new ≡ map.old) × (memo.new ≡ memo.old) }
-{
-    if cells.len() == 0 {
-        return Referred::No(34, 0, mark);
-    }
-    let Some(i) = index_in(text, cells) else {
-        return Referred::No(34, 0, mark);
-    };
-    if !is_fact(n, i) {
-        return Referred::No(34, 0, mark);
-    }
-    let own = hyps_of(facts, i);
-    if own.from != own.end {
-        return Referred::No(35, 0, mark);
-    }
-    let next = items::after(cells, 0);
-    match bindings(
-        theory,
-        goals,
-        text,
-        symbols,
-        inputs,
-        vars,
-        defs,
-        n,
-        index,
-        words,
-        mark,
-        &cells[next..],
-        map,
-    ) {
-        Bound::Ok(m) => {
-            let r = substitute(index, words, m, map, memo, judgment(facts, i));
-            clear(map);
-            match r {
-                Kept::Term(t, new) => Referred::To(t, i, false, new),
-                Kept::Full(row, new) => Referred::No(60, row, new),
-            }
+impl Source<'_> {
+    // The fact that the first item numbers.
+    fn bare(&self, cells: &[u32]) -> Result<Referred, Question>
+        requires { ReadsBare self.now cells.now }
+        ensures { ReferredBare self.now cells.now result }
+    {
+        let Some(i) = index_in(self.reader.text, cells) else {
+            return Err(Question::Earlier);
+        };
+        if !is_fact(self.reader.n, i) {
+            return Err(Question::Earlier);
         }
-        Bound::No(q, d, m) => Referred::No(q, d, m),
+        Ok(Referred {
+            judgment: judgment(self.rows, i),
+            fact: i,
+            bare: true,
+        })
     }
-}
 
-// The reference that the first item is. `map` and `memo` are scratch: zero before and after.
-pub fn reference(
-    theory: &[u8],
-    goals: &[u8],
-    text: &[u8],
-    symbols: &[u32],
-    inputs: &[u32],
-    vars: &[u32],
-    defs: &[u32],
-    facts: &[u32],
-    n: Sizes,
-    index: &mut [u32],
-    words: &mut [u32],
-    mark: Mark,
-    cells: &[u32],
-    map: &mut [u32],
-    memo: &mut [u32],
-) -> Referred
-    requires refers_item { RefersItem (names theory.now goals.now text.now symbols.now inputs.now vars.now defs.now) facts.now n index.old words.old mark cells.now }
-    requires map_value { (map.old ≡ replicate VARIABLES 0) × (memo.old ≡ replicate TERMS 0) }
-    ensures referred_as { (g : RefersItem (names theory.now goals.now text.now symbols.now inputs.now vars.now defs.now) facts.now n index.old words.old mark cells.now) →
-        ReferredAs index.old words.old index.new words.new mark g.S (reference g.S g.x (made index.old words.old mark)) result }
-    ensures map_unchanged { (map.new ≡ map.old) × (memo.new ≡ memo.old) }
-{
-    match items::item_at(cells, 0) {
-        Item::Atom(_) => bare(text, facts, n, mark, cells),
-        Item::List(a, b) => instance(
-            theory,
-            goals,
-            text,
-            symbols,
-            inputs,
-            vars,
-            defs,
-            facts,
-            n,
-            index,
-            words,
-            mark,
-            &cells[a..b],
-            map,
-            memo,
-        ),
+    // The fact that the first of the items numbers, under the bindings behind it. `memo` is scratch: zero before and after.
+    fn instance(
+        &self,
+        store: &mut Store<'_>,
+        cells: &[u32],
+        memo: &mut [u32],
+    ) -> Result<Referred, Question>
+        requires reads { ReadsReferences self.now store.old cells.now }
+        requires memo_value { memo.old ≡ replicate TERMS 0 }
+        ensures same_tables { SameTables store.old store.new }
+        ensures referred_as { (g : ReadsReferences self.now store.old cells.now) →
+            ReferredAs store.old store.new g.S (instance g.S g.xs (made_of store.old)) result }
+        ensures memo_unchanged { memo.new ≡ memo.old }
+    {
+        if cells.is_empty() {
+            return Err(Question::Earlier);
+        }
+        let Some(i) = index_in(self.reader.text, cells) else {
+            return Err(Question::Earlier);
+        };
+        if !is_fact(self.reader.n, i) {
+            return Err(Question::Earlier);
+        }
+        let own = hyps_of(self.rows, i);
+        if own.from != own.end {
+            return Err(Question::Instance);
+        }
+        let next = items::after(cells, 0);
+        let mut map = [0; VARIABLES];
+        self.reader.bindings(store, &cells[next..], &mut map)?;
+        let term = substitute(store, &map, memo, judgment(self.rows, i))?;
+        Ok(Referred {
+            judgment: term,
+            fact: i,
+            bare: false,
+        })
+    }
+
+    // The reference that the first item is. `memo` is scratch: zero before and after.
+    pub fn reference(
+        &self,
+        store: &mut Store<'_>,
+        cells: &[u32],
+        memo: &mut [u32],
+    ) -> Result<Referred, Question>
+        requires reads { ReadsReference self.now store.old cells.now }
+        requires memo_value { memo.old ≡ replicate TERMS 0 }
+        ensures same_tables { SameTables store.old store.new }
+        ensures referred_as { (g : ReadsReference self.now store.old cells.now) →
+            ReferredAs store.old store.new g.S (reference g.S g.x (made_of store.old)) result }
+        ensures memo_unchanged { memo.new ≡ memo.old }
+    {
+        match items::item_at(cells, 0) {
+            Item::Atom(_) => self.bare(cells),
+            Item::List(a, b) => self.instance(store, &cells[a..b], memo),
+        }
     }
 }
 
@@ -162,29 +112,5 @@ pub fn insert_all(ids: &[u32], set: &mut [u64])
 {
     for id in ids {
         insert(set, *id as usize);
-    }
-}
-
-// What a reference to fact i brings: the hypotheses that it rests on, and the fact's footing. This is the one place where footings join.
-pub fn join(
-    facts: &[u32],
-    footings: &[u64],
-    lists: &[u32],
-    i: usize,
-    bare: bool,
-    hyps: &mut [u64],
-    footing: &mut [u64],
-)
-    requires { RecallsFact facts.now footings.now lists.now i × (length hyps.old ≡ FACTWORDS) × (length footing.old ≡ RULEWORDS) }
-    ensures { (g : RecallsFact facts.now footings.now lists.now i) →
-        (holds hyps.new ≡ union (holds hyps.old) (has (rests_on g.S i bare)))
-        × (holds footing.new ≡ union (holds footing.old) (has (fact_of g.S i).footing)) }
-{
-    join_footing(footings, i, footing);
-    if bare {
-        let own = hyps_of(facts, i);
-        let from = own.from;
-        let end = own.end;
-        insert_all(&lists[from..end], hyps);
     }
 }

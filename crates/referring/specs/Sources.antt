@@ -1,0 +1,83 @@
+-- The texts and tables from which the forms of facts are read, as they are lent: what they must say, and what is asked of the store and the sets beside
+-- them. Each is the relation of the same meaning over plain tables. Assumes nothing.
+use Rattle.std.specs.Prelude.{◌≡◌, ◌∷◌, List, ℕ, Result, replicate}
+use Rattle.rules.specs.Limits.{FACTWORDS, RULEWORDS}
+use Rattle.rules.specs.Find.{Set}
+use Rattle.rules.specs.Sexp.{atom}
+use Rattle.rules.specs.Reference.{reference}
+use Rattle.questions.specs.declared.Question.{Question}
+use Rattle.kernel.specs.declared.rule_readers.Rules.{Rules}
+use Rattle.terms.specs.declared.store.Mark.{Mark}
+use Rattle.terms.specs.declared.store.Terms.{Terms}
+use Rattle.terms.specs.declared.store.Store.{Store}
+use Rattle.terms.specs.Table.{made}
+use Rattle.terms.specs.Sets.{holds}
+use Rattle.terms.specs.Collect.{Seen}
+use Rattle.state.specs.Held.{Names, RuleLists, rule_lists}
+use Rattle.reading.specs.Reader.{names_of}
+use Rattle.referring.specs.declared.source.Facts.{Facts}
+use Rattle.referring.specs.declared.source.Source.{Source}
+use Rattle.referring.specs.declared.support.Support.{Support}
+use Rattle.referring.specs.declared.references.Referred.{Referred}
+use Rattle.referring.specs.Recall.{Recalls, BareItem, RefersItem, RefersItems, ReadableAll}
+use Rattle.referring.specs.Referral.{ReferredBy, Gathered}
+use Rattle.referring.specs.Derived.{FactForm, RuleForm, ReadableCells}
+
+-- Parts of it ------------------------------------------------------------------------------------------------------------------------
+
+abbrev pub facts_of : Source → Facts
+facts_of s = record { rows = s.rows; footings = s.footings; lists = s.lists; n = s.reader.n }
+
+abbrev pub source_names : Source → Names
+source_names s = names_of s.reader
+
+abbrev pub rules_of : Source → Rules → RuleLists
+rules_of s p = rule_lists s.reader.theory.now p.rows.now p.vars.now p.patterns.now
+
+abbrev pub no_support : Support
+no_support = record { hyps = replicate FACTWORDS 0; footing = replicate RULEWORDS 0 }
+
+-- References -------------------------------------------------------------------------------------------------------------------------
+
+-- one is read, and the items of one
+abbrev pub ReadsReference : Source → Store → List ℕ → Type 0
+ReadsReference s t cells = RefersItem (source_names s) s.rows.now s.reader.n t.index.now t.words.now t.mark cells
+
+abbrev pub ReadsReferences : Source → Store → List ℕ → Type 0
+ReadsReferences s t cells = RefersItems (source_names s) s.rows.now s.reader.n t.index.now t.words.now t.mark cells
+
+-- a bare one, beside some store
+abbrev pub ReadsBare : Source → List ℕ → Type 0
+ReadsBare s cells = (m : Mark) × BareItem s.reader.text.now s.rows.now s.reader.n m cells
+
+abbrev pub ReferredBare : Source → List ℕ → Result Referred Question → Type 0
+ReferredBare s cells r =
+    (m : Mark) (g : BareItem s.reader.text.now s.rows.now s.reader.n m cells) (p : ℕ) (bs : List ℕ) → g.x ≡ atom p bs →
+    ReferredBy g.index g.words g.index g.words m m g.S (reference g.S g.x (made g.index g.words m)) r
+
+-- Forms of facts ---------------------------------------------------------------------------------------------------------------------
+
+abbrev pub ReadsForm : Source → Store → List ℕ → ℕ → Type 0
+ReadsForm s t cells least = FactForm (source_names s) s.rows.now s.footings.now s.lists.now s.reader.n t.index.now t.words.now t.mark cells least
+
+abbrev pub ReadsRuleForm : Source → Rules → Store → List ℕ → ℕ → Type 0
+ReadsRuleForm s p t cells least =
+    RuleForm (source_names s) (rules_of s p) s.rows.now s.footings.now s.lists.now s.reader.n t.index.now t.words.now t.mark cells least
+
+-- Facts and terms --------------------------------------------------------------------------------------------------------------------
+
+abbrev pub RecallsIn : Facts → Terms → Type 0
+RecallsIn f t = Recalls f.rows.now f.lists.now f.n t.index.now t.words.now t.mark
+
+abbrev pub ReadableIn : Terms → List ℕ → List ℕ → List ℕ → Type 0
+ReadableIn t ids seen set = ReadableAll t.index.now t.words.now t.mark ids seen set
+
+abbrev pub ReadableCellsIn : Terms → List ℕ → List ℕ → List ℕ → Type 0
+ReadableCellsIn t cells seen set = ReadableCells t.index.now t.words.now t.mark cells seen set
+
+-- what was visited before is right for the set
+abbrev pub SeenIn : Terms → List ℕ → List ℕ → Type 0
+SeenIn t seen set = Seen t.index.now t.words.now t.mark (holds seen) (holds set)
+
+abbrev pub GatheredIn : Terms → Set → List ℕ → List ℕ → List ℕ → Type 0
+GatheredIn t more before seen set = Gathered t.index.now t.words.now t.mark more (holds before) (holds seen) (holds set)

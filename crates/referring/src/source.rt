@@ -1,0 +1,38 @@
+// What the forms of facts are read from: what names stand for, and the facts so far.
+ghost use Rattle.std.specs.Prelude.{◌≡◌};
+ghost use Rattle.referring.specs.Sources.{facts_of};
+
+use reading::reader::Reader;
+use state::sizes::Sizes;
+
+// The facts: a row each, their footings, the entries of their lists; and how much of each table is used.
+#[derive(Clone, Copy)]
+pub struct Facts<'a> {
+    pub rows: &'a [u32],
+    pub footings: &'a [u64],
+    pub lists: &'a [u32],
+    pub n: Sizes,
+}
+
+// The same tables beside those in which names are looked up.
+#[derive(Clone, Copy)]
+pub struct Source<'a> {
+    pub reader: Reader<'a>,
+    pub rows: &'a [u32],
+    pub footings: &'a [u64],
+    pub lists: &'a [u32],
+}
+
+impl Source<'_> {
+    // The facts alone.
+    pub fn facts(&self) -> Facts<'_>
+        ensures { result ≡ facts_of self.now }
+    {
+        Facts {
+            rows: self.rows,
+            footings: self.footings,
+            lists: self.lists,
+            n: self.reader.n,
+        }
+    }
+}
