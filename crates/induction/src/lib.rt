@@ -5,4 +5,5 @@
 mod cases;
 pub mod induct;
 mod induct_cases;
+mod motive;
 mod resting;

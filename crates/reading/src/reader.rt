@@ -1,4 +1,8 @@
 // What names stand for: the texts and tables from which the items of a form are read.
+ghost use Rattle.std.specs.Prelude.{◌≡◌};
+ghost use Rattle.reading.specs.Reader.{reader_of};
+
+use state::board::{Board, Given};
 use state::sizes::Sizes;
 
 // The texts in which names stand, the tables of symbols, variables and abbreviations, and how much of each is used.
@@ -12,4 +16,20 @@ pub struct Reader<'a> {
     pub vars: &'a [u32],
     pub defs: &'a [u32],
     pub n: Sizes,
+}
+
+// Those of a check.
+pub fn reader_of<'a>(given: &Given<'a>, board: &'a Board<'_>) -> Reader<'a>
+    ensures { result ≡ reader_of given.now board.now }
+{
+    Reader {
+        theory: given.theory,
+        goals: given.goals,
+        text: given.text,
+        symbols: given.symbols,
+        inputs: given.inputs,
+        vars: board.vars,
+        defs: board.defs,
+        n: board.n,
+    }
 }

@@ -14,7 +14,9 @@ use Rattle.terms.specs.Table.{made}
 use Rattle.terms.specs.Sets.{holds}
 use Rattle.terms.specs.Collect.{Seen}
 use Rattle.state.specs.Held.{Names, RuleLists, rule_lists}
-use Rattle.reading.specs.Reader.{names_of}
+use Rattle.state.specs.declared.board.Given.{Given}
+use Rattle.state.specs.declared.board.Board.{Board}
+use Rattle.reading.specs.Reader.{names_of, reader_of}
 use Rattle.referring.specs.declared.source.Facts.{Facts}
 use Rattle.referring.specs.declared.source.Source.{Source}
 use Rattle.referring.specs.declared.support.Support.{Support}
@@ -27,6 +29,16 @@ use Rattle.referring.specs.Derived.{FactForm, RuleForm, ReadableCells}
 
 abbrev pub facts_of : Source → Facts
 facts_of s = record { rows = s.rows; footings = s.footings; lists = s.lists; n = s.reader.n }
+
+-- that of a check
+abbrev pub source_of : Given → Board → Source
+source_of g b =
+    record {
+      reader = reader_of g b;
+      rows = record { ref_ptr = b.facts.ref_ptr; now = b.facts.now };
+      footings = record { ref_ptr = b.footings.ref_ptr; now = b.footings.now };
+      lists = record { ref_ptr = b.lists.ref_ptr; now = b.lists.now };
+    }
 
 abbrev pub source_names : Source → Names
 source_names s = names_of s.reader

@@ -1,8 +1,9 @@
 // What the forms of facts are read from: what names stand for, and the facts so far.
 ghost use Rattle.std.specs.Prelude.{◌≡◌};
-ghost use Rattle.referring.specs.Sources.{facts_of};
+ghost use Rattle.referring.specs.Sources.{facts_of, source_of};
 
-use reading::reader::Reader;
+use reading::reader::{Reader, reader_of};
+use state::board::{Board, Given};
 use state::sizes::Sizes;
 
 // The facts: a row each, their footings, the entries of their lists; and how much of each table is used.
@@ -34,5 +35,17 @@ impl Source<'_> {
             lists: self.lists,
             n: self.reader.n,
         }
+    }
+}
+
+// That of a check.
+pub fn source_of<'a>(given: &Given<'a>, board: &'a Board<'_>) -> Source<'a>
+    ensures { result ≡ source_of given.now board.now }
+{
+    Source {
+        reader: reader_of(given, board),
+        rows: board.facts,
+        footings: board.footings,
+        lists: board.lists,
     }
 }

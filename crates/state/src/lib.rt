@@ -2,6 +2,7 @@
 // for the definition's state). Rows are read and written here alone; behind what is used a table is zero.
 #![tactic(auto)]
 
+pub mod board;
 pub mod defs;
 pub mod facts;
 pub mod goals;

@@ -1,0 +1,27 @@
+// The texts and tables of a check: what is given to it, and what it fills.
+use crate::sizes::Sizes;
+use kernel::rule_readers::Rules;
+
+// The text of the theory, that of the goals, and that in which the form stands; and the tables of the theory.
+#[derive(Clone, Copy)]
+pub struct Given<'a> {
+    pub theory: &'a [u8],
+    pub goals: &'a [u8],
+    pub text: &'a [u8],
+    pub sorts: &'a [u32],
+    pub symbols: &'a [u32],
+    pub inputs: &'a [u32],
+    pub rules: Rules<'a>,
+}
+
+// Variables, abbreviations, goals, facts with their footings, the entries of lists; and how much of each table is used.
+#[derive(Drop)]
+pub struct Board<'a> {
+    pub vars: &'a mut [u32],
+    pub defs: &'a mut [u32],
+    pub rows: &'a mut [u32],
+    pub facts: &'a mut [u32],
+    pub footings: &'a mut [u64],
+    pub lists: &'a mut [u32],
+    pub n: Sizes,
+}
