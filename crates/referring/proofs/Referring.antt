@@ -6,7 +6,7 @@ use mathlib.Core.List.{List, [], ◌∷◌}
 use Prim.Native.Nat.{ℕ, ◌-◌, ◌*◌, ◌<◌, ◌≤◌}
 use native.Mathlib.Omega.{arith}
 use lib.ListN.{length, get_or, take, drop, replicate, length-replicate}
-use Rattle.rules.specs.Limits.{VARIABLES, TERMS, FACTS}
+use Rattle.rules.specs.Limits.{TERMS, FACTS}
 use Rattle.rules.specs.Out.{Out, ok, refuse, then, ask, found}
 use Rattle.rules.specs.Sexp.{Sexp, Sexps, atom, nil, cons, item, rest}
 use Rattle.rules.specs.Tree.{Tree, var, sub}
@@ -43,7 +43,6 @@ use Rattle.referring.specs.Referral.{rests_on, instances_of, ref_of, RefRead, Re
 use Rattle.reading.specs.Laws.Bindings.{bindings_replaceable, bindings_along}
 use Rattle.referring.specs.Laws.Refers.{fact_here, fact_found, fact_none, fact_asks, refers_bare, refers_items}
 use Rattle.questions.specs.declared.Question.{Question}
-use Rattle.questions.specs.Numbers.{number_of, detail_of}
 use Rattle.referring.specs.declared.references.Referred.{Referred}
 
 -- An index -------------------------------------------------------------------------------------------------------------------------------
@@ -265,7 +264,7 @@ module _ {K : Names} {facts : List ℕ} {n : Sizes} {I W : List ℕ} {m : Mark} 
           unfolding rests_on instances_of
           instance_read {u} a =
               let d : Stored J X Y Z k value (substitute (along (in_cells (made J X k) map 0)) (fact_of g.S i).judgment (made J X k)) u new =
-                  moved (λ (z : Tree) (K : Out Made Tree). Stored J X Y Z k z K u new) a in
+              moved (λ (z : Tree) (K : Out Made Tree). Stored J X Y Z k z K u new) a in
               record {
                 went = subst (λ (z : Tree). Went I W Y Z m (instance g.S g.xs (made I W m)) (ref_of g.S z i false) new) (sym (stored_is d))
                     (on_done (on_ok _ on_bound (stored_went d)));

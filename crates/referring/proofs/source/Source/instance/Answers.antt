@@ -45,24 +45,24 @@ judgment-requires c = opens_asks c.requires.reads (not_late c.in-Some.i c.args.s
 pub substitute-requires : goal.substitute-requires
 substitute-requires c =
     let a = instance_asks c.requires.reads (instance_opens c.requires.reads c.if-cells-eq0.false c.index.ensures c.in-Some.is
-      (not_late c.in-Some.i c.args.self.now.reader.n.facts c.is_fact.result c.is_fact.ensures (ap not c.if-not-is_fact.false)) c.hyps-own.ensures c.if-own.false)
-        c.if-cells-eq0.false c.after-next.ensures _ _ _ _ c.in_ok-bindings.ensures.bindings_as c.judgment.ensures c.requires.memo_value in
+    (not_late c.in-Some.i c.args.self.now.reader.n.facts c.is_fact.result c.is_fact.ensures (ap not c.if-not-is_fact.false)) c.hyps-own.ensures c.if-own.false)
+    c.if-cells-eq0.false c.after-next.ensures _ _ _ _ c.in_ok-bindings.ensures.bindings_as c.judgment.ensures c.requires.memo_value in
     record { replaceable = a.0; id_in_bounds = a.1 }
 
 pub returns-in_err-bindings-clause-referred_as : goal.returns-in_err-bindings-clause-referred_as
 returns-in_err-bindings-clause-referred_as c = λ g. rw (handed c.from_residual.result c.from_residual.ensures)
     (instance_unbound g (instance_opens g c.if-cells-eq0.false c.index.ensures c.in-Some.is
-      (not_late c.in-Some.i c.args.self.now.reader.n.facts c.is_fact.result c.is_fact.ensures (ap not c.if-not-is_fact.false)) c.hyps-own.ensures c.if-own.false)
-      c.if-cells-eq0.false c.after-next.ensures _ _ _ _ c.in_err-bindings.ensures.bindings_as)
+    (not_late c.in-Some.i c.args.self.now.reader.n.facts c.is_fact.result c.is_fact.ensures (ap not c.if-not-is_fact.false)) c.hyps-own.ensures c.if-own.false)
+    c.if-cells-eq0.false c.after-next.ensures _ _ _ _ c.in_err-bindings.ensures.bindings_as)
 
 pub returns-in_err-term-clause-referred_as : goal.returns-in_err-term-clause-referred_as
 returns-in_err-term-clause-referred_as c = λ g.
     let p = err_from_is_err_and c.from_residual-in_err-term.result c.from_residual-in_err-term.ensures.1 in
     rw (p.1, p.2) (instance_full g (instance_opens g c.if-cells-eq0.false c.index.ensures c.in-Some.is
-      (not_late c.in-Some.i c.args.self.now.reader.n.facts c.is_fact.result c.is_fact.ensures (ap not c.if-not-is_fact.false)) c.hyps-own.ensures c.if-own.false)
-      c.if-cells-eq0.false c.after-next.ensures _ _ _ _ c.in_ok-bindings.ensures.bindings_as c.judgment.ensures _ _ c.in_err-term.ensures.kept.says)
+    (not_late c.in-Some.i c.args.self.now.reader.n.facts c.is_fact.result c.is_fact.ensures (ap not c.if-not-is_fact.false)) c.hyps-own.ensures c.if-own.false)
+    c.if-cells-eq0.false c.after-next.ensures _ _ _ _ c.in_ok-bindings.ensures.bindings_as c.judgment.ensures _ _ c.in_err-term.ensures.kept.says)
 
 pub returns-clause-referred_as : goal.returns-clause-referred_as
 returns-clause-referred_as c = λ g. instance_read g (instance_opens g c.if-cells-eq0.false c.index.ensures c.in-Some.is
-      (not_late c.in-Some.i c.args.self.now.reader.n.facts c.is_fact.result c.is_fact.ensures (ap not c.if-not-is_fact.false)) c.hyps-own.ensures c.if-own.false)
-      c.if-cells-eq0.false c.after-next.ensures _ _ _ _ c.in_ok-bindings.ensures.bindings_as c.judgment.ensures _ _ c.in_ok-term.ensures.kept.says
+    (not_late c.in-Some.i c.args.self.now.reader.n.facts c.is_fact.result c.is_fact.ensures (ap not c.if-not-is_fact.false)) c.hyps-own.ensures c.if-own.false)
+    c.if-cells-eq0.false c.after-next.ensures _ _ _ _ c.in_ok-bindings.ensures.bindings_as c.judgment.ensures _ _ c.in_ok-term.ensures.kept.says

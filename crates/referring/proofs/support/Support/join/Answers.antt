@@ -1,4 +1,3 @@
-use mathlib.Core.Path.{refl}
 use native.Mathlib.Omega.{arith}
 use Rattle.referring.proofs.Joins.{join_asks, hyps_asks, span_low, span_high, span_below, hyps_join, none_join, footing_joins}
 use Rattle.referring.proofs.support.Support.join.Goals as goal
