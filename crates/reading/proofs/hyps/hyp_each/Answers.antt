@@ -53,7 +53,6 @@ pub insert-requires : goal.insert-requires
 insert-requires c = let early = not_late c.in_ok-i.i c.args.n.facts c.is_fact.result c.is_fact.ensures (ap not c.if-not-is_fact.false) in omega
     (arith, early, facts_few c.requires.0, c.loop-item.invariant.wide)
 
-
 pub loop-item-preserved : goal.loop-item-preserved
 loop-item-preserved c = record {
   cells = (here c.loop-item.invariant.cells c.in-Some.ensures.steps).same;

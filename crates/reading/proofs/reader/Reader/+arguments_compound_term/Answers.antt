@@ -39,7 +39,6 @@ arguments-put_argument-requires t c = going_put (c.loop-item.invariant.going c.r
 pub arguments-overflow_add-k : goal.arguments-overflow_add-k
 arguments-overflow_add-k t c = omega (arith, going_high (c.loop-item.invariant.going c.requires.0), c.well_formed.1.1.0)
 
-
 pub arguments-loop-item-preserved : goal.arguments-loop-item-preserved
 arguments-loop-item-preserved t c = record {
   cells = (here c.loop-item.invariant.cells c.in-Some.ensures.steps).same;

@@ -30,7 +30,6 @@ overflow_add-map c = omega (arith, left_fits (c.loop-item.invariant.binds c.requ
 pub overflow_cast-map : goal.overflow_cast-map
 overflow_cast-map c = omega (arith, left_fits (c.loop-item.invariant.binds c.requires.reads_items) (here c.loop-item.invariant.cells c.in-Some.ensures.steps).inside _ _ _ _ (rw (here c.loop-item.invariant.cells c.in-Some.ensures.steps).is at c.binding.ensures).pair_as c.in_ok-pair.was)
 
-
 pub loop-item-preserved : goal.loop-item-preserved
 loop-item-preserved c = record {
   cells = (here c.loop-item.invariant.cells c.in-Some.ensures.steps).same;

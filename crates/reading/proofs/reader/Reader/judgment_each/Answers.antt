@@ -26,7 +26,6 @@ returns-in_err-t-clause-judgments_as c = λ g. rw (handed c.from_residual.result
 pub overflow_add-k : goal.overflow_add-k
 overflow_add-k c = omega (arith, (c.loop-item.invariant.judging c.requires.reads_items).short, (here c.loop-item.invariant.cells c.in-Some.ensures.steps).inside)
 
-
 pub loop-item-preserved : goal.loop-item-preserved
 loop-item-preserved c = record {
   cells = (here c.loop-item.invariant.cells c.in-Some.ensures.steps).same;

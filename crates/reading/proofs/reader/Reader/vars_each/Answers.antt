@@ -72,7 +72,6 @@ overflow_add-k c = omega (
       c.has.ensures c.if-has.false (vars_few c.requires.0),
 )
 
-
 pub loop-item-preserved : goal.loop-item-preserved
 loop-item-preserved c = record {
   cells = (here c.loop-item.invariant.cells c.in-Some.ensures.steps).same;
