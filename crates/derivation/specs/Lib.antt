@@ -1,4 +1,3 @@
-pub mod Applying
 pub mod ItemsOf
 pub mod Laws
 pub mod Stepping

@@ -36,7 +36,7 @@ use Rattle.referring.specs.Sources.{source_names}
 use Rattle.referring.specs.Derived.{RuleItems, RefsRead}
 use Rattle.derivation.specs.declared.items.OneRule.{OneRule}
 use Rattle.derivation.specs.declared.items.Said.{Said}
-use Rattle.derivation.specs.declared.step.References.{References}
+use Rattle.derivation.specs.declared.step.Brought.{Brought}
 use Rattle.derivation.specs.declared.step.Concluded.{Concluded}
 use Rattle.derivation.specs.ItemsOf.{tables_of}
 
@@ -149,11 +149,11 @@ ScopesIn o u s cells ids support =
 
 -- Answers ----------------------------------------------------------------------------------------------------------------------------
 
-abbrev pub RefsBy : List ℕ → List ℕ → List ℕ → List ℕ → Mark → Mark → State → Out Made Refs → List ℕ → ℕ → Result References Question → Type 0
+abbrev pub RefsBy : List ℕ → List ℕ → List ℕ → List ℕ → Mark → Mark → State → Out Made Refs → List ℕ → ℕ → Result Brought Question → Type 0
 RefsBy I W J X old new S K ids many (Ok r) = RefsRead I W J X old S K ids r.support.hyps r.support.footing many r.instances new
 RefsBy I W J X old new S K ids many (Err q) = Stopped I W J X old K (number_of q) (detail_of q) new
 
-abbrev pub RefsAs : Store → Store → State → Out Made Refs → List ℕ → ℕ → Result References Question → Type 0
+abbrev pub RefsAs : Store → Store → State → Out Made Refs → List ℕ → ℕ → Result Brought Question → Type 0
 RefsAs s t S K ids many r = RefsBy s.index.now s.words.now t.index.now t.words.now s.mark t.mark S K ids many r
 
 -- K answers what is used, the set, and the conclusion, term j
@@ -169,9 +169,9 @@ abbrev pub UsedAs : Store → Store → Out Made (Set × Tree) → Result Conclu
 UsedAs s t K r = UsedBy s.index.now s.words.now t.index.now t.words.now s.mark t.mark K r
 
 -- K answers the conclusion; what the references bring is handed on
-abbrev pub ScopedBy : List ℕ → List ℕ → List ℕ → List ℕ → Mark → Mark → Out Made Tree → References → Result Derived Question → Type 0
+abbrev pub ScopedBy : List ℕ → List ℕ → List ℕ → List ℕ → Mark → Mark → Out Made Tree → Brought → Result Derived Question → Type 0
 ScopedBy I W J X old new K brought (Ok d) = TermRead I W J X old K d.judgment new × (d.instances ≡ brought.instances) × (d.support ≡ brought.support)
 ScopedBy I W J X old new K brought (Err q) = Stopped I W J X old K (number_of q) (detail_of q) new
 
-abbrev pub ScopedAs : Store → Store → Out Made Tree → References → Result Derived Question → Type 0
+abbrev pub ScopedAs : Store → Store → Out Made Tree → Brought → Result Derived Question → Type 0
 ScopedAs s t K brought r = ScopedBy s.index.now s.words.now t.index.now t.words.now s.mark t.mark K brought r

@@ -3,7 +3,7 @@ ghost use Rattle.std.specs.Prelude.{◌≡◌, ◌&&◌, List, ℕ, ◌<◌, Non
 ghost use Rattle.rules.specs.Limits.{RULEVARS};
 ghost use Rattle.rules.specs.Lex.{letters};
 ghost use Rattle.rules.specs.Sexp.{Sexps, count, marked};
-ghost use Rattle.rules.specs.Theory.{rule};
+ghost use Rattle.rules.specs.Theory.{rule as rule_in};
 ghost use Rattle.rules.specs.Step.{Items, bind_item, state_item, read_item, read_items, no_items};
 ghost use Rattle.sexp.specs.Encode.{encodes};
 ghost use Rattle.sexp.specs.Items.{Items as SomeItems};
@@ -56,7 +56,7 @@ impl Said {
         requires { ReadsRuleItem reader.now rule.now store.old cells.now self.old × (start < length reader.now.text.now) }
         ensures same_tables { SameTables store.old store.new }
         ensures item_as { (g : ReadsRuleItem reader.now rule.now store.old cells.now self.old) →
-            ItemAs store.old store.new (bind_item g.S (rule g.S.theory rule.now.number) (letters (drop start reader.now.text.now)) g.x g.it (made_of store.old)) self.old self.new result }
+            ItemAs store.old store.new (bind_item g.S (rule_in g.S.theory rule.now.number) (letters (drop start reader.now.text.now)) g.x g.it (made_of store.old)) self.old self.new result }
     {
         let OneRule { rules, number } = *rule;
         let end = lex::atom_end(reader.text, start);
@@ -110,7 +110,7 @@ impl Said {
         requires { ReadsRuleItem reader.now rule.now store.old cells.now self.old }
         ensures same_tables { SameTables store.old store.new }
         ensures item_as { (g : ReadsRuleItem reader.now rule.now store.old cells.now self.old) →
-            ItemAs store.old store.new (read_item g.S (rule g.S.theory rule.now.number) g.x g.it (made_of store.old)) self.old self.new result }
+            ItemAs store.old store.new (read_item g.S (rule_in g.S.theory rule.now.number) g.x g.it (made_of store.old)) self.old self.new result }
     {
         let Item::List(a, b) = items::item_at(cells, 0) else {
             return Err(Question::Spelling);
@@ -139,7 +139,7 @@ pub fn read_items(
     requires { ReadsRuleItems reader.now rule.now store.old cells.now }
     ensures same_tables { SameTables store.old store.new }
     ensures items_as { (g : ReadsRuleItems reader.now rule.now store.old cells.now) →
-        ItemsAs store.old store.new (read_items g.S (rule g.S.theory rule.now.number) g.xs no_items (made_of store.old)) result }
+        ItemsAs store.old store.new (read_items g.S (rule_in g.S.theory rule.now.number) g.xs no_items (made_of store.old)) result }
 {
     let mut said = Said {
         bound: [0; RULEVARS],

@@ -2,6 +2,5 @@
 // the same name in the crate `rules`: answer, question, detail, and the terms made until then, on refusals too.
 #![tactic(auto)]
 
-pub mod apply;
 mod items;
 pub mod step;

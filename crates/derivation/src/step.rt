@@ -4,7 +4,7 @@ ghost use Rattle.rules.specs.Limits.{TERMS, PATTERNS};
 ghost use Rattle.rules.specs.Find.{rising};
 ghost use Rattle.rules.specs.Sexp.{count, rest};
 ghost use Rattle.rules.specs.Tree.{Tree};
-ghost use Rattle.rules.specs.Theory.{rule};
+ghost use Rattle.rules.specs.Theory.{rule as rule_in};
 ghost use Rattle.rules.specs.State.{Fact};
 ghost use Rattle.rules.specs.Step.{references, step, match_stated};
 ghost use Rattle.terms.specs.Table.{args_of};
@@ -34,7 +34,7 @@ use terms::store::{Store, Terms};
 
 // What references bring: how many of them are instances, and what they rest on.
 #[derive(Clone, Copy)]
-pub struct References {
+pub struct Brought {
     pub instances: usize,
     pub support: Support,
 }
@@ -53,7 +53,7 @@ fn references(
     cells: &[u32],
     memo: &mut [u32],
     ids: &mut [u32],
-) -> Result<References, Question>
+) -> Result<Brought, Question>
     requires reads { ReadsForm source.now store.old cells.now 0 }
     requires memo_value { memo.old ≡ replicate TERMS 0 }
     requires few_items { FewItems cells.now (length ids.old) }
@@ -65,15 +65,13 @@ fn references(
     let facts = source.facts();
     let mut support = no_support();
     let mut instances = 0;
-    let mut k = 0;
-    for item in items::all(cells) {
+    for (k, item) in items::all(cells).enumerate() {
         let referred = source.reference(store, item, memo)?;
         ids[k] = referred.judgment as u32;
         support.join(&facts, referred.fact, referred.bare);
         instances += usize::from(!referred.bare);
-        k += 1;
     }
-    Ok(References { instances, support })
+    Ok(Brought { instances, support })
 }
 
 // Whether what is stated, if something is, matches the pattern at a place.
@@ -139,7 +137,7 @@ fn conclude(
     requires { ReadsConclusion reader.now rule.now store.old cells.now ids.now }
     ensures same_tables { SameTables store.old store.new }
     ensures used_as { (g : ReadsConclusion reader.now rule.now store.old cells.now ids.now) → let M = made_of store.old in
-        UsedAs store.old store.new (from_items g.given.S (rule g.given.S.theory rule.now.number) (args_of M ids.now) g.given.xs M) result }
+        UsedAs store.old store.new (from_items g.given.S (rule_in g.given.S.theory rule.now.number) (args_of M ids.now) g.given.xs M) result }
 {
     let said = read_items(reader, rule, store, cells)?;
     let mut seen = [0u64; TERMWORDS];
@@ -230,16 +228,16 @@ fn step_on(
     store: &mut Store<'_>,
     cells: &[u32],
     ids: &[u32],
-    brought: &References,
+    brought: &Brought,
 ) -> Result<Derived, Question>
     requires { ScopesIn source.now rule.now store.old cells.now ids.now brought.now.support }
     ensures same_tables { SameTables store.old store.new }
     ensures scoped_as { (g : ScopesIn source.now rule.now store.old cells.now ids.now brought.now.support) → let M = made_of store.old in
-        ScopedAs store.old store.new (in_scope g.S (rule g.S.theory rule.now.number) (args_of M ids.now) (rising (length g.S.facts) (holds brought.now.support.hyps)) (rest g.xs 4) M) brought.now result }
+        ScopedAs store.old store.new (in_scope g.S (rule_in g.S.theory rule.now.number) (args_of M ids.now) (rising (length g.S.facts) (holds brought.now.support.hyps)) (rest g.xs 4) M) brought.now result }
 {
     let at = items::place(cells, 4);
     let Concluded { judgment, used } = conclude(&source.reader, rule, store, &cells[at..], ids)?;
-    let References { instances, support } = *brought;
+    let Brought { instances, support } = *brought;
     let outside = source
         .facts()
         .outside(&store.terms(), &used, judgment, &support.hyps);
