@@ -1,6 +1,6 @@
 use Rattle.derivation.proofs.RuleFacts.{rule_asks, assumed_is, usable_assumed, refused_assumed, usable_derived, refused_derived}
 use mathlib.Core.Path.{sym, ◌∙◌}
-use Rattle.derivation.proofs.apply.applicable.Goals as goal
+use Rattle.derivation.proofs.apply.Rule.applicable.Goals as goal
 
 pub is_assumed-requires : goal.is_assumed-requires
 is_assumed-requires c = rule_asks c.requires.0

@@ -3,14 +3,14 @@ use native.Mathlib.Omega.{arith}
 use mathlib.Core.Path.{refl, sym}
 use mathlib.Core.Path.{ap}
 use mathlib.Core.Bool.{not}
-use Rattle.derivation.proofs.apply.binds_general.Goals as goal
-use Rattle.derivation.proofs.apply.binds_general.Goals.{else-cell-ne0-via-then-cell-ne0+else-not-has, else-cell-ne0-via-else-cell-ne0}
+use Rattle.derivation.proofs.apply.Rule.binds_general.Goals as goal
+use Rattle.derivation.proofs.apply.Rule.binds_general.Goals.{else-cell-ne0-via-then-cell-ne0+else-not-has, else-cell-ne0-via-else-cell-ne0}
 
 pub general-span-requires : goal.general-span-requires
 general-span-requires c = rule_asks c.requires.0
 
-pub offset_bounds-lists-from : goal.offset_bounds-lists-from
-offset_bounds-lists-from c = omega (arith, general_low c.requires.0 c.general-span.ensures, general_high c.requires.0 c.general-span.ensures, rule_lists_lem c.requires.0)
+pub offset_bounds-facts-from : goal.offset_bounds-facts-from
+offset_bounds-facts-from c = omega (arith, general_low c.requires.0 c.general-span.ensures, general_high c.requires.0 c.general-span.ensures, rule_lists_lem c.requires.0)
 
 pub slice_bounds-insert_all-count : goal.slice_bounds-insert_all-count
 slice_bounds-insert_all-count c = general_low c.requires.0 c.general-span.ensures
