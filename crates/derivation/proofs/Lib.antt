@@ -1,5 +1,12 @@
 pub mod AllItems
+pub mod Applies
+pub mod Concluding
+pub mod Discharging
+pub mod Meeting
 pub mod OneItem
+pub mod PremiseTurn
+pub mod RuleFacts
+pub mod RulePremises
 pub mod StepForm
 pub mod StepIs
 pub mod StepItems

@@ -1,3 +1,4 @@
+pub mod Applying
 pub mod ItemsOf
 pub mod Laws
 pub mod Stepping

@@ -2,5 +2,6 @@
 // the same name in the crate `rules`: answer, question, detail, and the terms made until then, on refusals too.
 #![tactic(auto)]
 
+pub mod apply;
 mod items;
 pub mod step;
