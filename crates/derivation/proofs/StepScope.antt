@@ -35,7 +35,7 @@ use Rattle.reading.specs.Answers.{TermRead}
 use Rattle.referring.specs.Recall.{Refers, Recalls}
 use Rattle.derivation.specs.Stepping.{Concludes, Scopes, UsedRead, concluded, from_items, in_scope}
 use Rattle.referring.specs.Laws.Refers.{refers_went}
-use Rattle.referring.specs.Laws.Scoped.{scoped_yes, scoped_no}
+use Rattle.referring.specs.Laws.Scoped.{least_most, scoped_yes, scoped_no}
 
 -- What is made stays -------------------------------------------------------------------------------------------------------------------
 
@@ -134,7 +134,7 @@ module _ {K : Names} {rules rulevars patterns facts lists : List ℕ} {n : Sizes
       module _ {v : ℕ} (q : (h : Recalls facts lists n J X new) →
           v ≡ least (length h.S.vars) (minus (holds used) (union (variables (tree J X new j)) (hyp_vars h.S.facts (rising (length h.S.facts) (holds hyps)))))) where
         pub scope_fits : v < 2 ^ 32
-        scope_fits = omega (arith, q scope_recalls, least_few (length g.S.vars) (minus (holds used) (union (variables (tree J X new j)) (hyp_vars g.S.facts hypotheses))), g.refers.recorded.rows.row7)
+        scope_fits = omega (arith, q scope_recalls, least_most (length g.S.vars) (minus (holds used) (union (variables (tree J X new j)) (hyp_vars g.S.facts hypotheses))), g.refers.recorded.rows.row7)
 
         pub scope_outside : {w : ℕ} → v ≡ suc w → Stopped I W J X m whole 39 (w + 1) new
         scope_outside {w} h =
