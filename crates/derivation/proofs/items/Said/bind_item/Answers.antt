@@ -18,9 +18,11 @@ pub variable_sort-requires : goal.variable_sort-requires
 variable_sort-requires c = bind_known c.requires.0 c.variables.ensures c.requires.1 c.atom_end-end.ensures c.rule_var_named.ensures c.in-Some.is
 
 pub returns-in_err-term-clause-item_as : goal.returns-in_err-term-clause-item_as
-returns-in_err-term-clause-item_as c = λ g. rw (handed c.from_residual.result c.from_residual.ensures)
-    (bind_refused g c.variables.ensures c.requires.1 c.atom_end-end.ensures c.rule_var_named.ensures c.in-Some.is c.variable_sort.ensures
-    c.in_err-term.ensures.read_as, refl)
+returns-in_err-term-clause-item_as c = λ g. rw (handed c.from_residual.result c.from_residual.ensures) (
+  bind_refused g c.variables.ensures c.requires.1 c.atom_end-end.ensures c.rule_var_named.ensures c.in-Some.is c.variable_sort.ensures
+      c.in_err-term.ensures.read_as,
+  refl,
+)
 
 pub bounds-self-i : goal.bounds-self-i
 bounds-self-i c = omega (
@@ -37,8 +39,11 @@ offset_bounds-self-i c = omega (
 )
 
 pub returns-then-self-i-ne0-clause-item_as : goal.returns-then-self-i-ne0-clause-item_as
-returns-then-self-i-ne0-clause-item_as c = λ g. (bind_twice g c.variables.ensures c.requires.1 c.atom_end-end.ensures c.rule_var_named.ensures c.in-Some.is
-    c.variable_sort.ensures c.in_ok-term.ensures.read_as c.if-self-i-ne0.true, refl)
+returns-then-self-i-ne0-clause-item_as c = λ g. (
+  bind_twice g c.variables.ensures c.requires.1 c.atom_end-end.ensures c.rule_var_named.ensures c.in-Some.is
+      c.variable_sort.ensures c.in_ok-term.ensures.read_as c.if-self-i-ne0.true,
+  refl,
+)
 
 pub overflow_add-self : goal.overflow_add-self
 overflow_add-self c = omega (
