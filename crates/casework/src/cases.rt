@@ -137,18 +137,13 @@ fn read_with(
     requires { ReadsCases reader.now cells.now × Kept reader.now.text.now places.old links.old [] }
     ensures { (g : ReadsCases reader.now cells.now) → CasesAs g.S g.xs result }
 {
-    let mut k = 0;
-    let mut at = 0;
-    // from item to item, which are of different widths
-    while at < cells.len() {
+    for (k, item) in items::all(cells).enumerate() {
         let mut out = [0u32; VARIABLES];
-        let case = read_case(reader, &cells[at..], &mut out)?;
+        let case = read_case(reader, item, &mut out)?;
         let end = lex::atom_end(reader.text, case.start);
         if is_taken(reader.text, cells, k, case.start, end, places, links) {
             return Err(Question::Cases);
         }
-        k += 1;
-        at = items::after(cells, at);
     }
     Ok(())
 }
