@@ -1,18 +1,17 @@
 -- The loop over terms that are put under one substitution, each in turn. Assumes nothing.
-use Rattle.std.specs.Prelude.{◌≡◌, Result, Ok, Err}
-use Rattle.std.proofs.Math.Path.{refl, sym, ap, subst}
+use Rattle.std.specs.Prelude.{◌≡◌}
+use Rattle.std.proofs.Math.Path.{sym, ap, subst}
 use Rattle.std.proofs.Common.{◌∙◌, add-one, drop_of_length-le, drop-cons}
 use mathlib.Core.List.{List, [], ◌∷◌, ◌++◌}
-use Prim.Native.Nat.{ℕ, suc, ◌+◌, ◌<◌, ◌≤◌}
+use Prim.Native.Nat.{ℕ, ◌+◌, ◌<◌, ◌≤◌}
 use native.Mathlib.Omega.{arith}
 use Rattle.std.proofs.Math.ListN.{length, get_or, set, take, drop}
 use lib.ListN.{length-set}
 use lib.Seq.{take_all, take-suc-set}
 use Rattle.rules.specs.Out.{Out, ok, then}
-use Rattle.rules.specs.Tree.{Tree, Trees, more}
+use Rattle.rules.specs.Tree.{Trees, more}
 use Rattle.rules.specs.Store.{Made, substitute, substitutes}
 use Rattle.rules.specs.Laws.Out.{then_then}
-use Rattle.questions.specs.declared.Row.{Row}
 use Rattle.terms.specs.declared.store.Mark.{Mark}
 use Rattle.terms.specs.Table.{made, tree, args_of}
 use Rattle.terms.specs.Subst.{replacement}
