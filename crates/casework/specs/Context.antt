@@ -18,6 +18,7 @@ use Rattle.terms.specs.Subst.{replacement}
 use Rattle.terms.specs.Theta.{Theta}
 use Rattle.terms.specs.Patterns.{bound_of, Cells}
 use Rattle.terms.specs.On.{Went, Stopped}
+use Rattle.kernel.specs.declared.rule_readers.Rules.{Rules}
 use Rattle.kernel.specs.Readers.{FormedRules}
 use Rattle.state.specs.declared.sizes.Sizes.{Sizes}
 use Rattle.state.specs.Held.{records, Recorded}
@@ -26,11 +27,11 @@ use Rattle.questions.specs.Numbers.{row_number, number_of, detail_of}
 use Rattle.questions.specs.declared.Row.{Row}
 use Rattle.questions.specs.declared.Question.{Question}
 use Rattle.terms.specs.declared.store.Store.{Store}
-use Rattle.state.specs.declared.board.Given.{Given}
 use Rattle.referring.specs.declared.source.Facts.{Facts}
 use Rattle.referring.specs.Recall.{fact_of, Recalls}
 use Rattle.casework.specs.declared.context.Grounds.{Grounds}
 use Rattle.casework.specs.declared.context.Allowing.{Allowing}
+use Rattle.casework.specs.declared.context.Renamed.{Renamed}
 
 -- numbers below k
 abbrev pub There : ℕ → List ℕ → Type 0
@@ -178,8 +179,8 @@ pub record RenamedRule (symbols rules patterns : List ℕ) (n : Sizes) (I W : Li
   pub within : Cells m.terms cells
   pub good : Good I W m
 
-abbrev pub RenamedIn : Given → Sizes → Store → ℕ → List ℕ → Type 0
-RenamedIn g n s r cells = RenamedRule g.symbols.now g.rules.rows.now g.rules.patterns.now n s.index.now s.words.now s.mark r cells
+abbrev pub RenamedIn : Rules → List ℕ → Sizes → Store → Renamed → Type 0
+RenamedIn p symbols n s u = RenamedRule symbols p.rows.now p.patterns.now n s.index.now s.words.now s.mark u.rule u.bound.now
 
 -- K answers them, and the set got their numbers
 pub record PremisesRead (I W J X : List ℕ) (old : Mark) (K : Out Made (List Allowed)) (set set' : List ℕ) (new : Mark) : Type 0 where

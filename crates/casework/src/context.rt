@@ -18,13 +18,12 @@ ghost use Rattle.referring.specs.Sources.{RecallsIn};
 ghost use Rattle.casework.specs.Context.{There, Comparing, allowed_as, Adds, ContextAs, UnderAs, one, all_of, under, width_of, ContextIn, MarkedAs, OneMarked, UnboundAs, RestsIn, rests_by, RenamedIn, PremisesAs};
 
 use cells::clear;
-use kernel::rule_readers::{premises as premises_of, words as rule_words};
+use kernel::rule_readers::{Rules, premises as premises_of, words};
 use questions::{Question, Row};
 use referring::scope::visit_cells;
 use referring::source::Facts;
 use referring::substitutes::substitute_all;
 use rules::{FACTWORDS, TERMWORDS, VARIABLES, VARIABLEWORDS};
-use state::board::Given;
 use state::facts::{general, is_assumed, is_plain, judgment, premises};
 use terms::patterns::build;
 use terms::sets::{has, insert};
@@ -46,6 +45,14 @@ pub struct Allowing<'a> {
     pub judgment: usize,
     pub premises: &'a [u32],
     pub general: &'a [u32],
+}
+
+// A rule, with the terms that its variables are renamed to and the unifier, each in cells.
+#[derive(Clone, Copy)]
+pub struct Renamed<'a> {
+    pub rule: usize,
+    pub bound: &'a [u32],
+    pub theta: &'a [u32],
 }
 
 // Nothing is allowed yet.
@@ -254,29 +261,27 @@ pub fn context_facts<'a>(
     Ok(more)
 }
 
-// The premises of rule r, whose variables the cells bind, each renamed and then under the unifier: they join the set of terms. `memo` is scratch: zero
-// before and after.
+// The premises of a rule, renamed and then under the unifier, each in turn: they join the set of terms. `memo` is scratch: zero before and after.
 pub fn rule_premises<'a>(
-    given: &Given<'_>,
+    rules: &Rules<'_>,
+    symbols: &[u32],
     store: &mut Store<'_>,
-    r: usize,
-    bound: &[u32],
-    theta: &[u32],
+    renamed: &Renamed<'_>,
     memo: &mut [u32],
     grounds: Grounds<'a>,
 ) -> Result<Grounds<'a>, Question>
-    requires { ((n : Sizes) × RenamedIn given.now n store.old r bound.now) × Theta store.old.mark theta.now × (memo.old ≡ replicate TERMS 0) }
+    requires { ((n : Sizes) × RenamedIn rules.now symbols.now n store.old renamed.now) × Theta store.old.mark renamed.now.theta.now × (memo.old ≡ replicate TERMS 0) }
     ensures same_tables { SameTables store.old store.new }
-    ensures premises_as { (n : Sizes) (g : RenamedIn given.now n store.old r bound.now) →
+    ensures premises_as { (n : Sizes) (g : RenamedIn rules.now symbols.now n store.old renamed.now) →
         PremisesAs store.old store.new
-        (rule_premises (renaming g.xs) (along (bindings (made_of store.old) theta.now 0)) (rule g.T r).premises (made_of store.old)) grounds result }
+        (rule_premises (renaming g.xs) (along (bindings (made_of store.old) renamed.now.theta.now 0)) (rule g.T renamed.now.rule).premises (made_of store.old)) grounds result }
     ensures memo_unchanged { memo.new ≡ memo.old }
 {
-    let mut place = rule_words(given.rules.rows, r).from;
+    let mut place = words(rules.rows, renamed.rule).from;
     let mut more = grounds;
-    for _ in 0..premises_of(given.rules.rows, r) {
-        let premise = build(given.symbols, given.rules.patterns, store, bound, place)?;
-        let t = substitute(store, theta, memo, premise.term)?;
+    for _ in 0..premises_of(rules.rows, renamed.rule) {
+        let premise = build(symbols, rules.patterns, store, renamed.bound, place)?;
+        let t = substitute(store, renamed.theta, memo, premise.term)?;
         insert(&mut more.plain, t);
         place = premise.end;
     }
