@@ -1,6 +1,6 @@
 -- What a case of `invert` may rest on, by numbers of terms: the allowed facts without premises and generalised variables are a set of their
 -- judgments, the others are compared with the facts that the case rests on, one by one. Assumes nothing.
-use Rattle.std.specs.Prelude.{◌≡◌, Bool, true, false, ◌&&◌, List, [], ◌∷◌, ℕ, ◌-◌, ◌<◌, ◌≤◌, length, get_or, take, replicate, Some as some, Result, Ok, Err}
+use Rattle.std.specs.Prelude.{◌≡◌, Bool, true, false, ◌&&◌, List, [], ◌∷◌, ℕ, ◌<◌, ◌≤◌, length, get_or, replicate, Some as some, Result, Ok, Err}
 use Rattle.rules.specs.Limits.{TERMS}
 use Rattle.rules.specs.Out.{Out, Act, ◌>>=◌, pure}
 use Rattle.rules.specs.Find.{Set, union, has, any}
@@ -14,7 +14,6 @@ use Rattle.rules.specs.Laws.Store.{Apart}
 use Rattle.terms.specs.declared.store.Mark.{Mark}
 use Rattle.terms.specs.Table.{made, args_of, Good}
 use Rattle.terms.specs.Sets.{holds, plus}
-use Rattle.terms.specs.Subst.{replacement}
 use Rattle.terms.specs.Theta.{Theta}
 use Rattle.terms.specs.Patterns.{bound_of, Cells}
 use Rattle.terms.specs.On.{Went, Stopped}
@@ -22,7 +21,6 @@ use Rattle.kernel.specs.declared.rule_readers.Rules.{Rules}
 use Rattle.kernel.specs.Readers.{FormedRules}
 use Rattle.state.specs.declared.sizes.Sizes.{Sizes}
 use Rattle.state.specs.Held.{records, Recorded}
-use Rattle.state.specs.Rows.{premises_span}
 use Rattle.questions.specs.Numbers.{row_number, number_of, detail_of}
 use Rattle.questions.specs.declared.Row.{Row}
 use Rattle.questions.specs.declared.Question.{Question}
@@ -121,10 +119,6 @@ under σ f = do
   ps ← substitutes σ f.premises
   j ← substitute σ f.judgment
   pure (record { premises = ps; judgment = j; general = f.general })
-
--- how many premises fact h has
-abbrev pub width_of : List ℕ → ℕ → ℕ
-width_of facts h = (premises_span facts h).end - (premises_span facts h).from
 
 -- what a fact of the context is put under, and the facts that the case rests on
 pub record ContextGiven (facts lists : List ℕ) (n : Sizes) (I W : List ℕ) (m : Mark) (map memo own : List ℕ) : Type 0 where

@@ -31,11 +31,7 @@ pub struct CaseRead {
 }
 
 // The case that the first item spells; its variables come into the cells, which are zero before, and afterwards where it is refused.
-pub fn read_case(
-    reader: &Reader<'_>,
-    cells: &[u32],
-    out: &mut [u32],
-) -> Result<CaseRead, Question>
+pub fn read_case(reader: &Reader<'_>, cells: &[u32], out: &mut [u32]) -> Result<CaseRead, Question>
     requires { ReadsCase reader.now cells.now × (out.old ≡ replicate VARIABLES 0) }
     ensures { (g : ReadsCase reader.now cells.now) → CaseAs g.S reader.now.text.now g.x out.old out.new result }
 {

@@ -1,10 +1,10 @@
 // What a case of `invert` may rest on: the rule's premises and the facts of the context, under the unifier. Those without premises and generalised
 // variables are a set of terms; each other one is compared with the facts that the case rests on (question 44), which come into a set.
-ghost use Rattle.std.specs.Prelude.{◌≡◌, List, ◌<◌, ◌≤◌, length, replicate};
+ghost use Rattle.std.specs.Prelude.{◌≡◌, List, ℕ, ◌<◌, length, replicate};
 ghost use Rattle.rules.specs.Limits.{VARIABLES, TERMS, TERMWORDS, FACTWORDS};
 ghost use Rattle.rules.specs.Find.{all};
 ghost use Rattle.rules.specs.Theory.{rule};
-ghost use Rattle.rules.specs.State.{Fact};
+ghost use Rattle.rules.specs.Store.{Made};
 ghost use Rattle.rules.specs.Unify.{along};
 ghost use Rattle.rules.specs.Invert.{Allowed, is_allowed, clear, context_fact, context_facts, rule_premises, renaming};
 ghost use Rattle.terms.specs.Table.{made};
@@ -13,18 +13,20 @@ ghost use Rattle.terms.specs.Sets.{holds};
 ghost use Rattle.terms.specs.Subst.{replacement};
 ghost use Rattle.terms.specs.Theta.{bindings, Theta};
 ghost use Rattle.state.specs.declared.sizes.Sizes.{Sizes};
-ghost use Rattle.referring.specs.Recall.{fact_of};
+ghost use Rattle.state.specs.Entries.{part};
+ghost use Rattle.state.specs.Rows.{premises_span, general_span};
+ghost use Rattle.referring.specs.Recall.{fact_of, RecallsFact};
 ghost use Rattle.referring.specs.Sources.{RecallsIn};
-ghost use Rattle.casework.specs.Context.{There, Comparing, allowed_as, Adds, ContextAs, UnderAs, one, all_of, under, width_of, ContextIn, MarkedAs, OneMarked, UnboundAs, RestsIn, rests_by, RenamedIn, PremisesAs};
+ghost use Rattle.casework.specs.Context.{There, Comparing, allowed_as, plainly, Adds, ContextAs, UnderAs, one, all_of, under, ContextIn, MarkedAs, OneMarked, UnboundAs, RestsIn, rests_by, RenamedIn, PremisesAs};
 
 use cells::clear;
-use kernel::rule_readers::{Rules, premises as premises_of, words};
+use kernel::rule_readers::{Rules, premises as premise_count, words};
 use questions::{Question, Row};
 use referring::scope::visit_cells;
 use referring::source::Facts;
 use referring::substitutes::substitute_all;
 use rules::{FACTWORDS, TERMWORDS, VARIABLES, VARIABLEWORDS};
-use state::facts::{general, is_assumed, is_plain, judgment, premises};
+use state::facts::{Span, general, is_assumed, is_plain, judgment, premises};
 use terms::patterns::build;
 use terms::sets::{has, insert};
 use terms::store::{Store, Terms};
@@ -66,6 +68,24 @@ pub fn no_grounds(own: &[u32]) -> Grounds<'_>
     }
 }
 
+// The premises of fact h.
+fn premises_of<'a>(facts: &Facts<'a>, h: usize) -> &'a [u32]
+    requires { (footings : List ℕ) × RecallsFact facts.now.rows.now footings facts.now.lists.now h }
+    ensures { result.now ≡ part facts.now.lists.now (premises_span facts.now.rows.now h) }
+{
+    let Span { from, end } = premises(facts.rows, h);
+    &facts.lists[from..end]
+}
+
+// Its generalised variables.
+fn general_of<'a>(facts: &Facts<'a>, h: usize) -> &'a [u32]
+    requires { (footings : List ℕ) × RecallsFact facts.now.rows.now footings facts.now.lists.now h }
+    ensures { result.now ≡ part facts.now.lists.now (general_span facts.now.rows.now h) }
+{
+    let Span { from, end } = general(facts.rows, h);
+    &facts.lists[from..end]
+}
+
 // Whether fact h has that judgment, those premises and generalised variables.
 fn is_row(facts: &Facts<'_>, h: usize, allowing: &Allowing<'_>) -> bool
     requires { Comparing facts.now allowing.now × (h < facts.now.n.facts) }
@@ -74,16 +94,7 @@ fn is_row(facts: &Facts<'_>, h: usize, allowing: &Allowing<'_>) -> bool
     if judgment(facts.rows, h) != allowing.judgment {
         return false;
     }
-    let own = premises(facts.rows, h);
-    let from = own.from;
-    let end = own.end;
-    if allowing.premises != &facts.lists[from..end] {
-        return false;
-    }
-    let bound = general(facts.rows, h);
-    let first = bound.from;
-    let last = bound.end;
-    allowing.general == &facts.lists[first..last]
+    allowing.premises == premises_of(facts, h) && allowing.general == general_of(facts, h)
 }
 
 // Fact h joins the set where it has that judgment, those premises and generalised variables.
@@ -108,15 +119,22 @@ fn mark_rests(facts: &Facts<'_>, own: &[u32], allowing: &Allowing<'_>, fine: &mu
     }
 }
 
+// Whether it has neither premises nor generalised variables.
+fn is_bare(allowing: &Allowing<'_>) -> bool
+    ensures { (M : Made) → result ≡ plainly (allowed_as M allowing.now) }
+{
+    allowing.premises.is_empty() && allowing.general.is_empty()
+}
+
 // What a fact of the context allows joins the sets.
 fn allow<'a>(facts: &Facts<'_>, allowing: &Allowing<'_>, grounds: Grounds<'a>) -> Grounds<'a>
     requires { Comparing facts.now allowing.now × There facts.now.n.facts grounds.own.now }
-    ensures { (g : Comparing facts.now allowing.now) →
-        Adds (made g.index g.words g.mark) g.recalls.S grounds.own.now grounds.plain result.plain grounds.fine result.fine (one (allowed_as (made g.index g.words g.mark) allowing.now)) }
-    ensures own { result.own ≡ grounds.own }
+    ensures adds { (g : Comparing facts.now allowing.now) →
+        Adds (made g.index g.words g.mark) g.recalls.S grounds.entry.own.now grounds.entry.plain result.plain grounds.entry.fine result.fine (one (allowed_as (made g.index g.words g.mark) allowing.now)) }
+    ensures own { result.own ≡ grounds.entry.own }
 {
     let mut more = grounds;
-    if allowing.premises.is_empty() && allowing.general.is_empty() {
+    if is_bare(allowing) {
         insert(&mut more.plain, allowing.judgment);
         return more;
     }
@@ -124,8 +142,8 @@ fn allow<'a>(facts: &Facts<'_>, allowing: &Allowing<'_>, grounds: Grounds<'a>) -
     more
 }
 
-// Fact h of the context under the substitution `map`, and what it allows. `memo` is scratch: zero before and after; `ids` has a cell for each premise of the
-// fact, of whatever content before and after.
+// Fact h of the context under the substitution `map`, and what it allows. `memo` is scratch: zero before and after; `ids` has a cell for each of the
+// fact's premises, of whatever content before and after.
 fn fact_under<'a>(
     facts: &Facts<'_>,
     store: &mut Store<'_>,
@@ -135,25 +153,18 @@ fn fact_under<'a>(
     ids: &mut [u32],
     grounds: Grounds<'a>,
 ) -> Result<Grounds<'a>, Row>
-    requires { ContextIn facts.now store.old map.now memo.old grounds × (h < facts.now.n.facts) × (width_of facts.now.rows.now h ≤ length ids.old) }
+    requires { ContextIn facts.now store.old map.now memo.old grounds × (h < facts.now.n.facts) × (length ids.old ≡ length (part facts.now.lists.now (premises_span facts.now.rows.now h))) }
     ensures same_tables { SameTables store.old store.new }
     ensures under_as { (g : RecallsIn facts.now (terms_of store.old)) →
-        UnderAs Allowed store.old store.new g.S (under (replacement (made_of store.old) map.now) (fact_of g.S h) (made_of store.old)) one grounds result }
+        UnderAs Allowed store.old store.new g.S (under (replacement (made_of store.old) map.now) (fact_of g.S h) (made_of store.old)) one grounds.entry result }
     ensures memo_unchanged { memo.new ≡ memo.old }
 {
-    let span = premises(facts.rows, h);
-    let from = span.from;
-    let end = span.end;
-    substitute_all(store, map, memo, &facts.lists[from..end], ids)?;
+    substitute_all(store, map, memo, premises_of(facts, h), ids)?;
     let judgment = substitute(store, map, memo, judgment(facts.rows, h))?;
-    let bound = general(facts.rows, h);
-    let first = bound.from;
-    let last = bound.end;
-    let many = end - from;
     let allowing = Allowing {
         judgment,
-        premises: &ids[..many],
-        general: &facts.lists[first..last],
+        premises: ids,
+        general: general_of(facts, h),
     };
     Ok(allow(facts, &allowing, grounds))
 }
@@ -171,11 +182,10 @@ fn context_under<'a>(
     requires { ContextIn facts.now store.old map.now memo.old grounds × (h < facts.now.n.facts) × (ids.old ≡ replicate 40960 0) }
     ensures same_tables { SameTables store.old store.new }
     ensures under_as { (g : RecallsIn facts.now (terms_of store.old)) →
-        UnderAs Allowed store.old store.new g.S (under (replacement (made_of store.old) map.now) (fact_of g.S h) (made_of store.old)) one grounds result }
+        UnderAs Allowed store.old store.new g.S (under (replacement (made_of store.old) map.now) (fact_of g.S h) (made_of store.old)) one grounds.entry result }
     ensures memo_unchanged { (memo.new ≡ memo.old) × (ids.new ≡ ids.old) }
 {
-    let span = premises(facts.rows, h);
-    let many = span.end - span.from;
+    let many = premises_of(facts, h).len();
     let answer = fact_under(facts, store, map, memo, h, &mut ids[..many], grounds);
     clear(&mut ids[..many]);
     answer
@@ -220,19 +230,17 @@ fn context_fact<'a>(
     requires { ContextIn facts.now store.old theta.now memo.old grounds × (h < facts.now.n.facts) × (ids.old ≡ replicate 40960 0) }
     ensures same_tables { SameTables store.old store.new }
     ensures context_as { (g : RecallsIn facts.now (terms_of store.old)) →
-        ContextAs Allowed store.old store.new g.S (context_fact (bindings (made_of store.old) theta.now 0) (fact_of g.S h) (made_of store.old)) one grounds result }
+        ContextAs Allowed store.old store.new g.S (context_fact (bindings (made_of store.old) theta.now 0) (fact_of g.S h) (made_of store.old)) one grounds.entry result }
     ensures memo_unchanged { (memo.new ≡ memo.old) × (ids.new ≡ ids.old) }
 {
-    let bound = general(facts.rows, h);
-    let from = bound.from;
-    let end = bound.end;
-    if from == end {
+    let variables = general_of(facts, h);
+    if variables.is_empty() {
         return Ok(context_under(facts, store, theta, memo, h, ids, grounds)?);
     }
     let mut zeta = [0u32; VARIABLES];
     zeta.copy_from_slice(theta);
-    unbind(&facts.lists[from..end], &mut zeta);
-    if !is_clear(&store.terms(), &zeta, &facts.lists[from..end]) {
+    unbind(variables, &mut zeta);
+    if !is_clear(&store.terms(), &zeta, variables) {
         return Err(Question::Captured);
     }
     Ok(context_under(facts, store, &zeta, memo, h, ids, grounds)?)
@@ -251,7 +259,7 @@ pub fn context_facts<'a>(
     requires { ContextIn facts.now store.old theta.now memo.old grounds × There facts.now.n.facts context.now × (ids.old ≡ replicate 40960 0) }
     ensures same_tables { SameTables store.old store.new }
     ensures context_as { (g : RecallsIn facts.now (terms_of store.old)) →
-        ContextAs (List Allowed) store.old store.new g.S (context_facts g.S (bindings (made_of store.old) theta.now 0) context.now (made_of store.old)) all_of grounds result }
+        ContextAs (List Allowed) store.old store.new g.S (context_facts g.S (bindings (made_of store.old) theta.now 0) context.now (made_of store.old)) all_of grounds.entry result }
     ensures memo_unchanged { (memo.new ≡ memo.old) × (ids.new ≡ ids.old) }
 {
     let mut more = grounds;
@@ -274,12 +282,12 @@ pub fn rule_premises<'a>(
     ensures same_tables { SameTables store.old store.new }
     ensures premises_as { (n : Sizes) (g : RenamedIn rules.now symbols.now n store.old renamed.now) →
         PremisesAs store.old store.new
-        (rule_premises (renaming g.xs) (along (bindings (made_of store.old) renamed.now.theta.now 0)) (rule g.T renamed.now.rule).premises (made_of store.old)) grounds result }
+        (rule_premises (renaming g.xs) (along (bindings (made_of store.old) renamed.now.theta.now 0)) (rule g.T renamed.now.rule).premises (made_of store.old)) grounds.entry result }
     ensures memo_unchanged { memo.new ≡ memo.old }
 {
     let mut place = words(rules.rows, renamed.rule).from;
     let mut more = grounds;
-    for _ in 0..premises_of(rules.rows, renamed.rule) {
+    for _ in 0..premise_count(rules.rows, renamed.rule) {
         let premise = build(symbols, rules.patterns, store, renamed.bound, place)?;
         let t = substitute(store, renamed.theta, memo, premise.term)?;
         insert(&mut more.plain, t);
