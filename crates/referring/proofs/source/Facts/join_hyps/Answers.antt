@@ -24,8 +24,8 @@ slice_bounds-id-items-end c =
 
 pub join_free-requires-clause-recalls : goal.join_free-requires-clause-recalls
 join_free-requires-clause-recalls c = joining_ready c.loop-id.invariant c.requires.recalls.0 c.requires.recalls.1 c.requires.hyps_len.0
-      (members_out c.args.hyps.now c.requires.hyps_len.0 c.write_out-count.ensures.0 c.write_out-count.ensures.1)
-      c.requires.hyps_len.1 c.requires.hyps_len.2 c.loop-id-test.true
+    (members_out c.args.hyps.now c.requires.hyps_len.0 c.write_out-count.ensures.0 c.write_out-count.ensures.1)
+    c.requires.hyps_len.1 c.requires.hyps_len.2 c.loop-id-test.true
 
 pub loop-id-preserved : goal.loop-id-preserved
 loop-id-preserved c = joining_on c.loop-id.invariant c.requires.recalls.0 c.requires.recalls.1 c.requires.hyps_len.0

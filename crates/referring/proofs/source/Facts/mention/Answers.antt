@@ -31,7 +31,7 @@ slice_bounds-visit_all-end c = omega (
 
 pub visit_all-requires-clause-readable_all : goal.visit_all-requires-clause-readable_all
 visit_all-requires-clause-readable_all c = premises_ready c.requires.recalls.0 c.requires.recalls.1 c.premises-own.ensures (c.visit.auto.seen ∙ c.requires.recalls.2)
-      (c.visit.auto.set ∙ c.requires.recalls.3)
+    (c.visit.auto.set ∙ c.requires.recalls.3)
 
 pub returns : goal.returns
 returns c = λ g. mention_done g c.requires.recalls.1 c.premises-own.ensures c.judgment.ensures c.visit.ensures c.visit_all.ensures
