@@ -28,12 +28,6 @@ returns-in_default-nth-clause-derived_as c = λ g. form_atom_lem g c.place-at.en
 pub offset_bounds-cells-a : goal.offset_bounds-cells-a
 offset_bounds-cells-a c = let l = form_list c.requires.reads c.place-at.ensures c.index.ensures c.in-Some.is c.nth.ensures c.in-List.is in omega (arith, l.low, l.high)
 
-pub slice_bounds-bindings-count : goal.slice_bounds-bindings-count
-slice_bounds-bindings-count c = (form_list c.requires.reads c.place-at.ensures c.index.ensures c.in-Some.is c.nth.ensures c.in-List.is).low
-
-pub slice_bounds-bindings-start : goal.slice_bounds-bindings-start
-slice_bounds-bindings-start c = (form_list c.requires.reads c.place-at.ensures c.index.ensures c.in-Some.is c.nth.ensures c.in-List.is).low
-
 pub slice_bounds-bindings-end : goal.slice_bounds-bindings-end
 slice_bounds-bindings-end c = (form_list c.requires.reads c.place-at.ensures c.index.ensures c.in-Some.is c.nth.ensures c.in-List.is).high
 

@@ -1,4 +1,4 @@
-use Rattle.derivation.proofs.RulePremises.{own_low, own_count, rests_low, rests_count}
+use Rattle.derivation.proofs.RulePremises.{own_count, rests_count}
 use Rattle.derivation.proofs.RuleFacts.{rule_asks}
 use Rattle.derivation.proofs.apply.premises_of.Goals as goal
 
@@ -8,17 +8,11 @@ is_assumed-requires c = rule_asks c.requires
 pub premises-own-requires : goal.premises-own-requires
 premises-own-requires c = rule_asks c.requires
 
-pub overflow_sub-result : goal.overflow_sub-result
-overflow_sub-result c = own_low c.requires c.is_assumed.ensures c.if-is_assumed.true c.premises-own.ensures
-
 pub returns-then-is_assumed : goal.returns-then-is_assumed
 returns-then-is_assumed c = own_count c.requires c.is_assumed.ensures c.if-is_assumed.true c.premises-own.ensures
 
 pub hyps-own-requires : goal.hyps-own-requires
 hyps-own-requires c = rule_asks c.requires
-
-pub overflow_sub-result-2 : goal.overflow_sub-result-2
-overflow_sub-result-2 c = rests_low c.requires c.is_assumed.ensures c.if-is_assumed.false c.hyps-own.ensures
 
 pub returns : goal.returns
 returns c = rests_count c.requires c.is_assumed.ensures c.if-is_assumed.false c.hyps-own.ensures

@@ -27,12 +27,6 @@ returns-in_default-clause-derived_as c = λ g. rule_atom g c.requires.theta.0 _ 
 pub offset_bounds-cells-a : goal.offset_bounds-cells-a
 offset_bounds-cells-a c = let l = rule_list_lem c.requires.reads c.requires.theta.0 _ c.is_fact.ensures (ap not c.if-not-is_fact.false) (rw c.facts-facts.ensures at c.in_ok-applicable.ensures) c.nth.ensures c.in-List.is in omega (arith, l.low, l.high)
 
-pub slice_bounds-inner-count : goal.slice_bounds-inner-count
-slice_bounds-inner-count c = (rule_list_lem c.requires.reads c.requires.theta.0 _ c.is_fact.ensures (ap not c.if-not-is_fact.false) (rw c.facts-facts.ensures at c.in_ok-applicable.ensures) c.nth.ensures c.in-List.is).low
-
-pub slice_bounds-inner-start : goal.slice_bounds-inner-start
-slice_bounds-inner-start c = (rule_list_lem c.requires.reads c.requires.theta.0 _ c.is_fact.ensures (ap not c.if-not-is_fact.false) (rw c.facts-facts.ensures at c.in_ok-applicable.ensures) c.nth.ensures c.in-List.is).low
-
 pub slice_bounds-inner-end : goal.slice_bounds-inner-end
 slice_bounds-inner-end c = (rule_list_lem c.requires.reads c.requires.theta.0 _ c.is_fact.ensures (ap not c.if-not-is_fact.false) (rw c.facts-facts.ensures at c.in_ok-applicable.ensures) c.nth.ensures c.in-List.is).high
 

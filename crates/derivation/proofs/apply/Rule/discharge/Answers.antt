@@ -1,5 +1,5 @@
 use native.Mathlib.Omega.{arith}
-use mathlib.Core.Path.{refl, sym, ◌∙◌}
+use mathlib.Core.Path.{refl, ◌∙◌}
 use Rattle.rules.specs.Limits.{VARIABLEWORDS}
 use Rattle.kernel.proofs.Handed.{handed}
 use Rattle.sexp.specs.Each.{here, over}
@@ -32,18 +32,12 @@ met-requires c =
       theta = (left_theta (c.loop-k.invariant.left c.requires.rule_use) h.inside, left_there (c.loop-k.invariant.left c.requires.rule_use) h.inside p, c.loop-k.invariant.memo);
     }
 
-pub returns-in_err-referred-clause-same_tables : goal.returns-in_err-referred-clause-same_tables
-returns-in_err-referred-clause-same_tables c = (c.met.ensures.same_tables.0 ∙ c.loop-k.invariant.tables.0, c.met.ensures.same_tables.1 ∙ c.loop-k.invariant.tables.1)
-
 pub returns-in_err-referred-clause-discharged_as : goal.returns-in_err-referred-clause-discharged_as
 returns-in_err-referred-clause-discharged_as c = λ g.
     let e = c.in-Some.ensures.steps in
     let h = here c.loop-k.invariant.cells e.0 in
     let p = rw (c.facts-facts.ensures, e.1) at c.premise-p.ensures in
     rw (handed c.from_residual.result c.from_residual.ensures) (left_refused (c.loop-k.invariant.left g) h.inside p _ _ (rw h.is at c.in_err-referred.ensures.referred_as))
-
-pub returns-in_err-referred-clause-memo_unchanged : goal.returns-in_err-referred-clause-memo_unchanged
-returns-in_err-referred-clause-memo_unchanged c = c.met.ensures.memo_unchanged ∙ c.loop-k.invariant.memo ∙ sym c.requires.blank.0
 
 pub join-requires : goal.join-requires
 join-requires c =
@@ -74,11 +68,5 @@ loop-k-preserved c =
           ((rw c.facts-facts.ensures at c.join.ensures) (left_join (c.loop-k.invariant.left g) h.inside p _ _ (rw h.is at c.in_ok-referred.ensures.referred_as))) (rw c.terms.ensures at c.visit.ensures) h.behind);
     }
 
-pub returns-clause-same_tables : goal.returns-clause-same_tables
-returns-clause-same_tables c = c.loop-k.invariant.tables
-
 pub returns-clause-discharged_as : goal.returns-clause-discharged_as
 returns-clause-discharged_as c = λ g. left_done (c.loop-k.invariant.left g) (over c.loop-k.invariant.cells c.in-None.ensures.steps.0)
-
-pub returns-clause-memo_unchanged : goal.returns-clause-memo_unchanged
-returns-clause-memo_unchanged c = c.loop-k.invariant.memo ∙ sym c.requires.blank.0
