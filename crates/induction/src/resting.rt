@@ -13,10 +13,7 @@ ghost use Rattle.induction.specs.Inducing.{hyps_in, row_among, RestingIn, case_f
 use crate::motive::Rows;
 use questions::Question;
 use referring::source::Facts;
-use state::facts::{
-    general, hyps as hyps_of, is_assumed, is_fact, is_plain, judgment as judgment_of,
-    premises as premises_of,
-};
+use state::facts::{is_assumed, is_fact, is_plain, judgment};
 use terms::sets::has;
 
 // Plain hypotheses whose judgments are in the set of terms, and rule hypotheses that are an induction hypothesis, over variables that are in the other set,
@@ -68,17 +65,10 @@ impl Allowed<'_> {
         if !is_assumed(facts.rows, h) {
             return false;
         }
-        let own = general(facts.rows, h);
-        let from = own.from;
-        let end = own.end;
-        if !self.generalises(&facts.lists[from..end]) {
+        if !self.generalises(facts.general(h)) {
             return false;
         }
-        let ps = premises_of(facts.rows, h);
-        let first = ps.from;
-        let last = ps.end;
-        self.rows
-            .has(&facts.lists[first..last], judgment_of(facts.rows, h))
+        self.rows.has(facts.premises(h), judgment(facts.rows, h))
     }
 
     // Whether it may rest on hypothesis h.
@@ -88,7 +78,7 @@ impl Allowed<'_> {
             result ≡ allowed_hyp g.M g.ps (hyps_in (made g.I g.W g.m) self.now.rows.width self.now.rows.many self.now.rows.cells.now) (entry g.S.facts h) }
     {
         if is_plain(facts.rows, h) {
-            return has(self.plain, judgment_of(facts.rows, h));
+            return has(self.plain, judgment(facts.rows, h));
         }
         self.rule(facts, h)
     }
@@ -99,10 +89,7 @@ impl Allowed<'_> {
         ensures { (g : RestingIn facts.now self.now) →
             result ≡ all (λ h. allowed_hyp g.M g.ps (hyps_in (made g.I g.W g.m) self.now.rows.width self.now.rows.many self.now.rows.cells.now) (entry g.S.facts h)) (fact_of g.S i).hyps }
     {
-        let own = hyps_of(facts.rows, i);
-        let from = own.from;
-        let end = own.end;
-        for h in &facts.lists[from..end] {
+        for h in facts.hyps(i) {
             if !self.hyp(facts, *h as usize) {
                 return false;
             }
@@ -110,16 +97,16 @@ impl Allowed<'_> {
         true
     }
 
-    // Whether fact i is there, is the case's judgment, and rests on what it may.
-    pub fn case_fact(&self, facts: &Facts<'_>, i: usize, judgment: usize) -> Result<(), Question>
+    // Whether fact i is there, concludes t, and rests on what it may.
+    pub fn case_fact(&self, facts: &Facts<'_>, i: usize, t: usize) -> Result<(), Question>
         requires { RestingIn facts.now self.now }
-        ensures { (g : RestingIn facts.now self.now) → judgment < g.m.terms →
-            case_fact g.S g.M g.ps (hyps_in (made g.I g.W g.m) self.now.rows.width self.now.rows.many self.now.rows.cells.now) i (tree g.I g.W g.m judgment) (made g.I g.W g.m) ≡ asked result (made g.I g.W g.m) }
+        ensures { (g : RestingIn facts.now self.now) → t < g.m.terms →
+            case_fact g.S g.M g.ps (hyps_in (made g.I g.W g.m) self.now.rows.width self.now.rows.many self.now.rows.cells.now) i (tree g.I g.W g.m t) (made g.I g.W g.m) ≡ asked result (made g.I g.W g.m) }
     {
         if !is_fact(facts.n, i) {
             return Err(Question::Earlier);
         }
-        if judgment_of(facts.rows, i) != judgment {
+        if judgment(facts.rows, i) != t {
             return Err(Question::CaseJudgment);
         }
         if !self.hyps(facts, i) {

@@ -1,27 +1,14 @@
-use native.Mathlib.Omega.{arith}
-use Rattle.state.specs.FactLaws.{lists_long}
-use Rattle.induction.proofs.Allowed.{rest_facts, hyps_low, hyps_high, allows_start, allowing_here, allowing_not, allowing_again, allowing_done}
-use borrow.Author.Tests.{not-true, not-false}
 use mathlib.Core.Path.{ap}
 use mathlib.Core.Bool.{not}
+use borrow.Author.Tests.{not-true, not-false}
+use Rattle.induction.proofs.Allowed.{rest_entries, allows_start, allowing_here, allowing_not, allowing_again, allowing_done}
 use Rattle.induction.proofs.resting.Allowed.hyps.Goals as goal
 
-pub hyps-own-requires : goal.hyps-own-requires
-hyps-own-requires c = rest_facts c.requires.0 c.requires.1
-
-pub offset_bounds-facts-from : goal.offset_bounds-facts-from
-offset_bounds-facts-from c = omega (
-  arith,
-  hyps_low c.requires.0 c.args.i c.requires.1 c.hyps-own.result c.hyps-own.ensures,
-  hyps_high c.requires.0 c.args.i c.requires.1 c.hyps-own.result c.hyps-own.ensures,
-  lists_long c.requires.0.recorded,
-)
-
-pub slice_bounds-h-items-end : goal.slice_bounds-h-items-end
-slice_bounds-h-items-end c = hyps_high c.requires.0 c.args.i c.requires.1 c.hyps-own.result c.hyps-own.ensures
+pub hyps-h-items-requires : goal.hyps-h-items-requires
+hyps-h-items-requires c = rest_entries c.requires.0 _ c.requires.1
 
 pub loop-h-init : goal.loop-h-init
-loop-h-init c = allows_start c.hyps-own.result c.hyps-own.ensures
+loop-h-init c = allows_start c.hyps-h-items.ensures
 
 pub hyp-requires : goal.hyp-requires
 hyp-requires c = (c.requires.0, allowing_here (c.loop-h.invariant c.requires.0 c.requires.1) c.loop-h-test.true)
