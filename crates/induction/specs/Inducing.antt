@@ -36,15 +36,21 @@ abbrev pub Below : ℕ → List ℕ → Type 0
 Below n xs = (k : ℕ) → k < length xs → get_or xs k 0 < n
 
 -- K answers, or refuses; what is answered is of no use
-abbrev pub PassedAs : List ℕ → List ℕ → List ℕ → List ℕ → Mark → Out Made (Unit {0}) → Answer → Type 0
-PassedAs I W J X old K (Ok k new) = Went I W J X old K tt new
-PassedAs I W J X old K (No q d new) = Stopped I W J X old K q d new
+abbrev pub PassedBy : List ℕ → List ℕ → List ℕ → List ℕ → Mark → Mark → Out Made (Unit {0}) → Result (Unit {0}) Question → Type 0
+PassedBy I W J X old new K (Ok _) = Went I W J X old K tt new
+PassedBy I W J X old new K (Err q) = Stopped I W J X old K (number_of q) (detail_of q) new
+
+abbrev pub PassedAs : Store → Store → Out Made (Unit {0}) → Result (Unit {0}) Question → Type 0
+PassedAs s t K r = PassedBy s.index.now s.words.now t.index.now t.words.now s.mark t.mark K r
 
 -- The motive -------------------------------------------------------------------------------------------------------------------------
 
 -- of variable x and its sort, by the numbers of its judgment and its premises
 abbrev pub motive_in : Made → ℕ → ℕ → ℕ → List ℕ → Motive
 motive_in M x sort j premises = record { variable = x; sort = sort; judgment = get_or M j (var 0); premises = args_of M premises }
+
+abbrev pub motive_of : Made → Statement → Motive
+motive_of M m = motive_in M m.x m.sort m.judgment m.premises.now
 
 -- these are there
 pub record Motived (I W : List ℕ) (m : Mark) (x j : ℕ) (premises : List ℕ) : Type 0 where
@@ -227,6 +233,13 @@ case_terms S M i c vs ss = do
   ihs ← hypotheses M vs ss
   case_fact S M h.premises ihs i h.judgment
 
+-- the case's variables: as many of the cells as there are sorts
+abbrev pub own_of : Case → List ℕ
+own_of k = take (length k.sorts.now) k.own
+
+abbrev pub case_behind : State → Motive → Case → Act Made (Unit {0})
+case_behind S M k = case_terms S M k.fact k.constructor (own_of k) k.sorts.now
+
 -- facts and terms, the motive with the set of its variables
 pub record InCase (facts lists : List ℕ) (n : Sizes) (I W : List ℕ) (m : Mark) (x sort j : ℕ) (premises used : List ℕ) : Type 0 where
   pub S : State
@@ -235,6 +248,13 @@ pub record InCase (facts lists : List ℕ) (n : Sizes) (I W : List ℕ) (m : Mar
   pub motived : Motived I W m x j premises
   pub used_are : holds used ≡ motive_vars (motive_in (made I W m) x sort j premises)
   pub wide : length used ≡ VARIABLEWORDS
+
+abbrev pub CaseIn : Facts → Store → Statement → List ℕ → Type 0
+CaseIn f s m used = InCase f.rows.now f.lists.now f.n s.index.now s.words.now s.mark m.x m.sort m.judgment m.premises.now used
+
+-- the case's constructor can be kept over its variables
+abbrev pub Cased : Store → Case → Type 0
+Cased s k = Casing s.index.now s.words.now s.mark k.constructor (own_of k) × (length k.sorts.now ≡ length (own_of k))
 
 -- variables, and the cells hold as many items as there are sorts
 pub record CaseNames (goals text vars : List ℕ) (count-vars : ℕ) (sorts used cells : List ℕ) : Type 0 where
@@ -246,37 +266,55 @@ pub record CaseNames (goals text vars : List ℕ) (count-vars : ℕ) (sorts used
   pub few : length sorts ≤ ARGUMENTS
   pub wide : length used ≡ VARIABLEWORDS
 
--- the case's variables, or none
-abbrev pub case_named : Bool → List ℕ → Made → Out Made (List ℕ)
-case_named true vs U = ok vs U
-case_named false vs U = refuse 42 0 U
+abbrev pub NamesIn : Reader → List ℕ → List ℕ → List ℕ → Type 0
+NamesIn r sorts used cells = CaseNames r.goals.now r.text.now r.vars.now r.n.vars sorts used cells
 
--- texts and tables, the motive with the set of its variables, and the cells begin with an item
-pub record CaseItem (goals text symbols inputs vars facts lists : List ℕ) (n : Sizes) (I W : List ℕ) (m : Mark) (x sort j : ℕ) (premises used cells : List ℕ) : Type 0 where
+-- K answers the case's variables, which are so many of the cells
+pub record Named (K : Act Made (List ℕ)) (many : ℕ) (own : List ℕ) : Type 0 where
+  pub are : (U : Made) → K U ≡ ok (take many own) U
+  pub small : Below VARIABLES (take many own)
+
+abbrev pub NamedAs : Act Made (List ℕ) → ℕ → Result (List ℕ) Question → Type 0
+NamedAs K many (Ok own) = Named K many own
+NamedAs K many (Err q) = (U : Made) → K U ≡ refuse (number_of q) (detail_of q) U
+
+-- texts and tables, the set of the motive's variables, and the cells begin with an item
+pub record CaseItem (K : Names) (n : Sizes) (used cells : List ℕ) : Type 0 where
   pub S : State
-  pub theory : List ℕ
-  pub defs : List ℕ
-  pub footings : List ℕ
+  pub trees : Made
   pub y : Sexp
   pub ys : Sexps
-  pub refers : Refers (names theory goals text symbols inputs vars defs) facts footings lists n I W m S
-  pub motived : Motived I W m x j premises
-  pub used_are : holds used ≡ motive_vars (motive_in (made I W m) x sort j premises)
+  pub spelling : Spelling K n trees S
   pub wide : length used ≡ VARIABLEWORDS
-  pub items : Holds text cells (cons y ys)
+  pub items : Holds K.text cells (cons y ys)
 
--- and the cells hold some items
-pub record CaseItems (goals text symbols inputs vars facts lists : List ℕ) (n : Sizes) (I W : List ℕ) (m : Mark) (x sort j : ℕ) (premises used cells : List ℕ) : Type 0 where
+abbrev pub ReadsCase : Reader → List ℕ → List ℕ → Type 0
+ReadsCase r used cells = CaseItem (names_of r) r.n used cells
+
+-- the item y spells the case of constructor c over these variables, of these sorts, by fact i
+pub record CaseRead (S : State) (M : Motive) (y : Sexp) (c i : ℕ) (own sorts : List ℕ) : Type 0 where
+  pub is : (U : Made) → induct_case S M y c U ≡ case_terms S M i c own sorts U
+  pub narrow : length own ≤ ARGUMENTS
+  pub small : Below VARIABLES own
+  pub many : length sorts ≡ length own
+
+abbrev pub CaseAs : State → Motive → Sexp → ℕ → Result Case Question → Type 0
+CaseAs S M y c (Ok k) = CaseRead S M y c k.fact (own_of k) k.sorts.now × (k.constructor ≡ c)
+CaseAs S M y c (Err q) = (U : Made) → induct_case S M y c U ≡ refuse (number_of q) (detail_of q) U
+
+-- texts and tables, the motive with the set of its variables, and the cells hold some items
+pub record CaseItems (K : Names) (facts footings lists : List ℕ) (n : Sizes) (I W : List ℕ) (m : Mark) (x sort j : ℕ) (premises used cells : List ℕ) : Type 0 where
   pub S : State
-  pub theory : List ℕ
-  pub defs : List ℕ
-  pub footings : List ℕ
   pub xs : Sexps
-  pub refers : Refers (names theory goals text symbols inputs vars defs) facts footings lists n I W m S
+  pub refers : Refers K facts footings lists n I W m S
   pub motived : Motived I W m x j premises
   pub used_are : holds used ≡ motive_vars (motive_in (made I W m) x sort j premises)
   pub wide : length used ≡ VARIABLEWORDS
-  pub items : Holds text cells xs
+  pub items : Holds K.text cells xs
+
+abbrev pub ReadsCases : Source → Store → Statement → List ℕ → List ℕ → Type 0
+ReadsCases s t m used cells =
+    CaseItems (source_names s) s.rows.now s.footings.now s.lists.now s.reader.n t.index.now t.words.now t.mark m.x m.sort m.judgment m.premises.now used cells
 
 -- The form ---------------------------------------------------------------------------------------------------------------------------
 
@@ -288,25 +326,45 @@ on_motive S M cs = do
   induct_cases S M cs (constructors S.theory M.sort)
 
 -- texts and tables, the motive, and the cells hold some items
-pub record MotiveItems (goals text symbols inputs vars facts lists : List ℕ) (n : Sizes) (I W : List ℕ) (m : Mark) (x j : ℕ) (premises cells : List ℕ) : Type 0 where
+pub record MotiveItems (K : Names) (facts footings lists : List ℕ) (n : Sizes) (I W : List ℕ) (m : Mark) (x j : ℕ) (premises cells : List ℕ) : Type 0 where
   pub S : State
-  pub theory : List ℕ
-  pub defs : List ℕ
-  pub footings : List ℕ
   pub xs : Sexps
-  pub refers : Refers (names theory goals text symbols inputs vars defs) facts footings lists n I W m S
+  pub refers : Refers K facts footings lists n I W m S
   pub motived : Motived I W m x j premises
-  pub items : Holds text cells xs
+  pub items : Holds K.text cells xs
 
--- texts and tables, a variable, and the cells begin with two items
-pub record InductForm (theory goals text symbols inputs vars defs facts lists : List ℕ) (n : Sizes) (I W : List ℕ) (m : Mark) (x : ℕ) (hyps cells : List ℕ) : Type 0 where
+abbrev pub ReadsMotive : Source → Store → Statement → List ℕ → Type 0
+ReadsMotive s t m cells =
+    MotiveItems (source_names s) s.rows.now s.footings.now s.lists.now s.reader.n t.index.now t.words.now t.mark m.x m.judgment m.premises.now cells
+
+-- texts and tables, a variable, a set of facts, and the cells begin with two items
+pub record InductForm (K : Names) (facts footings lists : List ℕ) (n : Sizes) (I W : List ℕ) (m : Mark) (x : ℕ) (hyps cells : List ℕ) : Type 0 where
   pub S : State
-  pub footings : List ℕ
   pub y : Sexp
   pub z : Sexp
   pub zs : Sexps
-  pub refers : Refers (names theory goals text symbols inputs vars defs) facts footings lists n I W m S
+  pub refers : Refers K facts footings lists n I W m S
   pub variable_known : x < length S.vars
   pub earlier : (v : ℕ) → holds hyps v ≡ true → v < length S.facts
   pub long : length hyps ≡ FACTWORDS
-  pub items : Holds text cells (cons y (cons z zs))
+  pub items : Holds K.text cells (cons y (cons z zs))
+
+abbrev pub ReadsInduct : Source → Store → ℕ → List ℕ → List ℕ → Type 0
+ReadsInduct s t x hyps cells =
+    InductForm (source_names s) s.rows.now s.footings.now s.lists.now s.reader.n t.index.now t.words.now t.mark x hyps cells
+
+-- variables, and the cells hold the items of a form, its variable among them
+pub record SubjectItems (goals text vars : List ℕ) (count-vars : ℕ) (cells : List ℕ) : Type 0 where
+  pub S : State
+  pub xs : Sexps
+  pub held : VarsHeld goals text vars count-vars S.vars
+  pub holds : Holds text cells xs
+  pub many : 3 ≤ count xs
+
+abbrev pub ReadsSubject : Reader → List ℕ → Type 0
+ReadsSubject r cells = SubjectItems r.goals.now r.text.now r.vars.now r.n.vars cells
+
+-- the form's variable, and the items behind it stand from a place on; or it names none
+abbrev pub SubjectAs : List Var → List ℕ → List ℕ → Sexps → Result Subject Question → Type 0
+SubjectAs vs text cells xs (Ok s) = (variable_in vs (item xs 2) ≡ some s.x) × Walk text cells s.next (rest xs 3)
+SubjectAs vs text cells xs (Err q) = (variable_in vs (item xs 2) ≡ nothing) × (q ≡ Binding)
