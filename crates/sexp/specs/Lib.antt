@@ -18,3 +18,4 @@ pub mod FoundLaws
 pub mod FirstItem
 pub mod NthItem
 pub mod TagTable
+pub mod Each

@@ -35,16 +35,48 @@ pub fn after(words: &[u32], at: usize) -> usize
     }
 }
 
+// The items of a list, one after the other, each by the cells from it on.
+#[derive(Clone, Copy)]
+pub struct Each<'a> {
+    pub cells: &'a [u32],
+    pub at: usize,
+}
+
+// All items of a list.
+pub fn all(cells: &[u32]) -> Each<'_>
+    ensures { (result.cells.now ≡ cells.now) × (result.at ≡ 0) }
+{
+    Each { cells, at: 0 }
+}
+
+impl<'a> Iterator for Each<'a> {
+    ghost use Rattle.std.specs.Prelude.{◌-◌};
+    ghost use Rattle.std.specs.Iterator.{at_most};
+    ghost use Rattle.sexp.specs.Each.{Walks};
+
+    type Item = &'a [u32];
+
+    ghost next_gives = { Walks };
+
+    ghost remaining = { λ s. at_most (length s.cells.now - s.at) };
+
+    fn next(&mut self) -> Option<&'a [u32]> {
+        let Each { cells, at } = *self;
+        if cells.len() <= at {
+            return None;
+        }
+        self.at = after(cells, at);
+        Some(&cells[at..])
+    }
+}
+
 // The number of items.
 pub fn count(words: &[u32]) -> usize
     requires { Items words.now }
     ensures { (xs : Sexps) → words.now ≡ encodes xs → result ≡ count xs }
 {
     let mut n = 0;
-    let mut at = 0;
-    // items are of different widths
-    while at < words.len() {
-        at = after(words, at);
+    for _item in all(words) {
         n += 1;
     }
     n
@@ -56,14 +88,11 @@ pub fn place(words: &[u32], number: usize) -> usize
     ensures { (xs : Sexps) → words.now ≡ encodes xs → result ≡ place xs number }
 {
     let mut at = 0;
-    let mut left = number;
-    // items are of different widths
-    while 0 < left {
+    for _k in 0..number {
         if at >= words.len() {
             return at;
         }
         at = after(words, at);
-        left -= 1;
     }
     at
 }

@@ -1,10 +1,6 @@
-use Prim.Native.Nat.{◌-◌}
-use lib.ListN.{length}
+use mathlib.Core.Path.{◌≡◌}
 use Rattle.sexp.proofs.Tallies.{Tallies}
 use Rattle.sexp.proofs.items.count.Given as goal
 
-abbrev pub invariant-loop-at : goal.invariant-loop-at
-invariant-loop-at l = Tallies l.words l.n l.at
-
-abbrev pub decreases-loop-at : goal.decreases-loop-at
-decreases-loop-at l = length l.words - l.at
+abbrev pub invariant-loop-item : goal.invariant-loop-item
+invariant-loop-item l = record { cells : l._item-iterator.cells.now ≡ l.words; tally : Tallies l.words l.n l._item-iterator.at }

@@ -1,24 +1,21 @@
 use native.Mathlib.Omega.{arith}
+use Prim.Native.Nat.{◌-◌}
 use Rattle.sexp.proofs.Tallies.{seek_start, seek_on, seek_over, seek_found}
 use Rattle.sexp.proofs.items.place.Goals as goal
 
-pub loop-left-init : goal.loop-left-init
-loop-left-init c = seek_start (c.requires) _
+pub loop-k-init : goal.loop-k-init
+loop-k-init c = (c.args.number, omega arith, seek_start (c.requires) _)
 
 pub returns-then-at-words : goal.returns-then-at-words
-returns-then-at-words c = seek_over c.loop-left.invariant c.if-at-words.true
+returns-then-at-words c = seek_over c.loop-k.invariant.2 c.if-at-words.true
 
-pub after-at-requires : goal.after-at-requires
-after-at-requires c = c.if-at-words.false
-
-pub overflow_sub-left : goal.overflow_sub-left
-overflow_sub-left c = omega (arith, c.loop-left-test.true)
-
-pub loop-left-smaller : goal.loop-left-smaller
-loop-left-smaller c = omega (arith, c.loop-left-test.true)
-
-pub loop-left-preserved : goal.loop-left-preserved
-loop-left-preserved c = seek_on c.loop-left.invariant c.if-at-words.false c.loop-left-test.true _ c.after-at.ensures
+pub loop-k-preserved : goal.loop-k-preserved
+loop-k-preserved c =
+    let left = c.loop-k.invariant.0 in
+    let sum = c.loop-k.invariant.1 in
+    (left - 1, omega arith, seek_on c.loop-k.invariant.2 c.if-at-words.false (omega arith) _ c.after-at.ensures)
 
 pub returns : goal.returns
-returns c = seek_found c.loop-left.invariant (omega (arith, c.loop-left-test.false))
+returns c =
+    let sum = c.loop-k.invariant.1 in
+    seek_found c.loop-k.invariant.2 (omega arith)

@@ -1,8 +1,7 @@
+use mathlib.Core.Path.{◌≡◌}
+use Prim.Native.Nat.{ℕ, ◌+◌}
 use Rattle.sexp.proofs.Tallies.{Seeks}
 use Rattle.sexp.proofs.items.place.Given as goal
 
-abbrev pub invariant-loop-left : goal.invariant-loop-left
-invariant-loop-left l = Seeks l.words l.number l.at l.left
-
-abbrev pub decreases-loop-left : goal.decreases-loop-left
-decreases-loop-left l = l.left
+abbrev pub invariant-loop-k : goal.invariant-loop-k
+invariant-loop-k l = (left : ℕ) × (l._k + left ≡ l.number) × Seeks l.words l.number l.at left
