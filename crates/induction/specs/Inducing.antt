@@ -1,27 +1,43 @@
 -- What the form `induct` is given and what its parts answer: the motive in the store, a case's terms, and what a case may rest on. Assumes nothing.
-use Rattle.std.specs.Prelude.{◌≡◌, Bool, true, false, ◌&&◌, ◌||◌, List, [], ◌∷◌, ℕ, zero, suc, ◌*◌, ◌<◌, ◌≤◌, eqb, length, get_or, take, drop, replicate}
+use Rattle.std.specs.Prelude.{◌≡◌, Bool, true, false, ◌&&◌, ◌||◌, List, [], ◌∷◌, ℕ, zero, suc, ◌*◌, ◌<◌, ◌≤◌, eqb, length, get_or, take, drop, replicate, Result, Ok, Err}
 use Rattle.rules.specs.Limits.{ARGUMENTS, VARIABLES, TERMS, FACTS, SYMBOLS, VARIABLEWORDS, TERMWORDS, FACTWORDS}
 use Rattle.rules.specs.Out.{Out, ok, refuse, Act, ◌>>=◌, pure, ask}
 use Rattle.rules.specs.Find.{entry, any, all}
-use Rattle.rules.specs.Sexp.{Sexp, Sexps, cons, count}
+use Rattle.rules.specs.Sexp.{Sexp, Sexps, cons, count, item, rest}
 use Rattle.rules.specs.Tree.{Tree, Trees, var, app, none, more, same_tree, among, single}
 use Rattle.rules.specs.Store.{Made, keep, substitute, substitutes}
 use Rattle.rules.specs.Theory.{constructors}
-use Rattle.rules.specs.State.{State, is_none}
+use Rattle.rules.specs.State.{State, Var, is_none}
 use Rattle.rules.specs.Reference.{fact_at}
-use Rattle.rules.specs.Induct.{Motive, motive_vars, keep_vars, Hyp, hypotheses, allowed_hyp, induct_cases}
+use Rattle.rules.specs.Induct.{Motive, motive_vars, keep_vars, Hyp, hypotheses, allowed_hyp, induct_case, induct_cases}
 use Rattle.sexp.specs.Items.{Holds}
+use Rattle.sexp.specs.WalkLaws.{Walk}
+use Rattle.questions.specs.Numbers.{row_number, number_of, detail_of}
+use Rattle.questions.specs.declared.Row.{Row}
+use Rattle.questions.specs.declared.Question.{Question}
+use Rattle.questions.specs.declared.Question.TheVariants.{Binding}
 use Rattle.terms.specs.declared.store.Mark.{Mark}
+use Rattle.terms.specs.declared.store.Store.{Store}
 use Rattle.terms.specs.Table.{made, tree, args_of, Good}
 use Rattle.terms.specs.Node.{same_words}
 use Rattle.terms.specs.Sets.{holds}
 use Rattle.terms.specs.On.{Went, Stopped}
 use Rattle.state.specs.declared.sizes.Sizes.{Sizes}
-use Rattle.state.specs.Held.{VarsHeld, names, records, Recorded}
+use Rattle.state.specs.Held.{Names, VarsHeld, Spelling, records, Recorded}
 use Rattle.state.specs.Rows.{cell}
-use Rattle.reading.specs.declared.apart.Out.{Out as Answer}
-use Rattle.reading.specs.declared.apart.Out.TheVariants.{Ok, No}
+use Rattle.reading.specs.declared.reader.Reader.{Reader}
+use Rattle.reading.specs.Reader.{names_of}
+use Rattle.reading.specs.Items.{variable_in}
+use Rattle.referring.specs.declared.source.Facts.{Facts}
+use Rattle.referring.specs.declared.source.Source.{Source}
+use Rattle.referring.specs.Sources.{source_names}
 use Rattle.referring.specs.Recall.{Refers}
+use Rattle.referring.specs.Substitutes.{Below, Replaceables}
+use Rattle.induction.specs.declared.motive.Motive.{Motive as Statement}
+use Rattle.induction.specs.declared.motive.Rows.{Rows}
+use Rattle.induction.specs.declared.resting.Allowed.{Allowed}
+use Rattle.induction.specs.declared.induct_cases.Case.{Case}
+use Rattle.induction.specs.declared.induct.Subject.{Subject}
 
 -- cells for numbers of terms
 abbrev pub IDS : ℕ
@@ -30,10 +46,6 @@ IDS = 40960
 -- enough of them for a case: at most ARGUMENTS induction hypotheses, of so many premises and a judgment each
 abbrev pub Roomy : ℕ → List ℕ → Type 0
 Roomy width ids = ARGUMENTS * suc width ≤ length ids
-
--- numbers that are all below n
-abbrev pub Below : ℕ → List ℕ → Type 0
-Below n xs = (k : ℕ) → k < length xs → get_or xs k 0 < n
 
 -- K answers, or refuses; what is answered is of no use
 abbrev pub PassedBy : List ℕ → List ℕ → List ℕ → List ℕ → Mark → Mark → Out Made (Unit {0}) → Result (Unit {0}) Question → Type 0
@@ -50,7 +62,7 @@ abbrev pub motive_in : Made → ℕ → ℕ → ℕ → List ℕ → Motive
 motive_in M x sort j premises = record { variable = x; sort = sort; judgment = get_or M j (var 0); premises = args_of M premises }
 
 abbrev pub motive_of : Made → Statement → Motive
-motive_of M m = motive_in M m.x m.sort m.judgment m.premises.now
+motive_of M a = motive_in M a.x a.sort a.judgment a.premises.now
 
 -- these are there
 pub record Motived (I W : List ℕ) (m : Mark) (x j : ℕ) (premises : List ℕ) : Type 0 where
@@ -59,6 +71,9 @@ pub record Motived (I W : List ℕ) (m : Mark) (x j : ℕ) (premises : List ℕ)
   pub there : j < m.terms
   pub known : Below m.terms premises
   pub few : length premises ≤ FACTS
+
+abbrev pub MotivedIn : Store → Statement → Type 0
+MotivedIn s a = Motived s.index.now s.words.now s.mark a.x a.judgment a.premises.now
 
 -- the judgments of facts, by their numbers
 unfoldable pub judgment_cells : List ℕ → List ℕ → List ℕ
@@ -81,22 +96,9 @@ premises_first σ j ps = do
   u ← substitute σ j
   pure (record { premises = us; judgment = u })
 
--- a map of terms that are there, a memo without results, terms, and a cell for each
-pub record Movable (I W : List ℕ) (m : Mark) (map memo premises out : List ℕ) : Type 0 where
-  pub good : Good I W m
-  pub bound : (v : ℕ) → get_or map v 0 ≤ m.terms
-  pub blank : memo ≡ replicate TERMS 0
-  pub known : Below m.terms premises
-  pub long : length out ≡ length premises
-
--- K answers terms, whose numbers are in the cells
-pub record MovedAll (I W J X : List ℕ) (old : Mark) (K : Out Made Trees) (out : List ℕ) (new : Mark) : Type 0 where
-  pub went : Went I W J X old K (args_of (made J X new) out) new
-  pub known : Below new.terms out
-
-abbrev pub MovedAllAs : List ℕ → List ℕ → List ℕ → List ℕ → Mark → Out Made Trees → List ℕ → Answer → Type 0
-MovedAllAs I W J X old K out (Ok k new) = MovedAll I W J X old K out new
-MovedAllAs I W J X old K out (No q d new) = Stopped I W J X old K q d new
+-- terms to put under a map, with a cell for each premise
+abbrev pub MovableIn : Store → Statement → List ℕ → List ℕ → List ℕ → Type 0
+MovableIn s a map memo out = Replaceables s.index.now s.words.now s.mark map memo a.premises.now out × (a.judgment < s.mark.terms)
 
 -- premises by the cells, and a judgment by its number
 abbrev pub hyp_in : Made → ℕ → List ℕ → Hyp
@@ -108,9 +110,12 @@ pub record Moved (I W J X : List ℕ) (old : Mark) (K : Out Made Hyp) (out : Lis
   pub there : j < new.terms
   pub known : Below new.terms out
 
-abbrev pub MovedAs : List ℕ → List ℕ → List ℕ → List ℕ → Mark → Out Made Hyp → List ℕ → Answer → Type 0
-MovedAs I W J X old K out (Ok j new) = Moved I W J X old K out j new
-MovedAs I W J X old K out (No q d new) = Stopped I W J X old K q d new
+abbrev pub MovedBy : List ℕ → List ℕ → List ℕ → List ℕ → Mark → Mark → Out Made Hyp → List ℕ → Result ℕ Row → Type 0
+MovedBy I W J X old new K out (Ok j) = Moved I W J X old K out j new
+MovedBy I W J X old new K out (Err row) = Stopped I W J X old K 60 (row_number row) new
+
+abbrev pub MovedAs : Store → Store → Out Made Hyp → List ℕ → Result ℕ Row → Type 0
+MovedAs s t K out r = MovedBy s.index.now s.words.now t.index.now t.words.now s.mark t.mark K out r
 
 -- A case's terms ---------------------------------------------------------------------------------------------------------------------
 
@@ -132,16 +137,14 @@ pub record Casing (I W : List ℕ) (m : Mark) (c : ℕ) (vs : List ℕ) : Type 0
   pub narrow : length vs ≤ ARGUMENTS
   pub small : Below VARIABLES vs
 
+abbrev pub CasingIn : Store → ℕ → List ℕ → Type 0
+CasingIn s c vs = Casing s.index.now s.words.now s.mark c vs
+
 -- the motive at the constructor
 unfoldable pub at_constructor : Motive → ℕ → List ℕ → Act Made Hyp
 at_constructor M c vs = do
   t ← keep_case c vs
   judgment_first (single M.variable t) M.judgment M.premises
-
--- the scratch, zero before and after
-pub record Scratch (map memo : List ℕ) : Type 0 where
-  pub map_zero : map ≡ replicate VARIABLES 0
-  pub memo_zero : memo ≡ replicate TERMS 0
 
 -- Induction hypotheses ---------------------------------------------------------------------------------------------------------------
 
@@ -161,9 +164,12 @@ pub record HypsMade (I W J X : List ℕ) (old : Mark) (K : Out Made (List Hyp)) 
   pub known : Below new.terms (take (many * suc k) ids)
   pub few : many ≤ most
 
-abbrev pub HypsMadeAs : List ℕ → List ℕ → List ℕ → List ℕ → Mark → Out Made (List Hyp) → ℕ → ℕ → List ℕ → Answer → Type 0
-HypsMadeAs I W J X old K k most ids (Ok many new) = HypsMade I W J X old K k most ids many new
-HypsMadeAs I W J X old K k most ids (No q d new) = Stopped I W J X old K q d new
+abbrev pub HypsMadeBy : List ℕ → List ℕ → List ℕ → List ℕ → Mark → Mark → Out Made (List Hyp) → ℕ → ℕ → List ℕ → Result ℕ Row → Type 0
+HypsMadeBy I W J X old new K k most ids (Ok many) = HypsMade I W J X old K k most ids many new
+HypsMadeBy I W J X old new K k most ids (Err row) = Stopped I W J X old K 60 (row_number row) new
+
+abbrev pub HypsMadeAs : Store → Store → Out Made (List Hyp) → ℕ → ℕ → List ℕ → Result ℕ Row → Type 0
+HypsMadeAs s t K k most ids r = HypsMadeBy s.index.now s.words.now t.index.now t.words.now s.mark t.mark K k most ids r
 
 -- What a case may rest on ------------------------------------------------------------------------------------------------------------
 
@@ -191,6 +197,9 @@ pub record Resting (facts lists : List ℕ) (n : Sizes) (plain used : List ℕ) 
   pub room : many * suc k ≤ length ids
   pub known : Below m.terms (take (many * suc k) ids)
 
+abbrev pub RestingIn : Facts → Allowed → Type 0
+RestingIn f a = Resting f.rows.now f.lists.now f.n a.plain.now a.used.now a.x a.rows.width a.rows.cells.now a.rows.many
+
 -- the same before the judgments of the induction hypotheses are in the set; the case's judgment is there
 pub record BeforeRest (facts lists : List ℕ) (n : Sizes) (plain used : List ℕ) (x k : ℕ) (ids : List ℕ) (many j : ℕ) : Type 0 where
   pub S : State
@@ -212,6 +221,9 @@ pub record BeforeRest (facts lists : List ℕ) (n : Sizes) (plain used : List �
   pub known : Below m.terms (take (many * suc k) ids)
   pub there : j < m.terms
 
+abbrev pub RestsIn : Facts → List ℕ → List ℕ → ℕ → Rows → ℕ → Type 0
+RestsIn f plain used x a j = BeforeRest f.rows.now f.lists.now f.n plain used x a.width a.cells.now a.many j
+
 -- fact i concludes the case, and rests on what it may
 unfoldable pub case_fact : State → Motive → Trees → List Hyp → ℕ → Tree → Act Made (Unit {0})
 case_fact S M ps ihs i j = do
@@ -219,10 +231,10 @@ case_fact S M ps ihs i j = do
   _ ← ask 43 (same_tree f.judgment j)
   ask 44 (all (λ h. allowed_hyp M ps ihs (entry S.facts h)) f.hyps)
 
--- a question, or 0 for none
-unfoldable pub question : ℕ → Act Made (Unit {0})
-question zero U = ok tt U
-question (suc q) U = refuse (suc q) 0 U
+-- it is asked, and nothing is made
+abbrev pub asked : Result (Unit {0}) Question → Act Made (Unit {0})
+asked (Ok _) U = ok tt U
+asked (Err q) U = refuse (number_of q) (detail_of q) U
 
 -- Cases ------------------------------------------------------------------------------------------------------------------------------
 

@@ -1,16 +1,15 @@
 // The cases of `induct`, each with a constructor of the sort, in order: the variables that a case names, its terms, and the questions of its fact.
 ghost use Rattle.std.specs.Prelude.{◌≡◌, [], ◌<◌, length, take, replicate};
 ghost use Rattle.rules.specs.Limits.{TERMS};
-ghost use Rattle.rules.specs.Store.{Made};
 ghost use Rattle.rules.specs.Theory.{constructors};
-ghost use Rattle.rules.specs.Induct.{Motive as Proved, motive_vars, case_vars, induct_cases};
+ghost use Rattle.rules.specs.Induct.{Motive, motive_vars, case_vars, induct_cases};
 ghost use Rattle.terms.specs.Lent.{SameTables, made_of};
 ghost use Rattle.terms.specs.Table.{made, tree};
 ghost use Rattle.terms.specs.Sets.{holds};
-ghost use Rattle.induction.specs.Inducing.{Roomy, PassedAs, motive_of, Casing, case_terms, case_fact, asked, hyps_in, RestsIn, CaseNames, NamedAs, ReadsCase, CaseAs, CaseIn, CasesIn};
+ghost use Rattle.induction.specs.Inducing.{Roomy, PassedAs, motive_of, case_fact, asked, hyps_in, RestsIn, case_behind, CaseIn, Cased, NamesIn, NamedAs, ReadsCase, CaseAs, ReadsCases};
 
 use crate::motive::{Motive, Rows};
-use crate::resting::case_fact;
+use crate::resting::Allowed;
 use kernel::readers::{arity, next_constructor};
 use questions::Question;
 use reading::names::index;
@@ -24,13 +23,13 @@ use state::vars::var_sort;
 use terms::sets::{has, insert};
 use terms::store::Store;
 
-// A case as it is spelled: the number of its fact, its constructor, and the variables over which that stands, in the first cells; with their sorts.
+// A case as it is spelled: its fact, its constructor, and the variables over which that stands, in as many cells as there are sorts.
 #[derive(Clone, Copy)]
-struct Case<'a> {
-    fact: usize,
-    constructor: usize,
-    own: [u32; ARGUMENTS],
-    sorts: &'a [u32],
+pub struct Case<'a> {
+    pub fact: usize,
+    pub constructor: usize,
+    pub own: [u32; ARGUMENTS],
+    pub sorts: &'a [u32],
 }
 
 // The case's variables that the items name: of the sorts, new to the motive, whose variables are in the set, and to each other.
@@ -40,27 +39,29 @@ fn case_vars(
     used: &[u64],
     cells: &[u32],
 ) -> Result<[u32; ARGUMENTS], Question>
-    requires { CaseNames reader.now.goals.now reader.now.text.now reader.now.vars.now reader.now.n.vars sorts.now used.now cells.now }
-    ensures { (g : CaseNames reader.now.goals.now reader.now.text.now reader.now.vars.now reader.now.n.vars sorts.now used.now cells.now) →
-        (M : Proved) → holds used.now ≡ motive_vars M → (U : Made) →
-        NamedAs (length sorts.now) U (case_vars g.S M g.xs sorts.now [] U) result }
+    requires { NamesIn reader.now sorts.now used.now cells.now }
+    ensures { (g : NamesIn reader.now sorts.now used.now cells.now) →
+        (M : Motive) → holds used.now ≡ motive_vars M → NamedAs (case_vars g.S M g.xs sorts.now []) (length sorts.now) result }
 {
     let mut own = [0; ARGUMENTS];
     let mut seen = [0u64; VARIABLEWORDS];
     let mut k = 0;
-    // items are of different widths
-    let mut at = 0;
-    while at < cells.len() {
-        let v = reader
-            .variable(&cells[at..])
-            .ok_or(Question::CaseVariables)?;
-        if var_sort(reader.vars, v) != sorts[k] as usize || has(used, v) || has(&seen, v) {
+    for item in items::all(cells) {
+        let Some(v) = reader.variable(item) else {
+            return Err(Question::CaseVariables);
+        };
+        if var_sort(reader.vars, v) != sorts[k] as usize {
+            return Err(Question::CaseVariables);
+        }
+        if has(used, v) {
+            return Err(Question::CaseVariables);
+        }
+        if has(&seen, v) {
             return Err(Question::CaseVariables);
         }
         insert(&mut seen, v);
         own[k] = v as u32;
         k += 1;
-        at = items::after(cells, at);
     }
     Ok(own)
 }
@@ -68,12 +69,12 @@ fn case_vars(
 // The case of constructor c that the first item spells; the set holds the motive's variables.
 fn read_case<'a>(
     reader: &Reader<'a>,
-    c: usize,
     used: &[u64],
+    c: usize,
     cells: &[u32],
 ) -> Result<Case<'a>, Question>
     requires { ReadsCase reader.now used.now cells.now × (c < reader.now.n.symbols) }
-    ensures { (g : ReadsCase reader.now used.now cells.now) → (M : Proved) → holds used.now ≡ motive_vars M → CaseAs g.S M g.y c result }
+    ensures { (g : ReadsCase reader.now used.now cells.now) → (M : Motive) → holds used.now ≡ motive_vars M → CaseAs g.S M g.y c result }
 {
     let Item::List(a, b) = items::item_at(cells, 0) else {
         return Err(Question::Cases);
@@ -82,7 +83,9 @@ fn read_case<'a>(
     if inner.is_empty() {
         return Err(Question::Cases);
     }
-    let fact = index(reader.text, inner).ok_or(Question::Cases)?;
+    let Some(fact) = index(reader.text, inner) else {
+        return Err(Question::Cases);
+    };
     let many = arity(reader.symbols, c);
     if items::count(inner) != many + 1 {
         return Err(Question::Cases);
@@ -100,7 +103,33 @@ fn read_case<'a>(
     })
 }
 
-// A case behind its variables: the motive at its constructor, the induction hypotheses, the questions of its fact. `memo` is scratch: zero before and
+// The judgments of the induction hypotheses join the set, where the motive has no premises; then the questions of fact i.
+fn case_rests(
+    facts: &Facts<'_>,
+    i: usize,
+    judgment: usize,
+    plain: &mut [u64],
+    used: &[u64],
+    x: usize,
+    rows: Rows<'_>,
+) -> Result<(), Question>
+    requires { RestsIn facts.now plain.old used.now x rows judgment }
+    ensures { (g : RestsIn facts.now plain.old used.now x rows judgment) →
+        case_fact g.S g.M g.ps (hyps_in (made g.I g.W g.m) rows.width rows.many rows.cells.now) i (tree g.I g.W g.m judgment) (made g.I g.W g.m) ≡ asked result (made g.I g.W g.m) }
+{
+    if rows.width == 0 {
+        insert_all(&rows.cells[..rows.many], plain);
+    }
+    let allowed = Allowed {
+        plain,
+        used,
+        x,
+        rows,
+    };
+    allowed.case_fact(facts, i, judgment)
+}
+
+// A case behind its variables: the motive at the constructor, the induction hypotheses, the questions of its fact. `memo` is scratch: zero before and
 // after; so is `ids`, of whatever content: who lends it clears it.
 fn case_terms(
     facts: &Facts<'_>,
@@ -111,17 +140,17 @@ fn case_terms(
     memo: &mut [u32],
     ids: &mut [u32],
 ) -> Result<(), Question>
-    requires in_case { CaseIn facts.now store.old motive.now used.now case.now }
+    requires in_case { CaseIn facts.now store.old motive.now used.now × Cased store.old case.now }
     requires scratch { (memo.old ≡ replicate TERMS 0) × Roomy (length motive.now.premises.now) ids.old }
     ensures same_tables { SameTables store.old store.new }
-    ensures passed_as { (g : CaseIn facts.now store.old motive.now used.now case.now) →
-        PassedAs store.old store.new (case_of g.0.S (motive_of (made_of store.old) motive.now) case.now (made_of store.old)) result }
+    ensures passed_as { (g : CaseIn facts.now store.old motive.now used.now) →
+        PassedAs store.old store.new (case_behind g.S (motive_of (made_of store.old) motive.now) case.now (made_of store.old)) result }
     ensures memo_unchanged { memo.new ≡ memo.old }
 {
+    let mut plain = [0u64; TERMWORDS];
     let own = &case.own[..case.sorts.len()];
     let width = motive.premises.len();
     let judgment = motive.at_constructor(store, case.constructor, own, memo, &mut ids[..width])?;
-    let mut plain = [0u64; TERMWORDS];
     insert_all(&ids[..width], &mut plain);
     let many = motive.hypotheses(store, own, case.sorts, memo, ids)?;
     let rows = Rows {
@@ -129,5 +158,35 @@ fn case_terms(
         width,
         many,
     };
-    case_rests(facts, case.fact, judgment, &mut plain, used, motive.x, &rows)
+    case_rests(facts, case.fact, judgment, &mut plain, used, motive.x, rows)
+}
+
+// The cases that the items spell, each with a constructor of the sort, by position.
+pub fn induct_cases(
+    source: &Source<'_>,
+    store: &mut Store<'_>,
+    cells: &[u32],
+    motive: &Motive<'_>,
+    used: &[u64],
+    memo: &mut [u32],
+    ids: &mut [u32],
+) -> Result<(), Question>
+    requires case_items { ReadsCases source.now store.old motive.now used.now cells.now }
+    requires scratch { (memo.old ≡ replicate TERMS 0) × Roomy (length motive.now.premises.now) ids.old }
+    ensures same_tables { SameTables store.old store.new }
+    ensures passed_as { (g : ReadsCases source.now store.old motive.now used.now cells.now) →
+        PassedAs store.old store.new (induct_cases g.S (motive_of (made_of store.old) motive.now) g.xs (constructors g.S.theory motive.now.sort) (made_of store.old)) result }
+    ensures memo_unchanged { memo.new ≡ memo.old }
+{
+    let reader = &source.reader;
+    let mut from = 0;
+    for item in items::all(cells) {
+        let Some(c) = next_constructor(reader.symbols, reader.n.symbols, motive.sort, from) else {
+            return Ok(());
+        };
+        let case = read_case(reader, used, c, item)?;
+        case_terms(&source.facts(), store, motive, used, &case, memo, ids)?;
+        from = c + 1;
+    }
+    Ok(())
 }
