@@ -1,16 +1,25 @@
 -- What the next item is to a list and the place that was come to. Assumes nothing.
 use Rattle.std.specs.Prelude.{◌≡◌, List, ℕ, ◌-◌, ◌%◌, ◌≤◌, ◌<◌, Bool, true, false, eqb, length, get_or, take, drop, Option, Some, None}
-use Rattle.std.proofs.Common.{arith}
+use Rattle.std.proofs.Common.{arith, ◌∙◌}
 use denote.Ref.{Bor}
 use Rattle.sexp.specs.declared.items.Each.{Each}
 use Rattle.sexp.specs.Items.{item_at, behind, by_parity}
 
 -- the cells from the item on; then the place behind it
+pub record Step (s : Each) (item : Bor (List ℕ)) (t : Each) : Type 0 where
+  pub inside : s.at < length s.cells.now
+  pub is : item.now ≡ take (length s.cells.now - s.at) (drop s.at s.cells.now)
+  pub same : t.cells.now ≡ s.cells.now
+  pub behind : t.at ≡ behind s.at (item_at s.cells.now s.at)
+
+-- there is none
+pub record Over (s t : Each) : Type 0 where
+  pub over : length s.cells.now ≤ s.at
+  pub same : t ≡ s
+
 abbrev pub Walks : Each → Option (Bor (List ℕ)) → Each → Type 0
-Walks s (Some item) t =
-    (s.at < length s.cells.now) × (item.now ≡ take (length s.cells.now - s.at) (drop s.at s.cells.now))
-    × (t.cells.now ≡ s.cells.now) × (t.at ≡ behind s.at (item_at s.cells.now s.at))
-Walks s None t = (length s.cells.now ≤ s.at) × (t ≡ s)
+Walks s (Some item) t = Step s item t
+Walks s None t = Over s t
 
 -- each item has cells
 pub behind_on : (words : List ℕ) (at : ℕ) → at < behind at (item_at words at)
@@ -20,3 +29,19 @@ behind_on words at = on (eqb (get_or words at 0 % 2) 1) (get_or words at 0)
     on : (b : Bool) (cell : ℕ) → at < behind at (by_parity b at cell)
     on true cell = omega arith
     on false cell = omega arith
+
+-- What a loop over the items of a list knows ---------------------------------------------------------------------------------------------
+
+-- at an item: its place, its cells, and the place behind it
+pub record Here (cells item : List ℕ) (at : ℕ) (next : Each) : Type 0 where
+  pub inside : at < length cells
+  pub is : item ≡ take (length cells - at) (drop at cells)
+  pub same : next.cells.now ≡ cells
+  pub behind : next.at ≡ behind at (item_at cells at)
+
+pub here : {cells : List ℕ} {s t : Each} {item : Bor (List ℕ)} → s.cells.now ≡ cells → Step s item t → Here cells item.now s.at t
+here e w = record { inside = rw e at w.inside; is = rw e at w.is; same = w.same ∙ e; behind = rw e at w.behind }
+
+-- behind the last one
+pub over : {cells : List ℕ} {s t : Each} → s.cells.now ≡ cells → Over s t → length cells ≤ s.at
+over e w = rw e at w.over
