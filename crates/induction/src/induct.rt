@@ -41,7 +41,7 @@ pub struct Subject {
 }
 
 // That of the form whose items the cells hold.
-fn subject(reader: &Reader<'_>, cells: &[u32]) -> Result<Subject, Question>
+fn read_subject(reader: &Reader<'_>, cells: &[u32]) -> Result<Subject, Question>
     requires { ReadsSubject reader.now cells.now }
     ensures { (g : ReadsSubject reader.now cells.now) → SubjectAs g.S.vars reader.now.text.now cells.now g.xs result }
 {
@@ -189,7 +189,7 @@ pub fn induct(
         DerivedAs Fact store.old store.new g.S (induct g.S g.xs (made_of store.old)) alone result }
     ensures memo_unchanged { (memo.new ≡ memo.old) × (ids.new ≡ ids.old) }
 {
-    let Subject { x, next } = subject(&source.reader, cells)?;
+    let Subject { x, next } = read_subject(&source.reader, cells)?;
     let hyps = [0; FACTWORDS];
     induct_on(source, store, &cells[next..], x, hyps, memo, ids)
 }
@@ -210,7 +210,7 @@ pub fn induct_with(
     ensures memo_unchanged { (memo.new ≡ memo.old) × (ids.new ≡ ids.old) }
 {
     let reader = &source.reader;
-    let Subject { x, next: third } = subject(reader, cells)?;
+    let Subject { x, next: third } = read_subject(reader, cells)?;
     let mut hyps = [0; FACTWORDS];
     plain_hyps(reader.text, source.rows, reader.n, &cells[third..], &mut hyps)?;
     let next = items::after(cells, third);

@@ -2,7 +2,7 @@
 ghost use Rattle.std.specs.Prelude.{◌≡◌, [], ◌<◌, length, take, replicate};
 ghost use Rattle.rules.specs.Limits.{TERMS};
 ghost use Rattle.rules.specs.Theory.{constructors};
-ghost use Rattle.rules.specs.Induct.{Motive, motive_vars, case_vars, induct_cases};
+ghost use Rattle.rules.specs.Induct.{Motive as Proved, motive_vars, case_vars, induct_cases};
 ghost use Rattle.terms.specs.Lent.{SameTables, made_of};
 ghost use Rattle.terms.specs.Table.{made, tree};
 ghost use Rattle.terms.specs.Sets.{holds};
@@ -41,7 +41,7 @@ fn case_vars(
 ) -> Result<[u32; ARGUMENTS], Question>
     requires { NamesIn reader.now sorts.now used.now cells.now }
     ensures { (g : NamesIn reader.now sorts.now used.now cells.now) →
-        (M : Motive) → holds used.now ≡ motive_vars M → NamedAs (case_vars g.S M g.xs sorts.now []) (length sorts.now) result }
+        (M : Proved) → holds used.now ≡ motive_vars M → NamedAs (case_vars g.S M g.xs sorts.now []) (length sorts.now) result }
 {
     let mut own = [0; ARGUMENTS];
     let mut seen = [0u64; VARIABLEWORDS];
@@ -74,7 +74,7 @@ fn read_case<'a>(
     cells: &[u32],
 ) -> Result<Case<'a>, Question>
     requires { ReadsCase reader.now used.now cells.now × (c < reader.now.n.symbols) }
-    ensures { (g : ReadsCase reader.now used.now cells.now) → (M : Motive) → holds used.now ≡ motive_vars M → CaseAs g.S M g.y c result }
+    ensures { (g : ReadsCase reader.now used.now cells.now) → (M : Proved) → holds used.now ≡ motive_vars M → CaseAs g.S M g.y c result }
 {
     let Item::List(a, b) = items::item_at(cells, 0) else {
         return Err(Question::Cases);
@@ -111,11 +111,11 @@ fn case_rests(
     plain: &mut [u64],
     used: &[u64],
     x: usize,
-    rows: Rows<'_>,
+    rows: &Rows<'_>,
 ) -> Result<(), Question>
-    requires { RestsIn facts.now plain.old used.now x rows judgment }
-    ensures { (g : RestsIn facts.now plain.old used.now x rows judgment) →
-        case_fact g.S g.M g.ps (hyps_in (made g.I g.W g.m) rows.width rows.many rows.cells.now) i (tree g.I g.W g.m judgment) (made g.I g.W g.m) ≡ asked result (made g.I g.W g.m) }
+    requires { RestsIn facts.now plain.old used.now x rows.now judgment }
+    ensures { (g : RestsIn facts.now plain.old used.now x rows.now judgment) →
+        case_fact g.S g.M g.ps (hyps_in (made g.I g.W g.m) rows.now.width rows.now.many rows.now.cells.now) i (tree g.I g.W g.m judgment) (made g.I g.W g.m) ≡ asked result (made g.I g.W g.m) }
 {
     if rows.width == 0 {
         insert_all(&rows.cells[..rows.many], plain);
@@ -124,7 +124,7 @@ fn case_rests(
         plain,
         used,
         x,
-        rows,
+        rows: *rows,
     };
     allowed.case_fact(facts, i, judgment)
 }
@@ -158,7 +158,7 @@ fn case_terms(
         width,
         many,
     };
-    case_rests(facts, case.fact, judgment, &mut plain, used, motive.x, rows)
+    case_rests(facts, case.fact, judgment, &mut plain, used, motive.x, &rows)
 }
 
 // The cases that the items spell, each with a constructor of the sort, by position.
