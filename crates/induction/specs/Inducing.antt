@@ -285,6 +285,7 @@ NamesIn r sorts used cells = CaseNames r.goals.now r.text.now r.vars.now r.n.var
 pub record Named (K : Act Made (List ℕ)) (many : ℕ) (own : List ℕ) : Type 0 where
   pub are : (U : Made) → K U ≡ ok (take many own) U
   pub small : Below VARIABLES (take many own)
+  pub long : length own ≡ ARGUMENTS
 
 abbrev pub NamedAs : Act Made (List ℕ) → ℕ → Result (List ℕ) Question → Type 0
 NamedAs K many (Ok own) = Named K many own
