@@ -188,27 +188,6 @@ module _ {facts lists : List ℕ} {n : Sizes} {plain used : List ℕ} {x w : ℕ
       or_none true e = refl
       or_none false e = e
 
-  abbrev pub rest_with : (w ≡ 0 → ⊥) → Resting facts lists n plain used x w ids many
-  rest_with q =
-      record {
-        S = g.S;
-        footings = g.footings;
-        I = g.I;
-        W = g.W;
-        m = g.m;
-        M = g.M;
-        ps = g.ps;
-        recorded = g.recorded;
-        good = g.good;
-        variable_is = g.variable_is;
-        used_are = g.used_are;
-        wide = g.wide;
-        plain_are = plain_with q;
-        long = g.long;
-        room = g.room;
-        known = g.known;
-      }
-
   -- it has none: the judgments of the induction hypotheses are in the set as well
   module _ (q : w ≡ 0) where
     rows_one : many * suc w ≡ many
@@ -232,24 +211,26 @@ module _ {facts lists : List ℕ} {n : Sizes} {plain used : List ℕ} {x w : ℕ
         ∙ (λ i. among g.ps (tree g.I g.W g.m t)
         || (sym (g.premises_are ∙ eq-eqb w 0 q) i && any (λ y. same_tree y.judgment (tree g.I g.W g.m t)) (hyps_in (made g.I g.W g.m) (sym q i) many ids)))
 
-    abbrev pub rest_without : (plain' : List ℕ) → length plain' ≡ length plain → holds plain' ≡ union (holds plain) (has (take many ids)) →
-        Resting facts lists n plain' used x w ids many
-    rest_without plain' a e =
-        record {
-          S = g.S;
-          footings = g.footings;
-          I = g.I;
-          W = g.W;
-          m = g.m;
-          M = g.M;
-          ps = g.ps;
-          recorded = g.recorded;
-          good = g.good;
-          variable_is = g.variable_is;
-          used_are = g.used_are;
-          wide = g.wide;
-          plain_are = plain_without plain' e;
-          long = a ∙ g.long;
-          room = g.room;
-          known = g.known;
-        }
+  -- what the questions of the fact are given
+  abbrev pub rest_given : (plain' : List ℕ) → length plain' ≡ length plain →
+      ((t : ℕ) → t < g.m.terms → holds plain' t ≡ plain_at g.M g.ps (hyps_in (made g.I g.W g.m) w many ids) (tree g.I g.W g.m t)) →
+      Resting facts lists n plain' used x w ids many
+  rest_given plain' a e =
+      record {
+        S = g.S;
+        footings = g.footings;
+        I = g.I;
+        W = g.W;
+        m = g.m;
+        M = g.M;
+        ps = g.ps;
+        recorded = g.recorded;
+        good = g.good;
+        variable_is = g.variable_is;
+        used_are = g.used_are;
+        wide = g.wide;
+        plain_are = e;
+        long = a ∙ g.long;
+        room = g.room;
+        known = g.known;
+      }
