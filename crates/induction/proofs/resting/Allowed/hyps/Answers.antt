@@ -2,7 +2,7 @@ use Rattle.induction.proofs.Allowed.{rest_facts, hyps_high, allows_start, allowi
 use borrow.Author.Tests.{not-true, not-false}
 use mathlib.Core.Path.{ap}
 use mathlib.Core.Bool.{not}
-use Rattle.induction.proofs.resting.all_allowed.Goals as goal
+use Rattle.induction.proofs.resting.Allowed.hyps.Goals as goal
 
 pub hyps-own-requires : goal.hyps-own-requires
 hyps-own-requires c = rest_facts c.requires.0 c.requires.1

@@ -1,5 +1,5 @@
 use Rattle.induction.proofs.Allowed.{rest_facts, rest_judgment, hyp_plain, hyp_rule}
-use Rattle.induction.proofs.resting.allowed.Goals as goal
+use Rattle.induction.proofs.resting.Allowed.hyp.Goals as goal
 
 pub is_plain-requires : goal.is_plain-requires
 is_plain-requires c = rest_facts c.requires.0 c.requires.1

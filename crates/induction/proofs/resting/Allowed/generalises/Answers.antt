@@ -4,8 +4,8 @@ use mathlib.Core.Path.{sym, ◌∙◌}
 use native.Mathlib.Omega.{arith}
 use mathlib.Core.Path.{ap}
 use mathlib.Core.Bool.{not}
-use Rattle.induction.proofs.resting.generalises.Goals as goal
-use Rattle.induction.proofs.resting.generalises.Goals.{then-not-has-via-then-not-has, then-not-has-via-else-not-has+then-v-x}
+use Rattle.induction.proofs.resting.Allowed.generalises.Goals as goal
+use Rattle.induction.proofs.resting.Allowed.generalises.Goals.{then-not-has-via-then-not-has, then-not-has-via-else-not-has+then-v-x}
 
 pub loop-v-init : goal.loop-v-init
 loop-v-init c = generalising_start _ _ _

@@ -3,7 +3,7 @@ use borrow.Author.Tests.{not-true, not-false}
 use native.Mathlib.Omega.{arith}
 use mathlib.Core.Path.{ap}
 use mathlib.Core.Bool.{not}
-use Rattle.induction.proofs.resting.allowed_rule.Goals as goal
+use Rattle.induction.proofs.resting.Allowed.rule.Goals as goal
 
 pub is_assumed-requires : goal.is_assumed-requires
 is_assumed-requires c = rest_facts c.requires.0 c.requires.1

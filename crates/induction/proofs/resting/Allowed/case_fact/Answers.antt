@@ -3,7 +3,7 @@ use mathlib.Core.Path.{◌∙◌, sym}
 use borrow.Author.Tests.{not-true, not-false, ltb-true}
 use mathlib.Core.Path.{ap}
 use mathlib.Core.Bool.{not}
-use Rattle.induction.proofs.resting.case_fact.Goals as goal
+use Rattle.induction.proofs.resting.Allowed.case_fact.Goals as goal
 
 pub returns-then-not-is_fact : goal.returns-then-not-is_fact
 returns-then-not-is_fact c = λ g there. fact_missing g _ _ c.is_fact.result c.is_fact.ensures (not-true _ (ap not c.if-not-is_fact.true))

@@ -1,7 +1,7 @@
 use Prim.Native.Nat.{◌+◌}
 use Rattle.induction.proofs.Rests.{rowing_start, rowing_done, rowing_high, rowing_else, rowing_found}
 use native.Mathlib.Omega.{arith}
-use Rattle.induction.proofs.resting.is_hypothesis.Goals as goal
+use Rattle.induction.proofs.motive.Rows.has.Goals as goal
 
 pub loop-init : goal.loop-init
 loop-init c = rowing_start _ _ _ _ _ c.requires
