@@ -48,10 +48,10 @@ passed (Ok t) o e = on_done (on_is o e)
 passed (Err q) o e = on_refused (on_is o e)
 
 module _ {facts lists : List ℕ} {n : Sizes} {I W : List ℕ} {m : Mark} {x sort j : ℕ} {premises used : List ℕ} {c : ℕ} {own memo : List ℕ} (sorts ids : List ℕ)
-    (g : InCase facts lists n I W m x sort j premises used × Casing I W m c own × (length sorts ≡ length own))
+    (g : InCase facts lists n I W m x sort j premises used) (k : Casing I W m c own × (length sorts ≡ length own))
     (s : (memo ≡ replicate TERMS 0) × Roomy (length premises) ids) where
   pub end_width : length premises ≤ length ids
-  end_width = omega (arith, g.0.motived.few, s.1)
+  end_width = omega (arith, g.motived.few, s.1)
 
   pub end_count : length premises ≡ length (take (length premises) ids)
   end_count = sym (length-take-le (length premises) ids end_width)
@@ -86,22 +86,22 @@ module _ {facts lists : List ℕ} {n : Sizes} {I W : List ℕ} {m : Mark} {x sor
       end_motived =
           record {
             good = moved.went.grown.good;
-            small = g.0.motived.small;
-            there = grown_there moved.went.grown j g.0.motived.there;
-            known = below_grown premises moved.went.grown.more g.0.motived.known;
-            few = g.0.motived.few;
+            small = g.motived.small;
+            there = grown_there moved.went.grown j g.motived.there;
+            known = below_grown premises moved.went.grown.more g.motived.known;
+            few = g.motived.few;
           }
 
       pub end_room : length own * suc (length premises) ≤ length (last ++ drop (length premises) ids)
-      end_room = omega (arith, mul_mono (length own) 16 (suc (length premises)) g.1.narrow, g.0.motived.few, back_long, s.1)
+      end_room = omega (arith, mul_mono (length own) 16 (suc (length premises)) k.0.narrow, g.motived.few, back_long, s.1)
 
       motive_same : motive_in (made J X new) x sort j premises ≡ motive_in (made I W m) x sort j premises
       motive_same =
           λ i. record {
             variable = x;
             sort = sort;
-            judgment = grown_tree moved.went.grown j g.0.motived.there i;
-            premises = grown_args moved.went.grown premises g.0.motived.known i;
+            judgment = grown_tree moved.went.grown j g.motived.there i;
+            premises = grown_args moved.went.grown premises g.motived.known i;
           }
 
       -- the hypotheses come next
@@ -126,13 +126,13 @@ module _ {facts lists : List ℕ} {n : Sizes} {I W : List ℕ} {m : Mark} {x sor
           pub plain_right : (plain : List ℕ) → holds plain ≡ union (holds (replicate TERMWORDS 0)) (has (take (length premises) (last ++ drop (length premises) ids))) → (t : ℕ) → t < end.terms →
               holds plain t ≡ among (args_of (made J X new) last) (tree Y Z end t)
           plain_right plain q t l =
-              let k : Below end.terms last = below_grown last supposed.went.grown.more moved.known in
+              let b : Below end.terms last = below_grown last supposed.went.grown.more moved.known in
               ap (λ (p : Set). p t) (q ∙ (λ i. union (holds_zero TERMWORDS i) (has (back_front i))))
-              ∙ sym (among_has supposed.went.grown.good last k t l)
+              ∙ sym (among_has supposed.went.grown.good last b t l)
               ∙ ap (λ (ts : Trees). among ts (tree Y Z end t)) (grown_args supposed.went.grown last moved.known)
 
           pub end_rows : length ids' ≡ length (last ++ drop (length premises) ids) → many * suc (length premises) ≤ length ids'
-          end_rows y = omega (arith, mul_mono many 16 (suc (length premises)) (omega (arith, supposed.few, g.1.narrow)), g.0.motived.few, y, back_long, s.1)
+          end_rows y = omega (arith, mul_mono many 16 (suc (length premises)) (omega (arith, supposed.few, k.0.narrow)), g.motived.few, y, back_long, s.1)
 
           module _ (plain : List ℕ) (z : length plain ≡ length {A = ℕ} (replicate TERMWORDS 0))
               (q : holds plain ≡ union (holds (replicate TERMWORDS 0)) (has (take (length premises) (last ++ drop (length premises) ids))))

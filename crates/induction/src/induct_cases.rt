@@ -140,7 +140,8 @@ fn case_terms(
     memo: &mut [u32],
     ids: &mut [u32],
 ) -> Result<(), Question>
-    requires in_case { CaseIn facts.now store.old motive.now used.now × Cased store.old case.now }
+    requires in_case { CaseIn facts.now store.old motive.now used.now }
+    requires cased { Cased store.old case.now }
     requires scratch { (memo.old ≡ replicate TERMS 0) × Roomy (length motive.now.premises.now) ids.old }
     ensures same_tables { SameTables store.old store.new }
     ensures passed_as { (g : CaseIn facts.now store.old motive.now used.now) →

@@ -5,7 +5,7 @@ use Rattle.induction.proofs.induct_cases.case_rests.Goals.{then-rows-eq0, else-r
 use Rattle.induction.proofs.induct_cases.case_rests.Goals as goal
 
 pub slice_bounds-insert_all-end : goal.slice_bounds-insert_all-end
-slice_bounds-insert_all-end c = rest_inside c.requires c.if-rows-eq0.true
+slice_bounds-insert_all-end c = sym (length-take-le _ _ (rest_inside c.requires c.if-rows-eq0.true))
 
 pub insert_all-requires : goal.insert_all-requires
 insert_all-requires c = rest_ids c.requires c.if-rows-eq0.true
