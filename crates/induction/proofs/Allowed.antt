@@ -12,7 +12,7 @@ use lib.Seq.{drop-cons}
 use Rattle.state.specs.Entries.{part}
 use borrow.Author.Tests.{eq-eqb, ne_eqb, ltb-false}
 use Rattle.rules.specs.Limits.{FACTS}
-use Rattle.rules.specs.Out.{Out, then, found, ask}
+use Rattle.rules.specs.Out.{Out, ok, refuse, then, found, ask}
 use Rattle.rules.specs.Find.{any, all, entry}
 use Rattle.rules.specs.Tree.{Tree, same_tree, same_trees}
 use Rattle.rules.specs.Store.{Made}
@@ -32,7 +32,8 @@ use Rattle.state.specs.Rows.{cell, hyps_span, premises_span, general_span, plain
 use Rattle.state.specs.RowTables.{tabled_long}
 use Rattle.state.specs.FactLaws.{FactRow, fact_row_lem, facts_tabled, lists_long}
 use Rattle.referring.specs.Recall.{fact_of}
-use Rattle.induction.specs.Inducing.{Below, hyps_in, row_among, plain_at, Resting, case_fact, question}
+use Rattle.referring.specs.Substitutes.{Below}
+use Rattle.induction.specs.Inducing.{hyps_in, row_among, plain_at, Resting, case_fact}
 use Rattle.induction.proofs.Rests.{other, rows_are}
 
 -- One hypothesis ------------------------------------------------------------------------------------------------------------------------------
@@ -218,8 +219,8 @@ module _ {facts lists : List ℕ} {n : Sizes} {plain used : List ℕ} {x w : ℕ
   abbrev given : Out Made (Unit {0})
   given = case_fact g.S g.M g.ps (hyps_in T w many ids) i (tree g.I g.W g.m j) T
 
-  pub fact_missing : (r : Bool) → r ≡ ltb i n.facts → r ≡ false → given ≡ question 34 T
-  unfolding case_fact question fact_at then
+  pub fact_missing : (r : Bool) → r ≡ ltb i n.facts → r ≡ false → given ≡ refuse 34 0 T
+  unfolding case_fact fact_at then
   fact_missing r e f =
       ap (λ (o : Option Fact). then (found 34 o T) (λ f U. then (ask 43 (same_tree f.judgment (tree g.I g.W g.m j)) U)
       (λ z N. ask 44 (all (λ h. allowed_hyp g.M g.ps (hyps_in T w many ids) (entry g.S.facts h)) f.hyps) N)))
@@ -239,8 +240,8 @@ module _ {facts lists : List ℕ} {n : Sizes} {plain used : List ℕ} {x w : ℕ
         (λ z N. ask 44 (all (λ h. allowed_hyp g.M g.ps (hyps_in T w many ids) (entry g.S.facts h)) f.hyps) N))) (row g i l).is
         ∙ ap (λ (b : Bool). then (ask 43 b T) (λ z N. ask 44 (all (asked g i l) (fact_of g.S i).hyps) N)) same
 
-    pub fact_other : (k : ℕ) → k ≡ cell 6 facts i 0 → (k ≡ j → ⊥) → given ≡ question 43 T
-    unfolding question then
+    pub fact_other : (k : ℕ) → k ≡ cell 6 facts i 0 → (k ≡ j → ⊥) → given ≡ refuse 43 0 T
+    unfolding then
     fact_other k e q =
         found_here
         ∙ ap (λ (b : Bool). then (ask 43 b T) (λ z N. ask 44 (all (asked g i l) (fact_of g.S i).hyps) N)) (ne_eqb (cell 6 facts i 0) j (λ z. q (e ∙ z)))
@@ -253,10 +254,8 @@ module _ {facts lists : List ℕ} {n : Sizes} {plain used : List ℕ} {x w : ℕ
           ∙ ap (λ (b : Bool). then (ask 43 b T) (λ z N. ask 44 (all (asked g i l) (fact_of g.S i).hyps) N)) (eq-eqb (cell 6 facts i 0) j (sym e ∙ q))
           ∙ ap (λ (b : Bool). ask 44 b T) (sym a)
 
-      pub fact_rests_not : r ≡ false → given ≡ question 44 T
-      unfolding question
+      pub fact_rests_not : r ≡ false → given ≡ refuse 44 0 T
       fact_rests_not f = last_question ∙ ap (λ (b : Bool). ask 44 b T) f
 
-      pub fact_rests : r ≡ true → given ≡ question 0 T
-      unfolding question
+      pub fact_rests : r ≡ true → given ≡ ok tt T
       fact_rests f = last_question ∙ ap (λ (b : Bool). ask 44 b T) f

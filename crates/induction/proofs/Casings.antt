@@ -7,7 +7,7 @@ use native.Mathlib.Numerals.{add-one}
 use lib.ListN.{length, get_or, set, take, drop, replicate, length-set, length-drop, length-replicate, drop_of_length-le}
 use lib.Seq.{drop-cons, take-suc-set, length-take-le, drop-set-add, get_or-set_other}
 use Rattle.std.specs.Prelude.{Result, Ok, Err}
-use Rattle.rules.specs.Limits.{VARIABLES, TERMS, NODE}
+use Rattle.rules.specs.Limits.{TERMS, NODE}
 use Rattle.rules.specs.Out.{Out, ok, then, Act}
 use Rattle.rules.specs.Tree.{Tree, Trees, var, app, none, more, single}
 use Rattle.rules.specs.Store.{Made, keep}
@@ -82,7 +82,6 @@ module _ {I W : List ℕ} {old : Mark} {c : ℕ} {own J X node : List ℕ} {now 
       keeping_full a = let s = on_no _ split (refused_stopped a) in record { says = record { grown = s.grown; makes = s.makes } }
 
       module _ {t : ℕ} (stored : Stored J X Y Z now (var (get_or own k 0)) (keep (var (get_or own k 0)) (made J X now)) t new) where
-
         taken : take (k + 1) (drop 1 (set node (k + 1) t)) ≡ take k (drop 1 node) ++ (t ∷ [])
         taken =
             let q : k + 1 ≡ 1 + k = omega arith in

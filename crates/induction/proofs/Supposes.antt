@@ -7,11 +7,11 @@ use native.Mathlib.Omega.{arith}
 use native.Mathlib.Nat.{suc-mul}
 use native.Mathlib.Numerals.{add-one}
 use native.Mathlib.Decide.{dec_lt}
-use lib.ListN.{length, get_or, set, take, drop, length-set, length-drop, drop_of_length-le}
-use lib.Seq.{take-nil, drop-cons, take-set-le, take-take, length-take-le, get_or-take, get_or-drop, drop-drop, drop-set-add, take_at, drop_at, get_or-set_same}
+use lib.ListN.{length, get_or, set, take, drop, length-set, length-drop}
+use lib.Seq.{take-nil, take-set-le, take-take, length-take-le, get_or-take, get_or-drop, drop-drop, drop-set-add, take_at, drop_at, get_or-set_same}
 use borrow.Author.Tests.{eq-eqb, ne_eqb}
 use borrow.Rule.Slice.PartMut.{put_mid, mid_of, same_len_mid, mid_len, take_put}
-use Rattle.rules.specs.Limits.{VARIABLES, TERMS}
+use Rattle.rules.specs.Limits.{VARIABLES}
 use Rattle.rules.specs.Out.{Out, ok, then, Act}
 use Rattle.rules.specs.Store.{Made}
 use Rattle.rules.specs.Induct.{Hyp, Motive, hypothesis_at, hypotheses}
@@ -19,7 +19,7 @@ use Rattle.rules.specs.Laws.Out.{then_then}
 use Rattle.terms.specs.declared.store.Mark.{Mark}
 use Rattle.terms.specs.Table.{made, Grown}
 use Rattle.terms.specs.On.{Stopped, On, on_start, on_is, on_ok, on_no, on_done}
-use Rattle.terms.specs.Laws.Growth.{grown_tree, grown_args, grown_there}
+use Rattle.terms.specs.Laws.Growth.{grown_tree, grown_args}
 use Rattle.reading.specs.Laws.Walks.{then_same}
 use Rattle.referring.specs.Substitutes.{Below}
 use Rattle.referring.specs.Laws.Substitutes.{below_grown}
@@ -240,18 +240,6 @@ module _ {I W : List ℕ} {old : Mark} {x j : ℕ} {premises own sorts ids₀ : 
 
       pub supposing_room : at + length premises < length ids
       supposing_room = omega (arith, roomy, rows_suc many (length premises), q.2, h.place, h.long)
-
-      pub supposing_given : Motived J X now x j premises × (v < VARIABLES)
-      supposing_given = (
-        record {
-          good = h.on.grown.good;
-          small = g.small;
-          there = grown_there h.on.grown j g.there;
-          known = below_grown premises h.on.grown.more g.known;
-          few = g.few;
-        },
-        small_left 0 (omega arith),
-      )
 
       motive_same : motive_in (made J X now) x sort j premises ≡ motive_in (made I W old) x sort j premises
       motive_same = λ i. record { variable = x; sort = sort; judgment = grown_tree h.on.grown j g.there i; premises = grown_args h.on.grown premises g.known i }

@@ -194,6 +194,7 @@ pub record Resting (facts lists : List ℕ) (n : Sizes) (plain used : List ℕ) 
   pub wide : length used ≡ VARIABLEWORDS
   pub plain_are : (t : ℕ) → t < m.terms → holds plain t ≡ plain_at M ps (hyps_in (made I W m) k many ids) (tree I W m t)
   pub long : length plain ≡ TERMWORDS
+  pub narrow : k ≤ FACTS
   pub room : many * suc k ≤ length ids
   pub known : Below m.terms (take (many * suc k) ids)
 
@@ -217,6 +218,7 @@ pub record BeforeRest (facts lists : List ℕ) (n : Sizes) (plain used : List �
   pub wide : length used ≡ VARIABLEWORDS
   pub plain_are : (t : ℕ) → t < m.terms → holds plain t ≡ among ps (tree I W m t)
   pub long : length plain ≡ TERMWORDS
+  pub narrow : k ≤ FACTS
   pub room : many * suc k ≤ length ids
   pub known : Below m.terms (take (many * suc k) ids)
   pub there : j < m.terms

@@ -1,5 +1,6 @@
 // What a case of `induct` may rest on: plain hypotheses by a set of terms, rule hypotheses by the numbers of the induction hypotheses.
 ghost use Rattle.std.specs.Prelude.{◌≡◌, ◌&&◌, not, suc, ◌*◌, ◌<◌, ◌≤◌, eqb, length};
+ghost use Rattle.rules.specs.Limits.{FACTS};
 ghost use Rattle.rules.specs.Find.{all, entry};
 ghost use Rattle.rules.specs.Induct.{allowed_rule, allowed_hyp};
 ghost use Rattle.terms.specs.Table.{made, tree};
@@ -31,16 +32,13 @@ pub struct Allowed<'a> {
 impl Rows<'_> {
     // Whether some row has these premises and this judgment.
     fn has(&self, own: &[u32], judgment: usize) -> bool
-        requires { self.now.many * suc self.now.width ≤ length self.now.cells.now }
+        requires { (self.now.many * suc self.now.width ≤ length self.now.cells.now) × (self.now.width ≤ FACTS) }
         ensures { result ≡ row_among self.now.width self.now.many self.now.cells.now own.now judgment }
     {
-        let mut at = 0;
-        for _ in 0..self.many {
-            let end = at + self.width;
-            if self.cells[end] as usize == judgment && &self.cells[at..end] == own {
+        for row in self.cells.chunks_exact(self.width + 1).take(self.many) {
+            if row[self.width] as usize == judgment && &row[..self.width] == own {
                 return true;
             }
-            at = end + 1;
         }
         false
     }
@@ -52,8 +50,13 @@ impl Allowed<'_> {
         requires { Below (64 * length self.now.used.now) own.now }
         ensures { result ≡ all (λ g. holds self.now.used.now g && not (eqb g self.now.x)) own.now }
     {
-        own.iter()
-            .all(|v| has(self.used, *v as usize) && *v as usize != self.x)
+        for v in own {
+            let v = *v as usize;
+            if !has(self.used, v) || v == self.x {
+                return false;
+            }
+        }
+        true
     }
 
     // Whether the case may rest on hypothesis h as a rule.

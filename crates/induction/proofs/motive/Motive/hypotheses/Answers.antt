@@ -1,5 +1,4 @@
-use mathlib.Core.Path.{refl, ap, ◌∙◌}
-use lib.ListN.{length}
+use mathlib.Core.Path.{refl, ◌∙◌}
 use native.Mathlib.Omega.{arith}
 use mathlib.Core.Logic.{inl, inr}
 use Rattle.std.proofs.lemmas.Result.{err_from_is_err_and}

@@ -1,7 +1,7 @@
 use mathlib.Core.Path.{refl}
 use Rattle.std.proofs.lemmas.Result.{err_from_is_err_and}
 use Rattle.referring.specs.Laws.Substitutes.{memo_asked}
-use Rattle.induction.proofs.Moves.{moved_replaceable, first_full, first_movable, first_stopped, first_moved}
+use Rattle.induction.proofs.Moves.{first_full, first_movable, first_stopped, first_moved}
 use Rattle.induction.proofs.motive.Motive.judgment_first.Goals as goal
 
 pub substitute-requires-clause-id_in_bounds : goal.substitute-requires-clause-id_in_bounds

@@ -14,13 +14,10 @@ judgment-requires c = rest_facts c.requires (ltb-true _ _ (sym c.is_fact.ensures
 pub returns-then-judgment : goal.returns-then-judgment
 returns-then-judgment c = λ g there. fact_other g _ _ (ltb-true _ _ (sym c.is_fact.ensures ∙ not-false _ (ap not c.if-not-is_fact.false))) there c.judgment.result c.judgment.ensures c.if-judgment.true
 
-pub all_allowed-requires : goal.all_allowed-requires
-all_allowed-requires c = (c.requires, ltb-true _ _ (sym c.is_fact.ensures ∙ not-false _ (ap not c.if-not-is_fact.false)))
-
-pub returns-then-not-all_allowed : goal.returns-then-not-all_allowed
-returns-then-not-all_allowed c = λ g there. fact_rests_not g _ _ (ltb-true _ _ (sym c.is_fact.ensures ∙ not-false _ (ap not c.if-not-is_fact.false))) there c.judgment.result
-    c.judgment.ensures c.if-judgment.false c.all_allowed.result (c.all_allowed.ensures g) (not-true _ (ap not c.if-not-all_allowed.true))
+pub returns-then-not-hyps : goal.returns-then-not-hyps
+returns-then-not-hyps c = λ g there. fact_rests_not g _ _ (ltb-true _ _ (sym c.is_fact.ensures ∙ not-false _ (ap not c.if-not-is_fact.false))) there c.judgment.result
+    c.judgment.ensures c.if-judgment.false c.hyps.result (c.hyps.ensures g) (not-true _ (ap not c.if-not-hyps.true))
 
 pub returns : goal.returns
 returns c = λ g there. fact_rests g _ _ (ltb-true _ _ (sym c.is_fact.ensures ∙ not-false _ (ap not c.if-not-is_fact.false))) there c.judgment.result
-    c.judgment.ensures c.if-judgment.false c.all_allowed.result (c.all_allowed.ensures g) (not-false _ (ap not c.if-not-all_allowed.false))
+    c.judgment.ensures c.if-judgment.false c.hyps.result (c.hyps.ensures g) (not-false _ (ap not c.if-not-hyps.false))

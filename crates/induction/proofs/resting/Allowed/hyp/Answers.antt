@@ -15,4 +15,4 @@ returns-then-is_plain c = λ g. hyp_plain g _ c.requires.1 c.is_plain.result c.j
     c.judgment.ensures c.has.ensures
 
 pub returns : goal.returns
-returns c = λ g. hyp_rule g _ c.requires.1 c.is_plain.result c.allowed_rule.result c.is_plain.ensures c.if-is_plain.false (c.allowed_rule.ensures g)
+returns c = λ g. hyp_rule g _ c.requires.1 c.is_plain.result c.rule.result c.is_plain.ensures c.if-is_plain.false (c.rule.ensures g)

@@ -1,28 +1,19 @@
 use Rattle.derivation.proofs.RuleFacts.{rule_asks, rule_lists_lem, general_low, general_high, general_small, general_begins, general_out, general_skip, general_in, general_done}
 use native.Mathlib.Omega.{arith}
-use mathlib.Core.Path.{refl, sym}
+use mathlib.Core.Path.{refl}
 use mathlib.Core.Path.{ap}
 use mathlib.Core.Bool.{not}
-use Rattle.derivation.proofs.apply.binds_general.Goals as goal
-use Rattle.derivation.proofs.apply.binds_general.Goals.{else-cell-ne0-via-then-cell-ne0+else-not-has, else-cell-ne0-via-else-cell-ne0}
+use Rattle.derivation.proofs.apply.Rule.binds_general.Goals as goal
+use Rattle.derivation.proofs.apply.Rule.binds_general.Goals.{else-cell-ne0-via-then-cell-ne0+else-not-has, else-cell-ne0-via-else-cell-ne0}
 
 pub general-span-requires : goal.general-span-requires
 general-span-requires c = rule_asks c.requires.0
 
-pub offset_bounds-lists-from : goal.offset_bounds-lists-from
-offset_bounds-lists-from c = omega (arith, general_low c.requires.0 c.general-span.ensures, general_high c.requires.0 c.general-span.ensures, rule_lists_lem c.requires.0)
-
-pub slice_bounds-insert_all-count : goal.slice_bounds-insert_all-count
-slice_bounds-insert_all-count c = general_low c.requires.0 c.general-span.ensures
-
-pub slice_bounds-insert_all-start : goal.slice_bounds-insert_all-start
-slice_bounds-insert_all-start c = general_low c.requires.0 c.general-span.ensures
+pub offset_bounds-facts-from : goal.offset_bounds-facts-from
+offset_bounds-facts-from c = omega (arith, general_low c.requires.0 c.general-span.ensures, general_high c.requires.0 c.general-span.ensures, rule_lists_lem c.requires.0)
 
 pub slice_bounds-insert_all-end : goal.slice_bounds-insert_all-end
 slice_bounds-insert_all-end c = general_high c.requires.0 c.general-span.ensures
-
-pub slice_bounds-insert_all-end-2 : goal.slice_bounds-insert_all-end-2
-slice_bounds-insert_all-end-2 c = refl
 
 pub insert_all-requires : goal.insert_all-requires
 insert_all-requires c = general_small c.requires.0 c.general-span.ensures
@@ -30,17 +21,8 @@ insert_all-requires c = general_small c.requires.0 c.general-span.ensures
 pub loop-v-init : goal.loop-v-init
 loop-v-init c = (c.insert_all.auto.set, c.requires.1, general_begins _ _ _ _ _ _ _ c.general-span.ensures refl c.insert_all.ensures)
 
-pub slice_bounds-has-end : goal.slice_bounds-has-end
-slice_bounds-has-end c = sym c.loop-v.invariant.0
-
-pub has-requires : goal.has-requires
-has-requires c = omega (arith, c.loop-v-test.true, c.loop-v.invariant.0, c.requires.1)
-
 pub returns-then-not-has : goal.returns-then-not-has
 returns-then-not-has c = λ g M. general_out c.loop-v.invariant.2 c.loop-v-test.true g M c.if-cell-ne0.true c.has.ensures (ap not c.if-not-has.true)
-
-pub loop-v-smaller : goal.loop-v-smaller
-loop-v-smaller c = omega (arith, c.loop-v-test.true)
 
 pub loop-v-preserved : goal.loop-v-preserved
 loop-v-preserved c = (

@@ -1,21 +1,15 @@
 use Rattle.derivation.proofs.RuleFacts.{rule_asks, assumed_is, usable_assumed, refused_assumed, usable_derived, refused_derived}
 use mathlib.Core.Path.{sym, ◌∙◌}
-use Rattle.derivation.proofs.apply.applicable.Goals as goal
+use Rattle.derivation.proofs.apply.Rule.applicable.Goals as goal
 
 pub is_assumed-requires : goal.is_assumed-requires
 is_assumed-requires c = rule_asks c.requires.0
-
-pub binds_general-requires : goal.binds_general-requires
-binds_general-requires c = c.requires
 
 pub returns-then-binds_general : goal.returns-then-binds_general
 returns-then-binds_general c = λ g M. usable_assumed g.S _ _ _ (assumed_is g c.is_assumed.ensures c.if-is_assumed.true) (sym c.if-binds_general.true ∙ c.binds_general.ensures g M)
 
 pub returns-then-is_assumed : goal.returns-then-is_assumed
 returns-then-is_assumed c = λ g M. refused_assumed g.S _ _ _ (assumed_is g c.is_assumed.ensures c.if-is_assumed.true) (sym c.if-binds_general.false ∙ c.binds_general.ensures g M)
-
-pub rests_on_plain-requires : goal.rests_on_plain-requires
-rests_on_plain-requires c = c.requires.0
 
 pub returns-then-rests_on_plain : goal.returns-then-rests_on_plain
 returns-then-rests_on_plain c = λ g M. usable_derived g.S _ _ _ (assumed_is g c.is_assumed.ensures c.if-is_assumed.false) (sym c.if-rests_on_plain.true ∙ c.rests_on_plain.ensures g)
