@@ -156,6 +156,7 @@ module _ {facts lists : List ℕ} {n : Sizes} {I W : List ℕ} {m : Mark} {x sor
                   wide = h.wide;
                   plain_are = plain_right plain q;
                   long = z ∙ length-replicate {A = ℕ} TERMWORDS 0;
+                  narrow = h.motived.few;
                   room = end_rows y;
                   known = supposed.known;
                   there = grown_there supposed.went.grown t moved.there;

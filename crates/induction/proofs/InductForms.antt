@@ -150,7 +150,7 @@ module _ {K : Names} {facts footings lists : List ℕ} {n : Sizes} {I W : List �
                   ∙ cells_are (refers_on g.refers (grown_grows read.went.grown) read.went.grown.good).recorded (rising FACTS (holds hyps)) hs_known
                   ∙ ap (judgments_at g.S.facts) hs_under
 
-              form_motived : Motived J X new x j (take width out)
+              pub form_motived : Motived J X new x j (take width out)
               form_motived =
                   record {
                     good = read.went.grown.good;
@@ -162,7 +162,7 @@ module _ {K : Names} {facts footings lists : List ℕ} {n : Sizes} {I W : List �
                     few = omega (arith, length-take-le width out (omega (arith, h.0, long)), h.0);
                   }
 
-              pub form_motive : MotiveItems K facts footings lists n J X new x j (take width out) (take (end - from) (drop from cells))
+              abbrev pub form_motive : MotiveItems K facts footings lists n J X new x j (take width out) (take (end - from) (drop from cells))
               form_motive =
                   record {
                     S = g.S;

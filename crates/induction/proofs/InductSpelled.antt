@@ -144,10 +144,10 @@ module _ {K : Names} {facts footings lists : List ℕ} {n : Sizes} {I W : List �
     named : variable_in g.S.vars (item g.xs 2) ≡ some x
     named = (e spelled_subject).0
 
-    spelled_known : x < length g.S.vars
+    pub spelled_known : x < length g.S.vars
     spelled_known = variable_below g.S.vars (item g.xs 2) x named
 
-    at_fourth : Walk K.text cells next (cons (item g.xs 3) (rest g.xs 4))
+    pub at_fourth : Walk K.text cells next (cons (item g.xs 3) (rest g.xs 4))
     at_fourth = subst (λ (z : Sexps). Walk K.text cells next z) fourth (e spelled_subject).1
 
     pub fourth_high : next ≤ length cells
@@ -158,13 +158,13 @@ module _ {K : Names} {facts footings lists : List ℕ} {n : Sizes} {I W : List �
 
     -- Without hypotheses -----------------------------------------------------------------------------------------------------------------------
 
-    no_hyps : (v : ℕ) → holds (replicate FACTWORDS 0) v ≡ false
+    pub no_hyps : (v : ℕ) → holds (replicate FACTWORDS 0) v ≡ false
     no_hyps v = ap (λ (a : Set). a v) (holds_zero FACTWORDS)
 
-    fourth_items : Holds K.text (take (length cells - next) (drop next cells)) (cons (item g.xs 3) (cons (item g.xs 4) (rest g.xs 5)))
+    pub fourth_items : Holds K.text (take (length cells - next) (drop next cells)) (cons (item g.xs 3) (cons (item g.xs 4) (rest g.xs 5)))
     fourth_items = subst (λ (w : Sexps). Holds K.text (take (length cells - next) (drop next cells)) (cons (item g.xs 3) w)) fifth (walk_rest at_fourth)
 
-    pub plain_form : InductForm K facts footings lists n I W m x (replicate FACTWORDS 0) (take (length cells - next) (drop next cells))
+    abbrev pub plain_form : InductForm K facts footings lists n I W m x (replicate FACTWORDS 0) (take (length cells - next) (drop next cells))
     plain_form =
         record {
           S = g.S;
@@ -220,7 +220,7 @@ module _ {K : Names} {facts footings lists : List ℕ} {n : Sizes} {I W : List �
       rises : read.hyps ≡ rising (length g.S.facts) (holds set)
       rises = listed_rises g.S (item g.xs 3) read.hyps (made I W m) (read.are (made I W m)) ∙ ap (rising (length g.S.facts)) (sym read.set_is)
 
-      hyps_earlier : (v : ℕ) → holds set v ≡ true → v < length g.S.facts
+      pub hyps_earlier : (v : ℕ) → holds set v ≡ true → v < length g.S.facts
       hyps_earlier v q =
           has_all read.hyps v
           (subst (All (λ h. h < length g.S.facts)) (sym rises) (rising_all_of (length g.S.facts) (holds set) (λ w l e. l)))
@@ -236,10 +236,10 @@ module _ {K : Names} {facts footings lists : List ℕ} {n : Sizes} {I W : List �
         pub fifth_high : last ≤ length cells
         fifth_high = at_fifth.here.high
 
-        fifth_items : Holds K.text (take (length cells - last) (drop last cells)) (cons (item g.xs 4) (cons (item g.xs 5) (rest g.xs 6)))
+        pub fifth_items : Holds K.text (take (length cells - last) (drop last cells)) (cons (item g.xs 4) (cons (item g.xs 5) (rest g.xs 6)))
         fifth_items = subst (λ (z : Sexps). Holds K.text (take (length cells - last) (drop last cells)) (cons (item g.xs 4) z)) sixth (walk_rest at_fifth)
 
-        pub with_form : length set ≡ FACTWORDS → InductForm K facts footings lists n I W m x set (take (length cells - last) (drop last cells))
+        abbrev pub with_form : length set ≡ FACTWORDS → InductForm K facts footings lists n I W m x set (take (length cells - last) (drop last cells))
         with_form z =
             record {
               S = g.S;

@@ -231,6 +231,7 @@ module _ {facts lists : List ℕ} {n : Sizes} {plain used : List ℕ} {x w : ℕ
         wide = g.wide;
         plain_are = e;
         long = a ∙ g.long;
+        narrow = g.narrow;
         room = g.room;
         known = g.known;
       }

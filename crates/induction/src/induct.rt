@@ -212,7 +212,13 @@ pub fn induct_with(
     let reader = &source.reader;
     let Subject { x, next: third } = read_subject(reader, cells)?;
     let mut hyps = [0; FACTWORDS];
-    plain_hyps(reader.text, source.rows, reader.n, &cells[third..], &mut hyps)?;
+    plain_hyps(
+        reader.text,
+        source.rows,
+        reader.n,
+        &cells[third..],
+        &mut hyps,
+    )?;
     let next = items::after(cells, third);
     induct_on(source, store, &cells[next..], x, hyps, memo, ids)
 }

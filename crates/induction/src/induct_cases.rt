@@ -159,7 +159,9 @@ fn case_terms(
         width,
         many,
     };
-    case_rests(facts, case.fact, judgment, &mut plain, used, motive.x, &rows)
+    case_rests(
+        facts, case.fact, judgment, &mut plain, used, motive.x, &rows,
+    )
 }
 
 // The cases that the items spell, each with a constructor of the sort, by position.

@@ -24,7 +24,7 @@ pub var_sort-requires : goal.var_sort-requires
 var_sort-requires c = form_sorts c.requires.induct_form
 
 pub slice_bounds-motive-end : goal.slice_bounds-motive-end
-slice_bounds-motive-end c = omega (arith, c.judgments_of-width.ensures.0, c.judgments_of-width.auto.out)
+slice_bounds-motive-end c = sym (length-take-le _ _ (omega (arith, c.judgments_of-width.ensures.0, c.judgments_of-width.auto.out)))
 
 pub offset_bounds-cells-a : goal.offset_bounds-cells-a
 offset_bounds-cells-a c = omega (arith, (form_list c.requires.induct_form _ _ _ c.in_ok-judgment.ensures.read_as c.after-next.ensures c.item_at.ensures c.in-List.is).low, (form_list c.requires.induct_form _ _ _ c.in_ok-judgment.ensures.read_as c.after-next.ensures c.item_at.ensures c.in-List.is).high, c.well_formed.1.1.0)

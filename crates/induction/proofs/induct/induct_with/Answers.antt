@@ -39,7 +39,7 @@ pub slice_bounds-induct_on-start : goal.slice_bounds-induct_on-start
 slice_bounds-induct_on-start c = fifth_high c.requires.reads (omega arith) c.in_ok-x.ensures _ c.in_ok-plain_hyps.ensures (omega arith) c.after-next.ensures
 
 pub induct_on-requires-clause-induct_form : goal.induct_on-requires-clause-induct_form
-induct_on-requires-clause-induct_form c = with_form c.requires.reads (omega arith) c.in_ok-x.ensures _ c.in_ok-plain_hyps.ensures (omega arith) c.after-next.ensures ?
+induct_on-requires-clause-induct_form c = with_form c.requires.reads (omega arith) c.in_ok-x.ensures _ c.in_ok-plain_hyps.ensures (omega arith) c.after-next.ensures c.plain_hyps.auto.set
 
 pub returns-clause-derived_as : goal.returns-clause-derived_as
-returns-clause-derived_as c = λ g. with_derived g (omega arith) c.in_ok-x.ensures _ c.in_ok-plain_hyps.ensures (omega arith) c.after-next.ensures ? _ _ _ _ c.induct_on.ensures.derived_as
+returns-clause-derived_as c = λ g. with_derived g (omega arith) c.in_ok-x.ensures _ c.in_ok-plain_hyps.ensures (omega arith) c.after-next.ensures c.plain_hyps.auto.set _ _ _ _ c.induct_on.ensures.derived_as

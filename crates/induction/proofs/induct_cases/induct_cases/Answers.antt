@@ -38,8 +38,8 @@ pub returns-in_err-case_terms-clause-passed_as : goal.returns-in_err-case_terms-
 returns-in_err-case_terms-clause-passed_as c =
     let h = here c.loop-item.invariant.cells c.in-Some.ensures.steps in
     λ g.
-        let p = handed c.from_residual-in_err-case_terms.result c.from_residual-in_err-case_terms.ensures in
-        rw p (cases_stopped g (c.loop-item.invariant.cases g) h c.next_constructor.ensures c.in-Some-next_constructor.is c.in_ok-case.ensures _ _ _ (rw c.facts.ensures at c.in_err-case_terms.ensures.passed_as))
+    let p = handed c.from_residual-in_err-case_terms.result c.from_residual-in_err-case_terms.ensures in
+    rw p (cases_stopped g (c.loop-item.invariant.cases g) h c.next_constructor.ensures c.in-Some-next_constructor.is c.in_ok-case.ensures _ _ _ (rw c.facts.ensures at c.in_err-case_terms.ensures.passed_as))
 
 pub overflow_add-from : goal.overflow_add-from
 overflow_add-from c =
