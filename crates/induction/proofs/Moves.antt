@@ -42,9 +42,6 @@ abbrev pub asks_first : List ℕ → List ℕ → Mark → List ℕ → ℕ → 
 asks_first I W m map j = substitute (replacement (made I W m) map) (tree I W m j) (made I W m)
 
 module _ {I W : List ℕ} {m : Mark} {map memo premises out₀ : List ℕ} {j : ℕ} (g : Replaceables I W m map memo premises out₀ × (j < m.terms)) where
-  pub moved_replaceable : Replaceable I W m map j
-  moved_replaceable = record { good = g.0.good; bound = g.0.within; there = g.1 }
-
   -- the judgment first
   abbrev first : Out Made Hyp
   first = judgment_first (replacement (made I W m) map) (tree I W m j) (args_of (made I W m) premises) (made I W m)
