@@ -68,15 +68,14 @@ module _ {goals text vars : List ℕ} {count : ℕ} {cells : List ℕ} (g : Subj
   subject_items = (g.xs, g.holds.cells)
 
   module _ {at : ℕ} (a : (ys : Sexps) → cells ≡ encodes ys → at ≡ place ys 2) where
+    pub subject_walk : Walk text cells at (rest g.xs 2)
+    subject_walk = rest_walk g.holds 2 at (a g.xs g.holds.cells)
+
     at_subject : Walk text cells at (cons (item g.xs 2) (rest g.xs 3))
-    at_subject =
-        subst (λ (z : Sexps). Walk text cells at z) (rest_item g.xs 2 (omega (arith, g.many))) (rest_walk g.holds 2 at (a g.xs g.holds.cells))
+    at_subject = subst (λ (z : Sexps). Walk text cells at z) (rest_item g.xs 2 (omega (arith, g.many))) subject_walk
 
     pub subject_high : at ≤ length cells
     subject_high = at_subject.here.high
-
-    pub subject_cell : at < length cells
-    subject_cell = at_inside at_subject.here
 
     pub subject_asks : FirstItem text (take (length cells - at) (drop at cells)) × SomeVars goals text vars count
     subject_asks = (record { x = item g.xs 2; ys = rest g.xs 3; holds = walk_rest at_subject }, (g.S.vars, g.held))
@@ -92,9 +91,6 @@ module _ {goals text vars : List ℕ} {count : ℕ} {cells : List ℕ} (g : Subj
 
       pub subject_known : {x : ℕ} → r ≡ some x → variable_in g.S.vars (item g.xs 2) ≡ some x
       subject_known {x} e = found_at (variable_in g.S.vars (item g.xs 2)) r x told e
-
-    pub subject_behind : {next : ℕ} → next ≡ behind at (item_at cells at) → Walk text cells next (rest g.xs 3)
-    subject_behind u = walk_behind at_subject u
 
 -- The form -----------------------------------------------------------------------------------------------------------------------------------
 
@@ -139,126 +135,133 @@ module _ {K : Names} {facts footings lists : List ℕ} {n : Sizes} {I W : List �
         subst (λ (p : Question). Stopped I W I W m (induct_with g.S g.xs (made I W m)) (number_of p) (detail_of p) m) (sym binding)
         (on_found_none _ 36 begin_with (e spelled_subject).0)
 
-  module _ {x next : ℕ}
-      (e : (h : SubjectItems K.goals K.text K.vars n.vars cells) → (variable_in h.S.vars (item h.xs 2) ≡ some x) × Walk K.text cells next (rest h.xs 3)) where
+  module _ {x at : ℕ}
+      (e : (h : SubjectItems K.goals K.text K.vars n.vars cells) → (variable_in h.S.vars (item h.xs 2) ≡ some x) × Walk K.text cells at (rest h.xs 2)) where
     named : variable_in g.S.vars (item g.xs 2) ≡ some x
     named = (e spelled_subject).0
 
     pub spelled_known : x < length g.S.vars
     spelled_known = variable_below g.S.vars (item g.xs 2) x named
 
-    pub at_fourth : Walk K.text cells next (cons (item g.xs 3) (rest g.xs 4))
-    at_fourth = subst (λ (z : Sexps). Walk K.text cells next z) fourth (e spelled_subject).1
+    at_third : Walk K.text cells at (cons (item g.xs 2) (rest g.xs 3))
+    at_third = subst (λ (z : Sexps). Walk K.text cells at z) (rest_item g.xs 2 (omega (arith, g.many, l))) (e spelled_subject).1
 
-    pub fourth_high : next ≤ length cells
-    fourth_high = at_fourth.here.high
+    pub third_cell : at < length cells
+    third_cell = at_inside at_third.here
 
-    pub fourth_cell : next < length cells
-    fourth_cell = at_inside at_fourth.here
+    module _ {next : ℕ} (u : next ≡ behind at (item_at cells at)) where
+      pub at_fourth : Walk K.text cells next (cons (item g.xs 3) (rest g.xs 4))
+      at_fourth = subst (λ (z : Sexps). Walk K.text cells next z) fourth (walk_behind at_third u)
 
-    -- Without hypotheses -----------------------------------------------------------------------------------------------------------------------
+      pub fourth_high : next ≤ length cells
+      fourth_high = at_fourth.here.high
 
-    pub no_hyps : (v : ℕ) → holds (replicate FACTWORDS 0) v ≡ false
-    no_hyps v = ap (λ (a : Set). a v) (holds_zero FACTWORDS)
+      pub fourth_cell : next < length cells
+      fourth_cell = at_inside at_fourth.here
 
-    pub fourth_items : Holds K.text (take (length cells - next) (drop next cells)) (cons (item g.xs 3) (cons (item g.xs 4) (rest g.xs 5)))
-    fourth_items = subst (λ (w : Sexps). Holds K.text (take (length cells - next) (drop next cells)) (cons (item g.xs 3) w)) fifth (walk_rest at_fourth)
+      -- Without hypotheses -----------------------------------------------------------------------------------------------------------------------
 
-    abbrev pub plain_form : InductForm K facts footings lists n I W m x (replicate FACTWORDS 0) (take (length cells - next) (drop next cells))
-    plain_form =
-        record {
-          S = g.S;
-          y = item g.xs 3;
-          z = item g.xs 4;
-          zs = rest g.xs 5;
-          refers = g.refers;
-          variable_known = spelled_known;
-          earlier = λ v q. absurd (false≢true (sym (no_hyps v) ∙ q));
-          long = length-replicate {A = ℕ} FACTWORDS 0;
-          items = fourth_items;
-        }
+      pub no_hyps : (v : ℕ) → holds (replicate FACTWORDS 0) v ≡ false
+      no_hyps v = ap (λ (a : Set). a v) (holds_zero FACTWORDS)
 
-    pub spelled_derived : (Y Z : List ℕ) (new : Mark) (o : Result Derived Question) →
-        ((h : InductForm K facts footings lists n I W m x (replicate FACTWORDS 0) (take (length cells - next) (drop next cells))) →
-        DerivedBy Fact I W Y Z m new h.S (induct_on h.S x (rising (length h.S.facts) (holds (replicate FACTWORDS 0))) h.y h.z (made I W m)) alone o) →
-        DerivedBy Fact I W Y Z m new g.S (induct g.S g.xs (made I W m)) alone o
-    spelled_derived Y Z new o d =
-        derived_on g.S Y Z new o
-        (on_is (on_found_some _ 36 begin named)
-        (ap (λ (hs : List ℕ). induct_on g.S x hs (item g.xs 3) (item g.xs 4) (made I W m)) (sym (rising_empty (length g.S.facts) (holds (replicate FACTWORDS 0)) no_hyps))))
-        (d plain_form)
+      pub fourth_items : Holds K.text (take (length cells - next) (drop next cells)) (cons (item g.xs 3) (cons (item g.xs 4) (rest g.xs 5)))
+      fourth_items = subst (λ (w : Sexps). Holds K.text (take (length cells - next) (drop next cells)) (cons (item g.xs 3) w)) fifth (walk_rest at_fourth)
 
-    -- With hypotheses --------------------------------------------------------------------------------------------------------------------------
+      abbrev pub plain_form : InductForm K facts footings lists n I W m x (replicate FACTWORDS 0) (take (length cells - next) (drop next cells))
+      plain_form =
+          record {
+            S = g.S;
+            y = item g.xs 3;
+            z = item g.xs 4;
+            zs = rest g.xs 5;
+            refers = g.refers;
+            variable_known = spelled_known;
+            earlier = λ v q. absurd (false≢true (sym (no_hyps v) ∙ q));
+            long = length-replicate {A = ℕ} FACTWORDS 0;
+            items = fourth_items;
+          }
 
-    abbrev pub hyps_asked : FactsItem K.text facts n (take (length cells - next) (drop next cells))
-    hyps_asked =
-        record {
-          S = g.S;
-          made_trees = made I W m;
-          footings = footings;
-          lists = lists;
-          x = item g.xs 3;
-          ys = rest g.xs 4;
-          recorded = g.refers.recorded;
-          holds = walk_rest at_fourth;
-        }
+      pub spelled_derived : (Y Z : List ℕ) (new : Mark) (o : Result Derived Question) →
+          ((h : InductForm K facts footings lists n I W m x (replicate FACTWORDS 0) (take (length cells - next) (drop next cells))) →
+          DerivedBy Fact I W Y Z m new h.S (induct_on h.S x (rising (length h.S.facts) (holds (replicate FACTWORDS 0))) h.y h.z (made I W m)) alone o) →
+          DerivedBy Fact I W Y Z m new g.S (induct g.S g.xs (made I W m)) alone o
+      spelled_derived Y Z new o d =
+          derived_on g.S Y Z new o
+          (on_is (on_found_some _ 36 begin named)
+          (ap (λ (hs : List ℕ). induct_on g.S x hs (item g.xs 3) (item g.xs 4) (made I W m)) (sym (rising_empty (length g.S.facts) (holds (replicate FACTWORDS 0)) no_hyps))))
+          (d plain_form)
 
-    chosen : On I W m (induct_with g.S g.xs (made I W m)) I W m
-        (then (hyp_list is_plain g.S (item g.xs 3) (made I W m)) (λ hs N. induct_on g.S x hs (item g.xs 4) (item g.xs 5) N))
-    chosen = on_found_some _ 36 begin_with named
+      -- With hypotheses --------------------------------------------------------------------------------------------------------------------------
 
-    pub hyps_refused : {before set : List ℕ} {q d : ℕ} →
-        ((h : FactsItem K.text facts n (take (length cells - next) (drop next cells))) →
-        ((M : Made) → hyp_list is_plain h.S h.x M ≡ refuse q d M) × ((set ≡ before) × (d ≡ 0))) →
-        Stopped I W I W m (induct_with g.S g.xs (made I W m)) q d m
-    hyps_refused c = on_stop _ chosen ((c hyps_asked).0 (made I W m))
+      abbrev pub hyps_asked : FactsItem K.text facts n (take (length cells - next) (drop next cells))
+      hyps_asked =
+          record {
+            S = g.S;
+            made_trees = made I W m;
+            footings = footings;
+            lists = lists;
+            x = item g.xs 3;
+            ys = rest g.xs 4;
+            recorded = g.refers.recorded;
+            holds = walk_rest at_fourth;
+          }
 
-    module _ (set : List ℕ) (c : (h : FactsItem K.text facts n (take (length cells - next) (drop next cells))) → HypsRead is_plain h.S h.x set) (six : 6 ≤ least) where
-      read : HypsRead is_plain g.S (item g.xs 3) set
-      read = c hyps_asked
+      chosen : On I W m (induct_with g.S g.xs (made I W m)) I W m
+          (then (hyp_list is_plain g.S (item g.xs 3) (made I W m)) (λ hs N. induct_on g.S x hs (item g.xs 4) (item g.xs 5) N))
+      chosen = on_found_some _ 36 begin_with named
 
-      rises : read.hyps ≡ rising (length g.S.facts) (holds set)
-      rises = listed_rises g.S (item g.xs 3) read.hyps (made I W m) (read.are (made I W m)) ∙ ap (rising (length g.S.facts)) (sym read.set_is)
+      pub hyps_refused : {before set : List ℕ} {q d : ℕ} →
+          ((h : FactsItem K.text facts n (take (length cells - next) (drop next cells))) →
+          ((M : Made) → hyp_list is_plain h.S h.x M ≡ refuse q d M) × ((set ≡ before) × (d ≡ 0))) →
+          Stopped I W I W m (induct_with g.S g.xs (made I W m)) q d m
+      hyps_refused c = on_stop _ chosen ((c hyps_asked).0 (made I W m))
 
-      pub hyps_earlier : (v : ℕ) → holds set v ≡ true → v < length g.S.facts
-      hyps_earlier v q =
-          has_all read.hyps v
-          (subst (All (λ h. h < length g.S.facts)) (sym rises) (rising_all_of (length g.S.facts) (holds set) (λ w l e. l)))
-          (ap (λ (a : Set). a v) (sym read.set_is) ∙ q)
+      module _ (set : List ℕ) (c : (h : FactsItem K.text facts n (take (length cells - next) (drop next cells))) → HypsRead is_plain h.S h.x set) (six : 6 ≤ least) where
+        read : HypsRead is_plain g.S (item g.xs 3) set
+        read = c hyps_asked
 
-      sixth : rest g.xs 5 ≡ cons (item g.xs 5) (rest g.xs 6)
-      sixth = rest_item g.xs 5 (omega (arith, g.many, six))
+        rises : read.hyps ≡ rising (length g.S.facts) (holds set)
+        rises = listed_rises g.S (item g.xs 3) read.hyps (made I W m) (read.are (made I W m)) ∙ ap (rising (length g.S.facts)) (sym read.set_is)
 
-      module _ {last : ℕ} (w : last ≡ behind next (item_at cells next)) where
-        at_fifth : Walk K.text cells last (cons (item g.xs 4) (rest g.xs 5))
-        at_fifth = subst (λ (z : Sexps). Walk K.text cells last z) fifth (walk_behind at_fourth w)
+        pub hyps_earlier : (v : ℕ) → holds set v ≡ true → v < length g.S.facts
+        hyps_earlier v q =
+            has_all read.hyps v
+            (subst (All (λ h. h < length g.S.facts)) (sym rises) (rising_all_of (length g.S.facts) (holds set) (λ w l e. l)))
+            (ap (λ (a : Set). a v) (sym read.set_is) ∙ q)
 
-        pub fifth_high : last ≤ length cells
-        fifth_high = at_fifth.here.high
+        sixth : rest g.xs 5 ≡ cons (item g.xs 5) (rest g.xs 6)
+        sixth = rest_item g.xs 5 (omega (arith, g.many, six))
 
-        pub fifth_items : Holds K.text (take (length cells - last) (drop last cells)) (cons (item g.xs 4) (cons (item g.xs 5) (rest g.xs 6)))
-        fifth_items = subst (λ (z : Sexps). Holds K.text (take (length cells - last) (drop last cells)) (cons (item g.xs 4) z)) sixth (walk_rest at_fifth)
+        module _ {last : ℕ} (w : last ≡ behind next (item_at cells next)) where
+          at_fifth : Walk K.text cells last (cons (item g.xs 4) (rest g.xs 5))
+          at_fifth = subst (λ (z : Sexps). Walk K.text cells last z) fifth (walk_behind at_fourth w)
 
-        abbrev pub with_form : length set ≡ FACTWORDS → InductForm K facts footings lists n I W m x set (take (length cells - last) (drop last cells))
-        with_form z =
-            record {
-              S = g.S;
-              y = item g.xs 4;
-              z = item g.xs 5;
-              zs = rest g.xs 6;
-              refers = g.refers;
-              variable_known = spelled_known;
-              earlier = hyps_earlier;
-              long = z;
-              items = fifth_items;
-            }
+          pub fifth_high : last ≤ length cells
+          fifth_high = at_fifth.here.high
 
-        pub with_derived : length set ≡ FACTWORDS → (Y Z : List ℕ) (new : Mark) (o : Result Derived Question) →
-            ((h : InductForm K facts footings lists n I W m x set (take (length cells - last) (drop last cells))) →
-            DerivedBy Fact I W Y Z m new h.S (induct_on h.S x (rising (length h.S.facts) (holds set)) h.y h.z (made I W m)) alone o) →
-            DerivedBy Fact I W Y Z m new g.S (induct_with g.S g.xs (made I W m)) alone o
-        with_derived z Y Z new o d =
-            derived_on g.S Y Z new o
-            (on_is (on_pure _ chosen (read.are (made I W m)))
-            (ap (λ (hs : List ℕ). induct_on g.S x hs (item g.xs 4) (item g.xs 5) (made I W m)) rises))
-            (d (with_form z))
+          pub fifth_items : Holds K.text (take (length cells - last) (drop last cells)) (cons (item g.xs 4) (cons (item g.xs 5) (rest g.xs 6)))
+          fifth_items = subst (λ (z : Sexps). Holds K.text (take (length cells - last) (drop last cells)) (cons (item g.xs 4) z)) sixth (walk_rest at_fifth)
+
+          abbrev pub with_form : length set ≡ FACTWORDS → InductForm K facts footings lists n I W m x set (take (length cells - last) (drop last cells))
+          with_form z =
+              record {
+                S = g.S;
+                y = item g.xs 4;
+                z = item g.xs 5;
+                zs = rest g.xs 6;
+                refers = g.refers;
+                variable_known = spelled_known;
+                earlier = hyps_earlier;
+                long = z;
+                items = fifth_items;
+              }
+
+          pub with_derived : length set ≡ FACTWORDS → (Y Z : List ℕ) (new : Mark) (o : Result Derived Question) →
+              ((h : InductForm K facts footings lists n I W m x set (take (length cells - last) (drop last cells))) →
+              DerivedBy Fact I W Y Z m new h.S (induct_on h.S x (rising (length h.S.facts) (holds set)) h.y h.z (made I W m)) alone o) →
+              DerivedBy Fact I W Y Z m new g.S (induct_with g.S g.xs (made I W m)) alone o
+          with_derived z Y Z new o d =
+              derived_on g.S Y Z new o
+              (on_is (on_pure _ chosen (read.are (made I W m)))
+              (ap (λ (hs : List ℕ). induct_on g.S x hs (item g.xs 4) (item g.xs 5) (made I W m)) rises))
+              (d (with_form z))

@@ -379,7 +379,7 @@ pub record SubjectItems (goals text vars : List ℕ) (count-vars : ℕ) (cells :
 abbrev pub ReadsSubject : Reader → List ℕ → Type 0
 ReadsSubject r cells = SubjectItems r.goals.now r.text.now r.vars.now r.n.vars cells
 
--- the form's variable, and the items behind it stand from a place on; or it names none
+-- the form's variable, and the items from it on stand there; or it names none
 abbrev pub SubjectAs : List Var → List ℕ → List ℕ → Sexps → Result Subject Question → Type 0
-SubjectAs vs text cells xs (Ok s) = (variable_in vs (item xs 2) ≡ some s.x) × Walk text cells s.next (rest xs 3)
+SubjectAs vs text cells xs (Ok s) = (variable_in vs (item xs 2) ≡ some s.x) × Walk text cells s.at (rest xs 2)
 SubjectAs vs text cells xs (Err q) = (variable_in vs (item xs 2) ≡ nothing) × (q ≡ Binding)

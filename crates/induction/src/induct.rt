@@ -33,11 +33,11 @@ use terms::variables::visit;
 // Cells for the numbers of the induction hypotheses' terms: a case has at most ARGUMENTS of them, of at most FACTS premises and a judgment each.
 pub const IDS: usize = 40960;
 
-// The variable of a form, and where the items behind it begin.
+// The variable of a form, and where it stands.
 #[derive(Clone, Copy, Debug, PartialEq, Eq)]
 pub struct Subject {
     pub x: usize,
-    pub next: usize,
+    pub at: usize,
 }
 
 // That of the form whose items the cells hold.
@@ -49,10 +49,7 @@ fn read_subject(reader: &Reader<'_>, cells: &[u32]) -> Result<Subject, Question>
     let Some(x) = reader.variable(&cells[at..]) else {
         return Err(Question::Binding);
     };
-    Ok(Subject {
-        x,
-        next: items::after(cells, at),
-    })
+    Ok(Subject { x, at })
 }
 
 // The judgments of the facts, by rising number, come into the first cells of `out`; what is answered is how many they are.
@@ -189,7 +186,8 @@ pub fn induct(
         DerivedAs Fact store.old store.new g.S (induct g.S g.xs (made_of store.old)) alone result }
     ensures memo_unchanged { (memo.new ≡ memo.old) × (ids.new ≡ ids.old) }
 {
-    let Subject { x, next } = read_subject(&source.reader, cells)?;
+    let Subject { x, at } = read_subject(&source.reader, cells)?;
+    let next = items::after(cells, at);
     let hyps = [0; FACTWORDS];
     induct_on(source, store, &cells[next..], x, hyps, memo, ids)
 }
@@ -210,7 +208,8 @@ pub fn induct_with(
     ensures memo_unchanged { (memo.new ≡ memo.old) × (ids.new ≡ ids.old) }
 {
     let reader = &source.reader;
-    let Subject { x, next: third } = read_subject(reader, cells)?;
+    let Subject { x, at } = read_subject(reader, cells)?;
+    let third = items::after(cells, at);
     let mut hyps = [0; FACTWORDS];
     plain_hyps(
         reader.text,

@@ -45,8 +45,7 @@ fn case_vars(
 {
     let mut own = [0; ARGUMENTS];
     let mut seen = [0u64; VARIABLEWORDS];
-    let mut k = 0;
-    for item in items::all(cells) {
+    for (k, item) in items::all(cells).enumerate() {
         let Some(v) = reader.variable(item) else {
             return Err(Question::CaseVariables);
         };
@@ -61,7 +60,6 @@ fn case_vars(
         }
         insert(&mut seen, v);
         own[k] = v as u32;
-        k += 1;
     }
     Ok(own)
 }

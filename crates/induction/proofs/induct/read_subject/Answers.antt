@@ -1,6 +1,6 @@
 use native.Mathlib.Omega.{arith}
 use mathlib.Core.Path.{refl}
-use Rattle.induction.proofs.InductSpelled.{subject_high, subject_cell, subject_asks, subject_unknown, subject_known, subject_behind}
+use Rattle.induction.proofs.InductSpelled.{subject_high, subject_walk, subject_asks, subject_unknown, subject_known}
 use Rattle.induction.proofs.induct.read_subject.Goals as goal
 
 pub offset_bounds-cells-at : goal.offset_bounds-cells-at
@@ -18,8 +18,5 @@ variable-requires c = subject_asks c.requires c.place-at.ensures
 pub returns-in_default : goal.returns-in_default
 returns-in_default c = λ g. (subject_unknown g c.place-at.ensures c.variable.ensures c.in_default.is, refl)
 
-pub after-requires : goal.after-requires
-after-requires c = subject_cell c.requires c.place-at.ensures
-
 pub returns : goal.returns
-returns c = λ g. (subject_known g c.place-at.ensures c.variable.ensures c.in-Some.is, subject_behind g c.place-at.ensures c.after.ensures)
+returns c = λ g. (subject_known g c.place-at.ensures c.variable.ensures c.in-Some.is, subject_walk g c.place-at.ensures)
