@@ -21,6 +21,7 @@ use Rattle.questions.specs.Numbers.{number_of, detail_of}
 use Rattle.terms.specs.declared.store.Store.{Store}
 use Rattle.state.specs.declared.board.Given.{Given}
 use Rattle.state.specs.declared.board.Board.{Board}
+use Rattle.forms.specs.declared.declare.Abbreviation.{Abbreviation}
 use Rattle.forms.specs.Halted.{Makes, Halts}
 
 -- Variables ------------------------------------------------------------------------------------------------------------------------
@@ -58,6 +59,26 @@ abbrev pub VarAs : Given → Board → Board → ℕ → State → Out State (Un
 VarAs g b c which S K r = VarBy g.text.now b.vars.now c.vars.now b.n c.n which S K r
 
 -- Abbreviations --------------------------------------------------------------------------------------------------------------------
+
+-- K is to add an abbreviation, for which there is room: its name stands in the text, and its term is among the trees
+pub record DefNamed (text : List ℕ) (n : Sizes) (I W J X : List ℕ) (old : Mark) (S : State) (K : Out State (Unit {0})) (a : Abbreviation) (now : Mark) : Type 0 where
+  pub makes : Makes I W J X old now
+  pub new : Def
+  pub is : K ≡ ok tt (with_defs (with_made S (made J X now)) (S.defs ++ (new ∷ [])))
+  pub room : n.defs < DEFS
+  pub named : NameIn text new.name
+  pub there : In new.term (made J X now)
+  pub starts : a.start ≡ new.name.start
+  pub ends : a.end ≡ new.name.start + length new.name.bytes
+  pub numbered : a.term ≡ number (made J X now) new.term
+  pub small : a.term < now.terms
+
+abbrev pub NamedBy : List ℕ → Sizes → List ℕ → List ℕ → List ℕ → List ℕ → Mark → Mark → State → Out State (Unit {0}) → Result Abbreviation Question → Type 0
+NamedBy text n I W J X old new S K (Ok a) = DefNamed text n I W J X old S K a new
+NamedBy text n I W J X old new S K (Err e) = Halts I W J X old S K (number_of e) (detail_of e) new
+
+abbrev pub NamedAs : Given → Board → Store → Store → State → Out State (Unit {0}) → Result Abbreviation Question → Type 0
+NamedAs g b s t S K r = NamedBy g.text.now b.n s.index.now s.words.now t.index.now t.words.now s.mark t.mark S K r
 
 -- one abbreviation more, whose name stands in the text, and its term among the trees: its row is in the table
 pub record DefAdded (text before after : List ℕ) (n : Sizes) (I W J X : List ℕ) (old : Mark) (S : State) (K : Out State (Unit {0})) (now : Mark) : Type 0 where

@@ -63,6 +63,19 @@ pub record TakesResult (K : Names) (rows facts lists : List ℕ) (n : Sizes) (I 
 
 -- Answers --------------------------------------------------------------------------------------------------------------------------
 
+-- K is to take goal k, whose result has come
+pub record GoalMet (n : Sizes) (I W J X : List ℕ) (old : Mark) (S : State) (K : Out State (Unit {0})) (k : ℕ) (now : Mark) : Type 0 where
+  pub makes : Makes I W J X old now
+  pub goal : k < n.goals
+  pub is : K ≡ ok tt (with_goals (with_made S (made J X now)) (change S.goals k taken_goal))
+
+abbrev pub MetBy : Sizes → List ℕ → List ℕ → List ℕ → List ℕ → Mark → Mark → State → Out State (Unit {0}) → Result ℕ Question → Type 0
+MetBy n I W J X old new S K (Ok k) = GoalMet n I W J X old S K k new
+MetBy n I W J X old new S K (Err e) = Halts I W J X old S K (number_of e) (detail_of e) new
+
+abbrev pub MetAs : Board → Store → Store → State → Out State (Unit {0}) → Result ℕ Question → Type 0
+MetAs b s t S K r = MetBy b.n s.index.now s.words.now t.index.now t.words.now s.mark t.mark S K r
+
 -- goal k's result has come
 pub record ResultTaken (before rows : List ℕ) (n : Sizes) (I W J X : List ℕ) (old : Mark) (S : State) (K : Out State (Unit {0})) (now : Mark) : Type 0 where
   pub makes : Makes I W J X old now

@@ -10,12 +10,12 @@ ghost use Rattle.terms.specs.Lent.{SameTables};
 ghost use Rattle.state.specs.Held.{VarsHeld};
 ghost use Rattle.state.specs.Rows.{SomeVars};
 ghost use Rattle.forms.specs.Boards.{AddsVarIn, ReadsFormIn, SameBoard, OnlyVars, OnlyDefs};
-ghost use Rattle.forms.specs.Declares.{VarAs, DefAs};
+ghost use Rattle.forms.specs.Declares.{VarAs, NamedAs, DefAs};
 
 use kernel::atoms::marked;
 use kernel::readers::{constructor_named, predicate_named, sort_named};
 use questions::{Question, Row};
-use reading::reader::{Reader, reader_of};
+use reading::reader::reader_of;
 use rules::{DEFS, VARIABLES};
 use sexp::items::Item;
 use sexp::{items, lex};
@@ -25,21 +25,16 @@ use state::vars::{put_var, var_named};
 use terms::store::Store;
 
 // Whether no constructor, predicate or variable has these bytes for a name.
-fn is_unused(reader: &Reader<'_>, name: &[u8]) -> bool
-    requires { let r = reader.now in NamedSymbols r.theory.now r.symbols.now r.n.symbols × SomeVars r.goals.now r.text.now r.vars.now r.n.vars }
-    ensures { let r = reader.now in (S : State) (inputs : List ℕ) → SymbolsHeld r.theory.now r.symbols.now inputs r.n.symbols S.theory.symbols →
-        VarsHeld r.goals.now r.text.now r.vars.now r.n.vars S.vars →
+fn is_unused(given: &Given<'_>, board: &Board<'_>, name: &[u8]) -> bool
+    requires { let g = given.now in let b = board.now in NamedSymbols g.theory.now g.symbols.now b.n.symbols × SomeVars g.goals.now g.text.now b.vars.now b.n.vars }
+    ensures { let g = given.now in let b = board.now in (S : State) (inputs : List ℕ) → SymbolsHeld g.theory.now g.symbols.now inputs b.n.symbols S.theory.symbols →
+        VarsHeld g.goals.now g.text.now b.vars.now b.n.vars S.vars →
         result ≡ is_new (constructor_named S.theory name.now) && (is_new (predicate_named S.theory name.now) && is_new (var_named S.vars name.now)) }
 {
-    let Reader {
-        theory,
-        symbols,
-        n,
-        ..
-    } = *reader;
-    constructor_named(theory, symbols, n.symbols, name).is_none()
-        && predicate_named(theory, symbols, n.symbols, name).is_none()
-        && var_named(reader.goals, reader.text, reader.vars, n.vars, name).is_none()
+    let n = board.n;
+    constructor_named(given.theory, given.symbols, n.symbols, name).is_none()
+        && predicate_named(given.theory, given.symbols, n.symbols, name).is_none()
+        && var_named(given.goals, given.text, board.vars, n.vars, name).is_none()
 }
 
 // `(var NAME SORT)`, by the items of the form; `which` is the text of its name, 2 for the goals and 3 for the proof.
@@ -70,7 +65,7 @@ pub fn add_var(
         return Err(Question::Variable);
     }
     let end = lex::atom_end(text, start);
-    if !is_unused(&reader_of(given, board), &text[start..end]) {
+    if !is_unused(given, board, &text[start..end]) {
         return Err(Question::Variable);
     }
     if board.n.vars >= VARIABLES {
@@ -81,18 +76,25 @@ pub fn add_var(
     Ok(())
 }
 
-// `(def ?NAME TERM)`, by the items of the form. The name is compared behind the term.
-pub fn add_def(
+// An abbreviation by its row: where its name stands in the text, and the number of its term.
+#[derive(Clone, Copy, Debug, PartialEq, Eq)]
+pub struct Abbreviation {
+    pub start: usize,
+    pub end: usize,
+    pub term: usize,
+}
+
+// What `(def ?NAME TERM)` abbreviates, by the items of the form, and that there is room for it. The name is compared behind the term.
+fn new_def(
     given: &Given<'_>,
-    board: &mut Board<'_>,
+    board: &Board<'_>,
     store: &mut Store<'_>,
     cells: &[u32],
-) -> Result<(), Question>
-    requires { ReadsFormIn given.now board.old store.old cells.now 3 }
-    ensures same_board { SameBoard board.old board.new × SameTables store.old store.new }
-    ensures only { OnlyDefs board.old board.new }
-    ensures def_as { (g : ReadsFormIn given.now board.old store.old cells.now 3) →
-        DefAs given.now board.old board.new store.old store.new g.S (add_def g.xs g.S) result }
+) -> Result<Abbreviation, Question>
+    requires { ReadsFormIn given.now board.now store.old cells.now 3 }
+    ensures same_tables { SameTables store.old store.new }
+    ensures named_as { (g : ReadsFormIn given.now board.now store.old cells.now 3) →
+        NamedAs given.now board.now store.old store.new g.S (add_def g.xs g.S) result }
 {
     let Item::Atom(start) = items::nth(cells, 1) else {
         return Err(Question::Defined);
@@ -113,7 +115,25 @@ pub fn add_def(
     if board.n.defs >= DEFS {
         return Err(Question::Room(Row::Abbreviations));
     }
-    put_def(board.defs, board.n.defs, start, end, typed.term);
+    let term = typed.term;
+    Ok(Abbreviation { start, end, term })
+}
+
+// `(def ?NAME TERM)`, by the items of the form.
+pub fn add_def(
+    given: &Given<'_>,
+    board: &mut Board<'_>,
+    store: &mut Store<'_>,
+    cells: &[u32],
+) -> Result<(), Question>
+    requires { ReadsFormIn given.now board.old store.old cells.now 3 }
+    ensures same_board { SameBoard board.old board.new × SameTables store.old store.new }
+    ensures only { OnlyDefs board.old board.new }
+    ensures def_as { (g : ReadsFormIn given.now board.old store.old cells.now 3) →
+        DefAs given.now board.old board.new store.old store.new g.S (add_def g.xs g.S) result }
+{
+    let new = new_def(given, board, store, cells)?;
+    put_def(board.defs, board.n.defs, new.start, new.end, new.term);
     board.n.defs += 1;
     Ok(())
 }

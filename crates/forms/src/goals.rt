@@ -12,6 +12,7 @@ ghost use Rattle.forms.specs.Halted.{ReadsForm};
 ghost use Rattle.forms.specs.Boards.{AddsGoalIn, SameBoard, OnlyRows, OnlyGoals};
 ghost use Rattle.forms.specs.Goals.{GoalPlace, PlacedAs, AimsAs, AimedAs};
 
+use crate::beside::reader_beside;
 use cells::clear;
 use questions::{Question, Row};
 use reading::reader::{Reader, reader_of};
@@ -87,7 +88,8 @@ pub fn add_goal(
         AimedAs given.now board.old board.new store.old store.new g.S (goal a_goal g.xs g.S) result }
 {
     let at = items::place(cells, 2);
-    let judgment = reader_of(given, board).judgment(store, &cells[at..])?;
+    let own = *given;
+    let judgment = reader_of(&own, board).judgment(store, &cells[at..])?;
     place_goal(given, board, cells, Aim { judgment, hyps: 0 })
 }
 
@@ -131,18 +133,13 @@ pub fn add_goal_with(
     ensures aimed_as { (g : AddsGoalIn given.now board.old store.old cells.now 4) →
         AimedAs given.now board.old board.new store.old store.new g.S (goal a_goal_with g.xs g.S) result }
 {
-    let from = board.n.entries;
-    let reader = Reader {
-        theory: given.theory,
-        goals: given.goals,
-        text: given.text,
-        symbols: given.symbols,
-        inputs: given.inputs,
-        vars: board.vars,
-        defs: board.defs,
-        n: board.n,
-    };
-    let aim = goal_parts(&reader, store, cells, &mut board.lists[from..])?;
+    let n = board.n;
+    let from = n.entries;
+    let vars = &mut *board.vars;
+    let defs = &mut *board.defs;
+    let lists = &mut *board.lists;
+    let reader = reader_beside(*given, vars, defs, n);
+    let aim = goal_parts(&reader, store, cells, &mut lists[from..])?;
     match place_goal(given, board, cells, aim) {
         Ok(()) => Ok(()),
         Err(question) => {

@@ -10,6 +10,7 @@ ghost use Rattle.forms.specs.Halted.{ReadsForm};
 ghost use Rattle.forms.specs.Boards.{AddsFactIn, SameBoard, OnlyHyps};
 ghost use Rattle.forms.specs.Assumed.{AssumedAs, PartsAs, HypPutAs, RulePutAs};
 
+use crate::beside::reader_beside;
 use cells::{clear, write};
 use questions::{Question, Row};
 use reading::reader::{Reader, reader_of};
@@ -66,7 +67,8 @@ pub fn add_hyp(
         AssumedAs board.old board.new g.footings store.old store.new g.S (add_hyp g.xs g.S) result }
 {
     let at = items::place(cells, 2);
-    let judgment = reader_of(given, board).judgment(store, &cells[at..])?;
+    let given = *given;
+    let judgment = reader_of(&given, board).judgment(store, &cells[at..])?;
     let stated = Stated {
         judgment,
         premises: 0,
@@ -175,25 +177,14 @@ pub fn add_rule_hyp(
     ensures assumed_as { (g : AddsFactIn given.now board.old store.old cells.now 5) →
         AssumedAs board.old board.new g.footings store.old store.new g.S (add_rule_hyp g.xs g.S) result }
 {
-    let from = behind_own(board.n.entries, board.lists.len());
+    let n = board.n;
+    let vars = &mut *board.vars;
+    let defs = &mut *board.defs;
+    let lists = &mut *board.lists;
+    let from = behind_own(n.entries, lists.len());
     let mut general = [0u32; VARIABLES];
-    let reader = Reader {
-        theory: given.theory,
-        goals: given.goals,
-        text: given.text,
-        symbols: given.symbols,
-        inputs: given.inputs,
-        vars: board.vars,
-        defs: board.defs,
-        n: board.n,
-    };
-    let stated = rule_parts(
-        &reader,
-        store,
-        cells,
-        &mut board.lists[from..],
-        &mut general,
-    )?;
+    let reader = reader_beside(*given, vars, defs, n);
+    let stated = rule_parts(&reader, store, cells, &mut lists[from..], &mut general)?;
     match put_rule(
         board,
         stated.judgment,

@@ -12,7 +12,7 @@ ghost use Rattle.terms.specs.Sets.{holds};
 ghost use Rattle.state.specs.Rows.{cell, plain_row};
 ghost use Rattle.referring.specs.Recall.{fact_of};
 ghost use Rattle.forms.specs.Boards.{TakesResultIn, SameBoard, OnlyRows};
-ghost use Rattle.forms.specs.Results.{goal_of, ListsHyps, Covers, ResultedAs};
+ghost use Rattle.forms.specs.Results.{goal_of, ListsHyps, Covers, MetAs, ResultedAs};
 
 use questions::Question;
 use referring::references::insert_all;
@@ -65,20 +65,19 @@ fn covers(board: &Board<'_>, k: usize, i: usize) -> bool
     all_listed(board.facts, &board.lists[from..end], &terms)
 }
 
-// `(result NAME REF)`, by the items of the form. `memo` is scratch: zero before and after.
-pub fn result(
+// The goal whose result has come, by the items of the form. `memo` is scratch: zero before and after.
+fn met(
     given: &Given<'_>,
-    board: &mut Board<'_>,
+    board: &Board<'_>,
     store: &mut Store<'_>,
     cells: &[u32],
     memo: &mut [u32],
-) -> Result<(), Question>
-    requires takes_result { TakesResultIn given.now board.old store.old cells.now }
+) -> Result<usize, Question>
+    requires takes_result { TakesResultIn given.now board.now store.old cells.now }
     requires memo_value { memo.old ≡ replicate TERMS 0 }
-    ensures same_board { SameBoard board.old board.new × SameTables store.old store.new }
-    ensures only { OnlyRows board.old board.new × (board.new.n ≡ board.old.n) }
-    ensures resulted_as { (g : TakesResultIn given.now board.old store.old cells.now) →
-        ResultedAs board.old board.new store.old store.new g.S (result_of g.xs g.S) result }
+    ensures same_tables { SameTables store.old store.new }
+    ensures met_as { (g : TakesResultIn given.now board.now store.old cells.now) →
+        MetAs board.now store.old store.new g.S (result_of g.xs g.S) result }
     ensures memo_unchanged { memo.new ≡ memo.old }
 {
     let Item::Atom(start) = items::nth(cells, 1) else {
@@ -100,6 +99,26 @@ pub fn result(
     if found.judgment != goal_judgment(board.rows, k) {
         return Err(Question::ResultJudgment);
     }
+    Ok(k)
+}
+
+// `(result NAME REF)`, by the items of the form. `memo` is scratch: zero before and after.
+pub fn result(
+    given: &Given<'_>,
+    board: &mut Board<'_>,
+    store: &mut Store<'_>,
+    cells: &[u32],
+    memo: &mut [u32],
+) -> Result<(), Question>
+    requires takes_result { TakesResultIn given.now board.old store.old cells.now }
+    requires memo_value { memo.old ≡ replicate TERMS 0 }
+    ensures same_board { SameBoard board.old board.new × SameTables store.old store.new }
+    ensures only { OnlyRows board.old board.new × (board.new.n ≡ board.old.n) }
+    ensures resulted_as { (g : TakesResultIn given.now board.old store.old cells.now) →
+        ResultedAs board.old board.new store.old store.new g.S (result_of g.xs g.S) result }
+    ensures memo_unchanged { memo.new ≡ memo.old }
+{
+    let k = met(given, board, store, cells, memo)?;
     take_goal(board.rows, k);
     Ok(())
 }

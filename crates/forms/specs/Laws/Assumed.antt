@@ -39,7 +39,7 @@ module _ {X : Texts} {T : TheoryLists} {B : Board} {n : Sizes} {m : Mark} {S : S
         many = l;
       }
 
-module _ {g : Given} {b c : Lent} {s t : Store} {S : State} (h : StandsIn g b s S) (K : Out State (Unit {0})) (r : Result (Unit {0}) Question)
+module _ (g : Given) (b c : Lent) (s t : Store) {S : State} (h : StandsIn g b s S) (K : Out State (Unit {0})) (r : Result (Unit {0}) Question)
     (o : OnlyHyps b c) (a : AssumedAs b c b.footings.now s t S K r) where
   pub assumed_taken : {u : Unit {0}} → r ≡ Ok u → MovesIn g c t K (plus S.counts one_hypothesis)
   assumed_taken {u} e =
@@ -58,8 +58,7 @@ module _ {g : Given} {b c : Lent} {s t : Store} {S : State} (h : StandsIn g b s 
 
   pub assumed_left : {q : Question} → r ≡ Err q → LeftIn b c s t K q
   assumed_left {q} e =
-      let z : AssumedAs b c b.footings.now s t S K (Err q) = subst (AssumedAs b c b.footings.now s t S K) e a in
-      (
+      let z : AssumedAs b c b.footings.now s t S K (Err q) = subst (AssumedAs b c b.footings.now s t S K) e a in (
         record {
           until = _;
           is = z.0.is;

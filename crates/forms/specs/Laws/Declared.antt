@@ -51,7 +51,7 @@ module _ {X : Texts} {T : TheoryLists} {B : Board} {n : Sizes} {m : Mark} {S : S
       }
 
 -- K: what the definition answers
-module _ {g : Given} {b c : Lent} {s : Store} {S : State} (h : StandsIn g b s S) (K : Out State (Unit {0})) (which : ℕ) (r : Result (Unit {0}) Question)
+module _ (g : Given) (b c : Lent) (s : Store) {S : State} (h : StandsIn g b s S) (K : Out State (Unit {0})) (which : ℕ) (r : Result (Unit {0}) Question)
     (o : OnlyVars b c) (a : VarAs g b c which S K r) where
   -- the variable's text is the one that is read
   pub var_taken : text_of g.goals.now g.text.now which ≡ g.text.now → {u : Unit {0}} → r ≡ Ok u → MovesIn g c s K S.counts
@@ -71,8 +71,7 @@ module _ {g : Given} {b c : Lent} {s : Store} {S : State} (h : StandsIn g b s S)
 
   pub var_left : {q : Question} → r ≡ Err q → LeftIn b c s s K q
   var_left {q} e =
-      let z : VarAs g b c which S K (Err q) = subst (VarAs g b c which S K) e a in
-      (
+      let z : VarAs g b c which S K (Err q) = subst (VarAs g b c which S K) e a in (
         record {
           until = S;
           is = z.0;
@@ -82,7 +81,7 @@ module _ {g : Given} {b c : Lent} {s : Store} {S : State} (h : StandsIn g b s S)
         z.2,
       )
 
-module _ {g : Given} {b c : Lent} {s t : Store} {S : State} (h : StandsIn g b s S) (K : Out State (Unit {0})) (r : Result (Unit {0}) Question)
+module _ (g : Given) (b c : Lent) (s t : Store) {S : State} (h : StandsIn g b s S) (K : Out State (Unit {0})) (r : Result (Unit {0}) Question)
     (o : OnlyDefs b c) (a : DefAs g b c s t S K r) where
   pub def_taken : {u : Unit {0}} → r ≡ Ok u → MovesIn g c t K S.counts
   def_taken {u} e =
@@ -100,8 +99,7 @@ module _ {g : Given} {b c : Lent} {s t : Store} {S : State} (h : StandsIn g b s 
 
   pub def_left : {q : Question} → r ≡ Err q → LeftIn b c s t K q
   def_left {q} e =
-      let z : DefAs g b c s t S K (Err q) = subst (DefAs g b c s t S K) e a in
-      (
+      let z : DefAs g b c s t S K (Err q) = subst (DefAs g b c s t S K) e a in (
         record {
           until = _;
           is = z.0.is;

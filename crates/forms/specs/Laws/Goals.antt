@@ -66,7 +66,7 @@ module _ {theory goals : List ℕ} {T : TheoryLists} {B : Board} {n : Sizes} {m 
   )
 
 -- the text that is read is that of the goals; K: what the definition answers
-module _ {g : Given} {b c : Lent} {s t : Store} {S : State} (h : StandsIn g b s S) (same : g.text.now ≡ g.goals.now) (K : Out State (Unit {0}))
+module _ (g : Given) (b c : Lent) (s t : Store) {S : State} (h : StandsIn g b s S) (same : g.text.now ≡ g.goals.now) (K : Out State (Unit {0}))
     (r : Result (Unit {0}) Question) (o : OnlyGoals b c) (a : AimedAs g b c s t S K r) where
   -- one goal more, where nothing was proved yet
   pub goal_taken : {u : Unit {0}} → r ≡ Ok u → S.facts ≡ [] → MovesIn g c t K S.counts
@@ -93,8 +93,7 @@ module _ {g : Given} {b c : Lent} {s t : Store} {S : State} (h : StandsIn g b s 
 
   pub goal_left : {q : Question} → r ≡ Err q → LeftIn b c s t K q
   goal_left {q} e =
-      let z : AimedAs g b c s t S K (Err q) = subst (AimedAs g b c s t S K) e a in
-      (
+      let z : AimedAs g b c s t S K (Err q) = subst (AimedAs g b c s t S K) e a in (
         record {
           until = _;
           is = z.0.is;

@@ -39,7 +39,7 @@ module _ {X : Texts} {T : TheoryLists} {B : Board} {n : Sizes} {m : Mark} {S : S
         many = l;
       }
 
-module _ {g : Given} {b c : Lent} {s t : Store} {S : State} (h : StandsIn g b s S) (K : Out State (Unit {0})) (r : Result (Unit {0}) Question)
+module _ (g : Given) (b c : Lent) (s t : Store) {S : State} (h : StandsIn g b s S) (K : Out State (Unit {0})) (r : Result (Unit {0}) Question)
     (o : OnlyRows b c) (n : c.n ≡ b.n) (a : ResultedAs b c s t S K r) where
   pub result_taken : {u : Unit {0}} → r ≡ Ok u → MovesIn g c t K S.counts
   result_taken {u} e =
@@ -57,8 +57,7 @@ module _ {g : Given} {b c : Lent} {s t : Store} {S : State} (h : StandsIn g b s 
 
   pub result_left : {q : Question} → r ≡ Err q → LeftIn b c s t K q
   result_left {q} e =
-      let z : ResultedAs b c s t S K (Err q) = subst (ResultedAs b c s t S K) e a in
-      (
+      let z : ResultedAs b c s t S K (Err q) = subst (ResultedAs b c s t S K) e a in (
         record {
           until = _;
           is = z.0.is;
