@@ -1,12 +1,8 @@
-pub mod Abbreviations
-pub mod Assuming
 pub mod Covering
 pub mod GoalLists
 pub mod GoalReads
 pub mod GoalRows
 pub mod OwnIndices
 pub mod Resulting
-pub mod Stating
-pub mod Supposing
+pub mod Statings
 pub mod Tails
-pub mod Variables

@@ -24,7 +24,6 @@ use Rattle.state.specs.Recording.{Valid, Assumes, HypothesisPut, with_fact}
 use Rattle.reading.specs.Laws.Lists.{Listing}
 use Rattle.terms.specs.declared.store.Store.{Store}
 use Rattle.state.specs.declared.board.Board.{Board}
-use Rattle.forms.specs.declared.hypotheses.Stated.{Stated}
 use Rattle.referring.specs.Recall.{Refers}
 use Rattle.forms.specs.Halted.{Makes, Halts}
 
@@ -67,40 +66,16 @@ AssumedAs b c footings s t S K r =
     AssumedBy (records b.facts.now footings b.lists.now) (records c.facts.now footings c.lists.now) b.n c.n
     s.index.now s.words.now t.index.now t.words.now s.mark t.mark S K r
 
--- What is read first ---------------------------------------------------------------------------------------------------------------
-
--- what is stated is read, and K is to add the fact: its judgment by number, its premises' numbers in the cells as far as these go, its variables
-pub record PartsRead (I W J X : List ℕ) (old : Mark) (S : State) (K : Out State (Unit {0})) (cells general : List ℕ) (j many few : ℕ) (now : Mark) : Type 0 where
-  pub makes : Makes I W J X old now
-  pub premises : Trees
-  pub vars : List ℕ
-  pub is : K ≡ add_fact (hypothesis (length S.facts) (tree J X now j) premises vars) one_hypothesis (with_made S (made J X now))
-  pub there : j < now.terms
-  pub known : Each (sound.Has (made J X now)) premises
-  pub count : many ≡ count_trees premises
-  pub cells_are : cells ≡ filled (length cells) (numbers (made J X now) premises)
-  pub listed : Listing (length S.vars) vars
-  pub some_vars : few ≡ length vars
-  pub vars_are : general ≡ filled VARIABLES vars
-
--- before, cells: those of the premises before and afterwards
-abbrev pub PartsBy : List ℕ → List ℕ → List ℕ → List ℕ → Mark → Mark → State → Out State (Unit {0}) → List ℕ → List ℕ → List ℕ → Result Stated Question → Type 0
-PartsBy I W J X old new S K before cells general (Ok r) = PartsRead I W J X old S K cells general r.judgment r.premises r.general new
-PartsBy I W J X old new S K before cells general (Err e) = Halts I W J X old S K (number_of e) (detail_of e) new × (cells ≡ before)
-
-abbrev pub PartsAs : Store → Store → State → Out State (Unit {0}) → List ℕ → List ℕ → List ℕ → Result Stated Question → Type 0
-PartsAs s t S K before cells general r =
-    PartsBy s.index.now s.words.now t.index.now t.words.now s.mark t.mark S K before cells general r
-
 -- What is stored last --------------------------------------------------------------------------------------------------------------
 
 -- rows 12 and 13 of question 60, where its premises and generalised variables stand in the lists
-abbrev pub HypPutBy : Records → Records → Sizes → Sizes → Stated → Result (Unit {0}) Row → Type 0
-HypPutBy R Q n k r (Ok u) = HypothesisPut R Q n r.judgment r.premises r.general (Ok k.entries) × (k ≡ facts_now n (n.facts + 1) k.entries)
-HypPutBy R Q n k r (Err e) = HypothesisPut R Q n r.judgment r.premises r.general (Err e) × (k ≡ n)
+abbrev pub HypPutBy : Records → Records → Sizes → Sizes → ℕ → ℕ → ℕ → Result (Unit {0}) Row → Type 0
+HypPutBy R Q n k judgment premises general (Ok u) = HypothesisPut R Q n judgment premises general (Ok k.entries) × (k ≡ facts_now n (n.facts + 1) k.entries)
+HypPutBy R Q n k judgment premises general (Err e) = HypothesisPut R Q n judgment premises general (Err e) × (k ≡ n)
 
-abbrev pub HypPutAs : Board → Board → List ℕ → Stated → Result (Unit {0}) Row → Type 0
-HypPutAs b c footings s r = HypPutBy (records b.facts.now footings b.lists.now) (records c.facts.now footings c.lists.now) b.n c.n s r
+abbrev pub HypPutAs : Board → Board → List ℕ → ℕ → ℕ → ℕ → Result (Unit {0}) Row → Type 0
+HypPutAs b c footings judgment premises general r =
+    HypPutBy (records b.facts.now footings b.lists.now) (records c.facts.now footings c.lists.now) b.n c.n judgment premises general r
 
 -- with the variables behind the premises where there is room, and the tables as they were where there is none
 abbrev pub RulePutBy : Records → Records → Sizes → Sizes → ℕ → ℕ → List ℕ → Result (Unit {0}) Row → Type 0

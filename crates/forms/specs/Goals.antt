@@ -23,7 +23,6 @@ use Rattle.reading.specs.Given.{Reads}
 use Rattle.terms.specs.declared.store.Store.{Store}
 use Rattle.state.specs.declared.board.Given.{Given}
 use Rattle.state.specs.declared.board.Board.{Board}
-use Rattle.forms.specs.declared.goals.Aim.{Aim}
 use Rattle.questions.specs.declared.Question.{Question}
 use Rattle.questions.specs.Numbers.{number_of, detail_of}
 use Rattle.forms.specs.Halted.{Makes, Halts}
@@ -80,25 +79,6 @@ PlacedBy goals before rows n k judgment S hs j K (Err e) = (K ≡ refuse (number
 
 abbrev pub PlacedAs : Given → Board → Board → ℕ → State → Trees → Tree → Out State (Unit {0}) → Result (Unit {0}) Question → Type 0
 PlacedAs g b c judgment S hs j K r = PlacedBy g.text.now b.rows.now c.rows.now b.n c.n judgment S hs j K r
-
--- the hypotheses and the judgment of a goal are read, and K is to add the goal that x names: its judgment by number, its hypotheses' numbers in
--- the cells as far as these go
-pub record AimsRead (I W J X : List ℕ) (old : Mark) (S : State) (K : Out State (Unit {0})) (x : Sexp) (cells : List ℕ) (j many : ℕ) (now : Mark) : Type 0 where
-  pub makes : Makes I W J X old now
-  pub hyps : Trees
-  pub is : K ≡ add_goal x hyps (tree J X now j) (with_made S (made J X now))
-  pub there : j < now.terms
-  pub known : Each (sound.Has (made J X now)) hyps
-  pub count : many ≡ count_trees hyps
-  pub cells_are : cells ≡ filled (length cells) (numbers (made J X now) hyps)
-
--- before, cells: those of the hypotheses before and afterwards
-abbrev pub AimsBy : List ℕ → List ℕ → List ℕ → List ℕ → Mark → Mark → State → Out State (Unit {0}) → Sexp → List ℕ → List ℕ → Result Aim Question → Type 0
-AimsBy I W J X old new S K x before cells (Ok a) = AimsRead I W J X old S K x cells a.judgment a.hyps new
-AimsBy I W J X old new S K x before cells (Err e) = Halts I W J X old S K (number_of e) (detail_of e) new × (cells ≡ before)
-
-abbrev pub AimsAs : Store → Store → State → Out State (Unit {0}) → Sexp → List ℕ → List ℕ → Result Aim Question → Type 0
-AimsAs s t S K x before cells r = AimsBy s.index.now s.words.now t.index.now t.words.now s.mark t.mark S K x before cells r
 
 -- one goal more, by its row and its entries; the trees made until then stay
 pub record GoalAdded (goals rows' rows lists' lists : List ℕ) (n : Sizes) (I W J X : List ℕ) (old : Mark) (S : State) (K : Out State (Unit {0})) (e : ℕ) (now : Mark) : Type 0 where

@@ -7,3 +7,4 @@ pub mod Laws
 pub mod Moved
 pub mod Next
 pub mod Results
+pub mod Stating

@@ -7,15 +7,13 @@ ghost use Rattle.rules.specs.Tags.{a_goal, a_goal_with};
 ghost use Rattle.rules.specs.Tree.{Tree, Trees, count_trees};
 ghost use Rattle.rules.specs.Forms.{goal, add_goal};
 ghost use Rattle.terms.specs.Lent.{SameTables};
-ghost use Rattle.reading.specs.Reader.{names_of};
-ghost use Rattle.forms.specs.Halted.{ReadsForm};
 ghost use Rattle.forms.specs.Boards.{AddsGoalIn, SameBoard, OnlyRows, OnlyGoals};
-ghost use Rattle.forms.specs.Goals.{GoalPlace, PlacedAs, AimsAs, AimedAs};
+ghost use Rattle.forms.specs.Goals.{GoalPlace, PlacedAs, AimedAs};
 
-use crate::beside::reader_beside;
+use crate::stating::{Stated, read_stated};
 use cells::clear;
 use questions::{Question, Row};
-use reading::reader::{Reader, reader_of};
+use reading::reader::reader_of;
 use rules::{ENTRIES, GOALS};
 use sexp::items::Item;
 use sexp::{items, lex};
@@ -23,26 +21,19 @@ use state::board::{Board, Given};
 use state::goals::{goal_named, put_goal};
 use terms::store::Store;
 
-// What a goal asks: its judgment, and how many hypotheses it lists.
-#[derive(Clone, Copy, Debug, PartialEq, Eq)]
-pub struct Aim {
-    pub judgment: usize,
-    pub hyps: usize,
-}
-
 // The name, rows 11 and 13, and the row, by the items of the form; the numbers of so many hypotheses stand behind the entries already, as far as there
 // is room.
 fn place_goal(
     given: &Given<'_>,
     board: &mut Board<'_>,
     cells: &[u32],
-    aim: Aim,
+    stated: Stated,
 ) -> Result<(), Question>
-    requires { GoalPlace given.now.text.now board.old.rows.now board.old.n cells.now × (aim.judgment < 2 ^ 32) }
+    requires { GoalPlace given.now.text.now board.old.rows.now board.old.n cells.now × (stated.judgment < 2 ^ 32) }
     ensures same_board { SameBoard board.old board.new }
     ensures only { OnlyRows board.old board.new }
-    ensures placed_as { (g : GoalPlace given.now.text.now board.old.rows.now board.old.n cells.now) (hs : Trees) (j : Tree) → aim.hyps ≡ count_trees hs →
-        PlacedAs given.now board.old board.new aim.judgment g.S hs j (add_goal (item g.xs 1) hs j g.S) result }
+    ensures placed_as { (g : GoalPlace given.now.text.now board.old.rows.now board.old.n cells.now) (hs : Trees) (j : Tree) → stated.listed ≡ count_trees hs →
+        PlacedAs given.now board.old board.new stated.judgment g.S hs j (add_goal (item g.xs 1) hs j g.S) result }
 {
     let Item::Atom(start) = items::nth(cells, 1) else {
         return Err(Question::GoalName);
@@ -50,27 +41,28 @@ fn place_goal(
     let text = given.text;
     let end = lex::atom_end(text, start);
     let n = board.n;
-    let None = goal_named(text, board.rows, n.goals, &text[start..end]) else {
+    let rows = &mut *board.rows;
+    let None = goal_named(text, rows, n.goals, &text[start..end]) else {
         return Err(Question::GoalName);
     };
     if n.goals >= GOALS {
         return Err(Question::Room(Row::Goals));
     }
     let room = ENTRIES - n.entries;
-    if room < aim.hyps {
+    if room < stated.listed {
         return Err(Question::Room(Row::Entries));
     }
     put_goal(
-        board.rows,
+        rows,
         n.goals,
         start,
         end,
-        aim.judgment,
+        stated.judgment,
         n.entries,
-        aim.hyps,
+        stated.listed,
     );
     board.n.goals += 1;
-    board.n.entries += aim.hyps;
+    board.n.entries += stated.listed;
     Ok(())
 }
 
@@ -90,33 +82,11 @@ pub fn add_goal(
     let at = items::place(cells, 2);
     let own = *given;
     let judgment = reader_of(&own, board).judgment(store, &cells[at..])?;
-    place_goal(given, board, cells, Aim { judgment, hyps: 0 })
-}
-
-// The hypotheses and the judgment that the items of a form state. The hypotheses' numbers come into the cells `out` as far as there are any; these
-// are zero before, and again where a question is left.
-fn goal_parts(
-    reader: &Reader<'_>,
-    store: &mut Store<'_>,
-    cells: &[u32],
-    out: &mut [u32],
-) -> Result<Aim, Question>
-    requires reads_form { ReadsForm (names_of reader.now) reader.now.n store.old.index.now store.old.words.now store.old.mark cells.now 4 }
-    requires out_value { out.old ≡ replicate (length out.old) 0 }
-    ensures same_tables { SameTables store.old store.new }
-    ensures aims_as { (g : ReadsForm (names_of reader.now) reader.now.n store.old.index.now store.old.words.now store.old.mark cells.now 4) →
-        AimsAs store.old store.new g.S (goal a_goal_with g.xs g.S) (item g.xs 1) out.old out.new result }
-{
-    let at = items::place(cells, 2);
-    let hyps = reader.judgments(store, &cells[at..], out)?;
-    let next = items::place(cells, 3);
-    match reader.judgment(store, &cells[next..]) {
-        Ok(judgment) => Ok(Aim { judgment, hyps }),
-        Err(question) => {
-            clear(out);
-            Err(question)
-        }
-    }
+    let stated = Stated {
+        judgment,
+        listed: 0,
+    };
+    place_goal(given, board, cells, stated)
 }
 
 // `(goal NAME (HYPOTHESIS...) JUDGMENT)`, by the items of the form. The lists are zero behind their entries.
@@ -138,9 +108,8 @@ pub fn add_goal_with(
     let vars = &mut *board.vars;
     let defs = &mut *board.defs;
     let lists = &mut *board.lists;
-    let reader = reader_beside(*given, vars, defs, n);
-    let aim = goal_parts(&reader, store, cells, &mut lists[from..])?;
-    match place_goal(given, board, cells, aim) {
+    let stated = read_stated(given, vars, defs, n, store, cells, &mut lists[from..])?;
+    match place_goal(given, board, cells, stated) {
         Ok(()) => Ok(()),
         Err(question) => {
             clear(&mut board.lists[from..]);

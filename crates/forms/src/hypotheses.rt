@@ -1,53 +1,40 @@
 // `(hyp N JUDGMENT)` and `(hyp N (PREMISE...) JUDGMENT (VAR...))`: facts that are assumed, each resting on itself.
 ghost use Rattle.std.specs.Prelude.{◌≡◌, true, false, List, ℕ, ◌+◌, ◌*◌, ◌^◌, ◌<◌, ◌≤◌, ltb, length, replicate};
 ghost use Rattle.rules.specs.Limits.{VARIABLES, FACTS};
+ghost use Rattle.rules.specs.Sexp.{item, count};
 ghost use Rattle.rules.specs.Forms.{add_hyp, add_rule_hyp};
 ghost use Rattle.terms.specs.Lent.{SameTables};
 ghost use Rattle.state.specs.Held.{records};
 ghost use Rattle.state.specs.Rows.{Putting};
-ghost use Rattle.reading.specs.Reader.{names_of};
-ghost use Rattle.forms.specs.Halted.{ReadsForm};
+ghost use Rattle.reading.specs.Given.{VarsItems};
+ghost use Rattle.reading.specs.Answers.{VarsAs};
 ghost use Rattle.forms.specs.Boards.{AddsFactIn, SameBoard, OnlyHyps};
-ghost use Rattle.forms.specs.Assumed.{AssumedAs, PartsAs, HypPutAs, RulePutAs};
+ghost use Rattle.forms.specs.Assumed.{AssumedAs, HypPutAs, RulePutAs};
 
-use crate::beside::reader_beside;
+use crate::stating::read_stated;
 use cells::{clear, write};
 use questions::{Question, Row};
-use reading::reader::{Reader, reader_of};
+use reading::reader::reader_of;
 use rules::{ENTRIES, FACTS, VARIABLES};
 use sexp::items;
 use state::board::{Board, Given};
 use state::facts::put_hypothesis;
 use terms::store::Store;
 
-// What a hypothesis states: its judgment, how many premises it has, and how many generalised variables.
-#[derive(Clone, Copy, Debug, PartialEq, Eq)]
-pub struct Stated {
-    pub judgment: usize,
-    pub premises: usize,
-    pub general: usize,
-}
-
 // A hypothesis behind the others; its premises and generalised variables stand behind its own entry already, as far as there is room.
-fn put_stated(board: &mut Board<'_>, stated: Stated) -> Result<(), Row>
-    requires { ((footings : List ℕ) × Putting (records board.old.facts.now footings board.old.lists.now) board.old.n stated.judgment) × (stated.premises + stated.general < 2 ^ 32) }
+fn put_behind(
+    board: &mut Board<'_>,
+    judgment: usize,
+    premises: usize,
+    general: usize,
+) -> Result<(), Row>
+    requires { ((footings : List ℕ) × Putting (records board.old.facts.now footings board.old.lists.now) board.old.n judgment) × (premises + general < 2 ^ 32) }
     ensures same_board { SameBoard board.old board.new }
     ensures only { OnlyHyps board.old board.new }
-    ensures put_as { (footings : List ℕ) → length footings ≡ 4 * FACTS → HypPutAs board.old board.new footings stated result }
+    ensures put_as { (footings : List ℕ) → length footings ≡ 4 * FACTS → HypPutAs board.old board.new footings judgment premises general result }
 {
-    let Stated {
-        judgment,
-        premises,
-        general,
-    } = stated;
-    let entries = put_hypothesis(
-        board.facts,
-        board.lists,
-        board.n,
-        judgment,
-        premises,
-        general,
-    )?;
+    let n = board.n;
+    let entries = put_hypothesis(board.facts, board.lists, n, judgment, premises, general)?;
     board.n.facts += 1;
     board.n.entries = entries;
     Ok(())
@@ -69,49 +56,23 @@ pub fn add_hyp(
     let at = items::place(cells, 2);
     let given = *given;
     let judgment = reader_of(&given, board).judgment(store, &cells[at..])?;
-    let stated = Stated {
-        judgment,
-        premises: 0,
-        general: 0,
-    };
-    put_stated(board, stated).map_err(Question::Room)
+    put_behind(board, judgment, 0, 0).map_err(Question::Room)
 }
 
-// The premises, the judgment and the generalised variables that the items of a form state. The premises' numbers come into the cells `out` as far as
-// there are any, the variables into `general`; both are zero before, and `out` is again where a question is left.
-fn rule_parts(
-    reader: &Reader<'_>,
-    store: &mut Store<'_>,
+// The generalised variables, which item 4 of the form lists, come into the cells, which are zero before; how many they are.
+fn general_vars(
+    given: &Given<'_>,
+    board: &Board<'_>,
     cells: &[u32],
-    out: &mut [u32],
     general: &mut [u32],
-) -> Result<Stated, Question>
-    requires reads_form { ReadsForm (names_of reader.now) reader.now.n store.old.index.now store.old.words.now store.old.mark cells.now 5 }
-    requires out_value { (out.old ≡ replicate (length out.old) 0) × (general.old ≡ replicate VARIABLES 0) }
-    ensures same_tables { SameTables store.old store.new }
-    ensures parts_as { (g : ReadsForm (names_of reader.now) reader.now.n store.old.index.now store.old.words.now store.old.mark cells.now 5) →
-        PartsAs store.old store.new g.S (add_rule_hyp g.xs g.S) out.old out.new general.new result }
+) -> Option<usize>
+    requires items { let b = board.now in (g : VarsItems given.now.goals.now given.now.text.now b.vars.now b.n.vars cells.now) × (5 ≤ count g.xs) }
+    requires zero { general.old ≡ replicate VARIABLES 0 }
+    ensures { let b = board.now in (g : VarsItems given.now.goals.now given.now.text.now b.vars.now b.n.vars cells.now) → 5 ≤ count g.xs →
+        VarsAs g.S.vars (item g.xs 4) general.old general.new result }
 {
-    let at = items::place(cells, 2);
-    let premises = reader.judgments(store, &cells[at..], out)?;
-    let next = items::place(cells, 3);
-    let judgment = match reader.judgment(store, &cells[next..]) {
-        Ok(judgment) => judgment,
-        Err(question) => {
-            clear(out);
-            return Err(question);
-        }
-    };
-    let last = items::place(cells, 4);
-    let Some(many) = reader.vars_list(&cells[last..], general) else {
-        clear(out);
-        return Err(Question::Binding);
-    };
-    Ok(Stated {
-        judgment,
-        premises,
-        general: many,
-    })
+    let at = items::place(cells, 4);
+    reader_of(given, board).vars_list(&cells[at..], general)
 }
 
 // A hypothesis behind the others; so many premises stand behind its own entry already, as far as there is room, and the generalised variables come
@@ -145,12 +106,7 @@ fn put_rule(
     }
     let at = from + premises;
     write(&mut board.lists[at..], general);
-    let stated = Stated {
-        judgment,
-        premises,
-        general: many,
-    };
-    put_stated(board, stated)
+    put_behind(board, judgment, premises, many)
 }
 
 // The place behind the entry of one more fact, or that behind all entries.
@@ -182,15 +138,13 @@ pub fn add_rule_hyp(
     let defs = &mut *board.defs;
     let lists = &mut *board.lists;
     let from = behind_own(n.entries, lists.len());
+    let stated = read_stated(given, vars, defs, n, store, cells, &mut lists[from..])?;
     let mut general = [0u32; VARIABLES];
-    let reader = reader_beside(*given, vars, defs, n);
-    let stated = rule_parts(&reader, store, cells, &mut lists[from..], &mut general)?;
-    match put_rule(
-        board,
-        stated.judgment,
-        stated.premises,
-        &general[..stated.general],
-    ) {
+    let Some(many) = general_vars(given, board, cells, &mut general) else {
+        clear(&mut board.lists[from..]);
+        return Err(Question::Binding);
+    };
+    match put_rule(board, stated.judgment, stated.listed, &general[..many]) {
         Ok(()) => Ok(()),
         Err(row) => {
             clear(&mut board.lists[from..]);

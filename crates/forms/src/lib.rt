@@ -2,9 +2,9 @@
 // proved equal to the definition's in the crate `rules`, every lent cell included.
 #![tactic(auto)]
 
-mod beside;
 pub mod declare;
 pub mod goals;
 pub mod hypotheses;
 pub mod next;
 pub mod results;
+mod stating;
