@@ -1,3 +1,4 @@
+pub mod Assuming
 pub mod Covering
 pub mod GoalLists
 pub mod GoalReads
@@ -5,4 +6,5 @@ pub mod GoalRows
 pub mod OwnIndices
 pub mod Resulting
 pub mod Statings
+pub mod Supposing
 pub mod Tails
