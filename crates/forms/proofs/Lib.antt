@@ -1,3 +1,4 @@
+pub mod Abbreviations
 pub mod Assuming
 pub mod Covering
 pub mod GoalLists
@@ -8,3 +9,4 @@ pub mod Resulting
 pub mod Statings
 pub mod Supposing
 pub mod Tails
+pub mod Variables
