@@ -23,7 +23,7 @@ use Rattle.rules.proofs.Laws.ReadWalk.{term_keeps}
 use Rattle.sexp.specs.Encode.{encodes}
 use Rattle.sexp.specs.Items.{item_of, place}
 use Rattle.sexp.specs.NthItem.{nth_text, nth_part}
-use Rattle.sexp.specs.AtomText.{AtomText, atom_part, atom_high, atom_named}
+use Rattle.sexp.specs.AtomText.{AtomText, atom_part, atom_named}
 use Rattle.sexp.specs.declared.items.Item.{Item}
 use Rattle.sexp.specs.declared.items.Item.TheVariants.{Atom, List as Part}
 use Rattle.terms.specs.declared.store.Mark.{Mark}

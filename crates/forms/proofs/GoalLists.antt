@@ -1,8 +1,8 @@
 -- The form of goals with hypotheses, from what it states to the row: the hypotheses' numbers come behind the entries of the lists, which are zero there,
 -- and again where a question is left. Assumes nothing.
 use mathlib.Core.Path.{◌≡◌, refl, sym, ◌∙◌, subst}
-use mathlib.Core.List.{List, ◌++◌}
-use Prim.Native.Nat.{ℕ, ◌+◌, ◌-◌, ◌^◌, ◌<◌, ◌≤◌}
+use mathlib.Core.List.{List}
+use Prim.Native.Nat.{ℕ, ◌+◌, ◌-◌, ◌^◌, ◌<◌}
 use native.Mathlib.Omega.{arith}
 use lib.ListN.{length, take, drop, replicate}
 use Rattle.rules.specs.Limits.{ENTRIES}
@@ -19,7 +19,7 @@ use Rattle.state.specs.declared.sizes.Sizes.{Sizes}
 use Rattle.state.specs.Held.{Names}
 use Rattle.state.specs.Used.{goals_now}
 use Rattle.state.specs.Numbered.{length_numbers}
-use Rattle.std.specs.Prelude.{Result, Ok, Err}
+use Rattle.std.specs.Prelude.{Ok, Err}
 use Rattle.questions.specs.declared.Question.{Question}
 use Rattle.questions.specs.Numbers.{number_of, detail_of}
 use Rattle.forms.specs.declared.stating.Stated.{Stated}

@@ -1,24 +1,23 @@
 -- The forms of goals, from reading to the row: what the judgments say of the form, and the lists behind the entries. Assumes nothing.
-use mathlib.Core.Path.{◌≡◌, refl, sym, ap, ◌∙◌, subst}
+use mathlib.Core.Path.{◌≡◌, refl, sym, ◌∙◌, subst}
 use mathlib.Core.List.{List}
 use Prim.Native.Nat.{ℕ, ◌+◌, ◌-◌, ◌^◌, ◌<◌, ◌≤◌}
 use native.Mathlib.Omega.{arith}
 use lib.ListN.{length, take, drop}
 use lib.Seq.{sets}
 use Rattle.rules.specs.Limits.{ENTRIES}
-use Rattle.rules.specs.Out.{Out, refuse, then}
+use Rattle.rules.specs.Out.{Out, then}
 use Rattle.rules.specs.Sexp.{Sexps, item}
 use Rattle.rules.specs.Tags.{a_goal, a_goal_with}
 use Rattle.rules.specs.Tree.{Tree, Trees, none, count_trees}
 use Rattle.rules.specs.Store.{Made}
 use Rattle.rules.specs.State.{State, entries}
-use Rattle.rules.specs.Read.{judgment, judgments}
+use Rattle.rules.specs.Read.{judgment}
 use Rattle.rules.specs.Forms.{with_made, making, add_goal, goal}
-use Rattle.rules.specs.TheoryTables.{filled}
 use Rattle.rules.specs.StateTables.{numbers}
-use Rattle.rules.specs.Laws.Keeping.{Each, Grows, each_on}
+use Rattle.rules.specs.Laws.Keeping.{Each}
 use Rattle.rules.specs.Laws.Sound.{sound}
-use Rattle.rules.proofs.Laws.ReadWalk.{judgment_keeps, judgments_keeps}
+use Rattle.rules.proofs.Laws.ReadWalk.{judgment_keeps}
 use Rattle.sexp.specs.Encode.{encodes}
 use Rattle.sexp.specs.Items.{place}
 use Rattle.sexp.specs.NthItem.{place_high}
@@ -27,16 +26,14 @@ use Rattle.terms.specs.Table.{made, tree}
 use Rattle.state.specs.declared.sizes.Sizes.{Sizes}
 use Rattle.state.specs.Held.{Names}
 use Rattle.state.specs.Used.{goals_now}
-use Rattle.state.specs.Growth.{grows_ok}
-use Rattle.state.specs.Numbered.{numbers_on}
-use Rattle.reading.specs.Given.{Reads, ReadsItem}
-use Rattle.reading.specs.Answers.{TermRead, JudgmentsRead}
-use Rattle.reading.specs.Laws.Reading.{reads_ready, reads_judgments, reads_item}
+use Rattle.reading.specs.Given.{ReadsItem}
+use Rattle.reading.specs.Answers.{TermRead}
+use Rattle.reading.specs.Laws.Reading.{reads_ready, reads_item}
 use Rattle.terms.specs.On.{Stopped}
 use Rattle.std.specs.Prelude.{Result, Ok, Err}
 use Rattle.questions.specs.declared.Question.{Question}
 use Rattle.questions.specs.Numbers.{number_of, detail_of}
-use Rattle.forms.specs.Halted.{ReadsForm, Halts}
+use Rattle.forms.specs.Halted.{Halts}
 use Rattle.forms.specs.Goals.{GoalPlace, AddsGoal, GoalPlaced, PlacedBy, GoalAdded, AimedBy}
 use Rattle.forms.specs.Stating.{stating}
 use Rattle.forms.specs.Laws.Making.{Reached, reached_start, reached_halts, reached_went, reached_stopped, item_holds}

@@ -1,5 +1,5 @@
 -- What `result` answers, question by question, and what the code finds for it. Assumes nothing.
-use mathlib.Core.Path.{◌≡◌, sym, ap, ◌∙◌, subst}
+use mathlib.Core.Path.{◌≡◌, sym, ap, ◌∙◌}
 use mathlib.Core.Bool.{Bool, true, false, not}
 use Rattle.std.specs.Prelude.{Option, Some as some, None as nothing}
 use mathlib.Core.List.{List}
@@ -42,7 +42,7 @@ use Rattle.state.specs.FactLaws.{goal_row_of}
 use Rattle.referring.specs.Recall.{RefersItem, fact_of}
 use Rattle.referring.specs.Referral.{rests_on, ref_of, RefRead}
 use Rattle.forms.specs.Halted.{Halts}
-use Rattle.forms.specs.Results.{goal_of, Covers, TakesResult, GoalMet}
+use Rattle.forms.specs.Results.{goal_of, Covers, TakesResult, GoalMet, ResultTaken}
 use Rattle.referring.specs.Laws.Refers.{refers_ready, refers_item}
 use Rattle.forms.specs.Laws.Making.{Reached, reached_start, reached_halts, reached_went, reached_stopped, halts_first, item_holds}
 
@@ -282,3 +282,14 @@ module _ {K : Names} {rows facts lists : List ℕ} {n : Sizes} {I W : List ℕ} 
               goal = o.there;
               is = reached.here ∙ end_taken k (with_made g.S (made J X new)) v (compared ∙ eq-eqb t j d);
             }
+
+-- The row ---------------------------------------------------------------------------------------------------------------------------
+
+module _ {K : Names} {rows facts lists : List ℕ} {n : Sizes} {I W : List ℕ} {m : Mark} {cells : List ℕ} (g : TakesResult K rows facts lists n I W m cells) {J X : List ℕ} {k : ℕ}
+    {new : Mark} (f : (h : TakesResult K rows facts lists n I W m cells) → GoalMet n I W J X m h.S (result h.xs h.S) k new) where
+  -- what `take_goal` asks
+  pub met_asks : (length rows ≡ 6 * GOALS) × (k < GOALS)
+  met_asks = let z = f g in (goals_long g.held, omega (arith, z.goal, g.held.few))
+
+  pub result_taken : {after : List ℕ} → after ≡ set rows (6 * k + 5) 1 → ResultTaken rows after n I W J X m g.S (result g.xs g.S) new
+  result_taken p = let z = f g in record { makes = z.makes; k = k; goal = z.goal; is = z.is; rows_are = p }

@@ -1,5 +1,5 @@
 -- What a form lists and states, item by item. Assumes nothing.
-use mathlib.Core.Path.{◌≡◌, refl, sym, ap, ◌∙◌}
+use mathlib.Core.Path.{◌≡◌, sym, ap, ◌∙◌}
 use mathlib.Core.List.{List}
 use Prim.Native.Nat.{ℕ, ◌-◌}
 use native.Mathlib.Omega.{arith}
@@ -26,7 +26,6 @@ use Rattle.state.specs.Numbered.{numbers_on}
 use Rattle.reading.specs.Given.{Reads, ReadsItem}
 use Rattle.reading.specs.Answers.{TermRead, JudgmentsRead}
 use Rattle.reading.specs.Laws.Reading.{reads_ready, reads_judgments, reads_item}
-use Rattle.forms.specs.declared.stating.Stated.{Stated}
 use Rattle.forms.specs.Halted.{ReadsForm, Halts}
 use Rattle.forms.specs.Stating.{stating, StatedRead}
 use Rattle.forms.specs.Laws.Making.{Reached, reached_start, reached_went, reached_stopped, item_holds}

@@ -7,7 +7,7 @@ use native.Mathlib.Omega.{arith}
 use lib.Dec.{ltb}
 use lib.ListN.{length, take, drop, replicate}
 use lib.Seq.{sets}
-use Rattle.std.specs.Prelude.{Result, Ok, Err, Option, Some as some, None as nothing, MatchResult, IsErrAnd}
+use Rattle.std.specs.Prelude.{Result, Ok, Err, Option, None as nothing, MatchResult, IsErrAnd}
 use Rattle.rules.specs.Limits.{VARIABLES, FACTS, ENTRIES}
 use Rattle.rules.specs.Out.{Out, then, found}
 use Rattle.rules.specs.Sexp.{Sexps, item, count, rest}
@@ -257,8 +257,7 @@ module _ {K : Names} {facts lists : List ℕ} {n : Sizes} {I W : List ℕ} {m : 
               ∙ ap (λ i. sets lists i ps) start in
               let behind : B ≡ sets lists (n.entries + 1) (ps ++ v.vars) =
               (λ i. sets (filled-up i) (n.entries + 1 + many) (front_vars i))
-              ∙ sets_append lists ps v.vars (n.entries + 1) (n.entries + 1 + many) (ap (λ i. n.entries + 1 + i) count) in
-              (
+              ∙ sets_append lists ps v.vars (n.entries + 1) (n.entries + 1 + many) (ap (λ i. n.entries + 1 + i) count) in (
                 adding_ok rec r.judgment stated.trees v.vars reached_fact stated.count v.count stated.there stated.known
                     (vars_listed g.S.vars (item g.xs 4) v.vars v.are).below B behind y,
                 z.1,
@@ -274,8 +273,7 @@ module _ {K : Names} {facts lists : List ℕ} {n : Sizes} {I W : List ℕ} {m : 
               let long : length (take few general) ≡ few = ap length front_vars ∙ sym v.count in
               let same-facts : Q.facts ≡ facts = ap (λ (y : Records). y.facts) z.0 in
               let same_lists : Q.lists ≡ L = ap (λ (y : Records). y.lists) z.0 in
-              let back = again (same_lists ∙ e) c in
-              (
+              let back = again (same_lists ∙ e) c in (
                 adding_full rec r.judgment stated.trees v.vars reached_fact stated.count v.count z.1 (λ l. let i = z.2 l in omega (arith, long)),
                 λ i. records (same-facts i) g.footings (back i),
                 z.3,

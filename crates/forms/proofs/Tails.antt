@@ -10,7 +10,7 @@ use lib.ListN.{length, take, drop, replicate, length-append, length-drop, drop_o
 use lib.Seq.{sets, sets-eq, take_all, take_at, drop-drop, drop-append-add, length-take-le}
 use borrow.Author.Tests.{lt-ltb, le-ltb}
 use Rattle.rules.specs.TheoryTables.{filled}
-use Rattle.rules.specs.Laws.Row.{filled_fits, length_filled}
+use Rattle.rules.specs.Laws.Row.{filled_fits}
 use Rattle.state.specs.Filled.{drop_zeros}
 
 -- A tail that was lent -----------------------------------------------------------------------------------------------------------------

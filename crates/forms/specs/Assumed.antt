@@ -1,19 +1,14 @@
 -- What the forms of hypotheses are given and what they answer, beside what the definition answers: K. Assumes nothing.
 use Rattle.std.specs.Prelude.{◌≡◌, true, false, List, ℕ, ◌+◌, ◌<◌, ◌≤◌, ltb, length, Result, Ok, Err}
 use Rattle.std.proofs.lemmas.List.Edits.{sets}
-use Rattle.rules.specs.Limits.{VARIABLES, FACTS, ENTRIES}
+use Rattle.rules.specs.Limits.{FACTS, ENTRIES}
 use Rattle.rules.specs.Out.{Out, ok}
 use Rattle.rules.specs.Sexp.{Sexps, count}
-use Rattle.rules.specs.Tree.{Trees, count_trees}
 use Rattle.rules.specs.State.{State, Fact}
-use Rattle.rules.specs.Forms.{with_made, add_fact, hypothesis, one_hypothesis, plus}
-use Rattle.rules.specs.TheoryTables.{filled}
-use Rattle.rules.specs.StateTables.{numbers}
-use Rattle.rules.specs.Laws.Keeping.{Each}
-use Rattle.rules.specs.Laws.Sound.{sound}
+use Rattle.rules.specs.Forms.{with_made, one_hypothesis, plus}
 use Rattle.sexp.specs.Items.{Holds}
 use Rattle.terms.specs.declared.store.Mark.{Mark}
-use Rattle.terms.specs.Table.{made, tree}
+use Rattle.terms.specs.Table.{made}
 use Rattle.state.specs.declared.sizes.Sizes.{Sizes}
 use Rattle.questions.specs.declared.Question.{Question}
 use Rattle.questions.specs.declared.Row.{Row}
@@ -21,7 +16,6 @@ use Rattle.questions.specs.Numbers.{row_number, number_of, detail_of}
 use Rattle.state.specs.Held.{Names, Records, records}
 use Rattle.state.specs.Used.{facts_now}
 use Rattle.state.specs.Recording.{Valid, Assumes, HypothesisPut, with_fact}
-use Rattle.reading.specs.Laws.Lists.{Listing}
 use Rattle.terms.specs.declared.store.Store.{Store}
 use Rattle.state.specs.declared.board.Board.{Board}
 use Rattle.referring.specs.Recall.{Refers}

@@ -3,12 +3,11 @@ use Rattle.std.specs.Prelude.{◌≡◌, false, List, [], ◌∷◌, ◌++◌, �
 use Rattle.std.proofs.lemmas.List.Edits.{sets}
 use Rattle.rules.specs.Limits.{LENGTH, GOALS, ENTRIES}
 use Rattle.rules.specs.Out.{Out, ok, refuse}
-use Rattle.rules.specs.Sexp.{Sexp, Sexps, Name, count}
+use Rattle.rules.specs.Sexp.{Sexps, Name, count}
 use Rattle.rules.specs.Tree.{Tree, Trees, count_trees}
 use Rattle.rules.specs.Store.{Made}
 use Rattle.rules.specs.State.{State, Goal, entries}
-use Rattle.rules.specs.Forms.{with_made, with_goals, add_goal}
-use Rattle.rules.specs.TheoryTables.{filled}
+use Rattle.rules.specs.Forms.{with_made, with_goals}
 use Rattle.rules.specs.StateTables.{numbers}
 use Rattle.rules.specs.Laws.Keeping.{Each}
 use Rattle.rules.specs.Laws.Sound.{sound}

@@ -1,5 +1,5 @@
 -- From the answers of `add_hyp` and `add_rule_hyp` to all tables at once: K is what the definition answers, `add_hyp` or `add_rule_hyp`. Assumes nothing.
-use Rattle.std.specs.Prelude.{◌≡◌, refl, List, ℕ, ◌+◌, ◌≤◌, Result, Ok, Err}
+use Rattle.std.specs.Prelude.{◌≡◌, refl, List, ℕ, ◌≤◌, Result, Ok, Err}
 use Rattle.std.proofs.Common.{sym, subst}
 use Rattle.rules.specs.Out.{Out}
 use Rattle.rules.specs.Sexp.{Sexps, count}
@@ -10,8 +10,7 @@ use Rattle.kernel.specs.Parsed.{TheoryLists}
 use Rattle.terms.specs.declared.store.Mark.{Mark}
 use Rattle.terms.specs.Table.{made}
 use Rattle.state.specs.declared.sizes.Sizes.{Sizes}
-use Rattle.state.specs.Held.{names, Records, records}
-use Rattle.state.specs.Used.{facts_now}
+use Rattle.state.specs.Held.{names, records}
 use Rattle.state.specs.Recording.{with_fact}
 use Rattle.state.specs.Stands.{Texts, Board, board, Stands}
 use Rattle.state.specs.Updates.{stands_hypothesis}

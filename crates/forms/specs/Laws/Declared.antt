@@ -1,8 +1,8 @@
 -- From the answers of `add_var` and `add_def` to all tables at once. Each law takes what the call is given from the tables, then its answer.
 -- Assumes nothing.
-use Rattle.std.specs.Prelude.{◌≡◌, refl, List, [], ◌∷◌, ◌++◌, ℕ, ◌+◌, ◌^◌, ◌<◌, ◌≤◌, Result, Ok, Err}
+use Rattle.std.specs.Prelude.{◌≡◌, refl, List, [], ◌∷◌, ◌++◌, ℕ, ◌^◌, ◌<◌, ◌≤◌, Result, Ok, Err}
 use Rattle.std.proofs.Common.{sym, ap, ◌∙◌, subst}
-use Rattle.rules.specs.Out.{Out, refuse}
+use Rattle.rules.specs.Out.{Out}
 use Rattle.rules.specs.Sexp.{Sexps, count}
 use Rattle.rules.specs.State.{State}
 use Rattle.rules.specs.Forms.{with_made, with_vars, with_defs}
@@ -13,16 +13,14 @@ use Rattle.terms.specs.declared.store.Mark.{Mark}
 use Rattle.terms.specs.Table.{made}
 use Rattle.state.specs.declared.sizes.Sizes.{Sizes}
 use Rattle.state.specs.Held.{text_of, names}
-use Rattle.state.specs.Used.{vars_now, defs_now}
 use Rattle.state.specs.Stands.{Texts, Board, board, Stands}
 use Rattle.state.specs.Updates.{stands_var, stands_def}
 use Rattle.questions.specs.declared.Question.{Question}
-use Rattle.questions.specs.Numbers.{number_of, detail_of}
 use Rattle.terms.specs.declared.store.Store.{Store}
 use Rattle.state.specs.declared.board.Given.{Given}
 use Rattle.state.specs.declared.board.Board.{Board as Lent}
-use Rattle.forms.specs.Halted.{ReadsForm, Halts}
-use Rattle.forms.specs.Boards.{StandsIn, OnlyVars, OnlyDefs, texts_of, theory_of, tables_of}
+use Rattle.forms.specs.Halted.{ReadsForm}
+use Rattle.forms.specs.Boards.{StandsIn, OnlyVars, OnlyDefs, texts_of, theory_of}
 use Rattle.forms.specs.Declares.{AddsVar, VarAdded, VarAs, DefAdded, DefAs}
 use Rattle.forms.specs.Moved.{MovesIn, LeftIn}
 use Rattle.forms.specs.Laws.Making.{makes_none}

@@ -1,6 +1,6 @@
 -- A goal more, from all tables to all tables: what `add_goal` and `add_goal_with` answer, where the tables stand for a state without facts.
 -- Assumes nothing.
-use Rattle.std.specs.Prelude.{◌≡◌, refl, List, [], ◌∷◌, ◌++◌, ℕ, ◌+◌, ◌-◌, ◌≤◌, length, drop, replicate, Result, Ok, Err}
+use Rattle.std.specs.Prelude.{◌≡◌, refl, List, [], ◌∷◌, ◌++◌, ℕ, ◌-◌, ◌≤◌, length, drop, replicate, Result, Ok, Err}
 use Rattle.std.proofs.Common.{sym, ap, ◌∙◌, subst, arith}
 use Rattle.rules.specs.Limits.{ENTRIES}
 use Rattle.rules.specs.Out.{Out}
@@ -17,7 +17,6 @@ use Rattle.terms.specs.declared.store.Mark.{Mark}
 use Rattle.terms.specs.Table.{made, tree}
 use Rattle.terms.specs.Laws.Numbers.{tree_number, tree_stored}
 use Rattle.state.specs.declared.sizes.Sizes.{Sizes}
-use Rattle.state.specs.Used.{goals_now}
 use Rattle.state.specs.Held.{names, listed}
 use Rattle.state.specs.FactLaws.{length_listed, entries_fit, lists_long}
 use Rattle.state.specs.Numbered.{in_sound}

@@ -1,7 +1,6 @@
 use borrow.Author.Tests.{not-true, not-false}
 use mathlib.Core.Path.{refl}
 use native.Mathlib.Omega.{arith}
-use Rattle.sexp.specs.NthItem.{reaches}
 use Rattle.sexp.specs.AtomText.{atom_high}
 use Rattle.forms.proofs.Variables.{var_no_name, var_name_lem, var_no_sort, var_sort_text, var_sort_missing, var_is_marked, var_is_used, var_no_room, var_fits, var_is_added}
 use mathlib.Core.Path.{ap}
@@ -69,7 +68,7 @@ put_var-requires c = var_fits c.requires c.nth.ensures c.in-Atom.is c.nth-2.ensu
 pub returns-clause-var_as : goal.returns-clause-var_as
 returns-clause-var_as c = λ g. (
   var_is_added g c.nth.ensures c.in-Atom.is c.nth-2.ensures c.in-Atom-nth.is c.atom_end-last.ensures c.sort_named.ensures
-    c.in-Some.is c.marked.ensures c.if-marked.false c.atom_end-end.ensures c.is_unused.ensures (not-false _ (ap not c.if-not-is_unused.false)) c.if-board-ge-VARIABLES.false
-    c.put_var.ensures,
+      c.in-Some.is c.marked.ensures c.if-marked.false c.atom_end-end.ensures c.is_unused.ensures (not-false _ (ap not c.if-not-is_unused.false)) c.if-board-ge-VARIABLES.false
+      c.put_var.ensures,
   refl,
 )

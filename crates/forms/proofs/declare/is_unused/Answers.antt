@@ -1,10 +1,8 @@
 use mathlib.Core.Path.{◌≡◌, ◌∙◌}
 use mathlib.Core.Bool.{Bool, ◌&&◌}
-use mathlib.Core.List.{List}
-use Prim.Native.Nat.{ℕ}
 use Rattle.rules.specs.Declare.{is_new}
 use Rattle.rules.specs.Theory.{constructor_named, predicate_named}
-use Rattle.rules.specs.State.{State, var_named}
+use Rattle.rules.specs.State.{var_named}
 use Rattle.forms.proofs.Variables.{none_new, both_new, one_old, all_new, not_both}
 use Rattle.forms.proofs.declare.is_unused.Goals.{then-is_none, else-is_none}
 use Rattle.forms.proofs.declare.is_unused.Goals as goal

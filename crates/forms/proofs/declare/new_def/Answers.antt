@@ -1,7 +1,6 @@
 use borrow.Author.Tests.{not-true, not-false}
-use mathlib.Core.Path.{refl}
 use native.Mathlib.Omega.{arith}
-use Rattle.sexp.specs.NthItem.{reaches, place_high}
+use Rattle.sexp.specs.NthItem.{place_high}
 use Rattle.sexp.specs.AtomText.{atom_high}
 use Rattle.forms.proofs.Abbreviations.{def_no_name, def_name, def_no_mark, def_too_short, def_item, def_term_no, def_defs, def_again, def_full, def_named}
 use Rattle.kernel.proofs.Handed.{handed}
@@ -49,11 +48,11 @@ def_named-requires c = let r = rw c.reader_of.ensures at c.in_ok-typed.ensures.t
 
 pub returns-in_default-def_named-clause-named_as : goal.returns-in_default-def_named-clause-named_as
 returns-in_default-def_named-clause-named_as c = λ g. let r = rw c.reader_of.ensures at c.in_ok-typed.ensures.typed_as in def_again g c.nth.ensures c.in-Atom.is c.marked.ensures (not-false _ (ap not c.if-not-marked.false)) c.atom_end-end.ensures c.if-end-start.false
-      c.place-at.ensures r c.def_named.result c.def_named.ensures c.in_default-def_named.is
+    c.place-at.ensures r c.def_named.result c.def_named.ensures c.in_default-def_named.is
 
 pub returns-then-board-ge-DEFS-clause-named_as : goal.returns-then-board-ge-DEFS-clause-named_as
 returns-then-board-ge-DEFS-clause-named_as c = λ g. let r = rw c.reader_of.ensures at c.in_ok-typed.ensures.typed_as in def_full g c.nth.ensures c.in-Atom.is c.marked.ensures (not-false _ (ap not c.if-not-marked.false)) c.atom_end-end.ensures c.if-end-start.false
-      c.place-at.ensures r c.def_named.result c.def_named.ensures c.in-None.is c.if-board-ge-DEFS.true
+    c.place-at.ensures r c.def_named.result c.def_named.ensures c.in-None.is c.if-board-ge-DEFS.true
 
 pub returns-in_err-typed-clause-named_as : goal.returns-in_err-typed-clause-named_as
 returns-in_err-typed-clause-named_as c = λ g. let r = rw c.reader_of.ensures at c.in_err-typed.ensures.typed_as in

@@ -1,6 +1,5 @@
 use mathlib.Core.Path.{refl, sym}
 use lib.Seq.{length-take-le}
-use native.Mathlib.Omega.{arith}
 use Rattle.kernel.proofs.Handed.{handed}
 use Rattle.state.specs.Held.{records}
 use Rattle.forms.proofs.Supposing.{entries_inside, items_of, rule_zero, rule_stops, rule_unlisted, rule_asks, vars_inside, rule_added, rule_full}

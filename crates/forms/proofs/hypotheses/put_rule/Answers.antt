@@ -1,4 +1,3 @@
-use Prim.Native.Nat.{◌+◌}
 use native.Mathlib.Omega.{arith}
 use Rattle.state.specs.Held.{records}
 use Rattle.forms.proofs.Assuming.{rule_put}

@@ -4,8 +4,6 @@ use Rattle.state.specs.FactLaws.{lists_long}
 use lib.ListN.{replicate}
 use Rattle.rules.specs.Limits.{TERMWORDS}
 use Rattle.forms.proofs.Covering.{covers_goal, covers_fact, aims_low, aims_high, aims_below, own_low, own_high, own_given, covers_all}
-use mathlib.Core.Path.{ap}
-use mathlib.Core.Bool.{not}
 use Rattle.forms.proofs.results.covers.Goals as goal
 
 pub goal_hyps-aims-requires : goal.goal_hyps-aims-requires
