@@ -1,11 +1,14 @@
 -- What `invert` is given and what it answers: a derived fact, and the variables with those that were made. Assumes nothing.
 use Rattle.std.specs.Prelude.{◌≡◌, List, [], ℕ, ◌<◌, ◌≤◌, length, Result, Ok, Err}
 use Rattle.rules.specs.Limits.{VARIABLES}
-use Rattle.rules.specs.Out.{Out, Act, ◌>>=◌, pure}
+use Rattle.rules.specs.Out.{Out, ok, refuse, Act, ◌>>=◌, pure, ask}
 use Rattle.rules.specs.Sexp.{Sexps, count, item, items}
 use Rattle.rules.specs.Tree.{Tree}
 use Rattle.rules.specs.Store.{Made}
-use Rattle.rules.specs.State.{State, Var, Fact}
+use Rattle.rules.specs.State.{State, Var, Fact, is_plain}
+use Rattle.rules.specs.Read.{index}
+use Rattle.rules.specs.Reference.{fact_at, hyp_list}
+use Rattle.rules.specs.Find.{rising}
 use Rattle.rules.specs.Theory.{rules_of}
 use Rattle.rules.specs.Invert.{read_cases, invert_rules, predicate_of}
 use Rattle.rules.proofs.Laws.Below.{Below, MadeBelow}
@@ -15,12 +18,12 @@ use Rattle.terms.specs.Table.{made, tree}
 use Rattle.terms.specs.Sets.{holds}
 use Rattle.terms.specs.On.{Went, Stopped}
 use Rattle.state.specs.declared.sizes.Sizes.{Sizes}
-use Rattle.state.specs.Held.{Names, RuleLists, Ruled}
+use Rattle.state.specs.Held.{Names, RuleLists, Ruled, records, Recorded}
 use Rattle.state.specs.Members.{Under}
 use Rattle.questions.specs.declared.Question.{Question}
 use Rattle.questions.specs.Numbers.{number_of, detail_of}
 use Rattle.inversion.specs.declared.invert.Inverted.{Inverted}
-use Rattle.referring.specs.Recall.{Refers}
+use Rattle.referring.specs.Recall.{Refers, fact_of}
 use Rattle.referring.specs.Derived.{derived_fact}
 use Rattle.casework.specs.Context.{There}
 use Rattle.inversion.specs.InvertRules.{Unmade, vars_with}
@@ -34,6 +37,36 @@ pub record InvertForm (K : Names) (P : RuleLists) (facts footings lists : List �
   pub holds_items : Holds K.text cells xs
   pub many : 6 ≤ count xs
   pub low : MadeBelow (length S.vars) (made I W m)
+
+-- the facts in their table, and a form of at least four items, of which the third names a fact, the fourth lists some
+pub record NamingForm (text facts : List ℕ) (n : Sizes) (cells : List ℕ) : Type 0 where
+  pub S : State
+  pub xs : Sexps
+  pub made_trees : Made
+  pub footings : List ℕ
+  pub lists : List ℕ
+  pub recorded : Recorded (records facts footings lists) n made_trees S
+  pub holds_items : Holds text cells xs
+  pub many : 4 ≤ count xs
+
+-- the fact's number and the fact, and the facts that are listed
+abbrev pub hypothesis_of : State → Sexps → Act Made (ℕ × (Fact × List ℕ))
+hypothesis_of S xs = do
+  i ← index 34 (item xs 2)
+  k ← fact_at S i
+  _ ← ask 40 (is_plain k)
+  hs ← hyp_list (λ f. f.assumed) S (item xs 3)
+  pure (i, (k, hs))
+
+-- K answers fact i, and the facts that are in the set
+pub record HypothesisRead (S : State) (n : Sizes) (hyps : List ℕ) (K : Act Made (ℕ × (Fact × List ℕ))) (i : ℕ) : Type 0 where
+  pub read : (M : Made) → K M ≡ ok (i, (fact_of S i, rising n.facts (holds hyps))) M
+  pub there : i < n.facts
+  pub early : Under n.facts (holds hyps)
+
+abbrev pub HypothesisAs : State → Sizes → List ℕ → Act Made (ℕ × (Fact × List ℕ)) → Result ℕ Question → Type 0
+HypothesisAs S n hyps K (Ok i) = HypothesisRead S n hyps K i
+HypothesisAs S n hyps K (Err q) = (M : Made) → K M ≡ refuse (number_of q) (detail_of q) M
 
 -- the rest of the form, behind its judgment j; s: the hypothesis; context: its facts
 pub record InvertingOn (K : Names) (P : RuleLists) (facts lists : List ℕ) (n : Sizes) (I W : List ℕ) (m : Mark) (cells : List ℕ) (s j : ℕ) (context : List ℕ) : Type 0 where

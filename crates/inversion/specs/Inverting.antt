@@ -21,7 +21,7 @@ use Rattle.inversion.specs.declared.inverting.Variables.{Variables}
 use Rattle.inversion.specs.declared.inverting.Renaming.{Renaming}
 use Rattle.inversion.specs.declared.invert.Inverted.{Inverted}
 use Rattle.inversion.specs.InvertRules.{CaseVarsGiven, KeptBy, Empty, Meeting, MetBy, Judging, JudgedBy, Verdict, Lacking, LackedBy, Having, Turning, TurnedBy}
-use Rattle.inversion.specs.Inversions.{InvertForm, InvertingOn, InvertedOnBy, InvertedBy}
+use Rattle.inversion.specs.Inversions.{NamingForm, InvertForm, InvertingOn, InvertedOnBy, InvertedBy}
 
 -- Scratch --------------------------------------------------------------------------------------------------------------------------
 
@@ -80,6 +80,10 @@ abbrev pub TurnedAs : Store → Store → State → Inversion → Out Made Names
 TurnedAs s t S Y K x y r = TurnedBy s.index.now s.words.now t.index.now t.words.now s.mark t.mark S Y K y.taken y.sorts x.count y.count r
 
 -- The form -------------------------------------------------------------------------------------------------------------------------
+
+-- its hypotheses
+abbrev pub NamesHypothesis : Source → List ℕ → Type 0
+NamesHypothesis s cells = NamingForm s.reader.text.now s.rows.now s.reader.n cells
 
 abbrev pub InvertsForm : Source → Rules → Store → List ℕ → Type 0
 InvertsForm s p t cells = InvertForm (source_names s) (rules_of s p) s.rows.now s.footings.now s.lists.now s.reader.n t.index.now t.words.now t.mark cells

@@ -1,7 +1,7 @@
 // `(invert N K (HYP...) JUDGMENT (CASE...))`: the plain hypothesis K was derived by some rule of its predicate. Each rule whose conclusion unifies with it
 // has a case, a fact that concludes the judgment under the unifier.
 ghost use Rattle.std.specs.Prelude.{◌≡◌, List, ℕ, ◌<◌, ◌≤◌, length, replicate};
-ghost use Rattle.rules.specs.Limits.{VARIABLES, TERMS, VARIABLEWORDS};
+ghost use Rattle.rules.specs.Limits.{VARIABLES, TERMS, VARIABLEWORDS, FACTWORDS};
 ghost use Rattle.rules.specs.State.{Var};
 ghost use Rattle.rules.specs.Invert.{Inversion, invert, taken_vars};
 ghost use Rattle.terms.specs.Table.{tree};
@@ -11,8 +11,8 @@ ghost use Rattle.state.specs.Held.{VarsHeld};
 ghost use Rattle.referring.specs.Sources.{RecallsIn};
 ghost use Rattle.casework.specs.Context.{There};
 ghost use Rattle.inversion.specs.InvertRules.{vars_with};
-ghost use Rattle.inversion.specs.Inversions.{invert_on, hypothesis_of};
-ghost use Rattle.inversion.specs.Inverting.{InvertsForm, NamesHypothesis, HypothesisAs, InvertsOn, InvertedOnAs, InvertedAs};
+ghost use Rattle.inversion.specs.Inversions.{hypothesis_of, HypothesisAs, invert_on};
+ghost use Rattle.inversion.specs.Inverting.{NamesHypothesis, InvertsForm, InvertsOn, InvertedOnAs, InvertedAs};
 
 use crate::inverting::{Cases, Inverting, Variables};
 use casework::cases::read_cases;
@@ -22,7 +22,7 @@ use reading::hyps::any_hyps;
 use reading::names::index as index_in;
 use referring::source::{Facts, Source};
 use referring::support::{Derived, no_support};
-use rules::{FACTS, PAIRS, TERMWORDS, VARIABLES, VARIABLEWORDS};
+use rules::{FACTS, TERMWORDS, VARIABLES, VARIABLEWORDS};
 use sexp::items;
 use sexp::items::Item;
 use state::facts::{is_fact, is_plain, judgment as judgment_of};
@@ -30,7 +30,6 @@ use state::vars::put_var;
 use terms::sets::{insert, write_out};
 use terms::store::{Store, Terms};
 use terms::variables::visit;
-use unification::unify::Scratch;
 
 // The fact that is derived, and how many variables there are with those made.
 #[derive(Clone, Copy)]
@@ -121,7 +120,7 @@ impl Inverting<'_> {
 // The hypothesis that the form inverts, by the number of its fact, and those that the result rests on, as a set that is empty before.
 fn hypothesis(source: &Source<'_>, cells: &[u32], hyps: &mut [u64]) -> Result<usize, Question>
     requires { NamesHypothesis source.now cells.now × (hyps.old ≡ replicate FACTWORDS 0) }
-    ensures { (g : NamesHypothesis source.now cells.now) → HypothesisAs g.S source.now.n.facts hyps.new (hypothesis_of g.S g.xs) result }
+    ensures { (g : NamesHypothesis source.now cells.now) → HypothesisAs g.S source.now.reader.n hyps.new (hypothesis_of g.S g.xs) result }
 {
     let at = items::place(cells, 2);
     let Some(i) = index_in(source.reader.text, &cells[at..]) else {

@@ -60,8 +60,8 @@ pub fn make_vars(
     names: &mut Variables,
     list: &mut [u32],
 ) -> Result<(), Row>
-    requires { RuleVarsGiven rulevars.now r need × (need ≤ length list.old) × (names.old.count ≤ VARIABLES) }
-    ensures { (g : RuleVarsGiven rulevars.now r need) (vs : List Var) → length vs ≤ names.old.count →
+    requires { RuleVarsGiven rulevars.now r need × (need ≤ length list.old) × (length names.old.sorts ≡ VARIABLES) × (names.old.count ≤ VARIABLES) }
+    ensures made_as { (g : RuleVarsGiven rulevars.now r need) (vs : List Var) → length vs ≤ names.old.count →
         MadeAs vs (rule g.T r).vars names.old.sorts names.new.sorts names.old.count names.new.count list.new result }
     ensures taken_unchanged { names.new.taken ≡ names.old.taken }
 {

@@ -1,5 +1,6 @@
 // One rule after the other: its variables renamed (question 42), its conclusion unified with the hypothesis (46, 47), its case judged.
 ghost use Rattle.std.specs.Prelude.{◌≡◌, ◌<◌, replicate};
+ghost use Rattle.rules.specs.Limits.{TERMS};
 ghost use Rattle.rules.specs.Theory.{rule, rules_of};
 ghost use Rattle.rules.specs.Invert.{invert_rule, invert_rules, predicate_of};
 ghost use Rattle.terms.specs.Table.{tree};
@@ -14,7 +15,7 @@ use casework::cases::find_case;
 use casework::context::Renamed;
 use kernel::rule_readers::{next_rule, rule_name, variables};
 use questions::Question;
-use rules::{RULEVARS, SYMBOLS, VARIABLES};
+use rules::{PAIRS, RULEVARS, SYMBOLS, TERMWORDS, VARIABLES};
 use terms::store::{Store, Terms};
 use unification::unify::Scratch;
 
@@ -136,7 +137,7 @@ impl Inverting<'_> {
     }
 
     // All rules of the predicate in turn. `scratch` and `ids` are zero before and after.
-    pub fn invert_rules(
+    fn invert_rules(
         &self,
         store: &mut Store<'_>,
         cases: &Cases<'_>,
@@ -171,5 +172,34 @@ impl Inverting<'_> {
             from = r + 1;
         }
         Ok(())
+    }
+
+    // The same with tables for unification, made once. `memo` and `ids` are zero before and after.
+    pub fn all_rules(
+        &self,
+        store: &mut Store<'_>,
+        cases: &Cases<'_>,
+        names: &mut Variables,
+        memo: &mut [u32],
+        ids: &mut [u32],
+    ) -> Result<(), Question>
+        requires turning { TurningIn self.now cases.now store.old names.old }
+        requires empty { (memo.old ≡ replicate TERMS 0) × (ids.old ≡ replicate 40960 0) }
+        ensures same_tables { SameTables store.old store.new }
+        ensures turned_as { (g : TurningIn self.now cases.now store.old names.old) →
+            TurnedAs store.old store.new g.S g.inversion
+            (invert_rules g.S g.inversion (rules_of g.S.theory (predicate_of g.inversion.hypothesis)) g.names (made_of store.old)) names.old names.new result }
+        ensures memo_unchanged { (memo.new ≡ memo.old) × (ids.new ≡ ids.old) }
+    {
+        let mut map = [0u32; VARIABLES];
+        let mut pairs = [0u32; 2 * PAIRS];
+        let mut seen = [0u64; TERMWORDS];
+        let mut scratch = Scratch {
+            map: &mut map,
+            memo,
+            pairs: &mut pairs,
+            seen: &mut seen,
+        };
+        self.invert_rules(store, cases, names, &mut scratch, ids)
     }
 }

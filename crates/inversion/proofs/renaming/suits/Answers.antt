@@ -4,7 +4,7 @@ use Rattle.state.specs.VarLaws.{vars_long, var_sort_is}
 use Rattle.casework.specs.Laws.Loops.{suit_none, suit_on, suit_off, suit_over}
 use Rattle.inversion.proofs.InvertNames.{known_var, rule_sort_lem}
 use mathlib.Core.Bool.{not}
-use Rattle.inversion.proofs.invert_rules.suits.Goals as goal
+use Rattle.inversion.proofs.renaming.suits.Goals as goal
 
 pub returns-then-list-need : goal.returns-then-list-need
 returns-then-list-need c = λ g vs count h. suit_none vs _ _ g.many c.if-list-need.true

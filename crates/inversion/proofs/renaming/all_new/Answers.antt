@@ -1,7 +1,7 @@
 use mathlib.Core.Path.{refl, sym, ◌∙◌}
 use native.Mathlib.Omega.{arith}
 use Rattle.casework.specs.Laws.Loops.{all_yes, all_no, all_over, not_so, not_not}
-use Rattle.inversion.proofs.invert_rules.all_new.Goals as goal
+use Rattle.inversion.proofs.renaming.all_new.Goals as goal
 
 pub loop-v-init : goal.loop-v-init
 loop-v-init c = (omega arith, refl)
