@@ -164,6 +164,7 @@ module _ {vs : List Var} {rs : List RuleVar} {first sorts : List ℕ} {count : �
         many = omega arith;
         few = f;
         numbers = ap (λ (j : ℕ). take j list) (sym z) ∙ h.numbers ∙ ap (up_from count) z;
+        long = ls;
         others = h.others;
       }
 

@@ -73,6 +73,7 @@ pub record VarsMade (vs : List Var) (rs : List RuleVar) (sorts sorts' : List ℕ
   pub many : new ≡ old + length rs
   pub few : new ≤ VARIABLES
   pub numbers : take (length rs) list ≡ up_from old (length rs)
+  pub long : length sorts' ≡ VARIABLES
   pub others : (base : ℕ) → base ≤ old → Unmade base old sorts → Unmade base new sorts'
 
 abbrev pub MadeAs : List Var → List RuleVar → List ℕ → List ℕ → ℕ → ℕ → List ℕ → Result (Unit {0}) Row → Type 0
