@@ -33,7 +33,7 @@ use Rattle.state.specs.RowTables.{tabled_long}
 use Rattle.state.specs.FactLaws.{facts_tabled}
 use Rattle.referring.specs.Recall.{fact_of, Recalls}
 use Rattle.casework.specs.Context.{There, ContextGiven, ContextRead, all_of, PremisesRead}
-use Rattle.inversion.specs.InvertRules.{Judging, judged, judges, own_span, Verdict, verdict_of, JudgedBy, Having, has_case, meets, Met}
+use Rattle.inversion.specs.InvertRules.{Judging, judged, judges, own_span, Verdict, verdict_of, JudgedBy, Having, has_case, meets, Met, MetBy}
 use Rattle.casework.specs.Laws.Facts.{recalls_grown}
 use Rattle.casework.specs.Laws.Rows.{row, lists_are}
 use Rattle.inversion.proofs.InvertVerdicts.{Answer}
@@ -223,11 +223,18 @@ module _ {symbols rules patterns facts lists : List ℕ} {n : Sizes} {I W : List
   begun : (i : ℕ) → On I W m (case_of_lem g.recalls.S.theory i) I W m (case_of_lem g.meeting.T i)
   begun i = on_is (on_start g.recalls.good) (cases_same i)
 
-  pub having_apart : (i : ℕ) {J X : List ℕ} {new : Mark} → Went I W J X m (met g.meeting.T) nothing new → Stopped I W J X m (case_of_lem g.recalls.S.theory i) 46 0 new
+  having_apart : (i : ℕ) {J X : List ℕ} {new : Mark} → Went I W J X m (met g.meeting.T) nothing new → Stopped I W J X m (case_of_lem g.recalls.S.theory i) 46 0 new
   having_apart i w = on_refused (on_ok _ (begun i) w)
 
   pub having_full : (i : ℕ) {J X : List ℕ} {q d : ℕ} {new : Mark} → Stopped I W J X m (met g.meeting.T) q d new → Stopped I W J X m (case_of_lem g.recalls.S.theory i) q d new
   having_full i w = on_no _ (begun i) w
+
+  module _ (J X cells theta : List ℕ) (new : Mark) {b : Bool} (w : MetBy I W J X m new (met g.meeting.T) list cells theta (Ok b)) where
+    pub having_met : b ≡ true → Met I W J X m (met g.meeting.T) list cells theta new
+    having_met e = subst (λ (z : Bool). MetBy I W J X m new (met g.meeting.T) list cells theta (Ok z)) e w
+
+    pub having_unmet : (i : ℕ) → b ≡ false → Stopped I W J X m (case_of_lem g.recalls.S.theory i) 46 0 new
+    having_unmet i e = having_apart i (subst (λ (z : Bool). MetBy I W J X m new (met g.meeting.T) list cells theta (Ok z)) e w)
 
   module _ {J X cells theta : List ℕ} {new : Mark} (w : Met I W J X m (met g.meeting.T) list cells theta new) where
     -- what `judge` asks
