@@ -124,5 +124,6 @@ module _ {symbols rules rulevars patterns : List ℕ} {n : Sizes} {I W : List �
               went = on_done (on_ok _ on_made (subst (λ (z : Bool). MetBy I W J X m new met (take need list) bound theta (Ok z)) e w));
               more = omega (arith, are.many);
               few = are.few;
+              long = are.long;
               others = are.others (length g.vs) g.more g.others;
             }

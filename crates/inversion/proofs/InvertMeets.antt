@@ -24,6 +24,7 @@ use Rattle.terms.specs.declared.store.Mark.{Mark}
 use Rattle.terms.specs.Table.{made, tree, Good, Grown, Refused}
 use Rattle.terms.specs.Theta.{Zeros}
 use Rattle.terms.specs.Patterns.{Stands, Buildable, Builds, Stops, bound_of, Cells}
+use Rattle.unification.specs.declared.unify.Scratch.{Scratch as Tables}
 use Rattle.unification.specs.Unify.{Unifiable, Scratch, UnifiedAs}
 use Rattle.terms.specs.On.{Stopped, On, on_start, on_is, on_ok, on_no, on_went, on_stopped, refused_stopped}
 use Rattle.unification.specs.Laws.Answers.{solved_went, unsolved_went}
@@ -36,6 +37,7 @@ use Rattle.state.specs.declared.sizes.Sizes.{Sizes}
 use Rattle.state.specs.RuleWords.{conclusion_stands}
 use Rattle.casework.specs.Context.{There}
 use Rattle.inversion.specs.InvertRules.{Meeting, Empty, meets, MetBy, VarsKept}
+use Rattle.inversion.specs.Inverting.{EmptyScratch, ScratchKept}
 
 -- What is made under a substitution --------------------------------------------------------------------------------------------------------------
 
@@ -69,6 +71,10 @@ scratch_of z e =
       wide = omega (arith, long_of TERMWORDS e.visits);
       no_seen = zeros_long TERMWORDS e.visits;
     }
+
+-- scratch that holds what it held is still empty
+pub empty_still : (x y : Tables) → EmptyScratch x → ScratchKept x y → EmptyScratch y
+empty_still x y e k = record { maps = k.0 ∙ e.maps; memos = k.1 ∙ e.memos; many = k.2 ∙ e.many; visits = k.3 ∙ e.visits }
 
 -- The calls --------------------------------------------------------------------------------------------------------------------------------------
 

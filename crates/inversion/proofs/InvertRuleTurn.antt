@@ -167,6 +167,8 @@ module _ {theory goals text symbols ins vars defs rules rulevars patterns facts 
               vars_are = refl;
               more = d.more;
               few = d.few;
+              taken_long = ap length e ∙ g.taken_long;
+              sorts_long = d.long;
               others = d.others;
             }
         turn_lacked J X new-taken new-sorts k new (Err q) e t = on_no _ lacking t
@@ -271,10 +273,10 @@ module _ {theory goals text symbols ins vars defs rules rulevars patterns facts 
                 ∙ (λ i. then (has_case g.S (sym list_is i) (names_long i) (g.hypothesis i) R (g.context_is i) (sym are.fact_is i) (g.judgment i) (made I W m))
                 (λ z E. ok (record { vars = g.names.vars; seen = g.names.seen ++ c.vars }) E)))
 
-            pub turn_judged : (J X : List ℕ) (new : Mark) (b : Answer) →
+            pub turn_judged : length new-taken ≡ length taken → (J X : List ℕ) (new : Mark) (b : Answer) →
                 JudgedBy I W J X m new (has_case g.S (take need list) count (tree I W m s) R context fact (tree I W m j) (made I W m)) b →
                 TurnedBy I W J X m new g.S g.inversion (invert_rule g.S g.inversion R g.names (made I W m)) new-taken sorts count count b
-            turn_judged J X new (Ok _) k =
+            turn_judged t J X new (Ok _) k =
                 record {
                   names = record { vars = g.names.vars; seen = g.names.seen ++ c.vars };
                   went = on_done (on_ok _ having k);
@@ -282,6 +284,8 @@ module _ {theory goals text symbols ins vars defs rules rulevars patterns facts 
                   vars_are = g.vars_are;
                   more = omega arith;
                   few = g.few;
+                  taken_long = t ∙ g.taken_long;
+                  sorts_long = g.sorts_long;
                   others = g.others;
                 }
-            turn_judged J X new (Err q) k = on_no _ having k
+            turn_judged t J X new (Err q) k = on_no _ having k

@@ -238,6 +238,7 @@ pub record Lacked (I W J X : List ℕ) (old : Mark) (vs : List Var) (K : Out Mad
   pub went : Went I W J X old K (vars_with vs sorts count) new
   pub more : base ≤ count
   pub few : count ≤ VARIABLES
+  pub long : length sorts ≡ VARIABLES
   pub others : Unmade (length vs) count sorts
 
 abbrev pub LackedBy : List ℕ → List ℕ → List ℕ → List ℕ → Mark → Mark → List Var → Out Made (List Var) → List ℕ → ℕ → ℕ → Result (Unit {0}) Question → Type 0
@@ -296,6 +297,8 @@ pub record Turned (I W J X : List ℕ) (old : Mark) (S : State) (Y : Inversion) 
   pub vars_are : names.vars ≡ vars_with S.vars sorts count
   pub more : base ≤ count
   pub few : count ≤ VARIABLES
+  pub taken_long : length taken ≡ VARIABLEWORDS
+  pub sorts_long : length sorts ≡ VARIABLES
   pub others : Unmade (length S.vars) count sorts
 
 abbrev pub TurnedBy : List ℕ → List ℕ → List ℕ → List ℕ → Mark → Mark → State → Inversion → Out Made Names → List ℕ → List ℕ → ℕ → ℕ → Result (Unit {0}) Question → Type 0

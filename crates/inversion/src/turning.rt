@@ -156,15 +156,13 @@ impl Inverting<'_> {
         ensures ids_unchanged { ids.new ≡ ids.old }
     {
         let predicate = predicate_of(&store.terms(), self.hypothesis);
-        let rules = &self.rules;
-        let reader = &self.source.reader;
         let mut from = 0;
         // no count: it jumps to the next rule of the predicate
         while let Some(r) = next_rule(
-            rules.rows,
-            rules.patterns,
-            reader.symbols,
-            reader.n.rules,
+            self.rules.rows,
+            self.rules.patterns,
+            self.source.reader.symbols,
+            self.source.reader.n.rules,
             predicate,
             from,
         ) {

@@ -70,7 +70,7 @@ with_case-requires-clause-having c =
 pub returns-clause-turned_as : goal.returns-clause-turned_as
 returns-clause-turned_as c = λ g.
     turn_judged g c.requires.r_lt_rules.0 c.rule_name-span.result c.rule_name-span.ensures c.find_case.result c.find_case.ensures c.in-Some.is
-    c.variables-need.ensures c.in_ok-i.ensures _ _ _ _
+    c.variables-need.ensures c.in_ok-i.ensures c.case_vars.auto.taken _ _ _ _
     (c.with_case.ensures.judged_as
     (turn_having g c.requires.r_lt_rules.0 c.rule_name-span.result c.rule_name-span.ensures c.find_case.result c.find_case.ensures c.in-Some.is
     c.variables-need.ensures c.in_ok-i.ensures c.requires.r_lt_rules.2))
