@@ -56,15 +56,12 @@ impl Reader<'_> {
         ensures bindings_as { (g : ReadsItems (names_of self.now) self.now.n store.old.index.now store.old.words.now store.old.mark cells.now) →
             BindingsAs store.old store.new (bindings g.S g.xs [] (made_of store.old)) map.new map.new result }
     {
-        // items are of different widths
-        let mut at = 0;
-        while at < cells.len() {
-            let pair = self.binding(store, &cells[at..])?;
+        for item in items::all(cells) {
+            let pair = self.binding(store, item)?;
             if map[pair.variable] != 0 {
                 return Err(Question::Binding);
             }
             map[pair.variable] = (pair.term + 1) as u32;
-            at = items::after(cells, at);
         }
         Ok(())
     }

@@ -41,10 +41,8 @@ fn hyp_each(
     ensures { (g : FactsItems text.now facts.now n cells.now) →
         HypsAs (tests plain) g.S (list g.xs) set.new set.new result }
 {
-    // items are of different widths
-    let mut at = 0;
-    while at < cells.len() {
-        let i = index(text, &cells[at..]).ok_or(Question::Earlier)?;
+    for item in items::all(cells) {
+        let i = index(text, item).ok_or(Question::Earlier)?;
         if !is_fact(n, i) {
             return Err(Question::Earlier);
         }
@@ -52,7 +50,6 @@ fn hyp_each(
             return Err(Question::Hypothesis);
         }
         insert(set, i);
-        at = items::after(cells, at);
     }
     Ok(())
 }

@@ -36,17 +36,14 @@ impl Reader<'_> {
     {
         let mut seen = [0u64; VARIABLEWORDS];
         let mut k = 0;
-        // items are of different widths
-        let mut at = 0;
-        while at < cells.len() {
-            let v = self.variable(&cells[at..])?;
+        for item in items::all(cells) {
+            let v = self.variable(item)?;
             if has(&seen, v) {
                 return None;
             }
             insert(&mut seen, v);
             out[k] = v as u32;
             k += 1;
-            at = items::after(cells, at);
         }
         Some(k)
     }
@@ -85,13 +82,10 @@ impl Reader<'_> {
             JudgmentsAs store.old store.new (judgments g.S (list g.xs) (made_of store.old)) out.new out.new result }
     {
         let mut k = 0;
-        // items are of different widths
-        let mut at = 0;
-        while at < cells.len() {
-            let t = self.judgment(store, &cells[at..])?;
+        for item in items::all(cells) {
+            let t = self.judgment(store, item)?;
             put_within(out, k, t);
             k += 1;
-            at = items::after(cells, at);
         }
         Ok(k)
     }

@@ -243,16 +243,13 @@ impl Reader<'_> {
     {
         let count = arity(self.symbols, c);
         put_head(node, c);
-        let mut at = 0;
         let mut k = 0;
         let mut fits = true;
-        // from item to item, which are of different widths
-        while at < cells.len() {
+        for item in items::all(cells) {
             let sort = input_or_none(self.inputs, c, k, count);
-            let typed = self.term(store, &cells[at..], sort)?;
+            let typed = self.term(store, item, sort)?;
             put_argument(node, k, typed.term);
             fits &= typed.fits;
-            at = items::after(cells, at);
             k += 1;
         }
         Ok(Arguments {

@@ -1,12 +1,12 @@
 -- A reference, bare or with bindings: what the item is for each answer, and what its parts are given. Assumes nothing.
 use mathlib.Core.Path.{◌≡◌, refl, sym, ap, ◌∙◌, subst}
 use mathlib.Core.Bool.{true, false}
-use Rattle.std.specs.Prelude.{Option, Some as some, None as nothing}
+use Rattle.std.specs.Prelude.{Option, Some as some, None as nothing, Result}
 use mathlib.Core.List.{List, [], ◌∷◌}
 use Prim.Native.Nat.{ℕ, ◌-◌, ◌*◌, ◌<◌, ◌≤◌}
 use native.Mathlib.Omega.{arith}
 use lib.ListN.{length, get_or, take, drop, replicate, length-replicate}
-use Rattle.rules.specs.Limits.{VARIABLES, TERMS, FACTS}
+use Rattle.rules.specs.Limits.{TERMS, FACTS}
 use Rattle.rules.specs.Out.{Out, ok, refuse, then, ask, found}
 use Rattle.rules.specs.Sexp.{Sexp, Sexps, atom, nil, cons, item, rest}
 use Rattle.rules.specs.Tree.{Tree, var, sub}
@@ -23,16 +23,12 @@ use Rattle.sexp.specs.FoundLaws.{found_at, found_missing}
 use Rattle.sexp.specs.declared.items.Item.{Item}
 use Rattle.sexp.specs.declared.items.Item.TheVariants.{Atom, List as Part}
 use Rattle.terms.specs.declared.store.Mark.{Mark}
-use Rattle.terms.specs.declared.apart.Kept.{Kept}
-use Rattle.terms.specs.declared.apart.Kept.TheVariants.{Term, Full}
-use Rattle.terms.specs.Table.{made, tree, Stored}
-use Rattle.terms.specs.Apart.{After}
+use Rattle.terms.specs.Table.{made, tree, Stored, Refused}
 use Rattle.terms.specs.Subst.{replacement, substituted, Replaceable}
 use Rattle.terms.specs.Theta.{bindings as in_cells}
 use Rattle.terms.specs.On.{On, Went, Stopped, on_start, on_ok, on_no, on_pure, on_stop, on_done, on_ask_yes, on_ask_no, stored_went, refused_stopped}
 use Rattle.terms.specs.Laws.Growth.{made_length, grown_tree, grown_there}
 use Rattle.terms.specs.Laws.Numbers.{stored_is}
-use Rattle.terms.specs.Apart.{after_term, after_full}
 use Rattle.state.specs.declared.sizes.Sizes.{Sizes}
 use Rattle.state.specs.declared.facts.Span.{Span}
 use Rattle.state.specs.Held.{Names, records, Recorded}
@@ -42,13 +38,11 @@ use Rattle.state.specs.FactLaws.{fact_row_lem, lists_long}
 use Rattle.reading.specs.Items.{FirstItem, index_in, index_found}
 use Rattle.reading.specs.Given.{ReadsItems}
 use Rattle.reading.specs.Answers.{BindingsRead}
-use Rattle.reading.specs.Apart.{BindingsAs}
 use Rattle.referring.specs.Recall.{fact_of, BareItem, RefersItem, RefersItems}
-use Rattle.referring.specs.Referral.{rests_on, instances_of, ref_of, RefRead, ReferredAs}
-use Rattle.reading.specs.Laws.Bindings.{bindings_replaceable, substitute_along}
+use Rattle.referring.specs.Referral.{rests_on, instances_of, ref_of, RefRead, ReferredBy}
+use Rattle.reading.specs.Laws.Bindings.{bindings_replaceable, bindings_along}
 use Rattle.referring.specs.Laws.Refers.{fact_here, fact_found, fact_none, fact_asks, refers_bare, refers_items}
-use Rattle.reading.specs.declared.apart.Bound.{Bound}
-use Rattle.reading.specs.declared.apart.Bound.TheVariants as bound
+use Rattle.questions.specs.declared.Question.{Question}
 use Rattle.referring.specs.declared.references.Referred.{Referred}
 
 -- An index -------------------------------------------------------------------------------------------------------------------------------
@@ -220,24 +214,15 @@ module _ {K : Names} {facts : List ℕ} {n : Sizes} {I W : List ℕ} {m : Mark} 
   opens_asks k = fact_asks g.refers.recorded k
 
   -- Behind the bindings
-  module _ {i : ℕ} (o : Opens n I W m g.S g.xs i) (l : length cells ≡ 0 → ⊥) {next : ℕ} (e : next ≡ behind 0 (item_at cells 0)) (J X map before : List ℕ) (r : Bound)
-      (b : (h : ReadsItems K n I W m (take (length cells - next) (drop next cells))) → BindingsAs I W J X m (bindings h.S h.xs [] (made I W m)) before map r) where
-    unbound : {q d : ℕ} {new : Mark} → r ≡ bound.No q d new → Stopped I W J X m (bindings g.S (rest g.xs 1) [] (made I W m)) q d new × (map ≡ before)
-    unbound f = subst (λ (z : Bound). BindingsAs I W J X m (bindings g.S (rest g.xs 1) [] (made I W m)) before map z) f (b (rest_given l e))
+  module _ {i : ℕ} (o : Opens n I W m g.S g.xs i) (l : length cells ≡ 0 → ⊥) {next : ℕ} (e : next ≡ behind 0 (item_at cells 0)) (J X map : List ℕ) (k : Mark) where
+    pub instance_unbound : {before : List ℕ} {q d : ℕ} →
+        ((h : ReadsItems K n I W m (take (length cells - next) (drop next cells))) → Stopped I W J X m (bindings h.S h.xs [] (made I W m)) q d k × (map ≡ before)) →
+        Stopped I W J X m (instance g.S g.xs (made I W m)) q d k
+    instance_unbound b = on_no _ o.on (b (rest_given l e)).0
 
-    pub instance_unbound : {q d : ℕ} {new : Mark} → r ≡ bound.No q d new → Stopped I W J X m (instance g.S g.xs (made I W m)) q d new
-    instance_unbound f = on_no _ o.on (unbound f).0
-
-    pub map_unbound : {q d : ℕ} {new : Mark} → r ≡ bound.No q d new → map ≡ before
-    map_unbound f = (unbound f).1
-
-    module _ {k : Mark} (f : r ≡ bound.Ok k) where
+    module _ (b : (h : ReadsItems K n I W m (take (length cells - next) (drop next cells))) → BindingsRead I W J X m (bindings h.S h.xs [] (made I W m)) map k) where
       are_bound : BindingsRead I W J X m (bindings g.S (rest g.xs 1) [] (made I W m)) map k
-      are_bound = subst (λ (z : Bound). BindingsAs I W J X m (bindings g.S (rest g.xs 1) [] (made I W m)) before map z) f (b (rest_given l e))
-
-      -- the map as it was, where it is cleared
-      pub map_cleared : {now : List ℕ} → before ≡ replicate VARIABLES 0 → now ≡ replicate (length map) 0 → now ≡ before
-      map_cleared p q = q ∙ ap (λ (j : ℕ). replicate j 0) are_bound.cells.long ∙ sym p
+      are_bound = b (rest_given l e)
 
       module _ {t : ℕ} (j : t ≡ cell 6 facts i 0) where
         term_there : t < k.terms
@@ -256,26 +241,30 @@ module _ {K : Names} {facts : List ℕ} {n : Sizes} {I W : List ℕ} {m : Mark} 
               (omega (arith, q, term_there, are_bound.went.grown.good.room), p ∙ ap (λ (z : ℕ). replicate z 0) (sym q)),
             )
 
-        module _ (Y Z : List ℕ) (s : Kept)
-            (a : After J X Y Z k (substituted J X k map t) (substitute (replacement (made J X k) map) (tree J X k t) (made J X k)) s) where
-          abbrev value : Tree
-          value = sub (along (in_cells (made J X k) map 0)) (tree J X k t)
+        abbrev value : Tree
+        value = sub (along (in_cells (made J X k) map 0)) (tree J X k t)
 
-          after : After J X Y Z k value (substitute (along (in_cells (made J X k) map 0)) (fact_of g.S i).judgment (made J X k)) s
-          after =
-              subst (λ (z : Tree). After J X Y Z k value (substitute (along (in_cells (made J X k) map 0)) z (made J X k)) s) term_tree
-              (substitute_along map t a)
+        -- what it says of the map, it says of the bindings and of the fact
+        moved : (P : Tree → Out Made Tree → Type 0) → P (substituted J X k map t) (substitute (replacement (made J X k) map) (tree J X k t) (made J X k)) →
+            P value (substitute (along (in_cells (made J X k) map 0)) (fact_of g.S i).judgment (made J X k))
+        moved P a =
+            subst (λ (z : Tree). P value (substitute (along (in_cells (made J X k) map 0)) z (made J X k))) term_tree
+            (subst (λ (σ : ℕ → Tree). P (sub σ (tree J X k t)) (substitute σ (tree J X k t) (made J X k))) (sym (bindings_along J X k map)) a)
 
-          on_bound : On I W m (instance g.S g.xs (made I W m)) J X k (valued (fact_of g.S i) (in_cells (made J X k) map 0) (made J X k))
-          on_bound = on_ok _ o.on are_bound.went
+        on_bound : On I W m (instance g.S g.xs (made I W m)) J X k (valued (fact_of g.S i) (in_cells (made J X k) map 0) (made J X k))
+        on_bound = on_ok _ o.on are_bound.went
 
-          pub instance_full : {row : ℕ} {new : Mark} → s ≡ Full row new → Stopped I W Y Z m (instance g.S g.xs (made I W m)) 60 row new
-          instance_full q = on_no _ on_bound (refused_stopped (after_full after q))
+        module _ (Y Z : List ℕ) {new : Mark} where
+          pub instance_full : {row : ℕ} → Refused Tree J X Y Z k (substitute (replacement (made J X k) map) (tree J X k t) (made J X k)) row new →
+              Stopped I W Y Z m (instance g.S g.xs (made I W m)) 60 row new
+          instance_full {row} a = on_no _ on_bound (refused_stopped (moved (λ _ (K : Out Made Tree). Refused Tree J X Y Z k K row new) a))
 
-          pub instance_read : {u : ℕ} {new : Mark} → s ≡ Term u new → RefRead I W Y Z m g.S (instance g.S g.xs (made I W m)) u i false new
+          pub instance_read : {u : ℕ} → Stored J X Y Z k (substituted J X k map t) (substitute (replacement (made J X k) map) (tree J X k t) (made J X k)) u new →
+              RefRead I W Y Z m g.S (instance g.S g.xs (made I W m)) u i false new
           unfolding rests_on instances_of
-          instance_read {u} {new} q =
-              let d : Stored J X Y Z k value (substitute (along (in_cells (made J X k) map 0)) (fact_of g.S i).judgment (made J X k)) u new = after_term after q in
+          instance_read {u} a =
+              let d : Stored J X Y Z k value (substitute (along (in_cells (made J X k) map 0)) (fact_of g.S i).judgment (made J X k)) u new =
+              moved (λ (z : Tree) (K : Out Made Tree). Stored J X Y Z k z K u new) a in
               record {
                 went = subst (λ (z : Tree). Went I W Y Z m (instance g.S g.xs (made I W m)) (ref_of g.S z i false) new) (sym (stored_is d))
                     (on_done (on_ok _ on_bound (stored_went d)));
@@ -290,10 +279,10 @@ module _ {K : Names} {facts : List ℕ} {n : Sizes} {I W : List ℕ} {m : Mark} 
   reference_cell = at_inside (walk_start g.holds).here
 
   module _ {thing : Item} (e : thing ≡ item_at cells 0) where
-    pub reference_atom : {p : ℕ} → thing ≡ Atom p → (r : Referred) →
+    pub reference_atom : {p : ℕ} → thing ≡ Atom p → (r : Result Referred Question) →
         ((h : BareItem K.text facts n m cells) (p : ℕ) (bs : List ℕ) → h.x ≡ atom p bs →
-        ReferredAs h.index h.words h.index h.words m h.S (reference h.S h.x (made h.index h.words m)) r) →
-        ReferredAs I W I W m g.S (reference g.S g.x (made I W m)) r
+        ReferredBy h.index h.words h.index h.words m m h.S (reference h.S h.x (made h.index h.words m)) r) →
+        ReferredBy I W I W m m g.S (reference g.S g.x (made I W m)) r
     reference_atom {p} f r a = let q = walk_atom (walk_start g.holds) e f in a (refers_bare g.refers g.holds) p q.bytes q.is
 
     module _ {a b : ℕ} (f : thing ≡ Part a b) where
@@ -303,10 +292,10 @@ module _ {K : Names} {facts : List ℕ} {n : Sizes} {I W : List ℕ} {m : Mark} 
       pub inner_given : RefersItems K facts n I W m (take (b - a) (drop a cells))
       inner_given = refers_items g.refers reference_list.holds
 
-      pub reference_instance : (J X : List ℕ) (r : Referred) →
-          ((h : RefersItems K facts n I W m (take (b - a) (drop a cells))) → ReferredAs I W J X m h.S (instance h.S h.xs (made I W m)) r) →
-          ReferredAs I W J X m g.S (reference g.S g.x (made I W m)) r
+      pub reference_instance : (J X : List ℕ) (new : Mark) (r : Result Referred Question) →
+          ((h : RefersItems K facts n I W m (take (b - a) (drop a cells))) → ReferredBy I W J X m new h.S (instance h.S h.xs (made I W m)) r) →
+          ReferredBy I W J X m new g.S (reference g.S g.x (made I W m)) r
       unfolding reference
-      reference_instance J X r k =
-          subst (λ (z : Sexp). ReferredAs I W J X m g.S (reference g.S z (made I W m)) r) (sym reference_list.is)
+      reference_instance J X new r k =
+          subst (λ (z : Sexp). ReferredBy I W J X m new g.S (reference g.S z (made I W m)) r) (sym reference_list.is)
           (k (refers_items g.refers reference_list.holds))

@@ -1,6 +1,6 @@
 -- The texts and tables from which the forms of facts are read, as they are lent: what they must say, and what is asked of the store and the sets beside
 -- them. Each is the relation of the same meaning over plain tables. Assumes nothing.
-use Rattle.std.specs.Prelude.{◌≡◌, ◌∷◌, List, ℕ, Result, replicate}
+use Rattle.std.specs.Prelude.{◌≡◌, List, ℕ, Result, replicate}
 use Rattle.rules.specs.Limits.{FACTWORDS, RULEWORDS}
 use Rattle.rules.specs.Find.{Set}
 use Rattle.rules.specs.Sexp.{atom}

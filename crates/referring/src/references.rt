@@ -60,7 +60,7 @@ impl Source<'_> {
             ReferredAs store.old store.new g.S (instance g.S g.xs (made_of store.old)) result }
         ensures memo_unchanged { memo.new ≡ memo.old }
     {
-        if cells.is_empty() {
+        if cells.len() == 0 {
             return Err(Question::Earlier);
         }
         let Some(i) = index_in(self.reader.text, cells) else {

@@ -2,6 +2,7 @@ use mathlib.Core.Path.{refl, sym, ap, ◌∙◌}
 use native.Mathlib.Omega.{arith}
 use Rattle.rules.specs.Limits.{FACTWORDS}
 use Rattle.state.specs.Looking.{is_late, not_late}
+use Rattle.sexp.specs.Each.{here, over}
 use Rattle.reading.proofs.Hypotheses.{hyping_start, hyping_here, hyping_first, hyping_none, hyping_late, hyping_fails, hyping_more, hyping_over, facts_long, facts_few, facts_many, passing}
 use Rattle.reading.proofs.Filling.{zeros_long}
 use Rattle.reading.specs.Laws.Walks.{go_on}
@@ -12,15 +13,15 @@ use Rattle.kernel.proofs.Handed.{handed}
 use Rattle.reading.proofs.Missing.{there, absent, question_is}
 use Rattle.reading.proofs.hyps.hyp_each.Goals as goal
 
-pub loop-at-init : goal.loop-at-init
-loop-at-init c = (zeros_long FACTWORDS c.requires.1, λ g. hyping_start _ g.S g.holds c.requires.1)
+pub loop-item-init : goal.loop-item-init
+loop-item-init c = rw (c.into_iter-item-iterator.ensures.into_iter_gives, c.all-item-items.ensures.0, c.all-item-items.ensures.1) record { cells = refl; wide = zeros_long FACTWORDS c.requires.1; hyping = λ g. hyping_start _ g.S g.holds c.requires.1 }
 
 pub index-requires : goal.index-requires
-index-requires c = hyping_first (c.loop-at.invariant.1 c.requires.0) c.loop-at-test.true
+index-requires c = rw (here c.loop-item.invariant.cells c.in-Some.ensures.steps).is (hyping_first (c.loop-item.invariant.hyping c.requires.0) (here c.loop-item.invariant.cells c.in-Some.ensures.steps).inside)
 
 pub returns-in_err-i : goal.returns-in_err-i
 returns-in_err-i c = λ g. rw (handed c.from_residual.result c.from_residual.ensures ∙ ap Err (question_is _ _ c.ok_or.ensures.ok_part c.ok_or.ensures.value c.in_err-i.was)) (
-  hyping_none (c.loop-at.invariant.1 g) c.loop-at-test.true c.index.ensures (absent _ _ c.ok_or.ensures.ok_part c.in_err-i.was),
+  hyping_none (c.loop-item.invariant.hyping g) (here c.loop-item.invariant.cells c.in-Some.ensures.steps).inside (rw (here c.loop-item.invariant.cells c.in-Some.ensures.steps).is at c.index.ensures) (absent _ _ c.ok_or.ensures.ok_part c.in_err-i.was),
   (refl, refl),
 )
 
@@ -29,7 +30,7 @@ is_fact-requires c = tt
 
 pub returns-then-not-is_fact : goal.returns-then-not-is_fact
 returns-then-not-is_fact c = λ g. (
-  hyping_late (c.loop-at.invariant.1 g) c.loop-at-test.true c.index.ensures (there _ _ c.ok_or.ensures.ok_part c.in_ok-i.was)
+  hyping_late (c.loop-item.invariant.hyping g) (here c.loop-item.invariant.cells c.in-Some.ensures.steps).inside (rw (here c.loop-item.invariant.cells c.in-Some.ensures.steps).is at c.index.ensures) (there _ _ c.ok_or.ensures.ok_part c.in_ok-i.was)
       (omega (arith, facts_many g, is_late c.in_ok-i.i c.args.n.facts c.is_fact.result c.is_fact.ensures (ap not c.if-not-is_fact.true))),
   (refl, refl),
 )
@@ -43,25 +44,23 @@ passes-requires c = (
 
 pub returns-then-not-passes : goal.returns-then-not-passes
 returns-then-not-passes c = λ g. let p = passing g c.args.plain c.in_ok-i.i (not_late _ _ _ c.is_fact.ensures (ap not c.if-not-is_fact.false)) in (
-  hyping_fails (c.loop-at.invariant.1 g) c.loop-at-test.true c.index.ensures (there _ _ c.ok_or.ensures.ok_part c.in_ok-i.was) p.is
+  hyping_fails (c.loop-item.invariant.hyping g) (here c.loop-item.invariant.cells c.in-Some.ensures.steps).inside (rw (here c.loop-item.invariant.cells c.in-Some.ensures.steps).is at c.index.ensures) (there _ _ c.ok_or.ensures.ok_part c.in_ok-i.was) p.is
       (sym p.test ∙ sym c.passes.ensures ∙ not-true c.passes.result (ap not c.if-not-passes.true)),
   (refl, refl),
 )
 
 pub insert-requires : goal.insert-requires
 insert-requires c = let early = not_late c.in_ok-i.i c.args.n.facts c.is_fact.result c.is_fact.ensures (ap not c.if-not-is_fact.false) in omega
-    (arith, early, facts_few c.requires.0, c.loop-at.invariant.0)
+    (arith, early, facts_few c.requires.0, c.loop-item.invariant.wide)
 
-pub loop-at-smaller : goal.loop-at-smaller
-loop-at-smaller c = omega (arith, (go_on (hyping_here (c.loop-at.invariant.1 c.requires.0) c.loop-at-test.true) c.after-at.ensures).on, c.loop-at-test.true)
-
-pub loop-at-preserved : goal.loop-at-preserved
-loop-at-preserved c = (
-  c.insert.auto.set ∙ c.loop-at.invariant.0,
-  λ g. let p = passing g c.args.plain c.in_ok-i.i (not_late _ _ _ c.is_fact.ensures (ap not c.if-not-is_fact.false)) in hyping_more
-      (c.loop-at.invariant.1 g) c.loop-at-test.true c.index.ensures (there _ _ c.ok_or.ensures.ok_part c.in_ok-i.was) p.is
-      (sym p.test ∙ sym c.passes.ensures ∙ not-false c.passes.result (ap not c.if-not-passes.false)) c.insert.ensures c.after-at.ensures,
-)
+pub loop-item-preserved : goal.loop-item-preserved
+loop-item-preserved c = record {
+  cells = (here c.loop-item.invariant.cells c.in-Some.ensures.steps).same;
+  wide = c.insert.auto.set ∙ c.loop-item.invariant.wide;
+  hyping = λ g. let p = passing g c.args.plain c.in_ok-i.i (not_late _ _ _ c.is_fact.ensures (ap not c.if-not-is_fact.false)) in hyping_more
+      (c.loop-item.invariant.hyping g) (here c.loop-item.invariant.cells c.in-Some.ensures.steps).inside (rw (here c.loop-item.invariant.cells c.in-Some.ensures.steps).is at c.index.ensures) (there _ _ c.ok_or.ensures.ok_part c.in_ok-i.was) p.is
+      (sym p.test ∙ sym c.passes.ensures ∙ not-false c.passes.result (ap not c.if-not-passes.false)) c.insert.ensures (here c.loop-item.invariant.cells c.in-Some.ensures.steps).behind;
+}
 
 pub returns : goal.returns
-returns c = λ g. hyping_over (c.loop-at.invariant.1 g) c.loop-at-test.false
+returns c = λ g. hyping_over (c.loop-item.invariant.hyping g) (over c.loop-item.invariant.cells c.in-None.ensures.steps)

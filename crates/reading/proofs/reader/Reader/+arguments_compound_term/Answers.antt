@@ -2,6 +2,7 @@ use mathlib.Core.Path.{refl, ◌∙◌}
 use native.Mathlib.Omega.{arith}
 use Rattle.std.proofs.lemmas.Result.{err_from_is_err_and}
 use Rattle.terms.specs.On.{pure_stopped}
+use Rattle.sexp.specs.Each.{here, over}
 use Rattle.reading.proofs.TermArguments.{known_symbol, symbol_small, going_begins, going_inputs, going_high, going_item, going_past, going_stops, going_put, going_on, going_ends, part_most}
 use Rattle.reading.proofs.TermHeads.{rest_fewer}
 use Rattle.reading.proofs.TermBehind.{opens, rest_items, behind_stops, behind_misfits, behind_narrow, behind_length, behind_node, behind_typed}
@@ -14,44 +15,43 @@ arguments-arity-count-requires t c = known_symbol c.requires.0.reads c.requires.
 pub arguments-put_head-requires : goal.arguments-put_head-requires
 arguments-put_head-requires t c = (c.requires.2, symbol_small c.requires.0.reads c.requires.1)
 
-pub arguments-loop-at-init : goal.arguments-loop-at-init
-arguments-loop-at-init t c = record {
+pub arguments-loop-item-init : goal.arguments-loop-item-init
+arguments-loop-item-init t c = rw (c.into_iter-item-iterator.ensures.into_iter_gives, c.all-item-items.ensures.0, c.all-item-items.ensures.1) record {
+  cells = refl;
   same = (refl, refl);
   going = λ g. going_begins g.reads g.holds c.args.c c.arity-count.result _ c.args.node.now c.requires.1 c.requires.2 c.put_head.ensures
       (c.arity-count.ensures g.S.theory _ _ _ g.reads.spelling.held c.requires.1);
 }
 
 pub arguments-input_or_none-sort-requires : goal.arguments-input_or_none-sort-requires
-arguments-input_or_none-sort-requires t c = going_inputs (c.loop-at.invariant.going c.requires.0)
+arguments-input_or_none-sort-requires t c = going_inputs (c.loop-item.invariant.going c.requires.0)
 
 pub arguments-term-requires : goal.arguments-term-requires
-arguments-term-requires t c = (omega (arith, part_most c.args.cells.now c.loop-at.at, c.decreases), going_item (c.loop-at.invariant.going c.requires.0) c.loop-at-test.true)
+arguments-term-requires t c = rw (here c.loop-item.invariant.cells c.in-Some.ensures.steps).is (omega (arith, part_most c.args.cells.now c.loop-item.item-iterator.at, c.decreases), going_item (c.loop-item.invariant.going c.requires.0) (here c.loop-item.invariant.cells c.in-Some.ensures.steps).inside)
 
 pub arguments-returns-in_err-typed-clause-arguments_as : goal.arguments-returns-in_err-typed-clause-arguments_as
 arguments-returns-in_err-typed-clause-arguments_as t c = λ g. let p = err_from_is_err_and c.from_residual.result c.from_residual.ensures.1 in
-    rw (p.1, p.2) (going_stops (c.loop-at.invariant.going g) c.loop-at-test.true _ _ _ _ _ c.in_err-typed.ensures.typed_as)
+    rw (p.1, p.2) (going_stops (c.loop-item.invariant.going g) (here c.loop-item.invariant.cells c.in-Some.ensures.steps).inside _ _ _ _ _ (rw (here c.loop-item.invariant.cells c.in-Some.ensures.steps).is at c.in_err-typed.ensures.typed_as))
 
 pub arguments-put_argument-requires : goal.arguments-put_argument-requires
-arguments-put_argument-requires t c = going_put (c.loop-at.invariant.going c.requires.0) c.loop-at-test.true _ _ _ c.input_or_none-sort.result _ _ c.in_ok-typed.ensures.typed_as
+arguments-put_argument-requires t c = going_put (c.loop-item.invariant.going c.requires.0) (here c.loop-item.invariant.cells c.in-Some.ensures.steps).inside _ _ _ c.input_or_none-sort.result _ _ (rw (here c.loop-item.invariant.cells c.in-Some.ensures.steps).is at c.in_ok-typed.ensures.typed_as)
 
 pub arguments-overflow_add-k : goal.arguments-overflow_add-k
-arguments-overflow_add-k t c = omega (arith, going_high (c.loop-at.invariant.going c.requires.0), c.well_formed.1.1.0)
+arguments-overflow_add-k t c = omega (arith, going_high (c.loop-item.invariant.going c.requires.0), c.well_formed.1.1.0)
 
-pub arguments-loop-at-smaller : goal.arguments-loop-at-smaller
-arguments-loop-at-smaller t c = omega (arith, going_past (c.loop-at.invariant.going c.requires.0) c.loop-at-test.true c.after-at.ensures, c.loop-at-test.true)
-
-pub arguments-loop-at-preserved : goal.arguments-loop-at-preserved
-arguments-loop-at-preserved t c = record {
-  same = (c.term.ensures.same_tables.0 ∙ c.loop-at.invariant.same.0, c.term.ensures.same_tables.1 ∙ c.loop-at.invariant.same.1);
-  going = λ g. going_on (c.loop-at.invariant.going g) c.loop-at-test.true _ _ _ c.input_or_none-sort.result _ _ c.in_ok-typed.ensures.typed_as
-      c.input_or_none-sort.ensures c.put_argument.new.node c.put_argument.ensures refl c.after-at.ensures;
+pub arguments-loop-item-preserved : goal.arguments-loop-item-preserved
+arguments-loop-item-preserved t c = record {
+  cells = (here c.loop-item.invariant.cells c.in-Some.ensures.steps).same;
+  same = (c.term.ensures.same_tables.0 ∙ c.loop-item.invariant.same.0, c.term.ensures.same_tables.1 ∙ c.loop-item.invariant.same.1);
+  going = λ g. going_on (c.loop-item.invariant.going g) (here c.loop-item.invariant.cells c.in-Some.ensures.steps).inside _ _ _ c.input_or_none-sort.result _ _ (rw (here c.loop-item.invariant.cells c.in-Some.ensures.steps).is at c.in_ok-typed.ensures.typed_as)
+      c.input_or_none-sort.ensures c.put_argument.new.node c.put_argument.ensures refl (here c.loop-item.invariant.cells c.in-Some.ensures.steps).behind;
 }
 
 pub arguments-overflow_add-result : goal.arguments-overflow_add-result
-arguments-overflow_add-result t c = omega (arith, going_high (c.loop-at.invariant.going c.requires.0), c.well_formed.1.1.0)
+arguments-overflow_add-result t c = omega (arith, going_high (c.loop-item.invariant.going c.requires.0), c.well_formed.1.1.0)
 
 pub arguments-returns-clause-arguments_as : goal.arguments-returns-clause-arguments_as
-arguments-returns-clause-arguments_as t c = λ g. going_ends (c.loop-at.invariant.going g) (omega (arith, c.loop-at-test.false)) refl
+arguments-returns-clause-arguments_as t c = λ g. going_ends (c.loop-item.invariant.going g) (omega (arith, (over c.loop-item.invariant.cells c.in-None.ensures.steps))) refl
 
 pub compound-constructor_first-requires : goal.compound-constructor_first-requires
 compound-constructor_first-requires t c = opens c.requires

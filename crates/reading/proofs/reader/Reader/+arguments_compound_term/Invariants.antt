@@ -1,4 +1,5 @@
-use Prim.Native.Nat.{◌+◌, ◌-◌, ◌*◌}
+use mathlib.Core.Path.{◌≡◌}
+use Prim.Native.Nat.{◌+◌, ◌*◌}
 use lib.ListN.{length}
 use Rattle.terms.specs.Lent.{SameTables}
 use Rattle.reading.specs.Reader.{names_of}
@@ -15,13 +16,11 @@ decreases-compound l = 2 * length l.cells.now + 1
 abbrev pub decreases-term : goal.decreases-term
 decreases-term l = 2 * length l.cells.now
 
-abbrev pub invariant-arguments-loop-at : goal.invariant-arguments-loop-at
-invariant-arguments-loop-at l = record {
+abbrev pub invariant-arguments-loop-item : goal.invariant-arguments-loop-item
+invariant-arguments-loop-item l = record {
+  cells : l.item-iterator.cells.now ≡ l.cells;
   same : SameTables l.initial.store l.store;
   going : (g : ReadsItems (names_of l.self) l.self.n l.initial.store.index.now l.initial.store.words.now l.initial.store.mark l.cells) →
       Going (names_of l.self) l.self.n l.initial.store.index.now l.initial.store.words.now l.initial.store.mark l.cells l.c l.count g.S g.xs
-      l.store.index.now l.store.words.now l.node l.store.mark l.at l.k l.fits;
+      l.store.index.now l.store.words.now l.node l.store.mark l.item-iterator.at l.k l.fits;
 }
-
-abbrev pub decreases-arguments-loop-at : goal.decreases-arguments-loop-at
-decreases-arguments-loop-at l = length l.cells - l.at

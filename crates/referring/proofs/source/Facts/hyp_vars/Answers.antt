@@ -1,7 +1,7 @@
 use mathlib.Core.Path.{refl}
 use native.Mathlib.Omega.{arith}
 use Rattle.referring.proofs.ScopeHyps.{joining_begins, joining_ends}
-use Rattle.referring.proofs.scope.hyp_vars.Goals as goal
+use Rattle.referring.proofs.source.Facts.hyp_vars.Goals as goal
 
 pub count-requires : goal.count-requires
 count-requires c = omega (arith, c.requires.hyps_len.0)

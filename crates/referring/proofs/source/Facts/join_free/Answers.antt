@@ -1,6 +1,6 @@
 use Rattle.referring.specs.Laws.ScopeFacts.{fact_there}
 use Rattle.referring.specs.Laws.ScopeFree.{plain_done, joined}
-use Rattle.referring.proofs.scope.join_free.Goals as goal
+use Rattle.referring.proofs.source.Facts.join_free.Goals as goal
 
 pub general-own-requires : goal.general-own-requires
 general-own-requires c = fact_there c.requires.recalls.0 c.requires.recalls.1

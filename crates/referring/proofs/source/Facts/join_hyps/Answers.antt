@@ -5,7 +5,7 @@ use lib.ListN.{length}
 use Rattle.terms.specs.Sets.{holds}
 use Rattle.state.specs.Members.{rising_few}
 use Rattle.referring.proofs.ScopeHyps.{members_out, joining_begins, joining_ready, joining_on, joining_ends}
-use Rattle.referring.proofs.scope.join_hyps.Goals as goal
+use Rattle.referring.proofs.source.Facts.join_hyps.Goals as goal
 
 pub write_out-count-requires : goal.write_out-count-requires
 write_out-count-requires c = record { set_len_bound = omega (arith, c.requires.hyps_len.0); set_in_bounds = omega (arith, rising_few (64 * length c.args.hyps.now) (holds c.args.hyps.now), c.requires.hyps_len.0) }

@@ -1,7 +1,7 @@
 use mathlib.Core.Path.{◌∙◌}
 use native.Mathlib.Omega.{arith}
 use Rattle.referring.specs.Laws.ScopeFacts.{fact_there, lists_are, judgment_ready, premises_order, premises_end, premises_ready, mention_done}
-use Rattle.referring.proofs.scope.mention.Goals as goal
+use Rattle.referring.proofs.source.Facts.mention.Goals as goal
 
 pub judgment-requires : goal.judgment-requires
 judgment-requires c = fact_there c.requires.recalls.0 c.requires.recalls.1
@@ -12,8 +12,8 @@ visit-requires c = record { readable = judgment_ready c.requires.recalls.0 c.req
 pub premises-own-requires : goal.premises-own-requires
 premises-own-requires c = fact_there c.requires.recalls.0 c.requires.recalls.1
 
-pub offset_bounds-lists-from : goal.offset_bounds-lists-from
-offset_bounds-lists-from c = omega (
+pub offset_bounds-self-from : goal.offset_bounds-self-from
+offset_bounds-self-from c = omega (
   arith,
   premises_order c.requires.recalls.0 c.requires.recalls.1 c.premises-own.ensures,
   premises_end c.requires.recalls.0 c.requires.recalls.1

@@ -6,7 +6,7 @@ use Rattle.terms.specs.Sets.{holds}
 use Rattle.terms.specs.Laws.Seen.{seen_none}
 use Rattle.referring.specs.Laws.ScopeFacts.{fact_there, lists_are}
 use Rattle.referring.specs.Laws.ScopeFree.{general_order, general_end, general_fits, free_done}
-use Rattle.referring.proofs.scope.mention_free.Goals as goal
+use Rattle.referring.proofs.source.Facts.mention_free.Goals as goal
 
 pub mention-requires : goal.mention-requires
 mention-requires c = record { recalls = (c.requires.0, c.requires.1, refl, refl); seen = seen_none _ _ _ _ _ refl }
@@ -14,8 +14,8 @@ mention-requires c = record { recalls = (c.requires.0, c.requires.1, refl, refl)
 pub general-own-requires : goal.general-own-requires
 general-own-requires c = fact_there c.requires.0 c.requires.1
 
-pub offset_bounds-lists-from : goal.offset_bounds-lists-from
-offset_bounds-lists-from c = omega (
+pub offset_bounds-self-from : goal.offset_bounds-self-from
+offset_bounds-self-from c = omega (
   arith,
   general_order c.requires.0 c.requires.1 c.general-own.ensures,
   general_end c.requires.0 c.requires.1 c.general-own.ensures,

@@ -1,9 +1,8 @@
-use Prim.Native.Nat.{◌+◌}
 use native.Mathlib.Omega.{arith}
 use mathlib.Core.Path.{refl}
 use Rattle.terms.specs.Laws.Seen.{seen_none}
 use Rattle.referring.proofs.ScopeOutside.{outside_none, outside_some}
-use Rattle.referring.proofs.scope.outside.Goals as goal
+use Rattle.referring.proofs.source.Facts.outside.Goals as goal
 
 pub visit-requires : goal.visit-requires
 visit-requires c = record { readable = record { good = c.requires.recalls.0.good; there = c.requires.recalls.2; wide = omega arith; broad = omega arith }; seen = seen_none _ _ _ _ _ refl }
@@ -11,14 +10,14 @@ visit-requires c = record { readable = record { good = c.requires.recalls.0.good
 pub hyp_vars-requires : goal.hyp_vars-requires
 hyp_vars-requires c = record { recalls = (c.requires.recalls.0, c.requires.recalls.1); hyps_len = (c.requires.hyps_len.0, c.visit.auto.seen, c.visit.auto.set); seen = c.visit.ensures.visits }
 
-pub returns-in_default : goal.returns-in_default
-returns-in_default c = λ g. outside_some c.args.used.now c.args.hyps.now c.requires.hyps_len.1 c.visit.ensures c.hyp_vars.ensures
-    (rw c.in_default.is at c.lowest_outside.ensures) g (omega arith)
+pub returns-in_err-lowest : goal.returns-in_err-lowest
+returns-in_err-lowest c = λ g. rw c.from_residual.ensures (outside_some c.args.used.now c.args.hyps.now c.requires.hyps_len.1 c.visit.ensures c.hyp_vars.ensures
+    c.in_err-lowest.ensures g (omega arith))
 
-pub returns-then-n-lowest : goal.returns-then-n-lowest
-returns-then-n-lowest c = λ g. outside_none c.args.used.now c.args.hyps.now c.requires.hyps_len.1 c.visit.ensures c.hyp_vars.ensures
-    (rw c.in-Some.is at c.lowest_outside.ensures) g (omega (arith, c.if-n-lowest.true))
+pub returns-then-self-lowest : goal.returns-then-self-lowest
+returns-then-self-lowest c = λ g. outside_none c.args.used.now c.args.hyps.now c.requires.hyps_len.1 c.visit.ensures c.hyp_vars.ensures
+    c.in_ok-lowest.ensures g (omega (arith, c.if-self-lowest.true))
 
 pub returns : goal.returns
-returns c = λ g. outside_some c.args.used.now c.args.hyps.now {r = c.in-Some.lowest + 1} c.requires.hyps_len.1 c.visit.ensures c.hyp_vars.ensures
-    (omega (arith, rw c.in-Some.is at c.lowest_outside.ensures)) g (omega (arith, c.if-n-lowest.false))
+returns c = λ g. outside_some c.args.used.now c.args.hyps.now c.requires.hyps_len.1 c.visit.ensures c.hyp_vars.ensures
+    c.in_ok-lowest.ensures g (omega (arith, c.if-self-lowest.false))

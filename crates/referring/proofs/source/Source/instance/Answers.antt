@@ -1,120 +1,68 @@
-use mathlib.Core.Path.{refl}
 use native.Mathlib.Omega.{arith}
-use Rattle.referring.proofs.Referring.{instance_empty, instance_first, instance_missing, instance_late, instance_rests, instance_opens, opens_asks, next_high, rest_given, instance_asks, instance_read, instance_full, map_cleared, instance_unbound, map_unbound}
-use Rattle.state.specs.Looking.{is_late, not_late}
 use mathlib.Core.Path.{ap}
 use mathlib.Core.Bool.{not}
-use Rattle.referring.proofs.references.instance.Goals as goal
+use Rattle.std.proofs.lemmas.Result.{err_from_is_err_and}
+use Rattle.kernel.proofs.Handed.{handed}
+use Rattle.state.specs.Looking.{is_late, not_late}
+use Rattle.referring.proofs.Referring.{instance_empty, instance_first, instance_missing, instance_late, instance_rests, instance_opens, opens_asks, next_high, rest_given, instance_asks, instance_read, instance_full, instance_unbound}
+use Rattle.referring.proofs.source.Source.instance.Goals as goal
 
-pub returns-then-cells-eq0 : goal.returns-then-cells-eq0
-returns-then-cells-eq0 c = record { referred_as = λ g. instance_empty g c.if-cells-eq0.true; map_unchanged = (refl, refl) }
+pub returns-then-cells-eq0-clause-referred_as : goal.returns-then-cells-eq0-clause-referred_as
+returns-then-cells-eq0-clause-referred_as c = λ g. instance_empty g c.if-cells-eq0.true
 
 pub index-requires : goal.index-requires
-index-requires c = instance_first c.requires.refers_items c.if-cells-eq0.false
+index-requires c = instance_first c.requires.reads c.if-cells-eq0.false
 
-pub returns-in_default : goal.returns-in_default
-returns-in_default c = record { referred_as = λ g. instance_missing g c.if-cells-eq0.false c.index.ensures c.in_default.is; map_unchanged = (refl, refl) }
+pub returns-in_default-clause-referred_as : goal.returns-in_default-clause-referred_as
+returns-in_default-clause-referred_as c = λ g. instance_missing g c.if-cells-eq0.false c.index.ensures c.in_default.is
 
-pub returns-then-not-is_fact : goal.returns-then-not-is_fact
-returns-then-not-is_fact c = record {
-  referred_as = λ g. instance_late g c.if-cells-eq0.false c.index.ensures c.in-Some.is
-      (is_late c.in-Some.i c.args.n.facts c.is_fact.result c.is_fact.ensures (ap not c.if-not-is_fact.true));
-  map_unchanged = (refl, refl);
-}
+pub returns-then-not-is_fact-clause-referred_as : goal.returns-then-not-is_fact-clause-referred_as
+returns-then-not-is_fact-clause-referred_as c = λ g. instance_late g c.if-cells-eq0.false c.index.ensures c.in-Some.is
+    (is_late c.in-Some.i c.args.self.now.reader.n.facts c.is_fact.result c.is_fact.ensures (ap not c.if-not-is_fact.true))
 
 pub hyps-own-requires : goal.hyps-own-requires
-hyps-own-requires c = opens_asks c.requires.refers_items (not_late c.in-Some.i c.args.n.facts c.is_fact.result c.is_fact.ensures (ap not c.if-not-is_fact.false))
+hyps-own-requires c = opens_asks c.requires.reads (not_late c.in-Some.i c.args.self.now.reader.n.facts c.is_fact.result c.is_fact.ensures (ap not c.if-not-is_fact.false))
 
-pub returns-then-own : goal.returns-then-own
-returns-then-own c = record {
-  referred_as = λ g. instance_rests g c.if-cells-eq0.false c.index.ensures c.in-Some.is
-      (not_late c.in-Some.i c.args.n.facts c.is_fact.result c.is_fact.ensures (ap not c.if-not-is_fact.false)) c.hyps-own.ensures c.if-own.true;
-  map_unchanged = (refl, refl);
-}
+pub returns-then-own-clause-referred_as : goal.returns-then-own-clause-referred_as
+returns-then-own-clause-referred_as c = λ g. instance_rests g c.if-cells-eq0.false c.index.ensures c.in-Some.is
+    (not_late c.in-Some.i c.args.self.now.reader.n.facts c.is_fact.result c.is_fact.ensures (ap not c.if-not-is_fact.false)) c.hyps-own.ensures c.if-own.true
 
 pub offset_bounds-cells-next : goal.offset_bounds-cells-next
-offset_bounds-cells-next c = omega (arith, next_high c.requires.refers_items c.if-cells-eq0.false c.after-next.ensures, c.well_formed.1.1.1.1.1.1.1.1.1.1.1.1.0)
+offset_bounds-cells-next c = omega (arith, next_high c.requires.reads c.if-cells-eq0.false c.after-next.ensures, c.well_formed.1.1.0)
 
 pub slice_bounds-bindings-count : goal.slice_bounds-bindings-count
-slice_bounds-bindings-count c = next_high c.requires.refers_items c.if-cells-eq0.false c.after-next.ensures
+slice_bounds-bindings-count c = next_high c.requires.reads c.if-cells-eq0.false c.after-next.ensures
 
 pub slice_bounds-bindings-start : goal.slice_bounds-bindings-start
-slice_bounds-bindings-start c = next_high c.requires.refers_items c.if-cells-eq0.false c.after-next.ensures
+slice_bounds-bindings-start c = next_high c.requires.reads c.if-cells-eq0.false c.after-next.ensures
 
-pub bindings-requires : goal.bindings-requires
-bindings-requires c = record { reads_items = rest_given c.requires.refers_items c.if-cells-eq0.false c.after-next.ensures; map_value = c.requires.map_value.0 }
+pub bindings-requires-clause-reads_items : goal.bindings-requires-clause-reads_items
+bindings-requires-clause-reads_items c = rest_given c.requires.reads c.if-cells-eq0.false c.after-next.ensures
 
 pub judgment-requires : goal.judgment-requires
-judgment-requires c = opens_asks c.requires.refers_items (not_late c.in-Some.i c.args.n.facts c.is_fact.result c.is_fact.ensures (ap not c.if-not-is_fact.false))
+judgment-requires c = opens_asks c.requires.reads (not_late c.in-Some.i c.args.self.now.reader.n.facts c.is_fact.result c.is_fact.ensures (ap not c.if-not-is_fact.false))
 
-pub substitute-r-requires : goal.substitute-r-requires
-substitute-r-requires c = record {
-  replaceable = (instance_asks c.requires.refers_items
-      (instance_opens c.requires.refers_items c.if-cells-eq0.false c.index.ensures c.in-Some.is
-      (not_late c.in-Some.i c.args.n.facts c.is_fact.result c.is_fact.ensures (ap not c.if-not-is_fact.false)) c.hyps-own.ensures c.if-own.false)
-      c.if-cells-eq0.false c.after-next.ensures c.bindings.new.index c.bindings.new.words
-      c.bindings.new.map c.args.map.now c.bindings.result c.bindings.ensures c.in-Ok.is
-      c.judgment.ensures c.requires.map_value.1).0;
-  id_in_bounds = (instance_asks c.requires.refers_items
-      (instance_opens c.requires.refers_items c.if-cells-eq0.false c.index.ensures c.in-Some.is
-      (not_late c.in-Some.i c.args.n.facts c.is_fact.result c.is_fact.ensures (ap not c.if-not-is_fact.false)) c.hyps-own.ensures c.if-own.false)
-      c.if-cells-eq0.false c.after-next.ensures c.bindings.new.index c.bindings.new.words
-      c.bindings.new.map c.args.map.now c.bindings.result c.bindings.ensures c.in-Ok.is
-      c.judgment.ensures c.requires.map_value.1).1;
-}
+pub substitute-requires : goal.substitute-requires
+substitute-requires c =
+    let a = instance_asks c.requires.reads (instance_opens c.requires.reads c.if-cells-eq0.false c.index.ensures c.in-Some.is
+    (not_late c.in-Some.i c.args.self.now.reader.n.facts c.is_fact.result c.is_fact.ensures (ap not c.if-not-is_fact.false)) c.hyps-own.ensures c.if-own.false)
+    c.if-cells-eq0.false c.after-next.ensures _ _ _ _ c.in_ok-bindings.ensures.bindings_as c.judgment.ensures c.requires.memo_value in
+    record { replaceable = a.0; id_in_bounds = a.1 }
 
-pub returns-in-Term : goal.returns-in-Term
-returns-in-Term c = record {
-  referred_as = λ g. instance_read g
-      (instance_opens g c.if-cells-eq0.false c.index.ensures c.in-Some.is
-      (not_late c.in-Some.i c.args.n.facts c.is_fact.result c.is_fact.ensures (ap not c.if-not-is_fact.false)) c.hyps-own.ensures c.if-own.false)
-      c.if-cells-eq0.false c.after-next.ensures c.bindings.new.index c.bindings.new.words
-      c.bindings.new.map c.args.map.now c.bindings.result c.bindings.ensures c.in-Ok.is
-      c.judgment.ensures c.substitute-r.new.index c.substitute-r.new.words c.substitute-r.result c.substitute-r.ensures.after c.in-Term.is;
-  map_unchanged = (
-    map_cleared c.requires.refers_items
-        (instance_opens c.requires.refers_items c.if-cells-eq0.false c.index.ensures c.in-Some.is
-        (not_late c.in-Some.i c.args.n.facts c.is_fact.result c.is_fact.ensures (ap not c.if-not-is_fact.false)) c.hyps-own.ensures
-        c.if-own.false) c.if-cells-eq0.false c.after-next.ensures c.bindings.new.index
-        c.bindings.new.words c.bindings.new.map c.args.map.now
-        c.bindings.result c.bindings.ensures c.in-Ok.is c.requires.map_value.0 c.clear.ensures,
-    c.substitute-r.ensures.memo_unchanged,
-  );
-}
+pub returns-in_err-bindings-clause-referred_as : goal.returns-in_err-bindings-clause-referred_as
+returns-in_err-bindings-clause-referred_as c = λ g. rw (handed c.from_residual.result c.from_residual.ensures)
+    (instance_unbound g (instance_opens g c.if-cells-eq0.false c.index.ensures c.in-Some.is
+    (not_late c.in-Some.i c.args.self.now.reader.n.facts c.is_fact.result c.is_fact.ensures (ap not c.if-not-is_fact.false)) c.hyps-own.ensures c.if-own.false)
+    c.if-cells-eq0.false c.after-next.ensures _ _ _ _ c.in_err-bindings.ensures.bindings_as)
 
-pub returns-in-Full : goal.returns-in-Full
-returns-in-Full c = record {
-  referred_as = λ g. instance_full g
-      (instance_opens g c.if-cells-eq0.false c.index.ensures c.in-Some.is
-      (not_late c.in-Some.i c.args.n.facts c.is_fact.result c.is_fact.ensures (ap not c.if-not-is_fact.false)) c.hyps-own.ensures c.if-own.false)
-      c.if-cells-eq0.false c.after-next.ensures c.bindings.new.index c.bindings.new.words
-      c.bindings.new.map c.args.map.now c.bindings.result c.bindings.ensures c.in-Ok.is
-      c.judgment.ensures c.substitute-r.new.index c.substitute-r.new.words c.substitute-r.result c.substitute-r.ensures.after c.in-Full.is;
-  map_unchanged = (
-    map_cleared c.requires.refers_items
-        (instance_opens c.requires.refers_items c.if-cells-eq0.false c.index.ensures c.in-Some.is
-        (not_late c.in-Some.i c.args.n.facts c.is_fact.result c.is_fact.ensures (ap not c.if-not-is_fact.false)) c.hyps-own.ensures
-        c.if-own.false) c.if-cells-eq0.false c.after-next.ensures c.bindings.new.index
-        c.bindings.new.words c.bindings.new.map c.args.map.now
-        c.bindings.result c.bindings.ensures c.in-Ok.is c.requires.map_value.0 c.clear.ensures,
-    c.substitute-r.ensures.memo_unchanged,
-  );
-}
+pub returns-in_err-term-clause-referred_as : goal.returns-in_err-term-clause-referred_as
+returns-in_err-term-clause-referred_as c = λ g.
+    let p = err_from_is_err_and c.from_residual-in_err-term.result c.from_residual-in_err-term.ensures.1 in
+    rw (p.1, p.2) (instance_full g (instance_opens g c.if-cells-eq0.false c.index.ensures c.in-Some.is
+    (not_late c.in-Some.i c.args.self.now.reader.n.facts c.is_fact.result c.is_fact.ensures (ap not c.if-not-is_fact.false)) c.hyps-own.ensures c.if-own.false)
+    c.if-cells-eq0.false c.after-next.ensures _ _ _ _ c.in_ok-bindings.ensures.bindings_as c.judgment.ensures _ _ c.in_err-term.ensures.kept.says)
 
-pub returns-in-No : goal.returns-in-No
-returns-in-No c = record {
-  referred_as = λ g. instance_unbound g
-      (instance_opens g c.if-cells-eq0.false c.index.ensures c.in-Some.is
-      (not_late c.in-Some.i c.args.n.facts c.is_fact.result c.is_fact.ensures (ap not c.if-not-is_fact.false)) c.hyps-own.ensures c.if-own.false)
-      c.if-cells-eq0.false c.after-next.ensures c.bindings.new.index c.bindings.new.words
-      c.bindings.new.map c.args.map.now c.bindings.result c.bindings.ensures c.in-No.is;
-  map_unchanged = (
-    map_unbound c.requires.refers_items
-        (instance_opens c.requires.refers_items c.if-cells-eq0.false c.index.ensures c.in-Some.is
-        (not_late c.in-Some.i c.args.n.facts c.is_fact.result c.is_fact.ensures (ap not c.if-not-is_fact.false)) c.hyps-own.ensures
-        c.if-own.false) c.if-cells-eq0.false c.after-next.ensures c.bindings.new.index
-        c.bindings.new.words c.bindings.new.map c.args.map.now
-        c.bindings.result c.bindings.ensures c.in-No.is,
-    refl,
-  );
-}
+pub returns-clause-referred_as : goal.returns-clause-referred_as
+returns-clause-referred_as c = λ g. instance_read g (instance_opens g c.if-cells-eq0.false c.index.ensures c.in-Some.is
+    (not_late c.in-Some.i c.args.self.now.reader.n.facts c.is_fact.result c.is_fact.ensures (ap not c.if-not-is_fact.false)) c.hyps-own.ensures c.if-own.false)
+    c.if-cells-eq0.false c.after-next.ensures _ _ _ _ c.in_ok-bindings.ensures.bindings_as c.judgment.ensures _ _ c.in_ok-term.ensures.kept.says

@@ -1,27 +1,27 @@
 use native.Mathlib.Omega.{arith}
 use Rattle.referring.proofs.Joins.{join_asks, hyps_asks, span_low, span_high, span_below, hyps_join, none_join, footing_joins}
-use Rattle.referring.proofs.references.join.Goals as goal
+use Rattle.referring.proofs.support.Support.join.Goals as goal
 
 pub join_footing-requires : goal.join_footing-requires
-join_footing-requires c = join_asks c.requires.0 c.args.footing.now c.requires.2
+join_footing-requires c = join_asks c.requires _ (omega arith)
 
 pub hyps-own-requires : goal.hyps-own-requires
-hyps-own-requires c = hyps_asks c.requires.0
+hyps-own-requires c = hyps_asks c.requires
 
-pub offset_bounds-lists-from : goal.offset_bounds-lists-from
-offset_bounds-lists-from c = omega (arith, span_low c.requires.0 c.hyps-own.ensures, span_high c.requires.0 c.hyps-own.ensures, c.well_formed.1.1.0)
+pub offset_bounds-facts-from : goal.offset_bounds-facts-from
+offset_bounds-facts-from c = omega (arith, span_low c.requires c.hyps-own.ensures, span_high c.requires c.hyps-own.ensures, c.well_formed.1.1.0)
 
 pub slice_bounds-insert_all-count : goal.slice_bounds-insert_all-count
-slice_bounds-insert_all-count c = span_low c.requires.0 c.hyps-own.ensures
+slice_bounds-insert_all-count c = span_low c.requires c.hyps-own.ensures
 
 pub slice_bounds-insert_all-start : goal.slice_bounds-insert_all-start
-slice_bounds-insert_all-start c = span_low c.requires.0 c.hyps-own.ensures
+slice_bounds-insert_all-start c = span_low c.requires c.hyps-own.ensures
 
 pub slice_bounds-insert_all-end : goal.slice_bounds-insert_all-end
-slice_bounds-insert_all-end c = span_high c.requires.0 c.hyps-own.ensures
+slice_bounds-insert_all-end c = span_high c.requires c.hyps-own.ensures
 
 pub insert_all-requires : goal.insert_all-requires
-insert_all-requires c = span_below c.requires.0 c.hyps-own.ensures c.args.hyps.now c.requires.1
+insert_all-requires c = span_below c.requires c.hyps-own.ensures _ (omega arith)
 
 pub returns-then-bare : goal.returns-then-bare
 returns-then-bare c = λ g. (hyps_join g c.hyps-own.ensures _ _ c.insert_all.ensures _ c.if-bare.true, footing_joins g _ _ c.join_footing.ensures)
