@@ -1,4 +1,6 @@
 pub mod Asking
+pub mod Boards
+pub mod Given
 pub mod Lengths
 pub mod Opened
 pub mod Posed

@@ -4,5 +4,6 @@
 
 pub mod begin;
 mod goals;
-mod tables;
-mod texts;
+mod stub;
+pub mod tables;
+pub mod texts;
