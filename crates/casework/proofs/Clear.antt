@@ -2,20 +2,21 @@
 -- under the unifier that leaves its generalised variables alone. Assumes nothing.
 use mathlib.Core.Path.{◌≡◌, refl, sym, ap, ◌∙◌, subst}
 use mathlib.Core.Bool.{Bool, true, false, ◌||◌, not}
-use mathlib.Core.List.{List, [], ◌∷◌, ◌++◌, append-nil}
+use mathlib.Core.List.{List, [], ◌∷◌}
 use Prim.Native.Nat.{ℕ, suc, ◌+◌, ◌-◌, ◌<◌, ◌≤◌}
 use native.Mathlib.Omega.{arith}
 use lib.Dec.{eqb}
-use lib.ListN.{length, get_or, drop, drop_of_length-le, replicate, length-replicate}
-use borrow.Author.Tests.{eqb-true, eqb-false, not-true, not-false}
+use Rattle.std.proofs.lemmas.List.{nil_from_length}
+use lib.ListN.{length, get_or, drop, replicate, length-replicate}
+use borrow.Author.Tests.{eqb-true, eqb-false}
 use Rattle.rules.specs.Limits.{VARIABLES, VARIABLEWORDS, TERMWORDS}
-use Rattle.rules.specs.Out.{Out, refuse, ask}
+use Rattle.rules.specs.Out.{refuse, ask}
 use Rattle.rules.specs.Find.{Set, has, all, union}
 use Rattle.rules.specs.Tree.{Tree, var, variables}
 use Rattle.rules.specs.Store.{Made}
 use Rattle.rules.specs.Unify.{Binding, along}
 use Rattle.rules.specs.State.{Fact}
-use Rattle.rules.specs.Invert.{Allowed, clear, without, context_fact}
+use Rattle.rules.specs.Invert.{clear, without, context_fact}
 use Rattle.rules.specs.Laws.Theory.{all_at}
 use Rattle.rules.specs.Laws.Store.{then_ok, then_refuse}
 use Rattle.terms.specs.declared.store.Mark.{Mark}
@@ -29,14 +30,12 @@ use Rattle.terms.specs.Laws.Sets.{holds_zero}
 use Rattle.terms.specs.Laws.Seen.{seen_none}
 use Rattle.terms.specs.Laws.Theta.{binding, bindings_zero, bindings_some, along_is}
 use Rattle.state.specs.declared.sizes.Sizes.{Sizes}
-use Rattle.state.specs.declared.facts.Span.{Span}
-use Rattle.state.specs.Entries.{part, part_none}
+use Rattle.state.specs.Entries.{part}
 use Rattle.state.specs.Rows.{general_span}
-use Rattle.reading.specs.declared.apart.Bound.{Bound}
 use Rattle.referring.specs.Recall.{fact_of, Recalls}
 use Rattle.referring.specs.Referral.{Gathered}
 use Rattle.referring.specs.Derived.{cell_vars, ReadableCells}
-use Rattle.casework.specs.Context.{There, UnboundAs, ContextAs, ContextGiven, one, under}
+use Rattle.casework.specs.Context.{There, UnboundAs, ContextGiven, under}
 use Rattle.casework.specs.Laws.Loops.{all_yes, all_no, all_over, not_so, not_not}
 use Rattle.casework.specs.Laws.Rows.{row, general_is}
 
@@ -150,13 +149,6 @@ module _ {vs map map' : List ℕ} (u : UnboundAs vs map map') where
       go v true e = omega arith
       go v false e = omega (arith, e, c.bound v)
 
--- a whole copy
-pub copy_is : {to from first : List ℕ} → length from ≡ VARIABLES → first ≡ replicate VARIABLES 0 → to ≡ from ++ drop (length from) first → to ≡ from
-copy_is {to} {from} {first} l z e =
-    let n : length first ≡ VARIABLES = ap length z ∙ length-replicate {A = ℕ} VARIABLES 0 in
-    let le : length first ≤ length from = omega arith in
-    e ∙ ap (λ (xs : List ℕ). from ++ xs) (drop_of_length-le first le) ∙ append-nil from
-
 -- A fact of the context ------------------------------------------------------------------------------------------------------------------------
 
 clear_none : (θ : List Binding) → clear [] θ ≡ true
@@ -187,58 +179,41 @@ module _ (θ : List Binding) (f : Fact) (M : Made) where
       fact_yes (ap (λ (gs : List ℕ). clear gs (without gs θ)) e ∙ clear_none (without [] θ))
       ∙ ap (λ (ζ : List Binding). under (along ζ) f M) (ap (λ (gs : List ℕ). without gs θ) e ∙ without_none θ)
 
-module _ {facts lists : List ℕ} {n : Sizes} {I W : List ℕ} {m : Mark} (g : Recalls facts lists n I W m) {h : ℕ} (l : h < n.facts) {s : Span} (e : s ≡ general_span facts h) where
-  general_now : part lists s ≡ (fact_of g.S h).general
-  general_now = ap (part lists) e ∙ general_is g l
+module _ {facts lists : List ℕ} {n : Sizes} {I W : List ℕ} {m : Mark} (g : Recalls facts lists n I W m) {h : ℕ} (l : h < n.facts) {vs : List ℕ} (e : vs ≡ part lists (general_span facts h)) where
+  general_now : vs ≡ (fact_of g.S h).general
+  general_now = e ∙ general_is g l
 
   -- variables, as `unbind` and `is_clear` ask for them
-  pub general_there : There VARIABLES (part lists s)
+  pub general_there : There VARIABLES vs
   general_there i p =
       let q = all_at (fact_of g.S h).general i 0 (row g l).general_below (subst (λ (xs : List ℕ). i < length xs) general_now p) in
-      let z : get_or (part lists s) i 0 ≡ get_or (fact_of g.S h).general i 0 = ap (λ (xs : List ℕ). get_or xs i 0) general_now in
+      let z : get_or vs i 0 ≡ get_or (fact_of g.S h).general i 0 = ap (λ (xs : List ℕ). get_or xs i 0) general_now in
       omega (arith, q, z, g.recorded.rows.row7)
 
-  pub context_bare : (J X theta own plain plain' fine fine' : List ℕ) (r : Bound) → s.from ≡ s.end →
-      ContextAs Allowed I W J X m g.S (under (replacement (made I W m) theta) (fact_of g.S h) (made I W m)) one own plain plain' fine fine' r →
-      ContextAs Allowed I W J X m g.S (context_fact (bindings (made I W m) theta 0) (fact_of g.S h) (made I W m)) one own plain plain' fine fine' r
-  context_bare J X theta own plain plain' fine fine' r z a =
-      let none : (fact_of g.S h).general ≡ [] = sym general_now ∙ part_none lists s.from s.end (omega (arith, z)) in
-      subst (λ (K : Out Made Allowed). ContextAs Allowed I W J X m g.S K one own plain plain' fine fine' r)
-      (sym (fact_bare (bindings (made I W m) theta 0) (fact_of g.S h) (made I W m) none
-      ∙ ap (λ (σ : ℕ → Tree). under σ (fact_of g.S h) (made I W m)) (along_is (made I W m) theta))) a
+  pub context_bare : (theta : List ℕ) → length vs ≡ 0 →
+      context_fact (bindings (made I W m) theta 0) (fact_of g.S h) (made I W m) ≡ under (replacement (made I W m) theta) (fact_of g.S h) (made I W m)
+  context_bare theta z =
+      fact_bare (bindings (made I W m) theta 0) (fact_of g.S h) (made I W m) (sym general_now ∙ nil_from_length vs z)
+      ∙ ap (λ (σ : ℕ → Tree). under σ (fact_of g.S h) (made I W m)) (along_is (made I W m) theta)
 
-  module _ {theta zeta : List ℕ} (u : UnboundAs (part lists s) theta zeta) {b : Bool} (c : b ≡ clear (part lists s) (bindings (made I W m) zeta 0)) where
+  module _ {theta zeta : List ℕ} (u : UnboundAs vs theta zeta) {b : Bool} (c : b ≡ clear vs (bindings (made I W m) zeta 0)) where
     unbound_now : bindings (made I W m) zeta 0 ≡ without (fact_of g.S h).general (bindings (made I W m) theta 0)
     unbound_now = unbound_is u (made I W m) ∙ ap (λ (gs : List ℕ). without gs (bindings (made I W m) theta 0)) general_now
 
     clear_now : b ≡ clear (fact_of g.S h).general (without (fact_of g.S h).general (bindings (made I W m) theta 0))
     clear_now = c ∙ (λ i. clear (general_now i) (unbound_now i))
 
-    pub context_other : (J X own plain plain' fine fine' : List ℕ) (r : Bound) → not b ≡ false →
-        ContextAs Allowed I W J X m g.S (under (replacement (made I W m) zeta) (fact_of g.S h) (made I W m)) one own plain plain' fine fine' r →
-        ContextAs Allowed I W J X m g.S (context_fact (bindings (made I W m) theta 0) (fact_of g.S h) (made I W m)) one own plain plain' fine fine' r
-    context_other J X own plain plain' fine fine' r z a =
-        subst (λ (K : Out Made Allowed). ContextAs Allowed I W J X m g.S K one own plain plain' fine fine' r)
-        (sym (fact_yes (bindings (made I W m) theta 0) (fact_of g.S h) (made I W m) (sym clear_now ∙ not-false b z)
+    pub context_other : b ≡ true →
+        context_fact (bindings (made I W m) theta 0) (fact_of g.S h) (made I W m) ≡ under (replacement (made I W m) zeta) (fact_of g.S h) (made I W m)
+    context_other z =
+        fact_yes (bindings (made I W m) theta 0) (fact_of g.S h) (made I W m) (sym clear_now ∙ z)
         ∙ ap (λ (ζ : List Binding). under (along ζ) (fact_of g.S h) (made I W m)) (sym unbound_now)
-        ∙ ap (λ (σ : ℕ → Tree). under σ (fact_of g.S h) (made I W m)) (along_is (made I W m) zeta))) a
+        ∙ ap (λ (σ : ℕ → Tree). under σ (fact_of g.S h) (made I W m)) (along_is (made I W m) zeta)
 
-    pub context_stop : not b ≡ true → Stopped I W I W m (context_fact (bindings (made I W m) theta 0) (fact_of g.S h) (made I W m)) 48 0 m
-    context_stop z =
-        pure_stopped g.good (fact_no (bindings (made I W m) theta 0) (fact_of g.S h) (made I W m) (sym clear_now ∙ not-true b z))
+    pub context_stop : b ≡ false → Stopped I W I W m (context_fact (bindings (made I W m) theta 0) (fact_of g.S h) (made I W m)) 48 0 m
+    context_stop z = pure_stopped g.good (fact_no (bindings (made I W m) theta 0) (fact_of g.S h) (made I W m) (sym clear_now ∙ z))
 
 -- the same with other cells
-pub given_cells : {facts lists : List ℕ} {n : Sizes} {I W : List ℕ} {m : Mark} {map map' memo own plain fine : List ℕ} →
-    ContextGiven facts lists n I W m map memo own plain fine → Theta m map' → ContextGiven facts lists n I W m map' memo own plain fine
-given_cells c t = record { recalls = c.recalls; cells = t; empty = c.empty; known = c.known; wide = c.wide; broad = c.broad }
-
--- a copy of the unifier without the cells of the fact's variables
-module _ {to : List ℕ} (from : List ℕ) {first : List ℕ} (l : length from ≡ VARIABLES) (z : first ≡ replicate VARIABLES 0) (e : to ≡ from ++ drop (length from) first) where
-  pub copy_there : (vs : List ℕ) → There VARIABLES vs → There (length to) vs
-  copy_there vs t i p =
-      let w : to ≡ from = copy_is l z e in
-      let q : length to ≡ length from = ap length w in
-      omega (arith, t i p, q, l)
-
-  pub copy_unbound : {vs map' : List ℕ} → UnboundAs vs to map' → UnboundAs vs from map'
-  copy_unbound {vs} {map'} u = subst (λ (xs : List ℕ). UnboundAs vs xs map') (copy_is l z e) u
+pub given_cells : {facts lists : List ℕ} {n : Sizes} {I W : List ℕ} {m : Mark} {map map' memo own : List ℕ} →
+    ContextGiven facts lists n I W m map memo own → Theta m map' → ContextGiven facts lists n I W m map' memo own
+given_cells c t = record { recalls = c.recalls; cells = t; empty = c.empty; known = c.known }

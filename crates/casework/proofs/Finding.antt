@@ -129,9 +129,9 @@ any_nowhere cs name e = sym (any_named cs name ∙ ap is_some e)
 -- All cases --------------------------------------------------------------------------------------------------------------------------------------
 
 module _ (S : State) (x : Sexp) (ys : Sexps) (cs : List Case) (M : Made) where
-  read_no : (q : ℕ) → read_case S x M ≡ refuse q 0 M → read_cases S (cons x ys) cs M ≡ refuse q 0 M
+  read_no : (q d : ℕ) → read_case S x M ≡ refuse q d M → read_cases S (cons x ys) cs M ≡ refuse q d M
   unfolding read_cases
-  read_no q e = then_refuse (read_case S x M) q 0 M _ e
+  read_no q d e = then_refuse (read_case S x M) q d M _ e
 
   module _ (c : Case) (e : read_case S x M ≡ ok c M) where
     read_twice : any (λ (d : Case). same d.name c.name) cs ≡ true → read_cases S (cons x ys) cs M ≡ refuse 41 0 M
@@ -213,8 +213,8 @@ module _ {S : State} {xs : Sexps} {text cells places links : List ℕ} {at k : �
     opened : (M : Made) → read_cases S xs [] M ≡ read_cases S (cons casing_here.x casing_here.ys) h.cs M
     opened M = h.whole M ∙ ap (λ (z : Sexps). read_cases S z h.cs M) casing_here.is
 
-    pub casing_no : (q : ℕ) → ((M : Made) → read_case S casing_here.x M ≡ refuse q 0 M) → (M : Made) → read_cases S xs [] M ≡ refuse q 0 M
-    casing_no q e M = opened M ∙ read_no S casing_here.x casing_here.ys h.cs M q (e M)
+    pub casing_no : (q d : ℕ) → ((M : Made) → read_case S casing_here.x M ≡ refuse q d M) → (M : Made) → read_cases S xs [] M ≡ refuse q d M
+    casing_no q d e M = opened M ∙ read_no S casing_here.x casing_here.ys h.cs M q d (e M)
 
     module _ (c : Case) (e : (M : Made) → read_case S casing_here.x M ≡ ok c M) where
       pub casing_twice : (b : Bool) → b ≡ any (λ (d : Case). same d.name c.name) h.cs → b ≡ true → (M : Made) → read_cases S xs [] M ≡ refuse 41 0 M

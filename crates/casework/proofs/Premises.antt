@@ -2,7 +2,7 @@
 use mathlib.Core.Path.{◌≡◌, refl, sym, ap, ◌∙◌, subst}
 use mathlib.Core.Bool.{Bool, true, false, ◌||◌, false≢true}
 use mathlib.Core.List.{List, [], ◌∷◌, ◌++◌, append_assoc, append-nil}
-use Rattle.std.specs.Prelude.{Option}
+use Rattle.std.specs.Prelude.{Option, Result, Ok, Err}
 use Prim.Native.Nat.{ℕ, suc, ◌+◌, ◌<◌}
 use native.Mathlib.Omega.{arith}
 use lib.ListN.{length}
@@ -19,17 +19,15 @@ use Rattle.rules.specs.Invert.{Allowed, renaming, rule_premises}
 use Rattle.rules.specs.Laws.Theory.{Sorted, Sorteds, Judgment, Judgments, empty, both}
 use Rattle.rules.specs.Laws.Out.{then_then}
 use Rattle.terms.specs.declared.store.Mark.{Mark}
-use Rattle.terms.specs.declared.apart.Kept.{Kept}
-use Rattle.terms.specs.declared.apart.Kept.TheVariants.{Term, Full}
-use Rattle.terms.specs.declared.apart.Built.{Built}
-use Rattle.terms.specs.declared.apart.Built.TheVariants as built
-use Rattle.terms.specs.Table.{made, tree, Good, Grown}
-use Rattle.terms.specs.Apart.{After}
+use Rattle.questions.specs.Numbers.{row_number, number_of, detail_of}
+use Rattle.questions.specs.declared.Row.{Row}
+use Rattle.questions.specs.declared.Question.{Question}
+use Rattle.terms.specs.declared.patterns.Built.{Built}
+use Rattle.terms.specs.Table.{made, tree, Good, Grown, After}
 use Rattle.terms.specs.Sets.{holds, plus}
 use Rattle.terms.specs.Subst.{replacement, substituted, Replaceable}
 use Rattle.terms.specs.Theta.{bindings, Theta}
-use Rattle.terms.specs.Patterns.{bound_of, Stands, Standing, Buildable, Builds, Stops}
-use Rattle.terms.specs.Apart.{BuiltAs, BuiltAt}
+use Rattle.terms.specs.Patterns.{bound_of, Stands, Standing, Buildable, BuiltAs, BuiltAt}
 use Rattle.terms.specs.On.{Went, Stopped, On, on_start, on_is, on_ok, on_no, on_done}
 use Rattle.terms.specs.Laws.Growth.{made_length, grown_refl, grown_trans}
 use Rattle.terms.specs.Laws.Bound.{bound_grown, cells_grown, build_is}
@@ -43,7 +41,7 @@ use Rattle.state.specs.RuleWords.{premises_stand}
 use Rattle.reading.specs.Laws.Walks.{then_same}
 use Rattle.casework.specs.Context.{plainly, plains_of, others_of, trees_of, PlainAdds, RenamedRule, PremisesRead}
 use Rattle.casework.specs.Laws.Facts.{plains_append, others_append, plain_more, plain_none}
-use Rattle.casework.specs.Laws.Substitutes.{replaceable_now, under_went, under_there, under_stopped}
+use Rattle.referring.specs.Laws.Substitutes.{replaceable_now, under_went, under_there, under_stopped}
 
 -- The variables of a rule's patterns ------------------------------------------------------------------------------------------------------------
 
@@ -191,20 +189,25 @@ module _ {symbols rules patterns : List ℕ} {n : Sizes} {I W : List ℕ} {old :
       (λ v e. ap (λ (b : ℕ → Option Tree). b v) (bound_grown h.on.grown g.within) ∙ g.binds v (h.own v e))
 
   -- b: what `build` answers
-  module _ {Y Z : List ℕ} {b : Built} (a : BuiltAt symbols patterns J X Y Z now cells place b) where
-    says : BuiltAs J X Y Z now (build h.p (bound_of (made J X now) cells) (made J X now)) (place + size h.p) b
+  module _ {Y Z : List ℕ} {mid : Mark} {b : Result Built Question} (a : BuiltAt symbols patterns J X Y Z now mid cells place b) where
+    abbrev Says : Result Built Question → Type 0
+    Says z = BuiltAs J X Y Z now mid (build h.p (bound_of (made J X now) cells) (made J X now)) (place + size h.p) z
+
+    says : Says b
     says = (a h.p h.here).says
 
-    pub premising_unbuilt : {q d : ℕ} {new : Mark} → b ≡ built.No q d new →
-        Stopped I W Y Z old (rule_premises (renaming g.xs) (along (bindings (made I W old) theta 0)) (rule g.T r).premises (made I W old)) q d new
-    premising_unbuilt {q} {d} {new} e =
-        let s : Stops J X Y Z now (build h.p (bound_of (made J X now) cells) (made J X now)) q d new =
-        subst (λ (z : Built). BuiltAs J X Y Z now (build h.p (bound_of (made J X now) cells) (made J X now)) (place + size h.p) z) e says in
+    pub premising_unbuilt : {q : Question} → b ≡ Err q →
+        Stopped I W Y Z old (rule_premises (renaming g.xs) (along (bindings (made I W old) theta 0)) (rule g.T r).premises (made I W old)) (number_of q) (detail_of q) mid
+    premising_unbuilt {q} e =
+        let s : Says (Err q) = subst Says e says in
         on_no _ h.on (record { grown = s.grown; makes = sym built_is ∙ s.makes })
 
-    module _ {t next : ℕ} {mid : Mark} (e : b ≡ built.Term t next mid) where
-      done : Builds J X Y Z now (build h.p (bound_of (made J X now) cells) (made J X now)) (place + size h.p) t next mid
-      done = subst (λ (z : Built). BuiltAs J X Y Z now (build h.p (bound_of (made J X now) cells) (made J X now)) (place + size h.p) z) e says
+    module _ {p : Built} (e : b ≡ Ok p) where
+      abbrev t : ℕ
+      t = p.term
+
+      done : Says (Ok p)
+      done = subst Says e says
 
       pub premising_there : t < mid.terms
       premising_there = done.there
@@ -235,13 +238,13 @@ module _ {symbols rules patterns : List ℕ} {n : Sizes} {I W : List ℕ} {old :
           (along_is (made I W old) theta ∙ sym (replacement_grown whole_grown theta c.bound)))
 
       -- k: what `substitute` answers
-      module _ {Y' Z' : List ℕ} {k : Kept}
-          (s : After Y Z Y' Z' mid (substituted Y Z mid theta t) (substitute (replacement (made Y Z mid) theta) (tree Y Z mid t) (made Y Z mid)) k) where
-        pub premising_full : {row : ℕ} {new : Mark} → k ≡ Full row new →
-            Stopped I W Y' Z' old (rule_premises (renaming g.xs) (along (bindings (made I W old) theta 0)) (rule g.T r).premises (made I W old)) 60 row new
+      module _ {Y' Z' : List ℕ} {new : Mark} {k : Result ℕ Row}
+          (s : After Y Z Y' Z' mid new (substituted Y Z mid theta t) (substitute (replacement (made Y Z mid) theta) (tree Y Z mid t) (made Y Z mid)) k) where
+        pub premising_full : {row : Row} → k ≡ Err row →
+            Stopped I W Y' Z' old (rule_premises (renaming g.xs) (along (bindings (made I W old) theta 0)) (rule g.T r).premises (made I W old)) 60 (row_number row) new
         premising_full f = on_no _ on_second (under_stopped (grown_refl premising_good) theta (theta_grown whole_grown c).bound premising_there s f)
 
-        module _ {u : ℕ} {new : Mark} (f : k ≡ Term u new) where
+        module _ {u : ℕ} (f : k ≡ Ok u) where
           pub premising_small : u < new.terms
           premising_small = under_there (grown_refl premising_good) theta (theta_grown whole_grown c).bound premising_there s f
 
@@ -270,7 +273,7 @@ module _ {symbols rules patterns : List ℕ} {n : Sizes} {I W : List ℕ} {old :
           others_one = refl
 
           pub premising_more : {set'' : List ℕ} {fewer : ℕ} → holds set'' ≡ plus u (holds set') → left ≡ fewer + 1 →
-              Premising symbols patterns I W old g.xs theta (rule g.T r).premises set Y' Z' set'' new next fewer
+              Premising symbols patterns I W old g.xs theta (rule g.T r).premises set Y' Z' set'' new p.end fewer
           unfolding then
           premising_more {set''} {fewer} d q =
               let a = bare (tree Y' Z' new u) in

@@ -12,13 +12,13 @@ use Rattle.rules.specs.TheoryTables.{filled}
 use Rattle.rules.specs.Invert.{Case, case_named, read_case, read_cases}
 use Rattle.sexp.specs.Items.{Holds}
 use Rattle.sexp.specs.WalkLaws.{Walk}
+use Rattle.reading.specs.declared.reader.Reader.{Reader}
+use Rattle.reading.specs.Given.{VarsItem, VarsItems}
 use Rattle.reading.specs.Items.{index_in, vars_in}
-use Rattle.reading.specs.declared.apart.Listed.{Listed}
-use Rattle.reading.specs.declared.apart.Listed.TheVariants as listed
 use Rattle.casework.specs.Distinct.{name_of, Tree}
 use Rattle.casework.specs.declared.cases.CaseRead.{CaseRead}
 use Rattle.questions.specs.declared.Question.{Question}
-use Rattle.questions.specs.Numbers.{number_of}
+use Rattle.questions.specs.Numbers.{number_of, detail_of}
 
 -- where there is no case
 abbrev pub no_case : Case
@@ -53,6 +53,13 @@ pub record CasesFirst (text cells : List ℕ) (many : ℕ) : Type 0 where
   pub few : many ≤ count xs
   pub cases : (k : ℕ) → k < many → CaseItem vs (item xs k) (get_or cs k no_case)
 
+-- what is read: the item of a case, and those of all
+abbrev pub ReadsCase : Reader → List ℕ → Type 0
+ReadsCase r cells = VarsItem r.goals.now r.text.now r.vars.now r.n.vars cells
+
+abbrev pub ReadsCases : Reader → List ℕ → Type 0
+ReadsCases r cells = VarsItems r.goals.now r.text.now r.vars.now r.n.vars cells
+
 -- One case -------------------------------------------------------------------------------------------------------------------------
 
 -- the item is read: its name begins at a place of the text, its variables are in the cells
@@ -68,7 +75,7 @@ pub record CaseIs (S : State) (text : List ℕ) (x : Sexp) (cells : List ℕ) (s
 
 abbrev pub CaseAs : State → List ℕ → Sexp → List ℕ → List ℕ → Result CaseRead Question → Type 0
 CaseAs S text x before cells (Ok r) = CaseIs S text x cells r.start r.fact r.variables
-CaseAs S text x before cells (Err e) = ((M : Made) → read_case S x M ≡ refuse (number_of e) 0 M) × (cells ≡ before)
+CaseAs S text x before cells (Err e) = ((M : Made) → read_case S x M ≡ refuse (number_of e) (detail_of e) M) × ((cells ≡ before) × (detail_of e ≡ 0))
 
 -- The case of a name ---------------------------------------------------------------------------------------------------------------
 
@@ -116,6 +123,6 @@ pub record CasesAre (S : State) (xs : Sexps) : Type 0 where
   pub many : length cs ≡ count xs
   pub cases : (k : ℕ) → k < count xs → CaseItem S.vars (item xs k) (get_or cs k no_case)
 
-abbrev pub CasesAs : State → Sexps → Listed → Type 0
-CasesAs S xs listed.Ok = CasesAre S xs
-CasesAs S xs (listed.No q) = (M : Made) → read_cases S xs [] M ≡ refuse q 0 M
+abbrev pub CasesAs : State → Sexps → Result (Unit {0}) Question → Type 0
+CasesAs S xs (Ok _) = CasesAre S xs
+CasesAs S xs (Err e) = ((M : Made) → read_cases S xs [] M ≡ refuse (number_of e) (detail_of e) M) × (detail_of e ≡ 0)

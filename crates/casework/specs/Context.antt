@@ -1,6 +1,6 @@
 -- What a case of `invert` may rest on, by numbers of terms: the allowed facts without premises and generalised variables are a set of their
 -- judgments, the others are compared with the facts that the case rests on, one by one. Assumes nothing.
-use Rattle.std.specs.Prelude.{◌≡◌, Bool, true, false, ◌&&◌, List, [], ◌∷◌, ℕ, ◌-◌, ◌<◌, ◌≤◌, length, get_or, take, replicate, Some as some}
+use Rattle.std.specs.Prelude.{◌≡◌, Bool, true, false, ◌&&◌, List, [], ◌∷◌, ℕ, ◌<◌, ◌≤◌, length, get_or, replicate, Some as some, Result, Ok, Err}
 use Rattle.rules.specs.Limits.{TERMS}
 use Rattle.rules.specs.Out.{Out, Act, ◌>>=◌, pure}
 use Rattle.rules.specs.Find.{Set, union, has, any}
@@ -14,46 +14,43 @@ use Rattle.rules.specs.Laws.Store.{Apart}
 use Rattle.terms.specs.declared.store.Mark.{Mark}
 use Rattle.terms.specs.Table.{made, args_of, Good}
 use Rattle.terms.specs.Sets.{holds, plus}
-use Rattle.terms.specs.Subst.{replacement}
 use Rattle.terms.specs.Theta.{Theta}
 use Rattle.terms.specs.Patterns.{bound_of, Cells}
 use Rattle.terms.specs.On.{Went, Stopped}
+use Rattle.kernel.specs.declared.rule_readers.Rules.{Rules}
 use Rattle.kernel.specs.Readers.{FormedRules}
 use Rattle.state.specs.declared.sizes.Sizes.{Sizes}
 use Rattle.state.specs.Held.{records, Recorded}
-use Rattle.state.specs.Rows.{premises_span}
-use Rattle.reading.specs.declared.apart.Bound.{Bound}
-use Rattle.reading.specs.declared.apart.Bound.TheVariants as bound
+use Rattle.questions.specs.Numbers.{row_number, number_of, detail_of}
+use Rattle.questions.specs.declared.Row.{Row}
+use Rattle.questions.specs.declared.Question.{Question}
+use Rattle.terms.specs.declared.store.Store.{Store}
+use Rattle.referring.specs.declared.source.Facts.{Facts}
 use Rattle.referring.specs.Recall.{fact_of, Recalls}
+use Rattle.casework.specs.declared.context.Grounds.{Grounds}
+use Rattle.casework.specs.declared.context.Allowing.{Allowing}
+use Rattle.casework.specs.declared.context.Renamed.{Renamed}
 
 -- numbers below k
 abbrev pub There : ℕ → List ℕ → Type 0
 There k xs = (i : ℕ) → i < length xs → get_or xs i 0 < k
 
--- Terms under a substitution ---------------------------------------------------------------------------------------------------------
-
--- terms of the store, a map of terms that are there, an empty memo, and cells for the answers
-pub record Replaceables (I W : List ℕ) (m : Mark) (map memo ids out : List ℕ) : Type 0 where
-  pub good : Good I W m
-  pub within : (v : ℕ) → get_or map v 0 ≤ m.terms
-  pub there : There m.terms ids
-  pub empty : memo ≡ replicate TERMS 0
-  pub fits : length ids ≤ length out
-
--- the terms that come of it are in the first cells
-pub record Replaced (I W J X : List ℕ) (old : Mark) (map ids out : List ℕ) (new : Mark) : Type 0 where
-  pub went : Went I W J X old (substitutes (replacement (made I W old) map) (args_of (made I W old) ids) (made I W old)) (args_of (made J X new) (take (length ids) out)) new
-  pub there : There new.terms (take (length ids) out)
-
-abbrev pub ReplacedAs : List ℕ → List ℕ → List ℕ → List ℕ → Mark → List ℕ → List ℕ → List ℕ → Bound → Type 0
-ReplacedAs I W J X old map ids out (bound.Ok new) = Replaced I W J X old map ids out new
-ReplacedAs I W J X old map ids out (bound.No q d new) =
-    Stopped I W J X old (substitutes (replacement (made I W old) map) (args_of (made I W old) ids) (made I W old)) q d new
-
 -- Allowed facts by numbers -----------------------------------------------------------------------------------------------------------
 
 abbrev pub allowed_of : Made → List ℕ → ℕ → List ℕ → Allowed
 allowed_of M ps j gs = record { premises = args_of M ps; judgment = get_or M j (var 0); general = gs }
+
+abbrev pub allowed_as : Made → Allowing → Allowed
+allowed_as M a = allowed_of M a.premises.now a.judgment a.general.now
+
+-- facts beside some store, and terms of it that they are compared with
+pub record Comparing (f : Facts) (a : Allowing) : Type 0 where
+  pub index : List ℕ
+  pub words : List ℕ
+  pub mark : Mark
+  pub recalls : Recalls f.rows.now f.lists.now f.n index words mark
+  pub judgment : a.judgment < mark.terms
+  pub premises : There mark.terms a.premises.now
 
 -- without premises and generalised variables
 unfoldable pub plainly : Allowed → Bool
@@ -94,9 +91,21 @@ pub record ContextRead (A : Type 0) (I W J X : List ℕ) (old : Mark) (S : State
   pub went : Went I W J X old K answer new
   pub adds : Adds (made J X new) S own plain plain' fine fine' (these answer)
 
-abbrev pub ContextAs : (A : Type 0) → List ℕ → List ℕ → List ℕ → List ℕ → Mark → State → Out Made A → (A → List Allowed) → List ℕ → List ℕ → List ℕ → List ℕ → List ℕ → Bound → Type 0
-ContextAs A I W J X old S K these own plain plain' fine fine' (bound.Ok new) = ContextRead A I W J X old S K these own plain plain' fine fine' new
-ContextAs A I W J X old S K these own plain plain' fine fine' (bound.No q d new) = Stopped I W J X old K q d new
+-- the answer: the sets after those that were given, for the same facts
+abbrev pub ContextBy : (A : Type 0) → List ℕ → List ℕ → List ℕ → List ℕ → Mark → Mark → State → Out Made A → (A → List Allowed) → Grounds → Result Grounds Question → Type 0
+ContextBy A I W J X old new S K these g (Ok h) = ContextRead A I W J X old S K these g.own.now g.plain h.plain g.fine h.fine new × (h.own ≡ g.own)
+ContextBy A I W J X old new S K these g (Err q) = Stopped I W J X old K (number_of q) (detail_of q) new
+
+abbrev pub ContextAs : (A : Type 0) → Store → Store → State → Out Made A → (A → List Allowed) → Grounds → Result Grounds Question → Type 0
+ContextAs A s t S K these g r = ContextBy A s.index.now s.words.now t.index.now t.words.now s.mark t.mark S K these g r
+
+-- the same where only room is asked for
+abbrev pub UnderBy : (A : Type 0) → List ℕ → List ℕ → List ℕ → List ℕ → Mark → Mark → State → Out Made A → (A → List Allowed) → Grounds → Result Grounds Row → Type 0
+UnderBy A I W J X old new S K these g (Ok h) = ContextRead A I W J X old S K these g.own.now g.plain h.plain g.fine h.fine new × (h.own ≡ g.own)
+UnderBy A I W J X old new S K these g (Err row) = Stopped I W J X old K 60 (row_number row) new
+
+abbrev pub UnderAs : (A : Type 0) → Store → Store → State → Out Made A → (A → List Allowed) → Grounds → Result Grounds Row → Type 0
+UnderAs A s t S K these g r = UnderBy A s.index.now s.words.now t.index.now t.words.now s.mark t.mark S K these g r
 
 abbrev pub one : Allowed → List Allowed
 one a = a ∷ []
@@ -111,18 +120,15 @@ under σ f = do
   j ← substitute σ f.judgment
   pure (record { premises = ps; judgment = j; general = f.general })
 
--- how many premises fact h has
-abbrev pub width_of : List ℕ → ℕ → ℕ
-width_of facts h = (premises_span facts h).end - (premises_span facts h).from
-
--- what a fact of the context is put under, and the cells and sets beside
-pub record ContextGiven (facts lists : List ℕ) (n : Sizes) (I W : List ℕ) (m : Mark) (map memo own plain fine : List ℕ) : Type 0 where
+-- what a fact of the context is put under, and the facts that the case rests on
+pub record ContextGiven (facts lists : List ℕ) (n : Sizes) (I W : List ℕ) (m : Mark) (map memo own : List ℕ) : Type 0 where
   pub recalls : Recalls facts lists n I W m
   pub cells : Theta m map
   pub empty : memo ≡ replicate TERMS 0
   pub known : There n.facts own
-  pub wide : length plain ≡ 64
-  pub broad : length fine ≡ 16
+
+abbrev pub ContextIn : Facts → Store → List ℕ → List ℕ → Grounds → Type 0
+ContextIn f s map memo g = ContextGiven f.rows.now f.lists.now f.n s.index.now s.words.now s.mark map memo g.own.now
 
 -- h joined the set where the test says so
 abbrev pub OneMarked : Bool → ℕ → List ℕ → List ℕ → Type 0
@@ -147,6 +153,9 @@ pub record RestsGiven (facts : List ℕ) (n : Sizes) : Type 0 where
   pub apart : Apart trees
   pub few : length trees ≤ TERMS
 
+abbrev pub RestsIn : Facts → Type 0
+RestsIn f = RestsGiven f.rows.now f.n
+
 -- whether the case may rest on fact h, by the sets
 unfoldable pub rests_by : Made → Fact → ℕ → Set → Set → Bool
 rests_by M f h plain fine = elim (is_plain f) [ true ↦ plain (number M f.judgment) | false ↦ f.assumed && fine h ]
@@ -164,6 +173,9 @@ pub record RenamedRule (symbols rules patterns : List ℕ) (n : Sizes) (I W : Li
   pub within : Cells m.terms cells
   pub good : Good I W m
 
+abbrev pub RenamedIn : Rules → List ℕ → Sizes → Store → Renamed → Type 0
+RenamedIn p symbols n s u = RenamedRule symbols p.rows.now p.patterns.now n s.index.now s.words.now s.mark u.rule u.bound.now
+
 -- K answers them, and the set got their numbers
 pub record PremisesRead (I W J X : List ℕ) (old : Mark) (K : Out Made (List Allowed)) (set set' : List ℕ) (new : Mark) : Type 0 where
   pub these : List Allowed
@@ -171,6 +183,9 @@ pub record PremisesRead (I W J X : List ℕ) (old : Mark) (K : Out Made (List Al
   pub adds : PlainAdds (made J X new) set set' (plains_of these)
   pub only : others_of these ≡ []
 
-abbrev pub PremisesAs : List ℕ → List ℕ → List ℕ → List ℕ → Mark → Out Made (List Allowed) → List ℕ → List ℕ → Bound → Type 0
-PremisesAs I W J X old K set set' (bound.Ok new) = PremisesRead I W J X old K set set' new
-PremisesAs I W J X old K set set' (bound.No q d new) = Stopped I W J X old K q d new
+abbrev pub PremisesBy : List ℕ → List ℕ → List ℕ → List ℕ → Mark → Mark → Out Made (List Allowed) → Grounds → Result Grounds Question → Type 0
+PremisesBy I W J X old new K g (Ok h) = PremisesRead I W J X old K g.plain h.plain new × ((h.own ≡ g.own) × (h.fine ≡ g.fine))
+PremisesBy I W J X old new K g (Err q) = Stopped I W J X old K (number_of q) (detail_of q) new
+
+abbrev pub PremisesAs : Store → Store → Out Made (List Allowed) → Grounds → Result Grounds Question → Type 0
+PremisesAs s t K g r = PremisesBy s.index.now s.words.now t.index.now t.words.now s.mark t.mark K g r

@@ -3,4 +3,3 @@ pub mod CaseItems
 pub mod Facts
 pub mod Loops
 pub mod Rows
-pub mod Substitutes

@@ -4,14 +4,13 @@ ghost use Rattle.rules.specs.Limits.{VARIABLES};
 ghost use Rattle.rules.specs.Text.{same};
 ghost use Rattle.rules.specs.Find.{any};
 ghost use Rattle.rules.specs.Invert.{Case};
-ghost use Rattle.reading.specs.Given.{VarsItem, VarsItems};
-ghost use Rattle.casework.specs.Cases.{CaseFirst, CasesFirst, CaseAs, CaseFound, Kept, Naming, TakenAs, CasesAs};
+ghost use Rattle.casework.specs.Cases.{ReadsCase, ReadsCases, CaseFirst, CasesFirst, CaseAs, CaseFound, Kept, Naming, TakenAs, CasesAs};
 ghost use Rattle.casework.specs.Distinct.{between};
 
 use crate::distinct::enter;
 use questions::Question;
-use reading::apart::{Listed, vars_list};
 use reading::names::index as index_in;
+use reading::reader::Reader;
 use rules::{LENGTH, VARIABLES};
 use sexp::items::Item;
 use sexp::names::same;
@@ -32,17 +31,9 @@ pub struct CaseRead {
 }
 
 // The case that the first item spells; its variables come into the cells, which are zero before, and afterwards where it is refused.
-pub fn read_case(
-    goals: &[u8],
-    text: &[u8],
-    vars: &[u32],
-    count: usize,
-    cells: &[u32],
-    out: &mut [u32],
-) -> Result<CaseRead, Question>
-    requires { VarsItem goals.now text.now vars.now count cells.now × (out.old ≡ replicate VARIABLES 0) }
-    ensures { (g : VarsItem goals.now text.now vars.now count cells.now) →
-        CaseAs g.S text.now g.x out.old out.new result }
+pub fn read_case(reader: &Reader<'_>, cells: &[u32], out: &mut [u32]) -> Result<CaseRead, Question>
+    requires { ReadsCase reader.now cells.now × (out.old ≡ replicate VARIABLES 0) }
+    ensures { (g : ReadsCase reader.now cells.now) → CaseAs g.S reader.now.text.now g.x out.old out.new result }
 {
     let Item::List(a, b) = items::item_at(cells, 0) else {
         return Err(Question::Cases);
@@ -55,11 +46,11 @@ pub fn read_case(
         return Err(Question::Cases);
     };
     let second = items::place(inner, 1);
-    let Some(fact) = index_in(text, &inner[second..]) else {
+    let Some(fact) = index_in(reader.text, &inner[second..]) else {
         return Err(Question::Cases);
     };
     let third = items::place(inner, 2);
-    let Some(variables) = vars_list(goals, text, vars, count, &inner[third..], out) else {
+    let Some(variables) = reader.vars_list(&inner[third..], out) else {
         return Err(Question::CaseVariables);
     };
     Ok(CaseRead {
@@ -134,57 +125,44 @@ fn is_taken(
 
 // All cases are read, with cells for a tree of their names.
 fn read_with(
-    goals: &[u8],
-    text: &[u8],
-    vars: &[u32],
-    count: usize,
+    reader: &Reader<'_>,
     cells: &[u32],
     places: &mut [u32],
     links: &mut [u32],
-) -> Listed
-    requires { VarsItems goals.now text.now vars.now count cells.now × Kept text.now places.old links.old [] }
-    ensures { (g : VarsItems goals.now text.now vars.now count cells.now) → CasesAs g.S g.xs result }
+) -> Result<(), Question>
+    requires { ReadsCases reader.now cells.now × Kept reader.now.text.now places.old links.old [] }
+    ensures { (g : ReadsCases reader.now cells.now) → CasesAs g.S g.xs result }
 {
-    let mut k = 0;
-    let mut at = 0;
-    while at < cells.len() {
+    for (k, item) in items::all(cells).enumerate() {
         let mut out = [0u32; VARIABLES];
-        match read_case(goals, text, vars, count, &cells[at..], &mut out) {
-            Ok(case) => {
-                let end = lex::atom_end(text, case.start);
-                if is_taken(text, cells, k, case.start, end, places, links) {
-                    return Listed::No(41);
-                }
-            }
-            Err(question) => {
-                return Listed::No(question.number());
-            }
+        let case = read_case(reader, item, &mut out)?;
+        let end = lex::atom_end(reader.text, case.start);
+        if is_taken(reader.text, cells, k, case.start, end, places, links) {
+            return Err(Question::Cases);
         }
-        k += 1;
-        at = items::after(cells, at);
     }
-    Listed::Ok
+    Ok(())
 }
 
 // The same for many cases. The tables are for more names than a text has room for, and are zeroed for long lists alone.
-fn read_many(goals: &[u8], text: &[u8], vars: &[u32], count: usize, cells: &[u32]) -> Listed
-    requires { VarsItems goals.now text.now vars.now count cells.now }
-    ensures { (g : VarsItems goals.now text.now vars.now count cells.now) → CasesAs g.S g.xs result }
+fn read_many(reader: &Reader<'_>, cells: &[u32]) -> Result<(), Question>
+    requires { ReadsCases reader.now cells.now }
+    ensures { (g : ReadsCases reader.now cells.now) → CasesAs g.S g.xs result }
 {
     let mut places = [0u32; NAMECELLS];
     let mut links = [0u32; NAMECELLS];
-    read_with(goals, text, vars, count, cells, &mut places, &mut links)
+    read_with(reader, cells, &mut places, &mut links)
 }
 
 // All cases are read: what is asked of each, and that no two have one name. A few names are compared by pairs: two cells are no room for a tree.
-pub fn read_cases(goals: &[u8], text: &[u8], vars: &[u32], count: usize, cells: &[u32]) -> Listed
-    requires { VarsItems goals.now text.now vars.now count cells.now }
-    ensures { (g : VarsItems goals.now text.now vars.now count cells.now) → CasesAs g.S g.xs result }
+pub fn read_cases(reader: &Reader<'_>, cells: &[u32]) -> Result<(), Question>
+    requires { ReadsCases reader.now cells.now }
+    ensures { (g : ReadsCases reader.now cells.now) → CasesAs g.S g.xs result }
 {
     if items::count(cells) > FEW {
-        return read_many(goals, text, vars, count, cells);
+        return read_many(reader, cells);
     }
     let mut places = [0u32; 2];
     let mut links = [0u32; 2];
-    read_with(goals, text, vars, count, cells, &mut places, &mut links)
+    read_with(reader, cells, &mut places, &mut links)
 }

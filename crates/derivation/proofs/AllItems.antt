@@ -3,7 +3,7 @@
 use mathlib.Core.Path.{◌≡◌, sym, ap, ◌∙◌, subst}
 use mathlib.Core.List.{List}
 use Prim.Native.Nat.{ℕ, ◌-◌, ◌<◌, ◌≤◌}
-use lib.ListN.{length, take, drop, replicate, length-replicate}
+use lib.ListN.{length, take, drop, replicate}
 use Rattle.rules.specs.Limits.{RULEVARS}
 use Rattle.rules.specs.Sexp.{Sexps, cons}
 use Rattle.rules.specs.Theory.{rule}
@@ -18,11 +18,9 @@ use Rattle.terms.specs.On.{On, Stopped, on_start, on_is, on_ok, on_no, on_done}
 use Rattle.state.specs.declared.sizes.Sizes.{Sizes}
 use Rattle.state.specs.Held.{Names, RuleLists, Ruled, rule_lists}
 use Rattle.reading.specs.Given.{Reads}
-use Rattle.referring.specs.Derived.{RuleItems, ItemsRead, ItemsAs}
+use Rattle.referring.specs.Derived.{RuleItems, ItemsRead}
 use Rattle.derivation.specs.ItemsOf.{ItemsHeld, RuleItem}
 use Rattle.derivation.specs.Laws.ItemsOf.{held_none, items_read, read_held, reads_read_item}
-use Rattle.reading.specs.declared.apart.Out.{Out as Answer}
-use Rattle.reading.specs.declared.apart.Out.TheVariants.{Ok, No}
 use Rattle.reading.specs.Laws.Walks.{walk_next, walk_on}
 
 -- zs are left in the cells from a place on
@@ -41,16 +39,12 @@ Itemed K P n I W old r cells J X now bound stated at =
     (g : RuleItems K P n I W old r cells) → ItemsLeft K n I W old r cells g.S g.xs J X now bound stated at
 
 pub itemed_start : {K : Names} {P : RuleLists} {n : Sizes} {I W : List ℕ} {m : Mark} {r : ℕ} {cells bound : List ℕ} → bound ≡ replicate RULEVARS 0 →
-    Itemed K P n I W m r cells I W m bound 0 0
-itemed_start e g =
-    record { zs = g.xs; it = no_items; walk = walk_start g.holds; reads = g.reads; on = on_start g.reads.good; held = held_none e }
+    {at : ℕ} → at ≡ 0 → Itemed K P n I W m r cells I W m bound 0 at
+itemed_start {K = K} {cells = cells} e z g =
+    record { zs = g.xs; it = no_items; walk = subst (λ (k : ℕ). Walk K.text cells k g.xs) (sym z) (walk_start g.holds); reads = g.reads; on = on_start g.reads.good; held = held_none e }
 
 module _ {K : Names} {n : Sizes} {I W : List ℕ} {old : Mark} {r : ℕ} {cells : List ℕ} {S : State} {xs : Sexps} {J X : List ℕ} {now : Mark} {bound : List ℕ}
     {stated at : ℕ} (l : ItemsLeft K n I W old r cells S xs J X now bound stated at) where
-  -- the cells are as many as before
-  pub left_long : {before : List ℕ} → before ≡ replicate RULEVARS 0 → length bound ≡ length before
-  left_long e = l.held.cells.long ∙ sym (ap length e ∙ length-replicate {A = ℕ} RULEVARS 0)
-
   -- nothing is left
   pub left_done : length cells ≤ at → ItemsRead I W J X old (read_items S (rule S.theory r) xs no_items (made I W old)) bound stated now
   unfolding read_items
@@ -70,9 +64,6 @@ module _ {K : Names} {n : Sizes} {I W : List ℕ} {old : Mark} {r : ℕ} {cells 
         (read_items S (rule S.theory r) (cons one.first one.others) l.it (made J X now))
     on_one = on_is l.on (ap (λ (z : Sexps). read_items S (rule S.theory r) z l.it (made J X now)) one.is)
 
-    pub left_less : {next : ℕ} → next ≡ behind at (item_at cells at) → (at < next) × (next ≤ length cells)
-    left_less f = (walk_on one_walk f, (walk_next one_walk f).here.high)
-
     module _ {rules rulevars patterns : List ℕ} (ruled : Ruled (rule_lists K.theory rules rulevars patterns) n S.theory) (known : r < n.rules) where
       abbrev pub left_given : RuleItem K rules rulevars n J X now r (take (length cells - at) (drop at cells)) bound stated
       left_given =
@@ -89,18 +80,17 @@ module _ {K : Names} {n : Sizes} {I W : List ℕ} {old : Mark} {r : ℕ} {cells 
             holds = walk_rest one_walk;
           }
 
-      -- a is the answer for the item
-      module _ (Y Z B : List ℕ) (a : Answer)
-          (p : (h : RuleItem K rules rulevars n J X now r (take (length cells - at) (drop at cells)) bound stated) →
-          ItemsAs J X Y Z now (read_item h.S (rule h.S.theory r) h.x h.it (made J X now)) B a) where
-        pub left_refused : {q d : ℕ} {new : Mark} → a ≡ No q d new → Stopped I W Y Z old (read_items S (rule S.theory r) xs no_items (made I W old)) q d new
+      -- what reading the item answers
+      module _ {Y Z : List ℕ} {new : Mark} where
+        pub left_refused : {q d : ℕ} → ((h : RuleItem K rules rulevars n J X now r (take (length cells - at) (drop at cells)) bound stated) →
+            Stopped J X Y Z now (read_item h.S (rule h.S.theory r) h.x h.it (made J X now)) q d new) → Stopped I W Y Z old (read_items S (rule S.theory r) xs no_items (made I W old)) q d new
         unfolding read_items
-        left_refused e =
-            on_no _ on_one (subst (λ (z : Answer). ItemsAs J X Y Z now (read_item S (rule S.theory r) one.first l.it (made J X now)) B z) e (p left_given))
+        left_refused p = on_no _ on_one (p left_given)
 
-        module _ {s : ℕ} {new : Mark} (e : a ≡ Ok s new) where
+        module _ {B : List ℕ} {s : ℕ} (p : (h : RuleItem K rules rulevars n J X now r (take (length cells - at) (drop at cells)) bound stated) →
+            ItemsRead J X Y Z now (read_item h.S (rule h.S.theory r) h.x h.it (made J X now)) B s new) where
           one_read : ItemsRead J X Y Z now (read_item S (rule S.theory r) one.first l.it (made J X now)) B s new
-          one_read = subst (λ (z : Answer). ItemsAs J X Y Z now (read_item S (rule S.theory r) one.first l.it (made J X now)) B z) e (p left_given)
+          one_read = p left_given
 
           on_more : On I W old (read_items S (rule S.theory r) xs no_items (made I W old)) Y Z new
               (read_items S (rule S.theory r) one.others one_read.items (made Y Z new))

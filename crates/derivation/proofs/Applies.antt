@@ -1,5 +1,5 @@
 -- The form `apply` from its index on: what each part of it answers, and what the next part is given. Assumes nothing.
-use Rattle.std.specs.Prelude.{Some as some, None as nothing, Option}
+use Rattle.std.specs.Prelude.{Some as some, None as nothing, Option, Result, Ok, Err}
 use mathlib.Core.Path.{◌≡◌, refl, sym, ap, ◌∙◌, subst}
 use mathlib.Core.Bool.{Bool, true, false, not}
 use mathlib.Core.List.{List, []}
@@ -26,14 +26,10 @@ use Rattle.sexp.specs.FoundLaws.{found_at, found_missing}
 use Rattle.sexp.specs.declared.items.Item.{Item}
 use Rattle.sexp.specs.declared.items.Item.TheVariants.{Atom, List as Part}
 use Rattle.terms.specs.declared.store.Mark.{Mark}
-use Rattle.terms.specs.declared.apart.Kept.{Kept}
-use Rattle.terms.specs.declared.apart.Kept.TheVariants as kept
-use Rattle.terms.specs.Table.{made, tree, Stored}
-use Rattle.terms.specs.Apart.{After}
+use Rattle.terms.specs.Table.{made, tree, Stored, Refused}
 use Rattle.terms.specs.Subst.{replacement, substituted, Replaceable}
 use Rattle.terms.specs.Theta.{Theta, bindings}
 use Rattle.terms.specs.On.{On, Stopped, stored_went, refused_stopped, on_start, on_is, on_ok, on_no, on_pure, on_stop, on_went, on_stopped, on_ask_yes, on_ask_no, on_found_some, on_found_none}
-use Rattle.terms.specs.Apart.{after_term, after_full}
 use Rattle.terms.specs.Laws.Growth.{made_length}
 use Rattle.terms.specs.Laws.Numbers.{stored_is}
 use Rattle.terms.specs.Laws.Theta.{bindings_grown, theta_grown}
@@ -41,28 +37,25 @@ use Rattle.state.specs.declared.sizes.Sizes.{Sizes}
 use Rattle.state.specs.Held.{Names, records}
 use Rattle.state.specs.Rows.{cell}
 use Rattle.state.specs.FactLaws.{FactRow, fact_row_lem}
-use Rattle.reading.specs.declared.apart.Bound.{Bound}
-use Rattle.reading.specs.declared.apart.Bound.TheVariants as bounds
-use Rattle.referring.specs.declared.derived.Derived.{Derived}
-use Rattle.referring.specs.declared.derived.Derived.TheVariants as derived
+use Rattle.questions.specs.declared.Question.{Question}
+use Rattle.referring.specs.declared.support.Derived.{Derived}
 use Rattle.reading.specs.Items.{FirstItem, index_in, index_found}
 use Rattle.reading.specs.Given.{ReadsItems}
 use Rattle.reading.specs.Answers.{BindingsRead}
-use Rattle.reading.specs.Apart.{BindingsAs}
 use Rattle.referring.specs.Recall.{fact_of, Refers}
-use Rattle.referring.specs.Derived.{FactForm, DerivedAs, alone}
-use Rattle.derivation.specs.Applying.{RuleFact, rule_of, ApplicableAs, premise_numbers, apply_to, apply_on, RuleUse}
-use Rattle.reading.specs.Laws.Bindings.{substitute_along}
+use Rattle.referring.specs.Derived.{FactForm, DerivedBy, alone}
+use Rattle.derivation.specs.Applying.{RuleFact, rule_of, premise_numbers, apply_to, apply_on, RuleUse}
 use Rattle.state.specs.Looking.{not_late, is_late}
 use Rattle.referring.specs.Laws.Refers.{refers_ready, refers_went, refers_bindings, fact_found, fact_none}
 use Rattle.derivation.proofs.RuleFacts.{rule_assumed_lem, rule_derived_lem}
 use Rattle.derivation.proofs.RulePremises.{premises_numbered}
+use Rattle.derivation.proofs.Meeting.{along_bindings}
 
 -- an answer for what is left is the answer
-module _ {I W J X : List ℕ} {m mid : Mark} {K left : Out Made Fact} (o : On I W m K J X mid left) (Y Z : List ℕ) (S : State) (hyps footing : List ℕ) where
-  derived_on : (v : Derived) → DerivedAs Fact J X Y Z mid S left alone hyps footing v → DerivedAs Fact I W Y Z m S K alone hyps footing v
-  derived_on (derived.Ok j k new) d = record { went = on_went o d.went; there = d.there; earlier = d.earlier; known = d.known }
-  derived_on (derived.No q d new) s = on_stopped o s
+module _ {I W J X : List ℕ} {m mid : Mark} {K left : Out Made Fact} (o : On I W m K J X mid left) (Y Z : List ℕ) (new : Mark) (S : State) where
+  derived_on : (v : Result Derived Question) → DerivedBy Fact J X Y Z mid new S left alone v → DerivedBy Fact I W Y Z m new S K alone v
+  derived_on (Ok d) r = record { went = on_went o r.went; there = r.there; earlier = r.earlier; known = r.known }
+  derived_on (Err q) s = on_stopped o s
 
 -- its conclusion is the fact's judgment
 rule_concludes : (S : State) (i : ℕ) (f : Fact) → (rule_of S i f).conclusion ≡ f.judgment
@@ -102,116 +95,116 @@ module _ {K : Names} {facts footings lists : List ℕ} {n : Sizes} {I W : List �
           then (substitute (along (bindings (made I W m) bound 0)) a.conclusion Z) (λ j Q. apply_to g.S (bindings (made I W m) bound 0) a zs j Q)))))
       on_fact = on_pure _ (on_start g.refers.reads.good) (fact_found g.refers.recorded (made I W m) rule_early)
 
-      -- q: what `applicable` answers
-      module _ {q : ℕ} (a : (h : RuleFact facts lists i) (M : Made) → ApplicableAs h.S (bindings M bound 0) i (fact_of h.S i) q) where
-        pub rule_unfit : (q ≡ 0 → ⊥) → Stopped I W I W m rule_all q 0 m
-        rule_unfit z =
-            on_stop _ on_fact (a rule_fact (made I W m) (made I W m)
-            ∙ ap (λ (c : Bool). elim c as (λ (x : Bool). Out Made Applied) [ true ↦ ok rule (made I W m) | false ↦ refuse q 0 (made I W m) ]) (ne_eqb q 0 z))
+      -- what `applicable` answers
+      pub rule_unfit : {q d : ℕ} → ((h : RuleFact facts lists i) (M N : Made) → applied h.S (bindings M bound 0) i (fact_of h.S i) N ≡ refuse q d N) →
+          Stopped I W I W m rule_all q d m
+      rule_unfit a = on_stop _ on_fact (a rule_fact (made I W m) (made I W m))
 
-        module _ (z : q ≡ 0) where
-          on_applied : On I W m rule_all I W m (then (items 37 (item g.xs 4) (made I W m)) (λ zs T. then (ask 37 (eqb (count zs) (count_trees rule.premises)) T) (λ u Z.
-              then (substitute (along (bindings (made I W m) bound 0)) rule.conclusion Z) (λ j Q. apply_to g.S (bindings (made I W m) bound 0) rule zs j Q))))
-          on_applied =
-              on_pure _ on_fact (a rule_fact (made I W m) (made I W m)
-              ∙ ap (λ (c : Bool). elim c as (λ (x : Bool). Out Made Applied) [ true ↦ ok rule (made I W m) | false ↦ refuse q 0 (made I W m) ]) (eq-eqb q 0 z))
+      module _ (a : (h : RuleFact facts lists i) (M N : Made) → applied h.S (bindings M bound 0) i (fact_of h.S i) N ≡ ok (rule_of h.S i (fact_of h.S i)) N) where
+        on_applied : On I W m rule_all I W m (then (items 37 (item g.xs 4) (made I W m)) (λ zs T. then (ask 37 (eqb (count zs) (count_trees rule.premises)) T) (λ u Z.
+            then (substitute (along (bindings (made I W m) bound 0)) rule.conclusion Z) (λ j Q. apply_to g.S (bindings (made I W m) bound 0) rule zs j Q))))
+        on_applied = on_pure _ on_fact (a rule_fact (made I W m) (made I W m))
 
-          -- thing: item 4
-          module _ {thing : Item} (c : (ys : Sexps) → cells ≡ encodes ys → thing ≡ item_of (place ys 4) (item ys 4)) where
-            pub rule_atom : {p : ℕ} → thing ≡ Atom p → Stopped I W I W m rule_all 37 0 m
+        -- thing: item 4
+        module _ {thing : Item} (c : (ys : Sexps) → cells ≡ encodes ys → thing ≡ item_of (place ys 4) (item ys 4)) where
+          pub rule_atom : {p : ℕ} → thing ≡ Atom p → Stopped I W I W m rule_all 37 0 m
+          unfolding items
+          rule_atom f =
+              on_stop _ on_applied (ap (λ (x : Sexp). items 37 x (made I W m)) (nth_atom g.holds 4 (c g.xs g.holds.cells) f).is)
+
+          module _ {s t : ℕ} (f : thing ≡ Part s t) where
+            pub rule_list_lem : ListIs K.text cells (item g.xs 4) s t
+            rule_list_lem = nth_part g.holds 4 c (omega (arith, g.many)) f
+
+            on_items : On I W m rule_all I W m (then (ask 37 (eqb (count rule_list_lem.items) (count_trees rule.premises)) (made I W m)) (λ u Z.
+                then (substitute (along (bindings (made I W m) bound 0)) rule.conclusion Z) (λ j Q. apply_to g.S (bindings (made I W m) bound 0) rule rule_list_lem.items j Q)))
             unfolding items
-            rule_atom f =
-                on_stop _ on_applied (ap (λ (x : Sexp). items 37 x (made I W m)) (nth_atom g.holds 4 (c g.xs g.holds.cells) f).is)
+            on_items = on_pure _ on_applied (ap (λ (x : Sexp). items 37 x (made I W m)) rule_list_lem.is)
 
-            module _ {s t : ℕ} (f : thing ≡ Part s t) where
-              pub rule_list_lem : ListIs K.text cells (item g.xs 4) s t
-              rule_list_lem = nth_part g.holds 4 c (omega (arith, g.many)) f
+            -- k, p: what `count` and `premises_of` answer
+            module _ {k p : ℕ} (d : (ys : Sexps) → take (t - s) (drop s cells) ≡ encodes ys → k ≡ count ys)
+                (o : p ≡ length (premise_numbers facts lists i)) where
+              items_many : count rule_list_lem.items ≡ k
+              items_many = sym (d rule_list_lem.items rule_list_lem.holds.cells)
 
-              on_items : On I W m rule_all I W m (then (ask 37 (eqb (count rule_list_lem.items) (count_trees rule.premises)) (made I W m)) (λ u Z.
-                  then (substitute (along (bindings (made I W m) bound 0)) rule.conclusion Z) (λ j Q. apply_to g.S (bindings (made I W m) bound 0) rule rule_list_lem.items j Q)))
-              unfolding items
-              on_items = on_pure _ on_applied (ap (λ (x : Sexp). items 37 x (made I W m)) rule_list_lem.is)
+              premises_many : count_trees rule.premises ≡ p
+              premises_many = sym (premises_numbered g.refers.recorded rule_early).many ∙ sym o
 
-              -- k, p: what `count` and `premises_of` answer
-              module _ {k p : ℕ} (d : (ys : Sexps) → take (t - s) (drop s cells) ≡ encodes ys → k ≡ count ys)
-                  (o : (l : List ℕ) → RuleFact facts l i → p ≡ length (premise_numbers facts l i)) where
-                items_many : count rule_list_lem.items ≡ k
-                items_many = sym (d rule_list_lem.items rule_list_lem.holds.cells)
+              pub rule_other : (k ≡ p → ⊥) → Stopped I W I W m rule_all 37 0 m
+              rule_other x = on_ask_no _ 37 on_items (ne_eqb _ _ (λ y. x (sym items_many ∙ y ∙ premises_many)))
 
-                premises_many : count_trees rule.premises ≡ p
-                premises_many = sym (premises_numbered g.refers.recorded rule_early).many ∙ sym (o lists rule_fact)
+              module _ (x : k ≡ p) where
+                on_many : On I W m rule_all I W m (then (substitute (along (bindings (made I W m) bound 0)) rule.conclusion (made I W m))
+                    (λ j Q. apply_to g.S (bindings (made I W m) bound 0) rule rule_list_lem.items j Q))
+                on_many = on_ask_yes _ 37 on_items (eq-eqb _ _ (items_many ∙ x ∙ sym premises_many))
 
-                pub rule_other : (k ≡ p → ⊥) → Stopped I W I W m rule_all 37 0 m
-                rule_other x = on_ask_no _ 37 on_items (ne_eqb _ _ (λ y. x (sym items_many ∙ y ∙ premises_many)))
+                -- id: the fact's judgment
+                module _ {id : ℕ} (y : id ≡ cell 6 facts i 0) where
+                  pub rule_replaceable : Replaceable I W m bound id
+                  rule_replaceable =
+                      record { good = g.refers.reads.good; bound = θ.bound; there = omega (arith, y, rule_row_lem.judgment.below, made_length I W m) }
 
-                module _ (x : k ≡ p) where
-                  on_many : On I W m rule_all I W m (then (substitute (along (bindings (made I W m) bound 0)) rule.conclusion (made I W m))
+                  conclusion_is : tree I W m id ≡ rule.conclusion
+                  conclusion_is = ap (λ (h : ℕ). tree I W m h) y ∙ rule_row_lem.judgment.tree ∙ sym (rule_concludes g.S i (fact_of g.S i))
+
+                  on_judgment : On I W m rule_all I W m (then (substitute (along (bindings (made I W m) bound 0)) (tree I W m id) (made I W m))
                       (λ j Q. apply_to g.S (bindings (made I W m) bound 0) rule rule_list_lem.items j Q))
-                  on_many = on_ask_yes _ 37 on_items (eq-eqb _ _ (items_many ∙ x ∙ sym premises_many))
+                  on_judgment =
+                      on_is on_many (ap (λ (u : Tree). then (substitute (along (bindings (made I W m) bound 0)) u (made I W m))
+                      (λ j Q. apply_to g.S (bindings (made I W m) bound 0) rule rule_list_lem.items j Q)) (sym conclusion_is))
 
-                  -- id: the fact's judgment
-                  module _ {id : ℕ} (y : id ≡ cell 6 facts i 0) where
-                    pub rule_replaceable : Replaceable I W m bound id
-                    rule_replaceable =
-                        record { good = g.refers.reads.good; bound = θ.bound; there = omega (arith, y, rule_row_lem.judgment.below, made_length I W m) }
+                  -- what `substitute` answers
+                  module _ (J X : List ℕ) {mid : Mark} where
+                    pub rule_full : {row : ℕ} → Refused Tree I W J X m (substitute (replacement (made I W m) bound) (tree I W m id) (made I W m)) row mid →
+                        Stopped I W J X m rule_all 60 row mid
+                    rule_full {row} w =
+                        on_no _ on_judgment
+                        (refused_stopped (along_bindings I W m bound id (λ (z : Tree) (Q : Out Made Tree). Refused Tree I W J X m Q row mid) w))
 
-                    conclusion_is : tree I W m id ≡ rule.conclusion
-                    conclusion_is = ap (λ (h : ℕ). tree I W m h) y ∙ rule_row_lem.judgment.tree ∙ sym (rule_concludes g.S i (fact_of g.S i))
+                    module _ {j : ℕ} (w : Stored I W J X m (substituted I W m bound id) (substitute (replacement (made I W m) bound) (tree I W m id) (made I W m)) j mid) where
+                      rule_stored : Stored I W J X m (sub (along (bindings (made I W m) bound 0)) (tree I W m id))
+                          (substitute (along (bindings (made I W m) bound 0)) (tree I W m id) (made I W m)) j mid
+                      rule_stored = along_bindings I W m bound id (λ (z : Tree) (Q : Out Made Tree). Stored I W J X m z Q j mid) w
 
-                    on_judgment : On I W m rule_all I W m (then (substitute (along (bindings (made I W m) bound 0)) (tree I W m id) (made I W m))
-                        (λ j Q. apply_to g.S (bindings (made I W m) bound 0) rule rule_list_lem.items j Q))
-                    on_judgment =
-                        on_is on_many (ap (λ (u : Tree). then (substitute (along (bindings (made I W m) bound 0)) u (made I W m))
-                        (λ j Q. apply_to g.S (bindings (made I W m) bound 0) rule rule_list_lem.items j Q)) (sym conclusion_is))
+                      pub rule_there : j < mid.terms
+                      rule_there = rule_stored.there
 
-                    -- r: what `substitute` answers
-                    module _ (J X : List ℕ) (r : Kept)
-                        (w : After I W J X m (substituted I W m bound id) (substitute (replacement (made I W m) bound) (tree I W m id) (made I W m)) r) where
-                      pub rule_full : {row : ℕ} {new : Mark} → r ≡ kept.Full row new → Stopped I W J X m rule_all 60 row new
-                      rule_full h = on_no _ on_judgment (refused_stopped (after_full (substitute_along bound id w) h))
+                      pub rule_refers : Refers K facts footings lists n J X mid g.S
+                      rule_refers =
+                          refers_went g.refers
+                          (substitute_keeps (along (bindings (made I W m) bound 0)) (tree I W m id) (made I W m) (refers_ready g.refers).good) (stored_went rule_stored)
 
-                      module _ {j : ℕ} {mid : Mark} (h : r ≡ kept.Term j mid) where
-                        rule_stored : Stored I W J X m (sub (along (bindings (made I W m) bound 0)) (tree I W m id))
-                            (substitute (along (bindings (made I W m) bound 0)) (tree I W m id) (made I W m)) j mid
-                        rule_stored = after_term (substitute_along bound id w) h
+                      pub rule_many : count rule_list_lem.items ≡ length (premise_numbers facts lists i)
+                      rule_many = items_many ∙ x ∙ o
 
-                        pub rule_there : j < mid.terms
-                        rule_there = rule_stored.there
+                      pub rule_theta : Theta mid bound
+                      rule_theta = theta_grown rule_stored.grown θ
 
-                        pub rule_refers : Refers K facts footings lists n J X mid g.S
-                        rule_refers =
-                            refers_went g.refers
-                            (substitute_keeps (along (bindings (made I W m) bound 0)) (tree I W m id) (made I W m) (refers_ready g.refers).good) (stored_went rule_stored)
+                      abbrev pub rule_given : RuleUse K facts footings lists n J X mid i (take (t - s) (drop s cells)) bound
+                      rule_given =
+                          record {
+                            S = g.S;
+                            xs = rule_list_lem.items;
+                            refers = rule_refers;
+                            there = rule_early;
+                            holds = rule_list_lem.holds;
+                            many = rule_many;
+                            theta = rule_theta;
+                          }
 
-                        pub rule_many : count rule_list_lem.items ≡ length (premise_numbers facts lists i)
-                        rule_many = items_many ∙ x ∙ o lists rule_fact
+                      on_last : On I W m rule_all J X mid (apply_to g.S (bindings (made J X mid) bound 0) rule rule_list_lem.items (tree J X mid j) (made J X mid))
+                      on_last =
+                          on_is (on_ok _ on_judgment (stored_went rule_stored))
+                          (ap (λ (u : Tree). apply_to g.S (bindings (made I W m) bound 0) rule rule_list_lem.items u (made J X mid)) (sym (stored_is rule_stored))
+                          ∙ ap (λ (bs : List Binding). apply_to g.S bs rule rule_list_lem.items (tree J X mid j) (made J X mid)) (sym (bindings_grown rule_stored.grown θ)))
 
-                        pub rule_theta : Theta mid bound
-                        rule_theta = theta_grown rule_stored.grown θ
-
-                        abbrev pub rule_given : RuleUse K facts footings lists n J X mid i (take (t - s) (drop s cells)) bound
-                        rule_given =
-                            record {
-                              S = g.S;
-                              xs = rule_list_lem.items;
-                              refers = rule_refers;
-                              there = rule_early;
-                              holds = rule_list_lem.holds;
-                              many = rule_many;
-                              theta = rule_theta;
-                            }
-
-                        on_last : On I W m rule_all J X mid (apply_to g.S (bindings (made J X mid) bound 0) rule rule_list_lem.items (tree J X mid j) (made J X mid))
-                        on_last =
-                            on_is (on_ok _ on_judgment (stored_went rule_stored))
-                            (ap (λ (u : Tree). apply_to g.S (bindings (made I W m) bound 0) rule rule_list_lem.items u (made J X mid)) (sym (stored_is rule_stored))
-                            ∙ ap (λ (bs : List Binding). apply_to g.S bs rule rule_list_lem.items (tree J X mid j) (made J X mid)) (sym (bindings_grown rule_stored.grown θ)))
-
-                        -- v: what `apply_to` answers
-                        pub rule_answers : (Y Z hyps footing : List ℕ) (v : Derived) → ((h : RuleUse K facts footings lists n J X mid i (take (t - s) (drop s cells)) bound) →
-                            DerivedAs Fact J X Y Z mid h.S (apply_to h.S (bindings (made J X mid) bound 0) (rule_of h.S i (fact_of h.S i)) h.xs (tree J X mid j) (made J X mid)) alone hyps footing v) →
-                            DerivedAs Fact I W Y Z m g.S rule_all alone hyps footing v
-                        rule_answers Y Z hyps footing v u = derived_on on_last Y Z g.S hyps footing v (u rule_given)
+                      -- v: what `apply_to` answers
+                      pub rule_answers : (Y Z : List ℕ) (new : Mark) (v : Result Derived Question) →
+                          ((h : RuleUse K facts footings lists n J X mid i (take (t - s) (drop s cells)) bound) →
+                          DerivedBy Fact J X Y Z mid new h.S
+                          (apply_to h.S (bindings (made J X mid) bound 0) (rule_of h.S i (fact_of h.S i)) h.xs (tree J X mid j) (made J X mid)) alone v) →
+                          DerivedBy Fact I W Y Z m new g.S rule_all alone v
+                      rule_answers Y Z new v u = derived_on on_last Y Z new g.S v (u rule_given)
 
 -- The whole form ---------------------------------------------------------------------------------------------------------------------------
 
@@ -267,18 +260,15 @@ module _ {K : Names} {facts footings lists : List ℕ} {n : Sizes} {I W : List �
             unfolding items
             on_list = on_pure _ on_index (ap (λ (x : Sexp). items 36 x (made I W m)) form_list.is)
 
-            -- b: what `bindings` answers
-            module _ (J X before map : List ℕ) (b : Bound) (d : (h : ReadsItems K n I W m (take (t - s) (drop s cells))) →
-                BindingsAs I W J X m (read_bindings h.S h.xs [] (made I W m)) before map b) where
-              form_bound : {a : Bound} → b ≡ a → BindingsAs I W J X m (read_bindings g.S form_list.items [] (made I W m)) before map a
-              form_bound w = subst (λ (z : Bound). BindingsAs I W J X m (read_bindings g.S form_list.items [] (made I W m)) before map z) w (d bindings_given)
+            -- what `bindings` answers
+            module _ (J X map : List ℕ) {mid : Mark} where
+              pub form_refused : {before : List ℕ} {q e : ℕ} → ((h : ReadsItems K n I W m (take (t - s) (drop s cells))) →
+                  Stopped I W J X m (read_bindings h.S h.xs [] (made I W m)) q e mid × (map ≡ before)) → Stopped I W J X m form_all q e mid
+              form_refused d = on_no _ on_list (d bindings_given).0
 
-              pub form_refused : {q e : ℕ} {new : Mark} → b ≡ bounds.No q e new → Stopped I W J X m form_all q e new × (map ≡ before)
-              form_refused {q} {e} {new} w = (on_no _ on_list (form_bound {a = bounds.No q e new} w).0, (form_bound {a = bounds.No q e new} w).1)
-
-              module _ {mid : Mark} (w : b ≡ bounds.Ok mid) where
+              module _ (d : (h : ReadsItems K n I W m (take (t - s) (drop s cells))) → BindingsRead I W J X m (read_bindings h.S h.xs [] (made I W m)) map mid) where
                 pub form_read : BindingsRead I W J X m (read_bindings g.S form_list.items [] (made I W m)) map mid
-                form_read = form_bound w
+                form_read = d bindings_given
 
                 pub form_refers : Refers K facts footings lists n J X mid g.S
                 form_refers = refers_bindings g.refers form_list.items form_read.went
@@ -287,7 +277,7 @@ module _ {K : Names} {facts footings lists : List ℕ} {n : Sizes} {I W : List �
                 form_given = record { S = g.S; xs = g.xs; refers = form_refers; holds = g.holds; many = g.many }
 
                 -- v: what `apply_on` answers
-                pub form_answers : (Y Z hyps footing : List ℕ) (v : Derived) → ((h : FactForm K facts footings lists n J X mid cells 5) →
-                    DerivedAs Fact J X Y Z mid h.S (apply_on h.S i h.xs (bindings (made J X mid) map 0) (made J X mid)) alone hyps footing v) →
-                    DerivedAs Fact I W Y Z m g.S form_all alone hyps footing v
-                form_answers Y Z hyps footing v u = derived_on (on_ok _ on_list form_read.went) Y Z g.S hyps footing v (u form_given)
+                pub form_answers : (Y Z : List ℕ) (new : Mark) (v : Result Derived Question) → ((h : FactForm K facts footings lists n J X mid cells 5) →
+                    DerivedBy Fact J X Y Z mid new h.S (apply_on h.S i h.xs (bindings (made J X mid) map 0) (made J X mid)) alone v) →
+                    DerivedBy Fact I W Y Z m new g.S form_all alone v
+                form_answers Y Z new v u = derived_on (on_ok _ on_list form_read.went) Y Z new g.S v (u form_given)

@@ -2,23 +2,24 @@
 use mathlib.Core.Path.{◌≡◌, refl, sym, ap, ◌∙◌, subst}
 use mathlib.Core.Bool.{Bool, true, false, ◌||◌}
 use mathlib.Core.List.{List, [], ◌∷◌}
-use Prim.Native.Nat.{ℕ, zero, suc, ◌-◌, ◌<◌}
+use Prim.Native.Nat.{ℕ, suc, ◌+◌, ◌-◌, ◌<◌, ◌≤◌}
 use native.Mathlib.Omega.{arith}
+use native.Mathlib.Numerals.{add-one}
 use lib.Dec.{eqb}
 use lib.ListN.{length, get_or, replicate}
-use Rattle.rules.specs.Limits.{VARIABLEWORDS, TERMWORDS}
-use Rattle.rules.specs.Out.{Out, ok, refuse, then}
+use Rattle.rules.specs.Limits.{VARIABLES, VARIABLEWORDS, TERMWORDS}
+use Rattle.rules.specs.Out.{Out, ok, then}
 use Rattle.rules.specs.Find.{Set, has, union, minus, rising, least}
 use Rattle.rules.specs.Tree.{Tree, var, none, variables, variables_of}
 use Rattle.rules.specs.Store.{Made}
 use Rattle.rules.specs.State.{State, Fact, hyp_vars}
-use Rattle.rules.specs.Reference.{outside, scoped}
+use Rattle.rules.specs.Reference.{scoped}
 use Rattle.rules.specs.Apply.{Applied, discharge, value_vars}
 use Rattle.rules.specs.Laws.Theory.{All, empty as none_of, both}
 use Rattle.rules.specs.Laws.Rising.{has_all}
 use Rattle.terms.specs.declared.store.Mark.{Mark}
 use Rattle.terms.specs.Table.{made, tree}
-use Rattle.terms.specs.Sets.{holds}
+use Rattle.terms.specs.Sets.{holds, counted_from_1}
 use Rattle.terms.specs.Collect.{Seen}
 use Rattle.terms.specs.Theta.{bindings}
 use Rattle.terms.specs.On.{On, Stopped, on_start, on_is, on_ok, on_no, on_pure, on_stop, on_done}
@@ -28,12 +29,12 @@ use Rattle.terms.specs.Laws.Theta.{bindings_grown, theta_grown}
 use Rattle.state.specs.declared.sizes.Sizes.{Sizes}
 use Rattle.state.specs.Held.{Names}
 use Rattle.state.specs.Members.{Under}
-use Rattle.reading.specs.declared.apart.Out.{Out as Answer}
-use Rattle.reading.specs.declared.apart.Out.TheVariants.{Ok, No}
+use Rattle.std.specs.Prelude.{Option, Some as some, None as nothing}
 use Rattle.referring.specs.Recall.{fact_of, Recalls, Refers}
 use Rattle.referring.specs.Referral.{Gathered}
 use Rattle.referring.specs.Derived.{cell_vars, ReadableCells, DerivedRead, alone}
-use Rattle.derivation.specs.Applying.{RuleFact, rule_of, apply_to, RuleUse, Discharged, DischargedAs}
+use Rattle.derivation.specs.Applying.{RuleFact, rule_of, apply_to, RuleUse, Discharged}
+use Rattle.referring.specs.Laws.Scoped.{least_most, scoped_yes, scoped_not}
 use Rattle.referring.specs.Laws.Refers.{refers_ready, refers_went, refers_recalls}
 use Rattle.derivation.proofs.RuleFacts.{rule_assumed_lem, rule_derived_lem}
 use Rattle.derivation.proofs.Discharging.{discharge_keeps, under_union, premises_of}
@@ -51,22 +52,6 @@ cell_vars_lem M (c ∷ cs) a = λ i v. go v (eqb c 0) (ap (λ (s : Set). s v) (c
         (value_vars (elim b [ true ↦ bindings M cs (suc a) | false ↦ record { variable = a; value = get_or M (c - 1) (var 0) } ∷ bindings M cs (suc a) ]) v)
     go v true e = e
     go v false e = ap (λ (b : Bool). variables (get_or M (c - 1) (var 0)) v || b) e
-
--- Question 39 ------------------------------------------------------------------------------------------------------------------------------
-
-module _ (S : State) (used : Set) (t : Tree) (hs : List ℕ) (M : Made) {w : ℕ}
-    (e : w ≡ least (length S.vars) (minus used (union (variables t) (hyp_vars S.facts hs)))) where
-  scoped_none : w ≡ 0 → scoped S used t hs M ≡ ok tt M
-  unfolding scoped outside
-  scoped_none z = ap (λ (k : ℕ). outside k M) (sym e ∙ z)
-
-  scoped_some : (w ≡ 0 → ⊥) → scoped S used t hs M ≡ refuse 39 w M
-  unfolding scoped outside
-  scoped_some z = ap (λ (k : ℕ). outside k M) (sym e) ∙ go w z
-    where
-      go : (k : ℕ) → (k ≡ 0 → ⊥) → outside k M ≡ refuse 39 k M
-      go zero n = absurd (n refl)
-      go (suc k) n = refl
 
 -- What a rule rests on ---------------------------------------------------------------------------------------------------------------------
 
@@ -96,18 +81,16 @@ module _ {K : Names} {facts footings lists : List ℕ} {n : Sizes} {I W : List �
   abbrev to_all : Out Made Fact
   to_all = apply_to g.S (bindings (made I W m) bound 0) (rule_of g.S i (fact_of g.S i)) g.xs (tree I W m j) (made I W m)
 
-  -- r: what `discharge` answers
-  module _ (J X hyps footing used : List ℕ) (r : Answer) (d : (h : RuleUse K facts footings lists n I W m i cells bound) →
-      DischargedAs I W J X m h.S (discharge h.S (bindings (made I W m) bound 0) h.xs (premises_of h.S i) (made I W m)) hyps footing used r) where
-    pub to_refused : {q e : ℕ} {new : Mark} → r ≡ No q e new → Stopped I W J X m to_all q e new
-    to_refused f =
-        on_no _ (on_start g.refers.reads.good)
-        (subst (λ (z : Answer). DischargedAs I W J X m g.S (discharge g.S (bindings (made I W m) bound 0) g.xs (premises_of g.S i) (made I W m)) hyps footing used z) f (d g))
+  -- what `discharge` answers
+  module _ (J X : List ℕ) {new : Mark} where
+    pub to_refused : {q e : ℕ} → ((h : RuleUse K facts footings lists n I W m i cells bound) →
+        Stopped I W J X m (discharge h.S (bindings (made I W m) bound 0) h.xs (premises_of h.S i) (made I W m)) q e new) → Stopped I W J X m to_all q e new
+    to_refused d = on_no _ (on_start g.refers.reads.good) (d g)
 
-    module _ {many : ℕ} {new : Mark} (f : r ≡ Ok many new) where
+    module _ {hyps footing used : List ℕ} (d : (h : RuleUse K facts footings lists n I W m i cells bound) →
+        Discharged I W J X m h.S (discharge h.S (bindings (made I W m) bound 0) h.xs (premises_of h.S i) (made I W m)) hyps footing used new) where
       to_done : Discharged I W J X m g.S (discharge g.S (bindings (made I W m) bound 0) g.xs (premises_of g.S i) (made I W m)) hyps footing used new
-      to_done =
-          subst (λ (z : Answer). DischargedAs I W J X m g.S (discharge g.S (bindings (made I W m) bound 0) g.xs (premises_of g.S i) (made I W m)) hyps footing used z) f (d g)
+      to_done = d g
 
       pub to_refers : Refers K facts footings lists n J X new g.S
       to_refers =
@@ -133,14 +116,14 @@ module _ {K : Names} {facts footings lists : List ℕ} {n : Sizes} {I W : List �
       to_there = grown_there to_done.went.grown j l
 
       -- the sets behind `rest_on` and `visit_cells`
-      module _ (hyps' used' : List ℕ) (a : holds hyps' ≡ union (has (rule_of g.S i (fact_of g.S i)).hyps) (holds hyps)) where
+      module _ (hyps' : List ℕ) (a : holds hyps' ≡ union (has (rule_of g.S i (fact_of g.S i)).hyps) (holds hyps)) where
         pub to_under : Under n.facts (holds hyps')
         to_under =
             under_union (has (rule_of g.S i (fact_of g.S i)).hyps) (holds hyps) (holds hyps') n.facts a
             (λ h e. has_all {P = λ k. k < n.facts} (rule_of g.S i (fact_of g.S i)).hyps h (rule_rests g.S i (fact_of g.S i) g.there) e)
             (λ h e. let z = to_done.earlier h e in omega (arith, to_refers.recorded.many))
 
-        module _ {seen' : Set} (v : Gathered J X new (cell_vars (made J X new) bound) (holds used) seen' (holds used')) where
+        module _ (used' : List ℕ) {seen' : Set} (v : Gathered J X new (cell_vars (made J X new) bound) (holds used) seen' (holds used')) where
           used_is : holds used' ≡ union (variables_of to_done.refs.judgments) (value_vars (bindings (made I W m) bound 0))
           used_is =
               v.set ∙ ap (λ (s : Set). union s (cell_vars (made J X new) bound)) to_done.vars
@@ -156,16 +139,25 @@ module _ {K : Names} {facts footings lists : List ℕ} {n : Sizes} {I W : List �
               (λ k. closed g.S (sym used_is k) (sym (grown_tree to_done.went.grown j l) k) (sym hyps_is k) (sym to_done.uses k) (made J X new))
 
           -- w: what `outside` answers
-          module _ {w : ℕ} (o : w ≡ least (length g.S.vars) (minus (holds used')
+          module _ {w : Option ℕ} (o : counted_from_1 w ≡ least (length g.S.vars) (minus (holds used')
               (union (variables (tree J X new j)) (hyp_vars g.S.facts (rising (length g.S.facts) (holds hyps')))))) where
-            pub to_outside : (w ≡ 0 → ⊥) → Stopped I W J X m to_all 39 w new
-            to_outside z = on_stop _ on_closed (scoped_some g.S (holds used') (tree J X new j) (rising (length g.S.facts) (holds hyps')) (made J X new) o z)
+            pub to_fits : {v : ℕ} → w ≡ some v → v + 1 ≤ VARIABLES
+            to_fits {v} z =
+                let y : v + 1 ≡ counted_from_1 w = add-one v ∙ ap counted_from_1 (sym z) in
+                let l = least_most (length g.S.vars) (minus (holds used') (union (variables (tree J X new j)) (hyp_vars g.S.facts (rising (length g.S.facts) (holds hyps'))))) in
+                omega (arith, y, o, l, to_recalls.many, to_recalls.recorded.rows.row7)
 
-            pub to_fact : w ≡ 0 → DerivedRead Fact I W J X m g.S to_all alone hyps' footing j 0 new
+            pub to_outside : {v : ℕ} → w ≡ some v → Stopped I W J X m to_all 39 (v + 1) new
+            to_outside {v} z =
+                let y : v + 1 ≡ counted_from_1 w = add-one v ∙ ap counted_from_1 (sym z) in
+                on_stop _ on_closed (scoped_not g.S (holds used') (tree J X new j) (rising (length g.S.facts) (holds hyps')) (made J X new) (y ∙ o) (λ e. omega arith))
+
+            pub to_fact : w ≡ nothing → DerivedRead Fact I W J X m g.S to_all alone hyps' footing j 0 new
             to_fact z =
                 record {
                   went = on_done
-                      (on_pure _ on_closed (scoped_none g.S (holds used') (tree J X new j) (rising (length g.S.facts) (holds hyps')) (made J X new) o z));
+                      (on_pure _ on_closed
+                      (scoped_yes g.S (holds used') (tree J X new j) (rising (length g.S.facts) (holds hyps')) (made J X new) o (ap counted_from_1 z)));
                   there = to_there;
                   earlier = λ h e. let y = to_under h e in omega (arith, to_refers.recorded.many);
                   known = to_done.known;

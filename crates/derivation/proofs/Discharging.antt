@@ -7,7 +7,7 @@ use mathlib.Core.List.{List}
 use Prim.Native.Nat.{ℕ, suc, ◌+◌, ◌<◌}
 use native.Mathlib.Omega.{arith}
 use lib.ListN.{length, replicate, length-replicate}
-use Rattle.rules.specs.Limits.{VARIABLES, TERMS, VARIABLEWORDS, FACTWORDS, RULEWORDS, TERMWORDS}
+use Rattle.rules.specs.Limits.{VARIABLEWORDS, FACTWORDS, RULEWORDS, TERMWORDS}
 use Rattle.rules.specs.Out.{Out, ok, refuse, then, ask}
 use Rattle.rules.specs.Find.{Set, empty, union}
 use Rattle.rules.specs.Sexp.{Sexp, Sexps, nil, cons, count}
@@ -41,7 +41,6 @@ use Rattle.state.specs.Held.{Names}
 use Rattle.state.specs.Members.{Under}
 use Rattle.referring.specs.Recall.{fact_of, Refers}
 use Rattle.referring.specs.Referral.{rests_on}
-use Rattle.referring.specs.Derived.{Blank}
 use Rattle.derivation.specs.Applying.{rule_of, premise_numbers, met_by, RuleUse}
 use Rattle.derivation.proofs.RulePremises.{drop_trees, premise_first}
 
@@ -113,15 +112,6 @@ rests_all S i false a = none_of
 abbrev pub premises_of : State → ℕ → Trees
 premises_of S i = (rule_of S i (fact_of S i)).premises
 
--- scratch that is zero, and sets wide enough
-pub record Clean (map memo hyps footing used seen : List ℕ) : Type 0 where
-  pub map_zero : map ≡ replicate VARIABLES 0
-  pub memo_zero : memo ≡ replicate TERMS 0
-  pub hyps_long : length hyps ≡ FACTWORDS
-  pub footing_long : length footing ≡ RULEWORDS
-  pub used_long : length used ≡ VARIABLEWORDS
-  pub seen_long : length seen ≡ TERMWORDS
-
 -- k premises are met, and zs are left in the cells from a place on; whole: the answer of all from that of these
 pub record Left (K : Names) (facts footings lists : List ℕ) (n : Sizes) (I W : List ℕ) (old : Mark) (i : ℕ) (cells bound : List ℕ) (S : State) (xs : Sexps) (J X : List ℕ) (now : Mark)
     (hyps footing used seen : List ℕ) (k at : ℕ) : Type 0 where
@@ -141,64 +131,33 @@ pub record Left (K : Names) (facts footings lists : List ℕ) (n : Sizes) (I W :
   pub known : Under (length S.theory.rules) (holds footing)
   pub visits : Seen J X now (holds seen) (holds used)
 
--- of whatever state and items the tables and cells stand for
-pub record Discharges (K : Names) (facts footings lists : List ℕ) (n : Sizes) (I W : List ℕ) (old : Mark) (i : ℕ) (cells bound J X : List ℕ) (now : Mark)
-    (map memo hyps footing used seen : List ℕ) (k at : ℕ) : Type 0 where
-  pub clean : Clean map memo hyps footing used seen
-  pub left : (g : RuleUse K facts footings lists n I W old i cells bound) →
-      Left K facts footings lists n I W old i cells bound g.S g.xs J X now hyps footing used seen k at
-
-zeros_are : (k : ℕ) (s : List ℕ) → s ≡ replicate k 0 → s ≡ replicate (length s) 0
-zeros_are k s e = e ∙ ap (λ (j : ℕ). replicate j 0) (sym (ap length e ∙ length-replicate {A = ℕ} k 0))
-
-module _ {map memo hyps footing : List ℕ} (b : Blank map memo hyps footing) where
-  pub blank_hyps : length hyps ≡ FACTWORDS
-  blank_hyps = ap length b.no_hyps ∙ length-replicate {A = ℕ} FACTWORDS 0
-
-  pub blank_footing : length footing ≡ RULEWORDS
-  blank_footing = ap length b.no_footing ∙ length-replicate {A = ℕ} RULEWORDS 0
-
 pub blank_long : (k : ℕ) (s : List ℕ) → s ≡ replicate k 0 → length s ≡ k
 blank_long k s e = ap length e ∙ length-replicate {A = ℕ} k 0
 
-module _ {map memo hyps footing used seen : List ℕ} (b : Blank map memo hyps footing) (u : used ≡ replicate VARIABLEWORDS 0) (s : seen ≡ replicate TERMWORDS 0) where
-  pub clean_start : Clean map memo hyps footing used seen
-  clean_start =
+-- nothing is met yet
+module _ {K : Names} {facts footings lists : List ℕ} {n : Sizes} {I W : List ℕ} {m : Mark} {i : ℕ} {cells bound used : List ℕ} (u : used ≡ replicate VARIABLEWORDS 0)
+    (g : RuleUse K facts footings lists n I W m i cells bound) where
+  pub left_start : Left K facts footings lists n I W m i cells bound g.S g.xs I W m (replicate FACTWORDS 0) (replicate RULEWORDS 0) used (replicate TERMWORDS 0) 0 0
+  unfolding variables
+  left_start =
       record {
-        map_zero = b.map_zero;
-        memo_zero = b.memo_zero;
-        hyps_long = blank_hyps b;
-        footing_long = blank_footing b;
-        used_long = ap length u ∙ length-replicate {A = ℕ} VARIABLEWORDS 0;
-        seen_long = ap length s ∙ length-replicate {A = ℕ} TERMWORDS 0;
+        zs = g.xs;
+        walk = walk_start g.holds;
+        refers = g.refers;
+        there = g.there;
+        theta = g.theta;
+        many = omega (arith, g.many);
+        whole = λ rs. rs;
+        on = on_is (on_start g.refers.reads.good) (sym (then_pure _)
+            ∙ ap (λ (ps : Trees). then (discharge g.S (bindings (made I W m) bound 0) g.xs ps (made I W m)) (λ rs U. ok rs U))
+            (sym (premise_first (premises_of g.S i))));
+        rests = λ rs. ap (λ (a : Set). union a rs.hyps) (sym (empty_zero FACTWORDS _ refl));
+        uses = λ rs. ap (λ (a : Set). union a rs.footing) (sym (empty_zero RULEWORDS _ refl));
+        vars = λ rs. ap (λ (a : Set). union a (variables_of rs.judgments)) (sym (empty_zero VARIABLEWORDS used u));
+        earlier = under_zero FACTWORDS _ _ refl;
+        known = under_zero RULEWORDS _ _ refl;
+        visits = seen_none I W m (holds used) (replicate TERMWORDS 0) refl;
       }
-
-  module _ {K : Names} {facts footings lists : List ℕ} {n : Sizes} {I W : List ℕ} {m : Mark} {i : ℕ} {cells bound : List ℕ} where
-    left_start : (g : RuleUse K facts footings lists n I W m i cells bound) →
-        Left K facts footings lists n I W m i cells bound g.S g.xs I W m hyps footing used seen 0 0
-    unfolding variables
-    left_start g =
-        record {
-          zs = g.xs;
-          walk = walk_start g.holds;
-          refers = g.refers;
-          there = g.there;
-          theta = g.theta;
-          many = omega (arith, g.many);
-          whole = λ rs. rs;
-          on = on_is (on_start g.refers.reads.good) (sym (then_pure _)
-              ∙ ap (λ (ps : Trees). then (discharge g.S (bindings (made I W m) bound 0) g.xs ps (made I W m)) (λ rs U. ok rs U))
-              (sym (premise_first (premises_of g.S i))));
-          rests = λ rs. ap (λ (a : Set). union a rs.hyps) (sym (empty_zero FACTWORDS hyps b.no_hyps));
-          uses = λ rs. ap (λ (a : Set). union a rs.footing) (sym (empty_zero RULEWORDS footing b.no_footing));
-          vars = λ rs. ap (λ (a : Set). union a (variables_of rs.judgments)) (sym (empty_zero VARIABLEWORDS used u));
-          earlier = under_zero FACTWORDS _ hyps b.no_hyps;
-          known = under_zero RULEWORDS _ footing b.no_footing;
-          visits = seen_none I W m (holds used) seen (zeros_are TERMWORDS seen s);
-        }
-
-    pub discharge_begins : Discharges K facts footings lists n I W m i cells bound I W m map memo hyps footing used seen 0 0
-    discharge_begins = record { clean = clean_start; left = left_start }
 
 pub count_more : (x : Sexp) (xs zs : Sexps) → zs ≡ cons x xs → count zs ≡ suc (count xs)
 unfolding count

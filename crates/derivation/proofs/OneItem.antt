@@ -1,13 +1,15 @@
 -- One item of a step, a binding or the conclusion: what it is for each answer, and what its parts are given. Assumes nothing.
 use mathlib.Core.Path.{◌≡◌, refl, sym, ap, ◌∙◌, subst}
-use mathlib.Core.Bool.{Bool, true, false, ◌&&◌}
+use mathlib.Core.Bool.{Bool, true, false, ◌&&◌, true≢false}
 use mathlib.Core.List.{List}
-use Rattle.std.specs.Prelude.{Option, Some as some, None as nothing}
-use Prim.Native.Nat.{ℕ, ◌+◌, ◌-◌, ◌^◌, ◌<◌, ◌≤◌}
+use Rattle.std.specs.Prelude.{Option, Some as some, None as nothing, Result}
+use Prim.Native.Nat.{ℕ, suc, ◌+◌, ◌-◌, ◌^◌, ◌<◌, ◌≤◌}
 use native.Mathlib.Omega.{arith}
+use native.Mathlib.Numerals.{add-one}
 use lib.Dec.{eqb}
 use lib.ListN.{length, get_or, set, take, drop}
 use borrow.Author.Tests.{eq-eqb, ne_eqb, eqb-true}
+use Rattle.std.specs.Option.{is_some}
 use Rattle.rules.specs.Limits.{RULEVARS}
 use Rattle.rules.specs.Out.{Out, ok, then, Act, ask, found as find}
 use Rattle.rules.specs.Text.{same}
@@ -36,17 +38,17 @@ use Rattle.kernel.specs.Readers.{KnownRule, KnownVar, NamedVars}
 use Rattle.kernel.specs.Entries.{known_rule, known_var, named_vars}
 use Rattle.terms.specs.declared.store.Mark.{Mark}
 use Rattle.terms.specs.Table.{made}
+use Rattle.terms.specs.Sets.{counted_from_1}
 use Rattle.terms.specs.On.{On, Stopped, on_start, on_is, on_ok, on_no, on_pure, on_stop, on_done, on_ask_yes, on_ask_no, on_found_some, on_found_none}
 use Rattle.state.specs.declared.sizes.Sizes.{Sizes}
 use Rattle.state.specs.Held.{Names}
 use Rattle.reading.specs.Given.{ReadsItem}
 use Rattle.reading.specs.Answers.{TermRead}
-use Rattle.reading.specs.Apart.{ReadAs}
-use Rattle.referring.specs.Derived.{ItemsRead, ItemsAs}
-use Rattle.derivation.specs.ItemsOf.{ItemsHeld, RuleItem}
+use Rattle.referring.specs.Derived.{ItemsRead}
+use Rattle.derivation.specs.ItemsOf.{ItemsHeld, RuleItem, ItemBy}
 use Rattle.derivation.specs.Laws.ItemsOf.{with_bound, held_grown, held_new, held_unstated, held_bound, held_stated, items_read}
-use Rattle.reading.specs.declared.apart.Out.{Out as Answer}
-use Rattle.reading.specs.declared.apart.Out.TheVariants.{Ok, No}
+use Rattle.questions.specs.declared.Question.{Question}
+use Rattle.derivation.specs.declared.items.Said.{Said}
 
 -- Whether it is a binding ------------------------------------------------------------------------------------------------------------
 
@@ -140,25 +142,19 @@ module _ {K : Names} {rules rulevars : List ℕ} {n : Sizes} {I W : List ℕ} {m
             on_found_some (bind_from g.S (rule g.S.theory r) g.x g.it) 36 on_bind
             (found_at (looked (rule g.S.theory r) (letters (drop start K.text))) o v answer f)
 
-        -- a is the answer for the term of sort s
+        -- the term of sort s
         module _ {s : ℕ} (q : (T : Theory) (text rows patterns : List ℕ) (count words : ℕ) → RulesHeld text rows rulevars patterns count words T.rules → r < count →
-            v < length (rule T r).vars → s ≡ (get_or (rule T r).vars v no_rule_var).sort) (J X : List ℕ) (a : Answer)
-            (t : (k : ReadsItem K n I W m cells) → ReadAs I W J X m (term_of k.S k.x s (made I W m)) a) where
+            v < length (rule T r).vars → s ≡ (get_or (rule T r).vars v no_rule_var).sort) where
           sorted : s ≡ (get_or (rule g.S.theory r).vars v no_rule_var).sort
           sorted = q g.S.theory K.theory rules g.patterns n.rules g.ruled.words g.ruled.held g.known bind_inside
 
-          answered : (b : Answer) → a ≡ b → ReadAs I W J X m (term_of g.S g.x (get_or (rule g.S.theory r).vars v no_rule_var).sort (made I W m)) b
-          answered b e =
-              subst (λ (z : Answer). ReadAs I W J X m (term_of g.S g.x (get_or (rule g.S.theory r).vars v no_rule_var).sort (made I W m)) z) e
-              (subst (λ (k : ℕ). ReadAs I W J X m (term_of g.S g.x k (made I W m)) a) sorted (t bind_given))
-
-          pub bind_refused : {k d : ℕ} {new : Mark} → a ≡ No k d new →
+          pub bind_refused : {J X : List ℕ} {new : Mark} {k d : ℕ} → ((h : ReadsItem K n I W m cells) → Stopped I W J X m (term_of h.S h.x s (made I W m)) k d new) →
               Stopped I W J X m (bind_item g.S (rule g.S.theory r) (letters (drop start K.text)) g.x g.it (made I W m)) k d new
-          bind_refused {k} {d} {new} e = on_no _ on_found (answered (No k d new) e)
+          bind_refused {J} {X} {new} {k} {d} t = on_no _ on_found (subst (λ (z : ℕ). Stopped I W J X m (term_of g.S g.x z (made I W m)) k d new) sorted (t bind_given))
 
-          module _ {id : ℕ} {new : Mark} (e : a ≡ Ok id new) where
+          module _ {J X : List ℕ} {new : Mark} {id : ℕ} (t : (h : ReadsItem K n I W m cells) → TermRead I W J X m (term_of h.S h.x s (made I W m)) id new) where
             read : TermRead I W J X m (term_of g.S g.x (get_or (rule g.S.theory r).vars v no_rule_var).sort (made I W m)) id new
-            read = answered (Ok id new) e
+            read = subst (λ (z : ℕ). TermRead I W J X m (term_of g.S g.x z (made I W m)) id new) sorted (t bind_given)
 
             pub bind_fits : id + 1 < 2 ^ 32
             bind_fits = omega (arith, read.there, read.went.grown.good.room)
@@ -175,38 +171,36 @@ module _ {K : Names} {rules rulevars : List ℕ} {n : Sizes} {I W : List ℕ} {m
                 (on_done (on_ask_yes _ 36 (on_ok _ on_found read.went) (held_new g.so_far v ∙ eq-eqb (get_or bound v 0) 0 z)))
                 (held_bound (held_grown g.so_far read.went.grown) id read.there v small z)
 
+-- what is stated, by its number with 1 added
+pub some_stated : (o : Option ℕ) {b : Bool} → b ≡ is_some o → b ≡ true → counted_from_1 o ≡ 0 → ⊥
+some_stated nothing e t z = true≢false (sym t ∙ e)
+some_stated (some k) e t z = omega (arith, z)
+
+pub none_stated : (o : Option ℕ) {b : Bool} → b ≡ is_some o → b ≡ false → counted_from_1 o ≡ 0
+none_stated nothing e t = refl
+none_stated (some k) e t = absurd (true≢false (sym e ∙ t))
+
 -- The conclusion ---------------------------------------------------------------------------------------------------------------------
 
-module _ {K : Names} {n : Sizes} {I W : List ℕ} {m : Mark} {cells : List ℕ} (g : ReadsItem K n I W m cells) (J X : List ℕ) (a : Answer)
-    (t : (k : ReadsItem K n I W m cells) → ReadAs I W J X m (judgment k.S k.x (made I W m)) a) where
-  judged : (b : Answer) → a ≡ b → ReadAs I W J X m (judgment g.S g.x (made I W m)) b
-  judged b e = subst (λ (z : Answer). ReadAs I W J X m (judgment g.S g.x (made I W m)) z) e (t g)
+module _ {K : Names} {n : Sizes} {I W : List ℕ} {m : Mark} {cells : List ℕ} (g : ReadsItem K n I W m cells) (it : Items) {bound : List ℕ} {stated : ℕ}
+    (k : ItemsHeld I W m bound stated it) {J X : List ℕ} {new : Mark} where
+  pub state_refused : {q d : ℕ} → ((h : ReadsItem K n I W m cells) → Stopped I W J X m (judgment h.S h.x (made I W m)) q d new) →
+      Stopped I W J X m (state_item g.S g.x it (made I W m)) q d new
+  unfolding state_item
+  state_refused t = on_no _ (on_start g.reads.good) (t g)
 
-  pub state_fits : {id : ℕ} {new : Mark} → a ≡ Ok id new → id + 1 < 2 ^ 32
-  state_fits {id} {new} e =
-      let d : TermRead I W J X m (judgment g.S g.x (made I W m)) id new = judged (Ok id new) e in
-      omega (arith, d.there, d.went.grown.good.room)
-
-  module _ (it : Items) {bound : List ℕ} {stated : ℕ} (k : ItemsHeld I W m bound stated it) where
-    pub state_refused : {q d : ℕ} {new : Mark} → a ≡ No q d new → Stopped I W J X m (state_item g.S g.x it (made I W m)) q d new
+  module _ {id : ℕ} (t : (h : ReadsItem K n I W m cells) → TermRead I W J X m (judgment h.S h.x (made I W m)) id new) where
+    -- stated already
+    pub state_twice : (stated ≡ 0 → ⊥) → Stopped I W J X m (state_item g.S g.x it (made I W m)) 37 0 new
     unfolding state_item
-    state_refused {q} {d} {new} e = on_no _ (on_start g.reads.good) (judged (No q d new) e)
+    state_twice z = on_ask_no _ 37 (on_ok _ (on_start g.reads.good) (t g).went) (held_unstated k ∙ ne_eqb stated 0 z)
 
-    module _ {id : ℕ} {new : Mark} (e : a ≡ Ok id new) where
-      told : TermRead I W J X m (judgment g.S g.x (made I W m)) id new
-      told = judged (Ok id new) e
-
-      -- stated already
-      pub state_twice : (stated ≡ 0 → ⊥) → Stopped I W J X m (state_item g.S g.x it (made I W m)) 37 0 new
-      unfolding state_item
-      state_twice z = on_ask_no _ 37 (on_ok _ (on_start g.reads.good) told.went) (held_unstated k ∙ ne_eqb stated 0 z)
-
-      pub state_done : stated ≡ 0 → ItemsRead I W J X m (state_item g.S g.x it (made I W m)) bound (id + 1) new
-      unfolding state_item
-      state_done z =
-          items_read
-          (on_done (on_ask_yes _ 37 (on_ok _ (on_start g.reads.good) told.went) (held_unstated k ∙ eq-eqb stated 0 z)))
-          (held_stated (held_grown k told.went.grown) id told.there)
+    pub state_done : stated ≡ 0 → ItemsRead I W J X m (state_item g.S g.x it (made I W m)) bound (suc id) new
+    unfolding state_item
+    state_done z =
+        subst (λ (j : ℕ). ItemsRead I W J X m (state_item g.S g.x it (made I W m)) bound j new) (add-one id) (items_read
+        (on_done (on_ask_yes _ 37 (on_ok _ (on_start g.reads.good) (t g).went) (held_unstated k ∙ eq-eqb stated 0 z)))
+        (held_stated (held_grown k (t g).went.grown) id (t g).there))
 
 -- One or the other -------------------------------------------------------------------------------------------------------------------
 
@@ -319,11 +313,11 @@ module _ {K : Names} {rules rulevars : List ℕ} {n : Sizes} {I W : List ℕ} {m
                   (ap (λ (zs : Sexps). item (cons (atom p (letters (drop p K.text))) zs) 1) one_more_lem.is
                   ∙ second_item (atom p (letters (drop p K.text))) one_more_lem.first one_more_lem.others)
 
-              pub item_bound : (J X B : List ℕ) (o : Answer) →
+              pub item_bound : (J X : List ℕ) (new : Mark) (before said : Said) (o : Result (Unit {0}) Question) →
                   ((q : RuleItem K rules rulevars n I W m r (take (length (take (b - a) (drop a cells)) - 1) (drop 1 (take (b - a) (drop a cells)))) bound stated) →
-                  ItemsAs I W J X m (bind_item q.S (rule q.S.theory r) (letters (drop p K.text)) q.x q.it (made I W m)) B o) →
-                  ItemsAs I W J X m (read_item g.S (rule g.S.theory r) g.x g.it (made I W m)) B o
-              item_bound J X B o q = subst (λ (Q : Out Made Items). ItemsAs I W J X m Q B o) (sym binding_is) (q item_given)
+                  ItemBy I W J X m new (bind_item q.S (rule q.S.theory r) (letters (drop p K.text)) q.x q.it (made I W m)) before said o) →
+                  ItemBy I W J X m new (read_item g.S (rule g.S.theory r) g.x g.it (made I W m)) before said o
+              item_bound J X new before said o q = subst (λ (Q : Out Made Items). ItemBy I W J X m new Q before said o) (sym binding_is) (q item_given)
 
             -- the conclusion
             module _ (no : y ≡ false) where
@@ -333,8 +327,8 @@ module _ {K : Names} {rules rulevars : List ℕ} {n : Sizes} {I W : List ℕ} {m
               abbrev concluding : ReadsItem K n I W m cells
               concluding = record { S = g.S; x = g.x; ys = g.ys; reads = g.reads; holds = g.holds }
 
-              pub item_stated : (J X : List ℕ) (o : Answer) →
-                  ((q : ReadsItem K n I W m cells) (it : Items) (B : List ℕ) → ItemsHeld I W m B stated it → ItemsAs I W J X m (state_item q.S q.x it (made I W m)) B o) →
-                  ItemsAs I W J X m (read_item g.S (rule g.S.theory r) g.x g.it (made I W m)) bound o
-              item_stated J X o q =
-                  subst (λ (Q : Out Made Items). ItemsAs I W J X m Q bound o) (sym conclusion_is) (q concluding g.it bound g.so_far)
+              pub item_stated : (J X : List ℕ) (new : Mark) (before said : Said) (o : Result (Unit {0}) Question) →
+                  ((q : ReadsItem K n I W m cells) (it : Items) → ItemsHeld I W m bound stated it → ItemBy I W J X m new (state_item q.S q.x it (made I W m)) before said o) →
+                  ItemBy I W J X m new (read_item g.S (rule g.S.theory r) g.x g.it (made I W m)) before said o
+              item_stated J X new before said o q =
+                  subst (λ (Q : Out Made Items). ItemBy I W J X m new Q before said o) (sym conclusion_is) (q concluding g.it g.so_far)

@@ -36,13 +36,11 @@ use Rattle.state.specs.declared.sizes.Sizes.{Sizes}
 use Rattle.state.specs.Held.{Names, records}
 use Rattle.state.specs.Numbered.{AllNumbered}
 use Rattle.state.specs.FactLaws.{FactRow, fact_row_lem}
-use Rattle.referring.specs.declared.references.Referred.{Referred}
-use Rattle.referring.specs.declared.references.Referred.TheVariants as referred
 use Rattle.referring.specs.Recall.{fact_of, RecallsFact, Refers, RefersItem}
-use Rattle.referring.specs.Referral.{rests_on, ref_of, RefRead, ReferredAs}
+use Rattle.referring.specs.Referral.{rests_on, ref_of, RefRead}
 use Rattle.derivation.specs.Applying.{RuleFact, premise_numbers, met_by, Discharged}
 use Rattle.referring.specs.Laws.Refers.{refers_ready, refers_went}
-use Rattle.reading.specs.Laws.Walks.{walk_next, walk_on}
+use Rattle.reading.specs.Laws.Walks.{walk_next}
 use Rattle.derivation.proofs.RulePremises.{premises_numbered, drop_trees, premise_below, premise_next}
 use Rattle.derivation.proofs.Discharging.{and_others, discharge_more, met_keeps, under_union, union_more, rests_all, premises_of, Left, count_more}
 
@@ -75,9 +73,6 @@ module _ {K : Names} {facts footings lists : List ℕ} {n : Sizes} {I W : List �
 
     pub one_walk : Walk K.text cells at (cons one.first one.others)
     one_walk = subst (λ (z : Sexps). Walk K.text cells at z) one.is l.walk
-
-    pub left_less : {next : ℕ} → next ≡ behind at (item_at cells at) → (at < next) × (next ≤ length cells)
-    left_less f = (walk_on one_walk f, (walk_next one_walk f).here.high)
 
     pub left_inside : k < length (premise_numbers facts lists i)
     left_inside = omega (arith, l.many, count_more one.first one.others l.zs one.is)
@@ -121,19 +116,17 @@ module _ {K : Names} {facts footings lists : List ℕ} {n : Sizes} {I W : List �
       on_one : On I W old left_all J X now (then (met_by S (bindings (made J X now) bound 0) (tree J X now p) one.first (made J X now)) others)
       on_one = on_is l.on one_is
 
-      -- o: what `met` answers
-      module _ (Y Z : List ℕ) (o : Referred)
-          (q : (h : RefersItem K facts n J X now (take (length cells - at) (drop at cells))) →
-          ReferredAs J X Y Z now h.S (met_by h.S (bindings (made J X now) bound 0) (tree J X now p) h.x (made J X now)) o) where
-        pub left_refused : {a d : ℕ} {new : Mark} → o ≡ referred.No a d new → Stopped I W Y Z old left_all a d new
-        left_refused f =
-            on_no _ on_one
-            (subst (λ (z : Referred). ReferredAs J X Y Z now S (met_by S (bindings (made J X now) bound 0) (tree J X now p) one.first (made J X now)) z) f (q left_given))
+      -- what `met` answers
+      module _ (Y Z : List ℕ) {new : Mark} where
+        pub left_refused : {a d : ℕ} → ((h : RefersItem K facts n J X now (take (length cells - at) (drop at cells))) →
+            Stopped J X Y Z now (met_by h.S (bindings (made J X now) bound 0) (tree J X now p) h.x (made J X now)) a d new) →
+            Stopped I W Y Z old left_all a d new
+        left_refused q = on_no _ on_one (q left_given)
 
-        module _ {j f : ℕ} {bare : Bool} {new : Mark} (w : o ≡ referred.To j f bare new) where
+        module _ {j f : ℕ} {bare : Bool} (q : (h : RefersItem K facts n J X now (take (length cells - at) (drop at cells))) →
+            RefRead J X Y Z now h.S (met_by h.S (bindings (made J X now) bound 0) (tree J X now p) h.x (made J X now)) j f bare new) where
           left_read : RefRead J X Y Z now S (met_by S (bindings (made J X now) bound 0) (tree J X now p) one.first (made J X now)) j f bare new
-          left_read =
-              subst (λ (z : Referred). ReferredAs J X Y Z now S (met_by S (bindings (made J X now) bound 0) (tree J X now p) one.first (made J X now)) z) w (q left_given)
+          left_read = q left_given
 
           pub left_refers : Refers K facts footings lists n Y Z new S
           left_refers =

@@ -1,7 +1,7 @@
 -- Fact i as a rule, from its row in the tables: whether it can be used, its premises by their numbers, and what its use rests on. Assumes nothing.
 use mathlib.Core.Path.{◌≡◌, refl, sym, ap, ◌∙◌, subst}
 use mathlib.Core.Bool.{Bool, true, false, not}
-use Rattle.std.specs.Prelude.{Option, Some as some, None as nothing}
+use Rattle.std.specs.Prelude.{Option, Some as some, None as nothing, Ok, Err}
 use mathlib.Core.List.{List, [], ◌∷◌}
 use Prim.Native.Nat.{ℕ, suc, ◌+◌, ◌*◌, ◌<◌, ◌≤◌}
 use native.Mathlib.Omega.{arith}
@@ -30,6 +30,7 @@ use Rattle.state.specs.Entries.{part}
 use Rattle.state.specs.FactLaws.{FactRow, fact_row_lem, lists_long}
 use Rattle.referring.specs.Recall.{fact_of}
 use Rattle.referring.specs.Laws.Refers.{fact_asks}
+use Rattle.questions.specs.declared.Question.TheVariants.{Binding as OfBinding, Hypothesis as OfHypothesis}
 use Rattle.derivation.specs.Applying.{RuleFact, rule_of, ApplicableAs}
 
 module _ {facts lists : List ℕ} {i : ℕ} (g : RuleFact facts lists i) where
@@ -252,21 +253,21 @@ module _ (S : State) (bs : List Binding) (i : ℕ) (f : Fact) where
         | false ↦ by_hyps (all (plain_at S.facts) f.hyps)
       ]) M) e
 
-  pub usable_assumed : f.assumed ≡ true → true ≡ all (among f.general) bs → ApplicableAs S bs i f 0
+  pub usable_assumed : f.assumed ≡ true → true ≡ all (among f.general) bs → ApplicableAs S bs i f (Ok tt)
   unfolding then
   usable_assumed e h M =
       applied_assumed M e ∙ ap (λ (b : Bool). by_bindings b M) (sym h) ∙ ap (answered M) (sym (rule_assumed_lem e))
 
-  pub refused_assumed : f.assumed ≡ true → false ≡ all (among f.general) bs → ApplicableAs S bs i f 36
+  pub refused_assumed : f.assumed ≡ true → false ≡ all (among f.general) bs → ApplicableAs S bs i f (Err OfBinding)
   unfolding then
   refused_assumed e h M = applied_assumed M e ∙ ap (λ (b : Bool). by_bindings b M) (sym h)
 
-  pub usable_derived : f.assumed ≡ false → true ≡ all (plain_at S.facts) f.hyps → ApplicableAs S bs i f 0
+  pub usable_derived : f.assumed ≡ false → true ≡ all (plain_at S.facts) f.hyps → ApplicableAs S bs i f (Ok tt)
   unfolding then
   usable_derived e h M =
       applied_derived M e ∙ ap (λ (b : Bool). by_hyps b M) (sym h) ∙ ap (answered M) (sym (rule_derived_lem e))
 
-  pub refused_derived : f.assumed ≡ false → false ≡ all (plain_at S.facts) f.hyps → ApplicableAs S bs i f 40
+  pub refused_derived : f.assumed ≡ false → false ≡ all (plain_at S.facts) f.hyps → ApplicableAs S bs i f (Err OfHypothesis)
   unfolding then
   refused_derived e h M = applied_derived M e ∙ ap (λ (b : Bool). by_hyps b M) (sym h)
 

@@ -7,7 +7,7 @@ use native.Mathlib.Omega.{arith}
 use lib.Dec.{eqb}
 use lib.ListN.{length, get_or, drop, length-take, length-drop}
 use lib.Seq.{drop-cons}
-use Rattle.rules.specs.Limits.{FACTS, ENTRIES}
+use Rattle.rules.specs.Limits.{FACTS}
 use Rattle.rules.specs.Find.{Set, has, union}
 use Rattle.rules.specs.Tree.{Tree, Trees, var, none, more, count_trees}
 use Rattle.rules.specs.Store.{Made}
@@ -31,7 +31,7 @@ use Rattle.state.specs.FactLaws.{FactRow, fact_row_lem}
 use Rattle.referring.specs.Recall.{fact_of}
 use Rattle.referring.specs.Laws.Refers.{fact_asks}
 use Rattle.derivation.specs.Applying.{RuleFact, rule_of, judgment_numbers, premise_numbers}
-use Rattle.derivation.proofs.RuleFacts.{rule_row_lem, rule_lists_lem, hyps_ends, premises_ends, rule_assumed_lem, rule_derived_lem, assumed_is}
+use Rattle.derivation.proofs.RuleFacts.{rule_row_lem, hyps_ends, premises_ends, rule_assumed_lem, rule_derived_lem, assumed_is}
 
 -- Their numbers ----------------------------------------------------------------------------------------------------------------------
 
@@ -201,11 +201,3 @@ module _ {facts lists : List ℕ} {i : ℕ} (g : RuleFact facts lists i) {b : Bo
   pub rests_nowhere : b ≡ false → (x : Set) → x ≡ union (has (rule_of g.S i (fact_of g.S i)).hyps) x
   unfolding has
   rests_nowhere t x = ap (λ (r : Applied). union (has r.hyps) x) (sym (rule_derived_lem g.S [] i (fact_of g.S i) (assumed_is g a t)))
-
--- they are few
-pub premise_few : {facts lists : List ℕ} {i : ℕ} → RuleFact facts lists i → length (premise_numbers facts lists i) ≤ ENTRIES
-premise_few {facts} {lists} {i} g = go (not (eqb (cell 6 facts i 1) 0)) refl
-  where
-    go : (b : Bool) → not (eqb (cell 6 facts i 1) 0) ≡ b → length (premise_numbers facts lists i) ≤ ENTRIES
-    go true e = omega (arith, own_count g refl {s = premises_span facts i} e refl, (premises_ends g).1, rule_lists_lem g)
-    go false e = omega (arith, rests_count g refl {s = hyps_span facts i} e refl, (hyps_ends g).1, rule_lists_lem g)

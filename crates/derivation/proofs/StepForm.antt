@@ -1,6 +1,6 @@
 -- The rule that a step names, and then the step by it. Assumes nothing.
 use mathlib.Core.Path.{◌≡◌, ap, ◌∙◌}
-use Rattle.std.specs.Prelude.{Some as some, None as nothing, Option}
+use Rattle.std.specs.Prelude.{Some as some, None as nothing, Option, Result, Ok, Err}
 use mathlib.Core.List.{List}
 use Prim.Native.Nat.{ℕ, ◌+◌, ◌-◌, ◌<◌, ◌≤◌}
 use native.Mathlib.Omega.{arith}
@@ -29,9 +29,9 @@ use Rattle.terms.specs.Table.{made}
 use Rattle.terms.specs.On.{On, Stopped, on_start, on_is, on_pure, on_stop, on_went, on_stopped, on_found_some, on_found_none}
 use Rattle.state.specs.declared.sizes.Sizes.{Sizes}
 use Rattle.state.specs.Held.{Names, rule_lists}
-use Rattle.referring.specs.declared.derived.Derived.{Derived}
-use Rattle.referring.specs.declared.derived.Derived.TheVariants as derived
-use Rattle.referring.specs.Derived.{RuleForm, DerivedAs, with_instances}
+use Rattle.questions.specs.declared.Question.{Question}
+use Rattle.referring.specs.declared.support.Derived.{Derived}
+use Rattle.referring.specs.Derived.{RuleForm, DerivedBy, with_instances}
 use Rattle.derivation.specs.Stepping.{PremisesOf, by_rule}
 use Rattle.derivation.proofs.StepIs.{step_is}
 use Rattle.derivation.proofs.StepRule.{by_most}
@@ -104,9 +104,7 @@ module _ {K : Names} {rules rulevars patterns facts footings lists : List ℕ} {
             on_third : On I W m whole I W m (by_rule g.S i g.xs (made I W m))
             on_third = on_found_some third 33 on_second is_found
 
-            pub step_answer : (J X hyps footing : List ℕ) (d : Derived) →
-                DerivedAs (Fact × ℕ) I W J X m g.S (by_rule g.S i g.xs (made I W m)) with_instances hyps footing d →
-                DerivedAs (Fact × ℕ) I W J X m g.S whole with_instances hyps footing d
-            step_answer J X hyps footing (derived.Ok j c new) t =
-                record { went = on_went on_third t.went; there = t.there; earlier = t.earlier; known = t.known }
-            step_answer J X hyps footing (derived.No k d new) t = on_stopped on_third t
+            pub step_answer : (J X : List ℕ) (new : Mark) (a : Result Derived Question) →
+                DerivedBy (Fact × ℕ) I W J X m new g.S (by_rule g.S i g.xs (made I W m)) with_instances a → DerivedBy (Fact × ℕ) I W J X m new g.S whole with_instances a
+            step_answer J X new (Ok d) t = record { went = on_went on_third t.went; there = t.there; earlier = t.earlier; known = t.known }
+            step_answer J X new (Err q) t = on_stopped on_third t

@@ -24,13 +24,11 @@ use Rattle.terms.specs.Laws.Seen.{seen_none}
 use Rattle.state.specs.declared.sizes.Sizes.{Sizes}
 use Rattle.state.specs.Held.{Names, rule_lists}
 use Rattle.state.specs.RuleWords.{conclusion_stands, premises_stand}
-use Rattle.reading.specs.declared.apart.Out.{Out as Answer}
-use Rattle.reading.specs.declared.apart.Out.TheVariants.{Ok, No}
-use Rattle.reading.specs.Apart.{ReadAs}
+use Rattle.reading.specs.Answers.{TermRead}
 use Rattle.referring.specs.Recall.{ReadableAll}
 use Rattle.referring.specs.Referral.{Gathered}
-use Rattle.referring.specs.Derived.{ReadableCells, RuleItems, ItemsRead, ItemsAs, cell_vars}
-use Rattle.derivation.specs.Stepping.{Concludes, Concludable, UsedAs, concluded, from_items}
+use Rattle.referring.specs.Derived.{ReadableCells, RuleItems, ItemsRead, cell_vars}
+use Rattle.derivation.specs.Stepping.{Concludes, Concludable, UsedRead, concluded, from_items}
 
 module _ {K : Names} {rules rulevars patterns : List ℕ} {n : Sizes} {I W : List ℕ} {m : Mark} {r : ℕ} {cells ids : List ℕ}
     (g : Concludes K (rule_lists K.theory rules rulevars patterns) n I W m r cells ids) where
@@ -84,87 +82,86 @@ module _ {K : Names} {rules rulevars patterns : List ℕ} {n : Sizes} {I W : Lis
   unfolding from_items
   on_first = on_start g.given.reads.good
 
-  module _ (J X bound : List ℕ) (a : Answer) (p : (h : RuleItems K (rule_lists K.theory rules rulevars patterns) n I W m r cells) →
-      ItemsAs I W J X m (read_items h.S (rule h.S.theory r) h.xs no_items (made I W m)) bound a) where
-    pub items_refused : {q d : ℕ} {new : Mark} → a ≡ No q d new → Stopped I W J X m answer q d new
-    items_refused {q} {d} {new} e =
-        let s : Stopped I W J X m reading q d new = subst (λ (z : Answer). ItemsAs I W J X m reading bound z) e (p g.given) in
-        on_no second on_first s
+  pub items_refused : {J X : List ℕ} {new : Mark} {q d : ℕ} → ((h : RuleItems K (rule_lists K.theory rules rulevars patterns) n I W m r cells) →
+      Stopped I W J X m (read_items h.S (rule h.S.theory r) h.xs no_items (made I W m)) q d new) → Stopped I W J X m answer q d new
+  items_refused p = on_no second on_first (p g.given)
 
-    module _ {stated : ℕ} {new : Mark} (e : a ≡ Ok stated new) where
-      pub items_read : ItemsRead I W J X m reading bound stated new
-      items_read = subst (λ (z : Answer). ItemsAs I W J X m reading bound z) e (p g.given)
+  module _ {J X bound : List ℕ} {stated : ℕ} {new : Mark} (p : (h : RuleItems K (rule_lists K.theory rules rulevars patterns) n I W m r cells) →
+      ItemsRead I W J X m (read_items h.S (rule h.S.theory r) h.xs no_items (made I W m)) bound stated new) where
+    pub items_read : ItemsRead I W J X m reading bound stated new
+    items_read = p g.given
 
-      pub ids_there : (k : ℕ) → k < length ids → get_or ids k 0 < new.terms
-      ids_there k l = grown_there items_read.went.grown (get_or ids k 0) (g.there k l)
+    pub ids_there : (k : ℕ) → k < length ids → get_or ids k 0 < new.terms
+    ids_there k l = grown_there items_read.went.grown (get_or ids k 0) (g.there k l)
 
-      same_args : args_of (made J X new) ids ≡ args_of (made I W m) ids
-      same_args = grown_args items_read.went.grown ids g.there
+    same_args : args_of (made J X new) ids ≡ args_of (made I W m) ids
+    same_args = grown_args items_read.went.grown ids g.there
 
-      pub ids_readable : {seen used : List ℕ} → seen ≡ replicate TERMWORDS 0 → used ≡ replicate VARIABLEWORDS 0 → ReadableAll J X new ids seen used
-      ids_readable f h =
-          record {
-            good = items_read.went.grown.good;
-            there = ids_there;
-            wide = ap length f ∙ length-replicate {A = ℕ} TERMWORDS 0;
-            broad = ap length h ∙ length-replicate {A = ℕ} VARIABLEWORDS 0;
-          }
+    pub ids_readable : {seen used : List ℕ} → seen ≡ replicate TERMWORDS 0 → used ≡ replicate VARIABLEWORDS 0 → ReadableAll J X new ids seen used
+    ids_readable f h =
+        record {
+          good = items_read.went.grown.good;
+          there = ids_there;
+          wide = ap length f ∙ length-replicate {A = ℕ} TERMWORDS 0;
+          broad = ap length h ∙ length-replicate {A = ℕ} VARIABLEWORDS 0;
+        }
 
-      pub none_seen : {seen : List ℕ} (used : Set) → seen ≡ replicate TERMWORDS 0 → Seen J X new (holds seen) used
-      none_seen {seen} used f =
-          seen_none J X new used seen (f ∙ ap (λ (k : ℕ). replicate {A = ℕ} k 0) (sym (ap length f ∙ length-replicate {A = ℕ} TERMWORDS 0)))
+    pub none_seen : {seen : List ℕ} (used : Set) → seen ≡ replicate TERMWORDS 0 → Seen J X new (holds seen) used
+    none_seen {seen} used f =
+        seen_none J X new used seen (f ∙ ap (λ (k : ℕ). replicate {A = ℕ} k 0) (sym (ap length f ∙ length-replicate {A = ℕ} TERMWORDS 0)))
 
-      -- the variables of the terms, then those of the values
-      module _ {used : List ℕ} (u : used ≡ replicate VARIABLEWORDS 0) (seen₁ used₁ : List ℕ)
-          (v : Gathered J X new (variables_of (args_of (made J X new) ids)) (holds used) (holds seen₁) (holds used₁)) where
-        pub cells_readable : length seen₁ ≡ TERMWORDS → length used₁ ≡ VARIABLEWORDS → ReadableCells J X new bound seen₁ used₁
-        cells_readable f h = record { good = items_read.went.grown.good; within = items_read.cells.within; wide = f; broad = h }
+    -- the variables of the terms, then those of the values
+    module _ {used : List ℕ} (u : used ≡ replicate VARIABLEWORDS 0) (seen₁ used₁ : List ℕ)
+        (v : Gathered J X new (variables_of (args_of (made J X new) ids)) (holds used) (holds seen₁) (holds used₁)) where
+      pub cells_readable : length seen₁ ≡ TERMWORDS → length used₁ ≡ VARIABLEWORDS → ReadableCells J X new bound seen₁ used₁
+      cells_readable f h = record { good = items_read.went.grown.good; within = items_read.cells.within; wide = f; broad = h }
 
-        module _ (seen₂ used₂ : List ℕ) (w : Gathered J X new (cell_vars (made J X new) bound) (holds used₁) (holds seen₂) (holds used₂)) where
-          used_is : union (variables_of (args_of (made I W m) ids)) (variables_of items_read.items.values) ≡ holds used₂
-          used_is =
-              sym (w.set ∙ ap (λ (s : Set). union s (cell_vars (made J X new) bound)) (v.set
-              ∙ ap (λ (s : Set). union s (variables_of (args_of (made J X new) ids))) (ap holds u ∙ holds_zero VARIABLEWORDS)
-              ∙ ap (λ (ts : Trees). variables_of ts) same_args)
-              ∙ ap (union (variables_of (args_of (made I W m) ids))) (sym items_read.values))
+      module _ (seen₂ used₂ : List ℕ) (w : Gathered J X new (cell_vars (made J X new) bound) (holds used₁) (holds seen₂) (holds used₂)) where
+        used_is : union (variables_of (args_of (made I W m) ids)) (variables_of items_read.items.values) ≡ holds used₂
+        used_is =
+            sym (w.set ∙ ap (λ (s : Set). union s (cell_vars (made J X new) bound)) (v.set
+            ∙ ap (λ (s : Set). union s (variables_of (args_of (made J X new) ids))) (ap holds u ∙ holds_zero VARIABLEWORDS)
+            ∙ ap (λ (ts : Trees). variables_of ts) same_args)
+            ∙ ap (union (variables_of (args_of (made I W m) ids))) (sym items_read.values))
 
-          -- the rule's words
-          module _ {place : ℕ} {s : Span} (c : place ≡ conclusion_at theory r) (d : WordsAt patterns theory r s) where
-            abbrev pub matching_given : Concludable K.symbols patterns J X new bound s.from place ids stated
-            matching_given =
-                record {
-                  rule = rule theory r;
-                  good = items_read.went.grown.good;
-                  symbols = g.given.reads.spelling.held.long;
-                  premises = premises_stand rule_formed g.given.known d;
-                  conclusion = conclusion_stands rule_formed g.given.known c;
-                  many = g.many;
-                  cells = items_read.cells;
-                  there = ids_there;
-                  known = items_read.there;
-                }
+        -- the rule's words
+        module _ {place : ℕ} {s : Span} (c : place ≡ conclusion_at theory r) (d : WordsAt patterns theory r s) where
+          abbrev pub matching_given : Concludable K.symbols patterns J X new bound s.from place ids stated
+          matching_given =
+              record {
+                rule = rule theory r;
+                good = items_read.went.grown.good;
+                symbols = g.given.reads.spelling.held.long;
+                premises = premises_stand rule_formed g.given.known d;
+                conclusion = conclusion_stands rule_formed g.given.known c;
+                many = g.many;
+                cells = items_read.cells;
+                there = ids_there;
+                known = items_read.there;
+              }
 
-            abbrev matching : Out Made Tree
-            matching = concluded (rule theory r) (args_of (made J X new) ids) (tree_in (made J X new) stated) (bound_of (made J X new) bound) (made J X new)
+          abbrev matching : Out Made Tree
+          matching = concluded (rule theory r) (args_of (made J X new) ids) (tree_in (made J X new) stated) (bound_of (made J X new) bound) (made J X new)
 
-            abbrev third : Tree → Made → Out Made (Set × Tree)
-            third j s = ok (union (variables_of (args_of (made I W m) ids)) (variables_of items_read.items.values), j) s
+          abbrev third : Tree → Made → Out Made (Set × Tree)
+          third j s = ok (union (variables_of (args_of (made I W m) ids)) (variables_of items_read.items.values), j) s
 
-            on_third : On I W m answer J X new (then matching third)
-            on_third =
-                on_is (on_ok second on_first items_read.went)
-                (λ i. then (concluded (rule theory r) (sym same_args i) (items_read.states i) (items_read.binds i) (made J X new)) third)
+          on_third : On I W m answer J X new (then matching third)
+          on_third =
+              on_is (on_ok second on_first items_read.went)
+              (λ i. then (concluded (rule theory r) (sym same_args i) (items_read.states i) (items_read.binds i) (made J X new)) third)
 
-            used_answers : (Y Z : List ℕ) (o : Answer) → ReadAs J X Y Z new matching o → UsedAs I W Y Z m answer used₂ o
-            used_answers Y Z (Ok j k) t =
-                record {
-                  went = on_done (on_is (on_ok third on_third t.went) (ap (λ (s : Set). ok (s, tree Y Z k j) (made Y Z k)) used_is));
-                  there = t.there;
-                }
-            used_answers Y Z (No q d k) t = on_no third on_third t
+          pub used_refused : {Y Z : List ℕ} {k : Mark} {q d : ℕ} → ((h : Concludable K.symbols patterns J X new bound s.from place ids stated) →
+              Stopped J X Y Z new (concluded h.rule (args_of (made J X new) ids) (tree_in (made J X new) stated) (bound_of (made J X new) bound) (made J X new)) q d k) →
+              Stopped I W Y Z m answer q d k
+          used_refused t = on_no third on_third (t matching_given)
 
-            pub used_answer : (Y Z : List ℕ) (o : Answer) →
-                ((h : Concludable K.symbols patterns J X new bound s.from place ids stated) →
-                ReadAs J X Y Z new (concluded h.rule (args_of (made J X new) ids) (tree_in (made J X new) stated) (bound_of (made J X new) bound) (made J X new)) o) →
-                UsedAs I W Y Z m answer used₂ o
-            used_answer Y Z o t = used_answers Y Z o (t matching_given)
+          pub used_done : {Y Z : List ℕ} {k : Mark} {j : ℕ} → ((h : Concludable K.symbols patterns J X new bound s.from place ids stated) →
+              TermRead J X Y Z new (concluded h.rule (args_of (made J X new) ids) (tree_in (made J X new) stated) (bound_of (made J X new) bound) (made J X new)) j k) →
+              UsedRead I W Y Z m answer used₂ j k
+          used_done {Y} {Z} {k} {j} t =
+              let w = t matching_given in
+              record {
+                went = on_done (on_is (on_ok third on_third w.went) (ap (λ (s : Set). ok (s, tree Y Z k j) (made Y Z k)) used_is));
+                there = w.there;
+              }

@@ -38,13 +38,14 @@ use Rattle.terms.specs.Laws.Patterns.{count_sizes}
 use Rattle.state.specs.declared.sizes.Sizes.{Sizes}
 use Rattle.state.specs.Held.{Names, rule_lists}
 use Rattle.state.specs.Members.{Under}
-use Rattle.reading.specs.declared.apart.Out.{Out as Answer}
-use Rattle.reading.specs.declared.apart.Out.TheVariants.{Ok, No}
-use Rattle.referring.specs.declared.derived.Derived.{Derived}
-use Rattle.referring.specs.declared.derived.Derived.TheVariants as derived
+use Rattle.std.specs.Prelude.{Result, Ok, Err}
+use Rattle.questions.specs.declared.Question.{Question}
+use Rattle.referring.specs.declared.support.Support.{Support}
+use Rattle.referring.specs.declared.support.Derived.{Derived}
+use Rattle.derivation.specs.declared.step.Brought.{Brought}
 use Rattle.referring.specs.Recall.{Refers}
-use Rattle.referring.specs.Derived.{RuleForm, FactForm, FewItems, RefsRead, RefsAs, DerivedAs, derived_fact, with_instances}
-use Rattle.derivation.specs.Stepping.{Scopes, ScopedAs, PremisesOf, in_scope, by_rule}
+use Rattle.referring.specs.Derived.{RuleForm, FactForm, FewItems, RefsRead, DerivedRead, DerivedBy, derived_fact, with_instances}
+use Rattle.derivation.specs.Stepping.{Scopes, ScopedBy, PremisesOf, in_scope, by_rule}
 use Rattle.referring.specs.Laws.Refers.{refers_went}
 
 -- one member more, in front
@@ -170,98 +171,97 @@ module _ {K : Names} {rules rulevars patterns facts footings lists : List ℕ} {
           pub by_few_items : {most : ℕ} → PremisesOf rules r most → FewItems (take (end - start) (drop start cells)) most
           by_few_items {most} w ys q = omega (arith, c ys q, e, wanted, by_premises {k = most} w)
 
-          module _ (J X ids hyps footing : List ℕ) (o : Answer)
-              (q : (h : FactForm K facts footings lists n I W m (take (end - start) (drop start cells)) 0) →
-              RefsAs I W J X m h.S (references h.S h.xs (made I W m)) ids hyps footing (count h.xs) o) where
-            pub by_refused : {k d : ℕ} {new : Mark} → o ≡ No k d new → Stopped I W J X m whole k d new
-            by_refused {k} {d} {new} h =
-                let s : Stopped I W J X m (references g.S by_part.items (made I W m)) k d new =
-                subst (λ (z : Answer). RefsAs I W J X m g.S (references g.S by_part.items (made I W m)) ids hyps footing (count by_part.items) z) h (q by_given) in
-                on_no third on_third s
+          pub by_refused : {J X : List ℕ} {new : Mark} {c d : ℕ} → ((h : FactForm K facts footings lists n I W m (take (end - start) (drop start cells)) 0) →
+              Stopped I W J X m (references h.S h.xs (made I W m)) c d new) → Stopped I W J X m whole c d new
+          by_refused q = on_no third on_third (q by_given)
 
-            module _ {instances : ℕ} {new : Mark} (h : o ≡ Ok instances new) where
-              pub refs : RefsRead I W J X m g.S (references g.S by_part.items (made I W m)) ids hyps footing (count by_part.items) instances new
-              refs =
-                  subst (λ (z : Answer). RefsAs I W J X m g.S (references g.S by_part.items (made I W m)) ids hyps footing (count by_part.items) z) h
-                  (q by_given)
+          -- what the references bring: in ids, hyps and footing
+          module _ {J X ids hyps footing : List ℕ} {instances : ℕ} {new : Mark} (q : (h : FactForm K facts footings lists n I W m (take (end - start) (drop start cells)) 0) →
+              RefsRead I W J X m h.S (references h.S h.xs (made I W m)) ids hyps footing (count h.xs) instances new) where
+            pub refs : RefsRead I W J X m g.S (references g.S by_part.items (made I W m)) ids hyps footing (count by_part.items) instances new
+            refs = q by_given
 
-              pub after : Refers K facts footings lists n J X new g.S
-              after = refers_went g.refers (references_keeps g.S by_part.items (made I W m) g.refers.recorded.trees) refs.went
+            pub after : Refers K facts footings lists n J X new g.S
+            after = refers_went g.refers (references_keeps g.S by_part.items (made I W m) g.refers.recorded.trees) refs.went
 
-              pub terms_there : (i : ℕ) → i < length (take k ids) → k ≤ length ids → get_or (take k ids) i 0 < new.terms
-              terms_there i l b =
-                  let w : i < k = omega (arith, length-take-le k ids b) in
-                  let z : get_or (take k ids) i 0 ≡ get_or ids i 0 = get_or-take k ids i 0 w in
-                  omega (arith, z, refs.there i (omega (arith, w, counted)))
+            pub terms_there : (i : ℕ) → i < length (take k ids) → k ≤ length ids → get_or (take k ids) i 0 < new.terms
+            terms_there i l b =
+                let w : i < k = omega (arith, length-take-le k ids b) in
+                let z : get_or (take k ids) i 0 ≡ get_or ids i 0 = get_or-take k ids i 0 w in
+                omega (arith, z, refs.there i (omega (arith, w, counted)))
 
-              abbrev pub by_scopes : k ≤ length ids → length hyps ≡ FACTWORDS →
-                  Scopes K (rule_lists K.theory rules rulevars patterns) facts lists n J X new r cells (take k ids) hyps
-              by_scopes b w =
-                  record {
-                    S = g.S;
-                    xs = g.xs;
-                    footings = footings;
-                    refers = after;
-                    ruled = g.ruled;
-                    known = known;
-                    holding = g.holds;
-                    many = sym (length-take-le k ids b ∙ e ∙ wanted);
-                    there = λ i l. terms_there i l b;
+            abbrev pub by_scopes : k ≤ length ids → length hyps ≡ FACTWORDS →
+                Scopes K (rule_lists K.theory rules rulevars patterns) facts lists n J X new r cells (take k ids) hyps
+            by_scopes b w =
+                record {
+                  S = g.S;
+                  xs = g.xs;
+                  footings = footings;
+                  refers = after;
+                  ruled = g.ruled;
+                  known = known;
+                  holding = g.holds;
+                  many = sym (length-take-le k ids b ∙ e ∙ wanted);
+                  there = λ i l. terms_there i l b;
+                  earlier = refs.earlier;
+                  long = w;
+                }
+
+            -- the terms of the references, and what they rest on
+            judged : args_of (made J X new) (take k ids) ≡ refs.refs.judgments
+            judged = ap (λ (i : ℕ). args_of (made J X new) (take i ids)) counted ∙ refs.judgments
+
+            abbrev scope : Out Made Tree
+            scope =
+                in_scope g.S (rule g.S.theory r) (args_of (made J X new) (take k ids)) (rising (length g.S.facts) (holds hyps)) (rest g.xs 4) (made J X new)
+
+            abbrev last : Tree → Made → Out Made (Fact × ℕ)
+            last j s = ok (fact refs.refs j) s
+
+            on_last : On I W m whole J X new (then scope last)
+            on_last =
+                on_is (on_ok third on_third refs.went)
+                (λ i. then (in_scope g.S (rule g.S.theory r) (sym judged i) (rising (length g.S.facts) (sym refs.rests i)) (rest g.xs 4) (made J X new)) last)
+
+            -- the rule has joined the footing
+            module _ (footing' : List ℕ) (w : holds footing' ≡ plus r (holds footing)) where
+              footed : union (has (r ∷ [])) refs.refs.footing ≡ holds footing'
+              footed = sym (w ∙ ap (plus r) refs.uses ∙ plus_is r refs.refs.footing)
+
+              known_all : Under (length g.S.theory.rules) (holds footing')
+              known_all v t =
+                  ⊎_elim (λ z. refs.known v z) (λ z. omega (arith, eqb-true v r z, by_rule_lem)) (or_cases (holds footing v) (eqb v r) (sym (ap (λ (s : Set). s v) w) ∙ t))
+
+              fact_is : (j : Tree) (c : ℕ) → c ≡ instances → fact refs.refs j ≡ with_instances (derived_fact g.S j hyps footing') c
+              fact_is j c z = λ i. (
+                record {
+                  judgment = j;
+                  hyps = rising (length g.S.facts) (sym refs.rests i);
+                  assumed = false;
+                  premises = none;
+                  general = [];
+                  footing = rising (length g.S.theory.rules) (footed i);
+                },
+                (sym (z ∙ refs.counted)) i,
+              )
+
+              -- the references' hypotheses and instances beside it
+              abbrev brought' : Brought
+              brought' = record { instances = instances; support = record { hyps = hyps; footing = footing' } }
+
+              by_answers : (Y Z : List ℕ) (now : Mark) (a : Result Derived Question) → ScopedBy J X Y Z new now scope brought' a →
+                  DerivedBy (Fact × ℕ) I W Y Z m now g.S whole with_instances a
+              by_answers Y Z now (Ok d) t =
+                  subst (λ (s : Support). DerivedRead (Fact × ℕ) I W Y Z m g.S whole with_instances s.hyps s.footing d.judgment d.instances now) (sym t.2) (record {
+                    went = on_done (on_is (on_ok last on_last t.0.went) (ap (λ (f : Fact × ℕ). ok f (made Y Z now)) (fact_is (tree Y Z now d.judgment) d.instances t.1)));
+                    there = t.0.there;
                     earlier = refs.earlier;
-                    long = w;
-                  }
+                    known = known_all;
+                  })
+              by_answers Y Z now (Err q) t = on_no last on_last t
 
-              -- the terms of the references, and what they rest on
-              judged : args_of (made J X new) (take k ids) ≡ refs.refs.judgments
-              judged = ap (λ (i : ℕ). args_of (made J X new) (take i ids)) counted ∙ refs.judgments
-
-              abbrev scope : Out Made Tree
-              scope =
-                  in_scope g.S (rule g.S.theory r) (args_of (made J X new) (take k ids)) (rising (length g.S.facts) (holds hyps)) (rest g.xs 4) (made J X new)
-
-              abbrev last : Tree → Made → Out Made (Fact × ℕ)
-              last j s = ok (fact refs.refs j) s
-
-              on_last : On I W m whole J X new (then scope last)
-              on_last =
-                  on_is (on_ok third on_third refs.went)
-                  (λ i. then (in_scope g.S (rule g.S.theory r) (sym judged i) (rising (length g.S.facts) (sym refs.rests i)) (rest g.xs 4) (made J X new)) last)
-
-              -- the rule has joined the footing
-              module _ (footing' : List ℕ) (w : holds footing' ≡ plus r (holds footing)) where
-                footed : union (has (r ∷ [])) refs.refs.footing ≡ holds footing'
-                footed = sym (w ∙ ap (plus r) refs.uses ∙ plus_is r refs.refs.footing)
-
-                known_all : Under (length g.S.theory.rules) (holds footing')
-                known_all v t =
-                    ⊎_elim (λ z. refs.known v z) (λ z. omega (arith, eqb-true v r z, by_rule_lem)) (or_cases (holds footing v) (eqb v r) (sym (ap (λ (s : Set). s v) w) ∙ t))
-
-                fact_is : (j : Tree) (c : ℕ) → c ≡ instances → fact refs.refs j ≡ with_instances (derived_fact g.S j hyps footing') c
-                fact_is j c z = λ i. (
-                  record {
-                    judgment = j;
-                    hyps = rising (length g.S.facts) (sym refs.rests i);
-                    assumed = false;
-                    premises = none;
-                    general = [];
-                    footing = rising (length g.S.theory.rules) (footed i);
-                  },
-                  (sym (z ∙ refs.counted)) i,
-                )
-
-                by_answers : (Y Z : List ℕ) (d : Derived) → ScopedAs J X Y Z new scope instances d →
-                    DerivedAs (Fact × ℕ) I W Y Z m g.S whole with_instances hyps footing' d
-                by_answers Y Z (derived.Ok j c now) t =
-                    record {
-                      went = on_done (on_is (on_ok last on_last t.0.went) (ap (λ (f : Fact × ℕ). ok f (made Y Z now)) (fact_is (tree Y Z now j) c t.1)));
-                      there = t.0.there;
-                      earlier = refs.earlier;
-                      known = known_all;
-                    }
-                by_answers Y Z (derived.No q d now) t = on_no last on_last t
-
-                pub by_answer : (b : k ≤ length ids) (l : length hyps ≡ FACTWORDS) (Y Z : List ℕ) (d : Derived) →
-                    ((h : Scopes K (rule_lists K.theory rules rulevars patterns) facts lists n J X new r cells (take k ids) hyps) →
-                    ScopedAs J X Y Z new (in_scope h.S (rule h.S.theory r) (args_of (made J X new) (take k ids)) (rising (length h.S.facts) (holds hyps)) (rest h.xs 4) (made J X new)) instances d) →
-                    DerivedAs (Fact × ℕ) I W Y Z m g.S whole with_instances hyps footing' d
-                by_answer b l Y Z d t = by_answers Y Z d (t (by_scopes b l))
+              pub by_answer : (b : k ≤ length ids) (l : length hyps ≡ FACTWORDS) (Y Z : List ℕ) (now : Mark) (a : Result Derived Question) →
+                  ((h : Scopes K (rule_lists K.theory rules rulevars patterns) facts lists n J X new r cells (take k ids) hyps) →
+                  ScopedBy J X Y Z new now (in_scope h.S (rule h.S.theory r) (args_of (made J X new) (take k ids)) (rising (length h.S.facts) (holds hyps)) (rest h.xs 4) (made J X new)) brought' a) →
+                  DerivedBy (Fact × ℕ) I W Y Z m now g.S whole with_instances a
+              by_answer b l Y Z now a t = by_answers Y Z now a (t (by_scopes b l))

@@ -1,8 +1,9 @@
 -- Question 39 behind the conclusion of a step: what stays readable, and the definition's answer. Assumes nothing.
 use mathlib.Core.Path.{◌≡◌, refl, sym, ap, ◌∙◌, subst}
 use mathlib.Core.List.{List, [], ◌∷◌}
-use Prim.Native.Nat.{ℕ, zero, suc, ◌-◌, ◌<◌, ◌≤◌}
+use Prim.Native.Nat.{ℕ, suc, ◌+◌, ◌-◌, ◌^◌, ◌<◌, ◌≤◌}
 use native.Mathlib.Omega.{arith}
+use native.Mathlib.Numerals.{add-one}
 use lib.ListN.{length, get_or, take, drop}
 use Rattle.rules.specs.Out.{Out, ok, refuse, then}
 use Rattle.rules.specs.Find.{Set, union, minus, rising, least}
@@ -12,7 +13,7 @@ use Rattle.rules.specs.Store.{Made}
 use Rattle.rules.specs.Theory.{Rule, rule}
 use Rattle.rules.specs.State.{State, hyp_vars}
 use Rattle.rules.specs.Match.{match_all}
-use Rattle.rules.specs.Reference.{outside, scoped}
+use Rattle.rules.specs.Reference.{scoped}
 use Rattle.rules.specs.Step.{Items, no_items, match_stated}
 use Rattle.rules.specs.Laws.Keeping.{Each, Invariant, Keeps, fine, stays, each_on, by_then, by_found}
 use Rattle.rules.specs.Laws.Ready.{Known}
@@ -30,12 +31,11 @@ use Rattle.terms.specs.Laws.Numbers.{tree_stored}
 use Rattle.state.specs.declared.sizes.Sizes.{Sizes}
 use Rattle.state.specs.Held.{Names, rule_lists}
 use Rattle.state.specs.Members.{Under}
-use Rattle.reading.specs.declared.apart.Out.{Out as Answer}
-use Rattle.reading.specs.declared.apart.Out.TheVariants.{Ok, No}
 use Rattle.reading.specs.Answers.{TermRead}
 use Rattle.referring.specs.Recall.{Refers, Recalls}
-use Rattle.derivation.specs.Stepping.{Concludes, Scopes, UsedRead, UsedAs, concluded, from_items, in_scope}
+use Rattle.derivation.specs.Stepping.{Concludes, Scopes, UsedRead, concluded, from_items, in_scope}
 use Rattle.referring.specs.Laws.Refers.{refers_went}
+use Rattle.referring.specs.Laws.Scoped.{least_most, scoped_yes, scoped_no}
 
 -- What is made stays -------------------------------------------------------------------------------------------------------------------
 
@@ -64,15 +64,6 @@ args_in {I} {W} {m} g (x ∷ xs) b =
     (sound.there (made I W m) (tree I W m x) (tree_stored g x (b 0 (omega arith))), args_in g xs (λ k l. b (suc k) (omega arith)))
 
 -- Question 39 --------------------------------------------------------------------------------------------------------------------------
-
-outside_some : {A : Type 0} (v : ℕ) (s : A) → (v ≡ 0 → ⊥) → outside v s ≡ refuse 39 v s
-unfolding outside
-outside_some zero s q = absurd (q refl)
-outside_some (suc v) s q = refl
-
-outside_none : {A : Type 0} (v : ℕ) (s : A) → v ≡ 0 → outside v s ≡ ok tt s
-unfolding outside
-outside_none v s e = ap (λ (k : ℕ). outside k s) e
 
 module _ {K : Names} {rules rulevars patterns facts lists : List ℕ} {n : Sizes} {I W : List ℕ} {m : Mark} {r : ℕ} {cells ids hyps : List ℕ}
     (g : Scopes K (rule_lists K.theory rules rulevars patterns) facts lists n I W m r cells ids hyps) where
@@ -104,52 +95,53 @@ module _ {K : Names} {rules rulevars patterns facts lists : List ℕ} {n : Sizes
           there = g.there;
         }
 
-    module _ (J X used : List ℕ) (o : Answer)
-        (p : (h : Concludes K (rule_lists K.theory rules rulevars patterns) n I W m r (take (length cells - at) (drop at cells)) ids) →
-        UsedAs I W J X m (from_items h.given.S (rule h.given.S.theory r) (args_of (made I W m) ids) h.given.xs (made I W m)) used o) where
-      pub scope_refused : {q d : ℕ} {new : Mark} → o ≡ No q d new → Stopped I W J X m whole q d new
-      scope_refused {q} {d} {new} e =
-          let s : Stopped I W J X m first q d new = subst (λ (z : Answer). UsedAs I W J X m first used z) e (p scope_given) in
-          on_no second on_first s
+    pub scope_refused : {J X : List ℕ} {new : Mark} {q d : ℕ} →
+        ((h : Concludes K (rule_lists K.theory rules rulevars patterns) n I W m r (take (length cells - at) (drop at cells)) ids) →
+        Stopped I W J X m (from_items h.given.S (rule h.given.S.theory r) (args_of (made I W m) ids) h.given.xs (made I W m)) q d new) → Stopped I W J X m whole q d new
+    scope_refused p = on_no second on_first (p scope_given)
 
-      module _ {j : ℕ} {new : Mark} (e : o ≡ Ok j new) where
-        used_read : UsedRead I W J X m first used j new
-        used_read = subst (λ (z : Answer). UsedAs I W J X m first used z) e (p scope_given)
+    module _ {J X used : List ℕ} {new : Mark} {j : ℕ} (p : (h : Concludes K (rule_lists K.theory rules rulevars patterns) n I W m r (take (length cells - at) (drop at cells)) ids) →
+        UsedRead I W J X m (from_items h.given.S (rule h.given.S.theory r) (args_of (made I W m) ids) h.given.xs (made I W m)) used j new) where
+      used_read : UsedRead I W J X m first used j new
+      used_read = p scope_given
 
-        pub after : Refers K facts g.footings lists n J X new g.S
-        after =
-            refers_went g.refers
-            (from_items_keeps g.S (rule g.S.theory r) (args_of (made I W m) ids) (rest g.xs 4) (made I W m) g.refers.recorded.trees
-            (args_in g.refers.reads.good ids g.there))
-            used_read.went
+      pub after : Refers K facts g.footings lists n J X new g.S
+      after =
+          refers_went g.refers
+          (from_items_keeps g.S (rule g.S.theory r) (args_of (made I W m) ids) (rest g.xs 4) (made I W m) g.refers.recorded.trees
+          (args_in g.refers.reads.good ids g.there))
+          used_read.went
 
-        abbrev pub scope_recalls : Recalls facts lists n J X new
-        scope_recalls =
-            record {
-              S = g.S;
-              footings = g.footings;
-              recorded = after.recorded;
-              many = after.reads.spelling.vars.stand.many;
-              good = after.reads.good;
-            }
+      abbrev pub scope_recalls : Recalls facts lists n J X new
+      scope_recalls =
+          record {
+            S = g.S;
+            footings = g.footings;
+            recorded = after.recorded;
+            many = after.reads.spelling.vars.stand.many;
+            good = after.reads.good;
+          }
 
-        pub scope_under : Under n.facts (holds hyps)
-        scope_under v h = omega (arith, g.earlier v h, g.refers.recorded.many)
+      pub scope_under : Under n.facts (holds hyps)
+      scope_under v h = omega (arith, g.earlier v h, g.refers.recorded.many)
 
-        pub scope_there : j < new.terms
-        scope_there = used_read.there
+      pub scope_there : j < new.terms
+      scope_there = used_read.there
 
-        on_second : On I W m whole J X new (then (scoped g.S (holds used) (tree J X new j) hypotheses (made J X new)) (λ _ s. ok (tree J X new j) s))
-        on_second = on_ok second on_first used_read.went
+      on_second : On I W m whole J X new (then (scoped g.S (holds used) (tree J X new j) hypotheses (made J X new)) (λ _ s. ok (tree J X new j) s))
+      on_second = on_ok second on_first used_read.went
 
-        module _ {v : ℕ} (q : (h : Recalls facts lists n J X new) →
-            v ≡ least (length h.S.vars) (minus (holds used) (union (variables (tree J X new j)) (hyp_vars h.S.facts (rising (length h.S.facts) (holds hyps)))))) where
-          scoped_is : scoped g.S (holds used) (tree J X new j) hypotheses (made J X new) ≡ outside v (made J X new)
-          unfolding scoped
-          scoped_is = ap (λ (k : ℕ). outside k (made J X new)) (sym (q scope_recalls))
+      module _ {v : ℕ} (q : (h : Recalls facts lists n J X new) →
+          v ≡ least (length h.S.vars) (minus (holds used) (union (variables (tree J X new j)) (hyp_vars h.S.facts (rising (length h.S.facts) (holds hyps)))))) where
+        pub scope_fits : v < 2 ^ 32
+        scope_fits = omega (arith, q scope_recalls, least_most (length g.S.vars) (minus (holds used) (union (variables (tree J X new j)) (hyp_vars g.S.facts hypotheses))), g.refers.recorded.rows.row7)
 
-          pub scope_outside : (v ≡ 0 → ⊥) → Stopped I W J X m whole 39 v new
-          scope_outside h = on_stop _ on_second (scoped_is ∙ outside_some v (made J X new) h)
+        pub scope_outside : {w : ℕ} → v ≡ suc w → Stopped I W J X m whole 39 (w + 1) new
+        scope_outside {w} h =
+            let z : suc w ≡ w + 1 = sym (add-one w) in
+            on_stop _ on_second (scoped_no g.S (holds used) (tree J X new j) hypotheses (made J X new) (q scope_recalls) h
+            ∙ ap (λ (d : ℕ). refuse 39 d (made J X new)) (h ∙ z))
 
-          pub scope_inside : v ≡ 0 → TermRead I W J X m whole j new
-          scope_inside h = record { went = on_done (on_pure _ on_second (scoped_is ∙ outside_none v (made J X new) h)); there = scope_there }
+        pub scope_inside : v ≡ 0 → TermRead I W J X m whole j new
+        scope_inside h =
+            record { went = on_done (on_pure _ on_second (scoped_yes g.S (holds used) (tree J X new j) hypotheses (made J X new) (q scope_recalls) h)); there = scope_there }

@@ -1,5 +1,5 @@
 -- A fact as a rule: its premises by their numbers, and what is left of the form `apply` at each of its places. Assumes nothing.
-use Rattle.std.specs.Prelude.{◌≡◌, true, false, not, List, [], ◌∷◌, ℕ, ◌<◌, eqb, length}
+use Rattle.std.specs.Prelude.{◌≡◌, true, false, not, List, [], ◌∷◌, ℕ, ◌<◌, eqb, length, Result, Ok, Err}
 use Rattle.rules.specs.Out.{Out, ok, refuse, Act, pure, ask, ◌>>=◌}
 use Rattle.rules.specs.Sexp.{Sexp, Sexps, count, item, items}
 use Rattle.rules.specs.Find.{has, union, rising}
@@ -20,8 +20,13 @@ use Rattle.state.specs.Held.{Names, records, Recorded}
 use Rattle.state.specs.Rows.{cell, hyps_span, premises_span}
 use Rattle.state.specs.Entries.{part}
 use Rattle.state.specs.Members.{Under}
-use Rattle.reading.specs.declared.apart.Out.{Out as Answer}
-use Rattle.reading.specs.declared.apart.Out.TheVariants.{Ok, No}
+use Rattle.questions.specs.declared.Question.{Question}
+use Rattle.questions.specs.Numbers.{number_of, detail_of}
+use Rattle.terms.specs.declared.store.Store.{Store}
+use Rattle.referring.specs.declared.source.Facts.{Facts}
+use Rattle.referring.specs.declared.source.Source.{Source}
+use Rattle.referring.specs.declared.support.Support.{Support}
+use Rattle.referring.specs.Sources.{source_names}
 use Rattle.referring.specs.Recall.{Refers}
 
 -- A fact as a rule ---------------------------------------------------------------------------------------------------------------
@@ -35,6 +40,9 @@ pub record RuleFact (facts lists : List ℕ) (i : ℕ) : Type 0 where
   pub recorded : Recorded (records facts footings lists) n trees S
   pub there : i < n.facts
 
+abbrev pub RuleIn : Facts → ℕ → Type 0
+RuleIn f i = RuleFact f.rows.now f.lists.now i
+
 -- what the definition makes of it, where it can be used
 unfoldable pub rule_of : State → ℕ → Fact → Applied
 rule_of S i f =
@@ -43,9 +51,10 @@ rule_of S i f =
       | false ↦ record { premises = judgments_at S.facts f.hyps; conclusion = f.judgment; hyps = [] }
     ]
 
--- whether it can; q: the question that refuses it, or 0
-abbrev pub ApplicableAs : State → List Binding → ℕ → Fact → ℕ → Type 0
-ApplicableAs S bs i f q = (M : Made) → applied S bs i f M ≡ elim (eqb q 0) [ true ↦ ok (rule_of S i f) M | false ↦ refuse q 0 M ]
+-- whether it can, or the question that refuses it
+abbrev pub ApplicableAs : State → List Binding → ℕ → Fact → Result (Unit {0}) Question → Type 0
+ApplicableAs S bs i f (Ok _) = (M : Made) → applied S bs i f M ≡ ok (rule_of S i f) M
+ApplicableAs S bs i f (Err q) = (M : Made) → applied S bs i f M ≡ refuse (number_of q) (detail_of q) M
 
 -- the numbers of the judgments of facts
 unfoldable pub judgment_numbers : List ℕ → List ℕ → List ℕ
@@ -107,6 +116,9 @@ pub record RuleUse (K : Names) (facts footings lists : List ℕ) (n : Sizes) (I 
   pub many : count xs ≡ length (premise_numbers facts lists i)
   pub theta : Theta m bound
 
+abbrev pub UsesRule : Source → Store → ℕ → List ℕ → List ℕ → Type 0
+UsesRule s t i cells bound = RuleUse (source_names s) s.rows.now s.footings.now s.lists.now s.reader.n t.index.now t.words.now t.mark i cells bound
+
 -- K answers the references together: what they bring is in the sets
 pub record Discharged (I W J X : List ℕ) (old : Mark) (S : State) (K : Out Made Refs) (hyps footing used : List ℕ) (new : Mark) : Type 0 where
   pub refs : Refs
@@ -117,6 +129,9 @@ pub record Discharged (I W J X : List ℕ) (old : Mark) (S : State) (K : Out Mad
   pub known : Under (length S.theory.rules) (holds footing)
   pub vars : holds used ≡ variables_of refs.judgments
 
-abbrev pub DischargedAs : List ℕ → List ℕ → List ℕ → List ℕ → Mark → State → Out Made Refs → List ℕ → List ℕ → List ℕ → Answer → Type 0
-DischargedAs I W J X old S K hyps footing used (Ok many new) = Discharged I W J X old S K hyps footing used new
-DischargedAs I W J X old S K hyps footing used (No q d new) = Stopped I W J X old K q d new
+abbrev pub DischargedBy : List ℕ → List ℕ → List ℕ → List ℕ → Mark → Mark → State → Out Made Refs → List ℕ → Result Support Question → Type 0
+DischargedBy I W J X old new S K used (Ok support) = Discharged I W J X old S K support.hyps support.footing used new
+DischargedBy I W J X old new S K used (Err q) = Stopped I W J X old K (number_of q) (detail_of q) new
+
+abbrev pub DischargedAs : Store → Store → State → Out Made Refs → List ℕ → Result Support Question → Type 0
+DischargedAs s t S K used r = DischargedBy s.index.now s.words.now t.index.now t.words.now s.mark t.mark S K used r

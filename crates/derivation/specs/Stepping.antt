@@ -1,5 +1,5 @@
 -- The parts of a step behind its references: what the definition says of each, what they are given and what they answer. Assumes nothing.
-use Rattle.std.specs.Prelude.{◌≡◌, false, List, [], ◌∷◌, ℕ, ◌*◌, ◌<◌, ◌≤◌, eqb, length, get_or, Option}
+use Rattle.std.specs.Prelude.{◌≡◌, false, List, [], ◌∷◌, ℕ, ◌*◌, ◌<◌, ◌≤◌, eqb, length, get_or, Option, Result, Ok, Err}
 use Rattle.rules.specs.Limits.{SYMBOLS, FACTWORDS}
 use Rattle.rules.specs.Out.{Out, Act, ◌>>=◌, pure, ask, found}
 use Rattle.rules.specs.Find.{Set, has, union, rising}
@@ -10,24 +10,35 @@ use Rattle.rules.specs.Theory.{Theory, Rule, rule}
 use Rattle.rules.specs.Match.{Bound, match_all}
 use Rattle.rules.specs.State.{State, Fact}
 use Rattle.rules.specs.Reference.{scoped}
-use Rattle.rules.specs.Step.{references, no_items, read_items, match_stated, conclude}
+use Rattle.rules.specs.Step.{Refs, references, no_items, read_items, match_stated, conclude}
+use Rattle.questions.specs.Numbers.{number_of, detail_of}
+use Rattle.questions.specs.declared.Question.{Question}
 use Rattle.sexp.specs.Items.{Holds}
 use Rattle.kernel.specs.HeldRules.{RulesHeld}
 use Rattle.terms.specs.declared.store.Mark.{Mark}
+use Rattle.terms.specs.declared.store.Terms.{Terms}
+use Rattle.terms.specs.declared.store.Store.{Store}
 use Rattle.terms.specs.Table.{tree, Good}
-use Rattle.terms.specs.Sets.{holds}
-use Rattle.terms.specs.Patterns.{Stands, Standing, Cells}
+use Rattle.terms.specs.Sets.{holds, counted_from_1}
+use Rattle.terms.specs.Patterns.{Stands, Standing, PatternAt, Cells}
 use Rattle.terms.specs.On.{Went, Stopped}
 use Rattle.state.specs.declared.sizes.Sizes.{Sizes}
 use Rattle.state.specs.Held.{Names, RuleLists, Ruled}
 use Rattle.state.specs.Members.{Under}
-use Rattle.reading.specs.declared.apart.Out.{Out as Answer}
-use Rattle.reading.specs.declared.apart.Out.TheVariants.{Ok, No}
-use Rattle.referring.specs.declared.derived.Derived.{Derived}
-use Rattle.referring.specs.declared.derived.Derived.TheVariants as derived
+use Rattle.reading.specs.declared.reader.Reader.{Reader}
+use Rattle.reading.specs.Reader.{names_of}
 use Rattle.reading.specs.Answers.{TermRead}
+use Rattle.referring.specs.declared.source.Source.{Source}
+use Rattle.referring.specs.declared.support.Support.{Support}
+use Rattle.referring.specs.declared.support.Derived.{Derived}
 use Rattle.referring.specs.Recall.{Refers}
-use Rattle.referring.specs.Derived.{RuleItems}
+use Rattle.referring.specs.Sources.{source_names}
+use Rattle.referring.specs.Derived.{RuleItems, RefsRead}
+use Rattle.derivation.specs.declared.items.OneRule.{OneRule}
+use Rattle.derivation.specs.declared.items.Said.{Said}
+use Rattle.derivation.specs.declared.step.Brought.{Brought}
+use Rattle.derivation.specs.declared.step.Concluded.{Concluded}
+use Rattle.derivation.specs.ItemsOf.{tables_of}
 
 -- The definition ---------------------------------------------------------------------------------------------------------------------
 
@@ -74,6 +85,14 @@ by_rule S r xs = do
 
 -- Given ------------------------------------------------------------------------------------------------------------------------------
 
+-- a pattern at place, what is bound in the cells B, and what is stated, by its number with 1 added
+pub record StatedMatchable (S P I W : List ℕ) (m : Mark) (B : List ℕ) (place stated : ℕ) : Type 0 where
+  pub good : Good I W m
+  pub symbols : length S ≡ 4 * SYMBOLS
+  pub reads : PatternAt S P place
+  pub cells : Cells m.terms B
+  pub known : stated ≤ m.terms
+
 -- the words of a rule, its premises from first on and its conclusion at place; terms for the premises, what is bound in the cells B, and what is
 -- stated, by its number with 1 added
 pub record Concludable (S P I W : List ℕ) (m : Mark) (B : List ℕ) (first place : ℕ) (ids : List ℕ) (stated : ℕ) : Type 0 where
@@ -113,18 +132,46 @@ PremisesOf rules r k =
     (T : Theory) (text vars patterns : List ℕ) (count words : ℕ) → RulesHeld text rules vars patterns count words T.rules → r < count →
     k ≡ count_trees (rule T r).premises
 
+-- As they are lent -------------------------------------------------------------------------------------------------------------------
+
+abbrev pub StatedIn : List ℕ → List ℕ → Terms → List ℕ → ℕ → Option ℕ → Type 0
+StatedIn S P t B place stated = StatedMatchable S P t.index.now t.words.now t.mark B place (counted_from_1 stated)
+
+abbrev pub ConcludableIn : List ℕ → List ℕ → Store → Said → ℕ → ℕ → List ℕ → Type 0
+ConcludableIn S P s said first place ids = Concludable S P s.index.now s.words.now s.mark said.bound first place ids (counted_from_1 said.stated)
+
+abbrev pub ReadsConclusion : Reader → OneRule → Store → List ℕ → List ℕ → Type 0
+ReadsConclusion r u s cells ids = Concludes (names_of r) (tables_of r u) r.n s.index.now s.words.now s.mark u.number cells ids
+
+abbrev pub ScopesIn : Source → OneRule → Store → List ℕ → List ℕ → Support → Type 0
+ScopesIn o u s cells ids support =
+    Scopes (source_names o) (tables_of o.reader u) o.rows.now o.lists.now o.reader.n s.index.now s.words.now s.mark u.number cells ids support.hyps
+
 -- Answers ----------------------------------------------------------------------------------------------------------------------------
+
+abbrev pub RefsBy : List ℕ → List ℕ → List ℕ → List ℕ → Mark → Mark → State → Out Made Refs → List ℕ → ℕ → Result Brought Question → Type 0
+RefsBy I W J X old new S K ids many (Ok r) = RefsRead I W J X old S K ids r.support.hyps r.support.footing many r.instances new
+RefsBy I W J X old new S K ids many (Err q) = Stopped I W J X old K (number_of q) (detail_of q) new
+
+abbrev pub RefsAs : Store → Store → State → Out Made Refs → List ℕ → ℕ → Result Brought Question → Type 0
+RefsAs s t S K ids many r = RefsBy s.index.now s.words.now t.index.now t.words.now s.mark t.mark S K ids many r
 
 -- K answers what is used, the set, and the conclusion, term j
 pub record UsedRead (I W J X : List ℕ) (old : Mark) (K : Out Made (Set × Tree)) (used : List ℕ) (j : ℕ) (new : Mark) : Type 0 where
   pub went : Went I W J X old K (holds used, tree J X new j) new
   pub there : j < new.terms
 
-abbrev pub UsedAs : List ℕ → List ℕ → List ℕ → List ℕ → Mark → Out Made (Set × Tree) → List ℕ → Answer → Type 0
-UsedAs I W J X old K used (Ok j new) = UsedRead I W J X old K used j new
-UsedAs I W J X old K used (No q d new) = Stopped I W J X old K q d new
+abbrev pub UsedBy : List ℕ → List ℕ → List ℕ → List ℕ → Mark → Mark → Out Made (Set × Tree) → Result Concluded Question → Type 0
+UsedBy I W J X old new K (Ok c) = UsedRead I W J X old K c.used c.judgment new
+UsedBy I W J X old new K (Err q) = Stopped I W J X old K (number_of q) (detail_of q) new
 
--- K answers the conclusion; k instances are handed on
-abbrev pub ScopedAs : List ℕ → List ℕ → List ℕ → List ℕ → Mark → Out Made Tree → ℕ → Derived → Type 0
-ScopedAs I W J X old K k (derived.Ok j c new) = TermRead I W J X old K j new × (c ≡ k)
-ScopedAs I W J X old K k (derived.No q d new) = Stopped I W J X old K q d new
+abbrev pub UsedAs : Store → Store → Out Made (Set × Tree) → Result Concluded Question → Type 0
+UsedAs s t K r = UsedBy s.index.now s.words.now t.index.now t.words.now s.mark t.mark K r
+
+-- K answers the conclusion; what the references bring is handed on
+abbrev pub ScopedBy : List ℕ → List ℕ → List ℕ → List ℕ → Mark → Mark → Out Made Tree → Brought → Result Derived Question → Type 0
+ScopedBy I W J X old new K brought (Ok d) = TermRead I W J X old K d.judgment new × (d.instances ≡ brought.instances) × (d.support ≡ brought.support)
+ScopedBy I W J X old new K brought (Err q) = Stopped I W J X old K (number_of q) (detail_of q) new
+
+abbrev pub ScopedAs : Store → Store → Out Made Tree → Brought → Result Derived Question → Type 0
+ScopedAs s t K brought r = ScopedBy s.index.now s.words.now t.index.now t.words.now s.mark t.mark K brought r

@@ -1,399 +1,275 @@
 // `(apply N M (BINDING...) (REF...))`: fact M as a rule. An assumed M binds its generalised variables and has its premises; of another M the
 // hypotheses, all plain, are the premises, by rising index.
-ghost use Rattle.std.specs.Prelude.{◌≡◌, List, ℕ, ◌<◌, length, get_or, replicate};
+ghost use Rattle.std.specs.Prelude.{◌≡◌, ℕ, ◌<◌, length, get_or, replicate};
 ghost use Rattle.rules.specs.Limits.{VARIABLES, TERMS, VARIABLEWORDS, FACTWORDS};
 ghost use Rattle.rules.specs.Find.{all, union, has as has_number};
 ghost use Rattle.rules.specs.Store.{Made};
 ghost use Rattle.rules.specs.State.{Fact};
 ghost use Rattle.rules.specs.Apply.{plain_at, discharge, apply};
-ghost use Rattle.terms.specs.Table.{made, tree};
+ghost use Rattle.terms.specs.Table.{tree};
+ghost use Rattle.terms.specs.Lent.{SameTables, made_of};
 ghost use Rattle.terms.specs.Sets.{holds};
 ghost use Rattle.terms.specs.Theta.{Theta, bindings as bindings_of};
-ghost use Rattle.state.specs.Held.{names};
-ghost use Rattle.referring.specs.Recall.{RefersItem, fact_of};
+ghost use Rattle.referring.specs.Recall.{fact_of};
 ghost use Rattle.referring.specs.Referral.{ReferredAs};
-ghost use Rattle.referring.specs.Derived.{FactForm, Blank, DerivedAs, alone};
-ghost use Rattle.derivation.specs.Applying.{RuleFact, rule_of, ApplicableAs, premise_numbers, met_by, apply_to, apply_on, RuleUse, DischargedAs};
+ghost use Rattle.referring.specs.Derived.{DerivedAs, alone};
+ghost use Rattle.referring.specs.Sources.{ReadsReference, ReadsForm};
+ghost use Rattle.derivation.specs.Applying.{RuleIn, rule_of, ApplicableAs, premise_numbers, met_by, apply_to, apply_on, UsesRule, DischargedAs};
 
-use cells::clear;
-use reading::apart::{Bound, Out, bindings};
+use questions::Question;
 use reading::names::index as index_in;
-use referring::derived::Derived;
-use referring::references::{Referred, insert_all, join, reference};
-use referring::scope::{outside, visit_cells};
-use rules::{TERMWORDS, VARIABLEWORDS};
+use referring::references::{Referred, insert_all};
+use referring::scope::visit_cells;
+use referring::source::{Facts, Source};
+use referring::support::{Derived, Support, no_support};
+use rules::{TERMWORDS, VARIABLES, VARIABLEWORDS};
 use sexp::items;
 use sexp::items::Item;
 use state::facts::{general, hyps as hyps_of, is_assumed, is_fact, is_plain, judgment, premises};
-use state::sizes::Sizes;
-use terms::apart::{Kept, substitute, visit};
 use terms::sets::{has, insert};
-use terms::store::Mark;
+use terms::store::Store;
+use terms::substitute::substitute;
+use terms::variables::visit;
 
-// Whether the map binds no variable but those that fact i generalises.
-fn binds_general(facts: &[u32], lists: &[u32], i: usize, bound: &[u32]) -> bool
-    requires { RuleFact facts.now lists.now i × (length bound.now ≡ VARIABLES) }
-    ensures { (g : RuleFact facts.now lists.now i) (M : Made) → result ≡ all (λ b. has_number (fact_of g.S i).general b.variable) (bindings_of M bound.now 0) }
-{
-    let mut own = [0u64; VARIABLEWORDS];
-    let span = general(facts, i);
-    let from = span.from;
-    let end = span.end;
-    insert_all(&lists[from..end], &mut own);
-    for (v, cell) in bound.iter().enumerate() {
-        if *cell != 0 && !has(&own, v) {
-            return false;
-        }
-    }
-    true
+// A fact that is used as a rule, under bindings.
+#[derive(Clone, Copy)]
+struct Rule<'a> {
+    fact: usize,
+    bound: &'a [u32],
 }
 
 // Whether the hypotheses of fact i are all plain.
-fn rests_on_plain(facts: &[u32], lists: &[u32], i: usize) -> bool
-    requires { RuleFact facts.now lists.now i }
-    ensures { (g : RuleFact facts.now lists.now i) → result ≡ all (plain_at g.S.facts) (fact_of g.S i).hyps }
+fn rests_on_plain(facts: &Facts<'_>, i: usize) -> bool
+    requires { RuleIn facts.now i }
+    ensures { (g : RuleIn facts.now i) → result ≡ all (plain_at g.S.facts) (fact_of g.S i).hyps }
 {
-    let span = hyps_of(facts, i);
+    let span = hyps_of(facts.rows, i);
     let from = span.from;
     let end = span.end;
-    for h in &lists[from..end] {
-        if !is_plain(facts, *h as usize) {
+    for h in &facts.lists[from..end] {
+        if !is_plain(facts.rows, *h as usize) {
             return false;
         }
     }
     true
 }
 
-// Questions 36 and 40: whether fact i can be used as a rule under the map; 0 where it can.
-fn applicable(facts: &[u32], lists: &[u32], i: usize, bound: &[u32]) -> usize
-    requires { RuleFact facts.now lists.now i × (length bound.now ≡ VARIABLES) }
-    ensures { (g : RuleFact facts.now lists.now i) (M : Made) → ApplicableAs g.S (bindings_of M bound.now 0) i (fact_of g.S i) result }
-{
-    if is_assumed(facts, i) {
-        if binds_general(facts, lists, i, bound) {
-            return 0;
-        }
-        return 36;
-    }
-    if rests_on_plain(facts, lists, i) {
-        return 0;
-    }
-    40
-}
-
 // How many premises fact i has as a rule.
-fn premises_of(facts: &[u32], i: usize) -> usize
-    requires { (lists : List ℕ) × RuleFact facts.now lists i }
-    ensures { (lists : List ℕ) → RuleFact facts.now lists i → result ≡ length (premise_numbers facts.now lists i) }
+fn premises_of(facts: &Facts<'_>, i: usize) -> usize
+    requires { RuleIn facts.now i }
+    ensures { result ≡ length (premise_numbers facts.now.rows.now facts.now.lists.now i) }
 {
-    if is_assumed(facts, i) {
-        let own = premises(facts, i);
+    if is_assumed(facts.rows, i) {
+        let own = premises(facts.rows, i);
         return own.end - own.from;
     }
-    let own = hyps_of(facts, i);
+    let own = hyps_of(facts.rows, i);
     own.end - own.from
 }
 
 // Its premise k.
-fn premise(facts: &[u32], lists: &[u32], i: usize, k: usize) -> usize
-    requires { RuleFact facts.now lists.now i × (k < length (premise_numbers facts.now lists.now i)) }
-    ensures { result ≡ get_or (premise_numbers facts.now lists.now i) k 0 }
+fn premise(facts: &Facts<'_>, i: usize, k: usize) -> usize
+    requires { RuleIn facts.now i × (k < length (premise_numbers facts.now.rows.now facts.now.lists.now i)) }
+    ensures { result ≡ get_or (premise_numbers facts.now.rows.now facts.now.lists.now i) k 0 }
 {
-    if is_assumed(facts, i) {
-        let own = premises(facts, i);
-        return lists[own.from + k] as usize;
+    if is_assumed(facts.rows, i) {
+        let own = premises(facts.rows, i);
+        return facts.lists[own.from + k] as usize;
     }
-    let own = hyps_of(facts, i);
-    judgment(facts, lists[own.from + k] as usize)
+    let own = hyps_of(facts.rows, i);
+    judgment(facts.rows, facts.lists[own.from + k] as usize)
 }
 
 // A hypothesis that is used as a rule is rested on.
-fn rest_on(facts: &[u32], i: usize, hyps: &mut [u64])
-    requires { ((lists : List ℕ) × RuleFact facts.now lists i) × (length hyps.old ≡ FACTWORDS) }
-    ensures { (lists : List ℕ) (g : RuleFact facts.now lists i) → holds hyps.new ≡ union (has_number (rule_of g.S i (fact_of g.S i)).hyps) (holds hyps.old) }
+fn rest_on(facts: &Facts<'_>, i: usize, hyps: &mut [u64])
+    requires { RuleIn facts.now i × (length hyps.old ≡ FACTWORDS) }
+    ensures { (g : RuleIn facts.now i) → holds hyps.new ≡ union (has_number (rule_of g.S i (fact_of g.S i)).hyps) (holds hyps.old) }
 {
-    if is_assumed(facts, i) {
+    if is_assumed(facts.rows, i) {
         insert(hyps, i);
     }
 }
 
-// The reference that the first item is, which must be the premise p under the map (question 38). `map` and `memo` are scratch: zero before and after.
-fn met(
-    theory: &[u8],
-    goals: &[u8],
-    text: &[u8],
-    symbols: &[u32],
-    inputs: &[u32],
-    vars: &[u32],
-    defs: &[u32],
-    facts: &[u32],
-    n: Sizes,
-    index: &mut [u32],
-    words: &mut [u32],
-    mark: Mark,
-    p: usize,
-    cells: &[u32],
-    bound: &[u32],
-    map: &mut [u32],
-    memo: &mut [u32],
-) -> Referred
-    requires refers_item { RefersItem (names theory.now goals.now text.now symbols.now inputs.now vars.now defs.now) facts.now n index.old words.old mark cells.now }
-    requires theta { Theta mark bound.now × (p < mark.terms) × (map.old ≡ replicate VARIABLES 0) × (memo.old ≡ replicate TERMS 0) }
-    ensures referred_as { (g : RefersItem (names theory.now goals.now text.now symbols.now inputs.now vars.now defs.now) facts.now n index.old words.old mark cells.now) →
-        ReferredAs index.old words.old index.new words.new mark g.S (met_by g.S (bindings_of (made index.old words.old mark) bound.now 0) (tree index.old words.old mark p) g.x (made index.old words.old mark)) result }
-    ensures map_unchanged { (map.new ≡ map.old) × (memo.new ≡ memo.old) }
-{
-    match substitute(index, words, mark, bound, memo, p) {
-        Kept::Term(t, m) => match reference(
-            theory, goals, text, symbols, inputs, vars, defs, facts, n, index, words, m, cells,
-            map, memo,
-        ) {
-            Referred::To(j, f, bare, new) => {
-                if j != t {
-                    return Referred::No(38, 0, new);
-                }
-                Referred::To(j, f, bare, new)
-            }
-            Referred::No(q, d, new) => Referred::No(q, d, new),
-        },
-        Kept::Full(row, m) => Referred::No(60, row, m),
-    }
-}
-
-// Each premise under the map, and the reference that is it: what the references bring comes into the sets, the variables of their judgments into `used`,
-// which are empty before. `map` and `memo` are scratch: zero before and after.
-fn discharge(
-    theory: &[u8],
-    goals: &[u8],
-    text: &[u8],
-    symbols: &[u32],
-    inputs: &[u32],
-    vars: &[u32],
-    defs: &[u32],
-    facts: &[u32],
-    footings: &[u64],
-    lists: &[u32],
-    n: Sizes,
-    index: &mut [u32],
-    words: &mut [u32],
-    mark: Mark,
-    i: usize,
-    cells: &[u32],
-    bound: &[u32],
-    map: &mut [u32],
-    memo: &mut [u32],
-    hyps: &mut [u64],
-    footing: &mut [u64],
-    used: &mut [u64],
-) -> Out
-    requires rule_use { RuleUse (names theory.now goals.now text.now symbols.now inputs.now vars.now defs.now) facts.now footings.now lists.now n index.old words.old mark i cells.now bound.now }
-    requires blank { Blank map.old memo.old hyps.old footing.old × (used.old ≡ replicate VARIABLEWORDS 0) }
-    ensures discharged_as { (g : RuleUse (names theory.now goals.now text.now symbols.now inputs.now vars.now defs.now) facts.now footings.now lists.now n index.old words.old mark i cells.now bound.now) →
-        DischargedAs index.old words.old index.new words.new mark g.S (discharge g.S (bindings_of (made index.old words.old mark) bound.now 0) g.xs (rule_of g.S i (fact_of g.S i)).premises (made index.old words.old mark)) hyps.new footing.new used.new result }
-    ensures map_unchanged { (map.new ≡ map.old) × (memo.new ≡ memo.old) }
-{
-    let mut seen = [0u64; TERMWORDS];
-    let mut m = mark;
-    let mut k = 0;
-    let mut at = 0;
-    while at < cells.len() {
-        match met(
-            theory,
-            goals,
-            text,
-            symbols,
-            inputs,
-            vars,
-            defs,
-            facts,
-            n,
-            index,
-            words,
-            m,
-            premise(facts, lists, i, k),
-            &cells[at..],
-            bound,
-            map,
-            memo,
-        ) {
-            Referred::To(t, f, bare, new) => {
-                join(facts, footings, lists, f, bare, hyps, footing);
-                visit(index, words, new, t, &mut seen, used);
-                m = new;
-            }
-            Referred::No(q, d, new) => {
-                return Out::No(q, d, new);
+impl Rule<'_> {
+    // Whether the map binds no variable but those that the fact generalises.
+    fn binds_general(&self, facts: &Facts<'_>) -> bool
+        requires { RuleIn facts.now self.now.fact × (length self.now.bound.now ≡ VARIABLES) }
+        ensures { (g : RuleIn facts.now self.now.fact) (M : Made) → result ≡ all (λ b. has_number (fact_of g.S self.now.fact).general b.variable) (bindings_of M self.now.bound.now 0) }
+    {
+        let mut own = [0u64; VARIABLEWORDS];
+        let span = general(facts.rows, self.fact);
+        let from = span.from;
+        let end = span.end;
+        insert_all(&facts.lists[from..end], &mut own);
+        for (v, cell) in self.bound.iter().enumerate() {
+            if *cell != 0 && !has(&own, v) {
+                return false;
             }
         }
-        k += 1;
-        at = items::after(cells, at);
+        true
     }
-    Out::Ok(k, m)
-}
 
-// The rest of the form behind its conclusion j.
-fn apply_to(
-    theory: &[u8],
-    goals: &[u8],
-    text: &[u8],
-    symbols: &[u32],
-    inputs: &[u32],
-    vars: &[u32],
-    defs: &[u32],
-    facts: &[u32],
-    footings: &[u64],
-    lists: &[u32],
-    n: Sizes,
-    index: &mut [u32],
-    words: &mut [u32],
-    mark: Mark,
-    i: usize,
-    j: usize,
-    cells: &[u32],
-    bound: &[u32],
-    map: &mut [u32],
-    memo: &mut [u32],
-    hyps: &mut [u64],
-    footing: &mut [u64],
-) -> Derived
-    requires rule_use { RuleUse (names theory.now goals.now text.now symbols.now inputs.now vars.now defs.now) facts.now footings.now lists.now n index.old words.old mark i cells.now bound.now }
-    requires blank { Blank map.old memo.old hyps.old footing.old × (j < mark.terms) }
-    ensures derived_as { (g : RuleUse (names theory.now goals.now text.now symbols.now inputs.now vars.now defs.now) facts.now footings.now lists.now n index.old words.old mark i cells.now bound.now) →
-        DerivedAs Fact index.old words.old index.new words.new mark g.S (apply_to g.S (bindings_of (made index.old words.old mark) bound.now 0) (rule_of g.S i (fact_of g.S i)) g.xs (tree index.old words.old mark j) (made index.old words.old mark)) alone hyps.new footing.new result }
-    ensures map_unchanged { (map.new ≡ map.old) × (memo.new ≡ memo.old) }
-{
-    let mut used = [0u64; VARIABLEWORDS];
-    match discharge(
-        theory, goals, text, symbols, inputs, vars, defs, facts, footings, lists, n, index, words,
-        mark, i, cells, bound, map, memo, hyps, footing, &mut used,
-    ) {
-        Out::Ok(_, m) => {
-            rest_on(facts, i, hyps);
-            let mut seen = [0u64; TERMWORDS];
-            visit_cells(index, words, m, bound, &mut seen, &mut used);
-            let v = outside(facts, lists, n, index, words, m, &used, j, hyps);
-            if v != 0 {
-                return Derived::No(39, v, m);
+    // Questions 36 and 40: whether the fact can be used as a rule under the map.
+    fn applicable(&self, facts: &Facts<'_>) -> Result<(), Question>
+        requires { RuleIn facts.now self.now.fact × (length self.now.bound.now ≡ VARIABLES) }
+        ensures { (g : RuleIn facts.now self.now.fact) (M : Made) → ApplicableAs g.S (bindings_of M self.now.bound.now 0) self.now.fact (fact_of g.S self.now.fact) result }
+    {
+        if is_assumed(facts.rows, self.fact) {
+            if self.binds_general(facts) {
+                return Ok(());
             }
-            Derived::Ok(j, 0, m)
+            return Err(Question::Binding);
         }
-        Out::No(q, d, m) => Derived::No(q, d, m),
+        if rests_on_plain(facts, self.fact) {
+            return Ok(());
+        }
+        Err(Question::Hypothesis)
+    }
+
+    // The reference that the first item is, which must be the premise p under the map (question 38). `memo` is scratch: zero before and after.
+    fn met(
+        &self,
+        source: &Source<'_>,
+        store: &mut Store<'_>,
+        p: usize,
+        cells: &[u32],
+        memo: &mut [u32],
+    ) -> Result<Referred, Question>
+        requires reads { ReadsReference source.now store.old cells.now }
+        requires theta { Theta store.old.mark self.now.bound.now × (p < store.old.mark.terms) × (memo.old ≡ replicate TERMS 0) }
+        ensures same_tables { SameTables store.old store.new }
+        ensures referred_as { (g : ReadsReference source.now store.old cells.now) → let s = store.old in
+            ReferredAs s store.new g.S (met_by g.S (bindings_of (made_of s) self.now.bound.now 0) (tree s.index.now s.words.now s.mark p) g.x (made_of s)) result }
+        ensures memo_unchanged { memo.new ≡ memo.old }
+    {
+        let under = substitute(store, self.bound, memo, p)?;
+        let referred = source.reference(store, cells, memo)?;
+        if referred.judgment != under {
+            return Err(Question::Matching);
+        }
+        Ok(referred)
+    }
+
+    // Each premise under the map, and the reference that is it: what the references bring is answered, the variables of their judgments come into
+    // `used`, which is empty before. `memo` is scratch: zero before and after.
+    fn discharge(
+        &self,
+        source: &Source<'_>,
+        store: &mut Store<'_>,
+        cells: &[u32],
+        memo: &mut [u32],
+        used: &mut [u64],
+    ) -> Result<Support, Question>
+        requires rule_use { UsesRule source.now store.old self.now.fact cells.now self.now.bound.now }
+        requires blank { (memo.old ≡ replicate TERMS 0) × (used.old ≡ replicate VARIABLEWORDS 0) }
+        ensures same_tables { SameTables store.old store.new }
+        ensures discharged_as { (g : UsesRule source.now store.old self.now.fact cells.now self.now.bound.now) →
+            DischargedAs store.old store.new g.S (discharge g.S (bindings_of (made_of store.old) self.now.bound.now 0) g.xs (rule_of g.S self.now.fact (fact_of g.S self.now.fact)).premises (made_of store.old)) used.new result }
+        ensures memo_unchanged { memo.new ≡ memo.old }
+    {
+        let facts = source.facts();
+        let mut seen = [0u64; TERMWORDS];
+        let mut support = no_support();
+        for (k, item) in items::all(cells).enumerate() {
+            let p = premise(&facts, self.fact, k);
+            let referred = self.met(source, store, p, item, memo)?;
+            support.join(&facts, referred.fact, referred.bare);
+            visit(&store.terms(), referred.judgment, &mut seen, used);
+        }
+        Ok(support)
+    }
+
+    // The rest of the form behind its conclusion j. `memo` is scratch: zero before and after.
+    fn apply_to(
+        &self,
+        source: &Source<'_>,
+        store: &mut Store<'_>,
+        j: usize,
+        cells: &[u32],
+        memo: &mut [u32],
+    ) -> Result<Derived, Question>
+        requires rule_use { UsesRule source.now store.old self.now.fact cells.now self.now.bound.now }
+        requires blank { (memo.old ≡ replicate TERMS 0) × (j < store.old.mark.terms) }
+        ensures same_tables { SameTables store.old store.new }
+        ensures derived_as { (g : UsesRule source.now store.old self.now.fact cells.now self.now.bound.now) → let s = store.old in
+            DerivedAs Fact s store.new g.S (apply_to g.S (bindings_of (made_of s) self.now.bound.now 0) (rule_of g.S self.now.fact (fact_of g.S self.now.fact)) g.xs (tree s.index.now s.words.now s.mark j) (made_of s)) alone result }
+        ensures memo_unchanged { memo.new ≡ memo.old }
+    {
+        let facts = source.facts();
+        let mut used = [0u64; VARIABLEWORDS];
+        let mut support = self.discharge(source, store, cells, memo, &mut used)?;
+        rest_on(&facts, self.fact, &mut support.hyps);
+        let terms = store.terms();
+        let mut seen = [0u64; TERMWORDS];
+        visit_cells(&terms, self.bound, &mut seen, &mut used);
+        if let Some(v) = facts.outside(&terms, &used, j, &support.hyps) {
+            return Err(Question::Scope(v + 1));
+        }
+        Ok(Derived {
+            judgment: j,
+            instances: 0,
+            support,
+        })
+    }
+
+    // The rest of the form behind its bindings. `memo` is scratch: zero before and after.
+    fn apply_on(
+        &self,
+        source: &Source<'_>,
+        store: &mut Store<'_>,
+        cells: &[u32],
+        memo: &mut [u32],
+    ) -> Result<Derived, Question>
+        requires reads { ReadsForm source.now store.old cells.now 5 }
+        requires theta { Theta store.old.mark self.now.bound.now × (memo.old ≡ replicate TERMS 0) }
+        ensures same_tables { SameTables store.old store.new }
+        ensures derived_as { (g : ReadsForm source.now store.old cells.now 5) →
+            DerivedAs Fact store.old store.new g.S (apply_on g.S self.now.fact g.xs (bindings_of (made_of store.old) self.now.bound.now 0) (made_of store.old)) alone result }
+        ensures memo_unchanged { memo.new ≡ memo.old }
+    {
+        if !is_fact(source.reader.n, self.fact) {
+            return Err(Question::Earlier);
+        }
+        let facts = source.facts();
+        self.applicable(&facts)?;
+        let Item::List(a, b) = items::nth(cells, 4) else {
+            return Err(Question::Premises);
+        };
+        let inner = &cells[a..b];
+        if items::count(inner) != premises_of(&facts, self.fact) {
+            return Err(Question::Premises);
+        }
+        let j = substitute(store, self.bound, memo, judgment(facts.rows, self.fact))?;
+        self.apply_to(source, store, j, inner, memo)
     }
 }
 
-// The rest of the form behind its bindings.
-fn apply_on(
-    theory: &[u8],
-    goals: &[u8],
-    text: &[u8],
-    symbols: &[u32],
-    inputs: &[u32],
-    vars: &[u32],
-    defs: &[u32],
-    facts: &[u32],
-    footings: &[u64],
-    lists: &[u32],
-    n: Sizes,
-    index: &mut [u32],
-    words: &mut [u32],
-    mark: Mark,
-    i: usize,
-    cells: &[u32],
-    bound: &[u32],
-    map: &mut [u32],
-    memo: &mut [u32],
-    hyps: &mut [u64],
-    footing: &mut [u64],
-) -> Derived
-    requires fact_form { FactForm (names theory.now goals.now text.now symbols.now inputs.now vars.now defs.now) facts.now footings.now lists.now n index.old words.old mark cells.now 5 }
-    requires blank { Blank map.old memo.old hyps.old footing.old × Theta mark bound.now }
-    ensures derived_as { (g : FactForm (names theory.now goals.now text.now symbols.now inputs.now vars.now defs.now) facts.now footings.now lists.now n index.old words.old mark cells.now 5) →
-        DerivedAs Fact index.old words.old index.new words.new mark g.S (apply_on g.S i g.xs (bindings_of (made index.old words.old mark) bound.now 0) (made index.old words.old mark)) alone hyps.new footing.new result }
-    ensures map_unchanged { (map.new ≡ map.old) × (memo.new ≡ memo.old) }
-{
-    if !is_fact(n, i) {
-        return Derived::No(34, 0, mark);
-    }
-    let q = applicable(facts, lists, i, bound);
-    if q != 0 {
-        return Derived::No(q, 0, mark);
-    }
-    let Item::List(a, b) = items::nth(cells, 4) else {
-        return Derived::No(37, 0, mark);
-    };
-    let inner = &cells[a..b];
-    if items::count(inner) != premises_of(facts, i) {
-        return Derived::No(37, 0, mark);
-    }
-    match substitute(index, words, mark, bound, memo, judgment(facts, i)) {
-        Kept::Term(j, m) => apply_to(
-            theory, goals, text, symbols, inputs, vars, defs, facts, footings, lists, n, index,
-            words, m, i, j, inner, bound, map, memo, hyps, footing,
-        ),
-        Kept::Full(row, m) => Derived::No(60, row, m),
-    }
-}
-
-// The form, whose items the cells hold. `map`, `memo` and `bound` are scratch: zero before and after. The sets are empty before; afterwards they are the
-// fact's, where one is answered.
+// The form, whose items the cells hold. `memo` is scratch: zero before and after.
 pub fn apply(
-    theory: &[u8],
-    goals: &[u8],
-    text: &[u8],
-    symbols: &[u32],
-    inputs: &[u32],
-    vars: &[u32],
-    defs: &[u32],
-    facts: &[u32],
-    footings: &[u64],
-    lists: &[u32],
-    n: Sizes,
-    index: &mut [u32],
-    words: &mut [u32],
-    mark: Mark,
+    source: &Source<'_>,
+    store: &mut Store<'_>,
     cells: &[u32],
-    bound: &mut [u32],
-    map: &mut [u32],
     memo: &mut [u32],
-    hyps: &mut [u64],
-    footing: &mut [u64],
-) -> Derived
-    requires fact_form { FactForm (names theory.now goals.now text.now symbols.now inputs.now vars.now defs.now) facts.now footings.now lists.now n index.old words.old mark cells.now 5 }
-    requires blank { Blank map.old memo.old hyps.old footing.old × (bound.old ≡ replicate VARIABLES 0) }
-    ensures derived_as { (g : FactForm (names theory.now goals.now text.now symbols.now inputs.now vars.now defs.now) facts.now footings.now lists.now n index.old words.old mark cells.now 5) →
-        DerivedAs Fact index.old words.old index.new words.new mark g.S (apply g.S g.xs (made index.old words.old mark)) alone hyps.new footing.new result }
-    ensures map_unchanged { (map.new ≡ map.old) × (memo.new ≡ memo.old) × (bound.new ≡ bound.old) }
+) -> Result<Derived, Question>
+    requires reads { ReadsForm source.now store.old cells.now 5 }
+    requires memo_value { memo.old ≡ replicate TERMS 0 }
+    ensures same_tables { SameTables store.old store.new }
+    ensures derived_as { (g : ReadsForm source.now store.old cells.now 5) →
+        DerivedAs Fact store.old store.new g.S (apply g.S g.xs (made_of store.old)) alone result }
+    ensures memo_unchanged { memo.new ≡ memo.old }
 {
     let at = items::place(cells, 2);
-    let Some(i) = index_in(text, &cells[at..]) else {
-        return Derived::No(34, 0, mark);
+    let Some(i) = index_in(source.reader.text, &cells[at..]) else {
+        return Err(Question::Earlier);
     };
     let Item::List(a, b) = items::nth(cells, 3) else {
-        return Derived::No(36, 0, mark);
+        return Err(Question::Binding);
     };
-    match bindings(
-        theory,
-        goals,
-        text,
-        symbols,
-        inputs,
-        vars,
-        defs,
-        n,
-        index,
-        words,
-        mark,
-        &cells[a..b],
-        bound,
-    ) {
-        Bound::Ok(m) => {
-            let r = apply_on(
-                theory, goals, text, symbols, inputs, vars, defs, facts, footings, lists, n, index,
-                words, m, i, cells, bound, map, memo, hyps, footing,
-            );
-            clear(bound);
-            r
-        }
-        Bound::No(q, d, m) => Derived::No(q, d, m),
-    }
+    let mut bound = [0; VARIABLES];
+    source.reader.bindings(store, &cells[a..b], &mut bound)?;
+    let rule = Rule {
+        fact: i,
+        bound: &bound,
+    };
+    rule.apply_on(source, store, cells, memo)
 }

@@ -1,407 +1,252 @@
 // `(step N RULE (REF...) ITEM...)`: an instance of a rule, from earlier facts.
 ghost use Rattle.std.specs.Prelude.{◌≡◌, List, [], ◌∷◌, ℕ, ◌<◌, length, replicate};
-ghost use Rattle.rules.specs.Limits.{PATTERNS, VARIABLEWORDS};
+ghost use Rattle.rules.specs.Limits.{TERMS, PATTERNS};
 ghost use Rattle.rules.specs.Find.{rising};
 ghost use Rattle.rules.specs.Sexp.{count, rest};
-ghost use Rattle.rules.specs.Theory.{rule};
+ghost use Rattle.rules.specs.Tree.{Tree};
+ghost use Rattle.rules.specs.Theory.{rule as rule_in};
 ghost use Rattle.rules.specs.State.{Fact};
-ghost use Rattle.rules.specs.Step.{references, step};
-ghost use Rattle.terms.specs.Table.{made, args_of};
+ghost use Rattle.rules.specs.Step.{references, step, match_stated};
+ghost use Rattle.terms.specs.Table.{args_of};
+ghost use Rattle.terms.specs.Lent.{SameTables, made_of, terms_made};
 ghost use Rattle.terms.specs.Sets.{holds};
-ghost use Rattle.terms.specs.Collect.{Seen};
-ghost use Rattle.terms.specs.Patterns.{tree_in, bound_of};
-ghost use Rattle.state.specs.Held.{names, rule_lists};
-ghost use Rattle.reading.specs.Apart.{ReadAs};
-ghost use Rattle.referring.specs.Referral.{instances_of, Gathered};
-ghost use Rattle.referring.specs.Derived.{FactForm, RuleForm, ReadableCells, FewItems, Blank, RefsAs, DerivedAs, cell_vars, with_instances};
-ghost use Rattle.derivation.specs.Stepping.{Concludable, Concludes, Scopes, PremisesOf, UsedAs, ScopedAs, concluded, from_items, in_scope, by_rule};
+ghost use Rattle.terms.specs.Patterns.{tree_in, bound_of, Stands, AllMatched};
+ghost use Rattle.reading.specs.Answers.{ReadAs};
+ghost use Rattle.referring.specs.Sources.{ReadsForm, ReadsRuleForm};
+ghost use Rattle.referring.specs.Derived.{FewItems, DerivedAs, with_instances};
+ghost use Rattle.derivation.specs.ItemsOf.{stated_in};
+ghost use Rattle.derivation.specs.Stepping.{StatedIn, ConcludableIn, ReadsConclusion, ScopesIn, PremisesOf, RefsAs, UsedAs, ScopedAs, concluded, from_items, in_scope, by_rule};
 
-use crate::items::read_items;
+use crate::items::{OneRule, Said, read_items};
 use cells::clear;
-use kernel::rule_readers::{conclusion, premises, rule_named, words as rule_words};
-use reading::apart::Out;
-use referring::derived::Derived;
-use referring::references::{Referred, join, reference};
-use referring::scope::{outside, visit_all, visit_cells};
-use rules::{RULEVARS, TERMWORDS, VARIABLEWORDS};
+use kernel::rule_readers::{Rules, conclusion, premises, rule_named, words as rule_words};
+use questions::Question;
+use reading::reader::Reader;
+use referring::scope::{visit_all, visit_cells};
+use referring::source::Source;
+use referring::support::{Derived, Support, no_support};
+use rules::{TERMWORDS, VARIABLEWORDS};
 use sexp::items::Item;
 use sexp::{items, lex};
-use state::sizes::Sizes;
-use terms::apart::{Built, build, match_all, matches, visit};
+use terms::patterns::{build, match_all, matches};
 use terms::sets::insert;
-use terms::store::Mark;
+use terms::store::{Store, Terms};
 
-// The number of instances that a reference is.
-fn instances(bare: bool) -> usize
-    ensures { result ≡ instances_of bare }
-{
-    if bare {
-        return 0;
-    }
-    1
+// What references bring: how many of them are instances, and what they rest on.
+#[derive(Clone, Copy)]
+pub struct Brought {
+    pub instances: usize,
+    pub support: Support,
 }
 
-// All references: their judgments' numbers come into the first cells of `ids`, what they bring into the sets. What is answered is how many of them are
-// instances. `map` and `memo` are scratch: zero before and after.
+// A conclusion by its number, and the variables that are used for it, as a set.
+#[derive(Clone, Copy)]
+pub struct Concluded {
+    pub judgment: usize,
+    pub used: [u64; VARIABLEWORDS],
+}
+
+// All references: their judgments' numbers come into the first cells of `ids`. `memo` is scratch: zero before and after.
 fn references(
-    theory: &[u8],
-    goals: &[u8],
-    text: &[u8],
-    symbols: &[u32],
-    inputs: &[u32],
-    vars: &[u32],
-    defs: &[u32],
-    facts: &[u32],
-    footings: &[u64],
-    lists: &[u32],
-    n: Sizes,
-    index: &mut [u32],
-    words: &mut [u32],
-    mark: Mark,
+    source: &Source<'_>,
+    store: &mut Store<'_>,
     cells: &[u32],
-    map: &mut [u32],
     memo: &mut [u32],
     ids: &mut [u32],
-    hyps: &mut [u64],
-    footing: &mut [u64],
-) -> Out
-    requires fact_form { FactForm (names theory.now goals.now text.now symbols.now inputs.now vars.now defs.now) facts.now footings.now lists.now n index.old words.old mark cells.now 0 × Blank map.old memo.old hyps.old footing.old }
+) -> Result<Brought, Question>
+    requires reads { ReadsForm source.now store.old cells.now 0 }
+    requires memo_value { memo.old ≡ replicate TERMS 0 }
     requires few_items { FewItems cells.now (length ids.old) }
-    ensures refs_as { (g : FactForm (names theory.now goals.now text.now symbols.now inputs.now vars.now defs.now) facts.now footings.now lists.now n index.old words.old mark cells.now 0) →
-        RefsAs index.old words.old index.new words.new mark g.S (references g.S g.xs (made index.old words.old mark)) ids.new hyps.new footing.new (count g.xs) result }
-    ensures map_unchanged { (map.new ≡ map.old) × (memo.new ≡ memo.old) }
+    ensures same_tables { SameTables store.old store.new }
+    ensures refs_as { (g : ReadsForm source.now store.old cells.now 0) →
+        RefsAs store.old store.new g.S (references g.S g.xs (made_of store.old)) ids.new (count g.xs) result }
+    ensures memo_unchanged { memo.new ≡ memo.old }
 {
-    let mut m = mark;
-    let mut k = 0;
-    let mut many = 0;
-    let mut at = 0;
-    while at < cells.len() {
-        match reference(
-            theory,
-            goals,
-            text,
-            symbols,
-            inputs,
-            vars,
-            defs,
-            facts,
-            n,
-            index,
-            words,
-            m,
-            &cells[at..],
-            map,
-            memo,
-        ) {
-            Referred::To(t, i, bare, new) => {
-                ids[k] = t as u32;
-                join(facts, footings, lists, i, bare, hyps, footing);
-                many += instances(bare);
-                m = new;
-            }
-            Referred::No(q, d, new) => {
-                return Out::No(q, d, new);
-            }
-        }
-        k += 1;
-        at = items::after(cells, at);
+    let facts = source.facts();
+    let mut support = no_support();
+    let mut instances = 0;
+    for (k, item) in items::all(cells).enumerate() {
+        let referred = source.reference(store, item, memo)?;
+        ids[k] = referred.judgment as u32;
+        support.join(&facts, referred.fact, referred.bare);
+        instances += usize::from(!referred.bare);
     }
-    Out::Ok(many, m)
+    Ok(Brought { instances, support })
 }
 
-// The conclusion of rule r over its premises, which are these terms: as the items state it, or built. The variables of the terms and of the values that
-// the items give come into the set.
-fn conclude(
-    theory: &[u8],
-    goals: &[u8],
-    text: &[u8],
-    symbols: &[u32],
-    inputs: &[u32],
-    rules: &[u32],
-    rulevars: &[u32],
-    patterns: &[u32],
-    vars: &[u32],
-    defs: &[u32],
-    n: Sizes,
-    index: &mut [u32],
-    words: &mut [u32],
-    mark: Mark,
-    r: usize,
-    ids: &[u32],
-    cells: &[u32],
-    used: &mut [u64],
-) -> Out
-    requires { Concludes (names theory.now goals.now text.now symbols.now inputs.now vars.now defs.now) (rule_lists theory.now rules.now rulevars.now patterns.now) n index.old words.old mark r cells.now ids.now × (used.old ≡ replicate VARIABLEWORDS 0) }
-    ensures { (g : Concludes (names theory.now goals.now text.now symbols.now inputs.now vars.now defs.now) (rule_lists theory.now rules.now rulevars.now patterns.now) n index.old words.old mark r cells.now ids.now) →
-        UsedAs index.old words.old index.new words.new mark (from_items g.given.S (rule g.given.S.theory r) (args_of (made index.old words.old mark) ids.now) g.given.xs (made index.old words.old mark)) used.new result }
-{
-    let mut bound = [0u32; RULEVARS];
-    let mut seen = [0u64; TERMWORDS];
-    match read_items(
-        theory, goals, text, symbols, inputs, rules, rulevars, patterns, vars, defs, n, index,
-        words, mark, r, cells, &mut bound,
-    ) {
-        Out::Ok(stated, m) => {
-            visit_all(index, words, m, ids, &mut seen, used);
-            visit_cells(index, words, m, &bound, &mut seen, used);
-            let place = conclusion(patterns, rules, symbols, r);
-            let first = rule_words(rules, r).from;
-            matched(
-                symbols, patterns, index, words, m, &mut bound, first, place, ids, stated,
-            )
-        }
-        Out::No(q, d, m) => Out::No(q, d, m),
-    }
-}
-
-// Question 38: the stated conclusion matches the rule's, where one is stated, and the terms its premises; then it is the conclusion, or the rule's is
-// built.
-fn matched(
+// Whether what is stated, if something is, matches the pattern at a place.
+fn match_stated(
     symbols: &[u32],
     patterns: &[u32],
-    index: &mut [u32],
-    words: &mut [u32],
-    mark: Mark,
+    terms: &Terms<'_>,
     bound: &mut [u32],
-    first: usize,
     place: usize,
-    ids: &[u32],
-    stated: usize,
-) -> Out
-    requires { Concludable symbols.now patterns.now index.old words.old mark bound.old first place ids.now stated }
-    ensures { (g : Concludable symbols.now patterns.now index.old words.old mark bound.old first place ids.now stated) →
-        ReadAs index.old words.old index.new words.new mark (concluded g.rule (args_of (made index.old words.old mark) ids.now) (tree_in (made index.old words.old mark) stated) (bound_of (made index.old words.old mark) bound.old) (made index.old words.old mark)) result }
+    stated: Option<usize>,
+) -> bool
+    requires { StatedIn symbols.now patterns.now terms.now bound.old place stated }
+    ensures { (p : Tree) → Stands symbols.now patterns.now place p → let M = terms_made terms.now in
+        AllMatched M bound.old bound.new (match_stated p (stated_in M stated) (bound_of M bound.old)) result }
 {
-    if stated != 0 {
-        let Some(_) = matches(
-            symbols,
-            patterns,
-            index,
-            words,
-            mark,
-            bound,
-            place,
-            stated - 1,
-        ) else {
-            return Out::No(38, 0, mark);
-        };
-        if !match_all(symbols, patterns, index, words, mark, bound, first, ids) {
-            return Out::No(38, 0, mark);
+    let Some(id) = stated else {
+        return true;
+    };
+    matches(symbols, patterns, terms, bound, place, id).is_some()
+}
+
+impl Said {
+    // Question 38: the stated conclusion matches the rule's, where one is stated, and the terms its premises; then it is the conclusion, or the rule's is
+    // built.
+    fn matched(
+        self,
+        symbols: &[u32],
+        patterns: &[u32],
+        store: &mut Store<'_>,
+        first: usize,
+        place: usize,
+        ids: &[u32],
+    ) -> Result<usize, Question>
+        requires { ConcludableIn symbols.now patterns.now store.old self first place ids.now }
+        ensures same_tables { SameTables store.old store.new }
+        ensures read_as { (g : ConcludableIn symbols.now patterns.now store.old self first place ids.now) → let M = made_of store.old in
+            ReadAs store.old store.new (concluded g.rule (args_of M ids.now) (stated_in M self.stated) (bound_of M self.bound) M) result }
+    {
+        let mut bound = self.bound;
+        let terms = store.terms();
+        if !match_stated(symbols, patterns, &terms, &mut bound, place, self.stated) {
+            return Err(Question::Matching);
         }
-        return Out::Ok(stated - 1, mark);
-    }
-    if !match_all(symbols, patterns, index, words, mark, bound, first, ids) {
-        return Out::No(38, 0, mark);
-    }
-    match build(symbols, patterns, index, words, mark, bound, place) {
-        Built::Term(t, _, new) => Out::Ok(t, new),
-        Built::No(q, d, new) => Out::No(q, d, new),
+        if !match_all(symbols, patterns, &terms, &mut bound, first, ids) {
+            return Err(Question::Matching);
+        }
+        match self.stated {
+            Some(id) => Ok(id),
+            None => Ok(build(symbols, patterns, store, &bound, place)?.term),
+        }
     }
 }
 
-// The form, whose items the cells hold. `map`, `memo` and `ids` are scratch: zero before and after; of `ids` as many cells are used, and cleared, as the rule
-// has premises. The sets are empty before; afterwards they are the fact's, where one is answered.
-pub fn step(
-    theory: &[u8],
-    goals: &[u8],
-    text: &[u8],
-    symbols: &[u32],
-    inputs: &[u32],
-    rules: &[u32],
-    rulevars: &[u32],
-    patterns: &[u32],
-    vars: &[u32],
-    defs: &[u32],
-    facts: &[u32],
-    footings: &[u64],
-    lists: &[u32],
-    n: Sizes,
-    index: &mut [u32],
-    words: &mut [u32],
-    mark: Mark,
+// The conclusion of a rule over its premises, which are these terms: as the items state it, or built; and the variables of the terms and of the values
+// that the items give.
+fn conclude(
+    reader: &Reader<'_>,
+    rule: &OneRule<'_>,
+    store: &mut Store<'_>,
     cells: &[u32],
-    map: &mut [u32],
+    ids: &[u32],
+) -> Result<Concluded, Question>
+    requires { ReadsConclusion reader.now rule.now store.old cells.now ids.now }
+    ensures same_tables { SameTables store.old store.new }
+    ensures used_as { (g : ReadsConclusion reader.now rule.now store.old cells.now ids.now) → let M = made_of store.old in
+        UsedAs store.old store.new (from_items g.given.S (rule_in g.given.S.theory rule.now.number) (args_of M ids.now) g.given.xs M) result }
+{
+    let said = read_items(reader, rule, store, cells)?;
+    let mut seen = [0u64; TERMWORDS];
+    let mut used = [0u64; VARIABLEWORDS];
+    let terms = store.terms();
+    visit_all(&terms, ids, &mut seen, &mut used);
+    visit_cells(&terms, &said.bound, &mut seen, &mut used);
+    let OneRule { rules, number } = *rule;
+    let place = conclusion(rules.patterns, rules.rows, reader.symbols, number);
+    let first = rule_words(rules.rows, number).from;
+    let judgment = said.matched(reader.symbols, rules.patterns, store, first, place, ids)?;
+    Ok(Concluded { judgment, used })
+}
+
+// The form, whose items the cells hold. `memo` and `ids` are scratch: zero before and after; of `ids` as many cells are used, and cleared, as the rule
+// has premises.
+pub fn step(
+    source: &Source<'_>,
+    rules: &Rules<'_>,
+    store: &mut Store<'_>,
+    cells: &[u32],
     memo: &mut [u32],
     ids: &mut [u32],
-    hyps: &mut [u64],
-    footing: &mut [u64],
-) -> Derived
-    requires rule_form { RuleForm (names theory.now goals.now text.now symbols.now inputs.now vars.now defs.now) (rule_lists theory.now rules.now rulevars.now patterns.now) facts.now footings.now lists.now n index.old words.old mark cells.now 4 }
-    requires blank { Blank map.old memo.old hyps.old footing.old × (ids.old ≡ replicate PATTERNS 0) }
-    ensures derived_as { (g : RuleForm (names theory.now goals.now text.now symbols.now inputs.now vars.now defs.now) (rule_lists theory.now rules.now rulevars.now patterns.now) facts.now footings.now lists.now n index.old words.old mark cells.now 4) →
-        DerivedAs (Fact × ℕ) index.old words.old index.new words.new mark g.S (step g.S g.xs (made index.old words.old mark)) with_instances hyps.new footing.new result }
-    ensures map_unchanged { (map.new ≡ map.old) × (memo.new ≡ memo.old) × (ids.new ≡ ids.old) }
+) -> Result<Derived, Question>
+    requires reads { ReadsRuleForm source.now rules.now store.old cells.now 4 }
+    requires memo_value { memo.old ≡ replicate TERMS 0 }
+    requires ids_value { ids.old ≡ replicate PATTERNS 0 }
+    ensures same_tables { SameTables store.old store.new }
+    ensures derived_as { (g : ReadsRuleForm source.now rules.now store.old cells.now 4) →
+        DerivedAs (Fact × ℕ) store.old store.new g.S (step g.S g.xs (made_of store.old)) with_instances result }
+    ensures memo_unchanged { memo.new ≡ memo.old }
+    ensures ids_unchanged { ids.new ≡ ids.old }
 {
     let Item::Atom(start) = items::nth(cells, 2) else {
-        return Derived::No(33, 0, mark);
+        return Err(Question::Defined);
     };
-    let end = lex::atom_end(text, start);
-    let Some(r) = rule_named(theory, rules, n.rules, &text[start..end]) else {
-        return Derived::No(33, 0, mark);
+    let reader = &source.reader;
+    let end = lex::atom_end(reader.text, start);
+    let name = &reader.text[start..end];
+    let Some(number) = rule_named(reader.theory, rules.rows, reader.n.rules, name) else {
+        return Err(Question::Defined);
     };
-    let few = premises(rules, r);
-    let answer = step_by(
-        theory,
-        goals,
-        text,
-        symbols,
-        inputs,
-        rules,
-        rulevars,
-        patterns,
-        vars,
-        defs,
-        facts,
-        footings,
-        lists,
-        n,
-        index,
-        words,
-        mark,
-        r,
-        cells,
-        map,
-        memo,
-        &mut ids[..few],
-        hyps,
-        footing,
-    );
+    let few = premises(rules.rows, number);
+    let rule = OneRule {
+        rules: *rules,
+        number,
+    };
+    let answer = step_by(source, &rule, store, cells, memo, &mut ids[..few]);
     clear(&mut ids[..few]);
     answer
 }
 
-// The rest of the form behind the name of its rule, r. `ids` has a cell for each premise of the rule, of whatever content before and after.
+// The rest of the form behind the name of its rule. `ids` has a cell for each premise of the rule, of whatever content before and after.
 fn step_by(
-    theory: &[u8],
-    goals: &[u8],
-    text: &[u8],
-    symbols: &[u32],
-    inputs: &[u32],
-    rules: &[u32],
-    rulevars: &[u32],
-    patterns: &[u32],
-    vars: &[u32],
-    defs: &[u32],
-    facts: &[u32],
-    footings: &[u64],
-    lists: &[u32],
-    n: Sizes,
-    index: &mut [u32],
-    words: &mut [u32],
-    mark: Mark,
-    r: usize,
+    source: &Source<'_>,
+    rule: &OneRule<'_>,
+    store: &mut Store<'_>,
     cells: &[u32],
-    map: &mut [u32],
     memo: &mut [u32],
     ids: &mut [u32],
-    hyps: &mut [u64],
-    footing: &mut [u64],
-) -> Derived
-    requires rule_form { RuleForm (names theory.now goals.now text.now symbols.now inputs.now vars.now defs.now) (rule_lists theory.now rules.now rulevars.now patterns.now) facts.now footings.now lists.now n index.old words.old mark cells.now 4 }
-    requires r_lt_rules { (r < n.rules) × Blank map.old memo.old hyps.old footing.old × PremisesOf rules.now r (length ids.old) }
-    ensures derived_as { (g : RuleForm (names theory.now goals.now text.now symbols.now inputs.now vars.now defs.now) (rule_lists theory.now rules.now rulevars.now patterns.now) facts.now footings.now lists.now n index.old words.old mark cells.now 4) →
-        DerivedAs (Fact × ℕ) index.old words.old index.new words.new mark g.S (by_rule g.S r g.xs (made index.old words.old mark)) with_instances hyps.new footing.new result }
-    ensures map_unchanged { (map.new ≡ map.old) × (memo.new ≡ memo.old) }
+) -> Result<Derived, Question>
+    requires reads { ReadsRuleForm source.now rule.now.rules store.old cells.now 4 }
+    requires known { (rule.now.number < source.now.reader.n.rules) × PremisesOf rule.now.rules.rows.now rule.now.number (length ids.old) }
+    requires memo_value { memo.old ≡ replicate TERMS 0 }
+    ensures same_tables { SameTables store.old store.new }
+    ensures derived_as { (g : ReadsRuleForm source.now rule.now.rules store.old cells.now 4) →
+        DerivedAs (Fact × ℕ) store.old store.new g.S (by_rule g.S rule.now.number g.xs (made_of store.old)) with_instances result }
+    ensures memo_unchanged { memo.new ≡ memo.old }
 {
     let Item::List(a, b) = items::nth(cells, 3) else {
-        return Derived::No(37, 0, mark);
+        return Err(Question::Premises);
     };
     let inner = &cells[a..b];
     let many = items::count(inner);
-    if many != premises(rules, r) {
-        return Derived::No(37, 0, mark);
+    let OneRule { rules, number } = *rule;
+    if many != premises(rules.rows, number) {
+        return Err(Question::Premises);
     }
-    match references(
-        theory, goals, text, symbols, inputs, vars, defs, facts, footings, lists, n, index, words,
-        mark, inner, map, memo, ids, hyps, footing,
-    ) {
-        Out::Ok(k, m) => {
-            insert(footing, r);
-            step_on(
-                theory,
-                goals,
-                text,
-                symbols,
-                inputs,
-                rules,
-                rulevars,
-                patterns,
-                vars,
-                defs,
-                facts,
-                lists,
-                n,
-                index,
-                words,
-                m,
-                r,
-                cells,
-                &ids[..many],
-                hyps,
-                k,
-            )
-        }
-        Out::No(q, d, m) => Derived::No(q, d, m),
-    }
+    let mut brought = references(source, store, inner, memo, ids)?;
+    insert(&mut brought.support.footing, number);
+    step_on(source, rule, store, cells, &ids[..many], &brought)
 }
 
 // The rest of the form behind its references.
 fn step_on(
-    theory: &[u8],
-    goals: &[u8],
-    text: &[u8],
-    symbols: &[u32],
-    inputs: &[u32],
-    rules: &[u32],
-    rulevars: &[u32],
-    patterns: &[u32],
-    vars: &[u32],
-    defs: &[u32],
-    facts: &[u32],
-    lists: &[u32],
-    n: Sizes,
-    index: &mut [u32],
-    words: &mut [u32],
-    mark: Mark,
-    r: usize,
+    source: &Source<'_>,
+    rule: &OneRule<'_>,
+    store: &mut Store<'_>,
     cells: &[u32],
     ids: &[u32],
-    hyps: &[u64],
-    k: usize,
-) -> Derived
-    requires { Scopes (names theory.now goals.now text.now symbols.now inputs.now vars.now defs.now) (rule_lists theory.now rules.now rulevars.now patterns.now) facts.now lists.now n index.old words.old mark r cells.now ids.now hyps.now }
-    ensures { (g : Scopes (names theory.now goals.now text.now symbols.now inputs.now vars.now defs.now) (rule_lists theory.now rules.now rulevars.now patterns.now) facts.now lists.now n index.old words.old mark r cells.now ids.now hyps.now) →
-        ScopedAs index.old words.old index.new words.new mark (in_scope g.S (rule g.S.theory r) (args_of (made index.old words.old mark) ids.now) (rising (length g.S.facts) (holds hyps.now)) (rest g.xs 4) (made index.old words.old mark)) k result }
+    brought: &Brought,
+) -> Result<Derived, Question>
+    requires { ScopesIn source.now rule.now store.old cells.now ids.now brought.now.support }
+    ensures same_tables { SameTables store.old store.new }
+    ensures scoped_as { (g : ScopesIn source.now rule.now store.old cells.now ids.now brought.now.support) → let M = made_of store.old in
+        ScopedAs store.old store.new (in_scope g.S (rule_in g.S.theory rule.now.number) (args_of M ids.now) (rising (length g.S.facts) (holds brought.now.support.hyps)) (rest g.xs 4) M) brought.now result }
 {
-    let mut used = [0u64; VARIABLEWORDS];
     let at = items::place(cells, 4);
-    match conclude(
-        theory,
-        goals,
-        text,
-        symbols,
-        inputs,
-        rules,
-        rulevars,
-        patterns,
-        vars,
-        defs,
-        n,
-        index,
-        words,
-        mark,
-        r,
-        ids,
-        &cells[at..],
-        &mut used,
-    ) {
-        Out::Ok(j, m) => {
-            let v = outside(facts, lists, n, index, words, m, &used, j, hyps);
-            if v != 0 {
-                return Derived::No(39, v, m);
-            }
-            Derived::Ok(j, k, m)
-        }
-        Out::No(q, d, m) => Derived::No(q, d, m),
+    let Concluded { judgment, used } = conclude(&source.reader, rule, store, &cells[at..], ids)?;
+    let Brought { instances, support } = *brought;
+    let outside = source
+        .facts()
+        .outside(&store.terms(), &used, judgment, &support.hyps);
+    if let Some(v) = outside {
+        return Err(Question::Scope(v + 1));
     }
+    Ok(Derived {
+        judgment,
+        instances,
+        support,
+    })
 }

@@ -1,5 +1,5 @@
 -- What the form `induct` is given and what its parts answer: the motive in the store, a case's terms, and what a case may rest on. Assumes nothing.
-use Rattle.std.specs.Prelude.{◌≡◌, Bool, true, false, ◌&&◌, ◌||◌, List, [], ◌∷◌, ℕ, zero, suc, ◌*◌, ◌<◌, ◌≤◌, eqb, length, get_or, take, drop, replicate}
+use Rattle.std.specs.Prelude.{◌≡◌, Bool, true, false, ◌&&◌, ◌||◌, List, [], ◌∷◌, ℕ, zero, suc, ◌*◌, ◌<◌, ◌≤◌, eqb, length, get_or, take, drop, replicate, Result, Ok, Err}
 use Rattle.rules.specs.Limits.{ARGUMENTS, VARIABLES, TERMS, FACTS, SYMBOLS, VARIABLEWORDS, TERMWORDS, FACTWORDS}
 use Rattle.rules.specs.Out.{Out, ok, refuse, Act, ◌>>=◌, pure, ask}
 use Rattle.rules.specs.Find.{entry, any, all}
@@ -11,7 +11,11 @@ use Rattle.rules.specs.State.{State, is_none}
 use Rattle.rules.specs.Reference.{fact_at}
 use Rattle.rules.specs.Induct.{Motive, motive_vars, keep_vars, Hyp, hypotheses, allowed_hyp, induct_cases}
 use Rattle.sexp.specs.Items.{Holds}
+use Rattle.questions.specs.Numbers.{row_number, number_of, detail_of}
+use Rattle.questions.specs.declared.Row.{Row}
+use Rattle.questions.specs.declared.Question.{Question}
 use Rattle.terms.specs.declared.store.Mark.{Mark}
+use Rattle.terms.specs.declared.store.Store.{Store}
 use Rattle.terms.specs.Table.{made, tree, args_of, Good}
 use Rattle.terms.specs.Node.{same_words}
 use Rattle.terms.specs.Sets.{holds}
@@ -20,8 +24,12 @@ use Rattle.state.specs.declared.sizes.Sizes.{Sizes}
 use Rattle.state.specs.Held.{VarsHeld, names, records, Recorded}
 use Rattle.state.specs.Rows.{cell}
 use Rattle.reading.specs.declared.apart.Out.{Out as Answer}
-use Rattle.reading.specs.declared.apart.Out.TheVariants.{Ok, No}
+use Rattle.reading.specs.declared.apart.Out.TheVariants as answer
+use Rattle.referring.specs.declared.source.Facts.{Facts}
 use Rattle.referring.specs.Recall.{Refers}
+use Rattle.referring.specs.Substitutes.{Below, Replaceables}
+use Rattle.induction.specs.declared.motive.Motive.{Motive as Statement}
+use Rattle.induction.specs.declared.resting.Allowed.{Allowed}
 
 -- cells for numbers of terms
 abbrev pub IDS : ℕ
@@ -31,20 +39,19 @@ IDS = 40960
 abbrev pub Roomy : ℕ → List ℕ → Type 0
 Roomy width ids = ARGUMENTS * suc width ≤ length ids
 
--- numbers that are all below n
-abbrev pub Below : ℕ → List ℕ → Type 0
-Below n xs = (k : ℕ) → k < length xs → get_or xs k 0 < n
-
 -- K answers, or refuses; what is answered is of no use
 abbrev pub PassedAs : List ℕ → List ℕ → List ℕ → List ℕ → Mark → Out Made (Unit {0}) → Answer → Type 0
-PassedAs I W J X old K (Ok k new) = Went I W J X old K tt new
-PassedAs I W J X old K (No q d new) = Stopped I W J X old K q d new
+PassedAs I W J X old K (answer.Ok k new) = Went I W J X old K tt new
+PassedAs I W J X old K (answer.No q d new) = Stopped I W J X old K q d new
 
 -- The motive -------------------------------------------------------------------------------------------------------------------------
 
 -- of variable x and its sort, by the numbers of its judgment and its premises
 abbrev pub motive_in : Made → ℕ → ℕ → ℕ → List ℕ → Motive
 motive_in M x sort j premises = record { variable = x; sort = sort; judgment = get_or M j (var 0); premises = args_of M premises }
+
+abbrev pub motive_of : Made → Statement → Motive
+motive_of M a = motive_in M a.x a.sort a.judgment a.premises.now
 
 -- these are there
 pub record Motived (I W : List ℕ) (m : Mark) (x j : ℕ) (premises : List ℕ) : Type 0 where
@@ -53,6 +60,9 @@ pub record Motived (I W : List ℕ) (m : Mark) (x j : ℕ) (premises : List ℕ)
   pub there : j < m.terms
   pub known : Below m.terms premises
   pub few : length premises ≤ FACTS
+
+abbrev pub MotivedIn : Store → Statement → Type 0
+MotivedIn s a = Motived s.index.now s.words.now s.mark a.x a.judgment a.premises.now
 
 -- the judgments of facts, by their numbers
 unfoldable pub judgment_cells : List ℕ → List ℕ → List ℕ
@@ -75,22 +85,9 @@ premises_first σ j ps = do
   u ← substitute σ j
   pure (record { premises = us; judgment = u })
 
--- a map of terms that are there, a memo without results, terms, and a cell for each
-pub record Movable (I W : List ℕ) (m : Mark) (map memo premises out : List ℕ) : Type 0 where
-  pub good : Good I W m
-  pub bound : (v : ℕ) → get_or map v 0 ≤ m.terms
-  pub blank : memo ≡ replicate TERMS 0
-  pub known : Below m.terms premises
-  pub long : length out ≡ length premises
-
--- K answers terms, whose numbers are in the cells
-pub record MovedAll (I W J X : List ℕ) (old : Mark) (K : Out Made Trees) (out : List ℕ) (new : Mark) : Type 0 where
-  pub went : Went I W J X old K (args_of (made J X new) out) new
-  pub known : Below new.terms out
-
-abbrev pub MovedAllAs : List ℕ → List ℕ → List ℕ → List ℕ → Mark → Out Made Trees → List ℕ → Answer → Type 0
-MovedAllAs I W J X old K out (Ok k new) = MovedAll I W J X old K out new
-MovedAllAs I W J X old K out (No q d new) = Stopped I W J X old K q d new
+-- terms to put under a map, with a cell for each premise
+abbrev pub MovableIn : Store → Statement → List ℕ → List ℕ → List ℕ → Type 0
+MovableIn s a map memo out = Replaceables s.index.now s.words.now s.mark map memo a.premises.now out × (a.judgment < s.mark.terms)
 
 -- premises by the cells, and a judgment by its number
 abbrev pub hyp_in : Made → ℕ → List ℕ → Hyp
@@ -102,9 +99,12 @@ pub record Moved (I W J X : List ℕ) (old : Mark) (K : Out Made Hyp) (out : Lis
   pub there : j < new.terms
   pub known : Below new.terms out
 
-abbrev pub MovedAs : List ℕ → List ℕ → List ℕ → List ℕ → Mark → Out Made Hyp → List ℕ → Answer → Type 0
-MovedAs I W J X old K out (Ok j new) = Moved I W J X old K out j new
-MovedAs I W J X old K out (No q d new) = Stopped I W J X old K q d new
+abbrev pub MovedBy : List ℕ → List ℕ → List ℕ → List ℕ → Mark → Mark → Out Made Hyp → List ℕ → Result ℕ Row → Type 0
+MovedBy I W J X old new K out (Ok j) = Moved I W J X old K out j new
+MovedBy I W J X old new K out (Err row) = Stopped I W J X old K 60 (row_number row) new
+
+abbrev pub MovedAs : Store → Store → Out Made Hyp → List ℕ → Result ℕ Row → Type 0
+MovedAs s t K out r = MovedBy s.index.now s.words.now t.index.now t.words.now s.mark t.mark K out r
 
 -- A case's terms ---------------------------------------------------------------------------------------------------------------------
 
@@ -125,6 +125,9 @@ pub record Casing (I W : List ℕ) (m : Mark) (c : ℕ) (vs : List ℕ) : Type 0
   pub symbol : c < SYMBOLS
   pub narrow : length vs ≤ ARGUMENTS
   pub small : Below VARIABLES vs
+
+abbrev pub CasingIn : Store → ℕ → List ℕ → Type 0
+CasingIn s c vs = Casing s.index.now s.words.now s.mark c vs
 
 -- the motive at the constructor
 unfoldable pub at_constructor : Motive → ℕ → List ℕ → Act Made Hyp
@@ -155,9 +158,12 @@ pub record HypsMade (I W J X : List ℕ) (old : Mark) (K : Out Made (List Hyp)) 
   pub known : Below new.terms (take (many * suc k) ids)
   pub few : many ≤ most
 
-abbrev pub HypsMadeAs : List ℕ → List ℕ → List ℕ → List ℕ → Mark → Out Made (List Hyp) → ℕ → ℕ → List ℕ → Answer → Type 0
-HypsMadeAs I W J X old K k most ids (Ok many new) = HypsMade I W J X old K k most ids many new
-HypsMadeAs I W J X old K k most ids (No q d new) = Stopped I W J X old K q d new
+abbrev pub HypsMadeBy : List ℕ → List ℕ → List ℕ → List ℕ → Mark → Mark → Out Made (List Hyp) → ℕ → ℕ → List ℕ → Result ℕ Row → Type 0
+HypsMadeBy I W J X old new K k most ids (Ok many) = HypsMade I W J X old K k most ids many new
+HypsMadeBy I W J X old new K k most ids (Err row) = Stopped I W J X old K 60 (row_number row) new
+
+abbrev pub HypsMadeAs : Store → Store → Out Made (List Hyp) → ℕ → ℕ → List ℕ → Result ℕ Row → Type 0
+HypsMadeAs s t K k most ids r = HypsMadeBy s.index.now s.words.now t.index.now t.words.now s.mark t.mark K k most ids r
 
 -- What a case may rest on ------------------------------------------------------------------------------------------------------------
 
@@ -184,6 +190,9 @@ pub record Resting (facts lists : List ℕ) (n : Sizes) (plain used : List ℕ) 
   pub long : length plain ≡ TERMWORDS
   pub room : many * suc k ≤ length ids
   pub known : Below m.terms (take (many * suc k) ids)
+
+abbrev pub RestingIn : Facts → Allowed → Type 0
+RestingIn f a = Resting f.rows.now f.lists.now f.n a.plain.now a.used.now a.x a.rows.width a.rows.cells.now a.rows.many
 
 -- the same before the judgments of the induction hypotheses are in the set; the case's judgment is there
 pub record BeforeRest (facts lists : List ℕ) (n : Sizes) (plain used : List ℕ) (x k : ℕ) (ids : List ℕ) (many j : ℕ) : Type 0 where
@@ -213,10 +222,10 @@ case_fact S M ps ihs i j = do
   _ ← ask 43 (same_tree f.judgment j)
   ask 44 (all (λ h. allowed_hyp M ps ihs (entry S.facts h)) f.hyps)
 
--- a question, or 0 for none
-unfoldable pub question : ℕ → Act Made (Unit {0})
-question zero U = ok tt U
-question (suc q) U = refuse (suc q) 0 U
+-- it is asked, and nothing is made
+abbrev pub asked : Result (Unit {0}) Question → Act Made (Unit {0})
+asked (Ok _) U = ok tt U
+asked (Err q) U = refuse (number_of q) (detail_of q) U
 
 -- Cases ------------------------------------------------------------------------------------------------------------------------------
 

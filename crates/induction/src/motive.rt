@@ -9,7 +9,7 @@ pub struct Motive<'a> {
     pub premises: &'a [u32],
 }
 
-// The hypotheses of a case, a row of so many cells each: the judgment's number, then those of its premises.
+// The induction hypotheses of a case, `many` rows of `width` premises and a judgment behind them, by their numbers.
 #[derive(Clone, Copy)]
 pub struct Rows<'a> {
     pub cells: &'a [u32],

@@ -6,172 +6,122 @@ ghost use Rattle.terms.specs.Table.{made, tree};
 ghost use Rattle.terms.specs.Node.{same_words};
 ghost use Rattle.terms.specs.Sets.{holds};
 ghost use Rattle.referring.specs.Recall.{fact_of};
-ghost use Rattle.induction.specs.Inducing.{Below, hyps_in, row_among, Resting, case_fact, question};
+ghost use Rattle.referring.specs.Substitutes.{Below};
+ghost use Rattle.induction.specs.Inducing.{hyps_in, row_among, RestingIn, case_fact, asked};
 
+use crate::motive::Rows;
+use questions::Question;
+use referring::source::Facts;
 use state::facts::{
     general, hyps as hyps_of, is_assumed, is_fact, is_plain, judgment as judgment_of,
     premises as premises_of,
 };
-use state::sizes::Sizes;
 use terms::sets::has;
 
-// Whether these variables are all in the set, and none is x.
-fn generalises(own: &[u32], used: &[u64], x: usize) -> bool
-    requires { Below (64 * length used.now) own.now }
-    ensures { result ≡ all (λ g. holds used.now g && not (eqb g x)) own.now }
-{
-    for v in own {
-        let v = *v as usize;
-        if !has(used, v) || v == x {
+// Plain hypotheses whose judgments are in the set of terms, and rule hypotheses that are an induction hypothesis, over variables that are in the other set,
+// and none of them x.
+#[derive(Clone, Copy)]
+pub struct Allowed<'a> {
+    pub plain: &'a [u64],
+    pub used: &'a [u64],
+    pub x: usize,
+    pub rows: Rows<'a>,
+}
+
+impl Rows<'_> {
+    // Whether some row has these premises and this judgment.
+    fn has(&self, own: &[u32], judgment: usize) -> bool
+        requires { self.now.many * suc self.now.width ≤ length self.now.cells.now }
+        ensures { result ≡ row_among self.now.width self.now.many self.now.cells.now own.now judgment }
+    {
+        let mut at = 0;
+        for _ in 0..self.many {
+            let end = at + self.width;
+            if self.cells[end] as usize == judgment && &self.cells[at..end] == own {
+                return true;
+            }
+            at = end + 1;
+        }
+        false
+    }
+}
+
+impl Allowed<'_> {
+    // Whether these variables are all in the set, and none is x.
+    fn generalises(&self, own: &[u32]) -> bool
+        requires { Below (64 * length self.now.used.now) own.now }
+        ensures { result ≡ all (λ g. holds self.now.used.now g && not (eqb g self.now.x)) own.now }
+    {
+        own.iter()
+            .all(|v| has(self.used, *v as usize) && *v as usize != self.x)
+    }
+
+    // Whether the case may rest on hypothesis h as a rule.
+    fn rule(&self, facts: &Facts<'_>, h: usize) -> bool
+        requires { RestingIn facts.now self.now × (h < facts.now.n.facts) }
+        ensures { (g : RestingIn facts.now self.now) →
+            result ≡ allowed_rule g.M (hyps_in (made g.I g.W g.m) self.now.rows.width self.now.rows.many self.now.rows.cells.now) (fact_of g.S h) }
+    {
+        if !is_assumed(facts.rows, h) {
             return false;
         }
-    }
-    true
-}
-
-// Whether these cells and this number are those.
-fn is_row(cells: &[u32], last: usize, own: &[u32], judgment: usize) -> bool
-    ensures { result ≡ same_words cells.now own.now && eqb last judgment }
-{
-    last == judgment && cells == own
-}
-
-// Whether some of the induction hypotheses, `many` rows of `width` premises and a judgment, has these premises and this judgment.
-fn is_hypothesis(own: &[u32], judgment: usize, width: usize, ids: &[u32], many: usize) -> bool
-    requires { many * suc width ≤ length ids.now }
-    ensures { result ≡ row_among width many ids.now own.now judgment }
-{
-    let mut at = 0;
-    for _ in 0..many {
-        let end = at + width;
-        if is_row(&ids[at..end], ids[end] as usize, own, judgment) {
-            return true;
-        }
-        at = end + 1;
-    }
-    false
-}
-
-// Whether the case may rest on hypothesis h as a rule.
-fn allowed_rule(
-    facts: &[u32],
-    lists: &[u32],
-    n: Sizes,
-    h: usize,
-    plain: &[u64],
-    used: &[u64],
-    x: usize,
-    width: usize,
-    ids: &[u32],
-    many: usize,
-) -> bool
-    requires { Resting facts.now lists.now n plain.now used.now x width ids.now many × (h < n.facts) }
-    ensures { (g : Resting facts.now lists.now n plain.now used.now x width ids.now many) →
-        result ≡ allowed_rule g.M (hyps_in (made g.I g.W g.m) width many ids.now) (fact_of g.S h) }
-{
-    if !is_assumed(facts, h) {
-        return false;
-    }
-    let own = general(facts, h);
-    let from = own.from;
-    let end = own.end;
-    if !generalises(&lists[from..end], used, x) {
-        return false;
-    }
-    let ps = premises_of(facts, h);
-    let first = ps.from;
-    let last = ps.end;
-    is_hypothesis(&lists[first..last], judgment_of(facts, h), width, ids, many)
-}
-
-// Whether it may rest on hypothesis h.
-fn allowed(
-    facts: &[u32],
-    lists: &[u32],
-    n: Sizes,
-    h: usize,
-    plain: &[u64],
-    used: &[u64],
-    x: usize,
-    width: usize,
-    ids: &[u32],
-    many: usize,
-) -> bool
-    requires { Resting facts.now lists.now n plain.now used.now x width ids.now many × (h < n.facts) }
-    ensures { (g : Resting facts.now lists.now n plain.now used.now x width ids.now many) →
-        result ≡ allowed_hyp g.M g.ps (hyps_in (made g.I g.W g.m) width many ids.now) (entry g.S.facts h) }
-{
-    if is_plain(facts, h) {
-        return has(plain, judgment_of(facts, h));
-    }
-    allowed_rule(facts, lists, n, h, plain, used, x, width, ids, many)
-}
-
-// Whether it may rest on what fact i rests on.
-fn all_allowed(
-    facts: &[u32],
-    lists: &[u32],
-    n: Sizes,
-    i: usize,
-    plain: &[u64],
-    used: &[u64],
-    x: usize,
-    width: usize,
-    ids: &[u32],
-    many: usize,
-) -> bool
-    requires { Resting facts.now lists.now n plain.now used.now x width ids.now many × (i < n.facts) }
-    ensures { (g : Resting facts.now lists.now n plain.now used.now x width ids.now many) →
-        result ≡ all (λ h. allowed_hyp g.M g.ps (hyps_in (made g.I g.W g.m) width many ids.now) (entry g.S.facts h)) (fact_of g.S i).hyps }
-{
-    let own = hyps_of(facts, i);
-    let from = own.from;
-    let end = own.end;
-    for h in &lists[from..end] {
-        if !allowed(
-            facts,
-            lists,
-            n,
-            *h as usize,
-            plain,
-            used,
-            x,
-            width,
-            ids,
-            many,
-        ) {
+        let own = general(facts.rows, h);
+        let from = own.from;
+        let end = own.end;
+        if !self.generalises(&facts.lists[from..end]) {
             return false;
         }
+        let ps = premises_of(facts.rows, h);
+        let first = ps.from;
+        let last = ps.end;
+        self.rows
+            .has(&facts.lists[first..last], judgment_of(facts.rows, h))
     }
-    true
-}
 
-// Questions 34, 43 and 44: whether fact i is there, is the case's judgment, and rests on what it may; 0 where all is so.
-pub fn case_fact(
-    facts: &[u32],
-    lists: &[u32],
-    n: Sizes,
-    i: usize,
-    judgment: usize,
-    plain: &[u64],
-    used: &[u64],
-    x: usize,
-    width: usize,
-    ids: &[u32],
-    many: usize,
-) -> usize
-    requires { Resting facts.now lists.now n plain.now used.now x width ids.now many }
-    ensures { (g : Resting facts.now lists.now n plain.now used.now x width ids.now many) → judgment < g.m.terms →
-        case_fact g.S g.M g.ps (hyps_in (made g.I g.W g.m) width many ids.now) i (tree g.I g.W g.m judgment) (made g.I g.W g.m) ≡ question result (made g.I g.W g.m) }
-{
-    if !is_fact(n, i) {
-        return 34;
+    // Whether it may rest on hypothesis h.
+    fn hyp(&self, facts: &Facts<'_>, h: usize) -> bool
+        requires { RestingIn facts.now self.now × (h < facts.now.n.facts) }
+        ensures { (g : RestingIn facts.now self.now) →
+            result ≡ allowed_hyp g.M g.ps (hyps_in (made g.I g.W g.m) self.now.rows.width self.now.rows.many self.now.rows.cells.now) (entry g.S.facts h) }
+    {
+        if is_plain(facts.rows, h) {
+            return has(self.plain, judgment_of(facts.rows, h));
+        }
+        self.rule(facts, h)
     }
-    if judgment_of(facts, i) != judgment {
-        return 43;
+
+    // Whether it may rest on what fact i rests on.
+    fn hyps(&self, facts: &Facts<'_>, i: usize) -> bool
+        requires { RestingIn facts.now self.now × (i < facts.now.n.facts) }
+        ensures { (g : RestingIn facts.now self.now) →
+            result ≡ all (λ h. allowed_hyp g.M g.ps (hyps_in (made g.I g.W g.m) self.now.rows.width self.now.rows.many self.now.rows.cells.now) (entry g.S.facts h)) (fact_of g.S i).hyps }
+    {
+        let own = hyps_of(facts.rows, i);
+        let from = own.from;
+        let end = own.end;
+        for h in &facts.lists[from..end] {
+            if !self.hyp(facts, *h as usize) {
+                return false;
+            }
+        }
+        true
     }
-    if !all_allowed(facts, lists, n, i, plain, used, x, width, ids, many) {
-        return 44;
+
+    // Whether fact i is there, is the case's judgment, and rests on what it may.
+    pub fn case_fact(&self, facts: &Facts<'_>, i: usize, judgment: usize) -> Result<(), Question>
+        requires { RestingIn facts.now self.now }
+        ensures { (g : RestingIn facts.now self.now) → judgment < g.m.terms →
+            case_fact g.S g.M g.ps (hyps_in (made g.I g.W g.m) self.now.rows.width self.now.rows.many self.now.rows.cells.now) i (tree g.I g.W g.m judgment) (made g.I g.W g.m) ≡ asked result (made g.I g.W g.m) }
+    {
+        if !is_fact(facts.n, i) {
+            return Err(Question::Earlier);
+        }
+        if judgment_of(facts.rows, i) != judgment {
+            return Err(Question::CaseJudgment);
+        }
+        if !self.hyps(facts, i) {
+            return Err(Question::CaseHypotheses);
+        }
+        Ok(())
     }
-    0
 }

@@ -1,5 +1,6 @@
 pub mod Joins
 pub mod Referring
+pub mod Replacing
 pub mod ScopeCells
 pub mod ScopeHyps
 pub mod ScopeOutside

@@ -21,7 +21,6 @@ use Rattle.state.specs.Members.{Under}
 use Rattle.questions.specs.declared.Question.{Question}
 use Rattle.questions.specs.Numbers.{number_of, detail_of}
 use Rattle.terms.specs.declared.store.Store.{Store}
-use Rattle.referring.specs.declared.support.Support.{Support}
 use Rattle.referring.specs.declared.support.Derived.{Derived}
 use Rattle.reading.specs.Given.{Reads}
 use Rattle.referring.specs.Recall.{Refers}
@@ -72,13 +71,6 @@ pub record RefsRead (I W J X : List ℕ) (old : Mark) (S : State) (K : Out Made 
   pub known : Under (length S.theory.rules) (holds footing)
   pub counted : instances ≡ refs.instances
 
-abbrev pub RefsBy : List ℕ → List ℕ → List ℕ → List ℕ → Mark → Mark → State → Out Made Refs → List ℕ → Support → ℕ → Result ℕ Question → Type 0
-RefsBy I W J X old new S K ids support many (Ok instances) = RefsRead I W J X old S K ids support.hyps support.footing many instances new
-RefsBy I W J X old new S K ids support many (Err q) = Stopped I W J X old K (number_of q) (detail_of q) new
-
-abbrev pub RefsAs : Store → Store → State → Out Made Refs → List ℕ → Support → ℕ → Result ℕ Question → Type 0
-RefsAs s t S K ids support many r = RefsBy s.index.now s.words.now t.index.now t.words.now s.mark t.mark S K ids support many r
-
 -- The items of a step ----------------------------------------------------------------------------------------------------------------
 
 -- the variables of the terms in the cells
@@ -102,13 +94,6 @@ pub record ItemsRead (I W J X : List ℕ) (old : Mark) (K : Out Made Items) (bou
   pub values : variables_of items.values ≡ cell_vars (made J X new) bound
   pub states : items.stated ≡ tree_in (made J X new) stated
   pub there : stated ≤ new.terms
-
-abbrev pub ItemsBy : List ℕ → List ℕ → List ℕ → List ℕ → Mark → Mark → Out Made Items → List ℕ → Result ℕ Question → Type 0
-ItemsBy I W J X old new K bound (Ok stated) = ItemsRead I W J X old K bound stated new
-ItemsBy I W J X old new K bound (Err q) = Stopped I W J X old K (number_of q) (detail_of q) new
-
-abbrev pub ItemsAs : Store → Store → Out Made Items → List ℕ → Result ℕ Question → Type 0
-ItemsAs s t K bound r = ItemsBy s.index.now s.words.now t.index.now t.words.now s.mark t.mark K bound r
 
 -- A derived fact ---------------------------------------------------------------------------------------------------------------------
 

@@ -5,4 +5,5 @@ pub mod ScopeFacts
 pub mod ScopeFree
 pub mod Scoped
 pub mod Sounds
+pub mod Substitutes
 pub mod Variable

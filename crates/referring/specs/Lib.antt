@@ -3,3 +3,4 @@ pub mod Laws
 pub mod Recall
 pub mod Referral
 pub mod Sources
+pub mod Substitutes

@@ -6,4 +6,5 @@
 pub mod references;
 pub mod scope;
 pub mod source;
+pub mod substitutes;
 pub mod support;

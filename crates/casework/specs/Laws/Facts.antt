@@ -26,10 +26,8 @@ use Rattle.terms.specs.Laws.Theta.{bindings_grown, theta_grown}
 use Rattle.state.specs.declared.sizes.Sizes.{Sizes}
 use Rattle.state.specs.Growth.{recorded_on}
 use Rattle.reading.specs.Laws.Walks.{then_same}
-use Rattle.reading.specs.declared.apart.Bound.{Bound}
-use Rattle.reading.specs.declared.apart.Bound.TheVariants as bound
 use Rattle.referring.specs.Recall.{fact_of, Recalls}
-use Rattle.casework.specs.Context.{plainly, plains_of, others_of, trees_of, PlainAdds, matching, Adds, ContextRead, ContextAs, one, all_of, ContextGiven}
+use Rattle.casework.specs.Context.{plainly, plains_of, others_of, trees_of, PlainAdds, matching, Adds, ContextRead, one, all_of, ContextGiven}
 use Rattle.referring.specs.Laws.Refers.{fact_found}
 use Rattle.referring.specs.Laws.Sounds.{grown_grows}
 
@@ -153,18 +151,9 @@ contexting_start {I} {W} {m} g S theta context own plain fine =
 abbrev pub recalls_grown : {facts lists : List ℕ} {n : Sizes} {I W J X : List ℕ} {old new : Mark} → Grown I W J X old new → Recalls facts lists n I W old → Recalls facts lists n J X new
 recalls_grown w g = record { S = g.S; footings = g.footings; many = g.many; recorded = recorded_on (grown_grows w) g.recorded; good = w.good }
 
-pub given_grown : {facts lists : List ℕ} {n : Sizes} {I W J X : List ℕ} {m now : Mark} {theta memo memo' own plain plain' fine fine' : List ℕ} →
-    ContextGiven facts lists n I W m theta memo own plain fine → Grown I W J X m now → memo' ≡ memo → length plain' ≡ length plain → length fine' ≡ length fine →
-    ContextGiven facts lists n J X now theta memo' own plain' fine'
-given_grown c w e p f =
-    record {
-      recalls = recalls_grown w c.recalls;
-      cells = theta_grown w c.cells;
-      empty = e ∙ c.empty;
-      known = c.known;
-      wide = p ∙ c.wide;
-      broad = f ∙ c.broad;
-    }
+pub given_grown : {facts lists : List ℕ} {n : Sizes} {I W J X : List ℕ} {m now : Mark} {theta memo memo' own : List ℕ} →
+    ContextGiven facts lists n I W m theta memo own → Grown I W J X m now → memo' ≡ memo → ContextGiven facts lists n J X now theta memo' own
+given_grown c w e = record { recalls = recalls_grown w c.recalls; cells = theta_grown w c.cells; empty = e ∙ c.empty; known = c.known }
 
 module _ {I W : List ℕ} {old : Mark} {S : State} {theta context own plain fine J X plain' fine' : List ℕ} {now : Mark} {k : ℕ}
     (h : Contexting I W old S theta context own plain fine J X plain' fine' now k) where
@@ -223,12 +212,3 @@ module _ {I W : List ℕ} {old : Mark} {S : State} {theta context own plain fine
               ∙ ap (then (all_left (drop (k + 1) context) (made Y Z new))) (λ i az R. ok (sym (append_assoc h.before (a ∷ []) az) i) R));
           adds = adds_more r.went.grown h.adds r.adds;
         }
-
--- by the variant
-module _ (A : Type 0) (I W J X : List ℕ) (old : Mark) (S : State) (K : Out Made A) (these : A → List Allowed) (own plain plain' fine fine' : List ℕ) (r : Bound)
-    (a : ContextAs A I W J X old S K these own plain plain' fine fine' r) where
-  pub context_ok : {new : Mark} → r ≡ bound.Ok new → ContextRead A I W J X old S K these own plain plain' fine fine' new
-  context_ok e = subst (λ (z : Bound). ContextAs A I W J X old S K these own plain plain' fine fine' z) e a
-
-  pub context_no : {q d : ℕ} {new : Mark} → r ≡ bound.No q d new → Stopped I W J X old K q d new
-  context_no e = subst (λ (z : Bound). ContextAs A I W J X old S K these own plain plain' fine fine' z) e a

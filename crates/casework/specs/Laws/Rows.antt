@@ -1,5 +1,5 @@
 -- A fact's row compared with a judgment, premises and generalised variables by their numbers; and the facts that have them, as a set. Assumes nothing.
-use Rattle.std.specs.Prelude.{◌≡◌, refl, Bool, ◌&&◌, ◌||◌, not, ℕ, ◌+◌, ◌*◌, ◌<◌, ◌≤◌, length, get_or, drop}
+use Rattle.std.specs.Prelude.{◌≡◌, refl, Bool, ◌&&◌, ◌||◌, not, ℕ, ◌+◌, ◌<◌, ◌≤◌, length, get_or, drop}
 use Rattle.std.proofs.Math.Path.{sym, ap}
 use Rattle.std.proofs.Common.{◌∙◌, subst, true≢false, arith, add-one, drop_of_length-le, drop-cons, eq-eqb, ne_eqb, eqb-true}
 use Rattle.std.proofs.Math.Bool.{true, false}
@@ -7,7 +7,7 @@ use Rattle.std.proofs.lemmas.Bool.{false≢true, not-true, not-false}
 use mathlib.Core.List.{List, [], ◌∷◌}
 use Rattle.std.proofs.Math.Dec.{eqb}
 use lib.Pointwise.{pointwise}
-use Rattle.rules.specs.Limits.{FACTS, ENTRIES}
+use Rattle.rules.specs.Limits.{ENTRIES}
 use Rattle.rules.specs.Text.{same}
 use Rattle.rules.specs.Find.{Set, union, has}
 use Rattle.rules.specs.Tree.{same_tree, same_trees}
@@ -21,13 +21,11 @@ use Rattle.terms.specs.Sets.{holds, plus}
 use Rattle.terms.specs.Laws.Growth.{made_length}
 use Rattle.terms.specs.Laws.Numbers.{same_number, same_numbers}
 use Rattle.state.specs.declared.sizes.Sizes.{Sizes}
-use Rattle.state.specs.declared.facts.Span.{Span}
 use Rattle.state.specs.Held.{records}
 use Rattle.state.specs.Rows.{cell, premises_span, general_span}
 use Rattle.state.specs.Entries.{part}
-use Rattle.state.specs.RowTables.{tabled_long}
-use Rattle.state.specs.FactLaws.{FactRow, fact_row_lem, facts_tabled, lists_long}
-use Rattle.referring.specs.Recall.{fact_of, Recalls}
+use Rattle.state.specs.FactLaws.{FactRow, fact_row_lem, lists_long}
+use Rattle.referring.specs.Recall.{fact_of, Recalls, RecallsFact}
 use Rattle.casework.specs.Context.{There, allowed_of, OneMarked}
 
 -- Truth values -----------------------------------------------------------------------------------------------------------------------------
@@ -71,24 +69,12 @@ cells_same (x ∷ xs) (y ∷ ys) = go (eqb x y) (cells_same xs ys)
 -- What is asked of the tables ----------------------------------------------------------------------------------------------------------------
 
 module _ {facts lists : List ℕ} {n : Sizes} {I W : List ℕ} {m : Mark} (g : Recalls facts lists n I W m) where
-  pub facts_asked : {h : ℕ} → h < n.facts → (length facts ≡ 6 * FACTS) × (h < FACTS)
-  facts_asked l = (tabled_long (facts_tabled g.recorded), omega (arith, l, (facts_tabled g.recorded).few))
-
-  pub facts_few : n.facts ≤ FACTS
-  facts_few = (facts_tabled g.recorded).few
-
   pub lists_are : length lists ≡ ENTRIES
   lists_are = lists_long g.recorded
 
   module _ {h : ℕ} (l : h < n.facts) where
     abbrev pub row : FactRow (records facts g.footings lists) n (made I W m) g.S h (fact_of g.S h)
     row = fact_row_lem g.recorded h l
-
-    pub premises_in : (premises_span facts h).end ≤ length lists
-    premises_in = omega (arith, row.inside, lists_are)
-
-    pub general_in : (general_span facts h).end ≤ length lists
-    general_in = omega (arith, row.inside, lists_are)
 
     -- its premises by their numbers
     pub premises_there : There m.terms (part lists (premises_span facts h))
@@ -115,19 +101,9 @@ module _ {facts lists : List ℕ} {n : Sizes} {I W : List ℕ} {m : Mark} (g : R
     pub judgment_is : tree I W m (cell 6 facts h 0) ≡ (fact_of g.S h).judgment
     judgment_is = row.judgment.tree
 
-    module _ {p : Span} (e : p ≡ premises_span facts h) where
-      pub premises_low : p.from ≤ p.end
-      premises_low = subst (λ (s : Span). s.from ≤ s.end) (sym e) (omega arith)
-
-      pub premises_high : p.end ≤ length lists
-      premises_high = subst (λ (s : Span). s.end ≤ length lists) (sym e) premises_in
-
-    module _ {p : Span} (e : p ≡ general_span facts h) where
-      pub general_low : p.from ≤ p.end
-      general_low = subst (λ (s : Span). s.from ≤ s.end) (sym e) (omega arith)
-
-      pub general_high : p.end ≤ length lists
-      general_high = subst (λ (s : Span). s.end ≤ length lists) (sym e) general_in
+    -- what its premises and its generalised variables are read from
+    pub recalled : (footings : List ℕ) × RecallsFact facts footings lists h
+    recalled = (g.footings, record { S = g.S; n = n; trees = made I W m; recorded = g.recorded; there = l })
 
     -- the row says it
     module _ {j : ℕ} (ids gs : List ℕ) (k : j < m.terms) (t : There m.terms ids) where
@@ -143,21 +119,23 @@ module _ {facts lists : List ℕ} {n : Sizes} {I W : List ℕ} {m : Mark} (g : R
           let c : same gs (fact_of g.S h).general ≡ same gs (part lists (general_span facts h)) = ap (same gs) (sym general_is) in
           λ i. a i && (b i && c i)
 
-      pub row_other : (r : ℕ) → r ≡ cell 6 facts h 0 → (r ≡ j → ⊥) → false ≡ is_allowed (fact_of g.S h) (allowed_of (made I W m) ids j gs)
-      row_other r e q = sym (row_is ∙ and_mid_false (same ids (part lists (premises_span facts h))) (eqb j (cell 6 facts h 0)) (same gs (part lists (general_span facts h))) (ne_eqb j (cell 6 facts h 0) (λ z. q (e ∙ sym z))))
+      -- as it is asked: by the judgment first, then the premises, then the variables
+      pub row_other : {r : ℕ} → r ≡ cell 6 facts h 0 → (r ≡ j → ⊥) → false ≡ is_allowed (fact_of g.S h) (allowed_of (made I W m) ids j gs)
+      row_other e q =
+          sym (row_is ∙ and_mid_false (same ids (part lists (premises_span facts h))) (eqb j (cell 6 facts h 0)) (same gs (part lists (general_span facts h)))
+          (ne_eqb j (cell 6 facts h 0) (λ z. q (e ∙ sym z))))
 
-      pub row_else : (p : Span) → p ≡ premises_span facts h → {b : Bool} → b ≡ not (pointwise eqb ids (part lists p)) → b ≡ true →
-          false ≡ is_allowed (fact_of g.S h) (allowed_of (made I W m) ids j gs)
-      row_else p d e q =
-          sym (row_is ∙ and_false (same ids (part lists (premises_span facts h))) (eqb j (cell 6 facts h 0) && same gs (part lists (general_span facts h)))
-          (ap (λ (s : Span). same ids (part lists s)) (sym d) ∙ sym (cells_same ids (part lists p)) ∙ not-true (pointwise eqb ids (part lists p)) (sym e ∙ q)))
+      module _ {a : Bool} (d : a ≡ pointwise eqb ids (part lists (premises_span facts h))) where
+        premises_same : same ids (part lists (premises_span facts h)) ≡ a
+        premises_same = sym (d ∙ cells_same ids (part lists (premises_span facts h)))
 
-      pub row_so : (r : ℕ) → r ≡ cell 6 facts h 0 → r ≡ j → (p : Span) → p ≡ premises_span facts h → {b : Bool} → b ≡ not (pointwise eqb ids (part lists p)) → b ≡ false →
-          (s : Span) → s ≡ general_span facts h → {c : Bool} → c ≡ pointwise eqb gs (part lists s) → c ≡ is_allowed (fact_of g.S h) (allowed_of (made I W m) ids j gs)
-      row_so r e f p d y q s z {c} w =
-          sym (row_is ∙ and_both (same ids (part lists (premises_span facts h))) (eqb j (cell 6 facts h 0)) (same gs (part lists (general_span facts h))) c
-          (ap (λ (u : Span). same ids (part lists u)) (sym d) ∙ sym (cells_same ids (part lists p)) ∙ not-false (pointwise eqb ids (part lists p)) (sym y ∙ q)) (eq-eqb j (cell 6 facts h 0) (sym f ∙ e))
-          (w ∙ cells_same gs (part lists s) ∙ ap (λ (u : Span). same gs (part lists u)) z))
+        pub row_else : a ≡ false → a ≡ is_allowed (fact_of g.S h) (allowed_of (made I W m) ids j gs)
+        row_else q = q ∙ sym (row_is ∙ and_false _ _ (premises_same ∙ q))
+
+        pub row_so : {r : ℕ} → r ≡ cell 6 facts h 0 → r ≡ j → a ≡ true → {b : Bool} → b ≡ pointwise eqb gs (part lists (general_span facts h)) →
+            b ≡ is_allowed (fact_of g.S h) (allowed_of (made I W m) ids j gs)
+        row_so e f q {b} w =
+            sym (row_is ∙ and_both _ _ _ b (premises_same ∙ q) (eq-eqb j (cell 6 facts h 0) (sym f ∙ e)) (w ∙ cells_same gs (part lists (general_span facts h))))
 
 -- what `mark_one` did
 pub mark_none : {b p : Bool} (h : ℕ) (fine : List ℕ) → b ≡ p → not b ≡ true → OneMarked p h fine fine

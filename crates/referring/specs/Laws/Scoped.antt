@@ -1,9 +1,9 @@
 -- Question 39, as a step asks it: what `outside` answers decides. Assumes nothing.
-use Rattle.std.specs.Prelude.{◌≡◌, refl, List, ℕ, zero, suc, length}
-use Rattle.std.proofs.Common.{sym, ◌∙◌}
+use Rattle.std.specs.Prelude.{◌≡◌, refl, Bool, true, false, List, ℕ, zero, suc, ◌+◌, ◌≤◌, length}
+use Rattle.std.proofs.Common.{sym, ◌∙◌, arith}
 use Rattle.std.proofs.Math.Path.{ap}
 use Rattle.rules.specs.Out.{ok, refuse}
-use Rattle.rules.specs.Find.{Set, union, minus, least}
+use Rattle.rules.specs.Find.{Set, union, minus, least_from, least}
 use Rattle.rules.specs.Tree.{Tree, variables}
 use Rattle.rules.specs.State.{State, hyp_vars}
 use Rattle.rules.specs.Reference.{outside, scoped}
@@ -11,6 +11,19 @@ use Rattle.rules.specs.Reference.{outside, scoped}
 -- the number that is looked for, counted from 1
 abbrev pub lowest_outside : State → Set → Tree → List ℕ → ℕ
 lowest_outside S used j hs = least (length S.vars) (minus used (union (variables j) (hyp_vars S.facts hs)))
+
+-- it is one of so many
+pub least_most : (n : ℕ) (a : Set) → least n a ≤ n
+unfolding least least_from
+least_most n a = omega (arith, go 0 n)
+  where
+    go : (k n : ℕ) → least_from k n a ≤ k + n
+    go k zero = omega arith
+    go k (suc n) = by (a k) (go (suc k) n)
+      where
+        by : (b : Bool) → least_from (suc k) n a ≤ suc k + n → elim b [ true ↦ suc k | false ↦ least_from (suc k) n a ] ≤ k + suc n
+        by true h = omega arith
+        by false h = omega (arith, h)
 
 out_other : {T : Type 0} (r : ℕ) (M : T) → (r ≡ 0 → ⊥) → outside r M ≡ refuse 39 r M
 unfolding outside

@@ -10,14 +10,14 @@ pub item_at-requires : goal.item_at-requires
 item_at-requires c = first_some c.requires.0.holds
 
 pub returns-in_default : goal.returns-in_default
-returns-in_default c = λ g. (vars_atom g c.item_at.ensures c.in_default.is, refl)
+returns-in_default c = λ g. (vars_atom g c.item_at.ensures c.in_default.is, (refl, refl))
 
 pub offset_bounds-cells-a : goal.offset_bounds-cells-a
 offset_bounds-cells-a c = omega (
   arith,
   (within c.requires.0 c.item_at.ensures c.in-List.is).low,
   (within c.requires.0 c.item_at.ensures c.in-List.is).high,
-  c.well_formed.1.1.1.1.0,
+  c.well_formed.1.0,
 )
 
 pub slice_bounds-inner-count : goal.slice_bounds-inner-count
@@ -33,7 +33,7 @@ pub count-requires : goal.count-requires
 count-requires c = has_items (within c.requires.0 c.item_at.ensures c.in-List.is).holds
 
 pub returns-then-count-ne3 : goal.returns-then-count-ne3
-returns-then-count-ne3 c = λ g. (vars_count g c.item_at.ensures c.in-List.is c.count.ensures c.if-count-ne3.true, refl)
+returns-then-count-ne3 c = λ g. (vars_count g c.item_at.ensures c.in-List.is c.count.ensures c.if-count-ne3.true, (refl, refl))
 
 pub item_at-requires-2 : goal.item_at-requires-2
 item_at-requires-2 c = inner_some (within c.requires.0 c.item_at.ensures c.in-List.is).holds
@@ -41,7 +41,7 @@ item_at-requires-2 c = inner_some (within c.requires.0 c.item_at.ensures c.in-Li
 
 pub returns-in_default-item_at : goal.returns-in_default-item_at
 returns-in_default-item_at c = λ g.
-    (vars_unnamed g c.item_at.ensures c.in-List.is c.count.ensures c.if-count-ne3.false c.item_at-2.ensures c.in_default-item_at.is, refl)
+    (vars_unnamed g c.item_at.ensures c.in-List.is c.count.ensures c.if-count-ne3.false c.item_at-2.ensures c.in_default-item_at.is, (refl, refl))
 
 pub place-second-requires : goal.place-second-requires
 place-second-requires c = has_items (within c.requires.0 c.item_at.ensures c.in-List.is).holds
@@ -52,7 +52,7 @@ offset_bounds-inner-second c = omega (
   inner_high (within c.requires.0 c.item_at.ensures c.in-List.is).holds
       (three c.requires.0 c.item_at.ensures c.in-List.is c.count.ensures c.if-count-ne3.false) 1 (omega arith) c.place-second.ensures,
   part_shorter (within c.requires.0 c.item_at.ensures c.in-List.is),
-  c.well_formed.1.1.1.1.0,
+  c.well_formed.1.0,
 )
 
 pub slice_bounds-index-count : goal.slice_bounds-index-count
@@ -71,7 +71,7 @@ pub returns-in_default-index_in : goal.returns-in_default-index_in
 returns-in_default-index_in c = λ g. (
   vars_no_index g c.item_at.ensures c.in-List.is c.count.ensures c.if-count-ne3.false c.item_at-2.ensures c.in-Atom.is
       c.place-second.ensures c.index.ensures c.in_default-index_in.is,
-  refl,
+  (refl, refl),
 )
 
 pub place-third-requires : goal.place-third-requires
@@ -83,7 +83,7 @@ offset_bounds-inner-third c = omega (
   inner_high (within c.requires.0 c.item_at.ensures c.in-List.is).holds
       (three c.requires.0 c.item_at.ensures c.in-List.is c.count.ensures c.if-count-ne3.false) 2 (omega arith) c.place-third.ensures,
   part_shorter (within c.requires.0 c.item_at.ensures c.in-List.is),
-  c.well_formed.1.1.1.1.0,
+  c.well_formed.1.0,
 )
 
 pub slice_bounds-vars_list-count : goal.slice_bounds-vars_list-count
@@ -102,9 +102,9 @@ vars_list-requires c = (
 )
 
 pub returns-in_default-vars_list : goal.returns-in_default-vars_list
-returns-in_default-vars_list c = λ g. vars_no_vars g c.item_at.ensures c.in-List.is c.count.ensures c.if-count-ne3.false c.item_at-2.ensures c.in-Atom.is c.place-second.ensures
+returns-in_default-vars_list c = λ g. let v = vars_no_vars g c.item_at.ensures c.in-List.is c.count.ensures c.if-count-ne3.false c.item_at-2.ensures c.in-Atom.is c.place-second.ensures
     c.index.ensures c.in-Some.is c.place-third.ensures c.args.out.now c.vars_list.new.out c.vars_list.result
-    c.vars_list.ensures c.in_default-vars_list.is
+    c.vars_list.ensures c.in_default-vars_list.is in (v.0, (v.1, refl))
 
 pub returns : goal.returns
 returns c = λ g. vars_read g c.item_at.ensures c.in-List.is c.count.ensures c.if-count-ne3.false c.item_at-2.ensures c.in-Atom.is c.place-second.ensures

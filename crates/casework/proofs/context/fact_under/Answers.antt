@@ -1,161 +1,58 @@
-use mathlib.Core.Path.{sym, ◌∙◌}
-use native.Mathlib.Omega.{arith}
-use lib.Seq.{length-take-le}
-use Prim.Native.Nat.{◌-◌}
-use Rattle.terms.specs.Table.{made, tree, args_of}
-use Rattle.terms.specs.Subst.{replacement}
-use Rattle.state.specs.Entries.{part}
-use Rattle.casework.specs.Laws.Rows.{facts_asked, lists_are, premises_low, premises_high}
-use Rattle.casework.specs.Laws.Substitutes.{replaceable_now, memo_asked, under_went, under_there, under_stopped}
-use Rattle.casework.proofs.Under.{under_asks, part_width, judgment_small, under_ids, replaced_ok, replaced_no, recalls_new, part_long, under_no, under_read_at, premises_stop}
+use mathlib.Core.Path.{◌∙◌}
+use Rattle.std.proofs.lemmas.Result.{err_from_is_err_and}
+use Rattle.referring.specs.Laws.Refers.{fact_asks}
+use Rattle.referring.specs.Laws.Substitutes.{replaceable_now, memo_asked, under_went, under_there, under_stopped}
+use Rattle.casework.specs.Laws.Rows.{recalled, general_is}
+use Rattle.casework.proofs.Under.{premises_stop, judgment_stop, under_read, compared, under_asks, judgment_small}
 use Rattle.casework.proofs.context.fact_under.Goals as goal
 
-pub premises-span-requires : goal.premises-span-requires
-premises-span-requires c = facts_asked c.requires.0.recalls c.requires.1
-
-pub offset_bounds-lists-from : goal.offset_bounds-lists-from
-offset_bounds-lists-from c = omega (
-  arith,
-  premises_low c.requires.0.recalls c.requires.1 c.premises-span.ensures,
-  premises_high c.requires.0.recalls c.requires.1 c.premises-span.ensures,
-  lists_are c.requires.0.recalls,
-)
-
-pub slice_bounds-substitute_all-count : goal.slice_bounds-substitute_all-count
-slice_bounds-substitute_all-count c = premises_low c.requires.0.recalls c.requires.1 c.premises-span.ensures
-
-pub slice_bounds-substitute_all-start : goal.slice_bounds-substitute_all-start
-slice_bounds-substitute_all-start c = premises_low c.requires.0.recalls c.requires.1 c.premises-span.ensures
-
-pub slice_bounds-substitute_all-end : goal.slice_bounds-substitute_all-end
-slice_bounds-substitute_all-end c = premises_high c.requires.0.recalls c.requires.1 c.premises-span.ensures
+pub premises_of-requires : goal.premises_of-requires
+premises_of-requires c = recalled c.requires.0.recalls c.requires.1
 
 pub substitute_all-requires : goal.substitute_all-requires
-substitute_all-requires c = under_asks c.requires.0 c.requires.1 c.premises-span.ensures c.requires.2
+substitute_all-requires c = rw c.premises_of.ensures (under_asks c.requires.0 c.requires.1 c.requires.2)
+
+pub returns-in_err-substitute_all-clause-under_as : goal.returns-in_err-substitute_all-clause-under_as
+returns-in_err-substitute_all-clause-under_as c = λ g.
+    let p = err_from_is_err_and c.from_residual.result c.from_residual.ensures.1 in
+    rw (p.1, p.2) (premises_stop g c.requires.1 c.args.map.now (rw c.premises_of.ensures at c.in_err-substitute_all.ensures.replaced_as))
 
 pub judgment-requires : goal.judgment-requires
-judgment-requires c = facts_asked c.requires.0.recalls c.requires.1
+judgment-requires c = fact_asks c.requires.0.recalls.recorded c.requires.1
 
-pub substitute-requires : goal.substitute-requires
-substitute-requires c = record {
-  replaceable = replaceable_now
-      (replaced_ok c.args.index.now c.args.words.now c.substitute_all.new.index c.substitute_all.new.words c.args.mark
-      c.args.map.now (part c.args.lists.now c.premises-span.result) c.substitute_all.new.out
-      c.substitute_all.result c.substitute_all.ensures.replaced_as c.in-Ok.is).went.grown c.args.map.now c.requires.0.cells.bound
-      (judgment_small c.requires.0 c.requires.1 c.premises-span.ensures c.judgment.ensures);
-  id_in_bounds = memo_asked c.requires.0.recalls.good
-      c.requires.0.empty c.substitute_all.ensures.memo_unchanged (judgment_small c.requires.0 c.requires.1 c.premises-span.ensures c.judgment.ensures);
-}
+pub substitute-requires-clause-replaceable : goal.substitute-requires-clause-replaceable
+substitute-requires-clause-replaceable c =
+    replaceable_now c.in_ok-substitute_all.ensures.replaced_as.went.grown c.args.map.now c.requires.0.cells.bound (judgment_small c.requires.0 c.requires.1 c.judgment.ensures)
 
-pub overflow_sub-many : goal.overflow_sub-many
-overflow_sub-many c = premises_low c.requires.0.recalls c.requires.1 c.premises-span.ensures
+pub substitute-requires-clause-id_in_bounds : goal.substitute-requires-clause-id_in_bounds
+substitute-requires-clause-id_in_bounds c =
+    memo_asked c.requires.0.recalls.good c.requires.0.empty c.substitute_all.ensures.memo_unchanged (judgment_small c.requires.0 c.requires.1 c.judgment.ensures)
 
-pub slice_bounds-allow-end : goal.slice_bounds-allow-end
-slice_bounds-allow-end c = omega (arith, part_width c.requires.0 c.requires.1 c.premises-span.ensures, c.requires.2, c.substitute_all.auto.out)
+pub returns-in_err-judgment-clause-under_as : goal.returns-in_err-judgment-clause-under_as
+returns-in_err-judgment-clause-under_as c = λ g.
+    let p = err_from_is_err_and c.from_residual-in_err-judgment.result c.from_residual-in_err-judgment.ensures.1 in
+    let r = rw c.premises_of.ensures at c.in_ok-substitute_all.ensures.replaced_as in
+    rw (p.1, p.2) (judgment_stop g c.requires.1 c.args.map.now r c.judgment.ensures
+    (under_stopped r.went.grown c.args.map.now c.requires.0.cells.bound (judgment_small c.requires.0 c.requires.1 c.judgment.ensures) c.substitute.ensures.kept c.in_err-judgment.was))
 
-pub slice_bounds-allow-end-in-Term : goal.slice_bounds-allow-end-in-Term
-slice_bounds-allow-end-in-Term c = sym
-    (length-take-le (c.premises-span.result.end - c.premises-span.result.from) c.substitute_all.new.out
-    (omega (arith, part_width c.requires.0 c.requires.1 c.premises-span.ensures, c.requires.2, c.substitute_all.auto.out)))
+pub general_of-requires : goal.general_of-requires
+general_of-requires c = recalled c.requires.0.recalls c.requires.1
 
 pub allow-requires : goal.allow-requires
-allow-requires c = record {
-  recalls = (
-    recalls_new (replacement (made c.args.index.now c.args.words.now c.args.mark) c.args.map.now) c.requires.0.recalls
-        (args_of (made c.args.index.now c.args.words.now c.args.mark) (part c.args.lists.now c.premises-span.result))
-        (tree c.args.index.now c.args.words.now c.args.mark c.judgment.result)
-        (replaced_ok c.args.index.now c.args.words.now c.substitute_all.new.index c.substitute_all.new.words c.args.mark
-        c.args.map.now (part c.args.lists.now c.premises-span.result) c.substitute_all.new.out
-        c.substitute_all.result c.substitute_all.ensures.replaced_as c.in-Ok.is).went
-        (under_went
-        (replaced_ok c.args.index.now c.args.words.now c.substitute_all.new.index c.substitute_all.new.words c.args.mark
-        c.args.map.now (part c.args.lists.now c.premises-span.result) c.substitute_all.new.out
-        c.substitute_all.result c.substitute_all.ensures.replaced_as c.in-Ok.is).went.grown c.args.map.now
-        c.requires.0.cells.bound (judgment_small c.requires.0 c.requires.1 c.premises-span.ensures c.judgment.ensures) c.substitute.ensures.after
-        c.in-Term.is),
-    c.requires.1,
-    c.requires.0.known,
-    under_there
-        (replaced_ok c.args.index.now c.args.words.now c.substitute_all.new.index c.substitute_all.new.words c.args.mark
-        c.args.map.now (part c.args.lists.now c.premises-span.result) c.substitute_all.new.out
-        c.substitute_all.result c.substitute_all.ensures.replaced_as c.in-Ok.is).went.grown c.args.map.now
-        c.requires.0.cells.bound (judgment_small c.requires.0 c.requires.1 c.premises-span.ensures c.judgment.ensures) c.substitute.ensures.after
-        c.in-Term.is,
-    under_ids c.requires.0 c.requires.1 c.premises-span.ensures
-        (replaced_ok c.args.index.now c.args.words.now c.substitute_all.new.index c.substitute_all.new.words c.args.mark
-        c.args.map.now (part c.args.lists.now c.premises-span.result) c.substitute_all.new.out
-        c.substitute_all.result c.substitute_all.ensures.replaced_as c.in-Ok.is)
-        (under_went
-        (replaced_ok c.args.index.now c.args.words.now c.substitute_all.new.index c.substitute_all.new.words c.args.mark
-        c.args.map.now (part c.args.lists.now c.premises-span.result) c.substitute_all.new.out
-        c.substitute_all.result c.substitute_all.ensures.replaced_as c.in-Ok.is).went.grown c.args.map.now
-        c.requires.0.cells.bound (judgment_small c.requires.0 c.requires.1 c.premises-span.ensures c.judgment.ensures) c.substitute.ensures.after
-        c.in-Term.is).grown,
-  );
-  plain_len = (c.requires.0.wide, c.requires.0.broad);
-}
+allow-requires c =
+    let r = c.in_ok-substitute_all.ensures.replaced_as in
+    let s = judgment_small c.requires.0 c.requires.1 c.judgment.ensures in
+    let w = under_went r.went.grown c.args.map.now c.requires.0.cells.bound s c.substitute.ensures.kept c.in_ok-judgment.was in (
+      compared _ c.requires.0.recalls r w.grown (under_there r.went.grown c.args.map.now c.requires.0.cells.bound s c.substitute.ensures.kept c.in_ok-judgment.was),
+      c.requires.0.known,
+    )
 
-pub shape_of-index-in-Term : goal.shape_of-index-in-Term
-shape_of-index-in-Term c = c.substitute.auto.index ∙ c.substitute_all.auto.index
-
-pub shape_of-words-in-Term : goal.shape_of-words-in-Term
-shape_of-words-in-Term c = c.substitute.auto.words ∙ c.substitute_all.auto.words
-
-pub shape_of-memo-in-Term : goal.shape_of-memo-in-Term
-shape_of-memo-in-Term c = c.substitute.auto.memo ∙ c.substitute_all.auto.memo
-
-pub shape_of-ids-in-Term : goal.shape_of-ids-in-Term
-shape_of-ids-in-Term c = c.substitute_all.auto.out
-
-pub returns-in-Term : goal.returns-in-Term
-returns-in-Term c = record {
-  context_as = λ g. under_read_at g c.requires.1 c.premises-span.ensures
-      (replaced_ok c.args.index.now c.args.words.now c.substitute_all.new.index c.substitute_all.new.words c.args.mark
-      c.args.map.now (part c.args.lists.now c.premises-span.result) c.substitute_all.new.out
-      c.substitute_all.result c.substitute_all.ensures.replaced_as c.in-Ok.is) c.judgment.ensures c.in-Term.j
-      (under_went
-      (replaced_ok c.args.index.now c.args.words.now c.substitute_all.new.index c.substitute_all.new.words c.args.mark
-      c.args.map.now (part c.args.lists.now c.premises-span.result) c.substitute_all.new.out
-      c.substitute_all.result c.substitute_all.ensures.replaced_as c.in-Ok.is).went.grown c.args.map.now
-      c.requires.0.cells.bound (judgment_small c.requires.0 c.requires.1 c.premises-span.ensures c.judgment.ensures) c.substitute.ensures.after
-      c.in-Term.is) (c.premises-span.result.end - c.premises-span.result.from) (part_long c.requires.0 c.requires.1 c.premises-span.ensures)
-      (c.allow.ensures
-      (recalls_new (replacement (made c.args.index.now c.args.words.now c.args.mark) c.args.map.now) g
-      (args_of (made c.args.index.now c.args.words.now c.args.mark) (part c.args.lists.now c.premises-span.result))
-      (tree c.args.index.now c.args.words.now c.args.mark c.judgment.result)
-      (replaced_ok c.args.index.now c.args.words.now c.substitute_all.new.index c.substitute_all.new.words c.args.mark
-      c.args.map.now (part c.args.lists.now c.premises-span.result) c.substitute_all.new.out
-      c.substitute_all.result c.substitute_all.ensures.replaced_as c.in-Ok.is).went
-      (under_went
-      (replaced_ok c.args.index.now c.args.words.now c.substitute_all.new.index c.substitute_all.new.words
-      c.args.mark c.args.map.now (part c.args.lists.now c.premises-span.result)
-      c.substitute_all.new.out c.substitute_all.result c.substitute_all.ensures.replaced_as
-      c.in-Ok.is).went.grown c.args.map.now c.requires.0.cells.bound
-      (judgment_small c.requires.0 c.requires.1 c.premises-span.ensures c.judgment.ensures) c.substitute.ensures.after
-      c.in-Term.is)));
-  memo_unchanged = c.substitute.ensures.memo_unchanged ∙ c.substitute_all.ensures.memo_unchanged;
-}
-
-pub returns-in-Full : goal.returns-in-Full
-returns-in-Full c = record {
-  context_as = λ g. under_no g c.requires.1 c.premises-span.ensures
-      (replaced_ok c.args.index.now c.args.words.now c.substitute_all.new.index c.substitute_all.new.words c.args.mark
-      c.args.map.now (part c.args.lists.now c.premises-span.result) c.substitute_all.new.out
-      c.substitute_all.result c.substitute_all.ensures.replaced_as c.in-Ok.is) c.judgment.ensures
-      (under_stopped
-      (replaced_ok c.args.index.now c.args.words.now c.substitute_all.new.index c.substitute_all.new.words c.args.mark
-      c.args.map.now (part c.args.lists.now c.premises-span.result) c.substitute_all.new.out
-      c.substitute_all.result c.substitute_all.ensures.replaced_as c.in-Ok.is).went.grown c.args.map.now
-      c.requires.0.cells.bound (judgment_small c.requires.0 c.requires.1 c.premises-span.ensures c.judgment.ensures) c.substitute.ensures.after
-      c.in-Full.is);
-  memo_unchanged = c.substitute.ensures.memo_unchanged ∙ c.substitute_all.ensures.memo_unchanged;
-}
-
-pub returns-in-No : goal.returns-in-No
-returns-in-No c = record {
-  context_as = λ g. premises_stop g c.requires.1 c.premises-span.ensures c.args.map.now
-      (replaced_no c.args.index.now c.args.words.now c.substitute_all.new.index c.substitute_all.new.words c.args.mark
-      c.args.map.now (part c.args.lists.now c.premises-span.result) c.substitute_all.new.out
-      c.substitute_all.result c.substitute_all.ensures.replaced_as c.in-No.is);
-  memo_unchanged = c.substitute_all.ensures.memo_unchanged;
-}
+pub returns-clause-under_as : goal.returns-clause-under_as
+returns-clause-under_as c = λ g.
+    let r = rw c.premises_of.ensures at c.in_ok-substitute_all.ensures.replaced_as in
+    let s = judgment_small c.requires.0 c.requires.1 c.judgment.ensures in
+    let w = under_went r.went.grown c.args.map.now c.requires.0.cells.bound s c.substitute.ensures.kept c.in_ok-judgment.was in
+    let t = under_there r.went.grown c.args.map.now c.requires.0.cells.bound s c.substitute.ensures.kept c.in_ok-judgment.was in (
+      under_read g c.requires.1 c.args.map.now r c.judgment.ensures c.in_ok-judgment.judgment w (c.general_of.ensures ∙ general_is g c.requires.1) (c.allow.ensures.adds (compared _ g r w.grown t)),
+      c.allow.ensures.own,
+    )

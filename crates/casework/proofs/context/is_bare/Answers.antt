@@ -1,11 +1,16 @@
-use mathlib.Core.Path.{sym}
+use mathlib.Core.Path.{sym, ap, ◌∙◌}
+use mathlib.Core.Bool.{Bool, ◌&&◌}
 use lib.Dec.{eqb}
-use borrow.Author.Tests.{eq-eqb, ne_eqb}
-use Rattle.casework.specs.Laws.Rows.{and_false, and_true}
+use lib.ListN.{length}
+use Rattle.casework.proofs.Allow.{bare_is}
 use Rattle.casework.proofs.context.is_bare.Goals as goal
 
-pub returns-then-many-ne0 : goal.returns-then-many-ne0
-returns-then-many-ne0 c = sym (and_false (eqb c.args.many 0) (eqb c.args.from c.args.end) (ne_eqb c.args.many 0 c.if-many-ne0.true))
+pub returns-then-is_empty : goal.returns-then-is_empty
+returns-then-is_empty c = λ M. c.is_empty-then-is_empty.ensures
+    ∙ ap (λ (b : Bool). b && eqb (length c.args.allowing.now.general.now) 0) (sym c.if-is_empty.true ∙ c.is_empty.ensures)
+    ∙ bare_is M _ c.args.allowing.now.judgment _
 
-pub returns : goal.returns
-returns c = sym (and_true (eqb c.args.many 0) (eqb c.args.from c.args.end) (eq-eqb c.args.many 0 c.if-many-ne0.false))
+pub returns-else-is_empty : goal.returns-else-is_empty
+returns-else-is_empty c = λ M. c.if-is_empty.false
+    ∙ ap (λ (b : Bool). b && eqb (length c.args.allowing.now.general.now) 0) (sym c.if-is_empty.false ∙ c.is_empty.ensures)
+    ∙ bare_is M _ c.args.allowing.now.judgment _

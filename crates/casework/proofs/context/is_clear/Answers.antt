@@ -1,6 +1,6 @@
 use mathlib.Core.Path.{refl, sym}
 use native.Mathlib.Omega.{arith}
-use Rattle.terms.specs.Table.{made}
+use Rattle.terms.specs.Lent.{terms_made}
 use Rattle.casework.proofs.Clear.{clear_asks, clear_set, clear_on, clear_no, clear_over}
 use Rattle.casework.proofs.context.is_clear.Goals as goal
 
@@ -17,7 +17,7 @@ pub has-requires : goal.has-requires
 has-requires c = omega (arith, c.requires.2 c.loop-v.v-index c.loop-v-test.true, c.loop-v.invariant.0)
 
 pub returns-then-has : goal.returns-then-has
-returns-then-has c = clear_no (made c.args.index.now c.args.words.now c.args.mark) c.args.variables.now c.args.map.now
+returns-then-has c = clear_no (terms_made c.args.terms.now) c.args.variables.now c.args.map.now
     c.visit_cells.new.set (clear_set c.args.map.now c.visit_cells.new.set refl c.visit_cells.ensures)
     c.loop-v.v-index c.loop-v.invariant.2 c.loop-v-test.true c.has.ensures c.if-has.true
 
@@ -33,6 +33,6 @@ loop-v-preserved c = (
 )
 
 pub returns : goal.returns
-returns c = clear_over (made c.args.index.now c.args.words.now c.args.mark) c.args.variables.now c.args.map.now
+returns c = clear_over (terms_made c.args.terms.now) c.args.variables.now c.args.map.now
     c.visit_cells.new.set (clear_set c.args.map.now c.visit_cells.new.set refl c.visit_cells.ensures)
     c.loop-v.v-index c.loop-v.invariant.2 c.loop-v-test.false

@@ -11,7 +11,7 @@ pub judgment-requires : goal.judgment-requires
 judgment-requires c = rests_asked c.requires.0 c.requires.1
 
 pub has-requires : goal.has-requires
-has-requires c = omega (arith, rests_small c.requires.0 c.requires.1, c.judgment.ensures, c.requires.2)
+has-requires c = omega (arith, rests_small c.requires.0 c.requires.1, c.judgment.ensures)
 
 pub returns-then-is_plain : goal.returns-then-is_plain
 returns-then-is_plain c = λ g. rests_plain g c.requires.1 _ _ c.is_plain.result c.has.result c.judgment.result c.is_plain.ensures c.if-is_plain.true

@@ -1,12 +1,22 @@
-use Prim.Native.Nat.{◌-◌}
 use mathlib.Core.Path.{◌≡◌}
-use lib.ListN.{length}
+use Prim.Native.Nat.{◌-◌}
 use Rattle.rules.specs.Theory.{rule}
+use Rattle.terms.specs.Lent.{SameTables}
 use Rattle.state.specs.declared.sizes.Sizes.{Sizes}
-use Rattle.casework.specs.Context.{RenamedRule}
+use Rattle.casework.specs.Context.{RenamedIn}
 use Rattle.casework.proofs.Premises.{Premising}
 use Rattle.casework.proofs.context.rule_premises.Given as goal
 
 abbrev pub invariant-loop : goal.invariant-loop
-invariant-loop l = (length l.index ≡ length l.initial.index) × (length l.words ≡ length l.initial.words) × (l.memo ≡ l.initial.memo) × (length l.plain ≡ length l.initial.plain) × ((n : Sizes) (g : RenamedRule l.symbols l.rules l.patterns n l.initial.index l.initial.words l.initial.m l.r l.bound) →
-    Premising l.symbols l.patterns l.initial.index l.initial.words l.initial.m g.xs l.theta (rule g.T l.r).premises l.initial.plain l.index l.words l.plain l.m l.place (l.many - l.counter))
+invariant-loop l =
+    let s = l.initial.store in
+    let t = l.store in
+    record {
+      tables : SameTables s t;
+      memo_same : l.memo ≡ l.initial.memo;
+      own_same : l.more.own ≡ l.initial.more.own;
+      fine_same : l.more.fine ≡ l.initial.more.fine;
+      premising : (n : Sizes) (g : RenamedIn l.rules l.symbols n s l.renamed) →
+          Premising l.symbols l.rules.patterns.now s.index.now s.words.now s.mark g.xs l.renamed.theta.now (rule g.T l.renamed.rule).premises l.initial.more.plain
+          t.index.now t.words.now l.more.plain t.mark l.place (l.end - l.counter);
+    }

@@ -1,19 +1,12 @@
 use Rattle.derivation.proofs.RulePremises.{rests_itself, rests_nowhere}
 use Rattle.derivation.proofs.RuleFacts.{rule_asks}
-use native.Mathlib.Omega.{arith}
 use Rattle.derivation.proofs.apply.rest_on.Goals as goal
 
 pub is_assumed-requires : goal.is_assumed-requires
-is_assumed-requires c = rule_asks c.requires.0.1
-
-pub insert-requires : goal.insert-requires
-insert-requires c = omega (arith, rule_asks c.requires.0.1, c.requires.1)
-
-pub shape_of-hyps : goal.shape_of-hyps
-shape_of-hyps c = c.insert.auto.set
+is_assumed-requires c = rule_asks c.requires.0
 
 pub returns-then-is_assumed : goal.returns-then-is_assumed
-returns-then-is_assumed c = λ l g. rests_itself g c.is_assumed.ensures c.if-is_assumed.true _ _ c.insert.ensures
+returns-then-is_assumed c = λ g. rests_itself g c.is_assumed.ensures c.if-is_assumed.true _ _ c.insert.ensures
 
 pub returns-else-is_assumed : goal.returns-else-is_assumed
-returns-else-is_assumed c = λ l g. rests_nowhere g c.is_assumed.ensures c.if-is_assumed.false _
+returns-else-is_assumed c = λ g. rests_nowhere g c.is_assumed.ensures c.if-is_assumed.false _

@@ -1,4 +1,5 @@
-use Rattle.derivation.proofs.RuleFacts.{rule_asks, hyps_high, hyps_begin, hyp_asks, hyp_other, hyps_again, hyps_done}
+use native.Mathlib.Omega.{arith}
+use Rattle.derivation.proofs.RuleFacts.{rule_asks, rule_lists_lem, hyps_low, hyps_high, hyps_begin, hyp_asks, hyp_other, hyps_again, hyps_done}
 use mathlib.Core.Path.{ap}
 use mathlib.Core.Bool.{not}
 use Rattle.derivation.proofs.apply.rests_on_plain.Goals as goal
@@ -23,3 +24,6 @@ returns c = λ g. hyps_done c.loop-h.invariant c.loop-h-test.false g
 
 pub slice_bounds-h-items-end : goal.slice_bounds-h-items-end
 slice_bounds-h-items-end c = hyps_high c.requires c.hyps-span.ensures
+
+pub offset_bounds-facts-from : goal.offset_bounds-facts-from
+offset_bounds-facts-from c = omega (arith, hyps_low c.requires c.hyps-span.ensures, hyps_high c.requires c.hyps-span.ensures, rule_lists_lem c.requires)

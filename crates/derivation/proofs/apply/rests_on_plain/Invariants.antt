@@ -2,4 +2,4 @@ use Rattle.derivation.proofs.RuleFacts.{HypsLeft}
 use Rattle.derivation.proofs.apply.rests_on_plain.Given as goal
 
 abbrev pub invariant-loop-h : goal.invariant-loop-h
-invariant-loop-h l = HypsLeft l.facts l.lists l.i l.h-items l.h-index
+invariant-loop-h l = HypsLeft l.facts.rows.now l.facts.lists.now l.i l.h-items l.h-index

@@ -1,56 +1,38 @@
-use mathlib.Core.Path.{◌∙◌}
-use native.Mathlib.Omega.{arith}
-use Rattle.derivation.proofs.AllItems.{itemed_start, left_given, left_long, left_refused, left_again, left_less, left_done}
+use mathlib.Core.Path.{refl, ap, ◌∙◌}
+use Rattle.sexp.specs.declared.items.Each.{Each}
+use Rattle.sexp.specs.Each.{here, over}
+use Rattle.kernel.proofs.Handed.{handed}
+use Rattle.derivation.proofs.AllItems.{itemed_start, left_given, left_refused, left_again, left_done}
 use Rattle.derivation.proofs.items.read_items.Goals as goal
 
-pub loop-at-init : goal.loop-at-init
-loop-at-init c = itemed_start c.requires.1
-
-pub offset_bounds-cells-at : goal.offset_bounds-cells-at
-offset_bounds-cells-at c = omega (arith, c.loop-at-test.true, c.well_formed.1.1.1.1.1.1.1.1.1.1.1.1.1.1.1.0)
-
-pub slice_bounds-read_item-count : goal.slice_bounds-read_item-count
-slice_bounds-read_item-count c = omega (arith, c.loop-at-test.true)
-
-pub slice_bounds-read_item-start : goal.slice_bounds-read_item-start
-slice_bounds-read_item-start c = omega (arith, c.loop-at-test.true)
+pub loop-item-init : goal.loop-item-init
+loop-item-init c =
+    let i = c.into_iter-item-iterator.ensures.into_iter_gives in
+    record {
+      cells = ap (λ (e : Each). e.cells.now) i ∙ c.all-item-items.ensures.0;
+      tables = (refl, refl);
+      items = itemed_start refl (ap (λ (e : Each). e.at) i ∙ c.all-item-items.ensures.1);
+    }
 
 pub read_item-requires : goal.read_item-requires
-read_item-requires c = left_given (c.loop-at.invariant c.requires.0) c.loop-at-test.true c.requires.0.ruled c.requires.0.known
+read_item-requires c =
+    let h = here c.loop-item.invariant.cells c.in-Some.ensures.steps in
+    rw h.is (left_given (c.loop-item.invariant.items c.requires) h.inside c.requires.ruled c.requires.known)
 
-pub shape_of-index-in-No : goal.shape_of-index-in-No
-shape_of-index-in-No c = c.read_item.auto.index ∙ (c.loop-at.invariant c.requires.0).on.grown.same.long_index
+pub returns-in_err-read_item-clause-items_as : goal.returns-in_err-read_item-clause-items_as
+returns-in_err-read_item-clause-items_as c = λ g.
+    let h = here c.loop-item.invariant.cells c.in-Some.ensures.steps in
+    rw (handed c.from_residual.result c.from_residual.ensures)
+    (left_refused (c.loop-item.invariant.items g) h.inside g.ruled g.known (λ k. let e = rw h.is at c.in_err-read_item.ensures.item_as in (e k).0))
 
-pub shape_of-words-in-No : goal.shape_of-words-in-No
-shape_of-words-in-No c = c.read_item.auto.words ∙ (c.loop-at.invariant c.requires.0).on.grown.same.long_words
+pub loop-item-preserved : goal.loop-item-preserved
+loop-item-preserved c =
+    let h = here c.loop-item.invariant.cells c.in-Some.ensures.steps in
+    record {
+      cells = h.same;
+      tables = (c.read_item.ensures.same_tables.0 ∙ c.loop-item.invariant.tables.0, c.read_item.ensures.same_tables.1 ∙ c.loop-item.invariant.tables.1);
+      items = λ g. left_again (c.loop-item.invariant.items g) h.inside g.ruled g.known (rw h.is at c.in_ok-read_item.ensures.item_as) h.behind;
+    }
 
-pub shape_of-bound-in-No : goal.shape_of-bound-in-No
-shape_of-bound-in-No c = c.read_item.auto.bound ∙ left_long (c.loop-at.invariant c.requires.0) c.requires.1
-
-pub returns-in-No : goal.returns-in-No
-returns-in-No c = λ g. left_refused (c.loop-at.invariant g) c.loop-at-test.true g.ruled g.known c.read_item.new.index
-    c.read_item.new.words c.read_item.new.bound
-    c.read_item.result c.read_item.ensures c.in-No.is
-
-pub after-at-requires : goal.after-at-requires
-after-at-requires c = c.loop-at-test.true
-
-pub loop-at-smaller : goal.loop-at-smaller
-loop-at-smaller c = omega (arith, left_less (c.loop-at.invariant c.requires.0) c.loop-at-test.true c.after-at.ensures)
-
-pub loop-at-preserved : goal.loop-at-preserved
-loop-at-preserved c = λ g. left_again (c.loop-at.invariant g) c.loop-at-test.true g.ruled g.known c.read_item.new.index
-    c.read_item.new.words c.read_item.new.bound
-    c.read_item.result c.read_item.ensures c.in-Ok.is c.after-at.ensures
-
-pub shape_of-index : goal.shape_of-index
-shape_of-index c = (c.loop-at.invariant c.requires.0).on.grown.same.long_index
-
-pub shape_of-words : goal.shape_of-words
-shape_of-words c = (c.loop-at.invariant c.requires.0).on.grown.same.long_words
-
-pub shape_of-bound : goal.shape_of-bound
-shape_of-bound c = left_long (c.loop-at.invariant c.requires.0) c.requires.1
-
-pub returns : goal.returns
-returns c = λ g. left_done (c.loop-at.invariant g) c.loop-at-test.false
+pub returns-clause-items_as : goal.returns-clause-items_as
+returns-clause-items_as c = λ g. left_done (c.loop-item.invariant.items g) (over c.loop-item.invariant.cells c.in-None.ensures.steps)

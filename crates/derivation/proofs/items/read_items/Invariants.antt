@@ -1,11 +1,18 @@
-use Prim.Native.Nat.{◌-◌}
-use lib.ListN.{length}
-use Rattle.state.specs.Held.{names, rule_lists}
+use mathlib.Core.Path.{◌≡◌}
+use Rattle.terms.specs.Lent.{SameTables}
+use Rattle.terms.specs.Sets.{counted_from_1}
+use Rattle.reading.specs.Reader.{names_of}
+use Rattle.derivation.specs.ItemsOf.{tables_of}
 use Rattle.derivation.proofs.AllItems.{Itemed}
 use Rattle.derivation.proofs.items.read_items.Given as goal
 
-abbrev pub invariant-loop-at : goal.invariant-loop-at
-invariant-loop-at l = Itemed (names l.theory l.goals l.text l.symbols l.inputs l.vars l.defs) (rule_lists l.theory l.rules l.rulevars l.patterns) l.n l.initial.index l.initial.words l.initial.m l.r l.cells l.index l.words l.m l.bound l.stated l.at
-
-abbrev pub decreases-loop-at : goal.decreases-loop-at
-decreases-loop-at l = length l.cells - l.at
+abbrev pub invariant-loop-item : goal.invariant-loop-item
+invariant-loop-item l =
+    let s = l.initial.store in
+    let t = l.store in
+    record {
+      cells : l.item-iterator.cells.now ≡ l.cells;
+      tables : SameTables s t;
+      items : Itemed (names_of l.reader) (tables_of l.reader l.rule) l.reader.n s.index.now s.words.now s.mark l.rule.number l.cells
+          t.index.now t.words.now t.mark l.said.bound (counted_from_1 l.said.stated) l.item-iterator.at;
+    }

@@ -1,142 +1,86 @@
-use mathlib.Core.Path.{sym, ap, ◌∙◌}
+use mathlib.Core.Path.{refl, ap, ◌∙◌}
+use mathlib.Core.Bool.{not}
 use native.Mathlib.Omega.{arith}
 use lib.ListN.{length, length-set}
-use Rattle.derivation.proofs.StepRefs.{blank_hyps, blank_footing, instances_small, refs_start, left_given, left_room, left_refused, left_fits, left_fact, left_again, left_less, left_done}
+use Rattle.std.specs.Iterator.Adapters.{enumerate_source, enumerate_count}
+use Rattle.sexp.specs.declared.items.Each.{Each}
+use Rattle.referring.specs.declared.support.Support.{Support}
+use Rattle.sexp.specs.Each.{here, over}
+use Rattle.kernel.proofs.Handed.{handed}
+use Rattle.derivation.proofs.StepRefs.{instances_are, instances_few, refs_start, left_given, left_room, left_refused, left_fits, left_fact, left_again, left_done}
 use Rattle.derivation.proofs.step.references.Goals as goal
 
-pub loop-at-init : goal.loop-at-init
-loop-at-init c = refs_start c.requires.fact_form.1
+pub loop-k-init : goal.loop-k-init
+loop-k-init c =
+    let i = c.into_iter-k-iterator.ensures.into_iter_gives in
+    let e = c.enumerate-k-items.ensures in
+    let s = ap enumerate_source i ∙ e.source in
+    record {
+      cells = ap (λ (k : Each). k.cells.now) s ∙ c.all.ensures.0;
+      tables = (refl, refl);
+      refs = refs_start (ap (λ (k : Support). k.hyps) c.no_support-support.ensures) (ap (λ (k : Support). k.footing) c.no_support-support.ensures)
+          (ap enumerate_count i ∙ e.count) (ap (λ (k : Each). k.at) s ∙ c.all.ensures.1);
+      few = omega arith;
+      memo = refl;
+      long = refl;
+    }
 
-pub offset_bounds-cells-at : goal.offset_bounds-cells-at
-offset_bounds-cells-at c = omega (arith, c.loop-at-test.true, c.well_formed.1.1.1.1.1.1.1.1.1.1.1.1.1.1.0)
+pub reference-requires-clause-reads : goal.reference-requires-clause-reads
+reference-requires-clause-reads c =
+    let h = here c.loop-k.invariant.cells c.in-Some.ensures.steps.0 in
+    rw h.is (left_given (c.loop-k.invariant.refs c.requires.reads) h.inside)
 
-pub slice_bounds-reference-count : goal.slice_bounds-reference-count
-slice_bounds-reference-count c = omega (arith, c.loop-at-test.true)
-
-pub slice_bounds-reference-start : goal.slice_bounds-reference-start
-slice_bounds-reference-start c = omega (arith, c.loop-at-test.true)
-
-pub reference-requires : goal.reference-requires
-reference-requires c = record { refers_item = left_given (c.loop-at.invariant.left c.requires.fact_form.0) c.loop-at-test.true; map_value = (c.loop-at.invariant.map_same ∙ c.requires.fact_form.1.map_zero, c.loop-at.invariant.memo_same ∙ c.requires.fact_form.1.memo_zero) }
+pub returns-in_err-referred-clause-refs_as : goal.returns-in_err-referred-clause-refs_as
+returns-in_err-referred-clause-refs_as c = λ g.
+    let h = here c.loop-k.invariant.cells c.in-Some.ensures.steps.0 in
+    rw (handed c.from_residual.result c.from_residual.ensures)
+    (left_refused (c.loop-k.invariant.refs g) h.inside (rw h.is at c.in_err-referred.ensures.referred_as))
 
 pub overflow_cast-ids : goal.overflow_cast-ids
-overflow_cast-ids c = omega (
-  arith,
-  left_fits (c.loop-at.invariant.left c.requires.fact_form.0) c.loop-at-test.true c.reference.new.index
-      c.reference.new.words c.reference.result c.reference.ensures.referred_as c.in-To.is,
-)
+overflow_cast-ids c =
+    let h = here c.loop-k.invariant.cells c.in-Some.ensures.steps.0 in
+    omega (arith, left_fits (c.loop-k.invariant.refs c.requires.reads) h.inside (rw h.is at c.in_ok-referred.ensures.referred_as))
 
 pub offset_bounds-ids-k : goal.offset_bounds-ids-k
-offset_bounds-ids-k c = omega (
-  arith,
-  left_room (c.loop-at.invariant.left c.requires.fact_form.0) c.loop-at-test.true c.requires.few_items c.requires.fact_form.0.holds.cells,
-  c.well_formed.1.1.1.1.1.1.1.1.1.1.1.1.1.1.1.1.1.0,
-  c.loop-at.invariant.long_ids,
-)
+offset_bounds-ids-k c =
+    let h = here c.loop-k.invariant.cells c.in-Some.ensures.steps.0 in
+    omega (
+      arith,
+      left_room (c.loop-k.invariant.refs c.requires.reads) h.inside c.requires.few_items c.requires.reads.holds.cells,
+      c.in-Some.ensures.steps.1,
+      c.loop-k.invariant.long,
+      c.well_formed,
+    )
 
 pub bounds-ids-k : goal.bounds-ids-k
-bounds-ids-k c = omega (arith, left_room (c.loop-at.invariant.left c.requires.fact_form.0) c.loop-at-test.true c.requires.few_items c.requires.fact_form.0.holds.cells, c.loop-at.invariant.long_ids)
+bounds-ids-k c =
+    let h = here c.loop-k.invariant.cells c.in-Some.ensures.steps.0 in
+    omega (
+      arith,
+      left_room (c.loop-k.invariant.refs c.requires.reads) h.inside c.requires.few_items c.requires.reads.holds.cells,
+      c.in-Some.ensures.steps.1,
+      c.loop-k.invariant.long,
+    )
 
 pub join-requires : goal.join-requires
-join-requires c = (
-  left_fact (c.loop-at.invariant.left c.requires.fact_form.0) c.loop-at-test.true c.reference.new.index
-      c.reference.new.words c.reference.result c.reference.ensures.referred_as c.in-To.is,
-  c.loop-at.invariant.long_hyps,
-  c.loop-at.invariant.long_footing,
-)
+join-requires c =
+    let h = here c.loop-k.invariant.cells c.in-Some.ensures.steps.0 in
+    rw c.facts-facts.ensures (left_fact (c.loop-k.invariant.refs c.requires.reads) h.inside (rw h.is at c.in_ok-referred.ensures.referred_as))
 
-pub instances-many-requires : goal.instances-many-requires
-instances-many-requires c = tt
+pub loop-k-preserved : goal.loop-k-preserved
+loop-k-preserved c =
+    let h = here c.loop-k.invariant.cells c.in-Some.ensures.steps.0 in
+    let r = rw h.is at c.in_ok-referred.ensures.referred_as in
+    record {
+      cells = h.same;
+      tables = (c.reference.ensures.same_tables.0 ∙ c.loop-k.invariant.tables.0, c.reference.ensures.same_tables.1 ∙ c.loop-k.invariant.tables.1);
+      refs = λ g. left_again (c.loop-k.invariant.refs g) h.inside r _ _ (rw c.facts-facts.ensures at c.join.ensures)
+          (omega (arith, left_room (c.loop-k.invariant.refs c.requires.reads) h.inside c.requires.few_items c.requires.reads.holds.cells, c.loop-k.invariant.long))
+          (c.from-instances.ensures ∙ instances_are c.in_ok-referred.referred.bare) c.in-Some.ensures.steps.1 c.in-Some.ensures.steps.2 h.behind;
+      few = omega (arith, c.loop-k.invariant.few, c.from-instances.ensures, instances_few c.in_ok-referred.referred.bare, c.in-Some.ensures.steps.2);
+      memo = c.reference.ensures.memo_unchanged ∙ c.loop-k.invariant.memo;
+      long = length-set _ _ _ ∙ c.loop-k.invariant.long;
+    }
 
-pub overflow_add-many : goal.overflow_add-many
-overflow_add-many c = omega (
-  arith,
-  c.loop-at.invariant.few,
-  left_room (c.loop-at.invariant.left c.requires.fact_form.0) c.loop-at-test.true c.requires.few_items c.requires.fact_form.0.holds.cells,
-  c.well_formed.1.1.1.1.1.1.1.1.1.1.1.1.1.1.1.1.1.0,
-  instances_small c.in-To.bare,
-  c.instances-many.ensures,
-)
-
-pub shape_of-index-in-No : goal.shape_of-index-in-No
-shape_of-index-in-No c = c.reference.auto.index ∙ (c.loop-at.invariant.left c.requires.fact_form.0).on.grown.same.long_index
-
-pub shape_of-words-in-No : goal.shape_of-words-in-No
-shape_of-words-in-No c = c.reference.auto.words ∙ (c.loop-at.invariant.left c.requires.fact_form.0).on.grown.same.long_words
-
-pub shape_of-map-in-No : goal.shape_of-map-in-No
-shape_of-map-in-No c = c.reference.auto.map ∙ ap length c.loop-at.invariant.map_same
-
-pub shape_of-memo-in-No : goal.shape_of-memo-in-No
-shape_of-memo-in-No c = c.reference.auto.memo ∙ ap length c.loop-at.invariant.memo_same
-
-pub shape_of-ids-in-No : goal.shape_of-ids-in-No
-shape_of-ids-in-No c = c.loop-at.invariant.long_ids
-
-pub shape_of-hyps-in-No : goal.shape_of-hyps-in-No
-shape_of-hyps-in-No c = c.loop-at.invariant.long_hyps ∙ sym (blank_hyps c.requires.fact_form.1)
-
-pub shape_of-footing-in-No : goal.shape_of-footing-in-No
-shape_of-footing-in-No c = c.loop-at.invariant.long_footing ∙ sym (blank_footing c.requires.fact_form.1)
-
-pub returns-in-No : goal.returns-in-No
-returns-in-No c = record {
-  refs_as = λ g. left_refused (c.loop-at.invariant.left g) c.loop-at-test.true c.reference.new.index
-      c.reference.new.words c.reference.result c.reference.ensures.referred_as c.in-No.is;
-  map_unchanged = (c.reference.ensures.map_unchanged.0 ∙ c.loop-at.invariant.map_same, c.reference.ensures.map_unchanged.1 ∙ c.loop-at.invariant.memo_same);
-}
-
-pub overflow_add-k : goal.overflow_add-k
-overflow_add-k c = omega (
-  arith,
-  left_room (c.loop-at.invariant.left c.requires.fact_form.0) c.loop-at-test.true c.requires.few_items c.requires.fact_form.0.holds.cells,
-  c.well_formed.1.1.1.1.1.1.1.1.1.1.1.1.1.1.1.1.1.0,
-)
-
-pub after-at-requires : goal.after-at-requires
-after-at-requires c = c.loop-at-test.true
-
-pub loop-at-smaller : goal.loop-at-smaller
-loop-at-smaller c = omega (arith, left_less (c.loop-at.invariant.left c.requires.fact_form.0) c.loop-at-test.true c.after-at.ensures)
-
-pub loop-at-preserved : goal.loop-at-preserved
-loop-at-preserved c = record {
-  left = λ g. left_again (c.loop-at.invariant.left g) c.loop-at-test.true c.reference.new.index
-      c.reference.new.words c.reference.result c.reference.ensures.referred_as c.in-To.is
-      c.join.new.hyps c.join.new.footing c.join.ensures
-      (omega (
-        arith,
-        left_room (c.loop-at.invariant.left c.requires.fact_form.0) c.loop-at-test.true c.requires.few_items c.requires.fact_form.0.holds.cells,
-        c.loop-at.invariant.long_ids,
-      )) c.instances-many.ensures c.after-at.ensures;
-  few = omega (arith, c.loop-at.invariant.few, instances_small c.in-To.bare, c.instances-many.ensures);
-  map_same = c.reference.ensures.map_unchanged.0 ∙ c.loop-at.invariant.map_same;
-  memo_same = c.reference.ensures.map_unchanged.1 ∙ c.loop-at.invariant.memo_same;
-  long_ids = length-set c.loop-at.ids c.loop-at.k _ ∙ c.loop-at.invariant.long_ids;
-  long_hyps = c.join.auto.hyps ∙ c.loop-at.invariant.long_hyps;
-  long_footing = c.join.auto.footing ∙ c.loop-at.invariant.long_footing;
-}
-
-pub shape_of-index : goal.shape_of-index
-shape_of-index c = (c.loop-at.invariant.left c.requires.fact_form.0).on.grown.same.long_index
-
-pub shape_of-words : goal.shape_of-words
-shape_of-words c = (c.loop-at.invariant.left c.requires.fact_form.0).on.grown.same.long_words
-
-pub shape_of-map : goal.shape_of-map
-shape_of-map c = ap length c.loop-at.invariant.map_same
-
-pub shape_of-memo : goal.shape_of-memo
-shape_of-memo c = ap length c.loop-at.invariant.memo_same
-
-pub shape_of-ids : goal.shape_of-ids
-shape_of-ids c = c.loop-at.invariant.long_ids
-
-pub shape_of-hyps : goal.shape_of-hyps
-shape_of-hyps c = c.loop-at.invariant.long_hyps ∙ sym (blank_hyps c.requires.fact_form.1)
-
-pub shape_of-footing : goal.shape_of-footing
-shape_of-footing c = c.loop-at.invariant.long_footing ∙ sym (blank_footing c.requires.fact_form.1)
-
-pub returns : goal.returns
-returns c = record { refs_as = λ g. left_done (c.loop-at.invariant.left g) c.loop-at-test.false; map_unchanged = (c.loop-at.invariant.map_same, c.loop-at.invariant.memo_same) }
+pub returns-clause-refs_as : goal.returns-clause-refs_as
+returns-clause-refs_as c = λ g. left_done (c.loop-k.invariant.refs g) (over c.loop-k.invariant.cells c.in-None.ensures.steps.0)

@@ -1,11 +1,22 @@
-use Prim.Native.Nat.{◌-◌}
+use mathlib.Core.Path.{◌≡◌}
+use Prim.Native.Nat.{◌≤◌}
 use lib.ListN.{length}
-use Rattle.state.specs.Held.{names}
+use Rattle.terms.specs.Lent.{SameTables}
+use Rattle.referring.specs.Sources.{source_names}
 use Rattle.derivation.proofs.StepRefs.{RefsSoFar}
 use Rattle.derivation.proofs.step.references.Given as goal
 
-abbrev pub invariant-loop-at : goal.invariant-loop-at
-invariant-loop-at l = RefsSoFar (names l.theory l.goals l.text l.symbols l.inputs l.vars l.defs) l.facts l.footings l.lists l.n l.initial.index l.initial.words l.initial.m l.cells l.initial.map l.initial.memo l.initial.ids l.index l.words l.m l.map l.memo l.ids l.hyps l.footing l.k l.many l.at
-
-abbrev pub decreases-loop-at : goal.decreases-loop-at
-decreases-loop-at l = length l.cells - l.at
+abbrev pub invariant-loop-k : goal.invariant-loop-k
+invariant-loop-k l =
+    let s = l.initial.store in
+    let t = l.store in
+    let k = l.k-iterator.count in
+    record {
+      cells : l.k-iterator.iter.cells.now ≡ l.cells;
+      tables : SameTables s t;
+      refs : RefsSoFar (source_names l.source) l.source.rows.now l.source.footings.now l.source.lists.now l.source.reader.n s.index.now s.words.now s.mark l.cells
+          t.index.now t.words.now t.mark l.ids l.support.hyps l.support.footing k l.instances l.k-iterator.iter.at;
+      few : l.instances ≤ k;
+      memo : l.memo ≡ l.initial.memo;
+      long : length l.ids ≡ length l.initial.ids;
+    }

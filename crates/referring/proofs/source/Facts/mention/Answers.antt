@@ -21,17 +21,6 @@ offset_bounds-self-from c = omega (
   lists_are c.requires.recalls.0 c.requires.recalls.1,
 )
 
-pub slice_bounds-visit_all-count : goal.slice_bounds-visit_all-count
-slice_bounds-visit_all-count c = premises_order c.requires.recalls.0 c.requires.recalls.1 c.premises-own.ensures
-
-pub slice_bounds-visit_all-start : goal.slice_bounds-visit_all-start
-slice_bounds-visit_all-start c = omega (
-  arith,
-  premises_order c.requires.recalls.0 c.requires.recalls.1 c.premises-own.ensures,
-  premises_end c.requires.recalls.0 c.requires.recalls.1
-      c.premises-own.ensures,
-)
-
 pub slice_bounds-visit_all-end : goal.slice_bounds-visit_all-end
 slice_bounds-visit_all-end c = omega (
   arith,

@@ -11,12 +11,6 @@ hyps-own-requires c = hyps_asks c.requires
 pub offset_bounds-facts-from : goal.offset_bounds-facts-from
 offset_bounds-facts-from c = omega (arith, span_low c.requires c.hyps-own.ensures, span_high c.requires c.hyps-own.ensures, c.well_formed.1.1.0)
 
-pub slice_bounds-insert_all-count : goal.slice_bounds-insert_all-count
-slice_bounds-insert_all-count c = span_low c.requires c.hyps-own.ensures
-
-pub slice_bounds-insert_all-start : goal.slice_bounds-insert_all-start
-slice_bounds-insert_all-start c = span_low c.requires c.hyps-own.ensures
-
 pub slice_bounds-insert_all-end : goal.slice_bounds-insert_all-end
 slice_bounds-insert_all-end c = span_high c.requires c.hyps-own.ensures
 

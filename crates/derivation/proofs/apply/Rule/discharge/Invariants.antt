@@ -1,0 +1,22 @@
+use mathlib.Core.Path.{◌≡◌}
+use lib.ListN.{length, replicate}
+use Rattle.rules.specs.Limits.{TERMS, VARIABLEWORDS}
+use Rattle.terms.specs.Lent.{SameTables}
+use Rattle.referring.specs.Sources.{source_names}
+use Rattle.derivation.specs.Applying.{UsesRule}
+use Rattle.derivation.proofs.Discharging.{Left}
+use Rattle.derivation.proofs.apply.Rule.discharge.Given as goal
+
+abbrev pub invariant-loop-k : goal.invariant-loop-k
+invariant-loop-k l =
+    let s = l.initial.store in
+    let t = l.store in
+    record {
+      cells : l.k-iterator.iter.cells.now ≡ l.cells;
+      tables : SameTables s t;
+      memo : l.memo ≡ replicate TERMS 0;
+      used : length l.used ≡ VARIABLEWORDS;
+      left : (g : UsesRule l.source s l.self.fact l.cells l.self.bound.now) →
+          Left (source_names l.source) l.source.rows.now l.source.footings.now l.source.lists.now l.source.reader.n s.index.now s.words.now s.mark l.self.fact l.cells l.self.bound.now
+          g.S g.xs t.index.now t.words.now t.mark l.support.hyps l.support.footing l.used l.seen l.k-iterator.count l.k-iterator.iter.at;
+    }

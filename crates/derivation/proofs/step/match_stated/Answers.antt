@@ -1,0 +1,13 @@
+use mathlib.Core.Path.{ap}
+use Rattle.terms.specs.Sets.{counted_from_1}
+use Rattle.derivation.proofs.StepMatches.{stated_matchable, stated_matched, stated_none}
+use Rattle.derivation.proofs.step.match_stated.Goals as goal
+
+pub returns-in_default : goal.returns-in_default
+returns-in_default c = stated_none c.requires (ap counted_from_1 c.in_default.is)
+
+pub matches-requires : goal.matches-requires
+matches-requires c = stated_matchable c.requires (ap counted_from_1 c.in-Some.is)
+
+pub returns : goal.returns
+returns c = stated_matched c.requires (ap counted_from_1 c.in-Some.is) c.matches.ensures c.is_some.ensures
