@@ -2,3 +2,4 @@ pub mod Asks
 pub mod Blank
 pub mod Posing
 pub mod Opens
+pub mod Turns

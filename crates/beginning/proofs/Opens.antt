@@ -71,8 +71,8 @@ module _ {theory goals proof : List ℕ} {T : TheoryLists} {B : Board} {n : Size
     unfolding after_theory
     theory_left f = stops stands refl refl (ap (after_theory goals proof) (sym (judged_refused a (verdict theory) j f)) ∙ p.is)
 
-    pub goals_given : {w : List ℕ} → w ≡ replicate LENGTH 0 → Posing theory goals T B n m w
-    goals_given e = record { stands = stands; legible = legible p.short_goals e }
+    pub goals_given : {w : List ℕ} → w ≡ replicate LENGTH 0 → Posing (texts theory goals goals) T B n m w
+    goals_given e = record { text = refl; stands = stands; legible = legible p.short_goals e }
 
     -- what the definition says of the goals decides
     pub goals_next : {i : ℕ} → a ≡ Ok i → after_goals proof (whole take_goal (read goals) (begin (theory_in theory))) ≡ check theory goals proof
@@ -98,7 +98,7 @@ module _ {theory goals proof : List ℕ} {T : TheoryLists} {B : Board} {n : Size
       }
 
   -- a question is left in the goals
-  pub goals_left : (J : Judged State) {e : Refused} → Posed theory goals T B n m J (Err e) → after_goals proof J ≡ check theory goals proof →
+  pub goals_left : (J : Judged State) {e : Refused} → Posed (texts theory goals goals) T B n m J (Err e) → after_goals proof J ≡ check theory goals proof →
       Opened theory goals proof T B n m (Err (record { text = text.Goals; refused = e }))
   unfolding after_goals
   goals_left (refused q d k S) p e =
@@ -109,7 +109,7 @@ module _ {theory goals proof : List ℕ} {T : TheoryLists} {B : Board} {n : Size
       ∙ sym (ap (outcome_by proof k S) (eq-eqb (length S.goals) 0 (p.stands.goals.many ∙ p.is.0))) ∙ e)
 
   -- none is
-  pub goals_opened : (J : Judged State) → Posed theory goals T B n m J (Ok tt) → after_goals proof J ≡ check theory goals proof → length proof ≤ LENGTH →
+  pub goals_opened : (J : Judged State) → Posed (texts theory goals goals) T B n m J (Ok tt) → after_goals proof J ≡ check theory goals proof → length proof ≤ LENGTH →
       Opened theory goals proof T B n m (Ok tt)
   unfolding after_goals
   goals_opened (refused q d k S) p e l = absurd p.is

@@ -1,5 +1,4 @@
 pub mod Asking
-pub mod Boards
 pub mod Given
 pub mod Lengths
 pub mod Opened

@@ -2,8 +2,7 @@
 ghost use Rattle.std.specs.Prelude.{◌≡◌};
 ghost use Rattle.kernel.specs.Tables.{lists_of, SameTables as SameTheory};
 ghost use Rattle.terms.specs.Lent.{SameTables};
-ghost use Rattle.running.specs.Lent.{board_of};
-ghost use Rattle.beginning.specs.Boards.{SameBoard};
+ghost use Rattle.forms.specs.Boards.{tables_of, SameBoard};
 ghost use Rattle.beginning.specs.Given.{given_of};
 ghost use Rattle.beginning.specs.Opened.{Opening, Opened};
 
@@ -49,9 +48,9 @@ pub fn begin(
     store: &mut Store<'_>,
     cells: &mut [u32],
 ) -> Result<(), Stopped>
-    requires { Opening (lists_of tables.old) (board_of board.old store.old) cells.old }
+    requires { Opening (lists_of tables.old) (tables_of board.old store.old) cells.old }
     ensures same_tables { SameTheory tables.old tables.new × SameBoard board.old board.new × SameTables store.old store.new }
-    ensures opened { Opened texts.now.theory.now texts.now.goals.now texts.now.proof.now (lists_of tables.new) (board_of board.new store.new) board.new.n store.new.mark result }
+    ensures opened { Opened texts.now.theory.now texts.now.goals.now texts.now.proof.now (lists_of tables.new) (tables_of board.new store.new) board.new.n store.new.mark result }
     ensures cells_unchanged { cells.new ≡ cells.old }
 {
     clear_board(board, store);

@@ -3,14 +3,60 @@ ghost use Rattle.std.specs.Prelude.{◌≡◌};
 ghost use Rattle.rules.specs.Sexp.{read};
 ghost use Rattle.rules.specs.State.{begin};
 ghost use Rattle.rules.specs.Forms.{take_goal};
-ghost use Rattle.rules.specs.Loop.{whole};
+ghost use Rattle.rules.specs.Loop.{through, whole};
 ghost use Rattle.terms.specs.Lent.{SameTables};
-ghost use Rattle.beginning.specs.Boards.{theory_of, tables_of, SameBoard};
-ghost use Rattle.beginning.specs.Posed.{theory_in, Posing, Posed};
+ghost use Rattle.forms.specs.Boards.{texts_of, theory_of, tables_of, SameBoard};
+ghost use Rattle.beginning.specs.Posed.{theory_in, Posing, behind, Posed};
 
-use questions::Refused;
+use questions::{Question, Refused};
+use sexp::sexp::{clear, read_all, read_form};
 use state::board::{Board, Given};
+use taking::take::take_goal;
 use terms::store::Store;
+
+// The question, left behind so many forms.
+fn left(question: Question, form: usize) -> Refused
+    ensures { result ≡ behind question form }
+{
+    Refused { question, form }
+}
+
+// The forms of the goals, one after the other, and question 25 behind them.
+fn take_goals(
+    given: &Given<'_>,
+    board: &mut Board<'_>,
+    store: &mut Store<'_>,
+    cells: &mut [u32],
+) -> Result<(), Refused>
+    requires { Posing (texts_of given.now) (theory_of given.now) (tables_of board.old store.old) board.old.n store.old.mark cells.old }
+    ensures same_tables { SameBoard board.old board.new × SameTables store.old store.new }
+    ensures posed { Posed (texts_of given.now) (theory_of given.now) (tables_of board.new store.new) board.new.n store.new.mark
+        (through take_goal (read given.now.goals.now) 0 (begin (theory_in given.now.theory.now))) result }
+    ensures cells_unchanged { cells.new ≡ cells.old }
+{
+    let mut forms = 0;
+    let mut at = 0;
+    // from form to form, which is no count
+    loop {
+        let form = match read_form(given.goals, at, cells) {
+            Ok(Some(form)) => form,
+            Ok(None) => break,
+            // a text that was read whole before is not refused here
+            Err(question) => return Err(left(question, forms)),
+        };
+        let taken = take_goal(given, board, store, &cells[..form.cells]);
+        clear(cells, form.cells);
+        if let Err(question) = taken {
+            return Err(left(question, forms));
+        }
+        forms += 1;
+        at = form.end;
+    }
+    if board.n.goals == 0 {
+        return Err(left(Question::NoGoal, forms));
+    }
+    Ok(())
+}
 
 // The goals, where the theory stands in its tables.
 pub fn pose(
@@ -19,12 +65,12 @@ pub fn pose(
     store: &mut Store<'_>,
     cells: &mut [u32],
 ) -> Result<(), Refused>
-    requires { (given.now.text.now ≡ given.now.goals.now) × Posing given.now.theory.now given.now.goals.now (theory_of given.now) (tables_of board.old store.old) board.old.n store.old.mark cells.old }
+    requires { Posing (texts_of given.now) (theory_of given.now) (tables_of board.old store.old) board.old.n store.old.mark cells.old }
     ensures same_tables { SameBoard board.old board.new × SameTables store.old store.new }
-    ensures posed { Posed given.now.theory.now given.now.goals.now (theory_of given.now) (tables_of board.new store.new) board.new.n store.new.mark
+    ensures posed { Posed (texts_of given.now) (theory_of given.now) (tables_of board.new store.new) board.new.n store.new.mark
         (whole take_goal (read given.now.goals.now) (begin (theory_in given.now.theory.now))) result }
     ensures cells_unchanged { cells.new ≡ cells.old }
 {
-    crate::stub::stub();
-    Ok(())
+    read_all(given.goals)?;
+    take_goals(given, board, store, cells)
 }

@@ -4,6 +4,5 @@
 
 pub mod begin;
 mod goals;
-mod stub;
 pub mod tables;
 pub mod texts;

@@ -4,8 +4,7 @@ ghost use Rattle.rules.specs.Theory.{no_theory};
 ghost use Rattle.kernel.specs.Parsed.{Exact, theory_tables};
 ghost use Rattle.kernel.specs.Tables.{lists_of, SameTables as SameTheory};
 ghost use Rattle.terms.specs.Lent.{SameTables};
-ghost use Rattle.running.specs.Lent.{board_of};
-ghost use Rattle.beginning.specs.Boards.{SameBoard};
+ghost use Rattle.forms.specs.Boards.{tables_of, SameBoard};
 ghost use Rattle.beginning.specs.Lengths.{FitsAll, Decides, theory_sizes};
 ghost use Rattle.beginning.specs.Opened.{Lending, Cleared};
 
@@ -62,9 +61,9 @@ pub fn clear_theory(tables: &mut Tables<'_>)
 
 // The tables of a check that has nothing but a theory; no fact is stored in them.
 pub fn clear_board(board: &mut Board<'_>, store: &mut Store<'_>)
-    requires { Lending (board_of board.old store.old) }
+    requires { Lending (tables_of board.old store.old) }
     ensures same_tables { SameBoard board.old board.new × SameTables store.old store.new }
-    ensures cleared { Cleared (board_of board.new store.new) board.new.n store.new.mark }
+    ensures cleared { Cleared (tables_of board.new store.new) board.new.n store.new.mark }
 {
     clear(board.vars);
     clear(store.index);

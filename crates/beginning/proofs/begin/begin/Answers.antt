@@ -1,4 +1,4 @@
-use Rattle.std.proofs.Common.{refl, ◌∙◌}
+use Rattle.std.proofs.Common.{◌∙◌}
 use Rattle.beginning.proofs.Opens.{theory_given, texts_left, theory_left, goals_given, goals_next, goals_left, goals_opened}
 use Rattle.beginning.proofs.begin.begin.Goals as goal
 
@@ -18,8 +18,7 @@ pub pose-requires : goal.pose-requires
 pose-requires c =
     let p = c.parse_exact-judged.ensures in
     rw c.given_of-given.ensures
-    (refl,
-    goals_given c.clear_board.ensures.cleared c.in_default.ensures c.parse_exact-judged.result p.value p.held p.patterns_after p.laid_held
+    (goals_given c.clear_board.ensures.cleared c.in_default.ensures c.parse_exact-judged.result p.value p.held p.patterns_after p.laid_held
     c.theory_sizes-board.ensures (p.cells_unchanged ∙ c.requires.cells_zero))
 
 pub returns-in-Err-pose-clause-opened : goal.returns-in-Err-pose-clause-opened

@@ -1,0 +1,125 @@
+-- What is held while the loop of `take_goals` goes through the goals (sexp/specs/Through), and what `read_all` says before. Assumes nothing.
+use Rattle.std.specs.Prelude.{◌≡◌, refl, List, ◌++◌, ℕ, ◌+◌, take, drop, replicate, Option, Some as some, None as nothing, Result, Ok, Err}
+use Rattle.std.proofs.Common.{sym, ap, ◌∙◌, subst, append-nil}
+use Rattle.rules.specs.Sexp.{read}
+use Rattle.rules.specs.State.{State, begin}
+use Rattle.rules.specs.Forms.{take_goal}
+use Rattle.rules.specs.Loop.{Judged, done, refused, through, whole}
+use Rattle.questions.specs.declared.Question.{Question}
+use Rattle.questions.specs.declared.Question.TheVariants.{NoGoal}
+use Rattle.questions.specs.declared.Refused.{Refused}
+use Rattle.questions.specs.Numbers.{number_of, detail_of}
+use Rattle.sexp.specs.Encode.{encode}
+use Rattle.sexp.specs.Reads.{ReadRight}
+use Rattle.sexp.specs.ReadLaws.{FormIs}
+use Rattle.sexp.specs.Through.{Going, going_first, going_ends, going_fails, going_form, going_refused, going_taken, whole_refused, whole_forms}
+use Rattle.sexp.specs.Whole.{EndsAs}
+use Rattle.sexp.specs.declared.sexp.Form.{Form}
+use Rattle.kernel.specs.Parsed.{TheoryLists, Formed}
+use Rattle.terms.specs.declared.store.Store.{Store}
+use Rattle.state.specs.declared.board.Given.{Given}
+use Rattle.state.specs.declared.board.Board.{Board as Lent}
+use Rattle.state.specs.Stands.{Texts, Board}
+use Rattle.forms.specs.Boards.{texts_of, theory_of, tables_of, StandsIn}
+use Rattle.taking.specs.Taking.{TakesGoalIn, GoalTakenIn}
+use Rattle.beginning.specs.Posed.{theory_in, Posing, Fresh, PosedAs, Posed}
+use Rattle.beginning.proofs.Posing.{fresh_first, fresh_on}
+
+abbrev pub PosingIn : Given → Lent → Store → List ℕ → Type 0
+PosingIn g b s cells = Posing (texts_of g) (theory_of g) (tables_of b s) b.n s.mark cells
+
+abbrev pub PosedIn : Given → Lent → Store → Judged State → Result (Unit {0}) Refused → Type 0
+PosedIn g b s J r = Posed (texts_of g) (theory_of g) (tables_of b s) b.n s.mark J r
+
+-- the definition's answer
+abbrev pub answer : Given → Judged State
+answer g = through take_goal (read g.goals.now) 0 (begin (theory_in g.theory.now))
+
+-- The loop -----------------------------------------------------------------------------------------------------------------------------
+
+-- so many goals are taken
+pub record Turn (g : Given) (w₀ w : List ℕ) (b : Lent) (s : Store) (forms at : ℕ) : Type 0 where
+  pub text : g.text.now ≡ g.goals.now
+  pub S : State
+  pub stands : StandsIn g b s S
+  pub fresh : Fresh S
+  pub going : Going take_goal g.goals.now w₀ w (answer g) S forms at
+
+pub turn_first : {g : Given} {b : Lent} {s : Store} {w : List ℕ} → PosingIn g b s w → Turn g w w b s 0 0
+turn_first {g} p =
+    record {
+      text = p.text;
+      S = begin (theory_in g.theory.now);
+      stands = p.stands;
+      fresh = fresh_first g.theory.now;
+      going = going_first take_goal (begin (theory_in g.theory.now)) p.legible;
+    }
+
+module _ {g : Given} {w₀ w : List ℕ} {b : Lent} {s : Store} {forms at : ℕ} (t : Turn g w₀ w b s forms at)
+    {v : List ℕ} {r : Result (Option Form) Question} (k : ReadRight g.goals.now at w v r) where
+  posed : {J : Judged State} → answer g ≡ J → {z : Result (Unit {0}) Refused} → PosedIn g b s J z → PosedIn g b s (answer g) z
+  posed e {z} p = subst (λ J. PosedIn g b s J z) (sym e) p
+
+  -- question 25
+  pub turn_no_goals : r ≡ Ok nothing → b.n.goals ≡ 0 → PosedIn g b s (answer g) (Err (record { question = NoGoal; form = forms })) × (v ≡ w₀)
+  turn_no_goals e z = let a = going_ends t.going k e in (posed a.0 (record { is = (z, refl); stands = t.stands; fresh = t.fresh }), a.1)
+
+  pub turn_ends : r ≡ Ok nothing → (b.n.goals ≡ 0 → ⊥) → PosedIn g b s (answer g) (Ok tt) × (v ≡ w₀)
+  turn_ends e z = let a = going_ends t.going k e in (posed a.0 (record { is = z; stands = t.stands; fresh = t.fresh }), a.1)
+
+  pub turn_fails : {q : Question} → r ≡ Err q → PosedIn g b s (answer g) (Err (record { question = q; form = forms })) × (v ≡ w₀)
+  turn_fails e = let a = going_fails t.going k e in (posed a.0 (record { is = (refl, refl, refl); stands = t.stands; fresh = t.fresh }), a.1)
+
+  module _ {f : Form} (e : r ≡ Ok (some f)) where
+    abbrev form : FormIs g.goals.now at w v f.end f.cells
+    form = going_form t.going k e
+
+    pub formed : Formed g.text.now (take f.cells v) form.form
+    unfolding encode
+    formed =
+        subst (λ l. Formed l (take f.cells v) form.form) (sym t.text)
+        (record { encoded = form.holds.cells ∙ append-nil (encode form.form); spelt = form.holds.spelt.0 })
+
+    -- what `take_goal` asks
+    abbrev pub turn_takes : TakesGoalIn g b s (take f.cells v)
+    turn_takes =
+        record {
+          form = record { S = t.S; x = form.form; stands = t.stands; bounded = t.fresh.checked.bounded; formed = formed };
+          none = t.fresh.facts;
+          text = t.text;
+        }
+
+    -- and what it answers
+    module _ (c : Lent) (u : Store) where
+      abbrev pub Answers : Result (Unit {0}) Question → Type 0
+      Answers y = GoalTakenIn g b c s u t.S (take_goal form.form t.S) y
+
+      pub turn_refused : (q : Question) → Answers (Err q) → PosedIn g c u (answer g) (Err (record { question = q; form = forms }))
+      turn_refused q a =
+          subst (λ J. PosedIn g c u J (Err (record { question = q; form = forms }))) (sym (going_refused t.going k e a.0.is))
+          (record { is = (refl, refl, refl); stands = a.1; fresh = t.fresh })
+
+      pub turn_on : {i : Unit {0}} → Answers (Ok i) → {x : List ℕ} → x ≡ replicate f.cells 0 ++ drop f.cells v → Turn g w₀ x c u (forms + 1) f.end
+      turn_on a z =
+          record {
+            text = t.text;
+            S = a.after;
+            stands = a.stands;
+            fresh = fresh_on form.form t.S a.after a.is t.fresh;
+            going = going_taken t.going k e a.is z;
+          }
+
+-- A text that is read whole --------------------------------------------------------------------------------------------------------------
+
+module _ (g : Given) (r : Result ℕ Refused) (e : EndsAs (read g.goals.now) 0 r) where
+  abbrev pub all : Judged State
+  all = whole take_goal (read g.goals.now) (begin (theory_in g.theory.now))
+
+  pub goals_unread : (b : Lent) (s : Store) {w : List ℕ} → PosingIn g b s w → {q : Refused} → r ≡ Err q → PosedIn g b s all (Err q)
+  goals_unread b s p {q} f =
+      subst (λ J. PosedIn g b s J (Err q)) (sym (whole_refused take_goal (begin (theory_in g.theory.now)) (read g.goals.now) r e f))
+      (record { is = (refl, refl, refl); stands = p.stands; fresh = fresh_first g.theory.now })
+
+  pub goals_read : {j : ℕ} → r ≡ Ok j → (c : Lent) (t : Store) (z : Result (Unit {0}) Refused) → PosedIn g c t (answer g) z → PosedIn g c t all z
+  goals_read f c t z p =
+      subst (λ J. PosedIn g c t J z) (sym (whole_forms take_goal (begin (theory_in g.theory.now)) (read g.goals.now) r e f)) p

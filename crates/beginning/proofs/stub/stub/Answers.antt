@@ -1,4 +1,0 @@
-use Rattle.beginning.proofs.stub.stub.Goals as goal
-
-pub returns : goal.returns
-returns c = ?

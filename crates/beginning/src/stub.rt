@@ -1,5 +1,0 @@
-// for the time being
-pub fn stub()
-    ensures { ⊥ }
-{
-}
