@@ -2,6 +2,7 @@
 use Rattle.std.specs.Prelude.{◌≡◌, refl, List, ℕ, ◌+◌, ◌-◌, ◌%◌, ◌≤◌, ◌<◌, Bool, true, false, eqb, length, get_or, take, drop, Option, Some, None}
 use Rattle.std.proofs.Common.{arith, ap, ◌∙◌, length-drop, drop-drop, get_or-drop, take_all}
 use denote.Ref.{Bor}
+use Rattle.rules.specs.Sexp.{Sexp, Sexps, atom, list}
 use Rattle.sexp.specs.declared.items.Each.{Each}
 use Rattle.sexp.specs.Items.{item_at, behind, by_parity}
 use Rattle.sexp.specs.declared.items.Item.{Item}
@@ -77,3 +78,10 @@ module _ (words item : List ℕ) (at : ℕ) (e : item ≡ take (length words - a
   part_moved a b =
       let n : at + b - (at + a) ≡ b - a = omega arith in
       rw (rest_is, n) (ap (take (b - a)) (drop-drop a at words))
+
+-- The first item -------------------------------------------------------------------------------------------------------------------------
+
+-- the bytes of an atom; none where it is a list
+abbrev pub HeadIs : Sexp → Option (Bor (List ℕ)) → Type 0
+HeadIs x (Some name) = (p : ℕ) × (x ≡ atom p name.now)
+HeadIs x None = (xs : Sexps) × (x ≡ list xs)
