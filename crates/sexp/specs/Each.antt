@@ -2,9 +2,12 @@
 use Rattle.std.specs.Prelude.{◌≡◌, refl, List, ℕ, ◌+◌, ◌-◌, ◌%◌, ◌≤◌, ◌<◌, Bool, true, false, eqb, length, get_or, take, drop, Option, Some, None}
 use Rattle.std.proofs.Common.{arith, ap, ◌∙◌, length-drop, drop-drop, get_or-drop, take_all}
 use denote.Ref.{Bor}
-use Rattle.rules.specs.Sexp.{Sexp, Sexps, atom, list}
+use Rattle.rules.specs.Sexp.{Sexp, Sexps, atom, list, nil, cons, item}
+use Rattle.sexp.specs.Never.{never}
+use Rattle.sexp.specs.ItemLaws.{at_room, item_here, some_cells}
+use Rattle.sexp.specs.WalkLaws.{walk_start, walk_rest, past_atom}
 use Rattle.sexp.specs.declared.items.Each.{Each}
-use Rattle.sexp.specs.Items.{item_at, behind, by_parity}
+use Rattle.sexp.specs.Items.{Holds, item_at, item_of, behind, by_parity}
 use Rattle.sexp.specs.declared.items.Item.{Item}
 use Rattle.sexp.specs.declared.items.Item.TheVariants.{Atom, List as Part}
 
@@ -85,3 +88,18 @@ module _ (words item : List ℕ) (at : ℕ) (e : item ≡ take (length words - a
 abbrev pub HeadIs : Sexp → Option (Bor (List ℕ)) → Type 0
 HeadIs x (Some name) = (p : ℕ) × (x ≡ atom p name.now)
 HeadIs x None = (xs : Sexps) × (x ≡ list xs)
+
+-- an atom in front, and the items behind it in the cells behind the first
+pub record NameFirst (text cells : List ℕ) (xs : Sexps) (p : ℕ) (name : List ℕ) : Type 0 where
+  pub others : Sexps
+  pub is : xs ≡ cons (atom p name) others
+  pub some : 0 < length cells
+  pub rest : Holds text (take (length cells - 1) (drop 1 cells)) others
+
+pub name_first : {text cells : List ℕ} (xs : Sexps) {p : ℕ} {name : List ℕ} → Holds text cells xs → item xs 0 ≡ atom p name → NameFirst text cells xs p name
+unfolding item
+name_first nil h e = never cc
+name_first (cons x xs) h e =
+    let w = walk_start h in
+    let i = item_here x w.here ∙ ap (item_of 0) e in
+    record { others = xs; is = ap (λ z. cons z xs) e; some = omega (arith, at_room w.here, some_cells x); rest = walk_rest (past_atom w refl i) }
