@@ -15,15 +15,16 @@ use Rattle.sexp.specs.Items.{Holds}
 use Rattle.terms.specs.declared.store.Mark.{Mark}
 use Rattle.terms.specs.Table.{made, tree}
 use Rattle.state.specs.declared.sizes.Sizes.{Sizes}
+use Rattle.questions.specs.declared.Question.{Question}
 use Rattle.questions.specs.declared.Row.{Row}
-use Rattle.questions.specs.Numbers.{row_number}
+use Rattle.questions.specs.Numbers.{row_number, number_of, detail_of}
 use Rattle.state.specs.Held.{Names, Records, records}
+use Rattle.state.specs.Used.{facts_now}
 use Rattle.state.specs.Recording.{Valid, Assumes, HypothesisPut, with_fact}
 use Rattle.reading.specs.Laws.Lists.{Listing}
-use Rattle.forms.specs.declared.hypotheses.Assumed.{Assumed}
-use Rattle.forms.specs.declared.hypotheses.Assumed.TheVariants as assumed_as
+use Rattle.terms.specs.declared.store.Store.{Store}
+use Rattle.state.specs.declared.board.Board.{Board}
 use Rattle.forms.specs.declared.hypotheses.Stated.{Stated}
-use Rattle.forms.specs.declared.hypotheses.Stated.TheVariants as stated_as
 use Rattle.referring.specs.Recall.{Refers}
 use Rattle.forms.specs.Halted.{Makes, Halts}
 
@@ -55,10 +56,16 @@ pub record HypAdded (R Q : Records) (n : Sizes) (I W J X : List ℕ) (old : Mark
   pub valid : Valid (made J X now) (with_fact (with_made S (made J X now)) new (plus S.counts one_hypothesis))
   pub stored : HypothesisPut (records R.facts R.footings behind) Q n judgment premises general (Ok e)
 
--- R, Q: the tables of facts before and afterwards
-abbrev pub AssumedAs : Records → Records → Sizes → List ℕ → List ℕ → List ℕ → List ℕ → Mark → State → Out State (Unit {0}) → Assumed → Type 0
-AssumedAs R Q n I W J X old S K (assumed_as.Ok e now) = HypAdded R Q n I W J X old S K e now
-AssumedAs R Q n I W J X old S K (assumed_as.No q d now) = Halts I W J X old S K q d now × (Q ≡ R)
+-- R, Q: the tables of facts before and afterwards; n, k: what is used then
+abbrev pub AssumedBy : Records → Records → Sizes → Sizes → List ℕ → List ℕ → List ℕ → List ℕ → Mark → Mark → State → Out State (Unit {0}) → Result (Unit {0}) Question → Type 0
+AssumedBy R Q n k I W J X old new S K (Ok u) = HypAdded R Q n I W J X old S K k.entries new × (k ≡ facts_now n (n.facts + 1) k.entries)
+AssumedBy R Q n k I W J X old new S K (Err e) = Halts I W J X old S K (number_of e) (detail_of e) new × (Q ≡ R) × (k ≡ n)
+
+-- whatever the footings are, which no hypothesis changes
+abbrev pub AssumedAs : Board → Board → List ℕ → Store → Store → State → Out State (Unit {0}) → Result (Unit {0}) Question → Type 0
+AssumedAs b c footings s t S K r =
+    AssumedBy (records b.facts.now footings b.lists.now) (records c.facts.now footings c.lists.now) b.n c.n
+    s.index.now s.words.now t.index.now t.words.now s.mark t.mark S K r
 
 -- What is read first ---------------------------------------------------------------------------------------------------------------
 
@@ -77,15 +84,33 @@ pub record PartsRead (I W J X : List ℕ) (old : Mark) (S : State) (K : Out Stat
   pub vars_are : general ≡ filled VARIABLES vars
 
 -- before, cells: those of the premises before and afterwards
-abbrev pub PartsAs : List ℕ → List ℕ → List ℕ → List ℕ → Mark → State → Out State (Unit {0}) → List ℕ → List ℕ → List ℕ → Stated → Type 0
-PartsAs I W J X old S K before cells general (stated_as.Ok j many few now) = PartsRead I W J X old S K cells general j many few now
-PartsAs I W J X old S K before cells general (stated_as.No q d now) = Halts I W J X old S K q d now × (cells ≡ before)
+abbrev pub PartsBy : List ℕ → List ℕ → List ℕ → List ℕ → Mark → Mark → State → Out State (Unit {0}) → List ℕ → List ℕ → List ℕ → Result Stated Question → Type 0
+PartsBy I W J X old new S K before cells general (Ok r) = PartsRead I W J X old S K cells general r.judgment r.premises r.general new
+PartsBy I W J X old new S K before cells general (Err e) = Halts I W J X old S K (number_of e) (detail_of e) new × (cells ≡ before)
+
+abbrev pub PartsAs : Store → Store → State → Out State (Unit {0}) → List ℕ → List ℕ → List ℕ → Result Stated Question → Type 0
+PartsAs s t S K before cells general r =
+    PartsBy s.index.now s.words.now t.index.now t.words.now s.mark t.mark S K before cells general r
 
 -- What is stored last --------------------------------------------------------------------------------------------------------------
 
--- rows 12 and 13 of question 60, with the variables behind the premises where there is room, and the tables as they were where there is none
-abbrev pub RulePutAs : Records → Records → Sizes → ℕ → ℕ → List ℕ → Result ℕ Row → Type 0
-RulePutAs R Q n judgment premises general (Ok e) =
-    HypothesisPut (records R.facts R.footings (sets R.lists (n.entries + 1 + premises) general)) Q n judgment premises (length general) (Ok e)
-RulePutAs R Q n judgment premises general (Err r) =
+-- rows 12 and 13 of question 60, where its premises and generalised variables stand in the lists
+abbrev pub HypPutBy : Records → Records → Sizes → Sizes → Stated → Result (Unit {0}) Row → Type 0
+HypPutBy R Q n k r (Ok u) = HypothesisPut R Q n r.judgment r.premises r.general (Ok k.entries) × (k ≡ facts_now n (n.facts + 1) k.entries)
+HypPutBy R Q n k r (Err e) = HypothesisPut R Q n r.judgment r.premises r.general (Err e) × (k ≡ n)
+
+abbrev pub HypPutAs : Board → Board → List ℕ → Stated → Result (Unit {0}) Row → Type 0
+HypPutAs b c footings s r = HypPutBy (records b.facts.now footings b.lists.now) (records c.facts.now footings c.lists.now) b.n c.n s r
+
+-- with the variables behind the premises where there is room, and the tables as they were where there is none
+abbrev pub RulePutBy : Records → Records → Sizes → Sizes → ℕ → ℕ → List ℕ → Result (Unit {0}) Row → Type 0
+RulePutBy R Q n k judgment premises general (Ok u) =
+    HypothesisPut (records R.facts R.footings (sets R.lists (n.entries + 1 + premises) general)) Q n judgment premises (length general) (Ok k.entries)
+    × (k ≡ facts_now n (n.facts + 1) k.entries)
+RulePutBy R Q n k judgment premises general (Err r) =
     (Q ≡ R) × (row_number r ≡ elim (ltb n.facts FACTS) [ true ↦ 13 | false ↦ 12 ]) × (n.facts < FACTS → ENTRIES < n.entries + (1 + premises + length general))
+    × (k ≡ n)
+
+abbrev pub RulePutAs : Board → Board → List ℕ → ℕ → ℕ → List ℕ → Result (Unit {0}) Row → Type 0
+RulePutAs b c footings judgment premises general r =
+    RulePutBy (records b.facts.now footings b.lists.now) (records c.facts.now footings c.lists.now) b.n c.n judgment premises general r

@@ -1,4 +1,5 @@
 pub mod Assumed
+pub mod Boards
 pub mod Declares
 pub mod Goals
 pub mod Halted

@@ -2,6 +2,7 @@
 // proved equal to the definition's in the crate `rules`, every lent cell included.
 #![tactic(auto)]
 
+mod beside;
 pub mod declare;
 pub mod goals;
 pub mod hypotheses;
