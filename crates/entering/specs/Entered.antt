@@ -1,20 +1,27 @@
 -- What the forms of derived facts are given and what they answer, beside what the definition answers: K. Assumes nothing.
-use Rattle.std.specs.Prelude.{◌≡◌, List, ℕ, ◌^◌, ◌<◌, get_or, replicate, Ok, Err}
-use Rattle.rules.specs.Limits.{VARIABLES, TERMS}
+use Rattle.std.specs.Prelude.{◌≡◌, List, ℕ, ◌+◌, ◌^◌, ◌<◌, get_or, replicate, Result, Ok, Err}
+use Rattle.rules.specs.Limits.{TERMS}
 use Rattle.rules.specs.Out.{Out, ok}
 use Rattle.rules.specs.State.{State, Fact, Counts}
 use Rattle.rules.specs.Forms.{with_made, plus}
+use Rattle.questions.specs.declared.Question.{Question}
+use Rattle.questions.specs.declared.Row.{Row}
+use Rattle.questions.specs.Numbers.{number_of, detail_of}
 use Rattle.terms.specs.declared.store.Mark.{Mark}
+use Rattle.terms.specs.declared.store.Store.{Store}
 use Rattle.terms.specs.Table.{made}
 use Rattle.state.specs.declared.sizes.Sizes.{Sizes}
-use Rattle.questions.specs.declared.Row.{Row}
-use Rattle.questions.specs.Numbers.{row_number}
-use Rattle.state.specs.Held.{Names, RuleLists, Records}
+use Rattle.state.specs.declared.board.Given.{Given}
+use Rattle.state.specs.declared.board.Board.{Board}
+use Rattle.state.specs.Held.{Names, RuleLists, rule_lists, Records}
+use Rattle.state.specs.Used.{facts_now}
 use Rattle.state.specs.Recording.{Valid, Derives, DerivedPut, with_fact}
-use Rattle.entering.specs.declared.derive.Entered.{Entered}
-use Rattle.entering.specs.declared.derive.Entered.TheVariants as entered_as
-use Rattle.induction.specs.Inducing.{IDS}
+use Rattle.counts.specs.declared.Counts.{Counts as Counted}
+use Rattle.counts.specs.Counted.{counts_of}
+use Rattle.referring.specs.declared.support.Derived.{Derived}
 use Rattle.referring.specs.Derived.{FactForm, RuleForm}
+use Rattle.induction.specs.Inducing.{IDS}
+use Rattle.forms.specs.Boards.{names_in, records_of}
 use Rattle.forms.specs.Halted.{Makes, Halts}
 
 -- Given ----------------------------------------------------------------------------------------------------------------------------
@@ -29,12 +36,19 @@ pub record AddsInstance (K : Names) (P : RuleLists) (facts footings lists : List
   pub form : RuleForm K P facts footings lists n I W m cells least
   pub store : made I W m ≡ form.S.made
 
--- the scratch: zero before and after
-pub record Scratch (map memo : List ℕ) : Type 0 where
-  pub map_zero : map ≡ replicate VARIABLES 0
-  pub memo_zero : memo ≡ replicate TERMS 0
+-- the rules of a check
+abbrev pub rules_in : Given → RuleLists
+rules_in g = rule_lists g.theory.now g.rules.rows.now g.rules.vars.now g.rules.patterns.now
 
--- what the forms share of it: zero before and after
+-- the same of what is lent
+abbrev pub AddsDerivedIn : Given → Board → Store → List ℕ → ℕ → Type 0
+AddsDerivedIn g b s cells least = AddsDerived (names_in g b) b.facts.now b.footings.now b.lists.now b.n s.index.now s.words.now s.mark cells least
+
+abbrev pub AddsInstanceIn : Given → Board → Store → List ℕ → ℕ → Type 0
+AddsInstanceIn g b s cells least =
+    AddsInstance (names_in g b) (rules_in g) b.facts.now b.footings.now b.lists.now b.n s.index.now s.words.now s.mark cells least
+
+-- the scratch that the forms share: zero before and after
 pub record Spare (ids memo : List ℕ) : Type 0 where
   pub ids_zero : ids ≡ replicate IDS 0
   pub memo_zero : memo ≡ replicate TERMS 0
@@ -53,21 +67,23 @@ pub record FactAdded (R Q : Records) (n : Sizes) (I W J X : List ℕ) (old : Mar
   pub valid : Valid (made J X now) (with_fact (with_made S (made J X now)) new (plus S.counts c))
   pub stored : DerivedPut R Q n judgment hyps footing (Ok e)
 
--- R, Q: the tables of facts before and afterwards; c: what the form counts, by its instances
-abbrev pub EnteredAs : Records → Records → Sizes → List ℕ → List ℕ → List ℕ → List ℕ → Mark → State → Out State (Unit {0}) → (ℕ → Counts) → Entered → Type 0
-EnteredAs R Q n I W J X old S K c (entered_as.Ok e k now) = FactAdded R Q n I W J X old S K (c k) e now
-EnteredAs R Q n I W J X old S K c (entered_as.No q d now) = Halts I W J X old S K q d now × (Q ≡ R)
+-- R, Q: the tables of facts before and afterwards; n, k: what is used of all tables; what is answered is what the form counts
+abbrev pub EnteredBy : Records → Records → Sizes → Sizes → List ℕ → List ℕ → List ℕ → List ℕ → Mark → Mark → State → Out State (Unit {0}) → Result Counted Question → Type 0
+EnteredBy R Q n k I W J X old new S K (Ok c) = (e : ℕ) × FactAdded R Q n I W J X old S K (counts_of c) e new × (k ≡ facts_now n (n.facts + 1) e)
+EnteredBy R Q n k I W J X old new S K (Err q) = Halts I W J X old S K (number_of q) (detail_of q) new × (Q ≡ R) × (k ≡ n)
 
--- an induction with so many instances: it has none
-abbrev pub an_induction : ℕ → Counts
-an_induction k = record { hypotheses = 0; inductions = 1; inversions = 0; instances = k }
+abbrev pub EnteredAs : Board → Board → Store → Store → State → Out State (Unit {0}) → Result Counted Question → Type 0
+EnteredAs b c s t S K r = EnteredBy (records_of b) (records_of c) b.n c.n s.index.now s.words.now t.index.now t.words.now s.mark t.mark S K r
 
 -- What is stored last --------------------------------------------------------------------------------------------------------------
 
--- rows 12 and 13 of question 60; the instances and what is used of the store as they were given
-abbrev pub EnterAs : Records → Records → Sizes → ℕ → ℕ → Mark → List ℕ → List ℕ → Entered → Type 0
-EnterAs R Q n judgment instances mark hyps footing (entered_as.Ok e k now) = DerivedPut R Q n judgment hyps footing (Ok e) × (k ≡ instances) × (now ≡ mark)
-EnterAs R Q n judgment instances mark hyps footing (entered_as.No q d now) = ((row : Row) × DerivedPut R Q n judgment hyps footing (Err row) × (d ≡ row_number row)) × (q ≡ 60) × (now ≡ mark)
+-- rows 12 and 13 of question 60
+abbrev pub EntersBy : Records → Records → Sizes → Sizes → ℕ → List ℕ → List ℕ → Result (Unit {0}) Row → Type 0
+EntersBy R Q n k judgment hyps footing (Ok u) = (e : ℕ) × DerivedPut R Q n judgment hyps footing (Ok e) × (k ≡ facts_now n (n.facts + 1) e)
+EntersBy R Q n k judgment hyps footing (Err row) = DerivedPut R Q n judgment hyps footing (Err row) × (k ≡ n)
+
+abbrev pub EntersAs : Board → Board → Derived → Result (Unit {0}) Row → Type 0
+EntersAs b c d r = EntersBy (records_of b) (records_of c) b.n c.n d.judgment d.support.hyps d.support.footing r
 
 -- words of 64 bits
 abbrev pub Words : List ℕ → Type 0

@@ -1,357 +1,186 @@
 // Forms of derived facts: what `step`, `apply`, an induction or an inversion finds comes behind the facts.
-ghost use Rattle.std.specs.Prelude.{◌≡◌, ◌*◌, length, replicate};
-ghost use Rattle.rules.specs.Limits.{FACTS, PATTERNS, VARIABLES};
-ghost use Rattle.rules.specs.Forms.{add_step, add_apply, add_induct, add_induct_with, add_invert, some_instances};
-ghost use Rattle.state.specs.Held.{names, rule_lists, records};
+ghost use Rattle.std.specs.Prelude.{◌≡◌, replicate};
+ghost use Rattle.rules.specs.Limits.{TERMS};
+ghost use Rattle.rules.specs.Forms.{add_step, add_apply, add_induct, add_induct_with, add_invert};
+ghost use Rattle.terms.specs.Lent.{SameTables};
 ghost use Rattle.state.specs.Rows.{Putting};
-ghost use Rattle.entering.specs.Entered.{AddsInstance, AddsDerived, Scratch, Spare, EnteredAs, EnterAs, Words, an_induction};
-ghost use Rattle.induction.specs.Inducing.{IDS};
-ghost use Rattle.entering.specs.Inverted.{AddsInversion, InversionAs};
+ghost use Rattle.forms.specs.Boards.{records_of, SameBoard, OnlyFacts, OnlyFactsAndVars};
+ghost use Rattle.entering.specs.Entered.{AddsInstanceIn, AddsDerivedIn, Spare, EnteredAs, EntersAs, Words};
+ghost use Rattle.entering.specs.Inverted.{AddsInversionIn, InversionAs};
 
-use cells::clear;
+use counts::{Counts, no_counts};
 use derivation::apply::apply;
 use derivation::step::step;
 use induction::induct::{induct, induct_with};
-use inversion::invert::{Inverted, invert};
-use referring::derived::Derived;
-use rules::{FACTWORDS, PAIRS, RULEWORDS, VARIABLES};
+use inversion::invert::{invert, put_made};
+use questions::{Question, Row};
+use referring::source::source_of;
+use referring::support::Derived;
+use rules::{PATTERNS, VARIABLES};
+use state::board::{Board, Given};
 use state::facts::put_derived;
 use state::sizes::Sizes;
-use terms::store::Mark;
-
-// A derived fact is there: so many entries of the lists are used, and so many instances it has; or a question and its detail. What is used of the store then.
-#[derive(Clone, Copy)]
-pub enum Entered {
-    Ok(usize, usize, Mark),
-    No(usize, usize, Mark),
-}
+use terms::store::Store;
 
 // A derived fact behind the others.
-fn enter(
-    facts: &mut [u32],
-    footings: &mut [u64],
-    lists: &mut [u32],
-    n: Sizes,
-    judgment: usize,
-    instances: usize,
-    mark: Mark,
-    hyps: &[u64],
-    footing: &[u64],
-) -> Entered
-    requires putting { Putting (records facts.old footings.old lists.old) n judgment }
-    requires hyps_value { (64 * length hyps.now ≡ FACTS) × (length footing.now ≡ 4) }
-    ensures enter_as { EnterAs (records facts.old footings.old lists.old) (records facts.new footings.new lists.new) n judgment instances mark
-        hyps.now footing.now result }
-    ensures words { Words footing.now }
+fn enter(board: &mut Board<'_>, derived: &Derived) -> Result<(), Row>
+    requires putting { Putting (records_of board.old) board.old.n derived.now.judgment }
+    ensures same_board { SameBoard board.old board.new }
+    ensures only { OnlyFacts board.old board.new }
+    ensures enters { EntersAs board.old board.new derived.now result }
+    ensures words { Words derived.now.support.footing }
 {
-    match put_derived(facts, footings, lists, n, judgment, hyps, footing) {
-        Ok(e) => Entered::Ok(e, instances, mark),
-        Err(row) => Entered::No(60, row.number(), mark),
-    }
+    let n = board.n;
+    let support = &derived.support;
+    let facts = &mut *board.facts;
+    let footings = &mut *board.footings;
+    let lists = &mut *board.lists;
+    let entries = put_derived(
+        facts,
+        footings,
+        lists,
+        n,
+        derived.judgment,
+        &support.hyps,
+        &support.footing,
+    )?;
+    board.n = Sizes {
+        facts: n.facts + 1,
+        entries,
+        ..n
+    };
+    Ok(())
 }
 
-// `(step N RULE (REF...) ITEM...)`, by the items of the form. `map`, `memo` and `ids` are scratch: zero before and after.
+// `(step N RULE (REF...) ITEM...)`, by the items of the form: what it counts. `ids` and `memo` are scratch: zero before and after.
 pub fn add_step(
-    theory: &[u8],
-    goals: &[u8],
-    text: &[u8],
-    symbols: &[u32],
-    inputs: &[u32],
-    rules: &[u32],
-    rulevars: &[u32],
-    patterns: &[u32],
-    vars: &[u32],
-    defs: &[u32],
-    facts: &mut [u32],
-    footings: &mut [u64],
-    lists: &mut [u32],
-    n: Sizes,
-    index: &mut [u32],
-    words: &mut [u32],
-    mark: Mark,
-    cells: &[u32],
-    map: &mut [u32],
-    memo: &mut [u32],
-    ids: &mut [u32],
-) -> Entered
-    requires adds_instance { AddsInstance (names theory.now goals.now text.now symbols.now inputs.now vars.now defs.now) (rule_lists theory.now rules.now rulevars.now patterns.now) facts.old footings.old lists.old n index.old words.old mark cells.now 4 }
-    requires scratch { Scratch map.old memo.old × (ids.old ≡ replicate PATTERNS 0) }
-    ensures entered_as { (g : AddsInstance (names theory.now goals.now text.now symbols.now inputs.now vars.now defs.now) (rule_lists theory.now rules.now rulevars.now patterns.now) facts.old footings.old lists.old n index.old words.old mark cells.now 4) →
-        EnteredAs (records facts.old footings.old lists.old) (records facts.new footings.new lists.new) n index.old words.old index.new words.new mark g.form.S (add_step g.form.xs g.form.S) some_instances result }
-    ensures map_unchanged { (map.new ≡ map.old) × (memo.new ≡ memo.old) × (ids.new ≡ ids.old) }
-{
-    let mut hyps = [0u64; FACTWORDS];
-    let mut footing = [0u64; RULEWORDS];
-    match step(
-        theory,
-        goals,
-        text,
-        symbols,
-        inputs,
-        rules,
-        rulevars,
-        patterns,
-        vars,
-        defs,
-        facts,
-        footings,
-        lists,
-        n,
-        index,
-        words,
-        mark,
-        cells,
-        map,
-        memo,
-        ids,
-        &mut hyps,
-        &mut footing,
-    ) {
-        Derived::Ok(j, k, m) => enter(facts, footings, lists, n, j, k, m, &hyps, &footing),
-        Derived::No(q, d, m) => Entered::No(q, d, m),
-    }
-}
-
-// `(apply N M (BINDING...) (REF...))`, by the items of the form. `bound`, `map` and `memo` are scratch: zero before and after.
-pub fn add_apply(
-    theory: &[u8],
-    goals: &[u8],
-    text: &[u8],
-    symbols: &[u32],
-    inputs: &[u32],
-    vars: &[u32],
-    defs: &[u32],
-    facts: &mut [u32],
-    footings: &mut [u64],
-    lists: &mut [u32],
-    n: Sizes,
-    index: &mut [u32],
-    words: &mut [u32],
-    mark: Mark,
-    cells: &[u32],
-    bound: &mut [u32],
-    map: &mut [u32],
-    memo: &mut [u32],
-) -> Entered
-    requires adds_derived { AddsDerived (names theory.now goals.now text.now symbols.now inputs.now vars.now defs.now) facts.old footings.old lists.old n index.old words.old mark cells.now 5 }
-    requires scratch { Scratch map.old memo.old × (bound.old ≡ replicate VARIABLES 0) }
-    ensures entered_as { (g : AddsDerived (names theory.now goals.now text.now symbols.now inputs.now vars.now defs.now) facts.old footings.old lists.old n index.old words.old mark cells.now 5) →
-        EnteredAs (records facts.old footings.old lists.old) (records facts.new footings.new lists.new) n index.old words.old index.new words.new mark g.form.S (add_apply g.form.xs g.form.S) some_instances result }
-    ensures map_unchanged { (map.new ≡ map.old) × (memo.new ≡ memo.old) × (bound.new ≡ bound.old) }
-{
-    let mut hyps = [0u64; FACTWORDS];
-    let mut footing = [0u64; RULEWORDS];
-    match apply(
-        theory,
-        goals,
-        text,
-        symbols,
-        inputs,
-        vars,
-        defs,
-        facts,
-        footings,
-        lists,
-        n,
-        index,
-        words,
-        mark,
-        cells,
-        bound,
-        map,
-        memo,
-        &mut hyps,
-        &mut footing,
-    ) {
-        Derived::Ok(j, _, m) => enter(facts, footings, lists, n, j, 0, m, &hyps, &footing),
-        Derived::No(q, d, m) => Entered::No(q, d, m),
-    }
-}
-
-// `(induct N X JUDGMENT (CASE...))`, by the items of the form. `map`, `memo` and `ids` are scratch: zero before and after.
-pub fn add_induct(
-    theory: &[u8],
-    goals: &[u8],
-    text: &[u8],
-    symbols: &[u32],
-    inputs: &[u32],
-    vars: &[u32],
-    defs: &[u32],
-    facts: &mut [u32],
-    footings: &mut [u64],
-    lists: &mut [u32],
-    n: Sizes,
-    index: &mut [u32],
-    words: &mut [u32],
-    mark: Mark,
-    cells: &[u32],
-    map: &mut [u32],
-    memo: &mut [u32],
-    ids: &mut [u32],
-) -> Entered
-    requires adds_derived { AddsDerived (names theory.now goals.now text.now symbols.now inputs.now vars.now defs.now) facts.old footings.old lists.old n index.old words.old mark cells.now 5 }
-    requires scratch { Scratch map.old memo.old × (ids.old ≡ replicate IDS 0) }
-    ensures entered_as { (g : AddsDerived (names theory.now goals.now text.now symbols.now inputs.now vars.now defs.now) facts.old footings.old lists.old n index.old words.old mark cells.now 5) →
-        EnteredAs (records facts.old footings.old lists.old) (records facts.new footings.new lists.new) n index.old words.old index.new words.new mark g.form.S (add_induct g.form.xs g.form.S) an_induction result }
-    ensures map_unchanged { (map.new ≡ map.old) × (memo.new ≡ memo.old) × (ids.new ≡ ids.old) }
-{
-    let mut hyps = [0u64; FACTWORDS];
-    let mut footing = [0u64; RULEWORDS];
-    match induct(
-        theory,
-        goals,
-        text,
-        symbols,
-        inputs,
-        vars,
-        defs,
-        facts,
-        footings,
-        lists,
-        n,
-        index,
-        words,
-        mark,
-        cells,
-        map,
-        memo,
-        ids,
-        &mut hyps,
-        &mut footing,
-    ) {
-        Derived::Ok(j, _, m) => enter(facts, footings, lists, n, j, 0, m, &hyps, &footing),
-        Derived::No(q, d, m) => Entered::No(q, d, m),
-    }
-}
-
-// `(induct N X (HYP...) JUDGMENT (CASE...))`, by the items of the form. `map`, `memo` and `ids` are scratch: zero before and after.
-pub fn add_induct_with(
-    theory: &[u8],
-    goals: &[u8],
-    text: &[u8],
-    symbols: &[u32],
-    inputs: &[u32],
-    vars: &[u32],
-    defs: &[u32],
-    facts: &mut [u32],
-    footings: &mut [u64],
-    lists: &mut [u32],
-    n: Sizes,
-    index: &mut [u32],
-    words: &mut [u32],
-    mark: Mark,
-    cells: &[u32],
-    map: &mut [u32],
-    memo: &mut [u32],
-    ids: &mut [u32],
-) -> Entered
-    requires adds_derived { AddsDerived (names theory.now goals.now text.now symbols.now inputs.now vars.now defs.now) facts.old footings.old lists.old n index.old words.old mark cells.now 6 }
-    requires scratch { Scratch map.old memo.old × (ids.old ≡ replicate IDS 0) }
-    ensures entered_as { (g : AddsDerived (names theory.now goals.now text.now symbols.now inputs.now vars.now defs.now) facts.old footings.old lists.old n index.old words.old mark cells.now 6) →
-        EnteredAs (records facts.old footings.old lists.old) (records facts.new footings.new lists.new) n index.old words.old index.new words.new mark g.form.S (add_induct_with g.form.xs g.form.S) an_induction result }
-    ensures map_unchanged { (map.new ≡ map.old) × (memo.new ≡ memo.old) × (ids.new ≡ ids.old) }
-{
-    let mut hyps = [0u64; FACTWORDS];
-    let mut footing = [0u64; RULEWORDS];
-    match induct_with(
-        theory,
-        goals,
-        text,
-        symbols,
-        inputs,
-        vars,
-        defs,
-        facts,
-        footings,
-        lists,
-        n,
-        index,
-        words,
-        mark,
-        cells,
-        map,
-        memo,
-        ids,
-        &mut hyps,
-        &mut footing,
-    ) {
-        Derived::Ok(j, _, m) => enter(facts, footings, lists, n, j, 0, m, &hyps, &footing),
-        Derived::No(q, d, m) => Entered::No(q, d, m),
-    }
-}
-
-// `(invert N K (HYP...) JUDGMENT (CASE...))`, by the items of the form; where it is taken, the answer's second number is how many variables there are then.
-// `ids` and `memo` are scratch: zero before and after.
-pub fn add_invert(
-    theory: &[u8],
-    goals: &[u8],
-    text: &[u8],
-    symbols: &[u32],
-    inputs: &[u32],
-    rules: &[u32],
-    rulevars: &[u32],
-    patterns: &[u32],
-    vars: &mut [u32],
-    defs: &[u32],
-    facts: &mut [u32],
-    footings: &mut [u64],
-    lists: &mut [u32],
-    n: Sizes,
-    index: &mut [u32],
-    words: &mut [u32],
-    mark: Mark,
+    given: &Given<'_>,
+    board: &mut Board<'_>,
+    store: &mut Store<'_>,
     cells: &[u32],
     ids: &mut [u32],
     memo: &mut [u32],
-) -> Entered
-    requires adds_inversion { AddsInversion (names theory.now goals.now text.now symbols.now inputs.now vars.old defs.now) (rule_lists theory.now rules.now rulevars.now patterns.now) facts.old footings.old lists.old n index.old words.old mark cells.now }
+) -> Result<Counts, Question>
+    requires adds { AddsInstanceIn given.now board.old store.old cells.now 4 }
     requires spare { Spare ids.old memo.old }
-    ensures inversion_as { (g : AddsInversion (names theory.now goals.now text.now symbols.now inputs.now vars.old defs.now) (rule_lists theory.now rules.now rulevars.now patterns.now) facts.old footings.old lists.old n index.old words.old mark cells.now) →
-        InversionAs goals.now text.now (records facts.old footings.old lists.old) (records facts.new footings.new lists.new) n index.old words.old index.new words.new mark g.form.S (add_invert g.form.xs g.form.S) vars.old vars.new result }
-    ensures ids_unchanged { (ids.new ≡ ids.old) × (memo.new ≡ memo.old) }
+    ensures same_board { SameBoard board.old board.new × SameTables store.old store.new }
+    ensures only { OnlyFacts board.old board.new }
+    ensures entered_as { (g : AddsInstanceIn given.now board.old store.old cells.now 4) →
+        EnteredAs board.old board.new store.old store.new g.form.S (add_step g.form.xs g.form.S) result }
+    ensures spare_unchanged { (ids.new ≡ ids.old) × (memo.new ≡ memo.old) }
 {
-    let mut map = [0u32; VARIABLES];
-    let mut theta = [0u32; VARIABLES];
-    let mut pairs = [0u32; 2 * PAIRS];
-    let mut hyps = [0u64; FACTWORDS];
-    let mut footing = [0u64; RULEWORDS];
-    match invert(
-        theory,
-        goals,
-        text,
-        symbols,
-        inputs,
-        rules,
-        rulevars,
-        patterns,
-        vars,
-        defs,
-        facts,
-        footings,
-        lists,
-        n,
-        index,
-        words,
-        mark,
-        cells,
-        &mut map,
-        memo,
-        &mut theta,
-        &mut pairs,
-        ids,
-        &mut hyps,
-        &mut footing,
-    ) {
-        Inverted::Ok(j, k, m) => {
-            match enter(facts, footings, lists, n, j, k, m, &hyps, &footing) {
-                Entered::Ok(e, many, new) => Entered::Ok(e, many, new),
-                Entered::No(q, d, new) => {
-                    let from = 4 * n.vars;
-                    clear(&mut vars[from..]);
-                    Entered::No(q, d, new)
-                }
-            }
-        }
-        Inverted::No(q, d, m) => Entered::No(q, d, m),
-    }
+    let source = source_of(given, board);
+    let front = &mut ids[..PATTERNS];
+    let derived = step(&source, &given.rules, store, cells, memo, front)?;
+    enter(board, &derived)?;
+    Ok(Counts {
+        instances: derived.instances,
+        ..no_counts()
+    })
+}
+
+// `(apply N M (BINDING...) (REF...))`, by the items of the form. `memo` is scratch: zero before and after.
+pub fn add_apply(
+    given: &Given<'_>,
+    board: &mut Board<'_>,
+    store: &mut Store<'_>,
+    cells: &[u32],
+    memo: &mut [u32],
+) -> Result<Counts, Question>
+    requires adds { AddsDerivedIn given.now board.old store.old cells.now 5 }
+    requires memo_value { memo.old ≡ replicate TERMS 0 }
+    ensures same_board { SameBoard board.old board.new × SameTables store.old store.new }
+    ensures only { OnlyFacts board.old board.new }
+    ensures entered_as { (g : AddsDerivedIn given.now board.old store.old cells.now 5) →
+        EnteredAs board.old board.new store.old store.new g.form.S (add_apply g.form.xs g.form.S) result }
+    ensures memo_unchanged { memo.new ≡ memo.old }
+{
+    let source = source_of(given, board);
+    let derived = apply(&source, store, cells, memo)?;
+    enter(board, &derived)?;
+    Ok(no_counts())
+}
+
+// `(induct N X JUDGMENT (CASE...))`, by the items of the form. `ids` and `memo` are scratch: zero before and after.
+pub fn add_induct(
+    given: &Given<'_>,
+    board: &mut Board<'_>,
+    store: &mut Store<'_>,
+    cells: &[u32],
+    ids: &mut [u32],
+    memo: &mut [u32],
+) -> Result<Counts, Question>
+    requires adds { AddsDerivedIn given.now board.old store.old cells.now 5 }
+    requires spare { Spare ids.old memo.old }
+    ensures same_board { SameBoard board.old board.new × SameTables store.old store.new }
+    ensures only { OnlyFacts board.old board.new }
+    ensures entered_as { (g : AddsDerivedIn given.now board.old store.old cells.now 5) →
+        EnteredAs board.old board.new store.old store.new g.form.S (add_induct g.form.xs g.form.S) result }
+    ensures spare_unchanged { (ids.new ≡ ids.old) × (memo.new ≡ memo.old) }
+{
+    let source = source_of(given, board);
+    let derived = induct(&source, store, cells, memo, ids)?;
+    enter(board, &derived)?;
+    Ok(Counts {
+        inductions: 1,
+        ..no_counts()
+    })
+}
+
+// `(induct N X (HYP...) JUDGMENT (CASE...))`, by the items of the form. `ids` and `memo` are scratch: zero before and after.
+pub fn add_induct_with(
+    given: &Given<'_>,
+    board: &mut Board<'_>,
+    store: &mut Store<'_>,
+    cells: &[u32],
+    ids: &mut [u32],
+    memo: &mut [u32],
+) -> Result<Counts, Question>
+    requires adds { AddsDerivedIn given.now board.old store.old cells.now 6 }
+    requires spare { Spare ids.old memo.old }
+    ensures same_board { SameBoard board.old board.new × SameTables store.old store.new }
+    ensures only { OnlyFacts board.old board.new }
+    ensures entered_as { (g : AddsDerivedIn given.now board.old store.old cells.now 6) →
+        EnteredAs board.old board.new store.old store.new g.form.S (add_induct_with g.form.xs g.form.S) result }
+    ensures spare_unchanged { (ids.new ≡ ids.old) × (memo.new ≡ memo.old) }
+{
+    let source = source_of(given, board);
+    let derived = induct_with(&source, store, cells, memo, ids)?;
+    enter(board, &derived)?;
+    Ok(Counts {
+        inductions: 1,
+        ..no_counts()
+    })
+}
+
+// `(invert N K (HYP...) JUDGMENT (CASE...))`, by the items of the form; the variables that it makes come behind the others where it is taken. `ids` and
+// `memo` are scratch: zero before and after.
+pub fn add_invert(
+    given: &Given<'_>,
+    board: &mut Board<'_>,
+    store: &mut Store<'_>,
+    cells: &[u32],
+    ids: &mut [u32],
+    memo: &mut [u32],
+) -> Result<Counts, Question>
+    requires adds_inversion { AddsInversionIn given.now board.old store.old cells.now }
+    requires spare { Spare ids.old memo.old }
+    ensures same_board { SameBoard board.old board.new × SameTables store.old store.new }
+    ensures only { OnlyFactsAndVars board.old board.new }
+    ensures inversion_as { (g : AddsInversionIn given.now board.old store.old cells.now) →
+        InversionAs given.now board.old board.new store.old store.new g.form.S (add_invert g.form.xs g.form.S) result }
+    ensures spare_unchanged { (ids.new ≡ ids.old) × (memo.new ≡ memo.old) }
+{
+    let mut sorts = [0; VARIABLES];
+    let count = board.n.vars;
+    let source = source_of(given, board);
+    let inverted = invert(&source, &given.rules, store, cells, &mut sorts, memo, ids)?;
+    enter(board, &inverted.derived)?;
+    let vars = &mut *board.vars;
+    put_made(vars, &sorts, count, inverted.vars);
+    board.n.vars = inverted.vars;
+    Ok(Counts {
+        inversions: 1,
+        ..no_counts()
+    })
 }
