@@ -6,7 +6,7 @@ use Prim.Native.Nat.{ℕ, ◌+◌, ◌^◌, ◌<◌, ◌≤◌}
 use native.Mathlib.Omega.{arith}
 use lib.ListN.{length}
 use Rattle.rules.specs.Limits.{FACTS, ENTRIES}
-use Rattle.rules.specs.Out.{Out, then, Act}
+use Rattle.rules.specs.Out.{Out, ok, then, Act}
 use Rattle.rules.specs.Find.{rising}
 use Rattle.rules.specs.Sexp.{Sexps}
 use Rattle.rules.specs.Tree.{count_trees}
@@ -15,7 +15,7 @@ use Rattle.rules.specs.State.{State, Fact, Counts, fact_entries, entries}
 use Rattle.rules.specs.Step.{step}
 use Rattle.rules.specs.Apply.{apply}
 use Rattle.rules.specs.Induct.{induct, induct_with}
-use Rattle.rules.specs.Forms.{with_made, making, add_fact, add_step, add_apply, add_induct, add_induct_with, some_instances}
+use Rattle.rules.specs.Forms.{with_made, making, add_fact, add_step, add_apply, add_induct, add_induct_with, some_instances, one_induction}
 use Rattle.rules.specs.Laws.Keeping.{Each, Keeps}
 use Rattle.rules.specs.Laws.Sound.{sound}
 use Rattle.rules.proofs.Laws.MadeActions.{step_sound, apply_sound, induct_sound, induct_with_sound}
@@ -24,6 +24,7 @@ use Rattle.rules.specs.Laws.Ready.{Ready, FactIn}
 use Rattle.rules.specs.Laws.Shape.{DerivedIn, derived as derived_shape, step_shape, apply_shape, induct_shape, induct_with_shape}
 use Rattle.terms.specs.declared.store.Mark.{Mark}
 use Rattle.terms.specs.Table.{made, tree, Good}
+use Rattle.terms.specs.On.{Stopped}
 use Rattle.terms.specs.Sets.{holds}
 use Rattle.terms.specs.Laws.Numbers.{tree_number, tree_stored}
 use Rattle.state.specs.declared.sizes.Sizes.{Sizes}
@@ -39,20 +40,22 @@ use Rattle.state.specs.Adding.{put_ok, put_full}
 use Rattle.state.specs.FactLaws.{facts_tabled, footings_tabled, entries_fit}
 use Rattle.state.specs.RowTables.{tabled_long}
 use Rattle.rules.specs.Laws.Row.{length_filled}
-use Rattle.entering.specs.declared.derive.Entered.{Entered}
-use Rattle.entering.specs.declared.derive.Entered.TheVariants as entered_as
-use Rattle.referring.specs.declared.derived.Derived.{Derived}
-use Rattle.referring.specs.declared.derived.Derived.TheVariants as derived_as
-use Rattle.referring.specs.Derived.{derived_fact, DerivedRead, DerivedAs, with_instances, alone}
-use Rattle.forms.specs.Halted.{Halts}
-use Rattle.entering.specs.Entered.{AddsInstance, AddsDerived, FactAdded, EnteredAs, EnterAs, Words, an_induction}
-use Rattle.forms.specs.Laws.Making.{Reached, reached_start, reached_went, reached_stopped, reached_halts}
+use Rattle.questions.specs.declared.Question.{Question}
+use Rattle.questions.specs.declared.Question.TheVariants.{Room}
+use Rattle.questions.specs.Numbers.{number_of, detail_of}
+use Rattle.counts.specs.declared.Counts.{Counts as Counted}
+use Rattle.counts.specs.Counted.{counts_of}
+use Rattle.referring.specs.declared.support.Derived.{Derived}
+use Rattle.referring.specs.Derived.{derived_fact, DerivedRead, with_instances, alone}
+use Rattle.entering.specs.Entered.{AddsInstance, AddsDerived, FactAdded, EnteredBy, EntersBy, Words}
+use Rattle.forms.specs.Laws.Making.{Reached, reached_start, reached_is, reached_went, reached_stopped, reached_halts}
 
 -- What is left is to add the fact ------------------------------------------------------------------------------------------------------
 
+-- c: what the form counts
 module _ {R : Records} {n : Sizes} {I W : List ℕ} {old : Mark} {S : State} (h : Recorded R n (made I W old) S) {K : Out State (Unit {0})} {J X : List ℕ}
-    {now : Mark} (j : ℕ) (hyps footing : List ℕ) (count : ℕ → Counts) (k : ℕ)
-    (o : Reached I W old S K J X now (add_fact (derived_fact S (tree J X now j) hyps footing) (count k) (with_made S (made J X now))))
+    {now : Mark} (j : ℕ) (hyps footing : List ℕ) (c : Counts)
+    (o : Reached I W old S K J X now (add_fact (derived_fact S (tree J X now j) hyps footing) c (with_made S (made J X now))))
     (u : Under (length S.facts) (holds hyps)) where
   abbrev fact : Fact
   fact = derived_fact S (tree J X now j) hyps footing
@@ -67,13 +70,14 @@ module _ {R : Records} {n : Sizes} {I W : List ℕ} {old : Mark} {S : State} (h 
   unfolding fact_entries count_trees
   needs = omega (arith, ap length (rising_under (length S.facts) FACTS (holds hyps) h.rows.row12 u))
 
-  entering_full : {Q : Records} (d : Row) → DerivedPut R Q n j hyps footing (refused d) → Halts I W J X old S K 60 (row_number d) now × (Q ≡ R)
+  -- no row or no entry is left
+  pub entering_full : {Q : Records} {k : Sizes} (d : Row) → EntersBy R Q n k j hyps footing (refused d) → EnteredBy R Q n k I W J X old now S K (refused (Room d))
   entering_full {Q} d p =
-      let z = put_full fact (count k) Q row (rising FACTS (holds hyps)) footing (length (rising FACTS (holds hyps))) (refused d) there p needs refl in
-      (reached_halts o z.0, z.1)
+      let z = put_full fact c Q row (rising FACTS (holds hyps)) footing (length (rising FACTS (holds hyps))) (refused d) there p.0 needs refl in
+      (reached_halts o z.0, z.1, p.1)
 
   module _ (l : j < now.terms) (v : Under (length S.theory.rules) (holds footing)) (s : DerivedIn S fact) (w : length footing ≡ 4) (b : Words footing) where
-    entering_ok : {Q : Records} {e : ℕ} → DerivedPut R Q n j hyps footing (done e) → FactAdded R Q n I W J X old S K (count k) e now
+    entering_ok : {Q : Records} {e : ℕ} → DerivedPut R Q n j hyps footing (done e) → FactAdded R Q n I W J X old S K c e now
     unfolding Each
     entering_ok {Q} {e} p =
         let good = o.makes.grown.good in
@@ -85,8 +89,7 @@ module _ {R : Records} {n : Sizes} {I W : List ℕ} {old : Mark} {S : State} (h 
           judgment = j;
           hyps = hyps;
           footing = footing;
-          is = o.here
-              ∙ put_ok fact (count k) Q row (rising FACTS (holds hyps)) footing (length (rising FACTS (holds hyps))) (done e) there p needs refl;
+          is = o.here ∙ put_ok fact c Q row (rising FACTS (holds hyps)) footing (length (rising FACTS (holds hyps))) (done e) there p needs refl;
           derives = record {
             numbered = sym (tree_number good j l);
             assumed = refl;
@@ -102,17 +105,10 @@ module _ {R : Records} {n : Sizes} {I W : List ℕ} {old : Mark} {S : State} (h 
           stored = p;
         }
 
-    -- whatever is put
-    pub entered : (Q : Records) (r : Entered) → EnterAs R Q n j k now hyps footing r → EnteredAs R Q n I W J X old S K count r
-    entered Q (entered_as.Ok e i m) p =
-        subst (λ z. FactAdded R Q n I W J X old S K (count i) e z) (sym p.2)
-        (subst (λ z. FactAdded R Q n I W J X old S K (count z) e now) (sym p.1) (entering_ok p.0))
-    entered Q (entered_as.No q d m) p =
-        let z = entering_full p.0.0 p.0.1 in (
-          subst (λ z. Halts I W J X old S K q d z) (sym p.2)
-              (subst (λ z. Halts I W J X old S K z d now) (sym p.1) (subst (λ z. Halts I W J X old S K 60 z now) (sym p.0.2) z.0)),
-          z.1,
-        )
+    -- the fact is there
+    pub entered : {Q : Records} {k : Sizes} {u : Unit {0}} → EntersBy R Q n k j hyps footing (done u) → (x : Counted) → counts_of x ≡ c →
+        EnteredBy R Q n k I W J X old now S K (done x)
+    entered {Q} p x e = (p.0, subst (λ z. FactAdded R Q n I W J X old S K z p.0 now) (sym e) (entering_ok p.1), p.2)
 
 -- What is put fits --------------------------------------------------------------------------------------------------------------------
 
@@ -130,182 +126,96 @@ derived_putting {facts} {footings} {lists} {n} h l =
       fits = l;
     }
 
--- `step` ---------------------------------------------------------------------------------------------------------------------------------
+-- Any form -----------------------------------------------------------------------------------------------------------------------------
+
+-- the form K finds a fact by an action on the trees, and adds it; c: what it counts, by its instances
+pub record Finding {A : Type 0} (P : A → Made → Type 0) (I W : List ℕ) (m : Mark) (S : State) (act : Act Made A) (answer : Fact → ℕ → A) (c : ℕ → Counts)
+    (K : Out State (Unit {0})) : Type 0 where
+  pub add : A → State → Out State (Unit {0})
+  pub adds : (f : Fact) (k : ℕ) (T : State) → add (answer f k) T ≡ add_fact f (c k) T
+  pub begins : Reached I W m S K I W m (then (making act (with_made S (made I W m))) add)
+  pub keeps : Keeps sound (made I W m) P (act (made I W m))
+  pub shaped : (f : Fact) (k : ℕ) (u : Made) → act (made I W m) ≡ ok (answer f k) u → DerivedIn S f
+
+module _ {A : Type 0} {P : A → Made → Type 0} {I W : List ℕ} {m : Mark} {S : State} {act : Act Made A} {answer : Fact → ℕ → A} {c : ℕ → Counts} {K : Out State (Unit {0})}
+    (z : Finding P I W m S act answer c K) {R : Records} {n : Sizes} (h : Recorded R n (made I W m) S) {J X : List ℕ} {new : Mark} where
+  -- none is found
+  pub finds_none : {q : Question} → Stopped I W J X m (act (made I W m)) (number_of q) (detail_of q) new → EnteredBy R R n n I W J X m new S K (refused q)
+  finds_none s = (reached_stopped act z.add z.begins z.keeps s, refl, refl)
+
+  module _ {d : Derived} (r : DerivedRead A I W J X m S (act (made I W m)) answer d.support.hyps d.support.footing d.judgment d.instances new) where
+    pub finds_putting : Putting R n d.judgment
+    finds_putting = derived_putting h (fits_cell r.went.grown.good r.there)
+
+    fact_found : Fact
+    fact_found = derived_fact S (tree J X new d.judgment) d.support.hyps d.support.footing
+
+    finds : Reached I W m S K J X new (add_fact (derived_fact S (tree J X new d.judgment) d.support.hyps d.support.footing) (c d.instances) (with_made S (made J X new)))
+    finds = reached_is (reached_went act z.add z.begins z.keeps r.went) (z.adds _ _ _)
+
+    -- it has no room
+    pub finds_full : {Q : Records} {k : Sizes} {row : Row} → EntersBy R Q n k d.judgment d.support.hyps d.support.footing (refused row) →
+        EnteredBy R Q n k I W J X m new S K (refused (Room row))
+    finds_full {row = row} p = entering_full h d.judgment d.support.hyps d.support.footing (c d.instances) finds r.earlier row p
+
+    -- it comes behind the others
+    pub finds_fact : {Q : Records} {k : Sizes} {u : Unit {0}} → length d.support.footing ≡ 4 → Words d.support.footing →
+        EntersBy R Q n k d.judgment d.support.hyps d.support.footing (done u) → (x : Counted) → counts_of x ≡ c d.instances →
+        EnteredBy R Q n k I W J X m new S K (done x)
+    finds_fact w b p x e =
+        entered h d.judgment d.support.hyps d.support.footing (c d.instances) finds r.earlier r.there r.known
+        (z.shaped _ _ _ r.went.makes) w b p x e
+
+-- Each form ----------------------------------------------------------------------------------------------------------------------------
 
 module _ {N : Names} {P : RuleLists} {facts footings lists : List ℕ} {n : Sizes} {I W : List ℕ} {m : Mark} {cells : List ℕ} {least : ℕ}
-    (g : AddsInstance N P facts footings lists n I W m cells least) (J X hyps footing : List ℕ) (r : Derived)
-    (a : DerivedAs (Fact × ℕ) I W J X m g.form.S (step g.form.S g.form.xs (made I W m)) with_instances hyps footing r) where
-  abbrev S : State
-  S = g.form.S
-
-  abbrev xs : Sexps
-  xs = g.form.xs
-
-  ready : Ready sound S (made I W m)
-  ready = g.form.refers.reads.spelling.trees
-
-  step_start : Reached I W m S (add_step xs S) I W m (then (making (step S xs) (with_made S (made I W m))) (λ r. add_fact r.0 (some_instances r.1)))
+    (g : AddsInstance N P facts footings lists n I W m cells least) where
+  pub step_finding : Finding (λ r u. FactIn sound u r.0) I W m g.form.S (step g.form.S g.form.xs) with_instances some_instances (add_step g.form.xs g.form.S)
   unfolding add_step then
-  step_start = reached_start g.form.refers.reads.good ready g.store (λ T. then (making (step S xs) T) (λ r. add_fact r.0 (some_instances r.1)))
-
-  module _ {j k : ℕ} {now : Mark} (e : r ≡ derived_as.Ok j k now) where
-    step_read : DerivedRead (Fact × ℕ) I W J X m S (step S xs (made I W m)) with_instances hyps footing j k now
-    step_read = subst (λ r. DerivedAs (Fact × ℕ) I W J X m S (step S xs (made I W m)) with_instances hyps footing r) e a
-
-    pub step_putting : Putting (records facts footings lists) n j
-    step_putting = derived_putting g.form.refers.recorded (fits_cell step_read.went.grown.good step_read.there)
-
-    pub step_entered : length footing ≡ 4 → Words footing → (Q : Records) (t : Entered) → EnterAs (records facts footings lists) Q n j k now hyps footing t →
-        EnteredAs (records facts footings lists) Q n I W J X m S (add_step xs S) some_instances t
-    step_entered w b Q t p =
-        let d = step_read in
-        entered g.form.refers.recorded j hyps footing some_instances k
-        (reached_went (step S xs) (λ r. add_fact r.0 (some_instances r.1)) step_start (step_sound (made I W m) S ready xs) d.went)
-        d.earlier d.there d.known (of_ok (step_shape S g.form.refers.recorded.shaped xs (made I W m)) d.went.makes) w b Q t p
-
-  pub step_halted : {q d : ℕ} {now : Mark} → r ≡ derived_as.No q d now →
-      EnteredAs (records facts footings lists) (records facts footings lists) n I W J X m S (add_step xs S) some_instances (entered_as.No q d now)
-  step_halted e = (
-    reached_stopped (step S xs) (λ r. add_fact r.0 (some_instances r.1)) step_start (step_sound (made I W m) S ready xs)
-        (subst (λ r. DerivedAs (Fact × ℕ) I W J X m S (step S xs (made I W m)) with_instances hyps footing r) e a),
-    refl,
-  )
-
--- Forms that find the fact alone ----------------------------------------------------------------------------------------------------------
+  step_finding =
+      let S = g.form.S in
+      let xs = g.form.xs in
+      let ready = g.form.refers.reads.spelling.trees in
+      record {
+        add = λ r. add_fact r.0 (some_instances r.1);
+        adds = λ f k T. refl;
+        begins = reached_start g.form.refers.reads.good ready g.store (λ T. then (making (step S xs) T) (λ r. add_fact r.0 (some_instances r.1)));
+        keeps = step_sound (made I W m) S ready xs;
+        shaped = λ f k u e. of_ok (step_shape S g.form.refers.recorded.shaped xs (made I W m)) e;
+      }
 
 module _ {N : Names} {facts footings lists : List ℕ} {n : Sizes} {I W : List ℕ} {m : Mark} {cells : List ℕ} {least : ℕ}
     (g : AddsDerived N facts footings lists n I W m cells least) where
-  abbrev given : State
-  given = g.form.S
+  -- a form that finds the fact alone, and counts the same whatever it is
+  alone_finding : (act : Act Made Fact) (c : Counts) (K : Out State (Unit {0})) →
+      Reached I W m g.form.S K I W m (then (making act (with_made g.form.S (made I W m))) (λ f. add_fact f c)) →
+      Keeps sound (made I W m) (λ f u. FactIn sound u f) (act (made I W m)) → Ok (λ f u. DerivedIn g.form.S f) (act (made I W m)) →
+      Finding (λ f u. FactIn sound u f) I W m g.form.S act alone (λ k. c) K
+  alone_finding act c K o p s =
+      record { add = λ f. add_fact f c; adds = λ f k T. refl; begins = o; keeps = p; shaped = λ f k u e. of_ok s e }
 
-  ready_given : Ready sound given (made I W m)
-  ready_given = g.form.refers.reads.spelling.trees
+  begins : (act : Act Made Fact) (c : Counts) → Reached I W m g.form.S (then (making act g.form.S) (λ f. add_fact f c)) I W m
+      (then (making act (with_made g.form.S (made I W m))) (λ f. add_fact f c))
+  begins act c = reached_start g.form.refers.reads.good g.form.refers.reads.spelling.trees g.store (λ T. then (making act T) (λ f. add_fact f c))
 
-  -- the form K is to add what the action finds
-  module _ (act : Act Made Fact) (count : ℕ → Counts) (K : Out State (Unit {0}))
-      (o : Reached I W m given K I W m (then (making act (with_made given (made I W m))) (λ f. add_fact f (count 0))))
-      (keeps : Keeps sound (made I W m) (λ f u. FactIn sound u f) (act (made I W m))) (shape : Ok (λ f u. DerivedIn given f) (act (made I W m)))
-      (J X hyps footing : List ℕ) (r : Derived) (a : DerivedAs Fact I W J X m given (act (made I W m)) alone hyps footing r) where
-    module _ {j k : ℕ} {now : Mark} (e : r ≡ derived_as.Ok j k now) where
-      alone_read : DerivedRead Fact I W J X m given (act (made I W m)) alone hyps footing j k now
-      alone_read = subst (λ r. DerivedAs Fact I W J X m given (act (made I W m)) alone hyps footing r) e a
-
-      alone_putting : Putting (records facts footings lists) n j
-      alone_putting = derived_putting g.form.refers.recorded (fits_cell alone_read.went.grown.good alone_read.there)
-
-      alone_entered : length footing ≡ 4 → Words footing → (Q : Records) (t : Entered) → EnterAs (records facts footings lists) Q n j 0 now hyps footing t →
-          EnteredAs (records facts footings lists) Q n I W J X m given K count t
-      alone_entered w b Q t p =
-          let d = alone_read in
-          entered g.form.refers.recorded j hyps footing count 0 (reached_went act (λ f. add_fact f (count 0)) o keeps d.went)
-          d.earlier d.there d.known (of_ok shape d.went.makes) w b Q t p
-
-    alone_halted : {q d : ℕ} {now : Mark} → r ≡ derived_as.No q d now →
-        EnteredAs (records facts footings lists) (records facts footings lists) n I W J X m given K count (entered_as.No q d now)
-    alone_halted e =
-        (reached_stopped act (λ f. add_fact f (count 0)) o keeps (subst (λ r. DerivedAs Fact I W J X m given (act (made I W m)) alone hyps footing r) e a), refl)
-
--- `apply` -----------------------------------------------------------------------------------------------------------------------------
-
-module _ {N : Names} {facts footings lists : List ℕ} {n : Sizes} {I W : List ℕ} {m : Mark} {cells : List ℕ} {least : ℕ}
-    (g : AddsDerived N facts footings lists n I W m cells least) where
-  abbrev apply_act : Act Made Fact
-  apply_act = apply g.form.S g.form.xs
-
-  apply_start : Reached I W m g.form.S (add_apply g.form.xs g.form.S) I W m
-      (then (making apply_act (with_made g.form.S (made I W m))) (λ f. add_fact f (some_instances 0)))
+  pub apply_finding : Finding (λ f u. FactIn sound u f) I W m g.form.S (apply g.form.S g.form.xs) alone (λ k. some_instances 0) (add_apply g.form.xs g.form.S)
   unfolding add_apply then
-  apply_start = reached_start g.form.refers.reads.good (ready_given g) g.store (λ T. then (making apply_act T) (λ f. add_fact f (some_instances 0)))
+  apply_finding =
+      alone_finding (apply g.form.S g.form.xs) (some_instances 0) (add_apply g.form.xs g.form.S) (begins (apply g.form.S g.form.xs) (some_instances 0))
+      (apply_sound (made I W m) g.form.S g.form.refers.reads.spelling.trees g.form.xs)
+      (apply_shape g.form.S g.form.refers.recorded.shaped g.form.xs (made I W m))
 
-  apply_kept : Keeps sound (made I W m) (λ f u. FactIn sound u f) (apply_act (made I W m))
-  apply_kept = apply_sound (made I W m) g.form.S (ready_given g) g.form.xs
-
-  apply_shaped : Ok (λ f u. DerivedIn g.form.S f) (apply_act (made I W m))
-  apply_shaped = apply_shape g.form.S g.form.refers.recorded.shaped g.form.xs (made I W m)
-
-  module _ (J X hyps footing : List ℕ) (r : Derived) (a : DerivedAs Fact I W J X m g.form.S (apply_act (made I W m)) alone hyps footing r) where
-    module _ {j k : ℕ} {now : Mark} (e : r ≡ derived_as.Ok j k now) where
-      pub apply_putting : Putting (records facts footings lists) n j
-      apply_putting = alone_putting g apply_act some_instances _ apply_start apply_kept apply_shaped J X hyps footing r a e
-
-      pub apply_entered : length footing ≡ 4 → Words footing → (Q : Records) (t : Entered) → EnterAs (records facts footings lists) Q n j 0 now hyps footing t →
-          EnteredAs (records facts footings lists) Q n I W J X m g.form.S (add_apply g.form.xs g.form.S) some_instances t
-      apply_entered = alone_entered g apply_act some_instances _ apply_start apply_kept apply_shaped J X hyps footing r a e
-
-    pub apply_halted : {q d : ℕ} {now : Mark} → r ≡ derived_as.No q d now →
-        EnteredAs (records facts footings lists) (records facts footings lists) n I W J X m g.form.S (add_apply g.form.xs g.form.S) some_instances
-        (entered_as.No q d now)
-    apply_halted = alone_halted g apply_act some_instances _ apply_start apply_kept apply_shaped J X hyps footing r a
-
--- `induct` ----------------------------------------------------------------------------------------------------------------------------
-
-module _ {N : Names} {facts footings lists : List ℕ} {n : Sizes} {I W : List ℕ} {m : Mark} {cells : List ℕ} {least : ℕ}
-    (g : AddsDerived N facts footings lists n I W m cells least) where
-  abbrev induct_act : Act Made Fact
-  induct_act = induct g.form.S g.form.xs
-
-  induct_start : Reached I W m g.form.S (add_induct g.form.xs g.form.S) I W m
-      (then (making induct_act (with_made g.form.S (made I W m))) (λ f. add_fact f (an_induction 0)))
+  pub induct_finding : Finding (λ f u. FactIn sound u f) I W m g.form.S (induct g.form.S g.form.xs) alone (λ k. one_induction) (add_induct g.form.xs g.form.S)
   unfolding add_induct then
-  induct_start = reached_start g.form.refers.reads.good (ready_given g) g.store (λ T. then (making induct_act T) (λ f. add_fact f (an_induction 0)))
+  induct_finding =
+      alone_finding (induct g.form.S g.form.xs) one_induction (add_induct g.form.xs g.form.S) (begins (induct g.form.S g.form.xs) one_induction)
+      (induct_sound (made I W m) g.form.S g.form.refers.reads.spelling.trees g.form.xs)
+      (induct_shape g.form.S g.form.refers.recorded.shaped g.form.xs (made I W m))
 
-  induct_kept : Keeps sound (made I W m) (λ f u. FactIn sound u f) (induct_act (made I W m))
-  induct_kept = induct_sound (made I W m) g.form.S (ready_given g) g.form.xs
-
-  induct_shaped : Ok (λ f u. DerivedIn g.form.S f) (induct_act (made I W m))
-  induct_shaped = induct_shape g.form.S g.form.refers.recorded.shaped g.form.xs (made I W m)
-
-  module _ (J X hyps footing : List ℕ) (r : Derived) (a : DerivedAs Fact I W J X m g.form.S (induct_act (made I W m)) alone hyps footing r) where
-    module _ {j k : ℕ} {now : Mark} (e : r ≡ derived_as.Ok j k now) where
-      pub induct_putting : Putting (records facts footings lists) n j
-      induct_putting = alone_putting g induct_act an_induction _ induct_start induct_kept induct_shaped J X hyps footing r a e
-
-      pub induct_entered : length footing ≡ 4 → Words footing → (Q : Records) (t : Entered) → EnterAs (records facts footings lists) Q n j 0 now hyps footing t →
-          EnteredAs (records facts footings lists) Q n I W J X m g.form.S (add_induct g.form.xs g.form.S) an_induction t
-      induct_entered = alone_entered g induct_act an_induction _ induct_start induct_kept induct_shaped J X hyps footing r a e
-
-    pub induct_halted : {q d : ℕ} {now : Mark} → r ≡ derived_as.No q d now →
-        EnteredAs (records facts footings lists) (records facts footings lists) n I W J X m g.form.S (add_induct g.form.xs g.form.S) an_induction
-        (entered_as.No q d now)
-    induct_halted = alone_halted g induct_act an_induction _ induct_start induct_kept induct_shaped J X hyps footing r a
-
--- `induct_with` ------------------------------------------------------------------------------------------------------------------------
-
-module _ {N : Names} {facts footings lists : List ℕ} {n : Sizes} {I W : List ℕ} {m : Mark} {cells : List ℕ} {least : ℕ}
-    (g : AddsDerived N facts footings lists n I W m cells least) where
-  abbrev induct_with_act : Act Made Fact
-  induct_with_act = induct_with g.form.S g.form.xs
-
-  induct_with_start : Reached I W m g.form.S (add_induct_with g.form.xs g.form.S) I W m
-      (then (making induct_with_act (with_made g.form.S (made I W m))) (λ f. add_fact f (an_induction 0)))
+  pub induct_with_finding : Finding (λ f u. FactIn sound u f) I W m g.form.S (induct_with g.form.S g.form.xs) alone (λ k. one_induction)
+      (add_induct_with g.form.xs g.form.S)
   unfolding add_induct_with then
-  induct_with_start = reached_start g.form.refers.reads.good (ready_given g) g.store (λ T. then (making induct_with_act T) (λ f. add_fact f (an_induction 0)))
-
-  induct_with_kept : Keeps sound (made I W m) (λ f u. FactIn sound u f) (induct_with_act (made I W m))
-  induct_with_kept = induct_with_sound (made I W m) g.form.S (ready_given g) g.form.xs
-
-  induct_with_shaped : Ok (λ f u. DerivedIn g.form.S f) (induct_with_act (made I W m))
-  induct_with_shaped = induct_with_shape g.form.S g.form.refers.recorded.shaped g.form.xs (made I W m)
-
-  module _ (J X hyps footing : List ℕ) (r : Derived) (a : DerivedAs Fact I W J X m g.form.S (induct_with_act (made I W m)) alone hyps footing r) where
-    module _ {j k : ℕ} {now : Mark} (e : r ≡ derived_as.Ok j k now) where
-      pub induct_with_putting : Putting (records facts footings lists) n j
-      induct_with_putting = alone_putting g induct_with_act an_induction _ induct_with_start induct_with_kept induct_with_shaped J X hyps footing r a e
-
-      pub induct_with_entered : length footing ≡ 4 → Words footing → (Q : Records) (t : Entered) → EnterAs (records facts footings lists) Q n j 0 now hyps footing t →
-          EnteredAs (records facts footings lists) Q n I W J X m g.form.S (add_induct_with g.form.xs g.form.S) an_induction t
-      induct_with_entered = alone_entered g induct_with_act an_induction _ induct_with_start induct_with_kept induct_with_shaped J X hyps footing r a e
-
-    pub induct_with_halted : {q d : ℕ} {now : Mark} → r ≡ derived_as.No q d now →
-        EnteredAs (records facts footings lists) (records facts footings lists) n I W J X m g.form.S (add_induct_with g.form.xs g.form.S) an_induction
-        (entered_as.No q d now)
-    induct_with_halted = alone_halted g induct_with_act an_induction _ induct_with_start induct_with_kept induct_with_shaped J X hyps footing r a
-
--- `enter` --------------------------------------------------------------------------------------------------------------------------------
-
-module _ (R Q : Records) (n : Sizes) (j k : ℕ) (m : Mark) (hyps footing : List ℕ) (r : Result ℕ Row) (p : DerivedPut R Q n j hyps footing r) where
-  pub enter_ok : {e : ℕ} → r ≡ done e → EnterAs R Q n j k m hyps footing (entered_as.Ok e k m)
-  enter_ok q = (subst (DerivedPut R Q n j hyps footing) q p, refl, refl)
-
-  pub enter_full : {d : Row} → r ≡ refused d → EnterAs R Q n j k m hyps footing (entered_as.No 60 (row_number d) m)
-  enter_full {d} q = ((d, subst (DerivedPut R Q n j hyps footing) q p, refl), refl, refl)
+  induct_with_finding =
+      alone_finding (induct_with g.form.S g.form.xs) one_induction (add_induct_with g.form.xs g.form.S) (begins (induct_with g.form.S g.form.xs) one_induction)
+      (induct_with_sound (made I W m) g.form.S g.form.refers.reads.spelling.trees g.form.xs)
+      (induct_with_shape g.form.S g.form.refers.recorded.shaped g.form.xs (made I W m))
