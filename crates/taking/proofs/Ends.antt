@@ -25,7 +25,7 @@ abbrev pub Refused : Given → Board → Board → Store → Store → State →
 Refused g b c s t S K q = Refuses K (number_of q) (detail_of q) × StandsIn g c t S × (c.n ≡ b.n) × (t.mark ≡ s.mark)
 
 -- c, t: the tables and the store when the form was tried
-module _ (g : Given) (b c : Board) (s t : Store) {S : State} (h : StandsIn g b s S) {K : Out State (Unit {0})} {q : Question} (a : LeftIn b c s t K q) where
+module _ (g : Given) (b c : Board) (s t : Store) {S : State} (h : StandsIn g b s S) {K : Out State (Unit {0})} (q : Question) (a : LeftIn b c s t K q) where
   -- what `forget` is given
   pub left_part : Part t.index.now t.words.now t.mark s.mark
   left_part =
@@ -45,6 +45,6 @@ module _ (g : Given) (b c : Board) (s t : Store) {S : State} (h : StandsIn g b s
       )
 
 -- refused before anything is made
-pub never_tried : {g : Given} {b : Board} {s : Store} {S : State} {L : Out State (Unit {0})} {q : Question} → StandsIn g b s S → L ≡ refuse (number_of q) (detail_of q) S →
+pub never_tried : (g : Given) (b : Board) (s : Store) {S : State} {L : Out State (Unit {0})} (q : Question) → StandsIn g b s S → L ≡ refuse (number_of q) (detail_of q) S →
     Refused g b b s s S L q
-never_tried {S = S} h e = (record { until = S; is = e }, h, refl, refl)
+never_tried g b s {S} q h e = (record { until = S; is = e }, h, refl, refl)

@@ -12,7 +12,7 @@ ghost use Rattle.taking.specs.Tried.{ItemsIn, GoalItemsIn, TriedIn, GoalTriedIn,
 
 use crate::tags::{tag_of, tag_of_goal};
 use counts::{Counts, no_counts};
-use entering::derive::{add_apply, add_induct, add_induct_with, add_invert, add_step};
+use entering::derive::{Way, add_derived, add_invert};
 use forms::declare::{add_def, add_var};
 use forms::goals::{add_goal, add_goal_with};
 use forms::hypotheses::{add_hyp, add_rule_hyp};
@@ -112,7 +112,7 @@ fn form_items(
         }
         Tag::Step => {
             is_next(given.text, cells, board.n)?;
-            add_step(given, board, store, cells, ids, memo)
+            add_derived(given, board, store, cells, Way::Step, memo, ids)
         }
         Tag::Hyp => {
             is_next(given.text, cells, board.n)?;
@@ -126,19 +126,19 @@ fn form_items(
         }
         Tag::Induct => {
             is_next(given.text, cells, board.n)?;
-            add_induct(given, board, store, cells, ids, memo)
+            add_derived(given, board, store, cells, Way::Induct, memo, ids)
         }
         Tag::InductWith => {
             is_next(given.text, cells, board.n)?;
-            add_induct_with(given, board, store, cells, ids, memo)
+            add_derived(given, board, store, cells, Way::InductWith, memo, ids)
         }
         Tag::Apply => {
             is_next(given.text, cells, board.n)?;
-            add_apply(given, board, store, cells, memo)
+            add_derived(given, board, store, cells, Way::Apply, memo, ids)
         }
         Tag::Invert => {
             is_next(given.text, cells, board.n)?;
-            add_invert(given, board, store, cells, ids, memo)
+            add_invert(given, board, store, cells, memo, ids)
         }
         Tag::Outcome => {
             result(given, board, store, cells, memo)?;
