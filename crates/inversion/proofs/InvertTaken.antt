@@ -34,11 +34,6 @@ context_none : (fs : List Fact) → context_vars fs [] ≡ empty
 unfolding context_vars
 context_none fs = refl
 
--- what `visit` asks
-pub taken_reads : {I W : List ℕ} {m : Mark} {id : ℕ} {seen set : List ℕ} → Good I W m → id < m.terms → length seen ≡ TERMWORDS → length set ≡ VARIABLEWORDS →
-    Readable I W m id seen set
-taken_reads g t a b = record { good = g; there = t; wide = omega (arith, a); broad = omega (arith, b) }
-
 -- what is left of the context decides
 pub record Taking (facts lists : List ℕ) (n : Sizes) (I W : List ℕ) (m : Mark) (s j : ℕ) (context seen set : List ℕ) (k : ℕ) : Type 0 where
   pub left : (g : Recalls facts lists n I W m) → union (holds set) (context_vars g.S.facts (drop k context))
