@@ -1,6 +1,6 @@
 -- The loop over the items of a step: what is left of them, from the cells, the stated conclusion and the store as they are now, gives what all of
 -- them give from the start. Assumes nothing.
-use mathlib.Core.Path.{◌≡◌, sym, ap, ◌∙◌, subst}
+use mathlib.Core.Path.{◌≡◌, sym, ap, subst}
 use mathlib.Core.List.{List}
 use Prim.Native.Nat.{ℕ, ◌-◌, ◌<◌, ◌≤◌}
 use lib.ListN.{length, take, drop, replicate}
@@ -21,7 +21,7 @@ use Rattle.reading.specs.Given.{Reads}
 use Rattle.referring.specs.Derived.{RuleItems, ItemsRead}
 use Rattle.derivation.specs.ItemsOf.{ItemsHeld, RuleItem}
 use Rattle.derivation.specs.Laws.ItemsOf.{held_none, items_read, read_held, reads_read_item}
-use Rattle.reading.specs.Laws.Walks.{walk_next, walk_on}
+use Rattle.reading.specs.Laws.Walks.{walk_next}
 
 -- zs are left in the cells from a place on
 pub record ItemsLeft (K : Names) (n : Sizes) (I W : List ℕ) (old : Mark) (r : ℕ) (cells : List ℕ) (S : State) (xs : Sexps) (J X : List ℕ) (now : Mark)

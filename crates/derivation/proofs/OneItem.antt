@@ -34,8 +34,8 @@ use Rattle.sexp.specs.FoundLaws.{found_at, found_missing, found_entry}
 use Rattle.sexp.specs.declared.items.Item.{Item}
 use Rattle.sexp.specs.declared.items.Item.TheVariants.{Atom, List as Part}
 use Rattle.kernel.specs.HeldRules.{RulesHeld}
-use Rattle.kernel.specs.Readers.{KnownRule, KnownVar, NamedVars}
-use Rattle.kernel.specs.Entries.{known_rule, known_var, named_vars}
+use Rattle.kernel.specs.Readers.{KnownVar, NamedVars}
+use Rattle.kernel.specs.Entries.{known_var, named_vars}
 use Rattle.terms.specs.declared.store.Mark.{Mark}
 use Rattle.terms.specs.Table.{made}
 use Rattle.terms.specs.Sets.{counted_from_1}
@@ -83,9 +83,6 @@ bind_is S R bs x it M = refl
 
 module _ {K : Names} {rules rulevars : List ℕ} {n : Sizes} {I W : List ℕ} {m : Mark} {r : ℕ} {cells bound : List ℕ} {stated : ℕ}
     (g : RuleItem K rules rulevars n I W m r cells bound stated) where
-  pub bind_rule : KnownRule rules r
-  bind_rule = known_rule g.ruled.held g.known
-
   few : length (rule g.S.theory r).vars ≤ RULEVARS
   unfolding rule
   few = all_at g.S.theory.rules r no_rule g.ruled.held.vars_few (omega (arith, g.known, g.ruled.held.many))

@@ -7,7 +7,7 @@ use mathlib.Core.List.{List}
 use Prim.Native.Nat.{ℕ, ◌+◌, ◌-◌, ◌^◌, ◌<◌, ◌≤◌}
 use native.Mathlib.Omega.{arith}
 use native.Mathlib.Decide.{ℕ_discrete}
-use lib.ListN.{length, get_or, set, take, drop, replicate, length-replicate, length-take}
+use lib.ListN.{length, get_or, set, take, drop, replicate, length-take}
 use lib.Seq.{get_or-take, get_or-set_same, get_or-set_other}
 use Rattle.rules.specs.Limits.{FACTWORDS, RULEWORDS}
 use Rattle.rules.specs.Out.{Out, ok, then}

@@ -3,7 +3,7 @@ use mathlib.Core.Bool.{not}
 use borrow.Author.Tests.{not-true, not-false}
 use Rattle.terms.specs.Sets.{counted_from_1}
 use Rattle.kernel.proofs.Handed.{handed}
-use Rattle.derivation.proofs.StepMatches.{matching_stated, stated_other, premises_matchable, premises_other, stated_done, built_buildable, built_done, built_refused}
+use Rattle.derivation.proofs.StepMatches.{stated_other, premises_matchable, premises_other, stated_done, built_buildable, built_done, built_refused}
 use Rattle.derivation.proofs.items.Said.matched.Goals as goal
 
 pub returns-then-not-match_stated-clause-read_as : goal.returns-then-not-match_stated-clause-read_as
