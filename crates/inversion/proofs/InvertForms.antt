@@ -3,15 +3,15 @@ use mathlib.Core.Path.{◌≡◌, refl, sym, ap, ◌∙◌, subst}
 use mathlib.Core.Bool.{Bool, true, false, ◌||◌, false≢true}
 use mathlib.Core.Logic.{inl, inr}
 use mathlib.Core.List.{List, [], ◌∷◌}
-use Prim.Native.Nat.{ℕ, suc, ◌+◌, ◌-◌, ◌*◌, ◌<◌, ◌≤◌}
+use Prim.Native.Nat.{ℕ, ◌+◌, ◌-◌, ◌*◌, ◌<◌, ◌≤◌}
 use native.Mathlib.Omega.{arith}
 use lib.Dec.{eqb}
 use lib.ListN.{length, take, drop, replicate}
 use lib.Seq.{sets, sets-eq, length-sets, take-append_seam}
 use borrow.Author.Tests.{eqb-true}
-use Rattle.rules.specs.Limits.{FACTS, FACTWORDS, RULEWORDS, TERMWORDS}
+use Rattle.rules.specs.Limits.{FACTS, FACTWORDS, RULEWORDS}
 use Rattle.rules.specs.Out.{Out, ok, refuse, then, ask}
-use Rattle.rules.specs.Sexp.{Sexp, Sexps, cons, count, item, rest, items}
+use Rattle.rules.specs.Sexp.{Sexp, Sexps, cons, item, rest, items}
 use Rattle.rules.specs.Find.{Set, has, union, rising}
 use Rattle.rules.specs.Tree.{Tree, Trees, var, none, more}
 use Rattle.rules.specs.Store.{Made}
@@ -22,7 +22,7 @@ use Rattle.rules.specs.Reference.{fact_at, hyp_list}
 use Rattle.rules.specs.Invert.{read_cases, predicate_of, invert_rules, invert}
 use Rattle.rules.specs.Laws.Out.{then_then}
 use Rattle.rules.specs.Laws.Sexp.{rest_item}
-use Rattle.rules.specs.Laws.Theory.{All, both, all_at, all_map}
+use Rattle.rules.specs.Laws.Theory.{both, all_at, all_map}
 use Rattle.rules.specs.Laws.Keeping.{Each}
 use Rattle.rules.specs.Laws.Sound.{In, sound}
 use Rattle.rules.specs.Laws.Rising.{rising_all_of, rising_has}
@@ -30,8 +30,8 @@ use Rattle.rules.proofs.Laws.Below.{Below, Belows, MadeBelow, Leaves, fine, Boun
 use Rattle.rules.proofs.Laws.BelowRead.{StateBelow, judgment_below}
 use Rattle.rules.specs.Laws.Ready.{Ready}
 use Rattle.sexp.specs.Encode.{encodes}
-use Rattle.sexp.specs.Items.{Holds, Items, place}
-use Rattle.sexp.specs.NthItem.{has_items, place_high, rest_holds}
+use Rattle.sexp.specs.Items.{Holds, place}
+use Rattle.sexp.specs.NthItem.{place_high, rest_holds}
 use Rattle.terms.specs.declared.store.Mark.{Mark}
 use Rattle.terms.specs.Table.{made, tree}
 use Rattle.terms.specs.Sets.{holds, plus}
@@ -165,9 +165,6 @@ module _ {theory goals text symbols ins vars defs rules rulevars patterns facts 
 
   abbrev pub whole : Out Made (Fact × List Var)
   whole = invert S g.xs (made I W m)
-
-  pub form_items : Items cells
-  form_items = has_items g.holds_items
 
   -- what `hypothesis` asks
   abbrev pub form_naming : NamingForm text facts n cells

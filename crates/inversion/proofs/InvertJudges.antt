@@ -8,7 +8,7 @@ use native.Mathlib.Omega.{arith}
 use lib.Dec.{ltb}
 use lib.ListN.{length, get_or, replicate}
 use borrow.Author.Tests.{lt-ltb, ltb-true}
-use Rattle.rules.specs.Limits.{TERMS, VARIABLES, FACTS, TERMWORDS, FACTWORDS}
+use Rattle.rules.specs.Limits.{TERMS, FACTS, TERMWORDS, FACTWORDS}
 use Rattle.rules.specs.Out.{Out, then}
 use Rattle.rules.specs.Tree.{Tree}
 use Rattle.rules.specs.Store.{Made, substitute}

@@ -8,7 +8,7 @@ use native.Mathlib.Decide.{ℕ_discrete}
 use native.Mathlib.Numerals.{add-one}
 use lib.ListN.{length, get_or, set, drop, drop_of_length-le}
 use lib.Seq.{drop-cons, get_or-set_same, get_or-set_other}
-use Rattle.rules.specs.Limits.{SYMBOLS, RULEVARS, TERMS}
+use Rattle.rules.specs.Limits.{SYMBOLS, RULEVARS}
 use Rattle.rules.specs.Out.{Out, ok, then}
 use Rattle.rules.specs.Tree.{Tree, Trees, var, none, more}
 use Rattle.rules.specs.Store.{Made, keep}
@@ -84,9 +84,6 @@ module _ {I W : List ℕ} {old : Mark} {list J X bound : List ℕ} {now : Mark} 
       module _ {t : ℕ} (s : Stored J X Y Z now (tree_at (made J X now) (node_of (get_or list k 0))) (kept (node_of (get_or list k 0))) t new) where
         stored : Stored J X Y Z now (var (get_or list k 0)) (keep (var (get_or list k 0)) (made J X now)) t new
         stored = subst (λ (u : Tree). Stored J X Y Z now u (keep u (made J X now)) t new) (node_tree (made J X now) (get_or list k 0)) s
-
-        pub vars_small : t < TERMS
-        vars_small = omega (arith, stored.there, stored.grown.good.room)
 
         pub vars_place : k < length bound
         vars_place = omega (arith, few, l, h.cells.long)

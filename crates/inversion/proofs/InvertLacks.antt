@@ -7,7 +7,7 @@ use Prim.Native.Nat.{ℕ, zero, suc, ◌+◌, ◌<◌, ◌≤◌}
 use native.Mathlib.Omega.{arith}
 use lib.ListN.{length, get_or, take, replicate}
 use lib.Seq.{length-take-le}
-use Rattle.rules.specs.Limits.{VARIABLES, RULEVARS}
+use Rattle.rules.specs.Limits.{RULEVARS}
 use Rattle.rules.specs.Out.{Out, refuse, then, pure, stop}
 use Rattle.rules.specs.Store.{Made}
 use Rattle.rules.specs.Unify.{Binding}

@@ -205,7 +205,3 @@ rows_start {goals} {text} {vars} {count} {vs} sorts h = subst (λ (us : List Var
 
 pub rows_end : {goals text vars put : List ℕ} {v : ℕ} {us : List Var} → put ≡ vars → VarsHeld goals text vars v us → VarsHeld goals text put v us
 rows_end {goals} {text} {v = v} {us} e h = subst (λ (ws : List ℕ). VarsHeld goals text ws v us) (sym e) h
-
-pub rows_done : {goals text vars : List ℕ} (vs : List Var) (sorts : List ℕ) {v end : ℕ} → v ≤ end → end ≤ v → VarsHeld goals text vars v (vars_with vs sorts v) →
-    VarsHeld goals text vars end (vars_with vs sorts end)
-rows_done {goals} {text} {vars} vs sorts {v} {end} l m h = let e : v ≡ end = omega arith in subst (λ (k : ℕ). VarsHeld goals text vars k (vars_with vs sorts k)) e h

@@ -1,6 +1,6 @@
 -- The hypothesis that `invert` names, and those that its result rests on. Assumes nothing.
 use Rattle.std.specs.Prelude.{Some as some, None as nothing, Option}
-use mathlib.Core.Path.{◌≡◌, refl, sym, ap, ◌∙◌, subst}
+use mathlib.Core.Path.{◌≡◌, sym, ap, ◌∙◌, subst}
 use mathlib.Core.Bool.{Bool, true, false, not}
 use mathlib.Core.List.{List}
 use Prim.Native.Nat.{ℕ, suc, ◌-◌, ◌*◌, ◌<◌, ◌≤◌}
@@ -20,9 +20,9 @@ use Rattle.rules.specs.Laws.Store.{then_ok, then_refuse}
 use Rattle.rules.specs.Laws.Theory.{All}
 use Rattle.rules.specs.Laws.Rising.{rising_rises, rising_all_of, has_all}
 use Rattle.sexp.specs.Encode.{encodes}
-use Rattle.sexp.specs.Items.{Holds, Items, place}
+use Rattle.sexp.specs.Items.{Holds, place}
 use Rattle.sexp.specs.Never.{never}
-use Rattle.sexp.specs.NthItem.{has_items, place_high, rest_holds}
+use Rattle.sexp.specs.NthItem.{place_high, rest_holds}
 use Rattle.sexp.specs.FoundLaws.{found_at, found_missing}
 use Rattle.terms.specs.Sets.{holds}
 use Rattle.state.specs.declared.sizes.Sizes.{Sizes}
@@ -63,9 +63,6 @@ module _ {text facts : List ℕ} {n : Sizes} {cells : List ℕ} (g : NamingForm 
 
   abbrev whole : Made → Out Made (ℕ × (Fact × List ℕ))
   whole M = hypothesis_of S g.xs M
-
-  pub naming_items : Items cells
-  naming_items = has_items g.holds_items
 
   module _ (k : ℕ) (l : k < 4) {at : ℕ} (a : (ys : Sexps) → cells ≡ encodes ys → at ≡ place ys k) where
     pub naming_high : at ≤ length cells

@@ -1,9 +1,9 @@
 -- The form `invert` behind its judgment: its cases are read, and the rules are gone through. Assumes nothing.
 use mathlib.Core.Path.{◌≡◌, refl, sym, ap, ◌∙◌, subst}
 use mathlib.Core.List.{List, []}
-use Prim.Native.Nat.{ℕ, ◌-◌, ◌<◌, ◌≤◌}
+use Prim.Native.Nat.{ℕ, ◌-◌}
 use native.Mathlib.Omega.{arith}
-use lib.ListN.{length, get_or, take, drop, replicate, length-replicate}
+use lib.ListN.{length, take, drop, replicate, length-replicate}
 use Rattle.rules.specs.Limits.{VARIABLES, VARIABLEWORDS}
 use Rattle.rules.specs.Out.{Out, ok, refuse, then}
 use Rattle.rules.specs.Sexp.{Sexp, Sexps, count, item, items}
@@ -13,8 +13,8 @@ use Rattle.rules.specs.Theory.{rules_of}
 use Rattle.rules.specs.State.{State, Var}
 use Rattle.rules.specs.Invert.{Inversion, Names, read_cases, taken_vars, predicate_of, invert_rules}
 use Rattle.sexp.specs.Encode.{encodes}
-use Rattle.sexp.specs.Items.{Items, Reaches, item_of, place}
-use Rattle.sexp.specs.NthItem.{has_items, reaches, nth_text, nth_part}
+use Rattle.sexp.specs.Items.{Items, item_of, place}
+use Rattle.sexp.specs.NthItem.{has_items, nth_text, nth_part}
 use Rattle.sexp.specs.WalkLaws.{ListIs}
 use Rattle.sexp.specs.declared.items.Item.{Item}
 use Rattle.sexp.specs.declared.items.Item.TheVariants.{Atom, List as Part}
@@ -30,7 +30,7 @@ use Rattle.reading.specs.Given.{VarsItems}
 use Rattle.referring.specs.Recall.{Recalls}
 use Rattle.referring.specs.Laws.Refers.{refers_recalls}
 use Rattle.casework.specs.Cases.{CasesAre}
-use Rattle.inversion.specs.InvertRules.{vars_with, Unmade, Turning, Turned}
+use Rattle.inversion.specs.InvertRules.{Unmade, Turning, Turned}
 use Rattle.inversion.specs.Inversions.{InvertingOn, invert_on, InvertedOn}
 use Rattle.inversion.proofs.InvertNames.{with_none}
 
@@ -48,10 +48,6 @@ module _ {theory goals text symbols ins vars defs rules rulevars patterns facts 
 
   abbrev pub whole : Out Made (List Var)
   whole = invert_on S g.form.xs (tree I W m s) (tree I W m j) context (made I W m)
-
-  -- what `nth` asks
-  pub on_reaches : Reaches cells 5
-  on_reaches = reaches g.form.holds_items (omega (arith, g.form.many))
 
   module _ {it : Item} (a : (ys : Sexps) → cells ≡ encodes ys → it ≡ item_of (place ys 5) (item ys 5)) where
     pub on_atom : {p : ℕ} → it ≡ Atom p → Stopped I W I W m whole 41 0 m

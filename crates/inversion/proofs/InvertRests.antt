@@ -6,7 +6,7 @@ use Rattle.std.specs.Prelude.{Option, Some as some, None as nothing, Ok, Err}
 use Rattle.questions.specs.declared.Question.TheVariants.{Earlier, CaseJudgment, CaseHypotheses}
 use Rattle.questions.specs.Numbers.{number_of, detail_of}
 use mathlib.Core.List.{List, [], ◌∷◌, ◌++◌}
-use Prim.Native.Nat.{ℕ, zero, suc, ◌<◌}
+use Prim.Native.Nat.{ℕ, ◌<◌}
 use native.Mathlib.Omega.{arith}
 use native.Mathlib.Decide.{ℕ_discrete, dec_lt}
 use lib.Dec.{eqb}

@@ -15,9 +15,9 @@ use Rattle.rules.specs.State.{Fact, mentioned}
 use Rattle.rules.specs.Invert.{Inversion, mentioned_at, context_vars, taken_vars}
 use Rattle.rules.specs.Laws.Set.{union_assoc, union_empty}
 use Rattle.terms.specs.declared.store.Mark.{Mark}
-use Rattle.terms.specs.Table.{tree, Good}
+use Rattle.terms.specs.Table.{tree}
 use Rattle.terms.specs.Sets.{holds}
-use Rattle.terms.specs.Collect.{Seen, Readable, Visited}
+use Rattle.terms.specs.Collect.{Seen, Visited}
 use Rattle.terms.specs.Laws.Sets.{holds_zero}
 use Rattle.state.specs.declared.sizes.Sizes.{Sizes}
 use Rattle.state.specs.RowCells.{no_fact}

@@ -1,5 +1,5 @@
 -- What is inverted, as it is lent, beside a store, and what is answered. Each is the relation of the same meaning over plain tables. Assumes nothing.
-use Rattle.std.specs.Prelude.{◌≡◌, Bool, List, ℕ, ◌<◌, Option, Result}
+use Rattle.std.specs.Prelude.{◌≡◌, Bool, List, ℕ, Option, Result}
 use Rattle.rules.specs.Out.{Out}
 use Rattle.rules.specs.Store.{Made}
 use Rattle.rules.specs.Unify.{Binding}
@@ -10,7 +10,6 @@ use Rattle.questions.specs.declared.Question.{Question}
 use Rattle.kernel.specs.declared.rule_readers.Rules.{Rules}
 use Rattle.terms.specs.declared.store.Store.{Store}
 use Rattle.unification.specs.declared.unify.Scratch.{Scratch}
-use Rattle.referring.specs.Recall.{Recalls}
 use Rattle.referring.specs.declared.source.Facts.{Facts}
 use Rattle.referring.specs.declared.source.Source.{Source}
 use Rattle.referring.specs.Sources.{source_names, rules_of}

@@ -28,7 +28,7 @@ pub struct Variables {
     pub count: usize,
 }
 
-// The variables that stand for those of a rule; all variables are so many.
+// A rule by its number, the variables that stand for its own, and how many variables there are in all.
 #[derive(Clone, Copy)]
 pub struct Renaming<'a> {
     pub rule: usize,

@@ -74,15 +74,7 @@ impl Inverting<'_> {
         let none = no_grounds(&self.source.lists[from..end]);
         let symbols = self.source.reader.symbols;
         let first = rule_premises(&self.rules, symbols, store, renamed, memo, none)?;
-        let grounds = context_facts(
-            &facts,
-            store,
-            renamed.theta,
-            memo,
-            self.context,
-            ids,
-            first,
-        )?;
+        let grounds = context_facts(&facts, store, renamed.theta, memo, self.context, ids, first)?;
         verdict(&facts, i, t, &grounds)
     }
 

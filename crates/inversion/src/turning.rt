@@ -19,7 +19,7 @@ use rules::{PAIRS, RULEVARS, SYMBOLS, TERMWORDS, VARIABLES};
 use terms::store::{Store, Terms};
 use unification::unify::Scratch;
 
-// The predicate of the term s; 0, as in the definition, where it is a variable.
+// The predicate of the term s; where it is a variable, number 0, as the definition has it.
 fn predicate_of(terms: &Terms<'_>, s: usize) -> usize
     requires { GoodTerms terms.now × (s < terms.now.mark.terms) }
     ensures { let t = terms.now in result ≡ predicate_of (tree t.index.now t.words.now t.mark s) }

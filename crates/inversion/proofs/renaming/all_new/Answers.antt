@@ -1,19 +1,10 @@
-use mathlib.Core.Path.{refl, sym, ◌∙◌}
+use mathlib.Core.Path.{sym, ◌∙◌}
 use native.Mathlib.Omega.{arith}
 use Rattle.casework.specs.Laws.Loops.{all_yes, all_no, all_over, not_so, not_not}
 use Rattle.inversion.proofs.renaming.all_new.Goals as goal
 
-pub loop-v-init : goal.loop-v-init
-loop-v-init c = (omega arith, refl)
-
-pub has-requires : goal.has-requires
-has-requires c = c.requires c.loop-v.v-index c.loop-v-test.true
-
 pub returns-then-has : goal.returns-then-has
 returns-then-has c = sym (c.loop-v.invariant.1 ∙ all_no _ _ _ c.loop-v-test.true (not_so c.has.ensures c.if-has.true))
-
-pub loop-v-smaller : goal.loop-v-smaller
-loop-v-smaller c = omega arith
 
 pub loop-v-preserved : goal.loop-v-preserved
 loop-v-preserved c = (omega arith, c.loop-v.invariant.1 ∙ all_yes _ _ _ c.loop-v-test.true (not_not c.has.ensures c.if-has.false))

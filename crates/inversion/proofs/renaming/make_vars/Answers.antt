@@ -1,4 +1,4 @@
-use mathlib.Core.Path.{refl, sym, ◌∙◌}
+use mathlib.Core.Path.{refl, ◌∙◌}
 use lib.ListN.{length-set}
 use native.Mathlib.Omega.{arith}
 use Rattle.inversion.proofs.InvertNames.{known_var, rule_sort_lem, sort_small, making_start, making_over, making_full, making_more}

@@ -1,4 +1,4 @@
-use mathlib.Core.Path.{refl, sym, ap, ◌∙◌}
+use mathlib.Core.Path.{sym, ap, ◌∙◌}
 use native.Mathlib.Omega.{arith}
 use Rattle.state.specs.VarLaws.{vars_long, var_sort_is}
 use Rattle.casework.specs.Laws.Loops.{suit_none, suit_on, suit_off, suit_over}
@@ -8,9 +8,6 @@ use Rattle.inversion.proofs.renaming.suits.Goals as goal
 
 pub returns-then-list-need : goal.returns-then-list-need
 returns-then-list-need c = λ g vs count h. suit_none vs _ _ g.many c.if-list-need.true
-
-pub loop-k-init : goal.loop-k-init
-loop-k-init c = (omega arith, c.if-list-need.false, λ g vs count h. refl)
 
 pub var_sort-requires : goal.var_sort-requires
 var_sort-requires c = (vars_long c.requires.1.2, c.requires.2 c.loop-k.k c.loop-k-test.true)
@@ -23,9 +20,6 @@ returns-then-not-same_sort c = λ g vs count h. sym
     (c.loop-k.invariant.2 g vs count h ∙ suit_off vs _ _ _ c.loop-k-test.true (omega (arith, c.loop-k.invariant.1, g.many, c.loop-k-test.true))
     (c.var_sort.ensures ∙ var_sort_is h _) (rule_sort_lem g (omega (arith, c.loop-k.invariant.1, c.loop-k-test.true)) c.variable_sort.ensures)
     c.same_sort.ensures (ap not c.if-not-same_sort.true))
-
-pub loop-k-smaller : goal.loop-k-smaller
-loop-k-smaller c = omega arith
 
 pub loop-k-preserved : goal.loop-k-preserved
 loop-k-preserved c = (

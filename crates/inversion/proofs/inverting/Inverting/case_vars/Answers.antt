@@ -1,6 +1,6 @@
 use mathlib.Core.Path.{refl, ap}
 use mathlib.Core.Bool.{not}
-use Rattle.inversion.proofs.InvertCaseVars.{case_given, case_never, case_room, case_long, case_words, case_suits, case_unsuited, case_short, case_taken, case_new}
+use Rattle.inversion.proofs.InvertCaseVars.{case_never, case_room, case_long, case_words, case_suits, case_unsuited, case_short, case_taken, case_new}
 use Rattle.inversion.proofs.inverting.Inverting.case_vars.Goals as goal
 use Rattle.inversion.proofs.inverting.Inverting.case_vars.Goals.{then-not-suits-via-then-not-suits, then-not-suits-via-else-not-suits+then-not-all_new}
 

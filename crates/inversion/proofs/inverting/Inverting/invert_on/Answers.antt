@@ -41,9 +41,12 @@ all_rules-requires-clause-turning c =
 
 pub returns-in_err-all_rules-clause-inverted_on_as : goal.returns-in_err-all_rules-clause-inverted_on_as
 returns-in_err-all_rules-clause-inverted_on_as c = λ g. let p = err_from_is_err_and c.from_residual-in_err-all_rules.result c.from_residual-in_err-all_rules.ensures.1 in
-    rw (p.1, p.2) (on_stopped g c.nth.ensures c.in-List.is c.in_ok-read_cases.ensures (c.in_err-all_rules.ensures.turned_as
-    (on_turning g c.nth.ensures c.in-List.is c.in_ok-read_cases.ensures c.count.ensures c.taken_vars.auto.set
-    (rw (c.facts.ensures, c.terms.ensures) at c.taken_vars.ensures))), refl)
+    rw (p.1, p.2) (
+      on_stopped g c.nth.ensures c.in-List.is c.in_ok-read_cases.ensures (c.in_err-all_rules.ensures.turned_as
+          (on_turning g c.nth.ensures c.in-List.is c.in_ok-read_cases.ensures c.count.ensures c.taken_vars.auto.set
+          (rw (c.facts.ensures, c.terms.ensures) at c.taken_vars.ensures))),
+      refl,
+    )
 
 pub returns-clause-inverted_on_as : goal.returns-clause-inverted_on_as
 returns-clause-inverted_on_as c = λ g. on_read g c.nth.ensures c.in-List.is c.in_ok-read_cases.ensures c.copy_from_slice.ensures.after (c.in_ok-all_rules.ensures.turned_as

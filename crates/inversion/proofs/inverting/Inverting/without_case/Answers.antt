@@ -1,9 +1,4 @@
-use Prim.Native.Nat.{ℕ}
-use native.Mathlib.Omega.{arith}
-use lib.ListN.{length-replicate}
-use mathlib.Core.Path.{◌∙◌}
 use Rattle.std.proofs.lemmas.Result.{err_from_is_err_and}
-use Rattle.rules.specs.Limits.{RULEVARS}
 use Rattle.inversion.proofs.InvertLacks.{lack_vars, lack_short, lack_full, lack_room, lack_part, lack_meeting, lack_stopped, lack_found, lack_apart}
 use Rattle.inversion.proofs.inverting.Inverting.without_case.Goals as goal
 
