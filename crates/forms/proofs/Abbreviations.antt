@@ -1,6 +1,6 @@
 -- What `add_def` answers, question by question, and what the code finds. Assumes nothing.
 use Rattle.std.specs.Prelude.{Some as some, None as nothing, Option}
-use mathlib.Core.Path.{◌≡◌, sym, ap, ◌∙◌, subst}
+use mathlib.Core.Path.{◌≡◌, refl, sym, ap, ◌∙◌, subst}
 use mathlib.Core.Bool.{Bool, true, false, ◌&&◌}
 use mathlib.Core.List.{List, [], ◌∷◌, ◌++◌}
 use Prim.Native.Nat.{ℕ, ◌+◌, ◌-◌, ◌*◌, ◌<◌, ◌≤◌}
@@ -23,11 +23,12 @@ use Rattle.rules.proofs.Laws.ReadWalk.{term_keeps}
 use Rattle.sexp.specs.Encode.{encodes}
 use Rattle.sexp.specs.Items.{item_of, place}
 use Rattle.sexp.specs.NthItem.{nth_text, nth_part}
-use Rattle.sexp.specs.AtomText.{AtomText, atom_part, atom_high, atom_named}
+use Rattle.sexp.specs.AtomText.{AtomText, atom_part, atom_named}
 use Rattle.sexp.specs.declared.items.Item.{Item}
 use Rattle.sexp.specs.declared.items.Item.TheVariants.{Atom, List as Part}
 use Rattle.terms.specs.declared.store.Mark.{Mark}
 use Rattle.terms.specs.Table.{made, tree}
+use Rattle.terms.specs.On.{Stopped}
 use Rattle.terms.specs.Laws.Numbers.{tree_number}
 use Rattle.state.specs.declared.sizes.Sizes.{Sizes}
 use Rattle.state.specs.Held.{Names, DefsHeld}
@@ -35,14 +36,12 @@ use Rattle.state.specs.Rows.{Fits4, SomeDefs, DefFound}
 use Rattle.state.specs.Growth.{grows_ok}
 use Rattle.state.specs.Numbered.{sound_in}
 use Rattle.state.specs.DefLaws.{defs_long}
-use Rattle.reading.specs.declared.apart.Typed.{Typed}
-use Rattle.reading.specs.declared.apart.Typed.TheVariants as typed
 use Rattle.reading.specs.Given.{Reads, ReadsItem}
 use Rattle.reading.specs.Answers.{TypedRead}
-use Rattle.reading.specs.Apart.{TypedAs}
 use Rattle.reading.specs.Laws.Reading.{reads_ready, reads_term}
 use Rattle.forms.specs.Halted.{ReadsForm, Halts}
-use Rattle.forms.specs.Declares.{DefAdded}
+use Rattle.forms.specs.declared.declare.Abbreviation.{Abbreviation}
+use Rattle.forms.specs.Declares.{DefNamed, DefAdded}
 use Rattle.forms.specs.Laws.Making.{Reached, reached_start, reached_halts, reached_went, reached_stopped, halts_first, item_holds}
 use Rattle.forms.proofs.Variables.{is_new_lem, not_new}
 
@@ -144,19 +143,17 @@ module _ {K : Names} {n : Sizes} {I W : List ℕ} {m : Mark} {cells : List ℕ} 
                 let z = reached_start g.reads.good (reads_ready g.reads) g.store (λ U. then (making (term g.S (item g.xs 2)) U) behind_term) in
                 record { makes = z.makes; here = def_begun g.xs g.S def_name.is (sym b ∙ yes) (omega (arith, d, l)) ∙ z.here }
 
-            module _ (J X : List ℕ) (r : Typed) (f : (k : ReadsItem K n I W m (take (length cells - at) (drop at cells))) →
-                TypedAs I W J X m k.S 0 (term k.S k.x (made I W m)) r) where
-              term_told : TypedAs I W J X m g.S 0 (term g.S (item g.xs 2) (made I W m)) r
-              term_told = f def_item
+            module _ {J X : List ℕ} {new : Mark} where
+              pub def_term_no : {q d : ℕ} →
+                  ((k : ReadsItem K n I W m (take (length cells - at) (drop at cells))) → Stopped I W J X m (term k.S k.x (made I W m)) q d new) →
+                  Halts I W J X m g.S (add_def g.xs g.S) q d new
+              def_term_no f =
+                  reached_stopped (term g.S (item g.xs 2)) behind_term begun (term_keeps g.S (item g.xs 2) (made I W m) (reads_ready g.reads)) (f def_item)
 
-              pub def_term_no : {q d : ℕ} {new : Mark} → r ≡ typed.No q d new → Halts I W J X m g.S (add_def g.xs g.S) q d new
-              def_term_no c =
-                  reached_stopped (term g.S (item g.xs 2)) behind_term begun (term_keeps g.S (item g.xs 2) (made I W m) (reads_ready g.reads))
-                  (subst (λ z. TypedAs I W J X m g.S 0 (term g.S (item g.xs 2) (made I W m)) z) c term_told)
-
-              module _ {t : ℕ} {right : Bool} {new : Mark} (c : r ≡ typed.Term t right new) where
+              module _ {t : ℕ} {right : Bool}
+                  (f : (k : ReadsItem K n I W m (take (length cells - at) (drop at cells))) → TypedRead I W J X m k.S 0 (term k.S k.x (made I W m)) t right new) where
                 term_read : TypedRead I W J X m g.S 0 (term g.S (item g.xs 2) (made I W m)) t right new
-                term_read = subst (λ z. TypedAs I W J X m g.S 0 (term g.S (item g.xs 2) (made I W m)) z) c term_told
+                term_read = f def_item
 
                 came : Reached I W m g.S answer J X new (behind_term (tree J X new t) (with_made g.S (made J X new)))
                 came =
@@ -196,33 +193,55 @@ module _ {K : Names} {n : Sizes} {I W : List ℕ} {m : Mark} {cells : List ℕ} 
                         (def_end_full the_name (tree J X new t) (with_made g.S (made J X new)) is_free
                         (le-ltb (length g.S.defs) DEFS (omega (arith, g.reads.spelling.defs.many))))
 
-                    pub def_fits : n.defs < DEFS → (length K.defs ≡ 3 * DEFS) × (n.defs < DEFS) × Fits4 start end t 0
-                    def_fits o = (
-                      defs_long g.reads.spelling.defs,
-                      o,
-                      record {
-                        first = omega (arith, def_name.inside, g.reads.spelling.short);
-                        second = omega (arith, atom_high K.text start end def_name.inside d, g.reads.spelling.short);
-                        third = omega (arith, term_read.read.there, term_read.read.went.grown.good.room);
-                        fourth = omega arith;
-                      },
-                    )
-
-                    pub def_is_added : n.defs < DEFS → {after : List ℕ} → after ≡ sets K.defs (3 * n.defs) (start ∷ end ∷ t ∷ []) →
-                        DefAdded K.text K.defs after n I W J X m g.S (add_def g.xs g.S) new
-                    def_is_added o h =
+                    pub def_named : n.defs < DEFS → DefNamed K.text n I W J X m g.S (add_def g.xs g.S) (record { start = start; end = end; term = t }) new
+                    def_named o =
                         record {
                           makes = came.makes;
                           new = record { name = the_name; term = tree J X new t };
-                          end = end;
-                          term = t;
                           is = came.here ∙ def_end_added the_name (tree J X new t) (with_made g.S (made J X new)) is_free
                               (lt-ltb (length g.S.defs) DEFS (omega (arith, g.reads.spelling.defs.many)));
                           room = o;
                           named = atom_named K.text start def_name.inside;
                           there = sound_in (made J X new) (tree J X new t)
                               (grows_ok (term_keeps g.S (item g.xs 2) (made I W m) (reads_ready g.reads)) term_read.read.went.makes).1;
+                          starts = refl;
                           ends = d;
                           numbered = sym (tree_number term_read.read.went.grown.good t term_read.read.there);
-                          cells = h;
+                          small = term_read.read.there;
                         }
+
+-- The row ---------------------------------------------------------------------------------------------------------------------------
+
+module _ {K : Names} {n : Sizes} {I W : List ℕ} {m : Mark} {cells : List ℕ} (g : ReadsForm K n I W m cells 3) {J X : List ℕ} {a : Abbreviation} {new : Mark}
+    (f : (h : ReadsForm K n I W m cells 3) → DefNamed K.text n I W J X m h.S (add_def h.xs h.S) a new) where
+  -- what `put_def` asks
+  pub def_fits : (length K.defs ≡ 3 * DEFS) × (n.defs < DEFS) × Fits4 a.start a.end a.term 0
+  def_fits =
+      let z = f g in (
+        defs_long g.reads.spelling.defs,
+        z.room,
+        record {
+          first = omega (arith, z.starts, z.named.inside, g.reads.spelling.short);
+          second = omega (arith, z.ends, z.named.inside, g.reads.spelling.short);
+          third = omega (arith, z.small, z.makes.grown.good.room);
+          fourth = omega arith;
+        },
+      )
+
+  pub def_is_added : {after : List ℕ} → after ≡ sets K.defs (3 * n.defs) (a.start ∷ a.end ∷ a.term ∷ []) →
+      DefAdded K.text K.defs after n I W J X m g.S (add_def g.xs g.S) new
+  def_is_added h =
+      let z = f g in
+      record {
+        makes = z.makes;
+        new = z.new;
+        end = a.end;
+        term = a.term;
+        is = z.is;
+        room = z.room;
+        named = z.named;
+        there = z.there;
+        ends = z.ends;
+        numbered = z.numbered;
+        cells = h ∙ ap (λ s. sets K.defs (3 * n.defs) (s ∷ a.end ∷ a.term ∷ [])) z.starts;
+      }

@@ -7,7 +7,7 @@ use native.Mathlib.Omega.{arith}
 use native.Mathlib.Decide.{dec_lt}
 use lib.Dec.{ltb}
 use lib.ListN.{length, take, drop}
-use lib.Seq.{sets, length-sets}
+use lib.Seq.{sets}
 use borrow.Author.Tests.{lt-ltb, le-ltb}
 use Rattle.rules.specs.Limits.{FACTS, ENTRIES}
 use Rattle.rules.specs.Out.{Out, refuse}
@@ -24,10 +24,8 @@ use Rattle.terms.specs.declared.store.Mark.{Mark}
 use Rattle.terms.specs.Table.{made, tree}
 use Rattle.terms.specs.Laws.Numbers.{tree_number, tree_stored}
 use Rattle.state.specs.declared.sizes.Sizes.{Sizes}
-use Rattle.std.specs.Prelude.{Result, Ok as done, Err as refused}
+use Rattle.std.specs.Prelude.{Result, Ok, Err}
 use Rattle.questions.specs.declared.Row.{Row}
-use Rattle.questions.specs.declared.Row.TheVariants.{Facts, Entries}
-use Rattle.questions.specs.Numbers.{row_number}
 use Rattle.state.specs.Held.{Records, records, Recorded}
 use Rattle.state.specs.Rows.{Putting}
 use Rattle.state.specs.Growth.{recorded_on, recorded_made}
@@ -36,7 +34,7 @@ use Rattle.state.specs.Adding.{add_fact_ok, add_fact_12, add_fact_13}
 use Rattle.state.specs.FactLaws.{facts_tabled, footings_tabled, entries_fit}
 use Rattle.state.specs.RowTables.{tabled_long}
 use Rattle.forms.specs.Halted.{Halts}
-use Rattle.forms.specs.Assumed.{HypAdded, RulePutAs}
+use Rattle.forms.specs.Assumed.{HypAdded, HypPutBy, RulePutBy}
 use Rattle.forms.specs.Laws.Making.{Reached, reached_halts}
 use Rattle.forms.proofs.Tails.{tailed, tailed_written}
 
@@ -68,7 +66,7 @@ module _ {facts footings lists : List ℕ} {n : Sizes} {I W : List ℕ} {old : M
   ]
 
   pub adding_ok : j < now.terms → Each (sound.Has (made J X now)) ps → All (λ v. v < length S.vars) vs → (L : List ℕ) {Q : Records} {e : ℕ} →
-      L ≡ sets lists (n.entries + 1) (numbers (made J X now) ps ++ vs) → HypothesisPut (records facts footings L) Q n j many few (done e) →
+      L ≡ sets lists (n.entries + 1) (numbers (made J X now) ps ++ vs) → HypothesisPut (records facts footings L) Q n j many few (Ok e) →
       HypAdded (records facts footings lists) Q n I W J X old S A e now
   adding_ok l p v L {Q} {e} w s =
       let good = o.makes.grown.good in
@@ -103,24 +101,15 @@ putting h l L e =
 
 -- `put_rule` -----------------------------------------------------------------------------------------------------------------------------
 
-module _ (R : Records) (n : Sizes) (judgment premises : ℕ) (general : List ℕ) where
-  pub rule_12 : FACTS ≤ n.facts → RulePutAs R R n judgment premises general (refused Facts)
-  rule_12 h = (refl, sym (ap (λ b. elim b [ true ↦ 13 | false ↦ 12 ]) (le-ltb n.facts FACTS h)), λ l. absurd (omega arith))
-
-  pub rule_13 : n.facts < FACTS → ENTRIES < n.entries + (1 + premises + length general) → RulePutAs R R n judgment premises general (refused Entries)
-  rule_13 h l = (refl, sym (ap (λ b. elim b [ true ↦ 13 | false ↦ 12 ]) (lt-ltb n.facts FACTS h)), λ m. l)
-
 -- the variables are written where there is room, and then the row has room as well
-pub rule_put : (facts footings lists : List ℕ) (n : Sizes) (judgment premises : ℕ) (general : List ℕ) (Q : Records) (last : List ℕ) (r : Result ℕ Row) →
+pub rule_put : (facts footings lists : List ℕ) (n k : Sizes) (judgment premises : ℕ) (general : List ℕ) (Q : Records) (last : List ℕ) (r : Result (Unit {0}) Row) →
     length lists ≡ ENTRIES → n.facts < FACTS → n.entries + 1 + premises + length general ≤ ENTRIES →
     last ≡ general ++ drop (length general) (take (length lists - (n.entries + 1 + premises)) (drop (n.entries + 1 + premises) lists)) →
-    HypothesisPut (records facts footings (tailed lists (n.entries + 1 + premises) last)) Q n judgment premises (length general) r →
-    RulePutAs (records facts footings lists) Q n judgment premises general r
-rule_put facts footings lists n judgment premises general Q last (done e) l f m w p =
-    subst (λ L. HypothesisPut (records facts footings L) Q n judgment premises (length general) (done e))
-    (tailed_written lists (n.entries + 1 + premises) general (omega (arith, l, m)) w) p
-rule_put facts footings lists n judgment premises general Q last (refused d) l f m w p = absurd (let z = p.2 f in omega arith)
-
-pub tailed_length : (lists : List ℕ) (at : ℕ) (vs : List ℕ) {last : List ℕ} → at + length vs ≤ length lists →
-    last ≡ vs ++ drop (length vs) (take (length lists - at) (drop at lists)) → length (tailed lists at last) ≡ length lists
-tailed_length lists at vs h w = ap length (tailed_written lists at vs h w) ∙ length-sets lists at vs
+    HypPutBy (records facts footings (tailed lists (n.entries + 1 + premises) last)) Q n k judgment premises (length general) r →
+    RulePutBy (records facts footings lists) Q n k judgment premises general r
+rule_put facts footings lists n k judgment premises general Q last (Ok u) l f m w p = (
+  subst (λ L. HypothesisPut (records facts footings L) Q n judgment premises (length general) (Ok k.entries))
+      (tailed_written lists (n.entries + 1 + premises) general (omega (arith, l, m)) w) p.0,
+  p.1,
+)
+rule_put facts footings lists n k judgment premises general Q last (Err d) l f m w p = absurd (let z = p.0.2 f in omega arith)

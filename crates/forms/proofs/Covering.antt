@@ -34,7 +34,6 @@ use Rattle.state.specs.Numbered.{in_numbered, sound_in}
 use Rattle.state.specs.GoalLaws.{GoalRow, goals_long}
 use Rattle.state.specs.FactLaws.{FactRow, fact_row_lem, goal_row_of, lists_long}
 use Rattle.referring.specs.Recall.{fact_of}
-use Rattle.referring.specs.Referral.{rests_on}
 use Rattle.forms.specs.Results.{goal_of, ListsHyps, Covers}
 use Rattle.referring.specs.Laws.Refers.{fact_asks}
 use Rattle.referring.specs.Laws.ScopeFree.{from_zeros}
@@ -134,11 +133,6 @@ module _ {rows facts lists : List ℕ} {k i : ℕ} (g : Covers rows facts lists 
   abbrev fact : FactRow (records facts g.footings lists) g.n g.trees g.S i (fact_of g.S i)
   fact = fact_row_lem g.recorded i g.fact
 
-  -- an instance rests on nothing
-  pub covers_none : (bare : Bool) → not bare ≡ true → true ≡ all (λ h. listed (goal_of g.S k).hyps (entry g.S.facts h)) (rests_on g.S i bare)
-  unfolding rests_on all
-  covers_none bare e = ap (λ (z : Bool). all (λ h. listed (goal_of g.S k).hyps (entry g.S.facts h)) (rests_on g.S i z)) (sym (not-true bare e))
-
   pub covers_goal : (length rows ≡ 6 * GOALS) × (k < GOALS)
   covers_goal = (goals_long g.held, omega (arith, g.goal, g.held.few))
 
@@ -190,13 +184,11 @@ module _ {rows facts lists : List ℕ} {k i : ℕ} (g : Covers rows facts lists 
             wide = w;
           }
 
-      pub covers_all : (terms : List ℕ) {r : Bool} (bare : Bool) → length terms ≡ TERMWORDS → holds terms ≡ union (holds (replicate TERMWORDS 0)) (has (part lists s)) →
+      pub covers_all : (terms : List ℕ) {r : Bool} → length terms ≡ TERMWORDS → holds terms ≡ union (holds (replicate TERMWORDS 0)) (has (part lists s)) →
           ((h : ListsHyps facts (part lists u) terms) (hs : Trees) → Each (sound.Has h.trees) hs → holds terms ≡ has (numbers h.trees hs) →
           r ≡ all (λ x. listed hs (entry h.S.facts x)) (part lists u)) →
-          not bare ≡ false → r ≡ all (λ h. listed (goal_of g.S k).hyps (entry g.S.facts h)) (rests_on g.S i bare)
-      unfolding rests_on
-      covers_all terms bare w q a b =
+          r ≡ all (λ h. listed (goal_of g.S k).hyps (entry g.S.facts h)) (fact_of g.S i).hyps
+      covers_all terms w q a =
           a (own_given terms w) (goal_of g.S k).hyps (all_at g.S.goals k no_goal g.recorded.trees.goals (omega (arith, g.goal, g.held.many))).hyps
           (aims_set terms q)
           ∙ ap (all (λ h. listed (goal_of g.S k).hyps (entry g.S.facts h))) own_are
-          ∙ ap (λ (z : Bool). all (λ h. listed (goal_of g.S k).hyps (entry g.S.facts h)) (rests_on g.S i z)) (sym (not-false bare b))

@@ -1,24 +1,23 @@
 -- The forms of goals, from reading to the row: what the judgments say of the form, and the lists behind the entries. Assumes nothing.
-use mathlib.Core.Path.{◌≡◌, refl, sym, ap, ◌∙◌, subst}
+use mathlib.Core.Path.{◌≡◌, refl, sym, ◌∙◌, subst}
 use mathlib.Core.List.{List}
 use Prim.Native.Nat.{ℕ, ◌+◌, ◌-◌, ◌^◌, ◌<◌, ◌≤◌}
 use native.Mathlib.Omega.{arith}
 use lib.ListN.{length, take, drop}
 use lib.Seq.{sets}
 use Rattle.rules.specs.Limits.{ENTRIES}
-use Rattle.rules.specs.Out.{Out, refuse, then}
+use Rattle.rules.specs.Out.{Out, then}
 use Rattle.rules.specs.Sexp.{Sexps, item}
 use Rattle.rules.specs.Tags.{a_goal, a_goal_with}
 use Rattle.rules.specs.Tree.{Tree, Trees, none, count_trees}
 use Rattle.rules.specs.Store.{Made}
 use Rattle.rules.specs.State.{State, entries}
-use Rattle.rules.specs.Read.{judgment, judgments}
+use Rattle.rules.specs.Read.{judgment}
 use Rattle.rules.specs.Forms.{with_made, making, add_goal, goal}
-use Rattle.rules.specs.TheoryTables.{filled}
 use Rattle.rules.specs.StateTables.{numbers}
-use Rattle.rules.specs.Laws.Keeping.{Each, Grows, each_on}
+use Rattle.rules.specs.Laws.Keeping.{Each}
 use Rattle.rules.specs.Laws.Sound.{sound}
-use Rattle.rules.proofs.Laws.ReadWalk.{judgment_keeps, judgments_keeps}
+use Rattle.rules.proofs.Laws.ReadWalk.{judgment_keeps}
 use Rattle.sexp.specs.Encode.{encodes}
 use Rattle.sexp.specs.Items.{place}
 use Rattle.sexp.specs.NthItem.{place_high}
@@ -26,35 +25,29 @@ use Rattle.terms.specs.declared.store.Mark.{Mark}
 use Rattle.terms.specs.Table.{made, tree}
 use Rattle.state.specs.declared.sizes.Sizes.{Sizes}
 use Rattle.state.specs.Held.{Names}
-use Rattle.state.specs.Growth.{grows_ok}
-use Rattle.state.specs.Numbered.{numbers_on}
-use Rattle.reading.specs.declared.apart.Out.{Out as Answer}
-use Rattle.reading.specs.declared.apart.Out.TheVariants.{Ok, No}
-use Rattle.reading.specs.Given.{Reads, ReadsItem}
-use Rattle.reading.specs.Answers.{TermRead, JudgmentsRead}
-use Rattle.reading.specs.Apart.{ReadAs, JudgmentsAs}
-use Rattle.reading.specs.Laws.Reading.{reads_ready, reads_judgments, reads_item}
-use Rattle.std.specs.Prelude.{Result, Ok as done, Err as stopped}
+use Rattle.state.specs.Used.{goals_now}
+use Rattle.reading.specs.Given.{ReadsItem}
+use Rattle.reading.specs.Answers.{TermRead}
+use Rattle.reading.specs.Laws.Reading.{reads_ready, reads_item}
+use Rattle.terms.specs.On.{Stopped}
+use Rattle.std.specs.Prelude.{Result, Ok, Err}
 use Rattle.questions.specs.declared.Question.{Question}
 use Rattle.questions.specs.Numbers.{number_of, detail_of}
-use Rattle.forms.specs.Halted.{ReadsForm, Halts}
-use Rattle.forms.specs.Goals.{GoalPlace, AddsGoal, GoalPlaced, PlacedAs, AimsRead, GoalAdded}
+use Rattle.forms.specs.Halted.{Halts}
+use Rattle.forms.specs.Goals.{GoalPlace, AddsGoal, GoalPlaced, PlacedBy, GoalAdded, AimedBy}
+use Rattle.forms.specs.Stating.{stating}
 use Rattle.forms.specs.Laws.Making.{Reached, reached_start, reached_halts, reached_went, reached_stopped, item_holds}
 
 -- The definition --------------------------------------------------------------------------------------------------------------------
 
-abbrev after_judgment : Sexps → Trees → Tree → State → Out State (Unit {0})
+abbrev pub after_judgment : Sexps → Trees → Tree → State → Out State (Unit {0})
 after_judgment xs hs j U = add_goal (item xs 1) hs j U
-
--- S: the state that the judgments are read in
-abbrev pub after_hyps : Sexps → State → Trees → State → Out State (Unit {0})
-after_hyps xs S hs U = then (making (judgment S (item xs 3)) U) (after_judgment xs hs)
 
 goal_plain : (xs : Sexps) (S : State) → goal a_goal xs S ≡ then (making (judgment S (item xs 2)) S) (after_judgment xs none)
 unfolding goal then
 goal_plain xs S = refl
 
-goal_with : (xs : Sexps) (S : State) → goal a_goal_with xs S ≡ then (making (judgments S (item xs 2)) S) (after_hyps xs S)
+pub goal_with : (xs : Sexps) (S : State) → stating xs S (after_judgment xs) ≡ goal a_goal_with xs S
 unfolding goal then
 goal_with xs S = refl
 
@@ -88,47 +81,42 @@ module _ {K : Names} {rows : List ℕ} {n : Sizes} {I W : List ℕ} {m : Mark} {
       }
 
   module _ {J X : List ℕ} {Q : Out State (Unit {0})} {hs : Trees} {j hyps : ℕ} {now : Mark} (o : Named K rows n I W m cells J X g.S g.xs Q hs j now) (c : hyps ≡ count_trees hs)
-      (after : List ℕ) (p : Result ℕ Question)
+      (after : List ℕ) (k : Sizes) (p : Result (Unit {0}) Question)
       (b : (h : GoalPlace K.text rows n cells) (hs : Trees) (t : Tree) → hyps ≡ count_trees hs →
-      PlacedAs K.text rows after n j h.S hs t (add_goal (item h.xs 1) hs t h.S) p) where
-    placed : PlacedAs K.text rows after n j (with_made g.S (made J X now)) hs (tree J X now j)
-        (add_goal (item g.xs 1) hs (tree J X now j) (with_made g.S (made J X now))) p
+      PlacedBy K.text rows after n k j h.S hs t (add_goal (item h.xs 1) hs t h.S) p) where
+    -- what is said of the state with the trees made until then
+    abbrev placed_by : Result (Unit {0}) Question → Type 0
+    placed_by p =
+        PlacedBy K.text rows after n k j (with_made g.S (made J X now)) hs (tree J X now j) (add_goal (item g.xs 1) hs (tree J X now j) (with_made g.S (made J X now))) p
+
+    placed : placed_by p
     placed = b (place_given (made J X now)) hs (tree J X now j) c
 
-    refused : {q : Question} → p ≡ stopped q →
-        (add_goal (item g.xs 1) hs (tree J X now j) (with_made g.S (made J X now)) ≡ refuse (number_of q) (detail_of q) (with_made g.S (made J X now))) × (after ≡ rows)
-    refused e =
-        subst (PlacedAs K.text rows after n j (with_made g.S (made J X now)) hs (tree J X now j)
-        (add_goal (item g.xs 1) hs (tree J X now j) (with_made g.S (made J X now)))) e placed
+    pub named_halts : {q : Question} → p ≡ Err q → Halts I W J X m g.S Q (number_of q) (detail_of q) now × (after ≡ rows) × (k ≡ n)
+    named_halts e = let z = subst placed_by e placed in (reached_halts o.reached z.0, z.1, z.2)
 
-    pub named_halts : {q : Question} → p ≡ stopped q → Halts I W J X m g.S Q (number_of q) (detail_of q) now
-    named_halts e = reached_halts o.reached (refused e).0
-
-    pub named_rows : {q : Question} → p ≡ stopped q → after ≡ rows
-    named_rows e = (refused e).1
-
-    module _ {e : ℕ} (f : p ≡ done e) where
-      found : GoalPlaced K.text rows after n j (with_made g.S (made J X now)) hs (tree J X now j)
-          (add_goal (item g.xs 1) hs (tree J X now j) (with_made g.S (made J X now))) e
-      found =
-          subst (PlacedAs K.text rows after n j (with_made g.S (made J X now)) hs (tree J X now j)
-          (add_goal (item g.xs 1) hs (tree J X now j) (with_made g.S (made J X now)))) f placed
+    module _ {u : Unit {0}} (f : p ≡ Ok u) where
+      found : placed_by (Ok u)
+      found = subst placed_by f placed
 
       pub named_room : n.entries + count_trees hs ≤ ENTRIES
-      named_room = omega (arith, found.used, found.fits)
+      named_room = omega (arith, found.0.used, found.0.fits)
 
       pub named_added : (lists last : List ℕ) → last ≡ sets lists n.entries (numbers (made J X now) hs) →
-          GoalAdded K.text rows after lists last n I W J X m g.S Q e now
-      named_added lists last w =
-          record {
-            makes = o.reached.makes;
-            hyps = hs;
-            judgment = j;
-            there = o.there;
-            known = o.known;
-            placed = subst (λ (z : Out State (Unit {0})). GoalPlaced K.text rows after n j (with_made g.S (made J X now)) hs (tree J X now j) z e) (sym o.reached.here) found;
-            lists_are = w;
-          }
+          GoalAdded K.text rows after lists last n I W J X m g.S Q k.entries now × (k ≡ goals_now n (n.goals + 1) k.entries)
+      named_added lists last w = (
+        record {
+          makes = o.reached.makes;
+          hyps = hs;
+          judgment = j;
+          there = o.there;
+          known = o.known;
+          placed = subst (λ (z : Out State (Unit {0})). GoalPlaced K.text rows after n j (with_made g.S (made J X now)) hs (tree J X now j) z k.entries)
+              (sym o.reached.here) found.0;
+          lists_are = w;
+        },
+        found.1,
+      )
 
 -- (goal NAME JUDGMENT) ----------------------------------------------------------------------------------------------------------------
 
@@ -164,21 +152,21 @@ module _ {K : Names} {rows : List ℕ} {n : Sizes} {I W : List ℕ} {m : Mark} {
           (then (making (judgment g.S (item g.xs 2)) (with_made g.S (made I W m))) (after_judgment g.xs none))
       start = reached_start g.reads.good (reads_ready g.reads) g.store (λ T. then (making (judgment g.S (item g.xs 2)) T) (after_judgment g.xs none))
 
-  module _ (J X : List ℕ) (r : Answer) (b : (h : ReadsItem K n I W m (take (length cells - at) (drop at cells))) → ReadAs I W J X m (judgment h.S h.x (made I W m)) r) where
-    pub plain_stops : {q d : ℕ} {new : Mark} → r ≡ No q d new → Halts I W J X m g.S (goal a_goal g.xs g.S) q d new
-    plain_stops e =
-        reached_stopped (judgment g.S (item g.xs 2)) (after_judgment g.xs none) plain_starts
-        (judgment_keeps g.S (item g.xs 2) (made I W m) (reads_ready g.reads))
-        (subst (ReadAs I W J X m (judgment g.S (item g.xs 2) (made I W m))) e (b plain_given))
+  module _ {J X : List ℕ} {new : Mark} where
+    pub plain_stops : {q d : ℕ} → ((h : ReadsItem K n I W m (take (length cells - at) (drop at cells))) → Stopped I W J X m (judgment h.S h.x (made I W m)) q d new) →
+        Halts I W J X m g.S (goal a_goal g.xs g.S) q d new
+    plain_stops b =
+        reached_stopped (judgment g.S (item g.xs 2)) (after_judgment g.xs none) plain_starts (judgment_keeps g.S (item g.xs 2) (made I W m) (reads_ready g.reads))
+        (b plain_given)
 
-    module _ {j : ℕ} {new : Mark} (e : r ≡ Ok j new) where
+    module _ {j : ℕ} (b : (h : ReadsItem K n I W m (take (length cells - at) (drop at cells))) → TermRead I W J X m (judgment h.S h.x (made I W m)) j new) where
       plain_read : TermRead I W J X m (judgment g.S (item g.xs 2) (made I W m)) j new
-      plain_read = subst (ReadAs I W J X m (judgment g.S (item g.xs 2) (made I W m))) e (b plain_given)
+      plain_read = b plain_given
 
       pub plain_small : j < 2 ^ 32
       plain_small = omega (arith, plain_read.there, plain_read.went.grown.good.room)
 
-      pub plain_named : Named K rows n I W m cells J X g.S g.xs (goal a_goal g.xs g.S) none j new
+      plain_named : Named K rows n I W m cells J X g.S g.xs (goal a_goal g.xs g.S) none j new
       plain_named =
           record {
             reached = reached_went (judgment g.S (item g.xs 2)) (after_judgment g.xs none) plain_starts
@@ -187,91 +175,12 @@ module _ {K : Names} {rows : List ℕ} {n : Sizes} {I W : List ℕ} {m : Mark} {
             known = none_known (made J X new);
           }
 
-      module _ (after : List ℕ) (p : Result ℕ Question)
-          (c : (h : GoalPlace K.text rows n cells) (hs : Trees) (t : Tree) → 0 ≡ count_trees hs →
-          PlacedAs K.text rows after n j h.S hs t (add_goal (item h.xs 1) hs t h.S) p) where
-        pub plain_halts : {q : Question} → p ≡ stopped q → Halts I W J X m g.S (goal a_goal g.xs g.S) (number_of q) (detail_of q) new × (after ≡ rows)
-        plain_halts f = (named_halts g (omega arith) plain_named none_count after p c f, named_rows g (omega arith) plain_named none_count after p c f)
-
-        pub plain_added : {e : ℕ} → p ≡ done e → (lists : List ℕ) →
-            GoalAdded K.text rows after lists lists n I W J X m g.S (goal a_goal g.xs g.S) e new
-        plain_added f lists =
-            named_added g (omega arith) plain_named none_count after p c f lists lists (no_numbers lists n.entries (made J X new))
-
--- (goal NAME (HYPOTHESIS...) JUDGMENT) --------------------------------------------------------------------------------------------------
-
-module _ {K : Names} {n : Sizes} {I W : List ℕ} {m : Mark} {cells : List ℕ} (g : ReadsForm K n I W m cells 4) {at : ℕ}
-    (a : (ys : Sexps) → cells ≡ encodes ys → at ≡ place ys 2) where
-  pub hyps_high : at ≤ length cells
-  hyps_high = place_high g.holds 2 a
-
-  abbrev pub hyps_given : ReadsItem K n I W m (take (length cells - at) (drop at cells))
-  hyps_given = reads_item g.reads (item_holds g.holds 2 (omega (arith, g.many)) a)
-
-  hyps_starts : Reached I W m g.S (goal a_goal_with g.xs g.S) I W m
-      (then (making (judgments g.S (item g.xs 2)) (with_made g.S (made I W m))) (after_hyps g.xs g.S))
-  hyps_starts =
-      record {
-        makes = start.makes;
-        here = goal_with g.xs g.S ∙ start.here;
-      }
-    where
-      start : Reached I W m g.S (then (making (judgments g.S (item g.xs 2)) g.S) (after_hyps g.xs g.S)) I W m
-          (then (making (judgments g.S (item g.xs 2)) (with_made g.S (made I W m))) (after_hyps g.xs g.S))
-      start = reached_start g.reads.good (reads_ready g.reads) g.store (λ T. then (making (judgments g.S (item g.xs 2)) T) (after_hyps g.xs g.S))
-
-  module _ (J X before out : List ℕ) (r : Answer)
-      (b : (h : ReadsItem K n I W m (take (length cells - at) (drop at cells))) → JudgmentsAs I W J X m (judgments h.S h.x (made I W m)) before out r) where
-    pub hyps_stop : {q d : ℕ} {new : Mark} → r ≡ No q d new → Halts I W J X m g.S (goal a_goal_with g.xs g.S) q d new × (out ≡ before)
-    hyps_stop e =
-        let s = subst (JudgmentsAs I W J X m (judgments g.S (item g.xs 2) (made I W m)) before out) e (b hyps_given) in (
-          reached_stopped (judgments g.S (item g.xs 2)) (after_hyps g.xs g.S) hyps_starts
-              (judgments_keeps g.S (item g.xs 2) (made I W m) (reads_ready g.reads)) s.0,
-          s.1,
-        )
-
-    module _ {many : ℕ} {k : Mark} (e : r ≡ Ok many k) where
-      hyps_read : JudgmentsRead I W J X m (judgments g.S (item g.xs 2) (made I W m)) out many k
-      hyps_read = subst (JudgmentsAs I W J X m (judgments g.S (item g.xs 2) (made I W m)) before out) e (b hyps_given)
-
-      pub hyps_on : Reads K n J X k g.S
-      hyps_on = reads_judgments g.reads (item g.xs 2) hyps_read.went
-
-      hyps_known : Each (sound.Has (made J X k)) hyps_read.trees
-      hyps_known = (grows_ok (judgments_keeps g.S (item g.xs 2) (made I W m) (reads_ready g.reads)) hyps_read.went.makes).1
-
-      hyps_reached : Reached I W m g.S (goal a_goal_with g.xs g.S) J X k (after_hyps g.xs g.S hyps_read.trees (with_made g.S (made J X k)))
-      hyps_reached =
-          reached_went (judgments g.S (item g.xs 2)) (after_hyps g.xs g.S) hyps_starts
-          (judgments_keeps g.S (item g.xs 2) (made I W m) (reads_ready g.reads)) hyps_read.went
-
-      module _ {next : ℕ} (f : (ys : Sexps) → cells ≡ encodes ys → next ≡ place ys 3) where
-        pub last_high : next ≤ length cells
-        last_high = place_high g.holds 3 f
-
-        abbrev pub last_given : ReadsItem K n J X k (take (length cells - next) (drop next cells))
-        last_given = reads_item hyps_on (item_holds g.holds 3 (omega (arith, g.many)) f)
-
-        module _ (Y Z : List ℕ) (s : Answer) (c : (h : ReadsItem K n J X k (take (length cells - next) (drop next cells))) → ReadAs J X Y Z k (judgment h.S h.x (made J X k)) s) where
-          pub last_stops : {q d : ℕ} {new : Mark} → s ≡ No q d new → Halts I W Y Z m g.S (goal a_goal_with g.xs g.S) q d new
-          last_stops q =
-              reached_stopped (judgment g.S (item g.xs 3)) (after_judgment g.xs hyps_read.trees) hyps_reached
-              (judgment_keeps g.S (item g.xs 3) (made J X k) (reads_ready hyps_on))
-              (subst (ReadAs J X Y Z k (judgment g.S (item g.xs 3) (made J X k))) q (c last_given))
-
-          pub parts_read : {j : ℕ} {new : Mark} → s ≡ Ok j new → AimsRead I W Y Z m g.S (goal a_goal_with g.xs g.S) (item g.xs 1) out j many new
-          parts_read {j} {new} q =
-              let read : TermRead J X Y Z k (judgment g.S (item g.xs 3) (made J X k)) j new
-              = subst (ReadAs J X Y Z k (judgment g.S (item g.xs 3) (made J X k))) q (c last_given) in
-              let keeps = judgment_keeps g.S (item g.xs 3) (made J X k) (reads_ready hyps_on) in
-              let o = reached_went (judgment g.S (item g.xs 3)) (after_judgment g.xs hyps_read.trees) hyps_reached keeps read.went in
-              let w : Grows sound (made J X k) (made Y Z new) = (grows_ok keeps read.went.makes).0 in
-              record {
-                makes = o.makes;
-                hyps = hyps_read.trees;
-                is = o.here;
-                there = read.there;
-                known = each_on hyps_read.trees w hyps_known;
-                count = hyps_read.count;
-                cells_are = hyps_read.cells_are ∙ ap (λ (z : List ℕ). filled (length out) z) (sym (numbers_on w hyps_read.trees hyps_known));
-              }
+      pub plain_aimed : (after lists last : List ℕ) (k : Sizes) (p : Result (Unit {0}) Question) → last ≡ lists →
+          ((h : GoalPlace K.text rows n cells) (hs : Trees) (t : Tree) → 0 ≡ count_trees hs →
+          PlacedBy K.text rows after n k j h.S hs t (add_goal (item h.xs 1) hs t h.S) p) →
+          AimedBy K.text rows after lists last n k I W J X m new g.S (goal a_goal g.xs g.S) p
+      plain_aimed after lists last k (Ok u) l c =
+          named_added g (omega arith) plain_named none_count after k (Ok u) c refl lists last (l ∙ no_numbers lists n.entries (made J X new))
+      plain_aimed after lists last k (Err q) l c =
+          let z = named_halts g (omega arith) plain_named none_count after k (Err q) c refl in
+          (z.0, z.1, l, z.2)

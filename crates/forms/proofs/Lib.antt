@@ -6,7 +6,8 @@ pub mod GoalReads
 pub mod GoalRows
 pub mod OwnIndices
 pub mod Resulting
-pub mod Stating
+pub mod RuleHyps
+pub mod Statings
 pub mod Supposing
 pub mod Tails
 pub mod Variables

@@ -1,5 +1,5 @@
 -- What `result` answers, question by question, and what the code finds for it. Assumes nothing.
-use mathlib.Core.Path.{◌≡◌, sym, ap, ◌∙◌, subst}
+use mathlib.Core.Path.{◌≡◌, sym, ap, ◌∙◌}
 use mathlib.Core.Bool.{Bool, true, false, not}
 use Rattle.std.specs.Prelude.{Option, Some as some, None as nothing}
 use mathlib.Core.List.{List}
@@ -30,6 +30,7 @@ use Rattle.sexp.specs.declared.items.Item.{Item}
 use Rattle.sexp.specs.declared.items.Item.TheVariants.{Atom, List as Part}
 use Rattle.terms.specs.declared.store.Mark.{Mark}
 use Rattle.terms.specs.Table.{made, tree}
+use Rattle.terms.specs.On.{Stopped}
 use Rattle.terms.specs.Laws.Growth.{made_length, grown_tree, grown_there}
 use Rattle.terms.specs.Laws.Numbers.{same_number}
 use Rattle.state.specs.declared.sizes.Sizes.{Sizes}
@@ -38,12 +39,10 @@ use Rattle.state.specs.Rows.{cell}
 use Rattle.state.specs.RowCells.{no_goal}
 use Rattle.state.specs.GoalLaws.{GoalRow, goals_long}
 use Rattle.state.specs.FactLaws.{goal_row_of}
-use Rattle.referring.specs.declared.references.Referred.{Referred}
-use Rattle.referring.specs.declared.references.Referred.TheVariants as referred
-use Rattle.referring.specs.Recall.{RefersItem}
-use Rattle.referring.specs.Referral.{rests_on, ref_of, RefRead, ReferredAs}
+use Rattle.referring.specs.Recall.{RefersItem, fact_of}
+use Rattle.referring.specs.Referral.{rests_on, ref_of, RefRead}
 use Rattle.forms.specs.Halted.{Halts}
-use Rattle.forms.specs.Results.{goal_of, Covers, TakesResult, ResultTaken}
+use Rattle.forms.specs.Results.{goal_of, Covers, TakesResult, GoalMet, ResultTaken}
 use Rattle.referring.specs.Laws.Refers.{refers_ready, refers_item}
 use Rattle.forms.specs.Laws.Making.{Reached, reached_start, reached_halts, reached_went, reached_stopped, halts_first, item_holds}
 
@@ -199,20 +198,18 @@ module _ {K : Names} {rows facts lists : List ℕ} {n : Sizes} {I W : List ℕ} 
   abbrev pub ref_given : RefersItem K facts n I W m (take (length cells - at) (drop at cells))
   ref_given = refers_item g.refers (item_holds g.holds 2 (omega (arith, g.many)) c)
 
-  module _ {k : ℕ} (o : Aiming g k) (J X : List ℕ) (s : Referred)
-      (b : (h : RefersItem K facts n I W m (take (length cells - at) (drop at cells))) → ReferredAs I W J X m h.S (reference h.S h.x (made I W m)) s) where
-    pub ref_stops : {q d : ℕ} {new : Mark} → s ≡ referred.No q d new → Halts I W J X m g.S (result g.xs g.S) q d new
-    ref_stops e =
+  module _ {k : ℕ} (o : Aiming g k) {J X : List ℕ} {new : Mark} where
+    pub ref_stops : {q d : ℕ} →
+        ((h : RefersItem K facts n I W m (take (length cells - at) (drop at cells))) → Stopped I W J X m (reference h.S h.x (made I W m)) q d new) →
+        Halts I W J X m g.S (result g.xs g.S) q d new
+    ref_stops b =
         reached_stopped (reference g.S (item g.xs 2)) (after_ref g.xs g.S k (goal_of g.S k)) o.on
-        (reference_keeps g.S (item g.xs 2) (made I W m) (refers_ready g.refers))
-        (subst (ReferredAs I W J X m g.S (reference g.S (item g.xs 2) (made I W m))) e (b ref_given))
+        (reference_keeps g.S (item g.xs 2) (made I W m) (refers_ready g.refers)) (b ref_given)
 
-    module _ {t i : ℕ} {bare : Bool} {new : Mark} (e : s ≡ referred.To t i bare new) where
+    module _ {t i : ℕ} {bare : Bool}
+        (b : (h : RefersItem K facts n I W m (take (length cells - at) (drop at cells))) → RefRead I W J X m h.S (reference h.S h.x (made I W m)) t i bare new) where
       pub ref_read : RefRead I W J X m g.S (reference g.S (item g.xs 2) (made I W m)) t i bare new
-      ref_read = subst (ReferredAs I W J X m g.S (reference g.S (item g.xs 2) (made I W m))) e (b ref_given)
-
-      pub ref_early : i < n.facts
-      ref_early = omega (arith, ref_read.earlier, g.refers.recorded.many)
+      ref_read = b ref_given
 
       -- what `covers` is given
       abbrev pub ref_covers : Covers rows facts lists k i
@@ -228,6 +225,9 @@ module _ {K : Names} {rows facts lists : List ℕ} {n : Sizes} {I W : List ℕ} 
             goal = o.there;
             fact = ref_early;
           }
+        where
+          ref_early : i < n.facts
+          ref_early = omega (arith, ref_read.earlier, g.refers.recorded.many)
 
       reached : Reached I W m g.S (result g.xs g.S) J X new
           (after_ref g.xs g.S k (goal_of g.S k) (ref_of g.S (tree J X new t) i bare) (with_made g.S (made J X new)))
@@ -235,35 +235,61 @@ module _ {K : Names} {rows facts lists : List ℕ} {n : Sizes} {I W : List ℕ} 
           reached_went (reference g.S (item g.xs 2)) (after_ref g.xs g.S k (goal_of g.S k)) o.on
           (reference_keeps g.S (item g.xs 2) (made I W m) (refers_ready g.refers)) ref_read.went
 
-      module _ {y : Bool}
-          (z : (h : Covers rows facts lists k i) → y ≡ all (λ x. listed (goal_of h.S k).hyps (entry h.S.facts x)) (rests_on h.S i bare)) where
+      -- whether the goal lists what the reference rests on
+      abbrev lists_all : List ℕ → Bool
+      lists_all hs = all (λ h. listed (goal_of g.S k).hyps (entry g.S.facts h)) hs
+
+      abbrev pub Listed : Type 0
+      Listed = lists_all (rests_on g.S i bare) ≡ true
+
+      -- an instance rests on nothing
+      pub instance_listed : bare ≡ false → Listed
+      unfolding rests_on all
+      instance_listed e = ap (λ (z : Bool). lists_all (rests_on g.S i z)) e
+
+      module _ (e : bare ≡ true) {y : Bool} (z : (h : Covers rows facts lists k i) → y ≡ all (λ x. listed (goal_of h.S k).hyps (entry h.S.facts x)) (fact_of h.S i).hyps) where
+        bare_listed : lists_all (rests_on g.S i bare) ≡ y
+        unfolding rests_on
+        bare_listed = ap (λ (z : Bool). lists_all (rests_on g.S i z)) e ∙ sym (z ref_covers)
+
+        pub covered : not y ≡ false → Listed
+        covered v = bare_listed ∙ not-false y v
+
         pub not_covered : not y ≡ true → Halts I W J X m g.S (result g.xs g.S) 51 0 new
         not_covered v =
-            reached_halts reached (end_51 k (with_made g.S (made J X new)) (same_tree (tree J X new t) (goal_of g.S k).judgment) (sym (z ref_covers) ∙ not-true y v))
+            reached_halts reached (end_51 k (with_made g.S (made J X new)) (same_tree (tree J X new t) (goal_of g.S k).judgment) (bare_listed ∙ not-true y v))
 
-        module _ (v : not y ≡ false) {j : ℕ} (w : j ≡ cell 6 rows k 2) where
-          old : cell 6 rows k 2 < m.terms
-          old = omega (arith, o.row.judgment.below, made_length I W m)
+      module _ (v : Listed) {j : ℕ} (w : j ≡ cell 6 rows k 2) where
+        old : cell 6 rows k 2 < m.terms
+        old = omega (arith, o.row.judgment.below, made_length I W m)
 
-          goal_tree : (goal_of g.S k).judgment ≡ tree J X new (cell 6 rows k 2)
-          goal_tree = sym (grown_tree ref_read.went.grown (cell 6 rows k 2) old ∙ o.row.judgment.tree)
+        goal_tree : (goal_of g.S k).judgment ≡ tree J X new (cell 6 rows k 2)
+        goal_tree = sym (grown_tree ref_read.went.grown (cell 6 rows k 2) old ∙ o.row.judgment.tree)
 
-          compared : same_tree (tree J X new t) (goal_of g.S k).judgment ≡ eqb t j
-          compared =
-              ap (same_tree (tree J X new t)) goal_tree
-              ∙ same_number ref_read.went.grown.good t (cell 6 rows k 2) ref_read.there (grown_there ref_read.went.grown (cell 6 rows k 2) old)
-              ∙ ap (eqb t) (sym w)
+        compared : same_tree (tree J X new t) (goal_of g.S k).judgment ≡ eqb t j
+        compared =
+            ap (same_tree (tree J X new t)) goal_tree
+            ∙ same_number ref_read.went.grown.good t (cell 6 rows k 2) ref_read.there (grown_there ref_read.went.grown (cell 6 rows k 2) old)
+            ∙ ap (eqb t) (sym w)
 
-          pub other_judgment_lem : (t ≡ j → ⊥) → Halts I W J X m g.S (result g.xs g.S) 52 0 new
-          other_judgment_lem d =
-              reached_halts reached (end_52 k (with_made g.S (made J X new)) (sym (z ref_covers) ∙ not-false y v) (compared ∙ ne_eqb t j d))
+        pub other_judgment_lem : (t ≡ j → ⊥) → Halts I W J X m g.S (result g.xs g.S) 52 0 new
+        other_judgment_lem d = reached_halts reached (end_52 k (with_made g.S (made J X new)) v (compared ∙ ne_eqb t j d))
 
-          pub result_comes : t ≡ j → (after : List ℕ) → after ≡ set rows (6 * k + 5) 1 → ResultTaken rows after n I W J X m g.S (result g.xs g.S) new
-          result_comes d after p =
-              record {
-                makes = reached.makes;
-                k = k;
-                goal = o.there;
-                is = reached.here ∙ end_taken k (with_made g.S (made J X new)) (sym (z ref_covers) ∙ not-false y v) (compared ∙ eq-eqb t j d);
-                rows_are = p;
-              }
+        pub result_comes : t ≡ j → GoalMet n I W J X m g.S (result g.xs g.S) k new
+        result_comes d =
+            record {
+              makes = reached.makes;
+              goal = o.there;
+              is = reached.here ∙ end_taken k (with_made g.S (made J X new)) v (compared ∙ eq-eqb t j d);
+            }
+
+-- The row ---------------------------------------------------------------------------------------------------------------------------
+
+module _ {K : Names} {rows facts lists : List ℕ} {n : Sizes} {I W : List ℕ} {m : Mark} {cells : List ℕ} (g : TakesResult K rows facts lists n I W m cells) {J X : List ℕ} {k : ℕ}
+    {new : Mark} (f : (h : TakesResult K rows facts lists n I W m cells) → GoalMet n I W J X m h.S (result h.xs h.S) k new) where
+  -- what `take_goal` asks
+  pub met_asks : (length rows ≡ 6 * GOALS) × (k < GOALS)
+  met_asks = let z = f g in (goals_long g.held, omega (arith, z.goal, g.held.few))
+
+  pub result_taken : {after : List ℕ} → after ≡ set rows (6 * k + 5) 1 → ResultTaken rows after n I W J X m g.S (result g.xs g.S) new
+  result_taken p = let z = f g in record { makes = z.makes; k = k; goal = z.goal; is = z.is; rows_are = p }

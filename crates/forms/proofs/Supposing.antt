@@ -1,193 +1,116 @@
--- What `add_hyp` and `add_rule_hyp` answer. Assumes nothing.
-use mathlib.Core.Path.{◌≡◌, refl, sym, ap, ◌∙◌, subst}
-use mathlib.Core.Bool.{true, false}
-use mathlib.Core.List.{List, [], ◌++◌}
-use Prim.Native.Nat.{ℕ, ◌+◌, ◌-◌, ◌*◌, ◌≤◌}
+-- What `add_hyp` answers. Assumes nothing.
+use mathlib.Core.Path.{◌≡◌, refl, sym, ◌∙◌, subst}
+use mathlib.Core.List.{List, []}
+use Prim.Native.Nat.{ℕ, ◌+◌, ◌-◌, ◌*◌}
 use native.Mathlib.Omega.{arith}
-use lib.Dec.{ltb}
-use lib.ListN.{length, take, drop, replicate, length-append}
-use lib.Seq.{sets, length-take-le}
-use Rattle.rules.specs.Limits.{VARIABLES, FACTS, ENTRIES}
-use Rattle.rules.specs.Sexp.{Sexps}
-use Rattle.rules.specs.Tree.{none, count_trees}
-use Rattle.rules.specs.Store.{Made}
+use lib.ListN.{length, take, drop}
+use Rattle.std.specs.Prelude.{Result, Ok, Err, MatchResult, IsErrAnd}
+use Rattle.rules.specs.Limits.{FACTS}
+use Rattle.rules.specs.Out.{Out, then}
+use Rattle.rules.specs.Sexp.{Sexps, item}
+use Rattle.rules.specs.Tree.{Tree, Trees, none, count_trees}
 use Rattle.rules.specs.State.{State}
 use Rattle.rules.specs.Read.{judgment}
-use Rattle.rules.specs.Forms.{add_hyp, add_rule_hyp}
+use Rattle.rules.specs.Forms.{with_made, making, add_fact, hypothesis, one_hypothesis, add_hyp}
 use Rattle.rules.specs.StateTables.{numbers}
 use Rattle.rules.specs.Laws.Theory.{empty}
-use Rattle.rules.specs.Laws.Row.{length_filled}
 use Rattle.rules.specs.Laws.Keeping.{Each}
+use Rattle.rules.proofs.Laws.ReadWalk.{judgment_keeps}
 use Rattle.sexp.specs.Encode.{encodes}
 use Rattle.sexp.specs.Items.{place}
 use Rattle.terms.specs.declared.store.Mark.{Mark}
-use Rattle.terms.specs.Table.{made}
+use Rattle.terms.specs.Table.{made, tree}
+use Rattle.terms.specs.On.{Stopped}
 use Rattle.state.specs.declared.sizes.Sizes.{Sizes}
-use Rattle.std.specs.Prelude.{Result, Ok as done, Err as refused}
 use Rattle.questions.specs.declared.Row.{Row}
+use Rattle.questions.specs.declared.Question.{Question}
+use Rattle.questions.specs.declared.Question.TheVariants.{Room}
 use Rattle.questions.specs.Numbers.{row_number}
-use Rattle.state.specs.Held.{Names, Records, records, listed, Recorded}
+use Rattle.state.specs.Held.{Names, Records, records}
 use Rattle.state.specs.Rows.{Putting}
-use Rattle.state.specs.Filled.{filled_front}
-use Rattle.state.specs.Entries.{sets_append}
-use Rattle.state.specs.Numbered.{length_numbers}
-use Rattle.state.specs.Recording.{HypothesisPut}
-use Rattle.state.specs.FactLaws.{length_listed, entries_fit, footings_tabled}
+use Rattle.state.specs.Used.{facts_now}
+use Rattle.state.specs.FactLaws.{lists_long, footings_tabled}
 use Rattle.state.specs.RowTables.{tabled_long}
-use Rattle.reading.specs.declared.apart.Out.{Out as Answer}
-use Rattle.reading.specs.declared.apart.Out.TheVariants.{Ok}
 use Rattle.reading.specs.Given.{ReadsItem}
-use Rattle.reading.specs.Apart.{ReadAs}
-use Rattle.reading.specs.Laws.Lists.{listing_few}
-use Rattle.forms.specs.declared.hypotheses.Stated.{Stated}
-use Rattle.forms.specs.declared.hypotheses.Stated.TheVariants as stated_as
-use Rattle.forms.specs.Halted.{ReadsForm, Halts}
-use Rattle.forms.specs.Assumed.{AddsFact, HypAdded, PartsRead, PartsAs, RulePutAs}
-use Rattle.forms.proofs.Tails.{tailed, tailed_is, tailed_same, tail_long, tail_zero, tail_filled, tail_again, behind_is, behind_low, behind_high}
+use Rattle.reading.specs.Answers.{TermRead}
+use Rattle.reading.specs.Laws.Reading.{reads_ready, reads_item}
+use Rattle.forms.specs.Halted.{Halts}
+use Rattle.forms.specs.Assumed.{AddsFact, HypAdded, HypPutBy, AssumedBy}
+use Rattle.forms.specs.Laws.Making.{Reached, reached_start, reached_went, reached_stopped, item_holds}
 use Rattle.forms.proofs.Assuming.{adding_ok, adding_full, putting}
-use Rattle.forms.proofs.Stating.{form_of, hyp_read, hyp_came}
 
--- The lists ------------------------------------------------------------------------------------------------------------------------------
+-- Behind a judgment --------------------------------------------------------------------------------------------------------------------------
 
-module _ {facts footings lists : List ℕ} {n : Sizes} {M : Made} {S : State} (h : Recorded (records facts footings lists) n M S) where
-  pub lists_long : length lists ≡ ENTRIES
-  lists_long = ap length h.lists ∙ length_filled ENTRIES (listed M S)
+-- what the definition does with a judgment, its premises and its generalised variables
+abbrev pub adds_fact : State → Trees → List ℕ → Tree → State → Out State (Unit {0})
+adds_fact S ps vs j U = add_fact (hypothesis (length S.facts) j ps vs) one_hypothesis U
 
-  pub entries_inside : n.entries ≤ length lists
-  entries_inside = omega (arith, lists_long, entries_fit h)
+hyp_begun : (xs : Sexps) (S : State) → add_hyp xs S ≡ then (making (judgment S (item xs 2)) S) (adds_fact S none [])
+unfolding add_hyp then
+hyp_begun xs S = refl
 
 -- `add_hyp` --------------------------------------------------------------------------------------------------------------------------------
 
 module _ {K : Names} {facts lists : List ℕ} {n : Sizes} {I W : List ℕ} {m : Mark} {cells : List ℕ} (g : AddsFact K facts lists n I W m cells 3) {at : ℕ}
-    (p : (ys : Sexps) → cells ≡ encodes ys → at ≡ place ys 2) (J X : List ℕ) (r : Answer)
-    (f : (k : ReadsItem K n I W m (take (length cells - at) (drop at cells))) → ReadAs I W J X m (judgment k.S k.x (made I W m)) r) {j : ℕ} {new : Mark}
-    (c : r ≡ Ok j new) where
-  pub hyp_asks : Putting (records facts g.footings lists) n j
-  hyp_asks =
-      let t = hyp_read (form_of g) p J X r f c in
-      putting g.refers.recorded (omega (arith, t.there, t.went.grown.good.room)) lists (lists_long g.refers.recorded)
+    (p : (ys : Sexps) → cells ≡ encodes ys → at ≡ place ys 2) where
+  -- what the judgment is read from
+  abbrev pub hyp_item : ReadsItem K n I W m (take (length cells - at) (drop at cells))
+  hyp_item = reads_item g.refers.reads (item_holds g.holds 2 (omega (arith, g.many)) p)
 
-  module _ (Q : Records) (u : Result ℕ Row)
-      (w : (footings : List ℕ) → length footings ≡ 4 * FACTS → HypothesisPut (records facts footings lists) (records Q.facts footings Q.lists) n j 0 0 u) where
-    put_here : HypothesisPut (records facts g.footings lists) (records Q.facts g.footings Q.lists) n j 0 0 u
-    put_here = w g.footings (tabled_long (footings_tabled g.refers.recorded))
+  hyp_starts : Reached I W m g.S (add_hyp g.xs g.S) I W m (then (making (judgment g.S (item g.xs 2)) (with_made g.S (made I W m))) (adds_fact g.S none []))
+  hyp_starts =
+      let z = reached_start g.refers.reads.good (reads_ready g.refers.reads) g.store (λ U. then (making (judgment g.S (item g.xs 2)) U) (adds_fact g.S none [])) in
+      record { makes = z.makes; here = hyp_begun g.xs g.S ∙ z.here }
 
-    pub hyp_added : {e : ℕ} → u ≡ done e →
-        HypAdded (records facts g.footings lists) (records Q.facts g.footings Q.lists) n I W J X m g.S (add_hyp g.xs g.S) e new
-    unfolding Each count_trees numbers
-    hyp_added q =
-        adding_ok g.refers.recorded j none [] (hyp_came (form_of g) p J X r f c) refl refl (hyp_read (form_of g) p J X r f c).there tt empty lists refl
-        (subst (HypothesisPut (records facts g.footings lists) (records Q.facts g.footings Q.lists) n j 0 0) q put_here)
+  module _ {J X : List ℕ} {new : Mark} where
+    pub hyp_no : {q d : ℕ} → ((k : ReadsItem K n I W m (take (length cells - at) (drop at cells))) → Stopped I W J X m (judgment k.S k.x (made I W m)) q d new) →
+        Halts I W J X m g.S (add_hyp g.xs g.S) q d new
+    hyp_no f =
+        reached_stopped (judgment g.S (item g.xs 2)) (adds_fact g.S none []) hyp_starts (judgment_keeps g.S (item g.xs 2) (made I W m) (reads_ready g.refers.reads))
+        (f hyp_item)
 
-    pub hyp_full : {d : Row} → u ≡ refused d →
-        Halts I W J X m g.S (add_hyp g.xs g.S) 60 (row_number d) new × (records Q.facts g.footings Q.lists ≡ records facts g.footings lists)
-    unfolding count_trees
-    hyp_full {d} q =
-        let z : HypothesisPut (records facts g.footings lists) (records Q.facts g.footings Q.lists) n j 0 0 (refused d) =
-        subst (HypothesisPut (records facts g.footings lists) (records Q.facts g.footings Q.lists) n j 0 0) q put_here in
-        (adding_full g.refers.recorded j none [] (hyp_came (form_of g) p J X r f c) refl refl z.1 z.2, z.0)
+    module _ {j : ℕ} (f : (k : ReadsItem K n I W m (take (length cells - at) (drop at cells))) → TermRead I W J X m (judgment k.S k.x (made I W m)) j new) where
+      hyp_read : TermRead I W J X m (judgment g.S (item g.xs 2) (made I W m)) j new
+      hyp_read = f hyp_item
 
--- `add_rule_hyp` ---------------------------------------------------------------------------------------------------------------------------
+      hyp_came : Reached I W m g.S (add_hyp g.xs g.S) J X new (adds_fact g.S none [] (tree J X new j) (with_made g.S (made J X new)))
+      hyp_came =
+          reached_went (judgment g.S (item g.xs 2)) (adds_fact g.S none []) hyp_starts
+          (judgment_keeps g.S (item g.xs 2) (made I W m) (reads_ready g.refers.reads)) hyp_read.went
 
-module _ {K : Names} {facts lists : List ℕ} {n : Sizes} {I W : List ℕ} {m : Mark} {cells : List ℕ} (g : AddsFact K facts lists n I W m cells 5) {from : ℕ}
-    (e : from ≡ elim (ltb n.entries (length lists)) [ true ↦ n.entries + 1 | false ↦ length lists ]) where
-  rec : Recorded (records facts g.footings lists) n (made I W m) g.S
-  rec = g.refers.recorded
+      pub hyp_asks : Putting (records facts g.footings lists) n j
+      hyp_asks = putting g.refers.recorded (omega (arith, hyp_read.there, hyp_read.went.grown.good.room)) lists (lists_long g.refers.recorded)
 
-  few_entries : length (listed (made I W m) g.S) ≤ ENTRIES
-  few_entries = omega (arith, length_listed rec, entries_fit rec)
+      module _ (Q : Records) (k : Sizes) (r : Result (Unit {0}) Row)
+          (w : (footings : List ℕ) → length footings ≡ 4 * FACTS → HypPutBy (records facts footings lists) (records Q.facts footings Q.lists) n k j 0 0 r) where
+        put_here : HypPutBy (records facts g.footings lists) (records Q.facts g.footings Q.lists) n k j 0 0 r
+        put_here = w g.footings (tabled_long (footings_tabled g.refers.recorded))
 
-  from_low : length (listed (made I W m) g.S) ≤ from
-  from_low = omega (arith, length_listed rec, behind_low n.entries (length lists) e (entries_inside rec))
+        pub hyp_added : {u : Unit {0}} → r ≡ Ok u →
+            HypAdded (records facts g.footings lists) (records Q.facts g.footings Q.lists) n I W J X m g.S (add_hyp g.xs g.S) k.entries new
+            × (k ≡ facts_now n (n.facts + 1) k.entries)
+        unfolding Each count_trees numbers
+        hyp_added q =
+            let z = subst (HypPutBy (records facts g.footings lists) (records Q.facts g.footings Q.lists) n k j 0 0) q put_here in
+            (adding_ok g.refers.recorded j none [] hyp_came refl refl hyp_read.there tt empty lists refl z.0, z.1)
 
-  pub from_high : from ≤ length lists
-  from_high = behind_high n.entries (length lists) e (entries_inside rec)
+        pub hyp_full : {d : Row} → r ≡ Err d →
+            Halts I W J X m g.S (add_hyp g.xs g.S) 60 (row_number d) new × (records Q.facts g.footings Q.lists ≡ records facts g.footings lists) × (k ≡ n)
+        unfolding count_trees
+        hyp_full {d} q =
+            let z = subst (HypPutBy (records facts g.footings lists) (records Q.facts g.footings Q.lists) n k j 0 0) q put_here in
+            (adding_full g.refers.recorded j none [] hyp_came refl refl z.0.1 z.0.2, z.0.0, z.1)
 
-  from_most : from ≤ ENTRIES
-  from_most = omega (arith, from_high, lists_long rec)
-
-  pub rule_zero : take (length lists - from) (drop from lists) ≡ replicate (length (take (length lists - from) (drop from lists))) 0
-  rule_zero = tail_zero ENTRIES (listed (made I W m) g.S) rec.lists few_entries from from_low from_most
-
-  module _ (J X out general : List ℕ) (r : Stated) (f : (k : ReadsForm K n I W m cells 5) →
-      PartsAs I W J X m k.S (add_rule_hyp k.xs k.S) (take (length lists - from) (drop from lists)) out general r) where
-    parts_told : PartsAs I W J X m g.S (add_rule_hyp g.xs g.S) (take (length lists - from) (drop from lists)) out general r
-    parts_told = f (form_of g)
-
-    pub parts_no : {q d : ℕ} {new : Mark} → r ≡ stated_as.No q d new →
-        Halts I W J X m g.S (add_rule_hyp g.xs g.S) q d new × (records facts g.footings (tailed lists from out) ≡ records facts g.footings lists)
-    parts_no {q} {d} {new} c =
-        let z : PartsAs I W J X m g.S (add_rule_hyp g.xs g.S) (take (length lists - from) (drop from lists)) out general (stated_as.No q d new) =
-        subst (PartsAs I W J X m g.S (add_rule_hyp g.xs g.S) (take (length lists - from) (drop from lists)) out general) c parts_told in
-        (z.0, ap (records facts g.footings) (tailed_same lists from z.1))
-
-    module _ (k : length out ≡ length (take (length lists - from) (drop from lists))) {j many few : ℕ} {new : Mark} (c : r ≡ stated_as.Ok j many few new) where
-      parts : PartsRead I W J X m g.S (add_rule_hyp g.xs g.S) out general j many few new
-      parts = subst (PartsAs I W J X m g.S (add_rule_hyp g.xs g.S) (take (length lists - from) (drop from lists)) out general) c parts_told
-
-      some_vars : few ≤ VARIABLES
-      some_vars = omega (arith, parts.some_vars, listing_few parts.listed, g.refers.reads.spelling.vars.stand.many, g.refers.reads.spelling.vars.stand.few)
-
-      -- the variables lie in their cells
-      pub parts_inside : few ≤ length general
-      parts_inside = omega (arith, some_vars, ap length parts.vars_are ∙ length_filled VARIABLES parts.vars)
-
-      parts_vars : take few general ≡ parts.vars
-      parts_vars =
-          (λ i. take (parts.some_vars i) (parts.vars_are i)) ∙ filled_front VARIABLES parts.vars (omega (arith, some_vars, parts.some_vars))
-
-      pub tailed_as_long : length (tailed lists from out) ≡ length lists
-      tailed_as_long =
-          let z = tail_long ENTRIES (listed (made I W m) g.S) rec.lists few_entries from from_low from_most in
-          let w : length (take from lists) ≡ from = length_of_front in
-          ap length (tailed_is lists from out) ∙ length-append (take from lists) out
-          ∙ (let y : length (take from lists) + length out ≡ length lists = omega (arith, k, lists_long rec, from_most) in y)
-        where
-          length_of_front : length (take from lists) ≡ from
-          length_of_front = length-take-le from lists from_high
-
-      pub rule_asks : Putting (records facts g.footings (tailed lists from out)) n j
-      rule_asks =
-          putting rec (omega (arith, parts.there, parts.makes.grown.good.room)) (tailed lists from out) (tailed_as_long ∙ lists_long rec)
-
-      module _ (Q : Records) (u : Result ℕ Row) (w : (footings : List ℕ) → length footings ≡ 4 * FACTS →
-          RulePutAs (records facts footings (tailed lists from out)) (records Q.facts footings Q.lists) n j many (take few general) u) where
-        put_there : RulePutAs (records facts g.footings (tailed lists from out)) (records Q.facts g.footings Q.lists) n j many (take few general) u
-        put_there = w g.footings (tabled_long (footings_tabled rec))
-
-        pub rule_added : {end : ℕ} → u ≡ done end →
-            HypAdded (records facts g.footings lists) (records Q.facts g.footings Q.lists) n I W J X m g.S (add_rule_hyp g.xs g.S) end new
-        rule_added {end} q =
-            let M = made J X new in
-            let L = sets (tailed lists from out) (n.entries + 1 + many) (take few general) in
-            let z : HypothesisPut (records facts g.footings L) (records Q.facts g.footings Q.lists) n j many (length (take few general)) (done end) =
-            subst (RulePutAs (records facts g.footings (tailed lists from out)) (records Q.facts g.footings Q.lists) n j many (take few general)) q put_there in
-            let y = subst (λ i. HypothesisPut (records facts g.footings L) (records Q.facts g.footings Q.lists) n j many i (done end))
-            (ap length parts_vars ∙ sym parts.some_vars) z in
-            let room : n.entries + (1 + many + few) ≤ ENTRIES = omega (arith, y.1, y.2) in
-            let start : from ≡ n.entries + 1 = behind_is n.entries (length lists) e (omega (arith, lists_long rec, room)) in
-            let ps = numbers M parts.premises in
-            let count : many ≡ length ps = parts.count ∙ sym (length_numbers M parts.premises) in
-            let filled-up : tailed lists from out ≡ sets lists (n.entries + 1) ps =
-            tail_filled ENTRIES (listed (made I W m) g.S) rec.lists few_entries from from_low from_most ps parts.cells_are k (omega (arith, start, count, room))
-            ∙ ap (λ i. sets lists i ps) start in
-            let behind : L ≡ sets lists (n.entries + 1) (ps ++ parts.vars) =
-            (λ i. sets (filled-up i) (n.entries + 1 + many) (parts_vars i))
-            ∙ sets_append lists ps parts.vars (n.entries + 1) (n.entries + 1 + many) (ap (λ i. n.entries + 1 + i) count) in
-            adding_ok rec j parts.premises parts.vars (record { makes = parts.makes; here = parts.is }) parts.count parts.some_vars parts.there parts.known
-            parts.listed.below L behind y
-
-        pub rule_full : {d : Row} {last : List ℕ} → u ≡ refused d → last ≡ replicate (length (take (length Q.lists - from) (drop from Q.lists))) 0 →
-            Halts I W J X m g.S (add_rule_hyp g.xs g.S) 60 (row_number d) new
-            × (records Q.facts g.footings (tailed Q.lists from last) ≡ records facts g.footings lists)
-        rule_full {d} {last} q v =
-            let z : RulePutAs (records facts g.footings (tailed lists from out)) (records Q.facts g.footings Q.lists) n j many (take few general) (refused d) =
-            subst (RulePutAs (records facts g.footings (tailed lists from out)) (records Q.facts g.footings Q.lists) n j many (take few general)) q put_there in
-            let long : length (take few general) ≡ few = ap length parts_vars ∙ sym parts.some_vars in
-            let same-facts : Q.facts ≡ facts = ap (λ (x : Records). x.facts) z.0 in
-            let same_lists : Q.lists ≡ tailed lists from out = ap (λ (x : Records). x.lists) z.0 in
-            let again = tail_again ENTRIES (listed (made I W m) g.S) rec.lists few_entries from from_low from_most out k same_lists v in (
-              adding_full rec j parts.premises parts.vars (record { makes = parts.makes; here = parts.is }) parts.count parts.some_vars z.1
-                  (λ l. let i = z.2 l in omega (arith, long)),
-              λ i. records (same-facts i) g.footings (again i),
-            )
+        -- s: the same, with the row as the question's
+        pub hyp_answers : (s : Result (Unit {0}) Question) → MatchResult r (λ u. s ≡ Ok u) (λ d. IsErrAnd s (λ q. q ≡ Room d)) →
+            AssumedBy (records facts g.footings lists) (records Q.facts g.footings Q.lists) n k I W J X m new g.S (add_hyp g.xs g.S) s
+        hyp_answers s a = go r s refl a
+          where
+            go : (z : Result (Unit {0}) Row) (s : Result (Unit {0}) Question) → r ≡ z → MatchResult z (λ u. s ≡ Ok u) (λ d. IsErrAnd s (λ q. q ≡ Room d)) →
+                AssumedBy (records facts g.footings lists) (records Q.facts g.footings Q.lists) n k I W J X m new g.S (add_hyp g.xs g.S) s
+            go (Ok u) s e a =
+                subst (AssumedBy (records facts g.footings lists) (records Q.facts g.footings Q.lists) n k I W J X m new g.S (add_hyp g.xs g.S)) (sym a) (hyp_added e)
+            go (Err d) (Err q) e a =
+                subst (λ q. AssumedBy (records facts g.footings lists) (records Q.facts g.footings Q.lists) n k I W J X m new g.S (add_hyp g.xs g.S) (Err q)) (sym a)
+                (hyp_full e)
+            go (Err d) (Ok u) e a = absurd a

@@ -1,7 +1,8 @@
 -- What `add_var` answers, question by question, and what the code finds. Assumes nothing.
 use mathlib.Core.Path.{◌≡◌, refl, sym, ap, ◌∙◌}
 use mathlib.Core.Bool.{Bool, true, false, not, ◌&&◌}
-use Rattle.std.specs.Prelude.{Option, Some as some, None as nothing}
+use Rattle.std.proofs.Math.Bool.{not-not}
+use Rattle.std.specs.Prelude.{Option, Some as some, None as nothing, is_some}
 use mathlib.Core.List.{List, [], ◌∷◌, ◌++◌}
 use Prim.Native.Nat.{ℕ, ◌+◌, ◌-◌, ◌*◌, ◌^◌, ◌<◌, ◌≤◌}
 use native.Mathlib.Omega.{arith}
@@ -44,29 +45,31 @@ pub not_new : {A : Type 0} {a : A} (o : Option A) → o ≡ some a → is_new o 
 unfolding is_new
 not_new o e = ap is_new e
 
-module _ (a b d : Option ℕ) where
-  abbrev unused : Bool
-  unused = is_new a && (is_new b && is_new d)
+-- what `is_none` says of a name that is looked up
+pub none_new : (q : Option ℕ) {o : Option ℕ} {r : Bool} → q ≡ o → is_some q ≡ not r → r ≡ is_new o
+unfolding is_new
+none_new q {o} {r} e f = sym (not-not r) ∙ ap not (sym f) ∙ go q ∙ ap is_new e
+  where
+    go : (q : Option ℕ) → not (is_some q) ≡ is_new q
+    go (some i) = refl
+    go nothing = refl
 
-  pub used_first : (q : Option ℕ) {i : ℕ} → q ≡ a → q ≡ some i → false ≡ unused
-  used_first q {i} e f = sym (ap (λ (z : Bool). z && (is_new b && is_new d)) (not_new a (found_at a q i e f)))
+-- the first two, and the third
+pub both_new : {r x y v : Bool} → r ≡ x → r ≡ true → v ≡ y → v ≡ x && y
+both_new {y = y} e t f = f ∙ ap (λ (w : Bool). w && y) (sym t ∙ e)
 
-  module _ (p : Option ℕ) (e : p ≡ a) (f : p ≡ nothing) where
-    past_first : unused ≡ (is_new b && is_new d)
-    past_first = ap (λ (z : Bool). z && (is_new b && is_new d)) (is_new_lem a (found_missing a p e f))
+pub one_old : {r x v : Bool} (y : Bool) → r ≡ x → r ≡ false → v ≡ r → v ≡ x && y
+one_old y e t f = f ∙ t ∙ ap (λ (w : Bool). w && y) (sym t ∙ e)
 
-    pub used_second : (q : Option ℕ) {i : ℕ} → q ≡ b → q ≡ some i → false ≡ unused
-    used_second q {i} g h = sym (past_first ∙ ap (λ (z : Bool). z && is_new d) (not_new b (found_at b q i g h)))
+together : (x y z : Bool) → (x && y) && z ≡ x && (y && z)
+together true y z = refl
+together false y z = refl
 
-    module _ (q : Option ℕ) (g : q ≡ b) (h : q ≡ nothing) where
-      past_second : unused ≡ is_new d
-      past_second = past_first ∙ ap (λ (z : Bool). z && is_new d) (is_new_lem b (found_missing b q g h))
+pub all_new : {v r : Bool} (x y : Bool) {z : Bool} → v ≡ x && y → v ≡ true → r ≡ z → r ≡ x && (y && z)
+all_new x y {z} e t f = f ∙ ap (λ (w : Bool). w && z) (sym t ∙ e) ∙ together x y z
 
-      pub used_third : (r : Option ℕ) {i : ℕ} → r ≡ d → r ≡ some i → false ≡ unused
-      used_third r {i} k l = sym (past_second ∙ not_new d (found_at d r i k l))
-
-      pub used_nowhere : (r : Option ℕ) → r ≡ d → r ≡ nothing → true ≡ unused
-      used_nowhere r k l = sym (past_second ∙ is_new_lem d (found_missing d r k l))
+pub not_both : {v : Bool} (x y z : Bool) → v ≡ x && y → v ≡ false → v ≡ x && (y && z)
+not_both x y z e f = f ∙ ap (λ (w : Bool). w && z) (sym f ∙ e) ∙ together x y z
 
 -- The definition --------------------------------------------------------------------------------------------------------------------
 

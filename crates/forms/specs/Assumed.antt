@@ -1,29 +1,23 @@
 -- What the forms of hypotheses are given and what they answer, beside what the definition answers: K. Assumes nothing.
 use Rattle.std.specs.Prelude.{◌≡◌, true, false, List, ℕ, ◌+◌, ◌<◌, ◌≤◌, ltb, length, Result, Ok, Err}
 use Rattle.std.proofs.lemmas.List.Edits.{sets}
-use Rattle.rules.specs.Limits.{VARIABLES, FACTS, ENTRIES}
+use Rattle.rules.specs.Limits.{FACTS, ENTRIES}
 use Rattle.rules.specs.Out.{Out, ok}
 use Rattle.rules.specs.Sexp.{Sexps, count}
-use Rattle.rules.specs.Tree.{Trees, count_trees}
 use Rattle.rules.specs.State.{State, Fact}
-use Rattle.rules.specs.Forms.{with_made, add_fact, hypothesis, one_hypothesis, plus}
-use Rattle.rules.specs.TheoryTables.{filled}
-use Rattle.rules.specs.StateTables.{numbers}
-use Rattle.rules.specs.Laws.Keeping.{Each}
-use Rattle.rules.specs.Laws.Sound.{sound}
+use Rattle.rules.specs.Forms.{with_made, one_hypothesis, plus}
 use Rattle.sexp.specs.Items.{Holds}
 use Rattle.terms.specs.declared.store.Mark.{Mark}
-use Rattle.terms.specs.Table.{made, tree}
+use Rattle.terms.specs.Table.{made}
 use Rattle.state.specs.declared.sizes.Sizes.{Sizes}
+use Rattle.questions.specs.declared.Question.{Question}
 use Rattle.questions.specs.declared.Row.{Row}
-use Rattle.questions.specs.Numbers.{row_number}
+use Rattle.questions.specs.Numbers.{row_number, number_of, detail_of}
 use Rattle.state.specs.Held.{Names, Records, records}
+use Rattle.state.specs.Used.{facts_now}
 use Rattle.state.specs.Recording.{Valid, Assumes, HypothesisPut, with_fact}
-use Rattle.reading.specs.Laws.Lists.{Listing}
-use Rattle.forms.specs.declared.hypotheses.Assumed.{Assumed}
-use Rattle.forms.specs.declared.hypotheses.Assumed.TheVariants as assumed_as
-use Rattle.forms.specs.declared.hypotheses.Stated.{Stated}
-use Rattle.forms.specs.declared.hypotheses.Stated.TheVariants as stated_as
+use Rattle.terms.specs.declared.store.Store.{Store}
+use Rattle.state.specs.declared.board.Board.{Board}
 use Rattle.referring.specs.Recall.{Refers}
 use Rattle.forms.specs.Halted.{Makes, Halts}
 
@@ -55,37 +49,37 @@ pub record HypAdded (R Q : Records) (n : Sizes) (I W J X : List ℕ) (old : Mark
   pub valid : Valid (made J X now) (with_fact (with_made S (made J X now)) new (plus S.counts one_hypothesis))
   pub stored : HypothesisPut (records R.facts R.footings behind) Q n judgment premises general (Ok e)
 
--- R, Q: the tables of facts before and afterwards
-abbrev pub AssumedAs : Records → Records → Sizes → List ℕ → List ℕ → List ℕ → List ℕ → Mark → State → Out State (Unit {0}) → Assumed → Type 0
-AssumedAs R Q n I W J X old S K (assumed_as.Ok e now) = HypAdded R Q n I W J X old S K e now
-AssumedAs R Q n I W J X old S K (assumed_as.No q d now) = Halts I W J X old S K q d now × (Q ≡ R)
+-- R, Q: the tables of facts before and afterwards; n, k: what is used then
+abbrev pub AssumedBy : Records → Records → Sizes → Sizes → List ℕ → List ℕ → List ℕ → List ℕ → Mark → Mark → State → Out State (Unit {0}) → Result (Unit {0}) Question → Type 0
+AssumedBy R Q n k I W J X old new S K (Ok u) = HypAdded R Q n I W J X old S K k.entries new × (k ≡ facts_now n (n.facts + 1) k.entries)
+AssumedBy R Q n k I W J X old new S K (Err e) = Halts I W J X old S K (number_of e) (detail_of e) new × (Q ≡ R) × (k ≡ n)
 
--- What is read first ---------------------------------------------------------------------------------------------------------------
-
--- what is stated is read, and K is to add the fact: its judgment by number, its premises' numbers in the cells as far as these go, its variables
-pub record PartsRead (I W J X : List ℕ) (old : Mark) (S : State) (K : Out State (Unit {0})) (cells general : List ℕ) (j many few : ℕ) (now : Mark) : Type 0 where
-  pub makes : Makes I W J X old now
-  pub premises : Trees
-  pub vars : List ℕ
-  pub is : K ≡ add_fact (hypothesis (length S.facts) (tree J X now j) premises vars) one_hypothesis (with_made S (made J X now))
-  pub there : j < now.terms
-  pub known : Each (sound.Has (made J X now)) premises
-  pub count : many ≡ count_trees premises
-  pub cells_are : cells ≡ filled (length cells) (numbers (made J X now) premises)
-  pub listed : Listing (length S.vars) vars
-  pub some_vars : few ≡ length vars
-  pub vars_are : general ≡ filled VARIABLES vars
-
--- before, cells: those of the premises before and afterwards
-abbrev pub PartsAs : List ℕ → List ℕ → List ℕ → List ℕ → Mark → State → Out State (Unit {0}) → List ℕ → List ℕ → List ℕ → Stated → Type 0
-PartsAs I W J X old S K before cells general (stated_as.Ok j many few now) = PartsRead I W J X old S K cells general j many few now
-PartsAs I W J X old S K before cells general (stated_as.No q d now) = Halts I W J X old S K q d now × (cells ≡ before)
+-- whatever the footings are, which no hypothesis changes
+abbrev pub AssumedAs : Board → Board → List ℕ → Store → Store → State → Out State (Unit {0}) → Result (Unit {0}) Question → Type 0
+AssumedAs b c footings s t S K r =
+    AssumedBy (records b.facts.now footings b.lists.now) (records c.facts.now footings c.lists.now) b.n c.n
+    s.index.now s.words.now t.index.now t.words.now s.mark t.mark S K r
 
 -- What is stored last --------------------------------------------------------------------------------------------------------------
 
--- rows 12 and 13 of question 60, with the variables behind the premises where there is room, and the tables as they were where there is none
-abbrev pub RulePutAs : Records → Records → Sizes → ℕ → ℕ → List ℕ → Result ℕ Row → Type 0
-RulePutAs R Q n judgment premises general (Ok e) =
-    HypothesisPut (records R.facts R.footings (sets R.lists (n.entries + 1 + premises) general)) Q n judgment premises (length general) (Ok e)
-RulePutAs R Q n judgment premises general (Err r) =
+-- rows 12 and 13 of question 60, where its premises and generalised variables stand in the lists
+abbrev pub HypPutBy : Records → Records → Sizes → Sizes → ℕ → ℕ → ℕ → Result (Unit {0}) Row → Type 0
+HypPutBy R Q n k judgment premises general (Ok u) = HypothesisPut R Q n judgment premises general (Ok k.entries) × (k ≡ facts_now n (n.facts + 1) k.entries)
+HypPutBy R Q n k judgment premises general (Err e) = HypothesisPut R Q n judgment premises general (Err e) × (k ≡ n)
+
+abbrev pub HypPutAs : Board → Board → List ℕ → ℕ → ℕ → ℕ → Result (Unit {0}) Row → Type 0
+HypPutAs b c footings judgment premises general r =
+    HypPutBy (records b.facts.now footings b.lists.now) (records c.facts.now footings c.lists.now) b.n c.n judgment premises general r
+
+-- with the variables behind the premises where there is room, and the tables as they were where there is none
+abbrev pub RulePutBy : Records → Records → Sizes → Sizes → ℕ → ℕ → List ℕ → Result (Unit {0}) Row → Type 0
+RulePutBy R Q n k judgment premises general (Ok u) =
+    HypothesisPut (records R.facts R.footings (sets R.lists (n.entries + 1 + premises) general)) Q n judgment premises (length general) (Ok k.entries)
+    × (k ≡ facts_now n (n.facts + 1) k.entries)
+RulePutBy R Q n k judgment premises general (Err r) =
     (Q ≡ R) × (row_number r ≡ elim (ltb n.facts FACTS) [ true ↦ 13 | false ↦ 12 ]) × (n.facts < FACTS → ENTRIES < n.entries + (1 + premises + length general))
+    × (k ≡ n)
+
+abbrev pub RulePutAs : Board → Board → List ℕ → ℕ → ℕ → List ℕ → Result (Unit {0}) Row → Type 0
+RulePutAs b c footings judgment premises general r =
+    RulePutBy (records b.facts.now footings b.lists.now) (records c.facts.now footings c.lists.now) b.n c.n judgment premises general r

@@ -15,10 +15,13 @@ use Rattle.terms.specs.declared.store.Mark.{Mark}
 use Rattle.terms.specs.Table.{made}
 use Rattle.state.specs.declared.sizes.Sizes.{Sizes}
 use Rattle.state.specs.Held.{VarsHeld}
+use Rattle.state.specs.Used.{vars_now, defs_now}
 use Rattle.questions.specs.declared.Question.{Question}
 use Rattle.questions.specs.Numbers.{number_of, detail_of}
-use Rattle.forms.specs.declared.declare.Defined.{Defined}
-use Rattle.forms.specs.declared.declare.Defined.TheVariants as defined_as
+use Rattle.terms.specs.declared.store.Store.{Store}
+use Rattle.state.specs.declared.board.Given.{Given}
+use Rattle.state.specs.declared.board.Board.{Board}
+use Rattle.forms.specs.declared.declare.Abbreviation.{Abbreviation}
 use Rattle.forms.specs.Halted.{Makes, Halts}
 
 -- Variables ------------------------------------------------------------------------------------------------------------------------
@@ -47,12 +50,35 @@ pub record VarAdded (text before after : List ℕ) (n : Sizes) (which : ℕ) (S 
   pub ends : end ≡ new.name.start + length new.name.bytes
   pub cells : after ≡ sets before (4 * n.vars) (new.sort ∷ new.text ∷ new.name.start ∷ end ∷ [])
 
--- before, after: the table of variables
-abbrev pub VarAs : List ℕ → List ℕ → List ℕ → Sizes → ℕ → State → Out State (Unit {0}) → Result (Unit {0}) Question → Type 0
-VarAs text before after n which S K (Ok u) = VarAdded text before after n which S K
-VarAs text before after n which S K (Err e) = (K ≡ refuse (number_of e) (detail_of e) S) × (after ≡ before)
+-- before, after: the table of variables; n, k: what is used before and afterwards
+abbrev pub VarBy : List ℕ → List ℕ → List ℕ → Sizes → Sizes → ℕ → State → Out State (Unit {0}) → Result (Unit {0}) Question → Type 0
+VarBy text before after n k which S K (Ok u) = VarAdded text before after n which S K × (k ≡ vars_now n (n.vars + 1))
+VarBy text before after n k which S K (Err e) = (K ≡ refuse (number_of e) (detail_of e) S) × (after ≡ before) × (k ≡ n)
+
+abbrev pub VarAs : Given → Board → Board → ℕ → State → Out State (Unit {0}) → Result (Unit {0}) Question → Type 0
+VarAs g b c which S K r = VarBy g.text.now b.vars.now c.vars.now b.n c.n which S K r
 
 -- Abbreviations --------------------------------------------------------------------------------------------------------------------
+
+-- K is to add an abbreviation, for which there is room: its name stands in the text, and its term is among the trees
+pub record DefNamed (text : List ℕ) (n : Sizes) (I W J X : List ℕ) (old : Mark) (S : State) (K : Out State (Unit {0})) (a : Abbreviation) (now : Mark) : Type 0 where
+  pub makes : Makes I W J X old now
+  pub new : Def
+  pub is : K ≡ ok tt (with_defs (with_made S (made J X now)) (S.defs ++ (new ∷ [])))
+  pub room : n.defs < DEFS
+  pub named : NameIn text new.name
+  pub there : In new.term (made J X now)
+  pub starts : a.start ≡ new.name.start
+  pub ends : a.end ≡ new.name.start + length new.name.bytes
+  pub numbered : a.term ≡ number (made J X now) new.term
+  pub small : a.term < now.terms
+
+abbrev pub NamedBy : List ℕ → Sizes → List ℕ → List ℕ → List ℕ → List ℕ → Mark → Mark → State → Out State (Unit {0}) → Result Abbreviation Question → Type 0
+NamedBy text n I W J X old new S K (Ok a) = DefNamed text n I W J X old S K a new
+NamedBy text n I W J X old new S K (Err e) = Halts I W J X old S K (number_of e) (detail_of e) new
+
+abbrev pub NamedAs : Given → Board → Store → Store → State → Out State (Unit {0}) → Result Abbreviation Question → Type 0
+NamedAs g b s t S K r = NamedBy g.text.now b.n s.index.now s.words.now t.index.now t.words.now s.mark t.mark S K r
 
 -- one abbreviation more, whose name stands in the text, and its term among the trees: its row is in the table
 pub record DefAdded (text before after : List ℕ) (n : Sizes) (I W J X : List ℕ) (old : Mark) (S : State) (K : Out State (Unit {0})) (now : Mark) : Type 0 where
@@ -68,7 +94,11 @@ pub record DefAdded (text before after : List ℕ) (n : Sizes) (I W J X : List �
   pub numbered : term ≡ number (made J X now) new.term
   pub cells : after ≡ sets before (3 * n.defs) (new.name.start ∷ end ∷ term ∷ [])
 
--- before, after: the table of abbreviations
-abbrev pub DefAs : List ℕ → List ℕ → List ℕ → Sizes → List ℕ → List ℕ → List ℕ → List ℕ → Mark → State → Out State (Unit {0}) → Defined → Type 0
-DefAs text before after n I W J X old S K (defined_as.Ok now) = DefAdded text before after n I W J X old S K now
-DefAs text before after n I W J X old S K (defined_as.No q d now) = Halts I W J X old S K q d now × (after ≡ before)
+-- before, after: the table of abbreviations; n, k: what is used before and afterwards
+abbrev pub DefBy : List ℕ → List ℕ → List ℕ → Sizes → Sizes → List ℕ → List ℕ → List ℕ → List ℕ → Mark → Mark → State → Out State (Unit {0}) → Result (Unit {0}) Question → Type 0
+DefBy text before after n k I W J X old new S K (Ok u) = DefAdded text before after n I W J X old S K new × (k ≡ defs_now n (n.defs + 1))
+DefBy text before after n k I W J X old new S K (Err e) = Halts I W J X old S K (number_of e) (detail_of e) new × (after ≡ before) × (k ≡ n)
+
+abbrev pub DefAs : Given → Board → Board → Store → Store → State → Out State (Unit {0}) → Result (Unit {0}) Question → Type 0
+DefAs g b c s t S K r =
+    DefBy g.text.now b.defs.now c.defs.now b.n c.n s.index.now s.words.now t.index.now t.words.now s.mark t.mark S K r

@@ -3,12 +3,11 @@ use Rattle.std.specs.Prelude.{◌≡◌, false, List, [], ◌∷◌, ◌++◌, �
 use Rattle.std.proofs.lemmas.List.Edits.{sets}
 use Rattle.rules.specs.Limits.{LENGTH, GOALS, ENTRIES}
 use Rattle.rules.specs.Out.{Out, ok, refuse}
-use Rattle.rules.specs.Sexp.{Sexp, Sexps, Name, count}
+use Rattle.rules.specs.Sexp.{Sexps, Name, count}
 use Rattle.rules.specs.Tree.{Tree, Trees, count_trees}
 use Rattle.rules.specs.Store.{Made}
 use Rattle.rules.specs.State.{State, Goal, entries}
-use Rattle.rules.specs.Forms.{with_made, with_goals, add_goal}
-use Rattle.rules.specs.TheoryTables.{filled}
+use Rattle.rules.specs.Forms.{with_made, with_goals}
 use Rattle.rules.specs.StateTables.{numbers}
 use Rattle.rules.specs.Laws.Keeping.{Each}
 use Rattle.rules.specs.Laws.Sound.{sound}
@@ -18,11 +17,11 @@ use Rattle.terms.specs.declared.store.Mark.{Mark}
 use Rattle.terms.specs.Table.{made, tree}
 use Rattle.state.specs.declared.sizes.Sizes.{Sizes}
 use Rattle.state.specs.Held.{Names, GoalsHeld}
+use Rattle.state.specs.Used.{goals_now}
 use Rattle.reading.specs.Given.{Reads}
-use Rattle.forms.specs.declared.goals.Aimed.{Aimed}
-use Rattle.forms.specs.declared.goals.Aimed.TheVariants as aimed_as
-use Rattle.forms.specs.declared.goals.Aims.{Aims}
-use Rattle.forms.specs.declared.goals.Aims.TheVariants as aims_as
+use Rattle.terms.specs.declared.store.Store.{Store}
+use Rattle.state.specs.declared.board.Given.{Given}
+use Rattle.state.specs.declared.board.Board.{Board}
 use Rattle.questions.specs.declared.Question.{Question}
 use Rattle.questions.specs.Numbers.{number_of, detail_of}
 use Rattle.forms.specs.Halted.{Makes, Halts}
@@ -71,26 +70,14 @@ pub record GoalPlaced (goals before rows : List ℕ) (n : Sizes) (judgment : ℕ
   pub fits : e ≤ ENTRIES
   pub rows_are : rows ≡ sets before (6 * n.goals) (name.start ∷ end ∷ judgment ∷ n.entries ∷ count_trees hs ∷ 0 ∷ [])
 
--- before, rows: the table of goals before and afterwards
-abbrev pub PlacedAs : List ℕ → List ℕ → List ℕ → Sizes → ℕ → State → Trees → Tree → Out State (Unit {0}) → Result ℕ Question → Type 0
-PlacedAs goals before rows n judgment S hs j K (Ok e) = GoalPlaced goals before rows n judgment S hs j K e
-PlacedAs goals before rows n judgment S hs j K (Err e) = (K ≡ refuse (number_of e) (detail_of e) S) × (rows ≡ before)
+-- before, rows: the table of goals before and afterwards; n, k: what is used before and afterwards
+abbrev pub PlacedBy : List ℕ → List ℕ → List ℕ → Sizes → Sizes → ℕ → State → Trees → Tree → Out State (Unit {0}) → Result (Unit {0}) Question → Type 0
+PlacedBy goals before rows n k judgment S hs j K (Ok u) =
+    GoalPlaced goals before rows n judgment S hs j K k.entries × (k ≡ goals_now n (n.goals + 1) k.entries)
+PlacedBy goals before rows n k judgment S hs j K (Err e) = (K ≡ refuse (number_of e) (detail_of e) S) × (rows ≡ before) × (k ≡ n)
 
--- the hypotheses and the judgment of a goal are read, and K is to add the goal that x names: its judgment by number, its hypotheses' numbers in
--- the cells as far as these go
-pub record AimsRead (I W J X : List ℕ) (old : Mark) (S : State) (K : Out State (Unit {0})) (x : Sexp) (cells : List ℕ) (j many : ℕ) (now : Mark) : Type 0 where
-  pub makes : Makes I W J X old now
-  pub hyps : Trees
-  pub is : K ≡ add_goal x hyps (tree J X now j) (with_made S (made J X now))
-  pub there : j < now.terms
-  pub known : Each (sound.Has (made J X now)) hyps
-  pub count : many ≡ count_trees hyps
-  pub cells_are : cells ≡ filled (length cells) (numbers (made J X now) hyps)
-
--- before, cells: those of the hypotheses before and afterwards
-abbrev pub AimsAs : List ℕ → List ℕ → List ℕ → List ℕ → Mark → State → Out State (Unit {0}) → Sexp → List ℕ → List ℕ → Aims → Type 0
-AimsAs I W J X old S K x before cells (aims_as.Ok j many now) = AimsRead I W J X old S K x cells j many now
-AimsAs I W J X old S K x before cells (aims_as.No q d now) = Halts I W J X old S K q d now × (cells ≡ before)
+abbrev pub PlacedAs : Given → Board → Board → ℕ → State → Trees → Tree → Out State (Unit {0}) → Result (Unit {0}) Question → Type 0
+PlacedAs g b c judgment S hs j K r = PlacedBy g.text.now b.rows.now c.rows.now b.n c.n judgment S hs j K r
 
 -- one goal more, by its row and its entries; the trees made until then stay
 pub record GoalAdded (goals rows' rows lists' lists : List ℕ) (n : Sizes) (I W J X : List ℕ) (old : Mark) (S : State) (K : Out State (Unit {0})) (e : ℕ) (now : Mark) : Type 0 where
@@ -102,7 +89,13 @@ pub record GoalAdded (goals rows' rows lists' lists : List ℕ) (n : Sizes) (I W
   pub placed : GoalPlaced goals rows' rows n judgment (with_made S (made J X now)) hyps (tree J X now judgment) K e
   pub lists_are : lists ≡ sets lists' n.entries (numbers (made J X now) hyps)
 
--- rows', lists' and rows, lists: the tables before and afterwards
-abbrev pub AimedAs : List ℕ → List ℕ → List ℕ → List ℕ → List ℕ → Sizes → List ℕ → List ℕ → List ℕ → List ℕ → Mark → State → Out State (Unit {0}) → Aimed → Type 0
-AimedAs goals rows' rows lists' lists n I W J X old S K (aimed_as.Ok e now) = GoalAdded goals rows' rows lists' lists n I W J X old S K e now
-AimedAs goals rows' rows lists' lists n I W J X old S K (aimed_as.No q d now) = Halts I W J X old S K q d now × (rows ≡ rows') × (lists ≡ lists')
+-- rows', lists' and rows, lists: the tables before and afterwards; n, k: what is used then
+abbrev pub AimedBy : List ℕ → List ℕ → List ℕ → List ℕ → List ℕ → Sizes → Sizes → List ℕ → List ℕ → List ℕ → List ℕ → Mark → Mark → State → Out State (Unit {0}) → Result (Unit {0}) Question → Type 0
+AimedBy goals rows' rows lists' lists n k I W J X old new S K (Ok u) =
+    GoalAdded goals rows' rows lists' lists n I W J X old S K k.entries new × (k ≡ goals_now n (n.goals + 1) k.entries)
+AimedBy goals rows' rows lists' lists n k I W J X old new S K (Err e) =
+    Halts I W J X old S K (number_of e) (detail_of e) new × (rows ≡ rows') × (lists ≡ lists') × (k ≡ n)
+
+abbrev pub AimedAs : Given → Board → Board → Store → Store → State → Out State (Unit {0}) → Result (Unit {0}) Question → Type 0
+AimedAs g b c s t S K r =
+    AimedBy g.text.now b.rows.now c.rows.now b.lists.now c.lists.now b.n c.n s.index.now s.words.now t.index.now t.words.now s.mark t.mark S K r

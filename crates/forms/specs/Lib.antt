@@ -1,4 +1,5 @@
 pub mod Assumed
+pub mod Boards
 pub mod Declares
 pub mod Goals
 pub mod Halted
@@ -6,3 +7,4 @@ pub mod Laws
 pub mod Moved
 pub mod Next
 pub mod Results
+pub mod Stating

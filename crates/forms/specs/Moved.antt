@@ -7,7 +7,13 @@ use Rattle.kernel.specs.Parsed.{TheoryLists}
 use Rattle.terms.specs.declared.store.Mark.{Mark}
 use Rattle.state.specs.declared.sizes.Sizes.{Sizes}
 use Rattle.state.specs.Stands.{Texts, Board, board, Stands}
+use Rattle.questions.specs.declared.Question.{Question}
+use Rattle.questions.specs.Numbers.{number_of, detail_of}
+use Rattle.terms.specs.declared.store.Store.{Store}
+use Rattle.state.specs.declared.board.Given.{Given}
+use Rattle.state.specs.declared.board.Board.{Board as Lent}
 use Rattle.forms.specs.Halted.{Makes}
+use Rattle.forms.specs.Boards.{texts_of, theory_of, tables_of}
 
 -- K answers a state for which the tables stand; c: what is counted then
 pub record Moves (X : Texts) (T : TheoryLists) (B : Board) (n : Sizes) (m : Mark) (K : Out State (Unit {0})) (c : Counts) : Type 0 where
@@ -26,3 +32,13 @@ pub record Left (B D : Board) (m : Mark) (K : Out State (Unit {0})) (q d : ℕ) 
   pub is : K ≡ refuse q d until
   pub makes : Makes B.index B.words D.index D.words m new
   pub rests : D ≡ store_now B D.index D.words
+
+-- As they are lent -----------------------------------------------------------------------------------------------------------------
+
+-- c, t: the tables and the store afterwards
+abbrev pub MovesIn : Given → Lent → Store → Out State (Unit {0}) → Counts → Type 0
+MovesIn g c t K counts = Moves (texts_of g) (theory_of g) (tables_of c t) c.n t.mark K counts
+
+-- b, s: those before; as much of each table is used as before
+abbrev pub LeftIn : Lent → Lent → Store → Store → Out State (Unit {0}) → Question → Type 0
+LeftIn b c s t K q = Left (tables_of b s) (tables_of c t) s.mark K (number_of q) (detail_of q) t.mark × (c.n ≡ b.n)

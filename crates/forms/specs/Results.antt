@@ -1,5 +1,5 @@
 -- What the form of results is given and what it answers, beside what the definition answers: K. Assumes nothing.
-use Rattle.std.specs.Prelude.{◌≡◌, List, ℕ, ◌+◌, ◌*◌, ◌<◌, ◌≤◌, length, get_or, set}
+use Rattle.std.specs.Prelude.{◌≡◌, List, ℕ, ◌+◌, ◌*◌, ◌<◌, ◌≤◌, length, get_or, set, Result, Ok, Err}
 use Rattle.rules.specs.Limits.{TERMWORDS}
 use Rattle.rules.specs.Out.{Out, ok}
 use Rattle.rules.specs.Find.{change}
@@ -14,8 +14,10 @@ use Rattle.terms.specs.Table.{made}
 use Rattle.state.specs.declared.sizes.Sizes.{Sizes}
 use Rattle.state.specs.Held.{Names, GoalsHeld, records, Recorded}
 use Rattle.state.specs.RowCells.{no_goal}
-use Rattle.forms.specs.declared.results.Resulted.{Resulted}
-use Rattle.forms.specs.declared.results.Resulted.TheVariants as resulted_as
+use Rattle.questions.specs.declared.Question.{Question}
+use Rattle.questions.specs.Numbers.{number_of, detail_of}
+use Rattle.terms.specs.declared.store.Store.{Store}
+use Rattle.state.specs.declared.board.Board.{Board}
 use Rattle.referring.specs.Recall.{Refers}
 use Rattle.forms.specs.Halted.{Makes, Halts}
 
@@ -61,6 +63,19 @@ pub record TakesResult (K : Names) (rows facts lists : List ℕ) (n : Sizes) (I 
 
 -- Answers --------------------------------------------------------------------------------------------------------------------------
 
+-- K is to take goal k, whose result has come
+pub record GoalMet (n : Sizes) (I W J X : List ℕ) (old : Mark) (S : State) (K : Out State (Unit {0})) (k : ℕ) (now : Mark) : Type 0 where
+  pub makes : Makes I W J X old now
+  pub goal : k < n.goals
+  pub is : K ≡ ok tt (with_goals (with_made S (made J X now)) (change S.goals k taken_goal))
+
+abbrev pub MetBy : Sizes → List ℕ → List ℕ → List ℕ → List ℕ → Mark → Mark → State → Out State (Unit {0}) → Result ℕ Question → Type 0
+MetBy n I W J X old new S K (Ok k) = GoalMet n I W J X old S K k new
+MetBy n I W J X old new S K (Err e) = Halts I W J X old S K (number_of e) (detail_of e) new
+
+abbrev pub MetAs : Board → Store → Store → State → Out State (Unit {0}) → Result ℕ Question → Type 0
+MetAs b s t S K r = MetBy b.n s.index.now s.words.now t.index.now t.words.now s.mark t.mark S K r
+
 -- goal k's result has come
 pub record ResultTaken (before rows : List ℕ) (n : Sizes) (I W J X : List ℕ) (old : Mark) (S : State) (K : Out State (Unit {0})) (now : Mark) : Type 0 where
   pub makes : Makes I W J X old now
@@ -70,6 +85,9 @@ pub record ResultTaken (before rows : List ℕ) (n : Sizes) (I W J X : List ℕ)
   pub rows_are : rows ≡ set before (6 * k + 5) 1
 
 -- before, rows: the table of goals before and afterwards
-abbrev pub ResultedAs : List ℕ → List ℕ → Sizes → List ℕ → List ℕ → List ℕ → List ℕ → Mark → State → Out State (Unit {0}) → Resulted → Type 0
-ResultedAs before rows n I W J X old S K (resulted_as.Ok now) = ResultTaken before rows n I W J X old S K now
-ResultedAs before rows n I W J X old S K (resulted_as.No q d now) = Halts I W J X old S K q d now × (rows ≡ before)
+abbrev pub ResultedBy : List ℕ → List ℕ → Sizes → List ℕ → List ℕ → List ℕ → List ℕ → Mark → Mark → State → Out State (Unit {0}) → Result (Unit {0}) Question → Type 0
+ResultedBy before rows n I W J X old new S K (Ok u) = ResultTaken before rows n I W J X old S K new
+ResultedBy before rows n I W J X old new S K (Err e) = Halts I W J X old S K (number_of e) (detail_of e) new × (rows ≡ before)
+
+abbrev pub ResultedAs : Board → Board → Store → Store → State → Out State (Unit {0}) → Result (Unit {0}) Question → Type 0
+ResultedAs b c s t S K r = ResultedBy b.rows.now c.rows.now b.n s.index.now s.words.now t.index.now t.words.now s.mark t.mark S K r

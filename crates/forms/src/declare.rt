@@ -6,72 +6,49 @@ ghost use Rattle.rules.specs.State.{State, var_named};
 ghost use Rattle.rules.specs.Forms.{add_var, add_def};
 ghost use Rattle.kernel.specs.Held.{SymbolsHeld};
 ghost use Rattle.kernel.specs.Readers.{NamedSymbols};
-ghost use Rattle.state.specs.Held.{names, VarsHeld};
+ghost use Rattle.terms.specs.Lent.{SameTables};
+ghost use Rattle.state.specs.Held.{VarsHeld};
 ghost use Rattle.state.specs.Rows.{SomeVars};
-ghost use Rattle.forms.specs.Halted.{ReadsForm};
-ghost use Rattle.forms.specs.Declares.{AddsVar, VarAs, DefAs};
+ghost use Rattle.forms.specs.Boards.{AddsVarIn, ReadsFormIn, SameBoard, OnlyVars, OnlyDefs};
+ghost use Rattle.forms.specs.Declares.{VarAs, NamedAs, DefAs};
 
 use kernel::atoms::marked;
 use kernel::readers::{constructor_named, predicate_named, sort_named};
 use questions::{Question, Row};
-use reading::apart::{Typed, term};
+use reading::reader::reader_of;
 use rules::{DEFS, VARIABLES};
 use sexp::items::Item;
 use sexp::{items, lex};
+use state::board::{Board, Given};
 use state::defs::{def_named, put_def};
-use state::sizes::Sizes;
 use state::vars::{put_var, var_named};
-use terms::store::Mark;
-
-// An abbreviation is declared; or a question and its detail. What is used of the store then.
-#[derive(Clone, Copy)]
-pub enum Defined {
-    Ok(Mark),
-    No(usize, usize, Mark),
-}
+use terms::store::Store;
 
 // Whether no constructor, predicate or variable has these bytes for a name.
-fn is_unused(
-    theory: &[u8],
-    goals: &[u8],
-    text: &[u8],
-    symbols: &[u32],
-    vars: &[u32],
-    n: Sizes,
-    name: &[u8],
-) -> bool
-    requires { NamedSymbols theory.now symbols.now n.symbols × SomeVars goals.now text.now vars.now n.vars }
-    ensures { (S : State) (inputs : List ℕ) → SymbolsHeld theory.now symbols.now inputs n.symbols S.theory.symbols →
-        VarsHeld goals.now text.now vars.now n.vars S.vars →
+fn is_unused(given: &Given<'_>, board: &Board<'_>, name: &[u8]) -> bool
+    requires { let g = given.now in let b = board.now in NamedSymbols g.theory.now g.symbols.now b.n.symbols × SomeVars g.goals.now g.text.now b.vars.now b.n.vars }
+    ensures { let g = given.now in let b = board.now in (S : State) (inputs : List ℕ) → SymbolsHeld g.theory.now g.symbols.now inputs b.n.symbols S.theory.symbols →
+        VarsHeld g.goals.now g.text.now b.vars.now b.n.vars S.vars →
         result ≡ is_new (constructor_named S.theory name.now) && (is_new (predicate_named S.theory name.now) && is_new (var_named S.vars name.now)) }
 {
-    let None = constructor_named(theory, symbols, n.symbols, name) else {
-        return false;
-    };
-    let None = predicate_named(theory, symbols, n.symbols, name) else {
-        return false;
-    };
-    let None = var_named(goals, text, vars, n.vars, name) else {
-        return false;
-    };
-    true
+    let n = board.n;
+    constructor_named(given.theory, given.symbols, n.symbols, name).is_none()
+        && predicate_named(given.theory, given.symbols, n.symbols, name).is_none()
+        && var_named(given.goals, given.text, board.vars, n.vars, name).is_none()
 }
 
 // `(var NAME SORT)`, by the items of the form; `which` is the text of its name, 2 for the goals and 3 for the proof.
 pub fn add_var(
-    theory: &[u8],
-    goals: &[u8],
-    text: &[u8],
-    sorts: &[u32],
-    symbols: &[u32],
-    vars: &mut [u32],
-    n: Sizes,
+    given: &Given<'_>,
+    board: &mut Board<'_>,
     which: usize,
     cells: &[u32],
 ) -> Result<(), Question>
-    requires { AddsVar theory.now goals.now text.now sorts.now symbols.now vars.old n which cells.now }
-    ensures { (g : AddsVar theory.now goals.now text.now sorts.now symbols.now vars.old n which cells.now) →
-        VarAs text.now vars.old vars.new n which g.S (add_var which g.xs g.S) result }
+    requires { AddsVarIn given.now board.old which cells.now }
+    ensures same_board { SameBoard board.old board.new }
+    ensures only { OnlyVars board.old board.new }
+    ensures var_as { (g : AddsVarIn given.now board.old which cells.now) →
+        VarAs given.now board.old board.new which g.S (add_var which g.xs g.S) result }
 {
     let Item::Atom(start) = items::nth(cells, 1) else {
         return Err(Question::Variable);
@@ -79,79 +56,84 @@ pub fn add_var(
     let Item::Atom(from) = items::nth(cells, 2) else {
         return Err(Question::Variable);
     };
+    let text = given.text;
     let last = lex::atom_end(text, from);
-    let Some(sort) = sort_named(theory, sorts, n.sorts, &text[from..last]) else {
+    let Some(sort) = sort_named(given.theory, given.sorts, board.n.sorts, &text[from..last]) else {
         return Err(Question::Variable);
     };
     if marked(text, start) {
         return Err(Question::Variable);
     }
     let end = lex::atom_end(text, start);
-    if !is_unused(theory, goals, text, symbols, vars, n, &text[start..end]) {
+    if !is_unused(given, board, &text[start..end]) {
         return Err(Question::Variable);
     }
-    if n.vars >= VARIABLES {
+    if board.n.vars >= VARIABLES {
         return Err(Question::Room(Row::Variables));
     }
-    put_var(vars, n.vars, sort, which, start, end);
+    put_var(board.vars, board.n.vars, sort, which, start, end);
+    board.n.vars += 1;
     Ok(())
 }
 
-// `(def ?NAME TERM)`, by the items of the form. The name is compared behind the term.
-pub fn add_def(
-    theory: &[u8],
-    goals: &[u8],
-    text: &[u8],
-    symbols: &[u32],
-    inputs: &[u32],
-    vars: &[u32],
-    defs: &mut [u32],
-    n: Sizes,
-    index: &mut [u32],
-    words: &mut [u32],
-    mark: Mark,
+// An abbreviation by its row: where its name stands in the text, and the number of its term.
+#[derive(Clone, Copy, Debug, PartialEq, Eq)]
+pub struct Abbreviation {
+    pub start: usize,
+    pub end: usize,
+    pub term: usize,
+}
+
+// What `(def ?NAME TERM)` abbreviates, by the items of the form, and that there is room for it. The name is compared behind the term.
+fn new_def(
+    given: &Given<'_>,
+    board: &Board<'_>,
+    store: &mut Store<'_>,
     cells: &[u32],
-) -> Defined
-    requires { ReadsForm (names theory.now goals.now text.now symbols.now inputs.now vars.now defs.old) n index.old words.old mark cells.now 3 }
-    ensures { (g : ReadsForm (names theory.now goals.now text.now symbols.now inputs.now vars.now defs.old) n index.old words.old mark cells.now 3) →
-        DefAs text.now defs.old defs.new n index.old words.old index.new words.new mark g.S (add_def g.xs g.S) result }
+) -> Result<Abbreviation, Question>
+    requires { ReadsFormIn given.now board.now store.old cells.now 3 }
+    ensures same_tables { SameTables store.old store.new }
+    ensures named_as { (g : ReadsFormIn given.now board.now store.old cells.now 3) →
+        NamedAs given.now board.now store.old store.new g.S (add_def g.xs g.S) result }
 {
     let Item::Atom(start) = items::nth(cells, 1) else {
-        return Defined::No(33, 0, mark);
+        return Err(Question::Defined);
     };
+    let text = given.text;
     if !marked(text, start) {
-        return Defined::No(33, 0, mark);
+        return Err(Question::Defined);
     }
     let end = lex::atom_end(text, start);
     if end < start + 2 {
-        return Defined::No(33, 0, mark);
+        return Err(Question::Defined);
     }
     let at = items::place(cells, 2);
-    match term(
-        theory,
-        goals,
-        text,
-        symbols,
-        inputs,
-        vars,
-        defs,
-        n,
-        index,
-        words,
-        mark,
-        &cells[at..],
-        0,
-    ) {
-        Typed::Term(t, _, new) => {
-            let None = def_named(text, defs, n.defs, &text[start..end]) else {
-                return Defined::No(33, 0, new);
-            };
-            if n.defs >= DEFS {
-                return Defined::No(60, 10, new);
-            }
-            put_def(defs, n.defs, start, end, t);
-            Defined::Ok(new)
-        }
-        Typed::No(q, d, new) => Defined::No(q, d, new),
+    let typed = reader_of(given, board).term(store, &cells[at..], 0)?;
+    let None = def_named(text, board.defs, board.n.defs, &text[start..end]) else {
+        return Err(Question::Defined);
+    };
+    if board.n.defs >= DEFS {
+        return Err(Question::Room(Row::Abbreviations));
     }
+    let term = typed.term;
+    Ok(Abbreviation { start, end, term })
+}
+
+// `(def ?NAME TERM)`, by the items of the form.
+pub fn add_def(
+    given: &Given<'_>,
+    board: &mut Board<'_>,
+    store: &mut Store<'_>,
+    cells: &[u32],
+) -> Result<(), Question>
+    requires { ReadsFormIn given.now board.old store.old cells.now 3 }
+    ensures same_board { SameBoard board.old board.new × SameTables store.old store.new }
+    ensures only { OnlyDefs board.old board.new }
+    ensures def_as { (g : ReadsFormIn given.now board.old store.old cells.now 3) →
+        DefAs given.now board.old board.new store.old store.new g.S (add_def g.xs g.S) result }
+{
+    let new = new_def(given, board, store, cells)?;
+    put_def(board.defs, board.n.defs, new.start, new.end, new.term);
+    board.n.defs += 1;
+    Ok(())
 }

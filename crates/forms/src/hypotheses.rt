@@ -1,172 +1,97 @@
 // `(hyp N JUDGMENT)` and `(hyp N (PREMISE...) JUDGMENT (VAR...))`: facts that are assumed, each resting on itself.
-ghost use Rattle.std.specs.Prelude.{◌≡◌, true, false, List, ℕ, ◌+◌, ◌*◌, ◌≤◌, ltb, length, replicate};
+ghost use Rattle.std.specs.Prelude.{◌≡◌, true, false, List, ℕ, ◌+◌, ◌*◌, ◌^◌, ◌<◌, ◌≤◌, ltb, length, replicate};
 ghost use Rattle.rules.specs.Limits.{VARIABLES, FACTS};
+ghost use Rattle.rules.specs.Sexp.{item, count};
 ghost use Rattle.rules.specs.Forms.{add_hyp, add_rule_hyp};
-ghost use Rattle.state.specs.Held.{names, records};
+ghost use Rattle.terms.specs.Lent.{SameTables};
+ghost use Rattle.state.specs.Held.{records};
 ghost use Rattle.state.specs.Rows.{Putting};
-ghost use Rattle.forms.specs.Halted.{ReadsForm};
-ghost use Rattle.forms.specs.Assumed.{AddsFact, AssumedAs, PartsAs, RulePutAs};
+ghost use Rattle.reading.specs.Given.{VarsItems};
+ghost use Rattle.reading.specs.Answers.{VarsAs};
+ghost use Rattle.forms.specs.Boards.{AddsFactIn, SameBoard, OnlyHyps};
+ghost use Rattle.forms.specs.Assumed.{AssumedAs, HypPutAs, RulePutAs};
 
+use crate::stating::read_stated;
 use cells::{clear, write};
-use questions::Row;
-use reading::apart::{Out, judgment, judgments, vars_list};
+use questions::{Question, Row};
+use reading::reader::reader_of;
 use rules::{ENTRIES, FACTS, VARIABLES};
 use sexp::items;
+use state::board::{Board, Given};
 use state::facts::put_hypothesis;
-use state::sizes::Sizes;
-use terms::store::Mark;
+use terms::store::Store;
 
-// A hypothesis is there, and so many entries of the lists are used; or a question and its detail. What is used of the store then.
-#[derive(Clone, Copy)]
-pub enum Assumed {
-    Ok(usize, Mark),
-    No(usize, usize, Mark),
-}
-
-// What a hypothesis states: its judgment, the number of its premises, that of its generalised variables; or a question and its detail. What is used of
-// the store then.
-#[derive(Clone, Copy)]
-pub enum Stated {
-    Ok(usize, usize, usize, Mark),
-    No(usize, usize, Mark),
+// A hypothesis behind the others; its premises and generalised variables stand behind its own entry already, as far as there is room.
+fn put_behind(
+    board: &mut Board<'_>,
+    judgment: usize,
+    premises: usize,
+    general: usize,
+) -> Result<(), Row>
+    requires { ((footings : List ℕ) × Putting (records board.old.facts.now footings board.old.lists.now) board.old.n judgment) × (premises + general < 2 ^ 32) }
+    ensures same_board { SameBoard board.old board.new }
+    ensures only { OnlyHyps board.old board.new }
+    ensures put_as { (footings : List ℕ) → length footings ≡ 4 * FACTS → HypPutAs board.old board.new footings judgment premises general result }
+{
+    let n = board.n;
+    let entries = put_hypothesis(board.facts, board.lists, n, judgment, premises, general)?;
+    board.n.facts += 1;
+    board.n.entries = entries;
+    Ok(())
 }
 
 // `(hyp N JUDGMENT)`, by the items of the form.
 pub fn add_hyp(
-    theory: &[u8],
-    goals: &[u8],
-    text: &[u8],
-    symbols: &[u32],
-    inputs: &[u32],
-    vars: &[u32],
-    defs: &[u32],
-    facts: &mut [u32],
-    lists: &mut [u32],
-    n: Sizes,
-    index: &mut [u32],
-    words: &mut [u32],
-    mark: Mark,
+    given: &Given<'_>,
+    board: &mut Board<'_>,
+    store: &mut Store<'_>,
     cells: &[u32],
-) -> Assumed
-    requires { AddsFact (names theory.now goals.now text.now symbols.now inputs.now vars.now defs.now) facts.old lists.old n index.old words.old mark cells.now 3 }
-    ensures { (g : AddsFact (names theory.now goals.now text.now symbols.now inputs.now vars.now defs.now) facts.old lists.old n index.old words.old mark cells.now 3) →
-        AssumedAs (records facts.old g.footings lists.old) (records facts.new g.footings lists.new) n index.old words.old index.new words.new mark g.S (add_hyp g.xs g.S) result }
+) -> Result<(), Question>
+    requires { AddsFactIn given.now board.old store.old cells.now 3 }
+    ensures same_board { SameBoard board.old board.new × SameTables store.old store.new }
+    ensures only { OnlyHyps board.old board.new }
+    ensures assumed_as { (g : AddsFactIn given.now board.old store.old cells.now 3) →
+        AssumedAs board.old board.new g.footings store.old store.new g.S (add_hyp g.xs g.S) result }
 {
     let at = items::place(cells, 2);
-    match judgment(
-        theory,
-        goals,
-        text,
-        symbols,
-        inputs,
-        vars,
-        defs,
-        n,
-        index,
-        words,
-        mark,
-        &cells[at..],
-    ) {
-        Out::Ok(j, new) => match put_hypothesis(facts, lists, n, j, 0, 0) {
-            Ok(e) => Assumed::Ok(e, new),
-            Err(row) => Assumed::No(60, row.number(), new),
-        },
-        Out::No(q, d, new) => Assumed::No(q, d, new),
-    }
+    let given = *given;
+    let judgment = reader_of(&given, board).judgment(store, &cells[at..])?;
+    put_behind(board, judgment, 0, 0).map_err(Question::Room)
 }
 
-// The premises, the judgment and the generalised variables that the items of a form state. The premises' numbers come into the cells `out` as far as
-// there are any, the variables into `general`; both are zero before, and `out` is again where a question is left.
-fn rule_parts(
-    theory: &[u8],
-    goals: &[u8],
-    text: &[u8],
-    symbols: &[u32],
-    inputs: &[u32],
-    vars: &[u32],
-    defs: &[u32],
-    n: Sizes,
-    index: &mut [u32],
-    words: &mut [u32],
-    mark: Mark,
+// The generalised variables, which item 4 of the form lists, come into the cells, which are zero before; how many they are.
+fn general_vars(
+    given: &Given<'_>,
+    board: &Board<'_>,
     cells: &[u32],
-    out: &mut [u32],
     general: &mut [u32],
-) -> Stated
-    requires reads_form { ReadsForm (names theory.now goals.now text.now symbols.now inputs.now vars.now defs.now) n index.old words.old mark cells.now 5 }
-    requires out_value { (out.old ≡ replicate (length out.old) 0) × (general.old ≡ replicate VARIABLES 0) }
-    ensures { (g : ReadsForm (names theory.now goals.now text.now symbols.now inputs.now vars.now defs.now) n index.old words.old mark cells.now 5) →
-        PartsAs index.old words.old index.new words.new mark g.S (add_rule_hyp g.xs g.S) out.old out.new general.new result }
+) -> Option<usize>
+    requires items { let b = board.now in (g : VarsItems given.now.goals.now given.now.text.now b.vars.now b.n.vars cells.now) × (5 ≤ count g.xs) }
+    requires zero { general.old ≡ replicate VARIABLES 0 }
+    ensures { let b = board.now in (g : VarsItems given.now.goals.now given.now.text.now b.vars.now b.n.vars cells.now) → 5 ≤ count g.xs →
+        VarsAs g.S.vars (item g.xs 4) general.old general.new result }
 {
-    let at = items::place(cells, 2);
-    match judgments(
-        theory,
-        goals,
-        text,
-        symbols,
-        inputs,
-        vars,
-        defs,
-        n,
-        index,
-        words,
-        mark,
-        &cells[at..],
-        out,
-    ) {
-        Out::Ok(many, m) => {
-            let next = items::place(cells, 3);
-            match judgment(
-                theory,
-                goals,
-                text,
-                symbols,
-                inputs,
-                vars,
-                defs,
-                n,
-                index,
-                words,
-                m,
-                &cells[next..],
-            ) {
-                Out::Ok(j, new) => {
-                    let last = items::place(cells, 4);
-                    let Some(k) = vars_list(goals, text, vars, n.vars, &cells[last..], general)
-                    else {
-                        clear(out);
-                        return Stated::No(36, 0, new);
-                    };
-                    Stated::Ok(j, many, k, new)
-                }
-                Out::No(q, d, new) => {
-                    clear(out);
-                    Stated::No(q, d, new)
-                }
-            }
-        }
-        Out::No(q, d, m) => Stated::No(q, d, m),
-    }
+    let at = items::place(cells, 4);
+    reader_of(given, board).vars_list(&cells[at..], general)
 }
 
 // A hypothesis behind the others; so many premises stand behind its own entry already, as far as there is room, and the generalised variables come
 // behind these.
 fn put_rule(
-    facts: &mut [u32],
-    lists: &mut [u32],
-    n: Sizes,
+    board: &mut Board<'_>,
     judgment: usize,
     premises: usize,
     general: &[u32],
-) -> Result<usize, Row>
-    requires { (footings : List ℕ) × Putting (records facts.old footings lists.old) n judgment }
-    ensures { (footings : List ℕ) → length footings ≡ 4 * FACTS →
-        RulePutAs (records facts.old footings lists.old) (records facts.new footings lists.new) n judgment premises general.now result }
+) -> Result<(), Row>
+    requires { (footings : List ℕ) × Putting (records board.old.facts.now footings board.old.lists.now) board.old.n judgment }
+    ensures same_board { SameBoard board.old board.new }
+    ensures only { OnlyHyps board.old board.new }
+    ensures put_as { (footings : List ℕ) → length footings ≡ 4 * FACTS → RulePutAs board.old board.new footings judgment premises general.now result }
 {
-    if n.facts >= FACTS {
+    if board.n.facts >= FACTS {
         return Err(Row::Facts);
     }
-    let own = n.entries;
+    let own = board.n.entries;
     if own >= ENTRIES {
         return Err(Row::Entries);
     }
@@ -180,8 +105,8 @@ fn put_rule(
         return Err(Row::Entries);
     }
     let at = from + premises;
-    write(&mut lists[at..], general);
-    put_hypothesis(facts, lists, n, judgment, premises, many)
+    write(&mut board.lists[at..], general);
+    put_behind(board, judgment, premises, many)
 }
 
 // The place behind the entry of one more fact, or that behind all entries.
@@ -197,52 +122,33 @@ fn behind_own(used: usize, all: usize) -> usize
 
 // `(hyp N (PREMISE...) JUDGMENT (VAR...))`, by the items of the form.
 pub fn add_rule_hyp(
-    theory: &[u8],
-    goals: &[u8],
-    text: &[u8],
-    symbols: &[u32],
-    inputs: &[u32],
-    vars: &[u32],
-    defs: &[u32],
-    facts: &mut [u32],
-    lists: &mut [u32],
-    n: Sizes,
-    index: &mut [u32],
-    words: &mut [u32],
-    mark: Mark,
+    given: &Given<'_>,
+    board: &mut Board<'_>,
+    store: &mut Store<'_>,
     cells: &[u32],
-) -> Assumed
-    requires { AddsFact (names theory.now goals.now text.now symbols.now inputs.now vars.now defs.now) facts.old lists.old n index.old words.old mark cells.now 5 }
-    ensures { (g : AddsFact (names theory.now goals.now text.now symbols.now inputs.now vars.now defs.now) facts.old lists.old n index.old words.old mark cells.now 5) →
-        AssumedAs (records facts.old g.footings lists.old) (records facts.new g.footings lists.new) n index.old words.old index.new words.new mark g.S (add_rule_hyp g.xs g.S) result }
+) -> Result<(), Question>
+    requires { AddsFactIn given.now board.old store.old cells.now 5 }
+    ensures same_board { SameBoard board.old board.new × SameTables store.old store.new }
+    ensures only { OnlyHyps board.old board.new }
+    ensures assumed_as { (g : AddsFactIn given.now board.old store.old cells.now 5) →
+        AssumedAs board.old board.new g.footings store.old store.new g.S (add_rule_hyp g.xs g.S) result }
 {
+    let n = board.n;
+    let vars = &mut *board.vars;
+    let defs = &mut *board.defs;
+    let lists = &mut *board.lists;
     let from = behind_own(n.entries, lists.len());
+    let stated = read_stated(given, vars, defs, n, store, cells, &mut lists[from..])?;
     let mut general = [0u32; VARIABLES];
-    match rule_parts(
-        theory,
-        goals,
-        text,
-        symbols,
-        inputs,
-        vars,
-        defs,
-        n,
-        index,
-        words,
-        mark,
-        cells,
-        &mut lists[from..],
-        &mut general,
-    ) {
-        Stated::Ok(j, many, k, new) => {
-            match put_rule(facts, lists, n, j, many, &general[..k]) {
-                Ok(e) => Assumed::Ok(e, new),
-                Err(row) => {
-                    clear(&mut lists[from..]);
-                    Assumed::No(60, row.number(), new)
-                }
-            }
+    let Some(many) = general_vars(given, board, cells, &mut general) else {
+        clear(&mut board.lists[from..]);
+        return Err(Question::Binding);
+    };
+    match put_rule(board, stated.judgment, stated.listed, &general[..many]) {
+        Ok(()) => Ok(()),
+        Err(row) => {
+            clear(&mut board.lists[from..]);
+            Err(Question::Room(row))
         }
-        Stated::No(q, d, new) => Assumed::No(q, d, new),
     }
 }

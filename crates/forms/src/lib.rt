@@ -7,3 +7,4 @@ pub mod goals;
 pub mod hypotheses;
 pub mod next;
 pub mod results;
+mod stating;

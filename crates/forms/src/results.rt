@@ -1,34 +1,30 @@
 // `(result NAME REF)`: questions 50 to 52. A goal's result has come.
 ghost use Rattle.std.specs.Prelude.{◌≡◌, ◌&&◌, ◌*◌, ◌<◌, length, replicate};
-ghost use Rattle.rules.specs.Limits.{VARIABLES, TERMS, FACTS};
+ghost use Rattle.rules.specs.Limits.{TERMS, FACTS};
 ghost use Rattle.rules.specs.Find.{entry, all, has};
 ghost use Rattle.rules.specs.Tree.{Trees};
 ghost use Rattle.rules.specs.Forms.{listed, result as result_of};
 ghost use Rattle.rules.specs.StateTables.{numbers};
 ghost use Rattle.rules.specs.Laws.Keeping.{Each};
 ghost use Rattle.rules.specs.Laws.Sound.{sound};
+ghost use Rattle.terms.specs.Lent.{SameTables};
 ghost use Rattle.terms.specs.Sets.{holds};
-ghost use Rattle.state.specs.Held.{names};
 ghost use Rattle.state.specs.Rows.{cell, plain_row};
-ghost use Rattle.referring.specs.Referral.{rests_on};
-ghost use Rattle.forms.specs.Results.{goal_of, ListsHyps, Covers, TakesResult, ResultedAs};
+ghost use Rattle.referring.specs.Recall.{fact_of};
+ghost use Rattle.forms.specs.Boards.{TakesResultIn, SameBoard, OnlyRows};
+ghost use Rattle.forms.specs.Results.{goal_of, ListsHyps, Covers, MetAs, ResultedAs};
 
-use referring::references::{Referred, insert_all, reference};
+use questions::Question;
+use referring::references::insert_all;
+use referring::source::source_of;
 use rules::TERMWORDS;
 use sexp::items::Item;
 use sexp::{items, lex};
+use state::board::{Board, Given};
 use state::facts::{hyps as hyps_of, is_plain, judgment};
 use state::goals::{goal_hyps, goal_judgment, goal_named, is_taken, take_goal};
-use state::sizes::Sizes;
 use terms::sets::has;
-use terms::store::Mark;
-
-// A goal's result has come; or a question and its detail. What is used of the store then.
-#[derive(Clone, Copy)]
-pub enum Resulted {
-    Ok(Mark),
-    No(usize, usize, Mark),
-}
+use terms::store::Store;
 
 // Whether fact h is a plain hypothesis, with a judgment of the set.
 fn is_listed(facts: &[u32], h: usize, terms: &[u64]) -> bool
@@ -52,90 +48,77 @@ fn all_listed(facts: &[u32], hyps: &[u32], terms: &[u64]) -> bool
     true
 }
 
-// Question 51: whether goal k lists each hypothesis of a reference to fact i.
-fn covers(rows: &[u32], facts: &[u32], lists: &[u32], k: usize, i: usize, bare: bool) -> bool
-    requires { Covers rows.now facts.now lists.now k i }
-    ensures { ((g : Covers rows.now facts.now lists.now k i) →
-        result ≡ all (λ h. listed (goal_of g.S k).hyps (entry g.S.facts h)) (rests_on g.S i bare)) }
+// Question 51: whether goal k lists each hypothesis of fact i, on which a reference rests that names it bare.
+fn covers(board: &Board<'_>, k: usize, i: usize) -> bool
+    requires { let b = board.now in Covers b.rows.now b.facts.now b.lists.now k i }
+    ensures { let b = board.now in (g : Covers b.rows.now b.facts.now b.lists.now k i) →
+        result ≡ all (λ h. listed (goal_of g.S k).hyps (entry g.S.facts h)) (fact_of g.S i).hyps }
 {
-    if !bare {
-        return true;
-    }
     let mut terms = [0u64; TERMWORDS];
-    let aims = goal_hyps(rows, k);
+    let aims = goal_hyps(board.rows, k);
     let first = aims.from;
     let last = aims.end;
-    insert_all(&lists[first..last], &mut terms);
-    let own = hyps_of(facts, i);
+    insert_all(&board.lists[first..last], &mut terms);
+    let own = hyps_of(board.facts, i);
     let from = own.from;
     let end = own.end;
-    all_listed(facts, &lists[from..end], &terms)
+    all_listed(board.facts, &board.lists[from..end], &terms)
 }
 
-// `(result NAME REF)`, by the items of the form. `map` and `memo` are scratch: zero before and after.
-pub fn result(
-    theory: &[u8],
-    goals: &[u8],
-    text: &[u8],
-    symbols: &[u32],
-    inputs: &[u32],
-    vars: &[u32],
-    defs: &[u32],
-    rows: &mut [u32],
-    facts: &[u32],
-    lists: &[u32],
-    n: Sizes,
-    index: &mut [u32],
-    words: &mut [u32],
-    mark: Mark,
+// The goal whose result has come, by the items of the form. `memo` is scratch: zero before and after.
+fn met(
+    given: &Given<'_>,
+    board: &Board<'_>,
+    store: &mut Store<'_>,
     cells: &[u32],
-    map: &mut [u32],
     memo: &mut [u32],
-) -> Resulted
-    requires takes_result { TakesResult (names theory.now goals.now text.now symbols.now inputs.now vars.now defs.now) rows.old facts.now lists.now n index.old words.old mark cells.now }
-    requires map_value { (map.old ≡ replicate VARIABLES 0) × (memo.old ≡ replicate TERMS 0) }
-    ensures fact { ((g : TakesResult (names theory.now goals.now text.now symbols.now inputs.now vars.now defs.now) rows.old facts.now lists.now n index.old words.old mark cells.now) →
-        ResultedAs rows.old rows.new n index.old words.old index.new words.new mark g.S (result_of g.xs g.S) result) }
-    ensures fact_2 { (map.new ≡ map.old) × (memo.new ≡ memo.old) }
+) -> Result<usize, Question>
+    requires takes_result { TakesResultIn given.now board.now store.old cells.now }
+    requires memo_value { memo.old ≡ replicate TERMS 0 }
+    ensures same_tables { SameTables store.old store.new }
+    ensures met_as { (g : TakesResultIn given.now board.now store.old cells.now) →
+        MetAs board.now store.old store.new g.S (result_of g.xs g.S) result }
+    ensures memo_unchanged { memo.new ≡ memo.old }
 {
     let Item::Atom(start) = items::nth(cells, 1) else {
-        return Resulted::No(50, 0, mark);
+        return Err(Question::ResultName);
     };
+    let text = given.text;
     let end = lex::atom_end(text, start);
-    let Some(k) = goal_named(goals, rows, n.goals, &text[start..end]) else {
-        return Resulted::No(50, 0, mark);
+    let Some(k) = goal_named(given.goals, board.rows, board.n.goals, &text[start..end]) else {
+        return Err(Question::ResultName);
     };
-    if is_taken(rows, k) {
-        return Resulted::No(50, 0, mark);
+    if is_taken(board.rows, k) {
+        return Err(Question::ResultName);
     }
     let at = items::place(cells, 2);
-    match reference(
-        theory,
-        goals,
-        text,
-        symbols,
-        inputs,
-        vars,
-        defs,
-        facts,
-        n,
-        index,
-        words,
-        mark,
-        &cells[at..],
-        map,
-        memo,
-    ) {
-        Referred::To(t, i, bare, new) => {
-            if !covers(rows, facts, lists, k, i, bare) {
-                return Resulted::No(51, 0, new);
-            }
-            if t != goal_judgment(rows, k) {
-                return Resulted::No(52, 0, new);
-            }
-            take_goal(rows, k);
-            Resulted::Ok(new)
-        }
-        Referred::No(q, d, new) => Resulted::No(q, d, new),
+    let found = source_of(given, board).reference(store, &cells[at..], memo)?;
+    if found.bare && !covers(board, k, found.fact) {
+        return Err(Question::ResultHypotheses);
     }
+    if found.judgment != goal_judgment(board.rows, k) {
+        return Err(Question::ResultJudgment);
+    }
+    Ok(k)
+}
+
+// `(result NAME REF)`, by the items of the form. `memo` is scratch: zero before and after.
+pub fn result(
+    given: &Given<'_>,
+    board: &mut Board<'_>,
+    store: &mut Store<'_>,
+    cells: &[u32],
+    memo: &mut [u32],
+) -> Result<(), Question>
+    requires takes_result { TakesResultIn given.now board.old store.old cells.now }
+    requires memo_value { memo.old ≡ replicate TERMS 0 }
+    ensures same_board { SameBoard board.old board.new × SameTables store.old store.new }
+    ensures only { OnlyRows board.old board.new × (board.new.n ≡ board.old.n) }
+    ensures resulted_as { (g : TakesResultIn given.now board.old store.old cells.now) →
+        ResultedAs board.old board.new store.old store.new g.S (result_of g.xs g.S) result }
+    ensures memo_unchanged { memo.new ≡ memo.old }
+{
+    let k = met(given, board, store, cells, memo)?;
+    take_goal(board.rows, k);
+    Ok(())
 }

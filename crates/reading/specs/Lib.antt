@@ -5,3 +5,4 @@ pub mod Heads
 pub mod Laws
 pub mod Reader
 pub mod Apart
+pub mod Tested

@@ -1,6 +1,6 @@
 -- From the answers of `add_hyp` and `add_rule_hyp` to all tables at once: K is what the definition answers, `add_hyp` or `add_rule_hyp`. Assumes nothing.
-use Rattle.std.specs.Prelude.{◌≡◌, refl, List, ℕ, ◌+◌, ◌≤◌, Ok}
-use Rattle.std.proofs.Common.{ap, subst}
+use Rattle.std.specs.Prelude.{◌≡◌, refl, List, ℕ, ◌≤◌, Result, Ok, Err}
+use Rattle.std.proofs.Common.{sym, subst}
 use Rattle.rules.specs.Out.{Out}
 use Rattle.rules.specs.Sexp.{Sexps, count}
 use Rattle.rules.specs.State.{State}
@@ -10,16 +10,17 @@ use Rattle.kernel.specs.Parsed.{TheoryLists}
 use Rattle.terms.specs.declared.store.Mark.{Mark}
 use Rattle.terms.specs.Table.{made}
 use Rattle.state.specs.declared.sizes.Sizes.{Sizes}
-use Rattle.state.specs.Held.{names, Records, records}
-use Rattle.state.specs.Used.{facts_now}
+use Rattle.state.specs.Held.{names, records}
 use Rattle.state.specs.Recording.{with_fact}
 use Rattle.state.specs.Stands.{Texts, Board, board, Stands}
 use Rattle.state.specs.Updates.{stands_hypothesis}
-use Rattle.forms.specs.declared.hypotheses.Assumed.{Assumed}
-use Rattle.forms.specs.declared.hypotheses.Assumed.TheVariants as assumed_as
-use Rattle.forms.specs.Halted.{Halts}
+use Rattle.questions.specs.declared.Question.{Question}
+use Rattle.terms.specs.declared.store.Store.{Store}
+use Rattle.state.specs.declared.board.Given.{Given}
+use Rattle.state.specs.declared.board.Board.{Board as Lent}
+use Rattle.forms.specs.Boards.{StandsIn, OnlyHyps, texts_of, theory_of, records_of}
 use Rattle.forms.specs.Assumed.{AddsFact, HypAdded, AssumedAs}
-use Rattle.forms.specs.Moved.{Moves, Left}
+use Rattle.forms.specs.Moved.{MovesIn, LeftIn}
 use Rattle.forms.specs.Laws.Leaving.{stands_makes}
 
 module _ {X : Texts} {T : TheoryLists} {B : Board} {n : Sizes} {m : Mark} {S : State} (h : Stands X T B n m S) where
@@ -37,24 +38,31 @@ module _ {X : Texts} {T : TheoryLists} {B : Board} {n : Sizes} {m : Mark} {S : S
         many = l;
       }
 
-  module _ (K : Out State (Unit {0})) (facts lists J Y : List ℕ) (r : Assumed)
-      (a : AssumedAs (records B.facts B.footings B.lists) (records facts B.footings lists) n B.index B.words J Y m S K r) where
-    abbrev Said : Assumed → Type 0
-    Said z = AssumedAs (records B.facts B.footings B.lists) (records facts B.footings lists) n B.index B.words J Y m S K z
+module _ (g : Given) (b c : Lent) (s t : Store) {S : State} (h : StandsIn g b s S) (K : Out State (Unit {0})) (r : Result (Unit {0}) Question)
+    (o : OnlyHyps b c) (a : AssumedAs b c b.footings.now s t S K r) where
+  pub assumed_taken : {u : Unit {0}} → r ≡ Ok u → MovesIn g c t K (plus S.counts one_hypothesis)
+  assumed_taken {u} e =
+      let z : AssumedAs b c b.footings.now s t S K (Ok u) = subst (AssumedAs b c b.footings.now s t S K) e a in
+      let y : HypAdded (records_of b) (records c.facts.now b.footings.now c.lists.now) b.n s.index.now s.words.now t.index.now t.words.now s.mark S K
+      c.n.entries t.mark = z.0 in
+      let T = with_fact (with_made S (made t.index.now t.words.now t.mark)) y.new (plus S.counts one_hypothesis) in
+      record {
+        after = T;
+        is = y.is;
+        stands = subst (λ (x : Board × Sizes). Stands (texts_of g) (theory_of g) x.0 x.1 t.mark T)
+            (λ i. (board (sym o.0 i) t.index.now t.words.now (sym o.1 i) (sym o.2 i) c.facts.now (sym o.3 i) c.lists.now, sym z.1 i))
+            (stands_hypothesis (stands_makes h y.makes) (plus S.counts one_hypothesis) c.n.entries y.assumes y.valid (Ok c.n.entries) y.stored refl);
+        counted = refl;
+      }
 
-    pub assumed_taken : {e : ℕ} {now : Mark} → r ≡ assumed_as.Ok e now →
-        Moves X T (board B.vars J Y B.defs B.goals facts B.footings lists) (facts_now n (n.facts + 1) e) now K (plus S.counts one_hypothesis)
-    assumed_taken {e} {now} c =
-        let z : HypAdded (records B.facts B.footings B.lists) (records facts B.footings lists) n B.index B.words J Y m S K e now = subst Said c a in
+  pub assumed_left : {q : Question} → r ≡ Err q → LeftIn b c s t K q
+  assumed_left {q} e =
+      let z : AssumedAs b c b.footings.now s t S K (Err q) = subst (AssumedAs b c b.footings.now s t S K) e a in (
         record {
-          after = with_fact (with_made S (made J Y now)) z.new (plus S.counts one_hypothesis);
-          is = z.is;
-          stands = stands_hypothesis (stands_makes h z.makes) (plus S.counts one_hypothesis) e z.assumes z.valid (Ok e) z.stored refl;
-          counted = refl;
-        }
-
-    pub assumed_left : {q d : ℕ} {now : Mark} → r ≡ assumed_as.No q d now →
-        Left B (board B.vars J Y B.defs B.goals facts B.footings lists) m K q d now
-    assumed_left {q} {d} {now} c =
-        let z : Halts B.index B.words J Y m S K q d now × (records facts B.footings lists ≡ records B.facts B.footings B.lists) = subst Said c a in
-        record { until = _; is = z.0.is; makes = z.0.makes; rests = ap (λ (x : Records). board B.vars J Y B.defs B.goals x.facts B.footings x.lists) z.1 }
+          until = _;
+          is = z.0.is;
+          makes = z.0.makes;
+          rests = λ i. board (o.0 i) t.index.now t.words.now (o.1 i) (o.2 i) ((z.1 i).facts) (o.3 i) ((z.1 i).lists);
+        },
+        z.2,
+      )

@@ -1,6 +1,6 @@
 -- A goal more, from all tables to all tables: what `add_goal` and `add_goal_with` answer, where the tables stand for a state without facts.
 -- Assumes nothing.
-use Rattle.std.specs.Prelude.{◌≡◌, refl, List, [], ◌∷◌, ◌++◌, ℕ, ◌+◌, ◌-◌, ◌≤◌, length, drop, replicate}
+use Rattle.std.specs.Prelude.{◌≡◌, refl, List, [], ◌∷◌, ◌++◌, ℕ, ◌-◌, ◌≤◌, length, drop, replicate, Result, Ok, Err}
 use Rattle.std.proofs.Common.{sym, ap, ◌∙◌, subst, arith}
 use Rattle.rules.specs.Limits.{ENTRIES}
 use Rattle.rules.specs.Out.{Out}
@@ -12,21 +12,23 @@ use Rattle.rules.specs.Laws.Sound.{sound, stored_in}
 use Rattle.rules.specs.Laws.Row.{filled_fits}
 use Rattle.kernel.specs.Parsed.{TheoryLists}
 use Rattle.sexp.specs.Items.{Holds}
+use Rattle.sexp.specs.NameRows.{NameIn}
 use Rattle.terms.specs.declared.store.Mark.{Mark}
 use Rattle.terms.specs.Table.{made, tree}
 use Rattle.terms.specs.Laws.Numbers.{tree_number, tree_stored}
 use Rattle.state.specs.declared.sizes.Sizes.{Sizes}
-use Rattle.state.specs.Used.{goals_now}
 use Rattle.state.specs.Held.{names, listed}
 use Rattle.state.specs.FactLaws.{length_listed, entries_fit, lists_long}
 use Rattle.state.specs.Numbered.{in_sound}
 use Rattle.state.specs.Stands.{texts, Board, board, Stands}
 use Rattle.state.specs.Updates.{stands_goal}
-use Rattle.forms.specs.declared.goals.Aimed.{Aimed}
-use Rattle.forms.specs.declared.goals.Aimed.TheVariants as aimed_as
+use Rattle.questions.specs.declared.Question.{Question}
+use Rattle.terms.specs.declared.store.Store.{Store}
+use Rattle.state.specs.declared.board.Given.{Given}
+use Rattle.state.specs.declared.board.Board.{Board as Lent}
+use Rattle.forms.specs.Boards.{StandsIn, OnlyGoals, texts_of, theory_of}
 use Rattle.forms.specs.Goals.{AddsGoal, new_goal, GoalAdded, AimedAs}
-use Rattle.forms.specs.Halted.{Halts}
-use Rattle.forms.specs.Moved.{Moves, Left}
+use Rattle.forms.specs.Moved.{MovesIn, LeftIn}
 use Rattle.forms.specs.Laws.Leaving.{stands_makes}
 
 drop_front : (xs ys : List ℕ) (k : ℕ) → k ≡ length xs → drop k (xs ++ ys) ≡ ys
@@ -62,34 +64,40 @@ module _ {theory goals : List ℕ} {T : TheoryLists} {B : Board} {n : Sizes} {m 
         ∙ ap (λ (k : ℕ). replicate (ENTRIES - k) 0) (length_listed h.recorded),
   )
 
-  -- K: what the definition answers, with the store's tables, that of goals and that of entries afterwards
-  module _ (K : Out State (Unit {0})) (J Y rows lists : List ℕ) (r : Aimed)
-      (a : AimedAs goals B.goals rows B.lists lists n B.index B.words J Y m S K r) where
-    abbrev Said : Aimed → Type 0
-    Said z = AimedAs goals B.goals rows B.lists lists n B.index B.words J Y m S K z
+-- the text that is read is that of the goals; K: what the definition answers
+module _ (g : Given) (b c : Lent) (s t : Store) {S : State} (h : StandsIn g b s S) (same : g.text.now ≡ g.goals.now) (K : Out State (Unit {0}))
+    (r : Result (Unit {0}) Question) (o : OnlyGoals b c) (a : AimedAs g b c s t S K r) where
+  -- one goal more, where nothing was proved yet
+  pub goal_taken : {u : Unit {0}} → r ≡ Ok u → S.facts ≡ [] → MovesIn g c t K S.counts
+  goal_taken {u} e none =
+      let z : AimedAs g b c s t S K (Ok u) = subst (AimedAs g b c s t S K) e a in
+      let y : GoalAdded g.text.now b.rows.now c.rows.now b.lists.now c.lists.now b.n s.index.now s.words.now t.index.now t.words.now s.mark S K
+      c.n.entries t.mark = z.0 in
+      let M = made t.index.now t.words.now t.mark in
+      let p = y.placed in
+      let j = tree t.index.now t.words.now t.mark y.judgment in
+      let goal = new_goal p.name j y.hyps in
+      let T = with_goals (with_made S M) (S.goals ++ (goal ∷ [])) in
+      let known : sound.Has M j = in_sound M j (stored_in M j (tree_stored y.makes.grown.good y.judgment y.there)) in
+      record {
+        after = T;
+        is = p.is;
+        stands = subst (λ (x : Board × Sizes). Stands (texts_of g) (theory_of g) x.0 x.1 t.mark T)
+            (λ i. (board (sym o.0 i) t.index.now t.words.now (sym o.1 i) (sym p.rows_are i) (sym o.2 i) (sym o.3 i) (sym y.lists_are i), sym z.1 i))
+            (stands_goal (stands_makes h y.makes) goal p.end y.judgment (count_trees y.hyps) c.n.entries none p.room
+            (subst (λ l. NameIn l p.name) same p.named) p.ends
+            (sym (tree_number y.makes.grown.good y.judgment y.there)) refl refl (record { judgment = known; hyps = y.known }) p.used p.fits);
+        counted = refl;
+      }
 
-    -- one goal more, where nothing was proved yet
-    pub goal_taken : {e : ℕ} {new : Mark} → r ≡ aimed_as.Ok e new → S.facts ≡ [] →
-        Moves (texts theory goals goals) T (board B.vars J Y B.defs rows B.facts B.footings lists) (goals_now n (n.goals + 1) e) new K S.counts
-    goal_taken {e} {new} q z =
-        let b : GoalAdded goals B.goals rows B.lists lists n B.index B.words J Y m S K e new = subst Said q a in
-        let p = b.placed in
-        let g = new_goal p.name (tree J Y new b.judgment) b.hyps in
-        let known : sound.Has (made J Y new) (tree J Y new b.judgment)
-        = in_sound (made J Y new) (tree J Y new b.judgment)
-        (stored_in (made J Y new) (tree J Y new b.judgment) (tree_stored b.makes.grown.good b.judgment b.there)) in
-        let s = stands_goal (stands_makes h b.makes) g p.end b.judgment (count_trees b.hyps) e z p.room p.named p.ends
-        (sym (tree_number b.makes.grown.good b.judgment b.there)) refl refl (record { judgment = known; hyps = b.known }) p.used p.fits in
+  pub goal_left : {q : Question} → r ≡ Err q → LeftIn b c s t K q
+  goal_left {q} e =
+      let z : AimedAs g b c s t S K (Err q) = subst (AimedAs g b c s t S K) e a in (
         record {
-          after = with_goals (with_made S (made J Y new)) (S.goals ++ (g ∷ []));
-          is = p.is;
-          stands = subst (λ (x : Board). Stands (texts theory goals goals) T x (goals_now n (n.goals + 1) e) new (with_goals (with_made S (made J Y new)) (S.goals ++ (g ∷ []))))
-              (λ i. board B.vars J Y B.defs (sym p.rows_are i) B.facts B.footings (sym b.lists_are i)) s;
-          counted = refl;
-        }
-
-    pub goal_left : {q d : ℕ} {new : Mark} → r ≡ aimed_as.No q d new →
-        Left B (board B.vars J Y B.defs rows B.facts B.footings lists) m K q d new
-    goal_left {q} {d} {new} e =
-        let z : Halts B.index B.words J Y m S K q d new × (rows ≡ B.goals) × (lists ≡ B.lists) = subst Said e a in
-        record { until = _; is = z.0.is; makes = z.0.makes; rests = λ i. board B.vars J Y B.defs (z.1 i) B.facts B.footings (z.2 i) }
+          until = _;
+          is = z.0.is;
+          makes = z.0.makes;
+          rests = λ i. board (o.0 i) t.index.now t.words.now (o.1 i) (z.1 i) (o.2 i) (o.3 i) (z.2 i);
+        },
+        z.3,
+      )

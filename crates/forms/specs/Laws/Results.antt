@@ -1,6 +1,6 @@
 -- A result that has come, from all tables to all tables: what `result` answers, where the tables stand for a state. Assumes nothing.
-use Rattle.std.specs.Prelude.{◌≡◌, refl, List, ℕ, ◌≤◌}
-use Rattle.std.proofs.Common.{sym, ap, subst}
+use Rattle.std.specs.Prelude.{◌≡◌, refl, List, ℕ, ◌≤◌, Result, Ok, Err}
+use Rattle.std.proofs.Common.{sym, subst}
 use Rattle.rules.specs.Out.{Out}
 use Rattle.rules.specs.Find.{change}
 use Rattle.rules.specs.Sexp.{Sexps, count}
@@ -14,11 +14,13 @@ use Rattle.state.specs.declared.sizes.Sizes.{Sizes}
 use Rattle.state.specs.Held.{names}
 use Rattle.state.specs.Stands.{Texts, Board, board, Stands}
 use Rattle.state.specs.Updates.{stands_taken}
-use Rattle.forms.specs.declared.results.Resulted.{Resulted}
-use Rattle.forms.specs.declared.results.Resulted.TheVariants as resulted_as
+use Rattle.questions.specs.declared.Question.{Question}
+use Rattle.terms.specs.declared.store.Store.{Store}
+use Rattle.state.specs.declared.board.Given.{Given}
+use Rattle.state.specs.declared.board.Board.{Board as Lent}
+use Rattle.forms.specs.Boards.{StandsIn, OnlyRows, texts_of, theory_of}
 use Rattle.forms.specs.Results.{TakesResult, ResultTaken, ResultedAs}
-use Rattle.forms.specs.Halted.{Halts}
-use Rattle.forms.specs.Moved.{Moves, Left}
+use Rattle.forms.specs.Moved.{MovesIn, LeftIn}
 use Rattle.forms.specs.Laws.Leaving.{stands_makes}
 
 module _ {X : Texts} {T : TheoryLists} {B : Board} {n : Sizes} {m : Mark} {S : State} (h : Stands X T B n m S) where
@@ -37,25 +39,30 @@ module _ {X : Texts} {T : TheoryLists} {B : Board} {n : Sizes} {m : Mark} {S : S
         many = l;
       }
 
-  -- K: what the definition answers, with the store's tables and that of goals afterwards
-  module _ (K : Out State (Unit {0})) (J Y rows : List ℕ) (r : Resulted) (a : ResultedAs B.goals rows n B.index B.words J Y m S K r) where
-    abbrev Said : Resulted → Type 0
-    Said z = ResultedAs B.goals rows n B.index B.words J Y m S K z
+module _ (g : Given) (b c : Lent) (s t : Store) {S : State} (h : StandsIn g b s S) (K : Out State (Unit {0})) (r : Result (Unit {0}) Question)
+    (o : OnlyRows b c) (n : c.n ≡ b.n) (a : ResultedAs b c s t S K r) where
+  pub result_taken : {u : Unit {0}} → r ≡ Ok u → MovesIn g c t K S.counts
+  result_taken {u} e =
+      let z : ResultedAs b c s t S K (Ok u) = subst (ResultedAs b c s t S K) e a in
+      let y : ResultTaken b.rows.now c.rows.now b.n s.index.now s.words.now t.index.now t.words.now s.mark S K t.mark = z in
+      let T = with_goals (with_made S (made t.index.now t.words.now t.mark)) (change S.goals y.k taken_goal) in
+      record {
+        after = T;
+        is = y.is;
+        stands = subst (λ (x : Board × Sizes). Stands (texts_of g) (theory_of g) x.0 x.1 t.mark T)
+            (λ i. (board (sym o.0 i) t.index.now t.words.now (sym o.1 i) (sym y.rows_are i) (sym o.2 i) (sym o.3 i) (sym o.4 i), sym n i))
+            (stands_taken (stands_makes h y.makes) y.k y.goal);
+        counted = refl;
+      }
 
-    pub result_taken : {new : Mark} → r ≡ resulted_as.Ok new →
-        Moves X T (board B.vars J Y B.defs rows B.facts B.footings B.lists) n new K S.counts
-    result_taken {new} e =
-        let s : ResultTaken B.goals rows n B.index B.words J Y m S K new = subst Said e a in
+  pub result_left : {q : Question} → r ≡ Err q → LeftIn b c s t K q
+  result_left {q} e =
+      let z : ResultedAs b c s t S K (Err q) = subst (ResultedAs b c s t S K) e a in (
         record {
-          after = with_goals (with_made S (made J Y new)) (change S.goals s.k taken_goal);
-          is = s.is;
-          stands = subst (λ (z : List ℕ). Stands X T (board B.vars J Y B.defs z B.facts B.footings B.lists) n new
-              (with_goals (with_made S (made J Y new)) (change S.goals s.k taken_goal))) (sym s.rows_are) (stands_taken (stands_makes h s.makes) s.k s.goal);
-          counted = refl;
-        }
-
-    pub result_left : {q d : ℕ} {new : Mark} → r ≡ resulted_as.No q d new →
-        Left B (board B.vars J Y B.defs rows B.facts B.footings B.lists) m K q d new
-    result_left {q} {d} {new} e =
-        let z : Halts B.index B.words J Y m S K q d new × (rows ≡ B.goals) = subst Said e a in
-        record { until = _; is = z.0.is; makes = z.0.makes; rests = ap (λ l. board B.vars J Y B.defs l B.facts B.footings B.lists) z.1 }
+          until = _;
+          is = z.0.is;
+          makes = z.0.makes;
+          rests = λ i. board (o.0 i) t.index.now t.words.now (o.1 i) (z.1 i) (o.2 i) (o.3 i) (o.4 i);
+        },
+        n,
+      )

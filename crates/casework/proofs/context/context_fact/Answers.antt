@@ -2,12 +2,8 @@ use mathlib.Core.Path.{sym, ◌∙◌}
 use lib.ListN.{length}
 use borrow.Author.Tests.{eqb-true}
 use Rattle.std.proofs.lemmas.Result.{err_from_is_err_and}
-use Rattle.casework.specs.Laws.Rows.{recalled}
 use Rattle.casework.proofs.Clear.{unbound_theta, general_there, context_bare, context_other, context_stop, given_cells}
 use Rattle.casework.proofs.context.context_fact.Goals as goal
-
-pub general_of-variables-requires : goal.general_of-variables-requires
-general_of-variables-requires c = recalled c.requires.0.recalls c.requires.1
 
 pub returns-in_err-context_under-clause-context_as : goal.returns-in_err-context_under-clause-context_as
 returns-in_err-context_under-clause-context_as c = λ g.

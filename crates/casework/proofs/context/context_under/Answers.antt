@@ -2,12 +2,8 @@ use mathlib.Core.Path.{sym, ap, ◌∙◌}
 use native.Mathlib.Omega.{arith}
 use lib.ListN.{length}
 use Rattle.referring.specs.Laws.Fronts.{front_room, front_count, back_room, back_count, front_cleared}
-use Rattle.casework.specs.Laws.Rows.{recalled}
 use Rattle.casework.proofs.Under.{premises_few}
 use Rattle.casework.proofs.context.context_under.Goals as goal
-
-pub premises_of-many-requires : goal.premises_of-many-requires
-premises_of-many-requires c = recalled c.requires.0.recalls c.requires.1
 
 pub slice_bounds-fact_under-end : goal.slice_bounds-fact_under-end
 slice_bounds-fact_under-end c = front_room 40960 c.requires.2 _ (omega (arith, premises_few c.requires.0 c.requires.1 c.premises_of-many.ensures))

@@ -2,12 +2,9 @@ use mathlib.Core.Path.{◌∙◌}
 use Rattle.std.proofs.lemmas.Result.{err_from_is_err_and}
 use Rattle.referring.specs.Laws.Refers.{fact_asks}
 use Rattle.referring.specs.Laws.Substitutes.{replaceable_now, memo_asked, under_went, under_there, under_stopped}
-use Rattle.casework.specs.Laws.Rows.{recalled, general_is}
+use Rattle.casework.specs.Laws.Rows.{general_is}
 use Rattle.casework.proofs.Under.{premises_stop, judgment_stop, under_read, compared, under_asks, judgment_small}
 use Rattle.casework.proofs.context.fact_under.Goals as goal
-
-pub premises_of-requires : goal.premises_of-requires
-premises_of-requires c = recalled c.requires.0.recalls c.requires.1
 
 pub substitute_all-requires : goal.substitute_all-requires
 substitute_all-requires c = rw c.premises_of.ensures (under_asks c.requires.0 c.requires.1 c.requires.2)
@@ -34,9 +31,6 @@ returns-in_err-judgment-clause-under_as c = λ g.
     let r = rw c.premises_of.ensures at c.in_ok-substitute_all.ensures.replaced_as in
     rw (p.1, p.2) (judgment_stop g c.requires.1 c.args.map.now r c.judgment.ensures
     (under_stopped r.went.grown c.args.map.now c.requires.0.cells.bound (judgment_small c.requires.0 c.requires.1 c.judgment.ensures) c.substitute.ensures.kept c.in_err-judgment.was))
-
-pub general_of-requires : goal.general_of-requires
-general_of-requires c = recalled c.requires.0.recalls c.requires.1
 
 pub allow-requires : goal.allow-requires
 allow-requires c =

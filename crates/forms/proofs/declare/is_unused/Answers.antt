@@ -1,18 +1,32 @@
-use Rattle.forms.proofs.Variables.{used_first, used_second, used_third, used_nowhere}
+use mathlib.Core.Path.{◌≡◌, ◌∙◌}
+use mathlib.Core.Bool.{Bool, ◌&&◌}
+use Rattle.rules.specs.Declare.{is_new}
+use Rattle.rules.specs.Theory.{constructor_named, predicate_named}
+use Rattle.rules.specs.State.{var_named}
+use Rattle.forms.proofs.Variables.{none_new, both_new, one_old, all_new, not_both}
+use Rattle.forms.proofs.declare.is_unused.Goals.{then-is_none, else-is_none}
 use Rattle.forms.proofs.declare.is_unused.Goals as goal
 
-pub returns-in_default : goal.returns-in_default
-returns-in_default c = λ S inputs h v. used_first _ _ _ _ (c.constructor_named.ensures S.theory inputs h) c.in_default.is
+pub returns-then-is_none-2 : goal.returns-then-is_none-2
+returns-then-is_none-2 c = λ S inputs h v.
+    let x : Bool = is_new (constructor_named S.theory c.args.name.now) in
+    let y : Bool = is_new (predicate_named S.theory c.args.name.now) in
+    let first : c.is_none.result ≡ x = none_new c.constructor_named.result (c.constructor_named.ensures S.theory inputs h) c.is_none.ensures in
+    let both : c.if-is_none.value ≡ x && y = elim c.if-is_none.branch [
+      | then-is_none w ↦ both_new first w.if-is_none.true
+          (w.value-is ∙ none_new w.predicate_named.result (w.predicate_named.ensures S.theory inputs h) w.is_none-then-is_none.ensures)
+      | else-is_none w ↦ one_old y first w.if-is_none.false w.value-is
+    ] in
+    all_new x y both c.if-is_none-2.true (none_new c.var_named.result (c.var_named.ensures S.vars v) c.is_none-then-is_none-2.ensures)
 
-pub returns-in_default-predicate_named : goal.returns-in_default-predicate_named
-returns-in_default-predicate_named c = λ S inputs h v. used_second _ _ _ _ (c.constructor_named.ensures S.theory inputs h) c.in-None.is _ (c.predicate_named.ensures S.theory inputs h) c.in_default-predicate_named.is
-
-pub returns-in_default-var_named : goal.returns-in_default-var_named
-returns-in_default-var_named c = λ S inputs h v. used_third _ _ _ _ (c.constructor_named.ensures S.theory inputs h) c.in-None.is _
-    (c.predicate_named.ensures S.theory inputs h) c.in-None-predicate_named.is _ (c.var_named.ensures S.vars v)
-    c.in_default-var_named.is
-
-pub returns : goal.returns
-returns c = λ S inputs h v. used_nowhere _ _ _ _ (c.constructor_named.ensures S.theory inputs h) c.in-None.is _
-    (c.predicate_named.ensures S.theory inputs h) c.in-None-predicate_named.is _ (c.var_named.ensures S.vars v)
-    c.in-None-var_named.is
+pub returns-else-is_none-2 : goal.returns-else-is_none-2
+returns-else-is_none-2 c = λ S inputs h v.
+    let x : Bool = is_new (constructor_named S.theory c.args.name.now) in
+    let y : Bool = is_new (predicate_named S.theory c.args.name.now) in
+    let first : c.is_none.result ≡ x = none_new c.constructor_named.result (c.constructor_named.ensures S.theory inputs h) c.is_none.ensures in
+    let both : c.if-is_none.value ≡ x && y = elim c.if-is_none.branch [
+      | then-is_none w ↦ both_new first w.if-is_none.true
+          (w.value-is ∙ none_new w.predicate_named.result (w.predicate_named.ensures S.theory inputs h) w.is_none-then-is_none.ensures)
+      | else-is_none w ↦ one_old y first w.if-is_none.false w.value-is
+    ] in
+    not_both x y (is_new (var_named S.vars c.args.name.now)) both c.if-is_none-2.false

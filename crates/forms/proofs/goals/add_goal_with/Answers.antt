@@ -1,62 +1,37 @@
-use mathlib.Core.Path.{refl}
 use mathlib.Core.List.{[]}
+use mathlib.Core.Path.{refl}
 use native.Mathlib.Omega.{arith}
+use Rattle.kernel.proofs.Handed.{handed}
+use Rattle.rules.specs.Limits.{ENTRIES}
 use Rattle.forms.proofs.GoalReads.{place_given}
-use Rattle.forms.proofs.GoalLists.{form_given, tail_zero, tail_same, tail_length, tail_cleared, with_stop, with_small, with_halts, with_added}
+use Rattle.forms.proofs.GoalLists.{form_given, with_stop, with_small, with_halts, with_added}
+use Rattle.forms.proofs.Tails.{tail_zero, tail_again, tailed_same}
 use Rattle.forms.proofs.goals.add_goal_with.Goals as goal
 
-pub goal_parts-requires : goal.goal_parts-requires
-goal_parts-requires c = record { reads_form = form_given c.requires.adds_goal; out_value = tail_zero c.args.lists.now c.args.n.entries c.requires.lists_len.0 c.requires.adds_goal.fits c.requires.lists_len.1 }
+pub read_stated-requires-clause-reads_form : goal.read_stated-requires-clause-reads_form
+read_stated-requires-clause-reads_form c = form_given c.requires.adds_goal
+
+pub read_stated-requires-clause-out_value : goal.read_stated-requires-clause-out_value
+read_stated-requires-clause-out_value c = tail_zero c.args.board.now.lists.now ENTRIES c.requires.lists_len.0 c.args.board.now.n.entries
+    c.requires.adds_goal.fits c.requires.lists_len.1
+
+pub returns-in_err-stated-clause-aimed_as : goal.returns-in_err-stated-clause-aimed_as
+returns-in_err-stated-clause-aimed_as c = λ g. rw (handed c.from_residual.result c.from_residual.ensures)
+    (let h = with_stop g c.in_err-stated.ensures.stated_as in (h.0, refl, tailed_same c.args.board.now.lists.now c.args.board.now.n.entries h.1, refl))
 
 pub place_goal-requires : goal.place_goal-requires
-place_goal-requires c = (
-  place_given c.requires.adds_goal (omega arith) [],
-  with_small c.requires.adds_goal c.goal_parts.new.index
-      c.goal_parts.new.words _ c.goal_parts.new.out c.goal_parts.result
-      c.goal_parts.ensures c.in-Ok.is,
-)
+place_goal-requires c = (place_given c.requires.adds_goal (omega arith) [], with_small c.requires.adds_goal c.in_ok-stated.ensures.stated_as)
 
-pub offset_bounds-lists-from-in-Err : goal.offset_bounds-lists-from-in-Err
-offset_bounds-lists-from-in-Err c = omega (
-  arith,
-  tail_length c.args.lists.now c.args.n.entries c.requires.lists_len.0 c.requires.adds_goal.fits c.requires.lists_len.1
-      c.goal_parts.new.out c.goal_parts.auto.out,
-  c.requires.adds_goal.fits,
-)
+pub returns-in-Ok-clause-aimed_as : goal.returns-in-Ok-clause-aimed_as
+returns-in-Ok-clause-aimed_as c = λ g. with_added g c.in_ok-stated.ensures.stated_as c.in-Ok.ensures.placed_as c.args.board.now.lists.now
+    c.requires.lists_len.0 c.requires.lists_len.1 c.read_stated.auto.out c.in-Ok.ensures.only.4
 
-pub slice_bounds-clear-count : goal.slice_bounds-clear-count
-slice_bounds-clear-count c = omega (
-  arith,
-  tail_length c.args.lists.now c.args.n.entries c.requires.lists_len.0 c.requires.adds_goal.fits c.requires.lists_len.1
-      c.goal_parts.new.out c.goal_parts.auto.out,
-  c.requires.adds_goal.fits,
-)
-
-pub slice_bounds-clear-start : goal.slice_bounds-clear-start
-slice_bounds-clear-start c = omega (
-  arith,
-  tail_length c.args.lists.now c.args.n.entries c.requires.lists_len.0 c.requires.adds_goal.fits c.requires.lists_len.1
-      c.goal_parts.new.out c.goal_parts.auto.out,
-  c.requires.adds_goal.fits,
-)
-
-pub returns-in-Ok-place_goal : goal.returns-in-Ok-place_goal
-returns-in-Ok-place_goal c = λ g. with_added g c.goal_parts.new.index c.goal_parts.new.words _
-    c.goal_parts.new.out c.goal_parts.result c.goal_parts.ensures c.in-Ok.is
-    c.place_goal.new.rows c.place_goal.result c.place_goal.ensures c.in-Ok-place_goal.is c.args.lists.now c.requires.lists_len.0 c.requires.lists_len.1
-    c.goal_parts.auto.out
-
-pub returns-in-Err : goal.returns-in-Err
-returns-in-Err c = rw (c.number.ensures, c.detail.ensures) (λ g. let h = with_halts g c.goal_parts.new.index c.goal_parts.new.words _
-    c.goal_parts.new.out c.goal_parts.result c.goal_parts.ensures c.in-Ok.is
-    c.place_goal.new.rows c.place_goal.result c.place_goal.ensures c.in-Err.is in (
+pub returns-in-Err-clause-aimed_as : goal.returns-in-Err-clause-aimed_as
+returns-in-Err-clause-aimed_as c = λ g.
+    let h = with_halts g c.in_ok-stated.ensures.stated_as c.in-Err.question c.in-Err.ensures.placed_as in (
       h.0,
       h.1,
-      tail_cleared c.args.lists.now c.args.n.entries c.requires.lists_len.0 c.requires.adds_goal.fits c.requires.lists_len.1
-          c.goal_parts.new.out c.goal_parts.auto.out c.clear.ensures,
-    ))
-
-pub returns-in-No : goal.returns-in-No
-returns-in-No c = λ g. let h = with_stop g c.goal_parts.new.index c.goal_parts.new.words _
-    c.goal_parts.new.out c.goal_parts.result c.goal_parts.ensures c.in-No.is in
-    (h.0, refl, tail_same c.args.lists.now c.args.n.entries c.requires.lists_len.0 c.requires.adds_goal.fits c.requires.lists_len.1 h.1)
+      tail_again c.args.board.now.lists.now ENTRIES c.requires.lists_len.0 c.args.board.now.n.entries g.fits c.requires.lists_len.1
+          c.read_stated.new.out c.read_stated.auto.out c.in-Err.ensures.only.4 c.clear.ensures,
+      h.2,
+    )

@@ -1,13 +1,13 @@
 use mathlib.Core.Path.{refl}
 use native.Mathlib.Omega.{arith}
+use Rattle.kernel.proofs.Handed.{handed}
 use Rattle.sexp.specs.NthItem.{place_high}
 use Rattle.state.specs.Held.{records}
-use Rattle.forms.proofs.Stating.{form_of, hyp_item, hyp_no}
-use Rattle.forms.proofs.Supposing.{hyp_asks, hyp_added, hyp_full}
+use Rattle.forms.proofs.Supposing.{hyp_item, hyp_no, hyp_asks, hyp_answers}
 use Rattle.forms.proofs.hypotheses.add_hyp.Goals as goal
 
 pub offset_bounds-cells-at : goal.offset_bounds-cells-at
-offset_bounds-cells-at c = omega (arith, place_high c.requires.holds 2 c.place-at.ensures, c.well_formed.1.1.1.1.1.1.1.1.1.1.1.1.1.0)
+offset_bounds-cells-at c = omega (arith, place_high c.requires.holds 2 c.place-at.ensures, c.well_formed.1.1.1.0)
 
 pub slice_bounds-judgment-count : goal.slice_bounds-judgment-count
 slice_bounds-judgment-count c = place_high c.requires.holds 2 c.place-at.ensures
@@ -16,31 +16,20 @@ pub slice_bounds-judgment-start : goal.slice_bounds-judgment-start
 slice_bounds-judgment-start c = place_high c.requires.holds 2 c.place-at.ensures
 
 pub judgment-requires : goal.judgment-requires
-judgment-requires c = hyp_item (form_of (c.requires)) c.place-at.ensures
+judgment-requires c = rw c.reader_of.ensures (hyp_item c.requires c.place-at.ensures)
 
-pub put_hypothesis-requires : goal.put_hypothesis-requires
-put_hypothesis-requires c = (
-  (
-    c.requires.footings,
-    hyp_asks c.requires c.place-at.ensures c.judgment.new.index
-        c.judgment.new.words c.judgment.result c.judgment.ensures c.in-Ok.is,
-  ),
-  omega arith,
-)
+pub returns-in_err-judgment-clause-assumed_as : goal.returns-in_err-judgment-clause-assumed_as
+returns-in_err-judgment-clause-assumed_as c = λ g.
+    let r = rw c.reader_of.ensures at c.in_err-judgment.ensures.read_as in
+    rw (handed c.from_residual.result c.from_residual.ensures) (hyp_no g c.place-at.ensures r, refl, refl)
 
-pub returns-in-Ok-put_hypothesis : goal.returns-in-Ok-put_hypothesis
-returns-in-Ok-put_hypothesis c = λ g. hyp_added g c.place-at.ensures c.judgment.new.index c.judgment.new.words
-    c.judgment.result c.judgment.ensures c.in-Ok.is (records c.put_hypothesis.new.facts g.footings c.put_hypothesis.new.lists)
-    c.put_hypothesis.result c.put_hypothesis.ensures c.in-Ok-put_hypothesis.is
+pub put_behind-requires : goal.put_behind-requires
+put_behind-requires c =
+    let r = rw c.reader_of.ensures at c.in_ok-judgment.ensures.read_as in
+    ((c.requires.footings, hyp_asks c.requires c.place-at.ensures r), omega arith)
 
-pub returns-in-Err : goal.returns-in-Err
-returns-in-Err c = rw c.number.ensures (λ g. hyp_full g c.place-at.ensures c.judgment.new.index c.judgment.new.words
-    c.judgment.result c.judgment.ensures c.in-Ok.is (records c.put_hypothesis.new.facts g.footings c.put_hypothesis.new.lists)
-    c.put_hypothesis.result c.put_hypothesis.ensures c.in-Err.is)
-
-pub returns-in-No : goal.returns-in-No
-returns-in-No c = λ g. (
-  hyp_no (form_of g) c.place-at.ensures c.judgment.new.index c.judgment.new.words
-      c.judgment.result c.judgment.ensures c.in-No.is,
-  refl,
-)
+pub returns-clause-assumed_as : goal.returns-clause-assumed_as
+returns-clause-assumed_as c = λ g.
+    let r = rw c.reader_of.ensures at c.in_ok-judgment.ensures.read_as in
+    hyp_answers g c.place-at.ensures r (records c.put_behind.new.board.facts.now g.footings c.put_behind.new.board.lists.now) c.put_behind.new.board.n
+    c.put_behind.result c.put_behind.ensures.put_as c.map_err.result c.map_err.ensures.cases

@@ -1,20 +1,16 @@
 use mathlib.Core.Path.{refl}
 use native.Mathlib.Omega.{arith}
+use Rattle.state.specs.FactLaws.{lists_long}
 use lib.ListN.{replicate}
 use Rattle.rules.specs.Limits.{TERMWORDS}
-use Rattle.forms.proofs.Covering.{covers_none, covers_goal, covers_fact, aims_low, aims_high, aims_below, own_low, own_high, own_given, covers_all}
-use mathlib.Core.Path.{ap}
-use mathlib.Core.Bool.{not}
+use Rattle.forms.proofs.Covering.{covers_goal, covers_fact, aims_low, aims_high, aims_below, own_low, own_high, own_given, covers_all}
 use Rattle.forms.proofs.results.covers.Goals as goal
-
-pub returns-then-not-bare : goal.returns-then-not-bare
-returns-then-not-bare c = λ g. covers_none g c.args.bare (ap not c.if-not-bare.true)
 
 pub goal_hyps-aims-requires : goal.goal_hyps-aims-requires
 goal_hyps-aims-requires c = covers_goal c.requires
 
-pub offset_bounds-lists-first : goal.offset_bounds-lists-first
-offset_bounds-lists-first c = omega (arith, aims_low c.requires c.goal_hyps-aims.ensures, aims_high c.requires c.goal_hyps-aims.ensures, c.well_formed.1.1.0)
+pub offset_bounds-board-first : goal.offset_bounds-board-first
+offset_bounds-board-first c = omega (arith, aims_low c.requires c.goal_hyps-aims.ensures, aims_high c.requires c.goal_hyps-aims.ensures, lists_long c.requires.recorded)
 
 pub slice_bounds-insert_all-count : goal.slice_bounds-insert_all-count
 slice_bounds-insert_all-count c = aims_low c.requires c.goal_hyps-aims.ensures
@@ -31,12 +27,12 @@ insert_all-requires c = aims_below c.requires c.goal_hyps-aims.ensures (replicat
 pub hyps-own-requires : goal.hyps-own-requires
 hyps-own-requires c = covers_fact c.requires
 
-pub offset_bounds-lists-from : goal.offset_bounds-lists-from
-offset_bounds-lists-from c = omega (
+pub offset_bounds-board-from : goal.offset_bounds-board-from
+offset_bounds-board-from c = omega (
   arith,
   own_low c.requires c.goal_hyps-aims.ensures c.hyps-own.ensures,
   own_high c.requires c.goal_hyps-aims.ensures c.hyps-own.ensures,
-  c.well_formed.1.1.0,
+  lists_long c.requires.recorded,
 )
 
 pub slice_bounds-all_listed-count : goal.slice_bounds-all_listed-count
@@ -45,12 +41,11 @@ slice_bounds-all_listed-count c = own_low c.requires c.goal_hyps-aims.ensures c.
 pub slice_bounds-all_listed-start : goal.slice_bounds-all_listed-start
 slice_bounds-all_listed-start c = own_low c.requires c.goal_hyps-aims.ensures c.hyps-own.ensures
 
-pub slice_bounds-all_listed-end : goal.slice_bounds-all_listed-end
-slice_bounds-all_listed-end c = own_high c.requires c.goal_hyps-aims.ensures c.hyps-own.ensures
+pub slice_bounds-all_listed-end-2 : goal.slice_bounds-all_listed-end-2
+slice_bounds-all_listed-end-2 c = own_high c.requires c.goal_hyps-aims.ensures c.hyps-own.ensures
 
 pub all_listed-requires : goal.all_listed-requires
 all_listed-requires c = own_given c.requires c.goal_hyps-aims.ensures c.hyps-own.ensures c.insert_all.new.set c.insert_all.auto.set
 
 pub returns : goal.returns
-returns c = λ g. covers_all g c.goal_hyps-aims.ensures c.hyps-own.ensures c.insert_all.new.set c.args.bare c.insert_all.auto.set
-    c.insert_all.ensures c.all_listed.ensures (ap not c.if-not-bare.false)
+returns c = λ g. covers_all g c.goal_hyps-aims.ensures c.hyps-own.ensures c.insert_all.new.set c.insert_all.auto.set c.insert_all.ensures c.all_listed.ensures

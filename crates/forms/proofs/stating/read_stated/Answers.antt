@@ -1,0 +1,44 @@
+use native.Mathlib.Omega.{arith}
+use Rattle.kernel.proofs.Handed.{handed}
+use Rattle.sexp.specs.NthItem.{place_high}
+use Rattle.forms.proofs.Statings.{listed_given, listed_stop, stated_given, stated_stops, stated_read}
+use Rattle.forms.proofs.Tails.{zero_again}
+use Rattle.forms.proofs.stating.read_stated.Goals as goal
+
+pub offset_bounds-cells-at : goal.offset_bounds-cells-at
+offset_bounds-cells-at c = omega (arith, place_high c.requires.reads_form.holds 2 c.place-at.ensures, c.well_formed.1.1.1.1.1.0)
+
+pub slice_bounds-judgments-count : goal.slice_bounds-judgments-count
+slice_bounds-judgments-count c = place_high c.requires.reads_form.holds 2 c.place-at.ensures
+
+pub slice_bounds-judgments-start : goal.slice_bounds-judgments-start
+slice_bounds-judgments-start c = place_high c.requires.reads_form.holds 2 c.place-at.ensures
+
+pub judgments-requires-clause-reads_item : goal.judgments-requires-clause-reads_item
+judgments-requires-clause-reads_item c = listed_given c.requires.reads_form c.place-at.ensures
+
+pub returns-in_err-listed-clause-stated_as : goal.returns-in_err-listed-clause-stated_as
+returns-in_err-listed-clause-stated_as c = λ g next. rw (handed c.from_residual.result c.from_residual.ensures)
+    (listed_stop g c.place-at.ensures next c.in_err-listed.ensures.judgments_as)
+
+pub offset_bounds-cells-next : goal.offset_bounds-cells-next
+offset_bounds-cells-next c = omega (arith, place_high c.requires.reads_form.holds 3 c.place-next.ensures, c.well_formed.1.1.1.1.1.0)
+
+pub slice_bounds-judgment-count : goal.slice_bounds-judgment-count
+slice_bounds-judgment-count c = place_high c.requires.reads_form.holds 3 c.place-next.ensures
+
+pub slice_bounds-judgment-start : goal.slice_bounds-judgment-start
+slice_bounds-judgment-start c = place_high c.requires.reads_form.holds 3 c.place-next.ensures
+
+pub judgment-requires : goal.judgment-requires
+judgment-requires c = stated_given c.requires.reads_form c.place-at.ensures c.in_ok-listed.ensures.judgments_as c.place-next.ensures
+
+pub returns-in-Ok-clause-stated_as : goal.returns-in-Ok-clause-stated_as
+returns-in-Ok-clause-stated_as c = λ g next.
+    stated_read g c.place-at.ensures c.in_ok-listed.ensures.judgments_as c.place-next.ensures next c.in-Ok.ensures.read_as
+
+pub returns-in-Err-clause-stated_as : goal.returns-in-Err-clause-stated_as
+returns-in-Err-clause-stated_as c = λ g next. (
+  stated_stops g c.place-at.ensures c.in_ok-listed.ensures.judgments_as c.place-next.ensures next c.in-Err.ensures.read_as,
+  zero_again c.judgments.new.out c.requires.out_value c.judgments.auto.out c.clear.ensures,
+)

@@ -1,0 +1,94 @@
+-- The tables of a check as they are lent: what they hold, what a form is given, which of them it leaves as they were, and all of them at once for a state.
+-- Assumes nothing.
+use Rattle.std.specs.Prelude.{◌≡◌, List, ℕ}
+use Rattle.rules.specs.State.{State}
+use Rattle.kernel.specs.Parsed.{TheoryLists, theory_lists}
+use Rattle.terms.specs.declared.store.Store.{Store}
+use Rattle.state.specs.declared.board.Given.{Given}
+use Rattle.state.specs.declared.board.Board.{Board}
+use Rattle.state.specs.Held.{Names, Records, records}
+use Rattle.state.specs.Stands.{Texts, texts, Board as Tables, board, Stands}
+use Rattle.reading.specs.Reader.{names_of, reader_of}
+use Rattle.forms.specs.Halted.{ReadsForm}
+use Rattle.forms.specs.Declares.{AddsVar}
+use Rattle.forms.specs.Goals.{AddsGoal}
+use Rattle.forms.specs.Assumed.{AddsFact}
+use Rattle.forms.specs.Results.{TakesResult}
+
+-- What they hold ---------------------------------------------------------------------------------------------------------------------
+
+abbrev pub texts_of : Given → Texts
+texts_of g = texts g.theory.now g.goals.now g.text.now
+
+abbrev pub theory_of : Given → TheoryLists
+theory_of g = theory_lists g.sorts.now g.symbols.now g.inputs.now g.rules.rows.now g.rules.vars.now g.rules.patterns.now
+
+-- what names stand for
+abbrev pub names_in : Given → Board → Names
+names_in g b = names_of (reader_of g b)
+
+-- the tables of facts
+abbrev pub records_of : Board → Records
+records_of b = records b.facts.now b.footings.now b.lists.now
+
+-- all that a form changes
+abbrev pub tables_of : Board → Store → Tables
+tables_of b s = board b.vars.now s.index.now s.words.now b.defs.now b.rows.now b.facts.now b.footings.now b.lists.now
+
+-- they stand for S
+abbrev pub StandsIn : Given → Board → Store → State → Type 0
+StandsIn g b s S = Stands (texts_of g) (theory_of g) (tables_of b s) b.n s.mark S
+
+-- What a form is given ---------------------------------------------------------------------------------------------------------------
+
+abbrev pub AddsVarIn : Given → Board → ℕ → List ℕ → Type 0
+AddsVarIn g b which cells = AddsVar g.theory.now g.goals.now g.text.now g.sorts.now g.symbols.now b.vars.now b.n which cells
+
+abbrev pub ReadsFormIn : Given → Board → Store → List ℕ → ℕ → Type 0
+ReadsFormIn g b s cells least = ReadsForm (names_in g b) b.n s.index.now s.words.now s.mark cells least
+
+abbrev pub AddsGoalIn : Given → Board → Store → List ℕ → ℕ → Type 0
+AddsGoalIn g b s cells least = AddsGoal (names_in g b) b.rows.now b.n s.index.now s.words.now s.mark cells least
+
+abbrev pub AddsFactIn : Given → Board → Store → List ℕ → ℕ → Type 0
+AddsFactIn g b s cells least = AddsFact (names_in g b) b.facts.now b.lists.now b.n s.index.now s.words.now s.mark cells least
+
+abbrev pub TakesResultIn : Given → Board → Store → List ℕ → Type 0
+TakesResultIn g b s cells = TakesResult (names_in g b) b.rows.now b.facts.now b.lists.now b.n s.index.now s.words.now s.mark cells
+
+-- What a form leaves -----------------------------------------------------------------------------------------------------------------
+
+-- the references are those that were lent
+abbrev pub SameBoard : Board → Board → Type 0
+SameBoard b c =
+    (c.vars.ghost_name ≡ b.vars.ghost_name) × (c.defs.ghost_name ≡ b.defs.ghost_name) × (c.rows.ghost_name ≡ b.rows.ghost_name)
+    × (c.facts.ghost_name ≡ b.facts.ghost_name) × (c.footings.ghost_name ≡ b.footings.ghost_name) × (c.lists.ghost_name ≡ b.lists.ghost_name)
+
+-- no table but that of variables has changed; but that of abbreviations; but that of goals
+abbrev pub OnlyVars : Board → Board → Type 0
+OnlyVars b c =
+    (c.defs.now ≡ b.defs.now) × (c.rows.now ≡ b.rows.now) × (c.facts.now ≡ b.facts.now) × (c.footings.now ≡ b.footings.now)
+    × (c.lists.now ≡ b.lists.now)
+
+abbrev pub OnlyDefs : Board → Board → Type 0
+OnlyDefs b c =
+    (c.vars.now ≡ b.vars.now) × (c.rows.now ≡ b.rows.now) × (c.facts.now ≡ b.facts.now) × (c.footings.now ≡ b.footings.now)
+    × (c.lists.now ≡ b.lists.now)
+
+abbrev pub OnlyRows : Board → Board → Type 0
+OnlyRows b c =
+    (c.vars.now ≡ b.vars.now) × (c.defs.now ≡ b.defs.now) × (c.facts.now ≡ b.facts.now) × (c.footings.now ≡ b.footings.now)
+    × (c.lists.now ≡ b.lists.now)
+
+-- but those of goals and entries; of facts and entries; of facts, footings and entries; and of variables beside these
+abbrev pub OnlyGoals : Board → Board → Type 0
+OnlyGoals b c = (c.vars.now ≡ b.vars.now) × (c.defs.now ≡ b.defs.now) × (c.facts.now ≡ b.facts.now) × (c.footings.now ≡ b.footings.now)
+
+abbrev pub OnlyHyps : Board → Board → Type 0
+OnlyHyps b c = (c.vars.now ≡ b.vars.now) × (c.defs.now ≡ b.defs.now) × (c.rows.now ≡ b.rows.now) × (c.footings.now ≡ b.footings.now)
+
+abbrev pub OnlyFacts : Board → Board → Type 0
+OnlyFacts b c = (c.vars.now ≡ b.vars.now) × (c.defs.now ≡ b.defs.now) × (c.rows.now ≡ b.rows.now)
+
+abbrev pub OnlyFactsAndVars : Board → Board → Type 0
+OnlyFactsAndVars b c = (c.defs.now ≡ b.defs.now) × (c.rows.now ≡ b.rows.now)

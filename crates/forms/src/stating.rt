@@ -1,0 +1,63 @@
+// What the forms share that list judgments and state one behind them: goals with hypotheses, and hypotheses with premises.
+ghost use Rattle.std.specs.Prelude.{◌≡◌, length, replicate};
+ghost use Rattle.rules.specs.Tree.{Tree, Trees};
+ghost use Rattle.rules.specs.Out.{Out};
+ghost use Rattle.rules.specs.State.{State};
+ghost use Rattle.terms.specs.Lent.{SameTables};
+ghost use Rattle.state.specs.Held.{names};
+ghost use Rattle.forms.specs.Halted.{ReadsForm};
+ghost use Rattle.forms.specs.Stating.{stating, StatedAs};
+
+use cells::clear;
+use questions::Question;
+use reading::reader::Reader;
+use sexp::items;
+use state::board::Given;
+use state::sizes::Sizes;
+use terms::store::Store;
+
+// A judgment by its number, and how many are listed before it.
+#[derive(Clone, Copy, Debug, PartialEq, Eq)]
+pub struct Stated {
+    pub judgment: usize,
+    pub listed: usize,
+}
+
+// The judgments that item 2 of a form lists, and the judgment that is item 3. The numbers of those listed come into the cells `out` as far as there are
+// any; these are zero before, and again where a question is left.
+pub fn read_stated(
+    given: &Given<'_>,
+    vars: &[u32],
+    defs: &[u32],
+    n: Sizes,
+    store: &mut Store<'_>,
+    cells: &[u32],
+    out: &mut [u32],
+) -> Result<Stated, Question>
+    requires reads_form { let g = given.now in ReadsForm (names g.theory.now g.goals.now g.text.now g.symbols.now g.inputs.now vars.now defs.now) n store.old.index.now store.old.words.now store.old.mark cells.now 4 }
+    requires out_value { out.old ≡ replicate (length out.old) 0 }
+    ensures same_tables { SameTables store.old store.new }
+    ensures stated_as { let v = given.now in (g : ReadsForm (names v.theory.now v.goals.now v.text.now v.symbols.now v.inputs.now vars.now defs.now) n store.old.index.now store.old.words.now store.old.mark cells.now 4) →
+        (next : Trees → Tree → State → Out State (Unit {0})) → StatedAs store.old store.new g.S (stating g.xs g.S next) next out.old out.new result }
+{
+    let reader = Reader {
+        theory: given.theory,
+        goals: given.goals,
+        text: given.text,
+        symbols: given.symbols,
+        inputs: given.inputs,
+        vars,
+        defs,
+        n,
+    };
+    let at = items::place(cells, 2);
+    let listed = reader.judgments(store, &cells[at..], out)?;
+    let next = items::place(cells, 3);
+    match reader.judgment(store, &cells[next..]) {
+        Ok(judgment) => Ok(Stated { judgment, listed }),
+        Err(question) => {
+            clear(out);
+            Err(question)
+        }
+    }
+}
