@@ -15,14 +15,15 @@ use Rattle.facts.specs.declared.Fact.{Fact}
 use Rattle.facts.specs.Table.{zeroed}
 use Rattle.counts.specs.declared.Counts.{Counts}
 use Rattle.counts.specs.Counted.{counts_of}
-use Rattle.forms.specs.Boards.{theory_of, tables_of}
+use Rattle.forms.specs.Boards.{theory_of, tables_of as tables_in}
 use Rattle.running.specs.declared.stopped.Stopped.{Stopped}
 use Rattle.running.specs.declared.finish.Report.{Report}
 use Rattle.running.specs.declared.finish.Refusal.{Refusal}
 use Rattle.running.specs.Course.{Over}
-use Rattle.running.specs.Finished.{Finishes}
+use Rattle.running.specs.Finished.{Finishes, answer_of}
 use Rattle.running.specs.Lent.{Working, board_front, WorkingBehind, Mirrored}
-use Rattle.running.specs.Checking.{with_index}
+use Rattle.running.specs.ReadBack.{Call}
+use Rattle.running.specs.Checking.{tables_of, with_index}
 use Rattle.running.specs.Between.{Few}
 use Rattle.advancing.specs.Stepped.{UnderwayIn}
 
@@ -45,7 +46,7 @@ pub record Ran (theory goals proof : List ℕ) (T : TheoryLists) (B : Board) (n 
     pub mirrored : Mirrored n.facts fs B.facts B.footings
 
 abbrev pub RanIn : Given → Lent → Store → Result ℕ Stopped → List Fact → Counts → Type 0
-RanIn g b s r fs c = Ran g.theory.now g.goals.now g.text.now (theory_of g) (tables_of b s) b.n s.mark r fs c
+RanIn g b s r fs c = Ran g.theory.now g.goals.now g.text.now (theory_of g) (tables_in b s) b.n s.mark r fs c
 
 -- the tables when no form was left: the index was not settled yet
 abbrev pub unsettled : Board → List ℕ → Board
@@ -86,3 +87,9 @@ pub record Filled (theory goals proof : List ℕ) (T : TheoryLists) (W Z : Worki
   pub zeroed_is : gs ≡ zeroed ys n.facts FACTS
   pub finishes : Finishes theory goals proof r (take GOALS N)
   pub list_behind : drop GOALS N ≡ drop GOALS M
+
+-- all of it: T, W, M, fs before, U, Z, N, gs afterwards
+abbrev pub Called : (theory goals proof : List ℕ) → TheoryLists → Working → List ℕ → List Fact → TheoryLists → Working → List ℕ → List Fact →
+    Result Report Refusal → Type 0
+Called theory goals proof T W M fs U Z N gs r =
+    Call theory goals proof (tables_of T W M fs) (tables_of U Z N gs) (answer_of r) × (drop FACTS gs ≡ drop FACTS fs)

@@ -16,7 +16,7 @@ ghost use Rattle.running.specs.RecordLaws.{stored_in};
 ghost use Rattle.running.specs.Checking.{tables_of as all_tables};
 ghost use Rattle.beginning.specs.Opened.{Opening};
 ghost use Rattle.advancing.specs.Stepped.{IdleIn, SameScratch};
-ghost use Rattle.schematic.specs.Ran.{Kept, RanIn, Ran, Whole, Filled};
+ghost use Rattle.schematic.specs.Ran.{Kept, RanIn, Ran, Whole, Filled, Called};
 
 use advancing::advance::{Scratch, next_form};
 use beginning::begin::{begin, given_of};
@@ -214,14 +214,10 @@ fn check_fit(
     missing: &mut [u32],
 ) -> Result<Report, Refusal>
     requires { AllLong (length facts.old) (theory_lists sorts.old symbols.old inputs.old rules.old rulevars.old patterns.old) (working vars.old index.old words.old defs.old rows.old lists.old) missing.old }
-    ensures { Call texts.now.theory.now texts.now.goals.now texts.now.proof.now
-        (all_tables
-        (theory_lists sorts.old symbols.old inputs.old rules.old rulevars.old patterns.old)
-        (working vars.old index.old words.old defs.old rows.old lists.old)
-        missing.old facts.old)
-        (all_tables (theory_lists sorts.new symbols.new inputs.new rules.new rulevars.new patterns.new)
-        (working vars.new index.new words.new defs.new rows.new lists.new)
-        missing.new facts.new) (answer_of result) × (drop FACTS facts.new ≡ drop FACTS facts.old) }
+    ensures { Called texts.now.theory.now texts.now.goals.now texts.now.proof.now
+        (theory_lists sorts.old symbols.old inputs.old rules.old rulevars.old patterns.old) (working vars.old index.old words.old defs.old rows.old lists.old) missing.old facts.old
+        (theory_lists sorts.new symbols.new inputs.new rules.new rulevars.new patterns.new) (working vars.new index.new words.new defs.new rows.new lists.new) missing.new facts.new
+        result }
 {
     let (sorts, _) = sorts.split_at_mut(2 * rules::SORTS);
     let (symbols, _) = symbols.split_at_mut(4 * rules::SYMBOLS);
