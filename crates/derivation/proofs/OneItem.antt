@@ -177,6 +177,13 @@ pub none_stated : (o : Option ℕ) {b : Bool} → b ≡ is_some o → b ≡ fals
 none_stated nothing e t = refl
 none_stated (some k) e t = absurd (true≢false (sym e ∙ t))
 
+-- whether cells are left
+pub none_there : {n : ℕ} {b : Bool} → b ≡ eqb n 0 → b ≡ true → n ≡ 0
+none_there {n} e t = eqb-true n 0 (sym e ∙ t)
+
+pub some_there : {n : ℕ} {b : Bool} → b ≡ eqb n 0 → b ≡ false → n ≡ 0 → ⊥
+some_there {n} e t z = true≢false (sym (e ∙ eq-eqb n 0 z) ∙ t)
+
 -- The conclusion ---------------------------------------------------------------------------------------------------------------------
 
 module _ {K : Names} {n : Sizes} {I W : List ℕ} {m : Mark} {cells : List ℕ} (g : ReadsItem K n I W m cells) (it : Items) {bound : List ℕ} {stated : ℕ}

@@ -7,7 +7,7 @@ use native.Mathlib.Omega.{arith}
 use native.Mathlib.Decide.{dec_lt}
 use lib.Dec.{ltb}
 use lib.ListN.{length, take, drop}
-use lib.Seq.{sets, length-sets}
+use lib.Seq.{sets}
 use borrow.Author.Tests.{lt-ltb, le-ltb}
 use Rattle.rules.specs.Limits.{FACTS, ENTRIES}
 use Rattle.rules.specs.Out.{Out, refuse}
@@ -113,7 +113,3 @@ rule_put facts footings lists n k judgment premises general Q last (Ok u) l f m 
   p.1,
 )
 rule_put facts footings lists n k judgment premises general Q last (Err d) l f m w p = absurd (let z = p.0.2 f in omega arith)
-
-pub tailed_length : (lists : List ℕ) (at : ℕ) (vs : List ℕ) {last : List ℕ} → at + length vs ≤ length lists →
-    last ≡ vs ++ drop (length vs) (take (length lists - at) (drop at lists)) → length (tailed lists at last) ≡ length lists
-tailed_length lists at vs h w = ap length (tailed_written lists at vs h w) ∙ length-sets lists at vs

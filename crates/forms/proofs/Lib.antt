@@ -6,6 +6,7 @@ pub mod GoalReads
 pub mod GoalRows
 pub mod OwnIndices
 pub mod Resulting
+pub mod RuleHyps
 pub mod Statings
 pub mod Supposing
 pub mod Tails

@@ -27,7 +27,7 @@ use Rattle.std.specs.Prelude.{Result, Ok, Err}
 use Rattle.questions.specs.declared.Question.{Question}
 use Rattle.referring.specs.Substitutes.{Below}
 use Rattle.referring.specs.Laws.Substitutes.{below_grown}
-use Rattle.induction.specs.Inducing.{Roomy, PassedBy, motive_in, Motived, Moved, Casing, at_constructor, hyps_in, HypsMade, BeforeRest, case_fact, asked, case_terms, InCase}
+use Rattle.induction.specs.Inducing.{Roomy, PassedBy, motive_in, Moved, Casing, at_constructor, hyps_in, HypsMade, BeforeRest, case_fact, asked, case_terms, InCase}
 use Rattle.induction.proofs.Inducts.{among_has}
 use Rattle.referring.specs.Laws.Sounds.{grown_grows}
 
@@ -81,19 +81,6 @@ module _ {facts lists : List ℕ} {n : Sizes} {I W : List ℕ} {m : Mark} {x sor
       end_insert =
           subst (Below (64 * length {A = ℕ} (replicate TERMWORDS 0))) (sym back_front)
           (below_grown last (omega (arith, moved.went.grown.good.room, length-replicate {A = ℕ} TERMWORDS 0)) moved.known)
-
-      pub end_motived : Motived J X new x j premises
-      end_motived =
-          record {
-            good = moved.went.grown.good;
-            small = g.motived.small;
-            there = grown_there moved.went.grown j g.motived.there;
-            known = below_grown premises moved.went.grown.more g.motived.known;
-            few = g.motived.few;
-          }
-
-      pub end_room : length own * suc (length premises) ≤ length (last ++ drop (length premises) ids)
-      end_room = omega (arith, mul_mono (length own) 16 (suc (length premises)) k.0.narrow, g.motived.few, back_long, s.1)
 
       motive_same : motive_in (made J X new) x sort j premises ≡ motive_in (made I W m) x sort j premises
       motive_same =

@@ -3,10 +3,10 @@ use mathlib.Core.Path.{◌≡◌, refl, sym, ap, ◌∙◌, subst}
 use mathlib.Core.Bool.{Bool, true, false}
 use Rattle.std.specs.Prelude.{Some as some, None as nothing, Option}
 use mathlib.Core.List.{List, [], ◌∷◌}
-use Prim.Native.Nat.{ℕ, ◌+◌, ◌-◌, ◌*◌, ◌<◌, ◌≤◌}
+use Prim.Native.Nat.{ℕ, ◌+◌, ◌<◌, ◌≤◌}
 use native.Mathlib.Omega.{arith}
 use lib.Dec.{eqb}
-use lib.ListN.{length, take, drop, length-drop}
+use lib.ListN.{length, drop, length-drop}
 use borrow.Author.Tests.{eq-eqb, ne_eqb}
 use Rattle.rules.specs.Limits.{SYMBOLS, VARIABLEWORDS}
 use Rattle.rules.specs.Out.{Out, refuse, then, ask}
@@ -221,9 +221,6 @@ module _ {K : Names} {facts footings lists : List ℕ} {n : Sizes} {I W : List �
     (g : MotiveItems K facts footings lists n I W m x j premises cells) where
   pub motive_items : Items cells
   motive_items = (g.xs, g.items.cells)
-
-  pub motive_counted : CountedSymbols K.symbols n.symbols
-  motive_counted = (K.theory, (K.inputs, (g.S.theory.symbols, g.refers.reads.spelling.held)))
 
   module _ (sort : ℕ) where
     abbrev pub asked : Out Made (Unit {0})

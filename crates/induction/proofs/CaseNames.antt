@@ -1,9 +1,9 @@
 -- The variables that a case names: of the sorts, new to the motive and to each other. Assumes nothing.
 use mathlib.Core.Path.{◌≡◌, refl, sym, ap, ◌∙◌, subst}
-use mathlib.Core.Bool.{Bool, true, false, ◌&&◌, ◌||◌, not, false≢true}
+use mathlib.Core.Bool.{Bool, true, false, ◌&&◌, ◌||◌, not}
 use Rattle.std.specs.Prelude.{Option, Some as some, None as nothing}
 use mathlib.Core.List.{List, [], ◌∷◌, ◌++◌}
-use Prim.Native.Nat.{ℕ, suc, ◌+◌, ◌-◌, ◌*◌, ◌<◌, ◌≤◌}
+use Prim.Native.Nat.{ℕ, suc, ◌+◌, ◌*◌, ◌<◌, ◌≤◌}
 use native.Mathlib.Omega.{arith}
 use native.Mathlib.Numerals.{add-one}
 use lib.Dec.{eqb}
@@ -20,7 +20,7 @@ use Rattle.rules.specs.State.{State, Var, no_var, var_named, sort_of_var}
 use Rattle.rules.specs.Induct.{Motive, motive_vars, case_vars}
 use Rattle.rules.specs.Laws.Find.{first_some}
 use Rattle.sexp.specs.Items.{Holds, item_at, behind}
-use Rattle.sexp.specs.ItemLaws.{More, At, at_next, item_here, behind_item, some_cells}
+use Rattle.sexp.specs.ItemLaws.{More, At, at_next, item_here, behind_item}
 use Rattle.sexp.specs.Encode.{encode}
 use Rattle.sexp.specs.WalkLaws.{Walk, walk_start, walk_more, walk_over, walk_rest}
 use Rattle.sexp.specs.FoundLaws.{found_at, found_missing}
@@ -44,9 +44,6 @@ module _ {text words : List ℕ} {at : ℕ} {x : Sexp} {ys : Sexps} (k : Walk te
 
   pub walk_behind : Walk text words next ys
   walk_behind = record { here = subst (λ (z : ℕ). At words z ys) (sym next_is) (at_next k.here); spelt = k.spelt.1 }
-
-  pub walk_further : at < next
-  walk_further = omega (arith, next_is, some_cells x)
 
 -- a variable that is found is one of them
 pub variable_below : (vs : List Var) (x : Sexp) (v : ℕ) → variable_in vs x ≡ some v → v < length vs

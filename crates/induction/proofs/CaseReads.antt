@@ -1,6 +1,6 @@
 -- One case as it is spelled. Assumes nothing.
 use mathlib.Core.Path.{◌≡◌, refl, sym, ap, ◌∙◌, subst}
-use mathlib.Core.Bool.{Bool, true, false}
+use mathlib.Core.Bool.{Bool}
 use Rattle.std.specs.Prelude.{Option, Some as some, None as nothing}
 use mathlib.Core.List.{List, []}
 use Prim.Native.Nat.{ℕ, suc, ◌+◌, ◌-◌, ◌*◌, ◌<◌, ◌≤◌}
@@ -9,7 +9,7 @@ use lib.Dec.{eqb}
 use lib.ListN.{length, take, drop, length-drop, length-take}
 use lib.Seq.{ext_get_or, get_or-take, get_or-drop, length-take-le}
 use borrow.Author.Tests.{eq-eqb, ne_eqb}
-use Rattle.rules.specs.Limits.{SYMBOLS, ARGUMENTS, VARIABLES}
+use Rattle.rules.specs.Limits.{ARGUMENTS}
 use Rattle.rules.specs.Out.{Out, ok, refuse, then, found, ask}
 use Rattle.rules.specs.Sexp.{Sexp, Sexps, list, nil, cons, count, item, rest, items}
 use Rattle.rules.specs.Tree.{Tree, app, single}
@@ -29,7 +29,6 @@ use Rattle.sexp.specs.FoundLaws.{found_at, found_missing}
 use Rattle.sexp.specs.declared.items.Item.{Item}
 use Rattle.sexp.specs.declared.items.Item.TheVariants.{Atom, List as Part}
 use Rattle.kernel.specs.Held.{SymbolsHeld}
-use Rattle.kernel.specs.Readers.{KnownSymbol}
 use Rattle.kernel.specs.SignatureRows.{symbols_few, argument_cell}
 use Rattle.terms.specs.Sets.{holds}
 use Rattle.state.specs.declared.sizes.Sizes.{Sizes}
@@ -84,10 +83,6 @@ rest_none (cons x xs) = refl
 -- One case ---------------------------------------------------------------------------------------------------------------------------------
 
 module _ {K : Names} {n : Sizes} {used cells : List ℕ} (c : ℕ) (g : CaseItem K n used cells) where
-  pub known_symbol : c < n.symbols → KnownSymbol K.symbols c
-  known_symbol l =
-      record { text = K.theory; inputs = K.inputs; count = n.symbols; held = (g.S.theory.symbols, g.spelling.held); known = l }
-
   pub case_cell : 0 < length cells
   case_cell = at_inside (walk_start g.items).here
 
@@ -159,9 +154,6 @@ module _ {K : Names} {n : Sizes} {used cells : List ℕ} (c : ℕ) (g : CaseItem
                   on_index M U ∙ then_refuse (ask 41 (eqb (count case_list.items) (suc (length (inputs g.S.theory c)))) U) 41 0 U _
                   (ap (λ (y : Bool). ask 41 y U)
                   (ne_eqb (count case_list.items) (suc (length (inputs g.S.theory c))) (λ y. z (omega (arith, count_is, y, many_is)))))
-
-              pub case_symbol : c < SYMBOLS
-              case_symbol = omega (arith, symbols_few held, known)
 
               pub inputs_room : ARGUMENTS * c + many ≤ length K.inputs
               inputs_room = omega (arith, many_few, held.longs, symbols_few held, known)

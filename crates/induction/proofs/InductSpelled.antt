@@ -1,7 +1,7 @@
 -- The two spellings of `induct`: with hypotheses and without. Assumes nothing.
 use mathlib.Core.Path.{◌≡◌, sym, ap, ◌∙◌, subst}
 use mathlib.Core.Bool.{true, false, false≢true}
-use Rattle.std.specs.Prelude.{Some as some, None as nothing, Option, Result, Ok, Err}
+use Rattle.std.specs.Prelude.{Some as some, None as nothing, Option, Result}
 use mathlib.Core.List.{List, []}
 use Prim.Native.Nat.{ℕ, ◌-◌, ◌<◌, ◌≤◌}
 use native.Mathlib.Omega.{arith}
@@ -21,7 +21,7 @@ use Rattle.questions.specs.declared.Question.{Question}
 use Rattle.questions.specs.declared.Question.TheVariants.{Binding}
 use Rattle.questions.specs.Numbers.{number_of, detail_of}
 use Rattle.sexp.specs.Encode.{encodes}
-use Rattle.sexp.specs.Items.{Holds, Items, item_at, behind, place}
+use Rattle.sexp.specs.Items.{Holds, item_at, behind, place}
 use Rattle.sexp.specs.ItemLaws.{at_inside}
 use Rattle.sexp.specs.WalkLaws.{Walk, walk_rest, rest_walk}
 use Rattle.sexp.specs.FoundLaws.{found_at, found_missing}
@@ -40,8 +40,7 @@ use Rattle.reading.specs.Given.{FactsItem}
 use Rattle.reading.specs.Answers.{HypsRead}
 use Rattle.referring.specs.declared.support.Derived.{Derived}
 use Rattle.referring.specs.Derived.{FactForm, DerivedBy, alone}
-use Rattle.induction.specs.declared.induct.Subject.{Subject}
-use Rattle.induction.specs.Inducing.{SubjectItems, SubjectAs, InductForm}
+use Rattle.induction.specs.Inducing.{SubjectItems, InductForm}
 use Rattle.induction.proofs.CaseNames.{walk_behind, variable_below}
 use Rattle.induction.proofs.InductForms.{derived_on}
 
@@ -64,9 +63,6 @@ listed_rises S (list xs) hs U e = ok_rises (length S.facts) (hyp_each is_plain S
 -- The variable -----------------------------------------------------------------------------------------------------------------------------
 
 module _ {goals text vars : List ℕ} {count : ℕ} {cells : List ℕ} (g : SubjectItems goals text vars count cells) where
-  pub subject_items : Items cells
-  subject_items = (g.xs, g.holds.cells)
-
   module _ {at : ℕ} (a : (ys : Sexps) → cells ≡ encodes ys → at ≡ place ys 2) where
     pub subject_walk : Walk text cells at (rest g.xs 2)
     subject_walk = rest_walk g.holds 2 at (a g.xs g.holds.cells)

@@ -6,8 +6,8 @@ use Prim.Native.Nat.{ℕ, zero, suc, ◌+◌, ◌*◌, ◌<◌, ◌≤◌}
 use native.Mathlib.Omega.{arith}
 use native.Mathlib.Numerals.{add-one}
 use lib.Dec.{eqb}
-use lib.ListN.{length, get_or, set, take, drop, replicate, length-set, length-replicate, get_or-append}
-use lib.Seq.{take_at, take-suc, take-suc-set, take_all, get_or-set_other, sets, length-sets, sets-eq}
+use lib.ListN.{length, get_or, set, take, drop, replicate, length-set, length-replicate}
+use lib.Seq.{take_at, take-suc, take-suc-set, take_all, get_or-set_other, sets, sets-eq}
 use borrow.Author.Tests.{eq-eqb, ne_eqb}
 use Rattle.rules.specs.Limits.{FACTS, FACTWORDS, TERMWORDS, VARIABLEWORDS}
 use Rattle.rules.specs.Find.{Set, any, has, union, rising, rising_from}
@@ -20,7 +20,7 @@ use Rattle.rules.specs.Laws.Theory.{All, both, all_at}
 use Rattle.rules.specs.Laws.Rising.{rising_all_of}
 use Rattle.terms.specs.declared.store.Mark.{Mark}
 use Rattle.terms.specs.Table.{made, tree, args_of, Good}
-use Rattle.terms.specs.Collect.{Seen, Readable, Visited}
+use Rattle.terms.specs.Collect.{Seen, Visited}
 use Rattle.terms.specs.Sets.{holds}
 use Rattle.terms.specs.Laws.Numbers.{same_number}
 use Rattle.terms.specs.Laws.Sets.{eqb_iff, holds_zero}
@@ -29,10 +29,9 @@ use Rattle.state.specs.declared.sizes.Sizes.{Sizes}
 use Rattle.state.specs.Held.{records, Recorded}
 use Rattle.state.specs.Rows.{cell}
 use Rattle.state.specs.FactLaws.{fact_row_lem}
-use Rattle.referring.specs.Recall.{ReadableAll}
 use Rattle.referring.specs.Referral.{Gathered}
 use Rattle.referring.specs.Substitutes.{Below}
-use Rattle.induction.specs.Inducing.{motive_in, Motived, judgment_cells, hyps_in, plain_at, Resting, BeforeRest}
+use Rattle.induction.specs.Inducing.{motive_in, judgment_cells, hyps_in, plain_at, Resting, BeforeRest}
 
 -- The judgments of facts -----------------------------------------------------------------------------------------------------------------
 
@@ -198,9 +197,6 @@ module _ {facts lists : List ℕ} {n : Sizes} {plain used : List ℕ} {x w : ℕ
 
     pub known_one : Below g.m.terms (take many ids)
     known_one = subst (λ (n : ℕ). Below g.m.terms (take n ids)) rows_one g.known
-
-    pub rest_ids : Below (64 * length plain) (take many ids)
-    rest_ids k l = omega (arith, known_one k l, g.good.room, g.long)
 
     pub plain_without : (plain' : List ℕ) → holds plain' ≡ union (holds plain) (has (take many ids)) → (t : ℕ) → t < g.m.terms →
         holds plain' t ≡ plain_at g.M g.ps (hyps_in (made g.I g.W g.m) w many ids) (tree g.I g.W g.m t)

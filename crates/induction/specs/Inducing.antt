@@ -1,6 +1,6 @@
 -- What the form `induct` is given and what its parts answer: the motive in the store, a case's terms, and what a case may rest on. Assumes nothing.
-use Rattle.std.specs.Prelude.{◌≡◌, Bool, true, false, ◌&&◌, ◌||◌, List, [], ◌∷◌, ℕ, zero, suc, ◌*◌, ◌<◌, ◌≤◌, eqb, length, get_or, take, drop, replicate, Some as some, None as nothing, Result, Ok, Err}
-use Rattle.rules.specs.Limits.{ARGUMENTS, VARIABLES, TERMS, FACTS, SYMBOLS, VARIABLEWORDS, TERMWORDS, FACTWORDS}
+use Rattle.std.specs.Prelude.{◌≡◌, Bool, true, false, ◌&&◌, ◌||◌, List, [], ◌∷◌, ℕ, zero, suc, ◌*◌, ◌<◌, ◌≤◌, eqb, length, get_or, take, drop, Some as some, None as nothing, Result, Ok, Err}
+use Rattle.rules.specs.Limits.{ARGUMENTS, VARIABLES, FACTS, SYMBOLS, VARIABLEWORDS, TERMWORDS, FACTWORDS}
 use Rattle.rules.specs.Out.{Out, ok, refuse, Act, ◌>>=◌, pure, ask}
 use Rattle.rules.specs.Find.{entry, any, all}
 use Rattle.rules.specs.Sexp.{Sexp, Sexps, cons, count, item, rest}

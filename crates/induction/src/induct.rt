@@ -34,10 +34,10 @@ use terms::variables::visit;
 pub const IDS: usize = 40960;
 
 // The variable of a form, and where it stands.
-#[derive(Clone, Copy, Debug, PartialEq, Eq)]
-pub struct Subject {
-    pub x: usize,
-    pub at: usize,
+#[derive(Clone, Copy)]
+struct Subject {
+    x: usize,
+    at: usize,
 }
 
 // That of the form whose items the cells hold.

@@ -25,11 +25,11 @@ use terms::store::Store;
 
 // A case as it is spelled: its fact, its constructor, and the variables over which that stands, in as many cells as there are sorts.
 #[derive(Clone, Copy)]
-pub struct Case<'a> {
-    pub fact: usize,
-    pub constructor: usize,
-    pub own: [u32; ARGUMENTS],
-    pub sorts: &'a [u32],
+struct Case<'a> {
+    fact: usize,
+    constructor: usize,
+    own: [u32; ARGUMENTS],
+    sorts: &'a [u32],
 }
 
 // The case's variables that the items name: of the sorts, new to the motive, whose variables are in the set, and to each other.

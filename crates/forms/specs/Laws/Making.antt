@@ -38,13 +38,6 @@ module _ {A : Type 0} (f : Act Made A) (S : State) where
   unfolding making
   making_refuse e = ap told e
 
-  module _ {I W J X : List ℕ} {m k : Mark} (e : made I W m ≡ S.made) where
-    pub making_went : {a : A} → Went I W J X m (f (made I W m)) a k → making f S ≡ ok a (with_made S (made J X k))
-    making_went w = making_ok (ap f (sym e) ∙ w.makes)
-
-    pub making_stopped : {q d : ℕ} → Stopped I W J X m (f (made I W m)) q d k → making f S ≡ refuse q d (with_made S (made J X k))
-    making_stopped w = making_refuse (ap f (sym e) ∙ w.makes)
-
 -- What is made ---------------------------------------------------------------------------------------------------------------------
 
 pub makes_none : {I W : List ℕ} {m : Mark} (S : State) → Good I W m → Ready sound S (made I W m) → Makes I W I W m m

@@ -2,7 +2,7 @@ use mathlib.Core.Path.{refl, sym}
 use lib.Seq.{length-take-le}
 use Rattle.kernel.proofs.Handed.{handed}
 use Rattle.state.specs.Held.{records}
-use Rattle.forms.proofs.Supposing.{entries_inside, items_of, rule_zero, rule_stops, rule_unlisted, rule_asks, vars_inside, rule_added, rule_full}
+use Rattle.forms.proofs.RuleHyps.{entries_inside, items_of, rule_zero, rule_stops, rule_unlisted, rule_asks, vars_inside, rule_added, rule_full}
 use Rattle.forms.proofs.hypotheses.add_rule_hyp.Goals as goal
 
 pub behind_own-from-requires : goal.behind_own-from-requires
@@ -25,13 +25,11 @@ returns-in_default-clause-assumed_as c = λ g.
     (h.0, h.1, refl)
 
 pub slice_bounds-general-end : goal.slice_bounds-general-end
-slice_bounds-general-end c = vars_inside c.requires c.behind_own-from.ensures c.in_ok-stated.ensures.stated_as c.read_stated.auto.out
-    (c.in-Some.ensures (items_of c.requires) c.requires.many)
+slice_bounds-general-end c = vars_inside c.requires (c.in-Some.ensures (items_of c.requires) c.requires.many)
 
 pub slice_bounds-put_rule-end : goal.slice_bounds-put_rule-end
 slice_bounds-put_rule-end c = sym (length-take-le c.in-Some.many c.general_vars.new.general
-    (vars_inside c.requires c.behind_own-from.ensures c.in_ok-stated.ensures.stated_as c.read_stated.auto.out
-    (c.in-Some.ensures (items_of c.requires) c.requires.many)))
+    (vars_inside c.requires (c.in-Some.ensures (items_of c.requires) c.requires.many)))
 
 pub put_rule-requires : goal.put_rule-requires
 put_rule-requires c = (

@@ -1,6 +1,6 @@
 use native.Mathlib.Omega.{arith}
 use Rattle.sexp.specs.NthItem.{place_high}
-use Rattle.forms.proofs.Supposing.{vars_given}
+use Rattle.forms.proofs.RuleHyps.{vars_given}
 use Rattle.forms.proofs.hypotheses.general_vars.Goals as goal
 
 pub offset_bounds-cells-at : goal.offset_bounds-cells-at

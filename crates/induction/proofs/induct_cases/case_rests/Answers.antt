@@ -1,14 +1,6 @@
-use lib.Seq.{length-take-le}
-use mathlib.Core.Path.{sym}
-use Rattle.induction.proofs.Inducts.{plain_with, rest_inside, rest_ids, plain_without, rest_given}
+use Rattle.induction.proofs.Inducts.{plain_with, plain_without, rest_given}
 use Rattle.induction.proofs.induct_cases.case_rests.Goals.{then-rows-eq0, else-rows-eq0}
 use Rattle.induction.proofs.induct_cases.case_rests.Goals as goal
-
-pub slice_bounds-insert_all-end : goal.slice_bounds-insert_all-end
-slice_bounds-insert_all-end c = sym (length-take-le _ _ (rest_inside c.requires c.if-rows-eq0.true))
-
-pub insert_all-requires : goal.insert_all-requires
-insert_all-requires c = rest_ids c.requires c.if-rows-eq0.true
 
 pub case_fact-requires : goal.case_fact-requires
 case_fact-requires c = rest_given c.requires _ c.if-rows-eq0.auto.plain

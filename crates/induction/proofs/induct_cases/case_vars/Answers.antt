@@ -1,7 +1,7 @@
 use mathlib.Core.Path.{refl, sym}
 use native.Mathlib.Omega.{arith}
 use Rattle.sexp.specs.Each.{here, over}
-use Rattle.induction.proofs.CaseNames.{names_start, names_done, names_place, names_room, names_given, names_unknown, names_variable, names_sort_asks, names_used, names_seen, names_other, names_taken, names_twice, names_again}
+use Rattle.induction.proofs.CaseNames.{names_start, names_done, names_place, names_given, names_unknown, names_variable, names_sort_asks, names_used, names_seen, names_other, names_taken, names_twice, names_again}
 use Rattle.induction.proofs.induct_cases.case_vars.Goals as goal
 
 pub loop-k-init : goal.loop-k-init

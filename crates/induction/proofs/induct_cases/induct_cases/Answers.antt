@@ -2,7 +2,7 @@ use mathlib.Core.Path.{refl, ◌∙◌}
 use native.Mathlib.Omega.{arith}
 use Rattle.kernel.proofs.Handed.{handed}
 use Rattle.sexp.specs.Each.{here, over}
-use Rattle.induction.proofs.CaseLoop.{cases_start, cases_done, cases_counted, cases_over, cases_known, cases_small, cases_item, cases_unread, cases_in, cases_cased, cases_stopped, cases_again}
+use Rattle.induction.proofs.CaseLoop.{cases_start, cases_done, cases_over, cases_known, cases_small, cases_item, cases_unread, cases_in, cases_cased, cases_stopped, cases_again}
 use Rattle.induction.proofs.induct_cases.induct_cases.Goals as goal
 
 pub loop-item-init : goal.loop-item-init
