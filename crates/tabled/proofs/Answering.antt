@@ -5,6 +5,7 @@ use mathlib.Core.List.{List}
 use native.Mathlib.Omega.{arith}
 use lib.ListN.{length, replicate, length-replicate}
 use Rattle.rules.specs.Limits.{SORTS, SYMBOLS, ARGUMENTS, RULES, RULEVARS, PATTERNS, VARIABLES, TERMS, WORDS, DEFS, GOALS, FACTS, ENTRIES}
+use Rattle.std.specs.Prelude.{Result}
 use Rattle.rules.specs.Check.{Answer, check}
 use Rattle.rules.specs.StateTables.{Tables, Long, Checked, too_short, answered}
 use Rattle.rules.specs.Laws.Row.{length_rows}

@@ -5,6 +5,7 @@ use native.Mathlib.Omega.{arith}
 use mathlib.Core.List.{List, ◌++◌}
 use lib.ListN.{length, get_or, take, drop, replicate}
 use lib.Seq.{sets, take_all}
+use Rattle.std.specs.Prelude.{Result}
 use Rattle.std.proofs.lemmas.List.{get_or_default}
 use Rattle.rules.specs.Limits.{FACTS}
 use Rattle.kernel.specs.Parsed.{TheoryLists}

@@ -2,4 +2,4 @@
 use Rattle.tariff.proofs.tariff_check.Goals as goal
 
 pub returns : goal.returns
-returns c = (record { answer = c.check-r.result; call = c.check-r.ensures.0; told = c.tell.ensures }, c.check-r.ensures.1)
+returns c = (record { answer = c.check-result.result; call = c.check-result.ensures.0; told = c.tell.ensures }, c.check-result.ensures.1)
