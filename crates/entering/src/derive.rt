@@ -74,12 +74,7 @@ fn find(
 }
 
 // A derived fact comes behind the others, which rests on such hypotheses and rules.
-fn enter(
-    board: &mut Board<'_>,
-    judgment: usize,
-    hyps: &[u64],
-    footing: &[u64],
-) -> Result<(), Row>
+fn enter(board: &mut Board<'_>, judgment: usize, hyps: &[u64], footing: &[u64]) -> Result<(), Row>
     requires putting { Putting (records_of board.old) board.old.n judgment }
     requires hyps_value { (64 * length hyps.now ≡ FACTS) × (length footing.now ≡ 4) }
     ensures same_board { SameBoard board.old board.new }

@@ -180,6 +180,7 @@ pub fn induct_cases(
     ensures memo_unchanged { memo.new ≡ memo.old }
 {
     let reader = &source.reader;
+    // where the next constructor of the sort is looked for, which is no count
     let mut from = 0;
     for item in items::all(cells) {
         let Some(c) = next_constructor(reader.symbols, reader.n.symbols, motive.sort, from) else {

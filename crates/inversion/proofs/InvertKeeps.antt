@@ -1,14 +1,14 @@
 -- The loop that keeps variables as terms, each bound to the rule's variable of its place. Assumes nothing.
 use mathlib.Core.Path.{◌≡◌, sym, ap, ◌∙◌, subst}
-use mathlib.Core.List.{List, [], ◌∷◌}
+use mathlib.Core.List.{List}
 use Rattle.std.specs.Prelude.{Option, Some as some}
-use Prim.Native.Nat.{ℕ, suc, ◌+◌, ◌-◌, ◌<◌, ◌≤◌}
+use Prim.Native.Nat.{ℕ, suc, ◌+◌, ◌<◌, ◌≤◌}
 use native.Mathlib.Omega.{arith}
 use native.Mathlib.Decide.{ℕ_discrete}
 use native.Mathlib.Numerals.{add-one}
 use lib.ListN.{length, get_or, set, drop, drop_of_length-le}
 use lib.Seq.{drop-cons, get_or-set_same, get_or-set_other}
-use Rattle.rules.specs.Limits.{SYMBOLS, RULEVARS}
+use Rattle.rules.specs.Limits.{RULEVARS}
 use Rattle.rules.specs.Out.{Out, ok, then}
 use Rattle.rules.specs.Tree.{Tree, Trees, var, none, more}
 use Rattle.rules.specs.Store.{Made, keep}
@@ -16,22 +16,14 @@ use Rattle.rules.specs.Induct.{keep_vars}
 use Rattle.rules.specs.Invert.{renaming}
 use Rattle.rules.specs.Laws.Out.{then_then}
 use Rattle.terms.specs.declared.store.Mark.{Mark}
-use Rattle.terms.specs.Table.{made, tree_at, Good, Stored, Refused}
+use Rattle.terms.specs.Table.{made, Good, Stored, Refused}
 use Rattle.terms.specs.Patterns.{tree_in, bound_of, Cells}
 use Rattle.terms.specs.On.{Stopped, On, on_start, on_is, on_ok, on_no, on_done, stored_went, refused_stopped}
 use Rattle.terms.specs.Laws.Bound.{bound_some, bound_grown, cells_grown, cells_set}
 use Rattle.terms.specs.Laws.Growth.{made_length}
 use Rattle.terms.specs.Laws.Numbers.{stored_is}
-use Rattle.terms.specs.Laws.Tables.{tree_var}
 use Rattle.reading.specs.Laws.Walks.{then_same}
 use Rattle.inversion.specs.InvertRules.{VarsKept}
-
--- the node of a variable
-abbrev node_of : ℕ → List ℕ
-node_of v = (SYMBOLS + v) ∷ []
-
-node_tree : (M : Made) (v : ℕ) → tree_at M (node_of v) ≡ var v
-node_tree M v = let z : SYMBOLS + v - SYMBOLS ≡ v = omega arith in tree_var M (SYMBOLS + v) [] (omega arith) ∙ ap var z
 
 -- the first k are kept; front: they stand before those that are left
 pub record VarsKeeping (I W : List ℕ) (old : Mark) (list J X bound : List ℕ) (now : Mark) (k : ℕ) : Type 0 where
@@ -64,9 +56,6 @@ module _ {I W : List ℕ} {old : Mark} {list J X bound : List ℕ} {now : Mark} 
       }
 
   module _ (few : length list ≤ RULEVARS) (l : k < length list) where
-    abbrev kept : List ℕ → Out Made Tree
-    kept w = keep (tree_at (made J X now) w) (made J X now)
-
     split : On I W old (keep_vars list (made I W old)) J X now
         (then (keep (var (get_or list k 0)) (made J X now)) (λ t U. then (keep_vars (drop (suc k) list) U) (λ ts N. ok (h.front (more t ts)) N)))
     unfolding keep_vars then
@@ -78,14 +67,11 @@ module _ {I W : List ℕ} {old : Mark} {list J X bound : List ℕ} {now : Mark} 
         (λ i t U. then_then (keep_vars (drop (suc k) list) U) (λ ts N. ok (more t ts) N) (λ ts N. ok (h.front ts) N) i))
 
     module _ {Y Z : List ℕ} {new : Mark} where
-      pub vars_full : {row : ℕ} → Refused Tree J X Y Z now (kept (node_of (get_or list k 0))) row new → Stopped I W Y Z old (keep_vars list (made I W old)) 60 row new
-      vars_full {row} s = on_no _ split (refused_stopped (subst (λ (u : Tree). Refused Tree J X Y Z now (keep u (made J X now)) row new) (node_tree (made J X now) (get_or list k 0)) s))
+      pub vars_full : {row : ℕ} → Refused Tree J X Y Z now (keep (var (get_or list k 0)) (made J X now)) row new → Stopped I W Y Z old (keep_vars list (made I W old)) 60 row new
+      vars_full s = on_no _ split (refused_stopped s)
 
-      module _ {t : ℕ} (s : Stored J X Y Z now (tree_at (made J X now) (node_of (get_or list k 0))) (kept (node_of (get_or list k 0))) t new) where
-        stored : Stored J X Y Z now (var (get_or list k 0)) (keep (var (get_or list k 0)) (made J X now)) t new
-        stored = subst (λ (u : Tree). Stored J X Y Z now u (keep u (made J X now)) t new) (node_tree (made J X now) (get_or list k 0)) s
-
-        pub vars_place : k < length bound
+      module _ {t : ℕ} (stored : Stored J X Y Z now (var (get_or list k 0)) (keep (var (get_or list k 0)) (made J X now)) t new) where
+        vars_place : k < length bound
         vars_place = omega (arith, few, l, h.cells.long)
 
         later : Cells new.terms bound

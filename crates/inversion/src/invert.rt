@@ -47,7 +47,8 @@ fn taken_vars(
     context: &[u32],
     set: &mut [u64],
 )
-    requires { RecallsIn facts.now terms.now × (s < terms.now.mark.terms) × (j < terms.now.mark.terms) × There facts.now.n.facts context.now × (set.old ≡ replicate VARIABLEWORDS 0) }
+    requires { RecallsIn facts.now terms.now × (s < terms.now.mark.terms) × (j < terms.now.mark.terms) × There facts.now.n.facts context.now
+        × (set.old ≡ replicate VARIABLEWORDS 0) }
     ensures { (g : RecallsIn facts.now terms.now) (Y : Inversion) → let t = terms.now in
         Y.hypothesis ≡ tree t.index.now t.words.now t.mark s → Y.judgment ≡ tree t.index.now t.words.now t.mark j → Y.context ≡ context.now →
         holds set.new ≡ taken_vars g.S Y }
@@ -62,8 +63,10 @@ fn taken_vars(
 
 // The rows of the variables from `count` up to `end`, which were made and have no name; their sorts are in the cells.
 pub fn put_made(vars: &mut [u32], sorts: &[u32], count: usize, end: usize)
-    requires { ((goals : List ℕ) × (text : List ℕ) × (vs : List Var) × VarsHeld goals text vars.old count vs) × (count ≤ end) × (end ≤ VARIABLES) × (length sorts.now ≡ VARIABLES) }
-    ensures { (goals text : List ℕ) (vs : List Var) → VarsHeld goals text vars.old count vs → VarsHeld goals text vars.new end (vars_with vs sorts.now end) }
+    requires { ((goals : List ℕ) × (text : List ℕ) × (vs : List Var) × VarsHeld goals text vars.old count vs) × (count ≤ end) × (end ≤ VARIABLES)
+        × (length sorts.now ≡ VARIABLES) }
+    ensures { (goals text : List ℕ) (vs : List Var) → VarsHeld goals text vars.old count vs →
+        VarsHeld goals text vars.new end (vars_with vs sorts.now end) }
 {
     for v in count..end {
         put_var(vars, v, sorts[v] as usize, 0, 0, 0);
@@ -85,7 +88,9 @@ impl Inverting<'_> {
         requires empty { (memo.old ≡ replicate TERMS 0) × (ids.old ≡ replicate 40960 0) }
         ensures same_tables { SameTables store.old store.new }
         ensures inverted_on_as { (g : InvertsOn self.now store.old cells.now) → let s = store.old in let v = self.now in
-            InvertedOnAs s store.new g.form.S (invert_on g.form.S g.form.xs (tree s.index.now s.words.now s.mark v.hypothesis) (tree s.index.now s.words.now s.mark v.judgment) v.context.now (made_of s)) sorts.old sorts.new result }
+            InvertedOnAs s store.new g.form.S
+            (invert_on g.form.S g.form.xs (tree s.index.now s.words.now s.mark v.hypothesis) (tree s.index.now s.words.now s.mark v.judgment) v.context.now (made_of s))
+            sorts.old sorts.new result }
         ensures memo_unchanged { (memo.new ≡ memo.old) × (ids.new ≡ ids.old) }
     {
         let Item::List(a, b) = items::nth(cells, 5) else {

@@ -44,7 +44,9 @@ impl Inverting<'_> {
         requires empty { EmptyScratch scratch.old }
         ensures same_tables { SameTables store.old store.new }
         ensures lacked_as { (g : LackingIn self.now store.old r names.old) → let s = store.old in
-            LackedAs s store.new g.vs (lacks (vars_with g.vs names.old.sorts names.old.count) (tree s.index.now s.words.now s.mark self.now.hypothesis) (rule g.T r) (made_of s)) names.old names.new result }
+            LackedAs s store.new g.vs
+            (lacks (vars_with g.vs names.old.sorts names.old.count) (tree s.index.now s.words.now s.mark self.now.hypothesis) (rule g.T r) (made_of s))
+            names.old names.new result }
         ensures taken_unchanged { names.new.taken ≡ names.old.taken }
         ensures same_scratch { SameScratch scratch.old scratch.new }
         ensures scratch_kept { ScratchKept scratch.old scratch.new }
@@ -78,8 +80,8 @@ impl Inverting<'_> {
         requires empty { EmptyScratch scratch.old }
         ensures same_tables { SameTables store.old store.new }
         ensures judged_as { (g : HavingIn self.now store.old own.now ids.old) → let s = store.old in
-            JudgedAs s store.new (has_case g.recalls.S own.now.vars.now own.now.count (tree s.index.now s.words.now s.mark self.now.hypothesis) (rule g.recalls.S.theory own.now.rule)
-            self.now.context.now i (tree s.index.now s.words.now s.mark self.now.judgment) (made_of s)) result }
+            JudgedAs s store.new (has_case g.recalls.S own.now.vars.now own.now.count (tree s.index.now s.words.now s.mark self.now.hypothesis)
+            (rule g.recalls.S.theory own.now.rule) self.now.context.now i (tree s.index.now s.words.now s.mark self.now.judgment) (made_of s)) result }
         ensures same_scratch { SameScratch scratch.old scratch.new }
         ensures scratch_kept { ScratchKept scratch.old scratch.new }
         ensures ids_unchanged { ids.new ≡ ids.old }

@@ -13,7 +13,7 @@ use Rattle.rules.specs.StateTables.{laid}
 use Rattle.rules.specs.Laws.Row.{append_assoc, filled_fits}
 use Rattle.state.specs.Stands.{leaves_laid}
 use Rattle.facts.specs.declared.Fact.{Fact}
-use Rattle.facts.specs.Table.{blank, zeroed}
+use Rattle.facts.specs.Table.{blank, appended, zeroed}
 use Rattle.facts.specs.Laws.{take_appended, zeroed_is}
 use Rattle.running.specs.Lent.{fact_row, fact_foot, fact_rows, fact_feet, Mirrored}
 use Rattle.running.specs.Between.{StoredAs}
@@ -91,15 +91,10 @@ one_behind f w n x xs table after e k o =
     ∙ sym (take-add (w * n) w after)
     ∙ ap (λ m. take m after) (let z : w * n + w ≡ w * suc n = omega (arith, mul-suc w n) in z)
 
--- the records with the one that a form has stored in place n
-abbrev pub stored_in : Option Fact → List Fact → ℕ → List Fact
-stored_in (some f) fs n = set fs n f
-stored_in nothing fs n = fs
-
 -- what a form leaves of rows and feet, and the record that is put in where a fact is stored
 pub mirrored_next : {n k : ℕ} {fs : List Fact} {table feet table' feet' : List ℕ} (o : Option Fact) → Mirrored n fs table feet →
     take (6 * n) table' ≡ take (6 * n) table → take (4 * n) feet' ≡ take (4 * n) feet → StoredAs o n k table' feet' → ((f : Fact) → o ≡ some f → n < length fs) →
-    Mirrored k (stored_in o fs n) table' feet'
+    Mirrored k (appended o fs n) table' feet'
 mirrored_next {n} {k} {fs} {table} {feet} {table'} {feet'} (some f) m r t s l =
     subst (λ j. Mirrored j (set fs n f) table' feet') (sym s.0) (record {
       same_rows = ap fact_rows (take_appended fs n f (l f refl)) ∙ one_behind fact_row 6 n f (take n fs) table table' m.same_rows r s.1.0

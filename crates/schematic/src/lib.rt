@@ -1,7 +1,7 @@
 // The whole check over lent tables and records of facts: the tables are cut to their named lengths, cleared, and filled form by form.
 #![tactic(auto)]
 
-ghost use Rattle.std.specs.Prelude.{◌≡◌, ◌≤◌, ◌<◌, length, drop, Some};
+ghost use Rattle.std.specs.Prelude.{◌≡◌, ◌≤◌, length, drop};
 ghost use Rattle.rules.specs.Limits.{GOALS, FACTS};
 ghost use Rattle.kernel.specs.Parsed.{theory_lists, Exact};
 ghost use Rattle.kernel.specs.Tables.{lists_of, SameTables as SameTheory};
@@ -12,7 +12,6 @@ ghost use Rattle.running.specs.Finished.{answer_of};
 ghost use Rattle.running.specs.Lent.{working, LongWorking};
 ghost use Rattle.running.specs.Between.{AllLong};
 ghost use Rattle.running.specs.ReadBack.{Call};
-ghost use Rattle.running.specs.RecordLaws.{stored_in};
 ghost use Rattle.running.specs.Checking.{tables_of as all_tables};
 ghost use Rattle.beginning.specs.Opened.{Opening};
 ghost use Rattle.advancing.specs.Stepped.{IdleIn, SameScratch};
@@ -23,23 +22,13 @@ use beginning::begin::{begin, given_of};
 use beginning::tables::{fits, theory_sizes};
 use beginning::texts::Texts;
 use counts::{Counts, add, no_counts};
-use facts::{Fact, append, zero_behind};
+use facts::{Fact, append_if, zero_behind};
 use kernel::tables::{Counts as Held, Tables};
 use questions::{Question, Refused};
 use running::finish::{Refusal, Report, finish};
 use running::stopped::{Stopped, Text};
 use state::board::{Board, Given};
 use terms::store::{Mark, Store};
-
-// The record of a fact that was stored comes to place i.
-fn keep(facts: &mut [Fact], i: usize, fact: Option<Fact>)
-    requires { (f : _) → fact ≡ Some f → i < length facts.old }
-    ensures { facts.new ≡ stored_in fact facts.old i }
-{
-    if let Some(fact) = fact {
-        append(facts, i, fact);
-    }
-}
 
 // The forms of the proof, one after the other: how many there are. Their facts come into the records, what they count is added up.
 fn prove(
@@ -76,7 +65,7 @@ fn prove(
                 });
             }
         };
-        keep(facts, n, step.fact);
+        append_if(facts, n, step.fact);
         add(counts, step.counts);
         forms += 1;
         at = step.end;

@@ -48,7 +48,12 @@ impl Tables {
     }
 
     // The answer is the definition's, whatever stood in the tables.
-    pub(crate) fn check(&mut self, theory: &[u8], goals: &[u8], proof: &[u8]) -> Result<Report, Refusal>
+    pub(crate) fn check(
+        &mut self,
+        theory: &[u8],
+        goals: &[u8],
+        proof: &[u8],
+    ) -> Result<Report, Refusal>
         ensures { answer_of result ≡ (check theory.now goals.now proof.now).answer }
     {
         check_rows(

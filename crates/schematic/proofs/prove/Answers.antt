@@ -16,8 +16,8 @@ returns-in-Err-clause-ran c =
     let o = c.in-Err.ensures.advanced (ready x) in
     ran x c.next_form.new.board c.next_form.new.store c.next_form.ensures.stay _ o.0 o.1
 
-pub keep-requires : goal.keep-requires
-keep-requires c =
+pub append_if-requires : goal.append_if-requires
+append_if-requires c =
     let x = c.loop-step.invariant.0 in
     let f = c.in-Ok-Some.ensures.advanced in
     let a = rw c.in-Ok-Some.field-0-is at f in
@@ -44,8 +44,8 @@ loop-step-preserved c =
     let f = c.in-Ok-Some.ensures.advanced in
     let a = rw c.in-Ok-Some.field-0-is at f in
     let e = a (ready x) in (
-      next x c.next_form.new.board c.next_form.new.store c.next_form.ensures.stay e c.keep.ensures c.add.ensures,
-      next_behind x c.next_form.new.board c.next_form.new.store c.next_form.ensures.stay e c.keep.ensures ∙ c.loop-step.invariant.1,
+      next x c.next_form.new.board c.next_form.new.store c.next_form.ensures.stay e c.append_if.ensures c.add.ensures,
+      next_behind x c.next_form.new.board c.next_form.new.store c.next_form.ensures.stay e c.append_if.ensures ∙ c.loop-step.invariant.1,
       c.next_form.ensures.idle_again,
       boards_then c.args.board.now c.loop-step.board c.next_form.new.board c.loop-step.invariant.3 c.next_form.ensures.same_tables.0,
       stores_then c.args.store.now c.loop-step.store c.next_form.new.store c.loop-step.invariant.4 c.next_form.ensures.same_tables.1,

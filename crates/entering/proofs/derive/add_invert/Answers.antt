@@ -20,8 +20,8 @@ returns-in_err-enter_derived-clause-inverted c =
     let p = err_from_is_err_and c.from_residual-in_err-enter_derived.result c.from_residual-in_err-enter_derived.ensures.1 in
     let f = rw c.source_of-source.ensures at c.in_ok-inverted.ensures.inverted_as in
     λ x. rw (p.1, p.2)
-        (invert_full c.args.given.now c.args.board.now c.args.store.now c.invert.new.store c.args.cells.now (replicate VARIABLES 0) c.invert.new.sorts x _ f
-        c.enter_derived.new.board c.enter_derived.ensures.only _ c.in_err-enter_derived.ensures.enter_as)
+    (invert_full c.args.given.now c.args.board.now c.args.store.now c.invert.new.store c.args.cells.now (replicate VARIABLES 0) c.invert.new.sorts x _ f
+    c.enter_derived.new.board c.enter_derived.ensures.only _ c.in_err-enter_derived.ensures.enter_as)
 
 pub put_made-requires : goal.put_made-requires
 put_made-requires c =
@@ -34,7 +34,7 @@ returns-clause-inverted c =
     let f = rw c.source_of-source.ensures at c.in_ok-inverted.ensures.inverted_as in
     let w = c.in_ok-enter_derived.ensures.words in
     λ x. invert_entered c.args.given.now c.args.board.now c.args.store.now c.invert.new.store c.args.cells.now (replicate VARIABLES 0) c.invert.new.sorts x _ f
-        c.enter_derived.new.board _ w.0 w.1 c.in_ok-enter_derived.ensures.enter_as
-        (c.put_made.ensures _ _ _
-        (invert_held c.args.given.now c.args.board.now c.args.store.now c.invert.new.store c.args.cells.now (replicate VARIABLES 0) c.invert.new.sorts x _ f
-        c.enter_derived.new.board c.enter_derived.ensures.only c.in_ok-enter_derived.ensures.enter_as)) _ (rw c.no_counts.ensures refl)
+    c.enter_derived.new.board _ w.0 w.1 c.in_ok-enter_derived.ensures.enter_as
+    (c.put_made.ensures _ _ _
+    (invert_held c.args.given.now c.args.board.now c.args.store.now c.invert.new.store c.args.cells.now (replicate VARIABLES 0) c.invert.new.sorts x _ f
+    c.enter_derived.new.board c.enter_derived.ensures.only c.in_ok-enter_derived.ensures.enter_as)) _ (rw c.no_counts.ensures refl)

@@ -10,9 +10,6 @@ loop-at-init c = atom_begin _ _ _ c.requires refl
 pub returns-else-is_letter : goal.returns-else-is_letter
 returns-else-is_letter c = atom_stop c.loop-at.invariant c.loop-at-test.true (no_letter _ (sym c.is_letter.ensures ∙ c.if-is_letter.false))
 
-
-
-
 pub loop-at-smaller : goal.loop-at-smaller
 loop-at-smaller c = omega (arith, c.loop-at-test.true)
 
@@ -26,5 +23,5 @@ pub loop-at-preserved-then-at-eq0 : goal.loop-at-preserved-then-at-eq0
 loop-at-preserved-then-at-eq0 c =
     let e = c.skip_blocks-at.ensures in
     letters_blocks e.0 e.1 e.2
-        (atom_byte c.loop-at.invariant c.loop-at-test.true (is_letter_lem _ (sym c.is_letter.ensures ∙ c.if-is_letter.true)) refl)
-        (λ k l. rw (e.3 k l).shows at (e.3 k l).says.met refl)
+    (atom_byte c.loop-at.invariant c.loop-at-test.true (is_letter_lem _ (sym c.is_letter.ensures ∙ c.if-is_letter.true)) refl)
+    (λ k l. rw (e.3 k l).shows at (e.3 k l).says.met refl)
